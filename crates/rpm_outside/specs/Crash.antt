@@ -1,0 +1,49 @@
+-- What a stop may leave.
+use Rattle.std.specs.Prelude.{◌≡◌, ◌⊎◌, ℕ, ◌≤◌, length}
+use Rattle.rpm_outside.specs.declared.disk.File.{File}
+use Rattle.rpm_outside.specs.declared.disk.File.TheVariants.{Pkg, Idx, Log}
+use Rattle.rpm_outside.specs.Files.{Units, Files, file_of, with_file, unit_at, put}
+
+-- a write that was cut short: each unit is the old one or the written one, and any length between
+pub record Torn (at : ℕ) (units old new : Units) : Type 0 where
+  pub each : (i : ℕ) → (unit_at new i ≡ unit_at old i) ⊎ (unit_at new i ≡ unit_at (put at units old) i)
+  pub no_shorter : length old ≤ length new
+  pub no_longer : length new ≤ length (put at units old)
+
+-- the same of one of three files
+pub record TornFile (file : File) (at : ℕ) (units : Units) (old new : Files) : Type 0 where
+  pub torn : Torn at units (file_of file old) (file_of file new)
+  pub others : new ≡ with_file file (file_of file new) old
+
+-- each new outcome of a stop is an old outcome after a step
+abbrev pub Follows : (Files → Files → Type 0) → (Files → Type 0) → (Files → Type 0) → Type 0
+Follows step old new = (image : Files) → new image → (from : Files) × old from × step from image
+
+-- time goes on: an image since t is one from before, or one of the present moment
+pub record Elapses (before now : ℕ) (past since : ℕ → Files → Type 0) : Type 0 where
+  pub later : before ≤ now
+  pub nothing_else : (t : ℕ) (image : Files) → t ≤ before → since t image → past t image ⊎ since now image
+
+-- a stop at any moment since old leaves files with P
+pub record LeavesOnly {D : Type 0} (moment : D → ℕ) (left_since : D → ℕ → Files → Type 0) (old new : D) (P : Files → Type 0) : Type 0 where
+  pub later : moment old ≤ moment new
+  pub each : (image : Files) → left_since new (moment old) image → P image
+  -- for a run that began earlier
+  pub before : (t : ℕ) (image : Files) → t ≤ moment old → left_since new t image → left_since old t image ⊎ P image
+
+-- neither the files nor their images change
+pub record Untouched (old new : Files) (past since : ℕ → Files → Type 0) : Type 0 where
+  pub same : new ≡ old
+  pub images : (t : ℕ) (image : Files) → since t image → past t image
+  pub kept : (t : ℕ) (image : Files) → past t image → since t image
+
+-- it is one of these images after a write that was cut short
+abbrev pub WasTorn : File → ℕ → Units → (Files → Type 0) → Files → Type 0
+WasTorn file at units images image = (from : Files) × images from × TornFile file at units from image
+
+-- so many bytes for this file, and none for another
+abbrev pub bytes_for : File → File → ℕ → ℕ
+bytes_for Pkg Pkg n = n
+bytes_for Idx Idx n = n
+bytes_for Log Log n = n
+bytes_for file other n = 0

@@ -1,0 +1,12 @@
+pub mod Causes
+pub mod Crash
+pub mod Cuts
+pub mod Files
+pub mod History
+pub mod Literal
+pub mod Looks
+pub mod Memory
+pub mod Moments
+pub mod Past
+pub mod PutLaws
+pub mod Puts

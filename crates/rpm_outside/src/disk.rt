@@ -1,0 +1,127 @@
+//! A disk of three files, and what a stop at any moment may leave of them.
+
+ghost use Rattle.std.specs.Prelude.{◌≡◌, ◌<◌, ◌≤◌, ◌+◌, ◌/◌, ◌%◌, ◌^◌, Bool, IsTrue, ℕ, length, take, drop, is_err, IfOk, OnOk};
+
+use crate::Failed;
+
+/// A file of the database: `Packages.db`, `Hindex.db` or `Hlog.db`.
+#[derive(Clone, Copy, Debug, PartialEq, Eq)]
+pub enum File {
+    Pkg,
+    Idx,
+    Log,
+}
+
+/// Three files of 16-byte units.
+///
+/// A unit is the most that a stop leaves whole: after a write that was cut short each of its units is the old one or the new
+/// one. Bytes behind the last whole unit of a file aren't seen, and a file that isn't there has no units.
+pub trait Disk {
+    ghost use Rattle.rpm_outside.specs.declared.disk.File.{File};
+    ghost use Rattle.rpm_outside.specs.Files.{Files, file_of, with_file, units_of, put};
+    ghost use Rattle.rpm_outside.specs.Causes.{Rose, RoseBy, HasCause};
+    ghost use Rattle.rpm_outside.specs.Crash.{TornFile, Follows, Elapses, Untouched, bytes_for};
+
+    /// Whether disks of this kind tell what they hold.
+    ghost tells: { Bool };
+
+    /// What a read gives, where it is told.
+    ghost files: { Self → Files };
+
+    /// The images that a stop at some moment from that one on may leave, those inside calls included.
+    ghost left_since: { Self → ℕ → Files → Type 0 };
+
+    /// The moment: a number that never falls, and rises with each write and sync.
+    ghost moment: { Self → ℕ };
+
+    /// How many bytes of a file were read.
+    ghost bytes_read: { Self → File → ℕ };
+
+    /// How often a call failed.
+    ghost faults: { Self → ℕ };
+
+    /// What each call keeps of another disk that this one stands on.
+    ghost follows: { Self → Self → Type 0 };
+
+    /// What an implementation says besides of a call that fails, or doesn't.
+    ghost outcome: { Self → Bool → Self → Type 0 } = { λ old failed new. Unit {0} };
+
+    /// The number of units of a file.
+    ///
+    /// # Errors
+    ///
+    /// `Failed` only where the count of faults rose.
+    fn len(&mut self, file: File) -> Result<u64, Failed>
+        ensures length { IsTrue tells → IfOk result (λ n. n ≡ length (file_of file (files self.old))) }
+        ensures untouched { IsTrue tells → Untouched (files self.old) (files self.new) (left_since self.old) (left_since self.new) }
+        ensures moment { moment self.new ≡ moment self.old }
+        ensures reads { (f : File) → bytes_read self.new f ≡ bytes_read self.old f }
+        ensures cause { HasCause (faults self.old) (faults self.new) result }
+        ensures outcome { outcome self.old (is_err result) self.new }
+        ensures follows { follows self.old self.new };
+
+    /// Reads whole units from this one on. The file's count of bytes read rises by the length of `into`, whatever the answer.
+    /// An implementation that doesn't tell its contents counts a read past the end as a fault.
+    ///
+    /// # Errors
+    ///
+    /// `Failed` only where the count of faults rose.
+    fn read_at(&mut self, file: File, unit: u64, into: &mut [u8]) -> Result<(), Failed>
+        requires whole { length into.old % 16 ≡ 0 }
+        requires within { IsTrue tells → unit + length into.old / 16 ≤ length (file_of file (files self.old)) }
+        ensures units { OnOk result (IsTrue tells → units_of into.new ≡ take (length into.old / 16) (drop unit (file_of file (files self.old)))) }
+        ensures untouched { IsTrue tells → Untouched (files self.old) (files self.new) (left_since self.old) (left_since self.new) }
+        ensures moment { moment self.new ≡ moment self.old }
+        ensures reads { (f : File) → RoseBy (bytes_read self.old f) (bytes_for file f (length into.old)) (bytes_read self.new f) }
+        ensures cause { HasCause (faults self.old) (faults self.new) result }
+        ensures outcome { outcome self.old (is_err result) self.new }
+        ensures follows { follows self.old self.new };
+
+    /// Writes whole units from this one on. A write past the end extends the file, and units between are zeros.
+    ///
+    /// # Errors
+    ///
+    /// `Failed` only where the count of faults rose. Each unit of the range is then the old one or the new one, and the file's
+    /// length any one between.
+    fn write_at(&mut self, file: File, unit: u64, bytes: &[u8]) -> Result<(), Failed>
+        requires some { 0 < length bytes.now }
+        requires whole { length bytes.now % 16 ≡ 0 }
+        requires room { unit + length bytes.now / 16 ≤ 2 ^ 28 }
+        ensures written { OnOk result (IsTrue tells → files self.new ≡ with_file file (put unit (units_of bytes.now) (file_of file (files self.old))) (files self.old)) }
+        ensures torn { IsTrue tells → TornFile file unit (units_of bytes.now) (files self.old) (files self.new) }
+        ensures images { IsTrue tells → Follows (TornFile file unit (units_of bytes.now)) (left_since self.old (moment self.old)) (left_since self.new (moment self.new)) }
+        ensures time { IsTrue tells → Elapses (moment self.old) (moment self.new) (left_since self.old) (left_since self.new) }
+        ensures later { moment self.old ≤ moment self.new }
+        ensures rises { OnOk result (Rose (moment self.old) (moment self.new)) }
+        ensures reads { (f : File) → bytes_read self.new f ≡ bytes_read self.old f }
+        ensures cause { HasCause (faults self.old) (faults self.new) result }
+        ensures outcome { outcome self.old (is_err result) self.new }
+        ensures follows { follows self.old self.new };
+
+    /// Settles a file: no stop from now on leaves it otherwise than it reads.
+    ///
+    /// # Errors
+    ///
+    /// `Failed` only where the count of faults rose. All is then as pending as before.
+    fn sync(&mut self, file: File) -> Result<(), Failed>
+        ensures same { IsTrue tells → files self.new ≡ files self.old }
+        ensures settled { OnOk result (IsTrue tells → (image : Files) → left_since self.new (moment self.new) image → file_of file image ≡ file_of file (files self.old)) }
+        ensures images { IsTrue tells → (image : Files) → left_since self.new (moment self.new) image → left_since self.old (moment self.old) image }
+        ensures time { IsTrue tells → Elapses (moment self.old) (moment self.new) (left_since self.old) (left_since self.new) }
+        ensures later { moment self.old ≤ moment self.new }
+        ensures rises { OnOk result (Rose (moment self.old) (moment self.new)) }
+        ensures reads { (f : File) → bytes_read self.new f ≡ bytes_read self.old f }
+        ensures cause { HasCause (faults self.old) (faults self.new) result }
+        ensures outcome { outcome self.old (is_err result) self.new }
+        ensures follows { follows self.old self.new };
+
+    /// The files as they read are an image.
+    ghost as_read: { (disk : Self) → IsTrue tells → left_since disk (moment disk) (files disk) };
+
+    /// A stop since a later moment is one since an earlier moment.
+    ghost earlier: { (disk : Self) (s t : ℕ) (image : Files) → IsTrue tells → s ≤ t → t ≤ moment disk → left_since disk t image → left_since disk s image };
+
+    ghost follows_refl: { (disk : Self) → follows disk disk };
+
+    ghost follows_trans: { (a b c : Self) → follows a b → follows b c → follows a c };
+}

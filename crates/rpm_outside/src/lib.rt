@@ -1,0 +1,10 @@
+//! What the program meets outside of itself: a disk, a shelf of files to read, sinks to write to.
+#![tactic(auto)]
+
+mod disk;
+mod failed;
+mod memory;
+
+pub use disk::{Disk, File};
+pub use failed::Failed;
+pub use memory::{Held, MemDisk, Pick, Step, cut_up};
