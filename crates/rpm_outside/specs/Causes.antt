@@ -1,5 +1,5 @@
 -- When a count rises, and what may come only where it did.
-use Rattle.std.specs.Prelude.{ℕ, ◌+◌, ◌-◌, ◌^◌, ◌≤◌, min, IsErr, Result}
+use Rattle.std.specs.Prelude.{ℕ, ◌+◌, ◌-◌, ◌^◌, ◌≤◌, min, OnErr, Result}
 
 -- a count that rose, or stands at the last value of its type
 abbrev pub Rose : ℕ → ℕ → Type 0
@@ -14,7 +14,7 @@ pub record RoseBy (before by now : ℕ) : Type 0 where
 -- an error comes only where the count rose
 pub record HasCause {T E : Type 0} (before now : ℕ) (result : Result T E) : Type 0 where
   pub later : before ≤ now
-  pub failed : IsErr result → Rose before now
+  pub failed : OnErr result (Rose before now)
 
 -- something comes only where the count rose
 pub record HasCauseAt (what : Type 0) (before now : ℕ) : Type 0 where

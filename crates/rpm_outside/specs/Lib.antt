@@ -5,8 +5,12 @@ pub mod Files
 pub mod History
 pub mod Literal
 pub mod Looks
+pub mod MemSink
 pub mod Memory
 pub mod Moments
 pub mod Past
 pub mod PutLaws
 pub mod Puts
+pub mod Sinks
+pub mod Taken
+pub mod Upto

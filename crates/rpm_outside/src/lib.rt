@@ -3,8 +3,12 @@
 
 mod disk;
 mod failed;
+mod mem_sink;
 mod memory;
+mod sink;
 
 pub use disk::{Disk, File};
 pub use failed::Failed;
+pub use mem_sink::MemSink;
 pub use memory::{Held, MemDisk, Pick, Step, cut_up};
+pub use sink::{Sink, put_all};

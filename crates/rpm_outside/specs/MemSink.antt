@@ -1,0 +1,27 @@
+-- What the sink in memory holds, and when it fails.
+use Rattle.std.specs.Prelude.{◌≡◌, ◌⊎◌, ℕ, ◌<◌, ◌≤◌, Bool, true, List, length, Option, IsSomeAnd}
+use Rattle.rpm_outside.specs.declared.mem_sink.MemSink.{MemSink}
+use Rattle.rpm_outside.specs.Causes.{Rose}
+
+abbrev pub sink_bytes : MemSink → List ℕ
+sink_bytes sink = sink.bytes.items
+
+abbrev pub sink_limit : MemSink → Option ℕ
+sink_limit sink = sink.limit
+
+abbrev pub sink_faults : MemSink → ℕ
+sink_faults sink = sink.faults
+
+abbrev pub sink_starved : MemSink → ℕ
+sink_starved sink = sink.starved
+
+-- as many bytes were taken as may be
+abbrev pub IsFull : MemSink → Type 0
+IsFull sink = IsSomeAnd (sink_limit sink) (λ most. most ≤ length (sink_bytes sink))
+
+-- a write fails where the sink is full, or where memory was wanting, and nowhere else
+pub record FailsWhereFull (old : MemSink) (failed : Bool) (new : MemSink) : Type 0 where
+  pub full : IsFull old → failed ≡ true
+  pub starved : sink_starved old < sink_starved new → failed ≡ true
+  pub cause : failed ≡ true → IsFull old ⊎ Rose (sink_starved old) (sink_starved new)
+  pub limit : sink_limit new ≡ sink_limit old

@@ -1,0 +1,104 @@
+//! A sink in memory.
+
+ghost use Rattle.std.specs.Prelude.{◌≡◌, ℕ, ◌≤◌, ◌-◌, min, true, Some, None, length, [], IfSome};
+ghost use Rattle.rpm_outside.specs.Causes.{Rose};
+
+use crate::{Failed, Sink};
+use std::alloc::Global;
+
+/// A sink that keeps what it takes, and can be told to fail.
+#[derive(Drop)]
+pub struct MemSink {
+    bytes: Vec<u8>,
+    limit: Option<u64>,
+    faults: u64,
+    starved: u64,
+}
+
+impl MemSink {
+    ghost use Rattle.rpm_outside.specs.MemSink.{sink_bytes, sink_limit, sink_faults, sink_starved};
+
+    /// An empty sink, which takes all that is written.
+    pub fn new(alloc: Global) -> MemSink
+        ensures bytes { sink_bytes result ≡ [] }
+        ensures limit { sink_limit result ≡ None }
+        ensures faults { sink_faults result ≡ 0 }
+        ensures starved { sink_starved result ≡ 0 }
+    {
+        MemSink {
+            bytes: Vec::new(alloc),
+            limit: None,
+            faults: 0,
+            starved: 0,
+        }
+    }
+
+    /// Lets any byte after so many fail, those that were taken already counted too.
+    pub fn fail_after(&mut self, bytes: u64)
+        ensures limit { sink_limit self.new ≡ Some bytes }
+        ensures bytes { sink_bytes self.new ≡ sink_bytes self.old }
+        ensures faults { sink_faults self.new ≡ sink_faults self.old }
+        ensures starved { sink_starved self.new ≡ sink_starved self.old }
+    {
+        self.limit = Some(bytes);
+    }
+
+    /// What was taken.
+    pub fn bytes(&self) -> &[u8]
+        ensures { result.now ≡ sink_bytes self.now }
+    {
+        &self.bytes
+    }
+
+    /// How many writes failed.
+    pub fn faults(&self) -> u64
+        ensures { result ≡ sink_faults self.now }
+    {
+        self.faults
+    }
+
+    /// How many writes failed for want of memory.
+    pub fn starved(&self) -> u64
+        ensures { result ≡ sink_starved self.now }
+    {
+        self.starved
+    }
+}
+
+/// How many of so many bytes may be taken by a sink that holds so many.
+fn room_for(limit: Option<u64>, held: usize, bytes: usize) -> usize
+    ensures within { result ≤ bytes }
+    ensures free { limit ≡ None → result ≡ bytes }
+    ensures limited { IfSome limit (λ most. result ≡ min bytes (most - held)) }
+{
+    match limit {
+        None => bytes,
+        Some(most) => (bytes as u64).min(most.saturating_sub(held as u64)) as usize,
+    }
+}
+
+impl Sink for MemSink {
+    ghost use Rattle.rpm_outside.specs.MemSink.{sink_bytes, FailsWhereFull};
+
+    ghost tells = { true };
+
+    ghost taken = { sink_bytes };
+
+    ghost faults = { λ s. s.faults };
+
+    ghost outcome = { FailsWhereFull };
+
+    fn write(&mut self, bytes: &[u8]) -> Result<usize, Failed> {
+        let count = room_for(self.limit, self.bytes.len(), bytes.len());
+        if count == 0 {
+            self.faults = self.faults.saturating_add(1);
+            return Err(Failed);
+        }
+        let Ok(()) = self.bytes.extend_from_slice(&bytes[..count]) else {
+            self.starved = self.starved.saturating_add(1);
+            self.faults = self.faults.saturating_add(1);
+            return Err(Failed);
+        };
+        Ok(count)
+    }
+}
