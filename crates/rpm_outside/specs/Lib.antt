@@ -6,11 +6,13 @@ pub mod History
 pub mod Literal
 pub mod Looks
 pub mod MemSink
+pub mod MemShelf
 pub mod Memory
 pub mod Moments
 pub mod Past
 pub mod PutLaws
 pub mod Puts
+pub mod Shelves
 pub mod Sinks
 pub mod Taken
 pub mod Upto

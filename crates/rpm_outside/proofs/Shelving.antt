@@ -1,0 +1,58 @@
+-- Items that are looked up one after the other.
+use Rattle.std.proofs.Common.{◌≡◌, ℕ, suc, ◌+◌, ◌-◌, ◌<◌, ◌≤◌, min, Bool, true, false, cond, List, [], ◌∷◌, ◌++◌, length, take, drop, map, get_or, Option, Some, None, refl, sym, ap, ◌∙◌, add-one, arith, drop-cons, length-drop, take-append-drop}
+use Rattle.std.proofs.lemmas.List.{drop_all, drop-drop, take-append-le, take_all, length-take, nil_from_length}
+use Rattle.std.proofs.lemmas.Option.{slice_get-get_or}
+use Rattle.std.proofs.lemmas.Map.Text.{is_eq-slice_cmp}
+use Rattle.std.specs.Prelude.{string_bytes, slice_get}
+use Rattle.std.specs.Option.{option_map}
+use Rattle.std.specs.Ordering.{nat_cmp}
+use Rattle.std.specs.Cmp.Lexicographic.{slice_cmp}
+use Rattle.std.proofs.lemmas.Cmp.{nat_list_cmp_total}
+use Rattle.std.specs.FinMap.{find, get-from_entries}
+use Rattle.std.specs.Str.{bytes_eq}
+use Rattle.rpm_outside.specs.declared.mem_shelf.Item.{Item}
+use Rattle.rpm_outside.specs.Shelves.{bytes_at, Reads}
+use Rattle.rpm_outside.specs.MemShelf.{entry_of, paths_of, bytes_in}
+
+abbrev pub find_in : List ℕ → List Item → Option (List ℕ)
+find_in path items = find (slice_cmp nat_cmp) path (map entry_of items)
+
+pub paths_find : (path : List ℕ) (items : List Item) → bytes_at (paths_of items) path ≡ find_in path items
+paths_find path items = get-from_entries nat_list_cmp_total (map entry_of items) path
+
+module _ (path : List ℕ) (items : List Item) (i : ℕ) (item : Item) (below : i < length items) (is : item ≡ get_or items i item) where
+  step : find_in path (drop i items) ≡ cond (bytes_eq path (string_bytes item.path)) (Some item.bytes.items) (find_in path (drop (suc i) items))
+  step =
+      ap (find_in path) (drop-cons items i item below ∙ ap (λ (x : Item). x ∷ drop (suc i) items) (sym is))
+      ∙ ap (λ (t : Bool). cond t (Some item.bytes.items) (find_in path (drop (suc i) items))) (is_eq-slice_cmp path (string_bytes item.path))
+
+  pub bytes_here : bytes_in items i ≡ Some item.bytes.items
+  bytes_here = ap (option_map (λ (x : Item). x.bytes.items)) (slice_get-get_or items i item below ∙ ap Some (sym is))
+
+  -- the item is the one that is looked for
+  pub found : bytes_eq path (string_bytes item.path) ≡ true → find_in path (drop i items) ≡ Some item.bytes.items
+  found same = step ∙ ap (λ (t : Bool). cond t (Some item.bytes.items) (find_in path (drop (suc i) items))) same
+
+  -- it is another
+  pub passed : bytes_eq path (string_bytes item.path) ≡ false → find_in path (drop (i + 1) items) ≡ find_in path (drop i items)
+  passed other =
+      ap (λ (k : ℕ). find_in path (drop k items)) (add-one i)
+      ∙ sym (step ∙ ap (λ (t : Bool). cond t (Some item.bytes.items) (find_in path (drop (suc i) items))) other)
+
+-- the first bytes of what is left are taken, as many as there is room for
+reads_of : (bytes left into given : List ℕ) (at count : ℕ) → left ≡ drop at bytes → count ≡ min (length left) (length into) → 0 < length into → given ≡ take count left ++ drop count into
+    → (left ≡ take count given ++ drop (at + count) bytes) × (take count given ≡ [] → left ≡ [])
+reads_of bytes left into given at count is_left is_count some is_given =
+    let long : length (take count left) ≡ count = omega (arith, length-take count left) in
+    let taken : take count given ≡ take count left = ap (take count) is_given ∙ take-append-le count (take count left) (drop count into) (omega arith) ∙ take_all count (take count left) (omega arith) in
+    let rest : drop count left ≡ drop (at + count) bytes = ap (drop count) is_left ∙ drop-drop count at bytes in
+    let whole : left ≡ take count given ++ drop (at + count) bytes = sym (take-append-drop count left) ∙ ap (λ (xs : List ℕ). xs ++ drop count left) (sym taken) ∙ ap (λ (xs : List ℕ). take count given ++ xs) rest in
+    (whole, λ none. nil_from_length left (omega (arith, ap length (sym taken ∙ none))))
+
+pub reads_first : (held : Option (List ℕ)) (left into given : List ℕ) (at count : ℕ) → option_map (drop at) held ≡ Some left → count ≡ min (length left) (length into) → 0 < length into → given ≡ take count left ++ drop count into
+    → Reads (option_map (drop at) held) (option_map (drop (at + count)) held) (take count given)
+reads_first None left into given at count is_left is_count some is_given = cc
+reads_first (Some bytes) left into given at count is_left is_count some is_given =
+    let here : left ≡ drop at bytes = cc in
+    let both = reads_of bytes left into given at count here is_count some is_given in
+    (sym here ∙ both.0, λ none. sym here ∙ both.1 none)

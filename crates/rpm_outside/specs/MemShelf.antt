@@ -1,0 +1,55 @@
+-- What the shelf in memory holds, and when a read fails.
+use Rattle.std.specs.Prelude.{◌≡◌, ℕ, ◌+◌, ◌-◌, ◌^◌, min, Bool, List, map, drop, slice_get, Option, Some, None, false, ◌==◌, string_bytes}
+use Rattle.std.specs.Option.{option_map, option_map_or}
+use Rattle.std.specs.FinMap.{from_entries}
+use Rattle.rpm_outside.specs.declared.mem_shelf.Item.{Item}
+use Rattle.rpm_outside.specs.declared.mem_shelf.Opened.{Opened}
+use Rattle.rpm_outside.specs.declared.mem_shelf.MemShelf.{MemShelf}
+use Rattle.rpm_outside.specs.Shelves.{Paths}
+
+abbrev pub entry_of : Item → List ℕ × List ℕ
+entry_of item = (string_bytes item.path, item.bytes.items)
+
+-- of two items under one path the first counts
+abbrev pub paths_of : List Item → Paths
+paths_of items = from_entries (map entry_of items)
+
+abbrev pub bytes_in : List Item → ℕ → Option (List ℕ)
+bytes_in items i = option_map (λ item. item.bytes.items) (slice_get items i)
+
+abbrev pub left_in : List Item → Opened → Option (List ℕ)
+left_in items opened = option_map (drop opened.at) (bytes_in items opened.item)
+
+abbrev pub rest_of : List Item → Option Opened → Option (List ℕ)
+rest_of items None = None
+rest_of items (Some opened) = left_in items opened
+
+abbrev pub shelf_paths : MemShelf → Paths
+shelf_paths shelf = paths_of shelf.items.items
+
+abbrev pub shelf_rest : MemShelf → Option (List ℕ)
+shelf_rest shelf = rest_of shelf.items.items shelf.opened
+
+abbrev pub shelf_failing : MemShelf → Option ℕ
+shelf_failing shelf = shelf.failing
+
+abbrev pub shelf_reads : MemShelf → ℕ
+shelf_reads shelf = shelf.reads
+
+abbrev pub shelf_absences : MemShelf → ℕ
+shelf_absences shelf = shelf.absences
+
+abbrev pub shelf_faults : MemShelf → ℕ
+shelf_faults shelf = shelf.faults
+
+-- what a call leaves that doesn't read
+pub record SameReads (old new : MemShelf) : Type 0 where
+  pub reads : shelf_reads new ≡ shelf_reads old
+  pub absences : shelf_absences new ≡ shelf_absences old
+  pub faults : shelf_faults new ≡ shelf_faults old
+
+-- the reads are counted from 1, and the one that was named fails, and no other
+pub record FailsAsNamed (old : MemShelf) (failed : Bool) (new : MemShelf) : Type 0 where
+  pub counted : shelf_reads new ≡ min (shelf_reads old + 1) (2 ^ 64 - 1)
+  pub named : failed ≡ option_map_or (λ read. read == shelf_reads new) (shelf_failing old) false
+  pub failing : shelf_failing new ≡ shelf_failing old

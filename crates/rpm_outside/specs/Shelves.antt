@@ -1,0 +1,24 @@
+-- What a shelf holds, and what its calls take of it.
+use Rattle.std.specs.Prelude.{◌≡◌, ℕ, List, [], ◌++◌, Option, Some, None, Result, Ok, Err}
+use Rattle.std.specs.Ordering.{nat_cmp}
+use Rattle.std.specs.Cmp.Lexicographic.{slice_cmp}
+use Rattle.std.specs.FinMap.{FinMap, get}
+use Rattle.rpm_outside.specs.declared.shelf.Absent.{Absent}
+
+-- the bytes under each path
+abbrev pub Paths : Type 0
+Paths = FinMap (slice_cmp nat_cmp) (List ℕ)
+
+abbrev pub bytes_at : Paths → List ℕ → Option (List ℕ)
+bytes_at paths path = get paths path
+
+-- opening a path under which there are these bytes, or none
+abbrev pub Opens : {T : Type 0} → Option (List ℕ) → Option (List ℕ) → Result T Absent → Type 0
+Opens found rest (Ok done) = (rest ≡ found) × (found ≡ None → ⊥)
+Opens found rest (Err absent) = (rest ≡ None) × (found ≡ None)
+
+-- these bytes were taken from the front of what was left, and at least one where something was left
+abbrev pub Reads : Option (List ℕ) → Option (List ℕ) → List ℕ → Type 0
+Reads None rest taken = (rest ≡ None) × (taken ≡ [])
+Reads (Some left) None taken = ⊥
+Reads (Some left) (Some rest) taken = (left ≡ taken ++ rest) × (taken ≡ [] → left ≡ [])
