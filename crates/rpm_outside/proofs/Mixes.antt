@@ -2,8 +2,8 @@
 use Rattle.std.proofs.Common.{◌≡◌, ⊎_elim, List, [], ◌∷◌, ◌++◌, refl, sym, ◌∙◌, ap, subst}
 use Rattle.rpm_outside.specs.declared.disk.File.{File}
 use Rattle.rpm_outside.specs.declared.disk.File.TheVariants.{Pkg, Idx, Log}
-use Rattle.rpm_outside.specs.declared.memory.Step.{Step}
-use Rattle.rpm_outside.specs.declared.memory.Step.TheVariants.{Wrote, Synced}
+use Rattle.rpm_outside.specs.declared.steps.Step.{Step}
+use Rattle.rpm_outside.specs.declared.steps.Step.TheVariants.{Wrote, Synced}
 use Rattle.rpm_outside.specs.Files.{Units, Files, file_of, with_file, put}
 use Rattle.rpm_outside.specs.Crash.{Torn, TornFile}
 use Rattle.rpm_outside.specs.Past.{after_step, after_steps, LeftByStep, LeftBySteps, Images, StepsTo}

@@ -2,8 +2,8 @@
 use Rattle.std.proofs.Common.{◌≡◌, ◌⊎◌, inl, inr, ⊎_elim, ℕ, ◌+◌, ◌<◌, ◌/◌, Bool, true, false, List, take, length, sym, ◌∙◌, ap, subst, arith}
 use Rattle.std.proofs.lemmas.List.{length-take, get_or-take}
 use Rattle.rpm_outside.specs.declared.disk.File.{File}
-use Rattle.rpm_outside.specs.declared.memory.Step.{Step}
-use Rattle.rpm_outside.specs.declared.memory.Step.TheVariants.{Wrote}
+use Rattle.rpm_outside.specs.declared.steps.Step.{Step}
+use Rattle.rpm_outside.specs.declared.steps.Step.TheVariants.{Wrote}
 use Rattle.rpm_outside.specs.Files.{Units, Files, file_of, with_file, put, unit_at, blank}
 use Rattle.rpm_outside.specs.Crash.{Torn, TornFile, Follows}
 use Rattle.rpm_outside.specs.Puts.{length-put, put_cases, put_inside}

@@ -4,8 +4,8 @@ use Rattle.std.proofs.lemmas.List.{take_all, take-append-le, length_push}
 use Rattle.std.proofs.lemmas.Bool.{cases_lt}
 use Rattle.rpm_outside.specs.declared.disk.File.{File}
 use Rattle.rpm_outside.specs.declared.disk.File.TheVariants.{Pkg, Idx, Log}
-use Rattle.rpm_outside.specs.declared.memory.Step.{Step}
-use Rattle.rpm_outside.specs.declared.memory.Step.TheVariants.{Wrote, Synced}
+use Rattle.rpm_outside.specs.declared.steps.Step.{Step}
+use Rattle.rpm_outside.specs.declared.steps.Step.TheVariants.{Wrote, Synced}
 use Rattle.rpm_outside.specs.Files.{Units, Files, file_of, with_file, put}
 use Rattle.rpm_outside.specs.Crash.{Torn, TornFile, Elapses, Follows}
 use Rattle.rpm_outside.specs.Puts.{length-put}

@@ -7,9 +7,10 @@ pub mod Literal
 pub mod Looks
 pub mod MemSink
 pub mod MemShelf
-pub mod Memory
+pub mod MemDisk
 pub mod Moments
 pub mod Past
+pub mod Picks
 pub mod PutLaws
 pub mod Puts
 pub mod Shelves

@@ -5,8 +5,8 @@ use Rattle.std.specs.Prelude.{Vec}
 use Rattle.std.specs.declared.alloc.Global.{Global}
 use Rattle.rpm_outside.specs.declared.disk.File.{File}
 use Rattle.rpm_outside.specs.declared.disk.File.TheVariants.{Pkg, Idx, Log}
-use Rattle.rpm_outside.specs.declared.memory.Step.{Step}
-use Rattle.rpm_outside.specs.declared.memory.Step.TheVariants.{Wrote, Synced}
+use Rattle.rpm_outside.specs.declared.steps.Step.{Step}
+use Rattle.rpm_outside.specs.declared.steps.Step.TheVariants.{Wrote, Synced}
 use Rattle.rpm_outside.specs.Files.{Units, Files, file_of, with_file, put, unit_at}
 use Rattle.rpm_outside.specs.Crash.{TornFile}
 use Rattle.rpm_outside.specs.Puts.{length-put, put_cases, put_inside}

@@ -2,9 +2,9 @@
 use Rattle.std.specs.Prelude.{◌++◌, ◌/◌, Bool, if◌then◌else◌, Vec, ◌≡◌, ℕ, ◌≤◌, List, [], ◌∷◌, length, take}
 use Rattle.std.specs.declared.alloc.Global.{Global}
 use Rattle.rpm_outside.specs.declared.disk.File.{File}
-use Rattle.rpm_outside.specs.declared.memory.Step.{Step}
-use Rattle.rpm_outside.specs.declared.memory.Step.TheVariants.{Wrote, Synced}
-use Rattle.rpm_outside.specs.declared.memory.Held.{Held}
+use Rattle.rpm_outside.specs.declared.steps.Step.{Step}
+use Rattle.rpm_outside.specs.declared.steps.Step.TheVariants.{Wrote, Synced}
+use Rattle.rpm_outside.specs.declared.steps.Held.{Held}
 use Rattle.rpm_outside.specs.Files.{Units, Files, file_of, with_file, put}
 use Rattle.rpm_outside.specs.Crash.{TornFile}
 

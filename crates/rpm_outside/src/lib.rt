@@ -3,16 +3,18 @@
 
 mod disk;
 mod failed;
+mod mem_disk;
 mod mem_shelf;
 mod mem_sink;
-mod memory;
 mod shelf;
 mod sink;
+mod steps;
 
 pub use disk::{Disk, File};
 pub use failed::Failed;
+pub use mem_disk::MemDisk;
 pub use mem_shelf::MemShelf;
 pub use mem_sink::MemSink;
-pub use memory::{Held, MemDisk, Pick, Step, cut_up};
 pub use shelf::{Absent, Shelf};
 pub use sink::{Sink, put_all};
+pub use steps::Pick;

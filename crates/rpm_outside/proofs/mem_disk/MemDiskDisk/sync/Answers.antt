@@ -1,0 +1,34 @@
+use Rattle.std.proofs.Common.{ℕ, List, refl, sym, ◌∙◌, ap}
+use Rattle.std.specs.Prelude.{◌==◌}
+use Rattle.std.specs.List.{list_any}
+use Rattle.rpm_outside.proofs.Named.{named_fails}
+use Rattle.rpm_outside.specs.declared.steps.Step.TheVariants.{Synced}
+use Rattle.rpm_outside.specs.Files.{Files, file_of}
+use Rattle.rpm_outside.specs.Past.{held_files, after_steps}
+use Rattle.rpm_outside.specs.History.{after_steps-push, sync_step}
+use Rattle.rpm_outside.proofs.mem_disk.MemDiskDisk.sync.Goals as goal
+
+pub invariant_of-self-in-Ok : goal.invariant_of-self-in-Ok
+invariant_of-self-in-Ok c =
+    let disk = c.args.self.now in
+    record {
+      replayed = disk.replayed
+          ∙ sym (after_steps-push disk.steps.items (Synced c.args.file) (held_files disk.first))
+          ∙ ap (λ s. after_steps s (held_files disk.first)) (sym c.in-Ok.ensures.ok);
+    }
+
+pub returns-clause-settled : goal.returns-clause-settled
+returns-clause-settled c = λ told image since.
+    let disk = c.args.self.now in
+    (sync_step disk.steps.items c.keep_sync.new.steps.items c.args.file (held_files disk.first) image c.in-Ok.ensures.ok since).1
+    ∙ ap (λ (f : Files). file_of c.args.file f) (sym disk.replayed)
+
+pub returns-clause-images : goal.returns-clause-images
+returns-clause-images c = λ told image since.
+    let disk = c.args.self.now in
+    (sync_step disk.steps.items c.keep_sync.new.steps.items c.args.file (held_files disk.first) image c.in-Ok.ensures.ok since).0
+
+pub returns-then-call_fails-clause-outcome : goal.returns-then-call_fails-clause-outcome
+returns-then-call_fails-clause-outcome c =
+    named_fails c.args.self.now _ c.call_fails.ensures.counted refl
+    (ap (λ (xs : List ℕ). list_any (λ call. call == c.call_fails.new.calls) xs) (sym c.deref.ensures.value) ∙ sym c.call_fails.ensures.named ∙ c.if-call_fails.true) refl

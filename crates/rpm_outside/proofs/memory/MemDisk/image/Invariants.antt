@@ -1,9 +1,0 @@
-use Rattle.std.proofs.Common.{◌≡◌, take}
-use Rattle.rpm_outside.specs.Past.{held_files, after_steps, Images}
-use Rattle.rpm_outside.proofs.memory.MemDisk.image.Given as goal
-
-abbrev pub invariant-loop-k : goal.invariant-loop-k
-invariant-loop-k l = record {
-  now : held_files l.now ≡ after_steps (take l.k l.self.steps.items) (held_files l.self.first);
-  image : Images (take l.k l.self.steps.items) (held_files l.self.first) (held_files l.image);
-}

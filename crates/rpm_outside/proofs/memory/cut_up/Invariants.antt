@@ -1,6 +1,0 @@
-use Rattle.std.proofs.Common.{◌≡◌}
-use Rattle.rpm_outside.specs.Files.{cut_up}
-use Rattle.rpm_outside.proofs.memory.cut_up.Given as goal
-
-abbrev pub invariant-loop-k : goal.invariant-loop-k
-invariant-loop-k l = l.units.items ≡ cut_up l.k l.bytes

@@ -1,8 +1,0 @@
-use Rattle.std.proofs.Common.{sym}
-use Rattle.std.proofs.lemmas.List.{get_or_past}
-use Rattle.rpm_outside.specs.Files.{blank}
-use Rattle.rpm_outside.proofs.memory.unit_of.Goals as goal
-
-pub returns-else-i-file : goal.returns-else-i-file
-unfolding blank
-returns-else-i-file c = sym (get_or_past c.args.file.now c.args.i blank c.if-i-file.false)

@@ -1,0 +1,72 @@
+-- What the disk in memory holds, and when a call fails.
+use Rattle.std.specs.Prelude.{◌≡◌, ℕ, ◌+◌, ◌-◌, ◌^◌, ◌<◌, min, Bool, true, false, ◌==◌, List, []}
+use Rattle.std.specs.List.{list_any}
+use Rattle.rpm_outside.specs.declared.steps.Step.{Step}
+use Rattle.rpm_outside.specs.declared.mem_disk.MemDisk.{MemDisk}
+use Rattle.rpm_outside.specs.declared.disk.File.{File}
+use Rattle.rpm_outside.specs.declared.disk.File.TheVariants.{Pkg, Idx, Log}
+use Rattle.rpm_outside.specs.Causes.{Rose}
+use Rattle.rpm_outside.specs.Files.{Files}
+use Rattle.rpm_outside.specs.Past.{held_files}
+
+-- what a read gives
+abbrev pub mem_files : MemDisk → Files
+mem_files disk = held_files disk.held
+
+-- the files at moment 0
+abbrev pub mem_first : MemDisk → Files
+mem_first disk = held_files disk.first
+
+-- the writes and syncs since then
+abbrev pub mem_steps : MemDisk → List Step
+mem_steps disk = disk.steps.items
+
+abbrev pub mem_faults : MemDisk → ℕ
+mem_faults disk = disk.faults
+
+abbrev pub mem_starved : MemDisk → ℕ
+mem_starved disk = disk.starved
+
+abbrev pub mem_calls : MemDisk → ℕ
+mem_calls disk = disk.calls
+
+abbrev pub mem_failing : MemDisk → List ℕ
+mem_failing disk = disk.failing.items
+
+abbrev pub mem_read : MemDisk → File → ℕ
+mem_read disk Pkg = disk.read_pkg
+mem_read disk Idx = disk.read_idx
+mem_read disk Log = disk.read_log
+
+-- files that are settled, and nothing counted
+pub record IsNew (disk : MemDisk) (begun : Files) : Type 0 where
+  pub files : mem_files disk ≡ begun
+  pub first : mem_first disk ≡ begun
+  pub steps : mem_steps disk ≡ []
+  pub failing : mem_failing disk ≡ []
+  pub calls : mem_calls disk ≡ 0
+  pub faults : mem_faults disk ≡ 0
+  pub starved : mem_starved disk ≡ 0
+  pub reads : (file : File) → mem_read disk file ≡ 0
+
+-- all but the calls that are to fail
+pub record SameButFailing (old new : MemDisk) : Type 0 where
+  pub files : mem_files new ≡ mem_files old
+  pub first : mem_first new ≡ mem_first old
+  pub steps : mem_steps new ≡ mem_steps old
+  pub calls : mem_calls new ≡ mem_calls old
+  pub faults : mem_faults new ≡ mem_faults old
+  pub starved : mem_starved new ≡ mem_starved old
+  pub reads : (file : File) → mem_read new file ≡ mem_read old file
+
+-- the calls are counted from 1, and the last one is among those that were named
+abbrev pub is_named : MemDisk → Bool
+is_named disk = list_any (λ call. call == mem_calls disk) (mem_failing disk)
+
+-- a call fails where it was named, or where memory was wanting, and nowhere else
+pub record FailsWhereNamed (old : MemDisk) (failed : Bool) (new : MemDisk) : Type 0 where
+  pub counted : mem_calls new ≡ min (mem_calls old + 1) (2 ^ 64 - 1)
+  pub failing : mem_failing new ≡ mem_failing old
+  pub named : is_named new ≡ true → failed ≡ true
+  pub starved : mem_starved old < mem_starved new → failed ≡ true
+  pub cause : failed ≡ true → is_named new ≡ false → Rose (mem_starved old) (mem_starved new)
