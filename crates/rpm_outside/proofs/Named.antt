@@ -1,5 +1,5 @@
 -- A call that was named fails.
-use Rattle.std.proofs.Common.{◌≡◌, ℕ, ◌+◌, ◌-◌, ◌^◌, min, true, refl, ◌∙◌, sym}
+use Rattle.std.proofs.Common.{◌≡◌, ◌+◌, ◌-◌, ◌^◌, min, true, refl}
 use Rattle.rpm_outside.specs.declared.mem_disk.MemDisk.{MemDisk}
 use Rattle.rpm_outside.specs.MemDisk.{mem_calls, mem_failing, mem_starved, is_named, FailsWhereNamed}
 

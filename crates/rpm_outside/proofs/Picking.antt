@@ -1,5 +1,5 @@
 -- What is picked is an image.
-use Rattle.std.proofs.Common.{◌≡◌, ◌⊎◌, inl, inr, ℕ, ◌+◌, ◌<◌, ◌≤◌, Bool, true, false, if◌then◌else◌, List, [], ◌∷◌, ◌++◌, map, length, refl, sym, ◌∙◌, ap, subst, arith}
+use Rattle.std.proofs.Common.{◌≡◌, ◌⊎◌, inl, inr, ℕ, Bool, true, false, if◌then◌else◌, List, [], ◌∷◌, ◌++◌, map, length, refl, sym, ◌∙◌, ap, subst, arith}
 use Rattle.std.proofs.lemmas.List.{get_or_past}
 use Rattle.std.proofs.lemmas.List.FromFn.{length-map-range_with_len, get_or-map-range_with_len}
 use Rattle.std.proofs.lemmas.Bool.{cases_lt}
@@ -9,7 +9,7 @@ use Rattle.rpm_outside.specs.declared.steps.Pick.TheVariants.{Old, New, Mixed}
 use Rattle.rpm_outside.specs.declared.steps.Step.{Step}
 use Rattle.rpm_outside.specs.declared.steps.Step.TheVariants.{Wrote, Synced}
 use Rattle.rpm_outside.specs.Files.{Units, Files, file_of, with_file, unit_at, blank, put}
-use Rattle.rpm_outside.specs.Crash.{Torn, TornFile}
+use Rattle.rpm_outside.specs.Crash.{Torn}
 use Rattle.rpm_outside.specs.Puts.{length-put}
 use Rattle.rpm_outside.specs.Past.{after_step, after_steps, StepsTo}
 use Rattle.rpm_outside.specs.History.{file_of-with, torn_whole, torn_none}
@@ -30,7 +30,7 @@ module _ (seed at : ℕ) (units file : Units) where
         elim (choice (takes_new seed i) i) [ inl old ↦ inl (is ∙ old) | inr taken ↦ inr (is ∙ taken) ])
     | inr past ↦
         inl (get_or_past (map (mixed_unit seed file new) (range_with_len 0 (length new))) i blank (omega (arith, length-map-range_with_len (mixed_unit seed file new) 0 (length new)))
-            ∙ sym (get_or_past file i blank (omega (arith, length-put at units file))))
+        ∙ sym (get_or_past file i blank (omega (arith, length-put at units file))))
   ]
 
 picked_torn : (pick : Pick) (at : ℕ) (units file : Units) → Torn at units file (picked pick at units file)

@@ -9,6 +9,8 @@ mod mem_sink;
 mod shelf;
 mod sink;
 mod steps;
+#[cfg(test)]
+mod tests;
 
 pub use disk::{Disk, File};
 pub use failed::Failed;

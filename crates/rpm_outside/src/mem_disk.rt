@@ -5,7 +5,9 @@ ghost use Rattle.std.specs.List.{list_any};
 ghost use Rattle.rpm_outside.specs.Files.{Files, file_of, units_of, bytes_of};
 ghost use Rattle.rpm_outside.specs.Past.{held_files, after_steps};
 
-use crate::steps::{Held, Pick, Step, copy_of, copy_units, go_over, joined, keep_sync, write_units};
+use crate::steps::{
+    Held, Pick, Step, copy_of, copy_units, go_over, joined, keep_sync, write_units,
+};
 use crate::{Disk, Failed, File};
 use std::alloc::{AllocError, Global};
 

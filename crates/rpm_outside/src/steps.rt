@@ -264,4 +264,3 @@ pub fn go_over(
     }
     Ok(())
 }
-

@@ -43,7 +43,7 @@ returns c =
     let whole : take (16 * c.loop-k.k) into ≡ into = take_all (16 * c.loop-k.k) into (omega (arith, c.loop-k.invariant.size)) in
     let bytes : into ≡ bytes_of units = sym whole ∙ c.loop-k.invariant.done ∙ ap (λ (k : ℕ). bytes_of (take k units)) all ∙ ap bytes_of (take_all (length units) units (omega arith)) in
     ap units_of bytes ∙ units_of-bytes_of units (λ k.
-        elim (cases_lt k (length units)) [
-          | inl inside ↦ (let e : get_or units k blank ≡ get_or units k [] = get_or_default units k blank [] inside in ap length e ∙ c.told-units k inside)
-          | inr past ↦ (let e : get_or units k blank ≡ blank = get_or_past units k blank past in ap length e ∙ length-blank)
-        ])
+    elim (cases_lt k (length units)) [
+      | inl inside ↦ (let e : get_or units k blank ≡ get_or units k [] = get_or_default units k blank [] inside in ap length e ∙ c.told-units k inside)
+      | inr past ↦ (let e : get_or units k blank ≡ blank = get_or_past units k blank past in ap length e ∙ length-blank)
+    ])

@@ -1,0 +1,100 @@
+use crate::{Absent, Disk, Failed, File, MemDisk, MemShelf, MemSink, Pick, Shelf, Sink, put_all};
+use std::alloc::Global;
+use std::test::Fail;
+
+// Whether an image of a moment has these bytes in Packages.db.
+fn image_is(
+    alloc: Global,
+    disk: &MemDisk,
+    moment: u64,
+    pick: Pick,
+    bytes: &[u8],
+) -> Result<bool, Fail> {
+    if moment > disk.now() {
+        return Ok(false);
+    }
+    let image = disk.image(alloc, moment, pick)?;
+    let file = image.copy_file(alloc, File::Pkg)?;
+    Ok(file.as_slice() == bytes)
+}
+
+const OLD: [u8; 32] = [1; 32];
+
+const NEW: [u8; 32] = [2; 32];
+
+#[test]
+fn a_stop_leaves_old_or_new_units(rt: HostRuntime) -> Result<(), Fail> {
+    let alloc = rt.alloc();
+    let mut disk = MemDisk::new(alloc, &OLD, &[], &[])?;
+    let written = [[1u8; 16], [2; 16], [2; 16]].concat(alloc)?;
+    let mixed = [[1u8; 16], [2; 16], [0; 16]].concat(alloc)?;
+    assert!(rt; disk.write_at(File::Pkg, 1, &NEW).is_ok());
+    assert_eq!(rt; disk.now(), 1);
+    for (moment, pick, bytes) in [
+        (0, Pick::New, OLD.as_slice()),
+        (1, Pick::Old, OLD.as_slice()),
+        (1, Pick::New, written.as_slice()),
+        (1, Pick::Mixed(0b010), mixed.as_slice()),
+    ] {
+        assert!(rt; image_is(alloc, &disk, moment, pick, bytes)?);
+    }
+    assert!(rt; disk.sync(File::Idx).is_ok());
+    assert!(rt; image_is(alloc, &disk, 2, Pick::Old, &OLD)?);
+    assert!(rt; disk.sync(File::Pkg).is_ok());
+    assert!(rt; image_is(alloc, &disk, 3, Pick::Old, &written)?);
+    assert!(rt; disk.faults() == 0 && disk.starved() == 0 && disk.bytes_read(File::Pkg) == 0);
+    Ok(())
+}
+
+#[test]
+fn a_named_call_fails_and_writes_the_first_half(rt: HostRuntime) -> Result<(), Fail> {
+    let alloc = rt.alloc();
+    let mut disk = MemDisk::new(alloc, &[], &OLD, &[])?;
+    disk.fail_call(2)?;
+    let mut unit = [0u8; 16];
+    assert_eq!(rt; disk.len(File::Idx), Ok(2));
+    assert_eq!(rt; disk.write_at(File::Idx, 0, &NEW), Err(Failed));
+    assert_eq!(rt; disk.read_at(File::Idx, 0, &mut unit), Ok(()));
+    assert_eq!(rt; unit, [2; 16]);
+    assert_eq!(rt;
+        disk.copy_file(alloc, File::Idx)?.as_slice(),
+        [[2u8; 16], [1; 16]].concat(alloc)?.as_slice()
+    );
+    assert!(rt;
+        disk.faults() == 1 && disk.bytes_read(File::Idx) == 16 && disk.bytes_read(File::Log) == 0
+    );
+    Ok(())
+}
+
+#[test]
+fn a_shelf_gives_its_newest_item_once(rt: HostRuntime) -> Result<(), Fail> {
+    let mut shelf = MemShelf::new(rt.alloc());
+    shelf.put("a", b"old")?;
+    shelf.put("-", b"input")?;
+    shelf.put("a", b"new")?;
+    let mut into = [0u8; 2];
+    assert_eq!(rt; shelf.open("b"), Err(Absent));
+    assert_eq!(rt; shelf.read(&mut into), Ok(0));
+    assert_eq!(rt; shelf.open("a"), Ok(()));
+    assert_eq!(rt; shelf.read(&mut into), Ok(2));
+    assert_eq!(rt; into, *b"ne");
+    shelf.fail_read(3);
+    assert_eq!(rt; shelf.read(&mut into), Err(Failed));
+    assert_eq!(rt; shelf.read(&mut into), Ok(1));
+    assert_eq!(rt; into[0], b'w');
+    assert_eq!(rt; shelf.read(&mut into), Ok(0));
+    assert!(rt; shelf.absences() == 1 && shelf.faults() == 1);
+    Ok(())
+}
+
+#[test]
+fn a_sink_fails_after_its_limit(rt: HostRuntime) -> Result<(), Fail> {
+    let mut sink = MemSink::new(rt.alloc());
+    assert_eq!(rt; put_all(&mut sink, b"ab"), Ok(()));
+    sink.fail_after(3);
+    assert_eq!(rt; sink.write(b"cd"), Ok(1));
+    assert_eq!(rt; put_all(&mut sink, b"d"), Err(Failed));
+    assert_eq!(rt; sink.bytes(), b"abc".as_slice());
+    assert!(rt; sink.faults() == 1 && sink.starved() == 0);
+    Ok(())
+}
