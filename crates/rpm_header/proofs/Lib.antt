@@ -1,0 +1,6 @@
+pub mod Each
+pub mod Find
+pub mod Region
+pub mod Texts
+pub mod Values
+pub mod Whole
