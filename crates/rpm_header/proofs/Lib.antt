@@ -1,3 +1,4 @@
+pub mod Cut
 pub mod Each
 pub mod Find
 pub mod Region

@@ -201,9 +201,16 @@ abbrev pub unless : {X E : Type 0} → Option E → X → Result X E
 unless None x = Ok x
 unless (Some e) x = Err e
 
--- no entry has a fault
+-- the bytes of a header alone: the two lengths in front are in bounds and cut exactly these bytes
+pub record IsCut (il : ℕ) (blob : List ℕ) : Type 0 where
+  pub front : number_at w32 blob 0 ≡ il
+  pub whole : length blob ≡ 8 + 16 * il + number_at w32 blob 4
+  pub few : il ≤ 65535
+  pub small : number_at w32 blob 4 ≤ 67108864
+
+-- and no entry has a fault
 pub record IsSound (il : ℕ) (blob : List ℕ) : Type 0 where
-  pub index : 8 + 16 * il ≤ length blob
+  pub cut : IsCut il blob
   pub faultless : (k : ℕ) → k < il → fault_at il blob k ≡ None
 
 -- the last entry of a tag

@@ -1,7 +1,7 @@
 //! A header that was checked, over its own bytes.
 
-ghost use Rattle.std.specs.Prelude.{◌≡◌, ℕ, ◌+◌, ◌*◌, ◌≤◌, ◌<◌, length, map, Some, slice_get};
-ghost use Rattle.rpm_header.specs.Header.{header, header_of, last_of};
+ghost use Rattle.std.specs.Prelude.{◌≡◌, ℕ, ◌+◌, ◌*◌, ◌≤◌, ◌<◌, length, map, Some, Ok, slice_get};
+ghost use Rattle.rpm_header.specs.Header.{header, header_of, last_of, IsCut};
 
 use crate::bytes::u32_at;
 use crate::entry::{Entry, entry_at};
@@ -57,7 +57,7 @@ impl<'a> View<'a> {
     }
 
     fn checked(il: u32, blob: &'a [u8]) -> Result<View<'a>, HeaderFault>
-        requires { 8 + 16 * il ≤ length blob.now }
+        requires { IsCut il blob.now }
         ensures { result ≡ header_of il blob.now }
     {
         for i in 0..il {
@@ -68,16 +68,20 @@ impl<'a> View<'a> {
         Ok(View { blob, count: il })
     }
 
-    /// The header's own bytes, from its two lengths to the end of its data, without what followed them.
+    /// The header's own bytes, from its two lengths to the end of its data, without what followed them: at most 68,157,432. Read again, they
+    /// give this header again.
     pub fn blob(&self) -> &'a [u8]
-        ensures { result.now ≡ self.now.blob }
+        ensures value { result.now ≡ self.now.blob }
+        ensures small { length result.now ≤ 68157432 }
+        ensures again { header result.now ≡ Ok self.now }
     {
         self.blob
     }
 
     /// The number of entries, at most 65,535. A region's entry counts as any other.
     pub fn entries(&self) -> u32
-        ensures { result ≡ length self.now.entries }
+        ensures value { result ≡ length self.now.entries }
+        ensures few { result ≤ 65535 }
     {
         self.count
     }
