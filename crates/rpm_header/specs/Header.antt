@@ -1,5 +1,5 @@
 -- What a header says: its entries, or its first fault.
-use Rattle.std.specs.Prelude.{◌≡◌, ℕ, ◌≤◌, ◌<◌, ◌+◌, ◌*◌, ◌%◌, ◌^◌, List, [], ◌∷◌, length, take, drop, Bool, true, false, not, ◌&&◌, ◌||◌, ◌==◌, nat_lt, if◌then◌else◌, Option, Some, None, Result, Ok, Err, slice_get}
+use Rattle.std.specs.Prelude.{◌≡◌, ℕ, ◌≤◌, ◌<◌, ◌+◌, ◌*◌, ◌%◌, ◌^◌, List, [], ◌∷◌, length, take, drop, Bool, true, false, not, ◌&&◌, ◌||◌, ◌==◌, nat_lt, if◌then◌else◌, Option, Some, None, Result, Ok, Err, slice_get, All}
 use Rattle.std.specs.Option.{option_or}
 use Rattle.std.specs.List.{list_any, range_with_len}
 use Rattle.std.specs.Int.{Width, w8, w16, w32, w64, byte_len}
@@ -118,13 +118,19 @@ abbrev pub AreBytes : ℕ → Values → Type 0
 AreBytes count (Bytes bs) = length bs ≡ count
 AreBytes count _ = ⊥
 
--- the elements are of the form's class, and the count is how many there are
+-- and no more bytes are left there than a header has of data
+pub record IsInside (f : Form) (count : ℕ) (bytes : List ℕ) : Type 0 where
+  pub room : HasRoom f count bytes
+  pub few : length bytes ≤ 67108864
+
+-- the elements are of the form's class, the count is how many there are, and no text is longer than a header's data
 pub record IsWhole (e : Item) : Type 0 where
   pub some : (e.form ≡ form.Null → ⊥) → 0 < e.count
   pub nothing : e.form ≡ form.Null → e.values ≡ Nothing
   pub numbers : has_numbers e.form ≡ true → AreNumbers e.count e.values
   pub texts : has_texts e.form ≡ true → AreTexts e.count e.values
   pub bytes : e.form ≡ form.Bin → AreBytes e.count e.values
+  pub short : All (λ text. length text ≤ 67108864) (texts_of e.values)
 
 -- ---- the faults of one entry, in the data from its offset on
 

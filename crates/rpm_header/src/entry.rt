@@ -21,13 +21,13 @@ pub struct Entry<'a> {
 }
 
 impl<'a> Model for Entry<'a> {
-    ghost use Rattle.rpm_header.specs.Header.{Item, values, HasRoom};
+    ghost use Rattle.rpm_header.specs.Header.{Item, values, IsInside};
 
     ghost Value = { Item };
 
     ghost view = { λ s. record { tag = s.tag; form = s.form; count = s.count; values = values s.form s.count s.bytes.now } };
 
-    ghost invariant = { λ s. HasRoom s.form s.count s.bytes.now };
+    ghost invariant = { λ s. IsInside s.form s.count s.bytes.now };
 }
 
 impl<'a> Entry<'a> {
@@ -141,6 +141,7 @@ impl<'a> Iterator for EntryTexts<'a> {
 fn elements_of<'a>(form: Form, i: u32, entry: IndexEntry, section: &'a [u8]) -> &'a [u8]
     requires { form_fault (Some form) i entry section.now ≡ None }
     ensures room { HasRoom form entry.count result.now }
+    ensures few { length result.now ≤ length section.now }
     ensures elements { values form entry.count result.now ≡ values form entry.count (drop entry.offset section.now) }
 {
     if form == Form::Null {

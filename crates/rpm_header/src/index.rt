@@ -1,10 +1,16 @@
-//! The index of a header, and the faults of its entries.
+//! The index of a header, its limits, and the faults of its entries.
 
 ghost use Rattle.std.specs.Prelude.{◌≡◌, ℕ, ◌+◌, ◌*◌, ◌≤◌, ◌<◌, length};
 ghost use Rattle.rpm_header.specs.Header.{index_entry_at, form_of, alignment, has_texts, is_region_tag, is_bad_count, element_fault, form_fault, counts_back, region_fault, fault_at, section_of};
 
 use crate::bytes::{are_ended, u32_at};
 use crate::form::{Form, HeaderFault};
+
+/// The most entries that a header has.
+pub const MAX_ENTRIES: u32 = 65_535;
+
+/// The most bytes of data that a header has.
+pub const MAX_DATA: u32 = 67_108_864;
 
 /// One entry of the index: four numbers of four bytes.
 #[derive(Clone, Copy)]

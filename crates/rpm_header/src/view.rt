@@ -6,7 +6,7 @@ ghost use Rattle.rpm_header.specs.Header.{header, header_of, last_of, IsCut};
 use crate::bytes::u32_at;
 use crate::entry::{Entry, entry_at};
 use crate::form::HeaderFault;
-use crate::index::fault_at;
+use crate::index::{MAX_DATA, MAX_ENTRIES, fault_at};
 use std::marker::Model;
 
 /// A header in which no entry has a fault. It borrows the header's bytes. Contracts see it as a `Header`: its own bytes and its entries.
@@ -42,11 +42,11 @@ impl<'a> View<'a> {
             return Err(HeaderFault::Short);
         }
         let il = u32_at(blob, 0);
-        if il > 65_535 {
+        if il > MAX_ENTRIES {
             return Err(HeaderFault::TooManyEntries);
         }
         let dl = u32_at(blob, 4);
-        if dl > 67_108_864 {
+        if dl > MAX_DATA {
             return Err(HeaderFault::TooMuchData);
         }
         let whole = 8 + 16 * il as usize + dl as usize;
