@@ -1,0 +1,239 @@
+-- What a header says: its entries, or its first fault.
+use Rattle.std.specs.Prelude.{◌≡◌, ℕ, ◌≤◌, ◌<◌, ◌+◌, ◌*◌, ◌%◌, ◌^◌, List, [], ◌∷◌, length, take, drop, Bool, true, false, not, ◌&&◌, ◌||◌, ◌==◌, nat_lt, if◌then◌else◌, Option, Some, None, Result, Ok, Err, slice_get, All}
+use Rattle.std.specs.Option.{option_or}
+use Rattle.std.specs.List.{list_any, range_with_len}
+use Rattle.std.specs.Int.{Width, w8, w16, w32, w64, byte_len}
+use Rattle.rpm_header.specs.declared.form.Form.{Form}
+use Rattle.rpm_header.specs.declared.form.Form.TheVariants as form
+use Rattle.rpm_header.specs.declared.form.HeaderFault.{HeaderFault}
+use Rattle.rpm_header.specs.declared.form.HeaderFault.TheVariants.{Short, TooManyEntries, TooMuchData, BadType, BadOffset, BadCount, NoEnd, BadRegion}
+use Rattle.rpm_header.specs.declared.index.IndexEntry.{IndexEntry}
+use Rattle.rpm_header.specs.Bytes.{number_at, each_below, numbers, texts, are_ended}
+
+-- ---- what a header holds
+
+-- the elements of an entry, by the class of its form
+pub data Values : Type 0 where
+  Nothing : Values
+  Numbers : List ℕ → Values
+  Texts : List (List ℕ) → Values
+  Bytes : List ℕ → Values
+
+-- an entry; the count is the stored number, which is the number of elements but for a Null
+pub record Item : Type 0 where
+  pub tag : ℕ
+  pub form : Form
+  pub count : ℕ
+  pub values : Values
+
+-- its elements, where they are of that class
+abbrev pub numbers_of : Values → List ℕ
+numbers_of (Numbers ns) = ns
+numbers_of _ = []
+
+abbrev pub texts_of : Values → List (List ℕ)
+texts_of (Texts ts) = ts
+texts_of _ = []
+
+abbrev pub bytes_of : Values → List ℕ
+bytes_of (Bytes bs) = bs
+bytes_of _ = []
+
+-- a header's own bytes, without what follows them, and its entries
+pub record Header : Type 0 where
+  pub blob : List ℕ
+  pub entries : List Item
+
+-- ---- the index
+
+-- an entry of the index is four numbers of four bytes
+abbrev pub index_entry_at : List ℕ → ℕ → IndexEntry
+index_entry_at bytes at = record {
+  tag = number_at w32 bytes at;
+  kind = number_at w32 bytes (at + 4);
+  offset = number_at w32 bytes (at + 8);
+  count = number_at w32 bytes (at + 12);
+}
+
+-- the types 0 to 9
+abbrev pub forms : List Form
+forms = form.Null ∷ form.Char ∷ form.Int8 ∷ form.Int16 ∷ form.Int32 ∷ form.Int64 ∷ form.Text ∷ form.Bin ∷ form.Texts ∷ form.I18n ∷ []
+
+abbrev pub form_of : ℕ → Option Form
+form_of kind = slice_get forms kind
+
+-- the width of a number, or of a byte
+abbrev pub width : Form → Width
+width form.Int16 = w16
+width form.Int32 = w32
+width form.Int64 = w64
+width _ = w8
+
+-- a multiple of this many bytes is where an entry's data may begin
+abbrev pub alignment : Form → ℕ
+alignment f = byte_len (width f)
+
+abbrev pub has_texts : Form → Bool
+has_texts form.Text = true
+has_texts form.Texts = true
+has_texts form.I18n = true
+has_texts _ = false
+
+abbrev pub has_numbers : Form → Bool
+has_numbers form.Char = true
+has_numbers form.Int8 = true
+has_numbers form.Int16 = true
+has_numbers form.Int32 = true
+has_numbers form.Int64 = true
+has_numbers _ = false
+
+-- ---- the elements
+
+-- the elements, in the data from the entry's offset on
+abbrev pub values : Form → ℕ → List ℕ → Values
+values form.Null count bytes = Nothing
+values form.Bin count bytes = Bytes (take count bytes)
+values form.Text count bytes = Texts (texts count bytes)
+values form.Texts count bytes = Texts (texts count bytes)
+values form.I18n count bytes = Texts (texts count bytes)
+values f count bytes = Numbers (numbers (width f) count bytes)
+
+-- there is an element, and all of them stand in the data from the entry's offset on
+abbrev pub HasRoom : Form → ℕ → List ℕ → Type 0
+HasRoom form.Null count bytes = Unit {0}
+HasRoom form.Text count bytes = (0 < count) × (are_ended count bytes ≡ true)
+HasRoom form.Texts count bytes = (0 < count) × (are_ended count bytes ≡ true)
+HasRoom form.I18n count bytes = (0 < count) × (are_ended count bytes ≡ true)
+HasRoom f count bytes = (0 < count) × (count * alignment f ≤ length bytes)
+
+abbrev pub AreNumbers : ℕ → Values → Type 0
+AreNumbers count (Numbers ns) = length ns ≡ count
+AreNumbers count _ = ⊥
+
+abbrev pub AreTexts : ℕ → Values → Type 0
+AreTexts count (Texts ts) = length ts ≡ count
+AreTexts count _ = ⊥
+
+abbrev pub AreBytes : ℕ → Values → Type 0
+AreBytes count (Bytes bs) = length bs ≡ count
+AreBytes count _ = ⊥
+
+-- and no more bytes are left there than a header has of data
+pub record IsInside (f : Form) (count : ℕ) (bytes : List ℕ) : Type 0 where
+  pub room : HasRoom f count bytes
+  pub few : length bytes ≤ 67108864
+
+-- the elements are of the form's class, the count is how many there are, and no text is longer than a header's data
+pub record IsWhole (e : Item) : Type 0 where
+  pub some : (e.form ≡ form.Null → ⊥) → 0 < e.count
+  pub nothing : e.form ≡ form.Null → e.values ≡ Nothing
+  pub numbers : has_numbers e.form ≡ true → AreNumbers e.count e.values
+  pub texts : has_texts e.form ≡ true → AreTexts e.count e.values
+  pub bytes : e.form ≡ form.Bin → AreBytes e.count e.values
+  pub short : All (λ text. length text ≤ 67108864) (texts_of e.values)
+
+-- ---- the faults of one entry, in the data from its offset on
+
+-- a text stands once; of numbers and bytes none passes the data's end
+abbrev pub is_bad_count : Form → ℕ → List ℕ → Bool
+is_bad_count form.Text count bytes = not (count == 1)
+is_bad_count form.Texts count bytes = count == 0
+is_bad_count form.I18n count bytes = count == 0
+is_bad_count f count bytes = count == 0 || nat_lt (length bytes) (count * alignment f)
+
+abbrev pub element_fault : Form → ℕ → ℕ → List ℕ → Option HeaderFault
+element_fault f i count bytes =
+    if is_bad_count f count bytes then Some (BadCount i)
+    else if has_texts f && not (are_ended count bytes) then Some (NoEnd i)
+    else None
+
+-- of a Null nothing but the type is looked at
+abbrev pub form_fault : Option Form → ℕ → IndexEntry → List ℕ → Option HeaderFault
+form_fault None i e section = Some (BadType i)
+form_fault (Some form.Null) i e section = None
+form_fault (Some f) i e section =
+    if nat_lt (length section) e.offset || not (e.offset % alignment f == 0) then Some (BadOffset i)
+    else element_fault f i e.count (drop e.offset section)
+
+-- ---- the region
+
+abbrev pub is_region_tag : ℕ → Bool
+is_region_tag tag = tag == 62 || tag == 63
+
+-- for some r from 1 to il the number is 2 ^ 32 - 16 × r, which is -16 × r where it is read as signed
+abbrev pub counts_back : ℕ → ℕ → Bool
+counts_back il n = list_any (λ r. n + 16 * r == 2 ^ 32) (range_with_len 1 il)
+
+-- a region is a Bin of 16 bytes, the trailer, whose third number counts the entries of the region
+abbrev pub region_fault : ℕ → IndexEntry → List ℕ → Option HeaderFault
+region_fault il e section =
+    if e.kind == 7 && e.count == 16 && counts_back il (number_at w32 section (e.offset + 8)) then None
+    else Some BadRegion
+
+-- ---- all of it
+
+-- a header of il entries, over its own bytes
+module _ (il : ℕ) (blob : List ℕ) where
+  abbrev pub index_entry : ℕ → IndexEntry
+  index_entry i = index_entry_at blob (8 + 16 * i)
+
+  abbrev pub section_of : List ℕ
+  section_of = drop (8 + 16 * il) blob
+
+  unfoldable pub entry_fault : ℕ → Option HeaderFault
+  entry_fault i = form_fault (form_of (index_entry i).kind) i (index_entry i) section_of
+
+  -- only entry 0 can be a region, and its other faults come first
+  unfoldable pub fault_at : ℕ → Option HeaderFault
+  fault_at i = option_or (entry_fault i) (if i == 0 && is_region_tag (index_entry i).tag then region_fault il (index_entry i) section_of else None)
+
+abbrev pub form_or_null : Option Form → Form
+form_or_null None = form.Null
+form_or_null (Some f) = f
+
+unfoldable pub entry_of : IndexEntry → List ℕ → Item
+entry_of e section = let f = form_or_null (form_of e.kind) in record { tag = e.tag; form = f; count = e.count; values = values f e.count (drop e.offset section) }
+
+unfoldable pub entries : ℕ → List ℕ → List Item
+entries il blob = each_below il (λ i. entry_of (index_entry il blob i) (section_of il blob))
+
+-- the first fault of a list
+abbrev pub first : {X : Type 0} → List (Option X) → Option X
+first [] = None
+first (None ∷ xs) = first xs
+first (Some x ∷ xs) = Some x
+
+abbrev pub unless : {X E : Type 0} → Option E → X → Result X E
+unless None x = Ok x
+unless (Some e) x = Err e
+
+-- the bytes of a header alone: the two lengths in front are in bounds and cut exactly these bytes
+pub record IsCut (il : ℕ) (blob : List ℕ) : Type 0 where
+  pub front : number_at w32 blob 0 ≡ il
+  pub whole : length blob ≡ 8 + 16 * il + number_at w32 blob 4
+  pub few : il ≤ 65535
+  pub small : number_at w32 blob 4 ≤ 67108864
+
+-- and no entry has a fault
+pub record IsSound (il : ℕ) (blob : List ℕ) : Type 0 where
+  pub cut : IsCut il blob
+  pub faultless : (k : ℕ) → k < il → fault_at il blob k ≡ None
+
+-- the last entry of a tag
+abbrev pub last_of : ℕ → List Item → Option Item
+last_of tag [] = None
+last_of tag (e ∷ es) = option_or (last_of tag es) (if e.tag == tag then Some e else None)
+
+unfoldable pub header_of : ℕ → List ℕ → Result Header HeaderFault
+header_of il blob = unless (first (each_below il (fault_at il blob))) (record { blob = blob; entries = entries il blob })
+
+-- the two lengths stand in front; what follows the header's own bytes says nothing
+unfoldable pub header : List ℕ → Result Header HeaderFault
+header bytes =
+    let il = number_at w32 bytes 0 in
+    let dl = number_at w32 bytes 4 in
+    if nat_lt (length bytes) 8 then Err Short
+    else if nat_lt 65535 il then Err TooManyEntries
+    else if nat_lt 67108864 dl then Err TooMuchData
+    else if nat_lt (length bytes) (8 + 16 * il + dl) then Err Short
+    else header_of il (take (8 + 16 * il + dl) bytes)

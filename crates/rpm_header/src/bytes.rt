@@ -1,0 +1,91 @@
+//! Numbers and texts as they stand in bytes.
+
+ghost use Rattle.std.specs.Prelude.{◌≡◌, ℕ, ◌+◌, ◌≤◌, ◌<◌, length, false, true, is_some, IfSome, MatchOption, slice_get, Some};
+ghost use Rattle.std.specs.List.{position};
+ghost use Rattle.std.specs.Int.{w16, w32, w64};
+ghost use Rattle.rpm_header.specs.Bytes.{number_at, is_zero, are_ended, texts, Splits};
+
+/// The number of two bytes from a place on, the highest first.
+#[tactic(auto, unfolding(crate::specs::Bytes::number_at))]
+pub fn u16_at(bytes: &[u8], at: usize) -> u16
+    requires { at + 2 ≤ length bytes.now }
+    ensures { result ≡ number_at w16 bytes.now at }
+{
+    u16::from_be_bytes([bytes[at], bytes[at + 1]])
+}
+
+/// The number of four bytes from a place on, the highest first.
+#[tactic(auto, unfolding(crate::specs::Bytes::number_at))]
+pub fn u32_at(bytes: &[u8], at: usize) -> u32
+    requires { at + 4 ≤ length bytes.now }
+    ensures { result ≡ number_at w32 bytes.now at }
+{
+    u32::from_be_bytes([bytes[at], bytes[at + 1], bytes[at + 2], bytes[at + 3]])
+}
+
+/// The number of eight bytes from a place on, the highest first.
+#[tactic(auto, unfolding(crate::specs::Bytes::number_at))]
+pub fn u64_at(bytes: &[u8], at: usize) -> u64
+    requires { at + 8 ≤ length bytes.now }
+    ensures { result ≡ number_at w64 bytes.now at }
+{
+    let bytes = &bytes[at..at + 8];
+    u64::from_be_bytes([
+        bytes[0], bytes[1], bytes[2], bytes[3], bytes[4], bytes[5], bytes[6], bytes[7],
+    ])
+}
+
+fn end_of(bytes: &[u8]) -> Option<usize>
+    ensures value { result ≡ position is_zero bytes.now }
+    ensures within { IfSome result (λ end. end < length bytes.now) }
+{
+    bytes.iter().position(|b| *b == 0)
+}
+
+/// The first text without its zero byte, and what stands behind that byte. None where there is no zero byte.
+fn split_text(bytes: &[u8]) -> Option<(&[u8], &[u8])>
+    ensures { MatchOption result (is_some (position is_zero bytes.now) ≡ false) (λ s. Splits bytes.now s.0.now s.1.now) }
+{
+    let end = end_of(bytes)?;
+    Some((&bytes[..end], &bytes[end + 1..]))
+}
+
+/// Whether each of so many texts has its zero byte. Reads the bytes of these texts once.
+pub fn are_ended(count: u32, bytes: &[u8]) -> bool
+    ensures { result ≡ are_ended count bytes.now }
+{
+    let mut rest = bytes;
+    for _ in 0..count {
+        match split_text(rest) {
+            None => return false,
+            Some((_, others)) => rest = others,
+        }
+    }
+    true
+}
+
+/// The first text and what stands behind its zero byte, where it has one.
+pub fn next_text(bytes: &[u8]) -> (&[u8], &[u8])
+    requires { is_some (position is_zero bytes.now) ≡ true }
+    ensures { Splits bytes.now result.0.now result.1.now }
+{
+    match split_text(bytes) {
+        None => unreachable!(),
+        Some(split) => split,
+    }
+}
+
+/// The text at place i of so many that have their zero bytes. Reads the bytes up to its end.
+pub fn text_of(count: u32, bytes: &[u8], i: u32) -> &[u8]
+    requires below { i < count }
+    requires ended { are_ended count bytes.now ≡ true }
+    ensures { slice_get (texts count bytes.now) i ≡ Some result.now }
+{
+    let mut rest = bytes;
+    for _ in 0..i {
+        let (_, others) = next_text(rest);
+        rest = others;
+    }
+    let (text, _) = next_text(rest);
+    text
+}

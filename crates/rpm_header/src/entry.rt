@@ -1,0 +1,171 @@
+//! One entry of a header, and its elements.
+
+ghost use Rattle.std.specs.Prelude.{◌≡◌, ℕ, ◌+◌, ◌*◌, ◌≤◌, ◌<◌, length, IsTrue, Some, slice_get, drop, None};
+ghost use Rattle.std.specs.Iterator.{YieldsFirstRef, item_count};
+ghost use Rattle.rpm_header.specs.Header.{has_numbers, has_texts, numbers_of, texts_of, bytes_of, IsWhole, form_fault, HasRoom, values, IsSound, entry_of, index_entry, section_of};
+
+use crate::bytes::{next_text, text_of, u16_at, u32_at, u64_at};
+use crate::form::Form;
+use crate::index::{IndexEntry, form_of, index_entry_at, section_of};
+use std::marker::Model;
+
+/// One entry of a header: a tag, and elements that borrow the header's bytes. Contracts see it as an `Item`. Its bytes were checked
+/// once, when the header was read, so each reader below is total where its `requires` holds, and checks nothing.
+#[derive(Drop)]
+pub struct Entry<'a> {
+    tag: u32,
+    form: Form,
+    count: u32,
+    // The data from the entry's offset on; of a `Null`, whose offset means nothing, all of the data.
+    bytes: &'a [u8],
+}
+
+impl<'a> Model for Entry<'a> {
+    ghost use Rattle.rpm_header.specs.Header.{Item, values, IsInside};
+
+    ghost Value = { Item };
+
+    ghost view = { λ s. record { tag = s.tag; form = s.form; count = s.count; values = values s.form s.count s.bytes.now } };
+
+    ghost invariant = { λ s. IsInside s.form s.count s.bytes.now };
+}
+
+impl<'a> Entry<'a> {
+    /// The tag, any number.
+    pub fn tag(&self) -> u32
+        ensures { result ≡ self.now.tag }
+    {
+        self.tag
+    }
+
+    /// The form, which says of which class the elements are: none, numbers, texts or bytes.
+    pub fn form(&self) -> Form
+        ensures value { result ≡ self.now.form }
+        ensures whole { IsWhole self.now }
+    {
+        self.form
+    }
+
+    /// The number of elements, at least 1: of numbers, of texts, or of the bytes of a `Bin`. Of a `Null`, which has no elements, it is the
+    /// number that the header stores, any number.
+    pub fn count(&self) -> u32
+        ensures value { result ≡ self.now.count }
+        ensures whole { IsWhole self.now }
+    {
+        self.count
+    }
+
+    /// The number at place i, unsigned whatever its form. Reads the bytes of this number alone.
+    pub fn number(&self, i: u32) -> u64
+        requires numbers { IsTrue (has_numbers self.now.form) }
+        requires below { i < self.now.count }
+        ensures { slice_get (numbers_of self.now.values) i ≡ Some result }
+    {
+        let at = i as usize;
+        match self.form {
+            Form::Int16 => u16_at(self.bytes, at * 2) as u64,
+            Form::Int32 => u32_at(self.bytes, at * 4) as u64,
+            Form::Int64 => u64_at(self.bytes, at * 8),
+            _ => self.bytes[at] as u64,
+        }
+    }
+
+    /// The text at place i, without its zero byte, borrowed from the header. Reads the bytes of all texts up to its end, so that a loop over
+    /// places reads the first texts again and again: go over `texts` there.
+    pub fn text(&self, i: u32) -> &'a [u8]
+        requires texts { IsTrue (has_texts self.now.form) }
+        requires below { i < self.now.count }
+        ensures { slice_get (texts_of self.now.values) i ≡ Some result.now }
+    {
+        text_of(self.count, self.bytes, i)
+    }
+
+    /// All texts in order, each as `text` gives it. Going through them reads each byte once.
+    pub fn texts(&self) -> EntryTexts<'a>
+        requires { IsTrue (has_texts self.now.form) }
+        ensures { result ≡ texts_of self.now.values }
+    {
+        EntryTexts {
+            left: self.count,
+            bytes: self.bytes,
+        }
+    }
+
+    /// The bytes of a `Bin`, borrowed from the header. Reads none of them.
+    pub fn bytes(&self) -> &'a [u8]
+        requires { self.now.form ≡ Form.Bin }
+        ensures { result.now ≡ bytes_of self.now.values }
+    {
+        &self.bytes[..self.count as usize]
+    }
+}
+
+/// The texts of an entry that are left, without their zero bytes and borrowed from the header. Contracts see it as the list of these
+/// texts. A step reads the bytes of its text once.
+#[derive(Drop)]
+pub struct EntryTexts<'a> {
+    left: u32,
+    bytes: &'a [u8],
+}
+
+impl<'a> Model for EntryTexts<'a> {
+    ghost use Rattle.std.specs.Prelude.{◌≡◌, List, ℕ, true};
+    ghost use Rattle.rpm_header.specs.Bytes.{texts, are_ended};
+
+    ghost Value = { List (List ℕ) };
+
+    ghost view = { λ s. texts s.left s.bytes.now };
+
+    ghost invariant = { λ s. are_ended s.left s.bytes.now ≡ true };
+}
+
+impl<'a> Iterator for EntryTexts<'a> {
+    type Item = &'a [u8];
+
+    ghost next_gives = { YieldsFirstRef (λ s. s) };
+
+    ghost remaining = { item_count (λ s. s) };
+
+    fn next(&mut self) -> Option<&'a [u8]> {
+        if self.left == 0 {
+            return None;
+        }
+        let (text, others) = next_text(self.bytes);
+        self.left -= 1;
+        self.bytes = others;
+        Some(text)
+    }
+}
+
+/// The data from the offset of an entry without a fault on; of a `Null`, whose offset means nothing, all of the data.
+fn elements_of<'a>(form: Form, i: u32, entry: IndexEntry, section: &'a [u8]) -> &'a [u8]
+    requires { form_fault (Some form) i entry section.now ≡ None }
+    ensures room { HasRoom form entry.count result.now }
+    ensures few { length result.now ≤ length section.now }
+    ensures elements { values form entry.count result.now ≡ values form entry.count (drop entry.offset section.now) }
+{
+    if form == Form::Null {
+        section
+    } else {
+        &section[entry.offset as usize..]
+    }
+}
+
+/// Entry i of a header in which none has a fault. Reads the 16 bytes of its index entry, and none of its data.
+pub fn entry_at<'a>(il: u32, blob: &'a [u8], i: u32) -> Entry<'a>
+    requires below { i < il }
+    requires sound { IsSound il blob.now }
+    ensures { result ≡ entry_of (index_entry il blob.now i) (section_of il blob.now) }
+{
+    let entry = index_entry_at(blob, 8 + 16 * i as usize);
+    let section = section_of(il, blob);
+    match form_of(entry.kind) {
+        None => unreachable!(),
+        Some(form) => Entry {
+            tag: entry.tag,
+            form,
+            count: entry.count,
+            bytes: elements_of(form, i, entry, section),
+        },
+    }
+}

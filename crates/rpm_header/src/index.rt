@@ -1,0 +1,166 @@
+//! The index of a header, its limits, and the faults of its entries.
+
+ghost use Rattle.std.specs.Prelude.{◌≡◌, ℕ, ◌+◌, ◌*◌, ◌≤◌, ◌<◌, length};
+ghost use Rattle.rpm_header.specs.Header.{index_entry_at, form_of, alignment, has_texts, is_region_tag, is_bad_count, element_fault, form_fault, counts_back, region_fault, fault_at, section_of};
+
+use crate::bytes::{are_ended, u32_at};
+use crate::form::{Form, HeaderFault};
+
+/// The most entries that a header has.
+pub const MAX_ENTRIES: u32 = 65_535;
+
+/// The most bytes of data that a header has.
+pub const MAX_DATA: u32 = 67_108_864;
+
+/// One entry of the index: four numbers of four bytes.
+#[derive(Clone, Copy)]
+pub struct IndexEntry {
+    pub tag: u32,
+    pub kind: u32,
+    pub offset: u32,
+    pub count: u32,
+}
+
+/// The form of a type, and None above 9.
+pub fn form_of(kind: u32) -> Option<Form>
+    ensures { result ≡ form_of kind }
+{
+    match kind {
+        0 => Some(Form::Null),
+        1 => Some(Form::Char),
+        2 => Some(Form::Int8),
+        3 => Some(Form::Int16),
+        4 => Some(Form::Int32),
+        5 => Some(Form::Int64),
+        6 => Some(Form::Text),
+        7 => Some(Form::Bin),
+        8 => Some(Form::Texts),
+        9 => Some(Form::I18n),
+        _ => None,
+    }
+}
+
+/// The width of a number of this form, of which its offset is a multiple. Of any other form it is 1.
+fn alignment(form: Form) -> u32
+    ensures value { result ≡ alignment form }
+    ensures small { result ≤ 8 }
+    ensures positive { 0 < result }
+{
+    match form {
+        Form::Int16 => 2,
+        Form::Int32 => 4,
+        Form::Int64 => 8,
+        _ => 1,
+    }
+}
+
+fn has_texts(form: Form) -> bool
+    ensures { result ≡ has_texts form }
+{
+    matches!(form, Form::Text | Form::Texts | Form::I18n)
+}
+
+fn is_region_tag(tag: u32) -> bool
+    ensures { result ≡ is_region_tag tag }
+{
+    tag == 62 || tag == 63
+}
+
+/// The four numbers from a place of the blob on.
+pub fn index_entry_at(blob: &[u8], at: usize) -> IndexEntry
+    requires { at + 16 ≤ length blob.now }
+    ensures { result ≡ index_entry_at blob.now at }
+{
+    IndexEntry {
+        tag: u32_at(blob, at),
+        kind: u32_at(blob, at + 4),
+        offset: u32_at(blob, at + 8),
+        count: u32_at(blob, at + 12),
+    }
+}
+
+/// Whether so many elements can't stand in these bytes, the data from the entry's offset on. A text's bytes aren't looked at.
+fn is_bad_count(form: Form, count: u32, bytes: &[u8]) -> bool
+    ensures { result ≡ is_bad_count form count bytes.now }
+{
+    match form {
+        Form::Text => count != 1,
+        Form::Texts | Form::I18n => count == 0,
+        _ => count == 0 || (bytes.len() as u64) < count as u64 * alignment(form) as u64,
+    }
+}
+
+fn element_fault(form: Form, i: u32, count: u32, bytes: &[u8]) -> Option<HeaderFault>
+    ensures { result ≡ element_fault form i count bytes.now }
+{
+    if is_bad_count(form, count, bytes) {
+        Some(HeaderFault::BadCount(i))
+    } else if has_texts(form) && !are_ended(count, bytes) {
+        Some(HeaderFault::NoEnd(i))
+    } else {
+        None
+    }
+}
+
+/// The fault of entry i as any entry may have it, over the whole data.
+fn form_fault(form: Option<Form>, i: u32, entry: IndexEntry, section: &[u8]) -> Option<HeaderFault>
+    ensures { result ≡ form_fault form i entry section.now }
+{
+    let Some(form) = form else {
+        return Some(HeaderFault::BadType(i));
+    };
+    if form == Form::Null {
+        return None;
+    }
+    let offset = entry.offset as usize;
+    if offset > section.len() || entry.offset % alignment(form) != 0 {
+        return Some(HeaderFault::BadOffset(i));
+    }
+    element_fault(form, i, entry.count, &section[offset..])
+}
+
+/// Whether a number, read as signed, is `-16 * r` for some r from 1 to il.
+fn counts_back(il: u32, n: u32) -> bool
+    ensures { result ≡ counts_back il n }
+{
+    let below = (1u64 << 32) - n as u64;
+    below % 16 == 0 && below / 16 <= il as u64
+}
+
+fn region_fault(il: u32, entry: IndexEntry, section: &[u8]) -> Option<HeaderFault>
+    requires { entry.kind ≡ 7 → entry.count ≡ 16 → entry.offset + 16 ≤ length section.now }
+    ensures { result ≡ region_fault il entry section.now }
+{
+    // A Bin of 16 bytes lies within the data: its count was checked before.
+    let is_trailer = entry.kind == 7 && entry.count == 16;
+    if is_trailer && counts_back(il, u32_at(section, entry.offset as usize + 8)) {
+        None
+    } else {
+        Some(HeaderFault::BadRegion)
+    }
+}
+
+/// The data of a header of il entries, whose own bytes are the blob.
+pub fn section_of(il: u32, blob: &[u8]) -> &[u8]
+    requires { 8 + 16 * il ≤ length blob.now }
+    ensures { result.now ≡ section_of il blob.now }
+{
+    &blob[8 + 16 * il as usize..]
+}
+
+/// The first fault of entry i of a header of il entries, whose own bytes are the blob. Reads the entry once and each byte of its texts once.
+#[tactic(auto, unfolding(crate::specs::Header::fault_at, crate::specs::Header::entry_fault))]
+pub fn fault_at(il: u32, blob: &[u8], i: u32) -> Option<HeaderFault>
+    requires below { i < il }
+    requires index { 8 + 16 * il ≤ length blob.now }
+    ensures { result ≡ fault_at il blob.now i }
+{
+    let entry = index_entry_at(blob, 8 + 16 * i as usize);
+    let section = section_of(il, blob);
+    let fault = form_fault(form_of(entry.kind), i, entry, section);
+    if fault.is_none() && i == 0 && is_region_tag(entry.tag) {
+        region_fault(il, entry, section)
+    } else {
+        fault
+    }
+}

@@ -1,0 +1,116 @@
+//! A header that was checked, over its own bytes.
+
+ghost use Rattle.std.specs.Prelude.{◌≡◌, ℕ, ◌+◌, ◌*◌, ◌≤◌, ◌<◌, length, map, Some, Ok, slice_get};
+ghost use Rattle.rpm_header.specs.Header.{header, header_of, last_of, IsCut};
+
+use crate::bytes::u32_at;
+use crate::entry::{Entry, entry_at};
+use crate::form::HeaderFault;
+use crate::index::{MAX_DATA, MAX_ENTRIES, fault_at};
+use std::marker::Model;
+
+/// A header in which no entry has a fault. It borrows the header's bytes. Contracts see it as a `Header`: its own bytes and its entries.
+#[derive(Drop)]
+pub struct View<'a> {
+    blob: &'a [u8],
+    count: u32,
+}
+
+impl<'a> Model for View<'a> {
+    ghost use Rattle.rpm_header.specs.Header.{Header, entries, IsSound};
+
+    ghost Value = { Header };
+
+    ghost view = { λ s. record { blob = s.blob.now; entries = entries s.count s.blob.now } };
+
+    ghost invariant = { λ s. IsSound s.count s.blob.now };
+}
+
+impl<'a> View<'a> {
+    /// Reads the header with which these bytes begin. Bytes behind it are let pass. Takes no memory. Reads each entry of the index once and,
+    /// for each entry that has texts, each byte of these texts once. As entries may share their data, a hostile header of 65,535 entries
+    /// over 64 MiB of text costs that product.
+    ///
+    /// # Errors
+    ///
+    /// The first fault, in the order that `HeaderFault` gives.
+    #[tactic(auto, unfolding(crate::specs::Header::header))]
+    pub fn parse(blob: &'a [u8]) -> Result<View<'a>, HeaderFault>
+        ensures { result ≡ header blob.now }
+    {
+        if blob.len() < 8 {
+            return Err(HeaderFault::Short);
+        }
+        let il = u32_at(blob, 0);
+        if il > MAX_ENTRIES {
+            return Err(HeaderFault::TooManyEntries);
+        }
+        let dl = u32_at(blob, 4);
+        if dl > MAX_DATA {
+            return Err(HeaderFault::TooMuchData);
+        }
+        let whole = 8 + 16 * il as usize + dl as usize;
+        if blob.len() < whole {
+            return Err(HeaderFault::Short);
+        }
+        View::checked(il, &blob[..whole])
+    }
+
+    fn checked(il: u32, blob: &'a [u8]) -> Result<View<'a>, HeaderFault>
+        requires { IsCut il blob.now }
+        ensures { result ≡ header_of il blob.now }
+    {
+        for i in 0..il {
+            if let Some(fault) = fault_at(il, blob, i) {
+                return Err(fault);
+            }
+        }
+        Ok(View { blob, count: il })
+    }
+
+    /// The header's own bytes, from its two lengths to the end of its data, without what followed them: at most 68,157,432. Read again, they
+    /// give this header again.
+    pub fn blob(&self) -> &'a [u8]
+        ensures value { result.now ≡ self.now.blob }
+        ensures small { length result.now ≤ 68157432 }
+        ensures again { header result.now ≡ Ok self.now }
+    {
+        self.blob
+    }
+
+    /// The number of entries, at most 65,535. A region's entry counts as any other.
+    pub fn entries(&self) -> u32
+        ensures value { result ≡ length self.now.entries }
+        ensures few { result ≤ 65535 }
+    {
+        self.count
+    }
+
+    /// The entry at place i of the index, from 0. Reads the 16 bytes of the index entry.
+    pub fn entry(&self, i: u32) -> Entry<'a>
+        requires { i < length self.now.entries }
+        ensures { slice_get self.now.entries i ≡ Some result }
+    {
+        entry_at(self.count, self.blob, i)
+    }
+
+    fn tag_at(&self, i: u32) -> u32
+        requires { i < length self.now.entries }
+        ensures { slice_get (map (λ e. e.tag) self.now.entries) i ≡ Some result }
+    {
+        u32_at(self.blob, 8 + 16 * i as usize)
+    }
+
+    /// The last entry of a tag, which counts where several have it; None exactly where no entry has it. Goes over the index from the back and
+    /// reads the 4 bytes of each tag, then the 16 bytes of the entry that it finds.
+    pub fn find(&self, tag: u32) -> Option<Entry<'a>>
+        ensures { result ≡ last_of tag self.now.entries }
+    {
+        for i in (0..self.entries()).rev() {
+            if self.tag_at(i) == tag {
+                return Some(self.entry(i));
+            }
+        }
+        None
+    }
+}
