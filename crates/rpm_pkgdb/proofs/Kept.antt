@@ -1,0 +1,133 @@
+-- The slot of a number, by a map to its place; and a lawful head.
+use Rattle.std.proofs.Common.{◌≡◌, ℕ, zero, suc, ◌+◌, ◌*◌, ◌^◌, ◌<◌, ◌≤◌, List, [], ◌∷◌, length, get_or, take, drop, Bool, true, false, Option, Some, None, IsSome, is_some, refl, sym, ap, ◌∙◌, arith, inl, inr, ◌⊎◌, max, if◌then◌else◌}
+use Rattle.std.specs.List.{list_any, find}
+use Rattle.std.proofs.lemmas.List.Folds.{list_any_at}
+use Rattle.std.proofs.lemmas.Bool.{cases_lt}
+use Rattle.std.proofs.lemmas.Bool.Decides.{nat_tests}
+use Rattle.rpm_outside.specs.Files.{Units, unit_at}
+use Rattle.rpm_pkgdb.specs.declared.slot.Slot.{Slot}
+use Rattle.rpm_pkgdb.specs.Words.{word}
+use Rattle.rpm_pkgdb.specs.Table.{is_used, has_number, slot_with, one_above, head_reason}
+use Rattle.rpm_pkgdb.specs.Pairs.{IsNext, IsGreatest}
+use Rattle.rpm_pkgdb.specs.Maps.{free, slot_at, HasPlaces}
+use Rattle.rpm_pkgdb.proofs.Known.{bool_cases, number_facts, place_known}
+
+pub find_none : {X : Type 0} (p : X → Bool) (xs : List X) → list_any p xs ≡ false → find p xs ≡ None
+find_none p [] none = refl
+find_none p (x ∷ xs) none = elim (bool_cases (p x)) [
+  | inl holds ↦ absurd (let any : list_any p (x ∷ xs) ≡ true = rw holds refl in cc)
+  | inr fails ↦ rw fails (find_none p xs (rw fails at none))
+]
+
+-- what is found, and where
+pub record Found {X : Type 0} (p : X → Bool) (xs : List X) (d : X) : Type 0 where
+  pub at : ℕ
+  pub below : at < length xs
+  pub holds : p (get_or xs at d) ≡ true
+  pub is : find p xs ≡ Some (get_or xs at d)
+
+pub find_some : {X : Type 0} (p : X → Bool) (xs : List X) (d : X) → list_any p xs ≡ true → Found p xs d
+find_some p [] d any = absurd (cc)
+find_some p (x ∷ xs) d any = elim (bool_cases (p x)) [
+  | inl holds ↦ record { at = 0; below = omega arith; holds = holds; is = rw holds refl }
+  | inr fails ↦
+      (let rest = find_some p xs d (rw fails at any) in
+      record { at = suc rest.at; below = omega (arith, rest.below); holds = rest.holds; is = rw fails rest.is })
+]
+
+some_same : {X : Type 0} (o : Option X) (x y : X) → o ≡ Some x → o ≡ Some y → x ≡ y
+some_same o x y e f = cc
+
+module _ (f : ℕ → Option ℕ) (slots : List Slot) (has : HasPlaces f slots) where
+  pub slot_missing : (n : ℕ) → f n ≡ None → slot_with n slots ≡ None
+  slot_missing n missing = find_none (has_number n) slots (sym (place_known f slots free has n) ∙ ap is_some missing)
+
+  pub slot_found : (n k : ℕ) → f n ≡ Some k → slot_with n slots ≡ Some (slot_at slots k)
+  slot_found n k found =
+      let o = has.only n k found in
+      let any : list_any (has_number n) slots ≡ true = list_any_at (has_number n) slots k free o.0 o.1 in
+      let it = find_some (has_number n) slots free any in
+      let facts = number_facts n (slot_at slots it.at) it.holds in
+      let also : f n ≡ Some it.at = ap f (sym facts.number) ∙ has.each it.at it.below facts.used in
+      let same : it.at ≡ k = some_same (f n) it.at k also found in
+      it.is ∙ ap (λ (j : ℕ). Some (slot_at slots j)) same
+
+  pub next_kept : (n : ℕ) (r : Option ℕ) → IsNext f n r → IsNext (λ m. slot_with m slots) n r
+  next_kept n None none = λ k above. slot_missing k (none k above)
+  next_kept n (Some m) (above, found, none) = (above, known (f m) refl found, λ k over under. slot_missing k (none k over under))
+    where
+      known : (o : Option ℕ) → f m ≡ o → IsSome o → IsSome (slot_with m slots)
+      known None e is = absurd (cc)
+      known (Some k) e is = rw (slot_found m k e) refl
+
+-- unit 0 has no fault
+pub record IsLawful (units pages : ℕ) : Type 0 where
+  pub some : 1 ≤ pages
+  pub inside : 256 * pages ≤ units
+  pub below : 256 * pages ≤ 2 ^ 28
+
+pub lawful : (units : ℕ) (head : List ℕ) → head_reason units head ≡ None → IsLawful units (word 3 head)
+unfolding head_reason
+lawful units head none = record { some = grind (arith, nat_tests); inside = grind (arith, nat_tests); below = grind (arith, nat_tests) }
+
+pub take_one : (us : Units) (k : ℕ) → k < length us → take 1 (drop k us) ≡ unit_at us k ∷ []
+take_one [] k below = absurd (omega arith)
+take_one (u ∷ us) zero below = refl
+take_one (u ∷ us) (suc k) below = take_one us k (omega arith)
+
+-- ---- the number after the greatest
+
+max_is : (a b c : ℕ) → a ≤ c → b ≤ c → (c ≤ a) ⊎ (c ≤ b) → max a b ≡ c
+max_is a b c le le' or = elim or [ inl l ↦ omega arith | inr l ↦ omega arith ]
+
+one_above_ge : (slots : List Slot) (k : ℕ) → k < length slots → is_used (slot_at slots k) ≡ true → (slot_at slots k).number + 1 ≤ one_above slots
+one_above_ge [] k below used = absurd (omega arith)
+one_above_ge (s ∷ ss) zero below used = let e : (if is_used s then s.number + 1 else 1) ≡ s.number + 1 = rw used refl in omega arith
+one_above_ge (s ∷ ss) (suc k) below used = let rest = one_above_ge ss k (omega arith) used in omega arith
+
+one_above_le : (slots : List Slot) (m : ℕ) → 1 ≤ m → ((k : ℕ) → k < length slots → is_used (slot_at slots k) ≡ true → (slot_at slots k).number + 1 ≤ m) → one_above slots ≤ m
+one_above_le [] m le each = le
+one_above_le (s ∷ ss) m le each =
+    let rest = one_above_le ss m le (λ k below used. each (suc k) (omega arith) used) in
+    elim (bool_cases (is_used s)) [
+      | inl used ↦ (let e : (if is_used s then s.number + 1 else 1) ≡ s.number + 1 = rw used refl in let here = each 0 (omega arith) used in omega arith)
+      | inr unused ↦ (let e : (if is_used s then s.number + 1 else 1) ≡ 1 = rw unused refl in omega arith)
+    ]
+
+one_above_least : (slots : List Slot) → 1 ≤ one_above slots
+one_above_least [] = omega arith
+one_above_least (s ∷ ss) = omega (arith, one_above_least ss)
+
+module _ (f : ℕ → Option ℕ) (slots : List Slot) (has : HasPlaces f slots) where
+  pub above_none : IsGreatest f None → one_above slots ≡ 1
+  above_none none =
+      let le = one_above_le slots 1 (omega arith) (λ k below used. absurd (let e = has.each k below used in let g = none (slot_at slots k).number in cc)) in
+      omega (arith, one_above_least slots)
+
+  pub above_some : (m : ℕ) → IsGreatest f (Some m) → one_above slots ≡ m + 1
+  above_some m (found, none) =
+      let le = one_above_le slots (m + 1) (omega arith) (λ k below used. elim (cases_lt m (slot_at slots k).number) [
+        | inl above ↦ absurd (let e = has.each k below used in let g = none (slot_at slots k).number above in cc)
+        | inr under ↦ omega arith
+      ]) in
+      let v = some_of (f m) found in
+      let o = has.only m v.0 v.1 in
+      let facts = number_facts m (slot_at slots v.0) o.1 in
+      let ge = one_above_ge slots v.0 o.0 facts.used in
+      omega (arith, facts.number)
+    where
+      some_of : (o : Option ℕ) → IsSome o → (x : ℕ) × (o ≡ Some x)
+      some_of (Some x) is = (x, refl)
+      some_of None is = absurd (cc)
+
+  pub greatest_below : (m limit : ℕ) → IsGreatest f (Some m) → ((k : ℕ) → k < length slots → is_used (slot_at slots k) ≡ true → (slot_at slots k).number < limit) → m < limit
+  greatest_below m limit (found, none) each =
+      let v = some_of (f m) found in
+      let o = has.only m v.0 v.1 in
+      let facts = number_facts m (slot_at slots v.0) o.1 in
+      let lt = each v.0 o.0 facts.used in
+      omega (arith, facts.number)
+    where
+      some_of : (o : Option ℕ) → IsSome o → (x : ℕ) × (o ≡ Some x)
+      some_of (Some x) is = (x, refl)
+      some_of None is = absurd (cc)

@@ -1,0 +1,35 @@
+-- What a store is, by its unit 0.
+use Rattle.std.proofs.Common.{◌≡◌, ℕ, List, [], ◌∷◌, length, true, false, not, Option, Some, None, Result, Ok, Err, IfOk, refl, sym, ap, ◌∙◌, arith}
+use Rattle.std.specs.List.{list_any}
+use Rattle.rpm_outside.specs.Files.{Units, unit_at, blank}
+use Rattle.rpm_pkgdb.specs.declared.slot.Reason.{Reason}
+use Rattle.rpm_pkgdb.specs.declared.slot.Damage.{Damage}
+use Rattle.rpm_pkgdb.specs.declared.slot.OpenFault.{OpenFault}
+use Rattle.rpm_pkgdb.specs.Words.{word, is_nonzero}
+use Rattle.rpm_pkgdb.specs.Table.{Store, store, store_of, blank_store, made_or_damaged, head_reason, damage_at, OpenIs}
+
+pub store_empty : (file : Units) → length file ≡ 0 → store file ≡ Ok blank_store
+unfolding store blank
+store_empty [] e = refl
+store_empty (u ∷ us) e = absurd (omega arith)
+
+module _ (file : Units) (units : ℕ) (head : List ℕ) (long : units ≡ length file) (is : head ≡ unit_at file 0) where
+  pub store_blank : not (list_any is_nonzero head) ≡ true → store file ≡ Ok blank_store
+  unfolding store
+  store_blank zeros = let e : not (list_any is_nonzero (unit_at file 0)) ≡ true = ap (λ (u : List ℕ). not (list_any is_nonzero u)) (sym is) ∙ zeros in rw e refl
+
+  other : not (list_any is_nonzero head) ≡ false → store file ≡ made_or_damaged (head_reason units head) file
+  unfolding store
+  other some =
+      let e : not (list_any is_nonzero (unit_at file 0)) ≡ false = ap (λ (u : List ℕ). not (list_any is_nonzero u)) (sym is) ∙ some in
+      rw e (ap (λ (u : List ℕ). made_or_damaged (head_reason (length file) u) file) (sym is) ∙ ap (λ (n : ℕ). made_or_damaged (head_reason n head) file) (sym long))
+
+  pub store_damaged : not (list_any is_nonzero head) ≡ false → (r : Reason) → head_reason units head ≡ Some r → store file ≡ Err (damage_at 0 r)
+  store_damaged some r fault = other some ∙ ap (λ (o : Option Reason). made_or_damaged o file) fault
+
+  pub store_made : not (list_any is_nonzero head) ≡ false → head_reason units head ≡ None → store file ≡ store_of (word 3 head) file
+  store_made some none = other some ∙ ap (λ (o : Option Reason). made_or_damaged o file) none ∙ ap (λ (u : List ℕ). store_of (word 3 u) file) (sym is)
+
+pub ok_keeps : (T : Type 0) (said : Result Store Damage) (r : Result Store OpenFault) → (T → OpenIs said r) → IfOk r (λ db. T → said ≡ Ok db)
+ok_keeps T said (Ok db) is = is
+ok_keeps T said (Err e) is = tt

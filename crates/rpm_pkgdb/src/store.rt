@@ -1,0 +1,244 @@
+//! The store in Packages.db.
+
+ghost use Rattle.std.specs.Prelude.{◌≡◌, ℕ, ◌+◌, ◌-◌, ◌*◌, ◌/◌, ◌^◌, ◌≤◌, ◌<◌, ◌==◌, [], IsTrue, length, max, not, None, Some, Ok, Err, ◌↔◌, OnOk, IfOk, IfErr, is_some};
+ghost use Rattle.std.specs.List.{list_any};
+ghost use Rattle.rpm_outside.specs.Files.{Files, Units, unit_at};
+ghost use Rattle.rpm_outside.specs.Causes.{HasCauseAt};
+ghost use Rattle.rpm_outside.specs.Looks.{Looks};
+ghost use Rattle.rpm_pkgdb.specs.Words.{word};
+ghost use Rattle.rpm_pkgdb.specs.Table.{store, store_of, head_reason, OpenIs, blank_store, has_number, next_number, slot_with};
+ghost use Rattle.rpm_pkgdb.specs.Pairs.{IsNext};
+ghost use Rattle.rpm_pkgdb.specs.Blobs.{AnswerIs, frames, frame_in, blobs, given, sums_hold, cost};
+
+use crate::blob::{Blocks, GetFault, blob_in, read_blocks, sum_holds};
+use crate::numbers::Numbers;
+use crate::reading::{read_table, read_unit};
+use crate::slot::{BLOCKS, OpenFault, Reason, Slot, damage_at};
+use crate::words::{is_zeros, word};
+use rpm_outside::{Disk, File};
+use std::alloc::Global;
+use std::marker::Model;
+
+#[derive(Drop)]
+pub struct PkgDb {
+    generation: u32,
+    pages: u32,
+    field: u32,
+    slots: Vec<Slot>,
+    numbers: Numbers,
+}
+
+impl Model for PkgDb {
+    ghost use Rattle.rpm_pkgdb.specs.Table.{Store};
+    ghost use Rattle.rpm_pkgdb.specs.Maps.{IsKept};
+
+    ghost Value = { Store };
+
+    ghost view = { λ s. record { generation = s.generation; pages = s.pages; field = s.field; slots = s.slots.items } };
+
+    ghost invariant = { λ s. IsKept s.numbers s.slots.items };
+}
+
+const MAGIC: u32 = 0x506d_7052;
+
+/// What is wrong with unit 0.
+#[tactic(auto, unfolding(crate::specs::Table::head_reason))]
+fn head_reason(units: u64, head: &[u8]) -> Option<Reason>
+    requires { length head.now ≡ 16 }
+    ensures { result ≡ head_reason units head.now }
+{
+    if word(head, 0) != MAGIC {
+        return Some(Reason::BadMagic);
+    }
+    if word(head, 1) != 0 {
+        return Some(Reason::BadVersion);
+    }
+    let pages = word(head, 3);
+    let end = 256 * pages as u64;
+    if pages == 0 || end > units || end > BLOCKS {
+        return Some(Reason::BadPages);
+    }
+    None
+}
+
+impl PkgDb {
+    fn blank(alloc: Global) -> PkgDb
+        ensures { result ≡ blank_store }
+    {
+        PkgDb {
+            generation: 0,
+            pages: 0,
+            field: 1,
+            slots: Vec::new(alloc),
+            numbers: Numbers::new(alloc),
+        }
+    }
+
+    /// Reads the header and the slots, each byte once.
+    pub fn open<D: Disk>(alloc: Global, disk: &mut D) -> Result<PkgDb, OpenFault>
+        ensures store { IsTrue D.tells → OpenIs (store (D.files disk.old).pkg) result }
+        ensures kept { IfOk result (λ db. IsTrue D.tells → store (D.files disk.new).pkg ≡ Ok db) }
+        ensures reads { IsTrue D.tells → D.bytes_read disk.new File.Pkg ≤ D.bytes_read disk.old File.Pkg + 4096 * max 1 (word 3 (unit_at (D.files disk.old).pkg 0)) }
+        ensures looks { Looks D.tells D.files D.left_since D.moment D.bytes_read D.follows (2 ^ 32) disk.old disk.new }
+        ensures cause { HasCauseAt (result ≡ Err OpenFault.DiskFault) (D.faults disk.old) (D.faults disk.new) }
+    {
+        let Ok(units) = disk.len(File::Pkg) else {
+            return Err(OpenFault::DiskFault);
+        };
+        if units == 0 {
+            return Ok(PkgDb::blank(alloc));
+        }
+        let Ok(head) = read_unit(disk, 0) else {
+            return Err(OpenFault::DiskFault);
+        };
+        if is_zeros(&head) {
+            return Ok(PkgDb::blank(alloc));
+        }
+        if let Some(reason) = head_reason(units, &head) {
+            return Err(OpenFault::Damaged(damage_at(0, reason)));
+        }
+        PkgDb::read_made(alloc, disk, units, &head)
+    }
+
+    /// Reads what follows unit 0.
+    fn read_made<D: Disk>(
+        alloc: Global,
+        disk: &mut D,
+        units: u64,
+        head: &[u8],
+    ) -> Result<PkgDb, OpenFault>
+        requires whole { length head.now ≡ 16 }
+        requires lawful { head_reason units head.now ≡ None }
+        requires units { IsTrue D.tells → units ≡ length (D.files disk.old).pkg }
+        requires head { IsTrue D.tells → head.now ≡ unit_at (D.files disk.old).pkg 0 }
+        ensures store { IsTrue D.tells → OpenIs (store_of (word 3 head.now) (D.files disk.old).pkg) result }
+        ensures looks { Looks D.tells D.files D.left_since D.moment D.bytes_read D.follows (4096 * word 3 head.now - 16) disk.old disk.new }
+        ensures cause { HasCauseAt (result ≡ Err OpenFault.DiskFault) (D.faults disk.old) (D.faults disk.new) }
+    {
+        let pages = word(head, 3);
+        let Ok(next) = read_unit(disk, 1) else {
+            return Err(OpenFault::DiskFault);
+        };
+        let opening = match read_table(alloc, disk, pages, units) {
+            Ok(opening) => opening,
+            Err(fault) => return Err(fault),
+        };
+        let Ok(numbers) = Numbers::of(alloc, opening.numbers) else {
+            return Err(OpenFault::NoMemory);
+        };
+        Ok(PkgDb {
+            generation: word(head, 2),
+            pages,
+            field: word(&next, 0),
+            slots: opening.slots,
+            numbers,
+        })
+    }
+
+    /// Whether no database was made yet.
+    pub fn is_blank(&self) -> bool
+        ensures { result ≡ (self.now.pages == 0) }
+    {
+        self.pages == 0
+    }
+
+    pub fn generation(&self) -> u32
+        ensures { result ≡ self.now.generation }
+    {
+        self.generation
+    }
+
+    pub fn pages(&self) -> u32
+        ensures { result ≡ self.now.pages }
+    {
+        self.pages
+    }
+
+    /// Whether a slot has the number.
+    pub fn holds(&self, n: u32) -> bool
+        ensures { result ≡ is_some (slot_with n self.now.slots) }
+    {
+        self.slot_of(n).is_some()
+    }
+
+    /// The slot of a number.
+    fn slot_of(&self, n: u32) -> Option<Slot>
+        ensures { result ≡ slot_with n self.now.slots }
+    {
+        match self.numbers.place_of(n) {
+            None => None,
+            Some(place) => Some(self.slots[place as usize]),
+        }
+    }
+
+    /// The number of the next package.
+    pub fn next_number(&self) -> u32
+        ensures { result ≡ next_number self.now }
+    {
+        let _ = &self.slots;
+        match self.numbers.greatest() {
+            None => self.field.max(1),
+            Some(n) => self.field.max(n + 1),
+        }
+    }
+
+    /// The least number above that a slot has.
+    pub fn next_above(&self, n: u32) -> Option<u32>
+        ensures { IsNext (λ m. slot_with m self.now.slots) n result }
+    {
+        self.numbers.above(n)
+    }
+}
+
+impl PkgDb {
+    /// Reads the blocks of a number.
+    fn blocks<D: Disk>(&self, alloc: Global, disk: &mut D, n: u32) -> Result<Blocks, GetFault>
+        requires keeps { IsTrue D.tells → store (D.files disk.old).pkg ≡ Ok self.now }
+        ensures long { IfOk result (λ b. 12 ≤ length b.rest.items) }
+        ensures kept { IsTrue D.tells → store (D.files disk.new).pkg ≡ Ok self.now }
+        ensures told { IsTrue D.tells → AnswerIs frame_in (frames (D.files disk.old).pkg self.now n) result }
+        ensures absent { (result ≡ Err GetFault.NoSuch) ↔ (slot_with n self.now.slots ≡ None) }
+        ensures looks { Looks D.tells D.files D.left_since D.moment D.bytes_read D.follows (cost n self.now) disk.old disk.new }
+        ensures cause { HasCauseAt (result ≡ Err GetFault.DiskFault) (D.faults disk.old) (D.faults disk.new) }
+    {
+        match self.slot_of(n) {
+            None => Err(GetFault::NoSuch),
+            Some(slot) => read_blocks(alloc, disk, n, slot),
+        }
+    }
+
+    /// The blob of a number.
+    pub fn get<D: Disk>(&self, alloc: Global, disk: &mut D, n: u32) -> Result<Vec<u8>, GetFault>
+        requires keeps { IsTrue D.tells → store (D.files disk.old).pkg ≡ Ok self.now }
+        ensures kept { IsTrue D.tells → store (D.files disk.new).pkg ≡ Ok self.now }
+        ensures told { IsTrue D.tells → AnswerIs given (blobs (D.files disk.old).pkg self.now n) result }
+        ensures absent { (result ≡ Err GetFault.NoSuch) ↔ (slot_with n self.now.slots ≡ None) }
+        ensures looks { Looks D.tells D.files D.left_since D.moment D.bytes_read D.follows (cost n self.now) disk.old disk.new }
+        ensures cause { HasCauseAt (result ≡ Err GetFault.DiskFault) (D.faults disk.old) (D.faults disk.new) }
+    {
+        match self.blocks(alloc, disk, n) {
+            Err(fault) => Err(fault),
+            Ok(blocks) => Ok(blob_in(blocks)),
+        }
+    }
+
+    /// Whether the stored checksum is that of the number's blocks.
+    pub fn checksum_holds<D: Disk>(
+        &self,
+        alloc: Global,
+        disk: &mut D,
+        n: u32,
+    ) -> Result<bool, GetFault>
+        requires keeps { IsTrue D.tells → store (D.files disk.old).pkg ≡ Ok self.now }
+        ensures kept { IsTrue D.tells → store (D.files disk.new).pkg ≡ Ok self.now }
+        ensures told { IsTrue D.tells → AnswerIs (λ b. b) (sums_hold (D.files disk.old).pkg self.now n) result }
+        ensures absent { (result ≡ Err GetFault.NoSuch) ↔ (slot_with n self.now.slots ≡ None) }
+        ensures looks { Looks D.tells D.files D.left_since D.moment D.bytes_read D.follows (cost n self.now) disk.old disk.new }
+        ensures cause { HasCauseAt (result ≡ Err GetFault.DiskFault) (D.faults disk.old) (D.faults disk.new) }
+    {
+        match self.blocks(alloc, disk, n) {
+            Err(fault) => Err(fault),
+            Ok(blocks) => Ok(sum_holds(&blocks)),
+        }
+    }
+}
