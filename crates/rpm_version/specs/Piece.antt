@@ -1,5 +1,5 @@
 -- A segment as the code finds it in a borrowed text.
-use Rattle.std.specs.Prelude.{List, ℕ, [], ◌∷◌}
+use Rattle.std.specs.Prelude.{List, ℕ, []}
 use Rattle.std.specs.Str.Parse.{digits_value, AllDigits}
 use Rattle.rpm_version.specs.declared.segment.Piece.{Piece}
 use Rattle.rpm_version.specs.declared.segment.Piece.TheVariants as piece
@@ -12,10 +12,10 @@ segment_at piece.Caret = Caret
 segment_at (piece.Letters text) = Letters text.now
 segment_at (piece.Digits text) = Digits (digits_value 10 text.now)
 
--- the segments of a text that begins with a piece: behind the end there are none
-abbrev pub in_front : Piece → List ℕ → List Segment
-in_front piece.End behind = End ∷ []
-in_front first behind = segment_at first ∷ segments behind
+-- the segments that follow a piece: behind the end there are none
+abbrev pub segments_behind : Piece → List ℕ → List Segment
+segments_behind piece.End rest = []
+segments_behind first rest = segments rest
 
 -- digits are digits
 abbrev pub IsRun : Piece → Type 0

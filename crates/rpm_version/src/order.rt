@@ -47,6 +47,7 @@ fn rank_of(piece: Piece<'_>) -> u8
     }
 }
 
+#[tactic(auto, unfolding(crate::specs::Order::segment_order))]
 fn compare_pieces(a: Piece<'_>, b: Piece<'_>) -> Ordering
     requires a_run { IsRun a }
     requires b_run { IsRun b }
@@ -75,7 +76,7 @@ pub fn compare(a: &[u8], b: &[u8]) -> Ordering
         let (left, behind_left) = next_piece(a);
         let (right, behind_right) = next_piece(b);
         let order = compare_pieces(left, right);
-        if order.is_ne() || matches!(left, Piece::End) {
+        if order.is_ne() || left.is_end() {
             return order;
         }
         a = behind_left;

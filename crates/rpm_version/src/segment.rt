@@ -1,9 +1,9 @@
 //! The segments of a version, one at a time.
 
-ghost use Rattle.std.specs.Prelude.{◌≡◌, ◌≢◌, ◌+◌, ◌<◌, ◌≤◌, drop, length};
+ghost use Rattle.std.specs.Prelude.{◌≡◌, ◌≢◌, ◌+◌, ◌<◌, ◌≤◌, ◌∷◌, ◌↔◌, IsTrue, drop, length};
 ghost use Rattle.std.specs.Char.{is_ascii_digit, is_ascii_alphabetic};
 ghost use Rattle.std.specs.List.{prefix_len, take_while};
-ghost use Rattle.rpm_version.specs.Piece.{in_front, IsRun};
+ghost use Rattle.rpm_version.specs.Piece.{segment_at, segments_behind, IsRun};
 ghost use Rattle.rpm_version.specs.Segment.{segments};
 
 /// A segment as it stands in a borrowed text.
@@ -16,6 +16,14 @@ pub enum Piece<'a> {
     Letters(&'a [u8]),
     /// A longest run of ASCII digits.
     Digits(&'a [u8]),
+}
+
+impl Piece<'_> {
+    pub fn is_end(&self) -> bool
+        ensures { IsTrue result ↔ (self.now ≡ Piece.End) }
+    {
+        matches!(self, Piece::End)
+    }
 }
 
 fn digits_len(text: &[u8]) -> usize
@@ -52,7 +60,7 @@ pub fn leading_letters(text: &[u8]) -> (&[u8], &[u8])
 
 /// The first segment of a text, and what stands behind it.
 pub fn next_piece(text: &[u8]) -> (Piece<'_>, &[u8])
-    ensures first { segments text.now ≡ in_front result.0 result.1.now }
+    ensures first { segments text.now ≡ segment_at result.0 ∷ segments_behind result.0 result.1.now }
     ensures run { IsRun result.0 }
     ensures shorter { result.0 ≢ Piece.End → length result.1.now < length text.now }
 {
