@@ -1,0 +1,41 @@
+-- The capabilities that a command line names.
+use Rattle.std.specs.Prelude.{ℕ, List, [], ◌∷◌, Option, Some, None, Result, Ok, Err, Bool, not, ◌||◌, ◌==◌, if◌then◌else◌, length, filter, codes}
+use Rattle.std.specs.List.{slice_split}
+use Rattle.std.specs.Str.{bytes_eq}
+use Rattle.rpm_version.specs.declared.capability.BadCapability.{BadCapability}
+
+pub record CapabilityParts : Type 0 where
+  pub name : List ℕ
+  pub flags : ℕ
+  pub evr : List ℕ
+
+-- a space or a tab
+abbrev pub is_blank : ℕ → Bool
+is_blank b = (b == 32) || (b == 9)
+
+-- what stands between runs of blanks
+unfoldable pub words : List ℕ → List (List ℕ)
+words text = filter (λ word. not (length word == 0)) (slice_split is_blank text)
+
+-- the bits of a sign: less 2, greater 4, equal 8
+unfoldable pub sense : List ℕ → Option ℕ
+sense sign =
+    if bytes_eq sign (codes "<") then Some 2
+    else if bytes_eq sign (codes "<=") then Some 10
+    else if bytes_eq sign (codes "=") then Some 8
+    else if bytes_eq sign (codes ">=") then Some 12
+    else if bytes_eq sign (codes ">") then Some 4
+    else None
+
+abbrev pub with_sense : List ℕ → Option ℕ → List ℕ → Result CapabilityParts BadCapability
+with_sense name (Some flags) evr = Ok (record { name = name; flags = flags; evr = evr })
+with_sense name None evr = Err (record {})
+
+-- one word, or three of which the second is a sign
+abbrev pub capability_of : List (List ℕ) → Result CapabilityParts BadCapability
+capability_of (name ∷ []) = Ok (record { name = name; flags = 0; evr = [] })
+capability_of (name ∷ sign ∷ evr ∷ []) = with_sense name (sense sign) evr
+capability_of others = Err (record {})
+
+unfoldable pub capability : List ℕ → Result CapabilityParts BadCapability
+capability text = capability_of (words text)

@@ -1,0 +1,6 @@
+pub mod Capability
+pub mod Evr
+pub mod Order
+pub mod Piece
+pub mod Range
+pub mod Segment

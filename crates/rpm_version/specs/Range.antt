@@ -1,0 +1,33 @@
+-- Ranges of versions: the bits of a sense, and the version that they stand beside.
+use Rattle.std.specs.Prelude.{ℕ, List, [], ◌∷◌, Bool, true, false, not, ◌&&◌, ◌||◌, ◌==◌, if◌then◌else◌, bit_and, is_some, is_none, length}
+use Rattle.std.specs.declared.cmp.Ordering.{Ordering}
+use Rattle.std.specs.declared.cmp.Ordering.TheVariants.{Less, Equal, Greater}
+use Rattle.rpm_version.specs.Evr.{EvrParts, evr, evr_order}
+
+abbrev pub has_less : ℕ → Bool
+has_less flags = not (bit_and flags 2 == 0)
+
+abbrev pub has_greater : ℕ → Bool
+has_greater flags = not (bit_and flags 4 == 0)
+
+abbrev pub has_equal : ℕ → Bool
+has_equal flags = not (bit_and flags 8 == 0)
+
+-- a range that every version is in: no sense, or no version
+unfoldable pub is_open : ℕ → List ℕ → Bool
+is_open flags text =
+    not (has_less flags || has_greater flags || has_equal flags) || (length text == 0)
+
+-- the version of A against that of B: below, equal, or above
+unfoldable pub meets : Ordering → ℕ → EvrParts → ℕ → EvrParts → Bool
+meets Less fa a fb b = has_greater fa || has_less fb
+meets Greater fa a fb b = has_less fa || has_greater fb
+meets Equal fa a fb b =
+    (has_equal fa && has_equal fb) || (has_less fa && has_less fb) || (has_greater fa && has_greater fb)
+    || (is_some a.release && is_none b.release && has_equal fb)
+    || (is_none a.release && is_some b.release && has_equal fa)
+
+-- whether two ranges have a version in common
+unfoldable pub overlaps : ℕ → List ℕ → ℕ → List ℕ → Bool
+overlaps fa a fb b =
+    is_open fa a || is_open fb b || meets (evr_order (evr a) (evr b)) fa (evr a) fb (evr b)
