@@ -1,0 +1,100 @@
+-- How far a command went, and what it answers.
+use Rattle.std.specs.Prelude.{◌≡◌, ◌⊎◌, ℕ, ◌+◌, ◌*◌, ◌<◌, ◌≤◌, max, List, [], ◌∷◌, ◌++◌, Bool, true, false, Result, Ok, Err}
+use Rattle.std.specs.List.{flat_map}
+use Rattle.rpm_outside.specs.Causes.{Rose}
+use Rattle.rpm_outside.specs.Files.{Units, unit_at}
+use Rattle.rpm_outside.specs.Sinks.{Gained, GainedPart}
+use Rattle.rpm_pkgdb.specs.declared.slot.Damage.{Damage}
+use Rattle.rpm_pkgdb.specs.Words.{word}
+use Rattle.rpm_pkgdb.specs.Table.{Store, store}
+use Rattle.rpm_pkgdb.specs.Blobs.{cost_to, cost_all}
+use Rattle.rpm_tool.specs.declared.answer.Why.{Why}
+use Rattle.rpm_tool.specs.declared.answer.Why.TheVariants as why
+use Rattle.rpm_tool.specs.Closing.{closing}
+use Rattle.rpm_tool.specs.Installed.{installed}
+use Rattle.rpm_tool.specs.Steps.{Step, Course, out_bytes, err_bytes, is_out, number_of, cut, all_packages}
+
+-- what out and err took, and whether they tell it
+pub record Outputs : Type 0 where
+  pub out_tells : Bool
+  pub out : List ℕ
+  pub err_tells : Bool
+  pub err : List ℕ
+
+abbrev pub outputs : Bool → List ℕ → Bool → List ℕ → Outputs
+outputs out_tells out err_tells err = record { out_tells = out_tells; out = out; err_tells = err_tells; err = err }
+
+-- out and err gained exactly the bytes of these steps
+pub record Through (done : List Step) (old new : Outputs) : Type 0 where
+  pub out : Gained old.out_tells old.out new.out (flat_map out_bytes done)
+  pub err : Gained old.err_tells old.err new.err (flat_map err_bytes done)
+
+-- some of the steps were gone through
+abbrev pub ThroughSome : List Step → Outputs → Outputs → Type 0
+ThroughSome all old new = (done rest : List Step) × (all ≡ done ++ rest) × Through done old new
+
+-- some of the steps were gone through, and of the next one the first bytes; of packages behind that step's none was read
+pub record StoppedWithin (all : List Step) (to_out : Bool) (old new : Outputs) (reads_to : ℕ → Type 0) : Type 0 where
+  pub done : List Step
+  pub step : Step
+  pub rest : List Step
+  pub all_is : all ≡ done ++ step ∷ rest
+  pub sink : is_out step ≡ to_out
+  pub bytes : ℕ
+  pub through : Through (done ++ cut bytes step ∷ []) old new
+  pub reads : reads_to (number_of step)
+
+-- ---- the answers of a command that opens the database, before the closing line
+
+-- where the database is in order
+abbrev pub Went : Course → Why → Outputs → Outputs → (ℕ → Type 0) → Type 0
+Went course why.Done old new reads_to = Through course.steps old new × (course.failed ≡ 0)
+Went course (why.Failed n) old new reads_to = Through course.steps old new × (course.failed ≡ n) × (0 < n)
+Went course (why.NotBuilt what) old new reads_to = ⊥
+Went course (why.Damaged damage) old new reads_to = ⊥
+Went course why.DiskFault old new reads_to = ThroughSome course.steps old new
+Went course why.OutFault old new reads_to = StoppedWithin course.steps true old new reads_to
+Went course why.ErrFault old new reads_to = StoppedWithin course.steps false old new reads_to
+Went course why.NoMemory old new reads_to = ThroughSome course.steps old new
+
+-- where it is damaged
+abbrev pub Refused : Damage → Why → Type 0
+Refused damage (why.Damaged d) = d ≡ damage
+Refused damage why.DiskFault = Unit {0}
+Refused damage why.NoMemory = Unit {0}
+Refused damage _ = ⊥
+
+-- ---- the query of all packages
+
+-- the bytes of the slot pages
+abbrev pub pages_cost : Units → ℕ
+pages_cost file = 4096 * max 1 (word 3 (unit_at file 0))
+
+-- of these bytes of Packages.db no more were read than its pages and the blocks of the numbers up to n
+abbrev pub ReadsTo : Units → Store → ℕ → ℕ → ℕ → Type 0
+ReadsTo file s before now n = now ≤ before + pages_cost file + cost_to n s
+
+abbrev pub Queried : Units → Result Store Damage → Why → Outputs → Outputs → ℕ → ℕ → Type 0
+Queried file (Ok s) why old new before now = Went (all_packages (installed file s)) why old new (ReadsTo file s before now)
+Queried file (Err damage) why old new before now = Refused damage why × Through [] old new
+
+-- the bytes of the blocks of all packages
+abbrev pub blocks_cost : Result Store Damage → ℕ
+blocks_cost (Ok s) = cost_all s
+blocks_cost (Err damage) = 0
+
+-- the most that a query of all packages reads
+abbrev pub query_cost : Units → ℕ
+query_cost file = pages_cost file + blocks_cost (store file)
+
+-- ---- the closing line
+
+-- a line to err that went through, or of which err took the first bytes and failed
+abbrev pub Closes : List ℕ → Outputs → Outputs → ℕ → ℕ → Type 0
+Closes line old new before now = (new.out ≡ old.out) × (Gained old.err_tells old.err new.err line ⊎ (GainedPart old.err_tells old.err new.err line × Rose before now))
+
+-- what was done, and then the closing line
+pub record Ends (Did : Outputs → Type 0) (why : Why) (new : Outputs) (before now : ℕ) : Type 0 where
+  pub mid : Outputs
+  pub did : Did mid
+  pub closes : Closes (closing why) mid new before now

@@ -1,0 +1,16 @@
+//! The tool: a command line does to a database what the command's steps say.
+//!
+//! `run` is the one call that does all the program does. Its contract is the theorem of the repository.
+#![tactic(auto)]
+
+mod answer;
+mod closing;
+mod command;
+mod label;
+mod package;
+mod query;
+pub mod words;
+
+pub use answer::{Outcome, Unbuilt, Why};
+pub use command::run;
+pub use rpm_pkgdb::{Damage, Reason};

@@ -1,0 +1,95 @@
+//! The words of a command line.
+
+ghost use Rattle.std.specs.Prelude.{◌≡◌, ℕ, ◌<◌, [], ◌∷◌, ◌++◌, Some, length, slice_get, OnOk, OnErr};
+ghost use Rattle.rpm_tool.specs.Words.{is_word, asks_all, place};
+
+use std::alloc::{AllocError, Global};
+use std::marker::Model;
+
+/// The words of a command line, the program's name first.
+#[derive(Drop)]
+pub struct Words {
+    alloc: Global,
+    items: Vec<String>,
+}
+
+impl Model for Words {
+    ghost use Rattle.std.specs.Prelude.{List, ℕ, ◌<◌, ◌^◌, map, length, string_bytes};
+
+    ghost Value = { List (List ℕ) };
+
+    ghost view = { λ s. map string_bytes s.items.items };
+
+    ghost invariant = { λ s. length s.items.items < 2 ^ 32 };
+}
+
+impl Words {
+    /// No words yet.
+    pub fn new(alloc: Global) -> Words
+        ensures { result ≡ [] }
+    {
+        Words {
+            alloc,
+            items: Vec::new(alloc),
+        }
+    }
+
+    /// Adds a copy of a word behind the others.
+    ///
+    /// # Errors
+    ///
+    /// `AllocError` where memory is wanting. The words are then as they were.
+    pub fn push(&mut self, word: &str) -> Result<(), AllocError>
+        requires { length self.old < 4294967295 }
+        ensures ok { OnOk result (self.new ≡ self.old ++ word.now ∷ []) }
+        ensures err { OnErr result (self.new ≡ self.old) }
+    {
+        let copy = String::from_str(self.alloc, word)?;
+        self.items.push(copy)?;
+        Ok(())
+    }
+
+    /// How many words there are.
+    pub fn len(&self) -> u32
+        ensures { result ≡ length self.now }
+    {
+        self.items.len() as u32
+    }
+
+    /// The word at place i, from 0.
+    pub fn word(&self, i: u32) -> &str
+        requires { i < length self.now }
+        ensures { slice_get self.now i ≡ Some result.now }
+    {
+        self.items[i as usize].as_str()
+    }
+}
+
+/// Whether the word at place i is this text.
+fn is_word(words: &Words, i: u32, text: &str) -> bool
+    ensures { result ≡ is_word words.now i text.now }
+{
+    i < words.len() && words.word(i) == text
+}
+
+/// Whether the words ask for all packages: `rpm -qa`, or the same with a folder given.
+pub fn asks_all(words: &Words) -> bool
+    ensures { result ≡ asks_all words.now }
+{
+    let count = words.len();
+    is_word(words, 0, "rpm")
+        && (count == 2 && is_word(words, 1, "-qa")
+            || count == 4 && is_word(words, 1, "--dbpath") && is_word(words, 3, "-qa"))
+}
+
+/// The folder of the database: the word behind a first option `--dbpath`, or rpm's own place. It takes no memory.
+pub fn place_of(words: &Words) -> &str
+    ensures { result.now ≡ place words.now }
+{
+    let is_ours = is_word(words, 0, "rpm") || is_word(words, 0, "rpmdb");
+    if is_ours && is_word(words, 1, "--dbpath") && words.len() > 2 {
+        words.word(2)
+    } else {
+        "/var/lib/rpm"
+    }
+}
