@@ -1,5 +1,5 @@
 -- The last entry of a tag, as a search from the back finds it.
-use Rattle.std.proofs.Common.{◌≡◌, ℕ, zero, suc, ◌+◌, List, [], ◌∷◌, drop, map, true, false, Some, None, refl, sym, ap, ◌∙◌, arith, eq-eqb, ne_eqb, eqb}
+use Rattle.std.proofs.Common.{◌≡◌, ℕ, zero, suc, ◌+◌, List, [], ◌∷◌, drop, map, true, false, Some, None, refl, arith, eq-eqb, ne_eqb, eqb}
 use Rattle.std.specs.Prelude.{slice_get}
 use Rattle.rpm_header.specs.Header.{Item, last_of}
 

@@ -1,5 +1,4 @@
 use Rattle.std.proofs.Common.{ap, ◌∙◌, Ok}
-use Rattle.rpm_header.specs.Header.{Header}
 use Rattle.rpm_header.proofs.Cut.{again}
 use Rattle.rpm_header.proofs.view.View.blob.Goals as goal
 
