@@ -2,19 +2,21 @@
 use Rattle.std.proofs.Common.{◌≡◌, ℕ, zero, suc, ◌+◌, ◌*◌, ◌^◌, ◌<◌, ◌≤◌, List, [], ◌∷◌, length, get_or, take, drop, Bool, true, false, Option, Some, None, IsSome, is_some, refl, sym, ap, ◌∙◌, arith, inl, inr, ◌⊎◌, max, if◌then◌else◌}
 use Rattle.std.specs.List.{list_any, find}
 use Rattle.std.proofs.lemmas.List.Folds.{list_any_at}
-use Rattle.std.proofs.lemmas.Bool.{cases_lt}
+use Rattle.std.proofs.lemmas.Bool.{cases_lt, cases_Bool}
 use Rattle.std.proofs.lemmas.Bool.Decides.{nat_tests}
 use Rattle.rpm_outside.specs.Files.{Units, unit_at}
 use Rattle.rpm_pkgdb.specs.declared.slot.Slot.{Slot}
+use Rattle.rpm_pkgdb.proofs.Known.{number_facts, place_known}
 use Rattle.rpm_pkgdb.specs.Words.{word}
-use Rattle.rpm_pkgdb.specs.Table.{is_used, has_number, slot_with, one_above, head_reason}
+use Rattle.rpm_pkgdb.specs.Slots.{is_used, has_number, slot_with, free, slot_at}
+use Rattle.rpm_pkgdb.specs.Slots.{greatest_number}
+use Rattle.rpm_pkgdb.specs.Damages.{head_reason}
 use Rattle.rpm_pkgdb.specs.Pairs.{IsNext, IsGreatest}
-use Rattle.rpm_pkgdb.specs.Maps.{free, slot_at, HasPlaces}
-use Rattle.rpm_pkgdb.proofs.Known.{bool_cases, number_facts, place_known}
+use Rattle.rpm_pkgdb.specs.Maps.{HasPlaces}
 
 pub find_none : {X : Type 0} (p : X → Bool) (xs : List X) → list_any p xs ≡ false → find p xs ≡ None
 find_none p [] none = refl
-find_none p (x ∷ xs) none = elim (bool_cases (p x)) [
+find_none p (x ∷ xs) none = elim (cases_Bool (p x)) [
   | inl holds ↦ absurd (let any : list_any p (x ∷ xs) ≡ true = rw holds refl in cc)
   | inr fails ↦ rw fails (find_none p xs (rw fails at none))
 ]
@@ -28,7 +30,7 @@ pub record Found {X : Type 0} (p : X → Bool) (xs : List X) (d : X) : Type 0 wh
 
 pub find_some : {X : Type 0} (p : X → Bool) (xs : List X) (d : X) → list_any p xs ≡ true → Found p xs d
 find_some p [] d any = absurd (cc)
-find_some p (x ∷ xs) d any = elim (bool_cases (p x)) [
+find_some p (x ∷ xs) d any = elim (cases_Bool (p x)) [
   | inl holds ↦ record { at = 0; below = omega arith; holds = holds; is = rw holds refl }
   | inr fails ↦
       (let rest = find_some p xs d (rw fails at any) in
@@ -75,50 +77,43 @@ take_one [] k below = absurd (omega arith)
 take_one (u ∷ us) zero below = refl
 take_one (u ∷ us) (suc k) below = take_one us k (omega arith)
 
--- ---- the number after the greatest
+-- ---- the greatest number
 
-max_is : (a b c : ℕ) → a ≤ c → b ≤ c → (c ≤ a) ⊎ (c ≤ b) → max a b ≡ c
-max_is a b c le le' or = elim or [ inl l ↦ omega arith | inr l ↦ omega arith ]
+greatest_number_ge : (slots : List Slot) (k : ℕ) → k < length slots → is_used (slot_at slots k) ≡ true → (slot_at slots k).number ≤ greatest_number slots
+greatest_number_ge [] k below used = absurd (omega arith)
+greatest_number_ge (s ∷ ss) zero below used = let e : (if is_used s then s.number else 0) ≡ s.number = rw used refl in omega arith
+greatest_number_ge (s ∷ ss) (suc k) below used = let rest = greatest_number_ge ss k (omega arith) used in omega arith
 
-one_above_ge : (slots : List Slot) (k : ℕ) → k < length slots → is_used (slot_at slots k) ≡ true → (slot_at slots k).number + 1 ≤ one_above slots
-one_above_ge [] k below used = absurd (omega arith)
-one_above_ge (s ∷ ss) zero below used = let e : (if is_used s then s.number + 1 else 1) ≡ s.number + 1 = rw used refl in omega arith
-one_above_ge (s ∷ ss) (suc k) below used = let rest = one_above_ge ss k (omega arith) used in omega arith
-
-one_above_le : (slots : List Slot) (m : ℕ) → 1 ≤ m → ((k : ℕ) → k < length slots → is_used (slot_at slots k) ≡ true → (slot_at slots k).number + 1 ≤ m) → one_above slots ≤ m
-one_above_le [] m le each = le
-one_above_le (s ∷ ss) m le each =
-    let rest = one_above_le ss m le (λ k below used. each (suc k) (omega arith) used) in
-    elim (bool_cases (is_used s)) [
-      | inl used ↦ (let e : (if is_used s then s.number + 1 else 1) ≡ s.number + 1 = rw used refl in let here = each 0 (omega arith) used in omega arith)
-      | inr unused ↦ (let e : (if is_used s then s.number + 1 else 1) ≡ 1 = rw unused refl in omega arith)
+greatest_number_le : (slots : List Slot) (m : ℕ) → ((k : ℕ) → k < length slots → is_used (slot_at slots k) ≡ true → (slot_at slots k).number ≤ m) → greatest_number slots ≤ m
+greatest_number_le [] m each = omega arith
+greatest_number_le (s ∷ ss) m each =
+    let rest = greatest_number_le ss m (λ k below used. each (suc k) (omega arith) used) in
+    elim (cases_Bool (is_used s)) [
+      | inl used ↦ (let e : (if is_used s then s.number else 0) ≡ s.number = rw used refl in let here = each 0 (omega arith) used in omega arith)
+      | inr unused ↦ (let e : (if is_used s then s.number else 0) ≡ 0 = rw unused refl in omega arith)
     ]
 
-one_above_least : (slots : List Slot) → 1 ≤ one_above slots
-one_above_least [] = omega arith
-one_above_least (s ∷ ss) = omega (arith, one_above_least ss)
+some_of : (o : Option ℕ) → IsSome o → (x : ℕ) × (o ≡ Some x)
+some_of (Some x) is = (x, refl)
+some_of None is = absurd (cc)
 
 module _ (f : ℕ → Option ℕ) (slots : List Slot) (has : HasPlaces f slots) where
-  pub above_none : IsGreatest f None → one_above slots ≡ 1
-  above_none none =
-      let le = one_above_le slots 1 (omega arith) (λ k below used. absurd (let e = has.each k below used in let g = none (slot_at slots k).number in cc)) in
-      omega (arith, one_above_least slots)
+  pub greatest_none : IsGreatest f None → greatest_number slots ≡ 0
+  greatest_none none =
+      let le = greatest_number_le slots 0 (λ k below used. absurd (let e = has.each k below used in let g = none (slot_at slots k).number in cc)) in
+      omega arith
 
-  pub above_some : (m : ℕ) → IsGreatest f (Some m) → one_above slots ≡ m + 1
-  above_some m (found, none) =
-      let le = one_above_le slots (m + 1) (omega arith) (λ k below used. elim (cases_lt m (slot_at slots k).number) [
+  pub greatest_some : (m : ℕ) → IsGreatest f (Some m) → greatest_number slots ≡ m
+  greatest_some m (found, none) =
+      let le = greatest_number_le slots m (λ k below used. elim (cases_lt m (slot_at slots k).number) [
         | inl above ↦ absurd (let e = has.each k below used in let g = none (slot_at slots k).number above in cc)
         | inr under ↦ omega arith
       ]) in
       let v = some_of (f m) found in
       let o = has.only m v.0 v.1 in
       let facts = number_facts m (slot_at slots v.0) o.1 in
-      let ge = one_above_ge slots v.0 o.0 facts.used in
+      let ge = greatest_number_ge slots v.0 o.0 facts.used in
       omega (arith, facts.number)
-    where
-      some_of : (o : Option ℕ) → IsSome o → (x : ℕ) × (o ≡ Some x)
-      some_of (Some x) is = (x, refl)
-      some_of None is = absurd (cc)
 
   pub greatest_below : (m limit : ℕ) → IsGreatest f (Some m) → ((k : ℕ) → k < length slots → is_used (slot_at slots k) ≡ true → (slot_at slots k).number < limit) → m < limit
   greatest_below m limit (found, none) each =
@@ -127,7 +122,3 @@ module _ (f : ℕ → Option ℕ) (slots : List Slot) (has : HasPlaces f slots) 
       let facts = number_facts m (slot_at slots v.0) o.1 in
       let lt = each v.0 o.0 facts.used in
       omega (arith, facts.number)
-    where
-      some_of : (o : Option ℕ) → IsSome o → (x : ℕ) × (o ≡ Some x)
-      some_of (Some x) is = (x, refl)
-      some_of None is = absurd (cc)

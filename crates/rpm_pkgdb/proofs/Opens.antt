@@ -1,12 +1,16 @@
 -- What a store is, by its unit 0.
-use Rattle.std.proofs.Common.{◌≡◌, ℕ, List, [], ◌∷◌, length, true, false, not, Option, Some, None, Result, Ok, Err, IfOk, refl, sym, ap, ◌∙◌, arith}
+use Rattle.std.proofs.Common.{◌≡◌, ℕ, ◌*◌, ◌≤◌, inl, inr, List, [], ◌∷◌, length, true, false, not, Option, Some, None, Result, Ok, Err, IfOk, refl, sym, ap, ◌∙◌, arith}
 use Rattle.std.specs.List.{list_any}
 use Rattle.rpm_outside.specs.Files.{Units, unit_at, blank}
 use Rattle.rpm_pkgdb.specs.declared.slot.Reason.{Reason}
 use Rattle.rpm_pkgdb.specs.declared.slot.Damage.{Damage}
 use Rattle.rpm_pkgdb.specs.declared.slot.OpenFault.{OpenFault}
 use Rattle.rpm_pkgdb.specs.Words.{word, is_nonzero}
-use Rattle.rpm_pkgdb.specs.Table.{Store, store, store_of, blank_store, made_or_damaged, head_reason, damage_at, OpenIs}
+use Rattle.rpm_pkgdb.specs.Costs.{head_cost, opening_cost}
+use Rattle.rpm_pkgdb.proofs.Kept.{lawful}
+use Rattle.std.proofs.lemmas.Bool.{cases_Bool}
+use Rattle.rpm_pkgdb.specs.Store.{is_blank, Store, store, store_of, blank_store, made_or_damaged, OpenIs}
+use Rattle.rpm_pkgdb.specs.Damages.{head_reason, damage_at}
 
 pub store_empty : (file : Units) → length file ≡ 0 → store file ≡ Ok blank_store
 unfolding store blank
@@ -33,3 +37,20 @@ module _ (file : Units) (units : ℕ) (head : List ℕ) (long : units ≡ length
 pub ok_keeps : (T : Type 0) (said : Result Store Damage) (r : Result Store OpenFault) → (T → OpenIs said r) → IfOk r (λ db. T → said ≡ Ok db)
 ok_keeps T said (Ok db) is = is
 ok_keeps T said (Err e) is = tt
+
+-- ---- what opening reads
+
+head_cost_least : (units : ℕ) (head : List ℕ) (o : Option Reason) → head_reason units head ≡ o → 16 ≤ head_cost o head
+head_cost_least units head (Some r) is = omega arith
+head_cost_least units head None is = omega (arith, (lawful units head is).some)
+
+pub opening_cost_least : (file : Units) → 16 ≤ opening_cost file
+opening_cost_least file = elim (cases_Bool (is_blank file)) [
+  | inl blank ↦ rw blank (omega arith)
+  | inr other ↦ rw other (head_cost_least (length file) (unit_at file 0) (head_reason (length file) (unit_at file 0)) refl)
+]
+
+pub opening_cost_made : (file : Units) (units : ℕ) (head : List ℕ) → units ≡ length file → head ≡ unit_at file 0 → not (list_any is_nonzero head) ≡ false → head_reason units head ≡ None → opening_cost file ≡ 4096 * word 3 head
+opening_cost_made file units head long is some none =
+    let other : is_blank file ≡ false = ap (λ (u : List ℕ). not (list_any is_nonzero u)) (sym is) ∙ some in
+    rw other (ap (λ (u : List ℕ). head_cost (head_reason (length file) u) u) (sym is) ∙ ap (λ (n : ℕ). head_cost (head_reason n head) head) (sym long) ∙ ap (λ (o : Option Reason). head_cost o head) none)

@@ -1,20 +1,24 @@
 -- Where the slot of a number lies, in a store without damage.
 use Rattle.std.proofs.Common.{◌≡◌, ℕ, zero, suc, ◌<◌, List, [], ◌∷◌, ◌++◌, length, true, Option, Some, None, Result, Ok, refl, sym, ap, ◌∙◌, arith, inl, inr}
+use Rattle.std.proofs.lemmas.Bool.{cases_Bool}
+use Rattle.std.specs.Option.{option_or}
 use Rattle.std.specs.List.{list_any}
 use Rattle.rpm_outside.specs.Files.{Units, unit_at}
 use Rattle.rpm_pkgdb.specs.declared.slot.Slot.{Slot}
 use Rattle.rpm_pkgdb.specs.declared.slot.Reason.{Reason}
 use Rattle.rpm_pkgdb.specs.declared.slot.Damage.{Damage}
-use Rattle.rpm_pkgdb.specs.Words.{word}
-use Rattle.rpm_pkgdb.specs.Table.{Store, store, blank_store, made_store, made_or_damaged, head_reason, is_blank, is_used, has_number, slot_with, slot_of, slot_fault, own_reason, slots_in, table, table_fault, or_else, unless}
-use Rattle.rpm_pkgdb.specs.Runs.{run, table_is_run}
-use Rattle.rpm_pkgdb.specs.Maps.{free, slot_at, IsPlaced}
-use Rattle.rpm_pkgdb.proofs.Known.{bool_cases, number_facts}
+use Rattle.rpm_pkgdb.proofs.Known.{number_facts}
 use Rattle.rpm_pkgdb.proofs.Kept.{find_none, find_some}
 use Rattle.rpm_pkgdb.proofs.Sound.{placed_slot, no_own}
 use Rattle.rpm_pkgdb.proofs.Steps.{length-slots_in}
+use Rattle.rpm_pkgdb.specs.Words.{word}
+use Rattle.rpm_pkgdb.specs.Store.{Store, store, blank_store, made_store, made_or_damaged, is_blank, unless}
+use Rattle.rpm_pkgdb.specs.Damages.{head_reason, slot_fault, own_reason, table, table_fault}
+use Rattle.rpm_pkgdb.specs.Slots.{is_used, has_number, slot_with, slot_of, slots_in, free, slot_at}
+use Rattle.rpm_pkgdb.specs.Runs.{run, table_is_run}
+use Rattle.rpm_pkgdb.specs.Maps.{IsPlaced}
 
-both_none : {X : Type 0} (a b : Option X) → or_else a b ≡ None → (a ≡ None) × (b ≡ None)
+both_none : {X : Type 0} (a b : Option X) → option_or a b ≡ None → (a ≡ None) × (b ≡ None)
 both_none None b e = (refl, e)
 both_none (Some x) b e = absurd cc
 
@@ -39,7 +43,7 @@ record Stands (n : ℕ) (slots : List Slot) (s : Slot) : Type 0 where
   is : s ≡ slot_at slots at
 
 stands : (n : ℕ) (slots : List Slot) (s : Slot) → slot_with n slots ≡ Some s → Stands n slots s
-stands n slots s found = elim (bool_cases (list_any (has_number n) slots)) [
+stands n slots s found = elim (cases_Bool (list_any (has_number n) slots)) [
   | inl any ↦
       (let f = find_some (has_number n) slots free any in
       let facts = number_facts n (slot_at slots f.at) f.holds in
@@ -82,7 +86,7 @@ pub record Lies (file : Units) (s : Slot) : Type 0 where
 
 pub lies : (file : Units) (st : Store) (n : ℕ) (s : Slot) → store file ≡ Ok st → slot_with n st.slots ≡ Some s → Lies file s
 unfolding store
-lies file st n s is found = elim (bool_cases (is_blank file)) [
+lies file st n s is found = elim (cases_Bool (is_blank file)) [
   | inl blank ↦
       absurd (
       let same : blank_store ≡ st = ok_same blank_store st (Ok blank_store) refl (rw blank at is) in

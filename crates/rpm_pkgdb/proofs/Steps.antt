@@ -1,5 +1,6 @@
 -- One unit more of a run.
 use Rattle.std.proofs.Common.{◌≡◌, ℕ, suc, ◌+◌, ◌-◌, ◌<◌, ◌≤◌, List, [], ◌∷◌, ◌++◌, length, take, drop, Option, Some, None, refl, sym, ap, ◌∙◌, append_assoc, arith, take-append-drop}
+use Rattle.std.specs.Option.{option_or}
 use Rattle.std.proofs.lemmas.List.{take_more, drop-drop}
 use Rattle.std.proofs.Math.Seq.{take-add}
 use Rattle.rpm_outside.specs.Files.{Units, unit_at, blank}
@@ -7,7 +8,9 @@ use Rattle.rpm_pkgdb.specs.declared.slot.Slot.{Slot}
 use Rattle.rpm_pkgdb.specs.declared.slot.Damage.{Damage}
 use Rattle.rpm_pkgdb.specs.declared.slot.OpenFault.{OpenFault}
 use Rattle.rpm_pkgdb.specs.declared.slot.OpenFault.TheVariants.{Damaged, DiskFault, NoMemory}
-use Rattle.rpm_pkgdb.specs.Table.{slot_of, slot_fault, slots_in, or_else, table_fault, Says, SaysHere}
+use Rattle.rpm_pkgdb.specs.Slots.{slot_of, slots_in}
+use Rattle.rpm_pkgdb.specs.Damages.{slot_fault, table_fault}
+use Rattle.rpm_pkgdb.specs.Store.{Says, SaysHere}
 use Rattle.rpm_pkgdb.specs.Runs.{run, run-append, table_is_run}
 
 pub length-slots_in : (us : Units) → length (slots_in us) ≡ length us
@@ -24,7 +27,7 @@ pub slots_in-one : (u : List ℕ) → slots_in (u ∷ []) ≡ slot_of u ∷ []
 unfolding slots_in
 slots_in-one u = refl
 
-or_else_none : {X : Type 0} (a : Option X) → or_else a None ≡ a
+or_else_none : {X : Type 0} (a : Option X) → option_or a None ≡ a
 or_else_none None = refl
 or_else_none (Some x) = refl
 
@@ -44,7 +47,7 @@ module _ (pages units : ℕ) (earlier now : List Slot) (us : Units) (k : ℕ) (u
   run_more none =
       ap (run pages units earlier) front
       ∙ run-append pages units earlier (take k us) (unit ∷ [])
-      ∙ ap (λ (r : Option Damage). or_else r (run pages units (earlier ++ slots_in (take k us)) (unit ∷ []))) none
+      ∙ ap (λ (r : Option Damage). option_or r (run pages units (earlier ++ slots_in (take k us)) (unit ∷ []))) none
       ∙ ap (λ (ss : List Slot). run pages units ss (unit ∷ [])) (sym slots)
       ∙ or_else_none (slot_fault pages units now unit)
 
@@ -56,7 +59,7 @@ module _ (pages units : ℕ) (earlier now : List Slot) (us : Units) (k : ℕ) (u
       let found : run pages units earlier (take (k + 1) us) ≡ Some d = run_more none ∙ fault in
       ap (run pages units earlier) (sym (take-append-drop (k + 1) us))
       ∙ run-append pages units earlier (take (k + 1) us) (drop (k + 1) us)
-      ∙ ap (λ (r : Option Damage). or_else r (run pages units (earlier ++ slots_in (take (k + 1) us)) (drop (k + 1) us))) found
+      ∙ ap (λ (r : Option Damage). option_or r (run pages units (earlier ++ slots_in (take (k + 1) us)) (drop (k + 1) us))) found
   says_more none DiskFault fault = fault
   says_more none NoMemory fault = tt
 
@@ -83,7 +86,7 @@ module _ (pages units : ℕ) (file : Units) (done n at next : ℕ) (slots : List
   part_run none =
       ap (run pages units []) parts
       ∙ run-append pages units [] (take done (drop 2 file)) (take n (drop at file))
-      ∙ ap (λ (r : Option Damage). or_else r (run pages units (slots_in (take done (drop 2 file))) (take n (drop at file)))) none
+      ∙ ap (λ (r : Option Damage). option_or r (run pages units (slots_in (take done (drop 2 file))) (take n (drop at file)))) none
       ∙ ap (λ (ss : List Slot). run pages units ss (take n (drop at file))) (sym is)
 
   pub sound_part : run pages units [] (take done (drop 2 file)) ≡ None → run pages units slots (take n (drop at file)) ≡ None → run pages units [] (take next (drop 2 file)) ≡ None
@@ -98,6 +101,6 @@ module _ (pages units : ℕ) (file : Units) (done n at next : ℕ) (slots : List
       ∙ ap (λ (k : ℕ). run pages units [] (take k (drop 2 file))) (sym whole)
       ∙ ap (run pages units []) (take-add next (total - next) (drop 2 file))
       ∙ run-append pages units [] (take next (drop 2 file)) rest
-      ∙ ap (λ (r : Option Damage). or_else r (run pages units (slots_in (take next (drop 2 file))) rest)) found
+      ∙ ap (λ (r : Option Damage). option_or r (run pages units (slots_in (take next (drop 2 file))) rest)) found
   says_part total le none DiskFault fault = tt
   says_part total le none NoMemory fault = tt

@@ -5,8 +5,10 @@ ghost use Rattle.rpm_outside.specs.Files.{Files, Units, units_of, unit_at, bytes
 ghost use Rattle.rpm_outside.specs.Causes.{HasCauseAt};
 ghost use Rattle.rpm_outside.specs.Looks.{Looks};
 ghost use Rattle.rpm_pkgdb.specs.Words.{word};
-ghost use Rattle.rpm_pkgdb.specs.Table.{end_of};
-ghost use Rattle.rpm_pkgdb.specs.Blobs.{is_head, is_tail, is_framed, frame_of, frame_in, sums, sum_holds, blob_in, IsFrame, IsOutside};
+ghost use Rattle.rpm_pkgdb.specs.Slots.{end_of};
+ghost use Rattle.rpm_pkgdb.specs.Blobs.{is_head, is_tail, is_framed, frame_of, blob_in};
+ghost use Rattle.rpm_pkgdb.specs.Checksums.{sums, checksum_holds};
+ghost use Rattle.rpm_pkgdb.specs.Answers.{frame_in, IsFrame, IsOutside};
 
 use crate::reading::{read_unit, read_units};
 use crate::slot::Slot;
@@ -14,25 +16,34 @@ use crate::words::word;
 use rpm_outside::Disk;
 use std::alloc::Global;
 
+/// Why a number has no blob to give.
 #[derive(Clone, Copy, Debug, PartialEq, Eq)]
 pub enum GetFault {
+    /// No slot has the number.
     NoSuch,
+    /// The framing of its blob is broken: the head's magic or number isn't right, the length is above 68157432 bytes or not that
+    /// of the block count, or the tail's length or magic isn't right. The head's generation isn't compared.
     Bad,
+    /// A call of the disk failed.
     DiskFault,
+    /// There was no memory for the blob.
     NoMemory,
 }
 
-/// The blocks of a blob whose framing is right.
+/// The blocks of a blob whose framing is right: the first unit, and the bytes of the others.
 #[derive(Drop)]
 pub struct Blocks {
     pub head: [u8; 16],
     pub rest: Vec<u8>,
 }
 
+// `BlbS`
 const HEAD: u32 = 0x5362_6c42;
 
+// `BlbE`
 const TAIL: u32 = 0x4562_6c42;
 
+/// Whether a blob of this number and so many blocks can begin with this unit.
 #[tactic(auto, unfolding(crate::specs::Blobs::is_head))]
 fn is_head(n: u32, count: u32, head: &[u8]) -> bool
     requires { length head.now ≡ 16 }
@@ -45,6 +56,7 @@ fn is_head(n: u32, count: u32, head: &[u8]) -> bool
         && count == (length + 43) / 16
 }
 
+/// Whether these blocks end in the tail of a blob of so many bytes.
 #[tactic(auto, unfolding(crate::specs::Blobs::is_tail))]
 fn is_tail(size: u32, rest: &[u8]) -> bool
     requires { 12 ≤ length rest.now }
@@ -71,10 +83,10 @@ fn sums(a: u32, b: u32, bytes: &[u8]) -> (u32, u32)
     (low, high)
 }
 
-/// Whether the stored checksum is that of the blocks.
-fn sum_is(head: &[u8], rest: &[u8]) -> bool
+/// Whether the stored checksum is that of head, bytes and padding.
+fn is_checksum_right(head: &[u8], rest: &[u8]) -> bool
     requires { 12 ≤ length rest.now }
-    ensures { result ≡ sum_holds (record { head = head.now; rest = rest.now }) }
+    ensures { result ≡ checksum_holds (record { head = head.now; rest = rest.now }) }
 {
     let end = rest.len() - 12;
     let (a, b) = sums(1, 0, head);
@@ -82,15 +94,26 @@ fn sum_is(head: &[u8], rest: &[u8]) -> bool
     word(&rest[end..], 0) == high * 65_536 + low
 }
 
-/// The same of blocks that were read.
-pub fn sum_holds(blocks: &Blocks) -> bool
-    requires { 12 ≤ length blocks.now.rest.items }
-    ensures { result ≡ sum_holds (frame_in blocks.now) }
-{
-    sum_is(&blocks.head, &blocks.rest)
+impl Blocks {
+    pub fn checksum_holds(&self) -> bool
+        requires { 12 ≤ length self.now.rest.items }
+        ensures { result ≡ checksum_holds (frame_in self.now) }
+    {
+        is_checksum_right(&self.head, &self.rest)
+    }
+
+    /// The bytes of the blob, without a copy.
+    pub fn into_blob(self) -> Vec<u8>
+        ensures { result.items ≡ blob_in (frame_in self) }
+    {
+        let size = word(&self.head, 3) as usize;
+        let mut rest = self.rest;
+        rest.truncate(size);
+        rest
+    }
 }
 
-/// Reads so many units.
+/// Reads so many units into a new vector.
 fn read_rest<D: Disk>(alloc: Global, disk: &mut D, at: u64, count: u32) -> Result<Vec<u8>, GetFault>
     requires { IsTrue D.tells → at + count ≤ length (D.files disk.old).pkg }
     ensures long { IfOk result (λ v. length v.items ≡ 16 * count) }
@@ -108,7 +131,9 @@ fn read_rest<D: Disk>(alloc: Global, disk: &mut D, at: u64, count: u32) -> Resul
     Ok(rest)
 }
 
-/// Reads the blocks of a number's slot.
+/// Reads the blocks of a number's slot, each once.
+///
+/// The head comes first: a slot may name any number of blocks, and only a right head bounds them by the greatest blob.
 pub fn read_blocks<D: Disk>(
     alloc: Global,
     disk: &mut D,
@@ -141,14 +166,4 @@ pub fn read_blocks<D: Disk>(
         return Err(GetFault::Bad);
     }
     Ok(Blocks { head, rest })
-}
-
-/// The bytes of a blob.
-pub fn blob_in(blocks: Blocks) -> Vec<u8>
-    ensures { result.items ≡ blob_in (frame_in blocks) }
-{
-    let size = word(&blocks.head, 3) as usize;
-    let mut rest = blocks.rest;
-    rest.truncate(size);
-    rest
 }

@@ -1,10 +1,12 @@
-//! The slots of a file, read once.
+//! Units of the file, and the slots of its pages, each read once.
 
 ghost use Rattle.std.specs.Prelude.{◌≡◌, ◌≢◌, ℕ, ◌+◌, ◌-◌, ◌*◌, ◌/◌, ◌%◌, ◌^◌, ◌≤◌, ◌<◌, ◌∷◌, ◌++◌, [], IsTrue, true, length, take, drop, None, Err, OnOk, IfOk, IfErr};
 ghost use Rattle.rpm_outside.specs.Files.{Files, Units, units_of, unit_at, bytes_of};
 ghost use Rattle.rpm_outside.specs.Causes.{HasCause, HasCauseAt};
 ghost use Rattle.rpm_outside.specs.Looks.{Looks};
-ghost use Rattle.rpm_pkgdb.specs.Table.{slots_in, table, table_fault, Says, SaysHere};
+ghost use Rattle.rpm_pkgdb.specs.Slots.{slots_in};
+ghost use Rattle.rpm_pkgdb.specs.Damages.{table, table_fault};
+ghost use Rattle.rpm_pkgdb.specs.Store.{Says, SaysHere};
 ghost use Rattle.rpm_pkgdb.specs.Maps.{IsKnown};
 ghost use Rattle.rpm_pkgdb.specs.Runs.{run};
 
@@ -35,8 +37,8 @@ fn unit_in(bytes: &[u8], k: usize) -> &[u8]
     &bytes[16 * k..16 * k + 16]
 }
 
-/// Takes the slots in these bytes.
-fn take_units(opening: &mut Opening, pages: u32, units: u64, bytes: &[u8]) -> Result<(), OpenFault>
+/// Adds the slots in these bytes.
+fn add_units(opening: &mut Opening, pages: u32, units: u64, bytes: &[u8]) -> Result<(), OpenFault>
     requires known { IsKnown opening.old }
     requires pages { 256 * pages ≤ 2 ^ 28 }
     requires room { length opening.old.slots.items + length bytes.now / 16 ≤ 2 ^ 28 }
@@ -47,15 +49,15 @@ fn take_units(opening: &mut Opening, pages: u32, units: u64, bytes: &[u8]) -> Re
     ensures says { IfErr result (λ e. SaysHere e (run pages units opening.old.slots.items (units_of bytes.now))) }
 {
     for k in 0..bytes.len() / 16 {
-        if let Err(fault) = opening.take(pages, units, unit_in(bytes, k)) {
+        if let Err(fault) = opening.add(pages, units, unit_in(bytes, k)) {
             return Err(fault);
         }
     }
     Ok(())
 }
 
-/// Reads the next slots and takes them.
-fn read_part<D: Disk>(
+/// Reads the next slots and adds them.
+fn read_slots<D: Disk>(
     disk: &mut D,
     opening: &mut Opening,
     pages: u32,
@@ -79,10 +81,10 @@ fn read_part<D: Disk>(
     let Ok(()) = read_units(disk, at as u64, bytes) else {
         return Err(OpenFault::DiskFault);
     };
-    take_units(opening, pages, units, bytes)
+    add_units(opening, pages, units, bytes)
 }
 
-/// Reads all slots.
+/// Reads all slots, at most a page at a time.
 pub fn read_table<D: Disk>(
     alloc: Global,
     disk: &mut D,
@@ -106,7 +108,7 @@ pub fn read_table<D: Disk>(
     while at < end {
         let count = (end - at).min(256);
         let bytes = &mut page[..16 * count as usize];
-        if let Err(fault) = read_part(disk, &mut opening, pages, units, at, bytes) {
+        if let Err(fault) = read_slots(disk, &mut opening, pages, units, at, bytes) {
             return Err(fault);
         }
         at += count;

@@ -5,12 +5,18 @@ ghost use Rattle.std.specs.List.{list_any};
 ghost use Rattle.rpm_outside.specs.Files.{Files, Units, unit_at};
 ghost use Rattle.rpm_outside.specs.Causes.{HasCauseAt};
 ghost use Rattle.rpm_outside.specs.Looks.{Looks};
+ghost use Rattle.std.specs.FinMap as finite;
 ghost use Rattle.rpm_pkgdb.specs.Words.{word};
-ghost use Rattle.rpm_pkgdb.specs.Table.{store, store_of, head_reason, OpenIs, blank_store, has_number, next_number, slot_with};
+ghost use Rattle.rpm_pkgdb.specs.Slots.{slot_with, has_number};
+ghost use Rattle.rpm_pkgdb.specs.Damages.{head_reason};
+ghost use Rattle.rpm_pkgdb.specs.Store.{store, store_of, Keeps, blank_store, next_number, OpenIs};
 ghost use Rattle.rpm_pkgdb.specs.Pairs.{IsNext};
-ghost use Rattle.rpm_pkgdb.specs.Blobs.{AnswerIs, frames, frame_in, blobs, given, sums_hold, cost};
+ghost use Rattle.rpm_pkgdb.specs.Blobs.{frames, blobs};
+ghost use Rattle.rpm_pkgdb.specs.Checksums.{checksums_hold};
+ghost use Rattle.rpm_pkgdb.specs.Costs.{cost, opening_cost};
+ghost use Rattle.rpm_pkgdb.specs.Answers.{AnswerIs, frame_in, given};
 
-use crate::blob::{Blocks, GetFault, blob_in, read_blocks, sum_holds};
+use crate::blob::{Blocks, GetFault, read_blocks};
 use crate::numbers::Numbers;
 use crate::reading::{read_table, read_unit};
 use crate::slot::{BLOCKS, OpenFault, Reason, Slot, damage_at};
@@ -19,6 +25,10 @@ use rpm_outside::{Disk, File};
 use std::alloc::Global;
 use std::marker::Model;
 
+/// The head and the slots of a `Packages.db`, read once.
+///
+/// The blobs stay in the file: each call that takes the disk takes the one that the value was opened on, as long as that file says
+/// what the value keeps. In memory a value has 12 bytes a slot and 8 more a package.
 #[derive(Drop)]
 pub struct PkgDb {
     generation: u32,
@@ -29,7 +39,7 @@ pub struct PkgDb {
 }
 
 impl Model for PkgDb {
-    ghost use Rattle.rpm_pkgdb.specs.Table.{Store};
+    ghost use Rattle.rpm_pkgdb.specs.Store.{Store};
     ghost use Rattle.rpm_pkgdb.specs.Maps.{IsKept};
 
     ghost Value = { Store };
@@ -39,10 +49,11 @@ impl Model for PkgDb {
     ghost invariant = { λ s. IsKept s.numbers s.slots.items };
 }
 
+// `RpmP`
 const MAGIC: u32 = 0x506d_7052;
 
 /// What is wrong with unit 0.
-#[tactic(auto, unfolding(crate::specs::Table::head_reason))]
+#[tactic(auto, unfolding(crate::specs::Damages::head_reason))]
 fn head_reason(units: u64, head: &[u8]) -> Option<Reason>
     requires { length head.now ≡ 16 }
     ensures { result ≡ head_reason units head.now }
@@ -74,11 +85,22 @@ impl PkgDb {
         }
     }
 
-    /// Reads the header and the slots, each byte once.
+    /// Reads the head and all slots. Nothing is written.
+    ///
+    /// A file without units, or whose unit 0 is all zeros, is blank: a store of no pages and no packages, whose next number is 1.
+    ///
+    /// Reads 4096 bytes a page, each byte once: less where a slot is damaged, and at most unit 0 where the file is blank or its head
+    /// is damaged. The time is n log n in the slots, whatever stands in them.
+    ///
+    /// # Errors
+    ///
+    /// - `Damaged` exactly where the file isn't a store: its first damage.
+    /// - `DiskFault` only where the disk's count of faults rose.
+    /// - `NoMemory` where the slots, or the maps that compare them, find no memory.
     pub fn open<D: Disk>(alloc: Global, disk: &mut D) -> Result<PkgDb, OpenFault>
         ensures store { IsTrue D.tells → OpenIs (store (D.files disk.old).pkg) result }
-        ensures kept { IfOk result (λ db. IsTrue D.tells → store (D.files disk.new).pkg ≡ Ok db) }
-        ensures reads { IsTrue D.tells → D.bytes_read disk.new File.Pkg ≤ D.bytes_read disk.old File.Pkg + 4096 * max 1 (word 3 (unit_at (D.files disk.old).pkg 0)) }
+        ensures kept { IfOk result (λ db. IsTrue D.tells → Keeps (D.files disk.new).pkg db) }
+        ensures reads { IsTrue D.tells → D.bytes_read disk.new File.Pkg ≤ D.bytes_read disk.old File.Pkg + opening_cost (D.files disk.old).pkg }
         ensures looks { Looks D.tells D.files D.left_since D.moment D.bytes_read D.follows (2 ^ 32) disk.old disk.new }
         ensures cause { HasCauseAt (result ≡ Err OpenFault.DiskFault) (D.faults disk.old) (D.faults disk.new) }
     {
@@ -123,7 +145,7 @@ impl PkgDb {
             Ok(opening) => opening,
             Err(fault) => return Err(fault),
         };
-        let Ok(numbers) = Numbers::of(alloc, opening.numbers) else {
+        let Ok(numbers) = Numbers::from_map(alloc, opening.numbers) else {
             return Err(OpenFault::NoMemory);
         };
         Ok(PkgDb {
@@ -135,26 +157,28 @@ impl PkgDb {
         })
     }
 
-    /// Whether no database was made yet.
+    /// Whether no database was made yet: the file is blank.
     pub fn is_blank(&self) -> bool
         ensures { result ≡ (self.now.pages == 0) }
     {
         self.pages == 0
     }
 
+    /// The generation in unit 0; 0 of a blank file.
     pub fn generation(&self) -> u32
         ensures { result ≡ self.now.generation }
     {
         self.generation
     }
 
+    /// How many slot pages there are; 0 in a blank file.
     pub fn pages(&self) -> u32
         ensures { result ≡ self.now.pages }
     {
         self.pages
     }
 
-    /// Whether a slot has the number.
+    /// Whether a slot has this number. Takes log n steps.
     pub fn holds(&self, n: u32) -> bool
         ensures { result ≡ is_some (slot_with n self.now.slots) }
     {
@@ -171,7 +195,8 @@ impl PkgDb {
         }
     }
 
-    /// The number of the next package.
+    /// The number of the next package: the greater of the field in unit 1 and one above the greatest number of a slot. A field that
+    /// fell behind is so passed over and is no damage (own).
     pub fn next_number(&self) -> u32
         ensures { result ≡ next_number self.now }
     {
@@ -182,7 +207,7 @@ impl PkgDb {
         }
     }
 
-    /// The least number above that a slot has.
+    /// The least number above this one that a slot has, and `None` where there is none. Takes log n steps.
     pub fn next_above(&self, n: u32) -> Option<u32>
         ensures { IsNext (λ m. slot_with m self.now.slots) n result }
     {
@@ -193,9 +218,9 @@ impl PkgDb {
 impl PkgDb {
     /// Reads the blocks of a number.
     fn blocks<D: Disk>(&self, alloc: Global, disk: &mut D, n: u32) -> Result<Blocks, GetFault>
-        requires keeps { IsTrue D.tells → store (D.files disk.old).pkg ≡ Ok self.now }
+        requires keeps { IsTrue D.tells → Keeps (D.files disk.old).pkg self.now }
         ensures long { IfOk result (λ b. 12 ≤ length b.rest.items) }
-        ensures kept { IsTrue D.tells → store (D.files disk.new).pkg ≡ Ok self.now }
+        ensures kept { IsTrue D.tells → Keeps (D.files disk.new).pkg self.now }
         ensures told { IsTrue D.tells → AnswerIs frame_in (frames (D.files disk.old).pkg self.now n) result }
         ensures absent { (result ≡ Err GetFault.NoSuch) ↔ (slot_with n self.now.slots ≡ None) }
         ensures looks { Looks D.tells D.files D.left_since D.moment D.bytes_read D.follows (cost n self.now) disk.old disk.new }
@@ -208,37 +233,53 @@ impl PkgDb {
     }
 
     /// The blob of a number.
+    ///
+    /// Reads the number's own blocks, each once: its first alone where the head is wrong. The bytes that are answered are those that
+    /// were read, without a copy.
+    ///
+    /// # Errors
+    ///
+    /// - `NoSuch` exactly where no slot has the number. Nothing is read then.
+    /// - `Bad` exactly where the framing of its blob is broken.
+    /// - `DiskFault` only where the disk's count of faults rose.
+    /// - `NoMemory` where the blob finds no memory.
     pub fn get<D: Disk>(&self, alloc: Global, disk: &mut D, n: u32) -> Result<Vec<u8>, GetFault>
-        requires keeps { IsTrue D.tells → store (D.files disk.old).pkg ≡ Ok self.now }
-        ensures kept { IsTrue D.tells → store (D.files disk.new).pkg ≡ Ok self.now }
-        ensures told { IsTrue D.tells → AnswerIs given (blobs (D.files disk.old).pkg self.now n) result }
+        requires keeps { IsTrue D.tells → Keeps (D.files disk.old).pkg self.now }
+        ensures kept { IsTrue D.tells → Keeps (D.files disk.new).pkg self.now }
+        ensures told { IsTrue D.tells → AnswerIs given (finite.get (blobs (D.files disk.old).pkg self.now) n) result }
         ensures absent { (result ≡ Err GetFault.NoSuch) ↔ (slot_with n self.now.slots ≡ None) }
         ensures looks { Looks D.tells D.files D.left_since D.moment D.bytes_read D.follows (cost n self.now) disk.old disk.new }
         ensures cause { HasCauseAt (result ≡ Err GetFault.DiskFault) (D.faults disk.old) (D.faults disk.new) }
     {
         match self.blocks(alloc, disk, n) {
             Err(fault) => Err(fault),
-            Ok(blocks) => Ok(blob_in(blocks)),
+            Ok(blocks) => Ok(blocks.into_blob()),
         }
     }
 
-    /// Whether the stored checksum is that of the number's blocks.
+    /// Whether the checksum in the tail of a number's blob is the Adler-32 of its head, bytes and padding.
+    ///
+    /// Reads the number's own blocks, each once, and takes memory for them.
+    ///
+    /// # Errors
+    ///
+    /// Those of `get`, with the same causes.
     pub fn checksum_holds<D: Disk>(
         &self,
         alloc: Global,
         disk: &mut D,
         n: u32,
     ) -> Result<bool, GetFault>
-        requires keeps { IsTrue D.tells → store (D.files disk.old).pkg ≡ Ok self.now }
-        ensures kept { IsTrue D.tells → store (D.files disk.new).pkg ≡ Ok self.now }
-        ensures told { IsTrue D.tells → AnswerIs (λ b. b) (sums_hold (D.files disk.old).pkg self.now n) result }
+        requires keeps { IsTrue D.tells → Keeps (D.files disk.old).pkg self.now }
+        ensures kept { IsTrue D.tells → Keeps (D.files disk.new).pkg self.now }
+        ensures told { IsTrue D.tells → AnswerIs (λ holds. holds) (checksums_hold (D.files disk.old).pkg self.now n) result }
         ensures absent { (result ≡ Err GetFault.NoSuch) ↔ (slot_with n self.now.slots ≡ None) }
         ensures looks { Looks D.tells D.files D.left_since D.moment D.bytes_read D.follows (cost n self.now) disk.old disk.new }
         ensures cause { HasCauseAt (result ≡ Err GetFault.DiskFault) (D.faults disk.old) (D.faults disk.new) }
     {
         match self.blocks(alloc, disk, n) {
             Err(fault) => Err(fault),
-            Ok(blocks) => Ok(sum_holds(&blocks)),
+            Ok(blocks) => Ok(blocks.checksum_holds()),
         }
     }
 }

@@ -3,15 +3,10 @@ use rpm_outside::{File, MemDisk};
 use std::alloc::{AllocError, Global};
 use std::test::Fail;
 
-const HEAD: [u8; 48] = [
-    0x52, 0x70, 0x6d, 0x50, 0, 0, 0, 0, 2, 0, 0, 0, 1, 0, 0, 0, //
-    2, 0, 0, 0, 0, 0, 0, 0, 0, 0, 0, 0, 0, 0, 0, 0, //
-    0x53, 0x6c, 0x6f, 0x74, 1, 0, 0, 0, 0, 1, 0, 0, 7, 0, 0, 0,
-];
+const SLOT: [u8; 4] = [0x53, 0x6c, 0x6f, 0x74];
 
-const FREE: [u8; 16] = [0x53, 0x6c, 0x6f, 0x74, 0, 0, 0, 0, 0, 0, 0, 0, 0, 0, 0, 0];
-
-const F1: [u8; 80] = [
+// The header of a package `a-1-2.x`.
+const HEADER: [u8; 80] = [
     0, 0, 0, 4, 0, 0, 0, 8, //
     0, 0, 3, 0xe8, 0, 0, 0, 6, 0, 0, 0, 0, 0, 0, 0, 1, //
     0, 0, 3, 0xe9, 0, 0, 0, 6, 0, 0, 0, 2, 0, 0, 0, 1, //
@@ -20,133 +15,237 @@ const F1: [u8; 80] = [
     0x61, 0, 0x31, 0, 0x32, 0, 0x78, 0,
 ];
 
-// A store of one page with F1 as number 1.
-fn one_package(alloc: Global) -> Result<Vec<u8>, AllocError> {
-    let mut file = Vec::new(alloc);
-    file.extend_from_slice(&HEAD)?;
-    for _ in 3..256 {
-        file.extend_from_slice(&FREE)?;
-    }
+// Adds the head of a store of generation 2, and free slots to the end of its pages.
+fn add_pages(file: &mut Vec<u8>, pages: u8, next: u8) -> Result<(), AllocError> {
     file.extend_from_slice(&[
-        0x42, 0x6c, 0x62, 0x53, 1, 0, 0, 0, 2, 0, 0, 0, 0x50, 0, 0, 0,
+        0x52, 0x70, 0x6d, 0x50, 0, 0, 0, 0, 2, 0, 0, 0, pages, 0, 0, 0,
     ])?;
-    file.extend_from_slice(&F1)?;
-    file.extend_from_slice(&[0, 0, 0, 0])?;
+    file.extend_from_slice(&[next, 0, 0, 0, 0, 0, 0, 0, 0, 0, 0, 0, 0, 0, 0, 0])?;
+    for _ in 2..256 * pages as u32 {
+        file.extend_from_slice(&SLOT)?;
+        file.extend_from_slice(&[0; 12])?;
+    }
+    Ok(())
+}
+
+// Adds a blob of seven blocks with the header. The checksum is that of number 1.
+fn add_blob(file: &mut Vec<u8>, number: u8) -> Result<(), AllocError> {
+    file.extend_from_slice(&[
+        0x42, 0x6c, 0x62, 0x53, number, 0, 0, 0, 2, 0, 0, 0, 0x50, 0, 0, 0,
+    ])?;
+    file.extend_from_slice(&HEADER)?;
+    file.extend_from_slice(&[0; 4])?;
     file.extend_from_slice(&[
         0xec, 0x06, 0xd1, 0x70, 0x50, 0, 0, 0, 0x42, 0x6c, 0x62, 0x45,
     ])?;
-    Ok(file)
+    Ok(())
 }
 
-// The same with other bytes at a place.
-fn changed(alloc: Global, at: usize, bytes: &[u8]) -> Result<MemDisk, AllocError> {
-    let mut file = one_package(alloc)?;
+// Writes bytes at a place.
+fn change(file: &mut Vec<u8>, at: usize, bytes: &[u8]) {
     for (k, x) in bytes.iter().enumerate() {
         let place = at.saturating_add(k);
         if place < file.len() {
             file[place] = *x;
         }
     }
+}
+
+// A store of one page with the header as number 1 in slot 2, and then two changes of its bytes.
+fn one_package(
+    alloc: Global,
+    first: (usize, &[u8]),
+    second: (usize, &[u8]),
+) -> Result<MemDisk, AllocError> {
+    let mut file = Vec::new(alloc);
+    add_pages(&mut file, 1, 2)?;
+    add_blob(&mut file, 1)?;
+    change(&mut file, 36, &[1, 0, 0, 0, 0, 1, 0, 0, 7]);
+    change(&mut file, first.0, first.1);
+    change(&mut file, second.0, second.1);
     MemDisk::new(alloc, &file, &[], &[])
 }
 
-fn damage_with(alloc: Global, at: usize, bytes: &[u8]) -> Result<Option<Damage>, AllocError> {
-    let mut disk = changed(alloc, at, bytes)?;
+const NOTHING: (usize, &[u8]) = (0, &[]);
+
+fn damage_after(
+    alloc: Global,
+    first: (usize, &[u8]),
+    second: (usize, &[u8]),
+) -> Result<Option<Damage>, AllocError> {
+    let mut disk = one_package(alloc, first, second)?;
     match PkgDb::open(alloc, &mut disk) {
+        Ok(_) => Ok(None),
         Err(OpenFault::Damaged(damage)) => Ok(Some(damage)),
-        _ => Ok(None),
+        Err(_) => Err(AllocError),
     }
 }
 
 #[test]
-fn names_each_damage(rt: HostRuntime) -> Result<(), Fail> {
+fn each_damage_is_named(rt: HostRuntime) -> Result<(), Fail> {
     let alloc = rt.alloc();
+    let same_number = [
+        6, 0, 0, 0, 0x53, 0x6c, 0x6f, 0x74, 1, 0, 0, 0, 6, 1, 0, 0, 1,
+    ];
     for (at, bytes, reason, offset) in [
-        (0, [0x51, 0x70, 0x6d, 0x50].as_slice(), Reason::BadMagic, 0),
-        (4, [1, 0, 0, 0].as_slice(), Reason::BadVersion, 4),
-        (12, [2, 0, 0, 0].as_slice(), Reason::BadPages, 12),
-        (32, [0, 0, 0, 0].as_slice(), Reason::BadSlot, 32),
-        (36, [0, 0, 0, 0].as_slice(), Reason::BadNumber, 36),
-        (44, [8, 0, 0, 0].as_slice(), Reason::BadRange, 40),
+        (0, [0x51].as_slice(), Reason::BadMagic, 0),
+        (4, [1].as_slice(), Reason::BadVersion, 4),
+        (12, [0].as_slice(), Reason::BadPages, 12),
+        (12, [2].as_slice(), Reason::BadPages, 12),
+        (4080, [0x52].as_slice(), Reason::BadSlot, 4080),
+        (36, [0].as_slice(), Reason::BadNumber, 36),
+        (36, [0xff; 4].as_slice(), Reason::BadNumber, 36),
+        (40, [0xff, 0, 0, 0, 1].as_slice(), Reason::BadRange, 40),
+        (44, [0].as_slice(), Reason::BadRange, 40),
+        (44, [8].as_slice(), Reason::BadRange, 40),
+        // the first six blocks for slot 2, and the last for slot 3
+        (44, same_number.as_slice(), Reason::SameNumber, 52),
         (
             52,
-            [1, 0, 0, 0, 0, 1, 0, 0, 7, 0, 0, 0].as_slice(),
-            Reason::SameNumber,
-            52,
-        ),
-        (
-            52,
-            [2, 0, 0, 0, 6, 1, 0, 0, 1, 0, 0, 0].as_slice(),
+            [2, 0, 0, 0, 6, 1, 0, 0, 1].as_slice(),
             Reason::Overlap,
             56,
         ),
     ] {
-        let damage = damage_with(alloc, at, bytes)?;
-        assert!(rt; damage == Some(Damage { reason, offset }));
+        let damage = damage_after(alloc, (at, bytes), NOTHING)?;
+        assert!(rt; damage == Some(Damage { reason, offset }), "{at}");
     }
     Ok(())
 }
 
 #[test]
-fn reads_a_blob(rt: HostRuntime) -> Result<(), Fail> {
+fn the_first_of_two_damages_is_named(rt: HostRuntime) -> Result<(), Fail> {
     let alloc = rt.alloc();
-    let mut disk = changed(alloc, 0, &[])?;
-    let db = match PkgDb::open(alloc, &mut disk) {
-        Ok(db) => db,
-        Err(_) => return Err("open")?,
+    let zero: &[u8] = &[0];
+    let nine: &[u8] = &[9];
+    // slots with the number, the first block and the block count of slot 2; and with its last block alone
+    let same: &[u8] = &[1, 0, 0, 0, 0, 1, 0, 0, 7];
+    let last: &[u8] = &[2, 0, 0, 0, 6, 1, 0, 0, 1];
+    let no_number: &[u8] = &[0, 0, 0, 0, 6, 1, 0, 0, 1];
+    for (first, second, reason, offset) in [
+        // unit 0, then the slots
+        ((0, zero), (4, nine), Reason::BadMagic, 0),
+        ((4, nine), (12, nine), Reason::BadVersion, 4),
+        ((12, nine), (32, zero), Reason::BadPages, 12),
+        // one slot
+        ((32, zero), (36, zero), Reason::BadSlot, 32),
+        ((36, zero), (44, zero), Reason::BadNumber, 36),
+        ((52, same), (60, zero), Reason::BadRange, 56),
+        ((52, same), NOTHING, Reason::SameNumber, 52),
+        // a slot, then a later one
+        ((52, last), (100, no_number), Reason::Overlap, 56),
+        ((80, zero), (100, no_number), Reason::BadSlot, 80),
+    ] {
+        let damage = damage_after(alloc, first, second)?;
+        assert!(rt; damage == Some(Damage { reason, offset }), "{offset}");
+    }
+    // Blocks that touch are no overlap.
+    assert!(rt; damage_after(alloc, (44, &[6]), (52, last))?.is_none());
+    Ok(())
+}
+
+#[test]
+fn a_package_is_read(rt: HostRuntime) -> Result<(), Fail> {
+    let alloc = rt.alloc();
+    let mut disk = one_package(alloc, NOTHING, NOTHING)?;
+    let Ok(db) = PkgDb::open(alloc, &mut disk) else {
+        return Err("open")?;
     };
     assert_eq!(rt; disk.bytes_read(File::Pkg), 4096);
-    assert!(rt; !db.is_blank());
-    assert!(rt; db.generation() == 2 && db.pages() == 1 && db.next_number() == 2);
-    assert!(rt; db.holds(1) && !db.holds(2));
-    assert!(rt; db.next_above(0) == Some(1) && db.next_above(1).is_none());
-    let blob = match db.get(alloc, &mut disk, 1) {
-        Ok(blob) => blob,
-        Err(_) => return Err("get")?,
+    assert!(rt; !db.is_blank() && db.generation() == 2 && db.pages() == 1);
+    assert!(rt; db.holds(1) && !db.holds(2) && db.next_number() == 2);
+    let Ok(blob) = db.get(alloc, &mut disk, 1) else {
+        return Err("get")?;
     };
-    assert_eq!(rt; blob.as_slice(), F1.as_slice());
+    assert_eq!(rt; blob.as_slice(), HEADER.as_slice());
     assert_eq!(rt; disk.bytes_read(File::Pkg), 4096 + 112);
     assert!(rt;
         db.checksum_holds(alloc, &mut disk, 1)
             .is_ok_and(|holds| holds)
     );
-    assert!(rt;
-        db.get(alloc, &mut disk, 2)
-            .is_err_and(|fault| fault == GetFault::NoSuch)
-    );
+    let absent = db.get(alloc, &mut disk, 2);
+    assert!(rt; absent.is_err_and(|fault| fault == GetFault::NoSuch));
+    assert_eq!(rt; disk.bytes_read(File::Pkg), 4096 + 224);
     Ok(())
 }
 
-// What the store with other bytes at a place gives for number 1.
-fn blob_with(alloc: Global, at: usize, bytes: &[u8]) -> Result<Option<(bool, bool)>, AllocError> {
-    let mut disk = changed(alloc, at, bytes)?;
+// Whether the blob of number 1 is broken, and whether its checksum holds, after a change.
+fn blob_after(alloc: Global, at: usize) -> Result<Option<(bool, bool)>, AllocError> {
+    let mut disk = one_package(alloc, (at, &[0x7f]), NOTHING)?;
     let Ok(db) = PkgDb::open(alloc, &mut disk) else {
         return Ok(None);
     };
-    let is_bad = db
-        .get(alloc, &mut disk, 1)
-        .is_err_and(|fault| fault == GetFault::Bad);
-    let holds = db
-        .checksum_holds(alloc, &mut disk, 1)
-        .is_ok_and(|holds| holds);
-    Ok(Some((is_bad, holds)))
+    let blob = db.get(alloc, &mut disk, 1);
+    let holds = db.checksum_holds(alloc, &mut disk, 1);
+    Ok(Some((
+        blob.is_err_and(|fault| fault == GetFault::Bad),
+        holds.is_ok_and(|holds| holds),
+    )))
 }
 
 #[test]
-fn tells_broken_blobs(rt: HostRuntime) -> Result<(), Fail> {
+fn broken_blobs_are_told(rt: HostRuntime) -> Result<(), Fail> {
     let alloc = rt.alloc();
-    // a byte of the head's magic, of its number, of its length, of the bytes, of the tail's length and of its magic
     for (at, is_bad, holds) in [
+        // the head: magic, number, generation, length
         (4096, true, false),
         (4100, true, false),
+        (4104, false, false),
         (4108, true, false),
+        // the bytes and the zeros behind them
         (4112, false, false),
+        (4195, false, false),
+        // the tail: checksum, length, magic
+        (4196, false, false),
         (4200, true, false),
         (4207, true, false),
-        (5000, false, true),
     ] {
-        assert!(rt; blob_with(alloc, at, &[0xff])? == Some((is_bad, holds)));
+        assert!(rt; blob_after(alloc, at)? == Some((is_bad, holds)), "{at}");
     }
+    Ok(())
+}
+
+#[test]
+fn numbers_are_walked_by_rising_number(rt: HostRuntime) -> Result<(), Fail> {
+    let alloc = rt.alloc();
+    let mut file = Vec::new(alloc);
+    add_pages(&mut file, 1, 2)?;
+    change(&mut file, 36, &[3, 0, 0, 0, 0, 1, 0, 0, 7]);
+    change(&mut file, 52, &[1, 0, 0, 0, 7, 1, 0, 0, 7]);
+    change(&mut file, 68, &[2, 0, 0, 0, 14, 1, 0, 0, 7]);
+    for number in [3, 1, 2] {
+        add_blob(&mut file, number)?;
+    }
+    let mut disk = MemDisk::new(alloc, &file, &[], &[])?;
+    let Ok(db) = PkgDb::open(alloc, &mut disk) else {
+        return Err("open")?;
+    };
+    // the field in unit 1 fell behind
+    assert_eq!(rt; db.next_number(), 4);
+    for (n, next) in [(0, Some(1)), (1, Some(2)), (2, Some(3)), (3, None)] {
+        assert!(rt; db.next_above(n) == next, "{n}");
+    }
+    assert!(rt; db.get(alloc, &mut disk, 3).is_ok());
+    Ok(())
+}
+
+#[test]
+fn a_second_page_is_read(rt: HostRuntime) -> Result<(), Fail> {
+    let alloc = rt.alloc();
+    let mut file = Vec::new(alloc);
+    add_pages(&mut file, 2, 9)?;
+    // slots 255 and 256, on both sides of the boundary
+    change(&mut file, 4084, &[7, 0, 0, 0, 0, 2, 0, 0, 7]);
+    change(&mut file, 4100, &[8, 0, 0, 0, 7, 2, 0, 0, 7]);
+    add_blob(&mut file, 7)?;
+    add_blob(&mut file, 8)?;
+    let mut disk = MemDisk::new(alloc, &file, &[], &[])?;
+    let Ok(db) = PkgDb::open(alloc, &mut disk) else {
+        return Err("open")?;
+    };
+    assert_eq!(rt; disk.bytes_read(File::Pkg), 8192);
+    assert!(rt; db.pages() == 2 && db.holds(7) && db.holds(8) && db.next_number() == 9);
+    assert!(rt; db.get(alloc, &mut disk, 8).is_ok());
     Ok(())
 }
 
@@ -164,15 +263,30 @@ fn a_blank_file_is_an_empty_store(rt: HostRuntime) -> Result<(), Fail> {
     Ok(())
 }
 
+// Whether opening, the blob or the checksum is a disk fault where this call of the disk fails.
+fn faults_at(alloc: Global, call: u64) -> Result<(bool, bool, bool), AllocError> {
+    let mut disk = one_package(alloc, NOTHING, NOTHING)?;
+    disk.fail_call(call)?;
+    let db = match PkgDb::open(alloc, &mut disk) {
+        Ok(db) => db,
+        Err(fault) => return Ok((fault == OpenFault::DiskFault, false, false)),
+    };
+    let blob = db.get(alloc, &mut disk, 1);
+    let holds = db.checksum_holds(alloc, &mut disk, 1);
+    Ok((
+        false,
+        blob.is_err_and(|fault| fault == GetFault::DiskFault),
+        holds.is_err_and(|fault| fault == GetFault::DiskFault),
+    ))
+}
+
 #[test]
-fn a_failed_read_is_a_disk_fault(rt: HostRuntime) -> Result<(), Fail> {
+fn a_failed_call_is_a_disk_fault(rt: HostRuntime) -> Result<(), Fail> {
     let alloc = rt.alloc();
-    for call in 1..5 {
-        let mut disk = changed(alloc, 0, &[])?;
-        disk.fail_call(call)?;
-        assert!(rt;
-            PkgDb::open(alloc, &mut disk).is_err_and(|fault| fault == OpenFault::DiskFault)
-        );
+    // the length, units 0 and 1, the slots; a blob's head and the rest of it, twice
+    for call in 1..9 {
+        let want = (call <= 4, call == 5 || call == 6, call >= 7);
+        assert!(rt; faults_at(alloc, call)? == want, "{call}");
     }
     Ok(())
 }

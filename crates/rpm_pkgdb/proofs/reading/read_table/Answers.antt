@@ -2,9 +2,11 @@ use Rattle.std.proofs.Common.{◌≡◌, ◌≤◌, ◌+◌, ◌-◌, ◌*◌, �
 use Rattle.std.proofs.lemmas.List.{length-take}
 use Rattle.rpm_outside.specs.Files.{Files, Units}
 use Rattle.rpm_outside.specs.Looks.{looks_none, looks_then}
-use Rattle.rpm_pkgdb.specs.Table.{slots_in, table, Says}
-use Rattle.rpm_pkgdb.specs.Runs.{run, table_is_run}
 use Rattle.rpm_pkgdb.proofs.Steps.{slots_in-none, slots_part, sound_part, says_part}
+use Rattle.rpm_pkgdb.specs.Slots.{slots_in}
+use Rattle.rpm_pkgdb.specs.Damages.{table}
+use Rattle.rpm_pkgdb.specs.Store.{Says}
+use Rattle.rpm_pkgdb.specs.Runs.{run, table_is_run}
 use Rattle.rpm_pkgdb.proofs.reading.read_table.Goals as goal
 
 pub loop-at-init : goal.loop-at-init
@@ -54,14 +56,14 @@ loop-at-preserved g c =
       count = omega (arith, c.in_default.ensures.count, l.invariant.count);
       slots = λ told.
           let same = (l.invariant.looks.untouched told).same in
-          let part = subst (λ (f : Files). c.read_part.new.opening.slots.items ≡ l.opening.slots.items ++ slots_in (take n (drop l.at f.pkg))) same (c.in_default.ensures.slots told) in
-          slots_part c.args.pages c.args.units file (l.at - 2) n l.at (l.at + count - 2) l.opening.slots.items (omega arith) next (l.invariant.slots told) c.read_part.new.opening.slots.items part;
+          let part = subst (λ (f : Files). c.read_slots.new.opening.slots.items ≡ l.opening.slots.items ++ slots_in (take n (drop l.at f.pkg))) same (c.in_default.ensures.slots told) in
+          slots_part c.args.pages c.args.units file (l.at - 2) n l.at (l.at + count - 2) l.opening.slots.items (omega arith) next (l.invariant.slots told) c.read_slots.new.opening.slots.items part;
       sound = λ told.
           let same = (l.invariant.looks.untouched told).same in
           let part = subst (λ (f : Files). run c.args.pages c.args.units l.opening.slots.items (take n (drop l.at f.pkg)) ≡ None) same (c.in_default.ensures.sound told) in
           sound_part c.args.pages c.args.units file (l.at - 2) n l.at (l.at + count - 2) l.opening.slots.items (omega arith) next (l.invariant.slots told) (l.invariant.sound told) part;
-      looks = looks_then _ _ _ _ _ _ g.met.D.Disk.follows_trans (16 * (l.at - 2)) (length (take (16 * count) l.page)) _ c.args.disk.now l.disk c.read_part.new.disk (omega (arith, length-take (16 * count) l.page)) l.invariant.looks c.read_part.ensures.looks;
-      faults = omega (arith, l.invariant.faults, c.read_part.ensures.cause.later);
+      looks = looks_then _ _ _ _ _ _ g.met.D.Disk.follows_trans (16 * (l.at - 2)) (length (take (16 * count) l.page)) _ c.args.disk.now l.disk c.read_slots.new.disk (omega (arith, length-take (16 * count) l.page)) l.invariant.looks c.read_slots.ensures.looks;
+      faults = omega (arith, l.invariant.faults, c.read_slots.ensures.cause.later);
     }
 
 pub returns-clause-slots : goal.returns-clause-slots

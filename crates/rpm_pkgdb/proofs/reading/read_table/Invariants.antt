@@ -1,7 +1,7 @@
 use Rattle.std.proofs.Common.{◌≡◌, ◌≤◌, ◌+◌, ◌-◌, ◌*◌, [], length, take, drop, None, IsTrue}
 use Rattle.rpm_outside.specs.Looks.{Looks}
 use Rattle.rpm_pkgdb.specs.Maps.{IsKnown}
-use Rattle.rpm_pkgdb.specs.Table.{slots_in}
+use Rattle.rpm_pkgdb.specs.Slots.{slots_in}
 use Rattle.rpm_pkgdb.specs.Runs.{run}
 use Rattle.rpm_pkgdb.proofs.reading.read_table.Given as goal
 

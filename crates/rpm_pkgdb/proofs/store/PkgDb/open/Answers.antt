@@ -3,10 +3,10 @@ use Rattle.rpm_outside.specs.declared.disk.File.TheVariants.{Pkg, Idx, Log}
 use Rattle.rpm_outside.specs.Files.{Files, unit_at}
 use Rattle.rpm_outside.specs.Looks.{Looks, looks_then}
 use Rattle.rpm_pkgdb.specs.declared.slot.Damage.{Damage}
-use Rattle.rpm_pkgdb.specs.Words.{word}
-use Rattle.rpm_pkgdb.specs.Table.{Store, store, OpenIs, store_of}
 use Rattle.rpm_pkgdb.proofs.Kept.{lawful}
-use Rattle.rpm_pkgdb.proofs.Opens.{store_empty, store_blank, store_damaged, store_made, ok_keeps}
+use Rattle.rpm_pkgdb.proofs.Opens.{store_empty, store_blank, store_damaged, store_made, ok_keeps, opening_cost_least, opening_cost_made}
+use Rattle.rpm_pkgdb.specs.Words.{word}
+use Rattle.rpm_pkgdb.specs.Store.{Store, store, OpenIs, store_of}
 use Rattle.rpm_pkgdb.proofs.store.PkgDb.open.Goals as goal
 
 pub returns-then-units-eq0-clause-store : goal.returns-then-units-eq0-clause-store
@@ -61,3 +61,15 @@ pub returns-clause-kept : goal.returns-clause-kept
 returns-clause-kept g c = ok_keeps (IsTrue g.D.Disk.tells) _ c.read_made.result (λ told.
     let same = ((returns-clause-looks g c).untouched told).same in
     subst (λ (f : Files). OpenIs (store f.pkg) c.read_made.result) (sym same) (returns-clause-store g c told))
+
+pub returns-in_default-read_unit-clause-reads : goal.returns-in_default-read_unit-clause-reads
+returns-in_default-read_unit-clause-reads g c = λ told.
+    omega (arith, c.in-Ok.ensures.reads Pkg, c.read_unit.ensures.looks.no_more, opening_cost_least (g.D.Disk.files c.args.disk.now).pkg)
+
+pub returns-clause-reads : goal.returns-clause-reads
+returns-clause-reads g c = λ told.
+    let file = (g.D.Disk.files c.args.disk.now).pkg in
+    let head : c.in-Ok-read_unit.head ≡ unit_at file 0 = c.in-Ok-read_unit.ensures.unit told ∙ ap (λ (f : Files). unit_at f.pkg 0) (c.in-Ok.ensures.untouched told).same in
+    let cost = opening_cost_made file c.in-Ok.units c.in-Ok-read_unit.head (c.in-Ok.ensures.length told) head (sym c.if-is_zeros.ensures) (sym c.in_default-head_reason.ensures) in
+    let l = lawful c.in-Ok.units c.in-Ok-read_unit.head (sym c.in_default-head_reason.ensures) in
+    omega (arith, l.some, c.in-Ok.ensures.reads Pkg, c.read_unit.ensures.looks.no_more, c.read_made.ensures.looks.no_more)

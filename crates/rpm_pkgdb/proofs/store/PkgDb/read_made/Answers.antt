@@ -36,8 +36,8 @@ returns-in-Err-clause-looks g c =
     let l = lawful c.args.units c.args.head.now c.requires.lawful in
     looks_then _ _ _ _ _ _ g.met.D.Disk.follows_trans 16 (16 * (256 * c.word-pages.result - 2)) _ _ c.read_unit.new.disk _ (omega (arith, l.some, c.word-pages.ensures)) c.read_unit.ensures.looks c.read_table.ensures.looks
 
-pub returns-in_default-of-clause-looks : goal.returns-in_default-of-clause-looks
-returns-in_default-of-clause-looks g c =
+pub returns-in_default-from_map-clause-looks : goal.returns-in_default-from_map-clause-looks
+returns-in_default-from_map-clause-looks g c =
     let l = lawful c.args.units c.args.head.now c.requires.lawful in
     looks_then _ _ _ _ _ _ g.met.D.Disk.follows_trans 16 (16 * (256 * c.word-pages.result - 2)) _ _ c.read_unit.new.disk _ (omega (arith, l.some, c.word-pages.ensures)) c.read_unit.ensures.looks c.read_table.ensures.looks
 
@@ -49,7 +49,7 @@ returns-clause-looks g c =
 pub invariant_of-result : goal.invariant_of-result
 invariant_of-result g c =
     let known = c.in-Ok-read_table.ensures.known in
-    let same = c.in-Ok-of.ensures in
+    let same = c.in-Ok-from_map.ensures in
     record {
       places = record {
         each = λ k below used. same _ ∙ known.places.each k below used;

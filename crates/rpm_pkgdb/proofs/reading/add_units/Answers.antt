@@ -3,16 +3,16 @@ use Rattle.std.proofs.lemmas.List.{append-nil, take_all, length-take}
 use Rattle.rpm_outside.specs.Files.{units_of}
 use Rattle.rpm_outside.specs.Cuts.{length-cut_up}
 use Rattle.rpm_pkgdb.specs.declared.slot.Slot.{Slot}
-use Rattle.rpm_pkgdb.specs.Table.{slots_in}
-use Rattle.rpm_pkgdb.specs.Runs.{run}
 use Rattle.rpm_pkgdb.proofs.Steps.{length-slots_in, slots_in-none, slots_more, sound_more, says_more}
-use Rattle.rpm_pkgdb.proofs.reading.take_units.Goals as goal
+use Rattle.rpm_pkgdb.specs.Slots.{slots_in}
+use Rattle.rpm_pkgdb.specs.Runs.{run}
+use Rattle.rpm_pkgdb.proofs.reading.add_units.Goals as goal
 
 pub loop-k-init : goal.loop-k-init
 loop-k-init c = record { known = c.requires.known; slots = sym (ap (λ (ss : List Slot). c.args.opening.now.slots.items ++ ss) slots_in-none ∙ append-nil c.args.opening.now.slots.items); sound = refl }
 
-pub take-requires-clause-room : goal.take-requires-clause-room
-take-requires-clause-room c =
+pub add-requires-clause-room : goal.add-requires-clause-room
+add-requires-clause-room c =
     let us = units_of c.args.bytes.now in
     let k = c.loop-k.k in
     let n : length us ≡ length c.args.bytes.now / 16 = length-cut_up (length c.args.bytes.now / 16) c.args.bytes.now in
@@ -33,7 +33,7 @@ loop-k-preserved c =
     let below : c.loop-k.k < length us = omega (arith, length-cut_up (length c.args.bytes.now / 16) c.args.bytes.now) in
     record {
       known = c.in_default.ensures.known;
-      slots = slots_more c.args.pages c.args.units c.args.opening.now.slots.items c.loop-k.opening.slots.items us c.loop-k.k c.unit_in.result.now below c.loop-k.invariant.slots c.unit_in.ensures.unit c.take.new.self.slots.items c.in_default.ensures.slots;
+      slots = slots_more c.args.pages c.args.units c.args.opening.now.slots.items c.loop-k.opening.slots.items us c.loop-k.k c.unit_in.result.now below c.loop-k.invariant.slots c.unit_in.ensures.unit c.add.new.self.slots.items c.in_default.ensures.slots;
       sound = sound_more c.args.pages c.args.units c.args.opening.now.slots.items c.loop-k.opening.slots.items us c.loop-k.k c.unit_in.result.now below c.loop-k.invariant.slots c.unit_in.ensures.unit c.loop-k.invariant.sound c.in_default.ensures.sound;
     }
 

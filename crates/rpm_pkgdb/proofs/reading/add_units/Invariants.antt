@@ -1,9 +1,9 @@
 use Rattle.std.proofs.Common.{◌≡◌, ◌++◌, take, None}
 use Rattle.rpm_outside.specs.Files.{units_of}
 use Rattle.rpm_pkgdb.specs.Maps.{IsKnown}
-use Rattle.rpm_pkgdb.specs.Table.{slots_in}
+use Rattle.rpm_pkgdb.specs.Slots.{slots_in}
 use Rattle.rpm_pkgdb.specs.Runs.{run}
-use Rattle.rpm_pkgdb.proofs.reading.take_units.Given as goal
+use Rattle.rpm_pkgdb.proofs.reading.add_units.Given as goal
 
 abbrev pub invariant-loop-k : goal.invariant-loop-k
 invariant-loop-k l = record {

@@ -1,0 +1,37 @@
+-- What the reading calls answer.
+use Rattle.std.specs.Prelude.{◌≡◌, ℕ, List, Option, Some, None, Result, Ok, Err, Vec}
+use Rattle.std.specs.declared.alloc.Global.{Global}
+use Rattle.rpm_pkgdb.specs.declared.blob.Blocks.{Blocks}
+use Rattle.rpm_pkgdb.specs.declared.blob.GetFault.{GetFault}
+use Rattle.rpm_pkgdb.specs.declared.blob.GetFault.TheVariants.{NoSuch, Bad, DiskFault, NoMemory}
+use Rattle.rpm_pkgdb.specs.Blobs.{Frame}
+
+-- an answer shows what is said of a number: None is no such number, and Some None a broken framing
+abbrev pub AnswerIs : {X Y : Type 0} → (Y → X) → Option (Option X) → Result Y GetFault → Type 0
+AnswerIs shows said (Ok y) = said ≡ Some (Some (shows y))
+AnswerIs shows said (Err NoSuch) = said ≡ None
+AnswerIs shows said (Err Bad) = said ≡ Some None
+AnswerIs shows said (Err DiskFault) = Unit {0}
+AnswerIs shows said (Err NoMemory) = Unit {0}
+
+-- the bytes that a call gave
+abbrev pub given : Vec ℕ Global → List ℕ
+given v = v.items
+
+abbrev pub frame_in : Blocks → Frame
+frame_in b = record { head = b.head; rest = b.rest.items }
+
+-- the blocks that were read are this frame
+abbrev pub IsFrame : Option Frame → Result Blocks GetFault → Type 0
+IsFrame said (Ok b) = said ≡ Some (frame_in b)
+IsFrame said (Err NoSuch) = ⊥
+IsFrame said (Err Bad) = said ≡ None
+IsFrame said (Err DiskFault) = Unit {0}
+IsFrame said (Err NoMemory) = Unit {0}
+
+-- the fault doesn't lie in the file
+abbrev pub IsOutside : GetFault → Type 0
+IsOutside NoSuch = ⊥
+IsOutside Bad = ⊥
+IsOutside DiskFault = Unit {0}
+IsOutside NoMemory = Unit {0}

@@ -1,0 +1,32 @@
+-- Adler-32, as RFC 1950 tells it: two sums modulo 65521.
+use Rattle.std.specs.Prelude.{ℕ, ◌+◌, ◌-◌, ◌*◌, ◌%◌, List, [], ◌∷◌, ◌++◌, length, take, map, Bool, ◌==◌, Option, sum}
+use Rattle.std.specs.List.{range_with_len}
+use Rattle.std.specs.Option.{option_map}
+use Rattle.rpm_outside.specs.Files.{Units}
+use Rattle.rpm_pkgdb.specs.Words.{word}
+use Rattle.rpm_pkgdb.specs.Store.{Store}
+use Rattle.rpm_pkgdb.specs.Blobs.{Frame, tail, frames}
+
+-- one and all bytes
+abbrev pub first_sum : List ℕ → ℕ
+first_sum bytes = 1 + sum bytes
+
+-- the first sums after each byte
+abbrev pub second_sum : List ℕ → ℕ
+second_sum bytes = sum (map (λ k. first_sum (take k bytes)) (range_with_len 1 (length bytes)))
+
+unfoldable pub adler : List ℕ → ℕ
+adler bytes = second_sum bytes % 65521 * 65536 + first_sum bytes % 65521
+
+-- the stored checksum is that of head, bytes and padding
+unfoldable pub checksum_holds : Frame → Bool
+checksum_holds f = word 0 (tail f.rest) == adler (f.head ++ take (length f.rest - 12) f.rest)
+
+-- for a number that no slot has None, and Some None where its framing is broken
+abbrev pub checksums_hold : Units → Store → ℕ → Option (Option Bool)
+checksums_hold file store n = option_map (option_map checksum_holds) (frames file store n)
+
+-- both sums carried on by some bytes
+unfoldable pub sums : ℕ → ℕ → List ℕ → ℕ × ℕ
+sums a b [] = (a, b)
+sums a b (x ∷ xs) = sums ((a + x) % 65521) ((b + (a + x) % 65521) % 65521) xs

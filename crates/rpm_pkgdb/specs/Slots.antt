@@ -1,0 +1,44 @@
+-- The slots of a store.
+use Rattle.std.specs.Prelude.{ℕ, ◌+◌, List, [], ◌∷◌, map, Bool, not, ◌&&◌, ◌==◌, nat_lt, if◌then◌else◌, Option, max, slice_index_or}
+use Rattle.std.specs.List.{find}
+use Rattle.rpm_outside.specs.Files.{Units}
+use Rattle.rpm_pkgdb.specs.declared.slot.Slot.{Slot}
+use Rattle.rpm_pkgdb.specs.Words.{word}
+
+-- the slot in a unit, behind its magic
+abbrev pub slot_of : List ℕ → Slot
+slot_of unit = record { number = word 1 unit; offset = word 2 unit; count = word 3 unit }
+
+unfoldable pub slots_in : Units → List Slot
+slots_in units = map slot_of units
+
+-- a slot whose block offset is 0 is free
+abbrev pub is_used : Slot → Bool
+is_used s = not (s.offset == 0)
+
+abbrev pub free : Slot
+free = record { number = 0; offset = 0; count = 0 }
+
+-- the slot at a place, and a free one past the end
+abbrev pub slot_at : List Slot → ℕ → Slot
+slot_at slots k = slice_index_or slots k free
+
+-- the first block behind a slot's blocks
+abbrev pub end_of : Slot → ℕ
+end_of s = s.offset + s.count
+
+-- the blocks of t, which is used, meet those of s
+abbrev pub meets : Slot → Slot → Bool
+meets s t = is_used t && (nat_lt s.offset (end_of t) && nat_lt t.offset (end_of s))
+
+abbrev pub has_number : ℕ → Slot → Bool
+has_number n s = is_used s && (s.number == n)
+
+-- the slot of a number
+abbrev pub slot_with : ℕ → List Slot → Option Slot
+slot_with n slots = find (has_number n) slots
+
+-- the greatest number of a used slot, and 0 where none is used
+abbrev pub greatest_number : List Slot → ℕ
+greatest_number [] = 0
+greatest_number (s ∷ ss) = max (if is_used s then s.number else 0) (greatest_number ss)

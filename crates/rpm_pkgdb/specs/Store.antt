@@ -1,0 +1,75 @@
+-- What Packages.db says: its slots, or its first damage.
+use Rattle.std.specs.Prelude.{◌≡◌, ℕ, ◌+◌, List, [], length, Bool, not, if◌then◌else◌, Option, Some, None, Result, Ok, Err, max}
+use Rattle.std.specs.List.{list_any}
+use Rattle.rpm_outside.specs.Files.{Units, unit_at}
+use Rattle.rpm_pkgdb.specs.declared.slot.Slot.{Slot}
+use Rattle.rpm_pkgdb.specs.declared.slot.Damage.{Damage}
+use Rattle.rpm_pkgdb.specs.declared.slot.Reason.{Reason}
+use Rattle.rpm_pkgdb.specs.declared.slot.OpenFault.{OpenFault}
+use Rattle.rpm_pkgdb.specs.declared.slot.OpenFault.TheVariants.{Damaged, DiskFault, NoMemory}
+use Rattle.rpm_pkgdb.specs.Words.{word, is_nonzero}
+use Rattle.rpm_pkgdb.specs.Slots.{slots_in, greatest_number}
+use Rattle.rpm_pkgdb.specs.Damages.{damage_at, head_reason, table, table_fault}
+
+-- A blank file is the store of no pages, whose next number is 1.
+pub record Store : Type 0 where
+  pub generation : ℕ
+  pub pages : ℕ
+  pub field : ℕ
+  pub slots : List Slot
+
+-- the greater of the field and one above the greatest number
+abbrev pub next_number : Store → ℕ
+next_number store = max store.field (greatest_number store.slots + 1)
+
+abbrev pub blank_store : Store
+blank_store = record { generation = 0; pages = 0; field = 1; slots = [] }
+
+-- There are no units, or unit 0 is all zeros: a unit past the end counts as zeros.
+abbrev pub is_blank : Units → Bool
+is_blank file = not (list_any is_nonzero (unit_at file 0))
+
+-- the store of so many pages
+abbrev pub made_store : ℕ → Units → Store
+made_store pages file = record { generation = word 2 (unit_at file 0); pages = pages; field = word 0 (unit_at file 1); slots = slots_in (table pages file) }
+
+abbrev pub unless : {X E : Type 0} → Option E → X → Result X E
+unless None x = Ok x
+unless (Some e) x = Err e
+
+abbrev pub store_of : ℕ → Units → Result Store Damage
+store_of pages file = unless (table_fault pages (length file) (table pages file)) (made_store pages file)
+
+abbrev pub made_or_damaged : Option Reason → Units → Result Store Damage
+made_or_damaged (Some reason) file = Err (damage_at 0 reason)
+made_or_damaged None file = store_of (word 3 (unit_at file 0)) file
+
+unfoldable pub store : Units → Result Store Damage
+store file =
+    if is_blank file then Ok blank_store
+    else made_or_damaged (head_reason (length file) (unit_at file 0)) file
+
+-- what a value keeps of a file is what the file says
+abbrev pub Keeps : Units → Store → Type 0
+Keeps file value = store file ≡ Ok value
+
+-- ---- answers
+
+-- what opening answers of this store
+abbrev pub OpenIs : Result Store Damage → Result Store OpenFault → Type 0
+OpenIs said (Ok store) = said ≡ Ok store
+OpenIs said (Err (Damaged d)) = said ≡ Err d
+OpenIs said (Err DiskFault) = Unit {0}
+OpenIs said (Err NoMemory) = Unit {0}
+
+-- a fault of opening names the damage, where it names one
+abbrev pub Says : OpenFault → Option Damage → Type 0
+Says (Damaged d) fault = fault ≡ Some d
+Says DiskFault fault = Unit {0}
+Says NoMemory fault = Unit {0}
+
+-- the same of a call that doesn't take the disk
+abbrev pub SaysHere : OpenFault → Option Damage → Type 0
+SaysHere (Damaged d) fault = fault ≡ Some d
+SaysHere DiskFault fault = ⊥
+SaysHere NoMemory fault = Unit {0}
