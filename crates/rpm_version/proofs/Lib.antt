@@ -1,4 +1,6 @@
 pub mod Cuts
-pub mod Numbers
+pub mod Dashes
+pub mod EvrLaws
 pub mod Laws
+pub mod Numbers
 pub mod Steps
