@@ -3,4 +3,5 @@ pub mod Dashes
 pub mod EvrLaws
 pub mod Laws
 pub mod Numbers
+pub mod RangeLaws
 pub mod Steps
