@@ -1,4 +1,7 @@
 pub mod Cuts
-pub mod Numbers
+pub mod Dashes
+pub mod EvrLaws
 pub mod Laws
+pub mod Numbers
+pub mod RangeLaws
 pub mod Steps

@@ -1,11 +1,11 @@
 -- Texts of an epoch, a version and a release.
-use Rattle.std.specs.Prelude.{ℕ, ◌+◌, List, [], ◌∷◌, Option, Some, None, Bool, ◌==◌, if◌then◌else◌, drop, slice_index, unwrap_or}
+use Rattle.std.specs.Prelude.{◌≡◌, ◌≢◌, ℕ, ◌+◌, ◌<◌, length, List, [], ◌∷◌, Option, Some, None, Bool, ◌==◌, if◌then◌else◌, drop, slice_index, unwrap_or}
 use Rattle.std.specs.Char.{is_ascii_digit}
 use Rattle.std.specs.List.{prefix_len, take_while, list_any, before_last, after_last}
 use Rattle.std.specs.declared.cmp.Ordering.{Ordering}
 use Rattle.std.specs.declared.cmp.Ordering.TheVariants.{Equal}
 use Rattle.std.specs.Ordering.{nat_cmp, ordering_then}
-use Rattle.std.specs.Str.Parse.{digits_value}
+use Rattle.std.specs.Str.Parse.{AllDigits, digits_value}
 use Rattle.rpm_version.specs.Order.{version_order}
 
 pub record EvrParts : Type 0 where
@@ -27,6 +27,12 @@ behind_epoch text =
 abbrev pub is_dash : ℕ → Bool
 is_dash b = b == 45
 
+-- the place of a dash with none behind it
+pub record IsLastDash (i : ℕ) (text : List ℕ) : Type 0 where
+  pub within : i < length text
+  pub dash : slice_index text i ≡ 45
+  pub last : (k : ℕ) → i < k → k < length text → slice_index text k ≢ 45
+
 -- what stands before the last dash
 unfoldable pub version_of : List ℕ → List ℕ
 version_of text = if list_any is_dash text then before_last is_dash text else text
@@ -46,6 +52,10 @@ evr text = record {
   version = version_of (behind_epoch text);
   release = release_of (behind_epoch text);
 }
+
+-- an epoch has nothing but digits
+abbrev pub HasDigits : Option (List ℕ) → Type 0
+HasDigits epoch = AllDigits 10 (unwrap_or epoch [])
 
 -- the number of an epoch: 0 where it is missing or empty
 abbrev pub epoch_number : Option (List ℕ) → ℕ

@@ -1,5 +1,5 @@
 -- Ranges of versions: the bits of a sense, and the version that they stand beside.
-use Rattle.std.specs.Prelude.{ℕ, List, [], ◌∷◌, Bool, true, false, not, ◌&&◌, ◌||◌, ◌==◌, if◌then◌else◌, bit_and, is_some, is_none, length}
+use Rattle.std.specs.Prelude.{ℕ, List, [], ◌∷◌, Bool, true, false, not, ◌&&◌, ◌||◌, ◌==◌, if◌then◌else◌, bit_and, length, Option, Some, None}
 use Rattle.std.specs.declared.cmp.Ordering.{Ordering}
 use Rattle.std.specs.declared.cmp.Ordering.TheVariants.{Less, Equal, Greater}
 use Rattle.rpm_version.specs.Evr.{EvrParts, evr, evr_order}
@@ -18,14 +18,22 @@ unfoldable pub is_open : ℕ → List ℕ → Bool
 is_open flags text =
     not (has_less flags || has_greater flags || has_equal flags) || (length text == 0)
 
--- the version of A against that of B: below, equal, or above
+-- both senses reach the same way
+unfoldable pub share_sense : ℕ → ℕ → Bool
+share_sense fa fb =
+    (has_equal fa && has_equal fb) || (has_less fa && has_less fb) || (has_greater fa && has_greater fb)
+
+-- exactly one side has a release, and the other is met by an equal version
+unfoldable pub equal_but_release : ℕ → Option (List ℕ) → ℕ → Option (List ℕ) → Bool
+equal_but_release fa (Some release) fb None = has_equal fb
+equal_but_release fa None fb (Some release) = has_equal fa
+equal_but_release fa a fb b = false
+
+-- by the version of A against that of B: below, above, or equal
 unfoldable pub meets : Ordering → ℕ → EvrParts → ℕ → EvrParts → Bool
 meets Less fa a fb b = has_greater fa || has_less fb
 meets Greater fa a fb b = has_less fa || has_greater fb
-meets Equal fa a fb b =
-    (has_equal fa && has_equal fb) || (has_less fa && has_less fb) || (has_greater fa && has_greater fb)
-    || (is_some a.release && is_none b.release && has_equal fb)
-    || (is_none a.release && is_some b.release && has_equal fa)
+meets Equal fa a fb b = share_sense fa fb || equal_but_release fa a.release fb b.release
 
 -- whether two ranges have a version in common
 unfoldable pub overlaps : ℕ → List ℕ → ℕ → List ℕ → Bool

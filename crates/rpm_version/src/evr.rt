@@ -1,10 +1,17 @@
 //! Texts of an epoch, a version and a release.
 
+ghost use Rattle.std.specs.Prelude.{◌≡◌, ◌≢◌, All, MatchOption, option_copied};
+ghost use Rattle.std.specs.Char.{is_ascii_digit};
+ghost use Rattle.std.specs.Ordering.{ordering_reverse};
+ghost use Rattle.std.specs.Str.Parse.{AllDigits};
+ghost use Rattle.rpm_version.specs.Evr.{EvrParts, evr, evr_order, epoch_of, behind_epoch, version_of, release_of, epoch_number, release_order, HasDigits, IsLastDash, unless_empty};
+
 use crate::order::{compare, compare_numbers};
 use crate::segment::leading_digits;
 use std::cmp::Ordering;
+use std::marker::Model;
 
-/// The parts of a text `epoch:version-release`.
+/// The parts of a text `epoch:version-release`, borrowed from it.
 #[derive(Drop)]
 pub struct Evr<'a> {
     epoch: Option<&'a [u8]>,
@@ -12,7 +19,24 @@ pub struct Evr<'a> {
     release: Option<&'a [u8]>,
 }
 
-fn split_epoch(text: &[u8]) -> (Option<&[u8]>, &[u8]) {
+impl<'a> Model for Evr<'a> {
+    ghost use Rattle.std.specs.Prelude.{option_copied};
+    ghost use Rattle.rpm_version.specs.Evr.{EvrParts, HasDigits};
+
+    ghost Value = { EvrParts };
+
+    ghost view = { λ s. record { epoch = option_copied s.epoch; version = s.version.now; release = option_copied s.release } };
+
+    ghost invariant = { λ s. HasDigits (option_copied s.epoch) };
+}
+
+/// The epoch of a text, and what stands behind it.
+#[tactic(auto, unfolding(crate::specs::Evr::has_epoch, crate::specs::Evr::epoch_of, crate::specs::Evr::behind_epoch))]
+fn split_epoch(text: &[u8]) -> (Option<&[u8]>, &[u8])
+    ensures epoch { option_copied result.0 ≡ epoch_of text.now }
+    ensures behind { result.1.now ≡ behind_epoch text.now }
+    ensures digits { HasDigits (option_copied result.0) }
+{
     let (digits, behind) = leading_digits(text);
     match behind {
         [b':', rest @ ..] => (Some(digits), rest),
@@ -20,25 +44,47 @@ fn split_epoch(text: &[u8]) -> (Option<&[u8]>, &[u8]) {
     }
 }
 
-fn split_release(text: &[u8]) -> (&[u8], Option<&[u8]>) {
-    match text.iter().rposition(|byte| *byte == b'-') {
+/// The place of the last dash.
+fn last_dash(text: &[u8]) -> Option<usize>
+    ensures { MatchOption result (All (λ b. b ≢ 45) text.now) (λ i. IsLastDash i text.now) }
+{
+    text.iter().rposition(|byte| *byte == b'-')
+}
+
+fn unless_empty(text: &[u8]) -> Option<&[u8]>
+    ensures { option_copied result ≡ unless_empty text.now }
+{
+    if text.is_empty() { None } else { Some(text) }
+}
+
+/// The version and the release of a text without an epoch.
+fn split_release(text: &[u8]) -> (&[u8], Option<&[u8]>)
+    ensures version { result.0.now ≡ version_of text.now }
+    ensures release { option_copied result.1 ≡ release_of text.now }
+{
+    match last_dash(text) {
         None => (text, None),
-        Some(dash) => {
-            let release = &text[dash + 1..];
-            (
-                &text[..dash],
-                if release.is_empty() {
-                    None
-                } else {
-                    Some(release)
-                },
-            )
-        }
+        Some(dash) => (&text[..dash], unless_empty(&text[dash + 1..])),
+    }
+}
+
+#[tactic(auto, unfolding(crate::specs::Evr::release_order))]
+/// The order of two releases: `Equal` unless both are there.
+fn compare_releases(a: Option<&[u8]>, b: Option<&[u8]>) -> Ordering
+    ensures { result ≡ release_order (option_copied a.entry) (option_copied b.entry) }
+{
+    match (a, b) {
+        (Some(a), Some(b)) => compare(a, b),
+        _ => Ordering::Equal,
     }
 }
 
 impl<'a> Evr<'a> {
-    pub fn read(text: &'a [u8]) -> Self {
+    /// Cuts a text into its parts.
+    #[tactic(auto, unfolding(crate::specs::Evr::evr))]
+    pub fn read(text: &'a [u8]) -> Self
+        ensures { result ≡ evr text.now }
+    {
         let (epoch, rest) = split_epoch(text);
         let (version, release) = split_release(rest);
         Evr {
@@ -48,25 +94,36 @@ impl<'a> Evr<'a> {
         }
     }
 
-    pub fn epoch(&self) -> Option<&'a [u8]> {
+    /// The digits before a colon, perhaps none; `None` where the text has no epoch.
+    pub fn epoch(&self) -> Option<&'a [u8]>
+        ensures { option_copied result ≡ self.now.epoch }
+    {
         self.epoch
     }
 
-    pub fn version(&self) -> &'a [u8] {
+    /// What stands between the epoch and the last dash.
+    pub fn version(&self) -> &'a [u8]
+        ensures { result.now ≡ self.now.version }
+    {
         self.version
     }
 
-    pub fn release(&self) -> Option<&'a [u8]> {
+    /// What follows the last dash; `None` where that is nothing, or there is no dash.
+    pub fn release(&self) -> Option<&'a [u8]>
+        ensures { option_copied result ≡ self.now.release }
+    {
         self.release
     }
 }
 
-pub fn compare_evr(a: &Evr<'_>, b: &Evr<'_>) -> Ordering {
+/// Which of two is newer, by epoch, version and release.
+#[tactic(auto, unfolding(crate::specs::Evr::evr_order))]
+pub fn compare_evr(a: &Evr<'_>, b: &Evr<'_>) -> Ordering
+    ensures order { result ≡ evr_order a.now b.now }
+    ensures converse { (x y : EvrParts) → evr_order x y ≡ ordering_reverse (evr_order y x) }
+{
     let epochs = compare_numbers(a.epoch.unwrap_or(&[]), b.epoch.unwrap_or(&[]));
     let versions = compare(a.version, b.version);
-    let releases = match (a.release, b.release) {
-        (Some(a), Some(b)) => compare(a, b),
-        _ => Ordering::Equal,
-    };
+    let releases = compare_releases(a.release, b.release);
     epochs.then(versions).then(releases)
 }

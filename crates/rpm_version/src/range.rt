@@ -1,34 +1,69 @@
-//! Ranges of versions.
+//! Ranges of versions: the bits of a sense, and the version that they stand beside.
+
+ghost use Rattle.std.specs.Prelude.{◌≡◌, ◌==◌, ℕ, List, not, bit_and, option_copied};
+ghost use Rattle.rpm_version.specs.Evr.{evr_order};
+ghost use Rattle.rpm_version.specs.Range.{is_open, share_sense, equal_but_release, meets, overlaps};
 
 use crate::evr::{Evr, compare_evr};
 use std::cmp::Ordering;
 
 const LESS: u32 = 2;
-
 const GREATER: u32 = 4;
-
 const EQUAL: u32 = 8;
 
-fn is_open(flags: u32, text: &[u8]) -> bool {
-    flags & (LESS | GREATER | EQUAL) == 0 || text.is_empty()
+fn has(flags: u32, sense: u32) -> bool
+    ensures { result ≡ not (bit_and flags sense == 0) }
+{
+    flags & sense != 0
 }
 
-pub fn overlap(a_flags: u32, a: &[u8], b_flags: u32, b: &[u8]) -> bool {
-    if is_open(a_flags, a) || is_open(b_flags, b) {
-        return true;
+/// Whether every version is in a range: it has no sense, or no version.
+#[tactic(auto, unfolding(crate::specs::Range::is_open))]
+fn is_open(flags: u32, text: &[u8]) -> bool
+    ensures { result ≡ is_open flags text.now }
+{
+    !(has(flags, LESS) || has(flags, GREATER) || has(flags, EQUAL)) || text.is_empty()
+}
+
+#[tactic(auto, unfolding(crate::specs::Range::share_sense))]
+fn share_sense(a_flags: u32, b_flags: u32) -> bool
+    ensures { result ≡ share_sense a_flags b_flags }
+{
+    (has(a_flags, EQUAL) && has(b_flags, EQUAL))
+        || (has(a_flags, LESS) && has(b_flags, LESS))
+        || (has(a_flags, GREATER) && has(b_flags, GREATER))
+}
+
+/// Whether an equal version meets one whose release it leaves open.
+#[tactic(auto, unfolding(crate::specs::Range::equal_but_release))]
+fn equal_but_release(a_flags: u32, a: Option<&[u8]>, b_flags: u32, b: Option<&[u8]>) -> bool
+    ensures { result ≡ equal_but_release a_flags (option_copied a.entry) b_flags (option_copied b.entry) }
+{
+    match (a, b) {
+        (Some(_), None) => has(b_flags, EQUAL),
+        (None, Some(_)) => has(a_flags, EQUAL),
+        _ => false,
     }
-    let a = Evr::read(a);
-    let b = Evr::read(b);
-    match compare_evr(&a, &b) {
-        Ordering::Less => a_flags & GREATER != 0 || b_flags & LESS != 0,
-        Ordering::Greater => a_flags & LESS != 0 || b_flags & GREATER != 0,
+}
+
+#[tactic(auto, unfolding(crate::specs::Range::meets))]
+fn meet(a_flags: u32, a: &Evr<'_>, b_flags: u32, b: &Evr<'_>) -> bool
+    ensures { result ≡ meets (evr_order a.now b.now) a_flags a.now b_flags b.now }
+{
+    match compare_evr(a, b) {
+        Ordering::Less => has(a_flags, GREATER) || has(b_flags, LESS),
         Ordering::Equal => {
-            a_flags & b_flags & (LESS | GREATER | EQUAL) != 0
-                || match (a.release(), b.release()) {
-                    (Some(_), None) => b_flags & EQUAL != 0,
-                    (None, Some(_)) => a_flags & EQUAL != 0,
-                    _ => false,
-                }
+            share_sense(a_flags, b_flags) || equal_but_release(a_flags, a.release(), b_flags, b.release())
         }
+        Ordering::Greater => has(a_flags, LESS) || has(b_flags, GREATER),
     }
+}
+
+/// Whether two ranges of versions have a version in common.
+#[tactic(auto, unfolding(crate::specs::Range::overlaps), using(crate::proofs::RangeLaws::symmetric))]
+pub fn overlap(a_flags: u32, a: &[u8], b_flags: u32, b: &[u8]) -> bool
+    ensures table { result ≡ overlaps a_flags a.now b_flags b.now }
+    ensures symmetric { (x y : ℕ) (s t : List ℕ) → overlaps x s y t ≡ overlaps y t x s }
+{
+    is_open(a_flags, a) || is_open(b_flags, b) || meet(a_flags, &Evr::read(a), b_flags, &Evr::read(b))
 }

@@ -3,6 +3,7 @@
 ghost use Rattle.std.specs.Prelude.{◌≡◌, ◌≢◌, ◌+◌, ◌<◌, ◌≤◌, ◌∷◌, ◌↔◌, IsTrue, drop, length};
 ghost use Rattle.std.specs.Char.{is_ascii_digit, is_ascii_alphabetic};
 ghost use Rattle.std.specs.List.{prefix_len, take_while};
+ghost use Rattle.std.specs.Str.Parse.{AllDigits};
 ghost use Rattle.rpm_version.specs.Piece.{segment_at, segments_behind, IsRun};
 ghost use Rattle.rpm_version.specs.Segment.{segments};
 
@@ -43,8 +44,10 @@ fn letters_len(text: &[u8]) -> usize
 }
 
 /// The longest run of digits that a text begins with, and what stands behind it.
+#[tactic(auto, using(crate::proofs::Cuts::taken_digits))]
 pub fn leading_digits(text: &[u8]) -> (&[u8], &[u8])
     ensures run { result.0.now ≡ take_while is_ascii_digit text.now }
+    ensures digits { AllDigits 10 result.0.now }
     ensures behind { result.1.now ≡ drop (prefix_len is_ascii_digit text.now) text.now }
 {
     text.split_at(digits_len(text))

@@ -34,9 +34,6 @@ loop-byte-preserved c =
     let s = segments-separator _ c.in-Some.others.now digit letter tilde caret in
     (cc (c.in-Some.ensures.cases.0), omega (arith, c.in-Some.ensures.cases.1))
 
-pub returns-then-is_ascii_digit-clause-run : goal.returns-then-is_ascii_digit-clause-run
-returns-then-is_ascii_digit-clause-run c = subst (AllDigits 10) (sym c.leading_digits.ensures.run) (taken_digits c.loop-byte.rest.now)
-
 pub returns-clause-first : goal.returns-clause-first
 returns-clause-first c =
     let empty = nil_from_length c.loop-byte.rest.now (c.in_default.ensures.cases) in
