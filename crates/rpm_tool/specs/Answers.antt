@@ -1,13 +1,14 @@
 -- How far a command went, and what it answers.
-use Rattle.std.specs.Prelude.{◌≡◌, ◌⊎◌, ℕ, ◌+◌, ◌*◌, ◌<◌, ◌≤◌, max, List, [], ◌∷◌, ◌++◌, Bool, true, false, Result, Ok, Err}
+use Rattle.std.specs.Prelude.{◌≡◌, ◌⊎◌, ℕ, ◌+◌, ◌<◌, ◌≤◌, List, [], ◌∷◌, ◌++◌, Bool, true, false, Result, Ok, Err}
 use Rattle.std.specs.List.{flat_map}
 use Rattle.rpm_outside.specs.Causes.{Rose}
-use Rattle.rpm_outside.specs.Files.{Units, unit_at}
+use Rattle.rpm_outside.specs.Files.{Units}
 use Rattle.rpm_outside.specs.Sinks.{Gained, GainedPart}
 use Rattle.rpm_pkgdb.specs.declared.slot.Damage.{Damage}
-use Rattle.rpm_pkgdb.specs.Words.{word}
-use Rattle.rpm_pkgdb.specs.Table.{Store, store}
-use Rattle.rpm_pkgdb.specs.Blobs.{cost_to, cost_all}
+use Rattle.rpm_pkgdb.specs.Store.{Store, store}
+use Rattle.rpm_pkgdb.specs.Costs.{opening_cost, cost_to, cost_all}
+use Rattle.rpm_tool.specs.declared.step.Stop.{Stop}
+use Rattle.rpm_tool.specs.declared.step.Stop.TheVariants as stop
 use Rattle.rpm_tool.specs.declared.answer.Why.{Why}
 use Rattle.rpm_tool.specs.declared.answer.Why.TheVariants as why
 use Rattle.rpm_tool.specs.Closing.{closing}
@@ -44,6 +45,21 @@ pub record StoppedWithin (all : List Step) (to_out : Bool) (old new : Outputs) (
   pub through : Through (done ++ cut bytes step ∷ []) old new
   pub reads : reads_to (number_of step)
 
+-- one step that a call goes through, or stops within, or doesn't begin
+abbrev pub StepIs : Step → Result Bool Stop → Outputs → Outputs → Type 0
+StepIs step (Ok to_out) old new = (is_out step ≡ to_out) × Through (step ∷ []) old new
+StepIs step (Err stop.DiskFault) old new = Through [] old new
+StepIs step (Err stop.OutFault) old new = (is_out step ≡ true) × ((bytes : ℕ) × Through (cut bytes step ∷ []) old new)
+StepIs step (Err stop.ErrFault) old new = (is_out step ≡ false) × ((bytes : ℕ) × Through (cut bytes step ∷ []) old new)
+StepIs step (Err stop.NoMemory) old new = Through [] old new
+
+-- the ending of a command that was stopped
+abbrev pub why_of : Stop → Why
+why_of stop.DiskFault = why.DiskFault
+why_of stop.OutFault = why.OutFault
+why_of stop.ErrFault = why.ErrFault
+why_of stop.NoMemory = why.NoMemory
+
 -- ---- the answers of a command that opens the database, before the closing line
 
 -- where the database is in order
@@ -66,13 +82,9 @@ Refused damage _ = ⊥
 
 -- ---- the query of all packages
 
--- the bytes of the slot pages
-abbrev pub pages_cost : Units → ℕ
-pages_cost file = 4096 * max 1 (word 3 (unit_at file 0))
-
--- of these bytes of Packages.db no more were read than its pages and the blocks of the numbers up to n
+-- of Packages.db no more bytes were read than those of its pages and of the blocks of the numbers up to n
 abbrev pub ReadsTo : Units → Store → ℕ → ℕ → ℕ → Type 0
-ReadsTo file s before now n = now ≤ before + pages_cost file + cost_to n s
+ReadsTo file s before now n = now ≤ before + opening_cost file + cost_to n s
 
 abbrev pub Queried : Units → Result Store Damage → Why → Outputs → Outputs → ℕ → ℕ → Type 0
 Queried file (Ok s) why old new before now = Went (all_packages (installed file s)) why old new (ReadsTo file s before now)
@@ -85,7 +97,7 @@ blocks_cost (Err damage) = 0
 
 -- the most that a query of all packages reads
 abbrev pub query_cost : Units → ℕ
-query_cost file = pages_cost file + blocks_cost (store file)
+query_cost file = opening_cost file + blocks_cost (store file)
 
 -- ---- the closing line
 

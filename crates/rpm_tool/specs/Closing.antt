@@ -1,5 +1,6 @@
 -- The status of an ending, and the line that closes it.
-use Rattle.std.specs.Prelude.{ℕ, min, List, [], ◌++◌, codes, decimal}
+use Rattle.std.specs.Prelude.{ℕ, min, List, [], ◌∷◌, codes, decimal}
+use Rattle.std.specs.List.{concat}
 use Rattle.rpm_pkgdb.specs.declared.slot.Reason.{Reason}
 use Rattle.rpm_pkgdb.specs.declared.slot.Reason.TheVariants.{BadMagic, BadVersion, BadPages, BadSlot, BadNumber, BadRange, SameNumber, Overlap}
 use Rattle.rpm_tool.specs.declared.answer.Why.{Why}
@@ -30,7 +31,7 @@ unfoldable pub closing : Why → List ℕ
 closing why.Done = []
 closing (why.Failed n) = []
 closing (why.NotBuilt what) = codes "rpm: not built yet\n"
-closing (why.Damaged damage) = codes "rpm: Packages.db is damaged at byte " ++ (decimal damage.offset ++ (codes ": " ++ (reason_text damage.reason ++ codes "\n")))
+closing (why.Damaged damage) = concat (codes "rpm: Packages.db is damaged at byte " ∷ decimal damage.offset ∷ codes ": " ∷ reason_text damage.reason ∷ codes "\n" ∷ [])
 closing why.DiskFault = codes "rpm: the database could not be read or written\n"
 closing why.OutFault = codes "rpm: output could not be written\n"
 closing why.ErrFault = []

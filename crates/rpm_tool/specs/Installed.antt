@@ -5,7 +5,7 @@ use Rattle.std.specs.FinMap.{FinMap, entries, from_entries}
 use Rattle.rpm_header.specs.declared.form.HeaderFault.{HeaderFault}
 use Rattle.rpm_header.specs.Header.{Header, header}
 use Rattle.rpm_outside.specs.Files.{Units}
-use Rattle.rpm_pkgdb.specs.Table.{Store}
+use Rattle.rpm_pkgdb.specs.Store.{Store}
 use Rattle.rpm_pkgdb.specs.Blobs.{blobs}
 
 -- a package's header, or none that can be read
@@ -18,10 +18,10 @@ read_as (Ok h) = Good h
 read_as (Err fault) = Bad
 
 -- of its blob, where the blob's framing is right
-abbrev pub package : Option (List ℕ) → Package
-package None = Bad
-package (Some blob) = read_as (header blob)
+abbrev pub package_of : Option (List ℕ) → Package
+package_of None = Bad
+package_of (Some blob) = read_as (header blob)
 
 -- the package of each number
 unfoldable pub installed : Units → Store → FinMap nat_cmp Package
-installed file store = from_entries (map (λ e. (e.0, package e.1)) (entries (blobs file store)))
+installed file store = from_entries (map (λ e. (e.0, package_of e.1)) (entries (blobs file store)))

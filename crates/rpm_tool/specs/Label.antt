@@ -30,5 +30,5 @@ text_or_none None = codes "(none)"
 text_or_none (Some text) = text
 
 -- the line of a package
-unfoldable pub line : Header → List ℕ
-line h = text_or_none (nvra h) ++ codes "\n"
+unfoldable pub line_of : Header → List ℕ
+line_of h = text_or_none (nvra h) ++ codes "\n"

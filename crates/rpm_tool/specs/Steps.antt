@@ -4,7 +4,7 @@ use Rattle.std.specs.List.{flat_map, list_any}
 use Rattle.std.specs.Ordering.{nat_cmp}
 use Rattle.std.specs.FinMap.{FinMap, entries}
 use Rattle.rpm_outside.specs.Sinks.{Gained}
-use Rattle.rpm_tool.specs.Label.{line}
+use Rattle.rpm_tool.specs.Label.{line_of}
 use Rattle.rpm_tool.specs.Installed.{Package, Good, Bad}
 
 -- whom a step is for: an argument, counted from 0, and a package number
@@ -24,6 +24,11 @@ out_bytes (ToErr for bytes) = []
 abbrev pub err_bytes : Step → List ℕ
 err_bytes (ToOut for bytes) = []
 err_bytes (ToErr for bytes) = bytes
+
+-- a step to out, or to err
+abbrev pub step_to : Bool → Bearer → List ℕ → Step
+step_to true for bytes = ToOut for bytes
+step_to false for bytes = ToErr for bytes
 
 abbrev pub is_out : Step → Bool
 is_out (ToOut for bytes) = true
@@ -47,9 +52,13 @@ pub record Course : Type 0 where
 unfoldable pub bad_line : ℕ → List ℕ
 bad_line n = codes "error: package " ++ decimal n ++ codes ": header cannot be read\n"
 
+-- a query without arguments counts as one
+abbrev pub bearer : ℕ → Bearer
+bearer n = record { argument = 0; number = n }
+
 abbrev pub step_of : ℕ → Package → Step
-step_of n (Good h) = ToOut (record { argument = 0; number = n }) (line h)
-step_of n Bad = ToErr (record { argument = 0; number = n }) (bad_line n)
+step_of n (Good h) = ToOut (bearer n) (line_of h)
+step_of n Bad = ToErr (bearer n) (bad_line n)
 
 abbrev pub steps_of : List (ℕ × Package) → List Step
 steps_of packages = map (λ e. step_of e.0 e.1) packages
@@ -58,7 +67,7 @@ abbrev pub is_bad : Step → Bool
 is_bad (ToOut for bytes) = false
 is_bad (ToErr for bytes) = true
 
--- a query without arguments counts as one, which fails once however many of its packages can't be read
+-- its argument fails once, however many of its packages can't be read
 abbrev pub query_of : List Step → Course
 query_of steps = record { steps = steps; failed = if list_any is_bad steps then 1 else 0 }
 

@@ -11,8 +11,8 @@ is_word words i text = option_map_or (λ word. bytes_eq word text) (slice_get wo
 unfoldable pub asks_all : List (List ℕ) → Bool
 asks_all words =
     is_word words 0 (codes "rpm") && (
-      (length words == 2 && is_word words 1 (codes "-qa"))
-      || (length words == 4 && (is_word words 1 (codes "--dbpath") && is_word words 3 (codes "-qa")))
+    (length words == 2 && is_word words 1 (codes "-qa"))
+    || (length words == 4 && (is_word words 1 (codes "--dbpath") && is_word words 3 (codes "-qa")))
     )
 
 abbrev pub own_place : List ℕ

@@ -5,6 +5,7 @@ ghost use Rattle.rpm_outside.specs.Sinks.{Writes};
 ghost use Rattle.rpm_tool.specs.Closing.{reason_text, closing};
 
 use crate::answer::Why;
+use crate::pieces::put_pieces;
 use itoa::Buffer;
 use rpm_outside::{Failed, Sink, put_all};
 use rpm_pkgdb::{Damage, Reason};
@@ -30,11 +31,18 @@ fn put_damage<E: Sink>(err: &mut E, damage: Damage) -> Result<(), Failed>
     ensures { Writes E.tells E.taken E.faults err.old err.new (closing (Why.Damaged damage)) result }
 {
     let mut digits = Buffer::new();
-    put_all(err, b"rpm: Packages.db is damaged at byte ")?;
-    put_all(err, digits.format(damage.offset).as_bytes())?;
-    put_all(err, b": ")?;
-    put_all(err, reason_text(damage.reason))?;
-    put_all(err, b"\n")
+    let offset = digits.format(damage.offset).as_bytes();
+    let reason = reason_text(damage.reason);
+    put_pieces(
+        err,
+        &[
+            b"rpm: Packages.db is damaged at byte ",
+            offset,
+            b": ",
+            reason,
+            b"\n",
+        ],
+    )
 }
 
 /// Writes the line that closes an ending, or nothing where it has none. It takes no memory.

@@ -3,7 +3,7 @@
 ghost use Rattle.std.specs.Prelude.{◌≡◌, ◌++◌, codes, slice_get, OnOk};
 ghost use Rattle.std.specs.Option.{option_copied};
 ghost use Rattle.rpm_header.specs.Header.{texts_of};
-ghost use Rattle.rpm_tool.specs.Label.{first_text, first_in, dotted, nvra, text_or_none, line};
+ghost use Rattle.rpm_tool.specs.Label.{first_text, first_in, dotted, nvra, text_or_none, line_of};
 
 use rpm_header::{Entry, Form, View};
 use std::alloc::AllocError;
@@ -39,7 +39,7 @@ fn first_text<'a>(view: &View<'a>, tag: u32) -> Option<&'a [u8]>
 }
 
 fn push_arch(line: &mut Vec<u8>, arch: Option<&[u8]>) -> Result<(), AllocError>
-    ensures { OnOk result (line.new.items ≡ line.old.items ++ dotted (option_copied arch)) }
+    ensures { OnOk result (line.new.items ≡ line.old.items ++ dotted (option_copied arch.entry)) }
 {
     if let Some(arch) = arch {
         line.extend_from_slice(b".")?;
@@ -48,7 +48,12 @@ fn push_arch(line: &mut Vec<u8>, arch: Option<&[u8]>) -> Result<(), AllocError>
     Ok(())
 }
 
-fn push_label(line: &mut Vec<u8>, name: &[u8], version: &[u8], release: &[u8]) -> Result<(), AllocError>
+fn push_label(
+    line: &mut Vec<u8>,
+    name: &[u8],
+    version: &[u8],
+    release: &[u8],
+) -> Result<(), AllocError>
     ensures { OnOk result (line.new.items ≡ line.old.items ++ (name.now ++ codes "-" ++ version.now ++ codes "-" ++ release.now)) }
 {
     line.extend_from_slice(name)?;
@@ -77,9 +82,9 @@ fn push_nvra(line: &mut Vec<u8>, view: &View<'_>) -> Result<(), AllocError>
 }
 
 /// Makes a line that of a package. Four look-ups in its header, and one copy of their texts.
-#[tactic(auto, unfolding(crate::specs::Label::line))]
+#[tactic(auto, unfolding(crate::specs::Label::line_of))]
 pub fn render_line(line: &mut Vec<u8>, view: &View<'_>) -> Result<(), AllocError>
-    ensures { OnOk result (line.new.items ≡ line view.now) }
+    ensures { OnOk result (line.new.items ≡ line_of view.now) }
 {
     line.clear();
     push_nvra(line, view)?;

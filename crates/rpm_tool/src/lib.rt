@@ -7,10 +7,10 @@ mod answer;
 mod closing;
 mod command;
 mod label;
-mod package;
+mod pieces;
 mod query;
+mod step;
 pub mod words;
 
 pub use answer::{Outcome, Unbuilt, Why};
-pub use command::run;
 pub use rpm_pkgdb::{Damage, Reason};

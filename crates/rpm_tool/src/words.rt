@@ -72,6 +72,7 @@ fn is_word(words: &Words, i: u32, text: &str) -> bool
     i < words.len() && words.word(i) == text
 }
 
+#[tactic(auto, unfolding(crate::specs::Words::asks_all))]
 /// Whether the words ask for all packages: `rpm -qa`, or the same with a folder given.
 pub fn asks_all(words: &Words) -> bool
     ensures { result ≡ asks_all words.now }
@@ -82,6 +83,7 @@ pub fn asks_all(words: &Words) -> bool
             || count == 4 && is_word(words, 1, "--dbpath") && is_word(words, 3, "-qa"))
 }
 
+#[tactic(auto, unfolding(crate::specs::Words::place))]
 /// The folder of the database: the word behind a first option `--dbpath`, or rpm's own place. It takes no memory.
 pub fn place_of(words: &Words) -> &str
     ensures { result.now ≡ place words.now }

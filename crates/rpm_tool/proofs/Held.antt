@@ -1,0 +1,52 @@
+-- The map of installed packages at a number, and by rising number.
+use Rattle.std.proofs.Common.{◌≡◌, ℕ, ◌+◌, ◌<◌, ◌≤◌, Bool, true, false, ◌&&◌, cond, List, [], ◌∷◌, map, Option, Some, None, is_some, refl, sym, ap, ◌∙◌, subst, inl, inr, arith, nat_lt, ltb-true}
+use Rattle.std.specs.Option.{option_map}
+use Rattle.std.specs.Ordering.{nat_cmp, eq_by_cmp}
+use Rattle.std.specs.FinMap as finite
+use Rattle.std.specs.List.{filter}
+use Rattle.std.proofs.lemmas.Cmp.{nat_cmp_total}
+use Rattle.rpm_outside.specs.Files.{Units}
+use Rattle.rpm_pkgdb.specs.Store.{Store}
+use Rattle.rpm_pkgdb.specs.Slots.{slot_with}
+use Rattle.rpm_pkgdb.specs.Blobs.{blobs}
+use Rattle.rpm_pkgdb.specs.BlobLaws.{is_some-get-blobs}
+use Rattle.std.specs.Prelude.{IfOk, Result, Ok, Err}
+use Rattle.rpm_tool.specs.declared.step.Stop.{Stop}
+use Rattle.rpm_tool.specs.Installed.{Package, package_of, installed}
+use Rattle.rpm_tool.specs.Steps.{step_of, step_to, bearer}
+
+-- a map whose values are changed one by one
+find-map : {X Y : Type 0} (f : X → Y) (q : ℕ) (es : List (ℕ × X)) → finite.find nat_cmp q (map (λ e. (e.0, f e.1)) es) ≡ option_map f (finite.find nat_cmp q es)
+find-map f q [] = refl
+find-map f q (e ∷ es) = elim (eq_by_cmp nat_cmp q e.0) as (λ b. cond b (Some (f e.1)) (finite.find nat_cmp q (map (λ e. (e.0, f e.1)) es)) ≡ option_map f (cond b (Some e.1) (finite.find nat_cmp q es))) [
+  | true ↦ refl
+  | false ↦ find-map f q es
+]
+
+pub get-installed : (file : Units) (s : Store) (n : ℕ) → finite.get (installed file s) n ≡ option_map package_of (finite.get (blobs file s) n)
+unfolding installed
+get-installed file s n =
+    finite.get-from_entries nat_cmp_total (map (λ e. (e.0, package_of e.1)) (finite.entries (blobs file s))) n
+    ∙ find-map package_of n (finite.entries (blobs file s))
+    ∙ ap (option_map package_of) (sym (finite.get-entries (blobs file s) n))
+
+-- the package of a number is what its blob says
+pub package_is : (file : Units) (s : Store) (n : ℕ) (blob : Option (List ℕ)) (p : Package) → finite.get (blobs file s) n ≡ Some blob → finite.get (installed file s) n ≡ Some p → p ≡ package_of blob
+package_is file s n blob p said is =
+    let both : Some p ≡ Some (package_of blob) = sym is ∙ get-installed file s n ∙ ap (option_map package_of) said in
+    cc
+
+is_some-map : {X Y : Type 0} (f : X → Y) (o : Option X) → is_some (option_map f o) ≡ is_some o
+is_some-map f None = refl
+is_some-map f (Some x) = refl
+
+-- its numbers are those that slots have
+pub is_some-installed : (file : Units) (s : Store) (n : ℕ) → is_some (finite.get (installed file s) n) ≡ is_some (slot_with n s.slots)
+is_some-installed file s n = ap is_some (get-installed file s n) ∙ is_some-map package_of (finite.get (blobs file s) n) ∙ is_some-get-blobs file s n
+
+-- a line that was made of what a blob says is the package's
+pub made_of : (told : Type 0) (file : Units) (s : Store) (n : ℕ) (blob : Option (List ℕ)) (q : Package) (r : Result Bool Stop) (line : List ℕ) → (told → finite.get (blobs file s) n ≡ Some blob) → q ≡ package_of blob
+    → IfOk r (λ to_out. step_of n q ≡ step_to to_out (bearer n) line)
+    → IfOk r (λ to_out. told → (p : Package) → finite.get (installed file s) n ≡ Some p → step_of n p ≡ step_to to_out (bearer n) line)
+made_of told file s n blob q (Ok to_out) line said is made = λ t p held. ap (step_of n) (package_is file s n blob p (said t) held ∙ sym is) ∙ made
+made_of told file s n blob q (Err stop) line said is made = tt

@@ -1,0 +1,4 @@
+mod Above
+mod Held
+mod Joins
+mod Through

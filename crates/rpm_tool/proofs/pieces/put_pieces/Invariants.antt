@@ -1,0 +1,8 @@
+use Rattle.std.proofs.Common.{map, drop}
+use Rattle.std.specs.List.{concat}
+use Rattle.rpm_outside.specs.Upto.{Upto}
+use Rattle.rpm_tool.proofs.pieces.put_pieces.Given as goal
+
+abbrev pub invariant-loop-piece : goal.invariant-loop-piece
+invariant-loop-piece g l =
+    Upto g.S.Sink.tells g.S.Sink.taken g.S.Sink.faults (concat (map (λ piece. piece.now) l.pieces)) (concat (map (λ piece. piece.now) (drop l.piece-index l.pieces))) l.initial.sink l.sink
