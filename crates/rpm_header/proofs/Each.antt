@@ -1,5 +1,5 @@
 -- Lists made by a function of the place, and the first fault in one.
-use Rattle.std.proofs.Common.{◌≡◌, ℕ, zero, suc, ◌+◌, ◌*◌, ◌≤◌, ◌<◌, List, ◌∷◌, length, map, Option, Some, None, refl, sym, ap, ◌∙◌, arith, inl, inr}
+use Rattle.std.proofs.Common.{◌≡◌, ℕ, zero, suc, ◌+◌, ◌*◌, ◌≤◌, ◌<◌, List, length, map, Option, Some, None, refl, sym, ap, ◌∙◌, arith, inl, inr}
 use Rattle.std.proofs.lemmas.Bool.{cases_eq}
 use Rattle.std.specs.Prelude.{slice_get}
 use Rattle.std.specs.List.{range_with_len}
@@ -36,23 +36,6 @@ first_some_from f a (suc n) i x l h none e =
       | inr other ↦ (let here : f a ≡ None = none a (omega arith) (omega arith) in
           rw here (first_some_from f (a + 1) n i x (omega arith) (omega arith) (λ k l' h'. none k (omega arith) (omega arith)) e))
     ]
-
-none_cons : {X : Type 0} (x : Option X) (xs : List (Option X)) → first (x ∷ xs) ≡ None → (x ≡ None) × (first xs ≡ None)
-none_cons None xs e = (refl, e)
-none_cons (Some y) xs e = absurd cc
-
--- and the other way: where there is no first fault, there is none
-none_from_first : {X : Type 0} (f : ℕ → Option X) (a n : ℕ) → first (map f (range_with_len a n)) ≡ None → (k : ℕ) → a ≤ k → k < a + n → f k ≡ None
-none_from_first f a zero e k l h = absurd (omega arith)
-none_from_first f a (suc n) e k l h =
-    let parts = none_cons (f a) (map f (range_with_len (a + 1) n)) e in
-    elim (cases_eq a k) [
-      | inl same ↦ rw (← same) parts.0
-      | inr other ↦ none_from_first f (a + 1) n parts.1 k (omega arith) (omega arith)
-    ]
-
-pub none_each : {X : Type 0} (n : ℕ) (f : ℕ → Option X) → first (each_below n f) ≡ None → (k : ℕ) → k < n → f k ≡ None
-none_each n f e k h = none_from_first f 0 n e k (omega arith) (omega arith)
 
 pub first_none : {X : Type 0} (n : ℕ) (f : ℕ → Option X) → ((k : ℕ) → k < n → f k ≡ None) → first (each_below n f) ≡ None
 first_none n f none = first_none_from f 0 n (λ k l h. none k (omega arith))

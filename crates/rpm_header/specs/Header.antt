@@ -57,7 +57,9 @@ index_entry_at bytes at = record {
 
 -- the types 0 to 9
 abbrev pub forms : List Form
-forms = form.Null ∷ form.Char ∷ form.Int8 ∷ form.Int16 ∷ form.Int32 ∷ form.Int64 ∷ form.Text ∷ form.Bin ∷ form.Texts ∷ form.I18n ∷ []
+forms =
+    form.Null ∷ form.Char ∷ form.Int8 ∷ form.Int16 ∷ form.Int32 ∷ form.Int64 ∷ form.Text ∷ form.Bin ∷ form.Texts
+    ∷ form.I18n ∷ []
 
 abbrev pub form_of : ℕ → Option Form
 form_of kind = slice_get forms kind
@@ -98,14 +100,6 @@ values form.Texts count bytes = Texts (texts count bytes)
 values form.I18n count bytes = Texts (texts count bytes)
 values f count bytes = Numbers (numbers (width f) count bytes)
 
--- there is an element, and all of them stand in the data from the entry's offset on
-abbrev pub HasRoom : Form → ℕ → List ℕ → Type 0
-HasRoom form.Null count bytes = Unit {0}
-HasRoom form.Text count bytes = (0 < count) × (are_ended count bytes ≡ true)
-HasRoom form.Texts count bytes = (0 < count) × (are_ended count bytes ≡ true)
-HasRoom form.I18n count bytes = (0 < count) × (are_ended count bytes ≡ true)
-HasRoom f count bytes = (0 < count) × (count * alignment f ≤ length bytes)
-
 abbrev pub AreNumbers : ℕ → Values → Type 0
 AreNumbers count (Numbers ns) = length ns ≡ count
 AreNumbers count _ = ⊥
@@ -118,12 +112,8 @@ abbrev pub AreBytes : ℕ → Values → Type 0
 AreBytes count (Bytes bs) = length bs ≡ count
 AreBytes count _ = ⊥
 
--- and no more bytes are left there than a header has of data
-pub record IsInside (f : Form) (count : ℕ) (bytes : List ℕ) : Type 0 where
-  pub room : HasRoom f count bytes
-  pub few : length bytes ≤ 67108864
-
--- the elements are of the form's class, the count is how many there are, and no text is longer than a header's data
+-- the elements are of the form's class, the count is how many there are, and no text is longer than
+-- a header's data
 pub record IsWhole (e : Item) : Type 0 where
   pub some : (e.form ≡ form.Null → ⊥) → 0 < e.count
   pub nothing : e.form ≡ form.Null → e.values ≡ Nothing
@@ -160,7 +150,8 @@ form_fault (Some f) i e section =
 abbrev pub is_region_tag : ℕ → Bool
 is_region_tag tag = tag == 62 || tag == 63
 
--- for some r from 1 to il the number is 2 ^ 32 - 16 × r, which is -16 × r where it is read as signed
+-- for some r from 1 to il the number is 2 ^ 32 - 16 × r, which is -16 × r where it is read as
+-- signed
 abbrev pub counts_back : ℕ → ℕ → Bool
 counts_back il n = list_any (λ r. n + 16 * r == 2 ^ 32) (range_with_len 1 il)
 
@@ -185,14 +176,18 @@ module _ (il : ℕ) (blob : List ℕ) where
 
   -- only entry 0 can be a region, and its other faults come first
   unfoldable pub fault_at : ℕ → Option HeaderFault
-  fault_at i = option_or (entry_fault i) (if i == 0 && is_region_tag (index_entry i).tag then region_fault il (index_entry i) section_of else None)
+  fault_at i = option_or (entry_fault i) (
+      if i == 0 && is_region_tag (index_entry i).tag then region_fault il (index_entry i) section_of else None)
 
 abbrev pub form_or_null : Option Form → Form
 form_or_null None = form.Null
 form_or_null (Some f) = f
 
+-- an entry as it reads, which says something only where it has no fault
 unfoldable pub entry_of : IndexEntry → List ℕ → Item
-entry_of e section = let f = form_or_null (form_of e.kind) in record { tag = e.tag; form = f; count = e.count; values = values f e.count (drop e.offset section) }
+entry_of e section =
+    let f = form_or_null (form_of e.kind) in
+    record { tag = e.tag; form = f; count = e.count; values = values f e.count (drop e.offset section) }
 
 unfoldable pub entries : ℕ → List ℕ → List Item
 entries il blob = each_below il (λ i. entry_of (index_entry il blob i) (section_of il blob))
@@ -207,25 +202,15 @@ abbrev pub unless : {X E : Type 0} → Option E → X → Result X E
 unless None x = Ok x
 unless (Some e) x = Err e
 
--- the bytes of a header alone: the two lengths in front are in bounds and cut exactly these bytes
-pub record IsCut (il : ℕ) (blob : List ℕ) : Type 0 where
-  pub front : number_at w32 blob 0 ≡ il
-  pub whole : length blob ≡ 8 + 16 * il + number_at w32 blob 4
-  pub few : il ≤ 65535
-  pub small : number_at w32 blob 4 ≤ 67108864
-
--- and no entry has a fault
-pub record IsSound (il : ℕ) (blob : List ℕ) : Type 0 where
-  pub cut : IsCut il blob
-  pub faultless : (k : ℕ) → k < il → fault_at il blob k ≡ None
-
 -- the last entry of a tag
 abbrev pub last_of : ℕ → List Item → Option Item
 last_of tag [] = None
 last_of tag (e ∷ es) = option_or (last_of tag es) (if e.tag == tag then Some e else None)
 
+-- the header of il entries whose own bytes these are
 unfoldable pub header_of : ℕ → List ℕ → Result Header HeaderFault
-header_of il blob = unless (first (each_below il (fault_at il blob))) (record { blob = blob; entries = entries il blob })
+header_of il blob =
+    unless (first (each_below il (fault_at il blob))) (record { blob = blob; entries = entries il blob })
 
 -- the two lengths stand in front; what follows the header's own bytes says nothing
 unfoldable pub header : List ℕ → Result Header HeaderFault

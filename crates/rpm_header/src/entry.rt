@@ -2,30 +2,39 @@
 
 ghost use Rattle.std.specs.Prelude.{◌≡◌, ℕ, ◌+◌, ◌*◌, ◌≤◌, ◌<◌, length, IsTrue, Some, slice_get, drop, None};
 ghost use Rattle.std.specs.Iterator.{YieldsFirstRef, item_count};
-ghost use Rattle.rpm_header.specs.Header.{has_numbers, has_texts, numbers_of, texts_of, bytes_of, IsWhole, form_fault, HasRoom, values, IsSound, entry_of, index_entry, section_of};
+ghost use Rattle.rpm_header.specs.Header.{has_numbers, has_texts, numbers_of, texts_of, bytes_of, IsWhole, form_fault, values, entry_of, index_entry, section_of};
+ghost use Rattle.rpm_header.specs.Checked.{HasRoom, IsSound};
 
 use crate::bytes::{next_text, text_of, u16_at, u32_at, u64_at};
 use crate::form::Form;
 use crate::index::{IndexEntry, form_of, index_entry_at, section_of};
 use std::marker::Model;
 
-/// One entry of a header: a tag, and elements that borrow the header's bytes. Contracts see it as an `Item`. Its bytes were checked
-/// once, when the header was read, so each reader below is total where its `requires` holds, and checks nothing.
+/// One entry of a header: a tag, and elements that borrow the header's bytes. Contracts see it as
+/// an `Item`. Its bytes were checked once, when the header was read, so each reader below is total
+/// where its `requires` holds, and checks nothing.
 #[derive(Drop)]
 pub struct Entry<'a> {
     tag: u32,
     form: Form,
     count: u32,
-    // The data from the entry's offset on; of a `Null`, whose offset means nothing, all of the data.
+    // The data from the entry's offset on; of a `Null`, whose offset means nothing, all of the
+    // data.
     bytes: &'a [u8],
 }
 
 impl<'a> Model for Entry<'a> {
-    ghost use Rattle.rpm_header.specs.Header.{Item, values, IsInside};
+    ghost use Rattle.rpm_header.specs.Header.{Item, values};
+    ghost use Rattle.rpm_header.specs.Checked.{IsInside};
 
     ghost Value = { Item };
 
-    ghost view = { λ s. record { tag = s.tag; form = s.form; count = s.count; values = values s.form s.count s.bytes.now } };
+    ghost view = { λ s. record {
+      tag = s.tag;
+      form = s.form;
+      count = s.count;
+      values = values s.form s.count s.bytes.now;
+    } };
 
     ghost invariant = { λ s. IsInside s.form s.count s.bytes.now };
 }
@@ -46,8 +55,8 @@ impl<'a> Entry<'a> {
         self.form
     }
 
-    /// The number of elements, at least 1: of numbers, of texts, or of the bytes of a `Bin`. Of a `Null`, which has no elements, it is the
-    /// number that the header stores, any number.
+    /// The number of elements, at least 1: of numbers, of texts, or of the bytes of a `Bin`. Of a
+    /// `Null`, which has no elements, it is the number that the header stores, any number.
     pub fn count(&self) -> u32
         ensures value { result ≡ self.now.count }
         ensures whole { IsWhole self.now }
@@ -70,8 +79,9 @@ impl<'a> Entry<'a> {
         }
     }
 
-    /// The text at place i, without its zero byte, borrowed from the header. Reads the bytes of all texts up to its end, so that a loop over
-    /// places reads the first texts again and again: go over `texts` there.
+    /// The text at place i, without its zero byte, borrowed from the header. Reads the bytes of all
+    /// texts up to its end, so that a loop over places reads the first texts again and again: go
+    /// over `texts` there.
     pub fn text(&self, i: u32) -> &'a [u8]
         requires texts { IsTrue (has_texts self.now.form) }
         requires below { i < self.now.count }
@@ -100,8 +110,8 @@ impl<'a> Entry<'a> {
     }
 }
 
-/// The texts of an entry that are left, without their zero bytes and borrowed from the header. Contracts see it as the list of these
-/// texts. A step reads the bytes of its text once.
+/// The texts of an entry that are left, without their zero bytes and borrowed from the header.
+/// Contracts see it as the list of these texts. A step reads the bytes of its text once.
 #[derive(Drop)]
 pub struct EntryTexts<'a> {
     left: u32,
@@ -137,12 +147,14 @@ impl<'a> Iterator for EntryTexts<'a> {
     }
 }
 
-/// The data from the offset of an entry without a fault on; of a `Null`, whose offset means nothing, all of the data.
+/// The data from the offset of an entry without a fault on; of a `Null`, whose offset means
+/// nothing, all of the data.
 fn elements_of<'a>(form: Form, i: u32, entry: IndexEntry, section: &'a [u8]) -> &'a [u8]
     requires { form_fault (Some form) i entry section.now ≡ None }
     ensures room { HasRoom form entry.count result.now }
     ensures few { length result.now ≤ length section.now }
-    ensures elements { values form entry.count result.now ≡ values form entry.count (drop entry.offset section.now) }
+    ensures elements { values form entry.count result.now
+        ≡ values form entry.count (drop entry.offset section.now) }
 {
     if form == Form::Null {
         section
@@ -151,7 +163,8 @@ fn elements_of<'a>(form: Form, i: u32, entry: IndexEntry, section: &'a [u8]) -> 
     }
 }
 
-/// Entry i of a header in which none has a fault. Reads the 16 bytes of its index entry, and none of its data.
+/// Entry i of a header in which none has a fault. Reads the 16 bytes of its index entry, and none
+/// of its data.
 pub fn entry_at<'a>(il: u32, blob: &'a [u8], i: u32) -> Entry<'a>
     requires below { i < il }
     requires sound { IsSound il blob.now }

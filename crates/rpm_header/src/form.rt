@@ -1,7 +1,7 @@
 //! What an entry's elements are, and what can be wrong with a header.
 
-/// What the elements of an entry are. A header stores it as the entry's type, a number: the forms stand here in the order of these
-/// numbers, from 0 to 9.
+/// What the elements of an entry are. A header stores it as the entry's type, a number: the forms
+/// stand here in the order of these numbers, from 0 to 9.
 #[derive(Clone, Copy, Debug, PartialEq, Eq)]
 pub enum Form {
     /// None: the entry's offset and count mean nothing.
@@ -26,9 +26,9 @@ pub enum Form {
     I18n,
 }
 
-/// The first fault of a header. The faults are tried in the order in which they stand here, but that `Short` is tried a second time after
-/// `TooMuchData`, and that those of one entry, from `BadType` on, are all tried before those of the next. A number is the entry's place,
-/// from 0.
+/// The first fault of a header. The faults are tried in the order in which they stand here, but
+/// that `Short` is tried a second time after `TooMuchData`, and that those of one entry, from
+/// `BadType` on, are all tried before those of the next. A number is the entry's place, from 0.
 #[derive(Clone, Copy, Debug, PartialEq, Eq)]
 pub enum HeaderFault {
     /// There are fewer than 8 bytes, or fewer than the two lengths at the front ask for.
@@ -41,11 +41,12 @@ pub enum HeaderFault {
     BadType(u32),
     /// The entry's offset is past the data's end, or is no multiple of the number's width.
     BadOffset(u32),
-    /// The entry has no element, is a `Text` of more than one, or its numbers or bytes pass the data's end.
+    /// The entry has no element, is a `Text` of more than one, or its numbers or bytes pass the
+    /// data's end.
     BadCount(u32),
     /// One of the entry's texts has no zero byte before the data's end.
     NoEnd(u32),
-    /// Entry 0 has a region's tag, 62 or 63, and isn't a `Bin` of 16 bytes, or the third number of these bytes, read as signed, isn't
-    /// `-16 * r` for some number of entries `r` from 1 to `il`.
+    /// Entry 0 has a region's tag, 62 or 63, and isn't a `Bin` of 16 bytes, or the third number of
+    /// these bytes, read as signed, isn't `-16 * r` for some number of entries `r` from 1 to `il`.
     BadRegion,
 }

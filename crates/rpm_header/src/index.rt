@@ -40,7 +40,8 @@ pub fn form_of(kind: u32) -> Option<Form>
     }
 }
 
-/// The width of a number of this form, of which its offset is a multiple. Of any other form it is 1.
+/// The width of a number of this form, of which its offset is a multiple. Of any other form it is
+/// 1.
 fn alignment(form: Form) -> u32
     ensures value { result ≡ alignment form }
     ensures small { result ≤ 8 }
@@ -79,7 +80,8 @@ pub fn index_entry_at(blob: &[u8], at: usize) -> IndexEntry
     }
 }
 
-/// Whether so many elements can't stand in these bytes, the data from the entry's offset on. A text's bytes aren't looked at.
+/// Whether so many elements can't stand in these bytes, the data from the entry's offset on. A
+/// text's bytes aren't looked at.
 fn is_bad_count(form: Form, count: u32, bytes: &[u8]) -> bool
     ensures { result ≡ is_bad_count form count bytes.now }
 {
@@ -148,7 +150,8 @@ pub fn section_of(il: u32, blob: &[u8]) -> &[u8]
     &blob[8 + 16 * il as usize..]
 }
 
-/// The first fault of entry i of a header of il entries, whose own bytes are the blob. Reads the entry once and each byte of its texts once.
+/// The first fault of entry i of a header of il entries, whose own bytes are the blob. Reads the
+/// entry once and each byte of its texts once.
 #[tactic(auto, unfolding(crate::specs::Header::fault_at, crate::specs::Header::entry_fault))]
 pub fn fault_at(il: u32, blob: &[u8], i: u32) -> Option<HeaderFault>
     requires below { i < il }

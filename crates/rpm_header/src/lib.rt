@@ -1,12 +1,14 @@
 //! V4 headers of rpm, read where they lie in borrowed bytes.
 //!
-//! A header is two numbers of four bytes, `il` and `dl` (rpm's names), then `il` entries of the index of 16 bytes each, then `dl`
-//! bytes of data. An entry of the index is four numbers of four bytes: tag, type, offset into the data, and count of elements. All
-//! numbers are unsigned with the highest byte first. The layout, the types and the regions are those of rpm's documentation of the
-//! V4 header; the order in which faults are looked for, and what is let pass, are this project's own.
+//! A header is two numbers of four bytes, `il` and `dl` (rpm's names), then `il` entries of the
+//! index of 16 bytes each, then `dl` bytes of data. An entry of the index is four numbers of four
+//! bytes: tag, type, offset into the data, and count of elements. All numbers are unsigned with the
+//! highest byte first. The layout, the types and the regions are those of rpm's documentation of
+//! the V4 header; the order in which faults are looked for, and what is let pass, are this
+//! project's own.
 //!
-//! `View::parse` checks a header once, whole. After that each reader answers with no check and no `Result`. Nothing here copies a byte
-//! of the header or takes memory.
+//! `View::parse` checks a header once, whole. After that each reader answers with no check and no
+//! `Result`. Nothing here copies a byte of the header or takes memory.
 #![tactic(auto)]
 
 mod bytes;
@@ -21,5 +23,6 @@ pub use entry::{Entry, EntryTexts};
 pub use form::{Form, HeaderFault};
 pub use view::View;
 
-/// The eight bytes that stand before a header everywhere but in the database: in package files and in lists of headers.
+/// The eight bytes that stand before a header everywhere but in the database: in package files and
+/// in lists of headers.
 pub const MAGIC: [u8; 8] = [0x8e, 0xad, 0xe8, 0x01, 0, 0, 0, 0];

@@ -1,7 +1,8 @@
 //! A header that was checked, over its own bytes.
 
 ghost use Rattle.std.specs.Prelude.{◌≡◌, ℕ, ◌+◌, ◌*◌, ◌≤◌, ◌<◌, length, map, Some, Ok, slice_get};
-ghost use Rattle.rpm_header.specs.Header.{header, header_of, last_of, IsCut};
+ghost use Rattle.rpm_header.specs.Header.{header, header_of, last_of};
+ghost use Rattle.rpm_header.specs.Checked.{IsCut};
 
 use crate::bytes::u32_at;
 use crate::entry::{Entry, entry_at};
@@ -9,7 +10,8 @@ use crate::form::HeaderFault;
 use crate::index::{MAX_DATA, MAX_ENTRIES, fault_at};
 use std::marker::Model;
 
-/// A header in which no entry has a fault. It borrows the header's bytes. Contracts see it as a `Header`: its own bytes and its entries.
+/// A header in which no entry has a fault. It borrows the header's bytes. Contracts see it as a
+/// `Header`: its own bytes and its entries.
 #[derive(Drop)]
 pub struct View<'a> {
     blob: &'a [u8],
@@ -17,7 +19,8 @@ pub struct View<'a> {
 }
 
 impl<'a> Model for View<'a> {
-    ghost use Rattle.rpm_header.specs.Header.{Header, entries, IsSound};
+    ghost use Rattle.rpm_header.specs.Header.{Header, entries};
+    ghost use Rattle.rpm_header.specs.Checked.{IsSound};
 
     ghost Value = { Header };
 
@@ -27,9 +30,10 @@ impl<'a> Model for View<'a> {
 }
 
 impl<'a> View<'a> {
-    /// Reads the header with which these bytes begin. Bytes behind it are let pass. Takes no memory. Reads each entry of the index once and,
-    /// for each entry that has texts, each byte of these texts once. As entries may share their data, a hostile header of 65,535 entries
-    /// over 64 MiB of text costs that product.
+    /// Reads the header with which these bytes begin. Bytes behind it are let pass. Takes no
+    /// memory. Reads each entry of the index once and, for each entry that has texts, each byte of
+    /// these texts once. As entries may share their data, a hostile header of 65,535 entries over
+    /// 64 MiB of text costs that product.
     ///
     /// # Errors
     ///
@@ -68,8 +72,8 @@ impl<'a> View<'a> {
         Ok(View { blob, count: il })
     }
 
-    /// The header's own bytes, from its two lengths to the end of its data, without what followed them: at most 68,157,432. Read again, they
-    /// give this header again.
+    /// The header's own bytes, from its two lengths to the end of its data, without what followed
+    /// them: at most 68,157,432. Read again, they give this header again.
     pub fn blob(&self) -> &'a [u8]
         ensures value { result.now ≡ self.now.blob }
         ensures small { length result.now ≤ 68157432 }
@@ -101,8 +105,9 @@ impl<'a> View<'a> {
         u32_at(self.blob, 8 + 16 * i as usize)
     }
 
-    /// The last entry of a tag, which counts where several have it; None exactly where no entry has it. Goes over the index from the back and
-    /// reads the 4 bytes of each tag, then the 16 bytes of the entry that it finds.
+    /// The last entry of a tag, which counts where several have it; None exactly where no entry has
+    /// it. Goes over the index from the back and reads the 4 bytes of each tag, then the 16 bytes
+    /// of the entry that it finds.
     pub fn find(&self, tag: u32) -> Option<Entry<'a>>
         ensures { result ≡ last_of tag self.now.entries }
     {
