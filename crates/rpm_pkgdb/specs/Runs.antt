@@ -23,9 +23,9 @@ module _ (pages units : ℕ) where
   run earlier [] = None
   run earlier (u ∷ us) = option_or (slot_fault pages units earlier u) (run (earlier ++ slot_of u ∷ []) us)
 
-  or_else_assoc : {X : Type 0} (a b c : Option X) → option_or (option_or a b) c ≡ option_or a (option_or b c)
-  or_else_assoc None b c = refl
-  or_else_assoc (Some x) b c = refl
+  option_or-assoc : {X : Type 0} (a b c : Option X) → option_or (option_or a b) c ≡ option_or a (option_or b c)
+  option_or-assoc None b c = refl
+  option_or-assoc (Some x) b c = refl
 
   pub run-append : (earlier : List Slot) (us vs : Units) → run earlier (us ++ vs) ≡ option_or (run earlier us) (run (earlier ++ slots_in us) vs)
   unfolding slots_in
@@ -33,7 +33,7 @@ module _ (pages units : ℕ) where
   run-append earlier (u ∷ us) vs =
       ap (λ (r : Option Damage). option_or (slot_fault pages units earlier u) r) (run-append (earlier ++ slot_of u ∷ []) us vs)
       ∙ ap (λ (e : List Slot). option_or (slot_fault pages units earlier u) (option_or (run (earlier ++ slot_of u ∷ []) us) (run e vs))) (append_assoc earlier (slot_of u ∷ []) (map slot_of us))
-      ∙ sym (or_else_assoc (slot_fault pages units earlier u) (run (earlier ++ slot_of u ∷ []) us) (run (earlier ++ slot_of u ∷ map slot_of us) vs))
+      ∙ sym (option_or-assoc (slot_fault pages units earlier u) (run (earlier ++ slot_of u ∷ []) us) (run (earlier ++ slot_of u ∷ map slot_of us) vs))
 
   -- it is the first fault of all places
   first_cons : {X : Type 0} (x : Option X) (xs : List (Option X)) → first (x ∷ xs) ≡ option_or x (first xs)
