@@ -12,7 +12,7 @@ use Rattle.rpm_pkgdb.specs.Slots.{is_used, has_number, slot_with, free, slot_at}
 use Rattle.rpm_pkgdb.specs.Slots.{greatest_number}
 use Rattle.rpm_pkgdb.specs.Damages.{head_reason}
 use Rattle.rpm_pkgdb.specs.Pairs.{IsNext, IsGreatest}
-use Rattle.rpm_pkgdb.specs.Maps.{HasPlaces}
+use Rattle.rpm_pkgdb.specs.Maps.{HasPlaces, IsPackageNumber}
 
 pub find_none : {X : Type 0} (p : X → Bool) (xs : List X) → list_any p xs ≡ false → find p xs ≡ None
 find_none p [] none = refl
@@ -122,3 +122,14 @@ module _ (f : ℕ → Option ℕ) (slots : List Slot) (has : HasPlaces f slots) 
       let facts = number_facts m (slot_at slots v.0) o.1 in
       let lt = each v.0 o.0 facts.used in
       omega (arith, facts.number)
+
+-- the number 0 is no package's
+pub zero_absent : (slots : List Slot) → ((k : ℕ) → k < length slots → is_used (slot_at slots k) ≡ true → IsPackageNumber (slot_at slots k).number) → slot_with 0 slots ≡ None
+zero_absent slots each = elim (cases_Bool (list_any (has_number 0) slots)) [
+  | inr none ↦ find_none (has_number 0) slots none
+  | inl some ↦
+      (let f = find_some (has_number 0) slots free some in
+      let facts = number_facts 0 (slot_at slots f.at) f.holds in
+      let one = each f.at f.below facts.used in
+      absurd (omega (arith, facts.number, one.0)))
+]

@@ -92,6 +92,8 @@ impl PkgDb {
     /// Reads 4096 bytes a page, each byte once: less where a slot is damaged, and at most unit 0 where the file is blank or its head
     /// is damaged. The time is n log n in the slots, whatever stands in them.
     ///
+    /// No package has the number 0.
+    ///
     /// # Errors
     ///
     /// - `Damaged` exactly where the file isn't a store: its first damage.
@@ -100,6 +102,7 @@ impl PkgDb {
     pub fn open<D: Disk>(alloc: Global, disk: &mut D) -> Result<PkgDb, OpenFault>
         ensures store { IsTrue D.tells → OpenIs (store (D.files disk.old).pkg) result }
         ensures kept { IfOk result (λ db. IsTrue D.tells → Keeps (D.files disk.new).pkg db) }
+        ensures from_one { IfOk result (λ db. slot_with 0 db.slots ≡ None) }
         ensures reads { IsTrue D.tells → D.bytes_read disk.new File.Pkg ≤ D.bytes_read disk.old File.Pkg + opening_cost (D.files disk.old).pkg }
         ensures looks { Looks D.tells D.files D.left_since D.moment D.bytes_read D.follows (2 ^ 32) disk.old disk.new }
         ensures cause { HasCauseAt (result ≡ Err OpenFault.DiskFault) (D.faults disk.old) (D.faults disk.new) }
@@ -134,6 +137,7 @@ impl PkgDb {
         requires units { IsTrue D.tells → units ≡ length (D.files disk.old).pkg }
         requires head { IsTrue D.tells → head.now ≡ unit_at (D.files disk.old).pkg 0 }
         ensures store { IsTrue D.tells → OpenIs (store_of (word 3 head.now) (D.files disk.old).pkg) result }
+        ensures from_one { IfOk result (λ db. slot_with 0 db.slots ≡ None) }
         ensures looks { Looks D.tells D.files D.left_since D.moment D.bytes_read D.follows (4096 * word 3 head.now - 16) disk.old disk.new }
         ensures cause { HasCauseAt (result ≡ Err OpenFault.DiskFault) (D.faults disk.old) (D.faults disk.new) }
     {

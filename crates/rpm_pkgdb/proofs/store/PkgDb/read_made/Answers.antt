@@ -1,7 +1,7 @@
 use Rattle.std.proofs.Common.{◌-◌, ◌*◌, length, sym, ap, ◌∙◌, arith}
 use Rattle.rpm_outside.specs.Files.{Files}
 use Rattle.rpm_outside.specs.Looks.{looks_more, looks_then}
-use Rattle.rpm_pkgdb.proofs.Kept.{lawful}
+use Rattle.rpm_pkgdb.proofs.Kept.{lawful, zero_absent}
 use Rattle.rpm_pkgdb.proofs.store.PkgDb.read_made.Goals as goal
 
 pub read_unit-requires : goal.read_unit-requires
@@ -57,3 +57,6 @@ invariant_of-result g c =
       };
       numbered = known.numbered;
     }
+
+pub returns-clause-from_one : goal.returns-clause-from_one
+returns-clause-from_one g c = zero_absent c.in-Ok-read_table.opening.slots.items c.in-Ok-read_table.ensures.known.numbered
