@@ -13,4 +13,5 @@ mod step;
 pub mod words;
 
 pub use answer::{Outcome, Unbuilt, Why};
+pub use command::run;
 pub use rpm_pkgdb::{Damage, Reason};

@@ -1,11 +1,12 @@
 //! The query of all packages.
 
-ghost use Rattle.std.specs.Prelude.{◌≡◌, ℕ, ◌+◌, ◌≤◌, IsTrue, None};
+ghost use Rattle.std.specs.Prelude.{◌≡◌, ◌≢◌, ℕ, ◌+◌, ◌≤◌, IsTrue, None};
 ghost use Rattle.rpm_outside.specs.Causes.{HasCauseAt};
 ghost use Rattle.rpm_outside.specs.Looks.{Looks};
 ghost use Rattle.rpm_pkgdb.specs.Slots.{slot_with};
 ghost use Rattle.rpm_pkgdb.specs.Store.{Keeps, store};
 ghost use Rattle.rpm_pkgdb.specs.Costs.{cost_all, cost_to};
+ghost use Rattle.rpm_tool.specs.declared.answer.Unbuilt.{Unbuilt};
 ghost use Rattle.rpm_tool.specs.Installed.{installed};
 ghost use Rattle.rpm_tool.specs.Steps.{all_packages};
 ghost use Rattle.rpm_tool.specs.Answers.{outputs, why_of, Went, Queried, query_cost};
@@ -18,7 +19,8 @@ use std::alloc::Global;
 
 /// The ending of a command that was stopped.
 fn why_of(stop: Stop) -> Why
-    ensures { result ≡ why_of stop }
+    ensures value { result ≡ why_of stop }
+    ensures built { (what : Unbuilt) → result ≢ Why.NotBuilt what }
 {
     match stop {
         Stop::DiskFault => Why::DiskFault,
@@ -39,6 +41,7 @@ fn print_all<D: Disk, O: Sink, E: Sink>(
     requires keeps { IsTrue D.tells → Keeps (D.files disk.old).pkg db.now }
     requires from_one { slot_with 0 db.now.slots ≡ None }
     ensures went { IsTrue D.tells → Went (all_packages (installed (D.files disk.old).pkg db.now)) result (outputs O.tells (O.taken out.old) E.tells (E.taken err.old)) (outputs O.tells (O.taken out.new) E.tells (E.taken err.new)) (λ n. D.bytes_read disk.new File.Pkg ≤ D.bytes_read disk.old File.Pkg + cost_to n db.now) }
+    ensures built { (what : Unbuilt) → result ≢ Why.NotBuilt what }
     ensures looks { Looks D.tells D.files D.left_since D.moment D.bytes_read D.follows (cost_all db.now) disk.old disk.new }
     ensures disk { HasCauseAt (result ≡ Why.DiskFault) (D.faults disk.old) (D.faults disk.new) }
     ensures out { HasCauseAt (result ≡ Why.OutFault) (O.faults out.old) (O.faults out.new) }
@@ -68,6 +71,7 @@ pub fn query_all<D: Disk, O: Sink, E: Sink>(
 ) -> Why
     ensures went { IsTrue D.tells → Queried (D.files disk.old).pkg (store (D.files disk.old).pkg) result (outputs O.tells (O.taken out.old) E.tells (E.taken err.old)) (outputs O.tells (O.taken out.new) E.tells (E.taken err.new)) (D.bytes_read disk.old File.Pkg) (D.bytes_read disk.new File.Pkg) }
     ensures reads { IsTrue D.tells → D.bytes_read disk.new File.Pkg ≤ D.bytes_read disk.old File.Pkg + query_cost (D.files disk.old).pkg }
+    ensures built { (what : Unbuilt) → result ≢ Why.NotBuilt what }
     ensures looks { (most : ℕ) × Looks D.tells D.files D.left_since D.moment D.bytes_read D.follows most disk.old disk.new }
     ensures disk { HasCauseAt (result ≡ Why.DiskFault) (D.faults disk.old) (D.faults disk.new) }
     ensures out { HasCauseAt (result ≡ Why.OutFault) (O.faults out.old) (O.faults out.new) }

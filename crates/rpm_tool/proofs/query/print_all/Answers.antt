@@ -41,7 +41,7 @@ returns-in-Err-clause-went g c = λ told.
     let reads_to : ℕ → Type 0 = λ k. g.D.Disk.bytes_read c.put_package.new.disk Pkg ≤ g.D.Disk.bytes_read c.args.disk.now Pkg + cost_to k db in
     let old = outputs g.O.Sink.tells (g.O.Sink.taken c.args.out.now) g.E.Sink.tells (g.E.Sink.taken c.args.err.now) in
     let new = outputs g.O.Sink.tells (g.O.Sink.taken c.put_package.new.out) g.E.Sink.tells (g.E.Sink.taken c.put_package.new.err) in
-    subst (λ (w : Why). Went (all_packages (installed file db)) w old new reads_to) (sym c.why_of.ensures) (stopped_at g.O.Sink.tells g.E.Sink.tells (steps_of packages) (above n packages) (above m packages) m p.0 c.loop-next.is_failed c.in-Err.stop
+    subst (λ (w : Why). Went (all_packages (installed file db)) w old new reads_to) (sym c.why_of.ensures.value) (stopped_at g.O.Sink.tells g.E.Sink.tells (steps_of packages) (above n packages) (above m packages) m p.0 c.loop-next.is_failed c.in-Err.stop
     (g.O.Sink.taken c.args.out.now) (g.O.Sink.taken c.loop-next.out) (g.O.Sink.taken c.put_package.new.out) (g.E.Sink.taken c.args.err.now) (g.E.Sink.taken c.loop-next.err) (g.E.Sink.taken c.put_package.new.err)
     reads_to p.2 looks.no_more (c.in-Err.ensures.step told p.0 held) (inv.before told))
 
