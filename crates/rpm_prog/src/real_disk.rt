@@ -1,0 +1,120 @@
+//! A disk over the files of a folder.
+
+ghost use Rattle.std.specs.Prelude.{◌≡◌, ◌+◌, ◌-◌, ◌^◌, false, [], min};
+ghost use Rattle.rpm_outside.specs.Causes.{HasCause};
+
+use crate::real_file::RealFile;
+use rpm_outside::{Disk, Failed, File};
+use std::alloc::{AllocError, Global};
+use std::fs;
+use std::io;
+use std::rt::Files;
+
+/// The files `Packages.db`, `Hindex.db` and `Hlog.db` of a folder. What they hold isn't told.
+#[derive(Drop)]
+pub struct RealDisk<'a, R: Files<File = fs::File>> {
+    rt: &'a R,
+    folder: String,
+    pkg: RealFile,
+    idx: RealFile,
+    log: RealFile,
+    moment: u64,
+    faults: u64,
+}
+
+impl<'a, R: Files<File = fs::File>> RealDisk<'a, R> {
+    /// The disk of a folder. No file is opened yet.
+    ///
+    /// # Errors
+    ///
+    /// `AllocError` where the paths find no memory.
+    pub fn new(alloc: Global, rt: &'a R, folder: &str) -> Result<RealDisk<'a, R>, AllocError> {
+        Ok(RealDisk {
+            rt,
+            folder: String::from_str(alloc, folder)?,
+            pkg: RealFile::new(alloc, folder, "Packages.db")?,
+            idx: RealFile::new(alloc, folder, "Hindex.db")?,
+            log: RealFile::new(alloc, folder, "Hlog.db")?,
+            moment: 0,
+            faults: 0,
+        })
+    }
+}
+
+/// Counts a failure.
+fn counted<T: Drop>(faults: &mut u64, answer: io::Result<T>) -> Result<T, Failed>
+    ensures { HasCause faults.old faults.new result }
+{
+    match answer {
+        Ok(value) => Ok(value),
+        Err(_) => {
+            *faults = faults.saturating_add(1);
+            Err(Failed)
+        }
+    }
+}
+
+impl<'a, R: Files<File = fs::File>> Disk for RealDisk<'a, R> {
+    ghost use Rattle.rpm_prog.specs.RealDisk.{read_of};
+
+    ghost tells = { false };
+
+    ghost files = { λ disk. record { pkg = []; idx = []; log = [] } };
+
+    ghost left_since = { λ disk t image. Unit {0} };
+
+    ghost moment = { λ disk. disk.moment };
+
+    ghost bytes_read = { read_of };
+
+    ghost faults = { λ disk. disk.faults };
+
+    ghost follows = { λ old new. Unit {0} };
+
+    ghost as_read = { λ disk told. tt };
+
+    ghost earlier = { λ disk s t image told le below left. tt };
+
+    ghost follows_refl = { λ disk. tt };
+
+    ghost follows_trans = { λ a b c f g. tt };
+
+    fn len(&mut self, file: File) -> Result<u64, Failed> {
+        let answer = match file {
+            File::Pkg => self.pkg.units(self.rt),
+            File::Idx => self.idx.units(self.rt),
+            File::Log => self.log.units(self.rt),
+        };
+        counted(&mut self.faults, answer)
+    }
+
+    fn read_at(&mut self, file: File, unit: u64, into: &mut [u8]) -> Result<(), Failed> {
+        let answer = match file {
+            File::Pkg => self.pkg.read_at(self.rt, unit, into),
+            File::Idx => self.idx.read_at(self.rt, unit, into),
+            File::Log => self.log.read_at(self.rt, unit, into),
+        };
+        counted(&mut self.faults, answer)
+    }
+
+    fn write_at(&mut self, file: File, unit: u64, bytes: &[u8]) -> Result<(), Failed> {
+        self.moment = self.moment.saturating_add(1);
+        let answer = match file {
+            File::Pkg => self.pkg.write_at(self.rt, unit, bytes),
+            File::Idx => self.idx.write_at(self.rt, unit, bytes),
+            File::Log => self.log.write_at(self.rt, unit, bytes),
+        };
+        counted(&mut self.faults, answer)
+    }
+
+    fn sync(&mut self, file: File) -> Result<(), Failed> {
+        self.moment = self.moment.saturating_add(1);
+        let folder = self.folder.as_str();
+        let answer = match file {
+            File::Pkg => self.pkg.sync(self.rt, folder),
+            File::Idx => self.idx.sync(self.rt, folder),
+            File::Log => self.log.sync(self.rt, folder),
+        };
+        counted(&mut self.faults, answer)
+    }
+}

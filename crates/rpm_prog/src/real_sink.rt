@@ -1,0 +1,38 @@
+//! A sink over standard output or standard error.
+
+ghost use Rattle.std.specs.Prelude.{false, []};
+
+use rpm_outside::{Failed, Sink};
+use std::io::Print;
+
+/// A sink that writes at once, and tells nothing of what it wrote.
+#[derive(Drop)]
+pub struct RealSink<P: Print + Drop> {
+    to: P,
+    faults: u64,
+}
+
+impl<P: Print + Drop> RealSink<P> {
+    /// A sink that hasn't failed yet.
+    pub fn new(to: P) -> RealSink<P> {
+        RealSink { to, faults: 0 }
+    }
+}
+
+impl<P: Print + Drop> Sink for RealSink<P> {
+    ghost tells = { false };
+
+    ghost taken = { λ sink. [] };
+
+    ghost faults = { λ sink. sink.faults };
+
+    fn write(&mut self, bytes: &[u8]) -> Result<usize, Failed> {
+        match self.to.write_some(bytes) {
+            Ok(0) | Err(_) => {
+                self.faults = self.faults.saturating_add(1);
+                Err(Failed)
+            }
+            Ok(count) => Ok(count),
+        }
+    }
+}
