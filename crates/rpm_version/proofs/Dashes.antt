@@ -27,8 +27,8 @@ module _ (i : ℕ) (text : List ℕ) (at : IsLastDash i text) where
   behind : suffix_len (λ b. not (is_dash b)) text ≡ length text - (i + 1)
   behind =
       suffix_len_is (λ b. not (is_dash b)) text (i + 1) 0 (omega (arith, at.within))
-        (λ k h m. ap not (ne_eqb (get_or text k 0) 45 (at.last k (omega arith) m)))
-        (λ _. ap not (subst (λ n. is_dash (get_or text n 0) ≡ true) (sym before) (eq-eqb _ 45 at.dash)))
+      (λ k h m. ap not (ne_eqb (get_or text k 0) 45 (at.last k (omega arith) m)))
+      (λ _. ap not (subst (λ n. is_dash (get_or text n 0) ≡ true) (sym before) (eq-eqb _ 45 at.dash)))
 
   pub version_of-at : take i text ≡ version_of text
   unfolding version_of

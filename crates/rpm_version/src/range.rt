@@ -8,7 +8,9 @@ use crate::evr::{Evr, compare_evr};
 use std::cmp::Ordering;
 
 const LESS: u32 = 2;
+
 const GREATER: u32 = 4;
+
 const EQUAL: u32 = 8;
 
 fn has(flags: u32, sense: u32) -> bool
@@ -53,7 +55,8 @@ fn meet(a_flags: u32, a: &Evr<'_>, b_flags: u32, b: &Evr<'_>) -> bool
     match compare_evr(a, b) {
         Ordering::Less => has(a_flags, GREATER) || has(b_flags, LESS),
         Ordering::Equal => {
-            share_sense(a_flags, b_flags) || equal_but_release(a_flags, a.release(), b_flags, b.release())
+            share_sense(a_flags, b_flags)
+                || equal_but_release(a_flags, a.release(), b_flags, b.release())
         }
         Ordering::Greater => has(a_flags, LESS) || has(b_flags, GREATER),
     }
@@ -65,5 +68,7 @@ pub fn overlap(a_flags: u32, a: &[u8], b_flags: u32, b: &[u8]) -> bool
     ensures table { result ≡ overlaps a_flags a.now b_flags b.now }
     ensures symmetric { (x y : ℕ) (s t : List ℕ) → overlaps x s y t ≡ overlaps y t x s }
 {
-    is_open(a_flags, a) || is_open(b_flags, b) || meet(a_flags, &Evr::read(a), b_flags, &Evr::read(b))
+    is_open(a_flags, a)
+        || is_open(b_flags, b)
+        || meet(a_flags, &Evr::read(a), b_flags, &Evr::read(b))
 }
