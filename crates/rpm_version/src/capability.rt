@@ -6,7 +6,7 @@ ghost use Rattle.rpm_version.specs.Capability.{is_blank, words, sense, capabilit
 
 use std::marker::Model;
 
-/// The answer for a text that is no capability.
+/// A text is no capability.
 #[derive(Debug, Clone, Copy, PartialEq, Eq)]
 pub struct BadCapability;
 
@@ -80,7 +80,11 @@ fn sense_of(sign: &[u8]) -> Option<u32>
 }
 
 impl<'a> Capability<'a> {
-    /// Reads one word, or three of which the second is a sign.
+    /// Reads a name alone, or a name, a sign and a version: words that runs of spaces and tabs part,
+    /// of which the second is `<`, `<=`, `=`, `>=` or `>`. Every other text is a [`BadCapability`].
+    ///
+    /// Spaces and tabs at either end part nothing. Goes over the text once, and copies nothing. The
+    /// form is this project's own.
     #[tactic(auto, unfolding(crate::specs::Capability::capability))]
     pub fn read(text: &'a str) -> Result<Self, BadCapability>
         ensures { result ≡ capability text.now }

@@ -62,7 +62,13 @@ fn meet(a_flags: u32, a: &Evr<'_>, b_flags: u32, b: &Evr<'_>) -> bool
     }
 }
 
-/// Whether two ranges of versions have a version in common.
+/// Whether two ranges of versions overlap, each given by the flags of its sense and by its version.
+///
+/// Of the flags the bits 2 (less), 4 (greater) and 8 (equal) count. A range with none of them, or
+/// with an empty text, holds every version. Otherwise the order of the two versions and the bits
+/// decide; where the versions are equal and one of them alone has a release, the other meets it
+/// where it has the bit of equal. From rpm's documentation of dependency versions. Takes time in
+/// the sum of the lengths, and copies nothing.
 #[tactic(auto, unfolding(crate::specs::Range::overlaps), using(crate::proofs::RangeLaws::symmetric))]
 pub fn overlap(a_flags: u32, a: &[u8], b_flags: u32, b: &[u8]) -> bool
     ensures table { result ≡ overlaps a_flags a.now b_flags b.now }
