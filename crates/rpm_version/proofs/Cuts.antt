@@ -1,14 +1,12 @@
 -- The first segment of a text, by its first byte.
-use Rattle.std.proofs.Common.{◌≡◌, ◌≢◌, ℕ, ◌+◌, ◌<◌, ◌≤◌, Bool, true, false, cond, ◌&&◌, ◌||◌, List, [], ◌∷◌, take, drop, refl, sym, ap, ◌∙◌, subst, arith, length}
+use Rattle.std.proofs.Common.{◌≡◌, ◌≢◌, ℕ, ◌<◌, Bool, true, false, ◌||◌, List, [], ◌∷◌, drop, refl, sym, ap, ◌∙◌, subst, arith}
 use Rattle.std.specs.Char.{is_ascii_digit, is_ascii_alphabetic, digit_value}
 use Rattle.std.specs.List.{prefix_len, take_while, onto_first}
 use Rattle.std.specs.Str.Parse.{digits_value, AllDigits}
 use Rattle.std.proofs.lemmas.Bool.Decides.{nat_tests}
 use Rattle.std.proofs.lemmas.Bool.{ne_eqb}
-use Rattle.std.proofs.lemmas.Grind.{common_steps}
-use Rattle.std.proofs.lemmas.List.Sums.{take_while-cons}
 use Rattle.rpm_version.proofs.Fronts.{taken-yes, taken-no, left-yes, left-no}
-use Rattle.rpm_version.specs.Segment.{Segment, Tilde, End, Caret, Letters, Digits, runs_on, runs, segment_of, segments}
+use Rattle.rpm_version.specs.Segment.{Tilde, End, Caret, Letters, Digits, runs_on, runs, segment_of, segments}
 
 pub segments-nil : segments [] ≡ End ∷ []
 unfolding segments runs

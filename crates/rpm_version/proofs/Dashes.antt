@@ -1,6 +1,6 @@
 -- What the place of the last dash says of a version and a release.
-use Rattle.std.proofs.Common.{◌≡◌, ◌≢◌, ℕ, ◌+◌, ◌-◌, ◌<◌, ◌≤◌, Bool, true, false, not, List, [], ◌∷◌, take, drop, length, refl, sym, ap, subst, get_or, ◌∙◌, All, arith, None}
-use Rattle.std.specs.List.{list_any, suffix_len, before_last, after_last}
+use Rattle.std.proofs.Common.{◌≡◌, ◌≢◌, ℕ, ◌+◌, ◌-◌, true, false, not, List, take, drop, length, refl, sym, ap, subst, get_or, All, arith, None}
+use Rattle.std.specs.List.{list_any, suffix_len}
 use Rattle.std.proofs.lemmas.Bool.{ne_eqb, eq-eqb}
 use Rattle.std.proofs.lemmas.List.Recursion.{or_at, or_from_places}
 use Rattle.std.proofs.lemmas.List.Sums.{suffix_len_is}

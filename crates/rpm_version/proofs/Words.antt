@@ -1,5 +1,5 @@
 -- The first word of a text.
-use Rattle.std.proofs.Common.{◌≡◌, ◌≢◌, ℕ, ◌+◌, ◌<◌, Bool, true, false, not, List, [], ◌∷◌, take, drop, length, filter, refl, sym, ap, subst, ◌==◌, ◌∙◌, arith}
+use Rattle.std.proofs.Common.{◌≡◌, ℕ, ◌<◌, Bool, true, false, not, List, [], ◌∷◌, take, drop, length, filter, refl, sym, ap, subst, ◌==◌, ◌∙◌, arith}
 use Rattle.std.specs.List.{prefix_len, position_or_len, take_while, slice_split, onto_first}
 use Rattle.std.proofs.lemmas.Bool.{ne_eqb, eqb-true, eqb-false}
 use Rattle.std.proofs.lemmas.List.{nil_from_length}
