@@ -4,6 +4,7 @@ ghost use Rattle.std.specs.Prelude.{◌≡◌, ◌≤◌, ◌∷◌, [], MatchOp
 ghost use Rattle.std.specs.List.{prefix_len, position_or_len};
 ghost use Rattle.rpm_version.specs.Capability.{is_blank, words, sense, capability};
 
+use crate::range::{EQUAL, GREATER, LESS};
 use std::marker::Model;
 
 /// A text is no capability.
@@ -70,11 +71,11 @@ fn sense_of(sign: &[u8]) -> Option<u32>
     ensures { result ≡ sense sign.now }
 {
     match sign {
-        b"<" => Some(2),
-        b"<=" => Some(10),
-        b"=" => Some(8),
-        b">=" => Some(12),
-        b">" => Some(4),
+        b"<" => Some(LESS),
+        b"<=" => Some(LESS | EQUAL),
+        b"=" => Some(EQUAL),
+        b">=" => Some(GREATER | EQUAL),
+        b">" => Some(GREATER),
         _ => None,
     }
 }

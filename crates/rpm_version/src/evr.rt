@@ -68,8 +68,8 @@ fn split_release(text: &[u8]) -> (&[u8], Option<&[u8]>)
     }
 }
 
-#[tactic(auto, unfolding(crate::specs::Evr::release_order))]
 /// The order of two releases: `Equal` unless both are there.
+#[tactic(auto, unfolding(crate::specs::Evr::release_order))]
 fn compare_releases(a: Option<&[u8]>, b: Option<&[u8]>) -> Ordering
     ensures { result ≡ release_order (option_copied a.entry) (option_copied b.entry) }
 {

@@ -7,12 +7,16 @@ ghost use Rattle.rpm_version.specs.Range.{is_open, share_sense, equal_but_releas
 use crate::evr::{Evr, compare_evr};
 use std::cmp::Ordering;
 
-const LESS: u32 = 2;
+/// The bit of a sense that takes in the versions below.
+pub const LESS: u32 = 2;
 
-const GREATER: u32 = 4;
+/// The bit of a sense that takes in the versions above.
+pub const GREATER: u32 = 4;
 
-const EQUAL: u32 = 8;
+/// The bit of a sense that takes in the version itself.
+pub const EQUAL: u32 = 8;
 
+/// Whether flags have the bit of a sense.
 fn has(flags: u32, sense: u32) -> bool
     ensures { result ≡ not (bit_and flags sense == 0) }
 {
@@ -27,6 +31,7 @@ fn is_open(flags: u32, text: &[u8]) -> bool
     !(has(flags, LESS) || has(flags, GREATER) || has(flags, EQUAL)) || text.is_empty()
 }
 
+/// Whether two ranges at one version meet there or on one side of it.
 #[tactic(auto, unfolding(crate::specs::Range::share_sense))]
 fn share_sense(a_flags: u32, b_flags: u32) -> bool
     ensures { result ≡ share_sense a_flags b_flags }
@@ -36,7 +41,7 @@ fn share_sense(a_flags: u32, b_flags: u32) -> bool
         || (has(a_flags, GREATER) && has(b_flags, GREATER))
 }
 
-/// Whether an equal version meets one whose release it leaves open.
+/// Whether one side alone has a release, and the other side has the bit of equal.
 #[tactic(auto, unfolding(crate::specs::Range::equal_but_release))]
 fn equal_but_release(a_flags: u32, a: Option<&[u8]>, b_flags: u32, b: Option<&[u8]>) -> bool
     ensures { result ≡ equal_but_release a_flags (option_copied a.entry) b_flags (option_copied b.entry) }
@@ -48,6 +53,7 @@ fn equal_but_release(a_flags: u32, a: Option<&[u8]>, b_flags: u32, b: Option<&[u
     }
 }
 
+/// Whether two ranges meet, neither of which holds every version.
 #[tactic(auto, unfolding(crate::specs::Range::meets))]
 fn meet(a_flags: u32, a: &Evr<'_>, b_flags: u32, b: &Evr<'_>) -> bool
     ensures { result ≡ meets (evr_order a.now b.now) a_flags a.now b_flags b.now }
