@@ -56,7 +56,15 @@ fn status_of(rt: &HostRuntime) -> u8 {
     let mut out = RealSink::new(rt.stdout());
     let mut err = RealSink::new(rt.stderr());
     let now = moment_of(rt);
-    let (outcome, _) = run(rt.alloc(), &words, disk, &mut shelf, &mut out, &mut err, now);
+    let (outcome, _) = run(
+        rt.alloc(),
+        &words,
+        disk,
+        &mut shelf,
+        &mut out,
+        &mut err,
+        now,
+    );
     outcome.status
 }
 

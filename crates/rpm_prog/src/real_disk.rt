@@ -6,9 +6,8 @@ ghost use Rattle.rpm_outside.specs.Causes.{HasCause};
 use crate::real_file::RealFile;
 use rpm_outside::{Disk, Failed, File};
 use std::alloc::{AllocError, Global};
-use std::fs;
-use std::io;
 use std::rt::Files;
+use std::{fs, io};
 
 /// The files `Packages.db`, `Hindex.db` and `Hlog.db` of a folder. What they hold isn't told.
 #[derive(Drop)]

@@ -1,13 +1,12 @@
 -- The first segment of a text, by its first byte.
-use Rattle.std.proofs.Common.{◌≡◌, ◌≢◌, ℕ, ◌+◌, ◌<◌, ◌≤◌, Bool, true, false, cond, ◌&&◌, ◌||◌, List, [], ◌∷◌, take, drop, refl, sym, ap, ◌∙◌, subst, arith, length}
+use Rattle.std.proofs.Common.{◌≡◌, ◌≢◌, ℕ, ◌<◌, Bool, true, false, ◌||◌, List, [], ◌∷◌, drop, refl, sym, ap, ◌∙◌, subst, arith}
 use Rattle.std.specs.Char.{is_ascii_digit, is_ascii_alphabetic, digit_value}
 use Rattle.std.specs.List.{prefix_len, take_while, onto_first}
 use Rattle.std.specs.Str.Parse.{digits_value, AllDigits}
 use Rattle.std.proofs.lemmas.Bool.Decides.{nat_tests}
 use Rattle.std.proofs.lemmas.Bool.{ne_eqb}
-use Rattle.std.proofs.lemmas.Grind.{common_steps}
-use Rattle.std.proofs.lemmas.List.Sums.{take_while-cons}
-use Rattle.rpm_version.specs.Segment.{Segment, Tilde, End, Caret, Letters, Digits, runs_on, runs, segment_of, segments}
+use Rattle.rpm_version.proofs.Fronts.{taken-yes, taken-no, left-yes, left-no}
+use Rattle.rpm_version.specs.Segment.{Tilde, End, Caret, Letters, Digits, runs_on, runs, segment_of, segments}
 
 pub segments-nil : segments [] ≡ End ∷ []
 unfolding segments runs
@@ -60,33 +59,19 @@ runs-apart : (b : ℕ) (rest : List ℕ) → runs_on b rest ≡ false → runs (
 unfolding runs
 runs-apart b rest h = rw h
 
--- what a test takes from the front, and what it leaves
-module _ (p : ℕ → Bool) where
-  taken-yes : (b : ℕ) (rest : List ℕ) → p b ≡ true → take_while p (b ∷ rest) ≡ b ∷ take_while p rest
-  taken-yes b rest h = rw (take_while-cons p b rest, h)
+-- bytes that pass a test run on
+module _ (p : ℕ → Bool) (joins : (b c : ℕ) (rest : List ℕ) → p b ≡ true → runs_on b (c ∷ rest) ≡ p c) where
+  longest-by : (b c : ℕ) (rest : List ℕ) (v : Bool) → p b ≡ true → p c ≡ v → (p c ≡ true → runs (c ∷ rest) ≡ take_while p (c ∷ rest) ∷ runs (drop (prefix_len p (c ∷ rest)) (c ∷ rest))) → runs (b ∷ c ∷ rest) ≡ take_while p (b ∷ c ∷ rest) ∷ runs (drop (prefix_len p (b ∷ c ∷ rest)) (b ∷ c ∷ rest))
+  longest-by b c rest true h k more =
+      runs-joined b (c ∷ rest) (joins b c rest h ∙ k) ∙ ap (onto_first b) (more k)
+      ∙ rw (taken-yes p b (c ∷ rest) h, left-yes p b (c ∷ rest) h)
+  longest-by b c rest false h k more =
+      runs-apart b (c ∷ rest) (joins b c rest h ∙ k)
+      ∙ rw (taken-yes p b (c ∷ rest) h, left-yes p b (c ∷ rest) h, taken-no p c rest k, left-no p c rest k)
 
-  taken-no : (b : ℕ) (rest : List ℕ) → p b ≡ false → take_while p (b ∷ rest) ≡ []
-  taken-no b rest h = rw (take_while-cons p b rest, h)
-
-  left-yes : (b : ℕ) (rest : List ℕ) → p b ≡ true → drop (prefix_len p (b ∷ rest)) (b ∷ rest) ≡ drop (prefix_len p rest) rest
-  left-yes b rest h = grind (arith, common_steps, h)
-
-  left-no : (b : ℕ) (rest : List ℕ) → p b ≡ false → drop (prefix_len p (b ∷ rest)) (b ∷ rest) ≡ b ∷ rest
-  left-no b rest h = rw h
-
-  -- bytes that pass the test run on
-  module _ (joins : (b c : ℕ) (rest : List ℕ) → p b ≡ true → runs_on b (c ∷ rest) ≡ p c) where
-    longest-by : (b c : ℕ) (rest : List ℕ) (v : Bool) → p b ≡ true → p c ≡ v → (p c ≡ true → runs (c ∷ rest) ≡ take_while p (c ∷ rest) ∷ runs (drop (prefix_len p (c ∷ rest)) (c ∷ rest))) → runs (b ∷ c ∷ rest) ≡ take_while p (b ∷ c ∷ rest) ∷ runs (drop (prefix_len p (b ∷ c ∷ rest)) (b ∷ c ∷ rest))
-    longest-by b c rest true h k more =
-        runs-joined b (c ∷ rest) (joins b c rest h ∙ k) ∙ ap (onto_first b) (more k)
-        ∙ rw (taken-yes b (c ∷ rest) h, left-yes b (c ∷ rest) h)
-    longest-by b c rest false h k more =
-        runs-apart b (c ∷ rest) (joins b c rest h ∙ k)
-        ∙ rw (taken-yes b (c ∷ rest) h, left-yes b (c ∷ rest) h, taken-no c rest k, left-no c rest k)
-
-    pub runs-longest : (b : ℕ) (rest : List ℕ) → p b ≡ true → runs (b ∷ rest) ≡ take_while p (b ∷ rest) ∷ runs (drop (prefix_len p (b ∷ rest)) (b ∷ rest))
-    runs-longest b [] h = runs-apart b [] (alone-end b) ∙ rw h
-    runs-longest b (c ∷ rest) h = longest-by b c rest (p c) h refl (runs-longest c rest)
+  pub runs-longest : (b : ℕ) (rest : List ℕ) → p b ≡ true → runs (b ∷ rest) ≡ take_while p (b ∷ rest) ∷ runs (drop (prefix_len p (b ∷ rest)) (b ∷ rest))
+  runs-longest b [] h = runs-apart b [] (alone-end b) ∙ rw h
+  runs-longest b (c ∷ rest) h = longest-by b c rest (p c) h refl (runs-longest c rest)
 
 digits_join : (b c : ℕ) (rest : List ℕ) → is_ascii_digit b ≡ true → runs_on b (c ∷ rest) ≡ is_ascii_digit c
 unfolding runs_on

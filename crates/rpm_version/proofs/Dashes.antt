@@ -1,6 +1,6 @@
 -- What the place of the last dash says of a version and a release.
-use Rattle.std.proofs.Common.{◌≡◌, ◌≢◌, ℕ, ◌+◌, ◌-◌, ◌<◌, ◌≤◌, Bool, true, false, not, List, [], ◌∷◌, take, drop, length, refl, sym, ap, subst, get_or, ◌∙◌, All, arith, None}
-use Rattle.std.specs.List.{list_any, suffix_len, before_last, after_last}
+use Rattle.std.proofs.Common.{◌≡◌, ◌≢◌, ℕ, ◌+◌, ◌-◌, true, false, not, List, take, drop, length, refl, sym, ap, subst, get_or, All, arith, None}
+use Rattle.std.specs.List.{list_any, suffix_len}
 use Rattle.std.proofs.lemmas.Bool.{ne_eqb, eq-eqb}
 use Rattle.std.proofs.lemmas.List.Recursion.{or_at, or_from_places}
 use Rattle.std.proofs.lemmas.List.Sums.{suffix_len_is}
@@ -27,8 +27,8 @@ module _ (i : ℕ) (text : List ℕ) (at : IsLastDash i text) where
   behind : suffix_len (λ b. not (is_dash b)) text ≡ length text - (i + 1)
   behind =
       suffix_len_is (λ b. not (is_dash b)) text (i + 1) 0 (omega (arith, at.within))
-        (λ k h m. ap not (ne_eqb (get_or text k 0) 45 (at.last k (omega arith) m)))
-        (λ _. ap not (subst (λ n. is_dash (get_or text n 0) ≡ true) (sym before) (eq-eqb _ 45 at.dash)))
+      (λ k h m. ap not (ne_eqb (get_or text k 0) 45 (at.last k (omega arith) m)))
+      (λ _. ap not (subst (λ n. is_dash (get_or text n 0) ≡ true) (sym before) (eq-eqb _ 45 at.dash)))
 
   pub version_of-at : take i text ≡ version_of text
   unfolding version_of

@@ -1,5 +1,5 @@
 -- The order by epoch, version and release, turned round.
-use Rattle.std.proofs.Common.{◌≡◌, ℕ, List, [], ◌∷◌, refl, sym, ap, ◌∙◌, Option, Some, None}
+use Rattle.std.proofs.Common.{◌≡◌, ℕ, List, refl, ◌∙◌, Option, Some, None}
 use Rattle.std.specs.declared.cmp.Ordering.{Ordering}
 use Rattle.std.specs.declared.cmp.Ordering.TheVariants.{Less, Equal, Greater}
 use Rattle.std.specs.Ordering.{nat_cmp, ordering_then, ordering_reverse}
@@ -27,6 +27,6 @@ pub evr_converse : (x y : EvrParts) → evr_order x y ≡ ordering_reverse (evr_
 unfolding evr_order
 evr_converse x y =
     both (nat_cmp (epoch_number x.epoch) (epoch_number y.epoch)) _ (nat_cmp (epoch_number y.epoch) (epoch_number x.epoch)) _
-      (nat_cmp_total.antisymm (epoch_number x.epoch) (epoch_number y.epoch))
-      (both (version_order x.version y.version) (release_order x.release y.release) (version_order y.version x.version) (release_order y.release x.release)
-        (converse x.version y.version) (releases x.release y.release))
+    (nat_cmp_total.antisymm (epoch_number x.epoch) (epoch_number y.epoch))
+    (both (version_order x.version y.version) (release_order x.release y.release) (version_order y.version x.version) (release_order y.release x.release)
+    (converse x.version y.version) (releases x.release y.release))

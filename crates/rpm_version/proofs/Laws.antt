@@ -1,5 +1,5 @@
 -- The order of versions is a total preorder, and its ties have the same segments.
-use Rattle.std.proofs.Common.{◌≡◌, ◌≢◌, ◌⊎◌, ◌↔◌, ℕ, ◌<◌, Bool, true, false, List, [], ◌∷◌, refl, sym, ap, ◌∙◌, subst, inl, inr}
+use Rattle.std.proofs.Common.{◌≡◌, ◌≢◌, ◌⊎◌, ◌↔◌, ℕ, ◌<◌, true, false, List, [], ◌∷◌, refl, sym, ap, ◌∙◌, subst, inl, inr}
 use Rattle.std.specs.declared.cmp.Ordering.{Ordering}
 use Rattle.std.specs.declared.cmp.Ordering.TheVariants.{Less, Equal, Greater}
 use Rattle.std.specs.Cmp.{IsTotalOrder}
@@ -43,7 +43,7 @@ keyed x (Digits b) = refl
 pub segment_total : IsTotalOrder segment_order
 segment_total =
     subst IsTotalOrder (λ i x y. keyed x y i)
-      (then_total (on_total rank nat_cmp_total) (then_total (on_total letters_of nat_list_cmp_total) (on_total number_of nat_cmp_total)))
+    (then_total (on_total rank nat_cmp_total) (then_total (on_total letters_of nat_list_cmp_total) (on_total number_of nat_cmp_total)))
 
 pub version_total : IsTotalOrder version_order
 unfolding version_order
@@ -109,9 +109,10 @@ transitive x y z h k g =
 
 pub ties : (x y : List ℕ) → (version_order x y ≡ Equal) ↔ (segments x ≡ segments y)
 unfolding version_order
-ties x y =
-    (lists_tie (segments x) (segments y),
-     λ e. ap (slice_cmp segment_order (segments x)) (sym e) ∙ tied_itself (lists_total segment_total) (segments x))
+ties x y = (
+  lists_tie (segments x) (segments y),
+  λ e. ap (slice_cmp segment_order (segments x)) (sym e) ∙ tied_itself (lists_total segment_total) (segments x),
+)
 
 -- one step of the comparison
 pub version_order-step : (a b : List ℕ) (x y : Segment) (xs ys : List Segment) → segments a ≡ x ∷ xs → segments b ≡ y ∷ ys → version_order a b ≡ ordering_then (segment_order x y) (slice_cmp segment_order xs ys)

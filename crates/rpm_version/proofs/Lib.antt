@@ -1,7 +1,9 @@
 pub mod Cuts
 pub mod Dashes
 pub mod EvrLaws
+pub mod Fronts
 pub mod Laws
 pub mod Numbers
 pub mod RangeLaws
 pub mod Steps
+pub mod Words

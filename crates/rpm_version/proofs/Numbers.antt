@@ -1,5 +1,5 @@
 -- Two runs of digits without leading zeros compare as the numbers that they write.
-use Rattle.std.proofs.Common.{◌≡◌, ◌≢◌, ◌⊎◌, ℕ, zero, suc, ◌+◌, ◌*◌, ◌-◌, ◌^◌, ◌<◌, ◌≤◌, List, [], ◌∷◌, length, refl, sym, ap, ◌∙◌, subst, arith}
+use Rattle.std.proofs.Common.{◌≡◌, ◌≢◌, ℕ, suc, ◌+◌, ◌*◌, ◌-◌, ◌^◌, ◌<◌, ◌≤◌, List, [], ◌∷◌, length, refl, sym, ap, ◌∙◌, subst, arith}
 use Rattle.std.specs.declared.cmp.Ordering.{Ordering}
 use Rattle.std.specs.declared.cmp.Ordering.TheVariants.{Less, Equal, Greater}
 use Rattle.std.specs.Char.{digit_value}
@@ -76,7 +76,7 @@ level (x ∷ xs) (y ∷ ys) h k e =
     let first = bytes_compare x y h.0 k.0 in
     let more = level xs ys h.1 k.1 same in
     let right : digit_value y * 10 ^ length xs + digits_value 10 ys ≡ digits_value 10 (y ∷ ys) =
-        ap (λ n. digit_value y * 10 ^ n + digits_value 10 ys) same ∙ sym (digits_value-cons y ys) in
+    ap (λ n. digit_value y * 10 ^ n + digits_value 10 ys) same ∙ sym (digits_value-cons y ys) in
     (λ i. ordering_then (first i) (more i))
     ∙ sym (place (10 ^ length xs) (digit_value x) (digit_value y) (digits_value 10 xs) (digits_value 10 ys) u v)
     ∙ (λ i. nat_cmp (sym (digits_value-cons x xs) i) (right i))

@@ -1,12 +1,12 @@
 -- What the first piece of each text says of their order.
-use Rattle.std.proofs.Common.{◌≡◌, ◌≢◌, ℕ, Bool, true, false, List, [], ◌∷◌, refl, sym, ap, ◌∙◌, subst}
+use Rattle.std.proofs.Common.{◌≡◌, ◌≢◌, ℕ, true, false, List, ◌∷◌, refl, sym, ap, ◌∙◌}
 use Rattle.std.specs.declared.cmp.Ordering.{Ordering}
 use Rattle.std.specs.declared.cmp.Ordering.TheVariants.{Less, Equal, Greater}
 use Rattle.std.specs.Cmp.Lexicographic.{slice_cmp}
 use Rattle.std.specs.Ordering.{ordering_then, is_ne}
 use Rattle.rpm_version.specs.declared.segment.Piece.{Piece}
 use Rattle.rpm_version.specs.declared.segment.Piece.TheVariants as piece
-use Rattle.rpm_version.specs.Segment.{Segment, Tilde, End, Caret, Letters, Digits, segments}
+use Rattle.rpm_version.specs.Segment.{End, segments}
 use Rattle.rpm_version.specs.Order.{segment_order, version_order}
 use Rattle.rpm_version.specs.Piece.{segment_at, segments_behind}
 use Rattle.rpm_version.proofs.Laws.{version_order-step, segment_order-Equal}

@@ -13,9 +13,12 @@ pub record CapabilityParts : Type 0 where
 abbrev pub is_blank : ℕ → Bool
 is_blank b = (b == 32) || (b == 9)
 
+abbrev pub is_word : List ℕ → Bool
+is_word part = not (length part == 0)
+
 -- what stands between runs of blanks
 unfoldable pub words : List ℕ → List (List ℕ)
-words text = filter (λ word. not (length word == 0)) (slice_split is_blank text)
+words text = filter is_word (slice_split is_blank text)
 
 -- the bits of a sign: less 2, greater 4, equal 8
 unfoldable pub sense : List ℕ → Option ℕ

@@ -13,7 +13,7 @@ pub record EvrParts : Type 0 where
   pub version : List ℕ
   pub release : Option (List ℕ)
 
--- the digits that the text begins with, perhaps none, have a colon behind them
+-- the digits that the text begins with, perhaps none, have a colon, 58, behind them
 unfoldable pub has_epoch : List ℕ → Bool
 has_epoch text = slice_index text (prefix_len is_ascii_digit text) == 58
 

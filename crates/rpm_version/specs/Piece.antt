@@ -17,7 +17,7 @@ abbrev pub segments_behind : Piece → List ℕ → List Segment
 segments_behind piece.End rest = []
 segments_behind first rest = segments rest
 
--- digits are digits
+-- a run of digits has nothing else
 abbrev pub IsRun : Piece → Type 0
 IsRun (piece.Digits text) = AllDigits 10 text.now
 IsRun other = Unit {0}

@@ -23,7 +23,7 @@ unfoldable pub runs : List ℕ → List (List ℕ)
 runs [] = []
 runs (b ∷ rest) = if runs_on b rest then onto_first b (runs rest) else (b ∷ []) ∷ runs rest
 
--- the segment that a run is, by its first byte; a byte that is none only separates
+-- the segment that a run is, by its first byte: 126 is a tilde, 94 a caret, and other bytes only separate
 unfoldable pub segment_of : List ℕ → Option Segment
 segment_of [] = None
 segment_of (b ∷ rest) =

@@ -1,10 +1,17 @@
 //! The capabilities that a command line names.
 
-/// A text that is no capability.
+ghost use Rattle.std.specs.Prelude.{◌≡◌, ◌≤◌, ◌∷◌, [], MatchOption, drop, length};
+ghost use Rattle.std.specs.List.{prefix_len, position_or_len};
+ghost use Rattle.rpm_version.specs.Capability.{is_blank, words, sense, capability};
+
+use crate::range::{EQUAL, GREATER, LESS};
+use std::marker::Model;
+
+/// A text is no capability.
 #[derive(Debug, Clone, Copy, PartialEq, Eq)]
 pub struct BadCapability;
 
-/// A name, and the range of its versions.
+/// A name, and the range of the versions that are meant, borrowed from a text.
 #[derive(Drop)]
 pub struct Capability<'a> {
     name: &'a [u8],
@@ -12,30 +19,77 @@ pub struct Capability<'a> {
     evr: &'a [u8],
 }
 
-fn is_blank(byte: u8) -> bool {
+impl<'a> Model for Capability<'a> {
+    ghost use Rattle.rpm_version.specs.Capability.{CapabilityParts};
+
+    ghost Value = { CapabilityParts };
+
+    ghost view = { λ s. record { name = s.name.now; flags = s.flags; evr = s.evr.now } };
+}
+
+fn is_blank(byte: u8) -> bool
+    ensures { result ≡ is_blank byte }
+{
     byte == b' ' || byte == b'\t'
 }
 
-fn next_word(text: &[u8]) -> Option<(&[u8], &[u8])> {
-    let start = text.iter().position(|byte| !is_blank(*byte))?;
-    let text = &text[start..];
-    let end = text.iter().position(|byte| is_blank(*byte));
-    Some(text.split_at(end.unwrap_or(text.len())))
+fn blanks_len(text: &[u8]) -> usize
+    ensures length { result ≡ prefix_len is_blank text.now }
+    ensures within { result ≤ length text.now }
+{
+    text.iter().take_while(|byte| is_blank(**byte)).count()
 }
 
-fn sense_of(sign: &[u8]) -> Option<u32> {
+fn word_len(text: &[u8]) -> usize
+    ensures length { result ≡ position_or_len is_blank text.now }
+    ensures within { result ≤ length text.now }
+{
+    text.iter().take_while(|byte| !is_blank(**byte)).count()
+}
+
+fn without_blanks(text: &[u8]) -> &[u8]
+    ensures { result.now ≡ drop (prefix_len is_blank text.now) text.now }
+{
+    &text[blanks_len(text)..]
+}
+
+/// The first word of a text, and what stands behind it.
+fn next_word(text: &[u8]) -> Option<(&[u8], &[u8])>
+    ensures { MatchOption result (words text.now ≡ []) (λ cut. words text.now ≡ cut.0.now ∷ words cut.1.now) }
+{
+    let text = without_blanks(text);
+    if text.is_empty() {
+        None
+    } else {
+        Some(text.split_at(word_len(text)))
+    }
+}
+
+/// The bits of a sign.
+#[tactic(auto, unfolding(crate::specs::Capability::sense))]
+fn sense_of(sign: &[u8]) -> Option<u32>
+    ensures { result ≡ sense sign.now }
+{
     match sign {
-        b"<" => Some(2),
-        b"<=" => Some(10),
-        b"=" => Some(8),
-        b">=" => Some(12),
-        b">" => Some(4),
+        b"<" => Some(LESS),
+        b"<=" => Some(LESS | EQUAL),
+        b"=" => Some(EQUAL),
+        b">=" => Some(GREATER | EQUAL),
+        b">" => Some(GREATER),
         _ => None,
     }
 }
 
 impl<'a> Capability<'a> {
-    pub fn read(text: &'a str) -> Result<Self, BadCapability> {
+    /// Reads a name alone, or a name, a sign and a version: words that runs of spaces and tabs part,
+    /// of which the second is `<`, `<=`, `=`, `>=` or `>`. Every other text is a [`BadCapability`].
+    ///
+    /// Spaces and tabs at either end part nothing. Goes over the text once, and copies nothing. The
+    /// form is this project's own.
+    #[tactic(auto, unfolding(crate::specs::Capability::capability))]
+    pub fn read(text: &'a str) -> Result<Self, BadCapability>
+        ensures { result ≡ capability text.now }
+    {
         let (name, rest) = next_word(text.as_bytes()).ok_or(BadCapability)?;
         let Some((sign, rest)) = next_word(rest) else {
             return Ok(Capability {
@@ -44,23 +98,32 @@ impl<'a> Capability<'a> {
                 evr: &[],
             });
         };
-        let flags = sense_of(sign).ok_or(BadCapability)?;
         let (evr, rest) = next_word(rest).ok_or(BadCapability)?;
         if next_word(rest).is_some() {
             return Err(BadCapability);
         }
+        let flags = sense_of(sign).ok_or(BadCapability)?;
         Ok(Capability { name, flags, evr })
     }
 
-    pub fn name(&self) -> &'a [u8] {
+    /// The first word.
+    pub fn name(&self) -> &'a [u8]
+        ensures { result.now ≡ self.now.name }
+    {
         self.name
     }
 
-    pub fn flags(&self) -> u32 {
+    /// The bits of the sign: less 2, greater 4, equal 8; none where only a name is given.
+    pub fn flags(&self) -> u32
+        ensures { result ≡ self.now.flags }
+    {
         self.flags
     }
 
-    pub fn evr(&self) -> &'a [u8] {
+    /// The third word, or the empty text.
+    pub fn evr(&self) -> &'a [u8]
+        ensures { result.now ≡ self.now.evr }
+    {
         self.evr
     }
 }

@@ -11,7 +11,7 @@ use crate::segment::leading_digits;
 use std::cmp::Ordering;
 use std::marker::Model;
 
-/// The parts of a text `epoch:version-release`, borrowed from it.
+/// The parts of a text `epoch:version-release`, borrowed from it. Only the version is always there.
 #[derive(Drop)]
 pub struct Evr<'a> {
     epoch: Option<&'a [u8]>,
@@ -68,8 +68,8 @@ fn split_release(text: &[u8]) -> (&[u8], Option<&[u8]>)
     }
 }
 
-#[tactic(auto, unfolding(crate::specs::Evr::release_order))]
 /// The order of two releases: `Equal` unless both are there.
+#[tactic(auto, unfolding(crate::specs::Evr::release_order))]
 fn compare_releases(a: Option<&[u8]>, b: Option<&[u8]>) -> Ordering
     ensures { result ≡ release_order (option_copied a.entry) (option_copied b.entry) }
 {
@@ -80,7 +80,11 @@ fn compare_releases(a: Option<&[u8]>, b: Option<&[u8]>) -> Ordering
 }
 
 impl<'a> Evr<'a> {
-    /// Cuts a text into its parts.
+    /// Cuts a text into its parts, as rpm's documentation of dependency versions has them.
+    ///
+    /// The digits that a text begins with, perhaps none, are its epoch where a colon follows them.
+    /// What stands before the last dash behind it is the version, and what follows that dash is the
+    /// release. Each text has these parts: nothing is refused. Goes over the text twice at most.
     #[tactic(auto, unfolding(crate::specs::Evr::evr))]
     pub fn read(text: &'a [u8]) -> Self
         ensures { result ≡ evr text.now }
@@ -116,14 +120,24 @@ impl<'a> Evr<'a> {
     }
 }
 
-/// Which of two is newer, by epoch, version and release.
-#[tactic(auto, unfolding(crate::specs::Evr::evr_order))]
+/// Which of two is newer: by their epochs, then their versions, then their releases.
+///
+/// An epoch is a number of any size, and 0 where it is missing or empty. A missing release equals
+/// every release, so equals of one are not equals of each other: `1-1` and `1-2` both equal `1`, and
+/// the first is less. From rpm's documentation of dependency versions. Takes time in the sum of the
+/// lengths, and copies nothing.
+#[tactic(auto, unfolding(crate::specs::Evr::evr_order), using(crate::proofs::EvrLaws::evr_converse))]
 pub fn compare_evr(a: &Evr<'_>, b: &Evr<'_>) -> Ordering
     ensures order { result ≡ evr_order a.now b.now }
     ensures converse { (x y : EvrParts) → evr_order x y ≡ ordering_reverse (evr_order y x) }
 {
     let epochs = compare_numbers(a.epoch.unwrap_or(&[]), b.epoch.unwrap_or(&[]));
+    if epochs.is_ne() {
+        return epochs;
+    }
     let versions = compare(a.version, b.version);
-    let releases = compare_releases(a.release, b.release);
-    epochs.then(versions).then(releases)
+    if versions.is_ne() {
+        return versions;
+    }
+    compare_releases(a.release, b.release)
 }

@@ -1,6 +1,8 @@
-//! The order of versions, and the ranges of versions that dependencies name.
+//! The order that decides which of two versions is newer, and whether two ranges of versions
+//! overlap.
 //!
-//! The rules are those of rpm's documentation of dependency versions. Nothing here takes memory.
+//! The rules are those of rpm's documentation of dependency versions. Nothing here takes memory:
+//! each part of a text is lent from it.
 #![tactic(auto)]
 
 mod capability;

@@ -3,7 +3,7 @@
 ghost use Rattle.std.specs.Prelude.{◌≡◌, ◌≢◌, ◌⊎◌, ◌↔◌, ◌==◌, ◌≤◌, List, ℕ, length, slice_index};
 ghost use Rattle.std.specs.Ordering.{nat_cmp, ordering_reverse};
 ghost use Rattle.std.specs.Str.Parse.{AllDigits, digits_value};
-ghost use Rattle.rpm_version.specs.Order.{rank, segment_order, version_order, IsUpTo};
+ghost use Rattle.rpm_version.specs.Order.{segment_order, version_order, IsUpTo};
 ghost use Rattle.rpm_version.specs.Piece.{segment_at, IsRun};
 ghost use Rattle.rpm_version.specs.Segment.{segments};
 
@@ -35,18 +35,6 @@ pub fn compare_numbers(a: &[u8], b: &[u8]) -> Ordering
     a.len().cmp(&b.len()).then(a.cmp(b))
 }
 
-fn rank_of(piece: Piece<'_>) -> u8
-    ensures { result ≡ rank (segment_at piece.entry) }
-{
-    match piece {
-        Piece::Tilde => 0,
-        Piece::End => 1,
-        Piece::Caret => 2,
-        Piece::Letters(_) => 3,
-        Piece::Digits(_) => 4,
-    }
-}
-
 #[tactic(auto, unfolding(crate::specs::Order::segment_order))]
 fn compare_pieces(a: Piece<'_>, b: Piece<'_>) -> Ordering
     requires a_run { IsRun a }
@@ -56,11 +44,19 @@ fn compare_pieces(a: Piece<'_>, b: Piece<'_>) -> Ordering
     match (a, b) {
         (Piece::Letters(a), Piece::Letters(b)) => a.cmp(b),
         (Piece::Digits(a), Piece::Digits(b)) => compare_numbers(a, b),
-        _ => rank_of(a).cmp(&rank_of(b)),
+        _ => a.rank().cmp(&b.rank()),
     }
 }
 
 /// Which of two versions is newer: `Less` where `a` is older than `b`.
+///
+/// A version is the list of its longest runs of ASCII digits, its longest runs of ASCII letters,
+/// each `~` and each `^`, and behind them the end; all other bytes only separate. The first place
+/// at which the lists differ decides: `~` is below the end, and above it stand `^`, letters and
+/// digits, in this order. Letters compare byte by byte, and digits as numbers of any size. From
+/// rpm's documentation of dependency versions.
+///
+/// Takes time in the sum of the lengths, copies nothing, and stops at the first difference.
 pub fn compare(a: &[u8], b: &[u8]) -> Ordering
     ensures order { result ≡ version_order a.now b.now }
 

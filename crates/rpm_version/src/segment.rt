@@ -4,6 +4,7 @@ ghost use Rattle.std.specs.Prelude.{◌≡◌, ◌≢◌, ◌+◌, ◌<◌, ◌�
 ghost use Rattle.std.specs.Char.{is_ascii_digit, is_ascii_alphabetic};
 ghost use Rattle.std.specs.List.{prefix_len, take_while};
 ghost use Rattle.std.specs.Str.Parse.{AllDigits};
+ghost use Rattle.rpm_version.specs.Order.{rank};
 ghost use Rattle.rpm_version.specs.Piece.{segment_at, segments_behind, IsRun};
 ghost use Rattle.rpm_version.specs.Segment.{segments};
 
@@ -20,8 +21,21 @@ pub enum Piece<'a> {
 }
 
 impl Piece<'_> {
-    pub fn is_end(&self) -> bool
-        ensures { IsTrue result ↔ (self.now ≡ Piece.End) }
+    /// The place of its kind among the five, the lowest first.
+    pub fn rank(self) -> u8
+        ensures { result ≡ rank (segment_at self.entry) }
+    {
+        match self {
+            Piece::Tilde => 0,
+            Piece::End => 1,
+            Piece::Caret => 2,
+            Piece::Letters(_) => 3,
+            Piece::Digits(_) => 4,
+        }
+    }
+
+    pub fn is_end(self) -> bool
+        ensures { IsTrue result ↔ (self.entry ≡ Piece.End) }
     {
         matches!(self, Piece::End)
     }
@@ -61,7 +75,8 @@ pub fn leading_letters(text: &[u8]) -> (&[u8], &[u8])
     text.split_at(letters_len(text))
 }
 
-/// The first segment of a text, and what stands behind it.
+/// The first segment of a text, and what stands behind it. Reads no byte behind the segment but
+/// the one that ends it.
 pub fn next_piece(text: &[u8]) -> (Piece<'_>, &[u8])
     ensures first { segments text.now ≡ segment_at result.0 ∷ segments_behind result.0 result.1.now }
     ensures run { IsRun result.0 }

@@ -1,4 +1,4 @@
-use Rattle.std.proofs.Common.{◌≡◌, ◌∙◌, ◌+◌}
+use Rattle.std.proofs.Common.{◌∙◌, ◌+◌}
 use Rattle.std.proofs.lemmas.List.{take_rest}
 use Rattle.rpm_version.proofs.Dashes.{version_of-whole, release_of-none, version_of-at, release_of-at}
 use Rattle.rpm_version.proofs.evr.split_release.Goals as goal

@@ -13,13 +13,13 @@ returns-then-is_ne-clause-order c =
     let q = c.next_piece-in-loop-left.ensures.first in
     let first = c.compare_pieces-order.ensures in
     elim c.then-is_ne.branch [
-      then-is_ne-via-then-is_ne w ↦
-        let ne : is_ne c.compare_pieces-order.result ≡ true = sym c.is_ne.ensures ∙ w.if-is_ne.true in
-        differs _ _ _ _ _ _ _ p q first ne ∙ sym c.loop-left.invariant
-    | then-is_ne-via-else-is_ne+then-is_end w ↦
-        let eq : is_ne c.compare_pieces-order.result ≡ false = sym c.is_ne.ensures ∙ w.if-is_ne.false in
-        let end = w.if-is_end.ensures.0 refl in
-        ends _ _ _ _ _ _ _ p q first eq end ∙ sym c.loop-left.invariant
+      | then-is_ne-via-then-is_ne w ↦
+          let ne : is_ne c.compare_pieces-order.result ≡ true = sym c.is_ne.ensures ∙ w.if-is_ne.true in
+          differs _ _ _ _ _ _ _ p q first ne ∙ sym c.loop-left.invariant
+      | then-is_ne-via-else-is_ne+then-is_end w ↦
+          let eq : is_ne c.compare_pieces-order.result ≡ false = sym c.is_ne.ensures ∙ w.if-is_ne.false in
+          let end = w.if-is_end.ensures.0 refl in
+          ends _ _ _ _ _ _ _ p q first eq end ∙ sym c.loop-left.invariant
     ]
 
 pub returns-then-is_ne-clause-total : goal.returns-then-is_ne-clause-total

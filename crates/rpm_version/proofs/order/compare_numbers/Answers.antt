@@ -1,4 +1,3 @@
-use Rattle.std.proofs.Common.{◌≡◌}
 use Rattle.rpm_version.proofs.Numbers.{numbers_compare}
 use Rattle.rpm_version.proofs.order.compare_numbers.Goals as goal
 

@@ -1,10 +1,7 @@
-use Rattle.std.proofs.Common.{◌≡◌, ◌≢◌, true, false, ap, subst, sym, ◌∙◌, arith}
+use Rattle.std.proofs.Common.{◌≡◌, ◌≢◌, true, false, sym, ◌∙◌, arith}
 use Rattle.std.specs.Char.{is_ascii_digit, is_ascii_alphabetic}
-use Rattle.std.specs.Str.Parse.{AllDigits}
-use Rattle.std.proofs.lemmas.Grind.{common_steps}
 use Rattle.std.proofs.lemmas.List.{nil_from_length}
-use Rattle.rpm_version.specs.Segment.{segments}
-use Rattle.rpm_version.proofs.Cuts.{segments-nil, segments-digits, segments-letters, segments-tilde, segments-caret, segments-separator, taken_digits}
+use Rattle.rpm_version.proofs.Cuts.{segments-nil, segments-digits, segments-letters, segments-tilde, segments-caret, segments-separator}
 use Rattle.rpm_version.proofs.segment.next_piece.Goals as goal
 
 pub returns-then-is_ascii_digit-clause-first : goal.returns-then-is_ascii_digit-clause-first
