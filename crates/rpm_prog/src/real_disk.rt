@@ -1,6 +1,6 @@
 //! A disk over the files of a folder.
 
-ghost use Rattle.std.specs.Prelude.{◌≡◌, ◌+◌, ◌-◌, ◌^◌, false, [], min};
+ghost use Rattle.std.specs.Prelude.{false, []};
 ghost use Rattle.rpm_outside.specs.Causes.{HasCause};
 
 use crate::real_file::RealFile;
@@ -54,7 +54,7 @@ fn counted<T: Drop>(faults: &mut u64, answer: io::Result<T>) -> Result<T, Failed
 }
 
 impl<'a, R: Files<File = fs::File>> Disk for RealDisk<'a, R> {
-    ghost use Rattle.rpm_prog.specs.RealDisk.{read_of};
+    ghost use Rattle.rpm_prog.specs.RealDisk.{count_of};
 
     ghost tells = { false };
 
@@ -64,7 +64,7 @@ impl<'a, R: Files<File = fs::File>> Disk for RealDisk<'a, R> {
 
     ghost moment = { λ disk. disk.moment };
 
-    ghost bytes_read = { read_of };
+    ghost bytes_read = { λ disk. count_of disk.pkg.read disk.idx.read disk.log.read };
 
     ghost faults = { λ disk. disk.faults };
 

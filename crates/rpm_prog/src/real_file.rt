@@ -1,6 +1,6 @@
 //! One file of the database's folder.
 
-ghost use Rattle.std.specs.Prelude.{◌≡◌, ◌+◌, ◌-◌, ◌^◌, min, length};
+ghost use Rattle.std.specs.Prelude.{◌≡◌, ◌≤◌, ◌+◌, ◌-◌, ◌^◌, min, length};
 
 use std::alloc::{AllocError, Global};
 use std::fs::{OpenFile, OpenOptions};
@@ -90,7 +90,8 @@ impl RealFile {
         unit: u64,
         into: &mut [u8],
     ) -> io::Result<()>
-        ensures { self.new.read ≡ min (self.old.read + length into.old) (2 ^ 64 - 1) }
+        ensures read { self.new.read ≡ min (self.old.read + length into.old) (2 ^ 64 - 1) }
+        ensures later { self.old.read ≤ self.new.read }
     {
         self.read = self.read.saturating_add(into.len() as u64);
         let offset = offset_of(unit)?;

@@ -10,6 +10,8 @@ mod label;
 mod pieces;
 mod query;
 mod step;
+#[cfg(test)]
+mod tests;
 pub mod words;
 
 pub use answer::{Outcome, Unbuilt, Why};

@@ -1,0 +1,75 @@
+#!/usr/bin/env python3
+"""Writes a Packages.db with N packages, to measure with: bench/make_database.py N FOLDER
+
+The file is laid out by docs/FORMATS.md and owes nothing to the program. Each package has a header of some 40 entries with 20 files,
+about 3 kB, which is the size of a small package of a distribution.
+"""
+import struct
+import sys
+import zlib
+
+CHAR, INT16, INT32, TEXT, BIN, TEXTS, I18N = 1, 3, 4, 6, 7, 8, 9
+SIZES = {INT16: 2, INT32: 4}
+
+
+def header(entries):
+    """The bytes of a header of (tag, type, values), each entry at the least aligned offset."""
+    index, data = b"", b""
+    for tag, kind, values in entries:
+        size = SIZES.get(kind, 1)
+        data += b"\0" * (-len(data) % size)
+        offset = len(data)
+        if kind in SIZES:
+            data += b"".join(value.to_bytes(size, "big") for value in values)
+        elif kind == BIN:
+            data += bytes(values)
+        else:
+            data += b"".join(value.encode() + b"\0" for value in values)
+        index += struct.pack(">IIII", tag, kind, offset, len(values))
+    return struct.pack(">II", len(entries), len(data)) + index + data
+
+
+def framed(number, generation, blob):
+    """The blocks of a blob."""
+    head = struct.pack("<4sIII", b"BlbS", number, generation, len(blob)) + blob
+    head += b"\0" * (-(len(head) + 12) % 16)
+    return head + struct.pack("<II4s", zlib.adler32(head), len(blob), b"BlbE")
+
+
+def store(packages, next_number, pages=None, generation=1):
+    """A Packages.db of (number, blob), in the order of their slots."""
+    if pages is None:
+        pages = (2 + len(packages) + 255) // 256
+    slots, blobs, block = b"", b"", 256 * pages
+    for number, blob in packages:
+        blocks = framed(number, generation, blob)
+        slots += struct.pack("<4sIII", b"Slot", number, block, len(blocks) // 16)
+        blobs += blocks
+        block += len(blocks) // 16
+    slots += struct.pack("<4sIII", b"Slot", 0, 0, 0) * (256 * pages - 2 - len(packages))
+    head = struct.pack("<4sIII", b"RpmP", 0, generation, pages) + struct.pack("<IIII", next_number, 0, 0, 0)
+    return head + slots + blobs
+
+
+def package(i):
+    files = [f"file{k}.so" for k in range(20)]
+    return header([
+        (1000, TEXT, [f"package{i}"]), (1001, TEXT, [f"1.{i % 10}"]), (1002, TEXT, ["1.fc40"]), (1004, I18N, ["A package"]),
+        (1005, I18N, ["A package that is there to be measured, with a few lines of text.\n" * 4]), (1006, INT32, [1700000000 + i]),
+        (1007, TEXT, ["builder.example.org"]), (1009, INT32, [123456]), (1010, TEXT, ["A distribution"]), (1011, TEXT, ["A vendor"]),
+        (1014, TEXT, ["MIT"]), (1015, TEXT, ["A packager"]), (1016, I18N, ["Unspecified"]), (1020, TEXT, ["https://example.org/"]),
+        (1021, TEXT, ["linux"]), (1022, TEXT, ["x86_64"]), (1028, INT32, [1000] * 20), (1030, INT16, [33188] * 20),
+        (1033, INT16, [0] * 20), (1034, INT32, [1700000000] * 20), (1035, TEXTS, ["0123456789abcdef" * 4] * 20),
+        (1036, TEXTS, [""] * 20), (1037, INT32, [0] * 20), (1039, TEXTS, ["root"] * 20), (1040, TEXTS, ["root"] * 20),
+        (1044, TEXT, [f"package{i}-1.{i % 10}-1.fc40.src.rpm"]), (1047, TEXTS, [f"package{i}", f"lib{i}.so.1"]),
+        (1048, INT32, [12] * 5), (1049, TEXTS, [f"lib{k}.so.1" for k in range(5)]), (1050, TEXTS, [""] * 5), (1064, TEXT, ["4.19"]),
+        (1095, INT32, [1] * 20), (1096, INT32, list(range(20))), (1097, TEXTS, [""] * 20), (1112, INT32, [8, 0]),
+        (1113, TEXTS, [f"1.{i % 10}-1.fc40", ""]), (1116, INT32, [0] * 20), (1117, TEXTS, files), (1118, TEXTS, ["/usr/lib64/"]),
+        (1124, TEXT, ["cpio"]), (1125, TEXT, ["zstd"]), (1126, TEXT, ["19"]),
+    ])
+
+
+if __name__ == "__main__":
+    count, folder = int(sys.argv[1]), sys.argv[2]
+    with open(f"{folder}/Packages.db", "wb") as file:
+        file.write(store([(i, package(i)) for i in range(1, count + 1)], count + 1))
