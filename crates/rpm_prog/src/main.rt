@@ -5,6 +5,8 @@ mod real_disk;
 mod real_file;
 mod real_shelf;
 mod real_sink;
+#[cfg(test)]
+mod tests;
 
 use real_disk::RealDisk;
 use real_shelf::RealShelf;
