@@ -1,9 +1,8 @@
 -- What a command does, step by step.
-use Rattle.std.specs.Prelude.{◌≡◌, ℕ, List, [], ◌∷◌, ◌++◌, map, take, Bool, true, false, if◌then◌else◌, codes, decimal}
-use Rattle.std.specs.List.{flat_map, list_any}
+use Rattle.std.specs.Prelude.{ℕ, List, [], ◌++◌, map, take, Bool, true, false, if◌then◌else◌, codes, decimal}
+use Rattle.std.specs.List.{list_any}
 use Rattle.std.specs.Ordering.{nat_cmp}
 use Rattle.std.specs.FinMap.{FinMap, entries}
-use Rattle.rpm_outside.specs.Sinks.{Gained}
 use Rattle.rpm_tool.specs.Label.{line_of}
 use Rattle.rpm_tool.specs.Installed.{Package, Good, Bad}
 

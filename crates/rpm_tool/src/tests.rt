@@ -184,13 +184,13 @@ struct Ran {
 // Runs words on a file, with a disk call that is to fail (0: none), and limits of the sinks.
 fn run_on(
     alloc: Global,
-    words: &[&str],
+    words: &str,
     file: &[u8],
     call: u64,
     limits: [u64; 2],
 ) -> Result<Ran, AllocError> {
     let mut line = Words::new(alloc);
-    for word in words {
+    for word in words.split_whitespace() {
         if line.len() < 8 {
             line.push(word)?;
         }
@@ -222,7 +222,7 @@ fn ends(
     out: &[u8],
     err: &[u8],
 ) -> Result<bool, AllocError> {
-    let ran = run_on(alloc, &["rpm", "-qa"], file, 0, NO_LIMITS)?;
+    let ran = run_on(alloc, "rpm -qa", file, 0, NO_LIMITS)?;
     Ok(
         ran.outcome.why == why
             && ran.outcome.status == status
@@ -341,15 +341,15 @@ fn a_damaged_database_says_where(rt: HostRuntime) -> Result<(), Fail> {
 #[test]
 fn faults_end_the_query(rt: HostRuntime) -> Result<(), Fail> {
     let alloc = rt.alloc();
-    let words = ["rpm", "-qa"];
-    let failed = run_on(alloc, &words, &three(alloc)?, 1, NO_LIMITS)?;
+    let words = "rpm -qa";
+    let failed = run_on(alloc, words, &three(alloc)?, 1, NO_LIMITS)?;
     assert!(rt; failed.outcome.why == Why::DiskFault && failed.outcome.status == 252);
     assert_eq!(rt;
         failed.err.bytes(),
         b"rpm: the database could not be read or written\n".as_slice()
     );
 
-    let failed = run_on(alloc, &words, &one(alloc)?, 0, [3, 99])?;
+    let failed = run_on(alloc, words, &one(alloc)?, 0, [3, 99])?;
     assert!(rt; failed.outcome.why == Why::OutFault && failed.outcome.status == 253);
     assert_eq!(rt; failed.out.bytes(), b"a-1".as_slice());
     assert_eq!(rt;
@@ -359,7 +359,7 @@ fn faults_end_the_query(rt: HostRuntime) -> Result<(), Fail> {
 
     // Nothing of number 3 is read before the line of number 2 is cut off.
     let file = three(alloc)?;
-    let failed = run_on(alloc, &words, &file, 0, [30, 99])?;
+    let failed = run_on(alloc, words, &file, 0, [30, 99])?;
     assert_eq!(rt;
         failed.out.bytes(),
         b"libx-1.0~rc1-1.noarch\nbash-5.1".as_slice()
@@ -371,7 +371,7 @@ fn faults_end_the_query(rt: HostRuntime) -> Result<(), Fail> {
     );
 
     let last = file.len().saturating_sub(1);
-    let failed = run_on(alloc, &words, &changed(file, last, b"F"), 0, [99, 5])?;
+    let failed = run_on(alloc, words, &changed(file, last, b"F"), 0, [99, 5])?;
     assert!(rt; failed.outcome.why == Why::ErrFault && failed.outcome.status == 253);
     assert_eq!(rt; failed.err.bytes(), b"error".as_slice());
     Ok(())
@@ -381,27 +381,21 @@ fn faults_end_the_query(rt: HostRuntime) -> Result<(), Fail> {
 fn other_words_are_not_built(rt: HostRuntime) -> Result<(), Fail> {
     let alloc = rt.alloc();
     for words in [
-        [].as_slice(),
-        ["rpm"].as_slice(),
-        ["rpmdb", "-qa"].as_slice(),
-        ["rpm", "-q"].as_slice(),
-        ["rpm", "-qa", "x"].as_slice(),
-        ["rpm", "--dbpath", "-qa"].as_slice(),
-        ["rpm", "--root", "d", "-qa"].as_slice(),
-        ["rpm", "--dbpath", "d", "-qa", "x"].as_slice(),
+        "",
+        "rpm",
+        "rpmdb -qa",
+        "rpm -q",
+        "rpm -qa x",
+        "rpm --dbpath -qa",
+        "rpm --root d -qa",
+        "rpm --dbpath d -qa x",
     ] {
         let ran = run_on(alloc, words, &[0x51; 16], 1, NO_LIMITS)?;
         assert!(rt; ran.outcome.why == Why::NotBuilt(Unbuilt::Words) && ran.outcome.status == 252);
         assert!(rt; ran.out.bytes().is_empty() && ran.disk.faults() == 0);
         assert_eq!(rt; ran.err.bytes(), b"rpm: not built yet\n".as_slice());
     }
-    let ran = run_on(
-        alloc,
-        &["rpm", "--dbpath", "d", "-qa"],
-        &one(alloc)?,
-        0,
-        NO_LIMITS,
-    )?;
+    let ran = run_on(alloc, "rpm --dbpath d -qa", &one(alloc)?, 0, NO_LIMITS)?;
     assert_eq!(rt; ran.out.bytes(), b"a-1-2.x\n".as_slice());
     Ok(())
 }
@@ -410,15 +404,15 @@ fn other_words_are_not_built(rt: HostRuntime) -> Result<(), Fail> {
 fn the_folder_is_the_third_word(rt: HostRuntime) -> Result<(), Fail> {
     let alloc = rt.alloc();
     for (words, place) in [
-        (["rpm", "--dbpath", "d"].as_slice(), "d"),
-        (["rpmdb", "--dbpath", "d", "--initdb"].as_slice(), "d"),
-        (["rpm", "--dbpath"].as_slice(), "/var/lib/rpm"),
-        (["rpm", "-qa", "d"].as_slice(), "/var/lib/rpm"),
-        (["dnf", "--dbpath", "d"].as_slice(), "/var/lib/rpm"),
-        ([].as_slice(), "/var/lib/rpm"),
+        ("rpm --dbpath d", "d"),
+        ("rpmdb --dbpath d --initdb", "d"),
+        ("rpm --dbpath", "/var/lib/rpm"),
+        ("rpm -qa d", "/var/lib/rpm"),
+        ("dnf --dbpath d", "/var/lib/rpm"),
+        ("", "/var/lib/rpm"),
     ] {
         let mut line = Words::new(alloc);
-        for word in words {
+        for word in words.split_whitespace() {
             if line.len() < 8 {
                 line.push(word)?;
             }

@@ -1,4 +1,4 @@
-use Rattle.std.proofs.Common.{List, ℕ, sym, subst, Result}
+use Rattle.std.proofs.Common.{sym, subst}
 use Rattle.rpm_outside.specs.Sinks.{Writes}
 use Rattle.rpm_tool.specs.declared.answer.Why.{Why}
 use Rattle.rpm_tool.specs.Closing.{closing}

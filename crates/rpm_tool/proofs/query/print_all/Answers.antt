@@ -1,13 +1,13 @@
-use Rattle.std.proofs.Common.{◌≡◌, ℕ, ◌+◌, ◌≤◌, true, Some, refl, sym, ap, ◌∙◌, subst, arith}
+use Rattle.std.proofs.Common.{◌≡◌, ℕ, ◌+◌, ◌≤◌, true, Some, sym, subst, arith}
 use Rattle.std.specs.FinMap.{entries, get}
 use Rattle.rpm_outside.specs.declared.disk.File.TheVariants.{Pkg}
-use Rattle.rpm_outside.specs.Files.{Files, Units}
+use Rattle.rpm_outside.specs.Files.{Files}
 use Rattle.rpm_outside.specs.Looks.{looks_none, looks_then, looks_more}
 use Rattle.rpm_pkgdb.specs.Costs.{cost, cost_all, cost_to, cost_to_more, cost_to-cost_all}
 use Rattle.rpm_tool.specs.declared.answer.Why.{Why}
 use Rattle.rpm_tool.specs.Installed.{installed}
 use Rattle.rpm_tool.specs.Steps.{steps_of, all_packages}
-use Rattle.rpm_tool.specs.Answers.{outputs, why_of, Went}
+use Rattle.rpm_tool.specs.Answers.{outputs, Went}
 use Rattle.rpm_tool.proofs.Above.{above}
 use Rattle.rpm_tool.proofs.Through.{next_package, no_package, all_packages_above, before_start, before_more, stopped_at, ended_good, ended_bad, stays, fails}
 use Rattle.rpm_tool.proofs.query.print_all.Goals as goal

@@ -1,4 +1,4 @@
-use Rattle.std.proofs.Common.{◌≡◌, Some, None, List, ℕ, ap, refl, sym}
+use Rattle.std.proofs.Common.{Some, None, List, ℕ, ap, refl}
 use Rattle.std.specs.Prelude.{IsTrue}
 use Rattle.rpm_tool.specs.Installed.{Bad, package_of}
 use Rattle.rpm_tool.proofs.Held.{made_of}
