@@ -69,6 +69,9 @@ fn bash(alloc: Global) -> Result<Vec<u8>, AllocError> {
             (1047, TEXTS, 2, b"bash\0sh\0"),
             (1112, INT32, 2, b"\0\0\0\x08\0\0\0\0"),
             (1113, TEXTS, 2, b"5.1-2\0\0"),
+            (1049, TEXTS, 2, b"libc\0libtinfo\0"),
+            (1048, INT32, 2, b"\0\0\0\x0c\0\0\0\0"),
+            (1050, TEXTS, 2, b"2.30\0\0"),
             (1117, TEXTS, 2, b"bash\0sh\0"),
             (1116, INT32, 2, b"\0\0\0\0\0\0\0\0"),
             (1118, TEXTS, 1, b"/usr/bin/\0"),
@@ -77,15 +80,35 @@ fn bash(alloc: Global) -> Result<Vec<u8>, AllocError> {
     )
 }
 
-fn libx(alloc: Global, version: &[u8]) -> Result<Vec<u8>, AllocError> {
+// A library of epoch 1, before its release.
+fn early_library(alloc: Global) -> Result<Vec<u8>, AllocError> {
     laid(
         alloc,
         &[
             (1000, TEXT, 1, b"libx\0"),
-            (1001, TEXT, 1, version),
+            (1001, TEXT, 1, b"1.0~rc1\0"),
             (1002, TEXT, 1, b"1\0"),
             (1003, INT32, 1, b"\0\0\0\x01"),
             (1022, TEXT, 1, b"noarch\0"),
+            (1047, TEXTS, 1, b"libx\0"),
+            (1112, INT32, 1, b"\0\0\0\x08"),
+            (1113, TEXTS, 1, b"1.0~rc1\0"),
+        ],
+    )
+}
+
+// The same library without an epoch, after its release.
+fn late_library(alloc: Global) -> Result<Vec<u8>, AllocError> {
+    laid(
+        alloc,
+        &[
+            (1000, TEXT, 1, b"libx\0"),
+            (1001, TEXT, 1, b"1.0^git1\0"),
+            (1002, TEXT, 1, b"1\0"),
+            (1022, TEXT, 1, b"noarch\0"),
+            (1047, TEXTS, 1, b"libx\0"),
+            (1112, INT32, 1, b"\0\0\0\x08"),
+            (1113, TEXTS, 1, b"1.0^git1\0"),
         ],
     )
 }
@@ -149,8 +172,8 @@ fn three_small(alloc: Global) -> Result<Vec<u8>, AllocError> {
 
 fn three(alloc: Global) -> Result<Vec<u8>, AllocError> {
     let mut packages = Vec::new(alloc);
-    packages.push((3, libx(alloc, b"1.0^git1\0")?))?;
-    packages.push((1, libx(alloc, b"1.0~rc1\0")?))?;
+    packages.push((3, late_library(alloc)?))?;
+    packages.push((1, early_library(alloc)?))?;
     packages.push((2, bash(alloc)?))?;
     store(alloc, &packages)
 }
@@ -364,7 +387,7 @@ fn faults_end_the_query(rt: HostRuntime) -> Result<(), Fail> {
         failed.out.bytes(),
         b"libx-1.0~rc1-1.noarch\nbash-5.1".as_slice()
     );
-    let third = ((28 + libx(alloc, b"1.0^git1\0")?.len() + 15) / 16 * 16) as u64;
+    let third = ((28 + late_library(alloc)?.len() + 15) / 16 * 16) as u64;
     assert_eq!(rt;
         failed.disk.bytes_read(File::Pkg).saturating_add(third),
         file.len() as u64
