@@ -8,6 +8,6 @@ use Rattle.rpm_blocks.specs.Places.{HaveSameBlocks}
 pub record IsSound (u : Inside) : Type 0 where
   pub ranges : AreApart 0 u.ranges.items
   pub runs : AreApart 1 u.runs.items
-  pub blocks : HaveSameBlocks u.ranges.items u.runs.items
+  pub same : HaveSameBlocks u.ranges.items u.runs.items
   pub room : vec_len u.ranges + u.spare ≤ vec_capacity u.ranges
   pub runs_room : vec_len u.runs + 2 * u.spare + vec_len u.ranges ≤ vec_capacity u.runs

@@ -17,7 +17,7 @@ pub fn join(runs: &mut Vec<Range>, range: Range)
     requires free { IsFree runs.old.items range }
     requires room { vec_len runs.old < vec_capacity runs.old }
     ensures apart { AreApart 1 runs.new.items }
-    ensures blocks { HaveSameBlocks (range ∷ runs.old.items) runs.new.items }
+    ensures same { HaveSameBlocks (range ∷ runs.old.items) runs.new.items }
     ensures len { vec_len runs.new ≤ vec_len runs.old + 1 }
     ensures capacity { vec_capacity runs.new ≡ vec_capacity runs.old }
 {
@@ -35,7 +35,7 @@ fn join_below(runs: &mut Vec<Range>, at: usize, range: Range) -> (usize, Range)
     ensures apart { AreApart 1 runs.new.items }
     ensures range { IsRange result.1 }
     ensures gap { IsGap 1 0 runs.new.items result.1 result.0 }
-    ensures blocks { HaveSameBlocks (range ∷ runs.old.items) (result.1 ∷ runs.new.items) }
+    ensures same { HaveSameBlocks (range ∷ runs.old.items) (result.1 ∷ runs.new.items) }
     ensures len { vec_len runs.new ≤ vec_len runs.old }
     ensures capacity { vec_capacity runs.new ≡ vec_capacity runs.old }
 {
@@ -58,7 +58,7 @@ fn join_above(runs: &mut Vec<Range>, at: usize, range: Range) -> Range
     ensures apart { AreApart 1 runs.new.items }
     ensures range { IsRange result }
     ensures gap { IsGap 1 1 runs.new.items result at }
-    ensures blocks { HaveSameBlocks (range ∷ runs.old.items) (result ∷ runs.new.items) }
+    ensures same { HaveSameBlocks (range ∷ runs.old.items) (result ∷ runs.new.items) }
     ensures len { vec_len runs.new ≤ vec_len runs.old }
     ensures capacity { vec_capacity runs.new ≡ vec_capacity runs.old }
 {
@@ -80,12 +80,11 @@ pub fn cut(runs: &mut Vec<Range>, range: Range)
     requires room { vec_len runs.old < vec_capacity runs.old }
     ensures apart { AreApart 1 runs.new.items }
     ensures free { IsFree runs.new.items range }
-    ensures blocks { HaveSameBlocks runs.old.items (range ∷ runs.new.items) }
+    ensures same { HaveSameBlocks runs.old.items (range ∷ runs.new.items) }
     ensures len { vec_len runs.new ≤ vec_len runs.old + 1 }
     ensures capacity { vec_capacity runs.new ≡ vec_capacity runs.old }
 {
-    let at = place(runs, range.start + 1) - 1;
-    let run = runs.remove(at);
+    let (at, run) = take_run(runs, range);
     let above = Range {
         start: range.end(),
         count: run.end() - range.end(),
@@ -98,6 +97,25 @@ pub fn cut(runs: &mut Vec<Range>, range: Range)
     put_part(runs, at, below);
 }
 
+// Takes out the run that has the blocks of a range, and answers it with its place.
+fn take_run(runs: &mut Vec<Range>, range: Range) -> (usize, Range)
+    requires apart { AreApart 1 runs.old.items }
+    requires range { IsRange range }
+    requires used { (block : ℕ) → Has range block → ¬ IsUnused runs.old.items block }
+    ensures apart { AreApart 1 runs.new.items }
+    ensures range { IsRange result.1 }
+    ensures starts { result.1.start ≤ range.start }
+    ensures ends { end_of range ≤ end_of result.1 }
+    ensures gap { IsGap 1 1 runs.new.items result.1 result.0 }
+    ensures same { HaveSameBlocks runs.old.items (result.1 ∷ runs.new.items) }
+    ensures len { vec_len runs.new + 1 ≡ vec_len runs.old }
+    ensures capacity { vec_capacity runs.new ≡ vec_capacity runs.old }
+{
+    let at = place(runs, range.start + 1) - 1;
+    let run = runs.remove(at);
+    (at, run)
+}
+
 // Puts a range in at its place, if it has a block.
 fn put_part(runs: &mut Vec<Range>, at: usize, part: Range)
     requires apart { AreApart 1 runs.old.items }
@@ -105,7 +123,7 @@ fn put_part(runs: &mut Vec<Range>, at: usize, part: Range)
     requires gap { IsGap 1 1 runs.old.items part at }
     requires room { vec_len runs.old < vec_capacity runs.old }
     ensures apart { AreApart 1 runs.new.items }
-    ensures blocks { HaveSameBlocks (part ∷ runs.old.items) runs.new.items }
+    ensures same { HaveSameBlocks (part ∷ runs.old.items) runs.new.items }
     ensures gap { (r : Range) → IsGap 1 1 runs.old.items r at → end_of r + 1 ≤ part.start → IsGap 1 1 runs.new.items r at }
     ensures len { vec_len runs.new ≤ vec_len runs.old + 1 }
     ensures capacity { vec_capacity runs.new ≡ vec_capacity runs.old }
