@@ -5,8 +5,10 @@ use Rattle.std.specs.List.{insert, remove, filter}
 use Rattle.std.proofs.lemmas.Bool.{cases_lt}
 use Rattle.std.proofs.lemmas.Bool.Decides.{nat_tests}
 use Rattle.rpm_blocks.specs.declared.Range.{Range}
-use Rattle.rpm_blocks.specs.Blocks.{IsRange, AreApart, range_at, with_range, without}
+use Rattle.rpm_blocks.specs.Blocks.{IsFree, IsRange, AreApart, range_at, with_range, without}
 use Rattle.rpm_blocks.specs.Places.{IsPlace, IsGap}
+use Rattle.rpm_blocks.proofs.Cuts.{free_of_gap}
+use Rattle.rpm_blocks.proofs.Edits.{gap_of_place, gap_removed, apart_insert}
 
 -- a range that is put in before those that begin above it, and behind the others
 pub insert_is_with_range : (l : List Range) (at : ℕ) (r : Range) → at ≤ length l → ((i : ℕ) → i < at → (range_at l i).start ≤ r.start) → ((i : ℕ) → at ≤ i → i < length l → r.start < (range_at l i).start) → insert l at r ≡ with_range r l
@@ -57,3 +59,21 @@ module _ (l : List Range) (apart : AreApart 0 l) (start at : ℕ) (place : IsPla
     | inl less ↦ omega (arith, place.below j less)
     | inr more ↦ let filled = apart.ranges at found_in_range in omega (arith, filled.filled, apart.apart at j (omega arith) lt, found_here)
   ]
+
+  pub removed_is_without : remove l at ≡ without start l
+  removed_is_without = remove_is_without l at start found_in_range found_here found_alone
+
+  -- and what is left meets it nowhere
+  pub removed_free : IsFree (remove l at) (range_at l at)
+  removed_free = free_of_gap 0 0 (remove l at) (range_at l at) at (gap_removed 0 l apart at found_in_range (range_at l at) (omega arith) (omega arith))
+
+module _ (l : List Range) (apart : AreApart 0 l) (r : Range) (at : ℕ) (is_range : IsRange r) (place : IsPlace l r.start at) (free : IsFree l r) where
+  gap : IsGap 0 0 l r at
+  gap = gap_of_place 0 l apart r at is_range place free
+
+  -- a free range that is put in at its place keeps the list rising
+  pub inserted_apart : AreApart 0 (insert l at r)
+  inserted_apart = apart_insert 0 l apart at r gap is_range
+
+  pub inserted_is_with_range : insert l at r ≡ with_range r l
+  inserted_is_with_range = insert_is_with_range l at r place.in_range (λ i less. omega (arith, place.below i less)) (λ i more lt. omega (arith, gap.above i more lt, is_range.filled))
