@@ -20,19 +20,20 @@ module _ (l : List Range) (apart : AreApart 1 l) (count from k block : ℕ) (pas
   -- a gap that is wide enough
   pub fits_below : k < length l → block + count ≤ (range_at l k).start → IsLeastFit l count from (Some block)
   fits_below lt wide =
-      let here = apart.ranges k lt in
-      (passed.at_least,
-      record {
-        free = λ b has i in_range meets. elim (cases_lt i k) [
-          | inl before ↦ omega (arith, passed.ended i before, has.from, meets.below)
-          | inr later ↦ elim (cases_lt k i) [
-            | inl behind ↦ omega (arith, apart.apart k i behind in_range, has.below, meets.from)
-            | inr same ↦ let is : i ≡ k = omega arith in let begins = meets.from in let starts : (range_at l i).start ≡ (range_at l k).start = rw is refl in omega (arith, has.below)
-          ]
-        ];
-        ends = omega (arith, here.bounded);
-      },
-      passed.none)
+      let here = apart.ranges k lt in (
+        passed.at_least,
+        record {
+          free = λ b has i in_range meets. elim (cases_lt i k) [
+            | inl before ↦ omega (arith, passed.ended i before, has.from, meets.below)
+            | inr later ↦ elim (cases_lt k i) [
+              | inl behind ↦ omega (arith, apart.apart k i behind in_range, has.below, meets.from)
+              | inr same ↦ let is : i ≡ k = omega arith in let begins = meets.from in let starts : (range_at l i).start ≡ (range_at l k).start = rw is refl in omega (arith, has.below)
+            ]
+          ];
+          ends = omega (arith, here.bounded);
+        },
+        passed.none,
+      )
 
   -- one that is not
   pub passed_more : 1 ≤ count → k < length l → (block + count ≤ (range_at l k).start → ⊥) → HasPassed l count from (k + 1) (max block (end_of (range_at l k)))
@@ -56,10 +57,11 @@ module _ (l : List Range) (apart : AreApart 1 l) (count from k block : ℕ) (pas
 
   -- behind the last run only the limit ends a place
   pub fits_behind : k ≡ length l → block + count ≤ block_limit → IsLeastFit l count from (Some block)
-  fits_behind all ends =
-      (passed.at_least,
-      record { free = λ b has i lt meets. omega (arith, passed.ended i (omega arith), has.from, meets.below); ends = ends },
-      passed.none)
+  fits_behind all ends = (
+    passed.at_least,
+    record { free = λ b has i lt meets. omega (arith, passed.ended i (omega arith), has.from, meets.below); ends = ends },
+    passed.none,
+  )
 
   pub none_fits : k ≡ length l → (block + count ≤ block_limit → ⊥) → IsLeastFit l count from None
   none_fits all over b more fits = elim (cases_lt b block) [
@@ -70,10 +72,11 @@ module _ (l : List Range) (apart : AreApart 1 l) (count from k block : ℕ) (pas
 -- lists that have the same blocks from `from` on have the same places
 pub least_same : (l m : List Range) (count from : ℕ) → ((b : ℕ) → from ≤ b → IsUnused l b → IsUnused m b) → ((b : ℕ) → from ≤ b → IsUnused m b → IsUnused l b) → (place : Option ℕ) → IsLeastFit l count from place → IsLeastFit m count from place
 least_same l m count from there back None none = λ b more fits. none b more (record { free = λ c has. back c (omega (arith, has.from)) (fits.free c has); ends = fits.ends })
-least_same l m count from there back (Some place) (least, fits, none) =
-    (least,
-    record { free = λ c has. there c (omega (arith, has.from)) (fits.free c has); ends = fits.ends },
-    λ b more less other. none b more less (record { free = λ c has. back c (omega (arith, has.from)) (other.free c has); ends = other.ends }))
+least_same l m count from there back (Some place) (least, fits, none) = (
+  least,
+  record { free = λ c has. there c (omega (arith, has.from)) (fits.free c has); ends = fits.ends },
+  λ b more less other. none b more less (record { free = λ c has. back c (omega (arith, has.from)) (other.free c has); ends = other.ends }),
+)
 
 pub apart_drop : (gap : ℕ) (l : List Range) (n : ℕ) → AreApart gap l → AreApart gap (drop n l)
 apart_drop gap l n apart = record {

@@ -1,5 +1,5 @@
 -- What callers use of a list with one more range, and with one less, and of a free range.
-use Rattle.std.specs.Prelude.{◌≡◌, ◌≢◌, ℕ, suc, zero, ◌+◌, ◌<◌, ◌≤◌, ◌⊎◌, Bool, true, false, List, [], ◌∷◌, length, Contains, slice_index_or, nat_lt, ◌==◌, not, cond, if◌then◌else◌, refl}
+use Rattle.std.specs.Prelude.{◌≡◌, ◌≢◌, ℕ, suc, zero, ◌+◌, ◌<◌, ◌≤◌, ◌⊎◌, Bool, true, false, List, [], ◌∷◌, length, Contains, SomeIndex, slice_index_or, nat_lt, ◌==◌, not, cond, if◌then◌else◌, refl}
 use Rattle.std.proofs.Common.{inl, inr, arith, sym, ap, ◌∙◌}
 use Rattle.std.proofs.lemmas.Bool.{cases_lt}
 use Rattle.std.proofs.lemmas.List.{get_or_default}
@@ -44,6 +44,7 @@ with_range_only r x (s ∷ rest) h =
     first : Contains (r ∷ s ∷ rest) x → (x ≡ r) ⊎ Contains (s ∷ rest) x
     first (zero, lt, is) = inl (sym is)
     first (suc i, lt, is) = inr (i, omega arith, is)
+
     later : (Contains (with_range r rest) x → (x ≡ r) ⊎ Contains rest x) → Contains (s ∷ with_range r rest) x → (x ≡ r) ⊎ Contains (s ∷ rest) x
     later again (zero, lt, is) = inr (0, omega arith, is)
     later again (suc i, lt, is) = elim (again (i, omega arith, is)) [
@@ -62,6 +63,7 @@ without_keeps start x (s ∷ rest) differs h =
     kept : (Contains rest x → Contains (without start rest) x) → Contains (s ∷ rest) x → Contains (s ∷ without start rest) x
     kept again (zero, lt, is) = (0, omega arith, is)
     kept again (suc i, lt, is) = behind s x (without start rest) (again (i, omega arith, is))
+
     gone : (Contains rest x → Contains (without start rest) x) → (s.start == start) ≡ true → Contains (s ∷ rest) x → Contains (without start rest) x
     gone again same (zero, lt, is) = absurd (differs (sym (ap (λ (y : Range). y.start) is) ∙ eqb-true s.start start same))
     gone again same (suc i, lt, is) = again (i, omega arith, is)
@@ -76,6 +78,7 @@ without_only start x (s ∷ rest) h =
   where
     gone : (Contains (without start rest) x → (x.start ≢ start) × Contains rest x) → Contains (without start rest) x → (x.start ≢ start) × Contains (s ∷ rest) x
     gone again h = ((again h).0, behind s x rest (again h).1)
+
     kept : (Contains (without start rest) x → (x.start ≢ start) × Contains rest x) → (s.start == start) ≡ false → Contains (s ∷ without start rest) x → (x.start ≢ start) × Contains (s ∷ rest) x
     kept again differs (zero, lt, is) = (λ same. eqb-false s.start start differs (ap (λ (y : Range). y.start) is ∙ same), (0, omega arith, is))
     kept again differs (suc i, lt, is) = gone again (i, omega arith, is)
@@ -103,3 +106,7 @@ free_from_apart l r apart b in_r i lt in_x =
       | inl above ↦ omega (arith, above, in_r.from, in_x.below)
       | inr below ↦ omega (arith, below, in_r.below, in_x.from)
     ]
+
+-- a range of the list begins where it begins, as `remove` asks
+pub begins_in : (l : List Range) (x : Range) → Contains l x → SomeIndex l (λ i. (range_at l i).start ≡ x.start)
+begins_in l x (i, lt, is) = (i, lt, ap (λ (y : Range). y.start) (get_or_default l i (range 0 0) x lt ∙ is))
