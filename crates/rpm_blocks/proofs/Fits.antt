@@ -1,9 +1,9 @@
 -- The walk over the runs to the least place, and what it says of the ranges.
-use Rattle.std.proofs.Common.{◌≡◌, ℕ, ◌+◌, ◌-◌, ◌<◌, ◌≤◌, max, List, length, length-drop, drop, Option, Some, None, inl, inr, sym, ap, subst, refl, arith}
+use Rattle.std.proofs.Common.{◌≡◌, ℕ, ◌+◌, ◌-◌, ◌<◌, ◌≤◌, max, List, length, length-drop, drop, Option, Some, None, inl, inr, sym, subst, refl, arith}
 use Rattle.std.proofs.lemmas.List.{get_or-drop}
 use Rattle.std.proofs.lemmas.Bool.{cases_lt}
 use Rattle.rpm_blocks.specs.declared.Range.{Range}
-use Rattle.rpm_blocks.specs.Blocks.{Has, IsUnused, IsFree, IsRange, AreApart, Fits, IsLeastFit, block_limit, range, range_at, end_of}
+use Rattle.rpm_blocks.specs.Blocks.{Has, IsUnused, AreApart, Fits, IsLeastFit, block_limit, range, range_at, end_of}
 use Rattle.rpm_blocks.specs.Places.{IsPlace, HaveSameBlocks}
 
 -- the walk has passed the first k runs: none of them reaches past the block, and nothing fits below it

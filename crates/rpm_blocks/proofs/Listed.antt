@@ -1,7 +1,7 @@
 -- The list with one more range, and with one less, as an edit at its place gives it.
-use Rattle.std.proofs.Common.{◌≡◌, ◌≢◌, ℕ, zero, suc, ◌+◌, ◌<◌, ◌≤◌, List, [], ◌∷◌, length, inl, inr, sym, ap, refl, ◌∙◌, arith}
+use Rattle.std.proofs.Common.{◌≡◌, ◌≢◌, ℕ, zero, suc, ◌<◌, ◌≤◌, List, [], ◌∷◌, length, inl, inr, ap, refl, ◌∙◌, arith}
 use Rattle.std.specs.Prelude.{SomeIndex}
-use Rattle.std.specs.List.{insert, remove, filter}
+use Rattle.std.specs.List.{insert, remove}
 use Rattle.std.proofs.lemmas.Bool.{cases_lt}
 use Rattle.std.proofs.lemmas.Bool.Decides.{nat_tests}
 use Rattle.rpm_blocks.specs.declared.Range.{Range}

@@ -1,17 +1,15 @@
 -- What a search finds among rising ranges, and what joining and cutting leave of runs.
-use Rattle.std.proofs.Common.{◌≡◌, ℕ, ◌+◌, ◌-◌, ◌<◌, ◌≤◌, List, [], ◌∷◌, length, inl, inr, sym, ap, subst, refl, true, false, ltb, Bool, slice_index_or, arith}
-use Rattle.std.specs.List.{insert, remove}
+use Rattle.std.proofs.Common.{◌≡◌, ℕ, ◌+◌, ◌<◌, ◌≤◌, List, ◌∷◌, length, ap, true, false, ltb, slice_index_or, arith}
+use Rattle.std.specs.List.{remove}
 use Rattle.std.specs.List.Sorted.{IsPartitionPoint, IsNonDecreasingBy}
-use Rattle.std.proofs.lemmas.Bool.{cases_lt}
 use Rattle.std.proofs.lemmas.Bool.Decides.{nat_tests}
 use Rattle.std.proofs.lemmas.List.Sorted.{IsNonDecreasingBy-from_default}
 use Rattle.std.proofs.lemmas.List.{get_or_default}
 use Rattle.std.proofs.lemmas.List.Edits.{length-remove, get_or-remove_below, get_or-remove_above}
 use Rattle.rpm_blocks.specs.declared.Range.{Range}
-use Rattle.rpm_blocks.specs.Blocks.{Has, IsUnused, IsFree, IsRange, AreApart, range, range_at, end_of}
+use Rattle.rpm_blocks.specs.Blocks.{AreApart, range, range_at, end_of}
 use Rattle.rpm_blocks.specs.Places.{IsPlace, IsGap, HaveSameBlocks}
-use Rattle.rpm_blocks.proofs.Same.{same_refl, same_trans, same_cons, same_swap, same_joined, same_remove, unused_tail, unused_cons}
-use Rattle.rpm_blocks.proofs.Edits.{gap_removed}
+use Rattle.rpm_blocks.proofs.Same.{same_trans, same_cons, same_swap, same_joined, same_remove}
 
 -- the first blocks rise, as a search by halves asks
 pub starts_rise : (l : List Range) → AreApart 0 l → IsNonDecreasingBy (λ r. r.start) l

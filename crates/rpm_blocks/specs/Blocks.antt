@@ -1,5 +1,5 @@
 -- Ranges of blocks that are used, and the least block at which one more fits.
-use Rattle.std.specs.Prelude.{◌≡◌, ℕ, ◌+◌, ◌<◌, ◌≤◌, List, [], ◌∷◌, length, filter, Option, Some, None, if◌then◌else◌, nat_lt, slice_index_or, ◌==◌, not}
+use Rattle.std.specs.Prelude.{ℕ, ◌+◌, ◌<◌, ◌≤◌, List, [], ◌∷◌, length, filter, Option, Some, None, if◌then◌else◌, nat_lt, slice_index_or, ◌==◌, not}
 use Rattle.rpm_blocks.specs.declared.Range.{Range}
 
 -- no range ends past this block: a file has at most 4 GiB, in blocks of 16 bytes

@@ -1,11 +1,11 @@
 -- What callers use of a list with one more range, and with one less, and of a free range.
-use Rattle.std.specs.Prelude.{◌≡◌, ◌≢◌, ℕ, suc, zero, ◌+◌, ◌<◌, ◌≤◌, ◌⊎◌, Bool, true, false, List, [], ◌∷◌, length, Contains, SomeIndex, slice_index_or, nat_lt, ◌==◌, not, cond, if◌then◌else◌, refl}
+use Rattle.std.specs.Prelude.{◌≡◌, ◌≢◌, ℕ, suc, zero, ◌≤◌, ◌⊎◌, Bool, true, false, List, [], ◌∷◌, Contains, SomeIndex, nat_lt, ◌==◌, not, cond, if◌then◌else◌, refl}
 use Rattle.std.proofs.Common.{inl, inr, arith, sym, ap, ◌∙◌}
 use Rattle.std.proofs.lemmas.Bool.{cases_lt}
 use Rattle.std.proofs.lemmas.List.{get_or_default}
 use borrow.Author.Tests.{eqb-true, eqb-false}
 use Rattle.rpm_blocks.specs.declared.Range.{Range}
-use Rattle.rpm_blocks.specs.Blocks.{Has, IsUnused, IsFree, end_of, range_at, range, with_range, without}
+use Rattle.rpm_blocks.specs.Blocks.{Has, IsFree, end_of, range_at, range, with_range, without}
 
 behind : (y x : Range) (l : List Range) → Contains l x → Contains (y ∷ l) x
 behind y x l h = (suc h.0, omega (arith, h.1), h.2)

@@ -1,5 +1,5 @@
 -- What is true of the fields of a set.
-use Rattle.std.specs.Prelude.{ℕ, ◌+◌, ◌*◌, ◌≤◌, vec_len, vec_capacity}
+use Rattle.std.specs.Prelude.{◌+◌, ◌*◌, ◌≤◌, vec_len, vec_capacity}
 use Rattle.rpm_blocks.specs.declared.Used.TheInside.{Inside}
 use Rattle.rpm_blocks.specs.Blocks.{AreApart}
 use Rattle.rpm_blocks.specs.Places.{HaveSameBlocks}

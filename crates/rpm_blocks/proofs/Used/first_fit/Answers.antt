@@ -1,6 +1,5 @@
-use Rattle.std.proofs.Common.{◌≡◌, ◌-◌, ◌≤◌, List, length, length-drop, take, drop, subst, ap, sym, ◌∙◌, arith}
+use Rattle.std.proofs.Common.{◌≡◌, ◌-◌, length, length-drop, take, drop, subst, arith}
 use Rattle.std.proofs.lemmas.List.{take_all}
-use Rattle.rpm_blocks.specs.declared.Range.{Range}
 use Rattle.rpm_blocks.specs.Blocks.{Blocks, IsLeastFit}
 use Rattle.rpm_blocks.specs.Places.{IsPlace}
 use Rattle.rpm_blocks.proofs.Fits.{least_from}

@@ -1,4 +1,4 @@
-use Rattle.std.proofs.Common.{◌≡◌, ◌+◌, ◌-◌, ◌<◌, ◌≤◌, refl, arith}
+use Rattle.std.proofs.Common.{◌≡◌, ◌-◌, refl, arith}
 use Rattle.rpm_blocks.specs.declared.Range.{Range}
 use Rattle.rpm_blocks.specs.Blocks.{end_of}
 use Rattle.rpm_blocks.proofs.Cuts.{same_cut, free_cut, free_of_gap, gap_within}

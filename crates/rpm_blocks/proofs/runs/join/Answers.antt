@@ -1,4 +1,4 @@
-use Rattle.std.proofs.Common.{◌∷◌, List, arith}
+use Rattle.std.proofs.Common.{◌∷◌, List}
 use Rattle.std.specs.List.{insert}
 use Rattle.rpm_blocks.specs.declared.Range.{Range}
 use Rattle.rpm_blocks.proofs.Same.{same_trans, same_insert}

@@ -1,6 +1,6 @@
-use Rattle.std.proofs.Common.{◌+◌, ◌≤◌, ◌<◌, ◌≡◌, max, subst, sym, ap, length, arith}
-use Rattle.rpm_blocks.specs.Blocks.{end_of, range_at, block_limit}
-use Rattle.rpm_blocks.proofs.Fits.{HasPassed, passed_more, none_fits}
+use Rattle.std.proofs.Common.{◌+◌, ◌≤◌, arith}
+use Rattle.rpm_blocks.specs.Blocks.{range_at, block_limit}
+use Rattle.rpm_blocks.proofs.Fits.{passed_more, none_fits}
 use Rattle.rpm_blocks.proofs.runs.least_fit.Goals as goal
 
 pub loop-run-preserved : goal.loop-run-preserved

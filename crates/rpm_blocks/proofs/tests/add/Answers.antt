@@ -1,5 +1,5 @@
-use Rattle.std.proofs.Common.{◌≡◌, SomeIndex, subst, arith}
-use Rattle.rpm_blocks.specs.Blocks.{range, range_at, with_range}
+use Rattle.std.proofs.Common.{◌≡◌, arith}
+use Rattle.rpm_blocks.specs.Blocks.{range, with_range}
 use Rattle.rpm_blocks.specs.Laws.{begins_in, with_range_here}
 use Rattle.rpm_blocks.proofs.tests.add.Goals as goal
 
