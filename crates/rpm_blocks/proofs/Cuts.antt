@@ -36,9 +36,6 @@ module _ (l : List Range) (apart : AreApart 1 l) (r : Range) (is_range : IsRange
   pub run_in_range : at - 1 < length l
   run_in_range = omega (arith, begins, place.in_range)
 
-  pub run_starts : run.start ≤ r.start
-  run_starts = omega (arith, place.below (at - 1) (omega (arith, begins)))
-
   unused_behind : (b : ℕ) → end_of run ≤ b → ((k : ℕ) → at ≤ k → k < length l → b < (range_at l k).start) → IsUnused l b
   unused_behind b behind before k lt has = elim (cases_lt k at) [
     | inr more ↦ omega (arith, before k more lt, has.from)

@@ -7,10 +7,6 @@ use Rattle.rpm_blocks.specs.declared.Range.{Range}
 use Rattle.rpm_blocks.specs.Blocks.{IsFree, IsRange, AreApart, range, range_at, end_of}
 use Rattle.rpm_blocks.specs.Places.{IsPlace, IsGap}
 
--- with wider gaps the list is apart all the more
-pub apart_less : (l : List Range) → AreApart 1 l → AreApart 0 l
-apart_less l a = record { apart = λ i j lt in_range. omega (arith, a.apart i j lt in_range); ranges = a.ranges }
-
 module _ (gap : ℕ) (l : List Range) (apart : AreApart gap l) where
   module _ (i : ℕ) (lt : i < length l) where
     below_removed : (k : ℕ) → k < i → range_at (remove l i) k ≡ range_at l k

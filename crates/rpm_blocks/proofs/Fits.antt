@@ -13,29 +13,8 @@ pub record HasPassed (l : List Range) (count from k block : ℕ) : Type 0 where
   pub ended : (i : ℕ) → i < k → end_of (range_at l i) ≤ block
   pub none : (b : ℕ) → from ≤ b → b < block → ¬ Fits l count b
 
-pub passed_none : (l : List Range) (count from : ℕ) → HasPassed l count from 0 from
-passed_none l count from = record { in_range = omega arith; at_least = omega arith; ended = λ i lt. absurd (omega arith); none = λ b more less. absurd (omega arith) }
-
 module _ (l : List Range) (apart : AreApart 1 l) (count from k block : ℕ) (passed : HasPassed l count from k block) where
-  -- a gap that is wide enough
-  pub fits_below : k < length l → block + count ≤ (range_at l k).start → IsLeastFit l count from (Some block)
-  fits_below lt wide =
-      let here = apart.ranges k lt in (
-        passed.at_least,
-        record {
-          free = λ b has i in_range meets. elim (cases_lt i k) [
-            | inl before ↦ omega (arith, passed.ended i before, has.from, meets.below)
-            | inr later ↦ elim (cases_lt k i) [
-              | inl behind ↦ omega (arith, apart.apart k i behind in_range, has.below, meets.from)
-              | inr same ↦ let is : i ≡ k = omega arith in let begins = meets.from in let starts : (range_at l i).start ≡ (range_at l k).start = rw is refl in omega (arith, has.below)
-            ]
-          ];
-          ends = omega (arith, here.bounded);
-        },
-        passed.none,
-      )
-
-  -- one that is not
+  -- past a gap that is not wide enough
   pub passed_more : 1 ≤ count → k < length l → (block + count ≤ (range_at l k).start → ⊥) → HasPassed l count from (k + 1) (max block (end_of (range_at l k)))
   passed_more some lt narrow =
       let here = apart.ranges k lt in
@@ -56,13 +35,6 @@ module _ (l : List Range) (apart : AreApart 1 l) (count from k block : ℕ) (pas
       }
 
   -- behind the last run only the limit ends a place
-  pub fits_behind : k ≡ length l → block + count ≤ block_limit → IsLeastFit l count from (Some block)
-  fits_behind all ends = (
-    passed.at_least,
-    record { free = λ b has i lt meets. omega (arith, passed.ended i (omega arith), has.from, meets.below); ends = ends },
-    passed.none,
-  )
-
   pub none_fits : k ≡ length l → (block + count ≤ block_limit → ⊥) → IsLeastFit l count from None
   none_fits all over b more fits = elim (cases_lt b block) [
     | inl before ↦ passed.none b more before fits
@@ -77,12 +49,6 @@ least_same l m count from there back (Some place) (least, fits, none) = (
   record { free = λ c has. there c (omega (arith, has.from)) (fits.free c has); ends = fits.ends },
   λ b more less other. none b more less (record { free = λ c has. back c (omega (arith, has.from)) (other.free c has); ends = other.ends }),
 )
-
-pub apart_drop : (gap : ℕ) (l : List Range) (n : ℕ) → AreApart gap l → AreApart gap (drop n l)
-apart_drop gap l n apart = record {
-  apart = λ i j less lt. rw (get_or-drop n l i (range 0 0), get_or-drop n l j (range 0 0)) (apart.apart (n + i) (n + j) (omega arith) (omega (arith, length-drop n l)));
-  ranges = λ i lt. rw (get_or-drop n l i (range 0 0)) (apart.ranges (n + i) (omega (arith, length-drop n l)));
-}
 
 module _ (l m : List Range) (same : HaveSameBlocks l m) (apart : AreApart 1 m) (count from at : ℕ) (place : IsPlace m from at) where
   skipped : (i : ℕ) → i < at - 1 → end_of (range_at m i) ≤ from

@@ -41,8 +41,8 @@ pub record IsRange (r : Range) : Type 0 where
   pub filled : 1 ≤ r.count
   pub bounded : end_of r ≤ block_limit
 
--- the ranges rise, and each begins at least so many blocks behind the end of those before it: with a gap of 0 they do not meet, with a gap of 1 none
--- touches the next
+-- the ranges rise, and each begins at least so many blocks behind the end of those before it:
+-- with a gap of 0 no two share a block, and with a gap of 1 none touches the next
 pub record AreApart (gap : ℕ) (l : List Range) : Type 0 where
   pub apart : (i j : ℕ) → i < j → j < length l → end_of (range_at l i) + gap ≤ (range_at l j).start
   pub ranges : (i : ℕ) → i < length l → IsRange (range_at l i)

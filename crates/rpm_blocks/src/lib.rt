@@ -1,8 +1,10 @@
 //! Where a blob goes in `Packages.db`: the least block at which it fits.
 //!
-//! The file is a row of blocks of 16 bytes. A set `Used` keeps which ranges of them are used, and finds the first gap that is wide enough.
-//! Beside the ranges, as they were inserted, it keeps their runs: ranges that touch are one run, so that a search steps over gaps and not over
-//! ranges, and costs next to nothing in a file that has none.
+//! The file is a row of blocks of 16 bytes, at most 268,435,456 of them (4 GiB), a limit of this database.
+//! A set `Used` keeps which ranges of blocks are used, and finds the first gap that is wide enough.
+//!
+//! Beside the ranges, as they were inserted, the set keeps their runs: ranges that touch are one run. A search
+//! steps over runs and not over ranges, so it costs next to nothing in a file that has no gaps.
 #![tactic(auto)]
 
 ghost use Rattle.std.specs.Prelude.{◌≡◌, ◌+◌, ◌^◌, ◌<◌, ◌≤◌, [], OnOk, OnErr, IsOk, SomeIndex};
@@ -72,8 +74,9 @@ impl Used {
 
     /// Makes room for so many further ranges.
     ///
-    /// `Err` where memory is refused, which leaves the set as it was; it never comes where the room is there. The time is linear in the ranges where
-    /// memory is asked for, and constant elsewhere.
+    /// `Err` where memory is refused, which leaves the set as it was; it never comes where the room is there.
+    /// Takes 8 bytes for each range, and twice as many for the runs that later removals may split. Where
+    /// memory is asked for, all are copied, which is seldom, since it grows by doubling.
     pub fn reserve(&mut self, more: u32) -> Result<(), AllocError>
         ensures ranges { self.new.ranges ≡ self.old.ranges }
         ensures ok { OnOk result (more ≤ self.new.spare) }
@@ -93,7 +96,8 @@ impl Used {
 
     /// Adds a range, which meets no other. Takes no memory.
     ///
-    /// Two binary searches, and the ranges and runs above it move up by one: nothing moves where the range is behind the last.
+    /// Asks for room, for a block at least, for an end at or below the limit, and that no block of it is used.
+    /// Two binary searches, and the ranges and runs above it move: none, where it is behind the last.
     pub fn insert(&mut self, start: u32, count: u32)
         requires room { 1 ≤ self.old.spare }
         requires filled { 1 ≤ count }
@@ -112,7 +116,8 @@ impl Used {
 
     /// Takes out the range that begins at `start`, and leaves the room for it.
     ///
-    /// Two binary searches, and the ranges and runs above it move.
+    /// Asks that a range begins there. Two binary searches, and the ranges and runs above it move.
+    /// Takes no memory.
     pub fn remove(&mut self, start: u32)
         requires { SomeIndex self.old.ranges (λ i. (range_at self.old.ranges i).start ≡ start) }
         ensures ranges { self.new.ranges ≡ without start self.old.ranges }
@@ -124,9 +129,11 @@ impl Used {
         cut(&mut self.runs, range);
     }
 
-    /// The least block from `from` on at which `count` blocks are free and end by the limit, and `None` where there is none.
+    /// The least block from `from` on at which `count` blocks are free and end by the limit, and `None`
+    /// where there is none.
     ///
-    /// A binary search for the first run that reaches `from`, and then a step for each run up to the place: one, where the file has no gap.
+    /// Asks for a block at least. A binary search for the last run that begins below `from`, and then a step
+    /// for each run from there up to the place: one, where no gap lies between. Takes no memory.
     pub fn first_fit(&self, count: u32, from: u32) -> Option<u32>
         requires { 1 ≤ count }
         ensures least { IsLeastFit self.now.ranges count from result }

@@ -8,6 +8,7 @@ ghost use Rattle.rpm_blocks.specs.Places.{IsGap, HaveSameBlocks};
 use super::Range;
 use super::places::{place, put};
 
+// No range ends past this block: a file has at most 4 GiB, in blocks of 16 bytes.
 const BLOCK_LIMIT: u32 = 268_435_456;
 
 /// Adds the blocks of a range that shares none with the runs.

@@ -50,3 +50,13 @@ returns-clause-ranges c =
     let place : IsPlace l c.args.start at = rw (← c.deref.ensures.value) c.place-at.ensures in
     let begins : SomeIndex l (λ i. (range_at l i).start ≡ c.args.start) = subst (λ (v : Blocks). SomeIndex v.ranges (λ i. (range_at v.ranges i).start ≡ c.args.start)) (sym c.self.view_is) c.requires in
     c.remove-range.ensures.items ∙ removed_is_without l c.self.invariant.ranges c.args.start at place begins ∙ ap (λ (v : Blocks). without c.args.start v.ranges) c.self.view_is
+
+pub cut-requires-clause-range : goal.cut-requires-clause-range
+cut-requires-clause-range c =
+    let l = c.self.inside.ranges.items in
+    let at = c.place-at.result in
+    let place : IsPlace l c.args.start at = rw (← c.deref.ensures.value) c.place-at.ensures in
+    let begins : SomeIndex l (λ i. (range_at l i).start ≡ c.args.start) = subst (λ (v : Blocks). SomeIndex v.ranges (λ i. (range_at v.ranges i).start ≡ c.args.start)) (sym c.self.view_is) c.requires in
+    let lt = found_in_range l c.self.invariant.ranges c.args.start at place begins in
+    let is = read_at l at c.remove-range.result lt c.remove-range.ensures.value in
+    rw is (c.self.invariant.ranges.ranges at lt)

@@ -1,6 +1,7 @@
 use Rattle.std.proofs.Common.{arith}
 use Rattle.rpm_blocks.proofs.Same.{same_insert, unused_tail, unused_cons}
-use Rattle.rpm_blocks.proofs.Edits.{gap_inserted}
+use Rattle.rpm_blocks.specs.Blocks.{IsRange}
+use Rattle.rpm_blocks.proofs.Edits.{apart_insert, gap_inserted}
 use Rattle.rpm_blocks.proofs.runs.put_part.Goals as goal
 
 pub returns-then-part-gt0-clause-same : goal.returns-then-part-gt0-clause-same
@@ -16,3 +17,8 @@ returns-else-part-gt0-clause-same c = record {
   there = λ b unused. unused_tail c.args.part c.args.runs.now.items b unused;
   back = λ b unused. unused_cons c.args.part c.args.runs.now.items b (λ has. omega (arith, has.from, has.below)) unused;
 }
+
+pub returns-then-part-gt0-clause-apart : goal.returns-then-part-gt0-clause-apart
+returns-then-part-gt0-clause-apart c =
+    let is_range : IsRange c.args.part = record { filled = c.if-part-gt0.true; bounded = c.requires.bounded } in
+    rw c.put.ensures.items (apart_insert 1 c.args.runs.now.items c.requires.apart c.args.at c.args.part c.requires.gap is_range)
