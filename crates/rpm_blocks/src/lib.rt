@@ -114,7 +114,7 @@ impl Used {
         self.spare -= 1;
     }
 
-    /// Takes out the range that begins at `start`, and leaves the room for it.
+    /// Takes out the range that begins at `start`. As many ranges may be inserted after it as before.
     ///
     /// Asks that a range begins there. Two binary searches, and the ranges and runs above it move.
     /// Takes no memory.
