@@ -1,0 +1,6 @@
+pub mod Cuts
+pub mod Edits
+pub mod Fits
+pub mod Listed
+pub mod Parts
+pub mod Same
