@@ -19,6 +19,7 @@ pub enum File {
 pub trait Disk {
     ghost use Rattle.rpm_outside.specs.declared.disk.File.{File};
     ghost use Rattle.rpm_outside.specs.Files.{Files, file_of, with_file, units_of, put};
+    ghost use Rattle.rpm_outside.specs.Calls.{Call, Len, Read, Write, Sync};
     ghost use Rattle.rpm_outside.specs.Causes.{Rose, RoseBy, HasCause};
     ghost use Rattle.rpm_outside.specs.Crash.{TornFile, Follows, Elapses, Untouched, bytes_for};
 
@@ -44,7 +45,7 @@ pub trait Disk {
     ghost follows: { Self → Self → Type 0 };
 
     /// What an implementation says besides of a call that fails, or doesn't.
-    ghost outcome: { Self → Bool → Self → Type 0 } = { λ old failed new. Unit {0} };
+    ghost outcome: { Self → Call → Bool → Self → Type 0 } = { λ old call failed new. Unit {0} };
 
     /// The number of units of a file.
     ///
@@ -57,7 +58,7 @@ pub trait Disk {
         ensures moment { moment self.new ≡ moment self.old }
         ensures reads { (f : File) → bytes_read self.new f ≡ bytes_read self.old f }
         ensures cause { HasCause (faults self.old) (faults self.new) result }
-        ensures outcome { outcome self.old (is_err result) self.new }
+        ensures outcome { outcome self.old (Len file) (is_err result) self.new }
         ensures follows { follows self.old self.new };
 
     /// Reads whole units from this one on. The file's count of bytes read rises by the length of `into`, whatever the answer.
@@ -74,7 +75,7 @@ pub trait Disk {
         ensures moment { moment self.new ≡ moment self.old }
         ensures reads { (f : File) → RoseBy (bytes_read self.old f) (bytes_for file f (length into.old)) (bytes_read self.new f) }
         ensures cause { HasCause (faults self.old) (faults self.new) result }
-        ensures outcome { outcome self.old (is_err result) self.new }
+        ensures outcome { outcome self.old (Read file unit (length into.old)) (is_err result) self.new }
         ensures follows { follows self.old self.new };
 
     /// Writes whole units from this one on. A write past the end extends the file, and units between are zeros.
@@ -95,7 +96,7 @@ pub trait Disk {
         ensures rises { OnOk result (Rose (moment self.old) (moment self.new)) }
         ensures reads { (f : File) → bytes_read self.new f ≡ bytes_read self.old f }
         ensures cause { HasCause (faults self.old) (faults self.new) result }
-        ensures outcome { outcome self.old (is_err result) self.new }
+        ensures outcome { outcome self.old (Write file unit bytes.now) (is_err result) self.new }
         ensures follows { follows self.old self.new };
 
     /// Settles a file: no stop from now on leaves it otherwise than it reads.
@@ -112,7 +113,7 @@ pub trait Disk {
         ensures rises { OnOk result (Rose (moment self.old) (moment self.new)) }
         ensures reads { (f : File) → bytes_read self.new f ≡ bytes_read self.old f }
         ensures cause { HasCause (faults self.old) (faults self.new) result }
-        ensures outcome { outcome self.old (is_err result) self.new }
+        ensures outcome { outcome self.old (Sync file) (is_err result) self.new }
         ensures follows { follows self.old self.new };
 
     /// The files as they read are an image.

@@ -1,4 +1,5 @@
 mod Above
+mod Fixtures
 mod Held
 mod Joins
 mod Through

@@ -1,11 +1,12 @@
-use Rattle.std.proofs.Common.{ℕ, List, length, refl, sym, ◌∙◌, ap, subst}
+use Rattle.std.proofs.Common.{ℕ, Bool, List, length, refl, sym, ◌∙◌, ap, subst}
 use Rattle.std.specs.Prelude.{◌==◌}
 use Rattle.std.specs.List.{list_any}
-use Rattle.rpm_outside.proofs.Named.{named_fails}
+use Rattle.rpm_outside.specs.Calls.{Write}
+use Rattle.rpm_outside.proofs.Named.{named_fails, other_passes}
 use Rattle.rpm_outside.specs.declared.steps.Step.{Step}
-use Rattle.rpm_outside.specs.Files.{Files, units_of}
+use Rattle.rpm_outside.specs.Files.{Files, file_of, with_file, put, units_of}
 use Rattle.rpm_outside.specs.Crash.{TornFile, Follows}
-use Rattle.rpm_outside.specs.Past.{held_files, ImagesSince}
+use Rattle.rpm_outside.specs.Past.{held_files, part_of, ImagesSince}
 use Rattle.rpm_outside.specs.History.{torn_file_none, follows_none}
 use Rattle.rpm_outside.proofs.Replays.{replayed_write, torn_write, images_write}
 use Rattle.rpm_outside.proofs.mem_disk.MemDiskDisk.write_at.Goals as goal
@@ -54,5 +55,11 @@ returns-clause-images c = λ told.
 
 pub returns-then-fails-clause-outcome : goal.returns-then-fails-clause-outcome
 returns-then-fails-clause-outcome c =
-    named_fails c.args.self.now _ c.call_fails-fails.ensures.counted refl
-    (ap (λ (xs : List ℕ). list_any (λ call. call == c.call_fails-fails.new.calls) xs) (sym c.deref.ensures.value) ∙ sym c.call_fails-fails.ensures.named ∙ c.if-fails.true) refl
+    named_fails c.args.self.now _ (Write c.args.file c.args.unit c.args.bytes.now) c.call_fails-fails.ensures.counted refl refl
+    (ap (λ (xs : List ℕ). list_any (λ call. call == c.call_fails-fails.new.calls) xs) (sym c.deref.ensures.value) ∙ sym c.call_fails-fails.ensures.named ∙ c.if-fails.true)
+    (c.in-Ok.ensures.ok.files ∙ ap (λ (half : Bool). with_file c.args.file (put c.args.unit (part_of half (units_of c.args.bytes.now)) (file_of c.args.file (held_files c.args.self.now.held))) (held_files c.args.self.now.held)) c.if-fails.true)
+
+pub returns-clause-outcome : goal.returns-clause-outcome
+returns-clause-outcome c =
+    other_passes c.args.self.now _ (Write c.args.file c.args.unit c.args.bytes.now) c.call_fails-fails.ensures.counted refl refl
+    (ap (λ (xs : List ℕ). list_any (λ call. call == c.call_fails-fails.new.calls) xs) (sym c.deref.ensures.value) ∙ sym c.call_fails-fails.ensures.named ∙ c.if-fails.false)

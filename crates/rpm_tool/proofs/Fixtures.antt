@@ -1,0 +1,84 @@
+-- The definitions, computed on a small package and its blocks: what they say doesn't come from the code.
+use Rattle.std.specs.Prelude.{◌≡◌, ℕ, List, [], ◌∷◌, ◌++◌, replicate, Option, Some, None, Err, codes, refl}
+use Rattle.std.specs.Option.{option_map}
+use Rattle.rpm_outside.specs.Files.{Units, units_of}
+use Rattle.rpm_header.specs.declared.form.HeaderFault.TheVariants.{BadType}
+use Rattle.rpm_header.specs.Bytes.{number_at, numbers, texts, are_ended}
+use Rattle.rpm_header.specs.Header.{header, header_of, entries, entry_of, entry_fault, fault_at}
+use Rattle.rpm_pkgdb.specs.declared.slot.Reason.{Reason}
+use Rattle.rpm_pkgdb.specs.declared.slot.Reason.TheVariants.{BadMagic, BadPages, BadSlot, BadRange, SameNumber, Overlap}
+use Rattle.rpm_pkgdb.specs.Words.{word}
+use Rattle.rpm_pkgdb.specs.Slots.{slot_of}
+use Rattle.rpm_pkgdb.specs.Damages.{head_reason, own_reason, shared_reason}
+use Rattle.rpm_pkgdb.specs.Blobs.{frame_of, blob_in, is_head, is_tail}
+use Rattle.rpm_tool.specs.Label.{first_text, nvra, line_of}
+use Rattle.rpm_tool.specs.Installed.{Bad, package_of, read_as}
+use Rattle.rpm_tool.specs.Steps.{ToOut, bearer, step_of}
+
+-- the name a, the version 1, the release 2 and the architecture x; the first entry has this type
+small : ℕ → List ℕ
+small kind =
+    0 ∷ 0 ∷ 0 ∷ 4 ∷ 0 ∷ 0 ∷ 0 ∷ 8 ∷ 0 ∷ 0 ∷ 3 ∷ 232 ∷ 0 ∷ 0 ∷ 0 ∷ kind ∷ 0 ∷ 0 ∷ 0 ∷ 0 ∷ 0 ∷ 0 ∷ 0 ∷ 1 ∷ 0 ∷ 0 ∷ 3
+    ∷ 233 ∷ 0 ∷ 0 ∷ 0 ∷ 6 ∷ 0 ∷ 0 ∷ 0 ∷ 2 ∷ 0 ∷ 0 ∷ 0 ∷ 1 ∷ 0 ∷ 0 ∷ 3 ∷ 234 ∷ 0 ∷ 0 ∷ 0 ∷ 6 ∷ 0 ∷ 0 ∷ 0 ∷ 4 ∷ 0 ∷ 0
+    ∷ 0 ∷ 1 ∷ 0 ∷ 0 ∷ 3 ∷ 254 ∷ 0 ∷ 0 ∷ 0 ∷ 6 ∷ 0 ∷ 0 ∷ 0 ∷ 6 ∷ 0 ∷ 0 ∷ 0 ∷ 1 ∷ 97 ∷ 0 ∷ 49 ∷ 0 ∷ 50 ∷ 0 ∷ 120 ∷ 0
+    ∷ []
+
+its_line : step_of 2 (read_as (header (small 6))) ≡ ToOut (bearer 2) (codes "a-1-2.x\n")
+unfolding small header header_of entries entry_of entry_fault fault_at number_at numbers texts are_ended first_text nvra line_of
+its_line = refl
+
+-- a name that isn't a text counts for nothing
+no_name : step_of 2 (read_as (header (small 4))) ≡ ToOut (bearer 2) (codes "(none)\n")
+unfolding small header header_of entries entry_of entry_fault fault_at number_at numbers texts are_ended first_text nvra line_of
+no_name = refl
+
+-- there are no types above 9
+no_type : header (small 10) ≡ Err (BadType 0)
+unfolding small header header_of entries entry_of entry_fault fault_at number_at numbers texts are_ended first_text nvra line_of
+no_type = refl
+
+-- the numbers that stand behind a magic, the lowest byte first; none is above 65,535
+low : ℕ → ℕ → List ℕ
+low first second = first ∷ second ∷ 0 ∷ 0 ∷ []
+
+head : ℕ → List ℕ
+head pages = codes "RpmP" ++ low 0 0 ++ low 1 0 ++ low pages 0
+
+made : (head_reason 263 (head 1) ≡ None) × (head_reason 263 (head 2) ≡ Some BadPages) × (head_reason 263 (replicate 16 1) ≡ Some BadMagic)
+unfolding head low head_reason word
+made = (refl, refl, refl)
+
+-- a slot of seven blocks from block 256 + first on
+slot : ℕ → ℕ → List ℕ
+slot number first = codes "Slot" ++ low number 0 ++ low first 1 ++ low 7 0
+
+whole : (own_reason 1 263 (slot 2 0) ≡ None) × (own_reason 1 262 (slot 2 0) ≡ Some BadRange) × (own_reason 1 263 (replicate 16 0) ≡ Some BadSlot)
+unfolding slot low own_reason word
+whole = (refl, refl, refl)
+
+-- beside the slot of number 3 in the seven blocks before
+beside : List ℕ → Option Reason
+beside unit = shared_reason (slot_of (slot 3 0) ∷ []) (slot_of unit)
+
+alone : (beside (slot 2 7) ≡ None) × (beside (slot 3 7) ≡ Some SameNumber) × (beside (slot 2 6) ≡ Some Overlap) × (beside (slot 3 6) ≡ Some SameNumber)
+unfolding beside slot low shared_reason word
+alone = (refl, refl, refl, refl)
+
+-- the blocks of number 2, of which the last ends in this byte
+blocks : ℕ → Units
+blocks last =
+    (codes "BlbS" ++ low 2 0 ++ low 1 0 ++ low 80 0)
+    ∷ units_of (small 6) ++ ((0 ∷ 0 ∷ 0 ∷ 0 ∷ 236 ∷ 6 ∷ 209 ∷ 112 ∷ []) ++ low 80 0 ++ codes "Blb" ++ (last ∷ [])) ∷ []
+
+-- they follow one unit of something else
+read : ℕ → ℕ → Option (List ℕ)
+read n last = option_map blob_in (frame_of n (record { number = n; offset = 1; count = 7 }) (replicate 16 0 ∷ blocks last))
+
+framed : (read 2 69 ≡ Some (small 6)) × (read 2 70 ≡ None) × (read 3 69 ≡ None)
+unfolding read blocks small low is_head is_tail word
+framed = (refl, refl, refl)
+
+-- a package whose last byte is another can't be read, nor one whose header has a fault
+broken : (package_of (read 2 70) ≡ Bad) × (read_as (header (small 10)) ≡ Bad)
+unfolding read blocks small low is_head is_tail word header header_of entries entry_of entry_fault fault_at number_at numbers texts are_ended
+broken = (refl, refl)
