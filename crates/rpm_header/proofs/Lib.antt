@@ -1,7 +1,13 @@
+pub mod Again
 pub mod Cut
 pub mod Each
 pub mod Find
+pub mod LaidOut
+pub mod Laws
+pub mod NumbersAgain
+pub mod Packing
 pub mod Region
 pub mod Texts
+pub mod TextsAgain
 pub mod Values
 pub mod Whole

@@ -1,3 +1,6 @@
+pub mod Build
 pub mod Bytes
 pub mod Checked
 pub mod Header
+pub mod Laid
+pub mod Packed
