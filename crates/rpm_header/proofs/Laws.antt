@@ -78,7 +78,7 @@ module _ (es : List Item) (each : AllByRecursion ReadsBack es) (few : length es 
 trailer_fits : (n : ℕ) → 0 < n → Fits (trailer_entry n)
 trailer_fits n some = record { tag = omega arith; kind = omega arith; offset = omega arith; count = omega arith }
 
-no_region_fault : (n : ℕ) (i : IndexEntry) (bytes : List ℕ) → i.kind ≡ 7 → i.count ≡ 16 → counts_back n (number_at w32 bytes (i.offset + 8)) ≡ true → region_fault n i bytes ≡ None
+pub no_region_fault : (n : ℕ) (i : IndexEntry) (bytes : List ℕ) → i.kind ≡ 7 → i.count ≡ 16 → counts_back n (number_at w32 bytes (i.offset + 8)) ≡ true → region_fault n i bytes ≡ None
 no_region_fault n i bytes kind count back = rw (kind, count, back) refl
 
 module _ (es : List Item) (each : AllByRecursion ReadsBack es) (few : suc (length es) ≤ 65535) (small : length (data_of true es) ≤ 67108864) where

@@ -1,10 +1,13 @@
 pub mod Again
 pub mod Cut
+pub mod Dribbled
 pub mod Each
 pub mod Find
 pub mod LaidOut
 pub mod Laws
+pub mod Longer
 pub mod NumbersAgain
+pub mod Opened
 pub mod Packing
 pub mod Region
 pub mod Texts

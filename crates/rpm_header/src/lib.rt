@@ -13,17 +13,20 @@
 
 mod builder;
 mod bytes;
+mod dribbles;
 mod entry;
 mod form;
 mod index;
 mod laying;
 mod packed;
+mod parts;
 #[cfg(test)]
 mod tests;
 mod text_list;
 mod view;
 
 pub use builder::Builder;
+pub use dribbles::with_dribbles;
 pub use entry::{Entry, EntryTexts};
 pub use form::{Form, HeaderFault};
 pub use laying::BuildFault;
