@@ -16,7 +16,8 @@ use Rattle.rpm_header.specs.declared.laying.Lengths.{Lengths}
 use Rattle.rpm_header.specs.Bytes.{number_at}
 use Rattle.rpm_header.specs.Header.{Item, Header, header, entries, entry_of, index_entry, section_of, form_of, form_fault, is_region_tag, region_fault, counts_back, fault_at, entry_fault}
 use Rattle.rpm_header.specs.Laid.{data_from, index_from, blob_of}
-use Rattle.rpm_header.specs.Dribbles.{own_index, own_data, dribbled_index, dribbled_data, dribbled}
+use Rattle.rpm_header.specs.Dribbles.{dribbled_index, dribbled_data, dribbled}
+use Rattle.rpm_header.specs.Parts.{own_index, own_data}
 use Rattle.rpm_header.specs.Packed.{ReadsBack}
 use Rattle.rpm_header.proofs.Cut.{number_in_front}
 use Rattle.rpm_header.proofs.Opened.{IsOpened}
@@ -101,7 +102,7 @@ fault_is il blob k = refl
 
 -- ---- the index in front
 
-number_behind : (bytes : List ℕ) (at m : ℕ) → at ≡ 8 + m → number_at w32 bytes at ≡ number_at w32 (drop 8 bytes) m
+pub number_behind : (bytes : List ℕ) (at m : ℕ) → at ≡ 8 + m → number_at w32 bytes at ≡ number_at w32 (drop 8 bytes) m
 unfolding number_at
 number_behind bytes at m place = rw place (ap (from_be_bytes w32) (sym (drop-drop m 8 bytes)))
 

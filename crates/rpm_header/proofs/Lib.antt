@@ -3,6 +3,7 @@ pub mod Cut
 pub mod Dribbled
 pub mod Each
 pub mod Find
+pub mod Hashed
 pub mod LaidOut
 pub mod Laws
 pub mod Longer

@@ -1,14 +1,8 @@
 -- A header with further entries behind its own.
-use Rattle.std.specs.Prelude.{ℕ, ◌+◌, ◌*◌, List, ◌++◌, length, take, drop}
-use Rattle.rpm_header.specs.Header.{Item, Header, section_of}
+use Rattle.std.specs.Prelude.{ℕ, ◌+◌, List, ◌++◌, length}
+use Rattle.rpm_header.specs.Header.{Item, Header}
 use Rattle.rpm_header.specs.Laid.{data_from, index_from, blob_of}
-
--- the index of a header, and its data
-abbrev pub own_index : Header → List ℕ
-own_index h = take (16 * length h.entries) (drop 8 h.blob)
-
-abbrev pub own_data : Header → List ℕ
-own_data h = section_of (length h.entries) h.blob
+use Rattle.rpm_header.specs.Parts.{own_index, own_data}
 
 -- the data of the further entries stand behind its data, each at the least offset that its form lets it have
 abbrev pub dribbled_data : Header → List Item → List ℕ

@@ -13,6 +13,7 @@
 
 mod builder;
 mod bytes;
+mod digest;
 mod dribbles;
 mod entry;
 mod form;
@@ -26,6 +27,7 @@ mod text_list;
 mod view;
 
 pub use builder::Builder;
+pub use digest::immutable_digest;
 pub use dribbles::with_dribbles;
 pub use entry::{Entry, EntryTexts};
 pub use form::{Form, HeaderFault};

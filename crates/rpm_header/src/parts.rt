@@ -2,7 +2,7 @@
 
 ghost use Rattle.std.specs.Prelude.{◌≡◌, ℕ, ◌+◌, ◌*◌, take, drop, ◌≤◌, length, Ok};
 ghost use Rattle.rpm_header.specs.Header.{header};
-ghost use Rattle.rpm_header.specs.Dribbles.{own_index, own_data};
+ghost use Rattle.rpm_header.specs.Parts.{own_index, own_data};
 
 use crate::index::section_of;
 use crate::view::View;

@@ -1,7 +1,8 @@
 use Rattle.std.proofs.Common.{◌∙◌, ◌+◌, ◌++◌, ap, List, ℕ, length}
 use Rattle.rpm_header.specs.Header.{Item}
 use Rattle.rpm_header.specs.Laid.{data_from, index_from}
-use Rattle.rpm_header.specs.Dribbles.{dribbled_data, own_data}
+use Rattle.rpm_header.specs.Dribbles.{dribbled_data}
+use Rattle.rpm_header.specs.Parts.{own_data}
 use Rattle.rpm_header.proofs.Laws.{is_within}
 use Rattle.rpm_header.proofs.Opened.{opened}
 use Rattle.rpm_header.proofs.Dribbled.{dribbled_parts, dribbled_written}
