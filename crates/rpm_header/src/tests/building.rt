@@ -4,8 +4,8 @@
 ghost use Rattle.std.specs.Prelude.{◌≡◌, ◌∷◌, [], IfOk};
 ghost use Rattle.rpm_header.specs.Build.{IsText};
 
-use super::{PLAIN, REGION, unhex};
-use crate::{BuildFault, Builder, Form, HeaderFault, TextList, View};
+use super::{INSTALLED, PLAIN, REGION, unhex};
+use crate::{BuildFault, Builder, Form, TextList, View, immutable_digest, with_dribbles};
 use std::alloc::{AllocError, Global};
 use std::test::Fail;
 
@@ -72,6 +72,32 @@ const ALIGNED: &str = "0000000d 00000050
     000007dc 00000005 00000048 00000001
     41008001 01000000 ffffffff dead0000 ffffffff ffffffff 00000000 00000002 78006100 62630000
     00000005 00000006 00797a00 00000000 00000000 00000001 ff000000 00000000 00000000 00000000";
+
+// The region with the time and the transaction of its installation behind it.
+const REGION_INSTALLED: &str = "00000007 00000020
+    0000003f 00000007 00000008 00000010
+    000003e8 00000006 00000000 00000001
+    000003e9 00000006 00000002 00000001
+    000003ea 00000006 00000004 00000001
+    000003fe 00000006 00000006 00000001
+    000003f0 00000004 00000018 00000001
+    00000468 00000004 0000001c 00000001
+    61003100 32007800 0000003f 00000007 ffffffb0 00000010 00000005 00000005";
+
+// The library's snapshot with a number, a text and a number of eight bytes behind it.
+const SNAPSHOT_INSTALLED: &str = "0000000a 00000040
+    000003e8 00000006 00000000 00000001
+    000003e9 00000006 00000005 00000001
+    000003ea 00000006 0000000e 00000001
+    000003fe 00000006 00000010 00000001
+    00000417 00000008 00000017 00000001
+    00000458 00000004 0000001c 00000001
+    00000459 00000008 00000020 00000001
+    000003f0 00000004 0000002c 00000001
+    00000101 00000006 00000030 00000001
+    00000468 00000005 00000038 00000001
+    6c696278 00312e30 5e676974 31003100 6e6f6172 6368006c 69627800 00000008 312e305e 67697431
+    00000000 00000005 79000000 00000000 00000002 00000000";
 
 /// The header of four texts.
 fn plain(alloc: Global) -> Result<Builder, AllocError> {
@@ -210,5 +236,108 @@ fn limits_are_refused_exactly_where_they_are_passed(rt: HostRuntime) -> Result<(
         many.finish(alloc, false).err(),
         Some(BuildFault::TooManyEntries)
     );
+    Ok(())
+}
+
+fn installed(alloc: Global) -> Result<Builder, AllocError> {
+    let mut builder = Builder::new(alloc);
+    builder.push_numbers(1008, Form::Int32, &[5])?;
+    builder.push_numbers(1128, Form::Int32, &[5])?;
+    Ok(builder)
+}
+
+fn installed_long(alloc: Global) -> Result<Builder, AllocError> {
+    let mut builder = Builder::new(alloc);
+    builder.push_numbers(1008, Form::Int32, &[5])?;
+    builder.push_text(257, b"y")?;
+    builder.push_numbers(1128, Form::Int64, &[0x2_0000_0000])?;
+    Ok(builder)
+}
+
+#[test]
+fn dribbles_stand_behind_the_entries(rt: HostRuntime) -> Result<(), Fail> {
+    let alloc = rt.alloc();
+    for (hex, extra, want) in [
+        (PLAIN, installed(alloc)?, INSTALLED),
+        (REGION, installed(alloc)?, REGION_INSTALLED),
+        (SNAPSHOT, installed_long(alloc)?, SNAPSHOT_INSTALLED),
+        (SNAPSHOT, Builder::new(alloc), SNAPSHOT),
+    ] {
+        let blob = unhex(alloc, hex)?;
+        let view = View::parse(&blob).map_err(|_| "fault")?;
+        let whole = with_dribbles(alloc, &view, &extra)?;
+        assert_eq!(rt; whole.as_slice(), unhex(alloc, want)?.as_slice(), "{want}");
+    }
+    Ok(())
+}
+
+#[test]
+fn dribbles_keep_the_limits(rt: HostRuntime) -> Result<(), Fail> {
+    let alloc = rt.alloc();
+    let mut most = Builder::new(alloc);
+    for _ in 0..65_533u32 {
+        most.push_text(1000, b"")?;
+    }
+    let blob = most.finish(alloc, false)?;
+    let view = View::parse(&blob).map_err(|_| "fault")?;
+    assert_eq!(rt;
+        with_dribbles(alloc, &view, &installed(alloc)?)?.len(),
+        8 + 17 * 65_533 + 3 + 2 * 20
+    );
+    assert_eq!(rt;
+        with_dribbles(alloc, &view, &installed_long(alloc)?).err(),
+        Some(BuildFault::TooManyEntries)
+    );
+    let mut most = Builder::new(alloc);
+    most.push_bin(1000, &Vec::from_elem(alloc, 0, 67_108_856)?)?;
+    let blob = most.finish(alloc, false)?;
+    let view = View::parse(&blob).map_err(|_| "fault")?;
+    assert_eq!(rt;
+        with_dribbles(alloc, &view, &installed(alloc)?)?.len(),
+        8 + 16 * 3 + 67_108_864
+    );
+    assert_eq!(rt;
+        with_dribbles(alloc, &view, &installed_long(alloc)?).err(),
+        Some(BuildFault::TooMuchData)
+    );
+    Ok(())
+}
+
+// Headers with the SHA-256 of their region as `sha256sum` of coreutils gives it.
+const DIGESTS: [(&str, Option<&str>); 6] = [
+    (
+        REGION,
+        Some("3d0d85fe20030bf49852a9bd894c16eaef3594996b7685ce400298d8bbab7e0d"),
+    ),
+    (
+        REGION_INSTALLED,
+        Some("3d0d85fe20030bf49852a9bd894c16eaef3594996b7685ce400298d8bbab7e0d"),
+    ),
+    (
+        "00000002 00000010 0000003f 00000007 00000000 00000010 000003e8 00000000 00000000 00000000
+         0000003f 00000007 fffffff0 00000010",
+        Some("a751567a298d70b9699c88f6c8948911cd7a41893fb9efea86326eb4888dd14a"),
+    ),
+    (PLAIN, None),
+    (
+        "00000001 00000010 0000003e 00000007 00000000 00000010 0000003e 00000007 fffffff0 00000010",
+        None,
+    ),
+    ("00000000 00000000", None),
+];
+
+#[test]
+fn regions_are_digested(rt: HostRuntime) -> Result<(), Fail> {
+    let alloc = rt.alloc();
+    for (hex, want) in DIGESTS {
+        let blob = unhex(alloc, hex)?;
+        let view = View::parse(&blob).map_err(|_| "fault")?;
+        match (immutable_digest(&view), want) {
+            (Some(digest), Some(want)) => {
+                assert_eq!(rt; digest.as_slice(), unhex(alloc, want)?.as_slice(), "{hex}");
+            }
+            (digest, want) => assert!(rt; digest.is_none() && want.is_none(), "{hex}"),
+        }
+    }
     Ok(())
 }
