@@ -16,7 +16,7 @@ four_in_front m (a ∷ b ∷ []) = refl
 four_in_front m (a ∷ b ∷ c ∷ []) = refl
 four_in_front m (a ∷ b ∷ c ∷ d ∷ xs) = refl
 
-number_in_front : (n at : ℕ) (bytes : List ℕ) → at + 4 ≤ n → number_at w32 (take n bytes) at ≡ number_at w32 bytes at
+pub number_in_front : (n at : ℕ) (bytes : List ℕ) → at + 4 ≤ n → number_at w32 (take n bytes) at ≡ number_at w32 bytes at
 unfolding number_at
 number_in_front n at bytes within =
     let size : at + suc (suc (suc (suc (n - (at + 4))))) ≡ n = omega arith in

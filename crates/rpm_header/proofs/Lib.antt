@@ -1,7 +1,17 @@
+pub mod Again
 pub mod Cut
+pub mod Dribbled
 pub mod Each
 pub mod Find
+pub mod Hashed
+pub mod LaidOut
+pub mod Laws
+pub mod Longer
+pub mod NumbersAgain
+pub mod Opened
+pub mod Packing
 pub mod Region
 pub mod Texts
+pub mod TextsAgain
 pub mod Values
 pub mod Whole

@@ -18,7 +18,7 @@ none_in_range p a zero none = refl
 none_in_range p a (suc n) none =
     rw (none a (omega arith) (omega arith), none_in_range p (a + 1) n (λ i from below. none i (omega arith) (omega arith))) refl
 
-counts : (il n r : ℕ) → n + 16 * r ≡ 2 ^ 32 → 1 ≤ r → r ≤ il → counts_back il n ≡ true
+pub counts : (il n r : ℕ) → n + 16 * r ≡ 2 ^ 32 → 1 ≤ r → r ≤ il → counts_back il n ≡ true
 counts il n r is positive within = any_in_range (λ k. n + 16 * k == 2 ^ 32) 1 il r positive (omega arith) (eq-eqb (n + 16 * r) (2 ^ 32) is)
 
 counts_not : (il n : ℕ) → ((r : ℕ) → 1 ≤ r → r ≤ il → n + 16 * r ≡ 2 ^ 32 → ⊥) → counts_back il n ≡ false

@@ -42,7 +42,7 @@ pub fn form_of(kind: u32) -> Option<Form>
 
 /// The width of a number of this form, of which its offset is a multiple. Of any other form it is
 /// 1.
-fn alignment(form: Form) -> u32
+pub fn alignment(form: Form) -> u32
     ensures value { result ≡ alignment form }
     ensures small { result ≤ 8 }
     ensures positive { 0 < result }

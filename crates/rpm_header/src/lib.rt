@@ -11,16 +11,28 @@
 //! `Result`. Nothing here copies a byte of the header or takes memory.
 #![tactic(auto)]
 
+mod builder;
 mod bytes;
+mod digest;
+mod dribbles;
 mod entry;
 mod form;
 mod index;
+mod laying;
+mod packed;
+mod parts;
 #[cfg(test)]
 mod tests;
+mod text_list;
 mod view;
 
+pub use builder::Builder;
+pub use digest::immutable_digest;
+pub use dribbles::with_dribbles;
 pub use entry::{Entry, EntryTexts};
 pub use form::{Form, HeaderFault};
+pub use laying::BuildFault;
+pub use text_list::TextList;
 pub use view::View;
 
 /// The eight bytes that stand before a header everywhere but in the database: in package files and

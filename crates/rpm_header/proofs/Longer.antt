@@ -1,0 +1,207 @@
+-- An entry without a fault says the same where more data stand behind.
+use Rattle.std.proofs.Common.{◌≡◌, ℕ, zero, suc, ◌+◌, ◌-◌, ◌*◌, ◌%◌, ◌<◌, ◌≤◌, List, [], ◌∷◌, ◌++◌, length, take, drop, map, get_or, cond, Bool, true, false, eqb, Option, Some, None, refl, ap, ◌∙◌, length-append, length-drop, le-ltb, lt-ltb, arith, inl, inr}
+use Rattle.std.specs.Prelude.{nat_lt, not, ◌&&◌, ◌||◌, ◌⊎◌, is_some, if◌then◌else◌}
+use Rattle.std.specs.List.{range_with_len, position, position_or_len, after_first}
+use Rattle.std.specs.Int.{Width, w8, w16, w32, w64, byte_worth, byte_len, from_be_bytes, sum_through}
+use Rattle.std.proofs.lemmas.Bool.{ltb-true, ltb-false, eqb-true}
+use Rattle.std.proofs.lemmas.List.{get_or_append_left, take-append-le, drop-append-le}
+use Rattle.rpm_header.specs.declared.form.Form.{Form}
+use Rattle.rpm_header.specs.declared.form.Form.TheVariants as form
+use Rattle.rpm_header.specs.declared.form.HeaderFault.{HeaderFault}
+use Rattle.rpm_header.specs.declared.form.HeaderFault.TheVariants.{BadOffset, BadCount, NoEnd}
+use Rattle.rpm_header.specs.declared.index.IndexEntry.{IndexEntry}
+use Rattle.rpm_header.specs.Bytes.{number_at, numbers, texts, are_ended, is_zero}
+use Rattle.rpm_header.specs.Header.{Numbers, Texts, Bytes, values, alignment, has_texts, is_bad_count, element_fault, form_of, form_or_null, form_fault, entry_of}
+use Rattle.rpm_header.proofs.Again.{form_sound}
+
+-- ---- numbers
+
+sum_same : (f g : ℕ → ℕ) (n : ℕ) → ((k : ℕ) → k ≤ n → f k ≡ g k) → sum_through f n ≡ sum_through g n
+sum_same f g zero same = same 0 (omega arith)
+sum_same f g (suc n) same = rw (sum_same f g n (λ k le. same k (omega arith)), same (suc n) (omega arith)) refl
+
+pub number_longer : (w : Width) (bytes more : List ℕ) (at : ℕ) → 0 < byte_len w → at + byte_len w ≤ length bytes → number_at w (bytes ++ more) at ≡ number_at w bytes at
+unfolding number_at
+number_longer w bytes more at some within =
+    let apart : drop at (bytes ++ more) ≡ drop at bytes ++ more = drop-append-le at bytes more (omega arith) in
+    let size : length (drop at bytes) ≡ length bytes - at = length-drop at bytes in
+    ap (from_be_bytes w) apart ∙ sum_same
+    (λ i. byte_worth (byte_len w - 1 - i) (get_or (drop at bytes ++ more) i 0))
+    (λ i. byte_worth (byte_len w - 1 - i) (get_or (drop at bytes) i 0))
+    (byte_len w - 1)
+    (λ k le. ap (byte_worth (byte_len w - 1 - k)) (get_or_append_left (drop at bytes) more 0 k (omega arith)))
+
+pub same_below : {X : Type 0} (f g : ℕ → X) (a n : ℕ) → ((k : ℕ) → a ≤ k → k < a + n → f k ≡ g k) → map f (range_with_len a n) ≡ map g (range_with_len a n)
+same_below f g a zero same = refl
+same_below f g a (suc n) same = rw (same a (omega arith) (omega arith), same_below f g (a + 1) n (λ k from below. same k (omega arith) (omega arith))) refl
+
+numbers_longer : (w : Width) (count : ℕ) (bytes more : List ℕ) → 0 < byte_len w → ((i : ℕ) → i < count → i * byte_len w + byte_len w ≤ length bytes) → numbers w count (bytes ++ more) ≡ numbers w count bytes
+unfolding numbers
+numbers_longer w count bytes more some room =
+    same_below (λ i. number_at w (bytes ++ more) (i * byte_len w)) (λ i. number_at w bytes (i * byte_len w)) 0 count
+    (λ k from below. number_longer w bytes more (k * byte_len w) some (room k (omega arith)))
+
+-- ---- texts
+
+first_step : (b : Bool) (m n l : ℕ) → (n < l → m ≡ n) → cond b (1 + n) 0 < suc l → cond b (1 + m) 0 ≡ cond b (1 + n) 0
+first_step true m n l same below = ap (λ k. 1 + k) (same (omega arith))
+first_step false m n l same below = refl
+
+first_longer : {X : Type 0} (p : X → Bool) (xs ys : List X) → position_or_len p xs < length xs → position_or_len p (xs ++ ys) ≡ position_or_len p xs
+first_longer p [] ys below = absurd (omega arith)
+first_longer p (x ∷ xs) ys below = first_step (not (p x)) (position_or_len p (xs ++ ys)) (position_or_len p xs) (length xs) (first_longer p xs ys) below
+
+found : (test : Bool) (n : ℕ) → is_some (cond test (Some n) None) ≡ true → test ≡ true
+found true n e = refl
+found false n e = absurd cc
+
+both : (a b : Bool) → (a && b) ≡ true → (a ≡ true) × (b ≡ true)
+both true b e = (refl, e)
+both false b e = absurd cc
+
+pub ended_longer : (count : ℕ) (bytes more : List ℕ) → are_ended count bytes ≡ true → (are_ended count (bytes ++ more) ≡ true) × (texts count (bytes ++ more) ≡ texts count bytes)
+unfolding are_ended texts
+ended_longer zero bytes more ended = (refl, refl)
+ended_longer (suc n) bytes more ended =
+    let parts = both (is_some (position is_zero bytes)) (are_ended n (after_first is_zero bytes)) ended in
+    let at = position_or_len is_zero bytes in
+    let within : at < length bytes = ltb-true at (length bytes) (found (nat_lt at (length bytes)) at parts.0) in
+    let same : position_or_len is_zero (bytes ++ more) ≡ at = first_longer is_zero bytes more within in
+    let there : nat_lt at (length (bytes ++ more)) ≡ true = lt-ltb at (length (bytes ++ more)) (omega (arith, length-append bytes more)) in
+    let before : take at (bytes ++ more) ≡ take at bytes = take-append-le at bytes more (omega arith) in
+    let after : drop (at + 1) (bytes ++ more) ≡ drop (at + 1) bytes ++ more = drop-append-le (at + 1) bytes more (omega arith) in
+    let others = ended_longer n (drop (at + 1) bytes) more parts.1 in
+    (rw (same, there, after) others.0, rw (same, before, after, others.1) refl)
+
+-- ---- elements without a fault
+
+either : (a b : Bool) → (a || b) ≡ false → (a ≡ false) × (b ≡ false)
+either true b e = absurd cc
+either false b e = (refl, e)
+
+room_longer : (count size : ℕ) (bytes more : List ℕ) → (eqb count 0 || nat_lt (length bytes) size) ≡ false → (eqb count 0 || nat_lt (length (bytes ++ more)) size) ≡ false
+room_longer count size bytes more good =
+    let parts = either (eqb count 0) (nat_lt (length bytes) size) good in
+    let within : size ≤ length bytes = ltb-false (length bytes) size parts.1 in
+    rw (parts.0, le-ltb (length (bytes ++ more)) size (omega (arith, length-append bytes more))) refl
+
+count_longer : (f : Form) (count : ℕ) (bytes more : List ℕ) → is_bad_count f count bytes ≡ false → is_bad_count f count (bytes ++ more) ≡ false
+count_longer form.Text count bytes more good = good
+count_longer form.Texts count bytes more good = good
+count_longer form.I18n count bytes more good = good
+count_longer form.Null count bytes more good = room_longer count (count * alignment form.Null) bytes more good
+count_longer form.Char count bytes more good = room_longer count (count * alignment form.Char) bytes more good
+count_longer form.Int8 count bytes more good = room_longer count (count * alignment form.Int8) bytes more good
+count_longer form.Int16 count bytes more good = room_longer count (count * alignment form.Int16) bytes more good
+count_longer form.Int32 count bytes more good = room_longer count (count * alignment form.Int32) bytes more good
+count_longer form.Int64 count bytes more good = room_longer count (count * alignment form.Int64) bytes more good
+count_longer form.Bin count bytes more good = room_longer count (count * alignment form.Bin) bytes more good
+
+pub room_of : (count size : ℕ) (bytes : List ℕ) → (eqb count 0 || nat_lt (length bytes) size) ≡ false → size ≤ length bytes
+room_of count size bytes good = ltb-false (length bytes) size (either (eqb count 0) (nat_lt (length bytes) size) good).1
+
+values_longer : (f : Form) (count : ℕ) (bytes more : List ℕ) → is_bad_count f count bytes ≡ false → (has_texts f ≡ true → are_ended count bytes ≡ true) → values f count (bytes ++ more) ≡ values f count bytes
+values_longer form.Null count bytes more good ended = refl
+values_longer form.Text count bytes more good ended = ap Texts (ended_longer count bytes more (ended refl)).1
+values_longer form.Texts count bytes more good ended = ap Texts (ended_longer count bytes more (ended refl)).1
+values_longer form.I18n count bytes more good ended = ap Texts (ended_longer count bytes more (ended refl)).1
+values_longer form.Bin count bytes more good ended = let room = room_of count (count * 1) bytes good in ap Bytes (take-append-le count bytes more (omega arith))
+values_longer form.Char count bytes more good ended = let room = room_of count (count * 1) bytes good in ap Numbers (numbers_longer w8 count bytes more (omega arith) (λ i lt. omega arith))
+values_longer form.Int8 count bytes more good ended = let room = room_of count (count * 1) bytes good in ap Numbers (numbers_longer w8 count bytes more (omega arith) (λ i lt. omega arith))
+values_longer form.Int16 count bytes more good ended = let room = room_of count (count * 2) bytes good in ap Numbers (numbers_longer w16 count bytes more (omega arith) (λ i lt. omega arith))
+values_longer form.Int32 count bytes more good ended = let room = room_of count (count * 4) bytes good in ap Numbers (numbers_longer w32 count bytes more (omega arith) (λ i lt. omega arith))
+values_longer form.Int64 count bytes more good ended = let room = room_of count (count * 8) bytes good in ap Numbers (numbers_longer w64 count bytes more (omega arith) (λ i lt. omega arith))
+
+-- what holds where no fault of an entry's elements is told
+pub record IsFaultless (f : Form) (count : ℕ) (bytes : List ℕ) : Type 0 where
+  pub good : is_bad_count f count bytes ≡ false
+  pub ended : has_texts f ≡ true → are_ended count bytes ≡ true
+
+told : (bad texts ended : Bool) (x y : HeaderFault) → (if bad then Some x else if texts && not ended then Some y else None) ≡ None → (bad ≡ false) × (texts ≡ true → ended ≡ true)
+told true texts ended x y none = absurd cc
+told false true true x y none = (refl, λ _. refl)
+told false true false x y none = absurd cc
+told false false ended x y none = (refl, λ h. absurd cc)
+
+not_told : (bad texts ended : Bool) (x y : HeaderFault) → bad ≡ false → (texts ≡ true → ended ≡ true) → (if bad then Some x else if texts && not ended then Some y else None) ≡ None
+not_told bad true ended x y good ends = rw (good, ends refl) refl
+not_told bad false ended x y good ends = rw good refl
+
+pub faultless : (f : Form) (i count : ℕ) (bytes : List ℕ) → element_fault f i count bytes ≡ None → IsFaultless f count bytes
+faultless f i count bytes none =
+    let parts = told (is_bad_count f count bytes) (has_texts f) (are_ended count bytes) (BadCount i) (NoEnd i) none in
+    record { good = parts.0; ended = parts.1 }
+
+elements_longer : (f : Form) (i count : ℕ) (bytes more : List ℕ) → element_fault f i count bytes ≡ None → element_fault f i count (bytes ++ more) ≡ None
+elements_longer f i count bytes more none =
+    let p = faultless f i count bytes none in
+    not_told (is_bad_count f count (bytes ++ more)) (has_texts f) (are_ended count (bytes ++ more)) (BadCount i) (NoEnd i) (count_longer f count bytes more p.good) (λ t. (ended_longer count bytes more (p.ended t)).0)
+
+-- ---- an entry of the index
+
+-- its data lie in the section, and have no fault
+pub record IsInData (f : Form) (k : ℕ) (i : IndexEntry) (section : List ℕ) : Type 0 where
+  pub within : i.offset ≤ length section
+  pub aligned : i.offset % alignment f ≡ 0
+  pub elements : element_fault f k i.count (drop i.offset section) ≡ None
+
+placed : (past aligned : Bool) (x : HeaderFault) (o : Option HeaderFault) → (if past || not aligned then Some x else o) ≡ None → (past ≡ false) × (aligned ≡ true) × (o ≡ None)
+placed true aligned x o none = absurd cc
+placed false true x o none = (refl, refl, none)
+placed false false x o none = absurd cc
+
+in_data_if : (f : Form) (k : ℕ) (i : IndexEntry) (section : List ℕ)
+    → (if nat_lt (length section) i.offset || not (eqb (i.offset % alignment f) 0) then Some (BadOffset k) else element_fault f k i.count (drop i.offset section)) ≡ None → IsInData f k i section
+in_data_if f k i section none =
+    let parts = placed (nat_lt (length section) i.offset) (eqb (i.offset % alignment f) 0) (BadOffset k) (element_fault f k i.count (drop i.offset section)) none in
+    record { within = ltb-false (length section) i.offset parts.0; aligned = eqb-true (i.offset % alignment f) 0 parts.1; elements = parts.2 }
+
+pub in_data : (f : Form) (k : ℕ) (i : IndexEntry) (section : List ℕ) → (f ≡ form.Null → ⊥) → form_fault (Some f) k i section ≡ None → IsInData f k i section
+in_data form.Null k i section not_null none = absurd (not_null refl)
+in_data form.Char k i section not_null none = in_data_if form.Char k i section none
+in_data form.Int8 k i section not_null none = in_data_if form.Int8 k i section none
+in_data form.Int16 k i section not_null none = in_data_if form.Int16 k i section none
+in_data form.Int32 k i section not_null none = in_data_if form.Int32 k i section none
+in_data form.Int64 k i section not_null none = in_data_if form.Int64 k i section none
+in_data form.Text k i section not_null none = in_data_if form.Text k i section none
+in_data form.Bin k i section not_null none = in_data_if form.Bin k i section none
+in_data form.Texts k i section not_null none = in_data_if form.Texts k i section none
+in_data form.I18n k i section not_null none = in_data_if form.I18n k i section none
+
+is_null : (f : Form) → (f ≡ form.Null) ⊎ (f ≡ form.Null → ⊥)
+is_null form.Null = inl refl
+is_null form.Char = inr (λ h. cc)
+is_null form.Int8 = inr (λ h. cc)
+is_null form.Int16 = inr (λ h. cc)
+is_null form.Int32 = inr (λ h. cc)
+is_null form.Int64 = inr (λ h. cc)
+is_null form.Text = inr (λ h. cc)
+is_null form.Bin = inr (λ h. cc)
+is_null form.Texts = inr (λ h. cc)
+is_null form.I18n = inr (λ h. cc)
+
+form_longer : (f : Form) (k : ℕ) (i : IndexEntry) (section more : List ℕ) → form_fault (Some f) k i section ≡ None
+    → (form_fault (Some f) k i (section ++ more) ≡ None) × (values f i.count (drop i.offset (section ++ more)) ≡ values f i.count (drop i.offset section))
+form_longer f k i section more none = elim (is_null f) [
+  | inl null ↦ (rw null refl, rw null refl)
+  | inr not_null ↦ (
+      let d = in_data f k i section not_null none in
+      let apart : drop i.offset (section ++ more) ≡ drop i.offset section ++ more = drop-append-le i.offset section more d.within in
+      let p = faultless f k i.count (drop i.offset section) d.elements in (
+        form_sound f k i (section ++ more) (omega (arith, d.within, length-append section more)) d.aligned not_null (rw apart (elements_longer f k i.count (drop i.offset section) more d.elements)),
+        rw apart (values_longer f i.count (drop i.offset section) more p.good p.ended),
+      ))
+]
+
+pub fault_longer : (f : Option Form) (k : ℕ) (i : IndexEntry) (section more : List ℕ) → form_fault f k i section ≡ None → form_fault f k i (section ++ more) ≡ None
+fault_longer None k i section more none = absurd cc
+fault_longer (Some f) k i section more none = (form_longer f k i section more none).0
+
+values_same : (f : Option Form) (k : ℕ) (i : IndexEntry) (section more : List ℕ) → form_fault f k i section ≡ None
+    → values (form_or_null f) i.count (drop i.offset (section ++ more)) ≡ values (form_or_null f) i.count (drop i.offset section)
+values_same None k i section more none = refl
+values_same (Some f) k i section more none = (form_longer f k i section more none).1
+
+pub entry_longer : (k : ℕ) (i : IndexEntry) (section more : List ℕ) → form_fault (form_of i.kind) k i section ≡ None → entry_of i (section ++ more) ≡ entry_of i section
+unfolding entry_of
+entry_longer k i section more none = rw (values_same (form_of i.kind) k i section more none) refl

@@ -1,0 +1,147 @@
+-- The entries that a builder keeps are read again from their bytes.
+use Rattle.std.proofs.Common.{◌≡◌, ℕ, ◌*◌, ◌^◌, ◌<◌, ◌≤◌, List, [], ◌∷◌, ◌++◌, length, take, true, false, None, refl, sym, subst, ap, ◌∙◌, length-append, arith, eqb, ne_eqb, le-ltb}
+use Rattle.std.specs.Prelude.{IsTrue}
+use Rattle.std.specs.List.{flat_map, AllByRecursion}
+use Rattle.std.specs.Int.{to_be_bytes}
+use Rattle.std.proofs.lemmas.List.{append-nil, take_at, take_all}
+use Rattle.rpm_header.specs.declared.form.Form.{Form}
+use Rattle.rpm_header.specs.declared.form.Form.TheVariants as form
+use Rattle.rpm_header.specs.Bytes.{texts}
+use Rattle.rpm_header.specs.Header.{Item, Values, Numbers, Texts, Bytes, values, width, alignment, has_numbers, has_texts, is_region_tag, element_fault}
+use Rattle.rpm_header.specs.Build.{AllFit, IsText, is_text_list, numbers_item, text_item, texts_item, bin_item}
+use Rattle.rpm_header.specs.Laid.{bytes_in, joined}
+use Rattle.rpm_header.specs.Packed.{IsPacked, ReadsBack}
+use Rattle.rpm_header.proofs.NumbersAgain.{numbers_again, few_numbers, length-numbers_bytes}
+use Rattle.rpm_header.proofs.TextsAgain.{texts_again, few_texts}
+
+-- the entry of these parts
+abbrev pub item_of : ℕ → Form → ℕ → Values → Item
+item_of tag f count vs = record { tag = tag; form = f; count = count; values = vs }
+
+not_zero : (n : ℕ) → 0 < n → eqb n 0 ≡ false
+not_zero n some = ne_eqb n 0 (λ e. omega arith)
+
+-- ---- numbers
+
+numbers_sound : (f : Form) (i count : ℕ) (bytes : List ℕ) → IsTrue (has_numbers f) → 0 < count → count * alignment f ≤ length bytes → element_fault f i count bytes ≡ None
+numbers_sound form.Char i count bytes t some room = rw (not_zero count some, le-ltb (length bytes) (count * alignment form.Char) room) refl
+numbers_sound form.Int8 i count bytes t some room = rw (not_zero count some, le-ltb (length bytes) (count * alignment form.Int8) room) refl
+numbers_sound form.Int16 i count bytes t some room = rw (not_zero count some, le-ltb (length bytes) (count * alignment form.Int16) room) refl
+numbers_sound form.Int32 i count bytes t some room = rw (not_zero count some, le-ltb (length bytes) (count * alignment form.Int32) room) refl
+numbers_sound form.Int64 i count bytes t some room = rw (not_zero count some, le-ltb (length bytes) (count * alignment form.Int64) room) refl
+numbers_sound form.Null i count bytes t some room = absurd cc
+numbers_sound form.Text i count bytes t some room = absurd cc
+numbers_sound form.Bin i count bytes t some room = absurd cc
+numbers_sound form.Texts i count bytes t some room = absurd cc
+numbers_sound form.I18n i count bytes t some room = absurd cc
+
+pub numbers_packed : (f : Form) (ns : List ℕ) (count : ℕ) (bytes : List ℕ) → IsTrue (has_numbers f) → AllFit f ns → count ≡ length ns → bytes ≡ flat_map (to_be_bytes (width f)) ns
+    → (values f count bytes ≡ Numbers ns) × IsPacked f count bytes
+numbers_packed f ns count bytes t fit number stored =
+    let same : values f count bytes ≡ Numbers ns = rw (number, stored, ← append-nil (flat_map (to_be_bytes (width f)) ns)) (numbers_again f ns [] t fit) in
+    (same, record { stored = rw same (sym stored); few = omega (arith, few_numbers f ns, ap length stored) })
+
+not_null : (f : Form) → IsTrue (has_numbers f) → f ≡ form.Null → ⊥
+not_null f t e =
+    let h : has_numbers form.Null ≡ true = subst (λ (g : Form). has_numbers g ≡ true) e t in
+    cc
+
+pub numbers_read_back : (tag : ℕ) (f : Form) (ns : List ℕ) → tag < 2 ^ 32 → is_region_tag tag ≡ false → IsTrue (has_numbers f) → 0 < length ns → AllFit f ns → ReadsBack (numbers_item tag f ns)
+unfolding bytes_in
+numbers_read_back tag f ns small region t some fit = record {
+  tag = small;
+  few = few_numbers f ns;
+  no_region = region;
+  no_null = not_null f t;
+  again = λ rest. numbers_again f ns rest t fit;
+  sound = λ i rest. numbers_sound f i (length ns) (flat_map (to_be_bytes (width f)) ns ++ rest) t some (omega (arith, length-append (flat_map (to_be_bytes (width f)) ns) rest, length-numbers_bytes f ns));
+}
+
+-- ---- texts
+
+values_texts : (f : Form) (count : ℕ) (bytes : List ℕ) → IsTrue (has_texts f) → values f count bytes ≡ Texts (texts count bytes)
+values_texts form.Text count bytes t = refl
+values_texts form.Texts count bytes t = refl
+values_texts form.I18n count bytes t = refl
+values_texts form.Null count bytes t = absurd cc
+values_texts form.Char count bytes t = absurd cc
+values_texts form.Int8 count bytes t = absurd cc
+values_texts form.Int16 count bytes t = absurd cc
+values_texts form.Int32 count bytes t = absurd cc
+values_texts form.Int64 count bytes t = absurd cc
+values_texts form.Bin count bytes t = absurd cc
+
+pub texts_packed : (f : Form) (ts : List (List ℕ)) (count : ℕ) (bytes : List ℕ) → IsTrue (has_texts f) → AllByRecursion IsText ts → count ≡ length ts → bytes ≡ joined ts
+    → (values f count bytes ≡ Texts ts) × IsPacked f count bytes
+texts_packed f ts count bytes t each number stored =
+    let same : values f count bytes ≡ Texts ts = values_texts f count bytes t ∙ ap Texts (rw (number, stored, ← append-nil (joined ts)) (texts_again ts [] each).0) in
+    (same, record { stored = rw same (sym stored); few = omega (arith, few_texts ts, ap length stored) })
+
+pub list_has_texts : (f : Form) → IsTrue (is_text_list f) → IsTrue (has_texts f)
+list_has_texts form.Texts t = refl
+list_has_texts form.I18n t = refl
+list_has_texts form.Text t = refl
+list_has_texts form.Null t = absurd cc
+list_has_texts form.Char t = absurd cc
+list_has_texts form.Int8 t = absurd cc
+list_has_texts form.Int16 t = absurd cc
+list_has_texts form.Int32 t = absurd cc
+list_has_texts form.Int64 t = absurd cc
+list_has_texts form.Bin t = absurd cc
+
+texts_sound : (f : Form) (i : ℕ) (ts : List (List ℕ)) (rest : List ℕ) → IsTrue (is_text_list f) → 0 < length ts → AllByRecursion IsText ts → element_fault f i (length ts) (joined ts ++ rest) ≡ None
+texts_sound form.Texts i ts rest t some each = rw (not_zero (length ts) some, (texts_again ts rest each).1) refl
+texts_sound form.I18n i ts rest t some each = rw (not_zero (length ts) some, (texts_again ts rest each).1) refl
+texts_sound form.Text i ts rest t some each = absurd cc
+texts_sound form.Null i ts rest t some each = absurd cc
+texts_sound form.Char i ts rest t some each = absurd cc
+texts_sound form.Int8 i ts rest t some each = absurd cc
+texts_sound form.Int16 i ts rest t some each = absurd cc
+texts_sound form.Int32 i ts rest t some each = absurd cc
+texts_sound form.Int64 i ts rest t some each = absurd cc
+texts_sound form.Bin i ts rest t some each = absurd cc
+
+not_null_texts : (f : Form) → IsTrue (is_text_list f) → f ≡ form.Null → ⊥
+not_null_texts f t e =
+    let h : is_text_list form.Null ≡ true = subst (λ (g : Form). is_text_list g ≡ true) e t in
+    cc
+
+pub texts_read_back : (tag : ℕ) (f : Form) (ts : List (List ℕ)) → tag < 2 ^ 32 → is_region_tag tag ≡ false → IsTrue (is_text_list f) → 0 < length ts → AllByRecursion IsText ts → ReadsBack (texts_item tag f ts)
+unfolding bytes_in
+texts_read_back tag f ts small region t some each = record {
+  tag = small;
+  few = few_texts ts;
+  no_region = region;
+  no_null = not_null_texts f t;
+  again = λ rest. values_texts f (length ts) (joined ts ++ rest) (list_has_texts f t) ∙ ap Texts (texts_again ts rest each).0;
+  sound = λ i rest. texts_sound f i ts rest t some each;
+}
+
+pub text_read_back : (tag : ℕ) (text : List ℕ) → tag < 2 ^ 32 → is_region_tag tag ≡ false → IsText text → ReadsBack (text_item tag text)
+unfolding bytes_in
+text_read_back tag text small region one = record {
+  tag = small;
+  few = few_texts (text ∷ []);
+  no_region = region;
+  no_null = λ h. cc;
+  again = λ rest. ap Texts (texts_again (text ∷ []) rest (one, tt)).0;
+  sound = λ i rest. rw (texts_again (text ∷ []) rest (one, tt)).1 refl;
+}
+
+-- ---- bytes
+
+pub bin_packed : (bs : List ℕ) (count : ℕ) (bytes : List ℕ) → count ≡ length bs → bytes ≡ bs → (values form.Bin count bytes ≡ Bytes bs) × IsPacked form.Bin count bytes
+bin_packed bs count bytes number stored =
+    let same : take count bytes ≡ bytes = take_all count bytes (omega (arith, ap length stored)) in
+    (ap Bytes (same ∙ stored), record { stored = same; few = omega (arith, ap length stored) })
+
+pub bin_read_back : (tag : ℕ) (bs : List ℕ) → tag < 2 ^ 32 → is_region_tag tag ≡ false → 0 < length bs → ReadsBack (bin_item tag bs)
+unfolding bytes_in
+bin_read_back tag bs small region some = record {
+  tag = small;
+  few = omega arith;
+  no_region = region;
+  no_null = λ h. cc;
+  again = λ rest. ap Bytes (take_at bs rest (length bs) refl);
+  sound = λ i rest. rw (not_zero (length bs) some, le-ltb (length (bs ++ rest)) (length bs * alignment form.Bin) (omega (arith, length-append bs rest))) refl;
+}

@@ -1,0 +1,109 @@
+-- The header of a list of entries: each entry's data stand behind those of the entries before it, at the least offset
+-- that its form lets it have, with zeros between.
+use Rattle.std.specs.Prelude.{ℕ, ◌+◌, ◌-◌, ◌*◌, ◌^◌, List, [], ◌∷◌, ◌++◌, length, replicate, Bool, true, false, nat_lt, if◌then◌else◌, Result, Ok, Err}
+use Rattle.std.specs.List.{flat_map}
+use Rattle.std.specs.Int.{w32, to_be_bytes, next_multiple_of}
+use Rattle.rpm_header.specs.declared.form.Form.{Form}
+use Rattle.rpm_header.specs.declared.form.Form.TheVariants as form
+use Rattle.rpm_header.specs.declared.index.IndexEntry.{IndexEntry}
+use Rattle.rpm_header.specs.declared.laying.BuildFault.{BuildFault}
+use Rattle.rpm_header.specs.declared.laying.BuildFault.TheVariants.{TooManyEntries, TooMuchData}
+use Rattle.rpm_header.specs.declared.laying.Lengths.{Lengths}
+use Rattle.rpm_header.specs.Header.{Item, Values, Nothing, Numbers, Texts, Bytes, width, alignment}
+
+-- the type of a form
+abbrev pub kind_of : Form → ℕ
+kind_of form.Null = 0
+kind_of form.Char = 1
+kind_of form.Int8 = 2
+kind_of form.Int16 = 3
+kind_of form.Int32 = 4
+kind_of form.Int64 = 5
+kind_of form.Text = 6
+kind_of form.Bin = 7
+kind_of form.Texts = 8
+kind_of form.I18n = 9
+
+-- ---- the data
+
+-- texts one after the other, each with a zero byte behind it
+abbrev pub joined : List (List ℕ) → List ℕ
+joined ts = flat_map (λ t. t ++ 0 ∷ []) ts
+
+-- the bytes of elements
+abbrev pub bytes_by : Form → Values → List ℕ
+bytes_by f Nothing = []
+bytes_by f (Numbers ns) = flat_map (to_be_bytes (width f)) ns
+bytes_by f (Texts ts) = joined ts
+bytes_by f (Bytes bs) = bs
+
+unfoldable pub bytes_in : Item → List ℕ
+bytes_in e = bytes_by e.form e.values
+
+-- where an entry's data begin and end, behind so many bytes of data
+unfoldable pub offset_of : ℕ → Item → ℕ
+offset_of at e = next_multiple_of at (alignment e.form)
+
+abbrev pub end_of : ℕ → Item → ℕ
+end_of at e = offset_of at e + length (bytes_in e)
+
+unfoldable pub data_from : ℕ → List Item → List ℕ
+data_from at [] = []
+data_from at (e ∷ es) = replicate (offset_of at e - at) 0 ++ bytes_in e ++ data_from (end_of at e) es
+
+-- ---- the index
+
+-- an entry of the index is four numbers of four bytes
+unfoldable pub index_bytes : IndexEntry → List ℕ
+index_bytes i =
+    to_be_bytes w32 i.tag ++ to_be_bytes w32 i.kind ++ to_be_bytes w32 i.offset ++ to_be_bytes w32 i.count
+
+abbrev pub indexed : ℕ → Item → IndexEntry
+indexed offset e = record { tag = e.tag; kind = kind_of e.form; offset = offset; count = e.count }
+
+unfoldable pub index_from : ℕ → List Item → List ℕ
+index_from at [] = []
+index_from at (e ∷ es) = index_bytes (indexed (offset_of at e) e) ++ index_from (end_of at e) es
+
+-- ---- the region
+
+-- the trailer of a region of n entries, its own with them: as an entry of the index, with -16 × n as a signed number for
+-- its offset
+abbrev pub trailer_entry : ℕ → IndexEntry
+trailer_entry n = record { tag = 63; kind = 7; offset = 2 ^ 32 - 16 * n; count = 16 }
+
+abbrev pub trailer : ℕ → List ℕ
+trailer n = index_bytes (trailer_entry n)
+
+abbrev pub region_item : ℕ → Item
+region_item n = record { tag = 63; form = form.Bin; count = 16; values = Bytes (trailer n) }
+
+-- the entries as they are read again
+abbrev pub with_region : Bool → List Item → List Item
+with_region false es = es
+with_region true es = region_item (length es + 1) ∷ es
+
+-- the region's entry stands first in the index, its trailer last in the data
+abbrev pub index_of : Bool → List Item → List ℕ
+index_of false es = index_from 0 es
+index_of true es = index_bytes (indexed (length (data_from 0 es)) (region_item (length es + 1))) ++ index_from 0 es
+
+abbrev pub data_of : Bool → List Item → List ℕ
+data_of false es = data_from 0 es
+data_of true es = data_from 0 es ++ trailer (length es + 1)
+
+-- ---- all of it
+
+-- two lengths, the index, the data
+abbrev pub blob_of : ℕ → List ℕ → List ℕ → List ℕ
+blob_of n index section = to_be_bytes w32 n ++ to_be_bytes w32 (length section) ++ index ++ section
+
+unfoldable pub laid : Bool → List Item → List ℕ
+laid region es = blob_of (length (with_region region es)) (index_of region es) (data_of region es)
+
+-- so many entries and bytes of data, or the first limit that they pass
+abbrev pub lengths_of : ℕ → ℕ → Result Lengths BuildFault
+lengths_of n size =
+    if nat_lt 65535 n then Err TooManyEntries
+    else if nat_lt 67108864 size then Err TooMuchData
+    else Ok (record { entries = n; size = size })

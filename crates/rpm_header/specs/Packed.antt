@@ -1,0 +1,28 @@
+-- What a builder keeps of its entries, so that they are read again from their bytes.
+use Rattle.std.specs.Prelude.{◌≡◌, ◌≢◌, ℕ, ◌^◌, ◌<◌, ◌≤◌, List, ◌++◌, length, None, false}
+use Rattle.std.specs.List.{AllByRecursion}
+use Rattle.rpm_header.specs.declared.form.Form.{Form}
+use Rattle.rpm_header.specs.declared.form.Form.TheVariants as form
+use Rattle.rpm_header.specs.Bytes.{texts}
+use Rattle.rpm_header.specs.Header.{Item, values, element_fault, is_region_tag}
+use Rattle.rpm_header.specs.Build.{IsText}
+use Rattle.rpm_header.specs.Laid.{bytes_by, bytes_in, joined}
+
+-- the texts that these bytes hold are all that they hold
+pub record IsJoined (count : ℕ) (bytes : List ℕ) : Type 0 where
+  pub stored : bytes ≡ joined (texts count bytes)
+  pub each : AllByRecursion IsText (texts count bytes)
+
+-- the elements that these bytes hold are all that they hold
+pub record IsPacked (f : Form) (count : ℕ) (bytes : List ℕ) : Type 0 where
+  pub stored : bytes_by f (values f count bytes) ≡ bytes
+  pub few : count ≤ length bytes
+
+-- an entry that is read again from its bytes, whatever follows them
+pub record ReadsBack (e : Item) : Type 0 where
+  pub tag : e.tag < 2 ^ 32
+  pub few : e.count ≤ length (bytes_in e)
+  pub no_region : is_region_tag e.tag ≡ false
+  pub no_null : e.form ≢ form.Null
+  pub again : (rest : List ℕ) → values e.form e.count (bytes_in e ++ rest) ≡ e.values
+  pub sound : (i : ℕ) (rest : List ℕ) → element_fault e.form i e.count (bytes_in e ++ rest) ≡ None
