@@ -10,7 +10,8 @@ use crate::index::{IndexEntry, MAX_DATA, MAX_ENTRIES, alignment};
 use crate::packed::PackedEntry;
 use std::alloc::{AllocError, Global};
 
-/// Why a header isn't made.
+/// Why a header isn't made. The limits are looked at in the order in which they stand here, before
+/// memory is asked for.
 #[derive(Clone, Copy, Debug, PartialEq, Eq)]
 pub enum BuildFault {
     /// It would have more than 65,535 entries.

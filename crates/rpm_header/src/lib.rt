@@ -1,4 +1,4 @@
-//! V4 headers of rpm, read where they lie in borrowed bytes.
+//! V4 headers of rpm: read where they lie in borrowed bytes, and made.
 //!
 //! A header is two numbers of four bytes, `il` and `dl` (rpm's names), then `il` entries of the
 //! index of 16 bytes each, then `dl` bytes of data. An entry of the index is four numbers of four
@@ -8,7 +8,10 @@
 //! project's own.
 //!
 //! `View::parse` checks a header once, whole. After that each reader answers with no check and no
-//! `Result`. Nothing here copies a byte of the header or takes memory.
+//! `Result`. Reading copies no byte of the header and takes no memory.
+//!
+//! `Builder` makes a header of entries that are pushed, `with_dribbles` adds entries behind those of
+//! a header, and `immutable_digest` is the digest of the region with which a header begins.
 #![tactic(auto)]
 
 mod builder;

@@ -72,14 +72,14 @@ impl TextList {
     }
 
     /// The number of texts.
-    pub fn count(&self) -> usize
+    pub(crate) fn count(&self) -> usize
         ensures { result ≡ length self.now }
     {
         self.count
     }
 
     /// The texts one after the other, each with its zero byte.
-    pub fn bytes(&self) -> &[u8]
+    pub(crate) fn bytes(&self) -> &[u8]
         ensures value { result.now ≡ joined self.now }
         ensures each { AllByRecursion IsText self.now }
     {
