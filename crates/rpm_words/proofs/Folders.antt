@@ -98,7 +98,7 @@ folder_step words program previous role i text before after all at r f h =
     let there = text_there words i text at in
     let rest = filter_map (folder_in words) (said_behind program role (i + 1) (drop (i + 1) words)) in
     let e : last_or (Some before) (filter_map (folder_in words) (said_behind program previous i (drop i words))) ≡ last_or (Some after) rest =
-        rw (said_step program previous i words text at, ← r, filter_map-append (folder_in words) (says i role text) (said_behind program role (i + 1) (drop (i + 1) words)), last_or-append (Some before) (filter_map (folder_in words) (says i role text)) rest, one_word words i role text before there, ← f) refl
+    rw (said_step program previous i words text at, ← r, filter_map-append (folder_in words) (says i role text) (said_behind program role (i + 1) (drop (i + 1) words)), last_or-append (Some before) (filter_map (folder_in words) (says i role text)) rest, one_word words i role text before there, ← f) refl
     in ap (λ o. unwrap_or o own_place) (sym e) ∙ h
 
 pub folder_end : (words : List (List ℕ)) (program : Program) (role : Role) (i : ℕ) (before all : List ℕ) → length words ≤ i → last_folder words program role i before ≡ all → before ≡ all

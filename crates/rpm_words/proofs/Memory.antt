@@ -112,21 +112,32 @@ broken_rule words parts seen arguments =
     let command = unwrap_or seen.command Query in
     let chosen = unwrap_or seen.chosen Label in
     told_rule
-        (early_fault words seen.command seen.chosen parts
-        ∷ no_value words seen.last
-        ∷ no_mode words seen.command
-        ∷ misplaced command seen.misplaced
-        ∷ too_few words command chosen arguments
-        ∷ too_many command arguments
-        ∷ bad_argument words (wanted_by command chosen) (checked command arguments)
-        ∷ [])
-        (early_rule words seen.command seen.chosen parts,
-        (test (option_map_or is_awaiting seen.last false) (fault MissingArgument (length words)) None (λ e. cc) tt,
-        (test (is_none seen.command) (fault NoMode (length words)) None (λ e. cc) tt,
-        (misplaced_rule command seen.misplaced,
-        (test (nat_lt (length arguments) (fewest command chosen)) (fault MissingArgument (length words)) None (λ e. cc) tt,
-        (mapped ExtraArgument (option_map_or (slice_get arguments) (most command) None) (λ e. cc),
-        (bad_rule words (wanted_by command chosen) (checked command arguments), tt)))))))
+    (early_fault words seen.command seen.chosen parts
+    ∷ no_value words seen.last
+    ∷ no_mode words seen.command
+    ∷ misplaced command seen.misplaced
+    ∷ too_few words command chosen arguments
+    ∷ too_many command arguments
+    ∷ bad_argument words (wanted_by command chosen) (checked command arguments)
+    ∷ []) (
+      early_rule words seen.command seen.chosen parts,
+      (
+        test (option_map_or is_awaiting seen.last false) (fault MissingArgument (length words)) None (λ e. cc) tt,
+        (
+          test (is_none seen.command) (fault NoMode (length words)) None (λ e. cc) tt,
+          (
+            misplaced_rule command seen.misplaced,
+            (
+              test (nat_lt (length arguments) (fewest command chosen)) (fault MissingArgument (length words)) None (λ e. cc) tt,
+              (
+                mapped ExtraArgument (option_map_or (slice_get arguments) (most command) None) (λ e. cc),
+                (bad_rule words (wanted_by command chosen) (checked command arguments), tt),
+              ),
+            ),
+          ),
+        ),
+      ),
+    )
 
 pub not_memory : (words : List (List ℕ)) (parts : List Part) (seen : Seen) (arguments : List ℕ) (f : WordsFault) → first_broken words parts seen arguments ≡ Some f → f.kind ≡ NoMemory → ⊥
 not_memory words parts seen arguments f h = let told = broken_rule words parts seen arguments in (rw h at told)

@@ -5,7 +5,20 @@ use Rattle.std.specs.List.{filter_map, cons_option, last_or, list_any}
 use Rattle.rpm_words.specs.declared.part.Part.{Part}
 use Rattle.rpm_words.specs.declared.seen.Seen.{Seen}
 use Rattle.rpm_words.specs.Command.{head, command_of, chosen_of}
-use Rattle.rpm_words.specs.Seen.{shown_in, after_in, exercise_in, is_noindex, misplaced_in, seen_behind, seen_with}
+use Rattle.rpm_words.specs.Seen.{shown_in, after_in, exercise_in, is_noindex, misplaced_in, seen, seen_with}
+
+-- what the parts come to, behind those that come to `before`
+abbrev pub seen_behind : List (List ℕ) → Seen → List Part → Seen
+seen_behind words before parts = record {
+  command = option_or before.command (head (filter_map command_of parts));
+  chosen = option_or before.chosen (head (filter_map chosen_of parts));
+  shown = last_or before.shown (filter_map shown_in parts);
+  after = last_or before.after (filter_map (after_in words) parts);
+  exercise = last_or before.exercise (filter_map (exercise_in words) parts);
+  noindex = before.noindex || list_any is_noindex parts;
+  misplaced = option_or before.misplaced (head (filter_map misplaced_in parts));
+  last = last_or before.last parts;
+}
 
 head_cons : {X : Type 0} (o v : Option X) (rest : List X) → option_or o (head (cons_option v rest)) ≡ option_or (option_or o v) (head rest)
 head_cons None None rest = refl

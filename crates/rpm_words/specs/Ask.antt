@@ -66,21 +66,21 @@ format_shown (Some (By span)) = Some span
 format_shown others = None
 
 abbrev pub asks : Mode → Chosen → ℕ → Bool → Option Shown → List ℕ → AskParts
-asks mode chosen after noindex shown arguments = record
-  { mode = mode
-  ; chosen = chosen
-  ; after = after
-  ; noindex = noindex
-  ; lists = lists_files shown
-  ; format = format_shown shown
-  ; arguments = arguments
-  }
+asks mode chosen after noindex shown arguments = record {
+  mode = mode;
+  chosen = chosen;
+  after = after;
+  noindex = noindex;
+  lists = lists_files shown;
+  format = format_shown shown;
+  arguments = arguments;
+}
 
 -- what is meant where no rule is broken
 abbrev pub meant : Seen → List ℕ → AskParts
 meant seen arguments =
     asks (mode_of (unwrap_or seen.command Query) (unwrap_or seen.exercise 0)) (unwrap_or seen.chosen Label)
-        (unwrap_or seen.after 0) seen.noindex seen.shown arguments
+    (unwrap_or seen.after 0) seen.noindex seen.shown arguments
 
 abbrev pub fault_or : Option WordsFault → AskParts → Result AskParts WordsFault
 fault_or (Some f) a = Err f

@@ -69,36 +69,29 @@ query_only others = false
 abbrev pub misplaced_in : Part → Option ℕ
 misplaced_in part = if query_only part.said then Some part.word else None
 
--- what the parts come to, behind those that come to `before`
-abbrev pub seen_behind : List (List ℕ) → Seen → List Part → Seen
-seen_behind words before parts = record
-  { command = option_or before.command (head (filter_map command_of parts))
-  ; chosen = option_or before.chosen (head (filter_map chosen_of parts))
-  ; shown = last_or before.shown (filter_map shown_in parts)
-  ; after = last_or before.after (filter_map (after_in words) parts)
-  ; exercise = last_or before.exercise (filter_map (exercise_in words) parts)
-  ; noindex = before.noindex || list_any is_noindex parts
-  ; misplaced = option_or before.misplaced (head (filter_map misplaced_in parts))
-  ; last = last_or before.last parts
-  }
-
-abbrev pub seen_with : List (List ℕ) → Seen → Part → Seen
-seen_with words before part = record
-  { command = option_or before.command (command_of part)
-  ; chosen = option_or before.chosen (chosen_of part)
-  ; shown = option_or (shown_in part) before.shown
-  ; after = option_or (after_in words part) before.after
-  ; exercise = option_or (exercise_in words part) before.exercise
-  ; noindex = before.noindex || is_noindex part
-  ; misplaced = option_or before.misplaced (misplaced_in part)
-  ; last = Some part
-  }
-
-abbrev pub nothing_seen : Seen
-nothing_seen = record
-  { command = None; chosen = None; shown = None; after = None; exercise = None; noindex = false; misplaced = None; last = None }
-
 -- the first mode and the first selection, the last format and the last numbers, and the first
 -- option that queries alone have
 unfoldable pub seen : List (List ℕ) → List Part → Seen
-seen words parts = seen_behind words nothing_seen parts
+seen words parts = record {
+  command = head (filter_map command_of parts);
+  chosen = head (filter_map chosen_of parts);
+  shown = last_or None (filter_map shown_in parts);
+  after = last_or None (filter_map (after_in words) parts);
+  exercise = last_or None (filter_map (exercise_in words) parts);
+  noindex = list_any is_noindex parts;
+  misplaced = head (filter_map misplaced_in parts);
+  last = last_or None parts;
+}
+
+-- what one part more makes of it
+abbrev pub seen_with : List (List ℕ) → Seen → Part → Seen
+seen_with words before part = record {
+  command = option_or before.command (command_of part);
+  chosen = option_or before.chosen (chosen_of part);
+  shown = option_or (shown_in part) before.shown;
+  after = option_or (after_in words part) before.after;
+  exercise = option_or (exercise_in words part) before.exercise;
+  noindex = before.noindex || is_noindex part;
+  misplaced = option_or before.misplaced (misplaced_in part);
+  last = Some part;
+}

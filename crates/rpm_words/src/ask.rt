@@ -19,16 +19,25 @@ use std::marker::Model;
 /// What a command line asks for.
 #[derive(Debug, Clone, Copy, PartialEq, Eq)]
 pub enum Mode {
+    /// To print what is picked.
     Query,
+    /// To add package files.
     Addpkg,
+    /// To put a package file in a number's place.
     Replacepkg,
+    /// To erase numbers.
     Erasepkg,
+    /// To make a blank database.
     Initdb,
+    /// To make the index anew.
     Rebuilddb,
+    /// To check each package.
     Verifydb,
+    /// To write all headers out.
     Exportdb,
+    /// To add a list of headers.
     Importdb,
-    /// With the count of packages, from 1 to 100,000.
+    /// To try the database out, with this count of packages, from 1 to 100,000.
     Exercise(u32),
 }
 
@@ -83,7 +92,8 @@ impl Ask {
         self.noindex
     }
 
-    /// Whether the files of each package are listed: of `-l` and the options that give a format the last one counts.
+    /// Whether the files of each package are listed. Of `-l` and the options that give a format the
+    /// last one counts.
     pub fn lists(&self) -> bool
         ensures { result ≡ self.now.lists }
     {

@@ -209,12 +209,7 @@ fn misplaced(command: Command, word: Option<u32>) -> Option<WordsFault>
 }
 
 /// Too few arguments.
-fn too_few(
-    words: &Words,
-    command: Command,
-    chosen: Chosen,
-    arguments: &[u32],
-) -> Option<WordsFault>
+fn too_few(words: &Words, command: Command, chosen: Chosen, arguments: &[u32]) -> Option<WordsFault>
     ensures { result ≡ too_few words.now command chosen arguments.now }
 {
     if arguments.len() < fewest(command, chosen) {

@@ -46,7 +46,6 @@ impl Chosen {
     }
 }
 
-
 impl Part {
     /// Whether the part gives a mode or a selection other than these.
     pub(crate) fn is_other(&self, command: Option<Command>, chosen: Option<Chosen>) -> bool

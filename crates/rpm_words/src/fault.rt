@@ -51,8 +51,7 @@ impl WordsFault {
     fn is_before(self, other: WordsFault) -> bool
         ensures { result ≡ is_before self other }
     {
-        self.word < other.word
-            || self.word == other.word && self.kind.rank() < other.kind.rank()
+        self.word < other.word || self.word == other.word && self.kind.rank() < other.kind.rank()
     }
 }
 

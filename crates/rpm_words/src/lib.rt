@@ -14,6 +14,8 @@ mod place;
 mod role;
 mod seen;
 mod switch;
+#[cfg(test)]
+mod tests;
 mod words;
 
 pub use ask::{Ask, Mode, read};

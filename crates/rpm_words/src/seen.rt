@@ -82,7 +82,10 @@ impl Part {
         ensures { result ≡ after_in words.now self.now }
     {
         match self.said {
-            Said::Gives(Switch::After, from) => number_of(value_from(text_at(words, self.word), from)),
+            Said::Gives(Switch::After, from) => number_of(value_from(
+                text_at(words, self.word),
+                from,
+            )),
             _ => None,
         }
     }

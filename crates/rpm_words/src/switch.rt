@@ -28,16 +28,27 @@ pub(crate) enum Command {
 /// What a query picks packages by.
 #[derive(Debug, Clone, Copy, PartialEq, Eq)]
 pub enum Chosen {
+    /// The labels of packages.
     Label,
+    /// All packages, or those whose label fits a pattern.
     All,
+    /// A path that they own.
     Path,
+    /// Their group.
     Group,
+    /// Package files, in place of packages that are held.
     Package,
+    /// A capability that they provide.
     Provides,
+    /// A capability that they require.
     Requires,
+    /// A capability that they conflict with.
     Conflicts,
+    /// A capability that they obsolete.
     Obsoletes,
+    /// The name of a trigger of theirs.
     Trigger,
+    /// Their number.
     Number,
 }
 

@@ -11,7 +11,7 @@ returns-in-Some-clause-memory c = λ e. absurd (not_memory c.args.words.now c.de
 pub invariant_of-result : goal.invariant_of-result
 invariant_of-result c =
     let e : c.in-Ok-arguments_of.arguments.items ≡ arguments (said c.args.program c.args.words.now) =
-        cc (c.in-Ok-arguments_of.ensures, c.deref.ensures.value, c.in-Ok.ensures.parts)
+    cc (c.in-Ok-arguments_of.ensures, c.deref.ensures.value, c.in-Ok.ensures.parts)
     in
     let few : length (arguments (said c.args.program c.args.words.now)) ≤ length c.args.words.now = few_arguments _ _ in
     let same : length c.in-Ok-arguments_of.arguments.items ≡ length (arguments (said c.args.program c.args.words.now)) = ap length e in
