@@ -1,5 +1,5 @@
 -- No rule of a command line is about memory.
-use Rattle.std.proofs.Common.{◌≡◌, ℕ, List, [], ◌∷◌, Option, Some, None, Bool, true, false, cond, refl, nat_lt, length, is_none, unwrap_or}
+use Rattle.std.proofs.Common.{◌≡◌, ℕ, List, [], ◌∷◌, Option, Some, None, Bool, true, false, cond, nat_lt, length, is_none, unwrap_or}
 use Rattle.std.specs.Option.{option_map, option_map_or}
 use Rattle.std.specs.Result.{is_err}
 use Rattle.std.specs.List.{filter_map, cons_option, best_of, slice_get}
@@ -11,7 +11,7 @@ use Rattle.rpm_words.specs.declared.part.Part.{Part}
 use Rattle.rpm_words.specs.declared.seen.Seen.{Seen}
 use Rattle.rpm_words.specs.declared.fault.WordsFault.{WordsFault}
 use Rattle.rpm_words.specs.declared.fault.WordsKind.{WordsKind}
-use Rattle.rpm_words.specs.declared.fault.WordsKind.TheVariants.{NoMode, TwoModes, UnknownOption, Misplaced, MissingArgument, ExtraArgument, BadNumber, BadCapability, NoMemory}
+use Rattle.rpm_words.specs.declared.fault.WordsKind.TheVariants.{NoMode, Misplaced, MissingArgument, ExtraArgument, NoMemory}
 use Rattle.rpm_words.specs.declared.broken.Wanted.{Wanted}
 use Rattle.rpm_words.specs.declared.broken.Wanted.TheVariants.{Anything, PackageNumber, Capable}
 use Rattle.rpm_words.specs.declared.switch.Command.TheVariants.{Query, Addpkg, Replacepkg, Erasepkg, Initdb, Rebuilddb, Verifydb, Exportdb, Importdb, Exercise}

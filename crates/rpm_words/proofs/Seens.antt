@@ -1,11 +1,11 @@
 -- What the options come to, one more part at a time.
-use Rattle.std.proofs.Common.{◌≡◌, ℕ, ◌+◌, ◌<◌, List, [], ◌∷◌, Option, Some, None, Bool, true, false, ◌||◌, length, drop, suc, get_or, refl, ap, sym, ◌∙◌, add-one, drop-cons}
+use Rattle.std.proofs.Common.{◌≡◌, ℕ, ◌+◌, ◌<◌, List, ◌∷◌, Option, Some, None, Bool, true, false, ◌||◌, length, drop, suc, get_or, refl, ap, sym, ◌∙◌, add-one, drop-cons}
 use Rattle.std.specs.Option.{option_or}
 use Rattle.std.specs.List.{filter_map, cons_option, last_or, list_any}
 use Rattle.rpm_words.specs.declared.part.Part.{Part}
 use Rattle.rpm_words.specs.declared.seen.Seen.{Seen}
 use Rattle.rpm_words.specs.Command.{head, command_of, chosen_of}
-use Rattle.rpm_words.specs.Seen.{shown_in, after_in, exercise_in, is_noindex, misplaced_in, seen, seen_with}
+use Rattle.rpm_words.specs.Seen.{shown_in, after_in, exercise_in, is_noindex, misplaced_in, seen_with}
 
 -- what the parts come to, behind those that come to `before`
 abbrev pub seen_behind : List (List ℕ) → Seen → List Part → Seen

@@ -1,5 +1,5 @@
 -- The mode and the selection that a command line begins with.
-use Rattle.std.specs.Prelude.{ℕ, List, [], ◌∷◌, Option, Some, None, Bool, true, false, not, ◌||◌, ◌==◌}
+use Rattle.std.specs.Prelude.{ℕ, List, Option, Some, None, Bool, false, not, ◌||◌, ◌==◌}
 use Rattle.std.specs.List.{filter_map, slice_get}
 use Rattle.rpm_words.specs.declared.switch.Command.{Command}
 use Rattle.rpm_words.specs.declared.switch.Command.TheVariants.{Query, Addpkg, Replacepkg, Erasepkg, Initdb, Rebuilddb, Verifydb, Exportdb, Importdb, Exercise}

@@ -1,5 +1,5 @@
 -- What a command line says, piece by piece.
-use Rattle.std.specs.Prelude.{ℕ, List, [], ◌∷◌, ◌++◌, Option, Some, None, ◌==◌, ◌+◌, if◌then◌else◌, drop}
+use Rattle.std.specs.Prelude.{ℕ, List, [], ◌∷◌, ◌++◌, ◌==◌, ◌+◌, if◌then◌else◌, drop}
 use Rattle.std.specs.Option.{option_map}
 use Rattle.std.specs.List.{filter_map, after_first}
 use Rattle.rpm_words.specs.declared.switch.Program.{Program}

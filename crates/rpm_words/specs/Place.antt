@@ -1,5 +1,5 @@
 -- The folder of the database.
-use Rattle.std.specs.Prelude.{ℕ, List, Option, Some, None, unwrap_or, ◌==◌, if◌then◌else◌, codes}
+use Rattle.std.specs.Prelude.{ℕ, List, Option, Some, None, unwrap_or, if◌then◌else◌, codes}
 use Rattle.std.specs.Option.{option_map_or}
 use Rattle.std.specs.List.{filter_map, last_or, slice_get}
 use Rattle.std.specs.Str.{bytes_eq}

@@ -1,5 +1,5 @@
 -- What each word of a command line is there for.
-use Rattle.std.specs.Prelude.{ℕ, List, Option, Some, None, Bool, true, false, not, ◌||◌, ◌==◌, ◌+◌, nat_lt, if◌then◌else◌, length, take, drop, codes}
+use Rattle.std.specs.Prelude.{ℕ, List, Bool, true, false, not, ◌||◌, ◌==◌, ◌+◌, nat_lt, if◌then◌else◌, length, take, drop, codes}
 use Rattle.std.specs.Option.{option_map_or, is_some}
 use Rattle.std.specs.List.{list_all, before_first, position_or_len}
 use Rattle.std.specs.Str.{bytes_eq}

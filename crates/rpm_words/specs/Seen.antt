@@ -2,9 +2,7 @@
 use Rattle.std.specs.Prelude.{ℕ, List, Option, Some, None, Bool, true, false, ◌||◌, ◌&&◌, nat_le, if◌then◌else◌}
 use Rattle.std.specs.Option.{option_or}
 use Rattle.std.specs.List.{filter_map, last_or, list_any}
-use Rattle.rpm_words.specs.declared.switch.Command.{Command}
 use Rattle.rpm_words.specs.declared.switch.Command.TheVariants.{Exercise}
-use Rattle.rpm_words.specs.declared.switch.Chosen.{Chosen}
 use Rattle.rpm_words.specs.declared.switch.Switch.TheVariants.{Mode, Choose, Lists, Format, After, Noindex}
 use Rattle.rpm_words.specs.declared.part.Part.{Part}
 use Rattle.rpm_words.specs.declared.part.Said.{Said}

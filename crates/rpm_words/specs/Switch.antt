@@ -3,7 +3,6 @@ use Rattle.std.specs.Prelude.{ℕ, List, Option, Some, None, ◌==◌, if◌then
 use Rattle.std.specs.Str.{bytes_eq}
 use Rattle.rpm_words.specs.declared.switch.Program.{Program}
 use Rattle.rpm_words.specs.declared.switch.Program.TheVariants.{Rpm, Rpmdb}
-use Rattle.rpm_words.specs.declared.switch.Command.{Command}
 use Rattle.rpm_words.specs.declared.switch.Command.TheVariants.{Query, Addpkg, Replacepkg, Erasepkg, Initdb, Rebuilddb, Verifydb, Exportdb, Importdb, Exercise}
 use Rattle.rpm_words.specs.declared.switch.Chosen.TheVariants.{All, Path, Group, Package, Provides, Requires, Conflicts, Obsoletes, Trigger, Number}
 use Rattle.rpm_words.specs.declared.switch.Switch.{Switch}

@@ -1,4 +1,4 @@
-use Rattle.std.proofs.Common.{◌≡◌, ◌<◌, ◌≤◌, ◌^◌, length, ap, sym, ◌∙◌, arith}
+use Rattle.std.proofs.Common.{◌≡◌, ◌≤◌, length, ap, sym, arith}
 use Rattle.rpm_words.specs.Part.{said}
 use Rattle.rpm_words.specs.Ask.{arguments}
 use Rattle.rpm_words.proofs.Counts.{few_arguments}

@@ -1,4 +1,4 @@
-use Rattle.std.proofs.Common.{◌≡◌, drop}
+use Rattle.std.proofs.Common.{◌≡◌}
 use denote.Shadow.{shadow}
 use denote.Text.{Utf8}
 use Rattle.rpm_words.specs.Place.{folder}
