@@ -1,0 +1,33 @@
+-- What `parse` reads of digits.
+use Rattle.std.proofs.Common.{◌≡◌, ℕ, ◌<◌, ◌≤◌, ◌^◌, true, false, List, [], ◌∷◌, length, refl, ap, ◌&&◌, Result, Ok, Err, None, arith}
+use Rattle.std.specs.Char.{is_ascii_digit}
+use Rattle.std.specs.List.{list_all}
+use Rattle.std.specs.Result.{result_ok, OkIff}
+use Rattle.std.specs.Str.{all_ascii_digits}
+use Rattle.std.specs.Str.Parse.{digits_value, ParsesUnsigned}
+use Rattle.std.proofs.lemmas.Str.Parse.{IsNumeralModel, numerals_by_value, tells_all_ascii_digits, parse_digits}
+use Rattle.std.proofs.lemmas.Grind.{common_steps}
+use Rattle.rpm_words.specs.Number.{number}
+
+pub digits_all : (text : List ℕ) → list_all is_ascii_digit text ≡ all_ascii_digits text
+digits_all [] = refl
+digits_all (c ∷ cs) = ap (λ b. is_ascii_digit c && b) (digits_all cs)
+
+own : IsNumeralModel (λ ds. all_ascii_digits ds ≡ true) (digits_value 10)
+own = numerals_by_value _ tells_all_ascii_digits
+
+by_result : {E : Type 0} (text : List ℕ) (r : Result ℕ E) → OkIff r ((0 < length text) × (digits_value 10 text < 2 ^ 32)) (digits_value 10 text) → all_ascii_digits text ≡ true → 1 ≤ length text → length text ≤ 10 → result_ok r ≡ number text
+unfolding number
+by_result text (Ok x) h digits some few = grind (arith, common_steps, h)
+by_result text (Err e) h digits some few = grind (arith, common_steps, h)
+
+pub number_parsed : {E : Type 0} (text : List ℕ) (r : Result ℕ E) → ParsesUnsigned 32 10 text r → list_all is_ascii_digit text ≡ true → 1 ≤ length text → length text ≤ 10 → result_ok r ≡ number text
+number_parsed text r h digits some few =
+    let all : all_ascii_digits text ≡ true = cc (digits_all text) in
+    by_result text r (parse_digits own 32 text r h all) all some few
+
+pub number_other : (text : List ℕ) → list_all is_ascii_digit text ≡ false → number text ≡ None
+unfolding number
+number_other text h =
+    let all : all_ascii_digits text ≡ false = cc (digits_all text) in
+    grind (arith, common_steps)

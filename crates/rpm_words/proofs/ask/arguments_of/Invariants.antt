@@ -1,0 +1,7 @@
+use Rattle.std.proofs.Common.{◌≡◌, ◌++◌, drop}
+use Rattle.std.specs.List.{filter_map}
+use Rattle.rpm_words.specs.Ask.{argument_in}
+use Rattle.rpm_words.proofs.ask.arguments_of.Given as goal
+
+abbrev pub invariant-loop-part : goal.invariant-loop-part
+invariant-loop-part l = l.places.items ++ filter_map argument_in (drop l.part-index l.parts) ≡ filter_map argument_in l.parts

@@ -1,0 +1,34 @@
+-- Which fault is told.
+use Rattle.std.specs.Prelude.{ℕ, List, [], ◌∷◌, Option, Some, None, Bool, ◌||◌, ◌&&◌, ◌==◌, nat_lt, if◌then◌else◌}
+use Rattle.std.specs.List.{best_of}
+use Rattle.rpm_words.specs.declared.fault.WordsKind.{WordsKind}
+use Rattle.rpm_words.specs.declared.fault.WordsKind.TheVariants.{UnknownOption, TwoModes}
+use Rattle.rpm_words.specs.declared.fault.WordsFault.{WordsFault}
+
+abbrev pub fault : WordsKind → ℕ → WordsFault
+fault kind word = record { kind = kind; word = word }
+
+-- of the faults of one word an unknown option comes first, then a second mode
+abbrev pub rank : WordsKind → ℕ
+rank UnknownOption = 0
+rank TwoModes = 1
+rank others = 2
+
+abbrev pub is_before : WordsFault → WordsFault → Bool
+is_before f g = nat_lt f.word g.word || (f.word == g.word && nat_lt (rank f.kind) (rank g.kind))
+
+abbrev pub earlier : Option WordsFault → Option WordsFault → Option WordsFault
+earlier None other = other
+earlier (Some f) None = Some f
+earlier (Some f) (Some g) = Some (if is_before g f then g else f)
+
+-- the fault of the least word, and of the faults of that word the one that comes first
+abbrev pub earliest : List WordsFault → Option WordsFault
+earliest [] = None
+earliest (f ∷ others) = Some (best_of is_before f others)
+
+-- the first of the rules that is broken
+abbrev pub first_told : List (Option WordsFault) → Option WordsFault
+first_told [] = None
+first_told (Some f ∷ others) = Some f
+first_told (None ∷ others) = first_told others

@@ -1,0 +1,10 @@
+pub mod Ask
+pub mod Broken
+pub mod Command
+pub mod Fault
+pub mod Number
+pub mod Part
+pub mod Place
+pub mod Role
+pub mod Seen
+pub mod Switch

@@ -1,0 +1,70 @@
+//! The folder of the database.
+
+ghost use Rattle.std.specs.Prelude.{◌≡◌};
+ghost use Rattle.rpm_words.specs.Place.{program_of, place, folder, folder_behind};
+
+use crate::part::value_from;
+use crate::role::{Role, role_behind};
+use crate::switch::{Program, Switch};
+use crate::words::Words;
+
+/// The place that rpm itself keeps its database in.
+const OWN_PLACE: &str = "/var/lib/rpm";
+
+/// The program that the first word names.
+#[tactic(auto, unfolding(crate::specs::Place::program_of))]
+pub(crate) fn program_of(words: &Words) -> Option<Program>
+    ensures { result ≡ program_of words.now }
+{
+    if words.len() == 0 {
+        return None;
+    }
+    match words.word(0) {
+        "rpm" => Some(Program::Rpm),
+        "rpmdb" => Some(Program::Rpmdb),
+        _ => None,
+    }
+}
+
+/// The folder behind a word, where it was `folder` in front of it.
+fn folder_behind<'a>(folder: &'a str, role: Role, text: &'a str) -> &'a str
+    ensures { result.now ≡ folder_behind role text.now folder.now }
+{
+    match role {
+        Role::Whole(Switch::Folder) | Role::Awaits(Switch::Folder) => OWN_PLACE,
+        Role::Inline(Switch::Folder, from) => value_from(text, from),
+        Role::Value(Switch::Folder) => text,
+        _ => folder,
+    }
+}
+
+/// The folder that the options of a program name last.
+fn folder_of(program: Program, words: &Words) -> &str
+    ensures { result.now ≡ folder program words.now }
+{
+    let mut role = Role::Name;
+    let mut folder = OWN_PLACE;
+    for i in 1..words.len() {
+        let text = words.word(i);
+        role = role_behind(program, role, text);
+        folder = folder_behind(folder, role, text);
+    }
+    folder
+}
+
+/// The folder of the database: the value of the last `--dbpath`. It is rpm's own place where no
+/// option is `--dbpath`, where the last one lacks its value, and where the first word is neither
+/// `rpm` nor `rpmdb`.
+///
+/// A word that is the value of another option is no option, and a word that begins as an option and
+/// is none is passed over, so the place is known also where [`read`](crate::read) refuses the words.
+/// Goes over the words once, and takes no memory. The rule is this project's own.
+#[tactic(auto, unfolding(crate::specs::Place::place))]
+pub fn place_of(words: &Words) -> &str
+    ensures { result.now ≡ place words.now }
+{
+    match program_of(words) {
+        Some(program) => folder_of(program, words),
+        None => OWN_PLACE,
+    }
+}
