@@ -19,6 +19,7 @@ use Rattle.rpm_header.specs.Laid.{data_from, index_from, blob_of}
 use Rattle.rpm_header.specs.Dribbles.{dribbled_index, dribbled_data, dribbled}
 use Rattle.rpm_header.specs.Parts.{own_index, own_data}
 use Rattle.rpm_header.specs.Packed.{ReadsBack}
+use Rattle.rpm_header.proofs.Bools.{and_true}
 use Rattle.rpm_header.proofs.Cut.{number_in_front}
 use Rattle.rpm_header.proofs.Opened.{IsOpened}
 use Rattle.rpm_header.proofs.Longer.{same_below, room_of, number_longer, in_data, faultless, fault_longer, entry_longer}
@@ -26,10 +27,6 @@ use Rattle.rpm_header.proofs.Again.{Stands, entries_again, sound_again, neither}
 use Rattle.rpm_header.proofs.Laws.{no_region_fault, length-index_from, section_is, header_is, IsWithin}
 
 -- ---- the region, behind which further entries stand
-
-both : (a b : Bool) → (a && b) ≡ true → (a ≡ true) × (b ≡ true)
-both true b e = (refl, e)
-both false b e = absurd cc
 
 range_split : (a m n : ℕ) → range_with_len a (m + n) ≡ range_with_len a m ++ range_with_len (a + m) n
 range_split a zero n = rw (zero-add, add-zero) refl
@@ -59,8 +56,8 @@ told_region false x none = absurd cc
 pub is_region : (il : ℕ) (i : IndexEntry) (section : List ℕ) → region_fault il i section ≡ None → IsRegion il i section
 is_region il i section none =
     let good = told_region (eqb i.kind 7 && eqb i.count 16 && counts_back il (number_at w32 section (i.offset + 8))) BadRegion none in
-    let last = both (eqb i.kind 7 && eqb i.count 16) (counts_back il (number_at w32 section (i.offset + 8))) good in
-    let first = both (eqb i.kind 7) (eqb i.count 16) last.0 in
+    let last = and_true (eqb i.kind 7 && eqb i.count 16) (counts_back il (number_at w32 section (i.offset + 8))) good in
+    let first = and_true (eqb i.kind 7) (eqb i.count 16) last.0 in
     record { kind = eqb-true i.kind 7 first.0; count = eqb-true i.count 16 first.1; back = last.1 }
 
 -- its trailer lies in the data

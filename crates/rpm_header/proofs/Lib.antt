@@ -1,4 +1,5 @@
 pub mod Again
+pub mod Bools
 pub mod Cut
 pub mod Dribbled
 pub mod Each

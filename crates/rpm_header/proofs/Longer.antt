@@ -12,6 +12,7 @@ use Rattle.rpm_header.specs.declared.form.HeaderFault.TheVariants.{BadOffset, Ba
 use Rattle.rpm_header.specs.declared.index.IndexEntry.{IndexEntry}
 use Rattle.rpm_header.specs.Bytes.{number_at, numbers, texts, are_ended, is_zero}
 use Rattle.rpm_header.specs.Header.{Numbers, Texts, Bytes, values, alignment, has_texts, is_bad_count, element_fault, form_of, form_or_null, form_fault, entry_of}
+use Rattle.rpm_header.proofs.Bools.{and_true, or_false}
 use Rattle.rpm_header.proofs.Again.{form_sound}
 
 -- ---- numbers
@@ -55,15 +56,11 @@ found : (test : Bool) (n : ℕ) → is_some (cond test (Some n) None) ≡ true �
 found true n e = refl
 found false n e = absurd cc
 
-both : (a b : Bool) → (a && b) ≡ true → (a ≡ true) × (b ≡ true)
-both true b e = (refl, e)
-both false b e = absurd cc
-
 pub ended_longer : (count : ℕ) (bytes more : List ℕ) → are_ended count bytes ≡ true → (are_ended count (bytes ++ more) ≡ true) × (texts count (bytes ++ more) ≡ texts count bytes)
 unfolding are_ended texts
 ended_longer zero bytes more ended = (refl, refl)
 ended_longer (suc n) bytes more ended =
-    let parts = both (is_some (position is_zero bytes)) (are_ended n (after_first is_zero bytes)) ended in
+    let parts = and_true (is_some (position is_zero bytes)) (are_ended n (after_first is_zero bytes)) ended in
     let at = position_or_len is_zero bytes in
     let within : at < length bytes = ltb-true at (length bytes) (found (nat_lt at (length bytes)) at parts.0) in
     let same : position_or_len is_zero (bytes ++ more) ≡ at = first_longer is_zero bytes more within in
@@ -75,13 +72,9 @@ ended_longer (suc n) bytes more ended =
 
 -- ---- elements without a fault
 
-either : (a b : Bool) → (a || b) ≡ false → (a ≡ false) × (b ≡ false)
-either true b e = absurd cc
-either false b e = (refl, e)
-
 room_longer : (count size : ℕ) (bytes more : List ℕ) → (eqb count 0 || nat_lt (length bytes) size) ≡ false → (eqb count 0 || nat_lt (length (bytes ++ more)) size) ≡ false
 room_longer count size bytes more good =
-    let parts = either (eqb count 0) (nat_lt (length bytes) size) good in
+    let parts = or_false (eqb count 0) (nat_lt (length bytes) size) good in
     let within : size ≤ length bytes = ltb-false (length bytes) size parts.1 in
     rw (parts.0, le-ltb (length (bytes ++ more)) size (omega (arith, length-append bytes more))) refl
 
@@ -98,7 +91,7 @@ count_longer form.Int64 count bytes more good = room_longer count (count * align
 count_longer form.Bin count bytes more good = room_longer count (count * alignment form.Bin) bytes more good
 
 pub room_of : (count size : ℕ) (bytes : List ℕ) → (eqb count 0 || nat_lt (length bytes) size) ≡ false → size ≤ length bytes
-room_of count size bytes good = ltb-false (length bytes) size (either (eqb count 0) (nat_lt (length bytes) size) good).1
+room_of count size bytes good = ltb-false (length bytes) size (or_false (eqb count 0) (nat_lt (length bytes) size) good).1
 
 values_longer : (f : Form) (count : ℕ) (bytes more : List ℕ) → is_bad_count f count bytes ≡ false → (has_texts f ≡ true → are_ended count bytes ≡ true) → values f count (bytes ++ more) ≡ values f count bytes
 values_longer form.Null count bytes more good ended = refl

@@ -1,6 +1,6 @@
 -- Numbers that stand one after the other are read again.
-use Rattle.std.proofs.Common.{◌≡◌, ℕ, ◌+◌, ◌*◌, ◌^◌, ◌<◌, ◌≤◌, List, [], ◌∷◌, ◌++◌, length, drop, map, get_or, Bool, true, false, refl, sym, ap, ◌∙◌, append_assoc, length-append, arith}
-use Rattle.std.specs.Prelude.{nat_lt, ◌&&◌, IsTrue}
+use Rattle.std.proofs.Common.{◌≡◌, ℕ, ◌+◌, ◌*◌, ◌^◌, ◌<◌, ◌≤◌, List, [], ◌∷◌, ◌++◌, length, drop, map, get_or, true, refl, sym, ap, ◌∙◌, append_assoc, length-append, arith}
+use Rattle.std.specs.Prelude.{nat_lt, IsTrue}
 use Rattle.std.specs.List.{range_with_len, flat_map, list_all}
 use Rattle.std.specs.Int.{Width, w8, w16, w32, w64, byte_len, to_be_bytes, from_be_bytes}
 use Rattle.std.proofs.lemmas.Bool.{ltb-true}
@@ -11,6 +11,7 @@ use Rattle.rpm_header.specs.declared.form.Form.TheVariants as form
 use Rattle.rpm_header.specs.Bytes.{number_at, numbers}
 use Rattle.rpm_header.specs.Header.{Numbers, values, width, alignment, has_numbers}
 use Rattle.rpm_header.specs.Build.{AllFit}
+use Rattle.rpm_header.proofs.Bools.{and_true}
 
 -- a width at which a number that has room in it is read again
 record Reads (w : Width) : Type 0 where
@@ -30,10 +31,6 @@ reads_32 = record { again = λ n rest h. from_be_bytes-to_be_bytes_4 n h; size =
 reads_64 : Reads w64
 reads_64 = record { again = λ n rest h. from_be_bytes-to_be_bytes_8 n h; size = λ n. refl; some = omega arith }
 
-both : (a b : Bool) → (a && b) ≡ true → (a ≡ true) × (b ≡ true)
-both true b e = (refl, e)
-both false b e = absurd cc
-
 abbrev AllBelow : ℕ → List ℕ → Type 0
 AllBelow limit ns = list_all (λ n. nat_lt n limit) ns ≡ true
 
@@ -42,7 +39,7 @@ from_place : (w : Width) → Reads w → (ns : List ℕ) (a : ℕ) (bytes rest :
 unfolding number_at
 from_place w r [] a bytes rest fit e = refl
 from_place w r (n ∷ ns) a bytes rest fit e =
-    let fits = both (nat_lt n (2 ^ (8 * byte_len w))) (list_all (λ n. nat_lt n (2 ^ (8 * byte_len w))) ns) fit in
+    let fits = and_true (nat_lt n (2 ^ (8 * byte_len w))) (list_all (λ n. nat_lt n (2 ^ (8 * byte_len w))) ns) fit in
     let whole : drop (a * byte_len w) bytes ≡ to_be_bytes w n ++ (flat_map (to_be_bytes w) ns ++ rest) = e ∙ append_assoc (to_be_bytes w n) (flat_map (to_be_bytes w) ns) rest in
     let here : from_be_bytes w (drop (a * byte_len w) bytes) ≡ n = ap (from_be_bytes w) whole ∙ r.again n (flat_map (to_be_bytes w) ns ++ rest) (ltb-true n (2 ^ (8 * byte_len w)) fits.0) in
     let step : a * byte_len w + byte_len w ≡ (a + 1) * byte_len w = grind arith in
@@ -102,13 +99,13 @@ numbers_again f ns rest t fit = values_numbers f (length ns) (flat_map (to_be_by
 pub fits_first : (f : Form) (ns : List ℕ) (i n : ℕ) → i < length ns → AllFit f (drop i ns) → get_or ns i 0 ≡ n → nat_lt n (2 ^ (8 * byte_len (width f))) ≡ true
 fits_first f ns i n within fit is =
     let next = at_drop_more (λ (l : List ℕ). list_all (λ n. nat_lt n (2 ^ (8 * byte_len (width f)))) l) ns i 0 within in
-    let here = both _ _ (sym next ∙ fit) in
+    let here = and_true _ _ (sym next ∙ fit) in
     rw (← is) here.0
 
 pub fits_more : (f : Form) (ns : List ℕ) (i : ℕ) → i < length ns → AllFit f (drop i ns) → AllFit f (drop (i + 1) ns)
 fits_more f ns i within fit =
     let next = at_drop_more (λ (l : List ℕ). list_all (λ n. nat_lt n (2 ^ (8 * byte_len (width f)))) l) ns i 0 within in
-    (both _ _ (sym next ∙ fit)).1
+    (and_true _ _ (sym next ∙ fit)).1
 
 pub written_more : (f : Form) (ns : List ℕ) (i n : ℕ) (bytes bytes' : List ℕ) → i < length ns → get_or ns i 0 ≡ n → bytes' ≡ bytes ++ to_be_bytes (width f) n
     → bytes' ++ flat_map (to_be_bytes (width f)) (drop (i + 1) ns) ≡ bytes ++ flat_map (to_be_bytes (width f)) (drop i ns)

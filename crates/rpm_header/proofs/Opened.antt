@@ -59,12 +59,12 @@ opened h is =
     }
 
 -- its own bytes are two lengths, the index and at most 64 MiB of data
-pub record Fits (n : ℕ) (blob : List ℕ) : Type 0 where
+pub record PartsFit (n : ℕ) (blob : List ℕ) : Type 0 where
   pub index : 8 + 16 * n ≤ length blob
   pub few : n ≤ 65535
   pub small : length blob ≤ 8 + 16 * n + 67108864
 
-pub fits : (h : Header) (n : ℕ) (blob : List ℕ) → blob ≡ h.blob → n ≡ length h.entries → header blob ≡ Ok h → Fits n blob
+pub fits : (h : Header) (n : ℕ) (blob : List ℕ) → blob ≡ h.blob → n ≡ length h.entries → header blob ≡ Ok h → PartsFit n blob
 fits h n blob own number is =
     let o = opened h (subst (λ (b : List ℕ). header b ≡ Ok h) own is) in
     record {

@@ -1,6 +1,6 @@
 -- Texts that stand one after the other are read again.
-use Rattle.std.proofs.Common.{◌≡◌, ℕ, suc, ◌+◌, ◌≤◌, List, [], ◌∷◌, ◌++◌, length, drop, Bool, true, false, refl, sym, ap, ◌∙◌, append_assoc, length-append, arith, lt-ltb}
-use Rattle.std.specs.Prelude.{is_some, nat_lt, ◌||◌}
+use Rattle.std.proofs.Common.{◌≡◌, ℕ, suc, ◌+◌, ◌≤◌, List, [], ◌∷◌, ◌++◌, length, drop, true, refl, sym, ap, ◌∙◌, append_assoc, length-append, arith, lt-ltb}
+use Rattle.std.specs.Prelude.{is_some, nat_lt}
 use Rattle.std.specs.List.{position, position_or_len, before_first, after_first, list_any, AllByRecursion}
 use Rattle.std.proofs.lemmas.List.{take_at, drop_at, append-nil}
 use Rattle.std.proofs.lemmas.Grind.{flat_map-append}
@@ -8,16 +8,13 @@ use Rattle.rpm_header.specs.Bytes.{is_zero, texts, are_ended}
 use Rattle.rpm_header.specs.Build.{IsText}
 use Rattle.rpm_header.specs.Laid.{joined}
 use Rattle.rpm_header.specs.Packed.{IsJoined}
+use Rattle.rpm_header.proofs.Bools.{or_false}
 use Rattle.rpm_header.proofs.Whole.{length-texts}
-
-neither : (a b : Bool) → (a || b) ≡ false → (a ≡ false) × (b ≡ false)
-neither true b e = absurd cc
-neither false b e = (refl, e)
 
 zero_after : (t rest : List ℕ) → IsText t → position_or_len is_zero (t ++ 0 ∷ rest) ≡ length t
 zero_after [] rest none = refl
 zero_after (b ∷ t) rest none =
-    let both = neither (is_zero b) (list_any is_zero t) none in
+    let both = or_false (is_zero b) (list_any is_zero t) none in
     rw (both.0, zero_after t rest both.1) (omega arith)
 
 split_front : (t rest : List ℕ) → IsText t → (is_some (position is_zero (t ++ 0 ∷ rest)) ≡ true) × (before_first is_zero (t ++ 0 ∷ rest) ≡ t) × (after_first is_zero (t ++ 0 ∷ rest) ≡ rest)

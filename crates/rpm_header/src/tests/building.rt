@@ -239,10 +239,11 @@ fn limits_are_refused_exactly_where_they_are_passed(rt: HostRuntime) -> Result<(
     Ok(())
 }
 
-fn installed(alloc: Global) -> Result<Builder, AllocError> {
+/// The time and the transaction of an installation.
+fn installed(alloc: Global, now: u32) -> Result<Builder, AllocError> {
     let mut builder = Builder::new(alloc);
-    builder.push_numbers(1008, Form::Int32, &[5])?;
-    builder.push_numbers(1128, Form::Int32, &[5])?;
+    builder.push_numbers(1008, Form::Int32, &[now as u64])?;
+    builder.push_numbers(1128, Form::Int32, &[now as u64])?;
     Ok(builder)
 }
 
@@ -258,8 +259,8 @@ fn installed_long(alloc: Global) -> Result<Builder, AllocError> {
 fn dribbles_stand_behind_the_entries(rt: HostRuntime) -> Result<(), Fail> {
     let alloc = rt.alloc();
     for (hex, extra, want) in [
-        (PLAIN, installed(alloc)?, INSTALLED),
-        (REGION, installed(alloc)?, REGION_INSTALLED),
+        (PLAIN, installed(alloc, 5)?, INSTALLED),
+        (REGION, installed(alloc, 5)?, REGION_INSTALLED),
         (SNAPSHOT, installed_long(alloc)?, SNAPSHOT_INSTALLED),
         (SNAPSHOT, Builder::new(alloc), SNAPSHOT),
     ] {
@@ -281,7 +282,7 @@ fn dribbles_keep_the_limits(rt: HostRuntime) -> Result<(), Fail> {
     let blob = most.finish(alloc, false)?;
     let view = View::parse(&blob).map_err(|_| "fault")?;
     assert_eq!(rt;
-        with_dribbles(alloc, &view, &installed(alloc)?)?.len(),
+        with_dribbles(alloc, &view, &installed(alloc, 5)?)?.len(),
         8 + 17 * 65_533 + 3 + 2 * 20
     );
     assert_eq!(rt;
@@ -293,7 +294,7 @@ fn dribbles_keep_the_limits(rt: HostRuntime) -> Result<(), Fail> {
     let blob = most.finish(alloc, false)?;
     let view = View::parse(&blob).map_err(|_| "fault")?;
     assert_eq!(rt;
-        with_dribbles(alloc, &view, &installed(alloc)?)?.len(),
+        with_dribbles(alloc, &view, &installed(alloc, 5)?)?.len(),
         8 + 16 * 3 + 67_108_864
     );
     assert_eq!(rt;
