@@ -1,0 +1,5 @@
+pub mod Ahead
+pub mod Decimal
+pub mod Parts
+pub mod Paths
+pub mod Rows

@@ -1,0 +1,14 @@
+use Rattle.std.proofs.Common.{refl, arith}
+use Rattle.std.proofs.lemmas.List.Elements.{All-replicate}
+use Rattle.rpm_tags.specs.Recent.{IsSeen}
+use Rattle.rpm_tags.proofs.dirs.Directories.new.Goals as goal
+
+pub invariant_of-result : goal.invariant_of-result
+invariant_of-result c = record {
+  left = c.iter.ensures.value;
+  within = omega arith;
+  few = omega arith;
+  all_short = c.iter.ensures.short;
+  kept = refl;
+  seen = All-replicate (IsSeen c.args.all.now) 64 _ (c.text.ensures.value, c.text.ensures.short);
+}

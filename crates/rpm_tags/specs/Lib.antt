@@ -1,0 +1,10 @@
+pub mod Keys
+pub mod Kinds
+pub mod Left
+pub mod Parts
+pub mod Recent
+pub mod Rows
+pub mod Shown
+pub mod Source
+pub mod Table
+pub mod Value

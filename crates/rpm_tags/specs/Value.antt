@@ -1,0 +1,151 @@
+-- What a tag's value is in a header.
+use Rattle.std.specs.Prelude.{ℕ, Bool, List, [], ◌∷◌, ◌++◌, codes, decimal, Option, Some, None, length, take, slice_get, map, ◌==◌, ◌&&◌, nat_lt, if◌then◌else◌, unwrap_or}
+use Rattle.std.specs.Option.{option_and_then}
+use Rattle.std.specs.List.{concat, list_all, zip}
+use Rattle.rpm_header.specs.declared.form.Form.{Form}
+use Rattle.rpm_header.specs.declared.form.Form.TheVariants as form
+use Rattle.rpm_header.specs.Header.{Header, Item, Values, last_of, numbers_of, texts_of, bytes_of}
+use Rattle.rpm_tags.specs.declared.tag.Tag.{Tag}
+use Rattle.rpm_tags.specs.declared.tag.Tag.TheVariants.{Stored, Nvra, Nevra, Evr, Nvr, Epochnum, Filenames, Dbinstance}
+use Rattle.rpm_tags.specs.declared.values.Class.{Class}
+use Rattle.rpm_tags.specs.declared.values.Class.TheVariants as class
+
+-- ---- values
+
+-- the elements of a value, by its class
+pub data Elements : Type 0 where
+  NumberList : List ℕ → Elements
+  TextList : List (List ℕ) → Elements
+  OneBlob : List ℕ → Elements
+
+abbrev pub class_of : Elements → Class
+class_of (NumberList ns) = class.Number
+class_of (TextList ts) = class.Text
+class_of (OneBlob bs) = class.Blob
+
+abbrev pub count_of : Elements → ℕ
+count_of (NumberList ns) = length ns
+count_of (TextList ts) = length ts
+count_of (OneBlob bs) = 1
+
+-- its elements, where they are of that class
+abbrev pub number_list : Elements → List ℕ
+number_list (NumberList ns) = ns
+number_list _ = []
+
+abbrev pub text_list : Elements → List (List ℕ)
+text_list (TextList ts) = ts
+text_list _ = []
+
+abbrev pub blob_of : Elements → List ℕ
+blob_of (OneBlob bs) = bs
+blob_of _ = []
+
+-- ---- stored tags
+
+-- of an I18n the first text counts alone
+abbrev pub elements_by : Form → Values → Option Elements
+elements_by form.Null v = None
+elements_by form.Bin v = Some (OneBlob (bytes_of v))
+elements_by form.Text v = Some (TextList (texts_of v))
+elements_by form.Texts v = Some (TextList (texts_of v))
+elements_by form.I18n v = Some (TextList (take 1 (texts_of v)))
+elements_by _ v = Some (NumberList (numbers_of v))
+
+abbrev pub elements : Item → Option Elements
+elements e = elements_by e.form e.values
+
+-- of several entries of a tag the last one counts
+unfoldable pub stored : Header → ℕ → Option Elements
+stored h tag = option_and_then elements (last_of tag h.entries)
+
+-- ---- the elements of a tag, where it is of that class
+
+abbrev pub if_texts : Option Elements → Option (List (List ℕ))
+if_texts (Some (TextList ts)) = Some ts
+if_texts _ = None
+
+abbrev pub if_numbers : Option Elements → Option (List ℕ)
+if_numbers (Some (NumberList ns)) = Some ns
+if_numbers _ = None
+
+unfoldable pub texts_in : Header → ℕ → Option (List (List ℕ))
+texts_in h tag = if_texts (stored h tag)
+
+unfoldable pub numbers_in : Header → ℕ → Option (List ℕ)
+numbers_in h tag = if_numbers (stored h tag)
+
+unfoldable pub first_text : Header → ℕ → Option (List ℕ)
+first_text h tag = option_and_then (λ ts. slice_get ts 0) (texts_in h tag)
+
+unfoldable pub first_number : Header → ℕ → Option ℕ
+first_number h tag = option_and_then (λ ns. slice_get ns 0) (numbers_in h tag)
+
+-- ---- NVR, NVRA, EVR and NEVRA, as the parts that are joined
+
+-- the epoch and a colon, where there is one
+abbrev pub epoch_parts : Option ℕ → List (List ℕ)
+epoch_parts None = []
+epoch_parts (Some epoch) = decimal epoch ∷ codes ":" ∷ []
+
+-- a dot and the architecture, where there is one
+abbrev pub arch_parts : Option (List ℕ) → List (List ℕ)
+arch_parts None = []
+arch_parts (Some arch) = codes "." ∷ arch ∷ []
+
+abbrev pub release_parts : List ℕ → List ℕ → List (List ℕ)
+release_parts v r = v ∷ codes "-" ∷ r ∷ []
+
+abbrev pub name_parts : List ℕ → List (List ℕ)
+name_parts n = n ∷ codes "-" ∷ []
+
+abbrev pub evr : Option ℕ → Option (List ℕ) → Option (List ℕ) → Option (List (List ℕ))
+evr e (Some v) (Some r) = Some (epoch_parts e ++ release_parts v r)
+evr e _ _ = None
+
+-- with the name, an epoch where one is given, and an architecture where one is given
+abbrev pub label : Option (List ℕ) → Option ℕ → Option (List ℕ) → Option (List ℕ) → Option (List ℕ) → Option (List (List ℕ))
+label (Some n) e (Some v) (Some r) a = Some (name_parts n ++ epoch_parts e ++ release_parts v r ++ arch_parts a)
+label _ e _ _ a = None
+
+-- a text that is made of parts
+abbrev pub as_text : Option (List (List ℕ)) → Option Elements
+as_text None = None
+as_text (Some ps) = Some (TextList (concat ps ∷ []))
+
+-- ---- FILENAMES
+
+abbrev pub text_at : List (List ℕ) → ℕ → List ℕ
+text_at ts i = unwrap_or (slice_get ts i) []
+
+-- the directory of a file's index, and its name behind it
+abbrev pub file_name : List (List ℕ) → ℕ × List ℕ → List ℕ
+file_name dirs (index, base) = text_at dirs index ++ base
+
+unfoldable pub file_names : List (List ℕ) → List ℕ → List (List ℕ) → List (List ℕ)
+file_names dirs indexes bases = map (file_name dirs) (zip indexes bases)
+
+-- an index for each file, and a directory for each index
+abbrev pub are_matched : List (List ℕ) → List ℕ → List (List ℕ) → Bool
+are_matched dirs indexes bases = length bases == length indexes && list_all (λ index. nat_lt index (length dirs)) indexes
+
+abbrev pub filenames : Option (List (List ℕ)) → Option (List ℕ) → Option (List (List ℕ)) → Option (List (List ℕ))
+filenames (Some dirs) (Some indexes) (Some bases) =
+    if are_matched dirs indexes bases then Some (file_names dirs indexes bases) else None
+filenames _ _ _ = None
+
+abbrev pub if_some_texts : Option (List (List ℕ)) → Option Elements
+if_some_texts None = None
+if_some_texts (Some ts) = Some (TextList ts)
+
+-- ---- all tags
+
+abbrev pub value : Header → ℕ → Tag → Option Elements
+value h number (Stored tag) = stored h tag
+value h number Nvr = as_text (label (first_text h 1000) None (first_text h 1001) (first_text h 1002) None)
+value h number Nvra = as_text (label (first_text h 1000) None (first_text h 1001) (first_text h 1002) (first_text h 1022))
+value h number Evr = as_text (evr (first_number h 1003) (first_text h 1001) (first_text h 1002))
+value h number Nevra = as_text (label (first_text h 1000) (first_number h 1003) (first_text h 1001) (first_text h 1002) (first_text h 1022))
+value h number Epochnum = Some (NumberList (unwrap_or (first_number h 1003) 0 ∷ []))
+value h number Filenames = if_some_texts (filenames (texts_in h 1118) (numbers_in h 1116) (texts_in h 1117))
+value h number Dbinstance = Some (NumberList (number ∷ []))

@@ -1,0 +1,164 @@
+//! The paths of a package's files.
+
+ghost use Rattle.std.specs.Prelude.{◌≡◌, ℕ, ◌<◌, ◌≤◌, length, Some, slice_get, nat_lt, All};
+ghost use Rattle.std.specs.Iterator.{YieldsFirstBy, item_count};
+ghost use Rattle.std.specs.List.{concat, list_all};
+ghost use Rattle.rpm_tags.specs.Value.{filenames, are_matched, file_name, texts_in, numbers_in};
+
+use crate::dirs::Directories;
+use crate::joined::Joined;
+use crate::stored::{Numbers, TextIter, Texts, numbers_in, texts_in};
+use rpm_header::View;
+use std::marker::Model;
+
+const DIRINDEXES: u32 = 1116;
+
+const BASENAMES: u32 = 1117;
+
+const DIRNAMES: u32 = 1118;
+
+/// The directory of this index, and a name behind it.
+fn path_of<'a>(dirs: &Texts<'a>, index: u64, base: &'a [u8]) -> Joined<'a>
+    requires below { index < length dirs.now }
+    requires short { length base.now ≤ 67108864 }
+    ensures { concat result ≡ file_name dirs.now (index, base.now) }
+{
+    let _ = dirs.count();
+    Joined::two(dirs.text(index as u32), base)
+}
+
+/// The paths of files: a directory for each, by its index, and a name. Contracts see it as the list
+/// of the paths.
+#[derive(Drop)]
+pub struct Files<'a> {
+    dirs: Texts<'a>,
+    indexes: Numbers<'a>,
+    bases: Texts<'a>,
+}
+
+impl<'a> Model for Files<'a> {
+    ghost use Rattle.std.specs.Prelude.{◌≡◌, List, ℕ, true};
+    ghost use Rattle.rpm_tags.specs.Value.{file_names, are_matched};
+
+    ghost Value = { List (List ℕ) };
+
+    ghost view = { λ s. file_names s.dirs s.indexes s.bases };
+
+    ghost invariant = { λ s. are_matched s.dirs s.indexes s.bases ≡ true };
+}
+
+impl<'a> Files<'a> {
+    pub fn count(&self) -> u32
+        ensures value { result ≡ length self.now }
+        ensures some { 0 < result }
+    {
+        self.bases.count()
+    }
+
+    /// The path of file i. Reads all names up to its own, and all directories up to its own.
+    pub fn path(&self, i: u32) -> Joined<'a>
+        requires { i < length self.now }
+        ensures { slice_get self.now i ≡ Some (concat result) }
+    {
+        let base = self.bases.text(i);
+        let index = self.indexes.number(i);
+        path_of(&self.dirs, index, base)
+    }
+
+    /// All paths in order.
+    pub fn iter(&self) -> FileIter<'_, 'a>
+        ensures { result ≡ self.now }
+    {
+        let _ = self.indexes.count();
+        FileIter {
+            dirs: Directories::new(&self.dirs),
+            indexes: &self.indexes,
+            bases: self.bases.iter(),
+            place: 0,
+        }
+    }
+}
+
+/// The paths that are left.
+#[derive(Drop)]
+pub struct FileIter<'v, 'a> {
+    dirs: Directories<'v, 'a>,
+    indexes: &'v Numbers<'a>,
+    bases: TextIter<'a>,
+    place: u32,
+}
+
+impl<'v, 'a> Model for FileIter<'v, 'a> {
+    ghost use Rattle.std.specs.Prelude.{List, ℕ, drop};
+    ghost use Rattle.rpm_tags.specs.Value.{file_names};
+    ghost use Rattle.rpm_tags.specs.Rows.{AreLeft};
+
+    ghost Value = { List (List ℕ) };
+
+    ghost view = { λ s. file_names s.dirs (drop s.place s.indexes.now) s.bases };
+
+    ghost invariant = { λ s. AreLeft s.dirs s.indexes.now s.bases s.place };
+}
+
+impl<'v, 'a> Iterator for FileIter<'v, 'a> {
+    type Item = Joined<'a>;
+
+    ghost next_gives = { YieldsFirstBy (λ x. concat x) (λ s. s) };
+
+    ghost remaining = { item_count (λ s. s) };
+
+    fn next(&mut self) -> Option<Joined<'a>> {
+        match self.bases.next() {
+            None => None,
+            Some(base) => {
+                let index = self.indexes.number(self.place);
+                self.place += 1;
+                let dir = self.dirs.dir(index);
+                Some(Joined::two(dir, base))
+            }
+        }
+    }
+}
+
+fn are_below(indexes: &Numbers<'_>, limit: u32) -> bool
+    ensures { result ≡ list_all (λ index. nat_lt index limit) indexes.now }
+{
+    for i in 0..indexes.count() {
+        if indexes.number(i) >= limit as u64 {
+            return false;
+        }
+    }
+    true
+}
+
+fn are_matched(dirs: &Texts<'_>, indexes: &Numbers<'_>, bases: &Texts<'_>) -> bool
+    ensures { result ≡ are_matched dirs.now indexes.now bases.now }
+{
+    bases.count() == indexes.count() && are_below(indexes, dirs.count())
+}
+
+fn files_of<'a>(dirs: Texts<'a>, indexes: Numbers<'a>, bases: Texts<'a>) -> Option<Files<'a>>
+    ensures { result ≡ filenames (Some dirs.entry) (Some indexes.entry) (Some bases.entry) }
+{
+    if are_matched(&dirs, &indexes, &bases) {
+        Some(Files {
+            dirs,
+            indexes,
+            bases,
+        })
+    } else {
+        None
+    }
+}
+
+/// The paths of a package's files; None where one of the three tags is missing or of another class,
+/// a file has no index, or an index no directory. Reads each index once.
+pub fn files_in<'a>(view: &View<'a>) -> Option<Files<'a>>
+    ensures { result ≡ filenames (texts_in view.now 1118) (numbers_in view.now 1116)
+        (texts_in view.now 1117) }
+{
+    let dirs = texts_in(view, DIRNAMES)?;
+    let indexes = numbers_in(view, DIRINDEXES)?;
+    let bases = texts_in(view, BASENAMES)?;
+    files_of(dirs, indexes, bases)
+}

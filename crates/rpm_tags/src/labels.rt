@@ -1,0 +1,117 @@
+//! The texts that are made of a package's name, epoch, version, release and architecture.
+
+ghost use Rattle.std.specs.Prelude.{◌≡◌, ℕ, ◌+◌, ◌≤◌, ◌<◌, ◌++◌, length, None, IfSome};
+ghost use Rattle.std.specs.Option.{option_copied};
+ghost use Rattle.rpm_tags.specs.Value.{first_text, first_number, evr, label, epoch_parts, arch_parts, release_parts, name_parts};
+
+use crate::joined::Joined;
+use crate::stored::{first_number, first_text};
+use rpm_header::View;
+
+const NAME: u32 = 1000;
+
+const VERSION: u32 = 1001;
+
+const RELEASE: u32 = 1002;
+
+pub const EPOCH: u32 = 1003;
+
+const ARCH: u32 = 1022;
+
+fn push_name<'a>(joined: &mut Joined<'a>, name: &'a [u8])
+    requires room { length joined.old ≤ 7 }
+    requires short { length name.now ≤ 67108864 }
+    ensures { joined.new ≡ joined.old ++ name_parts name.now }
+{
+    joined.push(name);
+    joined.push(b"-");
+}
+
+fn push_epoch(joined: &mut Joined<'_>, epoch: Option<u64>)
+    requires { length joined.old ≤ 7 }
+    ensures value { joined.new ≡ joined.old ++ epoch_parts epoch }
+    ensures few { length joined.new ≤ length joined.old + 2 }
+{
+    if let Some(epoch) = epoch {
+        joined.push_number(epoch);
+        joined.push(b":");
+    }
+}
+
+fn push_release<'a>(joined: &mut Joined<'a>, version: &'a [u8], release: &'a [u8])
+    requires room { length joined.old ≤ 6 }
+    requires version { length version.now ≤ 67108864 }
+    requires release { length release.now ≤ 67108864 }
+    ensures value { joined.new ≡ joined.old ++ release_parts version.now release.now }
+    ensures few { length joined.new ≤ length joined.old + 3 }
+{
+    joined.push(version);
+    joined.push(b"-");
+    joined.push(release);
+}
+
+fn push_arch<'a>(joined: &mut Joined<'a>, arch: Option<&'a [u8]>)
+    requires room { length joined.old ≤ 7 }
+    requires short { IfSome arch (λ text. length text.now ≤ 67108864) }
+    ensures { joined.new ≡ joined.old ++ arch_parts (option_copied arch.entry) }
+{
+    if let Some(arch) = arch {
+        joined.push(b".");
+        joined.push(arch);
+    }
+}
+
+/// The name, the version and the release with what is between them and behind them; None where one
+/// of the three is not of class Text.
+fn label<'a>(view: &View<'a>, epoch: Option<u64>, arch: Option<&'a [u8]>) -> Option<Joined<'a>>
+    requires { IfSome arch (λ text. length text.now ≤ 67108864) }
+    ensures { result ≡ label (first_text view.now 1000) epoch (first_text view.now 1001)
+        (first_text view.now 1002) (option_copied arch.entry) }
+{
+    let name = first_text(view, NAME)?;
+    let version = first_text(view, VERSION)?;
+    let release = first_text(view, RELEASE)?;
+    let mut joined = Joined::empty();
+    push_name(&mut joined, name);
+    push_epoch(&mut joined, epoch);
+    push_release(&mut joined, version, release);
+    push_arch(&mut joined, arch);
+    Some(joined)
+}
+
+/// `N-V-R`.
+pub fn nvr<'a>(view: &View<'a>) -> Option<Joined<'a>>
+    ensures { result ≡ label (first_text view.now 1000) None (first_text view.now 1001)
+        (first_text view.now 1002) None }
+{
+    label(view, None, None)
+}
+
+/// `N-V-R.A`.
+pub fn nvra<'a>(view: &View<'a>) -> Option<Joined<'a>>
+    ensures { result ≡ label (first_text view.now 1000) None (first_text view.now 1001)
+        (first_text view.now 1002) (first_text view.now 1022) }
+{
+    label(view, None, first_text(view, ARCH))
+}
+
+/// `N-E:V-R.A`.
+pub fn nevra<'a>(view: &View<'a>) -> Option<Joined<'a>>
+    ensures { result ≡ label (first_text view.now 1000) (first_number view.now 1003)
+        (first_text view.now 1001) (first_text view.now 1002) (first_text view.now 1022) }
+{
+    label(view, first_number(view, EPOCH), first_text(view, ARCH))
+}
+
+/// `E:V-R`.
+pub fn evr<'a>(view: &View<'a>) -> Option<Joined<'a>>
+    ensures { result ≡ evr (first_number view.now 1003) (first_text view.now 1001)
+        (first_text view.now 1002) }
+{
+    let version = first_text(view, VERSION)?;
+    let release = first_text(view, RELEASE)?;
+    let mut joined = Joined::empty();
+    push_epoch(&mut joined, first_number(view, EPOCH));
+    push_release(&mut joined, version, release);
+    Some(joined)
+}

@@ -1,0 +1,29 @@
+//! What a tag says of a header: names of tags, the values of stored and computed tags, and the keys
+//! by which packages are found.
+//!
+//! The names, their numbers and what each tag holds are rpm's. Nothing here takes memory, and no
+//! text is copied: a computed text is handed out in parts that are borrowed from the header.
+#![tactic(auto)]
+
+mod digits;
+mod dirs;
+mod files;
+mod joined;
+mod key_iter;
+mod kind;
+mod labels;
+mod stored;
+mod tag;
+#[cfg(test)]
+mod tests;
+mod texts;
+#[cfg(test)]
+mod value_tests;
+mod values;
+
+pub use joined::Joined;
+pub use key_iter::{KeyIter, keys};
+pub use kind::Kind;
+pub use tag::{Tag, name_of, tag_of};
+pub use texts::ValueTexts;
+pub use values::{Class, TagValue, value};

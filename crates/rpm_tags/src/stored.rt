@@ -1,0 +1,207 @@
+//! The elements of one entry, by their class.
+
+ghost use Rattle.std.specs.Prelude.{◌≡◌, ℕ, ◌<◌, ◌≤◌, length, Some, slice_get, nat_lt, All, IfSome};
+ghost use Rattle.std.specs.Iterator.{YieldsFirstRef, item_count};
+ghost use Rattle.std.specs.List.{list_all};
+ghost use Rattle.std.specs.Option.{option_map, option_copied};
+ghost use Rattle.rpm_tags.specs.Value.{elements, stored, texts_in, numbers_in, first_text, first_number};
+ghost use Rattle.rpm_tags.specs.Source.{stored_elements};
+
+use rpm_header::{Entry, EntryTexts, Form, View};
+use std::marker::Model;
+
+/// The numbers of an entry, unsigned. Contracts see it as the list of them.
+#[derive(Drop)]
+pub struct Numbers<'a> {
+    entry: Entry<'a>,
+}
+
+impl<'a> Model for Numbers<'a> {
+    ghost use Rattle.std.specs.Prelude.{List, ℕ};
+    ghost use Rattle.rpm_header.specs.Header.{numbers_of};
+    ghost use Rattle.rpm_tags.specs.Rows.{HasNumbers};
+
+    ghost Value = { List ℕ };
+
+    ghost view = { λ s. numbers_of s.entry.values };
+
+    ghost invariant = { λ s. HasNumbers s.entry };
+}
+
+impl<'a> Numbers<'a> {
+    pub fn count(&self) -> u32
+        ensures value { result ≡ length self.now }
+        ensures some { 0 < result }
+    {
+        self.entry.count()
+    }
+
+    /// The number at place i.
+    pub fn number(&self, i: u32) -> u64
+        requires { i < length self.now }
+        ensures { slice_get self.now i ≡ Some result }
+    {
+        let _ = self.entry.count();
+        self.entry.number(i)
+    }
+}
+
+/// The texts of an entry that count. Contracts see it as the list of them.
+#[derive(Drop)]
+pub struct Texts<'a> {
+    entry: Entry<'a>,
+    // All of the entry's texts, but 1 of an I18n.
+    count: u32,
+}
+
+impl<'a> Model for Texts<'a> {
+    ghost use Rattle.std.specs.Prelude.{List, ℕ, take};
+    ghost use Rattle.rpm_header.specs.Header.{texts_of};
+    ghost use Rattle.rpm_tags.specs.Rows.{HasTexts};
+
+    ghost Value = { List (List ℕ) };
+
+    ghost view = { λ s. take s.count (texts_of s.entry.values) };
+
+    ghost invariant = { λ s. HasTexts s.count s.entry };
+}
+
+impl<'a> Texts<'a> {
+    pub fn count(&self) -> u32
+        ensures value { result ≡ length self.now }
+        ensures some { 0 < result }
+    {
+        self.count
+    }
+
+    /// The text at place i. Reads the bytes of all texts up to its end.
+    pub fn text(&self, i: u32) -> &'a [u8]
+        requires { i < length self.now }
+        ensures value { slice_get self.now i ≡ Some result.now }
+        ensures short { length result.now ≤ 67108864 }
+    {
+        let _ = self.entry.count();
+        self.entry.text(i)
+    }
+
+    /// All texts in order. Going through them reads each byte once.
+    pub fn iter(&self) -> TextIter<'a>
+        ensures value { result ≡ self.now }
+        ensures short { All (λ text. length text ≤ 67108864) self.now }
+    {
+        let _ = self.entry.count();
+        TextIter {
+            texts: self.entry.texts(),
+            left: self.count,
+        }
+    }
+}
+
+/// The texts that are left.
+#[derive(Drop)]
+pub struct TextIter<'a> {
+    texts: EntryTexts<'a>,
+    left: u32,
+}
+
+impl<'a> Model for TextIter<'a> {
+    ghost use Rattle.std.specs.Prelude.{List, ℕ, ◌≤◌, take, length, All};
+
+    ghost Value = { List (List ℕ) };
+
+    ghost view = { λ s. take s.left s.texts };
+
+    ghost invariant = { λ s. s.left ≤ length s.texts };
+}
+
+impl<'a> Iterator for TextIter<'a> {
+    type Item = &'a [u8];
+
+    ghost next_gives = { YieldsFirstRef (λ s. s) };
+
+    ghost remaining = { item_count (λ s. s) };
+
+    fn next(&mut self) -> Option<&'a [u8]> {
+        if self.left == 0 {
+            return None;
+        }
+        self.left -= 1;
+        self.texts.next()
+    }
+}
+
+/// The elements of an entry of a header.
+#[derive(Drop)]
+pub enum Stored<'a> {
+    Numbers(Numbers<'a>),
+    Texts(Texts<'a>),
+    Blob(&'a [u8]),
+}
+
+/// The elements of an entry, by its form; None of a `Null`.
+fn elements(entry: Entry<'_>) -> Option<Stored<'_>>
+    ensures { option_map stored_elements result ≡ elements entry.entry }
+{
+    let count = entry.count();
+    match entry.form() {
+        Form::Null => None,
+        Form::Bin => Some(Stored::Blob(entry.bytes())),
+        Form::Text | Form::Texts => Some(Stored::Texts(Texts { entry, count })),
+        Form::I18n => Some(Stored::Texts(Texts { entry, count: 1 })),
+        _ => Some(Stored::Numbers(Numbers { entry })),
+    }
+}
+
+/// The elements of a tag's last entry; None where it has none or is a `Null`.
+#[tactic(auto, unfolding(crate::specs::Value::stored))]
+pub fn find_stored<'a>(view: &View<'a>, tag: u32) -> Option<Stored<'a>>
+    ensures { option_map stored_elements result ≡ stored view.now tag }
+{
+    match view.find(tag) {
+        None => None,
+        Some(entry) => elements(entry),
+    }
+}
+
+/// The texts of a tag, where it is of class Text.
+#[tactic(auto, unfolding(crate::specs::Value::texts_in))]
+pub fn texts_in<'a>(view: &View<'a>, tag: u32) -> Option<Texts<'a>>
+    ensures { result ≡ texts_in view.now tag }
+{
+    match find_stored(view, tag) {
+        Some(Stored::Texts(texts)) => Some(texts),
+        _ => None,
+    }
+}
+
+/// The numbers of a tag, where it is of class Number.
+#[tactic(auto, unfolding(crate::specs::Value::numbers_in))]
+pub fn numbers_in<'a>(view: &View<'a>, tag: u32) -> Option<Numbers<'a>>
+    ensures { result ≡ numbers_in view.now tag }
+{
+    match find_stored(view, tag) {
+        Some(Stored::Numbers(numbers)) => Some(numbers),
+        _ => None,
+    }
+}
+
+/// The first text of a tag, where it is of class Text.
+#[tactic(auto, unfolding(crate::specs::Value::first_text))]
+pub fn first_text<'a>(view: &View<'a>, tag: u32) -> Option<&'a [u8]>
+    ensures value { option_copied result ≡ first_text view.now tag }
+    ensures short { IfSome result (λ text. length text.now ≤ 67108864) }
+{
+    let texts = texts_in(view, tag)?;
+    let _ = texts.count();
+    Some(texts.text(0))
+}
+
+/// The first number of a tag, where it is of class Number.
+#[tactic(auto, unfolding(crate::specs::Value::first_number))]
+pub fn first_number(view: &View<'_>, tag: u32) -> Option<u64>
+    ensures { result ≡ first_number view.now tag }
+{
+    let numbers = numbers_in(view, tag)?;
+    let _ = numbers.count();
+    Some(numbers.number(0))
+}

@@ -1,0 +1,201 @@
+//! The value of a tag in a header.
+
+ghost use Rattle.std.specs.Prelude.{◌≡◌, ℕ, ◌<◌, ◌∷◌, [], Some, slice_get};
+ghost use Rattle.std.specs.List.{concat};
+ghost use Rattle.rpm_tags.specs.Value.{value, class_of, count_of, number_list, text_list, blob_of, as_text, stored, if_some_texts, NumberList};
+
+use crate::files::{Files, files_in};
+use crate::joined::Joined;
+use crate::labels::{EPOCH, evr, nevra, nvr, nvra};
+use crate::stored::{Stored, find_stored, first_number};
+use crate::tag::Tag;
+use crate::texts::ValueTexts;
+use rpm_header::View;
+use std::marker::Model;
+
+/// What the elements of a value are.
+#[derive(Clone, Copy, Debug, PartialEq, Eq)]
+pub enum Class {
+    /// Numbers, unsigned.
+    Number,
+    /// Texts, without their zero bytes.
+    Text,
+    /// Bytes, which are one element.
+    Blob,
+}
+
+#[derive(Drop)]
+enum Source<'a> {
+    Stored(Stored<'a>),
+    Joined(Joined<'a>),
+    Files(Files<'a>),
+    Number(u64),
+}
+
+/// The value of a tag in a header: elements of one class, at least one, that are borrowed from the
+/// header. Contracts see it as the list of the elements.
+#[derive(Drop)]
+pub struct TagValue<'a> {
+    source: Source<'a>,
+}
+
+impl<'a> Model for TagValue<'a> {
+    ghost use Rattle.rpm_tags.specs.Value.{Elements};
+    ghost use Rattle.rpm_tags.specs.Shown.{shown};
+
+    ghost Value = { Elements };
+
+    ghost view = { λ s. shown s.source };
+}
+
+impl<'a> TagValue<'a> {
+    /// What its elements are.
+    pub fn class(&self) -> Class
+        ensures { result ≡ class_of self.now }
+    {
+        match &self.source {
+            Source::Stored(Stored::Numbers(_)) | Source::Number(_) => Class::Number,
+            Source::Stored(Stored::Texts(_)) | Source::Joined(_) | Source::Files(_) => Class::Text,
+            Source::Stored(Stored::Blob(_)) => Class::Blob,
+        }
+    }
+
+    /// The number of elements, at least 1. A blob is one.
+    pub fn count(&self) -> u32
+        ensures value { result ≡ count_of self.now }
+        ensures some { 0 < result }
+    {
+        match &self.source {
+            Source::Stored(Stored::Numbers(numbers)) => numbers.count(),
+            Source::Stored(Stored::Texts(texts)) => texts.count(),
+            Source::Files(files) => files.count(),
+            _ => 1,
+        }
+    }
+
+    /// The number at place i, unsigned. Reads the bytes of this number alone.
+    pub fn number(&self, i: u32) -> u64
+        requires class { class_of self.now ≡ Class.Number }
+        requires below { i < count_of self.now }
+        ensures { slice_get (number_list self.now) i ≡ Some result }
+    {
+        match &self.source {
+            Source::Stored(Stored::Numbers(numbers)) => numbers.number(i),
+            Source::Number(number) => *number,
+            _ => unreachable!(),
+        }
+    }
+
+    /// The text at place i, whose parts joined are the text. Reads the bytes of all texts up to its
+    /// end, for FILENAMES those of the names and of the directories up to its own, so that a loop
+    /// over places reads the first texts again and again: go over `texts` there.
+    pub fn text(&self, i: u32) -> Joined<'a>
+        requires class { class_of self.now ≡ Class.Text }
+        requires below { i < count_of self.now }
+        ensures { slice_get (text_list self.now) i ≡ Some (concat result) }
+    {
+        match &self.source {
+            Source::Stored(Stored::Texts(texts)) => Joined::one(texts.text(i)),
+            Source::Joined(joined) => joined.same(),
+            Source::Files(files) => files.path(i),
+            _ => unreachable!(),
+        }
+    }
+
+    /// All texts in order, each as `text` gives it. Going through them reads each byte of a stored
+    /// text once. Of FILENAMES it reads each name once, and each directory once where files ask for
+    /// new directories in order and for earlier ones not long after: the furthest one and 64 others
+    /// are kept, for 1.5 KiB. A directory that is neither is read from the first one on, so that a
+    /// hostile header costs the product of its files and the bytes of its directories.
+    pub fn texts(&self) -> ValueTexts<'_, 'a>
+        requires { class_of self.now ≡ Class.Text }
+        ensures { result ≡ text_list self.now }
+    {
+        if let Source::Files(files) = &self.source {
+            return ValueTexts::files(files.iter());
+        }
+        match &self.source {
+            Source::Stored(Stored::Texts(texts)) => ValueTexts::stored(texts.iter()),
+            Source::Joined(joined) => ValueTexts::joined(joined.same()),
+            _ => unreachable!(),
+        }
+    }
+
+    /// The bytes of a blob, borrowed from the header. Reads none of them.
+    pub fn blob(&self) -> &'a [u8]
+        requires { class_of self.now ≡ Class.Blob }
+        ensures { result.now ≡ blob_of self.now }
+    {
+        match &self.source {
+            Source::Stored(Stored::Blob(bytes)) => bytes,
+            _ => unreachable!(),
+        }
+    }
+}
+
+fn joined_value(joined: Option<Joined<'_>>) -> Option<TagValue<'_>>
+    ensures { result ≡ as_text joined.entry }
+{
+    match joined {
+        None => None,
+        Some(joined) => Some(TagValue {
+            source: Source::Joined(joined),
+        }),
+    }
+}
+
+fn stored_value<'a>(view: &View<'a>, tag: u32) -> Option<TagValue<'a>>
+    ensures { result ≡ stored view.now tag }
+{
+    match find_stored(view, tag) {
+        None => None,
+        Some(elements) => Some(TagValue {
+            source: Source::Stored(elements),
+        }),
+    }
+}
+
+fn files_value(files: Option<Files<'_>>) -> Option<TagValue<'_>>
+    ensures { result ≡ if_some_texts files.entry }
+{
+    match files {
+        None => None,
+        Some(files) => Some(TagValue {
+            source: Source::Files(files),
+        }),
+    }
+}
+
+fn number_value<'a>(number: u64) -> Option<TagValue<'a>>
+    ensures { result ≡ Some (NumberList (number ∷ [])) }
+{
+    Some(TagValue {
+        source: Source::Number(number),
+    })
+}
+
+/// The value of a tag in a header; None where it is missing. Of several entries of a stored tag the
+/// last counts, and an entry of the form `Null` is none; of an `I18n` the first text alone counts;
+/// a `Bin` is one blob. `number` is what `Dbinstance` gives: the number of the package.
+///
+/// A computed tag is present where what it is made of is: the texts need their names, versions and
+/// releases to be of class Text, EPOCHNUM and DBINSTANCE always are, and FILENAMES needs DIRNAMES,
+/// DIRINDEXES and BASENAMES of their classes, an index for each name and a directory for each
+/// index. An epoch counts where it is of class Number, an architecture where it is of class Text.
+///
+/// At most five look-ups in the header, each of which goes over its index; FILENAMES reads each
+/// index of a directory once. No text is copied.
+pub fn value<'a>(view: &View<'a>, number: u32, tag: Tag) -> Option<TagValue<'a>>
+    ensures { result ≡ value view.now number tag }
+{
+    match tag {
+        Tag::Stored(tag) => stored_value(view, tag),
+        Tag::Nvr => joined_value(nvr(view)),
+        Tag::Nvra => joined_value(nvra(view)),
+        Tag::Evr => joined_value(evr(view)),
+        Tag::Nevra => joined_value(nevra(view)),
+        Tag::Epochnum => number_value(first_number(view, EPOCH).unwrap_or(0)),
+        Tag::Filenames => files_value(files_in(view)),
+        Tag::Dbinstance => number_value(number as u64),
+    }
+}
