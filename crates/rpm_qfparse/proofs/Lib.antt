@@ -1,0 +1,10 @@
+pub mod Drafts
+pub mod Exits
+mod Fixtures
+pub mod Law
+pub mod Proper
+pub mod Rows
+pub mod Shrinks
+pub mod Top
+pub mod Unique
+pub mod Widths
