@@ -1,0 +1,13 @@
+pub mod Putting
+pub mod Steps
+pub mod Ahead
+pub mod Counts
+mod Fixtures
+pub mod Flushing
+pub mod Walked
+pub mod Moments
+pub mod Calendar
+pub mod Lists
+pub mod Glyphs
+pub mod Encodings
+pub mod NotNumbers

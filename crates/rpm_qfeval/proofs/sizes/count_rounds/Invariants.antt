@@ -1,0 +1,8 @@
+use Rattle.std.proofs.Common.{◌≡◌, drop}
+use Rattle.std.specs.Prelude.{slice_get, filter_map}
+use Rattle.rpm_qfparse.specs.Shape.{parts_of}
+use Rattle.rpm_qfeval.specs.Meaning.{direct, counts}
+use Rattle.rpm_qfeval.proofs.sizes.count_rounds.Given as goal
+
+abbrev pub invariant-loop-i : goal.invariant-loop-i
+invariant-loop-i l = slice_get (filter_map (direct l.view l.number) (drop l.i (parts_of l.inner))) 0 ≡ slice_get (counts l.view l.number l.inner) 0

@@ -1,0 +1,38 @@
+use Rattle.std.proofs.Common.{arith, length, ◌≤◌, refl, sym, ◌∙◌}
+use Rattle.rpm_qfparse.specs.Shape.{parts_of}
+use Rattle.rpm_qfeval.specs.Meaning.{bytes}
+use Rattle.rpm_qfeval.proofs.Walked.{bytes_start, bytes_here, bytes_end, round_start, round_here, round_end}
+use Rattle.rpm_qfeval.proofs.Putting.{upto_start, upto_more, upto_stop, upto_done}
+use Rattle.rpm_qfeval.proofs.writing.+writing.Goals as goal
+
+pub put_parts-loop-i-init : goal.put_parts-loop-i-init
+put_parts-loop-i-init g t c = (refl, upto_start (sym (bytes_start c.args.view.now c.args.number c.args.round c.args.parts.now)))
+
+pub put_parts-loop-i-preserved : goal.put_parts-loop-i-preserved
+put_parts-loop-i-preserved g t c =
+    (c.in_ok-put_part.ensures.same ∙ c.loop-i.invariant.0, upto_more (bytes_here c.args.view.now c.args.number c.args.round c.loop-i.i c.args.parts.now c.at.result.now c.at.ensures.value) c.loop-i.invariant.1 c.in_ok-put_part.ensures.puts)
+
+pub put_parts-returns-in_err-put_part : goal.put_parts-returns-in_err-put_part
+put_parts-returns-in_err-put_part g t c = record {
+  puts = upto_stop _ c.from_residual.result c.from_residual.ensures.0 (bytes_here c.args.view.now c.args.number c.args.round c.loop-i.i c.args.parts.now c.at.result.now c.at.ensures.value) c.loop-i.invariant.1 c.in_err-put_part.ensures.puts;
+  same = c.in_err-put_part.ensures.same ∙ c.loop-i.invariant.0;
+}
+
+pub put_parts-returns : goal.put_parts-returns
+put_parts-returns g t c =
+    let le : length (parts_of c.args.parts.now) ≤ c.loop-i.i = omega arith in
+    record { puts = upto_done {all = bytes c.args.view.now c.args.number c.args.round c.args.parts.now} (bytes_end c.args.view.now c.args.number c.args.round c.loop-i.i c.args.parts.now le) c.loop-i.invariant.1; same = c.loop-i.invariant.0 }
+
+pub put_rounds-loop-round-init : goal.put_rounds-loop-round-init
+put_rounds-loop-round-init g t c = (refl, upto_start (sym (round_start (λ i. bytes c.args.view.now c.args.number i c.args.inner.now) c.args.count)))
+
+pub put_rounds-loop-round-preserved : goal.put_rounds-loop-round-preserved
+put_rounds-loop-round-preserved g t c =
+    (c.in_ok-put_parts.ensures.same ∙ c.loop-round.invariant.0, upto_more (round_here (λ i. bytes c.args.view.now c.args.number i c.args.inner.now) c.args.count c.loop-round.round c.loop-round-test.true) c.loop-round.invariant.1 c.in_ok-put_parts.ensures.puts)
+
+pub put_rounds-returns-in_err-put_parts : goal.put_rounds-returns-in_err-put_parts
+put_rounds-returns-in_err-put_parts g t c =
+    upto_stop _ c.from_residual.result c.from_residual.ensures.0 (round_here (λ i. bytes c.args.view.now c.args.number i c.args.inner.now) c.args.count c.loop-round.round c.loop-round-test.true) c.loop-round.invariant.1 c.in_err-put_parts.ensures.puts
+
+pub put_rounds-returns : goal.put_rounds-returns
+put_rounds-returns g t c = upto_done (round_end (λ i. bytes c.args.view.now c.args.number i c.args.inner.now) c.args.count c.loop-round.round c.loop-round-test.false) c.loop-round.invariant.1

@@ -1,0 +1,10 @@
+pub mod Columns
+pub mod Dates
+pub mod Formatters
+pub mod Meaning
+pub mod Numbers
+pub mod Padded
+pub mod Pieces
+pub mod Printed
+pub mod Puts
+pub mod Texts

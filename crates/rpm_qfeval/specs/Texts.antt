@@ -1,0 +1,27 @@
+-- What the formatters of texts and blobs show.
+use Rattle.std.specs.Prelude.{ℕ, ◌==◌, List, [], ◌∷◌, ◌++◌, codes, map, if◌then◌else◌}
+use Rattle.std.specs.List.{concat}
+use Rattle.hex.specs.Hex.{encode_lower}
+use Rattle.base64.specs.GeneralPurpose.{encode_of}
+use Rattle.base64.specs.Engines.{standard}
+
+-- for a shell: a quote ends the quoted text, stands behind a backslash, and the text goes on
+abbrev pub escaped : ℕ → List ℕ
+escaped byte = if byte == 39 then codes "'\\''" else byte ∷ []
+
+abbrev pub escaped_text : List ℕ → List ℕ
+escaped_text text = concat (map escaped text)
+
+abbrev pub in_quotes : List ℕ → List ℕ
+in_quotes text = codes "'" ++ text ++ codes "'"
+
+abbrev pub quoted : List ℕ → List ℕ
+quoted text = in_quotes (escaped_text text)
+
+-- a byte in two digits, with small letters
+abbrev pub hex_text : List ℕ → List ℕ
+hex_text bytes = encode_lower bytes
+
+-- by the standard alphabet, with padding
+abbrev pub base64_text : List ℕ → List ℕ
+base64_text bytes = encode_of standard bytes

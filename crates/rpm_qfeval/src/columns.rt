@@ -1,0 +1,212 @@
+//! The values of the tags of a bracket, which are looked up once.
+
+ghost use Rattle.std.specs.Prelude.{◌≡◌, ℕ, IfSome};
+ghost use Rattle.std.specs.Option.{option_map};
+ghost use Rattle.rpm_header.specs.Header.{Header};
+ghost use Rattle.rpm_tags.specs.Value.{value, count_of};
+ghost use Rattle.rpm_qfeval.specs.Columns.{AreTold};
+ghost use Rattle.rpm_qfeval.specs.Puts.{Puts};
+ghost use Rattle.rpm_qfeval.specs.Meaning.{text_or_none};
+ghost use Rattle.rpm_qfeval.specs.Padded.{padded};
+
+use crate::buffer::Buffer;
+use crate::cursor::Cursor;
+use crate::elements::{put_none, put_value};
+use arrayvec::ArrayVec;
+use rpm_header::View;
+use rpm_outside::{Failed, Sink};
+use rpm_qfparse::{Part, Parts, Role, TagPart};
+use rpm_tags::{Class, Tag, TagValue, value};
+use std::marker::Model;
+
+/// Of how many tags of a bracket the values are looked up once.
+pub const MOST: usize = 16;
+
+/// What a bracket asks for: the elements of a tag in turn, or the first one in each round.
+#[derive(Clone, Copy, PartialEq, Eq)]
+pub struct Asked {
+    pub tag: Tag,
+    pub first: bool,
+}
+
+/// What is asked for, and its value.
+#[derive(Drop)]
+pub struct Found<'a> {
+    pub asked: Asked,
+    pub value: Option<TagValue<'a>>,
+}
+
+/// What is asked for with its value, and of a value of texts how far it was read. Contracts see it
+/// without that.
+#[derive(Drop)]
+pub struct Column<'v, 'a> {
+    found: &'v Found<'a>,
+    cursor: Option<Cursor<'v, 'a>>,
+}
+
+impl<'v, 'a> Model for Column<'v, 'a> {
+    ghost use Rattle.rpm_qfeval.specs.declared.columns.Found.{Found};
+    ghost use Rattle.rpm_qfeval.specs.Columns.{IsColumn};
+
+    ghost Value = { Found };
+
+    ghost view = { λ s. s.found.now };
+
+    ghost invariant = { λ s. IsColumn s.found.now s.cursor };
+}
+
+impl<'v, 'a> Column<'v, 'a> {
+    /// The column of a value, at its first text.
+    pub fn new(found: &'v Found<'a>) -> Column<'v, 'a>
+        ensures { result ≡ found.now }
+    {
+        let cursor = match &found.value {
+            None => None,
+            Some(value) => {
+                if value.class() == Class::Text {
+                    Some(Cursor::new(value))
+                } else {
+                    None
+                }
+            }
+        };
+        Column { found, cursor }
+    }
+
+    /// What is asked for.
+    pub fn asked(&self) -> Asked
+        ensures { result ≡ self.now.asked }
+    {
+        self.found.asked
+    }
+
+    /// How many elements the value has.
+    pub fn count(&self) -> Option<u32>
+        ensures { result ≡ option_map count_of self.now.value }
+    {
+        match &self.found.value {
+            None => None,
+            Some(value) => Some(value.count()),
+        }
+    }
+
+    /// Puts the value by the role of a tag, in a round.
+    pub fn put<O: Sink>(
+        &mut self,
+        buffer: &mut Buffer,
+        sink: &mut O,
+        part: &TagPart,
+        round: u32,
+    ) -> Result<(), Failed>
+        ensures puts { Puts O.tells O.taken O.faults buffer.old sink.old (padded part.now.left part.now.width (text_or_none part.now.role part.now.show round self.old.value)) buffer.new sink.new result }
+        ensures same { self.new ≡ self.old }
+    {
+        if let Some(cursor) = &mut self.cursor {
+            match part.role {
+                Role::Element => return cursor.put(buffer, sink, part, round),
+                Role::First => return cursor.put(buffer, sink, part, 0),
+                Role::Count => {}
+            }
+        }
+        match &self.found.value {
+            None => put_none(buffer, sink, part),
+            Some(value) => put_value(buffer, sink, part, value, round),
+        }
+    }
+}
+
+impl Asked {
+    /// What a tag of a format asks for.
+    pub fn by(part: &TagPart) -> Asked
+        ensures { result.tag ≡ part.now.tag }
+    {
+        Asked {
+            tag: part.tag,
+            first: part.role == Role::First,
+        }
+    }
+
+    /// What a condition asks for.
+    pub fn of(tag: Tag) -> Asked
+        ensures { result.tag ≡ tag }
+    {
+        Asked { tag, first: false }
+    }
+}
+
+type AllAsked = ArrayVec<Option<Asked>, MOST>;
+
+/// Adds what a part asks for.
+#[cycle(naming)]
+fn add_asked_by(all: &mut AllAsked, part: &Part) {
+    match part {
+        Part::Text(_) | Part::Bracket(_) => {}
+        Part::Tag(part) => add_asked(all, Asked::by(part)),
+        Part::Condition(tag, first, second) => {
+            add_asked(all, Asked::of(*tag));
+            add_all_asked(all, first);
+            add_all_asked(all, second);
+        }
+    }
+}
+
+/// Adds what parts ask for.
+#[cycle(naming)]
+fn add_all_asked(all: &mut AllAsked, parts: &Parts) {
+    for i in 0..parts.len() {
+        add_asked_by(all, parts.at(i));
+    }
+}
+
+/// Adds what isn't there, where there is room.
+fn add_asked(all: &mut AllAsked, asked: Asked) {
+    if !all.is_full() && !all.as_slice().contains(&Some(asked)) {
+        all.push(Some(asked));
+    }
+}
+
+/// What the parts of a bracket ask for, each once, as much as there is room for.
+pub fn asked_in(inner: &Parts) -> AllAsked {
+    let mut all = ArrayVec::new();
+    add_all_asked(&mut all, inner);
+    all
+}
+
+/// Adds the values of what is asked for, as far as there is room.
+pub fn look_up<'a, const N: usize>(
+    found: &mut ArrayVec<Option<Found<'a>>, N>,
+    all: &[Option<Asked>],
+    view: &View<'a>,
+    number: u32,
+)
+    requires { AreTold view.now number found.old.items }
+    ensures { AreTold view.now number found.new.items }
+{
+    for asked in all {
+        if let Some(asked) = asked {
+            if !found.is_full() {
+                let value = value(view, number, asked.tag);
+                found.push(Some(Found {
+                    asked: *asked,
+                    value,
+                }));
+            }
+        }
+    }
+}
+
+/// Adds the columns of values, as far as there is room.
+pub fn add_columns<'v, 'a, const N: usize>(
+    columns: &mut ArrayVec<Option<Column<'v, 'a>>, N>,
+    found: &'v [Option<Found<'a>>],
+)
+    ensures { (h : Header) (number : ℕ) → AreTold h number columns.old.items → AreTold h number found.now → AreTold h number columns.new.items }
+{
+    for found in found {
+        if let Some(found) = found {
+            if !columns.is_full() {
+                columns.push(Some(Column::new(found)));
+            }
+        }
+    }
+}

@@ -1,0 +1,88 @@
+//! The texts of a value, for rounds that go from one to the next.
+
+ghost use Rattle.std.specs.Prelude.{◌≡◌, Some};
+ghost use Rattle.rpm_tags.specs.Value.{class_of};
+ghost use Rattle.rpm_tags.specs.declared.values.Class.TheVariants as Class;
+ghost use Rattle.rpm_qfeval.specs.Puts.{Puts};
+ghost use Rattle.rpm_qfeval.specs.Formatters.{shown, or_none};
+ghost use Rattle.rpm_qfeval.specs.Padded.{padded};
+
+use crate::buffer::Buffer;
+use crate::elements::{put_element, put_text};
+use rpm_outside::{Failed, Sink};
+use rpm_qfparse::TagPart;
+use rpm_tags::{Class, Joined, TagValue, ValueTexts};
+use std::marker::Model;
+
+/// A value of texts, with a place among them up to which they were read. Contracts see it as the
+/// value alone.
+#[derive(Drop)]
+pub struct Cursor<'v, 'a> {
+    value: &'v TagValue<'a>,
+    // The text at the place, and those behind it.
+    present: Option<Joined<'a>>,
+    texts: ValueTexts<'v, 'a>,
+    place: u32,
+}
+
+impl<'v, 'a> Model for Cursor<'v, 'a> {
+    ghost use Rattle.rpm_tags.specs.Value.{Elements};
+    ghost use Rattle.rpm_qfeval.specs.Columns.{IsAt};
+
+    ghost Value = { Elements };
+
+    ghost view = { λ s. s.value.now };
+
+    ghost invariant = { λ s. IsAt s.value.now s.present s.texts s.place };
+}
+
+impl<'v, 'a> Cursor<'v, 'a> {
+    /// Reads the first text.
+    pub fn new(value: &'v TagValue<'a>) -> Cursor<'v, 'a>
+        requires { class_of value.now ≡ Class.Text }
+        ensures { result ≡ value.now }
+    {
+        let mut texts = value.texts();
+        let present = texts.next();
+        Cursor {
+            value,
+            present,
+            texts,
+            place: 0,
+        }
+    }
+
+    /// Reads the texts up to a place.
+    fn go_to(&mut self, place: u32)
+        ensures { self.new ≡ self.old }
+    {
+        while self.place < place {
+            self.present = self.texts.next();
+            self.place += 1;
+        }
+    }
+
+    /// Puts the text at a place. Over places that rise each text is read once.
+    pub fn put<O: Sink>(
+        &mut self,
+        buffer: &mut Buffer,
+        sink: &mut O,
+        part: &TagPart,
+        place: u32,
+    ) -> Result<(), Failed>
+        ensures puts { Puts O.tells O.taken O.faults buffer.old sink.old (padded part.now.left part.now.width (or_none (shown part.now.show self.old place))) buffer.new sink.new result }
+        ensures same { self.new ≡ self.old }
+    {
+        self.go_to(place);
+        if self.place != place {
+            return put_element(buffer, sink, part, self.value, place);
+        }
+        match &self.present {
+            None => put_element(buffer, sink, part, self.value, place),
+            Some(text) => {
+                let count = self.value.count();
+                put_text(buffer, sink, part, count, text)
+            }
+        }
+    }
+}

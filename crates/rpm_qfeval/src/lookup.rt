@@ -1,0 +1,87 @@
+//! Tags are asked for, in a bracket from the columns of its tags.
+
+ghost use Rattle.std.specs.Prelude.{◌≡◌, ◌<◌, length, IfSome};
+ghost use Rattle.std.specs.Option.{option_map};
+ghost use Rattle.rpm_tags.specs.Value.{value, count_of};
+ghost use Rattle.rpm_qfeval.specs.Columns.{AreTold, IsOf};
+ghost use Rattle.rpm_qfeval.specs.Puts.{Puts};
+ghost use Rattle.rpm_qfeval.specs.Meaning.{is_present, tag_text};
+
+use crate::buffer::Buffer;
+use crate::columns::{Asked, Column};
+use crate::elements::put_looked_up;
+use rpm_header::View;
+use rpm_outside::{Failed, Sink};
+use rpm_qfparse::TagPart;
+use rpm_tags::{Tag, value};
+
+/// Where the column of what is asked for is.
+fn place_of(columns: &[Option<Column<'_, '_>>], asked: Asked) -> Option<usize>
+    ensures within { IfSome result (λ k. k < length columns.now) }
+    ensures tag { IfSome result (λ k. IsOf columns.now k asked.tag) }
+{
+    for (k, column) in columns.iter().enumerate() {
+        if let Some(column) = column {
+            if column.asked() == asked {
+                return Some(k);
+            }
+        }
+    }
+    None
+}
+
+/// How many elements a tag has, where it is present.
+pub fn count(
+    columns: &[Option<Column<'_, '_>>],
+    view: &View<'_>,
+    number: u32,
+    tag: Tag,
+) -> Option<u32>
+    requires { AreTold view.now number columns.now }
+    ensures { result ≡ option_map count_of (value view.now number tag) }
+{
+    if let Some(k) = place_of(columns, Asked::of(tag)) {
+        if let Some(column) = &columns[k] {
+            return column.count();
+        }
+    }
+    match value(view, number, tag) {
+        None => None,
+        Some(found) => Some(found.count()),
+    }
+}
+
+/// Whether a tag is present.
+pub fn is_present(
+    columns: &[Option<Column<'_, '_>>],
+    view: &View<'_>,
+    number: u32,
+    tag: Tag,
+) -> bool
+    requires { AreTold view.now number columns.now }
+    ensures { result ≡ is_present view.now number tag }
+{
+    count(columns, view, number, tag).is_some()
+}
+
+/// Puts a tag in a round.
+pub fn put_tag<O: Sink>(
+    buffer: &mut Buffer,
+    sink: &mut O,
+    part: &TagPart,
+    view: &View<'_>,
+    number: u32,
+    columns: &mut [Option<Column<'_, '_>>],
+    round: u32,
+) -> Result<(), Failed>
+    requires { AreTold view.now number columns.old }
+    ensures puts { Puts O.tells O.taken O.faults buffer.old sink.old (tag_text view.now number round part.now) buffer.new sink.new result }
+    ensures same { columns.new ≡ columns.old }
+{
+    if let Some(k) = place_of(columns, Asked::by(part)) {
+        if let Some(column) = &mut columns[k] {
+            return column.put(buffer, sink, part, round);
+        }
+    }
+    put_looked_up(buffer, sink, part, view, number, round)
+}

@@ -1,0 +1,115 @@
+//! A format is printed.
+
+ghost use Rattle.std.specs.Prelude.{◌≡◌, [], Ok};
+ghost use Rattle.rpm_outside.specs.Sinks.{Writes};
+ghost use Rattle.rpm_qfeval.specs.Meaning.{bytes, meaning};
+ghost use Rattle.rpm_qfeval.specs.Printed.{Prints, ending, eval_ending};
+
+use crate::buffer::Buffer;
+use crate::sizes::sizes;
+use crate::writing::put_parts;
+use rpm_header::View;
+use rpm_outside::{Failed, Sink};
+use rpm_qfparse::{Format, Parts};
+use std::alloc::Global;
+
+/// Why a format wasn't printed, or not the whole of it, by a call that takes no memory.
+#[derive(Clone, Copy, Debug, PartialEq, Eq)]
+pub enum DirectFault {
+    /// The tags of a bracket have different numbers of elements: that of the first one that is
+    /// present, and the first later one that differs.
+    SizesDiffer { first: u32, second: u32 },
+    /// The sink failed.
+    OutFault,
+}
+
+/// Why a format wasn't printed, or not the whole of it.
+#[derive(Clone, Copy, Debug, PartialEq, Eq)]
+pub enum EvalFault {
+    /// As `DirectFault` says it.
+    SizesDiffer { first: u32, second: u32 },
+    /// The sink failed.
+    OutFault,
+    /// Memory was wanting. No call answers it so far, since none takes memory.
+    NoMemory,
+}
+
+/// Prints parts outside of brackets, through a buffer that is flushed at the end.
+fn print_parts<O: Sink>(
+    parts: &Parts,
+    view: &View<'_>,
+    number: u32,
+    sink: &mut O,
+) -> Result<(), Failed>
+    ensures { Writes O.tells O.taken O.faults sink.old sink.new (bytes view.now number 0 parts.now) result }
+{
+    let mut buffer = Buffer::new();
+    put_parts(&mut buffer, sink, parts, view, number, &mut [], 0)?;
+    buffer.flush(sink)
+}
+
+/// Prints what a format says of a header and of the number of its package. Takes no memory.
+///
+/// A tag prints its first element, in a bracket that of the present round, and `(none)` where there
+/// is none; behind `=` the first one in each round, and behind `#` how many there are. A width pads
+/// with spaces in front, or with `-` behind, and cuts nothing. A bracket is printed once for each
+/// element of the tags that stand in it, but for those behind `=` or `#` and those in conditions;
+/// where none of them is present it prints `(none)` and a newline. A condition prints its first
+/// branch where the header has the tag, else its second.
+///
+/// The rules are those of rpm's documentation of query formats; `docs/FORMATS.md` has them whole,
+/// with the choices that are own.
+///
+/// # Errors
+///
+/// `SizesDiffer` exactly where the tags of a bracket that would be printed have different numbers of
+/// elements, with those of the first such bracket; nothing is written then. `OutFault` where the sink
+/// failed. It then has the first of the bytes, or none.
+///
+/// Goes over the format once for the brackets and once to print. A bracket looks each of its tags
+/// up once, and goes through the texts of each once, so that n rounds of k tags cost n times k. That
+/// holds of the first 16 different tags in it, where those in conditions count too, and a tag behind
+/// `=` is one of its own. One behind these is looked up in each round, and its texts are read from the
+/// first on each time. A padded text is measured before it is put. The sink gets up to 4,096 bytes at a
+/// time, and a longer piece at once.
+pub fn print_direct<O: Sink>(
+    format: &Format,
+    view: &View<'_>,
+    number: u32,
+    sink: &mut O,
+) -> Result<(), DirectFault>
+    ensures { Prints O.tells O.taken O.faults (meaning view.now number format.now) sink.old sink.new (ending result) }
+{
+    if let Some((first, second)) = sizes(format.parts(), view, number) {
+        return Err(DirectFault::SizesDiffer { first, second });
+    }
+    match print_parts(format.parts(), view, number, sink) {
+        Ok(()) => Ok(()),
+        Err(Failed) => Err(DirectFault::OutFault),
+    }
+}
+
+/// Prints as `print_direct` does, with the same answers. Takes no memory either, though it is given
+/// an allocator.
+///
+/// # Errors
+///
+/// Those of `print_direct`. `NoMemory` is never answered.
+pub fn print<O: Sink>(
+    alloc: Global,
+    format: &Format,
+    view: &View<'_>,
+    number: u32,
+    sink: &mut O,
+) -> Result<(), EvalFault>
+    ensures { Prints O.tells O.taken O.faults (meaning view.now number format.now) sink.old sink.new (eval_ending result) }
+{
+    let _ = alloc;
+    match print_direct(format, view, number, sink) {
+        Ok(()) => Ok(()),
+        Err(DirectFault::SizesDiffer { first, second }) => {
+            Err(EvalFault::SizesDiffer { first, second })
+        }
+        Err(DirectFault::OutFault) => Err(EvalFault::OutFault),
+    }
+}
