@@ -110,6 +110,80 @@ fn the_first_broken_rule_is_told(rt: HostRuntime) -> Result<(), Fail> {
     Ok(())
 }
 
+#[test]
+fn of_two_broken_rules_one_is_told(rt: HostRuntime) -> Result<(), Fail> {
+    let cases: [(&[&str], WordsKind, u32); 16] = [
+        (&["rpm", "-z"], WordsKind::UnknownOption, 1),
+        (&["rpm", "-q", "-z"], WordsKind::UnknownOption, 2),
+        (
+            &["rpmdb", "--initdb", "a", "-z"],
+            WordsKind::UnknownOption,
+            3,
+        ),
+        (
+            &["rpm", "--erasepkg", "-l", "-z", "1"],
+            WordsKind::UnknownOption,
+            3,
+        ),
+        (
+            &["rpm", "-q", "--after=x", "-z", "a"],
+            WordsKind::BadNumber,
+            2,
+        ),
+        (
+            &["rpm", "-q", "--whatrequires", "a <", "-z"],
+            WordsKind::UnknownOption,
+            4,
+        ),
+        (&["rpm", "-a", "-f"], WordsKind::TwoModes, 2),
+        (
+            &["rpmdb", "--initdb", "--rebuilddb", "a"],
+            WordsKind::TwoModes,
+            2,
+        ),
+        (
+            &["rpm", "--erasepkg", "-l", "--addpkg", "1"],
+            WordsKind::TwoModes,
+            3,
+        ),
+        (
+            &["rpm", "-q", "--whatrequires", "a <", "-f"],
+            WordsKind::TwoModes,
+            4,
+        ),
+        (&["rpm", "--after", "x"], WordsKind::BadNumber, 2),
+        (
+            &["rpm", "--replacepkg", "1", "a", "b", "--dbpath"],
+            WordsKind::MissingArgument,
+            6,
+        ),
+        (
+            &["rpm", "-q", "--whatrequires", "a <", "--qf"],
+            WordsKind::MissingArgument,
+            5,
+        ),
+        (
+            &["rpm", "--replacepkg", "-l", "1", "a", "b"],
+            WordsKind::Misplaced,
+            2,
+        ),
+        (&["rpm", "--erasepkg", "-l", "x"], WordsKind::Misplaced, 2),
+        (
+            &["rpm", "-q", "--after", "x", "--whatrequires", "a <"],
+            WordsKind::BadNumber,
+            3,
+        ),
+    ];
+    for (texts, kind, word) in cases {
+        let words = line(rt.alloc(), texts)?;
+        match read(rt.alloc(), &words) {
+            Ok(_) => assert!(rt; false, "{texts:?}"),
+            Err(fault) => assert!(rt; fault == WordsFault { kind, word }, "{texts:?}: {fault:?}"),
+        }
+    }
+    Ok(())
+}
+
 #[derive(Clone, Copy)]
 struct Case<'a> {
     texts: &'a [&'a str],
