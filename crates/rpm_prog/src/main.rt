@@ -12,7 +12,7 @@ use real_disk::RealDisk;
 use real_shelf::RealShelf;
 use real_sink::RealSink;
 use rpm_tool::run;
-use rpm_tool::words::{Words, place_of};
+use rpm_words::{Words, place_of};
 use std::env;
 use std::process::ExitCode;
 use std::rt::{Clock, Env};

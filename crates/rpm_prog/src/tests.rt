@@ -2,8 +2,8 @@ use crate::real_disk::RealDisk;
 use crate::real_shelf::RealShelf;
 use crate::real_sink::RealSink;
 use rpm_outside::{Absent, Disk, Failed, File, MemSink, Shelf, Sink};
-use rpm_tool::words::Words;
 use rpm_tool::{Why, run};
+use rpm_words::Words;
 use std::fs;
 use std::test::Fail;
 

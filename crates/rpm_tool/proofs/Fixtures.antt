@@ -11,30 +11,19 @@ use Rattle.rpm_pkgdb.specs.Words.{word}
 use Rattle.rpm_pkgdb.specs.Slots.{slot_of}
 use Rattle.rpm_pkgdb.specs.Damages.{head_reason, own_reason, shared_reason}
 use Rattle.rpm_pkgdb.specs.Blobs.{frame_of, blob_in, is_head, is_tail}
-use Rattle.rpm_tool.specs.Label.{first_text, nvra, line_of}
 use Rattle.rpm_tool.specs.Installed.{Bad, package_of, read_as}
-use Rattle.rpm_tool.specs.Steps.{ToOut, bearer, step_of}
 
 -- the name a, the version 1, the release 2 and the architecture x; the first entry has this type
-small : ℕ → List ℕ
+unfoldable pub small : ℕ → List ℕ
 small kind =
     0 ∷ 0 ∷ 0 ∷ 4 ∷ 0 ∷ 0 ∷ 0 ∷ 8 ∷ 0 ∷ 0 ∷ 3 ∷ 232 ∷ 0 ∷ 0 ∷ 0 ∷ kind ∷ 0 ∷ 0 ∷ 0 ∷ 0 ∷ 0 ∷ 0 ∷ 0 ∷ 1 ∷ 0 ∷ 0 ∷ 3
     ∷ 233 ∷ 0 ∷ 0 ∷ 0 ∷ 6 ∷ 0 ∷ 0 ∷ 0 ∷ 2 ∷ 0 ∷ 0 ∷ 0 ∷ 1 ∷ 0 ∷ 0 ∷ 3 ∷ 234 ∷ 0 ∷ 0 ∷ 0 ∷ 6 ∷ 0 ∷ 0 ∷ 0 ∷ 4 ∷ 0 ∷ 0
     ∷ 0 ∷ 1 ∷ 0 ∷ 0 ∷ 3 ∷ 254 ∷ 0 ∷ 0 ∷ 0 ∷ 6 ∷ 0 ∷ 0 ∷ 0 ∷ 6 ∷ 0 ∷ 0 ∷ 0 ∷ 1 ∷ 97 ∷ 0 ∷ 49 ∷ 0 ∷ 50 ∷ 0 ∷ 120 ∷ 0
     ∷ []
 
-its_line : step_of 2 (read_as (header (small 6))) ≡ ToOut (bearer 2) (codes "a-1-2.x\n")
-unfolding small header header_of entries entry_of entry_fault fault_at number_at numbers texts are_ended first_text nvra line_of
-its_line = refl
-
--- a name that isn't a text counts for nothing
-no_name : step_of 2 (read_as (header (small 4))) ≡ ToOut (bearer 2) (codes "(none)\n")
-unfolding small header header_of entries entry_of entry_fault fault_at number_at numbers texts are_ended first_text nvra line_of
-no_name = refl
-
 -- there are no types above 9
 no_type : header (small 10) ≡ Err (BadType 0)
-unfolding small header header_of entries entry_of entry_fault fault_at number_at numbers texts are_ended first_text nvra line_of
+unfolding small header header_of entries entry_of entry_fault fault_at number_at numbers texts are_ended
 no_type = refl
 
 -- the numbers that stand behind a magic, the lowest byte first; none is above 65,535

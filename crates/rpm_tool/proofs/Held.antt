@@ -1,5 +1,5 @@
 -- The map of installed packages at a number, and by rising number.
-use Rattle.std.proofs.Common.{◌≡◌, ℕ, Bool, true, false, cond, List, [], ◌∷◌, map, Option, Some, None, is_some, refl, sym, ap, ◌∙◌}
+use Rattle.std.proofs.Common.{◌≡◌, ℕ, true, false, cond, List, [], ◌∷◌, map, Option, Some, None, is_some, refl, sym, ap, ◌∙◌, subst}
 use Rattle.std.specs.Option.{option_map}
 use Rattle.std.specs.Ordering.{nat_cmp, eq_by_cmp}
 use Rattle.std.specs.FinMap as finite
@@ -9,10 +9,7 @@ use Rattle.rpm_pkgdb.specs.Store.{Store}
 use Rattle.rpm_pkgdb.specs.Slots.{slot_with}
 use Rattle.rpm_pkgdb.specs.Blobs.{blobs}
 use Rattle.rpm_pkgdb.specs.BlobLaws.{is_some-get-blobs}
-use Rattle.std.specs.Prelude.{IfOk, Result, Ok, Err}
-use Rattle.rpm_tool.specs.declared.step.Stop.{Stop}
 use Rattle.rpm_tool.specs.Installed.{Package, package_of, installed}
-use Rattle.rpm_tool.specs.Steps.{step_of, step_to, bearer}
 
 -- a map whose values are changed one by one
 find-map : {X Y : Type 0} (f : X → Y) (q : ℕ) (es : List (ℕ × X)) → finite.find nat_cmp q (map (λ e. (e.0, f e.1)) es) ≡ option_map f (finite.find nat_cmp q es)
@@ -43,9 +40,7 @@ is_some-map f (Some x) = refl
 pub is_some-installed : (file : Units) (s : Store) (n : ℕ) → is_some (finite.get (installed file s) n) ≡ is_some (slot_with n s.slots)
 is_some-installed file s n = ap is_some (get-installed file s n) ∙ is_some-map package_of (finite.get (blobs file s) n) ∙ is_some-get-blobs file s n
 
--- a line that was made of what a blob says is the package's
-pub made_of : (told : Type 0) (file : Units) (s : Store) (n : ℕ) (blob : Option (List ℕ)) (q : Package) (r : Result Bool Stop) (line : List ℕ) → (told → finite.get (blobs file s) n ≡ Some blob) → q ≡ package_of blob
-    → IfOk r (λ to_out. step_of n q ≡ step_to to_out (bearer n) line)
-    → IfOk r (λ to_out. told → (p : Package) → finite.get (installed file s) n ≡ Some p → step_of n p ≡ step_to to_out (bearer n) line)
-made_of told file s n blob q (Ok to_out) line said is made = λ t p held. ap (step_of n) (package_is file s n blob p (said t) held ∙ sym is) ∙ made
-made_of told file s n blob q (Err stop) line said is made = tt
+-- what holds of the package that a blob says holds of the package of the number
+pub said_of : (told : Type 0) (file : Units) (s : Store) (n : ℕ) (blob : Option (List ℕ)) (Holds : Package → Type 0) → (told → finite.get (blobs file s) n ≡ Some blob) → Holds (package_of blob)
+    → told → (p : Package) → finite.get (installed file s) n ≡ Some p → Holds p
+said_of told file s n blob Holds said holds t p held = subst Holds (sym (package_is file s n blob p (said t) held)) holds

@@ -1,6 +1,14 @@
 -- The status of an ending, and the line that closes it.
 use Rattle.std.specs.Prelude.{ℕ, min, List, [], ◌∷◌, codes, decimal}
 use Rattle.std.specs.List.{concat}
+use Rattle.rpm_words.specs.declared.fault.WordsKind.{WordsKind}
+use Rattle.rpm_words.specs.declared.fault.WordsKind.TheVariants as kind
+use Rattle.rpm_words.specs.declared.fault.WordsFault.{WordsFault}
+use Rattle.rpm_words.specs.Place.{text_at}
+use Rattle.rpm_qfparse.specs.declared.fault.FormatKind.{FormatKind}
+use Rattle.rpm_qfparse.specs.declared.fault.FormatKind.TheVariants as wrong
+use Rattle.rpm_qfparse.specs.declared.fault.FormatFault.{FormatFault}
+use Rattle.rpm_pkgdb.specs.declared.slot.Damage.{Damage}
 use Rattle.rpm_pkgdb.specs.declared.slot.Reason.{Reason}
 use Rattle.rpm_pkgdb.specs.declared.slot.Reason.TheVariants.{BadMagic, BadVersion, BadPages, BadSlot, BadNumber, BadRange, SameNumber, Overlap}
 use Rattle.rpm_tool.specs.declared.answer.Why.{Why}
@@ -9,6 +17,8 @@ use Rattle.rpm_tool.specs.declared.answer.Why.TheVariants as why
 abbrev pub status_of : Why → ℕ
 status_of why.Done = 0
 status_of (why.Failed n) = min n 250
+status_of (why.Usage fault) = 251
+status_of (why.BadFormat fault) = 251
 status_of (why.NotBuilt what) = 252
 status_of (why.Damaged damage) = 252
 status_of why.DiskFault = 252
@@ -26,13 +36,66 @@ reason_text BadRange = codes "block range"
 reason_text SameNumber = codes "number used twice"
 reason_text Overlap = codes "blocks overlap"
 
--- done, failed arguments and a fault of err itself have none
-unfoldable pub closing : Why → List ℕ
-closing why.Done = []
-closing (why.Failed n) = []
-closing (why.NotBuilt what) = codes "rpm: not built yet\n"
-closing (why.Damaged damage) = concat (codes "rpm: Packages.db is damaged at byte " ∷ decimal damage.offset ∷ codes ": " ∷ reason_text damage.reason ∷ codes "\n" ∷ [])
-closing why.DiskFault = codes "rpm: the database could not be read or written\n"
-closing why.OutFault = codes "rpm: output could not be written\n"
-closing why.ErrFault = []
-closing why.NoMemory = codes "rpm: out of memory\n"
+unfoldable pub damage_line : Damage → List ℕ
+damage_line damage =
+    concat (codes "rpm: Packages.db is damaged at byte " ∷ decimal damage.offset ∷ codes ": " ∷ reason_text damage.reason ∷ codes "\n" ∷ [])
+
+-- what is told of the rule that the words break
+unfoldable pub rule_text : WordsKind → List ℕ
+rule_text kind.UnknownOption = codes "rpm: unknown option: "
+rule_text kind.TwoModes = codes "rpm: more than one command: "
+rule_text kind.NoMode = codes "rpm: no command given"
+rule_text kind.MissingArgument = codes "rpm: argument missing"
+rule_text kind.ExtraArgument = codes "rpm: unexpected argument: "
+rule_text kind.Misplaced = codes "rpm: option not valid here: "
+rule_text kind.BadNumber = codes "rpm: not a number: "
+rule_text kind.BadCapability = codes "rpm: not a capability: "
+rule_text kind.NoMemory = codes "rpm: out of memory"
+
+-- the word that is told: the one that breaks the rule, and none where something is missing
+abbrev pub word_told : WordsKind → List ℕ → List ℕ
+word_told kind.NoMode word = []
+word_told kind.MissingArgument word = []
+word_told kind.NoMemory word = []
+word_told others word = word
+
+-- the rule, and the word of that place
+unfoldable pub usage_line : List (List ℕ) → WordsFault → List ℕ
+usage_line words fault = concat (rule_text fault.kind ∷ word_told fault.kind (text_at words fault.word) ∷ codes "\n" ∷ [])
+
+-- what is told of a fault of a format
+unfoldable pub fault_text : FormatKind → List ℕ
+fault_text wrong.TooLong = codes "format too long"
+fault_text wrong.MissingOpen = codes "{ expected after %"
+fault_text wrong.MissingClose = codes "} expected"
+fault_text wrong.EmptyTag = codes "empty tag name"
+fault_text wrong.UnknownTag = codes "unknown tag"
+fault_text wrong.UnknownFormatter = codes "unknown formatter"
+fault_text wrong.WidthTooLarge = codes "width too large"
+fault_text wrong.BracketExpected = codes "] expected"
+fault_text wrong.UnexpectedBracket = codes "unexpected ]"
+fault_text wrong.UnexpectedBrace = codes "unexpected }"
+fault_text wrong.NestedBracket = codes "nested ["
+fault_text wrong.QuestionExpected = codes "? expected"
+fault_text wrong.BraceExpected = codes "{ expected"
+fault_text wrong.BarExpected = codes "| expected"
+fault_text wrong.TooDeep = codes "conditions too deep"
+fault_text wrong.NoMemory = codes "out of memory"
+
+-- the fault, and the byte of the format that it stands at
+unfoldable pub format_line : FormatFault → List ℕ
+format_line fault =
+    concat (codes "error: incorrect format: " ∷ fault_text fault.kind ∷ codes " at byte " ∷ decimal fault.at ∷ codes "\n" ∷ [])
+
+-- the line that closes an ending of these words; done, failed arguments and a fault of err itself have none
+unfoldable pub closing : List (List ℕ) → Why → List ℕ
+closing words why.Done = []
+closing words (why.Failed n) = []
+closing words (why.Usage fault) = usage_line words fault
+closing words (why.BadFormat fault) = format_line fault
+closing words (why.NotBuilt what) = codes "rpm: not built yet\n"
+closing words (why.Damaged damage) = damage_line damage
+closing words why.DiskFault = codes "rpm: the database could not be read or written\n"
+closing words why.OutFault = codes "rpm: output could not be written\n"
+closing words why.ErrFault = []
+closing words why.NoMemory = codes "rpm: out of memory\n"

@@ -1,6 +1,5 @@
 pub mod Answers
+pub mod Asked
 pub mod Closing
 pub mod Installed
-pub mod Label
 pub mod Steps
-pub mod Words

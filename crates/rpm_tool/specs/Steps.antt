@@ -1,9 +1,10 @@
 -- What a command does, step by step.
-use Rattle.std.specs.Prelude.{ℕ, List, [], ◌++◌, map, take, Bool, true, false, if◌then◌else◌, codes, decimal}
+use Rattle.std.specs.Prelude.{ℕ, List, [], ◌++◌, map, take, Bool, true, false, if◌then◌else◌, codes, decimal, Result, Ok, Err}
 use Rattle.std.specs.List.{list_any}
 use Rattle.std.specs.Ordering.{nat_cmp}
 use Rattle.std.specs.FinMap.{FinMap, entries}
-use Rattle.rpm_tool.specs.Label.{line_of}
+use Rattle.rpm_qfparse.specs.Tree.{Tree}
+use Rattle.rpm_qfeval.specs.Meaning.{meaning}
 use Rattle.rpm_tool.specs.Installed.{Package, Good, Bad}
 
 -- whom a step is for: an argument, counted from 0, and a package number
@@ -55,21 +56,31 @@ bad_line n = codes "error: package " ++ decimal n ++ codes ": header cannot be r
 abbrev pub bearer : ℕ → Bearer
 bearer n = record { argument = 0; number = n }
 
-abbrev pub step_of : ℕ → Package → Step
-step_of n (Good h) = ToOut (bearer n) (line_of h)
-step_of n Bad = ToErr (bearer n) (bad_line n)
+-- the line of a header for which a bracket's tags have different numbers of elements
+unfoldable pub sizes_line : List ℕ
+sizes_line = codes "error: incorrect format: array iterator used with different sized arrays\n"
 
-abbrev pub steps_of : List (ℕ × Package) → List Step
-steps_of packages = map (λ e. step_of e.0 e.1) packages
+-- what a format means is printed whole, or not at all
+abbrev pub printed : Bearer → Result (List ℕ) (ℕ × ℕ) → Step
+printed for (Ok bytes) = ToOut for bytes
+printed for (Err counts) = ToErr for sizes_line
+
+-- of a number, by a format
+abbrev pub step_of : Tree → ℕ → Package → Step
+step_of tree n (Good h) = printed (bearer n) (meaning h n tree)
+step_of tree n Bad = ToErr (bearer n) (bad_line n)
+
+abbrev pub steps_of : Tree → List (ℕ × Package) → List Step
+steps_of tree packages = map (λ e. step_of tree e.0 e.1) packages
 
 abbrev pub is_bad : Step → Bool
 is_bad (ToOut for bytes) = false
 is_bad (ToErr for bytes) = true
 
--- its argument fails once, however many of its packages can't be read
+-- its argument fails once, however many of its packages can't be read or printed
 abbrev pub query_of : List Step → Course
 query_of steps = record { steps = steps; failed = if list_any is_bad steps then 1 else 0 }
 
 -- the query of all packages, by rising number
-abbrev pub all_packages : FinMap nat_cmp Package → Course
-all_packages packages = query_of (steps_of (entries packages))
+abbrev pub all_packages : Tree → FinMap nat_cmp Package → Course
+all_packages tree packages = query_of (steps_of tree (entries packages))

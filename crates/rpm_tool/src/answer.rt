@@ -4,6 +4,8 @@ ghost use Rattle.std.specs.Prelude.{◌≡◌};
 ghost use Rattle.rpm_tool.specs.Closing.{status_of};
 
 use rpm_pkgdb::Damage;
+use rpm_qfparse::FormatFault;
+use rpm_words::WordsFault;
 
 /// What isn't built yet.
 #[derive(Clone, Copy, Debug, PartialEq, Eq)]
@@ -19,8 +21,12 @@ pub enum Why {
     Done,
     /// It was done, and so many arguments failed.
     Failed(u32),
-    /// It asks for what isn't built yet. Nothing was done.
+    /// The words break this rule. Nothing was done.
+    Usage(WordsFault),
+    /// They ask for what isn't built yet. Nothing was done.
     NotBuilt(Unbuilt),
+    /// Their format has this fault. Nothing was done.
+    BadFormat(FormatFault),
     /// `Packages.db` is damaged.
     Damaged(Damage),
     /// The database could not be read.
@@ -36,8 +42,8 @@ pub enum Why {
 /// How a command line ended.
 #[derive(Clone, Copy, Debug, PartialEq, Eq)]
 pub struct Outcome {
-    /// The exit status: 0 where all was done, the number of failed arguments up to 250, 252 for the database, 253 for output, 254
-    /// for want of memory.
+    /// The exit status: 0 where all was done, the number of failed arguments up to 250, 251 for words that break a rule and
+    /// for a format with a fault, 252 for the database and for what isn't built, 253 for output, 254 for want of memory.
     pub status: u8,
     pub why: Why,
     /// How many packages were added, replaced or erased.
@@ -51,6 +57,8 @@ pub fn status_of(why: Why) -> u8
     match why {
         Why::Done => 0,
         Why::Failed(failed) => failed.min(250) as u8,
+        Why::Usage(_) => 251,
+        Why::BadFormat(_) => 251,
         Why::NotBuilt(_) | Why::Damaged(_) | Why::DiskFault => 252,
         Why::OutFault | Why::ErrFault => 253,
         Why::NoMemory => 254,

@@ -2,13 +2,17 @@
 
 ghost use Rattle.std.specs.Prelude.{◌≡◌, ◌++◌, codes, decimal, Err, Ok};
 ghost use Rattle.rpm_outside.specs.Sinks.{Writes};
-ghost use Rattle.rpm_tool.specs.Closing.{reason_text, closing};
+ghost use Rattle.rpm_tool.specs.Closing.{reason_text, damage_line, rule_text, word_told, usage_line, fault_text, format_line, closing};
+ghost use Rattle.rpm_words.specs.Place.{text_at};
 
 use crate::answer::Why;
+use crate::asked::text_at;
 use crate::pieces::put_pieces;
 use itoa::Buffer;
 use rpm_outside::{Failed, Sink, put_all};
 use rpm_pkgdb::{Damage, Reason};
+use rpm_qfparse::{FormatFault, FormatKind};
+use rpm_words::{Words, WordsFault, WordsKind};
 
 #[tactic(auto, unfolding(crate::specs::Closing::reason_text))]
 fn reason_text(reason: Reason) -> &'static [u8]
@@ -28,7 +32,7 @@ fn reason_text(reason: Reason) -> &'static [u8]
 
 /// Writes where `Packages.db` is damaged, and how.
 fn put_damage<E: Sink>(err: &mut E, damage: Damage) -> Result<(), Failed>
-    ensures { Writes E.tells E.taken E.faults err.old err.new (closing (Why.Damaged damage)) result }
+    ensures { Writes E.tells E.taken E.faults err.old err.new (damage_line damage) result }
 {
     let mut digits = Buffer::new();
     let offset = digits.format(damage.offset).as_bytes();
@@ -45,13 +49,92 @@ fn put_damage<E: Sink>(err: &mut E, damage: Damage) -> Result<(), Failed>
     )
 }
 
+/// What is told of a rule that the words break.
+#[tactic(auto, unfolding(crate::specs::Closing::rule_text))]
+fn rule_text(kind: WordsKind) -> &'static [u8]
+    ensures { result.now ≡ rule_text kind }
+{
+    match kind {
+        WordsKind::UnknownOption => b"rpm: unknown option: ",
+        WordsKind::TwoModes => b"rpm: more than one command: ",
+        WordsKind::NoMode => b"rpm: no command given",
+        WordsKind::MissingArgument => b"rpm: argument missing",
+        WordsKind::ExtraArgument => b"rpm: unexpected argument: ",
+        WordsKind::Misplaced => b"rpm: option not valid here: ",
+        WordsKind::BadNumber => b"rpm: not a number: ",
+        WordsKind::BadCapability => b"rpm: not a capability: ",
+        WordsKind::NoMemory => b"rpm: out of memory",
+    }
+}
+
+/// The word that is told: the one that breaks the rule, and none where something is missing.
+fn word_told(words: &Words, fault: WordsFault) -> &[u8]
+    ensures { result.now ≡ word_told fault.kind (text_at words.now fault.word) }
+{
+    match fault.kind {
+        WordsKind::NoMode | WordsKind::MissingArgument | WordsKind::NoMemory => b"",
+        _ => text_at(words, fault.word),
+    }
+}
+
+/// Writes which rule the words break, and the word that breaks it.
+#[tactic(auto, unfolding(crate::specs::Closing::usage_line))]
+fn put_usage<'a, E: Sink>(err: &mut E, words: &'a Words, fault: WordsFault) -> Result<(), Failed>
+    ensures { Writes E.tells E.taken E.faults err.old err.new (usage_line words.now fault) result }
+{
+    // One lifetime for both, as the elements of an array have it.
+    let rule: &'a [u8] = rule_text(fault.kind);
+    let word = word_told(words, fault);
+    put_pieces(err, &[rule, word, b"\n"])
+}
+
+/// What is told of a fault of a format.
+#[tactic(auto, unfolding(crate::specs::Closing::fault_text))]
+fn fault_text(kind: FormatKind) -> &'static [u8]
+    ensures { result.now ≡ fault_text kind }
+{
+    match kind {
+        FormatKind::TooLong => b"format too long",
+        FormatKind::MissingOpen => b"{ expected after %",
+        FormatKind::MissingClose => b"} expected",
+        FormatKind::EmptyTag => b"empty tag name",
+        FormatKind::UnknownTag => b"unknown tag",
+        FormatKind::UnknownFormatter => b"unknown formatter",
+        FormatKind::WidthTooLarge => b"width too large",
+        FormatKind::BracketExpected => b"] expected",
+        FormatKind::UnexpectedBracket => b"unexpected ]",
+        FormatKind::UnexpectedBrace => b"unexpected }",
+        FormatKind::NestedBracket => b"nested [",
+        FormatKind::QuestionExpected => b"? expected",
+        FormatKind::BraceExpected => b"{ expected",
+        FormatKind::BarExpected => b"| expected",
+        FormatKind::TooDeep => b"conditions too deep",
+        FormatKind::NoMemory => b"out of memory",
+    }
+}
+
+/// Writes what is wrong with the format, and at which byte of it.
+fn put_fault<E: Sink>(err: &mut E, fault: FormatFault) -> Result<(), Failed>
+    ensures { Writes E.tells E.taken E.faults err.old err.new (format_line fault) result }
+{
+    let mut digits = Buffer::new();
+    let at = digits.format(fault.at).as_bytes();
+    let text = fault_text(fault.kind);
+    put_pieces(
+        err,
+        &[b"error: incorrect format: ", text, b" at byte ", at, b"\n"],
+    )
+}
+
 /// Writes the line that closes an ending, or nothing where it has none. It takes no memory.
 #[tactic(auto, unfolding(crate::specs::Closing::closing))]
-pub fn put_closing<E: Sink>(err: &mut E, why: Why) -> Result<(), Failed>
-    ensures { Writes E.tells E.taken E.faults err.old err.new (closing why) result }
+pub fn put_closing<E: Sink>(err: &mut E, words: &Words, why: Why) -> Result<(), Failed>
+    ensures { Writes E.tells E.taken E.faults err.old err.new (closing words.now why) result }
 {
     match why {
         Why::Done | Why::Failed(_) | Why::ErrFault => put_all(err, b""),
+        Why::Usage(fault) => put_usage(err, words, fault),
+        Why::BadFormat(fault) => put_fault(err, fault),
         Why::NotBuilt(_) => put_all(err, b"rpm: not built yet\n"),
         Why::Damaged(damage) => put_damage(err, damage),
         Why::DiskFault => put_all(err, b"rpm: the database could not be read or written\n"),

@@ -1,18 +1,22 @@
 //! The top call: a command line does what its command's steps say.
 
-ghost use Rattle.std.specs.Prelude.{◌≡◌, ◌≢◌, ℕ, ◌+◌, ◌≤◌, ◌↔◌, true, false, IsTrue};
+ghost use Rattle.std.specs.Prelude.{◌≡◌, ◌≢◌, ℕ, ◌+◌, ◌≤◌, true, IsTrue, Some, None, Err};
 ghost use Rattle.rpm_outside.specs.Causes.{HasCauseAt};
 ghost use Rattle.rpm_outside.specs.Looks.{Looks};
 ghost use Rattle.rpm_pkgdb.specs.Store.{store};
-ghost use Rattle.rpm_tool.specs.Words.{asks_all};
+ghost use Rattle.rpm_words.specs.Ask.{ask};
+ghost use Rattle.rpm_qfparse.specs.Tree.{Tree};
+ghost use Rattle.rpm_tool.specs.Asked.{asks_unbuilt, asks_format, asks_all};
 ghost use Rattle.rpm_tool.specs.Closing.{status_of, closing};
-ghost use Rattle.rpm_tool.specs.Answers.{outputs, Queried, Closes, Ends, query_cost};
+ghost use Rattle.rpm_tool.specs.Answers.{outputs, ComesWhere, Queried, Closes, Ends, query_cost};
 
 use crate::answer::{Outcome, Unbuilt, Why, status_of};
+use crate::asked::read_format;
 use crate::closing::put_closing;
 use crate::query::query_all;
-use crate::words::{Words, asks_all};
 use rpm_outside::{Disk, File, Shelf, Sink};
+use rpm_qfparse::{FormatFault, FormatKind};
+use rpm_words::{Words, WordsFault, WordsKind};
 use std::alloc::Global;
 
 /// Does what a command line asks for, up to its closing line.
@@ -23,29 +27,39 @@ fn command<D: Disk, O: Sink, E: Sink>(
     out: &mut O,
     err: &mut E,
 ) -> Why
-    ensures unread { asks_all words.now ≡ false → (result ≡ Why.NotBuilt Unbuilt.Words) × (disk.new ≡ disk.old) × (out.new ≡ out.old) × (err.new ≡ err.old) }
-    ensures built { asks_all words.now ≡ true → result ≢ Why.NotBuilt Unbuilt.Words }
-    ensures went { asks_all words.now ≡ true → IsTrue D.tells → Queried (D.files disk.old).pkg (store (D.files disk.old).pkg) result (outputs O.tells (O.taken out.old) E.tells (E.taken err.old)) (outputs O.tells (O.taken out.new) E.tells (E.taken err.new)) (D.bytes_read disk.old File.Pkg) (D.bytes_read disk.new File.Pkg) }
+    ensures usage { (f : WordsFault) → ComesWhere (Why.Usage f) result (ask words.now ≡ Err f) }
+    ensures usage_kind { (f : WordsFault) → result ≡ Why.Usage f → f.kind ≢ WordsKind.NoMemory }
+    ensures unbuilt { ComesWhere (Why.NotBuilt Unbuilt.Words) result (asks_unbuilt words.now ≡ true) }
+    ensures bad_format { (f : FormatFault) → ComesWhere (Why.BadFormat f) result (asks_format words.now ≡ Some (Err f)) }
+    ensures bad_format_kind { (f : FormatFault) → result ≡ Why.BadFormat f → f.kind ≢ FormatKind.NoMemory }
+    ensures unread { asks_all words.now ≡ None → (disk.new ≡ disk.old) × (out.new ≡ out.old) × (err.new ≡ err.old) }
+    ensures went { (tree : Tree) → asks_all words.now ≡ Some tree → IsTrue D.tells → Queried tree (D.files disk.old).pkg (store (D.files disk.old).pkg) result (outputs O.tells (O.taken out.old) E.tells (E.taken err.old)) (outputs O.tells (O.taken out.new) E.tells (E.taken err.new)) (D.bytes_read disk.old File.Pkg) (D.bytes_read disk.new File.Pkg) }
     ensures reads { IsTrue D.tells → D.bytes_read disk.new File.Pkg ≤ D.bytes_read disk.old File.Pkg + query_cost (D.files disk.old).pkg }
     ensures looks { (most : ℕ) × Looks D.tells D.files D.left_since D.moment D.bytes_read D.follows most disk.old disk.new }
     ensures disk { HasCauseAt (result ≡ Why.DiskFault) (D.faults disk.old) (D.faults disk.new) }
     ensures out { HasCauseAt (result ≡ Why.OutFault) (O.faults out.old) (O.faults out.new) }
     ensures err { HasCauseAt (result ≡ Why.ErrFault) (E.faults err.old) (E.faults err.new) }
 {
-    if !asks_all(words) {
-        return Why::NotBuilt(Unbuilt::Words);
+    match read_format(alloc, words) {
+        Ok(format) => query_all(alloc, &format, disk, out, err),
+        Err(why) => why,
     }
-    query_all(alloc, disk, out, err)
 }
 
 /// Does to a database what a command line asks for, and writes the line that closes it.
 ///
-/// The disk is handed back beside every outcome, and reads as before. `rpm -qa`, with or without a folder, prints the line of each
-/// installed package by rising number; a package that can't be read has a message in its place. All other words aren't built
-/// yet: then no call is made on the disk, the shelf or `out`.
+/// The disk is handed back beside every outcome, and reads as before. The words are read first, by the rules of
+/// [`read`](rpm_words::read). Where they break one, the answer is `Usage` with the first that is broken. Of the commands the query of
+/// all packages is built, with or without a folder: `rpm -qa`, and of `-l`, `--list`, `--qf F` and `--queryformat F` the last one. All
+/// others are answered `NotBuilt`. Then the format is read, by the rules of [`parse`](rpm_qfparse::parse): F, the list of files, or
+/// `%{NVRA}\n`. Where it has a fault, the answer is `BadFormat` with the first one. With these three answers no call is made on the disk,
+/// the shelf or `out`.
 ///
-/// The query reads the slot pages of `Packages.db` and the blocks of its packages, each once, and of no package before the lines
-/// of those with lesser numbers are written. Each line is one write, or several where the sink takes it in pieces.
+/// The query prints what the format means for each installed package, by rising number. A package that can't be read, and one
+/// for which a bracket's tags have different numbers of elements, has a message on `err` in its place; then the argument fails, once.
+///
+/// The query reads the slot pages of `Packages.db` and the blocks of its packages, each once, and of no package before what is
+/// printed of those with lesser numbers is written. What is printed of a package goes out in few pieces, and no piece is of two packages.
 pub fn run<D: Disk, S: Shelf, O: Sink, E: Sink>(
     alloc: Global,
     words: &Words,
@@ -58,13 +72,21 @@ pub fn run<D: Disk, S: Shelf, O: Sink, E: Sink>(
     ensures status { result.0.status ≡ status_of result.0.why }
     ensures changes { result.0.changes ≡ 0 }
 
-    // What isn't built is answered so, exactly there, and nothing is done.
-    ensures unbuilt { (result.0.why ≡ Why.NotBuilt Unbuilt.Words) ↔ (asks_all words.now ≡ false) }
-    ensures unread { asks_all words.now ≡ false → (result.1 ≡ disk) × (out.new ≡ out.old) }
-    ensures unbuilt_closes { asks_all words.now ≡ false → Closes (closing (Why.NotBuilt Unbuilt.Words)) (outputs O.tells (O.taken out.old) E.tells (E.taken err.old)) (outputs O.tells (O.taken out.new) E.tells (E.taken err.new)) (E.faults err.old) (E.faults err.new) }
+    // Words that break a rule are answered so, exactly there, with the first rule that they break.
+    ensures usage { (f : WordsFault) → ComesWhere (Why.Usage f) result.0.why (ask words.now ≡ Err f) }
+    ensures usage_kind { (f : WordsFault) → result.0.why ≡ Why.Usage f → f.kind ≢ WordsKind.NoMemory }
 
-    // The theorem: the query of all packages, and the line that closes it.
-    ensures answers { asks_all words.now ≡ true → IsTrue D.tells → Ends (λ mid. Queried (D.files disk).pkg (store (D.files disk).pkg) result.0.why (outputs O.tells (O.taken out.old) E.tells (E.taken err.old)) mid (D.bytes_read disk File.Pkg) (D.bytes_read result.1 File.Pkg)) result.0.why (outputs O.tells (O.taken out.new) E.tells (E.taken err.new)) (E.faults err.old) (E.faults err.new) }
+    // What isn't built is answered so, exactly there.
+    ensures unbuilt { ComesWhere (Why.NotBuilt Unbuilt.Words) result.0.why (asks_unbuilt words.now ≡ true) }
+
+    // A format that has a fault is answered so, exactly there, with its first fault. Nothing is done for such words, nor for those above.
+    ensures bad_format { (f : FormatFault) → ComesWhere (Why.BadFormat f) result.0.why (asks_format words.now ≡ Some (Err f)) }
+    ensures bad_format_kind { (f : FormatFault) → result.0.why ≡ Why.BadFormat f → f.kind ≢ FormatKind.NoMemory }
+    ensures unread { asks_all words.now ≡ None → (result.1 ≡ disk) × (out.new ≡ out.old) }
+    ensures unbuilt_closes { asks_all words.now ≡ None → Closes (closing words.now result.0.why) (outputs O.tells (O.taken out.old) E.tells (E.taken err.old)) (outputs O.tells (O.taken out.new) E.tells (E.taken err.new)) (E.faults err.old) (E.faults err.new) }
+
+    // The theorem: the query of all packages by the format of the words, and the line that closes it.
+    ensures answers { (tree : Tree) → asks_all words.now ≡ Some tree → IsTrue D.tells → Ends (λ mid. Queried tree (D.files disk).pkg (store (D.files disk).pkg) result.0.why (outputs O.tells (O.taken out.old) E.tells (E.taken err.old)) mid (D.bytes_read disk File.Pkg) (D.bytes_read result.1 File.Pkg)) (closing words.now result.0.why) (outputs O.tells (O.taken out.new) E.tells (E.taken err.new)) (E.faults err.old) (E.faults err.new) }
 
     // The disk reads as before, and so do its images; of Packages.db no more is read than its pages and packages.
     ensures looks { (most : ℕ) × Looks D.tells D.files D.left_since D.moment D.bytes_read D.follows most disk result.1 }
@@ -78,7 +100,7 @@ pub fn run<D: Disk, S: Shelf, O: Sink, E: Sink>(
 {
     let mut disk = disk;
     let why = command(alloc, words, &mut disk, out, err);
-    let _ = put_closing(err, why);
+    let _ = put_closing(err, words, why);
     let outcome = Outcome {
         status: status_of(why),
         why,

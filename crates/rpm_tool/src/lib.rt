@@ -4,16 +4,17 @@
 #![tactic(auto)]
 
 mod answer;
+mod asked;
 mod closing;
 mod command;
-mod label;
 mod pieces;
 mod query;
 mod step;
 #[cfg(test)]
 mod tests;
-pub mod words;
 
 pub use answer::{Outcome, Unbuilt, Why};
 pub use command::run;
 pub use rpm_pkgdb::{Damage, Reason};
+pub use rpm_qfparse::{FormatFault, FormatKind};
+pub use rpm_words::{WordsFault, WordsKind};

@@ -1,26 +1,26 @@
 //! The query of all packages.
 
-ghost use Rattle.std.specs.Prelude.{◌≡◌, ◌≢◌, ℕ, ◌+◌, ◌≤◌, IsTrue, None};
+ghost use Rattle.std.specs.Prelude.{◌≡◌, ◌+◌, ◌≤◌, ℕ, false, IsTrue, None};
 ghost use Rattle.rpm_outside.specs.Causes.{HasCauseAt};
 ghost use Rattle.rpm_outside.specs.Looks.{Looks};
 ghost use Rattle.rpm_pkgdb.specs.Slots.{slot_with};
 ghost use Rattle.rpm_pkgdb.specs.Store.{Keeps, store};
 ghost use Rattle.rpm_pkgdb.specs.Costs.{cost_all, cost_to};
-ghost use Rattle.rpm_tool.specs.declared.answer.Unbuilt.{Unbuilt};
 ghost use Rattle.rpm_tool.specs.Installed.{installed};
 ghost use Rattle.rpm_tool.specs.Steps.{all_packages};
-ghost use Rattle.rpm_tool.specs.Answers.{outputs, why_of, Went, Queried, query_cost};
+ghost use Rattle.rpm_tool.specs.Answers.{outputs, why_of, is_of_words, Went, Queried, query_cost};
 
 use crate::answer::Why;
-use crate::step::{Stop, put_package};
+use crate::step::{Stop, print_package};
 use rpm_outside::{Disk, File, Sink};
 use rpm_pkgdb::{OpenFault, PkgDb};
+use rpm_qfparse::Format;
 use std::alloc::Global;
 
 /// The ending of a command that was stopped.
 fn why_of(stop: Stop) -> Why
     ensures value { result ≡ why_of stop }
-    ensures built { (what : Unbuilt) → result ≢ Why.NotBuilt what }
+    ensures done { is_of_words result ≡ false }
 {
     match stop {
         Stop::DiskFault => Why::DiskFault,
@@ -30,28 +30,28 @@ fn why_of(stop: Stop) -> Why
     }
 }
 
-/// Prints each package, by rising number.
+/// Prints each package by the format, by rising number.
 fn print_all<D: Disk, O: Sink, E: Sink>(
     alloc: Global,
     db: &PkgDb,
     disk: &mut D,
+    format: &Format,
     out: &mut O,
     err: &mut E,
 ) -> Why
     requires keeps { IsTrue D.tells → Keeps (D.files disk.old).pkg db.now }
     requires from_one { slot_with 0 db.now.slots ≡ None }
-    ensures went { IsTrue D.tells → Went (all_packages (installed (D.files disk.old).pkg db.now)) result (outputs O.tells (O.taken out.old) E.tells (E.taken err.old)) (outputs O.tells (O.taken out.new) E.tells (E.taken err.new)) (λ n. D.bytes_read disk.new File.Pkg ≤ D.bytes_read disk.old File.Pkg + cost_to n db.now) }
-    ensures built { (what : Unbuilt) → result ≢ Why.NotBuilt what }
+    ensures went { IsTrue D.tells → Went (all_packages format.now (installed (D.files disk.old).pkg db.now)) result (outputs O.tells (O.taken out.old) E.tells (E.taken err.old)) (outputs O.tells (O.taken out.new) E.tells (E.taken err.new)) (λ n. D.bytes_read disk.new File.Pkg ≤ D.bytes_read disk.old File.Pkg + cost_to n db.now) }
+    ensures done { is_of_words result ≡ false }
     ensures looks { Looks D.tells D.files D.left_since D.moment D.bytes_read D.follows (cost_all db.now) disk.old disk.new }
     ensures disk { HasCauseAt (result ≡ Why.DiskFault) (D.faults disk.old) (D.faults disk.new) }
     ensures out { HasCauseAt (result ≡ Why.OutFault) (O.faults out.old) (O.faults out.new) }
     ensures err { HasCauseAt (result ≡ Why.ErrFault) (E.faults err.old) (E.faults err.new) }
 {
-    let mut line = Vec::new(alloc);
     let mut number = 0;
     let mut is_failed = false;
     while let Some(next) = db.next_above(number) {
-        match put_package(alloc, db, disk, next, &mut line, out, err) {
+        match print_package(alloc, db, disk, next, format, out, err) {
             Ok(true) => {}
             Ok(false) => is_failed = true,
             Err(stop) => return why_of(stop),
@@ -61,24 +61,25 @@ fn print_all<D: Disk, O: Sink, E: Sink>(
     if is_failed { Why::Failed(1) } else { Why::Done }
 }
 
-/// Opens the database, as it reads and without its index, and prints each package. Besides the slot pages it reads the blocks of
-/// each package, one package after the other, each before its line is printed and none twice.
+/// Opens the database, as it reads and without its index, and prints each package by the format. Besides the slot pages it reads
+/// the blocks of each package, one package after the other, each before it is printed and none twice.
 pub fn query_all<D: Disk, O: Sink, E: Sink>(
     alloc: Global,
+    format: &Format,
     disk: &mut D,
     out: &mut O,
     err: &mut E,
 ) -> Why
-    ensures went { IsTrue D.tells → Queried (D.files disk.old).pkg (store (D.files disk.old).pkg) result (outputs O.tells (O.taken out.old) E.tells (E.taken err.old)) (outputs O.tells (O.taken out.new) E.tells (E.taken err.new)) (D.bytes_read disk.old File.Pkg) (D.bytes_read disk.new File.Pkg) }
+    ensures went { IsTrue D.tells → Queried format.now (D.files disk.old).pkg (store (D.files disk.old).pkg) result (outputs O.tells (O.taken out.old) E.tells (E.taken err.old)) (outputs O.tells (O.taken out.new) E.tells (E.taken err.new)) (D.bytes_read disk.old File.Pkg) (D.bytes_read disk.new File.Pkg) }
     ensures reads { IsTrue D.tells → D.bytes_read disk.new File.Pkg ≤ D.bytes_read disk.old File.Pkg + query_cost (D.files disk.old).pkg }
-    ensures built { (what : Unbuilt) → result ≢ Why.NotBuilt what }
+    ensures done { is_of_words result ≡ false }
     ensures looks { (most : ℕ) × Looks D.tells D.files D.left_since D.moment D.bytes_read D.follows most disk.old disk.new }
     ensures disk { HasCauseAt (result ≡ Why.DiskFault) (D.faults disk.old) (D.faults disk.new) }
     ensures out { HasCauseAt (result ≡ Why.OutFault) (O.faults out.old) (O.faults out.new) }
     ensures err { HasCauseAt (result ≡ Why.ErrFault) (E.faults err.old) (E.faults err.new) }
 {
     match PkgDb::open(alloc, disk) {
-        Ok(db) => print_all(alloc, &db, disk, out, err),
+        Ok(db) => print_all(alloc, &db, disk, format, out, err),
         Err(OpenFault::Damaged(damage)) => Why::Damaged(damage),
         Err(OpenFault::DiskFault) => Why::DiskFault,
         Err(OpenFault::NoMemory) => Why::NoMemory,

@@ -1,21 +1,22 @@
-//! The line of one package.
+//! What is printed of one package.
 
-ghost use Rattle.std.specs.Prelude.{◌≡◌, ◌≢◌, IsTrue, IsSome, Some, Err, IfOk, IfErr, OnOk};
+ghost use Rattle.std.specs.Prelude.{◌≡◌, ◌≢◌, ℕ, Bool, List, IsTrue, IsSome, Some, Err, IfOk};
 ghost use Rattle.std.specs.FinMap.{get};
 ghost use Rattle.rpm_outside.specs.Causes.{HasCauseAt};
 ghost use Rattle.rpm_outside.specs.Looks.{Looks};
 ghost use Rattle.rpm_pkgdb.specs.Slots.{slot_with};
 ghost use Rattle.rpm_pkgdb.specs.Store.{Keeps};
 ghost use Rattle.rpm_pkgdb.specs.Costs.{cost};
-ghost use Rattle.rpm_tool.specs.Installed.{Package, Bad, package_of, installed};
+ghost use Rattle.rpm_tool.specs.Installed.{Package, Good, package_of, installed};
 ghost use Rattle.rpm_tool.specs.Answers.{StepIs, outputs};
-ghost use Rattle.rpm_tool.specs.Steps.{Bearer, step_to, step_of, bearer, bad_line};
+ghost use Rattle.rpm_tool.specs.Steps.{ToErr, bearer, step_of, bad_line, sizes_line};
 
-use crate::label::render_line;
 use itoa::Buffer;
 use rpm_header::View;
 use rpm_outside::{Disk, Sink, put_all};
 use rpm_pkgdb::{GetFault, PkgDb};
+use rpm_qfeval::{DirectFault, print_direct};
+use rpm_qfparse::Format;
 use std::alloc::{AllocError, Global};
 
 /// What stops a command before its end.
@@ -27,116 +28,115 @@ pub enum Stop {
     NoMemory,
 }
 
-/// Makes a line the message that a package can't be read.
+/// Writes a message on a package to err.
+fn put_message<E: Sink>(err: &mut E, number: u32, message: &[u8]) -> Result<bool, Stop>
+    ensures step { (out_tells : Bool) (out : List ℕ) → StepIs (ToErr (bearer number) message.now) result (outputs out_tells out E.tells (E.taken err.old)) (outputs out_tells out E.tells (E.taken err.new)) }
+    ensures no_disk { result ≢ Err Stop.DiskFault }
+    ensures no_out { result ≢ Err Stop.OutFault }
+    ensures err { HasCauseAt (result ≡ Err Stop.ErrFault) (E.faults err.old) (E.faults err.new) }
+{
+    match put_all(err, message) {
+        Ok(()) => Ok(false),
+        Err(_) => Err(Stop::ErrFault),
+    }
+}
+
+/// The message that a package can't be read.
 #[tactic(auto, unfolding(crate::specs::Steps::bad_line))]
-fn render_bad(line: &mut Vec<u8>, number: u32) -> Result<(), AllocError>
-    ensures { OnOk result (line.new.items ≡ bad_line number) }
+fn bad_line(alloc: Global, number: u32) -> Result<Vec<u8>, AllocError>
+    ensures { IfOk result (λ line. line.items ≡ bad_line number) }
 {
     let mut digits = Buffer::new();
-    line.clear();
+    let mut line = Vec::new(alloc);
     line.extend_from_slice(b"error: package ")?;
     line.extend_from_slice(digits.format(number).as_bytes())?;
-    line.extend_from_slice(b": header cannot be read\n")
+    line.extend_from_slice(b": header cannot be read\n")?;
+    Ok(line)
 }
 
-/// Makes a line of a package's blob: that of the package, to out (true), or the message that it can't be read, to err (false).
-fn render_blob(line: &mut Vec<u8>, number: u32, blob: &[u8]) -> Result<bool, Stop>
-    ensures line { IfOk result (λ to_out. step_of number (package_of (Some blob.now)) ≡ step_to to_out (bearer number) line.new.items) }
-    ensures memory { IfErr result (λ stop. stop ≡ Stop.NoMemory) }
-{
-    let Ok(view) = View::parse(blob) else {
-        return render_missing(line, number);
-    };
-    match render_line(line, &view) {
-        Ok(()) => Ok(true),
-        Err(_) => Err(Stop::NoMemory),
-    }
-}
-
-/// Makes a line the message for a number whose package can't be read.
-fn render_missing(line: &mut Vec<u8>, number: u32) -> Result<bool, Stop>
-    ensures line { IfOk result (λ to_out. step_of number Bad ≡ step_to to_out (bearer number) line.new.items) }
-    ensures memory { IfErr result (λ stop. stop ≡ Stop.NoMemory) }
-{
-    match render_bad(line, number) {
-        Ok(()) => Ok(false),
-        Err(_) => Err(Stop::NoMemory),
-    }
-}
-
-/// Reads a package and makes its line: true for one to out, false for one to err. Its blocks are read once, and its blob is
-/// let go again.
-fn read_line<D: Disk>(
-    alloc: Global,
-    db: &PkgDb,
-    disk: &mut D,
-    number: u32,
-    line: &mut Vec<u8>,
-) -> Result<bool, Stop>
-    requires keeps { IsTrue D.tells → Keeps (D.files disk.old).pkg db.now }
-    requires held { IsSome (slot_with number db.now.slots) }
-    ensures line { IfOk result (λ to_out. IsTrue D.tells → (p : Package) → get (installed (D.files disk.old).pkg db.now) number ≡ Some p → step_of number p ≡ step_to to_out (bearer number) line.new.items) }
+/// Writes to err that a package can't be read.
+fn put_bad<E: Sink>(alloc: Global, err: &mut E, number: u32) -> Result<bool, Stop>
+    ensures step { (out_tells : Bool) (out : List ℕ) → StepIs (ToErr (bearer number) (bad_line number)) result (outputs out_tells out E.tells (E.taken err.old)) (outputs out_tells out E.tells (E.taken err.new)) }
+    ensures no_disk { result ≢ Err Stop.DiskFault }
     ensures no_out { result ≢ Err Stop.OutFault }
-    ensures no_err { result ≢ Err Stop.ErrFault }
-    ensures kept { IsTrue D.tells → Keeps (D.files disk.new).pkg db.now }
-    ensures looks { Looks D.tells D.files D.left_since D.moment D.bytes_read D.follows (cost number db.now) disk.old disk.new }
-    ensures cause { HasCauseAt (result ≡ Err Stop.DiskFault) (D.faults disk.old) (D.faults disk.new) }
+    ensures err { HasCauseAt (result ≡ Err Stop.ErrFault) (E.faults err.old) (E.faults err.new) }
 {
-    match db.get(alloc, disk, number) {
-        Ok(blob) => render_blob(line, number, &blob),
-        Err(GetFault::Bad) => render_missing(line, number),
-        Err(GetFault::NoSuch) => unreachable!(),
-        Err(GetFault::DiskFault) => Err(Stop::DiskFault),
-        Err(GetFault::NoMemory) => Err(Stop::NoMemory),
+    match bad_line(alloc, number) {
+        Ok(line) => put_message(err, number, &line),
+        Err(_) => Err(Stop::NoMemory),
     }
 }
 
-/// Writes a line to out (true) or to err (false).
-fn put_line<O: Sink, E: Sink>(
-    line: &[u8],
-    to_out: bool,
+/// Prints what the format says of a header, to out (true), or where a bracket's tags have different numbers of elements
+/// a message, to err (false).
+#[tactic(auto, unfolding(crate::specs::Steps::sizes_line))]
+fn print_header<O: Sink, E: Sink>(
+    format: &Format,
+    view: &View<'_>,
+    number: u32,
     out: &mut O,
     err: &mut E,
 ) -> Result<bool, Stop>
-    ensures step { (b : Bearer) → StepIs (step_to to_out b line.now) result (outputs O.tells (O.taken out.old) E.tells (E.taken err.old)) (outputs O.tells (O.taken out.new) E.tells (E.taken err.new)) }
+    ensures step { StepIs (step_of format.now number (Good view.now)) result (outputs O.tells (O.taken out.old) E.tells (E.taken err.old)) (outputs O.tells (O.taken out.new) E.tells (E.taken err.new)) }
     ensures no_disk { result ≢ Err Stop.DiskFault }
     ensures out { HasCauseAt (result ≡ Err Stop.OutFault) (O.faults out.old) (O.faults out.new) }
     ensures err { HasCauseAt (result ≡ Err Stop.ErrFault) (E.faults err.old) (E.faults err.new) }
 {
-    if to_out {
-        match put_all(out, line) {
-            Ok(()) => Ok(true),
-            Err(_) => Err(Stop::OutFault),
-        }
-    } else {
-        match put_all(err, line) {
-            Ok(()) => Ok(false),
-            Err(_) => Err(Stop::ErrFault),
-        }
+    match print_direct(format, view, number, out) {
+        Ok(()) => Ok(true),
+        Err(DirectFault::OutFault) => Err(Stop::OutFault),
+        Err(DirectFault::SizesDiffer { .. }) => put_message(
+            err,
+            number,
+            b"error: incorrect format: array iterator used with different sized arrays\n",
+        ),
     }
 }
 
-/// Writes the line of a package: true where it went to out. The package's blocks are read once, and the line is one write.
-pub fn put_package<D: Disk, O: Sink, E: Sink>(
+/// Prints a package by its blob, to out (true), or a message, to err (false).
+fn print_blob<O: Sink, E: Sink>(
+    alloc: Global,
+    format: &Format,
+    number: u32,
+    blob: &[u8],
+    out: &mut O,
+    err: &mut E,
+) -> Result<bool, Stop>
+    ensures step { StepIs (step_of format.now number (package_of (Some blob.now))) result (outputs O.tells (O.taken out.old) E.tells (E.taken err.old)) (outputs O.tells (O.taken out.new) E.tells (E.taken err.new)) }
+    ensures no_disk { result ≢ Err Stop.DiskFault }
+    ensures out { HasCauseAt (result ≡ Err Stop.OutFault) (O.faults out.old) (O.faults out.new) }
+    ensures err { HasCauseAt (result ≡ Err Stop.ErrFault) (E.faults err.old) (E.faults err.new) }
+{
+    match View::parse(blob) {
+        Ok(view) => print_header(format, &view, number, out, err),
+        Err(_) => put_bad(alloc, err, number),
+    }
+}
+
+/// Prints a package, to out (true), or a message, to err (false). Its blocks are read once, and its blob is let go again.
+pub fn print_package<D: Disk, O: Sink, E: Sink>(
     alloc: Global,
     db: &PkgDb,
     disk: &mut D,
     number: u32,
-    line: &mut Vec<u8>,
+    format: &Format,
     out: &mut O,
     err: &mut E,
 ) -> Result<bool, Stop>
     requires keeps { IsTrue D.tells → Keeps (D.files disk.old).pkg db.now }
     requires held { IsSome (slot_with number db.now.slots) }
-    ensures step { IsTrue D.tells → (p : Package) → get (installed (D.files disk.old).pkg db.now) number ≡ Some p → StepIs (step_of number p) result (outputs O.tells (O.taken out.old) E.tells (E.taken err.old)) (outputs O.tells (O.taken out.new) E.tells (E.taken err.new)) }
+    ensures step { IsTrue D.tells → (p : Package) → get (installed (D.files disk.old).pkg db.now) number ≡ Some p → StepIs (step_of format.now number p) result (outputs O.tells (O.taken out.old) E.tells (E.taken err.old)) (outputs O.tells (O.taken out.new) E.tells (E.taken err.new)) }
     ensures kept { IsTrue D.tells → Keeps (D.files disk.new).pkg db.now }
     ensures looks { Looks D.tells D.files D.left_since D.moment D.bytes_read D.follows (cost number db.now) disk.old disk.new }
     ensures disk { HasCauseAt (result ≡ Err Stop.DiskFault) (D.faults disk.old) (D.faults disk.new) }
     ensures out { HasCauseAt (result ≡ Err Stop.OutFault) (O.faults out.old) (O.faults out.new) }
     ensures err { HasCauseAt (result ≡ Err Stop.ErrFault) (E.faults err.old) (E.faults err.new) }
 {
-    match read_line(alloc, db, disk, number, line) {
-        Ok(to_out) => put_line(line, to_out, out, err),
-        Err(stop) => Err(stop),
+    match db.get(alloc, disk, number) {
+        Ok(blob) => print_blob(alloc, format, number, &blob, out, err),
+        Err(GetFault::Bad) => put_bad(alloc, err, number),
+        Err(GetFault::NoSuch) => unreachable!(),
+        Err(GetFault::DiskFault) => Err(Stop::DiskFault),
+        Err(GetFault::NoMemory) => Err(Stop::NoMemory),
     }
 }

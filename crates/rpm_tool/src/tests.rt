@@ -1,6 +1,9 @@
-use crate::words::{Words, place_of};
-use crate::{Damage, Outcome, Reason, Unbuilt, Why, run};
+mod formats;
+mod words;
+
+use crate::{Damage, Outcome, Reason, Why, run};
 use rpm_outside::{File, MemDisk, MemShelf, MemSink};
+use rpm_words::Words;
 use std::alloc::{AllocError, Global};
 use std::test::Fail;
 
@@ -200,6 +203,7 @@ fn changed(mut file: Vec<u8>, at: usize, bytes: &[u8]) -> Vec<u8> {
 struct Ran {
     outcome: Outcome,
     disk: MemDisk,
+    shelf: MemShelf,
     out: MemSink,
     err: MemSink,
 }
@@ -207,14 +211,14 @@ struct Ran {
 // Runs words on a file, with a disk call that is to fail (0: none), and limits of the sinks.
 fn run_on(
     alloc: Global,
-    words: &str,
+    words: &[&str],
     file: &[u8],
     call: u64,
     limits: [u64; 2],
 ) -> Result<Ran, AllocError> {
     let mut line = Words::new(alloc);
-    for word in words.split_whitespace() {
-        if line.len() < 8 {
+    for word in words {
+        if line.len() < u32::MAX {
             line.push(word)?;
         }
     }
@@ -229,12 +233,15 @@ fn run_on(
     Ok(Ran {
         outcome,
         disk,
+        shelf,
         out,
         err,
     })
 }
 
 const NO_LIMITS: [u64; 2] = [u64::MAX, u64::MAX];
+
+const ALL: &[&str] = &["rpm", "-qa"];
 
 // Whether `rpm -qa` on a file ends so, with this status and these bytes on out and err.
 fn ends(
@@ -245,13 +252,32 @@ fn ends(
     out: &[u8],
     err: &[u8],
 ) -> Result<bool, AllocError> {
-    let ran = run_on(alloc, "rpm -qa", file, 0, NO_LIMITS)?;
+    let ran = run_on(alloc, ALL, file, 0, NO_LIMITS)?;
     Ok(
         ran.outcome.why == why
             && ran.outcome.status == status
             && ran.outcome.changes == 0
             && ran.out.bytes() == out
             && ran.err.bytes() == err,
+    )
+}
+
+// Whether words are answered so, with this status and line, on a damaged file and with no call on it, the shelf or out.
+fn is_refused(
+    alloc: Global,
+    words: &[&str],
+    why: Why,
+    status: u8,
+    line: &[u8],
+) -> Result<bool, AllocError> {
+    let ran = run_on(alloc, words, &[0x51; 16], 1, [0, u64::MAX])?;
+    Ok(
+        ran.outcome.why == why
+            && ran.outcome.status == status
+            && ran.disk.faults() == 0
+            && ran.shelf.absences() == 0
+            && ran.out.faults() == 0
+            && ran.err.bytes() == line,
     )
 }
 
@@ -364,15 +390,14 @@ fn a_damaged_database_says_where(rt: HostRuntime) -> Result<(), Fail> {
 #[test]
 fn faults_end_the_query(rt: HostRuntime) -> Result<(), Fail> {
     let alloc = rt.alloc();
-    let words = "rpm -qa";
-    let failed = run_on(alloc, words, &three(alloc)?, 1, NO_LIMITS)?;
+    let failed = run_on(alloc, ALL, &three(alloc)?, 1, NO_LIMITS)?;
     assert!(rt; failed.outcome.why == Why::DiskFault && failed.outcome.status == 252);
     assert_eq!(rt;
         failed.err.bytes(),
         b"rpm: the database could not be read or written\n".as_slice()
     );
 
-    let failed = run_on(alloc, words, &one(alloc)?, 0, [3, 99])?;
+    let failed = run_on(alloc, ALL, &one(alloc)?, 0, [3, 99])?;
     assert!(rt; failed.outcome.why == Why::OutFault && failed.outcome.status == 253);
     assert_eq!(rt; failed.out.bytes(), b"a-1".as_slice());
     assert_eq!(rt;
@@ -382,7 +407,7 @@ fn faults_end_the_query(rt: HostRuntime) -> Result<(), Fail> {
 
     // Nothing of number 3 is read before the line of number 2 is cut off.
     let file = three(alloc)?;
-    let failed = run_on(alloc, words, &file, 0, [30, 99])?;
+    let failed = run_on(alloc, ALL, &file, 0, [30, 99])?;
     assert_eq!(rt;
         failed.out.bytes(),
         b"libx-1.0~rc1-1.noarch\nbash-5.1".as_slice()
@@ -394,53 +419,8 @@ fn faults_end_the_query(rt: HostRuntime) -> Result<(), Fail> {
     );
 
     let last = file.len().saturating_sub(1);
-    let failed = run_on(alloc, words, &changed(file, last, b"F"), 0, [99, 5])?;
+    let failed = run_on(alloc, ALL, &changed(file, last, b"F"), 0, [99, 5])?;
     assert!(rt; failed.outcome.why == Why::ErrFault && failed.outcome.status == 253);
     assert_eq!(rt; failed.err.bytes(), b"error".as_slice());
-    Ok(())
-}
-
-#[test]
-fn other_words_are_not_built(rt: HostRuntime) -> Result<(), Fail> {
-    let alloc = rt.alloc();
-    for words in [
-        "",
-        "rpm",
-        "rpmdb -qa",
-        "rpm -q",
-        "rpm -qa x",
-        "rpm --dbpath -qa",
-        "rpm --root d -qa",
-        "rpm --dbpath d -qa x",
-    ] {
-        let ran = run_on(alloc, words, &[0x51; 16], 1, NO_LIMITS)?;
-        assert!(rt; ran.outcome.why == Why::NotBuilt(Unbuilt::Words) && ran.outcome.status == 252);
-        assert!(rt; ran.out.bytes().is_empty() && ran.disk.faults() == 0);
-        assert_eq!(rt; ran.err.bytes(), b"rpm: not built yet\n".as_slice());
-    }
-    let ran = run_on(alloc, "rpm --dbpath d -qa", &one(alloc)?, 0, NO_LIMITS)?;
-    assert_eq!(rt; ran.out.bytes(), b"a-1-2.x\n".as_slice());
-    Ok(())
-}
-
-#[test]
-fn the_folder_is_the_third_word(rt: HostRuntime) -> Result<(), Fail> {
-    let alloc = rt.alloc();
-    for (words, place) in [
-        ("rpm --dbpath d", "d"),
-        ("rpmdb --dbpath d --initdb", "d"),
-        ("rpm --dbpath", "/var/lib/rpm"),
-        ("rpm -qa d", "/var/lib/rpm"),
-        ("dnf --dbpath d", "/var/lib/rpm"),
-        ("", "/var/lib/rpm"),
-    ] {
-        let mut line = Words::new(alloc);
-        for word in words.split_whitespace() {
-            if line.len() < 8 {
-                line.push(word)?;
-            }
-        }
-        assert_eq!(rt; place_of(&line), place);
-    }
     Ok(())
 }

@@ -17,7 +17,7 @@ invariant-loop-next g l = record {
   disk : g.D.Disk.faults l.initial.disk ≤ g.D.Disk.faults l.disk;
   out : g.O.Sink.faults l.initial.out ≤ g.O.Sink.faults l.out;
   err : g.E.Sink.faults l.initial.err ≤ g.E.Sink.faults l.err;
-  before : IsTrue g.D.Disk.tells → Before g.O.Sink.tells g.E.Sink.tells (steps_of (entries (installed (g.D.Disk.files l.initial.disk).pkg l.db))) (above l.number (entries (installed (g.D.Disk.files l.initial.disk).pkg l.db))) l.is_failed (g.O.Sink.taken l.initial.out) (g.O.Sink.taken l.out) (g.E.Sink.taken l.initial.err) (g.E.Sink.taken l.err);
+  before : IsTrue g.D.Disk.tells → Before l.format g.O.Sink.tells g.E.Sink.tells (steps_of l.format (entries (installed (g.D.Disk.files l.initial.disk).pkg l.db))) (above l.number (entries (installed (g.D.Disk.files l.initial.disk).pkg l.db))) l.is_failed (g.O.Sink.taken l.initial.out) (g.O.Sink.taken l.out) (g.E.Sink.taken l.initial.err) (g.E.Sink.taken l.err);
 }
 
 abbrev pub decreases-loop-next : goal.decreases-loop-next

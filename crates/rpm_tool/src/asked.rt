@@ -1,0 +1,89 @@
+//! The command that the words ask for, where it is built, and its format.
+
+ghost use Rattle.std.specs.Prelude.{◌≡◌, true, Some, Ok, IfOk, IfErr, drop};
+ghost use Rattle.rpm_words.specs.Place.{text_at};
+ghost use Rattle.rpm_words.specs.Ask.{ask};
+ghost use Rattle.rpm_tool.specs.Asked.{is_built, format_text, asks_format};
+ghost use Rattle.rpm_tool.specs.Answers.{Undone};
+
+use crate::answer::{Unbuilt, Why};
+use rpm_qfparse::{Format, FormatKind, parse};
+use rpm_words::{Ask, Chosen, Mode, Span, Words, WordsKind, read};
+use std::alloc::Global;
+
+/// Whether a command is built: the query of all packages, from the first one on.
+#[tactic(auto, unfolding(crate::specs::Asked::is_built))]
+fn is_built(ask: &Ask) -> bool
+    ensures { result ≡ is_built ask.now }
+{
+    matches!(ask.mode(), Mode::Query)
+        && matches!(ask.chosen(), Chosen::All)
+        && ask.arguments() == 0
+        && ask.after() == 0
+        && !ask.noindex()
+}
+
+/// The word at a place, or the empty text.
+pub fn text_at(words: &Words, i: u32) -> &[u8]
+    ensures { result.now ≡ text_at words.now i }
+{
+    if i < words.len() {
+        words.word(i).as_bytes()
+    } else {
+        b""
+    }
+}
+
+/// The text from a place on.
+fn text_from(words: &Words, span: Span) -> &[u8]
+    ensures { result.now ≡ drop span.from (text_at words.now span.word) }
+{
+    let text = text_at(words, span.word);
+    let from = span.from as usize;
+    if from < text.len() {
+        &text[from..]
+    } else {
+        b""
+    }
+}
+
+/// The text of the format: the one that is given, that of the list, or else that of labels.
+#[tactic(auto, unfolding(crate::specs::Asked::label_format, crate::specs::Asked::list_format))]
+fn format_text<'a>(words: &'a Words, ask: &Ask) -> &'a [u8]
+    ensures { result.now ≡ format_text words.now ask.now }
+{
+    if ask.lists() {
+        return b"%|FILENAMES?{[%{FILENAMES}\\n]}:{(contains no files)\\n}|";
+    }
+    match ask.format() {
+        Some(span) => text_from(words, span),
+        None => b"%{NVRA}\\n",
+    }
+}
+
+/// Reads the words: their command, where it is built, or else how they end. Goes over them once.
+fn read_words(alloc: Global, words: &Words) -> Result<Ask, Why>
+    ensures ok { IfOk result (λ a. (ask words.now ≡ Ok a) × (is_built a ≡ true)) }
+    ensures undone { IfErr result (λ why. Undone (ask words.now) (asks_format words.now) why) }
+{
+    match read(alloc, words) {
+        Ok(ask) if is_built(&ask) => Ok(ask),
+        Ok(_) => Err(Why::NotBuilt(Unbuilt::Words)),
+        Err(fault) if fault.kind == WordsKind::NoMemory => Err(Why::NoMemory),
+        Err(fault) => Err(Why::Usage(fault)),
+    }
+}
+
+/// Reads the words, and then the format by which they ask for packages; or else how they end. Goes over both once.
+#[tactic(auto, unfolding(crate::specs::Asked::asks_format))]
+pub fn read_format(alloc: Global, words: &Words) -> Result<Format, Why>
+    ensures ok { IfOk result (λ tree. asks_format words.now ≡ Some (Ok tree)) }
+    ensures undone { IfErr result (λ why. Undone (ask words.now) (asks_format words.now) why) }
+{
+    let ask = read_words(alloc, words)?;
+    match parse(alloc, format_text(words, &ask)) {
+        Ok(format) => Ok(format),
+        Err(fault) if fault.kind == FormatKind::NoMemory => Err(Why::NoMemory),
+        Err(fault) => Err(Why::BadFormat(fault)),
+    }
+}
