@@ -1,5 +1,6 @@
 pub mod Again
 pub mod Bools
+pub mod Counted
 pub mod Cut
 pub mod Dribbled
 pub mod Each
@@ -12,7 +13,10 @@ pub mod NumbersAgain
 pub mod Opened
 pub mod Packing
 pub mod Region
+pub mod Repacked
+pub mod Stored
 pub mod Texts
+pub mod Skipped
 pub mod TextsAgain
 pub mod Values
 pub mod Whole

@@ -33,3 +33,7 @@ texts_item tag f ts = record { tag = tag; form = f; count = length ts; values = 
 
 abbrev pub bin_item : ℕ → List ℕ → Item
 bin_item tag bytes = record { tag = tag; form = form.Bin; count = length bytes; values = Bytes bytes }
+
+-- an entry under another tag
+abbrev pub retagged : ℕ → Item → Item
+retagged tag e = record { tag = tag; form = e.form; count = e.count; values = e.values }

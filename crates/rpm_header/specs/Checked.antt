@@ -9,7 +9,7 @@ use Rattle.rpm_header.specs.Header.{alignment, fault_at}
 -- there is an element, and all of them stand in the data from the entry's offset on
 abbrev pub HasRoom : Form → ℕ → List ℕ → Type 0
 HasRoom form.Null count bytes = Unit {0}
-HasRoom form.Text count bytes = (0 < count) × (are_ended count bytes ≡ true)
+HasRoom form.Text count bytes = (0 < count) × (are_ended count bytes ≡ true) × (count ≡ 1)
 HasRoom form.Texts count bytes = (0 < count) × (are_ended count bytes ≡ true)
 HasRoom form.I18n count bytes = (0 < count) × (are_ended count bytes ≡ true)
 HasRoom f count bytes = (0 < count) × (count * alignment f ≤ length bytes)

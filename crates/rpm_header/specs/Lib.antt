@@ -7,3 +7,4 @@ pub mod Header
 pub mod Laid
 pub mod Packed
 pub mod Parts
+pub mod Zeros

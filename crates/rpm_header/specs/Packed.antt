@@ -4,8 +4,8 @@ use Rattle.std.specs.List.{AllByRecursion}
 use Rattle.rpm_header.specs.declared.form.Form.{Form}
 use Rattle.rpm_header.specs.declared.form.Form.TheVariants as form
 use Rattle.rpm_header.specs.Bytes.{texts}
-use Rattle.rpm_header.specs.Header.{Item, values, element_fault, is_region_tag}
-use Rattle.rpm_header.specs.Build.{IsText}
+use Rattle.rpm_header.specs.Header.{Item, values, numbers_of, texts_of, element_fault, is_region_tag}
+use Rattle.rpm_header.specs.Build.{AllFit, IsText}
 use Rattle.rpm_header.specs.Laid.{bytes_by, bytes_in, joined}
 
 -- the texts that these bytes hold are all that they hold
@@ -26,3 +26,13 @@ pub record ReadsBack (e : Item) : Type 0 where
   pub no_null : e.form ≢ form.Null
   pub again : (rest : List ℕ) → values e.form e.count (bytes_in e ++ rest) ≡ e.values
   pub sound : (i : ℕ) (rest : List ℕ) → element_fault e.form i e.count (bytes_in e ++ rest) ≡ None
+
+-- the entry of so many elements, with which these bytes begin
+abbrev pub item_at : ℕ → Form → ℕ → List ℕ → Item
+item_at tag f count bytes = record { tag = tag; form = f; count = count; values = values f count bytes }
+
+-- an entry that a header stores: its numbers fit its form, its texts have no zero byte, and a text stands once
+pub record IsStored (e : Item) : Type 0 where
+  pub fit : AllFit e.form (numbers_of e.values)
+  pub each : AllByRecursion IsText (texts_of e.values)
+  pub one : e.form ≡ form.Text → e.count ≡ 1

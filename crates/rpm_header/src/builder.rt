@@ -1,12 +1,13 @@
 //! A header that is being made.
 
-ghost use Rattle.std.specs.Prelude.{◌≡◌, ℕ, ◌++◌, ◌∷◌, [], ◌<◌, ◌≤◌, ◌↔◌, length, false, OnOk, OnErr, IfOk, IsTrue, Ok};
+ghost use Rattle.std.specs.Prelude.{◌≡◌, ◌≢◌, ℕ, ◌++◌, ◌∷◌, [], ◌<◌, ◌≤◌, ◌↔◌, length, false, OnOk, OnErr, IfOk, IsTrue, Ok};
 ghost use Rattle.std.specs.List.{AllByRecursion};
 ghost use Rattle.rpm_header.specs.Header.{header, has_numbers, is_region_tag};
-ghost use Rattle.rpm_header.specs.Build.{AllFit, IsText, is_text_list, numbers_item, text_item, texts_item, bin_item};
+ghost use Rattle.rpm_header.specs.Build.{AllFit, IsText, is_text_list, numbers_item, text_item, texts_item, bin_item, retagged};
 ghost use Rattle.rpm_header.specs.Laid.{laid, with_region, data_of, lengths_of};
 ghost use Rattle.rpm_header.specs.Packed.{ReadsBack};
 
+use crate::entry::Entry;
 use crate::form::Form;
 use crate::laying::{
     BuildFault, Lengths, append_data, append_index, append_region_entry, append_trailer, begin,
@@ -116,6 +117,20 @@ impl Builder {
         ensures err { OnErr result (self.new ≡ self.old) }
     {
         self.push(PackedEntry::bin(self.alloc, tag, bytes)?)
+    }
+
+    /// Adds an entry of a header that was read, under a tag of the caller's. Copies its elements' bytes as they stand there.
+    ///
+    /// # Errors
+    ///
+    /// `AllocError` where no memory is found; the header is then as it was.
+    pub fn push_entry(&mut self, tag: u32, entry: &Entry<'_>) -> Result<(), AllocError>
+        requires tag { is_region_tag tag ≡ false }
+        requires elements { entry.now.form ≢ Form.Null }
+        ensures ok { OnOk result (self.new ≡ self.old ++ retagged tag entry.now ∷ []) }
+        ensures err { OnErr result (self.new ≡ self.old) }
+    {
+        self.push(PackedEntry::stored(self.alloc, tag, entry)?)
     }
 
     /// The entries, each of which reads back from its bytes.

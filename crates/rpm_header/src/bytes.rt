@@ -1,9 +1,10 @@
 //! Numbers and texts as they stand in bytes.
 
-ghost use Rattle.std.specs.Prelude.{◌≡◌, ℕ, ◌+◌, ◌≤◌, ◌<◌, length, false, true, is_some, IfSome, MatchOption, slice_get, Some};
+ghost use Rattle.std.specs.Prelude.{◌≡◌, ℕ, ◌+◌, ◌≤◌, ◌<◌, length, false, true, is_some, IfSome, MatchOption, slice_get, Some, take};
 ghost use Rattle.std.specs.List.{position};
 ghost use Rattle.std.specs.Int.{w16, w32, w64};
 ghost use Rattle.rpm_header.specs.Bytes.{number_at, is_zero, are_ended, texts, Splits};
+ghost use Rattle.rpm_header.specs.Laid.{joined};
 
 /// The number of two bytes from a place on, the highest first.
 #[tactic(auto, unfolding(crate::specs::Bytes::number_at))]
@@ -91,4 +92,18 @@ pub fn text_of(count: u32, bytes: &[u8], i: u32) -> &[u8]
     }
     let (text, _) = next_text(rest);
     text
+}
+
+/// Where so many texts end that have their zero bytes. Reads the bytes of these texts once.
+pub fn texts_end(count: u32, bytes: &[u8]) -> usize
+    requires { are_ended count bytes.now ≡ true }
+    ensures within { result ≤ length bytes.now }
+    ensures value { take result bytes.now ≡ joined (texts count bytes.now) }
+{
+    let mut rest = bytes;
+    for _ in 0..count {
+        let (_, others) = next_text(rest);
+        rest = others;
+    }
+    bytes.len() - rest.len()
 }

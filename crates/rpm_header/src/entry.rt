@@ -1,13 +1,16 @@
 //! One entry of a header, and its elements.
 
-ghost use Rattle.std.specs.Prelude.{◌≡◌, ℕ, ◌+◌, ◌*◌, ◌≤◌, ◌<◌, length, IsTrue, Some, slice_get, drop, None};
+ghost use Rattle.std.specs.Prelude.{◌≡◌, ◌≢◌, ℕ, ◌+◌, ◌*◌, ◌≤◌, ◌<◌, length, IsTrue, Some, slice_get, drop, None};
 ghost use Rattle.std.specs.Iterator.{YieldsFirstRef, item_count};
 ghost use Rattle.rpm_header.specs.Header.{has_numbers, has_texts, numbers_of, texts_of, bytes_of, IsWhole, form_fault, values, entry_of, index_entry, section_of};
-ghost use Rattle.rpm_header.specs.Checked.{HasRoom, IsSound};
+ghost use Rattle.rpm_header.specs.Checked.{HasRoom, IsInside, IsSound};
+ghost use Rattle.rpm_header.specs.Laid.{bytes_in};
+ghost use Rattle.rpm_header.specs.Packed.{item_at, IsStored};
 
-use crate::bytes::{next_text, text_of, u16_at, u32_at, u64_at};
+use crate::bytes::{next_text, text_of, texts_end, u16_at, u32_at, u64_at};
 use crate::form::Form;
-use crate::index::{IndexEntry, form_of, index_entry_at, section_of};
+use crate::index::{IndexEntry, alignment, form_of, has_texts, index_entry_at, section_of};
+use crate::places::TextPlaces;
 use std::marker::Model;
 
 /// One entry of a header: a tag, and elements that borrow the header's bytes. Contracts see it as
@@ -101,12 +104,29 @@ impl<'a> Entry<'a> {
         }
     }
 
+    /// All texts by place, to be read in any order. Counts the zeros of their bytes once.
+    pub fn places(&self) -> TextPlaces<'a>
+        requires { IsTrue (has_texts self.now.form) }
+        ensures { result ≡ texts_of self.now.values }
+    {
+        TextPlaces::new(self.count, self.bytes)
+    }
+
     /// The bytes of a `Bin`, borrowed from the header. Reads none of them.
     pub fn bytes(&self) -> &'a [u8]
         requires { self.now.form ≡ Form.Bin }
         ensures { result.now ≡ bytes_of self.now.values }
     {
         &self.bytes[..self.count as usize]
+    }
+
+    /// The bytes of the elements as the header stores them, texts with their zero bytes. Reads the bytes of texts once.
+    pub(crate) fn stored(&self) -> &'a [u8]
+        requires { self.now.form ≢ Form.Null }
+        ensures value { result.now ≡ bytes_in self.now }
+        ensures again { IsStored self.now }
+    {
+        stored_of(self.tag, self.form, self.count, self.bytes)
     }
 }
 
@@ -145,6 +165,21 @@ impl<'a> Iterator for EntryTexts<'a> {
         self.bytes = others;
         Some(text)
     }
+}
+
+/// The bytes of so many elements of an entry, with which these bytes begin.
+fn stored_of<'a>(tag: u32, form: Form, count: u32, bytes: &'a [u8]) -> &'a [u8]
+    requires inside { IsInside form count bytes.now }
+    requires elements { form ≢ Form.Null }
+    ensures value { result.now ≡ bytes_in (item_at tag form count bytes.now) }
+    ensures again { IsStored (item_at tag form count bytes.now) }
+{
+    let end = if has_texts(form) {
+        texts_end(count, bytes)
+    } else {
+        count as usize * alignment(form) as usize
+    };
+    &bytes[..end]
 }
 
 /// The data from the offset of an entry without a fault on; of a `Null`, whose offset means

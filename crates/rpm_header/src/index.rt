@@ -1,9 +1,10 @@
 //! The index of a header, its limits, and the faults of its entries.
 
-ghost use Rattle.std.specs.Prelude.{◌≡◌, ℕ, ◌+◌, ◌*◌, ◌≤◌, ◌<◌, length};
+ghost use Rattle.std.specs.Prelude.{◌≡◌, ℕ, ◌+◌, ◌*◌, ◌≤◌, ◌<◌, length, drop};
 ghost use Rattle.rpm_header.specs.Header.{index_entry_at, form_of, alignment, has_texts, is_region_tag, is_bad_count, element_fault, form_fault, counts_back, region_fault, fault_at, section_of};
 
-use crate::bytes::{are_ended, u32_at};
+use crate::bytes::u32_at;
+use crate::ends::TextEnds;
 use crate::form::{Form, HeaderFault};
 
 /// The most entries that a header has.
@@ -55,7 +56,7 @@ pub fn alignment(form: Form) -> u32
     }
 }
 
-fn has_texts(form: Form) -> bool
+pub fn has_texts(form: Form) -> bool
     ensures { result ≡ has_texts form }
 {
     matches!(form, Form::Text | Form::Texts | Form::I18n)
@@ -92,12 +93,21 @@ fn is_bad_count(form: Form, count: u32, bytes: &[u8]) -> bool
     }
 }
 
-fn element_fault(form: Form, i: u32, count: u32, bytes: &[u8]) -> Option<HeaderFault>
-    ensures { result ≡ element_fault form i count bytes.now }
+fn element_fault(
+    form: Form,
+    i: u32,
+    entry: IndexEntry,
+    ends: &mut TextEnds<'_>,
+) -> Option<HeaderFault>
+    requires { entry.offset ≤ length ends.old }
+    ensures value { result ≡ element_fault form i entry.count (drop entry.offset ends.old) }
+    ensures same { ends.new ≡ ends.old }
 {
-    if is_bad_count(form, count, bytes) {
+    let offset = entry.offset as usize;
+    let section = ends.section();
+    if is_bad_count(form, entry.count, &section[offset..]) {
         Some(HeaderFault::BadCount(i))
-    } else if has_texts(form) && !are_ended(count, bytes) {
+    } else if has_texts(form) && !ends.are_ended(entry.count, offset) {
         Some(HeaderFault::NoEnd(i))
     } else {
         None
@@ -105,8 +115,14 @@ fn element_fault(form: Form, i: u32, count: u32, bytes: &[u8]) -> Option<HeaderF
 }
 
 /// The fault of entry i as any entry may have it, over the whole data.
-fn form_fault(form: Option<Form>, i: u32, entry: IndexEntry, section: &[u8]) -> Option<HeaderFault>
-    ensures { result ≡ form_fault form i entry section.now }
+fn form_fault(
+    form: Option<Form>,
+    i: u32,
+    entry: IndexEntry,
+    ends: &mut TextEnds<'_>,
+) -> Option<HeaderFault>
+    ensures value { result ≡ form_fault form i entry ends.old }
+    ensures same { ends.new ≡ ends.old }
 {
     let Some(form) = form else {
         return Some(HeaderFault::BadType(i));
@@ -114,11 +130,10 @@ fn form_fault(form: Option<Form>, i: u32, entry: IndexEntry, section: &[u8]) -> 
     if form == Form::Null {
         return None;
     }
-    let offset = entry.offset as usize;
-    if offset > section.len() || entry.offset % alignment(form) != 0 {
+    if entry.offset as usize > ends.section().len() || entry.offset % alignment(form) != 0 {
         return Some(HeaderFault::BadOffset(i));
     }
-    element_fault(form, i, entry.count, &section[offset..])
+    element_fault(form, i, entry, ends)
 }
 
 /// Whether a number, read as signed, is `-16 * r` for some r from 1 to il.
@@ -151,18 +166,19 @@ pub fn section_of(il: u32, blob: &[u8]) -> &[u8]
 }
 
 /// The first fault of entry i of a header of il entries, whose own bytes are the blob. Reads the
-/// entry once and each byte of its texts once.
+/// entry once, and of its texts what `TextEnds` reads.
 #[tactic(auto, unfolding(crate::specs::Header::fault_at, crate::specs::Header::entry_fault))]
-pub fn fault_at(il: u32, blob: &[u8], i: u32) -> Option<HeaderFault>
+pub fn fault_at(il: u32, blob: &[u8], i: u32, ends: &mut TextEnds<'_>) -> Option<HeaderFault>
     requires below { i < il }
     requires index { 8 + 16 * il ≤ length blob.now }
-    ensures { result ≡ fault_at il blob.now i }
+    requires section { ends.old ≡ section_of il blob.now }
+    ensures value { result ≡ fault_at il blob.now i }
+    ensures same { ends.new ≡ ends.old }
 {
     let entry = index_entry_at(blob, 8 + 16 * i as usize);
-    let section = section_of(il, blob);
-    let fault = form_fault(form_of(entry.kind), i, entry, section);
+    let fault = form_fault(form_of(entry.kind), i, entry, ends);
     if fault.is_none() && i == 0 && is_region_tag(entry.tag) {
-        region_fault(il, entry, section)
+        region_fault(il, entry, ends.section())
     } else {
         fault
     }

@@ -18,16 +18,19 @@ mod builder;
 mod bytes;
 mod digest;
 mod dribbles;
+mod ends;
 mod entry;
 mod form;
 mod index;
 mod laying;
 mod packed;
 mod parts;
+mod places;
 #[cfg(test)]
 mod tests;
 mod text_list;
 mod view;
+mod zeros;
 
 pub use builder::Builder;
 pub use digest::immutable_digest;
@@ -35,6 +38,7 @@ pub use dribbles::with_dribbles;
 pub use entry::{Entry, EntryTexts};
 pub use form::{Form, HeaderFault};
 pub use laying::BuildFault;
+pub use places::TextPlaces;
 pub use text_list::TextList;
 pub use view::View;
 

@@ -1,13 +1,14 @@
 //! An entry that is kept until its header is laid out.
 
-ghost use Rattle.std.specs.Prelude.{◌≡◌, ℕ, ◌++◌, ◌∷◌, [], ◌<◌, ◌≤◌, ◌*◌, ◌^◌, length, nat_lt, true, false, OnOk, OnErr, IfOk, IsTrue};
+ghost use Rattle.std.specs.Prelude.{◌≡◌, ◌≢◌, ℕ, ◌++◌, ◌∷◌, [], ◌<◌, ◌≤◌, ◌*◌, ◌^◌, length, nat_lt, true, false, OnOk, OnErr, IfOk, IsTrue};
 ghost use Rattle.std.specs.Int.{byte_len, to_be_bytes};
 ghost use Rattle.std.specs.List.{AllByRecursion};
 ghost use Rattle.rpm_header.specs.Header.{width, has_numbers, is_region_tag};
-ghost use Rattle.rpm_header.specs.Build.{AllFit, IsText, is_text_list, numbers_item, text_item, texts_item, bin_item};
+ghost use Rattle.rpm_header.specs.Build.{AllFit, IsText, is_text_list, numbers_item, text_item, texts_item, bin_item, retagged};
 ghost use Rattle.rpm_header.specs.Laid.{bytes_in};
 ghost use Rattle.rpm_header.specs.Packed.{ReadsBack};
 
+use crate::entry::Entry;
 use crate::form::Form;
 use crate::text_list::{TextList, append_text};
 use std::alloc::{AllocError, Global};
@@ -126,6 +127,22 @@ impl PackedEntry {
             tag,
             form: Form::Bin,
             count,
+            bytes,
+        })
+    }
+
+    /// An entry of a header that was read, under another tag.
+    pub fn stored(alloc: Global, tag: u32, entry: &Entry<'_>) -> Result<PackedEntry, AllocError>
+        requires tag { is_region_tag tag ≡ false }
+        requires elements { entry.now.form ≢ Form.Null }
+        ensures value { IfOk result (λ packed. packed ≡ retagged tag entry.now) }
+        ensures again { IfOk result (λ packed. ReadsBack packed) }
+    {
+        let bytes = Vec::from_slice(alloc, entry.stored())?;
+        Ok(PackedEntry {
+            tag,
+            form: entry.form(),
+            count: entry.count() as usize,
             bytes,
         })
     }

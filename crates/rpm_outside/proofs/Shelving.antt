@@ -1,6 +1,6 @@
 -- Items that are looked up one after the other.
-use Rattle.std.proofs.Common.{◌≡◌, ℕ, suc, ◌+◌, ◌<◌, min, Bool, true, false, cond, List, [], ◌∷◌, ◌++◌, length, take, drop, map, get_or, Option, Some, None, sym, ap, ◌∙◌, add-one, arith, drop-cons, take-append-drop}
-use Rattle.std.proofs.lemmas.List.{drop-drop, take-append-le, take_all, length-take, nil_from_length}
+use Rattle.std.proofs.Common.{◌≡◌, ℕ, suc, ◌+◌, ◌<◌, ◌≤◌, Bool, true, false, cond, List, [], ◌∷◌, ◌++◌, length, take, drop, map, get_or, Option, Some, None, sym, ap, ◌∙◌, add-one, arith, drop-cons, take-append-drop}
+use Rattle.std.proofs.lemmas.List.{drop-drop, take-append-le, take_all, length-take-le, nil_from_length}
 use Rattle.std.proofs.lemmas.Option.{slice_get-get_or}
 use Rattle.std.proofs.lemmas.Map.Text.{is_eq-slice_cmp}
 use Rattle.std.specs.Prelude.{string_bytes}
@@ -39,20 +39,29 @@ module _ (path : List ℕ) (items : List Item) (i : ℕ) (item : Item) (below : 
       ap (λ (k : ℕ). find_in path (drop k items)) (add-one i)
       ∙ sym (step ∙ ap (λ (t : Bool). cond t (Some item.bytes.items) (find_in path (drop (suc i) items))) other)
 
--- the first bytes of what is left are taken, as many as there is room for
-reads_of : (bytes left into given : List ℕ) (at count : ℕ) → left ≡ drop at bytes → count ≡ min (length left) (length into) → 0 < length into → given ≡ take count left ++ drop count into
-    → (left ≡ take count given ++ drop (at + count) bytes) × (take count given ≡ [] → left ≡ [])
-reads_of bytes left into given at count is_left is_count some is_given =
-    let long : length (take count left) ≡ count = omega (arith, length-take count left) in
-    let taken : take count given ≡ take count left = ap (take count) is_given ∙ take-append-le count (take count left) (drop count into) (omega arith) ∙ take_all count (take count left) (omega arith) in
-    let rest : drop count left ≡ drop (at + count) bytes = ap (drop count) is_left ∙ drop-drop count at bytes in
-    let whole : left ≡ take count given ++ drop (at + count) bytes = sym (take-append-drop count left) ∙ ap (λ (xs : List ℕ). xs ++ drop count left) (sym taken) ∙ ap (λ (xs : List ℕ). take count given ++ xs) rest in
-    (whole, λ none. nil_from_length left (omega (arith, ap length (sym taken ∙ none))))
+-- the first bytes of what is left are taken, and at least one where there is one and there is room
+pub record TakesFirst (left into given : List ℕ) (count : ℕ) : Type 0 where
+  pub there : count ≤ length left
+  pub room : count ≤ length into
+  pub one : count ≡ 0 → length left ≡ 0
+  pub given_is : given ≡ take count left ++ drop count into
 
-pub reads_first : (held : Option (List ℕ)) (left into given : List ℕ) (at count : ℕ) → option_map (drop at) held ≡ Some left → count ≡ min (length left) (length into) → 0 < length into → given ≡ take count left ++ drop count into
+reads_of : (bytes left into given : List ℕ) (at count : ℕ) → left ≡ drop at bytes → TakesFirst left into given count → (left ≡ take count given ++ drop (at + count) bytes) × (take count given ≡ [] → left ≡ [])
+reads_of bytes left into given at count is_left t =
+    let long : length (take count left) ≡ count = length-take-le count left t.there in
+    let taken : take count given ≡ take count left = ap (take count) t.given_is ∙ take-append-le count (take count left) (drop count into) (omega arith) ∙ take_all count (take count left) (omega arith) in
+    let rest : drop count left ≡ drop (at + count) bytes = ap (drop count) is_left ∙ drop-drop count at bytes in
+    let whole : left ≡ take count given ++ drop (at + count) bytes = sym (take-append-drop count left) ∙ ap (λ (xs : List ℕ). xs ++ drop count left) (sym taken) ∙ ap (λ (xs : List ℕ). take count given ++ xs) rest in (
+      whole,
+      λ none.
+          let nothing : count ≡ 0 = omega (arith, ap length (sym taken ∙ none)) in
+          nil_from_length left (t.one nothing),
+    )
+
+pub reads_first : (held : Option (List ℕ)) (left into given : List ℕ) (at count : ℕ) → option_map (drop at) held ≡ Some left → TakesFirst left into given count
     → Reads (option_map (drop at) held) (option_map (drop (at + count)) held) (take count given)
-reads_first None left into given at count is_left is_count some is_given = cc
-reads_first (Some bytes) left into given at count is_left is_count some is_given =
+reads_first None left into given at count is_left t = cc
+reads_first (Some bytes) left into given at count is_left t =
     let here : left ≡ drop at bytes = cc in
-    let both = reads_of bytes left into given at count here is_count some is_given in
+    let both = reads_of bytes left into given at count here t in
     (sym here ∙ both.0, λ none. sym here ∙ both.1 none)

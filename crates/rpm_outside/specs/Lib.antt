@@ -1,10 +1,18 @@
 pub mod Calls
 pub mod Causes
+pub mod Changed
 pub mod Crash
 pub mod Cuts
+pub mod EntryLaws
 pub mod Files
 pub mod History
 pub mod Literal
+pub mod Leaves
+pub mod LogLaws
+pub mod LogRules
+pub mod LogWrites
+pub mod Logs
+pub mod LogFixtures
 pub mod Looks
 pub mod MemSink
 pub mod MemShelf
@@ -13,6 +21,7 @@ pub mod Moments
 pub mod Past
 pub mod Picks
 pub mod PutLaws
+pub mod PutMore
 pub mod Puts
 pub mod Shelves
 pub mod Sinks

@@ -1,5 +1,5 @@
 -- What the shelf in memory holds, and when a read fails.
-use Rattle.std.specs.Prelude.{◌≡◌, ℕ, ◌+◌, ◌-◌, ◌^◌, min, Bool, List, map, drop, slice_get, Option, Some, None, false, ◌==◌, string_bytes}
+use Rattle.std.specs.Prelude.{◌≡◌, ℕ, ◌+◌, ◌-◌, ◌^◌, ◌≤◌, min, length, Bool, List, map, drop, slice_get, Option, Some, None, false, ◌==◌, string_bytes}
 use Rattle.std.specs.Option.{option_map, option_map_or}
 use Rattle.std.specs.FinMap.{from_entries}
 use Rattle.rpm_outside.specs.declared.mem_shelf.Item.{Item}
@@ -30,6 +30,10 @@ shelf_paths shelf = paths_of shelf.items.items
 abbrev pub shelf_rest : MemShelf → Option (List ℕ)
 shelf_rest shelf = rest_of shelf.items.items shelf.opened
 
+-- how many bytes a read takes at most
+abbrev pub shelf_most : MemShelf → ℕ
+shelf_most shelf = shelf.more + 1
+
 abbrev pub shelf_failing : MemShelf → Option ℕ
 shelf_failing shelf = shelf.failing
 
@@ -48,8 +52,14 @@ pub record SameReads (old new : MemShelf) : Type 0 where
   pub absences : shelf_absences new ≡ shelf_absences old
   pub faults : shelf_faults new ≡ shelf_faults old
 
--- the reads are counted from 1, and the one that was named fails, and no other
+abbrev pub length_left : Option (List ℕ) → ℕ
+length_left None = 0
+length_left (Some bytes) = length bytes
+
+-- the reads are counted from 1, and the one that was named fails, and no other; none takes more than so many bytes
 pub record FailsAsNamed (old : MemShelf) (failed : Bool) (new : MemShelf) : Type 0 where
   pub counted : shelf_reads new ≡ min (shelf_reads old + 1) (2 ^ 64 - 1)
   pub named : failed ≡ option_map_or (λ read. read == shelf_reads new) (shelf_failing old) false
   pub failing : shelf_failing new ≡ shelf_failing old
+  pub most : shelf_most new ≡ shelf_most old
+  pub few : length_left (shelf_rest old) ≤ length_left (shelf_rest new) + shelf_most old

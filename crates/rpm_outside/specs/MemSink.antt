@@ -1,5 +1,5 @@
 -- What the sink in memory holds, and when it fails.
-use Rattle.std.specs.Prelude.{◌≡◌, ◌⊎◌, ℕ, ◌<◌, ◌≤◌, Bool, true, List, length, Option, IsSomeAnd}
+use Rattle.std.specs.Prelude.{◌≡◌, ◌⊎◌, ℕ, ◌+◌, ◌<◌, ◌≤◌, Bool, true, List, length, Option, IsSomeAnd}
 use Rattle.rpm_outside.specs.declared.mem_sink.MemSink.{MemSink}
 use Rattle.rpm_outside.specs.Causes.{Rose}
 
@@ -8,6 +8,10 @@ sink_bytes sink = sink.bytes.items
 
 abbrev pub sink_limit : MemSink → Option ℕ
 sink_limit sink = sink.limit
+
+-- how many bytes a write takes at most
+abbrev pub sink_most : MemSink → ℕ
+sink_most sink = sink.more + 1
 
 abbrev pub sink_faults : MemSink → ℕ
 sink_faults sink = sink.faults
@@ -19,9 +23,11 @@ sink_starved sink = sink.starved
 abbrev pub IsFull : MemSink → Type 0
 IsFull sink = IsSomeAnd (sink_limit sink) (λ most. most ≤ length (sink_bytes sink))
 
--- a write fails where the sink is full, or where memory was wanting, and nowhere else
+-- a write fails where the sink is full, or where memory was wanting, and nowhere else; none takes more than so many bytes
 pub record FailsWhereFull (old : MemSink) (failed : Bool) (new : MemSink) : Type 0 where
   pub full : IsFull old → failed ≡ true
   pub starved : sink_starved old < sink_starved new → failed ≡ true
   pub cause : failed ≡ true → IsFull old ⊎ Rose (sink_starved old) (sink_starved new)
   pub limit : sink_limit new ≡ sink_limit old
+  pub most : sink_most new ≡ sink_most old
+  pub few : length (sink_bytes new) ≤ length (sink_bytes old) + sink_most old

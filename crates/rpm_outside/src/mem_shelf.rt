@@ -1,6 +1,6 @@
 //! A shelf in memory.
 
-ghost use Rattle.std.specs.Prelude.{◌≡◌, ℕ, ◌≤◌, [], true, Some, None, drop, length, IsSome, MatchOption, OnOk, OnErr};
+ghost use Rattle.std.specs.Prelude.{◌≡◌, ℕ, ◌^◌, ◌<◌, ◌≤◌, [], true, Some, None, drop, length, IsSome, MatchOption, OnOk, OnErr};
 ghost use Rattle.std.specs.FinMap.{empty, insert};
 ghost use Rattle.rpm_outside.specs.Shelves.{bytes_at};
 ghost use Rattle.rpm_outside.specs.MemShelf.{paths_of, bytes_in, left_in};
@@ -29,6 +29,8 @@ pub struct MemShelf {
     // The newest first.
     items: Vec<Item>,
     opened: Option<Opened>,
+    // How many bytes more than one a read takes at most.
+    more: u32,
     failing: Option<u64>,
     reads: u64,
     absences: u64,
@@ -70,12 +72,13 @@ fn left_in(items: &[Item], opened: Opened) -> Option<&[u8]>
 }
 
 impl MemShelf {
-    ghost use Rattle.rpm_outside.specs.MemShelf.{shelf_paths, shelf_rest, shelf_failing, shelf_reads, shelf_absences, shelf_faults, SameReads};
+    ghost use Rattle.rpm_outside.specs.MemShelf.{shelf_paths, shelf_rest, shelf_most, shelf_failing, shelf_reads, shelf_absences, shelf_faults, SameReads};
 
     /// An empty shelf, on which nothing is open.
     pub fn new(alloc: Global) -> MemShelf
         ensures paths { shelf_paths result ≡ empty }
         ensures rest { shelf_rest result ≡ None }
+        ensures most { shelf_most result ≡ 2 ^ 32 }
         ensures failing { shelf_failing result ≡ None }
         ensures reads { shelf_reads result ≡ 0 }
         ensures absences { shelf_absences result ≡ 0 }
@@ -85,6 +88,7 @@ impl MemShelf {
             alloc,
             items: Vec::new(alloc),
             opened: None,
+            more: u32::MAX,
             failing: None,
             reads: 0,
             absences: 0,
@@ -101,6 +105,7 @@ impl MemShelf {
         ensures put { OnOk result (shelf_paths self.new ≡ insert (shelf_paths self.old) path.now bytes.now) }
         ensures err { OnErr result (shelf_paths self.new ≡ shelf_paths self.old) }
         ensures rest { shelf_rest self.new ≡ shelf_rest self.old }
+        ensures most { shelf_most self.new ≡ shelf_most self.old }
         ensures failing { shelf_failing self.new ≡ shelf_failing self.old }
         ensures reads { SameReads self.old self.new }
     {
@@ -118,9 +123,22 @@ impl MemShelf {
         Ok(())
     }
 
+    /// Lets each later read take no more bytes than so many.
+    pub fn at_most(&mut self, bytes: u32)
+        requires { 0 < bytes }
+        ensures most { shelf_most self.new ≡ bytes }
+        ensures paths { shelf_paths self.new ≡ shelf_paths self.old }
+        ensures rest { shelf_rest self.new ≡ shelf_rest self.old }
+        ensures failing { shelf_failing self.new ≡ shelf_failing self.old }
+        ensures reads { SameReads self.old self.new }
+    {
+        self.more = bytes - 1;
+    }
+
     /// Lets one read fail, and no other. The reads are counted from 1.
     pub fn fail_read(&mut self, read: u64)
         ensures failing { shelf_failing self.new ≡ Some read }
+        ensures most { shelf_most self.new ≡ shelf_most self.old }
         ensures paths { shelf_paths self.new ≡ shelf_paths self.old }
         ensures rest { shelf_rest self.new ≡ shelf_rest self.old }
         ensures reads { SameReads self.old self.new }
@@ -184,7 +202,7 @@ impl Shelf for MemShelf {
         let Some(left) = left_in(&self.items, opened) else {
             return Ok(0);
         };
-        let count = left.len().min(into.len());
+        let count = left.len().min(into.len()).min(self.more as usize + 1);
         into[..count].copy_from_slice(&left[..count]);
         self.opened = Some(Opened {
             item: opened.item,

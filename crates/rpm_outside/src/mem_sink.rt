@@ -1,6 +1,6 @@
 //! A sink in memory.
 
-ghost use Rattle.std.specs.Prelude.{◌≡◌, ℕ, ◌≤◌, ◌-◌, min, true, Some, None, length, [], IfSome};
+ghost use Rattle.std.specs.Prelude.{◌≡◌, ℕ, ◌<◌, ◌≤◌, ◌-◌, ◌^◌, min, true, Some, None, length, [], IfSome};
 ghost use Rattle.rpm_outside.specs.Causes.{Rose};
 
 use crate::{Failed, Sink};
@@ -11,23 +11,27 @@ use std::alloc::Global;
 pub struct MemSink {
     bytes: Vec<u8>,
     limit: Option<u64>,
+    // How many bytes more than one a write takes at most.
+    more: u32,
     faults: u64,
     starved: u64,
 }
 
 impl MemSink {
-    ghost use Rattle.rpm_outside.specs.MemSink.{sink_bytes, sink_limit, sink_faults, sink_starved};
+    ghost use Rattle.rpm_outside.specs.MemSink.{sink_bytes, sink_limit, sink_most, sink_faults, sink_starved};
 
     /// An empty sink, which takes all that is written.
     pub fn new(alloc: Global) -> MemSink
         ensures bytes { sink_bytes result ≡ [] }
         ensures limit { sink_limit result ≡ None }
+        ensures most { sink_most result ≡ 2 ^ 32 }
         ensures faults { sink_faults result ≡ 0 }
         ensures starved { sink_starved result ≡ 0 }
     {
         MemSink {
             bytes: Vec::new(alloc),
             limit: None,
+            more: u32::MAX,
             faults: 0,
             starved: 0,
         }
@@ -36,11 +40,24 @@ impl MemSink {
     /// Lets any byte after so many fail, those that were taken already counted too.
     pub fn fail_after(&mut self, bytes: u64)
         ensures limit { sink_limit self.new ≡ Some bytes }
+        ensures most { sink_most self.new ≡ sink_most self.old }
         ensures bytes { sink_bytes self.new ≡ sink_bytes self.old }
         ensures faults { sink_faults self.new ≡ sink_faults self.old }
         ensures starved { sink_starved self.new ≡ sink_starved self.old }
     {
         self.limit = Some(bytes);
+    }
+
+    /// Lets each later write take no more bytes than so many.
+    pub fn at_most(&mut self, bytes: u32)
+        requires { 0 < bytes }
+        ensures most { sink_most self.new ≡ bytes }
+        ensures limit { sink_limit self.new ≡ sink_limit self.old }
+        ensures bytes { sink_bytes self.new ≡ sink_bytes self.old }
+        ensures faults { sink_faults self.new ≡ sink_faults self.old }
+        ensures starved { sink_starved self.new ≡ sink_starved self.old }
+    {
+        self.more = bytes - 1;
     }
 
     /// What was taken.
@@ -89,7 +106,8 @@ impl Sink for MemSink {
     ghost outcome = { FailsWhereFull };
 
     fn write(&mut self, bytes: &[u8]) -> Result<usize, Failed> {
-        let count = room_for(self.limit, self.bytes.len(), bytes.len());
+        let room = room_for(self.limit, self.bytes.len(), bytes.len());
+        let count = room.min(self.more as usize + 1);
         if count == 0 {
             self.faults = self.faults.saturating_add(1);
             return Err(Failed);

@@ -84,6 +84,10 @@ fn a_shelf_gives_its_newest_item_once(rt: HostRuntime) -> Result<(), Fail> {
     assert_eq!(rt; into[0], b'w');
     assert_eq!(rt; shelf.read(&mut into), Ok(0));
     assert!(rt; shelf.absences() == 1 && shelf.faults() == 1);
+    shelf.at_most(1);
+    assert_eq!(rt; shelf.open("a"), Ok(()));
+    assert_eq!(rt; shelf.read(&mut into), Ok(1));
+    assert_eq!(rt; into[0], b'n');
     Ok(())
 }
 
@@ -96,5 +100,10 @@ fn a_sink_fails_after_its_limit(rt: HostRuntime) -> Result<(), Fail> {
     assert_eq!(rt; put_all(&mut sink, b"d"), Err(Failed));
     assert_eq!(rt; sink.bytes(), b"abc".as_slice());
     assert!(rt; sink.faults() == 1 && sink.starved() == 0);
+    sink.fail_after(9);
+    sink.at_most(1);
+    assert_eq!(rt; sink.write(b"de"), Ok(1));
+    assert_eq!(rt; put_all(&mut sink, b"e"), Ok(()));
+    assert_eq!(rt; sink.bytes(), b"abcde".as_slice());
     Ok(())
 }

@@ -1,15 +1,16 @@
 -- What a store is, by its unit 0.
-use Rattle.std.proofs.Common.{◌≡◌, ℕ, ◌*◌, ◌≤◌, inl, inr, List, [], ◌∷◌, length, true, false, not, Option, Some, None, Result, Ok, Err, IfOk, refl, sym, ap, ◌∙◌, arith}
+use Rattle.std.proofs.Common.{◌≡◌, ℕ, ◌*◌, ◌≤◌, inl, inr, List, [], ◌∷◌, length, true, false, not, Option, Some, None, Result, Ok, Err, IfOk, IfErr, refl, sym, ap, subst, ◌∙◌, arith}
 use Rattle.std.specs.List.{list_any}
 use Rattle.rpm_outside.specs.Files.{Units, unit_at, blank}
 use Rattle.rpm_pkgdb.specs.declared.slot.Reason.{Reason}
 use Rattle.rpm_pkgdb.specs.declared.slot.Damage.{Damage}
 use Rattle.rpm_pkgdb.specs.declared.slot.OpenFault.{OpenFault}
+use Rattle.rpm_pkgdb.specs.declared.slot.OpenFault.TheVariants.{NoMemory}
 use Rattle.rpm_pkgdb.specs.Words.{word, is_nonzero}
 use Rattle.rpm_pkgdb.specs.Costs.{head_cost, opening_cost}
 use Rattle.rpm_pkgdb.proofs.Kept.{lawful}
 use Rattle.std.proofs.lemmas.Bool.{cases_Bool}
-use Rattle.rpm_pkgdb.specs.Store.{is_blank, Store, store, store_of, blank_store, made_or_damaged, OpenIs}
+use Rattle.rpm_pkgdb.specs.Store.{is_blank, Store, store, store_of, blank_store, in_file, Keeps, made_or_damaged, OpenIs}
 use Rattle.rpm_pkgdb.specs.Damages.{head_reason, damage_at}
 
 pub store_empty : (file : Units) → length file ≡ 0 → store file ≡ Ok blank_store
@@ -34,9 +35,18 @@ module _ (file : Units) (units : ℕ) (head : List ℕ) (long : units ≡ length
   pub store_made : not (list_any is_nonzero head) ≡ false → head_reason units head ≡ None → store file ≡ store_of (word 3 head) file
   store_made some none = other some ∙ ap (λ (o : Option Reason). made_or_damaged o file) none ∙ ap (λ (u : List ℕ). store_of (word 3 u) file) (sym is)
 
-pub ok_keeps : (T : Type 0) (said : Result Store Damage) (r : Result Store OpenFault) → (T → OpenIs said r) → IfOk r (λ db. T → said ≡ Ok db)
-ok_keeps T said (Ok db) is = is
-ok_keeps T said (Err e) is = tt
+pub ok_keeps : (T : Type 0) (said : Result Store Damage) (r : Result Store OpenFault) → (T → OpenIs said r) → IfOk r (λ db. db ≡ in_file db) → IfOk r (λ db. T → said ≡ Ok (in_file db))
+ok_keeps T said (Ok db) is fresh = λ told. is told ∙ ap Ok fresh
+ok_keeps T said (Err e) is fresh = tt
+
+-- a blank file, or want of memory
+pub blank_opens : (file : Units) (r : Result Store OpenFault) → IfOk r (λ db. db ≡ blank_store) → IfErr r (λ e. e ≡ NoMemory) → store file ≡ Ok blank_store → OpenIs (store file) r
+blank_opens file (Ok db) is err said = said ∙ ap Ok (sym is)
+blank_opens file (Err e) is err said = subst (λ (x : OpenFault). OpenIs (store file) (Err x)) (sym err) tt
+
+pub blank_keeps : (T : Type 0) (file : Units) (r : Result Store OpenFault) → IfOk r (λ db. db ≡ blank_store) → (T → store file ≡ Ok blank_store) → IfOk r (λ db. T → Keeps file db)
+blank_keeps T file (Ok db) is said = λ told. said told ∙ ap Ok (sym (ap in_file is))
+blank_keeps T file (Err e) is said = tt
 
 -- ---- what opening reads
 

@@ -7,9 +7,9 @@ use Rattle.rpm_outside.specs.Files.{Units, unit_at}
 use Rattle.rpm_pkgdb.specs.declared.slot.Slot.{Slot}
 use Rattle.rpm_pkgdb.specs.declared.slot.Reason.{Reason}
 use Rattle.rpm_pkgdb.specs.declared.slot.Damage.{Damage}
-use Rattle.rpm_pkgdb.proofs.Known.{number_facts}
+use Rattle.rpm_pkgdb.specs.Facts.{number_facts}
 use Rattle.rpm_pkgdb.proofs.Kept.{find_none, find_some}
-use Rattle.rpm_pkgdb.proofs.Sound.{placed_slot, no_own}
+use Rattle.rpm_pkgdb.specs.Sound.{placed_slot, no_own}
 use Rattle.rpm_pkgdb.proofs.Steps.{length-slots_in}
 use Rattle.rpm_pkgdb.specs.Words.{word}
 use Rattle.rpm_pkgdb.specs.Store.{Store, store, blank_store, made_store, made_or_damaged, is_blank, unless}

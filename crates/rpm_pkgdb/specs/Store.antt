@@ -1,5 +1,5 @@
 -- What Packages.db says: its slots, or its first damage.
-use Rattle.std.specs.Prelude.{◌≡◌, ℕ, ◌+◌, List, [], length, Bool, not, if◌then◌else◌, Option, Some, None, Result, Ok, Err, max}
+use Rattle.std.specs.Prelude.{◌≡◌, ℕ, ◌+◌, List, [], length, Bool, false, not, if◌then◌else◌, Option, Some, None, Result, Ok, Err, max}
 use Rattle.std.specs.List.{list_any}
 use Rattle.rpm_outside.specs.Files.{Units, unit_at}
 use Rattle.rpm_pkgdb.specs.declared.slot.Slot.{Slot}
@@ -11,19 +11,26 @@ use Rattle.rpm_pkgdb.specs.Words.{word, is_nonzero}
 use Rattle.rpm_pkgdb.specs.Slots.{slots_in, greatest_number}
 use Rattle.rpm_pkgdb.specs.Damages.{damage_at, head_reason, table, table_fault}
 
--- A blank file is the store of no pages, whose next number is 1.
+-- A blank file is the store of no pages, whose next number is 1. The last two are of a value alone: how many ranges it can still
+-- take without memory, and whether a writing call failed. A file says 0 and false.
 pub record Store : Type 0 where
   pub generation : ℕ
   pub pages : ℕ
   pub field : ℕ
   pub slots : List Slot
+  pub spare : ℕ
+  pub is_stopped : Bool
+
+-- what the file says of a store
+abbrev pub in_file : Store → Store
+in_file store = record { generation = store.generation; pages = store.pages; field = store.field; slots = store.slots; spare = 0; is_stopped = false }
 
 -- the greater of the field and one above the greatest number
 abbrev pub next_number : Store → ℕ
 next_number store = max store.field (greatest_number store.slots + 1)
 
 abbrev pub blank_store : Store
-blank_store = record { generation = 0; pages = 0; field = 1; slots = [] }
+blank_store = record { generation = 0; pages = 0; field = 1; slots = []; spare = 0; is_stopped = false }
 
 -- There are no units, or unit 0 is all zeros: a unit past the end counts as zeros.
 abbrev pub is_blank : Units → Bool
@@ -31,7 +38,7 @@ is_blank file = not (list_any is_nonzero (unit_at file 0))
 
 -- the store of so many pages
 abbrev pub made_store : ℕ → Units → Store
-made_store pages file = record { generation = word 2 (unit_at file 0); pages = pages; field = word 0 (unit_at file 1); slots = slots_in (table pages file) }
+made_store pages file = record { generation = word 2 (unit_at file 0); pages = pages; field = word 0 (unit_at file 1); slots = slots_in (table pages file); spare = 0; is_stopped = false }
 
 abbrev pub unless : {X E : Type 0} → Option E → X → Result X E
 unless None x = Ok x
@@ -51,7 +58,7 @@ store file =
 
 -- what a value keeps of a file is what the file says
 abbrev pub Keeps : Units → Store → Type 0
-Keeps file value = store file ≡ Ok value
+Keeps file value = store file ≡ Ok (in_file value)
 
 -- ---- answers
 

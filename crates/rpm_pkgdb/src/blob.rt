@@ -37,11 +37,11 @@ pub struct Blocks {
     pub rest: Vec<u8>,
 }
 
-// `BlbS`
-const HEAD: u32 = 0x5362_6c42;
+/// `BlbS`.
+pub const HEAD: u32 = 0x5362_6c42;
 
-// `BlbE`
-const TAIL: u32 = 0x4562_6c42;
+/// `BlbE`.
+pub const TAIL: u32 = 0x4562_6c42;
 
 /// Whether a blob of this number and so many blocks can begin with this unit.
 #[tactic(auto, unfolding(crate::specs::Blobs::is_head))]
@@ -67,7 +67,7 @@ fn is_tail(size: u32, rest: &[u8]) -> bool
 }
 
 /// The two sums of Adler-32, carried on.
-fn sums(a: u32, b: u32, bytes: &[u8]) -> (u32, u32)
+pub fn sums(a: u32, b: u32, bytes: &[u8]) -> (u32, u32)
     requires a { a < 65521 }
     requires b { b < 65521 }
     ensures sums { result ≡ sums a b bytes.now }

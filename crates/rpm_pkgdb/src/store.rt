@@ -1,15 +1,18 @@
 //! The store in Packages.db.
 
-ghost use Rattle.std.specs.Prelude.{◌≡◌, ℕ, ◌+◌, ◌-◌, ◌*◌, ◌/◌, ◌^◌, ◌≤◌, ◌<◌, ◌==◌, [], IsTrue, length, max, not, None, Some, Ok, Err, ◌↔◌, OnOk, IfOk, IfErr, is_some};
+ghost use Rattle.std.specs.Prelude.{◌≡◌, ℕ, ◌+◌, ◌-◌, ◌*◌, ◌/◌, ◌^◌, ◌≤◌, ◌<◌, ◌==◌, [], IsTrue, length, max, not, None, Some, Ok, Err, ◌↔◌, OnOk, IfOk, IfErr, IsSome, is_some};
 ghost use Rattle.std.specs.List.{list_any};
 ghost use Rattle.rpm_outside.specs.Files.{Files, Units, unit_at};
 ghost use Rattle.rpm_outside.specs.Causes.{HasCauseAt};
 ghost use Rattle.rpm_outside.specs.Looks.{Looks};
 ghost use Rattle.std.specs.FinMap as finite;
 ghost use Rattle.rpm_pkgdb.specs.Words.{word};
-ghost use Rattle.rpm_pkgdb.specs.Slots.{slot_with, has_number};
+ghost use Rattle.rpm_pkgdb.specs.Slots.{slot_with, has_number, end_of};
+ghost use Rattle.rpm_pkgdb.specs.Quiet.{HasSlot, with_free};
+ghost use Rattle.rpm_pkgdb.specs.Written.{erased};
+ghost use Rattle.rpm_pkgdb.specs.Maps.{IsPackageNumber};
 ghost use Rattle.rpm_pkgdb.specs.Damages.{head_reason};
-ghost use Rattle.rpm_pkgdb.specs.Store.{store, store_of, Keeps, blank_store, next_number, OpenIs};
+ghost use Rattle.rpm_pkgdb.specs.Store.{store, store_of, in_file, Keeps, blank_store, next_number, OpenIs};
 ghost use Rattle.rpm_pkgdb.specs.Pairs.{IsNext};
 ghost use Rattle.rpm_pkgdb.specs.Blobs.{frames, blobs};
 ghost use Rattle.rpm_pkgdb.specs.Checksums.{checksums_hold};
@@ -18,12 +21,18 @@ ghost use Rattle.rpm_pkgdb.specs.Answers.{AnswerIs, frame_in, given};
 
 use crate::blob::{Blocks, GetFault, read_blocks};
 use crate::numbers::Numbers;
-use crate::reading::{read_table, read_unit};
-use crate::slot::{BLOCKS, OpenFault, Reason, Slot, damage_at};
+use crate::reading::read_unit;
+use crate::slot::{BLOCKS, MAGIC, OpenFault, Reason, Slot, damage_at};
+use crate::table::read_table;
 use crate::words::{is_zeros, word};
+use rpm_blocks::Used;
 use rpm_outside::{Disk, File};
 use std::alloc::Global;
 use std::marker::Model;
+
+/// A call of the disk failed in a writing call.
+#[derive(Clone, Copy, Debug, PartialEq, Eq)]
+pub struct DiskFault;
 
 /// The head and the slots of a `Packages.db`, read once.
 ///
@@ -31,26 +40,27 @@ use std::marker::Model;
 /// what the value keeps. In memory a value has 12 bytes a slot and 8 more a package.
 #[derive(Drop)]
 pub struct PkgDb {
-    generation: u32,
-    pages: u32,
-    field: u32,
-    slots: Vec<Slot>,
-    numbers: Numbers,
+    pub(crate) generation: u32,
+    pub(crate) pages: u32,
+    pub(crate) field: u32,
+    pub(crate) slots: Vec<Slot>,
+    pub(crate) numbers: Numbers,
+    pub(crate) used: Option<Used>,
+    pub(crate) spare: u32,
+    pub(crate) stopped: bool,
 }
 
 impl Model for PkgDb {
     ghost use Rattle.rpm_pkgdb.specs.Store.{Store};
-    ghost use Rattle.rpm_pkgdb.specs.Maps.{IsKept};
 
     ghost Value = { Store };
 
-    ghost view = { λ s. record { generation = s.generation; pages = s.pages; field = s.field; slots = s.slots.items } };
+    ghost use Rattle.rpm_pkgdb.specs.Keeping.{IsSound};
 
-    ghost invariant = { λ s. IsKept s.numbers s.slots.items };
+    ghost view = { λ s. record { generation = s.generation; pages = s.pages; field = s.field; slots = s.slots.items; spare = s.spare; is_stopped = s.stopped } };
+
+    ghost invariant = { IsSound };
 }
-
-// `RpmP`
-const MAGIC: u32 = 0x506d_7052;
 
 /// What is wrong with unit 0.
 #[tactic(auto, unfolding(crate::specs::Damages::head_reason))]
@@ -73,16 +83,24 @@ fn head_reason(units: u64, head: &[u8]) -> Option<Reason>
 }
 
 impl PkgDb {
-    fn blank(alloc: Global) -> PkgDb
-        ensures { result ≡ blank_store }
+    /// A blank file's, with room for the slots of a first page.
+    fn blank(alloc: Global) -> Result<PkgDb, OpenFault>
+        ensures blank { IfOk result (λ db. db ≡ blank_store) }
+        ensures err { IfErr result (λ e. e ≡ OpenFault.NoMemory) }
     {
-        PkgDb {
+        let Ok(slots) = Vec::with_capacity(alloc, 254) else {
+            return Err(OpenFault::NoMemory);
+        };
+        Ok(PkgDb {
             generation: 0,
             pages: 0,
             field: 1,
-            slots: Vec::new(alloc),
+            slots,
             numbers: Numbers::new(alloc),
-        }
+            used: None,
+            spare: 0,
+            stopped: false,
+        })
     }
 
     /// Reads the head and all slots. Nothing is written.
@@ -98,11 +116,12 @@ impl PkgDb {
     ///
     /// - `Damaged` exactly where the file isn't a store: its first damage.
     /// - `DiskFault` only where the disk's count of faults rose.
-    /// - `NoMemory` where the slots, or the maps that compare them, find no memory.
+    /// - `NoMemory` where the slots, or what compares them, finds no memory.
     pub fn open<D: Disk>(alloc: Global, disk: &mut D) -> Result<PkgDb, OpenFault>
         ensures store { IsTrue D.tells → OpenIs (store (D.files disk.old).pkg) result }
         ensures kept { IfOk result (λ db. IsTrue D.tells → Keeps (D.files disk.new).pkg db) }
         ensures from_one { IfOk result (λ db. slot_with 0 db.slots ≡ None) }
+        ensures fresh { IfOk result (λ db. db ≡ in_file db) }
         ensures reads { IsTrue D.tells → D.bytes_read disk.new File.Pkg ≤ D.bytes_read disk.old File.Pkg + opening_cost (D.files disk.old).pkg }
         ensures looks { Looks D.tells D.files D.left_since D.moment D.bytes_read D.follows (2 ^ 32) disk.old disk.new }
         ensures cause { HasCauseAt (result ≡ Err OpenFault.DiskFault) (D.faults disk.old) (D.faults disk.new) }
@@ -111,13 +130,13 @@ impl PkgDb {
             return Err(OpenFault::DiskFault);
         };
         if units == 0 {
-            return Ok(PkgDb::blank(alloc));
+            return PkgDb::blank(alloc);
         }
         let Ok(head) = read_unit(disk, 0) else {
             return Err(OpenFault::DiskFault);
         };
         if is_zeros(&head) {
-            return Ok(PkgDb::blank(alloc));
+            return PkgDb::blank(alloc);
         }
         if let Some(reason) = head_reason(units, &head) {
             return Err(OpenFault::Damaged(damage_at(0, reason)));
@@ -138,6 +157,7 @@ impl PkgDb {
         requires head { IsTrue D.tells → head.now ≡ unit_at (D.files disk.old).pkg 0 }
         ensures store { IsTrue D.tells → OpenIs (store_of (word 3 head.now) (D.files disk.old).pkg) result }
         ensures from_one { IfOk result (λ db. slot_with 0 db.slots ≡ None) }
+        ensures fresh { IfOk result (λ db. db ≡ in_file db) }
         ensures looks { Looks D.tells D.files D.left_since D.moment D.bytes_read D.follows (4096 * word 3 head.now - 16) disk.old disk.new }
         ensures cause { HasCauseAt (result ≡ Err OpenFault.DiskFault) (D.faults disk.old) (D.faults disk.new) }
     {
@@ -145,19 +165,19 @@ impl PkgDb {
         let Ok(next) = read_unit(disk, 1) else {
             return Err(OpenFault::DiskFault);
         };
-        let opening = match read_table(alloc, disk, pages, units) {
-            Ok(opening) => opening,
+        let table = match read_table(alloc, disk, pages, units) {
+            Ok(table) => table,
             Err(fault) => return Err(fault),
-        };
-        let Ok(numbers) = Numbers::from_map(alloc, opening.numbers) else {
-            return Err(OpenFault::NoMemory);
         };
         Ok(PkgDb {
             generation: word(head, 2),
             pages,
             field: word(&next, 0),
-            slots: opening.slots,
-            numbers,
+            slots: table.slots,
+            numbers: table.numbers,
+            used: None,
+            spare: 0,
+            stopped: false,
         })
     }
 
@@ -166,6 +186,13 @@ impl PkgDb {
         ensures { result ≡ (self.now.pages == 0) }
     {
         self.pages == 0
+    }
+
+    /// Whether a writing call answered a disk fault. What is on the disk isn't known then: it is opened again.
+    pub fn is_stopped(&self) -> bool
+        ensures { result ≡ self.now.is_stopped }
+    {
+        self.stopped
     }
 
     /// The generation in unit 0; 0 of a blank file.
@@ -197,6 +224,23 @@ impl PkgDb {
             None => None,
             Some(place) => Some(self.slots[place as usize]),
         }
+    }
+
+    /// The place of a number's slot, and the slot.
+    pub(crate) fn slot_place(&self, n: u32) -> (u32, Slot)
+        requires { IsSome (slot_with n self.now.slots) }
+        ensures slot { HasSlot self.now result.0 result.1 }
+        ensures number { result.1.number ≡ n }
+        ensures package { IsPackageNumber n }
+        ensures found { slot_with n self.now.slots ≡ Some result.1 }
+        ensures erased { with_free result.0 self.now ≡ erased n self.now }
+        ensures room { result.0 + 3 ≤ 2 ^ 28 }
+        ensures end { end_of result.1 ≤ 2 ^ 28 }
+    {
+        let Some(place) = self.numbers.place_of(n) else {
+            unreachable!()
+        };
+        (place, self.slots[place as usize])
     }
 
     /// The number of the next package: the greater of the field in unit 1 and one above the greatest number of a slot. A field that

@@ -6,7 +6,7 @@ use std::test::Fail;
 const SLOT: [u8; 4] = [0x53, 0x6c, 0x6f, 0x74];
 
 // The header of a package `a-1-2.x`.
-const HEADER: [u8; 80] = [
+pub const HEADER: [u8; 80] = [
     0, 0, 0, 4, 0, 0, 0, 8, //
     0, 0, 3, 0xe8, 0, 0, 0, 6, 0, 0, 0, 0, 0, 0, 0, 1, //
     0, 0, 3, 0xe9, 0, 0, 0, 6, 0, 0, 0, 2, 0, 0, 0, 1, //
@@ -16,7 +16,7 @@ const HEADER: [u8; 80] = [
 ];
 
 // Adds the head of a store of generation 2, and free slots to the end of its pages.
-fn add_pages(file: &mut Vec<u8>, pages: u8, next: u8) -> Result<(), AllocError> {
+pub fn add_pages(file: &mut Vec<u8>, pages: u8, next: u8) -> Result<(), AllocError> {
     file.extend_from_slice(&[
         0x52, 0x70, 0x6d, 0x50, 0, 0, 0, 0, 2, 0, 0, 0, pages, 0, 0, 0,
     ])?;
@@ -29,7 +29,7 @@ fn add_pages(file: &mut Vec<u8>, pages: u8, next: u8) -> Result<(), AllocError> 
 }
 
 // Adds a blob of seven blocks with the header. The checksum is that of number 1.
-fn add_blob(file: &mut Vec<u8>, number: u8) -> Result<(), AllocError> {
+pub fn add_blob(file: &mut Vec<u8>, number: u8) -> Result<(), AllocError> {
     file.extend_from_slice(&[
         0x42, 0x6c, 0x62, 0x53, number, 0, 0, 0, 2, 0, 0, 0, 0x50, 0, 0, 0,
     ])?;
@@ -42,7 +42,7 @@ fn add_blob(file: &mut Vec<u8>, number: u8) -> Result<(), AllocError> {
 }
 
 // Writes bytes at a place.
-fn change(file: &mut Vec<u8>, at: usize, bytes: &[u8]) {
+pub fn change(file: &mut Vec<u8>, at: usize, bytes: &[u8]) {
     for (k, x) in bytes.iter().enumerate() {
         let place = at.saturating_add(k);
         if place < file.len() {

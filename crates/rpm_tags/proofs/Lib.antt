@@ -1,3 +1,4 @@
+pub mod Beside
 pub mod Ahead
 pub mod Decimal
 pub mod Parts

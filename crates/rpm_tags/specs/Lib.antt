@@ -8,3 +8,4 @@ pub mod Shown
 pub mod Source
 pub mod Table
 pub mod Value
+pub mod Wanted

@@ -3,6 +3,7 @@
 ghost use Rattle.std.specs.Prelude.{◌≡◌, ℕ, ◌+◌, ◌≤◌, ◌<◌, length, drop, Some, slice_get};
 
 use crate::stored::{TextIter, Texts};
+use rpm_header::TextPlaces;
 use std::marker::Model;
 
 /// The text n places ahead.
@@ -39,8 +40,10 @@ pub struct Directories<'v, 'a> {
     // Those behind the furthest one that was read, and the number of the others.
     ahead: TextIter<'a>,
     passed: u32,
-    // The last that was read of those with the same remainder by 64.
-    recent: [Seen<'a>; 64],
+    // The last that was read of those with the same remainder by 16.
+    recent: [Seen<'a>; 16],
+    // All of them by place, once one was asked for again that isn't kept.
+    places: Option<TextPlaces<'a>>,
 }
 
 impl<'v, 'a> Model for Directories<'v, 'a> {
@@ -51,7 +54,7 @@ impl<'v, 'a> Model for Directories<'v, 'a> {
 
     ghost view = { λ s. s.all.now };
 
-    ghost invariant = { λ s. IsReader s.all.now s.ahead s.passed s.recent };
+    ghost invariant = { λ s. IsReader s.all.now s.ahead s.passed s.recent s.places };
 }
 
 impl<'v, 'a> Directories<'v, 'a> {
@@ -68,11 +71,28 @@ impl<'v, 'a> Directories<'v, 'a> {
             all,
             ahead: all.iter(),
             passed: 0,
-            recent: [first; 64],
+            recent: [first; 16],
+            places: None,
         }
     }
 
-    /// The directory of an index, by going on from the furthest one or from the first.
+    /// The directory of an index that was passed, by its place.
+    fn read_again(&mut self, index: u32) -> &'a [u8]
+        requires { index < length self.old }
+        ensures value { slice_get self.old index ≡ Some result.now }
+        ensures short { length result.now ≤ 67108864 }
+        ensures same { self.new ≡ self.old }
+    {
+        let places = match self.places.take() {
+            None => self.all.places(),
+            Some(places) => places,
+        };
+        let dir = places.text(index);
+        self.places = Some(places);
+        dir
+    }
+
+    /// The directory of an index, by going on from the furthest one, or by its place.
     fn read(&mut self, index: u32) -> &'a [u8]
         requires { index < length self.old }
         ensures value { slice_get self.old index ≡ Some result.now }
@@ -80,7 +100,7 @@ impl<'v, 'a> Directories<'v, 'a> {
         ensures same { self.new ≡ self.old }
     {
         if index < self.passed {
-            return self.all.text(index);
+            return self.read_again(index);
         }
         let skipped = index - self.passed;
         let dir = nth_text(&mut self.ahead, skipped);
@@ -88,9 +108,9 @@ impl<'v, 'a> Directories<'v, 'a> {
         dir
     }
 
-    /// The directory of an index. Reads nothing where it is among the 64 that are kept; else the
-    /// directories from the furthest one on that was read, or from the first one on where it is in
-    /// front of that.
+    /// The directory of an index. Reads nothing where it is among the 16 that are kept; else the
+    /// directories from the furthest one on that was read, or, where it is in front of that, a
+    /// 255th of all of them at most, and the first time all of them twice.
     pub fn dir(&mut self, index: u64) -> &'a [u8]
         requires { index < length self.old }
         ensures value { slice_get self.old index ≡ Some result.now }
@@ -99,7 +119,7 @@ impl<'v, 'a> Directories<'v, 'a> {
     {
         let _ = self.all.count();
         let index = index as u32;
-        let slot = (index % 64) as usize;
+        let slot = (index % 16) as usize;
         let seen = self.recent[slot];
         if seen.index == index {
             return seen.dir;

@@ -11,11 +11,11 @@ use crate::stored::{Numbers, TextIter, Texts, numbers_in, texts_in};
 use rpm_header::View;
 use std::marker::Model;
 
-const DIRINDEXES: u32 = 1116;
+pub const DIRINDEXES: u32 = 1116;
 
-const BASENAMES: u32 = 1117;
+pub const BASENAMES: u32 = 1117;
 
-const DIRNAMES: u32 = 1118;
+pub const DIRNAMES: u32 = 1118;
 
 /// The directory of this index, and a name behind it.
 fn path_of<'a>(dirs: &Texts<'a>, index: u64, base: &'a [u8]) -> Joined<'a>
@@ -131,7 +131,7 @@ fn are_below(indexes: &Numbers<'_>, limit: u32) -> bool
     true
 }
 
-fn are_matched(dirs: &Texts<'_>, indexes: &Numbers<'_>, bases: &Texts<'_>) -> bool
+pub fn are_matched(dirs: &Texts<'_>, indexes: &Numbers<'_>, bases: &Texts<'_>) -> bool
     ensures { result ≡ are_matched dirs.now indexes.now bases.now }
 {
     bases.count() == indexes.count() && are_below(indexes, dirs.count())

@@ -12,6 +12,7 @@ mod joined;
 mod key_iter;
 mod kind;
 mod labels;
+mod needed;
 mod stored;
 mod tag;
 #[cfg(test)]
@@ -20,10 +21,14 @@ mod texts;
 #[cfg(test)]
 mod value_tests;
 mod values;
+mod wanted;
 
 pub use joined::Joined;
 pub use key_iter::{KeyIter, keys};
 pub use kind::Kind;
+pub use needed::{Dependency, DependencyIter, Tags, dependencies};
+pub use stored::{Numbers, TextIter, Texts, first_number, first_text, numbers_in, texts_in};
 pub use tag::{Tag, name_of, tag_of};
 pub use texts::ValueTexts;
 pub use values::{Class, TagValue, value};
+pub use wanted::has_file;

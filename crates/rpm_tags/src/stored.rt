@@ -1,13 +1,13 @@
 //! The elements of one entry, by their class.
 
-ghost use Rattle.std.specs.Prelude.{◌≡◌, ℕ, ◌<◌, ◌≤◌, length, Some, slice_get, nat_lt, All, IfSome};
+ghost use Rattle.std.specs.Prelude.{◌≡◌, ℕ, ◌<◌, ◌≤◌, length, Some, slice_get, nat_lt, All, IfSome, take};
 ghost use Rattle.std.specs.Iterator.{YieldsFirstRef, item_count};
 ghost use Rattle.std.specs.List.{list_all};
 ghost use Rattle.std.specs.Option.{option_map, option_copied};
 ghost use Rattle.rpm_tags.specs.Value.{elements, stored, texts_in, numbers_in, first_text, first_number};
 ghost use Rattle.rpm_tags.specs.Source.{stored_elements};
 
-use rpm_header::{Entry, EntryTexts, Form, View};
+use rpm_header::{Entry, EntryTexts, Form, TextPlaces, View};
 use std::marker::Model;
 
 /// The numbers of an entry, unsigned. Contracts see it as the list of them.
@@ -82,6 +82,14 @@ impl<'a> Texts<'a> {
     {
         let _ = self.entry.count();
         self.entry.text(i)
+    }
+
+    /// The texts by place, to be read in any order. Counts the zeros of their bytes once.
+    pub fn places(&self) -> TextPlaces<'a>
+        ensures { take (length self.now) result ≡ self.now }
+    {
+        let _ = self.entry.count();
+        self.entry.places()
     }
 
     /// All texts in order. Going through them reads each byte once.

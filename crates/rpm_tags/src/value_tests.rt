@@ -114,6 +114,15 @@ const TWO_DIRS: &str = "00000003 00000024
     61006200 63006400 00000001 00000000 00000001 00000002 2f782f00 2f792f00
     2f7a2f00";
 
+// Five files in eighteen directories: the third and the fifth ask for one that was passed, and whose
+// place in the memory another one took.
+const PASSED_DIRS: &str = "00000003 00000033
+    0000045c 00000002 00000000 00000005
+    0000045d 00000008 00000005 00000005
+    0000045e 00000008 0000000f 00000012
+    00100011 01310032 00330034 00350061 00620063 00640065 00660067 00680069
+    006a006b 006c006d 006e006f 00700071 007200";
+
 // A region with a name, a name behind the region, an epoch that is a text, an architecture that is a
 // number, a group in three languages, the greatest size, no capability and two bytes.
 const ODD: &str = "0000000b 0000003a
@@ -161,7 +170,7 @@ fn shown(alloc: Global, value: &TagValue<'_>) -> Result<Vec<u8>, AllocError> {
     Ok(bytes)
 }
 
-const TEXTS: [(&str, Tag, Option<&str>); 28] = [
+const TEXTS: [(&str, Tag, Option<&str>); 29] = [
     (PLAIN, Tag::Nvr, Some("a-1-2|")),
     (PLAIN, Tag::Nvra, Some("a-1-2.x|")),
     (PLAIN, Tag::Evr, Some("1-2|")),
@@ -181,6 +190,7 @@ const TEXTS: [(&str, Tag, Option<&str>); 28] = [
     (UNEQUAL, Tag::Filenames, None),
     (TEXT_INDEXES, Tag::Filenames, None),
     (TWO_DIRS, Tag::Filenames, Some("/y/a|/x/b|/y/c|/z/d|")),
+    (PASSED_DIRS, Tag::Filenames, Some("a1|q2|a3|r4|b5|")),
     (ODD, Tag::Stored(1000), Some("d|")),
     (ODD, Tag::Nvra, Some("d-1-2|")),
     (ODD, Tag::Evr, Some("1-2|")),

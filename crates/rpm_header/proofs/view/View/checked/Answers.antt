@@ -5,10 +5,10 @@ use Rattle.rpm_header.proofs.view.View.checked.Goals as goal
 
 pub returns-in-Some : goal.returns-in-Some
 unfolding header_of
-returns-in-Some c = rw (first_some c.args.il (fault_at c.args.il c.args.blob.now) c.loop-i.i c.in-Some.fault c.loop-i-test.true c.loop-i.invariant (sym c.in-Some.ensures)) refl
+returns-in-Some c = rw (first_some c.args.il (fault_at c.args.il c.args.blob.now) c.loop-i.i c.in-Some.fault c.loop-i-test.true c.loop-i.invariant.earlier (sym c.in-Some.ensures.value)) refl
 
 pub returns : goal.returns
 unfolding header_of
 returns c =
-    let none : (k : ℕ) → k < c.args.il → fault_at c.args.il c.args.blob.now k ≡ None = λ k h. c.loop-i.invariant k (omega arith) in
+    let none : (k : ℕ) → k < c.args.il → fault_at c.args.il c.args.blob.now k ≡ None = λ k h. c.loop-i.invariant.earlier k (omega arith) in
     rw (first_none c.args.il (fault_at c.args.il c.args.blob.now) none) refl

@@ -1,23 +1,24 @@
-use Rattle.std.proofs.Common.{◌≡◌, ◌*◌, ◌-◌, Result, Ok, Err, sym, ap, subst, ◌∙◌, arith, IsTrue}
+use Rattle.std.proofs.Common.{◌≡◌, ◌*◌, ◌-◌, Result, Err, sym, ap, subst, ◌∙◌, arith, IsTrue}
 use Rattle.rpm_outside.specs.declared.disk.File.TheVariants.{Pkg, Idx, Log}
 use Rattle.rpm_outside.specs.Files.{Files, unit_at}
 use Rattle.rpm_outside.specs.Looks.{Looks, looks_then}
 use Rattle.rpm_pkgdb.specs.declared.slot.Damage.{Damage}
 use Rattle.rpm_pkgdb.proofs.Kept.{lawful}
-use Rattle.rpm_pkgdb.proofs.Opens.{store_empty, store_blank, store_damaged, store_made, ok_keeps, opening_cost_least, opening_cost_made}
+use Rattle.rpm_pkgdb.proofs.Opens.{store_empty, store_blank, store_damaged, store_made, ok_keeps, blank_opens, blank_keeps, opening_cost_least, opening_cost_made}
 use Rattle.rpm_pkgdb.specs.Words.{word}
 use Rattle.rpm_pkgdb.specs.Store.{Store, store, OpenIs, store_of}
 use Rattle.rpm_pkgdb.proofs.store.PkgDb.open.Goals as goal
 
 pub returns-then-units-eq0-clause-store : goal.returns-then-units-eq0-clause-store
 returns-then-units-eq0-clause-store g c = λ told.
-    store_empty (g.D.Disk.files c.args.disk.now).pkg (sym (c.in-Ok.ensures.length told) ∙ c.if-units-eq0.true) ∙ ap Ok (sym c.blank.ensures)
+    let file = (g.D.Disk.files c.args.disk.now).pkg in
+    blank_opens file c.blank.result c.blank.ensures.blank c.blank.ensures.err (store_empty file (sym (c.in-Ok.ensures.length told) ∙ c.if-units-eq0.true))
 
 pub returns-then-is_zeros-clause-store : goal.returns-then-is_zeros-clause-store
 returns-then-is_zeros-clause-store g c = λ told.
     let file = (g.D.Disk.files c.args.disk.now).pkg in
     let head : c.in-Ok-read_unit.head ≡ unit_at file 0 = c.in-Ok-read_unit.ensures.unit told ∙ ap (λ (f : Files). unit_at f.pkg 0) (c.in-Ok.ensures.untouched told).same in
-    store_blank file c.in-Ok.units c.in-Ok-read_unit.head (c.in-Ok.ensures.length told) head (sym c.if-is_zeros.ensures) ∙ ap Ok (sym c.blank-then-is_zeros.ensures)
+    blank_opens file c.blank-then-is_zeros.result c.blank-then-is_zeros.ensures.blank c.blank-then-is_zeros.ensures.err (store_blank file c.in-Ok.units c.in-Ok-read_unit.head (c.in-Ok.ensures.length told) head (sym c.if-is_zeros.ensures))
 
 pub returns-in-Some-clause-store : goal.returns-in-Some-clause-store
 returns-in-Some-clause-store g c = λ told.
@@ -51,16 +52,21 @@ returns-clause-looks g c =
     looks_then _ _ _ _ _ _ g.met.D.Disk.follows_trans 16 (4096 * word 3 c.in-Ok-read_unit.head - 16) _ c.args.disk.now c.read_unit.new.disk _ (omega (arith, l.below)) first c.read_made.ensures.looks
 
 pub returns-then-units-eq0-clause-kept : goal.returns-then-units-eq0-clause-kept
-returns-then-units-eq0-clause-kept g c = λ told. ap (λ (f : Files). store f.pkg) (c.in-Ok.ensures.untouched told).same ∙ returns-then-units-eq0-clause-store g c told
+returns-then-units-eq0-clause-kept g c = blank_keeps (IsTrue g.D.Disk.tells) (g.D.Disk.files c.len.new.self).pkg c.blank.result c.blank.ensures.blank (λ told.
+    let file = (g.D.Disk.files c.args.disk.now).pkg in
+    ap (λ (f : Files). store f.pkg) (c.in-Ok.ensures.untouched told).same ∙ store_empty file (sym (c.in-Ok.ensures.length told) ∙ c.if-units-eq0.true))
 
 pub returns-then-is_zeros-clause-kept : goal.returns-then-is_zeros-clause-kept
-returns-then-is_zeros-clause-kept g c = λ told.
-    ap (λ (f : Files). store f.pkg) ((c.in-Ok-read_unit.ensures.looks.untouched told).same ∙ (c.in-Ok.ensures.untouched told).same) ∙ returns-then-is_zeros-clause-store g c told
+returns-then-is_zeros-clause-kept g c = blank_keeps (IsTrue g.D.Disk.tells) (g.D.Disk.files c.read_unit.new.disk).pkg c.blank-then-is_zeros.result c.blank-then-is_zeros.ensures.blank (λ told.
+    let file = (g.D.Disk.files c.args.disk.now).pkg in
+    let head : c.in-Ok-read_unit.head ≡ unit_at file 0 = c.in-Ok-read_unit.ensures.unit told ∙ ap (λ (f : Files). unit_at f.pkg 0) (c.in-Ok.ensures.untouched told).same in
+    ap (λ (f : Files). store f.pkg) ((c.in-Ok-read_unit.ensures.looks.untouched told).same ∙ (c.in-Ok.ensures.untouched told).same)
+    ∙ store_blank file c.in-Ok.units c.in-Ok-read_unit.head (c.in-Ok.ensures.length told) head (sym c.if-is_zeros.ensures))
 
 pub returns-clause-kept : goal.returns-clause-kept
 returns-clause-kept g c = ok_keeps (IsTrue g.D.Disk.tells) _ c.read_made.result (λ told.
     let same = ((returns-clause-looks g c).untouched told).same in
-    subst (λ (f : Files). OpenIs (store f.pkg) c.read_made.result) (sym same) (returns-clause-store g c told))
+    subst (λ (f : Files). OpenIs (store f.pkg) c.read_made.result) (sym same) (returns-clause-store g c told)) c.read_made.ensures.fresh
 
 pub returns-in_default-read_unit-clause-reads : goal.returns-in_default-read_unit-clause-reads
 returns-in_default-read_unit-clause-reads g c = λ told.

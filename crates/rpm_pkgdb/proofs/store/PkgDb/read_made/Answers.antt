@@ -1,4 +1,4 @@
-use Rattle.std.proofs.Common.{◌-◌, ◌*◌, length, sym, ap, ◌∙◌, arith}
+use Rattle.std.proofs.Common.{◌-◌, ◌*◌, length, sym, ap, ◌∙◌, arith, refl}
 use Rattle.rpm_outside.specs.Files.{Files}
 use Rattle.rpm_outside.specs.Looks.{looks_more, looks_then}
 use Rattle.rpm_pkgdb.proofs.Kept.{lawful, zero_absent}
@@ -36,11 +36,6 @@ returns-in-Err-clause-looks g c =
     let l = lawful c.args.units c.args.head.now c.requires.lawful in
     looks_then _ _ _ _ _ _ g.met.D.Disk.follows_trans 16 (16 * (256 * c.word-pages.result - 2)) _ _ c.read_unit.new.disk _ (omega (arith, l.some, c.word-pages.ensures)) c.read_unit.ensures.looks c.read_table.ensures.looks
 
-pub returns-in_default-from_map-clause-looks : goal.returns-in_default-from_map-clause-looks
-returns-in_default-from_map-clause-looks g c =
-    let l = lawful c.args.units c.args.head.now c.requires.lawful in
-    looks_then _ _ _ _ _ _ g.met.D.Disk.follows_trans 16 (16 * (256 * c.word-pages.result - 2)) _ _ c.read_unit.new.disk _ (omega (arith, l.some, c.word-pages.ensures)) c.read_unit.ensures.looks c.read_table.ensures.looks
-
 pub returns-clause-looks : goal.returns-clause-looks
 returns-clause-looks g c =
     let l = lawful c.args.units c.args.head.now c.requires.lawful in
@@ -48,15 +43,19 @@ returns-clause-looks g c =
 
 pub invariant_of-result : goal.invariant_of-result
 invariant_of-result g c =
-    let known = c.in-Ok-read_table.ensures.known in
-    let same = c.in-Ok-from_map.ensures in
+    let l = lawful c.args.units c.args.head.now c.requires.lawful in
     record {
-      places = record {
-        each = λ k below used. same _ ∙ known.places.each k below used;
-        only = λ n k found. known.places.only n k (sym (same n) ∙ found);
+      kept = record {
+        places = c.in-Ok-read_table.ensures.places;
+        numbered = c.in-Ok-read_table.ensures.numbered;
+        sound = c.in-Ok-read_table.ensures.placed;
+        limit = omega (arith, l.below, c.word-pages.ensures);
+        count = c.in-Ok-read_table.ensures.count;
       };
-      numbered = known.numbered;
+      blank = λ none. absurd (omega (arith, l.some, c.word-pages.ensures));
+      used = refl;
+      room = omega arith;
     }
 
 pub returns-clause-from_one : goal.returns-clause-from_one
-returns-clause-from_one g c = zero_absent c.in-Ok-read_table.opening.slots.items c.in-Ok-read_table.ensures.known.numbered
+returns-clause-from_one g c = zero_absent c.in-Ok-read_table.table.slots.items c.in-Ok-read_table.ensures.numbered

@@ -10,5 +10,6 @@ invariant_of-result c = record {
   few = omega arith;
   all_short = c.iter.ensures.short;
   kept = refl;
-  seen = All-replicate (IsSeen c.args.all.now) 64 _ (c.text.ensures.value, c.text.ensures.short);
+  seen = All-replicate (IsSeen c.args.all.now) 16 _ (c.text.ensures.value, c.text.ensures.short);
+  placed = tt;
 }

@@ -1,0 +1,66 @@
+-- What the store answers is what the state says.
+use Rattle.std.proofs.Common.{◌≡◌, ℕ, ◌+◌, ◌*◌, ◌≤◌, List, Bool, true, false, Option, Some, None, Ok, Err, length, take, refl, sym, ap, ◌∙◌, subst, inl, inr, arith, is_some}
+use Rattle.std.specs.Prelude.{◌<◌, nat_lt, Result, Vec}
+use Rattle.std.specs.declared.alloc.Global.{Global}
+use Rattle.std.specs.Option.{option_map}
+use Rattle.std.specs.Int.{w32}
+use Rattle.std.specs.FinMap as finite
+use Rattle.std.proofs.lemmas.Bool.{cases_Bool}
+use Rattle.std.proofs.lemmas.Bool.Decides.{nat_tests}
+use Rattle.std.proofs.lemmas.List.{length-take-le}
+use Rattle.rpm_header.specs.declared.form.HeaderFault.{HeaderFault}
+use Rattle.rpm_header.specs.Bytes.{number_at}
+use Rattle.rpm_header.specs.Header.{Header, header, header_of, unless}
+use Rattle.rpm_outside.specs.Files.{Units}
+use Rattle.rpm_pkgdb.specs.declared.blob.GetFault.{GetFault}
+use Rattle.rpm_pkgdb.specs.declared.blob.GetFault.TheVariants.{NoSuch, Bad, DiskFault, NoMemory}
+use Rattle.rpm_pkgdb.specs.Answers.{AnswerIs, given}
+use Rattle.rpm_pkgdb.specs.Blobs.{Frame, frames, blobs, blob_in}
+use Rattle.rpm_pkgdb.specs.declared.slot.Slot.{Slot}
+use Rattle.rpm_pkgdb.specs.Slots.{slot_with}
+use Rattle.rpm_pkgdb.specs.Pairs as pairs
+use Rattle.rpm_pkgdb.specs.BlobLaws.{get-blobs-frames}
+use Rattle.rpm_pkgdb.specs.Checksums.{checksums_hold, checksum_holds}
+use Rattle.rpm_db.specs.declared.verify.Verdict.TheVariants.{BadHeader}
+use Rattle.rpm_db.specs.State.{package_of, packages}
+use Rattle.rpm_db.specs.Database.{Database, IsNext, holds}
+use Rattle.rpm_db.specs.Answers.{ReadIs}
+use Rattle.rpm_db.specs.Laws.{get-packages, is_there}
+use Rattle.rpm_db.specs.Verdicts.{verdict, verdict_of}
+
+-- ---- a blob
+
+pub read_is : (said : Option (Option (List ℕ))) (r : Result (Vec ℕ Global) GetFault) → AnswerIs given said r → ReadIs (option_map package_of said) r
+read_is said (Ok v) is = ap (option_map package_of) is
+read_is said (Err NoSuch) is = ap (option_map package_of) is
+read_is said (Err Bad) is = ap (option_map package_of) is
+read_is said (Err DiskFault) is = tt
+read_is said (Err NoMemory) is = tt
+
+-- ---- the next number
+
+pub next_is : (there held : ℕ → Bool) (n : ℕ) (r : Option ℕ) → ((k : ℕ) → there k ≡ held k) → IsNext held n r → IsNext there n r
+next_is there held n None same next = λ k lt. same k ∙ next k lt
+next_is there held n (Some m) same next = (next.0, same m ∙ next.1, λ k a b. same k ∙ next.2 k a b)
+
+-- ---- a verdict
+
+broken_is : (f : Option (Option Frame)) → option_map (option_map checksum_holds) f ≡ Some None → verdict_of (option_map (option_map blob_in) f) (option_map (option_map checksum_holds) f) ≡ Some BadHeader
+broken_is None is = absurd cc
+broken_is (Some None) is = refl
+broken_is (Some (Some frame)) is = absurd cc
+
+pub broken : (file : Units) (db : Database) (n : ℕ) → checksums_hold file db.store n ≡ Some None → verdict file db n ≡ Some BadHeader
+broken file db n is =
+    ap (λ (blob : Option (Option (List ℕ))). verdict_of blob (checksums_hold file db.store n)) (get-blobs-frames file db.store n)
+    ∙ broken_is (frames file db.store n) is
+
+-- ---- the slots
+
+none_there : {X : Type 0} (o : Option X) → o ≡ None → is_some o ≡ false
+none_there None none = refl
+none_there (Some x) none = absurd cc
+
+pub next_of_slots : (slots : List Slot) (n : ℕ) (r : Option ℕ) → pairs.IsNext (λ m. slot_with m slots) n r → IsNext (λ m. is_some (slot_with m slots)) n r
+next_of_slots slots n None next = λ k lt. none_there (slot_with k slots) (next k lt)
+next_of_slots slots n (Some m) next = (next.0, next.1, λ k a b. none_there (slot_with k slots) (next.2 k a b))

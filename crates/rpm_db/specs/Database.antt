@@ -1,0 +1,56 @@
+-- What an opened database keeps.
+use Rattle.std.specs.Prelude.{◌≡◌, ℕ, ◌<◌, Bool, true, false, ◌==◌, is_some, Option, Some, None, Result, Ok, Err}
+use Rattle.rpm_outside.specs.Files.{Units}
+use Rattle.rpm_pkgdb.specs.declared.slot.Damage.{Damage}
+use Rattle.rpm_pkgdb.specs.Slots.{slot_with}
+use Rattle.rpm_pkgdb.specs.Store.{Store, store}
+use Rattle.rpm_db.specs.declared.opening.DbOpenFault.{DbOpenFault}
+use Rattle.rpm_db.specs.declared.opening.DbOpenFault.TheVariants.{Damaged, IndexFull, DiskFault, NoMemory}
+use Rattle.rpm_pkgdb.specs.Store as pkgdb
+use Rattle.rpm_pkgdb.specs.Costs as costs
+
+-- its store, whether it keeps an index, and whether a changing call failed at the disk
+pub record Database : Type 0 where
+  pub store : Store
+  pub indexed : Bool
+  pub stopped : Bool
+
+-- what a value keeps of a file is what the file says
+abbrev pub Keeps : Units → Database → Type 0
+Keeps file db = pkgdb.Keeps file db.store
+
+-- no database was made yet
+abbrev pub is_blank : Database → Bool
+is_blank db = db.store.pages == 0
+
+-- there is a package of this number, Good or Bad
+abbrev pub holds : ℕ → Database → Bool
+holds n db = is_some (slot_with n db.store.slots)
+
+-- m is the least number above n that is there, and None says that there is none
+abbrev pub IsNext : (ℕ → Bool) → ℕ → Option ℕ → Type 0
+IsNext there n None = (k : ℕ) → n < k → there k ≡ false
+IsNext there n (Some m) = (n < m) × (there m ≡ true) × ((k : ℕ) → n < k → k < m → there k ≡ false)
+
+abbrev pub next_number : Database → ℕ
+next_number db = pkgdb.next_number db.store
+
+-- the bytes of a number's blocks
+abbrev pub cost : ℕ → Database → ℕ
+cost n db = costs.cost n db.store
+
+-- of all numbers up to this one
+abbrev pub cost_to : ℕ → Database → ℕ
+cost_to n db = costs.cost_to n db.store
+
+-- of all numbers
+abbrev pub cost_all : Database → ℕ
+cost_all db = costs.cost_all db.store
+
+-- what opening answers of this store, without an index
+abbrev pub OpenIs : Result Store Damage → Result Database DbOpenFault → Type 0
+OpenIs said (Ok db) = said ≡ Ok db.store
+OpenIs said (Err (Damaged d)) = said ≡ Err d
+OpenIs said (Err (IndexFull needed)) = ⊥
+OpenIs said (Err DiskFault) = Unit {0}
+OpenIs said (Err NoMemory) = Unit {0}

@@ -1,0 +1,6 @@
+pub mod Answers
+pub mod Database
+pub mod Laws
+pub mod Own
+pub mod State
+pub mod Verdicts

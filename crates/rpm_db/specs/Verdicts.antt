@@ -1,0 +1,41 @@
+-- What verifying says of a number.
+use Rattle.std.specs.Prelude.{ℕ, List, Bool, false, not, if◌then◌else◌, Option, Some, None, Result, Ok, Err}
+use Rattle.std.specs.FinMap as finite
+use Rattle.std.specs.Str.{bytes_eq}
+use Rattle.hex.specs.Hex.{encode_lower}
+use Rattle.rpm_header.specs.declared.form.HeaderFault.{HeaderFault}
+use Rattle.rpm_header.specs.Header.{Header, header}
+use Rattle.rpm_header.specs.Digest.{immutable_digest}
+use Rattle.rpm_outside.specs.Files.{Units}
+use Rattle.rpm_pkgdb.specs.Blobs.{blobs}
+use Rattle.rpm_pkgdb.specs.Checksums.{checksums_hold}
+use Rattle.rpm_tags.specs.Value.{first_text}
+use Rattle.rpm_db.specs.declared.verify.Verdict.{Verdict}
+use Rattle.rpm_db.specs.declared.verify.Verdict.TheVariants.{Sound, BadHeader, BadChecksum, BadDigest}
+use Rattle.rpm_db.specs.Database.{Database}
+
+-- both are there, and the text isn't the digest in lower-case hex
+abbrev pub differs : Option (List ℕ) → Option (List ℕ) → Bool
+differs (Some digest) (Some text) = not (bytes_eq text (encode_lower digest))
+differs _ _ = false
+
+-- a region of tag 63, and a text 273 that isn't its digest
+unfoldable pub is_digest_wrong : Header → Bool
+is_digest_wrong h = differs (immutable_digest h) (first_text h 273)
+
+-- given whether the checksum holds
+abbrev pub header_verdict : Bool → Result Header HeaderFault → Verdict
+header_verdict sum (Err fault) = BadHeader
+header_verdict sum (Ok h) = if sum then (if is_digest_wrong h then BadDigest else Sound) else BadChecksum
+
+abbrev pub blob_verdict : Option (List ℕ) → Option Bool → Verdict
+blob_verdict (Some blob) (Some sum) = header_verdict sum (header blob)
+blob_verdict _ _ = BadHeader
+
+-- None of a number that isn't there
+abbrev pub verdict_of : Option (Option (List ℕ)) → Option (Option Bool) → Option Verdict
+verdict_of (Some blob) (Some sum) = Some (blob_verdict blob sum)
+verdict_of _ _ = None
+
+abbrev pub verdict : Units → Database → ℕ → Option Verdict
+verdict file db n = verdict_of (finite.get (blobs file db.store) n) (checksums_hold file db.store n)

@@ -1,0 +1,77 @@
+//! The bytes of one package.
+
+ghost use Rattle.std.specs.Prelude.{◌≡◌, ℕ, ◌+◌, ◌≤◌, ◌↔◌, IsTrue, false, Ok, Err, IfOk, MatchResult};
+ghost use Rattle.std.specs.FinMap as finite;
+ghost use Rattle.rpm_outside.specs.Causes.{HasCauseAt};
+ghost use Rattle.rpm_outside.specs.Looks.{Looks};
+ghost use Rattle.rpm_db.specs.State.{state, package_of};
+ghost use Rattle.rpm_db.specs.Database.{Keeps, holds, cost};
+ghost use Rattle.rpm_db.specs.Answers.{GetIs, ReadIs, CutIs};
+
+use crate::database::Db;
+use rpm_header::View;
+use rpm_outside::Disk;
+use rpm_pkgdb::GetFault;
+use std::alloc::Global;
+
+/// A blob without what follows its header; Bad where it is none.
+fn cut_header(blob: Vec<u8>) -> Result<Vec<u8>, GetFault>
+    ensures { CutIs (package_of (Some blob.items)) result }
+{
+    let length = match View::parse(&blob) {
+        Ok(view) => view.blob().len(),
+        Err(_) => return Err(GetFault::Bad),
+    };
+    let mut own = blob;
+    own.truncate(length);
+    Ok(own)
+}
+
+impl Db {
+    /// The bytes that a package is read from: those of its header and what follows them. Whether they are a header isn't looked at.
+    ///
+    /// Reads the number's own blocks, each once.
+    ///
+    /// # Errors
+    ///
+    /// - `NoSuch` exactly where there is no such package. Nothing is read then.
+    /// - `Bad` only where the package is Bad: its blob can't be read.
+    /// - `DiskFault` only where the disk's count of faults rose.
+    /// - `NoMemory` where the bytes find no memory.
+    pub fn read<D: Disk>(&self, alloc: Global, disk: &mut D, n: u32) -> Result<Vec<u8>, GetFault>
+        requires keeps { IsTrue D.tells → Keeps (D.files disk.old).pkg self.now }
+        requires runs { self.now.stopped ≡ false }
+        ensures kept { IsTrue D.tells → Keeps (D.files disk.new).pkg self.now }
+        ensures told { IsTrue D.tells → ReadIs (finite.get (state (D.files disk.old).pkg self.now.store).packages n) result }
+        ensures absent { (result ≡ Err GetFault.NoSuch) ↔ (holds n self.now ≡ false) }
+        ensures looks { Looks D.tells D.files D.left_since D.moment D.bytes_read D.follows (cost n self.now) disk.old disk.new }
+        ensures cause { HasCauseAt (result ≡ Err GetFault.DiskFault) (D.faults disk.old) (D.faults disk.new) }
+    {
+        self.store.get(alloc, disk, n)
+    }
+
+    /// A Good header's own bytes.
+    ///
+    /// Reads the number's own blocks, each once, and takes memory for them alone.
+    ///
+    /// # Errors
+    ///
+    /// - `NoSuch` exactly where there is no such package. Nothing is read then.
+    /// - `Bad` exactly where the package is Bad.
+    /// - `DiskFault` only where the disk's count of faults rose.
+    /// - `NoMemory` where the bytes find no memory.
+    pub fn get<D: Disk>(&self, alloc: Global, disk: &mut D, n: u32) -> Result<Vec<u8>, GetFault>
+        requires keeps { IsTrue D.tells → Keeps (D.files disk.old).pkg self.now }
+        requires runs { self.now.stopped ≡ false }
+        ensures kept { IsTrue D.tells → Keeps (D.files disk.new).pkg self.now }
+        ensures told { IsTrue D.tells → GetIs (finite.get (state (D.files disk.old).pkg self.now.store).packages n) result }
+        ensures absent { (result ≡ Err GetFault.NoSuch) ↔ (holds n self.now ≡ false) }
+        ensures looks { Looks D.tells D.files D.left_since D.moment D.bytes_read D.follows (cost n self.now) disk.old disk.new }
+        ensures cause { HasCauseAt (result ≡ Err GetFault.DiskFault) (D.faults disk.old) (D.faults disk.new) }
+    {
+        match self.read(alloc, disk, n) {
+            Ok(blob) => cut_header(blob),
+            Err(fault) => Err(fault),
+        }
+    }
+}

@@ -1,0 +1,99 @@
+//! Whether a package is sound.
+
+ghost use Rattle.std.specs.Prelude.{◌≡◌, ℕ, length, ◌+◌, ◌*◌, ◌≤◌, ◌↔◌, IsTrue, false, Some, Err};
+ghost use Rattle.std.specs.Option.{option_map, option_copied};
+ghost use Rattle.rpm_header.specs.Header.{header};
+ghost use Rattle.rpm_header.specs.Digest.{immutable_digest};
+ghost use Rattle.rpm_tags.specs.Value.{first_text};
+ghost use Rattle.rpm_outside.specs.Causes.{HasCauseAt};
+ghost use Rattle.rpm_outside.specs.Looks.{Looks};
+ghost use Rattle.rpm_db.specs.Database.{Keeps, holds, cost};
+ghost use Rattle.rpm_db.specs.Verdicts.{verdict, header_verdict, differs, is_digest_wrong};
+ghost use Rattle.rpm_db.specs.Answers.{VerifyIs};
+
+use crate::database::Db;
+use hex::encode_to_slice;
+use rpm_header::{View, immutable_digest};
+use rpm_outside::Disk;
+use rpm_pkgdb::GetFault;
+use rpm_tags::first_text;
+use std::alloc::Global;
+
+/// What verifying a package says: the first that holds.
+#[derive(Clone, Copy, Debug, PartialEq, Eq)]
+pub enum Verdict {
+    /// None of the others.
+    Sound,
+    /// The package is Bad.
+    BadHeader,
+    /// The checksum in the store isn't that of the package's blocks.
+    BadChecksum,
+    /// The header has an immutable region and a text SHA256HEADER whose first element isn't the region's SHA-256 in lower-case hex.
+    BadDigest,
+}
+
+/// Whether a text isn't this digest in hex.
+fn is_other(digest: &[u8], text: &[u8]) -> bool
+    requires { length digest.now ≡ 32 }
+    ensures { result ≡ differs (Some digest.now) (Some text.now) }
+{
+    let mut digits = [0u8; 64];
+    match encode_to_slice(digest, &mut digits) {
+        Ok(()) => text != digits.as_slice(),
+        Err(_) => true,
+    }
+}
+
+/// Whether the header has a digest that isn't that of its region.
+#[tactic(auto, unfolding(crate::specs::Verdicts::is_digest_wrong))]
+fn is_digest_wrong(view: &View<'_>) -> bool
+    ensures { result ≡ is_digest_wrong view.now }
+{
+    match (immutable_digest(view), first_text(view, 273)) {
+        (Some(digest), Some(text)) => is_other(&digest, text),
+        _ => false,
+    }
+}
+
+fn header_verdict(holds: bool, blob: &[u8]) -> Verdict
+    ensures { result ≡ header_verdict holds (header blob.now) }
+{
+    match View::parse(blob) {
+        Err(_) => Verdict::BadHeader,
+        Ok(_) if !holds => Verdict::BadChecksum,
+        Ok(view) if is_digest_wrong(&view) => Verdict::BadDigest,
+        Ok(_) => Verdict::Sound,
+    }
+}
+
+impl Db {
+    /// What verifying a number says.
+    ///
+    /// Reads the number's own blocks twice at most, and hashes the header's region.
+    ///
+    /// # Errors
+    ///
+    /// - `NoSuch` exactly where there is no such package. It never answers `Bad`.
+    /// - `DiskFault` only where the disk's count of faults rose.
+    /// - `NoMemory` where the package finds no memory.
+    pub fn verify<D: Disk>(&self, alloc: Global, disk: &mut D, n: u32) -> Result<Verdict, GetFault>
+        requires keeps { IsTrue D.tells → Keeps (D.files disk.old).pkg self.now }
+        requires runs { self.now.stopped ≡ false }
+        ensures kept { IsTrue D.tells → Keeps (D.files disk.new).pkg self.now }
+        ensures told { IsTrue D.tells → VerifyIs (verdict (D.files disk.old).pkg self.now n) result }
+        ensures absent { (result ≡ Err GetFault.NoSuch) ↔ (holds n self.now ≡ false) }
+        ensures looks { Looks D.tells D.files D.left_since D.moment D.bytes_read D.follows (2 * cost n self.now) disk.old disk.new }
+        ensures cause { HasCauseAt (result ≡ Err GetFault.DiskFault) (D.faults disk.old) (D.faults disk.new) }
+    {
+        let holds = match self.store.checksum_holds(alloc, disk, n) {
+            Ok(holds) => holds,
+            Err(GetFault::Bad) => return Ok(Verdict::BadHeader),
+            Err(fault) => return Err(fault),
+        };
+        match self.store.get(alloc, disk, n) {
+            Ok(blob) => Ok(header_verdict(holds, &blob)),
+            Err(GetFault::Bad) => Ok(Verdict::BadHeader),
+            Err(fault) => Err(fault),
+        }
+    }
+}

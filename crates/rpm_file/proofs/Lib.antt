@@ -1,0 +1,7 @@
+pub mod Appended
+pub mod Filled
+pub mod Fixtures
+pub mod Joined
+pub mod Listed
+pub mod Merged
+pub mod Packaged

@@ -1,0 +1,129 @@
+-- A header of a list, read in two pieces.
+use Rattle.std.proofs.Common.{◌≡◌, ℕ, zero, suc, get_or, ◌+◌, ◌-◌, ◌*◌, ◌≤◌, ◌<◌, List, [], ◌∷◌, ◌++◌, Option, Result, Ok, Err, length, take, drop, true, false, Bool, refl, sym, ap, ◌∙◌, arith, length-append, append_assoc, le-ltb, lt-ltb}
+use Rattle.std.specs.Prelude.{nat_lt, not, if◌then◌else◌, is_ok, nat_eq}
+use Rattle.std.specs.Cmp.Lexicographic.{pointwise}
+use Rattle.std.specs.Int.{Width, w32, byte_len, byte_worth, sum_through, from_be_bytes}
+use Rattle.std.proofs.lemmas.List.{get_or_append_left, take-append-le, take_all, take_at, drop_at, drop-append-le, drop-drop, length-take, length-drop}
+use Rattle.rpm_header.specs.Bytes.{number_at}
+use Rattle.rpm_header.specs.Digest.{magic}
+use Rattle.rpm_file.specs.declared.fault.ListFault.{ListFault}
+use Rattle.rpm_file.specs.declared.fault.ListFault.TheVariants as fault
+use Rattle.rpm_file.specs.Browsing.{left}
+use Rattle.rpm_file.specs.Filling.{Fills, IsOutside}
+use Rattle.rpm_file.specs.List.{has_magic, entries_in, data_in, size_in, sized, front_header, some_found, list_head}
+use Rattle.rpm_file.specs.Answers.{IsListFault}
+
+-- ---- what the first bytes say, whatever follows them
+
+sum_same : (f g : ℕ → ℕ) (n : ℕ) → ((k : ℕ) → k ≤ n → f k ≡ g k) → sum_through f n ≡ sum_through g n
+sum_same f g zero same = same 0 (omega arith)
+sum_same f g (suc n) same = rw (sum_same f g n (λ k le. same k (omega arith)), same (suc n) (omega arith)) refl
+
+pub number_longer : (w : Width) (at : ℕ) (xs ys : List ℕ) → 0 < byte_len w → at + byte_len w ≤ length xs → number_at w (xs ++ ys) at ≡ number_at w xs at
+unfolding number_at
+number_longer w at xs ys some within =
+    let apart : drop at (xs ++ ys) ≡ drop at xs ++ ys = drop-append-le at xs ys (omega arith) in
+    ap (from_be_bytes w) apart ∙ sum_same
+    (λ i. byte_worth (byte_len w - 1 - i) (get_or (drop at xs ++ ys) i 0))
+    (λ i. byte_worth (byte_len w - 1 - i) (get_or (drop at xs) i 0))
+    (byte_len w - 1)
+    (λ k le. ap (byte_worth (byte_len w - 1 - k)) (get_or_append_left (drop at xs) ys 0 k (omega (arith, length-drop at xs))))
+
+magic_longer : (xs ys : List ℕ) → 8 ≤ length xs → has_magic (xs ++ ys) ≡ has_magic xs
+magic_longer xs ys long = ap (pointwise nat_eq magic) (take-append-le 8 xs ys long)
+
+pub size_longer : (intro more : List ℕ) → length intro ≡ 16 → size_in (intro ++ more) ≡ size_in intro
+unfolding size_in
+size_longer intro more long = rw (magic_longer intro more (omega arith), number_longer w32 8 intro more (omega arith) (omega arith), number_longer w32 12 intro more (omega arith) (omega arith)) refl
+
+-- ---- the two pieces
+
+front_sized : (intro more : List ℕ) (r : Result ℕ ListFault) → length intro ≡ 16 → r ≡ size_in intro → front_header (intro ++ more) ≡ sized (intro ++ more) r
+unfolding front_header
+front_sized intro more r long is =
+    let enough : nat_lt (length (intro ++ more)) 16 ≡ false = le-ltb (length (intro ++ more)) 16 (omega (arith, length-append intro more)) in
+    rw (enough, size_longer intro more long, is) refl
+
+pub bad_front : (intro more : List ℕ) (e : ListFault) → length intro ≡ 16 → Err e ≡ size_in intro → front_header (intro ++ more) ≡ Err e
+bad_front intro more e long is = front_sized intro more (Err e) long is
+
+-- what stands behind the magic is the blob and what follows it
+behind_magic : (intro bytes blob more rest : List ℕ) → length intro ≡ 16 → bytes ≡ more ++ rest → blob ≡ drop 8 intro ++ more → drop 8 (intro ++ bytes) ≡ blob ++ rest
+behind_magic intro bytes blob more rest long whole is =
+    drop-append-le 8 intro bytes (omega arith)
+    ∙ ap (λ (xs : List ℕ). drop 8 intro ++ xs) whole
+    ∙ sym (append_assoc (drop 8 intro) more rest)
+    ∙ sym (ap (λ (xs : List ℕ). xs ++ rest) is)
+
+pub whole_front : (intro bytes blob more rest : List ℕ) (size : ℕ) → length intro ≡ 16 → Ok size ≡ size_in intro → bytes ≡ more ++ rest → blob ≡ drop 8 intro ++ more → length blob ≡ size
+    → front_header (intro ++ bytes) ≡ Ok (record { blob = blob; rest = rest })
+whole_front intro bytes blob more rest size long is whole blob_is number =
+    let behind = behind_magic intro bytes blob more rest long whole blob_is in
+    let there : nat_lt (length (intro ++ bytes)) (8 + size) ≡ false = le-ltb (length (intro ++ bytes)) (8 + size) (omega (arith, length-append intro bytes, ap length whole, length-append more rest, ap length blob_is, length-append (drop 8 intro) more, length-drop 8 intro)) in
+    let own : take size (drop 8 (intro ++ bytes)) ≡ blob = ap (take size) behind ∙ take_at blob rest size number in
+    let left_over : drop (8 + size) (intro ++ bytes) ≡ rest = sym (drop-drop size 8 (intro ++ bytes)) ∙ ap (drop size) behind ∙ drop_at blob rest size number in
+    front_sized intro bytes (Ok size) long is ∙ rw (there, own, left_over) refl
+
+pub cut_front : (intro bytes blob more rest : List ℕ) (size : ℕ) → length intro ≡ 16 → Ok size ≡ size_in intro → bytes ≡ more ++ rest → blob ≡ drop 8 intro ++ more → length blob < size → rest ≡ []
+    → front_header (intro ++ bytes) ≡ Err fault.Short
+cut_front intro bytes blob more rest size long is whole blob_is few none =
+    let short : nat_lt (length (intro ++ bytes)) (8 + size) ≡ true = lt-ltb (length (intro ++ bytes)) (8 + size) (omega (arith, length-append intro bytes, ap length whole, length-append more rest, ap length none, ap length blob_is, length-append (drop 8 intro) more, length-drop 8 intro)) in
+    front_sized intro bytes (Ok size) long is ∙ rw short refl
+
+-- ---- where a list begins
+
+pub head_some : (bytes : List ℕ) → 0 < length bytes → list_head bytes ≡ some_found (front_header bytes)
+head_some [] some = absurd (omega arith)
+head_some (b ∷ bytes) some = refl
+
+pub head_short : (bytes : List ℕ) → 0 < length bytes → length bytes < 16 → list_head bytes ≡ Err fault.Short
+unfolding front_header
+head_short bytes some few =
+    let short : nat_lt (length bytes) 16 ≡ true = lt-ltb (length bytes) 16 few in
+    head_some bytes some ∙ rw short refl
+
+-- ---- faults
+
+pub outside_fault : {X : Type 0} (found : Result X ListFault) (e : ListFault) → IsOutside e → IsListFault found e
+outside_fault found fault.ReadFault out = tt
+outside_fault found fault.NoMemory out = tt
+outside_fault found fault.Short out = absurd out
+outside_fault found fault.BadMagic out = absurd out
+outside_fault found fault.TooManyEntries out = absurd out
+outside_fault found fault.TooMuchData out = absurd out
+
+-- a fault that the definition has
+pub told_fault : {X : Type 0} (found : Result X ListFault) (e : ListFault) → found ≡ Err e → IsListFault found e
+told_fault found fault.ReadFault is = tt
+told_fault found fault.NoMemory is = tt
+told_fault found fault.Short is = is
+told_fault found fault.BadMagic is = is
+told_fault found fault.TooManyEntries is = is
+told_fault found fault.TooMuchData is = is
+
+-- the two lengths alone never say that a read failed
+no_read_fault : (a b c : Bool) (n : ℕ) (r : Result ℕ ListFault) → r ≡ (if a then Err fault.BadMagic else if b then Err fault.TooManyEntries else if c then Err fault.TooMuchData else Ok n) → r ≡ Err fault.ReadFault → ⊥
+no_read_fault true b c n r is e = absurd cc
+no_read_fault false true c n r is e = absurd cc
+no_read_fault false false true n r is e = absurd cc
+no_read_fault false false false n r is e = absurd cc
+
+pub size_fault : (bytes : List ℕ) (e : ListFault) → Err e ≡ size_in bytes → e ≡ fault.ReadFault → ⊥
+unfolding size_in
+size_fault bytes e is same = no_read_fault (not (has_magic bytes)) (nat_lt 65535 (entries_in bytes)) (nat_lt 67108864 (data_in bytes)) (8 + 16 * entries_in bytes + data_in bytes) (Err e) is (ap (λ (f : ListFault). Err f) same)
+
+pub no_fault : {X : Type 0} (r : Result X ListFault) (e : ListFault) → r ≡ Err e → r ≡ Err fault.ReadFault → e ≡ fault.ReadFault
+no_fault r e is same = cc
+
+-- the vector begins with what stands behind the magic
+pub begun : {T E : Type 0} (r : Result T E) (intro before now : List ℕ) → is_ok r ≡ true → before ≡ [] → now ≡ (if is_ok r then before ++ take (length intro - 8) (drop 8 intro) else before) → now ≡ drop 8 intro
+begun r intro before now ok none is =
+    let whole : take (length intro - 8) (drop 8 intro) ≡ drop 8 intro = take_all (length intro - 8) (drop 8 intro) (omega (arith, length-drop 8 intro)) in
+    is ∙ rw (ok, none, whole) refl
+
+-- fewer than 16 bytes came
+pub short_fill : (old new : Option (List ℕ)) (count : ℕ) (into : List ℕ) → Fills old new count into → 0 < count → count < 16 → length into ≡ 16 → list_head (left old) ≡ Err fault.Short
+short_fill old new count into f some few room =
+    let none = f.ended (omega arith) in
+    let size : length (left old) ≡ count = omega (arith, ap length f.front.front, length-append (take count into) (left new), length-take count into, ap length none) in
+    head_short (left old) (omega arith) (omega arith)

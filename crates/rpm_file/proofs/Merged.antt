@@ -1,0 +1,155 @@
+-- The entries that join, one after the other.
+use Rattle.std.proofs.Common.{◌≡◌, ℕ, suc, ◌+◌, ◌-◌, ◌≤◌, ◌<◌, List, [], ◌∷◌, ◌++◌, Option, Some, None, Result, Ok, Err, length, take, get_or, true, false, Bool, replicate, ne_eqb, refl, sym, ap, subst, ◌∙◌, arith, le-ltb, lt-ltb, inl, inr}
+use Rattle.std.specs.Prelude.{unwrap_or, ◌==◌, ◌||◌, slice_get, ◌↔◌}
+use Rattle.std.specs.List.{filter_map}
+use Rattle.std.proofs.lemmas.List.{append-nil, length-replicate, get_or-replicate, get_or-set_other}
+use Rattle.std.proofs.Math.ListN.{set, length-set}
+use Rattle.std.proofs.lemmas.Grind.{get_or-set_at}
+use Rattle.std.proofs.lemmas.List.Folds.{list_any-append}
+use Rattle.std.proofs.lemmas.List.Elements.{filter_map-append}
+use Rattle.std.proofs.lemmas.Option.{slice_get_within, unwrap_or-slice_get}
+use Rattle.std.proofs.Math.Seq.{take-suc}
+use Rattle.std.proofs.lemmas.Bool.{cases_lt, cases_eq, eq-eqb}
+use Rattle.rpm_header.specs.declared.form.Form.{Form}
+use Rattle.rpm_header.specs.declared.form.Form.TheVariants as form
+use Rattle.rpm_header.specs.Header.{Item, Header}
+use Rattle.rpm_header.specs.Build.{retagged}
+use Rattle.rpm_header.specs.Header.{header}
+use Rattle.rpm_header.specs.Dribbles.{dribbled, dribbled_data}
+use Rattle.rpm_header.specs.declared.form.HeaderFault.{HeaderFault}
+use Rattle.rpm_header.specs.declared.laying.BuildFault.{BuildFault}
+use Rattle.rpm_header.specs.declared.laying.BuildFault.TheVariants as build
+use Rattle.rpm_file.specs.declared.fault.FileFault.TheVariants as fault
+use Rattle.rpm_file.specs.Answers.{IsMadeFault}
+use Rattle.rpm_file.specs.Package.{read_again, entries_or_none}
+use Rattle.rpm_file.specs.Merging.{HasTags, joins_as, is_null, has_tag, dribble_as, dribble, dribbles, made_fault, passes_limits, with_entries, merged}
+
+-- ---- which tag an entry gets
+
+or_true : (b : Bool) → (b || true) ≡ true
+or_true true = refl
+or_true false = refl
+
+or_false : (b : Bool) → (b || false) ≡ b
+or_false true = refl
+or_false false = refl
+
+next_taken : {X : Type 0} (xs : List X) (i : ℕ) (x : X) → slice_get xs i ≡ Some x → take (i + 1) xs ≡ take i xs ++ x ∷ []
+next_taken {X} xs i x is =
+    let here : get_or xs i x ≡ x = sym (unwrap_or-slice_get xs i x) ∙ ap (λ (o : Option X). unwrap_or o x) is in
+    let next : i + 1 ≡ suc i = omega arith in
+    ap (λ (n : ℕ). take n xs) next ∙ take-suc xs i x (slice_get_within xs i x is) ∙ ap (λ (y : X). take i xs ++ y ∷ []) here
+
+-- of no entry yet
+tags_none : (has : List Bool) → has ≡ replicate 1047 false → HasTags [] has
+tags_none has is = record {
+  long = ap length is ∙ length-replicate 1047 false;
+  told = λ tag below. ap (λ (xs : List Bool). get_or xs tag false) is ∙ get_or-replicate 1047 tag false false below;
+}
+
+pub tags_begun : (xs has : List Bool) (n : ℕ) → xs ≡ [] → n ≡ 0 → has ≡ take 1047 xs ++ replicate (1047 - n) false → HasTags [] has
+tags_begun xs has n nothing none is = tags_none has (is ∙ rw (nothing, none) refl)
+
+one_more : (tag : ℕ) (entries : List Item) (i : ℕ) (e : Item) → slice_get entries i ≡ Some e → has_tag tag (take (i + 1) entries) ≡ (has_tag tag (take i entries) || (e.tag == tag))
+one_more tag entries i e is =
+    ap (has_tag tag) (next_taken entries i e is) ∙ list_any-append (λ (x : Item). x.tag == tag) (take i entries) (e ∷ []) ∙ ap (λ (b : Bool). has_tag tag (take i entries) || b) (or_false (e.tag == tag))
+
+-- an entry is noted
+tags_set : (entries : List Item) (i : ℕ) (e : Item) (has : List Bool) → slice_get entries i ≡ Some e → e.tag < 1047 → HasTags (take i entries) has → HasTags (take (i + 1) entries) (set has e.tag true)
+tags_set entries i e has is small h = record {
+  long = length-set has e.tag true ∙ h.long;
+  told = λ tag below. elim (cases_eq tag e.tag) [
+    | inl same ↦
+        get_or-set_at has e.tag tag true false same (omega (arith, h.long)) ∙ sym (one_more tag entries i e is ∙ ap (λ (b : Bool). has_tag tag (take i entries) || b) (eq-eqb e.tag tag (sym same)) ∙ or_true (has_tag tag (take i entries)))
+    | inr other ↦
+        get_or-set_other has e.tag tag true false other ∙ h.told tag below ∙ sym (one_more tag entries i e is ∙ ap (λ (b : Bool). has_tag tag (take i entries) || b) (ne_eqb e.tag tag (λ same. other (sym same))) ∙ or_false (has_tag tag (take i entries)))
+  ];
+}
+
+-- its tag is none of those
+pub tags_kept : (entries : List Item) (i : ℕ) (e : Item) (has : List Bool) → slice_get entries i ≡ Some e → 1047 ≤ e.tag → HasTags (take i entries) has → HasTags (take (i + 1) entries) has
+tags_kept entries i e has is large h = record {
+  long = h.long;
+  told = λ tag below.
+      h.told tag below ∙ sym (one_more tag entries i e is ∙ ap (λ (b : Bool). has_tag tag (take i entries) || b) (ne_eqb e.tag tag (λ same. omega arith)) ∙ or_false (has_tag tag (take i entries)));
+}
+
+pub tags_noted : (entries : List Item) (i tag : ℕ) (e : Item) (has : List Bool) → slice_get entries i ≡ Some e → tag ≡ e.tag → tag < 1047 → HasTags (take i entries) has → HasTags (take (i + 1) entries) (set has tag true)
+tags_noted entries i tag e has is same small h = subst (λ (t : ℕ). HasTags (take (i + 1) entries) (set has t true)) (sym same) (tags_set entries i e has is (omega arith) h)
+
+-- ---- what an entry becomes
+
+pub none_null : (main : List Item) (e : Item) → is_null e.form ≡ true → dribble main e ≡ None
+unfolding dribble
+none_null main e is = rw is refl
+
+dribble_is : (main : List Item) (e : Item) (to : Option ℕ) → is_null e.form ≡ false → joins_as e.tag ≡ to → dribble main e ≡ dribble_as main e to
+unfolding dribble
+dribble_is main e to other is = rw (other, is) refl
+
+pub none_joins : (main : List Item) (e : Item) → is_null e.form ≡ false → joins_as e.tag ≡ None → dribble main e ≡ None
+none_joins main e other is = dribble_is main e None other is
+
+pub none_twice : (main : List Item) (e : Item) (tag : ℕ) → is_null e.form ≡ false → joins_as e.tag ≡ Some tag → has_tag tag main ≡ true → dribble main e ≡ None
+none_twice main e tag other is has = dribble_is main e (Some tag) other is ∙ rw has refl
+
+pub joins : (main : List Item) (e : Item) (tag : ℕ) → is_null e.form ≡ false → joins_as e.tag ≡ Some tag → has_tag tag main ≡ false → dribble main e ≡ Some (retagged tag e)
+joins main e tag other is has = dribble_is main e (Some tag) other is ∙ rw has refl
+
+pub not_null : (f : Form) → is_null f ≡ false → f ≡ form.Null → ⊥
+not_null form.Null other is = cc
+not_null form.Char other is = cc
+not_null form.Int8 other is = cc
+not_null form.Int16 other is = cc
+not_null form.Int32 other is = cc
+not_null form.Int64 other is = cc
+not_null form.Text other is = cc
+not_null form.Bin other is = cc
+not_null form.Texts other is = cc
+not_null form.I18n other is = cc
+
+-- ---- one entry more
+
+pub next_joins : (h : Item → Option Item) (xs : List Item) (i : ℕ) (e y : Item) → slice_get xs i ≡ Some e → h e ≡ Some y → filter_map h (take (i + 1) xs) ≡ filter_map h (take i xs) ++ y ∷ []
+next_joins h xs i e y is gives =
+    ap (filter_map h) (next_taken xs i e is) ∙ filter_map-append h (take i xs) (e ∷ []) ∙ rw gives refl
+
+pub next_passed : (h : Item → Option Item) (xs : List Item) (i : ℕ) (e : Item) → slice_get xs i ≡ Some e → h e ≡ None → filter_map h (take (i + 1) xs) ≡ filter_map h (take i xs)
+next_passed h xs i e is none =
+    ap (filter_map h) (next_taken xs i e is) ∙ filter_map-append h (take i xs) (e ∷ []) ∙ rw none (append-nil (filter_map h (take i xs)))
+
+-- ---- the limits
+
+pub keeps_limits : {V : Type 0} (r : Result V BuildFault) (v : V) (n size : ℕ) → r ≡ Ok v → ((r ≡ Err build.TooManyEntries) ↔ (65535 < n)) → ((r ≡ Err build.TooMuchData) ↔ ((n ≤ 65535) × (67108864 < size))) → passes_limits n size ≡ false
+keeps_limits r v n size is many much =
+    elim (cases_lt 65535 n) [
+      | inl past ↦ (let e : r ≡ Err build.TooManyEntries = many.1 past in absurd cc)
+      | inr few ↦ (elim (cases_lt 67108864 size) [
+        | inl past ↦ (let e : r ≡ Err build.TooMuchData = much.1 (few, past) in absurd cc)
+        | inr small ↦ (rw (le-ltb 65535 n few, le-ltb 67108864 size small) refl)
+      ])
+    ]
+
+-- ---- all of it
+
+pub made_bytes : (main : Header) (more : List Item) (blob : List ℕ) → passes_limits (length main.entries + length more) (length (dribbled_data main more)) ≡ false
+    → blob ≡ dribbled main more → header blob ≡ Ok (record { blob = blob; entries = main.entries ++ more }) → (with_entries main more ≡ Ok (read_again blob)) × (header blob ≡ Ok (read_again blob))
+made_bytes main more blob fits laid again =
+    let same : read_again blob ≡ record { blob = blob; entries = main.entries ++ more } = ap (λ (r : Result Header HeaderFault). record { blob = blob; entries = entries_or_none r }) again in
+    (rw (fits, same, laid) refl, again ∙ ap (λ (h : Header). Ok h) (sym same))
+
+made_large : (main : Header) (more : List Item) → passes_limits (length main.entries + length more) (length (dribbled_data main more)) ≡ true → with_entries main more ≡ Err fault.TooLarge
+made_large main more past = rw past refl
+
+pub made_not : {V : Type 0} (r : Result V BuildFault) (e : BuildFault) (main : Header) (more : List Item) → r ≡ Err e → ((r ≡ Err build.TooManyEntries) ↔ (65535 < length main.entries + length more))
+    → ((r ≡ Err build.TooMuchData) ↔ ((length main.entries + length more ≤ 65535) × (67108864 < length (dribbled_data main more)))) → IsMadeFault (with_entries main more) (made_fault e)
+made_not r build.TooManyEntries main more is many much = made_large main more (rw (lt-ltb 65535 (length main.entries + length more) (many.0 is)) refl)
+made_not r build.TooMuchData main more is many much =
+    let both = much.0 is in
+    made_large main more (rw (le-ltb 65535 (length main.entries + length more) both.0, lt-ltb 67108864 (length (dribbled_data main more)) both.1) refl)
+made_not r build.NoMemory main more is many much = tt
+
+-- the entries that join are those
+pub merged_is : (signature : List Item) (main : Header) (more : List Item) → more ≡ dribbles main.entries signature → with_entries main more ≡ merged signature main
+unfolding merged
+merged_is signature main more are = ap (with_entries main) are

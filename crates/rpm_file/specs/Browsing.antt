@@ -1,0 +1,62 @@
+-- What a run of reads takes of a shelf.
+use Rattle.std.specs.Prelude.{◌≡◌, ℕ, ◌≤◌, Bool, IsTrue, List, [], ◌++◌, Option, Some, None, is_some}
+use Rattle.std.proofs.Common.{refl, sym, ap, ◌∙◌, append_assoc, arith}
+use Rattle.rpm_outside.specs.Shelves.{Paths, Reads}
+
+-- the bytes that reads will give, none where no item is open
+abbrev pub left : Option (List ℕ) → List ℕ
+left None = []
+left (Some bytes) = bytes
+
+-- these bytes were taken from the front of what was left; an open item stays open, and none is opened
+pub record Takes (old new : Option (List ℕ)) (taken : List ℕ) : Type 0 where
+  pub front : left old ≡ taken ++ left new
+  pub opened : is_some new ≡ is_some old
+
+-- some bytes were
+abbrev pub TakesSome : Option (List ℕ) → Option (List ℕ) → Type 0
+TakesSome old new = (taken : List ℕ) × Takes old new taken
+
+-- bytes were taken from the front of the open item, and nothing else was done
+pub record Browses {S : Type 0} (tells : Bool) (paths : S → Paths) (rest : S → Option (List ℕ)) (absences faults : S → ℕ) (old new : S) : Type 0 where
+  pub paths_stay : IsTrue tells → paths new ≡ paths old
+  pub taken : IsTrue tells → TakesSome (rest old) (rest new)
+  pub absences_stay : absences new ≡ absences old
+  pub later : faults old ≤ faults new
+
+pub takes_none : (old new : Option (List ℕ)) → new ≡ old → Takes old new []
+takes_none old new same = record { front = sym (ap left same); opened = ap is_some same }
+
+pub takes_then : (a b c : Option (List ℕ)) (xs ys : List ℕ) → Takes a b xs → Takes b c ys → Takes a c (xs ++ ys)
+takes_then a b c xs ys first second = record {
+  front = first.front ∙ ap (λ (zs : List ℕ). xs ++ zs) second.front ∙ sym (append_assoc xs ys (left c));
+  opened = second.opened ∙ first.opened;
+}
+
+-- where no byte was taken, nothing was left
+pub record TakesOne (old new : Option (List ℕ)) (taken : List ℕ) : Type 0 where
+  pub takes : Takes old new taken
+  pub ended : taken ≡ [] → left old ≡ []
+
+pub reads_one : (old new : Option (List ℕ)) (taken : List ℕ) → Reads old new taken → TakesOne old new taken
+reads_one None new taken r =
+    let none : taken ≡ [] = r.1 in
+    let same : new ≡ None = r.0 in
+    record { takes = record { front = sym (ap (λ (xs : List ℕ). xs ++ left new) none ∙ ap left same); opened = ap is_some same }; ended = λ e. refl }
+reads_one (Some bytes) None taken r = absurd r
+reads_one (Some bytes) (Some rest) taken r = record { takes = record { front = r.0; opened = refl }; ended = r.1 }
+
+module _ {S : Type 0} (tells : Bool) (paths : S → Paths) (rest : S → Option (List ℕ)) (absences faults : S → ℕ) where
+  pub browses_none : (s : S) → Browses tells paths rest absences faults s s
+  browses_none s = record { paths_stay = λ told. refl; taken = λ told. ([], takes_none (rest s) (rest s) refl); absences_stay = refl; later = omega arith }
+
+  pub browses_then : (a b c : S) → Browses tells paths rest absences faults a b → Browses tells paths rest absences faults b c → Browses tells paths rest absences faults a c
+  browses_then a b c first second = record {
+    paths_stay = λ told. second.paths_stay told ∙ first.paths_stay told;
+    taken = λ told.
+        let f = first.taken told in
+        let s = second.taken told in
+        (f.0 ++ s.0, takes_then (rest a) (rest b) (rest c) f.0 s.0 f.1 s.1);
+    absences_stay = second.absences_stay ∙ first.absences_stay;
+    later = omega (arith, first.later, second.later);
+  }

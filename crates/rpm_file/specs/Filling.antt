@@ -1,0 +1,35 @@
+-- Reads that go on until enough bytes have come.
+use Rattle.std.specs.Prelude.{◌≡◌, ℕ, ◌<◌, Bool, false, List, [], ◌++◌, length, take, Option}
+use Rattle.std.proofs.Common.{ap, ◌∙◌, append_assoc}
+use Rattle.rpm_file.specs.declared.fault.ListFault.{ListFault}
+use Rattle.rpm_file.specs.declared.fault.ListFault.TheVariants as fault
+use Rattle.rpm_file.specs.Browsing.{left, Takes, takes_then}
+
+-- what comes from elsewhere than the bytes
+abbrev pub IsOutside : ListFault → Type 0
+IsOutside fault.ReadFault = Unit {0}
+IsOutside fault.NoMemory = Unit {0}
+IsOutside _ = ⊥
+
+-- so many bytes came to the front of a buffer, and fewer than it has only where nothing is left
+pub record Fills (old new : Option (List ℕ)) (count : ℕ) (into : List ℕ) : Type 0 where
+  pub front : Takes old new (take count into)
+  pub ended : count < length into → left new ≡ []
+
+-- the bytes that came stand behind those that were there
+pub record Extends (old new : Option (List ℕ)) (before now : List ℕ) : Type 0 where
+  pub more : List ℕ
+  pub behind : now ≡ before ++ more
+  pub front : Takes old new more
+
+-- and fewer than so many in all came only where nothing is left
+pub record Appends (old new : Option (List ℕ)) (before : List ℕ) (size : ℕ) (all : Bool) (now : List ℕ) : Type 0 where
+  pub extends : Extends old new before now
+  pub ended : all ≡ false → (length now < size) × (left new ≡ [])
+
+pub extends_then : (a b c : Option (List ℕ)) (xs ys zs : List ℕ) → Extends a b xs ys → Extends b c ys zs → Extends a c xs zs
+extends_then a b c xs ys zs first second = record {
+  more = first.more ++ second.more;
+  behind = second.behind ∙ ap (λ (bs : List ℕ). bs ++ second.more) first.behind ∙ append_assoc xs first.more second.more;
+  front = takes_then a b c first.more second.more first.front second.front;
+}

@@ -1,0 +1,51 @@
+-- A header list: any number of headers, each with the eight bytes of its magic in front.
+use Rattle.std.specs.Prelude.{ℕ, ◌+◌, ◌*◌, List, [], ◌∷◌, length, take, drop, Bool, not, nat_eq, nat_lt, if◌then◌else◌, Option, Some, None, Result, Ok, Err}
+use Rattle.std.specs.List.{starts_with}
+use Rattle.std.specs.Int.{w32}
+use Rattle.rpm_header.specs.Bytes.{number_at}
+use Rattle.rpm_header.specs.Digest.{magic}
+use Rattle.rpm_file.specs.declared.fault.ListFault.{ListFault}
+use Rattle.rpm_file.specs.declared.fault.ListFault.TheVariants.{Short, BadMagic, TooManyEntries, TooMuchData}
+
+-- a header's own bytes, and those that follow it
+pub record Found : Type 0 where
+  pub blob : List ℕ
+  pub rest : List ℕ
+
+-- of a header with its magic: the magic, the number of entries, the length of the data
+abbrev pub has_magic : List ℕ → Bool
+has_magic bytes = starts_with nat_eq bytes magic
+
+abbrev pub entries_in : List ℕ → ℕ
+entries_in bytes = number_at w32 bytes 8
+
+abbrev pub data_in : List ℕ → ℕ
+data_in bytes = number_at w32 bytes 12
+
+-- the length that the first 16 bytes give a header without its magic, or what is wrong with them
+unfoldable pub size_in : List ℕ → Result ℕ ListFault
+size_in bytes =
+    if not (has_magic bytes) then Err BadMagic
+    else if nat_lt 65535 (entries_in bytes) then Err TooManyEntries
+    else if nat_lt 67108864 (data_in bytes) then Err TooMuchData
+    else Ok (8 + 16 * entries_in bytes + data_in bytes)
+
+-- a header of this length behind its magic
+abbrev pub sized : List ℕ → Result ℕ ListFault → Result Found ListFault
+sized bytes (Err fault) = Err fault
+sized bytes (Ok size) =
+    if nat_lt (length bytes) (8 + size) then Err Short
+    else Ok (record { blob = take size (drop 8 bytes); rest = drop (8 + size) bytes })
+
+-- the header that stands in front of a list, or its first fault
+unfoldable pub front_header : List ℕ → Result Found ListFault
+front_header bytes = if nat_lt (length bytes) 16 then Err Short else sized bytes (size_in bytes)
+
+abbrev pub some_found : Result Found ListFault → Result (Option Found) ListFault
+some_found (Ok found) = Ok (Some found)
+some_found (Err fault) = Err fault
+
+-- the next header of a list, None at its end, or its first fault
+abbrev pub list_head : List ℕ → Result (Option Found) ListFault
+list_head [] = Ok None
+list_head (byte ∷ bytes) = some_found (front_header (byte ∷ bytes))

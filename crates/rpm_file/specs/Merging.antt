@@ -1,0 +1,69 @@
+-- The entries of a signature header that join the main header behind its own.
+use Rattle.std.specs.Prelude.{◌≡◌, ℕ, ◌+◌, List, ◌++◌, length, Bool, true, false, ◌==◌, ◌&&◌, ◌||◌, nat_lt, nat_le, if◌then◌else◌, Option, Some, None, Result, Ok, Err, ◌<◌, slice_index_or}
+use Rattle.std.specs.List.{list_any, filter_map}
+use Rattle.rpm_header.specs.declared.form.Form.{Form}
+use Rattle.rpm_header.specs.declared.form.Form.TheVariants as form
+use Rattle.rpm_header.specs.Header.{Item, Header, is_region_tag}
+use Rattle.rpm_header.specs.Build.{retagged}
+use Rattle.rpm_header.specs.Dribbles.{dribbled, dribbled_data}
+use Rattle.rpm_header.specs.declared.laying.BuildFault.{BuildFault}
+use Rattle.rpm_header.specs.declared.laying.BuildFault.TheVariants as build
+use Rattle.rpm_file.specs.declared.fault.FileFault.{FileFault}
+use Rattle.rpm_file.specs.declared.fault.FileFault.TheVariants.{TooLarge, NoMemory}
+
+-- the tag under which an entry of the signature header joins, by its own tag
+abbrev pub joins_as : ℕ → Option ℕ
+joins_as tag =
+    if nat_le 256 tag && nat_le tag 999 then Some tag
+    else if tag == 1000 then Some 257
+    else if tag == 1004 then Some 261
+    else if tag == 1007 then Some 1046
+    else None
+
+abbrev pub is_null : Form → Bool
+is_null form.Null = true
+is_null _ = false
+
+abbrev pub has_tag : ℕ → List Item → Bool
+has_tag tag entries = list_any (λ e. e.tag == tag) entries
+
+-- of each tag below 1,047, whether these entries have it
+pub record HasTags (entries : List Item) (has : List Bool) : Type 0 where
+  pub long : length has ≡ 1047
+  pub told : (tag : ℕ) → tag < 1047 → slice_index_or has tag false ≡ has_tag tag entries
+
+-- an entry under the tag that it gets, unless the main header has this tag
+abbrev pub dribble_as : List Item → Item → Option ℕ → Option Item
+dribble_as main e None = None
+dribble_as main e (Some tag) = if has_tag tag main then None else Some (retagged tag e)
+
+-- what becomes of one entry
+unfoldable pub dribble : List Item → Item → Option Item
+dribble main e = if is_null e.form then None else dribble_as main e (joins_as e.tag)
+
+-- the tag under which an entry joins, if it does
+abbrev pub JoinsUnder : List Item → Item → Option ℕ → Type 0
+JoinsUnder main e None = dribble main e ≡ None
+JoinsUnder main e (Some tag) = (dribble main e ≡ Some (retagged tag e)) × (is_region_tag tag ≡ false) × (e.form ≡ form.Null → ⊥)
+
+-- the entries that join, in the order of the signature header
+abbrev pub dribbles : List Item → List Item → List Item
+dribbles main signature = filter_map (dribble main) signature
+
+-- each limit that is passed is one fault
+abbrev pub made_fault : BuildFault → FileFault
+made_fault build.TooManyEntries = TooLarge
+made_fault build.TooMuchData = TooLarge
+made_fault build.NoMemory = NoMemory
+
+abbrev pub passes_limits : ℕ → ℕ → Bool
+passes_limits count size = nat_lt 65535 count || nat_lt 67108864 size
+
+-- a header with these entries behind its own, unless it would pass a limit
+abbrev pub with_entries : Header → List Item → Result Header FileFault
+with_entries main more =
+    if passes_limits (length main.entries + length more) (length (dribbled_data main more)) then Err TooLarge
+    else Ok (record { blob = dribbled main more; entries = main.entries ++ more })
+
+unfoldable pub merged : List Item → Header → Result Header FileFault
+merged signature main = with_entries main (dribbles main.entries signature)

@@ -1,0 +1,114 @@
+-- A package file: a lead, a signature header, padding, the main header, and a payload that isn't looked at.
+use Rattle.std.specs.Prelude.{ℕ, ◌-◌, List, [], ◌∷◌, length, drop, Bool, not, ◌==◌, ◌&&◌, nat_eq, nat_lt, if◌then◌else◌, Result, Ok, Err}
+use Rattle.std.specs.List.{starts_with}
+use Rattle.std.specs.Int.{w16, next_multiple_of}
+use Rattle.rpm_header.specs.declared.form.HeaderFault.{HeaderFault}
+use Rattle.rpm_header.specs.declared.form.HeaderFault.TheVariants as of_header
+use Rattle.rpm_header.specs.Bytes.{number_at}
+use Rattle.rpm_header.specs.Header.{Item, Header, header}
+use Rattle.rpm_file.specs.declared.fault.ListFault.{ListFault}
+use Rattle.rpm_file.specs.declared.fault.ListFault.TheVariants as of_list
+use Rattle.rpm_file.specs.declared.fault.FileFault.{FileFault}
+use Rattle.rpm_file.specs.declared.fault.FileFault.TheVariants.{Short, NotAPackage, BadMagic, Signature, Main, ReadFault, NoMemory}
+use Rattle.rpm_file.specs.declared.fault.Part.{Part}
+use Rattle.rpm_file.specs.declared.fault.Part.TheVariants as part
+use Rattle.rpm_file.specs.List.{Found, front_header}
+use Rattle.rpm_file.specs.Merging.{merged}
+
+-- ---- the lead
+
+abbrev pub lead_magic : List ℕ
+lead_magic = 0xed ∷ 0xab ∷ 0xee ∷ 0xdb ∷ []
+
+-- its magic in front, and the number 5 for the type of its signature at 78; nothing else is looked at
+abbrev pub is_lead : List ℕ → Bool
+is_lead bytes = starts_with nat_eq bytes lead_magic && number_at w16 bytes 78 == 5
+
+-- what follows the lead
+unfoldable pub behind_lead : List ℕ → Result (List ℕ) FileFault
+behind_lead bytes =
+    if nat_lt (length bytes) 96 then Err Short
+    else if not (is_lead bytes) then Err NotAPackage
+    else Ok (drop 96 bytes)
+
+-- ---- the two headers
+
+abbrev pub fault_in : Part → HeaderFault → FileFault
+fault_in part.Signature fault = Signature fault
+fault_in part.Main fault = Main fault
+
+-- a fault that is found before the header's body is read
+abbrev pub early_fault : Part → ListFault → FileFault
+early_fault p of_list.Short = Short
+early_fault p of_list.BadMagic = BadMagic
+early_fault p of_list.TooManyEntries = fault_in p of_header.TooManyEntries
+early_fault p of_list.TooMuchData = fault_in p of_header.TooMuchData
+early_fault p of_list.ReadFault = ReadFault
+early_fault p of_list.NoMemory = NoMemory
+
+-- a header, and the bytes that follow it
+pub record Headed : Type 0 where
+  pub header : Header
+  pub rest : List ℕ
+
+abbrev pub with_rest : {E : Type 0} → Result Header E → List ℕ → Result Headed E
+with_rest (Ok h) rest = Ok (record { header = h; rest = rest })
+with_rest (Err fault) rest = Err fault
+
+abbrev pub or_fault_in : {X : Type 0} → Part → Result X HeaderFault → Result X FileFault
+or_fault_in p (Ok x) = Ok x
+or_fault_in p (Err fault) = Err (fault_in p fault)
+
+abbrev pub headed_of : Part → Result Found ListFault → Result Headed FileFault
+headed_of p (Err fault) = Err (early_fault p fault)
+headed_of p (Ok found) = with_rest (or_fault_in p (header found.blob)) found.rest
+
+-- a header with its magic, which has no fault
+unfoldable pub headed : Part → List ℕ → Result Headed FileFault
+headed p bytes = headed_of p (front_header bytes)
+
+-- what these bytes are as a header, which says something only where they are one and nothing follows it
+abbrev pub entries_or_none : Result Header HeaderFault → List Item
+entries_or_none (Ok h) = h.entries
+entries_or_none (Err fault) = []
+
+abbrev pub read_again : List ℕ → Header
+read_again bytes = record { blob = bytes; entries = entries_or_none (header bytes) }
+
+-- ---- what stands between them
+
+-- a header's own bytes and the eight of its magic are filled up to a multiple of 8
+abbrev pub padding_of : List ℕ → ℕ
+padding_of blob = next_multiple_of (length blob) 8 - length blob
+
+unfoldable pub behind_padding : List ℕ → List ℕ → Result (List ℕ) FileFault
+behind_padding blob bytes =
+    if nat_lt (length bytes) (padding_of blob) then Err Short
+    else Ok (drop (padding_of blob) bytes)
+
+-- ---- all of it
+
+-- with the entries of the signature header that join it
+abbrev pub joined_by : List Item → Result Headed FileFault → Result Headed FileFault
+joined_by signature (Err fault) = Err fault
+joined_by signature (Ok main) = with_rest (merged signature main.header) main.rest
+
+abbrev pub main_at : List Item → Result (List ℕ) FileFault → Result Headed FileFault
+main_at signature (Err fault) = Err fault
+main_at signature (Ok bytes) = joined_by signature (headed part.Main bytes)
+
+-- what follows the signature header
+unfoldable pub behind_signature : Header → List ℕ → Result Headed FileFault
+behind_signature signature bytes = main_at signature.entries (behind_padding signature.blob bytes)
+
+abbrev pub after_signature : Result Headed FileFault → Result Headed FileFault
+after_signature (Err fault) = Err fault
+after_signature (Ok signature) = behind_signature signature.header signature.rest
+
+abbrev pub signature_at : Result (List ℕ) FileFault → Result Headed FileFault
+signature_at (Err fault) = Err fault
+signature_at (Ok bytes) = after_signature (headed part.Signature bytes)
+
+-- the main header with what joins it and the bytes that follow it in the file, or the first fault
+unfoldable pub package_header : List ℕ → Result Headed FileFault
+package_header bytes = signature_at (behind_lead bytes)

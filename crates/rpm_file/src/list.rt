@@ -1,0 +1,92 @@
+//! The headers of a list, one at a time.
+
+ghost use Rattle.std.specs.Prelude.{◌≡◌, ℕ, ◌≤◌, IsTrue, length, Ok, Err, IfOk};
+ghost use Rattle.rpm_outside.specs.Causes.{HasCauseAt};
+ghost use Rattle.rpm_file.specs.List.{size_in};
+ghost use Rattle.rpm_file.specs.Browsing.{Browses};
+ghost use Rattle.rpm_file.specs.Answers.{AnswersNext, AnswersBehind};
+
+use crate::bytes::u32_at;
+use crate::fault::ListFault;
+use crate::filling::{append_upto, fill};
+use rpm_header::MAGIC;
+use rpm_outside::{Failed, Shelf};
+use std::alloc::Global;
+
+/// The length of a header without its magic, as the 16 bytes say it with which it begins.
+///
+/// # Errors
+///
+/// `BadMagic`, `TooManyEntries`, `TooMuchData`, the first that holds.
+#[tactic(auto, unfolding(crate::specs::List::size_in))]
+fn size_in(intro: &[u8]) -> Result<usize, ListFault>
+    requires { length intro.now ≡ 16 }
+    ensures value { result ≡ size_in intro.now }
+    ensures some { IfOk result (λ size. 8 ≤ size) }
+    ensures few { IfOk result (λ size. size ≤ 68157432) }
+{
+    if !intro.starts_with(&MAGIC) {
+        return Err(ListFault::BadMagic);
+    }
+    let entries = u32_at(intro, 8);
+    if entries > 65_535 {
+        return Err(ListFault::TooManyEntries);
+    }
+    let data = u32_at(intro, 12);
+    if data > 67_108_864 {
+        return Err(ListFault::TooMuchData);
+    }
+    Ok(8 + 16 * entries as usize + data as usize)
+}
+
+/// Reads the rest of a header that begins with these 16 bytes, its magic in front.
+fn read_behind<S: Shelf>(alloc: Global, shelf: &mut S, intro: &[u8]) -> Result<Vec<u8>, ListFault>
+    requires { length intro.now ≡ 16 }
+    ensures answers { IsTrue S.tells → AnswersBehind intro.now (S.rest shelf.old) (S.rest shelf.new) result }
+    ensures browses { Browses S.tells S.paths S.rest S.absences S.faults shelf.old shelf.new }
+    ensures cause { HasCauseAt (result ≡ Err ListFault.ReadFault) (S.faults shelf.old) (S.faults shelf.new) }
+{
+    let size = size_in(intro)?;
+    let mut blob = Vec::new(alloc);
+    if blob.extend_from_slice(&intro[8..]).is_err() {
+        return Err(ListFault::NoMemory);
+    }
+    if append_upto(shelf, &mut blob, size)? {
+        Ok(blob)
+    } else {
+        Err(ListFault::Short)
+    }
+}
+
+/// Reads the next header of the list that is open, without its magic and unparsed: of its bytes the magic and the two lengths in
+/// front were looked at. None exactly where the open item is at its end, or none is open. No byte behind the header is read.
+///
+/// The body is read straight into the vector that is handed up, in as few reads as the shelf gives it, and memory is taken as
+/// bytes come: at first 4,096 bytes, then as many as came so far. So a short list never costs more than these or twice what it gave,
+/// whatever length it claims.
+///
+/// # Errors
+///
+/// The first of these, in this order: `Short` where the list ends within the header's first 16 bytes; `BadMagic`;
+/// `TooManyEntries` and `TooMuchData` by its two lengths; `Short` where its body is cut. A fault says
+/// nothing of what follows it, so the list isn't to be read on. `ReadFault` only where a read failed, and `NoMemory` where no memory
+/// was found.
+pub fn next_header<S: Shelf>(alloc: Global, shelf: &mut S) -> Result<Option<Vec<u8>>, ListFault>
+    ensures answers { IsTrue S.tells → AnswersNext (S.rest shelf.old) (S.rest shelf.new) result }
+    ensures browses { Browses S.tells S.paths S.rest S.absences S.faults shelf.old shelf.new }
+    ensures cause { HasCauseAt (result ≡ Err ListFault.ReadFault) (S.faults shelf.old) (S.faults shelf.new) }
+{
+    let mut intro = [0u8; 16];
+    let count = match fill(shelf, &mut intro) {
+        Ok(count) => count,
+        Err(Failed) => return Err(ListFault::ReadFault),
+    };
+    if count == 0 {
+        return Ok(None);
+    }
+    if count < 16 {
+        return Err(ListFault::Short);
+    }
+    let blob = read_behind(alloc, shelf, &intro)?;
+    Ok(Some(blob))
+}

@@ -1,0 +1,187 @@
+//! The main header of a package file.
+
+ghost use Rattle.std.specs.Prelude.{◌≡◌, ◌≤◌, IsTrue, length, Ok, Err};
+ghost use Rattle.rpm_header.specs.Header.{header};
+ghost use Rattle.rpm_outside.specs.Causes.{HasCauseAt};
+ghost use Rattle.rpm_file.specs.Browsing.{Browses};
+ghost use Rattle.rpm_file.specs.Package.{is_lead, behind_lead, fault_in, early_fault, behind_padding, behind_signature, package_header};
+ghost use Rattle.rpm_file.specs.Merging.{merged};
+ghost use Rattle.rpm_file.specs.Answers.{AnswersTake, AnswersSkip, AnswersPart, AnswersMade, AnswersBy};
+
+use crate::bytes::u16_at;
+use crate::fault::{FileFault, ListFault, Part};
+use crate::filling::fill;
+use crate::list::next_header;
+use crate::merging::merged;
+use rpm_header::{HeaderFault, View};
+use rpm_outside::{Failed, Shelf};
+use std::alloc::Global;
+use std::marker::Model;
+
+/// The main header of a package file with the entries of the signature header that join it. Contracts see it as a
+/// `Header`.
+#[derive(Drop)]
+pub struct Package {
+    blob: Vec<u8>,
+}
+
+impl Model for Package {
+    ghost use Rattle.std.specs.Prelude.{◌≡◌, Ok};
+    ghost use Rattle.rpm_header.specs.Header.{Header, header};
+    ghost use Rattle.rpm_file.specs.Package.{read_again};
+
+    ghost Value = { Header };
+
+    ghost view = { λ s. read_again s.blob.items };
+
+    ghost invariant = { λ s. header s.blob.items ≡ Ok (read_again s.blob.items) };
+}
+
+impl Package {
+    /// The header's own bytes: its two lengths, its index, its data. Read again, they give this header. Takes nothing.
+    pub fn header(&self) -> &[u8]
+        ensures value { result.now ≡ self.now.blob }
+        ensures again { header result.now ≡ Ok self.now }
+    {
+        &self.blob
+    }
+}
+
+/// Takes so many bytes as the buffer has.
+fn take_all<S: Shelf>(shelf: &mut S, into: &mut [u8]) -> Result<(), FileFault>
+    ensures answers { IsTrue S.tells → AnswersTake (S.rest shelf.old) (S.rest shelf.new) into.new result }
+    ensures browses { Browses S.tells S.paths S.rest S.absences S.faults shelf.old shelf.new }
+    ensures cause { HasCauseAt (result ≡ Err FileFault.ReadFault) (S.faults shelf.old) (S.faults shelf.new) }
+{
+    match fill(shelf, into) {
+        Ok(count) => {
+            if count == into.len() {
+                Ok(())
+            } else {
+                Err(FileFault::Short)
+            }
+        }
+        Err(Failed) => Err(FileFault::ReadFault),
+    }
+}
+
+// What a lead begins with.
+const LEAD: [u8; 4] = [0xed, 0xab, 0xee, 0xdb];
+
+fn is_lead(lead: &[u8]) -> bool
+    requires { 80 ≤ length lead.now }
+    ensures { result ≡ is_lead lead.now }
+{
+    lead.starts_with(&LEAD) && u16_at(lead, 78) == 5
+}
+
+fn skip_lead<S: Shelf>(shelf: &mut S) -> Result<(), FileFault>
+    ensures answers { IsTrue S.tells → AnswersSkip behind_lead (S.rest shelf.old) (S.rest shelf.new) result }
+    ensures browses { Browses S.tells S.paths S.rest S.absences S.faults shelf.old shelf.new }
+    ensures cause { HasCauseAt (result ≡ Err FileFault.ReadFault) (S.faults shelf.old) (S.faults shelf.new) }
+{
+    let mut lead = [0u8; 96];
+    take_all(shelf, &mut lead)?;
+    if is_lead(&lead) {
+        Ok(())
+    } else {
+        Err(FileFault::NotAPackage)
+    }
+}
+
+/// Skips what fills a header of this length up to a multiple of 8.
+fn skip_padding<S: Shelf>(shelf: &mut S, blob: &[u8]) -> Result<(), FileFault>
+    requires { length blob.now ≤ 68157432 }
+    ensures answers { IsTrue S.tells → AnswersSkip (behind_padding blob.now) (S.rest shelf.old) (S.rest shelf.new) result }
+    ensures browses { Browses S.tells S.paths S.rest S.absences S.faults shelf.old shelf.new }
+    ensures cause { HasCauseAt (result ≡ Err FileFault.ReadFault) (S.faults shelf.old) (S.faults shelf.new) }
+{
+    let mut padding = [0u8; 8];
+    let count = blob.len().next_multiple_of(8) - blob.len();
+    take_all(shelf, &mut padding[..count])
+}
+
+fn fault_in(part: Part, fault: HeaderFault) -> FileFault
+    ensures { result ≡ fault_in part fault }
+{
+    match part {
+        Part::Signature => FileFault::Signature(fault),
+        Part::Main => FileFault::Main(fault),
+    }
+}
+
+fn early_fault(part: Part, fault: ListFault) -> FileFault
+    ensures { result ≡ early_fault part fault }
+{
+    match fault {
+        ListFault::Short => FileFault::Short,
+        ListFault::BadMagic => FileFault::BadMagic,
+        ListFault::TooManyEntries => fault_in(part, HeaderFault::TooManyEntries),
+        ListFault::TooMuchData => fault_in(part, HeaderFault::TooMuchData),
+        ListFault::ReadFault => FileFault::ReadFault,
+        ListFault::NoMemory => FileFault::NoMemory,
+    }
+}
+
+/// The bytes of one of the two headers, which may still have a fault in their entries.
+fn read_part<S: Shelf>(alloc: Global, shelf: &mut S, part: Part) -> Result<Vec<u8>, FileFault>
+    ensures answers { IsTrue S.tells → AnswersPart part (S.rest shelf.old) (S.rest shelf.new) result }
+    ensures browses { Browses S.tells S.paths S.rest S.absences S.faults shelf.old shelf.new }
+    ensures cause { HasCauseAt (result ≡ Err FileFault.ReadFault) (S.faults shelf.old) (S.faults shelf.new) }
+{
+    match next_header(alloc, shelf) {
+        Ok(Some(blob)) => Ok(blob),
+        Ok(None) => Err(FileFault::Short),
+        Err(fault) => Err(early_fault(part, fault)),
+    }
+}
+
+/// Reads the main header behind a signature header.
+fn read_main<S: Shelf>(
+    alloc: Global,
+    shelf: &mut S,
+    signature: &View<'_>,
+) -> Result<Package, FileFault>
+    ensures answers { IsTrue S.tells → AnswersBy (behind_signature signature.now) (S.rest shelf.old) (S.rest shelf.new) result }
+    ensures browses { Browses S.tells S.paths S.rest S.absences S.faults shelf.old shelf.new }
+    ensures cause { HasCauseAt (result ≡ Err FileFault.ReadFault) (S.faults shelf.old) (S.faults shelf.new) }
+{
+    skip_padding(shelf, signature.blob())?;
+    let blob = read_part(alloc, shelf, Part::Main)?;
+    match View::parse(&blob) {
+        Ok(main) => joined(alloc, signature, &main),
+        Err(fault) => Err(FileFault::Main(fault)),
+    }
+}
+
+fn joined(alloc: Global, signature: &View<'_>, main: &View<'_>) -> Result<Package, FileFault>
+    ensures { AnswersMade (merged signature.now.entries main.now) result }
+{
+    let blob = merged(alloc, signature, main)?;
+    Ok(Package { blob })
+}
+
+/// Reads the package file that is open, up to the end of its main header, and no byte behind it.
+///
+/// Each header's body is read straight into a vector of its own, as `next_header` does it, and both are checked once. What is handed up
+/// is a third vector. Takes time in proportion to the two headers, and to the texts that `View::parse` reads.
+///
+/// # Errors
+///
+/// The first of these, in this order: `Short` where the file ends within its lead; `NotAPackage`; for the signature
+/// header `Short` where it ends within its first 16 bytes, `BadMagic`, `Signature` with the limit that its two lengths pass, `Short` where its
+/// body is cut, `Signature` with its first fault; `Short` where the padding is cut; the same for the main
+/// header, with `Main`; `TooLarge` exactly where the header with the entries that join it passes a limit. `ReadFault`
+/// only where a read failed, and `NoMemory` where no memory was found.
+pub fn read_package<S: Shelf>(alloc: Global, shelf: &mut S) -> Result<Package, FileFault>
+    ensures answers { IsTrue S.tells → AnswersBy package_header (S.rest shelf.old) (S.rest shelf.new) result }
+    ensures browses { Browses S.tells S.paths S.rest S.absences S.faults shelf.old shelf.new }
+    ensures cause { HasCauseAt (result ≡ Err FileFault.ReadFault) (S.faults shelf.old) (S.faults shelf.new) }
+{
+    skip_lead(shelf)?;
+    let blob = read_part(alloc, shelf, Part::Signature)?;
+    match View::parse(&blob) {
+        Ok(signature) => read_main(alloc, shelf, &signature),
+        Err(fault) => Err(FileFault::Signature(fault)),
+    }
+}

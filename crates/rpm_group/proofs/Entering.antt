@@ -1,0 +1,50 @@
+-- A run that is written to the log is an entry there.
+use Rattle.std.proofs.Common.{◌≡◌, ℕ, suc, ◌+◌, ◌<◌, ◌≤◌, List, [], ◌∷◌, ◌++◌, length, max, sym, ap, subst, ◌∙◌, arith}
+use Rattle.rpm_outside.specs.declared.disk.File.TheVariants.{Log}
+use Rattle.rpm_outside.specs.Files.{Units, Files, with_file, unit_at, put}
+use Rattle.rpm_outside.specs.Crash.{TornFile}
+use Rattle.rpm_outside.specs.Puts.{length-put, put_before, put_inside}
+use Rattle.rpm_outside.specs.History.{torn_file_whole}
+use Rattle.rpm_outside.specs.Changed.{ChangedIn, torn_changed, changed_more}
+use Rattle.rpm_outside.specs.Logs.{Entry, word}
+use Rattle.rpm_outside.specs.LogWrites.{EntryIn, EntriesIn, entries_kept, entries_push}
+use Rattle.rpm_group.specs.Words.{IsHeadOf}
+
+module _ (entry : Entry) (head : List ℕ) (p : ℕ) (old new : Units) (is : new ≡ put p (head ∷ entry.units) old) (says : IsHeadOf entry.file entry.first (length entry.units) head)
+    (not_log : entry.file ≡ Log → ⊥) (some : 0 < length entry.units) (room : entry.first + length entry.units ≤ 268_435_456) where
+  long : length new ≡ max (length old) (p + (1 + length entry.units))
+  long = ap length is ∙ length-put p (head ∷ entry.units) old ∙ omega arith
+
+  inside : (k : ℕ) → k < 1 + length entry.units → unit_at new (p + k) ≡ unit_at (head ∷ entry.units) k
+  inside k below = ap (λ (us : Units). unit_at us (p + k)) is ∙ put_inside p (head ∷ entry.units) old k (omega arith)
+
+  at_head : unit_at new p ≡ head
+  at_head =
+      let same : p ≡ p + 0 = omega arith in
+      ap (λ (i : ℕ). unit_at new i) same ∙ inside 0 (omega arith)
+
+  pub entered : EntryIn entry p new
+  entered = record {
+    not_log = not_log;
+    file = ap (word 0) at_head ∙ says.number;
+    first = ap (word 1) at_head ∙ says.from;
+    count = ap (word 2) at_head ∙ says.units;
+    some = some;
+    room = room;
+    within = omega (arith, long);
+    units = λ k below.
+        let place : p + 1 + k ≡ p + suc k = omega arith in
+        ap (λ (i : ℕ). unit_at new i) place ∙ inside (suc k) (omega arith);
+  }
+
+  pub entered_more : (entries : List Entry) (from next : ℕ) → EntriesIn entries from p old → next ≡ p + 1 + length entry.units → EntriesIn (entries ++ entry ∷ []) from next new
+  entered_more entries from next so_far is_next =
+      entries_push entries from p next entry new
+      (entries_kept entries from p old new (λ i low high. ap (λ (us : Units). unit_at us i) is ∙ put_before p (head ∷ entry.units) old i high) (omega (arith, long)) so_far)
+      entered is_next
+
+-- what a write to the log changes
+pub put_changed : (at end low high : ℕ) (units : Units) (old new : Files) → at + length units ≡ end → low ≤ at → end ≤ high → new ≡ with_file Log (put at units old.log) old → ChangedIn Log low high old new
+put_changed at end low high units old new long below above is =
+    changed_more Log at end low high old new below above
+    (torn_changed Log at units end old new long (subst (λ (f : Files). TornFile Log at units old f) (sym is) (torn_file_whole Log at units old)))

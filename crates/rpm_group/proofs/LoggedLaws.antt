@@ -1,0 +1,168 @@
+-- One run more among the entries, and all of them.
+use Rattle.std.proofs.Common.{◌≡◌, inl, inr, ℕ, ◌+◌, ◌-◌, ◌<◌, ◌≤◌, List, [], ◌∷◌, ◌++◌, length, refl, sym, ap, subst, ◌∙◌, arith, true, false}
+use Rattle.std.specs.Prelude.{Option, Some, None, is_some, unwrap_or}
+use Rattle.std.proofs.lemmas.Bool.{cases_lt}
+use Rattle.std.proofs.lemmas.List.{length_push}
+use Rattle.rpm_outside.specs.declared.disk.File.{File}
+use Rattle.rpm_outside.specs.declared.disk.File.TheVariants.{Pkg, Idx, Log}
+use Rattle.rpm_outside.specs.Files.{Units, Files, file_of, with_file, unit_at, put, blank}
+use Rattle.rpm_outside.specs.Puts.{length-put, put_before, put_inside, put_after}
+use Rattle.rpm_outside.specs.PutLaws.{same_units}
+use Rattle.rpm_outside.specs.History.{file_of-with}
+use Rattle.rpm_outside.specs.Literal.{cases_file, other_file}
+use Rattle.rpm_outside.specs.Logs.{Entry, with_entries}
+use Rattle.rpm_outside.specs.EntryLaws.{Covers}
+use Rattle.rpm_group.specs.Held.{Table, held_at, unit_over, laid, EndsAt}
+use Rattle.rpm_group.specs.Counts.{is_held, begins_run, count_below, AreHeld}
+use Rattle.rpm_group.specs.Logged.{Logged, run_entry}
+use Rattle.rpm_group.proofs.Applied.{with_entries-append}
+use Rattle.rpm_group.proofs.Runs.{length-units_held, unit_at-units_held}
+use Rattle.rpm_group.proofs.Laids.{length-laid, unit_at-laid}
+
+pub covers_before : (es fs : List Entry) (file : File) (i : ℕ) → Covers es file i → Covers (es ++ fs) file i
+covers_before [] fs file i covers = absurd covers
+covers_before (e ∷ es) fs file i (inl w) = inl w
+covers_before (e ∷ es) fs file i (inr c) = inr (covers_before es fs file i c)
+
+pub covers_behind : (es fs : List Entry) (file : File) (i : ℕ) → Covers fs file i → Covers (es ++ fs) file i
+covers_behind [] fs file i covers = covers
+covers_behind (e ∷ es) fs file i covers = inr (covers_behind es fs file i covers)
+
+pub unheld_is : (o : Option (List ℕ)) → is_some o ≡ false → o ≡ None
+unheld_is None is = refl
+unheld_is (Some u) is = absurd (let e : true ≡ false = is in cc)
+
+held_is : (o : Option (List ℕ)) (a b : List ℕ) → is_some o ≡ true → unwrap_or o a ≡ unwrap_or o b
+held_is None a b is = absurd (let e : false ≡ true = is in cc)
+held_is (Some u) a b is = refl
+
+-- a unit that isn't held is the file's
+pub unheld_over : (table : Table) (file : Units) (i : ℕ) → is_held table i ≡ false → unit_over table file i ≡ unit_at file i
+unheld_over table file i none = ap (λ (o : Option (List ℕ)). unwrap_or o (unit_at file i)) (unheld_is (held_at table i) none)
+
+pub logged_none : (file : File) (table : Table) → count_below (begins_run table) 0 ≡ 0 → Logged [] file table 0
+logged_none file table none = record {
+  covers = λ i below held. absurd (omega (arith, below));
+  units = λ files i below. absurd (omega (arith, below));
+  rest = λ files i from. refl;
+  others = λ files other differ. refl;
+  end = 0;
+  long = λ files. omega arith;
+  end_below = omega arith;
+  gap = λ i from below. absurd (omega (arith, from, below));
+  count = sym none;
+}
+
+module _ (entries : List Entry) (file : File) (table : Table) (at first : ℕ) (so_far : Logged entries file table at) (low : at ≤ first) (between : (i : ℕ) → at ≤ i → i < first → is_held table i ≡ false) where
+  -- units that aren't held need no entry
+  pub logged_gap : count_below (begins_run table) first ≡ count_below (begins_run table) at → Logged entries file table first
+  logged_gap counted = record {
+    covers = λ i below held. elim (cases_lt i at) [
+      | inl before ↦ so_far.covers i before held
+      | inr past ↦ absurd (let e : true ≡ false = sym held ∙ between i past below in cc)
+    ];
+    units = λ files i below. elim (cases_lt i at) [
+      | inl before ↦ so_far.units files i before
+      | inr past ↦ so_far.rest files i past ∙ sym (unheld_over table (file_of file files) i (between i past below))
+    ];
+    rest = λ files i from. so_far.rest files i (omega (arith, from, low));
+    others = so_far.others;
+    end = so_far.end;
+    long = so_far.long;
+    end_below = omega (arith, so_far.end_below, low);
+    gap = λ i from below. elim (cases_lt i at) [
+      | inl before ↦ so_far.gap i from before
+      | inr past ↦ between i past below
+    ];
+    count = so_far.count ∙ sym counted;
+  }
+
+  module _ (stop : ℕ) (some : first < stop) (held : AreHeld table first stop) where
+    abbrev entry : Entry
+    entry = run_entry file table first stop
+
+    abbrev all : List Entry
+    all = entries ++ entry ∷ []
+
+    long_entry : length entry.units ≡ stop - first
+    long_entry = length-units_held table first (stop - first)
+
+    written : (files : Files) → file_of file (with_entries all files) ≡ put first entry.units (file_of file (with_entries entries files))
+    written files = ap (λ (f : Files). file_of file f) (with_entries-append entries (entry ∷ []) files) ∙ file_of-with file (put first entry.units (file_of file (with_entries entries files))) (with_entries entries files)
+
+    -- one run more
+    pub logged_more : count_below (begins_run table) stop ≡ count_below (begins_run table) at + 1 → Logged all file table stop
+    logged_more counted = record {
+      covers = λ i below h. elim (cases_lt i at) [
+        | inl before ↦ covers_before entries (entry ∷ []) file i (so_far.covers i before h)
+        | inr past ↦ elim (cases_lt i first) [
+          | inl gap ↦ absurd (let e : true ≡ false = sym h ∙ between i past gap in cc)
+          | inr from ↦ covers_behind entries (entry ∷ []) file i (inl (record { there = refl; from = from; before = omega (arith, below, long_entry) }))
+        ]
+      ];
+      units = λ files i below. elim (cases_lt i first) [
+        | inl before ↦
+            ap (λ (u : Units). unit_at u i) (written files)
+            ∙ put_before first entry.units (file_of file (with_entries entries files)) i before
+            ∙ elim (cases_lt i at) [
+              | inl earlier ↦ so_far.units files i earlier
+              | inr past ↦ so_far.rest files i past ∙ sym (unheld_over table (file_of file files) i (between i past before))
+            ]
+        | inr from ↦
+            let k : ℕ = i - first in
+            let place : i ≡ first + k = omega arith in
+            let less : k < stop - first = omega arith in
+            ap (λ (u : Units). unit_at u i) (written files)
+            ∙ ap (λ (j : ℕ). unit_at (put first entry.units (file_of file (with_entries entries files))) j) place
+            ∙ put_inside first entry.units (file_of file (with_entries entries files)) k (omega (arith, long_entry, less))
+            ∙ unit_at-units_held table first (stop - first) k less
+            ∙ ap (λ (j : ℕ). unwrap_or (held_at table j) blank) (sym place)
+            ∙ held_is (held_at table i) blank (unit_at (file_of file files) i) (held i from below)
+      ];
+      rest = λ files i past.
+          ap (λ (u : Units). unit_at u i) (written files)
+          ∙ put_after first entry.units (file_of file (with_entries entries files)) i (omega (arith, long_entry, past))
+          ∙ so_far.rest files i (omega (arith, past, low, some));
+      others = λ files other differ.
+          ap (λ (f : Files). file_of other f) (with_entries-append entries (entry ∷ []) files)
+          ∙ other_file other file (put first entry.units (file_of file (with_entries entries files))) (with_entries entries files) differ
+          ∙ so_far.others files other differ;
+      end = stop;
+      long = λ files. omega (arith, ap length (written files), length-put first entry.units (file_of file (with_entries entries files)), so_far.long files, long_entry, so_far.end_below);
+      end_below = omega arith;
+      gap = λ i from below. absurd (omega (arith, from, below));
+      count = length_push entries entry ∙ omega (arith, so_far.count, counted);
+    }
+
+-- all runs together are what is held
+pub logged_laid : (entries : List Entry) (file : File) (table : Table) (end : ℕ) → Logged entries file table end → EndsAt table end → (0 < end → held_at table (end - 1) ≡ None → ⊥)
+    → (files : Files) → with_entries entries files ≡ with_file file (laid table end (file_of file files)) files
+logged_laid entries file table end all past last files = same_files (with_entries entries files) (with_file file whole files) (λ other. elim (cases_file other file) [
+  | inl same ↦ subst (λ (g : File). file_of g (with_entries entries files) ≡ file_of g (with_file file whole files)) (sym same) (here ∙ sym (file_of-with file whole files))
+  | inr differ ↦ all.others files other differ ∙ sym (other_file other file whole files differ)
+])
+  where
+    whole : Units
+    whole = laid table end (file_of file files)
+
+    same_files : (a b : Files) → ((f : File) → file_of f a ≡ file_of f b) → a ≡ b
+    same_files a b same =
+        ap (λ (u : Units). record { pkg = u; idx = a.idx; log = a.log }) (same Pkg)
+        ∙ ap (λ (u : Units). record { pkg = b.pkg; idx = u; log = a.log }) (same Idx)
+        ∙ ap (λ (u : Units). record { pkg = b.pkg; idx = b.idx; log = u }) (same Log)
+
+    end_is : all.end ≡ end
+    end_is = elim (cases_lt all.end end) [
+      | inl shorter ↦ absurd (last (omega (arith, shorter)) (unheld_is (held_at table (end - 1)) (all.gap (end - 1) (omega (arith, shorter)) (omega (arith, shorter)))))
+      | inr longer ↦ omega (arith, longer, all.end_below)
+    ]
+
+    here : file_of file (with_entries entries files) ≡ whole
+    here = same_units (file_of file (with_entries entries files)) whole (omega (arith, all.long files, length-laid table end (file_of file files), end_is))
+        (λ i. elim (cases_lt i end) [
+          | inl below ↦ all.units files i below ∙ sym (unit_at-laid table end (file_of file files) past i)
+          | inr from ↦
+              all.rest files i from
+              ∙ sym (ap (λ (o : Option (List ℕ)). unwrap_or o (unit_at (file_of file files) i)) (past i from))
+              ∙ sym (unit_at-laid table end (file_of file files) past i)
+        ])

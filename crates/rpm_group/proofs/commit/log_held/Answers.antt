@@ -1,0 +1,74 @@
+use Rattle.std.proofs.Common.{◌≡◌, ◌^◌, ◌++◌, sym, ap, subst, ◌∙◌, arith}
+use Rattle.rpm_outside.specs.declared.disk.File.TheVariants.{Log}
+use Rattle.rpm_outside.specs.Files.{Files}
+use Rattle.rpm_outside.specs.Changed.{ChangedIn, WasChanged, changed_then, changed_more}
+use Rattle.rpm_outside.specs.Leaves.{sync_leaves}
+use Rattle.rpm_outside.specs.LogWrites.{EntriesIn}
+use Rattle.rpm_group.proofs.Committing.{group_of, tail_of, log_leaves, log_settled}
+use Rattle.rpm_group.proofs.commit.log_held.Goals as goal
+
+pub returns-in_err-tail-clause-images : goal.returns-in_err-tail-clause-images
+returns-in_err-tail-clause-images g c = λ told.
+    let D = g.D.Disk in
+    let old = c.args.disk.now in
+    let mid = c.log_runs.new.disk in
+    log_leaves D.moment D.left_since c.in_ok-middle.middle.at old mid c.log_runs-2.new.disk (omega (arith, c.in_ok-middle.ensures.at))
+    (λ image left. g.met.D.Disk.earlier mid (D.moment old) (D.moment mid) image told c.log_runs.ensures.reads.later (omega arith) left)
+    (c.log_runs.ensures.images told) (c.log_runs-2.ensures.images told)
+
+pub returns-in_err-sync-clause-images : goal.returns-in_err-sync-clause-images
+returns-in_err-sync-clause-images g c = λ told.
+    let D = g.D.Disk in
+    let old = c.args.disk.now in
+    let mid = c.log_runs.new.disk in
+    let last = c.log_runs-2.new.disk in
+    sync_leaves D.moment D.left_since old last c.sync.new.self (WasChanged Log 1 (2 ^ 28) (D.left_since old (D.moment old)))
+    (log_leaves D.moment D.left_since c.in_ok-middle.middle.at old mid last (omega (arith, c.in_ok-middle.ensures.at))
+    (λ image left. g.met.D.Disk.earlier mid (D.moment old) (D.moment mid) image told c.log_runs.ensures.reads.later (omega arith) left)
+    (c.log_runs.ensures.images told) (c.log_runs-2.ensures.images told))
+    (c.sync.ensures.time told) (c.sync.ensures.images told)
+    (λ image left. g.met.D.Disk.earlier last (D.moment old) (D.moment last) image told (omega (arith, c.log_runs.ensures.reads.later, c.log_runs-2.ensures.reads.later)) (omega arith) left)
+
+pub returns-clause-images : goal.returns-clause-images
+returns-clause-images g c = λ told.
+    let D = g.D.Disk in
+    let old = c.args.disk.now in
+    let mid = c.log_runs.new.disk in
+    let last = c.log_runs-2.new.disk in
+    sync_leaves D.moment D.left_since old last c.sync.new.self (WasChanged Log 1 (2 ^ 28) (D.left_since old (D.moment old)))
+    (log_leaves D.moment D.left_since c.in_ok-middle.middle.at old mid last (omega (arith, c.in_ok-middle.ensures.at))
+    (λ image left. g.met.D.Disk.earlier mid (D.moment old) (D.moment mid) image told c.log_runs.ensures.reads.later (omega arith) left)
+    (c.log_runs.ensures.images told) (c.log_runs-2.ensures.images told))
+    (c.sync.ensures.time told) (c.sync.ensures.images told)
+    (λ image left. g.met.D.Disk.earlier last (D.moment old) (D.moment last) image told (omega (arith, c.log_runs.ensures.reads.later, c.log_runs-2.ensures.reads.later)) (omega arith) left)
+
+pub returns-clause-logged : goal.returns-clause-logged
+returns-clause-logged g c = λ told.
+    let D = g.D.Disk in
+    let held = c.args.held.now in
+    let one = c.in_ok-middle.ensures.logged told in
+    let two = c.in_ok-tail.ensures.logged told in
+    let group = group_of held one.0 two.0 one.1 two.1 in
+    let placed = tail_of one.0 two.0 c.in_ok-middle.middle.at c.in_ok-tail.tail.at (D.files c.log_runs.new.disk) (D.files c.log_runs-2.new.disk) one.2 two.2 (c.in_ok-tail.ensures.changed told) in
+    let same : D.files c.log_runs-2.new.disk ≡ D.files c.sync.new.self = sym (c.sync.ensures.same told) in (
+      one.0 ++ two.0,
+      group,
+      record {
+        count = omega (arith, group.count, c.in_ok-middle.ensures.entries, c.in_ok-tail.ensures.entries);
+        placed = subst (λ (f : Files). EntriesIn (one.0 ++ two.0) 1 c.in_ok-tail.tail.at f.log) same placed;
+      },
+    )
+
+pub returns-clause-settled : goal.returns-clause-settled
+returns-clause-settled g c = λ told.
+    let D = g.D.Disk in
+    let old = c.args.disk.now in
+    let new = c.sync.new.self in
+    let first : Files = D.files c.log_runs.new.disk in
+    let last : Files = D.files c.log_runs-2.new.disk in
+    let same : last ≡ D.files new = sym (c.sync.ensures.same told) in
+    let changed : ChangedIn Log 1 (2 ^ 28) (D.files old) (D.files new) = subst (λ (f : Files). ChangedIn Log 1 (2 ^ 28) (D.files old) f) same
+    (changed_then Log 1 (2 ^ 28) (D.files old) first last (c.in_ok-middle.ensures.changed told) (changed_more Log c.in_ok-middle.middle.at (2 ^ 28) 1 (2 ^ 28) first last (omega (arith, c.in_ok-middle.ensures.at)) (omega arith) (c.in_ok-tail.ensures.changed told))) in
+    log_settled D.moment D.left_since old new (D.files old) (D.files new) (c.requires.settled told) changed (returns-clause-images g c told)
+    (λ image left. g.met.D.Disk.earlier new (D.moment old) (D.moment new) image told (omega (arith, c.log_runs.ensures.reads.later, c.log_runs-2.ensures.reads.later, c.sync.ensures.later)) (omega arith) left)
+    (λ image left. c.in_ok-sync.ensures.settled told image left ∙ ap (λ (f : Files). f.log) same)

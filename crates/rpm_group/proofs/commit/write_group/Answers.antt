@@ -1,0 +1,102 @@
+use Rattle.std.proofs.Common.{inl, inr, ◌+◌, sym, ap, ◌∙◌, arith}
+use Rattle.std.proofs.lemmas.Bool.{cases_lt}
+use Rattle.rpm_outside.specs.Files.{Files}
+use Rattle.rpm_outside.specs.Logs.{LogState, unlogged, with_entries}
+use Rattle.rpm_outside.specs.LogLaws.{log_not_log}
+use Rattle.rpm_group.specs.Readings.{entries_of}
+use Rattle.rpm_group.specs.Groups.{runs_of}
+use Rattle.rpm_group.proofs.Countings.{no_runs}
+use Rattle.rpm_group.proofs.Closes.{applied_settled, mid_open, mid_done}
+use Rattle.rpm_group.proofs.Committing.{still_closed, unlogged_changed, stage_one, stage_two, stage_three, stage_four}
+use Rattle.rpm_group.proofs.commit.write_group.Goals as goal
+
+pub returns-in_err-tail-clause-images : goal.returns-in_err-tail-clause-images
+returns-in_err-tail-clause-images g c = λ told.
+    let D = g.D.Disk in
+    stage_one D.moment D.left_since c.args.held.now (D.files c.args.disk.now) c.args.disk.now c.log_held.new.disk (c.requires.closed told) (c.requires.settled told) (c.log_held.ensures.images told)
+
+pub open_log-requires-clause-some : goal.open_log-requires-clause-some
+open_log-requires-clause-some g c =
+    let held = c.args.held.now in
+    elim (cases_lt 0 (runs_of held.pkg + runs_of held.idx)) [
+      | inl some ↦ omega (arith, some, c.in_ok-tail.ensures.entries)
+      | inr none ↦
+          absurd (omega (arith, c.requires.some, no_runs held.pkg.table.items held.pkg.end (omega (arith, none)), no_runs held.idx.table.items held.idx.end (omega (arith, none))))
+    ]
+
+pub open_log-requires-clause-closed : goal.open_log-requires-clause-closed
+open_log-requires-clause-closed g c = λ told.
+    let D = g.D.Disk in
+    still_closed (D.files c.args.disk.now) (D.files c.log_held.new.disk) 1 268_435_456 (omega arith) (c.requires.closed told) (c.in_ok-tail.ensures.changed told)
+
+pub returns-in_err-open_log-clause-images : goal.returns-in_err-open_log-clause-images
+returns-in_err-open_log-clause-images g c = λ told.
+    let D = g.D.Disk in
+    let old = c.args.disk.now in
+    let first = c.log_held.new.disk in
+    let files : Files = D.files old in
+    let held = c.args.held.now in
+    let logged = c.in_ok-tail.ensures.logged told in
+    stage_two D.moment D.left_since held files old first c.open_log.new.disk (D.files first) logged.0
+    (stage_one D.moment D.left_since held files old first (c.requires.closed told) (c.requires.settled told) (c.log_held.ensures.images told))
+    (unlogged_changed files (D.files first) 1 268_435_456 (c.in_ok-tail.ensures.changed told)) logged.1 (c.open_log.ensures.images told logged.0 logged.2)
+
+pub returns-in_err-apply_held-clause-images : goal.returns-in_err-apply_held-clause-images
+returns-in_err-apply_held-clause-images g c = λ told.
+    let D = g.D.Disk in
+    let old = c.args.disk.now in
+    let first = c.log_held.new.disk in
+    let second = c.open_log.new.disk in
+    let files : Files = D.files old in
+    let held = c.args.held.now in
+    let logged = c.in_ok-tail.ensures.logged told in
+    let same_first = unlogged_changed files (D.files first) 1 268_435_456 (c.in_ok-tail.ensures.changed told) in
+    stage_three D.moment D.left_since held files old second c.apply_held.new.disk (D.files second) logged.0
+    (stage_two D.moment D.left_since held files old first second (D.files first) logged.0
+    (stage_one D.moment D.left_since held files old first (c.requires.closed told) (c.requires.settled told) (c.log_held.ensures.images told))
+    same_first logged.1 (c.open_log.ensures.images told logged.0 logged.2))
+    (c.open_log.ensures.same told ∙ same_first) logged.1 (c.in_ok-open_log.ensures.open told logged.0 logged.2) (c.in_ok-open_log.ensures.settled told) (c.apply_held.ensures.images told logged.0 logged.1)
+
+pub close_log-requires-clause-settled : goal.close_log-requires-clause-settled
+close_log-requires-clause-settled g c = λ told.
+    let D = g.D.Disk in
+    let second = c.open_log.new.disk in
+    let third = c.apply_held.new.disk in
+    let logged = c.in_ok-tail.ensures.logged told in
+    let opened = c.in_ok-open_log.ensures.open told logged.0 logged.2 in
+    applied_settled D.moment D.left_since second third (D.files second) (D.files third) logged.0 (log_not_log (D.files second).log logged.0 opened)
+    (c.in_ok-apply_held.ensures.written told ∙ sym (logged.1.whole (D.files second)))
+    (c.in_ok-open_log.ensures.settled told) (c.apply_held.ensures.images told logged.0 logged.1)
+    (λ image left. g.met.D.Disk.earlier third (D.moment second) (D.moment third) image told c.apply_held.ensures.reads.later (omega arith) left)
+    (c.in_ok-apply_held.ensures.pkg told) (c.in_ok-apply_held.ensures.idx told)
+
+pub close_log-requires-clause-done : goal.close_log-requires-clause-done
+close_log-requires-clause-done g c = λ told.
+    let D = g.D.Disk in
+    let second : Files = D.files c.open_log.new.disk in
+    let third : Files = D.files c.apply_held.new.disk in
+    let logged = c.in_ok-tail.ensures.logged told in
+    let opened = c.in_ok-open_log.ensures.open told logged.0 logged.2 in
+    let written = c.in_ok-apply_held.ensures.written told ∙ sym (logged.1.whole second) in
+    ap (λ (s : LogState). with_entries (entries_of s) (unlogged third)) (mid_open second third logged.0 opened written)
+    ∙ mid_done second third logged.0 opened written
+
+pub returns-clause-images : goal.returns-clause-images
+returns-clause-images g c = λ told.
+    let D = g.D.Disk in
+    let old = c.args.disk.now in
+    let first = c.log_held.new.disk in
+    let second = c.open_log.new.disk in
+    let third = c.apply_held.new.disk in
+    let files : Files = D.files old in
+    let held = c.args.held.now in
+    let logged = c.in_ok-tail.ensures.logged told in
+    let same_first = unlogged_changed files (D.files first) 1 268_435_456 (c.in_ok-tail.ensures.changed told) in
+    let same_second = c.open_log.ensures.same told ∙ same_first in
+    stage_four D.moment D.left_since held files old third c.close_log.new.disk (D.files second) (D.files third)
+    (stage_three D.moment D.left_since held files old second third (D.files second) logged.0
+    (stage_two D.moment D.left_since held files old first second (D.files first) logged.0
+    (stage_one D.moment D.left_since held files old first (c.requires.closed told) (c.requires.settled told) (c.log_held.ensures.images told))
+    same_first logged.1 (c.open_log.ensures.images told logged.0 logged.2))
+    same_second logged.1 (c.in_ok-open_log.ensures.open told logged.0 logged.2) (c.in_ok-open_log.ensures.settled told) (c.apply_held.ensures.images told logged.0 logged.1))
+    same_second (c.in_ok-apply_held.ensures.written told) (c.close_log.ensures.images told)

@@ -1,0 +1,34 @@
+use Rattle.std.proofs.Common.{◌≡◌, sym, ap, subst, ◌∙◌}
+use Rattle.rpm_outside.specs.declared.disk.File.TheVariants.{Log}
+use Rattle.rpm_outside.specs.Files.{Units, Files, with_file}
+use Rattle.rpm_outside.specs.Logs.{LogState, log_state, with_entries, reopened}
+use Rattle.rpm_outside.specs.LogLaws.{log_not_log, entries_log, unlogged_entries, reopened_open}
+use Rattle.rpm_group.specs.declared.log.Reading.{Reading}
+use Rattle.rpm_group.specs.Readings.{entries_of, IsOpen, LogSays, heads_behind}
+use Rattle.rpm_group.specs.Layers.{laid_files}
+use Rattle.rpm_group.proofs.Readouts.{on_ok_map}
+use Rattle.rpm_group.proofs.load.hold_log.Goals as goal
+
+-- the entries are held over the two files, and the log stays
+held_reopened : (files new : Files) (behind : LogState) → log_state files.log ≡ behind → IsOpen (log_state files.log) → new ≡ with_entries (entries_of behind) files → new ≡ with_file Log files.log (reopened files)
+held_reopened files new behind is opened held =
+    let entries = entries_of (log_state files.log) in
+    let not = log_not_log files.log entries opened in
+    held
+    ∙ ap (λ (s : LogState). with_entries (entries_of s) files) (sym is)
+    ∙ ap (λ (us : Units). with_file Log us (with_entries entries files)) (entries_log entries files not)
+    ∙ ap (λ (f : Files). with_file Log files.log f) (unlogged_entries entries files not ∙ sym (reopened_open files entries opened))
+
+pub returns-in-Opened-clause-held : goal.returns-in-Opened-clause-held
+returns-in-Opened-clause-held g c = on_ok_map c.hold_entries.result c.hold_entries.ensures.held
+    (λ held told.
+    let D = g.D.Disk in
+    let files : Files = D.files c.args.disk.now in
+    let mid : Files = D.files c.read_log.new.disk in
+    let gate = c.in-Opened.gate in
+    let same : mid ≡ files = (c.read_log.ensures.looks.untouched told).same in
+    let says = subst (λ (r : Reading). LogSays r files.log) c.in-Opened.is (c.in-Ok.ensures.says told) in
+    held_reopened files (laid_files c.hold_entries.new.held files) (heads_behind gate files.log) says.0 says.2
+    (held told files
+    ∙ ap (λ (f : Files). with_entries (entries_of (heads_behind gate f.log)) (laid_files c.args.held.now files)) same
+    ∙ ap (λ (f : Files). with_entries (entries_of (heads_behind gate files.log)) f) (c.requires files)))

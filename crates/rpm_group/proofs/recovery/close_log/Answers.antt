@@ -1,0 +1,40 @@
+use Rattle.std.proofs.Common.{refl, ap, ◌∙◌, arith}
+use Rattle.rpm_outside.specs.Files.{Files}
+use Rattle.rpm_outside.specs.Leaves.{sync_leaves}
+use Rattle.rpm_outside.specs.Logs.{unlogged, log_state}
+use Rattle.rpm_group.specs.Readings.{entries_of}
+use Rattle.rpm_group.specs.Settled.{ReopensAs}
+use Rattle.rpm_group.proofs.Closes.{closing_leaves, closed_after}
+use Rattle.rpm_group.proofs.recovery.close_log.Goals as goal
+
+pub returns-in_err-write_at-clause-images : goal.returns-in_err-write_at-clause-images
+returns-in_err-write_at-clause-images g c = λ told.
+    let D = g.D.Disk in
+    let files = D.files c.args.disk.now in
+    closing_leaves D.moment D.left_since c.args.disk.now c.write_at.new.self files _ (entries_of (log_state files.log)) refl (c.requires.some told) (c.requires.open told) (c.requires.done told) (c.requires.settled told) (c.in_err-write_at.ensures.images told) (c.in_err-write_at.ensures.time told)
+
+pub returns-in_err-sync-clause-images : goal.returns-in_err-sync-clause-images
+returns-in_err-sync-clause-images g c = λ told.
+    let D = g.D.Disk in
+    let files = D.files c.args.disk.now in
+    let mid = c.write_at.new.self in
+    sync_leaves D.moment D.left_since c.args.disk.now mid c.sync.new.self (ReopensAs (unlogged files))
+    (closing_leaves D.moment D.left_since c.args.disk.now mid files _ (entries_of (log_state files.log)) refl (c.requires.some told) (c.requires.open told) (c.requires.done told) (c.requires.settled told) (c.in_ok-write_at.ensures.images told) (c.in_ok-write_at.ensures.time told))
+    (c.sync.ensures.time told) (c.sync.ensures.images told)
+    (λ image left. g.met.D.Disk.earlier mid (D.moment c.args.disk.now) (D.moment mid) image told c.write_at.ensures.later (omega arith) left)
+
+pub returns-clause-closed : goal.returns-clause-closed
+returns-clause-closed g c = λ told.
+    let D = g.D.Disk in
+    ap (λ (f : Files). log_state f.log) (c.in_ok-sync.ensures.same told)
+    ∙ closed_after (D.files c.args.disk.now) (D.files c.write_at.new.self) _ refl (c.in_ok-write_at.ensures.written told)
+
+pub returns-clause-images : goal.returns-clause-images
+returns-clause-images g c = λ told.
+    let D = g.D.Disk in
+    let files = D.files c.args.disk.now in
+    let mid = c.write_at.new.self in
+    sync_leaves D.moment D.left_since c.args.disk.now mid c.sync.new.self (ReopensAs (unlogged files))
+    (closing_leaves D.moment D.left_since c.args.disk.now mid files _ (entries_of (log_state files.log)) refl (c.requires.some told) (c.requires.open told) (c.requires.done told) (c.requires.settled told) (c.in_ok-write_at.ensures.images told) (c.in_ok-write_at.ensures.time told))
+    (c.sync.ensures.time told) (c.sync.ensures.images told)
+    (λ image left. g.met.D.Disk.earlier mid (D.moment c.args.disk.now) (D.moment mid) image told c.write_at.ensures.later (omega arith) left)

@@ -1,0 +1,14 @@
+-- What a commit answers.
+use Rattle.std.specs.Prelude.{◌≡◌, ℕ, ◌<◌, ◌^◌, Result, Ok, Err}
+use Rattle.rpm_group.specs.declared.commit.CommitFault.{CommitFault}
+use Rattle.rpm_group.specs.declared.commit.CommitFault.TheVariants.{LogFull, DiskFault}
+
+-- the log has no room for a group that needs so many units
+abbrev pub IsFull : ℕ → Result (Unit {0}) CommitFault → Type 0
+IsFull units result = result ≡ Err (LogFull units)
+
+-- only where a group needs more units than a log has it is refused, and with that number
+abbrev pub CommitSays : ℕ → Result (Unit {0}) CommitFault → Type 0
+CommitSays units (Ok done) = Unit {0}
+CommitSays units (Err (LogFull needed)) = (needed ≡ units) × (2 ^ 28 < units)
+CommitSays units (Err DiskFault) = Unit {0}

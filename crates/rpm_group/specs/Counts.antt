@@ -1,0 +1,31 @@
+-- How many units are held, and in how many runs.
+use Rattle.std.specs.Prelude.{◌≡◌, ℕ, ◌+◌, ◌<◌, ◌≤◌, Bool, true, ◌&&◌, not, is_some, if◌then◌else◌, unwrap_or, map}
+use Rattle.std.specs.List.{range_with_len}
+use Rattle.rpm_outside.specs.Files.{Units, blank}
+use Rattle.std.proofs.Common.{zero, suc}
+use Rattle.rpm_group.specs.Held.{Table, held_at}
+
+-- how many numbers below n pass a test
+unfoldable pub count_below : (ℕ → Bool) → ℕ → ℕ
+count_below test zero = 0
+count_below test (suc n) = count_below test n + (if test n then 1 else 0)
+
+abbrev pub is_held : Table → ℕ → Bool
+is_held table i = is_some (held_at table i)
+
+-- a unit is held, and the one before it isn't
+unfoldable pub begins_run : Table → ℕ → Bool
+begins_run table zero = is_held table 0
+begins_run table (suc i) = is_held table (suc i) && not (is_held table i)
+
+-- how many units a log takes for what is held of a file: a head for each run, and the units
+abbrev pub log_units : Table → ℕ → ℕ
+log_units table end = count_below (begins_run table) end + count_below (is_held table) end
+
+-- so many units from this one on, as they are held
+unfoldable pub units_held : Table → ℕ → ℕ → Units
+units_held table from n = map (λ i. unwrap_or (held_at table i) blank) (range_with_len from n)
+
+-- all of these units are held
+abbrev pub AreHeld : Table → ℕ → ℕ → Type 0
+AreHeld table from end = (i : ℕ) → from ≤ i → i < end → is_held table i ≡ true

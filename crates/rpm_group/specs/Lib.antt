@@ -1,0 +1,15 @@
+pub mod Readings
+pub mod LogReads
+pub mod Settled
+pub mod Held
+pub mod Layers
+pub mod Below
+pub mod Overlay
+pub mod Loads
+pub mod Loaded
+pub mod Counts
+pub mod Words
+pub mod Logged
+pub mod Groups
+pub mod Commits
+pub mod Wholes

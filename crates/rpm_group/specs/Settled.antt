@@ -1,0 +1,37 @@
+-- What a stop may leave of a disk, seen by what its files stand for.
+use Rattle.std.specs.Prelude.{◌≡◌, ℕ, Bool, List, Result, Ok, Err, true, false}
+use Rattle.rpm_outside.specs.declared.disk.File.{File}
+use Rattle.rpm_outside.specs.Files.{Files, file_of}
+use Rattle.rpm_outside.specs.Logs.{Entry, LogState, Closed, Malformed, reopened}
+use Rattle.rpm_outside.specs.EntryLaws.{Within}
+use Rattle.rpm_group.specs.Readings.{IsOpen}
+use Rattle.rpm_group.specs.declared.recovery.RecoverFault.{RecoverFault}
+use Rattle.rpm_group.specs.declared.recovery.RecoverFault.TheVariants.{BadLog, DiskFault}
+
+module _ {D : Type 0} (files : D → Files) (left_since : D → ℕ → Files → Type 0) (moment : D → ℕ) where
+  -- a stop leaves this file as it reads
+  abbrev pub SettledIn : File → D → Type 0
+  SettledIn file disk = (image : Files) → left_since disk (moment disk) image → file_of file image ≡ file_of file (files disk)
+
+  -- a stop leaves the files as they read
+  abbrev pub IsSettled : D → Type 0
+  IsSettled disk = (image : Files) → left_since disk (moment disk) image → image ≡ files disk
+
+-- it is one of these images in which some of the entries may have been written
+abbrev pub WasWithin : List Entry → (Files → Type 0) → Files → Type 0
+WasWithin entries images image = (from : Files) × images from × Within entries from image
+
+-- it stands for these files
+abbrev pub ReopensAs : Files → Files → Type 0
+ReopensAs files image = reopened image ≡ files
+
+-- it stands for what one of these images stands for
+abbrev pub ReopensAsOneOf : (Files → Type 0) → Files → Type 0
+ReopensAsOneOf images image = (from : Files) × images from × (reopened image ≡ reopened from)
+
+-- whether the log was open, or where it was wrong
+abbrev pub RecoverSays : LogState → Result Bool RecoverFault → Type 0
+RecoverSays state (Ok true) = IsOpen state
+RecoverSays state (Ok false) = state ≡ Closed
+RecoverSays state (Err (BadLog unit)) = state ≡ Malformed unit
+RecoverSays state (Err DiskFault) = Unit {0}

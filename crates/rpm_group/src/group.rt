@@ -1,0 +1,82 @@
+//! What is held is written as one change: to the log, and from memory to the files.
+
+ghost use Rattle.std.specs.Prelude.{◌≡◌, ◌⊎◌, ℕ, ◌+◌, ◌-◌, ◌*◌, ◌/◌, ◌%◌, ◌<◌, ◌≤◌, ◌^◌, IsTrue, length, OnOk, OnErr, IfOk, IfErr, List, Err};
+ghost use Rattle.rpm_outside.specs.Files.{Files, file_of, with_file};
+ghost use Rattle.rpm_outside.specs.Crash.{LeavesOnly, Untouched};
+ghost use Rattle.rpm_outside.specs.Causes.{HasCause, HasCauseAt};
+ghost use Rattle.rpm_outside.specs.Changed.{ChangedIn, LeavesChanged};
+ghost use Rattle.rpm_outside.specs.Logs.{Entry, Closed, log_state, unlogged, with_entries, reopened};
+ghost use Rattle.rpm_outside.specs.LogWrites.{EntriesIn};
+ghost use Rattle.rpm_group.specs.Held.{laid};
+ghost use Rattle.rpm_group.specs.Counts.{begins_run, count_below, log_units};
+ghost use Rattle.rpm_group.specs.LogReads.{ReadsNothing};
+ghost use Rattle.rpm_group.specs.Logged.{Logged, CoversHeld};
+ghost use Rattle.rpm_group.specs.Settled.{IsSettled, WasWithin};
+
+use crate::pages::Pages;
+use crate::scan::next_unit;
+use crate::writes::{log_run, write_run};
+use rpm_outside::{Disk, Failed, File};
+
+/// The unit of the log behind its last entry, and how many entries there are.
+#[derive(Clone, Copy, Debug, PartialEq, Eq)]
+pub struct Tail {
+    pub at: u64,
+    pub entries: u32,
+}
+
+/// Writes an entry to the log for each run of held units of a file.
+pub fn log_runs<D: Disk>(
+    disk: &mut D,
+    pages: &Pages,
+    file: File,
+    tail: Tail,
+) -> Result<Tail, Failed>
+    requires not_log { file ≡ File.Log → ⊥ }
+    requires room { tail.at + log_units pages.now.table.items pages.now.end ≤ 2 ^ 28 }
+    requires few { tail.entries ≤ tail.at }
+    ensures at { IfOk result (λ next. next.at ≡ tail.at + log_units pages.now.table.items pages.now.end) }
+    ensures entries { IfOk result (λ next. next.entries ≡ tail.entries + count_below (begins_run pages.now.table.items) pages.now.end) }
+    ensures logged { IfOk result (λ next. IsTrue D.tells → (entries : List Entry) × Logged entries file pages.now.table.items pages.now.end × EntriesIn entries tail.at next.at (D.files disk.new).log) }
+    ensures changed { OnOk result (IsTrue D.tells → ChangedIn File.Log tail.at (2 ^ 28) (D.files disk.old) (D.files disk.new)) }
+    ensures images { IsTrue D.tells → LeavesChanged D.moment D.left_since File.Log tail.at (2 ^ 28) disk.old disk.new }
+    ensures reads { ReadsNothing D.moment D.bytes_read D.follows disk.old disk.new }
+    ensures cause { HasCause (D.faults disk.old) (D.faults disk.new) result }
+{
+    let end = pages.end as usize;
+    let mut next = tail;
+    let mut at = 0;
+    while at < end {
+        let first = next_unit(&pages.table, at, end, true);
+        let stop = next_unit(&pages.table, first, end, false);
+        if first < stop {
+            log_run(disk, &pages.table, file, next.at, first, stop)?;
+            next = Tail {
+                at: next.at + 1 + (stop - first) as u64,
+                entries: next.entries + 1,
+            };
+        }
+        at = stop;
+    }
+    Ok(next)
+}
+
+/// Writes the held units of a file to it, run by run.
+pub fn apply_runs<D: Disk>(disk: &mut D, pages: &Pages, file: File) -> Result<(), Failed>
+    ensures written { OnOk result (IsTrue D.tells → D.files disk.new ≡ with_file file (laid pages.now.table.items pages.now.end (file_of file (D.files disk.old))) (D.files disk.old)) }
+    ensures images { IsTrue D.tells → (entries : List Entry) → CoversHeld entries file pages.now.table.items pages.now.end → LeavesOnly D.moment D.left_since disk.old disk.new (WasWithin entries (D.left_since disk.old (D.moment disk.old))) }
+    ensures reads { ReadsNothing D.moment D.bytes_read D.follows disk.old disk.new }
+    ensures cause { HasCause (D.faults disk.old) (D.faults disk.new) result }
+{
+    let end = pages.end as usize;
+    let mut at = 0;
+    while at < end {
+        let first = next_unit(&pages.table, at, end, true);
+        let stop = next_unit(&pages.table, first, end, false);
+        if first < stop {
+            write_run(disk, &pages.table, file, first as u64, first, stop)?;
+        }
+        at = stop;
+    }
+    Ok(())
+}

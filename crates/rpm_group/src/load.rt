@@ -1,0 +1,172 @@
+//! An overlay that holds the change of an open log.
+
+ghost use Rattle.std.specs.Prelude.{◌≡◌, ℕ, ◌+◌, ◌*◌, ◌/◌, ◌%◌, ◌<◌, ◌≤◌, ◌^◌, IsTrue, length, take, drop, Err, None, OnOk, IfOk, IfErr};
+ghost use Rattle.rpm_outside.specs.Files.{Files, file_of, with_file, put, unit_at};
+ghost use Rattle.rpm_outside.specs.Causes.{HasCause, HasCauseAt};
+ghost use Rattle.rpm_outside.specs.Logs.{log_state, with_entries, reopened};
+ghost use Rattle.rpm_group.specs.LogReads.{LooksAtLog};
+ghost use Rattle.rpm_group.specs.Readings.{entries_of, IsOpen, heads_behind};
+ghost use Rattle.rpm_group.specs.Layers.{laid_files};
+ghost use Rattle.rpm_group.specs.Loads.{LoadSays, IsOutside};
+
+use crate::layers::{Layers, no_layers};
+use crate::log::{Gate, Reading, read_head, read_log};
+use crate::overlay::Overlay;
+use rpm_outside::{Disk, File};
+use std::alloc::Global;
+
+/// Why an overlay can't be loaded.
+#[derive(Clone, Copy, Debug, PartialEq, Eq)]
+pub enum LoadFault {
+    /// The log is wrong at this unit.
+    BadLog { unit: u64 },
+    /// A call of the disk failed.
+    DiskFault,
+    /// There was no memory for the entries.
+    NoMemory,
+}
+
+/// Holds units of the log as units of a file, as many as `bytes` takes.
+fn hold_piece<D: Disk>(
+    alloc: Global,
+    disk: &mut D,
+    held: &mut Layers,
+    from: u64,
+    file: File,
+    at: u64,
+    bytes: &mut [u8],
+) -> Result<(), LoadFault>
+    requires some { 0 < length bytes.old }
+    requires whole { length bytes.old % 16 ≡ 0 }
+    requires within { IsTrue D.tells → from + length bytes.old / 16 ≤ length (D.files disk.old).log }
+    requires room { at + length bytes.old / 16 ≤ 2 ^ 28 }
+    ensures held { OnOk result (IsTrue D.tells → (files : Files) → laid_files held.new files ≡ with_file file (put at (take (length bytes.old / 16) (drop from (D.files disk.old).log)) (file_of file (laid_files held.old files))) (laid_files held.old files)) }
+    ensures fault { IfErr result IsOutside }
+    ensures looks { LooksAtLog D.tells D.files D.left_since D.moment D.bytes_read D.follows disk.old disk.new }
+    ensures cause { HasCauseAt (result ≡ Err LoadFault.DiskFault) (D.faults disk.old) (D.faults disk.new) }
+{
+    let Ok(()) = disk.read_at(File::Log, from, bytes) else {
+        return Err(LoadFault::DiskFault);
+    };
+    let Ok(()) = held.hold(alloc, file, at, bytes) else {
+        return Err(LoadFault::NoMemory);
+    };
+    Ok(())
+}
+
+/// Holds so many units of the log as units of a file, 4 KiB at a time.
+fn hold_units<D: Disk>(
+    alloc: Global,
+    disk: &mut D,
+    held: &mut Layers,
+    from: u64,
+    file: File,
+    at: u64,
+    count: u32,
+) -> Result<(), LoadFault>
+    requires some { 0 < count }
+    requires within { IsTrue D.tells → from + count ≤ length (D.files disk.old).log }
+    requires room { at + count ≤ 2 ^ 28 }
+    requires place { from ≤ 2 ^ 32 }
+    ensures held { OnOk result (IsTrue D.tells → (files : Files) → laid_files held.new files ≡ with_file file (put at (take count (drop from (D.files disk.old).log)) (file_of file (laid_files held.old files))) (laid_files held.old files)) }
+    ensures fault { IfErr result IsOutside }
+    ensures looks { LooksAtLog D.tells D.files D.left_since D.moment D.bytes_read D.follows disk.old disk.new }
+    ensures cause { HasCauseAt (result ≡ Err LoadFault.DiskFault) (D.faults disk.old) (D.faults disk.new) }
+{
+    let mut page = [0u8; 4096];
+    let mut done = 0u32;
+    while done < count {
+        let n = (count - done).min(256);
+        let bytes = &mut page[..16 * n as usize];
+        let place = at + done as u64;
+        if let Err(fault) = hold_piece(alloc, disk, held, from + done as u64, file, place, bytes) {
+            return Err(fault);
+        }
+        done += n;
+    }
+    Ok(())
+}
+
+/// Holds the entries behind a gate.
+fn hold_entries<D: Disk>(
+    alloc: Global,
+    disk: &mut D,
+    held: &mut Layers,
+    gate: Gate,
+) -> Result<(), LoadFault>
+    requires last { IsTrue D.tells → gate.last < length (D.files disk.old).log }
+    requires open { IsTrue D.tells → IsOpen (heads_behind gate (D.files disk.old).log) }
+    ensures held { OnOk result (IsTrue D.tells → (files : Files) → laid_files held.new files ≡ with_entries (entries_of (heads_behind gate (D.files disk.old).log)) (laid_files held.old files)) }
+    ensures fault { IfErr result (λ fault. IsTrue D.tells → IsOutside fault) }
+    ensures looks { LooksAtLog D.tells D.files D.left_since D.moment D.bytes_read D.follows disk.old disk.new }
+    ensures cause { HasCauseAt (result ≡ Err LoadFault.DiskFault) (D.faults disk.old) (D.faults disk.new) }
+{
+    let mut p = 1u64;
+    for _k in 0..gate.entries {
+        let Ok(found) = read_head(disk, gate.last, p) else {
+            return Err(LoadFault::DiskFault);
+        };
+        let Some(head) = found else {
+            return Err(LoadFault::BadLog { unit: p });
+        };
+        let first = head.first as u64;
+        if let Err(fault) = hold_units(alloc, disk, held, p + 1, head.file, first, head.count) {
+            return Err(fault);
+        }
+        p += 1 + head.count as u64;
+    }
+    Ok(())
+}
+
+/// Holds the entries of an open log, and none of a closed one.
+pub fn hold_log<D: Disk>(alloc: Global, disk: &mut D, held: &mut Layers) -> Result<(), LoadFault>
+    requires { (files : Files) → laid_files held.old files ≡ files }
+    ensures held { OnOk result (IsTrue D.tells → laid_files held.new (D.files disk.old) ≡ with_file File.Log (D.files disk.old).log (reopened (D.files disk.old))) }
+    ensures says { IsTrue D.tells → LoadSays (log_state (D.files disk.old).log) result }
+    ensures looks { LooksAtLog D.tells D.files D.left_since D.moment D.bytes_read D.follows disk.old disk.new }
+    ensures cause { HasCauseAt (result ≡ Err LoadFault.DiskFault) (D.faults disk.old) (D.faults disk.new) }
+{
+    let Ok(reading) = read_log(disk) else {
+        return Err(LoadFault::DiskFault);
+    };
+    match reading {
+        Reading::Shut => Ok(()),
+        Reading::Bad(unit) => Err(LoadFault::BadLog { unit }),
+        Reading::Opened(gate) => hold_entries(alloc, disk, held, gate),
+    }
+}
+
+/// A disk that was to be loaded, with the reason why it wasn't.
+#[derive(Drop)]
+pub struct LoadRefused<D> {
+    pub why: LoadFault,
+    pub disk: D,
+}
+
+impl<D: Disk> Overlay<D> {
+    ghost use Rattle.rpm_group.specs.Loaded.{disk_after, IsLoaded, LoadedSays, IsDiskFault};
+    ghost use Rattle.rpm_group.specs.Overlay.{overlay_below, overlay_held};
+
+    /// An overlay over a disk that holds the entries of an open log, and nothing where the log is closed.
+    ///
+    /// It neither writes nor syncs. Of the disk it reads the log alone: its units once, and its heads twice.
+    ///
+    /// # Errors
+    ///
+    /// The disk comes back with the reason: `BadLog` where the log is malformed, with the unit; `DiskFault` only where the count
+    /// of faults rose; `NoMemory`.
+    pub fn load(alloc: Global, disk: D) -> Result<Overlay<D>, LoadRefused<D>>
+        ensures loaded { IfOk result (λ overlay. IsLoaded overlay) }
+        ensures files { IfOk result (λ overlay. IsTrue D.tells → laid_files (overlay_held overlay) (D.files (overlay_below overlay)) ≡ with_file File.Log (D.files disk).log (reopened (D.files disk))) }
+        ensures says { IsTrue D.tells → LoadedSays (log_state (D.files disk).log) result }
+        ensures looks { LooksAtLog D.tells D.files D.left_since D.moment D.bytes_read D.follows disk (disk_after result) }
+        ensures cause { HasCauseAt (IsDiskFault result) (D.faults disk) (D.faults (disk_after result)) }
+    {
+        let mut disk = disk;
+        let mut held = no_layers(alloc);
+        match hold_log(alloc, &mut disk, &mut held) {
+            Ok(()) => Ok(Overlay::of(alloc, disk, held)),
+            Err(why) => Err(LoadRefused { why, disk }),
+        }
+    }
+}

@@ -1,0 +1,188 @@
+//! The gate and the heads of the log.
+
+ghost use Rattle.std.specs.Prelude.{◌≡◌, ◌==◌, if◌then◌else◌, ℕ, ◌+◌, ◌*◌, ◌/◌, ◌<◌, ◌≤◌, ◌^◌, IsTrue, length, IfOk, IfSome};
+ghost use Rattle.rpm_outside.specs.Files.{Files, unit_at};
+ghost use Rattle.rpm_outside.specs.Causes.{HasCause};
+ghost use Rattle.rpm_outside.specs.Logs.{word, is_gate, is_head};
+ghost use Rattle.rpm_group.specs.LogReads.{LooksAtLog};
+ghost use Rattle.rpm_group.specs.Readings.{GateSays, LogSays, IsHead, HeadSays, HeadsSay, heads_behind};
+
+use crate::words::{is_blank, word};
+use rpm_outside::{Disk, Failed, File};
+
+/// The gate of a log: how many entries there are, and the last unit of the last.
+#[derive(Clone, Copy, Debug, PartialEq, Eq)]
+pub struct Gate {
+    pub entries: u32,
+    pub last: u32,
+}
+
+/// The head of an entry: so many units for a file, from its first unit on.
+#[derive(Clone, Copy, Debug, PartialEq, Eq)]
+pub struct Head {
+    pub file: File,
+    pub first: u32,
+    pub count: u32,
+}
+
+/// What was read of a log: that it is closed, or wrong at a unit, or its gate.
+#[derive(Clone, Copy, Debug, PartialEq, Eq)]
+pub enum Reading {
+    Shut,
+    Bad(u64),
+    Opened(Gate),
+}
+
+// `RpmL`
+const MAGIC: u32 = 0x4c6d_7052;
+
+/// Reads one unit of the log.
+pub fn read_unit<D: Disk>(disk: &mut D, at: u64) -> Result<[u8; 16], Failed>
+    requires { IsTrue D.tells → at < length (D.files disk.old).log }
+    ensures unit { IfOk result (λ unit. IsTrue D.tells → unit ≡ unit_at (D.files disk.old).log at) }
+    ensures looks { LooksAtLog D.tells D.files D.left_since D.moment D.bytes_read D.follows disk.old disk.new }
+    ensures cause { HasCause (D.faults disk.old) (D.faults disk.new) result }
+{
+    let mut unit = [0u8; 16];
+    disk.read_at(File::Log, at, &mut unit)?;
+    Ok(unit)
+}
+
+/// Whether a unit is the gate of a log of so many units.
+#[tactic(auto, unfolding(rpm_outside::specs::Logs::is_gate))]
+fn is_gate(units: u64, gate: &[u8]) -> bool
+    requires { length gate.now ≡ 16 }
+    ensures { result ≡ is_gate units gate.now }
+{
+    word(gate, 0) == MAGIC
+        && word(gate, 1) == 1
+        && 0 < word(gate, 2)
+        && (word(gate, 3) as u64) < units
+}
+
+/// Whether a unit is a head at unit p of a log with this last unit.
+#[tactic(auto, unfolding(rpm_outside::specs::Logs::is_head))]
+fn is_head(last: u32, p: u64, head: &[u8]) -> bool
+    requires { length head.now ≡ 16 }
+    ensures { result ≡ is_head last p head.now }
+{
+    let file = word(head, 0);
+    let end = word(head, 1) as u64 + word(head, 2) as u64;
+    p <= last as u64
+        && 1 <= file
+        && file <= 2
+        && 0 < word(head, 2)
+        && end <= 268_435_456
+        && p + word(head, 2) as u64 <= last as u64
+}
+
+/// Reads the gate. It reads the log's first unit alone.
+///
+/// # Errors
+///
+/// `Failed` only where the count of faults rose.
+pub fn read_gate<D: Disk>(disk: &mut D) -> Result<Reading, Failed>
+    ensures says { IfOk result (λ reading. IsTrue D.tells → GateSays reading (D.files disk.old).log) }
+    ensures looks { LooksAtLog D.tells D.files D.left_since D.moment D.bytes_read D.follows disk.old disk.new }
+    ensures cause { HasCause (D.faults disk.old) (D.faults disk.new) result }
+{
+    let units = disk.len(File::Log)?;
+    if units == 0 {
+        return Ok(Reading::Shut);
+    }
+    let gate = read_unit(disk, 0)?;
+    if is_blank(&gate) {
+        return Ok(Reading::Shut);
+    }
+    if !is_gate(units, &gate) {
+        return Ok(Reading::Bad(0));
+    }
+    Ok(Reading::Opened(Gate {
+        entries: word(&gate, 2),
+        last: word(&gate, 3),
+    }))
+}
+
+/// Reads the head at unit p, if there is one.
+///
+/// # Errors
+///
+/// `Failed` only where the count of faults rose.
+pub fn read_head<D: Disk>(disk: &mut D, last: u32, p: u64) -> Result<Option<Head>, Failed>
+    requires { IsTrue D.tells → last < length (D.files disk.old).log }
+    ensures head { IfOk result (λ head. IfSome head (λ h. IsHead last p h)) }
+    ensures says { IfOk result (λ head. IsTrue D.tells → HeadSays last p (D.files disk.old).log head) }
+    ensures looks { LooksAtLog D.tells D.files D.left_since D.moment D.bytes_read D.follows disk.old disk.new }
+    ensures cause { HasCause (D.faults disk.old) (D.faults disk.new) result }
+{
+    if p > last as u64 {
+        return Ok(None);
+    }
+    let head = read_unit(disk, p)?;
+    if !is_head(last, p, &head) {
+        return Ok(None);
+    }
+    Ok(Some(head_of(&head)))
+}
+
+/// The head in a unit.
+fn head_of(unit: &[u8]) -> Head
+    requires { length unit.now ≡ 16 }
+    ensures file { result.file ≡ (if word 0 unit.now == 1 then File.Pkg else File.Idx) }
+    ensures first { result.first ≡ word 1 unit.now }
+    ensures count { result.count ≡ word 2 unit.now }
+{
+    Head {
+        file: if word(unit, 0) == 1 {
+            File::Pkg
+        } else {
+            File::Idx
+        },
+        first: word(unit, 1),
+        count: word(unit, 2),
+    }
+}
+
+/// Goes through the heads behind a gate, and gives the first unit that is wrong, if one is.
+///
+/// # Errors
+///
+/// `Failed` only where the count of faults rose.
+pub fn check_heads<D: Disk>(disk: &mut D, gate: Gate) -> Result<Option<u64>, Failed>
+    requires { IsTrue D.tells → gate.last < length (D.files disk.old).log }
+    ensures says { IfOk result (λ fault. IsTrue D.tells → HeadsSay (heads_behind gate (D.files disk.old).log) fault) }
+    ensures looks { LooksAtLog D.tells D.files D.left_since D.moment D.bytes_read D.follows disk.old disk.new }
+    ensures cause { HasCause (D.faults disk.old) (D.faults disk.new) result }
+{
+    let mut p = 1u64;
+    for _k in 0..gate.entries {
+        let Some(head) = read_head(disk, gate.last, p)? else {
+            return Ok(Some(p));
+        };
+        p += 1 + head.count as u64;
+    }
+    if p != gate.last as u64 + 1 {
+        return Ok(Some(p));
+    }
+    Ok(None)
+}
+
+/// Reads the log: its gate and its heads, and none of the units between.
+///
+/// # Errors
+///
+/// `Failed` only where the count of faults rose.
+pub fn read_log<D: Disk>(disk: &mut D) -> Result<Reading, Failed>
+    ensures says { IfOk result (λ reading. IsTrue D.tells → LogSays reading (D.files disk.old).log) }
+    ensures looks { LooksAtLog D.tells D.files D.left_since D.moment D.bytes_read D.follows disk.old disk.new }
+    ensures cause { HasCause (D.faults disk.old) (D.faults disk.new) result }
+{
+    match read_gate(disk)? {
+        Reading::Opened(gate) => match check_heads(disk, gate)? {
+            Some(unit) => Ok(Reading::Bad(unit)),
+            None => Ok(Reading::Opened(gate)),
+        },
+        Reading::Bad(unit) => Ok(Reading::Bad(unit)),
+        Reading::Shut => Ok(Reading::Shut),
+    }
+}

@@ -1,0 +1,102 @@
+//! Reading what is held over what a disk has.
+
+ghost use Rattle.std.specs.Prelude.{◌≡◌, ℕ, ◌+◌, ◌-◌, ◌*◌, ◌/◌, ◌%◌, ◌<◌, ◌≤◌, ◌^◌, min, IsTrue, length, take, drop, OnOk, IfOk, false};
+ghost use Rattle.rpm_outside.specs.Files.{Files, Units, file_of, units_of, unit_at};
+ghost use Rattle.rpm_outside.specs.Causes.{HasCause, RoseBy};
+ghost use Rattle.rpm_outside.specs.Crash.{Untouched, bytes_for};
+ghost use Rattle.rpm_group.specs.Held.{unit_in};
+ghost use Rattle.rpm_group.specs.Counts.{is_held};
+ghost use Rattle.rpm_group.specs.Layers.{laid_files};
+ghost use Rattle.rpm_group.specs.Below.{LooksBelow};
+
+use crate::layers::Layers;
+use crate::pages::Pages;
+use rpm_outside::{Disk, Failed, File};
+
+/// Reads units, or none.
+fn read_some<D: Disk>(below: &mut D, file: File, unit: u64, into: &mut [u8]) -> Result<(), Failed>
+    requires whole { length into.old % 16 ≡ 0 }
+    requires within { IsTrue D.tells → 0 < length into.old → unit + length into.old / 16 ≤ length (file_of file (D.files below.old)) }
+    ensures units { OnOk result (IsTrue D.tells → units_of into.new ≡ take (length into.old / 16) (drop unit (file_of file (D.files below.old)))) }
+    ensures looks { LooksBelow D.tells D.files D.left_since D.moment D.bytes_read D.follows file (length into.old) below.old below.new }
+    ensures cause { HasCause (D.faults below.old) (D.faults below.new) result }
+{
+    if into.is_empty() {
+        return Ok(());
+    }
+    below.read_at(file, unit, into)
+}
+
+/// How many of so many units from this one on a file of this length has.
+fn available(unit: u64, length: u64, count: usize) -> usize
+    ensures { result ≡ min (length - unit) count }
+{
+    length.saturating_sub(unit).min(count as u64) as usize
+}
+
+/// Reads units below, which are zeros past the end.
+fn read_below<D: Disk>(
+    below: &mut D,
+    file: File,
+    unit: u64,
+    end: u64,
+    into: &mut [u8],
+) -> Result<(), Failed>
+    requires whole { length into.old % 16 ≡ 0 }
+    requires end { IsTrue D.tells → end ≡ length (file_of file (D.files below.old)) }
+    ensures units { OnOk result (IsTrue D.tells → (k : ℕ) → k < length into.old / 16 → unit_in into.new k ≡ unit_at (file_of file (D.files below.old)) (unit + k)) }
+    ensures looks { LooksBelow D.tells D.files D.left_since D.moment D.bytes_read D.follows file (length into.old) below.old below.new }
+    ensures cause { HasCause (D.faults below.old) (D.faults below.new) result }
+{
+    let there = available(unit, end, into.len() / 16);
+    into[16 * there..].fill(0);
+    read_some(below, file, unit, &mut into[..16 * there])
+}
+
+/// Reads units below, unless all of them are held.
+fn read_unheld<D: Disk>(
+    pages: &Pages,
+    below: &mut D,
+    file: File,
+    unit: u64,
+    end: u64,
+    into: &mut [u8],
+) -> Result<(), Failed>
+    requires whole { length into.old % 16 ≡ 0 }
+    requires room { unit + length into.old / 16 < 2 ^ 64 }
+    requires end { IsTrue D.tells → end ≡ length (file_of file (D.files below.old)) }
+    ensures units { OnOk result (IsTrue D.tells → (k : ℕ) → k < length into.old / 16 → is_held pages.now.table.items (unit + k) ≡ false → unit_in into.new k ≡ unit_at (file_of file (D.files below.old)) (unit + k)) }
+    ensures looks { LooksBelow D.tells D.files D.left_since D.moment D.bytes_read D.follows file (length into.old) below.old below.new }
+    ensures cause { HasCause (D.faults below.old) (D.faults below.new) result }
+{
+    if pages.covers(unit as usize, into.len() / 16) {
+        return Ok(());
+    }
+    read_below(below, file, unit, end, into)
+}
+
+/// Reads units over those below.
+pub fn read_over<D: Disk>(
+    layers: &Layers,
+    below: &mut D,
+    file: File,
+    unit: u64,
+    into: &mut [u8],
+) -> Result<(), Failed>
+    requires whole { length into.old % 16 ≡ 0 }
+    requires within { IsTrue D.tells → unit + length into.old / 16 ≤ length (file_of file (laid_files layers.now (D.files below.old))) }
+    ensures units { OnOk result (IsTrue D.tells → units_of into.new ≡ take (length into.old / 16) (drop unit (file_of file (laid_files layers.now (D.files below.old))))) }
+    ensures looks { LooksBelow D.tells D.files D.left_since D.moment D.bytes_read D.follows file (length into.old) below.old below.new }
+    ensures cause { HasCause (D.faults below.old) (D.faults below.new) result }
+{
+    let end = below.len(file)?;
+    let pages = layers.file(file);
+    let whole = pages.length(end);
+    // Only the disk below can count the fault of a read past the end.
+    if unit > whole || into.len() as u64 / 16 > whole - unit {
+        return below.read_at(file, unit, into);
+    }
+    read_unheld(pages, below, file, unit, end, into)?;
+    pages.lay(unit as usize, into);
+    Ok(())
+}

@@ -1,0 +1,158 @@
+//! A disk over a disk: what is written is held in memory.
+
+ghost use Rattle.std.specs.Prelude.{◌≡◌, ◌↔◌, ◌≢◌, ℕ, ◌+◌, ◌<◌, IsTrue, true, refl};
+ghost use Rattle.rpm_outside.specs.Files.{Files};
+ghost use Rattle.rpm_group.specs.Layers.{laid_files};
+
+use crate::layers::Layers;
+use crate::over::read_over;
+use crate::scan::extent;
+use rpm_outside::{Disk, Failed, File};
+use std::alloc::Global;
+
+/// A disk whose writes are held in memory, over a disk that it only reads.
+///
+/// What is held costs its pages of 4 KiB and a mark a unit, and 8 bytes for each 4 KiB of a file as far as its last held unit.
+#[derive(Drop)]
+pub struct Overlay<D: Disk> {
+    alloc: Global,
+    below: D,
+    held: Layers,
+    moment: u64,
+    starved: u64,
+    read_pkg: u64,
+    read_idx: u64,
+    read_log: u64,
+}
+
+impl<D: Disk> Overlay<D> {
+    ghost use Rattle.rpm_group.specs.Overlay.{IsOver, overlay_starved, overlay_below, overlay_held};
+    ghost use Rattle.rpm_group.specs.Groups.{held_units};
+
+    /// An overlay on which nothing was done yet.
+    pub(crate) fn of(alloc: Global, below: D, held: Layers) -> Overlay<D>
+        ensures { IsOver below held result }
+    {
+        Overlay {
+            alloc,
+            below,
+            held,
+            moment: 0,
+            starved: 0,
+            read_pkg: 0,
+            read_idx: 0,
+            read_log: 0,
+        }
+    }
+
+    /// The disk below, as it is.
+    pub fn release(self) -> D
+        ensures { result ≡ overlay_below self }
+    {
+        let Overlay {
+            alloc: _,
+            below,
+            held: _,
+            moment: _,
+            starved: _,
+            read_pkg: _,
+            read_idx: _,
+            read_log: _,
+        } = self;
+        below
+    }
+
+    /// The disk below and what is held.
+    pub(crate) fn into_parts(self) -> (D, Layers)
+        ensures below { result.0 ≡ overlay_below self }
+        ensures held { result.1 ≡ overlay_held self }
+    {
+        let Overlay {
+            alloc: _,
+            below,
+            held,
+            moment: _,
+            starved: _,
+            read_pkg: _,
+            read_idx: _,
+            read_log: _,
+        } = self;
+        (below, held)
+    }
+
+    /// How many units are held. It looks at each mark of the pages that are there.
+    pub fn held(&self) -> u64
+        ensures { result ≡ held_units (overlay_held self.now) }
+    {
+        let pkg = extent(&self.held.pkg.table, self.held.pkg.end as usize);
+        let idx = extent(&self.held.idx.table, self.held.idx.end as usize);
+        let log = extent(&self.held.log.table, self.held.log.end as usize);
+        pkg.units + idx.units + log.units
+    }
+
+    /// Whether a write found no memory.
+    pub fn is_starved(&self) -> bool
+        ensures { IsTrue result ↔ (0 < overlay_starved self.now) }
+    {
+        self.starved != 0
+    }
+}
+
+impl<D: Disk> Disk for Overlay<D> {
+    ghost use Rattle.rpm_outside.specs.declared.disk.File.{File};
+    ghost use Rattle.rpm_group.specs.Below.{KeepsBelow, keeps_refl, keeps_trans};
+    ghost use Rattle.rpm_group.specs.Overlay.{overlay_read, StarvesWhere};
+
+    ghost tells = { D.tells };
+
+    ghost files = { λ disk. laid_files disk.held (D.files disk.below) };
+
+    ghost left_since = { λ disk t image. image ≡ laid_files disk.held (D.files disk.below) };
+
+    ghost moment = { λ disk. disk.moment };
+
+    ghost bytes_read = { λ disk file. overlay_read disk file };
+
+    ghost faults = { λ disk. D.faults disk.below + disk.starved };
+
+    ghost follows = { λ old new. KeepsBelow D.tells D.files D.moment D.left_since D.bytes_read D.follows old.below new.below (overlay_read old) (overlay_read new) };
+
+    ghost outcome = { StarvesWhere };
+
+    ghost as_read = { λ disk told. refl };
+
+    ghost earlier = { λ disk s t image told le below left. left };
+
+    ghost follows_refl = { λ disk. keeps_refl D.tells D.files D.moment D.left_since D.bytes_read D.follows disk.below (overlay_read disk) (D.follows_refl disk.below) };
+
+    ghost follows_trans = { λ a b c f g. keeps_trans D.tells D.files D.moment D.left_since D.bytes_read D.follows D.follows_trans a.below b.below c.below (overlay_read a) (overlay_read b) (overlay_read c) f g };
+
+    fn len(&mut self, file: File) -> Result<u64, Failed> {
+        let below = self.below.len(file)?;
+        Ok(self.held.file(file).length(below))
+    }
+
+    fn read_at(&mut self, file: File, unit: u64, into: &mut [u8]) -> Result<(), Failed> {
+        let count = into.len() as u64;
+        match file {
+            File::Pkg => self.read_pkg = self.read_pkg.saturating_add(count),
+            File::Idx => self.read_idx = self.read_idx.saturating_add(count),
+            File::Log => self.read_log = self.read_log.saturating_add(count),
+        }
+        read_over(&self.held, &mut self.below, file, unit, into)
+    }
+
+    fn write_at(&mut self, file: File, unit: u64, bytes: &[u8]) -> Result<(), Failed> {
+        let Ok(()) = self.held.hold(self.alloc, file, unit, bytes) else {
+            self.starved = self.starved.saturating_add(1);
+            return Err(Failed);
+        };
+        self.moment = self.moment.saturating_add(1);
+        Ok(())
+    }
+
+    fn sync(&mut self, file: File) -> Result<(), Failed> {
+        self.moment = self.moment.saturating_add(1);
+        Ok(())
+    }
+}

@@ -1,0 +1,60 @@
+//! 256 units of a file, of which some are held.
+
+ghost use Rattle.std.specs.Prelude.{◌≡◌, ◌⊎◌, ℕ, ◌+◌, ◌*◌, ◌/◌, ◌%◌, ◌<◌, ◌≤◌, true, false, None, Some, length, slice_index_or, unwrap_or};
+ghost use Rattle.rpm_group.specs.Held.{unit_in, in_page, PageWrote};
+
+/// The units of a page, with a mark for each that is held. What isn't held means nothing.
+#[derive(Drop)]
+pub struct Page {
+    pub bytes: [u8; 4096],
+    pub marks: [bool; 256],
+}
+
+/// A page of which nothing is held.
+pub fn empty_page() -> Page
+    ensures { (k : ℕ) → in_page result k ≡ None }
+{
+    Page {
+        bytes: [0; 4096],
+        marks: [false; 256],
+    }
+}
+
+/// Sets so many marks from this one on.
+fn mark(marks: &mut [bool], from: usize, end: usize)
+    requires ordered { from ≤ end }
+    requires within { end ≤ length marks.old }
+    ensures inside { (k : ℕ) → from ≤ k → k < end → slice_index_or marks.new k false ≡ true }
+    ensures outside { (k : ℕ) → (k < from) ⊎ (end ≤ k) → slice_index_or marks.new k false ≡ slice_index_or marks.old k false }
+{
+    for k in from..end {
+        marks[k] = true;
+    }
+}
+
+impl Page {
+    /// Holds units from this one on.
+    pub fn hold(&mut self, at: usize, bytes: &[u8])
+        requires whole { length bytes.now % 16 ≡ 0 }
+        requires within { at + length bytes.now / 16 ≤ 256 }
+        ensures { PageWrote at bytes.now self.old self.new }
+    {
+        let end = at + bytes.len() / 16;
+        self.bytes[16 * at..16 * end].copy_from_slice(bytes);
+        mark(&mut self.marks, at, end);
+    }
+
+    /// Copies the held ones of these units over others.
+    pub fn lay(&self, at: usize, into: &mut [u8])
+        requires whole { length into.old % 16 ≡ 0 }
+        requires within { at + length into.old / 16 ≤ 256 }
+        ensures { (k : ℕ) → k < length into.old / 16 → unit_in into.new k ≡ unwrap_or (in_page self.now (at + k)) (unit_in into.old k) }
+    {
+        for k in 0..into.len() / 16 {
+            let from = 16 * (at + k);
+            if self.marks[at + k] {
+                into[16 * k..16 * k + 16].copy_from_slice(&self.bytes[from..from + 16]);
+            }
+        }
+    }
+}

@@ -1,0 +1,88 @@
+//! What is held of a file.
+
+ghost use Rattle.std.specs.Prelude.{◌≡◌, ◌≢◌, ◌⊎◌, ℕ, ◌+◌, ◌-◌, ◌*◌, ◌/◌, ◌%◌, ◌<◌, ◌≤◌, ◌^◌, max, None, length, OnOk, OnErr, IsTrue};
+ghost use Rattle.rpm_outside.specs.Files.{Units, units_of, put};
+ghost use Rattle.rpm_group.specs.Held.{held_at, EndsAt, laid, Holds, SameHeld, LaysOver};
+ghost use Rattle.rpm_group.specs.Counts.{AreHeld};
+
+use crate::scan::next_unit;
+use crate::table::{Table, add_pages, hold, lay};
+use std::alloc::{AllocError, Global};
+
+/// The held units of a file, and the end of the last.
+#[derive(Drop)]
+pub struct Pages {
+    pub table: Table,
+    pub end: u64,
+    ghost small: { end ≤ 2 ^ 28 },
+    ghost past: { EndsAt table.items end },
+    ghost last: { 0 < end → held_at table.items (end - 1) ≢ None },
+}
+
+impl Pages {
+    /// Nothing is held.
+    pub fn new(alloc: Global) -> Pages
+        ensures { (file : Units) → laid result.table.items result.end file ≡ file }
+    {
+        Pages {
+            table: Vec::new(alloc),
+            end: 0,
+        }
+    }
+
+    /// Holds units from this one on.
+    ///
+    /// # Errors
+    ///
+    /// `AllocError` where memory is wanting. What is held is then as it was.
+    pub fn hold(&mut self, alloc: Global, unit: u64, bytes: &[u8]) -> Result<(), AllocError>
+        requires some { 0 < length bytes.now }
+        requires whole { length bytes.now % 16 ≡ 0 }
+        requires room { unit + length bytes.now / 16 ≤ 2 ^ 28 }
+        ensures ok { OnOk result ((file : Units) → laid self.new.table.items self.new.end file ≡ put unit (units_of bytes.now) (laid self.old.table.items self.old.end file)) }
+        ensures err { OnErr result ((file : Units) → laid self.new.table.items self.new.end file ≡ laid self.old.table.items self.old.end file) }
+    {
+        let end = unit + bytes.len() as u64 / 16;
+        hold_all(alloc, &mut self.table, unit as usize, bytes)?;
+        self.end = self.end.max(end);
+        Ok(())
+    }
+
+    /// Copies the held ones of the units from this one on over others.
+    pub fn lay(&self, unit: usize, into: &mut [u8])
+        requires whole { length into.old % 16 ≡ 0 }
+        requires room { unit + length into.old / 16 < 2 ^ 64 }
+        ensures { LaysOver unit self.now.table.items into.old into.new }
+    {
+        lay(&self.table, unit, into);
+    }
+
+    /// Whether all of so many units from this one on are held.
+    pub fn covers(&self, unit: usize, count: usize) -> bool
+        requires room { unit + count < 2 ^ 64 }
+        ensures { IsTrue result → AreHeld self.now.table.items unit (unit + count) }
+    {
+        let end = unit + count;
+        end as u64 <= self.end && next_unit(&self.table, unit, end, false) == end
+    }
+
+    /// How long the file is, where it is so long below.
+    pub fn length(&self, below: u64) -> u64
+        ensures { result ≡ max below self.now.end }
+    {
+        below.max(self.end)
+    }
+}
+
+/// Adds the pages of these units, and holds the units.
+fn hold_all(alloc: Global, table: &mut Table, unit: usize, bytes: &[u8]) -> Result<(), AllocError>
+    requires whole { length bytes.now % 16 ≡ 0 }
+    requires room { unit + length bytes.now / 16 ≤ 2 ^ 28 }
+    ensures ok { OnOk result (Holds unit bytes.now table.old.items table.new.items) }
+    ensures err { OnErr result (SameHeld table.old.items table.new.items) }
+{
+    let end = unit + bytes.len() / 16;
+    add_pages(alloc, table, unit / 256, (end + 255) / 256)?;
+    hold(table, unit, bytes);
+    Ok(())
+}

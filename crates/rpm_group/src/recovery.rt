@@ -1,0 +1,218 @@
+//! What a stop left of a change is finished.
+
+ghost use Rattle.std.specs.Prelude.{◌≡◌, ◌↔◌, ℕ, ◌+◌, ◌*◌, ◌/◌, ◌%◌, ◌<◌, ◌≤◌, ◌^◌, IsTrue, length, take, drop, Ok, Err, None, true, OnOk, IfOk, IfErr};
+ghost use Rattle.rpm_outside.specs.Files.{Files, file_of, with_file, put, unit_at};
+ghost use Rattle.rpm_outside.specs.Crash.{LeavesOnly};
+ghost use Rattle.rpm_outside.specs.Causes.{HasCause, HasCauseAt};
+ghost use Rattle.rpm_outside.specs.Changed.{LeavesChanged};
+ghost use Rattle.rpm_outside.specs.EntryLaws.{Within};
+ghost use Rattle.rpm_outside.specs.Logs.{Closed, log_state, unlogged, with_entries, reopened};
+ghost use Rattle.rpm_group.specs.LogReads.{LooksAtLog, ReadsLog};
+ghost use Rattle.rpm_group.specs.Readings.{entries_of, IsOpen, IsHead, heads_behind};
+ghost use Rattle.rpm_group.specs.Settled.{IsSettled, SettledIn, WasWithin, ReopensAs, ReopensAsOneOf, RecoverSays};
+
+use crate::log::{Gate, Reading, read_head, read_log};
+use rpm_outside::{Disk, Failed, File};
+
+/// Why a database can't be recovered.
+#[derive(Clone, Copy, Debug, PartialEq, Eq)]
+pub enum RecoverFault {
+    /// The log is wrong at this unit.
+    BadLog { unit: u64 },
+    /// A call of the disk failed.
+    DiskFault,
+}
+
+/// Settles all three files.
+pub fn settle<D: Disk>(disk: &mut D) -> Result<(), Failed>
+    ensures same { IsTrue D.tells → D.files disk.new ≡ D.files disk.old }
+    ensures settled { OnOk result (IsTrue D.tells → IsSettled D.files D.left_since D.moment disk.new) }
+    ensures images { IsTrue D.tells → LeavesOnly D.moment D.left_since disk.old disk.new (D.left_since disk.old (D.moment disk.old)) }
+    ensures reads { ReadsLog D.moment D.bytes_read D.follows disk.old disk.new }
+    ensures cause { HasCause (D.faults disk.old) (D.faults disk.new) result }
+{
+    disk.sync(File::Pkg)?;
+    disk.sync(File::Idx)?;
+    disk.sync(File::Log)?;
+    Ok(())
+}
+
+/// Settles the two files that the log is for.
+pub fn settle_files<D: Disk>(disk: &mut D) -> Result<(), Failed>
+    ensures same { IsTrue D.tells → D.files disk.new ≡ D.files disk.old }
+    ensures pkg { OnOk result (IsTrue D.tells → SettledIn D.files D.left_since D.moment File.Pkg disk.new) }
+    ensures idx { OnOk result (IsTrue D.tells → SettledIn D.files D.left_since D.moment File.Idx disk.new) }
+    ensures images { IsTrue D.tells → LeavesOnly D.moment D.left_since disk.old disk.new (D.left_since disk.old (D.moment disk.old)) }
+    ensures reads { ReadsLog D.moment D.bytes_read D.follows disk.old disk.new }
+    ensures cause { HasCause (D.faults disk.old) (D.faults disk.new) result }
+{
+    disk.sync(File::Pkg)?;
+    disk.sync(File::Idx)?;
+    Ok(())
+}
+
+/// Copies units of the log to a file, as many as `bytes` holds.
+fn copy_piece<D: Disk>(
+    disk: &mut D,
+    from: u64,
+    file: File,
+    at: u64,
+    bytes: &mut [u8],
+) -> Result<(), Failed>
+    requires some { 0 < length bytes.old }
+    requires whole { length bytes.old % 16 ≡ 0 }
+    requires within { IsTrue D.tells → from + length bytes.old / 16 ≤ length (D.files disk.old).log }
+    requires room { at + length bytes.old / 16 ≤ 2 ^ 28 }
+    ensures written { OnOk result (IsTrue D.tells → D.files disk.new ≡ with_file file (put at (take (length bytes.old / 16) (drop from (D.files disk.old).log)) (file_of file (D.files disk.old))) (D.files disk.old)) }
+    ensures images { IsTrue D.tells → LeavesChanged D.moment D.left_since file at (at + length bytes.old / 16) disk.old disk.new }
+    ensures reads { ReadsLog D.moment D.bytes_read D.follows disk.old disk.new }
+    ensures cause { HasCause (D.faults disk.old) (D.faults disk.new) result }
+{
+    disk.read_at(File::Log, from, bytes)?;
+    disk.write_at(file, at, bytes)?;
+    Ok(())
+}
+
+/// Copies so many units of the log to a file, 4 KiB at a time.
+fn copy_units<D: Disk>(
+    disk: &mut D,
+    from: u64,
+    file: File,
+    at: u64,
+    count: u32,
+) -> Result<(), Failed>
+    requires some { 0 < count }
+    requires not_log { file ≡ File.Log → ⊥ }
+    requires within { IsTrue D.tells → from + count ≤ length (D.files disk.old).log }
+    requires room { at + count ≤ 2 ^ 28 }
+    requires place { from ≤ 2 ^ 32 }
+    ensures written { OnOk result (IsTrue D.tells → D.files disk.new ≡ with_file file (put at (take count (drop from (D.files disk.old).log)) (file_of file (D.files disk.old))) (D.files disk.old)) }
+    ensures images { IsTrue D.tells → LeavesChanged D.moment D.left_since file at (at + count) disk.old disk.new }
+    ensures reads { ReadsLog D.moment D.bytes_read D.follows disk.old disk.new }
+    ensures cause { HasCause (D.faults disk.old) (D.faults disk.new) result }
+{
+    let mut page = [0u8; 4096];
+    let mut done = 0u32;
+    while done < count {
+        let n = (count - done).min(256);
+        let bytes = &mut page[..16 * n as usize];
+        copy_piece(disk, from + done as u64, file, at + done as u64, bytes)?;
+        done += n;
+    }
+    Ok(())
+}
+
+/// Writes the entries behind a gate to their files. A head that isn't right any more gives its unit, which no disk that tells
+/// its contents has.
+fn copy_entries<D: Disk>(disk: &mut D, gate: Gate) -> Result<Option<u64>, Failed>
+    requires last { IsTrue D.tells → gate.last < length (D.files disk.old).log }
+    requires open { IsTrue D.tells → IsOpen (heads_behind gate (D.files disk.old).log) }
+    ensures none { IfOk result (λ fault. IsTrue D.tells → fault ≡ None) }
+    ensures written { OnOk result (IsTrue D.tells → D.files disk.new ≡ with_entries (entries_of (heads_behind gate (D.files disk.old).log)) (D.files disk.old)) }
+    ensures images { IsTrue D.tells → LeavesOnly D.moment D.left_since disk.old disk.new (WasWithin (entries_of (heads_behind gate (D.files disk.old).log)) (D.left_since disk.old (D.moment disk.old))) }
+    ensures reads { ReadsLog D.moment D.bytes_read D.follows disk.old disk.new }
+    ensures cause { HasCause (D.faults disk.old) (D.faults disk.new) result }
+{
+    let mut p = 1u64;
+    for _k in 0..gate.entries {
+        let Some(head) = read_head(disk, gate.last, p)? else {
+            return Ok(Some(p));
+        };
+        copy_units(disk, p + 1, head.file, head.first as u64, head.count)?;
+        p += 1 + head.count as u64;
+    }
+    Ok(None)
+}
+
+/// Writes the entries behind a gate to their files, and settles these.
+fn apply_entries<D: Disk>(disk: &mut D, gate: Gate) -> Result<Option<u64>, Failed>
+    requires last { IsTrue D.tells → gate.last < length (D.files disk.old).log }
+    requires open { IsTrue D.tells → IsOpen (heads_behind gate (D.files disk.old).log) }
+    requires settled { IsTrue D.tells → IsSettled D.files D.left_since D.moment disk.old }
+    ensures none { IfOk result (λ fault. IsTrue D.tells → fault ≡ None) }
+    ensures written { OnOk result (IsTrue D.tells → D.files disk.new ≡ with_entries (entries_of (heads_behind gate (D.files disk.old).log)) (D.files disk.old)) }
+    ensures settled { OnOk result (IsTrue D.tells → IsSettled D.files D.left_since D.moment disk.new) }
+    ensures images { IsTrue D.tells → LeavesOnly D.moment D.left_since disk.old disk.new (WasWithin (entries_of (heads_behind gate (D.files disk.old).log)) (D.left_since disk.old (D.moment disk.old))) }
+    ensures reads { ReadsLog D.moment D.bytes_read D.follows disk.old disk.new }
+    ensures cause { HasCause (D.faults disk.old) (D.faults disk.new) result }
+{
+    let fault = copy_entries(disk, gate)?;
+    settle_files(disk)?;
+    Ok(fault)
+}
+
+/// Makes the gate zeros, and settles the log.
+pub fn close_log<D: Disk>(disk: &mut D) -> Result<(), Failed>
+    requires some { IsTrue D.tells → 0 < length (D.files disk.old).log }
+    requires settled { IsTrue D.tells → IsSettled D.files D.left_since D.moment disk.old }
+    requires open { IsTrue D.tells → IsOpen (log_state (D.files disk.old).log) }
+    requires done { IsTrue D.tells → with_entries (entries_of (log_state (D.files disk.old).log)) (unlogged (D.files disk.old)) ≡ unlogged (D.files disk.old) }
+    ensures closed { OnOk result (IsTrue D.tells → log_state (D.files disk.new).log ≡ Closed) }
+    ensures same { IsTrue D.tells → unlogged (D.files disk.new) ≡ unlogged (D.files disk.old) }
+    ensures settled { OnOk result (IsTrue D.tells → IsSettled D.files D.left_since D.moment disk.new) }
+    ensures images { IsTrue D.tells → LeavesOnly D.moment D.left_since disk.old disk.new (ReopensAs (unlogged (D.files disk.old))) }
+    ensures reads { ReadsLog D.moment D.bytes_read D.follows disk.old disk.new }
+    ensures cause { HasCause (D.faults disk.old) (D.faults disk.new) result }
+{
+    disk.write_at(File::Log, 0, &[0u8; 16])?;
+    disk.sync(File::Log)?;
+    Ok(())
+}
+
+/// Finishes the change of a log with this gate.
+fn finish<D: Disk>(disk: &mut D, gate: Gate) -> Result<bool, RecoverFault>
+    requires last { IsTrue D.tells → gate.last < length (D.files disk.old).log }
+    requires state { IsTrue D.tells → log_state (D.files disk.old).log ≡ heads_behind gate (D.files disk.old).log }
+    requires open { IsTrue D.tells → IsOpen (log_state (D.files disk.old).log) }
+    requires settled { IsTrue D.tells → IsSettled D.files D.left_since D.moment disk.old }
+    ensures done { IfOk result (λ was_open. was_open ≡ true) }
+    ensures fault { IfErr result (λ fault. IsTrue D.tells → fault ≡ RecoverFault.DiskFault) }
+    ensures closed { OnOk result (IsTrue D.tells → log_state (D.files disk.new).log ≡ Closed) }
+    ensures files { OnOk result (IsTrue D.tells → unlogged (D.files disk.new) ≡ reopened (D.files disk.old)) }
+    ensures settled { OnOk result (IsTrue D.tells → IsSettled D.files D.left_since D.moment disk.new) }
+    ensures images { IsTrue D.tells → LeavesOnly D.moment D.left_since disk.old disk.new (ReopensAs (reopened (D.files disk.old))) }
+    ensures reads { ReadsLog D.moment D.bytes_read D.follows disk.old disk.new }
+    ensures cause { HasCauseAt (result ≡ Err RecoverFault.DiskFault) (D.faults disk.old) (D.faults disk.new) }
+{
+    let Ok(fault) = apply_entries(disk, gate) else {
+        return Err(RecoverFault::DiskFault);
+    };
+    if let Some(unit) = fault {
+        return Err(RecoverFault::BadLog { unit });
+    }
+    let Ok(()) = close_log(disk) else {
+        return Err(RecoverFault::DiskFault);
+    };
+    Ok(true)
+}
+
+/// Finishes the change that an open log says, and answers whether there was one. The log is closed then.
+///
+/// It takes no memory, reads the log alone, its units once and its heads twice, and writes 4 KiB at a time.
+///
+/// # Errors
+///
+/// `BadLog` where the log is malformed, with the unit. `DiskFault` only where the count of faults rose. Whatever the answer, the
+/// disk, and each image that a stop since the start may leave, stands for what it stood for at the start.
+pub fn recover<D: Disk>(disk: &mut D) -> Result<bool, RecoverFault>
+    ensures says { IsTrue D.tells → RecoverSays (log_state (D.files disk.old).log) result }
+    ensures closed { OnOk result (IsTrue D.tells → log_state (D.files disk.new).log ≡ Closed) }
+    ensures files { OnOk result (IsTrue D.tells → unlogged (D.files disk.new) ≡ reopened (D.files disk.old)) }
+    ensures settled { OnOk result (IsTrue D.tells → IsSettled D.files D.left_since D.moment disk.new) }
+    ensures stands { IsTrue D.tells → reopened (D.files disk.new) ≡ reopened (D.files disk.old) }
+    ensures images { IsTrue D.tells → LeavesOnly D.moment D.left_since disk.old disk.new (ReopensAsOneOf (D.left_since disk.old (D.moment disk.old))) }
+    ensures reads { ReadsLog D.moment D.bytes_read D.follows disk.old disk.new }
+    ensures cause { HasCauseAt (result ≡ Err RecoverFault.DiskFault) (D.faults disk.old) (D.faults disk.new) }
+{
+    let Ok(()) = settle(disk) else {
+        return Err(RecoverFault::DiskFault);
+    };
+    let Ok(reading) = read_log(disk) else {
+        return Err(RecoverFault::DiskFault);
+    };
+    match reading {
+        Reading::Shut => Ok(false),
+        Reading::Bad(unit) => Err(RecoverFault::BadLog { unit }),
+        Reading::Opened(gate) => finish(disk, gate),
+    }
+}

@@ -1,0 +1,106 @@
+//! The runs of held units, in order.
+
+ghost use Rattle.std.specs.Prelude.{◌≡◌, ◌⊎◌, ℕ, ◌+◌, ◌-◌, ◌*◌, ◌/◌, ◌%◌, ◌<◌, ◌≤◌, ◌^◌, true, false, not, None, length, slice_index_or, MatchOption};
+ghost use Rattle.rpm_group.specs.Held.{in_page, held_at, EndsAt};
+ghost use Rattle.rpm_group.specs.Counts.{is_held, begins_run, count_below};
+
+use crate::page::Page;
+use crate::table::Table;
+
+/// The first of these marks that is so, or the end.
+fn next_mark(marks: &[bool], from: usize, end: usize, held: bool) -> usize
+    requires ordered { from ≤ end }
+    requires within { end ≤ length marks.now }
+    ensures from { from ≤ result }
+    ensures end { result ≤ end }
+    ensures between { (k : ℕ) → from ≤ k → k < result → slice_index_or marks.now k false ≡ not held }
+    ensures found { result < end → slice_index_or marks.now result false ≡ held }
+{
+    for k in from..end {
+        if marks[k] == held {
+            return k;
+        }
+    }
+    end
+}
+
+/// The page of a number, if it is there.
+pub fn page_of(table: &Table, q: usize) -> Option<&Page>
+    ensures { MatchOption result ((k : ℕ) → k < 256 → held_at table.now.items (256 * q + k) ≡ None) (λ page. (k : ℕ) → k < 256 → held_at table.now.items (256 * q + k) ≡ in_page page.now k) }
+{
+    if q >= table.len() {
+        return None;
+    }
+    match &table[q] {
+        Some(page) => Some(page),
+        None => None,
+    }
+}
+
+/// The first of these units of one page that is held or isn't, or the end.
+fn next_in(table: &Table, q: usize, from: usize, end: usize, held: bool) -> usize
+    requires ordered { from ≤ end }
+    requires within { end ≤ 256 }
+    requires place { 256 * q + end < 2 ^ 64 }
+    ensures from { from ≤ result }
+    ensures end { result ≤ end }
+    ensures between { (k : ℕ) → from ≤ k → k < result → is_held table.now.items (256 * q + k) ≡ not held }
+    ensures found { result < end → is_held table.now.items (256 * q + result) ≡ held }
+{
+    match page_of(table, q) {
+        Some(page) => next_mark(&page.marks, from, end, held),
+        None => { if held { end } else { from } }
+    }
+}
+
+/// The first unit from this one on that is held or isn't, or the end.
+pub fn next_unit(table: &Table, from: usize, end: usize, held: bool) -> usize
+    requires ordered { from ≤ end }
+    requires small { end ≤ 2 ^ 28 }
+    ensures from { from ≤ result }
+    ensures end { result ≤ end }
+    ensures between { (i : ℕ) → from ≤ i → i < result → is_held table.now.items i ≡ not held }
+    ensures found { result < end → is_held table.now.items result ≡ held }
+{
+    let mut at = from;
+    while at < end {
+        let q = at / 256;
+        let stop = (end - 256 * q).min(256);
+        let next = next_in(table, q, at % 256, stop, held);
+        if next < stop {
+            return 256 * q + next;
+        }
+        at = 256 * q + stop;
+    }
+    end
+}
+
+/// How many runs of held units there are, and how many units.
+#[derive(Clone, Copy, Debug, PartialEq, Eq)]
+pub struct Held {
+    pub runs: u64,
+    pub units: u64,
+}
+
+/// Counts the runs of held units, and the units. It looks at each mark of the pages that are there.
+pub fn extent(table: &Table, end: usize) -> Held
+    requires small { end ≤ 2 ^ 28 }
+    ensures runs { result.runs ≡ count_below (begins_run table.now.items) end }
+    ensures units { result.units ≡ count_below (is_held table.now.items) end }
+    ensures bound { result.runs + result.units ≤ 2 * end }
+{
+    let mut so_far = Held { runs: 0, units: 0 };
+    let mut at = 0;
+    while at < end {
+        let first = next_unit(table, at, end, true);
+        let stop = next_unit(table, first, end, false);
+        if first < stop {
+            so_far = Held {
+                runs: so_far.runs + 1,
+                units: so_far.units + (stop - first) as u64,
+            };
+        }
+        at = stop;
+    }
+    so_far
+}

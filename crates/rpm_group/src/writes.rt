@@ -1,0 +1,106 @@
+//! Runs of held units are written to a disk.
+
+ghost use Rattle.std.specs.Prelude.{◌≡◌, ℕ, ◌+◌, ◌-◌, ◌*◌, ◌/◌, ◌%◌, ◌<◌, ◌≤◌, ◌^◌, IsTrue, true, length, OnOk, ◌∷◌, List};
+ghost use Rattle.rpm_outside.specs.Files.{Files, file_of, with_file, units_of, put};
+ghost use Rattle.rpm_outside.specs.Causes.{HasCause};
+ghost use Rattle.rpm_outside.specs.Changed.{LeavesChanged};
+ghost use Rattle.rpm_outside.specs.Logs.{word};
+ghost use Rattle.rpm_outside.specs.LogWrites.{number_of};
+ghost use Rattle.rpm_group.specs.Counts.{units_held, AreHeld};
+ghost use Rattle.rpm_group.specs.LogReads.{ReadsNothing};
+ghost use Rattle.rpm_group.specs.Words.{IsUnitOf, IsHeadOf};
+
+use crate::scan::page_of;
+use crate::table::Table;
+use rpm_outside::{Disk, Failed, File};
+
+/// A unit of four numbers.
+#[tactic(auto, unfolding(rpm_outside::specs::Logs::word))]
+pub fn unit_of(first: u32, second: u32, third: u32, fourth: u32) -> [u8; 16]
+    ensures { IsUnitOf first second third fourth result }
+{
+    let a = first.to_le_bytes();
+    let b = second.to_le_bytes();
+    let c = third.to_le_bytes();
+    let d = fourth.to_le_bytes();
+    [
+        a[0], a[1], a[2], a[3], b[0], b[1], b[2], b[3], c[0], c[1], c[2], c[3], d[0], d[1], d[2],
+        d[3],
+    ]
+}
+
+/// The head of so many units of a file.
+fn head_of(file: File, first: u32, count: u32) -> [u8; 16]
+    ensures { IsHeadOf file first count result }
+{
+    match file {
+        File::Pkg => unit_of(1, first, count, 0),
+        File::Idx => unit_of(2, first, count, 0),
+        File::Log => unit_of(0, first, count, 0),
+    }
+}
+
+/// The bytes of these units of one page.
+fn piece(table: &Table, from: usize, stop: usize) -> &[u8]
+    requires some { from < stop }
+    requires page { stop ≤ 256 * (from / 256) + 256 }
+    requires held { AreHeld table.now.items from stop }
+    ensures long { length result.now ≡ 16 * (stop - from) }
+    ensures units { units_of result.now ≡ units_held table.now.items from (stop - from) }
+{
+    let q = from / 256;
+    match page_of(table, q) {
+        Some(page) => &page.bytes[16 * (from - 256 * q)..16 * (stop - 256 * q)],
+        None => unreachable!(),
+    }
+}
+
+/// Writes held units to a file from unit `at` on, as much of a page at a time as there is.
+pub fn write_run<D: Disk>(
+    disk: &mut D,
+    table: &Table,
+    file: File,
+    at: u64,
+    from: usize,
+    end: usize,
+) -> Result<(), Failed>
+    requires some { from < end }
+    requires held { AreHeld table.now.items from end }
+    requires room { at + (end - from) ≤ 2 ^ 28 }
+    requires small { end ≤ 2 ^ 28 }
+    ensures written { OnOk result (IsTrue D.tells → D.files disk.new ≡ with_file file (put at (units_held table.now.items from (end - from)) (file_of file (D.files disk.old))) (D.files disk.old)) }
+    ensures images { IsTrue D.tells → LeavesChanged D.moment D.left_since file at (at + (end - from)) disk.old disk.new }
+    ensures reads { ReadsNothing D.moment D.bytes_read D.follows disk.old disk.new }
+    ensures cause { HasCause (D.faults disk.old) (D.faults disk.new) result }
+{
+    let mut done = from;
+    while done < end {
+        let stop = (256 * (done / 256) + 256).min(end);
+        disk.write_at(file, at + (done - from) as u64, piece(table, done, stop))?;
+        done = stop;
+    }
+    Ok(())
+}
+
+/// Writes the entry of held units to the log from unit `at` on.
+pub fn log_run<D: Disk>(
+    disk: &mut D,
+    table: &Table,
+    file: File,
+    at: u64,
+    from: usize,
+    end: usize,
+) -> Result<(), Failed>
+    requires some { from < end }
+    requires held { AreHeld table.now.items from end }
+    requires room { at + 1 + (end - from) ≤ 2 ^ 28 }
+    requires small { end ≤ 2 ^ 28 }
+    ensures written { OnOk result (IsTrue D.tells → (head : List ℕ) × IsHeadOf file from (end - from) head × (D.files disk.new ≡ with_file File.Log (put at (head ∷ units_held table.now.items from (end - from)) (D.files disk.old).log) (D.files disk.old))) }
+    ensures images { IsTrue D.tells → LeavesChanged D.moment D.left_since File.Log at (at + 1 + (end - from)) disk.old disk.new }
+    ensures reads { ReadsNothing D.moment D.bytes_read D.follows disk.old disk.new }
+    ensures cause { HasCause (D.faults disk.old) (D.faults disk.new) result }
+{
+    let head = head_of(file, from as u32, (end - from) as u32);
+    disk.write_at(File::Log, at, &head)?;
+    write_run(disk, table, File::Log, at + 1, from, end)
+}

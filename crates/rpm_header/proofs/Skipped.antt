@@ -1,0 +1,52 @@
+-- Texts that are passed over.
+use Rattle.std.proofs.Common.{◌≡◌, ℕ, zero, suc, ◌+◌, ◌-◌, ◌<◌, List, [], ◌∷◌, take, drop, true, false, Some, refl, sym, ap, ◌∙◌, arith, inl, inr}
+use Rattle.std.specs.Prelude.{slice_get}
+use Rattle.std.specs.List.{before_first, after_first, position_or_len}
+use Rattle.std.proofs.lemmas.Bool.{cases_Bool}
+use Rattle.rpm_header.specs.Bytes.{is_zero, texts}
+use Rattle.rpm_header.specs.Zeros.{zeros, skipped}
+use Rattle.rpm_header.proofs.Counted.{zeros-cons, zeros-nil}
+
+-- the text behind so many others
+pub text_behind : (n i : ℕ) (bytes : List ℕ) → i < n → slice_get (texts n bytes) i ≡ Some (before_first is_zero (skipped i bytes))
+unfolding texts skipped
+text_behind zero i bytes lt = absurd (omega arith)
+text_behind (suc n) zero bytes lt = refl
+text_behind (suc n) (suc i) bytes lt = text_behind n i (after_first is_zero bytes) (omega arith)
+
+after_zero : (b : ℕ) (bs : List ℕ) → is_zero b ≡ true → after_first is_zero (b ∷ bs) ≡ bs
+after_zero b bs here = rw here refl
+
+after_other : (b : ℕ) (bs : List ℕ) → is_zero b ≡ false → after_first is_zero (b ∷ bs) ≡ after_first is_zero bs
+after_other b bs there =
+    let step : 1 + position_or_len is_zero bs + 1 ≡ suc (position_or_len is_zero bs + 1) = omega arith in
+    rw (there, step) refl
+
+skip_one : (i : ℕ) (bytes : List ℕ) → 0 < i → skipped i bytes ≡ skipped (i - 1) (after_first is_zero bytes)
+unfolding skipped
+skip_one zero bytes some = absurd (omega arith)
+skip_one (suc i) bytes some =
+    let before : suc i - 1 ≡ i = omega arith in
+    rw before refl
+
+-- bytes in which fewer texts end may be passed over first
+pub skip_drop : (k i : ℕ) (bytes : List ℕ) → zeros (take k bytes) < i → skipped (i - zeros (take k bytes)) (drop k bytes) ≡ skipped i bytes
+skip_drop zero i bytes lt = ap (λ (n : ℕ). skipped n bytes) (omega (arith, zeros-nil))
+skip_drop (suc k) i [] lt = ap (λ (n : ℕ). skipped n []) (omega (arith, zeros-nil))
+skip_drop (suc k) i (b ∷ bs) lt =
+    elim (cases_Bool (is_zero b)) [
+      | inl here ↦ (
+          let seen : zeros (b ∷ take k bs) ≡ 1 + zeros (take k bs) = rw (zeros-cons b (take k bs), here) refl in
+          let left : i - zeros (b ∷ take k bs) ≡ i - 1 - zeros (take k bs) = omega (arith, seen) in
+          ap (λ (n : ℕ). skipped n (drop k bs)) left
+          ∙ skip_drop k (i - 1) bs (omega (arith, seen))
+          ∙ ap (λ (s : List ℕ). skipped (i - 1) s) (sym (after_zero b bs here))
+          ∙ sym (skip_one i (b ∷ bs) (omega (arith, seen))))
+      | inr there ↦ (
+          let seen : zeros (b ∷ take k bs) ≡ zeros (take k bs) = rw (zeros-cons b (take k bs), there) (omega arith) in
+          ap (λ (n : ℕ). skipped (i - n) (drop k bs)) seen
+          ∙ skip_drop k i bs (omega (arith, seen))
+          ∙ skip_one i bs (omega arith)
+          ∙ ap (λ (s : List ℕ). skipped (i - 1) s) (sym (after_other b bs there))
+          ∙ sym (skip_one i (b ∷ bs) (omega arith)))
+    ]

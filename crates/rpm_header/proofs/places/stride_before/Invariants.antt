@@ -1,0 +1,12 @@
+use Rattle.std.proofs.Common.{◌≤◌, ◌<◌, ◌-◌, get_or}
+use Rattle.rpm_header.proofs.places.stride_before.Given as goal
+
+abbrev pub invariant-loop-high : goal.invariant-loop-high
+invariant-loop-high l = record {
+  ordered : l.low < l.high;
+  within : l.high ≤ l.filled;
+  fewer : get_or l.sums l.low 0 < l.count;
+}
+
+abbrev pub decreases-loop-high : goal.decreases-loop-high
+decreases-loop-high l = l.high - l.low

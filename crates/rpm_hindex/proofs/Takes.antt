@@ -1,0 +1,30 @@
+-- The first rows of a list.
+use Rattle.std.proofs.Common.{◌≡◌, ℕ, ◌+◌, ◌<◌, ◌≤◌, ◌++◌, ◌∷◌, [], List, length, take, ap, ◌∙◌, refl}
+use Rattle.std.proofs.lemmas.List.{take_more}
+use Rattle.std.proofs.lemmas.List.Sums.{sum_by-take-le}
+use Rattle.rpm_hindex.specs.Rows.{Row}
+use Rattle.rpm_hindex.specs.Sizes.{live_of, record_units}
+use Rattle.rpm_hindex.specs.Packed.{row_nth, no_row}
+use Rattle.rpm_hindex.proofs.Drafting.{live_push}
+
+pub live_take : (rows : List Row) (i : ℕ) → live_of (take i rows) ≤ live_of rows
+unfolding live_of
+live_take rows i = sum_by-take-le (λ (r : Row). record_units (length r.key)) rows i
+
+pub live_none : live_of [] ≡ 0
+unfolding live_of
+live_none = refl
+
+-- the rows so far with the next one
+pub next_rows : (rows : List Row) (i : ℕ) → i < length rows → take (i + 1) rows ≡ take i rows ++ row_nth rows i ∷ []
+next_rows rows i lt = take_more rows i no_row lt
+
+pub live_next : (rows : List Row) (i : ℕ) → i < length rows → live_of (take (i + 1) rows) ≡ live_of (take i rows) + record_units (length (row_nth rows i).key)
+live_next rows i lt = ap live_of (next_rows rows i lt) ∙ live_push (take i rows) (row_nth rows i)
+
+abbrev pub row_from : ℕ → List ℕ → ℕ → ℕ → Row
+row_from kind key number place = record { kind = kind; key = key; number = number; place = place }
+
+pub row_of_parts : (r : Row) (kind : ℕ) (key : List ℕ) (number place : ℕ) → kind ≡ r.kind → key ≡ r.key → number ≡ r.number → place ≡ r.place → row_from kind key number place ≡ r
+row_of_parts r kind key number place a b c d =
+    ap (λ (k : ℕ). row_from k key number place) a ∙ ap (λ (k : List ℕ). row_from r.kind k number place) b ∙ ap (λ (n : ℕ). row_from r.kind r.key n place) c ∙ ap (λ (n : ℕ). row_from r.kind r.key r.number n) d

@@ -1,0 +1,90 @@
+-- What a torn write of Hindex.db leaves.
+use Rattle.std.proofs.Common.{◌≡◌, ℕ, ◌≤◌, List, [], ◌∷◌, length, Bool, refl, sym, ap, ◌∙◌, arith, inl, inr}
+use Rattle.std.specs.Prelude.{IsTrue}
+use Rattle.std.proofs.lemmas.List.{get_or_past}
+use Rattle.std.proofs.lemmas.Bool.{cases_lt, cases_eq}
+use Rattle.rpm_outside.specs.declared.disk.File.{File}
+use Rattle.rpm_outside.specs.declared.disk.File.TheVariants.{Idx}
+use Rattle.rpm_outside.specs.Files.{Units, Files, unit_at, blank, put}
+use Rattle.rpm_outside.specs.Crash.{Torn, TornFile, Follows, Elapses}
+use Rattle.rpm_outside.specs.Puts.{length-put, put_before, put_inside, put_after}
+use Rattle.rpm_outside.specs.PutLaws.{same_units}
+use Rattle.rpm_outside.specs.History.{torn_none}
+use Rattle.rpm_outside.specs.Moments.{started, goes_on}
+use Rattle.rpm_hindex.specs.Disks.{OthersFrom, changes_then, Changes, SameSeal, VoidOrSame, SealedOrSame, IsSame}
+
+module _ {D : Type 0} (tells : Bool) (files : D → Files) (left_since : D → ℕ → Files → Type 0) (moment : D → ℕ) (bytes_read : D → File → ℕ) (follows : D → D → Type 0) where
+  -- one write of the disk
+  pub wrote : (at : ℕ) (us : Units) (a b : D) → (IsTrue tells → TornFile Idx at us (files a) (files b)) → (IsTrue tells → Follows (TornFile Idx at us) (left_since a (moment a)) (left_since b (moment b)))
+      → (IsTrue tells → Elapses (moment a) (moment b) (left_since a) (left_since b)) → ((f : File) → bytes_read b f ≡ bytes_read a f) → follows a b → Changes tells files left_since moment bytes_read follows (Torn at us) a b
+  wrote at us a b torn images time reads next =
+      let past = left_since a (moment a) in
+      let now : IsTrue tells → (image : Files) → left_since b (moment b) image → OthersFrom past (Torn at us) image = λ told image left.
+      let f = images told image left in
+      record { from = f.0; was = f.1; pkg = ap (λ (g : Files). g.pkg) f.2.others; log = ap (λ (g : Files). g.log) f.2.others; idx = f.2.torn } in
+      record {
+        pkg = λ told. ap (λ (g : Files). g.pkg) (torn told).others;
+        log = λ told. ap (λ (g : Files). g.log) (torn told).others;
+        now = now;
+        any_moment = λ told.
+            goes_on moment left_since a a b (OthersFrom past (Torn at us))
+            (started moment left_since a (OthersFrom past (Torn at us)) (λ image left. record { from = image; was = left; pkg = refl; log = refl; idx = torn_none at us image.idx }))
+            (time told) (now told);
+        reads = reads;
+        goes_on = next;
+      }
+
+-- a write behind unit 0 leaves it
+pub torn_behind : (at : ℕ) (us a b : Units) → 1 ≤ at → Torn at us a b → SameSeal a b
+torn_behind at us a b behind torn = elim (torn.each 0) [
+  | inl old ↦ old
+  | inr new ↦ new ∙ put_before at us a 0 (omega arith)
+]
+
+module _ (unit : List ℕ) (a b : Units) (torn : Torn 0 (unit ∷ []) a b) where
+  rest_same : (i : ℕ) → 1 ≤ i → unit_at b i ≡ unit_at a i
+  rest_same i from = elim (torn.each i) [
+    | inl old ↦ old
+    | inr new ↦ new ∙ put_after 0 (unit ∷ []) a i (omega arith)
+  ]
+
+  front_new : unit_at b 0 ≡ unit_at (put 0 (unit ∷ []) a) 0 → unit_at b 0 ≡ unit
+  front_new e = e ∙ put_inside 0 (unit ∷ []) a 0 (omega arith)
+
+  long : 1 ≤ length a → length b ≡ length a
+  long some = omega (arith, torn.no_shorter, torn.no_longer, length-put 0 (unit ∷ []) a)
+
+  same_file : 1 ≤ length a → unit_at b 0 ≡ unit_at a 0 → b ≡ a
+  same_file some old = same_units b a (long some) (λ i. elim (cases_eq i 0) [
+    | inl zeros ↦ ap (unit_at b) zeros ∙ old ∙ sym (ap (unit_at a) zeros)
+    | inr other ↦ rest_same i (omega (arith, other))
+  ])
+
+  new_file : 1 ≤ length a → unit_at b 0 ≡ unit_at (put 0 (unit ∷ []) a) 0 → b ≡ put 0 (unit ∷ []) a
+  new_file some new = same_units b (put 0 (unit ∷ []) a) (omega (arith, long some, length-put 0 (unit ∷ []) a)) (λ i. elim (cases_eq i 0) [
+    | inl zeros ↦ ap (unit_at b) zeros ∙ new ∙ sym (ap (unit_at (put 0 (unit ∷ []) a)) zeros)
+    | inr other ↦ rest_same i (omega (arith, other)) ∙ sym (put_after 0 (unit ∷ []) a i (omega (arith, other)))
+  ])
+
+  pub torn_seal : SealedOrSame unit a b
+  torn_seal some = elim (torn.each 0) [
+    | inl old ↦ inl (same_file some old)
+    | inr new ↦ inr (new_file some new)
+  ]
+
+  pub torn_void : unit ≡ blank → VoidOrSame a b
+  torn_void zeros = elim (torn.each 0) [
+    | inr new ↦ inl (front_new new ∙ zeros)
+    | inl old ↦ elim (cases_lt 0 (length a)) [
+      | inl some ↦ inr (same_file some old)
+      | inr none ↦ inl (old ∙ get_or_past a 0 blank none)
+    ]
+  ]
+
+-- runs that leave unit 0, one after the other
+module _ {D : Type 0} (tells : Bool) (files : D → Files) (left_since : D → ℕ → Files → Type 0) (moment : D → ℕ) (bytes_read : D → File → ℕ) (follows : D → D → Type 0) (trans : (a b c : D) → follows a b → follows b c → follows a c) (a b c : D) where
+  pub seal_then : Changes tells files left_since moment bytes_read follows SameSeal a b → Changes tells files left_since moment bytes_read follows SameSeal b c → Changes tells files left_since moment bytes_read follows SameSeal a c
+  seal_then first second = changes_then tells files left_since moment bytes_read follows trans SameSeal SameSeal SameSeal (λ u. Unit {0}) (λ x y p. p) (λ x y z p m q. q ∙ p) a b c (λ told image left. tt) first second
+
+  pub seal_sync : Changes tells files left_since moment bytes_read follows SameSeal a b → Changes tells files left_since moment bytes_read follows IsSame b c → Changes tells files left_since moment bytes_read follows SameSeal a c
+  seal_sync first second = changes_then tells files left_since moment bytes_read follows trans SameSeal IsSame SameSeal (λ u. Unit {0}) (λ x y p. p) (λ x y z p m q. ap (λ (u : Units). unit_at u 0) q ∙ p) a b c (λ told image left. tt) first second

@@ -1,0 +1,23 @@
+use Rattle.std.proofs.Common.{◌%◌, ap, sym, ◌∙◌, refl, []}
+use Rattle.rpm_hindex.specs.Words.{word}
+use Rattle.rpm_hindex.specs.Index.{index_in, is_link, Index}
+use Rattle.rpm_hindex.proofs.Chains.{chain_bad}
+use Rattle.rpm_hindex.proofs.Follows.{within}
+use Rattle.rpm_hindex.proofs.chain.read_bucket.Goals as goal
+
+pub returns-then-not-is_link-clause-fault : goal.returns-then-not-is_link-clause-fault
+returns-then-not-is_link-clause-fault g c = λ told.
+    let x : Index = index_in c.args.extent.buckets (g.D.Disk.files c.args.disk.now).idx in
+    let at = c.word-at.ensures ∙ ap (word (c.args.bucket % 4)) (c.in-Ok.ensures.unit told) in
+    chain_bad x c.args.bucket (ap (is_link x) (sym at) ∙ sym (c.is_link.ensures x refl ((c.requires.open told).used)) ∙ c.if-not-is_link.true)
+
+pub returns-clause-word : goal.returns-clause-word
+returns-clause-word g c = λ told.
+    let x : Index = index_in c.args.extent.buckets (g.D.Disk.files c.args.disk.now).idx in
+    let at = c.word-at.ensures ∙ ap (word (c.args.bucket % 4)) (c.in-Ok.ensures.unit told) in
+    (at, sym (c.is_link.ensures x refl ((c.requires.open told).used)) ∙ c.if-not-is_link.false)
+
+pub returns-clause-within : goal.returns-clause-within
+returns-clause-within g c =
+    let x : Index = record { buckets = c.args.extent.buckets; used = c.args.extent.used; head = λ b. 0; unit = λ i. [] } in
+    within x c.word-at.result (sym (c.is_link.ensures x refl refl) ∙ c.if-not-is_link.false)

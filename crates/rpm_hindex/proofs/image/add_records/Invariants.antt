@@ -1,0 +1,11 @@
+use Rattle.std.proofs.Common.{◌≡◌, ◌+◌, ◌*◌, length, take, []}
+use Rattle.rpm_hindex.specs.Sizes.{live_of}
+use Rattle.rpm_hindex.specs.Drafts.{IsDraft}
+use Rattle.rpm_hindex.proofs.image.add_records.Given as goal
+
+abbrev pub invariant-loop-i : goal.invariant-loop-i
+invariant-loop-i l = record {
+  heads : length l.draft.heads.items ≡ length l.initial.draft.heads.items;
+  long : length l.draft.bytes.items ≡ length l.initial.draft.bytes.items + 16 * live_of (take l.i l.rows);
+  so_far : IsDraft [] l.initial.draft.heads.items l.initial.draft.bytes.items → IsDraft (take l.i l.rows) l.draft.heads.items l.draft.bytes.items;
+}

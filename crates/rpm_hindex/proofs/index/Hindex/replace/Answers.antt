@@ -1,0 +1,27 @@
+use Rattle.std.proofs.Common.{◌≡◌, ◌∷◌, [], ap, ◌∙◌, arith, inl}
+use Rattle.rpm_outside.specs.Files.{Units, unit_at, put, blank}
+use Rattle.rpm_outside.specs.Puts.{put_inside}
+use Rattle.rpm_hindex.specs.Disks.{changes_then, VoidOrSame, SameSeal}
+use Rattle.rpm_hindex.proofs.Seals.{image_held}
+use Rattle.rpm_hindex.proofs.index.Hindex.replace.Goals as goal
+
+-- a file whose unit 0 was made zeros
+zeros : (old new image : Units) → new ≡ put 0 (blank ∷ []) old → image ≡ new → unit_at image 0 ≡ blank
+zeros old new image is same = ap (λ (u : Units). unit_at u 0) (same ∙ is) ∙ put_inside 0 (blank ∷ []) old 0 (omega arith)
+
+pub returns-in_default-write_image-clause-changes : goal.returns-in_default-write_image-clause-changes
+returns-in_default-write_image-clause-changes g c =
+    changes_then _ _ _ _ _ _ g.met.D.Disk.follows_trans VoidOrSame SameSeal VoidOrSame (λ (u : Units). unit_at u 0 ≡ blank) (λ a b p. p) (λ x y z p m q. inl (q ∙ m))
+    c.args.disk.now c.void.new.disk c.write_image.new.disk
+    (λ told image left. zeros _ _ image.idx (c.in-Ok.ensures.voided told) (c.in-Ok.ensures.settled told image left))
+    c.in-Ok.ensures.changes c.in_default-write_image.ensures.changes
+
+pub returns-clause-changes : goal.returns-clause-changes
+returns-clause-changes g c =
+    changes_then _ _ _ _ _ _ g.met.D.Disk.follows_trans VoidOrSame SameSeal VoidOrSame (λ (u : Units). unit_at u 0 ≡ blank) (λ a b p. p) (λ x y z p m q. inl (q ∙ m))
+    c.args.disk.now c.void.new.disk c.write_image.new.disk
+    (λ told image left. zeros _ _ image.idx (c.in-Ok.ensures.voided told) (c.in-Ok.ensures.settled told image left))
+    c.in-Ok.ensures.changes c.in-Ok-write_image.ensures.changes
+
+pub returns-clause-held : goal.returns-clause-held
+returns-clause-held g c = λ told k lt. image_held c.args.image.now.bytes.items _ _ (c.in-Ok-write_image.ensures.written told) k lt

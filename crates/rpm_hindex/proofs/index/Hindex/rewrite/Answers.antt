@@ -1,0 +1,17 @@
+use Rattle.std.proofs.Common.{ap, ◌∙◌, arith, ℕ, List, length, ◌+◌, ◌≤◌, ◌^◌}
+use Rattle.rpm_hindex.specs.Sizes.{bucket_count, first_record, live_of}
+use Rattle.rpm_hindex.specs.State.{is_ordered}
+use Rattle.rpm_hindex.proofs.Drafting.{length-le-live}
+use Rattle.rpm_hindex.proofs.Scratch.{image_ordered}
+use Rattle.rpm_hindex.proofs.index.Hindex.rewrite.Goals as goal
+
+pub returns-clause-ordered : goal.returns-clause-ordered
+returns-clause-ordered g c =
+    let rows = c.args.rows.now in
+    let B = bucket_count (length rows) in
+    let room : first_record B + live_of rows ≤ 2 ^ 28 = omega (arith, c.in-Ok.ensures.full) in
+    let few_rows : length rows ≤ 2 ^ 28 = omega (arith, length-le-live rows, room) in
+    let pending = c.in-Ok-replace.ensures.pending ∙ c.in-Ok.ensures.buckets in
+    ap (λ (b : ℕ). is_ordered b c.replace.new.self.second c.replace.new.self.units) pending
+    ∙ ap (λ (u : List ℕ). is_ordered B u c.replace.new.self.units) c.in-Ok-replace.ensures.second
+    ∙ image_ordered rows c.in-Ok.image.bytes.items c.replace.new.self.units c.in-Ok.ensures.made room few_rows c.in-Ok-replace.ensures.units

@@ -1,0 +1,64 @@
+use Rattle.std.proofs.Common.{◌≡◌, ℕ, ◌<◌, ◌∷◌, [], List, Vec, Global, length, take, refl, sym, ap, ◌∙◌, arith, subst}
+use Rattle.std.specs.Ordering.{nat_cmp}
+use Rattle.std.specs.BTreeMap.{get}
+use Rattle.rpm_outside.specs.Files.{Files}
+use Rattle.rpm_hindex.specs.declared.chain.Extent.{Extent}
+use Rattle.rpm_hindex.specs.declared.change.Change.{Change}
+use Rattle.rpm_hindex.specs.Rows.{Row}
+use Rattle.rpm_hindex.specs.Packed.{row_nth}
+use Rattle.rpm_hindex.specs.Index.{index_in}
+use Rattle.rpm_hindex.specs.Whole.{IsWellFormed}
+use Rattle.rpm_hindex.specs.Changes.{HasLess, IsCut, IsHonest, IsBad, kept_of, is_kept}
+use Rattle.rpm_hindex.specs.Disks.{reads_none, reads_then}
+use Rattle.rpm_hindex.proofs.Takes.{next_rows}
+use Rattle.rpm_hindex.proofs.Keeping.{less_start, less_then}
+use Rattle.rpm_hindex.proofs.planning.drop_rows.Goals as goal
+
+pub loop-i-init : goal.loop-i-init
+loop-i-init g c = record {
+  go = c.requires.go;
+  extent = refl;
+  tail = refl;
+  none = λ e. refl;
+  less = λ told whole. less_start _ _ (λ r. refl);
+  cuts = λ told whole none cut. cut;
+  honest = λ told is. is;
+  looks = reads_none _ _ _ _ _ _ g.met.D.Disk.follows_refl c.args.disk.now;
+  faults = omega arith;
+}
+
+pub loop-i-preserved : goal.loop-i-preserved
+loop-i-preserved g c =
+    let l = c.loop-i in
+    let rows = c.args.rows.now in
+    let lt : l.i < length rows = omega (arith, c.loop-i-test.true, c.len-i-end.ensures) in
+    record {
+      go = c.in_default.ensures.go;
+      extent = c.in_default.ensures.extent ∙ l.invariant.extent;
+      tail = c.in_default.ensures.tail ∙ l.invariant.tail;
+      none = λ e. absurd (omega (arith, e));
+      less = λ told whole.
+          let first : Change = c.args.change.now in
+          let file : Files = g.D.Disk.files c.args.disk.now in
+          let of : Files → Extent → Change → List Row = λ f e d. kept_of (index_in e.buckets f.idx) (is_kept (λ p. get nat_cmp d.dropped p)) in
+          let same = (l.invariant.looks.untouched told).same in
+          let here = subst (λ (f : Files). IsWellFormed l.change.extent.buckets f.idx → HasLess (row_nth rows l.i ∷ []) (of f l.change.extent l.change) (of f l.change.extent c.drop_row.new.self)) same
+          (subst (λ (r : Row). IsWellFormed l.change.extent.buckets (g.D.Disk.files l.disk).idx → HasLess (r ∷ []) (of (g.D.Disk.files l.disk) l.change.extent l.change) (of (g.D.Disk.files l.disk) l.change.extent c.drop_row.new.self)) c.row_ref.ensures.row (c.in_default.ensures.less told)) in
+          let there = subst (λ (e : Extent). IsWellFormed e.buckets file.idx → HasLess (row_nth rows l.i ∷ []) (of file e l.change) (of file e c.drop_row.new.self)) l.invariant.extent here in
+          subst (λ (rs : List Row). HasLess rs (of file first.extent first) (of file first.extent c.drop_row.new.self)) (sym (next_rows rows l.i lt))
+          (less_then (row_nth rows l.i) (take l.i rows) _ _ _ (l.invariant.less told whole) (there whole));
+      cuts = λ told whole none cut.
+          let same = (l.invariant.looks.untouched told).same in
+          let here = subst (λ (f : Files). IsWellFormed l.change.extent.buckets f.idx → length l.change.tail.items ≡ 0 → IsCut l.change f.idx → IsCut c.drop_row.new.self f.idx) same (c.in_default.ensures.cuts told) in
+          let wells = subst (λ (e : Extent). IsWellFormed e.buckets (g.D.Disk.files c.args.disk.now).idx) (sym l.invariant.extent) whole in
+          here wells (ap (λ (t : Vec ℕ Global). length t.items) l.invariant.tail ∙ none) (l.invariant.cuts told whole none cut);
+      honest = λ told is. subst (λ (f : Files). IsHonest l.change f.idx → IsHonest c.drop_row.new.self f.idx) ((l.invariant.looks.untouched told).same) (c.in_default.ensures.honest told) (l.invariant.honest told is);
+      looks = reads_then _ _ _ _ _ _ g.met.D.Disk.follows_trans _ _ _ l.invariant.looks c.drop_row.ensures.looks;
+      faults = omega (arith, l.invariant.faults, c.drop_row.ensures.cause.later);
+    }
+
+pub returns-in-Err-clause-bad : goal.returns-in-Err-clause-bad
+returns-in-Err-clause-bad g c = λ told is.
+    let l = c.loop-i in
+    let here = subst (λ (f : Files). IsHonest l.change f.idx → IsBad l.change.extent.buckets f.idx c.in-Err.fault) ((l.invariant.looks.untouched told).same) (c.in-Err.ensures.bad told) (l.invariant.honest told is) in
+    subst (λ (e : Extent). IsBad e.buckets (g.D.Disk.files c.args.disk.now).idx c.in-Err.fault) l.invariant.extent here

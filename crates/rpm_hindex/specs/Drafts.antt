@@ -1,0 +1,42 @@
+-- An index that is being made in memory.
+use Rattle.std.specs.Prelude.{◌≡◌, ℕ, ◌+◌, ◌-◌, ◌/◌, ◌%◌, ◌<◌, ◌≤◌, List, length, slice_index}
+use Rattle.rpm_outside.specs.Files.{Units, units_of, unit_at}
+use Rattle.rpm_hindex.specs.Words.{word}
+use Rattle.rpm_hindex.specs.Rows.{Row, SameRows}
+use Rattle.rpm_hindex.specs.Sizes.{first_record, live_of}
+use Rattle.rpm_hindex.specs.Index.{Index, rows_of, records}
+use Rattle.rpm_hindex.specs.Whole.{IsWhole, IsWellFormed}
+
+-- the index of these bucket words, whose units begin with unit 1
+abbrev pub draft_index : List ℕ → List ℕ → Index
+draft_index heads bytes = record {
+  buckets = length heads;
+  used = 1 + length bytes / 16;
+  head = λ bucket. slice_index heads bucket;
+  unit = λ i. unit_at (units_of bytes) (i - 1);
+}
+
+-- it has these rows
+pub record IsDraft (rows : List Row) (heads bytes : List ℕ) : Type 0 where
+  pub whole_units : length bytes % 16 ≡ 0
+  pub front : first_record (length heads) ≤ 1 + length bytes / 16
+  pub whole : IsWhole (length rows) (live_of rows) (draft_index heads bytes)
+  pub same : SameRows rows (rows_of (draft_index heads bytes))
+
+-- the file has these units from unit 1 on
+abbrev pub Holds : Units → Units → Type 0
+Holds units file = (k : ℕ) → k < length units → unit_at file (1 + k) ≡ unit_at units k
+
+-- a file that is an index of these rows, which take no unit more than from scratch
+pub record IsMade (rows : List Row) (buckets : ℕ) (file : Units) : Type 0 where
+  pub whole : IsWellFormed buckets file
+  pub same : SameRows rows (records buckets file)
+
+-- these bytes are units 1 to the end of an index of these rows
+pub record IsImage (rows : List Row) (buckets : ℕ) (bytes : List ℕ) : Type 0 where
+  pub whole_units : length bytes % 16 ≡ 0
+  pub long : 1 + length bytes / 16 ≡ first_record buckets + live_of rows
+  pub used : word 0 (unit_at (units_of bytes) 0) ≡ first_record buckets + live_of rows
+  pub count : word 1 (unit_at (units_of bytes) 0) ≡ length rows
+  pub live : word 2 (unit_at (units_of bytes) 0) ≡ live_of rows
+  pub made : (file : Units) → Holds (units_of bytes) file → IsMade rows buckets file

@@ -1,0 +1,15 @@
+pub mod Words
+pub mod Rows
+pub mod Sizes
+pub mod Packed
+pub mod Making
+pub mod Index
+pub mod Whole
+pub mod Drafts
+pub mod Rewrites
+pub mod Plans
+pub mod Changes
+pub mod State
+pub mod Disks
+pub mod Records
+pub mod Answers

@@ -1,0 +1,73 @@
+-- What a change writes, and what it leaves.
+use Rattle.std.specs.Prelude.{◌≡◌, true, ℕ, ◌+◌, ◌-◌, ◌/◌, ◌%◌, ◌^◌, ◌<◌, ◌≤◌, List, [], ◌∷◌, length, take, if◌then◌else◌, ◌==◌, slice_index_or}
+use Rattle.rpm_outside.specs.Files.{Units, units_of, put, blank}
+use Rattle.rpm_hindex.specs.declared.planning.Patch.{Patch}
+use Rattle.rpm_hindex.specs.declared.planning.Patches.{Patches}
+use Rattle.rpm_hindex.specs.declared.planning.Work.{Work}
+use Rattle.rpm_hindex.specs.declared.planning.Work.TheVariants.{InPlace, Scratch}
+use Rattle.rpm_hindex.specs.Rows.{Row, times}
+use Rattle.rpm_hindex.specs.Index.{records}
+use Rattle.rpm_hindex.specs.Whole.{IsWellFormed}
+use Rattle.rpm_hindex.specs.State.{is_ordered}
+
+-- the file after these units were written, one after the other
+abbrev pub after_units : List Patch → Units → Units
+after_units [] file = file
+after_units (p ∷ ps) file = after_units ps (put p.unit (p.words ∷ []) file)
+
+-- units behind all others, or nothing
+abbrev pub after_tail : ℕ → List ℕ → Units → Units
+after_tail used tail file = if length tail == 0 then file else put used (units_of tail) file
+
+-- the file after a change was written
+abbrev pub after : Work → Units → Units
+after (InPlace p) file = put 1 (p.second ∷ []) (after_tail p.used p.tail.items (after_units p.units.items file))
+after (Scratch image) file = put 1 (units_of image.bytes.items) (put 0 (blank ∷ []) file)
+
+-- how many buckets the index has then
+abbrev pub buckets_after : Work → ℕ
+buckets_after (InPlace p) = p.buckets
+buckets_after (Scratch image) = image.buckets
+
+-- unit 1 then
+abbrev pub second_after : Work → List ℕ
+second_after (InPlace p) = p.second
+second_after (Scratch image) = take 16 image.bytes.items
+
+-- how many units it reaches
+abbrev pub units_after : Work → ℕ
+units_after (InPlace p) = p.used + length p.tail.items / 16
+units_after (Scratch image) = 1 + length image.bytes.items / 16
+
+-- the numbers that it leaves suit each file that is large enough
+abbrev pub LeavesOrder : Work → Type 0
+LeavesOrder work = (units : ℕ) → units_after work ≤ units → is_ordered (buckets_after work) (second_after work) units ≡ true
+
+abbrev pub patch_at : List Patch → ℕ → Patch
+patch_at ps k = slice_index_or ps k (record { unit = 0; words = [] })
+
+-- the units that a write in place reaches, in a file of so many
+pub record ArePatches (units : ℕ) (p : Patches) : Type 0 where
+  pub each : (k : ℕ) → k < length p.units.items → (1 ≤ (patch_at p.units.items k).unit) × ((patch_at p.units.items k).unit < p.used)
+  pub whole : length p.tail.items % 16 ≡ 0
+  pub from : 2 ≤ p.used
+  pub room : p.used + length p.tail.items / 16 ≤ 2 ^ 28
+  pub fits : p.used ≤ units
+
+-- a plan that can be written to such a file
+abbrev pub CanWrite : ℕ → Work → Type 0
+CanWrite units (InPlace p) = ArePatches units p
+CanWrite units (Scratch image) = (16 ≤ length image.bytes.items) × (length image.bytes.items % 16 ≡ 0) × (1 + length image.bytes.items / 16 ≤ 2 ^ 28)
+
+-- the rows without the drops and with the adds, each as often
+abbrev pub HasChanged : List Row → List Row → List Row → List Row → Type 0
+HasChanged drops adds old new = (row : Row) → times row new ≡ (times row old - times row drops) + times row adds
+
+-- a file that is an index with the change
+pub record IsChanged (drops adds old : List Row) (buckets : ℕ) (new : Units) : Type 0 where
+  pub whole : IsWellFormed buckets new
+  pub rows : HasChanged drops adds old (records buckets new)
+
+-- writing this makes the change of this file, which has so many buckets
+unfoldable pub IsPlanFor : List Row → List Row → ℕ → Units → Work → Type 0
+IsPlanFor drops adds buckets file work = IsChanged drops adds (records buckets file) (buckets_after work) (after work file)

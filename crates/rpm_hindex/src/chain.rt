@@ -1,0 +1,267 @@
+//! The chain of a bucket.
+
+ghost use Rattle.std.specs.Prelude.{◌≡◌, ℕ, ◌+◌, ◌-◌, ◌*◌, ◌/◌, ◌%◌, ◌^◌, ◌≤◌, ◌<◌, ◌==◌, IsTrue, true, length, map, List, Result, IfOk, IfErr, OnOk, Ok, Err};
+ghost use Rattle.std.specs.List.{sum_by};
+ghost use Rattle.rpm_outside.specs.declared.disk.File.{File};
+ghost use Rattle.rpm_outside.specs.Files.{Files, Units, unit_at};
+ghost use Rattle.rpm_outside.specs.Causes.{HasCauseAt};
+ghost use Rattle.rpm_hindex.specs.Words.{word};
+ghost use Rattle.rpm_hindex.specs.Rows.{hash_of};
+ghost use Rattle.rpm_hindex.specs.Sizes.{first_record};
+ghost use Rattle.rpm_hindex.specs.Index.{Index, index_in, chain, follow, is_link, is_sound, is_placed, next_at, length_at, units_at, row_at, bucket_unit, records};
+ghost use Rattle.rpm_hindex.specs.Whole.{IsWellFormed};
+ghost use Rattle.rpm_hindex.specs.State.{State, Keeps, is_in_order, buckets_of};
+ghost use Rattle.rpm_hindex.specs.Disks.{LooksAt, Reads};
+ghost use Rattle.rpm_hindex.specs.Records.{IsOpen, IsRecord};
+ghost use Rattle.rpm_hindex.specs.Answers.{AsOften, AreHits, FindIs, IsFaultOf, ChainCosts, AddsHit, has_key, IsRising, times_hit};
+
+use crate::faults::FindFault;
+use crate::hashing::bucket_of;
+use crate::hits::{Hit, Hits};
+use crate::index::Hindex;
+use crate::reading::{read_key, read_unit};
+use crate::sizes::record_units;
+use crate::words::word;
+use rpm_outside::{Disk, File};
+use std::alloc::Global;
+
+/// How many buckets an index has, and the first unit behind its records.
+#[derive(Clone, Copy)]
+pub struct Extent {
+    pub buckets: u32,
+    pub used: u32,
+}
+
+/// A record of a chain.
+#[derive(Drop)]
+pub struct Record {
+    pub next: u32,
+    pub kind: u8,
+    pub key: Vec<u8>,
+    pub number: u32,
+    pub place: u32,
+}
+
+/// Whether a word is 0, or names a unit that can be a record's.
+pub fn is_link(extent: Extent, at: u32) -> bool
+    requires { extent.buckets ≤ 2 ^ 28 }
+    ensures { (x : Index) → x.buckets ≡ extent.buckets → x.used ≡ extent.used → result ≡ is_link x at }
+{
+    at == 0 || 2 + extent.buckets / 4 <= at && at < extent.used
+}
+
+/// Whether a record with this first unit can be in a chain, its key aside.
+fn is_placed(extent: Extent, at: u32, head: &[u8]) -> bool
+    requires whole { length head.now ≡ 16 }
+    requires few { extent.buckets ≤ 2 ^ 28 }
+    ensures { (x : Index) → x.buckets ≡ extent.buckets → x.used ≡ extent.used → head.now ≡ x.unit at → result ≡ is_placed x at }
+{
+    let next = word(head, 0);
+    let units = record_units(word(head, 1) % 268_435_456);
+    is_link(extent, next) && next < at && at as u64 + units as u64 <= extent.used as u64
+}
+
+/// The word of a bucket.
+pub fn read_bucket<D: Disk>(disk: &mut D, extent: Extent, bucket: u32) -> Result<u32, FindFault>
+    requires few { extent.buckets ≤ 2 ^ 28 }
+    requires bucket { bucket < extent.buckets }
+    requires open { IsTrue D.tells → IsOpen extent (D.files disk.old).idx }
+    ensures word { IfOk result (λ at. IsTrue D.tells → (at ≡ (index_in extent.buckets (D.files disk.old).idx).head bucket) × (is_link (index_in extent.buckets (D.files disk.old).idx) at ≡ true)) }
+    ensures within { IfOk result (λ at. 0 < at → at < extent.used) }
+    ensures fault { IfErr result (λ e. IsTrue D.tells → IsFaultOf (chain (index_in extent.buckets (D.files disk.old).idx) bucket) e) }
+    ensures looks { LooksAt D.tells D.files D.left_since D.moment D.bytes_read D.follows 16 disk.old disk.new }
+    ensures cause { HasCauseAt (result ≡ Err FindFault.DiskFault) (D.faults disk.old) (D.faults disk.new) }
+{
+    let unit = 2 + bucket as u64 / 4;
+    let Ok(words) = read_unit(disk, unit) else {
+        return Err(FindFault::DiskFault);
+    };
+    let at = word(&words, bucket as usize % 4);
+    if !is_link(extent, at) {
+        return Err(FindFault::BadIndex { unit });
+    }
+    Ok(at)
+}
+
+/// The record at a unit that a link names.
+pub fn read_record<D: Disk>(
+    alloc: Global,
+    disk: &mut D,
+    extent: Extent,
+    bucket: u32,
+    at: u32,
+) -> Result<Record, FindFault>
+    requires few { extent.buckets ≤ 2 ^ 28 }
+    requires some { 0 < extent.buckets }
+    requires open { IsTrue D.tells → IsOpen extent (D.files disk.old).idx }
+    requires some_at { 0 < at }
+    requires within { at < extent.used }
+    ensures falls { IfOk result (λ r. r.next < at) }
+    ensures linked { IfOk result (λ r. r.next < extent.used) }
+    ensures kind { IfOk result (λ r. r.kind < 16) }
+    ensures short { IfOk result (λ r. length r.key.items < 2 ^ 28) }
+    ensures record { IfOk result (λ r. IsTrue D.tells → IsRecord (index_in extent.buckets (D.files disk.old).idx) bucket at r) }
+    ensures fault { IfErr result (λ e. IsTrue D.tells → IsFaultOf (follow (index_in extent.buckets (D.files disk.old).idx) bucket at at) e) }
+    ensures cost { IsTrue D.tells → is_sound (index_in extent.buckets (D.files disk.old).idx) bucket at ≡ true → D.bytes_read disk.new File.Idx ≤ D.bytes_read disk.old File.Idx + 16 * units_at (unit_at (D.files disk.old).idx) at }
+    ensures looks { Reads D.tells D.files D.left_since D.moment D.bytes_read D.follows disk.old disk.new }
+    ensures cause { HasCauseAt (result ≡ Err FindFault.DiskFault) (D.faults disk.old) (D.faults disk.new) }
+{
+    let Ok(head) = read_unit(disk, at as u64) else {
+        return Err(FindFault::DiskFault);
+    };
+    if !is_placed(extent, at, &head) {
+        return Err(FindFault::BadIndex { unit: at as u64 });
+    }
+    let length = word(&head, 1) % 268_435_456;
+    let kind = (word(&head, 1) / 268_435_456) as u8;
+    let key = match read_key(alloc, disk, at as u64 + 1, length) {
+        Ok(key) => key,
+        Err(fault) => return Err(fault),
+    };
+    if bucket_of(kind, &key, extent.buckets) != bucket {
+        return Err(FindFault::BadIndex { unit: at as u64 });
+    }
+    Ok(Record {
+        next: word(&head, 0),
+        kind,
+        key,
+        number: word(&head, 2),
+        place: word(&head, 3),
+    })
+}
+
+/// Whether a record has this kind and key.
+fn has_key(found: &Record, kind: u8, key: &[u8]) -> bool
+    ensures { result ≡ has_key kind key.now (record { kind = found.now.kind; key = found.now.key.items; number = found.now.number; place = found.now.place }) }
+{
+    kind == found.kind && key == found.key.as_slice()
+}
+
+/// Adds the hit of a record, where it has this kind and key.
+fn push_hit(hits: &mut Vec<Hit>, found: &Record, kind: u8, key: &[u8]) -> Result<(), FindFault>
+    ensures hits { OnOk result (AddsHit kind key.now (record { kind = found.now.kind; key = found.now.key.items; number = found.now.number; place = found.now.place }) hits.old.items hits.new.items) }
+    ensures memory { IfErr result (λ e. e ≡ FindFault.NoMemory) }
+{
+    if !has_key(found, kind, key) {
+        return Ok(());
+    }
+    let hit = Hit {
+        number: found.number,
+        place: found.place,
+    };
+    let Ok(()) = hits.push(hit) else {
+        return Err(FindFault::NoMemory);
+    };
+    Ok(())
+}
+
+/// The hits of a key in the chain from this unit on, in the order of the chain.
+fn collect<D: Disk>(
+    alloc: Global,
+    disk: &mut D,
+    extent: Extent,
+    from: u32,
+    kind: u8,
+    key: &[u8],
+) -> Result<Vec<Hit>, FindFault>
+    requires few { extent.buckets ≤ 2 ^ 28 }
+    requires some { 0 < extent.buckets }
+    requires open { IsTrue D.tells → IsOpen extent (D.files disk.old).idx }
+    requires within { 0 < from → from < extent.used }
+    ensures told { IsTrue D.tells → FindIs (λ places hits. AsOften kind key.now (map (row_at (unit_at (D.files disk.old).idx)) places) hits.items) (follow (index_in extent.buckets (D.files disk.old).idx) (hash_of kind key.now % extent.buckets) from from) result }
+    ensures cost { IsTrue D.tells → ChainCosts (follow (index_in extent.buckets (D.files disk.old).idx) (hash_of kind key.now % extent.buckets) from from) (units_at (unit_at (D.files disk.old).idx)) (D.bytes_read disk.old File.Idx) (D.bytes_read disk.new File.Idx) }
+    ensures looks { Reads D.tells D.files D.left_since D.moment D.bytes_read D.follows disk.old disk.new }
+    ensures cause { HasCauseAt (result ≡ Err FindFault.DiskFault) (D.faults disk.old) (D.faults disk.new) }
+{
+    let bucket = bucket_of(kind, key, extent.buckets);
+    let mut hits = Vec::new(alloc);
+    let mut at = from;
+    while at != 0 {
+        let record = match read_record(alloc, disk, extent, bucket, at) {
+            Ok(record) => record,
+            Err(fault) => return Err(fault),
+        };
+        if let Err(fault) = push_hit(&mut hits, &record, kind, key) {
+            return Err(fault);
+        }
+        at = record.next;
+    }
+    Ok(hits)
+}
+
+/// The hits of a key, in the order of its bucket's chain.
+fn gather<D: Disk>(
+    alloc: Global,
+    disk: &mut D,
+    extent: Extent,
+    kind: u8,
+    key: &[u8],
+) -> Result<Vec<Hit>, FindFault>
+    requires few { extent.buckets ≤ 2 ^ 28 }
+    requires some { 0 < extent.buckets }
+    requires open { IsTrue D.tells → IsOpen extent (D.files disk.old).idx }
+    ensures told { IsTrue D.tells → FindIs (λ places hits. AsOften kind key.now (map (row_at (unit_at (D.files disk.old).idx)) places) hits.items) (chain (index_in extent.buckets (D.files disk.old).idx) (hash_of kind key.now % extent.buckets)) result }
+    ensures cost { IsTrue D.tells → ChainCosts (chain (index_in extent.buckets (D.files disk.old).idx) (hash_of kind key.now % extent.buckets)) (units_at (unit_at (D.files disk.old).idx)) (D.bytes_read disk.old File.Idx + 16) (D.bytes_read disk.new File.Idx) }
+    ensures looks { Reads D.tells D.files D.left_since D.moment D.bytes_read D.follows disk.old disk.new }
+    ensures cause { HasCauseAt (result ≡ Err FindFault.DiskFault) (D.faults disk.old) (D.faults disk.new) }
+{
+    let bucket = bucket_of(kind, key, extent.buckets);
+    match read_bucket(disk, extent, bucket) {
+        Ok(at) => collect(alloc, disk, extent, at, kind, key),
+        Err(fault) => Err(fault),
+    }
+}
+
+/// The same hits, by rising number and place.
+fn sorted(hits: Vec<Hit>) -> Hits
+    ensures rising { IsRising result }
+    ensures same { (hit : _) → times_hit hit result ≡ times_hit hit hits.items }
+{
+    let mut hits = hits;
+    hits.sort_unstable();
+    Hits { hits }
+}
+
+impl Hindex {
+    /// How many buckets unit 0 tells of, and the first unit behind the records.
+    pub fn extent(&self) -> Extent
+        ensures { result ≡ record { buckets = word 3 self.now.first; used = word 0 self.now.second } }
+    {
+        Extent {
+            buckets: word(&self.first, 3),
+            used: word(&self.second, 0),
+        }
+    }
+
+    /// The packages that have a key, by rising number and place.
+    ///
+    /// Reads the unit of the bucket's word and the units of that bucket's records, each once. Takes memory for one key at a time, and
+    /// for the hits.
+    ///
+    /// # Errors
+    ///
+    /// - `BadIndex` exactly where the chain of the key's bucket isn't well formed: the unit of its first fault.
+    /// - `DiskFault` only where the disk's count of faults rose.
+    /// - `NoMemory` where a key or the hits find no memory.
+    pub fn find<D: Disk>(
+        &self,
+        alloc: Global,
+        disk: &mut D,
+        kind: u8,
+        key: &[u8],
+    ) -> Result<Hits, FindFault>
+        requires order { is_in_order self.now ≡ true }
+        requires keeps { IsTrue D.tells → Keeps (D.files disk.old).idx self.now }
+        ensures kept { IsTrue D.tells → Keeps (D.files disk.new).idx self.now }
+        ensures told { IsTrue D.tells → FindIs (λ places hits. AreHits kind key.now (map (row_at (unit_at (D.files disk.old).idx)) places) hits) (chain (index_in (buckets_of self.now.first) (D.files disk.old).idx) (hash_of kind key.now % buckets_of self.now.first)) result }
+        ensures rows { IfOk result (λ hits. IsTrue D.tells → IsWellFormed (buckets_of self.now.first) (D.files disk.old).idx → AreHits kind key.now (records (buckets_of self.now.first) (D.files disk.old).idx) hits) }
+        ensures cost { IsTrue D.tells → ChainCosts (chain (index_in (buckets_of self.now.first) (D.files disk.old).idx) (hash_of kind key.now % buckets_of self.now.first)) (units_at (unit_at (D.files disk.old).idx)) (D.bytes_read disk.old File.Idx + 16) (D.bytes_read disk.new File.Idx) }
+        ensures looks { Reads D.tells D.files D.left_since D.moment D.bytes_read D.follows disk.old disk.new }
+        ensures cause { HasCauseAt (result ≡ Err FindFault.DiskFault) (D.faults disk.old) (D.faults disk.new) }
+    {
+        match gather(alloc, disk, self.extent(), kind, key) {
+            Ok(hits) => Ok(sorted(hits)),
+            Err(fault) => Err(fault),
+        }
+    }
+}

@@ -1,0 +1,244 @@
+//! A change that is being worked out.
+
+ghost use Rattle.std.specs.Prelude.{◌≡◌, ℕ, ◌+◌, ◌*◌, ◌/◌, ◌%◌, ◌^◌, ◌≤◌, ◌<◌, IsTrue, true, length, [], ◌∷◌, None, List, Result, OnOk, IfOk, IfErr, Err};
+ghost use Rattle.std.specs.Ordering.{nat_cmp};
+ghost use Rattle.std.specs.BTreeMap.{get};
+ghost use Rattle.rpm_outside.specs.Causes.{HasCauseAt};
+ghost use Rattle.rpm_hindex.specs.Disks.{Reads};
+ghost use Rattle.rpm_hindex.specs.Records.{IsOpen};
+ghost use Rattle.rpm_hindex.specs.Rows.{same_row};
+ghost use Rattle.rpm_hindex.specs.Packed.{row_nth};
+ghost use Rattle.rpm_hindex.specs.Sizes.{record_units, first_record};
+ghost use Rattle.rpm_hindex.specs.Changes.{CanGo, AddsRows, IsCut, IsHonest, IsBad, IsChainFault, changing, IsOther, Puts, row_of, NoneBefore, IsOfRow, HasLess, kept_of, is_kept};
+ghost use Rattle.rpm_hindex.specs.Index.{index_in};
+ghost use Rattle.rpm_hindex.specs.Answers.{IsFaultOf};
+ghost use Rattle.rpm_hindex.specs.Whole.{IsWellFormed, IsWhole};
+
+use crate::chain::{Extent, Record, is_link};
+use crate::faults::{FindFault, PrepareFault};
+use crate::hashing::bucket_of;
+use crate::links::{Link, read_links};
+use crate::making::push_record;
+use crate::patching::{put_unit, unlink, with_word, words_of};
+use crate::rows::Rows;
+use crate::sizes::record_units;
+use crate::words::word;
+use rpm_outside::Disk;
+use std::alloc::Global;
+use std::collections::BTreeMap;
+
+/// The units that change, the records behind all others, the places of the records that were dropped, and the numbers of unit 1.
+#[derive(Drop)]
+pub struct Change {
+    pub extent: Extent,
+    pub units: BTreeMap<u32, [u8; 16]>,
+    pub dropped: BTreeMap<u32, u32>,
+    pub tail: Vec<u8>,
+    pub records: u32,
+    pub live: u32,
+}
+
+/// A row that is to be dropped or added.
+#[derive(Clone, Copy)]
+pub struct RowRef<'a> {
+    pub kind: u8,
+    pub key: &'a [u8],
+    pub number: u32,
+    pub place: u32,
+}
+
+/// Whether a record is of this row.
+fn is_row(found: &Record, row: RowRef<'_>) -> bool
+    ensures { result ≡ same_row (record { kind = row.entry.kind; key = row.entry.key.now; number = row.entry.number; place = row.entry.place }) (row_of found.now) }
+{
+    row.kind == found.kind
+        && (row.key == found.key.as_slice()
+            && (row.number == found.number && row.place == found.place))
+}
+
+/// The first link of this row, or how many links there are.
+fn position_of(links: &[Link], row: RowRef<'_>) -> usize
+    ensures bound { result ≤ length links.now }
+    ensures before { NoneBefore (record { kind = row.entry.kind; key = row.entry.key.now; number = row.entry.number; place = row.entry.place }) links.now result }
+    ensures found { IsOfRow (record { kind = row.entry.kind; key = row.entry.key.now; number = row.entry.number; place = row.entry.place }) links.now result }
+{
+    let mut at = 0;
+    while at < links.len() && !is_row(&links[at].record, row) {
+        at += 1;
+    }
+    at
+}
+
+/// The fault of a change that a fault of reading is.
+pub fn prepare_fault(fault: FindFault) -> PrepareFault
+    ensures other { IsOther result }
+    ensures fault { (said : Result (List ℕ) ℕ) → IsFaultOf said fault → IsChainFault said result }
+    ensures same { (result ≡ PrepareFault.DiskFault → fault ≡ FindFault.DiskFault) × (fault ≡ FindFault.DiskFault → result ≡ PrepareFault.DiskFault) }
+{
+    match fault {
+        FindFault::BadIndex { unit } => PrepareFault::BadIndex { unit },
+        FindFault::DiskFault => PrepareFault::DiskFault,
+        FindFault::NoMemory => PrepareFault::NoMemory,
+    }
+}
+
+/// Puts a place among those that are dropped.
+fn put_dropped(dropped: &mut BTreeMap<u32, u32>, at: u32) -> Result<(), PrepareFault>
+    ensures put { OnOk result (Puts (λ q. get nat_cmp dropped.old q) (λ q. get nat_cmp dropped.new q) at at) }
+    ensures memory { IfErr result (λ e. e ≡ PrepareFault.NoMemory) }
+{
+    let Ok(_) = dropped.insert(at, at) else {
+        return Err(PrepareFault::NoMemory);
+    };
+    Ok(())
+}
+
+impl Change {
+    /// Nothing changes yet.
+    pub fn new(alloc: Global, extent: Extent, records: u32, live: u32) -> Change
+        requires fours { extent.buckets % 4 ≡ 0 }
+        requires some { 0 < extent.buckets }
+        requires few { extent.buckets ≤ 2 ^ 27 }
+        requires front { first_record extent.buckets ≤ extent.used }
+        requires room { extent.used ≤ 2 ^ 28 }
+        requires live { first_record extent.buckets + live ≤ extent.used }
+        requires records { records ≤ 2 * extent.buckets }
+        ensures go { CanGo result }
+        ensures extent { result.extent ≡ extent }
+        ensures tail { result.tail.items ≡ [] }
+        ensures units { (q : ℕ) → get nat_cmp result.units q ≡ None }
+        ensures records { result.records ≡ records }
+        ensures live { result.live ≡ live }
+        ensures dropped { (p : ℕ) → is_kept (λ q. get nat_cmp result.dropped q) p ≡ true }
+    {
+        Change {
+            extent,
+            units: BTreeMap::new(alloc),
+            dropped: BTreeMap::new(alloc),
+            tail: Vec::new(alloc),
+            records,
+            live,
+        }
+    }
+
+    /// Drops a record of this row, or nothing where there is none.
+    pub fn drop_row<D: Disk>(
+        &mut self,
+        alloc: Global,
+        disk: &mut D,
+        row: RowRef<'_>,
+    ) -> Result<(), PrepareFault>
+        requires go { CanGo self.old }
+        requires short { length row.key.now < 2 ^ 28 }
+        requires open { IsTrue D.tells → IsOpen self.old.extent (D.files disk.old).idx }
+        ensures go { OnOk result (CanGo self.new) }
+        ensures other { IfErr result (λ e. IsOther e) }
+        ensures extent { OnOk result (self.new.extent ≡ self.old.extent) }
+        ensures tail { OnOk result (self.new.tail ≡ self.old.tail) }
+        ensures less { OnOk result (IsTrue D.tells → IsWellFormed self.old.extent.buckets (D.files disk.old).idx → HasLess ((record { kind = row.entry.kind; key = row.entry.key.now; number = row.entry.number; place = row.entry.place }) ∷ []) (kept_of (index_in self.old.extent.buckets (D.files disk.old).idx) (is_kept (λ p. get nat_cmp self.old.dropped p))) (kept_of (index_in self.old.extent.buckets (D.files disk.old).idx) (is_kept (λ p. get nat_cmp self.new.dropped p)))) }
+        ensures cuts { OnOk result (IsTrue D.tells → IsWellFormed self.old.extent.buckets (D.files disk.old).idx → length self.old.tail.items ≡ 0 → IsCut self.old (D.files disk.old).idx → IsCut self.new (D.files disk.old).idx) }
+        ensures honest { OnOk result (IsTrue D.tells → IsHonest self.old (D.files disk.old).idx → IsHonest self.new (D.files disk.old).idx) }
+        ensures bad { IfErr result (λ e. IsTrue D.tells → IsHonest self.old (D.files disk.old).idx → IsBad self.old.extent.buckets (D.files disk.old).idx e) }
+        ensures looks { Reads D.tells D.files D.left_since D.moment D.bytes_read D.follows disk.old disk.new }
+        ensures cause { HasCauseAt (result ≡ Err PrepareFault.DiskFault) (D.faults disk.old) (D.faults disk.new) }
+    {
+        let bucket = bucket_of(row.kind, row.key, self.extent.buckets);
+        let links = match read_links(alloc, disk, self.extent, bucket, &self.dropped) {
+            Ok(links) => links,
+            Err(fault) => return Err(prepare_fault(fault)),
+        };
+        let at = position_of(&links, row);
+        if at == links.len() {
+            return Ok(());
+        }
+        let units = record_units(row.key.len() as u32);
+        if self.records == 0 || self.live < units {
+            return Err(PrepareFault::BadIndex { unit: 1 });
+        }
+        if let Err(fault) = unlink(&mut self.units, disk, self.extent, bucket, &links, at) {
+            return Err(fault);
+        }
+        self.records -= 1;
+        self.live -= units;
+        put_dropped(&mut self.dropped, links[at].at)
+    }
+
+    /// The first unit behind all records, those that were added too.
+    pub fn used(&self) -> u32
+        requires go { CanGo self.now }
+        ensures { result ≡ self.now.extent.used + length self.now.tail.items / 16 }
+    {
+        self.extent.used + (self.tail.len() / 16) as u32
+    }
+
+    /// Adds a record of this row.
+    pub fn add_row<D: Disk>(&mut self, disk: &mut D, row: RowRef<'_>) -> Result<(), PrepareFault>
+        requires go { CanGo self.old }
+        requires kind { row.kind < 16 }
+        requires short { length row.key.now < 2 ^ 28 }
+        requires room { self.old.extent.used + length self.old.tail.items / 16 + record_units (length row.key.now) ≤ 2 ^ 28 }
+        requires count { self.old.records < 2 * self.old.extent.buckets }
+        requires open { IsTrue D.tells → IsOpen self.old.extent (D.files disk.old).idx }
+        ensures go { OnOk result (CanGo self.new) }
+        ensures other { IfErr result (λ e. IsOther e) }
+        ensures extent { OnOk result (self.new.extent ≡ self.old.extent) }
+        ensures tail { OnOk result (length self.new.tail.items / 16 ≡ length self.old.tail.items / 16 + record_units (length row.entry.key.now)) }
+        ensures records { OnOk result (self.new.records ≡ self.old.records + 1) }
+        ensures live { OnOk result (self.new.live ≡ self.old.live + record_units (length row.entry.key.now)) }
+        ensures adds { OnOk result (IsTrue D.tells → IsWhole self.old.records self.old.live (changing self.old (D.files disk.old).idx) → AddsRows self.old self.new (D.files disk.old).idx ((record { kind = row.entry.kind; key = row.entry.key.now; number = row.entry.number; place = row.entry.place }) ∷ [])) }
+        ensures honest { OnOk result (IsTrue D.tells → IsHonest self.old (D.files disk.old).idx → IsHonest self.new (D.files disk.old).idx) }
+        ensures bad { IfErr result (λ e. IsTrue D.tells → IsHonest self.old (D.files disk.old).idx → IsBad self.old.extent.buckets (D.files disk.old).idx e) }
+        ensures looks { Reads D.tells D.files D.left_since D.moment D.bytes_read D.follows disk.old disk.new }
+        ensures cause { HasCauseAt (result ≡ Err PrepareFault.DiskFault) (D.faults disk.old) (D.faults disk.new) }
+    {
+        let bucket = bucket_of(row.kind, row.key, self.extent.buckets);
+        let words = match words_of(&self.units, disk, bucket) {
+            Ok(words) => words,
+            Err(fault) => return Err(fault),
+        };
+        let used = self.used();
+        let next = word(&words, (bucket % 4) as usize);
+        let extent = Extent {
+            buckets: self.extent.buckets,
+            used,
+        };
+        if !is_link(extent, next) {
+            return Err(PrepareFault::BadIndex {
+                unit: 2 + bucket as u64 / 4,
+            });
+        }
+        let Ok(()) = push_record(
+            &mut self.tail,
+            next,
+            row.kind,
+            row.key,
+            row.number,
+            row.place,
+        ) else {
+            return Err(PrepareFault::NoMemory);
+        };
+        self.records += 1;
+        self.live += record_units(row.key.len() as u32);
+        put_unit(
+            &mut self.units,
+            2 + bucket / 4,
+            with_word(&words, bucket % 4, used),
+        )
+    }
+}
+
+/// Row i of these.
+pub fn row_ref(rows: &Rows, i: usize) -> RowRef<'_>
+    requires { i < length rows.now }
+    ensures row { (record { kind = result.kind; key = result.key.now; number = result.number; place = result.place }) ≡ row_nth rows.now i }
+    ensures kind { result.kind < 16 }
+    ensures short { length result.key.now < 2 ^ 28 }
+{
+    let head = rows.head(i);
+    RowRef {
+        kind: head.kind,
+        key: rows.key(i),
+        number: head.number,
+        place: head.place,
+    }
+}

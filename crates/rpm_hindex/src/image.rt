@@ -1,0 +1,148 @@
+//! An index made from scratch in memory.
+
+ghost use Rattle.std.specs.Prelude.{◌≡◌, ℕ, ◌+◌, ◌*◌, ◌/◌, ◌%◌, ◌^◌, ◌≤◌, ◌<◌, ◌++◌, ◌∷◌, [], List, length, drop, take, true, OnOk, IfOk};
+ghost use Rattle.std.specs.List.{flat_map};
+ghost use Rattle.rpm_hindex.specs.Words.{bytes_of_word, unit_of_words};
+ghost use Rattle.rpm_hindex.specs.Rows.{Row};
+ghost use Rattle.rpm_hindex.specs.Sizes.{record_units, first_record, live_of, is_bucket_count};
+ghost use Rattle.rpm_hindex.specs.Drafts.{IsDraft, IsImage};
+
+use crate::hashing::bucket_of;
+use crate::making::push_record;
+use crate::rows::Rows;
+use crate::words::{push_word, unit_of_words};
+use std::alloc::{AllocError, Global};
+
+/// The words of the buckets, and the units from unit 1 on, of which those before the records are still zeros.
+#[derive(Drop)]
+pub struct Draft {
+    pub heads: Vec<u32>,
+    pub bytes: Vec<u8>,
+}
+
+/// The units of a new index, from unit 1 on.
+#[derive(Drop)]
+pub struct Image {
+    pub buckets: u32,
+    pub bytes: Vec<u8>,
+}
+
+impl Draft {
+    /// No records yet.
+    fn new(alloc: Global, buckets: u32) -> Result<Draft, AllocError>
+        requires { is_bucket_count buckets ≡ true }
+        ensures heads { IfOk result (λ draft. length draft.heads.items ≡ buckets) }
+        ensures long { IfOk result (λ draft. length draft.bytes.items ≡ 16 * (1 + buckets / 4)) }
+        ensures rows { IfOk result (λ draft. IsDraft [] draft.heads.items draft.bytes.items) }
+    {
+        Ok(Draft {
+            heads: vec![in alloc; 0u32; buckets as usize]?,
+            bytes: vec![in alloc; 0u8; 16 + 4 * buckets as usize]?,
+        })
+    }
+}
+
+/// Unit 1 of an index of these rows, made from scratch.
+fn counts_of(buckets: u32, rows: &Rows) -> [u8; 16]
+    requires { first_record buckets + live_of rows.now ≤ 2 ^ 28 }
+    ensures { result ≡ unit_of_words (first_record buckets + live_of rows.now) (length rows.now) (live_of rows.now) 0 }
+{
+    let live = rows.live() as u32;
+    unit_of_words(2 + buckets / 4 + live, rows.len() as u32, live, 0)
+}
+
+/// Adds a record in front of its bucket's chain.
+fn add_record(
+    draft: &mut Draft,
+    kind: u8,
+    key: &[u8],
+    number: u32,
+    place: u32,
+) -> Result<(), AllocError>
+    requires some { 0 < length draft.old.heads.items }
+    requires few { length draft.old.heads.items ≤ 2 ^ 28 }
+    requires whole { length draft.old.bytes.items % 16 ≡ 0 }
+    requires room { 1 + length draft.old.bytes.items / 16 + record_units (length key.now) ≤ 2 ^ 28 }
+    requires kind { kind < 16 }
+    requires key { length key.now < 2 ^ 28 }
+    ensures heads { OnOk result (length draft.new.heads.items ≡ length draft.old.heads.items) }
+    ensures long { OnOk result (length draft.new.bytes.items ≡ length draft.old.bytes.items + 16 * record_units (length key.now)) }
+    ensures rows { OnOk result ((rows : List Row) → IsDraft rows draft.old.heads.items draft.old.bytes.items → IsDraft (rows ++ record { kind = kind; key = key.now; number = number; place = place } ∷ []) draft.new.heads.items draft.new.bytes.items) }
+{
+    let at = 1 + (draft.bytes.len() / 16) as u32;
+    let bucket = bucket_of(kind, key, draft.heads.len() as u32) as usize;
+    push_record(
+        &mut draft.bytes,
+        draft.heads[bucket],
+        kind,
+        key,
+        number,
+        place,
+    )?;
+    draft.heads[bucket] = at;
+    Ok(())
+}
+
+/// Adds a record for each row.
+fn add_records(draft: &mut Draft, rows: &Rows) -> Result<(), AllocError>
+    requires some { 0 < length draft.old.heads.items }
+    requires few { length draft.old.heads.items ≤ 2 ^ 28 }
+    requires whole { length draft.old.bytes.items % 16 ≡ 0 }
+    requires room { 1 + length draft.old.bytes.items / 16 + live_of rows.now ≤ 2 ^ 28 }
+    ensures heads { OnOk result (length draft.new.heads.items ≡ length draft.old.heads.items) }
+    ensures long { OnOk result (length draft.new.bytes.items ≡ length draft.old.bytes.items + 16 * live_of rows.now) }
+    ensures rows { OnOk result (IsDraft [] draft.old.heads.items draft.old.bytes.items → IsDraft rows.now draft.new.heads.items draft.new.bytes.items) }
+{
+    for i in 0..rows.len() {
+        let head = rows.head(i);
+        add_record(draft, head.kind, rows.key(i), head.number, head.place)?;
+    }
+    Ok(())
+}
+
+/// Unit 1, and the words of the buckets.
+fn front_of(alloc: Global, second: &[u8], heads: &[u32]) -> Result<Vec<u8>, AllocError>
+    ensures { IfOk result (λ v. v.items ≡ second.now ++ flat_map bytes_of_word heads.now) }
+{
+    let mut front = Vec::new(alloc);
+    front.extend_from_slice(second)?;
+    for at in heads {
+        push_word(&mut front, *at)?;
+    }
+    Ok(front)
+}
+
+/// Puts these bytes in front of others.
+fn put_front(bytes: &mut [u8], front: &[u8])
+    requires { length front.now ≤ length bytes.old }
+    ensures { bytes.new ≡ front.now ++ drop (length front.now) bytes.old }
+{
+    bytes[..front.len()].copy_from_slice(front);
+}
+
+/// The bytes with these in front of the others.
+fn with_front(bytes: Vec<u8>, front: &[u8]) -> Vec<u8>
+    requires { length front.now ≤ length bytes.items }
+    ensures { result.items ≡ front.now ++ drop (length front.now) bytes.items }
+{
+    let mut bytes = bytes;
+    put_front(&mut bytes, front);
+    bytes
+}
+
+impl Image {
+    /// The index of these rows, with so many buckets. Takes 4 bytes of memory a bucket twice, and the records once.
+    pub fn of_rows(alloc: Global, rows: &Rows, buckets: u32) -> Result<Image, AllocError>
+        requires count { is_bucket_count buckets ≡ true }
+        requires room { first_record buckets + live_of rows.now ≤ 2 ^ 28 }
+        ensures buckets { IfOk result (λ image. image.buckets ≡ buckets) }
+        ensures made { IfOk result (λ image. IsImage rows.now buckets image.bytes.items) }
+    {
+        let mut draft = Draft::new(alloc, buckets)?;
+        add_records(&mut draft, rows)?;
+        let second = counts_of(buckets, rows);
+        let front = front_of(alloc, &second, &draft.heads)?;
+        let bytes = with_front(draft.bytes, &front);
+        Ok(Image { buckets, bytes })
+    }
+}

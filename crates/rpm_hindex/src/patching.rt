@@ -1,0 +1,163 @@
+//! Units that a change writes anew.
+
+ghost use Rattle.std.specs.Prelude.{◌≡◌, ℕ, ◌+◌, ◌*◌, ◌/◌, ◌%◌, ◌^◌, ◌≤◌, ◌<◌, IsTrue, true, List, length, drop, if◌then◌else◌, ◌==◌, OnOk, IfOk, IfErr, Err};
+ghost use Rattle.std.specs.Ordering.{nat_cmp};
+ghost use Rattle.std.specs.BTreeMap.{get};
+ghost use Rattle.rpm_outside.specs.Files.{Units};
+ghost use Rattle.rpm_outside.specs.Causes.{HasCauseAt};
+ghost use Rattle.rpm_hindex.specs.Disks.{LooksAt};
+ghost use Rattle.rpm_hindex.specs.Words.{word};
+ghost use Rattle.rpm_hindex.specs.Index.{bucket_unit};
+ghost use Rattle.rpm_hindex.specs.Changes.{Puts, PutsOne, HasWord, SetsBucket, SetsNext, CanRelink, unit_after, PutsWithin, Unlinks, IsOther, IsWithout, first_at};
+
+use crate::chain::Extent;
+use crate::faults::PrepareFault;
+use crate::links::Link;
+use crate::reading::read_unit;
+use crate::words::{unit_of_words, word};
+use rpm_outside::Disk;
+use std::collections::BTreeMap;
+
+/// Number j of a unit, or another one, where j is k.
+fn number_or(words: &[u8], j: u32, k: u32, n: u32) -> u32
+    requires { 4 * j + 4 ≤ length words.now }
+    ensures { result ≡ (if j == k then n else word j words.now) }
+{
+    if j == k { n } else { word(words, j as usize) }
+}
+
+/// The unit with another number in place of number k.
+pub fn with_word(words: &[u8], k: u32, n: u32) -> [u8; 16]
+    requires whole { length words.now ≡ 16 }
+    requires four { k < 4 }
+    ensures { HasWord words.now result k n }
+{
+    unit_of_words(
+        number_or(words, 0, k, n),
+        number_or(words, 1, k, n),
+        number_or(words, 2, k, n),
+        number_or(words, 3, k, n),
+    )
+}
+
+/// Puts a unit among those that change.
+pub fn put_unit(
+    units: &mut BTreeMap<u32, [u8; 16]>,
+    at: u32,
+    unit: [u8; 16],
+) -> Result<(), PrepareFault>
+    ensures put { OnOk result (Puts (λ q. get nat_cmp units.old q) (λ q. get nat_cmp units.new q) at unit) }
+    ensures memory { IfErr result (λ e. e ≡ PrepareFault.NoMemory) }
+{
+    let Ok(_) = units.insert(at, unit) else {
+        return Err(PrepareFault::NoMemory);
+    };
+    Ok(())
+}
+
+/// The unit of a bucket's word, as it is changed so far.
+pub fn words_of<D: Disk>(
+    units: &BTreeMap<u32, [u8; 16]>,
+    disk: &mut D,
+    bucket: u32,
+) -> Result<[u8; 16], PrepareFault>
+    requires { IsTrue D.tells → bucket_unit bucket < length (D.files disk.old).idx }
+    ensures words { IfOk result (λ w. IsTrue D.tells → w ≡ unit_after (λ q. get nat_cmp units.now q) (D.files disk.old).idx (bucket_unit bucket)) }
+    ensures fault { IfErr result (λ e. e ≡ PrepareFault.DiskFault) }
+    ensures looks { LooksAt D.tells D.files D.left_since D.moment D.bytes_read D.follows 16 disk.old disk.new }
+    ensures cause { HasCauseAt (result ≡ Err PrepareFault.DiskFault) (D.faults disk.old) (D.faults disk.new) }
+{
+    let unit = 2 + bucket / 4;
+    if let Some(words) = units.get(&unit) {
+        return Ok(*words);
+    }
+    let Ok(words) = read_unit(disk, unit as u64) else {
+        return Err(PrepareFault::DiskFault);
+    };
+    Ok(words)
+}
+
+/// Lets a bucket's word name this unit.
+fn set_bucket<D: Disk>(
+    units: &mut BTreeMap<u32, [u8; 16]>,
+    disk: &mut D,
+    bucket: u32,
+    at: u32,
+) -> Result<(), PrepareFault>
+    requires { IsTrue D.tells → bucket_unit bucket < length (D.files disk.old).idx }
+    ensures puts { OnOk result (PutsOne (λ q. get nat_cmp units.old q) (λ q. get nat_cmp units.new q) (bucket_unit bucket)) }
+    ensures other { IfErr result (λ e. IsOther e) }
+    ensures sets { OnOk result (IsTrue D.tells → SetsBucket (D.files disk.old).idx (λ q. get nat_cmp units.old q) (λ q. get nat_cmp units.new q) bucket at) }
+    ensures outside { IfErr result (λ e. IsWithout e) }
+    ensures looks { LooksAt D.tells D.files D.left_since D.moment D.bytes_read D.follows 16 disk.old disk.new }
+    ensures cause { HasCauseAt (result ≡ Err PrepareFault.DiskFault) (D.faults disk.old) (D.faults disk.new) }
+{
+    let words = match words_of(units, disk, bucket) {
+        Ok(words) => words,
+        Err(fault) => return Err(fault),
+    };
+    put_unit(units, 2 + bucket / 4, with_word(&words, bucket % 4, at))
+}
+
+/// A unit of four numbers.
+fn unit_of_four(a: u32, b: u32, c: u32, d: u32) -> [u8; 16]
+    ensures zero { word 0 result ≡ a }
+    ensures one { word 1 result ≡ b }
+    ensures two { word 2 result ≡ c }
+    ensures three { word 3 result ≡ d }
+{
+    unit_of_words(a, b, c, d)
+}
+
+/// Lets a record name this unit as its next.
+fn set_next(units: &mut BTreeMap<u32, [u8; 16]>, link: &Link, next: u32) -> Result<(), PrepareFault>
+    requires kind { link.now.record.kind < 16 }
+    requires short { length link.now.record.key.items < 2 ^ 28 }
+    ensures sets { OnOk result (SetsNext (λ q. get nat_cmp units.old q) (λ q. get nat_cmp units.new q) link.now next) }
+    ensures memory { IfErr result (λ e. e ≡ PrepareFault.NoMemory) }
+{
+    let record = &link.record;
+    let size = record.kind as u32 * 268_435_456 + record.key.len() as u32;
+    let unit = unit_of_four(next, size, record.number, record.place);
+    put_unit(units, link.at, unit)
+}
+
+/// The first unit of the link behind this one, or 0.
+fn place_behind(links: &[Link], at: usize) -> u32
+    requires { at < length links.now }
+    ensures { result ≡ first_at (drop (at + 1) links.now) }
+{
+    if at + 1 < links.len() {
+        links[at + 1].at
+    } else {
+        0
+    }
+}
+
+/// Takes the record at a place of a chain out of it: the record before it, or the bucket's word, names the one behind it.
+pub fn unlink<D: Disk>(
+    units: &mut BTreeMap<u32, [u8; 16]>,
+    disk: &mut D,
+    extent: Extent,
+    bucket: u32,
+    links: &[Link],
+    at: usize,
+) -> Result<(), PrepareFault>
+    requires at { at < length links.now }
+    requires relink { CanRelink extent.used links.now }
+    requires behind { bucket_unit bucket < extent.used }
+    requires within { IsTrue D.tells → bucket_unit bucket < length (D.files disk.old).idx }
+    ensures puts { OnOk result (PutsWithin extent.used (λ q. get nat_cmp units.old q) (λ q. get nat_cmp units.new q)) }
+    ensures other { IfErr result (λ e. IsOther e) }
+    ensures sets { OnOk result (IsTrue D.tells → Unlinks (D.files disk.old).idx (λ q. get nat_cmp units.old q) (λ q. get nat_cmp units.new q) bucket links.now at) }
+    ensures outside { IfErr result (λ e. IsWithout e) }
+    ensures looks { LooksAt D.tells D.files D.left_since D.moment D.bytes_read D.follows 16 disk.old disk.new }
+    ensures cause { HasCauseAt (result ≡ Err PrepareFault.DiskFault) (D.faults disk.old) (D.faults disk.new) }
+{
+    let next = place_behind(links, at);
+    if at == 0 {
+        set_bucket(units, disk, bucket, next)
+    } else {
+        set_next(units, &links[at - 1], next)
+    }
+}

@@ -1,0 +1,86 @@
+//! Working out a change of the index.
+
+ghost use Rattle.std.specs.Prelude.{◌≡◌, ℕ, ◌+◌, ◌*◌, ◌/◌, ◌%◌, ◌^◌, ◌≤◌, ◌<◌, IsTrue, true, length, map, ◌++◌, OnOk, IfOk, IfErr, Err};
+ghost use Rattle.std.specs.Ordering.{nat_cmp};
+ghost use Rattle.std.specs.BTreeMap.{get};
+ghost use Rattle.rpm_outside.specs.Files.{Units};
+ghost use Rattle.rpm_outside.specs.Causes.{HasCauseAt};
+ghost use Rattle.rpm_hindex.specs.Sizes.{is_bucket_count};
+ghost use Rattle.rpm_hindex.specs.Disks.{Reads};
+ghost use Rattle.rpm_hindex.specs.Records.{IsOpen};
+ghost use Rattle.rpm_hindex.specs.State.{Keeps, is_in_order, buckets_of};
+ghost use Rattle.rpm_hindex.specs.Plans.{LeavesOrder, CanWrite, IsPlanFor};
+ghost use Rattle.rpm_hindex.specs.Changes.{CanGo, IsStarted, IsHonest, IsBad, IsTooLargeFor, is_kept};
+ghost use Rattle.rpm_hindex.specs.Index.{records};
+ghost use Rattle.rpm_hindex.specs.Whole.{IsWellFormed};
+
+use crate::change::Change;
+use crate::faults::PrepareFault;
+use crate::index::Hindex;
+use crate::planning::{IndexPlan, add_rows, drop_rows, from_scratch, has_room, in_place};
+use crate::rows::Rows;
+use crate::words::word;
+use rpm_outside::Disk;
+use std::alloc::Global;
+
+impl Hindex {
+    /// No change yet.
+    fn start(&self, alloc: Global) -> Change
+        requires order { is_in_order self.now ≡ true }
+        ensures go { CanGo result }
+        ensures tail { length result.tail.items ≡ 0 }
+        ensures count { is_bucket_count result.extent.buckets ≡ true }
+        ensures fits { result.extent.used ≤ self.now.units }
+        ensures buckets { result.extent.buckets ≡ buckets_of self.now.first }
+        ensures dropped { (p : ℕ) → is_kept (λ q. get nat_cmp result.dropped q) p ≡ true }
+        ensures whole { (file : Units) → Keeps file self.now → IsWellFormed (buckets_of self.now.first) file → IsStarted result file }
+        ensures honest { (file : Units) → Keeps file self.now → IsHonest result file }
+        ensures open { (file : Units) → Keeps file self.now → IsOpen result.extent file }
+    {
+        let records = word(&self.second, 1);
+        let live = word(&self.second, 2);
+        Change::new(alloc, self.extent(), records, live)
+    }
+
+    /// Works out a change of the index: drops a record of each of these rows, where there is one, and then adds records. Writes nothing,
+    /// and takes all memory that the change needs.
+    ///
+    /// Reads the chain of each dropped row's bucket and one bucket word for each added row; and all chains, where the index must be made
+    /// from scratch: where it would have more than two records a bucket, more than 268435456 units, or more units without records than with.
+    ///
+    /// # Errors
+    ///
+    /// - `BadIndex` only where `unit` is the first fault of a bucket's chain, or is 1, where unit 1 counts less than the chains hold.
+    /// - `IndexFull` only where the rows after the change, made from scratch, need more than 268435456 units.
+    /// - `DiskFault` only where the disk's count of faults rose.
+    /// - `NoMemory` where the change finds no memory.
+    pub fn prepare<D: Disk>(
+        &self,
+        alloc: Global,
+        disk: &mut D,
+        drops: &Rows,
+        adds: &Rows,
+    ) -> Result<IndexPlan, PrepareFault>
+        requires order { is_in_order self.now ≡ true }
+        requires keeps { IsTrue D.tells → Keeps (D.files disk.old).idx self.now }
+        ensures can { IfOk result (λ plan. CanWrite self.now.units plan.work) }
+        ensures ordered { IfOk result (λ plan. LeavesOrder plan.work) }
+        ensures full { IfErr result (λ e. IsTrue D.tells → IsWellFormed (buckets_of self.now.first) (D.files disk.old).idx → IsTooLargeFor drops.now adds.now (records (buckets_of self.now.first) (D.files disk.old).idx) e) }
+        ensures bad { IfErr result (λ e. IsTrue D.tells → IsBad (buckets_of self.now.first) (D.files disk.old).idx e) }
+        ensures makes { IfOk result (λ plan. IsTrue D.tells → IsWellFormed (buckets_of self.now.first) (D.files disk.old).idx → IsPlanFor drops.now adds.now (buckets_of self.now.first) (D.files disk.old).idx plan.work) }
+        ensures looks { Reads D.tells D.files D.left_since D.moment D.bytes_read D.follows disk.old disk.new }
+        ensures cause { HasCauseAt (result ≡ Err PrepareFault.DiskFault) (D.faults disk.old) (D.faults disk.new) }
+    {
+        let mut change = self.start(alloc);
+        if let Err(fault) = drop_rows(alloc, disk, &mut change, drops) {
+            return Err(fault);
+        }
+        if !has_room(&change, adds) {
+            return from_scratch(alloc, disk, &change, adds);
+        }
+        if let Err(fault) = add_rows(disk, &mut change, adds) {
+            return Err(fault);
+        }
+        in_place(alloc, change)
+    }
+}

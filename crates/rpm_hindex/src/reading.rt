@@ -1,0 +1,96 @@
+//! Units of the file.
+
+ghost use Rattle.std.specs.Prelude.{◌≡◌, ℕ, ◌+◌, ◌-◌, ◌*◌, ◌/◌, ◌%◌, ◌^◌, ◌≤◌, ◌<◌, IsTrue, length, take, drop, OnOk, IfOk, IfErr, Err};
+ghost use Rattle.rpm_outside.specs.Files.{Files, Units, units_of, unit_at, bytes_of, blank};
+ghost use Rattle.rpm_outside.specs.Causes.{HasCause, HasCauseAt};
+ghost use Rattle.rpm_hindex.specs.Disks.{LooksAt};
+ghost use Rattle.rpm_hindex.specs.Index.{run};
+ghost use Rattle.rpm_hindex.specs.Answers.{IsOutside};
+
+use crate::faults::FindFault;
+use rpm_outside::{Disk, Failed, File};
+use std::alloc::Global;
+
+/// Reads units of Hindex.db.
+fn read_units<D: Disk>(disk: &mut D, unit: u64, into: &mut [u8]) -> Result<(), Failed>
+    requires whole { length into.old % 16 ≡ 0 }
+    requires within { IsTrue D.tells → unit + length into.old / 16 ≤ length (D.files disk.old).idx }
+    ensures bytes { OnOk result (IsTrue D.tells → into.new ≡ bytes_of (take (length into.old / 16) (drop unit (D.files disk.old).idx))) }
+    ensures looks { LooksAt D.tells D.files D.left_since D.moment D.bytes_read D.follows (length into.old) disk.old disk.new }
+    ensures cause { HasCause (D.faults disk.old) (D.faults disk.new) result }
+{
+    disk.read_at(File::Idx, unit, into)?;
+    Ok(())
+}
+
+/// Reads one unit.
+pub fn read_unit<D: Disk>(disk: &mut D, at: u64) -> Result<[u8; 16], Failed>
+    requires { IsTrue D.tells → at < length (D.files disk.old).idx }
+    ensures unit { IfOk result (λ unit. IsTrue D.tells → unit ≡ unit_at (D.files disk.old).idx at) }
+    ensures looks { LooksAt D.tells D.files D.left_since D.moment D.bytes_read D.follows 16 disk.old disk.new }
+    ensures cause { HasCause (D.faults disk.old) (D.faults disk.new) result }
+{
+    let mut unit = [0u8; 16];
+    read_units(disk, at, &mut unit)?;
+    Ok(unit)
+}
+
+/// Reads one unit of a file of so many, and nothing behind its end, where zeros stand.
+pub fn unit_or_zeros<D: Disk>(disk: &mut D, units: u64, at: u64) -> Result<[u8; 16], Failed>
+    requires { IsTrue D.tells → units ≡ length (D.files disk.old).idx }
+    ensures unit { IfOk result (λ unit. IsTrue D.tells → unit ≡ unit_at (D.files disk.old).idx at) }
+    ensures looks { LooksAt D.tells D.files D.left_since D.moment D.bytes_read D.follows 16 disk.old disk.new }
+    ensures cause { HasCause (D.faults disk.old) (D.faults disk.new) result }
+{
+    if at >= units {
+        return Ok([0; 16]);
+    }
+    read_unit(disk, at)
+}
+
+/// Reads so many units into a new vector.
+fn read_padded<D: Disk>(
+    alloc: Global,
+    disk: &mut D,
+    at: u64,
+    units: u32,
+) -> Result<Vec<u8>, FindFault>
+    requires { IsTrue D.tells → at + units ≤ length (D.files disk.old).idx }
+    ensures long { IfOk result (λ v. length v.items ≡ 16 * units) }
+    ensures bytes { IfOk result (λ v. IsTrue D.tells → v.items ≡ bytes_of (take units (drop at (D.files disk.old).idx))) }
+    ensures outside { IfErr result (λ e. IsOutside e) }
+    ensures looks { LooksAt D.tells D.files D.left_since D.moment D.bytes_read D.follows (16 * units) disk.old disk.new }
+    ensures cause { HasCauseAt (result ≡ Err FindFault.DiskFault) (D.faults disk.old) (D.faults disk.new) }
+{
+    let Ok(mut bytes) = (vec![in alloc; 0u8; 16 * units as usize]) else {
+        return Err(FindFault::NoMemory);
+    };
+    let Ok(()) = read_units(disk, at, &mut bytes) else {
+        return Err(FindFault::DiskFault);
+    };
+    Ok(bytes)
+}
+
+/// Reads a key of so many bytes, which begins with this unit, into a new vector.
+pub fn read_key<D: Disk>(
+    alloc: Global,
+    disk: &mut D,
+    at: u64,
+    size: u32,
+) -> Result<Vec<u8>, FindFault>
+    requires short { size < 2 ^ 28 }
+    requires within { IsTrue D.tells → at + (size + 15) / 16 ≤ length (D.files disk.old).idx }
+    ensures long { IfOk result (λ v. length v.items ≡ size) }
+    ensures bytes { IfOk result (λ v. IsTrue D.tells → v.items ≡ take size (bytes_of (run (unit_at (D.files disk.old).idx) at ((size + 15) / 16)))) }
+    ensures outside { IfErr result (λ e. IsOutside e) }
+    ensures looks { LooksAt D.tells D.files D.left_since D.moment D.bytes_read D.follows (16 * ((size + 15) / 16)) disk.old disk.new }
+    ensures cause { HasCauseAt (result ≡ Err FindFault.DiskFault) (D.faults disk.old) (D.faults disk.new) }
+{
+    match read_padded(alloc, disk, at, (size + 15) / 16) {
+        Err(fault) => Err(fault),
+        Ok(mut key) => {
+            key.truncate(size as usize);
+            Ok(key)
+        }
+    }
+}

@@ -1,0 +1,136 @@
+//! Rows that an index is made of.
+
+ghost use Rattle.std.specs.Prelude.{◌≡◌, ℕ, ◌+◌, ◌≤◌, ◌<◌, ◌^◌, ◌++◌, ◌∷◌, [], length, take, drop, OnOk, OnErr, slice_index_or};
+ghost use Rattle.rpm_hindex.specs.Rows.{Row};
+ghost use Rattle.rpm_hindex.specs.Sizes.{live_of};
+ghost use Rattle.rpm_hindex.specs.Packed.{row_in, row_nth};
+
+use crate::sizes::record_units;
+use std::alloc::{AllocError, Global};
+use std::marker::Model;
+
+/// A row, whose key stands among the keys of all rows.
+#[derive(Clone, Copy)]
+pub struct RowHead {
+    pub kind: u8,
+    pub start: u64,
+    pub length: u32,
+    pub number: u32,
+    pub place: u32,
+}
+
+/// Rows in the order in which they were pushed. Contracts see the list. A row takes 24 bytes of memory and its key.
+#[derive(Drop)]
+pub struct Rows {
+    heads: Vec<RowHead>,
+    keys: Vec<u8>,
+    live: u64,
+}
+
+impl Model for Rows {
+    ghost use Rattle.std.specs.Prelude.{List};
+    ghost use Rattle.rpm_hindex.specs.Rows.{Row};
+
+    ghost Value = { List Row };
+
+    ghost use Rattle.rpm_hindex.specs.Packed.{rows_in, IsPacked};
+
+    ghost view = { λ s. rows_in s.keys.items s.heads.items };
+
+    ghost invariant = { λ s. IsPacked s.heads.items s.keys.items s.live };
+}
+
+// The most units that rows may need together; memory for as many never is.
+const MOST: u64 = 1_152_921_504_606_846_976;
+
+impl Rows {
+    pub fn new(alloc: Global) -> Rows
+        ensures { result ≡ [] }
+    {
+        Rows {
+            heads: Vec::new(alloc),
+            keys: Vec::new(alloc),
+            live: 0,
+        }
+    }
+
+    /// Adds a row at the end. Copies the key.
+    ///
+    /// # Errors
+    ///
+    /// `AllocError` where there is no memory; the rows are then as they were.
+    pub fn push(&mut self, kind: u8, key: &[u8], number: u32, place: u32) -> Result<(), AllocError>
+        requires some { 1 ≤ kind }
+        requires kind { kind ≤ 15 }
+        requires key { length key.now < 268435456 }
+        ensures ok { OnOk result (self.new ≡ self.old ++ record { kind = kind; key = key.now; number = number; place = place } ∷ []) }
+        ensures err { OnErr result (self.new ≡ self.old) }
+    {
+        self.add(kind, key, number, place)
+    }
+
+    /// Adds a row of any kind, as a record may have it.
+    pub fn add(&mut self, kind: u8, key: &[u8], number: u32, place: u32) -> Result<(), AllocError>
+        requires kind { kind ≤ 15 }
+        requires key { length key.now < 268435456 }
+        ensures ok { OnOk result (self.new ≡ self.old ++ record { kind = kind; key = key.now; number = number; place = place } ∷ []) }
+        ensures err { OnErr result (self.new ≡ self.old) }
+    {
+        let length = key.len() as u32;
+        let units = record_units(length) as u64;
+        if self.live > MOST - units {
+            return Err(AllocError);
+        }
+        let start = self.keys.len() as u64;
+        self.heads.reserve(1)?;
+        self.keys.extend_from_slice(key)?;
+        self.heads.push(RowHead {
+            kind,
+            start,
+            length,
+            number,
+            place,
+        })?;
+        self.live += units;
+        Ok(())
+    }
+
+    pub fn len(&self) -> usize
+        ensures { result ≡ length self.now }
+    {
+        self.heads.len()
+    }
+
+    /// The units that records of these rows have.
+    pub fn live(&self) -> u64
+        ensures live { result ≡ live_of self.now }
+        ensures bound { result ≤ 2 ^ 60 }
+        ensures count { length self.now ≤ result }
+    {
+        let _ = &self.heads;
+        self.live
+    }
+
+    /// Row i without its key.
+    pub fn head(&self, i: usize) -> RowHead
+        requires { i < length self.now }
+        ensures kind { result.kind ≡ (row_nth self.now i).kind }
+        ensures number { result.number ≡ (row_nth self.now i).number }
+        ensures place { result.place ≡ (row_nth self.now i).place }
+        ensures length { result.length ≡ length (row_nth self.now i).key }
+        ensures kinds { result.kind < 16 }
+        ensures short { result.length < 2 ^ 28 }
+    {
+        self.heads[i]
+    }
+
+    /// The key of row i.
+    pub fn key(&self, i: usize) -> &[u8]
+        requires { i < length self.now }
+        ensures { result.now ≡ (row_nth self.now i).key }
+    {
+        let head = self.heads[i];
+        let start = head.start as usize;
+        &self.keys[start..start + head.length as usize]
+    }
+}

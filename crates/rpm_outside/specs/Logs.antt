@@ -1,0 +1,88 @@
+-- What a log says, and the files that it stands for.
+use Rattle.std.specs.Prelude.{ℕ, ◌+◌, ◌*◌, ◌==◌, nat_lt, nat_le, if◌then◌else◌, Bool, ◌&&◌, List, [], ◌∷◌, take, drop, length}
+use Rattle.std.proofs.Common.{zero, suc}
+use Rattle.std.specs.List.{list_all}
+use Rattle.std.specs.Int.{w32, from_le_bytes}
+use Rattle.rpm_outside.specs.declared.disk.File.{File}
+use Rattle.rpm_outside.specs.declared.disk.File.TheVariants.{Pkg, Idx}
+use Rattle.rpm_outside.specs.Files.{Units, Files, file_of, with_file, unit_at, put}
+
+-- units to be written to a file from this one on
+pub record Entry : Type 0 where
+  pub file : File
+  pub first : ℕ
+  pub units : Units
+
+-- a log has nothing to say, or is wrong at a unit, or says these entries
+pub data LogState : Type 0 where
+  Closed : LogState
+  Malformed : ℕ → LogState
+  Open : List Entry → LogState
+
+-- number k of a unit: four bytes, the lowest first
+unfoldable pub word : ℕ → List ℕ → ℕ
+word k unit = from_le_bytes w32 (drop (4 * k) unit)
+
+abbrev pub is_zero : ℕ → Bool
+is_zero b = b == 0
+
+-- a unit of zeros
+abbrev pub is_blank : List ℕ → Bool
+is_blank unit = list_all is_zero unit
+
+-- a gate is `RpmL`, version 1, the number of entries, and the last unit, which the log has
+unfoldable pub is_gate : ℕ → List ℕ → Bool
+is_gate units gate = (word 0 gate == 0x4c6d_7052) && ((word 1 gate == 1) && (nat_lt 0 (word 2 gate) && nat_lt (word 3 gate) units))
+
+-- a head at unit p is 1 or 2 for the file, the first unit, and the count; its units end at the last unit of the log or before
+unfoldable pub is_head : ℕ → ℕ → List ℕ → Bool
+is_head last p head =
+    nat_le p last
+    && (nat_le 1 (word 0 head) && (nat_le (word 0 head) 2 && (nat_lt 0 (word 2 head) && (nat_le (word 1 head + word 2 head) 268_435_456 && nat_le (p + word 2 head) last))))
+
+-- the entry whose head is at unit p
+unfoldable pub entry_at : ℕ → Units → Entry
+entry_at p units =
+    let head = unit_at units p in
+    record { file = if word 0 head == 1 then Pkg else Idx; first = word 1 head; units = take (word 2 head) (drop (p + 1) units) }
+
+-- an entry before those of a log
+abbrev pub before : Entry → LogState → LogState
+before entry Closed = Closed
+before entry (Malformed unit) = Malformed unit
+before entry (Open entries) = Open (entry ∷ entries)
+
+-- what so many heads say, the first at unit p, of which the last entry ends at the last unit
+unfoldable pub heads : ℕ → ℕ → ℕ → Units → LogState
+heads zero p last units = if p == last + 1 then Open [] else Malformed p
+heads (suc n) p last units = if is_head last p (unit_at units p)
+    then before (entry_at p units) (heads n (p + 1 + word 2 (unit_at units p)) last units)
+    else Malformed p
+
+-- a log is closed where its first unit is zeros or isn't there; else its first unit is a gate, and heads follow
+unfoldable pub log_state : Units → LogState
+log_state units =
+    let gate = unit_at units 0 in
+    if is_blank gate then Closed else (if is_gate (length units) gate then heads (word 2 gate) 1 (word 3 gate) units else Malformed 0)
+
+-- the files with an entry written
+abbrev pub with_entry : Entry → Files → Files
+with_entry entry files = with_file entry.file (put entry.first entry.units (file_of entry.file files)) files
+
+-- with several, in order
+abbrev pub with_entries : List Entry → Files → Files
+with_entries [] files = files
+with_entries (entry ∷ entries) files = with_entries entries (with_entry entry files)
+
+-- the files without the log
+abbrev pub unlogged : Files → Files
+unlogged files = record { pkg = files.pkg; idx = files.idx; log = [] }
+
+abbrev pub with_state : LogState → Files → Files
+with_state Closed files = files
+with_state (Malformed unit) files = files
+with_state (Open entries) files = with_entries entries files
+
+-- what the files stand for: the other two files, with the entries of an open log written over them
+abbrev pub reopened : Files → Files
+reopened files = with_state (log_state files.log) (unlogged files)

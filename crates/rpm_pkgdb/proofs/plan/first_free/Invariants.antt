@@ -1,0 +1,6 @@
+use Rattle.std.proofs.Common.{◌≡◌, ℕ, ◌<◌, true}
+use Rattle.rpm_pkgdb.specs.Slots.{slot_at, is_used}
+use Rattle.rpm_pkgdb.proofs.plan.first_free.Given as goal
+
+abbrev pub invariant-loop-k : goal.invariant-loop-k
+invariant-loop-k l = (j : ℕ) → j < l.k → is_used (slot_at l.slots j) ≡ true

@@ -1,0 +1,12 @@
+use Rattle.std.proofs.Common.{◌≡◌, take}
+use Rattle.rpm_outside.specs.Files.{units_of}
+use Rattle.rpm_pkgdb.specs.Slots.{slots_in}
+use Rattle.rpm_pkgdb.specs.Tables.{AreOwn, AreNumbered}
+use Rattle.rpm_pkgdb.proofs.table.own_slots.Given as goal
+
+abbrev pub invariant-loop-k : goal.invariant-loop-k
+invariant-loop-k l = record {
+  slots : l.slots.items ≡ slots_in (take l.k (units_of l.bytes));
+  own : AreOwn l.pages l.units (units_of l.bytes) l.k;
+  numbered : AreNumbered l.slots.items;
+}

@@ -1,0 +1,28 @@
+-- The blocks of a blob that is written.
+use Rattle.std.specs.Prelude.{ℕ, ◌+◌, ◌-◌, ◌*◌, List, ◌++◌, length, replicate, codes}
+use Rattle.std.specs.Int.{w32, to_le_bytes}
+use Rattle.rpm_pkgdb.specs.Blobs.{blocks_for}
+use Rattle.rpm_pkgdb.specs.Checksums.{adler}
+
+-- a number in four bytes, the lowest first
+unfoldable pub le : ℕ → List ℕ
+le n = to_le_bytes w32 n
+
+-- the head of a blob of so many bytes
+unfoldable pub head_of : ℕ → ℕ → ℕ → List ℕ
+head_of n generation size = codes "BlbS" ++ le n ++ le generation ++ le size
+
+-- zeros, so that with head and tail whole blocks are filled
+abbrev pub padding : ℕ → List ℕ
+padding size = replicate (16 * blocks_for size - (28 + size)) 0
+
+unfoldable pub tail_of : ℕ → ℕ → List ℕ
+tail_of sum size = le sum ++ le size ++ codes "BlbE"
+
+-- what the checksum is of
+abbrev pub summed : ℕ → ℕ → List ℕ → List ℕ
+summed n generation blob = head_of n generation (length blob) ++ (blob ++ padding (length blob))
+
+-- head, bytes, zeros and tail
+abbrev pub framed : ℕ → ℕ → List ℕ → List ℕ
+framed n generation blob = summed n generation blob ++ tail_of (adler (summed n generation blob)) (length blob)

@@ -1,0 +1,51 @@
+-- Where a blob is to go.
+use Rattle.std.specs.Prelude.{◌≡◌, ◌⊎◌, ℕ, ◌+◌, ◌*◌, ◌^◌, ◌<◌, ◌≤◌, List, length, true, false, Option, is_none, IfSome}
+use Rattle.rpm_pkgdb.specs.declared.slot.Slot.{Slot}
+use Rattle.rpm_pkgdb.specs.declared.plan.Plan.{Plan}
+use Rattle.rpm_pkgdb.specs.Slots.{slot_at, is_used, end_of, has_number}
+use Rattle.rpm_pkgdb.specs.Maps.{IsPackageNumber}
+use Rattle.rpm_pkgdb.specs.Store.{Store, next_number}
+use Rattle.rpm_pkgdb.specs.Blobs.{blocks_for}
+
+-- the first slot that isn't used
+pub record IsFirstFree (slots : List Slot) (place : ℕ) : Type 0 where
+  pub below : place < length slots
+  pub unused : is_used (slot_at slots place) ≡ false
+  pub first : (k : ℕ) → k < place → is_used (slot_at slots k) ≡ true
+
+-- each slot is used
+abbrev pub AreAllUsed : List Slot → Type 0
+AreAllUsed slots = (k : ℕ) → k < length slots → is_used (slot_at slots k) ≡ true
+
+-- so many blocks from this one on end by the limit, and none of them is a used slot's
+pub record Fits (slots : List Slot) (count start : ℕ) : Type 0 where
+  pub ends : start + count ≤ 2 ^ 28
+  pub apart : (k : ℕ) → is_used (slot_at slots k) ≡ true → (start + count ≤ (slot_at slots k).offset) ⊎ (end_of (slot_at slots k) ≤ start)
+
+-- the least block from one on at which so many fit, and None where they fit nowhere
+pub record IsLeast (slots : List Slot) (count from start : ℕ) : Type 0 where
+  pub from_on : from ≤ start
+  pub fits : Fits slots count start
+  pub least : (block : ℕ) → from ≤ block → block < start → ¬ Fits slots count block
+
+abbrev pub FitsNowhere : List Slot → ℕ → ℕ → Type 0
+FitsNowhere slots count from = (block : ℕ) → from ≤ block → ¬ Fits slots count block
+
+-- a plan that was made of these slots and this number field
+pub record IsPlan (value : Store) (plan : Plan) : Type 0 where
+  pub new : plan.is_new ≡ true → (plan.number ≡ next_number value) × IsFirstFree value.slots plan.place
+  pub held : plan.is_new ≡ false → has_number plan.number (slot_at value.slots plan.place) ≡ true
+  pub number : IsPackageNumber plan.number
+  pub below : plan.place < length value.slots
+  pub few : plan.length ≤ 68157432
+  pub start : IsLeast value.slots (blocks_for plan.length) (256 * value.pages) plan.start
+
+-- the slot that is written by a plan
+abbrev pub slot_for : Plan → Slot
+slot_for plan = record { number = plan.number; offset = plan.start; count = blocks_for plan.length }
+
+-- a plan for this number, or for a new one, and this length
+pub record IsFor (n : Option ℕ) (length : ℕ) (plan : Plan) : Type 0 where
+  pub new : plan.is_new ≡ is_none n
+  pub number : IfSome n (λ m. plan.number ≡ m)
+  pub length_is : plan.length ≡ length

@@ -1,0 +1,58 @@
+-- A store of which each stop leaves the same.
+use Rattle.std.specs.Prelude.{◌≡◌, ◌⊎◌, ℕ, ◌<◌, ◌≤◌, List, length, true, slice_set, Option, Ok}
+use Rattle.std.specs.Ordering.{nat_cmp}
+use Rattle.std.specs.FinMap as finite
+use Rattle.rpm_outside.specs.Files.{Units, Files, unit_at}
+use Rattle.rpm_pkgdb.specs.Words.{word}
+use Rattle.rpm_pkgdb.specs.Undamaged.{IsSlotUnit}
+use Rattle.rpm_pkgdb.specs.declared.slot.Slot.{Slot}
+use Rattle.rpm_pkgdb.specs.Slots.{slot_at, is_used, free}
+use Rattle.rpm_pkgdb.specs.Store.{Store, store, Keeps}
+use Rattle.rpm_pkgdb.specs.Blobs.{blobs}
+use Rattle.rpm_pkgdb.specs.Clear.{SameBlocks}
+
+-- numbers and their blobs, where None is a broken framing
+abbrev pub BlobMap : Type 0
+BlobMap = finite.FinMap nat_cmp (Option (List ℕ))
+
+-- an image says this store, and has the bytes of a file in the used blocks
+pub record StandsAs (value : Store) (file image : Units) : Type 0 where
+  pub keeps : Keeps image value
+  pub blocks : SameBlocks value.slots file image
+
+-- each image stands as the file does
+abbrev pub IsQuiet : Store → Files → (Files → Type 0) → Type 0
+IsQuiet value files images = (image : Files) → images image → StandsAs value files.pkg image.pkg
+
+-- an image that is undamaged, with this generation and number field, and stands for these blobs
+pub record StandsFor (generation field : ℕ) (map : BlobMap) (image : Units) : Type 0 where
+  pub value : Store
+  pub undamaged : store image ≡ Ok value
+  pub generation_is : value.generation ≡ generation
+  pub field_is : value.field ≡ field
+  pub blobs_are : blobs image value ≡ map
+
+-- an image stands for one of two stores
+abbrev pub BeforeOrAfter : Store → Store → Units → Units → Type 0
+BeforeOrAfter before after file image = StandsAs before file image ⊎ StandsAs after file image
+
+-- a used slot at this place of a store that is made
+pub record HasSlot (value : Store) (place : ℕ) (s : Slot) : Type 0 where
+  pub made : 1 ≤ value.pages
+  pub below : place < length value.slots
+  pub is : slot_at value.slots place ≡ s
+  pub used : is_used s ≡ true
+
+-- the store with the slot at this place free
+abbrev pub with_free : ℕ → Store → Store
+with_free place value = record value { slots = slice_set value.slots place free }
+
+-- anything may have changed
+abbrev pub Anything : Units → Units → Type 0
+Anything old new = Unit {0}
+
+-- all of the first page but unit 0, with the next number 1 and no used slot
+pub record IsFirstPage (file : Units) : Type 0 where
+  pub long : 256 ≤ length file
+  pub field : word 0 (unit_at file 1) ≡ 1
+  pub slots : (i : ℕ) → 2 ≤ i → i < 256 → IsSlotUnit (unit_at file i) free

@@ -1,0 +1,38 @@
+-- A number that a selection can't pick.
+use Rattle.std.proofs.Common.{◌≡◌, ℕ, ◌==◌, Bool, true, false, not, Ok, Err, refl, sym}
+use Rattle.std.specs.Prelude.{Result}
+use Rattle.rpm_header.specs.declared.form.HeaderFault.{HeaderFault}
+use Rattle.rpm_header.specs.Header.{Header, header}
+use Rattle.rpm_db.specs.State.{Package, Good, Bad}
+use Rattle.rpm_select.specs.declared.selection.Selection.{Selection}
+use Rattle.rpm_select.specs.declared.selection.Selection.TheVariants.{Number, All, Pattern, Label, Path, Group, Provides, Requires, Conflicts, Obsoletes, Trigger, Directory, Tid, Recommends}
+use Rattle.rpm_select.specs.Selections.{holds, holds_in, is_picked, is_elsewhere}
+
+no_header : (m n : ℕ) → (n == m) ≡ false → (r : Result Header HeaderFault) → holds_in (Number m) n r ≡ false
+unfolding holds
+no_header m n other (Ok h) = other
+no_header m n other (Err fault) = refl
+
+no_number : (m n : ℕ) → (n == m) ≡ false → (p : Package) → is_picked (Number m) (n, p) ≡ false
+no_number m n other (Good bytes) = no_header m n other (header bytes)
+no_number m n other Bad = other
+
+turned : (b : Bool) → not b ≡ true → b ≡ false
+turned true is = absurd cc
+turned false is = refl
+
+pub elsewhere : (sel : Selection) (n : ℕ) → true ≡ is_elsewhere sel n → (p : Package) → is_picked sel (n, p) ≡ false
+elsewhere (Number m) n is p = no_number m n (turned (n == m) (sym is)) p
+elsewhere All n is p = absurd cc
+elsewhere (Pattern x) n is p = absurd cc
+elsewhere (Label x) n is p = absurd cc
+elsewhere (Path x) n is p = absurd cc
+elsewhere (Group x) n is p = absurd cc
+elsewhere (Provides c) n is p = absurd cc
+elsewhere (Requires c) n is p = absurd cc
+elsewhere (Conflicts c) n is p = absurd cc
+elsewhere (Obsoletes c) n is p = absurd cc
+elsewhere (Trigger x) n is p = absurd cc
+elsewhere (Directory x) n is p = absurd cc
+elsewhere (Tid t) n is p = absurd cc
+elsewhere (Recommends c) n is p = absurd cc

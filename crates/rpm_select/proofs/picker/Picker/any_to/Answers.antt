@@ -1,0 +1,85 @@
+use Rattle.std.proofs.Common.{◌≡◌, ℕ, ◌+◌, ◌-◌, ◌≤◌, List, true, false, Some, None, refl, sym, ap, subst, ◌∙◌, arith}
+use Rattle.std.specs.FinMap as finite
+use Rattle.rpm_outside.specs.Files.{Files}
+use Rattle.rpm_outside.specs.Looks.{looks_none, looks_then, looks_more}
+use Rattle.rpm_db.specs.State.{Package, packages}
+use Rattle.rpm_db.specs.Database.{cost, cost_to}
+use Rattle.rpm_db.specs.Laws.{cost_more, cost_up}
+use Rattle.rpm_select.proofs.Picking.{any_to, left, above_picks, next_package, passed_one, none_above, past_all, one_to}
+use Rattle.rpm_select.proofs.picker.Picker.any_to.Goals as goal
+
+pub loop-next-init : goal.loop-next-init
+loop-next-init g c = record {
+  keeps = c.requires.keeps;
+  within = cost_up c.args.db.now 0 c.args.n (omega arith);
+  looks = looks_more g.D.Disk.tells g.D.Disk.files g.D.Disk.left_since g.D.Disk.moment g.D.Disk.bytes_read g.D.Disk.follows 0 (cost_to 0 c.args.db.now) c.args.disk.now c.args.disk.now (omega arith)
+      (looks_none g.D.Disk.tells g.D.Disk.files g.D.Disk.left_since g.D.Disk.moment g.D.Disk.bytes_read g.D.Disk.follows g.met.D.Disk.follows_refl c.args.disk.now);
+  faults = omega arith;
+  same = λ told. refl;
+}
+
+pub returns-then-next-n-clause-told : goal.returns-then-next-n-clause-told
+returns-then-next-n-clause-told g c = λ told.
+    let map = packages (g.D.Disk.files c.args.disk.now).pkg c.args.db.now.store in
+    let sel = c.args.selection.now in
+    let n = c.args.n in
+    let k = c.loop-next.passed in
+    let m = c.in-Some.next in
+    let next = next_package map k m (c.in-Some.ensures.told (g.D.Disk.files c.args.disk.now).pkg) in
+    sym (ap (any_to n) (above_picks map sel 0 ∙ c.loop-next.invariant.same told) ∙ past_all map sel n k m c.if-next-n.true next)
+
+pub returns-in-Ok-Some-clause-told : goal.returns-in-Ok-Some-clause-told
+returns-in-Ok-Some-clause-told g c = λ told.
+    let map = packages (g.D.Disk.files c.args.disk.now).pkg c.args.db.now.store in
+    let sel = c.args.selection.now in
+    let n = c.args.n in
+    let k = c.loop-next.passed in
+    let m = c.in-Some.next in
+    let inv = c.loop-next.invariant in
+    let next = next_package map k m (c.in-Some.ensures.told (g.D.Disk.files c.args.disk.now).pkg) in
+    let there = subst (λ (f : Files). finite.get (packages f.pkg c.args.db.now.store) m ≡ Some next.found) (sym (inv.looks.untouched told).same) next.there in
+    let one = rw c.in-Ok-Some.field-0-is at (c.in-Ok-Some.ensures.told told next.found there) in
+    sym (ap (any_to n) (above_picks map sel 0 ∙ inv.same told) ∙ one_to map sel n k m next c.if-next-n.false one.0)
+
+pub returns-in-Ok-Some-clause-looks : goal.returns-in-Ok-Some-clause-looks
+returns-in-Ok-Some-clause-looks g c =
+    let db = c.args.db.now in
+    let k = c.loop-next.passed in
+    let m = c.in-Some.next in
+    let more = cost_more db k m c.in-Some.ensures.next.0 in
+    let up = cost_up db m c.args.n c.if-next-n.false in
+    looks_then g.D.Disk.tells g.D.Disk.files g.D.Disk.left_since g.D.Disk.moment g.D.Disk.bytes_read g.D.Disk.follows g.met.D.Disk.follows_trans (cost_to k db) (cost m db) (cost_to c.args.n db) c.args.disk.now c.loop-next.disk c.pick.new.disk (omega (arith, more, up)) c.loop-next.invariant.looks c.in-Ok-Some.ensures.looks
+
+pub returns-in-Err-clause-looks : goal.returns-in-Err-clause-looks
+returns-in-Err-clause-looks g c =
+    let db = c.args.db.now in
+    let k = c.loop-next.passed in
+    let m = c.in-Some.next in
+    let more = cost_more db k m c.in-Some.ensures.next.0 in
+    let up = cost_up db m c.args.n c.if-next-n.false in
+    looks_then g.D.Disk.tells g.D.Disk.files g.D.Disk.left_since g.D.Disk.moment g.D.Disk.bytes_read g.D.Disk.follows g.met.D.Disk.follows_trans (cost_to k db) (cost m db) (cost_to c.args.n db) c.args.disk.now c.loop-next.disk c.pick.new.disk (omega (arith, more, up)) c.loop-next.invariant.looks c.in-Err.ensures.looks
+
+pub loop-next-preserved-in-Ok-None-3 : goal.loop-next-preserved-in-Ok-None-3
+loop-next-preserved-in-Ok-None-3 g c =
+    let db = c.args.db.now in
+    let k = c.loop-next.passed in
+    let m = c.in-Some.next in
+    let inv = c.loop-next.invariant in
+    let done = c.in-Ok-None.ensures in
+    let more = cost_more db k m c.in-Some.ensures.next.0 in
+    record {
+      keeps = done.kept;
+      within = cost_up db m c.args.n c.if-next-n.false;
+      looks = looks_then g.D.Disk.tells g.D.Disk.files g.D.Disk.left_since g.D.Disk.moment g.D.Disk.bytes_read g.D.Disk.follows g.met.D.Disk.follows_trans (cost_to k db) (cost m db) (cost_to m db) c.args.disk.now c.loop-next.disk c.pick.new.disk more inv.looks done.looks;
+      faults = omega (arith, inv.faults, done.cause.later);
+      same = λ told.
+          let map = packages (g.D.Disk.files c.args.disk.now).pkg db.store in
+          let next = next_package map k m (c.in-Some.ensures.told (g.D.Disk.files c.args.disk.now).pkg) in
+          let there = subst (λ (f : Files). finite.get (packages f.pkg db.store) m ≡ Some next.found) (sym (inv.looks.untouched told).same) next.there in
+          inv.same told ∙ passed_one map c.args.selection.now k m next (rw c.in-Ok-None.field-0-is at (done.told told next.found there));
+    }
+
+pub returns-clause-told : goal.returns-clause-told
+returns-clause-told g c = λ told.
+    let map = packages (g.D.Disk.files c.args.disk.now).pkg c.args.db.now.store in
+    sym (ap (any_to c.args.n) (above_picks map c.args.selection.now 0 ∙ c.loop-next.invariant.same told ∙ none_above map c.args.selection.now c.loop-next.passed (c.in_default.ensures.told (g.D.Disk.files c.args.disk.now).pkg)))

@@ -1,0 +1,79 @@
+use Rattle.std.proofs.Common.{◌≡◌, ℕ, ◌+◌, ◌-◌, ◌≤◌, ◌∷◌, List, true, false, Some, None, is_some, sym, ap, subst, ◌∙◌, arith}
+use Rattle.std.specs.FinMap as finite
+use Rattle.rpm_outside.specs.Files.{Files}
+use Rattle.rpm_outside.specs.Looks.{Looks, looks_then, looks_more}
+use Rattle.rpm_db.specs.State.{Package, packages}
+use Rattle.rpm_db.specs.Database.{cost, cost_to, cost_all}
+use Rattle.rpm_db.specs.Laws.{cost_more, cost_some}
+use Rattle.rpm_select.specs.Picks.{number_in, entry_in}
+use Rattle.rpm_select.proofs.Picking.{left, above_picks, next_package, passed_one, picked_one, none_above}
+use Rattle.rpm_select.proofs.picker.Picker.next_after.Goals as goal
+
+pub loop-next-preserved : goal.loop-next-preserved
+loop-next-preserved g c =
+    let db = c.args.db.now in
+    let n = c.args.n in
+    let k = c.loop-next.passed in
+    let m = c.in-Some.next in
+    let inv = c.loop-next.invariant in
+    let done = c.in-Ok-None.ensures in
+    let more = cost_more db k m c.in-Some.ensures.next.0 in
+    record {
+      keeps = done.kept;
+      more = omega (arith, more, inv.more);
+      looks = looks_then g.D.Disk.tells g.D.Disk.files g.D.Disk.left_since g.D.Disk.moment g.D.Disk.bytes_read g.D.Disk.follows g.met.D.Disk.follows_trans (cost_to k db - cost_to n db) (cost m db) (cost_to m db - cost_to n db) c.args.disk.now c.loop-next.disk c.pick.new.disk (omega (arith, more, inv.more)) inv.looks done.looks;
+      faults = omega (arith, inv.faults, done.cause.later);
+      same = λ told.
+          let map = packages (g.D.Disk.files c.args.disk.now).pkg db.store in
+          let next = next_package map k m (c.in-Some.ensures.told (g.D.Disk.files c.args.disk.now).pkg) in
+          let there = subst (λ (f : Files). finite.get (packages f.pkg db.store) m ≡ Some next.found) (sym (inv.looks.untouched told).same) next.there in
+          inv.same told ∙ passed_one map c.args.selection.now k m next (rw c.in-Ok-None.field-0-is at (done.told told next.found there));
+    }
+
+pub returns-in-Ok-Some-clause-told : goal.returns-in-Ok-Some-clause-told
+returns-in-Ok-Some-clause-told g c = λ told.
+    let db = c.args.db.now in
+    let n = c.args.n in
+    let k = c.loop-next.passed in
+    let m = c.in-Some.next in
+    let sel = c.args.selection.now in
+    let inv = c.loop-next.invariant in
+    let map = packages (g.D.Disk.files c.args.disk.now).pkg db.store in
+    let next = next_package map k m (c.in-Some.ensures.told (g.D.Disk.files c.args.disk.now).pkg) in
+    let there = subst (λ (f : Files). finite.get (packages f.pkg db.store) m ≡ Some next.found) (sym (inv.looks.untouched told).same) next.there in
+    let one = rw c.in-Ok-Some.field-0-is at (c.in-Ok-Some.ensures.told told next.found there) in
+    (left map sel m, above_picks map sel n ∙ inv.same told ∙ picked_one map sel k m next one.0 ∙ ap (λ (e : ℕ × Package). e ∷ left map sel m) (sym one.1))
+
+pub returns-in-Ok-Some-clause-looks : goal.returns-in-Ok-Some-clause-looks
+returns-in-Ok-Some-clause-looks g c =
+    let db = c.args.db.now in
+    let n = c.args.n in
+    let k = c.loop-next.passed in
+    let m = c.in-Some.next in
+    let inv = c.loop-next.invariant in
+    let more = cost_more db k m c.in-Some.ensures.next.0 in
+    let number = rw c.in-Ok-Some.field-0-is at c.in-Ok-Some.ensures.numbered in
+    subst (λ (i : ℕ). Looks g.D.Disk.tells g.D.Disk.files g.D.Disk.left_since g.D.Disk.moment g.D.Disk.bytes_read g.D.Disk.follows (cost_to i db - cost_to n db) c.args.disk.now c.pick.new.disk) (sym number)
+    (looks_then g.D.Disk.tells g.D.Disk.files g.D.Disk.left_since g.D.Disk.moment g.D.Disk.bytes_read g.D.Disk.follows g.met.D.Disk.follows_trans (cost_to k db - cost_to n db) (cost m db) (cost_to m db - cost_to n db) c.args.disk.now c.loop-next.disk c.pick.new.disk (omega (arith, more, inv.more)) inv.looks c.in-Ok-Some.ensures.looks)
+
+pub returns-in-Err-clause-looks : goal.returns-in-Err-clause-looks
+returns-in-Err-clause-looks g c =
+    let db = c.args.db.now in
+    let n = c.args.n in
+    let k = c.loop-next.passed in
+    let m = c.in-Some.next in
+    let inv = c.loop-next.invariant in
+    let more = cost_more db k m c.in-Some.ensures.next.0 in
+    let all = cost_some db m in
+    looks_then g.D.Disk.tells g.D.Disk.files g.D.Disk.left_since g.D.Disk.moment g.D.Disk.bytes_read g.D.Disk.follows g.met.D.Disk.follows_trans (cost_to k db - cost_to n db) (cost m db) (cost_all db - cost_to n db) c.args.disk.now c.loop-next.disk c.pick.new.disk (omega (arith, more, all, inv.more)) inv.looks c.in-Err.ensures.looks
+
+pub returns-clause-told : goal.returns-clause-told
+returns-clause-told g c = λ told.
+    let map = packages (g.D.Disk.files c.args.disk.now).pkg c.args.db.now.store in
+    above_picks map c.args.selection.now c.args.n ∙ c.loop-next.invariant.same told ∙ none_above map c.args.selection.now c.loop-next.passed (c.in_default.ensures.told (g.D.Disk.files c.args.disk.now).pkg)
+
+pub returns-clause-looks : goal.returns-clause-looks
+returns-clause-looks g c =
+    let db = c.args.db.now in
+    let all = cost_some db c.loop-next.passed in
+    looks_more g.D.Disk.tells g.D.Disk.files g.D.Disk.left_since g.D.Disk.moment g.D.Disk.bytes_read g.D.Disk.follows (cost_to c.loop-next.passed db - cost_to c.args.n db) (cost_all db - cost_to c.args.n db) c.args.disk.now c.loop-next.disk (omega (arith, all)) c.loop-next.invariant.looks

@@ -1,0 +1,10 @@
+use Rattle.std.proofs.Common.{◌≡◌, length}
+use Rattle.std.specs.List.{list_any}
+use Rattle.rpm_select.specs.Selections.{meets, has_any}
+use Rattle.rpm_select.proofs.rows.has_any.Given as goal
+
+abbrev pub invariant-loop-needed : goal.invariant-loop-needed
+invariant-loop-needed l = list_any (meets l.capability) l.left ≡ has_any l.fn.tags l.capability l.fn.view
+
+abbrev pub decreases-loop-needed : goal.decreases-loop-needed
+decreases-loop-needed l = length l.left

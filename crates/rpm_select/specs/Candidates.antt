@@ -1,0 +1,59 @@
+-- The keys by which an index is asked for a selection, and the packages that have one of them.
+use Rattle.std.specs.Prelude.{ℕ, List, [], ◌∷◌, ◌++◌, map, filter, Bool, true, false, not, ◌&&◌, ◌==◌, if◌then◌else◌, slice_index, Result, Ok, Err}
+use Rattle.std.specs.List.{list_any, before_last}
+use Rattle.std.specs.Str.{bytes_eq}
+use Rattle.std.specs.Ordering.{nat_cmp}
+use Rattle.std.specs.FinMap.{FinMap, entries}
+use Rattle.rpm_header.specs.declared.form.HeaderFault.{HeaderFault}
+use Rattle.rpm_header.specs.Header.{Header, header}
+use Rattle.rpm_tags.specs.declared.kind.Kind.{Kind}
+use Rattle.rpm_tags.specs.declared.kind.Kind.TheVariants as kind
+use Rattle.rpm_tags.specs.Keys.{keys}
+use Rattle.rpm_tags.specs.Wanted.{base_name}
+use Rattle.rpm_version.specs.Capability.{CapabilityParts}
+use Rattle.rpm_db.specs.State.{Package, Good, Bad}
+use Rattle.rpm_select.specs.declared.selection.Selection.{Selection}
+use Rattle.rpm_select.specs.declared.selection.Selection.TheVariants.{All, Pattern, Label, Path, Group, Provides, Requires, Conflicts, Obsoletes, Trigger, Number, Directory, Tid, Recommends}
+use Rattle.rpm_select.specs.Labels.{is_dash}
+
+abbrev pub is_dot : ℕ → Bool
+is_dot b = b == 46
+
+-- a text cut before its last such byte, where it has one
+abbrev pub cut : (ℕ → Bool) → List ℕ → List (List ℕ)
+cut is_end text = if list_any is_end text then before_last is_end text ∷ [] else []
+
+-- the names that a label can have in front
+abbrev pub names_in : List ℕ → List (List ℕ)
+names_in x = x ∷ cut is_dot x ++ cut is_dash x ++ (if list_any is_dash x then cut is_dash (before_last is_dash x) else [])
+
+-- a capability that can be a path is also looked for among the names of files
+abbrev pub path_keys : CapabilityParts → List (Kind × List ℕ)
+path_keys c = if slice_index c.name 0 == 47 then (kind.Basenames, base_name c.name) ∷ [] else []
+
+-- none: such a selection reads all packages; Directory, Tid and Recommends wait for their kinds
+unfoldable pub keys_asked : Selection → List (Kind × List ℕ)
+keys_asked (Label x) = map (λ name. (kind.Name, name)) (names_in x.now)
+keys_asked (Path x) = (kind.Basenames, base_name x.now) ∷ []
+keys_asked (Group x) = (kind.Group, x.now) ∷ []
+keys_asked (Provides c) = (kind.Providename, c.name) ∷ path_keys c
+keys_asked (Requires c) = (kind.Requirename, c.name) ∷ []
+keys_asked (Conflicts c) = (kind.Conflictname, c.name) ∷ []
+keys_asked (Obsoletes c) = (kind.Obsoletename, c.name) ∷ []
+keys_asked (Trigger x) = (kind.Triggername, x.now) ∷ []
+keys_asked others = []
+
+abbrev pub has_key : Header → Kind × List ℕ → Bool
+has_key h (k, key) = list_any (λ e. bytes_eq e.0 key) (keys k h)
+
+abbrev pub has_key_in : Selection → Result Header HeaderFault → Bool
+has_key_in sel (Ok h) = list_any (has_key h) (keys_asked sel)
+has_key_in sel (Err fault) = false
+
+abbrev pub is_candidate : Selection → ℕ × Package → Bool
+is_candidate sel (n, Good bytes) = has_key_in sel (header bytes)
+is_candidate sel (n, Bad) = false
+
+-- the Good packages that have one of the keys, by rising number
+unfoldable pub candidates : FinMap nat_cmp Package → Selection → List (ℕ × Package)
+candidates packages sel = filter (is_candidate sel) (entries packages)

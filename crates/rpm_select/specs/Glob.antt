@@ -1,0 +1,98 @@
+-- The texts that a glob matches.
+use Rattle.std.specs.Prelude.{ℕ, suc, zero, ◌+◌, ◌-◌, List, [], ◌∷◌, length, take, drop, Bool, true, false, not, ◌&&◌, ◌||◌, ◌==◌, nat_le, if◌then◌else◌, Option, Some, None}
+use Rattle.std.specs.List.{position}
+use Rattle.std.specs.Option.{option_map}
+
+-- ---- what one piece of a glob stands for
+
+-- any bytes, one byte of any kind, one byte, or one byte of a set, or else of all others
+pub data Piece : Type 0 where
+  Star : Piece
+  Question : Piece
+  Byte : ℕ → Piece
+  Set : Bool → List ℕ → Piece
+
+-- a byte is one of these members: a-b is a range, and a dash at either end is itself
+abbrev pub is_member : ℕ → List ℕ → Bool
+is_member b [] = false
+is_member b (x ∷ []) = b == x
+is_member b (x ∷ dash ∷ []) = b == x || b == dash
+is_member b (x ∷ dash ∷ y ∷ members) =
+    if dash == 45 then (nat_le x b && nat_le b y) || is_member b members
+    else b == x || is_member b (dash ∷ y ∷ members)
+
+abbrev pub takes : Piece → ℕ → Bool
+takes Star b = false
+takes Question b = true
+takes (Byte x) b = b == x
+takes (Set is_turned members) b = if is_turned then not (is_member b members) else is_member b members
+
+-- the pieces stand for the text, piece by piece
+abbrev pub stands_for : List Piece → List ℕ → Bool
+stands_for [] [] = true
+stands_for [] (b ∷ text) = false
+stands_for (Star ∷ pieces) [] = stands_for pieces []
+stands_for (Star ∷ pieces) (b ∷ text) = stands_for pieces (b ∷ text) || stands_for (Star ∷ pieces) text
+stands_for (piece ∷ pieces) [] = false
+stands_for (piece ∷ pieces) (b ∷ text) = takes piece b && stands_for pieces text
+
+-- ---- how a glob is written
+
+abbrev pub is_close : ℕ → Bool
+is_close b = b == 93
+
+-- behind a [: a ! or a ^ that turns the set round
+abbrev pub is_turned : List ℕ → Bool
+is_turned [] = false
+is_turned (b ∷ rest) = b == 33 || b == 94
+
+abbrev pub behind_turn : List ℕ → List ℕ
+behind_turn rest = if is_turned rest then drop 1 rest else rest
+
+-- how many members a set has: it ends at the first ] that isn't its first member
+abbrev pub member_count : List ℕ → Option ℕ
+member_count [] = None
+member_count (first ∷ rest) = option_map (λ n. n + 1) (position is_close rest)
+
+-- a piece, and how many bytes it is written in
+pub record Written : Type 0 where
+  pub piece : Piece
+  pub size : ℕ
+
+abbrev pub written : Piece → ℕ → Written
+written piece size = record { piece = piece; size = size }
+
+-- behind a \ stands a byte for itself; at the end it is itself
+abbrev pub escaped : List ℕ → Written
+escaped [] = written (Byte 92) 1
+escaped (b ∷ rest) = written (Byte b) 2
+
+-- behind a [; without an end it is itself
+abbrev pub set_of : Bool → List ℕ → Option ℕ → Written
+set_of turned members None = written (Byte 91) 1
+set_of turned members (Some n) = written (Set turned (take n members)) (n + (if turned then 3 else 2))
+
+abbrev pub bracketed : List ℕ → Written
+bracketed rest = set_of (is_turned rest) (behind_turn rest) (member_count (behind_turn rest))
+
+-- the piece that a byte begins, given what follows it
+unfoldable pub piece_at : ℕ → List ℕ → Written
+piece_at b rest =
+    if b == 42 then written Star 1
+    else if b == 63 then written Question 1
+    else if b == 92 then escaped rest
+    else if b == 91 then bracketed rest
+    else written (Byte b) 1
+
+-- the pieces of a glob, behind so many bytes
+unfoldable pub pieces_behind : ℕ → List ℕ → List Piece
+pieces_behind n [] = []
+pieces_behind (suc n) (b ∷ glob) = pieces_behind n glob
+pieces_behind zero (b ∷ glob) = (piece_at b glob).piece ∷ pieces_behind ((piece_at b glob).size - 1) glob
+
+abbrev pub pieces : List ℕ → List Piece
+pieces glob = pieces_behind 0 glob
+
+-- the whole text
+unfoldable pub glob : List ℕ → List ℕ → Bool
+glob pattern text = stands_for (pieces pattern) text

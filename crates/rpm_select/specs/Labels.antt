@@ -1,0 +1,45 @@
+-- The texts by which a package is named.
+use Rattle.std.specs.Prelude.{ℕ, List, [], ◌∷◌, ◌++◌, Bool, not, ◌==◌, ◌||◌, if◌then◌else◌, Option, Some, None}
+use Rattle.std.specs.List.{list_any}
+use Rattle.rpm_header.specs.Header.{Header}
+use Rattle.std.specs.Str.{bytes_eq}
+use Rattle.rpm_tags.specs.Value.{first_text}
+use Rattle.rpm_select.specs.Glob.{glob}
+
+abbrev pub is_dash : ℕ → Bool
+is_dash b = b == 45
+
+abbrev pub is_dash_or_dot : ℕ → Bool
+is_dash_or_dot b = b == 45 || b == 46
+
+-- a text without such bytes
+abbrev pub without : (ℕ → Bool) → Option (List ℕ) → Option (List ℕ)
+without is_in None = None
+without is_in (Some text) = if list_any is_in text then None else Some text
+
+-- N and N.A of a name N; a dot is 46, and a dash 45
+abbrev pub with_arch : Option (List ℕ) → List ℕ → List (List ℕ)
+with_arch None text = text ∷ []
+with_arch (Some arch) text = text ∷ (text ++ 46 ∷ arch) ∷ []
+
+-- with N-V and N-V-R
+abbrev pub with_release : Option (List ℕ) → Option (List ℕ) → List ℕ → List (List ℕ)
+with_release arch None text = []
+with_release arch (Some release) text = with_arch arch (text ++ 45 ∷ release)
+
+abbrev pub with_version : Option (List ℕ) → Option (List ℕ) → Option (List ℕ) → List ℕ → List (List ℕ)
+with_version arch None release text = []
+with_version arch (Some version) release text =
+    with_arch arch (text ++ 45 ∷ version) ++ with_release arch release (text ++ 45 ∷ version)
+
+abbrev pub with_name : Option (List ℕ) → Option (List ℕ) → Option (List ℕ) → Option (List ℕ) → List (List ℕ)
+with_name arch None version release = []
+with_name arch (Some name) version release = with_arch arch name ++ with_version arch version release name
+
+-- N, N.A, N-V, N-V.A, N-V-R and N-V-R.A; a version, a release and an architecture have no dash, and the last no dot
+unfoldable pub labels : Header → List (List ℕ)
+labels h = with_name (without is_dash_or_dot (first_text h 1022)) (first_text h 1000) (without is_dash (first_text h 1001)) (without is_dash (first_text h 1002))
+
+-- a glob, or a text, is one that a label is picked by
+abbrev pub matches : Bool → List ℕ → List ℕ → Bool
+matches is_glob wanted label = if is_glob then glob wanted label else bytes_eq wanted label

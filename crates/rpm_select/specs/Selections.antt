@@ -1,0 +1,89 @@
+-- Which packages a question picks.
+use Rattle.std.specs.Prelude.{ℕ, List, [], ◌∷◌, ◌++◌, map, filter, Bool, true, false, not, ◌&&◌, ◌||◌, ◌==◌, nat_le, slice_index, Option, Some, None, Result, Ok, Err}
+use Rattle.std.specs.List.{list_any}
+use Rattle.std.specs.Str.{bytes_eq}
+use Rattle.std.specs.Ordering.{nat_cmp}
+use Rattle.std.specs.FinMap.{FinMap, entries}
+use Rattle.rpm_header.specs.declared.form.HeaderFault.{HeaderFault}
+use Rattle.rpm_header.specs.Header.{Header, header}
+use Rattle.rpm_tags.specs.declared.needed.Tags.{Tags}
+use Rattle.rpm_tags.specs.Value.{first_text, texts_in, numbers_in}
+use Rattle.rpm_tags.specs.Wanted.{Needed, listed, has_file, dependencies}
+use Rattle.rpm_version.specs.Capability.{CapabilityParts}
+use Rattle.rpm_version.specs.Range.{has_less, has_greater, has_equal, overlaps}
+use Rattle.rpm_db.specs.State.{Package, Good, Bad}
+use Rattle.rpm_select.specs.declared.selection.Selection.{Selection}
+use Rattle.rpm_select.specs.declared.selection.Selection.TheVariants.{All, Pattern, Label, Path, Group, Provides, Requires, Conflicts, Obsoletes, Trigger, Number, Directory, Tid, Recommends}
+use Rattle.rpm_select.specs.Glob.{glob}
+use Rattle.rpm_select.specs.Labels.{labels}
+
+-- ---- what is needed or given
+
+abbrev pub tags : ℕ → ℕ → ℕ → Tags
+tags names flags versions = record { names = names; flags = flags; versions = versions }
+
+-- an element has the capability's name, and their ranges overlap
+abbrev pub meets : CapabilityParts → Needed → Bool
+meets c e = bytes_eq e.name c.name && overlaps e.flags e.version c.flags c.evr
+
+abbrev pub has_any : Tags → CapabilityParts → Header → Bool
+has_any ts c h = list_any (meets c) (dependencies ts h)
+
+-- it has no range
+abbrev pub is_plain : CapabilityParts → Bool
+is_plain c = c.flags == 0
+
+-- it is a path, of a file that is there
+abbrev pub is_file_of : CapabilityParts → Header → Bool
+is_file_of c h = is_plain c && (slice_index c.name 0 == 47 && has_file h c.name)
+
+-- ---- one row for each selection
+
+abbrev pub is_among : List ℕ → List (List ℕ) → Bool
+is_among x texts = list_any (bytes_eq x) texts
+
+abbrev pub is_first : List ℕ → Option (List ℕ) → Bool
+is_first x None = false
+is_first x (Some text) = bytes_eq x text
+
+unfoldable pub holds : Selection → ℕ → Header → Bool
+holds All n h = true
+holds (Pattern p) n h = list_any (glob p.now) (labels h)
+holds (Label x) n h = is_among x.now (labels h)
+holds (Path x) n h = has_file h x.now
+holds (Group x) n h = is_first x.now (first_text h 1016)
+holds (Provides c) n h = has_any (tags 1047 1112 1113) c h || is_file_of c h
+holds (Requires c) n h = has_any (tags 1049 1048 1050) c h
+holds (Conflicts c) n h = has_any (tags 1054 1053 1055) c h
+holds (Obsoletes c) n h = has_any (tags 1090 1114 1115) c h
+holds (Trigger x) n h = is_among x.now (listed (texts_in h 1066))
+holds (Number m) n h = n == m
+holds (Directory x) n h = is_among x.now (listed (texts_in h 1118))
+holds (Tid t) n h = list_any (λ m. m == t) (listed (numbers_in h 1128))
+holds (Recommends c) n h = has_any (tags 5046 5048 5047) c h
+
+-- ---- the packages that are picked
+
+-- a package that can't be read is picked by these alone
+abbrev pub takes_bad : Selection → ℕ → Bool
+takes_bad All n = true
+takes_bad (Pattern p) n = true
+takes_bad (Number m) n = n == m
+takes_bad others n = false
+
+-- it can't pick a package of this number, whatever that is
+abbrev pub is_elsewhere : Selection → ℕ → Bool
+is_elsewhere (Number m) n = not (n == m)
+is_elsewhere others n = false
+
+abbrev pub holds_in : Selection → ℕ → Result Header HeaderFault → Bool
+holds_in sel n (Ok h) = holds sel n h
+holds_in sel n (Err fault) = false
+
+abbrev pub is_picked : Selection → ℕ × Package → Bool
+is_picked sel (n, Good bytes) = holds_in sel n (header bytes)
+is_picked sel (n, Bad) = takes_bad sel n
+
+-- by rising number
+unfoldable pub picks : FinMap nat_cmp Package → Selection → List (ℕ × Package)
+picks packages sel = filter (is_picked sel) (entries packages)

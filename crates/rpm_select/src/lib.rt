@@ -1,0 +1,16 @@
+//! Which packages a question picks.
+#![tactic(auto)]
+
+mod labels;
+mod matching;
+mod picker;
+mod piece;
+mod rows;
+mod selection;
+#[cfg(test)]
+mod tests;
+
+pub use matching::glob;
+pub use picker::{Blob, PickFault, Picked, Picker};
+pub use rows::holds;
+pub use selection::Selection;

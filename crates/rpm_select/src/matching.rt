@@ -1,0 +1,78 @@
+//! Globs.
+
+ghost use Rattle.std.specs.Prelude.{◌≡◌};
+ghost use Rattle.rpm_select.specs.Glob.{glob};
+ghost use Rattle.rpm_select.specs.Steps.{StepIs};
+
+use crate::piece::{Piece, next_piece, takes};
+
+// What a glob and a text come to, one piece further.
+enum Move<'a> {
+    // Both are at their end.
+    Done,
+    // A star, and the glob behind it.
+    Starred(&'a [u8]),
+    // A piece took a byte: what is left of both.
+    Taken(&'a [u8], &'a [u8]),
+    // The text is at its end, and a piece that takes a byte isn't.
+    Short,
+    // The glob is at its end and the text isn't, or the piece doesn't take the byte.
+    Stuck,
+}
+
+fn step<'a>(glob: &'a [u8], text: &'a [u8]) -> Move<'a>
+    ensures { StepIs glob.now text.now result }
+{
+    match (next_piece(glob), text) {
+        (None, []) => Move::Done,
+        (None, _) => Move::Stuck,
+        (Some((Piece::Star, behind)), _) => Move::Starred(behind),
+        (Some(_), []) => Move::Short,
+        (Some((piece, behind)), [byte, rest @ ..]) => {
+            if takes(piece, *byte) {
+                Move::Taken(behind, rest)
+            } else {
+                Move::Stuck
+            }
+        }
+    }
+}
+
+/// Whether a glob matches the whole of a text: `*` stands for any bytes, `?` for one byte, `[set]` for one byte of the set, and `\`
+/// takes the next byte for itself.
+///
+/// Takes no memory. From the last star on the text is tried at one place after the
+/// other, and earlier stars are never tried again; a `[` without an end is looked through to the end each time that it is met.
+#[tactic(auto, unfolding(crate::specs::Glob::glob))]
+pub fn glob(pattern: &[u8], text: &[u8]) -> bool
+    ensures { result ≡ glob pattern.now text.now }
+{
+    let mut behind = pattern;
+    let mut left = text;
+    let mut back: Option<(&[u8], &[u8])> = None;
+    loop {
+        match step(behind, left) {
+            Move::Done => return true,
+            Move::Short => return false,
+            Move::Starred(rest) => {
+                behind = rest;
+                back = Some((rest, left));
+            }
+            Move::Taken(rest, more) => {
+                behind = rest;
+                left = more;
+            }
+            Move::Stuck => match back {
+                None => return false,
+                Some((rest, tail)) => {
+                    if tail.is_empty() {
+                        return false;
+                    }
+                    behind = rest;
+                    left = &tail[1..];
+                    back = Some((rest, left));
+                }
+            },
+        }
+    }
+}

@@ -1,0 +1,182 @@
+//! The pieces of a glob.
+
+ghost use Rattle.std.specs.Prelude.{◌≡◌, ◌+◌, ◌≤◌, ◌<◌, ◌∷◌, [], MatchOption, length};
+ghost use Rattle.std.specs.List.{position_or_len};
+ghost use Rattle.rpm_select.specs.Glob.{is_close, is_turned, member_count, is_member, takes, bracketed, piece_at, pieces};
+ghost use Rattle.rpm_select.specs.Members.{is_range, first_has, first_len};
+ghost use Rattle.rpm_select.specs.Pieces.{piece_in, written_in};
+
+/// What a part of a glob stands for.
+#[derive(Clone, Copy)]
+pub enum Piece<'a> {
+    /// Any bytes.
+    Star,
+    /// Any one byte.
+    Question,
+    /// This byte.
+    Byte(u8),
+    /// One byte of the members, or (true) one that is none of them.
+    Set(bool, &'a [u8]),
+}
+
+/// A piece, and how many bytes of the glob it is written in.
+#[derive(Clone, Copy)]
+struct Written<'a> {
+    piece: Piece<'a>,
+    size: usize,
+}
+
+/// Whether the members of a set begin with a range.
+fn is_range(members: &[u8]) -> bool
+    ensures { result ≡ is_range members.now }
+{
+    members.len() > 2 && members[1] == b'-'
+}
+
+/// Whether the first member is or has a byte.
+fn first_has(byte: u8, members: &[u8]) -> bool
+    requires { 0 < length members.now }
+    ensures { result ≡ first_has byte members.now }
+{
+    if is_range(members) {
+        members[0] <= byte && byte <= members[2]
+    } else {
+        byte == members[0]
+    }
+}
+
+/// How many bytes the first member is written in.
+fn first_len(members: &[u8]) -> usize
+    requires { 0 < length members.now }
+    ensures value { result ≡ first_len members.now }
+    ensures within { result ≤ length members.now }
+    ensures some { 0 < result }
+{
+    if is_range(members) { 3 } else { 1 }
+}
+
+/// Whether a byte is one of the members of a set.
+fn is_member(byte: u8, members: &[u8]) -> bool
+    ensures { result ≡ is_member byte members.now }
+{
+    let mut rest = members;
+    while !rest.is_empty() {
+        if first_has(byte, rest) {
+            return true;
+        }
+        rest = &rest[first_len(rest)..];
+    }
+    false
+}
+
+/// Whether a piece stands for a byte.
+pub fn takes(piece: Piece<'_>, byte: u8) -> bool
+    ensures { result ≡ takes (piece_in piece.entry) byte }
+{
+    match piece {
+        Piece::Star => false,
+        Piece::Question => true,
+        Piece::Byte(other) => byte == other,
+        Piece::Set(true, members) => !is_member(byte, members),
+        Piece::Set(false, members) => is_member(byte, members),
+    }
+}
+
+fn is_turned(rest: &[u8]) -> bool
+    ensures { result ≡ is_turned rest.now }
+{
+    match rest {
+        [b'!' | b'^', ..] => true,
+        _ => false,
+    }
+}
+
+fn close_place(rest: &[u8]) -> usize
+    ensures value { result ≡ position_or_len is_close rest.now }
+    ensures within { result ≤ length rest.now }
+{
+    rest.iter().take_while(|byte| **byte != b']').count()
+}
+
+/// How many members a set has, where it has an end.
+fn member_count(members: &[u8]) -> Option<usize>
+    ensures value { result ≡ member_count members.now }
+    ensures within { MatchOption result (members.now ≡ members.now) (λ n. n < length members.now) }
+{
+    if members.is_empty() {
+        return None;
+    }
+    let rest = &members[1..];
+    let place = close_place(rest);
+    if place < rest.len() {
+        Some(place + 1)
+    } else {
+        None
+    }
+}
+
+/// The piece that a bracket begins, given what follows it.
+fn bracketed(rest: &[u8]) -> Written<'_>
+    ensures value { written_in result ≡ bracketed rest.now }
+    ensures within { result.size ≤ length rest.now + 1 }
+    ensures some { 0 < result.size }
+{
+    let turned = is_turned(rest);
+    let members = if turned { &rest[1..] } else { rest };
+    match member_count(members) {
+        None => Written {
+            piece: Piece::Byte(b'['),
+            size: 1,
+        },
+        Some(count) => Written {
+            piece: Piece::Set(turned, &members[..count]),
+            size: if turned { count + 3 } else { count + 2 },
+        },
+    }
+}
+
+/// The piece that a byte begins, given what follows it.
+#[tactic(auto, unfolding(crate::specs::Glob::piece_at))]
+fn piece_at(byte: u8, rest: &[u8]) -> Written<'_>
+    ensures value { written_in result ≡ piece_at byte rest.now }
+    ensures within { result.size ≤ length rest.now + 1 }
+    ensures some { 0 < result.size }
+{
+    match byte {
+        b'*' => Written {
+            piece: Piece::Star,
+            size: 1,
+        },
+        b'?' => Written {
+            piece: Piece::Question,
+            size: 1,
+        },
+        b'\\' => match rest {
+            [] => Written {
+                piece: Piece::Byte(b'\\'),
+                size: 1,
+            },
+            [next, ..] => Written {
+                piece: Piece::Byte(*next),
+                size: 2,
+            },
+        },
+        b'[' => bracketed(rest),
+        _ => Written {
+            piece: Piece::Byte(byte),
+            size: 1,
+        },
+    }
+}
+
+/// The first piece of a glob, and the glob behind it.
+pub fn next_piece(glob: &[u8]) -> Option<(Piece<'_>, &[u8])>
+    ensures value { MatchOption result (pieces glob.now ≡ []) (λ cut. pieces glob.now ≡ piece_in cut.0 ∷ pieces cut.1.now) }
+    ensures less { MatchOption result (glob.now ≡ []) (λ cut. length cut.1.now < length glob.now) }
+{
+    if glob.is_empty() {
+        return None;
+    }
+    let first = piece_at(glob[0], &glob[1..]);
+    Some((first.piece, &glob[first.size..]))
+}

@@ -1,0 +1,59 @@
+-- What a question asks of a header: whether a file counts for a path, and what is needed or given at a place.
+use Rattle.std.specs.Prelude.{ℕ, ◌+◌, ◌^◌, ◌<◌, Bool, false, ◌&&◌, ◌==◌, List, [], ◌∷◌, length, drop, Option, Some, None}
+use Rattle.std.specs.List.{list_any, zip, after_last}
+use Rattle.std.specs.Str.{bytes_eq}
+use Rattle.rpm_header.specs.Header.{Header}
+use Rattle.rpm_tags.specs.declared.needed.Tags.{Tags}
+use Rattle.rpm_tags.specs.Value.{filenames, texts_in, numbers_in}
+
+-- ---- files
+
+abbrev pub is_slash : ℕ → Bool
+is_slash b = b == 47
+
+-- what follows the last slash of a path, or all of it where it has none
+abbrev pub base_name : List ℕ → List ℕ
+base_name path = after_last is_slash path
+
+-- a file, by its path and its name, counts for this path
+abbrev pub counts_for : List ℕ → List ℕ × List ℕ → Bool
+counts_for path (file, base) = bytes_eq file path && bytes_eq base (base_name path)
+
+abbrev pub any_counts_for : List ℕ → Option (List (List ℕ)) → Option (List (List ℕ)) → Bool
+any_counts_for path (Some files) (Some bases) = list_any (counts_for path) (zip files bases)
+any_counts_for path _ _ = false
+
+-- an element of FILENAMES counts for this path
+unfoldable pub has_file : Header → List ℕ → Bool
+has_file h path = any_counts_for path (filenames (texts_in h 1118) (numbers_in h 1116) (texts_in h 1117)) (texts_in h 1117)
+
+-- ---- what is needed or given
+
+-- a name with the flags and the version beside it
+pub record Needed : Type 0 where
+  pub name : List ℕ
+  pub flags : ℕ
+  pub version : List ℕ
+
+abbrev pub listed : {X : Type 0} → Option (List X) → List X
+listed None = []
+listed (Some xs) = xs
+
+-- the first element, or another where there is none
+abbrev pub first_or : {X : Type 0} → X → List X → X
+first_or other [] = other
+first_or other (x ∷ xs) = x
+
+-- each name with the flags and the version at its place, which are 0 and the empty text where the lists are too short
+abbrev pub beside : List (List ℕ) → List ℕ → List (List ℕ) → List Needed
+beside [] flags versions = []
+beside (name ∷ names) flags versions =
+    record { name = name; flags = first_or 0 flags; version = first_or [] versions } ∷ beside names (drop 1 flags) (drop 1 versions)
+
+-- arrays that are missing or of another class are empty
+unfoldable pub dependencies : Tags → Header → List Needed
+dependencies tags h = beside (listed (texts_in h tags.names)) (listed (numbers_in h tags.flags)) (listed (texts_in h tags.versions))
+
+-- a place for each name that is left
+abbrev pub HasPlaces : Option (List (List ℕ)) → ℕ → Type 0
+HasPlaces names place = place + length (listed names) < 2 ^ 32

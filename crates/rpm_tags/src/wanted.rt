@@ -1,0 +1,86 @@
+//! Whether a package has a file of a path.
+
+ghost use Rattle.std.specs.Prelude.{◌≡◌, ◌<◌, ◌≤◌, ◌++◌, not, true, Some, length};
+ghost use Rattle.std.specs.List.{list_any, zip, suffix_len};
+ghost use Rattle.rpm_tags.specs.Value.{file_name, file_names, filenames, are_matched, texts_in, numbers_in};
+ghost use Rattle.rpm_tags.specs.Wanted.{base_name, counts_for, any_counts_for, has_file, is_slash};
+
+use crate::dirs::Directories;
+use crate::files::{BASENAMES, DIRINDEXES, DIRNAMES, are_matched};
+use crate::stored::{Numbers, Texts, numbers_in, texts_in};
+use rpm_header::View;
+
+/// How many bytes of a path follow its last slash.
+fn base_len(path: &[u8]) -> usize
+    ensures value { result ≡ suffix_len (λ b. not (is_slash b)) path.now }
+    ensures within { result ≤ length path.now }
+{
+    path.iter().rev().take_while(|byte| **byte != b'/').count()
+}
+
+/// A path cut behind its last slash.
+fn split_path(path: &[u8]) -> (&[u8], &[u8])
+    ensures whole { result.0.now ++ result.1.now ≡ path.now }
+    ensures base { result.1.now ≡ base_name path.now }
+{
+    path.split_at(path.len() - base_len(path))
+}
+
+/// Whether a file of this directory and name counts for a path that is cut. The directory is read only where the name is that of
+/// the path.
+fn counts(
+    directories: &mut Directories<'_, '_>,
+    index: u64,
+    text: &[u8],
+    front: &[u8],
+    base: &[u8],
+) -> bool
+    requires below { index < length directories.old }
+    requires cut { base.now ≡ base_name (front.now ++ base.now) }
+    ensures value { result ≡ counts_for (front.now ++ base.now) (file_name directories.old (index, text.now), text.now) }
+    ensures same { directories.new ≡ directories.old }
+{
+    text == base && directories.dir(index) == front
+}
+
+/// Whether a file counts for a path. A directory is looked at only where the name is that of the path.
+fn is_any_at(dirs: &Texts<'_>, indexes: &Numbers<'_>, bases: &Texts<'_>, path: &[u8]) -> bool
+    requires { are_matched dirs.now indexes.now bases.now ≡ true }
+    ensures { result ≡ list_any (counts_for path.now) (zip (file_names dirs.now indexes.now bases.now) bases.now) }
+{
+    let (front, base) = split_path(path);
+    let _ = indexes.count();
+    let mut directories = Directories::new(dirs);
+    let mut left = bases.iter();
+    let mut place = 0;
+    while let Some(text) = left.next() {
+        let index = indexes.number(place);
+        if counts(&mut directories, index, text, front, base) {
+            return true;
+        }
+        place += 1;
+    }
+    false
+}
+
+fn is_any_in(dirs: &Texts<'_>, indexes: &Numbers<'_>, bases: &Texts<'_>, path: &[u8]) -> bool
+    ensures { result ≡ any_counts_for path.now (filenames (Some dirs.now) (Some indexes.now) (Some bases.now)) (Some bases.now) }
+{
+    are_matched(dirs, indexes, bases) && is_any_at(dirs, indexes, bases, path)
+}
+
+/// Whether an element of FILENAMES is this path, and its name is what follows the path's last slash. Reads each name once, and
+/// the directories of those alone that have the path's name. Takes no memory but for 64 directories that are kept.
+#[tactic(auto, unfolding(crate::specs::Wanted::has_file))]
+pub fn has_file(view: &View<'_>, path: &[u8]) -> bool
+    ensures { result ≡ has_file view.now path.now }
+{
+    match (
+        texts_in(view, DIRNAMES),
+        numbers_in(view, DIRINDEXES),
+        texts_in(view, BASENAMES),
+    ) {
+        (Some(dirs), Some(indexes), Some(bases)) => is_any_in(&dirs, &indexes, &bases, path),
+        _ => false,
+    }
+}
