@@ -2,13 +2,11 @@ pub mod Calls
 pub mod Causes
 pub mod Changed
 pub mod Crash
-pub mod Cuts
 pub mod EntryLaws
 pub mod Files
 pub mod History
+pub mod inner
 pub mod Literal
-pub mod Leaves
-pub mod LogLaws
 pub mod LogRules
 pub mod LogWrites
 pub mod Logs
@@ -17,12 +15,8 @@ pub mod Looks
 pub mod MemSink
 pub mod MemShelf
 pub mod MemDisk
-pub mod Moments
 pub mod Past
 pub mod Picks
-pub mod PutLaws
-pub mod PutMore
-pub mod Puts
 pub mod Shelves
 pub mod Sinks
 pub mod Taken

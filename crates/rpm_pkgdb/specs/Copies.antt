@@ -6,7 +6,7 @@ use Rattle.rpm_outside.specs.declared.disk.File.TheVariants.{Pkg, Idx, Log}
 use Rattle.rpm_outside.specs.Files.{Units, Files}
 use Rattle.rpm_outside.specs.Crash.{LeavesOnly}
 use Rattle.rpm_outside.specs.Looks.{Looks}
-use Rattle.rpm_outside.specs.Moments.{leaves_then, leaves_weaker}
+use Rattle.rpm_outside.specs.inner.Moments.{leaves_then, leaves_weaker}
 use Rattle.rpm_pkgdb.specs.Changes.{Stops, Changed, Changes, changed_weaker, changed_then, changed_none, changes_none}
 
 -- a run of calls that changes Packages.db so, and reads at most so many bytes of it

@@ -1,7 +1,7 @@
 use Rattle.std.proofs.Common.{◌≡◌, refl, ap, ◌∙◌}
 use Rattle.rpm_outside.specs.Files.{Files}
-use Rattle.rpm_outside.specs.Moments.{leaves_then, leaves_weaker}
-use Rattle.rpm_outside.specs.Leaves.{then_look}
+use Rattle.rpm_outside.specs.inner.Moments.{leaves_then, leaves_weaker}
+use Rattle.rpm_outside.specs.inner.Leaves.{then_look}
 use Rattle.rpm_outside.specs.Logs.{reopened}
 use Rattle.rpm_group.specs.Settled.{ReopensAs, ReopensAsOneOf}
 use Rattle.rpm_group.proofs.recovery.recover.Goals as goal

@@ -1,7 +1,7 @@
 use Rattle.std.proofs.Common.{◌≡◌, ℕ, ◌+◌, ◌*◌, ◌/◌, ◌≤◌, length, take, drop, ap, ◌∙◌, arith}
 use Rattle.rpm_outside.specs.Files.{Files, units_of}
 use Rattle.rpm_outside.specs.Crash.{Torn}
-use Rattle.rpm_outside.specs.Cuts.{length-cut_up}
+use Rattle.rpm_outside.specs.inner.Cuts.{length-cut_up}
 use Rattle.rpm_outside.specs.Looks.{looks_more}
 use Rattle.std.proofs.lemmas.List.{length-take}
 use Rattle.rpm_pkgdb.specs.Clear.{SameOutside}

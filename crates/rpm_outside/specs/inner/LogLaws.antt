@@ -6,8 +6,8 @@ use Rattle.rpm_outside.specs.declared.disk.File.{File}
 use Rattle.rpm_outside.specs.declared.disk.File.TheVariants.{Pkg, Idx, Log}
 use Rattle.rpm_outside.specs.Files.{Units, Files, file_of, with_file, unit_at, put}
 use Rattle.rpm_outside.specs.Crash.{TornFile}
-use Rattle.rpm_outside.specs.Puts.{length-put, put_inside, put_after}
-use Rattle.rpm_outside.specs.PutLaws.{same_units}
+use Rattle.rpm_outside.specs.inner.Puts.{length-put, put_inside, put_after}
+use Rattle.rpm_outside.specs.inner.PutLaws.{same_units}
 use Rattle.rpm_outside.specs.Literal.{cases_file}
 use Rattle.rpm_outside.specs.Logs.{Entry, LogState, Closed, Malformed, Open, word, is_head, is_blank, is_gate, entry_at, before, heads, log_state, with_entry, with_entries, with_state, unlogged, reopened}
 use Rattle.rpm_outside.specs.EntryLaws.{Covers, Within, ends_in, end_in, within_same, written_within}

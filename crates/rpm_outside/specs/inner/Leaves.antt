@@ -4,7 +4,7 @@ use Rattle.std.proofs.Common.{inl, inr, ⊎_elim, sym, subst, arith}
 use Rattle.rpm_outside.specs.declared.disk.File.{File}
 use Rattle.rpm_outside.specs.Files.{Files}
 use Rattle.rpm_outside.specs.Crash.{LeavesOnly, Untouched, Elapses}
-use Rattle.rpm_outside.specs.Moments.{leaves_then, leaves_weaker, goes_on}
+use Rattle.rpm_outside.specs.inner.Moments.{leaves_then, leaves_weaker, goes_on}
 use Rattle.rpm_outside.specs.Changed.{WasChanged, LeavesChanged}
 
 module _ {D : Type 0} (moment : D → ℕ) (left_since : D → ℕ → Files → Type 0) where

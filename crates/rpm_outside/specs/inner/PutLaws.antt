@@ -3,7 +3,7 @@ use Rattle.std.proofs.Common.{◌≡◌, inl, inr, ℕ, suc, ◌+◌, ◌-◌, �
 use Rattle.std.proofs.lemmas.List.{same_lists, get_or_default}
 use Rattle.std.proofs.lemmas.Bool.{cases_lt, cases_order}
 use Rattle.rpm_outside.specs.Files.{Units, unit_at, blank, put}
-use Rattle.rpm_outside.specs.Puts.{length-put, put_before, put_inside, put_after}
+use Rattle.rpm_outside.specs.inner.Puts.{length-put, put_before, put_inside, put_after}
 
 pub same_units : (a b : Units) → length a ≡ length b → ((i : ℕ) → unit_at a i ≡ unit_at b i) → a ≡ b
 same_units a b long same = same_lists a b long (λ k d below. get_or_default a k d blank below ∙ same k ∙ sym (get_or_default b k d blank (omega arith)))
