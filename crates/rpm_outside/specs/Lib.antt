@@ -1,6 +1,7 @@
 pub mod Calls
 pub mod Causes
 pub mod Changed
+pub mod Changes
 pub mod Crash
 pub mod EntryLaws
 pub mod Files
