@@ -126,7 +126,7 @@ module _ (h : Header) (more : List Item) (o : IsOpened h) (each : AllByRecursion
   abbrev blob : List ℕ
   blob = blob_of n (dribbled_index h more) (dribbled_data h more)
 
-  own_sixteen : length (own_index h) ≡ 16 * il
+  pub own_sixteen : length (own_index h) ≡ 16 * il
   own_sixteen = length-take-le (16 * il) (drop 8 h.blob) (omega (arith, o.sound.cut.whole, length-drop 8 h.blob))
 
   sixteen : length (dribbled_index h more) ≡ 16 * n
@@ -134,6 +134,15 @@ module _ (h : Header) (more : List Item) (o : IsOpened h) (each : AllByRecursion
 
   own : section_of n blob ≡ dribbled_data h more
   own = section_is n (dribbled_index h more) (dribbled_data h more) few sixteen small
+
+  -- the two parts of what is laid out
+  pub new_data : own_data (record { blob = dribbled h more; entries = h.entries ++ more }) ≡ dribbled_data h more
+  unfolding dribbled
+  new_data = rw (length-append h.entries more) own
+
+  pub new_index : own_index (record { blob = dribbled h more; entries = h.entries ++ more }) ≡ dribbled_index h more
+  unfolding dribbled
+  new_index = rw (length-append h.entries more) (take_at (dribbled_index h more) (dribbled_data h more) (16 * n) sixteen)
 
   behind : drop 8 blob ≡ own_index h ++ (index_from size more ++ dribbled_data h more)
   behind = append_assoc (own_index h) (index_from size more) (dribbled_data h more)
@@ -206,6 +215,7 @@ dribbled_parts h more l begun a b c d w front ia ib ic id =
     ∙ ap (λ (f : List ℕ). f ++ dribbled_index h more ++ dribbled_data h more) lengths
 
 -- what is written is the header, which is read again
-pub dribbled_written : (h : Header) (more : List Item) (l : Lengths) (blob : List ℕ) → IsOpened h → AllByRecursion ReadsBack more → IsWithin (length h.entries + length more) (length (dribbled_data h more)) l → blob ≡ dribbled h more
+pub dribbled_written : (h : Header) (more : List Item) (l : Lengths) (blob : List ℕ) → IsOpened h → AllByRecursion ReadsBack more
+    → IsWithin (length h.entries + length more) (length (dribbled_data h more)) l → blob ≡ dribbled h more
     → header blob ≡ Ok (record { blob = blob; entries = h.entries ++ more })
 dribbled_written h more l blob o each w is = rw is (dribbled_again h more o each w.few w.small)

@@ -6,6 +6,7 @@ pub mod Dribbled
 pub mod Each
 pub mod Find
 pub mod Hashed
+pub mod Kept
 pub mod LaidOut
 pub mod Laws
 pub mod Longer

@@ -6,6 +6,7 @@ use Rattle.rpm_header.specs.Parts.{own_data}
 use Rattle.rpm_header.proofs.Laws.{is_within}
 use Rattle.rpm_header.proofs.Opened.{opened}
 use Rattle.rpm_header.proofs.Dribbled.{dribbled_parts, dribbled_written}
+use Rattle.rpm_header.proofs.Kept.{digest_written}
 use Rattle.rpm_header.proofs.dribbles.lay_out.Goals as goal
 
 pub returns-clause-laid : goal.returns-clause-laid
@@ -29,3 +30,10 @@ returns-clause-again c =
     let more = c.args.extra.now in
     let within = is_within (length h.entries + length more) (length (dribbled_data h more)) c.args.lengths c.requires in
     dribbled_written h more c.args.lengths c.append_data.new.out.items (opened h c.parts_of.ensures.again) c.entries.ensures.again within (returns-clause-laid c)
+
+pub returns-clause-digest : goal.returns-clause-digest
+returns-clause-digest c = λ read told.
+    let h = c.args.view.now in
+    let more = c.args.extra.now in
+    let within = is_within (length h.entries + length more) (length (dribbled_data h more)) c.args.lengths c.requires in
+    digest_written h read more c.args.lengths c.append_data.new.out.items (opened h c.parts_of.ensures.again) c.entries.ensures.again within (returns-clause-laid c) told
