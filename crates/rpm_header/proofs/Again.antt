@@ -14,7 +14,7 @@ use Rattle.rpm_header.specs.declared.index.IndexEntry.{IndexEntry}
 use Rattle.rpm_header.specs.Bytes.{number_at}
 use Rattle.rpm_header.specs.Header.{Item, form_of, form_fault, element_fault, alignment, entry_of, index_entry_at, index_entry, section_of, is_region_tag, entry_fault, fault_at}
 use Rattle.rpm_header.specs.Laid.{kind_of, bytes_in, offset_of, end_of, data_from, index_from, index_bytes, indexed}
-use Rattle.rpm_header.specs.Packed.{ReadsBack}
+use Rattle.rpm_header.specs.inner.Packed.{ReadsBack}
 use Rattle.rpm_header.proofs.LaidOut.{offset_behind, data_length}
 
 -- ---- an entry of the index

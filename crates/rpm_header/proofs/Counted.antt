@@ -7,7 +7,7 @@ use Rattle.std.proofs.lemmas.Bool.Decides.{leb_tells}
 use Rattle.std.proofs.lemmas.List.{take-append-drop, drop_all, length-take}
 use Rattle.std.proofs.lemmas.List.Sums.{sum_by-cons, sum_by-append, count_by-le-length}
 use Rattle.rpm_header.specs.Bytes.{is_zero, are_ended}
-use Rattle.rpm_header.specs.Zeros.{zeros}
+use Rattle.rpm_header.specs.inner.Zeros.{zeros}
 
 -- ---- sums
 

@@ -5,7 +5,7 @@ use Rattle.std.specs.Int.{w32, from_be_bytes}
 use Rattle.std.proofs.lemmas.List.{drop-take, length-take-le, take_all}
 use Rattle.rpm_header.specs.Bytes.{number_at}
 use Rattle.rpm_header.specs.Header.{header, header_of, entries, fault_at}
-use Rattle.rpm_header.specs.Checked.{IsCut, IsSound}
+use Rattle.rpm_header.specs.inner.Checked.{IsCut, IsSound}
 use Rattle.rpm_header.proofs.Each.{first_none}
 
 -- a number is told by its four bytes

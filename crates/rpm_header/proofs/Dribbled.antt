@@ -18,11 +18,12 @@ use Rattle.rpm_header.specs.Header.{Item, Header, header, entries, entry_of, ind
 use Rattle.rpm_header.specs.Laid.{data_from, index_from, blob_of}
 use Rattle.rpm_header.specs.Dribbles.{dribbled_index, dribbled_data, dribbled}
 use Rattle.rpm_header.specs.Parts.{own_index, own_data}
-use Rattle.rpm_header.specs.Packed.{ReadsBack}
+use Rattle.rpm_header.specs.inner.Packed.{ReadsBack}
+use Rattle.rpm_header.specs.inner.Longer.{number_longer}
 use Rattle.rpm_header.proofs.Bools.{and_true}
 use Rattle.rpm_header.proofs.Cut.{number_in_front}
 use Rattle.rpm_header.proofs.Opened.{IsOpened}
-use Rattle.rpm_header.proofs.Longer.{same_below, room_of, number_longer, in_data, faultless, fault_longer, entry_longer}
+use Rattle.rpm_header.proofs.Longer.{same_below, room_of, in_data, faultless, fault_longer, entry_longer}
 use Rattle.rpm_header.proofs.Again.{Stands, entries_again, sound_again, neither}
 use Rattle.rpm_header.proofs.Laws.{no_region_fault, length-index_from, section_is, header_is, IsWithin}
 

@@ -13,9 +13,9 @@ use Rattle.rpm_header.specs.Parts.{own_index, own_data}
 use Rattle.rpm_header.specs.Digest.{in_file, region_in_file, begins_with, immutable_digest}
 use Rattle.rpm_header.specs.Laid.{index_from, data_from}
 use Rattle.rpm_header.specs.Dribbles.{dribbled, dribbled_index, dribbled_data}
-use Rattle.rpm_header.specs.Packed.{ReadsBack}
+use Rattle.rpm_header.specs.inner.Packed.{ReadsBack}
 use Rattle.rpm_header.proofs.Bools.{or_false}
-use Rattle.rpm_header.proofs.Longer.{number_longer}
+use Rattle.rpm_header.specs.inner.Longer.{number_longer}
 use Rattle.rpm_header.proofs.Opened.{IsOpened}
 use Rattle.rpm_header.proofs.Hashed.{region_fits}
 use Rattle.rpm_header.proofs.Dribbled.{own_sixteen, new_index, new_data, dribbled_written}

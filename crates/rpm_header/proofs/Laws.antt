@@ -14,7 +14,7 @@ use Rattle.rpm_header.specs.declared.laying.Lengths.{Lengths}
 use Rattle.rpm_header.specs.Bytes.{number_at}
 use Rattle.rpm_header.specs.Header.{Item, entry_of, index_entry, section_of, form_of, is_region_tag, element_fault, fault_at, entry_fault, form_fault, region_fault, counts_back, header, header_of, entries}
 use Rattle.rpm_header.specs.Laid.{offset_of, end_of, data_from, index_from, index_bytes, indexed, trailer_entry, trailer, region_item, with_region, index_of, data_of, blob_of, laid, lengths_of}
-use Rattle.rpm_header.specs.Packed.{ReadsBack}
+use Rattle.rpm_header.specs.inner.Packed.{ReadsBack}
 use Rattle.rpm_header.proofs.Each.{first_none}
 use Rattle.rpm_header.proofs.Region.{counts}
 use Rattle.rpm_header.proofs.Again.{Stands, Fits, index_front, entries_again, sound_again, form_sound, neither, read_front}

@@ -12,6 +12,7 @@ pub mod Laws
 pub mod Longer
 pub mod NumbersAgain
 pub mod Opened
+pub mod Own
 pub mod Packing
 pub mod Region
 pub mod Repacked

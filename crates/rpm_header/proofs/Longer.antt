@@ -10,27 +10,13 @@ use Rattle.rpm_header.specs.declared.form.Form.TheVariants as form
 use Rattle.rpm_header.specs.declared.form.HeaderFault.{HeaderFault}
 use Rattle.rpm_header.specs.declared.form.HeaderFault.TheVariants.{BadOffset, BadCount, NoEnd}
 use Rattle.rpm_header.specs.declared.index.IndexEntry.{IndexEntry}
+use Rattle.rpm_header.specs.inner.Longer.{number_longer}
 use Rattle.rpm_header.specs.Bytes.{number_at, numbers, texts, are_ended, is_zero}
 use Rattle.rpm_header.specs.Header.{Numbers, Texts, Bytes, values, alignment, has_texts, is_bad_count, element_fault, form_of, form_or_null, form_fault, entry_of}
 use Rattle.rpm_header.proofs.Bools.{and_true, or_false}
 use Rattle.rpm_header.proofs.Again.{form_sound}
 
 -- ---- numbers
-
-sum_same : (f g : ℕ → ℕ) (n : ℕ) → ((k : ℕ) → k ≤ n → f k ≡ g k) → sum_through f n ≡ sum_through g n
-sum_same f g zero same = same 0 (omega arith)
-sum_same f g (suc n) same = rw (sum_same f g n (λ k le. same k (omega arith)), same (suc n) (omega arith)) refl
-
-pub number_longer : (w : Width) (bytes more : List ℕ) (at : ℕ) → 0 < byte_len w → at + byte_len w ≤ length bytes → number_at w (bytes ++ more) at ≡ number_at w bytes at
-unfolding number_at
-number_longer w bytes more at some within =
-    let apart : drop at (bytes ++ more) ≡ drop at bytes ++ more = drop-append-le at bytes more (omega arith) in
-    let size : length (drop at bytes) ≡ length bytes - at = length-drop at bytes in
-    ap (from_be_bytes w) apart ∙ sum_same
-    (λ i. byte_worth (byte_len w - 1 - i) (get_or (drop at bytes ++ more) i 0))
-    (λ i. byte_worth (byte_len w - 1 - i) (get_or (drop at bytes) i 0))
-    (byte_len w - 1)
-    (λ k le. ap (byte_worth (byte_len w - 1 - k)) (get_or_append_left (drop at bytes) more 0 k (omega arith)))
 
 pub same_below : {X : Type 0} (f g : ℕ → X) (a n : ℕ) → ((k : ℕ) → a ≤ k → k < a + n → f k ≡ g k) → map f (range_with_len a n) ≡ map g (range_with_len a n)
 same_below f g a zero same = refl

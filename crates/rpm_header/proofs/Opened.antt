@@ -8,7 +8,7 @@ use Rattle.rpm_header.specs.declared.form.HeaderFault.{HeaderFault}
 use Rattle.rpm_header.specs.declared.form.HeaderFault.TheVariants.{Short, TooManyEntries, TooMuchData}
 use Rattle.rpm_header.specs.Bytes.{number_at, each_below}
 use Rattle.rpm_header.specs.Header.{Item, Header, header, header_of, entries, fault_at, first, unless}
-use Rattle.rpm_header.specs.Checked.{IsCut, IsSound}
+use Rattle.rpm_header.specs.inner.Checked.{IsCut, IsSound}
 use Rattle.rpm_header.proofs.Cut.{is_cut}
 use Rattle.rpm_header.proofs.Each.{length-entries}
 

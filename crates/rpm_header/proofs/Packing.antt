@@ -10,7 +10,7 @@ use Rattle.rpm_header.specs.Bytes.{texts}
 use Rattle.rpm_header.specs.Header.{Item, Values, Numbers, Texts, Bytes, values, width, alignment, has_numbers, has_texts, is_region_tag, element_fault}
 use Rattle.rpm_header.specs.Build.{AllFit, IsText, is_text_list, numbers_item, text_item, texts_item, bin_item}
 use Rattle.rpm_header.specs.Laid.{bytes_in, joined}
-use Rattle.rpm_header.specs.Packed.{IsPacked, ReadsBack}
+use Rattle.rpm_header.specs.inner.Packed.{IsPacked, ReadsBack}
 use Rattle.rpm_header.proofs.NumbersAgain.{numbers_again, few_numbers, length-numbers_bytes}
 use Rattle.rpm_header.proofs.TextsAgain.{texts_again, few_texts}
 

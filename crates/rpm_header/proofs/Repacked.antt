@@ -6,7 +6,7 @@ use Rattle.rpm_header.specs.declared.form.Form.TheVariants as form
 use Rattle.rpm_header.specs.Header.{Item, Values, Nothing, Numbers, Texts, Bytes, values, has_numbers, is_region_tag, IsWhole}
 use Rattle.rpm_header.specs.Build.{is_text_list, retagged}
 use Rattle.rpm_header.specs.Laid.{bytes_in}
-use Rattle.rpm_header.specs.Packed.{IsPacked, ReadsBack, IsStored}
+use Rattle.rpm_header.specs.inner.Packed.{IsPacked, ReadsBack, IsStored}
 use Rattle.rpm_header.proofs.Packing.{item_of, numbers_packed, numbers_read_back, texts_packed, texts_read_back, text_read_back, bin_packed, bin_read_back, list_has_texts}
 
 -- the packed bytes say the same, and so they do in a header

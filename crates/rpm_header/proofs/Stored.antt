@@ -10,10 +10,10 @@ use Rattle.std.proofs.lemmas.List.Sums.{split_at_first, passes_at_first}
 use Rattle.std.proofs.lemmas.Nat.{be_bytes_2, be_bytes_4, be_bytes_8}
 use Rattle.rpm_header.specs.declared.form.Form.{Form}
 use Rattle.rpm_header.specs.declared.form.Form.TheVariants as form
-use Rattle.rpm_header.specs.Checked.{IsInside}
+use Rattle.rpm_header.specs.inner.Checked.{IsInside}
 use Rattle.rpm_header.specs.Header.{width, alignment, has_texts}
-use Rattle.rpm_header.specs.Packed.{item_at, IsStored}
-use Rattle.rpm_header.proofs.Longer.{number_longer}
+use Rattle.rpm_header.specs.inner.Packed.{item_at, IsStored}
+use Rattle.rpm_header.specs.inner.Longer.{number_longer}
 use Rattle.rpm_header.specs.Bytes.{is_zero, texts, Splits, number_at, numbers}
 use Rattle.rpm_header.specs.Build.{IsText}
 use Rattle.rpm_header.specs.Laid.{joined, bytes_in}

@@ -7,7 +7,7 @@ use Rattle.std.proofs.lemmas.Grind.{flat_map-append}
 use Rattle.rpm_header.specs.Bytes.{is_zero, texts, are_ended}
 use Rattle.rpm_header.specs.Build.{IsText}
 use Rattle.rpm_header.specs.Laid.{joined}
-use Rattle.rpm_header.specs.Packed.{IsJoined}
+use Rattle.rpm_header.specs.inner.Packed.{IsJoined}
 use Rattle.rpm_header.proofs.Bools.{or_false}
 use Rattle.rpm_header.proofs.Whole.{length-texts}
 

@@ -1,7 +1,7 @@
 //! Entries behind those of a header that stands.
 
 ghost use Rattle.std.specs.Prelude.{◌≡◌, ℕ, ◌+◌, ◌++◌, ◌≤◌, ◌<◌, ◌↔◌, length, IfOk, Ok, Err};
-ghost use Rattle.rpm_header.specs.Header.{header, Header};
+ghost use Rattle.rpm_header.specs.Header.{max_data, max_entries, header, Header};
 ghost use Rattle.rpm_header.specs.Digest.{immutable_digest};
 ghost use Rattle.rpm_header.specs.Laid.{lengths_of};
 ghost use Rattle.rpm_header.specs.Dribbles.{dribbled, dribbled_data};
@@ -57,8 +57,8 @@ pub fn with_dribbles(alloc: Global, view: &View<'_>, extra: &Builder) -> Result<
     ensures laid { IfOk result (λ blob. blob.items ≡ dribbled view.now extra.now) }
     ensures again { IfOk result (λ blob. header blob.items ≡ Ok (record { blob = blob.items; entries = view.now.entries ++ extra.now })) }
     ensures digest { IfOk result (λ blob. (read : Header) → header blob.items ≡ Ok read → immutable_digest read ≡ immutable_digest view.now) }
-    ensures too_many { (result ≡ Err BuildFault.TooManyEntries) ↔ (65535 < length view.now.entries + length extra.now) }
-    ensures too_much { (result ≡ Err BuildFault.TooMuchData) ↔ ((length view.now.entries + length extra.now ≤ 65535) × (67108864 < length (dribbled_data view.now extra.now))) }
+    ensures too_many { (result ≡ Err BuildFault.TooManyEntries) ↔ (max_entries < length view.now.entries + length extra.now) }
+    ensures too_much { (result ≡ Err BuildFault.TooMuchData) ↔ ((length view.now.entries + length extra.now ≤ max_entries) × (max_data < length (dribbled_data view.now extra.now))) }
 {
     let lengths = dribbled_lengths(view, extra)?;
     match lay_out(alloc, view, extra, lengths) {

@@ -2,7 +2,7 @@ use Rattle.std.proofs.Common.{subst, ◌≡◌, ap, refl, sym, ◌∙◌, [], �
 use Rattle.std.proofs.lemmas.List.{append-nil}
 use Rattle.rpm_header.specs.declared.form.Form.TheVariants as form
 use Rattle.rpm_header.specs.Header.{Values}
-use Rattle.rpm_header.specs.Packed.{ReadsBack}
+use Rattle.rpm_header.specs.inner.Packed.{ReadsBack}
 use Rattle.rpm_header.proofs.Packing.{texts_packed, text_read_back, item_of}
 use Rattle.rpm_header.proofs.packed.PackedEntry.text.Goals as goal
 

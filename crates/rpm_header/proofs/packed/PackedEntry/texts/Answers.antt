@@ -1,6 +1,6 @@
 use Rattle.std.proofs.Common.{ap, sym, subst, ◌∙◌, ℕ}
 use Rattle.rpm_header.specs.Header.{Values, Texts}
-use Rattle.rpm_header.specs.Packed.{ReadsBack}
+use Rattle.rpm_header.specs.inner.Packed.{ReadsBack}
 use Rattle.rpm_header.proofs.Packing.{texts_packed, texts_read_back, item_of, list_has_texts}
 use Rattle.rpm_header.proofs.packed.PackedEntry.texts.Goals as goal
 

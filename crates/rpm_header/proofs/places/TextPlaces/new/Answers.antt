@@ -1,5 +1,5 @@
 use Rattle.std.proofs.Common.{◌≡◌, ◌+◌, ◌*◌, ◌/◌, ◌≢◌, ◌<◌, ℕ, length, take, arith, ap, refl, ◌∙◌, below_more, get_or-set_other, get_or-set_same, length-set}
-use Rattle.rpm_header.specs.Zeros.{zeros}
+use Rattle.rpm_header.specs.inner.Zeros.{zeros}
 use Rattle.rpm_header.proofs.Counted.{zeros-parts, zeros-le, zeros-take-le, in_strides}
 use Rattle.rpm_header.proofs.places.TextPlaces.new.Goals as goal
 

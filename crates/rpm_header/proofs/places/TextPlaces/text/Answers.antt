@@ -3,7 +3,7 @@ use Rattle.std.specs.Prelude.{slice_get}
 use Rattle.std.specs.List.{before_first}
 use Rattle.std.proofs.lemmas.List.{take_all}
 use Rattle.rpm_header.specs.Bytes.{is_zero}
-use Rattle.rpm_header.specs.Zeros.{zeros, skipped}
+use Rattle.rpm_header.specs.inner.Zeros.{zeros, skipped}
 use Rattle.rpm_header.proofs.Counted.{zeros-parts, zeros-take-le, ended_enough, zeros_enough}
 use Rattle.rpm_header.proofs.Skipped.{text_behind, skip_drop}
 use Rattle.rpm_header.proofs.Whole.{length-texts}
