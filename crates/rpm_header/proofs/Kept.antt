@@ -39,11 +39,13 @@ region_is : (h : Header) → region_in_file h ≡ hashed_of (own_index h) (own_d
 region_is h = refl
 
 -- the same where more stands behind both
-hashed_longer : (index more section behind : List ℕ) (offset r : ℕ) → offset ≡ offset_in index → r ≡ entries_in section offset → 16 ≤ length index → 16 * r ≤ length index → offset + 16 ≤ length section
+hashed_longer : (index more section behind : List ℕ) (offset r : ℕ) → offset ≡ offset_in index → r ≡ entries_in section offset → 16 ≤ length index
+    → 16 * r ≤ length index → offset + 16 ≤ length section
     → hashed_of (index ++ more) (section ++ behind) ≡ hashed_of index section
 hashed_longer index more section behind offset r offset_is r_is some few within =
     let same_offset : offset_in (index ++ more) ≡ offset = number_longer w32 index more 8 (omega arith) (omega (arith, some)) ∙ sym offset_is in
-    let same_number : number_at w32 (section ++ behind) (offset + 8) ≡ number_at w32 section (offset + 8) = number_longer w32 section behind (offset + 8) (omega arith) (omega (arith, within)) in
+    let same_number : number_at w32 (section ++ behind) (offset + 8) ≡ number_at w32 section (offset + 8) =
+    number_longer w32 section behind (offset + 8) (omega arith) (omega (arith, within)) in
     let same_entries : entries_in (section ++ behind) offset ≡ r = ap (λ (n : ℕ). (2 ^ 32 - n) / 16) same_number ∙ sym r_is in
     let same_index : take (16 * r) (index ++ more) ≡ take (16 * r) index = take-append-le (16 * r) index more few in
     let same_section : take (offset + 16) (section ++ behind) ≡ take (offset + 16) section = take-append-le (offset + 16) section behind within in
@@ -60,7 +62,8 @@ begins_kept [] [] each = refl
 begins_kept [] (e ∷ more) each = (or_false (eqb e.tag 62) (eqb e.tag 63) each.0.no_region).1
 begins_kept (e ∷ es) more each = refl
 
-module _ (h : Header) (more : List Item) (o : IsOpened h) (each : AllByRecursion ReadsBack more) (few : length h.entries + length more ≤ 65535) (small : length (dribbled_data h more) ≤ 67108864) where
+module _ (h : Header) (more : List Item) (o : IsOpened h) (each : AllByRecursion ReadsBack more) (few : length h.entries + length more ≤ 65535)
+    (small : length (dribbled_data h more) ≤ 67108864) where
   abbrev read : Header
   read = record { blob = dribbled h more; entries = h.entries ++ more }
 
@@ -73,7 +76,8 @@ module _ (h : Header) (more : List Item) (o : IsOpened h) (each : AllByRecursion
       region_is read
       ∙ ap (λ (i : List ℕ). hashed_of i (own_data read)) index
       ∙ ap (hashed_of (dribbled_index h more)) section
-      ∙ hashed_longer (own_index h) (index_from (length (own_data h)) more) (own_data h) (data_from (length (own_data h)) more) offset (entries_in (own_data h) offset)
+      ∙ hashed_longer (own_index h) (index_from (length (own_data h)) more) (own_data h) (data_from (length (own_data h)) more) offset
+      (entries_in (own_data h) offset)
       refl refl fits.some (omega (arith, fits.few, own_sixteen h more o each few small)) fits.trailer
       ∙ sym (region_is h)
 
@@ -88,7 +92,10 @@ module _ (h : Header) (more : List Item) (o : IsOpened h) (each : AllByRecursion
 
 -- what is written is read again with the same digest
 pub digest_written : (h read : Header) (more : List Item) (l : Lengths) (blob : List ℕ) → IsOpened h → AllByRecursion ReadsBack more
-    → IsWithin (length h.entries + length more) (length (dribbled_data h more)) l → blob ≡ dribbled h more → header blob ≡ Ok read → immutable_digest read ≡ immutable_digest h
+    → IsWithin (length h.entries + length more) (length (dribbled_data h more)) l → blob ≡ dribbled h more → header blob ≡ Ok read
+    → immutable_digest read ≡ immutable_digest h
 digest_written h read more l blob o each w is told =
-    let same : record { blob = blob; entries = h.entries ++ more } ≡ read = ok_same (header blob) (record { blob = blob; entries = h.entries ++ more }) read (dribbled_written h more l blob o each w is) told in
-    sym (ap immutable_digest same) ∙ ap (λ (b : List ℕ). immutable_digest (record { blob = b; entries = h.entries ++ more })) is ∙ digest_kept h more o each w.few w.small
+    let same : record { blob = blob; entries = h.entries ++ more } ≡ read =
+    ok_same (header blob) (record { blob = blob; entries = h.entries ++ more }) read (dribbled_written h more l blob o each w is) told in
+    sym (ap immutable_digest same) ∙ ap (λ (b : List ℕ). immutable_digest (record { blob = b; entries = h.entries ++ more })) is
+    ∙ digest_kept h more o each w.few w.small

@@ -9,7 +9,8 @@ passed : (o : Option HeaderFault) (x h : Header) → unless o x ≡ Ok h → x �
 passed None x h is = cc
 passed (Some fault) x h is = absurd cc
 
-pub own_front : (r : Result Header HeaderFault) (il n : ℕ) (bytes : List ℕ) → n ≤ length bytes → r ≡ header_of il (take n bytes) → IfOk r (λ h. take (length h.blob) bytes ≡ h.blob)
+pub own_front : (r : Result Header HeaderFault) (il n : ℕ) (bytes : List ℕ) → n ≤ length bytes → r ≡ header_of il (take n bytes)
+    → IfOk r (λ h. take (length h.blob) bytes ≡ h.blob)
 unfolding header_of
 own_front (Err fault) il n bytes within is = cc
 own_front (Ok h) il n bytes within is =

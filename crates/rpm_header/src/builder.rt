@@ -183,7 +183,8 @@ impl Builder {
         ensures laid { IfOk result (λ blob. blob.items ≡ laid region self.now) }
         ensures again { IfOk result (λ blob. header blob.items ≡ Ok (record { blob = blob.items; entries = with_region region self.now })) }
         ensures too_many { (result ≡ Err BuildFault.TooManyEntries) ↔ (max_entries < length (with_region region self.now)) }
-        ensures too_much { (result ≡ Err BuildFault.TooMuchData) ↔ ((length (with_region region self.now) ≤ max_entries) × (max_data < length (data_of region self.now))) }
+        ensures too_much { (result ≡ Err BuildFault.TooMuchData)
+            ↔ ((length (with_region region self.now) ≤ max_entries) × (max_data < length (data_of region self.now))) }
     {
         let lengths = self.lengths(region)?;
         match self.lay_out(alloc, region, lengths) {

@@ -58,7 +58,8 @@ pub fn with_dribbles(alloc: Global, view: &View<'_>, extra: &Builder) -> Result<
     ensures again { IfOk result (λ blob. header blob.items ≡ Ok (record { blob = blob.items; entries = view.now.entries ++ extra.now })) }
     ensures digest { IfOk result (λ blob. (read : Header) → header blob.items ≡ Ok read → immutable_digest read ≡ immutable_digest view.now) }
     ensures too_many { (result ≡ Err BuildFault.TooManyEntries) ↔ (max_entries < length view.now.entries + length extra.now) }
-    ensures too_much { (result ≡ Err BuildFault.TooMuchData) ↔ ((length view.now.entries + length extra.now ≤ max_entries) × (max_data < length (dribbled_data view.now extra.now))) }
+    ensures too_much { (result ≡ Err BuildFault.TooMuchData)
+        ↔ ((length view.now.entries + length extra.now ≤ max_entries) × (max_data < length (dribbled_data view.now extra.now))) }
 {
     let lengths = dribbled_lengths(view, extra)?;
     match lay_out(alloc, view, extra, lengths) {

@@ -8,7 +8,8 @@ sum_same : (f g : ℕ → ℕ) (n : ℕ) → ((k : ℕ) → k ≤ n → f k ≡ 
 sum_same f g zero same = same 0 (omega arith)
 sum_same f g (suc n) same = rw (sum_same f g n (λ k le. same k (omega arith)), same (suc n) (omega arith)) refl
 
-pub number_longer : (w : Width) (bytes more : List ℕ) (at : ℕ) → 0 < byte_len w → at + byte_len w ≤ length bytes → number_at w (bytes ++ more) at ≡ number_at w bytes at
+pub number_longer : (w : Width) (bytes more : List ℕ) (at : ℕ) → 0 < byte_len w → at + byte_len w ≤ length bytes
+    → number_at w (bytes ++ more) at ≡ number_at w bytes at
 unfolding number_at
 number_longer w bytes more at some within =
     let apart : drop at (bytes ++ more) ≡ drop at bytes ++ more = drop-append-le at bytes more (omega arith) in

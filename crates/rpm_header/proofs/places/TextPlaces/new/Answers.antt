@@ -21,7 +21,12 @@ loop-k-preserved c =
     let from = c.loop-k.k * c.stride_for-stride.result in
     let to = from + c.stride_for-stride.result in
     let next : (c.loop-k.k + 1) * c.stride_for-stride.result ≡ to = omega arith in
-    let room : c.loop-k.k < length c.loop-k.sums = omega (arith, in_strides 255 c.stride_for-stride.result (c.look_for_ends-len.result.1 / c.stride_for-stride.result) c.look_for_ends-len.result.1 (omega arith) (omega arith)) in
+    let room : c.loop-k.k < length c.loop-k.sums =
+    omega (
+      arith,
+      in_strides 255 c.stride_for-stride.result (c.look_for_ends-len.result.1 / c.stride_for-stride.result) c.look_for_ends-len.result.1
+          (omega arith) (omega arith),
+    ) in
     record {
       seen = omega (arith, ap (λ (n : ℕ). zeros (take n bytes)) next, zeros-parts from bytes, zeros-parts to bytes);
       size = length-set c.loop-k.sums c.loop-k.k c.loop-k.seen ∙ c.loop-k.invariant.size;
