@@ -1,10 +1,9 @@
 -- The region of a header stays as it is where further entries stand behind its own.
-use Rattle.std.proofs.Common.{◌≡◌, ℕ, ◌+◌, ◌-◌, ◌*◌, ◌/◌, ◌^◌, ◌≤◌, List, [], ◌∷◌, ◌++◌, length, take, true, false, eqb, Some, Ok, Result, refl, sym, ap, subst, ◌∙◌, arith, inl, inr, length-append}
+use Rattle.std.proofs.Common.{◌≡◌, ℕ, ◌+◌, ◌-◌, ◌*◌, ◌/◌, ◌^◌, ◌≤◌, List, [], ◌∷◌, ◌++◌, length, take, true, eqb, Ok, Result, refl, sym, ap, ◌∙◌, arith, inl, inr}
 use Rattle.std.specs.List.{AllByRecursion}
 use Rattle.std.specs.Int.{w32}
 use Rattle.std.proofs.lemmas.Bool.{cases_Bool}
 use Rattle.std.proofs.lemmas.List.{take-append-le}
-use Rattle.sha2.specs.Sha256.{sha256}
 use Rattle.rpm_header.specs.declared.form.HeaderFault.{HeaderFault}
 use Rattle.rpm_header.specs.declared.laying.Lengths.{Lengths}
 use Rattle.rpm_header.specs.Bytes.{number_at}

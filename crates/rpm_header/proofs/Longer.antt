@@ -1,10 +1,10 @@
 -- An entry without a fault says the same where more data stand behind.
-use Rattle.std.proofs.Common.{◌≡◌, ℕ, zero, suc, ◌+◌, ◌-◌, ◌*◌, ◌%◌, ◌<◌, ◌≤◌, List, [], ◌∷◌, ◌++◌, length, take, drop, map, get_or, cond, Bool, true, false, eqb, Option, Some, None, refl, ap, ◌∙◌, length-append, length-drop, le-ltb, lt-ltb, arith, inl, inr}
+use Rattle.std.proofs.Common.{◌≡◌, ℕ, zero, suc, ◌+◌, ◌*◌, ◌%◌, ◌<◌, ◌≤◌, List, [], ◌∷◌, ◌++◌, length, take, drop, map, cond, Bool, true, false, eqb, Option, Some, None, refl, ap, length-append, le-ltb, lt-ltb, arith, inl, inr}
 use Rattle.std.specs.Prelude.{nat_lt, not, ◌&&◌, ◌||◌, ◌⊎◌, is_some, if◌then◌else◌}
 use Rattle.std.specs.List.{range_with_len, position, position_or_len, after_first}
-use Rattle.std.specs.Int.{Width, w8, w16, w32, w64, byte_worth, byte_len, from_be_bytes, sum_through}
+use Rattle.std.specs.Int.{Width, w8, w16, w32, w64, byte_len}
 use Rattle.std.proofs.lemmas.Bool.{ltb-true, ltb-false, eqb-true}
-use Rattle.std.proofs.lemmas.List.{get_or_append_left, take-append-le, drop-append-le}
+use Rattle.std.proofs.lemmas.List.{take-append-le, drop-append-le}
 use Rattle.rpm_header.specs.declared.form.Form.{Form}
 use Rattle.rpm_header.specs.declared.form.Form.TheVariants as form
 use Rattle.rpm_header.specs.declared.form.HeaderFault.{HeaderFault}
