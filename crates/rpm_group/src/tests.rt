@@ -1,4 +1,5 @@
-use crate::{Overlay, RecoverFault, recover, write_seven};
+use crate::whole::write_seven;
+use crate::{Overlay, RecoverFault, recover};
 use rpm_outside::{Disk, File, MemDisk, Pick};
 use std::alloc::{AllocError, Global};
 use std::test::Fail;

@@ -14,8 +14,10 @@ const SEVEN: [u8; 16] = [7; 16];
 
 /// Writes a unit of sevens to the front of Packages.db, as one change.
 pub fn write_seven<D: Disk + Drop>(alloc: Global, disk: D) -> (D, bool)
-    ensures images { IsTrue D.tells → LeavesOnly D.moment D.left_since disk result.0 (LeavesBoth (D.left_since disk (D.moment disk)) (with_seven (reopened (D.files disk)))) }
-    ensures acknowledged { result.1 ≡ true → IsTrue D.tells → (image : Files) → D.left_since result.0 (D.moment result.0) image → reopened image ≡ with_seven (reopened (D.files disk)) }
+    ensures images { IsTrue D.tells
+        → LeavesOnly D.moment D.left_since disk result.0 (LeavesBoth (D.left_since disk (D.moment disk)) (with_seven (reopened (D.files disk)))) }
+    ensures acknowledged { result.1 ≡ true → IsTrue D.tells → (image : Files) → D.left_since result.0 (D.moment result.0) image
+        → reopened image ≡ with_seven (reopened (D.files disk)) }
 {
     let mut disk = disk;
     let Ok(_) = recover(&mut disk) else {
