@@ -1,4 +1,4 @@
-//! A command in small: what is left of an earlier change is finished, a change is made on an overlay, and committed.
+//! Commands in small: what is left of an earlier change is finished, a change is made on an overlay, and committed.
 
 ghost use Rattle.std.specs.Prelude.{◌≡◌, ◌⊎◌, ℕ, IsTrue, true, ◌∷◌, [], replicate};
 ghost use Rattle.rpm_outside.specs.Files.{Files, put};
@@ -30,6 +30,28 @@ pub fn write_seven<D: Disk + Drop>(alloc: Global, disk: D) -> (D, bool)
     let Ok(()) = overlay.write_at(File::Pkg, 0, &SEVEN) else {
         return (overlay.release(), false);
     };
+    if overlay.is_starved() {
+        return (overlay.release(), false);
+    }
+    let (below, answer) = overlay.commit();
+    (below, answer.is_ok())
+}
+
+/// Writes units of one byte each, as one change.
+pub fn write_units<D: Disk + Drop>(alloc: Global, disk: D, units: &[(File, u16, u8)]) -> (D, bool) {
+    let mut disk = disk;
+    let Ok(_) = recover(&mut disk) else {
+        return (disk, false);
+    };
+    let mut overlay = match Overlay::load(alloc, disk) {
+        Ok(overlay) => overlay,
+        Err(refused) => return (refused.disk, false),
+    };
+    for (file, unit, byte) in units {
+        let Ok(()) = overlay.write_at(*file, *unit as u64, &[*byte; 16]) else {
+            return (overlay.release(), false);
+        };
+    }
     if overlay.is_starved() {
         return (overlay.release(), false);
     }
