@@ -7,7 +7,7 @@ ghost use Rattle.rpm_outside.specs.Logs.{reopened};
 ghost use Rattle.rpm_group.specs.Wholes.{with_seven, LeavesBoth};
 
 use crate::{Overlay, recover};
-use rpm_outside::{Disk, File};
+use rpm_outside::{Disk, Failed, File};
 use std::alloc::Global;
 
 const SEVEN: [u8; 16] = [7; 16];
@@ -37,6 +37,16 @@ pub fn write_seven<D: Disk + Drop>(alloc: Global, disk: D) -> (D, bool)
     (below, answer.is_ok())
 }
 
+/// Writes units of one byte each.
+fn write_all<D: Disk>(disk: &mut D, units: &[(File, u16, u8)]) -> Result<(), Failed>
+    ensures { D.follows disk.old disk.new }
+{
+    for (file, unit, byte) in units {
+        disk.write_at(*file, *unit as u64, &[*byte; 16])?;
+    }
+    Ok(())
+}
+
 /// Writes units of one byte each, as one change.
 pub fn write_units<D: Disk + Drop>(alloc: Global, disk: D, units: &[(File, u16, u8)]) -> (D, bool) {
     let mut disk = disk;
@@ -47,11 +57,9 @@ pub fn write_units<D: Disk + Drop>(alloc: Global, disk: D, units: &[(File, u16, 
         Ok(overlay) => overlay,
         Err(refused) => return (refused.disk, false),
     };
-    for (file, unit, byte) in units {
-        let Ok(()) = overlay.write_at(*file, *unit as u64, &[*byte; 16]) else {
-            return (overlay.release(), false);
-        };
-    }
+    let Ok(()) = write_all(&mut overlay, units) else {
+        return (overlay.release(), false);
+    };
     if overlay.is_starved() {
         return (overlay.release(), false);
     }
