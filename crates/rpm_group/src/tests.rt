@@ -103,9 +103,8 @@ fn an_overlay_reads_what_is_held_over_what_is_below(rt: HostRuntime) -> Result<(
     assert!(rt; overlay.write_at(File::Pkg, 2, &unit(6)).is_ok());
     assert!(rt; overlay.write_at(File::Log, 9, &unit(4)).is_ok());
     assert_eq!(rt; overlay.held(), 5);
-    assert_eq!(rt; overlay.len(File::Pkg), Ok(5));
     let mut bytes = [0xffu8; 80];
-    assert!(rt; overlay.len(File::Pkg).is_ok_and(|n| n == 5));
+    assert_eq!(rt; overlay.len(File::Pkg), Ok(5));
     assert!(rt; overlay.read_at(File::Pkg, 0, &mut bytes).is_ok());
     let wanted = [1, 7, 6, 0, 5].map(unit).concat(alloc)?;
     assert_eq!(rt; bytes.as_slice(), wanted.as_slice());
