@@ -1,20 +1,16 @@
 //! Where a blob is to go, decided before anything is written.
 
 ghost use Rattle.std.specs.Prelude.{◌≡◌, ◌≢◌, ◌↔◌, ℕ, ◌+◌, ◌*◌, ◌^◌, ◌≤◌, ◌<◌, true, false, None, Err, length, MatchOption, IfSome, IsSome, OnOk, IfOk};
-ghost use Rattle.rpm_blocks.specs.Blocks.{IsFree, with_range, block_limit};
-ghost use Rattle.rpm_pkgdb.specs.Slots.{is_used, end_of, slot_at, slot_with, has_number};
+ghost use Rattle.rpm_pkgdb.specs.Slots.{slot_at, slot_with, has_number};
 ghost use Rattle.rpm_pkgdb.specs.Maps.{IsPackageNumber};
 ghost use Rattle.rpm_pkgdb.specs.Store.{next_number};
-ghost use Rattle.rpm_pkgdb.specs.Written.{with_spare};
-ghost use Rattle.rpm_pkgdb.specs.Puts.{next_field, field_after};
+ghost use Rattle.rpm_pkgdb.specs.Written.{with_spare, next_field, field_after};
 ghost use Rattle.rpm_pkgdb.specs.Plans.{slot_for, IsFirstFree, AreAllUsed, IsLeast, FitsNowhere, IsPlan, IsFor};
 ghost use Rattle.rpm_pkgdb.specs.Blobs.{blocks_for};
-ghost use Rattle.rpm_pkgdb.specs.Ranges.{range_of, AreRangesOf};
-ghost use Rattle.rpm_pkgdb.specs.Undamaged.{AreSound};
 
 use crate::slot::Slot;
 use crate::store::PkgDb;
-use rpm_blocks::Used;
+use crate::used::gather;
 use std::alloc::{AllocError, Global};
 
 /// Where a blob of a length is to go.
@@ -55,34 +51,6 @@ pub fn first_free(slots: &[Slot]) -> Option<u32>
         }
     }
     None
-}
-
-/// Adds the blocks of a slot, if it is used.
-fn add_range(used: &mut Used, slot: Slot) -> Result<(), AllocError>
-    requires some { is_used slot ≡ true → 1 ≤ slot.count }
-    requires ends { is_used slot ≡ true → end_of slot ≤ block_limit }
-    requires free { is_used slot ≡ true → IsFree used.old.ranges (range_of slot) }
-    ensures unused { OnOk result (is_used slot ≡ false → used.new.ranges ≡ used.old.ranges) }
-    ensures added { OnOk result (is_used slot ≡ true → used.new.ranges ≡ with_range (range_of slot) used.old.ranges) }
-{
-    if slot.offset == 0 {
-        return Ok(());
-    }
-    used.reserve(1)?;
-    used.insert(slot.offset, slot.count);
-    Ok(())
-}
-
-/// The used ranges of slots that are apart.
-pub fn gather(alloc: Global, slots: &[Slot]) -> Result<Used, AllocError>
-    requires { (pages : ℕ) × AreSound pages (2 ^ 28) slots.now }
-    ensures { IfOk result (λ used. AreRangesOf used.ranges slots.now) }
-{
-    let mut used = Used::new(alloc);
-    for k in 0..slots.len() {
-        add_range(&mut used, slots[k])?;
-    }
-    Ok(used)
 }
 
 impl PkgDb {

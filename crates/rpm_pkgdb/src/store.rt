@@ -55,7 +55,7 @@ impl Model for PkgDb {
 
     ghost Value = { Store };
 
-    ghost use Rattle.rpm_pkgdb.specs.Keeping.{IsSound};
+    ghost use Rattle.rpm_pkgdb.specs.inner.Keeping.{IsSound};
 
     ghost view = { λ s. record { generation = s.generation; pages = s.pages; field = s.field; slots = s.slots.items; spare = s.spare; is_stopped = s.stopped } };
 

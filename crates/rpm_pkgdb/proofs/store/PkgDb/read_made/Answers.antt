@@ -1,4 +1,4 @@
-use Rattle.std.proofs.Common.{◌-◌, ◌*◌, length, sym, ap, ◌∙◌, arith, refl}
+use Rattle.std.proofs.Common.{◌-◌, ◌*◌, length, ap, arith, refl}
 use Rattle.rpm_outside.specs.Files.{Files}
 use Rattle.rpm_outside.specs.Looks.{looks_more, looks_then}
 use Rattle.rpm_pkgdb.proofs.Kept.{lawful, zero_absent}

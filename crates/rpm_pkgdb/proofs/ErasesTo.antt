@@ -4,11 +4,11 @@ use Rattle.std.specs.FinMap as finite
 use Rattle.rpm_outside.specs.Files.{Units}
 use Rattle.rpm_pkgdb.specs.declared.slot.Slot.{Slot}
 use Rattle.rpm_pkgdb.specs.Slots.{slot_at, has_number}
-use Rattle.rpm_pkgdb.specs.Facts.{has_it_from}
+use Rattle.rpm_pkgdb.proofs.Facts.{has_it_from}
 use Rattle.rpm_pkgdb.specs.Store.{Store, Keeps, in_file}
 use Rattle.rpm_pkgdb.specs.Blobs.{blobs}
-use Rattle.rpm_pkgdb.specs.BlobMaps.{same_blobs, freed_blobs}
-use Rattle.rpm_pkgdb.specs.Made.{made}
+use Rattle.rpm_pkgdb.proofs.BlobMaps.{same_blobs, freed_blobs}
+use Rattle.rpm_pkgdb.proofs.Made.{made}
 use Rattle.rpm_pkgdb.specs.Quiet.{StandsAs, StandsFor, BeforeOrAfter, HasSlot, with_free}
 use Rattle.rpm_pkgdb.specs.Written.{ErasesTo}
 

@@ -6,7 +6,7 @@ use Rattle.rpm_blocks.specs.Laws.{apart_from_free, free_from_apart}
 use Rattle.rpm_pkgdb.specs.declared.slot.Slot.{Slot}
 use Rattle.rpm_pkgdb.specs.Slots.{slot_at}
 use Rattle.rpm_pkgdb.specs.Undamaged.{AreSound}
-use Rattle.rpm_pkgdb.specs.Ranges.{range_of, AreRangesOf}
+use Rattle.rpm_pkgdb.specs.inner.Ranges.{range_of, AreRangesOf}
 use Rattle.rpm_pkgdb.specs.Plans.{Fits, IsLeast, FitsNowhere}
 
 module _ (pages : ℕ) (ranges : List Range) (slots : List Slot) (sound : AreSound pages (2 ^ 28) slots) (are : AreRangesOf ranges slots) (count : ℕ) (some : 1 ≤ count) where

@@ -2,7 +2,7 @@
 use Rattle.std.specs.Prelude.{◌≡◌, ℕ, ◌-◌, ◌*◌, ◌^◌, ◌<◌, ◌≤◌, List, length, true, vec_capacity}
 use Rattle.rpm_pkgdb.specs.declared.slot.Slot.{Slot}
 use Rattle.rpm_pkgdb.specs.declared.store.PkgDb.TheInside.{Inside}
-use Rattle.rpm_pkgdb.specs.Ranges.{HasUsed}
+use Rattle.rpm_pkgdb.specs.inner.Ranges.{HasUsed}
 use Rattle.rpm_pkgdb.specs.Pairs.{Pairs, find_in}
 use Rattle.rpm_pkgdb.specs.Slots.{slot_at, is_used}
 use Rattle.rpm_pkgdb.specs.Maps.{HasPlaces, IsPackageNumber}

@@ -8,9 +8,9 @@ use Rattle.rpm_blocks.specs.Laws.{without_keeps, without_only, begins_in}
 use Rattle.rpm_pkgdb.specs.declared.slot.Slot.{Slot}
 use Rattle.rpm_pkgdb.specs.Slots.{slot_at, is_used, free}
 use Rattle.rpm_pkgdb.specs.Undamaged.{AreSound}
-use Rattle.rpm_pkgdb.specs.ClearLaws.{set_here, set_other}
-use Rattle.rpm_pkgdb.specs.Pairwise.{used_below}
-use Rattle.rpm_pkgdb.specs.Ranges.{range_of, AreRangesOf, HasUsed, HasStart, Forgets}
+use Rattle.rpm_pkgdb.proofs.ClearLaws.{set_here, set_other}
+use Rattle.rpm_pkgdb.proofs.Pairwise.{used_below}
+use Rattle.rpm_pkgdb.specs.inner.Ranges.{range_of, AreRangesOf, HasUsed, HasStart, Forgets}
 
 module _ (pages : ℕ) (slots : List Slot) (sound : AreSound pages (2 ^ 28) slots) where
   -- two used slots begin at different blocks

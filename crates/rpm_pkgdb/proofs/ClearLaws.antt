@@ -11,8 +11,9 @@ use Rattle.rpm_pkgdb.specs.Maps.{IsPlaced}
 use Rattle.rpm_pkgdb.specs.Store.{Store}
 use Rattle.rpm_pkgdb.specs.Words.{word}
 use Rattle.rpm_pkgdb.specs.Undamaged.{AreApart, AreSound, IsSlotUnit, IsLawful, IsHeadUnit, IsMade}
-use Rattle.rpm_pkgdb.specs.Pairwise.{apart_swapped}
-use Rattle.rpm_pkgdb.specs.Clear.{SameOutside, IsClear, SameBlocks, IsPut}
+use Rattle.rpm_pkgdb.proofs.Pairwise.{apart_swapped}
+use Rattle.rpm_pkgdb.specs.inner.Clear.{SameOutside, IsClear, IsPut}
+use Rattle.rpm_pkgdb.specs.Quiet.{SameBlocks}
 
 -- ---- files
 

@@ -15,11 +15,11 @@ use Rattle.rpm_pkgdb.specs.Maps.{IsPlaced}
 use Rattle.rpm_pkgdb.specs.Store.{Store}
 use Rattle.rpm_pkgdb.specs.Blobs.{Frame, blocks_at, frame_of, is_framed, blob_in, blobs}
 use Rattle.rpm_pkgdb.specs.BlobLaws.{get-blobs}
-use Rattle.rpm_pkgdb.specs.Facts.{number_facts}
+use Rattle.rpm_pkgdb.proofs.Facts.{number_facts}
 use Rattle.rpm_pkgdb.specs.Undamaged.{AreSound}
-use Rattle.rpm_pkgdb.specs.Clear.{SameBlocks}
-use Rattle.rpm_pkgdb.specs.ClearLaws.{set_other, set_here}
-use Rattle.rpm_pkgdb.specs.Places.{Search, Here, Nowhere, search_for, with_at, with_set_other, one_place}
+use Rattle.rpm_pkgdb.specs.Quiet.{SameBlocks}
+use Rattle.rpm_pkgdb.proofs.ClearLaws.{set_other, set_here}
+use Rattle.rpm_pkgdb.proofs.Places.{Search, Here, Nowhere, search_for, with_at, with_set_other, one_place}
 
 -- units of a range that lies in both files
 pub same_part : (a b : Units) (at n : ℕ) → at + n ≤ length a → at + n ≤ length b → ((i : ℕ) → at ≤ i → i < at + n → unit_at b i ≡ unit_at a i) → take n (drop at b) ≡ take n (drop at a)

@@ -15,14 +15,14 @@ use Rattle.rpm_pkgdb.specs.Slots.{slot_at, slot_with, is_used, has_number, free}
 use Rattle.rpm_pkgdb.specs.Store.{Store, store, blank_store, is_blank, Keeps, in_file}
 use Rattle.rpm_pkgdb.specs.Blobs.{blobs, frame_of, blob_in}
 use Rattle.rpm_pkgdb.specs.BlobLaws.{get-blobs}
-use Rattle.rpm_pkgdb.specs.Facts.{cases_Bool}
+use Rattle.rpm_pkgdb.proofs.Facts.{cases_Bool}
 use Rattle.rpm_pkgdb.specs.Undamaged.{AreSound, IsSlotUnit, IsHeadUnit, IsMade}
-use Rattle.rpm_pkgdb.specs.Made.{from_made, made_pages}
-use Rattle.rpm_pkgdb.specs.Clear.{SameOutside}
-use Rattle.rpm_pkgdb.specs.ClearLaws.{torn_one, put_here, put_elsewhere, put_length}
-use Rattle.rpm_pkgdb.specs.Places.{Search, Here, Nowhere, search_for}
+use Rattle.rpm_pkgdb.proofs.Made.{from_made, made_pages}
+use Rattle.rpm_pkgdb.specs.inner.Clear.{SameOutside}
+use Rattle.rpm_pkgdb.proofs.ClearLaws.{torn_one, put_here, put_elsewhere, put_length}
+use Rattle.rpm_pkgdb.proofs.Places.{Search, Here, Nowhere, search_for}
 use Rattle.rpm_pkgdb.specs.Quiet.{IsQuiet, IsFirstPage}
-use Rattle.rpm_pkgdb.specs.ErasesTo.{unfolded}
+use Rattle.rpm_pkgdb.proofs.ErasesTo.{unfolded}
 use Rattle.rpm_pkgdb.specs.Written.{made_new, MakesTo}
 
 -- ---- blank files

@@ -5,7 +5,7 @@ use Rattle.std.proofs.lemmas.Nat.{from_le_bytes-to_le_bytes_4}
 use Rattle.std.proofs.lemmas.List.{take-append-le, take_all, drop-append-le, drop_all, length-replicate, length-take, same_lists, get_or-take, get_or-drop, get_or_default}
 use Rattle.std.proofs.lemmas.Bool.Decides.{nat_tests}
 use Rattle.rpm_outside.specs.Files.{Units, unit_at, units_of, cut_up, bytes_of, blank}
-use Rattle.rpm_pkgdb.specs.Clear.{Holds}
+use Rattle.rpm_pkgdb.specs.inner.Clear.{Holds}
 use Rattle.rpm_outside.specs.Cuts.{length-cut_up, bytes_of-cut_up}
 use Rattle.rpm_pkgdb.specs.declared.slot.Slot.{Slot}
 use Rattle.rpm_pkgdb.specs.Words.{word, begins}

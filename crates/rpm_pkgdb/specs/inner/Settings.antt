@@ -4,7 +4,7 @@ use Rattle.rpm_outside.specs.Files.{Units, unit_at}
 use Rattle.rpm_pkgdb.specs.declared.slot.Slot.{Slot}
 use Rattle.rpm_pkgdb.specs.Slots.{slot_at, is_used, end_of}
 use Rattle.rpm_pkgdb.specs.Store.{Store, Keeps}
-use Rattle.rpm_pkgdb.specs.Clear.{Holds}
+use Rattle.rpm_pkgdb.specs.inner.Clear.{Holds}
 use Rattle.rpm_pkgdb.specs.Plans.{Fits}
 use Rattle.rpm_pkgdb.specs.Quiet.{StandsAs, HasSlot}
 

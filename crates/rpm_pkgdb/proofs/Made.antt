@@ -11,9 +11,9 @@ use Rattle.rpm_pkgdb.specs.Words.{word, begins, is_nonzero}
 use Rattle.rpm_pkgdb.specs.Slots.{slot_of, slots_in, slot_at, free}
 use Rattle.rpm_pkgdb.specs.Damages.{head_reason, table, table_fault}
 use Rattle.rpm_pkgdb.specs.Store.{Store, store, blank_store, made_store, made_or_damaged, store_of, is_blank, unless, Keeps, in_file}
-use Rattle.rpm_pkgdb.specs.Facts.{cases_Bool, none_at}
+use Rattle.rpm_pkgdb.proofs.Facts.{cases_Bool, none_at}
 use Rattle.rpm_pkgdb.specs.Undamaged.{AreSound, IsLawful, IsHeadUnit, IsMade}
-use Rattle.rpm_pkgdb.specs.Pairwise.{magics, sound_from, none_from, slot_in, count_in}
+use Rattle.rpm_pkgdb.proofs.Pairwise.{magics, sound_from, none_from, slot_in, count_in}
 
 -- ---- a unit of zeros
 

@@ -1,7 +1,6 @@
 -- Writes that change no used block, and writes of one unit.
 use Rattle.std.specs.Prelude.{◌≡◌, ◌⊎◌, ℕ, ◌+◌, ◌*◌, ◌<◌, ◌≤◌, List, [], ◌∷◌, length, true}
 use Rattle.rpm_outside.specs.Files.{Units, unit_at, put}
-use Rattle.rpm_pkgdb.specs.declared.slot.Slot.{Slot}
 use Rattle.rpm_pkgdb.specs.Slots.{slot_at, is_used, end_of}
 use Rattle.rpm_pkgdb.specs.Store.{Store}
 
@@ -15,10 +14,6 @@ pub record SameOutside (at n : ℕ) (old new : Units) : Type 0 where
 pub record IsClear (store : Store) (at n : ℕ) : Type 0 where
   pub behind : 256 * store.pages ≤ at
   pub apart : (k : ℕ) → is_used (slot_at store.slots k) ≡ true → (at + n ≤ (slot_at store.slots k).offset) ⊎ (end_of (slot_at store.slots k) ≤ at)
-
--- the blocks of these slots that are used have the same bytes
-abbrev pub SameBlocks : List Slot → Units → Units → Type 0
-SameBlocks slots old new = (k i : ℕ) → is_used (slot_at slots k) ≡ true → (slot_at slots k).offset ≤ i → i < end_of (slot_at slots k) → unit_at new i ≡ unit_at old i
 
 -- nothing changed, or this unit was put
 abbrev pub IsPut : ℕ → List ℕ → Units → Units → Type 0

@@ -1,5 +1,5 @@
--- One slot page more.
-use Rattle.std.proofs.Common.{◌≡◌, inl, inr, ℕ, zero, suc, ◌+◌, ◌-◌, ◌*◌, ◌^◌, ◌<◌, ◌≤◌, List, [], ◌∷◌, ◌++◌, length, replicate, true, None, refl, sym, ap, ◌∙◌, subst, arith, length-append}
+-- What a stop leaves while a slot page is added.
+use Rattle.std.proofs.Common.{◌≡◌, inl, inr, ℕ, zero, suc, ◌+◌, ◌-◌, ◌*◌, ◌<◌, ◌≤◌, List, [], ◌∷◌, ◌++◌, length, replicate, true, None, refl, sym, ap, ◌∙◌, subst, arith, length-append}
 use Rattle.std.specs.FinMap as finite
 use Rattle.std.proofs.lemmas.Cmp.{nat_cmp_total}
 use Rattle.std.proofs.lemmas.Bool.{cases_lt}
@@ -8,35 +8,21 @@ use Rattle.rpm_outside.specs.Files.{Units, unit_at, put}
 use Rattle.rpm_outside.specs.Crash.{Torn}
 use Rattle.rpm_pkgdb.specs.declared.slot.Slot.{Slot}
 use Rattle.rpm_pkgdb.specs.Words.{word}
-use Rattle.rpm_pkgdb.specs.Facts.{cases_Bool, number_facts}
+use Rattle.rpm_pkgdb.proofs.Facts.{cases_Bool, number_facts}
 use Rattle.rpm_pkgdb.specs.Slots.{slot_at, slot_with, is_used, end_of, has_number, free}
 use Rattle.rpm_pkgdb.specs.Maps.{IsPlaced}
 use Rattle.rpm_pkgdb.specs.Store.{Store, Keeps, in_file}
 use Rattle.rpm_pkgdb.specs.Blobs.{blobs}
-use Rattle.rpm_pkgdb.specs.BlobMaps.{same_get}
+use Rattle.rpm_pkgdb.proofs.BlobMaps.{same_get}
 use Rattle.rpm_pkgdb.specs.Undamaged.{AreApart, AreSound, IsSlotUnit, IsHeadUnit, IsMade}
-use Rattle.rpm_pkgdb.specs.Made.{made, from_made}
-use Rattle.rpm_pkgdb.specs.Pairwise.{used_below}
-use Rattle.rpm_pkgdb.specs.Clear.{SameOutside, IsClear}
-use Rattle.rpm_pkgdb.specs.ClearLaws.{torn_one, put_here, put_elsewhere, put_length, outside_made, outside_blocks}
+use Rattle.rpm_pkgdb.proofs.Made.{made, from_made}
+use Rattle.rpm_pkgdb.proofs.Pairwise.{used_below}
+use Rattle.rpm_pkgdb.specs.inner.Clear.{SameOutside, IsClear}
+use Rattle.rpm_pkgdb.proofs.ClearLaws.{torn_one, put_here, put_elsewhere, put_length, outside_made, outside_blocks}
 use Rattle.rpm_pkgdb.specs.Quiet.{StandsAs, StandsFor, BeforeOrAfter}
-use Rattle.rpm_pkgdb.specs.Erases.{blocks_then}
-use Rattle.rpm_pkgdb.specs.ErasesTo.{stands_for, unfolded}
-
--- the value with one slot page more, of free slots
-abbrev pub with_page : Store → Store
-with_page value = record value { pages = value.pages + 1; slots = value.slots ++ replicate 256 free }
-
--- a page more fits below the limit, and no used slot has blocks in it
-pub record CanGrow (value : Store) : Type 0 where
-  pub made : 1 ≤ value.pages
-  pub limit : 256 * (value.pages + 1) ≤ 2 ^ 28
-  pub clear : (k : ℕ) → is_used (slot_at value.slots k) ≡ true → 256 * (value.pages + 1) ≤ (slot_at value.slots k).offset
-
--- the new page has free slots
-pub record HasFreePage (pages : ℕ) (file : Units) : Type 0 where
-  pub long : 256 * pages + 256 ≤ length file
-  pub slots : (i : ℕ) → 256 * pages ≤ i → i < 256 * pages + 256 → IsSlotUnit (unit_at file i) free
+use Rattle.rpm_pkgdb.specs.inner.Grows.{with_page, CanGrow, HasFreePage}
+use Rattle.rpm_pkgdb.proofs.Erases.{blocks_then}
+use Rattle.rpm_pkgdb.proofs.ErasesTo.{stands_for, unfolded}
 
 -- ---- free slots behind others
 

@@ -4,13 +4,13 @@ use Rattle.rpm_outside.specs.Files.{Units, Files, put}
 use Rattle.rpm_outside.specs.Crash.{Torn}
 use Rattle.rpm_pkgdb.specs.Store.{Store, Keeps, in_file}
 use Rattle.rpm_pkgdb.specs.Blobs.{blobs}
-use Rattle.rpm_pkgdb.specs.BlobMaps.{same_blobs}
+use Rattle.rpm_pkgdb.proofs.BlobMaps.{same_blobs}
 use Rattle.rpm_pkgdb.specs.Undamaged.{IsHeadUnit}
-use Rattle.rpm_pkgdb.specs.Made.{made, from_made}
-use Rattle.rpm_pkgdb.specs.ClearLaws.{torn_one, head_made, page_blocks}
+use Rattle.rpm_pkgdb.proofs.Made.{made, from_made}
+use Rattle.rpm_pkgdb.proofs.ClearLaws.{torn_one, head_made, page_blocks}
 use Rattle.rpm_pkgdb.specs.Quiet.{StandsAs, IsQuiet, BeforeOrAfter}
-use Rattle.rpm_pkgdb.specs.Erases.{blocks_then, stands_by}
-use Rattle.rpm_pkgdb.specs.ErasesTo.{stands_for, unfolded}
+use Rattle.rpm_pkgdb.proofs.Erases.{blocks_then, stands_by}
+use Rattle.rpm_pkgdb.proofs.ErasesTo.{stands_for, unfolded}
 use Rattle.rpm_pkgdb.specs.Written.{with_generation, RaisesTo}
 
 module _ (st : Store) (some : 1 ≤ st.pages) (unit : List ℕ) (generation : ℕ) (is : IsHeadUnit unit generation st.pages) where

@@ -10,21 +10,21 @@ use Rattle.rpm_outside.specs.Files.{Units, unit_at, put, blank}
 use Rattle.rpm_outside.specs.Crash.{Torn}
 use Rattle.rpm_pkgdb.specs.declared.slot.Slot.{Slot}
 use Rattle.rpm_pkgdb.specs.Slots.{slot_at, slot_with, is_used, end_of, has_number}
-use Rattle.rpm_pkgdb.specs.Facts.{has_it_from}
+use Rattle.rpm_pkgdb.proofs.Facts.{has_it_from}
 use Rattle.rpm_pkgdb.specs.Store.{Store, Keeps, in_file}
 use Rattle.rpm_pkgdb.specs.Blobs.{Frame, frame_of, is_framed, blocks_at, blob_in, blobs}
 use Rattle.rpm_pkgdb.specs.BlobLaws.{get-blobs}
-use Rattle.rpm_pkgdb.specs.BlobMaps.{other_get, other_number}
+use Rattle.rpm_pkgdb.proofs.BlobMaps.{other_get, other_number}
 use Rattle.rpm_pkgdb.specs.Undamaged.{IsSlotUnit, IsMade}
-use Rattle.rpm_pkgdb.specs.Made.{made}
-use Rattle.rpm_pkgdb.specs.Places.{with_at}
-use Rattle.rpm_pkgdb.specs.Clear.{SameOutside, Holds}
-use Rattle.rpm_pkgdb.specs.ClearLaws.{set_here}
-use Rattle.rpm_pkgdb.specs.FramingLaws.{held_part}
+use Rattle.rpm_pkgdb.proofs.Made.{made}
+use Rattle.rpm_pkgdb.proofs.Places.{with_at}
+use Rattle.rpm_pkgdb.specs.inner.Clear.{SameOutside, Holds}
+use Rattle.rpm_pkgdb.proofs.ClearLaws.{set_here}
+use Rattle.rpm_pkgdb.proofs.FramingLaws.{held_part}
 use Rattle.rpm_pkgdb.specs.Quiet.{StandsAs, StandsFor}
-use Rattle.rpm_pkgdb.specs.ErasesTo.{stands_for, unfolded}
-use Rattle.rpm_pkgdb.specs.Settings.{CanSet, with_slot, StandsSet, CanMove, moved, blocks_of, WhileMoved}
-use Rattle.rpm_pkgdb.specs.SettingLaws.{aside_stands, set_stands, while_set, set_aside, old_clear, set_alike}
+use Rattle.rpm_pkgdb.proofs.ErasesTo.{stands_for, unfolded}
+use Rattle.rpm_pkgdb.specs.inner.Settings.{CanSet, with_slot, StandsSet, CanMove, moved, blocks_of, WhileMoved}
+use Rattle.rpm_pkgdb.proofs.SettingLaws.{aside_stands, set_stands, while_set, set_aside, old_clear, set_alike}
 
 module _ (st : Store) (place : ℕ) (old : Slot) (to : ℕ) (can : CanMove st place old to) (F0 : Units) (keeps : Keeps F0 st) where
   abbrev s : Slot
@@ -73,11 +73,11 @@ module _ (st : Store) (place : ℕ) (old : Slot) (to : ℕ) (can : CanMove st pl
 
   -- while the blocks are copied
   pub while_copied : (from image : Units) → StandsAs st F0 from → SameOutside to old.count from image → WhileMoved st place old to F0 image
-  while_copied from image stands same = inl (aside_stands st place s move_set us length-us F0 from image stands same)
+  while_copied from image stands same = inl (aside_stands st place s move_set F0 from image stands same)
 
   module _ (unit : List ℕ) (is : IsSlotUnit unit s) (F1 F2 : Units) (outside : SameOutside to old.count F0 F1) (holds : Holds F1 to us) where
     copied_stands : StandsAs st F0 F1
-    copied_stands = aside_stands st place s move_set us length-us F0 F0 F1 (record { keeps = keeps; blocks = λ j i used at n. refl }) outside
+    copied_stands = aside_stands st place s move_set F0 F0 F1 (record { keeps = keeps; blocks = λ j i used at n. refl }) outside
 
     -- while the slot is written
     pub while_slot_moved : (from image : Units) → from ≡ F1 → Torn (2 + place) (unit ∷ []) from image → WhileMoved st place old to F0 image
@@ -88,7 +88,7 @@ module _ (st : Store) (place : ℕ) (old : Slot) (to : ℕ) (can : CanMove st pl
     pub while_old_zeroed : F2 ≡ put (2 + place) (unit ∷ []) F1 → (at n : ℕ) → old.offset ≤ at → at + n ≤ end_of old → (from image : Units) → from ≡ F2 → SameOutside at n from image → StandsSet st place s us F0 image
     while_old_zeroed written at n low high from image same changed =
         let now : StandsSet st place s us F0 F2 = subst (StandsSet st place s us F0) (sym written) (set_stands st place s move_set us length-us unit is F0 F1 copied_stands holds) in
-        set_aside st place s move_set us length-us F0 from image keeps (subst (StandsSet st place s us F0) (sym same) now) at n (old_clear st place s move_set us length-us (length F0) base.sound old can.slot.is can.slot.used at n low high) changed
+        set_aside st place s move_set us length-us F0 from image (subst (StandsSet st place s us F0) (sym same) now) at n (old_clear st place s move_set (length F0) base.sound old can.slot.is can.slot.used at n low high) changed
 
   -- ---- the blobs
 
@@ -138,4 +138,4 @@ module _ (st : Store) (place : ℕ) (old : Slot) (to : ℕ) (can : CanMove st pl
   }
 
   pub moved_alike : (a b : Units) → StandsSet st place s us F0 a → StandsSet st place s us F0 b → StandsAs (with_slot place s st) a b
-  moved_alike a b in_a in_b = set_alike st place s move_set us length-us F0 a b keeps in_a in_b
+  moved_alike a b in_a in_b = set_alike st place s move_set us length-us F0 a b in_a in_b

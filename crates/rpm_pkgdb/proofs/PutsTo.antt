@@ -1,25 +1,22 @@
 -- The blobs of images while a blob is put.
-use Rattle.std.proofs.Common.{◌≡◌, ◌≢◌, inl, inr, ℕ, ◌+◌, ◌-◌, ◌^◌, ◌<◌, ◌≤◌, List, length, true, false, Some, refl, sym, ap, ◌∙◌, subst, arith}
+use Rattle.std.proofs.Common.{◌≡◌, ◌≢◌, inl, inr, ℕ, ◌^◌, ◌<◌, ◌≤◌, List, length, true, false, Some, refl, sym, ap, ◌∙◌, arith}
 use Rattle.std.specs.FinMap as finite
-use Rattle.std.proofs.lemmas.Bool.{cases_eq}
 use Rattle.std.proofs.lemmas.Bool.Decides.{nat_tests}
-use Rattle.rpm_outside.specs.Files.{Units, unit_at, units_of}
+use Rattle.rpm_outside.specs.Files.{Units}
 use Rattle.rpm_pkgdb.specs.declared.slot.Slot.{Slot}
 use Rattle.rpm_pkgdb.specs.declared.plan.Plan.{Plan}
-use Rattle.rpm_pkgdb.specs.Slots.{slot_at, is_used, end_of, has_number}
-use Rattle.rpm_pkgdb.specs.Facts.{cases_Bool, number_facts, has_it_from}
+use Rattle.rpm_pkgdb.specs.Slots.{slot_at, is_used, has_number}
+use Rattle.rpm_pkgdb.proofs.Facts.{cases_Bool, number_facts, has_it_from}
 use Rattle.rpm_pkgdb.specs.Store.{Store, Keeps, in_file}
 use Rattle.rpm_pkgdb.specs.Blobs.{blobs, blocks_for}
-use Rattle.rpm_pkgdb.specs.BlobMaps.{same_blobs, put_blobs}
-use Rattle.rpm_pkgdb.specs.Made.{made}
-use Rattle.rpm_pkgdb.specs.ClearLaws.{set_here, set_other}
-use Rattle.rpm_pkgdb.specs.Framing.{framed}
-use Rattle.rpm_pkgdb.specs.FramingLaws.{frame, framed_frame, blob_is, count-framed}
+use Rattle.rpm_pkgdb.proofs.BlobMaps.{same_blobs, put_blobs}
+use Rattle.rpm_pkgdb.proofs.Made.{made}
+use Rattle.rpm_pkgdb.proofs.FramingLaws.{frame, framed_frame, blob_is}
 use Rattle.rpm_pkgdb.specs.Plans.{slot_for}
-use Rattle.rpm_pkgdb.specs.Quiet.{StandsAs}
-use Rattle.rpm_pkgdb.specs.ErasesTo.{stands_for, unfolded}
-use Rattle.rpm_pkgdb.specs.Puts.{next_field, with_next, with_blob, CanPut, StandsWith, WhilePut, PutsTo}
-use Rattle.rpm_pkgdb.specs.Puts.WhilePut.{Before, Numbered, After}
+use Rattle.rpm_pkgdb.proofs.ErasesTo.{stands_for, unfolded}
+use Rattle.rpm_pkgdb.specs.inner.Puts.{CanPut, StandsWith, WhilePut}
+use Rattle.rpm_pkgdb.specs.Written.{next_field, with_next, with_blob, PutsTo}
+use Rattle.rpm_pkgdb.specs.inner.Puts.WhilePut.{Before, Numbered, After}
 
 module _ (st : Store) (plan : Plan) (g : ℕ) (old : Slot) (blob : List ℕ) (can : CanPut st plan g old blob) where
   abbrev s : Slot
@@ -80,28 +77,3 @@ module _ (st : Store) (plan : Plan) (g : ℕ) (old : Slot) (blob : List ℕ) (ca
     field_is = refl;
     blobs_are = unfolded image after ∙ put_map file image keeps stands;
   }))
-
-  -- two images with the blob stand for each other
-  pub stand_alike : (file a b : Units) → Keeps file st → StandsWith st plan g blob file a → StandsWith st plan g blob file b → StandsAs after a b
-  stand_alike file a b keeps in_a in_b =
-      let base = made file st keeps can.made in
-      let us = units_of (framed plan.number g blob) in
-      record {
-        keeps = in_b.keeps;
-        blocks = λ j i used from to. elim (cases_eq j k) [
-          | inl here ↦
-              (let now : slot_at after.slots j ≡ s = ap (slot_at after.slots) here ∙ set_here st.pages (length file) st.slots base.sound k can.plan_is.below s in
-              let low : plan.start ≤ i = subst (λ (t : Slot). t.offset ≤ i) now from in
-              let high : i < end_of s = subst (λ (t : Slot). i < end_of t) now to in
-              let long : length us ≡ s.count = count-framed plan.number g blob ∙ sym (ap blocks_for can.length_is) in
-              let lt : i - plan.start < length us = omega arith in
-              let at : i ≡ plan.start + (i - plan.start) = omega arith in
-              ap (unit_at b) at ∙ in_b.holds.each (i - plan.start) lt ∙ sym (in_a.holds.each (i - plan.start) lt) ∙ sym (ap (unit_at a) at))
-          | inr other ↦
-              (let stays = set_other st.pages (length file) st.slots base.sound k can.plan_is.below s j other in
-              let u = ap is_used (sym stays) ∙ used in
-              let low = subst (λ (t : Slot). t.offset ≤ i) stays from in
-              let high = subst (λ (t : Slot). i < end_of t) stays to in
-              in_b.others j i other u low high ∙ sym (in_a.others j i other u low high))
-        ];
-      }
