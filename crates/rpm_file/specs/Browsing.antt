@@ -50,7 +50,8 @@ module _ {S : Type 0} (tells : Bool) (paths : S → Paths) (rest : S → Option 
   pub browses_none : (s : S) → Browses tells paths rest absences faults s s
   browses_none s = record { paths_stay = λ told. refl; taken = λ told. ([], takes_none (rest s) (rest s) refl); absences_stay = refl; later = omega arith }
 
-  pub browses_then : (a b c : S) → Browses tells paths rest absences faults a b → Browses tells paths rest absences faults b c → Browses tells paths rest absences faults a c
+  pub browses_then : (a b c : S) → Browses tells paths rest absences faults a b → Browses tells paths rest absences faults b c
+      → Browses tells paths rest absences faults a c
   browses_then a b c first second = record {
     paths_stay = λ told. second.paths_stay told ∙ first.paths_stay told;
     taken = λ told.

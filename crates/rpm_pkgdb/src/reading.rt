@@ -9,7 +9,7 @@ ghost use Rattle.rpm_pkgdb.specs.Slots.{slots_in};
 ghost use Rattle.rpm_pkgdb.specs.Damages.{table, table_fault};
 ghost use Rattle.rpm_pkgdb.specs.Store.{Says, SaysHere};
 ghost use Rattle.rpm_pkgdb.specs.Maps.{IsKnown};
-ghost use Rattle.rpm_pkgdb.specs.Runs.{run};
+ghost use Rattle.rpm_pkgdb.specs.inner.Runs.{run};
 ghost use Rattle.rpm_pkgdb.specs.Undamaged.{AreSound};
 
 use crate::opening::Opening;

@@ -11,7 +11,7 @@ ghost use Rattle.rpm_pkgdb.specs.Store.{Says, SaysHere};
 ghost use Rattle.rpm_pkgdb.specs.Maps.{HasPlaces};
 ghost use Rattle.rpm_pkgdb.specs.Pairs.{find_in};
 ghost use Rattle.rpm_pkgdb.specs.Undamaged.{AreSound};
-ghost use Rattle.rpm_pkgdb.specs.Tables.{AreOwn, AreNumbered, IsTable, IsOutside};
+ghost use Rattle.rpm_pkgdb.specs.inner.Tables.{AreOwn, AreNumbered, IsTable, IsOutside};
 
 use crate::keys::numbers_if_apart;
 use crate::numbers::Numbers;

@@ -5,7 +5,7 @@ use Rattle.rpm_outside.specs.inner.Cuts.{length-cut_up}
 use Rattle.rpm_pkgdb.specs.declared.slot.Slot.{Slot}
 use Rattle.rpm_pkgdb.proofs.Steps.{length-slots_in, slots_in-none, slots_more, sound_more, says_more}
 use Rattle.rpm_pkgdb.specs.Slots.{slots_in}
-use Rattle.rpm_pkgdb.specs.Runs.{run}
+use Rattle.rpm_pkgdb.specs.inner.Runs.{run}
 use Rattle.rpm_pkgdb.proofs.reading.add_units.Goals as goal
 
 pub loop-k-init : goal.loop-k-init
