@@ -1,3 +1,4 @@
+pub mod Buffered
 pub mod Calls
 pub mod Causes
 pub mod Changed
@@ -18,6 +19,8 @@ pub mod MemSink
 pub mod MemShelf
 pub mod MemDisk
 pub mod Moments
+pub mod Passed
+pub mod Passing
 pub mod Past
 pub mod Picks
 pub mod PutLaws

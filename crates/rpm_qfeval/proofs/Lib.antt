@@ -3,7 +3,6 @@ pub mod Steps
 pub mod Ahead
 pub mod Counts
 mod Fixtures
-pub mod Flushing
 pub mod Walked
 pub mod Moments
 pub mod Calendar

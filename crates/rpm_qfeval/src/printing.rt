@@ -5,7 +5,6 @@ ghost use Rattle.rpm_outside.specs.Sinks.{Writes};
 ghost use Rattle.rpm_qfeval.specs.Meaning.{bytes, meaning};
 ghost use Rattle.rpm_qfeval.specs.Printed.{Prints, ending, eval_ending};
 
-use crate::buffer::Buffer;
 use crate::sizes::sizes;
 use crate::writing::put_parts;
 use rpm_header::View;
@@ -34,7 +33,7 @@ pub enum EvalFault {
     NoMemory,
 }
 
-/// Prints parts outside of brackets, through a buffer that is flushed at the end.
+/// Prints parts outside of brackets.
 fn print_parts<O: Sink>(
     parts: &Parts,
     view: &View<'_>,
@@ -43,9 +42,7 @@ fn print_parts<O: Sink>(
 ) -> Result<(), Failed>
     ensures { Writes O.tells O.taken O.faults sink.old sink.new (bytes view.now number 0 parts.now) result }
 {
-    let mut buffer = Buffer::new();
-    put_parts(&mut buffer, sink, parts, view, number, &mut [], 0)?;
-    buffer.flush(sink)
+    put_parts(sink, parts, view, number, &mut [], 0)
 }
 
 /// Prints what a format says of a header and of the number of its package. Takes no memory.
@@ -70,8 +67,8 @@ fn print_parts<O: Sink>(
 /// up once, and goes through the texts of each once, so that n rounds of k tags cost n times k. That
 /// holds of the first 16 different tags in it, where those in conditions count too, and a tag behind
 /// `=` is one of its own. One behind these is looked up in each round, and its texts are read from the
-/// first on each time. A padded text is measured before it is put. The sink gets up to 4,096 bytes at a
-/// time, and a longer piece at once.
+/// first on each time. A padded text is measured before it is put. The sink gets each piece of the text in a
+/// call of its own: give one with a buffer, as `Buffered`, where a call costs much.
 pub fn print_direct<O: Sink>(
     format: &Format,
     view: &View<'_>,

@@ -12,4 +12,4 @@ returns-in_err-put_run g c = upto_stop _ c.from_residual.result c.from_residual.
 pub returns : goal.returns
 returns g c =
     let plain : escaped_text c.loop-run.rest.now ≡ c.loop-run.rest.now = c.in_default.ensures.whole in
-    upto_last c.loop-run.invariant (rw plain c.put.ensures)
+    upto_last c.loop-run.invariant (rw plain c.put_all.ensures)

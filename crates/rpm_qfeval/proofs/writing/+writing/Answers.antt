@@ -1,6 +1,8 @@
-use Rattle.std.proofs.Common.{arith, length, ◌≤◌, refl, sym, ◌∙◌}
+use Rattle.std.proofs.Common.{◌≡◌, ℕ, List, [], ◌∷◌, Some, arith, length, ◌≤◌, refl, sym, ap, subst, ◌∙◌}
+use Rattle.std.specs.Prelude.{slice_get}
+use Rattle.rpm_outside.specs.Sinks.{Writes}
 use Rattle.rpm_qfparse.specs.Shape.{parts_of}
-use Rattle.rpm_qfeval.specs.Meaning.{bytes}
+use Rattle.rpm_qfeval.specs.Meaning.{bytes, rounds, counts}
 use Rattle.rpm_qfeval.proofs.Walked.{bytes_start, bytes_here, bytes_end, round_start, round_here, round_end}
 use Rattle.rpm_qfeval.proofs.Putting.{upto_start, upto_more, upto_stop, upto_done}
 use Rattle.rpm_qfeval.proofs.writing.+writing.Goals as goal
@@ -36,3 +38,12 @@ put_rounds-returns-in_err-put_parts g t c =
 
 pub put_rounds-returns : goal.put_rounds-returns
 put_rounds-returns g t c = upto_done (round_end (λ i. bytes c.args.view.now c.args.number i c.args.inner.now) c.args.count c.loop-round.round c.loop-round-test.false) c.loop-round.invariant.1
+
+first_counts : (counts : List ℕ) (count : ℕ) (f : ℕ → List ℕ) → Some count ≡ slice_get counts 0 → rounds (count ∷ []) f ≡ rounds counts f
+first_counts [] count f e = absurd cc
+first_counts (n ∷ ns) count f e = let same : count ≡ n = cc in ap (λ (k : ℕ). rounds (k ∷ []) f) same
+
+pub put_over-returns-in-Some : goal.put_over-returns-in-Some
+put_over-returns-in-Some g t c =
+    subst (λ (x : List ℕ). Writes g.O.Sink.tells g.O.Sink.taken g.O.Sink.faults c.args.sink.now c.put_rounds.new.sink x c.put_rounds.result)
+    (first_counts (counts c.args.view.now c.args.number c.args.inner.now) c.in-Some.count (λ i. bytes c.args.view.now c.args.number i c.args.inner.now) c.in-Some.ensures) c.put_rounds.ensures
