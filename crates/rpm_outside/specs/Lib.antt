@@ -19,8 +19,7 @@ pub mod MemSink
 pub mod MemShelf
 pub mod MemDisk
 pub mod Moments
-pub mod Passed
-pub mod Passing
+pub mod Flushed
 pub mod Past
 pub mod Picks
 pub mod PutLaws

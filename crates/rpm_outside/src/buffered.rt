@@ -1,7 +1,6 @@
 //! A sink with a buffer in front of it.
 
 ghost use Rattle.std.specs.Prelude.{◌≡◌, ◌++◌, [], drop, IsTrue, IsFalse};
-ghost use Rattle.rpm_outside.specs.Passing.{Flushes, Passes, Reaches};
 ghost use Rattle.rpm_outside.specs.Sinks.{Writes};
 
 use crate::{Failed, Sink, put_all};
@@ -20,7 +19,7 @@ pub struct Buffered<O: Sink + Drop> {
 }
 
 impl<O: Sink + Drop> Buffered<O> {
-    ghost use Rattle.rpm_outside.specs.Buffered.{inner, holds};
+    ghost use Rattle.rpm_outside.specs.Buffered.{inner, holds, Flushes};
 
     /// A buffer that holds nothing, in front of a sink.
     pub fn new(sink: O) -> Buffered<O>
@@ -55,14 +54,22 @@ impl<O: Sink + Drop> Buffered<O> {
     /// `Failed` where a call of the sink failed. It then took the first of what was held, or none, and
     /// the others are held.
     pub fn flush(&mut self) -> Result<(), Failed>
-        ensures { Flushes O.tells O.taken O.faults (inner self.old) (holds self.old) (inner self.new) (holds self.new) result }
+        ensures { Flushes O.tells O.taken O.faults O.follows (inner self.old) (holds self.old) (inner self.new) (holds self.new) result }
     {
         while self.gone < self.held.len() {
             self.gone += self.sink.write(&self.held.as_slice()[self.gone..])?;
         }
+        self.clear();
+        Ok(())
+    }
+
+    /// Lets go of all that is held.
+    pub fn clear(&mut self)
+        ensures inner { inner self.new ≡ inner self.old }
+        ensures holds { holds self.new ≡ [] }
+    {
         self.held.clear();
         self.gone = 0;
-        Ok(())
     }
 
     /// Holds these bytes too, where there is room.
@@ -73,57 +80,36 @@ impl<O: Sink + Drop> Buffered<O> {
     {
         self.gone == 0 && self.held.try_extend_from_slice(bytes).is_ok()
     }
-
-    /// Takes all these bytes. What is held is flushed where there is no room for them, and they go past
-    /// the buffer where they are longer than it.
-    ///
-    /// # Errors
-    ///
-    /// `Failed` where a call of the sink failed. It then took the first of what was held and of the
-    /// bytes, or none.
-    pub fn put(&mut self, bytes: &[u8]) -> Result<(), Failed>
-        ensures { Passes O.tells O.taken O.faults (inner self.old) (holds self.old) bytes.now (inner self.new) (holds self.new) result }
-    {
-        if self.keep(bytes) {
-            return Ok(());
-        }
-        self.flush()?;
-        if self.keep(bytes) {
-            return Ok(());
-        }
-        put_all(&mut self.sink, bytes)
-    }
-
-    /// Takes all these bytes, and gives the sink all that is held. Where nothing was held before, that is
-    /// a write to the sink.
-    ///
-    /// # Errors
-    ///
-    /// Those of `put` and of `flush`.
-    pub fn put_through(&mut self, bytes: &[u8]) -> Result<(), Failed>
-        requires { holds self.old ≡ [] }
-        ensures { Writes O.tells O.taken O.faults (inner self.old) (inner self.new) bytes.now result }
-    {
-        self.put(bytes)?;
-        self.flush()
-    }
 }
 
-/// Writes all these bytes to a sink with a buffer as to any sink, and flushes.
-///
-/// # Errors
-///
-/// `Failed` where a call of the sink behind the buffer failed.
-pub fn put_and_flush<O: Sink + Drop>(sink: &mut Buffered<O>, bytes: &[u8]) -> Result<(), Failed>
+fn put_through<O: Sink + Drop>(sink: &mut Buffered<O>, bytes: &[u8]) -> Result<(), Failed>
     requires { drop sink.old.gone sink.old.held.items ≡ [] }
-    ensures { Reaches O.tells O.taken O.faults sink.old.sink sink.new.sink bytes.now result }
+    ensures { Writes O.tells O.taken O.faults O.follows sink.old.sink sink.new.sink bytes.now result }
 {
     put_all(sink, bytes)?;
     sink.flush()
 }
 
+/// Writes all these bytes to the sink behind a buffer that holds nothing, in as few calls as there are
+/// buffers full of them.
+///
+/// # Errors
+///
+/// `Failed` where a call of the sink failed. The sink then took the first of the bytes, or none, and the
+/// others are let go.
+pub fn put_and_flush<O: Sink + Drop>(sink: &mut Buffered<O>, bytes: &[u8]) -> Result<(), Failed>
+    requires { drop sink.old.gone sink.old.held.items ≡ [] }
+    ensures writes { Writes O.tells O.taken O.faults O.follows sink.old.sink sink.new.sink bytes.now result }
+    ensures empty { drop sink.new.gone sink.new.held.items ≡ [] }
+{
+    let put = put_through(sink, bytes);
+    sink.clear();
+    put
+}
+
 impl<O: Sink + Drop> Sink for Buffered<O> {
-    ghost use Rattle.rpm_outside.specs.Buffered.{all_taken, inner, HandsOn};
+    ghost use Rattle.rpm_outside.specs.Buffered.{all_taken, inner, GoesOn};
+    ghost use Rattle.rpm_outside.specs.Taken.{begins_refl, begins_trans};
 
     ghost tells = { O.tells };
 
@@ -131,7 +117,13 @@ impl<O: Sink + Drop> Sink for Buffered<O> {
 
     ghost faults = { λ b. O.faults (inner b) };
 
-    ghost outcome = { λ old failed new. HandsOn O.tells O.taken old new };
+    ghost follows = { GoesOn O.tells O.taken O.follows };
+
+    ghost follows_refl = { λ b. (O.follows_refl (inner b), λ told. begins_refl (all_taken O.taken b)) };
+
+    ghost follows_trans = { λ a b c f g. (O.follows_trans (inner a) (inner b) (inner c) f.0 g.0, λ told. begins_trans (all_taken O.taken a) (all_taken O.taken b) (all_taken O.taken c) (f.1 told) (g.1 told)) };
+
+    ghost follows_grows = { λ a b f told. f.1 told };
 
     fn write(&mut self, bytes: &[u8]) -> Result<usize, Failed> {
         if self.keep(bytes) {

@@ -111,75 +111,55 @@ fn a_sink_fails_after_its_limit(rt: HostRuntime) -> Result<(), Fail> {
     Ok(())
 }
 
-// What a sink that takes so many bytes has after three pieces and a flush through a buffer, with the room
-// made again after it failed.
+// Whether pieces and a flush went through a buffer to a sink that takes so many bytes, how often it
+// failed, and how many bytes it has, all of them right.
 fn through_a_buffer(
     alloc: Global,
     pieces: &[&[u8]],
     limit: u64,
-    most: u32,
-) -> Result<(bool, usize, Vec<u8>), Fail> {
+) -> Result<(bool, u64, usize), Fail> {
     let mut sink = MemSink::new(alloc);
     sink.fail_after(limit);
-    if most > 0 {
-        sink.at_most(most);
-    }
     let mut buffered = Buffered::new(sink);
     let mut went = true;
     for piece in pieces {
-        if went && put_all(&mut buffered, piece).is_err() {
-            went = false;
-        }
+        went = went && put_all(&mut buffered, piece).is_ok();
     }
-    if went && buffered.flush().is_err() {
-        went = false;
+    went = went && buffered.flush().is_ok();
+    let sink = buffered.into_inner();
+    let all = pieces.concat(alloc)?;
+    let taken = sink.bytes().len();
+    if taken > all.len() || sink.bytes() != &all[..taken] {
+        return Ok((false, 0, 0));
     }
-    let faults = buffered.inner().faults() as usize;
-    let bytes = Vec::from_slice(alloc, buffered.inner().bytes())?;
-    Ok((went, faults, bytes))
+    Ok((went, sink.faults(), taken))
 }
 
 #[test]
 fn a_buffer_hands_on_the_first_bytes(rt: HostRuntime) -> Result<(), Fail> {
     let alloc = rt.alloc();
-    let pieces = [b"ab".as_slice(), b"cde", b"f"];
-    for limit in 0..6u64 {
-        let (went, faults, bytes) = through_a_buffer(alloc, &pieces, limit, 2)?;
-        assert!(rt; !went && faults == 1);
-        assert_eq!(rt; bytes.as_slice(), &b"abcdef"[..limit as usize]);
+    let pieces = [[1u8; 4000].as_slice(), &[2; 200], &[3; 4097], &[4; 4096]];
+    for limit in [0, 3999, 4000, 4095, 4096, 4097, 4200, 8296, 8297, 12392] {
+        assert!(rt; through_a_buffer(alloc, &pieces, limit)? == (false, 1, limit as usize));
     }
-    let (went, faults, bytes) = through_a_buffer(alloc, &pieces, 6, 2)?;
-    assert!(rt; went && faults == 0);
-    assert_eq!(rt; bytes.as_slice(), b"abcdef".as_slice());
+    assert!(rt; through_a_buffer(alloc, &pieces, 12393)? == (true, 0, 12393));
     Ok(())
 }
 
 #[test]
-fn a_long_piece_goes_past_the_buffer(rt: HostRuntime) -> Result<(), Fail> {
+fn a_buffer_holds_what_fits(rt: HostRuntime) -> Result<(), Fail> {
     let alloc = rt.alloc();
-    let long = [7u8; 4097];
-    let full = [8u8; 4096];
-    let mut buffered = Buffered::new(MemSink::new(alloc));
+    let mut sink = MemSink::new(alloc);
+    let mut buffered = Buffered::new(&mut sink);
     assert_eq!(rt; buffered.write(b"ab"), Ok(2));
     assert_eq!(rt; buffered.inner().bytes().len(), 0);
-    assert_eq!(rt; buffered.write(&long), Ok(4097));
+    assert_eq!(rt; buffered.write(&[7; 4097]), Ok(4097));
     assert_eq!(rt; buffered.inner().bytes().len(), 4099);
-    assert_eq!(rt; buffered.put(&full), Ok(()));
-    assert_eq!(rt; buffered.inner().bytes().len(), 4099);
-    assert_eq!(rt; put_all(&mut buffered, b"c"), Ok(()));
-    assert_eq!(rt; buffered.inner().bytes().len(), 8195);
+    assert_eq!(rt; put_and_flush(&mut buffered, b"c"), Ok(()));
+    assert_eq!(rt; buffered.write(b"d"), Ok(1));
+    buffered.clear();
     assert_eq!(rt; buffered.flush(), Ok(()));
-    let sink = buffered.into_inner();
     assert_eq!(rt; &sink.bytes()[..3], [b'a', b'b', 7].as_slice());
-    assert_eq!(rt; &sink.bytes()[8194..], [8, b'c'].as_slice());
-    Ok(())
-}
-
-#[test]
-fn a_buffer_writes_and_flushes(rt: HostRuntime) -> Result<(), Fail> {
-    let alloc = rt.alloc();
-    let mut buffered = Buffered::new(MemSink::new(alloc));
-    assert_eq!(rt; put_and_flush(&mut buffered, b"ab"), Ok(()));
-    assert_eq!(rt; buffered.inner().bytes(), b"ab".as_slice());
+    assert_eq!(rt; &sink.bytes()[4098..], [7, b'c'].as_slice());
     Ok(())
 }

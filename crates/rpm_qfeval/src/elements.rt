@@ -22,20 +22,20 @@ use rpm_tags::{Class, Joined, TagValue, value};
 
 /// Puts bytes in the width of a tag.
 pub fn put_plain<O: Sink>(sink: &mut O, part: &TagPart, text: &[u8]) -> Result<(), Failed>
-    ensures { Writes O.tells O.taken O.faults sink.old sink.new (padded part.now.left part.now.width text.now) result }
+    ensures { Writes O.tells O.taken O.faults O.follows sink.old sink.new (padded part.now.left part.now.width text.now) result }
 {
     put_padded(sink, part.left, part.width, &Shown::Plain(text))
 }
 
 fn put_decimal<O: Sink>(sink: &mut O, part: &TagPart, number: u64) -> Result<(), Failed>
-    ensures { Writes O.tells O.taken O.faults sink.old sink.new (padded part.now.left part.now.width (decimal number)) result }
+    ensures { Writes O.tells O.taken O.faults O.follows sink.old sink.new (padded part.now.left part.now.width (decimal number)) result }
 {
     let mut digits = Decimal::new();
     put_plain(sink, part, digits.format(number).as_bytes())
 }
 
 fn put_day<O: Sink>(sink: &mut O, part: &TagPart, number: u64) -> Result<(), Failed>
-    ensures { Writes O.tells O.taken O.faults sink.old sink.new (padded part.now.left part.now.width (dates.day number)) result }
+    ensures { Writes O.tells O.taken O.faults O.follows sink.old sink.new (padded part.now.left part.now.width (dates.day number)) result }
 {
     match u32::try_from(number) {
         Ok(second) => put_plain(sink, part, &day(second)),
@@ -44,7 +44,7 @@ fn put_day<O: Sink>(sink: &mut O, part: &TagPart, number: u64) -> Result<(), Fai
 }
 
 fn put_date<O: Sink>(sink: &mut O, part: &TagPart, number: u64) -> Result<(), Failed>
-    ensures { Writes O.tells O.taken O.faults sink.old sink.new (padded part.now.left part.now.width (dates.date number)) result }
+    ensures { Writes O.tells O.taken O.faults O.follows sink.old sink.new (padded part.now.left part.now.width (dates.date number)) result }
 {
     match u32::try_from(number) {
         Ok(second) => put_plain(sink, part, &date(second)),
@@ -59,7 +59,7 @@ pub fn put_number<O: Sink>(
     count: u32,
     number: u64,
 ) -> Result<(), Failed>
-    ensures { Writes O.tells O.taken O.faults sink.old sink.new (padded part.now.left part.now.width (number_text part.now.show count number)) result }
+    ensures { Writes O.tells O.taken O.faults O.follows sink.old sink.new (padded part.now.left part.now.width (number_text part.now.show count number)) result }
 {
     match part.show {
         Show::Plain | Show::Shescape => put_decimal(sink, part, number),
@@ -83,7 +83,7 @@ pub fn put_text<O: Sink>(
     count: u32,
     text: &Joined<'_>,
 ) -> Result<(), Failed>
-    ensures { Writes O.tells O.taken O.faults sink.old sink.new (padded part.now.left part.now.width (text_text part.now.show count (concat text.now))) result }
+    ensures { Writes O.tells O.taken O.faults O.follows sink.old sink.new (padded part.now.left part.now.width (text_text part.now.show count (concat text.now))) result }
 {
     match part.show {
         Show::Plain => put_padded(sink, part.left, part.width, &Shown::Joined(text)),
@@ -96,7 +96,7 @@ pub fn put_text<O: Sink>(
 
 /// Puts a blob, which is the only element of its value.
 pub fn put_blob<O: Sink>(sink: &mut O, part: &TagPart, bytes: &[u8]) -> Result<(), Failed>
-    ensures { Writes O.tells O.taken O.faults sink.old sink.new (padded part.now.left part.now.width (blob_text part.now.show bytes.now)) result }
+    ensures { Writes O.tells O.taken O.faults O.follows sink.old sink.new (padded part.now.left part.now.width (blob_text part.now.show bytes.now)) result }
 {
     match part.show {
         Show::Plain => put_padded(sink, part.left, part.width, &Shown::Hex(bytes)),
@@ -109,7 +109,7 @@ pub fn put_blob<O: Sink>(sink: &mut O, part: &TagPart, bytes: &[u8]) -> Result<(
 
 /// Puts what stands for an element that isn't there.
 pub fn put_none<O: Sink>(sink: &mut O, part: &TagPart) -> Result<(), Failed>
-    ensures { Writes O.tells O.taken O.faults sink.old sink.new (padded part.now.left part.now.width (or_none None)) result }
+    ensures { Writes O.tells O.taken O.faults O.follows sink.old sink.new (padded part.now.left part.now.width (or_none None)) result }
 {
     put_plain(sink, part, b"(none)")
 }
@@ -122,7 +122,7 @@ pub fn put_element<O: Sink>(
     value: &TagValue<'_>,
     place: u32,
 ) -> Result<(), Failed>
-    ensures { Writes O.tells O.taken O.faults sink.old sink.new (padded part.now.left part.now.width (or_none (shown part.now.show value.now place))) result }
+    ensures { Writes O.tells O.taken O.faults O.follows sink.old sink.new (padded part.now.left part.now.width (or_none (shown part.now.show value.now place))) result }
 {
     let count = value.count();
     if place >= count {
@@ -142,7 +142,7 @@ pub fn put_value<O: Sink>(
     value: &TagValue<'_>,
     round: u32,
 ) -> Result<(), Failed>
-    ensures { Writes O.tells O.taken O.faults sink.old sink.new (padded part.now.left part.now.width (value_text part.now.role part.now.show round value.now)) result }
+    ensures { Writes O.tells O.taken O.faults O.follows sink.old sink.new (padded part.now.left part.now.width (value_text part.now.role part.now.show round value.now)) result }
 {
     match part.role {
         Role::Element => put_element(sink, part, value, round),
@@ -162,7 +162,7 @@ pub fn put_looked_up<O: Sink>(
     number: u32,
     round: u32,
 ) -> Result<(), Failed>
-    ensures { Writes O.tells O.taken O.faults sink.old sink.new (tag_text view.now number round part.now) result }
+    ensures { Writes O.tells O.taken O.faults O.follows sink.old sink.new (tag_text view.now number round part.now) result }
 {
     match value(view, number, part.tag) {
         None => put_none(sink, part),

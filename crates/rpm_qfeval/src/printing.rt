@@ -40,7 +40,7 @@ fn print_parts<O: Sink>(
     number: u32,
     sink: &mut O,
 ) -> Result<(), Failed>
-    ensures { Writes O.tells O.taken O.faults sink.old sink.new (bytes view.now number 0 parts.now) result }
+    ensures { Writes O.tells O.taken O.faults O.follows sink.old sink.new (bytes view.now number 0 parts.now) result }
 {
     put_parts(sink, parts, view, number, &mut [], 0)
 }
@@ -75,7 +75,7 @@ pub fn print_direct<O: Sink>(
     number: u32,
     sink: &mut O,
 ) -> Result<(), DirectFault>
-    ensures { Prints O.tells O.taken O.faults (meaning view.now number format.now) sink.old sink.new (ending result) }
+    ensures { Prints O.tells O.taken O.faults O.follows (meaning view.now number format.now) sink.old sink.new (ending result) }
 {
     if let Some((first, second)) = sizes(format.parts(), view, number) {
         return Err(DirectFault::SizesDiffer { first, second });
@@ -99,7 +99,7 @@ pub fn print<O: Sink>(
     number: u32,
     sink: &mut O,
 ) -> Result<(), EvalFault>
-    ensures { Prints O.tells O.taken O.faults (meaning view.now number format.now) sink.old sink.new (eval_ending result) }
+    ensures { Prints O.tells O.taken O.faults O.follows (meaning view.now number format.now) sink.old sink.new (eval_ending result) }
 {
     let _ = alloc;
     match print_direct(format, view, number, sink) {
