@@ -7,7 +7,7 @@ use Rattle.rpm_outside.specs.declared.disk.File.{File}
 use Rattle.rpm_outside.specs.declared.disk.File.TheVariants.{Pkg, Idx, Log}
 use Rattle.rpm_outside.specs.Causes.{Rose}
 use Rattle.rpm_outside.specs.Files.{Files, units_of}
-use Rattle.rpm_outside.specs.Calls.{Call, Len, Read, Write, Sync}
+use Rattle.rpm_outside.specs.Calls.{Call, Write, Sync}
 use Rattle.rpm_outside.specs.Past.{held_files, part_of, DidNothing, WroteAny, SettledOnce}
 
 -- what a read gives

@@ -1,4 +1,4 @@
-use Rattle.std.proofs.Common.{◌≡◌, ◌+◌, ◌/◌, ◌%◌, ◌^◌, Bool, true, false, if◌then◌else◌, [], sym, ◌∙◌, ap, eq-eqb}
+use Rattle.std.proofs.Common.{◌+◌, ◌/◌, ◌%◌, ◌^◌, Bool, if◌then◌else◌, [], sym, ◌∙◌, ap, eq-eqb}
 use Rattle.std.proofs.lemmas.List.{get_or_default}
 use Rattle.rpm_outside.specs.Files.{unit_at, blank, put}
 use Rattle.rpm_outside.specs.inner.Puts.{put_inside}

@@ -1,4 +1,4 @@
-use Rattle.std.proofs.Common.{◌≡◌, ◌+◌, ◌++◌, take, drop, length, ◌∙◌, ap}
+use Rattle.std.proofs.Common.{◌+◌, ◌++◌, take, drop, length, ◌∙◌, ap}
 use Rattle.rpm_outside.specs.Files.{Units}
 use Rattle.rpm_outside.proofs.Units.{put_in_place, write_back}
 use Rattle.rpm_outside.proofs.steps.write_in.Goals as goal
