@@ -5,7 +5,9 @@ use Rattle.rpm_outside.specs.declared.buffered.Buffered.{Buffered}
 use Rattle.rpm_outside.specs.Sinks.{Begins, Writes}
 use Rattle.rpm_outside.specs.Buffered.{inner, holds, all_taken, GoesOn, Flushes}
 use Rattle.rpm_outside.specs.Flushed.{stopped, flushed}
-use Rattle.rpm_qfeval.specs.Printed.{Done, Differs, Fails, EndsSo, Prints}
+use Rattle.rpm_qfeval.specs.declared.printing.DirectFault.{DirectFault}
+use Rattle.rpm_qfeval.specs.declared.printing.DirectFault.TheVariants.{SizesDiffer, OutFault}
+use Rattle.rpm_qfeval.specs.Printed.{Done, Differs, Fails, EndsSo, Prints, ending}
 use Rattle.rpm_tool.specs.Answers.{outputs, Closes}
 
 -- two counts that are told are those of the meaning, and nothing was written
@@ -22,7 +24,7 @@ closes_of tells taken faults before old new line (Err fault) out_tells out later
 -- what was printed to a buffer that held nothing
 module _ {O : Type 0} {tells : Bool} {taken : O → List ℕ} {faults : O → ℕ} {follows : O → O → Type 0} (grows : (a b : O) → follows a b → IsTrue tells → Begins (taken a) (taken b)) where
   -- where it failed
-  pub print_stopped : (meaning : Result (List ℕ) (ℕ × ℕ)) (old new : Buffered O) → holds old ≡ [] → Prints tells (all_taken taken) (λ b. faults (inner b)) (GoesOn tells taken follows) meaning old new Fails → Prints tells taken faults follows meaning (inner old) (inner new) Fails
+  print_stopped : (meaning : Result (List ℕ) (ℕ × ℕ)) (old new : Buffered O) → holds old ≡ [] → Prints tells (all_taken taken) (λ b. faults (inner b)) (GoesOn tells taken follows) meaning old new Fails → Prints tells taken faults follows meaning (inner old) (inner new) Fails
   print_stopped (Ok bytes) old new nothing p =
       let w : Writes {T = Unit {0}} {E = Unit {0}} tells taken faults follows (inner old) (inner new) bytes (Err tt) =
           stopped {T = Unit {0}} {E = Unit {0}} grows (Err tt) refl nothing (record { ok = tt; err = p.ends.0; cause = record { later = p.later; failed = p.ends.1 }; goes_on = p.goes_on }) in
@@ -30,10 +32,16 @@ module _ {O : Type 0} {tells : Bool} {taken : O → List ℕ} {faults : O → �
   print_stopped (Err counts) old new nothing p = absurd p.ends
 
   -- where nothing was printed
-  pub print_refused : (meaning : Result (List ℕ) (ℕ × ℕ)) (old new : Buffered O) (first second : ℕ) → Prints tells (all_taken taken) (λ b. faults (inner b)) (GoesOn tells taken follows) meaning old new (Differs first second)
+  print_refused : (meaning : Result (List ℕ) (ℕ × ℕ)) (old new : Buffered O) (first second : ℕ) → Prints tells (all_taken taken) (λ b. faults (inner b)) (GoesOn tells taken follows) meaning old new (Differs first second)
       → Prints tells taken faults follows meaning (inner old) (inner new) (Differs first second)
   print_refused (Ok bytes) old new first second p = absurd p.ends
   print_refused (Err counts) old new first second p = record { ends = (p.ends.0, ap (λ (b : Buffered O). inner b) p.ends.1); later = p.later; goes_on = p.goes_on.0 }
+
+  -- where it ended by a fault
+  pub print_ended : (meaning : Result (List ℕ) (ℕ × ℕ)) (old new : Buffered O) (fault : DirectFault) → holds old ≡ [] → Prints tells (all_taken taken) (λ b. faults (inner b)) (GoesOn tells taken follows) meaning old new (ending {T = Unit {0}} (Err fault))
+      → Prints tells taken faults follows meaning (inner old) (inner new) (ending {T = Unit {0}} (Err fault))
+  print_ended meaning old new (SizesDiffer first second) nothing p = print_refused meaning old new first second p
+  print_ended meaning old new OutFault nothing p = print_stopped meaning old new nothing p
 
   module _ (then : (a b c : O) → follows a b → follows b c → follows a c) where
     written : {T E : Type 0} (bytes : List ℕ) (old mid new : Buffered O) (r : Result T E) → holds old ≡ [] → Prints tells (all_taken taken) (λ b. faults (inner b)) (GoesOn tells taken follows) (Ok bytes) old mid Done
