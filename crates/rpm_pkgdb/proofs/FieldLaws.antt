@@ -1,7 +1,7 @@
 -- The number field while it is written.
 use Rattle.std.proofs.Common.{◌≡◌, ◌⊎◌, inl, inr, ℕ, ◌+◌, ◌≤◌, List, [], ◌∷◌, length, Option, Some, None, refl, sym, ap, ◌∙◌, subst, arith}
 use Rattle.rpm_outside.specs.Files.{Units, unit_at, put}
-use Rattle.rpm_outside.specs.Puts.{length-put}
+use Rattle.rpm_outside.specs.inner.Puts.{length-put}
 use Rattle.rpm_pkgdb.specs.Words.{word}
 use Rattle.rpm_pkgdb.specs.Slots.{slot_at}
 use Rattle.rpm_pkgdb.specs.Store.{Store}

@@ -6,7 +6,7 @@ use Rattle.std.proofs.lemmas.List.{take-append-le, take_all, drop-append-le, dro
 use Rattle.std.proofs.lemmas.Bool.Decides.{nat_tests}
 use Rattle.rpm_outside.specs.Files.{Units, unit_at, units_of, cut_up, bytes_of, blank}
 use Rattle.rpm_pkgdb.specs.inner.Clear.{Holds}
-use Rattle.rpm_outside.specs.Cuts.{length-cut_up, bytes_of-cut_up}
+use Rattle.rpm_outside.specs.inner.Cuts.{length-cut_up, bytes_of-cut_up}
 use Rattle.rpm_pkgdb.specs.declared.slot.Slot.{Slot}
 use Rattle.rpm_pkgdb.specs.Words.{word, begins}
 use Rattle.rpm_pkgdb.specs.Blobs.{Frame, blocks_for, is_head, is_tail, is_framed, tail, blocks_at, frame_of, blob_in}

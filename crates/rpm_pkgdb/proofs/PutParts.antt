@@ -3,8 +3,8 @@ use Rattle.std.proofs.Common.{◌≡◌, inl, inr, ℕ, zero, suc, ◌+◌, ◌-
 use Rattle.std.proofs.lemmas.Bool.{cases_lt}
 use Rattle.std.proofs.lemmas.List.{get_or_append_left, get_or-append_right, take-append-le, drop-append-le, nil_from_length}
 use Rattle.rpm_outside.specs.Files.{Units, unit_at, units_of, cut_up, put, blank}
-use Rattle.rpm_outside.specs.Puts.{length-put, put_before, put_inside, put_after}
-use Rattle.rpm_outside.specs.PutLaws.{same_units}
+use Rattle.rpm_outside.specs.inner.Puts.{length-put, put_before, put_inside, put_after}
+use Rattle.rpm_outside.specs.inner.PutLaws.{same_units}
 
 module _ (at : ℕ) (us vs file : Units) where
   abbrev first : Units

@@ -2,7 +2,7 @@
 use Rattle.std.proofs.Common.{◌≡◌, ◌≢◌, inl, inr, ℕ, zero, suc, ◌+◌, ◌^◌, ◌≤◌, List, [], ◌∷◌, length, true, if◌then◌else◌, Option, None, refl, sym, ap, ◌∙◌, subst, arith, set}
 use Rattle.rpm_outside.specs.Files.{Units, unit_at, units_of, put}
 use Rattle.rpm_outside.specs.Crash.{Torn}
-use Rattle.rpm_outside.specs.Puts.{length-put, put_before, put_inside, put_after}
+use Rattle.rpm_outside.specs.inner.Puts.{length-put, put_before, put_inside, put_after}
 use Rattle.rpm_pkgdb.specs.declared.slot.Slot.{Slot}
 use Rattle.rpm_pkgdb.specs.declared.plan.Plan.{Plan}
 use Rattle.rpm_pkgdb.specs.Slots.{slot_at, is_used, end_of, greatest_number}

@@ -4,6 +4,7 @@ ghost use Rattle.std.specs.Prelude.{◌≡◌, ℕ, ◌+◌, ◌-◌, ◌*◌, �
 ghost use Rattle.std.specs.List.{list_any};
 ghost use Rattle.rpm_outside.specs.Files.{Files, Units, unit_at};
 ghost use Rattle.rpm_outside.specs.Causes.{HasCauseAt};
+ghost use Rattle.rpm_outside.specs.declared.disk.File.TheVariants.{Pkg};
 ghost use Rattle.rpm_outside.specs.Looks.{Looks};
 ghost use Rattle.std.specs.FinMap as finite;
 ghost use Rattle.rpm_pkgdb.specs.Words.{word};
@@ -125,7 +126,7 @@ impl PkgDb {
         ensures from_one { IfOk result (λ db. slot_with 0 db.slots ≡ None) }
         ensures fresh { IfOk result (λ db. db ≡ in_file db) }
         ensures reads { IsTrue D.tells → D.bytes_read disk.new File.Pkg ≤ D.bytes_read disk.old File.Pkg + opening_cost (D.files disk.old).pkg }
-        ensures looks { Looks D.tells D.files D.left_since D.moment D.bytes_read D.follows (2 ^ 32) disk.old disk.new }
+        ensures looks { Looks D.tells D.files D.left_since D.moment D.bytes_read D.follows Pkg (2 ^ 32) disk.old disk.new }
         ensures cause { HasCauseAt (result ≡ Err OpenFault.DiskFault) (D.faults disk.old) (D.faults disk.new) }
     {
         let Ok(units) = disk.len(File::Pkg) else {
@@ -160,7 +161,7 @@ impl PkgDb {
         ensures store { IsTrue D.tells → OpenIs (store_of (word 3 head.now) (D.files disk.old).pkg) result }
         ensures from_one { IfOk result (λ db. slot_with 0 db.slots ≡ None) }
         ensures fresh { IfOk result (λ db. db ≡ in_file db) }
-        ensures looks { Looks D.tells D.files D.left_since D.moment D.bytes_read D.follows (4096 * word 3 head.now - 16) disk.old disk.new }
+        ensures looks { Looks D.tells D.files D.left_since D.moment D.bytes_read D.follows Pkg (4096 * word 3 head.now - 16) disk.old disk.new }
         ensures cause { HasCauseAt (result ≡ Err OpenFault.DiskFault) (D.faults disk.old) (D.faults disk.new) }
     {
         let pages = word(head, 3);
@@ -273,7 +274,7 @@ impl PkgDb {
         ensures kept { IsTrue D.tells → Keeps (D.files disk.new).pkg self.now }
         ensures told { IsTrue D.tells → AnswerIs frame_in (frames (D.files disk.old).pkg self.now n) result }
         ensures absent { (result ≡ Err GetFault.NoSuch) ↔ (slot_with n self.now.slots ≡ None) }
-        ensures looks { Looks D.tells D.files D.left_since D.moment D.bytes_read D.follows (cost n self.now) disk.old disk.new }
+        ensures looks { Looks D.tells D.files D.left_since D.moment D.bytes_read D.follows Pkg (cost n self.now) disk.old disk.new }
         ensures cause { HasCauseAt (result ≡ Err GetFault.DiskFault) (D.faults disk.old) (D.faults disk.new) }
     {
         match self.slot_of(n) {
@@ -298,7 +299,7 @@ impl PkgDb {
         ensures kept { IsTrue D.tells → Keeps (D.files disk.new).pkg self.now }
         ensures told { IsTrue D.tells → AnswerIs given (finite.get (blobs (D.files disk.old).pkg self.now) n) result }
         ensures absent { (result ≡ Err GetFault.NoSuch) ↔ (slot_with n self.now.slots ≡ None) }
-        ensures looks { Looks D.tells D.files D.left_since D.moment D.bytes_read D.follows (cost n self.now) disk.old disk.new }
+        ensures looks { Looks D.tells D.files D.left_since D.moment D.bytes_read D.follows Pkg (cost n self.now) disk.old disk.new }
         ensures cause { HasCauseAt (result ≡ Err GetFault.DiskFault) (D.faults disk.old) (D.faults disk.new) }
     {
         match self.blocks(alloc, disk, n) {
@@ -324,7 +325,7 @@ impl PkgDb {
         ensures kept { IsTrue D.tells → Keeps (D.files disk.new).pkg self.now }
         ensures told { IsTrue D.tells → AnswerIs (λ holds. holds) (checksums_hold (D.files disk.old).pkg self.now n) result }
         ensures absent { (result ≡ Err GetFault.NoSuch) ↔ (slot_with n self.now.slots ≡ None) }
-        ensures looks { Looks D.tells D.files D.left_since D.moment D.bytes_read D.follows (cost n self.now) disk.old disk.new }
+        ensures looks { Looks D.tells D.files D.left_since D.moment D.bytes_read D.follows Pkg (cost n self.now) disk.old disk.new }
         ensures cause { HasCauseAt (result ≡ Err GetFault.DiskFault) (D.faults disk.old) (D.faults disk.new) }
     {
         match self.blocks(alloc, disk, n) {

@@ -6,7 +6,7 @@ use Rattle.rpm_outside.specs.declared.disk.File.TheVariants.{Pkg, Idx, Log}
 use Rattle.rpm_outside.specs.Files.{Units, Files}
 use Rattle.rpm_outside.specs.Crash.{LeavesOnly}
 use Rattle.rpm_outside.specs.Looks.{Looks}
-use Rattle.rpm_outside.specs.Moments.{leaves_then, leaves_weaker}
+use Rattle.rpm_outside.specs.inner.Moments.{leaves_then, leaves_weaker}
 use Rattle.rpm_pkgdb.specs.Changes.{Stops, Changed, Changes, changed_weaker, changed_then, changed_none, changes_none}
 
 -- a run of calls that changes Packages.db so, and reads at most so many bytes of it
@@ -41,7 +41,7 @@ module _ {D : Type 0} (tells : Bool) (files : D → Files) (left_since : D → �
   }
 
   -- a run that only reads
-  pub copies_looks : (R : Units → Units → Type 0) → ((x : Units) → R x x) → (most : ℕ) (a b : D) → Looks tells files left_since moment bytes_read follows most a b → Copies tells files left_since moment bytes_read follows R most a b
+  pub copies_looks : (R : Units → Units → Type 0) → ((x : Units) → R x x) → (most : ℕ) (a b : D) → Looks tells files left_since moment bytes_read follows Pkg most a b → Copies tells files left_since moment bytes_read follows R most a b
   copies_looks R same most a b looks = record {
     pkg = λ told. subst (λ (f : Files). R (files a).pkg f.pkg) (sym (looks.untouched told).same) (same (files a).pkg);
     idx = λ told. ap (λ (f : Files). f.idx) (looks.untouched told).same;
@@ -52,10 +52,10 @@ module _ {D : Type 0} (tells : Bool) (files : D → Files) (left_since : D → �
       each = λ image left. changed_none R (images a) image same ((looks.untouched told).images (moment a) image left);
       before = λ t image le left. inl ((looks.untouched told).images t image left);
     };
-    no_less = looks.no_less;
-    no_more = looks.no_more;
-    idx_reads = looks.idx;
-    log_reads = looks.log;
+    no_less = looks.reads.no_less Pkg;
+    no_more = looks.reads.pkg;
+    idx_reads = omega (arith, looks.reads.no_less Idx, looks.reads.idx);
+    log_reads = omega (arith, looks.reads.no_less Log, looks.reads.log);
     goes_on = looks.goes_on;
   }
 

@@ -1,6 +1,6 @@
 use Rattle.std.proofs.Common.{◌≡◌, ◌-◌, ◌*◌, ◌/◌, ◌^◌, length, ap, ◌∙◌, arith}
 use Rattle.rpm_outside.specs.Files.{units_of}
-use Rattle.rpm_outside.specs.Cuts.{length-cut_up}
+use Rattle.rpm_outside.specs.inner.Cuts.{length-cut_up}
 use Rattle.rpm_pkgdb.specs.declared.table.Table.{Table}
 use Rattle.rpm_pkgdb.specs.Undamaged.{AreSound}
 use Rattle.rpm_pkgdb.specs.inner.Tables.{IsTable}

@@ -2,7 +2,7 @@ use Rattle.std.proofs.Common.{◌≡◌, ℕ, ◌+◌, ◌*◌, ◌/◌, ◌≤�
 use Rattle.std.proofs.lemmas.List.{length-take, length-replicate}
 use Rattle.rpm_outside.specs.Files.{Units, units_of}
 use Rattle.rpm_outside.specs.Crash.{Torn}
-use Rattle.rpm_outside.specs.Cuts.{length-cut_up}
+use Rattle.rpm_outside.specs.inner.Cuts.{length-cut_up}
 use Rattle.rpm_pkgdb.specs.inner.Clear.{SameOutside}
 use Rattle.rpm_pkgdb.proofs.ClearLaws.{torn_outside, outside_then, outside_wider}
 use Rattle.rpm_pkgdb.specs.Changes.{changes_then}
