@@ -8,8 +8,8 @@ use Rattle.rpm_words.specs.declared.switch.Program.TheVariants.{Rpm, Rpmdb}
 use Rattle.rpm_words.specs.declared.switch.Command.TheVariants.{Exercise}
 use Rattle.rpm_words.specs.declared.switch.Switch.{Switch}
 use Rattle.rpm_words.specs.declared.switch.Switch.TheVariants.{Mode, Format, After, Folder}
-use Rattle.rpm_words.specs.declared.role.Role.{Role}
-use Rattle.rpm_words.specs.declared.role.Role.TheVariants.{Unknown, Cluster, Whole, Inline, Awaits, Value, Ends, Plain, Rest}
+use Rattle.rpm_words.specs.declared.purpose.Purpose.{Purpose}
+use Rattle.rpm_words.specs.declared.purpose.Purpose.TheVariants.{Unknown, Cluster, Whole, Inline, Awaits, Value, Ends, Plain, Rest}
 use Rattle.rpm_words.specs.Switch.{long_switch, short_switch}
 
 -- whether the option has a value
@@ -28,20 +28,20 @@ abbrev pub has_equals : List ℕ → Bool
 has_equals text = nat_lt (position_or_len is_equals text) (length text)
 
 -- an option with its value behind the place of the sign
-abbrev pub inline : ℕ → Switch → Role
+abbrev pub inline : ℕ → Switch → Purpose
 inline place switch = if takes_value switch then Inline switch (place + 1) else Unknown
 
 -- an option with no value in its word
-abbrev pub lone : Switch → Role
+abbrev pub lone : Switch → Purpose
 lone switch = if takes_value switch then Awaits switch else Whole switch
 
-abbrev pub spelled : List ℕ → Switch → Role
+abbrev pub spelled : List ℕ → Switch → Purpose
 spelled text switch =
     if has_equals text then inline (position_or_len is_equals text) switch else lone switch
 
 -- a word that begins with two dashes
-unfoldable pub long_role : Program → List ℕ → Role
-long_role program text =
+unfoldable pub long_purpose : Program → List ℕ → Purpose
+long_purpose program text =
     option_map_or (spelled text) (long_switch program (before_first is_equals text)) Unknown
 
 -- behind the first byte stand short options alone
@@ -50,17 +50,17 @@ is_cluster Rpm text = list_all (λ b. is_some (short_switch b)) (drop 1 text)
 is_cluster Rpmdb text = false
 
 -- a word that nothing in front gives another meaning
-unfoldable pub own_role : Program → List ℕ → Role
-own_role program text =
+unfoldable pub own_purpose : Program → List ℕ → Purpose
+own_purpose program text =
     if bytes_eq text (codes "--") then Ends
-    else if bytes_eq (take 2 text) (codes "--") then long_role program text
+    else if bytes_eq (take 2 text) (codes "--") then long_purpose program text
     else if bytes_eq text (codes "-") || not (bytes_eq (take 1 text) (codes "-")) then Plain
     else if is_cluster program text then Cluster
     else Unknown
 
 -- the word in front decides where it awaits a value, and where the options have ended
-unfoldable pub role_behind : Program → Role → List ℕ → Role
-role_behind program (Awaits switch) text = Value switch
-role_behind program Ends text = Rest
-role_behind program Rest text = Rest
-role_behind program others text = own_role program text
+unfoldable pub purpose_behind : Program → Purpose → List ℕ → Purpose
+purpose_behind program (Awaits switch) text = Value switch
+purpose_behind program Ends text = Rest
+purpose_behind program Rest text = Rest
+purpose_behind program others text = own_purpose program text

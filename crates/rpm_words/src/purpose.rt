@@ -4,14 +4,14 @@ ghost use Rattle.std.specs.Prelude.{◌≡◌, length};
 ghost use Rattle.std.specs.Option.{option_map_or, is_some};
 ghost use Rattle.std.specs.List.{list_all};
 ghost use Rattle.rpm_words.specs.Switch.{long_switch, short_switch};
-ghost use Rattle.rpm_words.specs.Role.{role_behind, own_role, long_role, inline, lone, is_cluster, takes_value};
-ghost use Rattle.rpm_words.specs.declared.role.Role.TheVariants.{Unknown};
+ghost use Rattle.rpm_words.specs.Purpose.{purpose_behind, own_purpose, long_purpose, inline, lone, is_cluster, takes_value};
+ghost use Rattle.rpm_words.specs.declared.purpose.Purpose.TheVariants.{Unknown};
 
 use crate::switch::{Command, Program, Switch, long_switch, short_switch};
 
 /// What a word is there for.
 #[derive(Debug, Clone, Copy)]
-pub(crate) enum Role {
+pub(crate) enum Purpose {
     /// The program's name.
     Name,
     /// It begins as an option, and is none.
@@ -47,34 +47,34 @@ impl Switch {
 }
 
 /// What a long option is there for whose value stands in the same word.
-fn inline_role(program: Program, name: &str) -> Role
+fn inline_purpose(program: Program, name: &str) -> Purpose
     ensures { result ≡ option_map_or (inline (length name.now)) (long_switch program name.now) Unknown }
 {
     match long_switch(program, name) {
-        Some(switch) if switch.takes_value() => Role::Inline(switch, name.len() as u32 + 1),
-        _ => Role::Unknown,
+        Some(switch) if switch.takes_value() => Purpose::Inline(switch, name.len() as u32 + 1),
+        _ => Purpose::Unknown,
     }
 }
 
 /// What a long option is there for that stands alone in its word.
-fn lone_role(program: Program, name: &str) -> Role
+fn lone_purpose(program: Program, name: &str) -> Purpose
     ensures { result ≡ option_map_or lone (long_switch program name.now) Unknown }
 {
     match long_switch(program, name) {
-        Some(switch) if switch.takes_value() => Role::Awaits(switch),
-        Some(switch) => Role::Whole(switch),
-        None => Role::Unknown,
+        Some(switch) if switch.takes_value() => Purpose::Awaits(switch),
+        Some(switch) => Purpose::Whole(switch),
+        None => Purpose::Unknown,
     }
 }
 
 /// What a word that begins with two dashes is there for.
-#[tactic(auto, unfolding(crate::specs::Role::long_role), using(std::proofs::lemmas::Str::Pattern::split_once_first))]
-fn long_role(program: Program, text: &str) -> Role
-    ensures { result ≡ long_role program text.now }
+#[tactic(auto, unfolding(crate::specs::Purpose::long_purpose), using(std::proofs::lemmas::Str::Pattern::split_once_first))]
+fn long_purpose(program: Program, text: &str) -> Purpose
+    ensures { result ≡ long_purpose program text.now }
 {
     match text.split_once('=') {
-        Some((name, _)) => inline_role(program, name),
-        None => lone_role(program, text),
+        Some((name, _)) => inline_purpose(program, name),
+        None => lone_purpose(program, text),
     }
 }
 
@@ -86,7 +86,7 @@ fn is_letters(bytes: &[u8]) -> bool
 }
 
 /// Whether each byte behind the first is a short option.
-#[tactic(auto, unfolding(crate::specs::Role::is_cluster))]
+#[tactic(auto, unfolding(crate::specs::Purpose::is_cluster))]
 fn is_cluster(program: Program, text: &[u8]) -> bool
     ensures { result ≡ is_cluster program text.now }
 {
@@ -97,32 +97,32 @@ fn is_cluster(program: Program, text: &[u8]) -> bool
 }
 
 /// What a word is there for by its own spelling.
-#[tactic(auto, unfolding(crate::specs::Role::own_role))]
-fn own_role(program: Program, text: &str) -> Role
-    ensures { result ≡ own_role program text.now }
+#[tactic(auto, unfolding(crate::specs::Purpose::own_purpose))]
+fn own_purpose(program: Program, text: &str) -> Purpose
+    ensures { result ≡ own_purpose program text.now }
 {
     let bytes = text.as_bytes();
     if text == "--" {
-        Role::Ends
+        Purpose::Ends
     } else if bytes.starts_with(b"--") {
-        long_role(program, text)
+        long_purpose(program, text)
     } else if text == "-" || !bytes.starts_with(b"-") {
-        Role::Plain
+        Purpose::Plain
     } else if is_cluster(program, bytes) {
-        Role::Cluster
+        Purpose::Cluster
     } else {
-        Role::Unknown
+        Purpose::Unknown
     }
 }
 
 /// What a word is there for, behind one that is there for `previous`.
-#[tactic(auto, unfolding(crate::specs::Role::role_behind))]
-pub(crate) fn role_behind(program: Program, previous: Role, text: &str) -> Role
-    ensures { result ≡ role_behind program previous text.now }
+#[tactic(auto, unfolding(crate::specs::Purpose::purpose_behind))]
+pub(crate) fn purpose_behind(program: Program, previous: Purpose, text: &str) -> Purpose
+    ensures { result ≡ purpose_behind program previous text.now }
 {
     match previous {
-        Role::Awaits(switch) => Role::Value(switch),
-        Role::Ends | Role::Rest => Role::Rest,
-        _ => own_role(program, text),
+        Purpose::Awaits(switch) => Purpose::Value(switch),
+        Purpose::Ends | Purpose::Rest => Purpose::Rest,
+        _ => own_purpose(program, text),
     }
 }
