@@ -13,7 +13,7 @@ use Rattle.rpm_outside.specs.Changed.{with_file-with_file}
 use Rattle.rpm_outside.specs.PutMore.{put_some, put_some_is, put_some_append}
 use Rattle.rpm_group.specs.declared.page.Page.{Page}
 use Rattle.rpm_group.specs.Held.{Table, unit_in, in_page, held_at}
-use Rattle.rpm_group.specs.Counts.{units_held, AreHeld}
+use Rattle.rpm_group.specs.inner.HeldUnits.{units_held, AreHeld}
 use Rattle.rpm_group.proofs.Laids.{unit_of_bytes}
 use Rattle.rpm_group.proofs.Tables.{unit_in_part}
 

@@ -6,9 +6,9 @@ ghost use Rattle.rpm_outside.specs.Causes.{HasCause};
 ghost use Rattle.rpm_outside.specs.Changed.{LeavesChanged};
 ghost use Rattle.rpm_outside.specs.Logs.{word};
 ghost use Rattle.rpm_outside.specs.LogWrites.{number_of};
-ghost use Rattle.rpm_group.specs.Counts.{units_held, AreHeld};
+ghost use Rattle.rpm_group.specs.inner.HeldUnits.{units_held, AreHeld};
 ghost use Rattle.rpm_group.specs.LogReads.{ReadsNothing};
-ghost use Rattle.rpm_group.specs.Words.{IsUnitOf, IsHeadOf};
+ghost use Rattle.rpm_group.specs.inner.Words.{IsUnitOf, IsHeadOf};
 
 use crate::scan::page_of;
 use crate::table::Table;

@@ -5,7 +5,7 @@ use Rattle.rpm_outside.specs.Cuts.{length-cut_up}
 use Rattle.rpm_outside.specs.Changed.{leaves_none}
 use Rattle.rpm_outside.specs.PutMore.{put_some}
 use Rattle.rpm_group.specs.LogReads.{nothing_none, nothing_then}
-use Rattle.rpm_group.specs.Counts.{units_held}
+use Rattle.rpm_group.specs.inner.HeldUnits.{units_held}
 use Rattle.rpm_group.proofs.Pieces.{piece_leaves}
 use Rattle.rpm_group.proofs.Runs.{run_more, run_none, run_all}
 use Rattle.rpm_group.proofs.writes.write_run.Goals as goal
