@@ -5,7 +5,7 @@ use Rattle.std.proofs.lemmas.Bool.{cases_eq}
 use Rattle.rpm_outside.specs.declared.disk.File.{File}
 use Rattle.rpm_outside.specs.Files.{Units, Files, file_of, with_file, put, unit_at}
 use Rattle.rpm_outside.specs.Crash.{LeavesOnly}
-use Rattle.rpm_outside.specs.Moments.{leaves_then, leaves_weaker}
+use Rattle.rpm_outside.specs.inner.Moments.{leaves_then, leaves_weaker}
 use Rattle.rpm_outside.specs.Logs.{Entry, LogState, Closed, Malformed, Open, word, is_head, entry_at, before, heads, with_entry, with_entries}
 use Rattle.rpm_outside.specs.LogRules.{heads_right, heads_wrong, heads_done, heads_more, head_parts, entry_units}
 use Rattle.rpm_outside.specs.EntryLaws.{Writes, Covers, within_changed}

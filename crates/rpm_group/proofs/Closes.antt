@@ -3,9 +3,9 @@ use Rattle.std.proofs.Common.{◌≡◌, ℕ, ◌<◌, List, [], ◌∷◌, leng
 use Rattle.rpm_outside.specs.declared.disk.File.TheVariants.{Log}
 use Rattle.rpm_outside.specs.Files.{Units, Files, with_file, put, unit_at}
 use Rattle.rpm_outside.specs.Crash.{LeavesOnly, TornFile, Elapses, Follows}
-use Rattle.rpm_outside.specs.Moments.{started, goes_on, leaves_weaker}
+use Rattle.rpm_outside.specs.inner.Moments.{started, goes_on, leaves_weaker}
 use Rattle.rpm_outside.specs.Logs.{Entry, LogState, Closed, Open, is_blank, log_state, unlogged, with_entries, reopened}
-use Rattle.rpm_outside.specs.LogLaws.{NotLog, log_not_log, reopened_open, reopened_within, closing, blank_closed, first_unit, within_log, entries_log, unlogged_entries, entries_done}
+use Rattle.rpm_outside.specs.inner.LogLaws.{NotLog, log_not_log, reopened_open, reopened_within, closing, blank_closed, first_unit, within_log, entries_log, unlogged_entries, entries_done}
 use Rattle.rpm_outside.specs.EntryLaws.{Within}
 use Rattle.rpm_group.specs.Readings.{IsOpen}
 use Rattle.rpm_group.specs.inner.Leavings.{WasWithin, ReopensAs}

@@ -3,10 +3,10 @@ use Rattle.std.proofs.Common.{◌≡◌, inl, inr, ⊎_elim, ℕ, ◌+◌, ◌-�
 use Rattle.rpm_outside.specs.declared.disk.File.TheVariants.{Pkg, Idx, Log}
 use Rattle.rpm_outside.specs.Files.{Units, Files, with_file, put}
 use Rattle.rpm_outside.specs.Crash.{LeavesOnly, TornFile, Elapses, Follows}
-use Rattle.rpm_outside.specs.Moments.{started, goes_on, leaves_then, leaves_weaker}
+use Rattle.rpm_outside.specs.inner.Moments.{started, goes_on, leaves_then, leaves_weaker}
 use Rattle.rpm_outside.specs.Changed.{ChangedIn, WasChanged, LeavesChanged, changed_leaves_then, changed_leaves_more}
 use Rattle.rpm_outside.specs.Logs.{Entry, Closed, Open, log_state, unlogged, with_entries, reopened, is_blank}
-use Rattle.rpm_outside.specs.LogLaws.{reopened_closed, reopened_open, blank_closed}
+use Rattle.rpm_outside.specs.inner.LogLaws.{reopened_closed, reopened_open, blank_closed}
 use Rattle.rpm_outside.specs.LogWrites.{EntriesIn, entries_kept, entries_then, entries_long, word_full, IsGate, opening, opened_is}
 use Rattle.rpm_group.specs.inner.Words.{IsUnitOf}
 use Rattle.rpm_outside.specs.LogRules.{closed_blank}

@@ -8,7 +8,7 @@ use Rattle.rpm_outside.specs.Files.{Units, Files, file_of, with_file, put}
 use Rattle.rpm_outside.specs.History.{file_of-with}
 use Rattle.rpm_outside.specs.Literal.{other_file}
 use Rattle.rpm_outside.specs.Changed.{with_file-with_file}
-use Rattle.rpm_outside.specs.PutMore.{put_some, put_some_is, put_some_append}
+use Rattle.rpm_outside.specs.inner.PutMore.{put_some, put_some_is, put_some_append}
 
 pub page_count : (n : ℕ) (page : List ℕ) → length page ≡ 4096 → n ≤ 256 → length (take (16 * n) page) / 16 ≡ n
 page_count n page long le = omega (arith, length-take (16 * n) page)

@@ -3,7 +3,7 @@ use Rattle.std.proofs.Common.{◌≡◌, ℕ, suc, ◌+◌, ◌<◌, ◌≤◌, 
 use Rattle.rpm_outside.specs.declared.disk.File.TheVariants.{Log}
 use Rattle.rpm_outside.specs.Files.{Units, Files, with_file, unit_at, put}
 use Rattle.rpm_outside.specs.Crash.{TornFile}
-use Rattle.rpm_outside.specs.Puts.{length-put, put_before, put_inside}
+use Rattle.rpm_outside.specs.inner.Puts.{length-put, put_before, put_inside}
 use Rattle.rpm_outside.specs.History.{torn_file_whole}
 use Rattle.rpm_outside.specs.Changed.{ChangedIn, torn_changed, changed_more}
 use Rattle.rpm_outside.specs.Logs.{Entry, word}

@@ -5,9 +5,9 @@ use Rattle.std.proofs.lemmas.List.{get_or_past}
 use Rattle.std.proofs.lemmas.List.FromFn.{length-map-range_with_len, get_or-map-range_with_len}
 use Rattle.std.proofs.lemmas.Bool.{cases_lt}
 use Rattle.rpm_outside.specs.Files.{Units, unit_at, units_of, blank, put}
-use Rattle.rpm_outside.specs.Cuts.{length-cut_up, unit_at-cut_up}
-use Rattle.rpm_outside.specs.Puts.{length-put, put_before, put_inside, put_after}
-use Rattle.rpm_outside.specs.PutLaws.{same_units}
+use Rattle.rpm_outside.specs.inner.Cuts.{length-cut_up, unit_at-cut_up}
+use Rattle.rpm_outside.specs.inner.Puts.{length-put, put_before, put_inside, put_after}
+use Rattle.rpm_outside.specs.inner.PutLaws.{same_units}
 use Rattle.rpm_group.specs.Held.{Table, unit_in, held_at, unit_over, laid, EndsAt}
 use Rattle.rpm_group.specs.inner.Holding.{Holds, SameHeld}
 

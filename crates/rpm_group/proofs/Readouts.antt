@@ -5,8 +5,8 @@ use Rattle.std.proofs.lemmas.List.{length-take, length-drop, get_or-take, get_or
 use Rattle.std.proofs.lemmas.Bool.{cases_lt}
 use borrow.Rule.Slice.PartMut.{put_mid}
 use Rattle.rpm_outside.specs.Files.{Units, unit_at, units_of, blank}
-use Rattle.rpm_outside.specs.Cuts.{length-cut_up}
-use Rattle.rpm_outside.specs.PutLaws.{same_units}
+use Rattle.rpm_outside.specs.inner.Cuts.{length-cut_up}
+use Rattle.rpm_outside.specs.inner.PutLaws.{same_units}
 use Rattle.rpm_group.specs.Held.{Table, unit_in, held_at, laid, EndsAt}
 use Rattle.rpm_group.specs.inner.Holding.{LaysOver}
 use Rattle.rpm_group.proofs.ByteLaws.{length-put_mid, get_or_put_inside}

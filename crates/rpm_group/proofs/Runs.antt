@@ -6,11 +6,11 @@ use Rattle.std.proofs.lemmas.List.FromFn.{length-map-range_with_len, get_or-map-
 use Rattle.std.proofs.lemmas.Bool.{cases_lt}
 use Rattle.rpm_outside.specs.declared.disk.File.{File}
 use Rattle.rpm_outside.specs.Files.{Units, Files, file_of, with_file, unit_at, units_of, blank, put}
-use Rattle.rpm_outside.specs.Cuts.{length-cut_up}
-use Rattle.rpm_outside.specs.PutLaws.{same_units}
+use Rattle.rpm_outside.specs.inner.Cuts.{length-cut_up}
+use Rattle.rpm_outside.specs.inner.PutLaws.{same_units}
 use Rattle.rpm_outside.specs.History.{file_of-with}
 use Rattle.rpm_outside.specs.Changed.{with_file-with_file}
-use Rattle.rpm_outside.specs.PutMore.{put_some, put_some_is, put_some_append}
+use Rattle.rpm_outside.specs.inner.PutMore.{put_some, put_some_is, put_some_append}
 use Rattle.rpm_group.specs.declared.page.Page.{Page}
 use Rattle.rpm_group.specs.Held.{Table, unit_in, in_page, held_at}
 use Rattle.rpm_group.specs.inner.HeldUnits.{units_held, AreHeld}

@@ -7,10 +7,10 @@ use Rattle.rpm_outside.specs.declared.disk.File.{File}
 use Rattle.rpm_outside.specs.declared.disk.File.TheVariants.{Idx}
 use Rattle.rpm_outside.specs.Files.{Units, Files, unit_at, blank, put}
 use Rattle.rpm_outside.specs.Crash.{Torn, TornFile, Follows, Elapses}
-use Rattle.rpm_outside.specs.Puts.{length-put, put_before, put_inside, put_after}
-use Rattle.rpm_outside.specs.PutLaws.{same_units}
+use Rattle.rpm_outside.specs.inner.Puts.{length-put, put_before, put_inside, put_after}
+use Rattle.rpm_outside.specs.inner.PutLaws.{same_units}
 use Rattle.rpm_outside.specs.History.{torn_none}
-use Rattle.rpm_outside.specs.Moments.{started, goes_on}
+use Rattle.rpm_outside.specs.inner.Moments.{started, goes_on}
 use Rattle.rpm_hindex.specs.Disks.{OthersFrom, changes_then, Changes, SameSeal, VoidOrSame, SealedOrSame, IsSame}
 
 module _ {D : Type 0} (tells : Bool) (files : D → Files) (left_since : D → ℕ → Files → Type 0) (moment : D → ℕ) (bytes_read : D → File → ℕ) (follows : D → D → Type 0) where

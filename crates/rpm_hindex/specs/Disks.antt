@@ -5,7 +5,7 @@ use Rattle.rpm_outside.specs.declared.disk.File.{File}
 use Rattle.rpm_outside.specs.declared.disk.File.TheVariants.{Pkg, Idx, Log}
 use Rattle.rpm_outside.specs.Files.{Units, Files, unit_at, blank, put}
 use Rattle.rpm_outside.specs.Crash.{Untouched, LeavesOnly}
-use Rattle.rpm_outside.specs.Moments.{started, leaves_then, leaves_weaker}
+use Rattle.rpm_outside.specs.inner.Moments.{started, leaves_then, leaves_weaker}
 
 -- the files, their images and the moment stay, of Hindex.db at most so many bytes are read and of the others none
 pub record LooksAt {D : Type 0} (tells : Bool) (files : D → Files) (left_since : D → ℕ → Files → Type 0) (moment : D → ℕ) (bytes_read : D → File → ℕ) (follows : D → D → Type 0) (most : ℕ) (old new : D) : Type 0 where

@@ -6,7 +6,7 @@ use Rattle.rpm_outside.specs.declared.steps.Step.{Step}
 use Rattle.rpm_outside.specs.declared.steps.Step.TheVariants.{Wrote}
 use Rattle.rpm_outside.specs.Files.{Units, Files, file_of, with_file, put, unit_at, blank}
 use Rattle.rpm_outside.specs.Crash.{Torn, TornFile, Follows}
-use Rattle.rpm_outside.specs.Puts.{length-put, put_cases, put_inside}
+use Rattle.rpm_outside.specs.inner.Puts.{length-put, put_cases, put_inside}
 use Rattle.rpm_outside.specs.Past.{after_step, after_steps, ImagesSince, Writes, part_of}
 use Rattle.rpm_outside.specs.History.{after_steps-push, torn_file_whole, follows_write}
 

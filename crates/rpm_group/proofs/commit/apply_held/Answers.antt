@@ -1,8 +1,8 @@
 use Rattle.std.proofs.Common.{ℕ, List, arith}
 use Rattle.rpm_outside.specs.Files.{Files}
 use Rattle.rpm_outside.specs.Crash.{LeavesOnly}
-use Rattle.rpm_outside.specs.Moments.{leaves_then, leaves_weaker}
-use Rattle.rpm_outside.specs.Leaves.{then_back}
+use Rattle.rpm_outside.specs.inner.Moments.{leaves_then, leaves_weaker}
+use Rattle.rpm_outside.specs.inner.Leaves.{then_back}
 use Rattle.rpm_outside.specs.Logs.{Entry}
 use Rattle.rpm_outside.specs.EntryLaws.{within_then}
 use Rattle.rpm_group.specs.inner.Leavings.{WasWithin}

@@ -1,7 +1,7 @@
 use Rattle.std.proofs.Common.{arith}
 use Rattle.rpm_outside.specs.Files.{Files, units_of}
-use Rattle.rpm_outside.specs.Cuts.{cut_up_one}
-use Rattle.rpm_outside.specs.Leaves.{sync_leaves}
+use Rattle.rpm_outside.specs.inner.Cuts.{cut_up_one}
+use Rattle.rpm_outside.specs.inner.Leaves.{sync_leaves}
 use Rattle.rpm_outside.specs.Logs.{unlogged, with_entries}
 use Rattle.rpm_group.specs.Groups.{BeforeOrAfter}
 use Rattle.rpm_group.proofs.Committing.{opens, gate_leaves, gate_opened}

@@ -2,7 +2,7 @@ use Rattle.std.proofs.Common.{inl, inr, ◌+◌, sym, ap, ◌∙◌, arith}
 use Rattle.std.proofs.lemmas.Bool.{cases_lt}
 use Rattle.rpm_outside.specs.Files.{Files}
 use Rattle.rpm_outside.specs.Logs.{LogState, unlogged, with_entries}
-use Rattle.rpm_outside.specs.LogLaws.{log_not_log}
+use Rattle.rpm_outside.specs.inner.LogLaws.{log_not_log}
 use Rattle.rpm_group.specs.Readings.{entries_of}
 use Rattle.rpm_group.specs.Groups.{runs_of}
 use Rattle.rpm_group.proofs.Countings.{no_runs}

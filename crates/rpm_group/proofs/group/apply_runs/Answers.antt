@@ -1,6 +1,6 @@
 use Rattle.std.proofs.Common.{◌≡◌, ℕ, ◌+◌, ◌-◌, ◌<◌, ◌++◌, ◌∷◌, [], refl, sym, ap, subst, ◌∙◌, arith}
 use Rattle.rpm_outside.specs.Files.{Files}
-use Rattle.rpm_outside.specs.Moments.{started}
+use Rattle.rpm_outside.specs.inner.Moments.{started}
 use Rattle.rpm_outside.specs.Logs.{with_entry}
 use Rattle.rpm_outside.specs.EntryLaws.{within_none}
 use Rattle.rpm_group.specs.LogReads.{nothing_none, nothing_then}

@@ -2,7 +2,7 @@ use Rattle.std.proofs.Common.{◌≡◌, sym, ap, subst, ◌∙◌}
 use Rattle.rpm_outside.specs.declared.disk.File.TheVariants.{Log}
 use Rattle.rpm_outside.specs.Files.{Units, Files, with_file}
 use Rattle.rpm_outside.specs.Logs.{LogState, Closed, log_state, with_entries, reopened}
-use Rattle.rpm_outside.specs.LogLaws.{log_not_log, entries_log, unlogged_entries, reopened_open}
+use Rattle.rpm_outside.specs.inner.LogLaws.{log_not_log, entries_log, unlogged_entries, reopened_open}
 use Rattle.rpm_group.specs.declared.log.Reading.{Reading}
 use Rattle.rpm_group.specs.Readings.{entries_of, IsOpen}
 use Rattle.rpm_group.specs.inner.LogReadings.{LogSays, heads_behind}

@@ -1,6 +1,6 @@
 use Rattle.std.proofs.Common.{◌≡◌, ◌-◌, ◌≤◌, take, drop, IsTrue}
 use Rattle.rpm_outside.specs.Files.{Files, file_of, with_file}
-use Rattle.rpm_outside.specs.PutMore.{put_some}
+use Rattle.rpm_outside.specs.inner.PutMore.{put_some}
 use Rattle.rpm_group.specs.LogReads.{LooksAtLog}
 use Rattle.rpm_group.specs.Layers.{laid_files}
 use Rattle.rpm_group.proofs.load.hold_units.Given as goal

@@ -1,6 +1,6 @@
 use Rattle.std.proofs.Common.{◌∙◌, arith}
-use Rattle.rpm_outside.specs.Leaves.{then_back}
-use Rattle.rpm_outside.specs.LogLaws.{heads_not_log}
+use Rattle.rpm_outside.specs.inner.Leaves.{then_back}
+use Rattle.rpm_outside.specs.inner.LogLaws.{heads_not_log}
 use Rattle.rpm_group.specs.Readings.{entries_of}
 use Rattle.rpm_group.specs.inner.LogReadings.{heads_behind}
 use Rattle.rpm_group.specs.inner.Leavings.{WasWithin}

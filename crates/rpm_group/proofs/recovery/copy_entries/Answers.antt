@@ -1,9 +1,9 @@
 use Rattle.std.proofs.Common.{◌≡◌, ℕ, ◌+◌, ◌-◌, [], Option, None, IfSome, refl, sym, ap, subst, ◌∙◌, arith}
 use Rattle.rpm_outside.specs.Files.{Files}
-use Rattle.rpm_outside.specs.Moments.{started}
+use Rattle.rpm_outside.specs.inner.Moments.{started}
 use Rattle.rpm_outside.specs.Logs.{heads}
 use Rattle.rpm_outside.specs.EntryLaws.{within_none}
-use Rattle.rpm_outside.specs.Leaves.{then_look}
+use Rattle.rpm_outside.specs.inner.Leaves.{then_look}
 use Rattle.rpm_group.specs.declared.log.Head.{Head}
 use Rattle.rpm_group.specs.LogReads.{reads_none, reads_then}
 use Rattle.rpm_group.specs.Readings.{entries_of}

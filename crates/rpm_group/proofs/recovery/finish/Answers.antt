@@ -1,7 +1,7 @@
 use Rattle.std.proofs.Common.{◌≡◌, ℕ, length, sym, ap, subst, ◌∙◌, arith}
 use Rattle.rpm_outside.specs.Files.{Files, Units}
 use Rattle.rpm_outside.specs.Crash.{LeavesOnly}
-use Rattle.rpm_outside.specs.Moments.{leaves_then, leaves_weaker}
+use Rattle.rpm_outside.specs.inner.Moments.{leaves_then, leaves_weaker}
 use Rattle.rpm_outside.specs.Logs.{LogState, log_state, unlogged, with_entries, reopened}
 use Rattle.rpm_group.specs.Readings.{entries_of, IsOpen}
 use Rattle.rpm_group.specs.inner.LogReadings.{heads_behind}

@@ -1,8 +1,8 @@
 use Rattle.std.specs.Prelude.{Bool, true, false, Result, Ok, Err, IfOk, IfErr, IsTrue}
 use Rattle.std.proofs.Common.{◌≡◌, refl, ap, ◌∙◌}
 use Rattle.rpm_outside.specs.Files.{Files}
-use Rattle.rpm_outside.specs.Moments.{leaves_then, leaves_weaker}
-use Rattle.rpm_outside.specs.Leaves.{then_look}
+use Rattle.rpm_outside.specs.inner.Moments.{leaves_then, leaves_weaker}
+use Rattle.rpm_outside.specs.inner.Leaves.{then_look}
 use Rattle.rpm_outside.specs.Logs.{reopened}
 use Rattle.rpm_group.specs.Settled.{ReopensAsOneOf, RecoverKeeps}
 use Rattle.rpm_group.specs.inner.Leavings.{ReopensAs}

@@ -4,10 +4,10 @@ use Rattle.rpm_outside.specs.declared.disk.File.{File}
 use Rattle.rpm_outside.specs.declared.disk.File.TheVariants.{Pkg, Log}
 use Rattle.rpm_outside.specs.Files.{Units, Files, with_file, put}
 use Rattle.rpm_outside.specs.Crash.{LeavesOnly, Untouched}
-use Rattle.rpm_outside.specs.Moments.{leaves_then, leaves_weaker}
-use Rattle.rpm_outside.specs.Leaves.{then_look}
+use Rattle.rpm_outside.specs.inner.Moments.{leaves_then, leaves_weaker}
+use Rattle.rpm_outside.specs.inner.Leaves.{then_look}
 use Rattle.rpm_outside.specs.Logs.{unlogged, reopened}
-use Rattle.rpm_outside.specs.LogLaws.{reopened_log}
+use Rattle.rpm_outside.specs.inner.LogLaws.{reopened_log}
 use Rattle.rpm_group.specs.Below.{KeepsBelow}
 use Rattle.rpm_group.specs.Settled.{ReopensAsOneOf}
 use Rattle.rpm_group.specs.Groups.{BeforeOrAfter}

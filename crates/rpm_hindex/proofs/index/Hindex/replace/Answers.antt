@@ -1,6 +1,6 @@
 use Rattle.std.proofs.Common.{◌≡◌, ◌∷◌, [], ap, ◌∙◌, arith, inl}
 use Rattle.rpm_outside.specs.Files.{Units, unit_at, put, blank}
-use Rattle.rpm_outside.specs.Puts.{put_inside}
+use Rattle.rpm_outside.specs.inner.Puts.{put_inside}
 use Rattle.rpm_hindex.specs.Disks.{changes_then, VoidOrSame, SameSeal}
 use Rattle.rpm_hindex.proofs.Seals.{image_held}
 use Rattle.rpm_hindex.proofs.index.Hindex.replace.Goals as goal

@@ -1,7 +1,7 @@
 use Rattle.std.proofs.Common.{◌≡◌, ℕ, ◌≤◌, ◌∷◌, [], List, ap, sym, ◌∙◌, arith, subst}
 use Rattle.std.specs.Prelude.{IsTrue}
 use Rattle.rpm_outside.specs.Files.{Units, units_of, unit_at, put}
-use Rattle.rpm_outside.specs.Cuts.{cut_up_one}
+use Rattle.rpm_outside.specs.inner.Cuts.{cut_up_one}
 use Rattle.rpm_outside.specs.Crash.{Torn}
 use Rattle.rpm_hindex.specs.Disks.{changes_weaker, SealedOrSame}
 use Rattle.rpm_hindex.specs.State.{State, Keeps, seal_unit, magic, is_current}

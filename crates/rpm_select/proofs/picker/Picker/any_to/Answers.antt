@@ -1,7 +1,8 @@
 use Rattle.std.proofs.Common.{◌≡◌, ℕ, ◌+◌, ◌-◌, ◌≤◌, List, true, false, Some, None, refl, sym, ap, subst, ◌∙◌, arith}
 use Rattle.std.specs.FinMap as finite
 use Rattle.rpm_outside.specs.Files.{Files}
-use Rattle.rpm_outside.specs.Looks.{looks_none, looks_then, looks_more}
+use Rattle.rpm_outside.specs.declared.disk.File.TheVariants.{Pkg}
+use Rattle.rpm_outside.specs.inner.Looking.{looks_none, looks_then, looks_more}
 use Rattle.rpm_db.specs.State.{Package, packages}
 use Rattle.rpm_db.specs.Database.{cost, cost_to}
 use Rattle.rpm_db.specs.Laws.{cost_more, cost_up}
@@ -12,8 +13,8 @@ pub loop-next-init : goal.loop-next-init
 loop-next-init g c = record {
   keeps = c.requires.keeps;
   within = cost_up c.args.db.now 0 c.args.n (omega arith);
-  looks = looks_more g.D.Disk.tells g.D.Disk.files g.D.Disk.left_since g.D.Disk.moment g.D.Disk.bytes_read g.D.Disk.follows 0 (cost_to 0 c.args.db.now) c.args.disk.now c.args.disk.now (omega arith)
-      (looks_none g.D.Disk.tells g.D.Disk.files g.D.Disk.left_since g.D.Disk.moment g.D.Disk.bytes_read g.D.Disk.follows g.met.D.Disk.follows_refl c.args.disk.now);
+  looks = looks_more g.D.Disk.tells g.D.Disk.files g.D.Disk.left_since g.D.Disk.moment g.D.Disk.bytes_read g.D.Disk.follows Pkg 0 (cost_to 0 c.args.db.now) c.args.disk.now c.args.disk.now (omega arith)
+      (looks_none g.D.Disk.tells g.D.Disk.files g.D.Disk.left_since g.D.Disk.moment g.D.Disk.bytes_read g.D.Disk.follows Pkg g.met.D.Disk.follows_refl c.args.disk.now);
   faults = omega arith;
   same = λ told. refl;
 }
@@ -48,7 +49,7 @@ returns-in-Ok-Some-clause-looks g c =
     let m = c.in-Some.next in
     let more = cost_more db k m c.in-Some.ensures.next.0 in
     let up = cost_up db m c.args.n c.if-next-n.false in
-    looks_then g.D.Disk.tells g.D.Disk.files g.D.Disk.left_since g.D.Disk.moment g.D.Disk.bytes_read g.D.Disk.follows g.met.D.Disk.follows_trans (cost_to k db) (cost m db) (cost_to c.args.n db) c.args.disk.now c.loop-next.disk c.pick.new.disk (omega (arith, more, up)) c.loop-next.invariant.looks c.in-Ok-Some.ensures.looks
+    looks_then g.D.Disk.tells g.D.Disk.files g.D.Disk.left_since g.D.Disk.moment g.D.Disk.bytes_read g.D.Disk.follows Pkg g.met.D.Disk.follows_trans (cost_to k db) (cost m db) (cost_to c.args.n db) c.args.disk.now c.loop-next.disk c.pick.new.disk (omega (arith, more, up)) c.loop-next.invariant.looks c.in-Ok-Some.ensures.looks
 
 pub returns-in-Err-clause-looks : goal.returns-in-Err-clause-looks
 returns-in-Err-clause-looks g c =
@@ -57,7 +58,7 @@ returns-in-Err-clause-looks g c =
     let m = c.in-Some.next in
     let more = cost_more db k m c.in-Some.ensures.next.0 in
     let up = cost_up db m c.args.n c.if-next-n.false in
-    looks_then g.D.Disk.tells g.D.Disk.files g.D.Disk.left_since g.D.Disk.moment g.D.Disk.bytes_read g.D.Disk.follows g.met.D.Disk.follows_trans (cost_to k db) (cost m db) (cost_to c.args.n db) c.args.disk.now c.loop-next.disk c.pick.new.disk (omega (arith, more, up)) c.loop-next.invariant.looks c.in-Err.ensures.looks
+    looks_then g.D.Disk.tells g.D.Disk.files g.D.Disk.left_since g.D.Disk.moment g.D.Disk.bytes_read g.D.Disk.follows Pkg g.met.D.Disk.follows_trans (cost_to k db) (cost m db) (cost_to c.args.n db) c.args.disk.now c.loop-next.disk c.pick.new.disk (omega (arith, more, up)) c.loop-next.invariant.looks c.in-Err.ensures.looks
 
 pub loop-next-preserved-in-Ok-None-3 : goal.loop-next-preserved-in-Ok-None-3
 loop-next-preserved-in-Ok-None-3 g c =
@@ -70,7 +71,7 @@ loop-next-preserved-in-Ok-None-3 g c =
     record {
       keeps = done.kept;
       within = cost_up db m c.args.n c.if-next-n.false;
-      looks = looks_then g.D.Disk.tells g.D.Disk.files g.D.Disk.left_since g.D.Disk.moment g.D.Disk.bytes_read g.D.Disk.follows g.met.D.Disk.follows_trans (cost_to k db) (cost m db) (cost_to m db) c.args.disk.now c.loop-next.disk c.pick.new.disk more inv.looks done.looks;
+      looks = looks_then g.D.Disk.tells g.D.Disk.files g.D.Disk.left_since g.D.Disk.moment g.D.Disk.bytes_read g.D.Disk.follows Pkg g.met.D.Disk.follows_trans (cost_to k db) (cost m db) (cost_to m db) c.args.disk.now c.loop-next.disk c.pick.new.disk more inv.looks done.looks;
       faults = omega (arith, inv.faults, done.cause.later);
       same = λ told.
           let map = packages (g.D.Disk.files c.args.disk.now).pkg db.store in
