@@ -153,7 +153,7 @@ impl<D: Disk> Overlay<D> {
     /// Makes what is held of the two files one change of the disk below, and hands that back. What is held of the log is dropped.
     ///
     /// Each run of held units is one entry of the log, those of `Packages.db` first. It takes no memory, writes each unit twice, up to
-    /// 4 KiB at a time, and syncs five times: the log behind its entries and behind its gate, both files, and the log behind
+    /// 64 KiB at a time, and syncs five times: the log behind its entries and behind its gate, both files, and the log behind
     /// zeros in the place of the gate. Where nothing is held it does nothing.
     ///
     /// # Errors

@@ -219,16 +219,16 @@ fn a_change_is_written_run_by_run(rt: HostRuntime) -> Result<(), Fail> {
 }
 
 #[test]
-fn a_thousand_runs_are_one_change(rt: HostRuntime) -> Result<(), Fail> {
+fn ten_thousand_runs_are_one_change(rt: HostRuntime) -> Result<(), Fail> {
     let alloc = rt.alloc();
     let mut units = Vec::new(alloc);
-    for i in 0..1_000u16 {
+    for i in 0..10_000u16 {
         units.push((File::Pkg, 2 * i, 7))?;
     }
     let (disk, done) = write_units(alloc, MemDisk::new(alloc, &[], &[], &[])?, &units);
     assert!(rt; done);
-    assert_eq!(rt; disk.now(), 3 + 3 * 1_000 + 2 + 5);
-    assert_eq!(rt; disk.copy_file(alloc, File::Pkg)?.len(), 16 * 1_999);
+    assert_eq!(rt; disk.now(), 3 + 3 * 10_000 + 2 + 5);
+    assert_eq!(rt; disk.copy_file(alloc, File::Pkg)?.len(), 16 * 19_999);
     Ok(())
 }
 
