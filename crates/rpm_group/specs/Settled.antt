@@ -17,14 +17,6 @@ module _ {D : Type 0} (files : D → Files) (left_since : D → ℕ → Files �
   abbrev pub IsSettled : D → Type 0
   IsSettled disk = (image : Files) → left_since disk (moment disk) image → image ≡ files disk
 
--- it is one of these images in which some of the entries may have been written
-abbrev pub WasWithin : List Entry → (Files → Type 0) → Files → Type 0
-WasWithin entries images image = (from : Files) × images from × Within entries from image
-
--- it stands for these files
-abbrev pub ReopensAs : Files → Files → Type 0
-ReopensAs files image = reopened image ≡ files
-
 -- it stands for what one of these images stands for
 abbrev pub ReopensAsOneOf : (Files → Type 0) → Files → Type 0
 ReopensAsOneOf images image = (from : Files) × images from × (reopened image ≡ reopened from)

@@ -5,7 +5,8 @@ ghost use Rattle.rpm_outside.specs.Files.{Files, file_of, with_file, put, unit_a
 ghost use Rattle.rpm_outside.specs.Causes.{HasCause, HasCauseAt};
 ghost use Rattle.rpm_outside.specs.Logs.{log_state, with_entries, reopened};
 ghost use Rattle.rpm_group.specs.LogReads.{LooksAtLog};
-ghost use Rattle.rpm_group.specs.Readings.{entries_of, IsOpen, heads_behind};
+ghost use Rattle.rpm_group.specs.Readings.{entries_of, IsOpen};
+ghost use Rattle.rpm_group.specs.inner.LogReadings.{heads_behind};
 ghost use Rattle.rpm_group.specs.Layers.{laid_files};
 ghost use Rattle.rpm_group.specs.Loads.{LoadSays, IsOutside};
 

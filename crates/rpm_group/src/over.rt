@@ -7,7 +7,7 @@ ghost use Rattle.rpm_outside.specs.Crash.{Untouched, bytes_for};
 ghost use Rattle.rpm_group.specs.Held.{unit_in};
 ghost use Rattle.rpm_group.specs.Counts.{is_held};
 ghost use Rattle.rpm_group.specs.Layers.{laid_files};
-ghost use Rattle.rpm_group.specs.Below.{LooksBelow};
+ghost use Rattle.rpm_group.specs.inner.Looking.{LooksBelow};
 
 use crate::layers::Layers;
 use crate::pages::Pages;

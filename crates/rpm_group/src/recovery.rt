@@ -8,8 +8,10 @@ ghost use Rattle.rpm_outside.specs.Changed.{LeavesChanged};
 ghost use Rattle.rpm_outside.specs.EntryLaws.{Within};
 ghost use Rattle.rpm_outside.specs.Logs.{Closed, log_state, unlogged, with_entries, reopened};
 ghost use Rattle.rpm_group.specs.LogReads.{LooksAtLog, ReadsLog};
-ghost use Rattle.rpm_group.specs.Readings.{entries_of, IsOpen, IsHead, heads_behind};
-ghost use Rattle.rpm_group.specs.Settled.{IsSettled, SettledIn, WasWithin, ReopensAs, ReopensAsOneOf, RecoverSays, RecoverKeeps};
+ghost use Rattle.rpm_group.specs.Readings.{entries_of, IsOpen};
+ghost use Rattle.rpm_group.specs.inner.LogReadings.{IsHead, heads_behind};
+ghost use Rattle.rpm_group.specs.Settled.{IsSettled, SettledIn, ReopensAsOneOf, RecoverSays, RecoverKeeps};
+ghost use Rattle.rpm_group.specs.inner.Leavings.{WasWithin, ReopensAs};
 
 use crate::log::{Gate, Reading, read_head, read_log};
 use rpm_outside::{Disk, Failed, File};

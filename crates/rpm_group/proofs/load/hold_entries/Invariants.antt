@@ -1,7 +1,8 @@
 use Rattle.std.proofs.Common.{◌+◌, ◌-◌, ◌≤◌, IsTrue}
 use Rattle.rpm_outside.specs.Files.{Files}
 use Rattle.rpm_group.specs.LogReads.{LooksAtLog}
-use Rattle.rpm_group.specs.Readings.{entries_of, heads_behind}
+use Rattle.rpm_group.specs.Readings.{entries_of}
+use Rattle.rpm_group.specs.inner.LogReadings.{heads_behind}
 use Rattle.rpm_group.specs.Layers.{laid_files}
 use Rattle.rpm_group.proofs.Applied.{Done}
 use Rattle.rpm_group.proofs.load.hold_entries.Given as goal

@@ -2,7 +2,7 @@ use Rattle.std.proofs.Common.{◌≡◌, ◌+◌, ◌-◌, ◌≤◌, IsTrue, Li
 use Rattle.rpm_outside.specs.Logs.{Entry, heads}
 use Rattle.rpm_outside.specs.LogRules.{after}
 use Rattle.rpm_group.specs.LogReads.{LooksAtLog}
-use Rattle.rpm_group.specs.Readings.{heads_behind}
+use Rattle.rpm_group.specs.inner.LogReadings.{heads_behind}
 use Rattle.rpm_group.proofs.log.check_heads.Given as goal
 
 abbrev pub invariant-loop-k : goal.invariant-loop-k

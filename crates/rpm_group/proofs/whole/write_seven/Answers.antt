@@ -13,7 +13,7 @@ use Rattle.rpm_group.specs.Settled.{ReopensAsOneOf}
 use Rattle.rpm_group.specs.Groups.{BeforeOrAfter}
 use Rattle.rpm_group.specs.Overlay.{overlay_below, overlay_held}
 use Rattle.rpm_group.specs.Layers.{laid_files}
-use Rattle.rpm_group.specs.Wholes.{with_seven, LeavesBoth}
+use Rattle.rpm_group.specs.inner.Wholes.{with_seven, LeavesBoth}
 use Rattle.rpm_group.proofs.whole.write_seven.Goals as goal
 
 -- until the commit the disk is only looked at once it is recovered

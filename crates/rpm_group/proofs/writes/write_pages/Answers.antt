@@ -5,10 +5,10 @@ use Rattle.rpm_outside.specs.inner.Cuts.{length-cut_up}
 use Rattle.rpm_outside.specs.Changed.{leaves_none}
 use Rattle.rpm_outside.specs.inner.PutMore.{put_some}
 use Rattle.rpm_group.specs.LogReads.{nothing_none, nothing_then}
-use Rattle.rpm_group.specs.Counts.{units_held}
+use Rattle.rpm_group.specs.inner.HeldUnits.{units_held}
 use Rattle.rpm_group.proofs.Pieces.{piece_leaves}
 use Rattle.rpm_group.proofs.Runs.{run_more, run_none, run_all}
-use Rattle.rpm_group.proofs.writes.write_run.Goals as goal
+use Rattle.rpm_group.proofs.writes.write_pages.Goals as goal
 
 pub loop-done-init : goal.loop-done-init
 loop-done-init g c = record {

@@ -5,7 +5,8 @@ use Rattle.rpm_outside.specs.Files.{Files, file_of, unit_at}
 use Rattle.rpm_outside.specs.Logs.{Entry, with_entries}
 use Rattle.rpm_outside.specs.EntryLaws.{Covers}
 use Rattle.rpm_group.specs.Held.{Table, unit_over}
-use Rattle.rpm_group.specs.Counts.{is_held, begins_run, count_below, units_held}
+use Rattle.rpm_group.specs.Counts.{is_held, begins_run, count_below}
+use Rattle.rpm_group.specs.inner.HeldUnits.{units_held}
 
 -- these entries write what is held of a file below a unit, and nothing else
 pub record Logged (entries : List Entry) (file : File) (table : Table) (below : ℕ) : Type 0 where

@@ -2,9 +2,9 @@ use Rattle.std.proofs.Common.{◌≡◌, ◌+◌, ◌-◌, ◌≤◌, IsTrue}
 use Rattle.rpm_outside.specs.Files.{file_of, with_file}
 use Rattle.rpm_outside.specs.Changed.{LeavesChanged}
 use Rattle.rpm_outside.specs.inner.PutMore.{put_some}
-use Rattle.rpm_group.specs.Counts.{units_held}
+use Rattle.rpm_group.specs.inner.HeldUnits.{units_held}
 use Rattle.rpm_group.specs.LogReads.{ReadsNothing}
-use Rattle.rpm_group.proofs.writes.write_run.Given as goal
+use Rattle.rpm_group.proofs.writes.write_pages.Given as goal
 
 abbrev pub invariant-loop-done : goal.invariant-loop-done
 invariant-loop-done g l =
