@@ -3,7 +3,7 @@ use Rattle.std.specs.Prelude.{[], ◌∷◌}
 use Rattle.std.specs.List.{concat}
 use Rattle.rpm_tags.specs.declared.values.Source.{Source}
 use Rattle.rpm_tags.specs.declared.values.Source.TheVariants as source
-use Rattle.rpm_tags.specs.Source.{stored_elements}
+use Rattle.rpm_tags.specs.inner.Source.{stored_elements}
 use Rattle.rpm_tags.specs.Value.{Elements, NumberList, TextList}
 
 abbrev pub shown : Source → Elements

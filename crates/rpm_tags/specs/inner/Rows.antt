@@ -1,7 +1,7 @@
 -- What the elements of an entry keep of it.
 use Rattle.std.specs.Prelude.{◌≡◌, ℕ, ◌+◌, ◌^◌, ◌≤◌, ◌<◌, true, List, length, drop, All}
 use Rattle.rpm_tags.specs.Value.{are_matched}
-use Rattle.rpm_header.specs.Header.{Item, has_numbers, has_texts, IsWhole}
+use Rattle.rpm_header.specs.Header.{max_data, Item, has_numbers, has_texts, IsWhole}
 
 pub record HasNumbers (e : Item) : Type 0 where
   pub form : has_numbers e.form ≡ true
@@ -19,4 +19,4 @@ pub record AreLeft (dirs : List (List ℕ)) (indexes : List ℕ) (bases : List (
   pub matched : are_matched dirs (drop place indexes) bases ≡ true
   pub few : length indexes < 2 ^ 32
   pub whole : place + length bases ≡ length indexes
-  pub short : All (λ text. length text ≤ 67108864) bases
+  pub short : All (λ text. length text ≤ max_data) bases

@@ -1,6 +1,7 @@
 -- A text in parts.
 use Rattle.std.specs.Prelude.{◌≡◌, ℕ, ◌≤◌, ◌*◌, List, drop, take, map, length, All}
 use Rattle.std.specs.List.{concat}
+use Rattle.rpm_header.specs.Header.{max_data}
 use Rattle.rpm_tags.specs.declared.digits.Digits.{Digits}
 use Rattle.rpm_tags.specs.declared.joined.Part.{Part}
 use Rattle.rpm_tags.specs.declared.joined.Part.TheVariants as part
@@ -26,4 +27,4 @@ pub record IsJoined (count len : ℕ) (parts : List Part) : Type 0 where
   pub fit : All IsPart parts
   pub room : count ≤ 9
   pub total : len ≡ length (concat (parts_of count parts))
-  pub short : len ≤ count * 67108864
+  pub short : len ≤ count * max_data
