@@ -5,14 +5,6 @@ use Rattle.rpm_outside.specs.declared.disk.File.{File}
 use Rattle.rpm_outside.specs.Files.{Files}
 use Rattle.rpm_outside.specs.Crash.{Untouched, LeavesOnly, bytes_for}
 
--- the files, their images and the moment stay, and of one file at most so many bytes are read
-pub record LooksBelow {D : Type 0} (tells : Bool) (files : D → Files) (left_since : D → ℕ → Files → Type 0) (moment : D → ℕ) (bytes_read : D → File
-    → ℕ) (follows : D → D → Type 0) (file : File) (most : ℕ) (old new : D) : Type 0 where
-  pub untouched : IsTrue tells → Untouched (files old) (files new) (left_since old) (left_since new)
-  pub moment_stays : moment new ≡ moment old
-  pub reads : (f : File) → bytes_read new f ≤ bytes_read old f + bytes_for file f most
-  pub goes_on : follows old new
-
 -- the disk below has the same contents, images and moment, of each file at most as many bytes were read there as here, and it follows itself
 pub record KeepsBelow {D : Type 0} (tells : Bool) (files : D → Files) (moment : D → ℕ) (left_since : D → ℕ → Files → Type 0) (bytes_read : D → File
     → ℕ) (follows : D → D → Type 0) (old new : D) (read_old read_new : File → ℕ) : Type 0 where

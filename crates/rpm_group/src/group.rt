@@ -11,7 +11,7 @@ ghost use Rattle.rpm_group.specs.Held.{laid};
 ghost use Rattle.rpm_group.specs.Counts.{begins_run, count_below, log_units};
 ghost use Rattle.rpm_group.specs.LogReads.{ReadsNothing};
 ghost use Rattle.rpm_group.specs.Logged.{Logged, CoversHeld};
-ghost use Rattle.rpm_group.specs.Settled.{IsSettled, WasWithin};
+ghost use Rattle.rpm_group.specs.Settled.{WasWithin};
 
 use crate::pages::Pages;
 use crate::scan::next_unit;

@@ -35,7 +35,8 @@ only_weaker Log Pkg R S a b weaker r = r
 only_weaker Log Idx R S a b weaker r = r
 
 -- M holds of the one file between
-only_then : (file f : File) (R S T : Units → Units → Type 0) (M : Units → Type 0) → ((a b c : Units) → R a b → M b → S b c → T a c) → (a b c : Files) → M (file_of file b)
+only_then : (file f : File) (R S T : Units → Units → Type 0) (M : Units → Type 0) → ((a b c : Units) → R a b → M b → S b c → T a c) → (a b c : Files)
+    → M (file_of file b)
     → OnlyIn file R f (file_of f a) (file_of f b) → OnlyIn file S f (file_of f b) (file_of f c) → OnlyIn file T f (file_of f a) (file_of f c)
 only_then Pkg Pkg R S T M join a b c m r s = join a.pkg b.pkg c.pkg r m s
 only_then Idx Idx R S T M join a b c m r s = join a.idx b.idx c.idx r m s
@@ -82,8 +83,10 @@ module _ (file : File) where
       → Changed file R images image → Changed file S images image
   changed_weaker R S images image weaker c = changed_map R S images image c (weaker (file_of file c.from) (file_of file image))
 
-  pub changed_between : (R S T : Units → Units → Type 0) (M : Units → Type 0) (first second : Files → Type 0) (image : Files) → ((a b c : Units) → R a b → M b → S b c → T a c)
-      → ((i : Files) → second i → M (file_of file i)) → ((i : Files) → second i → Changed file R first i) → Changed file S second image → Changed file T first image
+  pub changed_between : (R S T : Units → Units → Type 0) (M : Units → Type 0) (first second : Files → Type 0) (image : Files)
+      → ((a b c : Units) → R a b → M b → S b c → T a c)
+      → ((i : Files) → second i → M (file_of file i)) → ((i : Files) → second i → Changed file R first i) → Changed file S second image
+      → Changed file T first image
   changed_between R S T M first second image join between before c =
       let b = before c.from c.was in
       let m = between c.from c.was in
@@ -95,7 +98,8 @@ module _ (file : File) where
         log = only_then file Log R S T M join b.from c.from image m b.log c.log;
       }
 
-  pub changed_torn : (at : ℕ) (units : Units) (images : Files → Type 0) (image from : Files) → images from → TornFile file at units from image → Changed file (Torn at units) images image
+  pub changed_torn : (at : ℕ) (units : Units) (images : Files → Type 0) (image from : Files) → images from → TornFile file at units from image
+      → Changed file (Torn at units) images image
   changed_torn at units images image from was torn = record {
     from = from;
     was = was;
@@ -136,7 +140,8 @@ module _ {D : Type 0} (tells : Bool) (files : D → Files) (left_since : D → �
   }
 
   -- two runs, one after the other, where M holds of the file in each image between them, and as it reads there
-  pub changes_between : ((a b c : D) → follows a b → follows b c → follows a c) → (R S T : Units → Units → Type 0) (M : Units → Type 0) (m n most : ℕ) (a b c : D) → m + n ≤ most
+  pub changes_between : ((a b c : D) → follows a b → follows b c → follows a c) → (R S T : Units → Units → Type 0) (M : Units → Type 0) (m n most : ℕ)
+      (a b c : D) → m + n ≤ most
       → ((x y : Units) → R x y → T x y) → ((x y z : Units) → R x y → M y → S y z → T x z)
       → (IsTrue tells → M (file_of file (files b))) → (IsTrue tells → (image : Files) → left_since b (moment b) image → M (file_of file image))
       → Run R m a b → Run S n b c → Run T most a c
@@ -166,7 +171,8 @@ module _ {D : Type 0} (tells : Bool) (files : D → Files) (left_since : D → �
   -- one write, whole or cut short
   pub changes_write : (at : ℕ) (units : Units) (a b : D) → (IsTrue tells → TornFile file at units (files a) (files b))
       → (IsTrue tells → Follows (TornFile file at units) (images a) (images b))
-      → (IsTrue tells → Elapses (moment a) (moment b) (left_since a) (left_since b)) → ((f : File) → bytes_read b f ≡ bytes_read a f) → follows a b → Run (Torn at units) 0 a b
+      → (IsTrue tells → Elapses (moment a) (moment b) (left_since a) (left_since b)) → ((f : File) → bytes_read b f ≡ bytes_read a f) → follows a b
+          → Run (Torn at units) 0 a b
   changes_write at units a b torn left time reads goes =
       let now : IsTrue tells → (image : Files) → images b image → Changed file (Torn at units) (images a) image =
       λ told image here. (let l = left told image here in changed_torn file at units (images a) image l.0 l.1 l.2) in
@@ -177,7 +183,8 @@ module _ {D : Type 0} (tells : Bool) (files : D → Files) (left_since : D → �
         now = now;
         any_moment = λ told.
             goes_on moment left_since a a b (Changed file (Torn at units) (images a))
-            (started moment left_since a (Changed file (Torn at units) (images a)) (λ image here. changed_none file (Torn at units) (images a) image (torn_none at units) here))
+            (started moment left_since a (Changed file (Torn at units) (images a)) (λ image here. changed_none file (Torn at units) (images a) image
+                (torn_none at units) here))
             (time told) (now told);
         reads = read_same file 0 (bytes_read a) (bytes_read b) reads;
         goes_on = goes;
@@ -189,7 +196,8 @@ module _ {D : Type 0} (tells : Bool) (files : D → Files) (left_since : D → �
   -- one sync
   pub changes_sync : (R : Units → Units → Type 0) → ((x : Units) → R x x) → (a b : D) → (IsTrue tells → files b ≡ files a)
       → (IsTrue tells → (image : Files) → images b image → images a image)
-      → (IsTrue tells → Elapses (moment a) (moment b) (left_since a) (left_since b)) → ((f : File) → bytes_read b f ≡ bytes_read a f) → follows a b → Run R 0 a b
+      → (IsTrue tells → Elapses (moment a) (moment b) (left_since a) (left_since b)) → ((f : File) → bytes_read b f ≡ bytes_read a f) → follows a b
+          → Run R 0 a b
   changes_sync R same a b files_same left time reads goes =
       let now : IsTrue tells → (image : Files) → images b image → Changed file R (images a) image =
       λ told image here. changed_none file R (images a) image same (left told image here) in
@@ -207,7 +215,8 @@ module _ {D : Type 0} (tells : Bool) (files : D → Files) (left_since : D → �
       }
 
   -- a run that only reads
-  pub changes_looks : (R : Units → Units → Type 0) → ((x : Units) → R x x) → (most : ℕ) (a b : D) → Looks tells files left_since moment bytes_read follows file most a b → Run R most a b
+  pub changes_looks : (R : Units → Units → Type 0) → ((x : Units) → R x x) → (most : ℕ) (a b : D) → Looks tells files left_since moment bytes_read
+      follows file most a b → Run R most a b
   changes_looks R same most a b looks = record {
     pkg = λ told. only_files R same Pkg (files a) (files b) (looks.untouched told).same;
     idx = λ told. only_files R same Idx (files a) (files b) (looks.untouched told).same;
@@ -225,18 +234,22 @@ module _ {D : Type 0} (tells : Bool) (files : D → Files) (left_since : D → �
 
   -- what stops leave that fall into a run
   pub stops_from : IsTrue tells → (R : Units → Units → Type 0) (P : Units → Type 0) (most : ℕ) (a b : D) → Run R most a b
-      → ((from image : Files) → images a from → R (file_of file from) (file_of file image) → P (file_of file image)) → LeavesOnly moment left_since a b (Stops file P (images a))
+      → ((from image : Files) → images a from → R (file_of file from) (file_of file image) → P (file_of file image)) → LeavesOnly moment left_since a
+          b (Stops file P (images a))
   stops_from told R P most a b run each = leaves_weaker moment left_since a b (Changed file R (images a)) (Stops file P (images a))
       (λ image c. changed_map file R (λ x y. P y) (images a) image c (each c.from image c.was)) (run.any_moment told)
 
   -- and in two runs, one after the other
   pub stops_then : IsTrue tells → (R : Units → Units → Type 0) (P : Units → Type 0) (most : ℕ) (a b c : D) → Run R most a b
-      → LeavesOnly moment left_since a b (Stops file P (images a)) → LeavesOnly moment left_since b c (Stops file P (images b)) → LeavesOnly moment left_since a c (Stops file P (images a))
+      → LeavesOnly moment left_since a b (Stops file P (images a)) → LeavesOnly moment left_since b c (Stops file P (images b)) → LeavesOnly moment
+          left_since a c (Stops file P (images a))
   stops_then told R P most a b c run first second = leaves_then moment left_since a b c (Stops file P (images a)) first
       (leaves_weaker moment left_since b c (Stops file P (images b)) (Stops file P (images a))
-      (λ image s. changed_between file R (λ x y. P y) (λ x y. P y) (λ u. Unit {0}) (images a) (images b) image (λ x y z r m p. p) (λ i left. tt) (run.now told) s) second)
+      (λ image s. changed_between file R (λ x y. P y) (λ x y. P y) (λ u. Unit {0}) (images a) (images b) image (λ x y z r m p. p) (λ i left. tt)
+          (run.now told) s) second)
 
-pub stops_weaker : {D : Type 0} (moment : D → ℕ) (left_since : D → ℕ → Files → Type 0) (file : File) (P Q : Units → Type 0) (a b : D) → ((image : Units) → P image → Q image)
+pub stops_weaker : {D : Type 0} (moment : D → ℕ) (left_since : D → ℕ → Files → Type 0) (file : File) (P Q : Units → Type 0) (a b : D)
+    → ((image : Units) → P image → Q image)
     → LeavesOnly moment left_since a b (Stops file P (left_since a (moment a))) → LeavesOnly moment left_since a b (Stops file Q (left_since a (moment a)))
 stops_weaker moment left_since file P Q a b weaker =
     leaves_weaker moment left_since a b (Stops file P (left_since a (moment a))) (Stops file Q (left_since a (moment a)))
