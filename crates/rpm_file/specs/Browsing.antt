@@ -1,7 +1,7 @@
 -- What a run of reads takes of a shelf.
 use Rattle.std.specs.Prelude.{◌≡◌, ℕ, ◌≤◌, Bool, IsTrue, List, [], ◌++◌, Option, Some, None, is_some}
 use Rattle.std.proofs.Common.{refl, sym, ap, ◌∙◌, append_assoc, arith}
-use Rattle.rpm_outside.specs.Shelves.{Paths, Reads}
+use Rattle.rpm_outside.specs.Shelves.{Paths, TakesFront}
 
 -- the bytes that reads will give, none where no item is open
 abbrev pub left : Option (List ℕ) → List ℕ
@@ -38,7 +38,7 @@ pub record TakesOne (old new : Option (List ℕ)) (taken : List ℕ) : Type 0 wh
   pub takes : Takes old new taken
   pub ended : taken ≡ [] → left old ≡ []
 
-pub reads_one : (old new : Option (List ℕ)) (taken : List ℕ) → Reads old new taken → TakesOne old new taken
+pub reads_one : (old new : Option (List ℕ)) (taken : List ℕ) → TakesFront old new taken → TakesOne old new taken
 reads_one None new taken r =
     let none : taken ≡ [] = r.1 in
     let same : new ≡ None = r.0 in

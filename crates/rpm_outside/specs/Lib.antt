@@ -1,3 +1,4 @@
+pub mod Buffered
 pub mod Calls
 pub mod Causes
 pub mod Changed
@@ -16,6 +17,7 @@ pub mod Looks
 pub mod MemSink
 pub mod MemShelf
 pub mod MemDisk
+pub mod Flushed
 pub mod Past
 pub mod Picks
 pub mod Shelves

@@ -10,7 +10,7 @@ ghost use Rattle.rpm_pkgdb.specs.Blobs.{blocks_for};
 
 use crate::slot::Slot;
 use crate::store::PkgDb;
-use crate::used::gather;
+use crate::used::make_room;
 use std::alloc::{AllocError, Global};
 
 /// Where a blob of a length is to go.
@@ -64,10 +64,8 @@ impl PkgDb {
         if self.spare >= 1 {
             return Ok(());
         }
-        let mut used = gather(alloc, &self.slots)?;
-        used.reserve(1)?;
+        make_room(alloc, &mut self.used, &self.slots)?;
         self.numbers.reserve(1)?;
-        self.used = Some(used);
         self.spare = 1;
         Ok(())
     }
