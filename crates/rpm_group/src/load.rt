@@ -4,9 +4,15 @@ ghost use Rattle.std.specs.Prelude.{◌≡◌, ℕ, ◌+◌, ◌*◌, ◌/◌, �
 ghost use Rattle.rpm_outside.specs.Files.{Files, file_of, with_file, put, unit_at};
 ghost use Rattle.rpm_outside.specs.Causes.{HasCause, HasCauseAt};
 ghost use Rattle.rpm_outside.specs.Logs.{log_state, with_entries, reopened};
+<<<<<<< HEAD
 ghost use Rattle.rpm_group.specs.LogReads.{LooksAtLog};
 ghost use Rattle.rpm_group.specs.Readings.{entries_of, IsOpen};
 ghost use Rattle.rpm_group.specs.inner.LogReadings.{heads_behind};
+=======
+ghost use Rattle.rpm_outside.specs.declared.disk.File.TheVariants.{Log};
+ghost use Rattle.rpm_outside.specs.Looks.{LooksAt};
+ghost use Rattle.rpm_group.specs.Readings.{entries_of, IsOpen, heads_behind};
+>>>>>>> 6319e69fbaade73102d9f86361d4e1d212bda80a
 ghost use Rattle.rpm_group.specs.Layers.{laid_files};
 ghost use Rattle.rpm_group.specs.Loads.{LoadSays, IsOutside};
 
@@ -45,7 +51,7 @@ fn hold_piece<D: Disk>(
         → laid_files held.new files ≡ with_file file (put at (take (length bytes.old / 16) (drop from (D.files disk.old).log))
         (file_of file (laid_files held.old files))) (laid_files held.old files)) }
     ensures fault { IfErr result IsOutside }
-    ensures looks { LooksAtLog D.tells D.files D.left_since D.moment D.bytes_read D.follows disk.old disk.new }
+    ensures looks { LooksAt D.tells D.files D.left_since D.moment D.bytes_read D.follows Log disk.old disk.new }
     ensures cause { HasCauseAt (result ≡ Err LoadFault.DiskFault) (D.faults disk.old) (D.faults disk.new) }
 {
     let Ok(()) = disk.read_at(File::Log, from, bytes) else {
@@ -75,7 +81,7 @@ fn hold_units<D: Disk>(
         → laid_files held.new files ≡ with_file file
         (put at (take count (drop from (D.files disk.old).log)) (file_of file (laid_files held.old files))) (laid_files held.old files)) }
     ensures fault { IfErr result IsOutside }
-    ensures looks { LooksAtLog D.tells D.files D.left_since D.moment D.bytes_read D.follows disk.old disk.new }
+    ensures looks { LooksAt D.tells D.files D.left_since D.moment D.bytes_read D.follows Log disk.old disk.new }
     ensures cause { HasCauseAt (result ≡ Err LoadFault.DiskFault) (D.faults disk.old) (D.faults disk.new) }
 {
     let mut page = [0u8; 4096];
@@ -104,7 +110,7 @@ fn hold_entries<D: Disk>(
     ensures held { OnOk result (IsTrue D.tells → (files : Files)
         → laid_files held.new files ≡ with_entries (entries_of (heads_behind gate (D.files disk.old).log)) (laid_files held.old files)) }
     ensures fault { IfErr result (λ fault. IsTrue D.tells → IsOutside fault) }
-    ensures looks { LooksAtLog D.tells D.files D.left_since D.moment D.bytes_read D.follows disk.old disk.new }
+    ensures looks { LooksAt D.tells D.files D.left_since D.moment D.bytes_read D.follows Log disk.old disk.new }
     ensures cause { HasCauseAt (result ≡ Err LoadFault.DiskFault) (D.faults disk.old) (D.faults disk.new) }
 {
     let mut p = 1u64;
@@ -132,7 +138,7 @@ pub fn hold_log<D: Disk>(alloc: Global, disk: &mut D, held: &mut Layers) -> Resu
     ensures entries { OnOk result (IsTrue D.tells → (files : Files)
         → laid_files held.new files ≡ with_entries (entries_of (log_state (D.files disk.old).log)) files) }
     ensures says { IsTrue D.tells → LoadSays (log_state (D.files disk.old).log) result }
-    ensures looks { LooksAtLog D.tells D.files D.left_since D.moment D.bytes_read D.follows disk.old disk.new }
+    ensures looks { LooksAt D.tells D.files D.left_since D.moment D.bytes_read D.follows Log disk.old disk.new }
     ensures cause { HasCauseAt (result ≡ Err LoadFault.DiskFault) (D.faults disk.old) (D.faults disk.new) }
 {
     let Ok(reading) = read_log(disk) else {
@@ -171,7 +177,7 @@ impl<D: Disk> Overlay<D> {
         ensures entries { IfOk result (λ overlay. IsTrue D.tells → (files : Files) → laid_files (overlay_held overlay) files
             ≡ with_entries (entries_of (log_state (D.files disk).log)) files) }
         ensures says { IsTrue D.tells → LoadedSays (log_state (D.files disk).log) result }
-        ensures looks { LooksAtLog D.tells D.files D.left_since D.moment D.bytes_read D.follows disk (disk_after result) }
+        ensures looks { LooksAt D.tells D.files D.left_since D.moment D.bytes_read D.follows Log disk (disk_after result) }
         ensures cause { HasCauseAt (IsDiskFault result) (D.faults disk) (D.faults (disk_after result)) }
     {
         let mut disk = disk;

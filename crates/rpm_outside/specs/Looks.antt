@@ -23,5 +23,5 @@ pub record Looks {D : Type 0} (tells : Bool) (files : D → Files) (left_since :
 module _ {D : Type 0} (tells : Bool) (files : D → Files) (left_since : D → ℕ → Files → Type 0) (moment : D → ℕ)
     (bytes_read : D → File → ℕ) (follows : D → D → Type 0) where
   -- the same, no matter how much of this file is read
-  abbrev pub Reads : File → D → D → Type 0
-  Reads file old new = Looks tells files left_since moment bytes_read follows file (bytes_read new file - bytes_read old file) old new
+  abbrev pub LooksAt : File → D → D → Type 0
+  LooksAt file old new = Looks tells files left_since moment bytes_read follows file (bytes_read new file - bytes_read old file) old new

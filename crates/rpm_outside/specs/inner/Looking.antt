@@ -1,10 +1,11 @@
 -- Runs of calls that only read, one after the other.
 use Rattle.std.proofs.Common.{◌≡◌, ℕ, ◌+◌, ◌-◌, ◌≤◌, Bool, refl, ◌∙◌, arith}
+use Rattle.std.specs.Prelude.{IsTrue}
 use Rattle.rpm_outside.specs.declared.disk.File.{File}
 use Rattle.rpm_outside.specs.declared.disk.File.TheVariants.{Pkg, Idx, Log}
 use Rattle.rpm_outside.specs.Files.{Files}
-use Rattle.rpm_outside.specs.Crash.{bytes_for}
-use Rattle.rpm_outside.specs.Looks.{ReadAtMost, Looks, Reads}
+use Rattle.rpm_outside.specs.Crash.{Untouched, bytes_for}
+use Rattle.rpm_outside.specs.Looks.{ReadAtMost, Looks, LooksAt}
 
 bytes_sum : (file f : File) (m n most : ℕ) → m + n ≤ most → bytes_for file f m + bytes_for file f n ≤ bytes_for file f most
 bytes_sum Pkg Pkg m n most le = le
@@ -59,8 +60,8 @@ module _ {D : Type 0} (tells : Bool) (files : D → Files) (left_since : D → �
   abbrev Looked : ℕ → D → D → Type 0
   Looked = Looks tells files left_since moment bytes_read follows file
 
-  abbrev Read : D → D → Type 0
-  Read = Reads tells files left_since moment bytes_read follows file
+  abbrev LookedAt : D → D → Type 0
+  LookedAt = LooksAt tells files left_since moment bytes_read follows file
 
   pub looks_none : ((d : D) → follows d d) → (d : D) → Looked 0 d d
   looks_none same d = record {
@@ -90,18 +91,18 @@ module _ {D : Type 0} (tells : Bool) (files : D → Files) (left_since : D → �
     goes_on = looks.goes_on;
   }
 
-  pub reads_from : (most : ℕ) (a b : D) → Looked most a b → Read a b
-  reads_from most a b looks = record {
+  pub looks_at_from : (most : ℕ) (a b : D) → Looked most a b → LookedAt a b
+  looks_at_from most a b looks = record {
     untouched = looks.untouched;
     moment_stays = looks.moment_stays;
     reads = read_all file most (bytes_read a) (bytes_read b) looks.reads;
     goes_on = looks.goes_on;
   }
 
-  pub reads_none : ((d : D) → follows d d) → (d : D) → Read d d
-  reads_none same d = reads_from 0 d d (looks_none same d)
+  pub looks_at_none : ((d : D) → follows d d) → (d : D) → LookedAt d d
+  looks_at_none same d = looks_at_from 0 d d (looks_none same d)
 
-  pub reads_then : ((a b c : D) → follows a b → follows b c → follows a c) → (a b c : D) → Read a b → Read b c → Read a c
-  reads_then trans a b c first second =
+  pub looks_at_then : ((a b c : D) → follows a b → follows b c → follows a c) → (a b c : D) → LookedAt a b → LookedAt b c → LookedAt a c
+  looks_at_then trans a b c first second =
       looks_then trans (bytes_read b file - bytes_read a file) (bytes_read c file - bytes_read b file) (bytes_read c file - bytes_read a file) a b c
       (omega (arith, first.reads.no_less file, second.reads.no_less file)) first second

@@ -1,9 +1,15 @@
 use Rattle.std.proofs.Common.{◌+◌, ◌-◌, Option, Some, None, IfSome, ap, subst, ◌∙◌, arith}
 use Rattle.rpm_outside.specs.Files.{Files}
+use Rattle.rpm_outside.specs.declared.disk.File.TheVariants.{Log}
+use Rattle.rpm_outside.specs.inner.Looking.{looks_at_then}
 use Rattle.rpm_group.specs.declared.log.Head.{Head}
+<<<<<<< HEAD
 use Rattle.rpm_group.specs.LogReads.{log_looks_then}
 use Rattle.rpm_group.specs.Readings.{entries_of}
 use Rattle.rpm_group.specs.inner.LogReadings.{heads_behind, IsHead, HeadIs}
+=======
+use Rattle.rpm_group.specs.Readings.{entries_of, heads_behind, IsHead, HeadIs}
+>>>>>>> 6319e69fbaade73102d9f86361d4e1d212bda80a
 use Rattle.rpm_group.specs.Layers.{laid_files}
 use Rattle.rpm_group.proofs.Gates.{read_as}
 use Rattle.rpm_group.proofs.Applied.{left_wrong, done_more, done_all}
@@ -21,8 +27,8 @@ returns-in_default-found-clause-fault g c = λ told.
 
 pub returns-in-Err-clause-looks : goal.returns-in-Err-clause-looks
 returns-in-Err-clause-looks g c =
-    log_looks_then _ _ _ _ _ _ g.met.D.Disk.follows_trans c.args.disk.now c.read_head.new.disk c.hold_units.new.disk
-    (log_looks_then _ _ _ _ _ _ g.met.D.Disk.follows_trans c.args.disk.now c.loop-k.disk c.read_head.new.disk c.loop-k.invariant.looks
+    looks_at_then _ _ _ _ _ _ Log g.met.D.Disk.follows_trans c.args.disk.now c.read_head.new.disk c.hold_units.new.disk
+    (looks_at_then _ _ _ _ _ _ Log g.met.D.Disk.follows_trans c.args.disk.now c.loop-k.disk c.read_head.new.disk c.loop-k.invariant.looks
     c.read_head.ensures.looks)
     c.hold_units.ensures.looks
 
@@ -46,8 +52,8 @@ loop-k-preserved g c =
           (c.args.gate.entries - (c.loop-k._k + 1)) (c.loop-k.p + (1 + head.count)) (D.files c.read_head.new.disk).log (omega arith)
           (omega (arith, says.count)) (ap (λ (f : Files). f.log) same) (c.in_default-hold_units.ensures.held told files);
       looks =
-          log_looks_then _ _ _ _ _ _ g.met.D.Disk.follows_trans c.args.disk.now c.read_head.new.disk c.hold_units.new.disk
-          (log_looks_then _ _ _ _ _ _ g.met.D.Disk.follows_trans c.args.disk.now c.loop-k.disk c.read_head.new.disk inv.looks c.read_head.ensures.looks)
+          looks_at_then _ _ _ _ _ _ Log g.met.D.Disk.follows_trans c.args.disk.now c.read_head.new.disk c.hold_units.new.disk
+          (looks_at_then _ _ _ _ _ _ Log g.met.D.Disk.follows_trans c.args.disk.now c.loop-k.disk c.read_head.new.disk inv.looks c.read_head.ensures.looks)
           c.hold_units.ensures.looks;
       faults = omega (arith, inv.faults, c.read_head.ensures.cause.later, c.hold_units.ensures.cause.later);
     }

@@ -3,8 +3,14 @@ use Rattle.std.proofs.Common.{Option, Some, None, IfSome}
 use Rattle.rpm_group.specs.declared.log.Head.{Head}
 use Rattle.rpm_outside.specs.Files.{Files}
 use Rattle.rpm_outside.specs.Logs.{heads}
+<<<<<<< HEAD
 use Rattle.rpm_group.specs.LogReads.{log_looks_none, log_looks_then}
 use Rattle.rpm_group.specs.inner.LogReadings.{IsHead, HeadIs, heads_behind}
+=======
+use Rattle.rpm_outside.specs.declared.disk.File.TheVariants.{Log}
+use Rattle.rpm_outside.specs.inner.Looking.{looks_at_none, looks_at_then}
+use Rattle.rpm_group.specs.Readings.{IsHead, HeadIs, heads_behind}
+>>>>>>> 6319e69fbaade73102d9f86361d4e1d212bda80a
 use Rattle.rpm_group.proofs.Gates.{read_as, next_wrong, next_right, end_right, end_wrong}
 use Rattle.rpm_group.proofs.log.check_heads.Goals as goal
 
@@ -15,7 +21,7 @@ pub loop-k-init : goal.loop-k-init
 loop-k-init g c = record {
   place = omega arith;
   so_far = λ told. ([], ap (λ (n : ℕ). heads n 1 c.args.gate.last (g.D.Disk.files c.args.disk.now).log) (less c.args.gate.entries));
-  looks = log_looks_none _ _ _ _ _ _ g.met.D.Disk.follows_refl c.args.disk.now;
+  looks = looks_at_none _ _ _ _ _ _ Log g.met.D.Disk.follows_refl c.args.disk.now;
   faults = omega arith;
 }
 
@@ -50,7 +56,7 @@ loop-k-preserved g c =
           next_right (heads_behind c.args.gate files.log) so_far.0 (c.args.gate.entries - c.loop-k._k) c.loop-k.p c.args.gate.last files.log left
           so_far.1 (omega arith)
           (c.args.gate.entries - (c.loop-k._k + 1)) (c.loop-k.p + (1 + head.count)) (omega arith) says.right (omega (arith, says.count));
-      looks = log_looks_then _ _ _ _ _ _ g.met.D.Disk.follows_trans c.args.disk.now c.loop-k.disk c.read_head.new.disk inv.looks c.read_head.ensures.looks;
+      looks = looks_at_then _ _ _ _ _ _ Log g.met.D.Disk.follows_trans c.args.disk.now c.loop-k.disk c.read_head.new.disk inv.looks c.read_head.ensures.looks;
       faults = omega (arith, inv.faults, c.read_head.ensures.cause.later);
     }
 

@@ -1,4 +1,5 @@
 use Rattle.std.proofs.Common.{◌≡◌, ℕ, ◌+◌, ◌-◌, [], Option, None, IfSome, refl, sym, ap, subst, ◌∙◌, arith}
+use Rattle.rpm_outside.specs.declared.disk.File.TheVariants.{Pkg, Idx}
 use Rattle.rpm_outside.specs.Files.{Files}
 use Rattle.rpm_outside.specs.inner.Moments.{started}
 use Rattle.rpm_outside.specs.Logs.{heads}
@@ -82,8 +83,8 @@ loop-k-preserved g c =
           reads_then _ _ _ g.met.D.Disk.follows_trans old c.read_head.new.disk c.copy_units.new.disk
           (record {
             later = omega (arith, inv.reads.later, looks.moment_stays);
-            pkg = looks.pkg ∙ inv.reads.pkg;
-            idx = looks.idx ∙ inv.reads.idx;
+            pkg = omega (arith, looks.reads.no_less Pkg, looks.reads.pkg, inv.reads.pkg);
+            idx = omega (arith, looks.reads.no_less Idx, looks.reads.idx, inv.reads.idx);
             goes_on = g.met.D.Disk.follows_trans old c.loop-k.disk c.read_head.new.disk inv.reads.goes_on looks.goes_on;
           })
           c.copy_units.ensures.reads;
