@@ -2,7 +2,6 @@
 pub mod Holding
 pub mod LogReadings
 pub mod HeldUnits
-pub mod Looking
 pub mod Leavings
 pub mod Words
 pub mod Logged

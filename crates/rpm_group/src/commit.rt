@@ -8,17 +8,10 @@ ghost use Rattle.rpm_outside.specs.Changed.{ChangedIn, LeavesChanged};
 ghost use Rattle.rpm_outside.specs.Logs.{Entry, Closed, Open, log_state, unlogged, with_entries, reopened};
 ghost use Rattle.rpm_outside.specs.Changes.{AreSettled, IsSettled};
 ghost use Rattle.rpm_group.specs.LogReads.{ReadsNothing, ReadsLog};
-<<<<<<< HEAD
 ghost use Rattle.rpm_group.specs.inner.Logged.{CoversHeld};
-ghost use Rattle.rpm_group.specs.Settled.{IsSettled, SettledIn};
 ghost use Rattle.rpm_group.specs.inner.Leavings.{WasWithin};
 ghost use Rattle.rpm_group.specs.Groups.{runs_of, units_of_log, needed, BeforeOrAfter, Unwritten};
 ghost use Rattle.rpm_group.specs.inner.Grouped.{with_held, IsGroup, IsTail};
-=======
-ghost use Rattle.rpm_group.specs.Logged.{CoversHeld};
-ghost use Rattle.rpm_group.specs.Settled.{WasWithin};
-ghost use Rattle.rpm_group.specs.Groups.{runs_of, units_of_log, needed, with_held, IsGroup, IsTail, BeforeOrAfter, Unwritten};
->>>>>>> 6319e69fbaade73102d9f86361d4e1d212bda80a
 ghost use Rattle.rpm_group.specs.Commits.{IsFull, CommitSays};
 ghost use Rattle.rpm_group.specs.Layers.{laid_files};
 

@@ -8,10 +8,6 @@ ghost use Rattle.rpm_outside.specs.Looks.{Looks};
 ghost use Rattle.rpm_group.specs.Held.{unit_in};
 ghost use Rattle.rpm_group.specs.Counts.{is_held};
 ghost use Rattle.rpm_group.specs.Layers.{laid_files};
-<<<<<<< HEAD
-ghost use Rattle.rpm_group.specs.inner.Looking.{LooksBelow};
-=======
->>>>>>> 6319e69fbaade73102d9f86361d4e1d212bda80a
 
 use crate::layers::Layers;
 use crate::pages::Pages;
