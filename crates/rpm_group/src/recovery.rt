@@ -7,6 +7,7 @@ ghost use Rattle.rpm_outside.specs.Causes.{HasCause, HasCauseAt};
 ghost use Rattle.rpm_outside.specs.Changed.{LeavesChanged};
 ghost use Rattle.rpm_outside.specs.EntryLaws.{Within};
 ghost use Rattle.rpm_outside.specs.Logs.{Closed, log_state, unlogged, with_entries, reopened};
+ghost use Rattle.rpm_group.specs.LogReads.{ReadsLog};
 ghost use Rattle.rpm_group.specs.Readings.{entries_of, IsOpen};
 ghost use Rattle.rpm_group.specs.inner.LogReadings.{IsHead, heads_behind};
 ghost use Rattle.rpm_group.specs.inner.Leavings.{WasWithin, ReopensAs};
