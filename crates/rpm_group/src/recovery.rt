@@ -10,6 +10,7 @@ ghost use Rattle.rpm_outside.specs.Logs.{Closed, log_state, unlogged, with_entri
 ghost use Rattle.rpm_group.specs.LogReads.{ReadsLog};
 ghost use Rattle.rpm_group.specs.Readings.{entries_of, IsOpen};
 ghost use Rattle.rpm_group.specs.inner.LogReadings.{IsHead, heads_behind};
+ghost use Rattle.rpm_group.specs.Settled.{ReopensAsOneOf, RecoverSays, RecoverKeeps};
 ghost use Rattle.rpm_group.specs.inner.Leavings.{WasWithin, ReopensAs};
 ghost use Rattle.rpm_outside.specs.declared.disk.File.TheVariants.{Log};
 ghost use Rattle.rpm_outside.specs.Looks.{LooksAt};
