@@ -1,9 +1,11 @@
+use Rattle.rpm_outside.specs.declared.disk.File.TheVariants.{Pkg}
 use Rattle.std.proofs.Common.{◌≡◌, ℕ, ◌+◌, ◌*◌, [], ◌∷◌, List, sym, subst, refl, inl, IsTrue}
 use Rattle.rpm_outside.specs.Files.{Units, put}
 use Rattle.rpm_outside.specs.Crash.{Torn}
 use Rattle.rpm_pkgdb.specs.Store.{Store, Keeps}
 use Rattle.rpm_pkgdb.specs.Undamaged.{IsHeadUnit}
-use Rattle.rpm_pkgdb.specs.Changes.{IsSettled, map_ok, both_ok, changes_then, stops_from, stops_then}
+use Rattle.rpm_outside.specs.Changes.{IsSettled}
+use Rattle.rpm_pkgdb.proofs.Changing.{map_ok, both_ok, changes_then, stops_from, stops_then}
 use Rattle.rpm_pkgdb.specs.inner.Clear.{SameOutside}
 use Rattle.rpm_pkgdb.specs.Quiet.{StandsAs, Anything, BeforeOrAfter}
 use Rattle.rpm_pkgdb.proofs.Erases.{stands_by}
@@ -69,7 +71,7 @@ returns-clause-quiet g c =
     let F1 = (D.files c.write_free_page.new.disk).pkg in
     let next = D.files c.write_one.new.disk in
     let images = D.left_since c.write_one.new.disk (D.moment c.write_one.new.disk) in
-    both_ok c.write_one.result (λ (written : IsTrue D.tells → next.pkg ≡ put 0 (c.head_unit.result ∷ []) F1) (settled : IsTrue D.tells → IsSettled next images) told value can gen same keeps image left.
+    both_ok c.write_one.result (λ (written : IsTrue D.tells → next.pkg ≡ put 0 (c.head_unit.result ∷ []) F1) (settled : IsTrue D.tells → IsSettled Pkg next images) told value can gen same keeps image left.
     let stands = grown value can c.head_unit.result c.args.generation c.args.pages F0 F1 next.pkg gen same c.head_unit.ensures keeps (c.write_free_page.ensures.changes.pkg told) (c.in_ok-write_free_page.ensures.page told) (written told) in
     subst (StandsAs (with_page value) next.pkg) (sym (settled told image left)) (stands_by (with_page value) F0 next.pkg next.pkg stands stands)) c.write_one.ensures.written c.write_one.ensures.settled
 

@@ -1,8 +1,10 @@
+use Rattle.rpm_outside.specs.declared.disk.File.TheVariants.{Pkg}
 use Rattle.std.proofs.Common.{◌≡◌, [], ◌∷◌, sym, subst, true, IsTrue}
 use Rattle.rpm_outside.specs.Files.{put}
 use Rattle.rpm_outside.specs.Crash.{Torn}
 use Rattle.rpm_pkgdb.specs.Store.{is_blank}
-use Rattle.rpm_pkgdb.specs.Changes.{IsSettled, map_ok, both_ok, changes_then, stops_from, stops_then}
+use Rattle.rpm_outside.specs.Changes.{IsSettled}
+use Rattle.rpm_pkgdb.proofs.Changing.{map_ok, both_ok, changes_then, stops_from, stops_then}
 use Rattle.rpm_pkgdb.specs.inner.Clear.{SameOutside}
 use Rattle.rpm_pkgdb.specs.Quiet.{Anything, IsFirstPage}
 use Rattle.rpm_pkgdb.specs.Written.{MakesTo}
@@ -42,7 +44,7 @@ returns-clause-quiet g c =
     let mid = (D.files c.write_first_page.new.disk).pkg in
     let next = D.files c.write_one.new.disk in
     let images = D.left_since c.write_one.new.disk (D.moment c.write_one.new.disk) in
-    both_ok c.write_one.result (λ (written : IsTrue D.tells → next.pkg ≡ put 0 (c.head_unit.result ∷ []) mid) (settled : IsTrue D.tells → IsSettled next images) told value.
+    both_ok c.write_one.result (λ (written : IsTrue D.tells → next.pkg ≡ put 0 (c.head_unit.result ∷ []) mid) (settled : IsTrue D.tells → IsSettled Pkg next images) told value.
     new_quiet value c.head_unit.result c.head_unit.ensures next images (new_keeps value c.head_unit.result c.head_unit.ensures mid next.pkg (c.in_ok-write_first_page.ensures.page told) (written told)) (settled told)) c.write_one.ensures.written c.write_one.ensures.settled
 
 pub returns-clause-changes : goal.returns-clause-changes

@@ -1,11 +1,13 @@
+use Rattle.rpm_outside.specs.declared.disk.File.TheVariants.{Pkg}
 use Rattle.std.proofs.Common.{◌≡◌, ◌+◌, ◌*◌, ◌^◌, ◌<◌, List, length, take, sym, ap, ◌∙◌, subst, arith, refl}
 use Rattle.std.proofs.lemmas.List.{take_all}
 use Rattle.rpm_outside.specs.inner.Moments.{started}
 use Rattle.rpm_pkgdb.specs.declared.moving.Move.{Move}
 use Rattle.rpm_pkgdb.specs.Store.{Store, Keeps}
 use Rattle.rpm_pkgdb.specs.Blobs.{blobs}
-use Rattle.rpm_pkgdb.specs.Changes.{Stops, stops_weaker}
-use Rattle.rpm_pkgdb.specs.inner.Copies.{copies_none, copies_then, copies_weaker, copies_stops_then}
+use Rattle.rpm_outside.specs.Changes.{Stops}
+use Rattle.rpm_pkgdb.proofs.Changing.{stops_weaker}
+use Rattle.rpm_pkgdb.proofs.Changing.{copies_none, copies_then, copies_weaker, copies_stops_then}
 use Rattle.rpm_pkgdb.specs.Quiet.{StandsFor, IsQuiet}
 use Rattle.rpm_pkgdb.specs.inner.Settings.{NoShorter, WhileMoved}
 use Rattle.rpm_pkgdb.proofs.ErasesTo.{stands_for}
@@ -24,7 +26,7 @@ loop-k-init g c =
       images = λ told value some same are quiet.
           let P = StandsFor value.generation value.field (blobs (D.files d).pkg value) in
           let keeps : Keeps (D.files d).pkg value = (quiet (D.files d) (g.met.D.Disk.as_read d told)).keeps in
-          started D.moment D.left_since d (Stops P (D.left_since d (D.moment d))) (λ image here. record { from = image; was = here; pkg = stands_for value (D.files d).pkg image.pkg some keeps (quiet image here); idx = refl; log = refl });
+          started D.moment D.left_since d (Stops Pkg P (D.left_since d (D.moment d))) (λ image here. record { from = image; was = here; pkg = stands_for value (D.files d).pkg image.pkg some keeps (quiet image here); idx = refl; log = refl });
       quiet = λ told value some same are quiet. quiet;
       copies = copies_weaker _ _ _ _ _ _ NoShorter NoShorter 0 (2 ^ 32 * 0) d d (omega arith) (λ x y r. r) (copies_none _ _ _ _ _ _ g.met.D.Disk.follows_refl NoShorter (λ x. omega arith) d);
       faults = omega arith;

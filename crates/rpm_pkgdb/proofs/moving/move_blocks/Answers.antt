@@ -2,8 +2,8 @@ use Rattle.std.proofs.Common.{inr, ◌+◌, ◌*◌, ◌-◌, ◌<◌, ◌≤◌
 use Rattle.rpm_outside.specs.Crash.{Torn}
 use Rattle.rpm_pkgdb.specs.Slots.{end_of}
 use Rattle.rpm_pkgdb.specs.Store.{Keeps}
-use Rattle.rpm_pkgdb.specs.Changes.{on_ok, stops_from}
-use Rattle.rpm_pkgdb.specs.inner.Copies.{copies_from, copies_weaker, copies_then, copies_stops_from, copies_stops_then}
+use Rattle.rpm_pkgdb.proofs.Changing.{on_ok, stops_from}
+use Rattle.rpm_pkgdb.proofs.Changing.{copies_from, copies_weaker, copies_then, copies_stops_from, copies_stops_then}
 use Rattle.rpm_pkgdb.specs.inner.Clear.{SameOutside, Holds}
 use Rattle.rpm_pkgdb.specs.Quiet.{Anything}
 use Rattle.rpm_pkgdb.specs.inner.Settings.{NoShorter, WhileMoved, blocks_of}

@@ -5,7 +5,7 @@ use Rattle.rpm_pkgdb.specs.declared.plan.Plan.{Plan}
 use Rattle.rpm_pkgdb.specs.Store.{Keeps}
 use Rattle.rpm_pkgdb.specs.Blobs.{blocks_for}
 use Rattle.rpm_pkgdb.specs.Undamaged.{IsSlotUnit}
-use Rattle.rpm_pkgdb.specs.Changes.{on_ok, changes_then, stops_from, stops_then}
+use Rattle.rpm_pkgdb.proofs.Changing.{on_ok, changes_then, stops_from, stops_then}
 use Rattle.rpm_pkgdb.specs.inner.Clear.{SameOutside}
 use Rattle.rpm_pkgdb.specs.Quiet.{Anything}
 use Rattle.rpm_pkgdb.specs.Plans.{slot_for}

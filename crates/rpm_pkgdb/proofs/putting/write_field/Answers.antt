@@ -2,7 +2,7 @@ use Rattle.std.proofs.Common.{◌≡◌, ℕ, [], ◌∷◌, Option, inr, sym, s
 use Rattle.rpm_outside.specs.Files.{Units, units_of}
 use Rattle.rpm_outside.specs.Crash.{Torn}
 use Rattle.rpm_outside.specs.inner.Cuts.{cut_up_one}
-use Rattle.rpm_pkgdb.specs.Changes.{changes_weaker}
+use Rattle.rpm_pkgdb.proofs.Changing.{changes_weaker}
 use Rattle.rpm_pkgdb.specs.inner.Puts.{FieldTorn}
 use Rattle.rpm_pkgdb.proofs.putting.write_field.Goals as goal
 

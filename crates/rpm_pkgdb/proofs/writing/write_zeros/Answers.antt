@@ -5,7 +5,7 @@ use Rattle.rpm_outside.specs.Crash.{Torn}
 use Rattle.rpm_outside.specs.inner.Cuts.{length-cut_up}
 use Rattle.rpm_pkgdb.specs.inner.Clear.{SameOutside}
 use Rattle.rpm_pkgdb.proofs.ClearLaws.{torn_outside, outside_then, outside_wider}
-use Rattle.rpm_pkgdb.specs.Changes.{changes_then}
+use Rattle.rpm_pkgdb.proofs.Changing.{changes_then}
 use Rattle.rpm_pkgdb.proofs.Zeros.{zeros, zeros_more}
 use Rattle.rpm_pkgdb.proofs.writing.write_zeros.Goals as goal
 

@@ -4,7 +4,7 @@ use Rattle.rpm_pkgdb.specs.Slots.{is_used}
 use Rattle.rpm_pkgdb.specs.Pairs.{find_in}
 use Rattle.rpm_pkgdb.specs.Store.{Store}
 use Rattle.rpm_pkgdb.specs.Blobs.{blobs}
-use Rattle.rpm_pkgdb.specs.Changes.{stops_weaker}
+use Rattle.rpm_pkgdb.proofs.Changing.{stops_weaker}
 use Rattle.rpm_pkgdb.specs.inner.Keeping.{IsKept}
 use Rattle.rpm_pkgdb.proofs.RangeLaws.{freed_used}
 use Rattle.rpm_pkgdb.specs.inner.Ranges.{Forgets}

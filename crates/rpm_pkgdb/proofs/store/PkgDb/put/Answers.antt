@@ -4,7 +4,7 @@ use Rattle.rpm_pkgdb.specs.Store.{Store}
 use Rattle.rpm_pkgdb.specs.Blobs.{blobs, blocks_for}
 use Rattle.rpm_pkgdb.specs.Framing.{framed}
 use Rattle.rpm_pkgdb.proofs.FramingLaws.{count-framed}
-use Rattle.rpm_pkgdb.specs.Changes.{stops_weaker}
+use Rattle.rpm_pkgdb.proofs.Changing.{stops_weaker}
 use Rattle.rpm_pkgdb.specs.Quiet.{IsQuiet}
 use Rattle.rpm_pkgdb.specs.inner.Puts.{CanPut, WhilePut}
 use Rattle.rpm_pkgdb.specs.Written.{PutsTo, with_blob, with_spare}

@@ -2,7 +2,7 @@ use Rattle.std.proofs.Common.{ℕ, List, ◌+◌, [], ◌∷◌, sym, ap, subst,
 use Rattle.rpm_outside.specs.Crash.{Torn}
 use Rattle.rpm_pkgdb.specs.Store.{Store, Keeps}
 use Rattle.rpm_pkgdb.specs.Blobs.{blobs}
-use Rattle.rpm_pkgdb.specs.Changes.{stops_from}
+use Rattle.rpm_pkgdb.proofs.Changing.{stops_from}
 use Rattle.rpm_pkgdb.specs.Quiet.{IsQuiet}
 use Rattle.rpm_pkgdb.proofs.Raises.{while_raised, raised, raised_map, raises_to, raised_quiet}
 use Rattle.rpm_pkgdb.specs.Undamaged.{IsHeadUnit}
