@@ -61,18 +61,22 @@ module _ {D : Type 0} (tells : Bool) (files : D → Files) (left_since : D → �
 module _ {D : Type 0} (tells : Bool) (files : D → Files) (left_since : D → ℕ → Files → Type 0) (moment : D → ℕ)
     (bytes_read : D → File → ℕ) (follows : D → D → Type 0) (told : IsTrue tells) where
   -- what stops leave that fall into a run
-  pub copies_stops_from : (R : Units → Units → Type 0) (P : Units → Type 0) (most : ℕ) (a b : D) → Changes tells files left_since moment bytes_read follows Pkg R most a b
-      → ((from image : Files) → left_since a (moment a) from → R from.pkg image.pkg → P image.pkg) → LeavesOnly moment left_since a b (Stops Pkg P (left_since a (moment a)))
+  pub copies_stops_from : (R : Units → Units → Type 0) (P : Units → Type 0) (most : ℕ) (a b : D)
+      → Changes tells files left_since moment bytes_read follows Pkg R most a b
+      → ((from image : Files) → left_since a (moment a) from → R from.pkg image.pkg → P image.pkg)
+      → LeavesOnly moment left_since a b (Stops Pkg P (left_since a (moment a)))
   copies_stops_from = shared.stops_from tells files left_since moment bytes_read follows Pkg told
 
   -- and in two runs, one after the other
-  pub copies_stops_then : (R : Units → Units → Type 0) (P : Units → Type 0) (most : ℕ) (a b c : D) → Changes tells files left_since moment bytes_read follows Pkg R most a b
+  pub copies_stops_then : (R : Units → Units → Type 0) (P : Units → Type 0) (most : ℕ) (a b c : D)
+      → Changes tells files left_since moment bytes_read follows Pkg R most a b
       → LeavesOnly moment left_since a b (Stops Pkg P (left_since a (moment a))) → LeavesOnly moment left_since b c (Stops Pkg P (left_since b (moment b)))
       → LeavesOnly moment left_since a c (Stops Pkg P (left_since a (moment a)))
   copies_stops_then = shared.stops_then tells files left_since moment bytes_read follows Pkg told
 
   pub stops_from : (R : Units → Units → Type 0) (P : Units → Type 0) (a b : D) → Changes tells files left_since moment bytes_read follows Pkg R 0 a b
-      → ((from image : Files) → left_since a (moment a) from → R from.pkg image.pkg → P image.pkg) → LeavesOnly moment left_since a b (Stops Pkg P (left_since a (moment a)))
+      → ((from image : Files) → left_since a (moment a) from → R from.pkg image.pkg → P image.pkg)
+      → LeavesOnly moment left_since a b (Stops Pkg P (left_since a (moment a)))
   stops_from R P = copies_stops_from R P 0
 
   pub stops_then : (R : Units → Units → Type 0) (P : Units → Type 0) (a b c : D) → Changes tells files left_since moment bytes_read follows Pkg R 0 a b

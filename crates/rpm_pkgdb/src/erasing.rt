@@ -26,10 +26,14 @@ pub const FREE: Slot = Slot {
 pub fn free_slot<D: Disk>(disk: &mut D, place: u32, slot: Slot) -> Result<(), Failed>
     requires room { place + 3 ≤ 2 ^ 28 }
     requires end { end_of slot ≤ 2 ^ 28 }
-    ensures stands { OnOk result (IsTrue D.tells → (value : Store) → HasSlot value place slot → Keeps (D.files disk.old).pkg value → StandsAs (with_free place value) (D.files disk.old).pkg (D.files disk.new).pkg) }
+    ensures stands { OnOk result (IsTrue D.tells → (value : Store) → HasSlot value place slot → Keeps (D.files disk.old).pkg value
+        → StandsAs (with_free place value) (D.files disk.old).pkg (D.files disk.new).pkg) }
     ensures zeros { OnOk result (IsTrue D.tells → (i : ℕ) → slot.offset ≤ i → i < end_of slot → unit_at (D.files disk.new).pkg i ≡ blank) }
-    ensures images { IsTrue D.tells → (value : Store) → HasSlot value place slot → IsQuiet value (D.files disk.old) (D.left_since disk.old (D.moment disk.old)) → LeavesOnly D.moment D.left_since disk.old disk.new (Stops Pkg (BeforeOrAfter value (with_free place value) (D.files disk.old).pkg) (D.left_since disk.old (D.moment disk.old))) }
-    ensures quiet { OnOk result (IsTrue D.tells → (value : Store) → HasSlot value place slot → Keeps (D.files disk.old).pkg value → IsQuiet (with_free place value) (D.files disk.new) (D.left_since disk.new (D.moment disk.new))) }
+    ensures images { IsTrue D.tells → (value : Store) → HasSlot value place slot → IsQuiet value (D.files disk.old)
+        (D.left_since disk.old (D.moment disk.old)) → LeavesOnly D.moment D.left_since disk.old disk.new
+        (Stops Pkg (BeforeOrAfter value (with_free place value) (D.files disk.old).pkg) (D.left_since disk.old (D.moment disk.old))) }
+    ensures quiet { OnOk result (IsTrue D.tells → (value : Store) → HasSlot value place slot → Keeps (D.files disk.old).pkg value
+        → IsQuiet (with_free place value) (D.files disk.new) (D.left_since disk.new (D.moment disk.new))) }
     ensures changes { Changes D.tells D.files D.left_since D.moment D.bytes_read D.follows Pkg Anything 0 disk.old disk.new }
     ensures cause { HasCause (D.faults disk.old) (D.faults disk.new) result }
 {

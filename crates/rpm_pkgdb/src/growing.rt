@@ -31,9 +31,13 @@ fn write_free_page<D: Disk>(disk: &mut D, pages: u32) -> Result<(), Failed>
 /// Adds a slot page, in which no blob has blocks.
 pub fn add_page<D: Disk>(disk: &mut D, generation: u32, pages: u32) -> Result<(), Failed>
     requires { 256 * (pages + 1) ≤ 2 ^ 28 }
-    ensures stands { OnOk result (IsTrue D.tells → (value : Store) → CanGrow value → generation ≡ value.generation → pages ≡ value.pages → Keeps (D.files disk.old).pkg value → StandsAs (with_page value) (D.files disk.old).pkg (D.files disk.new).pkg) }
-    ensures images { IsTrue D.tells → (value : Store) → CanGrow value → generation ≡ value.generation → pages ≡ value.pages → IsQuiet value (D.files disk.old) (D.left_since disk.old (D.moment disk.old)) → LeavesOnly D.moment D.left_since disk.old disk.new (Stops Pkg (BeforeOrAfter value (with_page value) (D.files disk.old).pkg) (D.left_since disk.old (D.moment disk.old))) }
-    ensures quiet { OnOk result (IsTrue D.tells → (value : Store) → CanGrow value → generation ≡ value.generation → pages ≡ value.pages → Keeps (D.files disk.old).pkg value → IsQuiet (with_page value) (D.files disk.new) (D.left_since disk.new (D.moment disk.new))) }
+    ensures stands { OnOk result (IsTrue D.tells → (value : Store) → CanGrow value → generation ≡ value.generation → pages ≡ value.pages
+        → Keeps (D.files disk.old).pkg value → StandsAs (with_page value) (D.files disk.old).pkg (D.files disk.new).pkg) }
+    ensures images { IsTrue D.tells → (value : Store) → CanGrow value → generation ≡ value.generation → pages ≡ value.pages → IsQuiet value
+        (D.files disk.old) (D.left_since disk.old (D.moment disk.old)) → LeavesOnly D.moment D.left_since disk.old disk.new
+        (Stops Pkg (BeforeOrAfter value (with_page value) (D.files disk.old).pkg) (D.left_since disk.old (D.moment disk.old))) }
+    ensures quiet { OnOk result (IsTrue D.tells → (value : Store) → CanGrow value → generation ≡ value.generation → pages ≡ value.pages
+        → Keeps (D.files disk.old).pkg value → IsQuiet (with_page value) (D.files disk.new) (D.left_since disk.new (D.moment disk.new))) }
     ensures changes { Changes D.tells D.files D.left_since D.moment D.bytes_read D.follows Pkg Anything 0 disk.old disk.new }
     ensures cause { HasCause (D.faults disk.old) (D.faults disk.new) result }
 {

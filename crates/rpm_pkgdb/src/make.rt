@@ -38,7 +38,8 @@ fn write_first_page<D: Disk>(disk: &mut D) -> Result<(), Failed>
 fn write_new<D: Disk>(disk: &mut D) -> Result<(), Failed>
     ensures keeps { OnOk result (IsTrue D.tells → (value : Store) → Keeps (D.files disk.new).pkg (made_new value)) }
     ensures quiet { OnOk result (IsTrue D.tells → (value : Store) → IsQuiet (made_new value) (D.files disk.new) (D.left_since disk.new (D.moment disk.new))) }
-    ensures images { IsTrue D.tells → (value : Store) → value.pages ≡ 0 → IsQuiet value (D.files disk.old) (D.left_since disk.old (D.moment disk.old)) → LeavesOnly D.moment D.left_since disk.old disk.new (Stops Pkg MakesTo (D.left_since disk.old (D.moment disk.old))) }
+    ensures images { IsTrue D.tells → (value : Store) → value.pages ≡ 0 → IsQuiet value (D.files disk.old) (D.left_since disk.old (D.moment disk.old))
+        → LeavesOnly D.moment D.left_since disk.old disk.new (Stops Pkg MakesTo (D.left_since disk.old (D.moment disk.old))) }
     ensures changes { Changes D.tells D.files D.left_since D.moment D.bytes_read D.follows Pkg Anything 0 disk.old disk.new }
     ensures cause { HasCause (D.faults disk.old) (D.faults disk.new) result }
 {
@@ -77,7 +78,8 @@ impl PkgDb {
         ensures err { OnErr result (self.new ≡ stopped self.old) }
         ensures kept { OnOk result (IsTrue D.tells → Keeps (D.files disk.new).pkg self.new) }
         ensures blobs { OnOk result (IsTrue D.tells → blobs (D.files disk.new).pkg self.new ≡ finite.empty) }
-        ensures images { IsTrue D.tells → IsQuiet self.old (D.files disk.old) (D.left_since disk.old (D.moment disk.old)) → LeavesOnly D.moment D.left_since disk.old disk.new (Stops Pkg MakesTo (D.left_since disk.old (D.moment disk.old))) }
+        ensures images { IsTrue D.tells → IsQuiet self.old (D.files disk.old) (D.left_since disk.old (D.moment disk.old)) → LeavesOnly D.moment
+            D.left_since disk.old disk.new (Stops Pkg MakesTo (D.left_since disk.old (D.moment disk.old))) }
         ensures quiet { OnOk result (IsTrue D.tells → IsQuiet self.new (D.files disk.new) (D.left_since disk.new (D.moment disk.new))) }
         ensures changes { Changes D.tells D.files D.left_since D.moment D.bytes_read D.follows Pkg Anything 0 disk.old disk.new }
         ensures cause { HasCause (D.faults disk.old) (D.faults disk.new) result }

@@ -99,10 +99,13 @@ impl PkgDb {
         ensures spare { OnOk result (self.old.spare ≡ self.new.spare + 1) }
         ensures err { OnErr result (self.new ≡ stopped self.old) }
         ensures kept { OnOk result (IsTrue D.tells → Keeps (D.files disk.new).pkg self.new) }
-        ensures blobs { OnOk result (IsTrue D.tells → blobs (D.files disk.new).pkg self.new ≡ finite.insert (blobs (D.files disk.old).pkg self.old) plan.number (Some blob.now)) }
-        ensures framed { OnOk result (IsTrue D.tells → take (blocks_for (length blob.now)) (drop plan.start (D.files disk.new).pkg) ≡ units_of (framed plan.number self.old.generation blob.now)) }
+        ensures blobs { OnOk result (IsTrue D.tells → blobs (D.files disk.new).pkg self.new ≡ finite.insert (blobs (D.files disk.old).pkg self.old)
+            plan.number (Some blob.now)) }
+        ensures framed { OnOk result (IsTrue D.tells → take (blocks_for (length blob.now)) (drop plan.start (D.files disk.new).pkg)
+            ≡ units_of (framed plan.number self.old.generation blob.now)) }
         ensures zeros { OnOk result (IsTrue D.tells → AreZeros (slot_with plan.number self.old.slots) (D.files disk.new).pkg) }
-        ensures images { IsTrue D.tells → IsQuiet self.old (D.files disk.old) (D.left_since disk.old (D.moment disk.old)) → LeavesOnly D.moment D.left_since disk.old disk.new (Stops Pkg (PutsTo self.old plan blob.now (D.files disk.old).pkg) (D.left_since disk.old (D.moment disk.old))) }
+        ensures images { IsTrue D.tells → IsQuiet self.old (D.files disk.old) (D.left_since disk.old (D.moment disk.old)) → LeavesOnly D.moment
+            D.left_since disk.old disk.new (Stops Pkg (PutsTo self.old plan blob.now (D.files disk.old).pkg) (D.left_since disk.old (D.moment disk.old))) }
         ensures quiet { OnOk result (IsTrue D.tells → IsQuiet self.new (D.files disk.new) (D.left_since disk.new (D.moment disk.new))) }
         ensures changes { Changes D.tells D.files D.left_since D.moment D.bytes_read D.follows Pkg Anything 0 disk.old disk.new }
         ensures cause { HasCause (D.faults disk.old) (D.faults disk.new) result }

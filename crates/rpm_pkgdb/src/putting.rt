@@ -44,9 +44,11 @@ fn write_first<D: Disk>(
     requires few { length blob.now ≤ 68157432 }
     requires room { plan.now.start + blocks_for (length blob.now) ≤ 2 ^ 28 }
     requires number { plan.now.number < 4294967295 }
-    ensures written { OnOk result (IsTrue D.tells → BlobPut plan.now.start (units_of (framed plan.now.number generation blob.now)) (next_field plan.now) (D.files disk.old).pkg (D.files disk.new).pkg) }
+    ensures written { OnOk result (IsTrue D.tells → BlobPut plan.now.start (units_of (framed plan.now.number generation blob.now))
+        (next_field plan.now) (D.files disk.old).pkg (D.files disk.new).pkg) }
     ensures settled { OnOk result (IsTrue D.tells → IsSettled Pkg (D.files disk.new) (D.left_since disk.new (D.moment disk.new))) }
-    ensures changes { Changes D.tells D.files D.left_since D.moment D.bytes_read D.follows Pkg (BlobTorn plan.now.start (blocks_for (length blob.now)) (next_field plan.now)) 0 disk.old disk.new }
+    ensures changes { Changes D.tells D.files D.left_since D.moment D.bytes_read D.follows Pkg (BlobTorn plan.now.start (blocks_for (length blob.now))
+        (next_field plan.now)) 0 disk.old disk.new }
     ensures cause { HasCause (D.faults disk.old) (D.faults disk.new) result }
 {
     write_blob(disk, plan.start, plan.number, generation, blob)?;
@@ -68,10 +70,14 @@ pub fn put_blob<D: Disk>(
     requires number { plan.now.number < 4294967295 }
     requires place { plan.now.place + 3 ≤ 2 ^ 28 }
     requires end { end_of old ≤ 2 ^ 28 }
-    ensures stands { OnOk result (IsTrue D.tells → (value : Store) → CanPut value plan.now generation old blob.now → Keeps (D.files disk.old).pkg value → StandsWith value plan.now generation blob.now (D.files disk.old).pkg (D.files disk.new).pkg) }
+    ensures stands { OnOk result (IsTrue D.tells → (value : Store) → CanPut value plan.now generation old blob.now → Keeps (D.files disk.old).pkg
+        value → StandsWith value plan.now generation blob.now (D.files disk.old).pkg (D.files disk.new).pkg) }
     ensures zeros { OnOk result (IsTrue D.tells → (i : ℕ) → old.offset ≤ i → i < end_of old → unit_at (D.files disk.new).pkg i ≡ blank) }
-    ensures images { IsTrue D.tells → (value : Store) → CanPut value plan.now generation old blob.now → IsQuiet value (D.files disk.old) (D.left_since disk.old (D.moment disk.old)) → LeavesOnly D.moment D.left_since disk.old disk.new (Stops Pkg (WhilePut value plan.now generation blob.now (D.files disk.old).pkg) (D.left_since disk.old (D.moment disk.old))) }
-    ensures quiet { OnOk result (IsTrue D.tells → (value : Store) → CanPut value plan.now generation old blob.now → Keeps (D.files disk.old).pkg value → IsQuiet (with_blob plan.now value) (D.files disk.new) (D.left_since disk.new (D.moment disk.new))) }
+    ensures images { IsTrue D.tells → (value : Store) → CanPut value plan.now generation old blob.now → IsQuiet value (D.files disk.old)
+        (D.left_since disk.old (D.moment disk.old)) → LeavesOnly D.moment D.left_since disk.old disk.new
+        (Stops Pkg (WhilePut value plan.now generation blob.now (D.files disk.old).pkg) (D.left_since disk.old (D.moment disk.old))) }
+    ensures quiet { OnOk result (IsTrue D.tells → (value : Store) → CanPut value plan.now generation old blob.now → Keeps (D.files disk.old).pkg value
+        → IsQuiet (with_blob plan.now value) (D.files disk.new) (D.left_since disk.new (D.moment disk.new))) }
     ensures changes { Changes D.tells D.files D.left_since D.moment D.bytes_read D.follows Pkg Anything 0 disk.old disk.new }
     ensures cause { HasCause (D.faults disk.old) (D.faults disk.new) result }
 {

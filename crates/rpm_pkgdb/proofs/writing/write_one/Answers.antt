@@ -12,5 +12,7 @@ returns-clause-changes g c =
     let unit = c.args.unit.now in
     let e : units_of unit ≡ unit ∷ [] = cut_up_one unit c.told-unit in
     let T = Torn at (unit ∷ []) in
-    changes_then _ _ _ _ _ _ g.met.D.Disk.follows_trans (Torn at (units_of unit)) IsSame T c.args.disk.now c.write_units.new.disk c.settle.new.disk (λ x y r. subst (λ (us : Units). Torn at us x y) e r)
-    (λ x y z r same. subst (Torn at (unit ∷ []) x) (sym same) (subst (λ (us : Units). Torn at us x y) e r)) c.write_units.ensures.changes c.settle.ensures.changes
+    changes_then _ _ _ _ _ _ g.met.D.Disk.follows_trans (Torn at (units_of unit)) IsSame T c.args.disk.now c.write_units.new.disk c.settle.new.disk
+    (λ x y r. subst (λ (us : Units). Torn at us x y) e r)
+    (λ x y z r same. subst (Torn at (unit ∷ []) x) (sym same) (subst (λ (us : Units). Torn at us x y) e r)) c.write_units.ensures.changes
+    c.settle.ensures.changes
