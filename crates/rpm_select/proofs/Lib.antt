@@ -1,4 +1,3 @@
-pub mod Above
 pub mod Back
 pub mod Bounds
 pub mod Elsewhere

@@ -6,12 +6,11 @@ use Rattle.std.specs.FinMap as finite
 use Rattle.std.specs.List.{filter, list_any}
 use Rattle.std.proofs.lemmas.Bool.{cases_Bool}
 use Rattle.std.proofs.lemmas.Bool.Decides.{nat_tests}
-use Rattle.rpm_db.specs.State.{Package}
+use Rattle.rpm_db.specs.State.{Package, above}
 use Rattle.rpm_db.specs.Database.{IsNext}
 use Rattle.rpm_select.specs.declared.selection.Selection.{Selection}
 use Rattle.rpm_select.specs.Selections.{is_picked, picks}
-use Rattle.rpm_select.specs.Picks.{above}
-use Rattle.rpm_select.proofs.Above.{next_above, nothing_above}
+use Rattle.rpm_db.specs.inner.Above.{next_above, nothing_above}
 
 commute : {X : Type 0} (p q : X → Bool) (xs : List X) → filter p (filter q xs) ≡ filter q (filter p xs)
 commute p q [] = refl

@@ -1,5 +1,5 @@
 -- The part of a glob in which no set ends.
-use Rattle.std.proofs.Common.{◌≡◌, ◌≢◌, ℕ, suc, ◌+◌, ◌-◌, ◌<◌, ◌≤◌, List, [], ◌∷◌, length, take, drop, get_or, Bool, true, false, ◌==◌, refl, sym, ap, subst, inl, inr, arith}
+use Rattle.std.proofs.Common.{◌≡◌, ◌≢◌, ℕ, suc, ◌+◌, ◌-◌, ◌<◌, ◌≤◌, List, [], ◌∷◌, length, take, drop, get_or, Bool, true, false, ◌==◌, refl, sym, ap, ◌∙◌, subst, arith}
 use Rattle.std.specs.List.{position_or_len}
 use Rattle.std.proofs.lemmas.Bool.{cases_Bool}
 use Rattle.std.proofs.lemmas.Bool.Decides.{nat_tests}
@@ -24,7 +24,8 @@ no_close [] none = refl
 no_close (x ∷ xs) none =
     let first = none 0 (omega arith) in
     let other : (x == 93) ≡ false = grind (arith, nat_tests) in
-    rw other (ap (λ n. suc n) (no_close xs (λ k below. none (suc k) (omega arith))))
+    let one_more : 1 + length xs ≡ suc (length xs) = omega arith in
+    rw other (ap (λ (n : ℕ). 1 + n) (no_close xs (λ k below. none (suc k) (omega arith))) ∙ one_more)
 
 pub none_close : (unclosed : ℕ) (xs : List ℕ) → IsUnclosed unclosed xs → length xs ≤ unclosed → position_or_len is_close xs ≡ length xs
 none_close unclosed xs is within = no_close xs (λ k below. is.none k below (omega arith))

@@ -1,5 +1,5 @@
 -- What a picker answers.
-use Rattle.std.specs.Prelude.{◌≡◌, ℕ, ◌+◌, ◌-◌, ◌≤◌, List, [], ◌∷◌, take, filter, Bool, true, false, nat_lt, nat_le, Option, Some, None, Result, Ok, Err}
+use Rattle.std.specs.Prelude.{◌≡◌, ℕ, ◌+◌, ◌-◌, ◌≤◌, List, [], ◌∷◌, Bool, true, false, nat_le, Option, Some, None, Result, Ok, Err}
 use Rattle.std.specs.List.{list_any}
 use Rattle.rpm_db.specs.State as state
 use Rattle.rpm_db.specs.State.{Package}
@@ -19,10 +19,6 @@ entry_in (Bad number) = (number, state.Bad)
 abbrev pub number_in : Picked → ℕ
 number_in (Good number blob) = number
 number_in (Bad number) = number
-
--- those with a number above n
-abbrev pub above : {X : Type 0} → ℕ → List (ℕ × X) → List (ℕ × X)
-above n es = filter (λ e. nat_lt n e.0) es
 
 -- the first of them, or none where there is none
 abbrev pub NextIs : List (ℕ × Package) → Result (Option Picked) PickFault → Type 0

@@ -4,10 +4,10 @@ ghost use Rattle.std.specs.Prelude.{◌≡◌, ◌≢◌, ℕ, IsTrue, IsOk, IfO
 ghost use Rattle.std.specs.FinMap as finite;
 ghost use Rattle.rpm_outside.specs.Causes.{HasCauseAt};
 ghost use Rattle.rpm_outside.specs.Looks.{Looks};
-ghost use Rattle.rpm_db.specs.State.{Package, Bad, packages, package_of};
+ghost use Rattle.rpm_db.specs.State.{Package, Bad, packages, package_of, above};
 ghost use Rattle.rpm_db.specs.Database.{Keeps, holds, cost, cost_to};
 ghost use Rattle.rpm_select.specs.Selections.{picks, takes_bad, is_elsewhere};
-ghost use Rattle.rpm_select.specs.Picks.{NextIs, AnyIs, above, cost_after, ReadsOwn, is_broken};
+ghost use Rattle.rpm_select.specs.Picks.{NextIs, AnyIs, cost_after, ReadsOwn, is_broken};
 ghost use Rattle.rpm_select.specs.inner.Single.{OneIs, TakenIs, IsNumbered};
 
 use crate::rows::takes_header;
