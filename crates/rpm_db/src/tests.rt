@@ -106,13 +106,17 @@ fn file(alloc: Global) -> Result<Vec<u8>, AllocError> {
     Ok(pages)
 }
 
-#[test]
-fn the_first_verdict_counts(rt: HostRuntime) -> Result<(), Fail> {
-    let alloc = rt.alloc();
+// What verifying a number of the file says.
+fn verified(alloc: Global, n: u32) -> Result<Result<Verdict, GetFault>, AllocError> {
     let mut disk = MemDisk::new(alloc, &file(alloc)?, &[], &[])?;
     let Ok(db) = Db::open_unindexed(alloc, &mut disk) else {
-        return Err("open")?;
+        return Err(AllocError);
     };
+    Ok(db.verify(alloc, &mut disk, n))
+}
+
+#[test]
+fn the_first_verdict_counts(rt: HostRuntime) -> Result<(), Fail> {
     for (n, expected) in [
         (0, Err(GetFault::NoSuch)),
         (1, Ok(Verdict::Sound)),
@@ -126,31 +130,27 @@ fn the_first_verdict_counts(rt: HostRuntime) -> Result<(), Fail> {
         (7, Ok(Verdict::Sound)),
         (8, Err(GetFault::NoSuch)),
     ] {
-        let verdict = db.verify(alloc, &mut disk, n);
-        assert!(rt; verdict == expected, "{n}");
+        assert!(rt; verified(rt.alloc(), n)? == expected, "{n}");
     }
     Ok(())
 }
 
-// What a number gives, by its own bytes and by those that it is read from: the bytes are compared with these.
-fn gives(given: Result<Vec<u8>, GetFault>, expected: Result<&[u8], GetFault>) -> bool {
-    match (given, expected) {
-        (Ok(bytes), Ok(wanted)) => bytes.as_slice() == wanted,
-        (Err(fault), Err(wanted)) => fault == wanted,
-        _ => false,
+// Whether a number gives these bytes, or this fault.
+fn gives(alloc: Global, n: u32, expected: Result<&[u8], GetFault>) -> Result<bool, AllocError> {
+    let mut disk = MemDisk::new(alloc, &file(alloc)?, &[], &[])?;
+    let Ok(db) = Db::open_unindexed(alloc, &mut disk) else {
+        return Err(AllocError);
+    };
+    match (db.get(alloc, &mut disk, n), expected) {
+        (Ok(bytes), Ok(wanted)) => Ok(bytes.as_slice() == wanted),
+        (Err(fault), Err(wanted)) => Ok(fault == wanted),
+        _ => Ok(false),
     }
 }
 
 #[test]
 fn packages_are_read(rt: HostRuntime) -> Result<(), Fail> {
     let alloc = rt.alloc();
-    let mut disk = MemDisk::new(alloc, &file(alloc)?, &[], &[])?;
-    let Ok(db) = Db::open_unindexed(alloc, &mut disk) else {
-        return Err("open")?;
-    };
-    assert!(rt; !db.is_blank() && !db.is_indexed() && !db.is_stopped());
-    assert!(rt; db.next_number() == 8 && db.next_above(2) == Some(3) && db.next_above(7).is_none());
-    assert_eq!(rt; disk.bytes_read(File::Pkg), 4096);
     let table: [(u32, Result<&[u8], GetFault>); 4] = [
         (1, Ok(&PLAIN)),
         (3, Err(GetFault::Bad)),
@@ -158,10 +158,19 @@ fn packages_are_read(rt: HostRuntime) -> Result<(), Fail> {
         (9, Err(GetFault::NoSuch)),
     ];
     for (n, expected) in table {
-        assert!(rt; gives(db.get(alloc, &mut disk, n), expected), "{n}");
+        assert!(rt; gives(alloc, n, expected)?, "{n}");
     }
-    let bytes = db.read(alloc, &mut disk, 3);
-    assert!(rt; gives(bytes, Ok(b"no header")));
+    let mut disk = MemDisk::new(alloc, &file(alloc)?, &[], &[])?;
+    let Ok(db) = Db::open_unindexed(alloc, &mut disk) else {
+        return Err("open")?;
+    };
+    assert!(rt; !db.is_blank() && !db.is_indexed() && !db.is_stopped());
+    assert!(rt; db.next_number() == 8 && db.next_above(2) == Some(3) && db.next_above(7).is_none());
+    assert_eq!(rt; disk.bytes_read(File::Pkg), 4096);
+    let Ok(bytes) = db.read(alloc, &mut disk, 3) else {
+        return Err("read")?;
+    };
+    assert_eq!(rt; bytes.as_slice(), b"no header".as_slice());
     Ok(())
 }
 

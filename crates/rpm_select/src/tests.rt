@@ -1,6 +1,6 @@
 use crate::{Picked, Picker, Selection, glob};
 use rpm_db::Db;
-use rpm_outside::{File, MemDisk};
+use rpm_outside::MemDisk;
 use rpm_version::Capability;
 use std::alloc::{AllocError, Global};
 
@@ -214,6 +214,27 @@ fn globs_match_whole_texts(rt: HostRuntime) {
     }
 }
 
+// The number that is picked next above a number, and whether it can be read.
+fn picked_after(
+    alloc: Global,
+    selection: &Selection<'_>,
+    n: u32,
+) -> Result<Option<(u32, bool)>, AllocError> {
+    let mut disk = packages(alloc)?;
+    let Ok(db) = Db::open_unindexed(alloc, &mut disk) else {
+        return Err(AllocError);
+    };
+    let Ok(mut picker) = Picker::new(alloc, &db, &mut disk, selection) else {
+        return Err(AllocError);
+    };
+    match picker.next_after(alloc, &db, &mut disk, selection, n) {
+        Ok(Some(Picked::Good { number, .. })) => Ok(Some((number, true))),
+        Ok(Some(Picked::Bad { number })) => Ok(Some((number, false))),
+        Ok(None) => Ok(None),
+        Err(_) => Err(AllocError),
+    }
+}
+
 // Whether exactly these numbers are picked above a number; the fourth, and no other, can't be read.
 fn are_picked(
     alloc: Global,
@@ -221,28 +242,14 @@ fn are_picked(
     above: u32,
     expected: &[u32],
 ) -> Result<bool, AllocError> {
-    let mut disk = packages(alloc)?;
-    let Ok(db) = Db::open_unindexed(alloc, &mut disk) else {
-        return Ok(false);
-    };
-    let Ok(mut picker) = Picker::new(alloc, &db, &mut disk, selection) else {
-        return Ok(false);
-    };
     let mut number = above;
     for want in expected {
-        number = match picker.next_after(alloc, &db, &mut disk, selection, number) {
-            Ok(Some(Picked::Good { number, .. })) if number != 4 => number,
-            Ok(Some(Picked::Bad { number })) if number == 4 => number,
+        match picked_after(alloc, selection, number)? {
+            Some((next, is_good)) if next == *want && is_good == (next != 4) => number = next,
             _ => return Ok(false),
-        };
-        if number != *want {
-            return Ok(false);
         }
     }
-    match picker.next_after(alloc, &db, &mut disk, selection, number) {
-        Ok(None) => Ok(true),
-        _ => Ok(false),
-    }
+    Ok(picked_after(alloc, selection, number)?.is_none())
 }
 
 // A question by its letter.
@@ -327,6 +334,30 @@ fn numbers_are_picked_above_a_number(rt: HostRuntime) -> Result<(), AllocError> 
     Ok(())
 }
 
+// Whether a package up to this number has the group.
+fn any_up_to(alloc: Global, n: u32) -> Result<bool, AllocError> {
+    let group = Selection::Group("Shells");
+    let mut disk = packages(alloc)?;
+    let Ok(db) = Db::open_unindexed(alloc, &mut disk) else {
+        return Err(AllocError);
+    };
+    let Ok(mut picker) = Picker::new(alloc, &db, &mut disk, &group) else {
+        return Err(AllocError);
+    };
+    match picker.any_to(alloc, &db, &mut disk, &group, n) {
+        Ok(any) => Ok(any),
+        Err(_) => Err(AllocError),
+    }
+}
+
+#[test]
+fn numbers_are_looked_for_up_to_a_number(rt: HostRuntime) -> Result<(), AllocError> {
+    for (n, expected) in [(0, false), (1, false), (2, true), (9, true)] {
+        assert!(rt; any_up_to(rt.alloc(), n)? == expected, "up to {n}");
+    }
+    Ok(())
+}
+
 #[test]
 fn a_header_comes_without_what_follows_it(rt: HostRuntime) -> Result<(), AllocError> {
     let alloc = rt.alloc();
@@ -338,10 +369,6 @@ fn a_header_comes_without_what_follows_it(rt: HostRuntime) -> Result<(), AllocEr
     let Ok(mut picker) = Picker::new(alloc, &db, &mut disk, &group) else {
         return Err(AllocError);
     };
-    for (n, expected) in [(0, false), (1, false), (2, true), (9, true)] {
-        let any = picker.any_to(alloc, &db, &mut disk, &group, n);
-        assert!(rt; any == Ok(expected), "up to {n}");
-    }
     match picker.next_after(alloc, &db, &mut disk, &group, 0) {
         Ok(Some(Picked::Good { blob, .. })) => {
             let own = bash(alloc)?;
