@@ -52,7 +52,8 @@ abbrev pub BeforeOrAfter : Files → Files → Files → Type 0
 BeforeOrAfter before after image = (reopened image ≡ before) ⊎ (reopened image ≡ after)
 
 -- a call that changed nothing at all
-pub record Unwritten {D : Type 0} (tells : Bool) (files : D → Files) (left_since : D → ℕ → Files → Type 0) (moment : D → ℕ) (bytes_read : D → File → ℕ) (old new : D) : Type 0 where
+pub record Unwritten {D : Type 0} (tells : Bool) (files : D → Files) (left_since : D → ℕ → Files → Type 0) (moment : D → ℕ) (bytes_read : D → File
+    → ℕ) (old new : D) : Type 0 where
   pub untouched : IsTrue tells → Untouched (files old) (files new) (left_since old) (left_since new)
   pub moment_stays : moment new ≡ moment old
   pub reads : (file : File) → bytes_read new file ≡ bytes_read old file

@@ -7,7 +7,8 @@ use Rattle.rpm_outside.specs.Files.{Files}
 use Rattle.rpm_outside.specs.Crash.{Untouched}
 
 -- the files, their images and the moment stay, and of the other two files nothing is read
-pub record LooksAtLog {D : Type 0} (tells : Bool) (files : D → Files) (left_since : D → ℕ → Files → Type 0) (moment : D → ℕ) (bytes_read : D → File → ℕ) (follows : D → D → Type 0) (old new : D) : Type 0 where
+pub record LooksAtLog {D : Type 0} (tells : Bool) (files : D → Files) (left_since : D → ℕ → Files → Type 0) (moment : D → ℕ) (bytes_read : D → File
+    → ℕ) (follows : D → D → Type 0) (old new : D) : Type 0 where
   pub untouched : IsTrue tells → Untouched (files old) (files new) (left_since old) (left_since new)
   pub moment_stays : moment new ≡ moment old
   pub pkg : bytes_read new Pkg ≡ bytes_read old Pkg
@@ -22,7 +23,8 @@ pub record ReadsLog {D : Type 0} (moment : D → ℕ) (bytes_read : D → File �
   pub idx : bytes_read new Idx ≡ bytes_read old Idx
   pub goes_on : follows old new
 
-module _ {D : Type 0} (tells : Bool) (files : D → Files) (left_since : D → ℕ → Files → Type 0) (moment : D → ℕ) (bytes_read : D → File → ℕ) (follows : D → D → Type 0) where
+module _ {D : Type 0} (tells : Bool) (files : D → Files) (left_since : D → ℕ → Files → Type 0) (moment : D → ℕ) (bytes_read : D → File → ℕ)
+    (follows : D → D → Type 0) where
   pub log_looks_none : ((d : D) → follows d d) → (d : D) → LooksAtLog tells files left_since moment bytes_read follows d d
   log_looks_none same d = record {
     untouched = λ told. record { same = refl; images = λ t i x. x; kept = λ t i x. x };
@@ -34,7 +36,8 @@ module _ {D : Type 0} (tells : Bool) (files : D → Files) (left_since : D → �
   }
 
   pub log_looks_then : ((a b c : D) → follows a b → follows b c → follows a c) → (a b c : D)
-      → LooksAtLog tells files left_since moment bytes_read follows a b → LooksAtLog tells files left_since moment bytes_read follows b c → LooksAtLog tells files left_since moment bytes_read follows a c
+      → LooksAtLog tells files left_since moment bytes_read follows a b → LooksAtLog tells files left_since moment bytes_read follows b c
+      → LooksAtLog tells files left_since moment bytes_read follows a c
   log_looks_then trans a b c one two = record {
     untouched = λ told.
         let f = one.untouched told in
@@ -51,8 +54,15 @@ module _ {D : Type 0} (moment : D → ℕ) (bytes_read : D → File → ℕ) (fo
   pub reads_none : ((d : D) → follows d d) → (d : D) → ReadsLog moment bytes_read follows d d
   reads_none same d = record { later = omega arith; pkg = refl; idx = refl; goes_on = same d }
 
-  pub reads_then : ((a b c : D) → follows a b → follows b c → follows a c) → (a b c : D) → ReadsLog moment bytes_read follows a b → ReadsLog moment bytes_read follows b c → ReadsLog moment bytes_read follows a c
-  reads_then trans a b c one two = record { later = omega (arith, one.later, two.later); pkg = two.pkg ∙ one.pkg; idx = two.idx ∙ one.idx; goes_on = trans a b c one.goes_on two.goes_on }
+  pub reads_then : ((a b c : D) → follows a b → follows b c → follows a c) → (a b c : D) → ReadsLog moment bytes_read follows a b
+      → ReadsLog moment bytes_read follows b c → ReadsLog moment bytes_read follows a c
+  reads_then trans a b c one two = record {
+    later = omega (arith, one.later, two.later);
+    pkg = two.pkg ∙ one.pkg;
+    idx = two.idx ∙ one.idx;
+    goes_on =
+        trans a b c one.goes_on two.goes_on;
+  }
 
 -- of no file anything is read
 pub record ReadsNothing {D : Type 0} (moment : D → ℕ) (bytes_read : D → File → ℕ) (follows : D → D → Type 0) (old new : D) : Type 0 where
@@ -64,5 +74,11 @@ module _ {D : Type 0} (moment : D → ℕ) (bytes_read : D → File → ℕ) (fo
   pub nothing_none : ((d : D) → follows d d) → (d : D) → ReadsNothing moment bytes_read follows d d
   nothing_none same d = record { later = omega arith; same = λ file. refl; goes_on = same d }
 
-  pub nothing_then : ((a b c : D) → follows a b → follows b c → follows a c) → (a b c : D) → ReadsNothing moment bytes_read follows a b → ReadsNothing moment bytes_read follows b c → ReadsNothing moment bytes_read follows a c
-  nothing_then trans a b c one two = record { later = omega (arith, one.later, two.later); same = λ file. two.same file ∙ one.same file; goes_on = trans a b c one.goes_on two.goes_on }
+  pub nothing_then : ((a b c : D) → follows a b → follows b c → follows a c) → (a b c : D) → ReadsNothing moment bytes_read follows a b
+      → ReadsNothing moment bytes_read follows b c → ReadsNothing moment bytes_read follows a c
+  nothing_then trans a b c one two = record {
+    later = omega (arith, one.later, two.later);
+    same = λ file. two.same file ∙ one.same file;
+    goes_on =
+        trans a b c one.goes_on two.goes_on;
+  }

@@ -35,3 +35,10 @@ RecoverSays state (Ok true) = IsOpen state
 RecoverSays state (Ok false) = state ≡ Closed
 RecoverSays state (Err (BadLog unit)) = state ≡ Malformed unit
 RecoverSays state (Err DiskFault) = Unit {0}
+
+-- the files stay as they read where there was nothing to finish, or nothing that could be
+abbrev pub RecoverKeeps : Files → Files → Result Bool RecoverFault → Type 0
+RecoverKeeps old new (Ok true) = Unit {0}
+RecoverKeeps old new (Ok false) = new ≡ old
+RecoverKeeps old new (Err (BadLog unit)) = new ≡ old
+RecoverKeeps old new (Err DiskFault) = Unit {0}

@@ -44,7 +44,8 @@ fn read_below<D: Disk>(
 ) -> Result<(), Failed>
     requires whole { length into.old % 16 ≡ 0 }
     requires end { IsTrue D.tells → end ≡ length (file_of file (D.files below.old)) }
-    ensures units { OnOk result (IsTrue D.tells → (k : ℕ) → k < length into.old / 16 → unit_in into.new k ≡ unit_at (file_of file (D.files below.old)) (unit + k)) }
+    ensures units { OnOk result (IsTrue D.tells → (k : ℕ) → k < length into.old / 16 → unit_in into.new k ≡ unit_at (file_of file (D.files below.old))
+        (unit + k)) }
     ensures looks { LooksBelow D.tells D.files D.left_since D.moment D.bytes_read D.follows file (length into.old) below.old below.new }
     ensures cause { HasCause (D.faults below.old) (D.faults below.new) result }
 {
@@ -65,7 +66,8 @@ fn read_unheld<D: Disk>(
     requires whole { length into.old % 16 ≡ 0 }
     requires room { unit + length into.old / 16 < 2 ^ 64 }
     requires end { IsTrue D.tells → end ≡ length (file_of file (D.files below.old)) }
-    ensures units { OnOk result (IsTrue D.tells → (k : ℕ) → k < length into.old / 16 → is_held pages.now.table.items (unit + k) ≡ false → unit_in into.new k ≡ unit_at (file_of file (D.files below.old)) (unit + k)) }
+    ensures units { OnOk result (IsTrue D.tells → (k : ℕ) → k < length into.old / 16 → is_held pages.now.table.items (unit + k) ≡ false
+        → unit_in into.new k ≡ unit_at (file_of file (D.files below.old)) (unit + k)) }
     ensures looks { LooksBelow D.tells D.files D.left_since D.moment D.bytes_read D.follows file (length into.old) below.old below.new }
     ensures cause { HasCause (D.faults below.old) (D.faults below.new) result }
 {
@@ -85,7 +87,8 @@ pub fn read_over<D: Disk>(
 ) -> Result<(), Failed>
     requires whole { length into.old % 16 ≡ 0 }
     requires within { IsTrue D.tells → unit + length into.old / 16 ≤ length (file_of file (laid_files layers.now (D.files below.old))) }
-    ensures units { OnOk result (IsTrue D.tells → units_of into.new ≡ take (length into.old / 16) (drop unit (file_of file (laid_files layers.now (D.files below.old))))) }
+    ensures units { OnOk result (IsTrue D.tells
+        → units_of into.new ≡ take (length into.old / 16) (drop unit (file_of file (laid_files layers.now (D.files below.old))))) }
     ensures looks { LooksBelow D.tells D.files D.left_since D.moment D.bytes_read D.follows file (length into.old) below.old below.new }
     ensures cause { HasCause (D.faults below.old) (D.faults below.new) result }
 {

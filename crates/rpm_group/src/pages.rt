@@ -39,7 +39,8 @@ impl Pages {
         requires some { 0 < length bytes.now }
         requires whole { length bytes.now % 16 ≡ 0 }
         requires room { unit + length bytes.now / 16 ≤ 2 ^ 28 }
-        ensures ok { OnOk result ((file : Units) → laid self.new.table.items self.new.end file ≡ put unit (units_of bytes.now) (laid self.old.table.items self.old.end file)) }
+        ensures ok { OnOk result ((file : Units) → laid self.new.table.items self.new.end file ≡ put unit (units_of bytes.now)
+            (laid self.old.table.items self.old.end file)) }
         ensures err { OnErr result ((file : Units) → laid self.new.table.items self.new.end file ≡ laid self.old.table.items self.old.end file) }
     {
         let end = unit + bytes.len() as u64 / 16;

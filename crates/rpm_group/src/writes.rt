@@ -68,7 +68,8 @@ pub fn write_run<D: Disk>(
     requires held { AreHeld table.now.items from end }
     requires room { at + (end - from) ≤ 2 ^ 28 }
     requires small { end ≤ 2 ^ 28 }
-    ensures written { OnOk result (IsTrue D.tells → D.files disk.new ≡ with_file file (put at (units_held table.now.items from (end - from)) (file_of file (D.files disk.old))) (D.files disk.old)) }
+    ensures written { OnOk result (IsTrue D.tells
+        → D.files disk.new ≡ with_file file (put at (units_held table.now.items from (end - from)) (file_of file (D.files disk.old))) (D.files disk.old)) }
     ensures images { IsTrue D.tells → LeavesChanged D.moment D.left_since file at (at + (end - from)) disk.old disk.new }
     ensures reads { ReadsNothing D.moment D.bytes_read D.follows disk.old disk.new }
     ensures cause { HasCause (D.faults disk.old) (D.faults disk.new) result }
@@ -95,7 +96,8 @@ pub fn log_run<D: Disk>(
     requires held { AreHeld table.now.items from end }
     requires room { at + 1 + (end - from) ≤ 2 ^ 28 }
     requires small { end ≤ 2 ^ 28 }
-    ensures written { OnOk result (IsTrue D.tells → (head : List ℕ) × IsHeadOf file from (end - from) head × (D.files disk.new ≡ with_file File.Log (put at (head ∷ units_held table.now.items from (end - from)) (D.files disk.old).log) (D.files disk.old))) }
+    ensures written { OnOk result (IsTrue D.tells → (head : List ℕ) × IsHeadOf file from (end - from) head
+        × (D.files disk.new ≡ with_file File.Log (put at (head ∷ units_held table.now.items from (end - from)) (D.files disk.old).log) (D.files disk.old))) }
     ensures images { IsTrue D.tells → LeavesChanged D.moment D.left_since File.Log at (at + 1 + (end - from)) disk.old disk.new }
     ensures reads { ReadsNothing D.moment D.bytes_read D.follows disk.old disk.new }
     ensures cause { HasCause (D.faults disk.old) (D.faults disk.new) result }

@@ -4,7 +4,7 @@ use Rattle.std.specs.List.{Contains, sum_by, flat_map, range_with_len}
 use Rattle.std.proofs.lemmas.List.{get_or_append_left, get_or-append_right, get_or-set_same, get_or-set_other, length-set, get_or-replicate, length-replicate, length_push}
 use Rattle.std.proofs.lemmas.List.Sums.{sum_by_push, sum_by-cons}
 use Rattle.rpm_outside.specs.Files.{Units, units_of, unit_at, bytes_of, blank}
-use Rattle.rpm_outside.specs.Cuts.{length-cut_up}
+use Rattle.rpm_outside.specs.inner.Cuts.{length-cut_up}
 use Rattle.rpm_hindex.specs.Rows.{Row, times, hash_of}
 use Rattle.rpm_hindex.specs.Sizes.{record_units, live_of, is_bucket_count}
 use Rattle.rpm_hindex.specs.Making.{record_of}

@@ -9,8 +9,8 @@ use Rattle.std.proofs.lemmas.Cmp.{nat_cmp_total}
 use Rattle.std.proofs.lemmas.Map.Views.{btree_map_get_iff}
 use Rattle.std.proofs.lemmas.Bool.{cases_Bool, cases_eq, cond-true, cond-false, eqb-true, ltb-true, ltb-false, lt-ltb, and_from, le-leb}
 use Rattle.rpm_outside.specs.Files.{Units, units_of, unit_at, put}
-use Rattle.rpm_outside.specs.Cuts.{length-cut_up}
-use Rattle.rpm_outside.specs.Puts.{put_before, put_inside, put_after}
+use Rattle.rpm_outside.specs.inner.Cuts.{length-cut_up}
+use Rattle.rpm_outside.specs.inner.Puts.{put_before, put_inside, put_after}
 use Rattle.rpm_hindex.specs.declared.planning.Patch.{Patch}
 use Rattle.rpm_hindex.specs.declared.planning.Work.{Work}
 use Rattle.rpm_hindex.specs.declared.planning.Work.TheVariants.{InPlace, Scratch}

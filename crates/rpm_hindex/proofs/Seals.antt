@@ -1,8 +1,8 @@
 -- A file whose units behind unit 0 stay.
 use Rattle.std.proofs.Common.{◌≡◌, ℕ, ◌+◌, ◌/◌, ◌%◌, ◌<◌, ◌≤◌, max, List, [], ◌∷◌, length, take, refl, sym, ap, ◌∙◌, arith, subst}
 use Rattle.rpm_outside.specs.Files.{Units, unit_at, put, units_of}
-use Rattle.rpm_outside.specs.Cuts.{length-cut_up, unit_at-cut_up}
-use Rattle.rpm_outside.specs.Puts.{length-put, put_before, put_inside, put_after}
+use Rattle.rpm_outside.specs.inner.Cuts.{length-cut_up, unit_at-cut_up}
+use Rattle.rpm_outside.specs.inner.Puts.{length-put, put_before, put_inside, put_after}
 use Rattle.rpm_hindex.specs.Words.{word}
 use Rattle.rpm_hindex.specs.Index.{index_in, records, places_of}
 use Rattle.rpm_hindex.specs.Whole.{IsWhole, IsWellFormed}

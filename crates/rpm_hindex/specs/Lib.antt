@@ -10,6 +10,6 @@ pub mod Rewrites
 pub mod Plans
 pub mod Changes
 pub mod State
-pub mod Disks
+pub mod Images
 pub mod Records
 pub mod Answers

@@ -11,7 +11,8 @@ ghost use Rattle.rpm_hindex.specs.Sizes.{first_record};
 ghost use Rattle.rpm_hindex.specs.Index.{Index, index_in, chain, follow, is_link, is_sound, is_placed, next_at, length_at, units_at, row_at, bucket_unit, records};
 ghost use Rattle.rpm_hindex.specs.Whole.{IsWellFormed};
 ghost use Rattle.rpm_hindex.specs.State.{State, Keeps, is_in_order, buckets_of};
-ghost use Rattle.rpm_hindex.specs.Disks.{LooksAt, Reads};
+ghost use Rattle.rpm_outside.specs.declared.disk.File.TheVariants.{Idx};
+ghost use Rattle.rpm_outside.specs.Looks.{Looks, Reads};
 ghost use Rattle.rpm_hindex.specs.Records.{IsOpen, IsRecord};
 ghost use Rattle.rpm_hindex.specs.Answers.{AsOften, AreHits, FindIs, IsFaultOf, ChainCosts, AddsHit, has_key, IsRising, times_hit};
 
@@ -69,7 +70,7 @@ pub fn read_bucket<D: Disk>(disk: &mut D, extent: Extent, bucket: u32) -> Result
     ensures word { IfOk result (λ at. IsTrue D.tells → (at ≡ (index_in extent.buckets (D.files disk.old).idx).head bucket) × (is_link (index_in extent.buckets (D.files disk.old).idx) at ≡ true)) }
     ensures within { IfOk result (λ at. 0 < at → at < extent.used) }
     ensures fault { IfErr result (λ e. IsTrue D.tells → IsFaultOf (chain (index_in extent.buckets (D.files disk.old).idx) bucket) e) }
-    ensures looks { LooksAt D.tells D.files D.left_since D.moment D.bytes_read D.follows 16 disk.old disk.new }
+    ensures looks { Looks D.tells D.files D.left_since D.moment D.bytes_read D.follows Idx 16 disk.old disk.new }
     ensures cause { HasCauseAt (result ≡ Err FindFault.DiskFault) (D.faults disk.old) (D.faults disk.new) }
 {
     let unit = 2 + bucket as u64 / 4;
@@ -103,7 +104,7 @@ pub fn read_record<D: Disk>(
     ensures record { IfOk result (λ r. IsTrue D.tells → IsRecord (index_in extent.buckets (D.files disk.old).idx) bucket at r) }
     ensures fault { IfErr result (λ e. IsTrue D.tells → IsFaultOf (follow (index_in extent.buckets (D.files disk.old).idx) bucket at at) e) }
     ensures cost { IsTrue D.tells → is_sound (index_in extent.buckets (D.files disk.old).idx) bucket at ≡ true → D.bytes_read disk.new File.Idx ≤ D.bytes_read disk.old File.Idx + 16 * units_at (unit_at (D.files disk.old).idx) at }
-    ensures looks { Reads D.tells D.files D.left_since D.moment D.bytes_read D.follows disk.old disk.new }
+    ensures looks { Reads D.tells D.files D.left_since D.moment D.bytes_read D.follows Idx disk.old disk.new }
     ensures cause { HasCauseAt (result ≡ Err FindFault.DiskFault) (D.faults disk.old) (D.faults disk.new) }
 {
     let Ok(head) = read_unit(disk, at as u64) else {
@@ -170,7 +171,7 @@ fn collect<D: Disk>(
     requires within { 0 < from → from < extent.used }
     ensures told { IsTrue D.tells → FindIs (λ places hits. AsOften kind key.now (map (row_at (unit_at (D.files disk.old).idx)) places) hits.items) (follow (index_in extent.buckets (D.files disk.old).idx) (hash_of kind key.now % extent.buckets) from from) result }
     ensures cost { IsTrue D.tells → ChainCosts (follow (index_in extent.buckets (D.files disk.old).idx) (hash_of kind key.now % extent.buckets) from from) (units_at (unit_at (D.files disk.old).idx)) (D.bytes_read disk.old File.Idx) (D.bytes_read disk.new File.Idx) }
-    ensures looks { Reads D.tells D.files D.left_since D.moment D.bytes_read D.follows disk.old disk.new }
+    ensures looks { Reads D.tells D.files D.left_since D.moment D.bytes_read D.follows Idx disk.old disk.new }
     ensures cause { HasCauseAt (result ≡ Err FindFault.DiskFault) (D.faults disk.old) (D.faults disk.new) }
 {
     let bucket = bucket_of(kind, key, extent.buckets);
@@ -202,7 +203,7 @@ fn gather<D: Disk>(
     requires open { IsTrue D.tells → IsOpen extent (D.files disk.old).idx }
     ensures told { IsTrue D.tells → FindIs (λ places hits. AsOften kind key.now (map (row_at (unit_at (D.files disk.old).idx)) places) hits.items) (chain (index_in extent.buckets (D.files disk.old).idx) (hash_of kind key.now % extent.buckets)) result }
     ensures cost { IsTrue D.tells → ChainCosts (chain (index_in extent.buckets (D.files disk.old).idx) (hash_of kind key.now % extent.buckets)) (units_at (unit_at (D.files disk.old).idx)) (D.bytes_read disk.old File.Idx + 16) (D.bytes_read disk.new File.Idx) }
-    ensures looks { Reads D.tells D.files D.left_since D.moment D.bytes_read D.follows disk.old disk.new }
+    ensures looks { Reads D.tells D.files D.left_since D.moment D.bytes_read D.follows Idx disk.old disk.new }
     ensures cause { HasCauseAt (result ≡ Err FindFault.DiskFault) (D.faults disk.old) (D.faults disk.new) }
 {
     let bucket = bucket_of(kind, key, extent.buckets);
@@ -256,7 +257,7 @@ impl Hindex {
         ensures told { IsTrue D.tells → FindIs (λ places hits. AreHits kind key.now (map (row_at (unit_at (D.files disk.old).idx)) places) hits) (chain (index_in (buckets_of self.now.first) (D.files disk.old).idx) (hash_of kind key.now % buckets_of self.now.first)) result }
         ensures rows { IfOk result (λ hits. IsTrue D.tells → IsWellFormed (buckets_of self.now.first) (D.files disk.old).idx → AreHits kind key.now (records (buckets_of self.now.first) (D.files disk.old).idx) hits) }
         ensures cost { IsTrue D.tells → ChainCosts (chain (index_in (buckets_of self.now.first) (D.files disk.old).idx) (hash_of kind key.now % buckets_of self.now.first)) (units_at (unit_at (D.files disk.old).idx)) (D.bytes_read disk.old File.Idx + 16) (D.bytes_read disk.new File.Idx) }
-        ensures looks { Reads D.tells D.files D.left_since D.moment D.bytes_read D.follows disk.old disk.new }
+        ensures looks { Reads D.tells D.files D.left_since D.moment D.bytes_read D.follows Idx disk.old disk.new }
         ensures cause { HasCauseAt (result ≡ Err FindFault.DiskFault) (D.faults disk.old) (D.faults disk.new) }
     {
         match gather(alloc, disk, self.extent(), kind, key) {

@@ -4,7 +4,8 @@ ghost use Rattle.std.specs.Prelude.{◌≡◌, ℕ, ◌+◌, ◌*◌, ◌/◌, �
 ghost use Rattle.std.specs.Ordering.{nat_cmp};
 ghost use Rattle.std.specs.BTreeMap.{get};
 ghost use Rattle.rpm_outside.specs.Causes.{HasCauseAt};
-ghost use Rattle.rpm_hindex.specs.Disks.{Reads};
+ghost use Rattle.rpm_outside.specs.declared.disk.File.TheVariants.{Idx};
+ghost use Rattle.rpm_outside.specs.Looks.{Reads};
 ghost use Rattle.rpm_hindex.specs.Records.{IsOpen};
 ghost use Rattle.rpm_hindex.specs.Rows.{same_row};
 ghost use Rattle.rpm_hindex.specs.Packed.{row_nth};
@@ -139,7 +140,7 @@ impl Change {
         ensures cuts { OnOk result (IsTrue D.tells → IsWellFormed self.old.extent.buckets (D.files disk.old).idx → length self.old.tail.items ≡ 0 → IsCut self.old (D.files disk.old).idx → IsCut self.new (D.files disk.old).idx) }
         ensures honest { OnOk result (IsTrue D.tells → IsHonest self.old (D.files disk.old).idx → IsHonest self.new (D.files disk.old).idx) }
         ensures bad { IfErr result (λ e. IsTrue D.tells → IsHonest self.old (D.files disk.old).idx → IsBad self.old.extent.buckets (D.files disk.old).idx e) }
-        ensures looks { Reads D.tells D.files D.left_since D.moment D.bytes_read D.follows disk.old disk.new }
+        ensures looks { Reads D.tells D.files D.left_since D.moment D.bytes_read D.follows Idx disk.old disk.new }
         ensures cause { HasCauseAt (result ≡ Err PrepareFault.DiskFault) (D.faults disk.old) (D.faults disk.new) }
     {
         let bucket = bucket_of(row.kind, row.key, self.extent.buckets);
@@ -188,7 +189,7 @@ impl Change {
         ensures adds { OnOk result (IsTrue D.tells → IsWhole self.old.records self.old.live (changing self.old (D.files disk.old).idx) → AddsRows self.old self.new (D.files disk.old).idx ((record { kind = row.entry.kind; key = row.entry.key.now; number = row.entry.number; place = row.entry.place }) ∷ [])) }
         ensures honest { OnOk result (IsTrue D.tells → IsHonest self.old (D.files disk.old).idx → IsHonest self.new (D.files disk.old).idx) }
         ensures bad { IfErr result (λ e. IsTrue D.tells → IsHonest self.old (D.files disk.old).idx → IsBad self.old.extent.buckets (D.files disk.old).idx e) }
-        ensures looks { Reads D.tells D.files D.left_since D.moment D.bytes_read D.follows disk.old disk.new }
+        ensures looks { Reads D.tells D.files D.left_since D.moment D.bytes_read D.follows Idx disk.old disk.new }
         ensures cause { HasCauseAt (result ≡ Err PrepareFault.DiskFault) (D.faults disk.old) (D.faults disk.new) }
     {
         let bucket = bucket_of(row.kind, row.key, self.extent.buckets);

@@ -8,7 +8,8 @@ ghost use Rattle.rpm_outside.specs.Files.{unit_at};
 ghost use Rattle.rpm_outside.specs.Causes.{HasCauseAt};
 ghost use Rattle.rpm_hindex.specs.Index.{index_in, chain, follow};
 ghost use Rattle.rpm_hindex.specs.Records.{IsOpen};
-ghost use Rattle.rpm_hindex.specs.Disks.{Reads};
+ghost use Rattle.rpm_outside.specs.declared.disk.File.TheVariants.{Idx};
+ghost use Rattle.rpm_outside.specs.Looks.{Reads};
 ghost use Rattle.rpm_hindex.specs.Answers.{FindIs};
 ghost use Rattle.rpm_hindex.specs.Changes.{AreLinks, CanRelink, is_kept};
 
@@ -56,7 +57,7 @@ pub fn read_links<D: Disk>(
     requires open { IsTrue D.tells → IsOpen extent (D.files disk.old).idx }
     ensures relink { IfOk result (λ v. CanRelink extent.used v.items) }
     ensures told { IsTrue D.tells → FindIs (λ places v. AreLinks (unit_at (D.files disk.old).idx) (filter (is_kept (λ p. get nat_cmp dropped.now p)) places) v.items) (chain (index_in extent.buckets (D.files disk.old).idx) bucket) result }
-    ensures looks { Reads D.tells D.files D.left_since D.moment D.bytes_read D.follows disk.old disk.new }
+    ensures looks { Reads D.tells D.files D.left_since D.moment D.bytes_read D.follows Idx disk.old disk.new }
     ensures cause { HasCauseAt (result ≡ Err FindFault.DiskFault) (D.faults disk.old) (D.faults disk.new) }
 {
     match read_bucket(disk, extent, bucket) {
@@ -80,7 +81,7 @@ fn follow_links<D: Disk>(
     requires within { 0 < from → from < extent.used }
     ensures relink { IfOk result (λ v. CanRelink extent.used v.items) }
     ensures told { IsTrue D.tells → FindIs (λ places v. AreLinks (unit_at (D.files disk.old).idx) (filter (is_kept (λ p. get nat_cmp dropped.now p)) places) v.items) (follow (index_in extent.buckets (D.files disk.old).idx) bucket from from) result }
-    ensures looks { Reads D.tells D.files D.left_since D.moment D.bytes_read D.follows disk.old disk.new }
+    ensures looks { Reads D.tells D.files D.left_since D.moment D.bytes_read D.follows Idx disk.old disk.new }
     ensures cause { HasCauseAt (result ≡ Err FindFault.DiskFault) (D.faults disk.old) (D.faults disk.new) }
 {
     let mut links = Vec::new(alloc);

@@ -5,7 +5,8 @@ ghost use Rattle.std.specs.Ordering.{nat_cmp};
 ghost use Rattle.std.specs.BTreeMap.{get};
 ghost use Rattle.rpm_outside.specs.Files.{Units};
 ghost use Rattle.rpm_outside.specs.Causes.{HasCauseAt};
-ghost use Rattle.rpm_hindex.specs.Disks.{LooksAt};
+ghost use Rattle.rpm_outside.specs.declared.disk.File.TheVariants.{Idx};
+ghost use Rattle.rpm_outside.specs.Looks.{Looks};
 ghost use Rattle.rpm_hindex.specs.Words.{word};
 ghost use Rattle.rpm_hindex.specs.Index.{bucket_unit};
 ghost use Rattle.rpm_hindex.specs.Changes.{Puts, PutsOne, HasWord, SetsBucket, SetsNext, CanRelink, unit_after, PutsWithin, Unlinks, IsOther, IsWithout, first_at};
@@ -64,7 +65,7 @@ pub fn words_of<D: Disk>(
     requires { IsTrue D.tells → bucket_unit bucket < length (D.files disk.old).idx }
     ensures words { IfOk result (λ w. IsTrue D.tells → w ≡ unit_after (λ q. get nat_cmp units.now q) (D.files disk.old).idx (bucket_unit bucket)) }
     ensures fault { IfErr result (λ e. e ≡ PrepareFault.DiskFault) }
-    ensures looks { LooksAt D.tells D.files D.left_since D.moment D.bytes_read D.follows 16 disk.old disk.new }
+    ensures looks { Looks D.tells D.files D.left_since D.moment D.bytes_read D.follows Idx 16 disk.old disk.new }
     ensures cause { HasCauseAt (result ≡ Err PrepareFault.DiskFault) (D.faults disk.old) (D.faults disk.new) }
 {
     let unit = 2 + bucket / 4;
@@ -89,7 +90,7 @@ fn set_bucket<D: Disk>(
     ensures other { IfErr result (λ e. IsOther e) }
     ensures sets { OnOk result (IsTrue D.tells → SetsBucket (D.files disk.old).idx (λ q. get nat_cmp units.old q) (λ q. get nat_cmp units.new q) bucket at) }
     ensures outside { IfErr result (λ e. IsWithout e) }
-    ensures looks { LooksAt D.tells D.files D.left_since D.moment D.bytes_read D.follows 16 disk.old disk.new }
+    ensures looks { Looks D.tells D.files D.left_since D.moment D.bytes_read D.follows Idx 16 disk.old disk.new }
     ensures cause { HasCauseAt (result ≡ Err PrepareFault.DiskFault) (D.faults disk.old) (D.faults disk.new) }
 {
     let words = match words_of(units, disk, bucket) {
@@ -151,7 +152,7 @@ pub fn unlink<D: Disk>(
     ensures other { IfErr result (λ e. IsOther e) }
     ensures sets { OnOk result (IsTrue D.tells → Unlinks (D.files disk.old).idx (λ q. get nat_cmp units.old q) (λ q. get nat_cmp units.new q) bucket links.now at) }
     ensures outside { IfErr result (λ e. IsWithout e) }
-    ensures looks { LooksAt D.tells D.files D.left_since D.moment D.bytes_read D.follows 16 disk.old disk.new }
+    ensures looks { Looks D.tells D.files D.left_since D.moment D.bytes_read D.follows Idx 16 disk.old disk.new }
     ensures cause { HasCauseAt (result ≡ Err PrepareFault.DiskFault) (D.faults disk.old) (D.faults disk.new) }
 {
     let next = place_behind(links, at);

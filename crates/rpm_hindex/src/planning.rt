@@ -7,7 +7,8 @@ ghost use Rattle.std.specs.BTreeMap.{get, keys};
 ghost use Rattle.std.specs.List.Sorted.{IsStrictlySortedBy};
 ghost use Rattle.rpm_outside.specs.Files.{Units};
 ghost use Rattle.rpm_outside.specs.Causes.{HasCauseAt};
-ghost use Rattle.rpm_hindex.specs.Disks.{Reads};
+ghost use Rattle.rpm_outside.specs.declared.disk.File.TheVariants.{Idx};
+ghost use Rattle.rpm_outside.specs.Looks.{Reads};
 ghost use Rattle.rpm_hindex.specs.Records.{IsOpen};
 ghost use Rattle.rpm_hindex.specs.Sizes.{first_record, live_of};
 ghost use Rattle.rpm_hindex.specs.Plans.{LeavesOrder, CanWrite};
@@ -77,7 +78,7 @@ pub fn drop_rows<D: Disk>(
     ensures cuts { OnOk result (IsTrue D.tells → IsWellFormed change.old.extent.buckets (D.files disk.old).idx → length change.old.tail.items ≡ 0 → IsCut change.old (D.files disk.old).idx → IsCut change.new (D.files disk.old).idx) }
     ensures honest { OnOk result (IsTrue D.tells → IsHonest change.old (D.files disk.old).idx → IsHonest change.new (D.files disk.old).idx) }
     ensures bad { IfErr result (λ e. IsTrue D.tells → IsHonest change.old (D.files disk.old).idx → IsBad change.old.extent.buckets (D.files disk.old).idx e) }
-    ensures looks { Reads D.tells D.files D.left_since D.moment D.bytes_read D.follows disk.old disk.new }
+    ensures looks { Reads D.tells D.files D.left_since D.moment D.bytes_read D.follows Idx disk.old disk.new }
     ensures cause { HasCauseAt (result ≡ Err PrepareFault.DiskFault) (D.faults disk.old) (D.faults disk.new) }
 {
     for i in 0..rows.len() {
@@ -103,7 +104,7 @@ pub fn add_rows<D: Disk>(disk: &mut D, change: &mut Change, rows: &Rows) -> Resu
     ensures adds { OnOk result (IsTrue D.tells → IsWhole change.old.records change.old.live (changing change.old (D.files disk.old).idx) → AddsRows change.old change.new (D.files disk.old).idx rows.now) }
     ensures honest { OnOk result (IsTrue D.tells → IsHonest change.old (D.files disk.old).idx → IsHonest change.new (D.files disk.old).idx) }
     ensures bad { IfErr result (λ e. IsTrue D.tells → IsHonest change.old (D.files disk.old).idx → IsBad change.old.extent.buckets (D.files disk.old).idx e) }
-    ensures looks { Reads D.tells D.files D.left_since D.moment D.bytes_read D.follows disk.old disk.new }
+    ensures looks { Reads D.tells D.files D.left_since D.moment D.bytes_read D.follows Idx disk.old disk.new }
     ensures cause { HasCauseAt (result ≡ Err PrepareFault.DiskFault) (D.faults disk.old) (D.faults disk.new) }
 {
     for i in 0..rows.len() {
@@ -203,7 +204,7 @@ fn kept_rows<D: Disk>(
     ensures other { IfErr result (λ e. IsOther e) }
     ensures rows { IfOk result (λ rows. IsTrue D.tells → rows ≡ kept_of (index_in extent.buckets (D.files disk.old).idx) (is_kept (λ p. get nat_cmp dropped.now p))) }
     ensures bad { IfErr result (λ e. IsTrue D.tells → IsBad extent.buckets (D.files disk.old).idx e) }
-    ensures looks { Reads D.tells D.files D.left_since D.moment D.bytes_read D.follows disk.old disk.new }
+    ensures looks { Reads D.tells D.files D.left_since D.moment D.bytes_read D.follows Idx disk.old disk.new }
     ensures cause { HasCauseAt (result ≡ Err PrepareFault.DiskFault) (D.faults disk.old) (D.faults disk.new) }
 {
     let mut rows = Rows::new(alloc);
@@ -244,7 +245,7 @@ pub fn from_scratch<D: Disk>(
     ensures full { IfErr result (λ e. IsTrue D.tells → IsTooLarge (kept_of (index_in change.now.extent.buckets (D.files disk.old).idx) (is_kept (λ p. get nat_cmp change.now.dropped p)) ++ adds.now) e) }
     ensures made { IfOk result (λ plan. IsTrue D.tells → IsScratchOf (kept_of (index_in change.now.extent.buckets (D.files disk.old).idx) (is_kept (λ p. get nat_cmp change.now.dropped p)) ++ adds.now) plan.work) }
     ensures bad { IfErr result (λ e. IsTrue D.tells → IsBad change.now.extent.buckets (D.files disk.old).idx e) }
-    ensures looks { Reads D.tells D.files D.left_since D.moment D.bytes_read D.follows disk.old disk.new }
+    ensures looks { Reads D.tells D.files D.left_since D.moment D.bytes_read D.follows Idx disk.old disk.new }
     ensures cause { HasCauseAt (result ≡ Err PrepareFault.DiskFault) (D.faults disk.old) (D.faults disk.new) }
 {
     let mut rows = match kept_rows(alloc, disk, change.extent, &change.dropped) {

@@ -6,7 +6,8 @@ ghost use Rattle.std.specs.BTreeMap.{get};
 ghost use Rattle.rpm_outside.specs.Files.{Units};
 ghost use Rattle.rpm_outside.specs.Causes.{HasCauseAt};
 ghost use Rattle.rpm_hindex.specs.Sizes.{is_bucket_count};
-ghost use Rattle.rpm_hindex.specs.Disks.{Reads};
+ghost use Rattle.rpm_outside.specs.declared.disk.File.TheVariants.{Idx};
+ghost use Rattle.rpm_outside.specs.Looks.{Reads};
 ghost use Rattle.rpm_hindex.specs.Records.{IsOpen};
 ghost use Rattle.rpm_hindex.specs.State.{Keeps, is_in_order, buckets_of};
 ghost use Rattle.rpm_hindex.specs.Plans.{LeavesOrder, CanWrite, IsPlanFor};
@@ -68,7 +69,7 @@ impl Hindex {
         ensures full { IfErr result (λ e. IsTrue D.tells → IsWellFormed (buckets_of self.now.first) (D.files disk.old).idx → IsTooLargeFor drops.now adds.now (records (buckets_of self.now.first) (D.files disk.old).idx) e) }
         ensures bad { IfErr result (λ e. IsTrue D.tells → IsBad (buckets_of self.now.first) (D.files disk.old).idx e) }
         ensures makes { IfOk result (λ plan. IsTrue D.tells → IsWellFormed (buckets_of self.now.first) (D.files disk.old).idx → IsPlanFor drops.now adds.now (buckets_of self.now.first) (D.files disk.old).idx plan.work) }
-        ensures looks { Reads D.tells D.files D.left_since D.moment D.bytes_read D.follows disk.old disk.new }
+        ensures looks { Reads D.tells D.files D.left_since D.moment D.bytes_read D.follows Idx disk.old disk.new }
         ensures cause { HasCauseAt (result ≡ Err PrepareFault.DiskFault) (D.faults disk.old) (D.faults disk.new) }
     {
         let mut change = self.start(alloc);

@@ -9,7 +9,9 @@ ghost use Rattle.rpm_hindex.specs.State.{State, Keeps, is_ordered};
 ghost use Rattle.rpm_hindex.specs.Index.{records};
 ghost use Rattle.rpm_hindex.specs.Whole.{IsWellFormed};
 ghost use Rattle.rpm_hindex.specs.Drafts.{IsImage, Holds};
-ghost use Rattle.rpm_hindex.specs.Disks.{Changes, SameSeal, VoidOrSame, IsSettled};
+ghost use Rattle.rpm_outside.specs.declared.disk.File.TheVariants.{Idx};
+ghost use Rattle.rpm_outside.specs.Changes.{Changes, IsSettled};
+ghost use Rattle.rpm_hindex.specs.Images.{SameSeal, VoidOrSame};
 ghost use Rattle.rpm_hindex.specs.Rewrites.{IsFull, IsRefused};
 
 use crate::faults::{IndexDiskFault, RewriteFault};
@@ -64,9 +66,9 @@ impl Hindex {
         ensures kept { OnOk result (IsTrue D.tells → Keeps (D.files disk.new).idx self.new) }
         ensures whole { OnOk result (IsTrue D.tells → IsWellFormed self.new.pending (D.files disk.new).idx) }
         ensures rows { OnOk result (IsTrue D.tells → SameRows rows.now (records self.new.pending (D.files disk.new).idx)) }
-        ensures settled { OnOk result (IsTrue D.tells → IsSettled (D.files disk.new).idx (D.left_since disk.new (D.moment disk.new))) }
+        ensures settled { OnOk result (IsTrue D.tells → IsSettled Idx (D.files disk.new) (D.left_since disk.new (D.moment disk.new))) }
         ensures refused { IfErr result (λ e. IsRefused e → (self.new ≡ self.old) × (disk.new ≡ disk.old)) }
-        ensures changes { Changes D.tells D.files D.left_since D.moment D.bytes_read D.follows VoidOrSame disk.old disk.new }
+        ensures changes { Changes D.tells D.files D.left_since D.moment D.bytes_read D.follows Idx VoidOrSame 0 disk.old disk.new }
         ensures cause { HasCauseAt (result ≡ Err RewriteFault.DiskFault) (D.faults disk.old) (D.faults disk.new) }
     {
         let image = match image_of(alloc, rows) {
@@ -91,8 +93,8 @@ impl Hindex {
         ensures kept { OnOk result (IsTrue D.tells → Keeps (D.files disk.new).idx self.new) }
         ensures written { OnOk result (IsTrue D.tells → (D.files disk.new).idx ≡ put 1 (units_of image.now.bytes.items) (put 0 (blank ∷ []) (D.files disk.old).idx)) }
         ensures held { OnOk result (IsTrue D.tells → Holds (units_of image.now.bytes.items) (D.files disk.new).idx) }
-        ensures settled { OnOk result (IsTrue D.tells → IsSettled (D.files disk.new).idx (D.left_since disk.new (D.moment disk.new))) }
-        ensures changes { Changes D.tells D.files D.left_since D.moment D.bytes_read D.follows VoidOrSame disk.old disk.new }
+        ensures settled { OnOk result (IsTrue D.tells → IsSettled Idx (D.files disk.new) (D.left_since disk.new (D.moment disk.new))) }
+        ensures changes { Changes D.tells D.files D.left_since D.moment D.bytes_read D.follows Idx VoidOrSame 0 disk.old disk.new }
         ensures cause { HasCause (D.faults disk.old) (D.faults disk.new) result }
     {
         let Ok(()) = self.void(disk) else {
@@ -113,8 +115,8 @@ impl Hindex {
         ensures state { OnOk result (self.new ≡ record { first = self.old.first; second = take 16 image.now.bytes.items; units = max self.old.units (1 + length image.now.bytes.items / 16); pending = image.now.buckets }) }
         ensures kept { OnOk result (IsTrue D.tells → Keeps (D.files disk.new).idx self.new) }
         ensures written { OnOk result (IsTrue D.tells → (D.files disk.new).idx ≡ put 1 (units_of image.now.bytes.items) (D.files disk.old).idx) }
-        ensures settled { OnOk result (IsTrue D.tells → IsSettled (D.files disk.new).idx (D.left_since disk.new (D.moment disk.new))) }
-        ensures changes { Changes D.tells D.files D.left_since D.moment D.bytes_read D.follows SameSeal disk.old disk.new }
+        ensures settled { OnOk result (IsTrue D.tells → IsSettled Idx (D.files disk.new) (D.left_since disk.new (D.moment disk.new))) }
+        ensures changes { Changes D.tells D.files D.left_since D.moment D.bytes_read D.follows Idx SameSeal 0 disk.old disk.new }
         ensures cause { HasCause (D.faults disk.old) (D.faults disk.new) result }
     {
         let Ok(()) = write_synced(disk, 1, &image.bytes) else {

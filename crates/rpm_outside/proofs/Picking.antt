@@ -10,7 +10,7 @@ use Rattle.rpm_outside.specs.declared.steps.Step.{Step}
 use Rattle.rpm_outside.specs.declared.steps.Step.TheVariants.{Wrote, Synced}
 use Rattle.rpm_outside.specs.Files.{Units, Files, file_of, with_file, unit_at, blank, put}
 use Rattle.rpm_outside.specs.Crash.{Torn}
-use Rattle.rpm_outside.specs.Puts.{length-put}
+use Rattle.rpm_outside.specs.inner.Puts.{length-put}
 use Rattle.rpm_outside.specs.Past.{after_step, after_steps, StepsTo}
 use Rattle.rpm_outside.specs.History.{file_of-with, torn_whole, torn_none}
 use Rattle.rpm_outside.specs.Picks.{takes_new, mixed_unit, picked, picked_step, picked_image}

@@ -11,7 +11,7 @@ use Rattle.std.proofs.lemmas.Cmp.{nat_list_cmp_total}
 use Rattle.std.specs.FinMap.{find, get-from_entries}
 use Rattle.std.specs.Str.{bytes_eq}
 use Rattle.rpm_outside.specs.declared.mem_shelf.Item.{Item}
-use Rattle.rpm_outside.specs.Shelves.{bytes_at, Reads}
+use Rattle.rpm_outside.specs.Shelves.{bytes_at, TakesFront}
 use Rattle.rpm_outside.specs.MemShelf.{entry_of, paths_of, bytes_in}
 
 abbrev pub find_in : List ℕ → List Item → Option (List ℕ)
@@ -59,7 +59,7 @@ reads_of bytes left into given at count is_left t =
     )
 
 pub reads_first : (held : Option (List ℕ)) (left into given : List ℕ) (at count : ℕ) → option_map (drop at) held ≡ Some left → TakesFirst left into given count
-    → Reads (option_map (drop at) held) (option_map (drop (at + count)) held) (take count given)
+    → TakesFront (option_map (drop at) held) (option_map (drop (at + count)) held) (take count given)
 reads_first None left into given at count is_left t = cc
 reads_first (Some bytes) left into given at count is_left t =
     let here : left ≡ drop at bytes = cc in

@@ -4,8 +4,8 @@ use Rattle.std.proofs.Common.{inl, inr, ⊎_elim, refl, ap, ◌∙◌, arith}
 use Rattle.rpm_outside.specs.declared.disk.File.{File}
 use Rattle.rpm_outside.specs.Files.{Units, Files, file_of, with_file, unit_at}
 use Rattle.rpm_outside.specs.Crash.{TornFile, LeavesOnly, Elapses, Follows}
-use Rattle.rpm_outside.specs.Puts.{length-put, put_before, put_after}
-use Rattle.rpm_outside.specs.Moments.{leaves_then, leaves_weaker, goes_on, started}
+use Rattle.rpm_outside.specs.inner.Puts.{length-put, put_before, put_after}
+use Rattle.rpm_outside.specs.inner.Moments.{leaves_then, leaves_weaker, goes_on, started}
 use Rattle.rpm_outside.specs.History.{with_itself}
 
 -- one file is another in this range alone, and no longer than its end

@@ -8,7 +8,7 @@ use Rattle.rpm_outside.specs.declared.steps.Step.{Step}
 use Rattle.rpm_outside.specs.declared.steps.Step.TheVariants.{Wrote, Synced}
 use Rattle.rpm_outside.specs.Files.{Units, Files, file_of, with_file, put}
 use Rattle.rpm_outside.specs.Crash.{Torn, TornFile, Elapses, Follows}
-use Rattle.rpm_outside.specs.Puts.{length-put}
+use Rattle.rpm_outside.specs.inner.Puts.{length-put}
 use Rattle.rpm_outside.specs.Past.{after_step, after_steps, LeftByStep, LeftBySteps, Images, ImagesSince}
 
 pub file_of-with : (file : File) (units : Units) (files : Files) → file_of file (with_file file units files) ≡ units

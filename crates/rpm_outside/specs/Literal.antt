@@ -9,7 +9,7 @@ use Rattle.rpm_outside.specs.declared.steps.Step.{Step}
 use Rattle.rpm_outside.specs.declared.steps.Step.TheVariants.{Wrote, Synced}
 use Rattle.rpm_outside.specs.Files.{Units, Files, file_of, with_file, put, unit_at}
 use Rattle.rpm_outside.specs.Crash.{TornFile}
-use Rattle.rpm_outside.specs.Puts.{length-put, put_cases, put_inside}
+use Rattle.rpm_outside.specs.inner.Puts.{length-put, put_cases, put_inside}
 use Rattle.rpm_outside.specs.Past.{after_step, after_steps, LeftByStep, LeftBySteps, Images}
 use Rattle.rpm_outside.specs.History.{after_steps-push, file_of-with}
 

@@ -5,7 +5,7 @@ use Rattle.std.proofs.lemmas.Bool.{cases_Bool, and_parts, leb-true, ltb-true, eq
 use Rattle.std.proofs.lemmas.List.{get_or_past}
 use Rattle.rpm_outside.specs.Files.{Units, unit_at, blank}
 use Rattle.rpm_outside.specs.Logs.{Entry, LogState, Closed, Malformed, Open, word, is_blank, is_gate, is_head, entry_at, before, heads, log_state}
-use Rattle.rpm_outside.specs.LogLaws.{blank_closed}
+use Rattle.rpm_outside.specs.inner.LogLaws.{blank_closed}
 
 pub is_blank-blank : is_blank blank ≡ true
 unfolding blank

@@ -10,8 +10,13 @@ Gained tells old new bytes = IsTrue tells → new ≡ old ++ bytes
 abbrev pub GainedPart : Bool → List ℕ → List ℕ → List ℕ → Type 0
 GainedPart tells old new bytes = (n : ℕ) × (n ≤ length bytes) × Gained tells old new (take n bytes)
 
+-- the second begins with the first
+abbrev pub Begins : List ℕ → List ℕ → Type 0
+Begins old new = (bytes : List ℕ) × (new ≡ old ++ bytes)
+
 -- a call that writes these bytes to a sink, or fails after the first of them
-pub record Writes {S T E : Type 0} (tells : Bool) (taken : S → List ℕ) (faults : S → ℕ) (old new : S) (bytes : List ℕ) (result : Result T E) : Type 0 where
+pub record Writes {S T E : Type 0} (tells : Bool) (taken : S → List ℕ) (faults : S → ℕ) (follows : S → S → Type 0) (old new : S) (bytes : List ℕ) (result : Result T E) : Type 0 where
   pub ok : OnOk result (Gained tells (taken old) (taken new) bytes)
   pub err : OnErr result (GainedPart tells (taken old) (taken new) bytes)
   pub cause : HasCause (faults old) (faults new) result
+  pub goes_on : follows old new

@@ -2,7 +2,7 @@
 use Rattle.std.proofs.Common.{◌≡◌, ℕ, ◌+◌, ◌-◌, ◌≤◌, Bool, List, [], ◌++◌, length, take, drop, sym, ap, ◌∙◌, append_assoc, length-append, arith}
 use Rattle.std.proofs.lemmas.List.{append-nil, take-take, take-append-le}
 use Rattle.std.proofs.Math.Seq.{take-add, take-append-add, take-length}
-use Rattle.rpm_outside.specs.Sinks.{Gained, GainedPart}
+use Rattle.rpm_outside.specs.Sinks.{Gained, GainedPart, Begins}
 
 module _ (tells : Bool) where
   pub gained_none : (a : List ℕ) → Gained tells a a []
@@ -29,3 +29,9 @@ module _ (tells : Bool) where
 
   pub part_all : (a b x : List ℕ) → Gained tells a b x → GainedPart tells a b x
   part_all a b x q = (length x, omega arith, λ told. rw take-length (q told))
+
+pub begins_refl : (a : List ℕ) → Begins a a
+begins_refl a = ([], sym (append-nil a))
+
+pub begins_trans : (a b c : List ℕ) → Begins a b → Begins b c → Begins a c
+begins_trans a b c (x, p) (y, q) = (x ++ y, q ∙ ap (λ (t : List ℕ). t ++ y) p ∙ append_assoc a x y)

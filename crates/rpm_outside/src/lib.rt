@@ -1,6 +1,7 @@
 //! What the program meets outside of itself: a disk, a shelf of files to read, sinks to write to.
 #![tactic(auto)]
 
+mod buffered;
 mod disk;
 mod failed;
 mod mem_disk;
@@ -12,6 +13,7 @@ mod steps;
 #[cfg(test)]
 mod tests;
 
+pub use buffered::{Buffered, put_and_flush};
 pub use disk::{Disk, File};
 pub use failed::Failed;
 pub use mem_disk::MemDisk;

@@ -162,7 +162,7 @@ impl MemShelf {
 }
 
 impl Shelf for MemShelf {
-    ghost use Rattle.rpm_outside.specs.MemShelf.{shelf_paths, shelf_rest, FailsAsNamed};
+    ghost use Rattle.rpm_outside.specs.MemShelf.{shelf_paths, shelf_rest, ShelfDoes};
 
     ghost tells = { true };
 
@@ -174,7 +174,7 @@ impl Shelf for MemShelf {
 
     ghost faults = { λ s. s.faults };
 
-    ghost outcome = { FailsAsNamed };
+    ghost outcome = { ShelfDoes };
 
     fn open(&mut self, path: &str) -> Result<(), Absent> {
         match place_of(&self.items, path) {

@@ -96,6 +96,8 @@ fn room_for(limit: Option<u64>, held: usize, bytes: usize) -> usize
 
 impl Sink for MemSink {
     ghost use Rattle.rpm_outside.specs.MemSink.{sink_bytes, FailsWhereFull};
+    ghost use Rattle.rpm_outside.specs.Sinks.{Begins};
+    ghost use Rattle.rpm_outside.specs.Taken.{begins_refl, begins_trans};
 
     ghost tells = { true };
 
@@ -103,7 +105,15 @@ impl Sink for MemSink {
 
     ghost faults = { λ s. s.faults };
 
+    ghost follows = { λ old new. Begins (sink_bytes old) (sink_bytes new) };
+
     ghost outcome = { FailsWhereFull };
+
+    ghost follows_refl = { λ sink. begins_refl (sink_bytes sink) };
+
+    ghost follows_trans = { λ a b c f g. begins_trans (sink_bytes a) (sink_bytes b) (sink_bytes c) f g };
+
+    ghost follows_grows = { λ a b f told. f };
 
     fn write(&mut self, bytes: &[u8]) -> Result<usize, Failed> {
         let room = room_for(self.limit, self.bytes.len(), bytes.len());

@@ -1,4 +1,7 @@
-use crate::{Absent, Disk, Failed, File, MemDisk, MemShelf, MemSink, Pick, Shelf, Sink, put_all};
+use crate::{
+    Absent, Buffered, Disk, Failed, File, MemDisk, MemShelf, MemSink, Pick, Shelf, Sink, put_all,
+    put_and_flush,
+};
 use std::alloc::Global;
 use std::test::Fail;
 
@@ -105,5 +108,58 @@ fn a_sink_fails_after_its_limit(rt: HostRuntime) -> Result<(), Fail> {
     assert_eq!(rt; sink.write(b"de"), Ok(1));
     assert_eq!(rt; put_all(&mut sink, b"e"), Ok(()));
     assert_eq!(rt; sink.bytes(), b"abcde".as_slice());
+    Ok(())
+}
+
+// Whether pieces and a flush went through a buffer to a sink that takes so many bytes, how often it
+// failed, and how many bytes it has, all of them right.
+fn through_a_buffer(
+    alloc: Global,
+    pieces: &[&[u8]],
+    limit: u64,
+) -> Result<(bool, u64, usize), Fail> {
+    let mut sink = MemSink::new(alloc);
+    sink.fail_after(limit);
+    let mut buffered = Buffered::new(sink);
+    let mut went = true;
+    for piece in pieces {
+        went = went && put_all(&mut buffered, piece).is_ok();
+    }
+    went = went && buffered.flush().is_ok();
+    let sink = buffered.into_inner();
+    let all = pieces.concat(alloc)?;
+    let taken = sink.bytes().len();
+    if taken > all.len() || sink.bytes() != &all[..taken] {
+        return Ok((false, 0, 0));
+    }
+    Ok((went, sink.faults(), taken))
+}
+
+#[test]
+fn a_buffer_hands_on_the_first_bytes(rt: HostRuntime) -> Result<(), Fail> {
+    let alloc = rt.alloc();
+    let pieces = [[1u8; 4000].as_slice(), &[2; 200], &[3; 4097], &[4; 4096]];
+    for limit in [0, 3999, 4000, 4095, 4096, 4097, 4200, 8296, 8297, 12392] {
+        assert!(rt; through_a_buffer(alloc, &pieces, limit)? == (false, 1, limit as usize));
+    }
+    assert!(rt; through_a_buffer(alloc, &pieces, 12393)? == (true, 0, 12393));
+    Ok(())
+}
+
+#[test]
+fn a_buffer_holds_what_fits(rt: HostRuntime) -> Result<(), Fail> {
+    let alloc = rt.alloc();
+    let mut sink = MemSink::new(alloc);
+    let mut buffered = Buffered::new(&mut sink);
+    assert_eq!(rt; buffered.write(b"ab"), Ok(2));
+    assert_eq!(rt; buffered.inner().bytes().len(), 0);
+    assert_eq!(rt; buffered.write(&[7; 4097]), Ok(4097));
+    assert_eq!(rt; buffered.inner().bytes().len(), 4099);
+    assert_eq!(rt; put_and_flush(&mut buffered, b"c"), Ok(()));
+    assert_eq!(rt; buffered.write(b"d"), Ok(1));
+    buffered.clear();
+    assert_eq!(rt; buffered.flush(), Ok(()));
+    assert_eq!(rt; &sink.bytes()[..3], [b'a', b'b', 7].as_slice());
+    assert_eq!(rt; &sink.bytes()[4098..], [7, b'c'].as_slice());
     Ok(())
 }

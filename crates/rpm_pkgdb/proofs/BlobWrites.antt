@@ -3,14 +3,14 @@ use Rattle.std.proofs.Common.{◌≡◌, ℕ, ◌+◌, ◌-◌, ◌*◌, ◌/◌
 use Rattle.std.proofs.lemmas.List.{length-take}
 use Rattle.rpm_outside.specs.Files.{Units, units_of, put}
 use Rattle.rpm_outside.specs.Crash.{Torn}
-use Rattle.rpm_outside.specs.Cuts.{length-cut_up}
+use Rattle.rpm_outside.specs.inner.Cuts.{length-cut_up}
 use Rattle.rpm_pkgdb.specs.Blobs.{blocks_for}
 use Rattle.rpm_pkgdb.specs.Checksums.{adler}
 use Rattle.rpm_pkgdb.specs.Framing.{head_of, padding, tail_of, framed}
-use Rattle.rpm_pkgdb.specs.FramingLaws.{length-head_of}
-use Rattle.rpm_pkgdb.specs.Clear.{SameOutside}
-use Rattle.rpm_pkgdb.specs.ClearLaws.{torn_outside, outside_then, outside_wider}
-use Rattle.rpm_pkgdb.specs.PutParts.{put_append, units_of-append}
+use Rattle.rpm_pkgdb.proofs.FramingLaws.{length-head_of}
+use Rattle.rpm_pkgdb.specs.inner.Clear.{SameOutside}
+use Rattle.rpm_pkgdb.proofs.ClearLaws.{torn_outside, outside_then, outside_wider}
+use Rattle.rpm_pkgdb.proofs.PutParts.{put_append, units_of-append}
 
 module _ (n g : ℕ) (b : List ℕ) (head front last : List ℕ) (is_head : head ≡ head_of n g (length b)) (is_front : front ≡ take (16 * (length b / 16)) b) (is_last : last ≡ (drop (16 * (length b / 16)) b ++ padding (length b)) ++ tail_of (adler (head ++ (b ++ padding (length b)))) (length b)) where
   abbrev size : ℕ

@@ -4,9 +4,9 @@ use Rattle.std.proofs.lemmas.List.{get_or-take, get_or-drop, length-take}
 use Rattle.std.proofs.lemmas.Bool.{cases_lt}
 use Rattle.rpm_outside.specs.Files.{Units, unit_at, put, blank}
 use Rattle.rpm_outside.specs.Crash.{Torn}
-use Rattle.rpm_outside.specs.Puts.{length-put, put_before, put_inside}
-use Rattle.rpm_pkgdb.specs.Clear.{SameOutside}
-use Rattle.rpm_pkgdb.specs.ClearLaws.{torn_outside, outside_wider}
+use Rattle.rpm_outside.specs.inner.Puts.{length-put, put_before, put_inside}
+use Rattle.rpm_pkgdb.specs.inner.Clear.{SameOutside}
+use Rattle.rpm_pkgdb.proofs.ClearLaws.{torn_outside, outside_wider}
 
 -- how many units are read
 pub part_count : (some : ℕ) (page : List ℕ) → length page ≡ 4096 → some ≤ 256 → length (take (16 * some) page) / 16 ≡ some

@@ -6,11 +6,10 @@ use Rattle.std.proofs.lemmas.Bool.{cases_lt, cases_Bool}
 use Rattle.std.proofs.lemmas.Bool.Decides.{nat_tests}
 use Rattle.rpm_outside.specs.Files.{Units, unit_at}
 use Rattle.rpm_pkgdb.specs.declared.slot.Slot.{Slot}
-use Rattle.rpm_pkgdb.specs.Facts.{number_facts}
+use Rattle.rpm_pkgdb.proofs.Facts.{number_facts}
 use Rattle.rpm_pkgdb.proofs.Known.{place_known}
 use Rattle.rpm_pkgdb.specs.Words.{word}
-use Rattle.rpm_pkgdb.specs.Slots.{is_used, has_number, slot_with, free, slot_at}
-use Rattle.rpm_pkgdb.specs.Slots.{greatest_number}
+use Rattle.rpm_pkgdb.specs.Slots.{is_used, has_number, slot_with, free, slot_at, greatest_number}
 use Rattle.rpm_pkgdb.specs.Damages.{head_reason}
 use Rattle.rpm_pkgdb.specs.Pairs.{IsNext, IsGreatest}
 use Rattle.rpm_pkgdb.specs.Maps.{HasPlaces, IsPackageNumber}

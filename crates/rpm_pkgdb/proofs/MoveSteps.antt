@@ -6,8 +6,9 @@ use Rattle.rpm_pkgdb.specs.declared.moving.Move.{Move}
 use Rattle.rpm_pkgdb.specs.Slots.{slot_at}
 use Rattle.rpm_pkgdb.specs.Store.{Store}
 use Rattle.rpm_pkgdb.specs.Quiet.{StandsFor, BlobMap}
-use Rattle.rpm_pkgdb.specs.Settings.{CanMove, with_slot, moved}
-use Rattle.rpm_pkgdb.specs.MoveLists.{AreMoves, Keep, after_moves, move_at, next_can, next_of, after_more, keep_all, unmoved}
+use Rattle.rpm_pkgdb.specs.inner.Settings.{CanMove, with_slot, moved}
+use Rattle.rpm_pkgdb.specs.inner.MoveLists.{AreMoves, after_moves, move_at}
+use Rattle.rpm_pkgdb.proofs.MoveListLaws.{Keep, next_can, next_of, after_more, keep_all, unmoved}
 
 pub stands_for_same : (g f g' f' : ℕ) (B B' : BlobMap) (image : Units) → g ≡ g' → f ≡ f' → B ≡ B' → StandsFor g f B image → StandsFor g' f' B' image
 stands_for_same g f g' f' B B' image e_g e_f e_B s = record { value = s.value; undamaged = s.undamaged; generation_is = s.generation_is ∙ e_g; field_is = s.field_is ∙ e_f; blobs_are = s.blobs_are ∙ e_B }

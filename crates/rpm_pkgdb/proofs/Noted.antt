@@ -8,20 +8,20 @@ use Rattle.rpm_blocks.specs.Blocks.{Blocks, with_range, without}
 use Rattle.rpm_blocks.specs.Laws.{with_range_here, with_range_keeps, with_range_only, without_keeps, without_only, begins_in}
 use Rattle.rpm_pkgdb.specs.declared.slot.Slot.{Slot}
 use Rattle.rpm_pkgdb.specs.declared.plan.Plan.{Plan}
-use Rattle.rpm_pkgdb.specs.Facts.{cases_Bool, number_facts, has_it_from}
+use Rattle.rpm_pkgdb.proofs.Facts.{cases_Bool, number_facts, has_it_from}
 use Rattle.rpm_pkgdb.specs.Slots.{slot_at, is_used, has_number, free}
 use Rattle.rpm_pkgdb.specs.Pairs.{Pairs, find_in}
 use Rattle.rpm_pkgdb.specs.Maps.{Adds, IsPackageNumber}
 use Rattle.rpm_pkgdb.specs.Store.{Store}
 use Rattle.rpm_pkgdb.specs.Blobs.{blocks_for}
-use Rattle.rpm_pkgdb.specs.Pairwise.{used_below}
-use Rattle.rpm_pkgdb.specs.ClearLaws.{set_here, set_other}
-use Rattle.rpm_pkgdb.specs.Keeping.{IsKept}
-use Rattle.rpm_pkgdb.specs.Ranges.{range_of, UsedBy, AreRangesOf, HasUsed, HasStart, Forgets, ForgetsSlot, Remembers, IsFreeIn}
-use Rattle.rpm_pkgdb.specs.RangeLaws.{other_start}
+use Rattle.rpm_pkgdb.proofs.Pairwise.{used_below}
+use Rattle.rpm_pkgdb.proofs.ClearLaws.{set_here, set_other}
+use Rattle.rpm_pkgdb.specs.inner.Keeping.{IsKept}
+use Rattle.rpm_pkgdb.specs.inner.Ranges.{range_of, UsedBy, AreRangesOf, HasUsed, HasStart, Forgets, ForgetsSlot, Remembers, IsFreeIn}
+use Rattle.rpm_pkgdb.proofs.RangeLaws.{other_start}
 use Rattle.rpm_pkgdb.specs.Plans.{IsPlan, slot_for}
-use Rattle.rpm_pkgdb.specs.PlanLaws.{fits_to}
-use Rattle.rpm_pkgdb.specs.PutsLaws.{plan_sound, number_le, other_number}
+use Rattle.rpm_pkgdb.proofs.PlanLaws.{fits_to}
+use Rattle.rpm_pkgdb.proofs.PutsLaws.{plan_sound, number_le, other_number}
 
 some_of : (o : Option ℕ) → IsSome o → (x : ℕ) × (o ≡ Some x)
 some_of (Some x) is = (x, refl)
@@ -117,7 +117,7 @@ module _ (numbers : Pairs) (v : Store) (plan : Plan) (is : IsPlan v plan) (made 
           (let stays = same_at j other in
           subst (λ (t : Slot). IsPackageNumber t.number) (sym stays) (kept.numbered j (omega (arith, below, length-set slots k s)) (ap is_used (sym stays) ∙ used)))
     ];
-    sound = plan_sound v plan is (2 ^ 28) is.start.fits.ends kept.sound;
+    sound = plan_sound v plan is made (2 ^ 28) is.start.fits.ends kept.sound;
     limit = kept.limit;
     count = length-set slots k s ∙ kept.count;
   }

@@ -7,15 +7,15 @@ use Rattle.rpm_outside.specs.Files.{Units, unit_at}
 use Rattle.rpm_pkgdb.specs.declared.slot.Slot.{Slot}
 use Rattle.rpm_pkgdb.specs.declared.slot.Reason.{Reason}
 use Rattle.rpm_pkgdb.specs.declared.slot.Damage.{Damage}
-use Rattle.rpm_pkgdb.specs.Facts.{number_facts}
+use Rattle.rpm_pkgdb.proofs.Facts.{number_facts}
 use Rattle.rpm_pkgdb.proofs.Kept.{find_none, find_some}
-use Rattle.rpm_pkgdb.specs.Sound.{placed_slot, no_own}
+use Rattle.rpm_pkgdb.proofs.Sound.{placed_slot, no_own}
 use Rattle.rpm_pkgdb.proofs.Steps.{length-slots_in}
 use Rattle.rpm_pkgdb.specs.Words.{word}
 use Rattle.rpm_pkgdb.specs.Store.{Store, store, blank_store, made_store, made_or_damaged, is_blank, unless}
 use Rattle.rpm_pkgdb.specs.Damages.{head_reason, slot_fault, own_reason, table, table_fault}
 use Rattle.rpm_pkgdb.specs.Slots.{is_used, has_number, slot_with, slot_of, slots_in, free, slot_at}
-use Rattle.rpm_pkgdb.specs.Runs.{run, table_is_run}
+use Rattle.rpm_pkgdb.specs.inner.Runs.{run, table_is_run}
 use Rattle.rpm_pkgdb.specs.Maps.{IsPlaced}
 
 both_none : {X : Type 0} (a b : Option X) → option_or a b ≡ None → (a ≡ None) × (b ≡ None)

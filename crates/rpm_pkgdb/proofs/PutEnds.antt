@@ -3,16 +3,16 @@ use Rattle.std.proofs.Common.{◌≡◌, inl, inr, ℕ, ◌+◌, ◌-◌, ◌<�
 use Rattle.rpm_outside.specs.Files.{Units, unit_at, blank}
 use Rattle.rpm_pkgdb.specs.declared.slot.Slot.{Slot}
 use Rattle.rpm_pkgdb.specs.declared.plan.Plan.{Plan}
-use Rattle.rpm_pkgdb.specs.Facts.{cases_Bool, number_facts}
+use Rattle.rpm_pkgdb.proofs.Facts.{cases_Bool, number_facts}
 use Rattle.rpm_pkgdb.specs.Slots.{slot_at, slot_with, end_of}
 use Rattle.rpm_pkgdb.specs.Store.{Store, Keeps}
-use Rattle.rpm_pkgdb.specs.Made.{made}
-use Rattle.rpm_pkgdb.specs.Clear.{Holds}
-use Rattle.rpm_pkgdb.specs.FramingLaws.{held_part}
-use Rattle.rpm_pkgdb.specs.Places.{Search, search_for, with_at}
-use Rattle.rpm_pkgdb.specs.Places.Search.{Here, Nowhere}
+use Rattle.rpm_pkgdb.proofs.Made.{made}
+use Rattle.rpm_pkgdb.specs.inner.Clear.{Holds}
+use Rattle.rpm_pkgdb.proofs.FramingLaws.{held_part}
+use Rattle.rpm_pkgdb.proofs.Places.{Search, search_for, with_at}
+use Rattle.rpm_pkgdb.proofs.Places.Search.{Here, Nowhere}
 use Rattle.rpm_pkgdb.specs.Plans.{IsPlan}
-use Rattle.rpm_pkgdb.specs.PutsLaws.{number_le}
+use Rattle.rpm_pkgdb.proofs.PutsLaws.{number_le}
 use Rattle.rpm_pkgdb.specs.Written.{AreZeros}
 
 -- units that stand at a place

@@ -11,7 +11,7 @@ use Rattle.rpm_pkgdb.specs.declared.slot.OpenFault.TheVariants.{Damaged, DiskFau
 use Rattle.rpm_pkgdb.specs.Slots.{slot_of, slots_in}
 use Rattle.rpm_pkgdb.specs.Damages.{slot_fault, table_fault}
 use Rattle.rpm_pkgdb.specs.Store.{Says, SaysHere}
-use Rattle.rpm_pkgdb.specs.Runs.{run, run-append, table_is_run}
+use Rattle.rpm_pkgdb.specs.inner.Runs.{run, run-append, table_is_run}
 
 pub length-slots_in : (us : Units) → length (slots_in us) ≡ length us
 unfolding slots_in

@@ -1,17 +1,17 @@
 -- Slots that are right by themselves and apart are a table without damage.
-use Rattle.std.proofs.Common.{◌≡◌, ℕ, zero, suc, ◌+◌, ◌/◌, ◌^◌, ◌<◌, ◌≤◌, List, [], ◌∷◌, ◌++◌, take, Result, Ok, Err, IfOk, length, Bool, true, false, Option, Some, None, is_some, refl, sym, ap, ◌∙◌, subst, arith, inl, inr}
+use Rattle.std.proofs.Common.{◌≡◌, ℕ, zero, suc, ◌+◌, ◌^◌, ◌<◌, List, [], ◌∷◌, ◌++◌, take, Result, Ok, Err, IfOk, length, Bool, false, Option, Some, None, is_some, refl, sym, ap, ◌∙◌, subst, arith, inl, inr}
 use Rattle.std.proofs.lemmas.Bool.{cases_eq}
 use Rattle.rpm_outside.specs.Files.{Units, unit_at}
 use Rattle.rpm_pkgdb.specs.declared.slot.Slot.{Slot}
 use Rattle.rpm_pkgdb.specs.Slots.{slot_of, slots_in, slot_at, is_used}
 use Rattle.rpm_pkgdb.specs.Damages.{own_reason, table_fault}
 use Rattle.rpm_pkgdb.specs.Maps.{IsPlaced}
-use Rattle.rpm_pkgdb.specs.Sound.{placed}
+use Rattle.rpm_pkgdb.proofs.Sound.{placed}
 use Rattle.rpm_pkgdb.specs.Undamaged.{AreSound}
-use Rattle.rpm_pkgdb.specs.Pairwise.{begins_from, none_from, sound_from, slot_in, count_in, used_below}
-use Rattle.rpm_pkgdb.specs.SoundRuns.{limit_placed}
-use Rattle.rpm_pkgdb.specs.Keys.{AllApart}
-use Rattle.rpm_pkgdb.specs.Tables.{AreOwn}
+use Rattle.rpm_pkgdb.proofs.Pairwise.{begins_from, none_from, sound_from, slot_in, count_in, used_below}
+use Rattle.rpm_pkgdb.proofs.SoundRuns.{limit_placed}
+use Rattle.rpm_pkgdb.specs.inner.Keys.{AllApart}
+use Rattle.rpm_pkgdb.specs.inner.Tables.{AreOwn}
 
 pub own_more : (pages units : ℕ) (us : Units) (k : ℕ) (unit : List ℕ) → AreOwn pages units us k → unit ≡ unit_at us k → own_reason pages units unit ≡ None → AreOwn pages units us (k + 1)
 own_more pages units us k unit own is none j below = elim (cases_eq j k) [

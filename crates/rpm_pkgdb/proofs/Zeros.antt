@@ -3,8 +3,8 @@ use Rattle.std.proofs.Common.{◌≡◌, ℕ, ◌+◌, ◌-◌, ◌*◌, ◌/◌
 use Rattle.std.proofs.lemmas.List.{same_lists, get_or-take, get_or-drop, get_or-replicate, length-take, length-replicate}
 use Rattle.std.proofs.lemmas.Bool.{cases_lt}
 use Rattle.rpm_outside.specs.Files.{Units, units_of, unit_at, put, blank}
-use Rattle.rpm_outside.specs.Cuts.{unit_at-cut_up, length-cut_up}
-use Rattle.rpm_outside.specs.Puts.{put_before, put_inside}
+use Rattle.rpm_outside.specs.inner.Cuts.{unit_at-cut_up, length-cut_up}
+use Rattle.rpm_outside.specs.inner.Puts.{put_before, put_inside}
 
 abbrev pub zeros : ℕ → List ℕ
 zeros n = replicate n 0

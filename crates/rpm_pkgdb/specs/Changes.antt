@@ -6,7 +6,7 @@ use Rattle.rpm_outside.specs.declared.disk.File.TheVariants.{Pkg}
 use Rattle.rpm_outside.specs.Files.{Units, Files}
 use Rattle.rpm_outside.specs.Crash.{Torn, TornFile, Follows, Elapses, LeavesOnly}
 use Rattle.rpm_outside.specs.History.{torn_none}
-use Rattle.rpm_outside.specs.Moments.{started, goes_on, leaves_then, leaves_weaker}
+use Rattle.rpm_outside.specs.inner.Moments.{started, goes_on, leaves_then, leaves_weaker}
 
 -- an image whose Packages.db was changed so from one of these, and whose other files are that one's
 pub record Changed (R : Units → Units → Type 0) (images : Files → Type 0) (image : Files) : Type 0 where

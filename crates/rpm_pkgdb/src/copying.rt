@@ -3,8 +3,8 @@
 ghost use Rattle.std.specs.Prelude.{◌≡◌, ℕ, ◌+◌, ◌*◌, ◌^◌, ◌≤◌, ◌<◌, ◌⊎◌, IsTrue, length, OnOk};
 ghost use Rattle.rpm_outside.specs.Files.{Files, unit_at};
 ghost use Rattle.rpm_outside.specs.Causes.{HasCause};
-ghost use Rattle.rpm_pkgdb.specs.Copies.{Copies};
-ghost use Rattle.rpm_pkgdb.specs.Clear.{SameOutside};
+ghost use Rattle.rpm_pkgdb.specs.inner.Copies.{Copies};
+ghost use Rattle.rpm_pkgdb.specs.inner.Clear.{SameOutside};
 
 use crate::reading::read_units;
 use crate::writing::write_units;

@@ -6,9 +6,9 @@ ghost use Rattle.rpm_outside.specs.Causes.{HasCause};
 ghost use Rattle.rpm_outside.specs.Crash.{LeavesOnly};
 ghost use Rattle.rpm_pkgdb.specs.Store.{Store, Keeps};
 ghost use Rattle.rpm_pkgdb.specs.Changes.{Changes, Stops, IsSettled};
-ghost use Rattle.rpm_pkgdb.specs.Clear.{SameOutside};
+ghost use Rattle.rpm_pkgdb.specs.inner.Clear.{SameOutside};
 ghost use Rattle.rpm_pkgdb.specs.Quiet.{IsQuiet, Anything, BeforeOrAfter, StandsAs};
-ghost use Rattle.rpm_pkgdb.specs.Grows.{with_page, CanGrow, HasFreePage};
+ghost use Rattle.rpm_pkgdb.specs.inner.Grows.{with_page, CanGrow, HasFreePage};
 
 use crate::pages::write_free_slots;
 use crate::units::head_unit;

@@ -9,7 +9,7 @@ ghost use Rattle.rpm_pkgdb.specs.Slots.{free};
 ghost use Rattle.rpm_pkgdb.specs.Store.{Store, Keeps, is_blank};
 ghost use Rattle.rpm_pkgdb.specs.Blobs.{blobs};
 ghost use Rattle.rpm_pkgdb.specs.Changes.{Changes, Stops, IsSettled};
-ghost use Rattle.rpm_pkgdb.specs.Clear.{SameOutside};
+ghost use Rattle.rpm_pkgdb.specs.inner.Clear.{SameOutside};
 ghost use Rattle.rpm_pkgdb.specs.Quiet.{IsQuiet, Anything, IsFirstPage};
 ghost use Rattle.rpm_pkgdb.specs.Written.{stopped, made_new, MakesTo};
 

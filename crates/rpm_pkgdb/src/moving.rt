@@ -6,13 +6,13 @@ ghost use Rattle.rpm_outside.specs.Causes.{HasCause};
 ghost use Rattle.rpm_outside.specs.Crash.{LeavesOnly};
 ghost use Rattle.rpm_pkgdb.specs.Slots.{end_of, slot_at};
 ghost use Rattle.rpm_pkgdb.specs.Blobs.{blobs};
-ghost use Rattle.rpm_pkgdb.specs.MoveLists.{AreMoves, IsMovable, after_moves, move_at};
+ghost use Rattle.rpm_pkgdb.specs.inner.MoveLists.{AreMoves, IsMovable, after_moves, move_at};
 ghost use Rattle.rpm_pkgdb.specs.Store.{Store, Keeps};
 ghost use Rattle.rpm_pkgdb.specs.Changes.{Stops, IsSettled};
-ghost use Rattle.rpm_pkgdb.specs.Copies.{Copies};
-ghost use Rattle.rpm_pkgdb.specs.Clear.{SameOutside};
+ghost use Rattle.rpm_pkgdb.specs.inner.Copies.{Copies};
+ghost use Rattle.rpm_pkgdb.specs.inner.Clear.{SameOutside};
 ghost use Rattle.rpm_pkgdb.specs.Quiet.{IsQuiet, StandsFor};
-ghost use Rattle.rpm_pkgdb.specs.Settings.{NoShorter, CanMove, StandsSet, WhileMoved, moved, blocks_of, with_slot};
+ghost use Rattle.rpm_pkgdb.specs.inner.Settings.{NoShorter, CanMove, StandsSet, WhileMoved, moved, blocks_of, with_slot};
 
 use crate::copying::copy_blocks;
 use crate::slot::Slot;

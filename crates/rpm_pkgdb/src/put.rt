@@ -14,8 +14,7 @@ ghost use Rattle.rpm_pkgdb.specs.Quiet.{IsQuiet, Anything};
 ghost use Rattle.rpm_pkgdb.specs.Maps.{Adds};
 ghost use Rattle.rpm_pkgdb.specs.Pairs.{find_in};
 ghost use Rattle.rpm_pkgdb.specs.Plans.{IsPlan};
-ghost use Rattle.rpm_pkgdb.specs.Puts.{with_blob, PutsTo};
-ghost use Rattle.rpm_pkgdb.specs.Written.{stopped, with_spare, AreZeros};
+ghost use Rattle.rpm_pkgdb.specs.Written.{with_blob, PutsTo, stopped, with_spare, AreZeros};
 
 use crate::erasing::FREE;
 use crate::numbers::Numbers;

@@ -11,7 +11,8 @@ ghost use Rattle.rpm_pkgdb.specs.Framing.{framed};
 ghost use Rattle.rpm_pkgdb.specs.Changes.{Changes, Stops, IsSettled};
 ghost use Rattle.rpm_pkgdb.specs.Quiet.{IsQuiet, Anything};
 ghost use Rattle.rpm_pkgdb.specs.Plans.{slot_for};
-ghost use Rattle.rpm_pkgdb.specs.Puts.{FieldPut, FieldTorn, BlobTorn, BlobPut, next_field, with_blob, CanPut, StandsWith, WhilePut};
+ghost use Rattle.rpm_pkgdb.specs.inner.Puts.{FieldPut, FieldTorn, BlobTorn, BlobPut, CanPut, StandsWith, WhilePut};
+ghost use Rattle.rpm_pkgdb.specs.Written.{next_field, with_blob};
 
 use crate::framing::write_blob;
 use crate::plan::Plan;

@@ -5,7 +5,7 @@ ghost use Rattle.rpm_outside.specs.Files.{Files, Units, units_of, unit_at, put, 
 ghost use Rattle.rpm_outside.specs.Causes.{HasCause};
 ghost use Rattle.rpm_outside.specs.Crash.{Torn};
 ghost use Rattle.rpm_pkgdb.specs.Changes.{Changes, IsSettled, IsSame};
-ghost use Rattle.rpm_pkgdb.specs.Clear.{SameOutside};
+ghost use Rattle.rpm_pkgdb.specs.inner.Clear.{SameOutside};
 
 use rpm_outside::{Disk, Failed, File};
 

@@ -1,6 +1,6 @@
 //! A sink over standard output or standard error.
 
-ghost use Rattle.std.specs.Prelude.{false, []};
+ghost use Rattle.std.specs.Prelude.{false, [], refl};
 
 use rpm_outside::{Failed, Sink};
 use std::io::Print;
@@ -25,6 +25,14 @@ impl<P: Print + Drop> Sink for RealSink<P> {
     ghost taken = { λ sink. [] };
 
     ghost faults = { λ sink. sink.faults };
+
+    ghost follows = { λ old new. Unit {0} };
+
+    ghost follows_refl = { λ sink. tt };
+
+    ghost follows_trans = { λ a b c f g. tt };
+
+    ghost follows_grows = { λ a b f told. ([], refl) };
 
     fn write(&mut self, bytes: &[u8]) -> Result<usize, Failed> {
         match self.to.write_some(bytes) {

@@ -1,9 +1,7 @@
-pub mod Putting
 pub mod Steps
 pub mod Ahead
 pub mod Counts
 mod Fixtures
-pub mod Flushing
 pub mod Walked
 pub mod Moments
 pub mod Calendar

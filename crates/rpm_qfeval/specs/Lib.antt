@@ -6,5 +6,4 @@ pub mod Numbers
 pub mod Padded
 pub mod Pieces
 pub mod Printed
-pub mod Puts
 pub mod Texts

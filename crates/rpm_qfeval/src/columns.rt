@@ -5,11 +5,10 @@ ghost use Rattle.std.specs.Option.{option_map};
 ghost use Rattle.rpm_header.specs.Header.{Header};
 ghost use Rattle.rpm_tags.specs.Value.{value, count_of};
 ghost use Rattle.rpm_qfeval.specs.Columns.{AreTold};
-ghost use Rattle.rpm_qfeval.specs.Puts.{Puts};
+ghost use Rattle.rpm_outside.specs.Sinks.{Writes};
 ghost use Rattle.rpm_qfeval.specs.Meaning.{text_or_none};
 ghost use Rattle.rpm_qfeval.specs.Padded.{padded};
 
-use crate::buffer::Buffer;
 use crate::cursor::Cursor;
 use crate::elements::{put_none, put_value};
 use arrayvec::ArrayVec;
@@ -91,26 +90,20 @@ impl<'v, 'a> Column<'v, 'a> {
     }
 
     /// Puts the value by the role of a tag, in a round.
-    pub fn put<O: Sink>(
-        &mut self,
-        buffer: &mut Buffer,
-        sink: &mut O,
-        part: &TagPart,
-        round: u32,
-    ) -> Result<(), Failed>
-        ensures puts { Puts O.tells O.taken O.faults buffer.old sink.old (padded part.now.left part.now.width (text_or_none part.now.role part.now.show round self.old.value)) buffer.new sink.new result }
+    pub fn put<O: Sink>(&mut self, sink: &mut O, part: &TagPart, round: u32) -> Result<(), Failed>
+        ensures puts { Writes O.tells O.taken O.faults O.follows sink.old sink.new (padded part.now.left part.now.width (text_or_none part.now.role part.now.show round self.old.value)) result }
         ensures same { self.new ≡ self.old }
     {
         if let Some(cursor) = &mut self.cursor {
             match part.role {
-                Role::Element => return cursor.put(buffer, sink, part, round),
-                Role::First => return cursor.put(buffer, sink, part, 0),
+                Role::Element => return cursor.put(sink, part, round),
+                Role::First => return cursor.put(sink, part, 0),
                 Role::Count => {}
             }
         }
         match &self.found.value {
-            None => put_none(buffer, sink, part),
-            Some(value) => put_value(buffer, sink, part, value, round),
+            None => put_none(sink, part),
+            Some(value) => put_value(sink, part, value, round),
         }
     }
 }

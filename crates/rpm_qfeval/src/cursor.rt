@@ -3,11 +3,10 @@
 ghost use Rattle.std.specs.Prelude.{◌≡◌, Some};
 ghost use Rattle.rpm_tags.specs.Value.{class_of};
 ghost use Rattle.rpm_tags.specs.declared.values.Class.TheVariants as Class;
-ghost use Rattle.rpm_qfeval.specs.Puts.{Puts};
+ghost use Rattle.rpm_outside.specs.Sinks.{Writes};
 ghost use Rattle.rpm_qfeval.specs.Formatters.{shown, or_none};
 ghost use Rattle.rpm_qfeval.specs.Padded.{padded};
 
-use crate::buffer::Buffer;
 use crate::elements::{put_element, put_text};
 use rpm_outside::{Failed, Sink};
 use rpm_qfparse::TagPart;
@@ -63,25 +62,19 @@ impl<'v, 'a> Cursor<'v, 'a> {
     }
 
     /// Puts the text at a place. Over places that rise each text is read once.
-    pub fn put<O: Sink>(
-        &mut self,
-        buffer: &mut Buffer,
-        sink: &mut O,
-        part: &TagPart,
-        place: u32,
-    ) -> Result<(), Failed>
-        ensures puts { Puts O.tells O.taken O.faults buffer.old sink.old (padded part.now.left part.now.width (or_none (shown part.now.show self.old place))) buffer.new sink.new result }
+    pub fn put<O: Sink>(&mut self, sink: &mut O, part: &TagPart, place: u32) -> Result<(), Failed>
+        ensures puts { Writes O.tells O.taken O.faults O.follows sink.old sink.new (padded part.now.left part.now.width (or_none (shown part.now.show self.old place))) result }
         ensures same { self.new ≡ self.old }
     {
         self.go_to(place);
         if self.place != place {
-            return put_element(buffer, sink, part, self.value, place);
+            return put_element(sink, part, self.value, place);
         }
         match &self.present {
-            None => put_element(buffer, sink, part, self.value, place),
+            None => put_element(sink, part, self.value, place),
             Some(text) => {
                 let count = self.value.count();
-                put_text(buffer, sink, part, count, text)
+                put_text(sink, part, count, text)
             }
         }
     }

@@ -2,13 +2,12 @@
 
 ghost use Rattle.std.specs.Prelude.{◌≡◌, decimal, None};
 ghost use Rattle.std.specs.List.{concat};
-ghost use Rattle.rpm_qfeval.specs.Puts.{Puts};
+ghost use Rattle.rpm_outside.specs.Sinks.{Writes};
 ghost use Rattle.rpm_qfeval.specs.Padded.{padded};
 ghost use Rattle.rpm_qfeval.specs.Formatters.{number_text, text_text, blob_text, shown, or_none};
 ghost use Rattle.rpm_qfeval.specs.Meaning.{value_text, tag_text};
 ghost use Rattle.rpm_qfeval.specs.Dates as dates;
 
-use crate::buffer::Buffer;
 use crate::dates::{date, day};
 use crate::digits::{hex, octal};
 use crate::flags::{depflags, fflags};
@@ -22,187 +21,151 @@ use rpm_qfparse::{Role, Show, TagPart};
 use rpm_tags::{Class, Joined, TagValue, value};
 
 /// Puts bytes in the width of a tag.
-pub fn put_plain<O: Sink>(
-    buffer: &mut Buffer,
-    sink: &mut O,
-    part: &TagPart,
-    text: &[u8],
-) -> Result<(), Failed>
-    ensures { Puts O.tells O.taken O.faults buffer.old sink.old (padded part.now.left part.now.width text.now) buffer.new sink.new result }
+pub fn put_plain<O: Sink>(sink: &mut O, part: &TagPart, text: &[u8]) -> Result<(), Failed>
+    ensures { Writes O.tells O.taken O.faults O.follows sink.old sink.new (padded part.now.left part.now.width text.now) result }
 {
-    put_padded(buffer, sink, part.left, part.width, &Shown::Plain(text))
+    put_padded(sink, part.left, part.width, &Shown::Plain(text))
 }
 
-fn put_decimal<O: Sink>(
-    buffer: &mut Buffer,
-    sink: &mut O,
-    part: &TagPart,
-    number: u64,
-) -> Result<(), Failed>
-    ensures { Puts O.tells O.taken O.faults buffer.old sink.old (padded part.now.left part.now.width (decimal number)) buffer.new sink.new result }
+fn put_decimal<O: Sink>(sink: &mut O, part: &TagPart, number: u64) -> Result<(), Failed>
+    ensures { Writes O.tells O.taken O.faults O.follows sink.old sink.new (padded part.now.left part.now.width (decimal number)) result }
 {
     let mut digits = Decimal::new();
-    put_plain(buffer, sink, part, digits.format(number).as_bytes())
+    put_plain(sink, part, digits.format(number).as_bytes())
 }
 
-fn put_day<O: Sink>(
-    buffer: &mut Buffer,
-    sink: &mut O,
-    part: &TagPart,
-    number: u64,
-) -> Result<(), Failed>
-    ensures { Puts O.tells O.taken O.faults buffer.old sink.old (padded part.now.left part.now.width (dates.day number)) buffer.new sink.new result }
+fn put_day<O: Sink>(sink: &mut O, part: &TagPart, number: u64) -> Result<(), Failed>
+    ensures { Writes O.tells O.taken O.faults O.follows sink.old sink.new (padded part.now.left part.now.width (dates.day number)) result }
 {
     match u32::try_from(number) {
-        Ok(second) => put_plain(buffer, sink, part, &day(second)),
-        Err(_) => put_plain(buffer, sink, part, b"(not a date)"),
+        Ok(second) => put_plain(sink, part, &day(second)),
+        Err(_) => put_plain(sink, part, b"(not a date)"),
     }
 }
 
-fn put_date<O: Sink>(
-    buffer: &mut Buffer,
-    sink: &mut O,
-    part: &TagPart,
-    number: u64,
-) -> Result<(), Failed>
-    ensures { Puts O.tells O.taken O.faults buffer.old sink.old (padded part.now.left part.now.width (dates.date number)) buffer.new sink.new result }
+fn put_date<O: Sink>(sink: &mut O, part: &TagPart, number: u64) -> Result<(), Failed>
+    ensures { Writes O.tells O.taken O.faults O.follows sink.old sink.new (padded part.now.left part.now.width (dates.date number)) result }
 {
     match u32::try_from(number) {
-        Ok(second) => put_plain(buffer, sink, part, &date(second)),
-        Err(_) => put_plain(buffer, sink, part, b"(not a date)"),
+        Ok(second) => put_plain(sink, part, &date(second)),
+        Err(_) => put_plain(sink, part, b"(not a date)"),
     }
 }
 
 /// Puts a number of a value that has so many elements.
 pub fn put_number<O: Sink>(
-    buffer: &mut Buffer,
     sink: &mut O,
     part: &TagPart,
     count: u32,
     number: u64,
 ) -> Result<(), Failed>
-    ensures { Puts O.tells O.taken O.faults buffer.old sink.old (padded part.now.left part.now.width (number_text part.now.show count number)) buffer.new sink.new result }
+    ensures { Writes O.tells O.taken O.faults O.follows sink.old sink.new (padded part.now.left part.now.width (number_text part.now.show count number)) result }
 {
     match part.show {
-        Show::Plain | Show::Shescape => put_decimal(buffer, sink, part, number),
-        Show::Hex => put_plain(buffer, sink, part, hex(number).as_slice()),
-        Show::Octal => put_plain(buffer, sink, part, octal(number).as_slice()),
-        Show::Perms => put_plain(buffer, sink, part, &perms(number)),
-        Show::Depflags => put_plain(buffer, sink, part, depflags(number).as_slice()),
-        Show::Fflags => put_plain(buffer, sink, part, fflags(number).as_slice()),
-        Show::Fstate => put_plain(buffer, sink, part, fstate(number)),
-        Show::Day => put_day(buffer, sink, part, number),
-        Show::Date => put_date(buffer, sink, part, number),
-        Show::Base64 => put_plain(buffer, sink, part, b"(not a blob)"),
-        Show::Arraysize => put_decimal(buffer, sink, part, count as u64),
+        Show::Plain | Show::Shescape => put_decimal(sink, part, number),
+        Show::Hex => put_plain(sink, part, hex(number).as_slice()),
+        Show::Octal => put_plain(sink, part, octal(number).as_slice()),
+        Show::Perms => put_plain(sink, part, &perms(number)),
+        Show::Depflags => put_plain(sink, part, depflags(number).as_slice()),
+        Show::Fflags => put_plain(sink, part, fflags(number).as_slice()),
+        Show::Fstate => put_plain(sink, part, fstate(number)),
+        Show::Day => put_day(sink, part, number),
+        Show::Date => put_date(sink, part, number),
+        Show::Base64 => put_plain(sink, part, b"(not a blob)"),
+        Show::Arraysize => put_decimal(sink, part, count as u64),
     }
 }
 
 /// Puts a text of a value that has so many elements.
 pub fn put_text<O: Sink>(
-    buffer: &mut Buffer,
     sink: &mut O,
     part: &TagPart,
     count: u32,
     text: &Joined<'_>,
 ) -> Result<(), Failed>
-    ensures { Puts O.tells O.taken O.faults buffer.old sink.old (padded part.now.left part.now.width (text_text part.now.show count (concat text.now))) buffer.new sink.new result }
+    ensures { Writes O.tells O.taken O.faults O.follows sink.old sink.new (padded part.now.left part.now.width (text_text part.now.show count (concat text.now))) result }
 {
     match part.show {
-        Show::Plain => put_padded(buffer, sink, part.left, part.width, &Shown::Joined(text)),
-        Show::Shescape => put_padded(buffer, sink, part.left, part.width, &Shown::Quoted(text)),
-        Show::Base64 => put_plain(buffer, sink, part, b"(not a blob)"),
-        Show::Arraysize => put_decimal(buffer, sink, part, count as u64),
-        _ => put_plain(buffer, sink, part, b"(not a number)"),
+        Show::Plain => put_padded(sink, part.left, part.width, &Shown::Joined(text)),
+        Show::Shescape => put_padded(sink, part.left, part.width, &Shown::Quoted(text)),
+        Show::Base64 => put_plain(sink, part, b"(not a blob)"),
+        Show::Arraysize => put_decimal(sink, part, count as u64),
+        _ => put_plain(sink, part, b"(not a number)"),
     }
 }
 
 /// Puts a blob, which is the only element of its value.
-pub fn put_blob<O: Sink>(
-    buffer: &mut Buffer,
-    sink: &mut O,
-    part: &TagPart,
-    bytes: &[u8],
-) -> Result<(), Failed>
-    ensures { Puts O.tells O.taken O.faults buffer.old sink.old (padded part.now.left part.now.width (blob_text part.now.show bytes.now)) buffer.new sink.new result }
+pub fn put_blob<O: Sink>(sink: &mut O, part: &TagPart, bytes: &[u8]) -> Result<(), Failed>
+    ensures { Writes O.tells O.taken O.faults O.follows sink.old sink.new (padded part.now.left part.now.width (blob_text part.now.show bytes.now)) result }
 {
     match part.show {
-        Show::Plain => put_padded(buffer, sink, part.left, part.width, &Shown::Hex(bytes)),
-        Show::Shescape => put_padded(
-            buffer,
-            sink,
-            part.left,
-            part.width,
-            &Shown::QuotedHex(bytes),
-        ),
-        Show::Base64 => put_padded(buffer, sink, part.left, part.width, &Shown::Base64(bytes)),
-        Show::Arraysize => put_plain(buffer, sink, part, b"1"),
-        _ => put_plain(buffer, sink, part, b"(not a number)"),
+        Show::Plain => put_padded(sink, part.left, part.width, &Shown::Hex(bytes)),
+        Show::Shescape => put_padded(sink, part.left, part.width, &Shown::QuotedHex(bytes)),
+        Show::Base64 => put_padded(sink, part.left, part.width, &Shown::Base64(bytes)),
+        Show::Arraysize => put_plain(sink, part, b"1"),
+        _ => put_plain(sink, part, b"(not a number)"),
     }
 }
 
 /// Puts what stands for an element that isn't there.
-pub fn put_none<O: Sink>(buffer: &mut Buffer, sink: &mut O, part: &TagPart) -> Result<(), Failed>
-    ensures { Puts O.tells O.taken O.faults buffer.old sink.old (padded part.now.left part.now.width (or_none None)) buffer.new sink.new result }
+pub fn put_none<O: Sink>(sink: &mut O, part: &TagPart) -> Result<(), Failed>
+    ensures { Writes O.tells O.taken O.faults O.follows sink.old sink.new (padded part.now.left part.now.width (or_none None)) result }
 {
-    put_plain(buffer, sink, part, b"(none)")
+    put_plain(sink, part, b"(none)")
 }
 
 /// Puts the element of a value at a place, which is looked for from the first one on where it is a
 /// text.
 pub fn put_element<O: Sink>(
-    buffer: &mut Buffer,
     sink: &mut O,
     part: &TagPart,
     value: &TagValue<'_>,
     place: u32,
 ) -> Result<(), Failed>
-    ensures { Puts O.tells O.taken O.faults buffer.old sink.old (padded part.now.left part.now.width (or_none (shown part.now.show value.now place))) buffer.new sink.new result }
+    ensures { Writes O.tells O.taken O.faults O.follows sink.old sink.new (padded part.now.left part.now.width (or_none (shown part.now.show value.now place))) result }
 {
     let count = value.count();
     if place >= count {
-        return put_none(buffer, sink, part);
+        return put_none(sink, part);
     }
     match value.class() {
-        Class::Number => put_number(buffer, sink, part, count, value.number(place)),
-        Class::Text => put_text(buffer, sink, part, count, &value.text(place)),
-        Class::Blob => put_blob(buffer, sink, part, value.blob()),
+        Class::Number => put_number(sink, part, count, value.number(place)),
+        Class::Text => put_text(sink, part, count, &value.text(place)),
+        Class::Blob => put_blob(sink, part, value.blob()),
     }
 }
 
 /// Puts a value by the role of its tag, in a round.
 pub fn put_value<O: Sink>(
-    buffer: &mut Buffer,
     sink: &mut O,
     part: &TagPart,
     value: &TagValue<'_>,
     round: u32,
 ) -> Result<(), Failed>
-    ensures { Puts O.tells O.taken O.faults buffer.old sink.old (padded part.now.left part.now.width (value_text part.now.role part.now.show round value.now)) buffer.new sink.new result }
+    ensures { Writes O.tells O.taken O.faults O.follows sink.old sink.new (padded part.now.left part.now.width (value_text part.now.role part.now.show round value.now)) result }
 {
     match part.role {
-        Role::Element => put_element(buffer, sink, part, value, round),
-        Role::First => put_element(buffer, sink, part, value, 0),
+        Role::Element => put_element(sink, part, value, round),
+        Role::First => put_element(sink, part, value, 0),
         Role::Count => {
             let count = value.count();
-            put_number(buffer, sink, part, count, count as u64)
+            put_number(sink, part, count, count as u64)
         }
     }
 }
 
 /// Puts a tag in a round, whose value is looked up.
 pub fn put_looked_up<O: Sink>(
-    buffer: &mut Buffer,
     sink: &mut O,
     part: &TagPart,
     view: &View<'_>,
     number: u32,
     round: u32,
 ) -> Result<(), Failed>
-    ensures { Puts O.tells O.taken O.faults buffer.old sink.old (tag_text view.now number round part.now) buffer.new sink.new result }
+    ensures { Writes O.tells O.taken O.faults O.follows sink.old sink.new (tag_text view.now number round part.now) result }
 {
     match value(view, number, part.tag) {
-        None => put_none(buffer, sink, part),
-        Some(found) => put_value(buffer, sink, part, &found, round),
+        None => put_none(sink, part),
+        Some(found) => put_value(sink, part, &found, round),
     }
 }

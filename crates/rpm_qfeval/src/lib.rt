@@ -3,10 +3,9 @@
 //! The parts of a format are printed one after the other: literal bytes as they are, tags through their
 //! formatters and in their widths, brackets once for each element, and of conditions one branch. The
 //! language is that of rpm's query formats. Nothing here takes memory: texts are borrowed from the
-//! header, and what is printed goes through a buffer of fixed size.
+//! header, and what is printed goes to a sink piece by piece.
 #![tactic(auto)]
 
-mod buffer;
 mod columns;
 mod cursor;
 mod dates;

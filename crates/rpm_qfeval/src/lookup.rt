@@ -4,10 +4,9 @@ ghost use Rattle.std.specs.Prelude.{◌≡◌, ◌<◌, length, IfSome};
 ghost use Rattle.std.specs.Option.{option_map};
 ghost use Rattle.rpm_tags.specs.Value.{value, count_of};
 ghost use Rattle.rpm_qfeval.specs.Columns.{AreTold, IsOf};
-ghost use Rattle.rpm_qfeval.specs.Puts.{Puts};
+ghost use Rattle.rpm_outside.specs.Sinks.{Writes};
 ghost use Rattle.rpm_qfeval.specs.Meaning.{is_present, tag_text};
 
-use crate::buffer::Buffer;
 use crate::columns::{Asked, Column};
 use crate::elements::put_looked_up;
 use rpm_header::View;
@@ -66,7 +65,6 @@ pub fn is_present(
 
 /// Puts a tag in a round.
 pub fn put_tag<O: Sink>(
-    buffer: &mut Buffer,
     sink: &mut O,
     part: &TagPart,
     view: &View<'_>,
@@ -75,13 +73,13 @@ pub fn put_tag<O: Sink>(
     round: u32,
 ) -> Result<(), Failed>
     requires { AreTold view.now number columns.old }
-    ensures puts { Puts O.tells O.taken O.faults buffer.old sink.old (tag_text view.now number round part.now) buffer.new sink.new result }
+    ensures puts { Writes O.tells O.taken O.faults O.follows sink.old sink.new (tag_text view.now number round part.now) result }
     ensures same { columns.new ≡ columns.old }
 {
     if let Some(k) = place_of(columns, Asked::by(part)) {
         if let Some(column) = &mut columns[k] {
-            return column.put(buffer, sink, part, round);
+            return column.put(sink, part, round);
         }
     }
-    put_looked_up(buffer, sink, part, view, number, round)
+    put_looked_up(sink, part, view, number, round)
 }

@@ -5,7 +5,6 @@ ghost use Rattle.rpm_outside.specs.Sinks.{Writes};
 ghost use Rattle.rpm_qfeval.specs.Meaning.{bytes, meaning};
 ghost use Rattle.rpm_qfeval.specs.Printed.{Prints, ending, eval_ending};
 
-use crate::buffer::Buffer;
 use crate::sizes::sizes;
 use crate::writing::put_parts;
 use rpm_header::View;
@@ -34,18 +33,16 @@ pub enum EvalFault {
     NoMemory,
 }
 
-/// Prints parts outside of brackets, through a buffer that is flushed at the end.
+/// Prints parts outside of brackets.
 fn print_parts<O: Sink>(
     parts: &Parts,
     view: &View<'_>,
     number: u32,
     sink: &mut O,
 ) -> Result<(), Failed>
-    ensures { Writes O.tells O.taken O.faults sink.old sink.new (bytes view.now number 0 parts.now) result }
+    ensures { Writes O.tells O.taken O.faults O.follows sink.old sink.new (bytes view.now number 0 parts.now) result }
 {
-    let mut buffer = Buffer::new();
-    put_parts(&mut buffer, sink, parts, view, number, &mut [], 0)?;
-    buffer.flush(sink)
+    put_parts(sink, parts, view, number, &mut [], 0)
 }
 
 /// Prints what a format says of a header and of the number of its package. Takes no memory.
@@ -70,15 +67,15 @@ fn print_parts<O: Sink>(
 /// up once, and goes through the texts of each once, so that n rounds of k tags cost n times k. That
 /// holds of the first 16 different tags in it, where those in conditions count too, and a tag behind
 /// `=` is one of its own. One behind these is looked up in each round, and its texts are read from the
-/// first on each time. A padded text is measured before it is put. The sink gets up to 4,096 bytes at a
-/// time, and a longer piece at once.
+/// first on each time. A padded text is measured before it is put. The sink gets each piece of the text in a
+/// call of its own: give one with a buffer, as `Buffered`, where a call costs much.
 pub fn print_direct<O: Sink>(
     format: &Format,
     view: &View<'_>,
     number: u32,
     sink: &mut O,
 ) -> Result<(), DirectFault>
-    ensures { Prints O.tells O.taken O.faults (meaning view.now number format.now) sink.old sink.new (ending result) }
+    ensures { Prints O.tells O.taken O.faults O.follows (meaning view.now number format.now) sink.old sink.new (ending result) }
 {
     if let Some((first, second)) = sizes(format.parts(), view, number) {
         return Err(DirectFault::SizesDiffer { first, second });
@@ -102,7 +99,7 @@ pub fn print<O: Sink>(
     number: u32,
     sink: &mut O,
 ) -> Result<(), EvalFault>
-    ensures { Prints O.tells O.taken O.faults (meaning view.now number format.now) sink.old sink.new (eval_ending result) }
+    ensures { Prints O.tells O.taken O.faults O.follows (meaning view.now number format.now) sink.old sink.new (eval_ending result) }
 {
     let _ = alloc;
     match print_direct(format, view, number, sink) {

@@ -3,6 +3,7 @@
 ghost use Rattle.std.specs.Prelude.{◌≡◌, ◌≢◌, ℕ, IsTrue, IsOk, IfOk, false, true, Ok, Err, Some};
 ghost use Rattle.std.specs.FinMap as finite;
 ghost use Rattle.rpm_outside.specs.Causes.{HasCauseAt};
+ghost use Rattle.rpm_outside.specs.declared.disk.File.TheVariants.{Pkg};
 ghost use Rattle.rpm_outside.specs.Looks.{Looks};
 ghost use Rattle.rpm_db.specs.State.{Package, Bad, packages, package_of, above};
 ghost use Rattle.rpm_db.specs.Database.{Keeps, holds, cost, cost_to};
@@ -175,7 +176,7 @@ fn pick<D: Disk>(
     ensures told { IsTrue D.tells → (p : Package) → finite.get (packages (D.files disk.old).pkg db.now.store) number ≡ Some p
         → OneIs selection.now number p result }
     ensures numbered { IsNumbered number result }
-    ensures looks { Looks D.tells D.files D.left_since D.moment D.bytes_read D.follows (cost number db.now) disk.old disk.new }
+    ensures looks { Looks D.tells D.files D.left_since D.moment D.bytes_read D.follows Pkg (cost number db.now) disk.old disk.new }
     ensures cause { HasCauseAt (result ≡ Err PickFault.DiskFault) (D.faults disk.old) (D.faults disk.new) }
     ensures unbroken { is_broken result ≡ false }
     ensures unread { is_elsewhere selection.now number ≡ true → D.bytes_read disk.new File.Pkg ≡ D.bytes_read disk.old File.Pkg }
@@ -204,7 +205,7 @@ impl Picker {
         requires runs { db.now.stopped ≡ false }
         ensures kept { IsTrue D.tells → Keeps (D.files disk.new).pkg db.now }
         ensures begins { IsOk result }
-        ensures looks { Looks D.tells D.files D.left_since D.moment D.bytes_read D.follows 0 disk.old disk.new }
+        ensures looks { Looks D.tells D.files D.left_since D.moment D.bytes_read D.follows Pkg 0 disk.old disk.new }
     {
         Ok(Picker {})
     }
@@ -231,7 +232,7 @@ impl Picker {
         requires runs { db.now.stopped ≡ false }
         ensures kept { IsTrue D.tells → Keeps (D.files disk.new).pkg db.now }
         ensures told { IsTrue D.tells → NextIs (above n (picks (packages (D.files disk.old).pkg db.now.store) selection.now)) result }
-        ensures looks { Looks D.tells D.files D.left_since D.moment D.bytes_read D.follows (cost_after n db.now result) disk.old disk.new }
+        ensures looks { Looks D.tells D.files D.left_since D.moment D.bytes_read D.follows Pkg (cost_after n db.now result) disk.old disk.new }
         ensures own { ReadsOwn selection.now db.now (D.bytes_read disk.old File.Pkg) (D.bytes_read disk.new File.Pkg) }
         ensures unbroken { is_broken result ≡ false }
         ensures cause { HasCauseAt (result ≡ Err PickFault.DiskFault) (D.faults disk.old) (D.faults disk.new) }
@@ -267,7 +268,7 @@ impl Picker {
         requires runs { db.now.stopped ≡ false }
         ensures kept { IsTrue D.tells → Keeps (D.files disk.new).pkg db.now }
         ensures told { IsTrue D.tells → AnyIs (above 0 (picks (packages (D.files disk.old).pkg db.now.store) selection.now)) n result }
-        ensures looks { Looks D.tells D.files D.left_since D.moment D.bytes_read D.follows (cost_to n db.now) disk.old disk.new }
+        ensures looks { Looks D.tells D.files D.left_since D.moment D.bytes_read D.follows Pkg (cost_to n db.now) disk.old disk.new }
         ensures own { ReadsOwn selection.now db.now (D.bytes_read disk.old File.Pkg) (D.bytes_read disk.new File.Pkg) }
         ensures unbroken { is_broken result ≡ false }
         ensures cause { HasCauseAt (result ≡ Err PickFault.DiskFault) (D.faults disk.old) (D.faults disk.new) }

@@ -1,6 +1,7 @@
 //! The line that closes a command on standard error.
 
-ghost use Rattle.std.specs.Prelude.{◌≡◌, ◌++◌, codes, decimal, Err, Ok};
+ghost use Rattle.std.specs.Prelude.{◌≡◌, ◌++◌, [], codes, decimal, Err, Ok};
+ghost use Rattle.rpm_outside.specs.Buffered.{inner, holds};
 ghost use Rattle.rpm_outside.specs.Sinks.{Writes};
 ghost use Rattle.rpm_tool.specs.Closing.{reason_text, damage_line, rule_text, word_told, usage_line, fault_text, format_line, closing};
 ghost use Rattle.rpm_words.specs.Place.{text_at};
@@ -9,7 +10,7 @@ use crate::answer::Why;
 use crate::asked::text_at;
 use crate::pieces::put_pieces;
 use itoa::Buffer;
-use rpm_outside::{Failed, Sink, put_all};
+use rpm_outside::{Buffered, Failed, Sink, put_all};
 use rpm_pkgdb::{Damage, Reason};
 use rpm_qfparse::{FormatFault, FormatKind};
 use rpm_words::{Words, WordsFault, WordsKind};
@@ -32,7 +33,7 @@ fn reason_text(reason: Reason) -> &'static [u8]
 
 /// Writes where `Packages.db` is damaged, and how.
 fn put_damage<E: Sink>(err: &mut E, damage: Damage) -> Result<(), Failed>
-    ensures { Writes E.tells E.taken E.faults err.old err.new (damage_line damage) result }
+    ensures { Writes E.tells E.taken E.faults E.follows err.old err.new (damage_line damage) result }
 {
     let mut digits = Buffer::new();
     let offset = digits.format(damage.offset).as_bytes();
@@ -80,7 +81,7 @@ fn word_told(words: &Words, fault: WordsFault) -> &[u8]
 /// Writes which rule the words break, and the word that breaks it.
 #[tactic(auto, unfolding(crate::specs::Closing::usage_line))]
 fn put_usage<'a, E: Sink>(err: &mut E, words: &'a Words, fault: WordsFault) -> Result<(), Failed>
-    ensures { Writes E.tells E.taken E.faults err.old err.new (usage_line words.now fault) result }
+    ensures { Writes E.tells E.taken E.faults E.follows err.old err.new (usage_line words.now fault) result }
 {
     // One lifetime for both, as the elements of an array have it.
     let rule: &'a [u8] = rule_text(fault.kind);
@@ -115,7 +116,7 @@ fn fault_text(kind: FormatKind) -> &'static [u8]
 
 /// Writes what is wrong with the format, and at which byte of it.
 fn put_fault<E: Sink>(err: &mut E, fault: FormatFault) -> Result<(), Failed>
-    ensures { Writes E.tells E.taken E.faults err.old err.new (format_line fault) result }
+    ensures { Writes E.tells E.taken E.faults E.follows err.old err.new (format_line fault) result }
 {
     let mut digits = Buffer::new();
     let at = digits.format(fault.at).as_bytes();
@@ -128,8 +129,8 @@ fn put_fault<E: Sink>(err: &mut E, fault: FormatFault) -> Result<(), Failed>
 
 /// Writes the line that closes an ending, or nothing where it has none. It takes no memory.
 #[tactic(auto, unfolding(crate::specs::Closing::closing))]
-pub fn put_closing<E: Sink>(err: &mut E, words: &Words, why: Why) -> Result<(), Failed>
-    ensures { Writes E.tells E.taken E.faults err.old err.new (closing words.now why) result }
+fn put_line<E: Sink>(err: &mut E, words: &Words, why: Why) -> Result<(), Failed>
+    ensures { Writes E.tells E.taken E.faults E.follows err.old err.new (closing words.now why) result }
 {
     match why {
         Why::Done | Why::Failed(_) | Why::ErrFault => put_all(err, b""),
@@ -141,4 +142,17 @@ pub fn put_closing<E: Sink>(err: &mut E, words: &Words, why: Why) -> Result<(), 
         Why::OutFault => put_all(err, b"rpm: output could not be written\n"),
         Why::NoMemory => put_all(err, b"rpm: out of memory\n"),
     }
+}
+
+/// Writes that line, and gives the sink behind the buffer all of it.
+pub fn put_closing<E: Sink + Drop>(
+    err: &mut Buffered<E>,
+    words: &Words,
+    why: Why,
+) -> Result<(), Failed>
+    requires { holds err.old ≡ [] }
+    ensures { Writes E.tells E.taken E.faults E.follows (inner err.old) (inner err.new) (closing words.now why) result }
+{
+    put_line(err, words, why)?;
+    err.flush()
 }

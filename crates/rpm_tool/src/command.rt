@@ -1,7 +1,9 @@
 //! The top call: a command line does what its command's steps say.
 
-ghost use Rattle.std.specs.Prelude.{◌≡◌, ◌≢◌, ℕ, ◌+◌, ◌≤◌, true, IsTrue, Some, None, Err};
+ghost use Rattle.std.specs.Prelude.{◌≡◌, ◌≢◌, ℕ, ◌+◌, ◌≤◌, [], true, IsTrue, Some, None, Err};
+ghost use Rattle.rpm_outside.specs.Buffered.{inner, holds, HandsOn};
 ghost use Rattle.rpm_outside.specs.Causes.{HasCauseAt};
+ghost use Rattle.rpm_outside.specs.declared.disk.File.TheVariants.{Pkg};
 ghost use Rattle.rpm_outside.specs.Looks.{Looks};
 ghost use Rattle.rpm_pkgdb.specs.Store.{store};
 ghost use Rattle.rpm_words.specs.Ask.{ask};
@@ -14,31 +16,35 @@ use crate::answer::{Outcome, Unbuilt, Why, status_of};
 use crate::asked::read_format;
 use crate::closing::put_closing;
 use crate::query::query_all;
-use rpm_outside::{Disk, File, Shelf, Sink};
+use rpm_outside::{Buffered, Disk, File, Shelf, Sink};
 use rpm_qfparse::{FormatFault, FormatKind};
 use rpm_words::{Words, WordsFault, WordsKind};
 use std::alloc::Global;
 
 /// Does what a command line asks for, up to its closing line.
-fn command<D: Disk, O: Sink, E: Sink>(
+fn command<D: Disk, O: Sink + Drop, E: Sink + Drop>(
     alloc: Global,
     words: &Words,
     disk: &mut D,
-    out: &mut O,
-    err: &mut E,
+    out: &mut Buffered<O>,
+    err: &mut Buffered<E>,
 ) -> Why
+    requires out_empty { holds out.old ≡ [] }
+    requires err_empty { holds err.old ≡ [] }
     ensures usage { (f : WordsFault) → ComesWhere (Why.Usage f) result (ask words.now ≡ Err f) }
     ensures usage_kind { (f : WordsFault) → result ≡ Why.Usage f → f.kind ≢ WordsKind.NoMemory }
     ensures unbuilt { ComesWhere (Why.NotBuilt Unbuilt.Words) result (asks_unbuilt words.now ≡ true) }
     ensures bad_format { (f : FormatFault) → ComesWhere (Why.BadFormat f) result (asks_format words.now ≡ Some (Err f)) }
     ensures bad_format_kind { (f : FormatFault) → result ≡ Why.BadFormat f → f.kind ≢ FormatKind.NoMemory }
     ensures unread { asks_all words.now ≡ None → (disk.new ≡ disk.old) × (out.new ≡ out.old) × (err.new ≡ err.old) }
-    ensures went { (tree : Tree) → asks_all words.now ≡ Some tree → IsTrue D.tells → Queried tree (D.files disk.old).pkg (store (D.files disk.old).pkg) result (outputs O.tells (O.taken out.old) E.tells (E.taken err.old)) (outputs O.tells (O.taken out.new) E.tells (E.taken err.new)) (D.bytes_read disk.old File.Pkg) (D.bytes_read disk.new File.Pkg) }
+    ensures went { (tree : Tree) → asks_all words.now ≡ Some tree → IsTrue D.tells → Queried tree (D.files disk.old).pkg (store (D.files disk.old).pkg) result (outputs O.tells (O.taken (inner out.old)) E.tells (E.taken (inner err.old))) (outputs O.tells (O.taken (inner out.new)) E.tells (E.taken (inner err.new))) (D.bytes_read disk.old File.Pkg) (D.bytes_read disk.new File.Pkg) }
     ensures reads { IsTrue D.tells → D.bytes_read disk.new File.Pkg ≤ D.bytes_read disk.old File.Pkg + query_cost (D.files disk.old).pkg }
-    ensures looks { (most : ℕ) × Looks D.tells D.files D.left_since D.moment D.bytes_read D.follows most disk.old disk.new }
+    ensures looks { (most : ℕ) × Looks D.tells D.files D.left_since D.moment D.bytes_read D.follows Pkg most disk.old disk.new }
     ensures disk { HasCauseAt (result ≡ Why.DiskFault) (D.faults disk.old) (D.faults disk.new) }
-    ensures out { HasCauseAt (result ≡ Why.OutFault) (O.faults out.old) (O.faults out.new) }
-    ensures err { HasCauseAt (result ≡ Why.ErrFault) (E.faults err.old) (E.faults err.new) }
+    ensures out { HasCauseAt (result ≡ Why.OutFault) (O.faults (inner out.old)) (O.faults (inner out.new)) }
+    ensures err { HasCauseAt (result ≡ Why.ErrFault) (E.faults (inner err.old)) (E.faults (inner err.new)) }
+    ensures out_rest { HandsOn O.follows out.old out.new }
+    ensures err_rest { HandsOn E.follows err.old err.new }
 {
     match read_format(alloc, words) {
         Ok(format) => query_all(alloc, &format, disk, out, err),
@@ -89,7 +95,7 @@ pub fn run<D: Disk, S: Shelf, O: Sink, E: Sink>(
     ensures answers { (tree : Tree) → asks_all words.now ≡ Some tree → IsTrue D.tells → Ends (λ mid. Queried tree (D.files disk).pkg (store (D.files disk).pkg) result.0.why (outputs O.tells (O.taken out.old) E.tells (E.taken err.old)) mid (D.bytes_read disk File.Pkg) (D.bytes_read result.1 File.Pkg)) (closing words.now result.0.why) (outputs O.tells (O.taken out.new) E.tells (E.taken err.new)) (E.faults err.old) (E.faults err.new) }
 
     // The disk reads as before, and so do its images; of Packages.db no more is read than its pages and packages.
-    ensures looks { (most : ℕ) × Looks D.tells D.files D.left_since D.moment D.bytes_read D.follows most disk result.1 }
+    ensures looks { (most : ℕ) × Looks D.tells D.files D.left_since D.moment D.bytes_read D.follows Pkg most disk result.1 }
     ensures reads { IsTrue D.tells → D.bytes_read result.1 File.Pkg ≤ D.bytes_read disk File.Pkg + query_cost (D.files disk).pkg }
     ensures shelf { shelf.new ≡ shelf.old }
 
@@ -99,8 +105,10 @@ pub fn run<D: Disk, S: Shelf, O: Sink, E: Sink>(
     ensures err_fault { HasCauseAt (result.0.why ≡ Why.ErrFault) (E.faults err.old) (E.faults err.new) }
 {
     let mut disk = disk;
-    let why = command(alloc, words, &mut disk, out, err);
-    let _ = put_closing(err, words, why);
+    let mut out = Buffered::new(out);
+    let mut err = Buffered::new(err);
+    let why = command(alloc, words, &mut disk, &mut out, &mut err);
+    let _ = put_closing(&mut err, words, why);
     let outcome = Outcome {
         status: status_of(why),
         why,

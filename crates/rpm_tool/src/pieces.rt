@@ -8,7 +8,7 @@ use rpm_outside::{Failed, Sink, put_all};
 
 /// Writes these pieces, one after the other. It takes no memory.
 pub fn put_pieces<S: Sink>(sink: &mut S, pieces: &[&[u8]]) -> Result<(), Failed>
-    ensures { Writes S.tells S.taken S.faults sink.old sink.new (concat (map (λ piece. piece.now) pieces.now)) result }
+    ensures { Writes S.tells S.taken S.faults S.follows sink.old sink.new (concat (map (λ piece. piece.now) pieces.now)) result }
 {
     for piece in pieces {
         put_all(sink, piece)?;

@@ -1,19 +1,23 @@
 //! What is printed of one package.
 
-ghost use Rattle.std.specs.Prelude.{◌≡◌, ◌≢◌, ℕ, Bool, List, IsTrue, IsSome, Some, Err, IfOk};
+ghost use Rattle.std.specs.Prelude.{◌≡◌, ◌≢◌, ℕ, Bool, List, [], IsTrue, IsSome, Some, Err, IfOk};
 ghost use Rattle.std.specs.FinMap.{get};
+ghost use Rattle.rpm_outside.specs.Buffered.{inner, holds, HandsOn};
 ghost use Rattle.rpm_outside.specs.Causes.{HasCauseAt};
+ghost use Rattle.rpm_outside.specs.declared.disk.File.TheVariants.{Pkg};
 ghost use Rattle.rpm_outside.specs.Looks.{Looks};
 ghost use Rattle.rpm_pkgdb.specs.Slots.{slot_with};
 ghost use Rattle.rpm_pkgdb.specs.Store.{Keeps};
 ghost use Rattle.rpm_pkgdb.specs.Costs.{cost};
+ghost use Rattle.rpm_qfeval.specs.Meaning.{meaning};
+ghost use Rattle.rpm_qfeval.specs.Printed.{Prints, ending};
 ghost use Rattle.rpm_tool.specs.Installed.{Package, Good, package_of, installed};
 ghost use Rattle.rpm_tool.specs.Answers.{StepIs, outputs};
 ghost use Rattle.rpm_tool.specs.Steps.{ToErr, bearer, step_of, bad_line, sizes_line};
 
 use itoa::Buffer;
 use rpm_header::View;
-use rpm_outside::{Disk, Sink, put_all};
+use rpm_outside::{Buffered, Disk, Failed, Sink, put_and_flush};
 use rpm_pkgdb::{GetFault, PkgDb};
 use rpm_qfeval::{DirectFault, print_direct};
 use rpm_qfparse::Format;
@@ -29,13 +33,15 @@ pub enum Stop {
 }
 
 /// Writes a message on a package to err.
-fn put_message<E: Sink>(err: &mut E, number: u32, message: &[u8]) -> Result<bool, Stop>
-    ensures step { (out_tells : Bool) (out : List ℕ) → StepIs (ToErr (bearer number) message.now) result (outputs out_tells out E.tells (E.taken err.old)) (outputs out_tells out E.tells (E.taken err.new)) }
+fn put_message<E: Sink + Drop>(err: &mut Buffered<E>, number: u32, message: &[u8]) -> Result<bool, Stop>
+    requires err_empty { holds err.old ≡ [] }
+    ensures step { (out_tells : Bool) (out : List ℕ) → StepIs (ToErr (bearer number) message.now) result (outputs out_tells out E.tells (E.taken (inner err.old))) (outputs out_tells out E.tells (E.taken (inner err.new))) }
     ensures no_disk { result ≢ Err Stop.DiskFault }
     ensures no_out { result ≢ Err Stop.OutFault }
-    ensures err { HasCauseAt (result ≡ Err Stop.ErrFault) (E.faults err.old) (E.faults err.new) }
+    ensures err { HasCauseAt (result ≡ Err Stop.ErrFault) (E.faults (inner err.old)) (E.faults (inner err.new)) }
+    ensures err_rest { HandsOn E.follows err.old err.new }
 {
-    match put_all(err, message) {
+    match put_and_flush(err, message) {
         Ok(()) => Ok(false),
         Err(_) => Err(Stop::ErrFault),
     }
@@ -55,11 +61,13 @@ fn bad_line(alloc: Global, number: u32) -> Result<Vec<u8>, AllocError>
 }
 
 /// Writes to err that a package can't be read.
-fn put_bad<E: Sink>(alloc: Global, err: &mut E, number: u32) -> Result<bool, Stop>
-    ensures step { (out_tells : Bool) (out : List ℕ) → StepIs (ToErr (bearer number) (bad_line number)) result (outputs out_tells out E.tells (E.taken err.old)) (outputs out_tells out E.tells (E.taken err.new)) }
+fn put_bad<E: Sink + Drop>(alloc: Global, err: &mut Buffered<E>, number: u32) -> Result<bool, Stop>
+    requires err_empty { holds err.old ≡ [] }
+    ensures step { (out_tells : Bool) (out : List ℕ) → StepIs (ToErr (bearer number) (bad_line number)) result (outputs out_tells out E.tells (E.taken (inner err.old))) (outputs out_tells out E.tells (E.taken (inner err.new))) }
     ensures no_disk { result ≢ Err Stop.DiskFault }
     ensures no_out { result ≢ Err Stop.OutFault }
-    ensures err { HasCauseAt (result ≡ Err Stop.ErrFault) (E.faults err.old) (E.faults err.new) }
+    ensures err { HasCauseAt (result ≡ Err Stop.ErrFault) (E.faults (inner err.old)) (E.faults (inner err.new)) }
+    ensures err_rest { HandsOn E.follows err.old err.new }
 {
     match bad_line(alloc, number) {
         Ok(line) => put_message(err, number, &line),
@@ -67,22 +75,61 @@ fn put_bad<E: Sink>(alloc: Global, err: &mut E, number: u32) -> Result<bool, Sto
     }
 }
 
-/// Prints what the format says of a header, to out (true), or where a bracket's tags have different numbers of elements
-/// a message, to err (false).
-#[tactic(auto, unfolding(crate::specs::Steps::sizes_line))]
-fn print_header<O: Sink, E: Sink>(
+/// Prints what the format says of a header, and gives the sink behind the buffer all of it.
+fn print_through<O: Sink + Drop>(
     format: &Format,
     view: &View<'_>,
     number: u32,
-    out: &mut O,
-    err: &mut E,
-) -> Result<bool, Stop>
-    ensures step { StepIs (step_of format.now number (Good view.now)) result (outputs O.tells (O.taken out.old) E.tells (E.taken err.old)) (outputs O.tells (O.taken out.new) E.tells (E.taken err.new)) }
-    ensures no_disk { result ≢ Err Stop.DiskFault }
-    ensures out { HasCauseAt (result ≡ Err Stop.OutFault) (O.faults out.old) (O.faults out.new) }
-    ensures err { HasCauseAt (result ≡ Err Stop.ErrFault) (E.faults err.old) (E.faults err.new) }
+    out: &mut Buffered<O>,
+) -> Result<(), DirectFault>
+    requires { holds out.old ≡ [] }
+    ensures { Prints O.tells O.taken O.faults O.follows (meaning view.now number format.now) (inner out.old) (inner out.new) (ending result) }
 {
     match print_direct(format, view, number, out) {
+        Ok(()) => match out.flush() {
+            Ok(()) => Ok(()),
+            Err(Failed) => Err(DirectFault::OutFault),
+        },
+        Err(fault) => Err(fault),
+    }
+}
+
+/// Prints so. What a sink that failed didn't take is let go.
+fn print_flushed<O: Sink + Drop>(
+    format: &Format,
+    view: &View<'_>,
+    number: u32,
+    out: &mut Buffered<O>,
+) -> Result<(), DirectFault>
+    requires { holds out.old ≡ [] }
+    ensures prints { Prints O.tells O.taken O.faults O.follows (meaning view.now number format.now) (inner out.old) (inner out.new) (ending result) }
+    ensures empty { holds out.new ≡ [] }
+{
+    let printed = print_through(format, view, number, out);
+    out.clear();
+    printed
+}
+
+/// Prints what the format says of a header, to out (true), or where a bracket's tags have different numbers of elements
+/// a message, to err (false).
+#[tactic(auto, unfolding(crate::specs::Steps::sizes_line))]
+fn print_header<O: Sink + Drop, E: Sink + Drop>(
+    format: &Format,
+    view: &View<'_>,
+    number: u32,
+    out: &mut Buffered<O>,
+    err: &mut Buffered<E>,
+) -> Result<bool, Stop>
+    requires out_empty { holds out.old ≡ [] }
+    requires err_empty { holds err.old ≡ [] }
+    ensures step { StepIs (step_of format.now number (Good view.now)) result (outputs O.tells (O.taken (inner out.old)) E.tells (E.taken (inner err.old))) (outputs O.tells (O.taken (inner out.new)) E.tells (E.taken (inner err.new))) }
+    ensures no_disk { result ≢ Err Stop.DiskFault }
+    ensures out { HasCauseAt (result ≡ Err Stop.OutFault) (O.faults (inner out.old)) (O.faults (inner out.new)) }
+    ensures err { HasCauseAt (result ≡ Err Stop.ErrFault) (E.faults (inner err.old)) (E.faults (inner err.new)) }
+    ensures out_rest { HandsOn O.follows out.old out.new }
+    ensures err_rest { HandsOn E.follows err.old err.new }
+{
+    match print_flushed(format, view, number, out) {
         Ok(()) => Ok(true),
         Err(DirectFault::OutFault) => Err(Stop::OutFault),
         Err(DirectFault::SizesDiffer { .. }) => put_message(
@@ -94,18 +141,22 @@ fn print_header<O: Sink, E: Sink>(
 }
 
 /// Prints a package by its blob, to out (true), or a message, to err (false).
-fn print_blob<O: Sink, E: Sink>(
+fn print_blob<O: Sink + Drop, E: Sink + Drop>(
     alloc: Global,
     format: &Format,
     number: u32,
     blob: &[u8],
-    out: &mut O,
-    err: &mut E,
+    out: &mut Buffered<O>,
+    err: &mut Buffered<E>,
 ) -> Result<bool, Stop>
-    ensures step { StepIs (step_of format.now number (package_of (Some blob.now))) result (outputs O.tells (O.taken out.old) E.tells (E.taken err.old)) (outputs O.tells (O.taken out.new) E.tells (E.taken err.new)) }
+    requires out_empty { holds out.old ≡ [] }
+    requires err_empty { holds err.old ≡ [] }
+    ensures step { StepIs (step_of format.now number (package_of (Some blob.now))) result (outputs O.tells (O.taken (inner out.old)) E.tells (E.taken (inner err.old))) (outputs O.tells (O.taken (inner out.new)) E.tells (E.taken (inner err.new))) }
     ensures no_disk { result ≢ Err Stop.DiskFault }
-    ensures out { HasCauseAt (result ≡ Err Stop.OutFault) (O.faults out.old) (O.faults out.new) }
-    ensures err { HasCauseAt (result ≡ Err Stop.ErrFault) (E.faults err.old) (E.faults err.new) }
+    ensures out { HasCauseAt (result ≡ Err Stop.OutFault) (O.faults (inner out.old)) (O.faults (inner out.new)) }
+    ensures err { HasCauseAt (result ≡ Err Stop.ErrFault) (E.faults (inner err.old)) (E.faults (inner err.new)) }
+    ensures out_rest { HandsOn O.follows out.old out.new }
+    ensures err_rest { HandsOn E.follows err.old err.new }
 {
     match View::parse(blob) {
         Ok(view) => print_header(format, &view, number, out, err),
@@ -114,23 +165,27 @@ fn print_blob<O: Sink, E: Sink>(
 }
 
 /// Prints a package, to out (true), or a message, to err (false). Its blocks are read once, and its blob is let go again.
-pub fn print_package<D: Disk, O: Sink, E: Sink>(
+pub fn print_package<D: Disk, O: Sink + Drop, E: Sink + Drop>(
     alloc: Global,
     db: &PkgDb,
     disk: &mut D,
     number: u32,
     format: &Format,
-    out: &mut O,
-    err: &mut E,
+    out: &mut Buffered<O>,
+    err: &mut Buffered<E>,
 ) -> Result<bool, Stop>
+    requires out_empty { holds out.old ≡ [] }
+    requires err_empty { holds err.old ≡ [] }
     requires keeps { IsTrue D.tells → Keeps (D.files disk.old).pkg db.now }
     requires held { IsSome (slot_with number db.now.slots) }
-    ensures step { IsTrue D.tells → (p : Package) → get (installed (D.files disk.old).pkg db.now) number ≡ Some p → StepIs (step_of format.now number p) result (outputs O.tells (O.taken out.old) E.tells (E.taken err.old)) (outputs O.tells (O.taken out.new) E.tells (E.taken err.new)) }
+    ensures step { IsTrue D.tells → (p : Package) → get (installed (D.files disk.old).pkg db.now) number ≡ Some p → StepIs (step_of format.now number p) result (outputs O.tells (O.taken (inner out.old)) E.tells (E.taken (inner err.old))) (outputs O.tells (O.taken (inner out.new)) E.tells (E.taken (inner err.new))) }
     ensures kept { IsTrue D.tells → Keeps (D.files disk.new).pkg db.now }
-    ensures looks { Looks D.tells D.files D.left_since D.moment D.bytes_read D.follows (cost number db.now) disk.old disk.new }
+    ensures looks { Looks D.tells D.files D.left_since D.moment D.bytes_read D.follows Pkg (cost number db.now) disk.old disk.new }
     ensures disk { HasCauseAt (result ≡ Err Stop.DiskFault) (D.faults disk.old) (D.faults disk.new) }
-    ensures out { HasCauseAt (result ≡ Err Stop.OutFault) (O.faults out.old) (O.faults out.new) }
-    ensures err { HasCauseAt (result ≡ Err Stop.ErrFault) (E.faults err.old) (E.faults err.new) }
+    ensures out { HasCauseAt (result ≡ Err Stop.OutFault) (O.faults (inner out.old)) (O.faults (inner out.new)) }
+    ensures err { HasCauseAt (result ≡ Err Stop.ErrFault) (E.faults (inner err.old)) (E.faults (inner err.new)) }
+    ensures out_rest { HandsOn O.follows out.old out.new }
+    ensures err_rest { HandsOn E.follows err.old err.new }
 {
     match db.get(alloc, disk, number) {
         Ok(blob) => print_blob(alloc, format, number, &blob, out, err),

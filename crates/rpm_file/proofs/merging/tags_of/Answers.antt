@@ -13,6 +13,8 @@ loop-i-preserved c =
     let i = c.loop-i.i in
     let after = λ (v : Vec Bool Global). HasTags (take (i + 1) entries) v.items in
     elim c.if-tag-lt-TAGS.branch [
-      | then-tag-lt-TAGS w ↦ (subst after (sym w.has-is) (tags_noted entries i c.tag-tag.result c.entry.result c.loop-i.has.items c.entry.ensures c.tag-tag.ensures w.if-tag-lt-TAGS.true c.loop-i.invariant))
-      | else-tag-lt-TAGS w ↦ (subst after (sym w.has-is) (tags_kept entries i c.entry.result c.loop-i.has.items c.entry.ensures (omega (arith, c.tag-tag.ensures, w.if-tag-lt-TAGS.false)) c.loop-i.invariant))
+      | then-tag-lt-TAGS w ↦ (subst after (sym w.has-is) (tags_noted entries i c.tag-tag.result c.entry.result c.loop-i.has.items c.entry.ensures
+          c.tag-tag.ensures w.if-tag-lt-TAGS.true c.loop-i.invariant))
+      | else-tag-lt-TAGS w ↦ (subst after (sym w.has-is) (tags_kept entries i c.entry.result c.loop-i.has.items c.entry.ensures
+          (omega (arith, c.tag-tag.ensures, w.if-tag-lt-TAGS.false)) c.loop-i.invariant))
     ]

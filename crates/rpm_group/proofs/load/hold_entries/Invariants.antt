@@ -12,7 +12,8 @@ invariant-loop-k g l =
     let log = (D.files l.initial.disk).log in
     record {
       place : l.p ≤ l.gate.last + 1;
-      so_far : IsTrue D.tells → (files : Files) → Done (entries_of (heads_behind l.gate log)) (l.gate.entries - l._k) l.p l.gate.last log (laid_files l.initial.held files) (laid_files l.held files);
+      so_far : IsTrue D.tells → (files : Files) → Done (entries_of (heads_behind l.gate log)) (l.gate.entries - l._k) l.p l.gate.last log
+          (laid_files l.initial.held files) (laid_files l.held files);
       looks : LooksAtLog D.tells D.files D.left_since D.moment D.bytes_read D.follows l.initial.disk l.disk;
       faults : D.faults l.initial.disk ≤ D.faults l.disk;
     }

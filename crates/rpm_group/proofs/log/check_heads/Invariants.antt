@@ -10,7 +10,8 @@ invariant-loop-k g l =
     let D = g.D.Disk in
     record {
       place : l.p ≤ l.gate.last + 1;
-      so_far : IsTrue D.tells → (done : List Entry) × (heads_behind l.gate (D.files l.initial.disk).log ≡ after done (heads (l.gate.entries - l._k) l.p l.gate.last (D.files l.initial.disk).log));
+      so_far : IsTrue D.tells → (done : List Entry)
+          × (heads_behind l.gate (D.files l.initial.disk).log ≡ after done (heads (l.gate.entries - l._k) l.p l.gate.last (D.files l.initial.disk).log));
       looks : LooksAtLog D.tells D.files D.left_since D.moment D.bytes_read D.follows l.initial.disk l.disk;
       faults : D.faults l.initial.disk ≤ D.faults l.disk;
     }

@@ -8,7 +8,8 @@ use Rattle.rpm_hindex.specs.Index.{index_in, follow, units_at, row_at, is_sound}
 use Rattle.rpm_hindex.specs.Records.{IsRecord}
 use Rattle.rpm_hindex.specs.declared.chain.Record.{Record}
 use Rattle.rpm_hindex.specs.Answers.{AsOften, AddsHit, IsFaultOf}
-use Rattle.rpm_hindex.specs.Disks.{reads_none, reads_then}
+use Rattle.rpm_outside.specs.declared.disk.File.TheVariants.{Idx}
+use Rattle.rpm_outside.specs.inner.Looking.{reads_none, reads_then}
 use Rattle.rpm_hindex.proofs.Counts.{often_none, often_more}
 use Rattle.rpm_hindex.proofs.Collects.{one_more, at_fault, at_end, cost_more, cost_all}
 use Rattle.rpm_hindex.proofs.chain.collect.Goals as goal
@@ -16,7 +17,7 @@ use Rattle.rpm_hindex.proofs.chain.collect.Goals as goal
 pub loop-at-init : goal.loop-at-init
 loop-at-init g c = record {
   within = c.requires.within;
-  looks = reads_none _ _ _ _ _ _ g.met.D.Disk.follows_refl c.args.disk.now;
+  looks = reads_none _ _ _ _ _ _ Idx g.met.D.Disk.follows_refl c.args.disk.now;
   faults = omega arith;
   so_far = λ told. ([], rw c.new-hits.ensures.items (often_none c.args.kind c.args.key.now), refl, omega arith);
 }
@@ -78,7 +79,7 @@ loop-at-preserved g c =
     let file : Files = g.D.Disk.files c.args.disk.now in
     record {
       within = λ some. c.in-Ok.ensures.linked;
-      looks = reads_then _ _ _ _ _ _ g.met.D.Disk.follows_trans c.args.disk.now l.disk c.read_record.new.disk l.invariant.looks c.read_record.ensures.looks;
+      looks = reads_then _ _ _ _ _ _ Idx g.met.D.Disk.follows_trans c.args.disk.now l.disk c.read_record.new.disk l.invariant.looks c.read_record.ensures.looks;
       faults = omega (arith, l.invariant.faults, c.read_record.ensures.cause.later);
       so_far = λ told.
           let same = (l.invariant.looks.untouched told).same in

@@ -33,4 +33,4 @@ returns-in-Ok-clause-cost g c = λ told places e.
     let cost = subst (λ (f : Files). ChainCosts (follow (index_in B f.idx) b c.in-Ok.at c.in-Ok.at) (units_at (unit_at f.idx)) (g.D.Disk.bytes_read c.read_bucket.new.disk Idx) (g.D.Disk.bytes_read c.collect.new.disk Idx)) ((c.in-Ok.ensures.looks.untouched told).same) (c.collect.ensures.cost told) in
     let is = chain_is (index_in B file.idx) b c.bucket_of-bucket.result c.in-Ok.at c.bucket_of-bucket.ensures.bucket word.0 word.1 in
     let more = cost places (sym is ∙ e) in
-    omega (arith, more, c.in-Ok.ensures.looks.no_more)
+    omega (arith, more, c.in-Ok.ensures.looks.reads.idx)

@@ -9,7 +9,8 @@ use Rattle.rpm_hindex.specs.Index.{Index, index_in, follow}
 use Rattle.rpm_hindex.specs.Records.{IsRecord}
 use Rattle.rpm_hindex.specs.Answers.{IsFaultOf}
 use Rattle.rpm_hindex.specs.Changes.{AreLinks, IsLink, is_kept}
-use Rattle.rpm_hindex.specs.Disks.{reads_then}
+use Rattle.rpm_outside.specs.declared.disk.File.TheVariants.{Idx}
+use Rattle.rpm_outside.specs.inner.Looking.{reads_then}
 use Rattle.rpm_hindex.proofs.Collects.{one_more, at_fault, at_end}
 use Rattle.rpm_hindex.proofs.Linking.{links_next, relink_next}
 use Rattle.rpm_hindex.proofs.links.follow_links.Goals as goal
@@ -36,7 +37,7 @@ loop-at-preserved g c =
     record {
       within = λ some. c.in-Ok.ensures.linked;
       relink = relink_next c.args.extent.used kept l.links.items c.push_link.new.links.items link c.in_default.ensures.links l.invariant.relink (l.invariant.within (omega (arith, c.loop-at-test.true))) (omega (arith, c.loop-at-test.true)) c.in-Ok.ensures.kind c.in-Ok.ensures.short;
-      looks = reads_then _ _ _ _ _ _ g.met.D.Disk.follows_trans c.args.disk.now l.disk c.read_record.new.disk l.invariant.looks c.read_record.ensures.looks;
+      looks = reads_then _ _ _ _ _ _ Idx g.met.D.Disk.follows_trans c.args.disk.now l.disk c.read_record.new.disk l.invariant.looks c.read_record.ensures.looks;
       faults = omega (arith, l.invariant.faults, c.read_record.ensures.cause.later);
       so_far = λ told.
           let s = l.invariant.so_far told in

@@ -6,7 +6,8 @@ use Rattle.std.specs.List.{filter}
 use Rattle.rpm_outside.specs.Files.{unit_at}
 use Rattle.rpm_hindex.specs.Index.{index_in, follow}
 use Rattle.rpm_hindex.specs.Changes.{AreLinks, CanRelink, is_kept}
-use Rattle.rpm_hindex.specs.Disks.{Reads}
+use Rattle.rpm_outside.specs.declared.disk.File.TheVariants.{Idx}
+use Rattle.rpm_outside.specs.Looks.{Reads}
 use Rattle.rpm_hindex.proofs.Chains.{behind_all}
 use Rattle.rpm_hindex.proofs.links.follow_links.Given as goal
 
@@ -14,7 +15,7 @@ abbrev pub invariant-loop-at : goal.invariant-loop-at
 invariant-loop-at g l = record {
   within : 0 < l.at → l.at < l.extent.used;
   relink : CanRelink l.extent.used l.links.items;
-  looks : Reads g.D.Disk.tells g.D.Disk.files g.D.Disk.left_since g.D.Disk.moment g.D.Disk.bytes_read g.D.Disk.follows l.initial.disk l.disk;
+  looks : Reads g.D.Disk.tells g.D.Disk.files g.D.Disk.left_since g.D.Disk.moment g.D.Disk.bytes_read g.D.Disk.follows Idx l.initial.disk l.disk;
   faults : g.D.Disk.faults l.initial.disk ≤ g.D.Disk.faults l.disk;
   so_far : IsTrue g.D.Disk.tells → (done : List ℕ)
       × AreLinks (unit_at (g.D.Disk.files l.initial.disk).idx) (filter (is_kept (λ p. get nat_cmp l.dropped p)) done) l.links.items

@@ -3,7 +3,8 @@ use Rattle.rpm_hindex.specs.Sizes.{record_units}
 use Rattle.rpm_hindex.specs.Packed.{row_nth}
 use Rattle.rpm_hindex.specs.Rows.{Row}
 use Rattle.rpm_hindex.specs.declared.chain.Extent.{Extent}
-use Rattle.rpm_hindex.specs.Disks.{reads_none, reads_then}
+use Rattle.rpm_outside.specs.declared.disk.File.TheVariants.{Idx}
+use Rattle.rpm_outside.specs.inner.Looking.{reads_none, reads_then}
 use Rattle.rpm_hindex.proofs.Takes.{live_take, live_none, live_next, next_rows}
 use Rattle.rpm_outside.specs.Files.{Files}
 use Rattle.rpm_hindex.specs.Whole.{IsWhole}
@@ -20,7 +21,7 @@ loop-i-init g c = record {
   live = omega (arith, live_none);
   adds = λ told whole. rows_none c.args.change.now (g.D.Disk.files c.args.disk.now).idx whole;
   honest = λ told is. is;
-  looks = reads_none _ _ _ _ _ _ g.met.D.Disk.follows_refl c.args.disk.now;
+  looks = reads_none _ _ _ _ _ _ Idx g.met.D.Disk.follows_refl c.args.disk.now;
   faults = omega arith;
 }
 
@@ -50,7 +51,7 @@ loop-i-preserved g c =
           (subst (λ (r : Row). IsWhole c.loop-i.change.records c.loop-i.change.live (changing c.loop-i.change (g.D.Disk.files c.loop-i.disk).idx) → AddsRows c.loop-i.change c.add_row.new.self (g.D.Disk.files c.loop-i.disk).idx (r ∷ [])) c.row_ref.ensures.row (c.in_default.ensures.adds told)) in
           subst (AddsRows c.args.change.now c.add_row.new.self file.idx) (sym (next_rows rows i lt)) (rows_then c.args.change.now c.loop-i.change c.add_row.new.self file.idx (take i rows) (row_nth rows i) (c.loop-i.invariant.adds told whole) more);
       honest = λ told is. subst (λ (f : Files). IsHonest c.loop-i.change f.idx → IsHonest c.add_row.new.self f.idx) ((c.loop-i.invariant.looks.untouched told).same) (c.in_default.ensures.honest told) (c.loop-i.invariant.honest told is);
-      looks = reads_then _ _ _ _ _ _ g.met.D.Disk.follows_trans _ _ _ c.loop-i.invariant.looks c.add_row.ensures.looks;
+      looks = reads_then _ _ _ _ _ _ Idx g.met.D.Disk.follows_trans _ _ _ c.loop-i.invariant.looks c.add_row.ensures.looks;
       faults = omega (arith, c.loop-i.invariant.faults, c.add_row.ensures.cause.later);
     }
 

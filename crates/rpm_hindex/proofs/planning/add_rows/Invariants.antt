@@ -1,6 +1,7 @@
 use Rattle.std.proofs.Common.{◌≡◌, ◌+◌, ◌/◌, ◌≤◌, length, take}
 use Rattle.rpm_hindex.specs.Sizes.{live_of}
-use Rattle.rpm_hindex.specs.Disks.{Reads}
+use Rattle.rpm_outside.specs.declared.disk.File.TheVariants.{Idx}
+use Rattle.rpm_outside.specs.Looks.{Reads}
 use Rattle.std.specs.Prelude.{IsTrue}
 use Rattle.rpm_hindex.specs.Whole.{IsWhole}
 use Rattle.rpm_hindex.specs.Changes.{CanGo, AddsRows, IsHonest, changing}
@@ -15,6 +16,6 @@ invariant-loop-i g l = record {
   live : l.change.live ≡ l.initial.change.live + live_of (take l.i l.rows);
   adds : IsTrue g.D.Disk.tells → IsWhole l.initial.change.records l.initial.change.live (changing l.initial.change (g.D.Disk.files l.initial.disk).idx) → AddsRows l.initial.change l.change (g.D.Disk.files l.initial.disk).idx (take l.i l.rows);
   honest : IsTrue g.D.Disk.tells → IsHonest l.initial.change (g.D.Disk.files l.initial.disk).idx → IsHonest l.change (g.D.Disk.files l.initial.disk).idx;
-  looks : Reads g.D.Disk.tells g.D.Disk.files g.D.Disk.left_since g.D.Disk.moment g.D.Disk.bytes_read g.D.Disk.follows l.initial.disk l.disk;
+  looks : Reads g.D.Disk.tells g.D.Disk.files g.D.Disk.left_since g.D.Disk.moment g.D.Disk.bytes_read g.D.Disk.follows Idx l.initial.disk l.disk;
   faults : g.D.Disk.faults l.initial.disk ≤ g.D.Disk.faults l.disk;
 }

@@ -9,7 +9,8 @@ use Rattle.rpm_hindex.specs.Packed.{row_nth}
 use Rattle.rpm_hindex.specs.Index.{index_in}
 use Rattle.rpm_hindex.specs.Whole.{IsWellFormed}
 use Rattle.rpm_hindex.specs.Changes.{HasLess, IsCut, IsHonest, IsBad, kept_of, is_kept}
-use Rattle.rpm_hindex.specs.Disks.{reads_none, reads_then}
+use Rattle.rpm_outside.specs.declared.disk.File.TheVariants.{Idx}
+use Rattle.rpm_outside.specs.inner.Looking.{reads_none, reads_then}
 use Rattle.rpm_hindex.proofs.Takes.{next_rows}
 use Rattle.rpm_hindex.proofs.Keeping.{less_start, less_then}
 use Rattle.rpm_hindex.proofs.planning.drop_rows.Goals as goal
@@ -23,7 +24,7 @@ loop-i-init g c = record {
   less = λ told whole. less_start _ _ (λ r. refl);
   cuts = λ told whole none cut. cut;
   honest = λ told is. is;
-  looks = reads_none _ _ _ _ _ _ g.met.D.Disk.follows_refl c.args.disk.now;
+  looks = reads_none _ _ _ _ _ _ Idx g.met.D.Disk.follows_refl c.args.disk.now;
   faults = omega arith;
 }
 
@@ -53,7 +54,7 @@ loop-i-preserved g c =
           let wells = subst (λ (e : Extent). IsWellFormed e.buckets (g.D.Disk.files c.args.disk.now).idx) (sym l.invariant.extent) whole in
           here wells (ap (λ (t : Vec ℕ Global). length t.items) l.invariant.tail ∙ none) (l.invariant.cuts told whole none cut);
       honest = λ told is. subst (λ (f : Files). IsHonest l.change f.idx → IsHonest c.drop_row.new.self f.idx) ((l.invariant.looks.untouched told).same) (c.in_default.ensures.honest told) (l.invariant.honest told is);
-      looks = reads_then _ _ _ _ _ _ g.met.D.Disk.follows_trans _ _ _ l.invariant.looks c.drop_row.ensures.looks;
+      looks = reads_then _ _ _ _ _ _ Idx g.met.D.Disk.follows_trans _ _ _ l.invariant.looks c.drop_row.ensures.looks;
       faults = omega (arith, l.invariant.faults, c.drop_row.ensures.cause.later);
     }
 

@@ -2,7 +2,8 @@ use Rattle.std.proofs.Common.{◌≡◌, ◌≤◌, length, take}
 use Rattle.std.specs.Prelude.{IsTrue}
 use Rattle.std.specs.Ordering.{nat_cmp}
 use Rattle.std.specs.BTreeMap.{get}
-use Rattle.rpm_hindex.specs.Disks.{Reads}
+use Rattle.rpm_outside.specs.declared.disk.File.TheVariants.{Idx}
+use Rattle.rpm_outside.specs.Looks.{Reads}
 use Rattle.rpm_hindex.specs.Index.{index_in}
 use Rattle.rpm_hindex.specs.Whole.{IsWellFormed}
 use Rattle.rpm_hindex.specs.Changes.{CanGo, HasLess, IsCut, IsHonest, kept_of, is_kept}
@@ -17,6 +18,6 @@ invariant-loop-i g l = record {
   less : IsTrue g.D.Disk.tells → IsWellFormed l.initial.change.extent.buckets (g.D.Disk.files l.initial.disk).idx → HasLess (take l.i l.rows) (kept_of (index_in l.initial.change.extent.buckets (g.D.Disk.files l.initial.disk).idx) (is_kept (λ p. get nat_cmp l.initial.change.dropped p))) (kept_of (index_in l.initial.change.extent.buckets (g.D.Disk.files l.initial.disk).idx) (is_kept (λ p. get nat_cmp l.change.dropped p)));
   cuts : IsTrue g.D.Disk.tells → IsWellFormed l.initial.change.extent.buckets (g.D.Disk.files l.initial.disk).idx → length l.initial.change.tail.items ≡ 0 → IsCut l.initial.change (g.D.Disk.files l.initial.disk).idx → IsCut l.change (g.D.Disk.files l.initial.disk).idx;
   honest : IsTrue g.D.Disk.tells → IsHonest l.initial.change (g.D.Disk.files l.initial.disk).idx → IsHonest l.change (g.D.Disk.files l.initial.disk).idx;
-  looks : Reads g.D.Disk.tells g.D.Disk.files g.D.Disk.left_since g.D.Disk.moment g.D.Disk.bytes_read g.D.Disk.follows l.initial.disk l.disk;
+  looks : Reads g.D.Disk.tells g.D.Disk.files g.D.Disk.left_since g.D.Disk.moment g.D.Disk.bytes_read g.D.Disk.follows Idx l.initial.disk l.disk;
   faults : g.D.Disk.faults l.initial.disk ≤ g.D.Disk.faults l.disk;
 }

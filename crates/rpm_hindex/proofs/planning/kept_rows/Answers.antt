@@ -8,7 +8,8 @@ use Rattle.rpm_hindex.specs.Index.{index_in, chain}
 use Rattle.rpm_hindex.specs.Answers.{HitsAre, IsFaultOf}
 use Rattle.rpm_hindex.proofs.Honest.{bad_chain}
 use Rattle.rpm_hindex.specs.Changes.{CanRelink, AreLinks, is_kept, row_of}
-use Rattle.rpm_hindex.specs.Disks.{reads_then}
+use Rattle.rpm_outside.specs.declared.disk.File.TheVariants.{Idx}
+use Rattle.rpm_outside.specs.inner.Looking.{reads_then}
 use Rattle.rpm_hindex.proofs.Gathers.{kept_next}
 use Rattle.rpm_hindex.proofs.planning.kept_rows.Goals as goal
 
@@ -25,7 +26,7 @@ loop-bucket-preserved g c =
           let file : Files = g.D.Disk.files c.args.disk.now in
           let said = subst (λ (f : Files). HitsAre (λ (places : List ℕ) (v : Vec Link Global). AreLinks (unit_at f.idx) (filter kept places) v.items) (chain (index_in B f.idx) l.bucket) c.in-Ok.links) ((l.invariant.looks.untouched told).same) (c.in-Ok.ensures.told told) in
           kept_next (index_in B file.idx) kept l.bucket c.in-Ok.links l.rows c.push_links.new.rows said (l.invariant.so_far told) (c.in-Ok-push_links.ensures ∙ ap (λ (ls : List Link). l.rows ++ map (λ (m : Link). row_of m.«record») ls) c.deref.ensures.value);
-      looks = reads_then _ _ _ _ _ _ g.met.D.Disk.follows_trans _ _ _ l.invariant.looks c.read_links.ensures.looks;
+      looks = reads_then _ _ _ _ _ _ Idx g.met.D.Disk.follows_trans _ _ _ l.invariant.looks c.read_links.ensures.looks;
       faults = omega (arith, l.invariant.faults, c.read_links.ensures.cause.later);
     }
 

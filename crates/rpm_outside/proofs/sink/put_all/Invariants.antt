@@ -7,6 +7,7 @@ invariant-loop-done g l = record {
   within : l.done ≤ length l.bytes;
   faults : g.O.Sink.faults l.initial.sink ≤ g.O.Sink.faults l.sink;
   taken : Gained g.O.Sink.tells (g.O.Sink.taken l.initial.sink) (g.O.Sink.taken l.sink) (take l.done l.bytes);
+  goes_on : g.O.Sink.follows l.initial.sink l.sink;
 }
 
 abbrev pub decreases-loop-done : goal.decreases-loop-done

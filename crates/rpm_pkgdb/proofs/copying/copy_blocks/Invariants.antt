@@ -1,7 +1,7 @@
 use Rattle.std.proofs.Common.{◌≡◌, ℕ, ◌-◌, ◌+◌, ◌*◌, ◌<◌, ◌≤◌, IsTrue, length}
 use Rattle.rpm_outside.specs.Files.{unit_at}
-use Rattle.rpm_pkgdb.specs.Copies.{Copies}
-use Rattle.rpm_pkgdb.specs.Clear.{SameOutside}
+use Rattle.rpm_pkgdb.specs.inner.Copies.{Copies}
+use Rattle.rpm_pkgdb.specs.inner.Clear.{SameOutside}
 use Rattle.rpm_pkgdb.proofs.copying.copy_blocks.Given as goal
 
 abbrev pub invariant-loop-done : goal.invariant-loop-done

@@ -2,9 +2,9 @@ use Rattle.std.proofs.Common.{◌+◌, [], ◌∷◌, refl, inr}
 use Rattle.rpm_outside.specs.Crash.{Torn}
 use Rattle.rpm_pkgdb.specs.Store.{Keeps}
 use Rattle.rpm_pkgdb.specs.Changes.{on_ok, changes_then, stops_from, stops_then}
-use Rattle.rpm_pkgdb.specs.Clear.{SameOutside}
+use Rattle.rpm_pkgdb.specs.inner.Clear.{SameOutside}
 use Rattle.rpm_pkgdb.specs.Quiet.{BeforeOrAfter, with_free, Anything}
-use Rattle.rpm_pkgdb.specs.Erases.{while_freed, freed, zeroed, stands_by}
+use Rattle.rpm_pkgdb.proofs.Erases.{while_freed, freed, zeroed, stands_by}
 use Rattle.rpm_pkgdb.proofs.erasing.free_slot.Goals as goal
 
 pub returns-in_err-write_one-clause-images : goal.returns-in_err-write_one-clause-images

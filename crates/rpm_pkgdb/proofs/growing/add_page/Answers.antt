@@ -4,10 +4,11 @@ use Rattle.rpm_outside.specs.Crash.{Torn}
 use Rattle.rpm_pkgdb.specs.Store.{Store, Keeps}
 use Rattle.rpm_pkgdb.specs.Undamaged.{IsHeadUnit}
 use Rattle.rpm_pkgdb.specs.Changes.{IsSettled, map_ok, both_ok, changes_then, stops_from, stops_then}
-use Rattle.rpm_pkgdb.specs.Clear.{SameOutside}
+use Rattle.rpm_pkgdb.specs.inner.Clear.{SameOutside}
 use Rattle.rpm_pkgdb.specs.Quiet.{StandsAs, Anything, BeforeOrAfter}
-use Rattle.rpm_pkgdb.specs.Erases.{stands_by}
-use Rattle.rpm_pkgdb.specs.Grows.{with_page, CanGrow, HasFreePage, while_page, grown_stands, while_grown}
+use Rattle.rpm_pkgdb.proofs.Erases.{stands_by}
+use Rattle.rpm_pkgdb.specs.inner.Grows.{with_page, CanGrow, HasFreePage}
+use Rattle.rpm_pkgdb.proofs.GrowLaws.{while_page, grown_stands, while_grown}
 use Rattle.rpm_pkgdb.proofs.growing.add_page.Goals as goal
 
 head_is : (unit : List ℕ) (generation pages : ℕ) (value : Store) → generation ≡ value.generation → pages ≡ value.pages → IsHeadUnit unit generation (pages + 1) → IsHeadUnit unit value.generation (value.pages + 1)

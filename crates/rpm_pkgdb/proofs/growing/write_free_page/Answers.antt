@@ -1,6 +1,6 @@
 use Rattle.std.proofs.Common.{◌*◌, sym, subst}
 use Rattle.rpm_pkgdb.specs.Changes.{IsSame, changes_then}
-use Rattle.rpm_pkgdb.specs.Clear.{SameOutside}
+use Rattle.rpm_pkgdb.specs.inner.Clear.{SameOutside}
 use Rattle.rpm_pkgdb.proofs.growing.write_free_page.Goals as goal
 
 pub returns-clause-changes : goal.returns-clause-changes

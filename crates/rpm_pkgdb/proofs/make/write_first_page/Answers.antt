@@ -1,13 +1,13 @@
 use Rattle.std.proofs.Common.{◌≡◌, length, sym, ap, subst, ◌∙◌, arith}
 use Rattle.rpm_outside.specs.Files.{Units, units_of, unit_at, put}
 use Rattle.rpm_outside.specs.Crash.{Torn}
-use Rattle.rpm_outside.specs.Cuts.{cut_up_one}
+use Rattle.rpm_outside.specs.inner.Cuts.{cut_up_one}
 use Rattle.rpm_pkgdb.specs.Words.{word}
 use Rattle.rpm_pkgdb.specs.Slots.{free}
 use Rattle.rpm_pkgdb.specs.Undamaged.{IsSlotUnit}
 use Rattle.rpm_pkgdb.specs.Changes.{IsSame, on_ok, changes_weaker, changes_then}
-use Rattle.rpm_pkgdb.specs.Clear.{SameOutside}
-use Rattle.rpm_pkgdb.specs.ClearLaws.{torn_outside, outside_then, outside_wider, put_here}
+use Rattle.rpm_pkgdb.specs.inner.Clear.{SameOutside}
+use Rattle.rpm_pkgdb.proofs.ClearLaws.{torn_outside, outside_then, outside_wider, put_here}
 use Rattle.rpm_pkgdb.proofs.make.write_first_page.Goals as goal
 
 -- the write of unit 1

@@ -3,10 +3,10 @@ use Rattle.rpm_outside.specs.Files.{put}
 use Rattle.rpm_outside.specs.Crash.{Torn}
 use Rattle.rpm_pkgdb.specs.Store.{is_blank}
 use Rattle.rpm_pkgdb.specs.Changes.{IsSettled, map_ok, both_ok, changes_then, stops_from, stops_then}
-use Rattle.rpm_pkgdb.specs.Clear.{SameOutside}
+use Rattle.rpm_pkgdb.specs.inner.Clear.{SameOutside}
 use Rattle.rpm_pkgdb.specs.Quiet.{Anything, IsFirstPage}
 use Rattle.rpm_pkgdb.specs.Written.{MakesTo}
-use Rattle.rpm_pkgdb.specs.Makes.{says_blank, blank_after, while_first, while_headed, new_keeps, new_quiet}
+use Rattle.rpm_pkgdb.proofs.Makes.{says_blank, blank_after, while_first, while_headed, new_keeps, new_quiet}
 use Rattle.rpm_pkgdb.proofs.make.write_new.Goals as goal
 
 pub returns-in_err-write_first_page-clause-images : goal.returns-in_err-write_first_page-clause-images

@@ -1,16 +1,16 @@
 use Rattle.std.proofs.Common.{◌≡◌, ◌+◌, ◌*◌, ◌^◌, ◌<◌, List, length, take, sym, ap, ◌∙◌, subst, arith, refl}
 use Rattle.std.proofs.lemmas.List.{take_all}
-use Rattle.rpm_outside.specs.Moments.{started}
+use Rattle.rpm_outside.specs.inner.Moments.{started}
 use Rattle.rpm_pkgdb.specs.declared.moving.Move.{Move}
 use Rattle.rpm_pkgdb.specs.Store.{Store, Keeps}
 use Rattle.rpm_pkgdb.specs.Blobs.{blobs}
 use Rattle.rpm_pkgdb.specs.Changes.{Stops, stops_weaker}
-use Rattle.rpm_pkgdb.specs.Copies.{copies_none, copies_then, copies_weaker, copies_stops_then}
+use Rattle.rpm_pkgdb.specs.inner.Copies.{copies_none, copies_then, copies_weaker, copies_stops_then}
 use Rattle.rpm_pkgdb.specs.Quiet.{StandsFor, IsQuiet}
-use Rattle.rpm_pkgdb.specs.Settings.{NoShorter, WhileMoved}
-use Rattle.rpm_pkgdb.specs.ErasesTo.{stands_for}
-use Rattle.rpm_pkgdb.specs.Moves.{moved_map, moves_to}
-use Rattle.rpm_pkgdb.specs.MoveLists.{after_moves, move_at}
+use Rattle.rpm_pkgdb.specs.inner.Settings.{NoShorter, WhileMoved}
+use Rattle.rpm_pkgdb.proofs.ErasesTo.{stands_for}
+use Rattle.rpm_pkgdb.proofs.Moves.{moved_map, moves_to}
+use Rattle.rpm_pkgdb.specs.inner.MoveLists.{after_moves, move_at}
 use Rattle.rpm_pkgdb.proofs.MoveSteps.{old_slot, few_enough, stands_for_same, current, next, old, kept, can_move, then_after}
 use Rattle.rpm_pkgdb.proofs.moving.move_all.Goals as goal
 

@@ -3,10 +3,10 @@ use Rattle.rpm_outside.specs.Crash.{LeavesOnly}
 use Rattle.rpm_pkgdb.specs.Store.{Store, Keeps}
 use Rattle.rpm_pkgdb.specs.Blobs.{blobs}
 use Rattle.rpm_pkgdb.specs.Changes.{Stops}
-use Rattle.rpm_pkgdb.specs.Copies.{Copies}
+use Rattle.rpm_pkgdb.specs.inner.Copies.{Copies}
 use Rattle.rpm_pkgdb.specs.Quiet.{IsQuiet, StandsFor}
-use Rattle.rpm_pkgdb.specs.Settings.{NoShorter}
-use Rattle.rpm_pkgdb.specs.MoveLists.{AreMoves, after_moves}
+use Rattle.rpm_pkgdb.specs.inner.Settings.{NoShorter}
+use Rattle.rpm_pkgdb.specs.inner.MoveLists.{AreMoves, after_moves}
 use Rattle.rpm_pkgdb.proofs.moving.move_all.Given as goal
 
 abbrev pub invariant-loop-k : goal.invariant-loop-k

@@ -3,11 +3,11 @@ use Rattle.rpm_outside.specs.Crash.{Torn}
 use Rattle.rpm_pkgdb.specs.Slots.{end_of}
 use Rattle.rpm_pkgdb.specs.Store.{Keeps}
 use Rattle.rpm_pkgdb.specs.Changes.{on_ok, stops_from}
-use Rattle.rpm_pkgdb.specs.Copies.{copies_from, copies_weaker, copies_then, copies_stops_from, copies_stops_then}
-use Rattle.rpm_pkgdb.specs.Clear.{SameOutside, Holds}
+use Rattle.rpm_pkgdb.specs.inner.Copies.{copies_from, copies_weaker, copies_then, copies_stops_from, copies_stops_then}
+use Rattle.rpm_pkgdb.specs.inner.Clear.{SameOutside, Holds}
 use Rattle.rpm_pkgdb.specs.Quiet.{Anything}
-use Rattle.rpm_pkgdb.specs.Settings.{NoShorter, WhileMoved, blocks_of}
-use Rattle.rpm_pkgdb.specs.Moves.{move_set, held_after, while_copied, while_slot_moved, while_old_zeroed, moved_alike}
+use Rattle.rpm_pkgdb.specs.inner.Settings.{NoShorter, WhileMoved, blocks_of}
+use Rattle.rpm_pkgdb.proofs.Moves.{move_set, held_after, while_copied, while_slot_moved, while_old_zeroed, moved_alike}
 use Rattle.rpm_pkgdb.proofs.moving.move_blocks.Goals as goal
 
 pub returns-in_err-copy_settled-clause-images : goal.returns-in_err-copy_settled-clause-images

@@ -5,7 +5,7 @@ use borrow.Rule.Slice.PartMut.{put_mid}
 use Rattle.std.proofs.lemmas.List.{get_or_default, get_or_past}
 use Rattle.std.proofs.lemmas.Bool.{cases_lt}
 use Rattle.rpm_outside.specs.Files.{bytes_of, units_of, blank}
-use Rattle.rpm_outside.specs.Cuts.{bytes_of_more, units_of-bytes_of}
+use Rattle.rpm_outside.specs.inner.Cuts.{bytes_of_more, units_of-bytes_of}
 use Rattle.rpm_pkgdb.proofs.pages.copy_units.Goals as goal
 
 length-put_mid : (a k : ℕ) (xs ys : List ℕ) → a + k ≤ length xs → length ys ≡ k → length (put_mid a k xs ys) ≡ length xs

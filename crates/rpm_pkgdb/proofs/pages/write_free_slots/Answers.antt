@@ -1,10 +1,10 @@
 use Rattle.std.proofs.Common.{◌≡◌, ℕ, ◌*◌, length, take, arith, IsTrue, subst, ap}
 use Rattle.rpm_outside.specs.Files.{units_of, put}
 use Rattle.rpm_outside.specs.Crash.{Torn}
-use Rattle.rpm_outside.specs.Puts.{length-put}
+use Rattle.rpm_outside.specs.inner.Puts.{length-put}
 use Rattle.rpm_pkgdb.specs.Changes.{map_ok, changes_weaker}
-use Rattle.rpm_pkgdb.specs.Clear.{SameOutside}
-use Rattle.rpm_pkgdb.specs.ClearLaws.{torn_outside}
+use Rattle.rpm_pkgdb.specs.inner.Clear.{SameOutside}
+use Rattle.rpm_pkgdb.proofs.ClearLaws.{torn_outside}
 use Rattle.rpm_pkgdb.proofs.FreePages.{front_count, slots_written}
 use Rattle.rpm_pkgdb.proofs.pages.write_free_slots.Goals as goal
 

@@ -6,13 +6,13 @@ use Rattle.rpm_pkgdb.specs.Store.{Keeps}
 use Rattle.rpm_pkgdb.specs.Blobs.{blocks_for}
 use Rattle.rpm_pkgdb.specs.Undamaged.{IsSlotUnit}
 use Rattle.rpm_pkgdb.specs.Changes.{on_ok, changes_then, stops_from, stops_then}
-use Rattle.rpm_pkgdb.specs.Clear.{SameOutside}
+use Rattle.rpm_pkgdb.specs.inner.Clear.{SameOutside}
 use Rattle.rpm_pkgdb.specs.Quiet.{Anything}
 use Rattle.rpm_pkgdb.specs.Plans.{slot_for}
-use Rattle.rpm_pkgdb.specs.Puts.{BlobTorn, next_field, WhilePut}
-use Rattle.rpm_pkgdb.specs.Puts.WhilePut.{After}
-use Rattle.rpm_pkgdb.specs.PutsLaws.{while_blob, second_phase, third_phase}
-use Rattle.rpm_pkgdb.specs.PutsTo.{stand_alike}
+use Rattle.rpm_pkgdb.specs.inner.Puts.{BlobTorn, WhilePut}
+use Rattle.rpm_pkgdb.specs.Written.{next_field}
+use Rattle.rpm_pkgdb.specs.inner.Puts.WhilePut.{After}
+use Rattle.rpm_pkgdb.proofs.PutsLaws.{while_blob, second_phase, third_phase, stand_alike}
 use Rattle.rpm_pkgdb.proofs.putting.put_blob.Goals as goal
 
 slot_is : (unit : List ℕ) (plan : Plan) (s : Slot) → s ≡ slot_for plan → IsSlotUnit unit s → IsSlotUnit unit (slot_for plan)

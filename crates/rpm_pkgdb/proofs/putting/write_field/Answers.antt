@@ -1,9 +1,9 @@
 use Rattle.std.proofs.Common.{◌≡◌, ℕ, [], ◌∷◌, Option, inr, sym, subst, arith}
 use Rattle.rpm_outside.specs.Files.{Units, units_of}
 use Rattle.rpm_outside.specs.Crash.{Torn}
-use Rattle.rpm_outside.specs.Cuts.{cut_up_one}
+use Rattle.rpm_outside.specs.inner.Cuts.{cut_up_one}
 use Rattle.rpm_pkgdb.specs.Changes.{changes_weaker}
-use Rattle.rpm_pkgdb.specs.Puts.{FieldTorn}
+use Rattle.rpm_pkgdb.specs.inner.Puts.{FieldTorn}
 use Rattle.rpm_pkgdb.proofs.putting.write_field.Goals as goal
 
 pub returns-in-Some-clause-changes : goal.returns-in-Some-clause-changes

@@ -1,9 +1,10 @@
 use Rattle.std.proofs.Common.{ℕ, Option, length, sym, subst}
 use Rattle.rpm_pkgdb.specs.Blobs.{blocks_for}
 use Rattle.rpm_pkgdb.specs.Changes.{IsSame, changes_then, changes_weaker}
-use Rattle.rpm_pkgdb.specs.Clear.{SameOutside}
-use Rattle.rpm_pkgdb.specs.Puts.{FieldTorn, BlobTorn, next_field}
-use Rattle.rpm_pkgdb.specs.PutsLaws.{blocks_torn, then_field}
+use Rattle.rpm_pkgdb.specs.inner.Clear.{SameOutside}
+use Rattle.rpm_pkgdb.specs.inner.Puts.{FieldTorn, BlobTorn}
+use Rattle.rpm_pkgdb.specs.Written.{next_field}
+use Rattle.rpm_pkgdb.proofs.FieldLaws.{blocks_torn, then_field}
 use Rattle.rpm_pkgdb.proofs.putting.write_first.Goals as goal
 
 pub returns-in_err-write_blob-clause-changes : goal.returns-in_err-write_blob-clause-changes

@@ -1,11 +1,11 @@
 use Rattle.std.proofs.Common.{◌≡◌, ℕ, ◌/◌, ◌<◌, ◌≤◌, ◌++◌, List, length, take, refl, sym, ap, ◌∙◌, arith, length-append}
 use Rattle.std.proofs.lemmas.List.{append-nil, take_all, length-take}
 use Rattle.rpm_outside.specs.Files.{units_of}
-use Rattle.rpm_outside.specs.Cuts.{length-cut_up}
+use Rattle.rpm_outside.specs.inner.Cuts.{length-cut_up}
 use Rattle.rpm_pkgdb.specs.declared.slot.Slot.{Slot}
 use Rattle.rpm_pkgdb.proofs.Steps.{length-slots_in, slots_in-none, slots_more, sound_more, says_more}
 use Rattle.rpm_pkgdb.specs.Slots.{slots_in}
-use Rattle.rpm_pkgdb.specs.Runs.{run}
+use Rattle.rpm_pkgdb.specs.inner.Runs.{run}
 use Rattle.rpm_pkgdb.proofs.reading.add_units.Goals as goal
 
 pub loop-k-init : goal.loop-k-init

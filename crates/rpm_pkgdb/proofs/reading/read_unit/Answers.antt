@@ -1,5 +1,5 @@
 use Rattle.std.proofs.Common.{◌≡◌, ℕ, ◌∷◌, [], List, sym, ◌∙◌}
-use Rattle.rpm_outside.specs.Cuts.{cut_up_one}
+use Rattle.rpm_outside.specs.inner.Cuts.{cut_up_one}
 use Rattle.rpm_pkgdb.proofs.Kept.{take_one}
 use Rattle.rpm_pkgdb.proofs.reading.read_unit.Goals as goal
 

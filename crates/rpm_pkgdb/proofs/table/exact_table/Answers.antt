@@ -1,10 +1,10 @@
-use Rattle.std.proofs.Common.{◌≡◌, ℕ, List, [], ◌++◌, Option, sym, ap, ◌∙◌, subst}
+use Rattle.std.proofs.Common.{List, ◌++◌, Option, sym, ap, ◌∙◌, subst}
 use Rattle.rpm_outside.specs.Files.{units_of}
 use Rattle.rpm_pkgdb.specs.declared.slot.Slot.{Slot}
 use Rattle.rpm_pkgdb.specs.declared.slot.Damage.{Damage}
 use Rattle.rpm_pkgdb.specs.Slots.{slots_in}
 use Rattle.rpm_pkgdb.specs.Store.{SaysHere}
-use Rattle.rpm_pkgdb.specs.Runs.{run, table_is_run}
+use Rattle.rpm_pkgdb.specs.inner.Runs.{run, table_is_run}
 use Rattle.rpm_pkgdb.proofs.table.exact_table.Goals as goal
 
 pub returns-in-Err-clause-says : goal.returns-in-Err-clause-says

@@ -1,12 +1,12 @@
-use Rattle.std.proofs.Common.{◌≡◌, ℕ, ◌/◌, ◌<◌, ◌≤◌, List, [], ◌∷◌, ◌++◌, length, None, refl, sym, ap, ◌∙◌, subst, arith}
+use Rattle.std.proofs.Common.{◌≡◌, ◌/◌, ◌<◌, [], ◌∷◌, ◌++◌, length, None, sym, ap, ◌∙◌, subst, arith}
 use Rattle.std.proofs.lemmas.List.{take_all}
-use Rattle.rpm_outside.specs.Files.{Units, units_of}
-use Rattle.rpm_outside.specs.Cuts.{length-cut_up}
+use Rattle.rpm_outside.specs.Files.{units_of}
+use Rattle.rpm_outside.specs.inner.Cuts.{length-cut_up}
 use Rattle.rpm_pkgdb.specs.declared.slot.Slot.{Slot}
-use Rattle.rpm_pkgdb.specs.Slots.{slots_in, slot_of, is_used}
+use Rattle.rpm_pkgdb.specs.Slots.{slots_in}
 use Rattle.rpm_pkgdb.specs.Damages.{own_reason}
-use Rattle.rpm_pkgdb.specs.Sound.{placed_slot}
-use Rattle.rpm_pkgdb.specs.Tables.{AreNumbered}
+use Rattle.rpm_pkgdb.proofs.Sound.{placed_slot}
+use Rattle.rpm_pkgdb.specs.inner.Tables.{AreNumbered}
 use Rattle.rpm_pkgdb.proofs.Known.{numbered_push}
 use Rattle.rpm_pkgdb.proofs.Steps.{slots_in-none, slots_more}
 use Rattle.rpm_pkgdb.proofs.TableLaws.{own_more, none_of}

@@ -1,12 +1,12 @@
-use Rattle.std.proofs.Common.{◌≡◌, ℕ, ◌/◌, length, List, Option, Vec, Global, IfSome, sym, ap, ◌∙◌, subst, arith}
+use Rattle.std.proofs.Common.{◌≡◌, ◌/◌, length, Option, Vec, Global, IfSome, sym, ap, ◌∙◌, subst, arith}
 use Rattle.rpm_outside.specs.Files.{units_of}
-use Rattle.rpm_outside.specs.Cuts.{length-cut_up}
+use Rattle.rpm_outside.specs.inner.Cuts.{length-cut_up}
 use Rattle.rpm_pkgdb.specs.declared.slot.Slot.{Slot}
 use Rattle.rpm_pkgdb.specs.Slots.{slots_in}
 use Rattle.rpm_pkgdb.specs.Maps.{HasPlaces}
 use Rattle.rpm_pkgdb.specs.Pairs.{Index, find_in}
-use Rattle.rpm_pkgdb.specs.Keys.{AllApart}
-use Rattle.rpm_pkgdb.specs.Tables.{AreOwn, AreNumbered}
+use Rattle.rpm_pkgdb.specs.inner.Keys.{AllApart}
+use Rattle.rpm_pkgdb.specs.inner.Tables.{AreOwn, AreNumbered}
 use Rattle.rpm_pkgdb.proofs.Steps.{length-slots_in}
 use Rattle.rpm_pkgdb.proofs.TableLaws.{table_sound}
 use Rattle.rpm_pkgdb.proofs.table.quick_table.Goals as goal

@@ -1,4 +1,4 @@
-use Rattle.std.proofs.Common.{◌≡◌, ℕ, ◌-◌, ◌*◌, ◌/◌, List, length, take, drop, sym, ap, ◌∙◌, arith}
+use Rattle.std.proofs.Common.{◌≡◌, ℕ, ◌-◌, ◌*◌, ◌/◌, length, take, drop, ap, ◌∙◌, arith}
 use Rattle.rpm_outside.specs.Files.{Units, units_of}
 use Rattle.rpm_pkgdb.specs.Damages.{table}
 use Rattle.rpm_pkgdb.proofs.TableLaws.{take_front}

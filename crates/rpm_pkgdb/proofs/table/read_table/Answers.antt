@@ -1,9 +1,9 @@
 use Rattle.std.proofs.Common.{◌≡◌, ◌-◌, ◌*◌, ◌/◌, ◌^◌, length, ap, ◌∙◌, arith}
 use Rattle.rpm_outside.specs.Files.{units_of}
-use Rattle.rpm_outside.specs.Cuts.{length-cut_up}
+use Rattle.rpm_outside.specs.inner.Cuts.{length-cut_up}
 use Rattle.rpm_pkgdb.specs.declared.table.Table.{Table}
 use Rattle.rpm_pkgdb.specs.Undamaged.{AreSound}
-use Rattle.rpm_pkgdb.specs.Tables.{IsTable}
+use Rattle.rpm_pkgdb.specs.inner.Tables.{IsTable}
 use Rattle.rpm_pkgdb.proofs.Steps.{length-slots_in}
 use Rattle.rpm_pkgdb.proofs.TableLaws.{ok_gives, none_limit}
 use Rattle.rpm_pkgdb.proofs.table.read_table.Goals as goal

@@ -1,7 +1,7 @@
 use Rattle.std.proofs.Common.{◌≡◌, [], ◌∷◌, sym, subst}
 use Rattle.rpm_outside.specs.Files.{Units, units_of}
 use Rattle.rpm_outside.specs.Crash.{Torn}
-use Rattle.rpm_outside.specs.Cuts.{cut_up_one}
+use Rattle.rpm_outside.specs.inner.Cuts.{cut_up_one}
 use Rattle.rpm_pkgdb.specs.Changes.{IsSame, changes_then}
 use Rattle.rpm_pkgdb.proofs.writing.write_one.Goals as goal
 

@@ -2,9 +2,9 @@ use Rattle.std.proofs.Common.{◌≡◌, ℕ, ◌+◌, ◌*◌, ◌/◌, ◌≤�
 use Rattle.std.proofs.lemmas.List.{length-take, length-replicate}
 use Rattle.rpm_outside.specs.Files.{Units, units_of}
 use Rattle.rpm_outside.specs.Crash.{Torn}
-use Rattle.rpm_outside.specs.Cuts.{length-cut_up}
-use Rattle.rpm_pkgdb.specs.Clear.{SameOutside}
-use Rattle.rpm_pkgdb.specs.ClearLaws.{torn_outside, outside_then, outside_wider}
+use Rattle.rpm_outside.specs.inner.Cuts.{length-cut_up}
+use Rattle.rpm_pkgdb.specs.inner.Clear.{SameOutside}
+use Rattle.rpm_pkgdb.proofs.ClearLaws.{torn_outside, outside_then, outside_wider}
 use Rattle.rpm_pkgdb.specs.Changes.{changes_then}
 use Rattle.rpm_pkgdb.proofs.Zeros.{zeros, zeros_more}
 use Rattle.rpm_pkgdb.proofs.writing.write_zeros.Goals as goal

@@ -1,10 +1,10 @@
 use Rattle.std.proofs.Common.{length}
 use Rattle.rpm_qfeval.specs.Texts.{hex_text}
-use Rattle.rpm_qfeval.proofs.Putting.{Upto}
+use Rattle.rpm_outside.specs.Upto.{Upto}
 use Rattle.rpm_qfeval.proofs.encoded.put_hex.Given as goal
 
 abbrev pub invariant-loop-rest : goal.invariant-loop-rest
-invariant-loop-rest g l = Upto g.O.Sink.tells g.O.Sink.taken g.O.Sink.faults (hex_text l.bytes) (hex_text l.rest) l.initial.buffer l.initial.sink l.buffer l.sink
+invariant-loop-rest g l = Upto g.O.Sink.tells g.O.Sink.taken g.O.Sink.faults g.O.Sink.follows (hex_text l.bytes) (hex_text l.rest) l.initial.sink l.sink
 
 abbrev pub decreases-loop-rest : goal.decreases-loop-rest
 decreases-loop-rest g l = length l.rest

@@ -1,5 +1,6 @@
 use Rattle.std.proofs.Common.{◌≡◌, Some, None, sym, ap, ◌∙◌}
 use Rattle.std.specs.Option.{option_and_then}
+use Rattle.rpm_outside.specs.Buffered.{inner}
 use Rattle.rpm_outside.specs.declared.disk.File.TheVariants.{Pkg}
 use Rattle.rpm_pkgdb.specs.Store.{store}
 use Rattle.rpm_words.specs.Ask.{ask}
@@ -47,4 +48,4 @@ unfolding asks_format asks_all
 returns-in-Err-clause-went g c = λ tree asks told.
     let file = (g.D.Disk.files c.args.disk.now).pkg in
     let none = starved c.args.words.now (ask c.args.words.now) c.in-Err.why c.in-Err.ensures.undone tree asks in
-    rw none (not_begun tree file (store file) g.O.Sink.tells g.E.Sink.tells (g.O.Sink.taken c.args.out.now) (g.E.Sink.taken c.args.err.now) (g.D.Disk.bytes_read c.args.disk.now Pkg))
+    rw none (not_begun tree file (store file) g.O.Sink.tells g.E.Sink.tells (g.O.Sink.taken (inner c.args.out.now)) (g.E.Sink.taken (inner c.args.err.now)) (g.D.Disk.bytes_read c.args.disk.now Pkg))

@@ -1,9 +1,11 @@
 use Rattle.std.proofs.Common.{◌≡◌, ℕ, ◌≤◌, ◌∷◌, [], List, ap, sym, ◌∙◌, arith, subst}
 use Rattle.std.specs.Prelude.{IsTrue}
 use Rattle.rpm_outside.specs.Files.{Units, units_of, unit_at, put}
-use Rattle.rpm_outside.specs.Cuts.{cut_up_one}
+use Rattle.rpm_outside.specs.inner.Cuts.{cut_up_one}
 use Rattle.rpm_outside.specs.Crash.{Torn}
-use Rattle.rpm_hindex.specs.Disks.{changes_weaker, SealedOrSame}
+use Rattle.rpm_outside.specs.declared.disk.File.TheVariants.{Idx}
+use Rattle.rpm_outside.specs.inner.Changing.{changes_weaker}
+use Rattle.rpm_hindex.specs.Images.{SealedOrSame}
 use Rattle.rpm_hindex.specs.State.{State, Keeps, seal_unit, magic, is_current}
 use Rattle.rpm_hindex.proofs.UnitWords.{length-unit, current}
 use Rattle.rpm_hindex.proofs.Writes.{torn_seal}
@@ -22,13 +24,13 @@ pub returns-in_default-clause-changes : goal.returns-in_default-clause-changes
 returns-in_default-clause-changes g c =
     let pending = ap (λ (s : State). s.pending) c.self.view_is in
     let is = c.unit_of_words-first.ensures ∙ ap (seal_unit c.args.generation) pending in
-    changes_weaker _ _ _ _ _ _ _ (SealedOrSame (seal_unit c.args.generation c.args.self.now.pending)) (weaker c.args.generation c.args.self.now.pending c.unit_of_words-first.result is) _ _ c.in_default.ensures.changes
+    changes_weaker _ _ _ _ _ _ Idx _ (SealedOrSame (seal_unit c.args.generation c.args.self.now.pending)) 0 0 _ _ (omega arith) (weaker c.args.generation c.args.self.now.pending c.unit_of_words-first.result is) c.in_default.ensures.changes
 
 pub returns-clause-changes : goal.returns-clause-changes
 returns-clause-changes g c =
     let pending = ap (λ (s : State). s.pending) c.self.view_is in
     let is = c.unit_of_words-first.ensures ∙ ap (seal_unit c.args.generation) pending in
-    changes_weaker _ _ _ _ _ _ _ (SealedOrSame (seal_unit c.args.generation c.args.self.now.pending)) (weaker c.args.generation c.args.self.now.pending c.unit_of_words-first.result is) _ _ c.in-Ok.ensures.changes
+    changes_weaker _ _ _ _ _ _ Idx _ (SealedOrSame (seal_unit c.args.generation c.args.self.now.pending)) 0 0 _ _ (omega arith) (weaker c.args.generation c.args.self.now.pending c.unit_of_words-first.result is) c.in-Ok.ensures.changes
 
 -- the first unit that was written, and the new file
 module _ (g : Over) (c : goal.After-self-2-1 g) where

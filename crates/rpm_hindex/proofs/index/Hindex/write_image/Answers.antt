@@ -1,16 +1,18 @@
 use Rattle.std.proofs.Common.{◌≡◌, ℕ, ◌+◌, ◌/◌, List, length, take, max, ap, sym, ◌∙◌, refl, arith, subst}
 use Rattle.rpm_outside.specs.Files.{units_of, put}
 use Rattle.rpm_hindex.specs.State.{State, Keeps}
-use Rattle.rpm_hindex.specs.Disks.{changes_weaker, SameSeal}
+use Rattle.rpm_outside.specs.declared.disk.File.TheVariants.{Idx}
+use Rattle.rpm_outside.specs.inner.Changing.{changes_weaker}
+use Rattle.rpm_hindex.specs.Images.{SameSeal}
 use Rattle.rpm_hindex.proofs.Writes.{torn_behind}
 use Rattle.rpm_hindex.proofs.Seals.{image_kept}
 use Rattle.rpm_hindex.proofs.index.Hindex.write_image.Goals as goal
 
 pub returns-in_default-clause-changes : goal.returns-in_default-clause-changes
-returns-in_default-clause-changes g c = changes_weaker _ _ _ _ _ _ _ SameSeal (λ a b t. torn_behind 1 _ a b (omega arith) t) _ _ c.in_default.ensures.changes
+returns-in_default-clause-changes g c = changes_weaker _ _ _ _ _ _ Idx _ SameSeal 0 0 _ _ (omega arith) (λ a b t. torn_behind 1 _ a b (omega arith) t) c.in_default.ensures.changes
 
 pub returns-clause-changes : goal.returns-clause-changes
-returns-clause-changes g c = changes_weaker _ _ _ _ _ _ _ SameSeal (λ a b t. torn_behind 1 _ a b (omega arith) t) _ _ c.in-Ok.ensures.changes
+returns-clause-changes g c = changes_weaker _ _ _ _ _ _ Idx _ SameSeal 0 0 _ _ (omega arith) (λ a b t. torn_behind 1 _ a b (omega arith) t) c.in-Ok.ensures.changes
 
 abbrev made : List ℕ → List ℕ → ℕ → ℕ → State
 made first second units pending = record { first = first; second = second; units = units; pending = pending }

@@ -5,11 +5,11 @@ use Rattle.rpm_pkgdb.specs.Pairs.{find_in}
 use Rattle.rpm_pkgdb.specs.Store.{Store}
 use Rattle.rpm_pkgdb.specs.Blobs.{blobs}
 use Rattle.rpm_pkgdb.specs.Changes.{stops_weaker}
-use Rattle.rpm_pkgdb.specs.Keeping.{IsKept}
-use Rattle.rpm_pkgdb.specs.RangeLaws.{freed_used}
-use Rattle.rpm_pkgdb.specs.Ranges.{Forgets}
+use Rattle.rpm_pkgdb.specs.inner.Keeping.{IsKept}
+use Rattle.rpm_pkgdb.proofs.RangeLaws.{freed_used}
+use Rattle.rpm_pkgdb.specs.inner.Ranges.{Forgets}
 use Rattle.rpm_pkgdb.specs.Quiet.{HasSlot, IsQuiet, BeforeOrAfter, with_free}
-use Rattle.rpm_pkgdb.specs.ErasesTo.{erases_to, freed_map}
+use Rattle.rpm_pkgdb.proofs.ErasesTo.{erases_to, freed_map}
 use Rattle.rpm_pkgdb.specs.Written.{ErasesTo}
 use Rattle.rpm_pkgdb.proofs.Held.{found_at_slot, freed_kept}
 use Rattle.rpm_pkgdb.proofs.store.PkgDb.erase.Goals as goal

@@ -2,10 +2,10 @@ use Rattle.std.proofs.Common.{◌≡◌, List, replicate, sym, ap, subst, ◌∙
 use Rattle.rpm_pkgdb.specs.declared.slot.Slot.{Slot}
 use Rattle.rpm_pkgdb.specs.Slots.{free}
 use Rattle.rpm_pkgdb.specs.Store.{Store, Keeps}
-use Rattle.rpm_pkgdb.specs.Keeping.{IsKept}
-use Rattle.rpm_pkgdb.specs.Ranges.{HasUsed}
+use Rattle.rpm_pkgdb.specs.inner.Keeping.{IsKept}
+use Rattle.rpm_pkgdb.specs.inner.Ranges.{HasUsed}
 use Rattle.rpm_pkgdb.specs.Quiet.{IsQuiet}
-use Rattle.rpm_pkgdb.specs.Makes.{new_map}
+use Rattle.rpm_pkgdb.proofs.Makes.{new_map}
 use Rattle.rpm_pkgdb.proofs.News.{new_kept, new_used, new_slots}
 use Rattle.rpm_pkgdb.proofs.store.PkgDb.make.Goals as goal
 

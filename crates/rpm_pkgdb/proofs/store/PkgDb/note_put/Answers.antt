@@ -2,9 +2,9 @@ use Rattle.std.proofs.Common.{◌≡◌, ◌-◌, ◌≤◌, false, sym, ap, sub
 use Rattle.rpm_pkgdb.specs.declared.slot.Slot.{Slot}
 use Rattle.rpm_pkgdb.specs.Slots.{slot_at}
 use Rattle.rpm_pkgdb.specs.Store.{Store}
-use Rattle.rpm_pkgdb.specs.Keeping.{IsKept}
+use Rattle.rpm_pkgdb.specs.inner.Keeping.{IsKept}
 use Rattle.rpm_pkgdb.specs.Plans.{IsPlan, slot_for}
-use Rattle.rpm_pkgdb.specs.Ranges.{HasUsed, Remembers, IsFreeIn}
+use Rattle.rpm_pkgdb.specs.inner.Ranges.{HasUsed, Remembers, IsFreeIn}
 use Rattle.rpm_pkgdb.proofs.Noted.{above_all, fits_free, has_old_start, says, noted_kept, noted_used}
 use Rattle.rpm_pkgdb.proofs.store.PkgDb.note_put.Goals as goal
 

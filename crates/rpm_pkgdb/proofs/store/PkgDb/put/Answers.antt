@@ -3,12 +3,12 @@ use Rattle.rpm_outside.specs.Files.{Units, units_of}
 use Rattle.rpm_pkgdb.specs.Store.{Store}
 use Rattle.rpm_pkgdb.specs.Blobs.{blobs, blocks_for}
 use Rattle.rpm_pkgdb.specs.Framing.{framed}
-use Rattle.rpm_pkgdb.specs.FramingLaws.{count-framed}
+use Rattle.rpm_pkgdb.proofs.FramingLaws.{count-framed}
 use Rattle.rpm_pkgdb.specs.Changes.{stops_weaker}
 use Rattle.rpm_pkgdb.specs.Quiet.{IsQuiet}
-use Rattle.rpm_pkgdb.specs.Puts.{CanPut, WhilePut, PutsTo, with_blob}
-use Rattle.rpm_pkgdb.specs.PutsTo.{puts_to, put_map}
-use Rattle.rpm_pkgdb.specs.Written.{with_spare}
+use Rattle.rpm_pkgdb.specs.inner.Puts.{CanPut, WhilePut}
+use Rattle.rpm_pkgdb.specs.Written.{PutsTo, with_blob, with_spare}
+use Rattle.rpm_pkgdb.proofs.PutsTo.{puts_to, put_map}
 use Rattle.rpm_pkgdb.proofs.PutEnds.{whole_part, replaced_zeros}
 use Rattle.rpm_pkgdb.proofs.store.PkgDb.put.Goals as goal
 

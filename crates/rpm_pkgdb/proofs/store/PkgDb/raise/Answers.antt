@@ -4,7 +4,7 @@ use Rattle.rpm_pkgdb.specs.Store.{Store, Keeps}
 use Rattle.rpm_pkgdb.specs.Blobs.{blobs}
 use Rattle.rpm_pkgdb.specs.Changes.{stops_from}
 use Rattle.rpm_pkgdb.specs.Quiet.{IsQuiet}
-use Rattle.rpm_pkgdb.specs.Raises.{while_raised, raised, raised_map, raises_to, raised_quiet}
+use Rattle.rpm_pkgdb.proofs.Raises.{while_raised, raised, raised_map, raises_to, raised_quiet}
 use Rattle.rpm_pkgdb.specs.Undamaged.{IsHeadUnit}
 use Rattle.rpm_pkgdb.specs.Written.{with_generation, RaisesTo}
 use Rattle.rpm_pkgdb.proofs.store.PkgDb.raise.Goals as goal

@@ -1,7 +1,8 @@
 use Rattle.std.proofs.Common.{◌≡◌, ℕ, ◌+◌, ◌-◌, ◌≤◌, ◌∷◌, List, true, false, Some, None, is_some, sym, ap, subst, ◌∙◌, arith}
 use Rattle.std.specs.FinMap as finite
 use Rattle.rpm_outside.specs.Files.{Files}
-use Rattle.rpm_outside.specs.Looks.{Looks, looks_then, looks_more}
+use Rattle.rpm_outside.specs.Looks.{Looks}
+use Rattle.rpm_outside.specs.inner.Looking.{looks_then, looks_more}
 use Rattle.rpm_db.specs.State.{Package, packages}
 use Rattle.rpm_db.specs.Database.{cost, cost_to, cost_all}
 use Rattle.rpm_db.specs.inner.Laws.{cost_more, cost_some}
@@ -24,13 +25,13 @@ loop-next-preserved g c =
       keeps = done.kept;
       more = omega (arith, more, inv.more);
       looks =
-          looks_then g.D.Disk.tells g.D.Disk.files g.D.Disk.left_since g.D.Disk.moment g.D.Disk.bytes_read g.D.Disk.follows g.met.D.Disk.follows_trans
+          looks_then g.D.Disk.tells g.D.Disk.files g.D.Disk.left_since g.D.Disk.moment g.D.Disk.bytes_read g.D.Disk.follows Pkg g.met.D.Disk.follows_trans
           (cost_to k db - cost_to n db) (cost m db) (cost_to m db - cost_to n db) c.args.disk.now c.loop-next.disk c.pick.new.disk
           (omega (arith, more, inv.more)) inv.looks done.looks;
       own =
           own_then c.args.selection.now db k m (g.D.Disk.bytes_read c.args.disk.now Pkg) (g.D.Disk.bytes_read c.loop-next.disk Pkg)
           (g.D.Disk.bytes_read c.pick.new.disk Pkg) c.in-Some.ensures.next.0
-          inv.own done.looks.no_more done.unread;
+          inv.own done.looks.reads.pkg done.unread;
       faults = omega (arith, inv.faults, done.cause.later);
       same = λ told.
           let map = packages (g.D.Disk.files c.args.disk.now).pkg db.store in
@@ -62,9 +63,9 @@ returns-in-Ok-Some-clause-looks g c =
     let inv = c.loop-next.invariant in
     let more = cost_more db k m c.in-Some.ensures.next.0 in
     let number = rw c.in-Ok-Some.field-0-is at c.in-Ok-Some.ensures.numbered in
-    subst (λ (i : ℕ). Looks g.D.Disk.tells g.D.Disk.files g.D.Disk.left_since g.D.Disk.moment g.D.Disk.bytes_read g.D.Disk.follows
+    subst (λ (i : ℕ). Looks g.D.Disk.tells g.D.Disk.files g.D.Disk.left_since g.D.Disk.moment g.D.Disk.bytes_read g.D.Disk.follows Pkg
     (cost_to i db - cost_to n db) c.args.disk.now c.pick.new.disk) (sym number)
-    (looks_then g.D.Disk.tells g.D.Disk.files g.D.Disk.left_since g.D.Disk.moment g.D.Disk.bytes_read g.D.Disk.follows g.met.D.Disk.follows_trans
+    (looks_then g.D.Disk.tells g.D.Disk.files g.D.Disk.left_since g.D.Disk.moment g.D.Disk.bytes_read g.D.Disk.follows Pkg g.met.D.Disk.follows_trans
     (cost_to k db - cost_to n db) (cost m db) (cost_to m db - cost_to n db) c.args.disk.now c.loop-next.disk c.pick.new.disk
     (omega (arith, more, inv.more)) inv.looks c.in-Ok-Some.ensures.looks)
 
@@ -77,7 +78,7 @@ returns-in-Err-clause-looks g c =
     let inv = c.loop-next.invariant in
     let more = cost_more db k m c.in-Some.ensures.next.0 in
     let all = cost_some db m in
-    looks_then g.D.Disk.tells g.D.Disk.files g.D.Disk.left_since g.D.Disk.moment g.D.Disk.bytes_read g.D.Disk.follows g.met.D.Disk.follows_trans
+    looks_then g.D.Disk.tells g.D.Disk.files g.D.Disk.left_since g.D.Disk.moment g.D.Disk.bytes_read g.D.Disk.follows Pkg g.met.D.Disk.follows_trans
     (cost_to k db - cost_to n db) (cost m db) (cost_all db - cost_to n db) c.args.disk.now c.loop-next.disk c.pick.new.disk
     (omega (arith, more, all, inv.more)) inv.looks c.in-Err.ensures.looks
 
@@ -91,7 +92,7 @@ pub returns-clause-looks : goal.returns-clause-looks
 returns-clause-looks g c =
     let db = c.args.db.now in
     let all = cost_some db c.loop-next.passed in
-    looks_more g.D.Disk.tells g.D.Disk.files g.D.Disk.left_since g.D.Disk.moment g.D.Disk.bytes_read g.D.Disk.follows
+    looks_more g.D.Disk.tells g.D.Disk.files g.D.Disk.left_since g.D.Disk.moment g.D.Disk.bytes_read g.D.Disk.follows Pkg
     (cost_to c.loop-next.passed db - cost_to c.args.n db) (cost_all db - cost_to c.args.n db) c.args.disk.now c.loop-next.disk
     (omega (arith, all)) c.loop-next.invariant.looks
 
@@ -101,7 +102,7 @@ returns-in-Ok-Some-clause-own g c =
     own_all c.args.selection.now c.args.db.now c.in-Some.next (g.D.Disk.bytes_read c.args.disk.now Pkg) (g.D.Disk.bytes_read c.pick.new.disk Pkg)
     (own_then c.args.selection.now c.args.db.now c.loop-next.passed c.in-Some.next (g.D.Disk.bytes_read c.args.disk.now Pkg)
     (g.D.Disk.bytes_read c.loop-next.disk Pkg) (g.D.Disk.bytes_read c.pick.new.disk Pkg)
-    c.in-Some.ensures.next.0 c.loop-next.invariant.own done.looks.no_more done.unread)
+    c.in-Some.ensures.next.0 c.loop-next.invariant.own done.looks.reads.pkg done.unread)
 
 pub returns-in-Err-clause-own : goal.returns-in-Err-clause-own
 returns-in-Err-clause-own g c =
@@ -109,7 +110,7 @@ returns-in-Err-clause-own g c =
     own_all c.args.selection.now c.args.db.now c.in-Some.next (g.D.Disk.bytes_read c.args.disk.now Pkg) (g.D.Disk.bytes_read c.pick.new.disk Pkg)
     (own_then c.args.selection.now c.args.db.now c.loop-next.passed c.in-Some.next (g.D.Disk.bytes_read c.args.disk.now Pkg)
     (g.D.Disk.bytes_read c.loop-next.disk Pkg) (g.D.Disk.bytes_read c.pick.new.disk Pkg)
-    c.in-Some.ensures.next.0 c.loop-next.invariant.own done.looks.no_more done.unread)
+    c.in-Some.ensures.next.0 c.loop-next.invariant.own done.looks.reads.pkg done.unread)
 
 pub returns-clause-own : goal.returns-clause-own
 returns-clause-own g c =
