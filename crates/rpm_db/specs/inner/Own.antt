@@ -1,4 +1,4 @@
--- A header's own bytes.
+-- A header's own bytes, read again.
 use Rattle.std.proofs.Common.{◌≡◌, ℕ, suc, ◌+◌, ◌-◌, ◌*◌, ◌≤◌, List, [], ◌∷◌, Bool, true, false, Option, Some, None, Ok, Err, length, take, drop, refl, sym, ap, ◌∙◌, inl, inr, arith}
 use Rattle.std.specs.Prelude.{nat_lt}
 use Rattle.std.specs.Int.{w32, from_be_bytes}
@@ -16,37 +16,6 @@ passed (Some fault) x h is = absurd cc
 own_blob : (il n : ℕ) (bytes : List ℕ) (h : Header) → header_of il (take n bytes) ≡ Ok h → take n bytes ≡ h.blob
 unfolding header_of
 own_blob il n bytes h is = ap (λ (x : Header). x.blob) (passed _ _ h is)
-
-whole_front : (il n : ℕ) (bytes : List ℕ) (h : Header) → n ≤ length bytes → header_of il (take n bytes) ≡ Ok h → take (length h.blob) bytes ≡ h.blob
-unfolding header_of
-whole_front il n bytes h within is =
-    let own : take n bytes ≡ h.blob = own_blob il n bytes h is in
-    let size : length h.blob ≡ n = sym (ap length own) ∙ length-take-le n bytes within in
-    rw size own
-
--- they are the first of those that the header was read from
-pub own_front : (bytes : List ℕ) (h : Header) → header bytes ≡ Ok h → take (length h.blob) bytes ≡ h.blob
-unfolding header
-own_front bytes h is =
-    let il = number_at w32 bytes 0 in
-    let dl = number_at w32 bytes 4 in
-    elim (cases_Bool (nat_lt (length bytes) 8)) [
-      | inl short ↦ (let no = rw short at is in absurd cc)
-      | inr long ↦ elim (cases_Bool (nat_lt 65535 il)) [
-        | inl many ↦ (let no = rw (long, many) at is in absurd cc)
-        | inr few ↦ elim (cases_Bool (nat_lt 67108864 dl)) [
-          | inl much ↦ (let no = rw (long, few, much) at is in absurd cc)
-          | inr small ↦ elim (cases_Bool (nat_lt (length bytes) (8 + 16 * il + dl))) [
-            | inl cut ↦ (let no = rw (long, few, small, cut) at is in absurd cc)
-            | inr whole ↦
-                (let le : 8 + 16 * il + dl ≤ length bytes = grind (arith, nat_tests) in
-                whole_front il (8 + 16 * il + dl) bytes h le (rw (long, few, small, whole) at is))
-          ]
-        ]
-      ]
-    ]
-
--- ---- read again
 
 -- a number is told by its four bytes
 four_in_front : (m : ℕ) (xs : List ℕ) → from_be_bytes w32 (take (suc (suc (suc (suc m)))) xs) ≡ from_be_bytes w32 xs

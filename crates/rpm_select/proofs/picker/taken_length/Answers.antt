@@ -1,7 +1,6 @@
 use Rattle.std.proofs.Common.{◌≡◌, ℕ, List, true, false, length, take, Ok, sym, ap, subst, ◌∙◌}
 use Rattle.rpm_header.specs.Header.{header}
 use Rattle.rpm_db.specs.State.{Package, Good, read_as}
-use Rattle.rpm_db.specs.inner.Own.{own_front}
 use Rattle.rpm_select.specs.Selections.{is_picked, takes_header, takes_read}
 use Rattle.rpm_select.proofs.picker.taken_length.Goals as goal
 
@@ -13,7 +12,7 @@ returns-in-Ok-true-clause-told c =
     let answer : true ≡ takes_header c.args.selection.now c.args.number c.in-Ok.view = rw c.in-Ok-true.field-0-test at c.in-Ok-true.ensures in (
       subst (λ (p : Package). is_picked c.args.selection.now (c.args.number, p) ≡ true) (sym found)
           (ap (takes_read c.args.selection.now c.args.number) again ∙ sym answer),
-      found ∙ ap Good (sym (ap (λ (xs : List ℕ). take (length xs) c.args.blob.now) c.blob-length.ensures.value ∙ own_front c.args.blob.now c.in-Ok.view is)),
+      found ∙ ap Good (sym (ap (λ (xs : List ℕ). take (length xs) c.args.blob.now) c.blob-length.ensures.value ∙ c.in-Ok.ensures.own)),
     )
 
 pub returns-in-Ok-false-clause-told : goal.returns-in-Ok-false-clause-told
