@@ -5,7 +5,7 @@ use Rattle.std.specs.Ordering.{nat_cmp, eq_by_cmp, is_lt}
 use Rattle.std.specs.Cmp.{unsigned_tied}
 use Rattle.std.specs.FinMap as finite
 use Rattle.std.specs.FinMap.Entries.{below_all}
-use Rattle.rpm_select.specs.Picks.{above}
+use Rattle.rpm_db.specs.State.{above}
 use Rattle.std.proofs.lemmas.Bool.{cases_lt, cases_order}
 use Rattle.std.proofs.lemmas.Bool.Decides.{nat_tests}
 
@@ -70,7 +70,8 @@ next_left n m v (e ∷ es) t lt found none = elim (cases_lt n e.0) [
       (let s = both_true (below_all nat_cmp e.0 es) (finite.is_sorted nat_cmp es) t in
       let here : nat_lt n e.0 ≡ false = grind (arith, nat_tests) in
       let there : nat_lt m e.0 ≡ false = grind (arith, nat_tests) in
-      rw (here, there) (next_left n m v es s.1 lt (sym (passed m e es (λ is. omega arith)) ∙ found) (λ k a b. sym (passed k e es (λ is. omega arith)) ∙ none k a b)))
+      rw (here, there) (next_left n m v es s.1 lt (sym (passed m e es (λ is. omega arith)) ∙ found) (λ k a b. sym (passed k e es (λ is. omega arith))
+      ∙ none k a b)))
   | inl first ↦
       (let s = both_true (below_all nat_cmp e.0 es) (finite.is_sorted nat_cmp es) t in
       let here : nat_lt n e.0 ≡ true = grind (arith, nat_tests) in
@@ -104,8 +105,11 @@ module _ {X : Type 0} (map : finite.FinMap nat_cmp X) where
   pub nothing_above : (n : ℕ) → ((k : ℕ) → n < k → finite.get map k ≡ None) → above n (finite.entries map) ≡ []
   nothing_above n none = none_left n (finite.entries map) (finite.entries_sorted map) (λ k lt. sym (finite.get-entries map k) ∙ none k lt)
 
-  pub next_above : (n m : ℕ) (v : X) → n < m → finite.get map m ≡ Some v → ((k : ℕ) → n < k → k < m → finite.get map k ≡ None) → above n (finite.entries map) ≡ (m, v) ∷ above m (finite.entries map)
-  next_above n m v lt found none = next_left n m v (finite.entries map) (finite.entries_sorted map) lt (sym (finite.get-entries map m) ∙ found) (λ k a b. sym (finite.get-entries map k) ∙ none k a b)
+  pub next_above : (n m : ℕ) (v : X) → n < m → finite.get map m ≡ Some v → ((k : ℕ) → n < k → k < m → finite.get map k ≡ None)
+      → above n (finite.entries map) ≡ (m, v) ∷ above m (finite.entries map)
+  next_above n m v lt found none =
+      next_left n m v (finite.entries map) (finite.entries_sorted map) lt (sym (finite.get-entries map m) ∙ found) (λ k a b. sym (finite.get-entries map k)
+      ∙ none k a b)
 
   pub all_above_zero : finite.get map 0 ≡ None → above 0 (finite.entries map) ≡ finite.entries map
   all_above_zero none = all_of (finite.entries map) (finite.entries_sorted map) (sym (finite.get-entries map 0) ∙ none)

@@ -15,12 +15,15 @@ use Rattle.rpm_db.specs.Database.{Database, holds, cost, cost_to, cost_all}
 use Rattle.rpm_db.specs.State.{Package, package_of, packages}
 
 -- a map whose values are changed one by one
-find-map : {X Y : Type 0} (f : X → Y) (q : ℕ) (es : List (ℕ × X)) → finite.find nat_cmp q (map (λ e. (e.0, f e.1)) es) ≡ option_map f (finite.find nat_cmp q es)
+pub find-map : {X Y : Type 0} (f : X → Y) (q : ℕ) (es : List (ℕ × X))
+    → finite.find nat_cmp q (map (λ e. (e.0, f e.1)) es) ≡ option_map f (finite.find nat_cmp q es)
 find-map f q [] = refl
-find-map f q (e ∷ es) = elim (eq_by_cmp nat_cmp q e.0) as (λ b. cond b (Some (f e.1)) (finite.find nat_cmp q (map (λ e. (e.0, f e.1)) es)) ≡ option_map f (cond b (Some e.1) (finite.find nat_cmp q es))) [
-  | true ↦ refl
-  | false ↦ find-map f q es
-]
+find-map f q (e ∷ es) =
+    elim (eq_by_cmp nat_cmp q e.0) as (λ b. cond b (Some (f e.1)) (finite.find nat_cmp q (map (λ e. (e.0, f e.1)) es))
+    ≡ option_map f (cond b (Some e.1) (finite.find nat_cmp q es))) [
+      | true ↦ refl
+      | false ↦ find-map f q es
+    ]
 
 -- the package of a number is what its blob says
 pub get-packages : (file : Units) (s : Store) (n : ℕ) → finite.get (packages file s) n ≡ option_map package_of (finite.get (blobs file s) n)

@@ -1,6 +1,7 @@
 -- What is kept on the way through a glob and a text.
 use Rattle.std.proofs.Common.{ℕ, ◌+◌, ◌≤◌, List, length, Option, Some, None, Bor}
 use Rattle.rpm_select.specs.Glob.{Piece, pieces}
+use Rattle.rpm_select.specs.inner.Unclosed.{IsUnclosed}
 
 abbrev pub Back : Type 0
 Back = Option (Bor (List ℕ) × Bor (List ℕ))
@@ -18,3 +19,7 @@ tries text (Some b) = length b.1.now
 abbrev pub IsWithin : ℕ → ℕ → ℕ → Back → Type 0
 IsWithin glob text left None = left ≤ text
 IsWithin glob text left (Some b) = (length b.0.now ≤ glob) × (left ≤ length b.1.now) × (length b.1.now ≤ text)
+
+abbrev pub IsUnclosedBack : ℕ → Back → Type 0
+IsUnclosedBack unclosed None = Unit {0}
+IsUnclosedBack unclosed (Some b) = IsUnclosed unclosed b.0.now
