@@ -3,7 +3,7 @@ use Rattle.std.proofs.Common.{◌≡◌, ℕ, ◌+◌, ◌≤◌, ◌-◌, List,
 use Rattle.std.specs.Prelude.{is_ok, if◌then◌else◌}
 use Rattle.std.proofs.lemmas.List.{length-take, take_at, take_all}
 use Rattle.std.proofs.lemmas.Bool.{eqb-false}
-use Rattle.rpm_file.specs.Filling.{Fills, Appends}
+use Rattle.rpm_file.specs.inner.Filling.{Fills, Appends}
 use Rattle.rpm_file.proofs.Filled.{front_kept}
 use borrow.Rule.Slice.PartMut.{put_mid}
 

@@ -10,7 +10,8 @@ use Rattle.rpm_file.specs.Browsing.{left}
 use Rattle.rpm_file.specs.List.{front_header}
 use Rattle.rpm_file.specs.Merging.{merged}
 use Rattle.rpm_file.specs.Package.{behind_lead, Headed, with_rest, or_fault_in, headed, headed_of, behind_padding, joined_by, main_at, behind_signature, after_signature, signature_at, package_header}
-use Rattle.rpm_file.specs.Answers.{IsFileFault, AnswersMade, AnswersBy}
+use Rattle.rpm_file.specs.Answers.{IsFileFault, AnswersBy}
+use Rattle.rpm_file.specs.inner.Parts.{AnswersMade}
 
 -- a fault that ends what goes on is the fault of the whole
 pub passed : {X Y : Type 0} (found : Result X FileFault) (whole : Result Y FileFault) (e : FileFault)

@@ -9,7 +9,7 @@ use Rattle.rpm_header.specs.Digest.{magic}
 use Rattle.rpm_file.specs.declared.fault.ListFault.{ListFault}
 use Rattle.rpm_file.specs.declared.fault.ListFault.TheVariants as fault
 use Rattle.rpm_file.specs.Browsing.{left}
-use Rattle.rpm_file.specs.Filling.{Fills, IsOutside}
+use Rattle.rpm_file.specs.inner.Filling.{Fills, IsOutside}
 use Rattle.rpm_file.specs.List.{has_magic, entries_in, data_in, size_in, sized, front_header, some_found, list_head}
 use Rattle.rpm_file.specs.Answers.{IsListFault}
 

@@ -20,9 +20,10 @@ use Rattle.rpm_header.specs.declared.form.HeaderFault.{HeaderFault}
 use Rattle.rpm_header.specs.declared.laying.BuildFault.{BuildFault}
 use Rattle.rpm_header.specs.declared.laying.BuildFault.TheVariants as build
 use Rattle.rpm_file.specs.declared.fault.FileFault.TheVariants as fault
-use Rattle.rpm_file.specs.Answers.{IsMadeFault}
+use Rattle.rpm_file.specs.inner.Parts.{IsMadeFault}
 use Rattle.rpm_file.specs.Package.{read_again, entries_or_none}
-use Rattle.rpm_file.specs.Merging.{HasTags, joins_as, is_null, has_tag, dribble_as, dribble, dribbles, made_fault, passes_limits, with_entries, merged}
+use Rattle.rpm_file.specs.Merging.{joins_as, is_null, has_tag, dribble_as, dribble, dribbles, passes_limits, with_entries, merged}
+use Rattle.rpm_file.specs.inner.Joining.{HasTags, made_fault}
 
 -- ---- which tag an entry gets
 

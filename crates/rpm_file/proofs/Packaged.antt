@@ -13,7 +13,8 @@ use Rattle.rpm_file.specs.declared.fault.Part.TheVariants as part
 use Rattle.rpm_file.specs.Browsing.{left}
 use Rattle.rpm_file.specs.List.{Found, front_header, some_found, list_head}
 use Rattle.rpm_file.specs.Package.{lead_magic, is_lead, behind_lead, early_fault, headed, headed_of, padding_of, behind_padding}
-use Rattle.rpm_file.specs.Answers.{IsListFault, IsFileFault, AnswersTake, AnswersSkip}
+use Rattle.rpm_file.specs.Answers.{IsListFault, IsFileFault}
+use Rattle.rpm_file.specs.inner.Parts.{AnswersTake, AnswersSkip}
 use Rattle.rpm_file.proofs.Listed.{number_longer}
 
 -- ---- what is skipped

@@ -11,8 +11,8 @@ use Rattle.rpm_outside.specs.LogRules.{heads_right, heads_wrong, heads_done, hea
 use Rattle.rpm_outside.specs.EntryLaws.{Writes, Covers, within_changed}
 use Rattle.rpm_outside.specs.Changed.{WasChanged, LeavesChanged}
 use Rattle.rpm_group.specs.declared.log.Head.{Head}
-use Rattle.rpm_group.specs.Readings.{HeadIs}
-use Rattle.rpm_group.specs.Settled.{WasWithin}
+use Rattle.rpm_group.specs.inner.LogReadings.{HeadIs}
+use Rattle.rpm_group.specs.inner.Leavings.{WasWithin}
 
 pub with_entries-append : (es fs : List Entry) (files : Files) → with_entries (es ++ fs) files ≡ with_entries fs (with_entries es files)
 with_entries-append [] fs files = refl

@@ -8,7 +8,7 @@ use Rattle.rpm_outside.specs.Logs.{Entry, LogState, Closed, Open, is_blank, log_
 use Rattle.rpm_outside.specs.inner.LogLaws.{NotLog, log_not_log, reopened_open, reopened_within, closing, blank_closed, first_unit, within_log, entries_log, unlogged_entries, entries_done}
 use Rattle.rpm_outside.specs.EntryLaws.{Within}
 use Rattle.rpm_group.specs.Readings.{IsOpen}
-use Rattle.rpm_group.specs.Settled.{WasWithin, ReopensAs}
+use Rattle.rpm_group.specs.inner.Leavings.{WasWithin, ReopensAs}
 
 module _ {D : Type 0} (moment : D → ℕ) (left_since : D → ℕ → Files → Type 0) where
   -- the write of the gate

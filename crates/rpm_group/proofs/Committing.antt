@@ -8,14 +8,15 @@ use Rattle.rpm_outside.specs.Changed.{ChangedIn, WasChanged, LeavesChanged, chan
 use Rattle.rpm_outside.specs.Logs.{Entry, Closed, Open, log_state, unlogged, with_entries, reopened, is_blank}
 use Rattle.rpm_outside.specs.inner.LogLaws.{reopened_closed, reopened_open, blank_closed}
 use Rattle.rpm_outside.specs.LogWrites.{EntriesIn, entries_kept, entries_then, entries_long, word_full, IsGate, opening, opened_is}
-use Rattle.rpm_group.specs.Words.{IsUnitOf}
+use Rattle.rpm_group.specs.inner.Words.{IsUnitOf}
 use Rattle.rpm_outside.specs.LogRules.{closed_blank}
 use Rattle.rpm_group.specs.declared.group.Tail.{Tail}
 use Rattle.rpm_group.specs.declared.layers.Layers.{Layers}
 use Rattle.rpm_group.specs.Held.{laid}
-use Rattle.rpm_group.specs.Logged.{Logged}
-use Rattle.rpm_group.specs.Settled.{WasWithin, ReopensAs}
-use Rattle.rpm_group.specs.Groups.{with_held, IsGroup, IsTail, BeforeOrAfter}
+use Rattle.rpm_group.specs.inner.Logged.{Logged}
+use Rattle.rpm_group.specs.inner.Leavings.{WasWithin, ReopensAs}
+use Rattle.rpm_group.specs.Groups.{BeforeOrAfter}
+use Rattle.rpm_group.specs.inner.Grouped.{with_held, IsGroup, IsTail}
 use Rattle.rpm_group.proofs.Applied.{with_entries-append}
 use Rattle.rpm_group.proofs.LoggedLaws.{covers_before, covers_behind, logged_laid}
 use Rattle.rpm_group.proofs.Closes.{three_files, written_leaves}

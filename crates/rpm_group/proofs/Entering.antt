@@ -8,7 +8,7 @@ use Rattle.rpm_outside.specs.History.{torn_file_whole}
 use Rattle.rpm_outside.specs.Changed.{ChangedIn, torn_changed, changed_more}
 use Rattle.rpm_outside.specs.Logs.{Entry, word}
 use Rattle.rpm_outside.specs.LogWrites.{EntryIn, EntriesIn, entries_kept, entries_push}
-use Rattle.rpm_group.specs.Words.{IsHeadOf}
+use Rattle.rpm_group.specs.inner.Words.{IsHeadOf}
 
 module _ (entry : Entry) (head : List ℕ) (p : ℕ) (old new : Units) (is : new ≡ put p (head ∷ entry.units) old)
     (says : IsHeadOf entry.file entry.first (length entry.units) head)

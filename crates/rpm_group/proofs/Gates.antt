@@ -8,7 +8,8 @@ use Rattle.rpm_outside.specs.inner.LogLaws.{blank_closed}
 use Rattle.rpm_outside.specs.LogRules.{gate_wrong, gate_right, gate_last, head_parts, after, after-wrong, after-open, after-push, heads_right, heads_wrong, heads_done, heads_more}
 use Rattle.rpm_group.specs.declared.log.Head.{Head}
 use Rattle.std.proofs.Common.{Option}
-use Rattle.rpm_group.specs.Readings.{GateSays, IsHead, HeadIs, HeadSays, IsOpen}
+use Rattle.rpm_group.specs.Readings.{IsOpen}
+use Rattle.rpm_group.specs.inner.LogReadings.{GateSays, IsHead, HeadIs, HeadSays}
 use Rattle.rpm_group.specs.declared.log.Reading.TheVariants.{Opened}
 
 module _ (files mid : Files) (gate : List ℕ) (units : ℕ) (same : mid ≡ files) (is : gate ≡ unit_at mid.log 0) where

@@ -8,7 +8,8 @@ use Rattle.rpm_outside.specs.Files.{Units, unit_at, units_of, blank, put}
 use Rattle.rpm_outside.specs.inner.Cuts.{length-cut_up, unit_at-cut_up}
 use Rattle.rpm_outside.specs.inner.Puts.{length-put, put_before, put_inside, put_after}
 use Rattle.rpm_outside.specs.inner.PutLaws.{same_units}
-use Rattle.rpm_group.specs.Held.{Table, unit_in, held_at, unit_over, laid, EndsAt, Holds, SameHeld}
+use Rattle.rpm_group.specs.Held.{Table, unit_in, held_at, unit_over, laid, EndsAt}
+use Rattle.rpm_group.specs.inner.Holding.{Holds, SameHeld}
 
 pub length-laid : (table : Table) (end : ℕ) (file : Units) → length (laid table end file) ≡ max (length file) end
 unfolding laid

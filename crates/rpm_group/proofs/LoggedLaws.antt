@@ -13,8 +13,9 @@ use Rattle.rpm_outside.specs.Literal.{cases_file, other_file}
 use Rattle.rpm_outside.specs.Logs.{Entry, with_entries}
 use Rattle.rpm_outside.specs.EntryLaws.{Covers}
 use Rattle.rpm_group.specs.Held.{Table, held_at, unit_over, laid, EndsAt}
-use Rattle.rpm_group.specs.Counts.{is_held, begins_run, count_below, AreHeld}
-use Rattle.rpm_group.specs.Logged.{Logged, run_entry}
+use Rattle.rpm_group.specs.Counts.{is_held, begins_run, count_below}
+use Rattle.rpm_group.specs.inner.HeldUnits.{AreHeld}
+use Rattle.rpm_group.specs.inner.Logged.{Logged, run_entry}
 use Rattle.rpm_group.proofs.Applied.{with_entries-append}
 use Rattle.rpm_group.proofs.Runs.{length-units_held, unit_at-units_held}
 use Rattle.rpm_group.proofs.Laids.{length-laid, unit_at-laid}

@@ -7,7 +7,8 @@ use borrow.Rule.Slice.PartMut.{put_mid}
 use Rattle.rpm_outside.specs.Files.{Units, unit_at, units_of, blank}
 use Rattle.rpm_outside.specs.inner.Cuts.{length-cut_up}
 use Rattle.rpm_outside.specs.inner.PutLaws.{same_units}
-use Rattle.rpm_group.specs.Held.{Table, unit_in, held_at, laid, EndsAt, LaysOver}
+use Rattle.rpm_group.specs.Held.{Table, unit_in, held_at, laid, EndsAt}
+use Rattle.rpm_group.specs.inner.Holding.{LaysOver}
 use Rattle.rpm_group.proofs.ByteLaws.{length-put_mid, get_or_put_inside}
 use Rattle.rpm_group.proofs.Laids.{unit_of_bytes, unit_at-laid}
 

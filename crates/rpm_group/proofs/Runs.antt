@@ -13,7 +13,8 @@ use Rattle.rpm_outside.specs.Changed.{with_file-with_file}
 use Rattle.rpm_outside.specs.inner.PutMore.{put_some, put_some_is, put_some_append}
 use Rattle.rpm_group.specs.declared.page.Page.{Page}
 use Rattle.rpm_group.specs.Held.{Table, unit_in, in_page, held_at}
-use Rattle.rpm_group.specs.Counts.{units_held, AreHeld}
+use Rattle.rpm_group.specs.inner.Holding.{LaysOver}
+use Rattle.rpm_group.specs.inner.HeldUnits.{units_held, AreHeld}
 use Rattle.rpm_group.proofs.Laids.{unit_of_bytes}
 use Rattle.rpm_group.proofs.Tables.{unit_in_part}
 
@@ -101,6 +102,26 @@ piece_units table page q from n first size is is_size within long paged held = s
 
     count : length (units_of part) ≡ n
     count = omega (arith, length-cut_up (length part / 16) part, part_long)
+
+-- the bytes of held units that were copied one by one
+pub gathered_units : (table : Table) (from n : ℕ) (old into : List ℕ) → n ≡ length into / 16 → length into ≡ length old → AreHeld table from (from + n)
+    → LaysOver from table old into → units_of into ≡ units_held table from n
+gathered_units table from n old into is_n same_long held lays = same_units (units_of into) (units_held table from n)
+    (omega (arith, length-cut_up (length into / 16) into, length-units_held table from n, is_n))
+    (λ k. elim (cases_lt k n) [
+      | inl below ↦
+          unit_of_bytes into k (omega (arith, is_n))
+          ∙ lays k (omega (arith, same_long, is_n))
+          ∙ whatever (held_at table (from + k)) (unit_in old k) (held (from + k) (omega arith) (omega arith))
+          ∙ sym (unit_at-units_held table from n k below)
+      | inr past ↦
+          get_or_past (units_of into) k blank (omega (arith, length-cut_up (length into / 16) into, is_n))
+          ∙ sym (get_or_past (units_held table from n) k blank (omega (arith, length-units_held table from n)))
+    ])
+  where
+    whatever : (unit : Option (List ℕ)) (other : List ℕ) → is_some unit ≡ true → unwrap_or unit other ≡ unwrap_or unit blank
+    whatever (Some unit) other there = refl
+    whatever None other there = absurd (let e : false ≡ true = there in cc)
 
 -- one piece more of a run
 module _ (table : Table) (file : File) (at from done stop n place : ℕ) (first mid new : Files) (low : from ≤ done) (some : done < stop)

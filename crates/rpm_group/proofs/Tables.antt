@@ -5,7 +5,8 @@ use Rattle.std.specs.declared.alloc.Global.{Global}
 use Rattle.std.proofs.lemmas.List.{length-take, length-drop, get_or_append_left, get_or_past, length_push, get_or_push, get_or-take, get_or-drop, same_lists}
 use Rattle.std.proofs.lemmas.Bool.{cases_lt, cases_eq, cases_order}
 use Rattle.rpm_group.specs.declared.page.Page.{Page}
-use Rattle.rpm_group.specs.Held.{Table, unit_in, in_page, page_at, in_paged, held_at, SameHeld, KeepsPages, PageWrote, Holds}
+use Rattle.rpm_group.specs.Held.{Table, unit_in, in_page, page_at, in_paged, held_at}
+use Rattle.rpm_group.specs.inner.Holding.{SameHeld, KeepsPages, PageWrote, Holds}
 
 Paged : Type 0
 Paged = Option (Box Page Global)

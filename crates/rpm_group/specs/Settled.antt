@@ -3,18 +3,9 @@ use Rattle.std.specs.Prelude.{◌≡◌, ℕ, Bool, List, Result, Ok, Err, true,
 use Rattle.rpm_outside.specs.declared.disk.File.{File}
 use Rattle.rpm_outside.specs.Files.{Files, file_of}
 use Rattle.rpm_outside.specs.Logs.{Entry, LogState, Closed, Malformed, reopened}
-use Rattle.rpm_outside.specs.EntryLaws.{Within}
 use Rattle.rpm_group.specs.Readings.{IsOpen}
 use Rattle.rpm_group.specs.declared.recovery.RecoverFault.{RecoverFault}
 use Rattle.rpm_group.specs.declared.recovery.RecoverFault.TheVariants.{BadLog, DiskFault}
-
--- it is one of these images in which some of the entries may have been written
-abbrev pub WasWithin : List Entry → (Files → Type 0) → Files → Type 0
-WasWithin entries images image = (from : Files) × images from × Within entries from image
-
--- it stands for these files
-abbrev pub ReopensAs : Files → Files → Type 0
-ReopensAs files image = reopened image ≡ files
 
 -- it stands for what one of these images stands for
 abbrev pub ReopensAsOneOf : (Files → Type 0) → Files → Type 0

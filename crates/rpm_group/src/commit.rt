@@ -8,9 +8,10 @@ ghost use Rattle.rpm_outside.specs.Changed.{ChangedIn, LeavesChanged};
 ghost use Rattle.rpm_outside.specs.Logs.{Entry, Closed, Open, log_state, unlogged, with_entries, reopened};
 ghost use Rattle.rpm_outside.specs.Changes.{AreSettled, IsSettled};
 ghost use Rattle.rpm_group.specs.LogReads.{ReadsNothing, ReadsLog};
-ghost use Rattle.rpm_group.specs.Logged.{CoversHeld};
-ghost use Rattle.rpm_group.specs.Settled.{WasWithin};
-ghost use Rattle.rpm_group.specs.Groups.{runs_of, units_of_log, needed, with_held, IsGroup, IsTail, BeforeOrAfter, Unwritten};
+ghost use Rattle.rpm_group.specs.inner.Logged.{CoversHeld};
+ghost use Rattle.rpm_group.specs.inner.Leavings.{WasWithin};
+ghost use Rattle.rpm_group.specs.Groups.{runs_of, units_of_log, needed, BeforeOrAfter, Unwritten};
+ghost use Rattle.rpm_group.specs.inner.Grouped.{with_held, IsGroup, IsTail};
 ghost use Rattle.rpm_group.specs.Commits.{IsFull, CommitSays};
 ghost use Rattle.rpm_group.specs.Layers.{laid_files};
 
@@ -152,7 +153,7 @@ impl<D: Disk> Overlay<D> {
     /// Makes what is held of the two files one change of the disk below, and hands that back. What is held of the log is dropped.
     ///
     /// Each run of held units is one entry of the log, those of `Packages.db` first. It takes no memory, writes each unit twice, up to
-    /// 4 KiB at a time, and syncs five times: the log behind its entries and behind its gate, both files, and the log behind
+    /// 64 KiB at a time, and syncs five times: the log behind its entries and behind its gate, both files, and the log behind
     /// zeros in the place of the gate. Where nothing is held it does nothing.
     ///
     /// # Errors

@@ -10,8 +10,8 @@ ghost use Rattle.rpm_outside.specs.LogWrites.{EntriesIn};
 ghost use Rattle.rpm_group.specs.Held.{laid};
 ghost use Rattle.rpm_group.specs.Counts.{begins_run, count_below, log_units};
 ghost use Rattle.rpm_group.specs.LogReads.{ReadsNothing};
-ghost use Rattle.rpm_group.specs.Logged.{Logged, CoversHeld};
-ghost use Rattle.rpm_group.specs.Settled.{WasWithin};
+ghost use Rattle.rpm_group.specs.inner.Logged.{Logged, CoversHeld};
+ghost use Rattle.rpm_group.specs.inner.Leavings.{WasWithin};
 
 use crate::pages::Pages;
 use crate::scan::next_unit;

@@ -4,9 +4,10 @@ ghost use Rattle.std.specs.Prelude.{◌≡◌, ℕ, ◌+◌, ◌*◌, ◌/◌, �
 ghost use Rattle.rpm_outside.specs.Files.{Files, file_of, with_file, put, unit_at};
 ghost use Rattle.rpm_outside.specs.Causes.{HasCause, HasCauseAt};
 ghost use Rattle.rpm_outside.specs.Logs.{log_state, with_entries, reopened};
+ghost use Rattle.rpm_group.specs.Readings.{entries_of, IsOpen};
+ghost use Rattle.rpm_group.specs.inner.LogReadings.{heads_behind};
 ghost use Rattle.rpm_outside.specs.declared.disk.File.TheVariants.{Log};
 ghost use Rattle.rpm_outside.specs.Looks.{LooksAt};
-ghost use Rattle.rpm_group.specs.Readings.{entries_of, IsOpen, heads_behind};
 ghost use Rattle.rpm_group.specs.Layers.{laid_files};
 ghost use Rattle.rpm_group.specs.Loads.{LoadSays, IsOutside};
 

@@ -4,9 +4,9 @@ ghost use Rattle.std.specs.Prelude.{◌≡◌, ◌==◌, if◌then◌else◌, �
 ghost use Rattle.rpm_outside.specs.Files.{Files, unit_at};
 ghost use Rattle.rpm_outside.specs.Causes.{HasCause};
 ghost use Rattle.rpm_outside.specs.Logs.{word, is_gate, is_head};
+ghost use Rattle.rpm_group.specs.inner.LogReadings.{GateSays, LogSays, IsHead, HeadSays, HeadsSay, heads_behind};
 ghost use Rattle.rpm_outside.specs.declared.disk.File.TheVariants.{Log};
 ghost use Rattle.rpm_outside.specs.Looks.{LooksAt};
-ghost use Rattle.rpm_group.specs.Readings.{GateSays, LogSays, IsHead, HeadSays, HeadsSay, heads_behind};
 
 use crate::words::{is_blank, word};
 use rpm_outside::{Disk, Failed, File};

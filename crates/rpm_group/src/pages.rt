@@ -2,8 +2,9 @@
 
 ghost use Rattle.std.specs.Prelude.{◌≡◌, ◌≢◌, ◌⊎◌, ℕ, ◌+◌, ◌-◌, ◌*◌, ◌/◌, ◌%◌, ◌<◌, ◌≤◌, ◌^◌, max, None, length, OnOk, OnErr, IsTrue};
 ghost use Rattle.rpm_outside.specs.Files.{Units, units_of, put};
-ghost use Rattle.rpm_group.specs.Held.{held_at, EndsAt, laid, Holds, SameHeld, LaysOver};
-ghost use Rattle.rpm_group.specs.Counts.{AreHeld};
+ghost use Rattle.rpm_group.specs.Held.{held_at, EndsAt, laid};
+ghost use Rattle.rpm_group.specs.inner.Holding.{Holds, SameHeld, LaysOver};
+ghost use Rattle.rpm_group.specs.inner.HeldUnits.{AreHeld};
 
 use crate::scan::next_unit;
 use crate::table::{Table, add_pages, hold, lay};

@@ -7,12 +7,14 @@ ghost use Rattle.rpm_outside.specs.Causes.{HasCause, HasCauseAt};
 ghost use Rattle.rpm_outside.specs.Changed.{LeavesChanged};
 ghost use Rattle.rpm_outside.specs.EntryLaws.{Within};
 ghost use Rattle.rpm_outside.specs.Logs.{Closed, log_state, unlogged, with_entries, reopened};
+ghost use Rattle.rpm_group.specs.LogReads.{ReadsLog};
+ghost use Rattle.rpm_group.specs.Readings.{entries_of, IsOpen};
+ghost use Rattle.rpm_group.specs.inner.LogReadings.{IsHead, heads_behind};
+ghost use Rattle.rpm_group.specs.Settled.{ReopensAsOneOf, RecoverSays, RecoverKeeps};
+ghost use Rattle.rpm_group.specs.inner.Leavings.{WasWithin, ReopensAs};
 ghost use Rattle.rpm_outside.specs.declared.disk.File.TheVariants.{Log};
 ghost use Rattle.rpm_outside.specs.Looks.{LooksAt};
 ghost use Rattle.rpm_outside.specs.Changes.{AreSettled, IsSettled};
-ghost use Rattle.rpm_group.specs.LogReads.{ReadsLog};
-ghost use Rattle.rpm_group.specs.Readings.{entries_of, IsOpen, IsHead, heads_behind};
-ghost use Rattle.rpm_group.specs.Settled.{WasWithin, ReopensAs, ReopensAsOneOf, RecoverSays, RecoverKeeps};
 
 use crate::log::{Gate, Reading, read_head, read_log};
 use rpm_outside::{Disk, Failed, File};

@@ -4,7 +4,7 @@ ghost use Rattle.std.specs.Prelude.{◌≡◌, ◌⊎◌, ℕ, IsTrue, true, ◌
 ghost use Rattle.rpm_outside.specs.Files.{Files, put};
 ghost use Rattle.rpm_outside.specs.Crash.{LeavesOnly};
 ghost use Rattle.rpm_outside.specs.Logs.{reopened};
-ghost use Rattle.rpm_group.specs.Wholes.{with_seven, LeavesBoth};
+ghost use Rattle.rpm_group.specs.inner.Wholes.{with_seven, LeavesBoth};
 
 use crate::{Overlay, recover};
 use rpm_outside::{Disk, Failed, File};

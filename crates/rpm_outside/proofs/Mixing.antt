@@ -29,7 +29,8 @@ module _ (seed at : ℕ) (units file : Units) where
   outside : (i : ℕ) → unit_at new i ≡ unit_at file i → unit_at file i ≡ unit_at whole i
   outside i same = elim (cases_lt i (length new)) [
     | inl inside ↦
-        same_choice (takes_new seed i) (unit_at new i) (unit_at file i) same ∙ sym (get_or-map-range_with_len unit 0 (length new) i i blank inside (omega arith))
+        same_choice (takes_new seed i) (unit_at new i) (unit_at file i) same ∙ sym (get_or-map-range_with_len unit 0 (length new) i i blank inside
+        (omega arith))
     | inr past ↦
         get_or_past file i blank (omega (arith, length-put at units file))
         ∙ sym (get_or_past whole i blank (omega (arith, length-map-range_with_len unit 0 (length new))))
@@ -55,5 +56,11 @@ module _ (seed at : ℕ) (units file : Units) where
   pub mixed_whole : put at (mixed_units (length units)) file ≡ whole
   mixed_whole =
       same_units (put at (mixed_units (length units)) file) whole
-      (omega (arith, length-put at (mixed_units (length units)) file, length-put at units file, length-map-range_with_len unit at (length units), length-map-range_with_len unit 0 (length new)))
+      (omega (
+        arith,
+        length-put at (mixed_units (length units)) file,
+        length-put at units file,
+        length-map-range_with_len unit at (length units),
+        length-map-range_with_len unit 0 (length new),
+      ))
       each

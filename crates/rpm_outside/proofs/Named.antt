@@ -4,7 +4,8 @@ use Rattle.rpm_outside.specs.declared.mem_disk.MemDisk.{MemDisk}
 use Rattle.rpm_outside.specs.Calls.{Call}
 use Rattle.rpm_outside.specs.MemDisk.{mem_first, mem_calls, mem_failing, mem_starved, Did, is_named, FailsWhereNamed}
 
-module _ (old new : MemDisk) (call : Call) (counted : mem_calls new ≡ min (mem_calls old + 1) (2 ^ 64 - 1)) (failing : mem_failing new ≡ mem_failing old) (first : mem_first new ≡ mem_first old) (starved : mem_starved new ≡ mem_starved old) where
+module _ (old new : MemDisk) (call : Call) (counted : mem_calls new ≡ min (mem_calls old + 1) (2 ^ 64 - 1)) (failing : mem_failing new ≡ mem_failing
+    old) (first : mem_first new ≡ mem_first old) (starved : mem_starved new ≡ mem_starved old) where
   pub named_fails : is_named new ≡ true → Did true call old new → FailsWhereNamed old call true new
   named_fails named did = record {
     counted = counted;

@@ -20,17 +20,23 @@ torn_take at n units old new torn = record {
 }
   where
     at_unit : (i : ℕ) → unit_at new i ≡ unit_at (put at (take n units) old) i
-        → (unit_at (put at (take n units) old) i ≡ unit_at old i) ⊎ ((k : ℕ) × (k < length (take n units)) × (i ≡ at + k) × (unit_at (put at (take n units) old) i ≡ unit_at (take n units) k))
+        → (unit_at (put at (take n units) old) i ≡ unit_at old i) ⊎ ((k : ℕ) × (k < length (take n units)) × (i ≡ at + k)
+        × (unit_at (put at (take n units) old) i ≡ unit_at (take n units) k))
         → (unit_at new i ≡ unit_at old i) ⊎ (unit_at new i ≡ unit_at (put at units old) i)
     at_unit i written (inl same) = inl (written ∙ same)
     at_unit i written (inr (k, below, place, is)) =
         let front : k < n = omega (arith, below, length-take n units) in
         let inside : k < length units = omega (arith, below, length-take n units) in
-        inr (written ∙ is ∙ get_or-take n units k blank front ∙ sym (put_inside at units old k inside) ∙ ap (λ (j : ℕ). unit_at (put at units old) j) (sym place))
+        inr (written ∙ is ∙ get_or-take n units k blank front ∙ sym (put_inside at units old k inside) ∙ ap (λ (j : ℕ). unit_at (put at units old) j)
+        (sym place))
 
-pub torn_part : (half : Bool) (file : File) (at : ℕ) (units : Units) (old new : Files) → TornFile file at (part_of half units) old new → TornFile file at units old new
+pub torn_part : (half : Bool) (file : File) (at : ℕ) (units : Units) (old new : Files) → TornFile file at (part_of half units) old new → TornFile file
+    at units old new
 torn_part false file at units old new torn = torn
-torn_part true file at units old new torn = record { torn = torn_take at (length units / 2) units (file_of file old) (file_of file new) torn.torn; others = torn.others }
+torn_part true file at units old new torn = record {
+  torn = torn_take at (length units / 2) units (file_of file old) (file_of file new) torn.torn;
+  others = torn.others;
+}
 
 -- what is left of a write, whatever part of it was done
 pub record LeavesWrite (first old new : Files) (past steps : List Step) (file : File) (at : ℕ) (units : Units) : Type 0 where
@@ -40,11 +46,13 @@ pub record LeavesWrite (first old new : Files) (past steps : List Step) (file : 
   pub time : Elapses (length past) (length steps) (ImagesSince past first) (ImagesSince steps first)
   pub stays : RisesOrStays (length past) (length steps) old new (ImagesSince past first) (ImagesSince steps first)
 
-pub nothing_left : (first old new : Files) (past steps : List Step) (file : File) (at : ℕ) (units : Units) → new ≡ old → steps ≡ past → LeavesWrite first old new past steps file at units
+pub nothing_left : (first old new : Files) (past steps : List Step) (file : File) (at : ℕ) (units : Units) → new ≡ old → steps ≡ past → LeavesWrite
+    first old new past steps file at units
 nothing_left first old new past steps file at units files none = record {
   replayed = λ is. files ∙ is ∙ ap (λ (s : List Step). after_steps s first) (sym none);
   torn = subst (λ (f : Files). TornFile file at units old f) (sym files) (torn_file_none file at units old);
-  images = subst (λ (s : List Step). Follows (TornFile file at units) (ImagesSince past first (length past)) (ImagesSince s first (length s))) (sym none) (follows_none past file at units first);
+  images = subst (λ (s : List Step). Follows (TornFile file at units) (ImagesSince past first (length past)) (ImagesSince s first (length s)))
+      (sym none) (follows_none past file at units first);
   time = subst (λ (s : List Step). Elapses (length past) (length s) (ImagesSince past first) (ImagesSince s first)) (sym none) (elapses_same past first);
   stays = inr (
     ap length none,
@@ -59,7 +67,8 @@ nothing_left first old new past steps file at units files none = record {
 pub step_rose : (past steps : List Step) (step : Step) → steps ≡ past ++ step ∷ [] → Rose (length past) (length steps)
 step_rose past steps step is = omega (arith, ap length is, length_push past step)
 
-module _ (first old new : Files) (past steps : List Step) (file : File) (at : ℕ) (units part : Units) (weaker : (a b : Files) → TornFile file at part a b → TornFile file at units a b) where
+module _ (first old new : Files) (past steps : List Step) (file : File) (at : ℕ) (units part : Units) (weaker : (a b : Files) → TornFile file at part
+    a b → TornFile file at units a b) where
   once_left : WroteOnce old new past steps file at part → LeavesWrite first old new past steps file at units
   once_left write = record {
     replayed = λ is.
@@ -76,15 +85,18 @@ module _ (first old new : Files) (past steps : List Step) (file : File) (at : �
     stays = inl (step_rose past steps (Wrote file at write.kept) write.step);
   }
 
-any_once : (old new : Files) (past steps : List Step) (file : File) (at : ℕ) (part : Units) → 0 < length part → WroteAny old new past steps file at part → WroteOnce old new past steps file at part
+any_once : (old new : Files) (past steps : List Step) (file : File) (at : ℕ) (part : Units) → 0 < length part → WroteAny old new past steps file at
+    part → WroteOnce old new past steps file at part
 any_once old new past steps file at [] some any = absurd (omega arith)
 any_once old new past steps file at (unit ∷ units) some any = any
 
-pub once_any : (old new : Files) (past steps : List Step) (file : File) (at : ℕ) (part : Units) → 0 < length part → WroteOnce old new past steps file at part → WroteAny old new past steps file at part
+pub once_any : (old new : Files) (past steps : List Step) (file : File) (at : ℕ) (part : Units) → 0 < length part → WroteOnce old new past steps file
+    at part → WroteAny old new past steps file at part
 once_any old new past steps file at [] some once = absurd (omega arith)
 once_any old new past steps file at (unit ∷ units) some once = once
 
-any_left : (first old new : Files) (past steps : List Step) (file : File) (at : ℕ) (units part : Units) → ((a b : Files) → TornFile file at part a b → TornFile file at units a b)
+any_left : (first old new : Files) (past steps : List Step) (file : File) (at : ℕ) (units part : Units) → ((a b : Files) → TornFile file at part a b
+    → TornFile file at units a b)
     → WroteAny old new past steps file at part → LeavesWrite first old new past steps file at units
 any_left first old new past steps file at units [] weaker any = nothing_left first old new past steps file at units any.files any.none
 any_left first old new past steps file at units (unit ∷ rest) weaker any = once_left first old new past steps file at units (unit ∷ rest) weaker any

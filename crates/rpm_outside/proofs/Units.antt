@@ -15,7 +15,8 @@ pub cut_up_more : (n : ℕ) (bytes : List ℕ) → cut_up (n + 1) bytes ≡ cut_
 cut_up_more n bytes = ap (λ (k : ℕ). cut_up k bytes) (add-one n) ∙ cut_up_suc n bytes
 
 -- a file that was lengthened with zeros, and then written in place
-pub put_in_place : (at : ℕ) (units file longer : Units) → longer ≡ file ++ replicate (at + length units - length file) blank → take at longer ++ units ++ drop (at + length units) longer ≡ put at units file
+pub put_in_place : (at : ℕ) (units file longer : Units) → longer ≡ file ++ replicate (at + length units - length file) blank → take at longer ++ units
+    ++ drop (at + length units) longer ≡ put at units file
 unfolding put
 put_in_place at units file longer is =
     let gap = at - length file in
@@ -24,7 +25,8 @@ put_in_place at units file longer is =
     ∙ ap (λ (us : Units). us ++ units ++ drop (at + length units) (file ++ replicate more blank)) (front (cases_lt at (length file)))
     ∙ ap (λ (us : Units). take at file ++ replicate gap blank ++ units ++ us) (back (cases_lt (at + length units) (length file)))
   where
-    front : (at < length file) ⊎ (length file ≤ at) → take at (file ++ replicate (at + length units - length file) blank) ≡ take at file ++ replicate (at - length file) blank
+    front : (at < length file) ⊎ (length file ≤ at) → take at (file ++ replicate (at + length units - length file) blank) ≡ take at file ++ replicate
+        (at - length file) blank
     front (inl inside) =
         let none : 0 ≡ at - length file = omega arith in
         take-append-le at file (replicate (at + length units - length file) blank) (omega arith)
@@ -37,7 +39,8 @@ put_in_place at units file longer is =
         ∙ ap (λ (us : Units). file ++ us) (take-replicate (at - length file) (at + length units - length file) blank (omega arith))
         ∙ ap (λ (us : Units). us ++ replicate (at - length file) blank) (sym (take_all at file past))
 
-    back : (at + length units < length file) ⊎ (length file ≤ at + length units) → drop (at + length units) (file ++ replicate (at + length units - length file) blank) ≡ drop (at + length units) file
+    back : (at + length units < length file) ⊎ (length file ≤ at + length units) → drop (at + length units)
+        (file ++ replicate (at + length units - length file) blank) ≡ drop (at + length units) file
     back (inl inside) =
         let none : at + length units - length file ≡ 0 = omega arith in
         ap (λ (n : ℕ). drop (at + length units) (file ++ replicate n blank)) none

@@ -89,13 +89,16 @@ pub trait Disk {
         requires some { 0 < length bytes.now }
         requires whole { length bytes.now % 16 ≡ 0 }
         requires room { unit + length bytes.now / 16 ≤ 2 ^ 28 }
-        ensures written { OnOk result (IsTrue tells → files self.new ≡ with_file file (put unit (units_of bytes.now) (file_of file (files self.old))) (files self.old)) }
+        ensures written { OnOk result (IsTrue tells → files self.new ≡ with_file file (put unit (units_of bytes.now) (file_of file (files self.old)))
+            (files self.old)) }
         ensures torn { IsTrue tells → TornFile file unit (units_of bytes.now) (files self.old) (files self.new) }
-        ensures images { IsTrue tells → Follows (TornFile file unit (units_of bytes.now)) (left_since self.old (moment self.old)) (left_since self.new (moment self.new)) }
+        ensures images { IsTrue tells → Follows (TornFile file unit (units_of bytes.now)) (left_since self.old (moment self.old))
+            (left_since self.new (moment self.new)) }
         ensures time { IsTrue tells → Elapses (moment self.old) (moment self.new) (left_since self.old) (left_since self.new) }
         ensures later { moment self.old ≤ moment self.new }
         ensures rises { OnOk result (Rose (moment self.old) (moment self.new)) }
-        ensures stays { OnErr result (IsTrue tells → RisesOrStays (moment self.old) (moment self.new) (files self.old) (files self.new) (left_since self.old) (left_since self.new)) }
+        ensures stays { OnErr result (IsTrue tells → RisesOrStays (moment self.old) (moment self.new) (files self.old) (files self.new)
+            (left_since self.old) (left_since self.new)) }
         ensures reads { (f : File) → bytes_read self.new f ≡ bytes_read self.old f }
         ensures cause { HasCause (faults self.old) (faults self.new) result }
         ensures outcome { outcome self.old (Write file unit bytes.now) (is_err result) self.new }
@@ -108,12 +111,14 @@ pub trait Disk {
     /// `Failed` only where the count of faults rose. All is then as pending as before.
     fn sync(&mut self, file: File) -> Result<(), Failed>
         ensures same { IsTrue tells → files self.new ≡ files self.old }
-        ensures settled { OnOk result (IsTrue tells → (image : Files) → left_since self.new (moment self.new) image → file_of file image ≡ file_of file (files self.old)) }
+        ensures settled { OnOk result (IsTrue tells → (image : Files) → left_since self.new (moment self.new) image → file_of file image
+            ≡ file_of file (files self.old)) }
         ensures images { IsTrue tells → (image : Files) → left_since self.new (moment self.new) image → left_since self.old (moment self.old) image }
         ensures time { IsTrue tells → Elapses (moment self.old) (moment self.new) (left_since self.old) (left_since self.new) }
         ensures later { moment self.old ≤ moment self.new }
         ensures rises { OnOk result (Rose (moment self.old) (moment self.new)) }
-        ensures stays { OnErr result (IsTrue tells → RisesOrStays (moment self.old) (moment self.new) (files self.old) (files self.new) (left_since self.old) (left_since self.new)) }
+        ensures stays { OnErr result (IsTrue tells → RisesOrStays (moment self.old) (moment self.new) (files self.old) (files self.new)
+            (left_since self.old) (left_since self.new)) }
         ensures reads { (f : File) → bytes_read self.new f ≡ bytes_read self.old f }
         ensures cause { HasCause (faults self.old) (faults self.new) result }
         ensures outcome { outcome self.old (Sync file) (is_err result) self.new }

@@ -39,7 +39,8 @@ pub struct MemShelf {
 
 /// The place of the newest item under a path.
 fn place_of(items: &[Item], path: &str) -> Option<usize>
-    ensures { MatchOption result (bytes_at (paths_of items.now) path.now ≡ None) (λ i. IsSome (bytes_in items.now i) × (bytes_in items.now i ≡ bytes_at (paths_of items.now) path.now)) }
+    ensures { MatchOption result (bytes_at (paths_of items.now) path.now ≡ None) (λ i. IsSome (bytes_in items.now i)
+        × (bytes_in items.now i ≡ bytes_at (paths_of items.now) path.now)) }
 {
     for (i, item) in items.iter().enumerate() {
         if path == item.path.as_str() {

@@ -159,7 +159,8 @@ pub fn write_units(
     half: bool,
 ) -> Result<(), AllocError>
     requires room { unit + length bytes.now / 16 ≤ 2 ^ 28 }
-    ensures ok { OnOk result (WroteAny (held_files now.old) (held_files now.new) steps.old.items steps.new.items file unit (part_of half (units_of bytes.now))) }
+    ensures ok { OnOk result (WroteAny (held_files now.old) (held_files now.new) steps.old.items steps.new.items file unit
+        (part_of half (units_of bytes.now))) }
     ensures files { OnErr result (held_files now.new ≡ held_files now.old) }
     ensures steps { OnErr result (steps.new.items ≡ steps.old.items) }
 {

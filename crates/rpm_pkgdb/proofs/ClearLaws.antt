@@ -21,11 +21,18 @@ pub outside_refl : (at n : ℕ) (a : Units) → SameOutside at n a a
 outside_refl at n a = record { below = λ i lt. refl; above = λ i le. refl; no_shorter = omega arith }
 
 pub outside_then : (at n : ℕ) (a b c : Units) → SameOutside at n a b → SameOutside at n b c → SameOutside at n a c
-outside_then at n a b c one two = record { below = λ i lt. two.below i lt ∙ one.below i lt; above = λ i le. two.above i le ∙ one.above i le; no_shorter = omega (arith, one.no_shorter, two.no_shorter) }
+outside_then at n a b c one two =
+    record {
+      below = λ i lt. two.below i lt ∙ one.below i lt;
+      above = λ i le. two.above i le
+          ∙ one.above i le;
+      no_shorter = omega (arith, one.no_shorter, two.no_shorter);
+    }
 
 -- a range that lies in another
 pub outside_wider : (at n from m : ℕ) (a b : Units) → from ≤ at → at + n ≤ from + m → SameOutside at n a b → SameOutside from m a b
-outside_wider at n from m a b first last same = record { below = λ i lt. same.below i (omega arith); above = λ i le. same.above i (omega arith); no_shorter = same.no_shorter }
+outside_wider at n from m a b first last same =
+    record { below = λ i lt. same.below i (omega arith); above = λ i le. same.above i (omega arith); no_shorter = same.no_shorter }
 
 pub torn_outside : (at : ℕ) (units a b : Units) → Torn at units a b → SameOutside at (length units) a b
 torn_outside at units a b torn = record {
@@ -92,15 +99,19 @@ module _ (pages units : ℕ) (slots : List Slot) (sound : AreSound pages units s
         | inl here ↦ absurd (not_used j here used_j)
         | inr other_j ↦
             (let was = sound.apart i j differ (ap is_used (sym (set_other free i other_i)) ∙ used_i) (ap is_used (sym (set_other free j other_j)) ∙ used_j) in
-            subst (λ (t : Slot). AreApart t (slot_at (set slots k free) j)) (sym (set_other free i other_i)) (subst (AreApart (slot_at slots i)) (sym (set_other free j other_j)) was))
+            subst (λ (t : Slot). AreApart t (slot_at (set slots k free) j)) (sym (set_other free i other_i))
+            (subst (AreApart (slot_at slots i)) (sym (set_other free j other_j)) was))
       ]
     ];
   }
     where
       not_used : (j : ℕ) → j ≡ k → is_used (slot_at (set slots k free) j) ≡ true → ⊥
-      not_used j here used = (let e : slot_at (set slots k free) j ≡ free = ap (slot_at (set slots k free)) here ∙ set_here free in let f : is_used (slot_at (set slots k free) j) ≡ is_used free = ap is_used e in cc)
+      not_used j here used =
+          (let e : slot_at (set slots k free) j ≡ free = ap (slot_at (set slots k free)) here
+          ∙ set_here free in let f : is_used (slot_at (set slots k free) j) ≡ is_used free = ap is_used e in cc)
 
-  pub put_sound : (s : Slot) → IsPlaced pages units s → ((j : ℕ) → j ≢ k → is_used (slot_at slots j) ≡ true → AreApart s (slot_at slots j)) → AreSound pages units (set slots k s)
+  pub put_sound : (s : Slot) → IsPlaced pages units s → ((j : ℕ) → j ≢ k → is_used (slot_at slots j) ≡ true → AreApart s (slot_at slots j))
+      → AreSound pages units (set slots k s)
   put_sound s placed apart = record {
     placed = λ j used. elim (cases_eq j k) [
       | inl here ↦ subst (IsPlaced pages units) (sym (ap (slot_at (set slots k s)) here ∙ set_here s)) placed
@@ -120,7 +131,8 @@ module _ (pages units : ℕ) (slots : List Slot) (sound : AreSound pages units s
             (subst (AreApart s) (sym (set_other s i other_i)) (apart i other_i (ap is_used (sym (set_other s i other_i)) ∙ used_i))))
         | inr other_j ↦
             (let was = sound.apart i j differ (ap is_used (sym (set_other s i other_i)) ∙ used_i) (ap is_used (sym (set_other s j other_j)) ∙ used_j) in
-            subst (λ (t : Slot). AreApart t (slot_at (set slots k s) j)) (sym (set_other s i other_i)) (subst (AreApart (slot_at slots i)) (sym (set_other s j other_j)) was))
+            subst (λ (t : Slot). AreApart t (slot_at (set slots k s) j)) (sym (set_other s i other_i))
+            (subst (AreApart (slot_at slots i)) (sym (set_other s j other_j)) was))
       ]
     ];
   }
@@ -134,7 +146,9 @@ module _ (file : Units) (st : Store) (m : IsMade file st) where
     head = subst (λ (u : List ℕ). IsHeadUnit u st.generation st.pages) (sym (same.below 0 (omega (arith, m.lawful.some, clear.behind)))) m.head;
     field = ap (word 0) (same.below 1 (omega (arith, m.lawful.some, clear.behind))) ∙ m.field;
     count = m.count;
-    each = λ k below. subst (λ (u : List ℕ). IsSlotUnit u (slot_at st.slots k)) (sym (same.below (2 + k) (omega (arith, m.count, clear.behind)))) (m.each k below);
+    each =
+        λ k below. subst (λ (u : List ℕ). IsSlotUnit u (slot_at st.slots k)) (sym (same.below (2 + k) (omega (arith, m.count, clear.behind))))
+        (m.each k below);
     sound = sound_longer st.pages (length file) (length image) st.slots same.no_shorter m.sound;
   }
 
@@ -142,7 +156,8 @@ module _ (file : Units) (st : Store) (m : IsMade file st) where
   outside_blocks at n image clear same k i used from to = elim (clear.apart k used) [ inl l ↦ same.above i (omega arith) | inr r ↦ same.below i (omega arith) ]
 
   -- a slot is written
-  pub set_made : (k : ℕ) (unit : List ℕ) (s : Slot) → k < length st.slots → IsSlotUnit unit s → AreSound st.pages (length file) (set st.slots k s) → IsMade (put (2 + k) (unit ∷ []) file) (record st { slots = set st.slots k s })
+  pub set_made : (k : ℕ) (unit : List ℕ) (s : Slot) → k < length st.slots → IsSlotUnit unit s → AreSound st.pages (length file) (set st.slots k s)
+      → IsMade (put (2 + k) (unit ∷ []) file) (record st { slots = set st.slots k s })
   set_made k unit s below is sound =
       let next = put (2 + k) (unit ∷ []) file in
       let inside : 2 + k < length file = omega (arith, m.count, m.lawful.inside) in
@@ -154,17 +169,20 @@ module _ (file : Units) (st : Store) (m : IsMade file st) where
         count = length-set st.slots k s ∙ m.count;
         each = λ j lt. elim (cases_eq j k) [
           | inl here ↦
-              subst (IsSlotUnit (unit_at next (2 + j))) (sym (ap (slot_at (set st.slots k s)) here ∙ set_here st.pages (length file) st.slots m.sound k below s))
+              subst (IsSlotUnit (unit_at next (2 + j))) (sym (ap (slot_at (set st.slots k s)) here
+              ∙ set_here st.pages (length file) st.slots m.sound k below s))
               (subst (λ (u : List ℕ). IsSlotUnit u s) (sym (ap (λ (i : ℕ). unit_at next (2 + i)) here ∙ put_here (2 + k) unit file)) is)
           | inr other ↦
               subst (IsSlotUnit (unit_at next (2 + j))) (sym (set_other st.pages (length file) st.slots m.sound k below s j other))
-              (subst (λ (u : List ℕ). IsSlotUnit u (slot_at st.slots j)) (sym (put_elsewhere (2 + k) unit file (2 + j) (omega arith))) (m.each j (omega (arith, lt, length-set st.slots k s))))
+              (subst (λ (u : List ℕ). IsSlotUnit u (slot_at st.slots j)) (sym (put_elsewhere (2 + k) unit file (2 + j) (omega arith)))
+              (m.each j (omega (arith, lt, length-set st.slots k s))))
         ];
         sound = subst (λ (n : ℕ). AreSound st.pages n (set st.slots k s)) (sym long) sound;
       }
 
   -- unit 0 is written
-  pub head_made : (unit : List ℕ) (generation : ℕ) → IsHeadUnit unit generation st.pages → IsMade (put 0 (unit ∷ []) file) (record st { generation = generation })
+  pub head_made : (unit : List ℕ) (generation : ℕ) → IsHeadUnit unit generation st.pages
+      → IsMade (put 0 (unit ∷ []) file) (record st { generation = generation })
   head_made unit generation is =
       let inside : 0 < length file = omega (arith, m.lawful.some, m.lawful.inside) in
       let long = put_length 0 unit file inside in
@@ -178,5 +196,6 @@ module _ (file : Units) (st : Store) (m : IsMade file st) where
       }
 
   -- a unit of the slot pages is written
-  pub page_blocks : (at : ℕ) (unit : List ℕ) (slots : List Slot) → at < 256 * st.pages → ((k : ℕ) → is_used (slot_at slots k) ≡ true → 256 * st.pages ≤ (slot_at slots k).offset) → SameBlocks slots file (put at (unit ∷ []) file)
+  pub page_blocks : (at : ℕ) (unit : List ℕ) (slots : List Slot) → at < 256 * st.pages
+      → ((k : ℕ) → is_used (slot_at slots k) ≡ true → 256 * st.pages ≤ (slot_at slots k).offset) → SameBlocks slots file (put at (unit ∷ []) file)
   page_blocks at unit slots low behind k i used from to = put_elsewhere at unit file i (omega (arith, behind k used))

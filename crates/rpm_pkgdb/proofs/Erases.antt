@@ -50,7 +50,8 @@ module _ (st : Store) (k : ℕ) (s : Slot) (has : HasSlot st k s) where
       apart = λ j used.
           let was = still j used in
           let apart = sound.apart j k was.0 (ap is_used (sym was.1) ∙ used) used_here in
-          let both : AreApart (slot_at after.slots j) s = subst (AreApart (slot_at after.slots j)) has.is (subst (λ (t : Slot). AreApart t (slot_at st.slots k)) (sym was.1) apart) in
+          let both : AreApart (slot_at after.slots j) s =
+          subst (AreApart (slot_at after.slots j)) has.is (subst (λ (t : Slot). AreApart t (slot_at st.slots k)) (sym was.1) apart) in
           elim both.blocks [ inl l ↦ inr l | inr r ↦ inl r ];
     }
 
@@ -69,10 +70,13 @@ module _ (st : Store) (k : ℕ) (s : Slot) (has : HasSlot st k s) where
         let m = made from st stands.keeps has.made in
         let next = freed_made from m in
         let inside : 2 + k < 256 * st.pages = omega (arith, has.below, m.count) in
-        let behind : (j : ℕ) → is_used (slot_at after.slots j) ≡ true → 256 * st.pages ≤ (slot_at after.slots j).offset = λ j used. (next.sound.placed j used).behind in
+        let behind : (j : ℕ) → is_used (slot_at after.slots j) ≡ true → 256 * st.pages ≤ (slot_at after.slots j).offset =
+        λ j used. (next.sound.placed j used).behind in
         record {
           keeps = from_made (put (2 + k) (unit ∷ []) from) after next;
-          blocks = blocks_then after.slots file from (put (2 + k) (unit ∷ []) from) (fewer_blocks (length from) m.sound file from stands.blocks) (page_blocks from st m (2 + k) unit after.slots inside behind);
+          blocks =
+              blocks_then after.slots file from (put (2 + k) (unit ∷ []) from) (fewer_blocks (length from) m.sound file from stands.blocks)
+              (page_blocks from st m (2 + k) unit after.slots inside behind);
         }
 
     -- a stop while the slot is written
@@ -85,7 +89,8 @@ module _ (st : Store) (k : ℕ) (s : Slot) (has : HasSlot st k s) where
         ]
 
   -- a stop while its blocks become zeros
-  pub zeroed_stands : (file from image : Units) → StandsAs after file from → SameOutside s.offset s.count from image → AreSound st.pages (length from) st.slots → StandsAs after file image
+  pub zeroed_stands : (file from image : Units) → StandsAs after file from → SameOutside s.offset s.count from image
+      → AreSound st.pages (length from) st.slots → StandsAs after file image
   zeroed_stands file from image stands same sound =
       let m = made from after stands.keeps has.made in
       let clear = freed_clear (length from) sound in

@@ -17,7 +17,8 @@ unfolding blobs
 unfolded image st = refl
 
 -- an image that stands as the file does has its blobs
-pub stands_for : (st : Store) (file image : Units) → 1 ≤ st.pages → Keeps file st → StandsAs st file image → StandsFor st.generation st.field (blobs file st) image
+pub stands_for : (st : Store) (file image : Units) → 1 ≤ st.pages → Keeps file st → StandsAs st file image
+    → StandsFor st.generation st.field (blobs file st) image
 stands_for st file image some keeps stands =
     let here = made file st keeps some in
     let there = made image st stands.keeps some in

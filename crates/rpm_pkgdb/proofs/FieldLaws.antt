@@ -30,7 +30,8 @@ module _ (file : Units) (st : Store) (m : IsMade file st) where
   field_blocks : (unit : List ℕ) → SameBlocks st.slots file (put 1 (unit ∷ []) file)
   field_blocks unit = page_blocks file st m 1 unit st.slots (omega (arith, m.lawful.some)) (λ k used. (m.sound.placed k used).behind)
 
-field_put_stands : (st : Store) (file from : Units) (unit : List ℕ) (next : ℕ) → 1 ≤ st.pages → word 0 unit ≡ next → StandsAs st file from → StandsAs (record st { field = next }) file (put 1 (unit ∷ []) from)
+field_put_stands : (st : Store) (file from : Units) (unit : List ℕ) (next : ℕ) → 1 ≤ st.pages → word 0 unit ≡ next → StandsAs st file from
+    → StandsAs (record st { field = next }) file (put 1 (unit ∷ []) from)
 field_put_stands st file from unit next some is stands =
     let m = made from st stands.keeps some in
     record {
@@ -39,7 +40,8 @@ field_put_stands st file from unit next some is stands =
     }
 
 -- a stop while the number field is written
-pub field_torn_stands : (st : Store) (file from image : Units) (field : Option ℕ) → 1 ≤ st.pages → StandsAs st file from → FieldTorn field from image → StandsAs st file image ⊎ StandsAs (with_next field st) file image
+pub field_torn_stands : (st : Store) (file from image : Units) (field : Option ℕ) → 1 ≤ st.pages → StandsAs st file from → FieldTorn field from image
+    → StandsAs st file image ⊎ StandsAs (with_next field st) file image
 field_torn_stands st file from image None some stands same = inl (subst (StandsAs st file) (sym same) stands)
 field_torn_stands st file from image (Some next) some stands (inl same) = inl (subst (StandsAs st file) (sym same) stands)
 field_torn_stands st file from image (Some next) some stands (inr (unit, is, torn)) =
@@ -49,9 +51,11 @@ field_torn_stands st file from image (Some next) some stands (inr (unit, is, tor
       | inr new ↦ inr (subst (StandsAs (record st { field = next }) file) (sym new) (field_put_stands st file from unit next some is stands))
     ]
 
-pub field_stands : (st : Store) (file from image : Units) (field : Option ℕ) → 1 ≤ st.pages → StandsAs st file from → FieldPut field from image → StandsAs (with_next field st) file image
+pub field_stands : (st : Store) (file from image : Units) (field : Option ℕ) → 1 ≤ st.pages → StandsAs st file from → FieldPut field from image
+    → StandsAs (with_next field st) file image
 field_stands st file from image None some stands same = subst (StandsAs st file) (sym same) stands
-field_stands st file from image (Some next) some stands (unit, is, new) = subst (StandsAs (record st { field = next }) file) (sym new) (field_put_stands st file from unit next some is stands)
+field_stands st file from image (Some next) some stands (unit, is, new) =
+    subst (StandsAs (record st { field = next }) file) (sym new) (field_put_stands st file from unit next some is stands)
 
 -- units from 2 on stay
 pub field_keeps : (field : Option ℕ) (a b : Units) → FieldPut field a b → (i : ℕ) → 2 ≤ i → unit_at b i ≡ unit_at a i

@@ -55,7 +55,8 @@ module _ (sum size : ℕ) (fits_size : size < 2 ^ 32) where
 
 pub held_part : (file : Units) (at : ℕ) (us : Units) (j : ℕ) → Holds file at us → j ≤ length us → take (length us - j) (drop (at + j) file) ≡ drop j us
 held_part file at us j holds le =
-    let a : length (take (length us - j) (drop (at + j) file)) ≡ length us - j = omega (arith, holds.within, length-take (length us - j) (drop (at + j) file), length-drop (at + j) file) in
+    let a : length (take (length us - j) (drop (at + j) file)) ≡ length us - j =
+    omega (arith, holds.within, length-take (length us - j) (drop (at + j) file), length-drop (at + j) file) in
     same_lists (take (length us - j) (drop (at + j) file)) (drop j us) (omega (arith, a, length-drop j us)) (λ k d below.
     let lt : k < length us - j = omega (arith, a, below) in
     let in_us : j + k < length us = omega arith in
@@ -98,16 +99,20 @@ module _ (n g : ℕ) (b : List ℕ) where
   count-framed = length-cut_up (length all / 16) all ∙ omega (arith, length-framed)
 
   first_unit : take 16 all ≡ head_of n g size
-  first_unit = ap (take 16) parts ∙ take-append-le 16 (head_of n g size) rest (omega (arith, length-head_of n g size)) ∙ take_all 16 (head_of n g size) (omega (arith, length-head_of n g size))
+  first_unit =
+      ap (take 16) parts ∙ take-append-le 16 (head_of n g size) rest (omega (arith, length-head_of n g size))
+      ∙ take_all 16 (head_of n g size) (omega (arith, length-head_of n g size))
 
   other_bytes : drop 16 all ≡ rest
   other_bytes =
-      ap (drop 16) parts ∙ drop-append-le 16 (head_of n g size) rest (omega (arith, length-head_of n g size)) ∙ ap (λ (bs : List ℕ). bs ++ rest) (drop_all 16 (head_of n g size) (omega (arith, length-head_of n g size)))
+      ap (drop 16) parts ∙ drop-append-le 16 (head_of n g size) rest (omega (arith, length-head_of n g size))
+      ∙ ap (λ (bs : List ℕ). bs ++ rest) (drop_all 16 (head_of n g size) (omega (arith, length-head_of n g size)))
 
   cut : units_of all ≡ head_of n g size ∷ cut_up (blocks_for size - 1) rest
   cut =
       let e : length all / 16 ≡ suc (blocks_for size - 1) = omega (arith, length-framed) in
-      ap (λ (k : ℕ). cut_up k all) e ∙ ap (λ (u : List ℕ). u ∷ cut_up (blocks_for size - 1) (drop 16 all)) first_unit ∙ ap (λ (bs : List ℕ). head_of n g size ∷ cut_up (blocks_for size - 1) bs) other_bytes
+      ap (λ (k : ℕ). cut_up k all) e ∙ ap (λ (u : List ℕ). u ∷ cut_up (blocks_for size - 1) (drop 16 all)) first_unit
+      ∙ ap (λ (bs : List ℕ). head_of n g size ∷ cut_up (blocks_for size - 1) bs) other_bytes
 
   the_tail : tail rest ≡ tail_of (adler (summed n g b)) size
   the_tail =
@@ -158,10 +163,12 @@ module _ (n g : ℕ) (b : List ℕ) where
     framed_frame file s count holds =
         let us = units_of all in
         let long : length us ≡ blocks_for size = count-framed in
-        let head : unit_at file s.offset ≡ head_of n g size = ap (unit_at file) (omega arith) ∙ holds.each 0 (omega arith) ∙ ap (λ (u : Units). unit_at u 0) cut in
+        let head : unit_at file s.offset ≡ head_of n g size =
+        ap (unit_at file) (omega arith) ∙ holds.each 0 (omega arith) ∙ ap (λ (u : Units). unit_at u 0) cut in
         let others : take (s.count - 1) (drop (s.offset + 1) file) ≡ cut_up (blocks_for size - 1) rest =
         ap (λ (k : ℕ). take k (drop (s.offset + 1) file)) (omega arith) ∙ held_part file s.offset us 1 holds (omega arith) ∙ ap (drop 1) cut in
-        let bytes : bytes_of (take (s.count - 1) (drop (s.offset + 1) file)) ≡ rest = ap bytes_of others ∙ bytes_of-cut_up (blocks_for size - 1) rest length-rest in
+        let bytes : bytes_of (take (s.count - 1) (drop (s.offset + 1) file)) ≡ rest =
+        ap bytes_of others ∙ bytes_of-cut_up (blocks_for size - 1) rest length-rest in
         let f : blocks_at s file ≡ frame = rw (head, bytes) refl in
         let right : is_framed n s.count frame ≡ true = ap (λ (k : ℕ). is_framed n k frame) count ∙ framed_right in
         ap (λ (x : Frame). if is_framed n s.count x then Some x else None) f ∙ rw right refl

@@ -35,7 +35,8 @@ at_back slots k past = elim (cases_lt (k - length slots) 256) [
   | inr far ↦ get_or_past (slots ++ replicate 256 free) k free (omega (arith, length-append slots (replicate 256 free), length-replicate 256 free))
 ]
 
-still_used : (slots : List Slot) (k : ℕ) → is_used (slot_at (slots ++ replicate 256 free) k) ≡ true → (k < length slots) × (slot_at (slots ++ replicate 256 free) k ≡ slot_at slots k)
+still_used : (slots : List Slot) (k : ℕ) → is_used (slot_at (slots ++ replicate 256 free) k) ≡ true
+    → (k < length slots) × (slot_at (slots ++ replicate 256 free) k ≡ slot_at slots k)
 still_used slots k used = elim (cases_lt k (length slots)) [
   | inl below ↦ (below, at_front slots k below)
   | inr past ↦ absurd (let e : is_used (slot_at (slots ++ replicate 256 free) k) ≡ is_used free = ap is_used (at_back slots k past) in cc)
@@ -76,7 +77,15 @@ module _ (st : Store) (can : CanGrow st) where
         let was = still_used st.slots k used in
         let u = ap is_used (sym was.1) ∙ used in
         let p = sound.placed k u in
-        subst (IsPlaced (st.pages + 1) units) (sym was.1) (record { number = p.number; few = p.few; behind = can.clear k u; some = p.some; inside = p.inside; below = p.below });
+        subst (IsPlaced (st.pages + 1) units) (sym was.1) (record {
+          number = p.number;
+          few = p.few;
+          behind = can.clear k u;
+          some = p.some;
+          inside =
+              p.inside;
+          below = p.below;
+        });
     apart = λ j k differs used_j used_k.
         let was_j = still_used st.slots j used_j in
         let was_k = still_used st.slots k used_k in
@@ -94,12 +103,15 @@ module _ (st : Store) (can : CanGrow st) where
           head = subst (λ (u : List ℕ). IsHeadUnit u st.generation (st.pages + 1)) (sym (put_here 0 unit file)) is;
           field = ap (word 0) (put_elsewhere 0 unit file 1 (omega arith)) ∙ m.field;
           count = omega (arith, length-append st.slots (replicate 256 free), length-replicate 256 free, m.count, m.lawful.some);
-          each = λ k below. subst (λ (u : List ℕ). IsSlotUnit u (slot_at after.slots k)) (sym (put_elsewhere 0 unit file (2 + k) (omega arith))) (elim (cases_lt k (length st.slots)) [
-            | inl old ↦ subst (IsSlotUnit (unit_at file (2 + k))) (sym (at_front st.slots k old)) (m.each k old)
-            | inr new ↦
-                subst (IsSlotUnit (unit_at file (2 + k))) (sym (at_back st.slots k new))
-                (page.slots (2 + k) (omega (arith, m.count, m.lawful.some)) (omega (arith, below, length-append st.slots (replicate 256 free), length-replicate 256 free, m.count, m.lawful.some)))
-          ]);
+          each =
+              λ k below. subst (λ (u : List ℕ). IsSlotUnit u (slot_at after.slots k)) (sym (put_elsewhere 0 unit file (2 + k) (omega arith)))
+              (elim (cases_lt k (length st.slots)) [
+                | inl old ↦ subst (IsSlotUnit (unit_at file (2 + k))) (sym (at_front st.slots k old)) (m.each k old)
+                | inr new ↦
+                    subst (IsSlotUnit (unit_at file (2 + k))) (sym (at_back st.slots k new))
+                    (page.slots (2 + k) (omega (arith, m.count, m.lawful.some))
+                    (omega (arith, below, length-append st.slots (replicate 256 free), length-replicate 256 free, m.count, m.lawful.some)))
+              ]);
           sound = subst (λ (n : ℕ). AreSound (st.pages + 1) n after.slots) (sym long) (grown_sound (length file) m.sound);
         }
 
@@ -117,7 +129,8 @@ module _ (st : Store) (can : CanGrow st) where
         }
 
     -- while unit 0 is written
-    pub while_grown : (file from image : Units) → StandsAs st file from → HasFreePage st.pages from → Torn 0 (unit ∷ []) from image → BeforeOrAfter st after file image
+    pub while_grown : (file from image : Units) → StandsAs st file from → HasFreePage st.pages from → Torn 0 (unit ∷ []) from image
+        → BeforeOrAfter st after file image
     while_grown file from image stands page torn = elim (torn_one 0 unit from image (omega (arith, page.long)) torn) [
       | inl same ↦ inl (subst (StandsAs st file) (sym same) stands)
       | inr new ↦ inr (subst (StandsAs after file) (sym new) (grown_stands file from stands page))
@@ -129,7 +142,16 @@ module _ (st : Store) (can : CanGrow st) where
       let here = made file st keeps can.made in
       let there = made image after stands.keeps (omega arith) in
       let fewer : AreSound st.pages (length image) after.slots = record {
-        placed = λ k used. (let p = there.sound.placed k used in record { number = p.number; few = p.few; behind = omega (arith, p.behind); some = p.some; inside = p.inside; below = p.below });
+        placed =
+            λ k used. (let p = there.sound.placed k used in record {
+              number = p.number;
+              few = p.few;
+              behind = omega (arith, p.behind);
+              some =
+                  p.some;
+              inside = p.inside;
+              below = p.below;
+            });
         apart = there.sound.apart;
       } in
       finite.same_map nat_cmp_total finite.nat_cmp-IsAntisymmetric (blobs image after) (blobs file st) (λ n.

@@ -57,7 +57,8 @@ length-table pages file inside = omega (arith, length-take (256 * pages - 2) (dr
 
 pub unit_in_table : (pages : ℕ) (file : Units) (k : ℕ) → k < 256 * pages - 2 → unit_at (table pages file) k ≡ unit_at file (2 + k)
 unfolding table
-unit_in_table pages file k below = get_or-take (256 * pages - 2) (drop 2 file) k blank below ∙ get_or-drop 2 file k blank ∙ ap (λ (i : ℕ). unit_at file i) (omega arith)
+unit_in_table pages file k below =
+    get_or-take (256 * pages - 2) (drop 2 file) k blank below ∙ get_or-drop 2 file k blank ∙ ap (λ (i : ℕ). unit_at file i) (omega arith)
 
 module _ (pages : ℕ) (file : Units) (inside : 256 * pages ≤ length file) where
   slot_in_table : (k : ℕ) → k < 256 * pages - 2 → slot_at (slots_in (table pages file)) k ≡ slot_of (unit_at file (2 + k))
@@ -73,7 +74,9 @@ module _ (pages : ℕ) (file : Units) (inside : 256 * pages ≤ length file) whe
 ok_same : {X E : Type 0} (x y : X) (r : Result X E) → r ≡ Ok x → r ≡ Ok y → x ≡ y
 ok_same x y r e f = cc
 
-made_at : (file : Units) (pages : ℕ) → word 3 (unit_at file 0) ≡ pages → IsLawful (length file) pages → IsHeadUnit (unit_at file 0) (word 2 (unit_at file 0)) pages → table_fault pages (length file) (table pages file) ≡ None → IsMade file (made_store pages file)
+made_at : (file : Units) (pages : ℕ) → word 3 (unit_at file 0) ≡ pages → IsLawful (length file) pages
+    → IsHeadUnit (unit_at file 0) (word 2 (unit_at file 0)) pages → table_fault pages (length file) (table pages file) ≡ None
+    → IsMade file (made_store pages file)
 made_at file pages is law head none =
     let long = length-table pages file law.inside in
     record {
@@ -84,17 +87,21 @@ made_at file pages is law head none =
       each = λ k below.
           let lt : k < 256 * pages - 2 = omega (arith, count_in_table pages file law.inside) in
           record {
-            magic = subst (λ (u : List ℕ). begins (codes "Slot") u ≡ true) (unit_in_table pages file k lt) (magics pages (length file) (table pages file) none k (omega arith));
+            magic =
+                subst (λ (u : List ℕ). begins (codes "Slot") u ≡ true) (unit_in_table pages file k lt)
+                (magics pages (length file) (table pages file) none k (omega arith));
             says = sym (slot_in_table pages file law.inside k lt);
           };
       sound = sound_from pages (length file) (table pages file) none;
     }
 
-by_fault : (file : Units) (st : Store) (pages : ℕ) (fault : Option Damage) → table_fault pages (length file) (table pages file) ≡ fault → unless fault (made_store pages file) ≡ Ok st → (table_fault pages (length file) (table pages file) ≡ None) × (made_store pages file ≡ st)
+by_fault : (file : Units) (st : Store) (pages : ℕ) (fault : Option Damage) → table_fault pages (length file) (table pages file) ≡ fault
+    → unless fault (made_store pages file) ≡ Ok st → (table_fault pages (length file) (table pages file) ≡ None) × (made_store pages file ≡ st)
 by_fault file st pages None e is = (e, cc)
 by_fault file st pages (Some d) e is = absurd cc
 
-by_reason : (file : Units) (st : Store) (reason : Option Reason) → head_reason (length file) (unit_at file 0) ≡ reason → made_or_damaged reason file ≡ Ok st → IsMade file st
+by_reason : (file : Units) (st : Store) (reason : Option Reason) → head_reason (length file) (unit_at file 0) ≡ reason → made_or_damaged reason file ≡ Ok st
+    → IsMade file st
 by_reason file st (Some r) e is = absurd cc
 by_reason file st None e is =
     let pages = word 3 (unit_at file 0) in
@@ -121,7 +128,8 @@ module _ (file : Units) (st : Store) (m : IsMade file st) where
       let n = count_in_table st.pages file m.lawful.inside in
       same_lists (slots_in (table st.pages file)) st.slots (omega (arith, m.count)) (λ k d below.
       let lt : k < length st.slots = omega (arith, m.count) in
-      get_or_default (slots_in (table st.pages file)) k d free below ∙ slot_in_table st.pages file m.lawful.inside k (omega arith) ∙ (m.each k lt).says ∙ sym (get_or_default st.slots k d free lt))
+      get_or_default (slots_in (table st.pages file)) k d free below ∙ slot_in_table st.pages file m.lawful.inside k (omega arith) ∙ (m.each k lt).says
+      ∙ sym (get_or_default st.slots k d free lt))
 
   same_store : made_store st.pages file ≡ in_file st
   same_store =
@@ -142,7 +150,8 @@ module _ (file : Units) (st : Store) (m : IsMade file st) where
       let right : head_reason (length file) (unit_at file 0) ≡ None = head_right (length file) st.generation st.pages (unit_at file 0) m.lawful m.head in
       rw (some, right) (subst (λ (pages : ℕ). store_of pages file ≡ Ok (in_file st)) (sym m.head.pages_are) (rw no_fault (ap Ok same_store)))
 
-reason_pages : (file : Units) (st : Store) (reason : Option Reason) → head_reason (length file) (unit_at file 0) ≡ reason → made_or_damaged reason file ≡ Ok st → 1 ≤ st.pages
+reason_pages : (file : Units) (st : Store) (reason : Option Reason) → head_reason (length file) (unit_at file 0) ≡ reason
+    → made_or_damaged reason file ≡ Ok st → 1 ≤ st.pages
 reason_pages file st reason is said = (by_reason file st reason is said).lawful.some
 
 -- a file that isn't blank has pages

@@ -62,14 +62,17 @@ not_used k used = (let e : is_used (slot_at (replicate 254 free) k) ≡ is_used 
 pub new_sound : (pages units : ℕ) → AreSound pages units (replicate 254 free)
 new_sound pages units = record { placed = λ k used. absurd (not_used k used); apart = λ j k differ used_j used_k. absurd (not_used j used_j) }
 
-no_blob : (image : Units) (n : ℕ) → Search n (replicate 254 free) → option_map (λ s. option_map blob_in (frame_of n s image)) (slot_with n (replicate 254 free)) ≡ None
+no_blob : (image : Units) (n : ℕ) → Search n (replicate 254 free)
+    → option_map (λ s. option_map blob_in (frame_of n s image)) (slot_with n (replicate 254 free)) ≡ None
 no_blob image n (Nowhere none is_none) = ap (option_map (λ s. option_map blob_in (frame_of n s image))) is_none
-no_blob image n (Here k below has found) = absurd (let e : has_number n (slot_at (replicate 254 free) k) ≡ has_number n free = ap (has_number n) (all_free k) in cc)
+no_blob image n (Here k below has found) =
+    absurd (let e : has_number n (slot_at (replicate 254 free) k) ≡ has_number n free = ap (has_number n) (all_free k) in cc)
 
 -- it has no blobs
 pub new_map : (value : Store) (image : Units) → value.slots ≡ replicate 254 free → blobs image value ≡ finite.empty
 new_map value image is = finite.same_map nat_cmp_total finite.nat_cmp-IsAntisymmetric (blobs image value) finite.empty (λ n.
-    get-blobs image value n ∙ ap (λ (l : List Slot). option_map (λ s. option_map blob_in (frame_of n s image)) (slot_with n l)) is ∙ no_blob image n (search_for n (replicate 254 free)) ∙ sym (finite.get-empty nat_cmp n))
+    get-blobs image value n ∙ ap (λ (l : List Slot). option_map (λ s. option_map blob_in (frame_of n s image)) (slot_with n l)) is
+    ∙ no_blob image n (search_for n (replicate 254 free)) ∙ sym (finite.get-empty nat_cmp n))
 
 module _ (st : Store) (unit : List ℕ) (is : IsHeadUnit unit 1 1) where
   abbrev after : Store
@@ -85,7 +88,8 @@ module _ (st : Store) (unit : List ℕ) (is : IsHeadUnit unit 1 1) where
         field = ap (word 0) (put_elsewhere 0 unit file 1 (omega arith)) ∙ page.field;
         count = length-replicate 254 free;
         each = λ k below. subst (IsSlotUnit (unit_at next (2 + k))) (sym (all_free k))
-            (subst (λ (u : List ℕ). IsSlotUnit u free) (sym (put_elsewhere 0 unit file (2 + k) (omega arith))) (page.slots (2 + k) (omega arith) (omega (arith, below, length-replicate 254 free))));
+            (subst (λ (u : List ℕ). IsSlotUnit u free) (sym (put_elsewhere 0 unit file (2 + k) (omega arith)))
+            (page.slots (2 + k) (omega arith) (omega (arith, below, length-replicate 254 free))));
         sound = new_sound 1 (length next);
       }
 
@@ -105,7 +109,8 @@ module _ (st : Store) (unit : List ℕ) (is : IsHeadUnit unit 1 1) where
   pub new_keeps : (file next : Units) → IsFirstPage file → next ≡ put 0 (unit ∷ []) file → Keeps next after
   new_keeps file next page written = subst (λ (u : Units). Keeps u after) (sym written) (from_made (put 0 (unit ∷ []) file) after (new_made file page))
 
-  pub new_quiet : (next : Files) (images : Files → Type 0) → Keeps next.pkg after → ((image : Files) → images image → image.pkg ≡ next.pkg) → IsQuiet after next images
+  pub new_quiet : (next : Files) (images : Files → Type 0) → Keeps next.pkg after → ((image : Files) → images image → image.pkg ≡ next.pkg)
+      → IsQuiet after next images
   new_quiet next images keeps settled image here = record {
     keeps = subst (λ (u : Units). Keeps u after) (sym (settled image here)) keeps;
     blocks = λ k i used from to. absurd (not_used k used);

@@ -22,12 +22,14 @@ after_push value [] m = refl
 after_push value (x ∷ moves) m = after_push (after_move value x) moves m
 
 -- the next of several
-pub next_of : (value : Store) (moves : List Move) (k : ℕ) → AreMoves value moves → k < length moves → IsNextMove (after_moves value (take k moves)) (move_at moves k)
+pub next_of : (value : Store) (moves : List Move) (k : ℕ) → AreMoves value moves → k < length moves
+    → IsNextMove (after_moves value (take k moves)) (move_at moves k)
 next_of value [] k are below = absurd (omega arith)
 next_of value (m ∷ moves) zero are below = are.0
 next_of value (m ∷ moves) (suc k) are below = next_of (after_move value m) moves k are.1 (omega arith)
 
-pub after_more : (value : Store) (moves : List Move) (k : ℕ) → k < length moves → after_moves value (take (k + 1) moves) ≡ after_move (after_moves value (take k moves)) (move_at moves k)
+pub after_more : (value : Store) (moves : List Move) (k : ℕ) → k < length moves
+    → after_moves value (take (k + 1) moves) ≡ after_move (after_moves value (take k moves)) (move_at moves k)
 after_more value moves k below = ap (after_moves value) (take_more moves k no_move below) ∙ after_push value (take k moves) (move_at moves k)
 
 -- what moves keep
@@ -49,7 +51,8 @@ keep_more value after m kept next = record {
   each = λ j. elim (cases_eq j m.place) [
     | inl here ↦
         (let s : Slot = moved (slot_at after.slots m.place) m.to in
-        let now : slot_at (set after.slots m.place s) j ≡ s = ap (slot_at (set after.slots m.place s)) here ∙ get_or-set_same after.slots m.place s free (used_below after.slots m.place next.used) in
+        let now : slot_at (set after.slots m.place s) j ≡ s =
+        ap (slot_at (set after.slots m.place s)) here ∙ get_or-set_same after.slots m.place s free (used_below after.slots m.place next.used) in
         inr (subst (λ (t : Slot). 256 * (value.pages + 1) ≤ t.offset) (sym now) (omega (arith, next.to_least.from_on, kept.pages_are))))
     | inr other ↦
         (let s : Slot = moved (slot_at after.slots m.place) m.to in
@@ -68,10 +71,12 @@ keep_all value moves (suc k) are le =
     let next = next_of value moves k are (omega arith) in
     let one : suc k ≡ k + 1 = omega arith in
     let e : take (suc k) moves ≡ take (k + 1) moves = ap (λ (i : ℕ). take i moves) one in
-    subst (Keep value) (sym (ap (after_moves value) e ∙ after_more value moves k (omega arith))) (keep_more value (after_moves value (take k moves)) (move_at moves k) before next)
+    subst (Keep value) (sym (ap (after_moves value) e ∙ after_more value moves k (omega arith)))
+    (keep_more value (after_moves value (take k moves)) (move_at moves k) before next)
 
 -- the slot that is moved is as it was at first
-pub unmoved : (value : Store) (moves : List Move) (k : ℕ) → AreMoves value moves → k < length moves → slot_at (after_moves value (take k moves)).slots (move_at moves k).place ≡ slot_at value.slots (move_at moves k).place
+pub unmoved : (value : Store) (moves : List Move) (k : ℕ) → AreMoves value moves → k < length moves
+    → slot_at (after_moves value (take k moves)).slots (move_at moves k).place ≡ slot_at value.slots (move_at moves k).place
 unmoved value moves k are below =
     let kept = keep_all value moves k are (omega arith) in
     let next = next_of value moves k are below in

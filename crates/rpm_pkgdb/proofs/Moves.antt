@@ -49,7 +49,9 @@ module _ (st : Store) (place : ℕ) (old : Slot) (to : ℕ) (can : CanMove st pl
   move_set = record {
     made = can.slot.made;
     below = can.slot.below;
-    number = (let p = base.sound.placed place used_k in let n = ap (λ (t : Slot). t.number) can.slot.is in (subst (λ (q : ℕ). 0 < q) n p.number, λ same. p.few (n ∙ same)));
+    number =
+        (let p = base.sound.placed place used_k in let n =
+        ap (λ (t : Slot). t.number) can.slot.is in (subst (λ (q : ℕ). 0 < q) n p.number, λ same. p.few (n ∙ same)));
     others = λ j differs used same. (base.sound.apart j place differs used used_k).numbers (sym same ∙ ap (λ (t : Slot). t.number) (sym can.slot.is));
     behind = can.behind;
     some = old_some;
@@ -67,7 +69,12 @@ module _ (st : Store) (place : ℕ) (old : Slot) (to : ℕ) (can : CanMove st pl
 
   -- once the blocks are copied
   pub held_after : (F1 : Units) → to + old.count ≤ length F1 → ((i : ℕ) → i < old.count → unit_at F1 (to + i) ≡ unit_at F0 (old.offset + i)) → Holds F1 to us
-  held_after F1 long copied = record { within = omega (arith, long, length-us); each = λ k below. copied k (omega (arith, below, length-us)) ∙ sym (unit_in k (omega (arith, below, length-us))) }
+  held_after F1 long copied =
+      record {
+        within = omega (arith, long, length-us);
+        each = λ k below. copied k (omega (arith, below, length-us))
+            ∙ sym (unit_in k (omega (arith, below, length-us)));
+      }
 
   -- ---- the phases
 
@@ -82,20 +89,25 @@ module _ (st : Store) (place : ℕ) (old : Slot) (to : ℕ) (can : CanMove st pl
     -- while the slot is written
     pub while_slot_moved : (from image : Units) → from ≡ F1 → Torn (2 + place) (unit ∷ []) from image → WhileMoved st place old to F0 image
     while_slot_moved from image same torn =
-        while_set st place s move_set us length-us unit is F0 from (subst (StandsAs st F0) (sym same) copied_stands) (subst (λ (f : Units). Holds f to us) (sym same) holds) image torn
+        while_set st place s move_set us length-us unit is F0 from (subst (StandsAs st F0) (sym same) copied_stands)
+        (subst (λ (f : Units). Holds f to us) (sym same) holds) image torn
 
     -- while its old blocks become zeros
-    pub while_old_zeroed : F2 ≡ put (2 + place) (unit ∷ []) F1 → (at n : ℕ) → old.offset ≤ at → at + n ≤ end_of old → (from image : Units) → from ≡ F2 → SameOutside at n from image → StandsSet st place s us F0 image
+    pub while_old_zeroed : F2 ≡ put (2 + place) (unit ∷ []) F1 → (at n : ℕ) → old.offset ≤ at → at + n ≤ end_of old → (from image : Units) → from ≡ F2
+        → SameOutside at n from image → StandsSet st place s us F0 image
     while_old_zeroed written at n low high from image same changed =
-        let now : StandsSet st place s us F0 F2 = subst (StandsSet st place s us F0) (sym written) (set_stands st place s move_set us length-us unit is F0 F1 copied_stands holds) in
-        set_aside st place s move_set us length-us F0 from image (subst (StandsSet st place s us F0) (sym same) now) at n (old_clear st place s move_set (length F0) base.sound old can.slot.is can.slot.used at n low high) changed
+        let now : StandsSet st place s us F0 F2 =
+        subst (StandsSet st place s us F0) (sym written) (set_stands st place s move_set us length-us unit is F0 F1 copied_stands holds) in
+        set_aside st place s move_set us length-us F0 from image (subst (StandsSet st place s us F0) (sym same) now) at n
+        (old_clear st place s move_set (length F0) base.sound old can.slot.is can.slot.used at n low high) changed
 
   -- ---- the blobs
 
   same_moved : (image : Units) → Holds image to us → frame_of old.number s image ≡ frame_of old.number old F0
   same_moved image holds =
       let lt : 0 < length us = omega (arith, length-us, old_some) in
-      let head : unit_at image to ≡ unit_at F0 old.offset = ap (unit_at image) (omega arith) ∙ holds.each 0 lt ∙ sym (held_before.each 0 lt) ∙ ap (unit_at F0) (omega arith) in
+      let head : unit_at image to ≡ unit_at F0 old.offset =
+      ap (unit_at image) (omega arith) ∙ holds.each 0 lt ∙ sym (held_before.each 0 lt) ∙ ap (unit_at F0) (omega arith) in
       let le : 1 ≤ length us = omega arith in
       let rest : take (old.count - 1) (drop (to + 1) image) ≡ take (old.count - 1) (drop (old.offset + 1) F0) =
       ap (λ (k : ℕ). take k (drop (to + 1) image)) (omega (arith, length-us)) ∙ held_part image to us 1 holds le
@@ -112,19 +124,27 @@ module _ (st : Store) (place : ℕ) (old : Slot) (to : ℕ) (can : CanMove st pl
       let used_s : is_used s ≡ true = grind (arith, nat_tests) in
       finite.same_map nat_cmp_total finite.nat_cmp-IsAntisymmetric (blobs image (with_slot place s st)) (blobs F0 st) (λ m. elim (cases_eq m old.number) [
         | inr other ↦
-            other_get F0 image st.pages st (with_slot place s st) place s old.number can.slot.below refl base.sound there.sound m (other_number m old.number s refl other)
+            other_get F0 image st.pages st (with_slot place s st) place s old.number can.slot.below refl base.sound there.sound m
+            (other_number m old.number s refl other)
             (other_number m old.number (slot_at st.slots place) (ap (λ (t : Slot). t.number) can.slot.is) other) stands.others
         | inl same ↦
-            (let new_with : slot_with old.number (set st.slots place s) ≡ Some s = with_at st.pages (length image) (set st.slots place s) there.sound old.number place (ap (has_number old.number) here_s ∙ has_it_from old.number s used_s refl) ∙ ap Some here_s in
-            let old_with : slot_with old.number st.slots ≡ Some old = with_at st.pages (length F0) st.slots base.sound old.number place (ap (has_number old.number) can.slot.is ∙ has_it_from old.number old can.slot.used refl) ∙ ap Some can.slot.is in
+            (let new_with : slot_with old.number (set st.slots place s) ≡ Some s =
+            with_at st.pages (length image) (set st.slots place s) there.sound old.number place (ap (has_number old.number) here_s
+            ∙ has_it_from old.number s used_s refl) ∙ ap Some here_s in
+            let old_with : slot_with old.number st.slots ≡ Some old =
+            with_at st.pages (length F0) st.slots base.sound old.number place (ap (has_number old.number) can.slot.is
+            ∙ has_it_from old.number old can.slot.used refl) ∙ ap Some can.slot.is in
             at_number m same image (with_slot place s st) new_with old_with stands.holds)
       ])
     where
-      at_number : (m : ℕ) → m ≡ old.number → (image : Units) (ut : Store) → slot_with old.number ut.slots ≡ Some s → slot_with old.number st.slots ≡ Some old → Holds image to us → finite.get (blobs image ut) m ≡ finite.get (blobs F0 st) m
+      at_number : (m : ℕ) → m ≡ old.number → (image : Units) (ut : Store) → slot_with old.number ut.slots ≡ Some s
+          → slot_with old.number st.slots ≡ Some old → Holds image to us → finite.get (blobs image ut) m ≡ finite.get (blobs F0 st) m
       at_number m same image ut new_with old_with holds =
-          ap (finite.get (blobs image ut)) same ∙ get-blobs image ut old.number ∙ ap (option_map (λ t. option_map blob_in (frame_of old.number t image))) new_with
+          ap (finite.get (blobs image ut)) same ∙ get-blobs image ut old.number
+          ∙ ap (option_map (λ t. option_map blob_in (frame_of old.number t image))) new_with
           ∙ ap (λ (f : Option Frame). Some (option_map blob_in f)) (same_moved image holds)
-          ∙ sym (ap (finite.get (blobs F0 st)) same ∙ get-blobs F0 st old.number ∙ ap (option_map (λ t. option_map blob_in (frame_of old.number t F0))) old_with)
+          ∙ sym (ap (finite.get (blobs F0 st)) same ∙ get-blobs F0 st old.number
+          ∙ ap (option_map (λ t. option_map blob_in (frame_of old.number t F0))) old_with)
 
   -- an image of the move has the blobs of the file
   pub moves_to : (image : Units) → WhileMoved st place old to F0 image → StandsFor st.generation st.field (blobs F0 st) image

@@ -21,7 +21,8 @@ first_none : {X : Type 0} (f : ℕ → Option X) (a n : ℕ) → first (map f (r
 first_none f a zero none k below = absurd (omega arith)
 first_none f a (suc n) none k below = by_head (f a) refl none (λ rest later. ap f (omega arith) ∙ first_none f (a + 1) n rest (k - 1) (omega arith))
   where
-    by_head : (o : Option _) → f a ≡ o → first (o ∷ map f (range_with_len (a + 1) n)) ≡ None → (first (map f (range_with_len (a + 1) n)) ≡ None → 0 < k → f (a + k) ≡ None) → f (a + k) ≡ None
+    by_head : (o : Option _) → f a ≡ o → first (o ∷ map f (range_with_len (a + 1) n)) ≡ None
+        → (first (map f (range_with_len (a + 1) n)) ≡ None → 0 < k → f (a + k) ≡ None) → f (a + k) ≡ None
     by_head (Some x) is none again = absurd cc
     by_head None is none again = elim (cases_lt 0 k) [
       | inl later ↦ again none later
@@ -66,14 +67,16 @@ begins_from pages units unit none = grind (arith, nat_tests)
 used_none : (pages units : ℕ) (s : Slot) → IsPlaced pages units s → used_reason pages units s ≡ None
 used_none pages units s placed = grind (arith, nat_tests)
 
-own_none : (pages units : ℕ) (unit : List ℕ) → begins (codes "Slot") unit ≡ true → (is_used (slot_of unit) ≡ true → IsPlaced pages units (slot_of unit)) → own_reason pages units unit ≡ None
+own_none : (pages units : ℕ) (unit : List ℕ) → begins (codes "Slot") unit ≡ true → (is_used (slot_of unit) ≡ true → IsPlaced pages units (slot_of unit))
+    → own_reason pages units unit ≡ None
 unfolding own_reason
 own_none pages units unit magic placed = elim (cases_Bool (is_used (slot_of unit))) [
   | inl used ↦ (let none = used_none pages units (slot_of unit) (placed used) in rw (magic, used) none)
   | inr unused ↦ rw (magic, unused) refl
 ]
 
-shared_none : (slots : List Slot) (s : Slot) → (is_used s ≡ true → (j : ℕ) → j < length slots → is_used (slot_at slots j) ≡ true → AreApart (slot_at slots j) s) → (is_used s ≡ true → 0 < s.count) → shared_reason slots s ≡ None
+shared_none : (slots : List Slot) (s : Slot) → (is_used s ≡ true → (j : ℕ) → j < length slots → is_used (slot_at slots j) ≡ true
+    → AreApart (slot_at slots j) s) → (is_used s ≡ true → 0 < s.count) → shared_reason slots s ≡ None
 unfolding shared_reason
 shared_none slots s apart some = elim (cases_Bool (is_used s)) [
   | inr unused ↦ rw unused refl
@@ -87,7 +90,8 @@ shared_none slots s apart some = elim (cases_Bool (is_used s)) [
       rw (used, numbers, blocks) refl)
 ]
 
-pub apart_from : (slots : List Slot) (s : Slot) (j : ℕ) → shared_reason slots s ≡ None → is_used s ≡ true → j < length slots → is_used (slot_at slots j) ≡ true → AreApart (slot_at slots j) s
+pub apart_from : (slots : List Slot) (s : Slot) (j : ℕ) → shared_reason slots s ≡ None → is_used s ≡ true → j < length slots
+    → is_used (slot_at slots j) ≡ true → AreApart (slot_at slots j) s
 apart_from slots s j none used below used_j =
     let t = slot_at slots j in
     let number : has_number s.number t ≡ false = none_at (has_number s.number) slots j free (fresh_number slots s none used) below in
@@ -144,15 +148,19 @@ module _ (pages units : ℕ) (us : Units) where
   placed_each none k used =
       let below : k < length us = omega (arith, used_below slots k used, count_in us) in
       let is : slot_at slots k ≡ slot_of (unit_at us k) = slot_in us k below in
-      subst (IsPlaced pages units) (sym is) (placed pages units (unit_at us k) (no_own pages units (before k) (unit_at us k) (faults_none none k below)) (ap is_used (sym is) ∙ used))
+      subst (IsPlaced pages units) (sym is) (placed pages units (unit_at us k) (no_own pages units (before k) (unit_at us k) (faults_none none k below))
+      (ap is_used (sym is) ∙ used))
 
-  apart_below : table_fault pages units us ≡ None → (j k : ℕ) → j < k → is_used (slot_at slots j) ≡ true → is_used (slot_at slots k) ≡ true → AreApart (slot_at slots j) (slot_at slots k)
+  apart_below : table_fault pages units us ≡ None → (j k : ℕ) → j < k → is_used (slot_at slots j) ≡ true → is_used (slot_at slots k) ≡ true
+      → AreApart (slot_at slots j) (slot_at slots k)
   apart_below none j k lt used_j used_k =
       let below : k < length us = omega (arith, used_below slots k used_k, count_in us) in
       let is : slot_at slots k ≡ slot_of (unit_at us k) = slot_in us k below in
       let was : slot_at (before k) j ≡ slot_at slots j = before_at j k lt below in
       let shared = no_shared pages units (before k) (unit_at us k) (faults_none none k below) in
-      let both = apart_from (before k) (slot_of (unit_at us k)) j shared (ap is_used (sym is) ∙ used_k) (omega (arith, length_before k below)) (ap is_used was ∙ used_j) in
+      let both =
+      apart_from (before k) (slot_of (unit_at us k)) j shared (ap is_used (sym is) ∙ used_k) (omega (arith, length_before k below)) (ap is_used was
+      ∙ used_j) in
       subst (λ (t : Slot). AreApart (slot_at slots j) t) (sym is) (subst (λ (t : Slot). AreApart t (slot_of (unit_at us k))) was both)
 
   pub sound_from : table_fault pages units us ≡ None → AreSound pages units slots
@@ -167,7 +175,8 @@ module _ (pages units : ℕ) (us : Units) where
   pub none_from : ((k : ℕ) → k < length us → begins (codes "Slot") (unit_at us k) ≡ true) → AreSound pages units slots → table_fault pages units us ≡ None
   none_from magic sound = none_faults (λ k below.
       let is : slot_at slots k ≡ slot_of (unit_at us k) = slot_in us k below in
-      let placed_here : is_used (slot_of (unit_at us k)) ≡ true → IsPlaced pages units (slot_of (unit_at us k)) = λ used. subst (IsPlaced pages units) is (sound.placed k (ap is_used is ∙ used)) in
+      let placed_here : is_used (slot_of (unit_at us k)) ≡ true → IsPlaced pages units (slot_of (unit_at us k)) =
+      λ used. subst (IsPlaced pages units) is (sound.placed k (ap is_used is ∙ used)) in
       let own = own_none pages units (unit_at us k) (magic k below) placed_here in
       let shared = shared_none (before k) (slot_of (unit_at us k)) (λ used j under used_j.
       let lt : j < k = omega (arith, length_before k below) in

@@ -29,7 +29,8 @@ pub data Search (n : ℕ) (slots : List Slot) : Type 0 where
   Here : (k : ℕ) → k < length slots → has_number n (slot_at slots k) ≡ true → slot_with n slots ≡ Some (slot_at slots k) → Search n slots
   Nowhere : ((k : ℕ) → k < length slots → has_number n (slot_at slots k) ≡ false) → slot_with n slots ≡ None → Search n slots
 
-pub find_first : {X : Type 0} (p : X → Bool) (xs : List X) (d : X) → list_any p xs ≡ true → (k : ℕ) × (k < length xs) × (p (get_or xs k d) ≡ true) × (find p xs ≡ Some (get_or xs k d))
+pub find_first : {X : Type 0} (p : X → Bool) (xs : List X) (d : X) → list_any p xs ≡ true
+    → (k : ℕ) × (k < length xs) × (p (get_or xs k d) ≡ true) × (find p xs ≡ Some (get_or xs k d))
 find_first p [] d any = absurd cc
 find_first p (x ∷ xs) d any = elim (cases_Bool (p x)) [
   | inl holds ↦ (0, omega arith, holds, rw holds refl)
@@ -43,7 +44,8 @@ search_for n slots = elim (cases_Bool (list_any (has_number n) slots)) [
 ]
 
 -- a slot that is set, where neither it nor the one before has the number
-pub with_set_other : (n : ℕ) (slots : List Slot) (k : ℕ) (s : Slot) → has_number n s ≡ false → has_number n (slot_at slots k) ≡ false → slot_with n (set slots k s) ≡ slot_with n slots
+pub with_set_other : (n : ℕ) (slots : List Slot) (k : ℕ) (s : Slot) → has_number n s ≡ false → has_number n (slot_at slots k) ≡ false
+    → slot_with n (set slots k s) ≡ slot_with n slots
 with_set_other n [] k s new old = refl
 with_set_other n (t ∷ ts) zero s new old = rw (new, old) refl
 with_set_other n (t ∷ ts) (suc k) s new old = elim (cases_Bool (has_number n t)) [
@@ -78,13 +80,15 @@ module _ (pages units : ℕ) (slots : List Slot) (sound : AreSound pages units s
         | inl here ↦
             (let h : has_number n (slot_at slots j) ≡ true = ap (λ (i : ℕ). has_number n (slot_at slots i)) here ∙ has in
             let kb : k < length slots = omega arith in
-            rw h (sym (get_or_default (set slots k free) j d free (omega (arith, length-set slots k free)) ∙ ap (slot_at (set slots k free)) here ∙ set_here pages units slots sound k kb free)))
+            rw h (sym (get_or_default (set slots k free) j d free (omega (arith, length-set slots k free)) ∙ ap (slot_at (set slots k free)) here
+            ∙ set_here pages units slots sound k kb free)))
         | inr other ↦ elim (cases_Bool (has_number n (slot_at slots j))) [
           | inl also ↦ absurd (other (one_place n j k also has))
           | inr not ↦
               (let u = number_facts n (slot_at slots k) has in
               let kb : k < length slots = used_below slots k u.used in
-              rw not (sym (get_or_default (set slots k free) j d free (omega (arith, length-set slots k free)) ∙ set_other pages units slots sound k kb free j other)))
+              rw not (sym (get_or_default (set slots k free) j d free (omega (arith, length-set slots k free))
+              ∙ set_other pages units slots sound k kb free j other)))
         ]
       ])
     where

@@ -51,7 +51,9 @@ put_nothing at file le = same_units (put at [] file) file (omega (arith, length-
 ])
 
 cut_up-append : (n m : ℕ) (a b : List ℕ) → length a ≡ 16 * n → cut_up (n + m) (a ++ b) ≡ cut_up n a ++ cut_up m b
-cut_up-append zero m a b long = (let e : a ≡ [] = nil_from_length a (omega arith) in let z : 0 + m ≡ m = omega arith in ap (λ (k : ℕ). cut_up k (a ++ b)) z ∙ ap (λ (x : List ℕ). cut_up m (x ++ b)) e)
+cut_up-append zero m a b long =
+    (let e : a ≡ [] = nil_from_length a (omega arith) in let z : 0 + m ≡ m = omega arith in ap (λ (k : ℕ). cut_up k (a ++ b)) z
+    ∙ ap (λ (x : List ℕ). cut_up m (x ++ b)) e)
 cut_up-append (suc n) m a b long =
     let s : suc n + m ≡ suc (n + m) = omega arith in
     let t : take 16 (a ++ b) ≡ take 16 a = take-append-le 16 a b (omega arith) in

@@ -36,7 +36,8 @@ nothing_outside at a b same = record { below = λ i lt. same.above i (omega arit
 
 module _ (st : Store) (plan : Plan) (plan_is : IsPlan st plan) where
   -- the number is no other slot's
-  pub other_number : (units : ℕ) → AreSound st.pages units st.slots → (j : ℕ) → j ≢ plan.place → is_used (slot_at st.slots j) ≡ true → plan.number ≢ (slot_at st.slots j).number
+  pub other_number : (units : ℕ) → AreSound st.pages units st.slots → (j : ℕ) → j ≢ plan.place → is_used (slot_at st.slots j) ≡ true
+      → plan.number ≢ (slot_at st.slots j).number
   other_number units sound j differs used same = elim (cases_Bool plan.is_new) [
     | inl new ↦ (let n = plan_is.new new in omega (arith, n.0, number_le st.slots j used))
     | inr not_new ↦
@@ -56,7 +57,8 @@ module _ (st : Store) (plan : Plan) (plan_is : IsPlan st plan) where
     fits = plan_is.start.fits;
   }
 
-  pub plan_sound : 1 ≤ st.pages → (units : ℕ) → end_of (slot_for plan) ≤ units → AreSound st.pages units st.slots → AreSound st.pages units (set st.slots plan.place (slot_for plan))
+  pub plan_sound : 1 ≤ st.pages → (units : ℕ) → end_of (slot_for plan) ≤ units → AreSound st.pages units st.slots
+      → AreSound st.pages units (set st.slots plan.place (slot_for plan))
   plan_sound some units inside sound = set_sound st plan.place (slot_for plan) (plan_set some units sound None) units inside sound
 
 -- ---- one put
@@ -87,10 +89,13 @@ module _ (st : Store) (plan : Plan) (g : ℕ) (old : Slot) (blob : List ℕ) (ca
   can_after file keeps = can_set file keeps (next_field plan)
 
   blob_stands : (file from mid : Units) → StandsAs st file from → SameOutside plan.start (blocks_for (length blob)) from mid → StandsAs st file mid
-  blob_stands file from mid stands same = aside_stands st k s (can_set from stands.keeps None) file from mid stands (subst (λ (n : ℕ). SameOutside plan.start n from mid) (sym (ap blocks_for can.length_is)) same)
+  blob_stands file from mid stands same =
+      aside_stands st k s (can_set from stands.keeps None) file from mid stands
+      (subst (λ (n : ℕ). SameOutside plan.start n from mid) (sym (ap blocks_for can.length_is)) same)
 
   -- a stop while the blob is written
-  pub while_blob : (file from image : Units) → StandsAs st file from → BlobTorn plan.start (blocks_for (length blob)) (next_field plan) from image → WhilePut st plan g blob file image
+  pub while_blob : (file from image : Units) → StandsAs st file from → BlobTorn plan.start (blocks_for (length blob)) (next_field plan) from image
+      → WhilePut st plan g blob file image
   while_blob file from image stands torn =
       elim (field_torn_stands st file torn.mid image (next_field plan) can.made (blob_stands file from torn.mid stands torn.blocks) torn.field_torn) [
         | inl before ↦ Before before
@@ -108,7 +113,9 @@ module _ (st : Store) (plan : Plan) (g : ℕ) (old : Slot) (blob : List ℕ) (ca
       let mid = written.mid in
       let same : SameOutside plan.start (blocks_for (length blob)) file mid = record {
         below = λ i lt. ap (λ (u : Units). unit_at u i) written.blocks ∙ put_before plan.start us file i lt;
-        above = λ i le. ap (λ (u : Units). unit_at u i) written.blocks ∙ put_after plan.start us file i (omega (arith, le, us_count, ap blocks_for can.length_is));
+        above =
+            λ i le. ap (λ (u : Units). unit_at u i) written.blocks
+            ∙ put_after plan.start us file i (omega (arith, le, us_count, ap blocks_for can.length_is));
         no_shorter = omega (arith, ap length written.blocks, length-put plan.start us file);
       } in
       let low : 2 ≤ plan.start = omega (arith, can.made, can.plan_is.start.from_on) in
@@ -116,7 +123,9 @@ module _ (st : Store) (plan : Plan) (g : ℕ) (old : Slot) (blob : List ℕ) (ca
         stands = field_stands st file mid next (next_field plan) can.made (blob_stands file file mid here same) written.field_put;
         holds = record {
           within = omega (arith, ap length written.blocks, length-put plan.start us file, field_longer (next_field plan) mid next written.field_put);
-          each = λ i lt. field_keeps (next_field plan) mid next written.field_put (plan.start + i) (omega arith) ∙ ap (λ (u : Units). unit_at u (plan.start + i)) written.blocks ∙ put_inside plan.start us file i lt;
+          each =
+              λ i lt. field_keeps (next_field plan) mid next written.field_put (plan.start + i) (omega arith)
+              ∙ ap (λ (u : Units). unit_at u (plan.start + i)) written.blocks ∙ put_inside plan.start us file i lt;
         };
       }
 
@@ -133,17 +142,21 @@ module _ (st : Store) (plan : Plan) (g : ℕ) (old : Slot) (blob : List ℕ) (ca
     ]
 
   -- while the old blocks become zeros, and once they are
-  pub cleared : (file from image : Units) → Keeps file st → StandsWith st plan g blob file from → SameOutside old.offset old.count from image → StandsWith st plan g blob file image
+  pub cleared : (file from image : Units) → Keeps file st → StandsWith st plan g blob file from → SameOutside old.offset old.count from image
+      → StandsWith st plan g blob file image
   cleared file from image keeps was same =
       let base = made file st keeps can.made in
       let m = made from after was.keeps can.made in
       elim (cases_Bool plan.is_new) [
-        | inl new ↦ set_aside mid_value k s (can_after file keeps) us us_count file from image was (2 ^ 28) 0 (record { behind = base.lawful.below; apart = λ j used. inr (m.sound.placed j used).below })
+        | inl new ↦ set_aside mid_value k s (can_after file keeps) us us_count file from image was (2 ^ 28) 0
+            (record { behind = base.lawful.below; apart = λ j used. inr (m.sound.placed j used).below })
             (nothing_outside (2 ^ 28) from image (subst (λ (t : Slot). SameOutside t.offset t.count from image) (can.new new) same))
         | inr not_new ↦
             (let is = can.replaced not_new in
             let used = ap is_used is ∙ (number_facts plan.number (slot_at st.slots k) (can.plan_is.held not_new)).used in
-            set_aside mid_value k s (can_after file keeps) us us_count file from image was old.offset old.count (old_clear mid_value k s (can_after file keeps) (length file) base.sound old (sym is) used old.offset old.count (omega arith) (omega arith)) same)
+            set_aside mid_value k s (can_after file keeps) us us_count file from image was old.offset old.count
+            (old_clear mid_value k s (can_after file keeps) (length file) base.sound old (sym is) used old.offset old.count (omega arith) (omega arith))
+            same)
       ]
 
   -- two images with the blob stand for each other
@@ -151,12 +164,18 @@ module _ (st : Store) (plan : Plan) (g : ℕ) (old : Slot) (blob : List ℕ) (ca
   stand_alike file a b keeps = set_alike mid_value k s (can_after file keeps) us us_count file a b
 
 -- the three phases, each after the one before
-module _ (st : Store) (plan : Plan) (g : ℕ) (old : Slot) (blob : List ℕ) (can : CanPut st plan g old blob) (unit : List ℕ) (is : IsSlotUnit unit (slot_for plan)) (F0 F1 F2 : Units) (keeps : Keeps F0 st) (first : BlobPut plan.start (units_of (framed plan.number g blob)) (next_field plan) F0 F1) where
+module _ (st : Store) (plan : Plan) (g : ℕ) (old : Slot) (blob : List ℕ) (can : CanPut st plan g old blob) (unit : List ℕ)
+    (is : IsSlotUnit unit (slot_for plan)) (F0 F1 F2 : Units) (keeps : Keeps F0 st)
+    (first : BlobPut plan.start (units_of (framed plan.number g blob)) (next_field plan) F0 F1) where
   pub second_phase : (from image : Units) → from ≡ F1 → Torn (2 + plan.place) (unit ∷ []) from image → WhilePut st plan g blob F0 image
-  second_phase from image same torn = while_slotted st plan g old blob can F0 keeps unit is from image (subst (Stored st plan g old blob can F0) (sym same) (stored st plan g old blob can F0 F1 keeps first)) torn
+  second_phase from image same torn =
+      while_slotted st plan g old blob can F0 keeps unit is from image
+      (subst (Stored st plan g old blob can F0) (sym same) (stored st plan g old blob can F0 F1 keeps first)) torn
 
   module _ (second : F2 ≡ put (2 + plan.place) (unit ∷ []) F1) where
     pub third_phase : (from image : Units) → from ≡ F2 → SameOutside old.offset old.count from image → StandsWith st plan g blob F0 image
     third_phase from image same changed =
-        let at : StandsWith st plan g blob F0 F2 = subst (StandsWith st plan g blob F0) (sym second) (slotted st plan g old blob can F0 keeps unit is F1 (stored st plan g old blob can F0 F1 keeps first)) in
+        let at : StandsWith st plan g blob F0 F2 =
+        subst (StandsWith st plan g blob F0) (sym second) (slotted st plan g old blob can F0 keeps unit is F1
+        (stored st plan g old blob can F0 F1 keeps first)) in
         cleared st plan g old blob can F0 from image keeps (subst (StandsWith st plan g blob F0) (sym same) at) changed

@@ -47,7 +47,8 @@ module _ (st : Store) (plan : Plan) (g : ℕ) (old : Slot) (blob : List ℕ) (ca
   ]
 
   -- the blobs once the slot is written
-  pub put_map : (file image : Units) → Keeps file st → StandsWith st plan g blob file image → blobs image after ≡ finite.insert (blobs file st) plan.number (Some blob)
+  pub put_map : (file image : Units) → Keeps file st → StandsWith st plan g blob file image
+      → blobs image after ≡ finite.insert (blobs file st) plan.number (Some blob)
   put_map file image keeps stands =
       let here = made file st keeps can.made in
       let there = made image after stands.keeps can.made in

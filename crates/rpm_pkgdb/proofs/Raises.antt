@@ -22,7 +22,9 @@ module _ (st : Store) (some : 1 ≤ st.pages) (unit : List ℕ) (generation : �
       let m = made from st stands.keeps some in
       record {
         keeps = from_made (put 0 (unit ∷ []) from) after (head_made from st m unit generation is);
-        blocks = blocks_then st.slots file from (put 0 (unit ∷ []) from) stands.blocks (page_blocks from st m 0 unit st.slots (omega arith) (λ k used. (m.sound.placed k used).behind));
+        blocks =
+            blocks_then st.slots file from (put 0 (unit ∷ []) from) stands.blocks
+            (page_blocks from st m 0 unit st.slots (omega arith) (λ k used. (m.sound.placed k used).behind));
       }
 
   -- a stop while unit 0 is written
@@ -36,7 +38,8 @@ module _ (st : Store) (some : 1 ≤ st.pages) (unit : List ℕ) (generation : �
 
   -- and once it is written
   pub raised : (file next : Units) → Keeps file st → next ≡ put 0 (unit ∷ []) file → StandsAs after file next
-  raised file next keeps written = subst (StandsAs after file) (sym written) (raised_stands file file (record { keeps = keeps; blocks = λ j i used from to. refl }))
+  raised file next keeps written =
+      subst (StandsAs after file) (sym written) (raised_stands file file (record { keeps = keeps; blocks = λ j i used from to. refl }))
 
   pub raised_map : (file image : Units) → Keeps file st → StandsAs after file image → blobs image after ≡ blobs file st
   raised_map file image keeps stands =
@@ -55,7 +58,8 @@ module _ (st : Store) (some : 1 ≤ st.pages) (unit : List ℕ) (generation : �
   })
 
   -- each image is the file as it reads
-  pub raised_quiet : (files next : Files) (images : Files → Type 0) → Keeps files.pkg st → next.pkg ≡ put 0 (unit ∷ []) files.pkg → ((image : Files) → images image → image.pkg ≡ next.pkg) → IsQuiet after next images
+  pub raised_quiet : (files next : Files) (images : Files → Type 0) → Keeps files.pkg st → next.pkg ≡ put 0 (unit ∷ []) files.pkg
+      → ((image : Files) → images image → image.pkg ≡ next.pkg) → IsQuiet after next images
   raised_quiet files next images keeps written settled image here =
       let stands = raised files.pkg next.pkg keeps written in
       subst (StandsAs after next.pkg) (sym (settled image here)) (stands_by after files.pkg next.pkg next.pkg stands stands)

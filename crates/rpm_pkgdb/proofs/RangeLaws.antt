@@ -14,7 +14,8 @@ use Rattle.rpm_pkgdb.specs.inner.Ranges.{range_of, AreRangesOf, HasUsed, HasStar
 
 module _ (pages : ℕ) (slots : List Slot) (sound : AreSound pages (2 ^ 28) slots) where
   -- two used slots begin at different blocks
-  pub other_start : (j k : ℕ) → j ≢ k → is_used (slot_at slots j) ≡ true → is_used (slot_at slots k) ≡ true → (slot_at slots j).offset ≢ (slot_at slots k).offset
+  pub other_start : (j k : ℕ) → j ≢ k → is_used (slot_at slots j) ≡ true → is_used (slot_at slots k) ≡ true
+      → (slot_at slots j).offset ≢ (slot_at slots k).offset
   other_start j k differ used_j used_k same = elim (sound.apart j k differ used_j used_k).blocks [
     | inl l ↦ omega (arith, l, (sound.placed j used_j).some)
     | inr r ↦ omega (arith, r, (sound.placed k used_k).some)
@@ -49,7 +50,8 @@ module _ (pages : ℕ) (slots : List Slot) (sound : AreSound pages (2 ^ 28) slot
         }
 
     -- the range of a slot that is set free is taken out
-    pub freed_used : (old new : Option Blocks) (spare : ℕ) → HasUsed old spare slots → Forgets (slot_at slots k).offset old new → HasUsed new spare (set slots k free)
+    pub freed_used : (old new : Option Blocks) (spare : ℕ) → HasUsed old spare slots → Forgets (slot_at slots k).offset old new
+        → HasUsed new spare (set slots k free)
     freed_used None None spare has gone = has
     freed_used (Some b) (Some d) spare has gone = (freed_ranges b d has.0 gone.0, omega (arith, has.1, gone.1))
     freed_used None (Some d) spare has gone = absurd gone

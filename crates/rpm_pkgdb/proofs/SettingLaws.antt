@@ -41,10 +41,13 @@ module _ (st : Store) (place : ℕ) (s : Slot) (can : CanSet st place s) where
   slot_placed units inside = record { number = can.number.0; few = can.number.1; behind = can.behind; some = can.some; inside = inside; below = can.fits.ends }
 
   pub set_sound : (units : ℕ) → end_of s ≤ units → AreSound st.pages units st.slots → AreSound st.pages units (set st.slots place s)
-  set_sound units inside sound = put_sound st.pages units st.slots sound place can.below s (slot_placed units inside) (λ j differs used. record { numbers = can.others j differs used; blocks = can.fits.apart j used })
+  set_sound units inside sound =
+      put_sound st.pages units st.slots sound place can.below s (slot_placed units inside)
+      (λ j differs used. record { numbers = can.others j differs used; blocks = can.fits.apart j used })
 
   -- a part of the old slot's blocks is clear of the new value's
-  pub old_clear : (units : ℕ) → AreSound st.pages units st.slots → (old : Slot) → slot_at st.slots place ≡ old → is_used old ≡ true → (at n : ℕ) → old.offset ≤ at → at + n ≤ end_of old → IsClear after at n
+  pub old_clear : (units : ℕ) → AreSound st.pages units st.slots → (old : Slot) → slot_at st.slots place ≡ old → is_used old ≡ true → (at n : ℕ)
+      → old.offset ≤ at → at + n ≤ end_of old → IsClear after at n
   old_clear units sound old is used_old at n low high =
       let used_k : is_used (slot_at st.slots place) ≡ true = ap is_used is ∙ used_old in
       record {
@@ -53,11 +56,15 @@ module _ (st : Store) (place : ℕ) (s : Slot) (can : CanSet st place s) where
           | inl here ↦
               (let now : slot_at after.slots j ≡ s = ap (slot_at after.slots) here ∙ set_at in
               let both = subst (λ (t : Slot). (s.offset + s.count ≤ t.offset) ⊎ (end_of t ≤ s.offset)) is (can.fits.apart place used_k) in
-              subst (λ (t : Slot). (at + n ≤ t.offset) ⊎ (end_of t ≤ at)) (sym now) (elim both [ inl l ↦ inr (omega (arith, l, low)) | inr r ↦ inl (omega (arith, r, high)) ]))
+              subst (λ (t : Slot). (at + n ≤ t.offset) ⊎ (end_of t ≤ at)) (sym now)
+              (elim both [ inl l ↦ inr (omega (arith, l, low)) | inr r ↦ inl (omega (arith, r, high)) ]))
           | inr other ↦
               (let stays = kept_at j other in
-              let both = subst (λ (t : Slot). (end_of (slot_at st.slots j) ≤ t.offset) ⊎ (end_of t ≤ (slot_at st.slots j).offset)) is (sound.apart j place other (ap is_used (sym stays) ∙ used) used_k).blocks in
-              subst (λ (t : Slot). (at + n ≤ t.offset) ⊎ (end_of t ≤ at)) (sym stays) (elim both [ inl l ↦ inr (omega (arith, l, low)) | inr r ↦ inl (omega (arith, r, high)) ]))
+              let both =
+              subst (λ (t : Slot). (end_of (slot_at st.slots j) ≤ t.offset) ⊎ (end_of t ≤ (slot_at st.slots j).offset)) is
+              (sound.apart j place other (ap is_used (sym stays) ∙ used) used_k).blocks in
+              subst (λ (t : Slot). (at + n ≤ t.offset) ⊎ (end_of t ≤ at)) (sym stays)
+              (elim both [ inl l ↦ inr (omega (arith, l, low)) | inr r ↦ inl (omega (arith, r, high)) ]))
         ];
       }
 
@@ -71,7 +78,9 @@ module _ (st : Store) (place : ℕ) (s : Slot) (can : CanSet st place s) where
           let sound = set_sound (length from) (omega (arith, holds.within, long)) m.sound in
           record {
             keeps = from_made (put (2 + place) (unit ∷ []) from) after (set_made from st m place unit s can.below is sound);
-            others = λ j i differs used at to. put_elsewhere (2 + place) unit from i (omega (arith, low, at, (m.sound.placed j used).behind)) ∙ stands.blocks j i used at to;
+            others =
+                λ j i differs used at to. put_elsewhere (2 + place) unit from i (omega (arith, low, at, (m.sound.placed j used).behind))
+                ∙ stands.blocks j i used at to;
             holds = record {
               within = omega (arith, holds.within, put_length (2 + place) unit from (omega (arith, low, m.lawful.inside)));
               each = λ i lt. put_elsewhere (2 + place) unit from (s.offset + i) (omega (arith, low, can.behind)) ∙ holds.each i lt;
@@ -88,11 +97,13 @@ module _ (st : Store) (place : ℕ) (s : Slot) (can : CanSet st place s) where
           ]
 
     -- a range that is clear of the new value's slots changes
-    module _ (file from image : Units) (was : StandsSet st place s us file from) (at n : ℕ) (clear : IsClear after at n) (same : SameOutside at n from image) where
+    module _ (file from image : Units) (was : StandsSet st place s us file from) (at n : ℕ) (clear : IsClear after at n)
+        (same : SameOutside at n from image) where
       used_new : is_used s ≡ true
       used_new = (let low : s.offset ≢ 0 = omega (arith, can.made, can.behind) in grind (arith, nat_tests))
 
-      beside : (j : ℕ) → is_used (slot_at after.slots j) ≡ true → (i : ℕ) → (slot_at after.slots j).offset ≤ i → i < end_of (slot_at after.slots j) → unit_at image i ≡ unit_at from i
+      beside : (j : ℕ) → is_used (slot_at after.slots j) ≡ true → (i : ℕ) → (slot_at after.slots j).offset ≤ i → i < end_of (slot_at after.slots j)
+          → unit_at image i ≡ unit_at from i
       beside j used i low high = elim (clear.apart j used) [ inl l ↦ same.above i (omega (arith, l, low)) | inr r ↦ same.below i (omega (arith, r, high)) ]
 
       pub set_aside : StandsSet st place s us file image
@@ -102,11 +113,13 @@ module _ (st : Store) (place : ℕ) (s : Slot) (can : CanSet st place s) where
             keeps = from_made image after (outside_made from after m at n image clear same);
             others = λ j i differs used low high.
                 let stays = kept_at j differs in
-                beside j (ap is_used stays ∙ used) i (subst (λ (t : Slot). t.offset ≤ i) (sym stays) low) (subst (λ (t : Slot). i < end_of t) (sym stays) high) ∙ was.others j i differs used low high;
+                beside j (ap is_used stays ∙ used) i (subst (λ (t : Slot). t.offset ≤ i) (sym stays) low)
+                (subst (λ (t : Slot). i < end_of t) (sym stays) high) ∙ was.others j i differs used low high;
             holds = record {
               within = omega (arith, was.holds.within, same.no_shorter);
               each = λ i lt.
-                  beside place (ap is_used set_at ∙ used_new) (s.offset + i) (subst (λ (t : Slot). t.offset ≤ s.offset + i) (sym set_at) (omega arith)) (subst (λ (t : Slot). s.offset + i < end_of t) (sym set_at) (omega (arith, lt, long)))
+                  beside place (ap is_used set_at ∙ used_new) (s.offset + i) (subst (λ (t : Slot). t.offset ≤ s.offset + i) (sym set_at) (omega arith))
+                  (subst (λ (t : Slot). s.offset + i < end_of t) (sym set_at) (omega (arith, lt, long)))
                   ∙ was.holds.each i lt;
             };
           }

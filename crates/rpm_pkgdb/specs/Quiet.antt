@@ -16,7 +16,8 @@ BlobMap = finite.FinMap nat_cmp (Option (List ℕ))
 
 -- the blocks of these slots that are used have the same bytes
 abbrev pub SameBlocks : List Slot → Units → Units → Type 0
-SameBlocks slots old new = (k i : ℕ) → is_used (slot_at slots k) ≡ true → (slot_at slots k).offset ≤ i → i < end_of (slot_at slots k) → unit_at new i ≡ unit_at old i
+SameBlocks slots old new =
+    (k i : ℕ) → is_used (slot_at slots k) ≡ true → (slot_at slots k).offset ≤ i → i < end_of (slot_at slots k) → unit_at new i ≡ unit_at old i
 
 -- an image says this store, and has the bytes of a file in the used blocks
 pub record StandsAs (value : Store) (file image : Units) : Type 0 where

@@ -32,7 +32,8 @@ AreZeros (Some s) file = (i : ℕ) → s.offset ≤ i → i < end_of s → unit_
 
 -- what a stop leaves while a number is erased
 abbrev pub ErasesTo : Store → ℕ → Units → Units → Type 0
-ErasesTo value n file image = StandsFor value.generation value.field (blobs file value) image ⊎ StandsFor value.generation value.field (finite.remove (blobs file value) n) image
+ErasesTo value n file image =
+    StandsFor value.generation value.field (blobs file value) image ⊎ StandsFor value.generation value.field (finite.remove (blobs file value) n) image
 
 -- the value with another generation
 abbrev pub with_generation : ℕ → Store → Store
@@ -40,7 +41,8 @@ with_generation generation value = record value { generation = generation }
 
 -- what a stop leaves while the generation becomes another
 abbrev pub RaisesTo : Store → ℕ → Units → Units → Type 0
-RaisesTo value generation file image = StandsFor value.generation value.field (blobs file value) image ⊎ StandsFor generation value.field (blobs file value) image
+RaisesTo value generation file image =
+    StandsFor value.generation value.field (blobs file value) image ⊎ StandsFor generation value.field (blobs file value) image
 
 -- the value once a database was made
 abbrev pub made_new : Store → Store

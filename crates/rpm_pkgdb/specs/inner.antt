@@ -5,7 +5,6 @@ pub mod Runs
 pub mod Ranges
 pub mod Keeping
 pub mod Clear
-pub mod Copies
 pub mod Settings
 pub mod MoveLists
 pub mod Grows

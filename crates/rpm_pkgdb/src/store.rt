@@ -58,7 +58,14 @@ impl Model for PkgDb {
 
     ghost use Rattle.rpm_pkgdb.specs.inner.Keeping.{IsSound};
 
-    ghost view = { λ s. record { generation = s.generation; pages = s.pages; field = s.field; slots = s.slots.items; spare = s.spare; is_stopped = s.stopped } };
+    ghost view = { λ s. record {
+      generation = s.generation;
+      pages = s.pages;
+      field = s.field;
+      slots = s.slots.items;
+      spare = s.spare;
+      is_stopped = s.stopped;
+    } };
 
     ghost invariant = { IsSound };
 }

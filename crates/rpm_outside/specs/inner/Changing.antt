@@ -85,8 +85,8 @@ module _ (file : File) where
 
   pub changed_between : (R S T : Units → Units → Type 0) (M : Units → Type 0) (first second : Files → Type 0) (image : Files)
       → ((a b c : Units) → R a b → M b → S b c → T a c)
-      → ((i : Files) → second i → M (file_of file i)) → ((i : Files) → second i → Changed file R first i) → Changed file S second image
-      → Changed file T first image
+      → ((i : Files) → second i → M (file_of file i)) → ((i : Files) → second i → Changed file R first i) → Changed file S second image → Changed file
+      T first image
   changed_between R S T M first second image join between before c =
       let b = before c.from c.was in
       let m = between c.from c.was in
@@ -172,7 +172,7 @@ module _ {D : Type 0} (tells : Bool) (files : D → Files) (left_since : D → �
   pub changes_write : (at : ℕ) (units : Units) (a b : D) → (IsTrue tells → TornFile file at units (files a) (files b))
       → (IsTrue tells → Follows (TornFile file at units) (images a) (images b))
       → (IsTrue tells → Elapses (moment a) (moment b) (left_since a) (left_since b)) → ((f : File) → bytes_read b f ≡ bytes_read a f) → follows a b
-          → Run (Torn at units) 0 a b
+      → Run (Torn at units) 0 a b
   changes_write at units a b torn left time reads goes =
       let now : IsTrue tells → (image : Files) → images b image → Changed file (Torn at units) (images a) image =
       λ told image here. (let l = left told image here in changed_torn file at units (images a) image l.0 l.1 l.2) in
@@ -184,7 +184,7 @@ module _ {D : Type 0} (tells : Bool) (files : D → Files) (left_since : D → �
         any_moment = λ told.
             goes_on moment left_since a a b (Changed file (Torn at units) (images a))
             (started moment left_since a (Changed file (Torn at units) (images a)) (λ image here. changed_none file (Torn at units) (images a) image
-                (torn_none at units) here))
+            (torn_none at units) here))
             (time told) (now told);
         reads = read_same file 0 (bytes_read a) (bytes_read b) reads;
         goes_on = goes;
@@ -197,7 +197,7 @@ module _ {D : Type 0} (tells : Bool) (files : D → Files) (left_since : D → �
   pub changes_sync : (R : Units → Units → Type 0) → ((x : Units) → R x x) → (a b : D) → (IsTrue tells → files b ≡ files a)
       → (IsTrue tells → (image : Files) → images b image → images a image)
       → (IsTrue tells → Elapses (moment a) (moment b) (left_since a) (left_since b)) → ((f : File) → bytes_read b f ≡ bytes_read a f) → follows a b
-          → Run R 0 a b
+      → Run R 0 a b
   changes_sync R same a b files_same left time reads goes =
       let now : IsTrue tells → (image : Files) → images b image → Changed file R (images a) image =
       λ told image here. changed_none file R (images a) image same (left told image here) in
@@ -235,18 +235,18 @@ module _ {D : Type 0} (tells : Bool) (files : D → Files) (left_since : D → �
   -- what stops leave that fall into a run
   pub stops_from : IsTrue tells → (R : Units → Units → Type 0) (P : Units → Type 0) (most : ℕ) (a b : D) → Run R most a b
       → ((from image : Files) → images a from → R (file_of file from) (file_of file image) → P (file_of file image)) → LeavesOnly moment left_since a
-          b (Stops file P (images a))
+      b (Stops file P (images a))
   stops_from told R P most a b run each = leaves_weaker moment left_since a b (Changed file R (images a)) (Stops file P (images a))
       (λ image c. changed_map file R (λ x y. P y) (images a) image c (each c.from image c.was)) (run.any_moment told)
 
   -- and in two runs, one after the other
   pub stops_then : IsTrue tells → (R : Units → Units → Type 0) (P : Units → Type 0) (most : ℕ) (a b c : D) → Run R most a b
       → LeavesOnly moment left_since a b (Stops file P (images a)) → LeavesOnly moment left_since b c (Stops file P (images b)) → LeavesOnly moment
-          left_since a c (Stops file P (images a))
+      left_since a c (Stops file P (images a))
   stops_then told R P most a b c run first second = leaves_then moment left_since a b c (Stops file P (images a)) first
       (leaves_weaker moment left_since b c (Stops file P (images b)) (Stops file P (images a))
       (λ image s. changed_between file R (λ x y. P y) (λ x y. P y) (λ u. Unit {0}) (images a) (images b) image (λ x y z r m p. p) (λ i left. tt)
-          (run.now told) s) second)
+      (run.now told) s) second)
 
 pub stops_weaker : {D : Type 0} (moment : D → ℕ) (left_since : D → ℕ → Files → Type 0) (file : File) (P Q : Units → Type 0) (a b : D)
     → ((image : Units) → P image → Q image)

@@ -23,14 +23,16 @@ bytes_of-append [] vs = refl
 bytes_of-append (u ∷ us) vs = ap (λ (bs : List ℕ). u ++ bs) (bytes_of-append us vs) ∙ sym (append_assoc u (bytes_of us) (bytes_of vs))
 
 pub bytes_of_more : (us : Units) (k : ℕ) (d : List ℕ) → k < length us → bytes_of (take (k + 1) us) ≡ bytes_of (take k us) ++ get_or us k d
-bytes_of_more us k d below = ap bytes_of (take_more us k d below) ∙ bytes_of-append (take k us) (get_or us k d ∷ []) ∙ ap (λ (bs : List ℕ). bytes_of (take k us) ++ bs) (append-nil (get_or us k d))
+bytes_of_more us k d below = ap bytes_of (take_more us k d below) ∙ bytes_of-append (take k us) (get_or us k d ∷ [])
+    ∙ ap (λ (bs : List ℕ). bytes_of (take k us) ++ bs) (append-nil (get_or us k d))
 
 cut_up-bytes_of : (us : Units) → AreWhole us → cut_up (length us) (bytes_of us) ≡ us
 cut_up-bytes_of [] whole = refl
 cut_up-bytes_of (u ∷ us) whole =
     let sixteen : length u ≡ 16 = whole 0 in
     let first : take 16 (u ++ bytes_of us) ≡ u = take-append-le 16 u (bytes_of us) (omega arith) ∙ take_all 16 u (omega arith) in
-    let rest : drop 16 (u ++ bytes_of us) ≡ bytes_of us = drop-append-le 16 u (bytes_of us) (omega arith) ∙ ap (λ (bs : List ℕ). bs ++ bytes_of us) (drop_all 16 u (omega arith)) in
+    let rest : drop 16 (u ++ bytes_of us) ≡ bytes_of us = drop-append-le 16 u (bytes_of us) (omega arith) ∙ ap (λ (bs : List ℕ). bs ++ bytes_of us)
+    (drop_all 16 u (omega arith)) in
     ap (λ (bs : List ℕ). take 16 (u ++ bytes_of us) ∷ cut_up (length us) bs) rest
     ∙ ap (λ (x : List ℕ). x ∷ cut_up (length us) (bytes_of us)) first
     ∙ ap (λ (xs : Units). u ∷ xs) (cut_up-bytes_of us (λ k. whole (suc k)))

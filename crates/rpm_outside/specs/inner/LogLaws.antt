@@ -25,7 +25,8 @@ entry_not_log p units is = either (word 0 (unit_at units p) == 1) is
     either true e = cc
     either false e = cc
 
-before_open : (entry : Entry) (rest : LogState) (entries : List Entry) (P : List Entry → Type 0) → before entry rest ≡ Open entries → ((es : List Entry) → rest ≡ Open es → P (entry ∷ es)) → P entries
+before_open : (entry : Entry) (rest : LogState) (entries : List Entry) (P : List Entry → Type 0) → before entry rest ≡ Open entries
+    → ((es : List Entry) → rest ≡ Open es → P (entry ∷ es)) → P entries
 before_open entry Closed entries P is next = absurd (let e : Closed ≡ Open entries = is in cc)
 before_open entry (Malformed unit) entries P is next = absurd (let e : Malformed unit ≡ Open entries = is in cc)
 before_open entry (Open es) entries P is next =
@@ -48,8 +49,13 @@ heads_not_log (suc n) p last units entries is =
     let rest = heads n (p + 1 + word 2 (unit_at units p)) last units in
     elim (cases_Bool (is_head last p (unit_at units p))) [
       | inl holds ↦
-          let e : before (entry_at p units) rest ≡ Open entries = ap (λ (b : Bool). if b then before (entry_at p units) rest else Malformed p) (sym holds) ∙ is in
-          before_open (entry_at p units) rest entries NotLog e (λ es more. (entry_not_log p units, heads_not_log n (p + 1 + word 2 (unit_at units p)) last units es more))
+          let e : before (entry_at p units) rest ≡ Open entries = ap (λ (b : Bool). if b then before (entry_at p units) rest else Malformed p)
+          (sym holds) ∙ is in
+          before_open (entry_at p units) rest entries NotLog e (λ es more. (
+            entry_not_log p units,
+            heads_not_log n (p + 1 + word 2 (unit_at units p))
+                last units es more,
+          ))
       | inr fails ↦
           let e : Malformed p ≡ Open entries = ap (λ (b : Bool). if b then before (entry_at p units) rest else Malformed p) (sym fails) ∙ is in
           absurd cc
@@ -83,10 +89,11 @@ log_ends [] n not = refl
 log_ends (entry ∷ entries) n not = log_ends entries (end_in Log entry n) not.1 ∙ one entry.file not.0
   where
     one : (file : File) → (file ≡ Log → ⊥) → end_in Log (record { file = file; first = entry.first; units = entry.units }) n ≡ n
-    one file differ = elim (cases_file Log file) as (λ c. ⊎_elim (λ (same : Log ≡ file). max n (entry.first + length entry.units)) (λ (other : Log ≡ file → ⊥). n) c ≡ n) [
-      | inl same ↦ absurd (differ (sym same))
-      | inr other ↦ refl
-    ]
+    one file differ = elim (cases_file Log file) as (λ c. ⊎_elim (λ (same : Log ≡ file). max n (entry.first + length entry.units))
+        (λ (other : Log ≡ file → ⊥). n) c ≡ n) [
+          | inl same ↦ absurd (differ (sym same))
+          | inr other ↦ refl
+        ]
 
 pub within_log : (entries : List Entry) (old new : Files) → NotLog entries → Within entries old new → new.log ≡ old.log
 within_log entries old new not within =
@@ -120,7 +127,8 @@ pub reopened_open : (files : Files) (entries : List Entry) → log_state files.l
 reopened_open files entries is = ap (λ (s : LogState). with_state s (unlogged files)) is
 
 -- entries that were written in part change nothing
-pub reopened_within : (files image : Files) (entries : List Entry) → log_state files.log ≡ Open entries → Within entries files image → reopened image ≡ reopened files
+pub reopened_within : (files image : Files) (entries : List Entry) → log_state files.log ≡ Open entries → Within entries files image → reopened image
+    ≡ reopened files
 reopened_within files image entries is within =
     let not = log_not_log files.log entries is in
     let same : image.log ≡ files.log = within_log entries files image not within in
@@ -131,7 +139,8 @@ reopened_within files image entries is within =
 pub blank_closed : (units : Units) → is_blank (unit_at units 0) ≡ true → log_state units ≡ Closed
 unfolding log_state
 blank_closed units blank =
-    ap (λ (b : Bool). if b then Closed else (if is_gate (length units) (unit_at units 0) then heads (word 2 (unit_at units 0)) 1 (word 3 (unit_at units 0)) units else Malformed 0)) blank
+    ap (λ (b : Bool). if b then Closed else (if is_gate (length units) (unit_at units 0) then heads (word 2 (unit_at units 0)) 1
+    (word 3 (unit_at units 0)) units else Malformed 0)) blank
 
 -- a write of the first unit of the log that was cut short was not done or done
 module _ (unit : List ℕ) (from image : Files) (some : 0 < length from.log) (torn : TornFile Log 0 (unit ∷ []) from image) where
@@ -150,7 +159,8 @@ module _ (unit : List ℕ) (from image : Files) (some : 0 < length from.log) (to
   pub torn_first : (image ≡ from) ⊎ (image ≡ with_file Log whole from)
   torn_first = elim (torn.torn.each 0) [
     | inl old ↦ inl (torn.others ∙ ap (λ (u : Units). with_file Log u from) (same_units image.log from.log same_length (first_old old)))
-    | inr new ↦ inr (torn.others ∙ ap (λ (u : Units). with_file Log u from) (same_units image.log whole (omega (arith, same_length, whole_length)) (first_new new)))
+    | inr new ↦ inr (torn.others ∙ ap (λ (u : Units). with_file Log u from) (same_units image.log whole (omega (arith, same_length, whole_length))
+        (first_new new)))
   ]
     where
       first_old : unit_at image.log 0 ≡ unit_at from.log 0 → (i : ℕ) → unit_at image.log i ≡ unit_at from.log i
@@ -165,7 +175,8 @@ pub first_unit : (unit : List ℕ) (log : Units) → unit_at (put 0 (unit ∷ []
 first_unit unit log = put_inside 0 (unit ∷ []) log 0 (omega arith)
 
 -- once the entries are written, the gate can be made zeros
-pub closing : (unit : List ℕ) (from image : Files) (entries : List Entry) → is_blank unit ≡ true → 0 < length from.log → log_state from.log ≡ Open entries → with_entries entries (unlogged from) ≡ unlogged from
+pub closing : (unit : List ℕ) (from image : Files) (entries : List Entry) → is_blank unit ≡ true → 0 < length from.log → log_state from.log
+    ≡ Open entries → with_entries entries (unlogged from) ≡ unlogged from
     → TornFile Log 0 (unit ∷ []) from image → reopened image ≡ unlogged from
 closing unit from image entries blank some is done torn = ⊎_elim
     (λ (same : image ≡ from). ap reopened same ∙ reopened_open from entries is ∙ done)
@@ -176,7 +187,8 @@ closing unit from image entries blank some is done torn = ⊎_elim
 
 -- ---- all entries written
 
-unlogged_entry : (file : File) (first : ℕ) (units : Units) (files : Files) → (file ≡ Log → ⊥) → unlogged (with_file file (put first units (file_of file files)) files) ≡ with_file file (put first units (file_of file (unlogged files))) (unlogged files)
+unlogged_entry : (file : File) (first : ℕ) (units : Units) (files : Files) → (file ≡ Log → ⊥)
+    → unlogged (with_file file (put first units (file_of file files)) files) ≡ with_file file (put first units (file_of file (unlogged files))) (unlogged files)
 unlogged_entry Pkg first units files differ = refl
 unlogged_entry Idx first units files differ = refl
 unlogged_entry Log first units files differ = absurd (differ refl)
@@ -191,7 +203,8 @@ unlogged_entries (entry ∷ entries) files not =
 pub entries_twice : (entries : List Entry) (files : Files) → with_entries entries (with_entries entries files) ≡ with_entries entries files
 entries_twice entries files = within_same entries files (with_entries entries files) (written_within entries files)
 
-pub entries_done : (entries : List Entry) (files : Files) → NotLog entries → with_entries entries (unlogged (with_entries entries files)) ≡ unlogged (with_entries entries files)
+pub entries_done : (entries : List Entry) (files : Files) → NotLog entries → with_entries entries (unlogged (with_entries entries files))
+    ≡ unlogged (with_entries entries files)
 entries_done entries files not =
     ap (λ (f : Files). with_entries entries f) (unlogged_entries entries files not)
     ∙ entries_twice entries (unlogged files)

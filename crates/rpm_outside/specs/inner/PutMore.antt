@@ -56,6 +56,7 @@ module _ (at : ℕ) (us vs file : Units) where
   put_append = same_units (put (at + length us) vs (put at us file)) (put at (us ++ vs) file)
       (omega (arith, length-put (at + length us) vs (put at us file), length-put at us file, length-put at (us ++ vs) file, length-append us vs)) each
 
-pub put_some_append : (at next : ℕ) (us vs file : Units) → 0 < length vs → next ≡ at + length us → put next vs (put_some at us file) ≡ put_some at (us ++ vs) file
+pub put_some_append : (at next : ℕ) (us vs file : Units) → 0 < length vs → next ≡ at + length us → put next vs (put_some at us file) ≡ put_some at
+    (us ++ vs) file
 put_some_append at next [] vs file some is = ap (λ (j : ℕ). put j vs file) (is ∙ omega arith) ∙ sym (put_some_is at vs file some)
 put_some_append at next (u ∷ us) vs file some is = ap (λ (j : ℕ). put j vs (put at (u ∷ us) file)) is ∙ put_append at (u ∷ us) vs file

@@ -9,7 +9,12 @@ module _ (at : ℕ) (units file : Units) where
   front = take at file ++ replicate (at - length file) blank
 
   length-front : length front ≡ at
-  length-front = omega (arith, length-append (take at file) (replicate (at - length file) blank), length-take at file, length-replicate (at - length file) blank)
+  length-front = omega (
+    arith,
+    length-append (take at file) (replicate (at - length file) blank),
+    length-take at file,
+    length-replicate (at - length file) blank,
+  )
 
   pub length-put : length (put at units file) ≡ max (length file) (at + length units)
   unfolding put
@@ -24,7 +29,8 @@ module _ (at : ℕ) (units file : Units) where
 
   at_front : (i : ℕ) → i < at → unit_at front i ≡ unit_at file i
   at_front i below = elim (cases_lt i (length file)) [
-    | inl inside ↦ get_or_append_left (take at file) (replicate (at - length file) blank) blank i (omega (arith, length-take at file)) ∙ get_or-take at file i blank below
+    | inl inside ↦ get_or_append_left (take at file) (replicate (at - length file) blank) blank i (omega (arith, length-take at file)) ∙ get_or-take
+        at file i blank below
     | inr past ↦
         let short : length (take at file) ≡ length file = omega (arith, length-take at file) in
         get_or-append_right (take at file) (replicate (at - length file) blank) (length file) i blank short past
@@ -49,12 +55,14 @@ module _ (at : ℕ) (units file : Units) where
   pub put_after : (i : ℕ) → at + length units ≤ i → unit_at (put at units file) i ≡ unit_at file i
   unfolding put
   put_after i past =
-      get_or-append_right (front ++ units) (drop (at + length units) file) (at + length units) i blank (omega (arith, length-append front units, length-front)) past
+      get_or-append_right (front ++ units) (drop (at + length units) file) (at + length units) i blank
+      (omega (arith, length-append front units, length-front)) past
       ∙ get_or-drop (at + length units) file (i - (at + length units)) blank
       ∙ ap (λ (j : ℕ). unit_at file j) (omega arith)
 
   -- a unit is outside the range, or at one place in it
-  pub put_cases : (i : ℕ) → (unit_at (put at units file) i ≡ unit_at file i) ⊎ ((k : ℕ) × (k < length units) × (i ≡ at + k) × (unit_at (put at units file) i ≡ unit_at units k))
+  pub put_cases : (i : ℕ) → (unit_at (put at units file) i ≡ unit_at file i) ⊎ ((k : ℕ) × (k < length units) × (i ≡ at + k)
+      × (unit_at (put at units file) i ≡ unit_at units k))
   put_cases i = elim (cases_lt i at) [
     | inl below ↦ inl (put_before i below)
     | inr from ↦ elim (cases_lt i (at + length units)) [

@@ -48,7 +48,8 @@ pub record CanPut (value : Store) (plan : Plan) (generation : ℕ) (old : Slot) 
 
 -- an image says the value with the blob, whose blocks stand in it; the other slots' blocks are as in a file from before
 abbrev pub StandsWith : Store → Plan → ℕ → List ℕ → Units → Units → Type 0
-StandsWith value plan generation blob file image = StandsSet (with_next (next_field plan) value) plan.place (slot_for plan) (units_of (framed plan.number generation blob)) file image
+StandsWith value plan generation blob file image =
+    StandsSet (with_next (next_field plan) value) plan.place (slot_for plan) (units_of (framed plan.number generation blob)) file image
 
 -- an image stands for the value from before, for it with the next number, or for it with the blob
 pub data WhilePut (value : Store) (plan : Plan) (generation : ℕ) (blob : List ℕ) (file image : Units) : Type 0 where

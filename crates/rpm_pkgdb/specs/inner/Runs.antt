@@ -32,7 +32,8 @@ module _ (pages units : ℕ) where
   run-append earlier [] vs = ap (λ (e : List Slot). run e vs) (sym (append-nil earlier))
   run-append earlier (u ∷ us) vs =
       ap (λ (r : Option Damage). option_or (slot_fault pages units earlier u) r) (run-append (earlier ++ slot_of u ∷ []) us vs)
-      ∙ ap (λ (e : List Slot). option_or (slot_fault pages units earlier u) (option_or (run (earlier ++ slot_of u ∷ []) us) (run e vs))) (append_assoc earlier (slot_of u ∷ []) (map slot_of us))
+      ∙ ap (λ (e : List Slot). option_or (slot_fault pages units earlier u) (option_or (run (earlier ++ slot_of u ∷ []) us) (run e vs)))
+      (append_assoc earlier (slot_of u ∷ []) (map slot_of us))
       ∙ sym (option_or-assoc (slot_fault pages units earlier u) (run (earlier ++ slot_of u ∷ []) us) (run (earlier ++ slot_of u ∷ map slot_of us) vs))
 
   -- it is the first fault of all places
@@ -50,7 +51,8 @@ module _ (pages units : ℕ) where
       let here : at earlier (u ∷ us) 0 ≡ slot_fault pages units earlier u = ap (λ (e : List Slot). slot_fault pages units e u) (append-nil earlier) in
       let next : map (at earlier (u ∷ us)) (range_with_len 1 (length us)) ≡ map (at (earlier ++ slot_of u ∷ []) us) (range_with_len 0 (length us)) =
       range_next (at earlier (u ∷ us)) 0 (length us) ∙ same_map (λ (k : ℕ). at earlier (u ∷ us) (k + 1)) (at (earlier ++ slot_of u ∷ []) us)
-      (λ k. ap (at earlier (u ∷ us)) (add-one k) ∙ ap (λ (e : List Slot). slot_fault pages units e (unit_at us k)) (sym (append_assoc earlier (slot_of u ∷ []) (map slot_of (take k us))))) (range_with_len 0 (length us)) in
+      (λ k. ap (at earlier (u ∷ us)) (add-one k) ∙ ap (λ (e : List Slot). slot_fault pages units e (unit_at us k))
+      (sym (append_assoc earlier (slot_of u ∷ []) (map slot_of (take k us))))) (range_with_len 0 (length us)) in
       first_cons (at earlier (u ∷ us) 0) (map (at earlier (u ∷ us)) (range_with_len 1 (length us)))
       ∙ ap (λ (x : Option Damage). option_or x (first (map (at earlier (u ∷ us)) (range_with_len 1 (length us))))) here
       ∙ ap (λ (xs : List (Option Damage)). option_or (slot_fault pages units earlier u) (first xs)) next

@@ -24,7 +24,8 @@ with_slot place s value = record value { slots = slice_set value.slots place s }
 -- an image says the value with the slot, whose blocks are these; the other slots' blocks are as in a file from before
 pub record StandsSet (value : Store) (place : ℕ) (s : Slot) (us file image : Units) : Type 0 where
   pub keeps : Keeps image (with_slot place s value)
-  pub others : (j i : ℕ) → j ≢ place → is_used (slot_at value.slots j) ≡ true → (slot_at value.slots j).offset ≤ i → i < end_of (slot_at value.slots j) → unit_at image i ≡ unit_at file i
+  pub others : (j i : ℕ) → j ≢ place → is_used (slot_at value.slots j) ≡ true → (slot_at value.slots j).offset ≤ i → i < end_of (slot_at value.slots j)
+      → unit_at image i ≡ unit_at file i
   pub holds : Holds image s.offset us
 
 -- a used slot whose blocks may be moved there

@@ -1,6 +1,6 @@
 use Rattle.std.proofs.Common.{arith}
 use Rattle.rpm_file.specs.Browsing.{browses_then}
-use Rattle.rpm_file.specs.Filling.{extends_then}
+use Rattle.rpm_file.specs.inner.Filling.{extends_then}
 use Rattle.rpm_file.proofs.filling.append_upto.Goals as goal
 
 pub returns-in_err-append_some-clause-browses : goal.returns-in_err-append_some-clause-browses

@@ -38,7 +38,7 @@ returns-in-Ok-clause-answers g c = λ told.
     let new = g.S.Shelf.rest c.read_part.new.shelf in
     let skipped = rw c.blob.ensures.value at c.in_ok-skip_padding.ensures.answers told in
     let front = c.in_ok-blob.ensures.answers told in
-    let whole = main_good s (left old) (left mid) c.in_ok-blob.blob.items (left new) skipped front c.in-Ok.main (c.in-Ok.ensures
+    let whole = main_good s (left old) (left mid) c.in_ok-blob.blob.items (left new) skipped front c.in-Ok.main (c.in-Ok.ensures.value
     ∙ ap header c.deref.ensures.value) in
     made_answers (behind_signature s) (merged s.entries c.in-Ok.main) old new c.joined.result whole c.joined.ensures
 
@@ -59,7 +59,7 @@ returns-clause-answers g c = λ told.
     let mid = left (g.S.Shelf.rest c.skip_padding.new.shelf) in
     let rest = left (g.S.Shelf.rest c.read_part.new.shelf) in
     let skipped = rw c.blob.ensures.value at c.in_ok-skip_padding.ensures.answers told in
-    main_bad s bytes mid c.in_ok-blob.blob.items rest skipped (c.in_ok-blob.ensures.answers told) c.in-Err.fault (c.in-Err.ensures
+    main_bad s bytes mid c.in_ok-blob.blob.items rest skipped (c.in_ok-blob.ensures.answers told) c.in-Err.fault (c.in-Err.ensures.value
     ∙ ap header c.deref.ensures.value)
 
 pub returns-clause-browses : goal.returns-clause-browses

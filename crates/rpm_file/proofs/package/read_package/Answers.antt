@@ -33,7 +33,7 @@ returns-in-Ok-clause-answers g c = λ told.
     let mid = g.S.Shelf.rest c.read_part.new.shelf in
     let new = g.S.Shelf.rest c.read_main.new.shelf in
     let whole = signature_good (left old) (left lead) c.in_ok-blob.blob.items (left mid) (c.in_ok-skip_lead.ensures.answers told)
-    (c.in_ok-blob.ensures.answers told) c.in-Ok.signature (c.in-Ok.ensures ∙ ap header c.deref.ensures.value) in
+    (c.in_ok-blob.ensures.answers told) c.in-Ok.signature (c.in-Ok.ensures.value ∙ ap header c.deref.ensures.value) in
     whole_answers c.in-Ok.signature old mid new c.read_main.result whole (c.read_main.ensures.answers told)
 
 pub returns-in-Ok-clause-browses : goal.returns-in-Ok-clause-browses
@@ -49,7 +49,7 @@ returns-clause-answers g c = λ told.
     let mid = left (g.S.Shelf.rest c.skip_lead.new.shelf) in
     let rest = left (g.S.Shelf.rest c.read_part.new.shelf) in
     signature_bad bytes mid c.in_ok-blob.blob.items rest (c.in_ok-skip_lead.ensures.answers told) (c.in_ok-blob.ensures.answers told) c.in-Err.fault
-    (c.in-Err.ensures ∙ ap header c.deref.ensures.value)
+    (c.in-Err.ensures.value ∙ ap header c.deref.ensures.value)
 
 pub returns-clause-browses : goal.returns-clause-browses
 returns-clause-browses g c = browses_then g.S.Shelf.tells g.S.Shelf.paths g.S.Shelf.rest g.S.Shelf.absences g.S.Shelf.faults c.args.shelf.now

@@ -5,8 +5,8 @@ use Rattle.rpm_outside.specs.Changed.{LeavesChanged, leaves_none, changed_none, 
 use Rattle.rpm_group.specs.Held.{Table}
 use Rattle.rpm_group.specs.Counts.{begins_run, count_below, log_units}
 use Rattle.rpm_group.specs.LogReads.{nothing_none, nothing_then}
-use Rattle.rpm_group.specs.Logged.{Logged, run_entry}
-use Rattle.rpm_group.specs.Words.{IsHeadOf}
+use Rattle.rpm_group.specs.inner.Logged.{Logged, run_entry}
+use Rattle.rpm_group.specs.inner.Words.{IsHeadOf}
 use Rattle.rpm_group.proofs.Runs.{length-units_held}
 use Rattle.rpm_group.proofs.Countings.{none_begun, log_units_none, gap_begins, gap_counted, run_begins, run_counted, log_units_later}
 use Rattle.rpm_group.proofs.Entering.{entered_more, put_changed}

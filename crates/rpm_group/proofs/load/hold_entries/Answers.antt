@@ -3,7 +3,8 @@ use Rattle.rpm_outside.specs.Files.{Files}
 use Rattle.rpm_outside.specs.declared.disk.File.TheVariants.{Log}
 use Rattle.rpm_outside.specs.inner.Looking.{looks_at_then}
 use Rattle.rpm_group.specs.declared.log.Head.{Head}
-use Rattle.rpm_group.specs.Readings.{entries_of, heads_behind, IsHead, HeadIs}
+use Rattle.rpm_group.specs.Readings.{entries_of}
+use Rattle.rpm_group.specs.inner.LogReadings.{heads_behind, IsHead, HeadIs}
 use Rattle.rpm_group.specs.Layers.{laid_files}
 use Rattle.rpm_group.proofs.Gates.{read_as}
 use Rattle.rpm_group.proofs.Applied.{left_wrong, done_more, done_all}

@@ -4,7 +4,8 @@ use Rattle.rpm_outside.specs.Files.{Units, Files, with_file}
 use Rattle.rpm_outside.specs.Logs.{LogState, Closed, log_state, with_entries, reopened}
 use Rattle.rpm_outside.specs.inner.LogLaws.{log_not_log, entries_log, unlogged_entries, reopened_open}
 use Rattle.rpm_group.specs.declared.log.Reading.{Reading}
-use Rattle.rpm_group.specs.Readings.{entries_of, IsOpen, LogSays, heads_behind}
+use Rattle.rpm_group.specs.Readings.{entries_of, IsOpen}
+use Rattle.rpm_group.specs.inner.LogReadings.{LogSays, heads_behind}
 use Rattle.rpm_group.specs.Layers.{laid_files}
 use Rattle.rpm_group.proofs.Readouts.{on_ok_map}
 use Rattle.rpm_group.proofs.load.hold_log.Goals as goal

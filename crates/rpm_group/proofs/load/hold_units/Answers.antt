@@ -21,7 +21,8 @@ loop-done-preserved g c =
           (laid_files c.hold_piece.new.held files) (omega (arith, c.min-n.ensures)) (omega (arith, c.min-n.ensures, c.requires.within told))
           (length (take (16 * n) c.loop-done.page) / 16) (D.files c.loop-done.disk).log k (inv.held told files)
           (ap (λ (f : Files). f.log) (inv.looks.untouched told).same) (c.in_default.ensures.held told files);
-      looks = looks_at_then _ _ _ _ _ _ Log g.met.D.Disk.follows_trans c.args.disk.now c.loop-done.disk c.hold_piece.new.disk inv.looks c.hold_piece.ensures.looks;
+      looks = looks_at_then _ _ _ _ _ _ Log g.met.D.Disk.follows_trans c.args.disk.now c.loop-done.disk c.hold_piece.new.disk inv.looks
+          c.hold_piece.ensures.looks;
       faults = omega (arith, inv.faults, c.hold_piece.ensures.cause.later);
     }
 
@@ -33,4 +34,5 @@ returns-clause-held g c = λ told files.
 
 pub returns-in-Err-clause-looks : goal.returns-in-Err-clause-looks
 returns-in-Err-clause-looks g c =
-    looks_at_then _ _ _ _ _ _ Log g.met.D.Disk.follows_trans c.args.disk.now c.loop-done.disk c.hold_piece.new.disk c.loop-done.invariant.looks c.hold_piece.ensures.looks
+    looks_at_then _ _ _ _ _ _ Log g.met.D.Disk.follows_trans c.args.disk.now c.loop-done.disk c.hold_piece.new.disk c.loop-done.invariant.looks
+    c.hold_piece.ensures.looks

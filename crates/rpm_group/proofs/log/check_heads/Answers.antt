@@ -3,9 +3,9 @@ use Rattle.std.proofs.Common.{Option, Some, None, IfSome}
 use Rattle.rpm_group.specs.declared.log.Head.{Head}
 use Rattle.rpm_outside.specs.Files.{Files}
 use Rattle.rpm_outside.specs.Logs.{heads}
+use Rattle.rpm_group.specs.inner.LogReadings.{IsHead, HeadIs, heads_behind}
 use Rattle.rpm_outside.specs.declared.disk.File.TheVariants.{Log}
 use Rattle.rpm_outside.specs.inner.Looking.{looks_at_none, looks_at_then}
-use Rattle.rpm_group.specs.Readings.{IsHead, HeadIs, heads_behind}
 use Rattle.rpm_group.proofs.Gates.{read_as, next_wrong, next_right, end_right, end_wrong}
 use Rattle.rpm_group.proofs.log.check_heads.Goals as goal
 

@@ -7,8 +7,9 @@ use Rattle.rpm_outside.specs.EntryLaws.{within_none}
 use Rattle.rpm_outside.specs.inner.Leaves.{then_look}
 use Rattle.rpm_group.specs.declared.log.Head.{Head}
 use Rattle.rpm_group.specs.LogReads.{reads_none, reads_then}
-use Rattle.rpm_group.specs.Readings.{entries_of, heads_behind, IsHead, HeadIs, HeadSays}
-use Rattle.rpm_group.specs.Settled.{WasWithin}
+use Rattle.rpm_group.specs.Readings.{entries_of}
+use Rattle.rpm_group.specs.inner.LogReadings.{heads_behind, IsHead, HeadIs, HeadSays}
+use Rattle.rpm_group.specs.inner.Leavings.{WasWithin}
 use Rattle.rpm_group.proofs.Copies.{log_stays}
 use Rattle.rpm_group.proofs.Applied.{Done, left_wrong, head_covers, done_more, done_all, within_more}
 use Rattle.rpm_group.proofs.recovery.copy_entries.Goals as goal

@@ -3,8 +3,9 @@ use Rattle.rpm_outside.specs.Files.{Files, Units}
 use Rattle.rpm_outside.specs.Crash.{LeavesOnly}
 use Rattle.rpm_outside.specs.inner.Moments.{leaves_then, leaves_weaker}
 use Rattle.rpm_outside.specs.Logs.{LogState, log_state, unlogged, with_entries, reopened}
-use Rattle.rpm_group.specs.Readings.{entries_of, IsOpen, heads_behind}
-use Rattle.rpm_group.specs.Settled.{ReopensAs, WasWithin}
+use Rattle.rpm_group.specs.Readings.{entries_of, IsOpen}
+use Rattle.rpm_group.specs.inner.LogReadings.{heads_behind}
+use Rattle.rpm_group.specs.inner.Leavings.{ReopensAs, WasWithin}
 use Rattle.rpm_group.proofs.Closes.{mid_log, mid_open, mid_done, mid_stands, written_leaves, open_as}
 use Rattle.rpm_group.proofs.recovery.finish.Goals as goal
 

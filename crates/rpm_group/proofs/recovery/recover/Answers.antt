@@ -4,7 +4,8 @@ use Rattle.rpm_outside.specs.Files.{Files}
 use Rattle.rpm_outside.specs.inner.Moments.{leaves_then, leaves_weaker}
 use Rattle.rpm_outside.specs.inner.Leaves.{then_look}
 use Rattle.rpm_outside.specs.Logs.{reopened}
-use Rattle.rpm_group.specs.Settled.{ReopensAs, ReopensAsOneOf, RecoverKeeps}
+use Rattle.rpm_group.specs.Settled.{ReopensAsOneOf, RecoverKeeps}
+use Rattle.rpm_group.specs.inner.Leavings.{ReopensAs}
 use Rattle.rpm_group.specs.declared.recovery.RecoverFault.{RecoverFault}
 use Rattle.rpm_group.specs.declared.recovery.RecoverFault.TheVariants.{BadLog, DiskFault}
 use Rattle.rpm_group.proofs.recovery.recover.Goals as goal

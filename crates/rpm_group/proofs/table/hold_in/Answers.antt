@@ -2,7 +2,8 @@ use Rattle.std.proofs.Common.{◌≡◌, Some, None, subst, sym, ◌∙◌, rule
 use Rattle.std.specs.Box.{with_value}
 use Rattle.std.proofs.lemmas.List.{get_or_default, set-set}
 use Rattle.rpm_group.specs.declared.page.Page.{Page}
-use Rattle.rpm_group.specs.Held.{Table, page_at, PageWrote, Holds}
+use Rattle.rpm_group.specs.Held.{Table, page_at}
+use Rattle.rpm_group.specs.inner.Holding.{PageWrote, Holds}
 use Rattle.rpm_group.proofs.Tables.{held_written}
 use Rattle.rpm_group.proofs.table.hold_in.Goals as goal
 

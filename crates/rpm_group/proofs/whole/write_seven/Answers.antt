@@ -13,7 +13,7 @@ use Rattle.rpm_group.specs.Settled.{ReopensAsOneOf}
 use Rattle.rpm_group.specs.Groups.{BeforeOrAfter}
 use Rattle.rpm_group.specs.Overlay.{overlay_below, overlay_held}
 use Rattle.rpm_group.specs.Layers.{laid_files}
-use Rattle.rpm_group.specs.Wholes.{with_seven, LeavesBoth}
+use Rattle.rpm_group.specs.inner.Wholes.{with_seven, LeavesBoth}
 use Rattle.rpm_group.proofs.whole.write_seven.Goals as goal
 
 -- until the commit the disk is only looked at once it is recovered
@@ -41,6 +41,18 @@ module _ {D : Type 0} (tells : Bool) (files : D → Files) (moment : D → ℕ) 
       leaves_then moment left_since disk last new (LeavesBoth (left_since disk (moment disk)) after) one
       (leaves_weaker moment left_since last new (BeforeOrAfter before changed) (LeavesBoth (left_since disk (moment disk)) after)
       (λ image either. ⊎_elim (λ old. inl (files disk, here, old ∙ is_before)) (λ done. inr (done ∙ is_after)) either) two)
+
+pub returns-in_default-write_at-clause-images : goal.returns-in_default-write_at-clause-images
+returns-in_default-write_at-clause-images g c = λ told.
+    let D = g.D.Disk in
+    let overlay = c.in-Ok-load.overlay in
+    let last = overlay_below c.write_at.new.self in
+    let looks = c.in-Ok-load.ensures.looks in
+    subst (λ (d : _). LeavesOnly D.moment D.left_since c.args.disk d
+    (LeavesBoth (D.left_since c.args.disk (D.moment c.args.disk)) (with_seven (reopened (D.files c.args.disk))))) (sym c.release.ensures)
+    (recovered_leaves D.tells D.files D.moment D.left_since D.bytes_read D.follows told c.args.disk c.recover.new.disk overlay.below last _ _
+    (with_seven (reopened (D.files c.args.disk)))
+    (c.recover.ensures.images told) (looks.untouched told) looks.moment_stays c.write_at.ensures.follows)
 
 pub returns-then-is_starved-clause-images : goal.returns-then-is_starved-clause-images
 returns-then-is_starved-clause-images g c = λ told.

@@ -1,5 +1,5 @@
 use Rattle.std.proofs.Common.{◌≡◌, ◌+◌, ◌-◌, ◌*◌, ◌/◌, length, arith}
-use Rattle.rpm_group.specs.Counts.{AreHeld}
+use Rattle.rpm_group.specs.inner.HeldUnits.{AreHeld}
 use Rattle.rpm_group.proofs.Runs.{piece_units}
 use Rattle.rpm_group.proofs.writes.piece.Goals as goal
 

@@ -23,4 +23,5 @@ returns c =
     let units = c.args.units.now in
     let file = c.args.file.now in
     let all : c.loop-k.k ≡ length units = omega arith in
-    ap (λ (us : Units). put at us file) (c.loop-k.invariant ∙ ap (λ (n : ℕ). mixed_units c.args.seed at units file n) all) ∙ mixed_whole c.args.seed at units file
+    ap (λ (us : Units). put at us file) (c.loop-k.invariant ∙ ap (λ (n : ℕ). mixed_units c.args.seed at units file n) all) ∙ mixed_whole c.args.seed
+    at units file

@@ -12,4 +12,5 @@ returns-then-seed-at-eq1 c =
     let file = c.args.file.now in
     get_or_default units k [] blank c.requires.within
     ∙ sym (put_inside at units file k c.requires.within)
-    ∙ ap (λ (b : Bool). if b then unit_at (put at units file) (at + k) else unit_at file (at + k)) (sym (eq-eqb (c.args.seed / 2 ^ ((at + k) % 64) % 2) 1 c.if-seed-at-eq1.true))
+    ∙ ap (λ (b : Bool). if b then unit_at (put at units file) (at + k) else unit_at file (at + k))
+    (sym (eq-eqb (c.args.seed / 2 ^ ((at + k) % 64) % 2) 1 c.if-seed-at-eq1.true))

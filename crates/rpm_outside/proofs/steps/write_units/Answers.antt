@@ -20,7 +20,8 @@ returns-then-is_empty-clause-ok c =
     let steps = c.args.steps.now.items in
     let units = c.in_ok-units.units in
     let none : units.items ≡ [] = nil_from_length units.items (omega (arith, units.ok.0, zero_length units.len c.if-is_empty.ensures)) in
-    subst (λ (us : Units). WroteAny old old steps steps c.args.file c.args.unit us) (sym none ∙ c.in_ok-units.ensures.units) (record { files = refl; none = refl })
+    subst (λ (us : Units). WroteAny old old steps steps c.args.file c.args.unit us) (sym none ∙ c.in_ok-units.ensures.units)
+    (record { files = refl; none = refl })
 
 pub returns-clause-ok : goal.returns-clause-ok
 returns-clause-ok c =

@@ -8,4 +8,5 @@ one_same u v e = cc
 
 pub returns-clause-unit : goal.returns-clause-unit
 returns-clause-unit g c = λ told.
-    one_same _ _ (sym (cut_up_one c.read_units.new.into c.read_units.auto.into) ∙ c.in_ok-read_units.ensures.units told ∙ take_one _ c.args.at (c.requires told))
+    one_same _ _ (sym (cut_up_one c.read_units.new.into c.read_units.auto.into) ∙ c.in_ok-read_units.ensures.units told
+    ∙ take_one _ c.args.at (c.requires told))

@@ -10,5 +10,7 @@ returns-then-is_elsewhere-clause-told g c = λ told p held. elsewhere c.args.sel
 
 pub returns-then-is_elsewhere-clause-looks : goal.returns-then-is_elsewhere-clause-looks
 returns-then-is_elsewhere-clause-looks g c =
-    looks_more g.D.Disk.tells g.D.Disk.files g.D.Disk.left_since g.D.Disk.moment g.D.Disk.bytes_read g.D.Disk.follows Pkg 0 (cost c.args.number c.args.db.now) c.args.disk.now c.args.disk.now (omega arith)
-    (looks_none g.D.Disk.tells g.D.Disk.files g.D.Disk.left_since g.D.Disk.moment g.D.Disk.bytes_read g.D.Disk.follows Pkg g.met.D.Disk.follows_refl c.args.disk.now)
+    looks_more g.D.Disk.tells g.D.Disk.files g.D.Disk.left_since g.D.Disk.moment g.D.Disk.bytes_read g.D.Disk.follows Pkg 0
+    (cost c.args.number c.args.db.now) c.args.disk.now c.args.disk.now (omega arith)
+    (looks_none g.D.Disk.tells g.D.Disk.files g.D.Disk.left_since g.D.Disk.moment g.D.Disk.bytes_read g.D.Disk.follows Pkg g.met.D.Disk.follows_refl
+    c.args.disk.now)

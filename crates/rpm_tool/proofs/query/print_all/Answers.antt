@@ -9,7 +9,7 @@ use Rattle.rpm_tool.specs.declared.answer.Why.{Why}
 use Rattle.rpm_tool.specs.Installed.{installed}
 use Rattle.rpm_tool.specs.Steps.{steps_of, all_packages}
 use Rattle.rpm_tool.specs.Answers.{outputs, Went}
-use Rattle.rpm_tool.proofs.Above.{above}
+use Rattle.rpm_db.specs.State.{above}
 use Rattle.rpm_tool.proofs.Through.{next_package, no_package, all_packages_above, before_start, before_more, stopped_at, ended_good, ended_bad, stays, fails}
 use Rattle.rpm_tool.proofs.query.print_all.Goals as goal
 

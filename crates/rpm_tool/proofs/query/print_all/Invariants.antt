@@ -7,7 +7,7 @@ use Rattle.rpm_pkgdb.specs.Store.{Keeps}
 use Rattle.rpm_pkgdb.specs.Costs.{cost_to}
 use Rattle.rpm_tool.specs.Installed.{installed}
 use Rattle.rpm_tool.specs.Steps.{steps_of}
-use Rattle.rpm_tool.proofs.Above.{above}
+use Rattle.rpm_db.specs.State.{above}
 use Rattle.rpm_tool.proofs.Through.{Before}
 use Rattle.rpm_tool.proofs.query.print_all.Given as goal
 

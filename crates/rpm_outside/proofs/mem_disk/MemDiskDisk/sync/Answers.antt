@@ -32,9 +32,11 @@ returns-clause-images c = λ told image since.
 pub returns-then-call_fails-clause-outcome : goal.returns-then-call_fails-clause-outcome
 returns-then-call_fails-clause-outcome c =
     named_fails c.args.self.now _ (Sync c.args.file) c.call_fails.ensures.counted refl refl refl
-    (ap (λ (xs : List ℕ). list_any (λ call. call == c.call_fails.new.calls) xs) (sym c.deref.ensures.value) ∙ sym c.call_fails.ensures.named ∙ c.if-call_fails.true) (record { files = refl; none = refl })
+    (ap (λ (xs : List ℕ). list_any (λ call. call == c.call_fails.new.calls) xs) (sym c.deref.ensures.value) ∙ sym c.call_fails.ensures.named
+    ∙ c.if-call_fails.true) (record { files = refl; none = refl })
 
 pub returns-clause-outcome : goal.returns-clause-outcome
 returns-clause-outcome c =
     other_passes c.args.self.now _ (Sync c.args.file) c.call_fails.ensures.counted refl refl refl
-    (ap (λ (xs : List ℕ). list_any (λ call. call == c.call_fails.new.calls) xs) (sym c.deref.ensures.value) ∙ sym c.call_fails.ensures.named ∙ c.if-call_fails.false) (record { files = refl; step = c.in-Ok.ensures.ok })
+    (ap (λ (xs : List ℕ). list_any (λ call. call == c.call_fails.new.calls) xs) (sym c.deref.ensures.value) ∙ sym c.call_fails.ensures.named
+    ∙ c.if-call_fails.false) (record { files = refl; step = c.in-Ok.ensures.ok })

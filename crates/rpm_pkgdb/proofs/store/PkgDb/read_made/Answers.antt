@@ -35,12 +35,14 @@ returns-in_default-clause-looks g c =
 pub returns-in-Err-clause-looks : goal.returns-in-Err-clause-looks
 returns-in-Err-clause-looks g c =
     let l = lawful c.args.units c.args.head.now c.requires.lawful in
-    looks_then _ _ _ _ _ _ Pkg g.met.D.Disk.follows_trans 16 (16 * (256 * c.word-pages.result - 2)) _ _ c.read_unit.new.disk _ (omega (arith, l.some, c.word-pages.ensures)) c.read_unit.ensures.looks c.read_table.ensures.looks
+    looks_then _ _ _ _ _ _ Pkg g.met.D.Disk.follows_trans 16 (16 * (256 * c.word-pages.result - 2)) _ _ c.read_unit.new.disk _
+    (omega (arith, l.some, c.word-pages.ensures)) c.read_unit.ensures.looks c.read_table.ensures.looks
 
 pub returns-clause-looks : goal.returns-clause-looks
 returns-clause-looks g c =
     let l = lawful c.args.units c.args.head.now c.requires.lawful in
-    looks_then _ _ _ _ _ _ Pkg g.met.D.Disk.follows_trans 16 (16 * (256 * c.word-pages.result - 2)) _ _ c.read_unit.new.disk _ (omega (arith, l.some, c.word-pages.ensures)) c.read_unit.ensures.looks c.read_table.ensures.looks
+    looks_then _ _ _ _ _ _ Pkg g.met.D.Disk.follows_trans 16 (16 * (256 * c.word-pages.result - 2)) _ _ c.read_unit.new.disk _
+    (omega (arith, l.some, c.word-pages.ensures)) c.read_unit.ensures.looks c.read_table.ensures.looks
 
 pub invariant_of-result : goal.invariant_of-result
 invariant_of-result g c =
