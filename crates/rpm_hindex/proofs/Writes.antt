@@ -70,7 +70,8 @@ module _ {D : Type 0} (tells : Bool) (files : D → Files) (left_since : D → �
 
   pub seal_then : Run SameSeal a b → Run SameSeal b c → Run SameSeal a c
   seal_then first second =
-      changes_then tells files left_since moment bytes_read follows Idx trans SameSeal SameSeal SameSeal 0 0 0 a b c (omega arith) (λ x y p. p) (λ x y z p q. q ∙ p) first second
+      changes_then tells files left_since moment bytes_read follows Idx trans SameSeal SameSeal SameSeal 0 0 0 a b c (omega arith) (λ x y p. p)
+      (λ x y z p q. q ∙ p) first second
 
   pub seal_sync : Run SameSeal a b → Run IsSame b c → Run SameSeal a c
   seal_sync first second =

@@ -2,14 +2,13 @@ pub mod Words
 pub mod Rows
 pub mod Sizes
 pub mod Packed
-pub mod Making
 pub mod Index
 pub mod Whole
-pub mod Drafts
 pub mod Rewrites
 pub mod Plans
-pub mod Changes
+pub mod Costs
 pub mod State
 pub mod Images
-pub mod Records
 pub mod Answers
+pub mod Refusals
+pub mod inner

@@ -60,11 +60,13 @@ fn write_tail<D: Disk>(disk: &mut D, used: u32, tail: &[u8]) -> Result<(), Index
 
 /// Writes the units that change, and the records behind all others.
 fn write_records<D: Disk>(disk: &mut D, patches: &Patches) -> Result<(), IndexDiskFault>
-    requires units { (k : ℕ) → k < length patches.now.units.items → (1 ≤ (patch_at patches.now.units.items k).unit) × ((patch_at patches.now.units.items k).unit < 2 ^ 28) }
+    requires units { (k : ℕ) → k < length patches.now.units.items → (1 ≤ (patch_at patches.now.units.items k).unit)
+        × ((patch_at patches.now.units.items k).unit < 2 ^ 28) }
     requires behind { 1 ≤ patches.now.used }
     requires whole { length patches.now.tail.items % 16 ≡ 0 }
     requires room { patches.now.used + length patches.now.tail.items / 16 ≤ 2 ^ 28 }
-    ensures written { OnOk result (IsTrue D.tells → (D.files disk.new).idx ≡ after_tail patches.now.used patches.now.tail.items (after_units patches.now.units.items (D.files disk.old).idx)) }
+    ensures written { OnOk result (IsTrue D.tells → (D.files disk.new).idx ≡ after_tail patches.now.used patches.now.tail.items
+        (after_units patches.now.units.items (D.files disk.old).idx)) }
     ensures changes { Changes D.tells D.files D.left_since D.moment D.bytes_read D.follows Idx SameSeal 0 disk.old disk.new }
     ensures cause { HasCause (D.faults disk.old) (D.faults disk.new) result }
 {
@@ -100,7 +102,8 @@ impl Hindex {
         ensures second { OnOk result (self.new.second ≡ patches.now.second) }
         ensures units { OnOk result (patches.now.used + length patches.now.tail.items / 16 ≤ self.new.units) }
         ensures kept { OnOk result (IsTrue D.tells → Keeps (D.files disk.new).idx self.new) }
-        ensures written { OnOk result (IsTrue D.tells → (D.files disk.new).idx ≡ put 1 (patches.now.second ∷ []) (after_tail patches.now.used patches.now.tail.items (after_units patches.now.units.items (D.files disk.old).idx))) }
+        ensures written { OnOk result (IsTrue D.tells → (D.files disk.new).idx ≡ put 1 (patches.now.second ∷ [])
+            (after_tail patches.now.used patches.now.tail.items (after_units patches.now.units.items (D.files disk.old).idx))) }
         ensures settled { OnOk result (IsTrue D.tells → IsSettled Idx (D.files disk.new) (D.left_since disk.new (D.moment disk.new))) }
         ensures changes { Changes D.tells D.files D.left_since D.moment D.bytes_read D.follows Idx SameSeal 0 disk.old disk.new }
         ensures cause { HasCause (D.faults disk.old) (D.faults disk.new) result }
@@ -135,7 +138,8 @@ impl Hindex {
         ensures ordered { OnOk result (LeavesOrder plan.work → is_ordered self.new.pending self.new.second self.new.units ≡ true) }
         ensures kept { OnOk result (IsTrue D.tells → Keeps (D.files disk.new).idx self.new) }
         ensures written { OnOk result (IsTrue D.tells → (D.files disk.new).idx ≡ after plan.work (D.files disk.old).idx) }
-        ensures rows { OnOk result (IsTrue D.tells → (drops adds : List Row) (buckets : ℕ) → IsPlanFor drops adds buckets (D.files disk.old).idx plan.work → IsChanged drops adds (records buckets (D.files disk.old).idx) (buckets_after plan.work) (D.files disk.new).idx) }
+        ensures rows { OnOk result (IsTrue D.tells → (drops adds : List Row) (buckets : ℕ) → IsPlanFor drops adds buckets (D.files disk.old).idx
+            plan.work → IsChanged drops adds (records buckets (D.files disk.old).idx) (buckets_after plan.work) (D.files disk.new).idx) }
         ensures settled { OnOk result (IsTrue D.tells → IsSettled Idx (D.files disk.new) (D.left_since disk.new (D.moment disk.new))) }
         ensures changes { Changes D.tells D.files D.left_since D.moment D.bytes_read D.follows Idx VoidOrSameSeal 0 disk.old disk.new }
         ensures cause { HasCause (D.faults disk.old) (D.faults disk.new) result }

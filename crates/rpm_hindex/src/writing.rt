@@ -95,14 +95,22 @@ impl Hindex {
     pub fn seal<D: Disk>(&mut self, disk: &mut D, generation: u32) -> Result<(), IndexDiskFault>
         requires written { 0 < self.old.pending }
         requires keeps { IsTrue D.tells → Keeps (D.files disk.old).idx self.old }
-        ensures state { OnOk result (self.new ≡ record { first = seal_unit generation self.old.pending; second = self.old.second; units = self.old.units; pending = 0 }) }
+        ensures state { OnOk result (self.new ≡ record {
+          first = seal_unit generation self.old.pending;
+          second = self.old.second;
+          units = self.old.units;
+          pending = 0;
+        }) }
         ensures kept { OnOk result (IsTrue D.tells → Keeps (D.files disk.new).idx self.new) }
         ensures sealed { OnOk result (IsTrue D.tells → (D.files disk.new).idx ≡ put 0 (seal_unit generation self.old.pending ∷ []) (D.files disk.old).idx) }
         ensures current { OnOk result (is_ordered self.old.pending self.old.second self.old.units ≡ true → is_current generation self.new ≡ true) }
-        ensures whole { OnOk result (IsTrue D.tells → IsWellFormed self.old.pending (D.files disk.old).idx → IsWellFormed self.old.pending (D.files disk.new).idx) }
-        ensures records { OnOk result (IsTrue D.tells → IsWellFormed self.old.pending (D.files disk.old).idx → records self.old.pending (D.files disk.new).idx ≡ records self.old.pending (D.files disk.old).idx) }
+        ensures whole { OnOk result (IsTrue D.tells → IsWellFormed self.old.pending (D.files disk.old).idx → IsWellFormed self.old.pending
+            (D.files disk.new).idx) }
+        ensures records { OnOk result (IsTrue D.tells → IsWellFormed self.old.pending (D.files disk.old).idx → records self.old.pending
+            (D.files disk.new).idx ≡ records self.old.pending (D.files disk.old).idx) }
         ensures settled { OnOk result (IsTrue D.tells → IsSettled Idx (D.files disk.new) (D.left_since disk.new (D.moment disk.new))) }
-        ensures changes { Changes D.tells D.files D.left_since D.moment D.bytes_read D.follows Idx (SealedOrSame (seal_unit generation self.old.pending)) 0 disk.old disk.new }
+        ensures changes { Changes D.tells D.files D.left_since D.moment D.bytes_read D.follows Idx
+            (SealedOrSame (seal_unit generation self.old.pending)) 0 disk.old disk.new }
         ensures cause { HasCause (D.faults disk.old) (D.faults disk.new) result }
     {
         let first = unit_of_words(MAGIC, 2, generation, self.pending);

@@ -1,11 +1,11 @@
-use Rattle.std.proofs.Common.{◌≡◌, ℕ, ◌<◌, ◌≤◌, List}
+use Rattle.std.proofs.Common.{◌≡◌, ℕ, ◌+◌, ◌*◌, ◌<◌, ◌≤◌, List}
 use Rattle.std.specs.Prelude.{IsTrue}
 use Rattle.std.specs.Ordering.{nat_cmp}
 use Rattle.std.specs.BTreeMap.{get}
-use Rattle.std.specs.List.{filter}
+use Rattle.std.specs.List.{filter, sum_by}
 use Rattle.rpm_outside.specs.Files.{unit_at}
-use Rattle.rpm_hindex.specs.Index.{index_in, follow}
-use Rattle.rpm_hindex.specs.Changes.{AreLinks, CanRelink, is_kept}
+use Rattle.rpm_hindex.specs.Index.{index_in, follow, units_at}
+use Rattle.rpm_hindex.specs.inner.Changes.{AreLinks, CanRelink, is_kept}
 use Rattle.rpm_outside.specs.declared.disk.File.TheVariants.{Idx}
 use Rattle.rpm_outside.specs.Looks.{LooksAt}
 use Rattle.rpm_hindex.proofs.Chains.{behind_all}
@@ -20,7 +20,8 @@ invariant-loop-at g l = record {
   so_far : IsTrue g.D.Disk.tells → (done : List ℕ)
       × AreLinks (unit_at (g.D.Disk.files l.initial.disk).idx) (filter (is_kept (λ p. get nat_cmp l.dropped p)) done) l.links.items
       × (follow (index_in l.extent.buckets (g.D.Disk.files l.initial.disk).idx) l.bucket l.from l.from
-      ≡ behind_all done (follow (index_in l.extent.buckets (g.D.Disk.files l.initial.disk).idx) l.bucket l.at l.at));
+      ≡ behind_all done (follow (index_in l.extent.buckets (g.D.Disk.files l.initial.disk).idx) l.bucket l.at l.at))
+      × (g.D.Disk.bytes_read l.disk Idx ≤ g.D.Disk.bytes_read l.initial.disk Idx + 16 * sum_by (units_at (unit_at (g.D.Disk.files l.initial.disk).idx)) done);
 }
 
 abbrev pub decreases-loop-at : goal.decreases-loop-at

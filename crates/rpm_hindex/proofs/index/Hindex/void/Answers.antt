@@ -10,7 +10,8 @@ use Rattle.rpm_hindex.proofs.index.Hindex.void.Goals as goal
 
 pub returns-in_default-clause-changes : goal.returns-in_default-clause-changes
 unfolding blank
-returns-in_default-clause-changes g c = changes_weaker _ _ _ _ _ _ Idx _ VoidOrSame 0 0 _ _ (omega arith) (λ a b t. torn_void blank a b t refl) c.in_default.ensures.changes
+returns-in_default-clause-changes g c = changes_weaker _ _ _ _ _ _ Idx _ VoidOrSame 0 0 _ _ (omega arith) (λ a b t. torn_void blank a b t refl)
+    c.in_default.ensures.changes
 
 pub returns-clause-changes : goal.returns-clause-changes
 unfolding blank
@@ -25,8 +26,10 @@ unfolding blank
 returns-clause-kept g c = λ told.
     let second = ap (λ (s : State). s.second) c.self.view_is in
     let units = ap (λ (s : State). s.units) c.self.view_is in
-    subst (Keeps (g.D.Disk.files c.write_synced.new.disk).idx) (sym (same_state _ blank _ c.args.self.now.second _ (max c.args.self.now.units 1) refl second (c.max-self-inside.ensures ∙ ap (λ (n : ℕ). max n 1) units)))
-    (front_kept blank (g.D.Disk.files c.args.disk.now).idx (g.D.Disk.files c.write_synced.new.disk).idx (c.in-Ok.ensures.written told) c.args.self.now (max c.args.self.now.units 1) (c.requires.keeps told) refl)
+    subst (Keeps (g.D.Disk.files c.write_synced.new.disk).idx) (sym (same_state _ blank _ c.args.self.now.second _ (max c.args.self.now.units 1) refl
+    second (c.max-self-inside.ensures ∙ ap (λ (n : ℕ). max n 1) units)))
+    (front_kept blank (g.D.Disk.files c.args.disk.now).idx (g.D.Disk.files c.write_synced.new.disk).idx (c.in-Ok.ensures.written told) c.args.self.now
+    (max c.args.self.now.units 1) (c.requires.keeps told) refl)
 
 pub returns-clause-voided : goal.returns-clause-voided
 unfolding blank

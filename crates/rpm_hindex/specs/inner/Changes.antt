@@ -16,7 +16,7 @@ use Rattle.rpm_hindex.specs.Words.{word, unit_of_words}
 use Rattle.rpm_hindex.specs.Rows.{Row, times, same_row}
 use Rattle.rpm_hindex.specs.Sizes.{first_record, bucket_count, units_for}
 use Rattle.rpm_hindex.specs.Plans.{HasChanged}
-use Rattle.rpm_hindex.specs.Drafts.{IsImage}
+use Rattle.rpm_hindex.specs.inner.Drafts.{IsImage}
 use Rattle.rpm_hindex.specs.Index.{Index, index_in, chain, is_link, row_at, bucket_unit, all_places, places_of, rows_of, units_at}
 use Rattle.rpm_hindex.specs.Whole.{IsWhole}
 
@@ -151,7 +151,8 @@ pub record Stays (u v : ℕ → List ℕ) (q : ℕ) : Type 0 where
 -- the index of a change has the chains of the file without the places that were dropped
 pub record IsCut (c : Change) (file : Units) : Type 0 where
   pub whole : IsWhole c.records c.live (changing c file)
-  pub chains : (b : ℕ) → b < c.extent.buckets → places_of (changing c file) b ≡ filter (is_kept (λ p. get nat_cmp c.dropped p)) (places_of (index_in c.extent.buckets file) b)
+  pub chains : (b : ℕ) → b < c.extent.buckets → places_of (changing c file) b ≡ filter (is_kept (λ p. get nat_cmp c.dropped p))
+      (places_of (index_in c.extent.buckets file) b)
   pub stays : (q : ℕ) → Contains (all_places (index_in c.extent.buckets file)) q → Stays (unit_at file) (changing c file).unit q
 
 -- the index of a change of which nothing is worked out yet is that of the file
@@ -212,13 +213,6 @@ IsTooLarge rows (IndexFull needed) = (2 ^ 28 < needed) × (needed ≡ units_for 
 IsTooLarge rows DiskFault = Unit {0}
 IsTooLarge rows NoMemory = Unit {0}
 
--- or what some rows need that are those of a file with a change
-abbrev pub IsTooLargeFor : List Row → List Row → List Row → PrepareFault → Type 0
-IsTooLargeFor drops adds old (BadIndex unit) = Unit {0}
-IsTooLargeFor drops adds old (IndexFull needed) = (new : List Row) × HasChanged drops adds old new × (2 ^ 28 < needed) × (needed ≡ units_for new)
-IsTooLargeFor drops adds old DiskFault = Unit {0}
-IsTooLargeFor drops adds old NoMemory = Unit {0}
-
 -- a fault that says nothing of the index
 abbrev pub IsWithout : PrepareFault → Type 0
 IsWithout (BadIndex unit) = ⊥
@@ -233,25 +227,15 @@ IsChainFault said (IndexFull needed) = Unit {0}
 IsChainFault said DiskFault = Unit {0}
 IsChainFault said NoMemory = Unit {0}
 
--- the chains hold more records, or more units, than unit 1 counts
-abbrev pub HoldsMore : ℕ → Units → Type 0
-HoldsMore buckets file =
-    (word 1 (unit_at file 1) < length (all_places (index_in buckets file)))
-    ⊎ (word 2 (unit_at file 1) < sum_by (units_at (unit_at file)) (all_places (index_in buckets file)))
-
--- a fault that names a unit names the fault of a bucket's chain, or unit 1, which counts too little
-abbrev pub IsBad : ℕ → Units → PrepareFault → Type 0
-IsBad buckets file (BadIndex unit) = ((b : ℕ) × (b < buckets) × (chain (index_in buckets file) b ≡ Err unit)) ⊎ ((unit ≡ 1) × HoldsMore buckets file)
-IsBad buckets file (IndexFull needed) = Unit {0}
-IsBad buckets file DiskFault = Unit {0}
-IsBad buckets file NoMemory = Unit {0}
-
 -- a place that counts for so much, where it is kept
 abbrev pub if_kept : (ℕ → Bool) → (ℕ → ℕ) → ℕ → ℕ
 if_kept kept f p = if kept p then f p else 0
 
 -- each bucket's word is a link or as it was, and what unit 1 counts fell no faster than what the chains keep
 pub record IsHonest (c : Change) (file : Units) : Type 0 where
-  pub heads : (b : ℕ) → b < c.extent.buckets → (is_link (changing c file) ((changing c file).head b) ≡ true) ⊎ ((changing c file).head b ≡ (index_in c.extent.buckets file).head b)
-  pub records : word 1 (unit_at file 1) + sum_by (if_kept (is_kept (λ p. get nat_cmp c.dropped p)) (λ p. 1)) (all_places (index_in c.extent.buckets file)) ≤ c.records + length (all_places (index_in c.extent.buckets file))
-  pub live : word 2 (unit_at file 1) + sum_by (if_kept (is_kept (λ p. get nat_cmp c.dropped p)) (units_at (unit_at file))) (all_places (index_in c.extent.buckets file)) ≤ c.live + sum_by (units_at (unit_at file)) (all_places (index_in c.extent.buckets file))
+  pub heads : (b : ℕ) → b < c.extent.buckets → (is_link (changing c file) ((changing c file).head b) ≡ true)
+      ⊎ ((changing c file).head b ≡ (index_in c.extent.buckets file).head b)
+  pub records : word 1 (unit_at file 1) + sum_by (if_kept (is_kept (λ p. get nat_cmp c.dropped p)) (λ p. 1))
+      (all_places (index_in c.extent.buckets file)) ≤ c.records + length (all_places (index_in c.extent.buckets file))
+  pub live : word 2 (unit_at file 1) + sum_by (if_kept (is_kept (λ p. get nat_cmp c.dropped p)) (units_at (unit_at file)))
+      (all_places (index_in c.extent.buckets file)) ≤ c.live + sum_by (units_at (unit_at file)) (all_places (index_in c.extent.buckets file))
