@@ -19,7 +19,16 @@ module _ (gap : ℕ) (l : List Range) (apart : AreApart gap l) where
     apart_remove = record {
       apart = λ j k less in_range.
           let short = length-remove l i lt in
-          grind (arith, below_removed j, below_removed k, above_removed j, above_removed k, apart.apart j k, apart.apart j (k + 1), apart.apart (j + 1) (k + 1));
+          grind (
+            arith,
+            below_removed j,
+            below_removed k,
+            above_removed j,
+            above_removed k,
+            apart.apart j k,
+            apart.apart j (k + 1),
+            apart.apart (j + 1) (k + 1),
+          );
       ranges = λ k in_range.
           let short = length-remove l i lt in
           elim (cases_lt k i) [
@@ -46,13 +55,27 @@ module _ (gap : ℕ) (l : List Range) (apart : AreApart gap l) where
     at_inserted k here = rw here (get_or-insert_at l at r (range 0 0) goes.in_range)
 
     above_inserted : (k : ℕ) → at < k → range_at (insert l at r) k ≡ range_at l (k - 1)
-    above_inserted k above = subst (λ (q : ℕ). range_at (insert l at r) q ≡ range_at l (k - 1)) {x = k - 1 + 1} (omega arith) (get_or-insert_above l at r (range 0 0) (k - 1) (omega arith) goes.in_range)
+    above_inserted k above = subst (λ (q : ℕ). range_at (insert l at r) q ≡ range_at l (k - 1)) {x = k - 1 + 1} (omega arith)
+        (get_or-insert_above l at r (range 0 0) (k - 1) (omega arith) goes.in_range)
 
     pub apart_insert : IsRange r → AreApart gap (insert l at r)
     apart_insert is_range = record {
       apart = λ j k less in_range.
           let long = length-insert l at r goes.in_range in
-          grind (arith, below_inserted j, at_inserted j, above_inserted j, below_inserted k, at_inserted k, above_inserted k, apart.apart j k, apart.apart j (k - 1), apart.apart (j - 1) (k - 1), goes.below j, goes.above (k - 1));
+          grind (
+            arith,
+            below_inserted j,
+            at_inserted j,
+            above_inserted j,
+            below_inserted k,
+            at_inserted k,
+            above_inserted k,
+            apart.apart j k,
+            apart.apart j (k - 1),
+            apart.apart (j - 1) (k - 1),
+            goes.below j,
+            goes.above (k - 1),
+          );
       ranges = λ k in_range.
           let long = length-insert l at r goes.in_range in
           elim (cases_lt k at) [
@@ -79,11 +102,13 @@ pub gap_of_place : (gap : ℕ) (l : List Range) → AreApart gap l → (r : Rang
 gap_of_place gap l apart r at is_range place free = record {
   in_range = place.in_range;
   below = λ i less. elim (cases_lt r.start (end_of (range_at l i))) [
-    | inl meets ↦ absurd (free r.start (record { from = omega arith; below = omega (arith, is_range.filled) }) i (omega (arith, place.in_range)) (record { from = omega (arith, place.below i less); below = meets }))
+    | inl meets ↦ absurd (free r.start (record { from = omega arith; below = omega (arith, is_range.filled) }) i (omega (arith, place.in_range))
+        (record { from = omega (arith, place.below i less); below = meets }))
     | inr ends ↦ omega arith
   ];
   above = λ i more in_range. elim (cases_lt (range_at l i).start (end_of r)) [
-    | inl meets ↦ absurd (free (range_at l i).start (record { from = place.above i more in_range; below = meets }) i in_range (record { from = omega arith; below = let filled = apart.ranges i in_range in omega (arith, filled.filled) }))
+    | inl meets ↦ absurd (free (range_at l i).start (record { from = place.above i more in_range; below = meets }) i in_range
+        (record { from = omega arith; below = let filled = apart.ranges i in_range in omega (arith, filled.filled) }))
     | inr ends ↦ omega arith
   ];
 }

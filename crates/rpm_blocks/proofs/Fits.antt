@@ -28,7 +28,8 @@ module _ (l : List Range) (apart : AreApart 1 l) (count from k block : ℕ) (pas
         none = λ b more less fits. elim (cases_lt b block) [
           | inl before ↦ passed.none b more before fits
           | inr behind ↦ elim (cases_lt b (range_at l k).start) [
-            | inl below ↦ fits.free (range_at l k).start (record { from = omega arith; below = omega arith }) k lt (record { from = omega arith; below = omega (arith, here.filled) })
+            | inl below ↦ fits.free (range_at l k).start (record { from = omega arith; below = omega arith }) k lt
+                (record { from = omega arith; below = omega (arith, here.filled) })
             | inr inside ↦ fits.free b (record { from = omega arith; below = omega arith }) k lt (record { from = inside; below = omega arith })
           ]
         ];
@@ -42,8 +43,10 @@ module _ (l : List Range) (apart : AreApart 1 l) (count from k block : ℕ) (pas
   ]
 
 -- lists that have the same blocks from `from` on have the same places
-pub least_same : (l m : List Range) (count from : ℕ) → ((b : ℕ) → from ≤ b → IsUnused l b → IsUnused m b) → ((b : ℕ) → from ≤ b → IsUnused m b → IsUnused l b) → (place : Option ℕ) → IsLeastFit l count from place → IsLeastFit m count from place
-least_same l m count from there back None none = λ b more fits. none b more (record { free = λ c has. back c (omega (arith, has.from)) (fits.free c has); ends = fits.ends })
+pub least_same : (l m : List Range) (count from : ℕ) → ((b : ℕ) → from ≤ b → IsUnused l b → IsUnused m b)
+    → ((b : ℕ) → from ≤ b → IsUnused m b → IsUnused l b) → (place : Option ℕ) → IsLeastFit l count from place → IsLeastFit m count from place
+least_same l m count from there back None none = λ b more fits. none b more
+    (record { free = λ c has. back c (omega (arith, has.from)) (fits.free c has); ends = fits.ends })
 least_same l m count from there back (Some place) (least, fits, none) = (
   least,
   record { free = λ c has. there c (omega (arith, has.from)) (fits.free c has); ends = fits.ends },

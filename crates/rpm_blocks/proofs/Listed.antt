@@ -11,7 +11,8 @@ use Rattle.rpm_blocks.proofs.Cuts.{free_of_gap}
 use Rattle.rpm_blocks.proofs.Edits.{gap_of_place, gap_removed, apart_insert}
 
 -- a range that is put in before those that begin above it, and behind the others
-pub insert_is_with_range : (l : List Range) (at : ℕ) (r : Range) → at ≤ length l → ((i : ℕ) → i < at → (range_at l i).start ≤ r.start) → ((i : ℕ) → at ≤ i → i < length l → r.start < (range_at l i).start) → insert l at r ≡ with_range r l
+pub insert_is_with_range : (l : List Range) (at : ℕ) (r : Range) → at ≤ length l → ((i : ℕ) → i < at → (range_at l i).start ≤ r.start)
+    → ((i : ℕ) → at ≤ i → i < length l → r.start < (range_at l i).start) → insert l at r ≡ with_range r l
 insert_is_with_range [] zero r in_range below above = refl
 insert_is_with_range (x ∷ l) zero r in_range below above = grind (arith, nat_tests, above 0 (omega arith) (omega arith))
 insert_is_with_range [] (suc at) r in_range below above = absurd (omega arith)
@@ -27,7 +28,8 @@ all_kept (x ∷ l) start others =
     grind (arith, nat_tests, others 0 (omega arith), rest)
 
 -- only the range at place i does
-pub remove_is_without : (l : List Range) (i start : ℕ) → i < length l → (range_at l i).start ≡ start → ((j : ℕ) → j < length l → j ≢ i → (range_at l j).start ≢ start) → remove l i ≡ without start l
+pub remove_is_without : (l : List Range) (i start : ℕ) → i < length l → (range_at l i).start ≡ start
+    → ((j : ℕ) → j < length l → j ≢ i → (range_at l j).start ≢ start) → remove l i ≡ without start l
 remove_is_without [] i start lt here others = absurd (omega arith)
 remove_is_without (x ∷ l) zero start lt here others =
     let rest = all_kept l start (λ j less. others (suc j) (omega arith) (omega arith)) in
@@ -46,7 +48,13 @@ module _ (l : List Range) (apart : AreApart 0 l) (start at : ℕ) (place : IsPla
 
   pub found_here : (range_at l at).start ≡ start
   found_here = elim (cases_lt at begins.0) [
-    | inl before ↦ let filled = apart.ranges at found_in_range in absurd (omega (arith, filled.filled, apart.apart at begins.0 before begins.1, place.above at (omega arith) found_in_range, begins.2))
+    | inl before ↦ let filled = apart.ranges at found_in_range in absurd (omega (
+      arith,
+      filled.filled,
+      apart.apart at begins.0 before begins.1,
+      place.above at (omega arith) found_in_range,
+      begins.2,
+    ))
     | inr from ↦ elim (cases_lt begins.0 at) [
       | inl less ↦ absurd (omega (arith, place.below begins.0 less, begins.2))
       | inr more ↦ let same : at ≡ begins.0 = omega arith in ap (λ k. (range_at l k).start) same ∙ begins.2
@@ -76,4 +84,5 @@ module _ (l : List Range) (apart : AreApart 0 l) (r : Range) (at : ℕ) (is_rang
   inserted_apart = apart_insert 0 l apart at r gap is_range
 
   pub inserted_is_with_range : insert l at r ≡ with_range r l
-  inserted_is_with_range = insert_is_with_range l at r place.in_range (λ i less. omega (arith, place.below i less)) (λ i more lt. omega (arith, gap.above i more lt, is_range.filled))
+  inserted_is_with_range = insert_is_with_range l at r place.in_range (λ i less. omega (arith, place.below i less))
+      (λ i more lt. omega (arith, gap.above i more lt, is_range.filled))

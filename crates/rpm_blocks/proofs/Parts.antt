@@ -17,7 +17,8 @@ starts_rise l apart = IsNonDecreasingBy-from_default (λ r. r.start) l (range 0 
     grind (arith, apart.apart i j, λ (same : i ≡ j). ap (λ k. (range_at l k).start) same))
 
 -- and where it ends is the place of the block
-pub place_of_point : (l : List Range) (block at : ℕ) → at ≤ length l → IsPartitionPoint (λ r. ltb r.start block ≡ true) (λ r. ltb r.start block ≡ false) l at → IsPlace l block at
+pub place_of_point : (l : List Range) (block at : ℕ) → at ≤ length l → IsPartitionPoint (λ r. ltb r.start block ≡ true)
+    (λ r. ltb r.start block ≡ false) l at → IsPlace l block at
 place_of_point l block at in_range point = record {
   in_range = in_range;
   below = λ i less. let passes = point.0 i (range 0 0) (omega arith) less in grind (arith, nat_tests);
@@ -34,7 +35,8 @@ module _ (l : List Range) (apart : AreApart 1 l) (i : ℕ) (lt : i < length l) (
   joined_below starts touch ends =
       let m = remove l i in
       let taken = same_cons r l (x ∷ m) (same_remove l i x lt is) in
-      same_trans (r ∷ l) (r ∷ x ∷ m) (whole ∷ m) taken (same_trans (r ∷ x ∷ m) (x ∷ r ∷ m) (whole ∷ m) (same_swap r x m) (same_joined x r whole m starts touch ends))
+      same_trans (r ∷ l) (r ∷ x ∷ m) (whole ∷ m) taken (same_trans (r ∷ x ∷ m) (x ∷ r ∷ m) (whole ∷ m) (same_swap r x m)
+      (same_joined x r whole m starts touch ends))
 
   -- and so is the run above
   pub joined_above : r.start ≡ whole.start → end_of r ≡ x.start → end_of x ≡ end_of whole → HaveSameBlocks (r ∷ l) (whole ∷ remove l i)

@@ -51,7 +51,8 @@ pub same_swap : (r s : Range) (l : List Range) → HaveSameBlocks (r ∷ s ∷ l
 same_swap r s l = record { there = swapped r s l; back = swapped s r l }
 
 -- two ranges that touch have the blocks of one
-pub same_joined : (low high whole : Range) (l : List Range) → low.start ≡ whole.start → end_of low ≡ high.start → end_of high ≡ end_of whole → HaveSameBlocks (low ∷ high ∷ l) (whole ∷ l)
+pub same_joined : (low high whole : Range) (l : List Range) → low.start ≡ whole.start → end_of low ≡ high.start → end_of high ≡ end_of whole
+    → HaveSameBlocks (low ∷ high ∷ l) (whole ∷ l)
 same_joined low high whole l starts touch ends = record {
   there = λ b h.
       let tail = unused_tail low (high ∷ l) b h in

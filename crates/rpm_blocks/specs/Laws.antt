@@ -57,7 +57,11 @@ pub without_keeps : (start : ℕ) (x : Range) (l : List Range) → x.start ≢ s
 without_keeps start x [] differs h = absurd (omega (arith, h.1))
 without_keeps start x (s ∷ rest) differs h =
     let P : Bool → Type 0 = λ b. (s.start == start) ≡ b → Contains (cond (not b) (s ∷ without start rest) (without start rest)) x in
-    let by_case : (b : Bool) → P b = λ b. elim b as P [ true ↦ λ same. gone (without_keeps start x rest differs) same h | false ↦ λ _. kept (without_keeps start x rest differs) h ] in
+    let by_case : (b : Bool) → P b = λ b. elim b as P [
+      | true ↦ λ same. gone (without_keeps start x rest differs) same h
+      | false
+          ↦ λ _. kept (without_keeps start x rest differs) h
+    ] in
     by_case (s.start == start) refl
   where
     kept : (Contains rest x → Contains (without start rest) x) → Contains (s ∷ rest) x → Contains (s ∷ without start rest) x
@@ -72,14 +76,16 @@ without_keeps start x (s ∷ rest) differs h =
 pub without_only : (start : ℕ) (x : Range) (l : List Range) → Contains (without start l) x → (x.start ≢ start) × Contains l x
 without_only start x [] h = absurd (omega (arith, h.1))
 without_only start x (s ∷ rest) h =
-    let P : Bool → Type 0 = λ b. (s.start == start) ≡ b → Contains (cond (not b) (s ∷ without start rest) (without start rest)) x → (x.start ≢ start) × Contains (s ∷ rest) x in
+    let P : Bool → Type 0 = λ b. (s.start == start) ≡ b → Contains (cond (not b) (s ∷ without start rest) (without start rest)) x → (x.start ≢ start)
+    × Contains (s ∷ rest) x in
     let by_case : (b : Bool) → P b = λ b. elim b as P [ true ↦ λ _. gone (without_only start x rest) | false ↦ kept (without_only start x rest) ] in
     by_case (s.start == start) refl h
   where
     gone : (Contains (without start rest) x → (x.start ≢ start) × Contains rest x) → Contains (without start rest) x → (x.start ≢ start) × Contains (s ∷ rest) x
     gone again h = ((again h).0, behind s x rest (again h).1)
 
-    kept : (Contains (without start rest) x → (x.start ≢ start) × Contains rest x) → (s.start == start) ≡ false → Contains (s ∷ without start rest) x → (x.start ≢ start) × Contains (s ∷ rest) x
+    kept : (Contains (without start rest) x → (x.start ≢ start) × Contains rest x) → (s.start == start) ≡ false → Contains (s ∷ without start rest) x
+        → (x.start ≢ start) × Contains (s ∷ rest) x
     kept again differs (zero, lt, is) = (λ same. eqb-false s.start start differs (ap (λ (y : Range). y.start) is ∙ same), (0, omega arith, is))
     kept again differs (suc i, lt, is) = gone again (i, omega arith, is)
 

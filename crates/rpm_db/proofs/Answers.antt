@@ -25,7 +25,7 @@ use Rattle.rpm_db.specs.declared.verify.Verdict.TheVariants.{BadHeader}
 use Rattle.rpm_db.specs.State.{package_of, packages}
 use Rattle.rpm_db.specs.Database.{Database, IsNext, holds}
 use Rattle.rpm_db.specs.Answers.{ReadIs}
-use Rattle.rpm_db.specs.Laws.{get-packages, is_there}
+use Rattle.rpm_db.specs.inner.Laws.{get-packages, is_there}
 use Rattle.rpm_db.specs.Verdicts.{verdict, verdict_of}
 
 -- ---- a blob
@@ -45,7 +45,8 @@ next_is there held n (Some m) same next = (next.0, same m ∙ next.1, λ k a b. 
 
 -- ---- a verdict
 
-broken_is : (f : Option (Option Frame)) → option_map (option_map checksum_holds) f ≡ Some None → verdict_of (option_map (option_map blob_in) f) (option_map (option_map checksum_holds) f) ≡ Some BadHeader
+broken_is : (f : Option (Option Frame)) → option_map (option_map checksum_holds) f ≡ Some None
+    → verdict_of (option_map (option_map blob_in) f) (option_map (option_map checksum_holds) f) ≡ Some BadHeader
 broken_is None is = absurd cc
 broken_is (Some None) is = refl
 broken_is (Some (Some frame)) is = absurd cc

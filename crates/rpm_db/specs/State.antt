@@ -1,5 +1,5 @@
 -- What a store says: the packages and the number field.
-use Rattle.std.specs.Prelude.{ℕ, List, map, Option, Some, None, Result, Ok, Err}
+use Rattle.std.specs.Prelude.{ℕ, List, map, filter, nat_lt, Option, Some, None, Result, Ok, Err}
 use Rattle.std.specs.Ordering.{nat_cmp}
 use Rattle.std.specs.FinMap.{FinMap, entries, from_entries}
 use Rattle.rpm_header.specs.declared.form.HeaderFault.{HeaderFault}
@@ -34,7 +34,6 @@ pub record State : Type 0 where
 abbrev pub state : Units → Store → State
 state file store = record { packages = packages file store; field = store.field }
 
--- the bytes that a package gives
-abbrev pub bytes_in : Package → Option (List ℕ)
-bytes_in (Good bytes) = Some bytes
-bytes_in Bad = None
+-- the entries of a map with a number above n
+abbrev pub above : {X : Type 0} → ℕ → List (ℕ × X) → List (ℕ × X)
+above n es = filter (λ e. nat_lt n e.0) es

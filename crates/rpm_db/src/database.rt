@@ -4,6 +4,7 @@ ghost use Rattle.std.specs.Prelude.{◌≡◌, ℕ, ◌+◌, ◌^◌, ◌≤◌,
 ghost use Rattle.std.specs.FinMap as finite;
 ghost use Rattle.rpm_outside.specs.Files.{Units};
 ghost use Rattle.rpm_outside.specs.Causes.{HasCauseAt};
+ghost use Rattle.rpm_outside.specs.declared.disk.File.TheVariants.{Pkg};
 ghost use Rattle.rpm_outside.specs.Looks.{Looks};
 ghost use Rattle.rpm_pkgdb.specs.Store.{store};
 ghost use Rattle.rpm_pkgdb.specs.Costs.{opening_cost};
@@ -49,7 +50,7 @@ impl Db {
         ensures unindexed { IfOk result (λ db. db.indexed ≡ false) }
         ensures runs { IfOk result (λ db. db.stopped ≡ false) }
         ensures reads { IsTrue D.tells → D.bytes_read disk.new File.Pkg ≤ D.bytes_read disk.old File.Pkg + opening_cost (D.files disk.old).pkg }
-        ensures looks { Looks D.tells D.files D.left_since D.moment D.bytes_read D.follows (2 ^ 32) disk.old disk.new }
+        ensures looks { Looks D.tells D.files D.left_since D.moment D.bytes_read D.follows Pkg (2 ^ 32) disk.old disk.new }
         ensures cause { HasCauseAt (result ≡ Err DbOpenFault.DiskFault) (D.faults disk.old) (D.faults disk.new) }
     {
         match PkgDb::open(alloc, disk) {

@@ -7,6 +7,8 @@
 mod database;
 mod opening;
 mod reading;
+#[cfg(test)]
+mod tests;
 mod verify;
 
 pub use database::Db;

@@ -3,6 +3,7 @@
 ghost use Rattle.std.specs.Prelude.{◌≡◌, ℕ, ◌+◌, ◌≤◌, ◌↔◌, IsTrue, false, Ok, Err, IfOk, MatchResult};
 ghost use Rattle.std.specs.FinMap as finite;
 ghost use Rattle.rpm_outside.specs.Causes.{HasCauseAt};
+ghost use Rattle.rpm_outside.specs.declared.disk.File.TheVariants.{Pkg};
 ghost use Rattle.rpm_outside.specs.Looks.{Looks};
 ghost use Rattle.rpm_db.specs.State.{state, package_of};
 ghost use Rattle.rpm_db.specs.Database.{Keeps, holds, cost};
@@ -44,7 +45,7 @@ impl Db {
         ensures kept { IsTrue D.tells → Keeps (D.files disk.new).pkg self.now }
         ensures told { IsTrue D.tells → ReadIs (finite.get (state (D.files disk.old).pkg self.now.store).packages n) result }
         ensures absent { (result ≡ Err GetFault.NoSuch) ↔ (holds n self.now ≡ false) }
-        ensures looks { Looks D.tells D.files D.left_since D.moment D.bytes_read D.follows (cost n self.now) disk.old disk.new }
+        ensures looks { Looks D.tells D.files D.left_since D.moment D.bytes_read D.follows Pkg (cost n self.now) disk.old disk.new }
         ensures cause { HasCauseAt (result ≡ Err GetFault.DiskFault) (D.faults disk.old) (D.faults disk.new) }
     {
         self.store.get(alloc, disk, n)
@@ -66,7 +67,7 @@ impl Db {
         ensures kept { IsTrue D.tells → Keeps (D.files disk.new).pkg self.now }
         ensures told { IsTrue D.tells → GetIs (finite.get (state (D.files disk.old).pkg self.now.store).packages n) result }
         ensures absent { (result ≡ Err GetFault.NoSuch) ↔ (holds n self.now ≡ false) }
-        ensures looks { Looks D.tells D.files D.left_since D.moment D.bytes_read D.follows (cost n self.now) disk.old disk.new }
+        ensures looks { Looks D.tells D.files D.left_since D.moment D.bytes_read D.follows Pkg (cost n self.now) disk.old disk.new }
         ensures cause { HasCauseAt (result ≡ Err GetFault.DiskFault) (D.faults disk.old) (D.faults disk.new) }
     {
         match self.read(alloc, disk, n) {

@@ -6,6 +6,7 @@ ghost use Rattle.rpm_header.specs.Header.{header};
 ghost use Rattle.rpm_header.specs.Digest.{immutable_digest};
 ghost use Rattle.rpm_tags.specs.Value.{first_text};
 ghost use Rattle.rpm_outside.specs.Causes.{HasCauseAt};
+ghost use Rattle.rpm_outside.specs.declared.disk.File.TheVariants.{Pkg};
 ghost use Rattle.rpm_outside.specs.Looks.{Looks};
 ghost use Rattle.rpm_db.specs.Database.{Keeps, holds, cost};
 ghost use Rattle.rpm_db.specs.Verdicts.{verdict, header_verdict, differs, is_digest_wrong};
@@ -82,7 +83,7 @@ impl Db {
         ensures kept { IsTrue D.tells → Keeps (D.files disk.new).pkg self.now }
         ensures told { IsTrue D.tells → VerifyIs (verdict (D.files disk.old).pkg self.now n) result }
         ensures absent { (result ≡ Err GetFault.NoSuch) ↔ (holds n self.now ≡ false) }
-        ensures looks { Looks D.tells D.files D.left_since D.moment D.bytes_read D.follows (2 * cost n self.now) disk.old disk.new }
+        ensures looks { Looks D.tells D.files D.left_since D.moment D.bytes_read D.follows Pkg (2 * cost n self.now) disk.old disk.new }
         ensures cause { HasCauseAt (result ≡ Err GetFault.DiskFault) (D.faults disk.old) (D.faults disk.new) }
     {
         let holds = match self.store.checksum_holds(alloc, disk, n) {

@@ -12,7 +12,9 @@ front_put a k count xs ys within few =
     ∙ ap (λ (zs : List ℕ). take a xs ++ zs) (take-append-le count ys (post_of a k xs) few)
 
 -- and what stands behind them was cut off
-pub front_kept : (a k count size : ℕ) (xs ys zs : List ℕ) → a ≤ length xs → count ≤ length ys → a + count ≤ size → take (a + count) (take size (put_mid a k xs ys ++ zs)) ≡ take a xs ++ take count ys
+pub front_kept : (a k count size : ℕ) (xs ys zs : List ℕ) → a ≤ length xs → count ≤ length ys → a + count ≤ size
+    → take (a + count) (take size (put_mid a k xs ys ++ zs)) ≡ take a xs ++ take count ys
 front_kept a k count size xs ys zs within few inside =
-    let long : a + count ≤ length (put_mid a k xs ys) = omega (arith, length-append (take a xs) (ys ++ post_of a k xs), length-append ys (post_of a k xs), length-take-le a xs within) in
+    let long : a + count ≤ length (put_mid a k xs ys) =
+    omega (arith, length-append (take a xs) (ys ++ post_of a k xs), length-append ys (post_of a k xs), length-take-le a xs within) in
     take-take (a + count) size (put_mid a k xs ys ++ zs) inside ∙ take-append-le (a + count) (put_mid a k xs ys) zs long ∙ front_put a k count xs ys within few

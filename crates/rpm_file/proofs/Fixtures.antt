@@ -81,7 +81,9 @@ joined =
     ∷ 97 ∷ 0 ∷ 0 ∷ 0 ∷ 0 ∷ 0 ∷ 0 ∷ 88 ∷ []
 
 whole : package_header file ≡ Ok (record { header = record { blob = joined; entries = name ∷ size 257 ∷ [] }; rest = 9 ∷ [] })
-unfolding file lead signature main name size joined package_header behind_lead headed front_header size_in behind_padding behind_signature merged dribble dribbled data_from index_from index_bytes offset_of bytes_in header header_of entries entry_of entry_fault fault_at number_at numbers texts are_ended
+unfolding file lead signature main name size joined package_header behind_lead headed front_header size_in behind_padding behind_signature merged
+    dribble dribbled data_from index_from index_bytes offset_of bytes_in header header_of entries entry_of entry_fault fault_at number_at numbers
+    texts are_ended
 whole = refl
 
 short_lead : package_header (replicate 95 0) ≡ Err of_file.Short
@@ -97,14 +99,17 @@ unfolding lead package_header behind_lead headed front_header number_at
 no_signature = refl
 
 no_padding : package_header (lead 5 ++ signature ++ replicate 3 0) ≡ Err of_file.Short
-unfolding lead signature package_header behind_lead headed front_header size_in behind_padding behind_signature header header_of entries entry_of entry_fault fault_at number_at numbers texts are_ended
+unfolding lead signature package_header behind_lead headed front_header size_in behind_padding behind_signature header header_of entries entry_of
+    entry_fault fault_at number_at numbers texts are_ended
 no_padding = refl
 
 no_main : package_header (lead 5 ++ signature ++ replicate 4 0 ++ replicate 16 0) ≡ Err of_file.BadMagic
-unfolding lead signature package_header behind_lead headed front_header size_in behind_padding behind_signature header header_of entries entry_of entry_fault fault_at number_at numbers texts are_ended
+unfolding lead signature package_header behind_lead headed front_header size_in behind_padding behind_signature header header_of entries entry_of
+    entry_fault fault_at number_at numbers texts are_ended
 no_main = refl
 
-bad_signature : package_header (lead 5 ++ magic ++ 0 ∷ 0 ∷ 0 ∷ 1 ∷ 0 ∷ 0 ∷ 0 ∷ 0 ∷ 0 ∷ 0 ∷ 3 ∷ 232 ∷ 0 ∷ 0 ∷ 0 ∷ 10 ∷ replicate 8 0) ≡ Err (of_file.Signature (of_header.BadType 0))
+bad_signature : package_header (lead 5 ++ magic ++ 0 ∷ 0 ∷ 0 ∷ 1 ∷ 0 ∷ 0 ∷ 0 ∷ 0 ∷ 0 ∷ 0 ∷ 3 ∷ 232 ∷ 0 ∷ 0 ∷ 0 ∷ 10 ∷ replicate 8 0)
+    ≡ Err (of_file.Signature (of_header.BadType 0))
 unfolding lead package_header behind_lead headed front_header size_in header header_of entries entry_of entry_fault fault_at number_at numbers texts are_ended
 bad_signature = refl
 

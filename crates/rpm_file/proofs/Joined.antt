@@ -10,10 +10,12 @@ use Rattle.rpm_file.specs.Browsing.{left}
 use Rattle.rpm_file.specs.List.{front_header}
 use Rattle.rpm_file.specs.Merging.{merged}
 use Rattle.rpm_file.specs.Package.{behind_lead, Headed, with_rest, or_fault_in, headed, headed_of, behind_padding, joined_by, main_at, behind_signature, after_signature, signature_at, package_header}
-use Rattle.rpm_file.specs.Answers.{IsFileFault, AnswersMade, AnswersBy}
+use Rattle.rpm_file.specs.Answers.{IsFileFault, AnswersBy}
+use Rattle.rpm_file.specs.inner.Parts.{AnswersMade}
 
 -- a fault that ends what goes on is the fault of the whole
-pub passed : {X Y : Type 0} (found : Result X FileFault) (whole : Result Y FileFault) (e : FileFault) → ((f : FileFault) → found ≡ Err f → whole ≡ Err f) → IsFileFault found e → IsFileFault whole e
+pub passed : {X Y : Type 0} (found : Result X FileFault) (whole : Result Y FileFault) (e : FileFault)
+    → ((f : FileFault) → found ≡ Err f → whole ≡ Err f) → IsFileFault found e → IsFileFault whole e
 passed found whole fault.Short on is = on fault.Short is
 passed found whole fault.NotAPackage on is = on fault.NotAPackage is
 passed found whole fault.BadMagic on is = on fault.BadMagic is
@@ -24,7 +26,8 @@ passed found whole fault.ReadFault on is = tt
 passed found whole fault.NoMemory on is = tt
 
 -- a header with its magic
-headed_is : (p : Part) (bytes blob rest : List ℕ) (r : Result Header HeaderFault) → front_header bytes ≡ Ok (record { blob = blob; rest = rest }) → r ≡ header blob → headed p bytes ≡ with_rest (or_fault_in p r) rest
+headed_is : (p : Part) (bytes blob rest : List ℕ) (r : Result Header HeaderFault) → front_header bytes ≡ Ok (record { blob = blob; rest = rest })
+    → r ≡ header blob → headed p bytes ≡ with_rest (or_fault_in p r) rest
 unfolding headed
 headed_is p bytes blob rest r front is = ap (headed_of p) front ∙ ap (λ (h : Result Header HeaderFault). with_rest (or_fault_in p h) rest) (sym is)
 
@@ -38,17 +41,20 @@ behind_is : (s : Header) (bytes rest : List ℕ) → behind_padding s.blob bytes
 unfolding behind_signature
 behind_is s bytes rest is = ap (main_at s.entries) is
 
-pub main_fault : (s : Header) (bytes rest : List ℕ) (f : FileFault) → behind_padding s.blob bytes ≡ Ok rest → headed part.Main rest ≡ Err f → behind_signature s bytes ≡ Err f
+pub main_fault : (s : Header) (bytes rest : List ℕ) (f : FileFault) → behind_padding s.blob bytes ≡ Ok rest → headed part.Main rest ≡ Err f
+    → behind_signature s bytes ≡ Err f
 main_fault s bytes rest f skipped is = behind_is s bytes rest skipped ∙ ap (joined_by s.entries) is
 
-module _ (s : Header) (bytes mid blob rest : List ℕ) (skipped : behind_padding s.blob bytes ≡ Ok mid) (front : front_header mid ≡ Ok (record { blob = blob; rest = rest })) where
+module _ (s : Header) (bytes mid blob rest : List ℕ) (skipped : behind_padding s.blob bytes ≡ Ok mid)
+    (front : front_header mid ≡ Ok (record { blob = blob; rest = rest })) where
   pub main_bad : (f : HeaderFault) → Err f ≡ header blob → behind_signature s bytes ≡ Err (fault.Main f)
   main_bad f is = main_fault s bytes mid (fault.Main f) skipped (headed_is part.Main mid blob rest (Err f) front is)
 
   pub main_good : (main : Header) → Ok main ≡ header blob → behind_signature s bytes ≡ with_rest (merged s.entries main) rest
   main_good main is = behind_is s bytes mid skipped ∙ ap (joined_by s.entries) (headed_is part.Main mid blob rest (Ok main) front is)
 
-pub made_answers : (found : List ℕ → Result Headed FileFault) (made : Result Header FileFault) (old new : Option (List ℕ)) (r : Result Header FileFault) → found (left old) ≡ with_rest made (left new) → AnswersMade made r → AnswersBy found old new r
+pub made_answers : (found : List ℕ → Result Headed FileFault) (made : Result Header FileFault) (old new : Option (List ℕ))
+    (r : Result Header FileFault) → found (left old) ≡ with_rest made (left new) → AnswersMade made r → AnswersBy found old new r
 made_answers found made old new (Ok h) is a = is ∙ ap (λ (m : Result Header FileFault). with_rest m (left new)) a
 made_answers found made old new (Err fault.TooLarge) is a = is ∙ ap (λ (m : Result Header FileFault). with_rest m (left new)) a
 made_answers found made old new (Err fault.NoMemory) is a = tt
@@ -91,6 +97,7 @@ module _ (bytes mid blob rest : List ℕ) (lead : behind_lead bytes ≡ Ok mid) 
   signature_good s is = file_is bytes mid lead ∙ ap after_signature (headed_is part.Signature mid blob rest (Ok s) front is)
 
 -- what goes on behind the signature header is the whole
-pub whole_answers : (s : Header) (old mid new : Option (List ℕ)) (r : Result Header FileFault) → package_header (left old) ≡ behind_signature s (left mid) → AnswersBy (behind_signature s) mid new r → AnswersBy package_header old new r
+pub whole_answers : (s : Header) (old mid new : Option (List ℕ)) (r : Result Header FileFault)
+    → package_header (left old) ≡ behind_signature s (left mid) → AnswersBy (behind_signature s) mid new r → AnswersBy package_header old new r
 whole_answers s old mid new (Ok h) same a = same ∙ a
 whole_answers s old mid new (Err e) same a = passed (behind_signature s (left mid)) (package_header (left old)) e (λ f is. same ∙ is) a

@@ -9,7 +9,7 @@ use Rattle.rpm_header.specs.Digest.{magic}
 use Rattle.rpm_file.specs.declared.fault.ListFault.{ListFault}
 use Rattle.rpm_file.specs.declared.fault.ListFault.TheVariants as fault
 use Rattle.rpm_file.specs.Browsing.{left}
-use Rattle.rpm_file.specs.Filling.{Fills, IsOutside}
+use Rattle.rpm_file.specs.inner.Filling.{Fills, IsOutside}
 use Rattle.rpm_file.specs.List.{has_magic, entries_in, data_in, size_in, sized, front_header, some_found, list_head}
 use Rattle.rpm_file.specs.Answers.{IsListFault}
 
@@ -34,7 +34,12 @@ magic_longer xs ys long = ap (pointwise nat_eq magic) (take-append-le 8 xs ys lo
 
 pub size_longer : (intro more : List ℕ) → length intro ≡ 16 → size_in (intro ++ more) ≡ size_in intro
 unfolding size_in
-size_longer intro more long = rw (magic_longer intro more (omega arith), number_longer w32 8 intro more (omega arith) (omega arith), number_longer w32 12 intro more (omega arith) (omega arith)) refl
+size_longer intro more long = rw (
+  magic_longer intro more (omega arith),
+  number_longer w32 8 intro more (omega arith) (omega arith),
+  number_longer w32
+      12 intro more (omega arith) (omega arith),
+) refl
 
 -- ---- the two pieces
 
@@ -48,26 +53,51 @@ pub bad_front : (intro more : List ℕ) (e : ListFault) → length intro ≡ 16 
 bad_front intro more e long is = front_sized intro more (Err e) long is
 
 -- what stands behind the magic is the blob and what follows it
-behind_magic : (intro bytes blob more rest : List ℕ) → length intro ≡ 16 → bytes ≡ more ++ rest → blob ≡ drop 8 intro ++ more → drop 8 (intro ++ bytes) ≡ blob ++ rest
+behind_magic : (intro bytes blob more rest : List ℕ) → length intro ≡ 16 → bytes ≡ more ++ rest → blob ≡ drop 8 intro ++ more
+    → drop 8 (intro ++ bytes) ≡ blob ++ rest
 behind_magic intro bytes blob more rest long whole is =
     drop-append-le 8 intro bytes (omega arith)
     ∙ ap (λ (xs : List ℕ). drop 8 intro ++ xs) whole
     ∙ sym (append_assoc (drop 8 intro) more rest)
     ∙ sym (ap (λ (xs : List ℕ). xs ++ rest) is)
 
-pub whole_front : (intro bytes blob more rest : List ℕ) (size : ℕ) → length intro ≡ 16 → Ok size ≡ size_in intro → bytes ≡ more ++ rest → blob ≡ drop 8 intro ++ more → length blob ≡ size
+pub whole_front : (intro bytes blob more rest : List ℕ) (size : ℕ) → length intro ≡ 16 → Ok size ≡ size_in intro → bytes ≡ more ++ rest
+    → blob ≡ drop 8 intro ++ more → length blob ≡ size
     → front_header (intro ++ bytes) ≡ Ok (record { blob = blob; rest = rest })
 whole_front intro bytes blob more rest size long is whole blob_is number =
     let behind = behind_magic intro bytes blob more rest long whole blob_is in
-    let there : nat_lt (length (intro ++ bytes)) (8 + size) ≡ false = le-ltb (length (intro ++ bytes)) (8 + size) (omega (arith, length-append intro bytes, ap length whole, length-append more rest, ap length blob_is, length-append (drop 8 intro) more, length-drop 8 intro)) in
+    let there : nat_lt (length (intro ++ bytes)) (8 + size) ≡ false =
+    le-ltb (length (intro ++ bytes)) (8 + size)
+    (omega (
+      arith,
+      length-append intro bytes,
+      ap length whole,
+      length-append more rest,
+      ap length blob_is,
+      length-append (drop 8 intro) more,
+      length-drop 8 intro,
+    )) in
     let own : take size (drop 8 (intro ++ bytes)) ≡ blob = ap (take size) behind ∙ take_at blob rest size number in
     let left_over : drop (8 + size) (intro ++ bytes) ≡ rest = sym (drop-drop size 8 (intro ++ bytes)) ∙ ap (drop size) behind ∙ drop_at blob rest size number in
     front_sized intro bytes (Ok size) long is ∙ rw (there, own, left_over) refl
 
-pub cut_front : (intro bytes blob more rest : List ℕ) (size : ℕ) → length intro ≡ 16 → Ok size ≡ size_in intro → bytes ≡ more ++ rest → blob ≡ drop 8 intro ++ more → length blob < size → rest ≡ []
+pub cut_front : (intro bytes blob more rest : List ℕ) (size : ℕ) → length intro ≡ 16 → Ok size ≡ size_in intro → bytes ≡ more ++ rest
+    → blob ≡ drop 8 intro ++ more → length blob < size → rest ≡ []
     → front_header (intro ++ bytes) ≡ Err fault.Short
 cut_front intro bytes blob more rest size long is whole blob_is few none =
-    let short : nat_lt (length (intro ++ bytes)) (8 + size) ≡ true = lt-ltb (length (intro ++ bytes)) (8 + size) (omega (arith, length-append intro bytes, ap length whole, length-append more rest, ap length none, ap length blob_is, length-append (drop 8 intro) more, length-drop 8 intro)) in
+    let short : nat_lt (length (intro ++ bytes)) (8 + size) ≡ true =
+    lt-ltb (length (intro ++ bytes)) (8 + size)
+    (omega (
+      arith,
+      length-append intro bytes,
+      ap length whole,
+      length-append more rest,
+      ap length none,
+      ap length blob_is,
+      length-append
+          (drop 8 intro) more,
+      length-drop 8 intro,
+    )) in
     front_sized intro bytes (Ok size) long is ∙ rw short refl
 
 -- ---- where a list begins
@@ -102,7 +132,8 @@ told_fault found fault.TooManyEntries is = is
 told_fault found fault.TooMuchData is = is
 
 -- the two lengths alone never say that a read failed
-no_read_fault : (a b c : Bool) (n : ℕ) (r : Result ℕ ListFault) → r ≡ (if a then Err fault.BadMagic else if b then Err fault.TooManyEntries else if c then Err fault.TooMuchData else Ok n) → r ≡ Err fault.ReadFault → ⊥
+no_read_fault : (a b c : Bool) (n : ℕ) (r : Result ℕ ListFault)
+    → r ≡ (if a then Err fault.BadMagic else if b then Err fault.TooManyEntries else if c then Err fault.TooMuchData else Ok n) → r ≡ Err fault.ReadFault → ⊥
 no_read_fault true b c n r is e = absurd cc
 no_read_fault false true c n r is e = absurd cc
 no_read_fault false false true n r is e = absurd cc
@@ -110,20 +141,24 @@ no_read_fault false false false n r is e = absurd cc
 
 pub size_fault : (bytes : List ℕ) (e : ListFault) → Err e ≡ size_in bytes → e ≡ fault.ReadFault → ⊥
 unfolding size_in
-size_fault bytes e is same = no_read_fault (not (has_magic bytes)) (nat_lt 65535 (entries_in bytes)) (nat_lt 67108864 (data_in bytes)) (8 + 16 * entries_in bytes + data_in bytes) (Err e) is (ap (λ (f : ListFault). Err f) same)
+size_fault bytes e is same = no_read_fault (not (has_magic bytes)) (nat_lt 65535 (entries_in bytes)) (nat_lt 67108864 (data_in bytes))
+    (8 + 16 * entries_in bytes + data_in bytes) (Err e) is (ap (λ (f : ListFault). Err f) same)
 
 pub no_fault : {X : Type 0} (r : Result X ListFault) (e : ListFault) → r ≡ Err e → r ≡ Err fault.ReadFault → e ≡ fault.ReadFault
 no_fault r e is same = cc
 
 -- the vector begins with what stands behind the magic
-pub begun : {T E : Type 0} (r : Result T E) (intro before now : List ℕ) → is_ok r ≡ true → before ≡ [] → now ≡ (if is_ok r then before ++ take (length intro - 8) (drop 8 intro) else before) → now ≡ drop 8 intro
+pub begun : {T E : Type 0} (r : Result T E) (intro before now : List ℕ) → is_ok r ≡ true → before ≡ []
+    → now ≡ (if is_ok r then before ++ take (length intro - 8) (drop 8 intro) else before) → now ≡ drop 8 intro
 begun r intro before now ok none is =
     let whole : take (length intro - 8) (drop 8 intro) ≡ drop 8 intro = take_all (length intro - 8) (drop 8 intro) (omega (arith, length-drop 8 intro)) in
     is ∙ rw (ok, none, whole) refl
 
 -- fewer than 16 bytes came
-pub short_fill : (old new : Option (List ℕ)) (count : ℕ) (into : List ℕ) → Fills old new count into → 0 < count → count < 16 → length into ≡ 16 → list_head (left old) ≡ Err fault.Short
+pub short_fill : (old new : Option (List ℕ)) (count : ℕ) (into : List ℕ) → Fills old new count into → 0 < count → count < 16 → length into ≡ 16
+    → list_head (left old) ≡ Err fault.Short
 short_fill old new count into f some few room =
     let none = f.ended (omega arith) in
-    let size : length (left old) ≡ count = omega (arith, ap length f.front.front, length-append (take count into) (left new), length-take count into, ap length none) in
+    let size : length (left old) ≡ count =
+    omega (arith, ap length f.front.front, length-append (take count into) (left new), length-take count into, ap length none) in
     head_short (left old) (omega arith) (omega arith)

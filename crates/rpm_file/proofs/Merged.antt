@@ -20,9 +20,10 @@ use Rattle.rpm_header.specs.declared.form.HeaderFault.{HeaderFault}
 use Rattle.rpm_header.specs.declared.laying.BuildFault.{BuildFault}
 use Rattle.rpm_header.specs.declared.laying.BuildFault.TheVariants as build
 use Rattle.rpm_file.specs.declared.fault.FileFault.TheVariants as fault
-use Rattle.rpm_file.specs.Answers.{IsMadeFault}
+use Rattle.rpm_file.specs.inner.Parts.{IsMadeFault}
 use Rattle.rpm_file.specs.Package.{read_again, entries_or_none}
-use Rattle.rpm_file.specs.Merging.{HasTags, joins_as, is_null, has_tag, dribble_as, dribble, dribbles, made_fault, passes_limits, with_entries, merged}
+use Rattle.rpm_file.specs.Merging.{joins_as, is_null, has_tag, dribble_as, dribble, dribbles, passes_limits, with_entries, merged}
+use Rattle.rpm_file.specs.inner.Joining.{HasTags, made_fault}
 
 -- ---- which tag an entry gets
 
@@ -50,32 +51,43 @@ tags_none has is = record {
 pub tags_begun : (xs has : List Bool) (n : ℕ) → xs ≡ [] → n ≡ 0 → has ≡ take 1047 xs ++ replicate (1047 - n) false → HasTags [] has
 tags_begun xs has n nothing none is = tags_none has (is ∙ rw (nothing, none) refl)
 
-one_more : (tag : ℕ) (entries : List Item) (i : ℕ) (e : Item) → slice_get entries i ≡ Some e → has_tag tag (take (i + 1) entries) ≡ (has_tag tag (take i entries) || (e.tag == tag))
+one_more : (tag : ℕ) (entries : List Item) (i : ℕ) (e : Item) → slice_get entries i ≡ Some e
+    → has_tag tag (take (i + 1) entries) ≡ (has_tag tag (take i entries) || (e.tag == tag))
 one_more tag entries i e is =
-    ap (has_tag tag) (next_taken entries i e is) ∙ list_any-append (λ (x : Item). x.tag == tag) (take i entries) (e ∷ []) ∙ ap (λ (b : Bool). has_tag tag (take i entries) || b) (or_false (e.tag == tag))
+    ap (has_tag tag) (next_taken entries i e is) ∙ list_any-append (λ (x : Item). x.tag == tag) (take i entries) (e ∷ [])
+    ∙ ap (λ (b : Bool). has_tag tag (take i entries) || b) (or_false (e.tag == tag))
 
 -- an entry is noted
-tags_set : (entries : List Item) (i : ℕ) (e : Item) (has : List Bool) → slice_get entries i ≡ Some e → e.tag < 1047 → HasTags (take i entries) has → HasTags (take (i + 1) entries) (set has e.tag true)
+tags_set : (entries : List Item) (i : ℕ) (e : Item) (has : List Bool) → slice_get entries i ≡ Some e → e.tag < 1047 → HasTags (take i entries) has
+    → HasTags (take (i + 1) entries) (set has e.tag true)
 tags_set entries i e has is small h = record {
   long = length-set has e.tag true ∙ h.long;
   told = λ tag below. elim (cases_eq tag e.tag) [
     | inl same ↦
-        get_or-set_at has e.tag tag true false same (omega (arith, h.long)) ∙ sym (one_more tag entries i e is ∙ ap (λ (b : Bool). has_tag tag (take i entries) || b) (eq-eqb e.tag tag (sym same)) ∙ or_true (has_tag tag (take i entries)))
+        get_or-set_at has e.tag tag true false same (omega (arith, h.long))
+        ∙ sym (one_more tag entries i e is ∙ ap (λ (b : Bool). has_tag tag (take i entries) || b) (eq-eqb e.tag tag (sym same))
+        ∙ or_true (has_tag tag (take i entries)))
     | inr other ↦
-        get_or-set_other has e.tag tag true false other ∙ h.told tag below ∙ sym (one_more tag entries i e is ∙ ap (λ (b : Bool). has_tag tag (take i entries) || b) (ne_eqb e.tag tag (λ same. other (sym same))) ∙ or_false (has_tag tag (take i entries)))
+        get_or-set_other has e.tag tag true false other ∙ h.told tag below
+        ∙ sym (one_more tag entries i e is ∙ ap (λ (b : Bool). has_tag tag (take i entries) || b) (ne_eqb e.tag tag (λ same. other (sym same)))
+        ∙ or_false (has_tag tag (take i entries)))
   ];
 }
 
 -- its tag is none of those
-pub tags_kept : (entries : List Item) (i : ℕ) (e : Item) (has : List Bool) → slice_get entries i ≡ Some e → 1047 ≤ e.tag → HasTags (take i entries) has → HasTags (take (i + 1) entries) has
+pub tags_kept : (entries : List Item) (i : ℕ) (e : Item) (has : List Bool) → slice_get entries i ≡ Some e → 1047 ≤ e.tag
+    → HasTags (take i entries) has → HasTags (take (i + 1) entries) has
 tags_kept entries i e has is large h = record {
   long = h.long;
   told = λ tag below.
-      h.told tag below ∙ sym (one_more tag entries i e is ∙ ap (λ (b : Bool). has_tag tag (take i entries) || b) (ne_eqb e.tag tag (λ same. omega arith)) ∙ or_false (has_tag tag (take i entries)));
+      h.told tag below ∙ sym (one_more tag entries i e is
+      ∙ ap (λ (b : Bool). has_tag tag (take i entries) || b) (ne_eqb e.tag tag (λ same. omega arith)) ∙ or_false (has_tag tag (take i entries)));
 }
 
-pub tags_noted : (entries : List Item) (i tag : ℕ) (e : Item) (has : List Bool) → slice_get entries i ≡ Some e → tag ≡ e.tag → tag < 1047 → HasTags (take i entries) has → HasTags (take (i + 1) entries) (set has tag true)
-tags_noted entries i tag e has is same small h = subst (λ (t : ℕ). HasTags (take (i + 1) entries) (set has t true)) (sym same) (tags_set entries i e has is (omega arith) h)
+pub tags_noted : (entries : List Item) (i tag : ℕ) (e : Item) (has : List Bool) → slice_get entries i ≡ Some e → tag ≡ e.tag → tag < 1047
+    → HasTags (take i entries) has → HasTags (take (i + 1) entries) (set has tag true)
+tags_noted entries i tag e has is same small h = subst (λ (t : ℕ). HasTags (take (i + 1) entries) (set has t true)) (sym same)
+    (tags_set entries i e has is (omega arith) h)
 
 -- ---- what an entry becomes
 
@@ -93,7 +105,8 @@ none_joins main e other is = dribble_is main e None other is
 pub none_twice : (main : List Item) (e : Item) (tag : ℕ) → is_null e.form ≡ false → joins_as e.tag ≡ Some tag → has_tag tag main ≡ true → dribble main e ≡ None
 none_twice main e tag other is has = dribble_is main e (Some tag) other is ∙ rw has refl
 
-pub joins : (main : List Item) (e : Item) (tag : ℕ) → is_null e.form ≡ false → joins_as e.tag ≡ Some tag → has_tag tag main ≡ false → dribble main e ≡ Some (retagged tag e)
+pub joins : (main : List Item) (e : Item) (tag : ℕ) → is_null e.form ≡ false → joins_as e.tag ≡ Some tag → has_tag tag main ≡ false
+    → dribble main e ≡ Some (retagged tag e)
 joins main e tag other is has = dribble_is main e (Some tag) other is ∙ rw has refl
 
 pub not_null : (f : Form) → is_null f ≡ false → f ≡ form.Null → ⊥
@@ -110,17 +123,20 @@ not_null form.I18n other is = cc
 
 -- ---- one entry more
 
-pub next_joins : (h : Item → Option Item) (xs : List Item) (i : ℕ) (e y : Item) → slice_get xs i ≡ Some e → h e ≡ Some y → filter_map h (take (i + 1) xs) ≡ filter_map h (take i xs) ++ y ∷ []
+pub next_joins : (h : Item → Option Item) (xs : List Item) (i : ℕ) (e y : Item) → slice_get xs i ≡ Some e → h e ≡ Some y
+    → filter_map h (take (i + 1) xs) ≡ filter_map h (take i xs) ++ y ∷ []
 next_joins h xs i e y is gives =
     ap (filter_map h) (next_taken xs i e is) ∙ filter_map-append h (take i xs) (e ∷ []) ∙ rw gives refl
 
-pub next_passed : (h : Item → Option Item) (xs : List Item) (i : ℕ) (e : Item) → slice_get xs i ≡ Some e → h e ≡ None → filter_map h (take (i + 1) xs) ≡ filter_map h (take i xs)
+pub next_passed : (h : Item → Option Item) (xs : List Item) (i : ℕ) (e : Item) → slice_get xs i ≡ Some e → h e ≡ None
+    → filter_map h (take (i + 1) xs) ≡ filter_map h (take i xs)
 next_passed h xs i e is none =
     ap (filter_map h) (next_taken xs i e is) ∙ filter_map-append h (take i xs) (e ∷ []) ∙ rw none (append-nil (filter_map h (take i xs)))
 
 -- ---- the limits
 
-pub keeps_limits : {V : Type 0} (r : Result V BuildFault) (v : V) (n size : ℕ) → r ≡ Ok v → ((r ≡ Err build.TooManyEntries) ↔ (65535 < n)) → ((r ≡ Err build.TooMuchData) ↔ ((n ≤ 65535) × (67108864 < size))) → passes_limits n size ≡ false
+pub keeps_limits : {V : Type 0} (r : Result V BuildFault) (v : V) (n size : ℕ) → r ≡ Ok v → ((r ≡ Err build.TooManyEntries) ↔ (65535 < n))
+    → ((r ≡ Err build.TooMuchData) ↔ ((n ≤ 65535) × (67108864 < size))) → passes_limits n size ≡ false
 keeps_limits r v n size is many much =
     elim (cases_lt 65535 n) [
       | inl past ↦ (let e : r ≡ Err build.TooManyEntries = many.1 past in absurd cc)
@@ -132,17 +148,23 @@ keeps_limits r v n size is many much =
 
 -- ---- all of it
 
-pub made_bytes : (main : Header) (more : List Item) (blob : List ℕ) → passes_limits (length main.entries + length more) (length (dribbled_data main more)) ≡ false
-    → blob ≡ dribbled main more → header blob ≡ Ok (record { blob = blob; entries = main.entries ++ more }) → (with_entries main more ≡ Ok (read_again blob)) × (header blob ≡ Ok (read_again blob))
+pub made_bytes : (main : Header) (more : List Item) (blob : List ℕ)
+    → passes_limits (length main.entries + length more) (length (dribbled_data main more)) ≡ false
+    → blob ≡ dribbled main more → header blob ≡ Ok (record { blob = blob; entries = main.entries ++ more })
+    → (with_entries main more ≡ Ok (read_again blob)) × (header blob ≡ Ok (read_again blob))
 made_bytes main more blob fits laid again =
-    let same : read_again blob ≡ record { blob = blob; entries = main.entries ++ more } = ap (λ (r : Result Header HeaderFault). record { blob = blob; entries = entries_or_none r }) again in
+    let same : read_again blob ≡ record { blob = blob; entries = main.entries ++ more } =
+    ap (λ (r : Result Header HeaderFault). record { blob = blob; entries = entries_or_none r }) again in
     (rw (fits, same, laid) refl, again ∙ ap (λ (h : Header). Ok h) (sym same))
 
-made_large : (main : Header) (more : List Item) → passes_limits (length main.entries + length more) (length (dribbled_data main more)) ≡ true → with_entries main more ≡ Err fault.TooLarge
+made_large : (main : Header) (more : List Item) → passes_limits (length main.entries + length more) (length (dribbled_data main more)) ≡ true
+    → with_entries main more ≡ Err fault.TooLarge
 made_large main more past = rw past refl
 
-pub made_not : {V : Type 0} (r : Result V BuildFault) (e : BuildFault) (main : Header) (more : List Item) → r ≡ Err e → ((r ≡ Err build.TooManyEntries) ↔ (65535 < length main.entries + length more))
-    → ((r ≡ Err build.TooMuchData) ↔ ((length main.entries + length more ≤ 65535) × (67108864 < length (dribbled_data main more)))) → IsMadeFault (with_entries main more) (made_fault e)
+pub made_not : {V : Type 0} (r : Result V BuildFault) (e : BuildFault) (main : Header) (more : List Item) → r ≡ Err e
+    → ((r ≡ Err build.TooManyEntries) ↔ (65535 < length main.entries + length more))
+    → ((r ≡ Err build.TooMuchData) ↔ ((length main.entries + length more ≤ 65535) × (67108864 < length (dribbled_data main more))))
+    → IsMadeFault (with_entries main more) (made_fault e)
 made_not r build.TooManyEntries main more is many much = made_large main more (rw (lt-ltb 65535 (length main.entries + length more) (many.0 is)) refl)
 made_not r build.TooMuchData main more is many much =
     let both = much.0 is in
@@ -150,6 +172,7 @@ made_not r build.TooMuchData main more is many much =
 made_not r build.NoMemory main more is many much = tt
 
 -- the entries that join are those
-pub merged_is : (signature : List Item) (main : Header) (more : List Item) → more ≡ dribbles main.entries signature → with_entries main more ≡ merged signature main
+pub merged_is : (signature : List Item) (main : Header) (more : List Item) → more ≡ dribbles main.entries signature
+    → with_entries main more ≡ merged signature main
 unfolding merged
 merged_is signature main more are = ap (with_entries main) are

@@ -13,7 +13,8 @@ use Rattle.rpm_file.specs.declared.fault.Part.TheVariants as part
 use Rattle.rpm_file.specs.Browsing.{left}
 use Rattle.rpm_file.specs.List.{Found, front_header, some_found, list_head}
 use Rattle.rpm_file.specs.Package.{lead_magic, is_lead, behind_lead, early_fault, headed, headed_of, padding_of, behind_padding}
-use Rattle.rpm_file.specs.Answers.{IsListFault, IsFileFault, AnswersTake, AnswersSkip}
+use Rattle.rpm_file.specs.Answers.{IsListFault, IsFileFault}
+use Rattle.rpm_file.specs.inner.Parts.{AnswersTake, AnswersSkip}
 use Rattle.rpm_file.proofs.Listed.{number_longer}
 
 -- ---- what is skipped
@@ -51,18 +52,21 @@ lead_short bytes lead long few =
 pub padding_taken : (blob bytes padding rest : List ℕ) → bytes ≡ padding ++ rest → length padding ≡ padding_of blob → behind_padding blob bytes ≡ Ok rest
 unfolding behind_padding
 padding_taken blob bytes padding rest whole long =
-    let enough : nat_lt (length bytes) (padding_of blob) ≡ false = le-ltb (length bytes) (padding_of blob) (omega (arith, ap length whole, length-append padding rest, long)) in
+    let enough : nat_lt (length bytes) (padding_of blob) ≡ false =
+    le-ltb (length bytes) (padding_of blob) (omega (arith, ap length whole, length-append padding rest, long)) in
     let behind : drop (padding_of blob) bytes ≡ rest = ap (drop (padding_of blob)) whole ∙ drop_at padding rest (padding_of blob) long in
     rw (enough, behind) refl
 
-pub padding_short : (blob bytes padding : List ℕ) → length padding ≡ padding_of blob → length bytes < length padding → behind_padding blob bytes ≡ Err fault.Short
+pub padding_short : (blob bytes padding : List ℕ) → length padding ≡ padding_of blob → length bytes < length padding
+    → behind_padding blob bytes ≡ Err fault.Short
 unfolding behind_padding
 padding_short blob bytes padding long few =
     let short : nat_lt (length bytes) (padding_of blob) ≡ true = lt-ltb (length bytes) (padding_of blob) (omega (arith, long)) in
     rw short refl
 
 -- a fault of what was to be taken
-pub taken_fault : (X : Type 0) (found : Result (List ℕ) FileFault) (old new : Option (List ℕ)) (into : List ℕ) (e : FileFault) → (length (left old) < length into → found ≡ Err fault.Short) → AnswersTake {X = X} old new into (Err e) → IsFileFault found e
+pub taken_fault : (X : Type 0) (found : Result (List ℕ) FileFault) (old new : Option (List ℕ)) (into : List ℕ) (e : FileFault)
+    → (length (left old) < length into → found ≡ Err fault.Short) → AnswersTake {X = X} old new into (Err e) → IsFileFault found e
 taken_fault X found old new into fault.Short short t = short t
 taken_fault X found old new into fault.ReadFault short t = tt
 taken_fault X found old new into fault.NotAPackage short t = absurd t
@@ -72,7 +76,8 @@ taken_fault X found old new into (fault.Main e) short t = absurd t
 taken_fault X found old new into fault.TooLarge short t = absurd t
 taken_fault X found old new into fault.NoMemory short t = absurd t
 
-pub padding_skipped : {X : Type 0} (blob : List ℕ) (old new : Option (List ℕ)) (into : List ℕ) (r : Result X FileFault) → length into ≡ padding_of blob → AnswersTake old new into r → AnswersSkip (behind_padding blob) old new r
+pub padding_skipped : {X : Type 0} (blob : List ℕ) (old new : Option (List ℕ)) (into : List ℕ) (r : Result X FileFault)
+    → length into ≡ padding_of blob → AnswersTake old new into r → AnswersSkip (behind_padding blob) old new r
 padding_skipped blob old new into (Ok done) long t = padding_taken blob (left old) into (left new) t.front long
 padding_skipped {X} blob old new into (Err e) long t = taken_fault X (behind_padding blob (left old)) old new into e (padding_short blob (left old) into long) t
 

@@ -22,48 +22,11 @@ IsFileFault found of_file.ReadFault = Unit {0}
 IsFileFault found of_file.NoMemory = Unit {0}
 IsFileFault found fault = found ≡ Err fault
 
--- of a header whose first 16 bytes were taken before
-abbrev pub AnswersBehind : List ℕ → Option (List ℕ) → Option (List ℕ) → Result (Vec ℕ Global) ListFault → Type 0
-AnswersBehind intro old new (Ok blob) = front_header (intro ++ left old) ≡ Ok (record { blob = blob.items; rest = left new })
-AnswersBehind intro old new (Err fault) = IsListFault (front_header (intro ++ left old)) fault
-
 -- the next header is taken with its magic, and what follows it is left; at the end nothing is taken
 abbrev pub AnswersNext : Option (List ℕ) → Option (List ℕ) → Result (Option (Vec ℕ Global)) ListFault → Type 0
 AnswersNext old new (Ok None) = (list_head (left old) ≡ Ok None) × (new ≡ old)
 AnswersNext old new (Ok (Some blob)) = list_head (left old) ≡ Ok (Some (record { blob = blob.items; rest = left new }))
 AnswersNext old new (Err fault) = IsListFault (list_head (left old)) fault
-
--- exactly these bytes are taken, where there are so many
-abbrev pub AnswersTake : {X : Type 0} → Option (List ℕ) → Option (List ℕ) → List ℕ → Result X FileFault → Type 0
-AnswersTake old new into (Ok done) = Takes old new into
-AnswersTake old new into (Err of_file.Short) = length (left old) < length into
-AnswersTake old new into (Err of_file.ReadFault) = Unit {0}
-AnswersTake old new into (Err fault) = ⊥
-
--- a part is taken that only has to be there, and what follows it is left
-abbrev pub AnswersSkip : {X : Type 0} → (List ℕ → Result (List ℕ) FileFault) → Option (List ℕ) → Option (List ℕ) → Result X FileFault → Type 0
-AnswersSkip behind old new (Ok done) = behind (left old) ≡ Ok (left new)
-AnswersSkip behind old new (Err fault) = IsFileFault (behind (left old)) fault
-
--- the bytes of one of the two headers are taken
-abbrev pub AnswersPart : Part → Option (List ℕ) → Option (List ℕ) → Result (Vec ℕ Global) FileFault → Type 0
-AnswersPart part old new (Ok blob) = front_header (left old) ≡ Ok (record { blob = blob.items; rest = left new })
-AnswersPart part old new (Err fault) = IsFileFault (headed part (left old)) fault
-
--- a header that is made is too large, or there is no memory for it
-abbrev pub IsMadeFault : Result Header FileFault → FileFault → Type 0
-IsMadeFault made of_file.NoMemory = Unit {0}
-IsMadeFault made of_file.TooLarge = made ≡ Err of_file.TooLarge
-IsMadeFault made _ = ⊥
-
-abbrev pub AnswersMade : Result Header FileFault → Result Header FileFault → Type 0
-AnswersMade made (Ok h) = made ≡ Ok h
-AnswersMade made (Err fault) = IsMadeFault made fault
-
--- and its bytes
-abbrev pub AnswersBytes : Result Header FileFault → Result (Vec ℕ Global) FileFault → Type 0
-AnswersBytes made (Ok blob) = (made ≡ Ok (read_again blob.items)) × (header blob.items ≡ Ok (read_again blob.items))
-AnswersBytes made (Err fault) = IsMadeFault made fault
 
 -- what follows the main header is left
 abbrev pub AnswersBy : (List ℕ → Result Headed FileFault) → Option (List ℕ) → Option (List ℕ) → Result Header FileFault → Type 0

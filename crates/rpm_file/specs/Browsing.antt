@@ -1,7 +1,7 @@
 -- What a run of reads takes of a shelf.
 use Rattle.std.specs.Prelude.{◌≡◌, ℕ, ◌≤◌, Bool, IsTrue, List, [], ◌++◌, Option, Some, None, is_some}
 use Rattle.std.proofs.Common.{refl, sym, ap, ◌∙◌, append_assoc, arith}
-use Rattle.rpm_outside.specs.Shelves.{Paths, Reads}
+use Rattle.rpm_outside.specs.Shelves.{Paths, TakesFront}
 
 -- the bytes that reads will give, none where no item is open
 abbrev pub left : Option (List ℕ) → List ℕ
@@ -38,7 +38,7 @@ pub record TakesOne (old new : Option (List ℕ)) (taken : List ℕ) : Type 0 wh
   pub takes : Takes old new taken
   pub ended : taken ≡ [] → left old ≡ []
 
-pub reads_one : (old new : Option (List ℕ)) (taken : List ℕ) → Reads old new taken → TakesOne old new taken
+pub reads_one : (old new : Option (List ℕ)) (taken : List ℕ) → TakesFront old new taken → TakesOne old new taken
 reads_one None new taken r =
     let none : taken ≡ [] = r.1 in
     let same : new ≡ None = r.0 in
@@ -50,7 +50,8 @@ module _ {S : Type 0} (tells : Bool) (paths : S → Paths) (rest : S → Option 
   pub browses_none : (s : S) → Browses tells paths rest absences faults s s
   browses_none s = record { paths_stay = λ told. refl; taken = λ told. ([], takes_none (rest s) (rest s) refl); absences_stay = refl; later = omega arith }
 
-  pub browses_then : (a b c : S) → Browses tells paths rest absences faults a b → Browses tells paths rest absences faults b c → Browses tells paths rest absences faults a c
+  pub browses_then : (a b c : S) → Browses tells paths rest absences faults a b → Browses tells paths rest absences faults b c
+      → Browses tells paths rest absences faults a c
   browses_then a b c first second = record {
     paths_stay = λ told. second.paths_stay told ∙ first.paths_stay told;
     taken = λ told.

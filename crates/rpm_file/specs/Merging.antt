@@ -27,11 +27,6 @@ is_null _ = false
 abbrev pub has_tag : ℕ → List Item → Bool
 has_tag tag entries = list_any (λ e. e.tag == tag) entries
 
--- of each tag below 1,047, whether these entries have it
-pub record HasTags (entries : List Item) (has : List Bool) : Type 0 where
-  pub long : length has ≡ 1047
-  pub told : (tag : ℕ) → tag < 1047 → slice_index_or has tag false ≡ has_tag tag entries
-
 -- an entry under the tag that it gets, unless the main header has this tag
 abbrev pub dribble_as : List Item → Item → Option ℕ → Option Item
 dribble_as main e None = None
@@ -41,20 +36,9 @@ dribble_as main e (Some tag) = if has_tag tag main then None else Some (retagged
 unfoldable pub dribble : List Item → Item → Option Item
 dribble main e = if is_null e.form then None else dribble_as main e (joins_as e.tag)
 
--- the tag under which an entry joins, if it does
-abbrev pub JoinsUnder : List Item → Item → Option ℕ → Type 0
-JoinsUnder main e None = dribble main e ≡ None
-JoinsUnder main e (Some tag) = (dribble main e ≡ Some (retagged tag e)) × (is_region_tag tag ≡ false) × (e.form ≡ form.Null → ⊥)
-
 -- the entries that join, in the order of the signature header
 abbrev pub dribbles : List Item → List Item → List Item
 dribbles main signature = filter_map (dribble main) signature
-
--- each limit that is passed is one fault
-abbrev pub made_fault : BuildFault → FileFault
-made_fault build.TooManyEntries = TooLarge
-made_fault build.TooMuchData = TooLarge
-made_fault build.NoMemory = NoMemory
 
 abbrev pub passes_limits : ℕ → ℕ → Bool
 passes_limits count size = nat_lt 65535 count || nat_lt 67108864 size

@@ -3,7 +3,7 @@
 ghost use Rattle.std.specs.Prelude.{◌≡◌, ◌≤◌, ◌+◌, IsTrue, true, length, vec_len, Err, IfOk, IfErr};
 ghost use Rattle.rpm_outside.specs.Causes.{HasCause, HasCauseAt};
 ghost use Rattle.rpm_file.specs.Browsing.{Browses};
-ghost use Rattle.rpm_file.specs.Filling.{Fills, Appends, IsOutside};
+ghost use Rattle.rpm_file.specs.inner.Filling.{Fills, Appends, IsOutside};
 
 use crate::fault::ListFault;
 use rpm_outside::{Failed, Shelf};
@@ -34,7 +34,8 @@ pub fn fill<S: Shelf>(shelf: &mut S, into: &mut [u8]) -> Result<usize, Failed>
 /// Reads so many bytes more, and adds those that came. Says whether all came.
 fn append_some<S: Shelf>(shelf: &mut S, bytes: &mut Vec<u8>, more: usize) -> Result<bool, ListFault>
     requires { vec_len bytes.old + more ≤ 68157440 }
-    ensures appends { IfOk result (λ all. IsTrue S.tells → Appends (S.rest shelf.old) (S.rest shelf.new) bytes.old.items (vec_len bytes.old + more) all bytes.new.items) }
+    ensures appends { IfOk result (λ all. IsTrue S.tells → Appends (S.rest shelf.old) (S.rest shelf.new) bytes.old.items (vec_len bytes.old + more)
+        all bytes.new.items) }
     ensures only { IfErr result IsOutside }
     ensures full { IfOk result (λ all. all ≡ true → vec_len bytes.new ≡ vec_len bytes.old + more) }
     ensures browses { Browses S.tells S.paths S.rest S.absences S.faults shelf.old shelf.new }

@@ -4,7 +4,8 @@ ghost use Rattle.std.specs.Prelude.{◌≡◌, ℕ, ◌≤◌, IsTrue, length, O
 ghost use Rattle.rpm_outside.specs.Causes.{HasCauseAt};
 ghost use Rattle.rpm_file.specs.List.{size_in};
 ghost use Rattle.rpm_file.specs.Browsing.{Browses};
-ghost use Rattle.rpm_file.specs.Answers.{AnswersNext, AnswersBehind};
+ghost use Rattle.rpm_file.specs.Answers.{AnswersNext};
+ghost use Rattle.rpm_file.specs.inner.Parts.{AnswersBehind};
 
 use crate::bytes::u32_at;
 use crate::fault::ListFault;

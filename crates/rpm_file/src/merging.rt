@@ -2,8 +2,9 @@
 
 ghost use Rattle.std.specs.Prelude.{◌≡◌, ◌<◌, List, length, false, IfOk, IfSome};
 ghost use Rattle.rpm_header.specs.Header.{Item, is_region_tag};
-ghost use Rattle.rpm_file.specs.Merging.{joins_as, HasTags, is_null, JoinsUnder, dribbles, made_fault, with_entries, merged};
-ghost use Rattle.rpm_file.specs.Answers.{AnswersBytes};
+ghost use Rattle.rpm_file.specs.Merging.{joins_as, is_null, dribbles, with_entries, merged};
+ghost use Rattle.rpm_file.specs.inner.Joining.{HasTags, JoinsUnder, made_fault};
+ghost use Rattle.rpm_file.specs.inner.Parts.{AnswersBytes};
 
 use crate::fault::FileFault;
 use rpm_header::{BuildFault, Builder, Entry, Form, View, with_dribbles};

@@ -6,7 +6,8 @@ ghost use Rattle.rpm_outside.specs.Causes.{HasCauseAt};
 ghost use Rattle.rpm_file.specs.Browsing.{Browses};
 ghost use Rattle.rpm_file.specs.Package.{is_lead, behind_lead, fault_in, early_fault, behind_padding, behind_signature, package_header};
 ghost use Rattle.rpm_file.specs.Merging.{merged};
-ghost use Rattle.rpm_file.specs.Answers.{AnswersTake, AnswersSkip, AnswersPart, AnswersMade, AnswersBy};
+ghost use Rattle.rpm_file.specs.Answers.{AnswersBy};
+ghost use Rattle.rpm_file.specs.inner.Parts.{AnswersTake, AnswersSkip, AnswersPart, AnswersMade};
 
 use crate::bytes::u16_at;
 use crate::fault::{FileFault, ListFault, Part};

@@ -58,10 +58,12 @@ fn first(bytes: &[u8], count: usize) -> &[u8] {
     }
 }
 
-fn with_byte(alloc: Global, bytes: &[u8], at: usize, byte: u8) -> Result<Vec<u8>, Fail> {
+fn with_bytes(alloc: Global, bytes: &[u8], changes: &[(usize, u8)]) -> Result<Vec<u8>, Fail> {
     let mut wrong = bytes.to_vec(alloc)?;
-    if at < wrong.len() {
-        wrong[at] = byte;
+    for (at, byte) in changes {
+        if *at < wrong.len() {
+            wrong[*at] = *byte;
+        }
     }
     Ok(wrong)
 }
@@ -99,42 +101,158 @@ fn a_package_that_is_cut_is_short(rt: HostRuntime) -> Result<(), Fail> {
     Ok(())
 }
 
+// What is answered where a package has these two bytes in place of its own, in the order of its parts.
+const WRONG: [([(usize, u8); 2], FileFault); 20] = [
+    ([(0, 0), (79, 4)], FileFault::NotAPackage),
+    ([(79, 4), (96, 0)], FileFault::NotAPackage),
+    ([(96, 0), (105, 1)], FileFault::BadMagic),
+    (
+        [(105, 1), (108, 5)],
+        FileFault::Signature(HeaderFault::TooManyEntries),
+    ),
+    (
+        [(108, 5), (119, 10)],
+        FileFault::Signature(HeaderFault::TooMuchData),
+    ),
+    // its body is cut: it says that it has 256 bytes of data
+    ([(110, 1), (119, 10)], FileFault::Short),
+    (
+        [(119, 10), (136, 0)],
+        FileFault::Signature(HeaderFault::BadType(0)),
+    ),
+    (
+        [(123, 1), (136, 0)],
+        FileFault::Signature(HeaderFault::BadOffset(0)),
+    ),
+    (
+        [(127, 2), (136, 0)],
+        FileFault::Signature(HeaderFault::BadCount(0)),
+    ),
+    (
+        [(119, 6), (123, 3)],
+        FileFault::Signature(HeaderFault::NoEnd(0)),
+    ),
+    (
+        [(114, 0), (115, 62)],
+        FileFault::Signature(HeaderFault::BadRegion),
+    ),
+    ([(136, 0), (145, 1)], FileFault::BadMagic),
+    (
+        [(145, 1), (148, 5)],
+        FileFault::Main(HeaderFault::TooManyEntries),
+    ),
+    (
+        [(148, 5), (159, 10)],
+        FileFault::Main(HeaderFault::TooMuchData),
+    ),
+    ([(150, 1), (159, 10)], FileFault::Short),
+    (
+        [(159, 10), (223, 1)],
+        FileFault::Main(HeaderFault::BadType(0)),
+    ),
+    (
+        [(163, 9), (223, 1)],
+        FileFault::Main(HeaderFault::BadOffset(0)),
+    ),
+    (
+        [(167, 2), (223, 1)],
+        FileFault::Main(HeaderFault::BadCount(0)),
+    ),
+    ([(223, 1), (223, 1)], FileFault::Main(HeaderFault::NoEnd(3))),
+    (
+        [(154, 0), (155, 63)],
+        FileFault::Main(HeaderFault::BadRegion),
+    ),
+];
+
 #[test]
-fn a_package_with_a_wrong_byte_is_told(rt: HostRuntime) -> Result<(), Fail> {
+fn a_package_with_wrong_bytes_has_its_first_fault(rt: HostRuntime) -> Result<(), Fail> {
     let alloc = rt.alloc();
     let file = package(alloc)?;
     for most in PIECES {
-        for (at, byte, fault) in [
-            (0, 0, FileFault::NotAPackage),
-            (79, 4, FileFault::NotAPackage),
-            (96, 0, FileFault::BadMagic),
-            (105, 1, FileFault::Signature(HeaderFault::TooManyEntries)),
-            (108, 5, FileFault::Signature(HeaderFault::TooMuchData)),
-            (119, 10, FileFault::Signature(HeaderFault::BadType(0))),
-            (136, 0, FileFault::BadMagic),
-            (145, 1, FileFault::Main(HeaderFault::TooManyEntries)),
-            (163, 9, FileFault::Main(HeaderFault::BadOffset(0))),
-        ] {
-            let mut shelf = opened(alloc, &with_byte(alloc, &file, at, byte)?, most)?;
+        for (changes, fault) in WRONG {
+            let mut shelf = opened(alloc, &with_bytes(alloc, &file, &changes)?, most)?;
             let answer = read_package(alloc, &mut shelf).err();
-            assert_eq!(rt; answer, Some(fault), "byte {at}");
+            assert_eq!(rt; answer, Some(fault));
         }
     }
+    Ok(())
+}
+
+// An entry of the index.
+fn entry(tag: u16, form: u8, offset: u8, count: u8) -> [u8; 16] {
+    let [high, low] = tag.to_be_bytes();
+    [
+        0, 0, high, low, 0, 0, 0, form, 0, 0, 0, offset, 0, 0, 0, count,
+    ]
+}
+
+#[test]
+fn entries_of_each_form_join_in_their_order(rt: HostRuntime) -> Result<(), Fail> {
+    let alloc = rt.alloc();
+    let mut file = lead(alloc)?;
+    file.extend_from_slice(&MAGIC)?;
+    file.extend_from_slice(&[0, 0, 0, 10, 0, 0, 0, 36])?;
+    for (tag, form, offset, count) in [
+        (270, 5, 0, 1),
+        (269, 6, 8, 1),
+        (1004, 7, 11, 3),
+        // neither this tag joins nor an entry of type 0
+        (1001, 4, 16, 1),
+        (300, 3, 20, 2),
+        (301, 8, 24, 2),
+        (302, 2, 28, 1),
+        (303, 0, 0, 0),
+        (304, 9, 29, 1),
+        (1000, 4, 32, 1),
+    ] {
+        file.extend_from_slice(&entry(tag, form, offset, count))?;
+    }
+    file.extend_from_slice(b"\0\0\0\0\0\0\0\x05ab\0\x01\x02\x03\0\0\0\0\0\x07")?;
+    file.extend_from_slice(b"\0\x01\0\x02c\0d\0\x09e\0\0\0\0\0\x58\0\0\0\0")?;
+    file.extend_from_slice(&MAGIC)?;
+    file.extend_from_slice(&HEADER)?;
+    let mut wanted = [0, 0, 0, 12, 0, 0, 0, 40].to_vec(alloc)?;
+    wanted.extend_from_slice(&HEADER[8..72])?;
+    for (tag, form, offset, count) in [
+        (270, 5, 8, 1),
+        (269, 6, 16, 1),
+        (261, 7, 19, 3),
+        (300, 3, 22, 2),
+        (301, 8, 26, 2),
+        (302, 2, 30, 1),
+        (304, 9, 31, 1),
+        (257, 4, 36, 1),
+    ] {
+        wanted.extend_from_slice(&entry(tag, form, offset, count))?;
+    }
+    wanted.extend_from_slice(&HEADER[72..])?;
+    wanted.extend_from_slice(b"\0\0\0\0\0\0\0\x05ab\0\x01\x02\x03")?;
+    wanted.extend_from_slice(b"\0\x01\0\x02c\0d\0\x09e\0\0\0\0\0\0\0\x58")?;
+    let mut shelf = opened(alloc, &file, u32::MAX)?;
+    let package = read_package(alloc, &mut shelf)?;
+    assert_eq!(rt; package.header(), wanted.as_slice());
     Ok(())
 }
 
 #[test]
 fn a_main_header_without_room_is_too_large(rt: HostRuntime) -> Result<(), Fail> {
     let alloc = rt.alloc();
-    let mut file = lead(alloc)?;
-    file.extend_from_slice(&MAGIC)?;
-    file.extend_from_slice(&SIGNATURE)?;
-    file.extend_from_slice(&MAGIC)?;
-    file.extend_from_slice(&[0, 0, 0xff, 0xff, 0, 0, 0, 0])?;
-    file.resize(152 + 16 * 65_535, 0)?;
-    let mut shelf = opened(alloc, &file, 4096)?;
-    let answer = read_package(alloc, &mut shelf).err();
-    assert_eq!(rt; answer, Some(FileFault::TooLarge));
+    // as many entries as a header may have, and as many bytes of data
+    for (lengths, size) in [
+        ([0, 0, 0xff, 0xff, 0, 0, 0, 0], 16 * 65_535),
+        ([0, 0, 0, 0, 4, 0, 0, 0], 67_108_864),
+    ] {
+        let mut file = lead(alloc)?;
+        file.extend_from_slice(&MAGIC)?;
+        file.extend_from_slice(&SIGNATURE)?;
+        file.extend_from_slice(&MAGIC)?;
+        file.extend_from_slice(&lengths)?;
+        file.resize(152 + size, 0)?;
+        let mut shelf = opened(alloc, &file, 65_536)?;
+        let answer = read_package(alloc, &mut shelf).err();
+        assert_eq!(rt; answer, Some(FileFault::TooLarge));
+    }
     Ok(())
 }
 
@@ -142,6 +260,7 @@ fn a_main_header_without_room_is_too_large(rt: HostRuntime) -> Result<(), Fail> 
 fn a_list_gives_its_headers_and_its_end(rt: HostRuntime) -> Result<(), Fail> {
     let alloc = rt.alloc();
     let list = [MAGIC.as_slice(), &HEADER, &MAGIC, &HEADER].concat(alloc)?;
+    assert_eq!(rt; list.len(), 176);
     for most in PIECES {
         let mut shelf = opened(alloc, &list, most)?;
         for _ in 0..2 {
@@ -162,7 +281,8 @@ fn a_list_that_is_wrong_is_told(rt: HostRuntime) -> Result<(), Fail> {
     for (lengths, fault) in [
         ([0, 1, 0, 0, 0, 0, 0, 0], ListFault::TooManyEntries),
         ([0, 0, 0, 0, 4, 0, 0, 1], ListFault::TooMuchData),
-        ([0, 0, 0, 0, 4, 0, 0, 0], ListFault::Short),
+        // 16 bytes that claim 68,157,432
+        ([0, 0, 0xff, 0xff, 4, 0, 0, 0], ListFault::Short),
         ([0, 0, 0, 1, 0, 0, 0, 0], ListFault::Short),
     ] {
         let mut shelf = opened(alloc, &[MAGIC, lengths].concat(alloc)?, 1)?;
@@ -187,7 +307,7 @@ fn a_list_that_is_wrong_is_told(rt: HostRuntime) -> Result<(), Fail> {
 fn a_failed_read_is_told(rt: HostRuntime) -> Result<(), Fail> {
     let alloc = rt.alloc();
     let file = package(alloc)?;
-    for read in 1..6 {
+    for read in 1..7 {
         let mut shelf = opened(alloc, &file, 4096)?;
         shelf.fail_read(read);
         let answer = read_package(alloc, &mut shelf).err();

@@ -5,14 +5,14 @@ use Rattle.std.proofs.lemmas.Bool.{cases_eq}
 use Rattle.rpm_outside.specs.declared.disk.File.{File}
 use Rattle.rpm_outside.specs.Files.{Units, Files, file_of, with_file, put, unit_at}
 use Rattle.rpm_outside.specs.Crash.{LeavesOnly}
-use Rattle.rpm_outside.specs.Moments.{leaves_then, leaves_weaker}
+use Rattle.rpm_outside.specs.inner.Moments.{leaves_then, leaves_weaker}
 use Rattle.rpm_outside.specs.Logs.{Entry, LogState, Closed, Malformed, Open, word, is_head, entry_at, before, heads, with_entry, with_entries}
 use Rattle.rpm_outside.specs.LogRules.{heads_right, heads_wrong, heads_done, heads_more, head_parts, entry_units}
 use Rattle.rpm_outside.specs.EntryLaws.{Writes, Covers, within_changed}
 use Rattle.rpm_outside.specs.Changed.{WasChanged, LeavesChanged}
 use Rattle.rpm_group.specs.declared.log.Head.{Head}
-use Rattle.rpm_group.specs.Readings.{HeadIs}
-use Rattle.rpm_group.specs.Settled.{WasWithin}
+use Rattle.rpm_group.specs.inner.LogReadings.{HeadIs}
+use Rattle.rpm_group.specs.inner.Leavings.{WasWithin}
 
 pub with_entries-append : (es fs : List Entry) (files : Files) → with_entries (es ++ fs) files ≡ with_entries fs (with_entries es files)
 with_entries-append [] fs files = refl
@@ -28,17 +28,21 @@ pub record Left (p last : ℕ) (log : Units) (left : ℕ) (rest : List Entry) : 
   pub is : rest ≡ entry_at p log ∷ more
   pub next : heads left (p + 1 + word 2 (unit_at log p)) last log ≡ Open more
 
-before_is : (p last : ℕ) (log : Units) (left : ℕ) (rest : List Entry) (state : LogState) → heads left (p + 1 + word 2 (unit_at log p)) last log ≡ state → before (entry_at p log) state ≡ Open rest → Left p last log left rest
+before_is : (p last : ℕ) (log : Units) (left : ℕ) (rest : List Entry) (state : LogState) → heads left (p + 1 + word 2 (unit_at log p)) last log
+    ≡ state → before (entry_at p log) state ≡ Open rest → Left p last log left rest
 before_is p last log left rest Closed is e = absurd (let f : Closed ≡ Open rest = e in cc)
 before_is p last log left rest (Malformed unit) is e = absurd (let f : Malformed unit ≡ Open rest = e in cc)
-before_is p last log left rest (Open more) is e = record { more = more; is = (let f : Open (entry_at p log ∷ more) ≡ Open rest = e in let g : entry_at p log ∷ more ≡ rest = cc in sym g); next = is }
+before_is p last log left rest (Open more) is e =
+    record { more = more; is = (let f : Open (entry_at p log ∷ more) ≡ Open rest = e in let g : entry_at p log ∷ more ≡ rest = cc in sym g); next = is }
 
-pub left_right : (n p last : ℕ) (log : Units) (left : ℕ) (rest : List Entry) → n ≡ suc left → heads n p last log ≡ Open rest → is_head last p (unit_at log p) ≡ true → Left p last log left rest
+pub left_right : (n p last : ℕ) (log : Units) (left : ℕ) (rest : List Entry) → n ≡ suc left → heads n p last log ≡ Open rest
+    → is_head last p (unit_at log p) ≡ true → Left p last log left rest
 left_right n p last log left rest is_n is right =
     before_is p last log left rest (heads left (p + 1 + word 2 (unit_at log p)) last log) refl
     (sym (heads_right p last log left right) ∙ ap (λ (k : ℕ). heads k p last log) (sym is_n) ∙ is)
 
-pub left_wrong : (n p last : ℕ) (log : Units) (left : ℕ) (rest : List Entry) → n ≡ suc left → heads n p last log ≡ Open rest → is_head last p (unit_at log p) ≡ false → ⊥
+pub left_wrong : (n p last : ℕ) (log : Units) (left : ℕ) (rest : List Entry) → n ≡ suc left → heads n p last log ≡ Open rest
+    → is_head last p (unit_at log p) ≡ false → ⊥
 left_wrong n p last log left rest is_n is wrong =
     let e : Malformed p ≡ Open rest = sym (heads_wrong p last log left wrong) ∙ ap (λ (k : ℕ). heads k p last log) (sym is_n) ∙ is in
     cc
@@ -62,7 +66,8 @@ pub record Done (entries : List Entry) (n p last : ℕ) (log : Units) (old now :
   pub heads_left : heads n p last log ≡ Open rest
   pub files : now ≡ with_entries done old
 
-module _ (entries : List Entry) (n p last : ℕ) (log : Units) (old mid new : Files) (left : ℕ) (head : Head) (so_far : Done entries n p last log old mid) (is_n : n ≡ suc left) (says : HeadIs last p log head) (within : last < length log) where
+module _ (entries : List Entry) (n p last : ℕ) (log : Units) (old mid new : Files) (left : ℕ) (head : Head)
+    (so_far : Done entries n p last log old mid) (is_n : n ≡ suc left) (says : HeadIs last p log head) (within : last < length log) where
   abbrev entry : Entry
   entry = entry_at p log
 
@@ -80,7 +85,12 @@ module _ (entries : List Entry) (n p last : ℕ) (log : Units) (old mid new : Fi
   pub head_covers : (i : ℕ) → head.first ≤ i → i < head.first + head.count → Covers entries head.file i
   head_covers i from below =
       subst (λ (es : List Entry). Covers es head.file i) (sym all_here)
-      (covers_middle so_far.done entry here.more head.file i (record { there = sym says.file; from = omega (arith, from, says.first); before = omega (arith, below, says.first, long_units) }))
+      (covers_middle so_far.done entry here.more head.file i (record {
+        there = sym says.file;
+        from = omega (arith, from, says.first);
+        before =
+            omega (arith, below, says.first, long_units);
+      }))
 
   pub done_more : (m next : ℕ) (source : Units) → m ≡ left → next ≡ p + 1 + word 2 (unit_at log p) → source ≡ log
       → new ≡ with_file head.file (put head.first (take head.count (drop (p + 1) source)) (file_of head.file mid)) mid → Done entries m next last log old new
@@ -100,13 +110,16 @@ module _ (entries : List Entry) (n p last : ℕ) (log : Units) (old mid new : Fi
         ∙ sym (with_entries-append so_far.done (entry ∷ []) old);
   }
 
-pub done_all : (entries : List Entry) (n p last : ℕ) (log : Units) (old now : Files) → n ≡ 0 → Done entries n p last log old now → now ≡ with_entries entries old
+pub done_all : (entries : List Entry) (n p last : ℕ) (log : Units) (old now : Files) → n ≡ 0 → Done entries n p last log old now
+    → now ≡ with_entries entries old
 done_all entries n p last log old now none d =
-    d.files ∙ ap (λ (es : List Entry). with_entries es old) (sym (append-nil d.done) ∙ ap (λ (es : List Entry). d.done ++ es) (sym (left_none n p last log d.rest none d.heads_left)) ∙ sym d.all)
+    d.files ∙ ap (λ (es : List Entry). with_entries es old) (sym (append-nil d.done)
+    ∙ ap (λ (es : List Entry). d.done ++ es) (sym (left_none n p last log d.rest none d.heads_left)) ∙ sym d.all)
 
 -- what a stop leaves while they are written
 module _ {D : Type 0} (moment : D → ℕ) (left_since : D → ℕ → Files → Type 0) where
-  pub within_more : (entries : List Entry) (file : File) (first end : ℕ) (old mid new : D) → first < end → ((i : ℕ) → first ≤ i → i < end → Covers entries file i)
+  pub within_more : (entries : List Entry) (file : File) (first end : ℕ) (old mid new : D) → first < end
+      → ((i : ℕ) → first ≤ i → i < end → Covers entries file i)
       → ((image : Files) → left_since mid (moment mid) image → left_since mid (moment old) image)
       → LeavesOnly moment left_since old mid (WasWithin entries (left_since old (moment old))) → LeavesChanged moment left_since file first end mid new
       → LeavesOnly moment left_since old new (WasWithin entries (left_since old (moment old)))

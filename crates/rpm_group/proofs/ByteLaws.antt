@@ -6,7 +6,8 @@ use borrow.Rule.Slice.PartMut.{put_mid}
 use Rattle.rpm_group.specs.Held.{unit_in}
 
 -- where two lists have the same unit
-same_unit : (xs ys : List ℕ) (i j : ℕ) → 16 * i + 16 ≤ length xs → 16 * j + 16 ≤ length ys → ((b d : ℕ) → b < 16 → get_or xs (16 * i + b) d ≡ get_or ys (16 * j + b) d) → unit_in xs i ≡ unit_in ys j
+same_unit : (xs ys : List ℕ) (i j : ℕ) → 16 * i + 16 ≤ length xs → 16 * j + 16 ≤ length ys
+    → ((b d : ℕ) → b < 16 → get_or xs (16 * i + b) d ≡ get_or ys (16 * j + b) d) → unit_in xs i ≡ unit_in ys j
 same_unit xs ys i j long longer same =
     same_lists (unit_in xs i) (unit_in ys j)
     (omega (arith, length-take 16 (drop (16 * i) xs), length-drop (16 * i) xs, length-take 16 (drop (16 * j) ys), length-drop (16 * j) ys))
@@ -19,7 +20,8 @@ same_unit xs ys i j long longer same =
     ∙ sym (get_or-take 16 (drop (16 * j) ys) b d short))
 
 -- equal lists as far as one unit, past the end too
-same_unit_past : (xs ys : List ℕ) (i : ℕ) → length xs ≡ length ys → ((k d : ℕ) → 16 * i ≤ k → k < 16 * i + 16 → get_or xs k d ≡ get_or ys k d) → unit_in xs i ≡ unit_in ys i
+same_unit_past : (xs ys : List ℕ) (i : ℕ) → length xs ≡ length ys → ((k d : ℕ) → 16 * i ≤ k → k < 16 * i + 16 → get_or xs k d ≡ get_or ys k d)
+    → unit_in xs i ≡ unit_in ys i
 same_unit_past xs ys i long same =
     same_lists (unit_in xs i) (unit_in ys i)
     (omega (arith, length-take 16 (drop (16 * i) xs), length-drop (16 * i) xs, length-take 16 (drop (16 * i) ys), length-drop (16 * i) ys))

@@ -3,18 +3,20 @@ use Rattle.std.proofs.Common.{◌≡◌, ℕ, ◌<◌, List, [], ◌∷◌, leng
 use Rattle.rpm_outside.specs.declared.disk.File.TheVariants.{Log}
 use Rattle.rpm_outside.specs.Files.{Units, Files, with_file, put, unit_at}
 use Rattle.rpm_outside.specs.Crash.{LeavesOnly, TornFile, Elapses, Follows}
-use Rattle.rpm_outside.specs.Moments.{started, goes_on, leaves_weaker}
+use Rattle.rpm_outside.specs.inner.Moments.{started, goes_on, leaves_weaker}
 use Rattle.rpm_outside.specs.Logs.{Entry, LogState, Closed, Open, is_blank, log_state, unlogged, with_entries, reopened}
-use Rattle.rpm_outside.specs.LogLaws.{NotLog, log_not_log, reopened_open, reopened_within, closing, blank_closed, first_unit, within_log, entries_log, unlogged_entries, entries_done}
+use Rattle.rpm_outside.specs.inner.LogLaws.{NotLog, log_not_log, reopened_open, reopened_within, closing, blank_closed, first_unit, within_log, entries_log, unlogged_entries, entries_done}
 use Rattle.rpm_outside.specs.EntryLaws.{Within}
 use Rattle.rpm_group.specs.Readings.{IsOpen}
-use Rattle.rpm_group.specs.Settled.{WasWithin, ReopensAs}
+use Rattle.rpm_group.specs.inner.Leavings.{WasWithin, ReopensAs}
 
 module _ {D : Type 0} (moment : D → ℕ) (left_since : D → ℕ → Files → Type 0) where
   -- the write of the gate
-  pub closing_leaves : (old new : D) (files : Files) (unit : List ℕ) (entries : List Entry) → is_blank unit ≡ true → 0 < length files.log → log_state files.log ≡ Open entries → with_entries entries (unlogged files) ≡ unlogged files
+  pub closing_leaves : (old new : D) (files : Files) (unit : List ℕ) (entries : List Entry) → is_blank unit ≡ true → 0 < length files.log
+      → log_state files.log ≡ Open entries → with_entries entries (unlogged files) ≡ unlogged files
       → ((image : Files) → left_since old (moment old) image → image ≡ files)
-      → Follows (TornFile Log 0 (unit ∷ [])) (left_since old (moment old)) (left_since new (moment new)) → Elapses (moment old) (moment new) (left_since old) (left_since new)
+      → Follows (TornFile Log 0 (unit ∷ [])) (left_since old (moment old)) (left_since new (moment new))
+      → Elapses (moment old) (moment new) (left_since old) (left_since new)
       → LeavesOnly moment left_since old new (ReopensAs (unlogged files))
   closing_leaves old new files unit entries blank some is done settled images time =
       goes_on moment left_since old old new (ReopensAs (unlogged files))
@@ -25,13 +27,16 @@ module _ {D : Type 0} (moment : D → ℕ) (left_since : D → ℕ → Files →
       closing unit files image entries blank some is done (subst (λ (f : Files). TornFile Log 0 (unit ∷ []) f image) (settled was.0 was.1) was.2))
 
   -- the entries, before it
-  pub written_leaves : (old new : D) (files : Files) (entries : List Entry) → log_state files.log ≡ Open entries → ((image : Files) → left_since old (moment old) image → image ≡ files)
-      → LeavesOnly moment left_since old new (WasWithin entries (left_since old (moment old))) → LeavesOnly moment left_since old new (ReopensAs (reopened files))
+  pub written_leaves : (old new : D) (files : Files) (entries : List Entry) → log_state files.log ≡ Open entries
+      → ((image : Files) → left_since old (moment old) image → image ≡ files)
+      → LeavesOnly moment left_since old new (WasWithin entries (left_since old (moment old)))
+      → LeavesOnly moment left_since old new (ReopensAs (reopened files))
   written_leaves old new files entries is settled run =
       leaves_weaker moment left_since old new (WasWithin entries (left_since old (moment old))) (ReopensAs (reopened files))
       (λ image was. reopened_within files image entries is (subst (λ (f : Files). Within entries f image) (settled was.0 was.1) was.2)) run
 
-pub closed_after : (files new : Files) (unit : List ℕ) → is_blank unit ≡ true → new ≡ with_file Log (put 0 (unit ∷ []) files.log) files → log_state new.log ≡ Closed
+pub closed_after : (files new : Files) (unit : List ℕ) → is_blank unit ≡ true → new ≡ with_file Log (put 0 (unit ∷ []) files.log) files
+    → log_state new.log ≡ Closed
 closed_after files new unit blank is =
     blank_closed new.log (ap (λ (f : Files). is_blank (unit_at f.log 0)) is ∙ ap is_blank (first_unit unit files.log) ∙ blank)
 
@@ -46,15 +51,18 @@ open_as state entries is = subst IsOpen (sym is) refl
 
 module _ {D : Type 0} (moment : D → ℕ) (left_since : D → ℕ → Files → Type 0) where
   -- the entries are written and the two files are settled
-  pub applied_settled : (old new : D) (files now : Files) (entries : List Entry) → NotLog entries → now ≡ with_entries entries files → ((image : Files) → left_since old (moment old) image → image ≡ files)
+  pub applied_settled : (old new : D) (files now : Files) (entries : List Entry) → NotLog entries → now ≡ with_entries entries files
+      → ((image : Files) → left_since old (moment old) image → image ≡ files)
       → LeavesOnly moment left_since old new (WasWithin entries (left_since old (moment old)))
       → ((image : Files) → left_since new (moment new) image → left_since new (moment old) image)
-      → ((image : Files) → left_since new (moment new) image → image.pkg ≡ now.pkg) → ((image : Files) → left_since new (moment new) image → image.idx ≡ now.idx)
+      → ((image : Files) → left_since new (moment new) image → image.pkg ≡ now.pkg)
+      → ((image : Files) → left_since new (moment new) image → image.idx ≡ now.idx)
       → (image : Files) → left_since new (moment new) image → image ≡ now
   applied_settled old new files now entries not is settled run earlier pkg idx image left =
       let was = run.each image (earlier image left) in
       three_files image now (pkg image left) (idx image left)
-      (within_log entries was.0 image not was.2 ∙ ap (λ (f : Files). f.log) (settled was.0 was.1) ∙ sym (entries_log entries files not) ∙ ap (λ (f : Files). f.log) (sym is))
+      (within_log entries was.0 image not was.2 ∙ ap (λ (f : Files). f.log) (settled was.0 was.1) ∙ sym (entries_log entries files not)
+      ∙ ap (λ (f : Files). f.log) (sym is))
 
 -- the files once the entries of their log are written
 module _ (files mid : Files) (entries : List Entry) (is : log_state files.log ≡ Open entries) (written : mid ≡ with_entries entries files) where

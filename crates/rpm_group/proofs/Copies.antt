@@ -8,7 +8,7 @@ use Rattle.rpm_outside.specs.Files.{Units, Files, file_of, with_file, put}
 use Rattle.rpm_outside.specs.History.{file_of-with}
 use Rattle.rpm_outside.specs.Literal.{other_file}
 use Rattle.rpm_outside.specs.Changed.{with_file-with_file}
-use Rattle.rpm_outside.specs.PutMore.{put_some, put_some_is, put_some_append}
+use Rattle.rpm_outside.specs.inner.PutMore.{put_some, put_some_is, put_some_append}
 
 pub page_count : (n : ℕ) (page : List ℕ) → length page ≡ 4096 → n ≤ 256 → length (take (16 * n) page) / 16 ≡ n
 page_count n page long le = omega (arith, length-take (16 * n) page)
@@ -39,7 +39,8 @@ module _ (file : File) (at from done n : ℕ) (log : Units) (first mid new : Fil
       ∙ ap (λ (f : Files). with_file file (put (at + done) piece (file_of file f)) f) is
       ∙ with_file-with_file file (put (at + done) piece (file_of file (with_file file here first))) here first
       ∙ ap (λ (us : Units). with_file file (put (at + done) piece us) first) (file_of-with file here first)
-      ∙ ap (λ (us : Units). with_file file us first) (put_some_append at (at + done) so_far piece (file_of file first) (omega (arith, long_piece)) (omega (arith, long_so_far)))
+      ∙ ap (λ (us : Units). with_file file us first) (put_some_append at (at + done) so_far piece (file_of file first) (omega (arith, long_piece))
+      (omega (arith, long_so_far)))
       ∙ ap (λ (us : Units). with_file file (put_some at us (file_of file first)) first) (sym parts)
     where
       here : Units
@@ -50,7 +51,8 @@ pub log_stays : (file : File) (units : Units) (old new : Files) → (file ≡ Lo
 log_stays file units old new differ is = ap (λ (f : Files). f.log) is ∙ other_file Log file units old (λ e. differ (sym e))
 
 pub copied_all : (file : File) (at from done count : ℕ) (log : Units) (first new : Files) → done ≡ count → 0 < count → from + count ≤ length log
-    → new ≡ with_file file (put_some at (take done (drop from log)) (file_of file first)) first → new ≡ with_file file (put at (take count (drop from log)) (file_of file first)) first
+    → new ≡ with_file file (put_some at (take done (drop from log)) (file_of file first)) first
+    → new ≡ with_file file (put at (take count (drop from log)) (file_of file first)) first
 copied_all file at from done count log first new is some within so_far =
     so_far
     ∙ ap (λ (k : ℕ). with_file file (put_some at (take k (drop from log)) (file_of file first)) first) is

@@ -15,7 +15,8 @@ step_one test n one = ap (λ (b : Bool). count_below test n + (if b then 1 else 
 
 pub count_none : (test : ℕ → Bool) (from n : ℕ) → ((i : ℕ) → from ≤ i → i < from + n → test i ≡ false) → count_below test (from + n) ≡ count_below test from
 count_none test from zero none = ap (λ (k : ℕ). count_below test k) (omega arith)
-count_none test from (suc n) none = ap (λ (k : ℕ). count_below test k) (next from n) ∙ step test (from + n) (none (from + n) (omega arith) (omega arith)) ∙ count_none test from n (λ i low high. none i low (omega arith))
+count_none test from (suc n) none = ap (λ (k : ℕ). count_below test k) (next from n)
+    ∙ step test (from + n) (none (from + n) (omega arith) (omega arith)) ∙ count_none test from n (λ i low high. none i low (omega arith))
   where
     next : (a b : ℕ) → a + suc b ≡ suc (a + b)
     next a b = omega arith
@@ -57,7 +58,14 @@ pub log_units_later : (table : Table) (from end : ℕ) → from ≤ end → log_
 log_units_later table from end le =
     let n : ℕ = end - from in
     let is : from + n ≡ end = omega arith in
-    omega (arith, count_later (begins_run table) from n, count_later (is_held table) from n, ap (λ (k : ℕ). count_below (begins_run table) k) is, ap (λ (k : ℕ). count_below (is_held table) k) is)
+    omega (
+      arith,
+      count_later (begins_run table) from n,
+      count_later (is_held table) from n,
+      ap (λ (k : ℕ). count_below (begins_run table) k) is,
+      ap
+          (λ (k : ℕ). count_below (is_held table) k) is,
+    )
 
 begins_unheld : (table : Table) (i : ℕ) → is_held table i ≡ false → begins_run table i ≡ false
 unfolding begins_run
@@ -90,10 +98,12 @@ module _ (table : Table) (at first : ℕ) (from : at ≤ first) (before : (i : �
   gap = omega arith
 
   pub gap_begins : count_below (begins_run table) first ≡ count_below (begins_run table) at
-  gap_begins = ap (λ (k : ℕ). count_below (begins_run table) k) (sym gap) ∙ count_none (begins_run table) at (first - at) (λ i low high. begins_unheld table i (before i low (omega (arith, high, gap))))
+  gap_begins = ap (λ (k : ℕ). count_below (begins_run table) k) (sym gap)
+      ∙ count_none (begins_run table) at (first - at) (λ i low high. begins_unheld table i (before i low (omega (arith, high, gap))))
 
   pub gap_units : count_below (is_held table) first ≡ count_below (is_held table) at
-  gap_units = ap (λ (k : ℕ). count_below (is_held table) k) (sym gap) ∙ count_none (is_held table) at (first - at) (λ i low high. before i low (omega (arith, high, gap)))
+  gap_units = ap (λ (k : ℕ). count_below (is_held table) k) (sym gap)
+      ∙ count_none (is_held table) at (first - at) (λ i low high. before i low (omega (arith, high, gap)))
 
   -- units that aren't held cost nothing
   pub gap_counted : log_units table first ≡ log_units table at
@@ -122,14 +132,18 @@ module _ (table : Table) (at first : ℕ) (from : at ≤ first) (before : (i : �
         let is_m : suc first + m ≡ stop = omega arith in
         let starts_here : begins_run table first ≡ true = begins_first table first (held first (omega arith) some) previous in
         let head : count_below (begins_run table) (suc first) ≡ count_below (begins_run table) first + 1 = step_one (begins_run table) first starts_here in
-        let rest : count_below (begins_run table) stop ≡ count_below (begins_run table) (suc first) = ap (λ (k : ℕ). count_below (begins_run table) k) (sym is_m) ∙ count_none (begins_run table) (suc first) m (λ i low high. within i low (omega (arith, high, is_m))) in
+        let rest : count_below (begins_run table) stop ≡ count_below (begins_run table) (suc first) =
+        ap (λ (k : ℕ). count_below (begins_run table) k) (sym is_m)
+        ∙ count_none (begins_run table) (suc first) m (λ i low high. within i low (omega (arith, high, is_m))) in
         omega (arith, head, rest, gap_begins)
 
     pub run_units : count_below (is_held table) stop ≡ count_below (is_held table) at + (stop - first)
     run_units =
         let n : ℕ = stop - first in
         let is_n : first + n ≡ stop = omega arith in
-        let units : count_below (is_held table) stop ≡ count_below (is_held table) first + n = ap (λ (k : ℕ). count_below (is_held table) k) (sym is_n) ∙ count_all (is_held table) first n (λ i low high. held i low (omega (arith, high, is_n))) in
+        let units : count_below (is_held table) stop ≡ count_below (is_held table) first + n =
+        ap (λ (k : ℕ). count_below (is_held table) k) (sym is_n)
+        ∙ count_all (is_held table) first n (λ i low high. held i low (omega (arith, high, is_n))) in
         omega (arith, units, gap_units)
 
     -- it costs its head and its units
@@ -164,7 +178,8 @@ unbegun table n none (suc i) below = either (is_held table (suc i)) (is_held tab
 
 pub no_runs : (table : Table) (end : ℕ) → count_below (begins_run table) end ≡ 0 → log_units table end ≡ 0
 no_runs table end none =
-    let counted : count_below (is_held table) (0 + end) ≡ count_below (is_held table) 0 = count_none (is_held table) 0 end (λ i low high. unbegun table end (none_pass (begins_run table) end none) i (omega (arith, high))) in
+    let counted : count_below (is_held table) (0 + end) ≡ count_below (is_held table) 0 =
+    count_none (is_held table) 0 end (λ i low high. unbegun table end (none_pass (begins_run table) end none) i (omega (arith, high))) in
     let same : 0 + end ≡ end = omega arith in
     omega (arith, none, counted, ap (λ (k : ℕ). count_below (is_held table) k) same, log_units_none table)
 

@@ -3,14 +3,15 @@ use Rattle.std.proofs.Common.{◌≡◌, ℕ, suc, ◌+◌, ◌<◌, ◌≤◌, 
 use Rattle.rpm_outside.specs.declared.disk.File.TheVariants.{Log}
 use Rattle.rpm_outside.specs.Files.{Units, Files, with_file, unit_at, put}
 use Rattle.rpm_outside.specs.Crash.{TornFile}
-use Rattle.rpm_outside.specs.Puts.{length-put, put_before, put_inside}
+use Rattle.rpm_outside.specs.inner.Puts.{length-put, put_before, put_inside}
 use Rattle.rpm_outside.specs.History.{torn_file_whole}
 use Rattle.rpm_outside.specs.Changed.{ChangedIn, torn_changed, changed_more}
 use Rattle.rpm_outside.specs.Logs.{Entry, word}
 use Rattle.rpm_outside.specs.LogWrites.{EntryIn, EntriesIn, entries_kept, entries_push}
-use Rattle.rpm_group.specs.Words.{IsHeadOf}
+use Rattle.rpm_group.specs.inner.Words.{IsHeadOf}
 
-module _ (entry : Entry) (head : List ℕ) (p : ℕ) (old new : Units) (is : new ≡ put p (head ∷ entry.units) old) (says : IsHeadOf entry.file entry.first (length entry.units) head)
+module _ (entry : Entry) (head : List ℕ) (p : ℕ) (old new : Units) (is : new ≡ put p (head ∷ entry.units) old)
+    (says : IsHeadOf entry.file entry.first (length entry.units) head)
     (not_log : entry.file ≡ Log → ⊥) (some : 0 < length entry.units) (room : entry.first + length entry.units ≤ 268_435_456) where
   long : length new ≡ max (length old) (p + (1 + length entry.units))
   long = ap length is ∙ length-put p (head ∷ entry.units) old ∙ omega arith
@@ -37,14 +38,17 @@ module _ (entry : Entry) (head : List ℕ) (p : ℕ) (old new : Units) (is : new
         ap (λ (i : ℕ). unit_at new i) place ∙ inside (suc k) (omega arith);
   }
 
-  pub entered_more : (entries : List Entry) (from next : ℕ) → EntriesIn entries from p old → next ≡ p + 1 + length entry.units → EntriesIn (entries ++ entry ∷ []) from next new
+  pub entered_more : (entries : List Entry) (from next : ℕ) → EntriesIn entries from p old → next ≡ p + 1 + length entry.units
+      → EntriesIn (entries ++ entry ∷ []) from next new
   entered_more entries from next so_far is_next =
       entries_push entries from p next entry new
-      (entries_kept entries from p old new (λ i low high. ap (λ (us : Units). unit_at us i) is ∙ put_before p (head ∷ entry.units) old i high) (omega (arith, long)) so_far)
+      (entries_kept entries from p old new (λ i low high. ap (λ (us : Units). unit_at us i) is ∙ put_before p (head ∷ entry.units) old i high)
+      (omega (arith, long)) so_far)
       entered is_next
 
 -- what a write to the log changes
-pub put_changed : (at end low high : ℕ) (units : Units) (old new : Files) → at + length units ≡ end → low ≤ at → end ≤ high → new ≡ with_file Log (put at units old.log) old → ChangedIn Log low high old new
+pub put_changed : (at end low high : ℕ) (units : Units) (old new : Files) → at + length units ≡ end → low ≤ at → end ≤ high
+    → new ≡ with_file Log (put at units old.log) old → ChangedIn Log low high old new
 put_changed at end low high units old new long below above is =
     changed_more Log at end low high old new below above
     (torn_changed Log at units end old new long (subst (λ (f : Files). TornFile Log at units old f) (sym is) (torn_file_whole Log at units old)))

@@ -4,11 +4,12 @@ use Rattle.std.specs.Prelude.{if◌then◌else◌, Bool}
 use Rattle.rpm_outside.specs.declared.disk.File.TheVariants.{Pkg, Idx, Log}
 use Rattle.rpm_outside.specs.Files.{Files, Units, unit_at}
 use Rattle.rpm_outside.specs.Logs.{Entry, LogState, Closed, Malformed, Open, word, is_blank, is_gate, is_head, entry_at, heads, log_state}
-use Rattle.rpm_outside.specs.LogLaws.{blank_closed}
+use Rattle.rpm_outside.specs.inner.LogLaws.{blank_closed}
 use Rattle.rpm_outside.specs.LogRules.{gate_wrong, gate_right, gate_last, head_parts, after, after-wrong, after-open, after-push, heads_right, heads_wrong, heads_done, heads_more}
 use Rattle.rpm_group.specs.declared.log.Head.{Head}
 use Rattle.std.proofs.Common.{Option}
-use Rattle.rpm_group.specs.Readings.{GateSays, IsHead, HeadIs, HeadSays, IsOpen}
+use Rattle.rpm_group.specs.Readings.{IsOpen}
+use Rattle.rpm_group.specs.inner.LogReadings.{GateSays, IsHead, HeadIs, HeadSays}
 use Rattle.rpm_group.specs.declared.log.Reading.TheVariants.{Opened}
 
 module _ (files mid : Files) (gate : List ℕ) (units : ℕ) (same : mid ≡ files) (is : gate ≡ unit_at mid.log 0) where
@@ -28,7 +29,8 @@ module _ (files mid : Files) (gate : List ℕ) (units : ℕ) (same : mid ≡ fil
     pub wrong_read : false ≡ is_gate units gate → log_state files.log ≡ Malformed 0
     wrong_read wrong = gate_wrong files.log full_here (gate_here ∙ sym wrong)
 
-    pub right_read : true ≡ is_gate units gate → (entries last : ℕ) → entries ≡ word 2 gate → last ≡ word 3 gate → GateSays (Opened (record { entries = entries; last = last })) files.log
+    pub right_read : true ≡ is_gate units gate → (entries last : ℕ) → entries ≡ word 2 gate → last ≡ word 3 gate
+        → GateSays (Opened (record { entries = entries; last = last })) files.log
     right_read right entries last e l =
         let right_here : is_gate (length files.log) (unit_at files.log 0) ≡ true = gate_here ∙ sym right in (
           gate_right files.log full_here right_here
@@ -38,7 +40,8 @@ module _ (files mid : Files) (gate : List ℕ) (units : ℕ) (same : mid ≡ fil
         )
 
 -- a right head
-module _ (last p : ℕ) (unit : List ℕ) (head : Head) (right : is_head last p unit ≡ true) (file : head.file ≡ (if word 0 unit == 1 then Pkg else Idx)) (first : head.first ≡ word 1 unit) (count : head.count ≡ word 2 unit) where
+module _ (last p : ℕ) (unit : List ℕ) (head : Head) (right : is_head last p unit ≡ true) (file : head.file ≡ (if word 0 unit == 1 then Pkg else Idx))
+    (first : head.first ≡ word 1 unit) (count : head.count ≡ word 2 unit) where
   pub head_read : IsHead last p head
   head_read =
       let parts = head_parts last p unit right in
@@ -64,7 +67,8 @@ module _ (last p : ℕ) (unit : List ℕ) (head : Head) (right : is_head last p 
 
 -- ---- going through the heads
 
-module _ (state : LogState) (done : List Entry) (n p last : ℕ) (log : Units) (left : ℕ) (so_far : state ≡ after done (heads n p last log)) (is_left : n ≡ suc left) where
+module _ (state : LogState) (done : List Entry) (n p last : ℕ) (log : Units) (left : ℕ) (so_far : state ≡ after done (heads n p last log))
+    (is_left : n ≡ suc left) where
   step : state ≡ after done (heads (suc left) p last log)
   step = so_far ∙ ap (λ (k : ℕ). after done (heads k p last log)) is_left
 
@@ -96,5 +100,7 @@ module _ (state : LogState) (done : List Entry) (n p last : ℕ) (log : Units) (
   end_wrong other = at_end ∙ ap (after done) (heads_more p last log other) ∙ after-wrong done p
 
 -- what was read of a log that reads as before
-pub read_as : (last p : ℕ) (files mid : Files) (head found : Option Head) → mid ≡ files → head ≡ found → HeadSays last p mid.log head → HeadSays last p files.log found
-read_as last p files mid head found same is says = subst (λ (h : Option Head). HeadSays last p files.log h) is (subst (λ (f : Files). HeadSays last p f.log head) same says)
+pub read_as : (last p : ℕ) (files mid : Files) (head found : Option Head) → mid ≡ files → head ≡ found → HeadSays last p mid.log head
+    → HeadSays last p files.log found
+read_as last p files mid head found same is says =
+    subst (λ (h : Option Head). HeadSays last p files.log h) is (subst (λ (f : Files). HeadSays last p f.log head) same says)

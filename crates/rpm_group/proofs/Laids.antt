@@ -5,10 +5,11 @@ use Rattle.std.proofs.lemmas.List.{get_or_past}
 use Rattle.std.proofs.lemmas.List.FromFn.{length-map-range_with_len, get_or-map-range_with_len}
 use Rattle.std.proofs.lemmas.Bool.{cases_lt}
 use Rattle.rpm_outside.specs.Files.{Units, unit_at, units_of, blank, put}
-use Rattle.rpm_outside.specs.Cuts.{length-cut_up, unit_at-cut_up}
-use Rattle.rpm_outside.specs.Puts.{length-put, put_before, put_inside, put_after}
-use Rattle.rpm_outside.specs.PutLaws.{same_units}
-use Rattle.rpm_group.specs.Held.{Table, unit_in, held_at, unit_over, laid, EndsAt, Holds, SameHeld}
+use Rattle.rpm_outside.specs.inner.Cuts.{length-cut_up, unit_at-cut_up}
+use Rattle.rpm_outside.specs.inner.Puts.{length-put, put_before, put_inside, put_after}
+use Rattle.rpm_outside.specs.inner.PutLaws.{same_units}
+use Rattle.rpm_group.specs.Held.{Table, unit_in, held_at, unit_over, laid, EndsAt}
+use Rattle.rpm_group.specs.inner.Holding.{Holds, SameHeld}
 
 pub length-laid : (table : Table) (end : ℕ) (file : Units) → length (laid table end file) ≡ max (length file) end
 unfolding laid
@@ -30,14 +31,16 @@ laid_none table file past = same_units (laid table 0 file) file (omega (arith, l
     (λ i. unit_at-laid table 0 file past i ∙ ap (λ (o : Option (List ℕ)). unwrap_or o (unit_at file i)) (past i (omega arith)))
 
 pub laid_same : (old new : Table) (end : ℕ) (file : Units) → EndsAt old end → EndsAt new end → SameHeld old new → laid new end file ≡ laid old end file
-laid_same old new end file past after same = same_units (laid new end file) (laid old end file) (omega (arith, length-laid new end file, length-laid old end file))
+laid_same old new end file past after same =
+    same_units (laid new end file) (laid old end file) (omega (arith, length-laid new end file, length-laid old end file))
     (λ i. unit_at-laid new end file after i ∙ ap (λ (o : Option (List ℕ)). unwrap_or o (unit_at file i)) (same i) ∙ sym (unit_at-laid old end file past i))
 
 -- unit k of these bytes, said in two ways
 pub unit_of_bytes : (bytes : List ℕ) (k : ℕ) → k < length bytes / 16 → unit_at (units_of bytes) k ≡ unit_in bytes k
 unit_of_bytes bytes k below = unit_at-cut_up (length bytes / 16) bytes k below
 
-module _ (unit : ℕ) (bytes : List ℕ) (old new : Table) (end next : ℕ) (holds : Holds unit bytes old new) (past : EndsAt old end) (is : next ≡ max end (unit + length bytes / 16)) where
+module _ (unit : ℕ) (bytes : List ℕ) (old new : Table) (end next : ℕ) (holds : Holds unit bytes old new) (past : EndsAt old end)
+    (is : next ≡ max end (unit + length bytes / 16)) where
   pub ends_later : EndsAt new next
   ends_later i after = holds.outside i (inr (omega (arith, after, is))) ∙ past i (omega (arith, after, is))
 
@@ -83,7 +86,8 @@ pub some_held : (o : Option (List ℕ)) (unit : List ℕ) → o ≡ Some unit �
 some_held o unit some none = let e : Some unit ≡ None = sym some ∙ none in cc
 
 -- the last unit is held
-pub last_held : (unit n : ℕ) (bytes : List ℕ) (old new : Table) (end next : ℕ) → Holds unit bytes old new → next ≡ max end (unit + n) → n ≡ length bytes / 16 → 0 < n → (0 < end → held_at old (end - 1) ≡ None → ⊥) → held_at new (next - 1) ≡ None → ⊥
+pub last_held : (unit n : ℕ) (bytes : List ℕ) (old new : Table) (end next : ℕ) → Holds unit bytes old new → next ≡ max end (unit + n)
+    → n ≡ length bytes / 16 → 0 < n → (0 < end → held_at old (end - 1) ≡ None → ⊥) → held_at new (next - 1) ≡ None → ⊥
 last_held unit n bytes old new end next holds is is_n some last none = elim (cases_lt (unit + n) end) [
   | inl longer ↦
       let same : next - 1 ≡ end - 1 = omega arith in

@@ -1,3 +1,4 @@
+mod Fixtures
 pub mod Gates
 pub mod Copies
 pub mod Applied

@@ -6,15 +6,16 @@ use Rattle.std.proofs.lemmas.List.{length_push}
 use Rattle.rpm_outside.specs.declared.disk.File.{File}
 use Rattle.rpm_outside.specs.declared.disk.File.TheVariants.{Pkg, Idx, Log}
 use Rattle.rpm_outside.specs.Files.{Units, Files, file_of, with_file, unit_at, put, blank}
-use Rattle.rpm_outside.specs.Puts.{length-put, put_before, put_inside, put_after}
-use Rattle.rpm_outside.specs.PutLaws.{same_units}
+use Rattle.rpm_outside.specs.inner.Puts.{length-put, put_before, put_inside, put_after}
+use Rattle.rpm_outside.specs.inner.PutLaws.{same_units}
 use Rattle.rpm_outside.specs.History.{file_of-with}
 use Rattle.rpm_outside.specs.Literal.{cases_file, other_file}
 use Rattle.rpm_outside.specs.Logs.{Entry, with_entries}
 use Rattle.rpm_outside.specs.EntryLaws.{Covers}
 use Rattle.rpm_group.specs.Held.{Table, held_at, unit_over, laid, EndsAt}
-use Rattle.rpm_group.specs.Counts.{is_held, begins_run, count_below, AreHeld}
-use Rattle.rpm_group.specs.Logged.{Logged, run_entry}
+use Rattle.rpm_group.specs.Counts.{is_held, begins_run, count_below}
+use Rattle.rpm_group.specs.inner.HeldUnits.{AreHeld}
+use Rattle.rpm_group.specs.inner.Logged.{Logged, run_entry}
 use Rattle.rpm_group.proofs.Applied.{with_entries-append}
 use Rattle.rpm_group.proofs.Runs.{length-units_held, unit_at-units_held}
 use Rattle.rpm_group.proofs.Laids.{length-laid, unit_at-laid}
@@ -53,7 +54,8 @@ logged_none file table none = record {
   count = sym none;
 }
 
-module _ (entries : List Entry) (file : File) (table : Table) (at first : ℕ) (so_far : Logged entries file table at) (low : at ≤ first) (between : (i : ℕ) → at ≤ i → i < first → is_held table i ≡ false) where
+module _ (entries : List Entry) (file : File) (table : Table) (at first : ℕ) (so_far : Logged entries file table at) (low : at ≤ first)
+    (between : (i : ℕ) → at ≤ i → i < first → is_held table i ≡ false) where
   -- units that aren't held need no entry
   pub logged_gap : count_below (begins_run table) first ≡ count_below (begins_run table) at → Logged entries file table first
   logged_gap counted = record {
@@ -88,7 +90,8 @@ module _ (entries : List Entry) (file : File) (table : Table) (at first : ℕ) (
     long_entry = length-units_held table first (stop - first)
 
     written : (files : Files) → file_of file (with_entries all files) ≡ put first entry.units (file_of file (with_entries entries files))
-    written files = ap (λ (f : Files). file_of file f) (with_entries-append entries (entry ∷ []) files) ∙ file_of-with file (put first entry.units (file_of file (with_entries entries files))) (with_entries entries files)
+    written files = ap (λ (f : Files). file_of file f) (with_entries-append entries (entry ∷ []) files)
+        ∙ file_of-with file (put first entry.units (file_of file (with_entries entries files))) (with_entries entries files)
 
     -- one run more
     pub logged_more : count_below (begins_run table) stop ≡ count_below (begins_run table) at + 1 → Logged all file table stop
@@ -128,19 +131,30 @@ module _ (entries : List Entry) (file : File) (table : Table) (at first : ℕ) (
           ∙ other_file other file (put first entry.units (file_of file (with_entries entries files))) (with_entries entries files) differ
           ∙ so_far.others files other differ;
       end = stop;
-      long = λ files. omega (arith, ap length (written files), length-put first entry.units (file_of file (with_entries entries files)), so_far.long files, long_entry, so_far.end_below);
+      long = λ files. omega (
+        arith,
+        ap length (written files),
+        length-put first entry.units (file_of file (with_entries entries files)),
+        so_far.long
+            files,
+        long_entry,
+        so_far.end_below,
+      );
       end_below = omega arith;
       gap = λ i from below. absurd (omega (arith, from, below));
       count = length_push entries entry ∙ omega (arith, so_far.count, counted);
     }
 
 -- all runs together are what is held
-pub logged_laid : (entries : List Entry) (file : File) (table : Table) (end : ℕ) → Logged entries file table end → EndsAt table end → (0 < end → held_at table (end - 1) ≡ None → ⊥)
+pub logged_laid : (entries : List Entry) (file : File) (table : Table) (end : ℕ) → Logged entries file table end → EndsAt table end
+    → (0 < end → held_at table (end - 1) ≡ None → ⊥)
     → (files : Files) → with_entries entries files ≡ with_file file (laid table end (file_of file files)) files
-logged_laid entries file table end all past last files = same_files (with_entries entries files) (with_file file whole files) (λ other. elim (cases_file other file) [
-  | inl same ↦ subst (λ (g : File). file_of g (with_entries entries files) ≡ file_of g (with_file file whole files)) (sym same) (here ∙ sym (file_of-with file whole files))
-  | inr differ ↦ all.others files other differ ∙ sym (other_file other file whole files differ)
-])
+logged_laid entries file table end all past last files = same_files (with_entries entries files) (with_file file whole files)
+    (λ other. elim (cases_file other file) [
+      | inl same ↦ subst (λ (g : File). file_of g (with_entries entries files) ≡ file_of g (with_file file whole files)) (sym same)
+          (here ∙ sym (file_of-with file whole files))
+      | inr differ ↦ all.others files other differ ∙ sym (other_file other file whole files differ)
+    ])
   where
     whole : Units
     whole = laid table end (file_of file files)
@@ -153,7 +167,8 @@ logged_laid entries file table end all past last files = same_files (with_entrie
 
     end_is : all.end ≡ end
     end_is = elim (cases_lt all.end end) [
-      | inl shorter ↦ absurd (last (omega (arith, shorter)) (unheld_is (held_at table (end - 1)) (all.gap (end - 1) (omega (arith, shorter)) (omega (arith, shorter)))))
+      | inl shorter ↦ absurd (last (omega (arith, shorter))
+          (unheld_is (held_at table (end - 1)) (all.gap (end - 1) (omega (arith, shorter)) (omega (arith, shorter)))))
       | inr longer ↦ omega (arith, longer, all.end_below)
     ]
 

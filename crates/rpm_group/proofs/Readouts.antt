@@ -5,9 +5,10 @@ use Rattle.std.proofs.lemmas.List.{length-take, length-drop, get_or-take, get_or
 use Rattle.std.proofs.lemmas.Bool.{cases_lt}
 use borrow.Rule.Slice.PartMut.{put_mid}
 use Rattle.rpm_outside.specs.Files.{Units, unit_at, units_of, blank}
-use Rattle.rpm_outside.specs.Cuts.{length-cut_up}
-use Rattle.rpm_outside.specs.PutLaws.{same_units}
-use Rattle.rpm_group.specs.Held.{Table, unit_in, held_at, laid, EndsAt, LaysOver}
+use Rattle.rpm_outside.specs.inner.Cuts.{length-cut_up}
+use Rattle.rpm_outside.specs.inner.PutLaws.{same_units}
+use Rattle.rpm_group.specs.Held.{Table, unit_in, held_at, laid, EndsAt}
+use Rattle.rpm_group.specs.inner.Holding.{LaysOver}
 use Rattle.rpm_group.proofs.ByteLaws.{length-put_mid, get_or_put_inside}
 use Rattle.rpm_group.proofs.Laids.{unit_of_bytes, unit_at-laid}
 
@@ -24,7 +25,8 @@ unfolding blank
 get_or-blank b d below = get_or-replicate 16 b 0 d below
 
 -- the first t units were read into `front`, and the rest of `into` was made zeros before
-module _ (file : Units) (unit t n a size : ℕ) (into front zeros : List ℕ) (is_t : t ≡ min (length file - unit) n) (long : length into ≡ 16 * n) (is_a : a ≡ 16 * t) (is_size : size ≡ 16 * n - 16 * t) (zero : zeros ≡ replicate size 0) (front_long : length front ≡ 16 * t)
+module _ (file : Units) (unit t n a size : ℕ) (into front zeros : List ℕ) (is_t : t ≡ min (length file - unit) n) (long : length into ≡ 16 * n)
+    (is_a : a ≡ 16 * t) (is_size : size ≡ 16 * n - 16 * t) (zero : zeros ≡ replicate size 0) (front_long : length front ≡ 16 * t)
     (read : units_of front ≡ take t (drop unit file)) where
   abbrev mid : List ℕ
   mid = put_mid a size into zeros
@@ -79,8 +81,10 @@ module _ (file : Units) (unit t n a size : ℕ) (into front zeros : List ℕ) (i
   read_units k below = elim (cases_lt k t) [ inl before ↦ first k before | inr past ↦ last k past below ]
 
 -- what is held laid over what was read
-pub read_laid : (table : Table) (end : ℕ) (file : Units) (unit n : ℕ) (read into : List ℕ) → EndsAt table end → n ≡ length into / 16 → length read ≡ length into → unit + n ≤ length (laid table end file)
-    → ((k : ℕ) → k < n → is_some (held_at table (unit + k)) ≡ false → unit_in read k ≡ unit_at file (unit + k)) → LaysOver unit table read into → units_of into ≡ take n (drop unit (laid table end file))
+pub read_laid : (table : Table) (end : ℕ) (file : Units) (unit n : ℕ) (read into : List ℕ) → EndsAt table end → n ≡ length into / 16
+    → length read ≡ length into → unit + n ≤ length (laid table end file)
+    → ((k : ℕ) → k < n → is_some (held_at table (unit + k)) ≡ false → unit_in read k ≡ unit_at file (unit + k)) → LaysOver unit table read into
+    → units_of into ≡ take n (drop unit (laid table end file))
 read_laid table end file unit n read into past is_n same_long within units lays = same_units (units_of into) (take n (drop unit (laid table end file)))
     (omega (arith, length-cut_up (length into / 16) into, length-take n (drop unit (laid table end file)), length-drop unit (laid table end file)))
     (λ k. elim (cases_lt k n) [

@@ -5,7 +5,8 @@ use Rattle.std.specs.declared.alloc.Global.{Global}
 use Rattle.std.proofs.lemmas.List.{length-take, length-drop, get_or_append_left, get_or_past, length_push, get_or_push, get_or-take, get_or-drop, same_lists}
 use Rattle.std.proofs.lemmas.Bool.{cases_lt, cases_eq, cases_order}
 use Rattle.rpm_group.specs.declared.page.Page.{Page}
-use Rattle.rpm_group.specs.Held.{Table, unit_in, in_page, page_at, in_paged, held_at, SameHeld, KeepsPages, PageWrote, Holds}
+use Rattle.rpm_group.specs.Held.{Table, unit_in, in_page, page_at, in_paged, held_at}
+use Rattle.rpm_group.specs.inner.Holding.{SameHeld, KeepsPages, PageWrote, Holds}
 
 Paged : Type 0
 Paged = Option (Box Page Global)
@@ -21,7 +22,8 @@ module _ (table : Table) (q : ℕ) (page : Option (Box Page Global)) where
   unfolding held_at
   held_set_other i other = ap (λ (x : Option (Box Page Global)). in_paged x (i % 256)) (get_or-set_other table q (i / 256) page None other)
 
-  pub page_set : (p : ℕ) → q < length table → (is_some (page_at table p) ≡ true → is_some page ≡ true) → is_some (page_at table p) ≡ true → is_some (page_at (set table q page) p) ≡ true
+  pub page_set : (p : ℕ) → q < length table → (is_some (page_at table p) ≡ true → is_some page ≡ true) → is_some (page_at table p) ≡ true
+      → is_some (page_at (set table q page) p) ≡ true
   page_set p below here there = elim (cases_eq p q) [
     | inl same ↦
         ap (λ (r : ℕ). is_some (get_or (set table q page) r None)) same
@@ -48,7 +50,8 @@ unfolding held_at
 held_push table i = ap (λ (x : Option (Box Page Global)). in_paged x (i % 256)) (page_push table (i / 256))
 
 -- a page of which nothing is held, where there was none
-pub held_added : (table : Table) (q : ℕ) (page : Box Page Global) → q < length table → page_at table q ≡ None → ((k : ℕ) → in_page page.value k ≡ None) → SameHeld table (set table q (Some page))
+pub held_added : (table : Table) (q : ℕ) (page : Box Page Global) → q < length table → page_at table q ≡ None
+    → ((k : ℕ) → in_page page.value k ≡ None) → SameHeld table (set table q (Some page))
 held_added table q page below none nothing i = elim (cases_eq (i / 256) q) [
   | inl here ↦
       held_set_here table q (Some page) i here below
@@ -59,7 +62,8 @@ held_added table q page below none nothing i = elim (cases_eq (i / 256) q) [
 ]
 
 -- units of one page
-module _ (table : Table) (q at : ℕ) (bytes : List ℕ) (page new : Box Page Global) (below : q < length table) (is : page_at table q ≡ Some page) (within : at + length bytes / 16 ≤ 256) (wrote : PageWrote at bytes page.value new.value) where
+module _ (table : Table) (q at : ℕ) (bytes : List ℕ) (page new : Box Page Global) (below : q < length table) (is : page_at table q ≡ Some page)
+    (within : at + length bytes / 16 ≤ 256) (wrote : PageWrote at bytes page.value new.value) where
   pub held_written : Holds (256 * q + at) bytes table (set table q (Some new))
   held_written = record { inside = here; outside = elsewhere }
     where
@@ -88,7 +92,16 @@ module _ (table : Table) (q at : ℕ) (bytes : List ℕ) (page new : Box Page Gl
 
 pub unit_in_part : (bytes : List ℕ) (from n size k : ℕ) → size ≡ 16 * n → k < n → unit_in (take size (drop (16 * from) bytes)) k ≡ unit_in bytes (from + k)
 unit_in_part bytes from n size k is below = same_lists (unit_in (take size (drop (16 * from) bytes)) k) (unit_in bytes (from + k))
-    (omega (arith, length-take 16 (drop (16 * k) (take size (drop (16 * from) bytes))), length-drop (16 * k) (take size (drop (16 * from) bytes)), length-take size (drop (16 * from) bytes), length-drop (16 * from) bytes, length-take 16 (drop (16 * (from + k)) bytes), length-drop (16 * (from + k)) bytes))
+    (omega (
+      arith,
+      length-take 16 (drop (16 * k) (take size (drop (16 * from) bytes))),
+      length-drop (16 * k) (take size (drop (16 * from) bytes)),
+      length-take size (drop (16 * from) bytes),
+      length-drop (16 * from) bytes,
+      length-take 16 (drop (16 * (from + k)) bytes),
+      length-drop
+          (16 * (from + k)) bytes,
+    ))
     (λ b d less.
     let short : b < 16 = omega (arith, length-take 16 (drop (16 * k) (take size (drop (16 * from) bytes)))) in
     let place : 16 * from + (16 * k + b) ≡ 16 * (from + k) + b = omega arith in
@@ -100,8 +113,10 @@ unit_in_part bytes from n size k is below = same_lists (unit_in (take size (drop
     ∙ sym (get_or-drop (16 * (from + k)) bytes b d)
     ∙ sym (get_or-take 16 (drop (16 * (from + k)) bytes) b d short))
 
-module _ (unit done n : ℕ) (bytes part : List ℕ) (first now next : Table) (long : length part / 16 ≡ n) (same : (k : ℕ) → k < n → unit_in part k ≡ unit_in bytes (done + k)) (place : ℕ) (is_place : place ≡ unit + done) (holds : Holds place part now next) where
-  pub inside_more : ((k : ℕ) → k < done → held_at now (unit + k) ≡ Some (unit_in bytes k)) → (k : ℕ) → k < done + n → held_at next (unit + k) ≡ Some (unit_in bytes k)
+module _ (unit done n : ℕ) (bytes part : List ℕ) (first now next : Table) (long : length part / 16 ≡ n) (same : (k : ℕ) → k < n
+    → unit_in part k ≡ unit_in bytes (done + k)) (place : ℕ) (is_place : place ≡ unit + done) (holds : Holds place part now next) where
+  pub inside_more : ((k : ℕ) → k < done → held_at now (unit + k) ≡ Some (unit_in bytes k)) → (k : ℕ) → k < done + n
+      → held_at next (unit + k) ≡ Some (unit_in bytes k)
   inside_more so_far k below = elim (cases_lt k done) [
     | inl before ↦ holds.outside (unit + k) (inl (omega arith)) ∙ so_far k before
     | inr from ↦
@@ -113,14 +128,16 @@ module _ (unit done n : ℕ) (bytes part : List ℕ) (first now next : Table) (l
         ∙ ap Some (same j (omega arith) ∙ ap (λ (i : ℕ). unit_in bytes i) back)
   ]
 
-  pub outside_more : ((i : ℕ) → (i < unit) ⊎ (unit + done ≤ i) → held_at now i ≡ held_at first i) → (i : ℕ) → (i < unit) ⊎ (unit + (done + n) ≤ i) → held_at next i ≡ held_at first i
+  pub outside_more : ((i : ℕ) → (i < unit) ⊎ (unit + done ≤ i) → held_at now i ≡ held_at first i) → (i : ℕ) → (i < unit) ⊎ (unit + (done + n) ≤ i)
+      → held_at next i ≡ held_at first i
   outside_more so_far i out = ⊎_elim
       (λ before. holds.outside i (inl (omega (arith, before))) ∙ so_far i (inl before))
       (λ past. holds.outside i (inr (omega (arith, past))) ∙ so_far i (inr (omega (arith, past))))
       out
 
 -- what is held of one page
-pub held_in_page : (table : Table) (q k : ℕ) (page : Option (Box Page Global)) → k < 256 → page_at table q ≡ page → held_at table (256 * q + k) ≡ in_paged page k
+pub held_in_page : (table : Table) (q k : ℕ) (page : Option (Box Page Global)) → k < 256 → page_at table q ≡ page
+    → held_at table (256 * q + k) ≡ in_paged page k
 held_in_page table q k page below is =
     let place : (256 * q + k) / 256 ≡ q = omega arith in
     let rest : (256 * q + k) % 256 ≡ k = omega arith in

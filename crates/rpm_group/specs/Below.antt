@@ -5,15 +5,9 @@ use Rattle.rpm_outside.specs.declared.disk.File.{File}
 use Rattle.rpm_outside.specs.Files.{Files}
 use Rattle.rpm_outside.specs.Crash.{Untouched, LeavesOnly, bytes_for}
 
--- the files, their images and the moment stay, and of one file at most so many bytes are read
-pub record LooksBelow {D : Type 0} (tells : Bool) (files : D → Files) (left_since : D → ℕ → Files → Type 0) (moment : D → ℕ) (bytes_read : D → File → ℕ) (follows : D → D → Type 0) (file : File) (most : ℕ) (old new : D) : Type 0 where
-  pub untouched : IsTrue tells → Untouched (files old) (files new) (left_since old) (left_since new)
-  pub moment_stays : moment new ≡ moment old
-  pub reads : (f : File) → bytes_read new f ≤ bytes_read old f + bytes_for file f most
-  pub goes_on : follows old new
-
 -- the disk below has the same contents, images and moment, of each file at most as many bytes were read there as here, and it follows itself
-pub record KeepsBelow {D : Type 0} (tells : Bool) (files : D → Files) (moment : D → ℕ) (left_since : D → ℕ → Files → Type 0) (bytes_read : D → File → ℕ) (follows : D → D → Type 0) (old new : D) (read_old read_new : File → ℕ) : Type 0 where
+pub record KeepsBelow {D : Type 0} (tells : Bool) (files : D → Files) (moment : D → ℕ) (left_since : D → ℕ → Files → Type 0) (bytes_read : D → File
+    → ℕ) (follows : D → D → Type 0) (old new : D) (read_old read_new : File → ℕ) : Type 0 where
   pub same : IsTrue tells → files new ≡ files old
   pub images : IsTrue tells → (t : ℕ) (image : Files) → left_since new t image → left_since old t image
   pub kept : IsTrue tells → (t : ℕ) (image : Files) → left_since old t image → left_since new t image
@@ -22,7 +16,8 @@ pub record KeepsBelow {D : Type 0} (tells : Bool) (files : D → Files) (moment 
   pub reads : (f : File) → (bytes_read new f + read_old f ≤ bytes_read old f + read_new f) ⊎ (2 ^ 64 - 1 ≤ read_new f)
   pub below : follows old new
 
-module _ {D : Type 0} (tells : Bool) (files : D → Files) (moment : D → ℕ) (left_since : D → ℕ → Files → Type 0) (bytes_read : D → File → ℕ) (follows : D → D → Type 0) where
+module _ {D : Type 0} (tells : Bool) (files : D → Files) (moment : D → ℕ) (left_since : D → ℕ → Files → Type 0) (bytes_read : D → File → ℕ)
+    (follows : D → D → Type 0) where
   pub keeps_refl : (disk : D) (read : File → ℕ) → follows disk disk → KeepsBelow tells files moment left_since bytes_read follows disk disk read read
   keeps_refl disk read below = record {
     same = λ told. refl;
@@ -34,7 +29,8 @@ module _ {D : Type 0} (tells : Bool) (files : D → Files) (moment : D → ℕ) 
     below = below;
   }
 
-  pub keeps_trans : ((a b c : D) → follows a b → follows b c → follows a c) → (a b c : D) (ra rb rc : File → ℕ) → KeepsBelow tells files moment left_since bytes_read follows a b ra rb → KeepsBelow tells files moment left_since bytes_read follows b c rb rc
+  pub keeps_trans : ((a b c : D) → follows a b → follows b c → follows a c) → (a b c : D) (ra rb rc : File → ℕ)
+      → KeepsBelow tells files moment left_since bytes_read follows a b ra rb → KeepsBelow tells files moment left_since bytes_read follows b c rb rc
       → KeepsBelow tells files moment left_since bytes_read follows a c ra rc
   keeps_trans trans a b c ra rb rc first second = record {
     same = λ told. second.same told ∙ first.same told;
@@ -42,13 +38,16 @@ module _ {D : Type 0} (tells : Bool) (files : D → Files) (moment : D → ℕ) 
     kept = λ told t image left. second.kept told t image (first.kept told t image left);
     moment_same = second.moment_same ∙ first.moment_same;
     reads_later = λ f. omega (arith, first.reads_later f, second.reads_later f);
-    reads = λ f. ⊎_elim (λ one. ⊎_elim (λ two. inl (omega (arith, one, two))) (λ two. inr two) (second.reads f)) (λ one. inr (omega (arith, one, second.reads_later f))) (first.reads f);
+    reads = λ f. ⊎_elim (λ one. ⊎_elim (λ two. inl (omega (arith, one, two))) (λ two. inr two) (second.reads f))
+        (λ one. inr (omega (arith, one, second.reads_later f))) (first.reads f);
     below = trans a b c first.below second.below;
   }
 
 -- what a stop may leave of the disk below, while calls go to the overlay
-pub below_leaves : {D : Type 0} (tells : Bool) (files : D → Files) (moment : D → ℕ) (left_since : D → ℕ → Files → Type 0) (bytes_read : D → File → ℕ) (follows : D → D → Type 0) (old new : D) (ro rn : File → ℕ) (P : Files → Type 0)
-    → IsTrue tells → KeepsBelow tells files moment left_since bytes_read follows old new ro rn → ((image : Files) → left_since old (moment old) image → P image) → LeavesOnly moment left_since old new P
+pub below_leaves : {D : Type 0} (tells : Bool) (files : D → Files) (moment : D → ℕ) (left_since : D → ℕ → Files → Type 0) (bytes_read : D → File → ℕ)
+    (follows : D → D → Type 0) (old new : D) (ro rn : File → ℕ) (P : Files → Type 0)
+    → IsTrue tells → KeepsBelow tells files moment left_since bytes_read follows old new ro rn
+    → ((image : Files) → left_since old (moment old) image → P image) → LeavesOnly moment left_since old new P
 below_leaves tells files moment left_since bytes_read follows old new ro rn P told keeps here = record {
   later = omega (arith, keeps.moment_same);
   each = λ image left. here image (keeps.images told (moment old) image left);

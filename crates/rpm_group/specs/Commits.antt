@@ -7,8 +7,8 @@ use Rattle.rpm_group.specs.declared.commit.CommitFault.TheVariants.{LogFull, Dis
 abbrev pub IsFull : ℕ → Result (Unit {0}) CommitFault → Type 0
 IsFull units result = result ≡ Err (LogFull units)
 
--- only where a group needs more units than a log has it is refused, and with that number
+-- only a group that needs more units than a log has is refused, and with that number; only one that needs more than the gate can fail
 abbrev pub CommitSays : ℕ → Result (Unit {0}) CommitFault → Type 0
 CommitSays units (Ok done) = Unit {0}
 CommitSays units (Err (LogFull needed)) = (needed ≡ units) × (2 ^ 28 < units)
-CommitSays units (Err DiskFault) = Unit {0}
+CommitSays units (Err DiskFault) = 1 < units

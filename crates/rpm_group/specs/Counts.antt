@@ -21,11 +21,3 @@ begins_run table (suc i) = is_held table (suc i) && not (is_held table i)
 -- how many units a log takes for what is held of a file: a head for each run, and the units
 abbrev pub log_units : Table → ℕ → ℕ
 log_units table end = count_below (begins_run table) end + count_below (is_held table) end
-
--- so many units from this one on, as they are held
-unfoldable pub units_held : Table → ℕ → ℕ → Units
-units_held table from n = map (λ i. unwrap_or (held_at table i) blank) (range_with_len from n)
-
--- all of these units are held
-abbrev pub AreHeld : Table → ℕ → ℕ → Type 0
-AreHeld table from end = (i : ℕ) → from ≤ i → i < end → is_held table i ≡ true

@@ -11,7 +11,7 @@ use Rattle.rpm_group.specs.declared.layers.Layers.{Layers}
 use Rattle.rpm_group.specs.declared.pages.Pages.{Pages}
 use Rattle.rpm_group.specs.Counts.{is_held, begins_run, count_below, log_units}
 use Rattle.rpm_group.specs.Layers.{laid_file}
-use Rattle.rpm_group.specs.Logged.{CoversHeld}
+use Rattle.rpm_group.specs.inner.Logged.{CoversHeld}
 
 -- how many runs there are, and how many units a log takes for them
 abbrev pub runs_of : Pages → ℕ
@@ -31,28 +31,13 @@ held_units held = held_of held.pkg + held_of held.idx + held_of held.log
 abbrev pub needed : Layers → ℕ
 needed held = 1 + units_of_log held.pkg + units_of_log held.idx
 
--- the files with what is held of two of them
-abbrev pub with_held : Layers → Files → Files
-with_held held files = record { pkg = laid_file held.pkg files.pkg; idx = laid_file held.idx files.idx; log = files.log }
-
--- these entries write what is held of the two files
-pub record IsGroup (entries : List Entry) (held : Layers) : Type 0 where
-  pub pkg : CoversHeld entries Pkg held.pkg.table.items held.pkg.end
-  pub idx : CoversHeld entries Idx held.idx.table.items held.idx.end
-  pub whole : (files : Files) → with_entries entries files ≡ with_held held files
-  pub count : length entries ≡ runs_of held.pkg + runs_of held.idx
-
--- these entries stand in a log as far as this tail
-pub record IsTail (entries : List Entry) (tail : Tail) (log : Units) : Type 0 where
-  pub count : length entries ≡ tail.entries
-  pub placed : EntriesIn entries 1 tail.at log
-
 -- an image stands for the files before or after
 abbrev pub BeforeOrAfter : Files → Files → Files → Type 0
 BeforeOrAfter before after image = (reopened image ≡ before) ⊎ (reopened image ≡ after)
 
 -- a call that changed nothing at all
-pub record Unwritten {D : Type 0} (tells : Bool) (files : D → Files) (left_since : D → ℕ → Files → Type 0) (moment : D → ℕ) (bytes_read : D → File → ℕ) (old new : D) : Type 0 where
+pub record Unwritten {D : Type 0} (tells : Bool) (files : D → Files) (left_since : D → ℕ → Files → Type 0) (moment : D → ℕ) (bytes_read : D → File
+    → ℕ) (old new : D) : Type 0 where
   pub untouched : IsTrue tells → Untouched (files old) (files new) (left_since old) (left_since new)
   pub moment_stays : moment new ≡ moment old
   pub reads : (file : File) → bytes_read new file ≡ bytes_read old file

@@ -18,7 +18,8 @@ laid_file pages file = laid pages.table.items pages.end file
 abbrev pub laid_files : Layers → Files → Files
 laid_files layers files = record { pkg = laid_file layers.pkg files.pkg; idx = laid_file layers.idx files.idx; log = laid_file layers.log files.log }
 
-pub file_of-laid : (file : File) (layers : Layers) (files : Files) → file_of file (laid_files layers files) ≡ laid_file (pages_of file layers) (file_of file files)
+pub file_of-laid : (file : File) (layers : Layers) (files : Files) → file_of file (laid_files layers files) ≡ laid_file (pages_of file layers)
+    (file_of file files)
 file_of-laid Pkg layers files = refl
 file_of-laid Idx layers files = refl
 file_of-laid Log layers files = refl

@@ -8,8 +8,6 @@ pub mod Overlay
 pub mod Loads
 pub mod Loaded
 pub mod Counts
-pub mod Words
-pub mod Logged
 pub mod Groups
 pub mod Commits
-pub mod Wholes
+pub mod inner

@@ -3,27 +3,9 @@ use Rattle.std.specs.Prelude.{◌≡◌, ℕ, Bool, List, Result, Ok, Err, true,
 use Rattle.rpm_outside.specs.declared.disk.File.{File}
 use Rattle.rpm_outside.specs.Files.{Files, file_of}
 use Rattle.rpm_outside.specs.Logs.{Entry, LogState, Closed, Malformed, reopened}
-use Rattle.rpm_outside.specs.EntryLaws.{Within}
 use Rattle.rpm_group.specs.Readings.{IsOpen}
 use Rattle.rpm_group.specs.declared.recovery.RecoverFault.{RecoverFault}
 use Rattle.rpm_group.specs.declared.recovery.RecoverFault.TheVariants.{BadLog, DiskFault}
-
-module _ {D : Type 0} (files : D → Files) (left_since : D → ℕ → Files → Type 0) (moment : D → ℕ) where
-  -- a stop leaves this file as it reads
-  abbrev pub SettledIn : File → D → Type 0
-  SettledIn file disk = (image : Files) → left_since disk (moment disk) image → file_of file image ≡ file_of file (files disk)
-
-  -- a stop leaves the files as they read
-  abbrev pub IsSettled : D → Type 0
-  IsSettled disk = (image : Files) → left_since disk (moment disk) image → image ≡ files disk
-
--- it is one of these images in which some of the entries may have been written
-abbrev pub WasWithin : List Entry → (Files → Type 0) → Files → Type 0
-WasWithin entries images image = (from : Files) × images from × Within entries from image
-
--- it stands for these files
-abbrev pub ReopensAs : Files → Files → Type 0
-ReopensAs files image = reopened image ≡ files
 
 -- it stands for what one of these images stands for
 abbrev pub ReopensAsOneOf : (Files → Type 0) → Files → Type 0
@@ -35,3 +17,10 @@ RecoverSays state (Ok true) = IsOpen state
 RecoverSays state (Ok false) = state ≡ Closed
 RecoverSays state (Err (BadLog unit)) = state ≡ Malformed unit
 RecoverSays state (Err DiskFault) = Unit {0}
+
+-- the files stay as they read where there was nothing to finish, or nothing that could be
+abbrev pub RecoverKeeps : Files → Files → Result Bool RecoverFault → Type 0
+RecoverKeeps old new (Ok true) = Unit {0}
+RecoverKeeps old new (Ok false) = new ≡ old
+RecoverKeeps old new (Err (BadLog unit)) = new ≡ old
+RecoverKeeps old new (Err DiskFault) = Unit {0}

@@ -6,10 +6,12 @@ ghost use Rattle.rpm_outside.specs.Crash.{LeavesOnly, Untouched};
 ghost use Rattle.rpm_outside.specs.Causes.{HasCause, HasCauseAt};
 ghost use Rattle.rpm_outside.specs.Changed.{ChangedIn, LeavesChanged};
 ghost use Rattle.rpm_outside.specs.Logs.{Entry, Closed, Open, log_state, unlogged, with_entries, reopened};
+ghost use Rattle.rpm_outside.specs.Changes.{AreSettled, IsSettled};
 ghost use Rattle.rpm_group.specs.LogReads.{ReadsNothing, ReadsLog};
-ghost use Rattle.rpm_group.specs.Logged.{CoversHeld};
-ghost use Rattle.rpm_group.specs.Settled.{IsSettled, SettledIn, WasWithin};
-ghost use Rattle.rpm_group.specs.Groups.{runs_of, units_of_log, needed, with_held, IsGroup, IsTail, BeforeOrAfter, Unwritten};
+ghost use Rattle.rpm_group.specs.inner.Logged.{CoversHeld};
+ghost use Rattle.rpm_group.specs.inner.Leavings.{WasWithin};
+ghost use Rattle.rpm_group.specs.Groups.{runs_of, units_of_log, needed, BeforeOrAfter, Unwritten};
+ghost use Rattle.rpm_group.specs.inner.Grouped.{with_held, IsGroup, IsTail};
 ghost use Rattle.rpm_group.specs.Commits.{IsFull, CommitSays};
 ghost use Rattle.rpm_group.specs.Layers.{laid_files};
 
@@ -24,12 +26,12 @@ use rpm_outside::{Disk, Failed, File};
 /// Writes the entries of both files to the log behind the gate, and settles it.
 fn log_held<D: Disk>(disk: &mut D, held: &Layers) -> Result<Tail, Failed>
     requires room { needed held.now ≤ 2 ^ 28 }
-    requires settled { IsTrue D.tells → IsSettled D.files D.left_since D.moment disk.old }
+    requires settled { IsTrue D.tells → AreSettled (D.files disk.old) (D.left_since disk.old (D.moment disk.old)) }
     ensures entries { IfOk result (λ tail. tail.entries ≡ runs_of held.now.pkg + runs_of held.now.idx) }
     ensures at { IfOk result (λ tail. tail.at ≡ needed held.now) }
     ensures logged { IfOk result (λ tail. IsTrue D.tells → (entries : List Entry) × IsGroup entries held.now × IsTail entries tail (D.files disk.new).log) }
     ensures changed { OnOk result (IsTrue D.tells → ChangedIn File.Log 1 (2 ^ 28) (D.files disk.old) (D.files disk.new)) }
-    ensures settled { OnOk result (IsTrue D.tells → IsSettled D.files D.left_since D.moment disk.new) }
+    ensures settled { OnOk result (IsTrue D.tells → AreSettled (D.files disk.new) (D.left_since disk.new (D.moment disk.new))) }
     ensures images { IsTrue D.tells → LeavesChanged D.moment D.left_since File.Log 1 (2 ^ 28) disk.old disk.new }
     ensures reads { ReadsNothing D.moment D.bytes_read D.follows disk.old disk.new }
     ensures cause { HasCause (D.faults disk.old) (D.faults disk.new) result }
@@ -49,13 +51,16 @@ fn open_log<D: Disk>(disk: &mut D, tail: Tail) -> Result<(), Failed>
     requires some { 0 < tail.entries }
     requires place { 1 < tail.at }
     requires small { tail.at ≤ 2 ^ 28 }
-    requires settled { IsTrue D.tells → IsSettled D.files D.left_since D.moment disk.old }
+    requires settled { IsTrue D.tells → AreSettled (D.files disk.old) (D.left_since disk.old (D.moment disk.old)) }
     requires closed { IsTrue D.tells → log_state (D.files disk.old).log ≡ Closed }
-    ensures open { OnOk result (IsTrue D.tells → (entries : List Entry) → IsTail entries tail (D.files disk.old).log → log_state (D.files disk.new).log ≡ Open entries) }
+    ensures open { OnOk result (IsTrue D.tells → (entries : List Entry) → IsTail entries tail (D.files disk.old).log
+        → log_state (D.files disk.new).log ≡ Open entries) }
     ensures same { IsTrue D.tells → unlogged (D.files disk.new) ≡ unlogged (D.files disk.old) }
     ensures long { IsTrue D.tells → length (D.files disk.old).log ≤ length (D.files disk.new).log }
-    ensures settled { OnOk result (IsTrue D.tells → IsSettled D.files D.left_since D.moment disk.new) }
-    ensures images { IsTrue D.tells → (entries : List Entry) → IsTail entries tail (D.files disk.old).log → LeavesOnly D.moment D.left_since disk.old disk.new (BeforeOrAfter (unlogged (D.files disk.old)) (with_entries entries (unlogged (D.files disk.old)))) }
+    ensures settled { OnOk result (IsTrue D.tells → AreSettled (D.files disk.new) (D.left_since disk.new (D.moment disk.new))) }
+    ensures images { IsTrue D.tells → (entries : List Entry) → IsTail entries tail (D.files disk.old).log
+        → LeavesOnly D.moment D.left_since disk.old disk.new
+        (BeforeOrAfter (unlogged (D.files disk.old)) (with_entries entries (unlogged (D.files disk.old)))) }
     ensures reads { ReadsNothing D.moment D.bytes_read D.follows disk.old disk.new }
     ensures cause { HasCause (D.faults disk.old) (D.faults disk.new) result }
 {
@@ -68,9 +73,10 @@ fn open_log<D: Disk>(disk: &mut D, tail: Tail) -> Result<(), Failed>
 /// Writes what is held of both files to them, and settles them.
 fn apply_held<D: Disk>(disk: &mut D, held: &Layers) -> Result<(), Failed>
     ensures written { OnOk result (IsTrue D.tells → D.files disk.new ≡ with_held held.now (D.files disk.old)) }
-    ensures pkg { OnOk result (IsTrue D.tells → SettledIn D.files D.left_since D.moment File.Pkg disk.new) }
-    ensures idx { OnOk result (IsTrue D.tells → SettledIn D.files D.left_since D.moment File.Idx disk.new) }
-    ensures images { IsTrue D.tells → (entries : List Entry) → IsGroup entries held.now → LeavesOnly D.moment D.left_since disk.old disk.new (WasWithin entries (D.left_since disk.old (D.moment disk.old))) }
+    ensures pkg { OnOk result (IsTrue D.tells → IsSettled File.Pkg (D.files disk.new) (D.left_since disk.new (D.moment disk.new))) }
+    ensures idx { OnOk result (IsTrue D.tells → IsSettled File.Idx (D.files disk.new) (D.left_since disk.new (D.moment disk.new))) }
+    ensures images { IsTrue D.tells → (entries : List Entry) → IsGroup entries held.now
+        → LeavesOnly D.moment D.left_since disk.old disk.new (WasWithin entries (D.left_since disk.old (D.moment disk.old))) }
     ensures reads { ReadsLog D.moment D.bytes_read D.follows disk.old disk.new }
     ensures cause { HasCause (D.faults disk.old) (D.faults disk.new) result }
 {
@@ -83,12 +89,14 @@ fn apply_held<D: Disk>(disk: &mut D, held: &Layers) -> Result<(), Failed>
 fn write_group<D: Disk>(disk: &mut D, held: &Layers) -> Result<(), Failed>
     requires room { needed held.now ≤ 2 ^ 28 }
     requires some { 1 < needed held.now }
-    requires settled { IsTrue D.tells → IsSettled D.files D.left_since D.moment disk.old }
+    requires settled { IsTrue D.tells → AreSettled (D.files disk.old) (D.left_since disk.old (D.moment disk.old)) }
     requires closed { IsTrue D.tells → log_state (D.files disk.old).log ≡ Closed }
     ensures files { OnOk result (IsTrue D.tells → unlogged (D.files disk.new) ≡ unlogged (with_held held.now (D.files disk.old))) }
     ensures closed { OnOk result (IsTrue D.tells → log_state (D.files disk.new).log ≡ Closed) }
-    ensures settled { OnOk result (IsTrue D.tells → IsSettled D.files D.left_since D.moment disk.new) }
-    ensures images { IsTrue D.tells → LeavesOnly D.moment D.left_since disk.old disk.new (BeforeOrAfter (unlogged (D.files disk.old)) (unlogged (with_held held.now (D.files disk.old)))) }
+    ensures settled { OnOk result (IsTrue D.tells → AreSettled (D.files disk.new) (D.left_since disk.new (D.moment disk.new))) }
+    ensures images { IsTrue D.tells
+        → LeavesOnly D.moment D.left_since disk.old disk.new
+        (BeforeOrAfter (unlogged (D.files disk.old)) (unlogged (with_held held.now (D.files disk.old)))) }
     ensures reads { ReadsLog D.moment D.bytes_read D.follows disk.old disk.new }
     ensures cause { HasCause (D.faults disk.old) (D.faults disk.new) result }
 {
@@ -109,14 +117,17 @@ pub enum CommitFault {
 
 /// Writes what is held as one change, or nothing where nothing is held.
 fn write_held<D: Disk>(disk: &mut D, held: &Layers) -> Result<(), CommitFault>
-    requires settled { IsTrue D.tells → IsSettled D.files D.left_since D.moment disk.old }
+    requires settled { IsTrue D.tells → AreSettled (D.files disk.old) (D.left_since disk.old (D.moment disk.old)) }
     requires closed { IsTrue D.tells → log_state (D.files disk.old).log ≡ Closed }
     ensures files { OnOk result (IsTrue D.tells → unlogged (D.files disk.new) ≡ unlogged (with_held held.now (D.files disk.old))) }
     ensures closed { OnOk result (IsTrue D.tells → log_state (D.files disk.new).log ≡ Closed) }
-    ensures settled { OnOk result (IsTrue D.tells → IsSettled D.files D.left_since D.moment disk.new) }
-    ensures images { IsTrue D.tells → LeavesOnly D.moment D.left_since disk.old disk.new (BeforeOrAfter (unlogged (D.files disk.old)) (unlogged (with_held held.now (D.files disk.old)))) }
+    ensures settled { OnOk result (IsTrue D.tells → AreSettled (D.files disk.new) (D.left_since disk.new (D.moment disk.new))) }
+    ensures images { IsTrue D.tells
+        → LeavesOnly D.moment D.left_since disk.old disk.new
+        (BeforeOrAfter (unlogged (D.files disk.old)) (unlogged (with_held held.now (D.files disk.old)))) }
     ensures says { CommitSays (needed held.now) result }
     ensures full { 2 ^ 28 < needed held.now → IsFull (needed held.now) result }
+    ensures idle { needed held.now ≡ 1 → Unwritten D.tells D.files D.left_since D.moment D.bytes_read disk.old disk.new }
     ensures unwritten { IsFull (needed held.now) result → Unwritten D.tells D.files D.left_since D.moment D.bytes_read disk.old disk.new }
     ensures reads { ReadsLog D.moment D.bytes_read D.follows disk.old disk.new }
     ensures cause { HasCauseAt (result ≡ Err CommitFault.DiskFault) (D.faults disk.old) (D.faults disk.new) }
@@ -141,7 +152,9 @@ impl<D: Disk> Overlay<D> {
 
     /// Makes what is held of the two files one change of the disk below, and hands that back. What is held of the log is dropped.
     ///
-    /// Each run of held units is one entry of the log. It takes no memory, and writes each unit twice, up to 4 KiB at a time.
+    /// Each run of held units is one entry of the log, those of `Packages.db` first. It takes no memory, writes each unit twice, up to
+    /// 64 KiB at a time, and syncs five times: the log behind its entries and behind its gate, both files, and the log behind
+    /// zeros in the place of the gate. Where nothing is held it does nothing.
     ///
     /// # Errors
     ///
@@ -149,15 +162,19 @@ impl<D: Disk> Overlay<D> {
     /// count of faults of the disk below rose; the disk stands then for its files before or for those of the overlay.
     pub fn commit(self) -> (D, Result<(), CommitFault>)
         requires starved { overlay_starved self ≡ 0 }
-        requires settled { IsTrue D.tells → IsSettled D.files D.left_since D.moment (overlay_below self) }
+        requires settled { IsTrue D.tells → AreSettled (D.files (overlay_below self)) (D.left_since (overlay_below self) (D.moment (overlay_below self))) }
         requires closed { IsTrue D.tells → log_state (D.files (overlay_below self)).log ≡ Closed }
-        ensures files { OnOk result.1 (IsTrue D.tells → unlogged (D.files result.0) ≡ unlogged (laid_files (overlay_held self) (D.files (overlay_below self)))) }
+        ensures files { OnOk result.1 (IsTrue D.tells
+            → unlogged (D.files result.0) ≡ unlogged (laid_files (overlay_held self) (D.files (overlay_below self)))) }
         ensures closed { OnOk result.1 (IsTrue D.tells → log_state (D.files result.0).log ≡ Closed) }
-        ensures settled { OnOk result.1 (IsTrue D.tells → IsSettled D.files D.left_since D.moment result.0) }
-        ensures images { IsTrue D.tells → LeavesOnly D.moment D.left_since (overlay_below self) result.0 (BeforeOrAfter (unlogged (D.files (overlay_below self))) (unlogged (laid_files (overlay_held self) (D.files (overlay_below self))))) }
+        ensures settled { OnOk result.1 (IsTrue D.tells → AreSettled (D.files result.0) (D.left_since result.0 (D.moment result.0))) }
+        ensures images { IsTrue D.tells → LeavesOnly D.moment D.left_since (overlay_below self) result.0
+            (BeforeOrAfter (unlogged (D.files (overlay_below self))) (unlogged (laid_files (overlay_held self) (D.files (overlay_below self))))) }
         ensures says { CommitSays (needed (overlay_held self)) result.1 }
         ensures full { 2 ^ 28 < needed (overlay_held self) → IsFull (needed (overlay_held self)) result.1 }
-        ensures unwritten { IsFull (needed (overlay_held self)) result.1 → Unwritten D.tells D.files D.left_since D.moment D.bytes_read (overlay_below self) result.0 }
+        ensures idle { needed (overlay_held self) ≡ 1 → Unwritten D.tells D.files D.left_since D.moment D.bytes_read (overlay_below self) result.0 }
+        ensures unwritten { IsFull (needed (overlay_held self)) result.1 → Unwritten D.tells D.files D.left_since D.moment D.bytes_read
+            (overlay_below self) result.0 }
         ensures reads { ReadsLog D.moment D.bytes_read D.follows (overlay_below self) result.0 }
         ensures cause { HasCauseAt (result.1 ≡ Err CommitFault.DiskFault) (D.faults (overlay_below self)) (D.faults result.0) }
     {

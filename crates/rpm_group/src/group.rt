@@ -10,8 +10,8 @@ ghost use Rattle.rpm_outside.specs.LogWrites.{EntriesIn};
 ghost use Rattle.rpm_group.specs.Held.{laid};
 ghost use Rattle.rpm_group.specs.Counts.{begins_run, count_below, log_units};
 ghost use Rattle.rpm_group.specs.LogReads.{ReadsNothing};
-ghost use Rattle.rpm_group.specs.Logged.{Logged, CoversHeld};
-ghost use Rattle.rpm_group.specs.Settled.{IsSettled, WasWithin};
+ghost use Rattle.rpm_group.specs.inner.Logged.{Logged, CoversHeld};
+ghost use Rattle.rpm_group.specs.inner.Leavings.{WasWithin};
 
 use crate::pages::Pages;
 use crate::scan::next_unit;
@@ -37,7 +37,8 @@ pub fn log_runs<D: Disk>(
     requires few { tail.entries ≤ tail.at }
     ensures at { IfOk result (λ next. next.at ≡ tail.at + log_units pages.now.table.items pages.now.end) }
     ensures entries { IfOk result (λ next. next.entries ≡ tail.entries + count_below (begins_run pages.now.table.items) pages.now.end) }
-    ensures logged { IfOk result (λ next. IsTrue D.tells → (entries : List Entry) × Logged entries file pages.now.table.items pages.now.end × EntriesIn entries tail.at next.at (D.files disk.new).log) }
+    ensures logged { IfOk result (λ next. IsTrue D.tells → (entries : List Entry) × Logged entries file pages.now.table.items pages.now.end
+        × EntriesIn entries tail.at next.at (D.files disk.new).log) }
     ensures changed { OnOk result (IsTrue D.tells → ChangedIn File.Log tail.at (2 ^ 28) (D.files disk.old) (D.files disk.new)) }
     ensures images { IsTrue D.tells → LeavesChanged D.moment D.left_since File.Log tail.at (2 ^ 28) disk.old disk.new }
     ensures reads { ReadsNothing D.moment D.bytes_read D.follows disk.old disk.new }
@@ -63,8 +64,10 @@ pub fn log_runs<D: Disk>(
 
 /// Writes the held units of a file to it, run by run.
 pub fn apply_runs<D: Disk>(disk: &mut D, pages: &Pages, file: File) -> Result<(), Failed>
-    ensures written { OnOk result (IsTrue D.tells → D.files disk.new ≡ with_file file (laid pages.now.table.items pages.now.end (file_of file (D.files disk.old))) (D.files disk.old)) }
-    ensures images { IsTrue D.tells → (entries : List Entry) → CoversHeld entries file pages.now.table.items pages.now.end → LeavesOnly D.moment D.left_since disk.old disk.new (WasWithin entries (D.left_since disk.old (D.moment disk.old))) }
+    ensures written { OnOk result (IsTrue D.tells
+        → D.files disk.new ≡ with_file file (laid pages.now.table.items pages.now.end (file_of file (D.files disk.old))) (D.files disk.old)) }
+    ensures images { IsTrue D.tells → (entries : List Entry) → CoversHeld entries file pages.now.table.items pages.now.end
+        → LeavesOnly D.moment D.left_since disk.old disk.new (WasWithin entries (D.left_since disk.old (D.moment disk.old))) }
     ensures reads { ReadsNothing D.moment D.bytes_read D.follows disk.old disk.new }
     ensures cause { HasCause (D.faults disk.old) (D.faults disk.new) result }
 {

@@ -19,6 +19,7 @@ mod scan;
 mod table;
 #[cfg(test)]
 mod tests;
+#[cfg(test)]
 mod whole;
 mod words;
 mod writes;
@@ -27,4 +28,3 @@ pub use commit::CommitFault;
 pub use load::{LoadFault, LoadRefused};
 pub use overlay::Overlay;
 pub use recovery::{RecoverFault, recover};
-pub use whole::write_seven;

@@ -4,8 +4,10 @@ ghost use Rattle.std.specs.Prelude.{◌≡◌, ℕ, ◌+◌, ◌*◌, ◌/◌, �
 ghost use Rattle.rpm_outside.specs.Files.{Files, file_of, with_file, put, unit_at};
 ghost use Rattle.rpm_outside.specs.Causes.{HasCause, HasCauseAt};
 ghost use Rattle.rpm_outside.specs.Logs.{log_state, with_entries, reopened};
-ghost use Rattle.rpm_group.specs.LogReads.{LooksAtLog};
-ghost use Rattle.rpm_group.specs.Readings.{entries_of, IsOpen, heads_behind};
+ghost use Rattle.rpm_group.specs.Readings.{entries_of, IsOpen};
+ghost use Rattle.rpm_group.specs.inner.LogReadings.{heads_behind};
+ghost use Rattle.rpm_outside.specs.declared.disk.File.TheVariants.{Log};
+ghost use Rattle.rpm_outside.specs.Looks.{LooksAt};
 ghost use Rattle.rpm_group.specs.Layers.{laid_files};
 ghost use Rattle.rpm_group.specs.Loads.{LoadSays, IsOutside};
 
@@ -40,9 +42,11 @@ fn hold_piece<D: Disk>(
     requires whole { length bytes.old % 16 ≡ 0 }
     requires within { IsTrue D.tells → from + length bytes.old / 16 ≤ length (D.files disk.old).log }
     requires room { at + length bytes.old / 16 ≤ 2 ^ 28 }
-    ensures held { OnOk result (IsTrue D.tells → (files : Files) → laid_files held.new files ≡ with_file file (put at (take (length bytes.old / 16) (drop from (D.files disk.old).log)) (file_of file (laid_files held.old files))) (laid_files held.old files)) }
+    ensures held { OnOk result (IsTrue D.tells → (files : Files)
+        → laid_files held.new files ≡ with_file file (put at (take (length bytes.old / 16) (drop from (D.files disk.old).log))
+        (file_of file (laid_files held.old files))) (laid_files held.old files)) }
     ensures fault { IfErr result IsOutside }
-    ensures looks { LooksAtLog D.tells D.files D.left_since D.moment D.bytes_read D.follows disk.old disk.new }
+    ensures looks { LooksAt D.tells D.files D.left_since D.moment D.bytes_read D.follows Log disk.old disk.new }
     ensures cause { HasCauseAt (result ≡ Err LoadFault.DiskFault) (D.faults disk.old) (D.faults disk.new) }
 {
     let Ok(()) = disk.read_at(File::Log, from, bytes) else {
@@ -68,9 +72,11 @@ fn hold_units<D: Disk>(
     requires within { IsTrue D.tells → from + count ≤ length (D.files disk.old).log }
     requires room { at + count ≤ 2 ^ 28 }
     requires place { from ≤ 2 ^ 32 }
-    ensures held { OnOk result (IsTrue D.tells → (files : Files) → laid_files held.new files ≡ with_file file (put at (take count (drop from (D.files disk.old).log)) (file_of file (laid_files held.old files))) (laid_files held.old files)) }
+    ensures held { OnOk result (IsTrue D.tells → (files : Files)
+        → laid_files held.new files ≡ with_file file
+        (put at (take count (drop from (D.files disk.old).log)) (file_of file (laid_files held.old files))) (laid_files held.old files)) }
     ensures fault { IfErr result IsOutside }
-    ensures looks { LooksAtLog D.tells D.files D.left_since D.moment D.bytes_read D.follows disk.old disk.new }
+    ensures looks { LooksAt D.tells D.files D.left_since D.moment D.bytes_read D.follows Log disk.old disk.new }
     ensures cause { HasCauseAt (result ≡ Err LoadFault.DiskFault) (D.faults disk.old) (D.faults disk.new) }
 {
     let mut page = [0u8; 4096];
@@ -96,9 +102,10 @@ fn hold_entries<D: Disk>(
 ) -> Result<(), LoadFault>
     requires last { IsTrue D.tells → gate.last < length (D.files disk.old).log }
     requires open { IsTrue D.tells → IsOpen (heads_behind gate (D.files disk.old).log) }
-    ensures held { OnOk result (IsTrue D.tells → (files : Files) → laid_files held.new files ≡ with_entries (entries_of (heads_behind gate (D.files disk.old).log)) (laid_files held.old files)) }
+    ensures held { OnOk result (IsTrue D.tells → (files : Files)
+        → laid_files held.new files ≡ with_entries (entries_of (heads_behind gate (D.files disk.old).log)) (laid_files held.old files)) }
     ensures fault { IfErr result (λ fault. IsTrue D.tells → IsOutside fault) }
-    ensures looks { LooksAtLog D.tells D.files D.left_since D.moment D.bytes_read D.follows disk.old disk.new }
+    ensures looks { LooksAt D.tells D.files D.left_since D.moment D.bytes_read D.follows Log disk.old disk.new }
     ensures cause { HasCauseAt (result ≡ Err LoadFault.DiskFault) (D.faults disk.old) (D.faults disk.new) }
 {
     let mut p = 1u64;
@@ -121,9 +128,12 @@ fn hold_entries<D: Disk>(
 /// Holds the entries of an open log, and none of a closed one.
 pub fn hold_log<D: Disk>(alloc: Global, disk: &mut D, held: &mut Layers) -> Result<(), LoadFault>
     requires { (files : Files) → laid_files held.old files ≡ files }
-    ensures held { OnOk result (IsTrue D.tells → laid_files held.new (D.files disk.old) ≡ with_file File.Log (D.files disk.old).log (reopened (D.files disk.old))) }
+    ensures held { OnOk result (IsTrue D.tells → laid_files held.new (D.files disk.old) ≡ with_file File.Log (D.files disk.old).log
+        (reopened (D.files disk.old))) }
+    ensures entries { OnOk result (IsTrue D.tells → (files : Files)
+        → laid_files held.new files ≡ with_entries (entries_of (log_state (D.files disk.old).log)) files) }
     ensures says { IsTrue D.tells → LoadSays (log_state (D.files disk.old).log) result }
-    ensures looks { LooksAtLog D.tells D.files D.left_since D.moment D.bytes_read D.follows disk.old disk.new }
+    ensures looks { LooksAt D.tells D.files D.left_since D.moment D.bytes_read D.follows Log disk.old disk.new }
     ensures cause { HasCauseAt (result ≡ Err LoadFault.DiskFault) (D.faults disk.old) (D.faults disk.new) }
 {
     let Ok(reading) = read_log(disk) else {
@@ -157,9 +167,12 @@ impl<D: Disk> Overlay<D> {
     /// of faults rose; `NoMemory`.
     pub fn load(alloc: Global, disk: D) -> Result<Overlay<D>, LoadRefused<D>>
         ensures loaded { IfOk result (λ overlay. IsLoaded overlay) }
-        ensures files { IfOk result (λ overlay. IsTrue D.tells → laid_files (overlay_held overlay) (D.files (overlay_below overlay)) ≡ with_file File.Log (D.files disk).log (reopened (D.files disk))) }
+        ensures files { IfOk result (λ overlay. IsTrue D.tells → laid_files (overlay_held overlay) (D.files (overlay_below overlay))
+            ≡ with_file File.Log (D.files disk).log (reopened (D.files disk))) }
+        ensures entries { IfOk result (λ overlay. IsTrue D.tells → (files : Files) → laid_files (overlay_held overlay) files
+            ≡ with_entries (entries_of (log_state (D.files disk).log)) files) }
         ensures says { IsTrue D.tells → LoadedSays (log_state (D.files disk).log) result }
-        ensures looks { LooksAtLog D.tells D.files D.left_since D.moment D.bytes_read D.follows disk (disk_after result) }
+        ensures looks { LooksAt D.tells D.files D.left_since D.moment D.bytes_read D.follows Log disk (disk_after result) }
         ensures cause { HasCauseAt (IsDiskFault result) (D.faults disk) (D.faults (disk_after result)) }
     {
         let mut disk = disk;

@@ -4,10 +4,10 @@ ghost use Rattle.std.specs.Prelude.{◌≡◌, ℕ, ◌+◌, ◌-◌, ◌*◌, �
 ghost use Rattle.rpm_outside.specs.Files.{Files, Units, file_of, units_of, unit_at};
 ghost use Rattle.rpm_outside.specs.Causes.{HasCause, RoseBy};
 ghost use Rattle.rpm_outside.specs.Crash.{Untouched, bytes_for};
+ghost use Rattle.rpm_outside.specs.Looks.{Looks};
 ghost use Rattle.rpm_group.specs.Held.{unit_in};
 ghost use Rattle.rpm_group.specs.Counts.{is_held};
 ghost use Rattle.rpm_group.specs.Layers.{laid_files};
-ghost use Rattle.rpm_group.specs.Below.{LooksBelow};
 
 use crate::layers::Layers;
 use crate::pages::Pages;
@@ -18,7 +18,7 @@ fn read_some<D: Disk>(below: &mut D, file: File, unit: u64, into: &mut [u8]) -> 
     requires whole { length into.old % 16 ≡ 0 }
     requires within { IsTrue D.tells → 0 < length into.old → unit + length into.old / 16 ≤ length (file_of file (D.files below.old)) }
     ensures units { OnOk result (IsTrue D.tells → units_of into.new ≡ take (length into.old / 16) (drop unit (file_of file (D.files below.old)))) }
-    ensures looks { LooksBelow D.tells D.files D.left_since D.moment D.bytes_read D.follows file (length into.old) below.old below.new }
+    ensures looks { Looks D.tells D.files D.left_since D.moment D.bytes_read D.follows file (length into.old) below.old below.new }
     ensures cause { HasCause (D.faults below.old) (D.faults below.new) result }
 {
     if into.is_empty() {
@@ -44,8 +44,9 @@ fn read_below<D: Disk>(
 ) -> Result<(), Failed>
     requires whole { length into.old % 16 ≡ 0 }
     requires end { IsTrue D.tells → end ≡ length (file_of file (D.files below.old)) }
-    ensures units { OnOk result (IsTrue D.tells → (k : ℕ) → k < length into.old / 16 → unit_in into.new k ≡ unit_at (file_of file (D.files below.old)) (unit + k)) }
-    ensures looks { LooksBelow D.tells D.files D.left_since D.moment D.bytes_read D.follows file (length into.old) below.old below.new }
+    ensures units { OnOk result (IsTrue D.tells → (k : ℕ) → k < length into.old / 16 → unit_in into.new k ≡ unit_at (file_of file (D.files below.old))
+        (unit + k)) }
+    ensures looks { Looks D.tells D.files D.left_since D.moment D.bytes_read D.follows file (length into.old) below.old below.new }
     ensures cause { HasCause (D.faults below.old) (D.faults below.new) result }
 {
     let there = available(unit, end, into.len() / 16);
@@ -65,8 +66,9 @@ fn read_unheld<D: Disk>(
     requires whole { length into.old % 16 ≡ 0 }
     requires room { unit + length into.old / 16 < 2 ^ 64 }
     requires end { IsTrue D.tells → end ≡ length (file_of file (D.files below.old)) }
-    ensures units { OnOk result (IsTrue D.tells → (k : ℕ) → k < length into.old / 16 → is_held pages.now.table.items (unit + k) ≡ false → unit_in into.new k ≡ unit_at (file_of file (D.files below.old)) (unit + k)) }
-    ensures looks { LooksBelow D.tells D.files D.left_since D.moment D.bytes_read D.follows file (length into.old) below.old below.new }
+    ensures units { OnOk result (IsTrue D.tells → (k : ℕ) → k < length into.old / 16 → is_held pages.now.table.items (unit + k) ≡ false
+        → unit_in into.new k ≡ unit_at (file_of file (D.files below.old)) (unit + k)) }
+    ensures looks { Looks D.tells D.files D.left_since D.moment D.bytes_read D.follows file (length into.old) below.old below.new }
     ensures cause { HasCause (D.faults below.old) (D.faults below.new) result }
 {
     if pages.covers(unit as usize, into.len() / 16) {
@@ -85,8 +87,9 @@ pub fn read_over<D: Disk>(
 ) -> Result<(), Failed>
     requires whole { length into.old % 16 ≡ 0 }
     requires within { IsTrue D.tells → unit + length into.old / 16 ≤ length (file_of file (laid_files layers.now (D.files below.old))) }
-    ensures units { OnOk result (IsTrue D.tells → units_of into.new ≡ take (length into.old / 16) (drop unit (file_of file (laid_files layers.now (D.files below.old))))) }
-    ensures looks { LooksBelow D.tells D.files D.left_since D.moment D.bytes_read D.follows file (length into.old) below.old below.new }
+    ensures units { OnOk result (IsTrue D.tells
+        → units_of into.new ≡ take (length into.old / 16) (drop unit (file_of file (laid_files layers.now (D.files below.old))))) }
+    ensures looks { Looks D.tells D.files D.left_since D.moment D.bytes_read D.follows file (length into.old) below.old below.new }
     ensures cause { HasCause (D.faults below.old) (D.faults below.new) result }
 {
     let end = below.len(file)?;

@@ -101,7 +101,7 @@ impl<D: Disk> Overlay<D> {
 impl<D: Disk> Disk for Overlay<D> {
     ghost use Rattle.rpm_outside.specs.declared.disk.File.{File};
     ghost use Rattle.rpm_group.specs.Below.{KeepsBelow, keeps_refl, keeps_trans};
-    ghost use Rattle.rpm_group.specs.Overlay.{overlay_read, StarvesWhere};
+    ghost use Rattle.rpm_group.specs.Overlay.{overlay_read, StarvesOrHolds};
 
     ghost tells = { D.tells };
 
@@ -115,17 +115,20 @@ impl<D: Disk> Disk for Overlay<D> {
 
     ghost faults = { λ disk. D.faults disk.below + disk.starved };
 
-    ghost follows = { λ old new. KeepsBelow D.tells D.files D.moment D.left_since D.bytes_read D.follows old.below new.below (overlay_read old) (overlay_read new) };
+    ghost follows = { λ old new. KeepsBelow D.tells D.files D.moment D.left_since D.bytes_read D.follows old.below new.below (overlay_read old)
+        (overlay_read new) };
 
-    ghost outcome = { StarvesWhere };
+    ghost outcome = { StarvesOrHolds };
 
     ghost as_read = { λ disk told. refl };
 
     ghost earlier = { λ disk s t image told le below left. left };
 
-    ghost follows_refl = { λ disk. keeps_refl D.tells D.files D.moment D.left_since D.bytes_read D.follows disk.below (overlay_read disk) (D.follows_refl disk.below) };
+    ghost follows_refl = { λ disk. keeps_refl D.tells D.files D.moment D.left_since D.bytes_read D.follows disk.below (overlay_read disk)
+        (D.follows_refl disk.below) };
 
-    ghost follows_trans = { λ a b c f g. keeps_trans D.tells D.files D.moment D.left_since D.bytes_read D.follows D.follows_trans a.below b.below c.below (overlay_read a) (overlay_read b) (overlay_read c) f g };
+    ghost follows_trans = { λ a b c f g. keeps_trans D.tells D.files D.moment D.left_since D.bytes_read D.follows D.follows_trans a.below b.below
+        c.below (overlay_read a) (overlay_read b) (overlay_read c) f g };
 
     fn len(&mut self, file: File) -> Result<u64, Failed> {
         let below = self.below.len(file)?;

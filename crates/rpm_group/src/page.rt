@@ -1,7 +1,8 @@
 //! 256 units of a file, of which some are held.
 
 ghost use Rattle.std.specs.Prelude.{◌≡◌, ◌⊎◌, ℕ, ◌+◌, ◌*◌, ◌/◌, ◌%◌, ◌<◌, ◌≤◌, true, false, None, Some, length, slice_index_or, unwrap_or};
-ghost use Rattle.rpm_group.specs.Held.{unit_in, in_page, PageWrote};
+ghost use Rattle.rpm_group.specs.Held.{unit_in, in_page};
+ghost use Rattle.rpm_group.specs.inner.Holding.{PageWrote};
 
 /// The units of a page, with a mark for each that is held. What isn't held means nothing.
 #[derive(Drop)]

@@ -2,8 +2,9 @@
 
 ghost use Rattle.std.specs.Prelude.{◌≡◌, ◌≢◌, ◌⊎◌, ℕ, ◌+◌, ◌-◌, ◌*◌, ◌/◌, ◌%◌, ◌<◌, ◌≤◌, ◌^◌, max, None, length, OnOk, OnErr, IsTrue};
 ghost use Rattle.rpm_outside.specs.Files.{Units, units_of, put};
-ghost use Rattle.rpm_group.specs.Held.{held_at, EndsAt, laid, Holds, SameHeld, LaysOver};
-ghost use Rattle.rpm_group.specs.Counts.{AreHeld};
+ghost use Rattle.rpm_group.specs.Held.{held_at, EndsAt, laid};
+ghost use Rattle.rpm_group.specs.inner.Holding.{Holds, SameHeld, LaysOver};
+ghost use Rattle.rpm_group.specs.inner.HeldUnits.{AreHeld};
 
 use crate::scan::next_unit;
 use crate::table::{Table, add_pages, hold, lay};
@@ -39,7 +40,8 @@ impl Pages {
         requires some { 0 < length bytes.now }
         requires whole { length bytes.now % 16 ≡ 0 }
         requires room { unit + length bytes.now / 16 ≤ 2 ^ 28 }
-        ensures ok { OnOk result ((file : Units) → laid self.new.table.items self.new.end file ≡ put unit (units_of bytes.now) (laid self.old.table.items self.old.end file)) }
+        ensures ok { OnOk result ((file : Units) → laid self.new.table.items self.new.end file ≡ put unit (units_of bytes.now)
+            (laid self.old.table.items self.old.end file)) }
         ensures err { OnErr result ((file : Units) → laid self.new.table.items self.new.end file ≡ laid self.old.table.items self.old.end file) }
     {
         let end = unit + bytes.len() as u64 / 16;

@@ -7,9 +7,14 @@ ghost use Rattle.rpm_outside.specs.Causes.{HasCause, HasCauseAt};
 ghost use Rattle.rpm_outside.specs.Changed.{LeavesChanged};
 ghost use Rattle.rpm_outside.specs.EntryLaws.{Within};
 ghost use Rattle.rpm_outside.specs.Logs.{Closed, log_state, unlogged, with_entries, reopened};
-ghost use Rattle.rpm_group.specs.LogReads.{LooksAtLog, ReadsLog};
-ghost use Rattle.rpm_group.specs.Readings.{entries_of, IsOpen, IsHead, heads_behind};
-ghost use Rattle.rpm_group.specs.Settled.{IsSettled, SettledIn, WasWithin, ReopensAs, ReopensAsOneOf, RecoverSays};
+ghost use Rattle.rpm_group.specs.LogReads.{ReadsLog};
+ghost use Rattle.rpm_group.specs.Readings.{entries_of, IsOpen};
+ghost use Rattle.rpm_group.specs.inner.LogReadings.{IsHead, heads_behind};
+ghost use Rattle.rpm_group.specs.Settled.{ReopensAsOneOf, RecoverSays, RecoverKeeps};
+ghost use Rattle.rpm_group.specs.inner.Leavings.{WasWithin, ReopensAs};
+ghost use Rattle.rpm_outside.specs.declared.disk.File.TheVariants.{Log};
+ghost use Rattle.rpm_outside.specs.Looks.{LooksAt};
+ghost use Rattle.rpm_outside.specs.Changes.{AreSettled, IsSettled};
 
 use crate::log::{Gate, Reading, read_head, read_log};
 use rpm_outside::{Disk, Failed, File};
@@ -26,7 +31,7 @@ pub enum RecoverFault {
 /// Settles all three files.
 pub fn settle<D: Disk>(disk: &mut D) -> Result<(), Failed>
     ensures same { IsTrue D.tells → D.files disk.new ≡ D.files disk.old }
-    ensures settled { OnOk result (IsTrue D.tells → IsSettled D.files D.left_since D.moment disk.new) }
+    ensures settled { OnOk result (IsTrue D.tells → AreSettled (D.files disk.new) (D.left_since disk.new (D.moment disk.new))) }
     ensures images { IsTrue D.tells → LeavesOnly D.moment D.left_since disk.old disk.new (D.left_since disk.old (D.moment disk.old)) }
     ensures reads { ReadsLog D.moment D.bytes_read D.follows disk.old disk.new }
     ensures cause { HasCause (D.faults disk.old) (D.faults disk.new) result }
@@ -40,8 +45,8 @@ pub fn settle<D: Disk>(disk: &mut D) -> Result<(), Failed>
 /// Settles the two files that the log is for.
 pub fn settle_files<D: Disk>(disk: &mut D) -> Result<(), Failed>
     ensures same { IsTrue D.tells → D.files disk.new ≡ D.files disk.old }
-    ensures pkg { OnOk result (IsTrue D.tells → SettledIn D.files D.left_since D.moment File.Pkg disk.new) }
-    ensures idx { OnOk result (IsTrue D.tells → SettledIn D.files D.left_since D.moment File.Idx disk.new) }
+    ensures pkg { OnOk result (IsTrue D.tells → IsSettled File.Pkg (D.files disk.new) (D.left_since disk.new (D.moment disk.new))) }
+    ensures idx { OnOk result (IsTrue D.tells → IsSettled File.Idx (D.files disk.new) (D.left_since disk.new (D.moment disk.new))) }
     ensures images { IsTrue D.tells → LeavesOnly D.moment D.left_since disk.old disk.new (D.left_since disk.old (D.moment disk.old)) }
     ensures reads { ReadsLog D.moment D.bytes_read D.follows disk.old disk.new }
     ensures cause { HasCause (D.faults disk.old) (D.faults disk.new) result }
@@ -63,7 +68,9 @@ fn copy_piece<D: Disk>(
     requires whole { length bytes.old % 16 ≡ 0 }
     requires within { IsTrue D.tells → from + length bytes.old / 16 ≤ length (D.files disk.old).log }
     requires room { at + length bytes.old / 16 ≤ 2 ^ 28 }
-    ensures written { OnOk result (IsTrue D.tells → D.files disk.new ≡ with_file file (put at (take (length bytes.old / 16) (drop from (D.files disk.old).log)) (file_of file (D.files disk.old))) (D.files disk.old)) }
+    ensures written { OnOk result (IsTrue D.tells
+        → D.files disk.new ≡ with_file file (put at (take (length bytes.old / 16) (drop from (D.files disk.old).log))
+        (file_of file (D.files disk.old))) (D.files disk.old)) }
     ensures images { IsTrue D.tells → LeavesChanged D.moment D.left_since file at (at + length bytes.old / 16) disk.old disk.new }
     ensures reads { ReadsLog D.moment D.bytes_read D.follows disk.old disk.new }
     ensures cause { HasCause (D.faults disk.old) (D.faults disk.new) result }
@@ -86,7 +93,8 @@ fn copy_units<D: Disk>(
     requires within { IsTrue D.tells → from + count ≤ length (D.files disk.old).log }
     requires room { at + count ≤ 2 ^ 28 }
     requires place { from ≤ 2 ^ 32 }
-    ensures written { OnOk result (IsTrue D.tells → D.files disk.new ≡ with_file file (put at (take count (drop from (D.files disk.old).log)) (file_of file (D.files disk.old))) (D.files disk.old)) }
+    ensures written { OnOk result (IsTrue D.tells
+        → D.files disk.new ≡ with_file file (put at (take count (drop from (D.files disk.old).log)) (file_of file (D.files disk.old))) (D.files disk.old)) }
     ensures images { IsTrue D.tells → LeavesChanged D.moment D.left_since file at (at + count) disk.old disk.new }
     ensures reads { ReadsLog D.moment D.bytes_read D.follows disk.old disk.new }
     ensures cause { HasCause (D.faults disk.old) (D.faults disk.new) result }
@@ -108,8 +116,11 @@ fn copy_entries<D: Disk>(disk: &mut D, gate: Gate) -> Result<Option<u64>, Failed
     requires last { IsTrue D.tells → gate.last < length (D.files disk.old).log }
     requires open { IsTrue D.tells → IsOpen (heads_behind gate (D.files disk.old).log) }
     ensures none { IfOk result (λ fault. IsTrue D.tells → fault ≡ None) }
-    ensures written { OnOk result (IsTrue D.tells → D.files disk.new ≡ with_entries (entries_of (heads_behind gate (D.files disk.old).log)) (D.files disk.old)) }
-    ensures images { IsTrue D.tells → LeavesOnly D.moment D.left_since disk.old disk.new (WasWithin (entries_of (heads_behind gate (D.files disk.old).log)) (D.left_since disk.old (D.moment disk.old))) }
+    ensures written { OnOk result (IsTrue D.tells → D.files disk.new ≡ with_entries (entries_of (heads_behind gate (D.files disk.old).log))
+        (D.files disk.old)) }
+    ensures images { IsTrue D.tells
+        → LeavesOnly D.moment D.left_since disk.old disk.new
+        (WasWithin (entries_of (heads_behind gate (D.files disk.old).log)) (D.left_since disk.old (D.moment disk.old))) }
     ensures reads { ReadsLog D.moment D.bytes_read D.follows disk.old disk.new }
     ensures cause { HasCause (D.faults disk.old) (D.faults disk.new) result }
 {
@@ -128,11 +139,14 @@ fn copy_entries<D: Disk>(disk: &mut D, gate: Gate) -> Result<Option<u64>, Failed
 fn apply_entries<D: Disk>(disk: &mut D, gate: Gate) -> Result<Option<u64>, Failed>
     requires last { IsTrue D.tells → gate.last < length (D.files disk.old).log }
     requires open { IsTrue D.tells → IsOpen (heads_behind gate (D.files disk.old).log) }
-    requires settled { IsTrue D.tells → IsSettled D.files D.left_since D.moment disk.old }
+    requires settled { IsTrue D.tells → AreSettled (D.files disk.old) (D.left_since disk.old (D.moment disk.old)) }
     ensures none { IfOk result (λ fault. IsTrue D.tells → fault ≡ None) }
-    ensures written { OnOk result (IsTrue D.tells → D.files disk.new ≡ with_entries (entries_of (heads_behind gate (D.files disk.old).log)) (D.files disk.old)) }
-    ensures settled { OnOk result (IsTrue D.tells → IsSettled D.files D.left_since D.moment disk.new) }
-    ensures images { IsTrue D.tells → LeavesOnly D.moment D.left_since disk.old disk.new (WasWithin (entries_of (heads_behind gate (D.files disk.old).log)) (D.left_since disk.old (D.moment disk.old))) }
+    ensures written { OnOk result (IsTrue D.tells → D.files disk.new ≡ with_entries (entries_of (heads_behind gate (D.files disk.old).log))
+        (D.files disk.old)) }
+    ensures settled { OnOk result (IsTrue D.tells → AreSettled (D.files disk.new) (D.left_since disk.new (D.moment disk.new))) }
+    ensures images { IsTrue D.tells
+        → LeavesOnly D.moment D.left_since disk.old disk.new
+        (WasWithin (entries_of (heads_behind gate (D.files disk.old).log)) (D.left_since disk.old (D.moment disk.old))) }
     ensures reads { ReadsLog D.moment D.bytes_read D.follows disk.old disk.new }
     ensures cause { HasCause (D.faults disk.old) (D.faults disk.new) result }
 {
@@ -144,12 +158,12 @@ fn apply_entries<D: Disk>(disk: &mut D, gate: Gate) -> Result<Option<u64>, Faile
 /// Makes the gate zeros, and settles the log.
 pub fn close_log<D: Disk>(disk: &mut D) -> Result<(), Failed>
     requires some { IsTrue D.tells → 0 < length (D.files disk.old).log }
-    requires settled { IsTrue D.tells → IsSettled D.files D.left_since D.moment disk.old }
+    requires settled { IsTrue D.tells → AreSettled (D.files disk.old) (D.left_since disk.old (D.moment disk.old)) }
     requires open { IsTrue D.tells → IsOpen (log_state (D.files disk.old).log) }
     requires done { IsTrue D.tells → with_entries (entries_of (log_state (D.files disk.old).log)) (unlogged (D.files disk.old)) ≡ unlogged (D.files disk.old) }
     ensures closed { OnOk result (IsTrue D.tells → log_state (D.files disk.new).log ≡ Closed) }
     ensures same { IsTrue D.tells → unlogged (D.files disk.new) ≡ unlogged (D.files disk.old) }
-    ensures settled { OnOk result (IsTrue D.tells → IsSettled D.files D.left_since D.moment disk.new) }
+    ensures settled { OnOk result (IsTrue D.tells → AreSettled (D.files disk.new) (D.left_since disk.new (D.moment disk.new))) }
     ensures images { IsTrue D.tells → LeavesOnly D.moment D.left_since disk.old disk.new (ReopensAs (unlogged (D.files disk.old))) }
     ensures reads { ReadsLog D.moment D.bytes_read D.follows disk.old disk.new }
     ensures cause { HasCause (D.faults disk.old) (D.faults disk.new) result }
@@ -164,12 +178,12 @@ fn finish<D: Disk>(disk: &mut D, gate: Gate) -> Result<bool, RecoverFault>
     requires last { IsTrue D.tells → gate.last < length (D.files disk.old).log }
     requires state { IsTrue D.tells → log_state (D.files disk.old).log ≡ heads_behind gate (D.files disk.old).log }
     requires open { IsTrue D.tells → IsOpen (log_state (D.files disk.old).log) }
-    requires settled { IsTrue D.tells → IsSettled D.files D.left_since D.moment disk.old }
+    requires settled { IsTrue D.tells → AreSettled (D.files disk.old) (D.left_since disk.old (D.moment disk.old)) }
     ensures done { IfOk result (λ was_open. was_open ≡ true) }
     ensures fault { IfErr result (λ fault. IsTrue D.tells → fault ≡ RecoverFault.DiskFault) }
     ensures closed { OnOk result (IsTrue D.tells → log_state (D.files disk.new).log ≡ Closed) }
     ensures files { OnOk result (IsTrue D.tells → unlogged (D.files disk.new) ≡ reopened (D.files disk.old)) }
-    ensures settled { OnOk result (IsTrue D.tells → IsSettled D.files D.left_since D.moment disk.new) }
+    ensures settled { OnOk result (IsTrue D.tells → AreSettled (D.files disk.new) (D.left_since disk.new (D.moment disk.new))) }
     ensures images { IsTrue D.tells → LeavesOnly D.moment D.left_since disk.old disk.new (ReopensAs (reopened (D.files disk.old))) }
     ensures reads { ReadsLog D.moment D.bytes_read D.follows disk.old disk.new }
     ensures cause { HasCauseAt (result ≡ Err RecoverFault.DiskFault) (D.faults disk.old) (D.faults disk.new) }
@@ -193,12 +207,13 @@ fn finish<D: Disk>(disk: &mut D, gate: Gate) -> Result<bool, RecoverFault>
 /// # Errors
 ///
 /// `BadLog` where the log is malformed, with the unit. `DiskFault` only where the count of faults rose. Whatever the answer, the
-/// disk, and each image that a stop since the start may leave, stands for what it stood for at the start.
+/// disk, and each image that a stop since the start may leave, stands for what it stood for at the start. A malformed log is left as it is.
 pub fn recover<D: Disk>(disk: &mut D) -> Result<bool, RecoverFault>
     ensures says { IsTrue D.tells → RecoverSays (log_state (D.files disk.old).log) result }
+    ensures kept { IsTrue D.tells → RecoverKeeps (D.files disk.old) (D.files disk.new) result }
     ensures closed { OnOk result (IsTrue D.tells → log_state (D.files disk.new).log ≡ Closed) }
     ensures files { OnOk result (IsTrue D.tells → unlogged (D.files disk.new) ≡ reopened (D.files disk.old)) }
-    ensures settled { OnOk result (IsTrue D.tells → IsSettled D.files D.left_since D.moment disk.new) }
+    ensures settled { OnOk result (IsTrue D.tells → AreSettled (D.files disk.new) (D.left_since disk.new (D.moment disk.new))) }
     ensures stands { IsTrue D.tells → reopened (D.files disk.new) ≡ reopened (D.files disk.old) }
     ensures images { IsTrue D.tells → LeavesOnly D.moment D.left_since disk.old disk.new (ReopensAsOneOf (D.left_since disk.old (D.moment disk.old))) }
     ensures reads { ReadsLog D.moment D.bytes_read D.follows disk.old disk.new }

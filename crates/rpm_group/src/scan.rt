@@ -26,7 +26,8 @@ fn next_mark(marks: &[bool], from: usize, end: usize, held: bool) -> usize
 
 /// The page of a number, if it is there.
 pub fn page_of(table: &Table, q: usize) -> Option<&Page>
-    ensures { MatchOption result ((k : ℕ) → k < 256 → held_at table.now.items (256 * q + k) ≡ None) (λ page. (k : ℕ) → k < 256 → held_at table.now.items (256 * q + k) ≡ in_page page.now k) }
+    ensures { MatchOption result ((k : ℕ) → k < 256 → held_at table.now.items (256 * q + k) ≡ None) (λ page. (k : ℕ) → k < 256
+        → held_at table.now.items (256 * q + k) ≡ in_page page.now k) }
 {
     if q >= table.len() {
         return None;

@@ -4,7 +4,8 @@
 //! a comparison, and goes through them in order.
 
 ghost use Rattle.std.specs.Prelude.{◌≡◌, ◌⊎◌, ℕ, ◌+◌, ◌-◌, ◌*◌, ◌/◌, ◌%◌, ◌<◌, ◌≤◌, ◌^◌, true, false, None, Some, length, slice_index_or, unwrap_or, is_some, OnOk};
-ghost use Rattle.rpm_group.specs.Held.{unit_in, page_at, held_at, in_paged, SameHeld, AreThere, KeepsPages, Holds, LaysOver};
+ghost use Rattle.rpm_group.specs.Held.{unit_in, page_at, held_at, in_paged};
+ghost use Rattle.rpm_group.specs.inner.Holding.{SameHeld, AreThere, KeepsPages, Holds, LaysOver};
 
 use crate::page::{Page, empty_page};
 use std::alloc::{AllocError, Global};

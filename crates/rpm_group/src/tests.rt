@@ -1,4 +1,7 @@
-use crate::{Overlay, RecoverFault, recover, write_seven};
+ghost use Rattle.std.specs.Prelude.{◌≡◌, ◌%◌, length};
+
+use crate::whole::{write_seven, write_units};
+use crate::{LoadFault, Overlay, RecoverFault, recover};
 use rpm_outside::{Disk, File, MemDisk, Pick};
 use std::alloc::{AllocError, Global};
 use std::test::Fail;
@@ -23,76 +26,109 @@ fn has(alloc: Global, disk: &MemDisk, file: File, bytes: &[u8]) -> Result<bool, 
     Ok(disk.copy_file(alloc, file)?.as_slice() == bytes)
 }
 
+// The disk of one unit of ones, two of twos and threes, and the log above with these bytes in place of its own.
+fn logged(alloc: Global, changes: &[(usize, u8)]) -> Result<MemDisk, AllocError> {
+    let mut log = LOG.to_vec(alloc)?;
+    for (place, byte) in changes {
+        if *place < log.len() {
+            log[*place] = *byte;
+        }
+    }
+    MemDisk::new(alloc, &unit(1), &[unit(2), unit(3)].concat(alloc)?, &log)
+}
+
 #[test]
 fn an_open_log_is_finished(rt: HostRuntime) -> Result<(), Fail> {
     let alloc = rt.alloc();
-    let mut disk = MemDisk::new(alloc, &unit(1), &[unit(2), unit(3)].concat(alloc)?, &LOG)?;
-    assert_eq!(rt; recover(&mut disk), Ok(true));
-    assert!(rt;
-        has(
-            alloc,
-            &disk,
-            File::Pkg,
-            &[unit(1), unit(7), unit(8)].concat(alloc)?
-        )?
-    );
-    assert!(rt; has(alloc, &disk, File::Idx, &[unit(9), unit(3)].concat(alloc)?)?);
-    assert_eq!(rt; disk.bytes_read(File::Pkg), 0);
-    assert_eq!(rt; recover(&mut disk), Ok(false));
+    // as it stands, with two entries of which the second lies over the first, and of zeros with rubbish behind them
+    for (changes, pkg, idx, open) in [
+        ([(0, 0x52), (0, 0x52)], [1, 7, 8], [9, 3], true),
+        ([(64, 1), (68, 2)], [1, 7, 9], [2, 3], true),
+    ] {
+        let mut disk = logged(alloc, &changes)?;
+        assert_eq!(rt; recover(&mut disk), Ok(open));
+        assert!(rt; has(alloc, &disk, File::Pkg, &pkg.map(unit).concat(alloc)?)?);
+        assert!(rt; has(alloc, &disk, File::Idx, &idx.map(unit).concat(alloc)?)?);
+        assert_eq!(rt; disk.bytes_read(File::Pkg), 0);
+        assert_eq!(rt; recover(&mut disk), Ok(false));
+    }
     Ok(())
 }
+
+// The unit at which a log is wrong that has these two bytes in place of its own, in the order of the rule.
+const WRONG: [([(usize, u8); 2], u64); 15] = [
+    // magic, version, no entries, as long as the log; a head is wrong too
+    ([(0, 0x53), (16, 3)], 0),
+    ([(4, 2), (16, 3)], 0),
+    ([(8, 0), (16, 3)], 0),
+    ([(12, 6), (16, 3)], 0),
+    // three entries, another file, none, no units, past the last unit of a file, past the last unit of the log
+    ([(8, 3), (8, 3)], 6),
+    ([(16, 3), (64, 3)], 1),
+    ([(16, 0), (64, 3)], 1),
+    ([(24, 0), (64, 3)], 1),
+    ([(23, 0x10), (64, 3)], 1),
+    ([(24, 5), (64, 3)], 1),
+    ([(64, 0), (72, 0)], 4),
+    ([(72, 0), (72, 0)], 4),
+    ([(72, 2), (72, 2)], 4),
+    // one entry, which ends before the last unit, and a last unit before the end of the second
+    ([(8, 1), (8, 1)], 4),
+    ([(12, 4), (12, 4)], 4),
+];
 
 #[test]
 fn a_wrong_log_is_told_with_its_unit(rt: HostRuntime) -> Result<(), Fail> {
     let alloc = rt.alloc();
-    for (place, byte, at) in [
-        (0, 0x53, 0),
-        (12, 6, 0),
-        (20, 0xff, 0),
-        (64, 3, 4),
-        (12, 4, 4),
-    ] {
-        let mut log = LOG.to_vec(alloc)?;
-        if place < log.len() {
-            log[place] = byte;
+    for (changes, at) in WRONG {
+        let mut disk = logged(alloc, &changes)?;
+        let fault = recover(&mut disk).err();
+        assert_eq!(rt; fault, Some(RecoverFault::BadLog { unit: at }));
+        assert!(rt; has(alloc, &disk, File::Idx, &[unit(2), unit(3)].concat(alloc)?)?);
+        match Overlay::load(alloc, disk) {
+            Ok(_) => assert!(rt; false),
+            Err(refused) => assert_eq!(rt; refused.why, LoadFault::BadLog { unit: at }),
         }
-        let wrong = if place == 20 {
-            None
-        } else {
-            Some(RecoverFault::BadLog { unit: at })
-        };
-        let mut disk = MemDisk::new(alloc, &[], &[], &log)?;
-        assert_eq!(rt; recover(&mut disk).err(), wrong);
     }
     Ok(())
 }
 
+// Whether the first bytes of a file were read, where it has so many.
+fn reads<D: Disk>(disk: &mut D, file: File, into: &mut [u8]) -> bool
+    requires { length into.old % 16 ≡ 0 }
+{
+    let Ok(units) = disk.len(file) else {
+        return false;
+    };
+    if into.len() as u64 / 16 > units {
+        return false;
+    }
+    disk.read_at(file, 0, into).is_ok()
+}
+
 #[test]
-fn an_overlay_is_loaded_and_released(rt: HostRuntime) -> Result<(), Fail> {
+fn an_overlay_reads_what_is_held_over_what_is_below(rt: HostRuntime) -> Result<(), Fail> {
     let alloc = rt.alloc();
-    let disk = MemDisk::new(alloc, &unit(1), &[unit(2), unit(3)].concat(alloc)?, &LOG)?;
-    let Ok(mut overlay) = Overlay::load(alloc, disk) else {
+    let Ok(mut overlay) = Overlay::load(alloc, logged(alloc, &[])?) else {
         return Ok(());
     };
-    let mut bytes = [0u8; 48];
-    assert_eq!(rt; overlay.len(File::Pkg), Ok(3));
-    let mut two = [0u8; 32];
-    if overlay.read_at(File::Pkg, 1, &mut two).is_ok() {
-        assert_eq!(rt;
-            two.as_slice(),
-            [unit(7), unit(8)].concat(alloc)?.as_slice()
-        );
-    }
-    bytes[0] = 5;
-    assert!(rt; overlay.write_at(File::Pkg, 2, &bytes).is_ok());
+    assert_eq!(rt; overlay.held(), 3);
+    // a unit behind a gap, and one that was held before
+    assert!(rt; overlay.write_at(File::Pkg, 4, &unit(5)).is_ok());
+    assert!(rt; overlay.write_at(File::Pkg, 2, &unit(6)).is_ok());
+    assert!(rt; overlay.write_at(File::Log, 9, &unit(4)).is_ok());
+    assert_eq!(rt; overlay.held(), 5);
     assert_eq!(rt; overlay.len(File::Pkg), Ok(5));
+    let mut bytes = [0xffu8; 80];
+    assert!(rt; reads(&mut overlay, File::Pkg, &mut bytes));
+    let wanted = [1, 7, 6, 0, 5].map(unit).concat(alloc)?;
+    assert_eq!(rt; bytes.as_slice(), wanted.as_slice());
     assert!(rt; !overlay.is_starved());
     let disk = overlay.release();
     assert_eq!(rt; disk.now(), 0);
     assert!(rt; has(alloc, &disk, File::Pkg, &unit(1))?);
     Ok(())
 }
-
 // Whether each image of a moment, once it is recovered, has one of these as Packages.db.
 fn images_have(
     alloc: Global,
@@ -137,6 +173,78 @@ fn a_stop_leaves_a_change_whole_or_not_at_all(rt: HostRuntime) -> Result<(), Fai
         let before = if done { &new } else { &old };
         assert!(rt; images_have(alloc, &disk, disk.now(), before, &new)?);
         assert_eq!(rt; done, failing == 0 || failing > 15, "call {failing}");
+    }
+    Ok(())
+}
+
+#[test]
+fn a_change_is_written_run_by_run(rt: HostRuntime) -> Result<(), Fail> {
+    let alloc = rt.alloc();
+    // nothing is held but of the log: only the three files are settled
+    for units in [[].as_slice(), &[(File::Log, 3, 4)]] {
+        let (disk, done) = write_units(alloc, MemDisk::new(alloc, &[], &[], &[])?, units);
+        assert!(rt; done && disk.now() == 3);
+    }
+    let units = [
+        (File::Idx, 1, 9),
+        (File::Pkg, 3, 7),
+        (File::Pkg, 0, 6),
+        (File::Pkg, 4, 8),
+    ];
+    let (disk, done) = write_units(alloc, MemDisk::new(alloc, &[], &[], &[])?, &units);
+    assert!(rt; done);
+    let pkg = [6, 0, 0, 7, 8].map(unit).concat(alloc)?;
+    assert!(rt; has(alloc, &disk, File::Pkg, &pkg)?);
+    assert!(rt; has(alloc, &disk, File::Idx, &[unit(0), unit(9)].concat(alloc)?)?);
+    let mut log = [0u8; 128];
+    for (place, byte) in [
+        (16, 1),
+        (24, 1),
+        (48, 1),
+        (52, 3),
+        (56, 2),
+        (96, 2),
+        (100, 1),
+        (104, 1),
+    ] {
+        log[place] = byte;
+    }
+    for (place, byte) in [(32, 6), (64, 7), (80, 8), (112, 9)] {
+        log[place..place + 16].fill(byte);
+    }
+    assert!(rt; has(alloc, &disk, File::Log, &log)?);
+    // 2 writes a run for the log, one for its file, 2 for the gate; 5 syncs, and 3 before
+    assert_eq!(rt; disk.now(), 3 + 3 * 3 + 2 + 5);
+    Ok(())
+}
+
+#[test]
+fn ten_thousand_runs_are_one_change(rt: HostRuntime) -> Result<(), Fail> {
+    let alloc = rt.alloc();
+    let mut units = Vec::new(alloc);
+    for i in 0..10_000u16 {
+        units.push((File::Pkg, 2 * i, 7))?;
+    }
+    let (disk, done) = write_units(alloc, MemDisk::new(alloc, &[], &[], &[])?, &units);
+    assert!(rt; done);
+    assert_eq!(rt; disk.now(), 3 + 3 * 10_000 + 2 + 5);
+    assert_eq!(rt; disk.copy_file(alloc, File::Pkg)?.len(), 16 * 19_999);
+    Ok(())
+}
+
+#[test]
+fn a_stop_while_recovering_is_recovered(rt: HostRuntime) -> Result<(), Fail> {
+    let alloc = rt.alloc();
+    let new = [1, 7, 8].map(unit).concat(alloc)?;
+    for failing in 0..20u64 {
+        let mut disk = logged(alloc, &[])?;
+        disk.fail_call(failing)?;
+        let done = recover(&mut disk).is_ok();
+        for moment in 0..disk.now() {
+            assert!(rt; images_have(alloc, &disk, moment, &new, &new)?);
+        }
+        assert!(rt; images_have(alloc, &disk, disk.now(), &new, &new)?);
+        assert_eq!(rt; done, failing == 0 || failing > 17, "call {failing}");
     }
     Ok(())
 }

@@ -6,12 +6,12 @@ ghost use Rattle.rpm_outside.specs.Causes.{HasCause};
 ghost use Rattle.rpm_outside.specs.Changed.{LeavesChanged};
 ghost use Rattle.rpm_outside.specs.Logs.{word};
 ghost use Rattle.rpm_outside.specs.LogWrites.{number_of};
-ghost use Rattle.rpm_group.specs.Counts.{units_held, AreHeld};
+ghost use Rattle.rpm_group.specs.inner.HeldUnits.{units_held, AreHeld};
 ghost use Rattle.rpm_group.specs.LogReads.{ReadsNothing};
-ghost use Rattle.rpm_group.specs.Words.{IsUnitOf, IsHeadOf};
+ghost use Rattle.rpm_group.specs.inner.Words.{IsUnitOf, IsHeadOf};
 
 use crate::scan::page_of;
-use crate::table::Table;
+use crate::table::{Table, lay};
 use rpm_outside::{Disk, Failed, File};
 
 /// A unit of four numbers.
@@ -56,6 +56,89 @@ fn piece(table: &Table, from: usize, stop: usize) -> &[u8]
 }
 
 /// Writes held units to a file from unit `at` on, as much of a page at a time as there is.
+fn write_pages<D: Disk>(
+    disk: &mut D,
+    table: &Table,
+    file: File,
+    at: u64,
+    from: usize,
+    end: usize,
+) -> Result<(), Failed>
+    requires some { from < end }
+    requires held { AreHeld table.now.items from end }
+    requires room { at + (end - from) ≤ 2 ^ 28 }
+    requires small { end ≤ 2 ^ 28 }
+    ensures written { OnOk result (IsTrue D.tells
+        → D.files disk.new ≡ with_file file (put at (units_held table.now.items from (end - from)) (file_of file (D.files disk.old))) (D.files disk.old)) }
+    ensures images { IsTrue D.tells → LeavesChanged D.moment D.left_since file at (at + (end - from)) disk.old disk.new }
+    ensures reads { ReadsNothing D.moment D.bytes_read D.follows disk.old disk.new }
+    ensures cause { HasCause (D.faults disk.old) (D.faults disk.new) result }
+{
+    let mut done = from;
+    while done < end {
+        let stop = (256 * (done / 256) + 256).min(end);
+        disk.write_at(file, at + (done - from) as u64, piece(table, done, stop))?;
+        done = stop;
+    }
+    Ok(())
+}
+
+/// Writes held units to a file from unit `at` on, as many as `bytes` takes.
+fn write_piece<D: Disk>(
+    disk: &mut D,
+    table: &Table,
+    file: File,
+    at: u64,
+    from: usize,
+    bytes: &mut [u8],
+) -> Result<(), Failed>
+    requires some { 0 < length bytes.old }
+    requires whole { length bytes.old % 16 ≡ 0 }
+    requires held { AreHeld table.now.items from (from + length bytes.old / 16) }
+    requires room { at + length bytes.old / 16 ≤ 2 ^ 28 }
+    requires small { from + length bytes.old / 16 ≤ 2 ^ 28 }
+    ensures written { OnOk result (IsTrue D.tells → D.files disk.new
+        ≡ with_file file (put at (units_held table.now.items from (length bytes.old / 16)) (file_of file (D.files disk.old))) (D.files disk.old)) }
+    ensures images { IsTrue D.tells → LeavesChanged D.moment D.left_since file at (at + length bytes.old / 16) disk.old disk.new }
+    ensures reads { ReadsNothing D.moment D.bytes_read D.follows disk.old disk.new }
+    ensures cause { HasCause (D.faults disk.old) (D.faults disk.new) result }
+{
+    lay(table, from, bytes);
+    disk.write_at(file, at, bytes)?;
+    Ok(())
+}
+
+/// Writes held units to a file from unit `at` on, 64 KiB at a time, which are gathered from their pages.
+fn write_long<D: Disk>(
+    disk: &mut D,
+    table: &Table,
+    file: File,
+    at: u64,
+    from: usize,
+    end: usize,
+) -> Result<(), Failed>
+    requires some { from < end }
+    requires held { AreHeld table.now.items from end }
+    requires room { at + (end - from) ≤ 2 ^ 28 }
+    requires small { end ≤ 2 ^ 28 }
+    ensures written { OnOk result (IsTrue D.tells
+        → D.files disk.new ≡ with_file file (put at (units_held table.now.items from (end - from)) (file_of file (D.files disk.old))) (D.files disk.old)) }
+    ensures images { IsTrue D.tells → LeavesChanged D.moment D.left_since file at (at + (end - from)) disk.old disk.new }
+    ensures reads { ReadsNothing D.moment D.bytes_read D.follows disk.old disk.new }
+    ensures cause { HasCause (D.faults disk.old) (D.faults disk.new) result }
+{
+    let mut buffer = [0u8; 65_536];
+    let mut done = from;
+    while done < end {
+        let n = (end - done).min(4096);
+        let bytes = &mut buffer[..16 * n];
+        write_piece(disk, table, file, at + (done - from) as u64, done, bytes)?;
+        done += n;
+    }
+    Ok(())
+}
+
+/// Writes held units to a file from unit `at` on: a run of up to a page's length as it lies in its pages, a longer one gathered.
 pub fn write_run<D: Disk>(
     disk: &mut D,
     table: &Table,
@@ -68,18 +151,16 @@ pub fn write_run<D: Disk>(
     requires held { AreHeld table.now.items from end }
     requires room { at + (end - from) ≤ 2 ^ 28 }
     requires small { end ≤ 2 ^ 28 }
-    ensures written { OnOk result (IsTrue D.tells → D.files disk.new ≡ with_file file (put at (units_held table.now.items from (end - from)) (file_of file (D.files disk.old))) (D.files disk.old)) }
+    ensures written { OnOk result (IsTrue D.tells
+        → D.files disk.new ≡ with_file file (put at (units_held table.now.items from (end - from)) (file_of file (D.files disk.old))) (D.files disk.old)) }
     ensures images { IsTrue D.tells → LeavesChanged D.moment D.left_since file at (at + (end - from)) disk.old disk.new }
     ensures reads { ReadsNothing D.moment D.bytes_read D.follows disk.old disk.new }
     ensures cause { HasCause (D.faults disk.old) (D.faults disk.new) result }
 {
-    let mut done = from;
-    while done < end {
-        let stop = (256 * (done / 256) + 256).min(end);
-        disk.write_at(file, at + (done - from) as u64, piece(table, done, stop))?;
-        done = stop;
+    if end - from <= 256 {
+        return write_pages(disk, table, file, at, from, end);
     }
-    Ok(())
+    write_long(disk, table, file, at, from, end)
 }
 
 /// Writes the entry of held units to the log from unit `at` on.
@@ -95,7 +176,8 @@ pub fn log_run<D: Disk>(
     requires held { AreHeld table.now.items from end }
     requires room { at + 1 + (end - from) ≤ 2 ^ 28 }
     requires small { end ≤ 2 ^ 28 }
-    ensures written { OnOk result (IsTrue D.tells → (head : List ℕ) × IsHeadOf file from (end - from) head × (D.files disk.new ≡ with_file File.Log (put at (head ∷ units_held table.now.items from (end - from)) (D.files disk.old).log) (D.files disk.old))) }
+    ensures written { OnOk result (IsTrue D.tells → (head : List ℕ) × IsHeadOf file from (end - from) head
+        × (D.files disk.new ≡ with_file File.Log (put at (head ∷ units_held table.now.items from (end - from)) (D.files disk.old).log) (D.files disk.old))) }
     ensures images { IsTrue D.tells → LeavesChanged D.moment D.left_since File.Log at (at + 1 + (end - from)) disk.old disk.new }
     ensures reads { ReadsNothing D.moment D.bytes_read D.follows disk.old disk.new }
     ensures cause { HasCause (D.faults disk.old) (D.faults disk.new) result }

@@ -14,7 +14,7 @@ use Rattle.rpm_header.specs.declared.index.IndexEntry.{IndexEntry}
 use Rattle.rpm_header.specs.Bytes.{number_at}
 use Rattle.rpm_header.specs.Header.{Item, form_of, form_fault, element_fault, alignment, entry_of, index_entry_at, index_entry, section_of, is_region_tag, entry_fault, fault_at}
 use Rattle.rpm_header.specs.Laid.{kind_of, bytes_in, offset_of, end_of, data_from, index_from, index_bytes, indexed}
-use Rattle.rpm_header.specs.Packed.{ReadsBack}
+use Rattle.rpm_header.specs.inner.Packed.{ReadsBack}
 use Rattle.rpm_header.proofs.LaidOut.{offset_behind, data_length}
 
 -- ---- an entry of the index
@@ -33,14 +33,22 @@ pub record Fits (i : IndexEntry) : Type 0 where
   pub offset : i.offset < 2 ^ 32
   pub count : i.count < 2 ^ 32
 
-pub index_front : (bytes rest : List ℕ) (at : ℕ) (i : IndexEntry) → Fits i → drop at bytes ≡ index_bytes i ++ rest → (index_entry_at bytes at ≡ i) × (drop (at + 16) bytes ≡ rest)
+pub index_front : (bytes rest : List ℕ) (at : ℕ) (i : IndexEntry) → Fits i → drop at bytes ≡ index_bytes i ++ rest
+    → (index_entry_at bytes at ≡ i) × (drop (at + 16) bytes ≡ rest)
 unfolding index_bytes
 index_front bytes rest at i fits e0 =
     let e4 = skip_front i.tag bytes _ at (at + 4) refl e0 in
     let e8 = skip_front i.kind bytes _ (at + 4) (at + 8) (omega arith) e4 in
     let e12 = skip_front i.offset bytes _ (at + 8) (at + 12) (omega arith) e8 in
-    let e16 = skip_front i.count bytes rest (at + 12) (at + 16) (omega arith) e12 in
-    (rw (read_front i.tag bytes _ at fits.tag e0, read_front i.kind bytes _ (at + 4) fits.kind e4, read_front i.offset bytes _ (at + 8) fits.offset e8, read_front i.count bytes _ (at + 12) fits.count e12) refl, e16)
+    let e16 = skip_front i.count bytes rest (at + 12) (at + 16) (omega arith) e12 in (
+      rw (
+        read_front i.tag bytes _ at fits.tag e0,
+        read_front i.kind bytes _ (at + 4) fits.kind e4,
+        read_front i.offset bytes _ (at + 8) fits.offset e8,
+        read_front i.count bytes _ (at + 12) fits.count e12,
+      ) refl,
+      e16,
+    )
 
 form_again : (f : Form) → form_of (kind_of f) ≡ Some f
 form_again form.Null = refl
@@ -93,7 +101,9 @@ module _ (il : ℕ) (blob : List ℕ) (a at : ℕ) (e : Item) (es : List Item) (
 
   in_front : (index_entry il blob a ≡ indexed (offset_of at e) e) × (drop (8 + 16 * a + 16) blob ≡ index_from (end_of at e) es ++ s.index.0)
   unfolding index_from
-  in_front = index_front blob (index_from (end_of at e) es ++ s.index.0) (8 + 16 * a) (indexed (offset_of at e) e) fits (s.index.1 ∙ append_assoc (index_bytes (indexed (offset_of at e) e)) (index_from (end_of at e) es) s.index.0)
+  in_front =
+      index_front blob (index_from (end_of at e) es ++ s.index.0) (8 + 16 * a) (indexed (offset_of at e) e) fits (s.index.1
+      ∙ append_assoc (index_bytes (indexed (offset_of at e) e)) (index_from (end_of at e) es) s.index.0)
 
   zeros : List ℕ
   zeros = replicate (offset_of at e - at) 0
@@ -103,7 +113,14 @@ module _ (il : ℕ) (blob : List ℕ) (a at : ℕ) (e : Item) (es : List Item) (
 
   before_length : length before ≡ offset_of at e
   unfolding before zeros
-  before_length = omega (arith, length-append s.stored.0 (replicate (offset_of at e - at) 0), length-replicate {A = ℕ} (offset_of at e - at) 0, s.stored.2, offset_behind at e)
+  before_length =
+      omega (
+        arith,
+        length-append s.stored.0 (replicate (offset_of at e - at) 0),
+        length-replicate {A = ℕ} (offset_of at e - at) 0,
+        s.stored.2,
+        offset_behind at e,
+      )
 
   split : section_of il blob ≡ before ++ (bytes_in e ++ (data_from (end_of at e) es ++ s.stored.1))
   unfolding data_from before zeros
@@ -114,7 +131,11 @@ module _ (il : ℕ) (blob : List ℕ) (a at : ℕ) (e : Item) (es : List Item) (
     back = s.each.0;
     entry = in_front.0;
     within = omega (arith, ap length split, length-append before (bytes_in e ++ (data_from (end_of at e) es ++ s.stored.1)), before_length);
-    elements = (data_from (end_of at e) es ++ s.stored.1, ap (drop (offset_of at e)) split ∙ drop_at before (bytes_in e ++ (data_from (end_of at e) es ++ s.stored.1)) (offset_of at e) before_length);
+    elements = (
+      data_from (end_of at e) es ++ s.stored.1,
+      ap (drop (offset_of at e)) split
+          ∙ drop_at before (bytes_in e ++ (data_from (end_of at e) es ++ s.stored.1)) (offset_of at e) before_length,
+    );
   }
 
   stands_rest : Stands il blob (a + 1) (end_of at e) es
@@ -123,13 +144,20 @@ module _ (il : ℕ) (blob : List ℕ) (a at : ℕ) (e : Item) (es : List Item) (
       record {
         each = s.each.1;
         index = (s.index.0, rw (← step) in_front.1);
-        stored = (before ++ bytes_in e, s.stored.1, length-append before (bytes_in e) ∙ ap (λ n. n + length (bytes_in e)) before_length, split ∙ sym (append_assoc before (bytes_in e) (data_from (end_of at e) es ++ s.stored.1)));
+        stored = (
+          before ++ bytes_in e,
+          s.stored.1,
+          length-append before (bytes_in e) ∙ ap (λ n. n + length (bytes_in e)) before_length,
+          split
+              ∙ sym (append_assoc before (bytes_in e) (data_from (end_of at e) es ++ s.stored.1)),
+        );
         small = omega (arith, s.small, data_length at e es, offset_behind at e);
       }
 
 -- ---- one of them
 
-pub indexed_again : (offset : ℕ) (e : Item) (section rest : List ℕ) → ReadsBack e → drop offset section ≡ bytes_in e ++ rest → entry_of (indexed offset e) section ≡ e
+pub indexed_again : (offset : ℕ) (e : Item) (section rest : List ℕ) → ReadsBack e → drop offset section ≡ bytes_in e ++ rest
+    → entry_of (indexed offset e) section ≡ e
 unfolding entry_of
 indexed_again offset e section rest back there = rw (form_again e.form, there, back.again rest) refl
 
@@ -151,13 +179,16 @@ aligned form.Texts at e is = rw is (omega arith)
 aligned form.I18n at e is = rw is (omega arith)
 
 -- a form with its data in the section
-no_fault_if : (f : Form) (k : ℕ) (i : IndexEntry) (section : List ℕ) → i.offset ≤ length section → i.offset % alignment f ≡ 0 → element_fault f k i.count (drop i.offset section) ≡ None
-    → cond (nat_lt (length section) i.offset || not (eqb (i.offset % alignment f) 0)) (Some (BadOffset k)) (element_fault f k i.count (drop i.offset section)) ≡ None
+no_fault_if : (f : Form) (k : ℕ) (i : IndexEntry) (section : List ℕ) → i.offset ≤ length section → i.offset % alignment f ≡ 0
+    → element_fault f k i.count (drop i.offset section) ≡ None
+    → cond (nat_lt (length section) i.offset || not (eqb (i.offset % alignment f) 0)) (Some (BadOffset k))
+    (element_fault f k i.count (drop i.offset section)) ≡ None
 no_fault_if f k i section le al none =
     let test : nat_lt (length section) i.offset ≡ false = le-ltb (length section) i.offset le in
     rw (test, al) none
 
-pub form_sound : (f : Form) (k : ℕ) (i : IndexEntry) (section : List ℕ) → i.offset ≤ length section → i.offset % alignment f ≡ 0 → (f ≡ form.Null → ⊥) → element_fault f k i.count (drop i.offset section) ≡ None
+pub form_sound : (f : Form) (k : ℕ) (i : IndexEntry) (section : List ℕ) → i.offset ≤ length section → i.offset % alignment f ≡ 0 → (f ≡ form.Null → ⊥)
+    → element_fault f k i.count (drop i.offset section) ≡ None
     → form_fault (Some f) k i section ≡ None
 form_sound form.Null k i section le al not_null none = refl
 form_sound form.Char k i section le al not_null none = no_fault_if form.Char k i section le al none
@@ -190,12 +221,14 @@ first_sound il blob a at e s =
 
 -- ---- all of them
 
-pub entries_again : (es : List Item) (il : ℕ) (blob : List ℕ) (a at : ℕ) → Stands il blob a at es → map (λ i. entry_of (index_entry il blob i) (section_of il blob)) (range_with_len a (length es)) ≡ es
+pub entries_again : (es : List Item) (il : ℕ) (blob : List ℕ) (a at : ℕ) → Stands il blob a at es
+    → map (λ i. entry_of (index_entry il blob i) (section_of il blob)) (range_with_len a (length es)) ≡ es
 entries_again [] il blob a at s = refl
 entries_again (e ∷ es) il blob a at s =
     rw (first_again il blob a at e (stands_first il blob a at e es s), entries_again es il blob (a + 1) (end_of at e) (stands_rest il blob a at e es s)) refl
 
-pub sound_again : (es : List Item) (il : ℕ) (blob : List ℕ) (a at : ℕ) → Stands il blob a at es → (k : ℕ) → a ≤ k → k < a + length es → fault_at il blob k ≡ None
+pub sound_again : (es : List Item) (il : ℕ) (blob : List ℕ) (a at : ℕ) → Stands il blob a at es → (k : ℕ) → a ≤ k → k < a + length es
+    → fault_at il blob k ≡ None
 sound_again [] il blob a at s k from below = absurd (omega arith)
 sound_again (e ∷ es) il blob a at s k from below =
     elim (cases_eq a k) [

@@ -7,7 +7,7 @@ use Rattle.std.proofs.lemmas.Bool.Decides.{leb_tells}
 use Rattle.std.proofs.lemmas.List.{take-append-drop, drop_all, length-take}
 use Rattle.std.proofs.lemmas.List.Sums.{sum_by-cons, sum_by-append, count_by-le-length}
 use Rattle.rpm_header.specs.Bytes.{is_zero, are_ended}
-use Rattle.rpm_header.specs.Zeros.{zeros}
+use Rattle.rpm_header.specs.inner.Zeros.{zeros}
 
 -- ---- sums
 
@@ -75,7 +75,8 @@ unfolding are_ended
 ended_counted zero bytes = sym (le-leb 0 (zeros bytes) (omega arith))
 ended_counted (suc n) bytes =
     elim (leb_tells (suc (first_zero bytes)) (length bytes)) [
-      | inl found ↦ (rw (found.0, ended_counted n (after_first is_zero bytes)) (same_test _ _ _ _ (λ h. omega (arith, zeros-after bytes found.1)) (λ h. omega (arith, zeros-after bytes found.1))))
+      | inl found ↦ (rw (found.0, ended_counted n (after_first is_zero bytes))
+          (same_test _ _ _ _ (λ h. omega (arith, zeros-after bytes found.1)) (λ h. omega (arith, zeros-after bytes found.1))))
       | inr past ↦ (rw past.0 (sym (lt-leb (suc n) (zeros bytes) (omega (arith, zeros-none bytes (omega arith))))))
     ]
 

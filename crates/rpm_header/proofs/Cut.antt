@@ -5,7 +5,7 @@ use Rattle.std.specs.Int.{w32, from_be_bytes}
 use Rattle.std.proofs.lemmas.List.{drop-take, length-take-le, take_all}
 use Rattle.rpm_header.specs.Bytes.{number_at}
 use Rattle.rpm_header.specs.Header.{header, header_of, entries, fault_at}
-use Rattle.rpm_header.specs.Checked.{IsCut, IsSound}
+use Rattle.rpm_header.specs.inner.Checked.{IsCut, IsSound}
 use Rattle.rpm_header.proofs.Each.{first_none}
 
 -- a number is told by its four bytes
@@ -22,7 +22,8 @@ number_in_front n at bytes within =
     let size : at + suc (suc (suc (suc (n - (at + 4))))) ≡ n = omega arith in
     rw (← size, drop-take) (four_in_front (n - (at + 4)) (drop at bytes))
 
-pub is_cut : (il dl n : ℕ) (bytes : List ℕ) → il ≡ number_at w32 bytes 0 → dl ≡ number_at w32 bytes 4 → n ≡ 8 + 16 * il + dl → n ≤ length bytes → il ≤ 65535 → dl ≤ 67108864 → IsCut il (take n bytes)
+pub is_cut : (il dl n : ℕ) (bytes : List ℕ) → il ≡ number_at w32 bytes 0 → dl ≡ number_at w32 bytes 4 → n ≡ 8 + 16 * il + dl → n ≤ length bytes → il ≤ 65535
+    → dl ≤ 67108864 → IsCut il (take n bytes)
 is_cut il dl n bytes il_is dl_is n_is within few small =
     let second : number_at w32 (take n bytes) 4 ≡ number_at w32 bytes 4 = number_in_front n 4 bytes (omega arith) in
     record {
@@ -39,6 +40,8 @@ again il blob sound =
     let long : nat_lt (length blob) 8 ≡ false = le-ltb (length blob) 8 (omega arith) in
     let few : nat_lt 65535 (number_at w32 blob 0) ≡ false = le-ltb 65535 (number_at w32 blob 0) (omega arith) in
     let small : nat_lt 67108864 (number_at w32 blob 4) ≡ false = le-ltb 67108864 (number_at w32 blob 4) sound.cut.small in
-    let whole : nat_lt (length blob) (8 + 16 * number_at w32 blob 0 + number_at w32 blob 4) ≡ false = le-ltb (length blob) (8 + 16 * number_at w32 blob 0 + number_at w32 blob 4) (omega arith) in
-    let own : take (8 + 16 * number_at w32 blob 0 + number_at w32 blob 4) blob ≡ blob = take_all (8 + 16 * number_at w32 blob 0 + number_at w32 blob 4) blob (omega arith) in
+    let whole : nat_lt (length blob) (8 + 16 * number_at w32 blob 0 + number_at w32 blob 4) ≡ false =
+    le-ltb (length blob) (8 + 16 * number_at w32 blob 0 + number_at w32 blob 4) (omega arith) in
+    let own : take (8 + 16 * number_at w32 blob 0 + number_at w32 blob 4) blob ≡ blob =
+    take_all (8 + 16 * number_at w32 blob 0 + number_at w32 blob 4) blob (omega arith) in
     rw (long, few, small, whole, own, sound.cut.front, first_none il (fault_at il blob) sound.faultless) refl

@@ -18,11 +18,12 @@ use Rattle.rpm_header.specs.Header.{Item, Header, header, entries, entry_of, ind
 use Rattle.rpm_header.specs.Laid.{data_from, index_from, blob_of}
 use Rattle.rpm_header.specs.Dribbles.{dribbled_index, dribbled_data, dribbled}
 use Rattle.rpm_header.specs.Parts.{own_index, own_data}
-use Rattle.rpm_header.specs.Packed.{ReadsBack}
+use Rattle.rpm_header.specs.inner.Packed.{ReadsBack}
+use Rattle.rpm_header.specs.inner.Longer.{number_longer}
 use Rattle.rpm_header.proofs.Bools.{and_true}
 use Rattle.rpm_header.proofs.Cut.{number_in_front}
 use Rattle.rpm_header.proofs.Opened.{IsOpened}
-use Rattle.rpm_header.proofs.Longer.{same_below, room_of, number_longer, in_data, faultless, fault_longer, entry_longer}
+use Rattle.rpm_header.proofs.Longer.{same_below, room_of, in_data, faultless, fault_longer, entry_longer}
 use Rattle.rpm_header.proofs.Again.{Stands, entries_again, sound_again, neither}
 use Rattle.rpm_header.proofs.Laws.{no_region_fault, length-index_from, section_is, header_is, IsWithin}
 
@@ -36,12 +37,15 @@ range_split a (suc m) n =
     rw (size, start, range_split (a + 1) m n) refl
 
 map_split : {X : Type 0} (f : ℕ → X) (m n : ℕ) → map f (range_with_len 0 (m + n)) ≡ map f (range_with_len 0 m) ++ map f (range_with_len m n)
-map_split f m n = ap (map f) (range_split 0 m n) ∙ map-append f (range_with_len 0 m) (range_with_len (0 + m) n) ∙ ap (λ (k : ℕ). map f (range_with_len 0 m) ++ map f (range_with_len k n)) (zero-add m)
+map_split f m n =
+    ap (map f) (range_split 0 m n) ∙ map-append f (range_with_len 0 m) (range_with_len (0 + m) n)
+    ∙ ap (λ (k : ℕ). map f (range_with_len 0 m) ++ map f (range_with_len k n)) (zero-add m)
 
 counts_longer : (il more n : ℕ) → counts_back il n ≡ true → counts_back (il + more) n ≡ true
 counts_longer il more n back =
     let test = λ (r : ℕ). eqb (n + 16 * r) (2 ^ 32) in
-    ap (list_any test) (range_split 1 il more) ∙ list_any-append test (range_with_len 1 il) (range_with_len (1 + il) more) ∙ ap (λ b. b || list_any test (range_with_len (1 + il) more)) back
+    ap (list_any test) (range_split 1 il more) ∙ list_any-append test (range_with_len 1 il) (range_with_len (1 + il) more)
+    ∙ ap (λ b. b || list_any test (range_with_len (1 + il) more)) back
 
 -- a region without a fault
 pub record IsRegion (il : ℕ) (i : IndexEntry) (section : List ℕ) : Type 0 where
@@ -61,7 +65,8 @@ is_region il i section none =
     record { kind = eqb-true i.kind 7 first.0; count = eqb-true i.count 16 first.1; back = last.1 }
 
 -- its trailer lies in the data
-pub trailer_room : (k il : ℕ) (i : IndexEntry) (section : List ℕ) → form_fault (form_of i.kind) k i section ≡ None → IsRegion il i section → i.offset + 16 ≤ length section
+pub trailer_room : (k il : ℕ) (i : IndexEntry) (section : List ℕ) → form_fault (form_of i.kind) k i section ≡ None → IsRegion il i section
+    → i.offset + 16 ≤ length section
 trailer_room k il i section none r =
     let bin : form_fault (Some form.Bin) k i section ≡ None = subst (λ (kind : ℕ). form_fault (form_of kind) k i section ≡ None) r.kind none in
     let d = in_data form.Bin k i section (λ h. cc) bin in
@@ -79,14 +84,17 @@ pub none_of : {X : Type 0} (a b : Option X) → option_or a b ≡ None → (a �
 none_of None b none = (refl, none)
 none_of (Some x) b none = absurd cc
 
-rule_longer : (test : Bool) (k il m : ℕ) (i : IndexEntry) (section more : List ℕ) → form_fault (form_of i.kind) k i section ≡ None → (if test then region_fault il i section else None) ≡ None
+rule_longer : (test : Bool) (k il m : ℕ) (i : IndexEntry) (section more : List ℕ) → form_fault (form_of i.kind) k i section ≡ None
+    → (if test then region_fault il i section else None) ≡ None
     → (if test then region_fault (il + m) i (section ++ more) else None) ≡ None
 rule_longer false k il m i section more own none = refl
 rule_longer true k il m i section more own none =
     let r = is_region il i section none in
     let room = trailer_room k il i section own r in
-    let same : number_at w32 (section ++ more) (i.offset + 8) ≡ number_at w32 section (i.offset + 8) = number_longer w32 section more (i.offset + 8) (omega arith) (omega arith) in
-    no_region_fault (il + m) i (section ++ more) r.kind r.count (ap (counts_back (il + m)) same ∙ counts_longer il m (number_at w32 section (i.offset + 8)) r.back)
+    let same : number_at w32 (section ++ more) (i.offset + 8) ≡ number_at w32 section (i.offset + 8) =
+    number_longer w32 section more (i.offset + 8) (omega arith) (omega arith) in
+    no_region_fault (il + m) i (section ++ more) r.kind r.count (ap (counts_back (il + m)) same
+    ∙ counts_longer il m (number_at w32 section (i.offset + 8)) r.back)
 
 whole_longer : (k il m : ℕ) (i : IndexEntry) (section more : List ℕ) → fault_of k il i section ≡ None → fault_of k (il + m) i (section ++ more) ≡ None
 whole_longer k il m i section more none =
@@ -103,7 +111,8 @@ pub number_behind : (bytes : List ℕ) (at m : ℕ) → at ≡ 8 + m → number_
 unfolding number_at
 number_behind bytes at m place = rw place (ap (from_be_bytes w32) (sym (drop-drop m 8 bytes)))
 
-number_kept : (bytes bytes' : List ℕ) (size at m : ℕ) → at ≡ 8 + m → m + 4 ≤ size → take size (drop 8 bytes) ≡ take size (drop 8 bytes') → number_at w32 bytes at ≡ number_at w32 bytes' at
+number_kept : (bytes bytes' : List ℕ) (size at m : ℕ) → at ≡ 8 + m → m + 4 ≤ size → take size (drop 8 bytes) ≡ take size (drop 8 bytes')
+    → number_at w32 bytes at ≡ number_at w32 bytes' at
 number_kept bytes bytes' size at m place within same =
     number_behind bytes at m place
     ∙ sym (number_in_front size m (drop 8 bytes) within)
@@ -113,7 +122,8 @@ number_kept bytes bytes' size at m place within same =
 
 -- ---- all of it
 
-module _ (h : Header) (more : List Item) (o : IsOpened h) (each : AllByRecursion ReadsBack more) (few : length h.entries + length more ≤ 65535) (small : length (dribbled_data h more) ≤ 67108864) where
+module _ (h : Header) (more : List Item) (o : IsOpened h) (each : AllByRecursion ReadsBack more) (few : length h.entries + length more ≤ 65535)
+    (small : length (dribbled_data h more) ≤ 67108864) where
   abbrev il : ℕ
   il = length h.entries
 
@@ -126,7 +136,7 @@ module _ (h : Header) (more : List Item) (o : IsOpened h) (each : AllByRecursion
   abbrev blob : List ℕ
   blob = blob_of n (dribbled_index h more) (dribbled_data h more)
 
-  own_sixteen : length (own_index h) ≡ 16 * il
+  pub own_sixteen : length (own_index h) ≡ 16 * il
   own_sixteen = length-take-le (16 * il) (drop 8 h.blob) (omega (arith, o.sound.cut.whole, length-drop 8 h.blob))
 
   sixteen : length (dribbled_index h more) ≡ 16 * n
@@ -134,6 +144,15 @@ module _ (h : Header) (more : List Item) (o : IsOpened h) (each : AllByRecursion
 
   own : section_of n blob ≡ dribbled_data h more
   own = section_is n (dribbled_index h more) (dribbled_data h more) few sixteen small
+
+  -- the two parts of what is laid out
+  pub new_data : own_data (record { blob = dribbled h more; entries = h.entries ++ more }) ≡ dribbled_data h more
+  unfolding dribbled
+  new_data = rw (length-append h.entries more) own
+
+  pub new_index : own_index (record { blob = dribbled h more; entries = h.entries ++ more }) ≡ dribbled_index h more
+  unfolding dribbled
+  new_index = rw (length-append h.entries more) (take_at (dribbled_index h more) (dribbled_data h more) (16 * n) sixteen)
 
   behind : drop 8 blob ≡ own_index h ++ (index_from size more ++ dribbled_data h more)
   behind = append_assoc (own_index h) (index_from size more) (dribbled_data h more)
@@ -168,7 +187,11 @@ module _ (h : Header) (more : List Item) (o : IsOpened h) (each : AllByRecursion
   stands : Stands n blob il size more
   stands = record {
     each = each;
-    index = (dribbled_data h more, sym (drop-drop (16 * il) 8 blob) ∙ ap (drop (16 * il)) behind ∙ drop_at (own_index h) (index_from size more ++ dribbled_data h more) (16 * il) own_sixteen);
+    index = (
+      dribbled_data h more,
+      sym (drop-drop (16 * il) 8 blob) ∙ ap (drop (16 * il)) behind
+          ∙ drop_at (own_index h) (index_from size more ++ dribbled_data h more) (16 * il) own_sixteen,
+    );
     stored = (own_data h, [], refl, own ∙ ap (λ (b : List ℕ). own_data h ++ b) (sym (append-nil (data_from size more))));
     small = omega (arith, length-append (own_data h) (data_from size more));
   }
@@ -183,8 +206,10 @@ module _ (h : Header) (more : List Item) (o : IsOpened h) (each : AllByRecursion
   unfolding entries
   all_entries =
       let item = λ (k : ℕ). entry_of (index_entry n blob k) (section_of n blob) in
-      let split : map item (range_with_len 0 n) ≡ map item (range_with_len 0 il) ++ map item (range_with_len il (length more)) = map_split item il (length more) in
-      let first : map item (range_with_len 0 il) ≡ h.entries = same_below item (λ k. entry_of (index_entry il h.blob k) (section_of il h.blob)) 0 il (λ k from below. item_kept k (omega arith)) ∙ sym o.same in
+      let split : map item (range_with_len 0 n) ≡ map item (range_with_len 0 il) ++ map item (range_with_len il (length more)) =
+      map_split item il (length more) in
+      let first : map item (range_with_len 0 il) ≡ h.entries =
+      same_below item (λ k. entry_of (index_entry il h.blob k) (section_of il h.blob)) 0 il (λ k from below. item_kept k (omega arith)) ∙ sym o.same in
       split ∙ rw (first, entries_again more n blob il size stands) refl
 
   pub dribbled_again : header (dribbled h more) ≡ Ok (record { blob = dribbled h more; entries = h.entries ++ more })
@@ -193,19 +218,24 @@ module _ (h : Header) (more : List Item) (o : IsOpened h) (each : AllByRecursion
 
 -- ---- the parts in the order in which they are written
 
-joined_parts : (begun index more_index stored more_data a b c d : List ℕ) → a ≡ begun ++ index → b ≡ a ++ more_index → c ≡ b ++ stored → d ≡ c ++ more_data → d ≡ begun ++ (index ++ more_index) ++ (stored ++ more_data)
+joined_parts : (begun index more_index stored more_data a b c d : List ℕ) → a ≡ begun ++ index → b ≡ a ++ more_index → c ≡ b ++ stored → d ≡ c ++ more_data
+    → d ≡ begun ++ (index ++ more_index) ++ (stored ++ more_data)
 joined_parts begun index more_index stored more_data a b c d ia ib ic id = rw (id, ic, ib, ia) (simp append_assoc)
 
-pub dribbled_parts : (h : Header) (more : List Item) (l : Lengths) (begun a b c d : List ℕ) → IsWithin (length h.entries + length more) (length (dribbled_data h more)) l
+pub dribbled_parts : (h : Header) (more : List Item) (l : Lengths) (begun a b c d : List ℕ)
+    → IsWithin (length h.entries + length more) (length (dribbled_data h more)) l
     → begun ≡ to_be_bytes w32 l.entries ++ to_be_bytes w32 l.size
-    → a ≡ begun ++ own_index h → b ≡ a ++ index_from (length (own_data h)) more → c ≡ b ++ own_data h → d ≡ c ++ data_from (length (own_data h)) more → d ≡ dribbled h more
+    → a ≡ begun ++ own_index h → b ≡ a ++ index_from (length (own_data h)) more → c ≡ b ++ own_data h → d ≡ c ++ data_from (length (own_data h)) more
+    → d ≡ dribbled h more
 unfolding dribbled
 dribbled_parts h more l begun a b c d w front ia ib ic id =
-    let lengths : begun ≡ to_be_bytes w32 (length h.entries + length more) ++ to_be_bytes w32 (length (dribbled_data h more)) = front ∙ rw (w.entries, w.size) refl in
+    let lengths : begun ≡ to_be_bytes w32 (length h.entries + length more) ++ to_be_bytes w32 (length (dribbled_data h more)) =
+    front ∙ rw (w.entries, w.size) refl in
     joined_parts begun (own_index h) (index_from (length (own_data h)) more) (own_data h) (data_from (length (own_data h)) more) a b c d ia ib ic id
     ∙ ap (λ (f : List ℕ). f ++ dribbled_index h more ++ dribbled_data h more) lengths
 
 -- what is written is the header, which is read again
-pub dribbled_written : (h : Header) (more : List Item) (l : Lengths) (blob : List ℕ) → IsOpened h → AllByRecursion ReadsBack more → IsWithin (length h.entries + length more) (length (dribbled_data h more)) l → blob ≡ dribbled h more
+pub dribbled_written : (h : Header) (more : List Item) (l : Lengths) (blob : List ℕ) → IsOpened h → AllByRecursion ReadsBack more
+    → IsWithin (length h.entries + length more) (length (dribbled_data h more)) l → blob ≡ dribbled h more
     → header blob ≡ Ok (record { blob = blob; entries = h.entries ++ more })
 dribbled_written h more l blob o each w is = rw is (dribbled_again h more o each w.few w.small)

@@ -18,7 +18,8 @@ slice_get-each_below n f i h =
     let within : i < length (each_below n f) = omega (arith, length-each_below n f) in
     slice_get-get_or (each_below n f) i (f i) within ∙ ap Some (get_or-map-range_with_len f 0 n i i (f i) h (omega arith))
 
-pub slice_get-numbers : (w : Width) (count : ℕ) (bytes : List ℕ) (i n : ℕ) → i < count → n ≡ number_at w bytes (i * byte_len w) → slice_get (numbers w count bytes) i ≡ Some n
+pub slice_get-numbers : (w : Width) (count : ℕ) (bytes : List ℕ) (i n : ℕ) → i < count → n ≡ number_at w bytes (i * byte_len w)
+    → slice_get (numbers w count bytes) i ≡ Some n
 unfolding numbers
 slice_get-numbers w count bytes i n h e = slice_get-each_below count (λ k. number_at w bytes (k * byte_len w)) i h ∙ ap Some (sym e)
 
@@ -28,7 +29,8 @@ first_none_from f a (suc n) none =
     let here : f a ≡ None = none a (omega arith) (omega arith) in
     rw here (first_none_from f (a + 1) n (λ k l h. none k (omega arith) (omega arith)))
 
-first_some_from : {X : Type 0} (f : ℕ → Option X) (a n i : ℕ) (x : X) → a ≤ i → i < a + n → ((k : ℕ) → a ≤ k → k < i → f k ≡ None) → f i ≡ Some x → first (map f (range_with_len a n)) ≡ Some x
+first_some_from : {X : Type 0} (f : ℕ → Option X) (a n i : ℕ) (x : X) → a ≤ i → i < a + n → ((k : ℕ) → a ≤ k → k < i → f k ≡ None) → f i ≡ Some x
+    → first (map f (range_with_len a n)) ≡ Some x
 first_some_from f a zero i x l h none e = absurd (omega arith)
 first_some_from f a (suc n) i x l h none e =
     elim (cases_eq a i) [
@@ -40,7 +42,8 @@ first_some_from f a (suc n) i x l h none e =
 pub first_none : {X : Type 0} (n : ℕ) (f : ℕ → Option X) → ((k : ℕ) → k < n → f k ≡ None) → first (each_below n f) ≡ None
 first_none n f none = first_none_from f 0 n (λ k l h. none k (omega arith))
 
-pub first_some : {X : Type 0} (n : ℕ) (f : ℕ → Option X) (i : ℕ) (x : X) → i < n → ((k : ℕ) → k < i → f k ≡ None) → f i ≡ Some x → first (each_below n f) ≡ Some x
+pub first_some : {X : Type 0} (n : ℕ) (f : ℕ → Option X) (i : ℕ) (x : X) → i < n → ((k : ℕ) → k < i → f k ≡ None) → f i ≡ Some x
+    → first (each_below n f) ≡ Some x
 first_some n f i x h none e = first_some_from f 0 n i x (omega arith) (omega arith) (λ k l h'. none k h') e
 
 pub length-entries : (il : ℕ) (blob : List ℕ) → length (entries il blob) ≡ il

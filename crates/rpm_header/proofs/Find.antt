@@ -4,7 +4,8 @@ use Rattle.std.specs.Prelude.{slice_get}
 use Rattle.rpm_header.specs.Header.{Item, last_of}
 
 -- the loop names the place behind the entry that it looks at
-pub found_at : (tag : ℕ) (es : List Item) (i j : ℕ) (e : Item) → j ≡ i + 1 → slice_get es i ≡ Some e → slice_get (map (λ e. e.tag) es) i ≡ Some tag → last_of tag (drop j es) ≡ None → last_of tag es ≡ Some e
+pub found_at : (tag : ℕ) (es : List Item) (i j : ℕ) (e : Item) → j ≡ i + 1 → slice_get es i ≡ Some e → slice_get (map (λ e. e.tag) es) i ≡ Some tag
+    → last_of tag (drop j es) ≡ None → last_of tag es ≡ Some e
 found_at tag [] i j e next at same none = absurd cc
 found_at tag (x ∷ es) zero j e next at same none =
     let test : eqb x.tag tag ≡ true = eq-eqb x.tag tag cc in
@@ -14,7 +15,8 @@ found_at tag (x ∷ es) (suc i) j e next at same none =
     let step : j ≡ suc (i + 1) = omega arith in
     rw (found_at tag es i (i + 1) e refl at same (rw step at none)) refl
 
-pub not_at : (tag : ℕ) (es : List Item) (i j other : ℕ) → j ≡ i + 1 → slice_get (map (λ e. e.tag) es) i ≡ Some other → (other ≡ tag → ⊥) → last_of tag (drop j es) ≡ None → last_of tag (drop i es) ≡ None
+pub not_at : (tag : ℕ) (es : List Item) (i j other : ℕ) → j ≡ i + 1 → slice_get (map (λ e. e.tag) es) i ≡ Some other → (other ≡ tag → ⊥)
+    → last_of tag (drop j es) ≡ None → last_of tag (drop i es) ≡ None
 not_at tag [] i j other next at differs none = absurd cc
 not_at tag (x ∷ es) zero j other next at differs none =
     let test : eqb x.tag tag ≡ false = ne_eqb x.tag tag (λ same. differs cc) in

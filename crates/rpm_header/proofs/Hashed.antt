@@ -16,7 +16,8 @@ use Rattle.rpm_header.proofs.Region.{counted, not_counted}
 use Rattle.rpm_header.proofs.Opened.{IsOpened}
 use Rattle.rpm_header.proofs.Dribbled.{fault_is, none_of, number_behind, is_region, trailer_room}
 
-pub message : (a b d i s : List ℕ) (n size : ℕ) → a ≡ magic → b ≡ to_be_bytes w32 n → d ≡ to_be_bytes w32 size → [] ++ a ++ b ++ d ++ i ++ s ≡ in_file n size i s
+pub message : (a b d i s : List ℕ) (n size : ℕ) → a ≡ magic → b ≡ to_be_bytes w32 n → d ≡ to_be_bytes w32 size
+    → [] ++ a ++ b ++ d ++ i ++ s ≡ in_file n size i s
 unfolding in_file
 message a b d i s n size ia ib id = rw (ia, ib, id) refl
 
@@ -95,16 +96,20 @@ module _ (h : Header) (o : IsOpened h) (begins : begins_with 63 h.entries ≡ tr
       record {
         some = omega (arith, some, size);
         trailer = omega (arith, room, offset);
-        few = subst (λ (at : ℕ). (2 ^ 32 - number_at w32 (own_data h) (at + 8)) / 16 ≤ il) (sym offset) (counted_back il (number_at w32 (own_data h) (first.offset + 8)) r.back);
+        few =
+            subst (λ (at : ℕ). (2 ^ 32 - number_at w32 (own_data h) (at + 8)) / 16 ≤ il) (sym offset)
+            (counted_back il (number_at w32 (own_data h) (first.offset + 8)) r.back);
       }
 
 -- what the code reads of it
 pub record ReadsRegion (h : Header) (index section : List ℕ) (region trailer : IndexEntry) : Type 0 where
   pub offset : region.offset ≡ (region_entry h).offset
   pub entries : (2 ^ 32 - trailer.offset) / 16 ≡ region_entries h
-  pub hashed : in_file ((2 ^ 32 - trailer.offset) / 16) (region.offset + 16) (take (16 * ((2 ^ 32 - trailer.offset) / 16)) index) (take (region.offset + 16) section) ≡ region_in_file h
+  pub hashed : in_file ((2 ^ 32 - trailer.offset) / 16) (region.offset + 16) (take (16 * ((2 ^ 32 - trailer.offset) / 16)) index)
+      (take (region.offset + 16) section) ≡ region_in_file h
 
-pub reads_region : (h : Header) (index section : List ℕ) (region trailer : IndexEntry) → index ≡ own_index h → section ≡ own_data h → region ≡ index_entry_at index 0 → trailer ≡ index_entry_at section region.offset → ReadsRegion h index section region trailer
+pub reads_region : (h : Header) (index section : List ℕ) (region trailer : IndexEntry) → index ≡ own_index h → section ≡ own_data h
+    → region ≡ index_entry_at index 0 → trailer ≡ index_entry_at section region.offset → ReadsRegion h index section region trailer
 reads_region h index section region trailer ii is ir it = record {
   offset = rw (ir, ii) refl;
   entries = rw (it, ir, is, ii) refl;

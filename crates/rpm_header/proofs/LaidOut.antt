@@ -11,7 +11,8 @@ pub offset_is : (at offset : ℕ) (f : Form) (e : Item) → offset ≡ next_mult
 unfolding offset_of
 offset_is at offset f e is form = rw (← form) is
 
-pub indexed_is : (at : ℕ) (e : Item) (tag kind offset count : ℕ) (f : Form) → tag ≡ e.tag → kind ≡ kind_of f → f ≡ e.form → offset ≡ offset_of at e → count ≡ e.count
+pub indexed_is : (at : ℕ) (e : Item) (tag kind offset count : ℕ) (f : Form) → tag ≡ e.tag → kind ≡ kind_of f → f ≡ e.form → offset ≡ offset_of at e
+    → count ≡ e.count
     → record { tag = tag; kind = kind; offset = offset; count = count } ≡ indexed (offset_of at e) e
 indexed_is at e tag kind offset count f t k form o n = rw (t, k, form, o, n) refl
 
@@ -19,7 +20,8 @@ pub offset_behind : (at : ℕ) (e : Item) → at ≤ offset_of at e
 unfolding offset_of
 offset_behind at e = omega arith
 
-pub data_length : (at : ℕ) (e : Item) (es : List Item) → length (data_from at (e ∷ es)) ≡ (offset_of at e - at) + length (bytes_in e) + length (data_from (end_of at e) es)
+pub data_length : (at : ℕ) (e : Item) (es : List Item)
+    → length (data_from at (e ∷ es)) ≡ (offset_of at e - at) + length (bytes_in e) + length (data_from (end_of at e) es)
 unfolding data_from
 data_length at e es =
     length-append (replicate (offset_of at e - at) 0 ++ bytes_in e) (data_from (end_of at e) es)
@@ -40,12 +42,15 @@ module _ (es : List Item) (i at : ℕ) (e : Item) (within : i < length es) (is :
       at_drop_more (λ (l : List Item). at + length (data_from at l)) es i e within
       ∙ rw (read, end) (end_from at e (drop (i + 1) es))
 
-  pub index_more : (next : ℕ) (out out' : List ℕ) → next ≡ end_of at e → out' ≡ out ++ index_bytes (indexed (offset_of at e) e) → out' ++ index_from next (drop (i + 1) es) ≡ out ++ index_from at (drop i es)
+  pub index_more : (next : ℕ) (out out' : List ℕ) → next ≡ end_of at e → out' ≡ out ++ index_bytes (indexed (offset_of at e) e)
+      → out' ++ index_from next (drop (i + 1) es) ≡ out ++ index_from at (drop i es)
   unfolding index_from
   index_more next out out' end more =
-      rw (at_drop_more (index_from at) es i e within, read, end, more) (append_assoc out (index_bytes (indexed (offset_of at e) e)) (index_from (end_of at e) (drop (i + 1) es)))
+      rw (at_drop_more (index_from at) es i e within, read, end, more)
+      (append_assoc out (index_bytes (indexed (offset_of at e) e)) (index_from (end_of at e) (drop (i + 1) es)))
 
-  pub data_more : (next : ℕ) (out padded out' : List ℕ) → next ≡ end_of at e → padded ≡ out ++ replicate (offset_of at e - at) 0 → out' ≡ padded ++ bytes_in e → out' ++ data_from next (drop (i + 1) es) ≡ out ++ data_from at (drop i es)
+  pub data_more : (next : ℕ) (out padded out' : List ℕ) → next ≡ end_of at e → padded ≡ out ++ replicate (offset_of at e - at) 0
+      → out' ≡ padded ++ bytes_in e → out' ++ data_from next (drop (i + 1) es) ≡ out ++ data_from at (drop i es)
   unfolding data_from
   data_more next out padded out' end zeros more =
       rw (at_drop_more (data_from at) es i e within, read, end, more, zeros) (simp append_assoc)

@@ -14,7 +14,7 @@ use Rattle.rpm_header.specs.declared.laying.Lengths.{Lengths}
 use Rattle.rpm_header.specs.Bytes.{number_at}
 use Rattle.rpm_header.specs.Header.{Item, entry_of, index_entry, section_of, form_of, is_region_tag, element_fault, fault_at, entry_fault, form_fault, region_fault, counts_back, header, header_of, entries}
 use Rattle.rpm_header.specs.Laid.{offset_of, end_of, data_from, index_from, index_bytes, indexed, trailer_entry, trailer, region_item, with_region, index_of, data_of, blob_of, laid, lengths_of}
-use Rattle.rpm_header.specs.Packed.{ReadsBack}
+use Rattle.rpm_header.specs.inner.Packed.{ReadsBack}
 use Rattle.rpm_header.proofs.Each.{first_none}
 use Rattle.rpm_header.proofs.Region.{counts}
 use Rattle.rpm_header.proofs.Again.{Stands, Fits, index_front, entries_again, sound_again, form_sound, neither, read_front}
@@ -52,7 +52,17 @@ module _ (n : ℕ) (index section : List ℕ) (few : n ≤ 65535) (sixteen : len
   header_is es sound same =
       let blob = blob_of n index section in
       let whole : take (8 + 16 * n + length section) blob ≡ blob = take_all (8 + 16 * n + length section) blob (omega (arith, blob_length)) in
-      rw (front_is, size_is, le-ltb (length blob) 8 (omega (arith, blob_length)), le-ltb 65535 n few, le-ltb 67108864 (length section) small, le-ltb (length blob) (8 + 16 * n + length section) (omega (arith, blob_length)), whole, first_none n (fault_at n blob) sound, same) refl
+      rw (
+        front_is,
+        size_is,
+        le-ltb (length blob) 8 (omega (arith, blob_length)),
+        le-ltb 65535 n few,
+        le-ltb 67108864 (length section) small,
+        le-ltb (length blob) (8 + 16 * n + length section) (omega (arith, blob_length)),
+        whole,
+        first_none n (fault_at n blob) sound,
+        same,
+      ) refl
 
 -- ---- without a region
 
@@ -65,7 +75,8 @@ module _ (es : List Item) (each : AllByRecursion ReadsBack es) (few : length es 
     small = omega arith;
   }
 
-  plain_again : header (blob_of (length es) (index_from 0 es) (data_from 0 es)) ≡ Ok (record { blob = blob_of (length es) (index_from 0 es) (data_from 0 es); entries = es })
+  plain_again : header (blob_of (length es) (index_from 0 es) (data_from 0 es))
+      ≡ Ok (record { blob = blob_of (length es) (index_from 0 es) (data_from 0 es); entries = es })
   unfolding entries
   plain_again =
       let blob = blob_of (length es) (index_from 0 es) (data_from 0 es) in
@@ -78,7 +89,8 @@ module _ (es : List Item) (each : AllByRecursion ReadsBack es) (few : length es 
 trailer_fits : (n : ℕ) → 0 < n → Fits (trailer_entry n)
 trailer_fits n some = record { tag = omega arith; kind = omega arith; offset = omega arith; count = omega arith }
 
-pub no_region_fault : (n : ℕ) (i : IndexEntry) (bytes : List ℕ) → i.kind ≡ 7 → i.count ≡ 16 → counts_back n (number_at w32 bytes (i.offset + 8)) ≡ true → region_fault n i bytes ≡ None
+pub no_region_fault : (n : ℕ) (i : IndexEntry) (bytes : List ℕ) → i.kind ≡ 7 → i.count ≡ 16 → counts_back n (number_at w32 bytes (i.offset + 8)) ≡ true
+    → region_fault n i bytes ≡ None
 no_region_fault n i bytes kind count back = rw (kind, count, back) refl
 
 module _ (es : List Item) (each : AllByRecursion ReadsBack es) (few : suc (length es) ≤ 65535) (small : length (data_of true es) ≤ 67108864) where
@@ -110,7 +122,10 @@ module _ (es : List Item) (each : AllByRecursion ReadsBack es) (few : suc (lengt
   own = section_is il (index_of true es) section few sixteen small
 
   in_front : (index_entry il blob 0 ≡ first_entry) × (drop 24 blob ≡ index_from 0 es ++ section)
-  in_front = index_front blob (index_from 0 es ++ section) 8 first_entry (record { tag = omega arith; kind = omega arith; offset = omega (arith, size); count = omega arith }) (append_assoc (index_bytes first_entry) (index_from 0 es) section)
+  in_front =
+      index_front blob (index_from 0 es ++ section) 8 first_entry
+      (record { tag = omega arith; kind = omega arith; offset = omega (arith, size); count = omega arith })
+      (append_assoc (index_bytes first_entry) (index_from 0 es) section)
 
   at_end : drop o section ≡ trailer entries_number
   at_end = drop_at (data_from 0 es) (trailer entries_number) o refl
@@ -118,14 +133,17 @@ module _ (es : List Item) (each : AllByRecursion ReadsBack es) (few : suc (lengt
   region_read : entry_of first_entry section ≡ region_item entries_number
   unfolding entry_of
   region_read =
-      let all : take 16 (trailer entries_number) ≡ trailer entries_number = take_all 16 (trailer entries_number) (omega (arith, length-index_bytes (trailer_entry entries_number))) in
+      let all : take 16 (trailer entries_number) ≡ trailer entries_number =
+      take_all 16 (trailer entries_number) (omega (arith, length-index_bytes (trailer_entry entries_number))) in
       rw (at_end, all) refl
 
   first_read : entry_of (index_entry il blob 0) (section_of il blob) ≡ region_item entries_number
   first_read = ap (λ (i : IndexEntry). entry_of i (section_of il blob)) in_front.0 ∙ ap (entry_of first_entry) own ∙ region_read
 
   counted : number_at w32 section (o + 8) ≡ 2 ^ 32 - 16 * entries_number
-  counted = ap (λ (i : IndexEntry). i.offset) (index_front section [] o (trailer_entry entries_number) (trailer_fits entries_number (omega arith)) (at_end ∙ sym (append-nil (trailer entries_number)))).0
+  counted =
+      ap (λ (i : IndexEntry). i.offset) (index_front section [] o (trailer_entry entries_number) (trailer_fits entries_number (omega arith)) (at_end
+      ∙ sym (append-nil (trailer entries_number)))).0
 
   -- the fault of entry 0, told by its index entry and the data
   abbrev fault_of : IndexEntry → List ℕ → Option HeaderFault
@@ -135,8 +153,10 @@ module _ (es : List Item) (each : AllByRecursion ReadsBack es) (few : suc (lengt
   region_sound =
       let there : length (drop o section) ≡ 16 = ap length at_end ∙ length-index_bytes (trailer_entry entries_number) in
       let element : element_fault form.Bin 0 16 (drop o section) ≡ None = rw (le-ltb (length (drop o section)) 16 (omega arith)) refl in
-      let bin : form_fault (Some form.Bin) 0 first_entry section ≡ None = form_sound form.Bin 0 first_entry section (omega (arith, size)) (omega arith) (λ h. cc) element in
-      let back : counts_back il (2 ^ 32 - 16 * entries_number) ≡ true = counts il (2 ^ 32 - 16 * entries_number) entries_number (omega arith) (omega arith) (omega arith) in
+      let bin : form_fault (Some form.Bin) 0 first_entry section ≡ None =
+      form_sound form.Bin 0 first_entry section (omega (arith, size)) (omega arith) (λ h. cc) element in
+      let back : counts_back il (2 ^ 32 - 16 * entries_number) ≡ true =
+      counts il (2 ^ 32 - 16 * entries_number) entries_number (omega arith) (omega arith) (omega arith) in
       neither _ _ bin (no_region_fault il first_entry section refl refl (ap (counts_back il) counted ∙ back))
 
   first_sound : fault_at il blob 0 ≡ None
@@ -192,10 +212,12 @@ is_within n size l e =
 joined_plain : (begun index stored a b c d : List ℕ) → a ≡ begun ++ [] → b ≡ a ++ index → c ≡ b ++ stored → d ≡ c ++ [] → d ≡ begun ++ index ++ stored
 joined_plain begun index stored a b c d ia ib ic id = rw (id, ic, ib, ia) (simp append-nil)
 
-joined_region : (begun first index stored last a b c d : List ℕ) → a ≡ begun ++ first → b ≡ a ++ index → c ≡ b ++ stored → d ≡ c ++ last → d ≡ begun ++ (first ++ index) ++ (stored ++ last)
+joined_region : (begun first index stored last a b c d : List ℕ) → a ≡ begun ++ first → b ≡ a ++ index → c ≡ b ++ stored → d ≡ c ++ last
+    → d ≡ begun ++ (first ++ index) ++ (stored ++ last)
 joined_region begun first index stored last a b c d ia ib ic id = rw (id, ic, ib, ia) (simp append_assoc)
 
-pub laid_parts : (region : Bool) (es : List Item) (l : Lengths) (begun a b c d : List ℕ) → IsWithin (length (with_region region es)) (length (data_of region es)) l
+pub laid_parts : (region : Bool) (es : List Item) (l : Lengths) (begun a b c d : List ℕ)
+    → IsWithin (length (with_region region es)) (length (data_of region es)) l
     → begun ≡ to_be_bytes w32 l.entries ++ to_be_bytes w32 l.size
     → a ≡ begun ++ (if region then index_bytes (indexed (l.size - 16) (region_item l.entries)) else [])
     → b ≡ a ++ index_from 0 es → c ≡ b ++ data_from 0 es → d ≡ c ++ (if region then trailer l.entries else []) → d ≡ laid region es
@@ -206,22 +228,29 @@ laid_parts false es l begun a b c d w front ia ib ic id =
 laid_parts true es l begun a b c d w front ia ib ic id =
     let lengths : begun ≡ to_be_bytes w32 (length (with_region true es)) ++ to_be_bytes w32 (length (data_of true es)) = front ∙ rw (w.entries, w.size) refl in
     let number : l.entries ≡ length es + 1 = omega (arith, w.entries) in
-    let offset : l.size - 16 ≡ length (data_from 0 es) = omega (arith, w.size, length-append (data_from 0 es) (trailer (length es + 1)), length-index_bytes (trailer_entry (length es + 1))) in
-    let first : a ≡ begun ++ index_bytes (indexed (length (data_from 0 es)) (region_item (length es + 1))) = ia ∙ ap (λ (k : ℕ). begun ++ index_bytes (indexed k (region_item (length es + 1)))) offset in
+    let offset : l.size - 16 ≡ length (data_from 0 es) =
+    omega (arith, w.size, length-append (data_from 0 es) (trailer (length es + 1)), length-index_bytes (trailer_entry (length es + 1))) in
+    let first : a ≡ begun ++ index_bytes (indexed (length (data_from 0 es)) (region_item (length es + 1))) =
+    ia ∙ ap (λ (k : ℕ). begun ++ index_bytes (indexed k (region_item (length es + 1)))) offset in
     let last : d ≡ c ++ trailer (length es + 1) = id ∙ ap (λ (k : ℕ). c ++ trailer k) number in
     joined_region begun _ (index_from 0 es) (data_from 0 es) _ a b c d first ib ic last ∙ ap (λ (f : List ℕ). f ++ index_of true es ++ data_of true es) lengths
 
-pub region_lengths : (es : List Item) → lengths_of (1 + length es) (0 + length (data_from 0 es) + 16) ≡ lengths_of (length (with_region true es)) (length (data_of true es))
+pub region_lengths : (es : List Item) → lengths_of (1 + length es) (0 + length (data_from 0 es) + 16)
+    ≡ lengths_of (length (with_region true es)) (length (data_of true es))
 region_lengths es =
     let number : 1 + length es ≡ length (with_region true es) = omega arith in
-    let size : 0 + length (data_from 0 es) + 16 ≡ length (data_of true es) = omega (arith, length-append (data_from 0 es) (trailer (length es + 1)), length-index_bytes (trailer_entry (length es + 1))) in
+    let size : 0 + length (data_from 0 es) + 16 ≡ length (data_of true es) =
+    omega (arith, length-append (data_from 0 es) (trailer (length es + 1)), length-index_bytes (trailer_entry (length es + 1))) in
     ap (λ (n : ℕ). lengths_of n (0 + length (data_from 0 es) + 16)) number ∙ ap (lengths_of (length (with_region true es))) size
 
-pub room_for_trailer : (region : Bool) (es : List Item) (l : Lengths) → IsWithin (length (with_region region es)) (length (data_of region es)) l → region ≡ true → 16 ≤ l.size
+pub room_for_trailer : (region : Bool) (es : List Item) (l : Lengths) → IsWithin (length (with_region region es)) (length (data_of region es)) l
+    → region ≡ true → 16 ≤ l.size
 room_for_trailer false es l w is = absurd cc
-room_for_trailer true es l w is = omega (arith, w.size, length-append (data_from 0 es) (trailer (length es + 1)), length-index_bytes (trailer_entry (length es + 1)))
+room_for_trailer true es l w is =
+    omega (arith, w.size, length-append (data_from 0 es) (trailer (length es + 1)), length-index_bytes (trailer_entry (length es + 1)))
 
 -- what is written is the header, which is read again
-pub written : (region : Bool) (es : List Item) (l : Lengths) (blob : List ℕ) → AllByRecursion ReadsBack es → IsWithin (length (with_region region es)) (length (data_of region es)) l → blob ≡ laid region es
+pub written : (region : Bool) (es : List Item) (l : Lengths) (blob : List ℕ) → AllByRecursion ReadsBack es
+    → IsWithin (length (with_region region es)) (length (data_of region es)) l → blob ≡ laid region es
     → header blob ≡ Ok (record { blob = blob; entries = with_region region es })
 written region es l blob each w is = rw is (laid_again region es each w.few w.small)

@@ -6,11 +6,13 @@ pub mod Dribbled
 pub mod Each
 pub mod Find
 pub mod Hashed
+pub mod Kept
 pub mod LaidOut
 pub mod Laws
 pub mod Longer
 pub mod NumbersAgain
 pub mod Opened
+pub mod Own
 pub mod Packing
 pub mod Region
 pub mod Repacked

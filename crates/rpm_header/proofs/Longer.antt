@@ -1,15 +1,16 @@
 -- An entry without a fault says the same where more data stand behind.
-use Rattle.std.proofs.Common.{◌≡◌, ℕ, zero, suc, ◌+◌, ◌-◌, ◌*◌, ◌%◌, ◌<◌, ◌≤◌, List, [], ◌∷◌, ◌++◌, length, take, drop, map, get_or, cond, Bool, true, false, eqb, Option, Some, None, refl, ap, ◌∙◌, length-append, length-drop, le-ltb, lt-ltb, arith, inl, inr}
+use Rattle.std.proofs.Common.{◌≡◌, ℕ, zero, suc, ◌+◌, ◌*◌, ◌%◌, ◌<◌, ◌≤◌, List, [], ◌∷◌, ◌++◌, length, take, drop, map, cond, Bool, true, false, eqb, Option, Some, None, refl, ap, length-append, le-ltb, lt-ltb, arith, inl, inr}
 use Rattle.std.specs.Prelude.{nat_lt, not, ◌&&◌, ◌||◌, ◌⊎◌, is_some, if◌then◌else◌}
 use Rattle.std.specs.List.{range_with_len, position, position_or_len, after_first}
-use Rattle.std.specs.Int.{Width, w8, w16, w32, w64, byte_worth, byte_len, from_be_bytes, sum_through}
+use Rattle.std.specs.Int.{Width, w8, w16, w32, w64, byte_len}
 use Rattle.std.proofs.lemmas.Bool.{ltb-true, ltb-false, eqb-true}
-use Rattle.std.proofs.lemmas.List.{get_or_append_left, take-append-le, drop-append-le}
+use Rattle.std.proofs.lemmas.List.{take-append-le, drop-append-le}
 use Rattle.rpm_header.specs.declared.form.Form.{Form}
 use Rattle.rpm_header.specs.declared.form.Form.TheVariants as form
 use Rattle.rpm_header.specs.declared.form.HeaderFault.{HeaderFault}
 use Rattle.rpm_header.specs.declared.form.HeaderFault.TheVariants.{BadOffset, BadCount, NoEnd}
 use Rattle.rpm_header.specs.declared.index.IndexEntry.{IndexEntry}
+use Rattle.rpm_header.specs.inner.Longer.{number_longer}
 use Rattle.rpm_header.specs.Bytes.{number_at, numbers, texts, are_ended, is_zero}
 use Rattle.rpm_header.specs.Header.{Numbers, Texts, Bytes, values, alignment, has_texts, is_bad_count, element_fault, form_of, form_or_null, form_fault, entry_of}
 use Rattle.rpm_header.proofs.Bools.{and_true, or_false}
@@ -17,26 +18,12 @@ use Rattle.rpm_header.proofs.Again.{form_sound}
 
 -- ---- numbers
 
-sum_same : (f g : ℕ → ℕ) (n : ℕ) → ((k : ℕ) → k ≤ n → f k ≡ g k) → sum_through f n ≡ sum_through g n
-sum_same f g zero same = same 0 (omega arith)
-sum_same f g (suc n) same = rw (sum_same f g n (λ k le. same k (omega arith)), same (suc n) (omega arith)) refl
-
-pub number_longer : (w : Width) (bytes more : List ℕ) (at : ℕ) → 0 < byte_len w → at + byte_len w ≤ length bytes → number_at w (bytes ++ more) at ≡ number_at w bytes at
-unfolding number_at
-number_longer w bytes more at some within =
-    let apart : drop at (bytes ++ more) ≡ drop at bytes ++ more = drop-append-le at bytes more (omega arith) in
-    let size : length (drop at bytes) ≡ length bytes - at = length-drop at bytes in
-    ap (from_be_bytes w) apart ∙ sum_same
-    (λ i. byte_worth (byte_len w - 1 - i) (get_or (drop at bytes ++ more) i 0))
-    (λ i. byte_worth (byte_len w - 1 - i) (get_or (drop at bytes) i 0))
-    (byte_len w - 1)
-    (λ k le. ap (byte_worth (byte_len w - 1 - k)) (get_or_append_left (drop at bytes) more 0 k (omega arith)))
-
 pub same_below : {X : Type 0} (f g : ℕ → X) (a n : ℕ) → ((k : ℕ) → a ≤ k → k < a + n → f k ≡ g k) → map f (range_with_len a n) ≡ map g (range_with_len a n)
 same_below f g a zero same = refl
 same_below f g a (suc n) same = rw (same a (omega arith) (omega arith), same_below f g (a + 1) n (λ k from below. same k (omega arith) (omega arith))) refl
 
-numbers_longer : (w : Width) (count : ℕ) (bytes more : List ℕ) → 0 < byte_len w → ((i : ℕ) → i < count → i * byte_len w + byte_len w ≤ length bytes) → numbers w count (bytes ++ more) ≡ numbers w count bytes
+numbers_longer : (w : Width) (count : ℕ) (bytes more : List ℕ) → 0 < byte_len w → ((i : ℕ) → i < count → i * byte_len w + byte_len w ≤ length bytes)
+    → numbers w count (bytes ++ more) ≡ numbers w count bytes
 unfolding numbers
 numbers_longer w count bytes more some room =
     same_below (λ i. number_at w (bytes ++ more) (i * byte_len w)) (λ i. number_at w bytes (i * byte_len w)) 0 count
@@ -56,7 +43,8 @@ found : (test : Bool) (n : ℕ) → is_some (cond test (Some n) None) ≡ true �
 found true n e = refl
 found false n e = absurd cc
 
-pub ended_longer : (count : ℕ) (bytes more : List ℕ) → are_ended count bytes ≡ true → (are_ended count (bytes ++ more) ≡ true) × (texts count (bytes ++ more) ≡ texts count bytes)
+pub ended_longer : (count : ℕ) (bytes more : List ℕ) → are_ended count bytes ≡ true
+    → (are_ended count (bytes ++ more) ≡ true) × (texts count (bytes ++ more) ≡ texts count bytes)
 unfolding are_ended texts
 ended_longer zero bytes more ended = (refl, refl)
 ended_longer (suc n) bytes more ended =
@@ -72,7 +60,8 @@ ended_longer (suc n) bytes more ended =
 
 -- ---- elements without a fault
 
-room_longer : (count size : ℕ) (bytes more : List ℕ) → (eqb count 0 || nat_lt (length bytes) size) ≡ false → (eqb count 0 || nat_lt (length (bytes ++ more)) size) ≡ false
+room_longer : (count size : ℕ) (bytes more : List ℕ) → (eqb count 0 || nat_lt (length bytes) size) ≡ false
+    → (eqb count 0 || nat_lt (length (bytes ++ more)) size) ≡ false
 room_longer count size bytes more good =
     let parts = or_false (eqb count 0) (nat_lt (length bytes) size) good in
     let within : size ≤ length bytes = ltb-false (length bytes) size parts.1 in
@@ -93,30 +82,38 @@ count_longer form.Bin count bytes more good = room_longer count (count * alignme
 pub room_of : (count size : ℕ) (bytes : List ℕ) → (eqb count 0 || nat_lt (length bytes) size) ≡ false → size ≤ length bytes
 room_of count size bytes good = ltb-false (length bytes) size (or_false (eqb count 0) (nat_lt (length bytes) size) good).1
 
-values_longer : (f : Form) (count : ℕ) (bytes more : List ℕ) → is_bad_count f count bytes ≡ false → (has_texts f ≡ true → are_ended count bytes ≡ true) → values f count (bytes ++ more) ≡ values f count bytes
+values_longer : (f : Form) (count : ℕ) (bytes more : List ℕ) → is_bad_count f count bytes ≡ false → (has_texts f ≡ true → are_ended count bytes ≡ true)
+    → values f count (bytes ++ more) ≡ values f count bytes
 values_longer form.Null count bytes more good ended = refl
 values_longer form.Text count bytes more good ended = ap Texts (ended_longer count bytes more (ended refl)).1
 values_longer form.Texts count bytes more good ended = ap Texts (ended_longer count bytes more (ended refl)).1
 values_longer form.I18n count bytes more good ended = ap Texts (ended_longer count bytes more (ended refl)).1
 values_longer form.Bin count bytes more good ended = let room = room_of count (count * 1) bytes good in ap Bytes (take-append-le count bytes more (omega arith))
-values_longer form.Char count bytes more good ended = let room = room_of count (count * 1) bytes good in ap Numbers (numbers_longer w8 count bytes more (omega arith) (λ i lt. omega arith))
-values_longer form.Int8 count bytes more good ended = let room = room_of count (count * 1) bytes good in ap Numbers (numbers_longer w8 count bytes more (omega arith) (λ i lt. omega arith))
-values_longer form.Int16 count bytes more good ended = let room = room_of count (count * 2) bytes good in ap Numbers (numbers_longer w16 count bytes more (omega arith) (λ i lt. omega arith))
-values_longer form.Int32 count bytes more good ended = let room = room_of count (count * 4) bytes good in ap Numbers (numbers_longer w32 count bytes more (omega arith) (λ i lt. omega arith))
-values_longer form.Int64 count bytes more good ended = let room = room_of count (count * 8) bytes good in ap Numbers (numbers_longer w64 count bytes more (omega arith) (λ i lt. omega arith))
+values_longer form.Char count bytes more good ended = let room =
+    room_of count (count * 1) bytes good in ap Numbers (numbers_longer w8 count bytes more (omega arith) (λ i lt. omega arith))
+values_longer form.Int8 count bytes more good ended = let room =
+    room_of count (count * 1) bytes good in ap Numbers (numbers_longer w8 count bytes more (omega arith) (λ i lt. omega arith))
+values_longer form.Int16 count bytes more good ended = let room =
+    room_of count (count * 2) bytes good in ap Numbers (numbers_longer w16 count bytes more (omega arith) (λ i lt. omega arith))
+values_longer form.Int32 count bytes more good ended = let room =
+    room_of count (count * 4) bytes good in ap Numbers (numbers_longer w32 count bytes more (omega arith) (λ i lt. omega arith))
+values_longer form.Int64 count bytes more good ended = let room =
+    room_of count (count * 8) bytes good in ap Numbers (numbers_longer w64 count bytes more (omega arith) (λ i lt. omega arith))
 
 -- what holds where no fault of an entry's elements is told
 pub record IsFaultless (f : Form) (count : ℕ) (bytes : List ℕ) : Type 0 where
   pub good : is_bad_count f count bytes ≡ false
   pub ended : has_texts f ≡ true → are_ended count bytes ≡ true
 
-told : (bad texts ended : Bool) (x y : HeaderFault) → (if bad then Some x else if texts && not ended then Some y else None) ≡ None → (bad ≡ false) × (texts ≡ true → ended ≡ true)
+told : (bad texts ended : Bool) (x y : HeaderFault) → (if bad then Some x else if texts && not ended then Some y else None) ≡ None
+    → (bad ≡ false) × (texts ≡ true → ended ≡ true)
 told true texts ended x y none = absurd cc
 told false true true x y none = (refl, λ _. refl)
 told false true false x y none = absurd cc
 told false false ended x y none = (refl, λ h. absurd cc)
 
-not_told : (bad texts ended : Bool) (x y : HeaderFault) → bad ≡ false → (texts ≡ true → ended ≡ true) → (if bad then Some x else if texts && not ended then Some y else None) ≡ None
+not_told : (bad texts ended : Bool) (x y : HeaderFault) → bad ≡ false → (texts ≡ true → ended ≡ true)
+    → (if bad then Some x else if texts && not ended then Some y else None) ≡ None
 not_told bad true ended x y good ends = rw (good, ends refl) refl
 not_told bad false ended x y good ends = rw good refl
 
@@ -128,7 +125,8 @@ faultless f i count bytes none =
 elements_longer : (f : Form) (i count : ℕ) (bytes more : List ℕ) → element_fault f i count bytes ≡ None → element_fault f i count (bytes ++ more) ≡ None
 elements_longer f i count bytes more none =
     let p = faultless f i count bytes none in
-    not_told (is_bad_count f count (bytes ++ more)) (has_texts f) (are_ended count (bytes ++ more)) (BadCount i) (NoEnd i) (count_longer f count bytes more p.good) (λ t. (ended_longer count bytes more (p.ended t)).0)
+    not_told (is_bad_count f count (bytes ++ more)) (has_texts f) (are_ended count (bytes ++ more)) (BadCount i) (NoEnd i)
+    (count_longer f count bytes more p.good) (λ t. (ended_longer count bytes more (p.ended t)).0)
 
 -- ---- an entry of the index
 
@@ -138,15 +136,18 @@ pub record IsInData (f : Form) (k : ℕ) (i : IndexEntry) (section : List ℕ) :
   pub aligned : i.offset % alignment f ≡ 0
   pub elements : element_fault f k i.count (drop i.offset section) ≡ None
 
-placed : (past aligned : Bool) (x : HeaderFault) (o : Option HeaderFault) → (if past || not aligned then Some x else o) ≡ None → (past ≡ false) × (aligned ≡ true) × (o ≡ None)
+placed : (past aligned : Bool) (x : HeaderFault) (o : Option HeaderFault) → (if past || not aligned then Some x else o) ≡ None
+    → (past ≡ false) × (aligned ≡ true) × (o ≡ None)
 placed true aligned x o none = absurd cc
 placed false true x o none = (refl, refl, none)
 placed false false x o none = absurd cc
 
 in_data_if : (f : Form) (k : ℕ) (i : IndexEntry) (section : List ℕ)
-    → (if nat_lt (length section) i.offset || not (eqb (i.offset % alignment f) 0) then Some (BadOffset k) else element_fault f k i.count (drop i.offset section)) ≡ None → IsInData f k i section
+    → (if nat_lt (length section) i.offset || not (eqb (i.offset % alignment f) 0) then Some (BadOffset k) else element_fault f k i.count
+    (drop i.offset section)) ≡ None → IsInData f k i section
 in_data_if f k i section none =
-    let parts = placed (nat_lt (length section) i.offset) (eqb (i.offset % alignment f) 0) (BadOffset k) (element_fault f k i.count (drop i.offset section)) none in
+    let parts =
+    placed (nat_lt (length section) i.offset) (eqb (i.offset % alignment f) 0) (BadOffset k) (element_fault f k i.count (drop i.offset section)) none in
     record { within = ltb-false (length section) i.offset parts.0; aligned = eqb-true (i.offset % alignment f) 0 parts.1; elements = parts.2 }
 
 pub in_data : (f : Form) (k : ℕ) (i : IndexEntry) (section : List ℕ) → (f ≡ form.Null → ⊥) → form_fault (Some f) k i section ≡ None → IsInData f k i section
@@ -181,12 +182,14 @@ form_longer f k i section more none = elim (is_null f) [
       let d = in_data f k i section not_null none in
       let apart : drop i.offset (section ++ more) ≡ drop i.offset section ++ more = drop-append-le i.offset section more d.within in
       let p = faultless f k i.count (drop i.offset section) d.elements in (
-        form_sound f k i (section ++ more) (omega (arith, d.within, length-append section more)) d.aligned not_null (rw apart (elements_longer f k i.count (drop i.offset section) more d.elements)),
+        form_sound f k i (section ++ more) (omega (arith, d.within, length-append section more)) d.aligned not_null
+            (rw apart (elements_longer f k i.count (drop i.offset section) more d.elements)),
         rw apart (values_longer f i.count (drop i.offset section) more p.good p.ended),
       ))
 ]
 
-pub fault_longer : (f : Option Form) (k : ℕ) (i : IndexEntry) (section more : List ℕ) → form_fault f k i section ≡ None → form_fault f k i (section ++ more) ≡ None
+pub fault_longer : (f : Option Form) (k : ℕ) (i : IndexEntry) (section more : List ℕ) → form_fault f k i section ≡ None
+    → form_fault f k i (section ++ more) ≡ None
 fault_longer None k i section more none = absurd cc
 fault_longer (Some f) k i section more none = (form_longer f k i section more none).0
 
@@ -195,6 +198,7 @@ values_same : (f : Option Form) (k : ℕ) (i : IndexEntry) (section more : List 
 values_same None k i section more none = refl
 values_same (Some f) k i section more none = (form_longer f k i section more none).1
 
-pub entry_longer : (k : ℕ) (i : IndexEntry) (section more : List ℕ) → form_fault (form_of i.kind) k i section ≡ None → entry_of i (section ++ more) ≡ entry_of i section
+pub entry_longer : (k : ℕ) (i : IndexEntry) (section more : List ℕ) → form_fault (form_of i.kind) k i section ≡ None
+    → entry_of i (section ++ more) ≡ entry_of i section
 unfolding entry_of
 entry_longer k i section more none = rw (values_same (form_of i.kind) k i section more none) refl

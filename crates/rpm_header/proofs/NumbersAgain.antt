@@ -34,19 +34,25 @@ reads_64 = record { again = λ n rest h. from_be_bytes-to_be_bytes_8 n h; size =
 abbrev AllBelow : ℕ → List ℕ → Type 0
 AllBelow limit ns = list_all (λ n. nat_lt n limit) ns ≡ true
 
-from_place : (w : Width) → Reads w → (ns : List ℕ) (a : ℕ) (bytes rest : List ℕ) → AllBelow (2 ^ (8 * byte_len w)) ns → drop (a * byte_len w) bytes ≡ flat_map (to_be_bytes w) ns ++ rest
+from_place : (w : Width) → Reads w → (ns : List ℕ) (a : ℕ) (bytes rest : List ℕ) → AllBelow (2 ^ (8 * byte_len w)) ns
+    → drop (a * byte_len w) bytes ≡ flat_map (to_be_bytes w) ns ++ rest
     → map (λ i. number_at w bytes (i * byte_len w)) (range_with_len a (length ns)) ≡ ns
 unfolding number_at
 from_place w r [] a bytes rest fit e = refl
 from_place w r (n ∷ ns) a bytes rest fit e =
     let fits = and_true (nat_lt n (2 ^ (8 * byte_len w))) (list_all (λ n. nat_lt n (2 ^ (8 * byte_len w))) ns) fit in
-    let whole : drop (a * byte_len w) bytes ≡ to_be_bytes w n ++ (flat_map (to_be_bytes w) ns ++ rest) = e ∙ append_assoc (to_be_bytes w n) (flat_map (to_be_bytes w) ns) rest in
-    let here : from_be_bytes w (drop (a * byte_len w) bytes) ≡ n = ap (from_be_bytes w) whole ∙ r.again n (flat_map (to_be_bytes w) ns ++ rest) (ltb-true n (2 ^ (8 * byte_len w)) fits.0) in
+    let whole : drop (a * byte_len w) bytes ≡ to_be_bytes w n ++ (flat_map (to_be_bytes w) ns ++ rest) =
+    e ∙ append_assoc (to_be_bytes w n) (flat_map (to_be_bytes w) ns) rest in
+    let here : from_be_bytes w (drop (a * byte_len w) bytes) ≡ n =
+    ap (from_be_bytes w) whole ∙ r.again n (flat_map (to_be_bytes w) ns ++ rest) (ltb-true n (2 ^ (8 * byte_len w)) fits.0) in
     let step : a * byte_len w + byte_len w ≡ (a + 1) * byte_len w = grind arith in
-    let next : drop ((a + 1) * byte_len w) bytes ≡ flat_map (to_be_bytes w) ns ++ rest = rw (← step) (sym (drop-drop (byte_len w) (a * byte_len w) bytes) ∙ ap (drop (byte_len w)) whole ∙ drop_at (to_be_bytes w n) (flat_map (to_be_bytes w) ns ++ rest) (byte_len w) (r.size n)) in
+    let next : drop ((a + 1) * byte_len w) bytes ≡ flat_map (to_be_bytes w) ns ++ rest =
+    rw (← step) (sym (drop-drop (byte_len w) (a * byte_len w) bytes) ∙ ap (drop (byte_len w)) whole
+    ∙ drop_at (to_be_bytes w n) (flat_map (to_be_bytes w) ns ++ rest) (byte_len w) (r.size n)) in
     rw (here, from_place w r ns (a + 1) bytes rest fits.1 next) refl
 
-numbers_of_width : (w : Width) → Reads w → (ns rest : List ℕ) → AllBelow (2 ^ (8 * byte_len w)) ns → numbers w (length ns) (flat_map (to_be_bytes w) ns ++ rest) ≡ ns
+numbers_of_width : (w : Width) → Reads w → (ns rest : List ℕ) → AllBelow (2 ^ (8 * byte_len w)) ns
+    → numbers w (length ns) (flat_map (to_be_bytes w) ns ++ rest) ≡ ns
 unfolding numbers
 numbers_of_width w r ns rest fit =
     let front : 0 * byte_len w ≡ 0 = grind arith in
@@ -91,8 +97,10 @@ values_numbers form.Bin count bytes t = absurd cc
 values_numbers form.Texts count bytes t = absurd cc
 values_numbers form.I18n count bytes t = absurd cc
 
-pub numbers_again : (f : Form) (ns rest : List ℕ) → IsTrue (has_numbers f) → AllFit f ns → values f (length ns) (flat_map (to_be_bytes (width f)) ns ++ rest) ≡ Numbers ns
-numbers_again f ns rest t fit = values_numbers f (length ns) (flat_map (to_be_bytes (width f)) ns ++ rest) t ∙ ap Numbers (numbers_of_width (width f) (reads f) ns rest fit)
+pub numbers_again : (f : Form) (ns rest : List ℕ) → IsTrue (has_numbers f) → AllFit f ns
+    → values f (length ns) (flat_map (to_be_bytes (width f)) ns ++ rest) ≡ Numbers ns
+numbers_again f ns rest t fit =
+    values_numbers f (length ns) (flat_map (to_be_bytes (width f)) ns ++ rest) t ∙ ap Numbers (numbers_of_width (width f) (reads f) ns rest fit)
 
 -- ---- numbers that are being written
 
@@ -113,7 +121,8 @@ written_more f ns i n bytes bytes' within is more =
     let next = at_drop_more (flat_map (to_be_bytes (width f))) ns i 0 within in
     rw (more, next, is) (append_assoc bytes (to_be_bytes (width f) n) (flat_map (to_be_bytes (width f)) (drop (i + 1) ns)))
 
-pub written_all : (f : Form) (ns : List ℕ) (i : ℕ) (bytes : List ℕ) → length ns ≤ i → bytes ++ flat_map (to_be_bytes (width f)) (drop i ns) ≡ flat_map (to_be_bytes (width f)) ns → bytes ≡ flat_map (to_be_bytes (width f)) ns
+pub written_all : (f : Form) (ns : List ℕ) (i : ℕ) (bytes : List ℕ) → length ns ≤ i
+    → bytes ++ flat_map (to_be_bytes (width f)) (drop i ns) ≡ flat_map (to_be_bytes (width f)) ns → bytes ≡ flat_map (to_be_bytes (width f)) ns
 written_all f ns i bytes past all =
     let none = at_drop_all (flat_map (to_be_bytes (width f))) ns i past in
     sym (append-nil bytes) ∙ ap (λ (t : List ℕ). bytes ++ t) (sym none) ∙ all

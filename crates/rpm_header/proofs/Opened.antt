@@ -8,7 +8,7 @@ use Rattle.rpm_header.specs.declared.form.HeaderFault.{HeaderFault}
 use Rattle.rpm_header.specs.declared.form.HeaderFault.TheVariants.{Short, TooManyEntries, TooMuchData}
 use Rattle.rpm_header.specs.Bytes.{number_at, each_below}
 use Rattle.rpm_header.specs.Header.{Item, Header, header, header_of, entries, fault_at, first, unless}
-use Rattle.rpm_header.specs.Checked.{IsCut, IsSound}
+use Rattle.rpm_header.specs.inner.Checked.{IsCut, IsSound}
 use Rattle.rpm_header.proofs.Cut.{is_cut}
 use Rattle.rpm_header.proofs.Each.{length-entries}
 
@@ -51,7 +51,9 @@ opened h is =
     let blob : own ≡ h.blob = ap (λ (x : Header). x.blob) parts.1 in
     let items : entries il own ≡ h.entries = ap (λ (x : Header). x.entries) parts.1 in
     let number : il ≡ length h.entries = sym (length-entries il own) ∙ ap (λ (es : List Item). length es) items in
-    let cut : IsCut il own = is_cut il dl (8 + 16 * il + dl) h.blob refl refl refl (ltb-false (length h.blob) (8 + 16 * il + dl) whole.0) (ltb-false 65535 il few.0) (ltb-false 67108864 dl small.0) in
+    let cut : IsCut il own =
+    is_cut il dl (8 + 16 * il + dl) h.blob refl refl refl (ltb-false (length h.blob) (8 + 16 * il + dl) whole.0) (ltb-false 65535 il few.0)
+    (ltb-false 67108864 dl small.0) in
     let sound : IsSound il own = record { cut = cut; faultless = λ k below. none_from (fault_at il own) 0 il parts.0 k (omega arith) (omega arith) } in
     record {
       sound = subst (λ (b : List ℕ). IsSound (length h.entries) b) blob (subst (λ (n : ℕ). IsSound n own) number sound);

@@ -6,7 +6,7 @@ use Rattle.rpm_header.specs.declared.form.Form.TheVariants as form
 use Rattle.rpm_header.specs.Header.{Item, Values, Nothing, Numbers, Texts, Bytes, values, has_numbers, is_region_tag, IsWhole}
 use Rattle.rpm_header.specs.Build.{is_text_list, retagged}
 use Rattle.rpm_header.specs.Laid.{bytes_in}
-use Rattle.rpm_header.specs.Packed.{IsPacked, ReadsBack, IsStored}
+use Rattle.rpm_header.specs.inner.Packed.{IsPacked, ReadsBack, IsStored}
 use Rattle.rpm_header.proofs.Packing.{item_of, numbers_packed, numbers_read_back, texts_packed, texts_read_back, text_read_back, bin_packed, bin_read_back, list_has_texts}
 
 -- the packed bytes say the same, and so they do in a header
@@ -16,7 +16,8 @@ pub record Repacks (tag : ℕ) (e : Item) (bytes : List ℕ) : Type 0 where
   pub back : ReadsBack (retagged tag e)
 
 module _ (tag own : ℕ) (small : tag < 2 ^ 32) (region : is_region_tag tag ≡ false) where
-  numbers : (f : Form) (count : ℕ) (vs : Values) (bytes : List ℕ) → IsTrue (has_numbers f) → (f ≡ form.Null → ⊥) → IsWhole (item_of own f count vs) → IsStored (item_of own f count vs) → bytes ≡ bytes_in (item_of own f count vs) → Repacks tag (item_of own f count vs) bytes
+  numbers : (f : Form) (count : ℕ) (vs : Values) (bytes : List ℕ) → IsTrue (has_numbers f) → (f ≡ form.Null → ⊥) → IsWhole (item_of own f count vs)
+      → IsStored (item_of own f count vs) → bytes ≡ bytes_in (item_of own f count vs) → Repacks tag (item_of own f count vs) bytes
   unfolding bytes_in
   numbers f count (Numbers ns) bytes t some whole stored is =
       let number : length ns ≡ count = whole.numbers t in
@@ -31,7 +32,8 @@ module _ (tag own : ℕ) (small : tag < 2 ^ 32) (region : is_region_tag tag ≡ 
   numbers f count (Texts ts) bytes t some whole stored is = absurd (whole.numbers t)
   numbers f count (Bytes bs) bytes t some whole stored is = absurd (whole.numbers t)
 
-  lists : (f : Form) (count : ℕ) (vs : Values) (bytes : List ℕ) → IsTrue (is_text_list f) → (f ≡ form.Null → ⊥) → IsWhole (item_of own f count vs) → IsStored (item_of own f count vs) → bytes ≡ bytes_in (item_of own f count vs) → Repacks tag (item_of own f count vs) bytes
+  lists : (f : Form) (count : ℕ) (vs : Values) (bytes : List ℕ) → IsTrue (is_text_list f) → (f ≡ form.Null → ⊥) → IsWhole (item_of own f count vs)
+      → IsStored (item_of own f count vs) → bytes ≡ bytes_in (item_of own f count vs) → Repacks tag (item_of own f count vs) bytes
   unfolding bytes_in
   lists f count (Texts ts) bytes t some whole stored is =
       let number : length ts ≡ count = whole.texts (list_has_texts f t) in
@@ -46,12 +48,14 @@ module _ (tag own : ℕ) (small : tag < 2 ^ 32) (region : is_region_tag tag ≡ 
   lists f count (Numbers ns) bytes t some whole stored is = absurd (whole.texts (list_has_texts f t))
   lists f count (Bytes bs) bytes t some whole stored is = absurd (whole.texts (list_has_texts f t))
 
-  alone : (ts : List (List ℕ)) (count : ℕ) → length ts ≡ count → count ≡ 1 → IsStored (item_of own form.Text count (Texts ts)) → ReadsBack (item_of tag form.Text count (Texts ts))
+  alone : (ts : List (List ℕ)) (count : ℕ) → length ts ≡ count → count ≡ 1 → IsStored (item_of own form.Text count (Texts ts))
+      → ReadsBack (item_of tag form.Text count (Texts ts))
   alone [] count number one stored = absurd (omega arith)
   alone (t ∷ []) count number one stored = rw one (text_read_back tag t small region stored.each.0)
   alone (t ∷ u ∷ ts) count number one stored = absurd (omega arith)
 
-  text : (count : ℕ) (vs : Values) (bytes : List ℕ) → IsWhole (item_of own form.Text count vs) → IsStored (item_of own form.Text count vs) → bytes ≡ bytes_in (item_of own form.Text count vs) → Repacks tag (item_of own form.Text count vs) bytes
+  text : (count : ℕ) (vs : Values) (bytes : List ℕ) → IsWhole (item_of own form.Text count vs) → IsStored (item_of own form.Text count vs)
+      → bytes ≡ bytes_in (item_of own form.Text count vs) → Repacks tag (item_of own form.Text count vs) bytes
   unfolding bytes_in
   text count (Texts ts) bytes whole stored is =
       let both = texts_packed form.Text ts count bytes refl stored.each (sym (whole.texts refl)) is in
@@ -60,7 +64,8 @@ module _ (tag own : ℕ) (small : tag < 2 ^ 32) (region : is_region_tag tag ≡ 
   text count (Numbers ns) bytes whole stored is = absurd (whole.texts refl)
   text count (Bytes bs) bytes whole stored is = absurd (whole.texts refl)
 
-  bin : (count : ℕ) (vs : Values) (bytes : List ℕ) → IsWhole (item_of own form.Bin count vs) → bytes ≡ bytes_in (item_of own form.Bin count vs) → Repacks tag (item_of own form.Bin count vs) bytes
+  bin : (count : ℕ) (vs : Values) (bytes : List ℕ) → IsWhole (item_of own form.Bin count vs) → bytes ≡ bytes_in (item_of own form.Bin count vs)
+      → Repacks tag (item_of own form.Bin count vs) bytes
   unfolding bytes_in
   bin count (Bytes bs) bytes whole is =
       let number : length bs ≡ count = whole.bytes refl in
@@ -75,7 +80,8 @@ module _ (tag own : ℕ) (small : tag < 2 ^ 32) (region : is_region_tag tag ≡ 
   bin count (Numbers ns) bytes whole is = absurd (whole.bytes refl)
   bin count (Texts ts) bytes whole is = absurd (whole.bytes refl)
 
-  of_form : (f : Form) (count : ℕ) (vs : Values) (bytes : List ℕ) → (f ≡ form.Null → ⊥) → IsWhole (item_of own f count vs) → IsStored (item_of own f count vs) → bytes ≡ bytes_in (item_of own f count vs) → Repacks tag (item_of own f count vs) bytes
+  of_form : (f : Form) (count : ℕ) (vs : Values) (bytes : List ℕ) → (f ≡ form.Null → ⊥) → IsWhole (item_of own f count vs)
+      → IsStored (item_of own f count vs) → bytes ≡ bytes_in (item_of own f count vs) → Repacks tag (item_of own f count vs) bytes
   of_form form.Null count vs bytes some whole stored is = absurd (some refl)
   of_form form.Char count vs bytes some whole stored is = numbers form.Char count vs bytes refl some whole stored is
   of_form form.Int8 count vs bytes some whole stored is = numbers form.Int8 count vs bytes refl some whole stored is
@@ -87,10 +93,12 @@ module _ (tag own : ℕ) (small : tag < 2 ^ 32) (region : is_region_tag tag ≡ 
   of_form form.Texts count vs bytes some whole stored is = lists form.Texts count vs bytes refl some whole stored is
   of_form form.I18n count vs bytes some whole stored is = lists form.I18n count vs bytes refl some whole stored is
 
-pub repacked : (tag : ℕ) (e : Item) (bytes : List ℕ) → tag < 2 ^ 32 → is_region_tag tag ≡ false → (e.form ≡ form.Null → ⊥) → IsWhole e → IsStored e → bytes ≡ bytes_in e → Repacks tag e bytes
+pub repacked : (tag : ℕ) (e : Item) (bytes : List ℕ) → tag < 2 ^ 32 → is_region_tag tag ≡ false → (e.form ≡ form.Null → ⊥) → IsWhole e → IsStored e
+    → bytes ≡ bytes_in e → Repacks tag e bytes
 repacked tag e bytes small region some whole stored is = of_form tag e.tag small region e.form e.count e.values bytes some whole stored is
 
-pub repacked_item : (tag : ℕ) (e : Item) (f : Form) (count : ℕ) (bytes : List ℕ) → f ≡ e.form → count ≡ e.count → Repacks tag e bytes → item_of tag f count (values f count bytes) ≡ retagged tag e
+pub repacked_item : (tag : ℕ) (e : Item) (f : Form) (count : ℕ) (bytes : List ℕ) → f ≡ e.form → count ≡ e.count → Repacks tag e bytes
+    → item_of tag f count (values f count bytes) ≡ retagged tag e
 repacked_item tag e f count bytes is number r = rw (is, number, r.same) refl
 
 pub repacked_parts : (tag : ℕ) (e : Item) (f : Form) (count : ℕ) (bytes : List ℕ) → f ≡ e.form → count ≡ e.count → Repacks tag e bytes → IsPacked f count bytes

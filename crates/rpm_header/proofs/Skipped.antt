@@ -4,7 +4,7 @@ use Rattle.std.specs.Prelude.{slice_get}
 use Rattle.std.specs.List.{before_first, after_first, position_or_len}
 use Rattle.std.proofs.lemmas.Bool.{cases_Bool}
 use Rattle.rpm_header.specs.Bytes.{is_zero, texts}
-use Rattle.rpm_header.specs.Zeros.{zeros, skipped}
+use Rattle.rpm_header.specs.inner.Zeros.{zeros, skipped}
 use Rattle.rpm_header.proofs.Counted.{zeros-cons, zeros-nil}
 
 -- the text behind so many others

@@ -7,7 +7,7 @@ use Rattle.std.proofs.lemmas.Grind.{flat_map-append}
 use Rattle.rpm_header.specs.Bytes.{is_zero, texts, are_ended}
 use Rattle.rpm_header.specs.Build.{IsText}
 use Rattle.rpm_header.specs.Laid.{joined}
-use Rattle.rpm_header.specs.Packed.{IsJoined}
+use Rattle.rpm_header.specs.inner.Packed.{IsJoined}
 use Rattle.rpm_header.proofs.Bools.{or_false}
 use Rattle.rpm_header.proofs.Whole.{length-texts}
 
@@ -17,7 +17,8 @@ zero_after (b ∷ t) rest none =
     let both = or_false (is_zero b) (list_any is_zero t) none in
     rw (both.0, zero_after t rest both.1) (omega arith)
 
-split_front : (t rest : List ℕ) → IsText t → (is_some (position is_zero (t ++ 0 ∷ rest)) ≡ true) × (before_first is_zero (t ++ 0 ∷ rest) ≡ t) × (after_first is_zero (t ++ 0 ∷ rest) ≡ rest)
+split_front : (t rest : List ℕ) → IsText t → (is_some (position is_zero (t ++ 0 ∷ rest)) ≡ true) × (before_first is_zero (t ++ 0 ∷ rest) ≡ t)
+    × (after_first is_zero (t ++ 0 ∷ rest) ≡ rest)
 split_front t rest none =
     let at = zero_after t rest none in
     let within : nat_lt (length t) (length (t ++ 0 ∷ rest)) ≡ true = lt-ltb (length t) (length (t ++ 0 ∷ rest)) (omega (arith, length-append t (0 ∷ rest))) in (
@@ -26,12 +27,14 @@ split_front t rest none =
       rw at (ap (drop (length t + 1)) (sym (append_assoc t (0 ∷ []) rest)) ∙ drop_at (t ++ 0 ∷ []) rest (length t + 1) (length-append t (0 ∷ []))),
     )
 
-pub texts_again : (ts : List (List ℕ)) (rest : List ℕ) → AllByRecursion IsText ts → (texts (length ts) (joined ts ++ rest) ≡ ts) × (are_ended (length ts) (joined ts ++ rest) ≡ true)
+pub texts_again : (ts : List (List ℕ)) (rest : List ℕ) → AllByRecursion IsText ts
+    → (texts (length ts) (joined ts ++ rest) ≡ ts) × (are_ended (length ts) (joined ts ++ rest) ≡ true)
 unfolding texts are_ended
 texts_again [] rest none = (refl, refl)
 texts_again (t ∷ ts) rest none =
     let others = texts_again ts rest none.1 in
-    let front : joined (t ∷ ts) ++ rest ≡ t ++ 0 ∷ (joined ts ++ rest) = append_assoc (t ++ 0 ∷ []) (joined ts) rest ∙ append_assoc t (0 ∷ []) (joined ts ++ rest) in
+    let front : joined (t ∷ ts) ++ rest ≡ t ++ 0 ∷ (joined ts ++ rest) =
+    append_assoc (t ++ 0 ∷ []) (joined ts) rest ∙ append_assoc t (0 ∷ []) (joined ts ++ rest) in
     let split = split_front t (joined ts ++ rest) none.0 in (
       ap (texts (suc (length ts))) front ∙ rw (split.1, split.2, others.0) refl,
       ap (are_ended (suc (length ts))) front ∙ rw (split.0, split.2, others.1) refl,
@@ -49,7 +52,8 @@ all_push P [] x all one = (one, tt)
 all_push P (y ∷ ys) x all one = (all.0, all_push P ys x all.1 one)
 
 -- what holds these texts and nothing else
-pub joined_again : (ts : List (List ℕ)) (count : ℕ) (bytes : List ℕ) → AllByRecursion IsText ts → count ≡ length ts → bytes ≡ joined ts → (texts count bytes ≡ ts) × IsJoined count bytes
+pub joined_again : (ts : List (List ℕ)) (count : ℕ) (bytes : List ℕ) → AllByRecursion IsText ts → count ≡ length ts → bytes ≡ joined ts
+    → (texts count bytes ≡ ts) × IsJoined count bytes
 joined_again ts count bytes each number stored =
     let same : texts count bytes ≡ ts = rw (number, stored, ← append-nil (joined ts)) (texts_again ts [] each).0 in
     (same, record { stored = rw same stored; each = rw same each })
@@ -60,7 +64,9 @@ joined_more count next bytes bytes' text l one number stored =
     let ts = texts count bytes in
     let size : next ≡ length (ts ++ text ∷ []) = omega (arith, length-append ts (text ∷ []), length-texts count bytes) in
     let last : joined (text ∷ []) ≡ text ++ 0 ∷ [] = append-nil (text ++ 0 ∷ []) in
-    let all : bytes' ≡ joined (ts ++ text ∷ []) = stored ∙ append_assoc bytes text (0 ∷ []) ∙ ap (λ (b : List ℕ). b ++ (text ++ 0 ∷ [])) l.stored ∙ sym (flat_map-append (λ t. t ++ 0 ∷ []) ts (text ∷ []) ∙ ap (λ (b : List ℕ). joined ts ++ b) last) in
+    let all : bytes' ≡ joined (ts ++ text ∷ []) =
+    stored ∙ append_assoc bytes text (0 ∷ []) ∙ ap (λ (b : List ℕ). b ++ (text ++ 0 ∷ [])) l.stored
+    ∙ sym (flat_map-append (λ t. t ++ 0 ∷ []) ts (text ∷ []) ∙ ap (λ (b : List ℕ). joined ts ++ b) last) in
     joined_again (ts ++ text ∷ []) next bytes' (all_push IsText ts text l.each one) size all
 
 pub few_joined : (count : ℕ) (bytes : List ℕ) → IsJoined count bytes → count ≤ length bytes

@@ -37,7 +37,8 @@ option_or_none : {X : Type 0} (a b : Option X) → option_or a b ≡ None → a 
 option_or_none None b e = refl
 option_or_none (Some x) b e = absurd cc
 
-entry_sound : (il : ℕ) (blob : List ℕ) (i : ℕ) → fault_at il blob i ≡ None → form_fault (form_of (index_entry il blob i).kind) i (index_entry il blob i) (section_of il blob) ≡ None
+entry_sound : (il : ℕ) (blob : List ℕ) (i : ℕ) → fault_at il blob i ≡ None
+    → form_fault (form_of (index_entry il blob i).kind) i (index_entry il blob i) (section_of il blob) ≡ None
 unfolding fault_at entry_fault
 entry_sound il blob i e = option_or_none _ _ e
 
@@ -45,7 +46,8 @@ pub no_form : (i : ℕ) (e : IndexEntry) (section : List ℕ) (f : Option Form) 
 no_form i e section None sound is = cc
 no_form i e section (Some f) sound is = cc
 
-pub sound_form : (il : ℕ) (blob : List ℕ) (i : ℕ) (e : IndexEntry) (section : List ℕ) (f : Option Form) → e ≡ index_entry il blob i → section ≡ section_of il blob → f ≡ form_of e.kind → fault_at il blob i ≡ None
+pub sound_form : (il : ℕ) (blob : List ℕ) (i : ℕ) (e : IndexEntry) (section : List ℕ) (f : Option Form) → e ≡ index_entry il blob i
+    → section ≡ section_of il blob → f ≡ form_of e.kind → fault_at il blob i ≡ None
     → form_fault f i e section ≡ None
 sound_form il blob i e section f at part is sound =
     rw (is, part) (subst (λ (x : IndexEntry). form_fault (form_of x.kind) i x (section_of il blob) ≡ None) (sym at) (entry_sound il blob i sound))
@@ -54,7 +56,8 @@ sound_form il blob i e section f at part is sound =
 abbrev pub made : IndexEntry → Form → List ℕ → Item
 made e f bytes = record { tag = e.tag; form = f; count = e.count; values = values f e.count bytes }
 
-pub entry_made : (e : IndexEntry) (section bytes : List ℕ) (f : Form) → Some f ≡ form_of e.kind → values f e.count bytes ≡ values f e.count (drop e.offset section)
+pub entry_made : (e : IndexEntry) (section bytes : List ℕ) (f : Form) → Some f ≡ form_of e.kind
+    → values f e.count bytes ≡ values f e.count (drop e.offset section)
     → made e f bytes ≡ entry_of e section
 unfolding entry_of
 entry_made e section bytes f is same = rw (← is, same) refl

@@ -3,7 +3,7 @@ use Rattle.std.specs.Prelude.{ℕ, ◌+◌, ◌-◌, ◌*◌, ◌/◌, ◌^◌, 
 use Rattle.std.specs.Int.{w32, to_be_bytes}
 use Rattle.sha2.specs.Sha256.{sha256}
 use Rattle.rpm_header.specs.declared.index.IndexEntry.{IndexEntry}
-use Rattle.rpm_header.specs.Header.{Item, Header, index_entry_at}
+use Rattle.rpm_header.specs.Header.{main_region, Item, Header, index_entry_at}
 use Rattle.rpm_header.specs.Parts.{own_index, own_data}
 
 -- the bytes that stand before a header in files
@@ -38,6 +38,6 @@ abbrev pub begins_with : ℕ → List Item → Bool
 begins_with tag [] = false
 begins_with tag (e ∷ es) = e.tag == tag
 
--- in a header without a fault a first entry of tag 63 is a region
+-- in a header without a fault a first entry of a main header's region tag is a region
 unfoldable pub immutable_digest : Header → Option (List ℕ)
-immutable_digest h = if begins_with 63 h.entries then Some (sha256 (region_in_file h)) else None
+immutable_digest h = if begins_with main_region h.entries then Some (sha256 (region_in_file h)) else None

@@ -10,6 +10,20 @@ use Rattle.rpm_header.specs.declared.form.HeaderFault.TheVariants.{Short, TooMan
 use Rattle.rpm_header.specs.declared.index.IndexEntry.{IndexEntry}
 use Rattle.rpm_header.specs.Bytes.{number_at, each_below, numbers, texts, are_ended}
 
+-- ---- the limits
+
+-- the most entries of a header
+abbrev pub max_entries : ℕ
+max_entries = 65535
+
+-- the most bytes of its data
+abbrev pub max_data : ℕ
+max_data = 67108864
+
+-- the most bytes of its own, with the two lengths and the index
+abbrev pub max_blob : ℕ
+max_blob = 8 + 16 * max_entries + max_data
+
 -- ---- what a header holds
 
 -- the elements of an entry, by the class of its form
@@ -120,7 +134,7 @@ pub record IsWhole (e : Item) : Type 0 where
   pub numbers : has_numbers e.form ≡ true → AreNumbers e.count e.values
   pub texts : has_texts e.form ≡ true → AreTexts e.count e.values
   pub bytes : e.form ≡ form.Bin → AreBytes e.count e.values
-  pub short : All (λ text. length text ≤ 67108864) (texts_of e.values)
+  pub short : All (λ text. length text ≤ max_data) (texts_of e.values)
 
 -- ---- the faults of one entry, in the data from its offset on
 
@@ -147,8 +161,15 @@ form_fault (Some f) i e section =
 
 -- ---- the region
 
+-- the tag of the region of a signature header, and of a main header
+abbrev pub signature_region : ℕ
+signature_region = 62
+
+abbrev pub main_region : ℕ
+main_region = 63
+
 abbrev pub is_region_tag : ℕ → Bool
-is_region_tag tag = tag == 62 || tag == 63
+is_region_tag tag = tag == signature_region || tag == main_region
 
 -- for some r from 1 to il the number is 2 ^ 32 - 16 × r, which is -16 × r where it is read as
 -- signed
@@ -218,7 +239,7 @@ header bytes =
     let il = number_at w32 bytes 0 in
     let dl = number_at w32 bytes 4 in
     if nat_lt (length bytes) 8 then Err Short
-    else if nat_lt 65535 il then Err TooManyEntries
-    else if nat_lt 67108864 dl then Err TooMuchData
+    else if nat_lt max_entries il then Err TooManyEntries
+    else if nat_lt max_data dl then Err TooMuchData
     else if nat_lt (length bytes) (8 + 16 * il + dl) then Err Short
     else header_of il (take (8 + 16 * il + dl) bytes)

@@ -9,7 +9,7 @@ use Rattle.rpm_header.specs.declared.index.IndexEntry.{IndexEntry}
 use Rattle.rpm_header.specs.declared.laying.BuildFault.{BuildFault}
 use Rattle.rpm_header.specs.declared.laying.BuildFault.TheVariants.{TooManyEntries, TooMuchData}
 use Rattle.rpm_header.specs.declared.laying.Lengths.{Lengths}
-use Rattle.rpm_header.specs.Header.{Item, Values, Nothing, Numbers, Texts, Bytes, width, alignment}
+use Rattle.rpm_header.specs.Header.{max_entries, max_data, main_region, Item, Values, Nothing, Numbers, Texts, Bytes, width, alignment}
 
 -- the type of a form
 abbrev pub kind_of : Form → ℕ
@@ -70,13 +70,13 @@ index_from at (e ∷ es) = index_bytes (indexed (offset_of at e) e) ++ index_fro
 -- the trailer of a region of n entries, its own with them: as an entry of the index, with -16 × n as a signed number for
 -- its offset
 abbrev pub trailer_entry : ℕ → IndexEntry
-trailer_entry n = record { tag = 63; kind = 7; offset = 2 ^ 32 - 16 * n; count = 16 }
+trailer_entry n = record { tag = main_region; kind = 7; offset = 2 ^ 32 - 16 * n; count = 16 }
 
 abbrev pub trailer : ℕ → List ℕ
 trailer n = index_bytes (trailer_entry n)
 
 abbrev pub region_item : ℕ → Item
-region_item n = record { tag = 63; form = form.Bin; count = 16; values = Bytes (trailer n) }
+region_item n = record { tag = main_region; form = form.Bin; count = 16; values = Bytes (trailer n) }
 
 -- the entries as they are read again
 abbrev pub with_region : Bool → List Item → List Item
@@ -104,6 +104,6 @@ laid region es = blob_of (length (with_region region es)) (index_of region es) (
 -- so many entries and bytes of data, or the first limit that they pass
 abbrev pub lengths_of : ℕ → ℕ → Result Lengths BuildFault
 lengths_of n size =
-    if nat_lt 65535 n then Err TooManyEntries
-    else if nat_lt 67108864 size then Err TooMuchData
+    if nat_lt max_entries n then Err TooManyEntries
+    else if nat_lt max_data size then Err TooMuchData
     else Ok (record { entries = n; size = size })

@@ -1,10 +1,8 @@
 pub mod Build
 pub mod Bytes
-pub mod Checked
 pub mod Digest
 pub mod Dribbles
 pub mod Header
 pub mod Laid
-pub mod Packed
 pub mod Parts
-pub mod Zeros
+pub mod inner

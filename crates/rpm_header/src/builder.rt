@@ -2,10 +2,10 @@
 
 ghost use Rattle.std.specs.Prelude.{◌≡◌, ◌≢◌, ℕ, ◌++◌, ◌∷◌, [], ◌<◌, ◌≤◌, ◌↔◌, length, false, OnOk, OnErr, IfOk, IsTrue, Ok};
 ghost use Rattle.std.specs.List.{AllByRecursion};
-ghost use Rattle.rpm_header.specs.Header.{header, has_numbers, is_region_tag};
+ghost use Rattle.rpm_header.specs.Header.{max_data, max_entries, header, has_numbers, is_region_tag};
 ghost use Rattle.rpm_header.specs.Build.{AllFit, IsText, is_text_list, numbers_item, text_item, texts_item, bin_item, retagged};
 ghost use Rattle.rpm_header.specs.Laid.{laid, with_region, data_of, lengths_of};
-ghost use Rattle.rpm_header.specs.Packed.{ReadsBack};
+ghost use Rattle.rpm_header.specs.inner.Packed.{ReadsBack};
 
 use crate::entry::Entry;
 use crate::form::Form;
@@ -30,7 +30,7 @@ impl Model for Builder {
     ghost use Rattle.std.specs.Prelude.{List};
     ghost use Rattle.std.specs.List.{AllByRecursion};
     ghost use Rattle.rpm_header.specs.Header.{Item};
-    ghost use Rattle.rpm_header.specs.Packed.{ReadsBack};
+    ghost use Rattle.rpm_header.specs.inner.Packed.{ReadsBack};
 
     ghost Value = { List Item };
 
@@ -182,8 +182,9 @@ impl Builder {
     pub fn finish(&self, alloc: Global, region: bool) -> Result<Vec<u8>, BuildFault>
         ensures laid { IfOk result (λ blob. blob.items ≡ laid region self.now) }
         ensures again { IfOk result (λ blob. header blob.items ≡ Ok (record { blob = blob.items; entries = with_region region self.now })) }
-        ensures too_many { (result ≡ Err BuildFault.TooManyEntries) ↔ (65535 < length (with_region region self.now)) }
-        ensures too_much { (result ≡ Err BuildFault.TooMuchData) ↔ ((length (with_region region self.now) ≤ 65535) × (67108864 < length (data_of region self.now))) }
+        ensures too_many { (result ≡ Err BuildFault.TooManyEntries) ↔ (max_entries < length (with_region region self.now)) }
+        ensures too_much { (result ≡ Err BuildFault.TooMuchData)
+            ↔ ((length (with_region region self.now) ≤ max_entries) × (max_data < length (data_of region self.now))) }
     {
         let lengths = self.lengths(region)?;
         match self.lay_out(alloc, region, lengths) {

@@ -3,9 +3,10 @@
 ghost use Rattle.std.specs.Prelude.{◌≡◌, ℕ, true};
 ghost use Rattle.sha2.specs.Sha256.{sha256};
 ghost use Rattle.rpm_header.specs.Digest.{in_file, region_in_file, begins_with, immutable_digest};
+ghost use Rattle.rpm_header.specs.Header.{main_region};
 
 use crate::MAGIC;
-use crate::index::index_entry_at;
+use crate::index::{MAIN_REGION, index_entry_at};
 use crate::parts::parts_of;
 use crate::view::View;
 use sha2::{Digest, Sha256};
@@ -24,7 +25,7 @@ fn digest_of(entries: u32, size: u32, index: &[u8], section: &[u8]) -> [u8; 32]
 }
 
 fn region_digest(view: &View<'_>) -> [u8; 32]
-    requires { begins_with 63 view.now.entries ≡ true }
+    requires { begins_with main_region view.now.entries ≡ true }
     ensures { result ≡ sha256 (region_in_file view.now) }
 {
     let (index, section) = parts_of(view);
@@ -50,7 +51,7 @@ fn region_digest(view: &View<'_>) -> [u8; 32]
 pub fn immutable_digest(view: &View<'_>) -> Option<[u8; 32]>
     ensures { result ≡ immutable_digest view.now }
 {
-    if view.entries() == 0 || view.entry(0).tag() != 63 {
+    if view.entries() == 0 || view.entry(0).tag() != MAIN_REGION {
         return None;
     }
     Some(region_digest(view))

@@ -1,7 +1,8 @@
 //! Entries behind those of a header that stands.
 
 ghost use Rattle.std.specs.Prelude.{◌≡◌, ℕ, ◌+◌, ◌++◌, ◌≤◌, ◌<◌, ◌↔◌, length, IfOk, Ok, Err};
-ghost use Rattle.rpm_header.specs.Header.{header};
+ghost use Rattle.rpm_header.specs.Header.{max_data, max_entries, header, Header};
+ghost use Rattle.rpm_header.specs.Digest.{immutable_digest};
 ghost use Rattle.rpm_header.specs.Laid.{lengths_of};
 ghost use Rattle.rpm_header.specs.Dribbles.{dribbled, dribbled_data};
 
@@ -27,6 +28,7 @@ fn lay_out(
     requires { Ok lengths ≡ lengths_of (length view.now.entries + length extra.now) (length (dribbled_data view.now extra.now)) }
     ensures laid { IfOk result (λ blob. blob.items ≡ dribbled view.now extra.now) }
     ensures again { IfOk result (λ blob. header blob.items ≡ Ok (record { blob = blob.items; entries = view.now.entries ++ extra.now })) }
+    ensures digest { IfOk result (λ blob. (read : Header) → header blob.items ≡ Ok read → immutable_digest read ≡ immutable_digest view.now) }
 {
     let (index, section) = parts_of(view);
     let mut out = begin(alloc, lengths)?;
@@ -41,7 +43,7 @@ fn lay_out(
 /// data, each at the least offset that is a multiple of its number's width, with zeros between; all
 /// bytes of the view's index and data stay as they are. So a region in front stays the same, and
 /// the entries that are added are its dribbles. Read again, the header has the view's entries
-/// followed by the builder's.
+/// followed by the builder's, and the digest of the view.
 ///
 /// Takes one buffer of the header's length, and copies the view's header and each added entry's data
 /// once.
@@ -54,8 +56,10 @@ fn lay_out(
 pub fn with_dribbles(alloc: Global, view: &View<'_>, extra: &Builder) -> Result<Vec<u8>, BuildFault>
     ensures laid { IfOk result (λ blob. blob.items ≡ dribbled view.now extra.now) }
     ensures again { IfOk result (λ blob. header blob.items ≡ Ok (record { blob = blob.items; entries = view.now.entries ++ extra.now })) }
-    ensures too_many { (result ≡ Err BuildFault.TooManyEntries) ↔ (65535 < length view.now.entries + length extra.now) }
-    ensures too_much { (result ≡ Err BuildFault.TooMuchData) ↔ ((length view.now.entries + length extra.now ≤ 65535) × (67108864 < length (dribbled_data view.now extra.now))) }
+    ensures digest { IfOk result (λ blob. (read : Header) → header blob.items ≡ Ok read → immutable_digest read ≡ immutable_digest view.now) }
+    ensures too_many { (result ≡ Err BuildFault.TooManyEntries) ↔ (max_entries < length view.now.entries + length extra.now) }
+    ensures too_much { (result ≡ Err BuildFault.TooMuchData)
+        ↔ ((length view.now.entries + length extra.now ≤ max_entries) × (max_data < length (dribbled_data view.now extra.now))) }
 {
     let lengths = dribbled_lengths(view, extra)?;
     match lay_out(alloc, view, extra, lengths) {

@@ -2,6 +2,7 @@
 
 ghost use Rattle.std.specs.Prelude.{◌≡◌, ℕ, ◌*◌, ◌≤◌, ◌<◌, length, drop, slice_index};
 ghost use Rattle.rpm_header.specs.Bytes.{are_ended};
+ghost use Rattle.rpm_header.specs.Header.{max_data};
 
 use crate::zeros::{between, look_for_ends, zeros_in};
 use std::marker::Model;
@@ -19,7 +20,7 @@ pub struct ZeroSums<'s> {
 
 impl<'s> Model for ZeroSums<'s> {
     ghost use Rattle.std.specs.Prelude.{List, ℕ};
-    ghost use Rattle.rpm_header.specs.Zeros.{IsSummed};
+    ghost use Rattle.rpm_header.specs.inner.Zeros.{IsSummed};
 
     ghost Value = { List ℕ };
 
@@ -37,7 +38,7 @@ fn no_sums() -> [u32; 4096]
 
 /// A stride of which fewer than 4,095 reach the end of so many bytes.
 fn stride_for(len: usize) -> usize
-    requires { len ≤ 67108864 }
+    requires { len ≤ max_data }
     ensures wide { len < 4095 * result }
     ensures small { result ≤ 16389 }
 {
@@ -47,7 +48,7 @@ fn stride_for(len: usize) -> usize
 impl<'s> ZeroSums<'s> {
     /// Reads each byte of the data once, the last first.
     pub fn new(section: &'s [u8]) -> ZeroSums<'s>
-        requires { length section.now ≤ 67108864 }
+        requires { length section.now ≤ max_data }
         ensures { result ≡ section.now }
     {
         let stride = stride_for(section.len());

@@ -3,9 +3,9 @@
 ghost use Rattle.std.specs.Prelude.{◌≡◌, ◌≢◌, ℕ, ◌+◌, ◌*◌, ◌≤◌, ◌<◌, length, IsTrue, Some, slice_get, drop, None};
 ghost use Rattle.std.specs.Iterator.{YieldsFirstRef, item_count};
 ghost use Rattle.rpm_header.specs.Header.{has_numbers, has_texts, numbers_of, texts_of, bytes_of, IsWhole, form_fault, values, entry_of, index_entry, section_of};
-ghost use Rattle.rpm_header.specs.Checked.{HasRoom, IsInside, IsSound};
+ghost use Rattle.rpm_header.specs.inner.Checked.{HasRoom, IsInside, IsSound};
 ghost use Rattle.rpm_header.specs.Laid.{bytes_in};
-ghost use Rattle.rpm_header.specs.Packed.{item_at, IsStored};
+ghost use Rattle.rpm_header.specs.inner.Packed.{item_at, IsStored};
 
 use crate::bytes::{next_text, text_of, texts_end, u16_at, u32_at, u64_at};
 use crate::form::Form;
@@ -28,7 +28,7 @@ pub struct Entry<'a> {
 
 impl<'a> Model for Entry<'a> {
     ghost use Rattle.rpm_header.specs.Header.{Item, values};
-    ghost use Rattle.rpm_header.specs.Checked.{IsInside};
+    ghost use Rattle.rpm_header.specs.inner.Checked.{IsInside};
 
     ghost Value = { Item };
 

@@ -13,6 +13,12 @@ pub const MAX_ENTRIES: u32 = 65_535;
 /// The most bytes of data that a header has.
 pub const MAX_DATA: u32 = 67_108_864;
 
+/// The tag of the region of a signature header.
+const SIGNATURE_REGION: u32 = 62;
+
+/// The tag of the region of a main header.
+pub const MAIN_REGION: u32 = 63;
+
 /// One entry of the index: four numbers of four bytes.
 #[derive(Clone, Copy)]
 pub struct IndexEntry {
@@ -65,7 +71,7 @@ pub fn has_texts(form: Form) -> bool
 fn is_region_tag(tag: u32) -> bool
     ensures { result ≡ is_region_tag tag }
 {
-    tag == 62 || tag == 63
+    tag == SIGNATURE_REGION || tag == MAIN_REGION
 }
 
 /// The four numbers from a place of the blob on.

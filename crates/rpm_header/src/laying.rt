@@ -2,11 +2,11 @@
 
 ghost use Rattle.std.specs.Prelude.{◌≡◌, ℕ, true, ◌+◌, ◌-◌, ◌≤◌, ◌<◌, ◌++◌, ◌*◌, ◌^◌, [], replicate, length, OnOk, IfOk, Some, None, nat_lt, if◌then◌else◌};
 ghost use Rattle.std.specs.Int.{w32, to_be_bytes, next_multiple_of};
-ghost use Rattle.rpm_header.specs.Header.{alignment};
+ghost use Rattle.rpm_header.specs.Header.{max_data, max_entries, alignment};
 ghost use Rattle.rpm_header.specs.Laid.{kind_of, bytes_in, data_from, index_from, index_bytes, indexed, lengths_of, region_item, trailer};
 
 use crate::form::Form;
-use crate::index::{IndexEntry, MAX_DATA, MAX_ENTRIES, alignment};
+use crate::index::{IndexEntry, MAIN_REGION, MAX_DATA, MAX_ENTRIES, alignment};
 use crate::packed::PackedEntry;
 use std::alloc::{AllocError, Global};
 
@@ -50,7 +50,7 @@ fn kind_of(form: Form) -> u32
 
 /// The least offset from `at` on that a form's data may begin at.
 fn offset_from(at: usize, form: Form) -> usize
-    requires { at ≤ 67108864 }
+    requires { at ≤ max_data }
     ensures value { result ≡ next_multiple_of at (alignment form) }
     ensures near { result < at + 8 }
 {
@@ -60,9 +60,9 @@ fn offset_from(at: usize, form: Form) -> usize
 /// The end of the data of these entries, of which `start` bytes stand before. None where it passes
 /// the limit.
 fn data_end(entries: &[PackedEntry], start: usize) -> Option<usize>
-    requires { start ≤ 67108864 }
+    requires { start ≤ max_data }
     ensures { let end = start + length (data_from start entries.now) in
-        result ≡ (if nat_lt 67108864 end then None else Some end) }
+        result ≡ (if nat_lt max_data end then None else Some end) }
 {
     let mut end = start;
     for entry in entries {
@@ -83,8 +83,8 @@ pub fn lengths_of(
     entries: &[PackedEntry],
     behind: usize,
 ) -> Result<Lengths, BuildFault>
-    requires others { others ≤ 65535 }
-    requires front { front ≤ 67108864 }
+    requires others { others ≤ max_entries }
+    requires front { front ≤ max_data }
     requires behind { behind ≤ 16 }
     ensures { result ≡ lengths_of (others + length entries.now) (front + length (data_from front entries.now) + behind) }
 {
@@ -107,8 +107,8 @@ pub fn lengths_of(
 
 /// The two lengths, in a buffer with room for the header that they tell.
 pub fn begin(alloc: Global, lengths: Lengths) -> Result<Vec<u8>, AllocError>
-    requires entries { lengths.entries ≤ 65535 }
-    requires size { lengths.size ≤ 67108864 }
+    requires entries { lengths.entries ≤ max_entries }
+    requires size { lengths.size ≤ max_data }
     ensures { IfOk result (λ out. out.items ≡ to_be_bytes w32 lengths.entries ++ to_be_bytes w32 lengths.size) }
 {
     let room = 8 + 16 * lengths.entries as usize + lengths.size as usize;
@@ -140,7 +140,7 @@ pub fn append_index(
     entries: &[PackedEntry],
     front: usize,
 ) -> Result<(), AllocError>
-    requires { front + length (data_from front entries.now) ≤ 67108864 }
+    requires { front + length (data_from front entries.now) ≤ max_data }
     ensures { OnOk result (out.new.items ≡ out.old.items ++ index_from front entries.now) }
 {
     let mut end = front;
@@ -174,7 +174,7 @@ pub fn append_data(
     entries: &[PackedEntry],
     front: usize,
 ) -> Result<(), AllocError>
-    requires { front + length (data_from front entries.now) ≤ 67108864 }
+    requires { front + length (data_from front entries.now) ≤ max_data }
     ensures { OnOk result (out.new.items ≡ out.old.items ++ data_from front entries.now) }
 {
     let mut end = front;
@@ -203,7 +203,7 @@ pub fn append_region_entry(
     append_index_entry(
         out,
         IndexEntry {
-            tag: 63,
+            tag: MAIN_REGION,
             kind: 7,
             offset: lengths.size - 16,
             count: 16,
@@ -214,7 +214,7 @@ pub fn append_region_entry(
 /// Adds the trailer of a region of so many entries.
 pub fn append_trailer(out: &mut Vec<u8>, region: bool, entries: u32) -> Result<(), AllocError>
     requires some { region ≡ true → 0 < entries }
-    requires few { entries ≤ 65535 }
+    requires few { entries ≤ max_entries }
     ensures { OnOk result (out.new.items ≡ out.old.items ++ (if region then trailer entries else [])) }
 {
     if !region {
@@ -224,7 +224,7 @@ pub fn append_trailer(out: &mut Vec<u8>, region: bool, entries: u32) -> Result<(
     append_index_entry(
         out,
         IndexEntry {
-            tag: 63,
+            tag: MAIN_REGION,
             kind: 7,
             offset: back as u32,
             count: 16,

@@ -6,7 +6,7 @@ ghost use Rattle.std.specs.List.{AllByRecursion};
 ghost use Rattle.rpm_header.specs.Header.{width, has_numbers, is_region_tag};
 ghost use Rattle.rpm_header.specs.Build.{AllFit, IsText, is_text_list, numbers_item, text_item, texts_item, bin_item, retagged};
 ghost use Rattle.rpm_header.specs.Laid.{bytes_in};
-ghost use Rattle.rpm_header.specs.Packed.{ReadsBack};
+ghost use Rattle.rpm_header.specs.inner.Packed.{ReadsBack};
 
 use crate::entry::Entry;
 use crate::form::Form;
@@ -25,7 +25,7 @@ pub struct PackedEntry {
 
 impl Model for PackedEntry {
     ghost use Rattle.rpm_header.specs.Header.{Item, values};
-    ghost use Rattle.rpm_header.specs.Packed.{IsPacked};
+    ghost use Rattle.rpm_header.specs.inner.Packed.{IsPacked};
 
     ghost Value = { Item };
 

@@ -1,7 +1,7 @@
 //! The two parts of a checked header.
 
 ghost use Rattle.std.specs.Prelude.{◌≡◌, ℕ, ◌+◌, ◌*◌, take, drop, ◌≤◌, length, Ok};
-ghost use Rattle.rpm_header.specs.Header.{header};
+ghost use Rattle.rpm_header.specs.Header.{max_data, header};
 ghost use Rattle.rpm_header.specs.Parts.{own_index, own_data};
 
 use crate::index::section_of;
@@ -20,7 +20,7 @@ pub fn parts_of<'a>(view: &View<'a>) -> (&'a [u8], &'a [u8])
     ensures index { result.0.now ≡ own_index view.now }
     ensures data { result.1.now ≡ own_data view.now }
     ensures whole { length result.0.now ≡ 16 * length view.now.entries }
-    ensures small { length result.1.now ≤ 67108864 }
+    ensures small { length result.1.now ≤ max_data }
     ensures again { header view.now.blob ≡ Ok view.now }
 {
     let blob = view.blob();

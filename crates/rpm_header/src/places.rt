@@ -2,6 +2,7 @@
 
 ghost use Rattle.std.specs.Prelude.{◌≡◌, ◌*◌, ◌≤◌, ◌<◌, true, length, Some, slice_get, slice_index};
 ghost use Rattle.rpm_header.specs.Bytes.{are_ended, texts};
+ghost use Rattle.rpm_header.specs.Header.{max_data};
 
 use crate::bytes::text_of;
 use crate::zeros::{between, look_for_ends, pass_blocks, zeros_in};
@@ -25,7 +26,7 @@ pub struct TextPlaces<'a> {
 impl<'a> Model for TextPlaces<'a> {
     ghost use Rattle.std.specs.Prelude.{List, ℕ};
     ghost use Rattle.rpm_header.specs.Bytes.{texts};
-    ghost use Rattle.rpm_header.specs.Zeros.{IsPlaced};
+    ghost use Rattle.rpm_header.specs.inner.Zeros.{IsPlaced};
 
     ghost Value = { List (List ℕ) };
 
@@ -36,7 +37,7 @@ impl<'a> Model for TextPlaces<'a> {
 
 /// A stride of which fewer than 255 reach the end of so many bytes.
 fn stride_for(len: usize) -> usize
-    requires { len ≤ 67108864 }
+    requires { len ≤ max_data }
     ensures wide { len < 255 * result }
     ensures small { result ≤ 263173 }
 {
@@ -68,7 +69,7 @@ impl<'a> TextPlaces<'a> {
     /// Reads the bytes of the texts twice, 64 at a time.
     pub(crate) fn new(count: u32, bytes: &'a [u8]) -> TextPlaces<'a>
         requires ended { are_ended count bytes.now ≡ true }
-        requires few { length bytes.now ≤ 67108864 }
+        requires few { length bytes.now ≤ max_data }
         ensures { result ≡ texts count bytes.now }
     {
         let (_, len) = look_for_ends(count, bytes);

@@ -20,7 +20,7 @@ pub struct TextList {
 impl Model for TextList {
     ghost use Rattle.std.specs.Prelude.{List, ℕ};
     ghost use Rattle.rpm_header.specs.Bytes.{texts};
-    ghost use Rattle.rpm_header.specs.Packed.{IsJoined};
+    ghost use Rattle.rpm_header.specs.inner.Packed.{IsJoined};
 
     ghost Value = { List (List ℕ) };
 

@@ -1,8 +1,8 @@
 //! A header that was checked, over its own bytes.
 
-ghost use Rattle.std.specs.Prelude.{◌≡◌, ℕ, ◌+◌, ◌*◌, ◌≤◌, ◌<◌, length, map, Some, None, Ok, slice_get};
-ghost use Rattle.rpm_header.specs.Header.{header, header_of, last_of, fault_at};
-ghost use Rattle.rpm_header.specs.Checked.{IsCut};
+ghost use Rattle.std.specs.Prelude.{◌≡◌, ℕ, ◌+◌, ◌*◌, ◌≤◌, ◌<◌, length, map, Some, None, Ok, IfOk, take, slice_get};
+ghost use Rattle.rpm_header.specs.Header.{max_blob, max_entries, header, header_of, last_of, fault_at};
+ghost use Rattle.rpm_header.specs.inner.Checked.{IsCut};
 
 use crate::bytes::u32_at;
 use crate::ends::{TextEnds, ZeroSums};
@@ -21,7 +21,7 @@ pub struct View<'a> {
 
 impl<'a> Model for View<'a> {
     ghost use Rattle.rpm_header.specs.Header.{Header, entries};
-    ghost use Rattle.rpm_header.specs.Checked.{IsSound};
+    ghost use Rattle.rpm_header.specs.inner.Checked.{IsSound};
 
     ghost Value = { Header };
 
@@ -31,8 +31,8 @@ impl<'a> Model for View<'a> {
 }
 
 impl<'a> View<'a> {
-    /// Reads the header with which these bytes begin. Bytes behind it are let pass. Takes no
-    /// memory. Reads each entry of the index once and, for each entry that has texts, each byte of
+    /// Reads the header with which these bytes begin. Bytes behind it are let pass: the header's
+    /// own are the first ones. Takes no memory. Reads each entry of the index once and, for each entry that has texts, each byte of
     /// these texts once, 64 at a time. Where entries share their data and texts of four times its
     /// length were read, it counts the zeros of the data once, and reads from then on at most a
     /// 4,095th of the data for each entry.
@@ -42,7 +42,8 @@ impl<'a> View<'a> {
     /// The first fault, in the order that `HeaderFault` gives.
     #[tactic(auto, unfolding(crate::specs::Header::header))]
     pub fn parse(blob: &'a [u8]) -> Result<View<'a>, HeaderFault>
-        ensures { result ≡ header blob.now }
+        ensures value { result ≡ header blob.now }
+        ensures own { IfOk result (λ view. take (length view.blob) blob.now ≡ view.blob) }
     {
         if blob.len() < 8 {
             return Err(HeaderFault::Short);
@@ -101,7 +102,7 @@ impl<'a> View<'a> {
     /// them: at most 68,157,432. Read again, they give this header again.
     pub fn blob(&self) -> &'a [u8]
         ensures value { result.now ≡ self.now.blob }
-        ensures small { length result.now ≤ 68157432 }
+        ensures small { length result.now ≤ max_blob }
         ensures again { header result.now ≡ Ok self.now }
     {
         self.blob
@@ -110,7 +111,7 @@ impl<'a> View<'a> {
     /// The number of entries, at most 65,535. A region's entry counts as any other.
     pub fn entries(&self) -> u32
         ensures value { result ≡ length self.now.entries }
-        ensures few { result ≤ 65535 }
+        ensures few { result ≤ max_entries }
     {
         self.count
     }

@@ -2,7 +2,8 @@
 
 ghost use Rattle.std.specs.Prelude.{◌≡◌, ◌+◌, ◌≤◌, ◌<◌, length, take, drop};
 ghost use Rattle.rpm_header.specs.Bytes.{are_ended};
-ghost use Rattle.rpm_header.specs.Zeros.{zeros, skipped};
+ghost use Rattle.rpm_header.specs.inner.Zeros.{zeros, skipped};
+ghost use Rattle.rpm_header.specs.Header.{max_data};
 
 use crate::bytes::are_ended;
 use std::simd::prelude::*;
@@ -31,7 +32,7 @@ fn behind_block(bytes: &[u8]) -> &[u8]
     &bytes[BLOCK..]
 }
 
-#[tactic(auto, unfolding(crate::specs::Zeros::zeros))]
+#[tactic(auto, unfolding(crate::specs::inner::Zeros::zeros))]
 fn zeros_one_by_one(bytes: &[u8]) -> usize
     ensures { result ≡ zeros bytes.now }
 {
@@ -40,7 +41,7 @@ fn zeros_one_by_one(bytes: &[u8]) -> usize
 
 /// How many of the bytes are zero. Reads each once, 64 at a time.
 pub fn zeros_in(bytes: &[u8]) -> u32
-    requires { length bytes.now ≤ 67108864 }
+    requires { length bytes.now ≤ max_data }
     ensures { result ≡ zeros bytes.now }
 {
     let mut rest = bytes;

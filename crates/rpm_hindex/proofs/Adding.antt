@@ -4,11 +4,11 @@ use Rattle.std.specs.Prelude.{Option, unwrap_or}
 use Rattle.std.proofs.lemmas.List.{get_or_append_left, get_or-append_right}
 use Rattle.std.proofs.lemmas.Bool.{cases_Bool, cases_eq, cond-true, cond-false, ltb-false, le-ltb}
 use Rattle.rpm_outside.specs.Files.{Units, units_of, unit_at, bytes_of, blank}
-use Rattle.rpm_outside.specs.Cuts.{length-cut_up}
+use Rattle.rpm_outside.specs.inner.Cuts.{length-cut_up}
 use Rattle.rpm_hindex.specs.Words.{word}
 use Rattle.rpm_hindex.specs.Rows.{hash_of}
 use Rattle.rpm_hindex.specs.Sizes.{first_record, record_units}
-use Rattle.rpm_hindex.specs.Making.{record_of}
+use Rattle.rpm_hindex.specs.inner.Making.{record_of}
 use Rattle.rpm_hindex.specs.Index.{Index, bucket_unit}
 use Rattle.std.specs.Ordering.{nat_cmp}
 use Rattle.std.specs.BTreeMap.{get}
@@ -17,7 +17,7 @@ use Rattle.rpm_hindex.specs.declared.chain.Extent.{Extent}
 use Rattle.rpm_hindex.specs.Rows.{Row, times}
 use Rattle.rpm_hindex.specs.Index.{places_of, rows_of}
 use Rattle.rpm_hindex.specs.Whole.{IsWhole}
-use Rattle.rpm_hindex.specs.Changes.{HasWord, Puts, CanGo, AddsRows, unit_after, index_with, changing}
+use Rattle.rpm_hindex.specs.inner.Changes.{HasWord, Puts, CanGo, AddsRows, unit_after, index_with, changing}
 use Rattle.rpm_hindex.proofs.Counts.{times-append, times_none}
 use Rattle.rpm_hindex.proofs.Wholes.{has_chains}
 use Rattle.rpm_hindex.proofs.Made.{length-bytes, units-made}
@@ -33,15 +33,18 @@ module _ (buckets used : ℕ) (units later : ℕ → Option (List ℕ)) (tail mo
   abbrev bucket : ℕ
   bucket = hash_of kind key % buckets
 
-  pub adds_record : buckets % 4 ≡ 0 → bucket < buckets → (w : List ℕ) → Puts units later (bucket_unit bucket) w → HasWord (unit_after units file (bucket_unit bucket)) w (bucket % 4) (used + length tail / 16)
-      → length tail % 16 ≡ 0 → more ≡ tail ++ bytes_of (record_of (old.head bucket) kind key number place) → first_record buckets ≤ used → AddsRecord old new kind key number place
+  pub adds_record : buckets % 4 ≡ 0 → bucket < buckets → (w : List ℕ) → Puts units later (bucket_unit bucket) w
+      → HasWord (unit_after units file (bucket_unit bucket)) w (bucket % 4) (used + length tail / 16)
+      → length tail % 16 ≡ 0 → more ≡ tail ++ bytes_of (record_of (old.head bucket) kind key number place) → first_record buckets ≤ used → AddsRecord
+      old new kind key number place
   adds_record fours below w put is_word whole is front =
       let n = length tail / 16 in
       let made = record_of (old.head bucket) kind key number place in
       let sixteen : length tail ≡ 16 * n = omega (arith, whole) in
       let all : units_of more ≡ units_of tail ++ made = ap units_of is ∙ units-made (old.head bucket) kind key number place tail n sixteen in
       let many : length (units_of tail) ≡ n = length-cut_up n tail in
-      let long : length more ≡ length tail + 16 * record_units (length key) = ap length is ∙ length-append tail _ ∙ ap (λ (k : ℕ). length tail + k) (length-bytes (old.head bucket) kind key number place) in
+      let long : length more ≡ length tail + 16 * record_units (length key) = ap length is ∙ length-append tail _ ∙ ap (λ (k : ℕ). length tail + k)
+      (length-bytes (old.head bucket) kind key number place) in
       let words : unit_after later file (bucket_unit bucket) ≡ w = ap (λ (o : Option (List ℕ)). unwrap_or o (unit_at file (bucket_unit bucket))) put.here in
       record {
         buckets = refl;
@@ -82,9 +85,11 @@ module _ (buckets used : ℕ) (units later : ℕ → Option (List ℕ)) (tail mo
 -- ---- what a row more leaves
 
 pub row_added : (c d : Change) (file : Units) → CanGo c → (kind : ℕ) (key : List ℕ) (number place b u next : ℕ) (words w : List ℕ)
-    → b ≡ hash_of kind key % c.extent.buckets → b < c.extent.buckets → words ≡ unit_after (λ q. get nat_cmp c.units q) file (bucket_unit b) → u ≡ c.extent.used + length c.tail.items / 16
+    → b ≡ hash_of kind key % c.extent.buckets → b < c.extent.buckets → words ≡ unit_after (λ q. get nat_cmp c.units q) file (bucket_unit b) → u
+    ≡ c.extent.used + length c.tail.items / 16
     → HasWord words w (b % 4) u → Puts (λ q. get nat_cmp c.units q) (λ q. get nat_cmp d.units q) (bucket_unit b) w → next ≡ word (b % 4) words
-    → d.tail.items ≡ c.tail.items ++ bytes_of (record_of next kind key number place) → d.extent ≡ c.extent → d.records ≡ c.records + 1 → d.live ≡ c.live + record_units (length key)
+    → d.tail.items ≡ c.tail.items ++ bytes_of (record_of next kind key number place) → d.extent ≡ c.extent → d.records ≡ c.records + 1 → d.live
+    ≡ c.live + record_units (length key)
     → kind < 16 → length key < 2 ^ 28 → number < 2 ^ 32 → place < 2 ^ 32
     → IsWhole c.records c.live (changing c file) → AddsRows c d file (record { kind = kind; key = key; number = number; place = place } ∷ [])
 row_added c d file go kind key number place b u next words w eb below ew eu has put en is extent count live kinds short numbers places whole =
@@ -100,13 +105,23 @@ row_added c d file go kind key number place b u next words w eb below ew eu has 
     let has_here = subst (λ (ws : List ℕ). HasWord ws w (h % 4) (c.extent.used + length c.tail.items / 16)) words_here has_b in
     let head : next ≡ old.head h = en ∙ ap (λ (k : ℕ). word (k % 4) words) eb ∙ ap (word (h % 4)) words_here in
     let more = is ∙ ap (λ (n : ℕ). c.tail.items ++ bytes_of (record_of n kind key number place)) head in
-    let adds : AddsRecord old new kind key number place = adds_record B c.extent.used (λ q. get nat_cmp c.units q) (λ q. get nat_cmp d.units q) c.tail.items d.tail.items file kind key number place go.fours lower w put_here has_here go.whole more go.front in
-    let within : AddsWithin old kind key number place = record { bucket = lower; front = omega (arith, go.front); small = omega (arith, go.room); kinds = kinds; short = short; numbers = numbers; places = places } in
+    let adds : AddsRecord old new kind key number place = adds_record B c.extent.used (λ q. get nat_cmp c.units q) (λ q. get nat_cmp d.units q)
+    c.tail.items d.tail.items file kind key number place go.fours lower w put_here has_here go.whole more go.front in
+    let within : AddsWithin old kind key number place = record {
+      bucket = lower;
+      front = omega (arith, go.front);
+      small = omega (arith, go.room);
+      kinds = kinds;
+      short = short;
+      numbers = numbers;
+      places = places;
+    } in
     let chains = has_chains old whole.chains in
     let all = whole_more old new kind key number place adds within (places_of old) chains c.records c.live whole in
     let same : changing d file ≡ new = ap (λ (e : Extent). index_with e.buckets e.used (λ q. get nat_cmp d.units q) d.tail.items file) extent in
     record {
-      whole = subst (IsWhole d.records d.live) (sym same) (subst (λ (n : ℕ). IsWhole d.records n new) (sym live) (subst (λ (n : ℕ). IsWhole n (c.live + record_units (length key)) new) (sym count) all));
+      whole = subst (IsWhole d.records d.live) (sym same) (subst (λ (n : ℕ). IsWhole d.records n new) (sym live)
+          (subst (λ (n : ℕ). IsWhole n (c.live + record_units (length key)) new) (sym count) all));
       rows' = λ r. ap (λ (x : Index). times r (rows_of x)) same ∙ times_more old new kind key number place adds within (places_of old) chains r;
     }
 
@@ -115,7 +130,8 @@ pub rows_none : (c : Change) (file : Units) → IsWhole c.records c.live (changi
 rows_none c file whole = record { whole = whole; rows' = λ r. omega (arith, times_none r) }
 
 -- and rows one after the other
-pub rows_then : (c d e : Change) (file : Units) (rows : List Row) (row : Row) → AddsRows c d file rows → (IsWhole d.records d.live (changing d file) → AddsRows d e file (row ∷ [])) → AddsRows c e file (rows ++ row ∷ [])
+pub rows_then : (c d e : Change) (file : Units) (rows : List Row) (row : Row) → AddsRows c d file rows → (IsWhole d.records d.live (changing d file)
+    → AddsRows d e file (row ∷ [])) → AddsRows c e file (rows ++ row ∷ [])
 rows_then c d e file rows row first second =
     let more = second first.whole in
     record { whole = more.whole; rows' = λ r. omega (arith, more.rows' r, first.rows' r, times-append r rows (row ∷ [])) }

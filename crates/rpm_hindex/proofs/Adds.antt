@@ -7,7 +7,7 @@ use Rattle.std.proofs.lemmas.Bool.{cases_eq, cond-true, cond-false, eq-eqb, ne_e
 use Rattle.rpm_outside.specs.Files.{unit_at}
 use Rattle.rpm_hindex.specs.Rows.{Row, times, same_row as same_rows, hash_of}
 use Rattle.rpm_hindex.specs.Sizes.{first_record, record_units}
-use Rattle.rpm_hindex.specs.Making.{record_of}
+use Rattle.rpm_hindex.specs.inner.Making.{record_of}
 use Rattle.rpm_hindex.specs.Index.{Index, is_link, next_at, units_at, row_at, bucket_of, all_places, rows_of}
 use Rattle.rpm_hindex.specs.Whole.{IsWhole}
 use Rattle.rpm_hindex.proofs.Made.{made_next, made_size, row-made}
@@ -40,7 +40,8 @@ in_front : (q : ℕ) (ps : List ℕ) (p : ℕ) → Contains (q ∷ ps) p → (p 
 in_front q ps p (zero, lt, e) = inl (sym e)
 in_front q ps p (suc k, lt, e) = inr (k, omega arith, e)
 
-module _ (x y : Index) (kind : ℕ) (key : List ℕ) (number place : ℕ) (adds : AddsRecord x y kind key number place) (w : AddsWithin x kind key number place) (ps : ℕ → List ℕ) (has : HasChains x ps) where
+module _ (x y : Index) (kind : ℕ) (key : List ℕ) (number place : ℕ) (adds : AddsRecord x y kind key number place)
+    (w : AddsWithin x kind key number place) (ps : ℕ → List ℕ) (has : HasChains x ps) where
   abbrev bucket : ℕ
   bucket = hash_of kind key % x.buckets
 
@@ -66,7 +67,8 @@ module _ (x y : Index) (kind : ℕ) (key : List ℕ) (number place : ℕ) (adds 
   next_is = made_next (x.head bucket) kind key number place (omega (arith, small_head)) w.kinds w.short w.numbers w.places y.unit x.used adds.new
 
   units_are : units_at y.unit x.used ≡ record_units (length key)
-  units_are = ap record_units (made_size (x.head bucket) kind key number place (omega (arith, small_head)) w.kinds w.short w.numbers w.places y.unit x.used adds.new)
+  units_are = ap record_units (made_size (x.head bucket) kind key number place (omega (arith, small_head)) w.kinds w.short w.numbers w.places y.unit
+      x.used adds.new)
 
   row_is : row_at y.unit x.used ≡ row
   row_is = row-made (x.head bucket) kind key number place (omega (arith, small_head)) w.kinds w.short w.numbers w.places y.unit x.used adds.new
@@ -107,13 +109,15 @@ module _ (x y : Index) (kind : ℕ) (key : List ℕ) (number place : ℕ) (adds 
   has_more b below = elim (cases_eq b bucket) [
     | inl here ↦
         let head : y.head b ≡ x.used = ap y.head here ∙ adds.head in
-        let chain : IsChain y b x.used (more b) = subst (λ (k : ℕ). IsChain y k x.used (more k)) (sym here) (subst (IsChain y bucket x.used) (sym more_here) chain_new) in
+        let chain : IsChain y b x.used (more b) = subst (λ (k : ℕ). IsChain y k x.used (more k)) (sym here)
+        (subst (IsChain y bucket x.used) (sym more_here) chain_new) in
         (ap (is_link y) head ∙ front_link, subst (λ (n : ℕ). IsChain y b n (more b)) (sym head) chain)
     | inr other ↦
         let lt : b < x.buckets = subst (λ (n : ℕ). b < n) adds.buckets below in
         let head = adds.heads b lt other in
         let h = has b lt in
-        let chain : IsChain y b (x.head b) (more b) = subst (IsChain y b (x.head b)) (sym (more_other b other)) (chain_extends x y extends b (x.head b) (ps b) h.0 h.1) in
+        let chain : IsChain y b (x.head b) (more b) = subst (IsChain y b (x.head b)) (sym (more_other b other))
+        (chain_extends x y extends b (x.head b) (ps b) h.0 h.1) in
         (ap (is_link y) head ∙ heads_extend x y extends b h.0, subst (λ (n : ℕ). IsChain y b n (more b)) (sym head) chain)
   ]
 
@@ -179,5 +183,6 @@ module _ (x y : Index) (kind : ℕ) (key : List ℕ) (number place : ℕ) (adds 
           ]
     ];
     records = length_sum (all_places y) ∙ sum_more (λ p. 1) ∙ ap (λ (n : ℕ). n + 1) (sym (length_sum (all_places x)) ∙ whole.records);
-    live = sum_more (units_at y.unit) ∙ ap (λ (n : ℕ). n + units_at y.unit x.used) (sum_each (units_at y.unit) (units_at x.unit) (all_places x) old_units ∙ whole.live) ∙ ap (λ (n : ℕ). live + n) units_are;
+    live = sum_more (units_at y.unit) ∙ ap (λ (n : ℕ). n + units_at y.unit x.used) (sum_each (units_at y.unit) (units_at x.unit) (all_places x)
+        old_units ∙ whole.live) ∙ ap (λ (n : ℕ). live + n) units_are;
   }

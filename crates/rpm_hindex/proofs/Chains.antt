@@ -20,7 +20,8 @@ sound_parts x b at e =
     let r = and_parts (ltb (next_at x.unit at) at) (leb (at + units_at x.unit at) x.used) q.1 in
     record { link = q.0; falls = ltb-true _ _ r.0; ends = leb-true _ _ r.1; bucket = eqb-true _ _ p.1 }
 
-pub sound_from : (x : Index) (b at : ℕ) → is_placed x at ≡ true → hash_of (word 1 (x.unit at) / 2 ^ 28) (key_at x.unit at) % x.buckets ≡ b → is_sound x b at ≡ true
+pub sound_from : (x : Index) (b at : ℕ) → is_placed x at ≡ true → hash_of (word 1 (x.unit at) / 2 ^ 28) (key_at x.unit at) % x.buckets ≡ b
+    → is_sound x b at ≡ true
 unfolding is_sound row_at
 sound_from x b at placed bucket = and_from (is_placed x at) _ placed (eq-eqb _ b bucket)
 
@@ -117,7 +118,8 @@ behind_is_ok : (p : ℕ) (said : Result (List ℕ) ℕ) (places : List ℕ) → 
 behind_is_ok p (Ok rest) places e = let same : places ≡ p ∷ rest = cc in (rest, refl, same)
 behind_is_ok p (Err unit) places e = absurd (let no' : ⊥ = cc in no')
 
-pub behind_all_is_ok : (ps : List ℕ) (said : Result (List ℕ) ℕ) (places : List ℕ) → behind_all ps said ≡ Ok places → (rest : List ℕ) × (said ≡ Ok rest) × (places ≡ ps ++ rest)
+pub behind_all_is_ok : (ps : List ℕ) (said : Result (List ℕ) ℕ) (places : List ℕ) → behind_all ps said ≡ Ok places → (rest : List ℕ)
+    × (said ≡ Ok rest) × (places ≡ ps ++ rest)
 behind_all_is_ok [] said places e = (places, e, refl)
 behind_all_is_ok (p ∷ ps) said places e =
     let one = behind_is_ok p (behind_all ps said) places e in

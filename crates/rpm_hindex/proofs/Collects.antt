@@ -1,5 +1,5 @@
 -- A chain that is gone along.
-use Rattle.std.proofs.Common.{◌≡◌, ℕ, ◌+◌, ◌<◌, ◌≤◌, List, [], ◌∷◌, ◌++◌, true, Result, Ok, sym, ap, ◌∙◌, arith, subst}
+use Rattle.std.proofs.Common.{◌≡◌, ℕ, ◌+◌, ◌<◌, ◌≤◌, List, [], ◌∷◌, ◌++◌, true, Result, Ok, Err, sym, ap, ◌∙◌, arith, subst}
 use Rattle.std.specs.List.{sum_by}
 use Rattle.std.proofs.lemmas.List.{append-nil}
 use Rattle.std.proofs.lemmas.List.Sums.{sum_by-append, sum_by-cons}
@@ -9,8 +9,20 @@ use Rattle.rpm_hindex.specs.Index.{Index, follow, behind, is_sound, next_at}
 use Rattle.rpm_hindex.specs.Answers.{HitsAre, IsFaultOf}
 use Rattle.rpm_hindex.proofs.Chains.{behind_all, behind_more, behind_ok, behind_err, behind_all_is_ok, follow_is_ok, follow_step}
 
+-- hits within something
+pub hits_in : {H G : Type 0} (P : List ℕ → H → Type 0) (part : G → H) (said : Result (List ℕ) ℕ) (whole : G) → HitsAre P said (part whole)
+    → HitsAre (λ places w. P places (part w)) said whole
+hits_in P part (Ok places) whole p = p
+hits_in P part (Err unit) whole p = p
+
+pub hits_of : {H G : Type 0} (P : List ℕ → H → Type 0) (part : G → H) (said : Result (List ℕ) ℕ) (whole : G) → HitsAre (λ places w. P places (part w))
+    said whole → HitsAre P said (part whole)
+hits_of P part (Ok places) whole p = p
+hits_of P part (Err unit) whole p = p
+
 module _ (x : Index) (b from : ℕ) (done : List ℕ) (at : ℕ) (so_far : follow x b from from ≡ behind_all done (follow x b at at)) where
-  pub one_more : (next : ℕ) → 0 < at → is_sound x b at ≡ true → next ≡ next_at x.unit at → follow x b from from ≡ behind_all (done ++ at ∷ []) (follow x b next next)
+  pub one_more : (next : ℕ) → 0 < at → is_sound x b at ≡ true → next ≡ next_at x.unit at → follow x b from from ≡ behind_all (done ++ at ∷ [])
+      (follow x b next next)
   one_more next some sound is =
       so_far
       ∙ ap (behind_all done) (follow_step x b at at some (omega arith) sound ∙ ap (λ (n : ℕ). behind at (follow x b n n)) (sym is))
@@ -27,7 +39,8 @@ module _ (x : Index) (b from : ℕ) (done : List ℕ) (at : ℕ) (so_far : follo
       subst (λ (s : Result (List ℕ) ℕ). HitsAre P s hits) (sym all) p
 
   -- what was read is within the records of the chain
-  pub cost_more : (units : ℕ → ℕ) (places : List ℕ) → 0 < at → follow x b from from ≡ Ok places → (is_sound x b at ≡ true) × (sum_by units done + units at ≤ sum_by units places)
+  pub cost_more : (units : ℕ → ℕ) (places : List ℕ) → 0 < at → follow x b from from ≡ Ok places → (is_sound x b at ≡ true)
+      × (sum_by units done + units at ≤ sum_by units places)
   cost_more units places some e =
       let all = behind_all_is_ok done (follow x b at at) places (sym so_far ∙ e) in
       let one = follow_is_ok x b at at all.0 some (omega arith) all.1 in

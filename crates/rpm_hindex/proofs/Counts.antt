@@ -21,7 +21,8 @@ times_hit_none h = refl
 
 pub times_hit_push : (h : Hit) (hits : List Hit) (new : Hit) → times_hit h (hits ++ new ∷ []) ≡ times_hit h hits + cond (same_hit h new) 1 0
 unfolding times_hit
-times_hit_push h hits new = sum_by-append (λ (x : Hit). cond (same_hit h x) 1 0) hits (new ∷ []) ∙ ap (λ (n : ℕ). times_hit h hits + n) (zero-add (cond (same_hit h new) 1 0))
+times_hit_push h hits new = sum_by-append (λ (x : Hit). cond (same_hit h x) 1 0) hits (new ∷ []) ∙ ap (λ (n : ℕ). times_hit h hits + n)
+    (zero-add (cond (same_hit h new) 1 0))
 
 pub times_one : (r s : Row) → times r (s ∷ []) ≡ cond (same_row r s) 1 0
 unfolding times
@@ -33,7 +34,8 @@ module _ (kind : ℕ) (key : List ℕ) (row : Row) where
 
   -- a row is that of a hit where it has the kind and key, and its number and place
   split : (h : Hit) → same_row (row_of_hit kind key h) row ≡ (has_key kind key row && same_hit h hit_of)
-  split h = elim (eqb kind row.kind) as (λ (b : Bool). (b && (bytes_eq key row.key && same_hit h hit_of)) ≡ ((b && bytes_eq key row.key) && same_hit h hit_of)) [ true ↦ refl | false ↦ refl ]
+  split h = elim (eqb kind row.kind) as (λ (b : Bool). (b && (bytes_eq key row.key && same_hit h hit_of))
+      ≡ ((b && bytes_eq key row.key) && same_hit h hit_of)) [ true ↦ refl | false ↦ refl ]
 
   pub adds_none : has_key kind key row ≡ false → (hits : List Hit) → AddsHit kind key row hits hits
   adds_none other hits h =
@@ -47,7 +49,8 @@ module _ (kind : ℕ) (key : List ℕ) (row : Row) where
       times_one (row_of_hit kind key h) row ∙ ap (λ (b : Bool). cond b 1 0) (split h ∙ ap (λ (b : Bool). b && same_hit h hit_of) same) in
       ap (times_hit h) e ∙ times_hit_push h old hit_of ∙ ap (λ (n : ℕ). times_hit h old + n) (sym is)
 
-pub often_more : (kind : ℕ) (key : List ℕ) (rows : List Row) (row : Row) (old new : List Hit) → AsOften kind key rows old → AddsHit kind key row old new → AsOften kind key (rows ++ row ∷ []) new
+pub often_more : (kind : ℕ) (key : List ℕ) (rows : List Row) (row : Row) (old new : List Hit) → AsOften kind key rows old → AddsHit kind key row old
+    new → AsOften kind key (rows ++ row ∷ []) new
 often_more kind key rows row old new often adds h =
     adds h ∙ ap (λ (n : ℕ). n + times (row_of_hit kind key h) (row ∷ [])) (often h) ∙ sym (times-append (row_of_hit kind key h) rows (row ∷ []))
 

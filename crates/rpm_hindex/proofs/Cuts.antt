@@ -13,10 +13,10 @@ use Rattle.rpm_hindex.specs.declared.change.Change.{Change}
 use Rattle.rpm_hindex.specs.Words.{word}
 use Rattle.rpm_hindex.specs.Sizes.{first_record, record_units}
 use Rattle.rpm_hindex.specs.Rows.{Row, times}
-use Rattle.rpm_hindex.specs.Records.{IsOpen}
+use Rattle.rpm_hindex.specs.inner.Records.{IsOpen}
 use Rattle.rpm_hindex.specs.Index.{Index, index_in, is_link, next_at, units_at, length_at, row_at, bucket_of, bucket_unit, places_of, all_places, rows_of}
 use Rattle.rpm_hindex.specs.Whole.{IsWhole, IsWellFormed}
-use Rattle.rpm_hindex.specs.Changes.{AreLinks, CanGo, CanRelink, Puts, SetsBucket, Unlinks, Stays, IsCut, changing, unit_after, is_kept, kept_of, first_at}
+use Rattle.rpm_hindex.specs.inner.Changes.{AreLinks, CanGo, CanRelink, Puts, SetsBucket, Unlinks, Stays, IsCut, changing, unit_after, is_kept, kept_of, first_at}
 use Rattle.rpm_hindex.proofs.Chains.{sound_parts}
 use Rattle.rpm_hindex.proofs.Follows.{IsChain}
 use Rattle.rpm_hindex.proofs.Wholes.{HasChains, has_chains, places_are, sound_of, in_all, all_in}
@@ -27,7 +27,8 @@ use Rattle.rpm_hindex.proofs.Dropping.{filter_in, place_for}
 use Rattle.rpm_hindex.proofs.Overlay.{relink_at}
 use Rattle.rpm_hindex.proofs.Cutting.{but, between, stays_then, CutIn, cut_in, first_is, chain_rest, has_cut, whole_cut, rows_kept}
 
-module _ (c : Change) (file : Units) (go : CanGo c) (none : length c.tail.items ≡ 0) (opens : IsOpen c.extent file) (well : IsWellFormed c.extent.buckets file) (cut : IsCut c file)
+module _ (c : Change) (file : Units) (go : CanGo c) (none : length c.tail.items ≡ 0) (opens : IsOpen c.extent file)
+    (well : IsWellFormed c.extent.buckets file) (cut : IsCut c file)
     (units : BTreeMap ℕ (List ℕ)) (dropped : BTreeMap ℕ ℕ) (n : ℕ) (b : ℕ) (below : b < c.extent.buckets) where
   abbrev x : Index
   x = index_in c.extent.buckets file
@@ -75,7 +76,8 @@ module _ (c : Change) (file : Units) (go : CanGo c) (none : length c.tail.items 
   new q = get nat_cmp units q
 
   unit_other : (key : ℕ) (w : List ℕ) → Puts old new key w → (i : ℕ) → (i ≡ key → ⊥) → z.unit i ≡ y.unit i
-  unit_other key w put i other = ap (λ (o : Option (List ℕ)). cond (ltb i c.extent.used) (unwrap_or o (unit_at file i)) (unit_at (units_of c.tail.items) (i - c.extent.used))) (put.others i other)
+  unit_other key w put i other = ap (λ (o : Option (List ℕ)). cond (ltb i c.extent.used) (unwrap_or o (unit_at file i))
+      (unit_at (units_of c.tail.items) (i - c.extent.used))) (put.others i other)
 
   unit_here : (key : ℕ) (w : List ℕ) → Puts old new key w → key < c.extent.used → z.unit key ≡ w
   unit_here key w put lt =
@@ -96,12 +98,15 @@ module _ (c : Change) (file : Units) (go : CanGo c) (none : length c.tail.items 
     and_true false t is = refl
 
   -- whatever is cut
-  finish : (pre : List ℕ) (p : ℕ) (post : List ℕ) → ks b ≡ pre ++ p ∷ post → n ≡ units_at x.unit p → Puts (λ q. get nat_cmp c.dropped q) (λ q. get nat_cmp dropped q) p p
-      → ((q : ℕ) → Contains (all_places x) q → Stays x.unit z.unit q) → (is_link z (z.head b) ≡ true) × IsChain z b (z.head b) (pre ++ post) → ((a : ℕ) → a < c.extent.buckets → (a ≡ b → ⊥) → z.head a ≡ y.head a)
+  finish : (pre : List ℕ) (p : ℕ) (post : List ℕ) → ks b ≡ pre ++ p ∷ post → n ≡ units_at x.unit p → Puts (λ q. get nat_cmp c.dropped q)
+      (λ q. get nat_cmp dropped q) p p
+      → ((q : ℕ) → Contains (all_places x) q → Stays x.unit z.unit q) → (is_link z (z.head b) ≡ true) × IsChain z b (z.head b) (pre ++ post)
+      → ((a : ℕ) → a < c.extent.buckets → (a ≡ b → ⊥) → z.head a ≡ y.head a)
       → ((a q : ℕ) → a < c.extent.buckets → (a ≡ b → ⊥) → Contains (ks a) q → next_at z.unit q ≡ next_at y.unit q) → IsCut d file
   finish pre p post is size put stays here heads nexts =
       let chains = has_cut x y z refl refl refl kept later hx has cut.stays stays b below pre p post is here heads nexts (both p put) in
-      let whole = whole_cut x y z refl refl refl kept later hx has cut.stays stays b below pre p post is here heads nexts (both p put) _ _ c.records c.live well cut.whole in
+      let whole = whole_cut x y z refl refl refl kept later hx has cut.stays stays b below pre p post is here heads nexts (both p put) _ _ c.records
+      c.live well cut.whole in
       record {
         whole = subst (λ (m : ℕ). IsWhole (c.records - 1) (c.live - m) z) (sym size) whole.0;
         chains = λ a lt. places_are z (λ e. filter later (places_of x e)) chains a lt;
@@ -109,10 +114,12 @@ module _ (c : Change) (file : Units) (go : CanGo c) (none : length c.tail.items 
       }
 
   -- the first of a chain
-  first_cut : (p : ℕ) (post : List ℕ) (ls : List Link) → ks b ≡ p ∷ post → AreLinks x.unit post ls → SetsBucket file old new b (first_at ls) → n ≡ units_at x.unit p → Puts (λ q. get nat_cmp c.dropped q) (λ q. get nat_cmp dropped q) p p → IsCut d file
+  first_cut : (p : ℕ) (post : List ℕ) (ls : List Link) → ks b ≡ p ∷ post → AreLinks x.unit post ls → SetsBucket file old new b (first_at ls) → n
+      ≡ units_at x.unit p → Puts (λ q. get nat_cmp c.dropped q) (λ q. get nat_cmp dropped q) p p → IsCut d file
   first_cut p post ls is are sets size put =
       let key = bucket_unit b in
-      let behind : (i : ℕ) → first_record c.extent.buckets ≤ i → z.unit i ≡ y.unit i = λ i ge. unit_other key sets.words sets.put i (λ e. absurd (omega (arith, e, ge, below, go.fours))) in
+      let behind : (i : ℕ) → first_record c.extent.buckets ≤ i → z.unit i ≡ y.unit i = λ i ge. unit_other key sets.words sets.put i
+      (λ e. absurd (omega (arith, e, ge, below, go.fours))) in
       let stays : (q : ℕ) → Contains (all_places x) q → Stays x.unit z.unit q = λ q m.
       let s = stands q m in stays_then x.unit y.unit z.unit q (some_units q) (λ i ge lt. behind i (omega (arith, ge, s.1.front))) (cut.stays q m) in
       let words : unit_after new file key ≡ sets.words = ap (λ (o : Option (List ℕ)). unwrap_or o (unit_at file key)) sets.put.here in
@@ -146,12 +153,14 @@ module _ (c : Change) (file : Units) (go : CanGo c) (none : length c.tail.items 
       other (sym s.bucket ∙ ap (λ (k : ℕ). bucket_of y.buckets (row_at y.unit k)) e ∙ t.bucket)
 
   -- or one behind another
-  later_cut : (qs : List ℕ) (l : Link) (r : CutIn x.unit old new qs l) → ks b ≡ qs → n ≡ units_at x.unit l.at → Puts (λ q. get nat_cmp c.dropped q) (λ q. get nat_cmp dropped q) l.at l.at → IsCut d file
+  later_cut : (qs : List ℕ) (l : Link) (r : CutIn x.unit old new qs l) → ks b ≡ qs → n ≡ units_at x.unit l.at → Puts (λ q. get nat_cmp c.dropped q)
+      (λ q. get nat_cmp dropped q) l.at l.at → IsCut d file
   later_cut qs l r is size put =
       let all : ks b ≡ r.pre ++ r.from ∷ r.at ∷ r.post = is ∙ r.are in
       let w = r.sets.words in
       let put_w : Puts old new r.from w = subst (λ (k : ℕ). Puts old new k w) r.link.place r.sets.put in
-      let mine : Contains (ks b) r.from = subst (λ (ps : List ℕ). Contains ps r.from) (sym all) (Contains-append_right r.pre (r.from ∷ r.at ∷ r.post) r.from (0, omega arith, refl)) in
+      let mine : Contains (ks b) r.from = subst (λ (ps : List ℕ). Contains ps r.from) (sym all) (Contains-append_right r.pre (r.from ∷ r.at ∷ r.post)
+      r.from (0, omega arith, refl)) in
       let in_b : Contains (all_places x) r.from = in_x b r.from below mine in
       let there = stands r.from in_b in
       let within : r.from < c.extent.used = omega (arith, there.1.sound.ends, used, none, some_units r.from) in
@@ -174,31 +183,40 @@ module _ (c : Change) (file : Units) (go : CanGo c) (none : length c.tail.items 
         ])) s
       ] in
       let heads : (a : ℕ) → a < c.extent.buckets → z.head a ≡ y.head a = λ a lt.
-      ap (λ (o : Option (List ℕ)). word (a % 4) (unwrap_or o (unit_at file (bucket_unit a)))) (put_w.others (bucket_unit a) (λ e. absurd (omega (arith, e, there.1.front, lt, go.fours)))) in
+      ap (λ (o : Option (List ℕ)). word (a % 4) (unwrap_or o (unit_at file (bucket_unit a))))
+      (put_w.others (bucket_unit a) (λ e. absurd (omega (arith, e, there.1.front, lt, go.fours)))) in
       let chain : IsChain y b (y.head b) (r.pre ++ r.from ∷ r.at ∷ r.post) = subst (IsChain y b (y.head b)) all (has b below).1 in
-      let in_ks : (q : ℕ) → Contains (r.pre ++ r.from ∷ r.at ∷ r.post) q → Contains (all_places x) q = λ q m. in_x b q below (subst (λ (ps : List ℕ). Contains ps q) (sym all) m) in
+      let in_ks : (q : ℕ) → Contains (r.pre ++ r.from ∷ r.at ∷ r.post) q → Contains (all_places x) q = λ q m. in_x b q below
+      (subst (λ (ps : List ℕ). Contains ps q) (sym all) m) in
       let split : r.pre ++ r.from ∷ r.at ∷ r.post ≡ (r.pre ++ r.from ∷ []) ++ r.at ∷ r.post = sym (append_assoc r.pre (r.from ∷ []) (r.at ∷ r.post)) in
       let rest = chain_rest y b (y.head b) (r.pre ++ r.from ∷ []) r.at r.post (subst (IsChain y b (y.head b)) split chain) in
-      let next : next_at z.unit r.from ≡ next_at y.unit r.at = ap (word 0) here ∙ r.sets.next ∙ sym (first_is y x.unit b (next_at y.unit r.at) r.post r.rest rest r.behind) in
-      let cuts = chain_cuts y z refl refl b (y.head b) r.pre r.from r.at r.post chain (λ q m. let i = in_ks q m in between x y z q (but x y q (cut.stays q i)) (but x z q (stays q i))) (λ q other m. ap (word 0) (others q other)) next in
+      let next : next_at z.unit r.from ≡ next_at y.unit r.at = ap (word 0) here ∙ r.sets.next ∙ sym (first_is y x.unit b (next_at y.unit r.at) r.post
+      r.rest rest r.behind) in
+      let cuts = chain_cuts y z refl refl b (y.head b) r.pre r.from r.at r.post chain (λ q m. let i = in_ks q m in between x y z q
+      (but x y q (cut.stays q i)) (but x z q (stays q i))) (λ q other m. ap (word 0) (others q other)) next in
       let same_head = heads b below in
       let link : is_link z (z.head b) ≡ true = ap (is_link z) same_head ∙ links_same y z refl refl (y.head b) ∙ (has b below).0 in
       let joined : r.pre ++ r.from ∷ r.post ≡ (r.pre ++ r.from ∷ []) ++ r.post = sym (append_assoc r.pre (r.from ∷ []) r.post) in
       let chain_now = subst (λ (m : ℕ). IsChain z b m ((r.pre ++ r.from ∷ []) ++ r.post)) (sym same_head) (subst (IsChain z b (y.head b)) joined cuts) in
-      finish (r.pre ++ r.from ∷ []) r.at r.post (all ∙ split) (size ∙ ap (units_at x.unit) r.gone) (subst (λ (k : ℕ). Puts (λ q. get nat_cmp c.dropped q) (λ q. get nat_cmp dropped q) k k) r.gone put) stays (link, chain_now) (λ a lt other. heads a lt)
+      finish (r.pre ++ r.from ∷ []) r.at r.post (all ∙ split) (size ∙ ap (units_at x.unit) r.gone)
+      (subst (λ (k : ℕ). Puts (λ q. get nat_cmp c.dropped q) (λ q. get nat_cmp dropped q) k k) r.gone put) stays (link, chain_now)
+      (λ a lt other. heads a lt)
       (λ a q lt other m. ap (word 0) (others q (λ e. absurd (elsewhere r.from mine a q lt other m e))))
 
-  cuts : (qs : List ℕ) (ls : List Link) (at : ℕ) (l : Link) → AreLinks x.unit qs ls → Unlinks file old new b ls at → l ≡ slice_index_or ls at l → ks b ≡ qs → n ≡ units_at x.unit l.at
+  cuts : (qs : List ℕ) (ls : List Link) (at : ℕ) (l : Link) → AreLinks x.unit qs ls → Unlinks file old new b ls at → l ≡ slice_index_or ls at l → ks b
+      ≡ qs → n ≡ units_at x.unit l.at
       → Puts (λ q. get nat_cmp c.dropped q) (λ q. get nat_cmp dropped q) l.at l.at → IsCut d file
   cuts [] [] at l are sets at_is is size put = absurd sets
   cuts [] (m ∷ ms) at l are sets at_is is size put = absurd are
   cuts (p ∷ ps) [] at l are sets at_is is size put = absurd are
   cuts (p ∷ ps) (m ∷ ms) zero l are sets at_is is size put =
       let gone : l.at ≡ p = ap (λ (k : Link). k.at) at_is ∙ are.0.place in
-      first_cut p ps ms is are.1 sets (size ∙ ap (units_at x.unit) gone) (subst (λ (k : ℕ). Puts (λ q. get nat_cmp c.dropped q) (λ q. get nat_cmp dropped q) k k) gone put)
+      first_cut p ps ms is are.1 sets (size ∙ ap (units_at x.unit) gone)
+      (subst (λ (k : ℕ). Puts (λ q. get nat_cmp c.dropped q) (λ q. get nat_cmp dropped q) k k) gone put)
   cuts (p ∷ ps) (m ∷ ms) (suc k) l are sets at_is is size put = later_cut (p ∷ ps) l (cut_in x.unit old new ps ms p k m l are.0 are.1 sets at_is) is size put
 
-  pub drop_cuts : (links : List Link) (at : ℕ) (l : Link) → AreLinks x.unit (ks b) links → CanRelink c.extent.used links → at < length links → l ≡ slice_index_or links at l → Unlinks file old new b links at
+  pub drop_cuts : (links : List Link) (at : ℕ) (l : Link) → AreLinks x.unit (ks b) links → CanRelink c.extent.used links → at < length links → l
+      ≡ slice_index_or links at l → Unlinks file old new b links at
       → n ≡ record_units (length l.«record».key.items) → Puts (λ q. get nat_cmp c.dropped q) (λ q. get nat_cmp dropped q) l.at l.at → IsCut d file
   drop_cuts links at l are can lt is sets size put =
       let p = place_for x.unit (ks b) links are at l lt is in
@@ -207,8 +225,10 @@ module _ (c : Change) (file : Units) (go : CanGo c) (none : length c.tail.items 
       cuts (ks b) links at l are sets is refl (size ∙ ap record_units long) put
 
 -- what is left of the rows
-pub rows_cut : (c : Change) (file : Units) → length c.tail.items ≡ 0 → IsOpen c.extent file → IsWellFormed c.extent.buckets file → IsCut c file → (r : Row) → times r (rows_of (changing c file)) ≡ times r (kept_of (index_in c.extent.buckets file) (is_kept (λ p. get nat_cmp c.dropped p)))
+pub rows_cut : (c : Change) (file : Units) → length c.tail.items ≡ 0 → IsOpen c.extent file → IsWellFormed c.extent.buckets file → IsCut c file
+    → (r : Row) → times r (rows_of (changing c file)) ≡ times r (kept_of (index_in c.extent.buckets file) (is_kept (λ p. get nat_cmp c.dropped p)))
 rows_cut c file none opens well cut r =
     let y : Index = changing c file in
     let x : Index = index_in c.extent.buckets file in
-    rows_kept x y (is_kept (λ p. get nat_cmp c.dropped p)) refl (has_chains x well.chains) (λ a lt. let h = has_chains y cut.whole.chains a lt in (h.0, subst (IsChain y a (y.head a)) (cut.chains a lt) h.1)) cut.stays r
+    rows_kept x y (is_kept (λ p. get nat_cmp c.dropped p)) refl (has_chains x well.chains) (λ a lt. let h = has_chains y cut.whole.chains a lt in
+    (h.0, subst (IsChain y a (y.head a)) (cut.chains a lt) h.1)) cut.stays r

@@ -9,7 +9,7 @@ use Rattle.rpm_hindex.specs.Rows.{Row, times, same_row as same_rows}
 use Rattle.rpm_hindex.specs.Sizes.{key_units}
 use Rattle.rpm_hindex.specs.Index.{Index, is_link, next_at, units_at, row_at, key_at, length_at, run, places_of, all_places, rows_of}
 use Rattle.rpm_hindex.specs.Whole.{IsWhole}
-use Rattle.rpm_hindex.specs.Changes.{AreLinks, IsLink, SetsNext, UnlinksIn, Stays, first_at, kept_of}
+use Rattle.rpm_hindex.specs.inner.Changes.{AreLinks, IsLink, SetsNext, UnlinksIn, Stays, first_at, kept_of}
 use Rattle.rpm_hindex.proofs.Runs.{run_same}
 use Rattle.rpm_hindex.proofs.Follows.{IsChain}
 use Rattle.rpm_hindex.proofs.Wholes.{HasChains, chains_ok, all_are, in_all, all_in}
@@ -72,7 +72,8 @@ pub record CutIn (u : ℕ → List ℕ) (old new : ℕ → Option (List ℕ)) (q
   pub behind : AreLinks u post rest
   pub sets : SetsNext old new before (first_at rest)
 
-pub cut_in : (u : ℕ → List ℕ) (old new : ℕ → Option (List ℕ)) (qs : List ℕ) (ls : List Link) (q k : ℕ) (d l : Link) → IsLink u q d → AreLinks u qs ls → UnlinksIn old new d ls k → l ≡ slice_index_or ls k l → CutIn u old new (q ∷ qs) l
+pub cut_in : (u : ℕ → List ℕ) (old new : ℕ → Option (List ℕ)) (qs : List ℕ) (ls : List Link) (q k : ℕ) (d l : Link) → IsLink u q d → AreLinks u qs ls
+    → UnlinksIn old new d ls k → l ≡ slice_index_or ls k l → CutIn u old new (q ∷ qs) l
 cut_in u old new [] [] q k d l link are sets is = absurd sets
 cut_in u old new [] (m ∷ ms) q k d l link are sets is = absurd are
 cut_in u old new (p ∷ ps) [] q k d l link are sets is = absurd are
@@ -136,8 +137,11 @@ module _ (x y z : Index) (buckets : y.buckets ≡ x.buckets) (zb : z.buckets ≡
 
   pub has_cut : HasChains z (λ c. filter later (places_of x c))
   has_cut c lt =
-      let h = has_with y z zb zu ks has b below (pre ++ post) here heads others c lt in
-      (h.0, subst (IsChain z c (z.head c)) (kept_less y ks has b below pre p post is (places_of x) kept later (λ d in'. refl) both c (subst (λ (n : ℕ). c < n) zb lt)) h.1)
+      let h = has_with y z zb zu ks has b below (pre ++ post) here heads others c lt in (
+        h.0,
+        subst (IsChain z c (z.head c)) (kept_less y ks has b below pre p post is (places_of x) kept later (λ d in'. refl) both c
+            (subst (λ (n : ℕ). c < n) zb lt)) h.1,
+      )
 
   less : (f : ℕ → ℕ) → sum_by f (all_places y) ≡ sum_by f (all_places z) + f p
   less f = sum_less y z zb zu ks has b below (pre ++ post) here heads others f (f p) (ap (sum_by f) is ∙ sum_without f pre p post)
@@ -150,7 +154,8 @@ module _ (x y z : Index) (buckets : y.buckets ≡ x.buckets) (zb : z.buckets ≡
       let units : (q : ℕ) → Contains (all_places z) q → units_at z.unit q ≡ units_at x.unit q = λ q c. (but x z q (sz q (all_z q c))).units in
       let ys : sum_by (units_at y.unit) (all_places y) ≡ sum_by (units_at x.unit) (all_places y) =
       sum_each (units_at y.unit) (units_at x.unit) (all_places y) (λ q c. let i = in_all y ks has q c in (but x y q (sy q (in_x kept i.0 q i.1 i.2))).units) in
-      let zs : sum_by (units_at z.unit) (all_places z) ≡ sum_by (units_at x.unit) (all_places z) = sum_each (units_at z.unit) (units_at x.unit) (all_places z) units in
+      let zs : sum_by (units_at z.unit) (all_places z) ≡ sum_by (units_at x.unit) (all_places z) = sum_each (units_at z.unit) (units_at x.unit)
+      (all_places z) units in
       let one : sum_by (λ (q : ℕ). 1) (all_places y) ≡ sum_by (λ (q : ℕ). 1) (all_places z) + 1 = less (λ (q : ℕ). 1) in
       let whole : IsWhole (count - 1) (live - units_at x.unit p) z = record {
         chains = chains_ok z (λ c. filter later (places_of x c)) has_cut;
@@ -161,7 +166,8 @@ module _ (x y z : Index) (buckets : y.buckets ≡ x.buckets) (zb : z.buckets ≡
       (whole, omega (arith, length_sum (all_places y), wy.records, one))
 
 -- the rows of chains that keep some places
-pub rows_kept : (x y : Index) (kept : ℕ → Bool) → y.buckets ≡ x.buckets → HasChains x (places_of x) → HasChains y (λ b. filter kept (places_of x b)) → ((q : ℕ) → Contains (all_places x) q → Stays x.unit y.unit q) → (r : Row)
+pub rows_kept : (x y : Index) (kept : ℕ → Bool) → y.buckets ≡ x.buckets → HasChains x (places_of x) → HasChains y (λ b. filter kept (places_of x b))
+    → ((q : ℕ) → Contains (all_places x) q → Stays x.unit y.unit q) → (r : Row)
     → times r (rows_of y) ≡ times r (kept_of x kept)
 rows_kept x y kept buckets hx has stays r =
     let ks : ℕ → List ℕ = λ b. filter kept (places_of x b) in

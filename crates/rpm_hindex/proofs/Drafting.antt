@@ -4,13 +4,13 @@ use Rattle.std.specs.List.{Contains, sum_by, flat_map, range_with_len}
 use Rattle.std.proofs.lemmas.List.{get_or_append_left, get_or-append_right, get_or-set_same, get_or-set_other, length-set, get_or-replicate, length-replicate, length_push}
 use Rattle.std.proofs.lemmas.List.Sums.{sum_by_push, sum_by-cons}
 use Rattle.rpm_outside.specs.Files.{Units, units_of, unit_at, bytes_of, blank}
-use Rattle.rpm_outside.specs.Cuts.{length-cut_up}
+use Rattle.rpm_outside.specs.inner.Cuts.{length-cut_up}
 use Rattle.rpm_hindex.specs.Rows.{Row, times, hash_of}
 use Rattle.rpm_hindex.specs.Sizes.{record_units, live_of, is_bucket_count}
-use Rattle.rpm_hindex.specs.Making.{record_of}
+use Rattle.rpm_hindex.specs.inner.Making.{record_of}
 use Rattle.rpm_hindex.specs.Index.{Index, is_link, all_places, rows_of, places_of, row_at}
 use Rattle.rpm_hindex.specs.Whole.{IsWhole}
-use Rattle.rpm_hindex.specs.Drafts.{draft_index, IsDraft}
+use Rattle.rpm_hindex.specs.inner.Drafts.{draft_index, IsDraft}
 use Rattle.rpm_hindex.proofs.Made.{units-made}
 use Rattle.rpm_hindex.proofs.Counts.{times-append}
 use Rattle.rpm_hindex.proofs.Wholes.{HasChains, has_chains, chains_ok, all_are}
@@ -32,7 +32,8 @@ nothing : (a n : ℕ) → flat_map (λ (b : ℕ). let none : List ℕ = [] in no
 nothing a zero = refl
 nothing a (suc n) = nothing (a + 1) n
 
-module _ (buckets : ℕ) (count : is_bucket_count buckets ≡ true) (heads bytes : List ℕ) (zeros : heads ≡ replicate buckets 0) (long : length bytes ≡ 16 * (1 + buckets / 4)) where
+module _ (buckets : ℕ) (count : is_bucket_count buckets ≡ true) (heads bytes : List ℕ) (zeros : heads ≡ replicate buckets 0)
+    (long : length bytes ≡ 16 * (1 + buckets / 4)) where
   x : Index
   x = draft_index heads bytes
 
@@ -64,7 +65,8 @@ module _ (buckets : ℕ) (count : is_bucket_count buckets ≡ true) (heads bytes
 -- ---- one more
 
 module _ (rows : List Row) (heads bytes later : List ℕ) (kind : ℕ) (key : List ℕ) (number place : ℕ) (draft : IsDraft rows heads bytes)
-    (some : 0 < length heads) (room : 1 + length bytes / 16 + record_units (length key) ≤ 2 ^ 28) (kinds : kind < 16) (short : length key < 2 ^ 28) (numbers : number < 2 ^ 32) (places : place < 2 ^ 32) where
+    (some : 0 < length heads) (room : 1 + length bytes / 16 + record_units (length key) ≤ 2 ^ 28) (kinds : kind < 16) (short : length key < 2 ^ 28)
+    (numbers : number < 2 ^ 32) (places : place < 2 ^ 32) where
   abbrev bucket : ℕ
   bucket = hash_of kind key % length heads
 
@@ -74,7 +76,8 @@ module _ (rows : List Row) (heads bytes later : List ℕ) (kind : ℕ) (key : Li
   abbrev later_heads : List ℕ
   later_heads = set heads bucket (1 + length bytes / 16)
 
-  pub draft_more : later ≡ bytes ++ bytes_of (record_of (get_or heads bucket 0) kind key number place) → length later ≡ length bytes + 16 * record_units (length key) → IsDraft (rows ++ row ∷ []) later_heads later
+  pub draft_more : later ≡ bytes ++ bytes_of (record_of (get_or heads bucket 0) kind key number place) → length later ≡ length bytes + 16 *
+      record_units (length key) → IsDraft (rows ++ row ∷ []) later_heads later
   draft_more is long =
       let old = draft_index heads bytes in
       let new = draft_index later_heads later in
@@ -98,12 +101,22 @@ module _ (rows : List Row) (heads bytes later : List ℕ) (kind : ℕ) (key : Li
         head = get_or-set_same heads bucket (1 + n) 0 below;
         heads = λ b lt other. get_or-set_other heads bucket b (1 + n) 0 other;
       } in
-      let within : AddsWithin old kind key number place = record { bucket = below; front = draft.front; small = omega (arith, room); kinds = kinds; short = short; numbers = numbers; places = places } in
+      let within : AddsWithin old kind key number place = record {
+        bucket = below;
+        front = draft.front;
+        small = omega (arith, room);
+        kinds = kinds;
+        short = short;
+        numbers = numbers;
+        places = places;
+      } in
       let has = has_chains old draft.whole.chains in
       let whole = whole_more old new kind key number place adds within (places_of old) has (length rows) (live_of rows) draft.whole in
       record {
         whole_units = omega (arith, long, draft.whole_units);
         front = omega (arith, length-set heads bucket (1 + n), draft.front, long);
-        whole = subst (λ (m : ℕ). IsWhole (length (rows ++ row ∷ [])) m new) (sym (live_push rows row)) (subst (λ (m : ℕ). IsWhole m (live_of rows + record_units (length key)) new) (sym (length_push rows row)) whole);
-        same = λ r. times_more old new kind key number place adds within (places_of old) has r ∙ ap (λ (m : ℕ). m + times r (row ∷ [])) (draft.same r) ∙ sym (times-append r rows (row ∷ []));
+        whole = subst (λ (m : ℕ). IsWhole (length (rows ++ row ∷ [])) m new) (sym (live_push rows row))
+            (subst (λ (m : ℕ). IsWhole m (live_of rows + record_units (length key)) new) (sym (length_push rows row)) whole);
+        same = λ r. times_more old new kind key number place adds within (places_of old) has r ∙ ap (λ (m : ℕ). m + times r (row ∷ [])) (draft.same r)
+            ∙ sym (times-append r rows (row ∷ []));
       }

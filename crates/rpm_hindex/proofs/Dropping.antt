@@ -7,7 +7,7 @@ use Rattle.rpm_hindex.specs.declared.links.Link.{Link}
 use Rattle.rpm_hindex.specs.Rows.{Row, same_row as same_rows}
 use Rattle.rpm_hindex.specs.Index.{Index, chain, bucket_of, places_of, places_in}
 use Rattle.rpm_hindex.specs.Whole.{IsWhole}
-use Rattle.rpm_hindex.specs.Changes.{AreLinks, IsLink, NoneBefore, HasLess, kept_of, is_kept, row_of, Puts}
+use Rattle.rpm_hindex.specs.inner.Changes.{AreLinks, IsLink, NoneBefore, HasLess, kept_of, is_kept, row_of, Puts}
 use Rattle.rpm_hindex.specs.Answers.{HitsAre}
 use Rattle.rpm_hindex.proofs.Wholes.{HasChains, has_chains}
 use Rattle.rpm_hindex.proofs.Keeping.{less_none, less_one, kept_none, same_is}
@@ -23,7 +23,8 @@ filter_in kept (p ∷ ps) q c = elim (cases_Bool (kept p)) [
   later : Contains ps q × (kept q ≡ true) → Contains (p ∷ ps) q × (kept q ≡ true)
   later ((k, lt, e), is) = ((suc k, omega arith, e), is)
 
-  front : Contains (p ∷ filter kept ps) q → kept p ≡ true → (Contains (filter kept ps) q → Contains ps q × (kept q ≡ true)) → Contains (p ∷ ps) q × (kept q ≡ true)
+  front : Contains (p ∷ filter kept ps) q → kept p ≡ true → (Contains (filter kept ps) q → Contains ps q × (kept q ≡ true)) → Contains (p ∷ ps) q
+      × (kept q ≡ true)
   front (zero, lt, e) stays below = ((0, omega arith, e), ap kept (sym e) ∙ stays)
   front (suc k, lt, e) stays below = later (below (k, omega arith, e))
 
@@ -32,14 +33,17 @@ in_filter kept [] q (k, lt, e) is = absurd (omega arith)
 in_filter kept (p ∷ ps) q (zero, lt, e) is =
     subst (λ (qs : List ℕ). Contains qs q) (sym (cond-true (kept p) (p ∷ filter kept ps) (filter kept ps) (ap kept e ∙ is))) (0, omega arith, e)
 in_filter kept (p ∷ ps) q (suc k, lt, e) is = elim (cases_Bool (kept p)) [
-  | inl stays ↦ subst (λ (qs : List ℕ). Contains qs q) (sym (cond-true (kept p) (p ∷ filter kept ps) (filter kept ps) stays)) (more (in_filter kept ps q (k, omega arith, e) is))
-  | inr gone ↦ subst (λ (qs : List ℕ). Contains qs q) (sym (cond-false (kept p) (p ∷ filter kept ps) (filter kept ps) gone)) (in_filter kept ps q (k, omega arith, e) is)
+  | inl stays ↦ subst (λ (qs : List ℕ). Contains qs q) (sym (cond-true (kept p) (p ∷ filter kept ps) (filter kept ps) stays))
+      (more (in_filter kept ps q (k, omega arith, e) is))
+  | inr gone ↦ subst (λ (qs : List ℕ). Contains qs q) (sym (cond-false (kept p) (p ∷ filter kept ps) (filter kept ps) gone))
+      (in_filter kept ps q (k, omega arith, e) is)
 ] where
   more : Contains (filter kept ps) q → Contains (p ∷ filter kept ps) q
   more (j, below, at) = (suc j, omega arith, at)
 
 -- the link of a place
-pub link_for : (u : ℕ → List ℕ) (qs : List ℕ) (ls : List Link) → AreLinks u qs ls → (q : ℕ) → Contains qs q → (k : ℕ) × (l : Link) × (k < length ls) × (l ≡ slice_index_or ls k l) × IsLink u q l
+pub link_for : (u : ℕ → List ℕ) (qs : List ℕ) (ls : List Link) → AreLinks u qs ls → (q : ℕ) → Contains qs q → (k : ℕ) × (l : Link) × (k < length ls)
+    × (l ≡ slice_index_or ls k l) × IsLink u q l
 link_for u [] ls are q (k, lt, e) = absurd (omega arith)
 link_for u (p ∷ ps) [] are q c = absurd are
 link_for u (p ∷ ps) (l ∷ ls) are q (zero, lt, e) = (0, l, omega arith, refl, subst (λ (n : ℕ). IsLink u n l) e are.0)
@@ -48,7 +52,8 @@ link_for u (p ∷ ps) (l ∷ ls) are q (suc k, lt, e) =
     (suc r.0, r.1, omega (arith, r.2), r.3, r.4)
 
 -- the place of a link
-pub place_for : (u : ℕ → List ℕ) (qs : List ℕ) (ls : List Link) → AreLinks u qs ls → (k : ℕ) (l : Link) → k < length ls → l ≡ slice_index_or ls k l → IsLink u l.at l × Contains qs l.at
+pub place_for : (u : ℕ → List ℕ) (qs : List ℕ) (ls : List Link) → AreLinks u qs ls → (k : ℕ) (l : Link) → k < length ls → l ≡ slice_index_or ls k l
+    → IsLink u l.at l × Contains qs l.at
 place_for u [] [] are k l lt is = absurd (omega arith)
 place_for u [] (m ∷ ls) are k l lt is = absurd are
 place_for u (p ∷ ps) [] are k l lt is = absurd are
@@ -59,7 +64,8 @@ place_for u (p ∷ ps) (m ∷ ls) are (suc k) l lt is = shifted (place_for u ps 
   shifted : IsLink u l.at l × Contains ps l.at → IsLink u l.at l × Contains (p ∷ ps) l.at
   shifted (link, (j, below, e)) = (link, (suc j, omega arith, e))
 
-module _ (x : Index) (count live : ℕ) (whole : IsWhole count live x) (row : Row) (dropped : ℕ → Option ℕ) (links : List Link) (b : ℕ) (below : b < x.buckets) (mine : b ≡ bucket_of x.buckets row)
+module _ (x : Index) (count live : ℕ) (whole : IsWhole count live x) (row : Row) (dropped : ℕ → Option ℕ) (links : List Link) (b : ℕ)
+    (below : b < x.buckets) (mine : b ≡ bucket_of x.buckets row)
     (are : AreLinks x.unit (filter (is_kept dropped) (places_of x b)) links) where
   has : HasChains x (places_of x)
   has = has_chains x whole.chains
@@ -72,13 +78,15 @@ module _ (x : Index) (count live : ℕ) (whole : IsWhole count live x) (row : Ro
       ap (λ (r : Row). same_rows row r) l.4.row ∙ none l.0 l.1 l.2 l.3))
 
   -- there is one
-  pub drops_one : (at : ℕ) (l : Link) (new : ℕ → Option ℕ) → at < length links → l ≡ slice_index_or links at l → same_rows row (row_of l.«record») ≡ true → Puts dropped new l.at l.at
+  pub drops_one : (at : ℕ) (l : Link) (new : ℕ → Option ℕ) → at < length links → l ≡ slice_index_or links at l → same_rows row (row_of l.«record»)
+      ≡ true → Puts dropped new l.at l.at
       → HasLess (row ∷ []) (kept_of x (is_kept dropped)) (kept_of x (is_kept new))
   drops_one at l new lt is same put =
       let p = place_for x.unit (filter (is_kept dropped) (places_of x b)) links are at l lt is in
       let q = filter_in (is_kept dropped) (places_of x b) l.at p.1 in
       let gone : is_kept new l.at ≡ false = ap (λ (o : Option ℕ). not (is_some o)) put.here in
-      less_one x has row (is_kept dropped) b l.at below q.0 (same_is row (row_of l.«record») same ∙ sym p.0.row) (is_kept new) q.1 gone (λ r other. ap (λ (o : Option ℕ). not (is_some o)) (put.others r other))
+      less_one x has row (is_kept dropped) b l.at below q.0 (same_is row (row_of l.«record») same ∙ sym p.0.row) (is_kept new) q.1 gone
+      (λ r other. ap (λ (o : Option ℕ). not (is_some o)) (put.others r other))
 
 -- the answer of a walk over a chain, in the words of its places
 pub of_places : {H : Type 0} (P : List ℕ → H → Type 0) (x : Index) (b : ℕ) (hits : H) → HitsAre P (chain x b) hits → P (places_of x b) hits

@@ -40,7 +40,8 @@ module _ (x y : Index) (buckets : y.buckets ≡ x.buckets) (used : y.used ≡ x.
   })
 
   -- a chain whose records stay
-  pub chain_keeps : (b at : ℕ) (ps : List ℕ) → IsChain x b at ps → ((q : ℕ) → Contains ps q → SameBut x y q × (next_at y.unit q ≡ next_at x.unit q)) → IsChain y b at ps
+  pub chain_keeps : (b at : ℕ) (ps : List ℕ) → IsChain x b at ps → ((q : ℕ) → Contains ps q → SameBut x y q × (next_at y.unit q ≡ next_at x.unit q))
+      → IsChain y b at ps
   chain_keeps b at [] is same = is
   chain_keeps b at (p ∷ ps) (is, some, sound, rest) same =
       let here = same p (0, omega arith, refl) in
@@ -53,7 +54,8 @@ module _ (x y : Index) (buckets : y.buckets ≡ x.buckets) (used : y.used ≡ x.
 
   -- a chain that loses the record behind the last of these
   pub chain_cuts : (b at : ℕ) (pre : List ℕ) (q p : ℕ) (post : List ℕ) → IsChain x b at (pre ++ q ∷ p ∷ post)
-      → ((r : ℕ) → Contains (pre ++ q ∷ p ∷ post) r → SameBut x y r) → ((r : ℕ) → (r ≡ q → ⊥) → Contains (pre ++ q ∷ p ∷ post) r → next_at y.unit r ≡ next_at x.unit r) → next_at y.unit q ≡ next_at x.unit p → IsChain y b at (pre ++ q ∷ post)
+      → ((r : ℕ) → Contains (pre ++ q ∷ p ∷ post) r → SameBut x y r) → ((r : ℕ) → (r ≡ q → ⊥) → Contains (pre ++ q ∷ p ∷ post) r → next_at y.unit r
+      ≡ next_at x.unit r) → next_at y.unit q ≡ next_at x.unit p → IsChain y b at (pre ++ q ∷ post)
   chain_cuts b at [] q p post (is, some, sound, (next_is, psome, psound, rest)) same next cut =
       let s = sound_parts x b q sound in
       let t = sound_parts x b p psound in
@@ -72,18 +74,21 @@ module _ (x y : Index) (buckets : y.buckets ≡ x.buckets) (used : y.used ≡ x.
         some,
         sound_but b r (next_at x.unit r) (same r in') s stays s.link s.falls,
         subst (λ (n : ℕ). IsChain y b n (pre ++ q ∷ post)) (sym stays)
-            (chain_cuts b (next_at x.unit r) pre q p post rest (λ t (k, lt, e). same t (suc k, omega arith, e)) (λ t other (k, lt, e). next t other (suc k, omega arith, e)) cut),
+            (chain_cuts b (next_at x.unit r) pre q p post rest (λ t (k, lt, e). same t (suc k, omega arith, e))
+            (λ t other (k, lt, e). next t other (suc k, omega arith, e)) cut),
       )
 
   -- or the first
-  pub chain_starts : (b at p : ℕ) (post : List ℕ) → IsChain x b at (p ∷ post) → ((r : ℕ) → Contains post r → SameBut x y r × (next_at y.unit r ≡ next_at x.unit r)) → IsChain y b (next_at x.unit p) post
+  pub chain_starts : (b at p : ℕ) (post : List ℕ) → IsChain x b at (p ∷ post) → ((r : ℕ) → Contains post r → SameBut x y r
+      × (next_at y.unit r ≡ next_at x.unit r)) → IsChain y b (next_at x.unit p) post
   chain_starts b at p post (is, some, sound, rest) same = chain_keeps b (next_at x.unit p) post rest same
 
 -- the places with another chain for one bucket
 abbrev pub with_chain : (ℕ → List ℕ) → ℕ → List ℕ → ℕ → List ℕ
 with_chain ks b new c = cond (eqb c b) new (ks c)
 
-module _ (x y : Index) (buckets : y.buckets ≡ x.buckets) (used : y.used ≡ x.used) (ks : ℕ → List ℕ) (has : HasChains x ks) (b : ℕ) (below : b < x.buckets) (new : List ℕ)
+module _ (x y : Index) (buckets : y.buckets ≡ x.buckets) (used : y.used ≡ x.used) (ks : ℕ → List ℕ) (has : HasChains x ks) (b : ℕ)
+    (below : b < x.buckets) (new : List ℕ)
     (here : (is_link y (y.head b) ≡ true) × IsChain y b (y.head b) new)
     (heads : (c : ℕ) → c < x.buckets → (c ≡ b → ⊥) → y.head c ≡ x.head c)
     (others : (c q : ℕ) → c < x.buckets → (c ≡ b → ⊥) → Contains (ks c) q → SameBut x y q × (next_at y.unit q ≡ next_at x.unit q)) where
@@ -96,7 +101,8 @@ module _ (x y : Index) (buckets : y.buckets ≡ x.buckets) (used : y.used ≡ x.
   pub has_with : HasChains y (with_chain ks b new)
   has_with c lt = elim (cases_eq c b) [
     | inl is ↦
-        let h : (is_link y (y.head c) ≡ true) × IsChain y c (y.head c) new = subst (λ (k : ℕ). (is_link y (y.head k) ≡ true) × IsChain y k (y.head k) new) (sym is) here in
+        let h : (is_link y (y.head c) ≡ true) × IsChain y c (y.head c) new = subst (λ (k : ℕ). (is_link y (y.head k) ≡ true) × IsChain y k (y.head k)
+        new) (sym is) here in
         (h.0, subst (IsChain y c (y.head c)) (sym (ap (with_chain ks b new) is ∙ with_here)) h.1)
     | inr other ↦
         let inside : c < x.buckets = subst (λ (n : ℕ). c < n) buckets lt in

@@ -30,13 +30,15 @@ stands_in x b at [] link is p (k, lt, e) = absurd (omega arith)
 stands_in x b at (q ∷ ps) link (is, some, sound, rest) p (zero, lt, e) =
     let here : Stands x b q = record { front = behind_front x q (ap (is_link x) (sym is) ∙ link) some; sound = sound_parts x b q sound; true' = sound } in
     subst (Stands x b) e here
-stands_in x b at (q ∷ ps) link (is, some, sound, rest) p (suc k, lt, e) = stands_in x b (next_at x.unit q) ps (sound_parts x b q sound).link rest p (k, omega arith, e)
+stands_in x b at (q ∷ ps) link (is, some, sound, rest) p (suc k, lt, e) = stands_in x b (next_at x.unit q) ps (sound_parts x b q sound).link rest p
+    (k, omega arith, e)
 
 pub sound_whole : (x : Index) (b p : ℕ) → Sound x b p → is_sound x b p ≡ true
 unfolding is_sound
 sound_whole x b p s =
     and_from (is_placed x p) _
-    (and_from (is_link x (next_at x.unit p)) _ s.link (and_from (ltb (next_at x.unit p) p) (leb (p + units_at x.unit p) x.used) (lt-ltb _ _ s.falls) (le-leb _ _ s.ends)))
+    (and_from (is_link x (next_at x.unit p)) _ s.link (and_from (ltb (next_at x.unit p) p) (leb (p + units_at x.unit p) x.used) (lt-ltb _ _ s.falls)
+    (le-leb _ _ s.ends)))
     (eq-eqb _ b s.bucket)
 
 -- two ways to read units that agree on a record
@@ -89,8 +91,13 @@ module _ (x y : Index) (e : Extends x y) where
   chain_extends b at [] link is = is
   chain_extends b at (p ∷ ps) link (is, some, sound, rest) =
       let s : Stands x b p = stands_in x b at (p ∷ ps) link (is, some, sound, rest) p (0, omega arith, refl) in
-      let next : next_at y.unit p ≡ next_at x.unit p = ap (word 0) (same_units b p s) in
-      (is, some, sound_whole y b p (sound_extends b p s), subst (λ (n : ℕ). IsChain y b n ps) (sym next) (chain_extends b (next_at x.unit p) ps s.sound.link rest))
+      let next : next_at y.unit p ≡ next_at x.unit p = ap (word 0) (same_units b p s) in (
+        is,
+        some,
+        sound_whole y b p (sound_extends b p s),
+        subst (λ (n : ℕ). IsChain y b n ps) (sym next) (chain_extends b (next_at x.unit p) ps
+            s.sound.link rest),
+      )
 
   pub heads_extend : (b : ℕ) → is_link x (x.head b) ≡ true → is_link y (x.head b) ≡ true
   heads_extend b link = link_extends (x.head b) link

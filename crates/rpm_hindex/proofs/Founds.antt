@@ -33,7 +33,8 @@ module _ (x : Index) (ps : ℕ → List ℕ) (has : HasChains x ps) (row : Row) 
   elsewhere : (b : ℕ) → b < x.buckets → (b ≡ bucket_of x.buckets row → ⊥) → sum_by (tally x.unit row) (ps b) ≡ 0
   elsewhere b below other = zeros_of (tally x.unit row) (ps b) (λ p c.
       let s = sound_parts x b p ((sound_of x ps has b p below c).1) in
-      ap (λ (t : Bool). cond t 1 0) (false_from_ne_true (same_row row (row_at x.unit p)) (λ e. other (sym s.bucket ∙ sym (same_bucket x.buckets row (row_at x.unit p) e)))))
+      ap (λ (t : Bool). cond t 1 0) (false_from_ne_true (same_row row (row_at x.unit p))
+      (λ e. other (sym s.bucket ∙ sym (same_bucket x.buckets row (row_at x.unit p) e)))))
 
   pub in_its_bucket : bucket_of x.buckets row < x.buckets → times row (rows_of x) ≡ times row (map (row_at x.unit) (ps (bucket_of x.buckets row)))
   in_its_bucket below =
@@ -51,7 +52,9 @@ ok_is : (x : Index) (b : ℕ) (places : List ℕ) → chain x b ≡ Ok places �
 unfolding places_of
 ok_is x b places e = ap places_in e
 
-pub often_in_all : (count live kind : ℕ) (key : List ℕ) (x : Index) (places : List ℕ) (hits : List Hit) → IsWhole count live x → hash_of kind key % x.buckets < x.buckets → chain x (hash_of kind key % x.buckets) ≡ Ok places → AsOften kind key (map (row_at x.unit) places) hits → AsOften kind key (rows_of x) hits
+pub often_in_all : (count live kind : ℕ) (key : List ℕ) (x : Index) (places : List ℕ) (hits : List Hit) → IsWhole count live x → hash_of kind key %
+    x.buckets < x.buckets → chain x (hash_of kind key % x.buckets) ≡ Ok places → AsOften kind key (map (row_at x.unit) places) hits → AsOften kind key
+    (rows_of x) hits
 often_in_all count live kind key x places hits whole below e often h =
     let has = has_chains x whole.chains in
     often h

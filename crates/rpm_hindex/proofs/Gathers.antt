@@ -10,11 +10,12 @@ use Rattle.rpm_outside.specs.Files.{Units, units_of, put, blank}
 use Rattle.rpm_hindex.specs.declared.planning.Work.{Work}
 use Rattle.rpm_hindex.specs.declared.planning.Work.TheVariants.{InPlace, Scratch}
 use Rattle.rpm_hindex.specs.Index.{records}
-use Rattle.rpm_hindex.specs.Drafts.{Holds, IsMade}
+use Rattle.rpm_hindex.specs.inner.Drafts.{Holds, IsMade}
 use Rattle.rpm_hindex.specs.Plans.{IsPlanFor}
 use Rattle.rpm_hindex.proofs.Seals.{image_held}
 use Rattle.rpm_hindex.proofs.Counts.{times-append}
-use Rattle.rpm_hindex.specs.Changes.{AreLinks, kept_below, row_of, IsScratchOf, HasLess, IsOther, IsTooLarge, IsTooLargeFor}
+use Rattle.rpm_hindex.specs.inner.Changes.{AreLinks, kept_below, row_of, IsScratchOf, HasLess, IsOther, IsTooLarge}
+use Rattle.rpm_hindex.specs.Refusals.{IsTooLargeFor}
 use Rattle.rpm_hindex.specs.declared.faults.PrepareFault.{PrepareFault}
 use Rattle.rpm_hindex.specs.declared.faults.PrepareFault.TheVariants.{IndexFull, BadIndex, DiskFault, NoMemory}
 use Rattle.rpm_hindex.proofs.Dropping.{of_places}
@@ -32,10 +33,12 @@ links_rows : (u : ℕ → List ℕ) (qs : List ℕ) (ls : List Link) → AreLink
 links_rows u [] [] are = refl
 links_rows u [] (l ∷ ls) are = absurd are
 links_rows u (q ∷ qs) [] are = absurd are
-links_rows u (q ∷ qs) (l ∷ ls) are = ap (λ (r : Row). r ∷ map (λ (m : Link). row_of m.«record») ls) (sym are.0.row) ∙ ap (λ (rs : List Row). row_at u q ∷ rs) (links_rows u qs ls are.1)
+links_rows u (q ∷ qs) (l ∷ ls) are = ap (λ (r : Row). r ∷ map (λ (m : Link). row_of m.«record») ls) (sym are.0.row)
+    ∙ ap (λ (rs : List Row). row_at u q ∷ rs) (links_rows u qs ls are.1)
 
 -- the rows of a bucket more
-pub kept_next : (x : Index) (kept : ℕ → Bool) (b : ℕ) (links : Vec Link Global) (old new : List Row) → HitsAre (λ (places : List ℕ) (v : Vec Link Global). AreLinks x.unit (filter kept places) v.items) (chain x b) links
+pub kept_next : (x : Index) (kept : ℕ → Bool) (b : ℕ) (links : Vec Link Global) (old new : List Row)
+    → HitsAre (λ (places : List ℕ) (v : Vec Link Global). AreLinks x.unit (filter kept places) v.items) (chain x b) links
     → old ≡ kept_below x kept b → new ≡ old ++ map (λ (l : Link). row_of l.«record») links.items → new ≡ kept_below x kept (b + 1)
 kept_next x kept b links old new said so_far is =
     let P : List ℕ → Vec Link Global → Type 0 = λ places v. AreLinks x.unit (filter kept places) v.items in
@@ -48,7 +51,8 @@ kept_next x kept b links old new said so_far is =
     ∙ sym (flat_more (λ (c : ℕ). map (row_at x.unit) (filter kept (places_of x c))) 0 b)
 
 -- what is written from scratch makes the change
-pub scratch_plan : (drops adds kept : List Row) (buckets : ℕ) (file : Units) (work : Work) → IsScratchOf (kept ++ adds) work → HasLess drops (records buckets file) kept → IsPlanFor drops adds buckets file work
+pub scratch_plan : (drops adds kept : List Row) (buckets : ℕ) (file : Units) (work : Work) → IsScratchOf (kept ++ adds) work → HasLess drops
+    (records buckets file) kept → IsPlanFor drops adds buckets file work
 unfolding IsPlanFor
 scratch_plan drops adds kept buckets file (InPlace p) is less = absurd is
 scratch_plan drops adds kept buckets file (Scratch image) (count, made) less =

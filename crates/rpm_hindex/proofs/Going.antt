@@ -15,7 +15,7 @@ use Rattle.std.proofs.lemmas.Bool.{cases_eq}
 use Rattle.rpm_hindex.specs.declared.change.Change.{Change}
 use Rattle.rpm_hindex.specs.Sizes.{first_record}
 use Rattle.rpm_hindex.specs.Index.{bucket_unit}
-use Rattle.rpm_hindex.specs.Changes.{patch_of, CanGo, IsBehind, Puts, PutsWithin}
+use Rattle.rpm_hindex.specs.inner.Changes.{patch_of, CanGo, IsBehind, Puts, PutsWithin}
 
 pub still_behind : {X : Type 0} (used : ℕ) (old new : ℕ → Option X) → IsBehind used old → PutsWithin used old new → IsBehind used new
 still_behind used old new behind (key, some, lt, (value, put)) k v is = elim (cases_eq k key) [
@@ -24,7 +24,8 @@ still_behind used old new behind (key, some, lt, (value, put)) k v is = elim (ca
 ]
 
 pub go_on : (c d : Change) → CanGo c → d.extent ≡ c.extent → PutsWithin c.extent.used (λ q. get nat_cmp c.units q) (λ q. get nat_cmp d.units q)
-    → length d.tail.items % 16 ≡ 0 → c.extent.used + length d.tail.items / 16 ≤ 2 ^ 28 → first_record c.extent.buckets + d.live ≤ c.extent.used + length d.tail.items / 16 → d.records ≤ 2 * c.extent.buckets → CanGo d
+    → length d.tail.items % 16 ≡ 0 → c.extent.used + length d.tail.items / 16 ≤ 2 ^ 28 → first_record c.extent.buckets + d.live ≤ c.extent.used +
+    length d.tail.items / 16 → d.records ≤ 2 * c.extent.buckets → CanGo d
 go_on c d go extent put whole room live records =
     let B : d.extent.buckets ≡ c.extent.buckets = ap (λ (e : _). e.buckets) extent in
     let U : d.extent.used ≡ c.extent.used = ap (λ (e : _). e.used) extent in
@@ -40,19 +41,22 @@ go_on c d go extent put whole room live records =
       records = omega (arith, records, B);
     }
 
-pub bucket_within : (c : Change) → CanGo c → (bucket : ℕ) → bucket < c.extent.buckets → (new : ℕ → Option (List ℕ)) (w : List ℕ) → Puts (λ q. get nat_cmp c.units q) new (bucket_unit bucket) w → PutsWithin c.extent.used (λ q. get nat_cmp c.units q) new
+pub bucket_within : (c : Change) → CanGo c → (bucket : ℕ) → bucket < c.extent.buckets → (new : ℕ → Option (List ℕ)) (w : List ℕ)
+    → Puts (λ q. get nat_cmp c.units q) new (bucket_unit bucket) w → PutsWithin c.extent.used (λ q. get nat_cmp c.units q) new
 bucket_within c go bucket lt new w put = (bucket_unit bucket, omega arith, omega (arith, lt, go.fours, go.front), (w, put))
 
 pub nat_exact : CmpEqualImpliesEq nat_cmp
 nat_exact x y e = grind (arith, nat_tests)
 
-entries_behind : (used : ℕ) (es : List (ℕ × List ℕ)) → ((e : ℕ × List ℕ) → Contains es e → (1 ≤ e.0) × (e.0 < used)) → (k : ℕ) → k < length (map patch_of es) → (1 ≤ (patch_at (map patch_of es) k).unit) × ((patch_at (map patch_of es) k).unit < used)
+entries_behind : (used : ℕ) (es : List (ℕ × List ℕ)) → ((e : ℕ × List ℕ) → Contains es e → (1 ≤ e.0) × (e.0 < used)) → (k : ℕ) → k
+    < length (map patch_of es) → (1 ≤ (patch_at (map patch_of es) k).unit) × ((patch_at (map patch_of es) k).unit < used)
 entries_behind used [] each k lt = absurd (omega arith)
 entries_behind used (e ∷ es) each zero lt = each e (0, omega arith, refl)
 entries_behind used (e ∷ es) each (suc k) lt = entries_behind used es (λ f (j, below, is). each f (suc j, omega arith, is)) k (omega arith)
 
 -- what is written of a change's units stands where they do
-pub patches_behind : (used : ℕ) (m : BTreeMap ℕ (List ℕ)) → IsStrictlySortedBy nat_cmp (keys m) → IsBehind used (λ q. get nat_cmp m q) → (items : List Patch) → items ≡ map patch_of m.entries
+pub patches_behind : (used : ℕ) (m : BTreeMap ℕ (List ℕ)) → IsStrictlySortedBy nat_cmp (keys m) → IsBehind used (λ q. get nat_cmp m q)
+    → (items : List Patch) → items ≡ map patch_of m.entries
     → (k : ℕ) → k < length items → (1 ≤ (patch_at items k).unit) × ((patch_at items k).unit < used)
 patches_behind used m ordered behind items is =
     subst (λ (ps : List Patch). (k : ℕ) → k < length ps → (1 ≤ (patch_at ps k).unit) × ((patch_at ps k).unit < used)) (sym is)

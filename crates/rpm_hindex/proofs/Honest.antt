@@ -15,9 +15,10 @@ use Rattle.rpm_hindex.specs.Words.{word}
 use Rattle.rpm_hindex.specs.Rows.{Row}
 use Rattle.rpm_hindex.specs.Answers.{HitsAre}
 use Rattle.rpm_hindex.specs.Sizes.{first_record, record_units}
-use Rattle.rpm_hindex.specs.Records.{IsOpen}
+use Rattle.rpm_hindex.specs.inner.Records.{IsOpen}
 use Rattle.rpm_hindex.specs.Index.{Index, index_in, is_link, chain, units_at, length_at, bucket_unit, places_of, places_in, all_places}
-use Rattle.rpm_hindex.specs.Changes.{AreLinks, CanGo, CanRelink, IsOfRow, row_of, Puts, HasWord, SetsBucket, Unlinks, UnlinksIn, changing, unit_after, is_kept, first_at, IsWithout, IsChainFault, HoldsMore, IsBad, IsHonest, if_kept}
+use Rattle.rpm_hindex.specs.inner.Changes.{AreLinks, CanGo, CanRelink, IsOfRow, row_of, Puts, HasWord, SetsBucket, Unlinks, UnlinksIn, changing, unit_after, is_kept, first_at, IsWithout, IsChainFault, IsHonest, if_kept}
+use Rattle.rpm_hindex.specs.Refusals.{HoldsMore, IsBad}
 use Rattle.rpm_hindex.proofs.Chains.{chain_bad}
 use Rattle.rpm_hindex.proofs.Follows.{link_at, within, behind_front, chain_ok}
 use Rattle.rpm_hindex.proofs.Extends.{Stands, stands_in}
@@ -50,11 +51,18 @@ sum_falls f g v [] p (k, lt, e) here others = absurd (omega arith)
 sum_falls f g v (q ∷ ps) p (zero, lt, e) here others =
     let mine : g q + v ≤ f q = subst (λ (k : ℕ). g k + v ≤ f k) (sym e) here in
     omega (arith, sum_by-cons f q ps, sum_by-cons g q ps, mine, sum_most f g ps others)
-sum_falls f g v (q ∷ ps) p (suc k, lt, e) here others = omega (arith, sum_by-cons f q ps, sum_by-cons g q ps, others q, sum_falls f g v ps p (k, omega arith, e) here others)
+sum_falls f g v (q ∷ ps) p (suc k, lt, e) here others = omega (
+  arith,
+  sum_by-cons f q ps,
+  sum_by-cons g q ps,
+  others q,
+  sum_falls f g v ps p (k, omega arith, e) here others,
+)
 
 module _ (kept later : ℕ → Bool) (f : ℕ → ℕ) (p : ℕ) where
   -- what is kept without p
-  pub kept_falls : (ps : List ℕ) → Contains ps p → kept p ≡ true → later p ≡ false → ((q : ℕ) → (q ≡ p → ⊥) → later q ≡ kept q) → sum_by (if_kept later f) ps + f p ≤ sum_by (if_kept kept f) ps
+  pub kept_falls : (ps : List ℕ) → Contains ps p → kept p ≡ true → later p ≡ false → ((q : ℕ) → (q ≡ p → ⊥) → later q ≡ kept q)
+      → sum_by (if_kept later f) ps + f p ≤ sum_by (if_kept kept f) ps
   kept_falls ps c stays gone others =
       let was : if_kept kept f p ≡ f p = cond-true (kept p) (f p) 0 stays in
       let is : if_kept later f p ≡ 0 = cond-false (later p) (f p) 0 gone in
@@ -88,7 +96,8 @@ abbrev AllFront : ℕ → ℕ → List Link → Type 0
 AllFront front used [] = Unit {0}
 AllFront front used (l ∷ ls) = (front ≤ l.at) × (l.at < used) × AllFront front used ls
 
-front_links : (front used : ℕ) (u : ℕ → List ℕ) (qs : List ℕ) (ls : List Link) → AreLinks u qs ls → ((q : ℕ) → Contains qs q → (front ≤ q) × (q < used)) → AllFront front used ls
+front_links : (front used : ℕ) (u : ℕ → List ℕ) (qs : List ℕ) (ls : List Link) → AreLinks u qs ls → ((q : ℕ) → Contains qs q → (front ≤ q)
+    × (q < used)) → AllFront front used ls
 front_links front used u [] [] are all = tt
 front_links front used u [] (l ∷ ls) are all = absurd are
 front_links front used u (q ∷ qs) [] are all = absurd are
@@ -100,13 +109,16 @@ front_links front used u (q ∷ qs) (l ∷ ls) are all =
 abbrev PutsFrom : ℕ → (ℕ → Option (List ℕ)) → (ℕ → Option (List ℕ)) → Type 0
 PutsFrom front old new = (key : ℕ) × (w : List ℕ) × (front ≤ key) × Puts old new key w
 
-unlinked : (front used : ℕ) (old new : ℕ → Option (List ℕ)) (ls : List Link) (d : Link) (k : ℕ) → front ≤ d.at → AllFront front used ls → UnlinksIn old new d ls k → PutsFrom front old new
+unlinked : (front used : ℕ) (old new : ℕ → Option (List ℕ)) (ls : List Link) (d : Link) (k : ℕ) → front ≤ d.at → AllFront front used ls
+    → UnlinksIn old new d ls k → PutsFrom front old new
 unlinked front used old new [] d k le all sets = absurd sets
 unlinked front used old new (l ∷ ls) d zero le all sets = (d.at, sets.words, le, sets.put)
 unlinked front used old new (l ∷ ls) d (suc k) le all sets = unlinked front used old new ls l k all.0 all.2 sets
 
-module _ (c : Change) (file : Units) (go : CanGo c) (opens : IsOpen c.extent file) (b : ℕ) (below : b < c.extent.buckets) (said : chain (index_in c.extent.buckets file) b ≡ Ok (places_of (index_in c.extent.buckets file) b))
-    (links : List Link) (are : AreLinks (unit_at file) (filter (is_kept (λ p. get nat_cmp c.dropped p)) (places_of (index_in c.extent.buckets file) b)) links) (can : CanRelink c.extent.used links)
+module _ (c : Change) (file : Units) (go : CanGo c) (opens : IsOpen c.extent file) (b : ℕ) (below : b < c.extent.buckets)
+    (said : chain (index_in c.extent.buckets file) b ≡ Ok (places_of (index_in c.extent.buckets file) b))
+    (links : List Link) (are : AreLinks (unit_at file) (filter (is_kept (λ p. get nat_cmp c.dropped p)) (places_of (index_in c.extent.buckets file)
+    b)) links) (can : CanRelink c.extent.used links)
     (at : ℕ) (lt : at < length links) (honest : IsHonest c file) where
   abbrev x : Index
   x = index_in c.extent.buckets file
@@ -141,7 +153,8 @@ module _ (c : Change) (file : Units) (go : CanGo c) (opens : IsOpen c.extent fil
       (in_places x b l.at below q.0, q.1)
 
   -- unit 1 counts too little
-  pub drops_more : (row : Row) (n : ℕ) → IsOfRow row links at → n ≡ record_units (length row.key) → (c.records ≡ 0) ⊎ (c.live < n) → HoldsMore c.extent.buckets file
+  pub drops_more : (row : Row) (n : ℕ) → IsOfRow row links at → n ≡ record_units (length row.key) → (c.records ≡ 0) ⊎ (c.live < n)
+      → HoldsMore c.extent.buckets file
   drops_more row n found is why =
       let nth = nth_link links at lt in
       let l = nth.0 in
@@ -174,9 +187,11 @@ module _ (c : Change) (file : Units) (go : CanGo c) (opens : IsOpen c.extent fil
 
     behind : PutsFrom (first_record c.extent.buckets) (λ q. get nat_cmp c.units q) (λ q. get nat_cmp units q) → (a : ℕ) → a < c.extent.buckets → Head a
     behind (key, w, le, put) a in' =
-        as_was a in' (ap (λ (o : Option (List ℕ)). word (a % 4) (unwrap_or o (unit_at file (bucket_unit a)))) (put.others (bucket_unit a) (λ e. absurd (omega (arith, e, le, in', go.fours)))))
+        as_was a in' (ap (λ (o : Option (List ℕ)). word (a % 4) (unwrap_or o (unit_at file (bucket_unit a))))
+        (put.others (bucket_unit a) (λ e. absurd (omega (arith, e, le, in', go.fours)))))
 
-    first : (ls : List Link) → AllFront (first_record c.extent.buckets) c.extent.used ls → SetsBucket file (λ q. get nat_cmp c.units q) (λ q. get nat_cmp units q) b (first_at ls) → (a : ℕ) → a < c.extent.buckets → Head a
+    first : (ls : List Link) → AllFront (first_record c.extent.buckets) c.extent.used ls → SetsBucket file (λ q. get nat_cmp c.units q)
+        (λ q. get nat_cmp units q) b (first_at ls) → (a : ℕ) → a < c.extent.buckets → Head a
     first ls all sets a in' =
         let key = bucket_unit b in
         let words : unit_after (λ q. get nat_cmp units q) file key ≡ sets.words = ap (λ (o : Option (List ℕ)). unwrap_or o (unit_at file key)) sets.put.here in
@@ -192,12 +207,14 @@ module _ (c : Change) (file : Units) (go : CanGo c) (opens : IsOpen c.extent fil
           ])
         ]
 
-    heads : (ls : List Link) (k : ℕ) → AllFront (first_record c.extent.buckets) c.extent.used ls → Unlinks file (λ q. get nat_cmp c.units q) (λ q. get nat_cmp units q) b ls k → (a : ℕ) → a < c.extent.buckets → Head a
+    heads : (ls : List Link) (k : ℕ) → AllFront (first_record c.extent.buckets) c.extent.used ls → Unlinks file (λ q. get nat_cmp c.units q)
+        (λ q. get nat_cmp units q) b ls k → (a : ℕ) → a < c.extent.buckets → Head a
     heads [] k all sets = absurd sets
     heads (l ∷ ls) zero all sets = first ls all.2 sets
     heads (l ∷ ls) (suc k) all sets = behind (unlinked _ c.extent.used _ _ ls l k all.0 all.2 sets)
 
-    pub drops_honest : (l : Link) → l ≡ slice_index_or links at l → Unlinks file (λ q. get nat_cmp c.units q) (λ q. get nat_cmp units q) b links at → n ≡ record_units (length l.«record».key.items)
+    pub drops_honest : (l : Link) → l ≡ slice_index_or links at l → Unlinks file (λ q. get nat_cmp c.units q) (λ q. get nat_cmp units q) b links at
+        → n ≡ record_units (length l.«record».key.items)
         → Puts (λ q. get nat_cmp c.dropped q) (λ q. get nat_cmp dropped q) l.at l.at → 0 < c.records → n ≤ c.live → IsHonest d file
     drops_honest l is sets long put some enough =
         let m = mine l is in
@@ -221,7 +238,8 @@ link_more y z at same more link = elim (cases_eq at 0) [
 ]
 
 -- a bucket's word that is no link is as it was
-pub bad_head : (c : Change) (file : Units) → IsOpen c.extent file → IsHonest c file → (b next : ℕ) → b < c.extent.buckets → next ≡ (changing c file).head b → is_link (changing c file) next ≡ false → IsBad c.extent.buckets file (BadIndex (2 + b / 4))
+pub bad_head : (c : Change) (file : Units) → IsOpen c.extent file → IsHonest c file → (b next : ℕ) → b < c.extent.buckets → next
+    ≡ (changing c file).head b → is_link (changing c file) next ≡ false → IsBad c.extent.buckets file (BadIndex (2 + b / 4))
 bad_head c file opens honest b next below is no' =
     let x : Index = index_in c.extent.buckets file in
     let y : Index = changing c file in
@@ -238,14 +256,17 @@ module _ (c : Change) (file : Units) (go : CanGo c) (b : ℕ) (below : b < c.ext
   abbrev added : Change
   added = record { extent = c.extent; units = units; dropped = c.dropped; tail = tail; records = c.records + 1; live = c.live + live }
 
-  pub adds_honest : (words w : List ℕ) (u : ℕ) → words ≡ unit_after (λ q. get nat_cmp c.units q) file (bucket_unit b) → u ≡ c.extent.used + length c.tail.items / 16 → HasWord words w (b % 4) u
-      → Puts (λ q. get nat_cmp c.units q) (λ q. get nat_cmp units q) (bucket_unit b) w → length c.tail.items / 16 < length tail.items / 16 → IsHonest c file → IsHonest added file
+  pub adds_honest : (words w : List ℕ) (u : ℕ) → words ≡ unit_after (λ q. get nat_cmp c.units q) file (bucket_unit b) → u ≡ c.extent.used + length
+      c.tail.items / 16 → HasWord words w (b % 4) u
+      → Puts (λ q. get nat_cmp c.units q) (λ q. get nat_cmp units q) (bucket_unit b) w → length c.tail.items / 16 < length tail.items / 16
+      → IsHonest c file → IsHonest added file
   adds_honest words w u words_are u_is has put longer honest =
       let y : Index = changing c file in
       let z : Index = changing added file in
       let key = bucket_unit b in
       let now : unit_after (λ q. get nat_cmp units q) file key ≡ w = ap (λ (o : Option (List ℕ)). unwrap_or o (unit_at file key)) put.here in
-      let as_was : (a : ℕ) → a < c.extent.buckets → z.head a ≡ y.head a → (is_link z (z.head a) ≡ true) ⊎ (z.head a ≡ (index_in c.extent.buckets file).head a) = λ a lt same. elim (honest.heads a lt) [
+      let as_was : (a : ℕ) → a < c.extent.buckets → z.head a ≡ y.head a → (is_link z (z.head a) ≡ true)
+      ⊎ (z.head a ≡ (index_in c.extent.buckets file).head a) = λ a lt same. elim (honest.heads a lt) [
         | inl link ↦ inl (ap (is_link z) same ∙ link_more y z (y.head a) refl (omega (arith, longer)) link)
         | inr is ↦ inr (same ∙ is)
       ] in
@@ -276,7 +297,8 @@ kept_most kept f ps = sum_most f (if_kept kept f) ps (λ q. elim (cases_Bool (ke
   | inr gone ↦ let is : if_kept kept f q ≡ 0 = cond-false (kept q) (f q) 0 gone in omega (arith, is)
 ])
 
-pub starts_honest : (c : Change) (file : Units) → ((q : ℕ) → get nat_cmp c.units q ≡ None) → c.records ≡ word 1 (unit_at file 1) → c.live ≡ word 2 (unit_at file 1) → IsHonest c file
+pub starts_honest : (c : Change) (file : Units) → ((q : ℕ) → get nat_cmp c.units q ≡ None) → c.records ≡ word 1 (unit_at file 1) → c.live
+    ≡ word 2 (unit_at file 1) → IsHonest c file
 starts_honest c file empty records_are live_is =
     let ps = all_places (index_in c.extent.buckets file) in
     let kept : ℕ → Bool = is_kept (λ p. get nat_cmp c.dropped p) in

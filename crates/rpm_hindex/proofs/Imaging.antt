@@ -6,13 +6,13 @@ use Rattle.std.proofs.lemmas.List.{get_or_append_left, get_or-append_right, get_
 use Rattle.std.proofs.lemmas.Nat.{from_le_bytes-to_le_bytes_4}
 use Rattle.std.proofs.lemmas.Bool.{cases_eq}
 use Rattle.rpm_outside.specs.Files.{Units, units_of, unit_at}
-use Rattle.rpm_outside.specs.Cuts.{length-cut_up, unit_at-cut_up}
+use Rattle.rpm_outside.specs.inner.Cuts.{length-cut_up, unit_at-cut_up}
 use Rattle.rpm_hindex.specs.Words.{word, bytes_of_word, unit_of_words}
 use Rattle.rpm_hindex.specs.Rows.{Row, times}
 use Rattle.rpm_hindex.specs.Sizes.{first_record, live_of, is_bucket_count}
 use Rattle.rpm_hindex.specs.Index.{Index, index_in, places_of}
 use Rattle.rpm_hindex.specs.Whole.{IsWhole}
-use Rattle.rpm_hindex.specs.Drafts.{draft_index, IsDraft, IsImage, IsMade, Holds}
+use Rattle.rpm_hindex.specs.inner.Drafts.{draft_index, IsDraft, IsImage, IsMade, Holds}
 use Rattle.rpm_hindex.proofs.UnitWords.{length-unit, word_0, word_1, word_2}
 use Rattle.rpm_hindex.proofs.Follows.{within}
 use Rattle.rpm_hindex.proofs.Wholes.{has_chains}
@@ -65,7 +65,8 @@ unfolding bytes_of_word
 word_back m lt = from_le_bytes-to_le_bytes_4 m lt
 
 -- word b of the units behind the first
-word_of : (bytes : List ℕ) (b : ℕ) → 16 + 4 * b + 4 ≤ length bytes → length bytes % 16 ≡ 0 → (n : ℕ) → ((i : ℕ) → i < 4 → get_or bytes (16 + 4 * b + i) 0 ≡ get_or (bytes_of_word n) i 0) → n < 2 ^ 32 → word (b % 4) (unit_at (units_of bytes) (1 + b / 4)) ≡ n
+word_of : (bytes : List ℕ) (b : ℕ) → 16 + 4 * b + 4 ≤ length bytes → length bytes % 16 ≡ 0 → (n : ℕ)
+    → ((i : ℕ) → i < 4 → get_or bytes (16 + 4 * b + i) 0 ≡ get_or (bytes_of_word n) i 0) → n < 2 ^ 32 → word (b % 4) (unit_at (units_of bytes) (1 + b / 4)) ≡ n
 unfolding word
 word_of bytes b le whole n same small =
     let here : (i : ℕ) → i < 4 → get_or (drop (4 * (b % 4)) (unit_at (units_of bytes) (1 + b / 4))) i 0 ≡ get_or (bytes_of_word n) i 0 = λ i lt.
@@ -89,12 +90,24 @@ module _ (rows : List Row) (buckets : ℕ) (heads bytes second all : List ℕ)
 
   length_all : length all ≡ length bytes
   length_all =
-      omega (arith, ap length is, length-append (second ++ flat_map bytes_of_word heads) (drop (16 + 4 * buckets) bytes), length-append second (flat_map bytes_of_word heads), length_second, length_words heads, many, long, length-drop (16 + 4 * buckets) bytes, f.fours)
+      omega (
+        arith,
+        ap length is,
+        length-append (second ++ flat_map bytes_of_word heads) (drop (16 + 4 * buckets) bytes),
+        length-append second (flat_map bytes_of_word heads),
+        length_second,
+        length_words heads,
+        many,
+        long,
+        length-drop (16 + 4 * buckets) bytes,
+        f.fours,
+      )
 
   -- the units behind the front are those of the draft
   rest_byte : (j : ℕ) → 16 + 4 * buckets ≤ j → get_or all j 0 ≡ get_or bytes j 0
   rest_byte j from =
-      let front : length (second ++ flat_map bytes_of_word heads) ≡ 16 + 4 * buckets = omega (arith, length-append second (flat_map bytes_of_word heads), length_second, length_words heads, many) in
+      let front : length (second ++ flat_map bytes_of_word heads) ≡ 16 + 4 * buckets = omega
+      (arith, length-append second (flat_map bytes_of_word heads), length_second, length_words heads, many) in
       let at : 16 + 4 * buckets + (j - (16 + 4 * buckets)) ≡ j = omega arith in
       ap (λ (bs : List ℕ). get_or bs j 0) is
       ∙ get_or-append_right (second ++ flat_map bytes_of_word heads) (drop (16 + 4 * buckets) bytes) (16 + 4 * buckets) j 0 front from
@@ -103,13 +116,15 @@ module _ (rows : List Row) (buckets : ℕ) (heads bytes second all : List ℕ)
 
   rest_unit : (k : ℕ) → 1 + buckets / 4 ≤ k → k < length bytes / 16 → unit_at (units_of all) k ≡ unit_at (units_of bytes) k
   rest_unit k from to =
-      let front : length (second ++ flat_map bytes_of_word heads) ≡ 16 + 4 * buckets = omega (arith, length-append second (flat_map bytes_of_word heads), length_second, length_words heads, many) in
+      let front : length (second ++ flat_map bytes_of_word heads) ≡ 16 + 4 * buckets = omega
+      (arith, length-append second (flat_map bytes_of_word heads), length_second, length_words heads, many) in
       let step = 16 * k - (16 + 4 * buckets) in
       let at : 16 + 4 * buckets + step ≡ 16 * k = omega (arith, f.fours) in
       let same : drop (16 * k) all ≡ drop (16 * k) bytes =
       ap (λ (j : ℕ). drop j all) (sym at)
       ∙ sym (drop-drop step (16 + 4 * buckets) all)
-      ∙ ap (drop step) (ap (drop (16 + 4 * buckets)) is ∙ drop_at (second ++ flat_map bytes_of_word heads) (drop (16 + 4 * buckets) bytes) (16 + 4 * buckets) front)
+      ∙ ap (drop step) (ap (drop (16 + 4 * buckets)) is ∙ drop_at (second ++ flat_map bytes_of_word heads) (drop (16 + 4 * buckets) bytes)
+      (16 + 4 * buckets) front)
       ∙ drop-drop step (16 + 4 * buckets) bytes
       ∙ ap (λ (j : ℕ). drop j bytes) at in
       unit_at-cut_up (length all / 16) all k (omega (arith, length_all)) ∙ ap (take 16) same ∙ sym (unit_at-cut_up (length bytes / 16) bytes k to)
@@ -118,14 +133,16 @@ module _ (rows : List Row) (buckets : ℕ) (heads bytes second all : List ℕ)
   first_unit =
       unit_at-cut_up (length all / 16) all 0 (omega (arith, length_all, long))
       ∙ ap (take 16) is
-      ∙ take-append-le 16 (second ++ flat_map bytes_of_word heads) (drop (16 + 4 * buckets) bytes) (omega (arith, length-append second (flat_map bytes_of_word heads), length_second))
+      ∙ take-append-le 16 (second ++ flat_map bytes_of_word heads) (drop (16 + 4 * buckets) bytes)
+      (omega (arith, length-append second (flat_map bytes_of_word heads), length_second))
       ∙ take_at second (flat_map bytes_of_word heads) 16 length_second
 
   head_word : (b : ℕ) → b < buckets → get_or heads b 0 < 2 ^ 32 → word (b % 4) (unit_at (units_of all) (1 + b / 4)) ≡ get_or heads b 0
   head_word b lt small = word_of all b (omega (arith, length_all, long, f.fours)) (omega (arith, length_all, long)) (get_or heads b 0) (λ i l.
       let at : 16 + 4 * b + i - 16 ≡ 4 * b + i = omega arith in
       ap (λ (bs : List ℕ). get_or bs (16 + 4 * b + i) 0) is
-      ∙ get_or_append_left (second ++ flat_map bytes_of_word heads) (drop (16 + 4 * buckets) bytes) 0 (16 + 4 * b + i) (omega (arith, length-append second (flat_map bytes_of_word heads), length_second, length_words heads, many))
+      ∙ get_or_append_left (second ++ flat_map bytes_of_word heads) (drop (16 + 4 * buckets) bytes) 0 (16 + 4 * b + i)
+      (omega (arith, length-append second (flat_map bytes_of_word heads), length_second, length_words heads, many))
       ∙ get_or-append_right second (flat_map bytes_of_word heads) 16 (16 + 4 * b + i) 0 length_second (omega arith)
       ∙ ap (λ (k : ℕ). get_or (flat_map bytes_of_word heads) k 0) at
       ∙ words_at heads b i (omega (arith, many)) l) small
@@ -174,9 +191,11 @@ module _ (rows : List Row) (buckets : ℕ) (heads bytes second all : List ℕ)
         let whole = whole_same (draft_index heads bytes) (index_in buckets file) extends heads_are (length rows) (live_of rows) draft.whole in
         let one : word 1 (unit_at file 1) ≡ length rows = ap (word 1) (front_unit ∙ counts) ∙ word_1 _ _ _ _ few_rows in
         let two : word 2 (unit_at file 1) ≡ live_of rows = ap (word 2) (front_unit ∙ counts) ∙ word_2 _ _ _ _ (omega (arith, room)) in
-        let all_rows = rows_same (draft_index heads bytes) (index_in buckets file) extends heads_are (places_of (draft_index heads bytes)) (has_chains (draft_index heads bytes) draft.whole.chains) in
+        let all_rows = rows_same (draft_index heads bytes) (index_in buckets file) extends heads_are (places_of (draft_index heads bytes))
+        (has_chains (draft_index heads bytes) draft.whole.chains) in
         record {
-          whole = subst (λ (n : ℕ). IsWhole n (word 2 (unit_at file 1)) (index_in buckets file)) (sym one) (subst (λ (n : ℕ). IsWhole (length rows) n (index_in buckets file)) (sym two) whole);
+          whole = subst (λ (n : ℕ). IsWhole n (word 2 (unit_at file 1)) (index_in buckets file)) (sym one)
+              (subst (λ (n : ℕ). IsWhole (length rows) n (index_in buckets file)) (sym two) whole);
           same = λ r. ap (times r) all_rows ∙ draft.same r;
         }
 

@@ -7,7 +7,7 @@ use Rattle.std.proofs.lemmas.Bool.{cases_Bool, cond-true, cond-false, and_parts,
 use Rattle.std.proofs.lemmas.Slice.Eq.{bytes_eq-Decides}
 use Rattle.rpm_hindex.specs.Rows.{Row, times, same_row as same_rows}
 use Rattle.rpm_hindex.specs.Index.{Index, next_at, row_at, bucket_of, places_of, all_places, rows_of}
-use Rattle.rpm_hindex.specs.Changes.{kept_of, HasLess}
+use Rattle.rpm_hindex.specs.inner.Changes.{kept_of, HasLess}
 use Rattle.rpm_hindex.proofs.Chains.{sound_parts}
 use Rattle.rpm_hindex.proofs.Follows.{IsChain}
 use Rattle.rpm_hindex.proofs.Wholes.{HasChains, in_all, sound_of}
@@ -50,20 +50,24 @@ pub times_kept : (x : Index) (kept : ℕ → Bool) (r : Row) → times r (kept_o
 unfolding all_places
 times_kept x kept r =
     times_flat r (λ (b : ℕ). map (row_at x.unit) (filter kept (places_of x b))) 0 x.buckets
-    ∙ sum_same (λ b. times r (map (row_at x.unit) (filter kept (places_of x b)))) (λ b. sum_by (kept_tally x.unit kept r) (places_of x b)) 0 x.buckets (λ b ge lt. times_filter x.unit kept r (places_of x b))
+    ∙ sum_same (λ b. times r (map (row_at x.unit) (filter kept (places_of x b)))) (λ b. sum_by (kept_tally x.unit kept r) (places_of x b)) 0 x.buckets
+    (λ b ge lt. times_filter x.unit kept r (places_of x b))
     ∙ sym (sum_flat (kept_tally x.unit kept r) (places_of x) 0 x.buckets)
 
 -- where all are kept
 pub kept_all : (x : Index) (kept : ℕ → Bool) (r : Row) → ((q : ℕ) → kept q ≡ true) → times r (kept_of x kept) ≡ times r (rows_of x)
-kept_all x kept r all = times_kept x kept r ∙ sum_each (kept_tally x.unit kept r) (tally x.unit r) (all_places x) (λ q c. cond-true (kept q) (tally x.unit r q) 0 (all q)) ∙ sym (times_rows x r)
+kept_all x kept r all = times_kept x kept r ∙ sum_each (kept_tally x.unit kept r) (tally x.unit r) (all_places x)
+    (λ q c. cond-true (kept q) (tally x.unit r q) 0 (all q)) ∙ sym (times_rows x r)
 
 -- ---- a place more is dropped
 
-chain_sum : (x : Index) (b at : ℕ) (ps : List ℕ) → IsChain x b at ps → (p : ℕ) → Contains ps p → (f g : ℕ → ℕ) (v : ℕ) → f p ≡ g p + v → ((q : ℕ) → (q ≡ p → ⊥) → f q ≡ g q) → sum_by f ps ≡ sum_by g ps + v
+chain_sum : (x : Index) (b at : ℕ) (ps : List ℕ) → IsChain x b at ps → (p : ℕ) → Contains ps p → (f g : ℕ → ℕ) (v : ℕ) → f p ≡ g p + v
+    → ((q : ℕ) → (q ≡ p → ⊥) → f q ≡ g q) → sum_by f ps ≡ sum_by g ps + v
 chain_sum x b at [] is p (k, lt, e) f g v here others = absurd (omega arith)
 chain_sum x b at (q ∷ ps) (is, some, sound, rest) p (zero, lt, e) f g v here others =
     let s = sound_parts x b q sound in
-    let same : sum_by f ps ≡ sum_by g ps = sum_each f g ps (λ r c. others r (λ again. absurd (omega (arith, chain_falls x b (next_at x.unit q) ps rest r c, s.falls, e, again)))) in
+    let same : sum_by f ps ≡ sum_by g ps = sum_each f g ps
+    (λ r c. others r (λ again. absurd (omega (arith, chain_falls x b (next_at x.unit q) ps rest r c, s.falls, e, again)))) in
     let one : f q ≡ g q + v = subst (λ (k : ℕ). f k ≡ g k + v) (sym e) here in
     omega (arith, sum_by-cons f q ps, sum_by-cons g q ps, same, one)
 chain_sum x b at (q ∷ ps) (is, some, sound, rest) p (suc k, lt, e) f g v here others =
@@ -73,7 +77,8 @@ chain_sum x b at (q ∷ ps) (is, some, sound, rest) p (suc k, lt, e) f g v here 
     omega (arith, sum_by-cons f q ps, sum_by-cons g q ps, same, chain_sum x b (next_at x.unit q) ps rest p c f g v here others)
 
 module _ (x : Index) (has : HasChains x (places_of x)) where
-  all_sum : (b p : ℕ) → b < x.buckets → Contains (places_of x b) p → (f g : ℕ → ℕ) (v : ℕ) → f p ≡ g p + v → ((q : ℕ) → (q ≡ p → ⊥) → f q ≡ g q) → sum_by f (all_places x) ≡ sum_by g (all_places x) + v
+  all_sum : (b p : ℕ) → b < x.buckets → Contains (places_of x b) p → (f g : ℕ → ℕ) (v : ℕ) → f p ≡ g p + v → ((q : ℕ) → (q ≡ p → ⊥) → f q ≡ g q)
+      → sum_by f (all_places x) ≡ sum_by g (all_places x) + v
   unfolding all_places
   all_sum b p below c f g v here others =
       let elsewhere : (d : ℕ) → 0 ≤ d → d < 0 + x.buckets → (d ≡ b → ⊥) → sum_by f (places_of x d) ≡ sum_by g (places_of x d) = λ d ge lt other.
@@ -82,10 +87,12 @@ module _ (x : Index) (has : HasChains x (places_of x)) where
       let t = sound_parts x b p ((sound_of x (places_of x) has b p below c).1) in
       other (sym s.bucket ∙ ap (λ (k : ℕ). bucket_of x.buckets (row_at x.unit k)) same ∙ t.bucket))) in
       sum_flat f (places_of x) 0 x.buckets
-      ∙ sum_at (λ d. sum_by f (places_of x d)) (λ d. sum_by g (places_of x d)) b v 0 x.buckets (omega arith) (omega arith) (chain_sum x b (x.head b) (places_of x b) ((has b below).1) p c f g v here others) elsewhere
+      ∙ sum_at (λ d. sum_by f (places_of x d)) (λ d. sum_by g (places_of x d)) b v 0 x.buckets (omega arith) (omega arith)
+      (chain_sum x b (x.head b) (places_of x b) ((has b below).1) p c f g v here others) elsewhere
       ∙ ap (λ (n : ℕ). n + v) (sym (sum_flat g (places_of x) 0 x.buckets))
 
-  pub kept_less_one : (b p : ℕ) → b < x.buckets → Contains (places_of x b) p → (kept later : ℕ → Bool) → kept p ≡ true → later p ≡ false → ((q : ℕ) → (q ≡ p → ⊥) → later q ≡ kept q) → (r : Row)
+  pub kept_less_one : (b p : ℕ) → b < x.buckets → Contains (places_of x b) p → (kept later : ℕ → Bool) → kept p ≡ true → later p ≡ false
+      → ((q : ℕ) → (q ≡ p → ⊥) → later q ≡ kept q) → (r : Row)
       → times r (kept_of x kept) ≡ times r (kept_of x later) + tally x.unit r p
   kept_less_one b p below c kept later stays gone others r =
       let one : kept_tally x.unit kept r p ≡ tally x.unit r p = cond-true (kept p) (tally x.unit r p) 0 stays in
@@ -98,7 +105,8 @@ module _ (x : Index) (has : HasChains x (places_of x)) where
       ∙ ap (λ (n : ℕ). n + tally x.unit r p) (sym (times_kept x later r))
 
   -- a row that none of its bucket's kept places has is nowhere
-  pub kept_none : (row : Row) (kept : ℕ → Bool) → ((q : ℕ) → Contains (places_of x (bucket_of x.buckets row)) q → kept q ≡ true → same_rows row (row_at x.unit q) ≡ false) → times row (kept_of x kept) ≡ 0
+  pub kept_none : (row : Row) (kept : ℕ → Bool) → ((q : ℕ) → Contains (places_of x (bucket_of x.buckets row)) q → kept q ≡ true → same_rows row
+      (row_at x.unit q) ≡ false) → times row (kept_of x kept) ≡ 0
   kept_none row kept none = times_kept x kept row ∙ zeros_of (kept_tally x.unit kept row) (all_places x) (λ q c.
       elim (cases_Bool (kept q)) [
         | inr gone ↦ cond-false (kept q) (tally x.unit row q) 0 gone
@@ -136,7 +144,8 @@ module _ (x : Index) (has : HasChains x (places_of x)) (row : Row) (kept : ℕ �
     | inl same ↦ let zeros : times r (kept_of x kept) ≡ 0 = ap (λ (q : Row). times q (kept_of x kept)) (same_is r row same) ∙ none in omega (arith, zeros)
   ]
 
-  pub less_one : (b p : ℕ) → b < x.buckets → Contains (places_of x b) p → row ≡ row_at x.unit p → (later : ℕ → Bool) → kept p ≡ true → later p ≡ false → ((q : ℕ) → (q ≡ p → ⊥) → later q ≡ kept q)
+  pub less_one : (b p : ℕ) → b < x.buckets → Contains (places_of x b) p → row ≡ row_at x.unit p → (later : ℕ → Bool) → kept p ≡ true → later p ≡ false
+      → ((q : ℕ) → (q ≡ p → ⊥) → later q ≡ kept q)
       → HasLess (row ∷ []) (kept_of x kept) (kept_of x later)
   less_one b p below c is later stays gone others r =
       let one : tally x.unit r p ≡ times r (row ∷ []) = ap (λ (q : Row). cond (same_rows r q) 1 0) (sym is) ∙ sym (times_one r row) in

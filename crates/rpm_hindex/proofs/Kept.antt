@@ -20,7 +20,8 @@ filter_none p (q ∷ qs) none =
     cond-true (is_other p q) (q ∷ filter (is_other p) qs) (filter (is_other p) qs) yes'
     ∙ ap (λ (rs : List ℕ). q ∷ rs) (filter_none p qs (λ r (k, lt, e). none r (suc k, omega arith, e)))
 
-filter_one : (p : ℕ) (pre post : List ℕ) → ((q : ℕ) → Contains pre q → q ≡ p → ⊥) → ((q : ℕ) → Contains post q → q ≡ p → ⊥) → filter (is_other p) (pre ++ p ∷ post) ≡ pre ++ post
+filter_one : (p : ℕ) (pre post : List ℕ) → ((q : ℕ) → Contains pre q → q ≡ p → ⊥) → ((q : ℕ) → Contains post q → q ≡ p → ⊥) → filter (is_other p)
+    (pre ++ p ∷ post) ≡ pre ++ post
 filter_one p [] post before behind =
     let gone : is_other p p ≡ false = ap not (eq-eqb p p refl) in
     cond-false (is_other p p) (p ∷ filter (is_other p) post) (filter (is_other p) post) gone ∙ filter_none p post behind
@@ -30,7 +31,8 @@ filter_one p (q ∷ pre) post before behind =
     ∙ ap (λ (rs : List ℕ). q ∷ rs) (filter_one p pre post (λ r (k, lt, e). before r (suc k, omega arith, e)) behind)
 
 -- keeping by a test that passes all but p more
-filter_twice : (p : ℕ) (kept later : ℕ → Bool) → ((q : ℕ) → later q ≡ (kept q && is_other p q)) → (qs : List ℕ) → filter later qs ≡ filter (is_other p) (filter kept qs)
+filter_twice : (p : ℕ) (kept later : ℕ → Bool) → ((q : ℕ) → later q ≡ (kept q && is_other p q)) → (qs : List ℕ) → filter later qs
+    ≡ filter (is_other p) (filter kept qs)
 filter_twice p kept later both [] = refl
 filter_twice p kept later both (q ∷ qs) = elim (cases_Bool (kept q)) [
   | inl stays ↦
@@ -61,7 +63,8 @@ behind_it x b at [] p post (is, some, sound, rest) q c same =
     absurd (omega (arith, later, (sound_parts x b p sound).falls, same))
 behind_it x b at (r ∷ pre) p post (is, some, sound, rest) q c same = behind_it x b (next_at x.unit r) pre p post rest q c same
 
-module _ (x : Index) (ks : ℕ → List ℕ) (has : HasChains x ks) (b : ℕ) (below : b < x.buckets) (pre : List ℕ) (p : ℕ) (post : List ℕ) (is : ks b ≡ pre ++ p ∷ post) where
+module _ (x : Index) (ks : ℕ → List ℕ) (has : HasChains x ks) (b : ℕ) (below : b < x.buckets) (pre : List ℕ) (p : ℕ) (post : List ℕ)
+    (is : ks b ≡ pre ++ p ∷ post) where
   chain_is : IsChain x b (x.head b) (pre ++ p ∷ post)
   chain_is = subst (IsChain x b (x.head b)) is (has b below).1
 
@@ -73,7 +76,8 @@ module _ (x : Index) (ks : ℕ → List ℕ) (has : HasChains x ks) (b : ℕ) (b
       other (sym s.bucket ∙ ap (λ (k : ℕ). bucket_of x.buckets (row_at x.unit k)) same ∙ t.bucket)
 
   -- dropping p in the chains that keep what a test passes
-  pub kept_less : (ps : ℕ → List ℕ) (kept later : ℕ → Bool) → ((c : ℕ) → c < x.buckets → ks c ≡ filter kept (ps c)) → ((q : ℕ) → later q ≡ (kept q && is_other p q))
+  pub kept_less : (ps : ℕ → List ℕ) (kept later : ℕ → Bool) → ((c : ℕ) → c < x.buckets → ks c ≡ filter kept (ps c))
+      → ((q : ℕ) → later q ≡ (kept q && is_other p q))
       → (c : ℕ) → c < x.buckets → with_chain ks b (pre ++ post) c ≡ filter later (ps c)
   kept_less ps kept later are both c lt = elim (cases_eq c b) [
     | inl here ↦

@@ -24,6 +24,10 @@ pub mod Imaging
 pub mod Scratch
 pub mod Patched
 pub mod Placing
+pub mod Costing
+pub mod Same
+pub mod Fitting
+mod Fixtures
 pub mod Dropping
 pub mod Drops
 pub mod Keeping

@@ -3,11 +3,11 @@ use Rattle.std.proofs.Common.{◌≡◌, ℕ, zero, suc, ◌+◌, ◌-◌, ◌*�
 use Rattle.std.proofs.lemmas.List.{nil_from_length, length-replicate, take-append-le, take_all, take_at, drop-append-le}
 use Rattle.std.proofs.lemmas.Nat.{div-mul-add, mod-mul-add}
 use Rattle.rpm_outside.specs.Files.{Units, cut_up, units_of, bytes_of, unit_at}
-use Rattle.rpm_outside.specs.Cuts.{length-cut_up, bytes_of-cut_up}
+use Rattle.rpm_outside.specs.inner.Cuts.{length-cut_up, bytes_of-cut_up}
 use Rattle.rpm_hindex.specs.Words.{word, unit_of_words}
 use Rattle.rpm_hindex.specs.Rows.{Row}
 use Rattle.rpm_hindex.specs.Sizes.{key_units, record_units}
-use Rattle.rpm_hindex.specs.Making.{record_of, padding}
+use Rattle.rpm_hindex.specs.inner.Making.{record_of, padding}
 use Rattle.rpm_hindex.specs.Index.{next_at, length_at, row_at, key_at, run}
 use Rattle.rpm_hindex.proofs.UnitWords.{length-unit, word_0, word_1, word_2, word_3}
 
@@ -74,12 +74,18 @@ module _ (next kind : ℕ) (key : List ℕ) (number place : ℕ) where
       let m = key_units (length key) in
       let flat : bytes_of (head ∷ cut_up m padded) ≡ head ++ padded = ap (λ (bs : List ℕ). head ++ bs) (bytes_of-cut_up m padded length-padded) in
       let sixteen : length head ≡ 16 = length-unit next (kind * 2 ^ 28 + length key) number place in
-      let size : length (a ++ (head ++ padded)) / 16 ≡ n + (1 + m) = omega (arith, length-append a (head ++ padded), length-append head padded, length-padded) in
+      let size : length (a ++ (head ++ padded)) / 16 ≡ n + (1 + m) = omega (
+        arith,
+        length-append a (head ++ padded),
+        length-append head padded,
+        length-padded,
+      ) in
       let front : length a / 16 ≡ n = omega arith in
       ap (λ (bs : List ℕ). units_of (a ++ bs)) flat
       ∙ ap (λ (k : ℕ). cut_up k (a ++ (head ++ padded))) size
       ∙ cut_up-append n (1 + m) a (head ++ padded) long
-      ∙ ap (λ (us : Units). cut_up n a ++ us) (cut_up-append 1 m head padded (omega arith) ∙ ap (λ (u : List ℕ). u ∷ cut_up m padded) (take_all 16 head (omega arith)))
+      ∙ ap (λ (us : Units). cut_up n a ++ us) (cut_up-append 1 m head padded (omega arith) ∙ ap (λ (u : List ℕ). u ∷ cut_up m padded)
+      (take_all 16 head (omega arith)))
       ∙ ap (λ (k : ℕ). cut_up k a ++ (head ∷ cut_up m padded)) (sym front)
 
   module _ (lt_next : next < 2 ^ 32) (lt_kind : kind < 16) (short : length key < 2 ^ 28) (lt_number : number < 2 ^ 32) (lt_place : place < 2 ^ 32)
@@ -101,7 +107,8 @@ module _ (next kind : ℕ) (key : List ℕ) (number place : ℕ) where
         let n = key_units (length key) in
         let us : Units = cut_up n padded in
         let long : length us ≡ n = length-cut_up n padded in
-        let all : run u (at + 1) n ≡ us = ap (run u (at + 1)) (sym long) ∙ run_of u (at + 1) us (λ j lt. let e : at + 1 + j ≡ at + (1 + j) = omega arith in ap u e ∙ stands (1 + j) (omega arith) ∙ made_rest j) in
+        let all : run u (at + 1) n ≡ us = ap (run u (at + 1)) (sym long) ∙ run_of u (at + 1) us (λ j lt. let e : at + 1 + j ≡ at + (1 + j) = omega
+        arith in ap u e ∙ stands (1 + j) (omega arith) ∙ made_rest j) in
         ap (λ (k : ℕ). take k (bytes_of (run u (at + 1) (key_units k)))) made_size
         ∙ ap (λ (vs : Units). take (length key) (bytes_of vs)) all
         ∙ ap (take (length key)) (bytes_of-cut_up n padded length-padded)

@@ -11,7 +11,7 @@ use Rattle.rpm_hindex.specs.Words.{word}
 use Rattle.rpm_hindex.specs.Sizes.{first_record, is_bucket_count}
 use Rattle.rpm_hindex.specs.State.{State, Keeps, is_in_order, is_ordered, is_headed, buckets_of}
 use Rattle.rpm_hindex.specs.declared.chain.Extent.{Extent}
-use Rattle.rpm_hindex.specs.Records.{IsOpen}
+use Rattle.rpm_hindex.specs.inner.Records.{IsOpen}
 
 -- 64, doubled k times
 pub record BucketCount (buckets : ℕ) : Type 0 where
@@ -43,7 +43,8 @@ ordered_parts buckets second units e =
     let b = and_parts (leb (first_record buckets) (word 0 second)) _ a.1 in
     let d = and_parts (leb (word 0 second) (min units (2 ^ 28))) _ b.1 in
     let f = and_parts (leb (word 1 second) (2 * buckets)) _ d.1 in
-    let h = and_parts (leb (word 2 second) (word 0 second - first_record buckets)) (leb (word 0 second - first_record buckets - word 2 second) (word 2 second)) f.1 in
+    let h = and_parts (leb (word 2 second) (word 0 second - first_record buckets)) (leb (word 0 second - first_record buckets - word 2 second)
+    (word 2 second)) f.1 in
     let m : word 0 second ≤ min units (2 ^ 28) = leb-true _ _ d.0 in
     record {
       count = a.0;
@@ -76,7 +77,10 @@ pub order_parts : (s : State) → is_in_order s ≡ true → (is_headed s.first 
 unfolding is_in_order
 order_parts s e = and_parts (is_headed s.first) (is_ordered (buckets_of s.first) s.second s.units) e
 
-pub open_from : (s : State) (file : Units) → is_in_order s ≡ true → Keeps file s → let e : Extent = record { buckets = word 3 s.first; used = word 0 s.second } in IsOpen e file
+pub open_from : (s : State) (file : Units) → is_in_order s ≡ true → Keeps file s → let e : Extent = record {
+  buckets = word 3 s.first;
+  used = word 0 s.second;
+} in IsOpen e file
 open_from s file order keeps =
     let o = ordered_parts (buckets_of s.first) s.second s.units (order_parts s order).1 in
     record {

@@ -10,28 +10,39 @@ use Rattle.rpm_hindex.specs.Packed.{IsPacked, rows_in, row_in, no_head}
 
 pub packed_none : IsPacked [] [] 0
 unfolding live_of
-packed_none = record { within = λ i lt. absurd (omega arith); short = λ i lt. absurd (omega arith); kinds = λ i lt. absurd (omega arith); units = refl; most = omega arith; count = omega arith }
+packed_none = record {
+  within = λ i lt. absurd (omega arith);
+  short = λ i lt. absurd (omega arith);
+  kinds = λ i lt. absurd (omega arith);
+  units = refl;
+  most = omega arith;
+  count = omega arith;
+}
 
 -- bytes behind all keys change no row
 same_row_in : (keys key : List ℕ) (h : RowHead) → h.start + h.length ≤ length keys → row_in (keys ++ key) h ≡ row_in keys h
 same_row_in keys key h le =
     let is : take h.length (drop h.start (keys ++ key)) ≡ take h.length (drop h.start keys) =
-    ap (λ (bs : List ℕ). take h.length bs) (drop-append-le h.start keys key (omega arith)) ∙ take-append-le h.length (drop h.start keys) key (omega (arith, length-drop h.start keys)) in
+    ap (λ (bs : List ℕ). take h.length bs) (drop-append-le h.start keys key (omega arith)) ∙ take-append-le h.length (drop h.start keys) key
+    (omega (arith, length-drop h.start keys)) in
     ap (λ (bs : List ℕ). let r : Row = record { kind = h.kind; key = bs; number = h.number; place = h.place } in r) is
 
-same_rows_in : (keys key : List ℕ) (hs : List RowHead) → ((i : ℕ) → i < length hs → (get_or hs i no_head).start + (get_or hs i no_head).length ≤ length keys) → rows_in (keys ++ key) hs ≡ rows_in keys hs
+same_rows_in : (keys key : List ℕ) (hs : List RowHead) → ((i : ℕ) → i < length hs → (get_or hs i no_head).start + (get_or hs i no_head).length
+    ≤ length keys) → rows_in (keys ++ key) hs ≡ rows_in keys hs
 same_rows_in keys key [] within = refl
 same_rows_in keys key (h ∷ hs) within =
     ap (λ (r : Row). r ∷ rows_in (keys ++ key) hs) (same_row_in keys key h (within 0 (omega arith)))
     ∙ ap (λ (rs : List Row). row_in keys h ∷ rs) (same_rows_in keys key hs (λ i lt. within (suc i) (omega arith)))
 
-module _ (heads : List RowHead) (keys key : List ℕ) (live : ℕ) (h : RowHead) (packed : IsPacked heads keys live) (start : h.start ≡ length keys) (long : h.length ≡ length key) where
+module _ (heads : List RowHead) (keys key : List ℕ) (live : ℕ) (h : RowHead) (packed : IsPacked heads keys live) (start : h.start ≡ length keys)
+    (long : h.length ≡ length key) where
   abbrev row : Row
   row = record { kind = h.kind; key = key; number = h.number; place = h.place }
 
   new_row : row_in (keys ++ key) h ≡ row
   new_row =
-      let is : take h.length (drop h.start (keys ++ key)) ≡ key = ap (λ (bs : List ℕ). take h.length bs) (drop_at keys key h.start (sym start)) ∙ take_all h.length key (omega arith) in
+      let is : take h.length (drop h.start (keys ++ key)) ≡ key = ap (λ (bs : List ℕ). take h.length bs) (drop_at keys key h.start (sym start))
+      ∙ take_all h.length key (omega arith) in
       ap (λ (bs : List ℕ). let r : Row = record { kind = h.kind; key = bs; number = h.number; place = h.place } in r) is
 
   pub rows_more : rows_in (keys ++ key) (heads ++ h ∷ []) ≡ rows_in keys heads ++ row ∷ []
@@ -40,16 +51,22 @@ module _ (heads : List RowHead) (keys key : List ℕ) (live : ℕ) (h : RowHead)
       ∙ ap (λ (rs : List Row). rs ++ row_in (keys ++ key) h ∷ []) (same_rows_in keys key heads packed.within)
       ∙ ap (λ (r : Row). rows_in keys heads ++ r ∷ []) new_row
 
-  each_more : (P : RowHead → Type 0) → ((i : ℕ) → i < length heads → P (get_or heads i no_head)) → P h → (i : ℕ) → i < length (heads ++ h ∷ []) → P (get_or (heads ++ h ∷ []) i no_head)
+  each_more : (P : RowHead → Type 0) → ((i : ℕ) → i < length heads → P (get_or heads i no_head)) → P h → (i : ℕ) → i < length (heads ++ h ∷ [])
+      → P (get_or (heads ++ h ∷ []) i no_head)
   each_more P old new i lt = elim (cases_lt i (length heads)) [
     | inl below ↦ subst P (sym (get_or_append_left heads (h ∷ []) no_head i below)) (old i below)
     | inr past ↦ subst P (sym (get_or_push heads h no_head i (omega (arith, length_push heads h)))) new
   ]
 
-  pub packed_more : h.kind < 16 → h.length < 2 ^ 28 → live + record_units h.length ≤ 2 ^ 60 → IsPacked (heads ++ h ∷ []) (keys ++ key) (live + record_units h.length)
+  pub packed_more : h.kind < 16 → h.length < 2 ^ 28 → live + record_units h.length ≤ 2 ^ 60 → IsPacked (heads ++ h ∷ []) (keys ++ key)
+      (live + record_units h.length)
   unfolding live_of
   packed_more kind short most = record {
-    within = each_more (λ (g : RowHead). g.start + g.length ≤ length (keys ++ key)) (λ i lt. omega (arith, length-append keys key, packed.within i lt)) (omega (arith, length-append keys key));
+    within = each_more (λ (g : RowHead). g.start + g.length ≤ length (keys ++ key)) (λ i lt. omega (
+      arith,
+      length-append keys key,
+      packed.within i lt,
+    )) (omega (arith, length-append keys key));
     short = each_more (λ (g : RowHead). g.length < 2 ^ 28) packed.short short;
     kinds = each_more (λ (g : RowHead). g.kind < 16) packed.kinds kind;
     units =

@@ -3,8 +3,8 @@ use Rattle.std.proofs.Common.{◌≡◌, ℕ, suc, ◌+◌, ◌/◌, ◌<◌, �
 use Rattle.std.proofs.lemmas.List.{take_more}
 use Rattle.std.proofs.lemmas.Bool.{cases_Bool, eqb-true, cond-true, cond-false}
 use Rattle.rpm_outside.specs.Files.{Units, units_of, unit_at, put}
-use Rattle.rpm_outside.specs.Cuts.{length-cut_up}
-use Rattle.rpm_outside.specs.Puts.{length-put, put_before, put_inside}
+use Rattle.rpm_outside.specs.inner.Cuts.{length-cut_up}
+use Rattle.rpm_outside.specs.inner.Puts.{length-put, put_before, put_inside}
 use Rattle.rpm_hindex.specs.declared.planning.Patch.{Patch}
 use Rattle.rpm_hindex.specs.declared.planning.Patches.{Patches}
 use Rattle.rpm_hindex.specs.State.{State, Keeps}
@@ -14,8 +14,10 @@ pub after_push : (ps : List Patch) (p : Patch) (file : Units) → after_units (p
 after_push [] p file = refl
 after_push (q ∷ ps) p file = after_push ps p (put q.unit (q.words ∷ []) file)
 
-pub after_next : (ps : List Patch) (k : ℕ) (file : Units) → k < length ps → after_units (take (k + 1) ps) file ≡ put (patch_at ps k).unit ((patch_at ps k).words ∷ []) (after_units (take k ps) file)
-after_next ps k file lt = ap (λ (qs : List Patch). after_units qs file) (take_more ps k (record { unit = 0; words = [] }) lt) ∙ after_push (take k ps) (patch_at ps k) file
+pub after_next : (ps : List Patch) (k : ℕ) (file : Units) → k < length ps → after_units (take (k + 1) ps) file ≡ put (patch_at ps k).unit
+    ((patch_at ps k).words ∷ []) (after_units (take k ps) file)
+after_next ps k file lt = ap (λ (qs : List Patch). after_units qs file) (take_more ps k (record { unit = 0; words = [] }) lt) ∙ after_push (take k ps)
+    (patch_at ps k) file
 
 abbrev Within : ℕ → List Patch → Type 0
 Within end ps = (k : ℕ) → k < length ps → (1 ≤ (patch_at ps k).unit) × ((patch_at ps k).unit < end)
@@ -35,21 +37,25 @@ units_long end (p ∷ ps) file each le =
 pub tail_front : (used : ℕ) (tail : List ℕ) (file : Units) → 1 ≤ used → unit_at (after_tail used tail file) 0 ≡ unit_at file 0
 tail_front used tail file from = elim (cases_Bool (eqb (length tail) 0)) [
   | inl none ↦ ap (λ (f : Units). unit_at f 0) (cond-true (eqb (length tail) 0) file (put used (units_of tail) file) none)
-  | inr some ↦ ap (λ (f : Units). unit_at f 0) (cond-false (eqb (length tail) 0) file (put used (units_of tail) file) some) ∙ put_before used (units_of tail) file 0 from
+  | inr some ↦ ap (λ (f : Units). unit_at f 0) (cond-false (eqb (length tail) 0) file (put used (units_of tail) file) some) ∙ put_before used
+      (units_of tail) file 0 from
 ]
 
-pub tail_long : (used : ℕ) (tail : List ℕ) (file : Units) → used ≤ length file → length (after_tail used tail file) ≡ max (length file) (used + length tail / 16)
+pub tail_long : (used : ℕ) (tail : List ℕ) (file : Units) → used ≤ length file → length (after_tail used tail file) ≡ max (length file)
+    (used + length tail / 16)
 tail_long used tail file le = elim (cases_Bool (eqb (length tail) 0)) [
   | inl none ↦
       let e = eqb-true (length tail) 0 none in
       let is : length (after_tail used tail file) ≡ length file = ap length (cond-true (eqb (length tail) 0) file (put used (units_of tail) file) none) in
       omega arith
   | inr some ↦
-      let is : length (after_tail used tail file) ≡ length (put used (units_of tail) file) = ap length (cond-false (eqb (length tail) 0) file (put used (units_of tail) file) some) in
+      let is : length (after_tail used tail file) ≡ length (put used (units_of tail) file) = ap length (cond-false (eqb (length tail) 0) file
+      (put used (units_of tail) file) some) in
       omega (arith, length-put used (units_of tail) file, length-cut_up (length tail / 16) tail)
 ]
 
-pub patched_kept : (p : Patches) (s : State) (units pending : ℕ) (old new : Units) → ArePatches s.units p → Keeps old s → new ≡ put 1 (p.second ∷ []) (after_tail p.used p.tail.items (after_units p.units.items old))
+pub patched_kept : (p : Patches) (s : State) (units pending : ℕ) (old new : Units) → ArePatches s.units p → Keeps old s → new ≡ put 1 (p.second ∷ [])
+    (after_tail p.used p.tail.items (after_units p.units.items old))
     → units ≡ max s.units (p.used + length p.tail.items / 16) → Keeps new (record { first = s.first; second = p.second; units = units; pending = pending })
 patched_kept p s units pending old new are keeps is long =
     let mid = after_units p.units.items old in

@@ -9,8 +9,8 @@ use Rattle.std.proofs.lemmas.Cmp.{nat_cmp_total}
 use Rattle.std.proofs.lemmas.Map.Views.{btree_map_get_iff}
 use Rattle.std.proofs.lemmas.Bool.{cases_Bool, cases_eq, cond-true, cond-false, eqb-true, ltb-true, ltb-false, lt-ltb, and_from, le-leb}
 use Rattle.rpm_outside.specs.Files.{Units, units_of, unit_at, put}
-use Rattle.rpm_outside.specs.Cuts.{length-cut_up}
-use Rattle.rpm_outside.specs.Puts.{put_before, put_inside, put_after}
+use Rattle.rpm_outside.specs.inner.Cuts.{length-cut_up}
+use Rattle.rpm_outside.specs.inner.Puts.{put_before, put_inside, put_after}
 use Rattle.rpm_hindex.specs.declared.planning.Patch.{Patch}
 use Rattle.rpm_hindex.specs.declared.planning.Work.{Work}
 use Rattle.rpm_hindex.specs.declared.planning.Work.TheVariants.{InPlace, Scratch}
@@ -22,7 +22,7 @@ use Rattle.rpm_hindex.specs.State.{is_ordered}
 use Rattle.rpm_hindex.specs.declared.change.Change.{Change}
 use Rattle.rpm_hindex.specs.Words.{word, unit_of_words}
 use Rattle.rpm_hindex.specs.Index.{Index, index_in, bucket_unit, records, rows_of, places_of}
-use Rattle.rpm_hindex.specs.Changes.{patch_of, unit_after, changing, CanGo, IsWorkOf, AddsRows, HasLess, IsStarted, is_kept}
+use Rattle.rpm_hindex.specs.inner.Changes.{patch_of, unit_after, changing, CanGo, IsWorkOf, AddsRows, HasLess, IsStarted, is_kept}
 use Rattle.rpm_hindex.proofs.Extends.{Extends, whole_same, rows_same, has_same, stands_in}
 use Rattle.rpm_hindex.proofs.Cutting.{stays_then, stays_same}
 use Rattle.rpm_hindex.proofs.Wholes.{has_chains, places_are, in_all}
@@ -33,7 +33,8 @@ abbrev Entries : Type 0
 Entries = List (ℕ × List ℕ)
 
 -- a unit that is put as it already is, or not at all
-stays : (es : Entries) (i : ℕ) (v : List ℕ) (file : Units) → ((u : List ℕ) → Contains es (i, u) → u ≡ v) → unit_at file i ≡ v → unit_at (after_units (map patch_of es) file) i ≡ v
+stays : (es : Entries) (i : ℕ) (v : List ℕ) (file : Units) → ((u : List ℕ) → Contains es (i, u) → u ≡ v) → unit_at file i ≡ v
+    → unit_at (after_units (map patch_of es) file) i ≡ v
 stays [] i v file all is = is
 stays (e ∷ es) i v file all is = stays es i v (put e.0 (e.1 ∷ []) file) (λ u (k, lt, at). all u (suc k, omega arith, at)) (elim (cases_eq e.0 i) [
   | inl here ↦
@@ -47,7 +48,8 @@ stays (e ∷ es) i v file all is = stays es i v (put e.0 (e.1 ∷ []) file) (λ 
 ])
 
 -- and one that is put
-found : (es : Entries) (i : ℕ) (v : List ℕ) (file : Units) → ((u : List ℕ) → Contains es (i, u) → u ≡ v) → Contains es (i, v) → unit_at (after_units (map patch_of es) file) i ≡ v
+found : (es : Entries) (i : ℕ) (v : List ℕ) (file : Units) → ((u : List ℕ) → Contains es (i, u) → u ≡ v) → Contains es (i, v)
+    → unit_at (after_units (map patch_of es) file) i ≡ v
 found [] i v file all (k, lt, at) = absurd (omega arith)
 found (e ∷ es) i v file all (zero, lt, at) =
     let spot : i ≡ e.0 + 0 = omega (arith, ap (λ (p : ℕ × List ℕ). p.0) at) in
@@ -62,7 +64,8 @@ none_some : {X : Type 0} (u : X) (o : Option X) → o ≡ None → o ≡ Some u 
 none_some u o e f = let wrong : ⊥ = cc (e, f) in wrong
 
 -- each unit is as the map has it, or as it was
-pub units_put : (m : BTreeMap ℕ (List ℕ)) → IsStrictlySortedBy nat_cmp (keys m) → (file : Units) (i : ℕ) → unit_at (after_units (map patch_of m.entries) file) i ≡ unit_after (λ q. get nat_cmp m q) file i
+pub units_put : (m : BTreeMap ℕ (List ℕ)) → IsStrictlySortedBy nat_cmp (keys m) → (file : Units) (i : ℕ)
+    → unit_at (after_units (map patch_of m.entries) file) i ≡ unit_after (λ q. get nat_cmp m q) file i
 units_put m ordered file i = go (get nat_cmp m i) refl where
   iff : (v : List ℕ) → (get nat_cmp m i ≡ Some v → Contains m.entries (i, v)) × (Contains m.entries (i, v) → get nat_cmp m i ≡ Some v)
   iff v = let f = btree_map_get_iff nat_cmp_total nat_exact m ordered i v in (f.0, f.1)
@@ -87,7 +90,8 @@ module _ (c : Change) (go : CanGo c) (ordered : IsStrictlySortedBy nat_cmp (keys
   behind_second : (i : ℕ) → 2 ≤ i → unit_at written i ≡ unit_at (after_tail c.extent.used c.tail.items (after_units (map patch_of c.units.entries) file)) i
   behind_second i ge = put_after 1 (second ∷ []) (after_tail c.extent.used c.tail.items (after_units (map patch_of c.units.entries) file)) i (omega (arith, ge))
 
-  before_tail : (i : ℕ) → i < c.extent.used → unit_at (after_tail c.extent.used c.tail.items (after_units (map patch_of c.units.entries) file)) i ≡ unit_after (λ q. get nat_cmp c.units q) file i
+  before_tail : (i : ℕ) → i < c.extent.used → unit_at (after_tail c.extent.used c.tail.items (after_units (map patch_of c.units.entries) file)) i
+      ≡ unit_after (λ q. get nat_cmp c.units q) file i
   before_tail i lt =
       let base = after_units (map patch_of c.units.entries) file in
       let here = units_put c.units ordered file i in
@@ -99,13 +103,15 @@ module _ (c : Change) (go : CanGo c) (ordered : IsStrictlySortedBy nat_cmp (keys
             ∙ here
       ]
 
-  in_tail : (k : ℕ) → k < length c.tail.items / 16 → unit_at (after_tail c.extent.used c.tail.items (after_units (map patch_of c.units.entries) file)) (c.extent.used + k) ≡ unit_at (units_of c.tail.items) k
+  in_tail : (k : ℕ) → k < length c.tail.items / 16 → unit_at (after_tail c.extent.used c.tail.items (after_units (map patch_of c.units.entries) file))
+      (c.extent.used + k) ≡ unit_at (units_of c.tail.items) k
   in_tail k lt =
       let base = after_units (map patch_of c.units.entries) file in
       elim (cases_Bool (eqb (length c.tail.items) 0)) [
         | inl none ↦ absurd (omega (arith, lt, eqb-true (length c.tail.items) 0 none))
         | inr some ↦
-            ap (λ (f : Units). unit_at f (c.extent.used + k)) (cond-false (eqb (length c.tail.items) 0) base (put c.extent.used (units_of c.tail.items) base) some)
+            ap (λ (f : Units). unit_at f (c.extent.used + k)) (cond-false (eqb (length c.tail.items) 0) base
+            (put c.extent.used (units_of c.tail.items) base) some)
             ∙ put_inside c.extent.used (units_of c.tail.items) base k (omega (arith, lt, length-cut_up (length c.tail.items / 16) c.tail.items))
       ]
 
@@ -130,8 +136,10 @@ module _ (c : Change) (go : CanGo c) (ordered : IsStrictlySortedBy nat_cmp (keys
   placed_heads b lt = ap (word (b % 4)) (behind_second (bucket_unit b) (omega arith) ∙ before_tail (bucket_unit b) (omega (arith, lt, go.fours, go.front)))
 
 -- what is written in place makes the change
-pub place_plan : (c d : Change) (drops adds : List Row) (file : Units) (work : Work) → CanGo d → IsStrictlySortedBy nat_cmp (keys d.units) → IsWorkOf d work → AddsRows c d file adds
-    → HasLess drops (records d.extent.buckets file) (rows_of (changing c file)) → d.records < 2 ^ 32 → d.live < 2 ^ 32 → IsPlanFor drops adds d.extent.buckets file work
+pub place_plan : (c d : Change) (drops adds : List Row) (file : Units) (work : Work) → CanGo d → IsStrictlySortedBy nat_cmp (keys d.units)
+    → IsWorkOf d work → AddsRows c d file adds
+    → HasLess drops (records d.extent.buckets file) (rows_of (changing c file)) → d.records < 2 ^ 32 → d.live < 2 ^ 32 → IsPlanFor drops adds
+    d.extent.buckets file work
 unfolding IsPlanFor
 place_plan c d drops adds file (Scratch image) go ordered is more less count live = absurd is
 place_plan c d drops adds file (InPlace p) go ordered (units, tail, used, second, buckets) more less count live =
@@ -139,14 +147,17 @@ place_plan c d drops adds file (InPlace p) go ordered (units, tail, used, second
     let words = unit_of_words (d.extent.used + length d.tail.items / 16) d.records d.live 0 in
     let new = put 1 (words ∷ []) (after_tail d.extent.used d.tail.items (after_units (map patch_of d.units.entries) file)) in
     let one : unit_at new 1 ≡ words = second_is d go ordered file words in
-    let zero_word : word 0 words ≡ d.extent.used + length d.tail.items / 16 = word_0 (d.extent.used + length d.tail.items / 16) d.records d.live 0 (omega (arith, go.room)) in
+    let zero_word : word 0 words ≡ d.extent.used + length d.tail.items / 16 = word_0 (d.extent.used + length d.tail.items / 16) d.records d.live 0
+    (omega (arith, go.room)) in
     let first_word : word 1 (unit_at new 1) ≡ d.records = ap (word 1) one ∙ word_1 (d.extent.used + length d.tail.items / 16) d.records d.live 0 count in
     let second_word : word 2 (unit_at new 1) ≡ d.live = ap (word 2) one ∙ word_2 (d.extent.used + length d.tail.items / 16) d.records d.live 0 live in
     let ext = placed d go ordered file words zero_word in
     let heads = placed_heads d go ordered file words in
     let whole = whole_same (changing d file) (index_in B new) ext heads d.records d.live more.whole in
-    let well : IsWellFormed B new = subst (λ (n : ℕ). IsWhole n (word 2 (unit_at new 1)) (index_in B new)) (sym first_word) (subst (λ (n : ℕ). IsWhole d.records n (index_in B new)) (sym second_word) whole) in
-    let rows : rows_of (index_in B new) ≡ rows_of (changing d file) = rows_same (changing d file) (index_in B new) ext heads (places_of (changing d file)) (has_chains (changing d file) more.whole.chains) in
+    let well : IsWellFormed B new = subst (λ (n : ℕ). IsWhole n (word 2 (unit_at new 1)) (index_in B new)) (sym first_word)
+    (subst (λ (n : ℕ). IsWhole d.records n (index_in B new)) (sym second_word) whole) in
+    let rows : rows_of (index_in B new) ≡ rows_of (changing d file) = rows_same (changing d file) (index_in B new) ext heads
+    (places_of (changing d file)) (has_chains (changing d file) more.whole.chains) in
     let changed : IsChanged drops adds (records B file) B new = record {
       whole = well;
       rows = λ r. ap (times r) rows ∙ more.rows' r ∙ ap (λ (n : ℕ). n + times r adds) (less r);
@@ -156,7 +167,8 @@ place_plan c d drops adds file (InPlace p) go ordered (units, tail, used, second
     ∙ ap (λ (ps : List Patch). put 1 (p.second ∷ []) (after_tail d.extent.used d.tail.items (after_units ps file))) (sym units)
     ∙ ap (λ (t : Vec ℕ Global). put 1 (p.second ∷ []) (after_tail d.extent.used t.items (after_units p.units.items file))) (sym tail)
     ∙ ap (λ (n : ℕ). put 1 (p.second ∷ []) (after_tail n p.tail.items (after_units p.units.items file))) (sym used) in
-    subst (λ (n : ℕ). IsChanged drops adds (records B file) n (put 1 (p.second ∷ []) (after_tail p.used p.tail.items (after_units p.units.items file)))) (sym buckets)
+    subst (λ (n : ℕ). IsChanged drops adds (records B file) n
+    (put 1 (p.second ∷ []) (after_tail p.used p.tail.items (after_units p.units.items file)))) (sym buckets)
     (subst (IsChanged drops adds (records B file) B) all changed)
 
 filter_all : (kept : ℕ → Bool) (qs : List ℕ) → ((q : ℕ) → kept q ≡ true) → filter kept qs ≡ qs
@@ -164,7 +176,8 @@ filter_all kept [] all = refl
 filter_all kept (q ∷ qs) all = cond-true (kept q) (q ∷ filter kept qs) (filter kept qs) (all q) ∙ ap (λ (rs : List ℕ). q ∷ rs) (filter_all kept qs all)
 
 -- nothing is worked out yet
-pub started : (c : Change) (file : Units) → ((q : ℕ) → get nat_cmp c.units q ≡ None) → length c.tail.items ≡ 0 → word 0 (unit_at file 1) ≡ c.extent.used → c.records ≡ word 1 (unit_at file 1) → c.live ≡ word 2 (unit_at file 1)
+pub started : (c : Change) (file : Units) → ((q : ℕ) → get nat_cmp c.units q ≡ None) → length c.tail.items ≡ 0 → word 0 (unit_at file 1)
+    ≡ c.extent.used → c.records ≡ word 1 (unit_at file 1) → c.live ≡ word 2 (unit_at file 1)
     → ((p : ℕ) → is_kept (λ q. get nat_cmp c.dropped q) p ≡ true) → IsWellFormed c.extent.buckets file → IsStarted c file
 started c file empty none used records_is live_is all whole =
     let x : Index = index_in c.extent.buckets file in
@@ -173,13 +186,17 @@ started c file empty none used records_is live_is all whole =
       buckets = refl;
       used = omega (arith, used);
       units = λ i from to.
-          cond-true (ltb i c.extent.used) (unit_after (λ q. get nat_cmp c.units q) file i) (unit_at (units_of c.tail.items) (i - c.extent.used)) (lt-ltb i c.extent.used (omega (arith, to, used)))
+          cond-true (ltb i c.extent.used) (unit_after (λ q. get nat_cmp c.units q) file i) (unit_at (units_of c.tail.items) (i - c.extent.used))
+          (lt-ltb i c.extent.used (omega (arith, to, used)))
           ∙ ap (λ (o : Option (List ℕ)). unwrap_or o (unit_at file i)) (empty i);
     } in
-    let heads : (b : ℕ) → b < x.buckets → y.head b ≡ x.head b = λ b lt. ap (λ (o : Option (List ℕ)). word (b % 4) (unwrap_or o (unit_at file (bucket_unit b)))) (empty (bucket_unit b)) in
+    let heads : (b : ℕ) → b < x.buckets → y.head b ≡ x.head b = λ b lt. ap (λ (o : Option (List ℕ)). word (b % 4)
+    (unwrap_or o (unit_at file (bucket_unit b)))) (empty (bucket_unit b)) in
     let hx = has_chains x whole.chains in
     let has = has_same x y ext heads (places_of x) hx in
-    let well : IsWhole c.records c.live y = subst (λ (n : ℕ). IsWhole n c.live y) (sym records_is) (subst (λ (n : ℕ). IsWhole (word 1 (unit_at file 1)) n y) (sym live_is) (whole_same x y ext heads (word 1 (unit_at file 1)) (word 2 (unit_at file 1)) whole)) in
+    let well : IsWhole c.records c.live y = subst (λ (n : ℕ). IsWhole n c.live y) (sym records_is)
+    (subst (λ (n : ℕ). IsWhole (word 1 (unit_at file 1)) n y) (sym live_is) (whole_same x y ext heads (word 1 (unit_at file 1))
+    (word 2 (unit_at file 1)) whole)) in
     record {
       whole = well;
       rows' = rows_same x y ext heads (places_of x) hx;
@@ -190,12 +207,14 @@ started c file empty none used records_is live_is all whole =
             let i = in_all x (places_of x) hx q m in
             let h = hx i.0 i.1 in
             let s = stands_in x i.0 (x.head i.0) (places_of x i.0) h.0 h.1 q i.2 in
-            stays_then x.unit x.unit y.unit q (omega arith) (λ j ge lt. ext.units j (omega (arith, ge, s.front)) (omega (arith, lt, s.sound.ends))) (stays_same x.unit q);
+            stays_then x.unit x.unit y.unit q (omega arith) (λ j ge lt. ext.units j (omega (arith, ge, s.front)) (omega (arith, lt, s.sound.ends)))
+            (stays_same x.unit q);
       };
     }
 
 -- and the numbers that are left suit the file
-pub place_order : (d : Change) (work : Work) → CanGo d → is_bucket_count d.extent.buckets ≡ true → IsWorkOf d work → d.extent.used + length d.tail.items / 16 ≤ first_record d.extent.buckets + 2 * d.live → d.records < 2 ^ 32 → d.live < 2 ^ 32 → LeavesOrder work
+pub place_order : (d : Change) (work : Work) → CanGo d → is_bucket_count d.extent.buckets ≡ true → IsWorkOf d work → d.extent.used + length
+    d.tail.items / 16 ≤ first_record d.extent.buckets + 2 * d.live → d.records < 2 ^ 32 → d.live < 2 ^ 32 → LeavesOrder work
 unfolding is_ordered
 place_order d (Scratch image) go count is half records live units fits = absurd is
 place_order d (InPlace p) go count (are, tail, used, second, buckets) half records_small live_small units fits =
@@ -212,5 +231,6 @@ place_order d (InPlace p) go count (are, tail, used, second, buckets) half recor
     let alive : word 2 w ≤ word 0 w - first_record B = omega (arith, zero_is, two_is, go.live) in
     let dead : word 0 w - first_record B - word 2 w ≤ word 2 w = omega (arith, zero_is, two_is, half) in
     let here : is_ordered B w units ≡ true =
-    and_from _ _ count (and_from _ _ (le-leb _ _ from) (and_from _ _ (le-leb _ _ to) (and_from _ _ (le-leb _ _ few_enough) (and_from _ _ (le-leb _ _ alive) (le-leb _ _ dead))))) in
+    and_from _ _ count (and_from _ _ (le-leb _ _ from)
+    (and_from _ _ (le-leb _ _ to) (and_from _ _ (le-leb _ _ few_enough) (and_from _ _ (le-leb _ _ alive) (le-leb _ _ dead))))) in
     ap (λ (n : ℕ). is_ordered n p.second units) buckets ∙ ap (λ (u : List ℕ). is_ordered B u units) second ∙ here

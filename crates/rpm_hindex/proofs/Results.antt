@@ -16,3 +16,7 @@ if_ok (Err e) P Q f p = tt
 pub if_err : {T E : Type 0} (r : Result T E) (P Q : E → Type 0) → ((e : E) → P e → Q e) → IfErr r P → IfErr r Q
 if_err (Ok t) P Q f p = tt
 if_err (Err e) P Q f p = f e p
+
+pub if_ok_three : {T E : Type 0} (r : Result T E) (P Q R S : T → Type 0) → ((t : T) → P t → Q t → R t → S t) → IfOk r P → IfOk r Q → IfOk r R → IfOk r S
+if_ok_three (Ok t) P Q R S f p q r = f t p q r
+if_ok_three (Err e) P Q R S f p q r = tt

@@ -6,12 +6,12 @@ use Rattle.std.proofs.lemmas.List.FromFn.{get_or-range_with_len, length-range_wi
 use Rattle.std.proofs.lemmas.List.Folds.{list_any_at}
 use Rattle.std.proofs.Math.Nat.{pow-le-pow_right, pow-succ'}
 use Rattle.rpm_outside.specs.Files.{units_of, unit_at}
-use Rattle.rpm_outside.specs.Cuts.{unit_at-cut_up}
+use Rattle.rpm_outside.specs.inner.Cuts.{unit_at-cut_up}
 use Rattle.rpm_hindex.specs.Words.{word}
 use Rattle.rpm_hindex.specs.Rows.{Row}
 use Rattle.rpm_hindex.specs.Sizes.{doubled, bucket_count, is_bucket_count, first_record, live_of}
 use Rattle.rpm_hindex.specs.State.{is_ordered}
-use Rattle.rpm_hindex.specs.Drafts.{IsImage}
+use Rattle.rpm_hindex.specs.inner.Drafts.{IsImage}
 
 enough : (n b r : ℕ) → 0 < b → r ≤ 2 * b + n → r ≤ 2 * doubled n b r
 enough zero b r some le = omega arith
@@ -39,7 +39,8 @@ doubles zero k r lt le = (k, lt, refl)
 doubles (suc n) k r lt le = elim (cases_lt (2 * (64 * 2 ^ k)) r) [
   | inl more ↦
       let next : 2 * (64 * 2 ^ k) ≡ 64 * 2 ^ (suc k) = omega (arith, pow-succ' 2 k) in
-      let is : doubled (suc n) (64 * 2 ^ k) r ≡ doubled n (2 * (64 * 2 ^ k)) r = cond-false (leb r (2 * (64 * 2 ^ k))) (64 * 2 ^ k) _ (lt-leb r (2 * (64 * 2 ^ k)) more) in
+      let is : doubled (suc n) (64 * 2 ^ k) r ≡ doubled n (2 * (64 * 2 ^ k)) r = cond-false (leb r (2 * (64 * 2 ^ k))) (64 * 2 ^ k) _
+      (lt-leb r (2 * (64 * 2 ^ k)) more) in
       let rest = doubles n (suc k) r (omega (arith, below_21 k (omega arith))) le in
       (rest.0, rest.1, is ∙ ap (λ (b : ℕ). doubled n b r) next ∙ rest.2)
   | inr done ↦ (k, lt, cond-true (leb r (2 * (64 * 2 ^ k))) (64 * 2 ^ k) _ (le-leb r (2 * (64 * 2 ^ k)) done))
@@ -54,7 +55,8 @@ count_is r le =
     (ap (λ (k : ℕ). eqb (doubled r 64 r) (64 * 2 ^ k)) at ∙ eq-eqb (doubled r 64 r) (64 * 2 ^ d.0) d.2)
 
 -- what unit 1 of an image says suits the file that holds it
-pub image_ordered : (rows : List Row) (bytes : List ℕ) (units : ℕ) → IsImage rows (bucket_count (length rows)) bytes → first_record (bucket_count (length rows)) + live_of rows ≤ 2 ^ 28 → length rows ≤ 2 ^ 28
+pub image_ordered : (rows : List Row) (bytes : List ℕ) (units : ℕ) → IsImage rows (bucket_count (length rows)) bytes → first_record
+    (bucket_count (length rows)) + live_of rows ≤ 2 ^ 28 → length rows ≤ 2 ^ 28
     → 1 + length bytes / 16 ≤ units → is_ordered (bucket_count (length rows)) (take 16 bytes) units ≡ true
 unfolding is_ordered
 image_ordered rows bytes units is room few_rows long =

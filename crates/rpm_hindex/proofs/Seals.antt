@@ -1,8 +1,8 @@
 -- A file whose units behind unit 0 stay.
 use Rattle.std.proofs.Common.{◌≡◌, ℕ, ◌+◌, ◌/◌, ◌%◌, ◌<◌, ◌≤◌, max, List, [], ◌∷◌, length, take, refl, sym, ap, ◌∙◌, arith, subst}
 use Rattle.rpm_outside.specs.Files.{Units, unit_at, put, units_of}
-use Rattle.rpm_outside.specs.Cuts.{length-cut_up, unit_at-cut_up}
-use Rattle.rpm_outside.specs.Puts.{length-put, put_before, put_inside, put_after}
+use Rattle.rpm_outside.specs.inner.Cuts.{length-cut_up, unit_at-cut_up}
+use Rattle.rpm_outside.specs.inner.Puts.{length-put, put_before, put_inside, put_after}
 use Rattle.rpm_hindex.specs.Words.{word}
 use Rattle.rpm_hindex.specs.Index.{index_in, records, places_of}
 use Rattle.rpm_hindex.specs.Whole.{IsWhole, IsWellFormed}
@@ -29,14 +29,20 @@ module _ (buckets : ℕ) (old new : Units) (same : (i : ℕ) → 1 ≤ i → uni
       (whole_same (index_in buckets old) (index_in buckets new) extends heads _ _ whole))
 
   pub records_behind : IsWellFormed buckets old → records buckets new ≡ records buckets old
-  records_behind whole = rows_same (index_in buckets old) (index_in buckets new) extends heads (places_of (index_in buckets old)) (has_chains (index_in buckets old) whole.chains)
+  records_behind whole = rows_same (index_in buckets old) (index_in buckets new) extends heads (places_of (index_in buckets old))
+      (has_chains (index_in buckets old) whole.chains)
 
 -- a new unit 0
 module _ (unit : List ℕ) (old new : Units) (is : new ≡ put 0 (unit ∷ []) old) where
   pub front_behind : (i : ℕ) → 1 ≤ i → unit_at new i ≡ unit_at old i
   front_behind i from = ap (λ (f : Units). unit_at f i) is ∙ put_after 0 (unit ∷ []) old i (omega arith)
 
-  pub front_kept : (s : State) (units : ℕ) → Keeps old s → units ≡ max s.units 1 → Keeps new (record { first = unit; second = s.second; units = units; pending = 0 })
+  pub front_kept : (s : State) (units : ℕ) → Keeps old s → units ≡ max s.units 1 → Keeps new (record {
+    first = unit;
+    second = s.second;
+    units = units;
+    pending = 0;
+  })
   front_kept s units keeps long = record {
     first = sym (ap (λ (f : Units). unit_at f 0) is ∙ put_inside 0 (unit ∷ []) old 0 (omega arith));
     second = keeps.second ∙ sym (front_behind 1 (omega arith));
@@ -54,7 +60,8 @@ module _ (bytes : List ℕ) (old new : Units) (is : new ≡ put 1 (units_of byte
   pub image_held : (k : ℕ) → k < length (units_of bytes) → unit_at new (1 + k) ≡ unit_at (units_of bytes) k
   image_held k lt = ap (λ (f : Units). unit_at f (1 + k)) is ∙ put_inside 1 (units_of bytes) old k lt
 
-  pub image_kept : (s : State) (units pending : ℕ) → 16 ≤ length bytes → Keeps old s → units ≡ max s.units (1 + length bytes / 16) → Keeps new (record { first = s.first; second = take 16 bytes; units = units; pending = pending })
+  pub image_kept : (s : State) (units pending : ℕ) → 16 ≤ length bytes → Keeps old s → units ≡ max s.units (1 + length bytes / 16)
+      → Keeps new (record { first = s.first; second = take 16 bytes; units = units; pending = pending })
   image_kept s units pending some keeps long = record {
     first = keeps.first ∙ sym (ap (λ (f : Units). unit_at f 0) is ∙ put_before 1 (units_of bytes) old 0 (omega arith));
     second = sym (image_held 0 (omega (arith, length-cut_up (length bytes / 16) bytes)) ∙ unit_at-cut_up (length bytes / 16) bytes 0 (omega arith));

@@ -40,22 +40,26 @@ sum_same f g a (suc n) same =
     ∙ sym (sum_by-cons g a (range_with_len (a + 1) n))
 
 -- and where one is more by v at one place, its sum is
-pub sum_at : (f g : ℕ → ℕ) (c v a n : ℕ) → a ≤ c → c < a + n → f c ≡ g c + v → ((b : ℕ) → a ≤ b → b < a + n → (b ≡ c → ⊥) → f b ≡ g b) → sum_by f (range_with_len a n) ≡ sum_by g (range_with_len a n) + v
+pub sum_at : (f g : ℕ → ℕ) (c v a n : ℕ) → a ≤ c → c < a + n → f c ≡ g c + v → ((b : ℕ) → a ≤ b → b < a + n → (b ≡ c → ⊥) → f b ≡ g b)
+    → sum_by f (range_with_len a n) ≡ sum_by g (range_with_len a n) + v
 sum_at f g c v a zero ge lt here same = absurd (omega arith)
 sum_at f g c v a (suc n) ge lt here same = elim (cases_eq a c) [
   | inl is ↦
-      let rest : sum_by f (range_with_len (a + 1) n) ≡ sum_by g (range_with_len (a + 1) n) = sum_same f g (a + 1) n (λ b below above. same b (omega arith) (omega arith) (λ e. absurd (omega arith))) in
+      let rest : sum_by f (range_with_len (a + 1) n) ≡ sum_by g (range_with_len (a + 1) n) = sum_same f g (a + 1) n
+      (λ b below above. same b (omega arith) (omega arith) (λ e. absurd (omega arith))) in
       let one : f a ≡ g a + v = ap f is ∙ here ∙ ap (λ (k : ℕ). g k + v) (sym is) in
       sum_by-cons f a (range_with_len (a + 1) n) ∙ omega (arith, sum_by-cons g a (range_with_len (a + 1) n))
   | inr other ↦
-      let rest : sum_by f (range_with_len (a + 1) n) ≡ sum_by g (range_with_len (a + 1) n) + v = sum_at f g c v (a + 1) n (omega (arith, other)) (omega arith) here (λ b below above. same b (omega arith) (omega arith)) in
+      let rest : sum_by f (range_with_len (a + 1) n) ≡ sum_by g (range_with_len (a + 1) n) + v = sum_at f g c v (a + 1) n (omega (arith, other))
+      (omega arith) here (λ b below above. same b (omega arith) (omega arith)) in
       let one : f a ≡ g a = same a (omega arith) (omega arith) other in
       sum_by-cons f a (range_with_len (a + 1) n) ∙ omega (arith, sum_by-cons g a (range_with_len (a + 1) n))
 ]
 
 pub sum_zeros : (a n : ℕ) → sum_by (λ (b : ℕ). 0) (range_with_len a n) ≡ 0
 sum_zeros a zero = refl
-sum_zeros a (suc n) = sum_by-cons (λ (b : ℕ). 0) a (range_with_len (a + 1) n) ∙ zero-add (sum_by (λ (b : ℕ). 0) (range_with_len (a + 1) n)) ∙ sum_zeros (a + 1) n
+sum_zeros a (suc n) = sum_by-cons (λ (b : ℕ). 0) a (range_with_len (a + 1) n) ∙ zero-add (sum_by (λ (b : ℕ). 0) (range_with_len (a + 1) n))
+    ∙ sum_zeros (a + 1) n
 
 -- a sum over a list by its elements
 pub sum_each : (f g : ℕ → ℕ) (ps : List ℕ) → ((p : ℕ) → Contains ps p → f p ≡ g p) → sum_by f ps ≡ sum_by g ps

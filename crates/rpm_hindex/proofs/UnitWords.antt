@@ -29,7 +29,8 @@ module _ (a b c d : ℕ) where
 pub headed : (g buckets : ℕ) → is_headed (seal_unit g buckets) ≡ true
 headed g buckets = and_from _ _ (eq-eqb _ magic (word_0 magic 2 g buckets (omega arith))) (eq-eqb _ 2 (word_1 magic 2 g buckets (omega arith)))
 
-pub current : (g buckets units : ℕ) (second : List ℕ) → g < 2 ^ 32 → buckets < 2 ^ 32 → is_ordered buckets second units ≡ true → is_current g (record { first = seal_unit g buckets; second = second; units = units; pending = 0 }) ≡ true
+pub current : (g buckets units : ℕ) (second : List ℕ) → g < 2 ^ 32 → buckets < 2 ^ 32 → is_ordered buckets second units ≡ true → is_current g
+    (record { first = seal_unit g buckets; second = second; units = units; pending = 0 }) ≡ true
 unfolding is_current is_in_order
 current g buckets units second glt blt ordered =
     let h = headed g buckets in

@@ -7,32 +7,13 @@ use Rattle.rpm_outside.specs.declared.disk.File.{File}
 use Rattle.rpm_outside.specs.declared.disk.File.TheVariants.{Idx}
 use Rattle.rpm_outside.specs.Files.{Units, Files, unit_at, blank, put}
 use Rattle.rpm_outside.specs.Crash.{Torn, TornFile, Follows, Elapses}
-use Rattle.rpm_outside.specs.Puts.{length-put, put_before, put_inside, put_after}
-use Rattle.rpm_outside.specs.PutLaws.{same_units}
+use Rattle.rpm_outside.specs.inner.Puts.{length-put, put_before, put_inside, put_after}
+use Rattle.rpm_outside.specs.inner.PutLaws.{same_units}
 use Rattle.rpm_outside.specs.History.{torn_none}
-use Rattle.rpm_outside.specs.Moments.{started, goes_on}
-use Rattle.rpm_hindex.specs.Disks.{OthersFrom, changes_then, Changes, SameSeal, VoidOrSame, SealedOrSame, IsSame}
-
-module _ {D : Type 0} (tells : Bool) (files : D → Files) (left_since : D → ℕ → Files → Type 0) (moment : D → ℕ) (bytes_read : D → File → ℕ) (follows : D → D → Type 0) where
-  -- one write of the disk
-  pub wrote : (at : ℕ) (us : Units) (a b : D) → (IsTrue tells → TornFile Idx at us (files a) (files b)) → (IsTrue tells → Follows (TornFile Idx at us) (left_since a (moment a)) (left_since b (moment b)))
-      → (IsTrue tells → Elapses (moment a) (moment b) (left_since a) (left_since b)) → ((f : File) → bytes_read b f ≡ bytes_read a f) → follows a b → Changes tells files left_since moment bytes_read follows (Torn at us) a b
-  wrote at us a b torn images time reads next =
-      let past = left_since a (moment a) in
-      let now : IsTrue tells → (image : Files) → left_since b (moment b) image → OthersFrom past (Torn at us) image = λ told image left.
-      let f = images told image left in
-      record { from = f.0; was = f.1; pkg = ap (λ (g : Files). g.pkg) f.2.others; log = ap (λ (g : Files). g.log) f.2.others; idx = f.2.torn } in
-      record {
-        pkg = λ told. ap (λ (g : Files). g.pkg) (torn told).others;
-        log = λ told. ap (λ (g : Files). g.log) (torn told).others;
-        now = now;
-        any_moment = λ told.
-            goes_on moment left_since a a b (OthersFrom past (Torn at us))
-            (started moment left_since a (OthersFrom past (Torn at us)) (λ image left. record { from = image; was = left; pkg = refl; log = refl; idx = torn_none at us image.idx }))
-            (time told) (now told);
-        reads = reads;
-        goes_on = next;
-      }
+use Rattle.rpm_outside.specs.inner.Moments.{started, goes_on}
+use Rattle.rpm_outside.specs.Changes.{Changes, IsSame}
+use Rattle.rpm_outside.specs.inner.Changing.{changes_then}
+use Rattle.rpm_hindex.specs.Images.{SameSeal, VoidOrSame, SealedOrSame}
 
 -- a write behind unit 0 leaves it
 pub torn_behind : (at : ℕ) (us a b : Units) → 1 ≤ at → Torn at us a b → SameSeal a b
@@ -82,9 +63,17 @@ module _ (unit : List ℕ) (a b : Units) (torn : Torn 0 (unit ∷ []) a b) where
   ]
 
 -- runs that leave unit 0, one after the other
-module _ {D : Type 0} (tells : Bool) (files : D → Files) (left_since : D → ℕ → Files → Type 0) (moment : D → ℕ) (bytes_read : D → File → ℕ) (follows : D → D → Type 0) (trans : (a b c : D) → follows a b → follows b c → follows a c) (a b c : D) where
-  pub seal_then : Changes tells files left_since moment bytes_read follows SameSeal a b → Changes tells files left_since moment bytes_read follows SameSeal b c → Changes tells files left_since moment bytes_read follows SameSeal a c
-  seal_then first second = changes_then tells files left_since moment bytes_read follows trans SameSeal SameSeal SameSeal (λ u. Unit {0}) (λ x y p. p) (λ x y z p m q. q ∙ p) a b c (λ told image left. tt) first second
+module _ {D : Type 0} (tells : Bool) (files : D → Files) (left_since : D → ℕ → Files → Type 0) (moment : D → ℕ)
+    (bytes_read : D → File → ℕ) (follows : D → D → Type 0) (trans : (a b c : D) → follows a b → follows b c → follows a c) (a b c : D) where
+  abbrev Run : (Units → Units → Type 0) → D → D → Type 0
+  Run P = Changes tells files left_since moment bytes_read follows Idx P 0
 
-  pub seal_sync : Changes tells files left_since moment bytes_read follows SameSeal a b → Changes tells files left_since moment bytes_read follows IsSame b c → Changes tells files left_since moment bytes_read follows SameSeal a c
-  seal_sync first second = changes_then tells files left_since moment bytes_read follows trans SameSeal IsSame SameSeal (λ u. Unit {0}) (λ x y p. p) (λ x y z p m q. ap (λ (u : Units). unit_at u 0) q ∙ p) a b c (λ told image left. tt) first second
+  pub seal_then : Run SameSeal a b → Run SameSeal b c → Run SameSeal a c
+  seal_then first second =
+      changes_then tells files left_since moment bytes_read follows Idx trans SameSeal SameSeal SameSeal 0 0 0 a b c (omega arith) (λ x y p. p)
+      (λ x y z p q. q ∙ p) first second
+
+  pub seal_sync : Run SameSeal a b → Run IsSame b c → Run SameSeal a c
+  seal_sync first second =
+      changes_then tells files left_since moment bytes_read follows Idx trans SameSeal IsSame SameSeal 0 0 0 a b c (omega arith) (λ x y p. p)
+      (λ x y z p q. ap (λ (u : Units). unit_at u 0) q ∙ p) first second

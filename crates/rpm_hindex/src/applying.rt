@@ -6,7 +6,9 @@ ghost use Rattle.rpm_outside.specs.Causes.{HasCause};
 ghost use Rattle.rpm_hindex.specs.Rows.{Row};
 ghost use Rattle.rpm_hindex.specs.Index.{records};
 ghost use Rattle.rpm_hindex.specs.State.{State, Keeps, is_ordered};
-ghost use Rattle.rpm_hindex.specs.Disks.{Changes, SameSeal, VoidOrSameSeal, IsSettled};
+ghost use Rattle.rpm_outside.specs.declared.disk.File.TheVariants.{Idx};
+ghost use Rattle.rpm_outside.specs.Changes.{Changes, IsSettled};
+ghost use Rattle.rpm_hindex.specs.Images.{SameSeal, VoidOrSameSeal};
 ghost use Rattle.rpm_hindex.specs.Plans.{ArePatches, CanWrite, patch_at, after, after_units, after_tail, buckets_after, second_after, units_after, LeavesOrder, IsPlanFor, IsChanged};
 
 use crate::faults::IndexDiskFault;
@@ -20,7 +22,7 @@ fn write_patch<D: Disk>(disk: &mut D, patch: Patch) -> Result<(), IndexDiskFault
     requires behind { 1 ≤ patch.unit }
     requires room { patch.unit < 2 ^ 28 }
     ensures written { OnOk result (IsTrue D.tells → (D.files disk.new).idx ≡ put patch.unit (patch.words ∷ []) (D.files disk.old).idx) }
-    ensures changes { Changes D.tells D.files D.left_since D.moment D.bytes_read D.follows SameSeal disk.old disk.new }
+    ensures changes { Changes D.tells D.files D.left_since D.moment D.bytes_read D.follows Idx SameSeal 0 disk.old disk.new }
     ensures cause { HasCause (D.faults disk.old) (D.faults disk.new) result }
 {
     write_units(disk, patch.unit as u64, &patch.words)
@@ -30,7 +32,7 @@ fn write_patch<D: Disk>(disk: &mut D, patch: Patch) -> Result<(), IndexDiskFault
 fn write_patches<D: Disk>(disk: &mut D, patches: &[Patch]) -> Result<(), IndexDiskFault>
     requires { (k : ℕ) → k < length patches.now → (1 ≤ (patch_at patches.now k).unit) × ((patch_at patches.now k).unit < 2 ^ 28) }
     ensures written { OnOk result (IsTrue D.tells → (D.files disk.new).idx ≡ after_units patches.now (D.files disk.old).idx) }
-    ensures changes { Changes D.tells D.files D.left_since D.moment D.bytes_read D.follows SameSeal disk.old disk.new }
+    ensures changes { Changes D.tells D.files D.left_since D.moment D.bytes_read D.follows Idx SameSeal 0 disk.old disk.new }
     ensures cause { HasCause (D.faults disk.old) (D.faults disk.new) result }
 {
     for k in 0..patches.len() {
@@ -47,7 +49,7 @@ fn write_tail<D: Disk>(disk: &mut D, used: u32, tail: &[u8]) -> Result<(), Index
     requires whole { length tail.now % 16 ≡ 0 }
     requires room { used + length tail.now / 16 ≤ 2 ^ 28 }
     ensures written { OnOk result (IsTrue D.tells → (D.files disk.new).idx ≡ after_tail used tail.now (D.files disk.old).idx) }
-    ensures changes { Changes D.tells D.files D.left_since D.moment D.bytes_read D.follows SameSeal disk.old disk.new }
+    ensures changes { Changes D.tells D.files D.left_since D.moment D.bytes_read D.follows Idx SameSeal 0 disk.old disk.new }
     ensures cause { HasCause (D.faults disk.old) (D.faults disk.new) result }
 {
     if tail.is_empty() {
@@ -58,12 +60,14 @@ fn write_tail<D: Disk>(disk: &mut D, used: u32, tail: &[u8]) -> Result<(), Index
 
 /// Writes the units that change, and the records behind all others.
 fn write_records<D: Disk>(disk: &mut D, patches: &Patches) -> Result<(), IndexDiskFault>
-    requires units { (k : ℕ) → k < length patches.now.units.items → (1 ≤ (patch_at patches.now.units.items k).unit) × ((patch_at patches.now.units.items k).unit < 2 ^ 28) }
+    requires units { (k : ℕ) → k < length patches.now.units.items → (1 ≤ (patch_at patches.now.units.items k).unit)
+        × ((patch_at patches.now.units.items k).unit < 2 ^ 28) }
     requires behind { 1 ≤ patches.now.used }
     requires whole { length patches.now.tail.items % 16 ≡ 0 }
     requires room { patches.now.used + length patches.now.tail.items / 16 ≤ 2 ^ 28 }
-    ensures written { OnOk result (IsTrue D.tells → (D.files disk.new).idx ≡ after_tail patches.now.used patches.now.tail.items (after_units patches.now.units.items (D.files disk.old).idx)) }
-    ensures changes { Changes D.tells D.files D.left_since D.moment D.bytes_read D.follows SameSeal disk.old disk.new }
+    ensures written { OnOk result (IsTrue D.tells → (D.files disk.new).idx ≡ after_tail patches.now.used patches.now.tail.items
+        (after_units patches.now.units.items (D.files disk.old).idx)) }
+    ensures changes { Changes D.tells D.files D.left_since D.moment D.bytes_read D.follows Idx SameSeal 0 disk.old disk.new }
     ensures cause { HasCause (D.faults disk.old) (D.faults disk.new) result }
 {
     let Ok(()) = write_patches(disk, &patches.units) else {
@@ -75,8 +79,8 @@ fn write_records<D: Disk>(disk: &mut D, patches: &Patches) -> Result<(), IndexDi
 /// Writes unit 1, and settles the file.
 fn write_counts<D: Disk>(disk: &mut D, second: [u8; 16]) -> Result<(), IndexDiskFault>
     ensures written { OnOk result (IsTrue D.tells → (D.files disk.new).idx ≡ put 1 (second ∷ []) (D.files disk.old).idx) }
-    ensures settled { OnOk result (IsTrue D.tells → IsSettled (D.files disk.new).idx (D.left_since disk.new (D.moment disk.new))) }
-    ensures changes { Changes D.tells D.files D.left_since D.moment D.bytes_read D.follows SameSeal disk.old disk.new }
+    ensures settled { OnOk result (IsTrue D.tells → IsSettled Idx (D.files disk.new) (D.left_since disk.new (D.moment disk.new))) }
+    ensures changes { Changes D.tells D.files D.left_since D.moment D.bytes_read D.follows Idx SameSeal 0 disk.old disk.new }
     ensures cause { HasCause (D.faults disk.old) (D.faults disk.new) result }
 {
     let patch = Patch {
@@ -98,9 +102,10 @@ impl Hindex {
         ensures second { OnOk result (self.new.second ≡ patches.now.second) }
         ensures units { OnOk result (patches.now.used + length patches.now.tail.items / 16 ≤ self.new.units) }
         ensures kept { OnOk result (IsTrue D.tells → Keeps (D.files disk.new).idx self.new) }
-        ensures written { OnOk result (IsTrue D.tells → (D.files disk.new).idx ≡ put 1 (patches.now.second ∷ []) (after_tail patches.now.used patches.now.tail.items (after_units patches.now.units.items (D.files disk.old).idx))) }
-        ensures settled { OnOk result (IsTrue D.tells → IsSettled (D.files disk.new).idx (D.left_since disk.new (D.moment disk.new))) }
-        ensures changes { Changes D.tells D.files D.left_since D.moment D.bytes_read D.follows SameSeal disk.old disk.new }
+        ensures written { OnOk result (IsTrue D.tells → (D.files disk.new).idx ≡ put 1 (patches.now.second ∷ [])
+            (after_tail patches.now.used patches.now.tail.items (after_units patches.now.units.items (D.files disk.old).idx))) }
+        ensures settled { OnOk result (IsTrue D.tells → IsSettled Idx (D.files disk.new) (D.left_since disk.new (D.moment disk.new))) }
+        ensures changes { Changes D.tells D.files D.left_since D.moment D.bytes_read D.follows Idx SameSeal 0 disk.old disk.new }
         ensures cause { HasCause (D.faults disk.old) (D.faults disk.new) result }
     {
         let Ok(()) = write_records(disk, patches) else {
@@ -133,9 +138,10 @@ impl Hindex {
         ensures ordered { OnOk result (LeavesOrder plan.work → is_ordered self.new.pending self.new.second self.new.units ≡ true) }
         ensures kept { OnOk result (IsTrue D.tells → Keeps (D.files disk.new).idx self.new) }
         ensures written { OnOk result (IsTrue D.tells → (D.files disk.new).idx ≡ after plan.work (D.files disk.old).idx) }
-        ensures rows { OnOk result (IsTrue D.tells → (drops adds : List Row) (buckets : ℕ) → IsPlanFor drops adds buckets (D.files disk.old).idx plan.work → IsChanged drops adds (records buckets (D.files disk.old).idx) (buckets_after plan.work) (D.files disk.new).idx) }
-        ensures settled { OnOk result (IsTrue D.tells → IsSettled (D.files disk.new).idx (D.left_since disk.new (D.moment disk.new))) }
-        ensures changes { Changes D.tells D.files D.left_since D.moment D.bytes_read D.follows VoidOrSameSeal disk.old disk.new }
+        ensures rows { OnOk result (IsTrue D.tells → (drops adds : List Row) (buckets : ℕ) → IsPlanFor drops adds buckets (D.files disk.old).idx
+            plan.work → IsChanged drops adds (records buckets (D.files disk.old).idx) (buckets_after plan.work) (D.files disk.new).idx) }
+        ensures settled { OnOk result (IsTrue D.tells → IsSettled Idx (D.files disk.new) (D.left_since disk.new (D.moment disk.new))) }
+        ensures changes { Changes D.tells D.files D.left_since D.moment D.bytes_read D.follows Idx VoidOrSameSeal 0 disk.old disk.new }
         ensures cause { HasCause (D.faults disk.old) (D.faults disk.new) result }
     {
         match &plan.work {

@@ -11,8 +11,9 @@ ghost use Rattle.rpm_hindex.specs.Sizes.{first_record};
 ghost use Rattle.rpm_hindex.specs.Index.{Index, index_in, chain, follow, is_link, is_sound, is_placed, next_at, length_at, units_at, row_at, bucket_unit, records};
 ghost use Rattle.rpm_hindex.specs.Whole.{IsWellFormed};
 ghost use Rattle.rpm_hindex.specs.State.{State, Keeps, is_in_order, buckets_of};
-ghost use Rattle.rpm_hindex.specs.Disks.{LooksAt, Reads};
-ghost use Rattle.rpm_hindex.specs.Records.{IsOpen, IsRecord};
+ghost use Rattle.rpm_outside.specs.declared.disk.File.TheVariants.{Idx};
+ghost use Rattle.rpm_outside.specs.Looks.{Looks, LooksAt};
+ghost use Rattle.rpm_hindex.specs.inner.Records.{IsOpen, IsRecord};
 ghost use Rattle.rpm_hindex.specs.Answers.{AsOften, AreHits, FindIs, IsFaultOf, ChainCosts, AddsHit, has_key, IsRising, times_hit};
 
 use crate::faults::FindFault;
@@ -30,6 +31,13 @@ use std::alloc::Global;
 pub struct Extent {
     pub buckets: u32,
     pub used: u32,
+}
+
+/// The unit of a bucket's word, and the word.
+#[derive(Clone, Copy)]
+pub struct Bucket {
+    pub words: [u8; 16],
+    pub at: u32,
 }
 
 /// A record of a chain.
@@ -62,14 +70,16 @@ fn is_placed(extent: Extent, at: u32, head: &[u8]) -> bool
 }
 
 /// The word of a bucket.
-pub fn read_bucket<D: Disk>(disk: &mut D, extent: Extent, bucket: u32) -> Result<u32, FindFault>
+pub fn read_bucket<D: Disk>(disk: &mut D, extent: Extent, bucket: u32) -> Result<Bucket, FindFault>
     requires few { extent.buckets ≤ 2 ^ 28 }
     requires bucket { bucket < extent.buckets }
     requires open { IsTrue D.tells → IsOpen extent (D.files disk.old).idx }
-    ensures word { IfOk result (λ at. IsTrue D.tells → (at ≡ (index_in extent.buckets (D.files disk.old).idx).head bucket) × (is_link (index_in extent.buckets (D.files disk.old).idx) at ≡ true)) }
-    ensures within { IfOk result (λ at. 0 < at → at < extent.used) }
+    ensures words { IfOk result (λ b. IsTrue D.tells → b.words ≡ unit_at (D.files disk.old).idx (bucket_unit bucket)) }
+    ensures word { IfOk result (λ b. IsTrue D.tells → (b.at ≡ (index_in extent.buckets (D.files disk.old).idx).head bucket)
+        × (is_link (index_in extent.buckets (D.files disk.old).idx) b.at ≡ true)) }
+    ensures within { IfOk result (λ b. 0 < b.at → b.at < extent.used) }
     ensures fault { IfErr result (λ e. IsTrue D.tells → IsFaultOf (chain (index_in extent.buckets (D.files disk.old).idx) bucket) e) }
-    ensures looks { LooksAt D.tells D.files D.left_since D.moment D.bytes_read D.follows 16 disk.old disk.new }
+    ensures looks { Looks D.tells D.files D.left_since D.moment D.bytes_read D.follows Idx 16 disk.old disk.new }
     ensures cause { HasCauseAt (result ≡ Err FindFault.DiskFault) (D.faults disk.old) (D.faults disk.new) }
 {
     let unit = 2 + bucket as u64 / 4;
@@ -80,7 +90,7 @@ pub fn read_bucket<D: Disk>(disk: &mut D, extent: Extent, bucket: u32) -> Result
     if !is_link(extent, at) {
         return Err(FindFault::BadIndex { unit });
     }
-    Ok(at)
+    Ok(Bucket { words, at })
 }
 
 /// The record at a unit that a link names.
@@ -102,8 +112,9 @@ pub fn read_record<D: Disk>(
     ensures short { IfOk result (λ r. length r.key.items < 2 ^ 28) }
     ensures record { IfOk result (λ r. IsTrue D.tells → IsRecord (index_in extent.buckets (D.files disk.old).idx) bucket at r) }
     ensures fault { IfErr result (λ e. IsTrue D.tells → IsFaultOf (follow (index_in extent.buckets (D.files disk.old).idx) bucket at at) e) }
-    ensures cost { IsTrue D.tells → is_sound (index_in extent.buckets (D.files disk.old).idx) bucket at ≡ true → D.bytes_read disk.new File.Idx ≤ D.bytes_read disk.old File.Idx + 16 * units_at (unit_at (D.files disk.old).idx) at }
-    ensures looks { Reads D.tells D.files D.left_since D.moment D.bytes_read D.follows disk.old disk.new }
+    ensures cost { IsTrue D.tells → is_sound (index_in extent.buckets (D.files disk.old).idx) bucket at ≡ true → D.bytes_read disk.new File.Idx
+        ≤ D.bytes_read disk.old File.Idx + 16 * units_at (unit_at (D.files disk.old).idx) at }
+    ensures looks { LooksAt D.tells D.files D.left_since D.moment D.bytes_read D.follows Idx disk.old disk.new }
     ensures cause { HasCauseAt (result ≡ Err FindFault.DiskFault) (D.faults disk.old) (D.faults disk.new) }
 {
     let Ok(head) = read_unit(disk, at as u64) else {
@@ -139,7 +150,12 @@ fn has_key(found: &Record, kind: u8, key: &[u8]) -> bool
 
 /// Adds the hit of a record, where it has this kind and key.
 fn push_hit(hits: &mut Vec<Hit>, found: &Record, kind: u8, key: &[u8]) -> Result<(), FindFault>
-    ensures hits { OnOk result (AddsHit kind key.now (record { kind = found.now.kind; key = found.now.key.items; number = found.now.number; place = found.now.place }) hits.old.items hits.new.items) }
+    ensures hits { OnOk result (AddsHit kind key.now (record {
+      kind = found.now.kind;
+      key = found.now.key.items;
+      number = found.now.number;
+      place = found.now.place;
+    }) hits.old.items hits.new.items) }
     ensures memory { IfErr result (λ e. e ≡ FindFault.NoMemory) }
 {
     if !has_key(found, kind, key) {
@@ -168,9 +184,11 @@ fn collect<D: Disk>(
     requires some { 0 < extent.buckets }
     requires open { IsTrue D.tells → IsOpen extent (D.files disk.old).idx }
     requires within { 0 < from → from < extent.used }
-    ensures told { IsTrue D.tells → FindIs (λ places hits. AsOften kind key.now (map (row_at (unit_at (D.files disk.old).idx)) places) hits.items) (follow (index_in extent.buckets (D.files disk.old).idx) (hash_of kind key.now % extent.buckets) from from) result }
-    ensures cost { IsTrue D.tells → ChainCosts (follow (index_in extent.buckets (D.files disk.old).idx) (hash_of kind key.now % extent.buckets) from from) (units_at (unit_at (D.files disk.old).idx)) (D.bytes_read disk.old File.Idx) (D.bytes_read disk.new File.Idx) }
-    ensures looks { Reads D.tells D.files D.left_since D.moment D.bytes_read D.follows disk.old disk.new }
+    ensures told { IsTrue D.tells → FindIs (λ places hits. AsOften kind key.now (map (row_at (unit_at (D.files disk.old).idx)) places) hits.items)
+        (follow (index_in extent.buckets (D.files disk.old).idx) (hash_of kind key.now % extent.buckets) from from) result }
+    ensures cost { IsTrue D.tells → ChainCosts (follow (index_in extent.buckets (D.files disk.old).idx) (hash_of kind key.now % extent.buckets) from
+        from) (units_at (unit_at (D.files disk.old).idx)) (D.bytes_read disk.old File.Idx) (D.bytes_read disk.new File.Idx) }
+    ensures looks { LooksAt D.tells D.files D.left_since D.moment D.bytes_read D.follows Idx disk.old disk.new }
     ensures cause { HasCauseAt (result ≡ Err FindFault.DiskFault) (D.faults disk.old) (D.faults disk.new) }
 {
     let bucket = bucket_of(kind, key, extent.buckets);
@@ -200,14 +218,16 @@ fn gather<D: Disk>(
     requires few { extent.buckets ≤ 2 ^ 28 }
     requires some { 0 < extent.buckets }
     requires open { IsTrue D.tells → IsOpen extent (D.files disk.old).idx }
-    ensures told { IsTrue D.tells → FindIs (λ places hits. AsOften kind key.now (map (row_at (unit_at (D.files disk.old).idx)) places) hits.items) (chain (index_in extent.buckets (D.files disk.old).idx) (hash_of kind key.now % extent.buckets)) result }
-    ensures cost { IsTrue D.tells → ChainCosts (chain (index_in extent.buckets (D.files disk.old).idx) (hash_of kind key.now % extent.buckets)) (units_at (unit_at (D.files disk.old).idx)) (D.bytes_read disk.old File.Idx + 16) (D.bytes_read disk.new File.Idx) }
-    ensures looks { Reads D.tells D.files D.left_since D.moment D.bytes_read D.follows disk.old disk.new }
+    ensures told { IsTrue D.tells → FindIs (λ places hits. AsOften kind key.now (map (row_at (unit_at (D.files disk.old).idx)) places) hits.items)
+        (chain (index_in extent.buckets (D.files disk.old).idx) (hash_of kind key.now % extent.buckets)) result }
+    ensures cost { IsTrue D.tells → ChainCosts (chain (index_in extent.buckets (D.files disk.old).idx) (hash_of kind key.now % extent.buckets))
+        (units_at (unit_at (D.files disk.old).idx)) (D.bytes_read disk.old File.Idx + 16) (D.bytes_read disk.new File.Idx) }
+    ensures looks { LooksAt D.tells D.files D.left_since D.moment D.bytes_read D.follows Idx disk.old disk.new }
     ensures cause { HasCauseAt (result ≡ Err FindFault.DiskFault) (D.faults disk.old) (D.faults disk.new) }
 {
     let bucket = bucket_of(kind, key, extent.buckets);
     match read_bucket(disk, extent, bucket) {
-        Ok(at) => collect(alloc, disk, extent, at, kind, key),
+        Ok(found) => collect(alloc, disk, extent, found.at, kind, key),
         Err(fault) => Err(fault),
     }
 }
@@ -253,10 +273,14 @@ impl Hindex {
         requires order { is_in_order self.now ≡ true }
         requires keeps { IsTrue D.tells → Keeps (D.files disk.old).idx self.now }
         ensures kept { IsTrue D.tells → Keeps (D.files disk.new).idx self.now }
-        ensures told { IsTrue D.tells → FindIs (λ places hits. AreHits kind key.now (map (row_at (unit_at (D.files disk.old).idx)) places) hits) (chain (index_in (buckets_of self.now.first) (D.files disk.old).idx) (hash_of kind key.now % buckets_of self.now.first)) result }
-        ensures rows { IfOk result (λ hits. IsTrue D.tells → IsWellFormed (buckets_of self.now.first) (D.files disk.old).idx → AreHits kind key.now (records (buckets_of self.now.first) (D.files disk.old).idx) hits) }
-        ensures cost { IsTrue D.tells → ChainCosts (chain (index_in (buckets_of self.now.first) (D.files disk.old).idx) (hash_of kind key.now % buckets_of self.now.first)) (units_at (unit_at (D.files disk.old).idx)) (D.bytes_read disk.old File.Idx + 16) (D.bytes_read disk.new File.Idx) }
-        ensures looks { Reads D.tells D.files D.left_since D.moment D.bytes_read D.follows disk.old disk.new }
+        ensures told { IsTrue D.tells → FindIs (λ places hits. AreHits kind key.now (map (row_at (unit_at (D.files disk.old).idx)) places) hits)
+            (chain (index_in (buckets_of self.now.first) (D.files disk.old).idx) (hash_of kind key.now % buckets_of self.now.first)) result }
+        ensures rows { IfOk result (λ hits. IsTrue D.tells → IsWellFormed (buckets_of self.now.first) (D.files disk.old).idx → AreHits kind key.now
+            (records (buckets_of self.now.first) (D.files disk.old).idx) hits) }
+        ensures cost { IsTrue D.tells → ChainCosts (chain (index_in (buckets_of self.now.first) (D.files disk.old).idx)
+            (hash_of kind key.now % buckets_of self.now.first)) (units_at (unit_at (D.files disk.old).idx)) (D.bytes_read disk.old File.Idx + 16)
+            (D.bytes_read disk.new File.Idx) }
+        ensures looks { LooksAt D.tells D.files D.left_since D.moment D.bytes_read D.follows Idx disk.old disk.new }
         ensures cause { HasCauseAt (result ≡ Err FindFault.DiskFault) (D.faults disk.old) (D.faults disk.new) }
     {
         match gather(alloc, disk, self.extent(), kind, key) {

@@ -3,15 +3,18 @@
 ghost use Rattle.std.specs.Prelude.{◌≡◌, ℕ, ◌+◌, ◌*◌, ◌/◌, ◌%◌, ◌^◌, ◌≤◌, ◌<◌, IsTrue, true, length, [], ◌∷◌, None, List, Result, OnOk, IfOk, IfErr, Err};
 ghost use Rattle.std.specs.Ordering.{nat_cmp};
 ghost use Rattle.std.specs.BTreeMap.{get};
+ghost use Rattle.rpm_outside.specs.Files.{unit_at};
 ghost use Rattle.rpm_outside.specs.Causes.{HasCauseAt};
-ghost use Rattle.rpm_hindex.specs.Disks.{Reads};
-ghost use Rattle.rpm_hindex.specs.Records.{IsOpen};
-ghost use Rattle.rpm_hindex.specs.Rows.{same_row};
+ghost use Rattle.rpm_outside.specs.declared.disk.File.TheVariants.{Idx};
+ghost use Rattle.rpm_outside.specs.Looks.{Looks, LooksAt};
+ghost use Rattle.rpm_hindex.specs.inner.Records.{IsOpen};
+ghost use Rattle.rpm_hindex.specs.Rows.{same_row, hash_of};
 ghost use Rattle.rpm_hindex.specs.Packed.{row_nth};
 ghost use Rattle.rpm_hindex.specs.Sizes.{record_units, first_record};
-ghost use Rattle.rpm_hindex.specs.Changes.{CanGo, AddsRows, IsCut, IsHonest, IsBad, IsChainFault, changing, IsOther, Puts, row_of, NoneBefore, IsOfRow, HasLess, kept_of, is_kept};
-ghost use Rattle.rpm_hindex.specs.Index.{index_in};
-ghost use Rattle.rpm_hindex.specs.Answers.{IsFaultOf};
+ghost use Rattle.rpm_hindex.specs.inner.Changes.{CanGo, AddsRows, IsCut, IsHonest, IsChainFault, changing, IsOther, Puts, row_of, NoneBefore, IsOfRow, HasLess, kept_of, is_kept};
+ghost use Rattle.rpm_hindex.specs.Refusals.{IsBad};
+ghost use Rattle.rpm_hindex.specs.Index.{index_in, chain, units_at};
+ghost use Rattle.rpm_hindex.specs.Answers.{IsFaultOf, ChainCosts};
 ghost use Rattle.rpm_hindex.specs.Whole.{IsWellFormed, IsWhole};
 
 use crate::chain::{Extent, Record, is_link};
@@ -49,7 +52,8 @@ pub struct RowRef<'a> {
 
 /// Whether a record is of this row.
 fn is_row(found: &Record, row: RowRef<'_>) -> bool
-    ensures { result ≡ same_row (record { kind = row.entry.kind; key = row.entry.key.now; number = row.entry.number; place = row.entry.place }) (row_of found.now) }
+    ensures { result ≡ same_row (record { kind = row.entry.kind; key = row.entry.key.now; number = row.entry.number; place = row.entry.place })
+        (row_of found.now) }
 {
     row.kind == found.kind
         && (row.key == found.key.as_slice()
@@ -59,7 +63,8 @@ fn is_row(found: &Record, row: RowRef<'_>) -> bool
 /// The first link of this row, or how many links there are.
 fn position_of(links: &[Link], row: RowRef<'_>) -> usize
     ensures bound { result ≤ length links.now }
-    ensures before { NoneBefore (record { kind = row.entry.kind; key = row.entry.key.now; number = row.entry.number; place = row.entry.place }) links.now result }
+    ensures before { NoneBefore (record { kind = row.entry.kind; key = row.entry.key.now; number = row.entry.number; place = row.entry.place })
+        links.now result }
     ensures found { IsOfRow (record { kind = row.entry.kind; key = row.entry.key.now; number = row.entry.number; place = row.entry.place }) links.now result }
 {
     let mut at = 0;
@@ -135,18 +140,26 @@ impl Change {
         ensures other { IfErr result (λ e. IsOther e) }
         ensures extent { OnOk result (self.new.extent ≡ self.old.extent) }
         ensures tail { OnOk result (self.new.tail ≡ self.old.tail) }
-        ensures less { OnOk result (IsTrue D.tells → IsWellFormed self.old.extent.buckets (D.files disk.old).idx → HasLess ((record { kind = row.entry.kind; key = row.entry.key.now; number = row.entry.number; place = row.entry.place }) ∷ []) (kept_of (index_in self.old.extent.buckets (D.files disk.old).idx) (is_kept (λ p. get nat_cmp self.old.dropped p))) (kept_of (index_in self.old.extent.buckets (D.files disk.old).idx) (is_kept (λ p. get nat_cmp self.new.dropped p)))) }
-        ensures cuts { OnOk result (IsTrue D.tells → IsWellFormed self.old.extent.buckets (D.files disk.old).idx → length self.old.tail.items ≡ 0 → IsCut self.old (D.files disk.old).idx → IsCut self.new (D.files disk.old).idx) }
+        ensures less { OnOk result (IsTrue D.tells → IsWellFormed self.old.extent.buckets (D.files disk.old).idx
+            → HasLess ((record { kind = row.entry.kind; key = row.entry.key.now; number = row.entry.number; place = row.entry.place }) ∷ [])
+            (kept_of (index_in self.old.extent.buckets (D.files disk.old).idx) (is_kept (λ p. get nat_cmp self.old.dropped p)))
+            (kept_of (index_in self.old.extent.buckets (D.files disk.old).idx) (is_kept (λ p. get nat_cmp self.new.dropped p)))) }
+        ensures cuts { OnOk result (IsTrue D.tells → IsWellFormed self.old.extent.buckets (D.files disk.old).idx → length self.old.tail.items ≡ 0
+            → IsCut self.old (D.files disk.old).idx → IsCut self.new (D.files disk.old).idx) }
         ensures honest { OnOk result (IsTrue D.tells → IsHonest self.old (D.files disk.old).idx → IsHonest self.new (D.files disk.old).idx) }
         ensures bad { IfErr result (λ e. IsTrue D.tells → IsHonest self.old (D.files disk.old).idx → IsBad self.old.extent.buckets (D.files disk.old).idx e) }
-        ensures looks { Reads D.tells D.files D.left_since D.moment D.bytes_read D.follows disk.old disk.new }
+        ensures cost { IsTrue D.tells → ChainCosts (chain (index_in self.old.extent.buckets (D.files disk.old).idx)
+            (hash_of row.entry.kind row.entry.key.now % self.old.extent.buckets)) (units_at (unit_at (D.files disk.old).idx))
+            (D.bytes_read disk.old Idx + 16) (D.bytes_read disk.new Idx) }
+        ensures looks { LooksAt D.tells D.files D.left_since D.moment D.bytes_read D.follows Idx disk.old disk.new }
         ensures cause { HasCauseAt (result ≡ Err PrepareFault.DiskFault) (D.faults disk.old) (D.faults disk.new) }
     {
         let bucket = bucket_of(row.kind, row.key, self.extent.buckets);
-        let links = match read_links(alloc, disk, self.extent, bucket, &self.dropped) {
-            Ok(links) => links,
+        let chain = match read_links(alloc, disk, self.extent, bucket, &self.dropped) {
+            Ok(chain) => chain,
             Err(fault) => return Err(prepare_fault(fault)),
         };
+        let links = chain.links;
         let at = position_of(&links, row);
         if at == links.len() {
             return Ok(());
@@ -155,7 +168,14 @@ impl Change {
         if self.records == 0 || self.live < units {
             return Err(PrepareFault::BadIndex { unit: 1 });
         }
-        if let Err(fault) = unlink(&mut self.units, disk, self.extent, bucket, &links, at) {
+        if let Err(fault) = unlink(
+            &mut self.units,
+            &chain.words,
+            self.extent,
+            bucket,
+            &links,
+            at,
+        ) {
             return Err(fault);
         }
         self.records -= 1;
@@ -185,10 +205,16 @@ impl Change {
         ensures tail { OnOk result (length self.new.tail.items / 16 ≡ length self.old.tail.items / 16 + record_units (length row.entry.key.now)) }
         ensures records { OnOk result (self.new.records ≡ self.old.records + 1) }
         ensures live { OnOk result (self.new.live ≡ self.old.live + record_units (length row.entry.key.now)) }
-        ensures adds { OnOk result (IsTrue D.tells → IsWhole self.old.records self.old.live (changing self.old (D.files disk.old).idx) → AddsRows self.old self.new (D.files disk.old).idx ((record { kind = row.entry.kind; key = row.entry.key.now; number = row.entry.number; place = row.entry.place }) ∷ [])) }
+        ensures adds { OnOk result (IsTrue D.tells → IsWhole self.old.records self.old.live (changing self.old (D.files disk.old).idx)
+            → AddsRows self.old self.new (D.files disk.old).idx ((record {
+              kind = row.entry.kind;
+              key = row.entry.key.now;
+              number = row.entry.number;
+              place = row.entry.place;
+            }) ∷ [])) }
         ensures honest { OnOk result (IsTrue D.tells → IsHonest self.old (D.files disk.old).idx → IsHonest self.new (D.files disk.old).idx) }
         ensures bad { IfErr result (λ e. IsTrue D.tells → IsHonest self.old (D.files disk.old).idx → IsBad self.old.extent.buckets (D.files disk.old).idx e) }
-        ensures looks { Reads D.tells D.files D.left_since D.moment D.bytes_read D.follows disk.old disk.new }
+        ensures looks { Looks D.tells D.files D.left_since D.moment D.bytes_read D.follows Idx 16 disk.old disk.new }
         ensures cause { HasCauseAt (result ≡ Err PrepareFault.DiskFault) (D.faults disk.old) (D.faults disk.new) }
     {
         let bucket = bucket_of(row.kind, row.key, self.extent.buckets);

@@ -5,7 +5,7 @@ ghost use Rattle.std.specs.List.{flat_map};
 ghost use Rattle.rpm_hindex.specs.Words.{bytes_of_word, unit_of_words};
 ghost use Rattle.rpm_hindex.specs.Rows.{Row};
 ghost use Rattle.rpm_hindex.specs.Sizes.{record_units, first_record, live_of, is_bucket_count};
-ghost use Rattle.rpm_hindex.specs.Drafts.{IsDraft, IsImage};
+ghost use Rattle.rpm_hindex.specs.inner.Drafts.{IsDraft, IsImage};
 
 use crate::hashing::bucket_of;
 use crate::making::push_record;
@@ -67,7 +67,8 @@ fn add_record(
     requires key { length key.now < 2 ^ 28 }
     ensures heads { OnOk result (length draft.new.heads.items ≡ length draft.old.heads.items) }
     ensures long { OnOk result (length draft.new.bytes.items ≡ length draft.old.bytes.items + 16 * record_units (length key.now)) }
-    ensures rows { OnOk result ((rows : List Row) → IsDraft rows draft.old.heads.items draft.old.bytes.items → IsDraft (rows ++ record { kind = kind; key = key.now; number = number; place = place } ∷ []) draft.new.heads.items draft.new.bytes.items) }
+    ensures rows { OnOk result ((rows : List Row) → IsDraft rows draft.old.heads.items draft.old.bytes.items
+        → IsDraft (rows ++ record { kind = kind; key = key.now; number = number; place = place } ∷ []) draft.new.heads.items draft.new.bytes.items) }
 {
     let at = 1 + (draft.bytes.len() / 16) as u32;
     let bucket = bucket_of(kind, key, draft.heads.len() as u32) as usize;

@@ -6,7 +6,8 @@ ghost use Rattle.rpm_outside.specs.Causes.{HasCause};
 ghost use Rattle.rpm_hindex.specs.Words.{word};
 ghost use Rattle.rpm_hindex.specs.Sizes.{first_record};
 ghost use Rattle.rpm_hindex.specs.State.{State, state_of, Keeps, is_headed, is_ordered, is_in_order, is_current, buckets_of};
-ghost use Rattle.rpm_hindex.specs.Disks.{LooksAt};
+ghost use Rattle.rpm_outside.specs.declared.disk.File.TheVariants.{Idx};
+ghost use Rattle.rpm_outside.specs.Looks.{Looks};
 
 use crate::faults::IndexDiskFault;
 use crate::reading::unit_or_zeros;
@@ -76,7 +77,7 @@ impl Hindex {
         ensures state { IfOk result (λ index. IsTrue D.tells → index ≡ state_of (D.files disk.old).idx) }
         ensures kept { IfOk result (λ index. IsTrue D.tells → Keeps (D.files disk.new).idx index) }
         ensures nothing_pending { IfOk result (λ index. index.pending ≡ 0) }
-        ensures looks { LooksAt D.tells D.files D.left_since D.moment D.bytes_read D.follows 32 disk.old disk.new }
+        ensures looks { Looks D.tells D.files D.left_since D.moment D.bytes_read D.follows Idx 32 disk.old disk.new }
         ensures cause { HasCause (D.faults disk.old) (D.faults disk.new) result }
     {
         let Ok(units) = disk.len(File::Idx) else {

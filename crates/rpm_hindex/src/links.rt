@@ -6,11 +6,12 @@ ghost use Rattle.std.specs.BTreeMap.{get};
 ghost use Rattle.std.specs.List.{filter};
 ghost use Rattle.rpm_outside.specs.Files.{unit_at};
 ghost use Rattle.rpm_outside.specs.Causes.{HasCauseAt};
-ghost use Rattle.rpm_hindex.specs.Index.{index_in, chain, follow};
-ghost use Rattle.rpm_hindex.specs.Records.{IsOpen};
-ghost use Rattle.rpm_hindex.specs.Disks.{Reads};
-ghost use Rattle.rpm_hindex.specs.Answers.{FindIs};
-ghost use Rattle.rpm_hindex.specs.Changes.{AreLinks, CanRelink, is_kept};
+ghost use Rattle.rpm_hindex.specs.Index.{index_in, chain, follow, units_at, bucket_unit};
+ghost use Rattle.rpm_hindex.specs.inner.Records.{IsOpen};
+ghost use Rattle.rpm_outside.specs.declared.disk.File.TheVariants.{Idx};
+ghost use Rattle.rpm_outside.specs.Looks.{LooksAt};
+ghost use Rattle.rpm_hindex.specs.Answers.{FindIs, ChainCosts};
+ghost use Rattle.rpm_hindex.specs.inner.Changes.{AreLinks, CanRelink, is_kept};
 
 use crate::chain::{Extent, Record, read_bucket, read_record};
 use crate::faults::FindFault;
@@ -25,13 +26,21 @@ pub struct Link {
     pub record: Record,
 }
 
+/// The unit of a bucket's word, and the links of its chain.
+#[derive(Drop)]
+pub struct Chain {
+    pub words: [u8; 16],
+    pub links: Vec<Link>,
+}
+
 /// Adds a link, where it isn't dropped.
 fn push_link(
     links: &mut Vec<Link>,
     dropped: &BTreeMap<u32, u32>,
     link: Link,
 ) -> Result<(), FindFault>
-    ensures links { OnOk result (links.new.items ≡ (if is_kept (λ p. get nat_cmp dropped.now p) link.at then links.old.items ++ link ∷ [] else links.old.items)) }
+    ensures links { OnOk result (links.new.items ≡ (if is_kept (λ p. get nat_cmp dropped.now p) link.at then links.old.items ++ link
+        ∷ [] else links.old.items)) }
     ensures memory { IfErr result (λ e. e ≡ FindFault.NoMemory) }
 {
     if dropped.contains_key(&link.at) {
@@ -50,17 +59,26 @@ pub fn read_links<D: Disk>(
     extent: Extent,
     bucket: u32,
     dropped: &BTreeMap<u32, u32>,
-) -> Result<Vec<Link>, FindFault>
+) -> Result<Chain, FindFault>
     requires few { extent.buckets ≤ 2 ^ 28 }
     requires bucket { bucket < extent.buckets }
     requires open { IsTrue D.tells → IsOpen extent (D.files disk.old).idx }
-    ensures relink { IfOk result (λ v. CanRelink extent.used v.items) }
-    ensures told { IsTrue D.tells → FindIs (λ places v. AreLinks (unit_at (D.files disk.old).idx) (filter (is_kept (λ p. get nat_cmp dropped.now p)) places) v.items) (chain (index_in extent.buckets (D.files disk.old).idx) bucket) result }
-    ensures looks { Reads D.tells D.files D.left_since D.moment D.bytes_read D.follows disk.old disk.new }
+    ensures words { IfOk result (λ c. IsTrue D.tells → c.words ≡ unit_at (D.files disk.old).idx (bucket_unit bucket)) }
+    ensures relink { IfOk result (λ c. CanRelink extent.used c.links.items) }
+    ensures told { IsTrue D.tells → FindIs (λ places c. AreLinks (unit_at (D.files disk.old).idx) (filter (is_kept (λ p. get nat_cmp dropped.now p))
+        places) c.links.items) (chain (index_in extent.buckets (D.files disk.old).idx) bucket) result }
+    ensures cost { IsTrue D.tells → ChainCosts (chain (index_in extent.buckets (D.files disk.old).idx) bucket)
+        (units_at (unit_at (D.files disk.old).idx)) (D.bytes_read disk.old Idx + 16) (D.bytes_read disk.new Idx) }
+    ensures looks { LooksAt D.tells D.files D.left_since D.moment D.bytes_read D.follows Idx disk.old disk.new }
     ensures cause { HasCauseAt (result ≡ Err FindFault.DiskFault) (D.faults disk.old) (D.faults disk.new) }
 {
-    match read_bucket(disk, extent, bucket) {
-        Ok(at) => follow_links(alloc, disk, extent, bucket, at, dropped),
+    let found = match read_bucket(disk, extent, bucket) {
+        Ok(found) => found,
+        Err(fault) => return Err(fault),
+    };
+    let words = found.words;
+    match follow_links(alloc, disk, extent, bucket, found.at, dropped) {
+        Ok(links) => Ok(Chain { words, links }),
         Err(fault) => Err(fault),
     }
 }
@@ -79,8 +97,11 @@ fn follow_links<D: Disk>(
     requires open { IsTrue D.tells → IsOpen extent (D.files disk.old).idx }
     requires within { 0 < from → from < extent.used }
     ensures relink { IfOk result (λ v. CanRelink extent.used v.items) }
-    ensures told { IsTrue D.tells → FindIs (λ places v. AreLinks (unit_at (D.files disk.old).idx) (filter (is_kept (λ p. get nat_cmp dropped.now p)) places) v.items) (follow (index_in extent.buckets (D.files disk.old).idx) bucket from from) result }
-    ensures looks { Reads D.tells D.files D.left_since D.moment D.bytes_read D.follows disk.old disk.new }
+    ensures told { IsTrue D.tells → FindIs (λ places v. AreLinks (unit_at (D.files disk.old).idx) (filter (is_kept (λ p. get nat_cmp dropped.now p))
+        places) v.items) (follow (index_in extent.buckets (D.files disk.old).idx) bucket from from) result }
+    ensures cost { IsTrue D.tells → ChainCosts (follow (index_in extent.buckets (D.files disk.old).idx) bucket from from)
+        (units_at (unit_at (D.files disk.old).idx)) (D.bytes_read disk.old Idx) (D.bytes_read disk.new Idx) }
+    ensures looks { LooksAt D.tells D.files D.left_since D.moment D.bytes_read D.follows Idx disk.old disk.new }
     ensures cause { HasCauseAt (result ≡ Err FindFault.DiskFault) (D.faults disk.old) (D.faults disk.new) }
 {
     let mut links = Vec::new(alloc);

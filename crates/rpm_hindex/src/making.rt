@@ -2,7 +2,7 @@
 
 ghost use Rattle.std.specs.Prelude.{◌≡◌, ℕ, ◌+◌, ◌*◌, ◌/◌, ◌%◌, ◌^◌, ◌≤◌, ◌<◌, ◌++◌, length, take, drop, replicate, OnOk};
 ghost use Rattle.rpm_outside.specs.Files.{bytes_of};
-ghost use Rattle.rpm_hindex.specs.Making.{record_of, padding};
+ghost use Rattle.rpm_hindex.specs.inner.Making.{record_of, padding};
 
 use crate::words::unit_of_words;
 use std::alloc::AllocError;

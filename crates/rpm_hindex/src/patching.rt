@@ -1,14 +1,15 @@
 //! Units that a change writes anew.
 
-ghost use Rattle.std.specs.Prelude.{◌≡◌, ℕ, ◌+◌, ◌*◌, ◌/◌, ◌%◌, ◌^◌, ◌≤◌, ◌<◌, IsTrue, true, List, length, drop, if◌then◌else◌, ◌==◌, OnOk, IfOk, IfErr, Err};
+ghost use Rattle.std.specs.Prelude.{◌≡◌, ℕ, ◌+◌, ◌*◌, ◌/◌, ◌%◌, ◌^◌, ◌≤◌, ◌<◌, IsTrue, true, List, length, drop, unwrap_or, if◌then◌else◌, ◌==◌, OnOk, IfOk, IfErr, Err};
 ghost use Rattle.std.specs.Ordering.{nat_cmp};
 ghost use Rattle.std.specs.BTreeMap.{get};
-ghost use Rattle.rpm_outside.specs.Files.{Units};
+ghost use Rattle.rpm_outside.specs.Files.{Units, unit_at};
 ghost use Rattle.rpm_outside.specs.Causes.{HasCauseAt};
-ghost use Rattle.rpm_hindex.specs.Disks.{LooksAt};
+ghost use Rattle.rpm_outside.specs.declared.disk.File.TheVariants.{Idx};
+ghost use Rattle.rpm_outside.specs.Looks.{Looks};
 ghost use Rattle.rpm_hindex.specs.Words.{word};
 ghost use Rattle.rpm_hindex.specs.Index.{bucket_unit};
-ghost use Rattle.rpm_hindex.specs.Changes.{Puts, PutsOne, HasWord, SetsBucket, SetsNext, CanRelink, unit_after, PutsWithin, Unlinks, IsOther, IsWithout, first_at};
+ghost use Rattle.rpm_hindex.specs.inner.Changes.{Puts, PutsOne, HasWord, SetsBucket, SetsNext, CanRelink, unit_after, PutsWithin, Unlinks, IsOther, IsWithout, first_at};
 
 use crate::chain::Extent;
 use crate::faults::PrepareFault;
@@ -64,7 +65,7 @@ pub fn words_of<D: Disk>(
     requires { IsTrue D.tells → bucket_unit bucket < length (D.files disk.old).idx }
     ensures words { IfOk result (λ w. IsTrue D.tells → w ≡ unit_after (λ q. get nat_cmp units.now q) (D.files disk.old).idx (bucket_unit bucket)) }
     ensures fault { IfErr result (λ e. e ≡ PrepareFault.DiskFault) }
-    ensures looks { LooksAt D.tells D.files D.left_since D.moment D.bytes_read D.follows 16 disk.old disk.new }
+    ensures looks { Looks D.tells D.files D.left_since D.moment D.bytes_read D.follows Idx 16 disk.old disk.new }
     ensures cause { HasCauseAt (result ≡ Err PrepareFault.DiskFault) (D.faults disk.old) (D.faults disk.new) }
 {
     let unit = 2 + bucket / 4;
@@ -77,26 +78,30 @@ pub fn words_of<D: Disk>(
     Ok(words)
 }
 
-/// Lets a bucket's word name this unit.
-fn set_bucket<D: Disk>(
+/// A unit as it is changed so far, where these are its words in the file.
+fn words_or(units: &BTreeMap<u32, [u8; 16]>, unit: u32, words: &[u8; 16]) -> [u8; 16]
+    ensures { result ≡ unwrap_or (get nat_cmp units.now unit) words.now }
+{
+    match units.get(&unit) {
+        Some(changed) => *changed,
+        None => *words,
+    }
+}
+
+/// Lets a bucket's word, whose unit has these words in the file, name this unit.
+fn set_bucket(
     units: &mut BTreeMap<u32, [u8; 16]>,
-    disk: &mut D,
+    words: &[u8; 16],
     bucket: u32,
     at: u32,
 ) -> Result<(), PrepareFault>
-    requires { IsTrue D.tells → bucket_unit bucket < length (D.files disk.old).idx }
     ensures puts { OnOk result (PutsOne (λ q. get nat_cmp units.old q) (λ q. get nat_cmp units.new q) (bucket_unit bucket)) }
-    ensures other { IfErr result (λ e. IsOther e) }
-    ensures sets { OnOk result (IsTrue D.tells → SetsBucket (D.files disk.old).idx (λ q. get nat_cmp units.old q) (λ q. get nat_cmp units.new q) bucket at) }
-    ensures outside { IfErr result (λ e. IsWithout e) }
-    ensures looks { LooksAt D.tells D.files D.left_since D.moment D.bytes_read D.follows 16 disk.old disk.new }
-    ensures cause { HasCauseAt (result ≡ Err PrepareFault.DiskFault) (D.faults disk.old) (D.faults disk.new) }
+    ensures sets { OnOk result ((file : Units) → words.now ≡ unit_at file (bucket_unit bucket) → SetsBucket file (λ q. get nat_cmp units.old q)
+        (λ q. get nat_cmp units.new q) bucket at) }
+    ensures memory { IfErr result (λ e. e ≡ PrepareFault.NoMemory) }
 {
-    let words = match words_of(units, disk, bucket) {
-        Ok(words) => words,
-        Err(fault) => return Err(fault),
-    };
-    put_unit(units, 2 + bucket / 4, with_word(&words, bucket % 4, at))
+    let now = words_or(units, 2 + bucket / 4, words);
+    put_unit(units, 2 + bucket / 4, with_word(&now, bucket % 4, at))
 }
 
 /// A unit of four numbers.
@@ -135,9 +140,9 @@ fn place_behind(links: &[Link], at: usize) -> u32
 }
 
 /// Takes the record at a place of a chain out of it: the record before it, or the bucket's word, names the one behind it.
-pub fn unlink<D: Disk>(
+pub fn unlink(
     units: &mut BTreeMap<u32, [u8; 16]>,
-    disk: &mut D,
+    words: &[u8; 16],
     extent: Extent,
     bucket: u32,
     links: &[Link],
@@ -146,17 +151,14 @@ pub fn unlink<D: Disk>(
     requires at { at < length links.now }
     requires relink { CanRelink extent.used links.now }
     requires behind { bucket_unit bucket < extent.used }
-    requires within { IsTrue D.tells → bucket_unit bucket < length (D.files disk.old).idx }
     ensures puts { OnOk result (PutsWithin extent.used (λ q. get nat_cmp units.old q) (λ q. get nat_cmp units.new q)) }
-    ensures other { IfErr result (λ e. IsOther e) }
-    ensures sets { OnOk result (IsTrue D.tells → Unlinks (D.files disk.old).idx (λ q. get nat_cmp units.old q) (λ q. get nat_cmp units.new q) bucket links.now at) }
-    ensures outside { IfErr result (λ e. IsWithout e) }
-    ensures looks { LooksAt D.tells D.files D.left_since D.moment D.bytes_read D.follows 16 disk.old disk.new }
-    ensures cause { HasCauseAt (result ≡ Err PrepareFault.DiskFault) (D.faults disk.old) (D.faults disk.new) }
+    ensures sets { OnOk result ((file : Units) → words.now ≡ unit_at file (bucket_unit bucket) → Unlinks file (λ q. get nat_cmp units.old q)
+        (λ q. get nat_cmp units.new q) bucket links.now at) }
+    ensures memory { IfErr result (λ e. e ≡ PrepareFault.NoMemory) }
 {
     let next = place_behind(links, at);
     if at == 0 {
-        set_bucket(units, disk, bucket, next)
+        set_bucket(units, words, bucket, next)
     } else {
         set_next(units, &links[at - 1], next)
     }

@@ -7,12 +7,15 @@ ghost use Rattle.std.specs.BTreeMap.{get, keys};
 ghost use Rattle.std.specs.List.Sorted.{IsStrictlySortedBy};
 ghost use Rattle.rpm_outside.specs.Files.{Units};
 ghost use Rattle.rpm_outside.specs.Causes.{HasCauseAt};
-ghost use Rattle.rpm_hindex.specs.Disks.{Reads};
-ghost use Rattle.rpm_hindex.specs.Records.{IsOpen};
+ghost use Rattle.rpm_outside.specs.declared.disk.File.TheVariants.{Idx};
+ghost use Rattle.rpm_outside.specs.Looks.{Looks, LooksAt};
+ghost use Rattle.rpm_hindex.specs.inner.Records.{IsOpen};
 ghost use Rattle.rpm_hindex.specs.Sizes.{first_record, live_of};
 ghost use Rattle.rpm_hindex.specs.Plans.{LeavesOrder, CanWrite};
-ghost use Rattle.rpm_hindex.specs.Changes.{CanGo, AddsRows, IsCut, IsHonest, IsBad, changing, IsOther, IsTooLarge, CanRelink, IsWorkOf, IsScratchOf, HasLess, kept_of, is_kept, patch_of, row_of};
+ghost use Rattle.rpm_hindex.specs.inner.Changes.{CanGo, AddsRows, IsCut, IsHonest, changing, IsOther, IsTooLarge, CanRelink, IsWorkOf, IsScratchOf, HasLess, kept_of, is_kept, patch_of, row_of};
+ghost use Rattle.rpm_hindex.specs.Refusals.{IsBad};
 ghost use Rattle.rpm_hindex.specs.Index.{index_in, records};
+ghost use Rattle.rpm_hindex.specs.Costs.{chains_bytes};
 ghost use Rattle.rpm_hindex.specs.Whole.{IsWellFormed, IsWhole};
 
 use crate::chain::Extent;
@@ -73,11 +76,16 @@ pub fn drop_rows<D: Disk>(
     ensures extent { OnOk result (change.new.extent ≡ change.old.extent) }
     ensures tail { OnOk result (change.new.tail ≡ change.old.tail) }
     ensures none { OnOk result (length rows.now ≡ 0 → change.new ≡ change.old) }
-    ensures less { OnOk result (IsTrue D.tells → IsWellFormed change.old.extent.buckets (D.files disk.old).idx → HasLess rows.now (kept_of (index_in change.old.extent.buckets (D.files disk.old).idx) (is_kept (λ p. get nat_cmp change.old.dropped p))) (kept_of (index_in change.old.extent.buckets (D.files disk.old).idx) (is_kept (λ p. get nat_cmp change.new.dropped p)))) }
-    ensures cuts { OnOk result (IsTrue D.tells → IsWellFormed change.old.extent.buckets (D.files disk.old).idx → length change.old.tail.items ≡ 0 → IsCut change.old (D.files disk.old).idx → IsCut change.new (D.files disk.old).idx) }
+    ensures less { OnOk result (IsTrue D.tells → IsWellFormed change.old.extent.buckets (D.files disk.old).idx → HasLess rows.now
+        (kept_of (index_in change.old.extent.buckets (D.files disk.old).idx) (is_kept (λ p. get nat_cmp change.old.dropped p)))
+        (kept_of (index_in change.old.extent.buckets (D.files disk.old).idx) (is_kept (λ p. get nat_cmp change.new.dropped p)))) }
+    ensures cuts { OnOk result (IsTrue D.tells → IsWellFormed change.old.extent.buckets (D.files disk.old).idx → length change.old.tail.items ≡ 0
+        → IsCut change.old (D.files disk.old).idx → IsCut change.new (D.files disk.old).idx) }
     ensures honest { OnOk result (IsTrue D.tells → IsHonest change.old (D.files disk.old).idx → IsHonest change.new (D.files disk.old).idx) }
     ensures bad { IfErr result (λ e. IsTrue D.tells → IsHonest change.old (D.files disk.old).idx → IsBad change.old.extent.buckets (D.files disk.old).idx e) }
-    ensures looks { Reads D.tells D.files D.left_since D.moment D.bytes_read D.follows disk.old disk.new }
+    ensures cost { IsTrue D.tells → IsWellFormed change.old.extent.buckets (D.files disk.old).idx → D.bytes_read disk.new Idx ≤ D.bytes_read disk.old
+        Idx + chains_bytes (index_in change.old.extent.buckets (D.files disk.old).idx) rows.now }
+    ensures looks { LooksAt D.tells D.files D.left_since D.moment D.bytes_read D.follows Idx disk.old disk.new }
     ensures cause { HasCauseAt (result ≡ Err PrepareFault.DiskFault) (D.faults disk.old) (D.faults disk.new) }
 {
     for i in 0..rows.len() {
@@ -100,10 +108,11 @@ pub fn add_rows<D: Disk>(disk: &mut D, change: &mut Change, rows: &Rows) -> Resu
     ensures extent { OnOk result (change.new.extent ≡ change.old.extent) }
     ensures tail { OnOk result (length change.new.tail.items / 16 ≡ live_of rows.now) }
     ensures live { OnOk result (change.new.live ≡ change.old.live + live_of rows.now) }
-    ensures adds { OnOk result (IsTrue D.tells → IsWhole change.old.records change.old.live (changing change.old (D.files disk.old).idx) → AddsRows change.old change.new (D.files disk.old).idx rows.now) }
+    ensures adds { OnOk result (IsTrue D.tells → IsWhole change.old.records change.old.live (changing change.old (D.files disk.old).idx)
+        → AddsRows change.old change.new (D.files disk.old).idx rows.now) }
     ensures honest { OnOk result (IsTrue D.tells → IsHonest change.old (D.files disk.old).idx → IsHonest change.new (D.files disk.old).idx) }
     ensures bad { IfErr result (λ e. IsTrue D.tells → IsHonest change.old (D.files disk.old).idx → IsBad change.old.extent.buckets (D.files disk.old).idx e) }
-    ensures looks { Reads D.tells D.files D.left_since D.moment D.bytes_read D.follows disk.old disk.new }
+    ensures looks { Looks D.tells D.files D.left_since D.moment D.bytes_read D.follows Idx (16 * length rows.now) disk.old disk.new }
     ensures cause { HasCauseAt (result ≡ Err PrepareFault.DiskFault) (D.faults disk.old) (D.faults disk.new) }
 {
     for i in 0..rows.len() {
@@ -118,6 +127,8 @@ pub fn add_rows<D: Disk>(disk: &mut D, change: &mut Change, rows: &Rows) -> Resu
 pub fn has_room(change: &Change, adds: &Rows) -> bool
     requires go { CanGo change.now }
     requires none { length change.now.tail.items ≡ 0 }
+    ensures least { change.now.records + length adds.now ≤ 2 * change.now.extent.buckets → change.now.extent.used + live_of adds.now ≤ 2 ^ 28
+        → change.now.extent.used + live_of adds.now ≤ first_record change.now.extent.buckets + 2 * (change.now.live + live_of adds.now) → result ≡ true }
     ensures count { result ≡ true → change.now.records + length adds.now ≤ 2 * change.now.extent.buckets }
     ensures room { result ≡ true → change.now.extent.used + live_of adds.now ≤ 2 ^ 28 }
     ensures half { result ≡ true → change.now.extent.used ≤ first_record change.now.extent.buckets + 2 * change.now.live + live_of adds.now }
@@ -201,18 +212,19 @@ fn kept_rows<D: Disk>(
     requires few { extent.buckets ≤ 2 ^ 28 }
     requires open { IsTrue D.tells → IsOpen extent (D.files disk.old).idx }
     ensures other { IfErr result (λ e. IsOther e) }
-    ensures rows { IfOk result (λ rows. IsTrue D.tells → rows ≡ kept_of (index_in extent.buckets (D.files disk.old).idx) (is_kept (λ p. get nat_cmp dropped.now p))) }
+    ensures rows { IfOk result (λ rows. IsTrue D.tells → rows ≡ kept_of (index_in extent.buckets (D.files disk.old).idx)
+        (is_kept (λ p. get nat_cmp dropped.now p))) }
     ensures bad { IfErr result (λ e. IsTrue D.tells → IsBad extent.buckets (D.files disk.old).idx e) }
-    ensures looks { Reads D.tells D.files D.left_since D.moment D.bytes_read D.follows disk.old disk.new }
+    ensures looks { LooksAt D.tells D.files D.left_since D.moment D.bytes_read D.follows Idx disk.old disk.new }
     ensures cause { HasCauseAt (result ≡ Err PrepareFault.DiskFault) (D.faults disk.old) (D.faults disk.new) }
 {
     let mut rows = Rows::new(alloc);
     for bucket in 0..extent.buckets {
-        let links = match read_links(alloc, disk, extent, bucket, dropped) {
-            Ok(links) => links,
+        let chain = match read_links(alloc, disk, extent, bucket, dropped) {
+            Ok(chain) => chain,
             Err(fault) => return Err(prepare_fault(fault)),
         };
-        let Ok(()) = push_links(&mut rows, &links) else {
+        let Ok(()) = push_links(&mut rows, &chain.links) else {
             return Err(PrepareFault::NoMemory);
         };
     }
@@ -241,10 +253,12 @@ pub fn from_scratch<D: Disk>(
     requires open { IsTrue D.tells → IsOpen change.now.extent (D.files disk.old).idx }
     ensures can { IfOk result (λ plan. (units : ℕ) → CanWrite units plan.work) }
     ensures ordered { IfOk result (λ plan. LeavesOrder plan.work) }
-    ensures full { IfErr result (λ e. IsTrue D.tells → IsTooLarge (kept_of (index_in change.now.extent.buckets (D.files disk.old).idx) (is_kept (λ p. get nat_cmp change.now.dropped p)) ++ adds.now) e) }
-    ensures made { IfOk result (λ plan. IsTrue D.tells → IsScratchOf (kept_of (index_in change.now.extent.buckets (D.files disk.old).idx) (is_kept (λ p. get nat_cmp change.now.dropped p)) ++ adds.now) plan.work) }
+    ensures full { IfErr result (λ e. IsTrue D.tells → IsTooLarge (kept_of (index_in change.now.extent.buckets (D.files disk.old).idx)
+        (is_kept (λ p. get nat_cmp change.now.dropped p)) ++ adds.now) e) }
+    ensures made { IfOk result (λ plan. IsTrue D.tells → IsScratchOf (kept_of (index_in change.now.extent.buckets (D.files disk.old).idx)
+        (is_kept (λ p. get nat_cmp change.now.dropped p)) ++ adds.now) plan.work) }
     ensures bad { IfErr result (λ e. IsTrue D.tells → IsBad change.now.extent.buckets (D.files disk.old).idx e) }
-    ensures looks { Reads D.tells D.files D.left_since D.moment D.bytes_read D.follows disk.old disk.new }
+    ensures looks { LooksAt D.tells D.files D.left_since D.moment D.bytes_read D.follows Idx disk.old disk.new }
     ensures cause { HasCauseAt (result ≡ Err PrepareFault.DiskFault) (D.faults disk.old) (D.faults disk.new) }
 {
     let mut rows = match kept_rows(alloc, disk, change.extent, &change.dropped) {

@@ -6,12 +6,15 @@ ghost use Rattle.std.specs.BTreeMap.{get};
 ghost use Rattle.rpm_outside.specs.Files.{Units};
 ghost use Rattle.rpm_outside.specs.Causes.{HasCauseAt};
 ghost use Rattle.rpm_hindex.specs.Sizes.{is_bucket_count};
-ghost use Rattle.rpm_hindex.specs.Disks.{Reads};
-ghost use Rattle.rpm_hindex.specs.Records.{IsOpen};
+ghost use Rattle.rpm_outside.specs.declared.disk.File.TheVariants.{Idx};
+ghost use Rattle.rpm_outside.specs.Looks.{LooksAt};
+ghost use Rattle.rpm_hindex.specs.inner.Records.{IsOpen};
 ghost use Rattle.rpm_hindex.specs.State.{Keeps, is_in_order, buckets_of};
 ghost use Rattle.rpm_hindex.specs.Plans.{LeavesOrder, CanWrite, IsPlanFor};
-ghost use Rattle.rpm_hindex.specs.Changes.{CanGo, IsStarted, IsHonest, IsBad, IsTooLargeFor, is_kept};
-ghost use Rattle.rpm_hindex.specs.Index.{records};
+ghost use Rattle.rpm_hindex.specs.inner.Changes.{CanGo, IsStarted, IsHonest, is_kept};
+ghost use Rattle.rpm_hindex.specs.Refusals.{IsBad, IsTooLargeFor, HasRoomFor};
+ghost use Rattle.rpm_hindex.specs.Index.{index_in, records};
+ghost use Rattle.rpm_hindex.specs.Costs.{chains_bytes, StaysInPlace};
 ghost use Rattle.rpm_hindex.specs.Whole.{IsWellFormed};
 
 use crate::change::Change;
@@ -45,13 +48,14 @@ impl Hindex {
     /// Works out a change of the index: drops a record of each of these rows, where there is one, and then adds records. Writes nothing,
     /// and takes all memory that the change needs.
     ///
-    /// Reads the chain of each dropped row's bucket and one bucket word for each added row; and all chains, where the index must be made
-    /// from scratch: where it would have more than two records a bucket, more than 268435456 units, or more units without records than with.
+    /// Reads of each dropped row's bucket 16 bytes and its records, and 16 bytes for each added row; and all chains, where the index must be
+    /// made from scratch: where it would have more than two records a bucket, more than 268435456 units, or more units without records than
+    /// with.
     ///
     /// # Errors
     ///
     /// - `BadIndex` only where `unit` is the first fault of a bucket's chain, or is 1, where unit 1 counts less than the chains hold.
-    /// - `IndexFull` only where the rows after the change, made from scratch, need more than 268435456 units.
+    /// - `IndexFull` where the rows after the change, made from scratch, need more than 268435456 units, and only there: `needed` of them.
     /// - `DiskFault` only where the disk's count of faults rose.
     /// - `NoMemory` where the change finds no memory.
     pub fn prepare<D: Disk>(
@@ -65,10 +69,17 @@ impl Hindex {
         requires keeps { IsTrue D.tells → Keeps (D.files disk.old).idx self.now }
         ensures can { IfOk result (λ plan. CanWrite self.now.units plan.work) }
         ensures ordered { IfOk result (λ plan. LeavesOrder plan.work) }
-        ensures full { IfErr result (λ e. IsTrue D.tells → IsWellFormed (buckets_of self.now.first) (D.files disk.old).idx → IsTooLargeFor drops.now adds.now (records (buckets_of self.now.first) (D.files disk.old).idx) e) }
+        ensures full { IfErr result (λ e. IsTrue D.tells → IsWellFormed (buckets_of self.now.first) (D.files disk.old).idx → IsTooLargeFor drops.now
+            adds.now (records (buckets_of self.now.first) (D.files disk.old).idx) e) }
+        ensures room { IfOk result (λ plan. IsTrue D.tells → IsWellFormed (buckets_of self.now.first) (D.files disk.old).idx → HasRoomFor drops.now
+            adds.now (records (buckets_of self.now.first) (D.files disk.old).idx)) }
         ensures bad { IfErr result (λ e. IsTrue D.tells → IsBad (buckets_of self.now.first) (D.files disk.old).idx e) }
-        ensures makes { IfOk result (λ plan. IsTrue D.tells → IsWellFormed (buckets_of self.now.first) (D.files disk.old).idx → IsPlanFor drops.now adds.now (buckets_of self.now.first) (D.files disk.old).idx plan.work) }
-        ensures looks { Reads D.tells D.files D.left_since D.moment D.bytes_read D.follows disk.old disk.new }
+        ensures makes { IfOk result (λ plan. IsTrue D.tells → IsWellFormed (buckets_of self.now.first) (D.files disk.old).idx → IsPlanFor drops.now
+            adds.now (buckets_of self.now.first) (D.files disk.old).idx plan.work) }
+        ensures cost { IsTrue D.tells → IsWellFormed (buckets_of self.now.first) (D.files disk.old).idx → StaysInPlace drops.now adds.now
+            (buckets_of self.now.first) (D.files disk.old).idx → D.bytes_read disk.new Idx ≤ D.bytes_read disk.old Idx + chains_bytes
+            (index_in (buckets_of self.now.first) (D.files disk.old).idx) drops.now + 16 * length adds.now }
+        ensures looks { LooksAt D.tells D.files D.left_since D.moment D.bytes_read D.follows Idx disk.old disk.new }
         ensures cause { HasCauseAt (result ≡ Err PrepareFault.DiskFault) (D.faults disk.old) (D.faults disk.new) }
     {
         let mut change = self.start(alloc);

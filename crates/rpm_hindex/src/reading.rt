@@ -3,7 +3,8 @@
 ghost use Rattle.std.specs.Prelude.{◌≡◌, ℕ, ◌+◌, ◌-◌, ◌*◌, ◌/◌, ◌%◌, ◌^◌, ◌≤◌, ◌<◌, IsTrue, length, take, drop, OnOk, IfOk, IfErr, Err};
 ghost use Rattle.rpm_outside.specs.Files.{Files, Units, units_of, unit_at, bytes_of, blank};
 ghost use Rattle.rpm_outside.specs.Causes.{HasCause, HasCauseAt};
-ghost use Rattle.rpm_hindex.specs.Disks.{LooksAt};
+ghost use Rattle.rpm_outside.specs.declared.disk.File.TheVariants.{Idx};
+ghost use Rattle.rpm_outside.specs.Looks.{Looks};
 ghost use Rattle.rpm_hindex.specs.Index.{run};
 ghost use Rattle.rpm_hindex.specs.Answers.{IsOutside};
 
@@ -16,7 +17,7 @@ fn read_units<D: Disk>(disk: &mut D, unit: u64, into: &mut [u8]) -> Result<(), F
     requires whole { length into.old % 16 ≡ 0 }
     requires within { IsTrue D.tells → unit + length into.old / 16 ≤ length (D.files disk.old).idx }
     ensures bytes { OnOk result (IsTrue D.tells → into.new ≡ bytes_of (take (length into.old / 16) (drop unit (D.files disk.old).idx))) }
-    ensures looks { LooksAt D.tells D.files D.left_since D.moment D.bytes_read D.follows (length into.old) disk.old disk.new }
+    ensures looks { Looks D.tells D.files D.left_since D.moment D.bytes_read D.follows Idx (length into.old) disk.old disk.new }
     ensures cause { HasCause (D.faults disk.old) (D.faults disk.new) result }
 {
     disk.read_at(File::Idx, unit, into)?;
@@ -27,7 +28,7 @@ fn read_units<D: Disk>(disk: &mut D, unit: u64, into: &mut [u8]) -> Result<(), F
 pub fn read_unit<D: Disk>(disk: &mut D, at: u64) -> Result<[u8; 16], Failed>
     requires { IsTrue D.tells → at < length (D.files disk.old).idx }
     ensures unit { IfOk result (λ unit. IsTrue D.tells → unit ≡ unit_at (D.files disk.old).idx at) }
-    ensures looks { LooksAt D.tells D.files D.left_since D.moment D.bytes_read D.follows 16 disk.old disk.new }
+    ensures looks { Looks D.tells D.files D.left_since D.moment D.bytes_read D.follows Idx 16 disk.old disk.new }
     ensures cause { HasCause (D.faults disk.old) (D.faults disk.new) result }
 {
     let mut unit = [0u8; 16];
@@ -39,7 +40,7 @@ pub fn read_unit<D: Disk>(disk: &mut D, at: u64) -> Result<[u8; 16], Failed>
 pub fn unit_or_zeros<D: Disk>(disk: &mut D, units: u64, at: u64) -> Result<[u8; 16], Failed>
     requires { IsTrue D.tells → units ≡ length (D.files disk.old).idx }
     ensures unit { IfOk result (λ unit. IsTrue D.tells → unit ≡ unit_at (D.files disk.old).idx at) }
-    ensures looks { LooksAt D.tells D.files D.left_since D.moment D.bytes_read D.follows 16 disk.old disk.new }
+    ensures looks { Looks D.tells D.files D.left_since D.moment D.bytes_read D.follows Idx 16 disk.old disk.new }
     ensures cause { HasCause (D.faults disk.old) (D.faults disk.new) result }
 {
     if at >= units {
@@ -59,7 +60,7 @@ fn read_padded<D: Disk>(
     ensures long { IfOk result (λ v. length v.items ≡ 16 * units) }
     ensures bytes { IfOk result (λ v. IsTrue D.tells → v.items ≡ bytes_of (take units (drop at (D.files disk.old).idx))) }
     ensures outside { IfErr result (λ e. IsOutside e) }
-    ensures looks { LooksAt D.tells D.files D.left_since D.moment D.bytes_read D.follows (16 * units) disk.old disk.new }
+    ensures looks { Looks D.tells D.files D.left_since D.moment D.bytes_read D.follows Idx (16 * units) disk.old disk.new }
     ensures cause { HasCauseAt (result ≡ Err FindFault.DiskFault) (D.faults disk.old) (D.faults disk.new) }
 {
     let Ok(mut bytes) = (vec![in alloc; 0u8; 16 * units as usize]) else {
@@ -83,7 +84,7 @@ pub fn read_key<D: Disk>(
     ensures long { IfOk result (λ v. length v.items ≡ size) }
     ensures bytes { IfOk result (λ v. IsTrue D.tells → v.items ≡ take size (bytes_of (run (unit_at (D.files disk.old).idx) at ((size + 15) / 16)))) }
     ensures outside { IfErr result (λ e. IsOutside e) }
-    ensures looks { LooksAt D.tells D.files D.left_since D.moment D.bytes_read D.follows (16 * ((size + 15) / 16)) disk.old disk.new }
+    ensures looks { Looks D.tells D.files D.left_since D.moment D.bytes_read D.follows Idx (16 * ((size + 15) / 16)) disk.old disk.new }
     ensures cause { HasCauseAt (result ≡ Err FindFault.DiskFault) (D.faults disk.old) (D.faults disk.new) }
 {
     match read_padded(alloc, disk, at, (size + 15) / 16) {

@@ -8,8 +8,10 @@ ghost use Rattle.rpm_hindex.specs.Sizes.{bucket_count, units_for};
 ghost use Rattle.rpm_hindex.specs.State.{State, Keeps, is_ordered};
 ghost use Rattle.rpm_hindex.specs.Index.{records};
 ghost use Rattle.rpm_hindex.specs.Whole.{IsWellFormed};
-ghost use Rattle.rpm_hindex.specs.Drafts.{IsImage, Holds};
-ghost use Rattle.rpm_hindex.specs.Disks.{Changes, SameSeal, VoidOrSame, IsSettled};
+ghost use Rattle.rpm_hindex.specs.inner.Drafts.{IsImage, Holds};
+ghost use Rattle.rpm_outside.specs.declared.disk.File.TheVariants.{Idx};
+ghost use Rattle.rpm_outside.specs.Changes.{Changes, IsSettled};
+ghost use Rattle.rpm_hindex.specs.Images.{SameSeal, VoidOrSame};
 ghost use Rattle.rpm_hindex.specs.Rewrites.{IsFull, IsRefused};
 
 use crate::faults::{IndexDiskFault, RewriteFault};
@@ -64,9 +66,9 @@ impl Hindex {
         ensures kept { OnOk result (IsTrue D.tells → Keeps (D.files disk.new).idx self.new) }
         ensures whole { OnOk result (IsTrue D.tells → IsWellFormed self.new.pending (D.files disk.new).idx) }
         ensures rows { OnOk result (IsTrue D.tells → SameRows rows.now (records self.new.pending (D.files disk.new).idx)) }
-        ensures settled { OnOk result (IsTrue D.tells → IsSettled (D.files disk.new).idx (D.left_since disk.new (D.moment disk.new))) }
+        ensures settled { OnOk result (IsTrue D.tells → IsSettled Idx (D.files disk.new) (D.left_since disk.new (D.moment disk.new))) }
         ensures refused { IfErr result (λ e. IsRefused e → (self.new ≡ self.old) × (disk.new ≡ disk.old)) }
-        ensures changes { Changes D.tells D.files D.left_since D.moment D.bytes_read D.follows VoidOrSame disk.old disk.new }
+        ensures changes { Changes D.tells D.files D.left_since D.moment D.bytes_read D.follows Idx VoidOrSame 0 disk.old disk.new }
         ensures cause { HasCauseAt (result ≡ Err RewriteFault.DiskFault) (D.faults disk.old) (D.faults disk.new) }
     {
         let image = match image_of(alloc, rows) {
@@ -89,10 +91,11 @@ impl Hindex {
         ensures second { OnOk result (self.new.second ≡ take 16 image.now.bytes.items) }
         ensures units { OnOk result (1 + length image.now.bytes.items / 16 ≤ self.new.units) }
         ensures kept { OnOk result (IsTrue D.tells → Keeps (D.files disk.new).idx self.new) }
-        ensures written { OnOk result (IsTrue D.tells → (D.files disk.new).idx ≡ put 1 (units_of image.now.bytes.items) (put 0 (blank ∷ []) (D.files disk.old).idx)) }
+        ensures written { OnOk result (IsTrue D.tells → (D.files disk.new).idx ≡ put 1 (units_of image.now.bytes.items)
+            (put 0 (blank ∷ []) (D.files disk.old).idx)) }
         ensures held { OnOk result (IsTrue D.tells → Holds (units_of image.now.bytes.items) (D.files disk.new).idx) }
-        ensures settled { OnOk result (IsTrue D.tells → IsSettled (D.files disk.new).idx (D.left_since disk.new (D.moment disk.new))) }
-        ensures changes { Changes D.tells D.files D.left_since D.moment D.bytes_read D.follows VoidOrSame disk.old disk.new }
+        ensures settled { OnOk result (IsTrue D.tells → IsSettled Idx (D.files disk.new) (D.left_since disk.new (D.moment disk.new))) }
+        ensures changes { Changes D.tells D.files D.left_since D.moment D.bytes_read D.follows Idx VoidOrSame 0 disk.old disk.new }
         ensures cause { HasCause (D.faults disk.old) (D.faults disk.new) result }
     {
         let Ok(()) = self.void(disk) else {
@@ -110,11 +113,16 @@ impl Hindex {
         requires units { length image.now.bytes.items % 16 ≡ 0 }
         requires room { 1 + length image.now.bytes.items / 16 ≤ 2 ^ 28 }
         requires keeps { IsTrue D.tells → Keeps (D.files disk.old).idx self.old }
-        ensures state { OnOk result (self.new ≡ record { first = self.old.first; second = take 16 image.now.bytes.items; units = max self.old.units (1 + length image.now.bytes.items / 16); pending = image.now.buckets }) }
+        ensures state { OnOk result (self.new ≡ record {
+          first = self.old.first;
+          second = take 16 image.now.bytes.items;
+          units = max self.old.units (1 + length image.now.bytes.items / 16);
+          pending = image.now.buckets;
+        }) }
         ensures kept { OnOk result (IsTrue D.tells → Keeps (D.files disk.new).idx self.new) }
         ensures written { OnOk result (IsTrue D.tells → (D.files disk.new).idx ≡ put 1 (units_of image.now.bytes.items) (D.files disk.old).idx) }
-        ensures settled { OnOk result (IsTrue D.tells → IsSettled (D.files disk.new).idx (D.left_since disk.new (D.moment disk.new))) }
-        ensures changes { Changes D.tells D.files D.left_since D.moment D.bytes_read D.follows SameSeal disk.old disk.new }
+        ensures settled { OnOk result (IsTrue D.tells → IsSettled Idx (D.files disk.new) (D.left_since disk.new (D.moment disk.new))) }
+        ensures changes { Changes D.tells D.files D.left_since D.moment D.bytes_read D.follows Idx SameSeal 0 disk.old disk.new }
         ensures cause { HasCause (D.faults disk.old) (D.faults disk.new) result }
     {
         let Ok(()) = write_synced(disk, 1, &image.bytes) else {

@@ -7,7 +7,9 @@ ghost use Rattle.rpm_outside.specs.Crash.{Torn};
 ghost use Rattle.rpm_hindex.specs.State.{State, Keeps, is_ordered, is_current, seal_unit};
 ghost use Rattle.rpm_hindex.specs.Index.{index_in, records};
 ghost use Rattle.rpm_hindex.specs.Whole.{IsWellFormed};
-ghost use Rattle.rpm_hindex.specs.Disks.{Changes, IsSame, VoidOrSame, SealedOrSame, IsSettled};
+ghost use Rattle.rpm_outside.specs.declared.disk.File.TheVariants.{Idx};
+ghost use Rattle.rpm_outside.specs.Changes.{Changes, IsSame, IsSettled};
+ghost use Rattle.rpm_hindex.specs.Images.{VoidOrSame, SealedOrSame};
 
 use crate::faults::IndexDiskFault;
 use crate::index::{Hindex, MAGIC};
@@ -20,7 +22,7 @@ pub fn write_units<D: Disk>(disk: &mut D, unit: u64, bytes: &[u8]) -> Result<(),
     requires whole { length bytes.now % 16 ≡ 0 }
     requires room { unit + length bytes.now / 16 ≤ 2 ^ 28 }
     ensures written { OnOk result (IsTrue D.tells → (D.files disk.new).idx ≡ put unit (units_of bytes.now) (D.files disk.old).idx) }
-    ensures changes { Changes D.tells D.files D.left_since D.moment D.bytes_read D.follows (Torn unit (units_of bytes.now)) disk.old disk.new }
+    ensures changes { Changes D.tells D.files D.left_since D.moment D.bytes_read D.follows Idx (Torn unit (units_of bytes.now)) 0 disk.old disk.new }
     ensures cause { HasCause (D.faults disk.old) (D.faults disk.new) result }
 {
     let Ok(()) = disk.write_at(File::Idx, unit, bytes) else {
@@ -32,8 +34,8 @@ pub fn write_units<D: Disk>(disk: &mut D, unit: u64, bytes: &[u8]) -> Result<(),
 /// Settles Hindex.db.
 pub fn sync<D: Disk>(disk: &mut D) -> Result<(), IndexDiskFault>
     ensures same { IsTrue D.tells → (D.files disk.new).idx ≡ (D.files disk.old).idx }
-    ensures settled { OnOk result (IsTrue D.tells → IsSettled (D.files disk.new).idx (D.left_since disk.new (D.moment disk.new))) }
-    ensures changes { Changes D.tells D.files D.left_since D.moment D.bytes_read D.follows IsSame disk.old disk.new }
+    ensures settled { OnOk result (IsTrue D.tells → IsSettled Idx (D.files disk.new) (D.left_since disk.new (D.moment disk.new))) }
+    ensures changes { Changes D.tells D.files D.left_since D.moment D.bytes_read D.follows Idx IsSame 0 disk.old disk.new }
     ensures cause { HasCause (D.faults disk.old) (D.faults disk.new) result }
 {
     let Ok(()) = disk.sync(File::Idx) else {
@@ -48,8 +50,8 @@ pub fn write_synced<D: Disk>(disk: &mut D, unit: u64, bytes: &[u8]) -> Result<()
     requires whole { length bytes.now % 16 ≡ 0 }
     requires room { unit + length bytes.now / 16 ≤ 2 ^ 28 }
     ensures written { OnOk result (IsTrue D.tells → (D.files disk.new).idx ≡ put unit (units_of bytes.now) (D.files disk.old).idx) }
-    ensures settled { OnOk result (IsTrue D.tells → IsSettled (D.files disk.new).idx (D.left_since disk.new (D.moment disk.new))) }
-    ensures changes { Changes D.tells D.files D.left_since D.moment D.bytes_read D.follows (Torn unit (units_of bytes.now)) disk.old disk.new }
+    ensures settled { OnOk result (IsTrue D.tells → IsSettled Idx (D.files disk.new) (D.left_since disk.new (D.moment disk.new))) }
+    ensures changes { Changes D.tells D.files D.left_since D.moment D.bytes_read D.follows Idx (Torn unit (units_of bytes.now)) 0 disk.old disk.new }
     ensures cause { HasCause (D.faults disk.old) (D.faults disk.new) result }
 {
     let Ok(()) = write_units(disk, unit, bytes) else {
@@ -72,8 +74,8 @@ impl Hindex {
         ensures state { OnOk result (self.new ≡ record { first = blank; second = self.old.second; units = max self.old.units 1; pending = 0 }) }
         ensures kept { OnOk result (IsTrue D.tells → Keeps (D.files disk.new).idx self.new) }
         ensures voided { OnOk result (IsTrue D.tells → (D.files disk.new).idx ≡ put 0 (blank ∷ []) (D.files disk.old).idx) }
-        ensures settled { OnOk result (IsTrue D.tells → IsSettled (D.files disk.new).idx (D.left_since disk.new (D.moment disk.new))) }
-        ensures changes { Changes D.tells D.files D.left_since D.moment D.bytes_read D.follows VoidOrSame disk.old disk.new }
+        ensures settled { OnOk result (IsTrue D.tells → IsSettled Idx (D.files disk.new) (D.left_since disk.new (D.moment disk.new))) }
+        ensures changes { Changes D.tells D.files D.left_since D.moment D.bytes_read D.follows Idx VoidOrSame 0 disk.old disk.new }
         ensures cause { HasCause (D.faults disk.old) (D.faults disk.new) result }
     {
         let Ok(()) = write_synced(disk, 0, &[0; 16]) else {
@@ -93,14 +95,22 @@ impl Hindex {
     pub fn seal<D: Disk>(&mut self, disk: &mut D, generation: u32) -> Result<(), IndexDiskFault>
         requires written { 0 < self.old.pending }
         requires keeps { IsTrue D.tells → Keeps (D.files disk.old).idx self.old }
-        ensures state { OnOk result (self.new ≡ record { first = seal_unit generation self.old.pending; second = self.old.second; units = self.old.units; pending = 0 }) }
+        ensures state { OnOk result (self.new ≡ record {
+          first = seal_unit generation self.old.pending;
+          second = self.old.second;
+          units = self.old.units;
+          pending = 0;
+        }) }
         ensures kept { OnOk result (IsTrue D.tells → Keeps (D.files disk.new).idx self.new) }
         ensures sealed { OnOk result (IsTrue D.tells → (D.files disk.new).idx ≡ put 0 (seal_unit generation self.old.pending ∷ []) (D.files disk.old).idx) }
         ensures current { OnOk result (is_ordered self.old.pending self.old.second self.old.units ≡ true → is_current generation self.new ≡ true) }
-        ensures whole { OnOk result (IsTrue D.tells → IsWellFormed self.old.pending (D.files disk.old).idx → IsWellFormed self.old.pending (D.files disk.new).idx) }
-        ensures records { OnOk result (IsTrue D.tells → IsWellFormed self.old.pending (D.files disk.old).idx → records self.old.pending (D.files disk.new).idx ≡ records self.old.pending (D.files disk.old).idx) }
-        ensures settled { OnOk result (IsTrue D.tells → IsSettled (D.files disk.new).idx (D.left_since disk.new (D.moment disk.new))) }
-        ensures changes { Changes D.tells D.files D.left_since D.moment D.bytes_read D.follows (SealedOrSame (seal_unit generation self.old.pending)) disk.old disk.new }
+        ensures whole { OnOk result (IsTrue D.tells → IsWellFormed self.old.pending (D.files disk.old).idx → IsWellFormed self.old.pending
+            (D.files disk.new).idx) }
+        ensures records { OnOk result (IsTrue D.tells → IsWellFormed self.old.pending (D.files disk.old).idx → records self.old.pending
+            (D.files disk.new).idx ≡ records self.old.pending (D.files disk.old).idx) }
+        ensures settled { OnOk result (IsTrue D.tells → IsSettled Idx (D.files disk.new) (D.left_since disk.new (D.moment disk.new))) }
+        ensures changes { Changes D.tells D.files D.left_since D.moment D.bytes_read D.follows Idx
+            (SealedOrSame (seal_unit generation self.old.pending)) 0 disk.old disk.new }
         ensures cause { HasCause (D.faults disk.old) (D.faults disk.new) result }
     {
         let first = unit_of_words(MAGIC, 2, generation, self.pending);

@@ -3,10 +3,11 @@ use Rattle.std.proofs.Common.{◌≡◌, ℕ, ◌+◌, ◌-◌, ◌≤◌, Bool,
 use Rattle.std.specs.Prelude.{IsTrue, IfOk, OnErr}
 use Rattle.std.proofs.lemmas.List.{append-nil, take-append-drop, take-take, drop-drop}
 use Rattle.rpm_outside.specs.Sinks.{Gained, Begins}
-use Rattle.rpm_outside.specs.Taken.{gained_none, gained_more, begins_refl}
+use Rattle.rpm_outside.specs.Taken.{gained_none, gained_more}
 
 -- of what was held the sink took the first, and the others are held
-pub record Handed {S : Type 0} (tells : Bool) (taken : S → List ℕ) (faults : S → ℕ) (follows : S → S → Type 0) (old : S) (held : List ℕ) (now : S) (holds : List ℕ) : Type 0 where
+pub record Handed {S : Type 0} (tells : Bool) (taken : S → List ℕ) (faults : S → ℕ) (follows : S → S → Type 0) (old : S) (held : List ℕ) (now : S)
+    (holds : List ℕ) : Type 0 where
   pub out : List ℕ
   pub gained : Gained tells (taken old) (taken now) out
   pub whole : out ++ holds ≡ held
@@ -18,27 +19,36 @@ module _ {S : Type 0} (tells : Bool) (taken : S → List ℕ) (faults : S → �
   handed_start s held same = record { out = []; gained = gained_none tells (taken s); whole = refl; later = omega arith; goes_on = same }
 
   -- the sink takes some of what is left
-  pub handed_more : (old mid new : S) (held items slice : List ℕ) (gone n : ℕ) → slice ≡ items → n ≤ length slice - gone → Handed tells taken faults follows old held mid (drop gone items)
-      → Gained tells (taken mid) (taken new) (take n (take (length slice - gone) (drop gone slice))) → faults mid ≤ faults new → follows old new → Handed tells taken faults follows old held new (drop (gone + n) items)
+  pub handed_more : (old mid new : S) (held items slice : List ℕ) (gone n : ℕ) → slice ≡ items → n ≤ length slice - gone → Handed tells taken faults
+      follows old held mid (drop gone items)
+      → Gained tells (taken mid) (taken new) (take n (take (length slice - gone) (drop gone slice))) → faults mid ≤ faults new → follows old new
+      → Handed tells taken faults follows old held new (drop (gone + n) items)
   handed_more old mid new held items slice gone n same le h g later goes =
-      let piece : take n (take (length slice - gone) (drop gone slice)) ≡ take n (drop gone items) = take-take n (length slice - gone) (drop gone slice) le ∙ ap (λ (y : List ℕ). take n (drop gone y)) same in
+      let piece : take n (take (length slice - gone) (drop gone slice)) ≡ take n (drop gone items) = take-take n (length slice - gone)
+      (drop gone slice) le ∙ ap (λ (y : List ℕ). take n (drop gone y)) same in
       let left : drop (gone + n) items ≡ drop n (drop gone items) = sym (drop-drop n gone items) in
       record {
         out = h.out ++ take n (drop gone items);
         gained = gained_more tells (taken old) (taken mid) (taken new) h.out (take n (drop gone items)) h.gained (λ t. rw piece at (g t));
-        whole = ap (λ (y : List ℕ). (h.out ++ take n (drop gone items)) ++ y) left ∙ append_assoc h.out (take n (drop gone items)) (drop n (drop gone items)) ∙ ap (λ (y : List ℕ). h.out ++ y) (take-append-drop n (drop gone items)) ∙ h.whole;
+        whole = ap (λ (y : List ℕ). (h.out ++ take n (drop gone items)) ++ y) left ∙ append_assoc h.out (take n (drop gone items))
+            (drop n (drop gone items)) ∙ ap (λ (y : List ℕ). h.out ++ y) (take-append-drop n (drop gone items)) ∙ h.whole;
         later = omega (arith, h.later, later);
         goes_on = goes;
       }
 
 -- a write gives back nothing of what was taken
-pub write_grows : {E : Type 0} (tells : Bool) (a b bytes : List ℕ) (r : Result ℕ E) → IfOk r (λ n. Gained tells a b (take n bytes)) → OnErr r (IsTrue tells → b ≡ a) → IsTrue tells → Begins a b
+pub write_grows : {E : Type 0} (tells : Bool) (a b bytes : List ℕ) (r : Result ℕ E) → IfOk r (λ n. Gained tells a b (take n bytes))
+    → OnErr r (IsTrue tells → b ≡ a) → IsTrue tells → Begins a b
 write_grows tells a b bytes (Ok n) g none told = (take n bytes, g told)
 write_grows tells a b bytes (Err e) g none told = ([], none told ∙ sym (append-nil a))
 
 -- what is held, and more of it
 pub more_held : (a b held holds bytes : List ℕ) → b ≡ a → holds ≡ held ++ bytes → Begins (a ++ held) (b ++ holds)
-more_held a b held holds bytes same e = (bytes, ap (λ (y : List ℕ). b ++ y) e ∙ ap (λ (y : List ℕ). y ++ (held ++ bytes)) same ∙ sym (append_assoc a held bytes))
+more_held a b held holds bytes same e = (
+  bytes,
+  ap (λ (y : List ℕ). b ++ y) e ∙ ap (λ (y : List ℕ). y ++ (held ++ bytes)) same
+      ∙ sym (append_assoc a held bytes),
+)
 
 pub all_held : (a b held holds : List ℕ) → b ++ holds ≡ a ++ held → Begins (a ++ held) (b ++ holds)
 all_held a b held holds e = ([], e ∙ sym (append-nil (a ++ held)))

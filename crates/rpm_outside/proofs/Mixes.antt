@@ -45,7 +45,8 @@ mixes_step (Wrote h at units) files images mixes g image (from, here, torn) = �
         let x_is : file_of h x ≡ file_of h files = file_of-with h (file_of h files) from in
         let target_is : file_of h target ≡ written = file_of-with h written image in
         let one : TornFile h at units.items x target = record {
-          torn = subst (λ (o : Units). Torn at units.items o (file_of h target)) (sym x_is) (subst (λ (n : Units). Torn at units.items (file_of h files) n) (sym target_is) (torn_whole at units.items (file_of h files)));
+          torn = subst (λ (o : Units). Torn at units.items o (file_of h target)) (sym x_is)
+              (subst (λ (n : Units). Torn at units.items (file_of h files) n) (sym target_is) (torn_whole at units.items (file_of h files)));
           others = ap (λ (f : Files). with_file h written f) torn.others
               ∙ with_file-with h written (file_of h image) from
               ∙ sym (with_file-with h written (file_of h files) from)
@@ -64,23 +65,30 @@ mixes_step (Wrote h at units) files images mixes g image (from, here, torn) = �
         let x_is : file_of h x ≡ file_of h from = other_file h g new from apart in
         let target_is : file_of h target ≡ file_of h image = other_file h g new image apart in
         let one : TornFile h at units.items x target = record {
-          torn = subst (λ (o : Units). Torn at units.items o (file_of h target)) (sym x_is) (subst (λ (n : Units). Torn at units.items (file_of h from) n) (sym target_is) torn.torn);
+          torn = subst (λ (o : Units). Torn at units.items o (file_of h target)) (sym x_is)
+              (subst (λ (n : Units). Torn at units.items (file_of h from) n) (sym target_is) torn.torn);
           others = ap (λ (f : Files). with_file g new f) torn.others
               ∙ with_file_comm g h new (file_of h image) from differ
               ∙ ap (λ (u : Units). with_file h u x) (sym target_is);
         } in
         (x, mixes g from here, subst (λ (u : Units). TornFile h at units.items x (with_file g u image)) (sym (other_file g h written files differ)) one)
-mixes_step (Synced h) files images mixes g image (here, settled) =
-    (mixes g image here, ⊎_elim (λ is. ap (λ (f : File). file_of h (with_file f (file_of f files) image)) is ∙ file_of-with h (file_of h files) image) (λ differ. other_file h g (file_of g files) image (λ e. differ (sym e)) ∙ settled) (cases_file g h))
+mixes_step (Synced h) files images mixes g image (here, settled) = (
+  mixes g image here,
+  ⊎_elim (λ is. ap (λ (f : File). file_of h (with_file f (file_of f files) image)) is ∙ file_of-with h (file_of h files) image)
+      (λ differ. other_file h g (file_of g files) image (λ e. differ (sym e)) ∙ settled) (cases_file g h),
+)
 
-mixes_steps : (steps : List Step) (files : Files) (images : Files → Type 0) → Mixes files images → Mixes (after_steps steps files) (LeftBySteps steps files images)
+mixes_steps : (steps : List Step) (files : Files) (images : Files → Type 0) → Mixes files images → Mixes (after_steps steps files)
+    (LeftBySteps steps files images)
 mixes_steps [] files images mixes = mixes
 mixes_steps (step ∷ steps) files images mixes = mixes_steps steps (after_step step files) (LeftByStep step files images) (mixes_step step files images mixes)
 
-pub image_step : (past : List Step) (step : Step) (first image next : Files) → Images past first image → StepsTo step (after_steps past first) image next → Images (past ++ step ∷ []) first next
+pub image_step : (past : List Step) (step : Step) (first image next : Files) → Images past first image → StepsTo step (after_steps past first) image
+    next → Images (past ++ step ∷ []) first next
 image_step past (Wrote file at units) first image next here to = push_left past (Wrote file at units) first (λ x. x ≡ first) next (image, here, to)
 image_step past (Synced file) first image next here to =
     let now = after_steps past first in
-    let settled = mixes_steps past first (λ x. x ≡ first) (λ g x is. ap (λ (f : Files). with_file g (file_of g first) f) is ∙ sym (with_itself g first)) file image here in
+    let settled = mixes_steps past first (λ x. x ≡ first) (λ g x is. ap (λ (f : Files). with_file g (file_of g first) f) is
+    ∙ sym (with_itself g first)) file image here in
     push_left past (Synced file) first (λ x. x ≡ first) next
     (subst (λ (f : Files). Images past first f) (sym to) settled, ap (λ (f : Files). file_of file f) to ∙ file_of-with file (file_of file now) image)

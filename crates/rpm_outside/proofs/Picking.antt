@@ -10,7 +10,7 @@ use Rattle.rpm_outside.specs.declared.steps.Step.{Step}
 use Rattle.rpm_outside.specs.declared.steps.Step.TheVariants.{Wrote, Synced}
 use Rattle.rpm_outside.specs.Files.{Units, Files, file_of, with_file, unit_at, blank, put}
 use Rattle.rpm_outside.specs.Crash.{Torn}
-use Rattle.rpm_outside.specs.Puts.{length-put}
+use Rattle.rpm_outside.specs.inner.Puts.{length-put}
 use Rattle.rpm_outside.specs.Past.{after_step, after_steps, StepsTo}
 use Rattle.rpm_outside.specs.History.{file_of-with, torn_whole, torn_none}
 use Rattle.rpm_outside.specs.Picks.{takes_new, mixed_unit, picked, picked_step, picked_image}
@@ -19,17 +19,21 @@ module _ (seed at : ℕ) (units file : Units) where
   abbrev new : Units
   new = put at units file
 
-  choice : (b : Bool) (i : ℕ) → ((if b then unit_at new i else unit_at file i) ≡ unit_at file i) ⊎ ((if b then unit_at new i else unit_at file i) ≡ unit_at new i)
+  choice : (b : Bool) (i : ℕ) → ((if b then unit_at new i else unit_at file i) ≡ unit_at file i) ⊎ ((if b then unit_at new i else unit_at file i)
+      ≡ unit_at new i)
   choice true i = inr refl
   choice false i = inl refl
 
-  mixed_is : (i : ℕ) → (unit_at (map (mixed_unit seed file new) (range_with_len 0 (length new))) i ≡ unit_at file i) ⊎ (unit_at (map (mixed_unit seed file new) (range_with_len 0 (length new))) i ≡ unit_at new i)
+  mixed_is : (i : ℕ) → (unit_at (map (mixed_unit seed file new) (range_with_len 0 (length new))) i ≡ unit_at file i)
+      ⊎ (unit_at (map (mixed_unit seed file new) (range_with_len 0 (length new))) i ≡ unit_at new i)
   mixed_is i = elim (cases_lt i (length new)) [
     | inl inside ↦
-        (let is : unit_at (map (mixed_unit seed file new) (range_with_len 0 (length new))) i ≡ mixed_unit seed file new i = get_or-map-range_with_len (mixed_unit seed file new) 0 (length new) i i blank inside (omega arith) in
+        (let is : unit_at (map (mixed_unit seed file new) (range_with_len 0 (length new))) i ≡ mixed_unit seed file new i = get_or-map-range_with_len
+        (mixed_unit seed file new) 0 (length new) i i blank inside (omega arith) in
         elim (choice (takes_new seed i) i) [ inl old ↦ inl (is ∙ old) | inr taken ↦ inr (is ∙ taken) ])
     | inr past ↦
-        inl (get_or_past (map (mixed_unit seed file new) (range_with_len 0 (length new))) i blank (omega (arith, length-map-range_with_len (mixed_unit seed file new) 0 (length new)))
+        inl (get_or_past (map (mixed_unit seed file new) (range_with_len 0 (length new))) i blank
+        (omega (arith, length-map-range_with_len (mixed_unit seed file new) 0 (length new)))
         ∙ sym (get_or_past file i blank (omega (arith, length-put at units file))))
   ]
 
@@ -53,6 +57,7 @@ picked_step_to pick (Wrote file at units) files image =
       others = ap (λ (u : Units). with_file file u image) (sym is);
     }
 
-pub picked_image-push : (pick : Pick) (steps : List Step) (step : Step) (files image : Files) → picked_image pick (steps ++ step ∷ []) files image ≡ picked_step pick step (after_steps steps files) (picked_image pick steps files image)
+pub picked_image-push : (pick : Pick) (steps : List Step) (step : Step) (files image : Files) → picked_image pick (steps ++ step ∷ []) files image
+    ≡ picked_step pick step (after_steps steps files) (picked_image pick steps files image)
 picked_image-push pick [] step files image = refl
 picked_image-push pick (s ∷ steps) step files image = picked_image-push pick steps step (after_step s files) (picked_step pick s files image)

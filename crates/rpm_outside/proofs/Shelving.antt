@@ -11,7 +11,7 @@ use Rattle.std.proofs.lemmas.Cmp.{nat_list_cmp_total}
 use Rattle.std.specs.FinMap.{find, get-from_entries}
 use Rattle.std.specs.Str.{bytes_eq}
 use Rattle.rpm_outside.specs.declared.mem_shelf.Item.{Item}
-use Rattle.rpm_outside.specs.Shelves.{bytes_at, Reads}
+use Rattle.rpm_outside.specs.Shelves.{bytes_at, TakesFront}
 use Rattle.rpm_outside.specs.MemShelf.{entry_of, paths_of, bytes_in}
 
 abbrev pub find_in : List ℕ → List Item → Option (List ℕ)
@@ -46,12 +46,15 @@ pub record TakesFirst (left into given : List ℕ) (count : ℕ) : Type 0 where
   pub one : count ≡ 0 → length left ≡ 0
   pub given_is : given ≡ take count left ++ drop count into
 
-reads_of : (bytes left into given : List ℕ) (at count : ℕ) → left ≡ drop at bytes → TakesFirst left into given count → (left ≡ take count given ++ drop (at + count) bytes) × (take count given ≡ [] → left ≡ [])
+reads_of : (bytes left into given : List ℕ) (at count : ℕ) → left ≡ drop at bytes → TakesFirst left into given count
+    → (left ≡ take count given ++ drop (at + count) bytes) × (take count given ≡ [] → left ≡ [])
 reads_of bytes left into given at count is_left t =
     let long : length (take count left) ≡ count = length-take-le count left t.there in
-    let taken : take count given ≡ take count left = ap (take count) t.given_is ∙ take-append-le count (take count left) (drop count into) (omega arith) ∙ take_all count (take count left) (omega arith) in
+    let taken : take count given ≡ take count left = ap (take count) t.given_is ∙ take-append-le count (take count left) (drop count into)
+    (omega arith) ∙ take_all count (take count left) (omega arith) in
     let rest : drop count left ≡ drop (at + count) bytes = ap (drop count) is_left ∙ drop-drop count at bytes in
-    let whole : left ≡ take count given ++ drop (at + count) bytes = sym (take-append-drop count left) ∙ ap (λ (xs : List ℕ). xs ++ drop count left) (sym taken) ∙ ap (λ (xs : List ℕ). take count given ++ xs) rest in (
+    let whole : left ≡ take count given ++ drop (at + count) bytes = sym (take-append-drop count left) ∙ ap (λ (xs : List ℕ). xs ++ drop count left)
+    (sym taken) ∙ ap (λ (xs : List ℕ). take count given ++ xs) rest in (
       whole,
       λ none.
           let nothing : count ≡ 0 = omega (arith, ap length (sym taken ∙ none)) in
@@ -59,7 +62,7 @@ reads_of bytes left into given at count is_left t =
     )
 
 pub reads_first : (held : Option (List ℕ)) (left into given : List ℕ) (at count : ℕ) → option_map (drop at) held ≡ Some left → TakesFirst left into given count
-    → Reads (option_map (drop at) held) (option_map (drop (at + count)) held) (take count given)
+    → TakesFront (option_map (drop at) held) (option_map (drop (at + count)) held) (take count given)
 reads_first None left into given at count is_left t = cc
 reads_first (Some bytes) left into given at count is_left t =
     let here : left ≡ drop at bytes = cc in

@@ -22,7 +22,8 @@ abbrev pub HandsOn : {O : Type 0} → (O → O → Type 0) → Buffered O → Bu
 HandsOn follows old new = follows (inner old) (inner new) × (holds new ≡ [])
 
 -- of what was held the sink took the first, and the others are held: none, where the call didn't fail
-pub record Flushes {S T E : Type 0} (tells : Bool) (taken : S → List ℕ) (faults : S → ℕ) (follows : S → S → Type 0) (old : S) (held : List ℕ) (new : S) (holds : List ℕ) (result : Result T E) : Type 0 where
+pub record Flushes {S T E : Type 0} (tells : Bool) (taken : S → List ℕ) (faults : S → ℕ) (follows : S → S → Type 0) (old : S) (held : List ℕ)
+    (new : S) (holds : List ℕ) (result : Result T E) : Type 0 where
   pub out : List ℕ
   pub gained : Gained tells (taken old) (taken new) out
   pub whole : out ++ holds ≡ held

@@ -2,6 +2,7 @@
 use Rattle.std.specs.Prelude.{◌≡◌, ◌⊎◌, ℕ, ◌≤◌, length}
 use Rattle.rpm_outside.specs.declared.disk.File.{File}
 use Rattle.rpm_outside.specs.declared.disk.File.TheVariants.{Pkg, Idx, Log}
+use Rattle.rpm_outside.specs.Causes.{Rose}
 use Rattle.rpm_outside.specs.Files.{Units, Files, file_of, with_file, unit_at, put}
 
 -- a write that was cut short: each unit is the old one or the written one, and any length between
@@ -36,6 +37,10 @@ pub record Untouched (old new : Files) (past since : ℕ → Files → Type 0) :
   pub same : new ≡ old
   pub images : (t : ℕ) (image : Files) → since t image → past t image
   pub kept : (t : ℕ) (image : Files) → past t image → since t image
+
+-- a failing call took a moment of its own, or it did nothing
+abbrev pub RisesOrStays : ℕ → ℕ → Files → Files → (ℕ → Files → Type 0) → (ℕ → Files → Type 0) → Type 0
+RisesOrStays before now old new past since = Rose before now ⊎ ((now ≡ before) × Untouched old new past since)
 
 -- it is one of these images after a write that was cut short
 abbrev pub WasTorn : File → ℕ → Units → (Files → Type 0) → Files → Type 0

@@ -5,8 +5,8 @@ use Rattle.std.proofs.lemmas.Bool.{cases_lt}
 use Rattle.rpm_outside.specs.declared.disk.File.{File}
 use Rattle.rpm_outside.specs.declared.disk.File.TheVariants.{Pkg, Idx, Log}
 use Rattle.rpm_outside.specs.Files.{Units, Files, file_of, unit_at, put}
-use Rattle.rpm_outside.specs.Puts.{length-put, put_before, put_inside, put_after}
-use Rattle.rpm_outside.specs.PutLaws.{same_units}
+use Rattle.rpm_outside.specs.inner.Puts.{length-put, put_before, put_inside, put_after}
+use Rattle.rpm_outside.specs.inner.PutLaws.{same_units}
 use Rattle.rpm_outside.specs.History.{file_of-with}
 use Rattle.rpm_outside.specs.Literal.{cases_file, other_file}
 use Rattle.rpm_outside.specs.Logs.{Entry, with_entry, with_entries}
@@ -46,12 +46,15 @@ module _ (entry : Entry) (files : Files) where
       subst (λ (f : File). file_of f (with_entry entry files) ≡ put entry.first entry.units (file_of f files)) (sym same) (file_of-with entry.file here files)
 
   pub length-entry : (file : File) → length (file_of file (with_entry entry files)) ≡ end_in file entry (length (file_of file files))
-  length-entry file = elim (cases_file file entry.file) as (λ c. length (file_of file (with_entry entry files)) ≡ ⊎_elim (λ (same : file ≡ entry.file). max (length (file_of file files)) (entry.first + length entry.units)) (λ (differ : file ≡ entry.file → ⊥). length (file_of file files)) c) [
-    | inl same ↦ ap length (written_file file same) ∙ length-put entry.first entry.units (file_of file files)
-    | inr differ ↦ ap length (other_file file entry.file here files differ)
-  ]
+  length-entry file = elim (cases_file file entry.file) as (λ c. length (file_of file (with_entry entry files))
+      ≡ ⊎_elim (λ (same : file ≡ entry.file). max (length (file_of file files)) (entry.first + length entry.units))
+      (λ (differ : file ≡ entry.file → ⊥). length (file_of file files)) c) [
+        | inl same ↦ ap length (written_file file same) ∙ length-put entry.first entry.units (file_of file files)
+        | inr differ ↦ ap length (other_file file entry.file here files differ)
+      ]
 
-pub length-entries : (entries : List Entry) (files : Files) (file : File) → length (file_of file (with_entries entries files)) ≡ ends_in file entries (length (file_of file files))
+pub length-entries : (entries : List Entry) (files : Files) (file : File) → length (file_of file (with_entries entries files)) ≡ ends_in file entries
+    (length (file_of file files))
 length-entries [] files file = refl
 length-entries (entry ∷ entries) files file =
     length-entries entries (with_entry entry files) file ∙ ap (λ (n : ℕ). ends_in file entries n) (length-entry entry files file)
@@ -117,10 +120,12 @@ same_files a b same =
 -- ---- lengths
 
 end_in_max : (file : File) (entry : Entry) (n : ℕ) → end_in file entry n ≡ max n (end_in file entry 0)
-end_in_max file entry n = elim (cases_file file entry.file) as (λ c. ⊎_elim (λ (same : file ≡ entry.file). max n (entry.first + length entry.units)) (λ (differ : file ≡ entry.file → ⊥). n) c ≡ max n (⊎_elim (λ (same : file ≡ entry.file). max 0 (entry.first + length entry.units)) (λ (differ : file ≡ entry.file → ⊥). 0) c)) [
-  | inl same ↦ omega arith
-  | inr differ ↦ omega arith
-]
+end_in_max file entry n = elim (cases_file file entry.file) as (λ c. ⊎_elim (λ (same : file ≡ entry.file). max n (entry.first + length entry.units))
+    (λ (differ : file ≡ entry.file → ⊥). n) c ≡ max n (⊎_elim (λ (same : file ≡ entry.file). max 0 (entry.first + length entry.units))
+    (λ (differ : file ≡ entry.file → ⊥). 0) c)) [
+      | inl same ↦ omega arith
+      | inr differ ↦ omega arith
+    ]
 
 pub ends_in_max : (file : File) (entries : List Entry) (n : ℕ) → ends_in file entries n ≡ max n (ends_in file entries 0)
 ends_in_max file [] n = omega arith
@@ -133,10 +138,11 @@ covered_below file [] i covers = absurd covers
 covered_below file (entry ∷ entries) i (inl w) = omega (arith, ends_in_max file entries (end_in file entry 0), writes_below)
   where
     writes_below : i < end_in file entry 0
-    writes_below = elim (cases_file file entry.file) as (λ c. i < ⊎_elim (λ (same : file ≡ entry.file). max 0 (entry.first + length entry.units)) (λ (differ : file ≡ entry.file → ⊥). 0) c) [
-      | inl same ↦ omega (arith, w.before)
-      | inr differ ↦ absurd (differ (sym w.there))
-    ]
+    writes_below = elim (cases_file file entry.file) as (λ c. i < ⊎_elim (λ (same : file ≡ entry.file). max 0 (entry.first + length entry.units))
+        (λ (differ : file ≡ entry.file → ⊥). 0) c) [
+          | inl same ↦ omega (arith, w.before)
+          | inr differ ↦ absurd (differ (sym w.there))
+        ]
 covered_below file (entry ∷ entries) i (inr later) = omega (arith, covered_below file entries i later, ends_in_max file entries (end_in file entry 0))
 
 -- ---- files within the entries
@@ -152,7 +158,15 @@ within_none entries files = record {
 pub within_same : (entries : List Entry) (old new : Files) → Within entries old new → with_entries entries new ≡ with_entries entries old
 within_same entries old new within = same_files (with_entries entries new) (with_entries entries old)
     (λ file. same_units (file_of file (with_entries entries new)) (file_of file (with_entries entries old))
-    (omega (arith, length-entries entries new file, length-entries entries old file, ends_in_max file entries (length (file_of file new)), ends_in_max file entries (length (file_of file old)), within.no_shorter file, within.no_longer file))
+    (omega (
+      arith,
+      length-entries entries new file,
+      length-entries entries old file,
+      ends_in_max file entries (length (file_of file new)),
+      ends_in_max file entries (length (file_of file old)),
+      within.no_shorter file,
+      within.no_longer file,
+    ))
     (λ i. ⊎_elim (entries_agree entries new old file i) (entries_cover entries new old file i) (within.each file i)))
 
 -- all of them written are within them
@@ -163,24 +177,30 @@ written_within entries files = record {
   no_longer = λ file. omega (arith, length-entries entries files file);
 }
   where
-    one : (entry : Entry) (files : Files) (file : File) (i : ℕ) → (unit_at (file_of file (with_entry entry files)) i ≡ unit_at (file_of file files) i) ⊎ Writes entry file i
+    one : (entry : Entry) (files : Files) (file : File) (i : ℕ) → (unit_at (file_of file (with_entry entry files)) i ≡ unit_at (file_of file files) i)
+        ⊎ Writes entry file i
     one entry files file i = elim (cases_file file entry.file) [
       | inr differ ↦ inl (ap (λ (u : Units). unit_at u i) (other_file file entry.file (here entry files) files differ))
       | inl same ↦ elim (cases_lt i entry.first) [
-        | inl below ↦ inl (ap (λ (u : Units). unit_at u i) (written_file entry files file same) ∙ put_before entry.first entry.units (file_of file files) i below)
+        | inl below ↦ inl (ap (λ (u : Units). unit_at u i) (written_file entry files file same) ∙ put_before entry.first entry.units
+            (file_of file files) i below)
         | inr from ↦ elim (cases_lt i (entry.first + length entry.units)) [
           | inl inside ↦ inr (record { there = sym same; from = from; before = inside })
-          | inr past ↦ inl (ap (λ (u : Units). unit_at u i) (written_file entry files file same) ∙ put_after entry.first entry.units (file_of file files) i past)
+          | inr past ↦ inl (ap (λ (u : Units). unit_at u i) (written_file entry files file same) ∙ put_after entry.first entry.units
+              (file_of file files) i past)
         ]
       ]
     ]
 
-    units : (entries : List Entry) (files : Files) (file : File) (i : ℕ) → (unit_at (file_of file (with_entries entries files)) i ≡ unit_at (file_of file files) i) ⊎ Covers entries file i
+    units : (entries : List Entry) (files : Files) (file : File) (i : ℕ) → (unit_at (file_of file (with_entries entries files)) i
+        ≡ unit_at (file_of file files) i) ⊎ Covers entries file i
     units [] files file i = inl refl
-    units (entry ∷ entries) files file i = ⊎_elim (λ later. ⊎_elim (λ now. inl (later ∙ now)) (λ w. inr (inl w)) (one entry files file i)) (λ c. inr (inr c)) (units entries (with_entry entry files) file i)
+    units (entry ∷ entries) files file i = ⊎_elim (λ later. ⊎_elim (λ now. inl (later ∙ now)) (λ w. inr (inl w)) (one entry files file i))
+        (λ c. inr (inr c)) (units entries (with_entry entry files) file i)
 
 -- a further write in a range that the entries cover
-pub within_changed : (entries : List Entry) (old mid new : Files) (file : File) (first end : ℕ) → first < end → ((i : ℕ) → first ≤ i → i < end → Covers entries file i)
+pub within_changed : (entries : List Entry) (old mid new : Files) (file : File) (first end : ℕ) → first < end
+    → ((i : ℕ) → first ≤ i → i < end → Covers entries file i)
     → Within entries old mid → ChangedIn file first end mid new → Within entries old new
 within_changed entries old mid new file first end some covers within changed = record {
   each = λ f i. elim (cases_file f file) [
@@ -194,7 +214,13 @@ within_changed entries old mid new file first end some covers within changed = r
   no_longer = λ f. elim (cases_file f file) [
     | inr differ ↦ omega (arith, ap length (elsewhere f differ), within.no_longer f)
     | inl same ↦ subst (λ (g : File). length (file_of g new) ≤ ends_in g entries (length (file_of g old))) (sym same)
-        (omega (arith, within.no_longer file, changed.no_longer, covered_below file entries (end - 1) (covers (end - 1) (omega arith) (omega arith)), ends_in_max file entries (length (file_of file old))))
+        (omega (
+          arith,
+          within.no_longer file,
+          changed.no_longer,
+          covered_below file entries (end - 1) (covers (end - 1) (omega arith) (omega arith)),
+          ends_in_max file entries (length (file_of file old)),
+        ))
   ];
 }
   where
@@ -214,5 +240,11 @@ pub within_then : (entries : List Entry) (a b c : Files) → Within entries a b 
 within_then entries a b c one two = record {
   each = λ file i. ⊎_elim (λ same. ⊎_elim (λ before. inl (same ∙ before)) (λ covers. inr covers) (one.each file i)) (λ covers. inr covers) (two.each file i);
   no_shorter = λ file. omega (arith, one.no_shorter file, two.no_shorter file);
-  no_longer = λ file. omega (arith, one.no_longer file, two.no_longer file, ends_in_max file entries (length (file_of file a)), ends_in_max file entries (length (file_of file b)));
+  no_longer = λ file. omega (
+    arith,
+    one.no_longer file,
+    two.no_longer file,
+    ends_in_max file entries (length (file_of file a)),
+    ends_in_max file entries (length (file_of file b)),
+  );
 }

@@ -4,7 +4,6 @@ use Rattle.std.proofs.Common.{refl, sym, ap, ◌∙◌, subst, append_assoc, ari
 use Rattle.std.proofs.Math.Seq.{take-append_seam}
 use Rattle.std.proofs.lemmas.List.{append-nil, append_cancel_left, take-append-drop}
 use Rattle.rpm_outside.specs.declared.buffered.Buffered.{Buffered}
-use Rattle.rpm_outside.specs.Causes.{HasCause}
 use Rattle.rpm_outside.specs.Sinks.{Gained, GainedPart, Begins, Writes}
 use Rattle.rpm_outside.specs.Buffered.{inner, holds, all_taken, GoesOn, Flushes}
 
@@ -12,8 +11,12 @@ use Rattle.rpm_outside.specs.Buffered.{inner, holds, all_taken, GoesOn, Flushes}
 front : (a b held bytes : List ℕ) → Begins a b → b ++ held ≡ a ++ bytes → (n : ℕ) × (n ≤ length bytes) × (b ≡ a ++ take n bytes)
 front a b held bytes (x, grew) whole =
     let cut : x ++ held ≡ bytes = append_cancel_left a (x ++ held) bytes (sym (append_assoc a x held) ∙ ap (λ (y : List ℕ). y ++ held) (sym grew) ∙ whole) in
-    let within : length x ≤ length (x ++ held) = omega (arith, length-append x held) in
-    (length x, subst (λ (y : List ℕ). length x ≤ length y) cut within, subst (λ (y : List ℕ). b ≡ a ++ take (length x) y) cut (subst (λ (y : List ℕ). b ≡ a ++ y) (sym (take-append_seam x held)) grew))
+    let within : length x ≤ length (x ++ held) = omega (arith, length-append x held) in (
+      length x,
+      subst (λ (y : List ℕ). length x ≤ length y) cut within,
+      subst (λ (y : List ℕ). b ≡ a ++ take (length x) y) cut
+          (subst (λ (y : List ℕ). b ≡ a ++ y) (sym (take-append_seam x held)) grew),
+    )
 
 front_part : (tells : Bool) (a b held bytes : List ℕ) → (IsTrue tells → Begins a b) → (IsTrue tells → b ++ held ≡ a ++ bytes) → GainedPart tells a b bytes
 front_part true a b held bytes grew whole =
@@ -22,7 +25,8 @@ front_part true a b held bytes grew whole =
 front_part false a b held bytes grew whole = (0, omega arith, λ told. cc)
 
 -- bytes that were written to a buffer that held nothing reached the sink, but for those that are held
-reached : (tells : Bool) (a before b held bytes : List ℕ) → before ≡ [] → (IsTrue tells → Begins a b) → (IsTrue tells → b ++ held ≡ (a ++ before) ++ bytes) → GainedPart tells a b bytes
+reached : (tells : Bool) (a before b held bytes : List ℕ) → before ≡ [] → (IsTrue tells → Begins a b) → (IsTrue tells → b ++ held ≡ (a ++ before)
+    ++ bytes) → GainedPart tells a b bytes
 reached tells a before b held bytes nothing grew whole =
     front_part tells a b held bytes grew (λ told. whole told ∙ ap (λ (y : List ℕ). (a ++ y) ++ bytes) nothing ∙ ap (λ (y : List ℕ). y ++ bytes) (append-nil a))
 
@@ -30,25 +34,33 @@ reached tells a before b held bytes nothing grew whole =
 pub handed : (tells : Bool) (a b out held holds : List ℕ) → Gained tells a b out → out ++ holds ≡ held → IsTrue tells → b ++ holds ≡ a ++ held
 handed tells a b out held holds g whole told = ap (λ (y : List ℕ). y ++ holds) (g told) ∙ append_assoc a out holds ∙ ap (λ (y : List ℕ). a ++ y) whole
 
-module _ {O : Type 0} {tells : Bool} {taken : O → List ℕ} {faults : O → ℕ} {follows : O → O → Type 0} (grows : (a b : O) → follows a b → IsTrue tells → Begins (taken a) (taken b)) where
+module _ {O : Type 0} {tells : Bool} {taken : O → List ℕ} {faults : O → ℕ} {follows : O → O → Type 0} (grows : (a b : O) → follows a b → IsTrue tells
+    → Begins (taken a) (taken b)) where
   -- a call that failed
-  pub stopped : {T U E F : Type 0} {bytes : List ℕ} {old new : Buffered O} {e : E} (r : Result U F) → IsErr r → holds old ≡ [] → Writes {T = T} {E = E} tells (all_taken taken) (λ b. faults (inner b)) (GoesOn tells taken follows) old new bytes (Err e) → Writes tells taken faults follows (inner old) (inner new) bytes r
+  pub stopped : {T U E F : Type 0} {bytes : List ℕ} {old new : Buffered O} {e : E} (r : Result U F) → IsErr r → holds old ≡ [] → Writes {T = T}
+      {E = E} tells (all_taken taken) (λ b. faults (inner b)) (GoesOn tells taken follows) old new bytes (Err e) → Writes tells taken faults follows
+      (inner old) (inner new) bytes r
   stopped (Ok u) fails nothing w = absurd cc
   stopped {bytes = bytes} {old = old} {new = new} (Err f) fails nothing w = record {
     ok = tt;
-    err = reached tells (taken (inner old)) (holds old) (taken (inner new)) (holds new ++ drop w.err.0 bytes) bytes nothing (grows (inner old) (inner new) w.goes_on.0) (λ told.
+    err = reached tells (taken (inner old)) (holds old) (taken (inner new)) (holds new ++ drop w.err.0 bytes) bytes nothing
+        (grows (inner old) (inner new) w.goes_on.0) (λ told.
         sym (append_assoc (taken (inner new)) (holds new) (drop w.err.0 bytes)) ∙ ap (λ (y : List ℕ). y ++ drop w.err.0 bytes) (w.err.2 told)
-        ∙ append_assoc (all_taken taken old) (take w.err.0 bytes) (drop w.err.0 bytes) ∙ ap (λ (y : List ℕ). all_taken taken old ++ y) (take-append-drop w.err.0 bytes));
+        ∙ append_assoc (all_taken taken old) (take w.err.0 bytes) (drop w.err.0 bytes) ∙ ap (λ (y : List ℕ). all_taken taken old ++ y)
+        (take-append-drop w.err.0 bytes));
     cause = record { later = w.cause.later; failed = w.cause.failed };
     goes_on = w.goes_on.0;
   }
 
   -- a flush behind one that didn't
-  pub flushed : {T U E F : Type 0} {bytes : List ℕ} {old mid : Buffered O} {t : T} (then : (a b c : O) → follows a b → follows b c → follows a c) (new : Buffered O) (r : Result U F) → holds old ≡ []
-      → Writes {T = T} {E = E} tells (all_taken taken) (λ b. faults (inner b)) (GoesOn tells taken follows) old mid bytes (Ok t) → Flushes tells taken faults follows (inner mid) (holds mid) (inner new) (holds new) r → Writes tells taken faults follows (inner old) (inner new) bytes r
+  pub flushed : {T U E F : Type 0} {bytes : List ℕ} {old mid : Buffered O} {t : T} (then : (a b c : O) → follows a b → follows b c → follows a c)
+      (new : Buffered O) (r : Result U F) → holds old ≡ []
+      → Writes {T = T} {E = E} tells (all_taken taken) (λ b. faults (inner b)) (GoesOn tells taken follows) old mid bytes (Ok t) → Flushes tells taken
+      faults follows (inner mid) (holds mid) (inner new) (holds new) r → Writes tells taken faults follows (inner old) (inner new) bytes r
   flushed {bytes = bytes} {old = old} {mid = mid} then new (Ok u) nothing w f = record {
     ok = λ told.
-        sym (append-nil (taken (inner new))) ∙ ap (λ (y : List ℕ). taken (inner new) ++ y) (sym f.none) ∙ handed tells (taken (inner mid)) (taken (inner new)) f.out (holds mid) (holds new) f.gained f.whole told ∙ w.ok told
+        sym (append-nil (taken (inner new))) ∙ ap (λ (y : List ℕ). taken (inner new) ++ y) (sym f.none) ∙ handed tells (taken (inner mid))
+        (taken (inner new)) f.out (holds mid) (holds new) f.gained f.whole told ∙ w.ok told
         ∙ ap (λ (y : List ℕ). (taken (inner old) ++ y) ++ bytes) nothing ∙ ap (λ (y : List ℕ). y ++ bytes) (append-nil (taken (inner old)));
     err = tt;
     cause = record { later = omega (arith, w.cause.later, f.cause.later); failed = tt };
@@ -56,7 +68,8 @@ module _ {O : Type 0} {tells : Bool} {taken : O → List ℕ} {faults : O → �
   }
   flushed {bytes = bytes} {old = old} {mid = mid} then new (Err e) nothing w f = record {
     ok = tt;
-    err = reached tells (taken (inner old)) (holds old) (taken (inner new)) (holds new) bytes nothing (grows (inner old) (inner new) (then (inner old) (inner mid) (inner new) w.goes_on.0 f.goes_on))
+    err = reached tells (taken (inner old)) (holds old) (taken (inner new)) (holds new) bytes nothing
+        (grows (inner old) (inner new) (then (inner old) (inner mid) (inner new) w.goes_on.0 f.goes_on))
         (λ told. handed tells (taken (inner mid)) (taken (inner new)) f.out (holds mid) (holds new) f.gained f.whole told ∙ w.ok told);
     cause = record { later = omega (arith, w.cause.later, f.cause.later); failed = omega (arith, w.cause.later, f.cause.failed) };
     goes_on = then (inner old) (inner mid) (inner new) w.goes_on.0 f.goes_on;

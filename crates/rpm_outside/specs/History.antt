@@ -8,7 +8,7 @@ use Rattle.rpm_outside.specs.declared.steps.Step.{Step}
 use Rattle.rpm_outside.specs.declared.steps.Step.TheVariants.{Wrote, Synced}
 use Rattle.rpm_outside.specs.Files.{Units, Files, file_of, with_file, put}
 use Rattle.rpm_outside.specs.Crash.{Torn, TornFile, Elapses, Follows}
-use Rattle.rpm_outside.specs.Puts.{length-put}
+use Rattle.rpm_outside.specs.inner.Puts.{length-put}
 use Rattle.rpm_outside.specs.Past.{after_step, after_steps, LeftByStep, LeftBySteps, Images, ImagesSince}
 
 pub file_of-with : (file : File) (units : Units) (files : Files) → file_of file (with_file file units files) ≡ units
@@ -28,7 +28,8 @@ torn_whole at units file = record { each = λ i. inr refl; no_shorter = omega (a
 pub torn_none : (at : ℕ) (units file : Units) → Torn at units file file
 torn_none at units file = record { each = λ i. inl refl; no_shorter = omega arith; no_longer = omega (arith, length-put at units file) }
 
-pub torn_file_whole : (file : File) (at : ℕ) (units : Units) (files : Files) → TornFile file at units files (with_file file (put at units (file_of file files)) files)
+pub torn_file_whole : (file : File) (at : ℕ) (units : Units) (files : Files) → TornFile file at units files
+    (with_file file (put at units (file_of file files)) files)
 torn_file_whole file at units files =
     let written = put at units (file_of file files) in
     let is = file_of-with file written files in
@@ -44,11 +45,13 @@ pub after_steps-push : (steps : List Step) (step : Step) (files : Files) → aft
 after_steps-push [] step files = refl
 after_steps-push (s ∷ steps) step files = after_steps-push steps step (after_step s files)
 
-pub left_push : (steps : List Step) (step : Step) (files : Files) (images : Files → Type 0) (image : Files) → LeftBySteps (steps ++ step ∷ []) files images image → LeftByStep step (after_steps steps files) (LeftBySteps steps files images) image
+pub left_push : (steps : List Step) (step : Step) (files : Files) (images : Files → Type 0) (image : Files) → LeftBySteps (steps ++ step ∷ []) files
+    images image → LeftByStep step (after_steps steps files) (LeftBySteps steps files images) image
 left_push [] step files images image left = left
 left_push (s ∷ steps) step files images image left = left_push steps step (after_step s files) (LeftByStep s files images) image left
 
-pub push_left : (steps : List Step) (step : Step) (files : Files) (images : Files → Type 0) (image : Files) → LeftByStep step (after_steps steps files) (LeftBySteps steps files images) image → LeftBySteps (steps ++ step ∷ []) files images image
+pub push_left : (steps : List Step) (step : Step) (files : Files) (images : Files → Type 0) (image : Files) → LeftByStep step
+    (after_steps steps files) (LeftBySteps steps files images) image → LeftBySteps (steps ++ step ∷ []) files images image
 push_left [] step files images image left = left
 push_left (s ∷ steps) step files images image left = push_left steps step (after_step s files) (LeftByStep s files images) image left
 
@@ -59,7 +62,8 @@ step_as_read (Synced file) files images here = (here, refl)
 
 steps_as_read : (steps : List Step) (files : Files) (images : Files → Type 0) → images files → LeftBySteps steps files images (after_steps steps files)
 steps_as_read [] files images here = here
-steps_as_read (step ∷ steps) files images here = steps_as_read steps (after_step step files) (LeftByStep step files images) (step_as_read step files images here)
+steps_as_read (step ∷ steps) files images here = steps_as_read steps (after_step step files) (LeftByStep step files images)
+    (step_as_read step files images here)
 
 pub as_read_now : (steps : List Step) (first files : Files) → files ≡ after_steps steps first → ImagesSince steps first (length steps) files
 as_read_now steps first files is =
@@ -84,14 +88,16 @@ images_now steps first image here =
     (length steps, omega arith, omega arith, subst (λ (s : List Step). Images s first image) (sym (take_all (length steps) steps (omega arith))) here)
 
 -- one step more
-pub elapses_push : (steps later : List Step) (step : Step) (first : Files) → later ≡ steps ++ step ∷ [] → Elapses (length steps) (length later) (ImagesSince steps first) (ImagesSince later first)
+pub elapses_push : (steps later : List Step) (step : Step) (first : Files) → later ≡ steps ++ step ∷ [] → Elapses (length steps) (length later)
+    (ImagesSince steps first) (ImagesSince later first)
 elapses_push steps later step first is =
     let longer : length later ≡ length steps + 1 = ap length is ∙ length_push steps step in
     record {
       later = omega arith;
       nothing_else = λ t image le since. elim (cases_lt since.0 (length later)) [
         | inl before ↦
-            let same : take since.0 later ≡ take since.0 steps = ap (λ (s : List Step). take since.0 s) is ∙ take-append-le since.0 steps (step ∷ []) (omega arith) in
+            let same : take since.0 later ≡ take since.0 steps = ap (λ (s : List Step). take since.0 s) is ∙ take-append-le since.0 steps (step ∷ [])
+            (omega arith) in
             inl (since.0, since.1, omega arith, subst (λ (s : List Step). Images s first image) same since.3)
         | inr last ↦ inr (since.0, last, since.2, since.3)
       ];
@@ -108,7 +114,8 @@ follows_write steps later file at units first is image since =
     let step = left_push steps (Wrote file at units) first (λ f. f ≡ first) image (subst (λ (s : List Step). Images s first image) is here) in
     (step.0, images_now steps first step.0 step.1, step.2)
 
-pub follows_none : (steps : List Step) (file : File) (at : ℕ) (units : Units) (first : Files) → Follows (TornFile file at units) (ImagesSince steps first (length steps)) (ImagesSince steps first (length steps))
+pub follows_none : (steps : List Step) (file : File) (at : ℕ) (units : Units) (first : Files) → Follows (TornFile file at units)
+    (ImagesSince steps first (length steps)) (ImagesSince steps first (length steps))
 follows_none steps file at units first image since = (image, since, torn_file_none file at units image)
 
 -- and what a sync leaves

@@ -9,7 +9,7 @@ use Rattle.rpm_outside.specs.declared.steps.Step.{Step}
 use Rattle.rpm_outside.specs.declared.steps.Step.TheVariants.{Wrote, Synced}
 use Rattle.rpm_outside.specs.Files.{Units, Files, file_of, with_file, put, unit_at}
 use Rattle.rpm_outside.specs.Crash.{TornFile}
-use Rattle.rpm_outside.specs.Puts.{length-put, put_cases, put_inside}
+use Rattle.rpm_outside.specs.inner.Puts.{length-put, put_cases, put_inside}
 use Rattle.rpm_outside.specs.Past.{after_step, after_steps, LeftByStep, LeftBySteps, Images}
 use Rattle.rpm_outside.specs.History.{after_steps-push, file_of-with}
 
@@ -61,12 +61,15 @@ not_synced-append file (Synced other ∷ xs) ys one two = (one.0, not_synced-app
 
 module _ (past : List Step) (first : Files) (step : Step) where
   -- what a file had before a step that doesn't sync it
-  had_push : (file : File) (P Q : Units → Type 0) → NotSynced file (step ∷ []) → ((u : Units) → P u → Q u) → HadSince past first file P → HadSince (past ++ step ∷ []) first file Q
+  had_push : (file : File) (P Q : Units → Type 0) → NotSynced file (step ∷ []) → ((u : Units) → P u → Q u) → HadSince past first file P
+      → HadSince (past ++ step ∷ []) first file Q
   had_push file P Q kept weaker had = record {
     k = had.k;
     passed = omega (arith, had.passed, length_push past step);
-    not_synced = subst (λ (s : List Step). NotSynced file s) (sym (drop-append-le had.k past (step ∷ []) had.passed)) (not_synced-append file (drop had.k past) (step ∷ []) had.not_synced kept);
-    had = subst (λ (s : List Step). Q (file_of file (after_steps s first))) (sym (take-append-le had.k past (step ∷ []) had.passed)) (weaker (file_of file (after_steps (take had.k past) first)) had.had);
+    not_synced = subst (λ (s : List Step). NotSynced file s) (sym (drop-append-le had.k past (step ∷ []) had.passed))
+        (not_synced-append file (drop had.k past) (step ∷ []) had.not_synced kept);
+    had = subst (λ (s : List Step). Q (file_of file (after_steps s first))) (sym (take-append-le had.k past (step ∷ []) had.passed))
+        (weaker (file_of file (after_steps (take had.k past) first)) had.had);
   }
 
   -- what it has after the step
@@ -85,7 +88,8 @@ module _ (past : List Step) (first : Files) where
   abbrev now : Files
   now = after_steps past first
 
-  module _ (g : File) (at : ℕ) (kept : Vec (List ℕ) Global) (from image : Files) (was : IsImage past first from) (torn : TornFile g at kept.items from image) where
+  module _ (g : File) (at : ℕ) (kept : Vec (List ℕ) Global) (from image : Files) (was : IsImage past first from)
+      (torn : TornFile g at kept.items from image) where
     abbrev units : Units
     units = kept.items
 
@@ -101,30 +105,44 @@ module _ (past : List Step) (first : Files) where
     unit_here : (i : ℕ) → HadSince (past ++ step ∷ []) first g (λ had. unit_at (file_of g image) i ≡ unit_at had i)
     unit_here i = ⊎_elim kept_unit new_unit (torn.torn.each i)
       where
-        kept_unit : unit_at (file_of g image) i ≡ unit_at (file_of g from) i → HadSince (past ++ step ∷ []) first g (λ had. unit_at (file_of g image) i ≡ unit_at had i)
-        kept_unit same = had_push past first step g (λ had. unit_at (file_of g from) i ≡ unit_at had i) (λ had. unit_at (file_of g image) i ≡ unit_at had i) tt (λ u p. same ∙ p) (was.units g i)
+        kept_unit : unit_at (file_of g image) i ≡ unit_at (file_of g from) i → HadSince (past ++ step ∷ []) first g
+            (λ had. unit_at (file_of g image) i ≡ unit_at had i)
+        kept_unit same = had_push past first step g (λ had. unit_at (file_of g from) i ≡ unit_at had i) (λ had. unit_at (file_of g image) i
+            ≡ unit_at had i) tt (λ u p. same ∙ p) (was.units g i)
 
-        new_unit : unit_at (file_of g image) i ≡ unit_at (put at units (file_of g from)) i → HadSince (past ++ step ∷ []) first g (λ had. unit_at (file_of g image) i ≡ unit_at had i)
+        new_unit : unit_at (file_of g image) i ≡ unit_at (put at units (file_of g from)) i → HadSince (past ++ step ∷ []) first g
+            (λ had. unit_at (file_of g image) i ≡ unit_at had i)
         new_unit written = ⊎_elim (λ same. kept_unit (written ∙ same))
             (λ w. had_now past first step g (λ had. unit_at (file_of g image) i ≡ unit_at had i)
-            (written ∙ w.3 ∙ sym (put_inside at units (file_of g now) w.0 w.1) ∙ ap (λ (j : ℕ). unit_at (put at units (file_of g now)) j) (sym w.2) ∙ ap (λ (u : Units). unit_at u i) (sym now_written)))
+            (written ∙ w.3 ∙ sym (put_inside at units (file_of g now) w.0 w.1) ∙ ap (λ (j : ℕ). unit_at (put at units (file_of g now)) j) (sym w.2)
+            ∙ ap (λ (u : Units). unit_at u i) (sym now_written)))
             (put_cases at units (file_of g from) i)
 
     shorter_here : HadSince (past ++ step ∷ []) first g (λ had. length had ≤ length (file_of g image))
-    shorter_here = had_push past first step g (λ had. length had ≤ length (file_of g from)) (λ had. length had ≤ length (file_of g image)) tt (λ u p. omega (arith, p, torn.torn.no_shorter)) (was.no_shorter g)
+    shorter_here = had_push past first step g (λ had. length had ≤ length (file_of g from)) (λ had. length had ≤ length (file_of g image)) tt
+        (λ u p. omega (arith, p, torn.torn.no_shorter)) (was.no_shorter g)
 
     longer_here : length (file_of g image) ≤ length (file_of g (after_step step now))
-    longer_here = omega (arith, torn.torn.no_longer, length-put at units (file_of g from), length-put at units (file_of g now), was.no_longer g, ap length now_written)
+    longer_here = omega (
+      arith,
+      torn.torn.no_longer,
+      length-put at units (file_of g from),
+      length-put at units (file_of g now),
+      was.no_longer g,
+      ap length now_written,
+    )
 
     write_is : IsImage (past ++ step ∷ []) first image
     write_is = record {
       units = λ f i. ⊎_elim
           (λ same. subst (λ (h : File). HadSince (past ++ step ∷ []) first h (λ had. unit_at (file_of h image) i ≡ unit_at had i)) (sym same) (unit_here i))
-          (λ differ. had_push past first step f (λ had. unit_at (file_of f from) i ≡ unit_at had i) (λ had. unit_at (file_of f image) i ≡ unit_at had i) tt (λ u p. ap (λ (x : Units). unit_at x i) (elsewhere f differ) ∙ p) (was.units f i))
+          (λ differ. had_push past first step f (λ had. unit_at (file_of f from) i ≡ unit_at had i) (λ had. unit_at (file_of f image) i ≡ unit_at had
+          i) tt (λ u p. ap (λ (x : Units). unit_at x i) (elsewhere f differ) ∙ p) (was.units f i))
           (cases_file f g);
       no_shorter = λ f. ⊎_elim
           (λ same. subst (λ (h : File). HadSince (past ++ step ∷ []) first h (λ had. length had ≤ length (file_of h image))) (sym same) shorter_here)
-          (λ differ. had_push past first step f (λ had. length had ≤ length (file_of f from)) (λ had. length had ≤ length (file_of f image)) tt (λ u p. omega (arith, p, ap length (elsewhere f differ))) (was.no_shorter f))
+          (λ differ. had_push past first step f (λ had. length had ≤ length (file_of f from)) (λ had. length had ≤ length (file_of f image)) tt
+          (λ u p. omega (arith, p, ap length (elsewhere f differ))) (was.no_shorter f))
           (cases_file f g);
       no_longer = λ f. subst (λ (x : Files). length (file_of f image) ≤ length (file_of f x)) (sym (after_steps-push past step first)) (⊎_elim
           (λ same. subst (λ (h : File). length (file_of h image) ≤ length (file_of h (after_step step now))) (sym same) longer_here)
@@ -135,21 +153,27 @@ module _ (past : List Step) (first : Files) where
   sync_is : (g : File) (image : Files) → IsImage past first image → file_of g image ≡ file_of g now → IsImage (past ++ Synced g ∷ []) first image
   sync_is g image was settled = record {
     units = λ f i. ⊎_elim
-        (λ same. subst (λ (h : File). HadSince (past ++ Synced g ∷ []) first h (λ had. unit_at (file_of h image) i ≡ unit_at had i)) (sym same) (had_now past first (Synced g) g (λ had. unit_at (file_of g image) i ≡ unit_at had i) (ap (λ (x : Units). unit_at x i) settled)))
-        (λ differ. had_push past first (Synced g) f (λ had. unit_at (file_of f image) i ≡ unit_at had i) (λ had. unit_at (file_of f image) i ≡ unit_at had i) (differ, tt) (λ u p. p) (was.units f i))
+        (λ same. subst (λ (h : File). HadSince (past ++ Synced g ∷ []) first h (λ had. unit_at (file_of h image) i ≡ unit_at had i)) (sym same)
+        (had_now past first (Synced g) g (λ had. unit_at (file_of g image) i ≡ unit_at had i) (ap (λ (x : Units). unit_at x i) settled)))
+        (λ differ. had_push past first (Synced g) f (λ had. unit_at (file_of f image) i ≡ unit_at had i) (λ had. unit_at (file_of f image) i
+        ≡ unit_at had i) (differ, tt) (λ u p. p) (was.units f i))
         (cases_file f g);
     no_shorter = λ f. ⊎_elim
-        (λ same. subst (λ (h : File). HadSince (past ++ Synced g ∷ []) first h (λ had. length had ≤ length (file_of h image))) (sym same) (had_now past first (Synced g) g (λ had. length had ≤ length (file_of g image)) (omega (arith, ap length settled))))
-        (λ differ. had_push past first (Synced g) f (λ had. length had ≤ length (file_of f image)) (λ had. length had ≤ length (file_of f image)) (differ, tt) (λ u p. p) (was.no_shorter f))
+        (λ same. subst (λ (h : File). HadSince (past ++ Synced g ∷ []) first h (λ had. length had ≤ length (file_of h image))) (sym same)
+        (had_now past first (Synced g) g (λ had. length had ≤ length (file_of g image)) (omega (arith, ap length settled))))
+        (λ differ. had_push past first (Synced g) f (λ had. length had ≤ length (file_of f image)) (λ had. length had ≤ length (file_of f image))
+        (differ, tt) (λ u p. p) (was.no_shorter f))
         (cases_file f g);
     no_longer = λ f. subst (λ (x : Files). length (file_of f image) ≤ length (file_of f x)) (sym (after_steps-push past (Synced g) first)) (was.no_longer f);
   }
 
-step_is : (past : List Step) (first image : Files) (images : Files → Type 0) (step : Step) → ((x : Files) → images x → IsImage past first x) → LeftByStep step (after_steps past first) images image → IsImage (past ++ step ∷ []) first image
+step_is : (past : List Step) (first image : Files) (images : Files → Type 0) (step : Step) → ((x : Files) → images x → IsImage past first x)
+    → LeftByStep step (after_steps past first) images image → IsImage (past ++ step ∷ []) first image
 step_is past first image images (Wrote g at kept) bound (from, here, torn) = write_is past first g at kept from image (bound from here) torn
 step_is past first image images (Synced g) bound (here, settled) = sync_is past first g image (bound image here) settled
 
-steps_are : (past rest : List Step) (first image : Files) (images : Files → Type 0) → ((x : Files) → images x → IsImage past first x) → LeftBySteps rest (after_steps past first) images image → IsImage (past ++ rest) first image
+steps_are : (past rest : List Step) (first image : Files) (images : Files → Type 0) → ((x : Files) → images x → IsImage past first x) → LeftBySteps
+    rest (after_steps past first) images image → IsImage (past ++ rest) first image
 steps_are past [] first image images bound left = subst (λ (s : List Step). IsImage s first image) (sym (append-nil past)) (bound image left)
 steps_are past (step ∷ rest) first image images bound left =
     let here : LeftBySteps rest (after_steps (past ++ step ∷ []) first) (LeftByStep step (after_steps past first) images) image =

@@ -5,7 +5,7 @@ use Rattle.std.proofs.lemmas.Bool.{cases_Bool, and_parts, leb-true, ltb-true, eq
 use Rattle.std.proofs.lemmas.List.{get_or_past}
 use Rattle.rpm_outside.specs.Files.{Units, unit_at, blank}
 use Rattle.rpm_outside.specs.Logs.{Entry, LogState, Closed, Malformed, Open, word, is_blank, is_gate, is_head, entry_at, before, heads, log_state}
-use Rattle.rpm_outside.specs.LogLaws.{blank_closed}
+use Rattle.rpm_outside.specs.inner.LogLaws.{blank_closed}
 
 pub is_blank-blank : is_blank blank ≡ true
 unfolding blank
@@ -109,7 +109,8 @@ after-push (e ∷ entries) entry state = ap (before e) (after-push entries entry
 
 -- the next head, and the end
 module _ (p last : ℕ) (units : Units) where
-  pub heads_right : (n : ℕ) → is_head last p (unit_at units p) ≡ true → heads (suc n) p last units ≡ before (entry_at p units) (heads n (p + 1 + word 2 (unit_at units p)) last units)
+  pub heads_right : (n : ℕ) → is_head last p (unit_at units p) ≡ true → heads (suc n) p last units ≡ before (entry_at p units)
+      (heads n (p + 1 + word 2 (unit_at units p)) last units)
   unfolding heads
   heads_right n right = ap (λ (b : Bool). if b then before (entry_at p units) (heads n (p + 1 + word 2 (unit_at units p)) last units) else Malformed p) right
 
@@ -144,7 +145,8 @@ heads_not_closed (suc n) p last units is = elim (cases_Bool (is_head last p (uni
       (before_closed (entry_at p units) (heads n (p + 1 + word 2 (unit_at units p)) last units)
       (ap (λ (b : Bool). if b then before (entry_at p units) (heads n (p + 1 + word 2 (unit_at units p)) last units) else Malformed p) (sym right) ∙ is))
   | inr wrong ↦
-      let e : Malformed p ≡ Closed = ap (λ (b : Bool). if b then before (entry_at p units) (heads n (p + 1 + word 2 (unit_at units p)) last units) else Malformed p) (sym wrong) ∙ is in
+      let e : Malformed p ≡ Closed = ap (λ (b : Bool). if b then before (entry_at p units) (heads n (p + 1 + word 2 (unit_at units p)) last units)
+      else Malformed p) (sym wrong) ∙ is in
       cc
 ]
 
@@ -153,7 +155,8 @@ unfolding log_state
 closed_blank units is = elim (cases_Bool (is_blank (unit_at units 0))) [
   | inl blank_unit ↦ blank_unit
   | inr full ↦
-      let e : gated units (is_gate (length units) (gate units)) ≡ Closed = ap (λ (b : Bool). if b then Closed else gated units (is_gate (length units) (gate units))) (sym full) ∙ is in
+      let e : gated units (is_gate (length units) (gate units)) ≡ Closed = ap (λ (b : Bool). if b then Closed else gated units
+      (is_gate (length units) (gate units))) (sym full) ∙ is in
       absurd (elim (cases_Bool (is_gate (length units) (gate units))) [
         | inl right ↦ heads_not_closed (word 2 (gate units)) 1 (word 3 (gate units)) units (ap (gated units) (sym right) ∙ e)
         | inr wrong ↦ let f : Malformed 0 ≡ Closed = ap (gated units) (sym wrong) ∙ e in cc

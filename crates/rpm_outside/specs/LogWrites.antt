@@ -8,10 +8,10 @@ use Rattle.rpm_outside.specs.declared.disk.File.{File}
 use Rattle.rpm_outside.specs.declared.disk.File.TheVariants.{Pkg, Idx, Log}
 use Rattle.rpm_outside.specs.Files.{Units, Files, with_file, unit_at, put, blank}
 use Rattle.rpm_outside.specs.Crash.{TornFile}
-use Rattle.rpm_outside.specs.Puts.{length-put, put_after}
-use Rattle.rpm_outside.specs.PutLaws.{same_units}
+use Rattle.rpm_outside.specs.inner.Puts.{length-put, put_after}
+use Rattle.rpm_outside.specs.inner.PutLaws.{same_units}
 use Rattle.rpm_outside.specs.Logs.{Entry, Closed, Open, word, is_blank, is_gate, is_head, entry_at, before, heads, log_state, with_entries, unlogged, reopened}
-use Rattle.rpm_outside.specs.LogLaws.{reopened_closed, reopened_open, torn_first, first_unit}
+use Rattle.rpm_outside.specs.inner.LogLaws.{reopened_closed, reopened_open, torn_first, first_unit}
 use Rattle.rpm_outside.specs.LogRules.{heads_right, heads_done, gate_right}
 
 -- a file's number in a head
@@ -41,7 +41,8 @@ entries_end [] p end log is = omega (arith, is)
 entries_end (entry ∷ entries) p end log (one, rest) = omega (arith, entries_end entries (p + 1 + length entry.units) end log rest)
 
 -- they stay where the log was changed behind them alone
-pub entries_kept : (entries : List Entry) (p end : ℕ) (old new : Units) → ((i : ℕ) → p ≤ i → i < end → unit_at new i ≡ unit_at old i) → length old ≤ length new → EntriesIn entries p end old → EntriesIn entries p end new
+pub entries_kept : (entries : List Entry) (p end : ℕ) (old new : Units) → ((i : ℕ) → p ≤ i → i < end → unit_at new i ≡ unit_at old i) → length old
+    ≤ length new → EntriesIn entries p end old → EntriesIn entries p end new
 entries_kept [] p end old new same long is = is
 entries_kept (entry ∷ entries) p end old new same long (one, rest) =
     let later : p + 1 + length entry.units ≤ end = entries_end entries (p + 1 + length entry.units) end old rest in
@@ -60,7 +61,8 @@ entries_kept (entry ∷ entries) p end old new same long (one, rest) =
     )
 
 -- one more at the end
-pub entries_push : (entries : List Entry) (p q end : ℕ) (entry : Entry) (log : Units) → EntriesIn entries p q log → EntryIn entry q log → end ≡ q + 1 + length entry.units → EntriesIn (entries ++ entry ∷ []) p end log
+pub entries_push : (entries : List Entry) (p q end : ℕ) (entry : Entry) (log : Units) → EntriesIn entries p q log → EntryIn entry q log → end
+    ≡ q + 1 + length entry.units → EntriesIn (entries ++ entry ∷ []) p end log
 entries_push [] p q end entry log is one e = (subst (λ (i : ℕ). EntryIn entry i log) (sym is) one, omega (arith, is, e))
 entries_push (x ∷ entries) p q end entry log (first, rest) one e = (first, entries_push entries (p + 1 + length x.units) q end entry log rest one e)
 
@@ -97,7 +99,8 @@ module _ (entry : Entry) (p last : ℕ) (log : Units) (is : EntryIn entry p log)
       (and_from (nat_le 1 (word 0 head)) _ (le-leb 1 (word 0 head) (omega (arith, is.file, number_low entry.file is.not_log)))
       (and_from (nat_le (word 0 head) 2) _ (le-leb (word 0 head) 2 (omega (arith, is.file, number_high entry.file)))
       (and_from (nat_lt 0 (word 2 head)) _ (lt-ltb 0 (word 2 head) (omega (arith, is.count, is.some)))
-      (and_from (nat_le (word 1 head + word 2 head) 268_435_456) (nat_le (p + word 2 head) last) (le-leb (word 1 head + word 2 head) 268_435_456 (omega (arith, is.first, is.count, is.room)))
+      (and_from (nat_le (word 1 head + word 2 head) 268_435_456) (nat_le (p + word 2 head) last) (le-leb (word 1 head + word 2 head) 268_435_456
+      (omega (arith, is.first, is.count, is.room)))
       (le-leb (p + word 2 head) last (omega (arith, is.count, below)))))))
 
   units_are : take (word 2 head) (drop (p + 1) log) ≡ entry.units
@@ -116,7 +119,8 @@ module _ (entry : Entry) (p last : ℕ) (log : Units) (is : EntryIn entry p log)
   pub entry_is : entry_at p log ≡ entry
   unfolding entry_at
   entry_is =
-      ap (λ (f : File). record { file = f; first = word 1 head; units = take (word 2 head) (drop (p + 1) log) }) (file_is entry.file (word 0 head) is.not_log is.file)
+      ap (λ (f : File). record { file = f; first = word 1 head; units = take (word 2 head) (drop (p + 1) log) })
+      (file_is entry.file (word 0 head) is.not_log is.file)
       ∙ ap (λ (n : ℕ). record { file = entry.file; first = n; units = take (word 2 head) (drop (p + 1) log) }) is.first
       ∙ ap (λ (us : Units). record { file = entry.file; first = entry.first; units = us }) units_are
 
@@ -148,7 +152,8 @@ gate_is n gate entries last g some below =
     (and_from (nat_lt 0 (word 2 gate)) (nat_lt (word 3 gate) n) (lt-ltb 0 (word 2 gate) (omega (arith, g.count, some)))
     (lt-ltb (word 3 gate) n (omega (arith, g.end, below)))))
 
-module _ (gate : List ℕ) (entries : List Entry) (last : ℕ) (log : Units) (g : IsGate gate (length entries) last) (some : 0 < length entries) (below : last < length log) (is : EntriesIn entries 1 (last + 1) log) where
+module _ (gate : List ℕ) (entries : List Entry) (last : ℕ) (log : Units) (g : IsGate gate (length entries) last) (some : 0 < length entries)
+    (below : last < length log) (is : EntriesIn entries 1 (last + 1) log) where
   abbrev opened : Units
   opened = put 0 (gate ∷ []) log
 
@@ -164,14 +169,16 @@ module _ (gate : List ℕ) (entries : List Entry) (last : ℕ) (log : Units) (g 
   -- with the gate the log is open
   pub opened_is : log_state opened ≡ Open entries
   opened_is =
-      gate_right opened (ap is_blank here ∙ g.full) (ap (λ (u : List ℕ). is_gate (length opened) u) here ∙ gate_is (length opened) gate (length entries) last g some (omega (arith, long, below)))
+      gate_right opened (ap is_blank here ∙ g.full) (ap (λ (u : List ℕ). is_gate (length opened) u) here ∙ gate_is (length opened) gate
+      (length entries) last g some (omega (arith, long, below)))
       ∙ ap (λ (u : List ℕ). heads (word 2 u) 1 (word 3 u) opened) here
       ∙ ap (λ (n : ℕ). heads n 1 (word 3 gate) opened) g.count
       ∙ ap (λ (n : ℕ). heads (length entries) 1 n opened) g.end
       ∙ heads_are entries 1 last opened there
 
 -- a gate that was written in part stands for the files before or after
-pub opening : (gate : List ℕ) (entries : List Entry) (last : ℕ) (from image : Files) → IsGate gate (length entries) last → 0 < length entries → last < length from.log → EntriesIn entries 1 (last + 1) from.log → log_state from.log ≡ Closed
+pub opening : (gate : List ℕ) (entries : List Entry) (last : ℕ) (from image : Files) → IsGate gate (length entries) last → 0 < length entries → last
+    < length from.log → EntriesIn entries 1 (last + 1) from.log → log_state from.log ≡ Closed
     → TornFile Log 0 (gate ∷ []) from image → (reopened image ≡ unlogged from) ⊎ (reopened image ≡ with_entries entries (unlogged from))
 opening gate entries last from image g some below is closed torn = ⊎_elim
     (λ (same : image ≡ from). inl (ap reopened same ∙ reopened_closed from closed))

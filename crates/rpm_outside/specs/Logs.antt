@@ -38,7 +38,8 @@ is_gate units gate = (word 0 gate == 0x4c6d_7052) && ((word 1 gate == 1) && (nat
 unfoldable pub is_head : ℕ → ℕ → List ℕ → Bool
 is_head last p head =
     nat_le p last
-    && (nat_le 1 (word 0 head) && (nat_le (word 0 head) 2 && (nat_lt 0 (word 2 head) && (nat_le (word 1 head + word 2 head) 268_435_456 && nat_le (p + word 2 head) last))))
+    && (nat_le 1 (word 0 head)
+    && (nat_le (word 0 head) 2 && (nat_lt 0 (word 2 head) && (nat_le (word 1 head + word 2 head) 268_435_456 && nat_le (p + word 2 head) last))))
 
 -- the entry whose head is at unit p
 unfoldable pub entry_at : ℕ → Units → Entry

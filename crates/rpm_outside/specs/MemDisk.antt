@@ -1,14 +1,14 @@
 -- What the disk in memory holds, and when a call fails.
-use Rattle.std.specs.Prelude.{◌≡◌, ℕ, ◌+◌, ◌-◌, ◌^◌, ◌<◌, min, ◌⊎◌, Bool, true, false, ◌==◌, List, []}
+use Rattle.std.specs.Prelude.{◌≡◌, ℕ, ◌+◌, ◌-◌, ◌^◌, ◌<◌, ◌≤◌, min, ◌⊎◌, Bool, true, false, ◌==◌, List, []}
 use Rattle.std.specs.List.{list_any}
 use Rattle.rpm_outside.specs.declared.steps.Step.{Step}
 use Rattle.rpm_outside.specs.declared.mem_disk.MemDisk.{MemDisk}
 use Rattle.rpm_outside.specs.declared.disk.File.{File}
 use Rattle.rpm_outside.specs.declared.disk.File.TheVariants.{Pkg, Idx, Log}
 use Rattle.rpm_outside.specs.Causes.{Rose}
-use Rattle.rpm_outside.specs.Files.{Files, file_of, with_file, units_of, put}
-use Rattle.rpm_outside.specs.Calls.{Call, Write}
-use Rattle.rpm_outside.specs.Past.{held_files, part_of}
+use Rattle.rpm_outside.specs.Files.{Files, units_of}
+use Rattle.rpm_outside.specs.Calls.{Call, Write, Sync}
+use Rattle.rpm_outside.specs.Past.{held_files, part_of, DidNothing, WroteAny, SettledOnce}
 
 -- what a read gives
 abbrev pub mem_files : MemDisk → Files
@@ -64,21 +64,28 @@ pub record SameButFailing (old new : MemDisk) : Type 0 where
 abbrev pub is_named : MemDisk → Bool
 is_named disk = list_any (λ call. call == mem_calls disk) (mem_failing disk)
 
--- what a named call leaves of the files: a write writes the first half of its units, rounded down
-abbrev pub half_done : Call → Files → Files
-half_done (Write file unit bytes) files = with_file file (put unit (part_of true (units_of bytes)) (file_of file files)) files
-half_done call files = files
+-- what a call does: of a write the first half of its units, rounded down, or all of them; of any other call nothing, or all
+abbrev pub Does : Bool → Call → Files → Files → List Step → List Step → Type 0
+Does half (Write file unit bytes) old new past steps = WroteAny old new past steps file unit (part_of half (units_of bytes))
+Does false (Sync file) old new past steps = SettledOnce old new past steps file
+Does half call old new past steps = DidNothing old new past steps
 
--- memory was wanting, and nothing was written
+abbrev pub Did : Bool → Call → MemDisk → MemDisk → Type 0
+Did half call old new = Does half call (mem_files old) (mem_files new) (mem_steps old) (mem_steps new)
+
+-- memory was wanting, and nothing was done
 pub record Starves (old new : MemDisk) : Type 0 where
   pub rose : Rose (mem_starved old) (mem_starved new)
-  pub files : mem_files new ≡ mem_files old
+  pub nothing : DidNothing (mem_files old) (mem_files new) (mem_steps old) (mem_steps new)
 
--- a call fails where it was named, or where memory was wanting, and nowhere else
+-- a call fails where it was named, or where memory was wanting, and nowhere else; and nothing else is done or kept than what it asks for
 pub record FailsWhereNamed (old : MemDisk) (call : Call) (failed : Bool) (new : MemDisk) : Type 0 where
   pub counted : mem_calls new ≡ min (mem_calls old + 1) (2 ^ 64 - 1)
   pub failing : mem_failing new ≡ mem_failing old
+  pub first : mem_first new ≡ mem_first old
+  pub later : mem_starved old ≤ mem_starved new
   pub named : is_named new ≡ true → failed ≡ true
-  pub half : is_named new ≡ true → (mem_files new ≡ half_done call (mem_files old)) ⊎ Starves old new
-  pub starved : mem_starved old < mem_starved new → (failed ≡ true) × (mem_files new ≡ mem_files old)
+  pub half : is_named new ≡ true → Did true call old new ⊎ Starves old new
+  pub whole : failed ≡ false → Did false call old new
+  pub starved : mem_starved old < mem_starved new → (failed ≡ true) × Starves old new
   pub cause : failed ≡ true → is_named new ≡ false → Starves old new

@@ -5,7 +5,7 @@ use Rattle.std.specs.FinMap.{from_entries}
 use Rattle.rpm_outside.specs.declared.mem_shelf.Item.{Item}
 use Rattle.rpm_outside.specs.declared.mem_shelf.Opened.{Opened}
 use Rattle.rpm_outside.specs.declared.mem_shelf.MemShelf.{MemShelf}
-use Rattle.rpm_outside.specs.Shelves.{Paths}
+use Rattle.rpm_outside.specs.Shelves.{Paths, ShelfCall, Open, Take}
 
 abbrev pub entry_of : Item → List ℕ × List ℕ
 entry_of item = (string_bytes item.path, item.bytes.items)
@@ -63,3 +63,13 @@ pub record FailsAsNamed (old : MemShelf) (failed : Bool) (new : MemShelf) : Type
   pub failing : shelf_failing new ≡ shelf_failing old
   pub most : shelf_most new ≡ shelf_most old
   pub few : length_left (shelf_rest old) ≤ length_left (shelf_rest new) + shelf_most old
+
+-- what an open leaves for the reads after it
+pub record SameRule (old new : MemShelf) : Type 0 where
+  pub reads : shelf_reads new ≡ shelf_reads old
+  pub failing : shelf_failing new ≡ shelf_failing old
+  pub most : shelf_most new ≡ shelf_most old
+
+abbrev pub ShelfDoes : MemShelf → ShelfCall → Bool → MemShelf → Type 0
+ShelfDoes old (Open path) failed new = SameRule old new
+ShelfDoes old (Take room) failed new = FailsAsNamed old failed new

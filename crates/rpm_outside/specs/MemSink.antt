@@ -1,5 +1,5 @@
 -- What the sink in memory holds, and when it fails.
-use Rattle.std.specs.Prelude.{◌≡◌, ◌⊎◌, ℕ, ◌+◌, ◌<◌, ◌≤◌, Bool, true, List, length, Option, IsSomeAnd}
+use Rattle.std.specs.Prelude.{◌≡◌, ◌⊎◌, ℕ, ◌+◌, ◌<◌, ◌≤◌, max, Bool, true, List, length, Option, IfSome, IsSomeAnd}
 use Rattle.rpm_outside.specs.declared.mem_sink.MemSink.{MemSink}
 use Rattle.rpm_outside.specs.Causes.{Rose}
 
@@ -23,11 +23,17 @@ sink_starved sink = sink.starved
 abbrev pub IsFull : MemSink → Type 0
 IsFull sink = IsSomeAnd (sink_limit sink) (λ most. most ≤ length (sink_bytes sink))
 
+-- the sink holds no more than it may, or than it held
+abbrev pub HoldsNoMore : MemSink → MemSink → Type 0
+HoldsNoMore old new = IfSome (sink_limit old) (λ most. length (sink_bytes new) ≤ max most (length (sink_bytes old)))
+
 -- a write fails where the sink is full, or where memory was wanting, and nowhere else; none takes more than so many bytes
 pub record FailsWhereFull (old : MemSink) (failed : Bool) (new : MemSink) : Type 0 where
   pub full : IsFull old → failed ≡ true
+  pub later : sink_starved old ≤ sink_starved new
   pub starved : sink_starved old < sink_starved new → failed ≡ true
   pub cause : failed ≡ true → IsFull old ⊎ Rose (sink_starved old) (sink_starved new)
   pub limit : sink_limit new ≡ sink_limit old
   pub most : sink_most new ≡ sink_most old
   pub few : length (sink_bytes new) ≤ length (sink_bytes old) + sink_most old
+  pub bounded : HoldsNoMore old new

@@ -42,11 +42,26 @@ abbrev pub part_of : Bool → Units → Units
 part_of half units = if half then take (length units / 2) units else units
 
 -- a write of these units was done, and is kept as a step
-pub record Writes (old new : Files) (past steps : List Step) (file : File) (at : ℕ) (units : Units) : Type 0 where
+pub record WroteOnce (old new : Files) (past steps : List Step) (file : File) (at : ℕ) (units : Units) : Type 0 where
   pub kept : Vec (List ℕ) Global
   pub is : kept.items ≡ units
   pub step : steps ≡ past ++ Wrote file at kept ∷ []
   pub files : new ≡ with_file file (put at units (file_of file old)) old
+
+-- nothing was done, and nothing is kept
+pub record DidNothing (old new : Files) (past steps : List Step) : Type 0 where
+  pub files : new ≡ old
+  pub none : steps ≡ past
+
+-- a write of these units, which is none where there are no units
+abbrev pub WroteAny : Files → Files → List Step → List Step → File → ℕ → Units → Type 0
+WroteAny old new past steps file at [] = DidNothing old new past steps
+WroteAny old new past steps file at (unit ∷ units) = WroteOnce old new past steps file at (unit ∷ units)
+
+-- a file was settled, and that is kept as a step
+pub record SettledOnce (old new : Files) (past steps : List Step) (file : File) : Type 0 where
+  pub files : new ≡ old
+  pub step : steps ≡ past ++ Synced file ∷ []
 
 -- what a stop may leave of an image over one step
 abbrev pub StepsTo : Step → Files → Files → Files → Type 0

@@ -12,13 +12,18 @@ Paths = FinMap (slice_cmp nat_cmp) (List ℕ)
 abbrev pub bytes_at : Paths → List ℕ → Option (List ℕ)
 bytes_at paths path = get paths path
 
+-- a call of a shelf: it opens this path, or takes bytes into so much room
+pub data ShelfCall : Type 0 where
+  Open : List ℕ → ShelfCall
+  Take : ℕ → ShelfCall
+
 -- opening a path under which there are these bytes, or none
 abbrev pub Opens : {T : Type 0} → Option (List ℕ) → Option (List ℕ) → Result T Absent → Type 0
 Opens found rest (Ok done) = (rest ≡ found) × (found ≡ None → ⊥)
 Opens found rest (Err absent) = (rest ≡ None) × (found ≡ None)
 
 -- these bytes were taken from the front of what was left, and at least one where something was left
-abbrev pub Reads : Option (List ℕ) → Option (List ℕ) → List ℕ → Type 0
-Reads None rest taken = (rest ≡ None) × (taken ≡ [])
-Reads (Some left) None taken = ⊥
-Reads (Some left) (Some rest) taken = (left ≡ taken ++ rest) × (taken ≡ [] → left ≡ [])
+abbrev pub TakesFront : Option (List ℕ) → Option (List ℕ) → List ℕ → Type 0
+TakesFront None rest taken = (rest ≡ None) × (taken ≡ [])
+TakesFront (Some left) None taken = ⊥
+TakesFront (Some left) (Some rest) taken = (left ≡ taken ++ rest) × (taken ≡ [] → left ≡ [])

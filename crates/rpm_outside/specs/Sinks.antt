@@ -15,7 +15,8 @@ abbrev pub Begins : List ℕ → List ℕ → Type 0
 Begins old new = (bytes : List ℕ) × (new ≡ old ++ bytes)
 
 -- a call that writes these bytes to a sink, or fails after the first of them
-pub record Writes {S T E : Type 0} (tells : Bool) (taken : S → List ℕ) (faults : S → ℕ) (follows : S → S → Type 0) (old new : S) (bytes : List ℕ) (result : Result T E) : Type 0 where
+pub record Writes {S T E : Type 0} (tells : Bool) (taken : S → List ℕ) (faults : S → ℕ) (follows : S → S → Type 0) (old new : S) (bytes : List ℕ)
+    (result : Result T E) : Type 0 where
   pub ok : OnOk result (Gained tells (taken old) (taken new) bytes)
   pub err : OnErr result (GainedPart tells (taken old) (taken new) bytes)
   pub cause : HasCause (faults old) (faults new) result

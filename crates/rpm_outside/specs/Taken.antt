@@ -12,7 +12,8 @@ module _ (tells : Bool) where
   gained_more a b c x y p q told = q told ∙ ap (λ (t : List ℕ). t ++ y) (p told) ∙ append_assoc a x y
 
   -- a piece of what is left after the first bytes
-  pub taken_more : (a b c bytes : List ℕ) (done n : ℕ) → n ≤ length bytes - done → Gained tells a b (take done bytes) → Gained tells b c (take n (take (length bytes - done) (drop done bytes))) → Gained tells a c (take (done + n) bytes)
+  pub taken_more : (a b c bytes : List ℕ) (done n : ℕ) → n ≤ length bytes - done → Gained tells a b (take done bytes) → Gained tells b c
+      (take n (take (length bytes - done) (drop done bytes))) → Gained tells a c (take (done + n) bytes)
   taken_more a b c bytes done n le p q told =
       let piece : take n (take (length bytes - done) (drop done bytes)) ≡ take n (drop done bytes) = take-take n (length bytes - done) (drop done bytes) le in
       rw take-add (gained_more a b c (take done bytes) (take n (drop done bytes)) p (λ t. rw piece at (q t)) told)

@@ -121,7 +121,11 @@ impl<O: Sink + Drop> Sink for Buffered<O> {
 
     ghost follows_refl = { λ b. (O.follows_refl (inner b), λ told. begins_refl (all_taken O.taken b)) };
 
-    ghost follows_trans = { λ a b c f g. (O.follows_trans (inner a) (inner b) (inner c) f.0 g.0, λ told. begins_trans (all_taken O.taken a) (all_taken O.taken b) (all_taken O.taken c) (f.1 told) (g.1 told)) };
+    ghost follows_trans = { λ a b c f g. (
+      O.follows_trans (inner a) (inner b) (inner c) f.0 g.0,
+      λ told. begins_trans (all_taken O.taken a)
+          (all_taken O.taken b) (all_taken O.taken c) (f.1 told) (g.1 told),
+    ) };
 
     ghost follows_grows = { λ a b f told. f.1 told };
 

@@ -1,6 +1,6 @@
 //! A disk of three files, and what a stop at any moment may leave of them.
 
-ghost use Rattle.std.specs.Prelude.{◌≡◌, ◌<◌, ◌≤◌, ◌+◌, ◌/◌, ◌%◌, ◌^◌, Bool, IsTrue, ℕ, length, take, drop, is_err, IfOk, OnOk};
+ghost use Rattle.std.specs.Prelude.{◌≡◌, ◌<◌, ◌≤◌, ◌+◌, ◌/◌, ◌%◌, ◌^◌, Bool, IsTrue, ℕ, length, take, drop, is_err, IfOk, OnOk, OnErr};
 
 use crate::Failed;
 
@@ -21,7 +21,7 @@ pub trait Disk {
     ghost use Rattle.rpm_outside.specs.Files.{Files, file_of, with_file, units_of, put};
     ghost use Rattle.rpm_outside.specs.Calls.{Call, Len, Read, Write, Sync};
     ghost use Rattle.rpm_outside.specs.Causes.{Rose, RoseBy, HasCause};
-    ghost use Rattle.rpm_outside.specs.Crash.{TornFile, Follows, Elapses, Untouched, bytes_for};
+    ghost use Rattle.rpm_outside.specs.Crash.{TornFile, Follows, Elapses, Untouched, RisesOrStays, bytes_for};
 
     /// Whether disks of this kind tell what they hold.
     ghost tells: { Bool };
@@ -32,7 +32,8 @@ pub trait Disk {
     /// The images that a stop at some moment from that one on may leave, those inside calls included.
     ghost left_since: { Self → ℕ → Files → Type 0 };
 
-    /// The moment: a number that never falls, and rises with each write and sync.
+    /// The moment: a number that never falls, and rises with each write and sync that goes through. One that fails either lets
+    /// it rise too, or leaves files and images as they were.
     ghost moment: { Self → ℕ };
 
     /// How many bytes of a file were read.
@@ -83,17 +84,21 @@ pub trait Disk {
     /// # Errors
     ///
     /// `Failed` only where the count of faults rose. Each unit of the range is then the old one or the new one, and the file's
-    /// length any one between.
+    /// length any one between; where the moment didn't rise, nothing was written.
     fn write_at(&mut self, file: File, unit: u64, bytes: &[u8]) -> Result<(), Failed>
         requires some { 0 < length bytes.now }
         requires whole { length bytes.now % 16 ≡ 0 }
         requires room { unit + length bytes.now / 16 ≤ 2 ^ 28 }
-        ensures written { OnOk result (IsTrue tells → files self.new ≡ with_file file (put unit (units_of bytes.now) (file_of file (files self.old))) (files self.old)) }
+        ensures written { OnOk result (IsTrue tells → files self.new ≡ with_file file (put unit (units_of bytes.now) (file_of file (files self.old)))
+            (files self.old)) }
         ensures torn { IsTrue tells → TornFile file unit (units_of bytes.now) (files self.old) (files self.new) }
-        ensures images { IsTrue tells → Follows (TornFile file unit (units_of bytes.now)) (left_since self.old (moment self.old)) (left_since self.new (moment self.new)) }
+        ensures images { IsTrue tells → Follows (TornFile file unit (units_of bytes.now)) (left_since self.old (moment self.old))
+            (left_since self.new (moment self.new)) }
         ensures time { IsTrue tells → Elapses (moment self.old) (moment self.new) (left_since self.old) (left_since self.new) }
         ensures later { moment self.old ≤ moment self.new }
         ensures rises { OnOk result (Rose (moment self.old) (moment self.new)) }
+        ensures stays { OnErr result (IsTrue tells → RisesOrStays (moment self.old) (moment self.new) (files self.old) (files self.new)
+            (left_since self.old) (left_since self.new)) }
         ensures reads { (f : File) → bytes_read self.new f ≡ bytes_read self.old f }
         ensures cause { HasCause (faults self.old) (faults self.new) result }
         ensures outcome { outcome self.old (Write file unit bytes.now) (is_err result) self.new }
@@ -106,11 +111,14 @@ pub trait Disk {
     /// `Failed` only where the count of faults rose. All is then as pending as before.
     fn sync(&mut self, file: File) -> Result<(), Failed>
         ensures same { IsTrue tells → files self.new ≡ files self.old }
-        ensures settled { OnOk result (IsTrue tells → (image : Files) → left_since self.new (moment self.new) image → file_of file image ≡ file_of file (files self.old)) }
+        ensures settled { OnOk result (IsTrue tells → (image : Files) → left_since self.new (moment self.new) image → file_of file image
+            ≡ file_of file (files self.old)) }
         ensures images { IsTrue tells → (image : Files) → left_since self.new (moment self.new) image → left_since self.old (moment self.old) image }
         ensures time { IsTrue tells → Elapses (moment self.old) (moment self.new) (left_since self.old) (left_since self.new) }
         ensures later { moment self.old ≤ moment self.new }
         ensures rises { OnOk result (Rose (moment self.old) (moment self.new)) }
+        ensures stays { OnErr result (IsTrue tells → RisesOrStays (moment self.old) (moment self.new) (files self.old) (files self.new)
+            (left_since self.old) (left_since self.new)) }
         ensures reads { (f : File) → bytes_read self.new f ≡ bytes_read self.old f }
         ensures cause { HasCause (faults self.old) (faults self.new) result }
         ensures outcome { outcome self.old (Sync file) (is_err result) self.new }

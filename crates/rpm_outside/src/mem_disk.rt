@@ -1,4 +1,4 @@
-//! A disk in memory, which keeps each write and sync.
+//! A disk in memory, which keeps each write and sync, and nothing else.
 
 ghost use Rattle.std.specs.Prelude.{◌≡◌, ◌≤◌, ◌+◌, ◌-◌, ◌^◌, ◌==◌, ◌∷◌, ◌++◌, [], true, min, ℕ, length, take, IfOk, OnOk, OnErr};
 ghost use Rattle.std.specs.List.{list_any};
@@ -105,8 +105,9 @@ impl MemDisk {
         joined(alloc, self.held.file(file))
     }
 
-    /// Lets a call fail, besides those that were named before. The calls of the disk are counted from 1. A write that fails
-    /// writes the first half of its units, rounded down.
+    /// Lets a call fail, besides those that were named before. The calls of the disk are counted from 1. A write that was named
+    /// writes the first half of its units, rounded down, and so nothing where it is of one unit: the file isn't lengthened
+    /// then, and the moment stays. Any other call that was named does nothing.
     ///
     /// # Errors
     ///

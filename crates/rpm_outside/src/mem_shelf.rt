@@ -39,7 +39,8 @@ pub struct MemShelf {
 
 /// The place of the newest item under a path.
 fn place_of(items: &[Item], path: &str) -> Option<usize>
-    ensures { MatchOption result (bytes_at (paths_of items.now) path.now ≡ None) (λ i. IsSome (bytes_in items.now i) × (bytes_in items.now i ≡ bytes_at (paths_of items.now) path.now)) }
+    ensures { MatchOption result (bytes_at (paths_of items.now) path.now ≡ None) (λ i. IsSome (bytes_in items.now i)
+        × (bytes_in items.now i ≡ bytes_at (paths_of items.now) path.now)) }
 {
     for (i, item) in items.iter().enumerate() {
         if path == item.path.as_str() {
@@ -162,7 +163,7 @@ impl MemShelf {
 }
 
 impl Shelf for MemShelf {
-    ghost use Rattle.rpm_outside.specs.MemShelf.{shelf_paths, shelf_rest, FailsAsNamed};
+    ghost use Rattle.rpm_outside.specs.MemShelf.{shelf_paths, shelf_rest, ShelfDoes};
 
     ghost tells = { true };
 
@@ -174,7 +175,7 @@ impl Shelf for MemShelf {
 
     ghost faults = { λ s. s.faults };
 
-    ghost outcome = { FailsAsNamed };
+    ghost outcome = { ShelfDoes };
 
     fn open(&mut self, path: &str) -> Result<(), Absent> {
         match place_of(&self.items, path) {

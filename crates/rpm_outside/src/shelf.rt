@@ -2,7 +2,7 @@
 
 ghost use Rattle.std.specs.Prelude.{◌≡◌, ℕ, ◌<◌, ◌≤◌, Bool, IsTrue, List, Option, length, take, is_err, IfOk, OnErr};
 ghost use Rattle.rpm_outside.specs.Causes.{HasCause};
-ghost use Rattle.rpm_outside.specs.Shelves.{Paths, bytes_at, Opens, Reads};
+ghost use Rattle.rpm_outside.specs.Shelves.{Paths, bytes_at, Opens, TakesFront, ShelfCall, Open, Take};
 
 use crate::Failed;
 
@@ -27,8 +27,8 @@ pub trait Shelf {
     /// How often a read failed.
     ghost faults: { Self → ℕ };
 
-    /// What an implementation says besides of a read that fails, or doesn't.
-    ghost outcome: { Self → Bool → Self → Type 0 } = { λ old failed new. Unit {0} };
+    /// What an implementation says besides of a call that fails, or doesn't.
+    ghost outcome: { Self → ShelfCall → Bool → Self → Type 0 } = { λ old call failed new. Unit {0} };
 
     /// Makes a path the open item, from its first byte on. The path `-` is the standard input.
     ///
@@ -40,7 +40,8 @@ pub trait Shelf {
         ensures opened { IsTrue tells → Opens (bytes_at (paths self.old) path.now) (rest self.new) result }
         ensures paths { IsTrue tells → paths self.new ≡ paths self.old }
         ensures cause { HasCause (absences self.old) (absences self.new) result }
-        ensures faults { faults self.new ≡ faults self.old };
+        ensures faults { faults self.new ≡ faults self.old }
+        ensures outcome { outcome self.old (Open path.now) (is_err result) self.new };
 
     /// Takes at least one byte of a rest that isn't empty, to the front of `into`, and says how many. It is 0 only at the end of
     /// the open item, or where none is open.
@@ -51,10 +52,10 @@ pub trait Shelf {
     fn read(&mut self, into: &mut [u8]) -> Result<usize, Failed>
         requires { 0 < length into.old }
         ensures within { IfOk result (λ n. n ≤ length into.old) }
-        ensures taken { IfOk result (λ n. IsTrue tells → Reads (rest self.old) (rest self.new) (take n into.new)) }
+        ensures taken { IfOk result (λ n. IsTrue tells → TakesFront (rest self.old) (rest self.new) (take n into.new)) }
         ensures nothing { OnErr result (IsTrue tells → rest self.new ≡ rest self.old) }
         ensures paths { IsTrue tells → paths self.new ≡ paths self.old }
         ensures absences { absences self.new ≡ absences self.old }
         ensures cause { HasCause (faults self.old) (faults self.new) result }
-        ensures outcome { outcome self.old (is_err result) self.new };
+        ensures outcome { outcome self.old (Take (length into.old)) (is_err result) self.new };
 }

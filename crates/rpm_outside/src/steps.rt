@@ -1,8 +1,8 @@
 //! The writes and syncs of a disk in memory, and the files that they leave.
 
-ghost use Rattle.std.specs.Prelude.{◌≡◌, ◌^◌, ◌+◌, ◌*◌, ◌/◌, ◌<◌, ◌≤◌, ◌∷◌, ◌++◌, [], ℕ, length, IfOk, OnOk, OnErr};
-ghost use Rattle.rpm_outside.specs.Files.{file_of, with_file, units_of, bytes_of, put, unit_at};
-ghost use Rattle.rpm_outside.specs.Past.{held_files, Writes, part_of, after_step};
+ghost use Rattle.std.specs.Prelude.{◌≡◌, ◌^◌, ◌+◌, ◌-◌, ◌*◌, ◌/◌, ◌<◌, ◌≤◌, ◌∷◌, ◌++◌, [], ℕ, length, take, drop, replicate, IfOk, OnOk, OnErr};
+ghost use Rattle.rpm_outside.specs.Files.{file_of, with_file, units_of, bytes_of, put, unit_at, blank};
+ghost use Rattle.rpm_outside.specs.Past.{held_files, WroteAny, part_of, after_step};
 ghost use Rattle.rpm_outside.specs.Picks.{mixed_unit, picked, picked_step};
 
 use crate::File;
@@ -46,6 +46,25 @@ impl Held {
         }
     }
 
+    /// Writes units to a file, in place.
+    pub fn write(
+        &mut self,
+        alloc: Global,
+        file: File,
+        at: usize,
+        units: &[[u8; 16]],
+    ) -> Result<(), AllocError>
+        requires { at < 2 ^ 32 }
+        ensures ok { OnOk result (held_files self.new ≡ with_file file (put at units.now (file_of file (held_files self.old))) (held_files self.old)) }
+        ensures err { OnErr result (held_files self.new ≡ held_files self.old) }
+    {
+        match file {
+            File::Pkg => write_in(alloc, &mut self.pkg, at, units),
+            File::Idx => write_in(alloc, &mut self.idx, at, units),
+            File::Log => write_in(alloc, &mut self.log, at, units),
+        }
+    }
+
     /// Puts these units in the place of a file's.
     pub fn replace(&mut self, file: File, units: Vec<[u8; 16]>)
         ensures { held_files self.new ≡ with_file file units.items (held_files self.old) }
@@ -73,26 +92,49 @@ fn cut_up(alloc: Global, bytes: &[u8]) -> Result<Vec<[u8; 16]>, AllocError>
     Ok(units)
 }
 
-/// The file after a write.
-fn written(
+/// So many units of zeros.
+fn blanks(alloc: Global, count: usize) -> Result<Vec<[u8; 16]>, AllocError>
+    ensures { IfOk result (λ units. units.items ≡ replicate count blank) }
+{
+    let mut units = Vec::new(alloc);
+    for _ in 0..count {
+        units.push([0u8; 16])?;
+    }
+    Ok(units)
+}
+
+/// Lets a file end at this unit or behind it. The units that it gains are zeros.
+fn lengthen(alloc: Global, file: &mut Vec<[u8; 16]>, end: usize) -> Result<(), AllocError>
+    ensures ok { OnOk result (file.new.items ≡ file.old.items ++ replicate (end - length file.old.items) blank) }
+    ensures err { OnErr result (file.new.items ≡ file.old.items) }
+{
+    let zeros = blanks(alloc, end.saturating_sub(file.len()))?;
+    file.extend_from_slice(&zeros)?;
+    Ok(())
+}
+
+/// Writes units where there are some.
+fn overwrite(file: &mut [[u8; 16]], at: usize, units: &[[u8; 16]])
+    requires { at + length units.now ≤ length file.old }
+    ensures { file.new ≡ take at file.old ++ units.now ++ drop (at + length units.now) file.old }
+{
+    file[at..at + units.len()].copy_from_slice(units);
+}
+
+/// Writes units to a file, in place.
+fn write_in(
     alloc: Global,
-    file: &[[u8; 16]],
+    file: &mut Vec<[u8; 16]>,
     at: usize,
     units: &[[u8; 16]],
-) -> Result<Vec<[u8; 16]>, AllocError>
+) -> Result<(), AllocError>
     requires { at < 2 ^ 32 }
-    ensures file { IfOk result (λ next. next.items ≡ put at units.now file.now) }
+    ensures ok { OnOk result (file.new.items ≡ put at units.now file.old.items) }
+    ensures err { OnErr result (file.new.items ≡ file.old.items) }
 {
-    let front = at.min(file.len());
-    let end = (at + units.len()).min(file.len());
-    let mut next = Vec::new(alloc);
-    next.extend_from_slice(&file[..front])?;
-    for _ in front..at {
-        next.push([0u8; 16])?;
-    }
-    next.extend_from_slice(units)?;
-    next.extend_from_slice(&file[end..])?;
-    Ok(next)
+    lengthen(alloc, file, at + units.len())?;
+    overwrite(file, at, units);
+    Ok(())
 }
 
 fn units_to_write(alloc: Global, bytes: &[u8], half: bool) -> Result<Vec<[u8; 16]>, AllocError>
@@ -106,7 +148,7 @@ fn units_to_write(alloc: Global, bytes: &[u8], half: bool) -> Result<Vec<[u8; 16
     Ok(units)
 }
 
-/// Writes the units of `bytes`, or the first half of them, and keeps the step.
+/// Writes the units of `bytes`, or the first half of them, and keeps the step. Where that is no unit nothing is done.
 pub fn write_units(
     alloc: Global,
     now: &mut Held,
@@ -117,14 +159,19 @@ pub fn write_units(
     half: bool,
 ) -> Result<(), AllocError>
     requires room { unit + length bytes.now / 16 ≤ 2 ^ 28 }
-    ensures ok { OnOk result (Writes (held_files now.old) (held_files now.new) steps.old.items steps.new.items file unit (part_of half (units_of bytes.now))) }
+    ensures ok { OnOk result (WroteAny (held_files now.old) (held_files now.new) steps.old.items steps.new.items file unit
+        (part_of half (units_of bytes.now))) }
     ensures files { OnErr result (held_files now.new ≡ held_files now.old) }
     ensures steps { OnErr result (steps.new.items ≡ steps.old.items) }
 {
     let units = units_to_write(alloc, bytes, half)?;
-    let next = written(alloc, now.file(file), unit as usize, &units)?;
+    if units.is_empty() {
+        return Ok(());
+    }
+    // The step finds its room first: once the file is written, it is kept.
+    steps.reserve(1)?;
+    now.write(alloc, file, unit as usize, &units)?;
     steps.push(Step::Wrote(file, unit as u32, units))?;
-    now.replace(file, next);
     Ok(())
 }
 
@@ -173,18 +220,20 @@ fn unit_of(file: &[[u8; 16]], i: usize) -> [u8; 16]
     if i < file.len() { file[i] } else { [0u8; 16] }
 }
 
-/// A unit of the old file or of the new one, by a bit of the seed.
-fn mixed_unit(seed: u64, old: &[[u8; 16]], new: &[[u8; 16]], i: usize) -> [u8; 16]
-    ensures { result ≡ mixed_unit seed old.now new.now i }
+/// A unit of the old file, or the one that is written over it, by a bit of the seed.
+fn mixed_unit(seed: u64, file: &[[u8; 16]], units: &[[u8; 16]], at: usize, k: usize) -> [u8; 16]
+    requires at { at < 2 ^ 32 }
+    requires within { k < length units.now }
+    ensures { result ≡ mixed_unit seed file.now (put at units.now file.now) (at + k) }
 {
-    if (seed >> (i % 64)) % 2 == 1 {
-        unit_of(new, i)
+    if (seed >> ((at + k) % 64)) % 2 == 1 {
+        units[k]
     } else {
-        unit_of(old, i)
+        unit_of(file, at + k)
     }
 }
 
-/// A write of which only some units were done.
+/// The units that a write leaves of which only some were done.
 fn mixed(
     alloc: Global,
     file: &[[u8; 16]],
@@ -193,32 +242,35 @@ fn mixed(
     seed: u64,
 ) -> Result<Vec<[u8; 16]>, AllocError>
     requires { at < 2 ^ 32 }
-    ensures { IfOk result (λ next. next.items ≡ picked (Pick.Mixed seed) at units.now file.now) }
+    ensures { IfOk result (λ mixed. put at mixed.items file.now ≡ picked (Pick.Mixed seed) at units.now file.now) }
 {
-    let new = written(alloc, file, at, units)?;
-    let mut next = Vec::new(alloc);
-    for i in 0..new.len() {
-        next.push(mixed_unit(seed, file, &new, i))?;
+    let mut mixed = Vec::new(alloc);
+    for k in 0..units.len() {
+        mixed.push(mixed_unit(seed, file, units, at, k))?;
     }
-    Ok(next)
+    Ok(mixed)
 }
 
-/// A write that a stop cut short.
+/// Does to a file what a stop leaves of a write.
 #[tactic(auto, unfolding(crate::specs::Picks::picked))]
-fn picked(
+fn write_picked(
     alloc: Global,
-    file: &[[u8; 16]],
+    image: &mut Held,
+    file: File,
     at: usize,
     units: &[[u8; 16]],
     pick: Pick,
-) -> Result<Vec<[u8; 16]>, AllocError>
+) -> Result<(), AllocError>
     requires { at < 2 ^ 32 }
-    ensures { IfOk result (λ next. next.items ≡ picked pick at units.now file.now) }
+    ensures { OnOk result (held_files image.new ≡ with_file file (picked pick at units.now (file_of file (held_files image.old))) (held_files image.old)) }
 {
     match pick {
-        Pick::Old => copied(alloc, file),
-        Pick::New => written(alloc, file, at, units),
-        Pick::Mixed(seed) => mixed(alloc, file, at, units, seed),
+        Pick::Old => Ok(()),
+        Pick::New => image.write(alloc, file, at, units),
+        Pick::Mixed(seed) => {
+            let mixed = mixed(alloc, image.file(file), at, units, seed)?;
+            image.write(alloc, file, at, &mixed)
+        }
     }
 }
 
@@ -253,10 +305,8 @@ pub fn go_over(
 {
     match step {
         Step::Wrote(file, at, units) => {
-            let next_image = picked(alloc, image.file(*file), *at as usize, units, pick)?;
-            let next = written(alloc, now.file(*file), *at as usize, units)?;
-            image.replace(*file, next_image);
-            now.replace(*file, next);
+            write_picked(alloc, image, *file, *at as usize, units, pick)?;
+            now.write(alloc, *file, *at as usize, units)?;
         }
         Step::Synced(file) => {
             image.replace(*file, copied(alloc, now.file(*file))?);

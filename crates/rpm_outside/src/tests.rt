@@ -54,17 +54,20 @@ fn a_named_call_fails_and_writes_the_first_half(rt: HostRuntime) -> Result<(), F
     let alloc = rt.alloc();
     let mut disk = MemDisk::new(alloc, &[], &OLD, &[])?;
     disk.fail_call(2)?;
+    disk.fail_call(4)?;
     let mut unit = [0u8; 16];
     assert_eq!(rt; disk.len(File::Idx), Ok(2));
     assert_eq!(rt; disk.write_at(File::Idx, 0, &NEW), Err(Failed));
     assert_eq!(rt; disk.read_at(File::Idx, 0, &mut unit), Ok(()));
     assert_eq!(rt; unit, [2; 16]);
+    assert_eq!(rt; disk.write_at(File::Idx, 9, &unit), Err(Failed));
+    assert_eq!(rt; disk.now(), 1);
     assert_eq!(rt;
         disk.copy_file(alloc, File::Idx)?.as_slice(),
         [[2u8; 16], [1; 16]].concat(alloc)?.as_slice()
     );
     assert!(rt;
-        disk.faults() == 1 && disk.bytes_read(File::Idx) == 16 && disk.bytes_read(File::Log) == 0
+        disk.faults() == 2 && disk.bytes_read(File::Idx) == 16 && disk.bytes_read(File::Log) == 0
     );
     Ok(())
 }

@@ -2,8 +2,8 @@
 use Rattle.std.proofs.Common.{◌≡◌, ℕ, ◌+◌, ◌-◌, ◌*◌, ◌/◌, ◌<◌, ◌≤◌, List, length, take, drop, replicate, sym, ap, ◌∙◌, subst, arith, length-drop}
 use Rattle.std.proofs.lemmas.List.{same_lists, get_or-take, get_or-drop, get_or-replicate, length-take}
 use Rattle.rpm_outside.specs.Files.{Units, units_of, unit_at, put, blank}
-use Rattle.rpm_outside.specs.Cuts.{unit_at-cut_up, length-cut_up}
-use Rattle.rpm_outside.specs.Puts.{put_inside}
+use Rattle.rpm_outside.specs.inner.Cuts.{unit_at-cut_up, length-cut_up}
+use Rattle.rpm_outside.specs.inner.Puts.{put_inside}
 use Rattle.rpm_pkgdb.specs.Slots.{free}
 use Rattle.rpm_pkgdb.specs.Undamaged.{IsSlotUnit}
 
@@ -30,10 +30,12 @@ module _ (page : List ℕ) (count : ℕ) (long : length page ≡ 4096) (few : co
   front_unit k below =
       unit_at-cut_up (length front / 16) front k (omega (arith, front_long)) ∙ same_unit k below ∙ sym (unit_at-cut_up (length page / 16) page k (omega arith))
 
-  pub slots_written : (unit : List ℕ) → IsSlotUnit unit free → units_of page ≡ replicate 256 unit → (at : ℕ) (old new : Units) → new ≡ put at (units_of front) old → (i : ℕ) → at ≤ i → i < at + count → IsSlotUnit (unit_at new i) free
+  pub slots_written : (unit : List ℕ) → IsSlotUnit unit free → units_of page ≡ replicate 256 unit → (at : ℕ) (old new : Units)
+      → new ≡ put at (units_of front) old → (i : ℕ) → at ≤ i → i < at + count → IsSlotUnit (unit_at new i) free
   slots_written unit is units at old new written i low high =
       let k = i - at in
       let e : unit_at new i ≡ unit =
-      ap (λ (u : Units). unit_at u i) written ∙ ap (unit_at (put at (units_of front) old)) (omega arith) ∙ put_inside at (units_of front) old k (omega (arith, front_count)) ∙ front_unit k (omega arith)
+      ap (λ (u : Units). unit_at u i) written ∙ ap (unit_at (put at (units_of front) old)) (omega arith)
+      ∙ put_inside at (units_of front) old k (omega (arith, front_count)) ∙ front_unit k (omega arith)
       ∙ ap (λ (u : Units). unit_at u k) units ∙ get_or-replicate 256 k unit blank (omega arith) in
       subst (λ (u : List ℕ). IsSlotUnit u free) (sym e) is

@@ -4,18 +4,19 @@ use Rattle.std.proofs.lemmas.Bool.{cases_eq}
 use Rattle.rpm_pkgdb.specs.declared.slot.Slot.{Slot}
 use Rattle.rpm_pkgdb.specs.Slots.{slot_at, slot_with, is_used, has_number, end_of, free}
 use Rattle.rpm_pkgdb.specs.Pairs.{Pairs, find_in, Drops}
-use Rattle.rpm_pkgdb.specs.Facts.{number_facts}
+use Rattle.rpm_pkgdb.proofs.Facts.{number_facts}
 use Rattle.rpm_pkgdb.specs.Maps.{IsPackageNumber}
 use Rattle.rpm_pkgdb.specs.Store.{Store}
-use Rattle.rpm_pkgdb.specs.ClearLaws.{free_sound, set_here, set_other}
-use Rattle.rpm_pkgdb.specs.Pairwise.{used_below}
-use Rattle.rpm_pkgdb.specs.Keeping.{IsKept}
+use Rattle.rpm_pkgdb.proofs.ClearLaws.{free_sound, set_here, set_other}
+use Rattle.rpm_pkgdb.proofs.Pairwise.{used_below}
+use Rattle.rpm_pkgdb.specs.inner.Keeping.{IsKept}
 use Rattle.rpm_pkgdb.specs.Quiet.{HasSlot, with_free}
-use Rattle.rpm_pkgdb.specs.Places.{freed, freed_is_set, with_at}
-use Rattle.rpm_pkgdb.specs.Written.{erased}
+use Rattle.rpm_pkgdb.proofs.Places.{freed_is_set, with_at}
+use Rattle.rpm_pkgdb.specs.Written.{freed, erased}
 use Rattle.rpm_pkgdb.proofs.Kept.{slot_missing}
 
-pub not_held : (numbers : Pairs) (pages : ℕ) (slots : List Slot) → IsKept numbers pages slots → (n : ℕ) → IsSome (slot_with n slots) → find_in numbers n ≡ None → ⊥
+pub not_held : (numbers : Pairs) (pages : ℕ) (slots : List Slot) → IsKept numbers pages slots → (n : ℕ) → IsSome (slot_with n slots)
+    → find_in numbers n ≡ None → ⊥
 not_held numbers pages slots kept n some none =
     let missing = slot_missing (find_in numbers) slots kept.places n none in
     let e : IsSome {T = Slot} None = subst IsSome missing some in
@@ -56,7 +57,8 @@ module _ (numbers : Pairs) (pages : ℕ) (slots : List Slot) (kept : IsKept numb
 
   pub held_erased : (st : Store) → st.slots ≡ slots → with_free k st ≡ erased n st
   held_erased st same =
-      let e : set st.slots k free ≡ freed n st.slots = ap (λ (l : List Slot). set l k free) same ∙ sym (freed_is_set pages (2 ^ 28) slots kept.sound n k held_has) ∙ ap (freed n) (sym same) in
+      let e : set st.slots k free ≡ freed n st.slots =
+      ap (λ (l : List Slot). set l k free) same ∙ sym (freed_is_set pages (2 ^ 28) slots kept.sound n k held_has) ∙ ap (freed n) (sym same) in
       ap (λ (l : List Slot). record st { slots = l }) e
 
   pub freed_kept : (next : Pairs) → Drops (find_in numbers) (find_in next) n → IsKept next pages (set slots k free)
@@ -67,14 +69,17 @@ module _ (numbers : Pairs) (pages : ℕ) (slots : List Slot) (kept : IsKept numb
         | inr other ↦
             (let stays = set_other pages (2 ^ 28) slots kept.sound k held_below free j other in
             let was : is_used (slot_at slots j) ≡ true = ap is_used (sym stays) ∙ used in
-            let differs : (slot_at slots j).number ≢ n = λ same. (kept.sound.apart j k other was held_used).numbers (same ∙ sym (number_facts n (slot_at slots k) held_has).number) in
+            let differs : (slot_at slots j).number ≢ n =
+            λ same. (kept.sound.apart j k other was held_used).numbers (same ∙ sym (number_facts n (slot_at slots k) held_has).number) in
             ap (λ (t : Slot). find_in next t.number) stays ∙ drops.others (slot_at slots j).number differs ∙ kept.places.each j (used_below slots j was) was)
       ];
       only = λ m j is. elim (cases_eq m n) [
         | inl same ↦ absurd (let e : find_in next m ≡ None = ap (find_in next) same ∙ drops.gone in cc)
         | inr differs ↦
             (let o = kept.places.only m j (sym (drops.others m differs) ∙ is) in
-            let other : j ≢ k = λ here. differs (sym (number_facts m (slot_at slots j) o.1).number ∙ ap (λ (i : ℕ). (slot_at slots i).number) here ∙ (number_facts n (slot_at slots k) held_has).number) in
+            let other : j ≢ k =
+            λ here. differs (sym (number_facts m (slot_at slots j) o.1).number ∙ ap (λ (i : ℕ). (slot_at slots i).number) here
+            ∙ (number_facts n (slot_at slots k) held_has).number) in
             (omega (arith, o.0, length-set slots k free), ap (has_number m) (set_other pages (2 ^ 28) slots kept.sound k held_below free j other) ∙ o.1))
       ];
     };
@@ -82,7 +87,8 @@ module _ (numbers : Pairs) (pages : ℕ) (slots : List Slot) (kept : IsKept numb
       | inl here ↦ absurd (not_used j here used)
       | inr other ↦
           (let stays = set_other pages (2 ^ 28) slots kept.sound k held_below free j other in
-          subst (λ (t : Slot). IsPackageNumber t.number) (sym stays) (kept.numbered j (omega (arith, below, length-set slots k free)) (ap is_used (sym stays) ∙ used)))
+          subst (λ (t : Slot). IsPackageNumber t.number) (sym stays)
+          (kept.numbered j (omega (arith, below, length-set slots k free)) (ap is_used (sym stays) ∙ used)))
     ];
     sound = free_sound pages (2 ^ 28) slots kept.sound k held_below;
     limit = kept.limit;
@@ -90,9 +96,13 @@ module _ (numbers : Pairs) (pages : ℕ) (slots : List Slot) (kept : IsKept numb
   }
     where
       not_used : (j : ℕ) → j ≡ k → is_used (slot_at (set slots k free) j) ≡ true → ⊥
-      not_used j here used = (let e : slot_at (set slots k free) j ≡ free = ap (slot_at (set slots k free)) here ∙ set_here pages (2 ^ 28) slots kept.sound k held_below free in let f : is_used (slot_at (set slots k free) j) ≡ is_used free = ap is_used e in cc)
+      not_used j here used =
+          (let e : slot_at (set slots k free) j ≡ free = ap (slot_at (set slots k free)) here
+          ∙ set_here pages (2 ^ 28) slots kept.sound k held_below free in let f : is_used (slot_at (set slots k free) j) ≡ is_used free = ap is_used e in
+          cc)
 
 -- the place of a slot is the one that the numbers tell
-pub found_at_slot : (numbers : Pairs) (pages : ℕ) (slots : List Slot) → IsKept numbers pages slots → (n k : ℕ) → k < length slots → (s : Slot) → slot_at slots k ≡ s → is_used s ≡ true → s.number ≡ n → find_in numbers n ≡ Some k
+pub found_at_slot : (numbers : Pairs) (pages : ℕ) (slots : List Slot) → IsKept numbers pages slots → (n k : ℕ) → k < length slots → (s : Slot)
+    → slot_at slots k ≡ s → is_used s ≡ true → s.number ≡ n → find_in numbers n ≡ Some k
 found_at_slot numbers pages slots kept n k below s is used number =
     ap (find_in numbers) (sym (ap (λ (t : Slot). t.number) is ∙ number)) ∙ kept.places.each k below (ap is_used is ∙ used)

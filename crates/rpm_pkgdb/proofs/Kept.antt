@@ -6,11 +6,10 @@ use Rattle.std.proofs.lemmas.Bool.{cases_lt, cases_Bool}
 use Rattle.std.proofs.lemmas.Bool.Decides.{nat_tests}
 use Rattle.rpm_outside.specs.Files.{Units, unit_at}
 use Rattle.rpm_pkgdb.specs.declared.slot.Slot.{Slot}
-use Rattle.rpm_pkgdb.specs.Facts.{number_facts}
+use Rattle.rpm_pkgdb.proofs.Facts.{number_facts}
 use Rattle.rpm_pkgdb.proofs.Known.{place_known}
 use Rattle.rpm_pkgdb.specs.Words.{word}
-use Rattle.rpm_pkgdb.specs.Slots.{is_used, has_number, slot_with, free, slot_at}
-use Rattle.rpm_pkgdb.specs.Slots.{greatest_number}
+use Rattle.rpm_pkgdb.specs.Slots.{is_used, has_number, slot_with, free, slot_at, greatest_number}
 use Rattle.rpm_pkgdb.specs.Damages.{head_reason}
 use Rattle.rpm_pkgdb.specs.Pairs.{IsNext, IsGreatest}
 use Rattle.rpm_pkgdb.specs.Maps.{HasPlaces, IsPackageNumber}
@@ -85,7 +84,8 @@ greatest_number_ge [] k below used = absurd (omega arith)
 greatest_number_ge (s ∷ ss) zero below used = let e : (if is_used s then s.number else 0) ≡ s.number = rw used refl in omega arith
 greatest_number_ge (s ∷ ss) (suc k) below used = let rest = greatest_number_ge ss k (omega arith) used in omega arith
 
-greatest_number_le : (slots : List Slot) (m : ℕ) → ((k : ℕ) → k < length slots → is_used (slot_at slots k) ≡ true → (slot_at slots k).number ≤ m) → greatest_number slots ≤ m
+greatest_number_le : (slots : List Slot) (m : ℕ) → ((k : ℕ) → k < length slots → is_used (slot_at slots k) ≡ true → (slot_at slots k).number ≤ m)
+    → greatest_number slots ≤ m
 greatest_number_le [] m each = omega arith
 greatest_number_le (s ∷ ss) m each =
     let rest = greatest_number_le ss m (λ k below used. each (suc k) (omega arith) used) in
@@ -116,7 +116,8 @@ module _ (f : ℕ → Option ℕ) (slots : List Slot) (has : HasPlaces f slots) 
       let ge = greatest_number_ge slots v.0 o.0 facts.used in
       omega (arith, facts.number)
 
-  pub greatest_below : (m limit : ℕ) → IsGreatest f (Some m) → ((k : ℕ) → k < length slots → is_used (slot_at slots k) ≡ true → (slot_at slots k).number < limit) → m < limit
+  pub greatest_below : (m limit : ℕ) → IsGreatest f (Some m)
+      → ((k : ℕ) → k < length slots → is_used (slot_at slots k) ≡ true → (slot_at slots k).number < limit) → m < limit
   greatest_below m limit (found, none) each =
       let v = some_of (f m) found in
       let o = has.only m v.0 v.1 in
@@ -125,7 +126,8 @@ module _ (f : ℕ → Option ℕ) (slots : List Slot) (has : HasPlaces f slots) 
       omega (arith, facts.number)
 
 -- the number 0 is no package's
-pub zero_absent : (slots : List Slot) → ((k : ℕ) → k < length slots → is_used (slot_at slots k) ≡ true → IsPackageNumber (slot_at slots k).number) → slot_with 0 slots ≡ None
+pub zero_absent : (slots : List Slot) → ((k : ℕ) → k < length slots → is_used (slot_at slots k) ≡ true → IsPackageNumber (slot_at slots k).number)
+    → slot_with 0 slots ≡ None
 zero_absent slots each = elim (cases_Bool (list_any (has_number 0) slots)) [
   | inr none ↦ find_none (has_number 0) slots none
   | inl some ↦

@@ -6,11 +6,13 @@ use Rattle.rpm_pkgdb.specs.declared.moving.Move.{Move}
 use Rattle.rpm_pkgdb.specs.Slots.{slot_at}
 use Rattle.rpm_pkgdb.specs.Store.{Store}
 use Rattle.rpm_pkgdb.specs.Quiet.{StandsFor, BlobMap}
-use Rattle.rpm_pkgdb.specs.Settings.{CanMove, with_slot, moved}
-use Rattle.rpm_pkgdb.specs.MoveLists.{AreMoves, Keep, after_moves, move_at, next_can, next_of, after_more, keep_all, unmoved}
+use Rattle.rpm_pkgdb.specs.inner.Settings.{CanMove, with_slot, moved}
+use Rattle.rpm_pkgdb.specs.inner.MoveLists.{AreMoves, after_moves, move_at}
+use Rattle.rpm_pkgdb.proofs.MoveListLaws.{Keep, next_can, next_of, after_more, keep_all, unmoved}
 
 pub stands_for_same : (g f g' f' : ℕ) (B B' : BlobMap) (image : Units) → g ≡ g' → f ≡ f' → B ≡ B' → StandsFor g f B image → StandsFor g' f' B' image
-stands_for_same g f g' f' B B' image e_g e_f e_B s = record { value = s.value; undamaged = s.undamaged; generation_is = s.generation_is ∙ e_g; field_is = s.field_is ∙ e_f; blobs_are = s.blobs_are ∙ e_B }
+stands_for_same g f g' f' B B' image e_g e_f e_B s =
+    record { value = s.value; undamaged = s.undamaged; generation_is = s.generation_is ∙ e_g; field_is = s.field_is ∙ e_f; blobs_are = s.blobs_are ∙ e_B }
 
 abbrev pub old_slot : List Slot → Move → Slot
 old_slot slots m = slot_at slots m.place
@@ -19,7 +21,8 @@ old_slot slots m = slot_at slots m.place
 pub few_enough : (count k n : ℕ) → k < n → (offset : ℕ) → offset + count ≤ 2 ^ 28 → 2 ^ 32 * k + 16 * count ≤ 2 ^ 32 * n
 few_enough count k n lt offset le = omega arith
 
-module _ (value : Store) (slots : List Slot) (moves : List Move) (k : ℕ) (some : 1 ≤ value.pages) (same : value.slots ≡ slots) (are : AreMoves value moves) (below : k < length moves) where
+module _ (value : Store) (slots : List Slot) (moves : List Move) (k : ℕ) (some : 1 ≤ value.pages) (same : value.slots ≡ slots) (are : AreMoves value moves)
+    (below : k < length moves) where
   abbrev pub current : Store
   current = after_moves value (take k moves)
 
@@ -36,7 +39,9 @@ module _ (value : Store) (slots : List Slot) (moves : List Move) (k : ℕ) (some
   old_is = unmoved value moves k are below ∙ ap (λ (l : List Slot). slot_at l next.place) same
 
   pub can_move : CanMove current next.place old next.to
-  can_move = subst (λ (s : Slot). CanMove current next.place s next.to) old_is (next_can current next (omega (arith, kept.pages_are)) (next_of value moves k are below))
+  can_move =
+      subst (λ (s : Slot). CanMove current next.place s next.to) old_is
+      (next_can current next (omega (arith, kept.pages_are)) (next_of value moves k are below))
 
   pub then_after : after_moves value (take (k + 1) moves) ≡ with_slot next.place (moved old next.to) current
   then_after = after_more value moves k below ∙ ap (λ (s : Slot). with_slot next.place (moved s next.to) current) old_is

@@ -5,10 +5,10 @@ use Rattle.rpm_blocks.specs.Blocks.{Blocks}
 use Rattle.rpm_pkgdb.specs.declared.slot.Slot.{Slot}
 use Rattle.rpm_pkgdb.specs.Slots.{free}
 use Rattle.rpm_pkgdb.specs.Pairs.{Pairs}
-use Rattle.rpm_pkgdb.specs.Keeping.{IsKept}
-use Rattle.rpm_pkgdb.specs.Ranges.{HasUsed}
-use Rattle.rpm_pkgdb.specs.Pairwise.{used_below}
-use Rattle.rpm_pkgdb.specs.Makes.{not_used, new_sound}
+use Rattle.rpm_pkgdb.specs.inner.Keeping.{IsKept}
+use Rattle.rpm_pkgdb.specs.inner.Ranges.{HasUsed}
+use Rattle.rpm_pkgdb.proofs.Pairwise.{used_below}
+use Rattle.rpm_pkgdb.proofs.Makes.{not_used, new_sound}
 
 module _ (numbers : Pairs) (pages : ℕ) (slots : List Slot) (kept : IsKept numbers pages slots) (none : pages ≡ 0) where
   pub no_slots : slots ≡ []

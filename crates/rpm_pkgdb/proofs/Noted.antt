@@ -8,20 +8,20 @@ use Rattle.rpm_blocks.specs.Blocks.{Blocks, with_range, without}
 use Rattle.rpm_blocks.specs.Laws.{with_range_here, with_range_keeps, with_range_only, without_keeps, without_only, begins_in}
 use Rattle.rpm_pkgdb.specs.declared.slot.Slot.{Slot}
 use Rattle.rpm_pkgdb.specs.declared.plan.Plan.{Plan}
-use Rattle.rpm_pkgdb.specs.Facts.{cases_Bool, number_facts, has_it_from}
+use Rattle.rpm_pkgdb.proofs.Facts.{cases_Bool, number_facts, has_it_from}
 use Rattle.rpm_pkgdb.specs.Slots.{slot_at, is_used, has_number, free}
 use Rattle.rpm_pkgdb.specs.Pairs.{Pairs, find_in}
 use Rattle.rpm_pkgdb.specs.Maps.{Adds, IsPackageNumber}
 use Rattle.rpm_pkgdb.specs.Store.{Store}
 use Rattle.rpm_pkgdb.specs.Blobs.{blocks_for}
-use Rattle.rpm_pkgdb.specs.Pairwise.{used_below}
-use Rattle.rpm_pkgdb.specs.ClearLaws.{set_here, set_other}
-use Rattle.rpm_pkgdb.specs.Keeping.{IsKept}
-use Rattle.rpm_pkgdb.specs.Ranges.{range_of, UsedBy, AreRangesOf, HasUsed, HasStart, Forgets, ForgetsSlot, Remembers, IsFreeIn}
-use Rattle.rpm_pkgdb.specs.RangeLaws.{other_start}
+use Rattle.rpm_pkgdb.proofs.Pairwise.{used_below}
+use Rattle.rpm_pkgdb.proofs.ClearLaws.{set_here, set_other}
+use Rattle.rpm_pkgdb.specs.inner.Keeping.{IsKept}
+use Rattle.rpm_pkgdb.specs.inner.Ranges.{range_of, UsedBy, AreRangesOf, HasUsed, HasStart, Forgets, ForgetsSlot, Remembers, IsFreeIn}
+use Rattle.rpm_pkgdb.proofs.RangeLaws.{other_start}
 use Rattle.rpm_pkgdb.specs.Plans.{IsPlan, slot_for}
-use Rattle.rpm_pkgdb.specs.PlanLaws.{fits_to}
-use Rattle.rpm_pkgdb.specs.PutsLaws.{plan_sound, number_le, other_number}
+use Rattle.rpm_pkgdb.proofs.PlanLaws.{fits_to}
+use Rattle.rpm_pkgdb.proofs.PutsLaws.{plan_sound, number_le, other_number}
 
 some_of : (o : Option ℕ) → IsSome o → (x : ℕ) × (o ≡ Some x)
 some_of (Some x) is = (x, refl)
@@ -59,7 +59,8 @@ module _ (numbers : Pairs) (v : Store) (plan : Plan) (is : IsPlan v plan) (made 
 
   pub fits_free : (used : Option Blocks) (spare : ℕ) → HasUsed used spare slots → 1 ≤ spare → IsFreeIn s used
   fits_free None spare has room = absurd (omega arith)
-  fits_free (Some b) spare has room = ((fits_to v.pages b.ranges slots kept.sound has.0 (blocks_for plan.length) (omega arith) plan.start is.start.fits).free, omega (arith, has.1))
+  fits_free (Some b) spare has room =
+      ((fits_to v.pages b.ranges slots kept.sound has.0 (blocks_for plan.length) (omega arith) plan.start is.start.fits).free, omega (arith, has.1))
 
   used_new : is_used s ≡ true
   used_new = (let low : plan.start ≢ 0 = omega (arith, made, is.start.from_on) in grind (arith, nat_tests))
@@ -79,7 +80,11 @@ module _ (numbers : Pairs) (v : Store) (plan : Plan) (is : IsPlan v plan) (made 
   pub says : (next : Pairs) → (plan.is_new ≡ true → Adds (find_in numbers) (find_in next) plan.number k) → (plan.is_new ≡ false → next ≡ numbers) → Says next
   says next new held = elim (cases_Bool plan.is_new) [
     | inl is_new ↦ (let a = new is_new in record { here = a.here; others = a.others })
-    | inr not_new ↦ (let e = held not_new in record { here = ap (λ (l : Pairs). find_in l plan.number) e ∙ held_here not_new; others = λ m differs. ap (λ (l : Pairs). find_in l m) e })
+    | inr not_new ↦ (let e = held not_new in record {
+      here = ap (λ (l : Pairs). find_in l plan.number) e
+          ∙ held_here not_new;
+      others = λ m differs. ap (λ (l : Pairs). find_in l m) e;
+    })
   ]
 
   -- the slot that is replaced is free, or has the number
@@ -115,9 +120,10 @@ module _ (numbers : Pairs) (v : Store) (plan : Plan) (is : IsPlan v plan) (made 
       | inl here ↦ subst (λ (t : Slot). IsPackageNumber t.number) (sym (ap (slot_at after) here ∙ new_at)) is.number
       | inr other ↦
           (let stays = same_at j other in
-          subst (λ (t : Slot). IsPackageNumber t.number) (sym stays) (kept.numbered j (omega (arith, below, length-set slots k s)) (ap is_used (sym stays) ∙ used)))
+          subst (λ (t : Slot). IsPackageNumber t.number) (sym stays)
+          (kept.numbered j (omega (arith, below, length-set slots k s)) (ap is_used (sym stays) ∙ used)))
     ];
-    sound = plan_sound v plan is (2 ^ 28) is.start.fits.ends kept.sound;
+    sound = plan_sound v plan is made (2 ^ 28) is.start.fits.ends kept.sound;
     limit = kept.limit;
     count = length-set slots k s ∙ kept.count;
   }
@@ -144,15 +150,19 @@ module _ (numbers : Pairs) (v : Store) (plan : Plan) (is : IsPlan v plan) (made 
     has_old_start (Some b) None spare has added used_old = absurd added
     has_old_start (Some b) (Some d) spare has added used_old =
         let at = old_is used_old in
-        let there : Contains b.ranges (range_of old) = subst (λ (t : Slot). Contains b.ranges (range_of t)) (sym at) (has.0.each k (ap is_used (sym at) ∙ used_old)) in
-        begins_in d.ranges (range_of old) (subst (λ (l : List Range). Contains l (range_of old)) (sym added.0) (with_range_keeps (range_of s) (range_of old) b.ranges there))
+        let there : Contains b.ranges (range_of old) =
+        subst (λ (t : Slot). Contains b.ranges (range_of t)) (sym at) (has.0.each k (ap is_used (sym at) ∙ used_old)) in
+        begins_in d.ranges (range_of old) (subst (λ (l : List Range). Contains l (range_of old)) (sym added.0)
+        (with_range_keeps (range_of s) (range_of old) b.ranges there))
 
     module _ (b d : Blocks) (are : AreRangesOf b.ranges slots) (added : d.ranges ≡ with_range (range_of s) b.ranges) where
       there_new : Contains d.ranges (range_of s)
       there_new = subst (λ (l : List Range). Contains l (range_of s)) (sym added) (with_range_here (range_of s) b.ranges)
 
       there_old : (j : ℕ) → is_used (slot_at slots j) ≡ true → Contains d.ranges (range_of (slot_at slots j))
-      there_old j used = subst (λ (l : List Range). Contains l (range_of (slot_at slots j))) (sym added) (with_range_keeps (range_of s) (range_of (slot_at slots j)) b.ranges (are.each j used))
+      there_old j used =
+          subst (λ (l : List Range). Contains l (range_of (slot_at slots j))) (sym added)
+          (with_range_keeps (range_of s) (range_of (slot_at slots j)) b.ranges (are.each j used))
 
       from_there : (x : Range) → Contains d.ranges x → (x ≡ range_of s) ⊎ UsedBy slots x
       from_there x there = elim (with_range_only (range_of s) x b.ranges (subst (λ (l : List Range). Contains l x) added there)) [
@@ -189,11 +199,13 @@ module _ (numbers : Pairs) (v : Store) (plan : Plan) (is : IsPlan v plan) (made 
         noted_held = record {
           each = λ j used. subst (λ (l : List Range). Contains l (range_of (slot_at after j))) (sym gone) (elim (cases_eq j k) [
             | inl here ↦
-                subst (λ (t : Slot). Contains (without (slot_at slots k).offset d.ranges) (range_of t)) (sym (ap (slot_at after) here ∙ new_at)) (without_keeps (slot_at slots k).offset (range_of s) d.ranges start_differs there_new)
+                subst (λ (t : Slot). Contains (without (slot_at slots k).offset d.ranges) (range_of t)) (sym (ap (slot_at after) here ∙ new_at))
+                (without_keeps (slot_at slots k).offset (range_of s) d.ranges start_differs there_new)
             | inr other ↦
                 (let was : is_used (slot_at slots j) ≡ true = ap is_used (sym (same_at j other)) ∙ used in
                 subst (λ (t : Slot). Contains (without (slot_at slots k).offset d.ranges) (range_of t)) (sym (same_at j other))
-                (without_keeps (slot_at slots k).offset (range_of (slot_at slots j)) d.ranges (other_start v.pages slots kept.sound j k other was used_k) (there_old j was)))
+                (without_keeps (slot_at slots k).offset (range_of (slot_at slots j)) d.ranges (other_start v.pages slots kept.sound j k other was used_k)
+                (there_old j was)))
           ]);
           only = λ x there.
               let w = without_only (slot_at slots k).offset x d.ranges (subst (λ (l : List Range). Contains l x) gone there) in
@@ -203,11 +215,13 @@ module _ (numbers : Pairs) (v : Store) (plan : Plan) (is : IsPlan v plan) (made 
               ];
         }
 
-    pub noted_used : (used mid last : Option Blocks) (spare : ℕ) → HasUsed used spare slots → Remembers s used mid → ForgetsSlot old mid last → HasUsed last (spare - 1) after
+    pub noted_used : (used mid last : Option Blocks) (spare : ℕ) → HasUsed used spare slots → Remembers s used mid → ForgetsSlot old mid last
+        → HasUsed last (spare - 1) after
     noted_used None mid last spare has added forgot = absurd added
     noted_used (Some b) None last spare has added forgot = absurd added
     noted_used (Some b) (Some d) last spare has added forgot = elim (cases_Bool (is_used old)) [
-      | inr unused ↦ subst (λ (o : Option Blocks). HasUsed o (spare - 1) after) (sym (forgot.unused unused)) (noted_free b d has.0 added.0 (old_unused unused), omega (arith, has.1, added.1))
+      | inr unused ↦ subst (λ (o : Option Blocks). HasUsed o (spare - 1) after) (sym (forgot.unused unused))
+          (noted_free b d has.0 added.0 (old_unused unused), omega (arith, has.1, added.1))
       | inl used_old ↦ with_gone last (forgot.used used_old) used_old
     ]
       where

@@ -7,15 +7,15 @@ use Rattle.rpm_outside.specs.Files.{Units, unit_at}
 use Rattle.rpm_pkgdb.specs.declared.slot.Slot.{Slot}
 use Rattle.rpm_pkgdb.specs.declared.slot.Reason.{Reason}
 use Rattle.rpm_pkgdb.specs.declared.slot.Damage.{Damage}
-use Rattle.rpm_pkgdb.specs.Facts.{number_facts}
+use Rattle.rpm_pkgdb.proofs.Facts.{number_facts}
 use Rattle.rpm_pkgdb.proofs.Kept.{find_none, find_some}
-use Rattle.rpm_pkgdb.specs.Sound.{placed_slot, no_own}
+use Rattle.rpm_pkgdb.proofs.Sound.{placed_slot, no_own}
 use Rattle.rpm_pkgdb.proofs.Steps.{length-slots_in}
 use Rattle.rpm_pkgdb.specs.Words.{word}
 use Rattle.rpm_pkgdb.specs.Store.{Store, store, blank_store, made_store, made_or_damaged, is_blank, unless}
 use Rattle.rpm_pkgdb.specs.Damages.{head_reason, slot_fault, own_reason, table, table_fault}
 use Rattle.rpm_pkgdb.specs.Slots.{is_used, has_number, slot_with, slot_of, slots_in, free, slot_at}
-use Rattle.rpm_pkgdb.specs.Runs.{run, table_is_run}
+use Rattle.rpm_pkgdb.specs.inner.Runs.{run, table_is_run}
 use Rattle.rpm_pkgdb.specs.Maps.{IsPlaced}
 
 both_none : {X : Type 0} (a b : Option X) → option_or a b ≡ None → (a ≡ None) × (b ≡ None)
@@ -28,9 +28,11 @@ slot_in [] k below = absurd (omega arith)
 slot_in (u ∷ us) zero below = refl
 slot_in (u ∷ us) (suc k) below = slot_in us k (omega arith)
 
-own_in_run : (pages units : ℕ) (earlier : List Slot) (us : Units) (k : ℕ) → run pages units earlier us ≡ None → k < length us → own_reason pages units (unit_at us k) ≡ None
+own_in_run : (pages units : ℕ) (earlier : List Slot) (us : Units) (k : ℕ) → run pages units earlier us ≡ None → k < length us
+    → own_reason pages units (unit_at us k) ≡ None
 own_in_run pages units earlier [] k none below = absurd (omega arith)
-own_in_run pages units earlier (u ∷ us) zero none below = (let b = both_none (slot_fault pages units earlier u) (run pages units (earlier ++ slot_of u ∷ []) us) none in no_own pages units earlier u b.0)
+own_in_run pages units earlier (u ∷ us) zero none below =
+    (let b = both_none (slot_fault pages units earlier u) (run pages units (earlier ++ slot_of u ∷ []) us) none in no_own pages units earlier u b.0)
 own_in_run pages units earlier (u ∷ us) (suc k) none below =
     let b = both_none (slot_fault pages units earlier u) (run pages units (earlier ++ slot_of u ∷ []) us) none in
     own_in_run pages units (earlier ++ slot_of u ∷ []) us k b.1 (omega arith)
@@ -67,7 +69,8 @@ record Made (file : Units) (st : Store) : Type 0 where
   sound : table_fault pages (length file) (table pages file) ≡ None
   slots : st.slots ≡ slots_in (table pages file)
 
-made_from : (pages : ℕ) (file : Units) (st : Store) (fault : Option Damage) → table_fault pages (length file) (table pages file) ≡ fault → unless fault (made_store pages file) ≡ Ok st → Made file st
+made_from : (pages : ℕ) (file : Units) (st : Store) (fault : Option Damage) → table_fault pages (length file) (table pages file) ≡ fault
+    → unless fault (made_store pages file) ≡ Ok st → Made file st
 made_from pages file st None e is =
     let same : made_store pages file ≡ st = cc in
     record { pages = pages; sound = e; slots = sym (ap (λ (s : Store). s.slots) same) }
@@ -75,7 +78,8 @@ made_from pages file st (Some d) e is = absurd cc
 
 made_or : (file : Units) (st : Store) (reason : Option Reason) → made_or_damaged reason file ≡ Ok st → Made file st
 made_or file st (Some r) is = absurd cc
-made_or file st None is = made_from (word 3 (unit_at file 0)) file st (table_fault (word 3 (unit_at file 0)) (length file) (table (word 3 (unit_at file 0)) file)) refl is
+made_or file st None is =
+    made_from (word 3 (unit_at file 0)) file st (table_fault (word 3 (unit_at file 0)) (length file) (table (word 3 (unit_at file 0)) file)) refl is
 
 ok_same : (x y : Store) (r : Result Store Damage) → r ≡ Ok x → r ≡ Ok y → x ≡ y
 ok_same x y r e f = cc

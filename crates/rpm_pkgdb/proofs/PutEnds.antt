@@ -3,16 +3,16 @@ use Rattle.std.proofs.Common.{◌≡◌, inl, inr, ℕ, ◌+◌, ◌-◌, ◌<�
 use Rattle.rpm_outside.specs.Files.{Units, unit_at, blank}
 use Rattle.rpm_pkgdb.specs.declared.slot.Slot.{Slot}
 use Rattle.rpm_pkgdb.specs.declared.plan.Plan.{Plan}
-use Rattle.rpm_pkgdb.specs.Facts.{cases_Bool, number_facts}
+use Rattle.rpm_pkgdb.proofs.Facts.{cases_Bool, number_facts}
 use Rattle.rpm_pkgdb.specs.Slots.{slot_at, slot_with, end_of}
 use Rattle.rpm_pkgdb.specs.Store.{Store, Keeps}
-use Rattle.rpm_pkgdb.specs.Made.{made}
-use Rattle.rpm_pkgdb.specs.Clear.{Holds}
-use Rattle.rpm_pkgdb.specs.FramingLaws.{held_part}
-use Rattle.rpm_pkgdb.specs.Places.{Search, search_for, with_at}
-use Rattle.rpm_pkgdb.specs.Places.Search.{Here, Nowhere}
+use Rattle.rpm_pkgdb.proofs.Made.{made}
+use Rattle.rpm_pkgdb.specs.inner.Clear.{Holds}
+use Rattle.rpm_pkgdb.proofs.FramingLaws.{held_part}
+use Rattle.rpm_pkgdb.proofs.Places.{Search, search_for, with_at}
+use Rattle.rpm_pkgdb.proofs.Places.Search.{Here, Nowhere}
 use Rattle.rpm_pkgdb.specs.Plans.{IsPlan}
-use Rattle.rpm_pkgdb.specs.PutsLaws.{number_le}
+use Rattle.rpm_pkgdb.proofs.PutsLaws.{number_le}
 use Rattle.rpm_pkgdb.specs.Written.{AreZeros}
 
 -- units that stand at a place
@@ -32,11 +32,13 @@ module _ (st : Store) (plan : Plan) (is : IsPlan st plan) where
       absurd (omega (arith, n.0, f.number, number_le st.slots k f.used))
 
   -- the blocks that are replaced are zeros
-  pub replaced_zeros : (file image : Units) (old : Slot) → 1 ≤ st.pages → Keeps file st → (plan.is_new ≡ false → old ≡ slot_at st.slots plan.place) → ((i : ℕ) → old.offset ≤ i → i < end_of old → unit_at image i ≡ blank) → AreZeros (slot_with plan.number st.slots) image
+  pub replaced_zeros : (file image : Units) (old : Slot) → 1 ≤ st.pages → Keeps file st → (plan.is_new ≡ false → old ≡ slot_at st.slots plan.place)
+      → ((i : ℕ) → old.offset ≤ i → i < end_of old → unit_at image i ≡ blank) → AreZeros (slot_with plan.number st.slots) image
   replaced_zeros file image old some keeps held zeros = elim (cases_Bool plan.is_new) [
     | inl new ↦ subst (λ (o : Option Slot). AreZeros o image) (sym (new_absent new (search_for plan.number st.slots))) tt
     | inr not_new ↦
         (let m = made file st keeps some in
-        let found : slot_with plan.number st.slots ≡ Some old = with_at st.pages (length file) st.slots m.sound plan.number plan.place (is.held not_new) ∙ ap Some (sym (held not_new)) in
+        let found : slot_with plan.number st.slots ≡ Some old =
+        with_at st.pages (length file) st.slots m.sound plan.number plan.place (is.held not_new) ∙ ap Some (sym (held not_new)) in
         subst (λ (o : Option Slot). AreZeros o image) (sym found) zeros)
   ]

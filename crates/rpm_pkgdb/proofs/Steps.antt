@@ -11,7 +11,7 @@ use Rattle.rpm_pkgdb.specs.declared.slot.OpenFault.TheVariants.{Damaged, DiskFau
 use Rattle.rpm_pkgdb.specs.Slots.{slot_of, slots_in}
 use Rattle.rpm_pkgdb.specs.Damages.{slot_fault, table_fault}
 use Rattle.rpm_pkgdb.specs.Store.{Says, SaysHere}
-use Rattle.rpm_pkgdb.specs.Runs.{run, run-append, table_is_run}
+use Rattle.rpm_pkgdb.specs.inner.Runs.{run, run-append, table_is_run}
 
 pub length-slots_in : (us : Units) → length (slots_in us) ≡ length us
 unfolding slots_in
@@ -31,7 +31,8 @@ or_else_none : {X : Type 0} (a : Option X) → option_or a None ≡ a
 or_else_none None = refl
 or_else_none (Some x) = refl
 
-module _ (pages units : ℕ) (earlier now : List Slot) (us : Units) (k : ℕ) (unit : List ℕ) (below : k < length us) (slots : now ≡ earlier ++ slots_in (take k us)) (is : unit ≡ unit_at us k) where
+module _ (pages units : ℕ) (earlier now : List Slot) (us : Units) (k : ℕ) (unit : List ℕ) (below : k < length us)
+    (slots : now ≡ earlier ++ slots_in (take k us)) (is : unit ≡ unit_at us k) where
   front : take (k + 1) us ≡ take k us ++ unit ∷ []
   front = take_more us k blank below ∙ ap (λ (u : List ℕ). take k us ++ u ∷ []) (sym is)
 
@@ -54,7 +55,8 @@ module _ (pages units : ℕ) (earlier now : List Slot) (us : Units) (k : ℕ) (u
   pub sound_more : run pages units earlier (take k us) ≡ None → slot_fault pages units now unit ≡ None → run pages units earlier (take (k + 1) us) ≡ None
   sound_more none fault = run_more none ∙ fault
 
-  pub says_more : run pages units earlier (take k us) ≡ None → (e : OpenFault) → SaysHere e (slot_fault pages units now unit) → SaysHere e (run pages units earlier us)
+  pub says_more : run pages units earlier (take k us) ≡ None → (e : OpenFault) → SaysHere e (slot_fault pages units now unit)
+      → SaysHere e (run pages units earlier us)
   says_more none (Damaged d) fault =
       let found : run pages units earlier (take (k + 1) us) ≡ Some d = run_more none ∙ fault in
       ap (run pages units earlier) (sym (take-append-drop (k + 1) us))
@@ -69,7 +71,8 @@ slots_in-none = refl
 
 -- ---- a part more of a table
 
-module _ (pages units : ℕ) (file : Units) (done n at next : ℕ) (slots : List Slot) (place : at ≡ 2 + done) (is_next : next ≡ done + n) (is : slots ≡ slots_in (take done (drop 2 file))) where
+module _ (pages units : ℕ) (file : Units) (done n at next : ℕ) (slots : List Slot) (place : at ≡ 2 + done) (is_next : next ≡ done + n)
+    (is : slots ≡ slots_in (take done (drop 2 file))) where
   parts : take next (drop 2 file) ≡ take done (drop 2 file) ++ take n (drop at file)
   parts =
       ap (λ (k : ℕ). take k (drop 2 file)) is_next
@@ -89,10 +92,12 @@ module _ (pages units : ℕ) (file : Units) (done n at next : ℕ) (slots : List
       ∙ ap (λ (r : Option Damage). option_or r (run pages units (slots_in (take done (drop 2 file))) (take n (drop at file)))) none
       ∙ ap (λ (ss : List Slot). run pages units ss (take n (drop at file))) (sym is)
 
-  pub sound_part : run pages units [] (take done (drop 2 file)) ≡ None → run pages units slots (take n (drop at file)) ≡ None → run pages units [] (take next (drop 2 file)) ≡ None
+  pub sound_part : run pages units [] (take done (drop 2 file)) ≡ None → run pages units slots (take n (drop at file)) ≡ None
+      → run pages units [] (take next (drop 2 file)) ≡ None
   sound_part none e = part_run none ∙ e
 
-  pub says_part : (total : ℕ) → next ≤ total → run pages units [] (take done (drop 2 file)) ≡ None → (e : OpenFault) → Says e (run pages units slots (take n (drop at file))) → Says e (table_fault pages units (take total (drop 2 file)))
+  pub says_part : (total : ℕ) → next ≤ total → run pages units [] (take done (drop 2 file)) ≡ None → (e : OpenFault)
+      → Says e (run pages units slots (take n (drop at file))) → Says e (table_fault pages units (take total (drop 2 file)))
   says_part total le none (Damaged d) fault =
       let found : run pages units [] (take next (drop 2 file)) ≡ Some d = part_run none ∙ fault in
       let rest = take (total - next) (drop next (drop 2 file)) in

@@ -1,25 +1,27 @@
 -- Slots that are right by themselves and apart are a table without damage.
-use Rattle.std.proofs.Common.{◌≡◌, ℕ, zero, suc, ◌+◌, ◌/◌, ◌^◌, ◌<◌, ◌≤◌, List, [], ◌∷◌, ◌++◌, take, Result, Ok, Err, IfOk, length, Bool, true, false, Option, Some, None, is_some, refl, sym, ap, ◌∙◌, subst, arith, inl, inr}
+use Rattle.std.proofs.Common.{◌≡◌, ℕ, zero, suc, ◌+◌, ◌^◌, ◌<◌, List, [], ◌∷◌, ◌++◌, take, Result, Ok, Err, IfOk, length, Bool, false, Option, Some, None, is_some, refl, sym, ap, ◌∙◌, subst, arith, inl, inr}
 use Rattle.std.proofs.lemmas.Bool.{cases_eq}
 use Rattle.rpm_outside.specs.Files.{Units, unit_at}
 use Rattle.rpm_pkgdb.specs.declared.slot.Slot.{Slot}
 use Rattle.rpm_pkgdb.specs.Slots.{slot_of, slots_in, slot_at, is_used}
 use Rattle.rpm_pkgdb.specs.Damages.{own_reason, table_fault}
 use Rattle.rpm_pkgdb.specs.Maps.{IsPlaced}
-use Rattle.rpm_pkgdb.specs.Sound.{placed}
+use Rattle.rpm_pkgdb.proofs.Sound.{placed}
 use Rattle.rpm_pkgdb.specs.Undamaged.{AreSound}
-use Rattle.rpm_pkgdb.specs.Pairwise.{begins_from, none_from, sound_from, slot_in, count_in, used_below}
-use Rattle.rpm_pkgdb.specs.SoundRuns.{limit_placed}
-use Rattle.rpm_pkgdb.specs.Keys.{AllApart}
-use Rattle.rpm_pkgdb.specs.Tables.{AreOwn}
+use Rattle.rpm_pkgdb.proofs.Pairwise.{begins_from, none_from, sound_from, slot_in, count_in, used_below}
+use Rattle.rpm_pkgdb.proofs.SoundRuns.{limit_placed}
+use Rattle.rpm_pkgdb.specs.inner.Keys.{AllApart}
+use Rattle.rpm_pkgdb.specs.inner.Tables.{AreOwn}
 
-pub own_more : (pages units : ℕ) (us : Units) (k : ℕ) (unit : List ℕ) → AreOwn pages units us k → unit ≡ unit_at us k → own_reason pages units unit ≡ None → AreOwn pages units us (k + 1)
+pub own_more : (pages units : ℕ) (us : Units) (k : ℕ) (unit : List ℕ) → AreOwn pages units us k → unit ≡ unit_at us k → own_reason pages units unit ≡ None
+    → AreOwn pages units us (k + 1)
 own_more pages units us k unit own is none j below = elim (cases_eq j k) [
   | inl here ↦ ap (λ (i : ℕ). own_reason pages units (unit_at us i)) here ∙ ap (own_reason pages units) (sym is) ∙ none
   | inr other ↦ own j (omega arith)
 ]
 
-pub table_sound : (pages units : ℕ) (us : Units) (slots : List Slot) → slots ≡ slots_in us → AreOwn pages units us (length us) → AllApart slots → table_fault pages units us ≡ None
+pub table_sound : (pages units : ℕ) (us : Units) (slots : List Slot) → slots ≡ slots_in us → AreOwn pages units us (length us) → AllApart slots
+    → table_fault pages units us ≡ None
 table_sound pages units us slots is own apart = none_from pages units us (λ k below. begins_from pages units (unit_at us k) (own k below)) (record {
   placed = λ k used.
       let below : k < length us = omega (arith, used_below (slots_in us) k used, count_in us) in
@@ -45,4 +47,8 @@ take_front (suc n) (x ∷ xs) ys e = ap (λ (l : List ℕ). x ∷ l) (take_front
 pub none_limit : (pages units : ℕ) (us : Units) (slots : List Slot) → slots ≡ slots_in us → table_fault pages units us ≡ None → AreSound pages (2 ^ 28) slots
 none_limit pages units us slots is none =
     let s = sound_from pages units us none in
-    subst (AreSound pages (2 ^ 28)) (sym is) (record { placed = λ k used. limit_placed pages units (slot_at (slots_in us) k) (s.placed k used); apart = s.apart })
+    subst (AreSound pages (2 ^ 28)) (sym is) (record {
+      placed = λ k used. limit_placed pages units (slot_at (slots_in us) k) (s.placed k used);
+      apart =
+          s.apart;
+    })

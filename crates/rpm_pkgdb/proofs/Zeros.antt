@@ -3,8 +3,8 @@ use Rattle.std.proofs.Common.{◌≡◌, ℕ, ◌+◌, ◌-◌, ◌*◌, ◌/◌
 use Rattle.std.proofs.lemmas.List.{same_lists, get_or-take, get_or-drop, get_or-replicate, length-take, length-replicate}
 use Rattle.std.proofs.lemmas.Bool.{cases_lt}
 use Rattle.rpm_outside.specs.Files.{Units, units_of, unit_at, put, blank}
-use Rattle.rpm_outside.specs.Cuts.{unit_at-cut_up, length-cut_up}
-use Rattle.rpm_outside.specs.Puts.{put_before, put_inside}
+use Rattle.rpm_outside.specs.inner.Cuts.{unit_at-cut_up, length-cut_up}
+use Rattle.rpm_outside.specs.inner.Puts.{put_before, put_inside}
 
 abbrev pub zeros : ℕ → List ℕ
 zeros n = replicate n 0
@@ -16,11 +16,13 @@ zero_unit m n k inside within =
     let long : length bytes ≡ m = omega (arith, length-take m (zeros n), length-replicate {A = ℕ} n 0) in
     same_lists (take 16 (drop (16 * k) bytes)) (zeros 16) (omega (arith, length-take 16 (drop (16 * k) bytes), length-drop (16 * k) bytes)) (λ i d below.
     let lt : i < 16 = omega (arith, length-take 16 (drop (16 * k) bytes)) in
-    get_or-take 16 (drop (16 * k) bytes) i d lt ∙ get_or-drop (16 * k) bytes i d ∙ get_or-take m (zeros n) (16 * k + i) d (omega arith) ∙ get_or-replicate n (16 * k + i) 0 d (omega arith)
+    get_or-take 16 (drop (16 * k) bytes) i d lt ∙ get_or-drop (16 * k) bytes i d ∙ get_or-take m (zeros n) (16 * k + i) d (omega arith)
+    ∙ get_or-replicate n (16 * k + i) 0 d (omega arith)
     ∙ sym (get_or-replicate 16 i 0 d lt))
 
 -- units of zeros more
-pub zeros_more : (some n at from : ℕ) (old new : Units) → 16 * some ≤ n → new ≡ put at (units_of (take (16 * some) (zeros n))) old → ((i : ℕ) → from ≤ i → i < at → unit_at old i ≡ blank)
+pub zeros_more : (some n at from : ℕ) (old new : Units) → 16 * some ≤ n → new ≡ put at (units_of (take (16 * some) (zeros n))) old
+    → ((i : ℕ) → from ≤ i → i < at → unit_at old i ≡ blank)
     → (i : ℕ) → from ≤ i → i < at + some → unit_at new i ≡ blank
 zeros_more some n at from old new fits is before i low high =
     let bytes = take (16 * some) (zeros n) in

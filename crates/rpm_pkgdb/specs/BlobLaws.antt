@@ -14,7 +14,8 @@ use Rattle.rpm_pkgdb.specs.Slots.{is_used, slot_with}
 use Rattle.rpm_pkgdb.specs.Store.{Store}
 use Rattle.rpm_pkgdb.specs.Blobs.{frame_of, frames, blob_in, entry_of, blobs}
 
-find-entries : (file : Units) (n : ℕ) (slots : List Slot) → finite.find nat_cmp n (map (entry_of file) (filter is_used slots)) ≡ option_map (λ s. option_map blob_in (frame_of n s file)) (slot_with n slots)
+find-entries : (file : Units) (n : ℕ) (slots : List Slot)
+    → finite.find nat_cmp n (map (entry_of file) (filter is_used slots)) ≡ option_map (λ s. option_map blob_in (frame_of n s file)) (slot_with n slots)
 find-entries file n [] = refl
 find-entries file n (s ∷ ss) = elim (cases_Bool (is_used s)) [
   | inr free ↦ rw free (find-entries file n ss)
@@ -30,14 +31,16 @@ find-entries file n (s ∷ ss) = elim (cases_Bool (is_used s)) [
 ]
 
 -- None where no slot has the number, and Some None where the framing is broken
-pub get-blobs : (file : Units) (store : Store) (n : ℕ) → finite.get (blobs file store) n ≡ option_map (λ s. option_map blob_in (frame_of n s file)) (slot_with n store.slots)
+pub get-blobs : (file : Units) (store : Store) (n : ℕ)
+    → finite.get (blobs file store) n ≡ option_map (λ s. option_map blob_in (frame_of n s file)) (slot_with n store.slots)
 unfolding blobs
 get-blobs file store n = finite.get-from_entries nat_cmp_total (map (entry_of file) (filter is_used store.slots)) n ∙ find-entries file n store.slots
 
 pub get-blobs-frames : (file : Units) (store : Store) (n : ℕ) → finite.get (blobs file store) n ≡ option_map (option_map blob_in) (frames file store n)
 get-blobs-frames file store n = get-blobs file store n ∙ twice (slot_with n store.slots)
   where
-    twice : (o : Option Slot) → option_map (λ s. option_map blob_in (frame_of n s file)) o ≡ option_map (option_map blob_in) (option_map (λ s. frame_of n s file) o)
+    twice : (o : Option Slot) → option_map (λ s. option_map blob_in (frame_of n s file)) o
+        ≡ option_map (option_map blob_in) (option_map (λ s. frame_of n s file) o)
     twice None = refl
     twice (Some s) = refl
 

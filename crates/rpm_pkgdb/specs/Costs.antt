@@ -69,7 +69,8 @@ up_to-more n m below s up = grind (arith, nat_tests)
 up_to-itself : (n m : ℕ) → n < m → (s : Slot) → has_number m s ≡ true → (is_up_to m s ≡ true) × (is_up_to n s ≡ false)
 up_to-itself n m below s is = (grind (arith, nat_tests), grind (arith, nat_tests))
 
-to-more : (n m : ℕ) → n < m → (slots : List Slot) → 16 * block_count (filter (is_up_to n) slots) + cost_of (slot_with m slots) ≤ 16 * block_count (filter (is_up_to m) slots)
+to-more : (n m : ℕ) → n < m → (slots : List Slot) → 16 * block_count (filter (is_up_to n) slots) + cost_of (slot_with m slots) ≤ 16 * block_count
+    (filter (is_up_to m) slots)
 to-more n m below [] = omega arith
 to-more n m below (s ∷ ss) = rw (counted (is_up_to n) s ss, counted (is_up_to m) s ss) (elim (cases_Bool (has_number m s)) [
   | inl here ↦ (let t = up_to-itself n m below s here in rw (here, t.0, t.1) (omega (arith, fewer (is_up_to n) (is_up_to m) (up_to-more n m below) ss)))

@@ -69,7 +69,8 @@ shared_reason earlier s =
 
 -- a slot's unit, after these earlier slots
 abbrev pub slot_fault : ℕ → ℕ → List Slot → List ℕ → Option Damage
-slot_fault pages units earlier unit = option_map (damage_at (2 + length earlier)) (option_or (own_reason pages units unit) (shared_reason earlier (slot_of unit)))
+slot_fault pages units earlier unit =
+    option_map (damage_at (2 + length earlier)) (option_or (own_reason pages units unit) (shared_reason earlier (slot_of unit)))
 
 -- the first fault of a list
 abbrev pub first : {X : Type 0} → List (Option X) → Option X

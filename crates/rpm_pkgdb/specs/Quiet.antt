@@ -6,14 +6,18 @@ use Rattle.rpm_outside.specs.Files.{Units, Files, unit_at}
 use Rattle.rpm_pkgdb.specs.Words.{word}
 use Rattle.rpm_pkgdb.specs.Undamaged.{IsSlotUnit}
 use Rattle.rpm_pkgdb.specs.declared.slot.Slot.{Slot}
-use Rattle.rpm_pkgdb.specs.Slots.{slot_at, is_used, free}
+use Rattle.rpm_pkgdb.specs.Slots.{slot_at, is_used, end_of, free}
 use Rattle.rpm_pkgdb.specs.Store.{Store, store, Keeps}
 use Rattle.rpm_pkgdb.specs.Blobs.{blobs}
-use Rattle.rpm_pkgdb.specs.Clear.{SameBlocks}
 
 -- numbers and their blobs, where None is a broken framing
 abbrev pub BlobMap : Type 0
 BlobMap = finite.FinMap nat_cmp (Option (List ℕ))
+
+-- the blocks of these slots that are used have the same bytes
+abbrev pub SameBlocks : List Slot → Units → Units → Type 0
+SameBlocks slots old new =
+    (k i : ℕ) → is_used (slot_at slots k) ≡ true → (slot_at slots k).offset ≤ i → i < end_of (slot_at slots k) → unit_at new i ≡ unit_at old i
 
 -- an image says this store, and has the bytes of a file in the used blocks
 pub record StandsAs (value : Store) (file image : Units) : Type 0 where

@@ -38,7 +38,16 @@ is_blank file = not (list_any is_nonzero (unit_at file 0))
 
 -- the store of so many pages
 abbrev pub made_store : ℕ → Units → Store
-made_store pages file = record { generation = word 2 (unit_at file 0); pages = pages; field = word 0 (unit_at file 1); slots = slots_in (table pages file); spare = 0; is_stopped = false }
+made_store pages file =
+    record {
+      generation = word 2 (unit_at file 0);
+      pages = pages;
+      field = word 0 (unit_at file 1);
+      slots = slots_in (table pages file);
+      spare =
+          0;
+      is_stopped = false;
+    }
 
 abbrev pub unless : {X E : Type 0} → Option E → X → Result X E
 unless None x = Ok x

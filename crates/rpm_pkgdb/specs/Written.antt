@@ -1,17 +1,25 @@
 -- What writing calls leave of a store.
-use Rattle.std.specs.Prelude.{◌≡◌, ◌⊎◌, ℕ, ◌<◌, ◌≤◌, Option, Some, None, Ok, true, replicate}
+use Rattle.std.specs.Prelude.{◌≡◌, ◌⊎◌, ℕ, ◌+◌, ◌<◌, ◌≤◌, List, map, slice_set, if◌then◌else◌, Option, Some, None, Ok, true, replicate}
 use Rattle.std.specs.FinMap as finite
 use Rattle.rpm_outside.specs.Files.{Units, unit_at, blank}
 use Rattle.rpm_pkgdb.specs.declared.slot.Slot.{Slot}
-use Rattle.rpm_pkgdb.specs.Slots.{end_of, free}
+use Rattle.rpm_pkgdb.specs.declared.plan.Plan.{Plan}
+use Rattle.rpm_pkgdb.specs.Slots.{end_of, free, has_number}
 use Rattle.rpm_pkgdb.specs.Store.{Store, store, blank_store}
 use Rattle.rpm_pkgdb.specs.Blobs.{blobs}
-use Rattle.rpm_pkgdb.specs.Places.{freed}
+use Rattle.rpm_pkgdb.specs.Plans.{slot_for}
 use Rattle.rpm_pkgdb.specs.Quiet.{StandsFor}
 
 -- the value after a call of the disk failed
 abbrev pub stopped : Store → Store
 stopped value = record value { is_stopped = true }
+
+-- the slots with this one free
+abbrev pub freed_slot : ℕ → Slot → Slot
+freed_slot n s = if has_number n s then free else s
+
+unfoldable pub freed : ℕ → List Slot → List Slot
+freed n slots = map (freed_slot n) slots
 
 -- the value without the slot of a number
 abbrev pub erased : ℕ → Store → Store
@@ -24,7 +32,8 @@ AreZeros (Some s) file = (i : ℕ) → s.offset ≤ i → i < end_of s → unit_
 
 -- what a stop leaves while a number is erased
 abbrev pub ErasesTo : Store → ℕ → Units → Units → Type 0
-ErasesTo value n file image = StandsFor value.generation value.field (blobs file value) image ⊎ StandsFor value.generation value.field (finite.remove (blobs file value) n) image
+ErasesTo value n file image =
+    StandsFor value.generation value.field (blobs file value) image ⊎ StandsFor value.generation value.field (finite.remove (blobs file value) n) image
 
 -- the value with another generation
 abbrev pub with_generation : ℕ → Store → Store
@@ -32,7 +41,8 @@ with_generation generation value = record value { generation = generation }
 
 -- what a stop leaves while the generation becomes another
 abbrev pub RaisesTo : Store → ℕ → Units → Units → Type 0
-RaisesTo value generation file image = StandsFor value.generation value.field (blobs file value) image ⊎ StandsFor generation value.field (blobs file value) image
+RaisesTo value generation file image =
+    StandsFor value.generation value.field (blobs file value) image ⊎ StandsFor generation value.field (blobs file value) image
 
 -- the value once a database was made
 abbrev pub made_new : Store → Store
@@ -45,3 +55,25 @@ MakesTo image = (store image ≡ Ok blank_store) ⊎ StandsFor 1 1 finite.empty 
 -- the value with room for so many
 abbrev pub with_spare : ℕ → Store → Store
 with_spare spare value = record value { spare = spare }
+
+-- what a plan makes of the number field
+abbrev pub next_field : Plan → Option ℕ
+next_field plan = if plan.is_new then Some (plan.number + 1) else None
+
+abbrev pub field_after : Option ℕ → ℕ → ℕ
+field_after None field = field
+field_after (Some next) field = next
+
+abbrev pub with_next : Option ℕ → Store → Store
+with_next next value = record value { field = field_after next value.field }
+
+-- the value once a blob was put
+abbrev pub with_blob : Plan → Store → Store
+with_blob plan value = record (with_next (next_field plan) value) { slots = slice_set value.slots plan.place (slot_for plan) }
+
+-- what a stop leaves while a blob is put: the blobs from before, with the number field from before or after, or those after, with that after
+abbrev pub PutsTo : Store → Plan → List ℕ → Units → Units → Type 0
+PutsTo value plan blob file image =
+    StandsFor value.generation value.field (blobs file value) image
+    ⊎ (StandsFor value.generation (field_after (next_field plan) value.field) (blobs file value) image
+    ⊎ StandsFor value.generation (field_after (next_field plan) value.field) (finite.insert (blobs file value) plan.number (Some blob)) image)

@@ -3,6 +3,7 @@
 ghost use Rattle.std.specs.Prelude.{◌≡◌, ◌≢◌, ℕ, ◌+◌, ◌-◌, ◌*◌, ◌/◌, ◌%◌, ◌^◌, ◌≤◌, ◌<◌, ◌++◌, IsTrue, true, false, length, take, drop, Err, OnOk, IfOk, IfErr};
 ghost use Rattle.rpm_outside.specs.Files.{Files, Units, units_of, unit_at, bytes_of};
 ghost use Rattle.rpm_outside.specs.Causes.{HasCauseAt};
+ghost use Rattle.rpm_outside.specs.declared.disk.File.TheVariants.{Pkg};
 ghost use Rattle.rpm_outside.specs.Looks.{Looks};
 ghost use Rattle.rpm_pkgdb.specs.Words.{word};
 ghost use Rattle.rpm_pkgdb.specs.Slots.{end_of};
@@ -119,7 +120,7 @@ fn read_rest<D: Disk>(alloc: Global, disk: &mut D, at: u64, count: u32) -> Resul
     ensures long { IfOk result (λ v. length v.items ≡ 16 * count) }
     ensures bytes { IfOk result (λ v. IsTrue D.tells → v.items ≡ bytes_of (take count (drop at (D.files disk.old).pkg))) }
     ensures outside { IfErr result (λ e. IsOutside e) }
-    ensures looks { Looks D.tells D.files D.left_since D.moment D.bytes_read D.follows (16 * count) disk.old disk.new }
+    ensures looks { Looks D.tells D.files D.left_since D.moment D.bytes_read D.follows Pkg (16 * count) disk.old disk.new }
     ensures cause { HasCauseAt (result ≡ Err GetFault.DiskFault) (D.faults disk.old) (D.faults disk.new) }
 {
     let Ok(mut rest) = (vec![in alloc; 0u8; 16 * count as usize]) else {
@@ -146,7 +147,7 @@ pub fn read_blocks<D: Disk>(
     ensures long { IfOk result (λ b. 12 ≤ length b.rest.items) }
     ensures told { IsTrue D.tells → IsFrame (frame_of n slot (D.files disk.old).pkg) result }
     ensures present { result ≢ Err GetFault.NoSuch }
-    ensures looks { Looks D.tells D.files D.left_since D.moment D.bytes_read D.follows (16 * slot.count) disk.old disk.new }
+    ensures looks { Looks D.tells D.files D.left_since D.moment D.bytes_read D.follows Pkg (16 * slot.count) disk.old disk.new }
     ensures cause { HasCauseAt (result ≡ Err GetFault.DiskFault) (D.faults disk.old) (D.faults disk.new) }
 {
     if slot.count == 0 {

@@ -1,10 +1,11 @@
 //! Blocks that are copied within the file.
 
 ghost use Rattle.std.specs.Prelude.{◌≡◌, ℕ, ◌+◌, ◌*◌, ◌^◌, ◌≤◌, ◌<◌, ◌⊎◌, IsTrue, length, OnOk};
+ghost use Rattle.rpm_outside.specs.declared.disk.File.TheVariants.{Pkg};
 ghost use Rattle.rpm_outside.specs.Files.{Files, unit_at};
 ghost use Rattle.rpm_outside.specs.Causes.{HasCause};
-ghost use Rattle.rpm_pkgdb.specs.Copies.{Copies};
-ghost use Rattle.rpm_pkgdb.specs.Clear.{SameOutside};
+ghost use Rattle.rpm_outside.specs.Changes.{Changes};
+ghost use Rattle.rpm_pkgdb.specs.inner.Clear.{SameOutside};
 
 use crate::reading::read_units;
 use crate::writing::write_units;
@@ -18,7 +19,7 @@ pub fn copy_blocks<D: Disk>(disk: &mut D, from: u32, to: u32, count: u32) -> Res
     requires within { IsTrue D.tells → from + count ≤ length (D.files disk.old).pkg }
     ensures copied { OnOk result (IsTrue D.tells → (i : ℕ) → i < count → unit_at (D.files disk.new).pkg (to + i) ≡ unit_at (D.files disk.old).pkg (from + i)) }
     ensures long { OnOk result (IsTrue D.tells → 0 < count → to + count ≤ length (D.files disk.new).pkg) }
-    ensures copies { Copies D.tells D.files D.left_since D.moment D.bytes_read D.follows (SameOutside to count) (16 * count) disk.old disk.new }
+    ensures copies { Changes D.tells D.files D.left_since D.moment D.bytes_read D.follows Pkg (SameOutside to count) (16 * count) disk.old disk.new }
     ensures cause { HasCause (D.faults disk.old) (D.faults disk.new) result }
 {
     let mut page = [0u8; 4096];

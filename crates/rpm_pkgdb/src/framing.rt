@@ -1,13 +1,14 @@
 //! The blocks of a blob that is written.
 
 ghost use Rattle.std.specs.Prelude.{◌≡◌, ℕ, ◌+◌, ◌-◌, ◌*◌, ◌/◌, ◌%◌, ◌^◌, ◌≤◌, ◌<◌, ◌++◌, IsTrue, length, take, drop, replicate, OnOk};
+ghost use Rattle.rpm_outside.specs.declared.disk.File.TheVariants.{Pkg};
 ghost use Rattle.rpm_outside.specs.Files.{Files, units_of, put};
 ghost use Rattle.rpm_outside.specs.Causes.{HasCause};
 ghost use Rattle.rpm_pkgdb.specs.Blobs.{blocks_for};
 ghost use Rattle.rpm_pkgdb.specs.Checksums.{adler};
 ghost use Rattle.rpm_pkgdb.specs.Framing.{head_of, tail_of, padding, summed, framed};
-ghost use Rattle.rpm_pkgdb.specs.Changes.{Changes};
-ghost use Rattle.rpm_pkgdb.specs.Clear.{SameOutside};
+ghost use Rattle.rpm_outside.specs.Changes.{Changes};
+ghost use Rattle.rpm_pkgdb.specs.inner.Clear.{SameOutside};
 
 use crate::blob::sums;
 use crate::units::{blob_head, blob_tail};
@@ -39,7 +40,8 @@ fn last_bytes(rest: &[u8], tail: &[u8; 12], end: usize) -> [u8; 32]
 /// What follows the last whole unit of a blob: its last bytes, zeros and the tail, in one unit or two; and how many bytes they are.
 fn last_units(head: &[u8; 16], blob: &[u8]) -> ([u8; 32], usize)
     requires { length blob.now ≤ 68157432 }
-    ensures bytes { take result.1 result.0 ≡ (drop (16 * (length blob.now / 16)) blob.now ++ padding (length blob.now)) ++ tail_of (adler (head.now ++ (blob.now ++ padding (length blob.now)))) (length blob.now) }
+    ensures bytes { take result.1 result.0 ≡ (drop (16 * (length blob.now / 16)) blob.now ++ padding (length blob.now))
+        ++ tail_of (adler (head.now ++ (blob.now ++ padding (length blob.now)))) (length blob.now) }
     ensures end { result.1 ≡ 16 * (blocks_for (length blob.now) - 1 - length blob.now / 16) }
     ensures some { 16 ≤ result.1 }
     ensures room { result.1 ≤ 32 }
@@ -58,7 +60,7 @@ fn write_some<D: Disk>(disk: &mut D, at: u64, bytes: &[u8]) -> Result<(), Failed
     requires room { at + length bytes.now / 16 ≤ 2 ^ 28 }
     requires inside { IsTrue D.tells → at ≤ length (D.files disk.old).pkg }
     ensures written { OnOk result (IsTrue D.tells → (D.files disk.new).pkg ≡ put at (units_of bytes.now) (D.files disk.old).pkg) }
-    ensures changes { Changes D.tells D.files D.left_since D.moment D.bytes_read D.follows (SameOutside at (length bytes.now / 16)) disk.old disk.new }
+    ensures changes { Changes D.tells D.files D.left_since D.moment D.bytes_read D.follows Pkg (SameOutside at (length bytes.now / 16)) 0 disk.old disk.new }
     ensures cause { HasCause (D.faults disk.old) (D.faults disk.new) result }
 {
     if bytes.is_empty() {
@@ -78,7 +80,8 @@ pub fn write_blob<D: Disk>(
     requires few { length blob.now ≤ 68157432 }
     requires room { start + blocks_for (length blob.now) ≤ 2 ^ 28 }
     ensures written { OnOk result (IsTrue D.tells → (D.files disk.new).pkg ≡ put start (units_of (framed number generation blob.now)) (D.files disk.old).pkg) }
-    ensures changes { Changes D.tells D.files D.left_since D.moment D.bytes_read D.follows (SameOutside start (blocks_for (length blob.now))) disk.old disk.new }
+    ensures changes { Changes D.tells D.files D.left_since D.moment D.bytes_read D.follows Pkg (SameOutside start (blocks_for (length blob.now))) 0
+        disk.old disk.new }
     ensures cause { HasCause (D.faults disk.old) (D.faults disk.new) result }
 {
     let head = blob_head(number, generation, blob.len() as u32);

@@ -2,14 +2,15 @@
 
 ghost use Rattle.std.specs.Prelude.{◌≡◌, ◌+◌, ◌≤◌, IsTrue, false, vec_len, vec_capacity, ◌++◌, replicate, OnOk, OnErr};
 ghost use Rattle.std.specs.FinMap as finite;
+ghost use Rattle.rpm_outside.specs.declared.disk.File.TheVariants.{Pkg};
 ghost use Rattle.rpm_outside.specs.Files.{Files};
 ghost use Rattle.rpm_outside.specs.Causes.{HasCause};
 ghost use Rattle.rpm_outside.specs.Crash.{LeavesOnly};
 ghost use Rattle.rpm_pkgdb.specs.Slots.{free};
 ghost use Rattle.rpm_pkgdb.specs.Store.{Store, Keeps, is_blank};
 ghost use Rattle.rpm_pkgdb.specs.Blobs.{blobs};
-ghost use Rattle.rpm_pkgdb.specs.Changes.{Changes, Stops, IsSettled};
-ghost use Rattle.rpm_pkgdb.specs.Clear.{SameOutside};
+ghost use Rattle.rpm_outside.specs.Changes.{Changes, Stops, IsSettled};
+ghost use Rattle.rpm_pkgdb.specs.inner.Clear.{SameOutside};
 ghost use Rattle.rpm_pkgdb.specs.Quiet.{IsQuiet, Anything, IsFirstPage};
 ghost use Rattle.rpm_pkgdb.specs.Written.{stopped, made_new, MakesTo};
 
@@ -24,8 +25,8 @@ use rpm_outside::{Disk, Failed};
 /// Writes the next number 1 and free slots, and settles them.
 fn write_first_page<D: Disk>(disk: &mut D) -> Result<(), Failed>
     ensures page { OnOk result (IsTrue D.tells → IsFirstPage (D.files disk.new).pkg) }
-    ensures settled { OnOk result (IsTrue D.tells → IsSettled (D.files disk.new) (D.left_since disk.new (D.moment disk.new))) }
-    ensures changes { Changes D.tells D.files D.left_since D.moment D.bytes_read D.follows (SameOutside 1 255) disk.old disk.new }
+    ensures settled { OnOk result (IsTrue D.tells → IsSettled Pkg (D.files disk.new) (D.left_since disk.new (D.moment disk.new))) }
+    ensures changes { Changes D.tells D.files D.left_since D.moment D.bytes_read D.follows Pkg (SameOutside 1 255) 0 disk.old disk.new }
     ensures cause { HasCause (D.faults disk.old) (D.faults disk.new) result }
 {
     write_units(disk, 1, &unit_of(1, 0, 0, 0))?;
@@ -37,8 +38,9 @@ fn write_first_page<D: Disk>(disk: &mut D) -> Result<(), Failed>
 fn write_new<D: Disk>(disk: &mut D) -> Result<(), Failed>
     ensures keeps { OnOk result (IsTrue D.tells → (value : Store) → Keeps (D.files disk.new).pkg (made_new value)) }
     ensures quiet { OnOk result (IsTrue D.tells → (value : Store) → IsQuiet (made_new value) (D.files disk.new) (D.left_since disk.new (D.moment disk.new))) }
-    ensures images { IsTrue D.tells → (value : Store) → value.pages ≡ 0 → IsQuiet value (D.files disk.old) (D.left_since disk.old (D.moment disk.old)) → LeavesOnly D.moment D.left_since disk.old disk.new (Stops MakesTo (D.left_since disk.old (D.moment disk.old))) }
-    ensures changes { Changes D.tells D.files D.left_since D.moment D.bytes_read D.follows Anything disk.old disk.new }
+    ensures images { IsTrue D.tells → (value : Store) → value.pages ≡ 0 → IsQuiet value (D.files disk.old) (D.left_since disk.old (D.moment disk.old))
+        → LeavesOnly D.moment D.left_since disk.old disk.new (Stops Pkg MakesTo (D.left_since disk.old (D.moment disk.old))) }
+    ensures changes { Changes D.tells D.files D.left_since D.moment D.bytes_read D.follows Pkg Anything 0 disk.old disk.new }
     ensures cause { HasCause (D.faults disk.old) (D.faults disk.new) result }
 {
     write_first_page(disk)?;
@@ -76,9 +78,10 @@ impl PkgDb {
         ensures err { OnErr result (self.new ≡ stopped self.old) }
         ensures kept { OnOk result (IsTrue D.tells → Keeps (D.files disk.new).pkg self.new) }
         ensures blobs { OnOk result (IsTrue D.tells → blobs (D.files disk.new).pkg self.new ≡ finite.empty) }
-        ensures images { IsTrue D.tells → IsQuiet self.old (D.files disk.old) (D.left_since disk.old (D.moment disk.old)) → LeavesOnly D.moment D.left_since disk.old disk.new (Stops MakesTo (D.left_since disk.old (D.moment disk.old))) }
+        ensures images { IsTrue D.tells → IsQuiet self.old (D.files disk.old) (D.left_since disk.old (D.moment disk.old)) → LeavesOnly D.moment
+            D.left_since disk.old disk.new (Stops Pkg MakesTo (D.left_since disk.old (D.moment disk.old))) }
         ensures quiet { OnOk result (IsTrue D.tells → IsQuiet self.new (D.files disk.new) (D.left_since disk.new (D.moment disk.new))) }
-        ensures changes { Changes D.tells D.files D.left_since D.moment D.bytes_read D.follows Anything disk.old disk.new }
+        ensures changes { Changes D.tells D.files D.left_since D.moment D.bytes_read D.follows Pkg Anything 0 disk.old disk.new }
         ensures cause { HasCause (D.faults disk.old) (D.faults disk.new) result }
     {
         let Ok(()) = write_new(disk) else {

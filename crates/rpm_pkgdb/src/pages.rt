@@ -1,11 +1,12 @@
 //! Pages of free slots.
 
 ghost use Rattle.std.specs.Prelude.{◌≡◌, ℕ, ◌+◌, ◌*◌, ◌^◌, ◌≤◌, ◌<◌, IsTrue, length, OnOk};
+ghost use Rattle.rpm_outside.specs.declared.disk.File.TheVariants.{Pkg};
 ghost use Rattle.rpm_outside.specs.Files.{Files, units_of, unit_at};
 ghost use Rattle.rpm_outside.specs.Causes.{HasCause};
 ghost use Rattle.rpm_pkgdb.specs.Slots.{free};
-ghost use Rattle.rpm_pkgdb.specs.Changes.{Changes};
-ghost use Rattle.rpm_pkgdb.specs.Clear.{SameOutside};
+ghost use Rattle.rpm_outside.specs.Changes.{Changes};
+ghost use Rattle.rpm_pkgdb.specs.inner.Clear.{SameOutside};
 ghost use Rattle.rpm_pkgdb.specs.Undamaged.{IsSlotUnit};
 
 use crate::erasing::FREE;
@@ -30,7 +31,7 @@ pub fn write_free_slots<D: Disk>(disk: &mut D, at: u32, count: u32) -> Result<()
     requires room { at + count ≤ 2 ^ 28 }
     ensures slots { OnOk result (IsTrue D.tells → (i : ℕ) → at ≤ i → i < at + count → IsSlotUnit (unit_at (D.files disk.new).pkg i) free) }
     ensures long { OnOk result (IsTrue D.tells → at + count ≤ length (D.files disk.new).pkg) }
-    ensures changes { Changes D.tells D.files D.left_since D.moment D.bytes_read D.follows (SameOutside at count) disk.old disk.new }
+    ensures changes { Changes D.tells D.files D.left_since D.moment D.bytes_read D.follows Pkg (SameOutside at count) 0 disk.old disk.new }
     ensures cause { HasCause (D.faults disk.old) (D.faults disk.new) result }
 {
     let units = [slot_unit(FREE); 256];

@@ -1,20 +1,16 @@
 //! Where a blob is to go, decided before anything is written.
 
-ghost use Rattle.std.specs.Prelude.{◌≡◌, ◌≢◌, ◌↔◌, ℕ, ◌+◌, ◌*◌, ◌^◌, ◌≤◌, ◌<◌, true, false, None, Err, length, MatchOption, IfSome, IsSome, OnOk, IfOk};
-ghost use Rattle.rpm_blocks.specs.Blocks.{IsFree, with_range, block_limit};
-ghost use Rattle.rpm_pkgdb.specs.Slots.{is_used, end_of, slot_at, slot_with, has_number};
+ghost use Rattle.std.specs.Prelude.{◌≡◌, ◌≢◌, ◌↔◌, ℕ, ◌+◌, ◌*◌, ◌^◌, ◌≤◌, ◌<◌, true, false, None, Err, length, MatchOption, IfSome, IsSome, OnOk, OnErr, IfOk};
+ghost use Rattle.rpm_pkgdb.specs.Slots.{slot_at, slot_with, has_number};
 ghost use Rattle.rpm_pkgdb.specs.Maps.{IsPackageNumber};
 ghost use Rattle.rpm_pkgdb.specs.Store.{next_number};
-ghost use Rattle.rpm_pkgdb.specs.Written.{with_spare};
-ghost use Rattle.rpm_pkgdb.specs.Puts.{next_field, field_after};
+ghost use Rattle.rpm_pkgdb.specs.Written.{with_spare, next_field, field_after};
 ghost use Rattle.rpm_pkgdb.specs.Plans.{slot_for, IsFirstFree, AreAllUsed, IsLeast, FitsNowhere, IsPlan, IsFor};
 ghost use Rattle.rpm_pkgdb.specs.Blobs.{blocks_for};
-ghost use Rattle.rpm_pkgdb.specs.Ranges.{range_of, AreRangesOf};
-ghost use Rattle.rpm_pkgdb.specs.Undamaged.{AreSound};
 
 use crate::slot::Slot;
 use crate::store::PkgDb;
-use rpm_blocks::Used;
+use crate::used::make_room;
 use std::alloc::{AllocError, Global};
 
 /// Where a blob of a length is to go.
@@ -36,7 +32,7 @@ pub struct Plan {
 pub enum PlanFault {
     /// The next number is 4294967295, which no package can have.
     NumbersSpent,
-    /// No slot is free.
+    /// No slot is free. Adding a slot page isn't built yet.
     NoSlot,
     /// The blob fits nowhere below 4 GiB.
     StoreFull,
@@ -57,48 +53,19 @@ pub fn first_free(slots: &[Slot]) -> Option<u32>
     None
 }
 
-/// Adds the blocks of a slot, if it is used.
-fn add_range(used: &mut Used, slot: Slot) -> Result<(), AllocError>
-    requires some { is_used slot ≡ true → 1 ≤ slot.count }
-    requires ends { is_used slot ≡ true → end_of slot ≤ block_limit }
-    requires free { is_used slot ≡ true → IsFree used.old.ranges (range_of slot) }
-    ensures unused { OnOk result (is_used slot ≡ false → used.new.ranges ≡ used.old.ranges) }
-    ensures added { OnOk result (is_used slot ≡ true → used.new.ranges ≡ with_range (range_of slot) used.old.ranges) }
-{
-    if slot.offset == 0 {
-        return Ok(());
-    }
-    used.reserve(1)?;
-    used.insert(slot.offset, slot.count);
-    Ok(())
-}
-
-/// The used ranges of slots that are apart.
-pub fn gather(alloc: Global, slots: &[Slot]) -> Result<Used, AllocError>
-    requires { (pages : ℕ) × AreSound pages (2 ^ 28) slots.now }
-    ensures { IfOk result (λ used. AreRangesOf used.ranges slots.now) }
-{
-    let mut used = Used::new(alloc);
-    for k in 0..slots.len() {
-        add_range(&mut used, slots[k])?;
-    }
-    Ok(used)
-}
-
 impl PkgDb {
     /// Gathers the used ranges, where that wasn't done yet, and makes room for one put.
     fn prepare(&mut self, alloc: Global) -> Result<(), AllocError>
         ensures same { self.new ≡ with_spare self.new.spare self.old }
         ensures kept { self.old.spare ≤ self.new.spare }
         ensures room { OnOk result (1 ≤ self.new.spare) }
+        ensures err { OnErr result (self.new ≡ self.old) }
     {
         if self.spare >= 1 {
             return Ok(());
         }
-        let mut used = gather(alloc, &self.slots)?;
-        used.reserve(1)?;
+        make_room(alloc, &mut self.used, &self.slots)?;
         self.numbers.reserve(1)?;
-        self.used = Some(used);
         self.spare = 1;
         Ok(())
     }
@@ -143,14 +110,18 @@ impl PkgDb {
     /// Decides where a blob of a length goes, under a number that is there or, for `None`, under a new one; and makes the room for it.
     ///
     /// The blob goes to the least free blocks behind the slot pages, a new number to the first free slot. Nothing is read and nothing
-    /// written. The first plan of a value gathers the used ranges, which takes 24 bytes for each; a later one takes a few steps.
+    /// written. The first plan of a value gathers the used ranges, n log n in the slots, and takes 32 bytes for each; a later one takes
+    /// two binary searches, a step for each gap that is too narrow, and for a new number a step for each slot before the first free one.
+    ///
+    /// No slot page is added yet: a store of which no slot is free takes no new number, however many blocks are free. A number that is
+    /// there can still be replaced.
     ///
     /// # Errors
     ///
     /// - `NumbersSpent` exactly where a new number is asked for and the next one is 4294967295.
-    /// - `NoSlot` exactly where a new number is asked for, there is one, and no slot is free.
-    /// - `StoreFull` exactly where the blob fits nowhere below 4 GiB, and there was memory.
-    /// - `NoMemory` where the room finds no memory.
+    /// - `NoSlot` exactly where a new number is asked for, there is one, and no slot is free: not built yet.
+    /// - `StoreFull` exactly where none of these comes, the blob fits nowhere below 4 GiB, and there was memory.
+    /// - `NoMemory` where the room finds no memory. The value is as it was then.
     pub fn plan(&mut self, alloc: Global, n: Option<u32>, length: u32) -> Result<Plan, PlanFault>
         requires made { 1 ≤ self.old.pages }
         requires held { IfSome n (λ m. IsSome (slot_with m self.old.slots)) }
@@ -158,6 +129,7 @@ impl PkgDb {
         ensures same { self.new ≡ with_spare self.new.spare self.old }
         ensures kept { self.old.spare ≤ self.new.spare }
         ensures room { OnOk result (1 ≤ self.new.spare) }
+        ensures no_memory { result ≡ Err PlanFault.NoMemory → self.new ≡ self.old }
         ensures plan { IfOk result (λ plan. IsPlan self.new plan) }
         ensures asked { IfOk result (λ plan. IsFor n length plan) }
         ensures spent { (result ≡ Err PlanFault.NumbersSpent) ↔ ((n ≡ None) × (next_number self.old ≡ 4294967295)) }

@@ -2,6 +2,7 @@
 
 ghost use Rattle.std.specs.Prelude.{◌≡◌, ℕ, ◌+◌, ◌^◌, ◌<◌, ◌≤◌, IsTrue, true, false, length, take, drop, Some, IsSome, OnOk, OnErr, IfOk};
 ghost use Rattle.std.specs.FinMap as finite;
+ghost use Rattle.rpm_outside.specs.declared.disk.File.TheVariants.{Pkg};
 ghost use Rattle.rpm_outside.specs.Files.{Files, units_of};
 ghost use Rattle.rpm_outside.specs.Causes.{HasCause};
 ghost use Rattle.rpm_outside.specs.Crash.{LeavesOnly};
@@ -9,13 +10,12 @@ ghost use Rattle.rpm_pkgdb.specs.Slots.{slot_with, slot_at, free, end_of};
 ghost use Rattle.rpm_pkgdb.specs.Store.{Keeps};
 ghost use Rattle.rpm_pkgdb.specs.Blobs.{blobs, blocks_for};
 ghost use Rattle.rpm_pkgdb.specs.Framing.{framed};
-ghost use Rattle.rpm_pkgdb.specs.Changes.{Changes, Stops};
+ghost use Rattle.rpm_outside.specs.Changes.{Changes, Stops};
 ghost use Rattle.rpm_pkgdb.specs.Quiet.{IsQuiet, Anything};
 ghost use Rattle.rpm_pkgdb.specs.Maps.{Adds};
 ghost use Rattle.rpm_pkgdb.specs.Pairs.{find_in};
 ghost use Rattle.rpm_pkgdb.specs.Plans.{IsPlan};
-ghost use Rattle.rpm_pkgdb.specs.Puts.{with_blob, PutsTo};
-ghost use Rattle.rpm_pkgdb.specs.Written.{stopped, with_spare, AreZeros};
+ghost use Rattle.rpm_pkgdb.specs.Written.{with_blob, PutsTo, stopped, with_spare, AreZeros};
 
 use crate::erasing::FREE;
 use crate::numbers::Numbers;
@@ -99,12 +99,15 @@ impl PkgDb {
         ensures spare { OnOk result (self.old.spare ≡ self.new.spare + 1) }
         ensures err { OnErr result (self.new ≡ stopped self.old) }
         ensures kept { OnOk result (IsTrue D.tells → Keeps (D.files disk.new).pkg self.new) }
-        ensures blobs { OnOk result (IsTrue D.tells → blobs (D.files disk.new).pkg self.new ≡ finite.insert (blobs (D.files disk.old).pkg self.old) plan.number (Some blob.now)) }
-        ensures framed { OnOk result (IsTrue D.tells → take (blocks_for (length blob.now)) (drop plan.start (D.files disk.new).pkg) ≡ units_of (framed plan.number self.old.generation blob.now)) }
+        ensures blobs { OnOk result (IsTrue D.tells → blobs (D.files disk.new).pkg self.new ≡ finite.insert (blobs (D.files disk.old).pkg self.old)
+            plan.number (Some blob.now)) }
+        ensures framed { OnOk result (IsTrue D.tells → take (blocks_for (length blob.now)) (drop plan.start (D.files disk.new).pkg)
+            ≡ units_of (framed plan.number self.old.generation blob.now)) }
         ensures zeros { OnOk result (IsTrue D.tells → AreZeros (slot_with plan.number self.old.slots) (D.files disk.new).pkg) }
-        ensures images { IsTrue D.tells → IsQuiet self.old (D.files disk.old) (D.left_since disk.old (D.moment disk.old)) → LeavesOnly D.moment D.left_since disk.old disk.new (Stops (PutsTo self.old plan blob.now (D.files disk.old).pkg) (D.left_since disk.old (D.moment disk.old))) }
+        ensures images { IsTrue D.tells → IsQuiet self.old (D.files disk.old) (D.left_since disk.old (D.moment disk.old)) → LeavesOnly D.moment
+            D.left_since disk.old disk.new (Stops Pkg (PutsTo self.old plan blob.now (D.files disk.old).pkg) (D.left_since disk.old (D.moment disk.old))) }
         ensures quiet { OnOk result (IsTrue D.tells → IsQuiet self.new (D.files disk.new) (D.left_since disk.new (D.moment disk.new))) }
-        ensures changes { Changes D.tells D.files D.left_since D.moment D.bytes_read D.follows Anything disk.old disk.new }
+        ensures changes { Changes D.tells D.files D.left_since D.moment D.bytes_read D.follows Pkg Anything 0 disk.old disk.new }
         ensures cause { HasCause (D.faults disk.old) (D.faults disk.new) result }
     {
         let old = self.replaced(&plan);

@@ -1,6 +1,7 @@
 //! A blob that is put: written beside the others, named by a slot, and then what it replaces becomes zeros.
 
 ghost use Rattle.std.specs.Prelude.{◌≡◌, ℕ, ◌+◌, ◌^◌, ◌≤◌, ◌<◌, IsTrue, length, Some, OnOk};
+ghost use Rattle.rpm_outside.specs.declared.disk.File.TheVariants.{Pkg};
 ghost use Rattle.rpm_outside.specs.Files.{Files, Units, units_of, unit_at, blank};
 ghost use Rattle.rpm_outside.specs.Causes.{HasCause};
 ghost use Rattle.rpm_outside.specs.Crash.{LeavesOnly};
@@ -8,10 +9,11 @@ ghost use Rattle.rpm_pkgdb.specs.Slots.{end_of};
 ghost use Rattle.rpm_pkgdb.specs.Store.{Store, Keeps};
 ghost use Rattle.rpm_pkgdb.specs.Blobs.{blocks_for};
 ghost use Rattle.rpm_pkgdb.specs.Framing.{framed};
-ghost use Rattle.rpm_pkgdb.specs.Changes.{Changes, Stops, IsSettled};
+ghost use Rattle.rpm_outside.specs.Changes.{Changes, Stops, IsSettled};
 ghost use Rattle.rpm_pkgdb.specs.Quiet.{IsQuiet, Anything};
 ghost use Rattle.rpm_pkgdb.specs.Plans.{slot_for};
-ghost use Rattle.rpm_pkgdb.specs.Puts.{FieldPut, FieldTorn, BlobTorn, BlobPut, next_field, with_blob, CanPut, StandsWith, WhilePut};
+ghost use Rattle.rpm_pkgdb.specs.inner.Puts.{FieldPut, FieldTorn, BlobTorn, BlobPut, CanPut, StandsWith, WhilePut};
+ghost use Rattle.rpm_pkgdb.specs.Written.{next_field, with_blob};
 
 use crate::framing::write_blob;
 use crate::plan::Plan;
@@ -23,7 +25,7 @@ use rpm_outside::{Disk, Failed};
 /// Writes the number field, or nothing.
 fn write_field<D: Disk>(disk: &mut D, next: Option<u32>) -> Result<(), Failed>
     ensures written { OnOk result (IsTrue D.tells → FieldPut next (D.files disk.old).pkg (D.files disk.new).pkg) }
-    ensures changes { Changes D.tells D.files D.left_since D.moment D.bytes_read D.follows (FieldTorn next) disk.old disk.new }
+    ensures changes { Changes D.tells D.files D.left_since D.moment D.bytes_read D.follows Pkg (FieldTorn next) 0 disk.old disk.new }
     ensures cause { HasCause (D.faults disk.old) (D.faults disk.new) result }
 {
     match next {
@@ -42,9 +44,11 @@ fn write_first<D: Disk>(
     requires few { length blob.now ≤ 68157432 }
     requires room { plan.now.start + blocks_for (length blob.now) ≤ 2 ^ 28 }
     requires number { plan.now.number < 4294967295 }
-    ensures written { OnOk result (IsTrue D.tells → BlobPut plan.now.start (units_of (framed plan.now.number generation blob.now)) (next_field plan.now) (D.files disk.old).pkg (D.files disk.new).pkg) }
-    ensures settled { OnOk result (IsTrue D.tells → IsSettled (D.files disk.new) (D.left_since disk.new (D.moment disk.new))) }
-    ensures changes { Changes D.tells D.files D.left_since D.moment D.bytes_read D.follows (BlobTorn plan.now.start (blocks_for (length blob.now)) (next_field plan.now)) disk.old disk.new }
+    ensures written { OnOk result (IsTrue D.tells → BlobPut plan.now.start (units_of (framed plan.now.number generation blob.now))
+        (next_field plan.now) (D.files disk.old).pkg (D.files disk.new).pkg) }
+    ensures settled { OnOk result (IsTrue D.tells → IsSettled Pkg (D.files disk.new) (D.left_since disk.new (D.moment disk.new))) }
+    ensures changes { Changes D.tells D.files D.left_since D.moment D.bytes_read D.follows Pkg (BlobTorn plan.now.start (blocks_for (length blob.now))
+        (next_field plan.now)) 0 disk.old disk.new }
     ensures cause { HasCause (D.faults disk.old) (D.faults disk.new) result }
 {
     write_blob(disk, plan.start, plan.number, generation, blob)?;
@@ -66,11 +70,15 @@ pub fn put_blob<D: Disk>(
     requires number { plan.now.number < 4294967295 }
     requires place { plan.now.place + 3 ≤ 2 ^ 28 }
     requires end { end_of old ≤ 2 ^ 28 }
-    ensures stands { OnOk result (IsTrue D.tells → (value : Store) → CanPut value plan.now generation old blob.now → Keeps (D.files disk.old).pkg value → StandsWith value plan.now generation blob.now (D.files disk.old).pkg (D.files disk.new).pkg) }
+    ensures stands { OnOk result (IsTrue D.tells → (value : Store) → CanPut value plan.now generation old blob.now → Keeps (D.files disk.old).pkg
+        value → StandsWith value plan.now generation blob.now (D.files disk.old).pkg (D.files disk.new).pkg) }
     ensures zeros { OnOk result (IsTrue D.tells → (i : ℕ) → old.offset ≤ i → i < end_of old → unit_at (D.files disk.new).pkg i ≡ blank) }
-    ensures images { IsTrue D.tells → (value : Store) → CanPut value plan.now generation old blob.now → IsQuiet value (D.files disk.old) (D.left_since disk.old (D.moment disk.old)) → LeavesOnly D.moment D.left_since disk.old disk.new (Stops (WhilePut value plan.now generation blob.now (D.files disk.old).pkg) (D.left_since disk.old (D.moment disk.old))) }
-    ensures quiet { OnOk result (IsTrue D.tells → (value : Store) → CanPut value plan.now generation old blob.now → Keeps (D.files disk.old).pkg value → IsQuiet (with_blob plan.now value) (D.files disk.new) (D.left_since disk.new (D.moment disk.new))) }
-    ensures changes { Changes D.tells D.files D.left_since D.moment D.bytes_read D.follows Anything disk.old disk.new }
+    ensures images { IsTrue D.tells → (value : Store) → CanPut value plan.now generation old blob.now → IsQuiet value (D.files disk.old)
+        (D.left_since disk.old (D.moment disk.old)) → LeavesOnly D.moment D.left_since disk.old disk.new
+        (Stops Pkg (WhilePut value plan.now generation blob.now (D.files disk.old).pkg) (D.left_since disk.old (D.moment disk.old))) }
+    ensures quiet { OnOk result (IsTrue D.tells → (value : Store) → CanPut value plan.now generation old blob.now → Keeps (D.files disk.old).pkg value
+        → IsQuiet (with_blob plan.now value) (D.files disk.new) (D.left_since disk.new (D.moment disk.new))) }
+    ensures changes { Changes D.tells D.files D.left_since D.moment D.bytes_read D.follows Pkg Anything 0 disk.old disk.new }
     ensures cause { HasCause (D.faults disk.old) (D.faults disk.new) result }
 {
     write_first(disk, plan, generation, blob)?;

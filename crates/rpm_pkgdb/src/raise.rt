@@ -1,12 +1,13 @@
 //! The generation, one higher.
 
 ghost use Rattle.std.specs.Prelude.{◌≡◌, ◌+◌, ◌<◌, ◌≤◌, IsTrue, false, OnOk, OnErr};
+ghost use Rattle.rpm_outside.specs.declared.disk.File.TheVariants.{Pkg};
 ghost use Rattle.rpm_outside.specs.Files.{Files};
 ghost use Rattle.rpm_outside.specs.Causes.{HasCause};
 ghost use Rattle.rpm_outside.specs.Crash.{LeavesOnly, Torn};
 ghost use Rattle.rpm_pkgdb.specs.Store.{Keeps};
 ghost use Rattle.rpm_pkgdb.specs.Blobs.{blobs};
-ghost use Rattle.rpm_pkgdb.specs.Changes.{Changes, Stops};
+ghost use Rattle.rpm_outside.specs.Changes.{Changes, Stops};
 ghost use Rattle.rpm_pkgdb.specs.Quiet.{IsQuiet, Anything};
 ghost use Rattle.rpm_pkgdb.specs.Written.{stopped, with_generation, RaisesTo};
 
@@ -33,9 +34,11 @@ impl PkgDb {
         ensures err { OnErr result (self.new ≡ stopped self.old) }
         ensures kept { OnOk result (IsTrue D.tells → Keeps (D.files disk.new).pkg self.new) }
         ensures blobs { OnOk result (IsTrue D.tells → blobs (D.files disk.new).pkg self.new ≡ blobs (D.files disk.old).pkg self.old) }
-        ensures images { IsTrue D.tells → IsQuiet self.old (D.files disk.old) (D.left_since disk.old (D.moment disk.old)) → LeavesOnly D.moment D.left_since disk.old disk.new (Stops (RaisesTo self.old (self.old.generation + 1) (D.files disk.old).pkg) (D.left_since disk.old (D.moment disk.old))) }
+        ensures images { IsTrue D.tells → IsQuiet self.old (D.files disk.old) (D.left_since disk.old (D.moment disk.old)) → LeavesOnly D.moment
+            D.left_since disk.old disk.new (Stops Pkg (RaisesTo self.old (self.old.generation + 1) (D.files disk.old).pkg)
+            (D.left_since disk.old (D.moment disk.old))) }
         ensures quiet { OnOk result (IsTrue D.tells → IsQuiet self.new (D.files disk.new) (D.left_since disk.new (D.moment disk.new))) }
-        ensures changes { Changes D.tells D.files D.left_since D.moment D.bytes_read D.follows Anything disk.old disk.new }
+        ensures changes { Changes D.tells D.files D.left_since D.moment D.bytes_read D.follows Pkg Anything 0 disk.old disk.new }
         ensures cause { HasCause (D.faults disk.old) (D.faults disk.new) result }
     {
         let generation = self.generation + 1;

@@ -3,12 +3,13 @@
 ghost use Rattle.std.specs.Prelude.{◌≡◌, ◌≢◌, ℕ, ◌+◌, ◌-◌, ◌*◌, ◌/◌, ◌%◌, ◌^◌, ◌≤◌, ◌<◌, ◌∷◌, ◌++◌, [], IsTrue, true, length, take, drop, None, Err, OnOk, IfOk, IfErr};
 ghost use Rattle.rpm_outside.specs.Files.{Files, Units, units_of, unit_at, bytes_of};
 ghost use Rattle.rpm_outside.specs.Causes.{HasCause, HasCauseAt};
+ghost use Rattle.rpm_outside.specs.declared.disk.File.TheVariants.{Pkg};
 ghost use Rattle.rpm_outside.specs.Looks.{Looks};
 ghost use Rattle.rpm_pkgdb.specs.Slots.{slots_in};
 ghost use Rattle.rpm_pkgdb.specs.Damages.{table, table_fault};
 ghost use Rattle.rpm_pkgdb.specs.Store.{Says, SaysHere};
 ghost use Rattle.rpm_pkgdb.specs.Maps.{IsKnown};
-ghost use Rattle.rpm_pkgdb.specs.Runs.{run};
+ghost use Rattle.rpm_pkgdb.specs.inner.Runs.{run};
 ghost use Rattle.rpm_pkgdb.specs.Undamaged.{AreSound};
 
 use crate::opening::Opening;
@@ -21,7 +22,7 @@ pub fn read_units<D: Disk>(disk: &mut D, unit: u64, into: &mut [u8]) -> Result<(
     requires within { IsTrue D.tells → unit + length into.old / 16 ≤ length (D.files disk.old).pkg }
     ensures units { OnOk result (IsTrue D.tells → units_of into.new ≡ take (length into.old / 16) (drop unit (D.files disk.old).pkg)) }
     ensures bytes { OnOk result (IsTrue D.tells → into.new ≡ bytes_of (take (length into.old / 16) (drop unit (D.files disk.old).pkg))) }
-    ensures looks { Looks D.tells D.files D.left_since D.moment D.bytes_read D.follows (length into.old) disk.old disk.new }
+    ensures looks { Looks D.tells D.files D.left_since D.moment D.bytes_read D.follows Pkg (length into.old) disk.old disk.new }
     ensures cause { HasCause (D.faults disk.old) (D.faults disk.new) result }
 {
     disk.read_at(File::Pkg, unit, into)?;
@@ -65,7 +66,7 @@ pub fn add_units(
 pub fn read_unit<D: Disk>(disk: &mut D, at: u64) -> Result<[u8; 16], Failed>
     requires { IsTrue D.tells → at < length (D.files disk.old).pkg }
     ensures unit { IfOk result (λ unit. IsTrue D.tells → unit ≡ unit_at (D.files disk.old).pkg at) }
-    ensures looks { Looks D.tells D.files D.left_since D.moment D.bytes_read D.follows 16 disk.old disk.new }
+    ensures looks { Looks D.tells D.files D.left_since D.moment D.bytes_read D.follows Pkg 16 disk.old disk.new }
     ensures cause { HasCause (D.faults disk.old) (D.faults disk.new) result }
 {
     let mut unit = [0u8; 16];

@@ -4,6 +4,7 @@ ghost use Rattle.std.specs.Prelude.{◌≡◌, ℕ, ◌+◌, ◌-◌, ◌*◌, �
 ghost use Rattle.std.specs.List.{list_any};
 ghost use Rattle.rpm_outside.specs.Files.{Files, Units, unit_at};
 ghost use Rattle.rpm_outside.specs.Causes.{HasCauseAt};
+ghost use Rattle.rpm_outside.specs.declared.disk.File.TheVariants.{Pkg};
 ghost use Rattle.rpm_outside.specs.Looks.{Looks};
 ghost use Rattle.std.specs.FinMap as finite;
 ghost use Rattle.rpm_pkgdb.specs.Words.{word};
@@ -37,7 +38,7 @@ pub struct DiskFault;
 /// The head and the slots of a `Packages.db`, read once.
 ///
 /// The blobs stay in the file: each call that takes the disk takes the one that the value was opened on, as long as that file says
-/// what the value keeps. In memory a value has 12 bytes a slot and 8 more a package.
+/// what the value keeps. In memory a value has 12 bytes a slot and 8 more a package; and 24 more a package once a change was planned.
 #[derive(Drop)]
 pub struct PkgDb {
     pub(crate) generation: u32,
@@ -55,9 +56,16 @@ impl Model for PkgDb {
 
     ghost Value = { Store };
 
-    ghost use Rattle.rpm_pkgdb.specs.Keeping.{IsSound};
+    ghost use Rattle.rpm_pkgdb.specs.inner.Keeping.{IsSound};
 
-    ghost view = { λ s. record { generation = s.generation; pages = s.pages; field = s.field; slots = s.slots.items; spare = s.spare; is_stopped = s.stopped } };
+    ghost view = { λ s. record {
+      generation = s.generation;
+      pages = s.pages;
+      field = s.field;
+      slots = s.slots.items;
+      spare = s.spare;
+      is_stopped = s.stopped;
+    } };
 
     ghost invariant = { IsSound };
 }
@@ -107,8 +115,10 @@ impl PkgDb {
     ///
     /// A file without units, or whose unit 0 is all zeros, is blank: a store of no pages and no packages, whose next number is 1.
     ///
-    /// Reads 4096 bytes a page, each byte once: less where a slot is damaged, and at most unit 0 where the file is blank or its head
-    /// is damaged. The time is n log n in the slots, whatever stands in them.
+    /// Reads 4096 bytes a page, each byte once, and at most unit 0 where the file is blank or its head is damaged. All slots are read
+    /// before the first damage is looked for, and room for them is taken first: 16 bytes a slot while opening, and 12 for as long as
+    /// the value lives. The time is n log n in the slots, whatever stands in them: two sorts show that no two of them meet. Where they
+    /// don't, two ordered maps find the first damage, which takes about ten times as long.
     ///
     /// No package has the number 0.
     ///
@@ -116,14 +126,14 @@ impl PkgDb {
     ///
     /// - `Damaged` exactly where the file isn't a store: its first damage.
     /// - `DiskFault` only where the disk's count of faults rose.
-    /// - `NoMemory` where the slots, or what compares them, finds no memory.
+    /// - `NoMemory` where the slots, or what compares them, find no memory; also where a slot is damaged.
     pub fn open<D: Disk>(alloc: Global, disk: &mut D) -> Result<PkgDb, OpenFault>
         ensures store { IsTrue D.tells → OpenIs (store (D.files disk.old).pkg) result }
         ensures kept { IfOk result (λ db. IsTrue D.tells → Keeps (D.files disk.new).pkg db) }
         ensures from_one { IfOk result (λ db. slot_with 0 db.slots ≡ None) }
         ensures fresh { IfOk result (λ db. db ≡ in_file db) }
         ensures reads { IsTrue D.tells → D.bytes_read disk.new File.Pkg ≤ D.bytes_read disk.old File.Pkg + opening_cost (D.files disk.old).pkg }
-        ensures looks { Looks D.tells D.files D.left_since D.moment D.bytes_read D.follows (2 ^ 32) disk.old disk.new }
+        ensures looks { Looks D.tells D.files D.left_since D.moment D.bytes_read D.follows Pkg (2 ^ 32) disk.old disk.new }
         ensures cause { HasCauseAt (result ≡ Err OpenFault.DiskFault) (D.faults disk.old) (D.faults disk.new) }
     {
         let Ok(units) = disk.len(File::Pkg) else {
@@ -158,7 +168,7 @@ impl PkgDb {
         ensures store { IsTrue D.tells → OpenIs (store_of (word 3 head.now) (D.files disk.old).pkg) result }
         ensures from_one { IfOk result (λ db. slot_with 0 db.slots ≡ None) }
         ensures fresh { IfOk result (λ db. db ≡ in_file db) }
-        ensures looks { Looks D.tells D.files D.left_since D.moment D.bytes_read D.follows (4096 * word 3 head.now - 16) disk.old disk.new }
+        ensures looks { Looks D.tells D.files D.left_since D.moment D.bytes_read D.follows Pkg (4096 * word 3 head.now - 16) disk.old disk.new }
         ensures cause { HasCauseAt (result ≡ Err OpenFault.DiskFault) (D.faults disk.old) (D.faults disk.new) }
     {
         let pages = word(head, 3);
@@ -271,7 +281,7 @@ impl PkgDb {
         ensures kept { IsTrue D.tells → Keeps (D.files disk.new).pkg self.now }
         ensures told { IsTrue D.tells → AnswerIs frame_in (frames (D.files disk.old).pkg self.now n) result }
         ensures absent { (result ≡ Err GetFault.NoSuch) ↔ (slot_with n self.now.slots ≡ None) }
-        ensures looks { Looks D.tells D.files D.left_since D.moment D.bytes_read D.follows (cost n self.now) disk.old disk.new }
+        ensures looks { Looks D.tells D.files D.left_since D.moment D.bytes_read D.follows Pkg (cost n self.now) disk.old disk.new }
         ensures cause { HasCauseAt (result ≡ Err GetFault.DiskFault) (D.faults disk.old) (D.faults disk.new) }
     {
         match self.slot_of(n) {
@@ -296,7 +306,7 @@ impl PkgDb {
         ensures kept { IsTrue D.tells → Keeps (D.files disk.new).pkg self.now }
         ensures told { IsTrue D.tells → AnswerIs given (finite.get (blobs (D.files disk.old).pkg self.now) n) result }
         ensures absent { (result ≡ Err GetFault.NoSuch) ↔ (slot_with n self.now.slots ≡ None) }
-        ensures looks { Looks D.tells D.files D.left_since D.moment D.bytes_read D.follows (cost n self.now) disk.old disk.new }
+        ensures looks { Looks D.tells D.files D.left_since D.moment D.bytes_read D.follows Pkg (cost n self.now) disk.old disk.new }
         ensures cause { HasCauseAt (result ≡ Err GetFault.DiskFault) (D.faults disk.old) (D.faults disk.new) }
     {
         match self.blocks(alloc, disk, n) {
@@ -322,7 +332,7 @@ impl PkgDb {
         ensures kept { IsTrue D.tells → Keeps (D.files disk.new).pkg self.now }
         ensures told { IsTrue D.tells → AnswerIs (λ holds. holds) (checksums_hold (D.files disk.old).pkg self.now n) result }
         ensures absent { (result ≡ Err GetFault.NoSuch) ↔ (slot_with n self.now.slots ≡ None) }
-        ensures looks { Looks D.tells D.files D.left_since D.moment D.bytes_read D.follows (cost n self.now) disk.old disk.new }
+        ensures looks { Looks D.tells D.files D.left_since D.moment D.bytes_read D.follows Pkg (cost n self.now) disk.old disk.new }
         ensures cause { HasCauseAt (result ≡ Err GetFault.DiskFault) (D.faults disk.old) (D.faults disk.new) }
     {
         match self.blocks(alloc, disk, n) {

@@ -3,6 +3,7 @@
 ghost use Rattle.std.specs.Prelude.{◌≡◌, ℕ, ◌-◌, ◌*◌, ◌/◌, ◌^◌, ◌≤◌, IsTrue, length, drop, take, None, Err, IfOk, IfErr, IfSome, OnOk};
 ghost use Rattle.rpm_outside.specs.Files.{Files, Units, units_of};
 ghost use Rattle.rpm_outside.specs.Causes.{HasCauseAt};
+ghost use Rattle.rpm_outside.specs.declared.disk.File.TheVariants.{Pkg};
 ghost use Rattle.rpm_outside.specs.Looks.{Looks};
 ghost use Rattle.rpm_pkgdb.specs.Slots.{slots_in};
 ghost use Rattle.rpm_pkgdb.specs.Damages.{table, table_fault};
@@ -10,7 +11,7 @@ ghost use Rattle.rpm_pkgdb.specs.Store.{Says, SaysHere};
 ghost use Rattle.rpm_pkgdb.specs.Maps.{HasPlaces};
 ghost use Rattle.rpm_pkgdb.specs.Pairs.{find_in};
 ghost use Rattle.rpm_pkgdb.specs.Undamaged.{AreSound};
-ghost use Rattle.rpm_pkgdb.specs.Tables.{AreOwn, AreNumbered, IsTable, IsOutside};
+ghost use Rattle.rpm_pkgdb.specs.inner.Tables.{AreOwn, AreNumbered, IsTable, IsOutside};
 
 use crate::keys::numbers_if_apart;
 use crate::numbers::Numbers;
@@ -112,7 +113,7 @@ fn read_bytes<D: Disk>(alloc: Global, disk: &mut D, pages: u32) -> Result<Vec<u8
     ensures long { IfOk result (λ bytes. length bytes.items ≡ 16 * (256 * pages - 2)) }
     ensures units { IfOk result (λ bytes. IsTrue D.tells → units_of bytes.items ≡ table pages (D.files disk.old).pkg) }
     ensures outside { IfErr result (λ e. IsOutside e) }
-    ensures looks { Looks D.tells D.files D.left_since D.moment D.bytes_read D.follows (16 * (256 * pages - 2)) disk.old disk.new }
+    ensures looks { Looks D.tells D.files D.left_since D.moment D.bytes_read D.follows Pkg (16 * (256 * pages - 2)) disk.old disk.new }
     ensures cause { HasCauseAt (result ≡ Err OpenFault.DiskFault) (D.faults disk.old) (D.faults disk.new) }
 {
     let Ok(mut bytes) = (vec![in alloc; 0u8; 16 * (256 * pages - 2) as usize]) else {
@@ -141,7 +142,7 @@ pub fn read_table<D: Disk>(
     ensures slots { IfOk result (λ t. IsTrue D.tells → t.slots.items ≡ slots_in (table pages (D.files disk.old).pkg)) }
     ensures sound { OnOk result (IsTrue D.tells → table_fault pages units (table pages (D.files disk.old).pkg) ≡ None) }
     ensures says { IfErr result (λ e. IsTrue D.tells → Says e (table_fault pages units (table pages (D.files disk.old).pkg))) }
-    ensures looks { Looks D.tells D.files D.left_since D.moment D.bytes_read D.follows (16 * (256 * pages - 2)) disk.old disk.new }
+    ensures looks { Looks D.tells D.files D.left_since D.moment D.bytes_read D.follows Pkg (16 * (256 * pages - 2)) disk.old disk.new }
     ensures cause { HasCauseAt (result ≡ Err OpenFault.DiskFault) (D.faults disk.old) (D.faults disk.new) }
 {
     let bytes = match read_bytes(alloc, disk, pages) {

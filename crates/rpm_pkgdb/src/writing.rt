@@ -1,11 +1,12 @@
 //! Units of the file, written and settled.
 
 ghost use Rattle.std.specs.Prelude.{◌≡◌, ℕ, ◌+◌, ◌*◌, ◌/◌, ◌%◌, ◌^◌, ◌≤◌, ◌<◌, ◌∷◌, [], IsTrue, length, OnOk};
+ghost use Rattle.rpm_outside.specs.declared.disk.File.TheVariants.{Pkg};
 ghost use Rattle.rpm_outside.specs.Files.{Files, Units, units_of, unit_at, put, blank};
 ghost use Rattle.rpm_outside.specs.Causes.{HasCause};
 ghost use Rattle.rpm_outside.specs.Crash.{Torn};
-ghost use Rattle.rpm_pkgdb.specs.Changes.{Changes, IsSettled, IsSame};
-ghost use Rattle.rpm_pkgdb.specs.Clear.{SameOutside};
+ghost use Rattle.rpm_outside.specs.Changes.{Changes, IsSettled, IsSame};
+ghost use Rattle.rpm_pkgdb.specs.inner.Clear.{SameOutside};
 
 use rpm_outside::{Disk, Failed, File};
 
@@ -15,7 +16,7 @@ pub fn write_units<D: Disk>(disk: &mut D, at: u64, bytes: &[u8]) -> Result<(), F
     requires whole { length bytes.now % 16 ≡ 0 }
     requires room { at + length bytes.now / 16 ≤ 2 ^ 28 }
     ensures written { OnOk result (IsTrue D.tells → (D.files disk.new).pkg ≡ put at (units_of bytes.now) (D.files disk.old).pkg) }
-    ensures changes { Changes D.tells D.files D.left_since D.moment D.bytes_read D.follows (Torn at (units_of bytes.now)) disk.old disk.new }
+    ensures changes { Changes D.tells D.files D.left_since D.moment D.bytes_read D.follows Pkg (Torn at (units_of bytes.now)) 0 disk.old disk.new }
     ensures cause { HasCause (D.faults disk.old) (D.faults disk.new) result }
 {
     disk.write_at(File::Pkg, at, bytes)
@@ -23,8 +24,8 @@ pub fn write_units<D: Disk>(disk: &mut D, at: u64, bytes: &[u8]) -> Result<(), F
 
 /// Settles Packages.db.
 pub fn settle<D: Disk>(disk: &mut D) -> Result<(), Failed>
-    ensures settled { OnOk result (IsTrue D.tells → IsSettled (D.files disk.new) (D.left_since disk.new (D.moment disk.new))) }
-    ensures changes { Changes D.tells D.files D.left_since D.moment D.bytes_read D.follows IsSame disk.old disk.new }
+    ensures settled { OnOk result (IsTrue D.tells → IsSettled Pkg (D.files disk.new) (D.left_since disk.new (D.moment disk.new))) }
+    ensures changes { Changes D.tells D.files D.left_since D.moment D.bytes_read D.follows Pkg IsSame 0 disk.old disk.new }
     ensures cause { HasCause (D.faults disk.old) (D.faults disk.new) result }
 {
     disk.sync(File::Pkg)
@@ -34,8 +35,8 @@ pub fn settle<D: Disk>(disk: &mut D) -> Result<(), Failed>
 pub fn write_one<D: Disk>(disk: &mut D, at: u64, unit: &[u8; 16]) -> Result<(), Failed>
     requires room { at < 2 ^ 28 }
     ensures written { OnOk result (IsTrue D.tells → (D.files disk.new).pkg ≡ put at (unit.now ∷ []) (D.files disk.old).pkg) }
-    ensures settled { OnOk result (IsTrue D.tells → IsSettled (D.files disk.new) (D.left_since disk.new (D.moment disk.new))) }
-    ensures changes { Changes D.tells D.files D.left_since D.moment D.bytes_read D.follows (Torn at (unit.now ∷ [])) disk.old disk.new }
+    ensures settled { OnOk result (IsTrue D.tells → IsSettled Pkg (D.files disk.new) (D.left_since disk.new (D.moment disk.new))) }
+    ensures changes { Changes D.tells D.files D.left_since D.moment D.bytes_read D.follows Pkg (Torn at (unit.now ∷ [])) 0 disk.old disk.new }
     ensures cause { HasCause (D.faults disk.old) (D.faults disk.new) result }
 {
     write_units(disk, at, unit)?;
@@ -46,7 +47,7 @@ pub fn write_one<D: Disk>(disk: &mut D, at: u64, unit: &[u8; 16]) -> Result<(), 
 pub fn write_zeros<D: Disk>(disk: &mut D, at: u32, count: u32) -> Result<(), Failed>
     requires room { at + count ≤ 2 ^ 28 }
     ensures zeros { OnOk result (IsTrue D.tells → (i : ℕ) → at ≤ i → i < at + count → unit_at (D.files disk.new).pkg i ≡ blank) }
-    ensures changes { Changes D.tells D.files D.left_since D.moment D.bytes_read D.follows (SameOutside at count) disk.old disk.new }
+    ensures changes { Changes D.tells D.files D.left_since D.moment D.bytes_read D.follows Pkg (SameOutside at count) 0 disk.old disk.new }
     ensures cause { HasCause (D.faults disk.old) (D.faults disk.new) result }
 {
     let zeros = [0u8; 4096];

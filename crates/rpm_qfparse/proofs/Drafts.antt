@@ -31,7 +31,8 @@ pub run : (b : ℕ) (bytes : List ℕ) (rest : Tree) → BeginsApart rest → wi
 run b [] rest h = begins_run b rest h
 run b (c ∷ bytes) rest h = ap (with_byte b) (run c bytes rest h)
 
-pub flushed : (ps qs : List Part) (text bytes : List ℕ) (rest : Tree) → 0 < length text → bytes ≡ [] → qs ≡ ps ++ part.Text text ∷ [] → BeginsApart rest → onto qs (with_text bytes rest) ≡ onto ps (with_text text rest)
+pub flushed : (ps qs : List Part) (text bytes : List ℕ) (rest : Tree) → 0 < length text → bytes ≡ [] → qs ≡ ps ++ part.Text text ∷ [] → BeginsApart
+    rest → onto qs (with_text bytes rest) ≡ onto ps (with_text text rest)
 flushed ps qs [] bytes rest some e f h = absurd (omega arith)
 flushed ps qs (b ∷ text) bytes rest some e f h =
     ap (λ t. onto qs (with_text t rest)) e ∙ ap (λ q. onto q rest) f ∙ onto-append ps (part.Text (b ∷ text) ∷ []) rest ∙ ap (onto ps) (sym (run b text rest h))
@@ -50,6 +51,7 @@ pub behind_same : (f : Tree → Tree) → ((t : Tree) → f t ≡ t) → (a : Re
 behind_same f e (Ok x) = ap (λ t. Ok (t, x.1)) (e x.0)
 behind_same f e (Err x) = refl
 
-pub pushed : (ps qs : List Part) (text : List ℕ) (p : Part) (rest : Tree) → text ≡ [] → qs ≡ ps ++ p ∷ [] → onto qs (with_text text rest) ≡ onto ps (with_text text (in_front p rest))
+pub pushed : (ps qs : List Part) (text : List ℕ) (p : Part) (rest : Tree) → text ≡ [] → qs ≡ ps ++ p ∷ [] → onto qs (with_text text rest)
+    ≡ onto ps (with_text text (in_front p rest))
 pushed ps qs text p rest e f =
     ap (λ t. onto qs (with_text t rest)) e ∙ ap (λ q. onto q rest) f ∙ onto-append ps (p ∷ []) rest ∙ sym (ap (λ t. onto ps (with_text t (in_front p rest))) e)

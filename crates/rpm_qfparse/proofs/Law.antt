@@ -18,7 +18,8 @@ by_length text v = cond v (Err (record { kind = TooLong; at = 65536 })) (placed 
 
 -- ---- what the rules give
 
-placed_by : (text : List ℕ) (v : Bool) (a : Reading Tree) → nat_lt 65536 (length text) ≡ v → length text ≤ 65536 → Gives context.Top false 0 text a → by_length text v ≡ placed text a
+placed_by : (text : List ℕ) (v : Bool) (a : Reading Tree) → nat_lt 65536 (length text) ≡ v → length text ≤ 65536 → Gives context.Top false 0 text a
+    → by_length text v ≡ placed text a
 placed_by text true a e le g = let lt : 65536 < length text = ltb-true _ _ e in absurd (omega arith)
 placed_by text false a e le g = ap (placed text) (only g (suc (length text)) (omega arith))
 

@@ -26,7 +26,8 @@ Keeps P (Err e) = IsOwn e
 abbrev Any : {X : Type 0} → X → Type 0
 Any x = Unit {0}
 
-bind_keeps : {A B : Type 0} (P : A → Type 0) (Q : B → Type 0) (x : Result A Faulty) (f : A → Result B Faulty) → Keeps P x → ((a : A) → P a → Keeps Q (f a)) → Keeps Q (x >>= f)
+bind_keeps : {A B : Type 0} (P : A → Type 0) (Q : B → Type 0) (x : Result A Faulty) (f : A → Result B Faulty) → Keeps P x
+    → ((a : A) → P a → Keeps Q (f a)) → Keeps Q (x >>= f)
 bind_keeps P Q (Ok a) f h g = g a h
 bind_keeps P Q (Err e) f h g = h
 
@@ -60,7 +61,8 @@ IsNarrowTag p = p.width ≤ 4096
 inside_keeps : (left : Bool) (size : ℕ) (r : Role) (inside place : List ℕ) → size ≤ 4096 → Keeps IsNarrowTag (tag_inside left size r inside place)
 inside_keeps left size r inside place le =
     bind_keeps Any IsNarrowTag (named (name_and_show inside).0 place) _ (named_keeps (name_and_show inside).0 place) (λ t _.
-    bind_keeps Any IsNarrowTag (formatter (name_and_show inside).1 (length (name_and_show inside).0 + 1) place) _ (formatter_keeps (name_and_show inside).1 _ place) (λ f _. le))
+    bind_keeps Any IsNarrowTag (formatter (name_and_show inside).1 (length (name_and_show inside).0 + 1) place) _
+    (formatter_keeps (name_and_show inside).1 _ place) (λ f _. le))
 
 abbrev IsNarrowPart : TagPart × List ℕ → Type 0
 IsNarrowPart x = x.0.width ≤ 4096
@@ -71,15 +73,18 @@ tag_part_keeps s =
     bind_keeps IsNarrow IsNarrowPart (width (side s).1) _ (width_by (side s).1 _ refl) (λ size le.
     let x : Reading Role = cond (begins 123 size.1) (Ok (role (drop 1 size.1))) (Err (MissingOpen, size.1)) in
     bind_keeps Any IsNarrowPart x _ (if_keeps Any (begins 123 size.1) (Ok (role (drop 1 size.1))) (Err (MissingOpen, size.1)) tt (λ p. absurd (cc))) (λ inner _.
-    bind_keeps Any IsNarrowPart (or_fault (split_once 125 inner.1) (MissingClose, [])) _ (or_keeps (split_once 125 inner.1) (MissingClose, []) (λ p. absurd (cc))) (λ cut _.
-    bind_keeps IsNarrowTag IsNarrowPart (tag_inside (side s).0 size.0 inner.0 cut.0 inner.1) _ (inside_keeps (side s).0 size.0 inner.0 cut.0 inner.1 le) (λ part h. h))))
+    bind_keeps Any IsNarrowPart (or_fault (split_once 125 inner.1) (MissingClose, [])) _ (or_keeps (split_once 125 inner.1) (MissingClose, [])
+    (λ p. absurd (cc))) (λ cut _.
+    bind_keeps IsNarrowTag IsNarrowPart (tag_inside (side s).0 size.0 inner.0 cut.0 inner.1) _ (inside_keeps (side s).0 size.0 inner.0 cut.0 inner.1
+    le) (λ part h. h))))
 
 -- ---- conditions
 
 asked_keeps : (s : List ℕ) → Keeps Any (asked s)
 asked_keeps s =
     bind_keeps Any Any (or_fault (split_once 63 s) (QuestionExpected, [])) _ (or_keeps (split_once 63 s) (QuestionExpected, []) (λ p. absurd (cc))) (λ cut _.
-    bind_keeps Any Any (named cut.0 s) _ (named_keeps cut.0 s) (λ t _. if_keeps Any (begins 123 cut.1) (Ok (t, drop 1 cut.1)) (Err (BraceExpected, cut.1)) tt (λ p. absurd (cc))))
+    bind_keeps Any Any (named cut.0 s) _ (named_keeps cut.0 s) (λ t _. if_keeps Any (begins 123 cut.1) (Ok (t, drop 1 cut.1))
+    (Err (BraceExpected, cut.1)) tt (λ p. absurd (cc))))
 
 second_keeps : (s : List ℕ) → Keeps Any (second_follows s)
 second_keeps s =
@@ -123,7 +128,8 @@ condition_allowed ib d here s = condition_by ib d here s _ refl
 percent_allowed : (ib : Bool) (d : ℕ) (here s : List ℕ) → Allowed ib d (percent d here s)
 percent_allowed ib d here s =
     allowed_if ib d (begins 37 s) (Literal 37 (drop 1 s)) _ tt
-    (allowed_if ib d (begins 124 s) (asks (moves.condition d here (drop 1 s))) _ (condition_allowed ib d here (drop 1 s)) (shows_allowed ib d (tag_part s) (tag_part_keeps s)))
+    (allowed_if ib d (begins 124 s) (asks (moves.condition d here (drop 1 s))) _ (condition_allowed ib d here (drop 1 s))
+    (shows_allowed ib d (tag_part s) (tag_part_keeps s)))
 
 end_allowed : (ib : Bool) (d : ℕ) (c : Context) → Allowed ib d (at_end c)
 end_allowed ib d context.Top = tt
@@ -144,8 +150,10 @@ move_allowed c ib d [] = end_allowed ib d c
 move_allowed c ib d (b ∷ s) =
     allowed_if ib d (b == 92) (escaped s) _ (escaped_allowed ib d s)
     (allowed_if ib d (b == 91) (if ib then Stops (NestedBracket, b ∷ s) else Opens s) _ (opens_allowed d (b ∷ s) s ib)
-    (allowed_if ib d (b == 93) (if is_bracket c then Ends s else Stops (UnexpectedBracket, b ∷ s)) _ (allowed_if ib d (is_bracket c) (Ends s) (Stops (UnexpectedBracket, b ∷ s)) tt (λ p. absurd (cc)))
-    (allowed_if ib d (b == 125) (if is_branch c then Ends s else Stops (UnexpectedBrace, b ∷ s)) _ (allowed_if ib d (is_branch c) (Ends s) (Stops (UnexpectedBrace, b ∷ s)) tt (λ p. absurd (cc)))
+    (allowed_if ib d (b == 93) (if is_bracket c then Ends s else Stops (UnexpectedBracket, b ∷ s)) _ (allowed_if ib d (is_bracket c) (Ends s)
+    (Stops (UnexpectedBracket, b ∷ s)) tt (λ p. absurd (cc)))
+    (allowed_if ib d (b == 125) (if is_branch c then Ends s else Stops (UnexpectedBrace, b ∷ s)) _ (allowed_if ib d (is_branch c) (Ends s)
+    (Stops (UnexpectedBrace, b ∷ s)) tt (λ p. absurd (cc)))
     (allowed_if ib d (b == 37) (percent d (b ∷ s) s) (Literal b s) (percent_allowed ib d (b ∷ s) s) tt))))
 
 allowed : (c : Context) (ib : Bool) (d : ℕ) (s : List ℕ) (m : Move) → move_of c ib d s ≡ m → Allowed ib d m
@@ -172,7 +180,8 @@ byte_proper ib d b (Shown p rest) h = (omega arith, tt, h)
 byte_proper ib d b (Bracket inner rest) h = (omega arith, tt, h)
 byte_proper ib d b (Condition q first second rest) h = (omega arith, tt, h)
 
-behind_proper : (ib : Bool) (d : ℕ) (f : Tree → Tree) (a : Reading Tree) → ((t : Tree) → IsProper ib d t → IsProper ib d (f t)) → Keeps (IsProperReading ib d) a → Keeps (IsProperReading ib d) (behind f a)
+behind_proper : (ib : Bool) (d : ℕ) (f : Tree → Tree) (a : Reading Tree) → ((t : Tree) → IsProper ib d t → IsProper ib d (f t))
+    → Keeps (IsProperReading ib d) a → Keeps (IsProperReading ib d) (behind f a)
 behind_proper ib d f (Ok x) g h = g x.0 h
 behind_proper ib d f (Err e) g h = h
 

@@ -27,11 +27,13 @@ abbrev pub RestWithin : ℕ → Result (List ℕ) Faulty → Type 0
 RestWithin n (Ok r) = length r ≤ n
 RestWithin n (Err e) = length e.1 ≤ n
 
-pub bind_within : {A B : Type 0} (n : ℕ) (x : Result A Faulty) (f : A → Reading B) → FaultWithin n x → ((a : A) → x ≡ Ok a → Within n (f a)) → Within n (x >>= f)
+pub bind_within : {A B : Type 0} (n : ℕ) (x : Result A Faulty) (f : A → Reading B) → FaultWithin n x → ((a : A) → x ≡ Ok a → Within n (f a))
+    → Within n (x >>= f)
 bind_within n (Ok a) f h g = g a refl
 bind_within n (Err e) f h g = h
 
-pub fault_bind : {A B : Type 0} (n : ℕ) (x : Result A Faulty) (f : A → Result B Faulty) → FaultWithin n x → ((a : A) → FaultWithin n (f a)) → FaultWithin n (x >>= f)
+pub fault_bind : {A B : Type 0} (n : ℕ) (x : Result A Faulty) (f : A → Result B Faulty) → FaultWithin n x → ((a : A) → FaultWithin n (f a))
+    → FaultWithin n (x >>= f)
 fault_bind n (Ok a) f h g = g a
 fault_bind n (Err e) f h g = h
 
@@ -52,7 +54,8 @@ some_cut b s i cut lt e =
     let g : length (drop (i + 1) s) ≡ length cut.1 = ap (λ (c : List ℕ × List ℕ). length c.1) e in
     omega (arith, length-take i s, length-drop (i + 1) s)
 
-split_by : (b : ℕ) (s : List ℕ) (i : ℕ) (cut : List ℕ × List ℕ) (v : Bool) → nat_lt i (length s) ≡ v → option_map (λ i. (take i s, drop (i + 1) s)) (cond v (Some i) None) ≡ Some cut → length cut.0 + length cut.1 + 1 ≤ length s
+split_by : (b : ℕ) (s : List ℕ) (i : ℕ) (cut : List ℕ × List ℕ) (v : Bool) → nat_lt i (length s) ≡ v → option_map (λ i. (take i s, drop (i + 1) s))
+    (cond v (Some i) None) ≡ Some cut → length cut.0 + length cut.1 + 1 ≤ length s
 split_by b s i cut true lt e = some_cut b s i cut (ltb-true _ _ lt) (cc)
 split_by b s i cut false lt e = absurd (cc)
 
@@ -83,19 +86,22 @@ wider m n (Ok a) le h = omega arith
 wider m n (Err e) le h = omega arith
 
 pub side_within : (s : List ℕ) → length (side s).1 ≤ length s
-side_within s = elim (begins 45 s) as (λ v. length (cond {A = Bool × List ℕ} v (true, drop 1 s) (false, s)).1 ≤ length s) [ true ↦ drop_within 1 s | false ↦ omega arith ]
+side_within s = elim (begins 45 s) as (λ v. length (cond {A = Bool × List ℕ} v (true, drop 1 s) (false, s)).1 ≤ length s)
+    [ true ↦ drop_within 1 s | false ↦ omega arith ]
 
 pub role_within : (s : List ℕ) → length (role s).1 ≤ length s
 role_within s =
     elim (begins 61 s) as (λ v. length (cond {A = Role × List ℕ} v (First, drop 1 s) (cond (begins 35 s) (Count, drop 1 s) (Element, s))).1 ≤ length s) [
       | true ↦ drop_within 1 s
-      | false ↦ elim (begins 35 s) as (λ v. length (cond {A = Role × List ℕ} v (Count, drop 1 s) (Element, s)).1 ≤ length s) [ true ↦ drop_within 1 s | false ↦ omega arith ]
+      | false ↦ elim (begins 35 s) as (λ v. length (cond {A = Role × List ℕ} v (Count, drop 1 s) (Element, s)).1 ≤ length s)
+          [ true ↦ drop_within 1 s | false ↦ omega arith ]
     ]
 
 pub width_within : (s : List ℕ) → Within (length s) (width s)
 unfolding after_number
 width_within s =
-    elim (nat_lt 4096 (number_of s)) as (λ v. Within (length s) (cond v (Err (WidthTooLarge, s)) (Ok (number_of s, after_number s)))) [ true ↦ omega arith | false ↦ drop_within (digit_count s) s ]
+    elim (nat_lt 4096 (number_of s)) as (λ v. Within (length s) (cond v (Err (WidthTooLarge, s)) (Ok (number_of s, after_number s))))
+    [ true ↦ omega arith | false ↦ drop_within (digit_count s) s ]
 
 pub named_within : (name place : List ℕ) → FaultWithin (length place) (named name place)
 named_within name place = fault_if (length place) (length name == 0) _ _ (omega arith) (fault_or (length place) (tag_of name) _ (omega arith))
@@ -107,7 +113,8 @@ formatter_within n (Some name) far place le = fault_or n (show_of name) (Unknown
 pub inside_within : (n : ℕ) (left : Bool) (size : ℕ) (r : Role) (inside place : List ℕ) → length place ≤ n → FaultWithin n (tag_inside left size r inside place)
 inside_within n left size r inside place le =
     fault_bind n (named (name_and_show inside).0 place) _ (raise _ n _ le (named_within (name_and_show inside).0 place)) (λ tag.
-    fault_bind n (formatter (name_and_show inside).1 (length (name_and_show inside).0 + 1) place) _ (formatter_within n (name_and_show inside).1 _ place le) (λ f. tt))
+    fault_bind n (formatter (name_and_show inside).1 (length (name_and_show inside).0 + 1) place) _ (formatter_within n (name_and_show inside).1 _
+    place le) (λ f. tt))
   where
     raise : {X : Type 0} (m n : ℕ) (x : Result X Faulty) → m ≤ n → FaultWithin m x → FaultWithin n x
     raise m n (Ok a) le h = tt
@@ -120,16 +127,20 @@ tag_part_within s =
     bind_within (length s) (width (side s).1) _ (fault_of (length s) (width (side s).1) w) (λ size e.
     let a : length size.1 ≤ length s = ok_within (length s) (width (side s).1) size w e in
     let x : Reading Role = cond (begins 123 size.1) (Ok (role (drop 1 size.1))) (Err (MissingOpen, size.1)) in
-    let y : Within (length s) x = within_if (length s) (begins 123 size.1) (Ok (role (drop 1 size.1))) (Err (MissingOpen, size.1)) (λ _. omega (arith, role_within (drop 1 size.1), drop_within 1 size.1)) a in
+    let y : Within (length s) x = within_if (length s) (begins 123 size.1) (Ok (role (drop 1 size.1))) (Err (MissingOpen, size.1))
+    (λ _. omega (arith, role_within (drop 1 size.1), drop_within 1 size.1)) a in
     bind_within (length s) x _ (fault_of (length s) x y) (λ inner f.
     let b : length inner.1 ≤ length s = ok_within (length s) x inner y f in
-    bind_within (length s) (or_fault (split_once 125 inner.1) (MissingClose, [])) _ (fault_or (length s) (split_once 125 inner.1) (MissingClose, []) (omega arith)) (λ cut g.
+    bind_within (length s) (or_fault (split_once 125 inner.1) (MissingClose, [])) _ (fault_or (length s) (split_once 125 inner.1) (MissingClose, [])
+    (omega arith)) (λ cut g.
     let c : length cut.0 + length cut.1 + 1 ≤ length inner.1 = split_within 125 inner.1 cut (or_ok (split_once 125 inner.1) (MissingClose, []) cut g) in
-    bind_within (length s) (tag_inside (side s).0 size.0 inner.0 cut.0 inner.1) _ (inside_within (length s) (side s).0 size.0 inner.0 cut.0 inner.1 b) (λ part h. omega arith))))
+    bind_within (length s) (tag_inside (side s).0 size.0 inner.0 cut.0 inner.1) _ (inside_within (length s) (side s).0 size.0 inner.0 cut.0 inner.1 b)
+    (λ part h. omega arith))))
 
 pub asked_within : (s : List ℕ) → Within (length s) (asked s)
 asked_within s =
-    bind_within (length s) (or_fault (split_once 63 s) (QuestionExpected, [])) _ (fault_or (length s) (split_once 63 s) (QuestionExpected, []) (omega arith)) (λ cut e.
+    bind_within (length s) (or_fault (split_once 63 s) (QuestionExpected, [])) _ (fault_or (length s) (split_once 63 s) (QuestionExpected, [])
+    (omega arith)) (λ cut e.
     let a : length cut.0 + length cut.1 + 1 ≤ length s = split_within 63 s cut (or_ok (split_once 63 s) (QuestionExpected, []) cut e) in
     bind_within (length s) (named cut.0 s) _ (named_within cut.0 s) (λ tag f.
     within_if (length s) (begins 123 cut.1) (Ok (tag, drop 1 cut.1)) (Err (BraceExpected, cut.1)) (λ _. omega (arith, drop_within 1 cut.1)) (omega arith)))
@@ -196,8 +207,13 @@ pub second_within : (s : List ℕ) → Within (length s) (second_follows s)
 second_within s =
     within_if (length s) (begins 124 s) (Ok (false, drop 1 s)) _ (λ _. drop_within 1 s)
     (within_if (length s) (begins 58 s) (if begins 123 (drop 1 s) then Ok (true, drop 1 (drop 1 s)) else Err (BraceExpected, drop 1 s)) (Err (BarExpected, s))
-    (λ _. within_if (length s) (begins 123 (drop 1 s)) (Ok (true, drop 1 (drop 1 s))) (Err (BraceExpected, drop 1 s)) (λ _. omega (arith, drop_within 1 (drop 1 s), drop_within 1 s)) (drop_within 1 s))
+    (λ _. within_if (length s) (begins 123 (drop 1 s)) (Ok (true, drop 1 (drop 1 s))) (Err (BraceExpected, drop 1 s))
+    (λ _. omega (arith, drop_within 1 (drop 1 s), drop_within 1 s)) (drop_within 1 s))
     (omega arith))
 
 pub close_within : (s : List ℕ) → RestWithin (length s) (close s)
-close_within s = elim (begins 124 s) as (λ v. RestWithin (length s) (cond v (Ok (drop 1 s)) (Err (BarExpected, s)))) [ true ↦ drop_within 1 s | false ↦ omega arith ]
+close_within s = elim (begins 124 s) as (λ v. RestWithin (length s) (cond v (Ok (drop 1 s)) (Err (BarExpected, s)))) [
+  | true ↦ drop_within 1 s
+  | false
+      ↦ omega arith
+]

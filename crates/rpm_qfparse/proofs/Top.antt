@@ -41,7 +41,8 @@ move_on ib d (b ∷ s) =
     (if_on (b == 93) (Stops (UnexpectedBracket, b ∷ s)) _ tt
     (if_on (b == 125) (Stops (UnexpectedBrace, b ∷ s)) _ tt
     (if_on (b == 37) (percent d (b ∷ s) s) (Literal b s)
-    (if_on (begins 37 s) (Literal 37 (drop 1 s)) _ tt (if_on (begins 124 s) (asks (moves.condition d (b ∷ s) (drop 1 s))) _ (asks_on _) (shows_on (tag_part s)))) tt))))
+    (if_on (begins 37 s) (Literal 37 (drop 1 s)) _ tt (if_on (begins 124 s) (asks (moves.condition d (b ∷ s) (drop 1 s))) _ (asks_on _)
+    (shows_on (tag_part s)))) tt))))
 
 -- nothing is left of what is read at the top
 abbrev pub IsWhole : Reading Tree → Type 0

@@ -76,7 +76,8 @@ mutual
   only (condition {c = c} {ib = ib} {d = d} {q = q} {t = t} {first = first} {second = second} {u = u} e g h) (suc n) lt =
       let k : length t < _ = moved _ _ _ _ _ e in
       let l : length u ≤ length t = left_of g in
-      ap (step (reading n) c ib d) e ∙ ap (λ x. x >>= λ x. behind (Condition q x.0.0 x.0.1) (reading n c ib d x.1)) (only_of g n (omega arith)) ∙ ap (behind (Condition q first second)) (only h n (omega arith))
+      ap (step (reading n) c ib d) e ∙ ap (λ x. x >>= λ x. behind (Condition q x.0.0 x.0.1) (reading n c ib d x.1)) (only_of g n (omega arith))
+      ∙ ap (behind (Condition q first second)) (only h n (omega arith))
   only (in_condition {c = c} {ib = ib} {d = d} {q = q} {t = t} e g) (suc n) lt =
       let k : length t < _ = moved _ _ _ _ _ e in
       ap (step (reading n) c ib d) e ∙ ap (λ x. x >>= λ x. behind (Condition q x.0.0 x.0.1) (reading n c ib d x.1)) (only_of g n (omega arith))
@@ -95,7 +96,8 @@ mutual
       let k : length t ≤ _ = left g in let l : length u ≤ length t = second_ok t _ e in
       rw (only g n lt, e, only h n (omega arith), f) refl
 
-bind_cases : {A B : Type 0} (x : Result A Faulty) (f : A → Result B Faulty) (P : Result B Faulty → Type 0) → ((e : Faulty) → x ≡ Err e → P (Err e)) → ((a : A) → x ≡ Ok a → P (f a)) → P (x >>= f)
+bind_cases : {A B : Type 0} (x : Result A Faulty) (f : A → Result B Faulty) (P : Result B Faulty → Type 0) → ((e : Faulty) → x ≡ Err e → P (Err e))
+    → ((a : A) → x ≡ Ok a → P (f a)) → P (x >>= f)
 bind_cases (Ok a) f P h g = g a refl
 bind_cases (Err e) f P h g = h e refl
 
@@ -122,7 +124,8 @@ module _ (n : ℕ) (sound_n : (c : Context) (ib : Bool) (d : ℕ) (s : List ℕ)
       bind_cases (close second.1) _ (Branches ib d s) (λ e f''. behind_second g f' g' f'') (λ r f''. two g f' g' f'')))
       (λ v. one g (f ∙ ap (λ w. Ok (w, more.1)) v))))
 
-  sound_by : (c : Context) (ib : Bool) (d : ℕ) (s : List ℕ) (m : Move) → length s ≤ n → move_of c ib d s ≡ m → Smaller (length s) m → Gives c ib d s (step (reading n) c ib d m)
+  sound_by : (c : Context) (ib : Bool) (d : ℕ) (s : List ℕ) (m : Move) → length s ≤ n → move_of c ib d s ≡ m → Smaller (length s) m → Gives c ib d s
+      (step (reading n) c ib d m)
   sound_by c ib d s (Ends r) lt e k = ends e
   sound_by c ib d s (Stops x) lt e k = stops e
   sound_by c ib d s (Literal b t) lt e k = literal e (sound_n c ib d t (omega arith))

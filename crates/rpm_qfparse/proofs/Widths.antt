@@ -25,7 +25,8 @@ number_by : (n b : ℕ) (s : List ℕ) (v : Bool) → is_ascii_digit b ≡ v →
 number_by n b s true e more =
     let d : digit_value b + 48 ≡ b = digit_value_digit b (in_range b e) in
     let same : 10 * n + (b - 48) ≡ n * 10 + digit_value b = omega arith in
-    more (10 * n + (b - 48)) ∙ ap (λ m. digits_value_after 10 m (take (digit_count s) s)) same ∙ ap (λ k. digits_value_after 10 n (take k (b ∷ s))) (one_more (digit_count s))
+    more (10 * n + (b - 48)) ∙ ap (λ m. digits_value_after 10 m (take (digit_count s) s)) same ∙ ap (λ k. digits_value_after 10 n (take k (b ∷ s)))
+    (one_more (digit_count s))
 number_by n b s false e more = refl
 
 pub number_is : (n : ℕ) (s : List ℕ) → number_from n s ≡ digits_value_after 10 n (take (digit_count s) s)
@@ -59,7 +60,8 @@ number_grows n (b ∷ s) =
 digit_here : (b : ℕ) → 48 ≤ b → b < 58 → is_ascii_digit b ≡ true
 digit_here b lo hi = grind (arith)
 
-pub too_large : (n : ℕ) (s text : List ℕ) → 1 ≤ length s → 48 ≤ get_or s 0 0 → get_or s 0 0 < 58 → number_from n s ≡ number_of text → 4096 < 10 * n + (get_or s 0 0 - 48) → 4096 < number_of text
+pub too_large : (n : ℕ) (s text : List ℕ) → 1 ≤ length s → 48 ≤ get_or s 0 0 → get_or s 0 0 < 58 → number_from n s ≡ number_of text → 4096
+    < 10 * n + (get_or s 0 0 - 48) → 4096 < number_of text
 unfolding number_from
 too_large n [] text some lo hi e big = absurd (omega arith)
 too_large n (b ∷ s) text some lo hi e big =

@@ -107,4 +107,5 @@ placed text (Err e) = Err (record { kind = e.0; at = length text - length e.1 })
 
 -- the tree of a text, or its first fault
 unfoldable pub format : List ℕ → Result Tree FormatFault
-format text = if nat_lt 65536 (length text) then Err (record { kind = TooLong; at = 65536 }) else placed text (reading (suc (length text)) context.Top false 0 text)
+format text = if nat_lt 65536 (length text) then Err (record { kind = TooLong; at = 65536 }) else placed text (reading (suc (length text)) context.Top
+    false 0 text)

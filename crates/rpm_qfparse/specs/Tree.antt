@@ -56,7 +56,8 @@ same_tree (Text b r) (Text c s) p = λ i. Text ((coded_list coded_ℕ).inj b c (
 same_tree (Shown t r) (Shown u s) p = λ i. Shown (part_code.inj t u (ap (λ g. head (tail g)) p) i) (same_tree r s (ap (λ g. tail (tail g)) p) i)
 same_tree (Bracket a r) (Bracket b s) p = λ i. Bracket (same_tree a b (ap (λ g. head (tail g)) p) i) (same_tree r s (ap (λ g. tail (tail g)) p) i)
 same_tree (Condition t a b r) (Condition u c d s) p =
-    λ i. Condition (tag_code.inj t u (ap (λ g. head (head (tail g))) p) i) (same_tree a c (ap (λ g. tail (head (tail g))) p) i) (same_tree b d (ap (λ g. head (tail (tail g))) p) i) (same_tree r s (ap (λ g. tail (tail (tail g))) p) i)
+    λ i. Condition (tag_code.inj t u (ap (λ g. head (head (tail g))) p) i) (same_tree a c (ap (λ g. tail (head (tail g))) p) i)
+    (same_tree b d (ap (λ g. head (tail (tail g))) p) i) (same_tree r s (ap (λ g. tail (tail (tail g))) p) i)
 same_tree x y p = cc
 
 abbrev pub tree_code : Coded Tree

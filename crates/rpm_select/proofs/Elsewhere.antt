@@ -6,10 +6,10 @@ use Rattle.rpm_header.specs.Header.{Header, header}
 use Rattle.rpm_db.specs.State.{Package, Good, Bad}
 use Rattle.rpm_select.specs.declared.selection.Selection.{Selection}
 use Rattle.rpm_select.specs.declared.selection.Selection.TheVariants.{Number, All, Pattern, Label, Path, Group, Provides, Requires, Conflicts, Obsoletes, Trigger, Directory, Tid, Recommends}
-use Rattle.rpm_select.specs.Selections.{holds, holds_in, is_picked, is_elsewhere}
+use Rattle.rpm_select.specs.Selections.{takes_header, takes_read, is_picked, is_elsewhere}
 
-no_header : (m n : ℕ) → (n == m) ≡ false → (r : Result Header HeaderFault) → holds_in (Number m) n r ≡ false
-unfolding holds
+no_header : (m n : ℕ) → (n == m) ≡ false → (r : Result Header HeaderFault) → takes_read (Number m) n r ≡ false
+unfolding takes_header
 no_header m n other (Ok h) = other
 no_header m n other (Err fault) = refl
 

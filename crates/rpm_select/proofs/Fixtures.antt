@@ -3,20 +3,25 @@ use Rattle.std.specs.Prelude.{◌≡◌, ℕ, List, [], ◌∷◌, codes, Option
 use Rattle.rpm_select.specs.Glob.{glob, pieces_behind, piece_at}
 use Rattle.rpm_select.specs.Labels.{with_name, without, is_dash, is_dash_or_dot}
 
-ends : (glob (codes "*a") (codes "ba") ≡ true) × (glob (codes "*a") (codes "ab") ≡ false) × (glob (codes "a?c") (codes "abc") ≡ true) × (glob (codes "?") [] ≡ false)
+ends : (glob (codes "*a") (codes "ba") ≡ true) × (glob (codes "*a") (codes "ab") ≡ false) × (glob (codes "a?c") (codes "abc") ≡ true)
+    × (glob (codes "?") [] ≡ false)
 unfolding glob pieces_behind piece_at
 ends = (refl, refl, refl, refl)
 
-sets : (glob (codes "[]a]") (codes "]") ≡ true) × (glob (codes "[!]a]") (codes "]") ≡ false) × (glob (codes "[a-]") (codes "-") ≡ true) × (glob (codes "[-a]") (codes "b") ≡ false) × (glob (codes "[a-c]") (codes "b") ≡ true) × (glob (codes "[z-a]") (codes "m") ≡ false)
+sets : (glob (codes "[]a]") (codes "]") ≡ true) × (glob (codes "[!]a]") (codes "]") ≡ false) × (glob (codes "[a-]") (codes "-") ≡ true)
+    × (glob (codes "[-a]") (codes "b") ≡ false) × (glob (codes "[a-c]") (codes "b") ≡ true) × (glob (codes "[z-a]") (codes "m") ≡ false)
 unfolding glob pieces_behind piece_at
 sets = (refl, refl, refl, refl, refl, refl)
 
-selves : (glob (codes "[a") (codes "[a") ≡ true) × (glob (codes "[]") (codes "[]") ≡ true) × (glob (codes "\\") (codes "\\") ≡ true) × (glob (codes "[\\]") (codes "\\") ≡ true) × (glob (codes "\\*") (codes "a") ≡ false)
+selves : (glob (codes "[a") (codes "[a") ≡ true) × (glob (codes "[]") (codes "[]") ≡ true) × (glob (codes "\\") (codes "\\") ≡ true)
+    × (glob (codes "[\\]") (codes "\\") ≡ true) × (glob (codes "\\*") (codes "a") ≡ false)
 unfolding glob pieces_behind piece_at
 selves = (refl, refl, refl, refl, refl)
 
-six : with_name (without is_dash_or_dot (Some (codes "x"))) (Some (codes "n-m")) (without is_dash (Some (codes "1"))) (without is_dash (Some (codes "2"))) ≡ codes "n-m" ∷ codes "n-m.x" ∷ codes "n-m-1" ∷ codes "n-m-1.x" ∷ codes "n-m-1-2" ∷ codes "n-m-1-2.x" ∷ []
+six : with_name (without is_dash_or_dot (Some (codes "x"))) (Some (codes "n-m")) (without is_dash (Some (codes "1"))) (without is_dash (Some (codes "2")))
+    ≡ codes "n-m" ∷ codes "n-m.x" ∷ codes "n-m-1" ∷ codes "n-m-1.x" ∷ codes "n-m-1-2" ∷ codes "n-m-1-2.x" ∷ []
 six = refl
 
-few : with_name (without is_dash_or_dot (Some (codes "x.y"))) (Some (codes "n")) (without is_dash (Some (codes "1-1"))) (without is_dash (Some (codes "2"))) ≡ codes "n" ∷ []
+few : with_name (without is_dash_or_dot (Some (codes "x.y"))) (Some (codes "n")) (without is_dash (Some (codes "1-1"))) (without is_dash (Some (codes "2")))
+    ≡ codes "n" ∷ []
 few = refl

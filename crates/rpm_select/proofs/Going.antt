@@ -35,7 +35,9 @@ star_here ps text is = star_first ps text ∙ ap (λ (x : Bool). x || later ps t
 -- two stars are one
 star_star : (ps : List Piece) (text : List ℕ) → stands_for (Star ∷ Star ∷ ps) text ≡ true → stands_for (Star ∷ ps) text ≡ true
 star_star ps [] is = is
-star_star ps (b ∷ text) is = here_or_later (stands_for (Star ∷ ps) (b ∷ text)) (stands_for (Star ∷ Star ∷ ps) text) (λ here. here) (λ more. star_longer ps b text (star_star ps text more)) is
+star_star ps (b ∷ text) is =
+    here_or_later (stands_for (Star ∷ ps) (b ∷ text)) (stands_for (Star ∷ Star ∷ ps) text) (λ here. here)
+    (λ more. star_longer ps b text (star_star ps text more)) is
 
 -- a piece that takes one byte
 none_taken : (p : Piece) (ps : List Piece) → p ≢ Star → stands_for (p ∷ ps) [] ≡ false
@@ -57,7 +59,8 @@ and_second false y is = absurd cc
 none_at_end : (p : Piece) (ps : List Piece) → p ≢ Star → stands_for (Star ∷ p ∷ ps) [] ≡ true → ⊥
 none_at_end p ps other is = let fails = sym is ∙ none_taken p ps other in absurd cc
 
-behind_one : (p : Piece) (ps : List Piece) (b : ℕ) (text : List ℕ) → p ≢ Star → stands_for (Star ∷ p ∷ ps) (b ∷ text) ≡ true → stands_for (Star ∷ ps) text ≡ true
+behind_one : (p : Piece) (ps : List Piece) (b : ℕ) (text : List ℕ) → p ≢ Star → stands_for (Star ∷ p ∷ ps) (b ∷ text) ≡ true
+    → stands_for (Star ∷ ps) text ≡ true
 behind_one p ps b [] other is =
     here_or_later (stands_for (p ∷ ps) (b ∷ [])) (stands_for (Star ∷ p ∷ ps) [])
     (λ here. star_here ps [] (and_second (takes p b) (stands_for ps []) (sym (one_taken p ps b [] other) ∙ here)))
@@ -92,7 +95,8 @@ absorbed false true z enough = refl
 absorbed false false true enough = sym (enough refl)
 absorbed false false false enough = refl
 
-pub starred : (r : Bool) (all ps : List Piece) (text : List ℕ) (back : Option (List Piece × List ℕ)) → all ≡ Star ∷ ps → Goes r all text back → Goes r ps text (Some (ps, text))
+pub starred : (r : Bool) (all ps : List Piece) (text : List ℕ) (back : Option (List Piece × List ℕ)) → all ≡ Star ∷ ps → Goes r all text back
+    → Goes r ps text (Some (ps, text))
 starred r all ps text back is goes =
     let is_star : stands_for all text ≡ (stands_for ps text || later ps text) = ap (λ (qs : List Piece). stands_for qs text) is ∙ star_first ps text in
     record {
@@ -101,7 +105,8 @@ starred r all ps text back is goes =
       enough = λ more. star_first ps text ∙ ap (λ (x : Bool). stands_for ps text || x) more ∙ or_true (stands_for ps text);
     }
 
-pub taken : (r : Bool) (all : List Piece) (p : Piece) (ps : List Piece) (whole : List ℕ) (b : ℕ) (text : List ℕ) (back : Option (List Piece × List ℕ)) → p ≢ Star → takes p b ≡ true → all ≡ p ∷ ps → whole ≡ b ∷ text → Goes r all whole back → Goes r ps text back
+pub taken : (r : Bool) (all : List Piece) (p : Piece) (ps : List Piece) (whole : List ℕ) (b : ℕ) (text : List ℕ) (back : Option (List Piece × List ℕ))
+    → p ≢ Star → takes p b ≡ true → all ≡ p ∷ ps → whole ≡ b ∷ text → Goes r all whole back → Goes r ps text back
 taken r all p ps whole b text back other takes_it is cut goes =
     let here : stands_for all whole ≡ stands_for ps text = rw (is, cut) (one_taken p ps b text other ∙ ap (λ (x : Bool). x && stands_for ps text) takes_it) in
     record {
@@ -109,20 +114,23 @@ taken r all p ps whole b text back other takes_it is cut goes =
       enough = λ before. behind_one p ps b text other (rw (is, cut) at (goes.enough before));
     }
 
-pub stuck : (r : Bool) (all ps : List Piece) (whole : List ℕ) (b : ℕ) (text : List ℕ) → stands_for all whole ≡ false → Goes r all whole (Some (ps, b ∷ text)) → Goes r ps text (Some (ps, text))
+pub stuck : (r : Bool) (all ps : List Piece) (whole : List ℕ) (b : ℕ) (text : List ℕ) → stands_for all whole ≡ false
+    → Goes r all whole (Some (ps, b ∷ text)) → Goes r ps text (Some (ps, text))
 stuck r all ps whole b text fails goes =
     record {
       answer = goes.answer ∙ ap (λ (x : Bool). x || stands_for (Star ∷ ps) text) fails ∙ star_first ps text;
       enough = λ more. star_first ps text ∙ ap (λ (x : Bool). stands_for ps text || x) more ∙ or_true (stands_for ps text);
     }
 
-pub ended : (r : Bool) (all : List Piece) (whole : List ℕ) (back : Option (List Piece × List ℕ)) → stands_for all whole ≡ false → again back ≡ false → Goes r all whole back → false ≡ r
+pub ended : (r : Bool) (all : List Piece) (whole : List ℕ) (back : Option (List Piece × List ℕ)) → stands_for all whole ≡ false → again back ≡ false
+    → Goes r all whole back → false ≡ r
 ended r all whole back fails none goes = sym (goes.answer ∙ ap (λ (x : Bool). x || again back) fails ∙ none)
 
 pub done : (r : Bool) (all : List Piece) (whole : List ℕ) (back : Option (List Piece × List ℕ)) → stands_for all whole ≡ true → Goes r all whole back → true ≡ r
 done r all whole back holds goes = sym (goes.answer ∙ ap (λ (x : Bool). x || again back) holds)
 
-pub short : (r : Bool) (all : List Piece) (p : Piece) (ps : List Piece) (whole : List ℕ) (back : Option (List Piece × List ℕ)) → p ≢ Star → all ≡ p ∷ ps → whole ≡ [] → Goes r all whole back → false ≡ r
+pub short : (r : Bool) (all : List Piece) (p : Piece) (ps : List Piece) (whole : List ℕ) (back : Option (List Piece × List ℕ)) → p ≢ Star → all ≡ p ∷ ps
+    → whole ≡ [] → Goes r all whole back → false ≡ r
 short r all p ps whole back other is cut goes =
     ended r all whole back (rw (is, cut) (none_taken p ps other)) (elim (cases_Bool (again back)) [
       | inl more ↦ absurd (none_at_end p ps other (rw (is, cut) at (goes.enough more)))
@@ -142,10 +150,12 @@ unfolding pieces_behind
 none_cut [] none = refl
 none_cut (x ∷ xs) none = absurd (omega arith)
 
-pub one_cut : (xs : List ℕ) (w : Written) (d : ℕ) → 0 < length xs → w ≡ piece_at (get_or xs 0 d) (drop 1 xs) → 0 < w.size → pieces xs ≡ w.piece ∷ pieces (drop w.size xs)
+pub one_cut : (xs : List ℕ) (w : Written) (d : ℕ) → 0 < length xs → w ≡ piece_at (get_or xs 0 d) (drop 1 xs) → 0 < w.size
+    → pieces xs ≡ w.piece ∷ pieces (drop w.size xs)
 unfolding pieces_behind
 one_cut [] w d some is more = absurd (omega arith)
 one_cut (x ∷ xs) w d some is more =
     let step : suc (w.size - 1) ≡ w.size = omega arith in
-    let rest : pieces_behind (w.size - 1) xs ≡ pieces_behind 0 (drop w.size (x ∷ xs)) = behind_is (w.size - 1) xs ∙ ap (λ (n : ℕ). pieces_behind 0 (drop n (x ∷ xs))) step in
+    let rest : pieces_behind (w.size - 1) xs ≡ pieces_behind 0 (drop w.size (x ∷ xs)) =
+    behind_is (w.size - 1) xs ∙ ap (λ (n : ℕ). pieces_behind 0 (drop n (x ∷ xs))) step in
     ap (λ (v : Written). v.piece ∷ pieces_behind (v.size - 1) xs) (sym is) ∙ ap (λ (ps : List Piece). w.piece ∷ ps) rest

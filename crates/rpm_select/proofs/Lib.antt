@@ -1,7 +1,9 @@
-pub mod Above
+pub mod Back
 pub mod Bounds
 pub mod Elsewhere
 pub mod Fixtures
 pub mod Going
 pub mod Members
+pub mod Owning
 pub mod Picking
+pub mod Unclosed

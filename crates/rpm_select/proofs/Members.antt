@@ -3,7 +3,7 @@ use Rattle.std.proofs.Common.{◌≡◌, ℕ, ◌-◌, ◌<◌, ◌≤◌, List,
 use Rattle.std.proofs.lemmas.Bool.{cases_Bool, lt-ltb}
 use Rattle.std.proofs.lemmas.List.{take_all, length-drop}
 use Rattle.rpm_select.specs.Glob.{is_member}
-use Rattle.rpm_select.specs.Members.{is_range, first_has, first_len}
+use Rattle.rpm_select.specs.inner.Members.{is_range, first_has, first_len}
 
 or_false : (x : Bool) → (x || false) ≡ x
 or_false true = refl
@@ -28,7 +28,8 @@ member_step b (x ∷ d ∷ y ∷ members) some =
 pub rest_is : (n : ℕ) (xs : List ℕ) → take (length xs - n) (drop n xs) ≡ drop n xs
 rest_is n xs = take_all (length xs - n) (drop n xs) (omega (arith, length-drop n xs))
 
-pub passed : (b : ℕ) (xs : List ℕ) (n : ℕ) (r : Bool) → 0 < length xs → n ≡ first_len xs → false ≡ first_has b xs → is_member b xs ≡ r → is_member b (take (length xs - n) (drop n xs)) ≡ r
+pub passed : (b : ℕ) (xs : List ℕ) (n : ℕ) (r : Bool) → 0 < length xs → n ≡ first_len xs → false ≡ first_has b xs → is_member b xs ≡ r
+    → is_member b (take (length xs - n) (drop n xs)) ≡ r
 passed b xs n r some size other before =
     ap (is_member b) (rest_is n xs) ∙ ap (λ (k : ℕ). is_member b (drop k xs)) size
     ∙ sym (member_step b xs some ∙ ap (λ (x : Bool). x || is_member b (drop (first_len xs) xs)) (sym other)) ∙ before

@@ -6,12 +6,11 @@ use Rattle.std.specs.FinMap as finite
 use Rattle.std.specs.List.{filter, list_any}
 use Rattle.std.proofs.lemmas.Bool.{cases_Bool}
 use Rattle.std.proofs.lemmas.Bool.Decides.{nat_tests}
-use Rattle.rpm_db.specs.State.{Package}
+use Rattle.rpm_db.specs.State.{Package, above}
 use Rattle.rpm_db.specs.Database.{IsNext}
 use Rattle.rpm_select.specs.declared.selection.Selection.{Selection}
 use Rattle.rpm_select.specs.Selections.{is_picked, picks}
-use Rattle.rpm_select.specs.Picks.{above}
-use Rattle.rpm_select.proofs.Above.{next_above, nothing_above}
+use Rattle.rpm_db.specs.inner.Above.{next_above, nothing_above}
 
 commute : {X : Type 0} (p q : X → Bool) (xs : List X) → filter p (filter q xs) ≡ filter q (filter p xs)
 commute p q [] = refl
@@ -57,13 +56,16 @@ next_package packages n m next =
       split = next_above packages n m p.0 next.0 p.1 (λ k a b. none_is (finite.get packages k) (next.2 k a b));
     }
 
-pub passed_one : (packages : finite.FinMap nat_cmp Package) (sel : Selection) (n m : ℕ) (next : Next packages n m) → is_picked sel (m, next.found) ≡ false → left packages sel n ≡ left packages sel m
+pub passed_one : (packages : finite.FinMap nat_cmp Package) (sel : Selection) (n m : ℕ) (next : Next packages n m) → is_picked sel (m, next.found) ≡ false
+    → left packages sel n ≡ left packages sel m
 passed_one packages sel n m next other = ap (filter (is_picked sel)) next.split ∙ rw other refl
 
-pub picked_one : (packages : finite.FinMap nat_cmp Package) (sel : Selection) (n m : ℕ) (next : Next packages n m) → is_picked sel (m, next.found) ≡ true → left packages sel n ≡ (m, next.found) ∷ left packages sel m
+pub picked_one : (packages : finite.FinMap nat_cmp Package) (sel : Selection) (n m : ℕ) (next : Next packages n m) → is_picked sel (m, next.found) ≡ true
+    → left packages sel n ≡ (m, next.found) ∷ left packages sel m
 picked_one packages sel n m next takes = ap (filter (is_picked sel)) next.split ∙ rw takes refl
 
-pub none_above : (packages : finite.FinMap nat_cmp Package) (sel : Selection) (n : ℕ) → IsNext (λ k. is_some (finite.get packages k)) n None → left packages sel n ≡ []
+pub none_above : (packages : finite.FinMap nat_cmp Package) (sel : Selection) (n : ℕ) → IsNext (λ k. is_some (finite.get packages k)) n None
+    → left packages sel n ≡ []
 none_above packages sel n next = ap (filter (is_picked sel)) (nothing_above packages n (λ k lt. none_is (finite.get packages k) (next k lt)))
 
 -- ---- whether one is at most a number
@@ -91,14 +93,16 @@ past_all packages sel n k m past next = elim (cases_Bool (is_picked sel (m, next
   | inr other ↦ ap (any_to n) (passed_one packages sel k m next other) ∙ none_so_far (is_picked sel) n m (omega arith) (finite.entries packages)
 ]
 
-pub one_to : (packages : finite.FinMap nat_cmp Package) (sel : Selection) (n k m : ℕ) (next : Next packages k m) → m ≤ n → is_picked sel (m, next.found) ≡ true → any_to n (left packages sel k) ≡ true
+pub one_to : (packages : finite.FinMap nat_cmp Package) (sel : Selection) (n k m : ℕ) (next : Next packages k m) → m ≤ n
+    → is_picked sel (m, next.found) ≡ true → any_to n (left packages sel k) ≡ true
 one_to packages sel n k m next within takes =
     let here : nat_le m n ≡ true = grind (arith, nat_tests) in
     ap (any_to n) (picked_one packages sel k m next takes) ∙ rw here refl
 
 -- ---- numbers, one by one
 
-pub number_step : (w : ℕ) (xs : List ℕ) (i j n : ℕ) → j ≡ i + 1 → slice_get xs i ≡ Some n → list_any (λ m. m == w) (drop i xs) ≡ ((n == w) || list_any (λ m. m == w) (drop j xs))
+pub number_step : (w : ℕ) (xs : List ℕ) (i j n : ℕ) → j ≡ i + 1 → slice_get xs i ≡ Some n
+    → list_any (λ m. m == w) (drop i xs) ≡ ((n == w) || list_any (λ m. m == w) (drop j xs))
 number_step w [] i j n next at = absurd cc
 number_step w (x ∷ xs) zero j n next at =
     let is : x ≡ n = cc in

@@ -38,7 +38,8 @@ with_name arch (Some name) version release = with_arch arch name ++ with_version
 
 -- N, N.A, N-V, N-V.A, N-V-R and N-V-R.A; a version, a release and an architecture have no dash, and the last no dot
 unfoldable pub labels : Header → List (List ℕ)
-labels h = with_name (without is_dash_or_dot (first_text h 1022)) (first_text h 1000) (without is_dash (first_text h 1001)) (without is_dash (first_text h 1002))
+labels h =
+    with_name (without is_dash_or_dot (first_text h 1022)) (first_text h 1000) (without is_dash (first_text h 1001)) (without is_dash (first_text h 1002))
 
 -- a glob, or a text, is one that a label is picked by
 abbrev pub matches : Bool → List ℕ → List ℕ → Bool

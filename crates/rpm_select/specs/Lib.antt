@@ -1,10 +1,6 @@
 pub mod Candidates
 pub mod Glob
-pub mod Going
 pub mod Labels
-pub mod Members
-pub mod Needs
 pub mod Picks
-pub mod Pieces
 pub mod Selections
-pub mod Steps
+pub mod inner

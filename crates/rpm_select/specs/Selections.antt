@@ -46,21 +46,21 @@ abbrev pub is_first : List ℕ → Option (List ℕ) → Bool
 is_first x None = false
 is_first x (Some text) = bytes_eq x text
 
-unfoldable pub holds : Selection → ℕ → Header → Bool
-holds All n h = true
-holds (Pattern p) n h = list_any (glob p.now) (labels h)
-holds (Label x) n h = is_among x.now (labels h)
-holds (Path x) n h = has_file h x.now
-holds (Group x) n h = is_first x.now (first_text h 1016)
-holds (Provides c) n h = has_any (tags 1047 1112 1113) c h || is_file_of c h
-holds (Requires c) n h = has_any (tags 1049 1048 1050) c h
-holds (Conflicts c) n h = has_any (tags 1054 1053 1055) c h
-holds (Obsoletes c) n h = has_any (tags 1090 1114 1115) c h
-holds (Trigger x) n h = is_among x.now (listed (texts_in h 1066))
-holds (Number m) n h = n == m
-holds (Directory x) n h = is_among x.now (listed (texts_in h 1118))
-holds (Tid t) n h = list_any (λ m. m == t) (listed (numbers_in h 1128))
-holds (Recommends c) n h = has_any (tags 5046 5048 5047) c h
+unfoldable pub takes_header : Selection → ℕ → Header → Bool
+takes_header All n h = true
+takes_header (Pattern p) n h = list_any (glob p.now) (labels h)
+takes_header (Label x) n h = is_among x.now (labels h)
+takes_header (Path x) n h = has_file h x.now
+takes_header (Group x) n h = is_first x.now (first_text h 1016)
+takes_header (Provides c) n h = has_any (tags 1047 1112 1113) c h || is_file_of c h
+takes_header (Requires c) n h = has_any (tags 1049 1048 1050) c h
+takes_header (Conflicts c) n h = has_any (tags 1054 1053 1055) c h
+takes_header (Obsoletes c) n h = has_any (tags 1090 1114 1115) c h
+takes_header (Trigger x) n h = is_among x.now (listed (texts_in h 1066))
+takes_header (Number m) n h = n == m
+takes_header (Directory x) n h = is_among x.now (listed (texts_in h 1118))
+takes_header (Tid t) n h = list_any (λ m. m == t) (listed (numbers_in h 1128))
+takes_header (Recommends c) n h = has_any (tags 5046 5048 5047) c h
 
 -- ---- the packages that are picked
 
@@ -76,12 +76,12 @@ abbrev pub is_elsewhere : Selection → ℕ → Bool
 is_elsewhere (Number m) n = not (n == m)
 is_elsewhere others n = false
 
-abbrev pub holds_in : Selection → ℕ → Result Header HeaderFault → Bool
-holds_in sel n (Ok h) = holds sel n h
-holds_in sel n (Err fault) = false
+abbrev pub takes_read : Selection → ℕ → Result Header HeaderFault → Bool
+takes_read sel n (Ok h) = takes_header sel n h
+takes_read sel n (Err fault) = false
 
 abbrev pub is_picked : Selection → ℕ × Package → Bool
-is_picked sel (n, Good bytes) = holds_in sel n (header bytes)
+is_picked sel (n, Good bytes) = takes_read sel n (header bytes)
 is_picked sel (n, Bad) = takes_bad sel n
 
 -- by rising number

@@ -95,7 +95,8 @@ fn any_arch(
     arch: Option<&[u8]>,
     wanted: Wanted<'_>,
 ) -> Result<bool, AllocError>
-    ensures value { IfOk result (λ b. b ≡ list_any (matches wanted.entry.is_glob wanted.entry.text.now) (with_arch (option_copied arch.entry) label.old.items)) }
+    ensures value { IfOk result (λ b. b ≡ list_any (matches wanted.entry.is_glob wanted.entry.text.now)
+        (with_arch (option_copied arch.entry) label.old.items)) }
     ensures same { OnOk result (label.new.items ≡ label.old.items) }
 {
     if matches(wanted, label) {
@@ -117,7 +118,8 @@ fn any_release(
     release: Option<&[u8]>,
     wanted: Wanted<'_>,
 ) -> Result<bool, AllocError>
-    ensures { IfOk result (λ b. b ≡ list_any (matches wanted.entry.is_glob wanted.entry.text.now) (with_release (option_copied arch.entry) (option_copied release.entry) label.old.items)) }
+    ensures { IfOk result (λ b. b ≡ list_any (matches wanted.entry.is_glob wanted.entry.text.now)
+        (with_release (option_copied arch.entry) (option_copied release.entry) label.old.items)) }
 {
     let Some(release) = release else {
         return Ok(false);
@@ -133,7 +135,8 @@ fn any_version(
     release: Option<&[u8]>,
     wanted: Wanted<'_>,
 ) -> Result<bool, AllocError>
-    ensures { IfOk result (λ b. b ≡ list_any (matches wanted.entry.is_glob wanted.entry.text.now) (with_version (option_copied arch.entry) (option_copied version.entry) (option_copied release.entry) label.old.items)) }
+    ensures { IfOk result (λ b. b ≡ list_any (matches wanted.entry.is_glob wanted.entry.text.now)
+        (with_version (option_copied arch.entry) (option_copied version.entry) (option_copied release.entry) label.old.items)) }
 {
     let Some(version) = version else {
         return Ok(false);
@@ -153,7 +156,8 @@ fn any_name(
     release: Option<&[u8]>,
     wanted: Wanted<'_>,
 ) -> Result<bool, AllocError>
-    ensures { IfOk result (λ b. b ≡ list_any (matches wanted.entry.is_glob wanted.entry.text.now) (with_name (option_copied arch.entry) (option_copied name.entry) (option_copied version.entry) (option_copied release.entry))) }
+    ensures { IfOk result (λ b. b ≡ list_any (matches wanted.entry.is_glob wanted.entry.text.now)
+        (with_name (option_copied arch.entry) (option_copied name.entry) (option_copied version.entry) (option_copied release.entry))) }
 {
     let Some(name) = name else {
         return Ok(false);

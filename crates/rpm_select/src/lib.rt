@@ -12,5 +12,4 @@ mod tests;
 
 pub use matching::glob;
 pub use picker::{Blob, PickFault, Picked, Picker};
-pub use rows::holds;
 pub use selection::Selection;

@@ -2,9 +2,10 @@
 
 ghost use Rattle.std.specs.Prelude.{◌≡◌};
 ghost use Rattle.rpm_select.specs.Glob.{glob};
-ghost use Rattle.rpm_select.specs.Steps.{StepIs};
+ghost use Rattle.rpm_select.specs.inner.Unclosed.{IsUnclosed};
+ghost use Rattle.rpm_select.specs.inner.Steps.{StepIs, LeavesUnclosed};
 
-use crate::piece::{Piece, next_piece, takes};
+use crate::piece::{Piece, next_piece, takes, unclosed_len};
 
 // What a glob and a text come to, one piece further.
 enum Move<'a> {
@@ -20,10 +21,12 @@ enum Move<'a> {
     Stuck,
 }
 
-fn step<'a>(glob: &'a [u8], text: &'a [u8]) -> Move<'a>
-    ensures { StepIs glob.now text.now result }
+fn step<'a>(glob: &'a [u8], unclosed: usize, text: &'a [u8]) -> Move<'a>
+    requires { IsUnclosed unclosed glob.now }
+    ensures step { StepIs glob.now text.now result }
+    ensures unclosed { LeavesUnclosed unclosed result }
 {
-    match (next_piece(glob), text) {
+    match (next_piece(glob, unclosed), text) {
         (None, []) => Move::Done,
         (None, _) => Move::Stuck,
         (Some((Piece::Star, behind)), _) => Move::Starred(behind),
@@ -41,17 +44,18 @@ fn step<'a>(glob: &'a [u8], text: &'a [u8]) -> Move<'a>
 /// Whether a glob matches the whole of a text: `*` stands for any bytes, `?` for one byte, `[set]` for one byte of the set, and `\`
 /// takes the next byte for itself.
 ///
-/// Takes no memory. From the last star on the text is tried at one place after the
-/// other, and earlier stars are never tried again; a `[` without an end is looked through to the end each time that it is met.
+/// Takes no memory. From the last star on the text is tried at one place after the other, and earlier stars are never tried again.
+/// So it takes at most as many steps as the pattern has bytes for each byte of the text and once more.
 #[tactic(auto, unfolding(crate::specs::Glob::glob))]
 pub fn glob(pattern: &[u8], text: &[u8]) -> bool
     ensures { result ≡ glob pattern.now text.now }
 {
+    let unclosed = unclosed_len(pattern);
     let mut behind = pattern;
     let mut left = text;
     let mut back: Option<(&[u8], &[u8])> = None;
     loop {
-        match step(behind, left) {
+        match step(behind, unclosed, left) {
             Move::Done => return true,
             Move::Short => return false,
             Move::Starred(rest) => {

@@ -1,15 +1,17 @@
 //! The packages that a question picks, one at a time.
 
-ghost use Rattle.std.specs.Prelude.{◌≡◌, ◌≢◌, ℕ, IsTrue, IfOk, false, true, Ok, Err, Some};
+ghost use Rattle.std.specs.Prelude.{◌≡◌, ◌≢◌, ℕ, IsTrue, IsOk, IfOk, false, true, Ok, Err, Some};
 ghost use Rattle.std.specs.FinMap as finite;
 ghost use Rattle.rpm_outside.specs.Causes.{HasCauseAt};
+ghost use Rattle.rpm_outside.specs.declared.disk.File.TheVariants.{Pkg};
 ghost use Rattle.rpm_outside.specs.Looks.{Looks};
-ghost use Rattle.rpm_db.specs.State.{Package, Bad, packages, package_of};
+ghost use Rattle.rpm_db.specs.State.{Package, Bad, packages, package_of, above};
 ghost use Rattle.rpm_db.specs.Database.{Keeps, holds, cost, cost_to};
 ghost use Rattle.rpm_select.specs.Selections.{picks, takes_bad, is_elsewhere};
-ghost use Rattle.rpm_select.specs.Picks.{NextIs, OneIs, AnyIs, above, cost_after, TakenIs, IsNumbered};
+ghost use Rattle.rpm_select.specs.Picks.{NextIs, AnyIs, cost_after, ReadsOwn, is_broken};
+ghost use Rattle.rpm_select.specs.inner.Single.{OneIs, TakenIs, IsNumbered};
 
-use crate::rows::holds;
+use crate::rows::takes_header;
 use crate::selection::Selection;
 use rpm_db::{Db, GetFault};
 use rpm_header::View;
@@ -70,11 +72,10 @@ enum Taken {
     Bad,
 }
 
-/// Goes through the packages that a selection picks. Holds no package.
+/// The way through the packages that a selection picks. No index is asked yet, so it goes by the numbers of all that are there, and
+/// holds nothing.
 #[derive(Drop)]
-pub struct Picker {
-    passed: u32,
-}
+pub struct Picker {}
 
 /// Whether a selection takes a package that can't be read.
 fn takes_bad(selection: &Selection<'_>, number: u32) -> bool
@@ -92,6 +93,7 @@ fn pick_bad(selection: &Selection<'_>, number: u32) -> Result<Option<Picked>, Pi
     ensures told { OneIs selection.now number Bad result }
     ensures numbered { IsNumbered number result }
     ensures no_fault { result ≢ Err PickFault.DiskFault }
+    ensures unbroken { is_broken result ≡ false }
 {
     if takes_bad(selection, number) {
         Ok(Some(Picked::Bad { number }))
@@ -109,12 +111,13 @@ fn taken_length(
 ) -> Result<Taken, PickFault>
     ensures told { IfOk result (λ t. TakenIs selection.now number blob.now t) }
     ensures no_fault { result ≢ Err PickFault.DiskFault }
+    ensures unbroken { is_broken result ≡ false }
 {
     let Ok(view) = View::parse(blob) else {
         return Ok(Taken::Bad);
     };
     let length = view.blob().len();
-    match holds(alloc, selection, number, &view) {
+    match takes_header(alloc, selection, number, &view) {
         Ok(true) => Ok(Taken::Good(length)),
         Ok(false) => Ok(Taken::Passed),
         Err(_) => Err(PickFault::NoMemory),
@@ -131,6 +134,7 @@ fn pick_blob(
     ensures told { OneIs selection.now number (package_of (Some blob.items)) result }
     ensures numbered { IsNumbered number result }
     ensures no_fault { result ≢ Err PickFault.DiskFault }
+    ensures unbroken { is_broken result ≡ false }
 {
     match taken_length(alloc, selection, number, &blob) {
         Err(fault) => Err(fault),
@@ -169,10 +173,12 @@ fn pick<D: Disk>(
     requires runs { db.now.stopped ≡ false }
     requires there { holds number db.now ≡ true }
     ensures kept { IsTrue D.tells → Keeps (D.files disk.new).pkg db.now }
-    ensures told { IsTrue D.tells → (p : Package) → finite.get (packages (D.files disk.old).pkg db.now.store) number ≡ Some p → OneIs selection.now number p result }
+    ensures told { IsTrue D.tells → (p : Package) → finite.get (packages (D.files disk.old).pkg db.now.store) number ≡ Some p
+        → OneIs selection.now number p result }
     ensures numbered { IsNumbered number result }
-    ensures looks { Looks D.tells D.files D.left_since D.moment D.bytes_read D.follows (cost number db.now) disk.old disk.new }
+    ensures looks { Looks D.tells D.files D.left_since D.moment D.bytes_read D.follows Pkg (cost number db.now) disk.old disk.new }
     ensures cause { HasCauseAt (result ≡ Err PickFault.DiskFault) (D.faults disk.old) (D.faults disk.new) }
+    ensures unbroken { is_broken result ≡ false }
     ensures unread { is_elsewhere selection.now number ≡ true → D.bytes_read disk.new File.Pkg ≡ D.bytes_read disk.old File.Pkg }
 {
     if is_elsewhere(selection, number) {
@@ -188,19 +194,32 @@ fn pick<D: Disk>(
 }
 
 impl Picker {
-    /// Begins to go through the packages. Reads nothing.
-    pub fn new(_db: &Db) -> Picker {
-        Picker { passed: 0 }
+    /// Begins to go through the packages that a selection picks. Nothing is read, and it always answers Ok, since no index is asked.
+    pub fn new<D: Disk>(
+        _alloc: Global,
+        db: &Db,
+        disk: &mut D,
+        _selection: &Selection<'_>,
+    ) -> Result<Picker, PickFault>
+        requires keeps { IsTrue D.tells → Keeps (D.files disk.old).pkg db.now }
+        requires runs { db.now.stopped ≡ false }
+        ensures kept { IsTrue D.tells → Keeps (D.files disk.new).pkg db.now }
+        ensures begins { IsOk result }
+        ensures looks { Looks D.tells D.files D.left_since D.moment D.bytes_read D.follows Pkg 0 disk.old disk.new }
+    {
+        Ok(Picker {})
     }
 
     /// The package that is picked with the least number above n; None exactly where there is none.
     ///
-    /// Reads the blocks of the numbers above n, up to the one that is given or all of them, each once. Holds one package at a time.
+    /// Reads the blocks of the numbers above n, up to the one that is given or all of them, each once, and where the selection is a
+    /// number those of that number alone. Holds one package at a time, and parses its header once.
     ///
     /// # Errors
     ///
     /// - `DiskFault` only where the disk's count of faults rose.
     /// - `NoMemory` where a package or a label finds no memory.
+    /// - It doesn't answer `BadIndex`, since no index is asked.
     pub fn next_after<D: Disk>(
         &mut self,
         alloc: Global,
@@ -213,7 +232,9 @@ impl Picker {
         requires runs { db.now.stopped ≡ false }
         ensures kept { IsTrue D.tells → Keeps (D.files disk.new).pkg db.now }
         ensures told { IsTrue D.tells → NextIs (above n (picks (packages (D.files disk.old).pkg db.now.store) selection.now)) result }
-        ensures looks { Looks D.tells D.files D.left_since D.moment D.bytes_read D.follows (cost_after n db.now result) disk.old disk.new }
+        ensures looks { Looks D.tells D.files D.left_since D.moment D.bytes_read D.follows Pkg (cost_after n db.now result) disk.old disk.new }
+        ensures own { ReadsOwn selection.now db.now (D.bytes_read disk.old File.Pkg) (D.bytes_read disk.new File.Pkg) }
+        ensures unbroken { is_broken result ≡ false }
         ensures cause { HasCauseAt (result ≡ Err PickFault.DiskFault) (D.faults disk.old) (D.faults disk.new) }
     {
         let mut passed = n;
@@ -229,7 +250,8 @@ impl Picker {
 
     /// Whether some number from 1 to n is picked.
     ///
-    /// Reads the blocks of the numbers from 1 to n, up to the first that is picked, each once.
+    /// Reads the blocks of the numbers from 1 to n, up to the first that is picked, each once, and where the selection is a number
+    /// those of that number alone.
     ///
     /// # Errors
     ///
@@ -246,7 +268,9 @@ impl Picker {
         requires runs { db.now.stopped ≡ false }
         ensures kept { IsTrue D.tells → Keeps (D.files disk.new).pkg db.now }
         ensures told { IsTrue D.tells → AnyIs (above 0 (picks (packages (D.files disk.old).pkg db.now.store) selection.now)) n result }
-        ensures looks { Looks D.tells D.files D.left_since D.moment D.bytes_read D.follows (cost_to n db.now) disk.old disk.new }
+        ensures looks { Looks D.tells D.files D.left_since D.moment D.bytes_read D.follows Pkg (cost_to n db.now) disk.old disk.new }
+        ensures own { ReadsOwn selection.now db.now (D.bytes_read disk.old File.Pkg) (D.bytes_read disk.new File.Pkg) }
+        ensures unbroken { is_broken result ≡ false }
         ensures cause { HasCauseAt (result ≡ Err PickFault.DiskFault) (D.faults disk.old) (D.faults disk.new) }
     {
         let mut passed = 0;

@@ -1,10 +1,11 @@
 //! The pieces of a glob.
 
-ghost use Rattle.std.specs.Prelude.{◌≡◌, ◌+◌, ◌≤◌, ◌<◌, ◌∷◌, [], MatchOption, length};
+ghost use Rattle.std.specs.Prelude.{◌≡◌, ◌+◌, ◌≤◌, ◌<◌, ◌∷◌, [], MatchOption, IfSome, length};
 ghost use Rattle.std.specs.List.{position_or_len};
 ghost use Rattle.rpm_select.specs.Glob.{is_close, is_turned, member_count, is_member, takes, bracketed, piece_at, pieces};
-ghost use Rattle.rpm_select.specs.Members.{is_range, first_has, first_len};
-ghost use Rattle.rpm_select.specs.Pieces.{piece_in, written_in};
+ghost use Rattle.rpm_select.specs.inner.Members.{is_range, first_has, first_len};
+ghost use Rattle.rpm_select.specs.inner.Unclosed.{IsUnclosed};
+ghost use Rattle.rpm_select.specs.inner.Pieces.{piece_in, written_in};
 
 /// What a part of a glob stands for.
 #[derive(Clone, Copy)]
@@ -91,15 +92,37 @@ fn is_turned(rest: &[u8]) -> bool
     }
 }
 
-fn close_place(rest: &[u8]) -> usize
+/// How many bytes follow the last `]`: all of them where there is none. Goes over the glob once.
+pub fn unclosed_len(glob: &[u8]) -> usize
+    ensures { IsUnclosed result glob.now }
+{
+    let mut closed = 0;
+    for (i, byte) in glob.iter().enumerate() {
+        if *byte == b']' {
+            closed = i + 1;
+        }
+    }
+    glob.len() - closed
+}
+
+/// The place of the first `]`, or the length where there is none.
+#[tactic(auto, using(crate::proofs::Unclosed::none_close))]
+fn close_place(rest: &[u8], unclosed: usize) -> usize
+    requires { IsUnclosed unclosed rest.now }
     ensures value { result ≡ position_or_len is_close rest.now }
     ensures within { result ≤ length rest.now }
 {
+    // Behind the glob's last `]` none is looked for, so that each `[` there costs one step.
+    if rest.len() <= unclosed {
+        return rest.len();
+    }
     rest.iter().take_while(|byte| **byte != b']').count()
 }
 
 /// How many members a set has, where it has an end.
-fn member_count(members: &[u8]) -> Option<usize>
+#[tactic(auto, using(crate::proofs::Unclosed::unclosed_behind))]
+fn member_count(members: &[u8], unclosed: usize) -> Option<usize>
+    requires { IsUnclosed unclosed members.now }
     ensures value { result ≡ member_count members.now }
     ensures within { MatchOption result (members.now ≡ members.now) (λ n. n < length members.now) }
 {
@@ -107,7 +130,7 @@ fn member_count(members: &[u8]) -> Option<usize>
         return None;
     }
     let rest = &members[1..];
-    let place = close_place(rest);
+    let place = close_place(rest, unclosed);
     if place < rest.len() {
         Some(place + 1)
     } else {
@@ -116,14 +139,16 @@ fn member_count(members: &[u8]) -> Option<usize>
 }
 
 /// The piece that a bracket begins, given what follows it.
-fn bracketed(rest: &[u8]) -> Written<'_>
+#[tactic(auto, using(crate::proofs::Unclosed::unclosed_behind))]
+fn bracketed(rest: &[u8], unclosed: usize) -> Written<'_>
+    requires { IsUnclosed unclosed rest.now }
     ensures value { written_in result ≡ bracketed rest.now }
     ensures within { result.size ≤ length rest.now + 1 }
     ensures some { 0 < result.size }
 {
     let turned = is_turned(rest);
     let members = if turned { &rest[1..] } else { rest };
-    match member_count(members) {
+    match member_count(members, unclosed) {
         None => Written {
             piece: Piece::Byte(b'['),
             size: 1,
@@ -137,7 +162,8 @@ fn bracketed(rest: &[u8]) -> Written<'_>
 
 /// The piece that a byte begins, given what follows it.
 #[tactic(auto, unfolding(crate::specs::Glob::piece_at))]
-fn piece_at(byte: u8, rest: &[u8]) -> Written<'_>
+fn piece_at(byte: u8, rest: &[u8], unclosed: usize) -> Written<'_>
+    requires { IsUnclosed unclosed rest.now }
     ensures value { written_in result ≡ piece_at byte rest.now }
     ensures within { result.size ≤ length rest.now + 1 }
     ensures some { 0 < result.size }
@@ -161,7 +187,7 @@ fn piece_at(byte: u8, rest: &[u8]) -> Written<'_>
                 size: 2,
             },
         },
-        b'[' => bracketed(rest),
+        b'[' => bracketed(rest, unclosed),
         _ => Written {
             piece: Piece::Byte(byte),
             size: 1,
@@ -169,14 +195,17 @@ fn piece_at(byte: u8, rest: &[u8]) -> Written<'_>
     }
 }
 
-/// The first piece of a glob, and the glob behind it.
-pub fn next_piece(glob: &[u8]) -> Option<(Piece<'_>, &[u8])>
+/// The first piece of a glob, and the glob behind it. Takes as many steps as the piece has bytes.
+#[tactic(auto, using(crate::proofs::Unclosed::unclosed_behind))]
+pub fn next_piece(glob: &[u8], unclosed: usize) -> Option<(Piece<'_>, &[u8])>
+    requires { IsUnclosed unclosed glob.now }
     ensures value { MatchOption result (pieces glob.now ≡ []) (λ cut. pieces glob.now ≡ piece_in cut.0 ∷ pieces cut.1.now) }
     ensures less { MatchOption result (glob.now ≡ []) (λ cut. length cut.1.now < length glob.now) }
+    ensures unclosed { IfSome result (λ cut. IsUnclosed unclosed cut.1.now) }
 {
     if glob.is_empty() {
         return None;
     }
-    let first = piece_at(glob[0], &glob[1..]);
+    let first = piece_at(glob[0], &glob[1..], unclosed);
     Some((first.piece, &glob[first.size..]))
 }

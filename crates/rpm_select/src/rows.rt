@@ -4,8 +4,8 @@ ghost use Rattle.std.specs.Prelude.{◌≡◌, ◌==◌, slice_index, IfOk};
 ghost use Rattle.std.specs.List.{list_any};
 ghost use Rattle.rpm_tags.specs.Value.{first_text, texts_in, numbers_in};
 ghost use Rattle.rpm_tags.specs.Wanted.{listed};
-ghost use Rattle.rpm_select.specs.Selections.{meets, has_any, is_file_of, is_among, is_first, holds};
-ghost use Rattle.rpm_select.specs.Needs.{needed_in};
+ghost use Rattle.rpm_select.specs.Selections.{meets, has_any, is_file_of, is_among, is_first, takes_header};
+ghost use Rattle.rpm_select.specs.inner.Needs.{needed_in};
 
 use crate::labels::{any_label, glob_of, text_of};
 use crate::selection::Selection;
@@ -146,14 +146,14 @@ fn is_group(view: &View<'_>, wanted: &[u8]) -> bool
 /// # Errors
 ///
 /// Where a label finds no memory.
-#[tactic(auto, unfolding(crate::specs::Selections::holds))]
-pub fn holds(
+#[tactic(auto, unfolding(crate::specs::Selections::takes_header))]
+pub fn takes_header(
     alloc: Global,
     selection: &Selection<'_>,
     number: u32,
     view: &View<'_>,
 ) -> Result<bool, AllocError>
-    ensures { IfOk result (λ b. b ≡ holds selection.now number view.now) }
+    ensures { IfOk result (λ b. b ≡ takes_header selection.now number view.now) }
 {
     match selection {
         Selection::All => Ok(true),

@@ -1,6 +1,6 @@
 use crate::{Picked, Picker, Selection, glob};
 use rpm_db::Db;
-use rpm_outside::{File, MemDisk};
+use rpm_outside::MemDisk;
 use rpm_version::Capability;
 use std::alloc::{AllocError, Global};
 
@@ -84,7 +84,7 @@ fn early_library(alloc: Global) -> Result<Vec<u8>, AllocError> {
     )
 }
 
-// The same library without an epoch, after its release.
+// The same library without an epoch, after its release, of transaction 7.
 fn late_library(alloc: Global) -> Result<Vec<u8>, AllocError> {
     laid(
         alloc,
@@ -96,6 +96,10 @@ fn late_library(alloc: Global) -> Result<Vec<u8>, AllocError> {
             (1047, TEXTS, 1, b"libx\0"),
             (1112, INT32, 1, b"\0\0\0\x08"),
             (1113, TEXTS, 1, b"1.0^git1\0"),
+            (1090, TEXTS, 1, b"libold\0"),
+            (1066, TEXTS, 1, b"bash\0"),
+            (5046, TEXTS, 1, b"more\0"),
+            (1128, INT32, 1, b"\0\0\0\x07"),
         ],
     )
 }
@@ -149,17 +153,23 @@ fn store(alloc: Global, packages: &[(u32, Vec<u8>)]) -> Result<Vec<u8>, AllocErr
     Ok(bytes)
 }
 
-fn three(alloc: Global) -> Result<Vec<u8>, AllocError> {
+// Three packages and what is no header as number 4, in slots of another order. Behind the header of number 2 there are more bytes.
+fn packages(alloc: Global) -> Result<MemDisk, AllocError> {
+    let mut second = bash(alloc)?;
+    second.extend_from_slice(b"more")?;
+    let mut fourth = Vec::new(alloc);
+    fourth.extend_from_slice(b"no header")?;
     let mut packages = Vec::new(alloc);
     packages.push((3, late_library(alloc)?))?;
     packages.push((1, early_library(alloc)?))?;
-    packages.push((2, bash(alloc)?))?;
-    store(alloc, &packages)
+    packages.push((4, fourth))?;
+    packages.push((2, second))?;
+    MemDisk::new(alloc, &store(alloc, &packages)?, &[], &[])
 }
 
 #[test]
 fn globs_match_whole_texts(rt: HostRuntime) {
-    let table: [(&[u8], &[u8], bool); 34] = [
+    let table: [(&[u8], &[u8], bool); 38] = [
         (b"", b"", true),
         (b"", b"a", false),
         (b"*", b"", true),
@@ -193,6 +203,10 @@ fn globs_match_whole_texts(rt: HostRuntime) {
         (b"\\*", b"a", false),
         (b"[\\]", b"\\", true),
         (b"[\\]]", b"\\]", true),
+        (b"*[[[b", b"a[[[[b", true),
+        (b"*[[[b", b"[[[[c", false),
+        (b"[a][b", b"a[b", true),
+        (b"*[a]*[", b"[aa[", true),
         (b"lib*-[0-9]*.x86_64", b"libx-1.0-2.x86_64", true),
     ];
     for (pattern, text, expected) in table {
@@ -200,116 +214,167 @@ fn globs_match_whole_texts(rt: HostRuntime) {
     }
 }
 
-// Whether exactly these numbers are picked of the three packages.
+// The number that is picked next above a number, and whether it can be read.
+fn picked_after(
+    alloc: Global,
+    selection: &Selection<'_>,
+    n: u32,
+) -> Result<Option<(u32, bool)>, AllocError> {
+    let mut disk = packages(alloc)?;
+    let Ok(db) = Db::open_unindexed(alloc, &mut disk) else {
+        return Err(AllocError);
+    };
+    let Ok(mut picker) = Picker::new(alloc, &db, &mut disk, selection) else {
+        return Err(AllocError);
+    };
+    match picker.next_after(alloc, &db, &mut disk, selection, n) {
+        Ok(Some(Picked::Good { number, .. })) => Ok(Some((number, true))),
+        Ok(Some(Picked::Bad { number })) => Ok(Some((number, false))),
+        Ok(None) => Ok(None),
+        Err(_) => Err(AllocError),
+    }
+}
+
+// Whether exactly these numbers are picked above a number; the fourth, and no other, can't be read.
 fn are_picked(
     alloc: Global,
     selection: &Selection<'_>,
+    above: u32,
     expected: &[u32],
 ) -> Result<bool, AllocError> {
-    let mut disk = MemDisk::new(alloc, &three(alloc)?, &[], &[])?;
-    let Ok(db) = Db::open_unindexed(alloc, &mut disk) else {
-        return Ok(false);
-    };
-    let mut picker = Picker::new(&db);
-    let mut number = 0;
+    let mut number = above;
     for want in expected {
-        match picker.next_after(alloc, &db, &mut disk, selection, number) {
-            Ok(Some(Picked::Good { number: next, .. })) if next == *want => number = next,
+        match picked_after(alloc, selection, number)? {
+            Some((next, is_good)) if next == *want && is_good == (next != 4) => number = next,
             _ => return Ok(false),
         }
     }
-    match picker.next_after(alloc, &db, &mut disk, selection, number) {
-        Ok(None) => Ok(true),
-        _ => Ok(false),
+    Ok(picked_after(alloc, selection, number)?.is_none())
+}
+
+// A question by its letter.
+fn asked(letter: u8, text: &str) -> Option<Selection<'_>> {
+    match letter {
+        b'a' => Some(Selection::All),
+        b'm' => Some(Selection::Pattern(text)),
+        b'l' => Some(Selection::Label(text)),
+        b'f' => Some(Selection::Path(text)),
+        b'g' => Some(Selection::Group(text)),
+        b'd' => Some(Selection::Directory(text)),
+        b't' => Some(Selection::Trigger(text)),
+        b'p' => Some(Selection::Provides(Capability::read(text).ok()?)),
+        b'r' => Some(Selection::Requires(Capability::read(text).ok()?)),
+        b'c' => Some(Selection::Conflicts(Capability::read(text).ok()?)),
+        b'o' => Some(Selection::Obsoletes(Capability::read(text).ok()?)),
+        b'w' => Some(Selection::Recommends(Capability::read(text).ok()?)),
+        _ => None,
     }
 }
 
 #[test]
 fn selections_pick(rt: HostRuntime) -> Result<(), AllocError> {
-    let alloc = rt.alloc();
-    assert!(rt; are_picked(alloc, &Selection::All, &[1, 2, 3])?, "All");
-    assert!(rt;
-        are_picked(alloc, &Selection::Label("libx"), &[1, 3])?,
-        "Label(libx)"
-    );
-    assert!(rt;
-        are_picked(alloc, &Selection::Label("bash-5.1-2.x86_64"), &[2])?,
-        "Label(bash-5.1-2.x86_64)"
-    );
-    assert!(rt;
-        are_picked(alloc, &Selection::Label("bash.x86_64"), &[2])?,
-        "Label(bash.x86_64)"
-    );
-    assert!(rt;
-        are_picked(alloc, &Selection::Label("libx-1.0~rc1.noarch"), &[1])?,
-        "Label(libx-1.0~rc1.noarch)"
-    );
-    assert!(rt;
-        are_picked(alloc, &Selection::Label("bash-5"), &[])?,
-        "Label(bash-5)"
-    );
-    assert!(rt;
-        are_picked(alloc, &Selection::Pattern("lib*"), &[1, 3])?,
-        "Pattern(lib*)"
-    );
-    assert!(rt;
-        are_picked(alloc, &Selection::Pattern("*"), &[1, 2, 3])?,
-        "Pattern(*)"
-    );
-    assert!(rt;
-        are_picked(alloc, &Selection::Path("/usr/bin/sh"), &[2])?,
-        "Path(/usr/bin/sh)"
-    );
-    assert!(rt; are_picked(alloc, &Selection::Path("sh"), &[])?, "Path(sh)");
-    assert!(rt;
-        are_picked(alloc, &Selection::Group("Shells"), &[2])?,
-        "Group(Shells)"
-    );
-    assert!(rt;
-        are_picked(alloc, &Selection::Number(2), &[2])?,
-        "Number(2)"
-    );
-    assert!(rt; are_picked(alloc, &Selection::Number(9), &[])?, "Number(9)");
-    assert!(rt;
-        are_picked(alloc, &Selection::Directory("/usr/bin/"), &[2])?,
-        "Directory(/usr/bin/)"
-    );
-    assert!(rt; are_picked(alloc, &Selection::Tid(5), &[])?, "Tid(5)");
-    if let Ok(c) = Capability::read("libx") {
-        assert!(rt;
-            are_picked(alloc, &Selection::Provides(c), &[1, 3])?,
-            "Provides libx"
-        );
-    }
-    if let Ok(c) = Capability::read("libx >= 1.0") {
-        assert!(rt;
-            are_picked(alloc, &Selection::Provides(c), &[3])?,
-            "Provides libx >= 1.0"
-        );
-    }
-    if let Ok(c) = Capability::read("/usr/bin/bash") {
-        assert!(rt;
-            are_picked(alloc, &Selection::Provides(c), &[2])?,
-            "Provides /usr/bin/bash"
-        );
-    }
-    if let Ok(c) = Capability::read("libc = 2.31") {
-        assert!(rt;
-            are_picked(alloc, &Selection::Requires(c), &[2])?,
-            "Requires libc = 2.31"
-        );
-    }
-    if let Ok(c) = Capability::read("libc = 2.29") {
-        assert!(rt;
-            are_picked(alloc, &Selection::Requires(c), &[])?,
-            "Requires libc = 2.29"
-        );
-    }
-    if let Ok(c) = Capability::read("libc") {
-        assert!(rt;
-            are_picked(alloc, &Selection::Recommends(c), &[])?,
-            "Recommends libc"
-        );
+    let table: [(u8, &str, &[u32]); 29] = [
+        (b'a', "", &[1, 2, 3, 4]),
+        (b'm', "lib*", &[1, 3, 4]),
+        (b'm', "*-[0-9].x86_64", &[2, 4]),
+        (b'm', "", &[4]),
+        (b'l', "libx", &[1, 3]),
+        (b'l', "bash-5.1-2.x86_64", &[2]),
+        (b'l', "bash-5.1.x86_64", &[2]),
+        (b'l', "bash.x86_64", &[2]),
+        (b'l', "libx-1.0~rc1.noarch", &[1]),
+        (b'l', "bash-5", &[]),
+        (b'f', "/usr/bin/sh", &[2]),
+        (b'f', "/bin/x", &[]),
+        (b'f', "sh", &[]),
+        (b'g', "Shells", &[2]),
+        (b'g', "shells", &[]),
+        (b'd', "/usr/bin/", &[2]),
+        (b'd', "/usr/bin", &[]),
+        (b'p', "libx", &[1, 3]),
+        (b'p', "libx >= 1.0", &[3]),
+        (b'p', "sh", &[2]),
+        (b'p', "/usr/bin/bash", &[2]),
+        (b'p', "/usr/bin/bash = 1", &[]),
+        (b'r', "libc = 2.31", &[2]),
+        (b'r', "libc = 2.29", &[]),
+        (b'r', "libtinfo < 1", &[2]),
+        (b'c', "libc", &[]),
+        (b'o', "libold", &[3]),
+        (b't', "bash", &[3]),
+        (b'w', "more", &[3]),
+    ];
+    for (letter, text, expected) in table {
+        let Some(selection) = asked(letter, text) else {
+            return Err(AllocError);
+        };
+        let picked = are_picked(rt.alloc(), &selection, 0, expected)?;
+        assert!(rt; picked, "{letter} {text}");
     }
     Ok(())
+}
+
+#[test]
+fn numbers_are_picked_above_a_number(rt: HostRuntime) -> Result<(), AllocError> {
+    let table: [(Selection<'_>, u32, &[u32]); 9] = [
+        (Selection::Number(2), 0, &[2]),
+        (Selection::Number(2), 2, &[]),
+        (Selection::Number(4), 0, &[4]),
+        (Selection::Number(9), 0, &[]),
+        (Selection::Tid(7), 0, &[3]),
+        (Selection::Tid(8), 0, &[]),
+        (Selection::Label("libx"), 1, &[3]),
+        (Selection::All, 2, &[3, 4]),
+        (Selection::All, 4, &[]),
+    ];
+    for (selection, above, expected) in &table {
+        let picked = are_picked(rt.alloc(), selection, *above, expected)?;
+        assert!(rt; picked, "above {above}: {expected:?}");
+    }
+    Ok(())
+}
+
+// Whether a package up to this number has the group.
+fn any_up_to(alloc: Global, n: u32) -> Result<bool, AllocError> {
+    let group = Selection::Group("Shells");
+    let mut disk = packages(alloc)?;
+    let Ok(db) = Db::open_unindexed(alloc, &mut disk) else {
+        return Err(AllocError);
+    };
+    let Ok(mut picker) = Picker::new(alloc, &db, &mut disk, &group) else {
+        return Err(AllocError);
+    };
+    match picker.any_to(alloc, &db, &mut disk, &group, n) {
+        Ok(any) => Ok(any),
+        Err(_) => Err(AllocError),
+    }
+}
+
+#[test]
+fn numbers_are_looked_for_up_to_a_number(rt: HostRuntime) -> Result<(), AllocError> {
+    for (n, expected) in [(0, false), (1, false), (2, true), (9, true)] {
+        assert!(rt; any_up_to(rt.alloc(), n)? == expected, "up to {n}");
+    }
+    Ok(())
+}
+
+#[test]
+fn a_header_comes_without_what_follows_it(rt: HostRuntime) -> Result<(), AllocError> {
+    let alloc = rt.alloc();
+    let mut disk = packages(alloc)?;
+    let group = Selection::Group("Shells");
+    let Ok(db) = Db::open_unindexed(alloc, &mut disk) else {
+        return Err(AllocError);
+    };
+    let Ok(mut picker) = Picker::new(alloc, &db, &mut disk, &group) else {
+        return Err(AllocError);
+    };
+    match picker.next_after(alloc, &db, &mut disk, &group, 0) {
+        Ok(Some(Picked::Good { blob, .. })) => {
+            let own = bash(alloc)?;
+            assert!(rt; blob.as_slice() == own.as_slice());
+            Ok(())
+        }
+        _ => Err(AllocError),
+    }
 }

@@ -1,6 +1,7 @@
 pub mod Beside
 pub mod Ahead
 pub mod Decimal
+pub mod NamedAgain
 pub mod Parts
 pub mod Paths
 pub mod Rows

@@ -13,14 +13,17 @@ unfolding tag_in
 tag_at_end rows name i le = at_drop_all (λ rs. tag_in (seen rs) name) rows i le
 
 tag_step : (rows : List Row) (name : List ℕ) (i : ℕ) (d : Row) → i < length rows
-    → tag_in (seen (drop i rows)) name ≡ cond (str_eq_ignore_ascii_case name (get_or rows i d).1.now) (Some (get_or rows i d).0) (tag_in (seen (drop (i + 1) rows)) name)
+    → tag_in (seen (drop i rows)) name ≡ cond (str_eq_ignore_ascii_case name (get_or rows i d).1.now) (Some (get_or rows i d).0)
+    (tag_in (seen (drop (i + 1) rows)) name)
 unfolding tag_in
 tag_step rows name i d lt = at_drop_more (λ rs. tag_in (seen rs) name) rows i d lt
 
-pub tag_found : (rows : List Row) (name : List ℕ) (i : ℕ) (d : Row) (r : Option Tag) → i < length rows → true ≡ str_eq_ignore_ascii_case name (get_or rows i d).1.now → tag_in (seen (drop i rows)) name ≡ r → Some (get_or rows i d).0 ≡ r
+pub tag_found : (rows : List Row) (name : List ℕ) (i : ℕ) (d : Row) (r : Option Tag) → i < length rows
+    → true ≡ str_eq_ignore_ascii_case name (get_or rows i d).1.now → tag_in (seen (drop i rows)) name ≡ r → Some (get_or rows i d).0 ≡ r
 tag_found rows name i d r lt same e = sym (tag_step rows name i d lt ∙ rw (← same) refl) ∙ e
 
-pub tag_passed : (rows : List Row) (name : List ℕ) (i : ℕ) (d : Row) (r : Option Tag) → i < length rows → false ≡ str_eq_ignore_ascii_case name (get_or rows i d).1.now → tag_in (seen (drop i rows)) name ≡ r → tag_in (seen (drop (i + 1) rows)) name ≡ r
+pub tag_passed : (rows : List Row) (name : List ℕ) (i : ℕ) (d : Row) (r : Option Tag) → i < length rows
+    → false ≡ str_eq_ignore_ascii_case name (get_or rows i d).1.now → tag_in (seen (drop i rows)) name ≡ r → tag_in (seen (drop (i + 1) rows)) name ≡ r
 tag_passed rows name i d r lt other e = sym (tag_step rows name i d lt ∙ rw (← other) refl) ∙ e
 
 -- ---- by tag
@@ -34,8 +37,10 @@ name_step : (rows : List Row) (tag : Tag) (i : ℕ) (d : Row) → i < length row
 unfolding name_in
 name_step rows tag i d lt = at_drop_more (λ rs. name_in (seen rs) tag) rows i d lt
 
-pub name_found : (rows : List Row) (tag : Tag) (i : ℕ) (d : Row) (r : Option (List ℕ)) → i < length rows → true ≡ is_tag (get_or rows i d).0 tag → name_in (seen (drop i rows)) tag ≡ r → Some (get_or rows i d).1.now ≡ r
+pub name_found : (rows : List Row) (tag : Tag) (i : ℕ) (d : Row) (r : Option (List ℕ)) → i < length rows → true ≡ is_tag (get_or rows i d).0 tag
+    → name_in (seen (drop i rows)) tag ≡ r → Some (get_or rows i d).1.now ≡ r
 name_found rows tag i d r lt same e = sym (name_step rows tag i d lt ∙ rw (← same) refl) ∙ e
 
-pub name_passed : (rows : List Row) (tag : Tag) (i : ℕ) (d : Row) (r : Option (List ℕ)) → i < length rows → false ≡ is_tag (get_or rows i d).0 tag → name_in (seen (drop i rows)) tag ≡ r → name_in (seen (drop (i + 1) rows)) tag ≡ r
+pub name_passed : (rows : List Row) (tag : Tag) (i : ℕ) (d : Row) (r : Option (List ℕ)) → i < length rows → false ≡ is_tag (get_or rows i d).0 tag
+    → name_in (seen (drop i rows)) tag ≡ r → name_in (seen (drop (i + 1) rows)) tag ≡ r
 name_passed rows tag i d r lt other e = sym (name_step rows tag i d lt ∙ rw (← other) refl) ∙ e

@@ -1,31 +1,41 @@
--- The keys of a header: the elements of a tag, with their places.
-use Rattle.std.specs.Prelude.{ℕ, ◌+◌, ◌^◌, ◌<◌, List, [], Option, Some, None, length}
+-- The keys of a header, with their places.
+use Rattle.std.specs.Prelude.{ℕ, ◌+◌, ◌^◌, ◌<◌, List, map, length}
 use Rattle.std.specs.List.{zip, range_with_len}
+use Rattle.std.specs.Int.{w64, to_be_bytes}
 use Rattle.rpm_header.specs.Header.{Header}
 use Rattle.rpm_tags.specs.declared.kind.Kind.{Kind}
 use Rattle.rpm_tags.specs.declared.kind.Kind.TheVariants as kind
-use Rattle.rpm_tags.specs.Value.{texts_in}
-
--- the texts that are left, where there are texts, each with its place, from this one on
-abbrev pub keys_left : Option (List (List ℕ)) → ℕ → List (List ℕ × ℕ)
-keys_left None n = []
-keys_left (Some ts) n = zip ts (range_with_len n (length ts))
+use Rattle.rpm_tags.specs.Numbers.{NAME, GROUP, PROVIDENAME, REQUIRENAME, CONFLICTNAME, TRIGGERNAME, OBSOLETENAME, BASENAMES, DIRNAMES, INSTALLTID, RECOMMENDNAME}
+use Rattle.rpm_tags.specs.Value.{texts_in, numbers_in}
+use Rattle.rpm_tags.specs.Wanted.{listed}
 
 -- the tag of each kind
 abbrev pub tag_of_kind : Kind → ℕ
-tag_of_kind kind.Name = 1000
-tag_of_kind kind.Basenames = 1117
-tag_of_kind kind.Group = 1016
-tag_of_kind kind.Providename = 1047
-tag_of_kind kind.Requirename = 1049
-tag_of_kind kind.Conflictname = 1054
-tag_of_kind kind.Obsoletename = 1090
-tag_of_kind kind.Triggername = 1066
+tag_of_kind kind.Name = NAME
+tag_of_kind kind.Basenames = BASENAMES
+tag_of_kind kind.Group = GROUP
+tag_of_kind kind.Providename = PROVIDENAME
+tag_of_kind kind.Requirename = REQUIRENAME
+tag_of_kind kind.Conflictname = CONFLICTNAME
+tag_of_kind kind.Obsoletename = OBSOLETENAME
+tag_of_kind kind.Triggername = TRIGGERNAME
+tag_of_kind kind.Dirnames = DIRNAMES
+tag_of_kind kind.Installtid = INSTALLTID
+tag_of_kind kind.Recommendname = RECOMMENDNAME
+
+-- a number as a key
+abbrev pub number_key : ℕ → List ℕ
+number_key n = to_be_bytes w64 n
+
+-- the elements of the kind's tag as keys: its numbers for Installtid, its texts for each other kind, and none where it is missing or
+-- of another class
+abbrev pub key_list : Kind → Header → List (List ℕ)
+key_list kind.Installtid h = map number_key (listed (numbers_in h INSTALLTID))
+key_list k h = listed (texts_in h (tag_of_kind k))
+
+-- each with its place, from this one on
+abbrev pub placed : List (List ℕ) → ℕ → List (List ℕ × ℕ)
+placed keys n = zip keys (range_with_len n (length keys))
 
 abbrev pub keys : Kind → Header → List (List ℕ × ℕ)
-keys k h = keys_left (texts_in h (tag_of_kind k)) 0
-
--- a place for each text that is left
-abbrev pub HasPlaces : Option (List (List ℕ)) → ℕ → Type 0
-HasPlaces None n = Unit {0}
-HasPlaces (Some ts) n = n + length ts < 2 ^ 32
+keys k h = placed (key_list k h) 0

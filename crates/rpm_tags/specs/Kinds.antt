@@ -12,3 +12,6 @@ code_of kind.Requirename = 5
 code_of kind.Conflictname = 6
 code_of kind.Obsoletename = 7
 code_of kind.Triggername = 8
+code_of kind.Dirnames = 9
+code_of kind.Installtid = 10
+code_of kind.Recommendname = 11

@@ -1,11 +1,7 @@
 pub mod Keys
 pub mod Kinds
-pub mod Left
-pub mod Parts
-pub mod Recent
-pub mod Rows
-pub mod Shown
-pub mod Source
+pub mod Numbers
 pub mod Table
 pub mod Value
 pub mod Wanted
+pub mod inner

@@ -5,6 +5,7 @@ use Rattle.std.specs.List.{concat, list_all, zip}
 use Rattle.rpm_header.specs.declared.form.Form.{Form}
 use Rattle.rpm_header.specs.declared.form.Form.TheVariants as form
 use Rattle.rpm_header.specs.Header.{Header, Item, Values, last_of, numbers_of, texts_of, bytes_of}
+use Rattle.rpm_tags.specs.Numbers.{NAME, VERSION, RELEASE, EPOCH, ARCH, DIRINDEXES, BASENAMES, DIRNAMES}
 use Rattle.rpm_tags.specs.declared.tag.Tag.{Tag}
 use Rattle.rpm_tags.specs.declared.tag.Tag.TheVariants.{Stored, Nvra, Nevra, Evr, Nvr, Epochnum, Filenames, Dbinstance}
 use Rattle.rpm_tags.specs.declared.values.Class.{Class}
@@ -142,10 +143,10 @@ if_some_texts (Some ts) = Some (TextList ts)
 
 abbrev pub value : Header → ℕ → Tag → Option Elements
 value h number (Stored tag) = stored h tag
-value h number Nvr = as_text (label (first_text h 1000) None (first_text h 1001) (first_text h 1002) None)
-value h number Nvra = as_text (label (first_text h 1000) None (first_text h 1001) (first_text h 1002) (first_text h 1022))
-value h number Evr = as_text (evr (first_number h 1003) (first_text h 1001) (first_text h 1002))
-value h number Nevra = as_text (label (first_text h 1000) (first_number h 1003) (first_text h 1001) (first_text h 1002) (first_text h 1022))
-value h number Epochnum = Some (NumberList (unwrap_or (first_number h 1003) 0 ∷ []))
-value h number Filenames = if_some_texts (filenames (texts_in h 1118) (numbers_in h 1116) (texts_in h 1117))
+value h number Nvr = as_text (label (first_text h NAME) None (first_text h VERSION) (first_text h RELEASE) None)
+value h number Nvra = as_text (label (first_text h NAME) None (first_text h VERSION) (first_text h RELEASE) (first_text h ARCH))
+value h number Evr = as_text (evr (first_number h EPOCH) (first_text h VERSION) (first_text h RELEASE))
+value h number Nevra = as_text (label (first_text h NAME) (first_number h EPOCH) (first_text h VERSION) (first_text h RELEASE) (first_text h ARCH))
+value h number Epochnum = Some (NumberList (unwrap_or (first_number h EPOCH) 0 ∷ []))
+value h number Filenames = if_some_texts (filenames (texts_in h DIRNAMES) (numbers_in h DIRINDEXES) (texts_in h BASENAMES))
 value h number Dbinstance = Some (NumberList (number ∷ []))

@@ -4,6 +4,7 @@ use Rattle.std.specs.List.{list_any, zip, after_last}
 use Rattle.std.specs.Str.{bytes_eq}
 use Rattle.rpm_header.specs.Header.{Header}
 use Rattle.rpm_tags.specs.declared.needed.Tags.{Tags}
+use Rattle.rpm_tags.specs.Numbers.{DIRINDEXES, BASENAMES, DIRNAMES}
 use Rattle.rpm_tags.specs.Value.{filenames, texts_in, numbers_in}
 
 -- ---- files
@@ -25,7 +26,8 @@ any_counts_for path _ _ = false
 
 -- an element of FILENAMES counts for this path
 unfoldable pub has_file : Header → List ℕ → Bool
-has_file h path = any_counts_for path (filenames (texts_in h 1118) (numbers_in h 1116) (texts_in h 1117)) (texts_in h 1117)
+has_file h path =
+    any_counts_for path (filenames (texts_in h DIRNAMES) (numbers_in h DIRINDEXES) (texts_in h BASENAMES)) (texts_in h BASENAMES)
 
 -- ---- what is needed or given
 

@@ -1,6 +1,7 @@
 //! The directories of files, which many files share.
 
 ghost use Rattle.std.specs.Prelude.{◌≡◌, ℕ, ◌+◌, ◌≤◌, ◌<◌, length, drop, Some, slice_get};
+ghost use Rattle.rpm_header.specs.Header.{max_data};
 
 use crate::stored::{TextIter, Texts};
 use rpm_header::TextPlaces;
@@ -48,7 +49,7 @@ pub struct Directories<'v, 'a> {
 
 impl<'v, 'a> Model for Directories<'v, 'a> {
     ghost use Rattle.std.specs.Prelude.{List, ℕ};
-    ghost use Rattle.rpm_tags.specs.Recent.{IsReader};
+    ghost use Rattle.rpm_tags.specs.inner.Recent.{IsReader};
 
     ghost Value = { List (List ℕ) };
 
@@ -80,7 +81,7 @@ impl<'v, 'a> Directories<'v, 'a> {
     fn read_again(&mut self, index: u32) -> &'a [u8]
         requires { index < length self.old }
         ensures value { slice_get self.old index ≡ Some result.now }
-        ensures short { length result.now ≤ 67108864 }
+        ensures short { length result.now ≤ max_data }
         ensures same { self.new ≡ self.old }
     {
         let places = match self.places.take() {
@@ -96,7 +97,7 @@ impl<'v, 'a> Directories<'v, 'a> {
     fn read(&mut self, index: u32) -> &'a [u8]
         requires { index < length self.old }
         ensures value { slice_get self.old index ≡ Some result.now }
-        ensures short { length result.now ≤ 67108864 }
+        ensures short { length result.now ≤ max_data }
         ensures same { self.new ≡ self.old }
     {
         if index < self.passed {
@@ -114,7 +115,7 @@ impl<'v, 'a> Directories<'v, 'a> {
     pub fn dir(&mut self, index: u64) -> &'a [u8]
         requires { index < length self.old }
         ensures value { slice_get self.old index ≡ Some result.now }
-        ensures short { length result.now ≤ 67108864 }
+        ensures short { length result.now ≤ max_data }
         ensures same { self.new ≡ self.old }
     {
         let _ = self.all.count();

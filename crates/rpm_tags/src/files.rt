@@ -4,23 +4,20 @@ ghost use Rattle.std.specs.Prelude.{◌≡◌, ℕ, ◌<◌, ◌≤◌, length, 
 ghost use Rattle.std.specs.Iterator.{YieldsFirstBy, item_count};
 ghost use Rattle.std.specs.List.{concat, list_all};
 ghost use Rattle.rpm_tags.specs.Value.{filenames, are_matched, file_name, texts_in, numbers_in};
+ghost use Rattle.rpm_header.specs.Header.{max_data};
+ghost use Rattle.rpm_tags.specs.Numbers.{DIRINDEXES, BASENAMES, DIRNAMES};
 
 use crate::dirs::Directories;
 use crate::joined::Joined;
+use crate::numbers::{BASENAMES, DIRINDEXES, DIRNAMES};
 use crate::stored::{Numbers, TextIter, Texts, numbers_in, texts_in};
 use rpm_header::View;
 use std::marker::Model;
 
-pub const DIRINDEXES: u32 = 1116;
-
-pub const BASENAMES: u32 = 1117;
-
-pub const DIRNAMES: u32 = 1118;
-
 /// The directory of this index, and a name behind it.
 fn path_of<'a>(dirs: &Texts<'a>, index: u64, base: &'a [u8]) -> Joined<'a>
     requires below { index < length dirs.now }
-    requires short { length base.now ≤ 67108864 }
+    requires short { length base.now ≤ max_data }
     ensures { concat result ≡ file_name dirs.now (index, base.now) }
 {
     let _ = dirs.count();
@@ -91,7 +88,7 @@ pub struct FileIter<'v, 'a> {
 impl<'v, 'a> Model for FileIter<'v, 'a> {
     ghost use Rattle.std.specs.Prelude.{List, ℕ, drop};
     ghost use Rattle.rpm_tags.specs.Value.{file_names};
-    ghost use Rattle.rpm_tags.specs.Rows.{AreLeft};
+    ghost use Rattle.rpm_tags.specs.inner.Rows.{AreLeft};
 
     ghost Value = { List (List ℕ) };
 
@@ -154,8 +151,8 @@ fn files_of<'a>(dirs: Texts<'a>, indexes: Numbers<'a>, bases: Texts<'a>) -> Opti
 /// The paths of a package's files; None where one of the three tags is missing or of another class,
 /// a file has no index, or an index no directory. Reads each index once.
 pub fn files_in<'a>(view: &View<'a>) -> Option<Files<'a>>
-    ensures { result ≡ filenames (texts_in view.now 1118) (numbers_in view.now 1116)
-        (texts_in view.now 1117) }
+    ensures { result ≡ filenames (texts_in view.now DIRNAMES) (numbers_in view.now DIRINDEXES)
+        (texts_in view.now BASENAMES) }
 {
     let dirs = texts_in(view, DIRNAMES)?;
     let indexes = numbers_in(view, DIRINDEXES)?;

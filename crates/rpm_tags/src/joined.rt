@@ -3,6 +3,7 @@
 ghost use Rattle.std.specs.Prelude.{◌≡◌, ℕ, ◌+◌, ◌≤◌, ◌<◌, ◌∷◌, ◌++◌, [], length, decimal, slice_get};
 ghost use Rattle.std.specs.List.{concat};
 ghost use Rattle.std.specs.Option.{option_copied};
+ghost use Rattle.rpm_header.specs.Header.{max_data};
 
 use crate::digits::{Digits, digits_in};
 use std::marker::Model;
@@ -25,7 +26,7 @@ pub struct Joined<'a> {
 
 impl<'a> Model for Joined<'a> {
     ghost use Rattle.std.specs.Prelude.{List, ℕ};
-    ghost use Rattle.rpm_tags.specs.Parts.{parts_of, IsJoined};
+    ghost use Rattle.rpm_tags.specs.inner.Parts.{parts_of, IsJoined};
 
     ghost Value = { List (List ℕ) };
 
@@ -71,7 +72,7 @@ impl<'a> Joined<'a> {
     /// Puts a text behind it.
     pub(crate) fn push(&mut self, text: &'a [u8])
         requires room { length self.old < 9 }
-        requires short { length text.now ≤ 67108864 }
+        requires short { length text.now ≤ max_data }
         ensures { self.new ≡ self.old ++ text.now ∷ [] }
     {
         self.parts[self.count as usize] = Part::Text(text);
@@ -92,7 +93,7 @@ impl<'a> Joined<'a> {
 
     /// A text as it is.
     pub(crate) fn one(text: &'a [u8]) -> Joined<'a>
-        requires { length text.now ≤ 67108864 }
+        requires { length text.now ≤ max_data }
         ensures { concat result ≡ text.now }
     {
         let mut joined = Joined::empty();
@@ -102,8 +103,8 @@ impl<'a> Joined<'a> {
 
     /// A text and one behind it.
     pub(crate) fn two(text: &'a [u8], more: &'a [u8]) -> Joined<'a>
-        requires first { length text.now ≤ 67108864 }
-        requires second { length more.now ≤ 67108864 }
+        requires first { length text.now ≤ max_data }
+        requires second { length more.now ≤ max_data }
         ensures { concat result ≡ text.now ++ more.now }
     {
         let mut joined = Joined::empty();

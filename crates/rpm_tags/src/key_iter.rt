@@ -1,51 +1,166 @@
 //! The keys by which a package is found.
 
-ghost use Rattle.std.specs.Prelude.{◌≡◌, ℕ, ◌+◌, ◌^◌, ◌<◌};
+ghost use Rattle.std.specs.Prelude.{◌≡◌, ℕ, ◌+◌, ◌^◌, ◌<◌, ◌∷◌, [], map, MatchOption};
 ghost use Rattle.std.specs.Iterator.{YieldsFirstBy, item_count};
-ghost use Rattle.rpm_tags.specs.Keys.{keys, tag_of_kind};
+ghost use Rattle.rpm_tags.specs.Wanted.{listed};
+ghost use Rattle.rpm_tags.specs.Keys.{keys, key_list, number_key, tag_of_kind};
+ghost use Rattle.rpm_tags.specs.inner.KeysLeft.{keys_left, HasPlaces};
 
 use crate::kind::Kind;
-use crate::stored::{TextIter, texts_in};
+use crate::numbers;
+use crate::stored::{NumberIter, Numbers, TextIter, Texts, numbers_in, texts_in};
 use rpm_header::View;
 use std::marker::Model;
+
+#[derive(Drop)]
+enum KeyBytes<'a> {
+    Text(&'a [u8]),
+    Number([u8; 8]),
+}
+
+/// A key: a text that is borrowed from the header, or a number. Contracts see it as its bytes.
+#[derive(Drop)]
+pub struct Key<'a> {
+    bytes: KeyBytes<'a>,
+}
+
+impl<'a> Model for Key<'a> {
+    ghost use Rattle.std.specs.Prelude.{List, ℕ};
+    ghost use Rattle.rpm_tags.specs.inner.KeysLeft.{key_bytes};
+
+    ghost Value = { List ℕ };
+
+    ghost view = { λ s. key_bytes s.bytes };
+}
+
+impl<'a> Key<'a> {
+    fn text(text: &'a [u8]) -> Key<'a>
+        ensures { result ≡ text.now }
+    {
+        Key {
+            bytes: KeyBytes::Text(text),
+        }
+    }
+
+    fn number(number: u64) -> Key<'a>
+        ensures { result ≡ number_key number }
+    {
+        Key {
+            bytes: KeyBytes::Number(number.to_be_bytes()),
+        }
+    }
+
+    /// Its bytes: those of the text, or the eight of the number, the highest first.
+    pub fn bytes(&self) -> &[u8]
+        ensures { result.now ≡ self.now }
+    {
+        match &self.bytes {
+            KeyBytes::Text(text) => text,
+            KeyBytes::Number(bytes) => bytes,
+        }
+    }
+}
+
+#[derive(Drop)]
+enum KeySource<'a> {
+    Nothing,
+    Texts(TextIter<'a>),
+    Numbers(NumberIter<'a>),
+}
+
+impl<'a> KeySource<'a> {
+    fn texts(texts: Option<Texts<'a>>) -> KeySource<'a>
+        ensures value { keys_left result ≡ listed texts.entry }
+        ensures few { HasPlaces result 0 }
+    {
+        match texts {
+            None => KeySource::Nothing,
+            Some(texts) => {
+                let _ = texts.count();
+                KeySource::Texts(texts.iter())
+            }
+        }
+    }
+
+    fn numbers(numbers: Option<Numbers<'a>>) -> KeySource<'a>
+        ensures value { keys_left result ≡ map number_key (listed numbers.entry) }
+        ensures few { HasPlaces result 0 }
+    {
+        match numbers {
+            None => KeySource::Nothing,
+            Some(numbers) => {
+                let _ = numbers.count();
+                KeySource::Numbers(numbers.in_order())
+            }
+        }
+    }
+
+    /// The elements of the kind's tag, where it is of the class that the kind has.
+    fn of(kind: Kind, view: &View<'a>) -> KeySource<'a>
+        ensures value { keys_left result ≡ key_list kind view.now }
+        ensures few { HasPlaces result 0 }
+    {
+        let tag = tag_of_kind(kind);
+        match kind {
+            Kind::Installtid => KeySource::numbers(numbers_in(view, tag)),
+            _ => KeySource::texts(texts_in(view, tag)),
+        }
+    }
+
+    fn take_next(&mut self) -> Option<Key<'a>>
+        ensures { MatchOption result
+            ((keys_left self.old ≡ []) × (keys_left self.new ≡ []))
+            (λ key. keys_left self.old ≡ key ∷ keys_left self.new) }
+    {
+        match self {
+            KeySource::Nothing => None,
+            KeySource::Texts(texts) => match texts.next() {
+                None => None,
+                Some(text) => Some(Key::text(text)),
+            },
+            KeySource::Numbers(numbers) => match numbers.next() {
+                None => None,
+                Some(number) => Some(Key::number(number)),
+            },
+        }
+    }
+}
 
 /// The keys of one kind that are left, each with its place among the elements of the tag, from 0.
 /// Contracts see it as the list of these pairs. A step reads the bytes of its key once.
 #[derive(Drop)]
 pub struct KeyIter<'a> {
-    texts: Option<TextIter<'a>>,
+    source: KeySource<'a>,
     place: u32,
 }
 
 impl<'a> Model for KeyIter<'a> {
     ghost use Rattle.std.specs.Prelude.{List, ℕ};
-    ghost use Rattle.rpm_tags.specs.Keys.{keys_left, HasPlaces};
+    ghost use Rattle.rpm_tags.specs.Keys.{placed};
+    ghost use Rattle.rpm_tags.specs.inner.KeysLeft.{keys_left, HasPlaces};
 
     ghost Value = { List (List ℕ × ℕ) };
 
-    ghost view = { λ s. keys_left s.texts s.place };
+    ghost view = { λ s. placed (keys_left s.source) s.place };
 
-    ghost invariant = { λ s. HasPlaces s.texts s.place };
+    ghost invariant = { λ s. HasPlaces s.source s.place };
 }
 
 impl<'a> Iterator for KeyIter<'a> {
-    type Item = (&'a [u8], u32);
+    type Item = (Key<'a>, u32);
 
-    ghost next_gives = { YieldsFirstBy (λ x. (x.0.now, x.1)) (λ s. s) };
+    ghost next_gives = { YieldsFirstBy (λ x. (x.0, x.1)) (λ s. s) };
 
     ghost remaining = { item_count (λ s. s) };
 
-    fn next(&mut self) -> Option<(&'a [u8], u32)> {
-        match &mut self.texts {
+    fn next(&mut self) -> Option<(Key<'a>, u32)> {
+        match self.source.take_next() {
             None => None,
-            Some(texts) => match texts.next() {
-                None => None,
-                Some(text) => {
-                    let place = self.place;
-                    self.place += 1;
-                    Some((text, place))
-                }
-            },
+            Some(key) => {
+                let place = self.place;
+                self.place += 1;
+                Some((key, place))
+            }
         }
     }
 }
@@ -55,34 +170,28 @@ fn tag_of_kind(kind: Kind) -> u32
     ensures { result ≡ tag_of_kind kind }
 {
     match kind {
-        Kind::Name => 1000,
-        Kind::Basenames => 1117,
-        Kind::Group => 1016,
-        Kind::Providename => 1047,
-        Kind::Requirename => 1049,
-        Kind::Conflictname => 1054,
-        Kind::Obsoletename => 1090,
-        Kind::Triggername => 1066,
+        Kind::Name => numbers::NAME,
+        Kind::Basenames => numbers::BASENAMES,
+        Kind::Group => numbers::GROUP,
+        Kind::Providename => numbers::PROVIDENAME,
+        Kind::Requirename => numbers::REQUIRENAME,
+        Kind::Conflictname => numbers::CONFLICTNAME,
+        Kind::Obsoletename => numbers::OBSOLETENAME,
+        Kind::Triggername => numbers::TRIGGERNAME,
+        Kind::Dirnames => numbers::DIRNAMES,
+        Kind::Installtid => numbers::INSTALLTID,
+        Kind::Recommendname => numbers::RECOMMENDNAME,
     }
 }
 
-/// The keys of a kind in a header, in order: each element of the kind's tag, with its place from 0.
-/// A tag that is missing or isn't of class Text has none. A look-up in the header; going through
-/// the keys reads each of their bytes once.
+/// The keys of a kind in a header, in order: each element of the kind's tag, with its place from 0. For Installtid the elements are
+/// numbers, and a tag that isn't of class Number has no key; for each other kind they are texts, and a tag that isn't of class Text
+/// has none. A tag that is missing has none. A look-up in the header; going through the keys reads each of their bytes once.
 pub fn keys<'a>(kind: Kind, view: &View<'a>) -> KeyIter<'a>
     ensures { result ≡ keys kind view.now }
 {
-    match texts_in(view, tag_of_kind(kind)) {
-        None => KeyIter {
-            texts: None,
-            place: 0,
-        },
-        Some(texts) => {
-            let _ = texts.count();
-            KeyIter {
-                texts: Some(texts.iter()),
-                place: 0,
-            }
-        }
+    KeyIter {
+        source: KeySource::of(kind, view),
+        place: 0,
     }
 }

@@ -22,10 +22,16 @@ pub enum Kind {
     Obsoletename,
     /// A package at whose change its scripts run.
     Triggername,
+    /// A directory in which it has files.
+    Dirnames,
+    /// The time at which it was installed with others, which stands for the change that brought it.
+    Installtid,
+    /// A capability that it recommends.
+    Recommendname,
 }
 
 impl Kind {
-    /// The number of the kind in an index of keys, from 1 to 8 in the order above (own).
+    /// The number of the kind in an index of keys, from 1 to 11 in the order above (own).
     pub fn code(self) -> u8
         ensures { result ≡ code_of self }
     {
@@ -38,6 +44,9 @@ impl Kind {
             Kind::Conflictname => 6,
             Kind::Obsoletename => 7,
             Kind::Triggername => 8,
+            Kind::Dirnames => 9,
+            Kind::Installtid => 10,
+            Kind::Recommendname => 11,
         }
     }
 }

@@ -3,24 +3,17 @@
 ghost use Rattle.std.specs.Prelude.{◌≡◌, ℕ, ◌+◌, ◌≤◌, ◌<◌, ◌++◌, length, None, IfSome};
 ghost use Rattle.std.specs.Option.{option_copied};
 ghost use Rattle.rpm_tags.specs.Value.{first_text, first_number, evr, label, epoch_parts, arch_parts, release_parts, name_parts};
+ghost use Rattle.rpm_header.specs.Header.{max_data};
+ghost use Rattle.rpm_tags.specs.Numbers.{NAME, VERSION, RELEASE, EPOCH, ARCH};
 
 use crate::joined::Joined;
+use crate::numbers::{ARCH, EPOCH, NAME, RELEASE, VERSION};
 use crate::stored::{first_number, first_text};
 use rpm_header::View;
 
-const NAME: u32 = 1000;
-
-const VERSION: u32 = 1001;
-
-const RELEASE: u32 = 1002;
-
-pub const EPOCH: u32 = 1003;
-
-const ARCH: u32 = 1022;
-
 fn push_name<'a>(joined: &mut Joined<'a>, name: &'a [u8])
     requires room { length joined.old ≤ 7 }
-    requires short { length name.now ≤ 67108864 }
+    requires short { length name.now ≤ max_data }
     ensures { joined.new ≡ joined.old ++ name_parts name.now }
 {
     joined.push(name);
@@ -40,8 +33,8 @@ fn push_epoch(joined: &mut Joined<'_>, epoch: Option<u64>)
 
 fn push_release<'a>(joined: &mut Joined<'a>, version: &'a [u8], release: &'a [u8])
     requires room { length joined.old ≤ 6 }
-    requires version { length version.now ≤ 67108864 }
-    requires release { length release.now ≤ 67108864 }
+    requires version { length version.now ≤ max_data }
+    requires release { length release.now ≤ max_data }
     ensures value { joined.new ≡ joined.old ++ release_parts version.now release.now }
     ensures few { length joined.new ≤ length joined.old + 3 }
 {
@@ -52,7 +45,7 @@ fn push_release<'a>(joined: &mut Joined<'a>, version: &'a [u8], release: &'a [u8
 
 fn push_arch<'a>(joined: &mut Joined<'a>, arch: Option<&'a [u8]>)
     requires room { length joined.old ≤ 7 }
-    requires short { IfSome arch (λ text. length text.now ≤ 67108864) }
+    requires short { IfSome arch (λ text. length text.now ≤ max_data) }
     ensures { joined.new ≡ joined.old ++ arch_parts (option_copied arch.entry) }
 {
     if let Some(arch) = arch {
@@ -64,9 +57,9 @@ fn push_arch<'a>(joined: &mut Joined<'a>, arch: Option<&'a [u8]>)
 /// The name, the version and the release with what is between them and behind them; None where one
 /// of the three is not of class Text.
 fn label<'a>(view: &View<'a>, epoch: Option<u64>, arch: Option<&'a [u8]>) -> Option<Joined<'a>>
-    requires { IfSome arch (λ text. length text.now ≤ 67108864) }
-    ensures { result ≡ label (first_text view.now 1000) epoch (first_text view.now 1001)
-        (first_text view.now 1002) (option_copied arch.entry) }
+    requires { IfSome arch (λ text. length text.now ≤ max_data) }
+    ensures { result ≡ label (first_text view.now NAME) epoch (first_text view.now VERSION)
+        (first_text view.now RELEASE) (option_copied arch.entry) }
 {
     let name = first_text(view, NAME)?;
     let version = first_text(view, VERSION)?;
@@ -81,32 +74,32 @@ fn label<'a>(view: &View<'a>, epoch: Option<u64>, arch: Option<&'a [u8]>) -> Opt
 
 /// `N-V-R`.
 pub fn nvr<'a>(view: &View<'a>) -> Option<Joined<'a>>
-    ensures { result ≡ label (first_text view.now 1000) None (first_text view.now 1001)
-        (first_text view.now 1002) None }
+    ensures { result ≡ label (first_text view.now NAME) None (first_text view.now VERSION)
+        (first_text view.now RELEASE) None }
 {
     label(view, None, None)
 }
 
 /// `N-V-R.A`.
 pub fn nvra<'a>(view: &View<'a>) -> Option<Joined<'a>>
-    ensures { result ≡ label (first_text view.now 1000) None (first_text view.now 1001)
-        (first_text view.now 1002) (first_text view.now 1022) }
+    ensures { result ≡ label (first_text view.now NAME) None (first_text view.now VERSION)
+        (first_text view.now RELEASE) (first_text view.now ARCH) }
 {
     label(view, None, first_text(view, ARCH))
 }
 
 /// `N-E:V-R.A`.
 pub fn nevra<'a>(view: &View<'a>) -> Option<Joined<'a>>
-    ensures { result ≡ label (first_text view.now 1000) (first_number view.now 1003)
-        (first_text view.now 1001) (first_text view.now 1002) (first_text view.now 1022) }
+    ensures { result ≡ label (first_text view.now NAME) (first_number view.now EPOCH)
+        (first_text view.now VERSION) (first_text view.now RELEASE) (first_text view.now ARCH) }
 {
     label(view, first_number(view, EPOCH), first_text(view, ARCH))
 }
 
 /// `E:V-R`.
 pub fn evr<'a>(view: &View<'a>) -> Option<Joined<'a>>
-    ensures { result ≡ evr (first_number view.now 1003) (first_text view.now 1001)
-        (first_text view.now 1002) }
+    ensures { result ≡ evr (first_number view.now EPOCH) (first_text view.now VERSION)
+        (first_text view.now RELEASE) }
 {
     let version = first_text(view, VERSION)?;
     let release = first_text(view, RELEASE)?;

@@ -13,6 +13,7 @@ mod key_iter;
 mod kind;
 mod labels;
 mod needed;
+mod numbers;
 mod stored;
 mod tag;
 #[cfg(test)]
@@ -24,10 +25,12 @@ mod values;
 mod wanted;
 
 pub use joined::Joined;
-pub use key_iter::{KeyIter, keys};
+pub use key_iter::{Key, KeyIter, keys};
 pub use kind::Kind;
 pub use needed::{Dependency, DependencyIter, Tags, dependencies};
-pub use stored::{Numbers, TextIter, Texts, first_number, first_text, numbers_in, texts_in};
+pub use stored::{
+    NumberIter, Numbers, TextIter, Texts, first_number, first_text, numbers_in, texts_in,
+};
 pub use tag::{Tag, name_of, tag_of};
 pub use texts::ValueTexts;
 pub use values::{Class, TagValue, value};

@@ -1,11 +1,12 @@
 //! The elements of one entry, by their class.
 
 ghost use Rattle.std.specs.Prelude.{◌≡◌, ℕ, ◌<◌, ◌≤◌, length, Some, slice_get, nat_lt, All, IfSome, take};
-ghost use Rattle.std.specs.Iterator.{YieldsFirstRef, item_count};
+ghost use Rattle.std.specs.Iterator.{YieldsFirst, YieldsFirstRef, item_count};
 ghost use Rattle.std.specs.List.{list_all};
 ghost use Rattle.std.specs.Option.{option_map, option_copied};
 ghost use Rattle.rpm_tags.specs.Value.{elements, stored, texts_in, numbers_in, first_text, first_number};
-ghost use Rattle.rpm_tags.specs.Source.{stored_elements};
+ghost use Rattle.rpm_tags.specs.inner.Source.{stored_elements};
+ghost use Rattle.rpm_header.specs.Header.{max_data};
 
 use rpm_header::{Entry, EntryTexts, Form, TextPlaces, View};
 use std::marker::Model;
@@ -19,7 +20,7 @@ pub struct Numbers<'a> {
 impl<'a> Model for Numbers<'a> {
     ghost use Rattle.std.specs.Prelude.{List, ℕ};
     ghost use Rattle.rpm_header.specs.Header.{numbers_of};
-    ghost use Rattle.rpm_tags.specs.Rows.{HasNumbers};
+    ghost use Rattle.rpm_tags.specs.inner.Rows.{HasNumbers};
 
     ghost Value = { List ℕ };
 
@@ -44,6 +45,50 @@ impl<'a> Numbers<'a> {
         let _ = self.entry.count();
         self.entry.number(i)
     }
+
+    /// All numbers in order.
+    pub fn in_order(self) -> NumberIter<'a>
+        ensures { result ≡ self.entry }
+    {
+        NumberIter {
+            all: self,
+            place: 0,
+        }
+    }
+}
+
+/// The numbers that are left.
+#[derive(Drop)]
+pub struct NumberIter<'a> {
+    all: Numbers<'a>,
+    place: u32,
+}
+
+impl<'a> Model for NumberIter<'a> {
+    ghost use Rattle.std.specs.Prelude.{List, ℕ, ◌≤◌, drop, length};
+
+    ghost Value = { List ℕ };
+
+    ghost view = { λ s. drop s.place s.all };
+
+    ghost invariant = { λ s. s.place ≤ length s.all };
+}
+
+impl<'a> Iterator for NumberIter<'a> {
+    type Item = u64;
+
+    ghost next_gives = { YieldsFirst (λ s. s) };
+
+    ghost remaining = { item_count (λ s. s) };
+
+    fn next(&mut self) -> Option<u64> {
+        if self.place == self.all.count() {
+            return None;
+        }
+        let number = self.all.number(self.place);
+        self.place += 1;
+        Some(number)
+    }
 }
 
 /// The texts of an entry that count. Contracts see it as the list of them.
@@ -57,7 +102,7 @@ pub struct Texts<'a> {
 impl<'a> Model for Texts<'a> {
     ghost use Rattle.std.specs.Prelude.{List, ℕ, take};
     ghost use Rattle.rpm_header.specs.Header.{texts_of};
-    ghost use Rattle.rpm_tags.specs.Rows.{HasTexts};
+    ghost use Rattle.rpm_tags.specs.inner.Rows.{HasTexts};
 
     ghost Value = { List (List ℕ) };
 
@@ -78,7 +123,7 @@ impl<'a> Texts<'a> {
     pub fn text(&self, i: u32) -> &'a [u8]
         requires { i < length self.now }
         ensures value { slice_get self.now i ≡ Some result.now }
-        ensures short { length result.now ≤ 67108864 }
+        ensures short { length result.now ≤ max_data }
     {
         let _ = self.entry.count();
         self.entry.text(i)
@@ -95,7 +140,7 @@ impl<'a> Texts<'a> {
     /// All texts in order. Going through them reads each byte once.
     pub fn iter(&self) -> TextIter<'a>
         ensures value { result ≡ self.now }
-        ensures short { All (λ text. length text ≤ 67108864) self.now }
+        ensures short { All (λ text. length text ≤ max_data) self.now }
     {
         let _ = self.entry.count();
         TextIter {
@@ -197,7 +242,7 @@ pub fn numbers_in<'a>(view: &View<'a>, tag: u32) -> Option<Numbers<'a>>
 #[tactic(auto, unfolding(crate::specs::Value::first_text))]
 pub fn first_text<'a>(view: &View<'a>, tag: u32) -> Option<&'a [u8]>
     ensures value { option_copied result ≡ first_text view.now tag }
-    ensures short { IfSome result (λ text. length text.now ≤ 67108864) }
+    ensures short { IfSome result (λ text. length text.now ≤ max_data) }
 {
     let texts = texts_in(view, tag)?;
     let _ = texts.count();

@@ -1,6 +1,6 @@
 //! Tags and their names.
 
-ghost use Rattle.std.specs.Prelude.{◌≡◌};
+ghost use Rattle.std.specs.Prelude.{◌≡◌, Some, IfSome};
 ghost use Rattle.std.specs.Option.{option_copied};
 ghost use Rattle.std.specs.Str.{str_eq_ignore_ascii_case};
 ghost use Rattle.rpm_tags.specs.Table.{tag_of, tag_in, name_of, name_in, is_tag, plain, seen};
@@ -186,9 +186,10 @@ pub fn tag_of(name: &[u8]) -> Option<Tag>
 }
 
 /// The name of a tag, in capitals and without a prefix: the first that the table has, and None
-/// exactly where it has none. Goes over the table once.
+/// exactly where it has none. `tag_of` gives the tag of it again. Goes over the table once.
 pub fn name_of(tag: Tag) -> Option<&'static str>
-    ensures { option_copied result ≡ name_of tag }
+    ensures value { option_copied result ≡ name_of tag }
+    ensures again { IfSome result (λ name. tag_of name.now ≡ Some tag) }
 {
     name_in(&TABLE, tag)
 }

@@ -164,6 +164,9 @@ fn kinds_have_their_codes(rt: HostRuntime) -> Result<(), Fail> {
         (Kind::Conflictname, 6),
         (Kind::Obsoletename, 7),
         (Kind::Triggername, 8),
+        (Kind::Dirnames, 9),
+        (Kind::Installtid, 10),
+        (Kind::Recommendname, 11),
     ] {
         assert_eq!(rt; kind.code(), code);
     }

@@ -3,6 +3,7 @@
 ghost use Rattle.std.specs.Prelude.{◌≡◌, ℕ, ◌≤◌, [], ◌∷◌, length, All};
 ghost use Rattle.std.specs.Iterator.{YieldsFirstBy, item_count};
 ghost use Rattle.std.specs.List.{concat};
+ghost use Rattle.rpm_header.specs.Header.{max_data};
 
 use crate::files::FileIter;
 use crate::joined::Joined;
@@ -24,7 +25,7 @@ pub struct ValueTexts<'v, 'a> {
 
 impl<'v, 'a> Model for ValueTexts<'v, 'a> {
     ghost use Rattle.std.specs.Prelude.{List, ℕ};
-    ghost use Rattle.rpm_tags.specs.Left.{texts_left, IsLeft};
+    ghost use Rattle.rpm_tags.specs.inner.Left.{texts_left, IsLeft};
 
     ghost Value = { List (List ℕ) };
 
@@ -35,7 +36,7 @@ impl<'v, 'a> Model for ValueTexts<'v, 'a> {
 
 impl<'v, 'a> ValueTexts<'v, 'a> {
     pub(crate) fn stored(texts: TextIter<'a>) -> ValueTexts<'v, 'a>
-        requires { All (λ text. length text ≤ 67108864) texts }
+        requires { All (λ text. length text ≤ max_data) texts }
         ensures { result ≡ texts.entry }
     {
         ValueTexts {

@@ -272,7 +272,20 @@ fn bytes_are_one_blob(rt: HostRuntime) -> Result<(), Fail> {
     Ok(())
 }
 
-const KEYS: [(&str, Kind, &str); 12] = [
+// INSTALLTID of two numbers, and a recommended capability.
+const INSTALLED: &str = "00000002 0000000a
+    00000468 00000004 00000000 00000002
+    000013b6 00000008 00000008 00000001
+    00000006 00000007 6100";
+
+// INSTALLTID of one number of eight bytes, and as a text.
+const WIDE_TID: &str = "00000001 00000008
+    00000468 00000005 00000000 00000001 3132333435363738";
+
+const TEXT_TID: &str = "00000001 00000002
+    00000468 00000006 00000000 00000001 3600";
+
+const KEYS: [(&str, Kind, &str); 18] = [
     (BASH, Kind::Name, "bash0|"),
     (BASH, Kind::Basenames, "bash0|sh1|"),
     (BASH, Kind::Group, "Shells0|"),
@@ -281,10 +294,20 @@ const KEYS: [(&str, Kind, &str); 12] = [
     (BASH, Kind::Conflictname, ""),
     (BASH, Kind::Obsoletename, ""),
     (BASH, Kind::Triggername, ""),
+    (BASH, Kind::Dirnames, "/usr/bin/0|"),
+    (BASH, Kind::Installtid, ""),
     (ODD, Kind::Name, "d0|"),
     (ODD, Kind::Group, "en0|"),
     (ODD, Kind::Providename, ""),
     (NO_NAME, Kind::Name, ""),
+    (
+        INSTALLED,
+        Kind::Installtid,
+        "\0\0\0\0\0\0\0\x060|\0\0\0\0\0\0\0\x071|",
+    ),
+    (INSTALLED, Kind::Recommendname, "a0|"),
+    (WIDE_TID, Kind::Installtid, "123456780|"),
+    (TEXT_TID, Kind::Installtid, ""),
 ];
 
 #[test]
@@ -294,11 +317,62 @@ fn keys_come_with_their_places(rt: HostRuntime) -> Result<(), Fail> {
         let view = View::parse(&blob).map_err(|_| "fault")?;
         let mut all = Vec::new(rt.alloc());
         for (key, place) in keys(kind, &view) {
-            all.extend_from_slice(key)?;
+            all.extend_from_slice(key.bytes())?;
             all.push(if place == 0 { b'0' } else { b'1' })?;
             all.push(b'|')?;
         }
         assert_eq!(rt; all.as_slice(), want.as_bytes(), "{want}");
     }
+    Ok(())
+}
+
+// The second of two files is `/b/c`, and its name is `/c`.
+const NAMES_WITH_SLASH: &str = "00000003 00000014
+    0000045c 00000004 00000000 00000002
+    0000045d 00000008 0000000f 00000002
+    0000045e 00000008 00000008 00000002
+    00000000 00000001 2f612f00 2f6200 7800 2f6300";
+
+#[test]
+fn a_file_counts_by_its_path_and_its_name(rt: HostRuntime) -> Result<(), Fail> {
+    let blob = unhex(rt.alloc(), NAMES_WITH_SLASH)?;
+    let view = View::parse(&blob).map_err(|_| "fault")?;
+    for (path, want) in [
+        ("/a/x", true),
+        ("/b/c", false),
+        ("/a/c", false),
+        ("x", false),
+    ] {
+        assert_eq!(rt; has_file(&view, path.as_bytes()), want, "{path}");
+    }
+    Ok(())
+}
+
+// Two names, one number of flags, one version.
+const SHORT_FLAGS: &str = "00000003 0000000a
+    00000417 00000008 00000004 00000002
+    00000458 00000004 00000000 00000001
+    00000459 00000008 00000008 00000001
+    00000008 61006200 3100";
+
+#[test]
+fn what_is_too_short_is_nothing(rt: HostRuntime) -> Result<(), Fail> {
+    let blob = unhex(rt.alloc(), SHORT_FLAGS)?;
+    let view = View::parse(&blob).map_err(|_| "fault")?;
+    let tags = Tags {
+        names: 1047,
+        flags: 1112,
+        versions: 1113,
+    };
+    let mut left = dependencies(&view, tags);
+    let first = left.next().ok_or("missing")?;
+    assert_eq!(rt; first.name, b"a".as_slice());
+    assert_eq!(rt; first.flags, 8);
+    assert_eq!(rt; first.version, b"1".as_slice());
+    let second = left.next().ok_or("missing")?;
+    assert_eq!(rt; second.name, b"b".as_slice());
+    assert_eq!(rt; second.flags, 0);
+    assert!(rt; second.version.is_empty());
+    assert!(rt; left.next().is_none());
     Ok(())
 }

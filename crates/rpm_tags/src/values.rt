@@ -6,7 +6,8 @@ ghost use Rattle.rpm_tags.specs.Value.{value, class_of, count_of, number_list, t
 
 use crate::files::{Files, files_in};
 use crate::joined::Joined;
-use crate::labels::{EPOCH, evr, nevra, nvr, nvra};
+use crate::labels::{evr, nevra, nvr, nvra};
+use crate::numbers::EPOCH;
 use crate::stored::{Stored, find_stored, first_number};
 use crate::tag::Tag;
 use crate::texts::ValueTexts;
@@ -41,7 +42,7 @@ pub struct TagValue<'a> {
 
 impl<'a> Model for TagValue<'a> {
     ghost use Rattle.rpm_tags.specs.Value.{Elements};
-    ghost use Rattle.rpm_tags.specs.Shown.{shown};
+    ghost use Rattle.rpm_tags.specs.inner.Shown.{shown};
 
     ghost Value = { Elements };
 
@@ -104,9 +105,9 @@ impl<'a> TagValue<'a> {
 
     /// All texts in order, each as `text` gives it. Going through them reads each byte of a stored
     /// text once. Of FILENAMES it reads each name once, and each directory once where files ask for
-    /// new directories in order and for earlier ones not long after: the furthest one and 64 others
-    /// are kept, for 1.5 KiB. A directory that is neither is read from the first one on, so that a
-    /// hostile header costs the product of its files and the bytes of its directories.
+    /// new directories in order and for earlier ones not long after: the furthest one and 16 others
+    /// are kept, for 1.5 KiB. For any other directory it reads a 255th of all of them at most, and
+    /// the first time all of them twice: in the worst header of 64 MiB, 33.5 million times 256 KiB.
     pub fn texts(&self) -> ValueTexts<'_, 'a>
         requires { class_of self.now ≡ Class.Text }
         ensures { result ≡ text_list self.now }

@@ -6,7 +6,8 @@ ghost use Rattle.rpm_tags.specs.Value.{file_name, file_names, filenames, are_mat
 ghost use Rattle.rpm_tags.specs.Wanted.{base_name, counts_for, any_counts_for, has_file, is_slash};
 
 use crate::dirs::Directories;
-use crate::files::{BASENAMES, DIRINDEXES, DIRNAMES, are_matched};
+use crate::files::are_matched;
+use crate::numbers::{BASENAMES, DIRINDEXES, DIRNAMES};
 use crate::stored::{Numbers, Texts, numbers_in, texts_in};
 use rpm_header::View;
 
@@ -70,7 +71,7 @@ fn is_any_in(dirs: &Texts<'_>, indexes: &Numbers<'_>, bases: &Texts<'_>, path: &
 }
 
 /// Whether an element of FILENAMES is this path, and its name is what follows the path's last slash. Reads each name once, and
-/// the directories of those alone that have the path's name. Takes no memory but for 64 directories that are kept.
+/// the directories of those alone that have the path's name, as `TagValue::texts` reads them. Takes no memory.
 #[tactic(auto, unfolding(crate::specs::Wanted::has_file))]
 pub fn has_file(view: &View<'_>, path: &[u8]) -> bool
     ensures { result ≡ has_file view.now path.now }

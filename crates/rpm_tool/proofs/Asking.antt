@@ -3,11 +3,11 @@ use Rattle.std.specs.Prelude.{◌≡◌, ℕ, true, List, [], ◌∷◌, Some, E
 use Rattle.std.specs.Fmt.{digits}
 use Rattle.rpm_words.specs.declared.fault.WordsKind.TheVariants.{NoMode, UnknownOption}
 use Rattle.rpm_words.specs.Switch.{short_switch, long_switch, rpm_switch}
-use Rattle.rpm_words.specs.Role.{is_cluster, long_role, own_role, role_behind}
-use Rattle.rpm_words.specs.Part.{said, said_behind}
+use Rattle.rpm_words.specs.Purpose.{is_cluster, long_purpose, own_purpose, purpose_behind}
+use Rattle.rpm_words.specs.Token.{said, said_behind}
 use Rattle.rpm_words.specs.Seen.{seen}
 use Rattle.rpm_words.specs.Fault.{fault}
-use Rattle.rpm_words.specs.Broken.{early_fault, bad_argument, first_broken}
+use Rattle.rpm_words.specs.Broken.{early_fault, misplaced, bad_argument, first_broken}
 use Rattle.rpm_words.specs.Place.{program_of}
 use Rattle.rpm_words.specs.Ask.{arguments, ask, asked_by}
 use Rattle.rpm_qfparse.specs.declared.fault.FormatKind.TheVariants.{MissingClose}
@@ -26,18 +26,18 @@ words : List ℕ → List (List ℕ)
 words options = codes "rpm" ∷ options ∷ []
 
 refused : ask (words (codes "-qz")) ≡ Err (fault UnknownOption 1)
-unfolding words ask asked_by program_of said said_behind role_behind own_role is_cluster short_switch seen arguments early_fault bad_argument first_broken
+unfolding words ask asked_by program_of said said_behind purpose_behind own_purpose is_cluster short_switch seen arguments early_fault misplaced bad_argument first_broken
 refused = refl
 
 -- the query of one package isn't built
 unbuilt : asks_unbuilt (codes "rpm" ∷ codes "-q" ∷ codes "bash" ∷ []) ≡ true
-unfolding asks_unbuilt is_built ask asked_by program_of said said_behind role_behind own_role is_cluster short_switch seen arguments early_fault bad_argument first_broken
+unfolding asks_unbuilt is_built ask asked_by program_of said said_behind purpose_behind own_purpose is_cluster short_switch seen arguments early_fault misplaced bad_argument first_broken
 unbuilt = refl
 
 -- of `-l` and a format the last one counts, and a fault of the one that counts is told
 shown : (asks_format (codes "rpm" ∷ codes "-qa" ∷ codes "--qf" ∷ codes "%{NAME" ∷ []) ≡ Some (Err (record { kind = MissingClose; at = 6 })))
     × (asks_format (codes "rpm" ∷ codes "--qf=%{NAME" ∷ codes "-qal" ∷ []) ≡ Some (format list_format))
-unfolding asks_format is_built ask asked_by program_of said said_behind role_behind own_role is_cluster long_role long_switch rpm_switch short_switch seen arguments early_fault bad_argument first_broken format reading move_of tag_part number_of after_number
+unfolding asks_format is_built ask asked_by program_of said said_behind purpose_behind own_purpose is_cluster long_purpose long_switch rpm_switch short_switch seen arguments early_fault misplaced bad_argument first_broken format reading move_of tag_part number_of after_number
 shown = (refl, refl)
 
 wrong : format_line (record { kind = MissingClose; at = 6 }) ≡ codes "error: incorrect format: } expected at byte 6\n"

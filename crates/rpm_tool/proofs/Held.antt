@@ -1,5 +1,5 @@
 -- The map of installed packages at a number, and by rising number.
-use Rattle.std.proofs.Common.{◌≡◌, ℕ, true, false, cond, List, [], ◌∷◌, map, Option, Some, None, is_some, refl, sym, ap, ◌∙◌, subst}
+use Rattle.std.proofs.Common.{◌≡◌, ℕ, true, false, cond, List, [], ◌∷◌, map, Option, Some, None, Result, Ok, Err, is_some, refl, sym, ap, ◌∙◌, subst}
 use Rattle.std.specs.Option.{option_map}
 use Rattle.std.specs.Ordering.{nat_cmp, eq_by_cmp}
 use Rattle.std.specs.FinMap as finite
@@ -9,22 +9,30 @@ use Rattle.rpm_pkgdb.specs.Store.{Store}
 use Rattle.rpm_pkgdb.specs.Slots.{slot_with}
 use Rattle.rpm_pkgdb.specs.Blobs.{blobs}
 use Rattle.rpm_pkgdb.specs.BlobLaws.{is_some-get-blobs}
-use Rattle.rpm_tool.specs.Installed.{Package, package_of, installed}
+use Rattle.rpm_header.specs.declared.form.HeaderFault.{HeaderFault}
+use Rattle.rpm_header.specs.Header.{Header, header}
+use Rattle.rpm_db.specs.State as database
+use Rattle.rpm_db.specs.inner.Laws.{find-map, get-packages}
+use Rattle.rpm_db.specs.inner.Own.{header-own}
+use Rattle.rpm_tool.specs.Installed.{Package, read_as, opened, package_of, installed}
 
--- a map whose values are changed one by one
-find-map : {X Y : Type 0} (f : X → Y) (q : ℕ) (es : List (ℕ × X)) → finite.find nat_cmp q (map (λ e. (e.0, f e.1)) es) ≡ option_map f (finite.find nat_cmp q es)
-find-map f q [] = refl
-find-map f q (e ∷ es) = elim (eq_by_cmp nat_cmp q e.0) as (λ b. cond b (Some (f e.1)) (finite.find nat_cmp q (map (λ e. (e.0, f e.1)) es)) ≡ option_map f (cond b (Some e.1) (finite.find nat_cmp q es))) [
-  | true ↦ refl
-  | false ↦ find-map f q es
-]
+-- a header's own bytes are the same header again
+opened_read : (blob : List ℕ) (r : Result Header HeaderFault) → header blob ≡ r → opened (database.read_as r) ≡ read_as r
+opened_read blob (Ok h) is = ap read_as (header-own blob h is)
+opened_read blob (Err fault) is = refl
+
+opened-package_of : (o : Option (Option (List ℕ))) → option_map opened (option_map database.package_of o) ≡ option_map package_of o
+opened-package_of None = refl
+opened-package_of (Some None) = refl
+opened-package_of (Some (Some blob)) = ap Some (opened_read blob (header blob) refl)
 
 pub get-installed : (file : Units) (s : Store) (n : ℕ) → finite.get (installed file s) n ≡ option_map package_of (finite.get (blobs file s) n)
 unfolding installed
 get-installed file s n =
-    finite.get-from_entries nat_cmp_total (map (λ e. (e.0, package_of e.1)) (finite.entries (blobs file s))) n
-    ∙ find-map package_of n (finite.entries (blobs file s))
-    ∙ ap (option_map package_of) (sym (finite.get-entries (blobs file s) n))
+    finite.get-from_entries nat_cmp_total (map (λ e. (e.0, opened e.1)) (finite.entries (database.packages file s))) n
+    ∙ find-map opened n (finite.entries (database.packages file s))
+    ∙ ap (option_map opened) (sym (finite.get-entries (database.packages file s) n) ∙ get-packages file s n)
+    ∙ opened-package_of (finite.get (blobs file s) n)
 
 -- the package of a number is what its blob says
 pub package_is : (file : Units) (s : Store) (n : ℕ) (blob : Option (List ℕ)) (p : Package) → finite.get (blobs file s) n ≡ Some blob → finite.get (installed file s) n ≡ Some p → p ≡ package_of blob

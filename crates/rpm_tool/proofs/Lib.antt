@@ -1,4 +1,3 @@
-mod Above
 mod Asking
 mod Defaults
 mod Fixtures

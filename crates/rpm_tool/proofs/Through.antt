@@ -17,7 +17,8 @@ use Rattle.rpm_tool.specs.declared.answer.Why.TheVariants as why
 use Rattle.rpm_tool.specs.Installed.{Package, Good, Bad, installed}
 use Rattle.rpm_tool.specs.Steps.{Step, ToOut, ToErr, out_bytes, err_bytes, is_out, is_bad, cut, steps_of, step_of, number_of, query_of, printed, bearer}
 use Rattle.rpm_tool.specs.Answers.{Outputs, outputs, why_of, StepIs, Through, ThroughSome, StoppedWithin, Went}
-use Rattle.rpm_tool.proofs.Above.{above, nothing_above, next_above, all_above_zero}
+use Rattle.rpm_db.specs.State.{above}
+use Rattle.rpm_db.specs.inner.Above.{nothing_above, next_above, all_above_zero}
 use Rattle.rpm_tool.proofs.Held.{is_some-installed}
 
 some_of : {X : Type 0} (o : Option X) → is_some o ≡ true → (x : X) × (o ≡ Some x)

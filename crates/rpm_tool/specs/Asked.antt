@@ -1,13 +1,13 @@
 -- Which command lines are built, and by which format they print.
-use Rattle.std.specs.Prelude.{ℕ, List, Option, Some, None, Result, Ok, Err, Bool, true, false, not, ◌&&◌, ◌==◌, if◌then◌else◌, length, drop, codes}
+use Rattle.std.specs.Prelude.{ℕ, List, Option, Some, None, Result, Ok, Err, Bool, true, false, not, ◌&&◌, ◌==◌, if◌then◌else◌, length, codes}
 use Rattle.std.specs.Option.{option_and_then}
 use Rattle.rpm_words.specs.declared.ask.Mode.{Mode}
 use Rattle.rpm_words.specs.declared.ask.Mode.TheVariants.{Query}
 use Rattle.rpm_words.specs.declared.switch.Chosen.{Chosen}
 use Rattle.rpm_words.specs.declared.switch.Chosen.TheVariants.{All}
-use Rattle.rpm_words.specs.declared.seen.Span.{Span}
+use Rattle.rpm_words.specs.declared.words.Span.{Span}
 use Rattle.rpm_words.specs.declared.fault.WordsFault.{WordsFault}
-use Rattle.rpm_words.specs.Place.{text_at}
+use Rattle.rpm_words.specs.Words.{bytes_from}
 use Rattle.rpm_words.specs.Ask.{AskParts, ask}
 use Rattle.rpm_qfparse.specs.declared.fault.FormatFault.{FormatFault}
 use Rattle.rpm_qfparse.specs.Tree.{Tree}
@@ -47,7 +47,7 @@ list_format = codes "%|FILENAMES?{[%{FILENAMES}\\n]}:{(contains no files)\\n}|"
 -- the word that gives a format, from where it begins
 abbrev pub given_format : List (List ℕ) → Option Span → List ℕ
 given_format words None = label_format
-given_format words (Some span) = drop span.from (text_at words span.word)
+given_format words (Some span) = bytes_from words span
 
 -- of `-l` and the options that give a format the last one counts, and so a command never has both
 abbrev pub format_text : List (List ℕ) → AskParts → List ℕ

@@ -4,7 +4,7 @@ use Rattle.std.specs.List.{concat}
 use Rattle.rpm_words.specs.declared.fault.WordsKind.{WordsKind}
 use Rattle.rpm_words.specs.declared.fault.WordsKind.TheVariants as kind
 use Rattle.rpm_words.specs.declared.fault.WordsFault.{WordsFault}
-use Rattle.rpm_words.specs.Place.{text_at}
+use Rattle.rpm_words.specs.Words.{text_at}
 use Rattle.rpm_qfparse.specs.declared.fault.FormatKind.{FormatKind}
 use Rattle.rpm_qfparse.specs.declared.fault.FormatKind.TheVariants as wrong
 use Rattle.rpm_qfparse.specs.declared.fault.FormatFault.{FormatFault}

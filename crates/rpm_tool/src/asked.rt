@@ -1,14 +1,13 @@
 //! The command that the words ask for, where it is built, and its format.
 
-ghost use Rattle.std.specs.Prelude.{◌≡◌, true, Some, Ok, IfOk, IfErr, drop};
-ghost use Rattle.rpm_words.specs.Place.{text_at};
+ghost use Rattle.std.specs.Prelude.{◌≡◌, true, Some, Ok, IfOk, IfErr};
 ghost use Rattle.rpm_words.specs.Ask.{ask};
 ghost use Rattle.rpm_tool.specs.Asked.{is_built, format_text, asks_format};
 ghost use Rattle.rpm_tool.specs.Answers.{Undone};
 
 use crate::answer::{Unbuilt, Why};
 use rpm_qfparse::{Format, FormatKind, parse};
-use rpm_words::{Ask, Chosen, Mode, Span, Words, WordsKind, read};
+use rpm_words::{Ask, Chosen, Mode, Words, WordsKind, read};
 use std::alloc::Global;
 
 /// Whether a command is built: the query of all packages, from the first one on.
@@ -23,30 +22,6 @@ fn is_built(ask: &Ask) -> bool
         && !ask.noindex()
 }
 
-/// The word at a place, or the empty text.
-pub fn text_at(words: &Words, i: u32) -> &[u8]
-    ensures { result.now ≡ text_at words.now i }
-{
-    if i < words.len() {
-        words.word(i).as_bytes()
-    } else {
-        b""
-    }
-}
-
-/// The text from a place on.
-fn text_from(words: &Words, span: Span) -> &[u8]
-    ensures { result.now ≡ drop span.from (text_at words.now span.word) }
-{
-    let text = text_at(words, span.word);
-    let from = span.from as usize;
-    if from < text.len() {
-        &text[from..]
-    } else {
-        b""
-    }
-}
-
 /// The text of the format: the one that is given, that of the list, or else that of labels.
 #[tactic(auto, unfolding(crate::specs::Asked::label_format, crate::specs::Asked::list_format))]
 fn format_text<'a>(words: &'a Words, ask: &Ask) -> &'a [u8]
@@ -56,7 +31,7 @@ fn format_text<'a>(words: &'a Words, ask: &Ask) -> &'a [u8]
         return b"%|FILENAMES?{[%{FILENAMES}\\n]}:{(contains no files)\\n}|";
     }
     match ask.format() {
-        Some(span) => text_from(words, span),
+        Some(span) => words.bytes_from(span),
         None => b"%{NVRA}\\n",
     }
 }

@@ -4,10 +4,9 @@ ghost use Rattle.std.specs.Prelude.{◌≡◌, ◌++◌, [], codes, decimal, Err
 ghost use Rattle.rpm_outside.specs.Buffered.{inner, holds};
 ghost use Rattle.rpm_outside.specs.Sinks.{Writes};
 ghost use Rattle.rpm_tool.specs.Closing.{reason_text, damage_line, rule_text, word_told, usage_line, fault_text, format_line, closing};
-ghost use Rattle.rpm_words.specs.Place.{text_at};
+ghost use Rattle.rpm_words.specs.Words.{text_at};
 
 use crate::answer::Why;
-use crate::asked::text_at;
 use crate::pieces::put_pieces;
 use itoa::Buffer;
 use rpm_outside::{Buffered, Failed, Sink, put_all};
@@ -74,7 +73,7 @@ fn word_told(words: &Words, fault: WordsFault) -> &[u8]
 {
     match fault.kind {
         WordsKind::NoMode | WordsKind::MissingArgument | WordsKind::NoMemory => b"",
-        _ => text_at(words, fault.word),
+        _ => words.text_at(fault.word).as_bytes(),
     }
 }
 

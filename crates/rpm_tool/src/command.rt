@@ -3,6 +3,7 @@
 ghost use Rattle.std.specs.Prelude.{◌≡◌, ◌≢◌, ℕ, ◌+◌, ◌≤◌, [], true, IsTrue, Some, None, Err};
 ghost use Rattle.rpm_outside.specs.Buffered.{inner, holds, HandsOn};
 ghost use Rattle.rpm_outside.specs.Causes.{HasCauseAt};
+ghost use Rattle.rpm_outside.specs.declared.disk.File.TheVariants.{Pkg};
 ghost use Rattle.rpm_outside.specs.Looks.{Looks};
 ghost use Rattle.rpm_pkgdb.specs.Store.{store};
 ghost use Rattle.rpm_words.specs.Ask.{ask};
@@ -38,7 +39,7 @@ fn command<D: Disk, O: Sink + Drop, E: Sink + Drop>(
     ensures unread { asks_all words.now ≡ None → (disk.new ≡ disk.old) × (out.new ≡ out.old) × (err.new ≡ err.old) }
     ensures went { (tree : Tree) → asks_all words.now ≡ Some tree → IsTrue D.tells → Queried tree (D.files disk.old).pkg (store (D.files disk.old).pkg) result (outputs O.tells (O.taken (inner out.old)) E.tells (E.taken (inner err.old))) (outputs O.tells (O.taken (inner out.new)) E.tells (E.taken (inner err.new))) (D.bytes_read disk.old File.Pkg) (D.bytes_read disk.new File.Pkg) }
     ensures reads { IsTrue D.tells → D.bytes_read disk.new File.Pkg ≤ D.bytes_read disk.old File.Pkg + query_cost (D.files disk.old).pkg }
-    ensures looks { (most : ℕ) × Looks D.tells D.files D.left_since D.moment D.bytes_read D.follows most disk.old disk.new }
+    ensures looks { (most : ℕ) × Looks D.tells D.files D.left_since D.moment D.bytes_read D.follows Pkg most disk.old disk.new }
     ensures disk { HasCauseAt (result ≡ Why.DiskFault) (D.faults disk.old) (D.faults disk.new) }
     ensures out { HasCauseAt (result ≡ Why.OutFault) (O.faults (inner out.old)) (O.faults (inner out.new)) }
     ensures err { HasCauseAt (result ≡ Why.ErrFault) (E.faults (inner err.old)) (E.faults (inner err.new)) }
@@ -94,7 +95,7 @@ pub fn run<D: Disk, S: Shelf, O: Sink, E: Sink>(
     ensures answers { (tree : Tree) → asks_all words.now ≡ Some tree → IsTrue D.tells → Ends (λ mid. Queried tree (D.files disk).pkg (store (D.files disk).pkg) result.0.why (outputs O.tells (O.taken out.old) E.tells (E.taken err.old)) mid (D.bytes_read disk File.Pkg) (D.bytes_read result.1 File.Pkg)) (closing words.now result.0.why) (outputs O.tells (O.taken out.new) E.tells (E.taken err.new)) (E.faults err.old) (E.faults err.new) }
 
     // The disk reads as before, and so do its images; of Packages.db no more is read than its pages and packages.
-    ensures looks { (most : ℕ) × Looks D.tells D.files D.left_since D.moment D.bytes_read D.follows most disk result.1 }
+    ensures looks { (most : ℕ) × Looks D.tells D.files D.left_since D.moment D.bytes_read D.follows Pkg most disk result.1 }
     ensures reads { IsTrue D.tells → D.bytes_read result.1 File.Pkg ≤ D.bytes_read disk File.Pkg + query_cost (D.files disk).pkg }
     ensures shelf { shelf.new ≡ shelf.old }
 

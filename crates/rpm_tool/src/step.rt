@@ -4,6 +4,7 @@ ghost use Rattle.std.specs.Prelude.{◌≡◌, ◌≢◌, ℕ, Bool, List, [], I
 ghost use Rattle.std.specs.FinMap.{get};
 ghost use Rattle.rpm_outside.specs.Buffered.{inner, holds, HandsOn};
 ghost use Rattle.rpm_outside.specs.Causes.{HasCauseAt};
+ghost use Rattle.rpm_outside.specs.declared.disk.File.TheVariants.{Pkg};
 ghost use Rattle.rpm_outside.specs.Looks.{Looks};
 ghost use Rattle.rpm_pkgdb.specs.Slots.{slot_with};
 ghost use Rattle.rpm_pkgdb.specs.Store.{Keeps};
@@ -183,7 +184,7 @@ pub fn print_package<D: Disk, O: Sink + Drop, E: Sink + Drop>(
     requires held { IsSome (slot_with number db.now.slots) }
     ensures step { IsTrue D.tells → (p : Package) → get (installed (D.files disk.old).pkg db.now) number ≡ Some p → StepIs (step_of format.now number p) result (outputs O.tells (O.taken (inner out.old)) E.tells (E.taken (inner err.old))) (outputs O.tells (O.taken (inner out.new)) E.tells (E.taken (inner err.new))) }
     ensures kept { IsTrue D.tells → Keeps (D.files disk.new).pkg db.now }
-    ensures looks { Looks D.tells D.files D.left_since D.moment D.bytes_read D.follows (cost number db.now) disk.old disk.new }
+    ensures looks { Looks D.tells D.files D.left_since D.moment D.bytes_read D.follows Pkg (cost number db.now) disk.old disk.new }
     ensures disk { HasCauseAt (result ≡ Err Stop.DiskFault) (D.faults disk.old) (D.faults disk.new) }
     ensures out { HasCauseAt (result ≡ Err Stop.OutFault) (O.faults (inner out.old)) (O.faults (inner out.new)) }
     ensures err { HasCauseAt (result ≡ Err Stop.ErrFault) (E.faults (inner err.old)) (E.faults (inner err.new)) }

@@ -47,7 +47,8 @@ runs-alone : (b : ℕ) (rest : List ℕ) → is_ascii_digit b ≡ false → is_a
 unfolding runs
 runs-alone b rest h k = rw (alone b rest h k)
 
-pub segments-separator : (b : ℕ) (rest : List ℕ) → is_ascii_digit b ≡ false → is_ascii_alphabetic b ≡ false → b ≢ 126 → b ≢ 94 → segments (b ∷ rest) ≡ segments rest
+pub segments-separator : (b : ℕ) (rest : List ℕ) → is_ascii_digit b ≡ false → is_ascii_alphabetic b ≡ false → b ≢ 126 → b ≢ 94 →
+    segments (b ∷ rest) ≡ segments rest
 unfolding segments segment_of
 segments-separator b rest h k m n = rw (runs-alone b rest h k, h, k, ne_eqb b 126 m, ne_eqb b 94 n)
 
@@ -61,7 +62,9 @@ runs-apart b rest h = rw h
 
 -- bytes that pass a test run on
 module _ (p : ℕ → Bool) (joins : (b c : ℕ) (rest : List ℕ) → p b ≡ true → runs_on b (c ∷ rest) ≡ p c) where
-  longest-by : (b c : ℕ) (rest : List ℕ) (v : Bool) → p b ≡ true → p c ≡ v → (p c ≡ true → runs (c ∷ rest) ≡ take_while p (c ∷ rest) ∷ runs (drop (prefix_len p (c ∷ rest)) (c ∷ rest))) → runs (b ∷ c ∷ rest) ≡ take_while p (b ∷ c ∷ rest) ∷ runs (drop (prefix_len p (b ∷ c ∷ rest)) (b ∷ c ∷ rest))
+  longest-by : (b c : ℕ) (rest : List ℕ) (v : Bool) → p b ≡ true → p c ≡ v →
+      (p c ≡ true → runs (c ∷ rest) ≡ take_while p (c ∷ rest) ∷ runs (drop (prefix_len p (c ∷ rest)) (c ∷ rest))) →
+      runs (b ∷ c ∷ rest) ≡ take_while p (b ∷ c ∷ rest) ∷ runs (drop (prefix_len p (b ∷ c ∷ rest)) (b ∷ c ∷ rest))
   longest-by b c rest true h k more =
       runs-joined b (c ∷ rest) (joins b c rest h ∙ k) ∙ ap (onto_first b) (more k)
       ∙ rw (taken-yes p b (c ∷ rest) h, left-yes p b (c ∷ rest) h)
@@ -81,28 +84,35 @@ letters_join : (b c : ℕ) (rest : List ℕ) → is_ascii_alphabetic b ≡ true 
 unfolding runs_on
 letters_join b c rest h = rw (h, no_digit b h)
 
-segments-digits-cons : (b : ℕ) (rest : List ℕ) → is_ascii_digit b ≡ true → segments (b ∷ rest) ≡ Digits (digits_value 10 (take_while is_ascii_digit (b ∷ rest))) ∷ segments (drop (prefix_len is_ascii_digit (b ∷ rest)) (b ∷ rest))
+segments-digits-cons : (b : ℕ) (rest : List ℕ) → is_ascii_digit b ≡ true →
+    segments (b ∷ rest) ≡ Digits (digits_value 10 (take_while is_ascii_digit (b ∷ rest))) ∷ segments (drop (prefix_len is_ascii_digit (b ∷ rest)) (b ∷ rest))
 unfolding segments segment_of
 segments-digits-cons b rest h = rw (runs-longest is_ascii_digit digits_join b rest h, taken-yes is_ascii_digit b rest h, h)
 
-segments-letters-cons : (b : ℕ) (rest : List ℕ) → is_ascii_alphabetic b ≡ true → segments (b ∷ rest) ≡ Letters (take_while is_ascii_alphabetic (b ∷ rest)) ∷ segments (drop (prefix_len is_ascii_alphabetic (b ∷ rest)) (b ∷ rest))
+segments-letters-cons : (b : ℕ) (rest : List ℕ) → is_ascii_alphabetic b ≡ true →
+    segments (b ∷ rest) ≡ Letters (take_while is_ascii_alphabetic (b ∷ rest)) ∷ segments (drop (prefix_len is_ascii_alphabetic (b ∷ rest)) (b ∷ rest))
 unfolding segments segment_of
 segments-letters-cons b rest h = rw (runs-longest is_ascii_alphabetic letters_join b rest h, taken-yes is_ascii_alphabetic b rest h, no_digit b h, h)
 
 -- the same of a text that is seen to begin with a byte
-pub segments-digits : (text rest : List ℕ) (b : ℕ) → text ≡ b ∷ rest → is_ascii_digit b ≡ true → segments text ≡ Digits (digits_value 10 (take_while is_ascii_digit text)) ∷ segments (drop (prefix_len is_ascii_digit text) text)
+pub segments-digits : (text rest : List ℕ) (b : ℕ) → text ≡ b ∷ rest → is_ascii_digit b ≡ true →
+    segments text ≡ Digits (digits_value 10 (take_while is_ascii_digit text)) ∷ segments (drop (prefix_len is_ascii_digit text) text)
 segments-digits text rest b e h =
-    subst (λ t. segments t ≡ Digits (digits_value 10 (take_while is_ascii_digit t)) ∷ segments (drop (prefix_len is_ascii_digit t) t)) (sym e) (segments-digits-cons b rest h)
+    subst (λ t. segments t ≡ Digits (digits_value 10 (take_while is_ascii_digit t)) ∷ segments (drop (prefix_len is_ascii_digit t) t))
+    (sym e) (segments-digits-cons b rest h)
 
-pub segments-letters : (text rest : List ℕ) (b : ℕ) → text ≡ b ∷ rest → is_ascii_alphabetic b ≡ true → segments text ≡ Letters (take_while is_ascii_alphabetic text) ∷ segments (drop (prefix_len is_ascii_alphabetic text) text)
+pub segments-letters : (text rest : List ℕ) (b : ℕ) → text ≡ b ∷ rest → is_ascii_alphabetic b ≡ true →
+    segments text ≡ Letters (take_while is_ascii_alphabetic text) ∷ segments (drop (prefix_len is_ascii_alphabetic text) text)
 segments-letters text rest b e h =
-    subst (λ t. segments t ≡ Letters (take_while is_ascii_alphabetic t) ∷ segments (drop (prefix_len is_ascii_alphabetic t) t)) (sym e) (segments-letters-cons b rest h)
+    subst (λ t. segments t ≡ Letters (take_while is_ascii_alphabetic t) ∷ segments (drop (prefix_len is_ascii_alphabetic t) t))
+    (sym e) (segments-letters-cons b rest h)
 
 digit_below : (b : ℕ) → is_ascii_digit b ≡ true → digit_value b < 10
 digit_below b h = grind (arith, nat_tests)
 
 -- what the longest run of digits has is digits
-digits_by : (b : ℕ) (rest : List ℕ) (v : Bool) → is_ascii_digit b ≡ v → AllDigits 10 (take_while is_ascii_digit rest) → AllDigits 10 (take_while is_ascii_digit (b ∷ rest))
+digits_by : (b : ℕ) (rest : List ℕ) (v : Bool) → is_ascii_digit b ≡ v → AllDigits 10 (take_while is_ascii_digit rest) →
+    AllDigits 10 (take_while is_ascii_digit (b ∷ rest))
 digits_by b rest true h more = rw (taken-yes is_ascii_digit b rest h) (digit_below b h, more)
 digits_by b rest false h more = rw (taken-no is_ascii_digit b rest h) tt
 

@@ -115,6 +115,7 @@ ties x y = (
 )
 
 -- one step of the comparison
-pub version_order-step : (a b : List ℕ) (x y : Segment) (xs ys : List Segment) → segments a ≡ x ∷ xs → segments b ≡ y ∷ ys → version_order a b ≡ ordering_then (segment_order x y) (slice_cmp segment_order xs ys)
+pub version_order-step : (a b : List ℕ) (x y : Segment) (xs ys : List Segment) → segments a ≡ x ∷ xs → segments b ≡ y ∷ ys →
+    version_order a b ≡ ordering_then (segment_order x y) (slice_cmp segment_order xs ys)
 unfolding version_order
 version_order-step a b x y xs ys h k = λ i. slice_cmp segment_order (h i) (k i)

@@ -44,7 +44,8 @@ nat_cmp-add : (n a b : ℕ) → nat_cmp (n + a) (n + b) ≡ nat_cmp a b
 nat_cmp-add n a b = nat_cmp-add_by n a b (nat_cmp a b) (ranked a b (nat_cmp a b) refl)
 
 -- a place of a greater weight decides first
-place_by : (p a b u v : ℕ) (r : Ordering) → u < p → v < p → MatchOrdering r (a < b) (a ≡ b) (b < a) → nat_cmp (a * p + u) (b * p + v) ≡ ordering_then r (nat_cmp u v)
+place_by : (p a b u v : ℕ) (r : Ordering) → u < p → v < p → MatchOrdering r (a < b) (a ≡ b) (b < a) →
+    nat_cmp (a * p + u) (b * p + v) ≡ ordering_then r (nat_cmp u v)
 place_by p a b u v Less hu hv h =
     let step : (a + 1) * p ≤ b * p = mul-le-mul_right p (omega arith) in
     less (a * p + u) (b * p + v) (omega arith)
@@ -65,7 +66,8 @@ bytes_compare b c h k =
     ap (λ x. nat_cmp x c) (byte_of b h) ∙ ap (nat_cmp (48 + digit_value b)) (byte_of c k) ∙ nat_cmp-add 48 (digit_value b) (digit_value c)
 
 -- runs of one length
-level : (xs ys : List ℕ) → AllDigits 10 xs → AllDigits 10 ys → length xs ≡ length ys → slice_cmp nat_cmp xs ys ≡ nat_cmp (digits_value 10 xs) (digits_value 10 ys)
+level : (xs ys : List ℕ) → AllDigits 10 xs → AllDigits 10 ys → length xs ≡ length ys →
+    slice_cmp nat_cmp xs ys ≡ nat_cmp (digits_value 10 xs) (digits_value 10 ys)
 level [] [] h k e = refl
 level [] (y ∷ ys) h k e = absurd (omega arith)
 level (x ∷ xs) [] h k e = absurd (omega arith)
@@ -97,10 +99,14 @@ longer xs ys h k z m =
     let power : 10 ^ length xs ≤ 10 ^ (length ys - 1) = pow-le-pow_right {n = 10} (omega arith) (omega arith) in
     omega (arith, digits_value-lt 10 xs h, at_least ys k z (omega arith))
 
-by_length : (xs ys : List ℕ) (r : Ordering) → AllDigits 10 xs → AllDigits 10 ys → slice_index xs 0 ≢ 48 → slice_index ys 0 ≢ 48 → MatchOrdering r (length xs < length ys) (length xs ≡ length ys) (length ys < length xs) → ordering_then r (slice_cmp nat_cmp xs ys) ≡ nat_cmp (digits_value 10 xs) (digits_value 10 ys)
+by_length : (xs ys : List ℕ) (r : Ordering) → AllDigits 10 xs → AllDigits 10 ys → slice_index xs 0 ≢ 48 → slice_index ys 0 ≢ 48 →
+    MatchOrdering r (length xs < length ys) (length xs ≡ length ys) (length ys < length xs) →
+    ordering_then r (slice_cmp nat_cmp xs ys) ≡ nat_cmp (digits_value 10 xs) (digits_value 10 ys)
 by_length xs ys Less h k zx zy m = sym (less (digits_value 10 xs) (digits_value 10 ys) (longer xs ys h k zy m))
 by_length xs ys Equal h k zx zy m = level xs ys h k m
 by_length xs ys Greater h k zx zy m = sym (greater (digits_value 10 xs) (digits_value 10 ys) (longer ys xs k h zx m))
 
-pub numbers_compare : (xs ys : List ℕ) → AllDigits 10 xs → AllDigits 10 ys → slice_index xs 0 ≢ 48 → slice_index ys 0 ≢ 48 → ordering_then (nat_cmp (length xs) (length ys)) (slice_cmp nat_cmp xs ys) ≡ nat_cmp (digits_value 10 xs) (digits_value 10 ys)
-numbers_compare xs ys h k zx zy = by_length xs ys (nat_cmp (length xs) (length ys)) h k zx zy (ranked (length xs) (length ys) (nat_cmp (length xs) (length ys)) refl)
+pub numbers_compare : (xs ys : List ℕ) → AllDigits 10 xs → AllDigits 10 ys → slice_index xs 0 ≢ 48 → slice_index ys 0 ≢ 48 →
+    ordering_then (nat_cmp (length xs) (length ys)) (slice_cmp nat_cmp xs ys) ≡ nat_cmp (digits_value 10 xs) (digits_value 10 ys)
+numbers_compare xs ys h k zx zy =
+    by_length xs ys (nat_cmp (length xs) (length ys)) h k zx zy (ranked (length xs) (length ys) (nat_cmp (length xs) (length ys)) refl)

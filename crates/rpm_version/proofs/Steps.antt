@@ -35,9 +35,13 @@ behind piece.Caret rest h = refl
 behind (piece.Letters x) rest h = refl
 behind (piece.Digits x) rest h = refl
 
-module _ (a b s t : List ℕ) (p q : Piece) (r : Ordering) (left : segments a ≡ segment_at p ∷ segments_behind p s) (right : segments b ≡ segment_at q ∷ segments_behind q t) (first : r ≡ segment_order (segment_at p) (segment_at q)) where
+module _ (a b s t : List ℕ) (p q : Piece) (r : Ordering)
+    (left : segments a ≡ segment_at p ∷ segments_behind p s)
+    (right : segments b ≡ segment_at q ∷ segments_behind q t) (first : r ≡ segment_order (segment_at p) (segment_at q)) where
   step : version_order a b ≡ ordering_then r (slice_cmp segment_order (segments_behind p s) (segments_behind q t))
-  step = version_order-step a b (segment_at p) (segment_at q) (segments_behind p s) (segments_behind q t) left right ∙ ap (λ o. ordering_then o (slice_cmp segment_order (segments_behind p s) (segments_behind q t))) (sym first)
+  step =
+      version_order-step a b (segment_at p) (segment_at q) (segments_behind p s) (segments_behind q t) left right
+      ∙ ap (λ o. ordering_then o (slice_cmp segment_order (segments_behind p s) (segments_behind q t))) (sym first)
 
   pub differs : is_ne r ≡ true → r ≡ version_order a b
   differs h = sym (step ∙ then_differs r (slice_cmp segment_order (segments_behind p s) (segments_behind q t)) h)

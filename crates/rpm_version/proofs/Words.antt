@@ -15,7 +15,8 @@ words-blank : (b : ℕ) (rest : List ℕ) → is_blank b ≡ true → words (b �
 unfolding words
 words-blank b rest h = ap (filter is_word) (slice_split-cons_yes is_blank b rest h)
 
-skipped_by : (b : ℕ) (rest : List ℕ) (v : Bool) → is_blank b ≡ v → words rest ≡ words (drop (prefix_len is_blank rest) rest) → words (b ∷ rest) ≡ words (drop (prefix_len is_blank (b ∷ rest)) (b ∷ rest))
+skipped_by : (b : ℕ) (rest : List ℕ) (v : Bool) → is_blank b ≡ v → words rest ≡ words (drop (prefix_len is_blank rest) rest) →
+    words (b ∷ rest) ≡ words (drop (prefix_len is_blank (b ∷ rest)) (b ∷ rest))
 skipped_by b rest true h more = words-blank b rest h ∙ more ∙ ap words (sym (left-yes is_blank b rest h))
 skipped_by b rest false h more = ap words (sym (left-no is_blank b rest h))
 
@@ -28,7 +29,9 @@ abbrev parts_behind : List ℕ → List (List ℕ)
 parts_behind [] = []
 parts_behind (b ∷ rest) = slice_split is_blank rest
 
-first_part_by : (b : ℕ) (rest : List ℕ) (v : Bool) → is_blank b ≡ v → slice_split is_blank rest ≡ take_while no_blank rest ∷ parts_behind (drop (prefix_len no_blank rest) rest) → slice_split is_blank (b ∷ rest) ≡ take_while no_blank (b ∷ rest) ∷ parts_behind (drop (prefix_len no_blank (b ∷ rest)) (b ∷ rest))
+first_part_by : (b : ℕ) (rest : List ℕ) (v : Bool) → is_blank b ≡ v →
+    slice_split is_blank rest ≡ take_while no_blank rest ∷ parts_behind (drop (prefix_len no_blank rest) rest) →
+    slice_split is_blank (b ∷ rest) ≡ take_while no_blank (b ∷ rest) ∷ parts_behind (drop (prefix_len no_blank (b ∷ rest)) (b ∷ rest))
 first_part_by b rest true h more =
     slice_split-cons_yes is_blank b rest h
     ∙ rw (taken-no no_blank b rest (ap not h), left-no no_blank b rest (ap not h))
@@ -45,7 +48,8 @@ abbrev IsCut : List ℕ → Type 0
 IsCut [] = Unit {0}
 IsCut (b ∷ rest) = is_blank b ≡ true
 
-cut_by : (b : ℕ) (rest : List ℕ) (v : Bool) → is_blank b ≡ v → IsCut (drop (prefix_len no_blank rest) rest) → IsCut (drop (prefix_len no_blank (b ∷ rest)) (b ∷ rest))
+cut_by : (b : ℕ) (rest : List ℕ) (v : Bool) → is_blank b ≡ v → IsCut (drop (prefix_len no_blank rest) rest) →
+    IsCut (drop (prefix_len no_blank (b ∷ rest)) (b ∷ rest))
 cut_by b rest true h more = rw (left-no no_blank b rest (ap not h)) h
 cut_by b rest false h more = rw (left-yes no_blank b rest (ap not h)) more
 
@@ -63,7 +67,8 @@ abbrev IsBegun : List ℕ → Type 0
 IsBegun [] = Unit {0}
 IsBegun (b ∷ rest) = is_blank b ≡ false
 
-begun_by : (b : ℕ) (rest : List ℕ) (v : Bool) → is_blank b ≡ v → IsBegun (drop (prefix_len is_blank rest) rest) → IsBegun (drop (prefix_len is_blank (b ∷ rest)) (b ∷ rest))
+begun_by : (b : ℕ) (rest : List ℕ) (v : Bool) → is_blank b ≡ v → IsBegun (drop (prefix_len is_blank rest) rest) →
+    IsBegun (drop (prefix_len is_blank (b ∷ rest)) (b ∷ rest))
 begun_by b rest true h more = rw (left-yes is_blank b rest h) more
 begun_by b rest false h more = rw (left-no is_blank b rest h) h
 
@@ -93,7 +98,8 @@ module _ (text left : List ℕ) (leaves : left ≡ drop (prefix_len is_blank tex
   unfolding words
   words-none h = from_left ∙ ap words (nil_from_length left (eqb-true (length left) 0 h))
 
-  pub words-first : (n : ℕ) (word rest : List ℕ) → (length left == 0) ≡ false → n ≡ position_or_len is_blank left → word ≡ take n left → rest ≡ drop n left → words text ≡ word ∷ words rest
+  pub words-first : (n : ℕ) (word rest : List ℕ) → (length left == 0) ≡ false → n ≡ position_or_len is_blank left → word ≡ take n left →
+      rest ≡ drop n left → words text ≡ word ∷ words rest
   words-first n word rest h len front back =
       let none : length left ≡ 0 → ⊥ = eqb-false (length left) 0 h in
       let start = subst IsBegun (sym leaves) (begun text) in

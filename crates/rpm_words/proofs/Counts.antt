@@ -5,15 +5,16 @@ use Rattle.std.specs.List.{filter_map, cons_option}
 use Rattle.std.proofs.lemmas.List.Elements.{filter_map-append}
 use Rattle.rpm_words.specs.declared.switch.Program.{Program}
 use Rattle.rpm_words.specs.declared.switch.Switch.{Switch}
-use Rattle.rpm_words.specs.declared.role.Role.{Role}
-use Rattle.rpm_words.specs.declared.role.Role.TheVariants.{Name, Unknown, Cluster, Whole, Inline, Awaits, Value, Ends, Plain, Rest}
-use Rattle.rpm_words.specs.declared.part.Part.{Part}
+use Rattle.rpm_words.specs.declared.purpose.Purpose.{Purpose}
+use Rattle.rpm_words.specs.declared.purpose.Purpose.TheVariants.{Name, Unknown, Cluster, Whole, Inline, Awaits, Value, Ends, Plain, Rest}
+use Rattle.rpm_words.specs.declared.token.Token.{Token}
 use Rattle.rpm_words.specs.Switch.{short_switch}
-use Rattle.rpm_words.specs.Role.{role_behind}
-use Rattle.rpm_words.specs.Part.{option_at, letters, says, said_behind, said}
+use Rattle.rpm_words.specs.Purpose.{purpose_behind}
+use Rattle.rpm_words.specs.Token.{option_at, letters, says, said_behind, said}
 use Rattle.rpm_words.specs.Ask.{argument_in, arguments}
 
-no_letter : (word : ℕ) (o : Option Switch) (rest : List Part) → filter_map argument_in (cons_option (option_map (option_at word) o) rest) ≡ filter_map argument_in rest
+no_letter : (word : ℕ) (o : Option Switch) (rest : List Token) →
+    filter_map argument_in (cons_option (option_map (option_at word) o) rest) ≡ filter_map argument_in rest
 no_letter word None rest = refl
 no_letter word (Some switch) rest = refl
 
@@ -21,7 +22,7 @@ letters_none : (word : ℕ) (text : List ℕ) → filter_map argument_in (letter
 letters_none word [] = refl
 letters_none word (b ∷ rest) = no_letter word (short_switch b) (letters word rest) ∙ letters_none word rest
 
-one_word : (i : ℕ) (role : Role) (text : List ℕ) → length (filter_map argument_in (says i role text)) ≤ 1
+one_word : (i : ℕ) (purpose : Purpose) (text : List ℕ) → length (filter_map argument_in (says i purpose text)) ≤ 1
 one_word i Name text = omega arith
 one_word i Unknown text = omega arith
 one_word i Cluster text = rw (letters_none i text) (omega arith)
@@ -33,14 +34,21 @@ one_word i Ends text = omega arith
 one_word i Plain text = omega arith
 one_word i Rest text = omega arith
 
-behind : (program : Program) (previous : Role) (i : ℕ) (words : List (List ℕ)) → length (filter_map argument_in (said_behind program previous i words)) ≤ length words
+behind : (program : Program) (previous : Purpose) (i : ℕ) (words : List (List ℕ)) →
+    length (filter_map argument_in (said_behind program previous i words)) ≤ length words
 unfolding said_behind
 behind program previous i [] = omega arith
 behind program previous i (text ∷ rest) =
-    let role = role_behind program previous text in
-    let more = behind program role (i + 1) rest in
-    let here = one_word i role text in
-    rw (filter_map-append argument_in (says i role text) (said_behind program role (i + 1) rest)) (omega (arith, more, here, length-append (filter_map argument_in (says i role text)) (filter_map argument_in (said_behind program role (i + 1) rest))))
+    let purpose = purpose_behind program previous text in
+    let more = behind program purpose (i + 1) rest in
+    let here = one_word i purpose text in
+    rw (filter_map-append argument_in (says i purpose text) (said_behind program purpose (i + 1) rest))
+    (omega (
+      arith,
+      more,
+      here,
+      length-append (filter_map argument_in (says i purpose text)) (filter_map argument_in (said_behind program purpose (i + 1) rest)),
+    ))
 
 pub few_arguments : (program : Program) (words : List (List ℕ)) → length (arguments (said program words)) ≤ length words
 unfolding arguments said

@@ -6,19 +6,22 @@ use Rattle.std.proofs.lemmas.List.Elements.{filter_map-append}
 use Rattle.std.proofs.lemmas.Grind.{common_steps}
 use Rattle.rpm_words.specs.declared.switch.Program.{Program}
 use Rattle.rpm_words.specs.declared.switch.Switch.{Switch}
-use Rattle.rpm_words.specs.declared.switch.Switch.TheVariants.{Mode, Choose, Lists, Format, After, Noindex, Folder}
-use Rattle.rpm_words.specs.declared.role.Role.{Role}
-use Rattle.rpm_words.specs.declared.role.Role.TheVariants.{Name, Unknown, Cluster, Whole, Inline, Awaits, Value, Ends, Plain, Rest}
-use Rattle.rpm_words.specs.declared.part.Part.{Part}
+use Rattle.rpm_words.specs.declared.switch.Switch.TheVariants.{Mode, Choose, Lists, Format, After, Noindex, Nofiles, Folder}
+use Rattle.rpm_words.specs.declared.purpose.Purpose.{Purpose}
+use Rattle.rpm_words.specs.declared.purpose.Purpose.TheVariants.{Name, Unknown, Cluster, Whole, Inline, Awaits, Value, Ends, Plain, Rest}
+use Rattle.rpm_words.specs.declared.token.Token.{Token}
 use Rattle.rpm_words.specs.Switch.{short_switch}
-use Rattle.rpm_words.specs.Role.{role_behind}
-use Rattle.rpm_words.specs.Part.{option_at, letters, says, said_behind, said, value}
-use Rattle.rpm_words.specs.Place.{folder, folder_in, folder_behind, own_place, text_at}
-use Rattle.rpm_words.proofs.Parts.{said_step, said_end}
+use Rattle.rpm_words.specs.Words.{text_at}
+use Rattle.rpm_words.specs.Purpose.{purpose_behind}
+use Rattle.rpm_words.specs.Token.{option_at, letters, says, said_behind, said}
+use Rattle.rpm_words.specs.Place.{folder, folder_in, own_place}
+use Rattle.rpm_words.specs.inner.Folder.{folder_behind}
+use Rattle.rpm_words.proofs.Tokens.{said_step, said_end}
 
 -- the folder at the end, where it is `before` in front of place i
-pub last_folder : List (List ℕ) → Program → Role → ℕ → List ℕ → List ℕ
-last_folder words program role i before = unwrap_or (last_or (Some before) (filter_map (folder_in words) (said_behind program role i (drop i words)))) own_place
+pub last_folder : List (List ℕ) → Program → Purpose → ℕ → List ℕ → List ℕ
+last_folder words program purpose i before =
+    unwrap_or (last_or (Some before) (filter_map (folder_in words) (said_behind program purpose i (drop i words)))) own_place
 
 last_or-append : {X : Type 0} (o : Option X) (xs ys : List X) → last_or o (xs ++ ys) ≡ last_or (last_or o xs) ys
 last_or-append o [] ys = refl
@@ -30,7 +33,8 @@ last_or-some None d [] = refl
 last_or-some (Some x) d [] = refl
 last_or-some o d (x ∷ xs) = refl
 
-no_letter_by : (words : List (List ℕ)) (word : ℕ) (o : Option Switch) (rest : List Part) → (o ≡ Some Folder → ⊥) → filter_map (folder_in words) (cons_option (option_map (option_at word) o) rest) ≡ filter_map (folder_in words) rest
+no_letter_by : (words : List (List ℕ)) (word : ℕ) (o : Option Switch) (rest : List Token) → (o ≡ Some Folder → ⊥) →
+    filter_map (folder_in words) (cons_option (option_map (option_at word) o) rest) ≡ filter_map (folder_in words) rest
 no_letter_by words word None rest h = refl
 no_letter_by words word (Some (Mode m)) rest h = refl
 no_letter_by words word (Some (Choose m)) rest h = refl
@@ -38,6 +42,7 @@ no_letter_by words word (Some Lists) rest h = refl
 no_letter_by words word (Some Format) rest h = refl
 no_letter_by words word (Some After) rest h = refl
 no_letter_by words word (Some Noindex) rest h = refl
+no_letter_by words word (Some Nofiles) rest h = refl
 no_letter_by words word (Some Folder) rest h = absurd (h refl)
 
 no_letter : (b : ℕ) → short_switch b ≡ Some Folder → ⊥
@@ -52,7 +57,8 @@ letters_none words word (b ∷ rest) = no_letter_by words word (short_switch b) 
 text_there : (words : List (List ℕ)) (i : ℕ) (text : List ℕ) → slice_get words i ≡ Some text → text_at words i ≡ text
 text_there words i text h = rw h
 
-one_word : (words : List (List ℕ)) (i : ℕ) (role : Role) (text before : List ℕ) → text_at words i ≡ text → last_or (Some before) (filter_map (folder_in words) (says i role text)) ≡ Some (folder_behind role text before)
+one_word : (words : List (List ℕ)) (i : ℕ) (purpose : Purpose) (text before : List ℕ) → text_at words i ≡ text →
+    last_or (Some before) (filter_map (folder_in words) (says i purpose text)) ≡ Some (folder_behind purpose text before)
 one_word words i Name text before h = refl
 one_word words i Unknown text before h = refl
 one_word words i Cluster text before h = rw (letters_none words i text)
@@ -62,6 +68,7 @@ one_word words i (Whole Lists) text before h = refl
 one_word words i (Whole Format) text before h = refl
 one_word words i (Whole After) text before h = refl
 one_word words i (Whole Noindex) text before h = refl
+one_word words i (Whole Nofiles) text before h = refl
 one_word words i (Whole Folder) text before h = refl
 one_word words i (Inline (Mode m) from) text before h = refl
 one_word words i (Inline (Choose m) from) text before h = refl
@@ -69,13 +76,15 @@ one_word words i (Inline Lists from) text before h = refl
 one_word words i (Inline Format from) text before h = refl
 one_word words i (Inline After from) text before h = refl
 one_word words i (Inline Noindex from) text before h = refl
-one_word words i (Inline Folder from) text before h = ap (λ t. Some (value t from)) h
+one_word words i (Inline Nofiles from) text before h = refl
+one_word words i (Inline Folder from) text before h = ap (λ t. Some (drop from t)) h
 one_word words i (Awaits (Mode m)) text before h = refl
 one_word words i (Awaits (Choose m)) text before h = refl
 one_word words i (Awaits Lists) text before h = refl
 one_word words i (Awaits Format) text before h = refl
 one_word words i (Awaits After) text before h = refl
 one_word words i (Awaits Noindex) text before h = refl
+one_word words i (Awaits Nofiles) text before h = refl
 one_word words i (Awaits Folder) text before h = refl
 one_word words i (Value (Mode m)) text before h = refl
 one_word words i (Value (Choose m)) text before h = refl
@@ -83,7 +92,8 @@ one_word words i (Value Lists) text before h = refl
 one_word words i (Value Format) text before h = refl
 one_word words i (Value After) text before h = refl
 one_word words i (Value Noindex) text before h = refl
-one_word words i (Value Folder) text before h = ap (λ t. Some (value t 0)) h
+one_word words i (Value Nofiles) text before h = refl
+one_word words i (Value Folder) text before h = ap (λ t. Some t) h
 one_word words i Ends text before h = refl
 one_word words i Plain text before h = refl
 one_word words i Rest text before h = refl
@@ -92,17 +102,27 @@ pub folder_begin : (words : List (List ℕ)) (program : Program) → last_folder
 unfolding last_folder folder said
 folder_begin words program = sym (last_or-some None own_place (filter_map (folder_in words) (said_behind program Name 1 (drop 1 words))))
 
-pub folder_step : (words : List (List ℕ)) (program : Program) (previous role : Role) (i : ℕ) (text before after all : List ℕ) → slice_get words i ≡ Some text → role ≡ role_behind program previous text → after ≡ folder_behind role text before → last_folder words program previous i before ≡ all → last_folder words program role (i + 1) after ≡ all
+pub folder_step : (words : List (List ℕ)) (program : Program) (previous purpose : Purpose) (i : ℕ) (text before after all : List ℕ) →
+    slice_get words i ≡ Some text → purpose ≡ purpose_behind program previous text → after ≡ folder_behind purpose text before →
+    last_folder words program previous i before ≡ all → last_folder words program purpose (i + 1) after ≡ all
 unfolding last_folder
-folder_step words program previous role i text before after all at r f h =
+folder_step words program previous purpose i text before after all at r f h =
     let there = text_there words i text at in
-    let rest = filter_map (folder_in words) (said_behind program role (i + 1) (drop (i + 1) words)) in
+    let rest = filter_map (folder_in words) (said_behind program purpose (i + 1) (drop (i + 1) words)) in
     let e : last_or (Some before) (filter_map (folder_in words) (said_behind program previous i (drop i words))) ≡ last_or (Some after) rest =
-    rw (said_step program previous i words text at, ← r, filter_map-append (folder_in words) (says i role text) (said_behind program role (i + 1) (drop (i + 1) words)), last_or-append (Some before) (filter_map (folder_in words) (says i role text)) rest, one_word words i role text before there, ← f) refl
+    rw (
+      said_step program previous i words text at,
+      ← r,
+      filter_map-append (folder_in words) (says i purpose text) (said_behind program purpose (i + 1) (drop (i + 1) words)),
+      last_or-append (Some before) (filter_map (folder_in words) (says i purpose text)) rest,
+      one_word words i purpose text before there,
+      ← f,
+    ) refl
     in ap (λ o. unwrap_or o own_place) (sym e) ∙ h
 
-pub folder_end : (words : List (List ℕ)) (program : Program) (role : Role) (i : ℕ) (before all : List ℕ) → length words ≤ i → last_folder words program role i before ≡ all → before ≡ all
+pub folder_end : (words : List (List ℕ)) (program : Program) (purpose : Purpose) (i : ℕ) (before all : List ℕ) → length words ≤ i →
+    last_folder words program purpose i before ≡ all → before ≡ all
 unfolding last_folder
-folder_end words program role i before all h e =
-    let none = said_end program role i words h in
+folder_end words program purpose i before all h e =
+    let none = said_end program purpose i words h in
     (rw none at e)

@@ -2,6 +2,9 @@ pub mod Counts
 pub mod Folders
 pub mod Memory
 pub mod Numbers
-pub mod Parts
 pub mod Seens
+pub mod Sound
+pub mod Spelled
+pub mod Tokens
 pub mod Told
+pub mod Within

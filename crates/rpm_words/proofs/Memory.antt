@@ -1,25 +1,30 @@
 -- No rule of a command line is about memory.
-use Rattle.std.proofs.Common.{◌≡◌, ℕ, List, [], ◌∷◌, Option, Some, None, Bool, true, false, cond, nat_lt, length, is_none, unwrap_or}
+use Rattle.std.proofs.Common.{◌≡◌, ℕ, List, [], ◌∷◌, Option, Some, None, Bool, true, false, cond, ◌||◌, nat_lt, length, is_none, unwrap_or}
 use Rattle.std.specs.Option.{option_map, option_map_or}
 use Rattle.std.specs.Result.{is_err}
 use Rattle.std.specs.List.{filter_map, cons_option, best_of, slice_get}
 use Rattle.rpm_version.specs.Capability.{capability}
 use Rattle.rpm_words.specs.declared.switch.Command.{Command}
+use Rattle.rpm_words.specs.declared.switch.Command.TheVariants.{Query}
+use Rattle.rpm_words.specs.declared.switch.Switch.{Switch}
 use Rattle.rpm_words.specs.declared.switch.Chosen.{Chosen}
 use Rattle.rpm_words.specs.declared.switch.Chosen.TheVariants.{Label}
-use Rattle.rpm_words.specs.declared.part.Part.{Part}
+use Rattle.rpm_words.specs.declared.token.Token.{Token}
+use Rattle.rpm_words.specs.declared.token.Said.{Said}
+use Rattle.rpm_words.specs.declared.token.Said.TheVariants.{Refused, Sets, Gives, Argument}
 use Rattle.rpm_words.specs.declared.seen.Seen.{Seen}
 use Rattle.rpm_words.specs.declared.fault.WordsFault.{WordsFault}
 use Rattle.rpm_words.specs.declared.fault.WordsKind.{WordsKind}
 use Rattle.rpm_words.specs.declared.fault.WordsKind.TheVariants.{NoMode, Misplaced, MissingArgument, ExtraArgument, NoMemory}
-use Rattle.rpm_words.specs.declared.broken.Wanted.{Wanted}
-use Rattle.rpm_words.specs.declared.broken.Wanted.TheVariants.{Anything, PackageNumber, Capable}
-use Rattle.rpm_words.specs.declared.switch.Command.TheVariants.{Query, Addpkg, Replacepkg, Erasepkg, Initdb, Rebuilddb, Verifydb, Exportdb, Importdb, Exercise}
+use Rattle.rpm_words.specs.declared.takes.Expected.{Expected}
+use Rattle.rpm_words.specs.declared.takes.Expected.TheVariants.{Text, Number, Capability}
+use Rattle.rpm_words.specs.declared.takes.Takes.{Takes}
+use Rattle.rpm_words.specs.Words.{text_at}
 use Rattle.rpm_words.specs.Number.{number}
-use Rattle.rpm_words.specs.Place.{text_at}
 use Rattle.rpm_words.specs.Command.{head, is_other}
 use Rattle.rpm_words.specs.Fault.{fault, is_before, earliest, first_told}
-use Rattle.rpm_words.specs.Broken.{is_refused, is_bad_number, part_fault, early_fault, no_value, no_mode, misplaced, too_few, too_many, argument_fault, bad_argument, wanted_by, checked, first_broken, is_awaiting, fewest, most}
+use Rattle.rpm_words.specs.Takes.{takes, fewest, most, expected, checked}
+use Rattle.rpm_words.specs.Broken.{is_refused, is_bad_number, token_fault, early_fault, no_value, no_mode, is_misplaced, misplaced_said, misplaced_in, misplaced, lacks_option, too_few, too_many, argument_fault, bad_argument, first_broken, is_awaiting}
 
 abbrev IsRule : WordsFault → Type 0
 IsRule f = f.kind ≡ NoMemory → ⊥
@@ -36,9 +41,9 @@ mapped : (kind : WordsKind) (o : Option ℕ) → (kind ≡ NoMemory → ⊥) →
 mapped kind None h = tt
 mapped kind (Some word) h = h
 
-part_rule : (words : List (List ℕ)) (command : Option Command) (chosen : Option Chosen) (part : Part) → AreRules (part_fault words command chosen part)
-part_rule words command chosen part =
-    test (is_refused part.said) _ _ (λ e. cc) (test (is_other command chosen part) _ _ (λ e. cc) (test (is_bad_number words part) _ _ (λ e. cc) tt))
+token_rule : (words : List (List ℕ)) (command : Option Command) (chosen : Option Chosen) (token : Token) → AreRules (token_fault words command chosen token)
+token_rule words command chosen token =
+    test (is_refused token.said) _ _ (λ e. cc) (test (is_other command chosen token) _ _ (λ e. cc) (test (is_bad_number words token) _ _ (λ e. cc) tt))
 
 better : (b : Bool) (f g : WordsFault) → IsRule f → IsRule g → IsRule (cond b g f)
 better true f g h k = k
@@ -64,38 +69,42 @@ head_rule : (fs : List WordsFault) → AllRules fs → AreRules (head fs)
 head_rule [] k = tt
 head_rule (f ∷ fs) k = k.0
 
-part_rules : (words : List (List ℕ)) (command : Option Command) (chosen : Option Chosen) (parts : List Part) → AllRules (filter_map (part_fault words command chosen) parts)
-part_rules words command chosen [] = tt
-part_rules words command chosen (part ∷ parts) = rules_cons _ _ (part_rule words command chosen part) (part_rules words command chosen parts)
+token_rules : (words : List (List ℕ)) (command : Option Command) (chosen : Option Chosen) (tokens : List Token) →
+    AllRules (filter_map (token_fault words command chosen) tokens)
+token_rules words command chosen [] = tt
+token_rules words command chosen (token ∷ tokens) = rules_cons _ _ (token_rule words command chosen token) (token_rules words command chosen tokens)
 
-early_rule : (words : List (List ℕ)) (command : Option Command) (chosen : Option Chosen) (parts : List Part) → AreRules (early_fault words command chosen parts)
+early_rule : (words : List (List ℕ)) (command : Option Command) (chosen : Option Chosen) (tokens : List Token) →
+    AreRules (early_fault words command chosen tokens)
 unfolding early_fault
-early_rule words command chosen parts = earliest_rule _ (part_rules words command chosen parts)
+early_rule words command chosen tokens = earliest_rule _ (token_rules words command chosen tokens)
 
-argument_rule : (words : List (List ℕ)) (wanted : Wanted) (word : ℕ) → AreRules (argument_fault words wanted word)
-argument_rule words Anything word = tt
-argument_rule words PackageNumber word = test (is_none (number (text_at words word))) _ _ (λ e. cc) tt
-argument_rule words Capable word = test (is_err (capability (text_at words word))) _ _ (λ e. cc) tt
+argument_rule : (words : List (List ℕ)) (kind : Expected) (word : ℕ) → AreRules (argument_fault words kind word)
+argument_rule words Text word = tt
+argument_rule words Number word = test (is_none (number (text_at words word))) _ _ (λ e. cc) tt
+argument_rule words Capability word = test (is_err (capability (text_at words word))) _ _ (λ e. cc) tt
 
-argument_rules : (words : List (List ℕ)) (wanted : Wanted) (arguments : List ℕ) → AllRules (filter_map (argument_fault words wanted) arguments)
-argument_rules words wanted [] = tt
-argument_rules words wanted (word ∷ arguments) = rules_cons _ _ (argument_rule words wanted word) (argument_rules words wanted arguments)
+argument_rules : (words : List (List ℕ)) (kind : Expected) (arguments : List ℕ) → AllRules (filter_map (argument_fault words kind) arguments)
+argument_rules words kind [] = tt
+argument_rules words kind (word ∷ arguments) = rules_cons _ _ (argument_rule words kind word) (argument_rules words kind arguments)
 
-bad_rule : (words : List (List ℕ)) (wanted : Wanted) (arguments : List ℕ) → AreRules (bad_argument words wanted arguments)
+bad_rule : (words : List (List ℕ)) (kind : Expected) (arguments : List ℕ) → AreRules (bad_argument words kind arguments)
 unfolding bad_argument
-bad_rule words wanted arguments = head_rule _ (argument_rules words wanted arguments)
+bad_rule words kind arguments = head_rule _ (argument_rules words kind arguments)
 
-misplaced_rule : (command : Command) (word : Option ℕ) → AreRules (misplaced command word)
-misplaced_rule Query word = tt
-misplaced_rule Addpkg word = mapped Misplaced word (λ e. cc)
-misplaced_rule Replacepkg word = mapped Misplaced word (λ e. cc)
-misplaced_rule Erasepkg word = mapped Misplaced word (λ e. cc)
-misplaced_rule Initdb word = mapped Misplaced word (λ e. cc)
-misplaced_rule Rebuilddb word = mapped Misplaced word (λ e. cc)
-misplaced_rule Verifydb word = mapped Misplaced word (λ e. cc)
-misplaced_rule Exportdb word = mapped Misplaced word (λ e. cc)
-misplaced_rule Importdb word = mapped Misplaced word (λ e. cc)
-misplaced_rule Exercise word = mapped Misplaced word (λ e. cc)
+said_rule : (command : Command) (word : ℕ) (said : Said) → AreRules (misplaced_said command word said)
+said_rule command word Refused = tt
+said_rule command word (Sets switch) = test (is_misplaced switch command) (fault Misplaced word) None (λ e. cc) tt
+said_rule command word (Gives switch from) = tt
+said_rule command word Argument = tt
+
+misplaced_rules : (command : Command) (tokens : List Token) → AllRules (filter_map (misplaced_in command) tokens)
+misplaced_rules command [] = tt
+misplaced_rules command (token ∷ tokens) = rules_cons _ _ (said_rule command token.word token.said) (misplaced_rules command tokens)
+
+misplaced_rule : (command : Command) (tokens : List Token) → AreRules (misplaced command tokens)
+unfolding misplaced
+misplaced_rule command tokens = head_rule _ (misplaced_rules command tokens)
 
 abbrev EachRule : List (Option WordsFault) → Type 0
 EachRule [] = Unit {0}
@@ -106,32 +115,33 @@ told_rule [] k = tt
 told_rule (Some f ∷ os) k = k.0
 told_rule (None ∷ os) k = told_rule os k.1
 
-broken_rule : (words : List (List ℕ)) (parts : List Part) (seen : Seen) (arguments : List ℕ) → AreRules (first_broken words parts seen arguments)
+broken_rule : (words : List (List ℕ)) (tokens : List Token) (seen : Seen) (arguments : List ℕ) → AreRules (first_broken words tokens seen arguments)
 unfolding first_broken
-broken_rule words parts seen arguments =
+broken_rule words tokens seen arguments =
     let command = unwrap_or seen.command Query in
-    let chosen = unwrap_or seen.chosen Label in
+    let taken = takes command (unwrap_or seen.chosen Label) in
+    let missing = fault MissingArgument (length words) in
     told_rule
-    (early_fault words seen.command seen.chosen parts
+    (early_fault words seen.command seen.chosen tokens
     ∷ no_value words seen.last
     ∷ no_mode words seen.command
-    ∷ misplaced command seen.misplaced
-    ∷ too_few words command chosen arguments
-    ∷ too_many command arguments
-    ∷ bad_argument words (wanted_by command chosen) (checked command arguments)
+    ∷ misplaced command tokens
+    ∷ too_few words command seen taken arguments
+    ∷ too_many taken arguments
+    ∷ bad_argument words (expected taken) (checked taken arguments)
     ∷ []) (
-      early_rule words seen.command seen.chosen parts,
+      early_rule words seen.command seen.chosen tokens,
       (
-        test (option_map_or is_awaiting seen.last false) (fault MissingArgument (length words)) None (λ e. cc) tt,
+        test (option_map_or is_awaiting seen.last false) missing None (λ e. cc) tt,
         (
           test (is_none seen.command) (fault NoMode (length words)) None (λ e. cc) tt,
           (
-            misplaced_rule command seen.misplaced,
+            misplaced_rule command tokens,
             (
-              test (nat_lt (length arguments) (fewest command chosen)) (fault MissingArgument (length words)) None (λ e. cc) tt,
+              test (lacks_option command seen || nat_lt (length arguments) (fewest taken)) missing None (λ e. cc) tt,
               (
-                mapped ExtraArgument (option_map_or (slice_get arguments) (most command) None) (λ e. cc),
-                (bad_rule words (wanted_by command chosen) (checked command arguments), tt),
+                mapped ExtraArgument (option_map_or (slice_get arguments) (most taken) None) (λ e. cc),
+                (bad_rule words (expected taken) (checked taken arguments), tt),
               ),
             ),
           ),
@@ -139,5 +149,6 @@ broken_rule words parts seen arguments =
       ),
     )
 
-pub not_memory : (words : List (List ℕ)) (parts : List Part) (seen : Seen) (arguments : List ℕ) (f : WordsFault) → first_broken words parts seen arguments ≡ Some f → f.kind ≡ NoMemory → ⊥
-not_memory words parts seen arguments f h = let told = broken_rule words parts seen arguments in (rw h at told)
+pub not_memory : (words : List (List ℕ)) (tokens : List Token) (seen : Seen) (arguments : List ℕ) (f : WordsFault) →
+    first_broken words tokens seen arguments ≡ Some f → f.kind ≡ NoMemory → ⊥
+not_memory words tokens seen arguments f h = let told = broken_rule words tokens seen arguments in (rw h at told)

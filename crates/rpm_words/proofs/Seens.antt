@@ -1,23 +1,24 @@
--- What the options come to, one more part at a time.
+-- What the options come to, one more token at a time.
 use Rattle.std.proofs.Common.{◌≡◌, ℕ, ◌+◌, ◌<◌, List, ◌∷◌, Option, Some, None, Bool, true, false, ◌||◌, length, drop, suc, get_or, refl, ap, sym, ◌∙◌, add-one, drop-cons}
 use Rattle.std.specs.Option.{option_or}
 use Rattle.std.specs.List.{filter_map, cons_option, last_or, list_any}
-use Rattle.rpm_words.specs.declared.part.Part.{Part}
+use Rattle.rpm_words.specs.declared.token.Token.{Token}
 use Rattle.rpm_words.specs.declared.seen.Seen.{Seen}
 use Rattle.rpm_words.specs.Command.{head, command_of, chosen_of}
-use Rattle.rpm_words.specs.Seen.{shown_in, after_in, exercise_in, is_noindex, misplaced_in, seen_with}
+use Rattle.rpm_words.specs.Seen.{printed_in, after_in, exercise_in, is_noindex, is_nofiles}
+use Rattle.rpm_words.specs.inner.Steps.{seen_with}
 
--- what the parts come to, behind those that come to `before`
-abbrev pub seen_behind : List (List ℕ) → Seen → List Part → Seen
-seen_behind words before parts = record {
-  command = option_or before.command (head (filter_map command_of parts));
-  chosen = option_or before.chosen (head (filter_map chosen_of parts));
-  shown = last_or before.shown (filter_map shown_in parts);
-  after = last_or before.after (filter_map (after_in words) parts);
-  exercise = last_or before.exercise (filter_map (exercise_in words) parts);
-  noindex = before.noindex || list_any is_noindex parts;
-  misplaced = option_or before.misplaced (head (filter_map misplaced_in parts));
-  last = last_or before.last parts;
+-- what the tokens come to, behind those that come to `before`
+abbrev pub seen_behind : List (List ℕ) → Seen → List Token → Seen
+seen_behind words before tokens = record {
+  command = option_or before.command (head (filter_map command_of tokens));
+  chosen = option_or before.chosen (head (filter_map chosen_of tokens));
+  printed = last_or before.printed (filter_map printed_in tokens);
+  after = last_or before.after (filter_map (after_in words) tokens);
+  exercise = last_or before.exercise (filter_map (exercise_in words) tokens);
+  noindex = before.noindex || list_any is_noindex tokens;
+  nofiles = before.nofiles || list_any is_nofiles tokens;
+  last = last_or before.last tokens;
 }
 
 head_cons : {X : Type 0} (o v : Option X) (rest : List X) → option_or o (head (cons_option v rest)) ≡ option_or (option_or o v) (head rest)
@@ -34,19 +35,23 @@ any_cons : (a b c : Bool) → (a || (b || c)) ≡ ((a || b) || c)
 any_cons true b c = refl
 any_cons false b c = refl
 
-seen_cons : (words : List (List ℕ)) (before : Seen) (part : Part) (rest : List Part) → seen_behind words before (part ∷ rest) ≡ seen_behind words (seen_with words before part) rest
-seen_cons words before part rest =
-    let command = head_cons before.command (command_of part) (filter_map command_of rest) in
-    let chosen = head_cons before.chosen (chosen_of part) (filter_map chosen_of rest) in
-    let shown = last_cons before.shown (shown_in part) (filter_map shown_in rest) in
-    let after = last_cons before.after (after_in words part) (filter_map (after_in words) rest) in
-    let exercise = last_cons before.exercise (exercise_in words part) (filter_map (exercise_in words) rest) in
-    let noindex = any_cons before.noindex (is_noindex part) (list_any is_noindex rest) in
-    let misplaced = head_cons before.misplaced (misplaced_in part) (filter_map misplaced_in rest) in
-    cc (command, chosen, shown, after, exercise, noindex, misplaced)
+seen_cons : (words : List (List ℕ)) (before : Seen) (token : Token) (rest : List Token) →
+    seen_behind words before (token ∷ rest) ≡ seen_behind words (seen_with words before token) rest
+seen_cons words before token rest =
+    let command = head_cons before.command (command_of token) (filter_map command_of rest) in
+    let chosen = head_cons before.chosen (chosen_of token) (filter_map chosen_of rest) in
+    let printed = last_cons before.printed (printed_in token) (filter_map printed_in rest) in
+    let after = last_cons before.after (after_in words token) (filter_map (after_in words) rest) in
+    let exercise = last_cons before.exercise (exercise_in words token) (filter_map (exercise_in words) rest) in
+    let noindex = any_cons before.noindex (is_noindex token) (list_any is_noindex rest) in
+    let nofiles = any_cons before.nofiles (is_nofiles token) (list_any is_nofiles rest) in
+    cc (command, chosen, printed, after, exercise, noindex, nofiles)
 
-pub seen_step : (words : List (List ℕ)) (parts : List Part) (i : ℕ) (d : Part) (before after all : Seen) → i < length parts → after ≡ seen_with words before (get_or parts i d) → seen_behind words before (drop i parts) ≡ all → seen_behind words after (drop (i + 1) parts) ≡ all
-seen_step words parts i d before after all lt e h =
-    ap (λ s. seen_behind words s (drop (i + 1) parts)) e
-    ∙ sym (ap (seen_behind words before) (drop-cons parts i d lt) ∙ seen_cons words before (get_or parts i d) (drop (suc i) parts) ∙ ap (λ n. seen_behind words (seen_with words before (get_or parts i d)) (drop n parts)) (sym (add-one i)))
+pub seen_step : (words : List (List ℕ)) (tokens : List Token) (i : ℕ) (d : Token) (before after all : Seen) → i < length tokens →
+    after ≡ seen_with words before (get_or tokens i d) → seen_behind words before (drop i tokens) ≡ all → seen_behind words after (drop (i + 1) tokens) ≡ all
+seen_step words tokens i d before after all lt e h =
+    ap (λ s. seen_behind words s (drop (i + 1) tokens)) e
+    ∙ sym (ap (seen_behind words before) (drop-cons tokens i d lt)
+    ∙ seen_cons words before (get_or tokens i d) (drop (suc i) tokens)
+    ∙ ap (λ n. seen_behind words (seen_with words before (get_or tokens i d)) (drop n tokens)) (sym (add-one i)))
     ∙ h

@@ -1,25 +1,26 @@
 -- The command that a command line asks for.
-use Rattle.std.specs.Prelude.{ℕ, List, Option, Some, None, Result, Ok, Err, Bool, true, false, unwrap_or}
-use Rattle.std.specs.Option.{option_map_or}
-use Rattle.std.specs.List.{filter_map}
+use Rattle.std.specs.Prelude.{◌≡◌, ◌<◌, ◌≤◌, ℕ, List, Option, Some, None, Result, Ok, Err, Bool, true, false, length, unwrap_or}
+use Rattle.std.specs.Option.{option_map_or, IfSome}
+use Rattle.std.specs.List.{filter_map, All}
 use Rattle.rpm_words.specs.declared.switch.Program.{Program}
 use Rattle.rpm_words.specs.declared.switch.Command.{Command}
-use Rattle.rpm_words.specs.declared.switch.Command.TheVariants.{Query, Addpkg, Replacepkg, Erasepkg, Initdb, Rebuilddb, Verifydb, Exportdb, Importdb, Exercise}
+use Rattle.rpm_words.specs.declared.switch.Command.TheVariants.{Query, Addpkg, Replacepkg, Erasepkg, Verify, Initdb, Rebuilddb, Verifydb, Exportdb, Importdb, Exercise, Order, Checkfiles}
 use Rattle.rpm_words.specs.declared.switch.Chosen.{Chosen}
 use Rattle.rpm_words.specs.declared.switch.Chosen.TheVariants.{Label}
-use Rattle.rpm_words.specs.declared.part.Part.{Part}
-use Rattle.rpm_words.specs.declared.part.Said.{Said}
-use Rattle.rpm_words.specs.declared.part.Said.TheVariants.{Argument}
+use Rattle.rpm_words.specs.declared.token.Token.{Token}
+use Rattle.rpm_words.specs.declared.token.Said.{Said}
+use Rattle.rpm_words.specs.declared.token.Said.TheVariants.{Argument}
 use Rattle.rpm_words.specs.declared.seen.Seen.{Seen}
-use Rattle.rpm_words.specs.declared.seen.Span.{Span}
-use Rattle.rpm_words.specs.declared.seen.Shown.{Shown}
-use Rattle.rpm_words.specs.declared.seen.Shown.TheVariants.{Files, By}
+use Rattle.rpm_words.specs.declared.words.Span.{Span}
+use Rattle.rpm_words.specs.declared.seen.Printed.{Printed}
+use Rattle.rpm_words.specs.declared.seen.Printed.TheVariants.{Files, By}
 use Rattle.rpm_words.specs.declared.fault.WordsFault.{WordsFault}
 use Rattle.rpm_words.specs.declared.fault.WordsKind.TheVariants.{NoMode}
 use Rattle.rpm_words.specs.declared.ask.Mode.{Mode}
 use Rattle.rpm_words.specs.declared.ask.Mode.TheVariants as mode
+use Rattle.rpm_words.specs.Words.{text_at}
 use Rattle.rpm_words.specs.Fault.{fault}
-use Rattle.rpm_words.specs.Part.{said}
+use Rattle.rpm_words.specs.Token.{said}
 use Rattle.rpm_words.specs.Place.{program_of}
 use Rattle.rpm_words.specs.Seen.{seen}
 use Rattle.rpm_words.specs.Broken.{first_broken}
@@ -38,56 +39,59 @@ argument_said word Argument = Some word
 argument_said word others = None
 
 -- the word that is an argument
-abbrev pub argument_in : Part → Option ℕ
-argument_in part = argument_said part.word part.said
+abbrev pub argument_in : Token → Option ℕ
+argument_in token = argument_said token.word token.said
 
 -- the places of the arguments, in order
-unfoldable pub arguments : List Part → List ℕ
-arguments parts = filter_map argument_in parts
+unfoldable pub arguments : List Token → List ℕ
+arguments tokens = filter_map argument_in tokens
 
 abbrev pub mode_of : Command → ℕ → Mode
 mode_of Query n = mode.Query
 mode_of Addpkg n = mode.Addpkg
 mode_of Replacepkg n = mode.Replacepkg
 mode_of Erasepkg n = mode.Erasepkg
+mode_of Verify n = mode.Verify
 mode_of Initdb n = mode.Initdb
 mode_of Rebuilddb n = mode.Rebuilddb
 mode_of Verifydb n = mode.Verifydb
 mode_of Exportdb n = mode.Exportdb
 mode_of Importdb n = mode.Importdb
 mode_of Exercise n = mode.Exercise n
+mode_of Order n = mode.Order
+mode_of Checkfiles n = mode.Checkfiles
 
-abbrev pub lists_files : Option Shown → Bool
+abbrev pub lists_files : Option Printed → Bool
 lists_files (Some Files) = true
 lists_files others = false
 
-abbrev pub format_shown : Option Shown → Option Span
-format_shown (Some (By span)) = Some span
-format_shown others = None
+abbrev pub format_printed : Option Printed → Option Span
+format_printed (Some (By span)) = Some span
+format_printed others = None
 
-abbrev pub asks : Mode → Chosen → ℕ → Bool → Option Shown → List ℕ → AskParts
-asks mode chosen after noindex shown arguments = record {
+abbrev pub asks : Mode → Chosen → ℕ → Bool → Option Printed → List ℕ → AskParts
+asks mode chosen after noindex printed arguments = record {
   mode = mode;
   chosen = chosen;
   after = after;
   noindex = noindex;
-  lists = lists_files shown;
-  format = format_shown shown;
+  lists = lists_files printed;
+  format = format_printed printed;
   arguments = arguments;
 }
 
--- what is meant where no rule is broken
+-- what is meant where no rule is broken; an exercise has a number then
 abbrev pub meant : Seen → List ℕ → AskParts
 meant seen arguments =
-    asks (mode_of (unwrap_or seen.command Query) (unwrap_or seen.exercise 0)) (unwrap_or seen.chosen Label)
-    (unwrap_or seen.after 0) seen.noindex seen.shown arguments
+    asks (mode_of (unwrap_or seen.command Query) (unwrap_or seen.exercise 1)) (unwrap_or seen.chosen Label)
+    (unwrap_or seen.after 0) seen.noindex seen.printed arguments
 
 abbrev pub fault_or : Option WordsFault → AskParts → Result AskParts WordsFault
 fault_or (Some f) a = Err f
 fault_or None a = Ok a
 
-abbrev pub asked_with : List (List ℕ) → List Part → Seen → List ℕ → Result AskParts WordsFault
-asked_with words parts seen arguments = fault_or (first_broken words parts seen arguments) (meant seen arguments)
+abbrev pub asked_with : List (List ℕ) → List Token → Seen → List ℕ → Result AskParts WordsFault
+asked_with words tokens seen arguments = fault_or (first_broken words tokens seen arguments) (meant seen arguments)
 
 unfoldable pub asked_by : Program → List (List ℕ) → Result AskParts WordsFault
 asked_by program words =
@@ -96,3 +100,9 @@ asked_by program words =
 -- the command, or the first rule that is broken
 unfoldable pub ask : List (List ℕ) → Result AskParts WordsFault
 ask words = option_map_or (λ program. asked_by program words) (program_of words) (Err (fault NoMode 0))
+
+-- what is so of each command that words ask for
+pub record IsSound (words : List (List ℕ)) (a : AskParts) : Type 0 where
+  pub arguments : All (λ i. i < length words) a.arguments
+  pub exercise : (n : ℕ) → a.mode ≡ mode.Exercise n → (1 ≤ n) × (n ≤ 100000)
+  pub format : IfSome a.format (λ span. (span.word < length words) × (span.from ≤ length (text_at words span.word)))

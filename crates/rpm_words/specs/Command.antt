@@ -2,13 +2,13 @@
 use Rattle.std.specs.Prelude.{ℕ, List, Option, Some, None, Bool, false, not, ◌||◌, ◌==◌}
 use Rattle.std.specs.List.{filter_map, slice_get}
 use Rattle.rpm_words.specs.declared.switch.Command.{Command}
-use Rattle.rpm_words.specs.declared.switch.Command.TheVariants.{Query, Addpkg, Replacepkg, Erasepkg, Initdb, Rebuilddb, Verifydb, Exportdb, Importdb, Exercise}
+use Rattle.rpm_words.specs.declared.switch.Command.TheVariants.{Query, Addpkg, Replacepkg, Erasepkg, Verify, Initdb, Rebuilddb, Verifydb, Exportdb, Importdb, Exercise, Order, Checkfiles}
 use Rattle.rpm_words.specs.declared.switch.Chosen.{Chosen}
-use Rattle.rpm_words.specs.declared.switch.Chosen.TheVariants.{Label, All, Path, Group, Package, Provides, Requires, Conflicts, Obsoletes, Trigger, Number}
+use Rattle.rpm_words.specs.declared.switch.Chosen.TheVariants.{Label, All, Path, Group, Package, Provides, Requires, Conflicts, Obsoletes, Trigger, Number, Directory, Tid, Recommends}
 use Rattle.rpm_words.specs.declared.switch.Switch.TheVariants.{Mode, Choose}
-use Rattle.rpm_words.specs.declared.part.Part.{Part}
-use Rattle.rpm_words.specs.declared.part.Said.{Said}
-use Rattle.rpm_words.specs.declared.part.Said.TheVariants.{Sets}
+use Rattle.rpm_words.specs.declared.token.Token.{Token}
+use Rattle.rpm_words.specs.declared.token.Said.{Said}
+use Rattle.rpm_words.specs.declared.token.Said.TheVariants.{Sets}
 
 abbrev pub command_in : Said → Option Command
 command_in (Sets (Mode command)) = Some command
@@ -18,34 +18,31 @@ abbrev pub chosen_in : Said → Option Chosen
 chosen_in (Sets (Choose chosen)) = Some chosen
 chosen_in others = None
 
--- the mode that a part gives
-abbrev pub command_of : Part → Option Command
-command_of part = command_in part.said
+-- the mode that a token gives
+abbrev pub command_of : Token → Option Command
+command_of token = command_in token.said
 
--- the selection that a part gives
-abbrev pub chosen_of : Part → Option Chosen
-chosen_of part = chosen_in part.said
+-- the selection that a token gives
+abbrev pub chosen_of : Token → Option Chosen
+chosen_of token = chosen_in token.said
 
 abbrev pub head : {X : Type 0} → List X → Option X
 head xs = slice_get xs 0
-
-unfoldable pub first_command : List Part → Option Command
-first_command parts = head (filter_map command_of parts)
-
-unfoldable pub first_chosen : List Part → Option Chosen
-first_chosen parts = head (filter_map chosen_of parts)
 
 abbrev pub command_number : Command → ℕ
 command_number Query = 0
 command_number Addpkg = 1
 command_number Replacepkg = 2
 command_number Erasepkg = 3
-command_number Initdb = 4
-command_number Rebuilddb = 5
-command_number Verifydb = 6
-command_number Exportdb = 7
-command_number Importdb = 8
-command_number Exercise = 9
+command_number Verify = 4
+command_number Initdb = 5
+command_number Rebuilddb = 6
+command_number Verifydb = 7
+command_number Exportdb = 8
+command_number Importdb = 9
+command_number Exercise = 10
+command_number Order = 11
+command_number Checkfiles = 12
 
 abbrev pub chosen_number : Chosen → ℕ
 chosen_number Label = 0
@@ -59,6 +56,9 @@ chosen_number Conflicts = 7
 chosen_number Obsoletes = 8
 chosen_number Trigger = 9
 chosen_number Number = 10
+chosen_number Directory = 11
+chosen_number Tid = 12
+chosen_number Recommends = 13
 
 abbrev pub is_same_command : Command → Command → Bool
 is_same_command a b = command_number a == command_number b
@@ -70,7 +70,7 @@ abbrev pub differs : {X : Type 0} → (X → X → Bool) → Option X → Option
 differs is_same (Some a) (Some b) = not (is_same a b)
 differs is_same a b = false
 
--- the part gives another mode, or another selection
-abbrev pub is_other : Option Command → Option Chosen → Part → Bool
-is_other command chosen part =
-    differs is_same_command (command_of part) command || differs is_same_chosen (chosen_of part) chosen
+-- the token gives another mode, or another selection
+abbrev pub is_other : Option Command → Option Chosen → Token → Bool
+is_other command chosen token =
+    differs is_same_command (command_of token) command || differs is_same_chosen (chosen_of token) chosen

@@ -17,11 +17,6 @@ rank others = 2
 abbrev pub is_before : WordsFault → WordsFault → Bool
 is_before f g = nat_lt f.word g.word || (f.word == g.word && nat_lt (rank f.kind) (rank g.kind))
 
-abbrev pub earlier : Option WordsFault → Option WordsFault → Option WordsFault
-earlier None other = other
-earlier (Some f) None = Some f
-earlier (Some f) (Some g) = Some (if is_before g f then g else f)
-
 -- the fault of the least word, and of the faults of that word the one that comes first
 abbrev pub earliest : List WordsFault → Option WordsFault
 earliest [] = None

@@ -3,8 +3,11 @@ pub mod Broken
 pub mod Command
 pub mod Fault
 pub mod Number
-pub mod Part
 pub mod Place
-pub mod Role
+pub mod Purpose
 pub mod Seen
 pub mod Switch
+pub mod Takes
+pub mod Token
+pub mod Words
+pub mod inner

@@ -10,3 +10,11 @@ is_short_numeral text = nat_le 1 (length text) && nat_le (length text) 10 && all
 unfoldable pub number : List ℕ → Option ℕ
 number text =
     if is_short_numeral text && nat_lt (digits_value 10 text) (2 ^ 32) then Some (digits_value 10 text) else None
+
+abbrev pub within_exercise : Option ℕ → Option ℕ
+within_exercise (Some n) = if nat_le 1 n && nat_le n 100000 then Some n else None
+within_exercise None = None
+
+-- how many packages an exercise is with: a number from 1 to 100,000
+abbrev pub exercise_number : List ℕ → Option ℕ
+exercise_number text = within_exercise (number text)

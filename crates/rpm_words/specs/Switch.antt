@@ -3,10 +3,10 @@ use Rattle.std.specs.Prelude.{ℕ, List, Option, Some, None, ◌==◌, if◌then
 use Rattle.std.specs.Str.{bytes_eq}
 use Rattle.rpm_words.specs.declared.switch.Program.{Program}
 use Rattle.rpm_words.specs.declared.switch.Program.TheVariants.{Rpm, Rpmdb}
-use Rattle.rpm_words.specs.declared.switch.Command.TheVariants.{Query, Addpkg, Replacepkg, Erasepkg, Initdb, Rebuilddb, Verifydb, Exportdb, Importdb, Exercise}
-use Rattle.rpm_words.specs.declared.switch.Chosen.TheVariants.{All, Path, Group, Package, Provides, Requires, Conflicts, Obsoletes, Trigger, Number}
+use Rattle.rpm_words.specs.declared.switch.Command.TheVariants.{Query, Addpkg, Replacepkg, Erasepkg, Verify, Initdb, Rebuilddb, Verifydb, Exportdb, Importdb, Exercise, Order, Checkfiles}
+use Rattle.rpm_words.specs.declared.switch.Chosen.TheVariants.{All, Path, Group, Package, Provides, Requires, Conflicts, Obsoletes, Trigger, Number, Directory, Tid, Recommends}
 use Rattle.rpm_words.specs.declared.switch.Switch.{Switch}
-use Rattle.rpm_words.specs.declared.switch.Switch.TheVariants.{Mode, Choose, Lists, Format, After, Noindex, Folder}
+use Rattle.rpm_words.specs.declared.switch.Switch.TheVariants.{Mode, Choose, Lists, Format, After, Noindex, Nofiles, Folder}
 
 -- the long options of `rpm`
 unfoldable pub rpm_switch : List ℕ → Option Switch
@@ -15,6 +15,7 @@ rpm_switch text =
     else if bytes_eq text (codes "--addpkg") then Some (Mode Addpkg)
     else if bytes_eq text (codes "--replacepkg") then Some (Mode Replacepkg)
     else if bytes_eq text (codes "--erasepkg") then Some (Mode Erasepkg)
+    else if bytes_eq text (codes "--verify") then Some (Mode Verify)
     else if bytes_eq text (codes "--all") then Some (Choose All)
     else if bytes_eq text (codes "--file") then Some (Choose Path)
     else if bytes_eq text (codes "--group") then Some (Choose Group)
@@ -25,11 +26,15 @@ rpm_switch text =
     else if bytes_eq text (codes "--whatobsoletes") then Some (Choose Obsoletes)
     else if bytes_eq text (codes "--triggeredby") then Some (Choose Trigger)
     else if bytes_eq text (codes "--querybynumber") then Some (Choose Number)
+    else if bytes_eq text (codes "--whatdir") then Some (Choose Directory)
+    else if bytes_eq text (codes "--tid") then Some (Choose Tid)
+    else if bytes_eq text (codes "--whatrecommends") then Some (Choose Recommends)
     else if bytes_eq text (codes "--list") then Some Lists
     else if bytes_eq text (codes "--qf") then Some Format
     else if bytes_eq text (codes "--queryformat") then Some Format
     else if bytes_eq text (codes "--after") then Some After
     else if bytes_eq text (codes "--noindex") then Some Noindex
+    else if bytes_eq text (codes "--nofiles") then Some Nofiles
     else if bytes_eq text (codes "--dbpath") then Some Folder
     else None
 
@@ -42,6 +47,8 @@ rpmdb_switch text =
     else if bytes_eq text (codes "--exportdb") then Some (Mode Exportdb)
     else if bytes_eq text (codes "--importdb") then Some (Mode Importdb)
     else if bytes_eq text (codes "--exercise") then Some (Mode Exercise)
+    else if bytes_eq text (codes "--order") then Some (Mode Order)
+    else if bytes_eq text (codes "--checkfiles") then Some (Mode Checkfiles)
     else if bytes_eq text (codes "--dbpath") then Some Folder
     else None
 
@@ -53,6 +60,7 @@ long_switch Rpmdb text = rpmdb_switch text
 unfoldable pub short_switch : ℕ → Option Switch
 short_switch byte =
     if byte == 113 then Some (Mode Query)
+    else if byte == 86 then Some (Mode Verify)
     else if byte == 97 then Some (Choose All)
     else if byte == 102 then Some (Choose Path)
     else if byte == 103 then Some (Choose Group)

@@ -4,15 +4,15 @@ ghost use Rattle.std.specs.Prelude.{◌≡◌, ◌≢◌, ℕ, ◌<◌, ◌^◌,
 ghost use Rattle.rpm_words.specs.declared.fault.WordsKind.TheVariants.{NoMemory};
 ghost use Rattle.rpm_words.specs.Fault.{fault};
 ghost use Rattle.rpm_words.specs.Place.{program_of};
-ghost use Rattle.rpm_words.specs.Ask.{argument_in, arguments, mode_of, ask, asked_by};
+ghost use Rattle.rpm_words.specs.Ask.{argument_in, arguments, mode_of, ask, asked_by, IsSound};
 
 use crate::broken::first_broken;
 use crate::fault::{WordsFault, WordsKind};
-use crate::part::{Part, Said, parts_of};
 use crate::place::program_of;
-use crate::seen::{Seen, Shown, Span, seen_in};
+use crate::seen::{Printed, Seen, seen_in};
 use crate::switch::{Chosen, Command, Program};
-use crate::words::Words;
+use crate::token::{Said, Token, tokens_of};
+use crate::words::{Span, Words};
 use std::alloc::{AllocError, Global};
 use std::marker::Model;
 
@@ -27,6 +27,8 @@ pub enum Mode {
     Replacepkg,
     /// To erase numbers.
     Erasepkg,
+    /// To tell the requirements that no package meets.
+    Verify,
     /// To make a blank database.
     Initdb,
     /// To make the index anew.
@@ -39,6 +41,10 @@ pub enum Mode {
     Importdb,
     /// To try the database out, with this count of packages, from 1 to 100,000.
     Exercise(u32),
+    /// To tell in which order the packages could be installed.
+    Order,
+    /// To tell the paths that two packages own in different ways.
+    Checkfiles,
 }
 
 /// A command: a mode, its options, and the words that are its arguments.
@@ -48,7 +54,7 @@ pub struct Ask {
     chosen: Chosen,
     after: u32,
     noindex: bool,
-    shown: Option<Shown>,
+    printed: Option<Printed>,
     arguments: Vec<u32>,
 }
 
@@ -58,7 +64,7 @@ impl Model for Ask {
 
     ghost Value = { AskParts };
 
-    ghost view = { λ s. asks s.mode s.chosen s.after s.noindex s.shown s.arguments.items };
+    ghost view = { λ s. asks s.mode s.chosen s.after s.noindex s.printed s.arguments.items };
 
     ghost invariant = { λ s. length s.arguments.items < 2 ^ 32 };
 }
@@ -71,7 +77,8 @@ impl Ask {
         self.mode
     }
 
-    /// What a query picks packages by; labels where nothing else is said, and in each other mode.
+    /// What a query picks packages by; labels where nothing else is said, and in each other mode
+    /// but Verify, which is of all packages.
     pub fn chosen(&self) -> Chosen
         ensures { result ≡ self.now.chosen }
     {
@@ -97,15 +104,15 @@ impl Ask {
     pub fn lists(&self) -> bool
         ensures { result ≡ self.now.lists }
     {
-        matches!(self.shown, Some(Shown::Files))
+        matches!(self.printed, Some(Printed::Files))
     }
 
     /// Where the format stands, if one is given and no `-l` behind it: a word, from a byte on.
     pub fn format(&self) -> Option<Span>
         ensures { result ≡ self.now.format }
     {
-        match self.shown {
-            Some(Shown::By(span)) => Some(span),
+        match self.printed {
+            Some(Printed::By(span)) => Some(span),
             _ => None,
         }
     }
@@ -126,7 +133,7 @@ impl Ask {
     }
 }
 
-impl Part {
+impl Token {
     /// The word, where it is an argument.
     fn argument(&self) -> Option<u32>
         ensures { result ≡ argument_in self.now }
@@ -140,12 +147,12 @@ impl Part {
 
 /// The places of the arguments.
 #[tactic(auto, unfolding(crate::specs::Ask::arguments))]
-fn arguments_of(alloc: Global, parts: &[Part]) -> Result<Vec<u32>, AllocError>
-    ensures { IfOk result (λ v. v.items ≡ arguments parts.now) }
+fn arguments_of(alloc: Global, tokens: &[Token]) -> Result<Vec<u32>, AllocError>
+    ensures { IfOk result (λ v. v.items ≡ arguments tokens.now) }
 {
     let mut places = Vec::new(alloc);
-    for part in parts {
-        if let Some(word) = part.argument() {
+    for token in tokens {
+        if let Some(word) = token.argument() {
             places.push(word)?;
         }
     }
@@ -161,12 +168,15 @@ fn mode_of(command: Command, exercise: u32) -> Mode
         Command::Addpkg => Mode::Addpkg,
         Command::Replacepkg => Mode::Replacepkg,
         Command::Erasepkg => Mode::Erasepkg,
+        Command::Verify => Mode::Verify,
         Command::Initdb => Mode::Initdb,
         Command::Rebuilddb => Mode::Rebuilddb,
         Command::Verifydb => Mode::Verifydb,
         Command::Exportdb => Mode::Exportdb,
         Command::Importdb => Mode::Importdb,
         Command::Exercise => Mode::Exercise(exercise),
+        Command::Order => Mode::Order,
+        Command::Checkfiles => Mode::Checkfiles,
     }
 }
 
@@ -182,53 +192,58 @@ fn read_options(alloc: Global, program: Program, words: &Words) -> Result<Ask, W
     ensures fault { MatchResult result (λ a. asked_by program words.now ≡ Ok a) (λ f. f.kind ≢ NoMemory → asked_by program words.now ≡ Err f) }
     ensures memory { MatchResult result (λ a. Unit {0}) (λ f. f.kind ≡ NoMemory → f.word ≡ 0) }
 {
-    let Ok(parts) = parts_of(alloc, program, words) else {
+    let Ok(tokens) = tokens_of(alloc, program, words) else {
         return Err(NO_MEMORY);
     };
-    let Ok(arguments) = arguments_of(alloc, &parts) else {
+    let Ok(arguments) = arguments_of(alloc, &tokens) else {
         return Err(NO_MEMORY);
     };
-    let seen = seen_in(words, &parts);
-    if let Some(fault) = first_broken(words, &parts, &seen, &arguments) {
+    let seen = seen_in(words, &tokens);
+    if let Some(fault) = first_broken(words, &tokens, &seen, &arguments) {
         return Err(fault);
     }
     Ok(Ask {
         mode: mode_of(
             seen.command.unwrap_or(Command::Query),
-            seen.exercise.unwrap_or(0),
+            seen.exercise.unwrap_or(1),
         ),
         chosen: seen.chosen.unwrap_or(Chosen::Label),
         after: seen.after.unwrap_or(0),
         noindex: seen.noindex,
-        shown: seen.shown,
+        printed: seen.printed,
         arguments,
     })
 }
 
 /// Reads a command line, the program's name first.
 ///
-/// Under `rpm` the modes are `-q` or `--query`, `--addpkg`, `--replacepkg` and `--erasepkg`. A query
-/// is by label, or by `-a` (`--all`), `-f` (`--file`), `-g` (`--group`), `-p` (`--package`),
-/// `--whatprovides`, `--whatrequires`, `--whatconflicts`, `--whatobsoletes`, `--triggeredby` or
-/// `--querybynumber`, and has the options `-l` (`--list`), `--qf` (`--queryformat`), `--after` and
-/// `--noindex`. Under `rpmdb` the modes are `--initdb`, `--rebuilddb`, `--verifydb`, `--exportdb`,
-/// `--importdb` and `--exercise`. Both have `--dbpath`. A long option has its value behind a `=`, or
-/// in the next word, whatever that is. `--` ends the options.
+/// Under `rpm` the modes are `-q` or `--query`, `-V` or `--verify`, `--addpkg`, `--replacepkg` and
+/// `--erasepkg`. A query is by label, or by `-a` (`--all`), `-f` (`--file`), `-g` (`--group`), `-p`
+/// (`--package`), `--whatprovides`, `--whatrequires`, `--whatconflicts`, `--whatobsoletes`,
+/// `--whatrecommends`, `--triggeredby`, `--whatdir`, `--tid` or `--querybynumber`, and has the options
+/// `-l` (`--list`), `--qf` (`--queryformat`), `--after` and `--noindex`. Packages are verified with both
+/// `-a` and `--nofiles`. Under `rpmdb` the modes are `--initdb`, `--rebuilddb`, `--verifydb`,
+/// `--exportdb`, `--importdb`, `--exercise`, `--order` and `--checkfiles`. Both have `--dbpath`. A long
+/// option has its value behind a `=`, or in the next word, whatever that is. `--` ends the options.
+///
+/// Of a command that is read each argument is a word, an exercise is with 1 to 100,000 packages, and
+/// the place of a format lies in its word.
 ///
 /// # Errors
 ///
 /// The first rule that is broken. First of all the least word that is an unknown option, another mode
 /// or selection than the first, or no number where an option has one; in one word in this order. Then
-/// an option at the end without its value; no mode; an option of queries in another mode; too few
-/// arguments; the first argument too many; the first argument that is not the number or the capability
-/// that it has to be. The word is the number of words where something is missing, and 0 where the
-/// first word is neither `rpm` nor `rpmdb` and where memory is wanting.
+/// an option at the end without its value; no mode; an option that the mode doesn't have; an option or
+/// an argument that it has to have; the first argument too many; the first argument that is not the
+/// number or the capability that it has to be. The word is the number of words where something is
+/// missing, and 0 where the first word is neither `rpm` nor `rpmdb` and where memory is wanting.
 ///
 /// Goes over the words once, and over what they say a few times; keeps a few bytes for each option and
 /// each argument, and copies no word. The rules are this project's own.
 #[tactic(auto, unfolding(crate::specs::Ask::ask))]
 pub fn read(alloc: Global, words: &Words) -> Result<Ask, WordsFault>
     ensures command { MatchResult result (λ a. ask words.now ≡ Ok a) (λ f. f.kind ≢ NoMemory → ask words.now ≡ Err f) }
+    ensures sound { IfOk result (λ a. IsSound words.now a) }
     ensures memory { MatchResult result (λ a. Unit {0}) (λ f. f.kind ≡ NoMemory → f.word ≡ 0) }
 {
     match program_of(words) {

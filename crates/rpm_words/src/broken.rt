@@ -2,40 +2,39 @@
 
 ghost use Rattle.std.specs.Prelude.{◌≡◌, length};
 ghost use Rattle.std.specs.List.{slice_get};
-ghost use Rattle.rpm_words.specs.Broken.{is_bad_number, part_fault, early_fault, fewest, most, wanted_by, checked, argument_fault, bad_argument, misplaced, no_mode, no_value, too_few, too_many, is_awaiting, first_broken};
+ghost use Rattle.rpm_words.specs.Broken.{is_bad_number, token_fault, early_fault, is_misplaced, misplaced_in, misplaced, lacks_option, argument_fault, bad_argument, no_mode, no_value, too_few, too_many, is_awaiting, first_broken};
 
 use crate::fault::{WordsFault, WordsKind, earlier};
-use crate::number::number_of;
-use crate::part::{Part, Said, value_from};
-use crate::seen::{Seen, exercise_number, text_at};
+use crate::number::{exercise_number, number_in, number_of};
+use crate::seen::Seen;
 use crate::switch::{Chosen, Command, Switch};
+use crate::takes::{Expected, Takes};
+use crate::token::{Said, Token};
 use crate::words::Words;
 use rpm_version::Capability;
 
-impl Part {
-    /// Whether the part gives a number, and its text is none.
+impl Token {
+    /// Whether the token gives a number, and its text is none.
     fn is_bad_number(&self, words: &Words) -> bool
         ensures { result ≡ is_bad_number words.now self.now }
     {
         match self.said {
-            Said::Gives(Switch::After, from) => {
-                number_of(value_from(text_at(words, self.word), from)).is_none()
-            }
+            Said::Gives(Switch::After, from) => number_in(self.bytes_from(words, from)).is_none(),
             Said::Gives(Switch::Mode(Command::Exercise), from) => {
-                exercise_number(value_from(text_at(words, self.word), from)).is_none()
+                exercise_number(self.bytes_from(words, from)).is_none()
             }
             _ => false,
         }
     }
 
-    /// What is wrong with the part, where the first mode and the first selection are these.
+    /// What is wrong with the token, where the first mode and the first selection are these.
     fn fault(
         &self,
         words: &Words,
         command: Option<Command>,
         chosen: Option<Chosen>,
     ) -> Option<WordsFault>
-        ensures { result ≡ part_fault words.now command chosen self.now }
+        ensures { result ≡ token_fault words.now command chosen self.now }
     {
         let kind = if matches!(self.said, Said::Refused) {
             WordsKind::UnknownOption
@@ -52,7 +51,7 @@ impl Part {
         })
     }
 
-    /// Whether the part is an option that has a value.
+    /// Whether the token is an option that has a value.
     fn is_awaiting(&self) -> bool
         ensures { result ≡ is_awaiting self.now }
     {
@@ -61,94 +60,77 @@ impl Part {
             _ => false,
         }
     }
+
+    /// The fault of an option that may not stand in a mode.
+    fn misplaced(&self, command: Command) -> Option<WordsFault>
+        ensures { result ≡ misplaced_in command self.now }
+    {
+        match self.said {
+            Said::Sets(switch) if switch.is_misplaced(command) => Some(WordsFault {
+                kind: WordsKind::Misplaced,
+                word: self.word,
+            }),
+            _ => None,
+        }
+    }
 }
 
-/// The fault of the least part that is at fault by itself.
+impl Switch {
+    /// Whether the option may not stand in a mode.
+    fn is_misplaced(self, command: Command) -> bool
+        ensures { result ≡ is_misplaced self command }
+    {
+        match self {
+            Switch::Mode(_) | Switch::Folder => false,
+            Switch::Choose(Chosen::All) => !matches!(command, Command::Query | Command::Verify),
+            Switch::Choose(_) | Switch::Lists | Switch::Format | Switch::After | Switch::Noindex =>
+                !matches!(command, Command::Query),
+            Switch::Nofiles => !matches!(command, Command::Verify),
+        }
+    }
+}
+
+/// The fault of the least token that is at fault by itself.
 #[tactic(auto, unfolding(crate::specs::Broken::early_fault))]
 fn early_fault(
     words: &Words,
     command: Option<Command>,
     chosen: Option<Chosen>,
-    parts: &[Part],
+    tokens: &[Token],
 ) -> Option<WordsFault>
-    ensures { result ≡ early_fault words.now command chosen parts.now }
+    ensures { result ≡ early_fault words.now command chosen tokens.now }
 {
     let mut first = None;
-    for part in parts {
-        first = earlier(first, part.fault(words, command, chosen));
+    for token in tokens {
+        first = earlier(first, token.fault(words, command, chosen));
     }
     first
 }
 
-/// What an argument has to be.
-#[derive(Debug, Clone, Copy)]
-enum Wanted {
-    Anything,
-    PackageNumber,
-    Capable,
-}
-
-/// How many arguments a command has at least.
-fn fewest(command: Command, chosen: Chosen) -> usize
-    ensures { result ≡ fewest command chosen }
+/// The first option that may not stand in a mode.
+#[tactic(auto, unfolding(crate::specs::Broken::misplaced))]
+fn misplaced(command: Command, tokens: &[Token]) -> Option<WordsFault>
+    ensures { result ≡ misplaced command tokens.now }
 {
-    match command {
-        Command::Query if matches!(chosen, Chosen::All) => 0,
-        Command::Query | Command::Addpkg | Command::Erasepkg => 1,
-        Command::Replacepkg => 2,
-        _ => 0,
+    for token in tokens {
+        if let Some(fault) = token.misplaced(command) {
+            return Some(fault);
+        }
     }
-}
-
-/// How many arguments a command has at most.
-fn most(command: Command) -> Option<usize>
-    ensures { result ≡ most command }
-{
-    match command {
-        Command::Query | Command::Addpkg | Command::Erasepkg => None,
-        Command::Replacepkg => Some(2),
-        _ => Some(0),
-    }
-}
-
-/// What the arguments of a command have to be.
-fn wanted_by(command: Command, chosen: Chosen) -> Wanted
-    ensures { result ≡ wanted_by command chosen }
-{
-    match command {
-        Command::Replacepkg | Command::Erasepkg => Wanted::PackageNumber,
-        Command::Query => match chosen {
-            Chosen::Number => Wanted::PackageNumber,
-            Chosen::Provides | Chosen::Requires | Chosen::Conflicts | Chosen::Obsoletes => {
-                Wanted::Capable
-            }
-            _ => Wanted::Anything,
-        },
-        _ => Wanted::Anything,
-    }
-}
-
-/// The arguments that have to be so.
-fn checked(command: Command, arguments: &[u32]) -> &[u32]
-    ensures { result.now ≡ checked command arguments.now }
-{
-    match command {
-        Command::Replacepkg if !arguments.is_empty() => &arguments[..1],
-        _ => arguments,
-    }
+    None
 }
 
 /// What is wrong with the argument at a word.
-fn argument_fault(words: &Words, wanted: Wanted, word: u32) -> Option<WordsFault>
-    ensures { result ≡ argument_fault words.now wanted word }
+fn argument_fault(words: &Words, expected: Expected, word: u32) -> Option<WordsFault>
+    ensures { result ≡ argument_fault words.now expected word }
 {
-    let text = text_at(words, word);
-    match wanted {
-        Wanted::PackageNumber if number_of(text).is_none() => Some(WordsFault {
+    let text = words.text_at(word);
+    match expected {
+        Expected::Number if number_of(text).is_none() => Some(WordsFault {
             kind: WordsKind::BadNumber,
             word,
         }),
-        Wanted::Capable if Capability::read(text).is_err() => Some(WordsFault {
+        Expected::Capability if Capability::read(text).is_err() => Some(WordsFault {
             kind: WordsKind::BadCapability,
             word,
         }),
@@ -158,11 +140,11 @@ fn argument_fault(words: &Words, wanted: Wanted, word: u32) -> Option<WordsFault
 
 /// The fault of the first argument that is not what it has to be.
 #[tactic(auto, unfolding(crate::specs::Broken::bad_argument))]
-fn bad_argument(words: &Words, wanted: Wanted, arguments: &[u32]) -> Option<WordsFault>
-    ensures { result ≡ bad_argument words.now wanted arguments.now }
+fn bad_argument(words: &Words, expected: Expected, arguments: &[u32]) -> Option<WordsFault>
+    ensures { result ≡ bad_argument words.now expected arguments.now }
 {
     for word in arguments {
-        if let Some(fault) = argument_fault(words, wanted, *word) {
+        if let Some(fault) = argument_fault(words, expected, *word) {
             return Some(fault);
         }
     }
@@ -170,11 +152,11 @@ fn bad_argument(words: &Words, wanted: Wanted, arguments: &[u32]) -> Option<Word
 }
 
 /// An option at the end that lacks its value.
-fn no_value(words: &Words, last: Option<Part>) -> Option<WordsFault>
+fn no_value(words: &Words, last: Option<Token>) -> Option<WordsFault>
     ensures { result ≡ no_value words.now last }
 {
     match last {
-        Some(part) if part.is_awaiting() => Some(WordsFault {
+        Some(token) if token.is_awaiting() => Some(WordsFault {
             kind: WordsKind::MissingArgument,
             word: words.len(),
         }),
@@ -195,24 +177,27 @@ fn no_mode(words: &Words, command: Option<Command>) -> Option<WordsFault>
     }
 }
 
-/// An option of queries beside another mode.
-fn misplaced(command: Command, word: Option<u32>) -> Option<WordsFault>
-    ensures { result ≡ misplaced command word }
+/// Whether the mode lacks an option that it has to have.
+fn lacks_option(command: Command, seen: &Seen) -> bool
+    ensures { result ≡ lacks_option command seen.now }
 {
-    match (command, word) {
-        (Command::Query, _) | (_, None) => None,
-        (_, Some(word)) => Some(WordsFault {
-            kind: WordsKind::Misplaced,
-            word,
-        }),
+    match command {
+        Command::Verify => !(matches!(seen.chosen, Some(Chosen::All)) && seen.nofiles),
+        _ => false,
     }
 }
 
-/// Too few arguments.
-fn too_few(words: &Words, command: Command, chosen: Chosen, arguments: &[u32]) -> Option<WordsFault>
-    ensures { result ≡ too_few words.now command chosen arguments.now }
+/// Too few options or arguments.
+fn too_few(
+    words: &Words,
+    command: Command,
+    seen: &Seen,
+    takes: Takes,
+    arguments: &[u32],
+) -> Option<WordsFault>
+    ensures { result ≡ too_few words.now command seen.now takes arguments.now }
 {
-    if arguments.len() < fewest(command, chosen) {
+    if lacks_option(command, seen) || arguments.len() < takes.fewest() {
         Some(WordsFault {
             kind: WordsKind::MissingArgument,
             word: words.len(),
@@ -223,10 +208,10 @@ fn too_few(words: &Words, command: Command, chosen: Chosen, arguments: &[u32]) -
 }
 
 /// The first argument too many.
-fn too_many(command: Command, arguments: &[u32]) -> Option<WordsFault>
-    ensures { result ≡ too_many command arguments.now }
+fn too_many(takes: Takes, arguments: &[u32]) -> Option<WordsFault>
+    ensures { result ≡ too_many takes arguments.now }
 {
-    match most(command) {
+    match takes.most() {
         Some(most) if most < arguments.len() => Some(WordsFault {
             kind: WordsKind::ExtraArgument,
             word: arguments[most],
@@ -239,23 +224,20 @@ fn too_many(command: Command, arguments: &[u32]) -> Option<WordsFault>
 #[tactic(auto, unfolding(crate::specs::Broken::first_broken))]
 pub(crate) fn first_broken(
     words: &Words,
-    parts: &[Part],
+    tokens: &[Token],
     seen: &Seen,
     arguments: &[u32],
 ) -> Option<WordsFault>
-    ensures { result ≡ first_broken words.now parts.now seen.now arguments.now }
+    ensures { result ≡ first_broken words.now tokens.now seen.now arguments.now }
 {
     let command = seen.command.unwrap_or(Command::Query);
     let chosen = seen.chosen.unwrap_or(Chosen::Label);
-    early_fault(words, seen.command, seen.chosen, parts)
+    let takes = command.takes(chosen);
+    early_fault(words, seen.command, seen.chosen, tokens)
         .or(no_value(words, seen.last))
         .or(no_mode(words, seen.command))
-        .or(misplaced(command, seen.misplaced))
-        .or(too_few(words, command, chosen, arguments))
-        .or(too_many(command, arguments))
-        .or(bad_argument(
-            words,
-            wanted_by(command, chosen),
-            checked(command, arguments),
-        ))
+        .or(misplaced(command, tokens))
+        .or(too_few(words, command, seen, takes, arguments))
+        .or(too_many(takes, arguments))
+        .or(bad_argument(words, takes.expected(), takes.checked(arguments)))
 }

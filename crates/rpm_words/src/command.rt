@@ -3,11 +3,11 @@
 ghost use Rattle.std.specs.Prelude.{◌≡◌};
 ghost use Rattle.rpm_words.specs.Command.{command_of, chosen_of, is_other, is_same_command, is_same_chosen};
 
-use crate::part::{Part, Said};
 use crate::switch::{Chosen, Command, Switch};
+use crate::token::{Said, Token};
 
-impl Part {
-    /// The mode that the part gives.
+impl Token {
+    /// The mode that the token gives.
     pub(crate) fn command(&self) -> Option<Command>
         ensures { result ≡ command_of self.now }
     {
@@ -17,7 +17,7 @@ impl Part {
         }
     }
 
-    /// The selection that the part gives.
+    /// The selection that the token gives.
     pub(crate) fn chosen(&self) -> Option<Chosen>
         ensures { result ≡ chosen_of self.now }
     {
@@ -46,8 +46,8 @@ impl Chosen {
     }
 }
 
-impl Part {
-    /// Whether the part gives a mode or a selection other than these.
+impl Token {
+    /// Whether the token gives a mode or a selection other than these.
     pub(crate) fn is_other(&self, command: Option<Command>, chosen: Option<Chosen>) -> bool
         ensures { result ≡ is_other command chosen self.now }
     {

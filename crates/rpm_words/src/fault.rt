@@ -1,7 +1,8 @@
 //! The rules that a command line can break.
 
 ghost use Rattle.std.specs.Prelude.{◌≡◌};
-ghost use Rattle.rpm_words.specs.Fault.{rank, is_before, earlier};
+ghost use Rattle.rpm_words.specs.Fault.{rank, is_before};
+ghost use Rattle.rpm_words.specs.inner.Steps.{earlier};
 
 /// The rule that is broken.
 #[derive(Debug, Clone, Copy, PartialEq, Eq)]
@@ -12,9 +13,9 @@ pub enum WordsKind {
     TwoModes,
     /// A word begins as an option, and is none.
     UnknownOption,
-    /// An option of queries stands beside another mode.
+    /// An option stands beside a mode that doesn't have it.
     Misplaced,
-    /// An option lacks its value, or the command lacks an argument.
+    /// An option lacks its value, or the command an option or an argument that it has to have.
     MissingArgument,
     /// The command takes fewer arguments.
     ExtraArgument,

@@ -9,19 +9,19 @@ mod broken;
 mod command;
 mod fault;
 mod number;
-mod part;
 mod place;
-mod role;
+mod purpose;
 mod seen;
 mod switch;
+mod takes;
 #[cfg(test)]
 mod tests;
+mod token;
 mod words;
 
 pub use ask::{Ask, Mode, read};
 pub use fault::{WordsFault, WordsKind};
 pub use number::number_of;
 pub use place::place_of;
-pub use seen::Span;
 pub use switch::Chosen;
-pub use words::Words;
+pub use words::{Span, Words};

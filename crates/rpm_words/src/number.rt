@@ -3,7 +3,9 @@
 ghost use Rattle.std.specs.Prelude.{◌≡◌};
 ghost use Rattle.std.specs.List.{list_all};
 ghost use Rattle.std.specs.Char.{is_ascii_digit};
-ghost use Rattle.rpm_words.specs.Number.{number};
+ghost use Rattle.rpm_words.specs.Number.{number, exercise_number};
+
+use std::str::from_utf8;
 
 /// Whether a text is of decimal digits alone.
 fn is_numeral(text: &str) -> bool
@@ -25,5 +27,26 @@ pub fn number_of(text: &str) -> Option<u32>
         text.parse().ok()
     } else {
         None
+    }
+}
+
+/// The number that bytes are, as a text.
+#[tactic(auto, using(crate::proofs::Numbers::number_text))]
+pub(crate) fn number_in(bytes: &[u8]) -> Option<u32>
+    ensures { result ≡ number bytes.now }
+{
+    match from_utf8(bytes) {
+        Ok(text) => number_of(text),
+        Err(_) => None,
+    }
+}
+
+/// The count of packages that bytes are: a number from 1 to 100,000.
+pub(crate) fn exercise_number(bytes: &[u8]) -> Option<u32>
+    ensures { result ≡ exercise_number bytes.now }
+{
+    match number_in(bytes) {
+        Some(count) if 1 <= count && count <= 100_000 => Some(count),
+        _ => None,
     }
 }

@@ -1,10 +1,12 @@
 //! The folder of the database.
 
 ghost use Rattle.std.specs.Prelude.{◌≡◌};
-ghost use Rattle.rpm_words.specs.Place.{program_of, place, folder, folder_behind};
+ghost use Rattle.std.specs.List.{after_first};
+ghost use Rattle.rpm_words.specs.Purpose.{is_equals};
+ghost use Rattle.rpm_words.specs.Place.{program_of, place, folder};
+ghost use Rattle.rpm_words.specs.inner.Folder.{IsSpelled, folder_behind};
 
-use crate::part::value_from;
-use crate::role::{Role, role_behind};
+use crate::purpose::{Purpose, purpose_behind};
 use crate::switch::{Program, Switch};
 use crate::words::Words;
 
@@ -26,14 +28,27 @@ pub(crate) fn program_of(words: &Words) -> Option<Program>
     }
 }
 
-/// The folder behind a word, where it was `folder` in front of it.
-fn folder_behind<'a>(folder: &'a str, role: Role, text: &'a str) -> &'a str
-    ensures { result.now ≡ folder_behind role text.now folder.now }
+/// The value that stands behind the first `=` of a word.
+#[tactic(auto, using(std::proofs::lemmas::Str::Pattern::split_once_first))]
+fn inline_value(text: &str) -> &str
+    ensures { result.now ≡ after_first is_equals text.now }
 {
-    match role {
-        Role::Whole(Switch::Folder) | Role::Awaits(Switch::Folder) => OWN_PLACE,
-        Role::Inline(Switch::Folder, from) => value_from(text, from),
-        Role::Value(Switch::Folder) => text,
+    match text.split_once('=') {
+        Some((_, value)) => value,
+        None => "",
+    }
+}
+
+/// The folder behind a word, where it was `folder` in front of it.
+fn folder_behind<'a>(folder: &'a str, purpose: Purpose, text: &'a str) -> &'a str
+    requires { IsSpelled text.now purpose }
+    ensures { result.now ≡ folder_behind purpose text.now folder.now }
+{
+    match purpose {
+        Purpose::Whole(Switch::Folder) | Purpose::Awaits(Switch::Folder) => OWN_PLACE,
+        // As a text it can't be cut at a byte that only a proof knows for the end of a character.
+        Purpose::Inline(Switch::Folder, _) => inline_value(text),
+        Purpose::Value(Switch::Folder) => text,
         _ => folder,
     }
 }
@@ -42,12 +57,12 @@ fn folder_behind<'a>(folder: &'a str, role: Role, text: &'a str) -> &'a str
 fn folder_of(program: Program, words: &Words) -> &str
     ensures { result.now ≡ folder program words.now }
 {
-    let mut role = Role::Name;
+    let mut purpose = Purpose::Name;
     let mut folder = OWN_PLACE;
     for i in 1..words.len() {
         let text = words.word(i);
-        role = role_behind(program, role, text);
-        folder = folder_behind(folder, role, text);
+        purpose = purpose_behind(program, purpose, text);
+        folder = folder_behind(folder, purpose, text);
     }
     folder
 }

@@ -1,26 +1,18 @@
 //! What the options of a command line come to.
 
-ghost use Rattle.std.specs.Prelude.{◌≡◌, None};
-ghost use Rattle.rpm_words.specs.Place.{text_at};
-ghost use Rattle.rpm_words.specs.Seen.{exercise_number, shown_in, after_in, exercise_in, is_noindex, misplaced_in, seen_with, seen};
+ghost use Rattle.std.specs.Prelude.{◌≡◌, None, drop};
+ghost use Rattle.rpm_words.specs.Words.{text_at};
+ghost use Rattle.rpm_words.specs.Seen.{printed_in, after_in, exercise_in, is_noindex, is_nofiles, seen};
+ghost use Rattle.rpm_words.specs.inner.Steps.{seen_with};
 
-use crate::number::number_of;
-use crate::part::{Part, Said, value_from};
+use crate::number::{exercise_number, number_in};
 use crate::switch::{Chosen, Command, Switch};
-use crate::words::Words;
-
-/// A place in a word.
-#[derive(Debug, Clone, Copy, PartialEq, Eq)]
-pub struct Span {
-    /// The word.
-    pub word: u32,
-    /// The byte of the word.
-    pub from: u32,
-}
+use crate::token::{Said, Token};
+use crate::words::{Span, Words};
 
 /// What a query prints.
 #[derive(Debug, Clone, Copy)]
-pub(crate) enum Shown {
+pub(crate) enum Printed {
     /// The files of each package.
     Files,
     /// By this format.
@@ -35,42 +27,34 @@ pub(crate) struct Seen {
     /// The first selection.
     pub(crate) chosen: Option<Chosen>,
     /// The last format.
-    pub(crate) shown: Option<Shown>,
+    pub(crate) printed: Option<Printed>,
     /// The last number of `--after`.
     pub(crate) after: Option<u32>,
     /// The last number of `--exercise`.
     pub(crate) exercise: Option<u32>,
     pub(crate) noindex: bool,
-    /// The first word that is an option of queries alone.
-    pub(crate) misplaced: Option<u32>,
-    /// The last part.
-    pub(crate) last: Option<Part>,
+    pub(crate) nofiles: bool,
+    /// The last token.
+    pub(crate) last: Option<Token>,
 }
 
-/// The word at a place, or the empty text.
-pub(crate) fn text_at(words: &Words, i: u32) -> &str
-    ensures { result.now ≡ text_at words.now i }
-{
-    if i < words.len() { words.word(i) } else { "" }
-}
-
-/// A number from 1 to 100,000.
-pub(crate) fn exercise_number(text: &str) -> Option<u32>
-    ensures { result ≡ exercise_number text.now }
-{
-    match number_of(text) {
-        Some(count) if 1 <= count && count <= 100_000 => Some(count),
-        _ => None,
+impl Token {
+    /// The bytes of the token's word from a place on.
+    pub(crate) fn bytes_from<'a>(&self, words: &'a Words, from: u32) -> &'a [u8]
+        ensures { result.now ≡ drop from (text_at words.now self.now.word) }
+    {
+        words.bytes_from(Span {
+            word: self.word,
+            from,
+        })
     }
-}
 
-impl Part {
-    fn shown(&self) -> Option<Shown>
-        ensures { result ≡ shown_in self.now }
+    fn printed(&self) -> Option<Printed>
+        ensures { result ≡ printed_in self.now }
     {
         match self.said {
-            Said::Sets(Switch::Lists) => Some(Shown::Files),
-            Said::Gives(Switch::Format, from) => Some(Shown::By(Span {
+            Said::Sets(Switch::Lists) => Some(Printed::Files),
+            Said::Gives(Switch::Format, from) => Some(Printed::By(Span {
                 word: self.word,
                 from,
             })),
@@ -82,10 +66,7 @@ impl Part {
         ensures { result ≡ after_in words.now self.now }
     {
         match self.said {
-            Said::Gives(Switch::After, from) => number_of(value_from(
-                text_at(words, self.word),
-                from,
-            )),
+            Said::Gives(Switch::After, from) => number_in(self.bytes_from(words, from)),
             _ => None,
         }
     }
@@ -95,7 +76,7 @@ impl Part {
     {
         match self.said {
             Said::Gives(Switch::Mode(Command::Exercise), from) => {
-                exercise_number(value_from(text_at(words, self.word), from))
+                exercise_number(self.bytes_from(words, from))
             }
             _ => None,
         }
@@ -107,52 +88,47 @@ impl Part {
         matches!(self.said, Said::Sets(Switch::Noindex))
     }
 
-    /// The word, where it is an option of queries alone.
-    fn misplaced(&self) -> Option<u32>
-        ensures { result ≡ misplaced_in self.now }
+    fn is_nofiles(&self) -> bool
+        ensures { result ≡ is_nofiles self.now }
     {
-        match self.said {
-            Said::Sets(Switch::Mode(_) | Switch::Folder) => None,
-            Said::Sets(_) => Some(self.word),
-            _ => None,
-        }
+        matches!(self.said, Said::Sets(Switch::Nofiles))
     }
 }
 
 impl Seen {
-    /// What the options come to with one part more.
-    fn with(self, words: &Words, part: &Part) -> Seen
-        ensures { result ≡ seen_with words.now self part.now }
+    /// What the options come to with one token more.
+    fn with(self, words: &Words, token: &Token) -> Seen
+        ensures { result ≡ seen_with words.now self token.now }
     {
         Seen {
-            command: self.command.or(part.command()),
-            chosen: self.chosen.or(part.chosen()),
-            shown: part.shown().or(self.shown),
-            after: part.after(words).or(self.after),
-            exercise: part.exercise(words).or(self.exercise),
-            noindex: self.noindex || part.is_noindex(),
-            misplaced: self.misplaced.or(part.misplaced()),
-            last: Some(*part),
+            command: self.command.or(token.command()),
+            chosen: self.chosen.or(token.chosen()),
+            printed: token.printed().or(self.printed),
+            after: token.after(words).or(self.after),
+            exercise: token.exercise(words).or(self.exercise),
+            noindex: self.noindex || token.is_noindex(),
+            nofiles: self.nofiles || token.is_nofiles(),
+            last: Some(*token),
         }
     }
 }
 
-/// What the options among the parts come to.
-pub(crate) fn seen_in(words: &Words, parts: &[Part]) -> Seen
-    ensures { result ≡ seen words.now parts.now }
+/// What the options among the tokens come to.
+pub(crate) fn seen_in(words: &Words, tokens: &[Token]) -> Seen
+    ensures { result ≡ seen words.now tokens.now }
 {
     let mut seen = Seen {
         command: None,
         chosen: None,
-        shown: None,
+        printed: None,
         after: None,
         exercise: None,
         noindex: false,
-        misplaced: None,
+        nofiles: false,
         last: None,
     };
-    for part in parts {
-        seen = seen.with(words, part);
+    for token in tokens {
+        seen = seen.with(words, token);
     }
     seen
 }

@@ -17,12 +17,15 @@ pub(crate) enum Command {
     Addpkg,
     Replacepkg,
     Erasepkg,
+    Verify,
     Initdb,
     Rebuilddb,
     Verifydb,
     Exportdb,
     Importdb,
     Exercise,
+    Order,
+    Checkfiles,
 }
 
 /// What a query picks packages by.
@@ -50,6 +53,12 @@ pub enum Chosen {
     Trigger,
     /// Their number.
     Number,
+    /// A directory that they have files in.
+    Directory,
+    /// The transaction that installed them.
+    Tid,
+    /// A capability that they recommend.
+    Recommends,
 }
 
 /// An option.
@@ -61,6 +70,7 @@ pub(crate) enum Switch {
     Format,
     After,
     Noindex,
+    Nofiles,
     Folder,
 }
 
@@ -68,7 +78,7 @@ pub(crate) enum Switch {
 #[tactic(auto, unfolding(crate::specs::Switch::long_switch))]
 pub(crate) fn long_switch(program: Program, text: &str) -> Option<Switch>
     ensures value { result ≡ long_switch program text.now }
-    ensures short { IsSome result → length text.now ≤ 15 }
+    ensures short { IsSome result → length text.now ≤ 16 }
 {
     match program {
         Program::Rpm => rpm_switch(text),
@@ -80,13 +90,14 @@ pub(crate) fn long_switch(program: Program, text: &str) -> Option<Switch>
 #[tactic(auto, unfolding(crate::specs::Switch::rpm_switch))]
 fn rpm_switch(text: &str) -> Option<Switch>
     ensures value { result ≡ rpm_switch text.now }
-    ensures short { IsSome result → length text.now ≤ 15 }
+    ensures short { IsSome result → length text.now ≤ 16 }
 {
     match text {
         "--query" => Some(Switch::Mode(Command::Query)),
         "--addpkg" => Some(Switch::Mode(Command::Addpkg)),
         "--replacepkg" => Some(Switch::Mode(Command::Replacepkg)),
         "--erasepkg" => Some(Switch::Mode(Command::Erasepkg)),
+        "--verify" => Some(Switch::Mode(Command::Verify)),
         "--all" => Some(Switch::Choose(Chosen::All)),
         "--file" => Some(Switch::Choose(Chosen::Path)),
         "--group" => Some(Switch::Choose(Chosen::Group)),
@@ -97,11 +108,15 @@ fn rpm_switch(text: &str) -> Option<Switch>
         "--whatobsoletes" => Some(Switch::Choose(Chosen::Obsoletes)),
         "--triggeredby" => Some(Switch::Choose(Chosen::Trigger)),
         "--querybynumber" => Some(Switch::Choose(Chosen::Number)),
+        "--whatdir" => Some(Switch::Choose(Chosen::Directory)),
+        "--tid" => Some(Switch::Choose(Chosen::Tid)),
+        "--whatrecommends" => Some(Switch::Choose(Chosen::Recommends)),
         "--list" => Some(Switch::Lists),
         "--qf" => Some(Switch::Format),
         "--queryformat" => Some(Switch::Format),
         "--after" => Some(Switch::After),
         "--noindex" => Some(Switch::Noindex),
+        "--nofiles" => Some(Switch::Nofiles),
         "--dbpath" => Some(Switch::Folder),
         _ => None,
     }
@@ -111,7 +126,7 @@ fn rpm_switch(text: &str) -> Option<Switch>
 #[tactic(auto, unfolding(crate::specs::Switch::rpmdb_switch))]
 fn rpmdb_switch(text: &str) -> Option<Switch>
     ensures value { result ≡ rpmdb_switch text.now }
-    ensures short { IsSome result → length text.now ≤ 15 }
+    ensures short { IsSome result → length text.now ≤ 16 }
 {
     match text {
         "--initdb" => Some(Switch::Mode(Command::Initdb)),
@@ -120,6 +135,8 @@ fn rpmdb_switch(text: &str) -> Option<Switch>
         "--exportdb" => Some(Switch::Mode(Command::Exportdb)),
         "--importdb" => Some(Switch::Mode(Command::Importdb)),
         "--exercise" => Some(Switch::Mode(Command::Exercise)),
+        "--order" => Some(Switch::Mode(Command::Order)),
+        "--checkfiles" => Some(Switch::Mode(Command::Checkfiles)),
         "--dbpath" => Some(Switch::Folder),
         _ => None,
     }
@@ -132,6 +149,7 @@ pub(crate) fn short_switch(byte: u8) -> Option<Switch>
 {
     match byte {
         b'q' => Some(Switch::Mode(Command::Query)),
+        b'V' => Some(Switch::Mode(Command::Verify)),
         b'a' => Some(Switch::Choose(Chosen::All)),
         b'f' => Some(Switch::Choose(Chosen::Path)),
         b'g' => Some(Switch::Choose(Chosen::Group)),

@@ -14,7 +14,7 @@ fn line(alloc: Global, texts: &[&str]) -> Result<Words, AllocError> {
 
 #[test]
 fn the_first_broken_rule_is_told(rt: HostRuntime) -> Result<(), Fail> {
-    let cases: [(&[&str], WordsKind, u32); 41] = [
+    let cases: [(&[&str], WordsKind, u32); 52] = [
         (&[], WordsKind::NoMode, 0),
         (&["rpmx", "-qa"], WordsKind::NoMode, 0),
         (&["rpm"], WordsKind::NoMode, 1),
@@ -75,6 +75,34 @@ fn the_first_broken_rule_is_told(rt: HostRuntime) -> Result<(), Fail> {
             &["rpm", "-q", "--whatobsoletes", "a", " "],
             WordsKind::BadCapability,
             4,
+        ),
+        (&["rpm", "-q", "--tid", "x"], WordsKind::BadNumber, 3),
+        (
+            &["rpm", "-q", "--whatrecommends", "a <"],
+            WordsKind::BadCapability,
+            3,
+        ),
+        // Packages are verified with both options, and with no other.
+        (&["rpm", "-Va"], WordsKind::MissingArgument, 2),
+        (&["rpm", "-V", "--nofiles"], WordsKind::MissingArgument, 3),
+        (&["rpm", "-qa", "--nofiles"], WordsKind::Misplaced, 2),
+        (
+            &["rpm", "-Va", "--nofiles", "x"],
+            WordsKind::ExtraArgument,
+            3,
+        ),
+        (
+            &["rpm", "-Va", "--nofiles", "--qf", "x"],
+            WordsKind::Misplaced,
+            3,
+        ),
+        (&["rpm", "--verify", "-f", "x"], WordsKind::Misplaced, 2),
+        (&["rpm", "--erasepkg", "1", "-a"], WordsKind::Misplaced, 3),
+        (&["rpmdb", "--order", "x"], WordsKind::ExtraArgument, 2),
+        (
+            &["rpmdb", "--order", "--checkfiles"],
+            WordsKind::TwoModes,
+            2,
         ),
         // An earlier word in front of a later one, whatever their faults.
         (&["rpm", "-qa", "-f", "-z"], WordsKind::TwoModes, 2),
@@ -261,6 +289,33 @@ fn commands_are_read(rt: HostRuntime) -> Result<(), Fail> {
                 &[],
             )
         },
+        query(
+            &["rpm", "-q", "--whatdir", "/usr/bin/"],
+            Chosen::Directory,
+            &[3],
+        ),
+        query(&["rpm", "--tid", "6", "-q"], Chosen::Tid, &[2]),
+        query(
+            &["rpm", "-q", "--whatrecommends", "a = 1"],
+            Chosen::Recommends,
+            &[3],
+        ),
+        Case {
+            mode: Mode::Verify,
+            ..query(&["rpm", "-Va", "--nofiles"], Chosen::All, &[])
+        },
+        Case {
+            mode: Mode::Verify,
+            ..query(&["rpm", "--verify", "--nofiles", "--all"], Chosen::All, &[])
+        },
+        Case {
+            mode: Mode::Order,
+            ..query(&["rpmdb", "--order"], Chosen::Label, &[])
+        },
+        Case {
+            mode: Mode::Checkfiles,
+            ..query(&["rpmdb", "--checkfiles"], Chosen::Label, &[])
+        },
         Case {
             mode: Mode::Importdb,
             ..query(&["rpmdb", "--importdb"], Chosen::Label, &[])
@@ -368,6 +423,14 @@ fn words_are_held(rt: HostRuntime) -> Result<(), Fail> {
     assert!(rt; words.len() == 2);
     if words.len() == 2 {
         assert!(rt; words.word(1) == "-qa");
+    }
+    assert!(rt; words.text_at(0) == "rpm" && words.text_at(2) == "");
+    let ends: [(u32, u32, &[u8]); 4] = [(1, 1, b"qa"), (1, 3, b""), (1, 4, b""), (2, 0, b"")];
+    for (word, from, bytes) in ends {
+        assert!(rt;
+            words.bytes_from(Span { word, from }) == bytes,
+            "{word} {from}"
+        );
     }
     Ok(())
 }

@@ -1,9 +1,19 @@
 //! The words of a command line.
 
 ghost use Rattle.std.specs.Prelude.{◌≡◌, ℕ, ◌<◌, [], ◌∷◌, ◌++◌, Some, length, slice_get, OnOk, OnErr};
+ghost use Rattle.rpm_words.specs.Words.{text_at, bytes_from};
 
 use std::alloc::{AllocError, Global};
 use std::marker::Model;
+
+/// A place in a word.
+#[derive(Debug, Clone, Copy, PartialEq, Eq)]
+pub struct Span {
+    /// The word.
+    pub word: u32,
+    /// The byte of the word.
+    pub from: u32,
+}
 
 /// The words of a command line, the program's name first.
 #[derive(Drop)]
@@ -61,5 +71,25 @@ impl Words {
         ensures { slice_get self.now i ≡ Some result.now }
     {
         self.items[i as usize].as_str()
+    }
+
+    /// The word at place i, from 0, or the empty text where there are no more than i words.
+    pub fn text_at(&self, i: u32) -> &str
+        ensures { result.now ≡ text_at self.now i }
+    {
+        if i < self.len() { self.word(i) } else { "" }
+    }
+
+    /// The bytes of a word from a place on; none where there is no such word, or no such place in it.
+    pub fn bytes_from(&self, span: Span) -> &[u8]
+        ensures { result.now ≡ bytes_from self.now span }
+    {
+        let bytes = self.text_at(span.word).as_bytes();
+        let from = span.from as usize;
+        if from < bytes.len() {
+            &bytes[from..]
+        } else {
+            b""
+        }
     }
 }

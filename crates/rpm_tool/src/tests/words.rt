@@ -65,13 +65,15 @@ fn words_that_break_a_rule_are_told(rt: HostRuntime) -> Result<(), Fail> {
 
 #[test]
 fn other_commands_are_not_built(rt: HostRuntime) -> Result<(), Fail> {
-    let commands: [&[&str]; 6] = [
+    let commands: [&[&str]; 8] = [
         &["rpm", "-q", "a"],
+        &["rpm", "-q", "--tid", "6"],
         &["rpm", "-qa", "x"],
         // The format isn't looked at.
         &["rpm", "-qa", "--after", "1", "--qf", "%"],
         &["rpm", "-qa", "--noindex"],
         &["rpm", "--addpkg", "a"],
+        &["rpm", "-Va", "--nofiles"],
         &["rpmdb", "--initdb"],
     ];
     for words in commands {

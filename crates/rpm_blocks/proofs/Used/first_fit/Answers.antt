@@ -13,6 +13,10 @@ returns-clause-least c =
     let n = c.place.result - 1 in
     let place : IsPlace m c.args.from c.place.result = rw (← c.deref.ensures.value) c.place.ensures in
     let whole : take (length m - n) (drop n m) ≡ drop n m = take_all (length m - n) (drop n m) (omega (arith, length-drop n m)) in
-    let rest : IsLeastFit (take (length m - n) (drop n m)) c.args.count c.args.from c.least_fit.result = rw (← c.deref-2.ensures.value, ← c.saturating_sub-first.ensures) c.least_fit.ensures in
-    let least = least_from l m c.self.invariant.same c.self.invariant.runs c.args.count c.args.from c.place.result place c.least_fit.result (rw (← whole) rest) in
+    let rest : IsLeastFit (take (length m - n) (drop n m)) c.args.count c.args.from c.least_fit.result = rw (
+      ← c.deref-2.ensures.value,
+      ← c.saturating_sub-first.ensures,
+    ) c.least_fit.ensures in
+    let least = least_from l m c.self.invariant.same c.self.invariant.runs c.args.count c.args.from c.place.result place c.least_fit.result
+    (rw (← whole) rest) in
     subst (λ (v : Blocks). IsLeastFit v.ranges c.args.count c.args.from c.least_fit.result) c.self.view_is least

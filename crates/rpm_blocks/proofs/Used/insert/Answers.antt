@@ -10,7 +10,8 @@ use Rattle.rpm_blocks.proofs.Used.insert.Goals as goal
 -- a block that is in no range is in no run
 pub join-requires-clause-free : goal.join-requires-clause-free
 join-requires-clause-free c block has =
-    let free : IsFree c.self.inside.ranges.items (range c.args.start c.args.count) = subst (λ (v : Blocks). IsFree v.ranges (range c.args.start c.args.count)) (sym c.self.view_is) c.requires.free in
+    let free : IsFree c.self.inside.ranges.items (range c.args.start c.args.count) = subst
+    (λ (v : Blocks). IsFree v.ranges (range c.args.start c.args.count)) (sym c.self.view_is) c.requires.free in
     c.self.invariant.same.there block (free block has)
 
 pub invariant_of-self : goal.invariant_of-self
@@ -25,7 +26,8 @@ invariant_of-self c =
     let new : List Range = insert l at r in
     let both : List Range = r ∷ l in
     let runs : List Range = r ∷ m in
-    let same = same_trans new both c.join.new.runs.items (same_sym both new (same_insert l at r)) (same_trans both runs c.join.new.runs.items (same_cons r l m c.self.invariant.same) c.join.ensures.same) in
+    let same = same_trans new both c.join.new.runs.items (same_sym both new (same_insert l at r)) (same_trans both runs c.join.new.runs.items
+    (same_cons r l m c.self.invariant.same) c.join.ensures.same) in
     let spare : 1 ≤ c.self.inside.spare = subst (λ (v : Blocks). 1 ≤ v.spare) (sym c.self.view_is) c.requires.room in
     record {
       ranges = rw c.put.ensures.items (inserted_apart l c.self.invariant.ranges r at is_range place free);

@@ -16,7 +16,8 @@ cut-requires-clause-used c block has unused =
     let l = c.self.inside.ranges.items in
     let at = c.place-at.result in
     let place : IsPlace l c.args.start at = rw (← c.deref.ensures.value) c.place-at.ensures in
-    let begins : SomeIndex l (λ i. (range_at l i).start ≡ c.args.start) = subst (λ (v : Blocks). SomeIndex v.ranges (λ i. (range_at v.ranges i).start ≡ c.args.start)) (sym c.self.view_is) c.requires in
+    let begins : SomeIndex l (λ i. (range_at l i).start ≡ c.args.start) = subst (λ (v : Blocks). SomeIndex v.ranges (λ i. (range_at v.ranges i).start
+    ≡ c.args.start)) (sym c.self.view_is) c.requires in
     let lt = found_in_range l c.self.invariant.ranges c.args.start at place begins in
     let is = read_at l at c.remove-range.result lt c.remove-range.ensures.value in
     c.self.invariant.same.back block unused at lt (rw (← is) has)
@@ -27,7 +28,8 @@ invariant_of-self c =
     let m = c.self.inside.runs.items in
     let at = c.place-at.result in
     let place : IsPlace l c.args.start at = rw (← c.deref.ensures.value) c.place-at.ensures in
-    let begins : SomeIndex l (λ i. (range_at l i).start ≡ c.args.start) = subst (λ (v : Blocks). SomeIndex v.ranges (λ i. (range_at v.ranges i).start ≡ c.args.start)) (sym c.self.view_is) c.requires in
+    let begins : SomeIndex l (λ i. (range_at l i).start ≡ c.args.start) = subst (λ (v : Blocks). SomeIndex v.ranges (λ i. (range_at v.ranges i).start
+    ≡ c.args.start)) (sym c.self.view_is) c.requires in
     let lt = found_in_range l c.self.invariant.ranges c.args.start at place begins in
     let r = c.remove-range.result in
     let is = read_at l at r lt c.remove-range.ensures.value in
@@ -48,15 +50,18 @@ returns-clause-ranges c =
     let l = c.self.inside.ranges.items in
     let at = c.place-at.result in
     let place : IsPlace l c.args.start at = rw (← c.deref.ensures.value) c.place-at.ensures in
-    let begins : SomeIndex l (λ i. (range_at l i).start ≡ c.args.start) = subst (λ (v : Blocks). SomeIndex v.ranges (λ i. (range_at v.ranges i).start ≡ c.args.start)) (sym c.self.view_is) c.requires in
-    c.remove-range.ensures.items ∙ removed_is_without l c.self.invariant.ranges c.args.start at place begins ∙ ap (λ (v : Blocks). without c.args.start v.ranges) c.self.view_is
+    let begins : SomeIndex l (λ i. (range_at l i).start ≡ c.args.start) = subst (λ (v : Blocks). SomeIndex v.ranges (λ i. (range_at v.ranges i).start
+    ≡ c.args.start)) (sym c.self.view_is) c.requires in
+    c.remove-range.ensures.items ∙ removed_is_without l c.self.invariant.ranges c.args.start at place begins
+    ∙ ap (λ (v : Blocks). without c.args.start v.ranges) c.self.view_is
 
 pub cut-requires-clause-range : goal.cut-requires-clause-range
 cut-requires-clause-range c =
     let l = c.self.inside.ranges.items in
     let at = c.place-at.result in
     let place : IsPlace l c.args.start at = rw (← c.deref.ensures.value) c.place-at.ensures in
-    let begins : SomeIndex l (λ i. (range_at l i).start ≡ c.args.start) = subst (λ (v : Blocks). SomeIndex v.ranges (λ i. (range_at v.ranges i).start ≡ c.args.start)) (sym c.self.view_is) c.requires in
+    let begins : SomeIndex l (λ i. (range_at l i).start ≡ c.args.start) = subst (λ (v : Blocks). SomeIndex v.ranges (λ i. (range_at v.ranges i).start
+    ≡ c.args.start)) (sym c.self.view_is) c.requires in
     let lt = found_in_range l c.self.invariant.ranges c.args.start at place begins in
     let is = read_at l at c.remove-range.result lt c.remove-range.ensures.value in
     rw is (c.self.invariant.ranges.ranges at lt)

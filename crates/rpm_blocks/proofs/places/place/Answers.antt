@@ -8,5 +8,6 @@ pub returns : goal.returns
 returns c =
     let l = c.args.ranges.now in
     let rise = IsPartitionedBy-ltb (λ r. r.start) l c.args.block (starts_rise l c.requires) in
-    let point = IsPartitionPoint-from_clause (λ r. ltb r.start c.args.block) l c.partition_point.result c.partition_point.ensures.partitioned rise (λ a r f called. search rules) in
+    let point = IsPartitionPoint-from_clause (λ r. ltb r.start c.args.block) l c.partition_point.result c.partition_point.ensures.partitioned rise
+    (λ a r f called. search rules) in
     place_of_point l c.args.block c.partition_point.result c.partition_point.ensures.bound point

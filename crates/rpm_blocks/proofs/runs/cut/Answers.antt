@@ -10,7 +10,8 @@ put_part-requires-2-clause-gap c =
     let taken = c.take_run-at.ensures in
     let below : Range = record { start = c.take_run-at.result.1.start; count = c.args.range.start - c.take_run-at.result.1.start } in
     let ends : end_of below ≡ c.args.range.start = omega (arith, taken.starts) in
-    let place = gap_within 1 1 c.take_run-at.new.runs.items c.take_run-at.result.1 below c.take_run-at.result.0 taken.gap (omega arith) (omega (arith, taken.ends)) in
+    let place = gap_within 1 1 c.take_run-at.new.runs.items c.take_run-at.result.1 below c.take_run-at.result.0 taken.gap (omega arith)
+    (omega (arith, taken.ends)) in
     c.put_part.ensures.gap below place (omega (arith, c.requires.range.filled, c.end.ensures))
 
 pub returns-clause-free : goal.returns-clause-free
@@ -22,7 +23,9 @@ returns-clause-free c =
     let below : Range = record { start = x.start; count = r.start - x.start } in
     let m = c.take_run-at.new.runs.items in
     let free = free_of_gap 1 1 m r c.take_run-at.result.0 (gap_within 1 1 m x r c.take_run-at.result.0 taken.gap taken.starts taken.ends) in
-    free_cut x r above below refl (omega (arith, taken.starts)) (omega (arith, c.end.ensures)) (omega (arith, taken.ends, c.end.ensures, c.end-2.ensures, c.end-3.ensures)) c.args.runs.now.items m c.put_part.new.runs.items c.put_part-2.new.runs.items taken.same c.put_part.ensures.same c.put_part-2.ensures.same free
+    free_cut x r above below refl (omega (arith, taken.starts)) (omega (arith, c.end.ensures))
+    (omega (arith, taken.ends, c.end.ensures, c.end-2.ensures, c.end-3.ensures)) c.args.runs.now.items m c.put_part.new.runs.items
+    c.put_part-2.new.runs.items taken.same c.put_part.ensures.same c.put_part-2.ensures.same free
 
 pub returns-clause-same : goal.returns-clause-same
 returns-clause-same c =
@@ -32,4 +35,6 @@ returns-clause-same c =
     let above : Range = record { start = c.end.result; count = c.end-2.result - c.end-3.result } in
     let below : Range = record { start = x.start; count = r.start - x.start } in
     let m = c.take_run-at.new.runs.items in
-    same_cut x r above below refl (omega (arith, taken.starts)) (omega (arith, c.end.ensures)) (omega (arith, taken.ends, c.end.ensures, c.end-2.ensures, c.end-3.ensures)) c.args.runs.now.items m c.put_part.new.runs.items c.put_part-2.new.runs.items taken.same c.put_part.ensures.same c.put_part-2.ensures.same
+    same_cut x r above below refl (omega (arith, taken.starts)) (omega (arith, c.end.ensures))
+    (omega (arith, taken.ends, c.end.ensures, c.end-2.ensures, c.end-3.ensures)) c.args.runs.now.items m c.put_part.new.runs.items
+    c.put_part-2.new.runs.items taken.same c.put_part.ensures.same c.put_part-2.ensures.same

@@ -1,7 +1,7 @@
 use Rattle.std.proofs.Common.{◌≤◌, ◌-◌, vec_len}
 use Rattle.std.specs.Prelude.{IsTrue}
 use Rattle.rpm_file.specs.Browsing.{Browses}
-use Rattle.rpm_file.specs.Filling.{Extends}
+use Rattle.rpm_file.specs.inner.Filling.{Extends}
 use Rattle.rpm_file.proofs.filling.append_upto.Given as goal
 
 abbrev pub invariant-loop-bytes : goal.invariant-loop-bytes

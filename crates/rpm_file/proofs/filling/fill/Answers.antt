@@ -19,9 +19,22 @@ loop-done-preserved g c =
     let inside : done ≤ length into = c.loop-done.invariant.within in
     let came = λ (told : _). (reads_one (rest c.loop-done.shelf) (rest c.read.new.self) (take count part) (c.in_ok-count.ensures.taken told)).takes in
     record {
-      within = omega (arith, length-append (take done into) (part ++ post_of done room into), length-append part (post_of done room into), length-take-le done into inside);
+      within = omega (
+        arith,
+        length-append (take done into) (part ++ post_of done room into),
+        length-append part (post_of done room into),
+        length-take-le done into inside,
+      );
       taken = λ told. subst (Takes (rest c.args.shelf.now) (rest c.read.new.self)) (sym (front_put done room count into part inside (omega arith)))
-          (takes_then (rest c.args.shelf.now) (rest c.loop-done.shelf) (rest c.read.new.self) (take done into) (take count part) (c.loop-done.invariant.taken told) (came told));
-      browses = browses_then g.S.Shelf.tells g.S.Shelf.paths rest g.S.Shelf.absences g.S.Shelf.faults c.args.shelf.now c.loop-done.shelf c.read.new.self c.loop-done.invariant.browses
-          (record { paths_stay = c.in_ok-count.ensures.paths; taken = λ told. (take count part, came told); absences_stay = c.in_ok-count.ensures.absences; later = c.in_ok-count.ensures.cause.later });
+          (takes_then (rest c.args.shelf.now) (rest c.loop-done.shelf) (rest c.read.new.self) (take done into) (take count part)
+          (c.loop-done.invariant.taken told) (came told));
+      browses = browses_then g.S.Shelf.tells g.S.Shelf.paths rest g.S.Shelf.absences g.S.Shelf.faults c.args.shelf.now c.loop-done.shelf
+          c.read.new.self c.loop-done.invariant.browses
+          (record {
+            paths_stay = c.in_ok-count.ensures.paths;
+            taken = λ told. (take count part, came told);
+            absences_stay =
+                c.in_ok-count.ensures.absences;
+            later = c.in_ok-count.ensures.cause.later;
+          });
     }

@@ -1,5 +1,5 @@
 use Rattle.std.proofs.Common.{◌+◌, sym, subst, take, arith, Bool, Vec, Global}
-use Rattle.rpm_file.specs.Merging.{HasTags}
+use Rattle.rpm_file.specs.inner.Joining.{HasTags}
 use Rattle.rpm_file.proofs.Merged.{tags_begun, tags_noted, tags_kept}
 use Rattle.rpm_file.proofs.merging.tags_of.Goals as goal
 use Rattle.rpm_file.proofs.merging.tags_of.Goals.{then-tag-lt-TAGS, else-tag-lt-TAGS}
@@ -13,6 +13,8 @@ loop-i-preserved c =
     let i = c.loop-i.i in
     let after = λ (v : Vec Bool Global). HasTags (take (i + 1) entries) v.items in
     elim c.if-tag-lt-TAGS.branch [
-      | then-tag-lt-TAGS w ↦ (subst after (sym w.has-is) (tags_noted entries i c.tag-tag.result c.entry.result c.loop-i.has.items c.entry.ensures c.tag-tag.ensures w.if-tag-lt-TAGS.true c.loop-i.invariant))
-      | else-tag-lt-TAGS w ↦ (subst after (sym w.has-is) (tags_kept entries i c.entry.result c.loop-i.has.items c.entry.ensures (omega (arith, c.tag-tag.ensures, w.if-tag-lt-TAGS.false)) c.loop-i.invariant))
+      | then-tag-lt-TAGS w ↦ (subst after (sym w.has-is) (tags_noted entries i c.tag-tag.result c.entry.result c.loop-i.has.items c.entry.ensures
+          c.tag-tag.ensures w.if-tag-lt-TAGS.true c.loop-i.invariant))
+      | else-tag-lt-TAGS w ↦ (subst after (sym w.has-is) (tags_kept entries i c.entry.result c.loop-i.has.items c.entry.ensures
+          (omega (arith, c.tag-tag.ensures, w.if-tag-lt-TAGS.false)) c.loop-i.invariant))
     ]

@@ -23,10 +23,12 @@ returns-in_err-blob-clause-answers g c = λ told.
     let mid = left (g.S.Shelf.rest c.skip_padding.new.shelf) in
     let p = err_from_is_err_and c.from_residual-in_err-blob.result c.from_residual-in_err-blob.ensures.1 in
     let skipped = rw c.blob.ensures.value at c.in_ok-skip_padding.ensures.answers told in
-    rw (p.1, p.2) (passed (headed part.Main mid) (behind_signature s bytes) c.in_err-blob.field-0.0 (λ f is. main_fault s bytes mid f skipped is) (c.in_err-blob.ensures.answers told))
+    rw (p.1, p.2) (passed (headed part.Main mid) (behind_signature s bytes) c.in_err-blob.field-0.0 (λ f is. main_fault s bytes mid f skipped is)
+    (c.in_err-blob.ensures.answers told))
 
 pub returns-in_err-blob-clause-browses : goal.returns-in_err-blob-clause-browses
-returns-in_err-blob-clause-browses g c = browses_then g.S.Shelf.tells g.S.Shelf.paths g.S.Shelf.rest g.S.Shelf.absences g.S.Shelf.faults c.args.shelf.now c.skip_padding.new.shelf c.read_part.new.shelf c.skip_padding.ensures.browses c.read_part.ensures.browses
+returns-in_err-blob-clause-browses g c = browses_then g.S.Shelf.tells g.S.Shelf.paths g.S.Shelf.rest g.S.Shelf.absences g.S.Shelf.faults
+    c.args.shelf.now c.skip_padding.new.shelf c.read_part.new.shelf c.skip_padding.ensures.browses c.read_part.ensures.browses
 
 pub returns-in-Ok-clause-answers : goal.returns-in-Ok-clause-answers
 returns-in-Ok-clause-answers g c = λ told.
@@ -36,11 +38,13 @@ returns-in-Ok-clause-answers g c = λ told.
     let new = g.S.Shelf.rest c.read_part.new.shelf in
     let skipped = rw c.blob.ensures.value at c.in_ok-skip_padding.ensures.answers told in
     let front = c.in_ok-blob.ensures.answers told in
-    let whole = main_good s (left old) (left mid) c.in_ok-blob.blob.items (left new) skipped front c.in-Ok.main (c.in-Ok.ensures ∙ ap header c.deref.ensures.value) in
+    let whole = main_good s (left old) (left mid) c.in_ok-blob.blob.items (left new) skipped front c.in-Ok.main (c.in-Ok.ensures.value
+    ∙ ap header c.deref.ensures.value) in
     made_answers (behind_signature s) (merged s.entries c.in-Ok.main) old new c.joined.result whole c.joined.ensures
 
 pub returns-in-Ok-clause-browses : goal.returns-in-Ok-clause-browses
-returns-in-Ok-clause-browses g c = browses_then g.S.Shelf.tells g.S.Shelf.paths g.S.Shelf.rest g.S.Shelf.absences g.S.Shelf.faults c.args.shelf.now c.skip_padding.new.shelf c.read_part.new.shelf c.skip_padding.ensures.browses c.read_part.ensures.browses
+returns-in-Ok-clause-browses g c = browses_then g.S.Shelf.tells g.S.Shelf.paths g.S.Shelf.rest g.S.Shelf.absences g.S.Shelf.faults c.args.shelf.now
+    c.skip_padding.new.shelf c.read_part.new.shelf c.skip_padding.ensures.browses c.read_part.ensures.browses
 
 pub returns-in-Ok-clause-cause : goal.returns-in-Ok-clause-cause
 returns-in-Ok-clause-cause g c = record {
@@ -55,7 +59,9 @@ returns-clause-answers g c = λ told.
     let mid = left (g.S.Shelf.rest c.skip_padding.new.shelf) in
     let rest = left (g.S.Shelf.rest c.read_part.new.shelf) in
     let skipped = rw c.blob.ensures.value at c.in_ok-skip_padding.ensures.answers told in
-    main_bad s bytes mid c.in_ok-blob.blob.items rest skipped (c.in_ok-blob.ensures.answers told) c.in-Err.fault (c.in-Err.ensures ∙ ap header c.deref.ensures.value)
+    main_bad s bytes mid c.in_ok-blob.blob.items rest skipped (c.in_ok-blob.ensures.answers told) c.in-Err.fault (c.in-Err.ensures.value
+    ∙ ap header c.deref.ensures.value)
 
 pub returns-clause-browses : goal.returns-clause-browses
-returns-clause-browses g c = browses_then g.S.Shelf.tells g.S.Shelf.paths g.S.Shelf.rest g.S.Shelf.absences g.S.Shelf.faults c.args.shelf.now c.skip_padding.new.shelf c.read_part.new.shelf c.skip_padding.ensures.browses c.read_part.ensures.browses
+returns-clause-browses g c = browses_then g.S.Shelf.tells g.S.Shelf.paths g.S.Shelf.rest g.S.Shelf.absences g.S.Shelf.faults c.args.shelf.now
+    c.skip_padding.new.shelf c.read_part.new.shelf c.skip_padding.ensures.browses c.read_part.ensures.browses

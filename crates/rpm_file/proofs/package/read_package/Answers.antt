@@ -19,10 +19,12 @@ returns-in_err-blob-clause-answers g c = λ told.
     let mid = left (g.S.Shelf.rest c.skip_lead.new.shelf) in
     let p = err_from_is_err_and c.from_residual-in_err-blob.result c.from_residual-in_err-blob.ensures.1 in
     let lead = c.in_ok-skip_lead.ensures.answers told in
-    rw (p.1, p.2) (passed (headed part.Signature mid) (package_header bytes) c.in_err-blob.field-0.0 (λ f is. signature_fault bytes mid f lead is) (c.in_err-blob.ensures.answers told))
+    rw (p.1, p.2) (passed (headed part.Signature mid) (package_header bytes) c.in_err-blob.field-0.0 (λ f is. signature_fault bytes mid f lead is)
+    (c.in_err-blob.ensures.answers told))
 
 pub returns-in_err-blob-clause-browses : goal.returns-in_err-blob-clause-browses
-returns-in_err-blob-clause-browses g c = browses_then g.S.Shelf.tells g.S.Shelf.paths g.S.Shelf.rest g.S.Shelf.absences g.S.Shelf.faults c.args.shelf.now c.skip_lead.new.shelf c.read_part.new.shelf c.skip_lead.ensures.browses c.read_part.ensures.browses
+returns-in_err-blob-clause-browses g c = browses_then g.S.Shelf.tells g.S.Shelf.paths g.S.Shelf.rest g.S.Shelf.absences g.S.Shelf.faults
+    c.args.shelf.now c.skip_lead.new.shelf c.read_part.new.shelf c.skip_lead.ensures.browses c.read_part.ensures.browses
 
 pub returns-in-Ok-clause-answers : goal.returns-in-Ok-clause-answers
 returns-in-Ok-clause-answers g c = λ told.
@@ -30,20 +32,25 @@ returns-in-Ok-clause-answers g c = λ told.
     let lead = g.S.Shelf.rest c.skip_lead.new.shelf in
     let mid = g.S.Shelf.rest c.read_part.new.shelf in
     let new = g.S.Shelf.rest c.read_main.new.shelf in
-    let whole = signature_good (left old) (left lead) c.in_ok-blob.blob.items (left mid) (c.in_ok-skip_lead.ensures.answers told) (c.in_ok-blob.ensures.answers told) c.in-Ok.signature (c.in-Ok.ensures ∙ ap header c.deref.ensures.value) in
+    let whole = signature_good (left old) (left lead) c.in_ok-blob.blob.items (left mid) (c.in_ok-skip_lead.ensures.answers told)
+    (c.in_ok-blob.ensures.answers told) c.in-Ok.signature (c.in-Ok.ensures.value ∙ ap header c.deref.ensures.value) in
     whole_answers c.in-Ok.signature old mid new c.read_main.result whole (c.read_main.ensures.answers told)
 
 pub returns-in-Ok-clause-browses : goal.returns-in-Ok-clause-browses
 returns-in-Ok-clause-browses g c =
-    let first = browses_then g.S.Shelf.tells g.S.Shelf.paths g.S.Shelf.rest g.S.Shelf.absences g.S.Shelf.faults c.args.shelf.now c.skip_lead.new.shelf c.read_part.new.shelf c.skip_lead.ensures.browses c.read_part.ensures.browses in
-    browses_then g.S.Shelf.tells g.S.Shelf.paths g.S.Shelf.rest g.S.Shelf.absences g.S.Shelf.faults c.args.shelf.now c.read_part.new.shelf c.read_main.new.shelf first c.read_main.ensures.browses
+    let first = browses_then g.S.Shelf.tells g.S.Shelf.paths g.S.Shelf.rest g.S.Shelf.absences g.S.Shelf.faults c.args.shelf.now c.skip_lead.new.shelf
+    c.read_part.new.shelf c.skip_lead.ensures.browses c.read_part.ensures.browses in
+    browses_then g.S.Shelf.tells g.S.Shelf.paths g.S.Shelf.rest g.S.Shelf.absences g.S.Shelf.faults c.args.shelf.now c.read_part.new.shelf
+    c.read_main.new.shelf first c.read_main.ensures.browses
 
 pub returns-clause-answers : goal.returns-clause-answers
 returns-clause-answers g c = λ told.
     let bytes = left (g.S.Shelf.rest c.args.shelf.now) in
     let mid = left (g.S.Shelf.rest c.skip_lead.new.shelf) in
     let rest = left (g.S.Shelf.rest c.read_part.new.shelf) in
-    signature_bad bytes mid c.in_ok-blob.blob.items rest (c.in_ok-skip_lead.ensures.answers told) (c.in_ok-blob.ensures.answers told) c.in-Err.fault (c.in-Err.ensures ∙ ap header c.deref.ensures.value)
+    signature_bad bytes mid c.in_ok-blob.blob.items rest (c.in_ok-skip_lead.ensures.answers told) (c.in_ok-blob.ensures.answers told) c.in-Err.fault
+    (c.in-Err.ensures.value ∙ ap header c.deref.ensures.value)
 
 pub returns-clause-browses : goal.returns-clause-browses
-returns-clause-browses g c = browses_then g.S.Shelf.tells g.S.Shelf.paths g.S.Shelf.rest g.S.Shelf.absences g.S.Shelf.faults c.args.shelf.now c.skip_lead.new.shelf c.read_part.new.shelf c.skip_lead.ensures.browses c.read_part.ensures.browses
+returns-clause-browses g c = browses_then g.S.Shelf.tells g.S.Shelf.paths g.S.Shelf.rest g.S.Shelf.absences g.S.Shelf.faults c.args.shelf.now
+    c.skip_lead.new.shelf c.read_part.new.shelf c.skip_lead.ensures.browses c.read_part.ensures.browses

@@ -12,4 +12,5 @@ returns-in-Ok-None-clause-answers g c = λ told.
 
 pub returns-in-Err-clause-answers : goal.returns-in-Err-clause-answers
 returns-in-Err-clause-answers g c = λ told.
-    subst (IsFileFault (headed c.args.part (left (g.S.Shelf.rest c.args.shelf.now)))) (sym c.early_fault.ensures) (headed_fault c.args.part (left (g.S.Shelf.rest c.args.shelf.now)) c.in-Err.fault (c.in-Err.ensures.answers told))
+    subst (IsFileFault (headed c.args.part (left (g.S.Shelf.rest c.args.shelf.now)))) (sym c.early_fault.ensures)
+    (headed_fault c.args.part (left (g.S.Shelf.rest c.args.shelf.now)) c.in-Err.fault (c.in-Err.ensures.answers told))

@@ -1,16 +1,18 @@
 use Rattle.std.proofs.Common.{ℕ, List, arith}
 use Rattle.rpm_outside.specs.Files.{Files}
 use Rattle.rpm_outside.specs.Crash.{LeavesOnly}
-use Rattle.rpm_outside.specs.Moments.{leaves_then, leaves_weaker}
-use Rattle.rpm_outside.specs.Leaves.{then_back}
+use Rattle.rpm_outside.specs.inner.Moments.{leaves_then, leaves_weaker}
+use Rattle.rpm_outside.specs.inner.Leaves.{then_back}
 use Rattle.rpm_outside.specs.Logs.{Entry}
 use Rattle.rpm_outside.specs.EntryLaws.{within_then}
-use Rattle.rpm_group.specs.Settled.{WasWithin}
+use Rattle.rpm_group.specs.inner.Leavings.{WasWithin}
 use Rattle.rpm_group.proofs.commit.apply_held.Goals as goal
 
 -- two runs of writes that the same entries make
-both_within : {D : Type 0} (moment : D → ℕ) (left_since : D → ℕ → Files → Type 0) (entries : List Entry) (old mid new : D) → ((image : Files) → left_since mid (moment mid) image → left_since mid (moment old) image)
-    → LeavesOnly moment left_since old mid (WasWithin entries (left_since old (moment old))) → LeavesOnly moment left_since mid new (WasWithin entries (left_since mid (moment mid)))
+both_within : {D : Type 0} (moment : D → ℕ) (left_since : D → ℕ → Files → Type 0) (entries : List Entry) (old mid new : D)
+    → ((image : Files) → left_since mid (moment mid) image → left_since mid (moment old) image)
+    → LeavesOnly moment left_since old mid (WasWithin entries (left_since old (moment old)))
+    → LeavesOnly moment left_since mid new (WasWithin entries (left_since mid (moment mid)))
     → LeavesOnly moment left_since old new (WasWithin entries (left_since old (moment old)))
 both_within moment left_since entries old mid new earlier one two =
     leaves_then moment left_since old mid new (WasWithin entries (left_since old (moment old))) one
@@ -36,7 +38,8 @@ returns-clause-images g c = λ told entries group.
     let mid = c.apply_runs.new.disk in
     let last = c.apply_runs-2.new.disk in
     then_back D.moment D.left_since old last c.settle_files.new.disk (WasWithin entries (D.left_since old (D.moment old)))
-    (λ image left. g.met.D.Disk.earlier last (D.moment old) (D.moment last) image told (omega (arith, c.apply_runs.ensures.reads.later, c.apply_runs-2.ensures.reads.later)) (omega arith) left)
+    (λ image left. g.met.D.Disk.earlier last (D.moment old) (D.moment last) image told
+    (omega (arith, c.apply_runs.ensures.reads.later, c.apply_runs-2.ensures.reads.later)) (omega arith) left)
     (both_within D.moment D.left_since entries old mid last
     (λ image left. g.met.D.Disk.earlier mid (D.moment old) (D.moment mid) image told c.apply_runs.ensures.reads.later (omega arith) left)
     (c.apply_runs.ensures.images told entries group.pkg) (c.apply_runs-2.ensures.images told entries group.idx))

@@ -2,7 +2,7 @@ use Rattle.std.proofs.Common.{◌≡◌, ◌^◌, ◌++◌, sym, ap, subst, ◌�
 use Rattle.rpm_outside.specs.declared.disk.File.TheVariants.{Log}
 use Rattle.rpm_outside.specs.Files.{Files}
 use Rattle.rpm_outside.specs.Changed.{ChangedIn, WasChanged, changed_then, changed_more}
-use Rattle.rpm_outside.specs.Leaves.{sync_leaves}
+use Rattle.rpm_outside.specs.inner.Leaves.{sync_leaves}
 use Rattle.rpm_outside.specs.LogWrites.{EntriesIn}
 use Rattle.rpm_group.proofs.Committing.{group_of, tail_of, log_leaves, log_settled}
 use Rattle.rpm_group.proofs.commit.log_held.Goals as goal
@@ -27,7 +27,8 @@ returns-in_err-sync-clause-images g c = λ told.
     (λ image left. g.met.D.Disk.earlier mid (D.moment old) (D.moment mid) image told c.log_runs.ensures.reads.later (omega arith) left)
     (c.log_runs.ensures.images told) (c.log_runs-2.ensures.images told))
     (c.sync.ensures.time told) (c.sync.ensures.images told)
-    (λ image left. g.met.D.Disk.earlier last (D.moment old) (D.moment last) image told (omega (arith, c.log_runs.ensures.reads.later, c.log_runs-2.ensures.reads.later)) (omega arith) left)
+    (λ image left. g.met.D.Disk.earlier last (D.moment old) (D.moment last) image told
+    (omega (arith, c.log_runs.ensures.reads.later, c.log_runs-2.ensures.reads.later)) (omega arith) left)
 
 pub returns-clause-images : goal.returns-clause-images
 returns-clause-images g c = λ told.
@@ -40,7 +41,8 @@ returns-clause-images g c = λ told.
     (λ image left. g.met.D.Disk.earlier mid (D.moment old) (D.moment mid) image told c.log_runs.ensures.reads.later (omega arith) left)
     (c.log_runs.ensures.images told) (c.log_runs-2.ensures.images told))
     (c.sync.ensures.time told) (c.sync.ensures.images told)
-    (λ image left. g.met.D.Disk.earlier last (D.moment old) (D.moment last) image told (omega (arith, c.log_runs.ensures.reads.later, c.log_runs-2.ensures.reads.later)) (omega arith) left)
+    (λ image left. g.met.D.Disk.earlier last (D.moment old) (D.moment last) image told
+    (omega (arith, c.log_runs.ensures.reads.later, c.log_runs-2.ensures.reads.later)) (omega arith) left)
 
 pub returns-clause-logged : goal.returns-clause-logged
 returns-clause-logged g c = λ told.
@@ -49,7 +51,8 @@ returns-clause-logged g c = λ told.
     let one = c.in_ok-middle.ensures.logged told in
     let two = c.in_ok-tail.ensures.logged told in
     let group = group_of held one.0 two.0 one.1 two.1 in
-    let placed = tail_of one.0 two.0 c.in_ok-middle.middle.at c.in_ok-tail.tail.at (D.files c.log_runs.new.disk) (D.files c.log_runs-2.new.disk) one.2 two.2 (c.in_ok-tail.ensures.changed told) in
+    let placed = tail_of one.0 two.0 c.in_ok-middle.middle.at c.in_ok-tail.tail.at (D.files c.log_runs.new.disk) (D.files c.log_runs-2.new.disk) one.2
+    two.2 (c.in_ok-tail.ensures.changed told) in
     let same : D.files c.log_runs-2.new.disk ≡ D.files c.sync.new.self = sym (c.sync.ensures.same told) in (
       one.0 ++ two.0,
       group,
@@ -68,7 +71,10 @@ returns-clause-settled g c = λ told.
     let last : Files = D.files c.log_runs-2.new.disk in
     let same : last ≡ D.files new = sym (c.sync.ensures.same told) in
     let changed : ChangedIn Log 1 (2 ^ 28) (D.files old) (D.files new) = subst (λ (f : Files). ChangedIn Log 1 (2 ^ 28) (D.files old) f) same
-    (changed_then Log 1 (2 ^ 28) (D.files old) first last (c.in_ok-middle.ensures.changed told) (changed_more Log c.in_ok-middle.middle.at (2 ^ 28) 1 (2 ^ 28) first last (omega (arith, c.in_ok-middle.ensures.at)) (omega arith) (c.in_ok-tail.ensures.changed told))) in
+    (changed_then Log 1 (2 ^ 28) (D.files old) first last (c.in_ok-middle.ensures.changed told)
+    (changed_more Log c.in_ok-middle.middle.at (2 ^ 28) 1 (2 ^ 28) first last (omega (arith, c.in_ok-middle.ensures.at)) (omega arith)
+    (c.in_ok-tail.ensures.changed told))) in
     log_settled D.moment D.left_since old new (D.files old) (D.files new) (c.requires.settled told) changed (returns-clause-images g c told)
-    (λ image left. g.met.D.Disk.earlier new (D.moment old) (D.moment new) image told (omega (arith, c.log_runs.ensures.reads.later, c.log_runs-2.ensures.reads.later, c.sync.ensures.later)) (omega arith) left)
+    (λ image left. g.met.D.Disk.earlier new (D.moment old) (D.moment new) image told
+    (omega (arith, c.log_runs.ensures.reads.later, c.log_runs-2.ensures.reads.later, c.sync.ensures.later)) (omega arith) left)
     (λ image left. c.in_ok-sync.ensures.settled told image left ∙ ap (λ (f : Files). f.log) same)

@@ -1,7 +1,7 @@
 use Rattle.std.proofs.Common.{arith}
 use Rattle.rpm_outside.specs.Files.{Files, units_of}
-use Rattle.rpm_outside.specs.Cuts.{cut_up_one}
-use Rattle.rpm_outside.specs.Leaves.{sync_leaves}
+use Rattle.rpm_outside.specs.inner.Cuts.{cut_up_one}
+use Rattle.rpm_outside.specs.inner.Leaves.{sync_leaves}
 use Rattle.rpm_outside.specs.Logs.{unlogged, with_entries}
 use Rattle.rpm_group.specs.Groups.{BeforeOrAfter}
 use Rattle.rpm_group.proofs.Committing.{opens, gate_leaves, gate_opened}
@@ -12,8 +12,10 @@ returns-in_err-write_at-clause-images g c = λ told entries is.
     let D = g.D.Disk in
     let files : Files = D.files c.args.disk.now in
     let gate = c.unit_of-gate.result in
-    gate_leaves D.moment D.left_since c.args.disk.now c.write_at.new.self files gate (units_of gate) entries c.args.tail (cut_up_one gate c.unit_of-gate.ensures.long)
-    (opens gate entries c.args.tail files.log c.unit_of-gate.ensures is c.requires.some c.requires.place) (c.requires.closed told) (c.requires.settled told) (c.write_at.ensures.images told) (c.write_at.ensures.time told)
+    gate_leaves D.moment D.left_since c.args.disk.now c.write_at.new.self files gate (units_of gate) entries c.args.tail
+    (cut_up_one gate c.unit_of-gate.ensures.long)
+    (opens gate entries c.args.tail files.log c.unit_of-gate.ensures is c.requires.some c.requires.place) (c.requires.closed told)
+    (c.requires.settled told) (c.write_at.ensures.images told) (c.write_at.ensures.time told)
 
 pub returns-in_err-sync-clause-images : goal.returns-in_err-sync-clause-images
 returns-in_err-sync-clause-images g c = λ told entries is.
@@ -24,7 +26,8 @@ returns-in_err-sync-clause-images g c = λ told entries is.
     let gate = c.unit_of-gate.result in
     sync_leaves D.moment D.left_since old mid c.sync.new.self (BeforeOrAfter (unlogged files) (with_entries entries (unlogged files)))
     (gate_leaves D.moment D.left_since old mid files gate (units_of gate) entries c.args.tail (cut_up_one gate c.unit_of-gate.ensures.long)
-    (opens gate entries c.args.tail files.log c.unit_of-gate.ensures is c.requires.some c.requires.place) (c.requires.closed told) (c.requires.settled told) (c.write_at.ensures.images told) (c.write_at.ensures.time told))
+    (opens gate entries c.args.tail files.log c.unit_of-gate.ensures is c.requires.some c.requires.place) (c.requires.closed told)
+    (c.requires.settled told) (c.write_at.ensures.images told) (c.write_at.ensures.time told))
     (c.sync.ensures.time told) (c.sync.ensures.images told)
     (λ image left. g.met.D.Disk.earlier mid (D.moment old) (D.moment mid) image told c.write_at.ensures.later (omega arith) left)
 
@@ -37,7 +40,8 @@ returns-clause-images g c = λ told entries is.
     let gate = c.unit_of-gate.result in
     sync_leaves D.moment D.left_since old mid c.sync.new.self (BeforeOrAfter (unlogged files) (with_entries entries (unlogged files)))
     (gate_leaves D.moment D.left_since old mid files gate (units_of gate) entries c.args.tail (cut_up_one gate c.unit_of-gate.ensures.long)
-    (opens gate entries c.args.tail files.log c.unit_of-gate.ensures is c.requires.some c.requires.place) (c.requires.closed told) (c.requires.settled told) (c.write_at.ensures.images told) (c.write_at.ensures.time told))
+    (opens gate entries c.args.tail files.log c.unit_of-gate.ensures is c.requires.some c.requires.place) (c.requires.closed told)
+    (c.requires.settled told) (c.write_at.ensures.images told) (c.write_at.ensures.time told))
     (c.sync.ensures.time told) (c.sync.ensures.images told)
     (λ image left. g.met.D.Disk.earlier mid (D.moment old) (D.moment mid) image told c.write_at.ensures.later (omega arith) left)
 
@@ -46,5 +50,7 @@ returns-clause-open g c = λ told entries is.
     let D = g.D.Disk in
     let files : Files = D.files c.args.disk.now in
     let gate = c.unit_of-gate.result in
-    gate_opened files (D.files c.write_at.new.self) (D.files c.sync.new.self) gate (units_of gate) entries c.args.tail (cut_up_one gate c.unit_of-gate.ensures.long)
-    (opens gate entries c.args.tail files.log c.unit_of-gate.ensures is c.requires.some c.requires.place) (c.in_ok-write_at.ensures.written told) (c.sync.ensures.same told)
+    gate_opened files (D.files c.write_at.new.self) (D.files c.sync.new.self) gate (units_of gate) entries c.args.tail
+    (cut_up_one gate c.unit_of-gate.ensures.long)
+    (opens gate entries c.args.tail files.log c.unit_of-gate.ensures is c.requires.some c.requires.place) (c.in_ok-write_at.ensures.written told)
+    (c.sync.ensures.same told)

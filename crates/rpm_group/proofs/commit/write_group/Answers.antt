@@ -2,7 +2,7 @@ use Rattle.std.proofs.Common.{inl, inr, ◌+◌, sym, ap, ◌∙◌, arith}
 use Rattle.std.proofs.lemmas.Bool.{cases_lt}
 use Rattle.rpm_outside.specs.Files.{Files}
 use Rattle.rpm_outside.specs.Logs.{LogState, unlogged, with_entries}
-use Rattle.rpm_outside.specs.LogLaws.{log_not_log}
+use Rattle.rpm_outside.specs.inner.LogLaws.{log_not_log}
 use Rattle.rpm_group.specs.Readings.{entries_of}
 use Rattle.rpm_group.specs.Groups.{runs_of}
 use Rattle.rpm_group.proofs.Countings.{no_runs}
@@ -13,7 +13,8 @@ use Rattle.rpm_group.proofs.commit.write_group.Goals as goal
 pub returns-in_err-tail-clause-images : goal.returns-in_err-tail-clause-images
 returns-in_err-tail-clause-images g c = λ told.
     let D = g.D.Disk in
-    stage_one D.moment D.left_since c.args.held.now (D.files c.args.disk.now) c.args.disk.now c.log_held.new.disk (c.requires.closed told) (c.requires.settled told) (c.log_held.ensures.images told)
+    stage_one D.moment D.left_since c.args.held.now (D.files c.args.disk.now) c.args.disk.now c.log_held.new.disk (c.requires.closed told)
+    (c.requires.settled told) (c.log_held.ensures.images told)
 
 pub open_log-requires-clause-some : goal.open_log-requires-clause-some
 open_log-requires-clause-some g c =
@@ -21,13 +22,20 @@ open_log-requires-clause-some g c =
     elim (cases_lt 0 (runs_of held.pkg + runs_of held.idx)) [
       | inl some ↦ omega (arith, some, c.in_ok-tail.ensures.entries)
       | inr none ↦
-          absurd (omega (arith, c.requires.some, no_runs held.pkg.table.items held.pkg.end (omega (arith, none)), no_runs held.idx.table.items held.idx.end (omega (arith, none))))
+          absurd (omega (
+            arith,
+            c.requires.some,
+            no_runs held.pkg.table.items held.pkg.end (omega (arith, none)),
+            no_runs held.idx.table.items
+                held.idx.end (omega (arith, none)),
+          ))
     ]
 
 pub open_log-requires-clause-closed : goal.open_log-requires-clause-closed
 open_log-requires-clause-closed g c = λ told.
     let D = g.D.Disk in
-    still_closed (D.files c.args.disk.now) (D.files c.log_held.new.disk) 1 268_435_456 (omega arith) (c.requires.closed told) (c.in_ok-tail.ensures.changed told)
+    still_closed (D.files c.args.disk.now) (D.files c.log_held.new.disk) 1 268_435_456 (omega arith) (c.requires.closed told)
+    (c.in_ok-tail.ensures.changed told)
 
 pub returns-in_err-open_log-clause-images : goal.returns-in_err-open_log-clause-images
 returns-in_err-open_log-clause-images g c = λ told.
@@ -55,7 +63,8 @@ returns-in_err-apply_held-clause-images g c = λ told.
     (stage_two D.moment D.left_since held files old first second (D.files first) logged.0
     (stage_one D.moment D.left_since held files old first (c.requires.closed told) (c.requires.settled told) (c.log_held.ensures.images told))
     same_first logged.1 (c.open_log.ensures.images told logged.0 logged.2))
-    (c.open_log.ensures.same told ∙ same_first) logged.1 (c.in_ok-open_log.ensures.open told logged.0 logged.2) (c.in_ok-open_log.ensures.settled told) (c.apply_held.ensures.images told logged.0 logged.1)
+    (c.open_log.ensures.same told ∙ same_first) logged.1 (c.in_ok-open_log.ensures.open told logged.0 logged.2)
+    (c.in_ok-open_log.ensures.settled told) (c.apply_held.ensures.images told logged.0 logged.1)
 
 pub close_log-requires-clause-settled : goal.close_log-requires-clause-settled
 close_log-requires-clause-settled g c = λ told.
@@ -98,5 +107,6 @@ returns-clause-images g c = λ told.
     (stage_two D.moment D.left_since held files old first second (D.files first) logged.0
     (stage_one D.moment D.left_since held files old first (c.requires.closed told) (c.requires.settled told) (c.log_held.ensures.images told))
     same_first logged.1 (c.open_log.ensures.images told logged.0 logged.2))
-    same_second logged.1 (c.in_ok-open_log.ensures.open told logged.0 logged.2) (c.in_ok-open_log.ensures.settled told) (c.apply_held.ensures.images told logged.0 logged.1))
+    same_second logged.1 (c.in_ok-open_log.ensures.open told logged.0 logged.2) (c.in_ok-open_log.ensures.settled told)
+    (c.apply_held.ensures.images told logged.0 logged.1))
     same_second (c.in_ok-apply_held.ensures.written told) (c.close_log.ensures.images told)

@@ -1,11 +1,11 @@
 use Rattle.std.proofs.Common.{◌≡◌, ℕ, ◌+◌, ◌-◌, ◌<◌, ◌++◌, ◌∷◌, [], refl, sym, ap, subst, ◌∙◌, arith}
 use Rattle.rpm_outside.specs.Files.{Files}
-use Rattle.rpm_outside.specs.Moments.{started}
+use Rattle.rpm_outside.specs.inner.Moments.{started}
 use Rattle.rpm_outside.specs.Logs.{with_entry}
 use Rattle.rpm_outside.specs.EntryLaws.{within_none}
 use Rattle.rpm_group.specs.LogReads.{nothing_none, nothing_then}
-use Rattle.rpm_group.specs.Logged.{Logged, run_entry}
-use Rattle.rpm_group.specs.Settled.{WasWithin}
+use Rattle.rpm_group.specs.inner.Logged.{Logged, run_entry}
+use Rattle.rpm_group.specs.inner.Leavings.{WasWithin}
 use Rattle.rpm_group.proofs.Applied.{within_more, with_entries-append}
 use Rattle.rpm_group.proofs.Countings.{none_begun, gap_begins, run_begins}
 use Rattle.rpm_group.proofs.LoggedLaws.{logged_none, logged_gap, logged_more, logged_laid}
@@ -19,7 +19,8 @@ loop-at-init g c =
       end = omega arith;
       starts = λ some. absurd (omega (arith, some));
       written = λ told. ([], logged_none c.args.file c.args.pages.now.table.items (none_begun c.args.pages.now.table.items), refl);
-      images = λ told entries covers. started D.moment D.left_since old (WasWithin entries (D.left_since old (D.moment old))) (λ image left. (image, left, within_none entries image));
+      images = λ told entries covers. started D.moment D.left_since old (WasWithin entries (D.left_since old (D.moment old)))
+          (λ image left. (image, left, within_none entries image));
       reads = nothing_none _ _ _ g.met.D.Disk.follows_refl old;
       faults = omega arith;
     }
@@ -56,14 +57,17 @@ loop-at-preserved-in_ok-write_run g c =
           let so_far = inv.written told in
           let entry = run_entry c.args.file table first.result stop.result in (
             so_far.0 ++ entry ∷ [],
-            logged_more so_far.0 c.args.file table c.loop-at.at first.result so_far.1 first.ensures.from first.ensures.between stop.result c.if-first-stop.true stop.ensures.between
-                (run_begins table c.loop-at.at first.result first.ensures.from first.ensures.between stop.result c.if-first-stop.true stop.ensures.between starts),
+            logged_more so_far.0 c.args.file table c.loop-at.at first.result so_far.1 first.ensures.from first.ensures.between stop.result
+                c.if-first-stop.true stop.ensures.between
+                (run_begins table c.loop-at.at first.result first.ensures.from first.ensures.between stop.result c.if-first-stop.true
+                stop.ensures.between starts),
             c.in_ok-write_run.ensures.written told
                 ∙ ap (λ (f : Files). with_entry entry f) so_far.2
                 ∙ sym (with_entries-append so_far.0 (entry ∷ []) (D.files old)),
           );
       images = λ told entries covers.
-          within_more D.moment D.left_since entries c.args.file first.result (first.result + (stop.result - first.result)) old mid c.write_run.new.disk (omega (arith, c.if-first-stop.true))
+          within_more D.moment D.left_since entries c.args.file first.result (first.result + (stop.result - first.result)) old mid
+          c.write_run.new.disk (omega (arith, c.if-first-stop.true))
           (λ i low high. covers i (omega (arith, high, whole, stop.ensures.end)) (stop.ensures.between i low (omega (arith, high, whole))))
           (λ image left. g.met.D.Disk.earlier mid (D.moment old) (D.moment mid) image told inv.reads.later (omega arith) left)
           (inv.images told entries covers) (c.write_run.ensures.images told);
@@ -84,7 +88,9 @@ loop-at-preserved g c =
       written = λ told.
           let so_far = inv.written told in (
             so_far.0,
-            subst (λ (i : ℕ). Logged so_far.0 c.args.file table i) (sym same) (logged_gap so_far.0 c.args.file table c.loop-at.at first.result so_far.1 first.ensures.from first.ensures.between (gap_begins table c.loop-at.at first.result first.ensures.from first.ensures.between)),
+            subst (λ (i : ℕ). Logged so_far.0 c.args.file table i) (sym same)
+                (logged_gap so_far.0 c.args.file table c.loop-at.at first.result so_far.1 first.ensures.from first.ensures.between
+                (gap_begins table c.loop-at.at first.result first.ensures.from first.ensures.between)),
             so_far.2,
           );
       images = inv.images;
@@ -97,4 +103,5 @@ returns-clause-written g c = λ told.
     let pages = c.args.pages.now in
     let so_far = c.loop-at.invariant.written told in
     let done : c.loop-at.at ≡ pages.end = omega (arith, c.loop-at.invariant.end) in
-    so_far.2 ∙ logged_laid so_far.0 c.args.file pages.table.items pages.end (subst (λ (i : ℕ). Logged so_far.0 c.args.file pages.table.items i) done so_far.1) pages.past pages.last (g.D.Disk.files c.args.disk.now)
+    so_far.2 ∙ logged_laid so_far.0 c.args.file pages.table.items pages.end (subst (λ (i : ℕ). Logged so_far.0 c.args.file pages.table.items i) done
+    so_far.1) pages.past pages.last (g.D.Disk.files c.args.disk.now)

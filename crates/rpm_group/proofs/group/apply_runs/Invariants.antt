@@ -3,8 +3,8 @@ use Rattle.rpm_outside.specs.Crash.{LeavesOnly}
 use Rattle.rpm_outside.specs.Logs.{Entry, with_entries}
 use Rattle.rpm_group.specs.Counts.{is_held}
 use Rattle.rpm_group.specs.LogReads.{ReadsNothing}
-use Rattle.rpm_group.specs.Logged.{Logged, CoversHeld}
-use Rattle.rpm_group.specs.Settled.{WasWithin}
+use Rattle.rpm_group.specs.inner.Logged.{Logged, CoversHeld}
+use Rattle.rpm_group.specs.inner.Leavings.{WasWithin}
 use Rattle.rpm_group.proofs.group.apply_runs.Given as goal
 
 abbrev pub invariant-loop-at : goal.invariant-loop-at
@@ -16,7 +16,8 @@ invariant-loop-at g l =
       end : l.at ≤ l.end;
       starts : 0 < l.at → l.at < l.end → is_held table l.at ≡ false;
       written : IsTrue D.tells → (entries : List Entry) × Logged entries l.file table l.at × (D.files l.disk ≡ with_entries entries (D.files old));
-      images : IsTrue D.tells → (entries : List Entry) → CoversHeld entries l.file table l.end → LeavesOnly D.moment D.left_since old l.disk (WasWithin entries (D.left_since old (D.moment old)));
+      images : IsTrue D.tells → (entries : List Entry) → CoversHeld entries l.file table l.end
+          → LeavesOnly D.moment D.left_since old l.disk (WasWithin entries (D.left_since old (D.moment old)));
       reads : ReadsNothing D.moment D.bytes_read D.follows old l.disk;
       faults : D.faults old ≤ D.faults l.disk;
     }

@@ -5,8 +5,8 @@ use Rattle.rpm_outside.specs.Changed.{LeavesChanged, leaves_none, changed_none, 
 use Rattle.rpm_group.specs.Held.{Table}
 use Rattle.rpm_group.specs.Counts.{begins_run, count_below, log_units}
 use Rattle.rpm_group.specs.LogReads.{nothing_none, nothing_then}
-use Rattle.rpm_group.specs.Logged.{Logged, run_entry}
-use Rattle.rpm_group.specs.Words.{IsHeadOf}
+use Rattle.rpm_group.specs.inner.Logged.{Logged, run_entry}
+use Rattle.rpm_group.specs.inner.Words.{IsHeadOf}
 use Rattle.rpm_group.proofs.Runs.{length-units_held}
 use Rattle.rpm_group.proofs.Countings.{none_begun, log_units_none, gap_begins, gap_counted, run_begins, run_counted, log_units_later}
 use Rattle.rpm_group.proofs.Entering.{entered_more, put_changed}
@@ -31,7 +31,8 @@ loop-at-init g c =
     }
 
 -- there is room for one more run
-room_here : (table : Table) (place tail at first stop end : ℕ) → place ≡ tail + log_units table at → log_units table stop ≡ log_units table at + 1 + (stop - first) → stop ≤ end → tail + log_units table end ≤ 2 ^ 28 → place + 1 + (stop - first) ≤ 2 ^ 28
+room_here : (table : Table) (place tail at first stop end : ℕ) → place ≡ tail + log_units table at → log_units table stop ≡ log_units table at + 1
+    + (stop - first) → stop ≤ end → tail + log_units table end ≤ 2 ^ 28 → place + 1 + (stop - first) ≤ 2 ^ 28
 room_here table place tail at first stop end is counted below room = omega (arith, is, counted, log_units_later table stop end below, room)
 
 pub log_run-requires-clause-room : goal.log_run-requires-clause-room
@@ -41,7 +42,8 @@ log_run-requires-clause-room g c =
     let first = c.next_unit-first in
     let stop = c.next_unit-stop in
     room_here table c.loop-at.next.at c.args.tail.at c.loop-at.at first.result stop.result c.args.pages.now.end inv.place
-    (run_counted table c.loop-at.at first.result first.ensures.from first.ensures.between stop.result c.if-first-stop.true stop.ensures.between (λ some. inv.starts some c.loop-at-test.true)) stop.ensures.end c.requires.room
+    (run_counted table c.loop-at.at first.result first.ensures.from first.ensures.between stop.result c.if-first-stop.true stop.ensures.between
+    (λ some. inv.starts some c.loop-at-test.true)) stop.ensures.end c.requires.room
 
 pub overflow_add-next : goal.overflow_add-next
 overflow_add-next g c =
@@ -50,7 +52,8 @@ overflow_add-next g c =
     let first = c.next_unit-first in
     let stop = c.next_unit-stop in
     let room = room_here table c.loop-at.next.at c.args.tail.at c.loop-at.at first.result stop.result c.args.pages.now.end inv.place
-    (run_counted table c.loop-at.at first.result first.ensures.from first.ensures.between stop.result c.if-first-stop.true stop.ensures.between (λ some. inv.starts some c.loop-at-test.true)) stop.ensures.end c.requires.room in
+    (run_counted table c.loop-at.at first.result first.ensures.from first.ensures.between stop.result c.if-first-stop.true stop.ensures.between
+    (λ some. inv.starts some c.loop-at-test.true)) stop.ensures.end c.requires.room in
     omega arith
 
 pub overflow_add-next-then-first-stop : goal.overflow_add-next-then-first-stop
@@ -60,7 +63,8 @@ overflow_add-next-then-first-stop g c =
     let first = c.next_unit-first in
     let stop = c.next_unit-stop in
     let room = room_here table c.loop-at.next.at c.args.tail.at c.loop-at.at first.result stop.result c.args.pages.now.end inv.place
-    (run_counted table c.loop-at.at first.result first.ensures.from first.ensures.between stop.result c.if-first-stop.true stop.ensures.between (λ some. inv.starts some c.loop-at-test.true)) stop.ensures.end c.requires.room in
+    (run_counted table c.loop-at.at first.result first.ensures.from first.ensures.between stop.result c.if-first-stop.true stop.ensures.between
+    (λ some. inv.starts some c.loop-at-test.true)) stop.ensures.end c.requires.room in
     omega arith
 
 pub overflow_add-next-then-first-stop-2 : goal.overflow_add-next-then-first-stop-2
@@ -72,9 +76,11 @@ overflow_add-next-then-first-stop-2 g c =
 -- what a stop leaves of one run more
 run_leaves : {D : Type 0} (moment : D → ℕ) (left_since : D → ℕ → Files → Type 0) (start place end : ℕ) (old mid new : D) → start ≤ place → end ≤ 2 ^ 28
     → ((image : Files) → left_since mid (moment mid) image → left_since mid (moment old) image)
-    → LeavesChanged moment left_since Log start (2 ^ 28) old mid → LeavesChanged moment left_since Log place end mid new → LeavesChanged moment left_since Log start (2 ^ 28) old new
+    → LeavesChanged moment left_since Log start (2 ^ 28) old mid → LeavesChanged moment left_since Log place end mid new
+    → LeavesChanged moment left_since Log start (2 ^ 28) old new
 run_leaves moment left_since start place end old mid new low high earlier one two =
-    changed_leaves_then moment left_since Log start (2 ^ 28) old mid new earlier one (changed_leaves_more moment left_since Log place end start (2 ^ 28) mid new low high two)
+    changed_leaves_then moment left_since Log start (2 ^ 28) old mid new earlier one
+    (changed_leaves_more moment left_since Log place end start (2 ^ 28) mid new low high two)
 
 pub returns-in_err-log_run-clause-images : goal.returns-in_err-log_run-clause-images
 returns-in_err-log_run-clause-images g c = λ told.
@@ -86,8 +92,10 @@ returns-in_err-log_run-clause-images g c = λ told.
     let first = c.next_unit-first in
     let stop = c.next_unit-stop in
     let room = room_here table c.loop-at.next.at c.args.tail.at c.loop-at.at first.result stop.result c.args.pages.now.end inv.place
-    (run_counted table c.loop-at.at first.result first.ensures.from first.ensures.between stop.result c.if-first-stop.true stop.ensures.between (λ some. inv.starts some c.loop-at-test.true)) stop.ensures.end c.requires.room in
-    run_leaves D.moment D.left_since c.args.tail.at c.loop-at.next.at (c.loop-at.next.at + 1 + (stop.result - first.result)) old now c.log_run.new.disk (omega (arith, inv.place)) room
+    (run_counted table c.loop-at.at first.result first.ensures.from first.ensures.between stop.result c.if-first-stop.true stop.ensures.between
+    (λ some. inv.starts some c.loop-at-test.true)) stop.ensures.end c.requires.room in
+    run_leaves D.moment D.left_since c.args.tail.at c.loop-at.next.at (c.loop-at.next.at + 1 + (stop.result - first.result)) old now
+    c.log_run.new.disk (omega (arith, inv.place)) room
     (λ image left. g.met.D.Disk.earlier now (D.moment old) (D.moment now) image told inv.reads.later (omega arith) left)
     (inv.images told) (c.log_run.ensures.images told)
 
@@ -101,9 +109,12 @@ loop-at-preserved-in_ok-log_run g c =
     let first = c.next_unit-first in
     let stop = c.next_unit-stop in
     let starts = λ (some : 0 < c.loop-at.at). inv.starts some c.loop-at-test.true in
-    let counted = run_counted table c.loop-at.at first.result first.ensures.from first.ensures.between stop.result c.if-first-stop.true stop.ensures.between starts in
-    let begun = run_begins table c.loop-at.at first.result first.ensures.from first.ensures.between stop.result c.if-first-stop.true stop.ensures.between starts in
-    let room = room_here table c.loop-at.next.at c.args.tail.at c.loop-at.at first.result stop.result c.args.pages.now.end inv.place counted stop.ensures.end c.requires.room in
+    let counted = run_counted table c.loop-at.at first.result first.ensures.from first.ensures.between stop.result c.if-first-stop.true
+    stop.ensures.between starts in
+    let begun = run_begins table c.loop-at.at first.result first.ensures.from first.ensures.between stop.result c.if-first-stop.true
+    stop.ensures.between starts in
+    let room = room_here table c.loop-at.next.at c.args.tail.at c.loop-at.at first.result stop.result c.args.pages.now.end inv.place counted
+    stop.ensures.end c.requires.room in
     let entry = run_entry c.args.file table first.result stop.result in
     let long : length entry.units ≡ stop.result - first.result = length-units_held table first.result (stop.result - first.result) in
     let place = c.loop-at.next.at in
@@ -115,18 +126,24 @@ loop-at-preserved-in_ok-log_run g c =
       logged = λ told.
           let so_far = inv.logged told in
           let written = c.in_ok-log_run.ensures.written told in
-          let head : IsHeadOf entry.file entry.first (length entry.units) written.0 = subst (λ (n : ℕ). IsHeadOf entry.file entry.first n written.0) (sym long) written.1 in (
+          let head : IsHeadOf entry.file entry.first (length entry.units) written.0 = subst (λ (n : ℕ). IsHeadOf entry.file entry.first n written.0)
+          (sym long) written.1 in (
             so_far.0 ++ entry ∷ [],
-            logged_more so_far.0 c.args.file table c.loop-at.at first.result so_far.1 first.ensures.from first.ensures.between stop.result c.if-first-stop.true stop.ensures.between begun,
-            entered_more entry written.0 place (D.files now).log (D.files c.log_run.new.disk).log (ap (λ (f : Files). f.log) written.2) head c.requires.not_log (omega (arith, long, c.if-first-stop.true))
-                (omega (arith, long, c.if-first-stop.true, stop.ensures.end, c.args.pages.now.small)) so_far.0 c.args.tail.at (place + 1 + (stop.result - first.result)) so_far.2 (omega (arith, long)),
+            logged_more so_far.0 c.args.file table c.loop-at.at first.result so_far.1 first.ensures.from first.ensures.between stop.result
+                c.if-first-stop.true stop.ensures.between begun,
+            entered_more entry written.0 place (D.files now).log (D.files c.log_run.new.disk).log (ap (λ (f : Files). f.log) written.2) head
+                c.requires.not_log (omega (arith, long, c.if-first-stop.true))
+                (omega (arith, long, c.if-first-stop.true, stop.ensures.end, c.args.pages.now.small)) so_far.0 c.args.tail.at
+                (place + 1 + (stop.result - first.result)) so_far.2 (omega (arith, long)),
           );
       changed = λ told.
           let written = c.in_ok-log_run.ensures.written told in
           changed_then Log c.args.tail.at (2 ^ 28) (D.files old) (D.files now) (D.files c.log_run.new.disk) (inv.changed told)
-          (put_changed place (place + 1 + (stop.result - first.result)) c.args.tail.at (2 ^ 28) (written.0 ∷ entry.units) (D.files now) (D.files c.log_run.new.disk) (omega (arith, long)) (omega (arith, inv.place)) room written.2);
+          (put_changed place (place + 1 + (stop.result - first.result)) c.args.tail.at (2 ^ 28) (written.0 ∷ entry.units) (D.files now)
+          (D.files c.log_run.new.disk) (omega (arith, long)) (omega (arith, inv.place)) room written.2);
       images = λ told.
-          run_leaves D.moment D.left_since c.args.tail.at place (place + 1 + (stop.result - first.result)) old now c.log_run.new.disk (omega (arith, inv.place)) room
+          run_leaves D.moment D.left_since c.args.tail.at place (place + 1 + (stop.result - first.result)) old now c.log_run.new.disk
+          (omega (arith, inv.place)) room
           (λ image left. g.met.D.Disk.earlier now (D.moment old) (D.moment now) image told inv.reads.later (omega arith) left)
           (inv.images told) (c.log_run.ensures.images told);
       reads = nothing_then _ _ _ g.met.D.Disk.follows_trans old now c.log_run.new.disk inv.reads c.log_run.ensures.reads;
@@ -150,7 +167,8 @@ loop-at-preserved g c =
       logged = λ told.
           let so_far = inv.logged told in (
             so_far.0,
-            subst (λ (i : ℕ). Logged so_far.0 c.args.file table i) (sym same) (logged_gap so_far.0 c.args.file table c.loop-at.at first.result so_far.1 first.ensures.from first.ensures.between begun),
+            subst (λ (i : ℕ). Logged so_far.0 c.args.file table i) (sym same)
+                (logged_gap so_far.0 c.args.file table c.loop-at.at first.result so_far.1 first.ensures.from first.ensures.between begun),
             so_far.2,
           );
       changed = inv.changed;

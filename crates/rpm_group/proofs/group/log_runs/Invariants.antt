@@ -5,7 +5,7 @@ use Rattle.rpm_outside.specs.Logs.{Entry}
 use Rattle.rpm_outside.specs.LogWrites.{EntriesIn}
 use Rattle.rpm_group.specs.Counts.{is_held, begins_run, count_below, log_units}
 use Rattle.rpm_group.specs.LogReads.{ReadsNothing}
-use Rattle.rpm_group.specs.Logged.{Logged}
+use Rattle.rpm_group.specs.inner.Logged.{Logged}
 use Rattle.rpm_group.proofs.group.log_runs.Given as goal
 
 abbrev pub invariant-loop-at : goal.invariant-loop-at

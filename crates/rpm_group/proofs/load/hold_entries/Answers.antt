@@ -1,8 +1,10 @@
 use Rattle.std.proofs.Common.{◌+◌, ◌-◌, Option, Some, None, IfSome, ap, subst, ◌∙◌, arith}
 use Rattle.rpm_outside.specs.Files.{Files}
+use Rattle.rpm_outside.specs.declared.disk.File.TheVariants.{Log}
+use Rattle.rpm_outside.specs.inner.Looking.{looks_at_then}
 use Rattle.rpm_group.specs.declared.log.Head.{Head}
-use Rattle.rpm_group.specs.LogReads.{log_looks_then}
-use Rattle.rpm_group.specs.Readings.{entries_of, heads_behind, IsHead, HeadIs}
+use Rattle.rpm_group.specs.Readings.{entries_of}
+use Rattle.rpm_group.specs.inner.LogReadings.{heads_behind, IsHead, HeadIs}
 use Rattle.rpm_group.specs.Layers.{laid_files}
 use Rattle.rpm_group.proofs.Gates.{read_as}
 use Rattle.rpm_group.proofs.Applied.{left_wrong, done_more, done_all}
@@ -13,13 +15,16 @@ returns-in_default-found-clause-fault g c = λ told.
     let D = g.D.Disk in
     let files : Files = D.files c.args.disk.now in
     let so_far = c.loop-k.invariant.so_far told files in
-    left_wrong (c.args.gate.entries - c.loop-k._k) c.loop-k.p c.args.gate.last files.log (c.args.gate.entries - c.loop-k._k - 1) so_far.rest (omega arith) so_far.heads_left
-    (read_as c.args.gate.last c.loop-k.p files (D.files c.loop-k.disk) c.in-Ok.found None (c.loop-k.invariant.looks.untouched told).same c.in_default-found.is (c.in-Ok.ensures.says told))
+    left_wrong (c.args.gate.entries - c.loop-k._k) c.loop-k.p c.args.gate.last files.log (c.args.gate.entries - c.loop-k._k - 1) so_far.rest
+    (omega arith) so_far.heads_left
+    (read_as c.args.gate.last c.loop-k.p files (D.files c.loop-k.disk) c.in-Ok.found None (c.loop-k.invariant.looks.untouched told).same
+    c.in_default-found.is (c.in-Ok.ensures.says told))
 
 pub returns-in-Err-clause-looks : goal.returns-in-Err-clause-looks
 returns-in-Err-clause-looks g c =
-    log_looks_then _ _ _ _ _ _ g.met.D.Disk.follows_trans c.args.disk.now c.read_head.new.disk c.hold_units.new.disk
-    (log_looks_then _ _ _ _ _ _ g.met.D.Disk.follows_trans c.args.disk.now c.loop-k.disk c.read_head.new.disk c.loop-k.invariant.looks c.read_head.ensures.looks)
+    looks_at_then _ _ _ _ _ _ Log g.met.D.Disk.follows_trans c.args.disk.now c.read_head.new.disk c.hold_units.new.disk
+    (looks_at_then _ _ _ _ _ _ Log g.met.D.Disk.follows_trans c.args.disk.now c.loop-k.disk c.read_head.new.disk c.loop-k.invariant.looks
+    c.read_head.ensures.looks)
     c.hold_units.ensures.looks
 
 pub loop-k-preserved : goal.loop-k-preserved
@@ -27,18 +32,23 @@ loop-k-preserved g c =
     let D = g.D.Disk in
     let inv = c.loop-k.invariant in
     let head = c.in-Some.head in
-    let is_head : IsHead c.args.gate.last c.loop-k.p head = subst (λ (h : Option Head). IfSome h (λ x. IsHead c.args.gate.last c.loop-k.p x)) c.in-Some.is c.in-Ok.ensures.head in
+    let is_head : IsHead c.args.gate.last c.loop-k.p head = subst (λ (h : Option Head). IfSome h (λ x. IsHead c.args.gate.last c.loop-k.p x))
+    c.in-Some.is c.in-Ok.ensures.head in
     record {
       place = omega (arith, is_head.within);
       so_far = λ told files.
           let first : Files = D.files c.args.disk.now in
-          let says : HeadIs c.args.gate.last c.loop-k.p first.log head = read_as c.args.gate.last c.loop-k.p first (D.files c.loop-k.disk) c.in-Ok.found (Some head) (inv.looks.untouched told).same c.in-Some.is (c.in-Ok.ensures.says told) in
+          let says : HeadIs c.args.gate.last c.loop-k.p first.log head = read_as c.args.gate.last c.loop-k.p first (D.files c.loop-k.disk)
+          c.in-Ok.found (Some head) (inv.looks.untouched told).same c.in-Some.is (c.in-Ok.ensures.says told) in
           let same = (c.read_head.ensures.looks.untouched told).same ∙ (inv.looks.untouched told).same in
-          done_more (entries_of (heads_behind c.args.gate first.log)) (c.args.gate.entries - c.loop-k._k) c.loop-k.p c.args.gate.last first.log (laid_files c.args.held.now files) (laid_files c.loop-k.held files) (laid_files c.hold_units.new.held files) (c.args.gate.entries - c.loop-k._k - 1) head (inv.so_far told files) (omega arith) says (c.requires.last told)
-          (c.args.gate.entries - (c.loop-k._k + 1)) (c.loop-k.p + (1 + head.count)) (D.files c.read_head.new.disk).log (omega arith) (omega (arith, says.count)) (ap (λ (f : Files). f.log) same) (c.in_default-hold_units.ensures.held told files);
+          done_more (entries_of (heads_behind c.args.gate first.log)) (c.args.gate.entries - c.loop-k._k) c.loop-k.p c.args.gate.last first.log
+          (laid_files c.args.held.now files) (laid_files c.loop-k.held files) (laid_files c.hold_units.new.held files)
+          (c.args.gate.entries - c.loop-k._k - 1) head (inv.so_far told files) (omega arith) says (c.requires.last told)
+          (c.args.gate.entries - (c.loop-k._k + 1)) (c.loop-k.p + (1 + head.count)) (D.files c.read_head.new.disk).log (omega arith)
+          (omega (arith, says.count)) (ap (λ (f : Files). f.log) same) (c.in_default-hold_units.ensures.held told files);
       looks =
-          log_looks_then _ _ _ _ _ _ g.met.D.Disk.follows_trans c.args.disk.now c.read_head.new.disk c.hold_units.new.disk
-          (log_looks_then _ _ _ _ _ _ g.met.D.Disk.follows_trans c.args.disk.now c.loop-k.disk c.read_head.new.disk inv.looks c.read_head.ensures.looks)
+          looks_at_then _ _ _ _ _ _ Log g.met.D.Disk.follows_trans c.args.disk.now c.read_head.new.disk c.hold_units.new.disk
+          (looks_at_then _ _ _ _ _ _ Log g.met.D.Disk.follows_trans c.args.disk.now c.loop-k.disk c.read_head.new.disk inv.looks c.read_head.ensures.looks)
           c.hold_units.ensures.looks;
       faults = omega (arith, inv.faults, c.read_head.ensures.cause.later, c.hold_units.ensures.cause.later);
     }
@@ -46,4 +56,5 @@ loop-k-preserved g c =
 pub returns-clause-held : goal.returns-clause-held
 returns-clause-held g c = λ told files.
     let first : Files = g.D.Disk.files c.args.disk.now in
-    done_all (entries_of (heads_behind c.args.gate first.log)) (c.args.gate.entries - c.loop-k._k) c.loop-k.p c.args.gate.last first.log (laid_files c.args.held.now files) (laid_files c.loop-k.held files) (omega arith) (c.loop-k.invariant.so_far told files)
+    done_all (entries_of (heads_behind c.args.gate first.log)) (c.args.gate.entries - c.loop-k._k) c.loop-k.p c.args.gate.last first.log
+    (laid_files c.args.held.now files) (laid_files c.loop-k.held files) (omega arith) (c.loop-k.invariant.so_far told files)

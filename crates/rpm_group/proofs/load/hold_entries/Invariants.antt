@@ -1,7 +1,9 @@
 use Rattle.std.proofs.Common.{◌+◌, ◌-◌, ◌≤◌, IsTrue}
 use Rattle.rpm_outside.specs.Files.{Files}
-use Rattle.rpm_group.specs.LogReads.{LooksAtLog}
-use Rattle.rpm_group.specs.Readings.{entries_of, heads_behind}
+use Rattle.rpm_group.specs.Readings.{entries_of}
+use Rattle.rpm_group.specs.inner.LogReadings.{heads_behind}
+use Rattle.rpm_outside.specs.declared.disk.File.TheVariants.{Log}
+use Rattle.rpm_outside.specs.Looks.{LooksAt}
 use Rattle.rpm_group.specs.Layers.{laid_files}
 use Rattle.rpm_group.proofs.Applied.{Done}
 use Rattle.rpm_group.proofs.load.hold_entries.Given as goal
@@ -12,7 +14,8 @@ invariant-loop-k g l =
     let log = (D.files l.initial.disk).log in
     record {
       place : l.p ≤ l.gate.last + 1;
-      so_far : IsTrue D.tells → (files : Files) → Done (entries_of (heads_behind l.gate log)) (l.gate.entries - l._k) l.p l.gate.last log (laid_files l.initial.held files) (laid_files l.held files);
-      looks : LooksAtLog D.tells D.files D.left_since D.moment D.bytes_read D.follows l.initial.disk l.disk;
+      so_far : IsTrue D.tells → (files : Files) → Done (entries_of (heads_behind l.gate log)) (l.gate.entries - l._k) l.p l.gate.last log
+          (laid_files l.initial.held files) (laid_files l.held files);
+      looks : LooksAt D.tells D.files D.left_since D.moment D.bytes_read D.follows Log l.initial.disk l.disk;
       faults : D.faults l.initial.disk ≤ D.faults l.disk;
     }

@@ -1,16 +1,18 @@
 use Rattle.std.proofs.Common.{◌≡◌, sym, ap, subst, ◌∙◌}
 use Rattle.rpm_outside.specs.declared.disk.File.TheVariants.{Log}
 use Rattle.rpm_outside.specs.Files.{Units, Files, with_file}
-use Rattle.rpm_outside.specs.Logs.{LogState, log_state, with_entries, reopened}
-use Rattle.rpm_outside.specs.LogLaws.{log_not_log, entries_log, unlogged_entries, reopened_open}
+use Rattle.rpm_outside.specs.Logs.{LogState, Closed, log_state, with_entries, reopened}
+use Rattle.rpm_outside.specs.inner.LogLaws.{log_not_log, entries_log, unlogged_entries, reopened_open}
 use Rattle.rpm_group.specs.declared.log.Reading.{Reading}
-use Rattle.rpm_group.specs.Readings.{entries_of, IsOpen, LogSays, heads_behind}
+use Rattle.rpm_group.specs.Readings.{entries_of, IsOpen}
+use Rattle.rpm_group.specs.inner.LogReadings.{LogSays, heads_behind}
 use Rattle.rpm_group.specs.Layers.{laid_files}
 use Rattle.rpm_group.proofs.Readouts.{on_ok_map}
 use Rattle.rpm_group.proofs.load.hold_log.Goals as goal
 
 -- the entries are held over the two files, and the log stays
-held_reopened : (files new : Files) (behind : LogState) → log_state files.log ≡ behind → IsOpen (log_state files.log) → new ≡ with_entries (entries_of behind) files → new ≡ with_file Log files.log (reopened files)
+held_reopened : (files new : Files) (behind : LogState) → log_state files.log ≡ behind → IsOpen (log_state files.log)
+    → new ≡ with_entries (entries_of behind) files → new ≡ with_file Log files.log (reopened files)
 held_reopened files new behind is opened held =
     let entries = entries_of (log_state files.log) in
     let not = log_not_log files.log entries opened in
@@ -32,3 +34,22 @@ returns-in-Opened-clause-held g c = on_ok_map c.hold_entries.result c.hold_entri
     (held told files
     ∙ ap (λ (f : Files). with_entries (entries_of (heads_behind gate f.log)) (laid_files c.args.held.now files)) same
     ∙ ap (λ (f : Files). with_entries (entries_of (heads_behind gate files.log)) f) (c.requires files)))
+
+pub returns-in-Shut-clause-entries : goal.returns-in-Shut-clause-entries
+returns-in-Shut-clause-entries g c = λ told files.
+    let first : Files = g.D.Disk.files c.args.disk.now in
+    let closed : log_state first.log ≡ Closed = subst (λ (r : Reading). LogSays r first.log) c.in-Shut.is (c.in-Ok.ensures.says told) in
+    c.requires files ∙ ap (λ (s : LogState). with_entries (entries_of s) files) (sym closed)
+
+pub returns-in-Opened-clause-entries : goal.returns-in-Opened-clause-entries
+returns-in-Opened-clause-entries g c = on_ok_map c.hold_entries.result c.hold_entries.ensures.held
+    (λ held told files.
+    let D = g.D.Disk in
+    let first : Files = D.files c.args.disk.now in
+    let gate = c.in-Opened.gate in
+    let same : D.files c.read_log.new.disk ≡ first = (c.read_log.ensures.looks.untouched told).same in
+    let says = subst (λ (r : Reading). LogSays r first.log) c.in-Opened.is (c.in-Ok.ensures.says told) in
+    held told files
+    ∙ ap (λ (f : Files). with_entries (entries_of (heads_behind gate f.log)) (laid_files c.args.held.now files)) same
+    ∙ ap (λ (f : Files). with_entries (entries_of (heads_behind gate first.log)) f) (c.requires files)
+    ∙ ap (λ (s : LogState). with_entries (entries_of s) files) (sym says.0))

@@ -1,6 +1,7 @@
 use Rattle.std.proofs.Common.{◌*◌, ◌/◌, length, take, ap, arith}
 use Rattle.rpm_outside.specs.Files.{Files}
-use Rattle.rpm_group.specs.LogReads.{log_looks_then}
+use Rattle.rpm_outside.specs.declared.disk.File.TheVariants.{Log}
+use Rattle.rpm_outside.specs.inner.Looking.{looks_at_then}
 use Rattle.rpm_group.specs.Layers.{laid_files}
 use Rattle.rpm_group.proofs.Copies.{page_count, copied_more, copied_all}
 use Rattle.rpm_group.proofs.load.hold_units.Goals as goal
@@ -16,12 +17,22 @@ loop-done-preserved g c =
     record {
       place = omega (arith, c.min-n.ensures);
       held = λ told files.
-          copied_more c.args.file c.args.at c.args.from c.loop-done.done n log (laid_files old files) (laid_files c.loop-done.held files) (laid_files c.hold_piece.new.held files) (omega (arith, c.min-n.ensures)) (omega (arith, c.min-n.ensures, c.requires.within told))
-          (length (take (16 * n) c.loop-done.page) / 16) (D.files c.loop-done.disk).log k (inv.held told files) (ap (λ (f : Files). f.log) (inv.looks.untouched told).same) (c.in_default.ensures.held told files);
-      looks = log_looks_then _ _ _ _ _ _ g.met.D.Disk.follows_trans c.args.disk.now c.loop-done.disk c.hold_piece.new.disk inv.looks c.hold_piece.ensures.looks;
+          copied_more c.args.file c.args.at c.args.from c.loop-done.done n log (laid_files old files) (laid_files c.loop-done.held files)
+          (laid_files c.hold_piece.new.held files) (omega (arith, c.min-n.ensures)) (omega (arith, c.min-n.ensures, c.requires.within told))
+          (length (take (16 * n) c.loop-done.page) / 16) (D.files c.loop-done.disk).log k (inv.held told files)
+          (ap (λ (f : Files). f.log) (inv.looks.untouched told).same) (c.in_default.ensures.held told files);
+      looks = looks_at_then _ _ _ _ _ _ Log g.met.D.Disk.follows_trans c.args.disk.now c.loop-done.disk c.hold_piece.new.disk inv.looks
+          c.hold_piece.ensures.looks;
       faults = omega (arith, inv.faults, c.hold_piece.ensures.cause.later);
     }
 
 pub returns-clause-held : goal.returns-clause-held
 returns-clause-held g c = λ told files.
-    copied_all c.args.file c.args.at c.args.from c.loop-done.done c.args.count (g.D.Disk.files c.args.disk.now).log (laid_files c.args.held.now files) (laid_files c.loop-done.held files) (omega (arith, c.loop-done.invariant.place)) c.requires.some (c.requires.within told) (c.loop-done.invariant.held told files)
+    copied_all c.args.file c.args.at c.args.from c.loop-done.done c.args.count (g.D.Disk.files c.args.disk.now).log (laid_files c.args.held.now files)
+    (laid_files c.loop-done.held files) (omega (arith, c.loop-done.invariant.place)) c.requires.some (c.requires.within told)
+    (c.loop-done.invariant.held told files)
+
+pub returns-in-Err-clause-looks : goal.returns-in-Err-clause-looks
+returns-in-Err-clause-looks g c =
+    looks_at_then _ _ _ _ _ _ Log g.met.D.Disk.follows_trans c.args.disk.now c.loop-done.disk c.hold_piece.new.disk c.loop-done.invariant.looks
+    c.hold_piece.ensures.looks

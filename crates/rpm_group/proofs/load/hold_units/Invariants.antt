@@ -1,7 +1,8 @@
 use Rattle.std.proofs.Common.{◌≡◌, ◌-◌, ◌≤◌, take, drop, IsTrue}
 use Rattle.rpm_outside.specs.Files.{Files, file_of, with_file}
-use Rattle.rpm_outside.specs.PutMore.{put_some}
-use Rattle.rpm_group.specs.LogReads.{LooksAtLog}
+use Rattle.rpm_outside.specs.inner.PutMore.{put_some}
+use Rattle.rpm_outside.specs.declared.disk.File.TheVariants.{Log}
+use Rattle.rpm_outside.specs.Looks.{LooksAt}
 use Rattle.rpm_group.specs.Layers.{laid_files}
 use Rattle.rpm_group.proofs.load.hold_units.Given as goal
 
@@ -10,8 +11,10 @@ invariant-loop-done g l =
     let D = g.D.Disk in
     record {
       place : l.done ≤ l.count;
-      held : IsTrue D.tells → (files : Files) → laid_files l.held files ≡ with_file l.file (put_some l.at (take l.done (drop l.from (D.files l.initial.disk).log)) (file_of l.file (laid_files l.initial.held files))) (laid_files l.initial.held files);
-      looks : LooksAtLog D.tells D.files D.left_since D.moment D.bytes_read D.follows l.initial.disk l.disk;
+      held : IsTrue D.tells → (files : Files)
+          → laid_files l.held files ≡ with_file l.file (put_some l.at (take l.done (drop l.from (D.files l.initial.disk).log))
+          (file_of l.file (laid_files l.initial.held files))) (laid_files l.initial.held files);
+      looks : LooksAt D.tells D.files D.left_since D.moment D.bytes_read D.follows Log l.initial.disk l.disk;
       faults : D.faults l.initial.disk ≤ D.faults l.disk;
     }
 

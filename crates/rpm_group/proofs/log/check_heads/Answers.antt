@@ -3,8 +3,9 @@ use Rattle.std.proofs.Common.{Option, Some, None, IfSome}
 use Rattle.rpm_group.specs.declared.log.Head.{Head}
 use Rattle.rpm_outside.specs.Files.{Files}
 use Rattle.rpm_outside.specs.Logs.{heads}
-use Rattle.rpm_group.specs.LogReads.{log_looks_none, log_looks_then}
-use Rattle.rpm_group.specs.Readings.{IsHead, HeadIs, heads_behind}
+use Rattle.rpm_group.specs.inner.LogReadings.{IsHead, HeadIs, heads_behind}
+use Rattle.rpm_outside.specs.declared.disk.File.TheVariants.{Log}
+use Rattle.rpm_outside.specs.inner.Looking.{looks_at_none, looks_at_then}
 use Rattle.rpm_group.proofs.Gates.{read_as, next_wrong, next_right, end_right, end_wrong}
 use Rattle.rpm_group.proofs.log.check_heads.Goals as goal
 
@@ -15,36 +16,42 @@ pub loop-k-init : goal.loop-k-init
 loop-k-init g c = record {
   place = omega arith;
   so_far = λ told. ([], ap (λ (n : ℕ). heads n 1 c.args.gate.last (g.D.Disk.files c.args.disk.now).log) (less c.args.gate.entries));
-  looks = log_looks_none _ _ _ _ _ _ g.met.D.Disk.follows_refl c.args.disk.now;
+  looks = looks_at_none _ _ _ _ _ _ Log g.met.D.Disk.follows_refl c.args.disk.now;
   faults = omega arith;
 }
 
 pub read_head-requires : goal.read_head-requires
-read_head-requires g c = λ told. let same = (c.loop-k.invariant.looks.untouched told).same in omega (arith, c.requires told, ap (λ (f : Files). length f.log) same)
+read_head-requires g c = λ told. let same = (c.loop-k.invariant.looks.untouched told).same in
+    omega (arith, c.requires told, ap (λ (f : Files). length f.log) same)
 
 pub returns-in_default-clause-says : goal.returns-in_default-clause-says
 returns-in_default-clause-says g c = λ told.
     let files = g.D.Disk.files c.args.disk.now in
     let so_far = c.loop-k.invariant.so_far told in
     let left = c.args.gate.entries - c.loop-k._k - 1 in
-    next_wrong (heads_behind c.args.gate files.log) so_far.0 (c.args.gate.entries - c.loop-k._k) c.loop-k.p c.args.gate.last files.log left so_far.1 (omega arith)
-    (read_as c.args.gate.last c.loop-k.p files (g.D.Disk.files c.loop-k.disk) c.in_ok-head.field-0 None (c.loop-k.invariant.looks.untouched told).same c.in_default.is (c.in_ok-head.ensures.says told))
+    next_wrong (heads_behind c.args.gate files.log) so_far.0 (c.args.gate.entries - c.loop-k._k) c.loop-k.p c.args.gate.last files.log left so_far.1
+    (omega arith)
+    (read_as c.args.gate.last c.loop-k.p files (g.D.Disk.files c.loop-k.disk) c.in_ok-head.field-0 None (c.loop-k.invariant.looks.untouched told).same
+    c.in_default.is (c.in_ok-head.ensures.says told))
 
 pub loop-k-preserved : goal.loop-k-preserved
 loop-k-preserved g c =
     let inv = c.loop-k.invariant in
     let head = c.in-Some.head in
-    let is_head : IsHead c.args.gate.last c.loop-k.p head = subst (λ (h : Option Head). IfSome h (λ x. IsHead c.args.gate.last c.loop-k.p x)) c.in-Some.is c.in_ok-head.ensures.head in
+    let is_head : IsHead c.args.gate.last c.loop-k.p head = subst (λ (h : Option Head). IfSome h (λ x. IsHead c.args.gate.last c.loop-k.p x))
+    c.in-Some.is c.in_ok-head.ensures.head in
     record {
       place = omega (arith, is_head.within);
       so_far = λ told.
           let files = g.D.Disk.files c.args.disk.now in
           let so_far = inv.so_far told in
           let left = c.args.gate.entries - c.loop-k._k - 1 in
-          let says : HeadIs c.args.gate.last c.loop-k.p files.log head = read_as c.args.gate.last c.loop-k.p files (g.D.Disk.files c.loop-k.disk) c.in_ok-head.field-0 (Some head) (inv.looks.untouched told).same c.in-Some.is (c.in_ok-head.ensures.says told) in
-          next_right (heads_behind c.args.gate files.log) so_far.0 (c.args.gate.entries - c.loop-k._k) c.loop-k.p c.args.gate.last files.log left so_far.1 (omega arith)
+          let says : HeadIs c.args.gate.last c.loop-k.p files.log head = read_as c.args.gate.last c.loop-k.p files (g.D.Disk.files c.loop-k.disk)
+          c.in_ok-head.field-0 (Some head) (inv.looks.untouched told).same c.in-Some.is (c.in_ok-head.ensures.says told) in
+          next_right (heads_behind c.args.gate files.log) so_far.0 (c.args.gate.entries - c.loop-k._k) c.loop-k.p c.args.gate.last files.log left
+          so_far.1 (omega arith)
           (c.args.gate.entries - (c.loop-k._k + 1)) (c.loop-k.p + (1 + head.count)) (omega arith) says.right (omega (arith, says.count));
-      looks = log_looks_then _ _ _ _ _ _ g.met.D.Disk.follows_trans c.args.disk.now c.loop-k.disk c.read_head.new.disk inv.looks c.read_head.ensures.looks;
+      looks = looks_at_then _ _ _ _ _ _ Log g.met.D.Disk.follows_trans c.args.disk.now c.loop-k.disk c.read_head.new.disk inv.looks c.read_head.ensures.looks;
       faults = omega (arith, inv.faults, c.read_head.ensures.cause.later);
     }
 
@@ -52,10 +59,12 @@ pub returns-then-p-gate-clause-says : goal.returns-then-p-gate-clause-says
 returns-then-p-gate-clause-says g c = λ told.
     let log = (g.D.Disk.files c.args.disk.now).log in
     let so_far = c.loop-k.invariant.so_far told in
-    end_wrong (heads_behind c.args.gate log) so_far.0 (c.args.gate.entries - c.loop-k._k) c.loop-k.p c.args.gate.last log so_far.1 (omega arith) c.if-p-gate.true
+    end_wrong (heads_behind c.args.gate log) so_far.0 (c.args.gate.entries - c.loop-k._k) c.loop-k.p c.args.gate.last log so_far.1 (omega arith)
+    c.if-p-gate.true
 
 pub returns-clause-says : goal.returns-clause-says
 returns-clause-says g c = λ told.
     let log = (g.D.Disk.files c.args.disk.now).log in
     let so_far = c.loop-k.invariant.so_far told in
-    end_right (heads_behind c.args.gate log) so_far.0 (c.args.gate.entries - c.loop-k._k) c.loop-k.p c.args.gate.last log so_far.1 (omega arith) c.if-p-gate.false
+    end_right (heads_behind c.args.gate log) so_far.0 (c.args.gate.entries - c.loop-k._k) c.loop-k.p c.args.gate.last log so_far.1 (omega arith)
+    c.if-p-gate.false

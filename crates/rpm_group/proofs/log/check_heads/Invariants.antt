@@ -1,8 +1,9 @@
 use Rattle.std.proofs.Common.{◌≡◌, ◌+◌, ◌-◌, ◌≤◌, IsTrue, List}
 use Rattle.rpm_outside.specs.Logs.{Entry, heads}
 use Rattle.rpm_outside.specs.LogRules.{after}
-use Rattle.rpm_group.specs.LogReads.{LooksAtLog}
-use Rattle.rpm_group.specs.Readings.{heads_behind}
+use Rattle.rpm_group.specs.inner.LogReadings.{heads_behind}
+use Rattle.rpm_outside.specs.declared.disk.File.TheVariants.{Log}
+use Rattle.rpm_outside.specs.Looks.{LooksAt}
 use Rattle.rpm_group.proofs.log.check_heads.Given as goal
 
 abbrev pub invariant-loop-k : goal.invariant-loop-k
@@ -10,7 +11,8 @@ invariant-loop-k g l =
     let D = g.D.Disk in
     record {
       place : l.p ≤ l.gate.last + 1;
-      so_far : IsTrue D.tells → (done : List Entry) × (heads_behind l.gate (D.files l.initial.disk).log ≡ after done (heads (l.gate.entries - l._k) l.p l.gate.last (D.files l.initial.disk).log));
-      looks : LooksAtLog D.tells D.files D.left_since D.moment D.bytes_read D.follows l.initial.disk l.disk;
+      so_far : IsTrue D.tells → (done : List Entry)
+          × (heads_behind l.gate (D.files l.initial.disk).log ≡ after done (heads (l.gate.entries - l._k) l.p l.gate.last (D.files l.initial.disk).log));
+      looks : LooksAt D.tells D.files D.left_since D.moment D.bytes_read D.follows Log l.initial.disk l.disk;
       faults : D.faults l.initial.disk ≤ D.faults l.disk;
     }

@@ -8,8 +8,10 @@ pub returns-then-p-last-clause-says : goal.returns-then-p-last-clause-says
 returns-then-p-last-clause-says g c = λ told. head_past c.args.last c.args.p (unit_at (g.D.Disk.files c.args.disk.now).log c.args.p) c.if-p-last.true
 
 pub returns-clause-head : goal.returns-clause-head
-returns-clause-head g c = head_read c.args.last c.args.p c.in_ok-head.head c.head_of.result (sym c.if-not-is_head.ensures) c.head_of.ensures.file c.head_of.ensures.first c.head_of.ensures.count
+returns-clause-head g c = head_read c.args.last c.args.p c.in_ok-head.head c.head_of.result (sym c.if-not-is_head.ensures) c.head_of.ensures.file
+    c.head_of.ensures.first c.head_of.ensures.count
 
 pub returns-clause-says : goal.returns-clause-says
 returns-clause-says g c = λ told.
-    head_says c.args.last c.args.p c.in_ok-head.head c.head_of.result (sym c.if-not-is_head.ensures) c.head_of.ensures.file c.head_of.ensures.first c.head_of.ensures.count (g.D.Disk.files c.args.disk.now).log (c.in_ok-head.ensures.unit told)
+    head_says c.args.last c.args.p c.in_ok-head.head c.head_of.result (sym c.if-not-is_head.ensures) c.head_of.ensures.file c.head_of.ensures.first
+    c.head_of.ensures.count (g.D.Disk.files c.args.disk.now).log (c.in_ok-head.ensures.unit told)

@@ -13,11 +13,20 @@ returns-clause-units g c =
     let n = length into / 16 in
     let t = c.available-there.result in
     let whole : length into ≡ 16 * n = omega (arith, c.requires.whole) in
-    let zeros : c.fill.new.self ≡ replicate (length into - 16 * t) 0 = c.fill.ensures.after (λ y clone. search rules) ∙ ap (λ (m : ℕ). replicate m 0) (omega (arith, length-take (length into - 16 * t) (drop (16 * t) into), length-drop (16 * t) into)) in
-    let zeros_long : length c.fill.new.self ≡ length into - 16 * t = omega (arith, c.fill.ensures.len, length-take (length into - 16 * t) (drop (16 * t) into), length-drop (16 * t) into) in
+    let zeros : c.fill.new.self ≡ replicate (length into - 16 * t) 0 = c.fill.ensures.after (λ y clone. search rules)
+    ∙ ap (λ (m : ℕ). replicate m 0) (omega (arith, length-take (length into - 16 * t) (drop (16 * t) into), length-drop (16 * t) into)) in
+    let zeros_long : length c.fill.new.self ≡ length into - 16 * t =
+    omega (arith, c.fill.ensures.len, length-take (length into - 16 * t) (drop (16 * t) into), length-drop (16 * t) into) in
     let mid = put_mid (16 * t) (length into - 16 * t) into c.fill.new.self in
-    let part : length (take (16 * t) mid) ≡ 16 * t = omega (arith, length-take (16 * t) mid, length-put_mid (16 * t) (length into - 16 * t) into c.fill.new.self zeros_long (omega (arith, c.available-there.ensures))) in
+    let part : length (take (16 * t) mid) ≡ 16 * t =
+    omega (
+      arith,
+      length-take (16 * t) mid,
+      length-put_mid (16 * t) (length into - 16 * t) into c.fill.new.self zeros_long
+          (omega (arith, c.available-there.ensures)),
+    ) in
     let front_long : length c.read_some.new.into ≡ 16 * t = c.read_some.auto.into ∙ part in
     on_ok_map c.read_some.result c.read_some.ensures.units
     (λ read told. read_units file c.args.unit t n (16 * t) (length into - 16 * t) into c.read_some.new.into c.fill.new.self
-    (c.available-there.ensures ∙ ap (λ (l : ℕ). min (l - c.args.unit) n) (c.requires.end told)) whole refl (ap (λ (l : ℕ). l - 16 * t) whole) zeros front_long (read told ∙ ap (λ (k : ℕ). take k (drop c.args.unit file)) (omega (arith, part))))
+    (c.available-there.ensures ∙ ap (λ (l : ℕ). min (l - c.args.unit) n) (c.requires.end told)) whole refl (ap (λ (l : ℕ). l - 16 * t) whole) zeros
+    front_long (read told ∙ ap (λ (k : ℕ). take k (drop c.args.unit file)) (omega (arith, part))))

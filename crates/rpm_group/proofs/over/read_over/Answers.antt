@@ -10,16 +10,21 @@ use Rattle.rpm_group.proofs.over.read_over.Goals as goal
 use Rattle.rpm_group.proofs.over.read_over.Goals.{then-unit-whole-via-then-unit-whole, then-unit-whole-via-else-unit-whole+then-into-whole}
 
 -- how long a file is under what is held
-length_over : (file : File) (layers : Layers) (files : Files) → length (file_of file (laid_files layers files)) ≡ max (length (file_of file files)) (pages_of file layers).end
-length_over file layers files = ap length (file_of-laid file layers files) ∙ length-laid (pages_of file layers).table.items (pages_of file layers).end (file_of file files)
+length_over : (file : File) (layers : Layers) (files : Files) → length (file_of file (laid_files layers files)) ≡ max (length (file_of file files))
+    (pages_of file layers).end
+length_over file layers files = ap length (file_of-laid file layers files) ∙ length-laid (pages_of file layers).table.items (pages_of file layers).end
+    (file_of file files)
 
-never : (unit n below whole : ℕ) (file : File) (layers : Layers) (files : Files) (pages : Pages) → below ≡ length (file_of file files) → pages ≡ pages_of file layers → whole ≡ max below pages.end → unit + n ≤ length (file_of file (laid_files layers files)) → unit + n ≤ whole
+never : (unit n below whole : ℕ) (file : File) (layers : Layers) (files : Files) (pages : Pages) → below ≡ length (file_of file files)
+    → pages ≡ pages_of file layers → whole ≡ max below pages.end → unit + n ≤ length (file_of file (laid_files layers files)) → unit + n ≤ whole
 never unit n below whole file layers files pages long is max_is within =
     omega (arith, within, length_over file layers files, long, max_is, ap (λ (p : Pages). p.end) is)
 
 pub read_at-requires-clause-within : goal.read_at-requires-clause-within
 read_at-requires-clause-within g c = λ told.
-    let fits = never c.args.unit (length c.args.into.now / 16) c.in_ok-end.end c.length-whole.result c.args.file c.args.layers.now (g.D.Disk.files c.args.below.now) c.file-pages.result.now (c.in_ok-end.ensures.length told) c.file-pages.ensures c.length-whole.ensures (c.requires.within told) in
+    let fits = never c.args.unit (length c.args.into.now / 16) c.in_ok-end.end c.length-whole.result c.args.file c.args.layers.now
+    (g.D.Disk.files c.args.below.now) c.file-pages.result.now (c.in_ok-end.ensures.length told) c.file-pages.ensures c.length-whole.ensures
+    (c.requires.within told) in
     elim c.then-unit-whole.branch [
       | then-unit-whole-via-then-unit-whole w ↦ absurd (omega (arith, fits, w.if-unit-whole.true))
       | then-unit-whole-via-else-unit-whole+then-into-whole w ↦ absurd (omega (arith, fits, w.if-unit-whole.false, w.if-into-whole.true))
@@ -29,7 +34,9 @@ pub returns-then-unit-whole-clause-units : goal.returns-then-unit-whole-clause-u
 returns-then-unit-whole-clause-units g c =
     on_ok_map c.read_at.result c.read_at.ensures.units
     (λ read told.
-    let fits = never c.args.unit (length c.args.into.now / 16) c.in_ok-end.end c.length-whole.result c.args.file c.args.layers.now (g.D.Disk.files c.args.below.now) c.file-pages.result.now (c.in_ok-end.ensures.length told) c.file-pages.ensures c.length-whole.ensures (c.requires.within told) in
+    let fits = never c.args.unit (length c.args.into.now / 16) c.in_ok-end.end c.length-whole.result c.args.file c.args.layers.now
+    (g.D.Disk.files c.args.below.now) c.file-pages.result.now (c.in_ok-end.ensures.length told) c.file-pages.ensures c.length-whole.ensures
+    (c.requires.within told) in
     elim c.then-unit-whole.branch [
       | then-unit-whole-via-then-unit-whole w ↦ absurd (omega (arith, fits, w.if-unit-whole.true))
       | then-unit-whole-via-else-unit-whole+then-into-whole w ↦ absurd (omega (arith, fits, w.if-unit-whole.false, w.if-into-whole.true))
@@ -42,7 +49,8 @@ returns-clause-units g c = λ told.
     let n = length c.args.into.now / 16 in
     let pages = c.file-pages.result.now in
     let file : Units = file_of c.args.file files in
-    let fits = never c.args.unit n c.in_ok-end.end c.length-whole.result c.args.file c.args.layers.now files pages (c.in_ok-end.ensures.length told) c.file-pages.ensures c.length-whole.ensures (c.requires.within told) in
+    let fits = never c.args.unit n c.in_ok-end.end c.length-whole.result c.args.file c.args.layers.now files pages (c.in_ok-end.ensures.length told)
+    c.file-pages.ensures c.length-whole.ensures (c.requires.within told) in
     let same = (c.in_ok-end.ensures.untouched told).same in
     read_laid pages.table.items pages.end file c.args.unit n c.read_unheld.new.into c.lay.new.into pages.past
     (omega (arith, c.lay.auto.into, c.read_unheld.auto.into)) (sym c.lay.auto.into)

@@ -1,8 +1,9 @@
 use Rattle.std.proofs.Common.{◌∙◌, arith}
-use Rattle.rpm_outside.specs.Leaves.{then_back}
-use Rattle.rpm_outside.specs.LogLaws.{heads_not_log}
-use Rattle.rpm_group.specs.Readings.{entries_of, heads_behind}
-use Rattle.rpm_group.specs.Settled.{WasWithin}
+use Rattle.rpm_outside.specs.inner.Leaves.{then_back}
+use Rattle.rpm_outside.specs.inner.LogLaws.{heads_not_log}
+use Rattle.rpm_group.specs.Readings.{entries_of}
+use Rattle.rpm_group.specs.inner.LogReadings.{heads_behind}
+use Rattle.rpm_group.specs.inner.Leavings.{WasWithin}
 use Rattle.rpm_group.proofs.Closes.{applied_settled}
 use Rattle.rpm_group.proofs.recovery.apply_entries.Goals as goal
 
@@ -11,7 +12,8 @@ returns-clause-images g c = λ told.
     let D = g.D.Disk in
     let old = c.args.disk.now in
     let mid = c.copy_entries.new.disk in
-    then_back D.moment D.left_since old mid c.settle_files.new.disk (WasWithin (entries_of (heads_behind c.args.gate (D.files old).log)) (D.left_since old (D.moment old)))
+    then_back D.moment D.left_since old mid c.settle_files.new.disk
+    (WasWithin (entries_of (heads_behind c.args.gate (D.files old).log)) (D.left_since old (D.moment old)))
     (λ image left. g.met.D.Disk.earlier mid (D.moment old) (D.moment mid) image told c.copy_entries.ensures.reads.later (omega arith) left)
     (c.copy_entries.ensures.images told) (c.settle_files.ensures.images told)
 
@@ -26,5 +28,6 @@ returns-clause-settled g c = λ told.
     (heads_not_log c.args.gate.entries 1 c.args.gate.last files.log entries (c.requires.open told))
     (c.settle_files.ensures.same told ∙ c.in_ok-fault.ensures.written told)
     (c.requires.settled told) (returns-clause-images g c told)
-    (λ image left. g.met.D.Disk.earlier new (D.moment old) (D.moment new) image told (omega (arith, c.copy_entries.ensures.reads.later, c.settle_files.ensures.reads.later)) (omega arith) left)
+    (λ image left. g.met.D.Disk.earlier new (D.moment old) (D.moment new) image told
+    (omega (arith, c.copy_entries.ensures.reads.later, c.settle_files.ensures.reads.later)) (omega arith) left)
     (c.in_ok-settle_files.ensures.pkg told) (c.in_ok-settle_files.ensures.idx told)

@@ -1,9 +1,9 @@
 use Rattle.std.proofs.Common.{refl, ap, ◌∙◌, arith}
 use Rattle.rpm_outside.specs.Files.{Files}
-use Rattle.rpm_outside.specs.Leaves.{sync_leaves}
+use Rattle.rpm_outside.specs.inner.Leaves.{sync_leaves}
 use Rattle.rpm_outside.specs.Logs.{unlogged, log_state}
 use Rattle.rpm_group.specs.Readings.{entries_of}
-use Rattle.rpm_group.specs.Settled.{ReopensAs}
+use Rattle.rpm_group.specs.inner.Leavings.{ReopensAs}
 use Rattle.rpm_group.proofs.Closes.{closing_leaves, closed_after}
 use Rattle.rpm_group.proofs.recovery.close_log.Goals as goal
 
@@ -11,7 +11,8 @@ pub returns-in_err-write_at-clause-images : goal.returns-in_err-write_at-clause-
 returns-in_err-write_at-clause-images g c = λ told.
     let D = g.D.Disk in
     let files = D.files c.args.disk.now in
-    closing_leaves D.moment D.left_since c.args.disk.now c.write_at.new.self files _ (entries_of (log_state files.log)) refl (c.requires.some told) (c.requires.open told) (c.requires.done told) (c.requires.settled told) (c.in_err-write_at.ensures.images told) (c.in_err-write_at.ensures.time told)
+    closing_leaves D.moment D.left_since c.args.disk.now c.write_at.new.self files _ (entries_of (log_state files.log)) refl (c.requires.some told)
+    (c.requires.open told) (c.requires.done told) (c.requires.settled told) (c.in_err-write_at.ensures.images told) (c.in_err-write_at.ensures.time told)
 
 pub returns-in_err-sync-clause-images : goal.returns-in_err-sync-clause-images
 returns-in_err-sync-clause-images g c = λ told.
@@ -19,7 +20,8 @@ returns-in_err-sync-clause-images g c = λ told.
     let files = D.files c.args.disk.now in
     let mid = c.write_at.new.self in
     sync_leaves D.moment D.left_since c.args.disk.now mid c.sync.new.self (ReopensAs (unlogged files))
-    (closing_leaves D.moment D.left_since c.args.disk.now mid files _ (entries_of (log_state files.log)) refl (c.requires.some told) (c.requires.open told) (c.requires.done told) (c.requires.settled told) (c.in_ok-write_at.ensures.images told) (c.in_ok-write_at.ensures.time told))
+    (closing_leaves D.moment D.left_since c.args.disk.now mid files _ (entries_of (log_state files.log)) refl (c.requires.some told)
+    (c.requires.open told) (c.requires.done told) (c.requires.settled told) (c.in_ok-write_at.ensures.images told) (c.in_ok-write_at.ensures.time told))
     (c.sync.ensures.time told) (c.sync.ensures.images told)
     (λ image left. g.met.D.Disk.earlier mid (D.moment c.args.disk.now) (D.moment mid) image told c.write_at.ensures.later (omega arith) left)
 
@@ -35,6 +37,7 @@ returns-clause-images g c = λ told.
     let files = D.files c.args.disk.now in
     let mid = c.write_at.new.self in
     sync_leaves D.moment D.left_since c.args.disk.now mid c.sync.new.self (ReopensAs (unlogged files))
-    (closing_leaves D.moment D.left_since c.args.disk.now mid files _ (entries_of (log_state files.log)) refl (c.requires.some told) (c.requires.open told) (c.requires.done told) (c.requires.settled told) (c.in_ok-write_at.ensures.images told) (c.in_ok-write_at.ensures.time told))
+    (closing_leaves D.moment D.left_since c.args.disk.now mid files _ (entries_of (log_state files.log)) refl (c.requires.some told)
+    (c.requires.open told) (c.requires.done told) (c.requires.settled told) (c.in_ok-write_at.ensures.images told) (c.in_ok-write_at.ensures.time told))
     (c.sync.ensures.time told) (c.sync.ensures.images told)
     (λ image left. g.met.D.Disk.earlier mid (D.moment c.args.disk.now) (D.moment mid) image told c.write_at.ensures.later (omega arith) left)

@@ -1,13 +1,15 @@
 use Rattle.std.proofs.Common.{◌≡◌, ℕ, ◌+◌, ◌-◌, [], Option, None, IfSome, refl, sym, ap, subst, ◌∙◌, arith}
+use Rattle.rpm_outside.specs.declared.disk.File.TheVariants.{Pkg, Idx}
 use Rattle.rpm_outside.specs.Files.{Files}
-use Rattle.rpm_outside.specs.Moments.{started}
+use Rattle.rpm_outside.specs.inner.Moments.{started}
 use Rattle.rpm_outside.specs.Logs.{heads}
 use Rattle.rpm_outside.specs.EntryLaws.{within_none}
-use Rattle.rpm_outside.specs.Leaves.{then_look}
+use Rattle.rpm_outside.specs.inner.Leaves.{then_look}
 use Rattle.rpm_group.specs.declared.log.Head.{Head}
 use Rattle.rpm_group.specs.LogReads.{reads_none, reads_then}
-use Rattle.rpm_group.specs.Readings.{entries_of, heads_behind, IsHead, HeadIs, HeadSays}
-use Rattle.rpm_group.specs.Settled.{WasWithin}
+use Rattle.rpm_group.specs.Readings.{entries_of}
+use Rattle.rpm_group.specs.inner.LogReadings.{heads_behind, IsHead, HeadIs, HeadSays}
+use Rattle.rpm_group.specs.inner.Leavings.{WasWithin}
 use Rattle.rpm_group.proofs.Copies.{log_stays}
 use Rattle.rpm_group.proofs.Applied.{Done, left_wrong, head_covers, done_more, done_all, within_more}
 use Rattle.rpm_group.proofs.recovery.copy_entries.Goals as goal
@@ -30,7 +32,8 @@ loop-k-init g c =
         files = refl;
       };
       log = λ told. refl;
-      images = λ told. started D.moment D.left_since c.args.disk.now (WasWithin entries (D.left_since c.args.disk.now (D.moment c.args.disk.now))) (λ image left. (image, left, within_none entries image));
+      images = λ told. started D.moment D.left_since c.args.disk.now (WasWithin entries (D.left_since c.args.disk.now (D.moment c.args.disk.now)))
+          (λ image left. (image, left, within_none entries image));
       reads = reads_none _ _ _ g.met.D.Disk.follows_refl c.args.disk.now;
       faults = omega arith;
     }
@@ -43,7 +46,8 @@ loop-k-preserved g c =
     let files : Files = D.files c.args.disk.now in
     let mid : Files = D.files c.read_head.new.disk in
     let entries = entries_of (heads_behind c.args.gate files.log) in
-    let is_head : IsHead c.args.gate.last c.loop-k.p head = subst (λ (h : Option Head). IfSome h (λ x. IsHead c.args.gate.last c.loop-k.p x)) c.in-Some.is c.in_ok-head.ensures.head in
+    let is_head : IsHead c.args.gate.last c.loop-k.p head = subst (λ (h : Option Head). IfSome h (λ x. IsHead c.args.gate.last c.loop-k.p x))
+    c.in-Some.is c.in_ok-head.ensures.head in
     let looks = c.read_head.ensures.looks in
     let old = c.args.disk.now in
     record {
@@ -53,20 +57,36 @@ loop-k-preserved g c =
           let log : mid.log ≡ files.log = ap (λ (f : Files). f.log) same ∙ inv.log told in
           let so_far : Done entries (c.args.gate.entries - c.loop-k._k) c.loop-k.p c.args.gate.last files.log files mid =
           subst (λ (f : Files). Done entries (c.args.gate.entries - c.loop-k._k) c.loop-k.p c.args.gate.last files.log files f) (sym same) (inv.so_far told) in
-          let says : HeadIs c.args.gate.last c.loop-k.p files.log head = subst (λ us. HeadIs c.args.gate.last c.loop-k.p us head) (inv.log told) (subst (λ (h : Option Head). HeadSays c.args.gate.last c.loop-k.p (D.files c.loop-k.disk).log h) c.in-Some.is (c.in_ok-head.ensures.says told)) in
-          done_more entries (c.args.gate.entries - c.loop-k._k) c.loop-k.p c.args.gate.last files.log files mid (D.files c.copy_units.new.disk) (c.args.gate.entries - c.loop-k._k - 1) head so_far (omega arith) says (c.requires.last told)
-          (c.args.gate.entries - (c.loop-k._k + 1)) (c.loop-k.p + (1 + head.count)) mid.log (omega arith) (omega (arith, says.count)) log (c.in_ok-copy_units.ensures.written told);
-      log = λ told. log_stays head.file _ mid (D.files c.copy_units.new.disk) is_head.not_log (c.in_ok-copy_units.ensures.written told) ∙ ap (λ (f : Files). f.log) (looks.untouched told).same ∙ inv.log told;
+          let says : HeadIs c.args.gate.last c.loop-k.p files.log head = subst (λ us. HeadIs c.args.gate.last c.loop-k.p us head) (inv.log told)
+          (subst (λ (h : Option Head). HeadSays c.args.gate.last c.loop-k.p (D.files c.loop-k.disk).log h) c.in-Some.is
+          (c.in_ok-head.ensures.says told)) in
+          done_more entries (c.args.gate.entries - c.loop-k._k) c.loop-k.p c.args.gate.last files.log files mid (D.files c.copy_units.new.disk)
+          (c.args.gate.entries - c.loop-k._k - 1) head so_far (omega arith) says (c.requires.last told)
+          (c.args.gate.entries - (c.loop-k._k + 1)) (c.loop-k.p + (1 + head.count)) mid.log (omega arith) (omega (arith, says.count)) log
+          (c.in_ok-copy_units.ensures.written told);
+      log = λ told. log_stays head.file _ mid (D.files c.copy_units.new.disk) is_head.not_log (c.in_ok-copy_units.ensures.written told)
+          ∙ ap (λ (f : Files). f.log) (looks.untouched told).same ∙ inv.log told;
       images = λ told.
-          let says : HeadIs c.args.gate.last c.loop-k.p files.log head = subst (λ us. HeadIs c.args.gate.last c.loop-k.p us head) (inv.log told) (subst (λ (h : Option Head). HeadSays c.args.gate.last c.loop-k.p (D.files c.loop-k.disk).log h) c.in-Some.is (c.in_ok-head.ensures.says told)) in
-          within_more D.moment D.left_since entries head.file head.first (head.first + head.count) old c.read_head.new.disk c.copy_units.new.disk (omega (arith, is_head.some))
-          (head_covers entries (c.args.gate.entries - c.loop-k._k) c.loop-k.p c.args.gate.last files.log files (D.files c.loop-k.disk) mid (c.args.gate.entries - c.loop-k._k - 1) head (inv.so_far told) (omega arith) says (c.requires.last told))
-          (λ image left. g.met.D.Disk.earlier c.read_head.new.disk (D.moment old) (D.moment c.read_head.new.disk) image told (omega (arith, inv.reads.later, looks.moment_stays)) (omega arith) left)
-          (then_look D.moment D.left_since old c.loop-k.disk c.read_head.new.disk (WasWithin entries (D.left_since old (D.moment old))) _ _ (inv.images told) (looks.untouched told) looks.moment_stays)
+          let says : HeadIs c.args.gate.last c.loop-k.p files.log head = subst (λ us. HeadIs c.args.gate.last c.loop-k.p us head) (inv.log told)
+          (subst (λ (h : Option Head). HeadSays c.args.gate.last c.loop-k.p (D.files c.loop-k.disk).log h) c.in-Some.is
+          (c.in_ok-head.ensures.says told)) in
+          within_more D.moment D.left_since entries head.file head.first (head.first + head.count) old c.read_head.new.disk c.copy_units.new.disk
+          (omega (arith, is_head.some))
+          (head_covers entries (c.args.gate.entries - c.loop-k._k) c.loop-k.p c.args.gate.last files.log files (D.files c.loop-k.disk) mid
+          (c.args.gate.entries - c.loop-k._k - 1) head (inv.so_far told) (omega arith) says (c.requires.last told))
+          (λ image left. g.met.D.Disk.earlier c.read_head.new.disk (D.moment old) (D.moment c.read_head.new.disk) image told
+          (omega (arith, inv.reads.later, looks.moment_stays)) (omega arith) left)
+          (then_look D.moment D.left_since old c.loop-k.disk c.read_head.new.disk (WasWithin entries (D.left_since old (D.moment old))) _ _
+          (inv.images told) (looks.untouched told) looks.moment_stays)
           (c.copy_units.ensures.images told);
       reads =
           reads_then _ _ _ g.met.D.Disk.follows_trans old c.read_head.new.disk c.copy_units.new.disk
-          (record { later = omega (arith, inv.reads.later, looks.moment_stays); pkg = looks.pkg ∙ inv.reads.pkg; idx = looks.idx ∙ inv.reads.idx; goes_on = g.met.D.Disk.follows_trans old c.loop-k.disk c.read_head.new.disk inv.reads.goes_on looks.goes_on })
+          (record {
+            later = omega (arith, inv.reads.later, looks.moment_stays);
+            pkg = omega (arith, looks.reads.no_less Pkg, looks.reads.pkg, inv.reads.pkg);
+            idx = omega (arith, looks.reads.no_less Idx, looks.reads.idx, inv.reads.idx);
+            goes_on = g.met.D.Disk.follows_trans old c.loop-k.disk c.read_head.new.disk inv.reads.goes_on looks.goes_on;
+          })
           c.copy_units.ensures.reads;
       faults = omega (arith, inv.faults, c.read_head.ensures.cause.later, c.copy_units.ensures.cause.later);
     }
@@ -79,14 +99,20 @@ returns-in_err-copy_units-clause-images g c = λ told.
     let files : Files = D.files c.args.disk.now in
     let mid : Files = D.files c.read_head.new.disk in
     let entries = entries_of (heads_behind c.args.gate files.log) in
-    let is_head : IsHead c.args.gate.last c.loop-k.p head = subst (λ (h : Option Head). IfSome h (λ x. IsHead c.args.gate.last c.loop-k.p x)) c.in-Some.is c.in_ok-head.ensures.head in
+    let is_head : IsHead c.args.gate.last c.loop-k.p head = subst (λ (h : Option Head). IfSome h (λ x. IsHead c.args.gate.last c.loop-k.p x))
+    c.in-Some.is c.in_ok-head.ensures.head in
     let looks = c.read_head.ensures.looks in
     let old = c.args.disk.now in
-    let says : HeadIs c.args.gate.last c.loop-k.p files.log head = subst (λ us. HeadIs c.args.gate.last c.loop-k.p us head) (inv.log told) (subst (λ (h : Option Head). HeadSays c.args.gate.last c.loop-k.p (D.files c.loop-k.disk).log h) c.in-Some.is (c.in_ok-head.ensures.says told)) in
-    within_more D.moment D.left_since entries head.file head.first (head.first + head.count) old c.read_head.new.disk c.copy_units.new.disk (omega (arith, is_head.some))
-    (head_covers entries (c.args.gate.entries - c.loop-k._k) c.loop-k.p c.args.gate.last files.log files (D.files c.loop-k.disk) mid (c.args.gate.entries - c.loop-k._k - 1) head (inv.so_far told) (omega arith) says (c.requires.last told))
-    (λ image left. g.met.D.Disk.earlier c.read_head.new.disk (D.moment old) (D.moment c.read_head.new.disk) image told (omega (arith, inv.reads.later, looks.moment_stays)) (omega arith) left)
-    (then_look D.moment D.left_since old c.loop-k.disk c.read_head.new.disk (WasWithin entries (D.left_since old (D.moment old))) _ _ (inv.images told) (looks.untouched told) looks.moment_stays)
+    let says : HeadIs c.args.gate.last c.loop-k.p files.log head = subst (λ us. HeadIs c.args.gate.last c.loop-k.p us head) (inv.log told)
+    (subst (λ (h : Option Head). HeadSays c.args.gate.last c.loop-k.p (D.files c.loop-k.disk).log h) c.in-Some.is (c.in_ok-head.ensures.says told)) in
+    within_more D.moment D.left_since entries head.file head.first (head.first + head.count) old c.read_head.new.disk c.copy_units.new.disk
+    (omega (arith, is_head.some))
+    (head_covers entries (c.args.gate.entries - c.loop-k._k) c.loop-k.p c.args.gate.last files.log files (D.files c.loop-k.disk) mid
+    (c.args.gate.entries - c.loop-k._k - 1) head (inv.so_far told) (omega arith) says (c.requires.last told))
+    (λ image left. g.met.D.Disk.earlier c.read_head.new.disk (D.moment old) (D.moment c.read_head.new.disk) image told
+    (omega (arith, inv.reads.later, looks.moment_stays)) (omega arith) left)
+    (then_look D.moment D.left_since old c.loop-k.disk c.read_head.new.disk (WasWithin entries (D.left_since old (D.moment old))) _ _
+    (inv.images told) (looks.untouched told) looks.moment_stays)
     (c.copy_units.ensures.images told)
 
 pub returns-in_default-clause-none : goal.returns-in_default-clause-none
@@ -94,8 +120,10 @@ returns-in_default-clause-none g c = λ told.
     let D = g.D.Disk in
     let files : Files = D.files c.args.disk.now in
     let so_far = c.loop-k.invariant.so_far told in
-    absurd (left_wrong (c.args.gate.entries - c.loop-k._k) c.loop-k.p c.args.gate.last files.log (c.args.gate.entries - c.loop-k._k - 1) so_far.rest (omega arith) so_far.heads_left
-    (subst (λ us. HeadSays c.args.gate.last c.loop-k.p us None) (c.loop-k.invariant.log told) (subst (λ (h : Option Head). HeadSays c.args.gate.last c.loop-k.p (D.files c.loop-k.disk).log h) c.in_default.is (c.in_ok-head.ensures.says told))))
+    absurd (left_wrong (c.args.gate.entries - c.loop-k._k) c.loop-k.p c.args.gate.last files.log (c.args.gate.entries - c.loop-k._k - 1) so_far.rest
+    (omega arith) so_far.heads_left
+    (subst (λ us. HeadSays c.args.gate.last c.loop-k.p us None) (c.loop-k.invariant.log told)
+    (subst (λ (h : Option Head). HeadSays c.args.gate.last c.loop-k.p (D.files c.loop-k.disk).log h) c.in_default.is (c.in_ok-head.ensures.says told))))
 
 pub returns-in_default-clause-written : goal.returns-in_default-clause-written
 returns-in_default-clause-written g c = λ told. let never = returns-in_default-clause-none g c told in absurd cc
@@ -103,4 +131,5 @@ returns-in_default-clause-written g c = λ told. let never = returns-in_default-
 pub returns-clause-written : goal.returns-clause-written
 returns-clause-written g c = λ told.
     let files : Files = g.D.Disk.files c.args.disk.now in
-    done_all (entries_of (heads_behind c.args.gate files.log)) (c.args.gate.entries - c.loop-k._k) c.loop-k.p c.args.gate.last files.log files (g.D.Disk.files c.loop-k.disk) (omega arith) (c.loop-k.invariant.so_far told)
+    done_all (entries_of (heads_behind c.args.gate files.log)) (c.args.gate.entries - c.loop-k._k) c.loop-k.p c.args.gate.last files.log files
+    (g.D.Disk.files c.loop-k.disk) (omega arith) (c.loop-k.invariant.so_far told)

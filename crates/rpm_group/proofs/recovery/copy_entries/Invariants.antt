@@ -1,8 +1,9 @@
 use Rattle.std.proofs.Common.{◌≡◌, ◌+◌, ◌-◌, ◌≤◌, IsTrue}
 use Rattle.rpm_outside.specs.Crash.{LeavesOnly}
 use Rattle.rpm_group.specs.LogReads.{ReadsLog}
-use Rattle.rpm_group.specs.Readings.{entries_of, heads_behind}
-use Rattle.rpm_group.specs.Settled.{WasWithin}
+use Rattle.rpm_group.specs.Readings.{entries_of}
+use Rattle.rpm_group.specs.inner.LogReadings.{heads_behind}
+use Rattle.rpm_group.specs.inner.Leavings.{WasWithin}
 use Rattle.rpm_group.proofs.Applied.{Done}
 use Rattle.rpm_group.proofs.recovery.copy_entries.Given as goal
 
@@ -15,7 +16,8 @@ invariant-loop-k g l =
       place : l.p ≤ l.gate.last + 1;
       so_far : IsTrue D.tells → Done entries (l.gate.entries - l._k) l.p l.gate.last first.log first (D.files l.disk);
       log : IsTrue D.tells → (D.files l.disk).log ≡ first.log;
-      images : IsTrue D.tells → LeavesOnly D.moment D.left_since l.initial.disk l.disk (WasWithin entries (D.left_since l.initial.disk (D.moment l.initial.disk)));
+      images : IsTrue D.tells → LeavesOnly D.moment D.left_since l.initial.disk l.disk
+          (WasWithin entries (D.left_since l.initial.disk (D.moment l.initial.disk)));
       reads : ReadsLog D.moment D.bytes_read D.follows l.initial.disk l.disk;
       faults : D.faults l.initial.disk ≤ D.faults l.disk;
     }

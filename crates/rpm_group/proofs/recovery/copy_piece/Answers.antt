@@ -1,8 +1,8 @@
 use Rattle.std.proofs.Common.{◌≡◌, ℕ, ◌+◌, ◌/◌, List, length, ap, arith}
 use Rattle.rpm_outside.specs.Files.{units_of}
-use Rattle.rpm_outside.specs.Cuts.{length-cut_up}
+use Rattle.rpm_outside.specs.inner.Cuts.{length-cut_up}
 use Rattle.rpm_outside.specs.Changed.{write_leaves}
-use Rattle.rpm_outside.specs.Leaves.{changed_after_look}
+use Rattle.rpm_outside.specs.inner.Leaves.{changed_after_look}
 use Rattle.rpm_group.proofs.recovery.copy_piece.Goals as goal
 
 long : (at n : ℕ) (bytes : List ℕ) → length bytes ≡ n → at + length (units_of bytes) ≡ at + n / 16
@@ -12,14 +12,20 @@ pub returns-in_err-write_at-clause-images : goal.returns-in_err-write_at-clause-
 returns-in_err-write_at-clause-images g c = λ told.
     let D = g.D.Disk in
     let bytes = c.read_at.new.into in
-    changed_after_look D.moment D.left_since c.args.file c.args.at (c.args.at + length c.args.bytes.now / 16) c.args.disk.now c.read_at.new.self c.write_at.new.self _ _
+    changed_after_look D.moment D.left_since c.args.file c.args.at (c.args.at + length c.args.bytes.now / 16) c.args.disk.now c.read_at.new.self
+    c.write_at.new.self _ _
     (c.in_ok-read_at.ensures.untouched told) c.in_ok-read_at.ensures.moment
-    (write_leaves D.moment D.left_since c.args.file c.args.at (units_of bytes) (c.args.at + length c.args.bytes.now / 16) c.read_at.new.self c.write_at.new.self (long c.args.at (length c.args.bytes.now) bytes c.read_at.auto.into) (c.in_err-write_at.ensures.images told) (c.in_err-write_at.ensures.time told))
+    (write_leaves D.moment D.left_since c.args.file c.args.at (units_of bytes) (c.args.at + length c.args.bytes.now / 16) c.read_at.new.self
+    c.write_at.new.self (long c.args.at (length c.args.bytes.now) bytes c.read_at.auto.into) (c.in_err-write_at.ensures.images told)
+    (c.in_err-write_at.ensures.time told))
 
 pub returns-clause-images : goal.returns-clause-images
 returns-clause-images g c = λ told.
     let D = g.D.Disk in
     let bytes = c.read_at.new.into in
-    changed_after_look D.moment D.left_since c.args.file c.args.at (c.args.at + length c.args.bytes.now / 16) c.args.disk.now c.read_at.new.self c.write_at.new.self _ _
+    changed_after_look D.moment D.left_since c.args.file c.args.at (c.args.at + length c.args.bytes.now / 16) c.args.disk.now c.read_at.new.self
+    c.write_at.new.self _ _
     (c.in_ok-read_at.ensures.untouched told) c.in_ok-read_at.ensures.moment
-    (write_leaves D.moment D.left_since c.args.file c.args.at (units_of bytes) (c.args.at + length c.args.bytes.now / 16) c.read_at.new.self c.write_at.new.self (long c.args.at (length c.args.bytes.now) bytes c.read_at.auto.into) (c.in_ok-write_at.ensures.images told) (c.in_ok-write_at.ensures.time told))
+    (write_leaves D.moment D.left_since c.args.file c.args.at (units_of bytes) (c.args.at + length c.args.bytes.now / 16) c.read_at.new.self
+    c.write_at.new.self (long c.args.at (length c.args.bytes.now) bytes c.read_at.auto.into) (c.in_ok-write_at.ensures.images told)
+    (c.in_ok-write_at.ensures.time told))

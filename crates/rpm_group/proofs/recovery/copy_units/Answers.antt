@@ -24,7 +24,9 @@ returns-in_err-copy_piece-clause-images g c = λ told.
     changed_leaves_then D.moment D.left_since c.args.file c.args.at (c.args.at + c.args.count) c.args.disk.now c.loop-done.disk c.copy_piece.new.disk
     (λ image left. g.met.D.Disk.earlier c.loop-done.disk (D.moment c.args.disk.now) (D.moment c.loop-done.disk) image told inv.reads.later (omega arith) left)
     (inv.images told)
-    (changed_leaves_more D.moment D.left_since c.args.file (c.args.at + c.loop-done.done) (c.args.at + c.loop-done.done + length (take (16 * n) c.loop-done.page) / 16) c.args.at (c.args.at + c.args.count) c.loop-done.disk c.copy_piece.new.disk
+    (changed_leaves_more D.moment D.left_since c.args.file (c.args.at + c.loop-done.done)
+    (c.args.at + c.loop-done.done + length (take (16 * n) c.loop-done.page) / 16) c.args.at (c.args.at + c.args.count) c.loop-done.disk
+    c.copy_piece.new.disk
     (omega arith) (omega (arith, k, c.min-n.ensures)) (c.copy_piece.ensures.images told))
 
 pub loop-done-preserved : goal.loop-done-preserved
@@ -36,14 +38,20 @@ loop-done-preserved g c =
     let k = page_count n c.loop-done.page c.min-n.array_long (omega (arith, c.min-n.ensures)) in
     record {
       place = omega (arith, c.min-n.ensures);
-      files = λ told. copied_more c.args.file c.args.at c.args.from c.loop-done.done n first.log first (D.files c.loop-done.disk) (D.files c.copy_piece.new.disk) (omega (arith, c.min-n.ensures)) (omega (arith, c.min-n.ensures, c.requires.within told))
-          (length (take (16 * n) c.loop-done.page) / 16) (D.files c.loop-done.disk).log k (inv.files told) (inv.log told) (c.in_ok-copy_piece.ensures.written told);
-      log = λ told. log_stays c.args.file _ (D.files c.loop-done.disk) (D.files c.copy_piece.new.disk) c.requires.not_log (c.in_ok-copy_piece.ensures.written told) ∙ inv.log told;
+      files = λ told. copied_more c.args.file c.args.at c.args.from c.loop-done.done n first.log first (D.files c.loop-done.disk)
+          (D.files c.copy_piece.new.disk) (omega (arith, c.min-n.ensures)) (omega (arith, c.min-n.ensures, c.requires.within told))
+          (length (take (16 * n) c.loop-done.page) / 16) (D.files c.loop-done.disk).log k (inv.files told) (inv.log told)
+          (c.in_ok-copy_piece.ensures.written told);
+      log = λ told. log_stays c.args.file _ (D.files c.loop-done.disk) (D.files c.copy_piece.new.disk) c.requires.not_log
+          (c.in_ok-copy_piece.ensures.written told) ∙ inv.log told;
       images = λ told.
           changed_leaves_then D.moment D.left_since c.args.file c.args.at (c.args.at + c.args.count) c.args.disk.now c.loop-done.disk c.copy_piece.new.disk
-          (λ image left. g.met.D.Disk.earlier c.loop-done.disk (D.moment c.args.disk.now) (D.moment c.loop-done.disk) image told inv.reads.later (omega arith) left)
+          (λ image left. g.met.D.Disk.earlier c.loop-done.disk (D.moment c.args.disk.now) (D.moment c.loop-done.disk) image told inv.reads.later
+          (omega arith) left)
           (inv.images told)
-          (changed_leaves_more D.moment D.left_since c.args.file (c.args.at + c.loop-done.done) (c.args.at + c.loop-done.done + length (take (16 * n) c.loop-done.page) / 16) c.args.at (c.args.at + c.args.count) c.loop-done.disk c.copy_piece.new.disk
+          (changed_leaves_more D.moment D.left_since c.args.file (c.args.at + c.loop-done.done)
+          (c.args.at + c.loop-done.done + length (take (16 * n) c.loop-done.page) / 16) c.args.at (c.args.at + c.args.count) c.loop-done.disk
+          c.copy_piece.new.disk
           (omega arith) (omega (arith, k, c.min-n.ensures)) (c.copy_piece.ensures.images told));
       reads = reads_then _ _ _ g.met.D.Disk.follows_trans c.args.disk.now c.loop-done.disk c.copy_piece.new.disk inv.reads c.copy_piece.ensures.reads;
       faults = omega (arith, inv.faults, c.copy_piece.ensures.cause.later);
@@ -51,4 +59,6 @@ loop-done-preserved g c =
 
 pub returns-clause-written : goal.returns-clause-written
 returns-clause-written g c = λ told.
-    copied_all c.args.file c.args.at c.args.from c.loop-done.done c.args.count (g.D.Disk.files c.args.disk.now).log (g.D.Disk.files c.args.disk.now) (g.D.Disk.files c.loop-done.disk) (omega (arith, c.loop-done.invariant.place)) c.requires.some (c.requires.within told) (c.loop-done.invariant.files told)
+    copied_all c.args.file c.args.at c.args.from c.loop-done.done c.args.count (g.D.Disk.files c.args.disk.now).log (g.D.Disk.files c.args.disk.now)
+    (g.D.Disk.files c.loop-done.disk) (omega (arith, c.loop-done.invariant.place)) c.requires.some (c.requires.within told)
+    (c.loop-done.invariant.files told)

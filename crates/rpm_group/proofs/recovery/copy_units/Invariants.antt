@@ -1,7 +1,7 @@
 use Rattle.std.proofs.Common.{◌≡◌, ◌+◌, ◌-◌, ◌≤◌, take, drop, IsTrue}
 use Rattle.rpm_outside.specs.Files.{file_of, with_file}
 use Rattle.rpm_outside.specs.Changed.{LeavesChanged}
-use Rattle.rpm_outside.specs.PutMore.{put_some}
+use Rattle.rpm_outside.specs.inner.PutMore.{put_some}
 use Rattle.rpm_group.specs.LogReads.{ReadsLog}
 use Rattle.rpm_group.proofs.recovery.copy_units.Given as goal
 

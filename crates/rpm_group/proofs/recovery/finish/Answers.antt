@@ -1,19 +1,24 @@
 use Rattle.std.proofs.Common.{◌≡◌, ℕ, length, sym, ap, subst, ◌∙◌, arith}
 use Rattle.rpm_outside.specs.Files.{Files, Units}
 use Rattle.rpm_outside.specs.Crash.{LeavesOnly}
-use Rattle.rpm_outside.specs.Moments.{leaves_then, leaves_weaker}
+use Rattle.rpm_outside.specs.inner.Moments.{leaves_then, leaves_weaker}
 use Rattle.rpm_outside.specs.Logs.{LogState, log_state, unlogged, with_entries, reopened}
-use Rattle.rpm_group.specs.Readings.{entries_of, IsOpen, heads_behind}
-use Rattle.rpm_group.specs.Settled.{ReopensAs, WasWithin}
+use Rattle.rpm_group.specs.Readings.{entries_of, IsOpen}
+use Rattle.rpm_group.specs.inner.LogReadings.{heads_behind}
+use Rattle.rpm_group.specs.inner.Leavings.{ReopensAs, WasWithin}
 use Rattle.rpm_group.proofs.Closes.{mid_log, mid_open, mid_done, mid_stands, written_leaves, open_as}
 use Rattle.rpm_group.proofs.recovery.finish.Goals as goal
 
 -- the entries are those of the log
-entries_are : (files mid : Files) (behind : LogState) → log_state files.log ≡ behind → mid ≡ with_entries (entries_of behind) files → mid ≡ with_entries (entries_of (log_state files.log)) files
+entries_are : (files mid : Files) (behind : LogState) → log_state files.log ≡ behind → mid ≡ with_entries (entries_of behind) files
+    → mid ≡ with_entries (entries_of (log_state files.log)) files
 entries_are files mid behind is written = written ∙ ap (λ (s : LogState). with_entries (entries_of s) files) (sym is)
 
-module _ {D : Type 0} (moment : D → ℕ) (left_since : D → ℕ → Files → Type 0) (old new : D) (files : Files) (behind : LogState) (is : log_state files.log ≡ behind) (opened : IsOpen (log_state files.log)) where
-  first_leaves : ((image : Files) → left_since old (moment old) image → image ≡ files) → LeavesOnly moment left_since old new (WasWithin (entries_of behind) (left_since old (moment old))) → LeavesOnly moment left_since old new (ReopensAs (reopened files))
+module _ {D : Type 0} (moment : D → ℕ) (left_since : D → ℕ → Files → Type 0) (old new : D) (files : Files) (behind : LogState)
+    (is : log_state files.log ≡ behind) (opened : IsOpen (log_state files.log)) where
+  first_leaves : ((image : Files) → left_since old (moment old) image → image ≡ files)
+      → LeavesOnly moment left_since old new (WasWithin (entries_of behind) (left_since old (moment old)))
+      → LeavesOnly moment left_since old new (ReopensAs (reopened files))
   first_leaves settled run = written_leaves moment left_since old new files (entries_of (log_state files.log)) opened settled
       (subst (λ (s : LogState). LeavesOnly moment left_since old new (WasWithin (entries_of s) (left_since old (moment old)))) (sym is) run)
 
@@ -21,21 +26,28 @@ pub returns-in_default-clause-images : goal.returns-in_default-clause-images
 returns-in_default-clause-images g c = λ told.
     let D = g.D.Disk in
     let files = D.files c.args.disk.now in
-    first_leaves D.moment D.left_since c.args.disk.now c.apply_entries.new.disk files (heads_behind c.args.gate files.log) (c.requires.state told) (c.requires.open told) (c.requires.settled told) (c.apply_entries.ensures.images told)
+    first_leaves D.moment D.left_since c.args.disk.now c.apply_entries.new.disk files (heads_behind c.args.gate files.log) (c.requires.state told)
+    (c.requires.open told) (c.requires.settled told) (c.apply_entries.ensures.images told)
 
 pub close_log-requires-clause-some : goal.close_log-requires-clause-some
 close_log-requires-clause-some g c = λ told.
     let D = g.D.Disk in
     let files = D.files c.args.disk.now in
     let mid = D.files c.apply_entries.new.disk in
-    omega (arith, c.requires.last told, ap (λ (us : Units). length us) (mid_log files mid (entries_of (log_state files.log)) (c.requires.open told) (entries_are files mid (heads_behind c.args.gate files.log) (c.requires.state told) (c.in-Ok.ensures.written told))))
+    omega (
+      arith,
+      c.requires.last told,
+      ap (λ (us : Units). length us) (mid_log files mid (entries_of (log_state files.log)) (c.requires.open told)
+          (entries_are files mid (heads_behind c.args.gate files.log) (c.requires.state told) (c.in-Ok.ensures.written told))),
+    )
 
 pub close_log-requires-clause-open : goal.close_log-requires-clause-open
 close_log-requires-clause-open g c = λ told.
     let D = g.D.Disk in
     let files = D.files c.args.disk.now in
     let mid = D.files c.apply_entries.new.disk in
-    open_as (log_state mid.log) (entries_of (log_state files.log)) (mid_open files mid (entries_of (log_state files.log)) (c.requires.open told) (entries_are files mid (heads_behind c.args.gate files.log) (c.requires.state told) (c.in-Ok.ensures.written told)))
+    open_as (log_state mid.log) (entries_of (log_state files.log)) (mid_open files mid (entries_of (log_state files.log)) (c.requires.open told)
+    (entries_are files mid (heads_behind c.args.gate files.log) (c.requires.state told) (c.in-Ok.ensures.written told)))
 
 pub close_log-requires-clause-done : goal.close_log-requires-clause-done
 close_log-requires-clause-done g c = λ told.
@@ -48,9 +60,12 @@ close_log-requires-clause-done g c = λ told.
     ∙ mid_done files mid entries (c.requires.open told) written
 
 -- the entries, and then the gate
-both_leave : {D : Type 0} (moment : D → ℕ) (left_since : D → ℕ → Files → Type 0) (old mid new : D) (stands a : Files) → a ≡ stands → LeavesOnly moment left_since old mid (ReopensAs stands) → LeavesOnly moment left_since mid new (ReopensAs a) → LeavesOnly moment left_since old new (ReopensAs stands)
+both_leave : {D : Type 0} (moment : D → ℕ) (left_since : D → ℕ → Files → Type 0) (old mid new : D) (stands a : Files) → a ≡ stands
+    → LeavesOnly moment left_since old mid (ReopensAs stands) → LeavesOnly moment left_since mid new (ReopensAs a)
+    → LeavesOnly moment left_since old new (ReopensAs stands)
 both_leave moment left_since old mid new stands a same one two =
-    leaves_then moment left_since old mid new (ReopensAs stands) one (leaves_weaker moment left_since mid new (ReopensAs a) (ReopensAs stands) (λ image is. is ∙ same) two)
+    leaves_then moment left_since old mid new (ReopensAs stands) one (leaves_weaker moment left_since mid new (ReopensAs a) (ReopensAs stands)
+    (λ image is. is ∙ same) two)
 
 pub returns-in_default-close_log-clause-images : goal.returns-in_default-close_log-clause-images
 returns-in_default-close_log-clause-images g c = λ told.
@@ -59,8 +74,10 @@ returns-in_default-close_log-clause-images g c = λ told.
     let files = D.files old in
     let mid = D.files c.apply_entries.new.disk in
     both_leave D.moment D.left_since old c.apply_entries.new.disk c.close_log.new.disk (reopened files) (unlogged mid)
-    (mid_stands files mid (entries_of (log_state files.log)) (c.requires.open told) (entries_are files mid (heads_behind c.args.gate files.log) (c.requires.state told) (c.in-Ok.ensures.written told)))
-    (first_leaves D.moment D.left_since old c.apply_entries.new.disk files (heads_behind c.args.gate files.log) (c.requires.state told) (c.requires.open told) (c.requires.settled told) (c.apply_entries.ensures.images told))
+    (mid_stands files mid (entries_of (log_state files.log)) (c.requires.open told)
+    (entries_are files mid (heads_behind c.args.gate files.log) (c.requires.state told) (c.in-Ok.ensures.written told)))
+    (first_leaves D.moment D.left_since old c.apply_entries.new.disk files (heads_behind c.args.gate files.log) (c.requires.state told)
+    (c.requires.open told) (c.requires.settled told) (c.apply_entries.ensures.images told))
     (c.close_log.ensures.images told)
 
 pub returns-clause-images : goal.returns-clause-images
@@ -70,8 +87,10 @@ returns-clause-images g c = λ told.
     let files = D.files old in
     let mid = D.files c.apply_entries.new.disk in
     both_leave D.moment D.left_since old c.apply_entries.new.disk c.close_log.new.disk (reopened files) (unlogged mid)
-    (mid_stands files mid (entries_of (log_state files.log)) (c.requires.open told) (entries_are files mid (heads_behind c.args.gate files.log) (c.requires.state told) (c.in-Ok.ensures.written told)))
-    (first_leaves D.moment D.left_since old c.apply_entries.new.disk files (heads_behind c.args.gate files.log) (c.requires.state told) (c.requires.open told) (c.requires.settled told) (c.apply_entries.ensures.images told))
+    (mid_stands files mid (entries_of (log_state files.log)) (c.requires.open told)
+    (entries_are files mid (heads_behind c.args.gate files.log) (c.requires.state told) (c.in-Ok.ensures.written told)))
+    (first_leaves D.moment D.left_since old c.apply_entries.new.disk files (heads_behind c.args.gate files.log) (c.requires.state told)
+    (c.requires.open told) (c.requires.settled told) (c.apply_entries.ensures.images told))
     (c.close_log.ensures.images told)
 
 pub returns-clause-files : goal.returns-clause-files
@@ -80,4 +99,5 @@ returns-clause-files g c = λ told.
     let files = D.files c.args.disk.now in
     let mid = D.files c.apply_entries.new.disk in
     c.close_log.ensures.same told
-    ∙ mid_stands files mid (entries_of (log_state files.log)) (c.requires.open told) (entries_are files mid (heads_behind c.args.gate files.log) (c.requires.state told) (c.in-Ok.ensures.written told))
+    ∙ mid_stands files mid (entries_of (log_state files.log)) (c.requires.open told)
+    (entries_are files mid (heads_behind c.args.gate files.log) (c.requires.state told) (c.in-Ok.ensures.written told))

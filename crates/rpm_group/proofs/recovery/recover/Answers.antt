@@ -1,10 +1,25 @@
+use Rattle.std.specs.Prelude.{Bool, true, false, Result, Ok, Err, IfOk, IfErr, IsTrue}
 use Rattle.std.proofs.Common.{◌≡◌, refl, ap, ◌∙◌}
 use Rattle.rpm_outside.specs.Files.{Files}
-use Rattle.rpm_outside.specs.Moments.{leaves_then, leaves_weaker}
-use Rattle.rpm_outside.specs.Leaves.{then_look}
+use Rattle.rpm_outside.specs.inner.Moments.{leaves_then, leaves_weaker}
+use Rattle.rpm_outside.specs.inner.Leaves.{then_look}
 use Rattle.rpm_outside.specs.Logs.{reopened}
-use Rattle.rpm_group.specs.Settled.{ReopensAs, ReopensAsOneOf}
+use Rattle.rpm_group.specs.Settled.{ReopensAsOneOf, RecoverKeeps}
+use Rattle.rpm_group.specs.inner.Leavings.{ReopensAs}
+use Rattle.rpm_group.specs.declared.recovery.RecoverFault.{RecoverFault}
+use Rattle.rpm_group.specs.declared.recovery.RecoverFault.TheVariants.{BadLog, DiskFault}
 use Rattle.rpm_group.proofs.recovery.recover.Goals as goal
+
+-- where a change was finished, or the disk failed, nothing has to be kept
+keeps_finished : (told : Type 0) (here : told) (old new : Files) (result : Result Bool RecoverFault) → IfOk result (λ was_open. was_open ≡ true)
+    → IfErr result (λ fault. told → fault ≡ DiskFault) → RecoverKeeps old new result
+keeps_finished told here old new (Ok true) done fault = tt
+keeps_finished told here old new (Ok false) done fault = let e : false ≡ true = done in absurd cc
+keeps_finished told here old new (Err (BadLog unit)) done fault = let e : BadLog unit ≡ DiskFault = fault here in absurd cc
+keeps_finished told here old new (Err DiskFault) done fault = tt
+
+pub returns-in-Opened-clause-kept : goal.returns-in-Opened-clause-kept
+returns-in-Opened-clause-kept g c = λ told. keeps_finished (IsTrue g.D.Disk.tells) told _ _ _ c.finish.ensures.done c.finish.ensures.fault
 
 pub returns-in-Opened-clause-images : goal.returns-in-Opened-clause-images
 returns-in-Opened-clause-images g c = λ told.

@@ -19,8 +19,10 @@ loop-at-preserved-then-first-stop c =
     let first = c.next_unit-first in
     let stop = c.next_unit-stop in
     let starts = λ (some : 0 < c.loop-at.at). inv.starts some c.loop-at-test.true in
-    let begun = run_begins table c.loop-at.at first.result first.ensures.from first.ensures.between stop.result c.if-first-stop.true stop.ensures.between starts in
-    let counted = run_units table c.loop-at.at first.result first.ensures.from first.ensures.between stop.result c.if-first-stop.true stop.ensures.between starts in
+    let begun = run_begins table c.loop-at.at first.result first.ensures.from first.ensures.between stop.result c.if-first-stop.true
+    stop.ensures.between starts in
+    let counted = run_units table c.loop-at.at first.result first.ensures.from first.ensures.between stop.result c.if-first-stop.true
+    stop.ensures.between starts in
     record {
       end = stop.ensures.end;
       bound = omega (arith, inv.bound, first.ensures.from);
@@ -39,7 +41,19 @@ loop-at-preserved c =
     record {
       end = stop.ensures.end;
       bound = omega (arith, inv.bound, first.ensures.from);
-      runs = omega (arith, inv.runs, gap_begins table c.loop-at.at first.result first.ensures.from first.ensures.between, ap (λ (i : ℕ). count_below (begins_run table) i) same);
-      units = omega (arith, inv.units, gap_units table c.loop-at.at first.result first.ensures.from first.ensures.between, ap (λ (i : ℕ). count_below (is_held table) i) same);
+      runs = omega (
+        arith,
+        inv.runs,
+        gap_begins table c.loop-at.at first.result first.ensures.from first.ensures.between,
+        ap
+            (λ (i : ℕ). count_below (begins_run table) i) same,
+      );
+      units = omega (
+        arith,
+        inv.units,
+        gap_units table c.loop-at.at first.result first.ensures.from first.ensures.between,
+        ap
+            (λ (i : ℕ). count_below (is_held table) i) same,
+      );
       starts = λ some below. stop.ensures.found below;
     }

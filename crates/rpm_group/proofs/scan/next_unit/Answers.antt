@@ -6,7 +6,8 @@ use Rattle.rpm_group.specs.Counts.{is_held}
 use Rattle.rpm_group.proofs.scan.next_unit.Goals as goal
 
 -- as far as a place in the page
-between_more : (table : Table) (from at q next : ℕ) (held : Bool) → q ≡ at / 256 → ((i : ℕ) → from ≤ i → i < at → is_held table i ≡ not held) → ((k : ℕ) → at % 256 ≤ k → k < next → is_held table (256 * q + k) ≡ not held)
+between_more : (table : Table) (from at q next : ℕ) (held : Bool) → q ≡ at / 256 → ((i : ℕ) → from ≤ i → i < at → is_held table i ≡ not held)
+    → ((k : ℕ) → at % 256 ≤ k → k < next → is_held table (256 * q + k) ≡ not held)
     → (i : ℕ) → from ≤ i → i < 256 * q + next → is_held table i ≡ not held
 between_more table from at q next held is before here i low high = elim (cases_lt i at) [
   | inl earlier ↦ before i low earlier
@@ -17,7 +18,8 @@ between_more table from at q next held is before here i low high = elim (cases_l
 ]
 
 pub returns-then-next-stop-clause-between : goal.returns-then-next-stop-clause-between
-returns-then-next-stop-clause-between c = between_more c.args.table.now.items c.args.from c.loop-at.at (c.loop-at.at / 256) c.next_in-next.result c.args.held refl c.loop-at.invariant.between c.next_in-next.ensures.between
+returns-then-next-stop-clause-between c = between_more c.args.table.now.items c.args.from c.loop-at.at (c.loop-at.at / 256) c.next_in-next.result
+    c.args.held refl c.loop-at.invariant.between c.next_in-next.ensures.between
 
 pub loop-at-preserved : goal.loop-at-preserved
 loop-at-preserved c =

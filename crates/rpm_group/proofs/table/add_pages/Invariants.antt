@@ -1,5 +1,5 @@
 use Rattle.std.proofs.Common.{◌≤◌, length}
-use Rattle.rpm_group.specs.Held.{SameHeld, AreThere}
+use Rattle.rpm_group.specs.inner.Holding.{SameHeld, AreThere}
 use Rattle.rpm_group.proofs.table.add_pages.Given as goal
 
 abbrev pub invariant-loop-q : goal.invariant-loop-q

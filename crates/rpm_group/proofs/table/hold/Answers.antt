@@ -17,7 +17,11 @@ loop-done-preserved c =
     let place : 256 * ((c.args.unit + done) / 256) + (c.args.unit + done) % 256 ≡ c.args.unit + done = omega arith in
     record {
       place = within;
-      inside = inside_more c.args.unit done n bytes part c.args.table.now.items c.loop-done.table.items c.hold_in.new.table.items long (λ k below. unit_in_part bytes done n size k is_size below) (256 * ((c.args.unit + done) / 256) + (c.args.unit + done) % 256) place c.hold_in.ensures.holds inv.inside;
-      outside = outside_more c.args.unit done n bytes part c.args.table.now.items c.loop-done.table.items c.hold_in.new.table.items long (λ k below. unit_in_part bytes done n size k is_size below) (256 * ((c.args.unit + done) / 256) + (c.args.unit + done) % 256) place c.hold_in.ensures.holds inv.outside;
+      inside = inside_more c.args.unit done n bytes part c.args.table.now.items c.loop-done.table.items c.hold_in.new.table.items long
+          (λ k below. unit_in_part bytes done n size k is_size below) (256 * ((c.args.unit + done) / 256) + (c.args.unit + done) % 256) place
+          c.hold_in.ensures.holds inv.inside;
+      outside = outside_more c.args.unit done n bytes part c.args.table.now.items c.loop-done.table.items c.hold_in.new.table.items long
+          (λ k below. unit_in_part bytes done n size k is_size below) (256 * ((c.args.unit + done) / 256) + (c.args.unit + done) % 256) place
+          c.hold_in.ensures.holds inv.outside;
       pages = λ q there. c.hold_in.ensures.pages q (inv.pages q there);
     }

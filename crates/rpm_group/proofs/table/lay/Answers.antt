@@ -8,7 +8,8 @@ use Rattle.rpm_group.proofs.ByteLaws.{unit_put_inside, unit_put_outside}
 use Rattle.rpm_group.proofs.Tables.{unit_in_part}
 use Rattle.rpm_group.proofs.table.lay.Goals as goal
 
-module _ (table : Table) (unit done n place a size : ℕ) (old now part : List ℕ) (is_place : place ≡ unit + done) (is_a : a ≡ 16 * done) (is_size : size ≡ 16 * n) (within : a + size ≤ length now) (long : length part ≡ size)
+module _ (table : Table) (unit done n place a size : ℕ) (old now part : List ℕ) (is_place : place ≡ unit + done) (is_a : a ≡ 16 * done)
+    (is_size : size ≡ 16 * n) (within : a + size ≤ length now) (long : length part ≡ size)
     (lays : (k : ℕ) → k < n → unit_in part k ≡ unwrap_or (held_at table (place + k)) (unit_in now (done + k)))
     (behind : (k : ℕ) → done ≤ k → unit_in now k ≡ unit_in old k) where
   abbrev next : List ℕ
@@ -17,7 +18,8 @@ module _ (table : Table) (unit done n place a size : ℕ) (old now part : List �
   behind_more : (k : ℕ) → done + n ≤ k → unit_in next k ≡ unit_in old k
   behind_more k past = unit_put_outside done a size n now part is_a is_size long within k (inr past) ∙ behind k (omega arith)
 
-  before_more : ((k : ℕ) → k < done → unit_in now k ≡ unwrap_or (held_at table (unit + k)) (unit_in old k)) → (k : ℕ) → k < done + n → unit_in next k ≡ unwrap_or (held_at table (unit + k)) (unit_in old k)
+  before_more : ((k : ℕ) → k < done → unit_in now k ≡ unwrap_or (held_at table (unit + k)) (unit_in old k)) → (k : ℕ) → k < done + n
+      → unit_in next k ≡ unwrap_or (held_at table (unit + k)) (unit_in old k)
   before_more before k below = elim (cases_lt k done) [
     | inl earlier ↦ unit_put_outside done a size n now part is_a is_size long within k (inl earlier) ∙ before k earlier
     | inr from ↦
@@ -47,11 +49,16 @@ loop-done-preserved c =
     let part_count : length part / 16 ≡ n = omega arith in
     let place : 256 * ((c.args.unit + done) / 256) + (c.args.unit + done) % 256 ≡ c.args.unit + done = omega arith in
     let new_long : length c.lay_in.new.into ≡ size = c.lay_in.auto.into ∙ part_long in
-    let lays : (k : ℕ) → k < n → unit_in c.lay_in.new.into k ≡ unwrap_or (held_at c.args.table.now.items (256 * ((c.args.unit + done) / 256) + (c.args.unit + done) % 256 + k)) (unit_in now (done + k)) = λ k below.
+    let lays : (k : ℕ) → k < n → unit_in c.lay_in.new.into k
+    ≡ unwrap_or (held_at c.args.table.now.items (256 * ((c.args.unit + done) / 256) + (c.args.unit + done) % 256 + k)) (unit_in now (done + k)) =
+    λ k below.
     c.lay_in.ensures k (omega (arith, part_count, below))
-    ∙ ap (λ (u : List ℕ). unwrap_or (held_at c.args.table.now.items (256 * ((c.args.unit + done) / 256) + (c.args.unit + done) % 256 + k)) u) (unit_in_part now done n size k is_size below) in
+    ∙ ap (λ (u : List ℕ). unwrap_or (held_at c.args.table.now.items (256 * ((c.args.unit + done) / 256) + (c.args.unit + done) % 256 + k)) u)
+    (unit_in_part now done n size k is_size below) in
     record {
       place = omega (arith, c.min-n.ensures);
-      before = before_more c.args.table.now.items c.args.unit done n _ (16 * done) size c.args.into.now now c.lay_in.new.into place refl is_size within new_long lays inv.behind inv.before;
-      behind = behind_more c.args.table.now.items c.args.unit done n _ (16 * done) size c.args.into.now now c.lay_in.new.into place refl is_size within new_long lays inv.behind;
+      before = before_more c.args.table.now.items c.args.unit done n _ (16 * done) size c.args.into.now now c.lay_in.new.into place refl is_size
+          within new_long lays inv.behind inv.before;
+      behind = behind_more c.args.table.now.items c.args.unit done n _ (16 * done) size c.args.into.now now c.lay_in.new.into place refl is_size
+          within new_long lays inv.behind;
     }

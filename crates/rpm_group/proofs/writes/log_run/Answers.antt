@@ -1,10 +1,10 @@
 use Rattle.std.proofs.Common.{◌≡◌, ℕ, ◌+◌, ◌-◌, ◌<◌, List, ◌∷◌, length, ap, ◌∙◌, arith}
 use Rattle.rpm_outside.specs.declared.disk.File.TheVariants.{Log}
 use Rattle.rpm_outside.specs.Files.{Units, Files, with_file, units_of, put}
-use Rattle.rpm_outside.specs.Cuts.{cut_up_one}
-use Rattle.rpm_outside.specs.PutLaws.{put_split}
+use Rattle.rpm_outside.specs.inner.Cuts.{cut_up_one}
+use Rattle.rpm_outside.specs.inner.PutLaws.{put_split}
 use Rattle.rpm_outside.specs.Changed.{changed_leaves_then, changed_leaves_more, write_leaves}
-use Rattle.rpm_group.specs.Counts.{units_held}
+use Rattle.rpm_group.specs.inner.HeldUnits.{units_held}
 use Rattle.rpm_group.proofs.Readouts.{on_ok_map}
 use Rattle.rpm_group.proofs.Runs.{length-units_held}
 use Rattle.rpm_group.proofs.writes.log_run.Goals as goal
@@ -13,7 +13,9 @@ one_unit : (head : List ℕ) → length head ≡ 16 → length (units_of head) �
 one_unit head long = ap length (cut_up_one head long)
 
 -- a head and then the units are an entry
-entry_written : (at : ℕ) (head : List ℕ) (units : Units) (old mid new : Files) → length head ≡ 16 → 0 < length units → mid ≡ with_file Log (put at (units_of head) old.log) old → new ≡ with_file Log (put (at + 1) units mid.log) mid → new ≡ with_file Log (put at (head ∷ units) old.log) old
+entry_written : (at : ℕ) (head : List ℕ) (units : Units) (old mid new : Files) → length head ≡ 16 → 0 < length units
+    → mid ≡ with_file Log (put at (units_of head) old.log) old → new ≡ with_file Log (put (at + 1) units mid.log) mid
+    → new ≡ with_file Log (put at (head ∷ units) old.log) old
 entry_written at head units old mid new long some first second =
     second
     ∙ ap (λ (f : Files). with_file Log (put (at + 1) units f.log) f) (first ∙ ap (λ (us : Units). with_file Log (put at us old.log) old) (cut_up_one head long))
@@ -24,8 +26,10 @@ returns-in_err-write_at-clause-images g c = λ told.
     let D = g.D.Disk in
     let head = c.head_of-head.result in
     let one = one_unit head c.head_of-head.ensures.long in
-    changed_leaves_more D.moment D.left_since Log c.args.at (c.args.at + 1) c.args.at (c.args.at + 1 + (c.args.end - c.args.from)) c.args.disk.now c.write_at.new.self (omega arith) (omega arith)
-    (write_leaves D.moment D.left_since Log c.args.at (units_of head) (c.args.at + 1) c.args.disk.now c.write_at.new.self (omega (arith, one)) (c.write_at.ensures.images told) (c.write_at.ensures.time told))
+    changed_leaves_more D.moment D.left_since Log c.args.at (c.args.at + 1) c.args.at (c.args.at + 1 + (c.args.end - c.args.from)) c.args.disk.now
+    c.write_at.new.self (omega arith) (omega arith)
+    (write_leaves D.moment D.left_since Log c.args.at (units_of head) (c.args.at + 1) c.args.disk.now c.write_at.new.self (omega (arith, one))
+    (c.write_at.ensures.images told) (c.write_at.ensures.time told))
 
 pub returns-clause-images : goal.returns-clause-images
 returns-clause-images g c = λ told.
@@ -37,8 +41,10 @@ returns-clause-images g c = λ told.
     changed_leaves_then D.moment D.left_since Log c.args.at end c.args.disk.now mid c.write_run.new.disk
     (λ image left. g.met.D.Disk.earlier mid (D.moment c.args.disk.now) (D.moment mid) image told c.write_at.ensures.later (omega arith) left)
     (changed_leaves_more D.moment D.left_since Log c.args.at (c.args.at + 1) c.args.at end c.args.disk.now mid (omega arith) (omega arith)
-    (write_leaves D.moment D.left_since Log c.args.at (units_of head) (c.args.at + 1) c.args.disk.now mid (omega (arith, one)) (c.write_at.ensures.images told) (c.write_at.ensures.time told)))
-    (changed_leaves_more D.moment D.left_since Log (c.args.at + 1) end c.args.at end mid c.write_run.new.disk (omega arith) (omega arith) (c.write_run.ensures.images told))
+    (write_leaves D.moment D.left_since Log c.args.at (units_of head) (c.args.at + 1) c.args.disk.now mid (omega (arith, one))
+    (c.write_at.ensures.images told) (c.write_at.ensures.time told)))
+    (changed_leaves_more D.moment D.left_since Log (c.args.at + 1) end c.args.at end mid c.write_run.new.disk (omega arith) (omega arith)
+    (c.write_run.ensures.images told))
 
 pub returns-clause-written : goal.returns-clause-written
 returns-clause-written g c = on_ok_map c.write_run.result c.write_run.ensures.written
@@ -48,6 +54,7 @@ returns-clause-written g c = on_ok_map c.write_run.result c.write_run.ensures.wr
     let n = c.args.end - c.args.from in (
       head,
       c.head_of-head.ensures,
-      entry_written c.args.at head (units_held c.args.table.now.items c.args.from n) (D.files c.args.disk.now) (D.files c.write_at.new.self) (D.files c.write_run.new.disk) c.head_of-head.ensures.long
+      entry_written c.args.at head (units_held c.args.table.now.items c.args.from n) (D.files c.args.disk.now) (D.files c.write_at.new.self)
+          (D.files c.write_run.new.disk) c.head_of-head.ensures.long
           (omega (arith, length-units_held c.args.table.now.items c.args.from n, c.requires.some)) (c.in_ok-write_at.ensures.written told) (written told),
     ))

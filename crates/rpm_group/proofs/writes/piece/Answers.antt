@@ -1,5 +1,5 @@
 use Rattle.std.proofs.Common.{◌≡◌, ◌+◌, ◌-◌, ◌*◌, ◌/◌, length, arith}
-use Rattle.rpm_group.specs.Counts.{AreHeld}
+use Rattle.rpm_group.specs.inner.HeldUnits.{AreHeld}
 use Rattle.rpm_group.proofs.Runs.{piece_units}
 use Rattle.rpm_group.proofs.writes.piece.Goals as goal
 
@@ -14,4 +14,5 @@ returns-clause-units c =
     let long : length page.bytes ≡ 4096 = omega arith in
     let end : from + n ≡ c.args.stop = omega (arith, c.requires.some) in
     let held : AreHeld table from (from + n) = λ i low high. c.requires.held i low (omega (arith, high, end)) in
-    piece_units table page q from n first (16 * (c.args.stop - 256 * q) - 16 * first) (omega arith) (omega (arith, c.requires.some)) (omega (arith, c.requires.page, c.requires.some)) long c.in-Some.ensures held
+    piece_units table page q from n first (16 * (c.args.stop - 256 * q) - 16 * first) (omega arith) (omega (arith, c.requires.some))
+    (omega (arith, c.requires.page, c.requires.some)) long c.in-Some.ensures held

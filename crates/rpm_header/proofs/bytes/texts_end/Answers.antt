@@ -12,8 +12,12 @@ loop-init c = record { ended = simp unary_clauses c.requires; past = past_none c
 
 pub loop-preserved : goal.loop-preserved
 loop-preserved c = record {
-  ended = ended_rest (c.args.count - c.loop.counter) (c.args.count - (c.loop.counter + 1)) c.loop.rest.now _ _ (omega arith) c.next_text.ensures c.loop.invariant.ended;
-  past = past_more c.args.count (c.args.count - c.loop.counter) (c.args.count - (c.loop.counter + 1)) c.args.bytes.now c.loop.rest.now _ _ (omega arith) c.next_text.ensures c.loop.invariant.past;
+  ended =
+      ended_rest (c.args.count - c.loop.counter) (c.args.count - (c.loop.counter + 1)) c.loop.rest.now _ _
+      (omega arith) c.next_text.ensures c.loop.invariant.ended;
+  past =
+      past_more c.args.count (c.args.count - c.loop.counter) (c.args.count - (c.loop.counter + 1)) c.args.bytes.now c.loop.rest.now _ _
+      (omega arith) c.next_text.ensures c.loop.invariant.past;
 }
 
 pub overflow_sub-result : goal.overflow_sub-result

@@ -14,4 +14,5 @@ returns c =
     let fourth = c.update-4.ensures ([] ++ a ++ b ++ d) third in
     let fifth = c.update-5.ensures ([] ++ a ++ b ++ d ++ c.args.index.now) fourth in
     c.finalize.ensures ([] ++ a ++ b ++ d ++ c.args.index.now ++ c.args.section.now) fifth
-    ∙ ap sha256 (message a b d c.args.index.now c.args.section.now c.args.entries c.args.size c.as_slice.ensures (c.as_slice-2.ensures ∙ c.to_be_bytes.ensures) (c.as_slice-3.ensures ∙ c.to_be_bytes-2.ensures))
+    ∙ ap sha256 (message a b d c.args.index.now c.args.section.now c.args.entries c.args.size c.as_slice.ensures (c.as_slice-2.ensures
+    ∙ c.to_be_bytes.ensures) (c.as_slice-3.ensures ∙ c.to_be_bytes-2.ensures))

@@ -6,6 +6,7 @@ use Rattle.rpm_header.specs.Parts.{own_data}
 use Rattle.rpm_header.proofs.Laws.{is_within}
 use Rattle.rpm_header.proofs.Opened.{opened}
 use Rattle.rpm_header.proofs.Dribbled.{dribbled_parts, dribbled_written}
+use Rattle.rpm_header.proofs.Kept.{digest_written}
 use Rattle.rpm_header.proofs.dribbles.lay_out.Goals as goal
 
 pub returns-clause-laid : goal.returns-clause-laid
@@ -21,11 +22,21 @@ returns-clause-laid c =
     let more_data = c.in_ok-append_data.ensures
     ∙ ap (λ (b : List ℕ). c.extend_from_slice-2.new.self.items ++ data_from (length b) c.entries-2.result.now) c.parts_of.ensures.data
     ∙ ap (λ (es : List Item). c.extend_from_slice-2.new.self.items ++ data_from (length (own_data h)) es) c.entries-2.ensures.value in
-    dribbled_parts h more c.args.lengths c.in_ok-out.out.items c.extend_from_slice.new.self.items c.append_index.new.out.items c.extend_from_slice-2.new.self.items c.append_data.new.out.items within c.in_ok-out.ensures index more_index stored more_data
+    dribbled_parts h more c.args.lengths c.in_ok-out.out.items c.extend_from_slice.new.self.items c.append_index.new.out.items
+    c.extend_from_slice-2.new.self.items c.append_data.new.out.items within c.in_ok-out.ensures index more_index stored more_data
 
 pub returns-clause-again : goal.returns-clause-again
 returns-clause-again c =
     let h = c.args.view.now in
     let more = c.args.extra.now in
     let within = is_within (length h.entries + length more) (length (dribbled_data h more)) c.args.lengths c.requires in
-    dribbled_written h more c.args.lengths c.append_data.new.out.items (opened h c.parts_of.ensures.again) c.entries.ensures.again within (returns-clause-laid c)
+    dribbled_written h more c.args.lengths c.append_data.new.out.items (opened h c.parts_of.ensures.again) c.entries.ensures.again within
+    (returns-clause-laid c)
+
+pub returns-clause-digest : goal.returns-clause-digest
+returns-clause-digest c = λ read told.
+    let h = c.args.view.now in
+    let more = c.args.extra.now in
+    let within = is_within (length h.entries + length more) (length (dribbled_data h more)) c.args.lengths c.requires in
+    digest_written h read more c.args.lengths c.append_data.new.out.items (opened h c.parts_of.ensures.again) c.entries.ensures.again within
+    (returns-clause-laid c) told

@@ -15,8 +15,12 @@ loop-entry-preserved c =
     let added = c.in_ok-extend_from_slice.ensures.items ∙ ap (λ (b : List ℕ). c.append_zeros.new.out.items ++ b) c.bytes-bytes.ensures in
     record {
       small = omega arith;
-      written = data_more c.args.entries.now c.loop-entry.entry-index c.loop-entry.end e c.loop-entry-test.true c.entry-item.is next c.loop-entry.out.items c.append_zeros.new.out.items c.extend_from_slice.new.self.items ends zeros added ∙ c.loop-entry.invariant.written;
+      written =
+          data_more c.args.entries.now c.loop-entry.entry-index c.loop-entry.end e c.loop-entry-test.true c.entry-item.is next c.loop-entry.out.items
+          c.append_zeros.new.out.items c.extend_from_slice.new.self.items ends zeros added ∙ c.loop-entry.invariant.written;
     }
 
 pub returns : goal.returns
-returns c = sym (data_all c.args.entries.now c.loop-entry.entry-index c.loop-entry.end c.loop-entry.out.items c.loop-entry-test.false) ∙ c.loop-entry.invariant.written
+returns c =
+    sym (data_all c.args.entries.now c.loop-entry.entry-index c.loop-entry.end c.loop-entry.out.items c.loop-entry-test.false)
+    ∙ c.loop-entry.invariant.written

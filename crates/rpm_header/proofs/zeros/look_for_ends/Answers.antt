@@ -7,6 +7,8 @@ returns-then-left-here-clause-value c = sym (ended_in_front 64 c.loop-rest.left 
 
 pub loop-rest-preserved : goal.loop-rest-preserved
 loop-rest-preserved c = record {
-  same = rw (c.zeros_of_block-here.ensures.value, c.behind_block-rest.ensures.value) (ended_drop 64 c.loop-rest.left c.loop-rest.rest.now ∙ c.loop-rest.invariant.same);
+  same =
+      rw (c.zeros_of_block-here.ensures.value, c.behind_block-rest.ensures.value) (ended_drop 64 c.loop-rest.left c.loop-rest.rest.now
+      ∙ c.loop-rest.invariant.same);
   within = omega arith;
 }

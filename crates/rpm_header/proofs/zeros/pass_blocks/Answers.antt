@@ -1,12 +1,14 @@
 use Rattle.std.proofs.Common.{arith, ◌∙◌, ap}
-use Rattle.rpm_header.specs.Zeros.{zeros}
+use Rattle.rpm_header.specs.inner.Zeros.{zeros}
 use Rattle.rpm_header.proofs.Counted.{zeros-parts}
 use Rattle.rpm_header.proofs.Skipped.{skip_drop}
 use Rattle.rpm_header.proofs.zeros.pass_blocks.Goals as goal
 
 pub loop-rest-preserved : goal.loop-rest-preserved
 loop-rest-preserved c = record {
-  same = rw (c.zeros_of_block-here.ensures.value, c.behind_block-rest.ensures.value) (skip_drop 64 c.loop-rest.left c.loop-rest.rest.now (omega arith) ∙ c.loop-rest.invariant.same);
+  same =
+      rw (c.zeros_of_block-here.ensures.value, c.behind_block-rest.ensures.value) (skip_drop 64 c.loop-rest.left c.loop-rest.rest.now (omega arith)
+      ∙ c.loop-rest.invariant.same);
   more = omega (arith, zeros-parts 64 c.loop-rest.rest.now, ap zeros c.behind_block-rest.ensures.value);
   few = omega arith;
 }

@@ -5,10 +5,11 @@ use Rattle.rpm_outside.specs.Files.{Files, unit_at}
 use Rattle.rpm_hindex.specs.declared.hits.Hit.{Hit}
 use Rattle.rpm_hindex.specs.Rows.{Row, hash_of}
 use Rattle.rpm_hindex.specs.Index.{index_in, follow, units_at, row_at, is_sound}
-use Rattle.rpm_hindex.specs.Records.{IsRecord}
+use Rattle.rpm_hindex.specs.inner.Records.{IsRecord}
 use Rattle.rpm_hindex.specs.declared.chain.Record.{Record}
 use Rattle.rpm_hindex.specs.Answers.{AsOften, AddsHit, IsFaultOf}
-use Rattle.rpm_hindex.specs.Disks.{reads_none, reads_then}
+use Rattle.rpm_outside.specs.declared.disk.File.TheVariants.{Idx}
+use Rattle.rpm_outside.specs.inner.Looking.{looks_at_none, looks_at_then}
 use Rattle.rpm_hindex.proofs.Counts.{often_none, often_more}
 use Rattle.rpm_hindex.proofs.Collects.{one_more, at_fault, at_end, cost_more, cost_all}
 use Rattle.rpm_hindex.proofs.chain.collect.Goals as goal
@@ -16,7 +17,7 @@ use Rattle.rpm_hindex.proofs.chain.collect.Goals as goal
 pub loop-at-init : goal.loop-at-init
 loop-at-init g c = record {
   within = c.requires.within;
-  looks = reads_none _ _ _ _ _ _ g.met.D.Disk.follows_refl c.args.disk.now;
+  looks = looks_at_none _ _ _ _ _ _ Idx g.met.D.Disk.follows_refl c.args.disk.now;
   faults = omega arith;
   so_far = λ told. ([], rw c.new-hits.ensures.items (often_none c.args.kind c.args.key.now), refl, omega arith);
 }
@@ -27,13 +28,16 @@ returns-in-Err-clause-told g c = λ told.
     let B = c.args.extent.buckets in
     let b = hash_of c.args.kind c.args.key.now % B in
     let same = (l.invariant.looks.untouched told).same in
-    let here = subst (λ (f : Files). IsFaultOf (follow (index_in B f.idx) c.bucket_of-bucket.result l.at l.at) c.in-Err.fault) same (c.in-Err.ensures.fault told) in
-    let fault = subst (λ (k : ℕ). IsFaultOf (follow (index_in B (g.D.Disk.files c.args.disk.now).idx) k l.at l.at) c.in-Err.fault) c.bucket_of-bucket.ensures.bucket here in
+    let here = subst (λ (f : Files). IsFaultOf (follow (index_in B f.idx) c.bucket_of-bucket.result l.at l.at) c.in-Err.fault) same
+    (c.in-Err.ensures.fault told) in
+    let fault = subst (λ (k : ℕ). IsFaultOf (follow (index_in B (g.D.Disk.files c.args.disk.now).idx) k l.at l.at) c.in-Err.fault)
+    c.bucket_of-bucket.ensures.bucket here in
     let s = l.invariant.so_far told in
     at_fault (index_in B (g.D.Disk.files c.args.disk.now).idx) b c.args.from s.0 l.at s.2 c.in-Err.fault fault
 
 -- what reading a record cost, in the words of the first disk
-cost_here : (B b k at : ℕ) (file later : Files) (old new : ℕ) → later ≡ file → k ≡ b → (is_sound (index_in B later.idx) k at ≡ true → new ≤ old + 16 * units_at (unit_at later.idx) at) → is_sound (index_in B file.idx) b at ≡ true → new ≤ old + 16 * units_at (unit_at file.idx) at
+cost_here : (B b k at : ℕ) (file later : Files) (old new : ℕ) → later ≡ file → k ≡ b → (is_sound (index_in B later.idx) k at ≡ true → new ≤ old + 16 *
+    units_at (unit_at later.idx) at) → is_sound (index_in B file.idx) b at ≡ true → new ≤ old + 16 * units_at (unit_at file.idx) at
 cost_here B b k at file later old new same is cost sound =
     let c1 = subst (λ (f : Files). is_sound (index_in B f.idx) k at ≡ true → new ≤ old + 16 * units_at (unit_at f.idx) at) same cost in
     subst (λ (j : ℕ). is_sound (index_in B file.idx) j at ≡ true → new ≤ old + 16 * units_at (unit_at file.idx) at) is c1 sound
@@ -46,7 +50,8 @@ returns-in-Err-clause-cost g c = λ told places e.
     let file : Files = g.D.Disk.files c.args.disk.now in
     let s = l.invariant.so_far told in
     let more = cost_more (index_in B file.idx) b c.args.from s.0 l.at s.2 (units_at (unit_at file.idx)) places (omega (arith, c.loop-at-test.true)) e in
-    let here = cost_here B b c.bucket_of-bucket.result l.at file (g.D.Disk.files l.disk) _ _ ((l.invariant.looks.untouched told).same) c.bucket_of-bucket.ensures.bucket (c.in-Err.ensures.cost told) more.0 in
+    let here = cost_here B b c.bucket_of-bucket.result l.at file (g.D.Disk.files l.disk) _ _ ((l.invariant.looks.untouched told).same)
+    c.bucket_of-bucket.ensures.bucket (c.in-Err.ensures.cost told) more.0 in
     omega (arith, here, more.1, s.3)
 
 pub returns-in-Err-push_hit-clause-cost : goal.returns-in-Err-push_hit-clause-cost
@@ -57,17 +62,21 @@ returns-in-Err-push_hit-clause-cost g c = λ told places e.
     let file : Files = g.D.Disk.files c.args.disk.now in
     let s = l.invariant.so_far told in
     let more = cost_more (index_in B file.idx) b c.args.from s.0 l.at s.2 (units_at (unit_at file.idx)) places (omega (arith, c.loop-at-test.true)) e in
-    let here = cost_here B b c.bucket_of-bucket.result l.at file (g.D.Disk.files l.disk) _ _ ((l.invariant.looks.untouched told).same) c.bucket_of-bucket.ensures.bucket (c.in-Ok.ensures.cost told) more.0 in
+    let here = cost_here B b c.bucket_of-bucket.result l.at file (g.D.Disk.files l.disk) _ _ ((l.invariant.looks.untouched told).same)
+    c.bucket_of-bucket.ensures.bucket (c.in-Ok.ensures.cost told) more.0 in
     omega (arith, here, more.1, s.3)
 
 -- a record that was read, in the words of the first disk
-record_here : (B b k at : ℕ) (file later : Files) (r : Record) → later ≡ file → k ≡ b → IsRecord (index_in B later.idx) k at r → IsRecord (index_in B file.idx) b at r
+record_here : (B b k at : ℕ) (file later : Files) (r : Record) → later ≡ file → k ≡ b → IsRecord (index_in B later.idx) k at r
+    → IsRecord (index_in B file.idx) b at r
 record_here B b k at file later r same is here =
     subst (λ (j : ℕ). IsRecord (index_in B file.idx) j at r) is (subst (λ (f : Files). IsRecord (index_in B f.idx) k at r) same here)
 
-often_here : (unit : ℕ → List ℕ) (kind : ℕ) (key : List ℕ) (done : List ℕ) (at : ℕ) (row : Row) (old new : List Hit) → AsOften kind key (map (row_at unit) done) old → row_at unit at ≡ row → AddsHit kind key row old new → AsOften kind key (map (row_at unit) (done ++ at ∷ [])) new
+often_here : (unit : ℕ → List ℕ) (kind : ℕ) (key : List ℕ) (done : List ℕ) (at : ℕ) (row : Row) (old new : List Hit) → AsOften kind key
+    (map (row_at unit) done) old → row_at unit at ≡ row → AddsHit kind key row old new → AsOften kind key (map (row_at unit) (done ++ at ∷ [])) new
 often_here unit kind key done at row old new often is adds =
-    let all : map (row_at unit) (done ++ at ∷ []) ≡ map (row_at unit) done ++ row ∷ [] = map-append (row_at unit) done (at ∷ []) ∙ ap (λ (r : Row). map (row_at unit) done ++ r ∷ []) is in
+    let all : map (row_at unit) (done ++ at ∷ []) ≡ map (row_at unit) done ++ row ∷ [] = map-append (row_at unit) done (at ∷ [])
+    ∙ ap (λ (r : Row). map (row_at unit) done ++ r ∷ []) is in
     subst (λ (rows : List Row). AsOften kind key rows new) (sym all) (often_more kind key (map (row_at unit) done) row old new often adds)
 
 pub loop-at-preserved : goal.loop-at-preserved
@@ -78,13 +87,16 @@ loop-at-preserved g c =
     let file : Files = g.D.Disk.files c.args.disk.now in
     record {
       within = λ some. c.in-Ok.ensures.linked;
-      looks = reads_then _ _ _ _ _ _ g.met.D.Disk.follows_trans c.args.disk.now l.disk c.read_record.new.disk l.invariant.looks c.read_record.ensures.looks;
+      looks = looks_at_then _ _ _ _ _ _ Idx g.met.D.Disk.follows_trans c.args.disk.now l.disk c.read_record.new.disk l.invariant.looks
+          c.read_record.ensures.looks;
       faults = omega (arith, l.invariant.faults, c.read_record.ensures.cause.later);
       so_far = λ told.
           let same = (l.invariant.looks.untouched told).same in
           let s = l.invariant.so_far told in
-          let r = record_here B b c.bucket_of-bucket.result l.at file (g.D.Disk.files l.disk) c.in-Ok.record same c.bucket_of-bucket.ensures.bucket (c.in-Ok.ensures.«record» told) in
-          let here = cost_here B b c.bucket_of-bucket.result l.at file (g.D.Disk.files l.disk) _ _ same c.bucket_of-bucket.ensures.bucket (c.in-Ok.ensures.cost told) r.sound in (
+          let r = record_here B b c.bucket_of-bucket.result l.at file (g.D.Disk.files l.disk) c.in-Ok.record same c.bucket_of-bucket.ensures.bucket
+          (c.in-Ok.ensures.«record» told) in
+          let here = cost_here B b c.bucket_of-bucket.result l.at file (g.D.Disk.files l.disk) _ _ same c.bucket_of-bucket.ensures.bucket
+          (c.in-Ok.ensures.cost told) r.sound in (
             s.0 ++ l.at ∷ [],
             often_here (unit_at file.idx) c.args.kind c.args.key.now s.0 l.at _ l.hits.items c.push_hit.new.hits.items s.1 r.row c.in_default.ensures.hits,
             one_more (index_in B file.idx) b c.args.from s.0 l.at s.2 c.in-Ok.record.next (omega (arith, c.loop-at-test.true)) r.sound r.next,
@@ -99,7 +111,8 @@ returns-clause-told g c = λ told.
     let b = hash_of c.args.kind c.args.key.now % B in
     let file : Files = g.D.Disk.files c.args.disk.now in
     let s = l.invariant.so_far told in
-    at_end (index_in B file.idx) b c.args.from s.0 l.at s.2 (λ (places : List ℕ) (hits : Vec Hit Global). AsOften c.args.kind c.args.key.now (map (row_at (unit_at file.idx)) places) hits.items) l.hits c.loop-at-test.false s.1
+    at_end (index_in B file.idx) b c.args.from s.0 l.at s.2 (λ (places : List ℕ) (hits : Vec Hit Global). AsOften c.args.kind c.args.key.now
+    (map (row_at (unit_at file.idx)) places) hits.items) l.hits c.loop-at-test.false s.1
 
 pub returns-clause-cost : goal.returns-clause-cost
 returns-clause-cost g c = λ told places e.

@@ -6,14 +6,14 @@ use Rattle.rpm_outside.specs.Files.{unit_at}
 use Rattle.rpm_hindex.specs.Rows.{hash_of}
 use Rattle.rpm_hindex.specs.Index.{index_in, follow, units_at, row_at}
 use Rattle.rpm_hindex.specs.Answers.{AsOften}
-use Rattle.rpm_hindex.specs.Disks.{Reads}
+use Rattle.rpm_outside.specs.Looks.{LooksAt}
 use Rattle.rpm_hindex.proofs.Chains.{behind_all}
 use Rattle.rpm_hindex.proofs.chain.collect.Given as goal
 
 abbrev pub invariant-loop-at : goal.invariant-loop-at
 invariant-loop-at g l = record {
   within : 0 < l.at → l.at < l.extent.used;
-  looks : Reads g.D.Disk.tells g.D.Disk.files g.D.Disk.left_since g.D.Disk.moment g.D.Disk.bytes_read g.D.Disk.follows l.initial.disk l.disk;
+  looks : LooksAt g.D.Disk.tells g.D.Disk.files g.D.Disk.left_since g.D.Disk.moment g.D.Disk.bytes_read g.D.Disk.follows Idx l.initial.disk l.disk;
   faults : g.D.Disk.faults l.initial.disk ≤ g.D.Disk.faults l.disk;
   so_far : IsTrue g.D.Disk.tells → (done : List ℕ)
       × AsOften l.kind l.key (map (row_at (unit_at (g.D.Disk.files l.initial.disk).idx)) done) l.hits.items

@@ -21,8 +21,10 @@ returns-in-Ok-clause-told g c = λ told.
     let file : Files = g.D.Disk.files c.args.disk.now in
     let word = c.in-Ok.ensures.word told in
     let P : Files → List ℕ → Vec Hit Global → Type 0 = λ f places hits. AsOften c.args.kind c.args.key.now (map (row_at (unit_at f.idx)) places) hits.items in
-    let here = subst (λ (f : Files). FindIs (P f) (follow (index_in B f.idx) b c.in-Ok.at c.in-Ok.at) c.collect.result) ((c.in-Ok.ensures.looks.untouched told).same) (c.collect.ensures.told told) in
-    subst (λ (s : _). FindIs (P file) s c.collect.result) (sym (chain_is (index_in B file.idx) b c.bucket_of-bucket.result c.in-Ok.at c.bucket_of-bucket.ensures.bucket word.0 word.1)) here
+    let here = subst (λ (f : Files). FindIs (P f) (follow (index_in B f.idx) b c.in-Ok.found.at c.in-Ok.found.at) c.collect.result)
+    ((c.in-Ok.ensures.looks.untouched told).same) (c.collect.ensures.told told) in
+    subst (λ (s : _). FindIs (P file) s c.collect.result) (sym (chain_is (index_in B file.idx) b c.bucket_of-bucket.result c.in-Ok.found.at
+    c.bucket_of-bucket.ensures.bucket word.0 word.1)) here
 
 pub returns-in-Ok-clause-cost : goal.returns-in-Ok-clause-cost
 returns-in-Ok-clause-cost g c = λ told places e.
@@ -30,7 +32,9 @@ returns-in-Ok-clause-cost g c = λ told places e.
     let b = hash_of c.args.kind c.args.key.now % B in
     let file : Files = g.D.Disk.files c.args.disk.now in
     let word = c.in-Ok.ensures.word told in
-    let cost = subst (λ (f : Files). ChainCosts (follow (index_in B f.idx) b c.in-Ok.at c.in-Ok.at) (units_at (unit_at f.idx)) (g.D.Disk.bytes_read c.read_bucket.new.disk Idx) (g.D.Disk.bytes_read c.collect.new.disk Idx)) ((c.in-Ok.ensures.looks.untouched told).same) (c.collect.ensures.cost told) in
-    let is = chain_is (index_in B file.idx) b c.bucket_of-bucket.result c.in-Ok.at c.bucket_of-bucket.ensures.bucket word.0 word.1 in
+    let cost = subst (λ (f : Files). ChainCosts (follow (index_in B f.idx) b c.in-Ok.found.at c.in-Ok.found.at) (units_at (unit_at f.idx))
+    (g.D.Disk.bytes_read c.read_bucket.new.disk Idx) (g.D.Disk.bytes_read c.collect.new.disk Idx)) ((c.in-Ok.ensures.looks.untouched told).same)
+    (c.collect.ensures.cost told) in
+    let is = chain_is (index_in B file.idx) b c.bucket_of-bucket.result c.in-Ok.found.at c.bucket_of-bucket.ensures.bucket word.0 word.1 in
     let more = cost places (sym is ∙ e) in
-    omega (arith, more, c.in-Ok.ensures.looks.no_more)
+    omega (arith, more, c.in-Ok.ensures.looks.reads.idx)

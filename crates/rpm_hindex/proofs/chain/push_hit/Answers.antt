@@ -6,4 +6,5 @@ pub returns-then-not-has_key-clause-hits : goal.returns-then-not-has_key-clause-
 returns-then-not-has_key-clause-hits c = adds_none c.args.kind c.args.key.now _ (sym c.has_key.ensures ∙ c.if-not-has_key.true) c.args.hits.now.items
 
 pub returns-clause-hits : goal.returns-clause-hits
-returns-clause-hits c = adds_one c.args.kind c.args.key.now _ (sym c.has_key.ensures ∙ c.if-not-has_key.false) c.args.hits.now.items c.push.new.self.items c.in-Ok.ensures.items
+returns-clause-hits c = adds_one c.args.kind c.args.key.now _ (sym c.has_key.ensures ∙ c.if-not-has_key.false) c.args.hits.now.items
+    c.push.new.self.items c.in-Ok.ensures.items

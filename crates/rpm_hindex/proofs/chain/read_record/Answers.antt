@@ -15,7 +15,8 @@ returns-then-not-is_placed-clause-fault g c = λ told.
 pub read_key-requires-clause-within : goal.read_key-requires-clause-within
 read_key-requires-clause-within g c = λ told.
     let x : Index = index_in c.args.extent.buckets (g.D.Disk.files c.args.disk.now).idx in
-    let placed = placed_parts x c.args.at (sym (c.is_placed.ensures x refl (c.requires.open told).used (c.in-Ok.ensures.unit told)) ∙ c.if-not-is_placed.false) in
+    let placed = placed_parts x c.args.at (sym (c.is_placed.ensures x refl (c.requires.open told).used (c.in-Ok.ensures.unit told))
+    ∙ c.if-not-is_placed.false) in
     let same = ap (λ (f : Files). length f.idx) ((c.in-Ok.ensures.looks.untouched told).same) in
     let size : c.word-length.result ≡ word 1 (x.unit c.args.at) = c.word-length.ensures ∙ ap (word 1) (c.in-Ok.ensures.unit told) in
     let sized = ap (λ (n : ℕ). n % 2 ^ 28) size in
@@ -23,18 +24,21 @@ read_key-requires-clause-within g c = λ told.
     omega (arith, placed.ends, open'.used, open'.within)
 
 -- the key as it was read is that of the file
-key_read : (file later : Files) (at size : ℕ) (key : List ℕ) → later ≡ file → size ≡ word 1 (unit_at file.idx at) → key ≡ take (size % 2 ^ 28) (bytes_of (run (unit_at later.idx) (at + 1) ((size % 2 ^ 28 + 15) / 16))) → key ≡ key_at (unit_at file.idx) at
+key_read : (file later : Files) (at size : ℕ) (key : List ℕ) → later ≡ file → size ≡ word 1 (unit_at file.idx at) → key ≡ take (size % 2 ^ 28)
+    (bytes_of (run (unit_at later.idx) (at + 1) ((size % 2 ^ 28 + 15) / 16))) → key ≡ key_at (unit_at file.idx) at
 key_read file later at size key same is e =
     e
     ∙ ap (λ (f : Files). take (size % 2 ^ 28) (bytes_of (run (unit_at f.idx) (at + 1) ((size % 2 ^ 28 + 15) / 16)))) same
     ∙ ap (λ (n : ℕ). take (n % 2 ^ 28) (bytes_of (run (unit_at file.idx) (at + 1) ((n % 2 ^ 28 + 15) / 16)))) is
 
 -- the bucket of what was read
-bucket_read : (unit : ℕ → List ℕ) (at buckets word1 result : ℕ) (key : List ℕ) → word1 ≡ word 1 (unit at) → key ≡ key_at unit at → result ≡ hash_of (word1 / 2 ^ 28) key % buckets → result ≡ hash_of (word 1 (unit at) / 2 ^ 28) (key_at unit at) % buckets
+bucket_read : (unit : ℕ → List ℕ) (at buckets word1 result : ℕ) (key : List ℕ) → word1 ≡ word 1 (unit at) → key ≡ key_at unit at → result
+    ≡ hash_of (word1 / 2 ^ 28) key % buckets → result ≡ hash_of (word 1 (unit at) / 2 ^ 28) (key_at unit at) % buckets
 bucket_read unit at buckets word1 result key w k e =
     e ∙ ap (λ (n : ℕ). hash_of (n / 2 ^ 28) key % buckets) w ∙ ap (λ (bs : List ℕ). hash_of (word 1 (unit at) / 2 ^ 28) bs % buckets) k
 
-row_read : (unit : ℕ → List ℕ) (at w1 w2 w3 : ℕ) (key : List ℕ) → w1 ≡ word 1 (unit at) → key ≡ key_at unit at → w2 ≡ word 2 (unit at) → w3 ≡ word 3 (unit at) → row_at unit at ≡ record { kind = w1 / 2 ^ 28; key = key; number = w2; place = w3 }
+row_read : (unit : ℕ → List ℕ) (at w1 w2 w3 : ℕ) (key : List ℕ) → w1 ≡ word 1 (unit at) → key ≡ key_at unit at → w2 ≡ word 2 (unit at) → w3
+    ≡ word 3 (unit at) → row_at unit at ≡ record { kind = w1 / 2 ^ 28; key = key; number = w2; place = w3 }
 unfolding row_at
 row_read unit at w1 w2 w3 key one keyed two three =
     let f : ℕ → List ℕ → ℕ → ℕ → Row = λ a b c d. record { kind = a / 2 ^ 28; key = b; number = c; place = d } in
@@ -48,9 +52,12 @@ returns-then-bucket_of-bucket-clause-fault g c = λ told.
     let file : Files = g.D.Disk.files c.args.disk.now in
     let x : Index = index_in c.args.extent.buckets file.idx in
     let first = c.in-Ok.ensures.unit told in
-    let key = key_read file (g.D.Disk.files c.read_unit.new.disk) c.args.at c.word-length.result c.in-Ok-read_key.key.items ((c.in-Ok.ensures.looks.untouched told).same) (c.word-length.ensures ∙ ap (word 1) first) (c.in-Ok-read_key.ensures.bytes told) in
-    let bucket = bucket_read x.unit c.args.at c.args.extent.buckets c.word.result c.bucket_of.result c.deref.result.now (c.word.ensures ∙ ap (word 1) first) (c.deref.ensures.value ∙ key) c.bucket_of.ensures.bucket in
-    follow_bad x c.args.bucket c.args.at c.args.at c.requires.some_at (omega arith) (unsound_bucket x c.args.bucket c.args.at (λ e. c.if-bucket_of-bucket.true (bucket ∙ e)))
+    let key = key_read file (g.D.Disk.files c.read_unit.new.disk) c.args.at c.word-length.result c.in-Ok-read_key.key.items
+    ((c.in-Ok.ensures.looks.untouched told).same) (c.word-length.ensures ∙ ap (word 1) first) (c.in-Ok-read_key.ensures.bytes told) in
+    let bucket = bucket_read x.unit c.args.at c.args.extent.buckets c.word.result c.bucket_of.result c.deref.result.now
+    (c.word.ensures ∙ ap (word 1) first) (c.deref.ensures.value ∙ key) c.bucket_of.ensures.bucket in
+    follow_bad x c.args.bucket c.args.at c.args.at c.requires.some_at (omega arith) (unsound_bucket x c.args.bucket c.args.at
+    (λ e. c.if-bucket_of-bucket.true (bucket ∙ e)))
 
 -- an index that has this one unit alone
 abbrev alone : ℕ → ℕ → List ℕ → Index
@@ -74,13 +81,16 @@ returns-clause-record g c = λ told.
     let x : Index = index_in c.args.extent.buckets file.idx in
     let first = c.in-Ok.ensures.unit told in
     let placed = sym (c.is_placed.ensures x refl (c.requires.open told).used first) ∙ c.if-not-is_placed.false in
-    let key = key_read file (g.D.Disk.files c.read_unit.new.disk) c.args.at c.word-length.result c.in-Ok-read_key.key.items ((c.in-Ok.ensures.looks.untouched told).same) (c.word-length.ensures ∙ ap (word 1) first) (c.in-Ok-read_key.ensures.bytes told) in
-    let bucket = bucket_read x.unit c.args.at c.args.extent.buckets c.word.result c.bucket_of.result c.deref.result.now (c.word.ensures ∙ ap (word 1) first) (c.deref.ensures.value ∙ key) c.bucket_of.ensures.bucket in
+    let key = key_read file (g.D.Disk.files c.read_unit.new.disk) c.args.at c.word-length.result c.in-Ok-read_key.key.items
+    ((c.in-Ok.ensures.looks.untouched told).same) (c.word-length.ensures ∙ ap (word 1) first) (c.in-Ok-read_key.ensures.bytes told) in
+    let bucket = bucket_read x.unit c.args.at c.args.extent.buckets c.word.result c.bucket_of.result c.deref.result.now
+    (c.word.ensures ∙ ap (word 1) first) (c.deref.ensures.value ∙ key) c.bucket_of.ensures.bucket in
     record {
       sound = sound_from x c.args.bucket c.args.at placed (sym bucket ∙ c.if-bucket_of-bucket.false);
       next = c.word-2.ensures ∙ ap (word 0) first;
       packed = omega (arith, c.word.ensures, c.word-length.ensures, ap (word 1) first, c.in-Ok-read_key.ensures.long);
       number = sym (c.word-3.ensures ∙ ap (word 2) first);
       «in» = sym (c.word-4.ensures ∙ ap (word 3) first);
-      row = row_read x.unit c.args.at c.word.result c.word-3.result c.word-4.result c.in-Ok-read_key.key.items (c.word.ensures ∙ ap (word 1) first) key (c.word-3.ensures ∙ ap (word 2) first) (c.word-4.ensures ∙ ap (word 3) first);
+      row = row_read x.unit c.args.at c.word.result c.word-3.result c.word-4.result c.in-Ok-read_key.key.items (c.word.ensures ∙ ap (word 1) first)
+          key (c.word-3.ensures ∙ ap (word 2) first) (c.word-4.ensures ∙ ap (word 3) first);
     }

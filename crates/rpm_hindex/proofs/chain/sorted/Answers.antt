@@ -18,7 +18,8 @@ order : (a b : Hit) → is_lt (ordering_then (nat_cmp b.number a.number) (nat_cm
 order a b e = elim (cases_order a.number b.number) [
   | inl same ↦ elim (cases_lt b.place a.place) [
     | inl below ↦
-        let wrong : true ≡ false = sym (ap (λ (o : Ordering). is_lt (ordering_then o (nat_cmp b.place a.place))) (equal b.number a.number (sym same)) ∙ ap is_lt (less b.place a.place below)) ∙ e in
+        let wrong : true ≡ false = sym (ap (λ (o : Ordering). is_lt (ordering_then o (nat_cmp b.place a.place))) (equal b.number a.number (sym same))
+        ∙ ap is_lt (less b.place a.place below)) ∙ e in
         absurd (false≢true (sym wrong))
     | inr above ↦ inr (same, above)
   ]

@@ -1,5 +1,5 @@
 use Rattle.std.proofs.Common.{◌-◌, ◌≤◌, length}
-use Rattle.rpm_hindex.specs.Changes.{NoneBefore}
+use Rattle.rpm_hindex.specs.inner.Changes.{NoneBefore}
 use Rattle.rpm_hindex.proofs.change.position_of.Given as goal
 
 abbrev pub invariant-loop-at : goal.invariant-loop-at

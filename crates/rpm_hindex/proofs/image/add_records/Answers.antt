@@ -2,7 +2,7 @@ use Rattle.std.proofs.Common.{◌≡◌, ℕ, ◌+◌, ◌<◌, ◌++◌, ◌∷
 use Rattle.rpm_hindex.specs.Rows.{Row}
 use Rattle.rpm_hindex.specs.Sizes.{record_units}
 use Rattle.rpm_hindex.specs.Packed.{row_nth}
-use Rattle.rpm_hindex.specs.Drafts.{IsDraft}
+use Rattle.rpm_hindex.specs.inner.Drafts.{IsDraft}
 use Rattle.rpm_hindex.proofs.Takes.{live_take, live_none, next_rows, live_next, row_from, row_of_parts}
 use Rattle.rpm_hindex.proofs.image.add_records.Goals as goal
 
@@ -26,7 +26,10 @@ loop-i-preserved c =
       heads = c.in_ok-add_record.ensures.heads ∙ c.loop-i.invariant.heads;
       long = omega (arith, c.in_ok-add_record.ensures.long, c.loop-i.invariant.long, live_next rows i lt, size);
       so_far = λ d.
-          let is = row_of_parts (row_nth rows i) c.head-head.result.kind c.key.result.now c.head-head.result.number c.head-head.result.place c.head-head.ensures.kind c.key.ensures c.head-head.ensures.number c.head-head.ensures.place in
-          let all : take i rows ++ row_from c.head-head.result.kind c.key.result.now c.head-head.result.number c.head-head.result.place ∷ [] ≡ take (i + 1) rows = ap (λ (r : Row). take i rows ++ r ∷ []) is ∙ sym (next_rows rows i lt) in
-          subst (λ (rs : List Row). IsDraft rs c.add_record.new.draft.heads.items c.add_record.new.draft.bytes.items) all (c.in_ok-add_record.ensures.rows (take i rows) (c.loop-i.invariant.so_far d));
+          let is = row_of_parts (row_nth rows i) c.head-head.result.kind c.key.result.now c.head-head.result.number c.head-head.result.place
+          c.head-head.ensures.kind c.key.ensures c.head-head.ensures.number c.head-head.ensures.place in
+          let all : take i rows ++ row_from c.head-head.result.kind c.key.result.now c.head-head.result.number c.head-head.result.place ∷ []
+          ≡ take (i + 1) rows = ap (λ (r : Row). take i rows ++ r ∷ []) is ∙ sym (next_rows rows i lt) in
+          subst (λ (rs : List Row). IsDraft rs c.add_record.new.draft.heads.items c.add_record.new.draft.bytes.items) all
+          (c.in_ok-add_record.ensures.rows (take i rows) (c.loop-i.invariant.so_far d));
     }

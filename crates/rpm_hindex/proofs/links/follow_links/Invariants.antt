@@ -1,12 +1,13 @@
-use Rattle.std.proofs.Common.{◌≡◌, ℕ, ◌<◌, ◌≤◌, List}
+use Rattle.std.proofs.Common.{◌≡◌, ℕ, ◌+◌, ◌*◌, ◌<◌, ◌≤◌, List}
 use Rattle.std.specs.Prelude.{IsTrue}
 use Rattle.std.specs.Ordering.{nat_cmp}
 use Rattle.std.specs.BTreeMap.{get}
-use Rattle.std.specs.List.{filter}
+use Rattle.std.specs.List.{filter, sum_by}
 use Rattle.rpm_outside.specs.Files.{unit_at}
-use Rattle.rpm_hindex.specs.Index.{index_in, follow}
-use Rattle.rpm_hindex.specs.Changes.{AreLinks, CanRelink, is_kept}
-use Rattle.rpm_hindex.specs.Disks.{Reads}
+use Rattle.rpm_hindex.specs.Index.{index_in, follow, units_at}
+use Rattle.rpm_hindex.specs.inner.Changes.{AreLinks, CanRelink, is_kept}
+use Rattle.rpm_outside.specs.declared.disk.File.TheVariants.{Idx}
+use Rattle.rpm_outside.specs.Looks.{LooksAt}
 use Rattle.rpm_hindex.proofs.Chains.{behind_all}
 use Rattle.rpm_hindex.proofs.links.follow_links.Given as goal
 
@@ -14,12 +15,13 @@ abbrev pub invariant-loop-at : goal.invariant-loop-at
 invariant-loop-at g l = record {
   within : 0 < l.at → l.at < l.extent.used;
   relink : CanRelink l.extent.used l.links.items;
-  looks : Reads g.D.Disk.tells g.D.Disk.files g.D.Disk.left_since g.D.Disk.moment g.D.Disk.bytes_read g.D.Disk.follows l.initial.disk l.disk;
+  looks : LooksAt g.D.Disk.tells g.D.Disk.files g.D.Disk.left_since g.D.Disk.moment g.D.Disk.bytes_read g.D.Disk.follows Idx l.initial.disk l.disk;
   faults : g.D.Disk.faults l.initial.disk ≤ g.D.Disk.faults l.disk;
   so_far : IsTrue g.D.Disk.tells → (done : List ℕ)
       × AreLinks (unit_at (g.D.Disk.files l.initial.disk).idx) (filter (is_kept (λ p. get nat_cmp l.dropped p)) done) l.links.items
       × (follow (index_in l.extent.buckets (g.D.Disk.files l.initial.disk).idx) l.bucket l.from l.from
-      ≡ behind_all done (follow (index_in l.extent.buckets (g.D.Disk.files l.initial.disk).idx) l.bucket l.at l.at));
+      ≡ behind_all done (follow (index_in l.extent.buckets (g.D.Disk.files l.initial.disk).idx) l.bucket l.at l.at))
+      × (g.D.Disk.bytes_read l.disk Idx ≤ g.D.Disk.bytes_read l.initial.disk Idx + 16 * sum_by (units_at (unit_at (g.D.Disk.files l.initial.disk).idx)) done);
 }
 
 abbrev pub decreases-loop-at : goal.decreases-loop-at

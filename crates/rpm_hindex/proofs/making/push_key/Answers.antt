@@ -1,6 +1,6 @@
 use Rattle.std.proofs.Common.{◌≡◌, ℕ, ◌-◌, ◌%◌, ◌<◌, ◌++◌, List, length, take, drop, replicate, ap, ◌∙◌, arith}
 use Rattle.std.proofs.lemmas.List.{take-replicate, drop-replicate}
-use Rattle.rpm_hindex.specs.Making.{padding}
+use Rattle.rpm_hindex.specs.inner.Making.{padding}
 use Rattle.rpm_hindex.proofs.making.push_key.Goals as goal
 
 zeros : (n past : ℕ) → past ≡ n % 16 → 0 < past → take (16 - past) (drop past (replicate 16 0)) ≡ padding n
@@ -13,5 +13,6 @@ pub returns-in_ok-extend_from_slice-2 : goal.returns-in_ok-extend_from_slice-2
 returns-in_ok-extend_from_slice-2 c =
     let z = zeros (length c.args.key.now) (length c.args.key.now % 16) (omega arith) c.if-past-gt0.true in
     c.in_ok-extend_from_slice-2.ensures.items
-    ∙ ap (λ (bs : List ℕ). bs ++ take (16 - length c.args.key.now % 16) (drop (length c.args.key.now % 16) (replicate 16 0))) c.in_ok-extend_from_slice.ensures.items
+    ∙ ap (λ (bs : List ℕ). bs ++ take (16 - length c.args.key.now % 16) (drop (length c.args.key.now % 16) (replicate 16 0)))
+    c.in_ok-extend_from_slice.ensures.items
     ∙ ap (λ (bs : List ℕ). c.args.bytes.now.items ++ c.args.key.now ++ bs) z

@@ -6,4 +6,5 @@ use Rattle.rpm_hindex.proofs.patching.set_next.Goals as goal
 pub returns-clause-sets : goal.returns-clause-sets
 returns-clause-sets c =
     let u = c.unit_of_four-unit in
-    on_ok _ _ _ (sets_next _ _ c.args.link.now c.args.next _ u.result (omega (arith, c.len.ensures)) u.ensures.zero u.ensures.one u.ensures.two u.ensures.three) c.put_unit.ensures.put
+    on_ok _ _ _ (sets_next _ _ c.args.link.now c.args.next _ u.result (omega (arith, c.len.ensures)) u.ensures.zero u.ensures.one u.ensures.two
+    u.ensures.three) c.put_unit.ensures.put

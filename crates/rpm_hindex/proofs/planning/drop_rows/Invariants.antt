@@ -1,11 +1,13 @@
-use Rattle.std.proofs.Common.{◌≡◌, ◌≤◌, length, take}
+use Rattle.std.proofs.Common.{◌≡◌, ◌+◌, ◌≤◌, length, take}
 use Rattle.std.specs.Prelude.{IsTrue}
 use Rattle.std.specs.Ordering.{nat_cmp}
 use Rattle.std.specs.BTreeMap.{get}
-use Rattle.rpm_hindex.specs.Disks.{Reads}
+use Rattle.rpm_outside.specs.declared.disk.File.TheVariants.{Idx}
+use Rattle.rpm_outside.specs.Looks.{LooksAt}
 use Rattle.rpm_hindex.specs.Index.{index_in}
+use Rattle.rpm_hindex.specs.Costs.{chains_bytes}
 use Rattle.rpm_hindex.specs.Whole.{IsWellFormed}
-use Rattle.rpm_hindex.specs.Changes.{CanGo, HasLess, IsCut, IsHonest, kept_of, is_kept}
+use Rattle.rpm_hindex.specs.inner.Changes.{CanGo, HasLess, IsCut, IsHonest, kept_of, is_kept}
 use Rattle.rpm_hindex.proofs.planning.drop_rows.Given as goal
 
 abbrev pub invariant-loop-i : goal.invariant-loop-i
@@ -14,9 +16,15 @@ invariant-loop-i g l = record {
   extent : l.change.extent ≡ l.initial.change.extent;
   tail : l.change.tail ≡ l.initial.change.tail;
   none : l.i ≡ 0 → l.change ≡ l.initial.change;
-  less : IsTrue g.D.Disk.tells → IsWellFormed l.initial.change.extent.buckets (g.D.Disk.files l.initial.disk).idx → HasLess (take l.i l.rows) (kept_of (index_in l.initial.change.extent.buckets (g.D.Disk.files l.initial.disk).idx) (is_kept (λ p. get nat_cmp l.initial.change.dropped p))) (kept_of (index_in l.initial.change.extent.buckets (g.D.Disk.files l.initial.disk).idx) (is_kept (λ p. get nat_cmp l.change.dropped p)));
-  cuts : IsTrue g.D.Disk.tells → IsWellFormed l.initial.change.extent.buckets (g.D.Disk.files l.initial.disk).idx → length l.initial.change.tail.items ≡ 0 → IsCut l.initial.change (g.D.Disk.files l.initial.disk).idx → IsCut l.change (g.D.Disk.files l.initial.disk).idx;
+  less : IsTrue g.D.Disk.tells → IsWellFormed l.initial.change.extent.buckets (g.D.Disk.files l.initial.disk).idx → HasLess (take l.i l.rows)
+      (kept_of (index_in l.initial.change.extent.buckets (g.D.Disk.files l.initial.disk).idx) (is_kept (λ p. get nat_cmp l.initial.change.dropped p)))
+      (kept_of (index_in l.initial.change.extent.buckets (g.D.Disk.files l.initial.disk).idx) (is_kept (λ p. get nat_cmp l.change.dropped p)));
+  cuts : IsTrue g.D.Disk.tells → IsWellFormed l.initial.change.extent.buckets (g.D.Disk.files l.initial.disk).idx → length l.initial.change.tail.items
+      ≡ 0 → IsCut l.initial.change (g.D.Disk.files l.initial.disk).idx → IsCut l.change (g.D.Disk.files l.initial.disk).idx;
   honest : IsTrue g.D.Disk.tells → IsHonest l.initial.change (g.D.Disk.files l.initial.disk).idx → IsHonest l.change (g.D.Disk.files l.initial.disk).idx;
-  looks : Reads g.D.Disk.tells g.D.Disk.files g.D.Disk.left_since g.D.Disk.moment g.D.Disk.bytes_read g.D.Disk.follows l.initial.disk l.disk;
+  cost : IsTrue g.D.Disk.tells → IsWellFormed l.initial.change.extent.buckets (g.D.Disk.files l.initial.disk).idx
+      → g.D.Disk.bytes_read l.disk Idx ≤ g.D.Disk.bytes_read l.initial.disk Idx + chains_bytes (index_in l.initial.change.extent.buckets
+      (g.D.Disk.files l.initial.disk).idx) (take l.i l.rows);
+  looks : LooksAt g.D.Disk.tells g.D.Disk.files g.D.Disk.left_since g.D.Disk.moment g.D.Disk.bytes_read g.D.Disk.follows Idx l.initial.disk l.disk;
   faults : g.D.Disk.faults l.initial.disk ≤ g.D.Disk.faults l.disk;
 }

@@ -1,5 +1,5 @@
 use Rattle.std.proofs.Common.{◌≡◌, take, map}
-use Rattle.rpm_hindex.specs.Changes.{patch_of}
+use Rattle.rpm_hindex.specs.inner.Changes.{patch_of}
 use Rattle.rpm_hindex.proofs.planning.patches_of.Given as goal
 
 abbrev pub invariant-loop-k : goal.invariant-loop-k

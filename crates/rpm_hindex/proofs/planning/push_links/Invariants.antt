@@ -1,6 +1,6 @@
 use Rattle.std.proofs.Common.{◌≡◌, ◌++◌, take, map}
 use Rattle.rpm_hindex.specs.declared.links.Link.{Link}
-use Rattle.rpm_hindex.specs.Changes.{row_of}
+use Rattle.rpm_hindex.specs.inner.Changes.{row_of}
 use Rattle.rpm_hindex.proofs.planning.push_links.Given as goal
 
 abbrev pub invariant-loop-k : goal.invariant-loop-k

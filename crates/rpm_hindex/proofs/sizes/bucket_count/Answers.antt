@@ -29,4 +29,5 @@ loop-buckets-preserved c =
     }
 
 pub returns-clause-count : goal.returns-clause-count
-returns-clause-count c = done c.loop-buckets.invariant.count.0 c.loop-buckets.buckets c.args.records (bucket_count c.args.records) c.loop-buckets-test.false c.loop-buckets.invariant.count.2
+returns-clause-count c = done c.loop-buckets.invariant.count.0 c.loop-buckets.buckets c.args.records (bucket_count c.args.records)
+    c.loop-buckets-test.false c.loop-buckets.invariant.count.2

@@ -11,8 +11,11 @@ returns-then-eq c =
     let path = c.args.path.now in
     let item = c.index-items-i.result in
     let same : bytes_eq path (string_bytes item.path) ≡ true = ap (bytes_eq path) (sym c.as_str.ensures.value) ∙ sym c.eq.ensures ∙ c.if-eq.true in
-    let here = bytes_here path items c.loop-i.i item c.loop-i-test.true c.index-items-i.is in
-    (subst IsSome (sym here) refl, here ∙ sym (found path items c.loop-i.i item c.loop-i-test.true c.index-items-i.is same) ∙ c.loop-i.invariant ∙ sym (paths_find path items))
+    let here = bytes_here path items c.loop-i.i item c.loop-i-test.true c.index-items-i.is in (
+      subst IsSome (sym here) refl,
+      here ∙ sym (found path items c.loop-i.i item c.loop-i-test.true c.index-items-i.is same) ∙ c.loop-i.invariant
+          ∙ sym (paths_find path items),
+    )
 
 pub loop-i-preserved : goal.loop-i-preserved
 loop-i-preserved c =

@@ -10,6 +10,7 @@ loop-done-preserved g c =
     record {
       within = omega arith;
       faults = omega (arith, c.write.ensures.cause.later);
-      taken = taken_more g.O.Sink.tells (g.O.Sink.taken c.args.sink.now) (g.O.Sink.taken c.loop-done.sink) (g.O.Sink.taken c.write.new.self) c.args.bytes.now c.loop-done.done c.in_ok-done.field-0 fits c.loop-done.invariant.taken c.in_ok-done.ensures.taken;
+      taken = taken_more g.O.Sink.tells (g.O.Sink.taken c.args.sink.now) (g.O.Sink.taken c.loop-done.sink) (g.O.Sink.taken c.write.new.self)
+          c.args.bytes.now c.loop-done.done c.in_ok-done.field-0 fits c.loop-done.invariant.taken c.in_ok-done.ensures.taken;
       goes_on = g.met.O.Sink.follows_trans c.args.sink.now c.loop-done.sink c.write.new.self c.loop-done.invariant.goes_on c.write.ensures.follows;
     }

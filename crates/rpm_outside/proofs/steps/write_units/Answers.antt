@@ -1,18 +1,39 @@
-use Rattle.std.proofs.Common.{◌≡◌, ◌∙◌, ap}
-use Rattle.rpm_outside.specs.Files.{Units, file_of, with_file, put}
-use Rattle.rpm_outside.specs.Past.{held_files}
+use Rattle.std.proofs.Common.{◌≡◌, ◌<◌, ◌==◌, ℕ, true, false, List, [], ◌∷◌, ◌++◌, length, refl, sym, ◌∙◌, ap, subst, arith}
+use Rattle.std.proofs.lemmas.List.{nil_from_length}
+use Rattle.std.proofs.lemmas.Bool.Decides.{nat_tests}
+use Rattle.rpm_outside.specs.declared.steps.Step.{Step}
+use Rattle.rpm_outside.specs.declared.steps.Step.TheVariants.{Wrote}
+use Rattle.rpm_outside.specs.Files.{Units, file_of, with_file, put, units_of}
+use Rattle.rpm_outside.specs.Past.{held_files, part_of, WroteAny}
+use Rattle.rpm_outside.proofs.Replays.{once_any}
 use Rattle.rpm_outside.proofs.steps.write_units.Goals as goal
+
+zero_length : (n : ℕ) → true ≡ (n == 0) → n ≡ 0
+zero_length n is = grind (arith, nat_tests)
+
+some_length : (n : ℕ) → false ≡ (n == 0) → 0 < n
+some_length n is = grind (arith, nat_tests)
+
+pub returns-then-is_empty-clause-ok : goal.returns-then-is_empty-clause-ok
+returns-then-is_empty-clause-ok c =
+    let old = held_files c.args.now.now in
+    let steps = c.args.steps.now.items in
+    let units = c.in_ok-units.units in
+    let none : units.items ≡ [] = nil_from_length units.items (omega (arith, units.ok.0, zero_length units.len c.if-is_empty.ensures)) in
+    subst (λ (us : Units). WroteAny old old steps steps c.args.file c.args.unit us) (sym none ∙ c.in_ok-units.ensures.units)
+    (record { files = refl; none = refl })
 
 pub returns-clause-ok : goal.returns-clause-ok
 returns-clause-ok c =
     let old = held_files c.args.now.now in
     let file = c.args.file in
-    let from : c.deref.result.now ≡ file_of file old = c.deref.ensures.value ∙ c.file.ensures in
-    let next : c.in_ok-next.next.items ≡ put c.args.unit c.in_ok-units.units.items (file_of file old) =
-    c.in_ok-next.ensures.file ∙ ap (λ (us : Units). put c.args.unit us c.deref.result.now) c.deref-2.ensures.value ∙ ap (λ (us : Units). put c.args.unit c.in_ok-units.units.items us) from in
-    record {
+    let part = part_of c.args.half (units_of c.args.bytes.now) in
+    let is = c.in_ok-units.ensures.units in
+    let units = c.in_ok-units.units in
+    let some : 0 < length part = omega (arith, ap length is, units.ok.0, some_length units.len c.if-is_empty.ensures) in
+    once_any old (held_files c.write.new.self) c.args.steps.now.items c.push.new.self.items file c.args.unit part some (record {
       kept = c.in_ok-units.units;
-      is = c.in_ok-units.ensures.units;
-      step = c.in_ok-push.ensures.items;
-      files = c.replace.ensures ∙ ap (λ (us : Units). with_file file us old) (next ∙ ap (λ (us : Units). put c.args.unit us (file_of file old)) c.in_ok-units.ensures.units);
-    }
+      is = is;
+      step = c.in_ok-push.ensures.items ∙ ap (λ (s : List Step). s ++ Wrote file c.args.unit units ∷ []) c.reserve.ensures.items;
+      files = c.in_ok-write.ensures.ok ∙ ap (λ (us : Units). with_file file (put c.args.unit us (file_of file old)) old) (c.deref.ensures.value ∙ is);
+    })

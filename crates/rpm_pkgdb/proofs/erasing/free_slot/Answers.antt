@@ -1,10 +1,10 @@
 use Rattle.std.proofs.Common.{◌+◌, [], ◌∷◌, refl, inr}
 use Rattle.rpm_outside.specs.Crash.{Torn}
 use Rattle.rpm_pkgdb.specs.Store.{Keeps}
-use Rattle.rpm_pkgdb.specs.Changes.{on_ok, changes_then, stops_from, stops_then}
-use Rattle.rpm_pkgdb.specs.Clear.{SameOutside}
+use Rattle.rpm_pkgdb.proofs.Changing.{on_ok, changes_then, stops_from, stops_then}
+use Rattle.rpm_pkgdb.specs.inner.Clear.{SameOutside}
 use Rattle.rpm_pkgdb.specs.Quiet.{BeforeOrAfter, with_free, Anything}
-use Rattle.rpm_pkgdb.specs.Erases.{while_freed, freed, zeroed, stands_by}
+use Rattle.rpm_pkgdb.proofs.Erases.{while_freed, freed, zeroed, stands_by}
 use Rattle.rpm_pkgdb.proofs.erasing.free_slot.Goals as goal
 
 pub returns-in_err-write_one-clause-images : goal.returns-in_err-write_one-clause-images
@@ -12,7 +12,8 @@ returns-in_err-write_one-clause-images g c = λ told value has quiet.
     let D = g.D.Disk in
     let k = c.args.place in
     let F0 = (D.files c.args.disk.now).pkg in
-    stops_from _ _ _ _ _ _ told (Torn (2 + k) (c.slot_unit.result ∷ [])) (BeforeOrAfter value (with_free k value) F0) c.args.disk.now c.write_one.new.disk c.write_one.ensures.changes
+    stops_from _ _ _ _ _ _ told (Torn (2 + k) (c.slot_unit.result ∷ []))
+    (BeforeOrAfter value (with_free k value) F0) c.args.disk.now c.write_one.new.disk c.write_one.ensures.changes
     (λ from image was torn. while_freed value k c.args.slot has c.slot_unit.result c.slot_unit.ensures F0 from.pkg image.pkg (quiet from was) torn)
 
 pub returns-clause-stands : goal.returns-clause-stands
@@ -55,5 +56,6 @@ returns-clause-quiet g c = on_ok c.write_zeros.result (λ told value has keeps.
 
 pub returns-clause-changes : goal.returns-clause-changes
 returns-clause-changes g c =
-    changes_then _ _ _ _ _ _ g.met.D.Disk.follows_trans (Torn (2 + c.args.place) (c.slot_unit.result ∷ [])) (SameOutside c.args.slot.offset c.args.slot.count) Anything c.args.disk.now c.write_one.new.disk c.write_zeros.new.disk
+    changes_then _ _ _ _ _ _ g.met.D.Disk.follows_trans (Torn (2 + c.args.place) (c.slot_unit.result ∷ []))
+    (SameOutside c.args.slot.offset c.args.slot.count) Anything c.args.disk.now c.write_one.new.disk c.write_zeros.new.disk
     (λ x y r. tt) (λ x y z r s. tt) c.write_one.ensures.changes c.write_zeros.ensures.changes

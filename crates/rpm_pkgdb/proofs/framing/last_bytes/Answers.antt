@@ -5,7 +5,8 @@ use Rattle.std.proofs.Math.Seq.{take-append-add}
 use Rattle.rpm_pkgdb.proofs.Zeros.{zeros}
 use Rattle.rpm_pkgdb.proofs.framing.last_bytes.Goals as goal
 
-front : (end : ℕ) (rest copied : List ℕ) → length rest + 12 ≤ end → end ≤ 32 → copied ≡ rest → take (end - 12) (copied ++ drop (length rest) (zeros 32)) ≡ rest ++ zeros (end - 12 - length rest)
+front : (end : ℕ) (rest copied : List ℕ) → length rest + 12 ≤ end → end ≤ 32 → copied ≡ rest
+    → take (end - 12) (copied ++ drop (length rest) (zeros 32)) ≡ rest ++ zeros (end - 12 - length rest)
 front end rest copied room le is =
     let n = end - 12 - length rest in
     let e : end - 12 ≡ length rest + n = omega arith in
@@ -26,6 +27,14 @@ returns c =
     let also : tail ≡ c.args.tail.now = c.copy_from_slice-2.ensures.after in
     let twelve : length tail ≡ 12 = ap length also ∙ c.told-tail in
     let room = c.requires.room in
-    let long : length xs ≡ 32 = omega (arith, length-append copied (drop (length rest) (zeros 32)), length-drop (length rest) (zeros 32), length-replicate {A = ℕ} 32 0, ap length is, c.requires.end) in
+    let long : length xs ≡ 32 =
+    omega (
+      arith,
+      length-append copied (drop (length rest) (zeros 32)),
+      length-drop (length rest) (zeros 32),
+      length-replicate {A = ℕ} 32 0,
+      ap length is,
+      c.requires.end,
+    ) in
     take-put_mid (end - 12) (end - (end - 12)) xs tail end (omega arith) (omega (arith, c.requires.end))
     ∙ ap (λ (x : List ℕ). x ++ tail) (front end rest copied room c.requires.end is) ∙ ap (λ (x : List ℕ). (rest ++ zeros (end - 12 - length rest)) ++ x) also

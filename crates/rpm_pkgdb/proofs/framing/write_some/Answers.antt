@@ -3,11 +3,11 @@ use Rattle.std.proofs.lemmas.List.{nil_from_length}
 use Rattle.std.proofs.lemmas.Bool.Decides.{nat_tests}
 use Rattle.rpm_outside.specs.Files.{Units, units_of, put}
 use Rattle.rpm_outside.specs.Crash.{Torn}
-use Rattle.rpm_outside.specs.Cuts.{length-cut_up}
-use Rattle.rpm_pkgdb.specs.Changes.{changes_weaker}
-use Rattle.rpm_pkgdb.specs.Clear.{SameOutside}
-use Rattle.rpm_pkgdb.specs.ClearLaws.{torn_outside}
-use Rattle.rpm_pkgdb.specs.PutParts.{put_nothing}
+use Rattle.rpm_outside.specs.inner.Cuts.{length-cut_up}
+use Rattle.rpm_pkgdb.proofs.Changing.{changes_weaker}
+use Rattle.rpm_pkgdb.specs.inner.Clear.{SameOutside}
+use Rattle.rpm_pkgdb.proofs.ClearLaws.{torn_outside}
+use Rattle.rpm_pkgdb.proofs.PutParts.{put_nothing}
 use Rattle.rpm_pkgdb.proofs.framing.write_some.Goals as goal
 
 empty_units : (bytes : List ℕ) → length bytes ≡ 0 → units_of bytes ≡ []

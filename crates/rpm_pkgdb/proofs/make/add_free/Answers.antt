@@ -9,7 +9,9 @@ loop-preserved c =
     let k = c.loop.counter in
     let old = c.args.slots.now.items in
     record {
-      items = c.in-Ok.ensures.items ∙ ap (λ (l : List Slot). l ++ free ∷ []) c.loop.invariant.items ∙ append_assoc old (replicate k free) (free ∷ []) ∙ ap (λ (l : List Slot). old ++ l) (replicate_more k free);
+      items =
+          c.in-Ok.ensures.items ∙ ap (λ (l : List Slot). l ++ free ∷ []) c.loop.invariant.items ∙ append_assoc old (replicate k free) (free ∷ [])
+          ∙ ap (λ (l : List Slot). old ++ l) (replicate_more k free);
       len = omega (arith, c.in-Ok.ensures.len, c.loop.invariant.len);
       capacity = omega (arith, c.in-Ok.ensures.capacity, c.loop.invariant.capacity);
     }

@@ -1,12 +1,14 @@
+use Rattle.rpm_outside.specs.declared.disk.File.TheVariants.{Pkg}
 use Rattle.std.proofs.Common.{◌≡◌, [], ◌∷◌, sym, subst, true, IsTrue}
 use Rattle.rpm_outside.specs.Files.{put}
 use Rattle.rpm_outside.specs.Crash.{Torn}
 use Rattle.rpm_pkgdb.specs.Store.{is_blank}
-use Rattle.rpm_pkgdb.specs.Changes.{IsSettled, map_ok, both_ok, changes_then, stops_from, stops_then}
-use Rattle.rpm_pkgdb.specs.Clear.{SameOutside}
+use Rattle.rpm_outside.specs.Changes.{IsSettled}
+use Rattle.rpm_pkgdb.proofs.Changing.{map_ok, both_ok, changes_then, stops_from, stops_then}
+use Rattle.rpm_pkgdb.specs.inner.Clear.{SameOutside}
 use Rattle.rpm_pkgdb.specs.Quiet.{Anything, IsFirstPage}
 use Rattle.rpm_pkgdb.specs.Written.{MakesTo}
-use Rattle.rpm_pkgdb.specs.Makes.{says_blank, blank_after, while_first, while_headed, new_keeps, new_quiet}
+use Rattle.rpm_pkgdb.proofs.Makes.{says_blank, blank_after, while_first, while_headed, new_keeps, new_quiet}
 use Rattle.rpm_pkgdb.proofs.make.write_new.Goals as goal
 
 pub returns-in_err-write_first_page-clause-images : goal.returns-in_err-write_first_page-clause-images
@@ -26,7 +28,8 @@ returns-clause-images g c = λ told value none quiet.
     (λ from image was torn.
     let past = first.now told from was in
     let blank : is_blank from.pkg ≡ true = blank_after past.from.pkg from.pkg (says_blank past.from.pkg value (quiet past.from past.was).keeps none) past.pkg in
-    let page : IsFirstPage from.pkg = subst IsFirstPage (sym (c.in_ok-write_first_page.ensures.settled told from was)) (c.in_ok-write_first_page.ensures.page told) in
+    let page : IsFirstPage from.pkg =
+    subst IsFirstPage (sym (c.in_ok-write_first_page.ensures.settled told from was)) (c.in_ok-write_first_page.ensures.page told) in
     while_headed value c.head_unit.result c.head_unit.ensures from.pkg image.pkg blank page torn))
 
 pub returns-clause-keeps : goal.returns-clause-keeps
@@ -34,7 +37,9 @@ returns-clause-keeps g c =
     let D = g.D.Disk in
     let mid = (D.files c.write_first_page.new.disk).pkg in
     let next = (D.files c.write_one.new.disk).pkg in
-    map_ok c.write_one.result (λ (written : IsTrue D.tells → next ≡ put 0 (c.head_unit.result ∷ []) mid) told value. new_keeps value c.head_unit.result c.head_unit.ensures mid next (c.in_ok-write_first_page.ensures.page told) (written told)) c.write_one.ensures.written
+    map_ok c.write_one.result (λ (written : IsTrue D.tells
+    → next ≡ put 0 (c.head_unit.result ∷ []) mid) told value. new_keeps value c.head_unit.result c.head_unit.ensures mid next
+    (c.in_ok-write_first_page.ensures.page told) (written told)) c.write_one.ensures.written
 
 pub returns-clause-quiet : goal.returns-clause-quiet
 returns-clause-quiet g c =
@@ -42,10 +47,14 @@ returns-clause-quiet g c =
     let mid = (D.files c.write_first_page.new.disk).pkg in
     let next = D.files c.write_one.new.disk in
     let images = D.left_since c.write_one.new.disk (D.moment c.write_one.new.disk) in
-    both_ok c.write_one.result (λ (written : IsTrue D.tells → next.pkg ≡ put 0 (c.head_unit.result ∷ []) mid) (settled : IsTrue D.tells → IsSettled next images) told value.
-    new_quiet value c.head_unit.result c.head_unit.ensures next images (new_keeps value c.head_unit.result c.head_unit.ensures mid next.pkg (c.in_ok-write_first_page.ensures.page told) (written told)) (settled told)) c.write_one.ensures.written c.write_one.ensures.settled
+    both_ok c.write_one.result (λ (written : IsTrue D.tells → next.pkg ≡ put 0 (c.head_unit.result ∷ []) mid) (settled : IsTrue D.tells
+    → IsSettled Pkg next images) told value.
+    new_quiet value c.head_unit.result c.head_unit.ensures next images
+    (new_keeps value c.head_unit.result c.head_unit.ensures mid next.pkg (c.in_ok-write_first_page.ensures.page told) (written told)) (settled told))
+    c.write_one.ensures.written c.write_one.ensures.settled
 
 pub returns-clause-changes : goal.returns-clause-changes
 returns-clause-changes g c =
-    changes_then _ _ _ _ _ _ g.met.D.Disk.follows_trans (SameOutside 1 255) (Torn 0 (c.head_unit.result ∷ [])) Anything c.args.disk.now c.write_first_page.new.disk c.write_one.new.disk
+    changes_then _ _ _ _ _ _ g.met.D.Disk.follows_trans (SameOutside 1 255)
+    (Torn 0 (c.head_unit.result ∷ [])) Anything c.args.disk.now c.write_first_page.new.disk c.write_one.new.disk
     (λ x y r. tt) (λ x y z r s. tt) c.write_first_page.ensures.changes c.write_one.ensures.changes

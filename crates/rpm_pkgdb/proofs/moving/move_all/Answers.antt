@@ -1,16 +1,18 @@
+use Rattle.rpm_outside.specs.declared.disk.File.TheVariants.{Pkg}
 use Rattle.std.proofs.Common.{◌≡◌, ◌+◌, ◌*◌, ◌^◌, ◌<◌, List, length, take, sym, ap, ◌∙◌, subst, arith, refl}
 use Rattle.std.proofs.lemmas.List.{take_all}
-use Rattle.rpm_outside.specs.Moments.{started}
+use Rattle.rpm_outside.specs.inner.Moments.{started}
 use Rattle.rpm_pkgdb.specs.declared.moving.Move.{Move}
 use Rattle.rpm_pkgdb.specs.Store.{Store, Keeps}
 use Rattle.rpm_pkgdb.specs.Blobs.{blobs}
-use Rattle.rpm_pkgdb.specs.Changes.{Stops, stops_weaker}
-use Rattle.rpm_pkgdb.specs.Copies.{copies_none, copies_then, copies_weaker, copies_stops_then}
+use Rattle.rpm_outside.specs.Changes.{Stops}
+use Rattle.rpm_pkgdb.proofs.Changing.{stops_weaker}
+use Rattle.rpm_pkgdb.proofs.Changing.{copies_none, copies_then, copies_weaker, copies_stops_then}
 use Rattle.rpm_pkgdb.specs.Quiet.{StandsFor, IsQuiet}
-use Rattle.rpm_pkgdb.specs.Settings.{NoShorter, WhileMoved}
-use Rattle.rpm_pkgdb.specs.ErasesTo.{stands_for}
-use Rattle.rpm_pkgdb.specs.Moves.{moved_map, moves_to}
-use Rattle.rpm_pkgdb.specs.MoveLists.{after_moves, move_at}
+use Rattle.rpm_pkgdb.specs.inner.Settings.{NoShorter, WhileMoved}
+use Rattle.rpm_pkgdb.proofs.ErasesTo.{stands_for}
+use Rattle.rpm_pkgdb.proofs.Moves.{moved_map, moves_to}
+use Rattle.rpm_pkgdb.specs.inner.MoveLists.{after_moves, move_at}
 use Rattle.rpm_pkgdb.proofs.MoveSteps.{old_slot, few_enough, stands_for_same, current, next, old, kept, can_move, then_after}
 use Rattle.rpm_pkgdb.proofs.moving.move_all.Goals as goal
 
@@ -24,9 +26,19 @@ loop-k-init g c =
       images = λ told value some same are quiet.
           let P = StandsFor value.generation value.field (blobs (D.files d).pkg value) in
           let keeps : Keeps (D.files d).pkg value = (quiet (D.files d) (g.met.D.Disk.as_read d told)).keeps in
-          started D.moment D.left_since d (Stops P (D.left_since d (D.moment d))) (λ image here. record { from = image; was = here; pkg = stands_for value (D.files d).pkg image.pkg some keeps (quiet image here); idx = refl; log = refl });
+          started D.moment D.left_since d (Stops Pkg P (D.left_since d (D.moment d)))
+          (λ image here. record {
+            from = image;
+            was = here;
+            pkg = stands_for value (D.files d).pkg image.pkg some keeps (quiet image here);
+            idx =
+                refl;
+            log = refl;
+          });
       quiet = λ told value some same are quiet. quiet;
-      copies = copies_weaker _ _ _ _ _ _ NoShorter NoShorter 0 (2 ^ 32 * 0) d d (omega arith) (λ x y r. r) (copies_none _ _ _ _ _ _ g.met.D.Disk.follows_refl NoShorter (λ x. omega arith) d);
+      copies =
+          copies_weaker _ _ _ _ _ _ NoShorter NoShorter 0 (2 ^ 32 * 0) d d (omega arith) (λ x y r. r)
+          (copies_none _ _ _ _ _ _ g.met.D.Disk.follows_refl NoShorter (λ x. omega arith) d);
       faults = omega arith;
     }
 
@@ -47,16 +59,21 @@ returns-in_err-move_blocks-clause-images g c = λ told value some same are quiet
     let P = StandsFor value.generation value.field (blobs F0 value) in
     let keeps0 : Keeps F0 value = (quiet (D.files d) (g.met.D.Disk.as_read d told)).keeps in
     let keeps1 : Keeps F1 u = l.invariant.keeps told value some same are keeps0 in
-    copies_stops_then _ _ _ _ _ _ told NoShorter P (2 ^ 32 * l.k) d l.disk c.move_blocks.new.disk l.invariant.copies (l.invariant.images told value some same are quiet)
+    copies_stops_then _ _ _ _ _ _ told NoShorter P (2 ^ 32 * l.k) d l.disk c.move_blocks.new.disk l.invariant.copies
+    (l.invariant.images told value some same are quiet)
     (stops_weaker D.moment D.left_since (WhileMoved u m.place o m.to F1) P l.disk c.move_blocks.new.disk
-    (λ image w. stands_for_same u.generation u.field value.generation value.field (blobs F1 u) (blobs F0 value) image now.generation_is now.field_is (l.invariant.blobs_are told value some same are keeps0) (moves_to u m.place o m.to can F1 keeps1 image w))
+    (λ image w. stands_for_same u.generation u.field value.generation value.field (blobs F1 u) (blobs F0 value) image now.generation_is now.field_is
+    (l.invariant.blobs_are told value some same are keeps0) (moves_to u m.place o m.to can F1 keeps1 image w))
     (c.move_blocks.ensures.images told u can (l.invariant.quiet told value some same are quiet)))
 
 pub returns-in_err-move_blocks-clause-copies : goal.returns-in_err-move_blocks-clause-copies
 returns-in_err-move_blocks-clause-copies g c =
     let l = c.loop-k in
     let count = (old_slot c.args.slots.now (move_at c.args.moves.now l.k)).count in
-    copies_then _ _ _ _ _ _ g.met.D.Disk.follows_trans NoShorter NoShorter NoShorter (2 ^ 32 * l.k) (16 * count) (2 ^ 32 * length c.args.moves.now) c.args.disk.now l.disk c.move_blocks.new.disk (few_enough count l.k (length c.args.moves.now) c.loop-k-test.true (old_slot c.args.slots.now (move_at c.args.moves.now l.k)).offset (c.requires.movable l.k c.loop-k-test.true).end)
+    copies_then _ _ _ _ _ _ g.met.D.Disk.follows_trans NoShorter NoShorter NoShorter (2 ^ 32 * l.k) (16 * count)
+    (2 ^ 32 * length c.args.moves.now) c.args.disk.now l.disk c.move_blocks.new.disk
+    (few_enough count l.k (length c.args.moves.now) c.loop-k-test.true (old_slot c.args.slots.now (move_at c.args.moves.now l.k)).offset
+    (c.requires.movable l.k c.loop-k-test.true).end)
     (λ x y r. r) (λ x y z r q. omega (arith, r, q)) l.invariant.copies c.move_blocks.ensures.copies
 
 pub loop-k-preserved : goal.loop-k-preserved
@@ -85,7 +102,9 @@ loop-k-preserved g c =
           let o = old value slots moves k some same are lt in
           let can = can_move value slots moves k some same are lt in
           let keeps1 : Keeps F1 u = l.invariant.keeps told value some same are keeps0 in
-          ap (blobs F2) (then_after value slots moves k some same are lt) ∙ moved_map u m.place o m.to can F1 keeps1 F2 (c.in_ok-move_blocks.ensures.stands told u can keeps1) ∙ l.invariant.blobs_are told value some same are keeps0;
+          ap (blobs F2) (then_after value slots moves k some same are lt)
+          ∙ moved_map u m.place o m.to can F1 keeps1 F2 (c.in_ok-move_blocks.ensures.stands told u can keeps1)
+          ∙ l.invariant.blobs_are told value some same are keeps0;
       images = λ told value some same are quiet.
           let u = current value slots moves k some same are lt in
           let m = next value slots moves k some same are lt in
@@ -97,15 +116,19 @@ loop-k-preserved g c =
           let keeps1 : Keeps F1 u = l.invariant.keeps told value some same are keeps0 in
           copies_stops_then _ _ _ _ _ _ told NoShorter P (2 ^ 32 * k) d l.disk e l.invariant.copies (l.invariant.images told value some same are quiet)
           (stops_weaker D.moment D.left_since (WhileMoved u m.place o m.to F1) P l.disk e
-          (λ image w. stands_for_same u.generation u.field value.generation value.field (blobs F1 u) (blobs F0 value) image now.generation_is now.field_is (l.invariant.blobs_are told value some same are keeps0) (moves_to u m.place o m.to can F1 keeps1 image w))
+          (λ image w. stands_for_same u.generation u.field value.generation value.field (blobs F1 u) (blobs F0 value) image now.generation_is now.field_is
+          (l.invariant.blobs_are told value some same are keeps0) (moves_to u m.place o m.to can F1 keeps1 image w))
           (c.move_blocks.ensures.images told u can (l.invariant.quiet told value some same are quiet)));
       quiet = λ told value some same are quiet.
           let u = current value slots moves k some same are lt in
           let can = can_move value slots moves k some same are lt in
           let keeps0 : Keeps F0 value = (quiet (D.files d) (g.met.D.Disk.as_read d told)).keeps in
           let keeps1 : Keeps F1 u = l.invariant.keeps told value some same are keeps0 in
-          subst (λ (v : Store). IsQuiet v (D.files e) (D.left_since e (D.moment e))) (sym (then_after value slots moves k some same are lt)) (c.in_ok-move_blocks.ensures.quiet told u can keeps1);
-      copies = copies_then _ _ _ _ _ _ g.met.D.Disk.follows_trans NoShorter NoShorter NoShorter (2 ^ 32 * k) (16 * count) (2 ^ 32 * (k + 1)) d l.disk e (few_enough count k (k + 1) (omega arith) (old_slot slots (move_at moves k)).offset (c.requires.movable k lt).end)
+          subst (λ (v : Store). IsQuiet v (D.files e) (D.left_since e (D.moment e))) (sym (then_after value slots moves k some same are lt))
+          (c.in_ok-move_blocks.ensures.quiet told u can keeps1);
+      copies =
+          copies_then _ _ _ _ _ _ g.met.D.Disk.follows_trans NoShorter NoShorter NoShorter (2 ^ 32 * k) (16 * count) (2 ^ 32 * (k + 1)) d l.disk e
+          (few_enough count k (k + 1) (omega arith) (old_slot slots (move_at moves k)).offset (c.requires.movable k lt).end)
           (λ x y r. r) (λ x y z r q. omega (arith, r, q)) l.invariant.copies c.move_blocks.ensures.copies;
       faults = omega (arith, l.invariant.faults, c.move_blocks.ensures.cause.later);
     }
@@ -116,4 +139,5 @@ returns-clause-quiet g c = λ told value some same are quiet.
     let l = c.loop-k in
     let moves = c.args.moves.now in
     let all : take l.k moves ≡ moves = take_all l.k moves (omega arith) in
-    subst (λ (ms : List Move). IsQuiet (after_moves value ms) (D.files l.disk) (D.left_since l.disk (D.moment l.disk))) all (l.invariant.quiet told value some same are quiet)
+    subst (λ (ms : List Move). IsQuiet (after_moves value ms) (D.files l.disk) (D.left_since l.disk (D.moment l.disk))) all
+    (l.invariant.quiet told value some same are quiet)

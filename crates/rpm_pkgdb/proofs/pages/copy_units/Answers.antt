@@ -5,13 +5,20 @@ use borrow.Rule.Slice.PartMut.{put_mid}
 use Rattle.std.proofs.lemmas.List.{get_or_default, get_or_past}
 use Rattle.std.proofs.lemmas.Bool.{cases_lt}
 use Rattle.rpm_outside.specs.Files.{bytes_of, units_of, blank}
-use Rattle.rpm_outside.specs.Cuts.{bytes_of_more, units_of-bytes_of}
+use Rattle.rpm_outside.specs.inner.Cuts.{bytes_of_more, units_of-bytes_of}
 use Rattle.rpm_pkgdb.proofs.pages.copy_units.Goals as goal
 
 length-put_mid : (a k : ℕ) (xs ys : List ℕ) → a + k ≤ length xs → length ys ≡ k → length (put_mid a k xs ys) ≡ length xs
 length-put_mid a k xs ys fits is =
     ap length (put_mid-paste a k xs ys ys k refl refl (sym is))
-    ∙ omega (arith, length-append (take a xs ++ take k ys) (drop (a + k) xs), length-append (take a xs) (take k ys), length-take a xs, length-take k ys, length-drop (a + k) xs)
+    ∙ omega (
+      arith,
+      length-append (take a xs ++ take k ys) (drop (a + k) xs),
+      length-append (take a xs) (take k ys),
+      length-take a xs,
+      length-take k ys,
+      length-drop (a + k) xs,
+    )
 
 pub loop-k-preserved : goal.loop-k-preserved
 loop-k-preserved c =
@@ -41,7 +48,8 @@ returns c =
     let into = c.loop-k.into in
     let all : c.loop-k.k ≡ length units = omega arith in
     let whole : take (16 * c.loop-k.k) into ≡ into = take_all (16 * c.loop-k.k) into (omega (arith, c.loop-k.invariant.size)) in
-    let bytes : into ≡ bytes_of units = sym whole ∙ c.loop-k.invariant.done ∙ ap (λ (k : ℕ). bytes_of (take k units)) all ∙ ap bytes_of (take_all (length units) units (omega arith)) in
+    let bytes : into ≡ bytes_of units =
+    sym whole ∙ c.loop-k.invariant.done ∙ ap (λ (k : ℕ). bytes_of (take k units)) all ∙ ap bytes_of (take_all (length units) units (omega arith)) in
     ap units_of bytes ∙ units_of-bytes_of units (λ k.
     elim (cases_lt k (length units)) [
       | inl inside ↦ (let e : get_or units k blank ≡ get_or units k [] = get_or_default units k blank [] inside in ap length e ∙ c.told-units k inside)

@@ -1,9 +1,11 @@
 use Rattle.std.proofs.Common.{ℕ, Option, length, sym, subst}
 use Rattle.rpm_pkgdb.specs.Blobs.{blocks_for}
-use Rattle.rpm_pkgdb.specs.Changes.{IsSame, changes_then, changes_weaker}
-use Rattle.rpm_pkgdb.specs.Clear.{SameOutside}
-use Rattle.rpm_pkgdb.specs.Puts.{FieldTorn, BlobTorn, next_field}
-use Rattle.rpm_pkgdb.specs.PutsLaws.{blocks_torn, then_field}
+use Rattle.rpm_outside.specs.Changes.{IsSame}
+use Rattle.rpm_pkgdb.proofs.Changing.{changes_then, changes_weaker}
+use Rattle.rpm_pkgdb.specs.inner.Clear.{SameOutside}
+use Rattle.rpm_pkgdb.specs.inner.Puts.{FieldTorn, BlobTorn}
+use Rattle.rpm_pkgdb.specs.Written.{next_field}
+use Rattle.rpm_pkgdb.proofs.FieldLaws.{blocks_torn, then_field}
 use Rattle.rpm_pkgdb.proofs.putting.write_first.Goals as goal
 
 pub returns-in_err-write_blob-clause-changes : goal.returns-in_err-write_blob-clause-changes
@@ -18,15 +20,20 @@ returns-in_err-write_field-clause-changes g c =
     let at = c.args.plan.now.start in
     let n = blocks_for (length c.args.blob.now) in
     let f = next_field c.args.plan.now in
-    changes_then _ _ _ _ _ _ g.met.D.Disk.follows_trans (SameOutside at n) (FieldTorn c.next_field.result) (BlobTorn at n f) c.args.disk.now c.write_blob.new.disk c.write_field.new.disk (blocks_torn at n f)
-    (λ x y z same torn. then_field at n f x y z same (subst (λ (o : Option ℕ). FieldTorn o y z) c.next_field.ensures torn)) c.write_blob.ensures.changes c.write_field.ensures.changes
+    changes_then _ _ _ _ _ _ g.met.D.Disk.follows_trans (SameOutside at n) (FieldTorn c.next_field.result)
+    (BlobTorn at n f) c.args.disk.now c.write_blob.new.disk c.write_field.new.disk (blocks_torn at n f)
+    (λ x y z same torn. then_field at n f x y z same (subst (λ (o : Option ℕ). FieldTorn o y z) c.next_field.ensures torn)) c.write_blob.ensures.changes
+    c.write_field.ensures.changes
 
 pub returns-clause-changes : goal.returns-clause-changes
 returns-clause-changes g c =
     let at = c.args.plan.now.start in
     let n = blocks_for (length c.args.blob.now) in
     let f = next_field c.args.plan.now in
-    changes_then _ _ _ _ _ _ g.met.D.Disk.follows_trans (BlobTorn at n f) IsSame (BlobTorn at n f) c.args.disk.now c.write_field.new.disk c.settle.new.disk (λ x y r. r) (λ x y z r same. subst (BlobTorn at n f x) (sym same) r)
-    (changes_then _ _ _ _ _ _ g.met.D.Disk.follows_trans (SameOutside at n) (FieldTorn c.next_field.result) (BlobTorn at n f) c.args.disk.now c.write_blob.new.disk c.write_field.new.disk (blocks_torn at n f)
-    (λ x y z same torn. then_field at n f x y z same (subst (λ (o : Option ℕ). FieldTorn o y z) c.next_field.ensures torn)) c.write_blob.ensures.changes c.write_field.ensures.changes)
+    changes_then _ _ _ _ _ _ g.met.D.Disk.follows_trans (BlobTorn at n f) IsSame (BlobTorn at n f) c.args.disk.now c.write_field.new.disk c.settle.new.disk
+    (λ x y r. r) (λ x y z r same. subst (BlobTorn at n f x) (sym same) r)
+    (changes_then _ _ _ _ _ _ g.met.D.Disk.follows_trans (SameOutside at n) (FieldTorn c.next_field.result)
+    (BlobTorn at n f) c.args.disk.now c.write_blob.new.disk c.write_field.new.disk (blocks_torn at n f)
+    (λ x y z same torn. then_field at n f x y z same (subst (λ (o : Option ℕ). FieldTorn o y z) c.next_field.ensures torn)) c.write_blob.ensures.changes
+    c.write_field.ensures.changes)
     c.settle.ensures.changes

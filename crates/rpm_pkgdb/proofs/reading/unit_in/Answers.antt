@@ -1,5 +1,5 @@
 use Rattle.std.proofs.Common.{◌≡◌, ℕ, ◌/◌, ◌+◌, ◌-◌, ◌*◌, take, drop, ap, length, sym, arith, ◌∙◌}
-use Rattle.rpm_outside.specs.Cuts.{unit_at-cut_up}
+use Rattle.rpm_outside.specs.inner.Cuts.{unit_at-cut_up}
 use Rattle.rpm_pkgdb.proofs.reading.unit_in.Goals as goal
 
 pub returns-clause-unit : goal.returns-clause-unit

@@ -1,10 +1,10 @@
-use Rattle.std.proofs.Common.{◌≡◌, ℕ, List, [], ◌++◌, Option, sym, ap, ◌∙◌, subst}
+use Rattle.std.proofs.Common.{List, ◌++◌, Option, sym, ap, ◌∙◌, subst}
 use Rattle.rpm_outside.specs.Files.{units_of}
 use Rattle.rpm_pkgdb.specs.declared.slot.Slot.{Slot}
 use Rattle.rpm_pkgdb.specs.declared.slot.Damage.{Damage}
 use Rattle.rpm_pkgdb.specs.Slots.{slots_in}
 use Rattle.rpm_pkgdb.specs.Store.{SaysHere}
-use Rattle.rpm_pkgdb.specs.Runs.{run, table_is_run}
+use Rattle.rpm_pkgdb.specs.inner.Runs.{run, table_is_run}
 use Rattle.rpm_pkgdb.proofs.table.exact_table.Goals as goal
 
 pub returns-in-Err-clause-says : goal.returns-in-Err-clause-says
@@ -20,7 +20,9 @@ returns-clause-table c =
     let same = c.in-Ok.ensures in
     record {
       slots_are = c.in_default.ensures.slots ∙ ap (λ (old : List Slot). old ++ slots_in us) c.new-opening.ensures.slots;
-      sound = table_is_run c.args.pages c.args.units us ∙ ap (λ (old : List Slot). run c.args.pages c.args.units old us) (sym c.new-opening.ensures.slots) ∙ c.in_default.ensures.sound;
+      sound =
+          table_is_run c.args.pages c.args.units us ∙ ap (λ (old : List Slot). run c.args.pages c.args.units old us) (sym c.new-opening.ensures.slots)
+          ∙ c.in_default.ensures.sound;
       places = record {
         each = λ k below used. same _ ∙ known.places.each k below used;
         only = λ n k found. known.places.only n k (sym (same n) ∙ found);

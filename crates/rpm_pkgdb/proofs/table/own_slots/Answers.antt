@@ -1,12 +1,12 @@
-use Rattle.std.proofs.Common.{◌≡◌, ℕ, ◌/◌, ◌<◌, ◌≤◌, List, [], ◌∷◌, ◌++◌, length, None, refl, sym, ap, ◌∙◌, subst, arith}
+use Rattle.std.proofs.Common.{◌≡◌, ◌/◌, ◌<◌, [], ◌∷◌, ◌++◌, length, None, sym, ap, ◌∙◌, subst, arith}
 use Rattle.std.proofs.lemmas.List.{take_all}
-use Rattle.rpm_outside.specs.Files.{Units, units_of}
-use Rattle.rpm_outside.specs.Cuts.{length-cut_up}
+use Rattle.rpm_outside.specs.Files.{units_of}
+use Rattle.rpm_outside.specs.inner.Cuts.{length-cut_up}
 use Rattle.rpm_pkgdb.specs.declared.slot.Slot.{Slot}
-use Rattle.rpm_pkgdb.specs.Slots.{slots_in, slot_of, is_used}
+use Rattle.rpm_pkgdb.specs.Slots.{slots_in}
 use Rattle.rpm_pkgdb.specs.Damages.{own_reason}
-use Rattle.rpm_pkgdb.specs.Sound.{placed_slot}
-use Rattle.rpm_pkgdb.specs.Tables.{AreNumbered}
+use Rattle.rpm_pkgdb.proofs.Sound.{placed_slot}
+use Rattle.rpm_pkgdb.specs.inner.Tables.{AreNumbered}
 use Rattle.rpm_pkgdb.proofs.Known.{numbered_push}
 use Rattle.rpm_pkgdb.proofs.Steps.{slots_in-none, slots_more}
 use Rattle.rpm_pkgdb.proofs.TableLaws.{own_more, none_of}
@@ -24,9 +24,12 @@ loop-k-preserved c =
     let us = units_of c.args.bytes.now in
     let k = c.loop-k.k in
     let below : k < length us = omega (arith, length-cut_up (length c.args.bytes.now / 16) c.args.bytes.now) in
-    let none : own_reason c.args.pages c.args.units c.unit_in-unit.result.now ≡ None = none_of _ _ _ c.own_reason.ensures c.is_some.ensures c.if-is_some.false in
+    let none : own_reason c.args.pages c.args.units c.unit_in-unit.result.now ≡ None =
+    none_of _ _ _ c.own_reason.ensures c.is_some.ensures c.if-is_some.false in
     record {
-      slots = slots_more c.args.pages c.args.units [] c.loop-k.slots.items us k c.unit_in-unit.result.now below c.loop-k.invariant.slots c.unit_in-unit.ensures.unit c.push.new.self.items
+      slots =
+          slots_more c.args.pages c.args.units [] c.loop-k.slots.items us k c.unit_in-unit.result.now below c.loop-k.invariant.slots
+          c.unit_in-unit.ensures.unit c.push.new.self.items
           (c.in_ok-push.ensures.items ∙ ap (λ (s : Slot). c.loop-k.slots.items ++ s ∷ []) c.slot_of.ensures);
       own = own_more c.args.pages c.args.units us k c.unit_in-unit.result.now c.loop-k.invariant.own c.unit_in-unit.ensures.unit none;
       numbered = subst AreNumbered (sym c.in_ok-push.ensures.items) (numbered_push c.loop-k.slots.items c.slot_of.result c.loop-k.invariant.numbered (λ used.
@@ -37,4 +40,5 @@ loop-k-preserved c =
 pub returns-clause-slots : goal.returns-clause-slots
 returns-clause-slots c =
     let us = units_of c.args.bytes.now in
-    c.loop-k.invariant.slots ∙ ap slots_in (take_all c.loop-k.k us (omega (arith, c.loop-k-test.false, length-cut_up (length c.args.bytes.now / 16) c.args.bytes.now)))
+    c.loop-k.invariant.slots ∙ ap slots_in (take_all c.loop-k.k us
+    (omega (arith, c.loop-k-test.false, length-cut_up (length c.args.bytes.now / 16) c.args.bytes.now)))

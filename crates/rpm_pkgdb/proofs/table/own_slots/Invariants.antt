@@ -1,7 +1,7 @@
 use Rattle.std.proofs.Common.{◌≡◌, take}
 use Rattle.rpm_outside.specs.Files.{units_of}
 use Rattle.rpm_pkgdb.specs.Slots.{slots_in}
-use Rattle.rpm_pkgdb.specs.Tables.{AreOwn, AreNumbered}
+use Rattle.rpm_pkgdb.specs.inner.Tables.{AreOwn, AreNumbered}
 use Rattle.rpm_pkgdb.proofs.table.own_slots.Given as goal
 
 abbrev pub invariant-loop-k : goal.invariant-loop-k

@@ -1,5 +1,6 @@
 use Rattle.std.proofs.Common.{refl}
-use Rattle.rpm_pkgdb.specs.Changes.{IsSame, changes_sync}
+use Rattle.rpm_outside.specs.Changes.{IsSame}
+use Rattle.rpm_pkgdb.proofs.Changing.{changes_sync}
 use Rattle.rpm_pkgdb.proofs.writing.settle.Goals as goal
 
 pub returns-clause-changes : goal.returns-clause-changes

@@ -1,5 +1,5 @@
 use Rattle.rpm_outside.specs.Files.{units_of}
-use Rattle.rpm_pkgdb.specs.Changes.{changes_write}
+use Rattle.rpm_pkgdb.proofs.Changing.{changes_write}
 use Rattle.rpm_pkgdb.proofs.writing.write_units.Goals as goal
 
 pub returns-clause-changes : goal.returns-clause-changes

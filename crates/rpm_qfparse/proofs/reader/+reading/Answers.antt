@@ -18,7 +18,8 @@ pub branches-returns-in_err-first : goal.branches-returns-in_err-first
 branches-returns-in_err-first t c =
     let p = err_from_is_err_and c.from_residual.result c.from_residual.ensures.1 in
     stopped (Branches c.args.in_bracket c.args.depth c.args.text.now) c.from_residual.result p.0 c.in_err-first.field-0.0 p.1 p.2
-    (passed_on (Gives context.Branch c.args.in_bracket (c.args.depth + 1) c.args.text.now) (Branches c.args.in_bracket c.args.depth c.args.text.now) (λ x g. in_first g) c.in_err-first.field-0.0 c.in_err-first.ensures)
+    (passed_on (Gives context.Branch c.args.in_bracket (c.args.depth + 1) c.args.text.now) (Branches c.args.in_bracket c.args.depth c.args.text.now)
+    (λ x g. in_first g) c.in_err-first.field-0.0 c.in_err-first.ensures)
 
 pub branches-returns-in_err-more : goal.branches-returns-in_err-more
 branches-returns-in_err-more t c =
@@ -31,7 +32,8 @@ branches-returns-in_err-second t c =
     let p = err_from_is_err_and c.from_residual-in_err-second.result c.from_residual-in_err-second.ensures.1 in
     let f = sym c.in_ok-more.ensures ∙ ap (λ v. Ok (v, c.in_ok-more.rest.now)) c.if-more.true in
     stopped (Branches c.args.in_bracket c.args.depth c.args.text.now) c.from_residual-in_err-second.result p.0 c.in_err-second.field-0.0 p.1 p.2
-    (passed_on (Gives context.Branch c.args.in_bracket (c.args.depth + 1) c.in_ok-more.rest.now) (Branches c.args.in_bracket c.args.depth c.args.text.now) (λ x g. in_second c.in_ok-first.ensures f g) c.in_err-second.field-0.0 c.in_err-second.ensures)
+    (passed_on (Gives context.Branch c.args.in_bracket (c.args.depth + 1) c.in_ok-more.rest.now) (Branches c.args.in_bracket c.args.depth
+    c.args.text.now) (λ x g. in_second c.in_ok-first.ensures f g) c.in_err-second.field-0.0 c.in_err-second.ensures)
 
 pub branches-returns-in_err-rest : goal.branches-returns-in_err-rest
 branches-returns-in_err-rest t c =
@@ -62,7 +64,8 @@ read-loop-behind-smaller-in-Literal t c = moved _ _ _ _ _ (sym c.in-Literal.ensu
 pub read-loop-behind-preserved-in-Literal : goal.read-loop-behind-preserved-in-Literal
 read-loop-behind-preserved-in-Literal t c = λ a g.
     subst (Gives c.args.context c.args.in_bracket c.args.depth c.args.text.now)
-    (behind_behind (after c.push_byte.new.self) (with_byte c.in-Literal.byte) (after c.loop-behind.draft) (λ rest. sym (c.in_ok-push_byte-in-Literal.ensures rest)) a)
+    (behind_behind (after c.push_byte.new.self) (with_byte c.in-Literal.byte) (after c.loop-behind.draft)
+    (λ rest. sym (c.in_ok-push_byte-in-Literal.ensures rest)) a)
     (c.loop-behind.invariant (behind (with_byte c.in-Literal.byte) a) (literal (sym c.in-Literal.ensures.value) g))
 
 pub read-loop-behind-smaller-in-Shows : goal.read-loop-behind-smaller-in-Shows
@@ -77,7 +80,8 @@ read-loop-behind-preserved-in-Shows t c = λ a g.
 pub read-returns-in_err-parts-in-Opens : goal.read-returns-in_err-parts-in-Opens
 read-returns-in_err-parts-in-Opens t c =
     let p = err_from_is_err_and c.from_residual-in_err-parts-in-Opens.result c.from_residual-in_err-parts-in-Opens.ensures.1 in
-    stopped (Gives c.args.context c.args.in_bracket c.args.depth c.args.text.now) c.from_residual-in_err-parts-in-Opens.result p.0 c.in_err-parts-in-Opens.field-0.0 p.1 p.2
+    stopped (Gives c.args.context c.args.in_bracket c.args.depth c.args.text.now) c.from_residual-in_err-parts-in-Opens.result p.0
+    c.in_err-parts-in-Opens.field-0.0 p.1 p.2
     (passed_on (Gives context.Bracket true c.args.depth c.in-Opens.inner.now) (Gives c.args.context c.args.in_bracket c.args.depth c.args.text.now)
     (λ x g. c.loop-behind.invariant (Err x) (in_bracket (sym c.in-Opens.ensures.value) g)) c.in_err-parts-in-Opens.field-0.0 c.in_err-parts-in-Opens.ensures)
 
@@ -87,13 +91,15 @@ read-loop-behind-smaller-in-Opens t c = further (moved _ _ _ _ _ (sym c.in-Opens
 pub read-loop-behind-preserved-in-Opens : goal.read-loop-behind-preserved-in-Opens
 read-loop-behind-preserved-in-Opens t c = λ a g.
     subst (Gives c.args.context c.args.in_bracket c.args.depth c.args.text.now)
-    (behind_behind (after c.push-in-Opens.new.self) (Bracket c.in_ok-parts-in-Opens.parts) (after c.loop-behind.draft) (λ rest. sym (c.in_ok-push-in-Opens.ensures rest)) a)
+    (behind_behind (after c.push-in-Opens.new.self) (Bracket c.in_ok-parts-in-Opens.parts) (after c.loop-behind.draft)
+    (λ rest. sym (c.in_ok-push-in-Opens.ensures rest)) a)
     (c.loop-behind.invariant (behind (Bracket c.in_ok-parts-in-Opens.parts) a) (bracket (sym c.in-Opens.ensures.value) c.in_ok-parts-in-Opens.ensures g))
 
 pub read-returns-in_err-first-in-Asks : goal.read-returns-in_err-first-in-Asks
 read-returns-in_err-first-in-Asks t c =
     let p = err_from_is_err_and c.from_residual-in_err-first-in-Asks.result c.from_residual-in_err-first-in-Asks.ensures.1 in
-    stopped (Gives c.args.context c.args.in_bracket c.args.depth c.args.text.now) c.from_residual-in_err-first-in-Asks.result p.0 c.in_err-first-in-Asks.field-0.0 p.1 p.2
+    stopped (Gives c.args.context c.args.in_bracket c.args.depth c.args.text.now) c.from_residual-in_err-first-in-Asks.result p.0
+    c.in_err-first-in-Asks.field-0.0 p.1 p.2
     (passed_on (Branches c.args.in_bracket c.args.depth c.in-Asks.inner.now) (Gives c.args.context c.args.in_bracket c.args.depth c.args.text.now)
     (λ x g. c.loop-behind.invariant (Err x) (in_condition (sym c.in-Asks.ensures.value) g)) c.in_err-first-in-Asks.field-0.0 c.in_err-first-in-Asks.ensures)
 
@@ -103,5 +109,7 @@ read-loop-behind-smaller t c = further (moved _ _ _ _ _ (sym c.in-Asks.ensures.v
 pub read-loop-behind-preserved : goal.read-loop-behind-preserved
 read-loop-behind-preserved t c = λ a g.
     subst (Gives c.args.context c.args.in_bracket c.args.depth c.args.text.now)
-    (behind_behind (after c.push-in-Asks.new.self) (Condition c.in-Asks.tag c.in_ok-first-in-Asks.first c.in_ok-first-in-Asks.second) (after c.loop-behind.draft) (λ rest. sym (c.in_ok-push-in-Asks.ensures rest)) a)
-    (c.loop-behind.invariant (behind (Condition c.in-Asks.tag c.in_ok-first-in-Asks.first c.in_ok-first-in-Asks.second) a) (condition (sym c.in-Asks.ensures.value) c.in_ok-first-in-Asks.ensures g))
+    (behind_behind (after c.push-in-Asks.new.self) (Condition c.in-Asks.tag c.in_ok-first-in-Asks.first c.in_ok-first-in-Asks.second)
+    (after c.loop-behind.draft) (λ rest. sym (c.in_ok-push-in-Asks.ensures rest)) a)
+    (c.loop-behind.invariant (behind (Condition c.in-Asks.tag c.in_ok-first-in-Asks.first c.in_ok-first-in-Asks.second) a)
+    (condition (sym c.in-Asks.ensures.value) c.in_ok-first-in-Asks.ensures g))

@@ -14,7 +14,8 @@ decreases-read l = 4 * (16 - l.depth) + cond l.in_bracket 0 2 + 1
 
 -- what the rest gives behind the draft, the text gives
 abbrev pub invariant-read-loop-behind : goal.invariant-read-loop-behind
-invariant-read-loop-behind l = (a : Reading Tree) → Gives l.context l.in_bracket l.depth l.rest a → Gives l.context l.in_bracket l.depth l.text (behind (after l.draft) a)
+invariant-read-loop-behind l = (a : Reading Tree) → Gives l.context l.in_bracket l.depth l.rest a → Gives l.context l.in_bracket l.depth l.text
+    (behind (after l.draft) a)
 
 abbrev pub decreases-read-loop-behind : goal.decreases-read-loop-behind
 decreases-read-loop-behind l = length l.rest

@@ -10,7 +10,8 @@ pub overflow_sub-result : goal.overflow_sub-result
 overflow_sub-result c = let g = rw c.in-Err-Fault.field-0-is at c.in-Err-Fault.ensures in left g
 
 pub returns-in-Ok-clause-format : goal.returns-in-Ok-clause-format
-returns-in-Ok-clause-format c = format_placed c.args.text.now (Ok (c.in-Ok.parts, c.in-Ok.field-0-1.now)) c.if-text.false c.in-Ok.ensures ∙ sym (ap Ok c.new.ensures)
+returns-in-Ok-clause-format c = format_placed c.args.text.now (Ok (c.in-Ok.parts, c.in-Ok.field-0-1.now)) c.if-text.false c.in-Ok.ensures
+    ∙ sym (ap Ok c.new.ensures)
 
 pub returns-in-Ok-clause-proper : goal.returns-in-Ok-clause-proper
 returns-in-Ok-clause-proper c = subst (IsProper false 0) (sym c.new.ensures) (proper c.in-Ok.ensures)

@@ -1,6 +1,7 @@
 use Rattle.std.proofs.Common.{◌+◌, ◌*◌, ◌≤◌, length}
 use Rattle.rpm_select.specs.Glob.{stands_for, pieces}
-use Rattle.rpm_select.specs.Going.{back_in, tries, IsWithin}
+use Rattle.rpm_select.proofs.Back.{back_in, tries, IsWithin, IsUnclosedBack}
+use Rattle.rpm_select.specs.inner.Unclosed.{IsUnclosed}
 use Rattle.rpm_select.proofs.Going.{Goes}
 use Rattle.rpm_select.proofs.matching.glob.Given as goal
 
@@ -9,6 +10,8 @@ invariant-loop-rest l = record {
   goes : Goes (stands_for (pieces l.pattern) l.text) (pieces l.behind) l.left (back_in l.back);
   behind : length l.behind ≤ length l.pattern;
   within : IsWithin (length l.pattern) (length l.text) (length l.left) l.back;
+  unclosed : IsUnclosed l.unclosed l.behind;
+  unclosed_back : IsUnclosedBack l.unclosed l.back;
 }
 
 abbrev pub decreases-loop-rest : goal.decreases-loop-rest

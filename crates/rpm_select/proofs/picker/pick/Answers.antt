@@ -1,5 +1,6 @@
 use Rattle.std.proofs.Common.{arith}
-use Rattle.rpm_outside.specs.Looks.{looks_none, looks_more}
+use Rattle.rpm_outside.specs.declared.disk.File.TheVariants.{Pkg}
+use Rattle.rpm_outside.specs.inner.Looking.{looks_none, looks_more}
 use Rattle.rpm_db.specs.Database.{cost}
 use Rattle.rpm_select.proofs.Elsewhere.{elsewhere}
 use Rattle.rpm_select.proofs.picker.pick.Goals as goal
@@ -9,5 +10,7 @@ returns-then-is_elsewhere-clause-told g c = λ told p held. elsewhere c.args.sel
 
 pub returns-then-is_elsewhere-clause-looks : goal.returns-then-is_elsewhere-clause-looks
 returns-then-is_elsewhere-clause-looks g c =
-    looks_more g.D.Disk.tells g.D.Disk.files g.D.Disk.left_since g.D.Disk.moment g.D.Disk.bytes_read g.D.Disk.follows 0 (cost c.args.number c.args.db.now) c.args.disk.now c.args.disk.now (omega arith)
-    (looks_none g.D.Disk.tells g.D.Disk.files g.D.Disk.left_since g.D.Disk.moment g.D.Disk.bytes_read g.D.Disk.follows g.met.D.Disk.follows_refl c.args.disk.now)
+    looks_more g.D.Disk.tells g.D.Disk.files g.D.Disk.left_since g.D.Disk.moment g.D.Disk.bytes_read g.D.Disk.follows Pkg 0
+    (cost c.args.number c.args.db.now) c.args.disk.now c.args.disk.now (omega arith)
+    (looks_none g.D.Disk.tells g.D.Disk.files g.D.Disk.left_since g.D.Disk.moment g.D.Disk.bytes_read g.D.Disk.follows Pkg g.met.D.Disk.follows_refl
+    c.args.disk.now)

@@ -1,8 +1,7 @@
 use Rattle.std.proofs.Common.{◌≡◌, ℕ, List, true, false, length, take, Ok, sym, ap, subst, ◌∙◌}
 use Rattle.rpm_header.specs.Header.{header}
 use Rattle.rpm_db.specs.State.{Package, Good, read_as}
-use Rattle.rpm_db.specs.Own.{own_front}
-use Rattle.rpm_select.specs.Selections.{is_picked, holds, holds_in}
+use Rattle.rpm_select.specs.Selections.{is_picked, takes_header, takes_read}
 use Rattle.rpm_select.proofs.picker.taken_length.Goals as goal
 
 pub returns-in-Ok-true-clause-told : goal.returns-in-Ok-true-clause-told
@@ -10,9 +9,10 @@ returns-in-Ok-true-clause-told c =
     let is : header c.args.blob.now ≡ Ok c.in-Ok.view = cc in
     let found : read_as (header c.args.blob.now) ≡ Good c.in-Ok.view.blob = ap read_as is in
     let again : header c.in-Ok.view.blob ≡ Ok c.in-Ok.view = ap header (sym c.blob-length.ensures.value) ∙ c.blob-length.ensures.again in
-    let answer : true ≡ holds c.args.selection.now c.args.number c.in-Ok.view = rw c.in-Ok-true.field-0-test at c.in-Ok-true.ensures in (
-      subst (λ (p : Package). is_picked c.args.selection.now (c.args.number, p) ≡ true) (sym found) (ap (holds_in c.args.selection.now c.args.number) again ∙ sym answer),
-      found ∙ ap Good (sym (ap (λ (xs : List ℕ). take (length xs) c.args.blob.now) c.blob-length.ensures.value ∙ own_front c.args.blob.now c.in-Ok.view is)),
+    let answer : true ≡ takes_header c.args.selection.now c.args.number c.in-Ok.view = rw c.in-Ok-true.field-0-test at c.in-Ok-true.ensures in (
+      subst (λ (p : Package). is_picked c.args.selection.now (c.args.number, p) ≡ true) (sym found)
+          (ap (takes_read c.args.selection.now c.args.number) again ∙ sym answer),
+      found ∙ ap Good (sym (ap (λ (xs : List ℕ). take (length xs) c.args.blob.now) c.blob-length.ensures.value ∙ c.in-Ok.ensures.own)),
     )
 
 pub returns-in-Ok-false-clause-told : goal.returns-in-Ok-false-clause-told
@@ -20,5 +20,6 @@ returns-in-Ok-false-clause-told c =
     let is : header c.args.blob.now ≡ Ok c.in-Ok.view = cc in
     let found : read_as (header c.args.blob.now) ≡ Good c.in-Ok.view.blob = ap read_as is in
     let again : header c.in-Ok.view.blob ≡ Ok c.in-Ok.view = ap header (sym c.blob-length.ensures.value) ∙ c.blob-length.ensures.again in
-    let answer : false ≡ holds c.args.selection.now c.args.number c.in-Ok.view = rw c.in-Ok-false.field-0-test at c.in-Ok-false.ensures in
-    subst (λ (p : Package). is_picked c.args.selection.now (c.args.number, p) ≡ false) (sym found) (ap (holds_in c.args.selection.now c.args.number) again ∙ sym answer)
+    let answer : false ≡ takes_header c.args.selection.now c.args.number c.in-Ok.view = rw c.in-Ok-false.field-0-test at c.in-Ok-false.ensures in
+    subst (λ (p : Package). is_picked c.args.selection.now (c.args.number, p) ≡ false) (sym found) (ap (takes_read c.args.selection.now c.args.number) again
+    ∙ sym answer)

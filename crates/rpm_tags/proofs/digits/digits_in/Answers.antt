@@ -33,4 +33,11 @@ returns-clause-value c =
 pub returns-clause-short : goal.returns-clause-short
 returns-clause-short c =
     let l = c.loop-left in
-    omega (arith, decimal_nonempty l.left l.auto.left-fits.fits, ap length l.invariant.3, length-append (decimal l.left) (drop l.start l.bytes), length-drop l.start l.bytes, ap length (decimal_digit l.left (omega arith)))
+    omega (
+      arith,
+      decimal_nonempty l.left l.auto.left-fits.fits,
+      ap length l.invariant.3,
+      length-append (decimal l.left) (drop l.start l.bytes),
+      length-drop l.start l.bytes,
+      ap length (decimal_digit l.left (omega arith)),
+    )

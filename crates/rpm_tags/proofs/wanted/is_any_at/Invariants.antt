@@ -1,13 +1,14 @@
 use Rattle.std.proofs.Common.{◌≡◌, length, drop}
 use Rattle.std.specs.List.{list_any, zip}
 use Rattle.rpm_tags.specs.Value.{file_names}
-use Rattle.rpm_tags.specs.Rows.{AreLeft}
+use Rattle.rpm_tags.specs.inner.Rows.{AreLeft}
 use Rattle.rpm_tags.specs.Wanted.{counts_for}
 use Rattle.rpm_tags.proofs.wanted.is_any_at.Given as goal
 
 abbrev pub invariant-loop-text : goal.invariant-loop-text
 invariant-loop-text l = record {
-  same : list_any (counts_for l.path) (zip (file_names l.dirs (drop l.place l.indexes) l.left) l.left) ≡ list_any (counts_for l.path) (zip (file_names l.dirs l.indexes l.bases) l.bases);
+  same : list_any (counts_for l.path) (zip (file_names l.dirs (drop l.place l.indexes) l.left) l.left)
+      ≡ list_any (counts_for l.path) (zip (file_names l.dirs l.indexes l.bases) l.bases);
   left : AreLeft l.dirs l.indexes l.left l.place;
   dirs : l.directories ≡ l.dirs;
 }

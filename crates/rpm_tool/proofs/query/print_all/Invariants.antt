@@ -7,14 +7,14 @@ use Rattle.rpm_pkgdb.specs.Store.{Keeps}
 use Rattle.rpm_pkgdb.specs.Costs.{cost_to}
 use Rattle.rpm_tool.specs.Installed.{installed}
 use Rattle.rpm_tool.specs.Steps.{steps_of}
-use Rattle.rpm_tool.proofs.Above.{above}
+use Rattle.rpm_db.specs.State.{above}
 use Rattle.rpm_tool.proofs.Through.{Before}
 use Rattle.rpm_tool.proofs.query.print_all.Given as goal
 
 abbrev pub invariant-loop-next : goal.invariant-loop-next
 invariant-loop-next g l = record {
   keeps : IsTrue g.D.Disk.tells → Keeps (g.D.Disk.files l.disk).pkg l.db;
-  looks : Looks g.D.Disk.tells g.D.Disk.files g.D.Disk.left_since g.D.Disk.moment g.D.Disk.bytes_read g.D.Disk.follows (cost_to l.number l.db) l.initial.disk l.disk;
+  looks : Looks g.D.Disk.tells g.D.Disk.files g.D.Disk.left_since g.D.Disk.moment g.D.Disk.bytes_read g.D.Disk.follows Pkg (cost_to l.number l.db) l.initial.disk l.disk;
   disk : g.D.Disk.faults l.initial.disk ≤ g.D.Disk.faults l.disk;
   out : g.O.Sink.faults (inner l.initial.out) ≤ g.O.Sink.faults (inner l.out);
   err : g.E.Sink.faults (inner l.initial.err) ≤ g.E.Sink.faults (inner l.err);

@@ -3,5 +3,5 @@ use Rattle.std.specs.List.{filter_map}
 use Rattle.rpm_words.specs.Ask.{argument_in}
 use Rattle.rpm_words.proofs.ask.arguments_of.Given as goal
 
-abbrev pub invariant-loop-part : goal.invariant-loop-part
-invariant-loop-part l = l.places.items ++ filter_map argument_in (drop l.part-index l.parts) ≡ filter_map argument_in l.parts
+abbrev pub invariant-loop-token : goal.invariant-loop-token
+invariant-loop-token l = l.places.items ++ filter_map argument_in (drop l.token-index l.tokens) ≡ filter_map argument_in l.tokens

@@ -3,11 +3,11 @@ use Rattle.rpm_words.specs.Seen.{seen}
 use Rattle.rpm_words.proofs.Seens.{seen_step}
 use Rattle.rpm_words.proofs.seen.seen_in.Goals as goal
 
-pub loop-part-init : goal.loop-part-init
+pub loop-token-init : goal.loop-token-init
 unfolding seen
-loop-part-init c = refl
+loop-token-init c = refl
 
-pub loop-part-preserved : goal.loop-part-preserved
-loop-part-preserved c =
-    let lt : c.loop-part.part-index < length c.args.parts.now = omega arith in
-    seen_step _ _ _ _ _ _ _ lt c.with-seen.ensures c.loop-part.invariant
+pub loop-token-preserved : goal.loop-token-preserved
+loop-token-preserved c =
+    let lt : c.loop-token.token-index < length c.args.tokens.now = omega arith in
+    seen_step _ _ _ _ _ _ _ lt c.with-seen.ensures c.loop-token.invariant

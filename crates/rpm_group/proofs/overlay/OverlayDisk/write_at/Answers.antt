@@ -1,4 +1,4 @@
-use Rattle.std.proofs.Common.{◌≡◌, ℕ, refl, sym, subst}
+use Rattle.std.proofs.Common.{◌≡◌, inr, ℕ, refl, sym, subst, ◌∙◌}
 use Rattle.rpm_outside.specs.declared.disk.File.{File}
 use Rattle.rpm_outside.specs.Files.{Units, Files, file_of, with_file, units_of, put}
 use Rattle.rpm_outside.specs.Crash.{TornFile}
@@ -21,14 +21,22 @@ module _ (file : File) (at : ℕ) (units : Units) (old new : Files) (written : n
   all_images : (image : Files) → image ≡ new → (from : Files) × (from ≡ old) × TornFile file at units from image
   all_images image is = (old, refl, subst (λ (f : Files). TornFile file at units old f) (sym is) all_torn)
 
+pub returns-in_default-clause-stays : goal.returns-in_default-clause-stays
+returns-in_default-clause-stays g c = λ told.
+    let same = c.in_default.ensures.err (g.D.Disk.files c.args.self.now.below) in
+    inr (refl, record { same = same; images = λ t image is. is ∙ same; kept = λ t image is. is ∙ sym same })
+
 pub returns-in_default-clause-torn : goal.returns-in_default-clause-torn
-returns-in_default-clause-torn g c = λ told. none_torn c.args.file c.args.unit (units_of c.args.bytes.now) _ _ (c.in_default.ensures.err (g.D.Disk.files c.args.self.now.below))
+returns-in_default-clause-torn g c = λ told. none_torn c.args.file c.args.unit (units_of c.args.bytes.now) _ _
+    (c.in_default.ensures.err (g.D.Disk.files c.args.self.now.below))
 
 pub returns-in_default-clause-images : goal.returns-in_default-clause-images
-returns-in_default-clause-images g c = λ told image is. none_images c.args.file c.args.unit (units_of c.args.bytes.now) _ _ (c.in_default.ensures.err (g.D.Disk.files c.args.self.now.below)) image is
+returns-in_default-clause-images g c = λ told image is. none_images c.args.file c.args.unit (units_of c.args.bytes.now) _ _
+    (c.in_default.ensures.err (g.D.Disk.files c.args.self.now.below)) image is
 
 pub returns-clause-torn : goal.returns-clause-torn
 returns-clause-torn g c = λ told. all_torn c.args.file c.args.unit (units_of c.args.bytes.now) _ _ (c.in-Ok.ensures.ok (g.D.Disk.files c.args.self.now.below))
 
 pub returns-clause-images : goal.returns-clause-images
-returns-clause-images g c = λ told image is. all_images c.args.file c.args.unit (units_of c.args.bytes.now) _ _ (c.in-Ok.ensures.ok (g.D.Disk.files c.args.self.now.below)) image is
+returns-clause-images g c = λ told image is. all_images c.args.file c.args.unit (units_of c.args.bytes.now) _ _
+    (c.in-Ok.ensures.ok (g.D.Disk.files c.args.self.now.below)) image is

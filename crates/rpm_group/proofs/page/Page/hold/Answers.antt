@@ -18,10 +18,13 @@ returns c =
     let within : 16 * at + (16 * (at + n) - 16 * at) ≤ length page.bytes = omega (arith, c.requires.within) in
     record {
       inside = λ k below.
-          marked (get_or c.mark.new.marks (at + k) false) (unit_in (put_mid (16 * at) (16 * (at + n) - 16 * at) page.bytes c.copy_from_slice.new.self) (at + k)) (c.mark.ensures.inside (at + k) (omega arith) (omega arith))
-          ∙ ap (λ u. Some u) (unit_put_inside at (16 * at) (16 * (at + n) - 16 * at) n page.bytes c.copy_from_slice.new.self refl part same within k below ∙ ap (λ bs. unit_in bs k) c.copy_from_slice.ensures.after);
+          marked (get_or c.mark.new.marks (at + k) false) (unit_in (put_mid (16 * at) (16 * (at + n) - 16 * at) page.bytes c.copy_from_slice.new.self)
+          (at + k)) (c.mark.ensures.inside (at + k) (omega arith) (omega arith))
+          ∙ ap (λ u. Some u) (unit_put_inside at (16 * at) (16 * (at + n) - 16 * at) n page.bytes c.copy_from_slice.new.self refl part same within k
+          below ∙ ap (λ bs. unit_in bs k) c.copy_from_slice.ensures.after);
       outside = λ k out.
-          same_mark (get_or page.marks k false) (get_or c.mark.new.marks k false) (unit_in page.bytes k) (unit_in (put_mid (16 * at) (16 * (at + n) - 16 * at) page.bytes c.copy_from_slice.new.self) k)
+          same_mark (get_or page.marks k false) (get_or c.mark.new.marks k false) (unit_in page.bytes k)
+          (unit_in (put_mid (16 * at) (16 * (at + n) - 16 * at) page.bytes c.copy_from_slice.new.self) k)
           (c.mark.ensures.outside k out)
           (unit_put_outside at (16 * at) (16 * (at + n) - 16 * at) n page.bytes c.copy_from_slice.new.self refl part same within k out);
     }

@@ -10,18 +10,23 @@ use Rattle.rpm_group.proofs.page.Page.lay.Goals.{then-self-at, else-self-at}
 
 -- as far as unit k the held units were copied
 abbrev Laid : Page → ℕ → List ℕ → ℕ → List ℕ → Type 0
-Laid page at old k now = ((j : ℕ) → j < k → unit_in now j ≡ unwrap_or (in_page page (at + j)) (unit_in old j)) × ((j : ℕ) → k ≤ j → unit_in now j ≡ unit_in old j)
+Laid page at old k now = ((j : ℕ) → j < k → unit_in now j ≡ unwrap_or (in_page page (at + j)) (unit_in old j))
+    × ((j : ℕ) → k ≤ j → unit_in now j ≡ unit_in old j)
 
-module _ (page : Page) (at k : ℕ) (old now next : List ℕ) (done : (j : ℕ) → j < k → unit_in now j ≡ unwrap_or (in_page page (at + j)) (unit_in old j)) (rest : (j : ℕ) → k ≤ j → unit_in now j ≡ unit_in old j) where
+module _ (page : Page) (at k : ℕ) (old now next : List ℕ) (done : (j : ℕ) → j < k → unit_in now j ≡ unwrap_or (in_page page (at + j)) (unit_in old j))
+    (rest : (j : ℕ) → k ≤ j → unit_in now j ≡ unit_in old j) where
   skipped : get_or page.marks (at + k) false ≡ false → next ≡ now → Laid page at old (k + 1) next
   skipped unheld is = (
     below_more (λ j. unit_in next j ≡ unwrap_or (in_page page (at + j)) (unit_in old j)) k
         (λ j below. ap (λ (bs : List ℕ). unit_in bs j) is ∙ done j below)
-        (ap (λ (bs : List ℕ). unit_in bs k) is ∙ rest k (omega arith) ∙ ap (λ (o : Option (List ℕ)). unwrap_or o (unit_in old k)) (sym (unmarked (get_or page.marks (at + k) false) (unit_in page.bytes (at + k)) unheld))),
+        (ap (λ (bs : List ℕ). unit_in bs k) is ∙ rest k (omega arith)
+        ∙ ap (λ (o : Option (List ℕ)). unwrap_or o (unit_in old k))
+        (sym (unmarked (get_or page.marks (at + k) false) (unit_in page.bytes (at + k)) unheld))),
     λ j past. ap (λ (bs : List ℕ). unit_in bs j) is ∙ rest j (omega arith),
   )
 
-  copied : (unit : List ℕ) → get_or page.marks (at + k) false ≡ true → length unit ≡ 16 → unit ≡ unit_in page.bytes (at + k) → 16 * k + 16 ≤ length now → (n : ℕ) → n ≡ 16 → next ≡ put_mid (16 * k) n now unit → Laid page at old (k + 1) next
+  copied : (unit : List ℕ) → get_or page.marks (at + k) false ≡ true → length unit ≡ 16 → unit ≡ unit_in page.bytes (at + k)
+      → 16 * k + 16 ≤ length now → (n : ℕ) → n ≡ 16 → next ≡ put_mid (16 * k) n now unit → Laid page at old (k + 1) next
   copied unit held sixteen is within n is_n put =
       let inside = unit_put_inside k (16 * k) n 1 now unit refl (omega (arith, is_n)) (omega (arith, is_n)) (omega (arith, is_n)) in
       let outside = unit_put_outside k (16 * k) n 1 now unit refl (omega (arith, is_n)) (omega (arith, is_n)) (omega (arith, is_n)) in

@@ -4,4 +4,5 @@ use Rattle.rpm_header.proofs.Whole.{is_whole}
 use Rattle.rpm_header.proofs.entry.Entry.form.Goals as goal
 
 pub returns-clause-whole : goal.returns-clause-whole
-returns-clause-whole c = subst IsWhole c.self.view_is (is_whole c.self.inside.tag c.self.inside.form c.self.inside.count c.self.inside.bytes.now c.self.invariant)
+returns-clause-whole c =
+    subst IsWhole c.self.view_is (is_whole c.self.inside.tag c.self.inside.form c.self.inside.count c.self.inside.bytes.now c.self.invariant)

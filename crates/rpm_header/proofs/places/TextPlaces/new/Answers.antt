@@ -1,5 +1,5 @@
 use Rattle.std.proofs.Common.{◌≡◌, ◌+◌, ◌*◌, ◌/◌, ◌≢◌, ◌<◌, ℕ, length, take, arith, ap, refl, ◌∙◌, below_more, get_or-set_other, get_or-set_same, length-set}
-use Rattle.rpm_header.specs.Zeros.{zeros}
+use Rattle.rpm_header.specs.inner.Zeros.{zeros}
 use Rattle.rpm_header.proofs.Counted.{zeros-parts, zeros-le, zeros-take-le, in_strides}
 use Rattle.rpm_header.proofs.places.TextPlaces.new.Goals as goal
 
@@ -21,7 +21,12 @@ loop-k-preserved c =
     let from = c.loop-k.k * c.stride_for-stride.result in
     let to = from + c.stride_for-stride.result in
     let next : (c.loop-k.k + 1) * c.stride_for-stride.result ≡ to = omega arith in
-    let room : c.loop-k.k < length c.loop-k.sums = omega (arith, in_strides 255 c.stride_for-stride.result (c.look_for_ends-len.result.1 / c.stride_for-stride.result) c.look_for_ends-len.result.1 (omega arith) (omega arith)) in
+    let room : c.loop-k.k < length c.loop-k.sums =
+    omega (
+      arith,
+      in_strides 255 c.stride_for-stride.result (c.look_for_ends-len.result.1 / c.stride_for-stride.result) c.look_for_ends-len.result.1
+          (omega arith) (omega arith),
+    ) in
     record {
       seen = omega (arith, ap (λ (n : ℕ). zeros (take n bytes)) next, zeros-parts from bytes, zeros-parts to bytes);
       size = length-set c.loop-k.sums c.loop-k.k c.loop-k.seen ∙ c.loop-k.invariant.size;

@@ -3,7 +3,7 @@ use Rattle.std.specs.Prelude.{slice_get}
 use Rattle.std.specs.List.{before_first}
 use Rattle.std.proofs.lemmas.List.{take_all}
 use Rattle.rpm_header.specs.Bytes.{is_zero}
-use Rattle.rpm_header.specs.Zeros.{zeros, skipped}
+use Rattle.rpm_header.specs.inner.Zeros.{zeros, skipped}
 use Rattle.rpm_header.proofs.Counted.{zeros-parts, zeros-take-le, ended_enough, zeros_enough}
 use Rattle.rpm_header.proofs.Skipped.{text_behind, skip_drop}
 use Rattle.rpm_header.proofs.Whole.{length-texts}
@@ -13,7 +13,8 @@ pub text_of-requires-clause-below : goal.text_of-requires-clause-below
 text_of-requires-clause-below c = omega (arith, length-texts c.self.inside.count c.self.inside.bytes.now, ap (λ (ts : List (List ℕ)). length ts) c.self.view_is)
 
 pub stride_before-k-requires-clause-fewer : goal.stride_before-k-requires-clause-fewer
-stride_before-k-requires-clause-fewer c = omega (arith, c.self.invariant.each 0 c.self.invariant.some, zeros-take-le (0 * c.self.inside.stride) c.self.inside.bytes.now)
+stride_before-k-requires-clause-fewer c =
+    omega (arith, c.self.invariant.each 0 c.self.invariant.some, zeros-take-le (0 * c.self.inside.stride) c.self.inside.bytes.now)
 
 pub pass_blocks-left-requires : goal.pass_blocks-left-requires
 pass_blocks-left-requires c =
@@ -21,7 +22,13 @@ pass_blocks-left-requires c =
     let from = c.stride_before-k.result * c.self.inside.stride in
     let below : c.args.i < c.self.inside.count = omega (arith, length-texts c.self.inside.count bytes, ap (λ (ts : List (List ℕ)). length ts) c.self.view_is) in
     let rest = take_all (length bytes - from) (drop from bytes) (omega (arith, length-drop from bytes)) in
-    omega (arith, ap zeros rest, zeros-parts from bytes, zeros_enough c.self.inside.count bytes c.self.invariant.ended, c.self.invariant.each c.stride_before-k.result c.stride_before-k.ensures.below)
+    omega (
+      arith,
+      ap zeros rest,
+      zeros-parts from bytes,
+      zeros_enough c.self.inside.count bytes c.self.invariant.ended,
+      c.self.invariant.each c.stride_before-k.result c.stride_before-k.ensures.below,
+    )
 
 pub overflow_add-left : goal.overflow_add-left
 overflow_add-left c = omega (arith, length-texts c.self.inside.count c.self.inside.bytes.now, ap (λ (ts : List (List ℕ)). length ts) c.self.view_is)

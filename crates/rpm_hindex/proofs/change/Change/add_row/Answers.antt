@@ -7,7 +7,7 @@ use Rattle.rpm_hindex.proofs.Honest.{bad_head, bad_memory, adds_honest}
 use Rattle.rpm_outside.specs.Files.{Files}
 use Rattle.rpm_hindex.specs.Words.{word}
 use Rattle.rpm_hindex.specs.Index.{is_link}
-use Rattle.rpm_hindex.specs.Changes.{changing}
+use Rattle.rpm_hindex.specs.inner.Changes.{changing}
 use Rattle.rpm_hindex.proofs.Results.{on_ok, ok_of, if_err}
 use Rattle.rpm_hindex.proofs.change.Change.add_row.Goals as goal
 
@@ -19,9 +19,17 @@ returns-clause-go g c =
     let long = ap length c.in-Ok-push_record.ensures
     ∙ length-append s.tail.items _
     ∙ ap (λ (n : ℕ). length s.tail.items + n) (length-bytes c.word-next.result row.kind row.key.now row.number row.place) in
-    let d : Change = record { extent = s.extent; units = c.put_unit.new.units; dropped = s.dropped; tail = c.push_record.new.bytes; records = s.records + 1; live = s.live + c.record_units.result } in
+    let d : Change = record {
+      extent = s.extent;
+      units = c.put_unit.new.units;
+      dropped = s.dropped;
+      tail = c.push_record.new.bytes;
+      records = s.records + 1;
+      live = s.live + c.record_units.result;
+    } in
     on_ok c.put_unit.result _ _ (λ put. go_on s d go refl (bucket_within s go c.bucket_of-bucket.result c.bucket_of-bucket.ensures.within _ _ put)
-    (omega (arith, long, go.whole)) (omega (arith, long, go.whole, c.requires.room)) (omega (arith, long, go.whole, go.live, c.record_units.ensures)) (omega (arith, c.requires.count))) c.put_unit.ensures.put
+    (omega (arith, long, go.whole)) (omega (arith, long, go.whole, c.requires.room)) (omega (arith, long, go.whole, go.live, c.record_units.ensures))
+    (omega (arith, c.requires.count))) c.put_unit.ensures.put
 
 pub returns-clause-tail : goal.returns-clause-tail
 returns-clause-tail g c =
@@ -36,10 +44,20 @@ pub returns-clause-adds : goal.returns-clause-adds
 returns-clause-adds g c = on_ok c.put_unit.result _ _ (λ put told whole.
     let s = c.args.self.now in
     let row = c.args.row in
-    let d : Change = record { extent = s.extent; units = c.put_unit.new.units; dropped = s.dropped; tail = c.push_record.new.bytes; records = s.records + 1; live = s.live + c.record_units.result } in
-    row_added s d (g.D.Disk.files c.args.disk.now).idx c.requires.go row.kind row.key.now row.number row.place c.bucket_of-bucket.result c.used-used.result c.word-next.result c.in-Ok.words c.with_word.result
-    c.bucket_of-bucket.ensures.bucket c.bucket_of-bucket.ensures.within (c.in-Ok.ensures.words told) c.used-used.ensures c.with_word.ensures put c.word-next.ensures
-    c.in-Ok-push_record.ensures refl refl (ap (λ (n : ℕ). s.live + n) c.record_units.ensures) c.requires.kind c.requires.short (omega (arith, c.ranges.row)) (omega (arith, c.ranges.row)) whole) c.put_unit.ensures.put
+    let d : Change = record {
+      extent = s.extent;
+      units = c.put_unit.new.units;
+      dropped = s.dropped;
+      tail = c.push_record.new.bytes;
+      records = s.records + 1;
+      live = s.live + c.record_units.result;
+    } in
+    row_added s d (g.D.Disk.files c.args.disk.now).idx c.requires.go row.kind row.key.now row.number row.place c.bucket_of-bucket.result
+    c.used-used.result c.word-next.result c.in-Ok.words c.with_word.result
+    c.bucket_of-bucket.ensures.bucket c.bucket_of-bucket.ensures.within (c.in-Ok.ensures.words told) c.used-used.ensures c.with_word.ensures put
+    c.word-next.ensures
+    c.in-Ok-push_record.ensures refl refl (ap (λ (n : ℕ). s.live + n) c.record_units.ensures) c.requires.kind c.requires.short
+    (omega (arith, c.ranges.row)) (omega (arith, c.ranges.row)) whole) c.put_unit.ensures.put
 
 pub returns-clause-honest : goal.returns-clause-honest
 returns-clause-honest g c = on_ok c.put_unit.result _ _ (λ put told honest.
@@ -49,11 +67,14 @@ returns-clause-honest g c = on_ok c.put_unit.result _ _ (λ put told honest.
     ∙ length-append s.tail.items _
     ∙ ap (λ (n : ℕ). length s.tail.items + n) (length-bytes c.word-next.result row.kind row.key.now row.number row.place) in
     let longer : length s.tail.items / 16 < length c.push_record.new.bytes.items / 16 = omega (arith, long, c.requires.go.whole) in
-    adds_honest s (g.D.Disk.files c.args.disk.now).idx c.requires.go c.bucket_of-bucket.result c.bucket_of-bucket.ensures.within c.put_unit.new.units c.push_record.new.bytes c.record_units.result
-    c.in-Ok.words c.with_word.result c.used-used.result (c.in-Ok.ensures.words told) c.used-used.ensures c.with_word.ensures put longer honest) c.put_unit.ensures.put
+    adds_honest s (g.D.Disk.files c.args.disk.now).idx c.requires.go c.bucket_of-bucket.result c.bucket_of-bucket.ensures.within c.put_unit.new.units
+    c.push_record.new.bytes c.record_units.result
+    c.in-Ok.words c.with_word.result c.used-used.result (c.in-Ok.ensures.words told) c.used-used.ensures c.with_word.ensures put longer honest)
+    c.put_unit.ensures.put
 
 pub returns-clause-bad : goal.returns-clause-bad
-returns-clause-bad g c = if_err c.put_unit.result _ _ (λ e is told honest. bad_memory c.args.self.now.extent.buckets (g.D.Disk.files c.args.disk.now).idx e is) c.put_unit.ensures.memory
+returns-clause-bad g c = if_err c.put_unit.result _ _ (λ e is told honest. bad_memory c.args.self.now.extent.buckets
+    (g.D.Disk.files c.args.disk.now).idx e is) c.put_unit.ensures.memory
 
 pub returns-then-not-is_link-clause-bad : goal.returns-then-not-is_link-clause-bad
 returns-then-not-is_link-clause-bad g c = λ told honest.
@@ -62,4 +83,5 @@ returns-then-not-is_link-clause-bad g c = λ told honest.
     let b = c.bucket_of-bucket.result in
     let at : c.used-used.result ≡ s.extent.used + length s.tail.items / 16 = c.used-used.ensures in
     let no' : is_link (changing s file.idx) c.word-next.result ≡ false = sym (c.is_link.ensures (changing s file.idx) refl (sym at)) ∙ c.if-not-is_link.true in
-    bad_head s file.idx (c.requires.open told) honest b c.word-next.result c.bucket_of-bucket.ensures.within (c.word-next.ensures ∙ ap (word (b % 4)) (c.in-Ok.ensures.words told)) no'
+    bad_head s file.idx (c.requires.open told) honest b c.word-next.result c.bucket_of-bucket.ensures.within (c.word-next.ensures ∙ ap (word (b % 4))
+    (c.in-Ok.ensures.words told)) no'

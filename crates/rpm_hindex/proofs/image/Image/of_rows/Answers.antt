@@ -21,7 +21,8 @@ add_records-requires-clause-few c =
 pub with_front-bytes-requires : goal.with_front-bytes-requires
 with_front-bytes-requires c =
     let f : Few c.args.buckets = few c.args.buckets c.requires.count in
-    let front = c.deref-2.ensures.value ∙ c.in_ok-front.ensures ∙ ap (λ (ns : List ℕ). c.counts_of-second.result ++ flat_map bytes_of_word ns) c.deref.ensures.value in
+    let front = c.deref-2.ensures.value ∙ c.in_ok-front.ensures ∙ ap (λ (ns : List ℕ). c.counts_of-second.result ++ flat_map bytes_of_word ns)
+    c.deref.ensures.value in
     let long = ap length front ∙ length-append c.counts_of-second.result (flat_map bytes_of_word c.add_records.new.draft.heads.items) in
     omega (
       arith,
@@ -53,6 +54,9 @@ returns-clause-made c =
       ap length c.counts_of-second.ensures,
       length-unit (first_record c.args.buckets + live_of c.args.rows.now) (length c.args.rows.now) (live_of c.args.rows.now) 0,
     ) in
-    let is = c.with_front-bytes.ensures ∙ ap (λ (n : ℕ). c.deref-2.result.now ++ drop n bytes) size ∙ ap (λ (bs : List ℕ). bs ++ drop (16 + 4 * c.args.buckets) bytes) front in
-    image_made c.args.rows.now c.args.buckets heads bytes second c.with_front-bytes.result.items c.requires.count many (c.in_ok-add_records.ensures.rows c.in_ok-draft.ensures.rows)
-    (omega (arith, c.in_ok-add_records.ensures.long, c.in_ok-draft.ensures.long)) c.requires.room c.counts_of-second.ensures (omega (arith, length-le-live c.args.rows.now, c.requires.room)) is
+    let is = c.with_front-bytes.ensures ∙ ap (λ (n : ℕ). c.deref-2.result.now ++ drop n bytes) size
+    ∙ ap (λ (bs : List ℕ). bs ++ drop (16 + 4 * c.args.buckets) bytes) front in
+    image_made c.args.rows.now c.args.buckets heads bytes second c.with_front-bytes.result.items c.requires.count many
+    (c.in_ok-add_records.ensures.rows c.in_ok-draft.ensures.rows)
+    (omega (arith, c.in_ok-add_records.ensures.long, c.in_ok-draft.ensures.long)) c.requires.room c.counts_of-second.ensures
+    (omega (arith, length-le-live c.args.rows.now, c.requires.room)) is

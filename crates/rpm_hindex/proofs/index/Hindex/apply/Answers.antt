@@ -7,16 +7,19 @@ use Rattle.rpm_hindex.specs.Plans.{IsPlanFor, IsChanged, after, buckets_after}
 use Rattle.rpm_hindex.proofs.Results.{on_ok}
 use Rattle.rpm_hindex.proofs.index.Hindex.apply.Goals as goal
 
-applied : (drops adds : List Row) (buckets : ℕ) (old new : Units) (work : Work) → new ≡ after work old → IsPlanFor drops adds buckets old work → IsChanged drops adds (records buckets old) (buckets_after work) new
+applied : (drops adds : List Row) (buckets : ℕ) (old new : Units) (work : Work) → new ≡ after work old → IsPlanFor drops adds buckets old work
+    → IsChanged drops adds (records buckets old) (buckets_after work) new
 unfolding IsPlanFor
 applied drops adds buckets old new work is plan = subst (IsChanged drops adds (records buckets old) (buckets_after work)) (sym is) plan
 
 pub returns-in-InPlace-clause-rows : goal.returns-in-InPlace-clause-rows
 returns-in-InPlace-clause-rows g c =
     let old = (g.D.Disk.files c.args.disk.now).idx in
-    on_ok c.patch.result _ _ (λ w told drops adds B plan. applied drops adds B old (g.D.Disk.files c.patch.new.disk).idx c.args.plan.work (w told ∙ ap (λ (k : Work). after k old) (sym c.in-InPlace.is)) plan) c.patch.ensures.written
+    on_ok c.patch.result _ _ (λ w told drops adds B plan. applied drops adds B old (g.D.Disk.files c.patch.new.disk).idx c.args.plan.work
+    (w told ∙ ap (λ (k : Work). after k old) (sym c.in-InPlace.is)) plan) c.patch.ensures.written
 
 pub returns-clause-rows : goal.returns-clause-rows
 returns-clause-rows g c =
     let old = (g.D.Disk.files c.args.disk.now).idx in
-    on_ok c.replace.result _ _ (λ w told drops adds B plan. applied drops adds B old (g.D.Disk.files c.replace.new.disk).idx c.args.plan.work (w told ∙ ap (λ (k : Work). after k old) (sym c.in-Scratch.is)) plan) c.replace.ensures.written
+    on_ok c.replace.result _ _ (λ w told drops adds B plan. applied drops adds B old (g.D.Disk.files c.replace.new.disk).idx c.args.plan.work
+    (w told ∙ ap (λ (k : Work). after k old) (sym c.in-Scratch.is)) plan) c.replace.ensures.written

@@ -8,7 +8,7 @@ use Rattle.rpm_hindex.specs.Answers.{AsOften, HitsAre}
 use Rattle.rpm_hindex.proofs.Wholes.{ok_places}
 use Rattle.rpm_hindex.specs.State.{buckets_of}
 use Rattle.rpm_hindex.specs.declared.chain.Extent.{Extent}
-use Rattle.rpm_hindex.specs.Records.{IsOpen}
+use Rattle.rpm_hindex.specs.inner.Records.{IsOpen}
 use Rattle.rpm_hindex.proofs.Orders.{few, open_from, order_parts, ordered_parts, Few}
 use Rattle.rpm_hindex.proofs.Founds.{often_in_all}
 use Rattle.rpm_hindex.proofs.index.Hindex.find.Goals as goal
@@ -16,13 +16,15 @@ use Rattle.rpm_hindex.proofs.index.Hindex.find.Goals as goal
 pub gather-requires-clause-few : goal.gather-requires-clause-few
 gather-requires-clause-few g c =
     let s = c.args.self.now in
-    let f : Few (buckets_of s.first) = few (buckets_of s.first) (ordered_parts (buckets_of s.first) s.second s.units (order_parts s c.requires.order).1).count in
+    let f : Few (buckets_of s.first) = few (buckets_of s.first) (ordered_parts (buckets_of s.first) s.second s.units
+    (order_parts s c.requires.order).1).count in
     omega (arith, f.most, ap (λ (e : Extent). e.buckets) c.extent.ensures)
 
 pub gather-requires-clause-some : goal.gather-requires-clause-some
 gather-requires-clause-some g c =
     let s = c.args.self.now in
-    let f : Few (buckets_of s.first) = few (buckets_of s.first) (ordered_parts (buckets_of s.first) s.second s.units (order_parts s c.requires.order).1).count in
+    let f : Few (buckets_of s.first) = few (buckets_of s.first) (ordered_parts (buckets_of s.first) s.second s.units
+    (order_parts s c.requires.order).1).count in
     omega (arith, f.some, ap (λ (e : Extent). e.buckets) c.extent.ensures)
 
 pub gather-requires-clause-open : goal.gather-requires-clause-open
@@ -45,7 +47,9 @@ returns-in-Ok-clause-rows g c = λ told whole.
     let f : Few B = few B (ordered_parts B s.second s.units (order_parts s c.requires.order).1).count in
     let below : b < B = omega (arith, f.some) in
     let P : List ℕ → Vec Hit Global → Type 0 = λ places hits. AsOften c.args.kind c.args.key.now (map (row_at (unit_at file.idx)) places) hits.items in
-    let here = subst (λ (e : Extent). HitsAre P (chain (index_in e.buckets file.idx) (hash_of c.args.kind c.args.key.now % e.buckets)) c.in-Ok.hits) c.extent.ensures (c.in-Ok.ensures.told told) in
+    let here = subst (λ (e : Extent). HitsAre P (chain (index_in e.buckets file.idx) (hash_of c.args.kind c.args.key.now % e.buckets)) c.in-Ok.hits)
+    c.extent.ensures (c.in-Ok.ensures.told told) in
     let often = chained P (chain x b) c.in-Ok.hits (whole.chains b below) here in
-    let all = often_in_all _ _ c.args.kind c.args.key.now x (places_in (chain x b)) c.in-Ok.hits.items whole below (ok_places (chain x b) (whole.chains b below)) often in
+    let all = often_in_all _ _ c.args.kind c.args.key.now x (places_in (chain x b)) c.in-Ok.hits.items whole below
+    (ok_places (chain x b) (whole.chains b below)) often in
     record { rising = c.sorted.ensures.rising; each = λ h. c.sorted.ensures.same h ∙ all h }

@@ -6,7 +6,8 @@ use Rattle.rpm_hindex.proofs.Patched.{patched_kept}
 use Rattle.rpm_hindex.proofs.index.Hindex.patch.Goals as goal
 
 pub returns-in_default-write_counts-clause-changes : goal.returns-in_default-write_counts-clause-changes
-returns-in_default-write_counts-clause-changes g c = seal_then _ _ _ _ _ _ g.met.D.Disk.follows_trans _ _ _ c.in-Ok.ensures.changes c.in_default-write_counts.ensures.changes
+returns-in_default-write_counts-clause-changes g c = seal_then _ _ _ _ _ _ g.met.D.Disk.follows_trans _ _ _ c.in-Ok.ensures.changes
+    c.in_default-write_counts.ensures.changes
 
 pub returns-clause-changes : goal.returns-clause-changes
 returns-clause-changes g c = seal_then _ _ _ _ _ _ g.met.D.Disk.follows_trans _ _ _ c.in-Ok.ensures.changes c.in-Ok-write_counts.ensures.changes
@@ -17,7 +18,10 @@ returns-clause-kept g c = λ told.
     let s = c.args.self.now in
     let n = p.used + length p.tail.items / 16 in
     let first = ap (λ (t : State). t.first) c.self.view_is in
-    let units : c.max-self-inside.result ≡ max s.units n = c.max-self-inside.ensures ∙ ap (λ (k : ℕ). max k (p.used + c.len.result / 16)) (ap (λ (t : State). t.units) c.self.view_is) ∙ ap (λ (m : ℕ). max s.units (p.used + m / 16)) (c.len.ensures ∙ p.tail.ok.0) in
-    subst (λ (f : List ℕ). Keeps (g.D.Disk.files c.write_counts.new.disk).idx (record { first = f; second = p.second; units = c.max-self-inside.result; pending = p.buckets })) (sym first)
-    (patched_kept p s c.max-self-inside.result p.buckets (g.D.Disk.files c.args.disk.now).idx (g.D.Disk.files c.write_counts.new.disk).idx c.requires.patches (c.requires.keeps told)
+    let units : c.max-self-inside.result ≡ max s.units n = c.max-self-inside.ensures ∙ ap (λ (k : ℕ). max k (p.used + c.len.result / 16))
+    (ap (λ (t : State). t.units) c.self.view_is) ∙ ap (λ (m : ℕ). max s.units (p.used + m / 16)) (c.len.ensures ∙ p.tail.ok.0) in
+    subst (λ (f : List ℕ). Keeps (g.D.Disk.files c.write_counts.new.disk).idx
+    (record { first = f; second = p.second; units = c.max-self-inside.result; pending = p.buckets })) (sym first)
+    (patched_kept p s c.max-self-inside.result p.buckets (g.D.Disk.files c.args.disk.now).idx (g.D.Disk.files c.write_counts.new.disk).idx
+    c.requires.patches (c.requires.keeps told)
     (c.in-Ok-write_counts.ensures.written told ∙ ap (λ (f : Units). put 1 (p.second ∷ []) f) (c.in-Ok.ensures.written told)) units)

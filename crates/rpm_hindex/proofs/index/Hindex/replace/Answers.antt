@@ -1,7 +1,9 @@
-use Rattle.std.proofs.Common.{◌≡◌, ◌∷◌, [], ap, ◌∙◌, arith, inl}
+use Rattle.std.proofs.Common.{◌≡◌, ◌∷◌, [], refl, ap, ◌∙◌, arith, inl}
 use Rattle.rpm_outside.specs.Files.{Units, unit_at, put, blank}
-use Rattle.rpm_outside.specs.Puts.{put_inside}
-use Rattle.rpm_hindex.specs.Disks.{changes_then, VoidOrSame, SameSeal}
+use Rattle.rpm_outside.specs.inner.Puts.{put_inside}
+use Rattle.rpm_outside.specs.declared.disk.File.TheVariants.{Idx}
+use Rattle.rpm_outside.specs.inner.Changing.{changes_between}
+use Rattle.rpm_hindex.specs.Images.{VoidOrSame, SameSeal}
 use Rattle.rpm_hindex.proofs.Seals.{image_held}
 use Rattle.rpm_hindex.proofs.index.Hindex.replace.Goals as goal
 
@@ -11,15 +13,17 @@ zeros old new image is same = ap (λ (u : Units). unit_at u 0) (same ∙ is) ∙
 
 pub returns-in_default-write_image-clause-changes : goal.returns-in_default-write_image-clause-changes
 returns-in_default-write_image-clause-changes g c =
-    changes_then _ _ _ _ _ _ g.met.D.Disk.follows_trans VoidOrSame SameSeal VoidOrSame (λ (u : Units). unit_at u 0 ≡ blank) (λ a b p. p) (λ x y z p m q. inl (q ∙ m))
-    c.args.disk.now c.void.new.disk c.write_image.new.disk
+    changes_between _ _ _ _ _ _ Idx g.met.D.Disk.follows_trans VoidOrSame SameSeal VoidOrSame (λ (u : Units). unit_at u 0 ≡ blank) 0 0 0
+    c.args.disk.now c.void.new.disk c.write_image.new.disk (omega arith) (λ a b p. p) (λ x y z p m q. inl (q ∙ m))
+    (λ told. zeros _ _ _ (c.in-Ok.ensures.voided told) refl)
     (λ told image left. zeros _ _ image.idx (c.in-Ok.ensures.voided told) (c.in-Ok.ensures.settled told image left))
     c.in-Ok.ensures.changes c.in_default-write_image.ensures.changes
 
 pub returns-clause-changes : goal.returns-clause-changes
 returns-clause-changes g c =
-    changes_then _ _ _ _ _ _ g.met.D.Disk.follows_trans VoidOrSame SameSeal VoidOrSame (λ (u : Units). unit_at u 0 ≡ blank) (λ a b p. p) (λ x y z p m q. inl (q ∙ m))
-    c.args.disk.now c.void.new.disk c.write_image.new.disk
+    changes_between _ _ _ _ _ _ Idx g.met.D.Disk.follows_trans VoidOrSame SameSeal VoidOrSame (λ (u : Units). unit_at u 0 ≡ blank) 0 0 0
+    c.args.disk.now c.void.new.disk c.write_image.new.disk (omega arith) (λ a b p. p) (λ x y z p m q. inl (q ∙ m))
+    (λ told. zeros _ _ _ (c.in-Ok.ensures.voided told) refl)
     (λ told image left. zeros _ _ image.idx (c.in-Ok.ensures.voided told) (c.in-Ok.ensures.settled told image left))
     c.in-Ok.ensures.changes c.in-Ok-write_image.ensures.changes
 

@@ -1,9 +1,11 @@
 use Rattle.std.proofs.Common.{◌≡◌, ℕ, ◌≤◌, ◌∷◌, [], List, ap, sym, ◌∙◌, arith, subst}
 use Rattle.std.specs.Prelude.{IsTrue}
 use Rattle.rpm_outside.specs.Files.{Units, units_of, unit_at, put}
-use Rattle.rpm_outside.specs.Cuts.{cut_up_one}
+use Rattle.rpm_outside.specs.inner.Cuts.{cut_up_one}
 use Rattle.rpm_outside.specs.Crash.{Torn}
-use Rattle.rpm_hindex.specs.Disks.{changes_weaker, SealedOrSame}
+use Rattle.rpm_outside.specs.declared.disk.File.TheVariants.{Idx}
+use Rattle.rpm_outside.specs.inner.Changing.{changes_weaker}
+use Rattle.rpm_hindex.specs.Images.{SealedOrSame}
 use Rattle.rpm_hindex.specs.State.{State, Keeps, seal_unit, magic, is_current}
 use Rattle.rpm_hindex.proofs.UnitWords.{length-unit, current}
 use Rattle.rpm_hindex.proofs.Writes.{torn_seal}
@@ -22,13 +24,15 @@ pub returns-in_default-clause-changes : goal.returns-in_default-clause-changes
 returns-in_default-clause-changes g c =
     let pending = ap (λ (s : State). s.pending) c.self.view_is in
     let is = c.unit_of_words-first.ensures ∙ ap (seal_unit c.args.generation) pending in
-    changes_weaker _ _ _ _ _ _ _ (SealedOrSame (seal_unit c.args.generation c.args.self.now.pending)) (weaker c.args.generation c.args.self.now.pending c.unit_of_words-first.result is) _ _ c.in_default.ensures.changes
+    changes_weaker _ _ _ _ _ _ Idx _ (SealedOrSame (seal_unit c.args.generation c.args.self.now.pending)) 0 0 _ _ (omega arith)
+    (weaker c.args.generation c.args.self.now.pending c.unit_of_words-first.result is) c.in_default.ensures.changes
 
 pub returns-clause-changes : goal.returns-clause-changes
 returns-clause-changes g c =
     let pending = ap (λ (s : State). s.pending) c.self.view_is in
     let is = c.unit_of_words-first.ensures ∙ ap (seal_unit c.args.generation) pending in
-    changes_weaker _ _ _ _ _ _ _ (SealedOrSame (seal_unit c.args.generation c.args.self.now.pending)) (weaker c.args.generation c.args.self.now.pending c.unit_of_words-first.result is) _ _ c.in-Ok.ensures.changes
+    changes_weaker _ _ _ _ _ _ Idx _ (SealedOrSame (seal_unit c.args.generation c.args.self.now.pending)) 0 0 _ _ (omega arith)
+    (weaker c.args.generation c.args.self.now.pending c.unit_of_words-first.result is) c.in-Ok.ensures.changes
 
 -- the first unit that was written, and the new file
 module _ (g : Over) (c : goal.After-self-2-1 g) where
@@ -42,9 +46,11 @@ module _ (g : Over) (c : goal.After-self-2-1 g) where
   state_is = same_state _ _ _ _ _ _ first_is (ap (λ (s : State). s.second) c.self.view_is) (ap (λ (s : State). s.units) c.self.view_is)
 
   file_is : IsTrue g.D.Disk.tells → (g.D.Disk.files c.write_synced.new.disk).idx ≡ put 0 (unit ∷ []) (g.D.Disk.files c.args.disk.now).idx
-  file_is told = c.in-Ok.ensures.written told ∙ ap (λ (us : Units). put 0 us (g.D.Disk.files c.args.disk.now).idx) (one c.args.generation c.args.self.now.pending c.unit_of_words-first.result first_is)
+  file_is told = c.in-Ok.ensures.written told ∙ ap (λ (us : Units). put 0 us (g.D.Disk.files c.args.disk.now).idx)
+      (one c.args.generation c.args.self.now.pending c.unit_of_words-first.result first_is)
 
-  behind : (told : IsTrue g.D.Disk.tells) (i : ℕ) → 1 ≤ i → unit_at (g.D.Disk.files c.write_synced.new.disk).idx i ≡ unit_at (g.D.Disk.files c.args.disk.now).idx i
+  behind : (told : IsTrue g.D.Disk.tells) (i : ℕ) → 1 ≤ i → unit_at (g.D.Disk.files c.write_synced.new.disk).idx i
+      ≡ unit_at (g.D.Disk.files c.args.disk.now).idx i
   behind told = front_behind unit (g.D.Disk.files c.args.disk.now).idx (g.D.Disk.files c.write_synced.new.disk).idx (file_is told)
 
 pub returns-clause-kept : goal.returns-clause-kept
@@ -53,12 +59,14 @@ returns-clause-kept g c = λ told.
     let pending = ap (λ (s : State). s.pending) c.self.view_is in
     let some = c.self.invariant (omega (arith, pending, c.requires.written)) in
     subst (Keeps (g.D.Disk.files c.write_synced.new.disk).idx) (sym (state_is g c))
-    (front_kept (unit g c) (g.D.Disk.files c.args.disk.now).idx (g.D.Disk.files c.write_synced.new.disk).idx (file_is g c told) c.args.self.now c.args.self.now.units (c.requires.keeps told) (omega (arith, units, some)))
+    (front_kept (unit g c) (g.D.Disk.files c.args.disk.now).idx (g.D.Disk.files c.write_synced.new.disk).idx (file_is g c told) c.args.self.now
+    c.args.self.now.units (c.requires.keeps told) (omega (arith, units, some)))
 
 pub returns-clause-current : goal.returns-clause-current
 returns-clause-current g c ordered =
     ap (is_current c.args.generation) (state_is g c)
-    ∙ current c.args.generation c.args.self.now.pending c.args.self.now.units c.args.self.now.second (omega arith) (omega (arith, ap (λ (s : State). s.pending) c.self.view_is)) ordered
+    ∙ current c.args.generation c.args.self.now.pending c.args.self.now.units c.args.self.now.second (omega arith)
+    (omega (arith, ap (λ (s : State). s.pending) c.self.view_is)) ordered
 
 pub returns-clause-whole : goal.returns-clause-whole
 returns-clause-whole g c = λ told whole. whole_behind c.args.self.now.pending _ _ (behind g c told) whole

@@ -3,7 +3,7 @@ use Rattle.rpm_hindex.specs.Sizes.{is_bucket_count}
 use Rattle.rpm_hindex.specs.Words.{word}
 use Rattle.rpm_hindex.specs.declared.chain.Extent.{Extent}
 use Rattle.rpm_hindex.specs.State.{State}
-use Rattle.rpm_hindex.specs.Records.{IsOpen}
+use Rattle.rpm_hindex.specs.inner.Records.{IsOpen}
 use Rattle.rpm_hindex.proofs.Orders.{started, open_from}
 use Rattle.rpm_hindex.specs.Whole.{IsWellFormed}
 use Rattle.rpm_hindex.proofs.Placing.{started as placed_start}
@@ -26,29 +26,47 @@ pub new-requires-clause-room : goal.new-requires-clause-room
 new-requires-clause-room c = (started c.args.self.now c.extent.result c.requires.order c.extent.ensures).room
 
 pub new-requires-clause-live : goal.new-requires-clause-live
-new-requires-clause-live c = omega (arith, (started c.args.self.now c.extent.result c.requires.order c.extent.ensures).live, c.word-live.ensures, ap (λ (s : State). word 2 s.second) c.self.view_is)
+new-requires-clause-live c = omega (
+  arith,
+  (started c.args.self.now c.extent.result c.requires.order c.extent.ensures).live,
+  c.word-live.ensures,
+  ap (λ (s : State). word 2 s.second) c.self.view_is,
+)
 
 pub new-requires-clause-records : goal.new-requires-clause-records
-new-requires-clause-records c = omega (arith, (started c.args.self.now c.extent.result c.requires.order c.extent.ensures).records, c.word-records.ensures, ap (λ (s : State). word 1 s.second) c.self.view_is)
+new-requires-clause-records c = omega (
+  arith,
+  (started c.args.self.now c.extent.result c.requires.order c.extent.ensures).records,
+  c.word-records.ensures,
+  ap (λ (s : State). word 1 s.second) c.self.view_is,
+)
 
 pub returns-clause-fits : goal.returns-clause-fits
-returns-clause-fits c = omega (arith, (started c.args.self.now c.extent.result c.requires.order c.extent.ensures).fits, ap (λ (e : Extent). e.used) c.new.ensures.extent)
+returns-clause-fits c = omega (
+  arith,
+  (started c.args.self.now c.extent.result c.requires.order c.extent.ensures).fits,
+  ap (λ (e : Extent). e.used) c.new.ensures.extent,
+)
 
 pub returns-clause-open : goal.returns-clause-open
-returns-clause-open c = λ file keeps. subst (λ (e : Extent). IsOpen e file) (sym (c.new.ensures.extent ∙ c.extent.ensures)) (open_from c.args.self.now file c.requires.order keeps)
+returns-clause-open c = λ file keeps. subst (λ (e : Extent). IsOpen e file) (sym (c.new.ensures.extent ∙ c.extent.ensures))
+    (open_from c.args.self.now file c.requires.order keeps)
 
 pub returns-clause-whole : goal.returns-clause-whole
 returns-clause-whole c = λ file keeps whole.
     let extent = c.new.ensures.extent ∙ c.extent.ensures in
     let first = ap (λ (s : State). s.second) c.self.view_is ∙ keeps.second in
-    placed_start c.new.result file c.new.ensures.units (ap length c.new.ensures.tail) (ap (word 0) (sym keeps.second) ∙ sym (ap (λ (e : Extent). e.used) extent))
+    placed_start c.new.result file c.new.ensures.units (ap length c.new.ensures.tail) (ap (word 0) (sym keeps.second)
+    ∙ sym (ap (λ (e : Extent). e.used) extent))
     (c.new.ensures.records ∙ c.word-records.ensures ∙ ap (word 1) first) (c.new.ensures.live ∙ c.word-live.ensures ∙ ap (word 2) first) c.new.ensures.dropped
     (subst (λ (n : ℕ). IsWellFormed n file) (sym (ap (λ (e : Extent). e.buckets) extent)) whole)
 
 pub returns-clause-count : goal.returns-clause-count
-returns-clause-count c = ap (λ (e : Extent). is_bucket_count e.buckets) c.new.ensures.extent ∙ (started c.args.self.now c.extent.result c.requires.order c.extent.ensures).count
+returns-clause-count c = ap (λ (e : Extent). is_bucket_count e.buckets) c.new.ensures.extent
+    ∙ (started c.args.self.now c.extent.result c.requires.order c.extent.ensures).count
 
 pub returns-clause-honest : goal.returns-clause-honest
 returns-clause-honest c = λ file keeps.
     let first = ap (λ (s : State). s.second) c.self.view_is ∙ keeps.second in
-    starts_honest c.new.result file c.new.ensures.units (c.new.ensures.records ∙ c.word-records.ensures ∙ ap (word 1) first) (c.new.ensures.live ∙ c.word-live.ensures ∙ ap (word 2) first)
+    starts_honest c.new.result file c.new.ensures.units (c.new.ensures.records ∙ c.word-records.ensures ∙ ap (word 1) first)
+    (c.new.ensures.live ∙ c.word-live.ensures ∙ ap (word 2) first)

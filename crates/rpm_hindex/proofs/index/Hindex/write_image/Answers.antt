@@ -1,16 +1,20 @@
 use Rattle.std.proofs.Common.{◌≡◌, ℕ, ◌+◌, ◌/◌, List, length, take, max, ap, sym, ◌∙◌, refl, arith, subst}
 use Rattle.rpm_outside.specs.Files.{units_of, put}
 use Rattle.rpm_hindex.specs.State.{State, Keeps}
-use Rattle.rpm_hindex.specs.Disks.{changes_weaker, SameSeal}
+use Rattle.rpm_outside.specs.declared.disk.File.TheVariants.{Idx}
+use Rattle.rpm_outside.specs.inner.Changing.{changes_weaker}
+use Rattle.rpm_hindex.specs.Images.{SameSeal}
 use Rattle.rpm_hindex.proofs.Writes.{torn_behind}
 use Rattle.rpm_hindex.proofs.Seals.{image_kept}
 use Rattle.rpm_hindex.proofs.index.Hindex.write_image.Goals as goal
 
 pub returns-in_default-clause-changes : goal.returns-in_default-clause-changes
-returns-in_default-clause-changes g c = changes_weaker _ _ _ _ _ _ _ SameSeal (λ a b t. torn_behind 1 _ a b (omega arith) t) _ _ c.in_default.ensures.changes
+returns-in_default-clause-changes g c = changes_weaker _ _ _ _ _ _ Idx _ SameSeal 0 0 _ _ (omega arith) (λ a b t. torn_behind 1 _ a b (omega arith) t)
+    c.in_default.ensures.changes
 
 pub returns-clause-changes : goal.returns-clause-changes
-returns-clause-changes g c = changes_weaker _ _ _ _ _ _ _ SameSeal (λ a b t. torn_behind 1 _ a b (omega arith) t) _ _ c.in-Ok.ensures.changes
+returns-clause-changes g c = changes_weaker _ _ _ _ _ _ Idx _ SameSeal 0 0 _ _ (omega arith) (λ a b t. torn_behind 1 _ a b (omega arith) t)
+    c.in-Ok.ensures.changes
 
 abbrev made : List ℕ → List ℕ → ℕ → ℕ → State
 made first second units pending = record { first = first; second = second; units = units; pending = pending }
@@ -26,7 +30,10 @@ returns-clause-kept g c = λ told.
     let first = ap (λ (t : State). t.first) c.self.view_is in
     let second = c.first_unit-self-inside.ensures ∙ ap (take 16) c.deref-2.ensures.value in
     let size : 1 + c.len.result / 16 ≡ n = omega (arith, c.len.ensures, c.args.image.now.bytes.ok.0) in
-    let units = c.max-self-inside.ensures ∙ ap (λ (k : ℕ). max k (1 + c.len.result / 16)) (ap (λ (t : State). t.units) c.self.view_is) ∙ ap (max s.units) size in
-    subst (Keeps (g.D.Disk.files c.write_synced.new.disk).idx) (sym (same _ s.first _ (take 16 bytes) _ (max s.units n) c.args.image.now.buckets first second units))
+    let units = c.max-self-inside.ensures ∙ ap (λ (k : ℕ). max k (1 + c.len.result / 16)) (ap (λ (t : State). t.units) c.self.view_is)
+    ∙ ap (max s.units) size in
+    subst (Keeps (g.D.Disk.files c.write_synced.new.disk).idx) (sym (same _ s.first _ (take 16 bytes) _ (max s.units n) c.args.image.now.buckets first
+    second units))
     (image_kept bytes (g.D.Disk.files c.args.disk.now).idx (g.D.Disk.files c.write_synced.new.disk).idx
-    (c.in-Ok.ensures.written told ∙ ap (λ (bs : List ℕ). put 1 (units_of bs) (g.D.Disk.files c.args.disk.now).idx) c.deref.ensures.value) s (max s.units n) c.args.image.now.buckets c.requires.some (c.requires.keeps told) refl)
+    (c.in-Ok.ensures.written told ∙ ap (λ (bs : List ℕ). put 1 (units_of bs) (g.D.Disk.files c.args.disk.now).idx) c.deref.ensures.value) s
+    (max s.units n) c.args.image.now.buckets c.requires.some (c.requires.keeps told) refl)

@@ -1,4 +1,4 @@
-use Rattle.std.proofs.Common.{◌≡◌, ◌++◌, sym, subst, ap, ◌∙◌}
+use Rattle.std.proofs.Common.{◌++◌, sym, subst, ap, ◌∙◌}
 use Rattle.rpm_outside.specs.Buffered.{inner, holds}
 use Rattle.rpm_outside.specs.Sinks.{Begins}
 use Rattle.rpm_outside.specs.Flushed.{handed}
@@ -10,7 +10,8 @@ returns-then-keep-clause-follows g c =
     let old = c.args.self.now in
     let new = c.keep.new.self in (
       subst (g.O.Sink.follows (inner old)) (sym c.keep.ensures.inner) (g.met.O.Sink.follows_refl (inner old)),
-      λ told. more_held (g.O.Sink.taken (inner old)) (g.O.Sink.taken (inner new)) (holds old) (holds new) c.args.bytes.now (ap g.O.Sink.taken c.keep.ensures.inner) (c.keep.ensures.kept c.if-keep.true),
+      λ told. more_held (g.O.Sink.taken (inner old)) (g.O.Sink.taken (inner new)) (holds old) (holds new) c.args.bytes.now
+          (ap g.O.Sink.taken c.keep.ensures.inner) (c.keep.ensures.kept c.if-keep.true),
     )
 
 pub returns-in_err-flush-clause-follows : goal.returns-in_err-flush-clause-follows
@@ -21,7 +22,8 @@ returns-in_err-flush-clause-follows g c =
     let taken = g.O.Sink.taken in (
       subst (λ (o : _). g.O.Sink.follows o (inner new)) c.keep.ensures.inner c.flush.ensures.goes_on,
       λ told. all_held (taken (inner old)) (taken (inner new)) (holds old) (holds new)
-          (handed g.O.Sink.tells (taken (inner mid)) (taken (inner new)) c.flush.ensures.out (holds mid) (holds new) c.flush.ensures.gained c.flush.ensures.whole told
+          (handed g.O.Sink.tells (taken (inner mid)) (taken (inner new)) c.flush.ensures.out (holds mid) (holds new) c.flush.ensures.gained
+          c.flush.ensures.whole told
           ∙ ap (λ (y : _). taken y ++ holds mid) c.keep.ensures.inner ∙ ap (λ (y : _). taken (inner old) ++ y) (c.keep.ensures.same c.if-keep.false)),
     )
 
@@ -36,8 +38,10 @@ returns-clause-follows g c =
     let wrote = subst (λ (o : _). g.O.Sink.follows o c.write.new.self) c.keep-2.ensures.inner c.write.ensures.follows in (
       g.met.O.Sink.follows_trans (inner old) (inner out) c.write.new.self flushed wrote,
       λ told. wrote_past (taken (inner old)) (taken (inner out)) (taken c.write.new.self) (holds old) (holds out) (holds last)
-          (handed g.O.Sink.tells (taken (inner mid)) (taken (inner out)) c.flush.ensures.out (holds mid) (holds out) c.flush.ensures.gained c.flush.ensures.whole told
+          (handed g.O.Sink.tells (taken (inner mid)) (taken (inner out)) c.flush.ensures.out (holds mid) (holds out) c.flush.ensures.gained
+          c.flush.ensures.whole told
           ∙ ap (λ (y : _). taken y ++ holds mid) c.keep.ensures.inner ∙ ap (λ (y : _). taken (inner old) ++ y) (c.keep.ensures.same c.if-keep.false))
           c.in_ok-flush.ensures.none (c.keep-2.ensures.same c.if-keep-2.false ∙ c.in_ok-flush.ensures.none)
-          (subst (λ (y : _). Begins (taken y) (taken c.write.new.self)) c.keep-2.ensures.inner (write_grows g.O.Sink.tells (taken (inner last)) (taken c.write.new.self) c.args.bytes.now c.write.result c.write.ensures.taken c.write.ensures.nothing told)),
+          (subst (λ (y : _). Begins (taken y) (taken c.write.new.self)) c.keep-2.ensures.inner (write_grows g.O.Sink.tells (taken (inner last))
+          (taken c.write.new.self) c.args.bytes.now c.write.result c.write.ensures.taken c.write.ensures.nothing told)),
     )

@@ -18,16 +18,19 @@ loop-k-preserved c =
     let steps = disk.steps.items in
     let k = c.loop-k.k in
     let step = c.index.result.now in
-    let more : take (k + 1) steps ≡ take k steps ++ step ∷ [] = take_more steps k step (omega (arith, disk.steps.ok.0)) ∙ ap (λ (s : Step). take k steps ++ s ∷ []) (sym c.index.ensures) in
+    let more : take (k + 1) steps ≡ take k steps ++ step ∷ [] = take_more steps k step (omega (arith, disk.steps.ok.0))
+    ∙ ap (λ (s : Step). take k steps ++ s ∷ []) (sym c.index.ensures) in
     let now = c.loop-k.invariant.now in
     let files = after_steps (take k steps) first in
     let next : held_files c.go_over.new.image ≡ picked_step c.args.pick step files (held_files c.loop-k.image) =
     c.in_ok-go_over.ensures.image ∙ ap (λ (f : Files). picked_step c.args.pick step f (held_files c.loop-k.image)) now in
     record {
-      now = c.in_ok-go_over.ensures.now ∙ ap (λ (f : Files). after_step step f) now ∙ sym (after_steps-push (take k steps) step first) ∙ ap (λ (s : List Step). after_steps s first) (sym more);
+      now = c.in_ok-go_over.ensures.now ∙ ap (λ (f : Files). after_step step f) now ∙ sym (after_steps-push (take k steps) step first)
+          ∙ ap (λ (s : List Step). after_steps s first) (sym more);
       image = subst (λ (s : List Step). Images s first (held_files c.go_over.new.image)) (sym more)
           (image_step (take k steps) step first (held_files c.loop-k.image) (held_files c.go_over.new.image) c.loop-k.invariant.image
-          (subst (λ (f : Files). StepsTo step files (held_files c.loop-k.image) f) (sym next) (picked_step_to c.args.pick step files (held_files c.loop-k.image))));
+          (subst (λ (f : Files). StepsTo step files (held_files c.loop-k.image) f) (sym next) (picked_step_to c.args.pick step files
+          (held_files c.loop-k.image))));
       picked = next
           ∙ ap (λ (f : Files). picked_step c.args.pick step files f) c.loop-k.invariant.picked
           ∙ sym (picked_image-push c.args.pick (take k steps) step first first)
@@ -51,4 +54,5 @@ pub returns-clause-picked : goal.returns-clause-picked
 returns-clause-picked c =
     let disk = c.args.self.now in
     let all : c.loop-k.k ≡ c.args.moment = omega arith in
-    c.settled.ensures.files ∙ c.in_ok-copy_of.ensures ∙ c.loop-k.invariant.picked ∙ ap (λ (n : ℕ). picked_image c.args.pick (take n disk.steps.items) (held_files disk.first) (held_files disk.first)) all
+    c.settled.ensures.files ∙ c.in_ok-copy_of.ensures ∙ c.loop-k.invariant.picked ∙ ap (λ (n : ℕ). picked_image c.args.pick (take n disk.steps.items)
+    (held_files disk.first) (held_files disk.first)) all

@@ -2,7 +2,7 @@ use Rattle.std.proofs.Common.{ℕ, List, refl, sym, ◌∙◌, ap}
 use Rattle.std.specs.Prelude.{◌==◌}
 use Rattle.std.specs.List.{list_any}
 use Rattle.rpm_outside.specs.Calls.{Sync}
-use Rattle.rpm_outside.proofs.Named.{named_fails}
+use Rattle.rpm_outside.proofs.Named.{named_fails, other_passes}
 use Rattle.rpm_outside.specs.declared.steps.Step.TheVariants.{Synced}
 use Rattle.rpm_outside.specs.Files.{Files, file_of}
 use Rattle.rpm_outside.specs.Past.{held_files, after_steps}
@@ -31,5 +31,12 @@ returns-clause-images c = λ told image since.
 
 pub returns-then-call_fails-clause-outcome : goal.returns-then-call_fails-clause-outcome
 returns-then-call_fails-clause-outcome c =
-    named_fails c.args.self.now _ (Sync c.args.file) c.call_fails.ensures.counted refl refl
-    (ap (λ (xs : List ℕ). list_any (λ call. call == c.call_fails.new.calls) xs) (sym c.deref.ensures.value) ∙ sym c.call_fails.ensures.named ∙ c.if-call_fails.true) refl
+    named_fails c.args.self.now _ (Sync c.args.file) c.call_fails.ensures.counted refl refl refl
+    (ap (λ (xs : List ℕ). list_any (λ call. call == c.call_fails.new.calls) xs) (sym c.deref.ensures.value) ∙ sym c.call_fails.ensures.named
+    ∙ c.if-call_fails.true) (record { files = refl; none = refl })
+
+pub returns-clause-outcome : goal.returns-clause-outcome
+returns-clause-outcome c =
+    other_passes c.args.self.now _ (Sync c.args.file) c.call_fails.ensures.counted refl refl refl
+    (ap (λ (xs : List ℕ). list_any (λ call. call == c.call_fails.new.calls) xs) (sym c.deref.ensures.value) ∙ sym c.call_fails.ensures.named
+    ∙ c.if-call_fails.false) (record { files = refl; step = c.in-Ok.ensures.ok })

@@ -4,12 +4,12 @@ use Rattle.rpm_pkgdb.specs.Slots.{is_used}
 use Rattle.rpm_pkgdb.specs.Pairs.{find_in}
 use Rattle.rpm_pkgdb.specs.Store.{Store}
 use Rattle.rpm_pkgdb.specs.Blobs.{blobs}
-use Rattle.rpm_pkgdb.specs.Changes.{stops_weaker}
-use Rattle.rpm_pkgdb.specs.Keeping.{IsKept}
-use Rattle.rpm_pkgdb.specs.RangeLaws.{freed_used}
-use Rattle.rpm_pkgdb.specs.Ranges.{Forgets}
+use Rattle.rpm_pkgdb.proofs.Changing.{stops_weaker}
+use Rattle.rpm_pkgdb.specs.inner.Keeping.{IsKept}
+use Rattle.rpm_pkgdb.proofs.RangeLaws.{freed_used}
+use Rattle.rpm_pkgdb.specs.inner.Ranges.{Forgets}
 use Rattle.rpm_pkgdb.specs.Quiet.{HasSlot, IsQuiet, BeforeOrAfter, with_free}
-use Rattle.rpm_pkgdb.specs.ErasesTo.{erases_to, freed_map}
+use Rattle.rpm_pkgdb.proofs.ErasesTo.{erases_to, freed_map}
 use Rattle.rpm_pkgdb.specs.Written.{ErasesTo}
 use Rattle.rpm_pkgdb.proofs.Held.{found_at_slot, freed_kept}
 use Rattle.rpm_pkgdb.proofs.store.PkgDb.erase.Goals as goal
@@ -41,11 +41,14 @@ invariant_of-self-2 g c =
     let s = c.slot_place-place.result.1 in
     let has : HasSlot _ k s = subst (λ (v : Store). HasSlot v k s) (sym c.self.view_is) c.slot_place-place.ensures.slot in
     let kept : IsKept i.numbers.pairs i.pages i.slots.items = c.self.invariant.kept in
-    let found : find_in i.numbers.pairs c.args.n ≡ Some k = found_at_slot i.numbers.pairs i.pages i.slots.items kept c.args.n k has.below s has.is has.used c.slot_place-place.ensures.number in
+    let found : find_in i.numbers.pairs c.args.n ≡ Some k =
+    found_at_slot i.numbers.pairs i.pages i.slots.items kept c.args.n k has.below s has.is has.used c.slot_place-place.ensures.number in
     record {
       kept = freed_kept i.numbers.pairs i.pages i.slots.items kept c.args.n k found c.remove.new.self.pairs c.remove.ensures.drops;
       blank = λ none. absurd (omega (arith, has.made));
-      used = freed_used i.pages i.slots.items kept.sound k (ap is_used has.is ∙ has.used) i.used c.forget.new.used i.spare c.self.invariant.used (subst (λ (t : Slot). Forgets t.offset i.used c.forget.new.used) (sym has.is) c.forget.ensures);
+      used =
+          freed_used i.pages i.slots.items kept.sound k (ap is_used has.is ∙ has.used) i.used c.forget.new.used i.spare c.self.invariant.used
+          (subst (λ (t : Slot). Forgets t.offset i.used c.forget.new.used) (sym has.is) c.forget.ensures);
       room = omega (arith, c.self.invariant.room, c.remove.ensures.room);
     }
 
@@ -57,11 +60,13 @@ returns-clause-blobs g c = λ told.
     let slot = c.slot_place-place.ensures in
     let F1 = (D.files c.free_slot.new.disk).pkg in
     let keeps = c.requires.keeps told in
-    ap (blobs F1) (ap (with_free k) c.self.view_is) ∙ freed_map st k c.args.n c.slot_place-place.result.1 slot.slot slot.number (D.files c.args.disk.now).pkg keeps F1 (c.in-Ok.ensures.stands told st slot.slot keeps)
+    ap (blobs F1) (ap (with_free k) c.self.view_is) ∙ freed_map st k c.args.n c.slot_place-place.result.1 slot.slot slot.number
+    (D.files c.args.disk.now).pkg keeps F1 (c.in-Ok.ensures.stands told st slot.slot keeps)
 
 pub returns-clause-quiet : goal.returns-clause-quiet
 returns-clause-quiet g c = λ told.
     let D = g.D.Disk in
     let k = c.slot_place-place.result.0 in
     let next = c.free_slot.new.disk in
-    subst (λ (v : Store). IsQuiet v (D.files next) (D.left_since next (D.moment next))) (sym (ap (with_free k) c.self.view_is)) (c.in-Ok.ensures.quiet told c.args.self.now c.slot_place-place.ensures.slot (c.requires.keeps told))
+    subst (λ (v : Store). IsQuiet v (D.files next) (D.left_since next (D.moment next))) (sym (ap (with_free k) c.self.view_is))
+    (c.in-Ok.ensures.quiet told c.args.self.now c.slot_place-place.ensures.slot (c.requires.keeps told))

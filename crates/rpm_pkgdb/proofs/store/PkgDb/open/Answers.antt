@@ -1,7 +1,8 @@
 use Rattle.std.proofs.Common.{◌≡◌, ◌*◌, ◌-◌, Result, Err, sym, ap, subst, ◌∙◌, arith, IsTrue}
 use Rattle.rpm_outside.specs.declared.disk.File.TheVariants.{Pkg, Idx, Log}
 use Rattle.rpm_outside.specs.Files.{Files, unit_at}
-use Rattle.rpm_outside.specs.Looks.{Looks, looks_then}
+use Rattle.rpm_outside.specs.Looks.{Looks}
+use Rattle.rpm_outside.specs.inner.Looking.{looks_then, read_same}
 use Rattle.rpm_pkgdb.specs.declared.slot.Damage.{Damage}
 use Rattle.rpm_pkgdb.proofs.Kept.{lawful}
 use Rattle.rpm_pkgdb.proofs.Opens.{store_empty, store_blank, store_damaged, store_made, ok_keeps, blank_opens, blank_keeps, opening_cost_least, opening_cost_made}
@@ -17,14 +18,18 @@ returns-then-units-eq0-clause-store g c = λ told.
 pub returns-then-is_zeros-clause-store : goal.returns-then-is_zeros-clause-store
 returns-then-is_zeros-clause-store g c = λ told.
     let file = (g.D.Disk.files c.args.disk.now).pkg in
-    let head : c.in-Ok-read_unit.head ≡ unit_at file 0 = c.in-Ok-read_unit.ensures.unit told ∙ ap (λ (f : Files). unit_at f.pkg 0) (c.in-Ok.ensures.untouched told).same in
-    blank_opens file c.blank-then-is_zeros.result c.blank-then-is_zeros.ensures.blank c.blank-then-is_zeros.ensures.err (store_blank file c.in-Ok.units c.in-Ok-read_unit.head (c.in-Ok.ensures.length told) head (sym c.if-is_zeros.ensures))
+    let head : c.in-Ok-read_unit.head ≡ unit_at file 0 =
+    c.in-Ok-read_unit.ensures.unit told ∙ ap (λ (f : Files). unit_at f.pkg 0) (c.in-Ok.ensures.untouched told).same in
+    blank_opens file c.blank-then-is_zeros.result c.blank-then-is_zeros.ensures.blank c.blank-then-is_zeros.ensures.err
+    (store_blank file c.in-Ok.units c.in-Ok-read_unit.head (c.in-Ok.ensures.length told) head (sym c.if-is_zeros.ensures))
 
 pub returns-in-Some-clause-store : goal.returns-in-Some-clause-store
 returns-in-Some-clause-store g c = λ told.
     let file = (g.D.Disk.files c.args.disk.now).pkg in
-    let head : c.in-Ok-read_unit.head ≡ unit_at file 0 = c.in-Ok-read_unit.ensures.unit told ∙ ap (λ (f : Files). unit_at f.pkg 0) (c.in-Ok.ensures.untouched told).same in
-    store_damaged file c.in-Ok.units c.in-Ok-read_unit.head (c.in-Ok.ensures.length told) head (sym c.if-is_zeros.ensures) c.in-Some.reason (sym c.in-Some.ensures) ∙ ap Err (sym c.damage_at.ensures)
+    let head : c.in-Ok-read_unit.head ≡ unit_at file 0 =
+    c.in-Ok-read_unit.ensures.unit told ∙ ap (λ (f : Files). unit_at f.pkg 0) (c.in-Ok.ensures.untouched told).same in
+    store_damaged file c.in-Ok.units c.in-Ok-read_unit.head (c.in-Ok.ensures.length told) head (sym c.if-is_zeros.ensures) c.in-Some.reason
+    (sym c.in-Some.ensures) ∙ ap Err (sym c.damage_at.ensures)
 
 pub returns-clause-store : goal.returns-clause-store
 returns-clause-store g c = λ told.
@@ -32,24 +37,27 @@ returns-clause-store g c = λ told.
     let same = (c.in-Ok.ensures.untouched told).same in
     let after = (c.in-Ok-read_unit.ensures.looks.untouched told).same in
     let head : c.in-Ok-read_unit.head ≡ unit_at file 0 = c.in-Ok-read_unit.ensures.unit told ∙ ap (λ (f : Files). unit_at f.pkg 0) same in
-    let is = store_made file c.in-Ok.units c.in-Ok-read_unit.head (c.in-Ok.ensures.length told) head (sym c.if-is_zeros.ensures) (sym c.in_default-head_reason.ensures) in
+    let is =
+    store_made file c.in-Ok.units c.in-Ok-read_unit.head (c.in-Ok.ensures.length told) head (sym c.if-is_zeros.ensures)
+    (sym c.in_default-head_reason.ensures) in
     subst (λ (r : Result Store Damage). OpenIs r c.read_made.result) (sym is)
     (subst (λ (f : Files). OpenIs (store_of (word 3 c.in-Ok-read_unit.head) f.pkg) c.read_made.result) (after ∙ same) (c.read_made.ensures.store told))
 
 pub returns-clause-looks : goal.returns-clause-looks
 returns-clause-looks g c =
     let l = lawful c.in-Ok.units c.in-Ok-read_unit.head (sym c.in_default-head_reason.ensures) in
-    let asked : Looks g.D.Disk.tells g.D.Disk.files g.D.Disk.left_since g.D.Disk.moment g.D.Disk.bytes_read g.D.Disk.follows 0 c.args.disk.now c.len.new.self = record {
+    let asked : Looks g.D.Disk.tells g.D.Disk.files g.D.Disk.left_since g.D.Disk.moment g.D.Disk.bytes_read g.D.Disk.follows Pkg 0 c.args.disk.now
+    c.len.new.self = record {
       untouched = c.in-Ok.ensures.untouched;
       moment_stays = c.in-Ok.ensures.moment;
-      no_less = omega (arith, c.in-Ok.ensures.reads Pkg);
-      no_more = omega (arith, c.in-Ok.ensures.reads Pkg);
-      idx = c.in-Ok.ensures.reads Idx;
-      log = c.in-Ok.ensures.reads Log;
+      reads = read_same Pkg 0 (g.D.Disk.bytes_read c.args.disk.now) (g.D.Disk.bytes_read c.len.new.self) c.in-Ok.ensures.reads;
       goes_on = c.in-Ok.ensures.follows;
     } in
-    let first = looks_then _ _ _ _ _ _ g.met.D.Disk.follows_trans 0 16 16 c.args.disk.now c.len.new.self c.read_unit.new.disk (omega arith) asked c.in-Ok-read_unit.ensures.looks in
-    looks_then _ _ _ _ _ _ g.met.D.Disk.follows_trans 16 (4096 * word 3 c.in-Ok-read_unit.head - 16) _ c.args.disk.now c.read_unit.new.disk _ (omega (arith, l.below)) first c.read_made.ensures.looks
+    let first =
+    looks_then _ _ _ _ _ _ Pkg g.met.D.Disk.follows_trans 0 16 16 c.args.disk.now c.len.new.self c.read_unit.new.disk
+    (omega arith) asked c.in-Ok-read_unit.ensures.looks in
+    looks_then _ _ _ _ _ _ Pkg g.met.D.Disk.follows_trans 16 (4096 * word 3 c.in-Ok-read_unit.head - 16) _ c.args.disk.now c.read_unit.new.disk _
+    (omega (arith, l.below)) first c.read_made.ensures.looks
 
 pub returns-then-units-eq0-clause-kept : goal.returns-then-units-eq0-clause-kept
 returns-then-units-eq0-clause-kept g c = blank_keeps (IsTrue g.D.Disk.tells) (g.D.Disk.files c.len.new.self).pkg c.blank.result c.blank.ensures.blank (λ told.
@@ -57,9 +65,11 @@ returns-then-units-eq0-clause-kept g c = blank_keeps (IsTrue g.D.Disk.tells) (g.
     ap (λ (f : Files). store f.pkg) (c.in-Ok.ensures.untouched told).same ∙ store_empty file (sym (c.in-Ok.ensures.length told) ∙ c.if-units-eq0.true))
 
 pub returns-then-is_zeros-clause-kept : goal.returns-then-is_zeros-clause-kept
-returns-then-is_zeros-clause-kept g c = blank_keeps (IsTrue g.D.Disk.tells) (g.D.Disk.files c.read_unit.new.disk).pkg c.blank-then-is_zeros.result c.blank-then-is_zeros.ensures.blank (λ told.
+returns-then-is_zeros-clause-kept g c =
+    blank_keeps (IsTrue g.D.Disk.tells) (g.D.Disk.files c.read_unit.new.disk).pkg c.blank-then-is_zeros.result c.blank-then-is_zeros.ensures.blank (λ told.
     let file = (g.D.Disk.files c.args.disk.now).pkg in
-    let head : c.in-Ok-read_unit.head ≡ unit_at file 0 = c.in-Ok-read_unit.ensures.unit told ∙ ap (λ (f : Files). unit_at f.pkg 0) (c.in-Ok.ensures.untouched told).same in
+    let head : c.in-Ok-read_unit.head ≡ unit_at file 0 =
+    c.in-Ok-read_unit.ensures.unit told ∙ ap (λ (f : Files). unit_at f.pkg 0) (c.in-Ok.ensures.untouched told).same in
     ap (λ (f : Files). store f.pkg) ((c.in-Ok-read_unit.ensures.looks.untouched told).same ∙ (c.in-Ok.ensures.untouched told).same)
     ∙ store_blank file c.in-Ok.units c.in-Ok-read_unit.head (c.in-Ok.ensures.length told) head (sym c.if-is_zeros.ensures))
 
@@ -70,12 +80,15 @@ returns-clause-kept g c = ok_keeps (IsTrue g.D.Disk.tells) _ c.read_made.result 
 
 pub returns-in_default-read_unit-clause-reads : goal.returns-in_default-read_unit-clause-reads
 returns-in_default-read_unit-clause-reads g c = λ told.
-    omega (arith, c.in-Ok.ensures.reads Pkg, c.read_unit.ensures.looks.no_more, opening_cost_least (g.D.Disk.files c.args.disk.now).pkg)
+    omega (arith, c.in-Ok.ensures.reads Pkg, c.read_unit.ensures.looks.reads.pkg, opening_cost_least (g.D.Disk.files c.args.disk.now).pkg)
 
 pub returns-clause-reads : goal.returns-clause-reads
 returns-clause-reads g c = λ told.
     let file = (g.D.Disk.files c.args.disk.now).pkg in
-    let head : c.in-Ok-read_unit.head ≡ unit_at file 0 = c.in-Ok-read_unit.ensures.unit told ∙ ap (λ (f : Files). unit_at f.pkg 0) (c.in-Ok.ensures.untouched told).same in
-    let cost = opening_cost_made file c.in-Ok.units c.in-Ok-read_unit.head (c.in-Ok.ensures.length told) head (sym c.if-is_zeros.ensures) (sym c.in_default-head_reason.ensures) in
+    let head : c.in-Ok-read_unit.head ≡ unit_at file 0 =
+    c.in-Ok-read_unit.ensures.unit told ∙ ap (λ (f : Files). unit_at f.pkg 0) (c.in-Ok.ensures.untouched told).same in
+    let cost =
+    opening_cost_made file c.in-Ok.units c.in-Ok-read_unit.head (c.in-Ok.ensures.length told) head (sym c.if-is_zeros.ensures)
+    (sym c.in_default-head_reason.ensures) in
     let l = lawful c.in-Ok.units c.in-Ok-read_unit.head (sym c.in_default-head_reason.ensures) in
-    omega (arith, l.some, c.in-Ok.ensures.reads Pkg, c.read_unit.ensures.looks.no_more, c.read_made.ensures.looks.no_more)
+    omega (arith, l.some, c.in-Ok.ensures.reads Pkg, c.read_unit.ensures.looks.reads.pkg, c.read_made.ensures.looks.reads.pkg)

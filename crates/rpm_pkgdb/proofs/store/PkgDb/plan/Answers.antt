@@ -17,6 +17,7 @@ returns-clause-full c = λ full. elim c.match-fit.branch [
       let slots : old.slots ≡ c.prepare.new.self.slots = sym (ap (λ (v : Store). v.slots) c.prepare.ensures.same) in
       let pages : c.self.inside.pages ≡ old.pages = ap (λ (v : Store). v.pages) c.self.view_is ∙ ap (λ (v : Store). v.pages) c.prepare.ensures.same in
       let count : blocks_for c.args.length ≡ (c.args.length + 43) / 16 = ap (λ (k : ℕ). k / 16) (omega arith) in
-      w.in-None.ensures block (omega (arith, le, pages)) (subst (λ (k : ℕ). Fits c.prepare.new.self.slots k block) count (subst (λ (l : List Slot). Fits l (blocks_for c.args.length) block) slots fits)))
+      w.in-None.ensures block (omega (arith, le, pages))
+      (subst (λ (k : ℕ). Fits c.prepare.new.self.slots k block) count (subst (λ (l : List Slot). Fits l (blocks_for c.args.length) block) slots fits)))
   | in-Some w ↦ absurd (let e = w.result-is in cc)
 ]

@@ -3,12 +3,12 @@ use Rattle.rpm_outside.specs.Files.{Units, units_of}
 use Rattle.rpm_pkgdb.specs.Store.{Store}
 use Rattle.rpm_pkgdb.specs.Blobs.{blobs, blocks_for}
 use Rattle.rpm_pkgdb.specs.Framing.{framed}
-use Rattle.rpm_pkgdb.specs.FramingLaws.{count-framed}
-use Rattle.rpm_pkgdb.specs.Changes.{stops_weaker}
+use Rattle.rpm_pkgdb.proofs.FramingLaws.{count-framed}
+use Rattle.rpm_pkgdb.proofs.Changing.{stops_weaker}
 use Rattle.rpm_pkgdb.specs.Quiet.{IsQuiet}
-use Rattle.rpm_pkgdb.specs.Puts.{CanPut, WhilePut, PutsTo, with_blob}
-use Rattle.rpm_pkgdb.specs.PutsTo.{puts_to, put_map}
-use Rattle.rpm_pkgdb.specs.Written.{with_spare}
+use Rattle.rpm_pkgdb.specs.inner.Puts.{CanPut, WhilePut}
+use Rattle.rpm_pkgdb.specs.Written.{PutsTo, with_blob, with_spare}
+use Rattle.rpm_pkgdb.proofs.PutsTo.{puts_to, put_map}
 use Rattle.rpm_pkgdb.proofs.PutEnds.{whole_part, replaced_zeros}
 use Rattle.rpm_pkgdb.proofs.store.PkgDb.put.Goals as goal
 
@@ -93,13 +93,16 @@ returns-clause-framed g c = λ told.
       new = c.replaced-old.ensures.new;
       replaced = c.replaced-old.ensures.held;
     } in
-    whole_part (D.files c.put_blob.new.disk).pkg plan.start (blocks_for (length blob)) (units_of (framed plan.number gen blob)) (count-framed plan.number gen blob) (c.in-Ok.ensures.stands told st can (c.requires.keeps told)).holds
+    whole_part (D.files c.put_blob.new.disk).pkg plan.start (blocks_for (length blob)) (units_of (framed plan.number gen blob))
+    (count-framed plan.number gen blob) (c.in-Ok.ensures.stands told st can (c.requires.keeps told)).holds
     ∙ ap (λ (v : Store). units_of (framed plan.number v.generation blob)) c.self.view_is
 
 pub returns-clause-zeros : goal.returns-clause-zeros
 returns-clause-zeros g c = λ told.
     let D = g.D.Disk in
-    replaced_zeros c.args.self.now c.args.plan c.requires.plan (D.files c.args.disk.now).pkg (D.files c.put_blob.new.disk).pkg c.replaced-old.result c.requires.made (c.requires.keeps told) c.replaced-old.ensures.held (c.in-Ok.ensures.zeros told)
+    replaced_zeros c.args.self.now c.args.plan c.requires.plan (D.files c.args.disk.now).pkg
+    (D.files c.put_blob.new.disk).pkg c.replaced-old.result c.requires.made (c.requires.keeps told) c.replaced-old.ensures.held
+    (c.in-Ok.ensures.zeros told)
 
 pub returns-clause-quiet : goal.returns-clause-quiet
 returns-clause-quiet g c = λ told.
@@ -119,4 +122,5 @@ returns-clause-quiet g c = λ told.
     } in
     let next = c.put_blob.new.disk in
     let q = c.in-Ok.ensures.quiet told st can (c.requires.keeps told) in
-    subst (λ (v : Store). IsQuiet v (D.files next) (D.left_since next (D.moment next))) (sym c.note_put.ensures.value) (λ image here. (let s = q image here in record { keeps = s.keeps; blocks = s.blocks }))
+    subst (λ (v : Store). IsQuiet v (D.files next) (D.left_since next (D.moment next))) (sym c.note_put.ensures.value)
+    (λ image here. (let s = q image here in record { keeps = s.keeps; blocks = s.blocks }))

@@ -2,9 +2,9 @@ use Rattle.std.proofs.Common.{ℕ, List, ◌+◌, [], ◌∷◌, sym, ap, subst,
 use Rattle.rpm_outside.specs.Crash.{Torn}
 use Rattle.rpm_pkgdb.specs.Store.{Store, Keeps}
 use Rattle.rpm_pkgdb.specs.Blobs.{blobs}
-use Rattle.rpm_pkgdb.specs.Changes.{stops_from}
+use Rattle.rpm_pkgdb.proofs.Changing.{stops_from}
 use Rattle.rpm_pkgdb.specs.Quiet.{IsQuiet}
-use Rattle.rpm_pkgdb.specs.Raises.{while_raised, raised, raised_map, raises_to, raised_quiet}
+use Rattle.rpm_pkgdb.proofs.Raises.{while_raised, raised, raised_map, raises_to, raised_quiet}
 use Rattle.rpm_pkgdb.specs.Undamaged.{IsHeadUnit}
 use Rattle.rpm_pkgdb.specs.Written.{with_generation, RaisesTo}
 use Rattle.rpm_pkgdb.proofs.store.PkgDb.raise.Goals as goal
@@ -23,7 +23,8 @@ returns-in_default-clause-images g c = λ told quiet.
     let is = subst (IsHigher unit) c.self.view_is c.head_unit.ensures in
     let F0 = (D.files c.args.disk.now).pkg in
     stops_from _ _ _ _ _ _ told (Torn 0 (unit ∷ [])) (RaisesTo st (st.generation + 1) F0) c.args.disk.now c.write_one.new.disk c.write_one.ensures.changes
-    (λ from image was torn. raises_to st c.requires.made unit (st.generation + 1) is F0 image.pkg (c.requires.keeps told) (while_raised st c.requires.made unit (st.generation + 1) is F0 from.pkg image.pkg (quiet from was) torn))
+    (λ from image was torn. raises_to st c.requires.made unit (st.generation + 1) is F0 image.pkg (c.requires.keeps told)
+    (while_raised st c.requires.made unit (st.generation + 1) is F0 from.pkg image.pkg (quiet from was) torn))
 
 pub returns-clause-images : goal.returns-clause-images
 returns-clause-images g c = λ told quiet.
@@ -33,7 +34,8 @@ returns-clause-images g c = λ told quiet.
     let is = subst (IsHigher unit) c.self.view_is c.head_unit.ensures in
     let F0 = (D.files c.args.disk.now).pkg in
     stops_from _ _ _ _ _ _ told (Torn 0 (unit ∷ [])) (RaisesTo st (st.generation + 1) F0) c.args.disk.now c.write_one.new.disk c.write_one.ensures.changes
-    (λ from image was torn. raises_to st c.requires.made unit (st.generation + 1) is F0 image.pkg (c.requires.keeps told) (while_raised st c.requires.made unit (st.generation + 1) is F0 from.pkg image.pkg (quiet from was) torn))
+    (λ from image was torn. raises_to st c.requires.made unit (st.generation + 1) is F0 image.pkg (c.requires.keeps told)
+    (while_raised st c.requires.made unit (st.generation + 1) is F0 from.pkg image.pkg (quiet from was) torn))
 
 pub returns-clause-kept : goal.returns-clause-kept
 returns-clause-kept g c = λ told.
@@ -42,7 +44,8 @@ returns-clause-kept g c = λ told.
     let unit = c.head_unit.result in
     let is = subst (IsHigher unit) c.self.view_is c.head_unit.ensures in
     let F1 = (D.files c.write_one.new.disk).pkg in
-    subst (Keeps F1) (sym (ap higher c.self.view_is)) (raised st c.requires.made unit (st.generation + 1) is (D.files c.args.disk.now).pkg F1 (c.requires.keeps told) (c.in-Ok.ensures.written told)).keeps
+    subst (Keeps F1) (sym (ap higher c.self.view_is)) (raised st c.requires.made unit (st.generation + 1) is (D.files c.args.disk.now).pkg F1
+    (c.requires.keeps told) (c.in-Ok.ensures.written told)).keeps
 
 pub returns-clause-blobs : goal.returns-clause-blobs
 returns-clause-blobs g c = λ told.
@@ -52,7 +55,8 @@ returns-clause-blobs g c = λ told.
     let is = subst (IsHigher unit) c.self.view_is c.head_unit.ensures in
     let F0 = (D.files c.args.disk.now).pkg in
     let F1 = (D.files c.write_one.new.disk).pkg in
-    ap (blobs F1) (ap higher c.self.view_is) ∙ raised_map st c.requires.made unit (st.generation + 1) is F0 F1 (c.requires.keeps told) (raised st c.requires.made unit (st.generation + 1) is F0 F1 (c.requires.keeps told) (c.in-Ok.ensures.written told))
+    ap (blobs F1) (ap higher c.self.view_is) ∙ raised_map st c.requires.made unit (st.generation + 1) is F0 F1 (c.requires.keeps told)
+    (raised st c.requires.made unit (st.generation + 1) is F0 F1 (c.requires.keeps told) (c.in-Ok.ensures.written told))
 
 pub returns-clause-quiet : goal.returns-clause-quiet
 returns-clause-quiet g c = λ told.
@@ -62,4 +66,5 @@ returns-clause-quiet g c = λ told.
     let is = subst (IsHigher unit) c.self.view_is c.head_unit.ensures in
     let next = c.write_one.new.disk in
     subst (λ (v : Store). IsQuiet v (D.files next) (D.left_since next (D.moment next))) (sym (ap higher c.self.view_is))
-    (raised_quiet st c.requires.made unit (st.generation + 1) is (D.files c.args.disk.now) (D.files next) (D.left_since next (D.moment next)) (c.requires.keeps told) (c.in-Ok.ensures.written told) (c.in-Ok.ensures.settled told))
+    (raised_quiet st c.requires.made unit (st.generation + 1) is (D.files c.args.disk.now) (D.files next) (D.left_since next (D.moment next))
+    (c.requires.keeps told) (c.in-Ok.ensures.written told) (c.in-Ok.ensures.settled told))

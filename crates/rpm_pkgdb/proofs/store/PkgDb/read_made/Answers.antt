@@ -1,6 +1,7 @@
-use Rattle.std.proofs.Common.{◌-◌, ◌*◌, length, sym, ap, ◌∙◌, arith, refl}
+use Rattle.std.proofs.Common.{◌-◌, ◌*◌, length, ap, arith, refl}
 use Rattle.rpm_outside.specs.Files.{Files}
-use Rattle.rpm_outside.specs.Looks.{looks_more, looks_then}
+use Rattle.rpm_outside.specs.declared.disk.File.TheVariants.{Pkg}
+use Rattle.rpm_outside.specs.inner.Looking.{looks_more, looks_then}
 use Rattle.rpm_pkgdb.proofs.Kept.{lawful, zero_absent}
 use Rattle.rpm_pkgdb.proofs.store.PkgDb.read_made.Goals as goal
 
@@ -29,17 +30,19 @@ read_table-requires-clause-within g c = λ told.
 pub returns-in_default-clause-looks : goal.returns-in_default-clause-looks
 returns-in_default-clause-looks g c =
     let l = lawful c.args.units c.args.head.now c.requires.lawful in
-    looks_more _ _ _ _ _ _ 16 _ _ _ (omega (arith, l.some)) c.read_unit.ensures.looks
+    looks_more _ _ _ _ _ _ Pkg 16 _ _ _ (omega (arith, l.some)) c.read_unit.ensures.looks
 
 pub returns-in-Err-clause-looks : goal.returns-in-Err-clause-looks
 returns-in-Err-clause-looks g c =
     let l = lawful c.args.units c.args.head.now c.requires.lawful in
-    looks_then _ _ _ _ _ _ g.met.D.Disk.follows_trans 16 (16 * (256 * c.word-pages.result - 2)) _ _ c.read_unit.new.disk _ (omega (arith, l.some, c.word-pages.ensures)) c.read_unit.ensures.looks c.read_table.ensures.looks
+    looks_then _ _ _ _ _ _ Pkg g.met.D.Disk.follows_trans 16 (16 * (256 * c.word-pages.result - 2)) _ _ c.read_unit.new.disk _
+    (omega (arith, l.some, c.word-pages.ensures)) c.read_unit.ensures.looks c.read_table.ensures.looks
 
 pub returns-clause-looks : goal.returns-clause-looks
 returns-clause-looks g c =
     let l = lawful c.args.units c.args.head.now c.requires.lawful in
-    looks_then _ _ _ _ _ _ g.met.D.Disk.follows_trans 16 (16 * (256 * c.word-pages.result - 2)) _ _ c.read_unit.new.disk _ (omega (arith, l.some, c.word-pages.ensures)) c.read_unit.ensures.looks c.read_table.ensures.looks
+    looks_then _ _ _ _ _ _ Pkg g.met.D.Disk.follows_trans 16 (16 * (256 * c.word-pages.result - 2)) _ _ c.read_unit.new.disk _
+    (omega (arith, l.some, c.word-pages.ensures)) c.read_unit.ensures.looks c.read_table.ensures.looks
 
 pub invariant_of-result : goal.invariant_of-result
 invariant_of-result g c =

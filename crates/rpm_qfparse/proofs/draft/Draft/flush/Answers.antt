@@ -9,8 +9,11 @@ some_length (suc n) e = omega arith
 
 pub returns-in_ok-push : goal.returns-in_ok-push
 returns-in_ok-push c =
-    let some : 0 < length c.args.self.now.text.items = some_length (length c.args.self.now.text.items) (c.if-not-is_empty.ensures ∙ ap (λ n. n == 0) c.args.self.now.text.ok.0) in
+    let some : 0 < length c.args.self.now.text.items = some_length (length c.args.self.now.text.items) (c.if-not-is_empty.ensures ∙ ap (λ n. n == 0)
+    c.args.self.now.text.ok.0) in
     record {
       text = ap (λ v. v.items) c.replace-bytes.ensures.after ∙ c.new.ensures.items;
-      same = λ rest h. flushed c.args.self.now.parts.items c.push.new.self.items c.args.self.now.text.items c.replace-bytes.new.dest.items rest some (ap (λ v. v.items) c.replace-bytes.ensures.after ∙ c.new.ensures.items) (c.in_ok-push.ensures.items ∙ ap (λ v. c.args.self.now.parts.items ++ Text v.items ∷ []) c.replace-bytes.ensures.value) h;
+      same = λ rest h. flushed c.args.self.now.parts.items c.push.new.self.items c.args.self.now.text.items c.replace-bytes.new.dest.items rest some
+          (ap (λ v. v.items) c.replace-bytes.ensures.after ∙ c.new.ensures.items) (c.in_ok-push.ensures.items ∙ ap (λ v. c.args.self.now.parts.items
+          ++ Text v.items ∷ []) c.replace-bytes.ensures.value) h;
     }

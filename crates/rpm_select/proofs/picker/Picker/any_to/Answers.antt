@@ -1,10 +1,12 @@
 use Rattle.std.proofs.Common.{◌≡◌, ℕ, ◌+◌, ◌-◌, ◌≤◌, List, true, false, Some, None, refl, sym, ap, subst, ◌∙◌, arith}
 use Rattle.std.specs.FinMap as finite
 use Rattle.rpm_outside.specs.Files.{Files}
-use Rattle.rpm_outside.specs.Looks.{looks_none, looks_then, looks_more}
+use Rattle.rpm_outside.specs.inner.Looking.{looks_none, looks_then, looks_more}
 use Rattle.rpm_db.specs.State.{Package, packages}
 use Rattle.rpm_db.specs.Database.{cost, cost_to}
-use Rattle.rpm_db.specs.Laws.{cost_more, cost_up}
+use Rattle.rpm_db.specs.inner.Laws.{cost_more, cost_up}
+use Rattle.rpm_outside.specs.declared.disk.File.TheVariants.{Pkg}
+use Rattle.rpm_select.proofs.Owning.{own_then, own_all}
 use Rattle.rpm_select.proofs.Picking.{any_to, left, above_picks, next_package, passed_one, none_above, past_all, one_to}
 use Rattle.rpm_select.proofs.picker.Picker.any_to.Goals as goal
 
@@ -12,8 +14,12 @@ pub loop-next-init : goal.loop-next-init
 loop-next-init g c = record {
   keeps = c.requires.keeps;
   within = cost_up c.args.db.now 0 c.args.n (omega arith);
-  looks = looks_more g.D.Disk.tells g.D.Disk.files g.D.Disk.left_since g.D.Disk.moment g.D.Disk.bytes_read g.D.Disk.follows 0 (cost_to 0 c.args.db.now) c.args.disk.now c.args.disk.now (omega arith)
-      (looks_none g.D.Disk.tells g.D.Disk.files g.D.Disk.left_since g.D.Disk.moment g.D.Disk.bytes_read g.D.Disk.follows g.met.D.Disk.follows_refl c.args.disk.now);
+  looks =
+      looks_more g.D.Disk.tells g.D.Disk.files g.D.Disk.left_since g.D.Disk.moment g.D.Disk.bytes_read g.D.Disk.follows Pkg 0
+      (cost_to 0 c.args.db.now) c.args.disk.now c.args.disk.now (omega arith)
+      (looks_none g.D.Disk.tells g.D.Disk.files g.D.Disk.left_since g.D.Disk.moment g.D.Disk.bytes_read g.D.Disk.follows Pkg g.met.D.Disk.follows_refl
+      c.args.disk.now);
+  own = λ m is. omega arith;
   faults = omega arith;
   same = λ told. refl;
 }
@@ -48,7 +54,9 @@ returns-in-Ok-Some-clause-looks g c =
     let m = c.in-Some.next in
     let more = cost_more db k m c.in-Some.ensures.next.0 in
     let up = cost_up db m c.args.n c.if-next-n.false in
-    looks_then g.D.Disk.tells g.D.Disk.files g.D.Disk.left_since g.D.Disk.moment g.D.Disk.bytes_read g.D.Disk.follows g.met.D.Disk.follows_trans (cost_to k db) (cost m db) (cost_to c.args.n db) c.args.disk.now c.loop-next.disk c.pick.new.disk (omega (arith, more, up)) c.loop-next.invariant.looks c.in-Ok-Some.ensures.looks
+    looks_then g.D.Disk.tells g.D.Disk.files g.D.Disk.left_since g.D.Disk.moment g.D.Disk.bytes_read g.D.Disk.follows Pkg g.met.D.Disk.follows_trans
+    (cost_to k db) (cost m db) (cost_to c.args.n db) c.args.disk.now c.loop-next.disk c.pick.new.disk
+    (omega (arith, more, up)) c.loop-next.invariant.looks c.in-Ok-Some.ensures.looks
 
 pub returns-in-Err-clause-looks : goal.returns-in-Err-clause-looks
 returns-in-Err-clause-looks g c =
@@ -57,7 +65,9 @@ returns-in-Err-clause-looks g c =
     let m = c.in-Some.next in
     let more = cost_more db k m c.in-Some.ensures.next.0 in
     let up = cost_up db m c.args.n c.if-next-n.false in
-    looks_then g.D.Disk.tells g.D.Disk.files g.D.Disk.left_since g.D.Disk.moment g.D.Disk.bytes_read g.D.Disk.follows g.met.D.Disk.follows_trans (cost_to k db) (cost m db) (cost_to c.args.n db) c.args.disk.now c.loop-next.disk c.pick.new.disk (omega (arith, more, up)) c.loop-next.invariant.looks c.in-Err.ensures.looks
+    looks_then g.D.Disk.tells g.D.Disk.files g.D.Disk.left_since g.D.Disk.moment g.D.Disk.bytes_read g.D.Disk.follows Pkg g.met.D.Disk.follows_trans
+    (cost_to k db) (cost m db) (cost_to c.args.n db) c.args.disk.now c.loop-next.disk c.pick.new.disk
+    (omega (arith, more, up)) c.loop-next.invariant.looks c.in-Err.ensures.looks
 
 pub loop-next-preserved-in-Ok-None-3 : goal.loop-next-preserved-in-Ok-None-3
 loop-next-preserved-in-Ok-None-3 g c =
@@ -70,7 +80,13 @@ loop-next-preserved-in-Ok-None-3 g c =
     record {
       keeps = done.kept;
       within = cost_up db m c.args.n c.if-next-n.false;
-      looks = looks_then g.D.Disk.tells g.D.Disk.files g.D.Disk.left_since g.D.Disk.moment g.D.Disk.bytes_read g.D.Disk.follows g.met.D.Disk.follows_trans (cost_to k db) (cost m db) (cost_to m db) c.args.disk.now c.loop-next.disk c.pick.new.disk more inv.looks done.looks;
+      looks =
+          looks_then g.D.Disk.tells g.D.Disk.files g.D.Disk.left_since g.D.Disk.moment g.D.Disk.bytes_read g.D.Disk.follows Pkg g.met.D.Disk.follows_trans
+          (cost_to k db) (cost m db) (cost_to m db) c.args.disk.now c.loop-next.disk c.pick.new.disk more inv.looks done.looks;
+      own =
+          own_then c.args.selection.now db k m (g.D.Disk.bytes_read c.args.disk.now Pkg) (g.D.Disk.bytes_read c.loop-next.disk Pkg)
+          (g.D.Disk.bytes_read c.pick.new.disk Pkg) c.in-Some.ensures.next.0
+          inv.own done.looks.reads.pkg done.unread;
       faults = omega (arith, inv.faults, done.cause.later);
       same = λ told.
           let map = packages (g.D.Disk.files c.args.disk.now).pkg db.store in
@@ -82,4 +98,31 @@ loop-next-preserved-in-Ok-None-3 g c =
 pub returns-clause-told : goal.returns-clause-told
 returns-clause-told g c = λ told.
     let map = packages (g.D.Disk.files c.args.disk.now).pkg c.args.db.now.store in
-    sym (ap (any_to c.args.n) (above_picks map c.args.selection.now 0 ∙ c.loop-next.invariant.same told ∙ none_above map c.args.selection.now c.loop-next.passed (c.in_default.ensures.told (g.D.Disk.files c.args.disk.now).pkg)))
+    sym (ap (any_to c.args.n) (above_picks map c.args.selection.now 0 ∙ c.loop-next.invariant.same told
+    ∙ none_above map c.args.selection.now c.loop-next.passed (c.in_default.ensures.told (g.D.Disk.files c.args.disk.now).pkg)))
+
+pub returns-in-Ok-Some-clause-own : goal.returns-in-Ok-Some-clause-own
+returns-in-Ok-Some-clause-own g c =
+    let done = c.in-Ok-Some.ensures in
+    own_all c.args.selection.now c.args.db.now c.in-Some.next (g.D.Disk.bytes_read c.args.disk.now Pkg) (g.D.Disk.bytes_read c.pick.new.disk Pkg)
+    (own_then c.args.selection.now c.args.db.now c.loop-next.passed c.in-Some.next (g.D.Disk.bytes_read c.args.disk.now Pkg)
+    (g.D.Disk.bytes_read c.loop-next.disk Pkg) (g.D.Disk.bytes_read c.pick.new.disk Pkg)
+    c.in-Some.ensures.next.0 c.loop-next.invariant.own done.looks.reads.pkg done.unread)
+
+pub returns-in-Err-clause-own : goal.returns-in-Err-clause-own
+returns-in-Err-clause-own g c =
+    let done = c.in-Err.ensures in
+    own_all c.args.selection.now c.args.db.now c.in-Some.next (g.D.Disk.bytes_read c.args.disk.now Pkg) (g.D.Disk.bytes_read c.pick.new.disk Pkg)
+    (own_then c.args.selection.now c.args.db.now c.loop-next.passed c.in-Some.next (g.D.Disk.bytes_read c.args.disk.now Pkg)
+    (g.D.Disk.bytes_read c.loop-next.disk Pkg) (g.D.Disk.bytes_read c.pick.new.disk Pkg)
+    c.in-Some.ensures.next.0 c.loop-next.invariant.own done.looks.reads.pkg done.unread)
+
+pub returns-clause-own : goal.returns-clause-own
+returns-clause-own g c =
+    own_all c.args.selection.now c.args.db.now c.loop-next.passed (g.D.Disk.bytes_read c.args.disk.now Pkg)
+    (g.D.Disk.bytes_read c.loop-next.disk Pkg) c.loop-next.invariant.own
+
+pub returns-then-next-n-clause-own : goal.returns-then-next-n-clause-own
+returns-then-next-n-clause-own g c =
+    own_all c.args.selection.now c.args.db.now c.loop-next.passed (g.D.Disk.bytes_read c.args.disk.now Pkg)
+    (g.D.Disk.bytes_read c.loop-next.disk Pkg) c.loop-next.invariant.own

@@ -1,11 +1,14 @@
 use Rattle.std.proofs.Common.{◌≡◌, ℕ, ◌+◌, ◌-◌, ◌≤◌, ◌∷◌, List, true, false, Some, None, is_some, sym, ap, subst, ◌∙◌, arith}
 use Rattle.std.specs.FinMap as finite
 use Rattle.rpm_outside.specs.Files.{Files}
-use Rattle.rpm_outside.specs.Looks.{Looks, looks_then, looks_more}
+use Rattle.rpm_outside.specs.Looks.{Looks}
+use Rattle.rpm_outside.specs.inner.Looking.{looks_then, looks_more}
 use Rattle.rpm_db.specs.State.{Package, packages}
 use Rattle.rpm_db.specs.Database.{cost, cost_to, cost_all}
-use Rattle.rpm_db.specs.Laws.{cost_more, cost_some}
+use Rattle.rpm_db.specs.inner.Laws.{cost_more, cost_some}
 use Rattle.rpm_select.specs.Picks.{number_in, entry_in}
+use Rattle.rpm_outside.specs.declared.disk.File.TheVariants.{Pkg}
+use Rattle.rpm_select.proofs.Owning.{own_then, own_all}
 use Rattle.rpm_select.proofs.Picking.{left, above_picks, next_package, passed_one, picked_one, none_above}
 use Rattle.rpm_select.proofs.picker.Picker.next_after.Goals as goal
 
@@ -21,7 +24,14 @@ loop-next-preserved g c =
     record {
       keeps = done.kept;
       more = omega (arith, more, inv.more);
-      looks = looks_then g.D.Disk.tells g.D.Disk.files g.D.Disk.left_since g.D.Disk.moment g.D.Disk.bytes_read g.D.Disk.follows g.met.D.Disk.follows_trans (cost_to k db - cost_to n db) (cost m db) (cost_to m db - cost_to n db) c.args.disk.now c.loop-next.disk c.pick.new.disk (omega (arith, more, inv.more)) inv.looks done.looks;
+      looks =
+          looks_then g.D.Disk.tells g.D.Disk.files g.D.Disk.left_since g.D.Disk.moment g.D.Disk.bytes_read g.D.Disk.follows Pkg g.met.D.Disk.follows_trans
+          (cost_to k db - cost_to n db) (cost m db) (cost_to m db - cost_to n db) c.args.disk.now c.loop-next.disk c.pick.new.disk
+          (omega (arith, more, inv.more)) inv.looks done.looks;
+      own =
+          own_then c.args.selection.now db k m (g.D.Disk.bytes_read c.args.disk.now Pkg) (g.D.Disk.bytes_read c.loop-next.disk Pkg)
+          (g.D.Disk.bytes_read c.pick.new.disk Pkg) c.in-Some.ensures.next.0
+          inv.own done.looks.reads.pkg done.unread;
       faults = omega (arith, inv.faults, done.cause.later);
       same = λ told.
           let map = packages (g.D.Disk.files c.args.disk.now).pkg db.store in
@@ -53,8 +63,11 @@ returns-in-Ok-Some-clause-looks g c =
     let inv = c.loop-next.invariant in
     let more = cost_more db k m c.in-Some.ensures.next.0 in
     let number = rw c.in-Ok-Some.field-0-is at c.in-Ok-Some.ensures.numbered in
-    subst (λ (i : ℕ). Looks g.D.Disk.tells g.D.Disk.files g.D.Disk.left_since g.D.Disk.moment g.D.Disk.bytes_read g.D.Disk.follows (cost_to i db - cost_to n db) c.args.disk.now c.pick.new.disk) (sym number)
-    (looks_then g.D.Disk.tells g.D.Disk.files g.D.Disk.left_since g.D.Disk.moment g.D.Disk.bytes_read g.D.Disk.follows g.met.D.Disk.follows_trans (cost_to k db - cost_to n db) (cost m db) (cost_to m db - cost_to n db) c.args.disk.now c.loop-next.disk c.pick.new.disk (omega (arith, more, inv.more)) inv.looks c.in-Ok-Some.ensures.looks)
+    subst (λ (i : ℕ). Looks g.D.Disk.tells g.D.Disk.files g.D.Disk.left_since g.D.Disk.moment g.D.Disk.bytes_read g.D.Disk.follows Pkg
+    (cost_to i db - cost_to n db) c.args.disk.now c.pick.new.disk) (sym number)
+    (looks_then g.D.Disk.tells g.D.Disk.files g.D.Disk.left_since g.D.Disk.moment g.D.Disk.bytes_read g.D.Disk.follows Pkg g.met.D.Disk.follows_trans
+    (cost_to k db - cost_to n db) (cost m db) (cost_to m db - cost_to n db) c.args.disk.now c.loop-next.disk c.pick.new.disk
+    (omega (arith, more, inv.more)) inv.looks c.in-Ok-Some.ensures.looks)
 
 pub returns-in-Err-clause-looks : goal.returns-in-Err-clause-looks
 returns-in-Err-clause-looks g c =
@@ -65,15 +78,41 @@ returns-in-Err-clause-looks g c =
     let inv = c.loop-next.invariant in
     let more = cost_more db k m c.in-Some.ensures.next.0 in
     let all = cost_some db m in
-    looks_then g.D.Disk.tells g.D.Disk.files g.D.Disk.left_since g.D.Disk.moment g.D.Disk.bytes_read g.D.Disk.follows g.met.D.Disk.follows_trans (cost_to k db - cost_to n db) (cost m db) (cost_all db - cost_to n db) c.args.disk.now c.loop-next.disk c.pick.new.disk (omega (arith, more, all, inv.more)) inv.looks c.in-Err.ensures.looks
+    looks_then g.D.Disk.tells g.D.Disk.files g.D.Disk.left_since g.D.Disk.moment g.D.Disk.bytes_read g.D.Disk.follows Pkg g.met.D.Disk.follows_trans
+    (cost_to k db - cost_to n db) (cost m db) (cost_all db - cost_to n db) c.args.disk.now c.loop-next.disk c.pick.new.disk
+    (omega (arith, more, all, inv.more)) inv.looks c.in-Err.ensures.looks
 
 pub returns-clause-told : goal.returns-clause-told
 returns-clause-told g c = λ told.
     let map = packages (g.D.Disk.files c.args.disk.now).pkg c.args.db.now.store in
-    above_picks map c.args.selection.now c.args.n ∙ c.loop-next.invariant.same told ∙ none_above map c.args.selection.now c.loop-next.passed (c.in_default.ensures.told (g.D.Disk.files c.args.disk.now).pkg)
+    above_picks map c.args.selection.now c.args.n ∙ c.loop-next.invariant.same told
+    ∙ none_above map c.args.selection.now c.loop-next.passed (c.in_default.ensures.told (g.D.Disk.files c.args.disk.now).pkg)
 
 pub returns-clause-looks : goal.returns-clause-looks
 returns-clause-looks g c =
     let db = c.args.db.now in
     let all = cost_some db c.loop-next.passed in
-    looks_more g.D.Disk.tells g.D.Disk.files g.D.Disk.left_since g.D.Disk.moment g.D.Disk.bytes_read g.D.Disk.follows (cost_to c.loop-next.passed db - cost_to c.args.n db) (cost_all db - cost_to c.args.n db) c.args.disk.now c.loop-next.disk (omega (arith, all)) c.loop-next.invariant.looks
+    looks_more g.D.Disk.tells g.D.Disk.files g.D.Disk.left_since g.D.Disk.moment g.D.Disk.bytes_read g.D.Disk.follows Pkg
+    (cost_to c.loop-next.passed db - cost_to c.args.n db) (cost_all db - cost_to c.args.n db) c.args.disk.now c.loop-next.disk
+    (omega (arith, all)) c.loop-next.invariant.looks
+
+pub returns-in-Ok-Some-clause-own : goal.returns-in-Ok-Some-clause-own
+returns-in-Ok-Some-clause-own g c =
+    let done = c.in-Ok-Some.ensures in
+    own_all c.args.selection.now c.args.db.now c.in-Some.next (g.D.Disk.bytes_read c.args.disk.now Pkg) (g.D.Disk.bytes_read c.pick.new.disk Pkg)
+    (own_then c.args.selection.now c.args.db.now c.loop-next.passed c.in-Some.next (g.D.Disk.bytes_read c.args.disk.now Pkg)
+    (g.D.Disk.bytes_read c.loop-next.disk Pkg) (g.D.Disk.bytes_read c.pick.new.disk Pkg)
+    c.in-Some.ensures.next.0 c.loop-next.invariant.own done.looks.reads.pkg done.unread)
+
+pub returns-in-Err-clause-own : goal.returns-in-Err-clause-own
+returns-in-Err-clause-own g c =
+    let done = c.in-Err.ensures in
+    own_all c.args.selection.now c.args.db.now c.in-Some.next (g.D.Disk.bytes_read c.args.disk.now Pkg) (g.D.Disk.bytes_read c.pick.new.disk Pkg)
+    (own_then c.args.selection.now c.args.db.now c.loop-next.passed c.in-Some.next (g.D.Disk.bytes_read c.args.disk.now Pkg)
+    (g.D.Disk.bytes_read c.loop-next.disk Pkg) (g.D.Disk.bytes_read c.pick.new.disk Pkg)
+    c.in-Some.ensures.next.0 c.loop-next.invariant.own done.looks.reads.pkg done.unread)
+
+pub returns-clause-own : goal.returns-clause-own
+returns-clause-own g c =
+    own_all c.args.selection.now c.args.db.now c.loop-next.passed (g.D.Disk.bytes_read c.args.disk.now Pkg)
+    (g.D.Disk.bytes_read c.loop-next.disk Pkg) c.loop-next.invariant.own

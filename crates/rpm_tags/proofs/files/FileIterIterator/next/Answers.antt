@@ -12,12 +12,18 @@ pub dir-dir-requires : goal.dir-dir-requires
 dir-dir-requires c = next_index c.self.inside.dirs c.self.inside.indexes.now c.self.inside.bases c.self.inside.place _ c.self.invariant c.number-index.ensures
 
 pub invariant_of-self-in-Some : goal.invariant_of-self-in-Some
-invariant_of-self-in-Some c = rw c.dir-dir.ensures.same (next_left c.self.inside.dirs c.self.inside.indexes.now c.self.inside.bases c.self.inside.place _ _ _ c.self.invariant c.in-Some.ensures.steps c.number-index.ensures)
+invariant_of-self-in-Some c =
+    rw c.dir-dir.ensures.same (next_left c.self.inside.dirs c.self.inside.indexes.now c.self.inside.bases c.self.inside.place _ _ _ c.self.invariant
+    c.in-Some.ensures.steps c.number-index.ensures)
 
 pub returns-in-Some-clause-steps : goal.returns-in-Some-clause-steps
-returns-in-Some-clause-steps c = sym c.self.view_is ∙ next_path_in c.self.inside.dirs c.self.inside.indexes.now c.self.inside.bases c.self.inside.place _ _ _ _ c.in-Some.ensures.steps c.number-index.ensures c.dir-dir.ensures.value ∙ rw (← c.two.ensures, c.dir-dir.ensures.same) refl
+returns-in-Some-clause-steps c =
+    sym c.self.view_is ∙ next_path_in c.self.inside.dirs c.self.inside.indexes.now c.self.inside.bases c.self.inside.place _ _ _ _ c.in-Some.ensures.steps
+    c.number-index.ensures c.dir-dir.ensures.value ∙ rw (← c.two.ensures, c.dir-dir.ensures.same) refl
 
 pub returns-in-Some-clause-goes : goal.returns-in-Some-clause-goes
 returns-in-Some-clause-goes c =
-    let steps = sym c.self.view_is ∙ next_path_in c.self.inside.dirs c.self.inside.indexes.now c.self.inside.bases c.self.inside.place _ _ _ _ c.in-Some.ensures.steps c.number-index.ensures c.dir-dir.ensures.value in
+    let steps =
+    sym c.self.view_is ∙ next_path_in c.self.inside.dirs c.self.inside.indexes.now c.self.inside.bases c.self.inside.place _ _ _ _
+    c.in-Some.ensures.steps c.number-index.ensures c.dir-dir.ensures.value in
     rw (c.dir-dir.ensures.same, steps) (search rules)

@@ -3,7 +3,8 @@ use Rattle.rpm_tags.proofs.Parts.{has_room, pushed, is_pushed}
 use Rattle.rpm_tags.proofs.joined.Joined.push.Goals as goal
 
 pub bounds-self-inside-self-inside : goal.bounds-self-inside-self-inside
-bounds-self-inside-self-inside c = has_room c.self.inside.count c.self.inside.len c.self.inside.parts c.args.self.now c.self.view_is c.self.invariant c.requires.room
+bounds-self-inside-self-inside c =
+    has_room c.self.inside.count c.self.inside.len c.self.inside.parts c.args.self.now c.self.view_is c.self.invariant c.requires.room
 
 pub invariant_of-self : goal.invariant_of-self
 invariant_of-self c =

@@ -1,0 +1,4 @@
+-- Laws on the definitions, for the crates above.
+pub mod Above
+pub mod Laws
+pub mod Own

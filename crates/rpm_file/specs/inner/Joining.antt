@@ -1,0 +1,26 @@
+-- What the calls that join entries keep and answer.
+use Rattle.std.specs.Prelude.{◌≡◌, ℕ, List, length, Bool, false, if◌then◌else◌, Option, Some, None, ◌<◌, slice_index_or}
+use Rattle.rpm_header.specs.declared.form.Form.TheVariants as form
+use Rattle.rpm_header.specs.Header.{Item, is_region_tag}
+use Rattle.rpm_header.specs.Build.{retagged}
+use Rattle.rpm_header.specs.declared.laying.BuildFault.{BuildFault}
+use Rattle.rpm_header.specs.declared.laying.BuildFault.TheVariants as build
+use Rattle.rpm_file.specs.declared.fault.FileFault.{FileFault}
+use Rattle.rpm_file.specs.declared.fault.FileFault.TheVariants.{TooLarge, NoMemory}
+use Rattle.rpm_file.specs.Merging.{has_tag, dribble}
+
+-- of each tag below 1,047, whether these entries have it
+pub record HasTags (entries : List Item) (has : List Bool) : Type 0 where
+  pub long : length has ≡ 1047
+  pub told : (tag : ℕ) → tag < 1047 → slice_index_or has tag false ≡ has_tag tag entries
+
+-- the tag under which an entry joins, if it does
+abbrev pub JoinsUnder : List Item → Item → Option ℕ → Type 0
+JoinsUnder main e None = dribble main e ≡ None
+JoinsUnder main e (Some tag) = (dribble main e ≡ Some (retagged tag e)) × (is_region_tag tag ≡ false) × (e.form ≡ form.Null → ⊥)
+
+-- each limit that is passed is one fault
+abbrev pub made_fault : BuildFault → FileFault
+made_fault build.TooManyEntries = TooLarge
+made_fault build.TooMuchData = TooLarge
+made_fault build.NoMemory = NoMemory

@@ -1,0 +1,24 @@
+use Rattle.std.proofs.Common.{◌≡◌, ◌+◌, ◌-◌, ◌≤◌, IsTrue}
+use Rattle.rpm_outside.specs.Files.{file_of, with_file}
+use Rattle.rpm_outside.specs.Changed.{LeavesChanged}
+use Rattle.rpm_outside.specs.inner.PutMore.{put_some}
+use Rattle.rpm_group.specs.inner.HeldUnits.{units_held}
+use Rattle.rpm_group.specs.LogReads.{ReadsNothing}
+use Rattle.rpm_group.proofs.writes.write_pages.Given as goal
+
+abbrev pub invariant-loop-done : goal.invariant-loop-done
+invariant-loop-done g l =
+    let D = g.D.Disk in
+    let first = D.files l.initial.disk in
+    record {
+      from : l.from ≤ l.done;
+      end : l.done ≤ l.end;
+      files : IsTrue D.tells → D.files l.disk
+          ≡ with_file l.file (put_some l.at (units_held l.table.items l.from (l.done - l.from)) (file_of l.file first)) first;
+      images : IsTrue D.tells → LeavesChanged D.moment D.left_since l.file l.at (l.at + (l.end - l.from)) l.initial.disk l.disk;
+      reads : ReadsNothing D.moment D.bytes_read D.follows l.initial.disk l.disk;
+      faults : D.faults l.initial.disk ≤ D.faults l.disk;
+    }
+
+abbrev pub decreases-loop-done : goal.decreases-loop-done
+decreases-loop-done g l = l.end - l.done

@@ -1,0 +1,9 @@
+-- Invariants and steps of the crate's own calls: nothing that a reader of its public calls must believe.
+pub mod Holding
+pub mod LogReadings
+pub mod HeldUnits
+pub mod Leavings
+pub mod Words
+pub mod Logged
+pub mod Grouped
+pub mod Wholes

@@ -1,0 +1,32 @@
+-- How many zero bytes stand in a list of bytes.
+use Rattle.std.specs.Prelude.{◌≡◌, ℕ, zero, suc, ◌*◌, ◌≤◌, ◌<◌, List, length, take, drop, true, count_by, slice_index}
+use Rattle.std.specs.List.{after_first}
+use Rattle.rpm_header.specs.Bytes.{is_zero, are_ended}
+use Rattle.rpm_header.specs.Header.{max_data}
+
+-- how many of the bytes are zero
+unfoldable pub zeros : List ℕ → ℕ
+zeros bytes = count_by is_zero bytes
+
+-- from each stride on, how many of the bytes are zero; 4,095 strides pass the end
+pub record IsSummed (bytes : List ℕ) (stride : ℕ) (sums : List ℕ) : Type 0 where
+  pub wide : length bytes < 4095 * stride
+  pub narrow : stride ≤ 16389
+  pub small : length bytes ≤ max_data
+  pub size : length sums ≡ 4096
+  pub each : (k : ℕ) → k < 4096 → slice_index sums k ≡ zeros (drop (k * stride) bytes)
+
+-- what stands behind so many texts
+unfoldable pub skipped : ℕ → List ℕ → List ℕ
+skipped zero bytes = bytes
+skipped (suc n) bytes = skipped n (after_first is_zero bytes)
+
+-- in front of each of so many strides, how many of the bytes are zero
+pub record IsPlaced (count : ℕ) (bytes : List ℕ) (stride filled : ℕ) (sums : List ℕ) : Type 0 where
+  pub ended : are_ended count bytes ≡ true
+  pub few : length bytes ≤ max_data
+  pub some : 0 < filled
+  pub within : filled ≤ 256
+  pub size : length sums ≡ 256
+  pub reach : (k : ℕ) → k < filled → k * stride ≤ length bytes
+  pub each : (k : ℕ) → k < filled → slice_index sums k ≡ zeros (take (k * stride) bytes)

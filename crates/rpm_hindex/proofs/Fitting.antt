@@ -1,0 +1,113 @@
+-- The rows of an index that is in order have room in one made from scratch.
+use Rattle.std.proofs.Common.{◌≡◌, ℕ, zero, suc, ◌+◌, ◌-◌, ◌*◌, ◌/◌, ◌^◌, ◌<◌, ◌≤◌, List, [], ◌∷◌, ◌++◌, length, length-append, map, take, leb, true, refl, sym, ap, ◌∙◌, arith, inl, inr}
+use Rattle.std.specs.List.{sum_by}
+use Rattle.std.proofs.lemmas.Bool.{cases_lt, cond-true, cond-false, le-leb, lt-leb}
+use Rattle.std.proofs.lemmas.List.{length-map, length-take}
+use Rattle.std.proofs.lemmas.List.Sums.{sum_by-cons, sum_by-append}
+use Rattle.std.proofs.Math.Nat.{pow-le-pow_right, pow-succ'}
+use Rattle.rpm_outside.specs.Files.{Units, unit_at, units_of, bytes_of}
+use Rattle.rpm_outside.specs.inner.Cuts.{length-cut_up, unit_at-cut_up}
+use Rattle.rpm_outside.specs.inner.Puts.{put_inside}
+use Rattle.rpm_hindex.specs.declared.planning.Work.{Work}
+use Rattle.rpm_hindex.specs.declared.planning.Work.TheVariants.{InPlace, Scratch}
+use Rattle.rpm_hindex.specs.Words.{word}
+use Rattle.rpm_hindex.specs.Rows.{Row, times, SameRows}
+use Rattle.rpm_hindex.specs.Sizes.{doubled, bucket_count, is_bucket_count, first_record, live_of, units_for, record_units, key_units}
+use Rattle.rpm_hindex.specs.Index.{Index, index_in, records, rows_of, row_at, all_places, units_at, length_at, run}
+use Rattle.rpm_hindex.specs.Whole.{IsWellFormed, IsWhole}
+use Rattle.rpm_hindex.specs.State.{is_ordered}
+use Rattle.rpm_hindex.specs.Plans.{CanWrite, LeavesOrder, IsPlanFor, HasChanged, after, buckets_after, second_after, units_after, after_tail, after_units}
+use Rattle.rpm_hindex.specs.inner.Changes.{HasLess}
+use Rattle.rpm_hindex.specs.Refusals.{HasRoomFor}
+use Rattle.rpm_hindex.proofs.Counts.{times-append}
+use Rattle.rpm_hindex.proofs.Orders.{count_parts, ordered_parts}
+use Rattle.rpm_hindex.proofs.Same.{units_same_rows, length_same_rows, live_same_rows}
+
+-- ---- the least count of buckets
+
+pow_up : (j k : ℕ) → j ≤ k → 64 * 2 ^ j ≤ 64 * 2 ^ k
+pow_up j k le = let up : 2 ^ j ≤ 2 ^ k = pow-le-pow_right {n = 2} (omega arith) le in omega arith
+
+least : (n j k r : ℕ) → j ≤ k → r ≤ 2 * (64 * 2 ^ k) → doubled n (64 * 2 ^ j) r ≤ 64 * 2 ^ k
+least zero j k r le fits = pow_up j k le
+least (suc n) j k r le fits = elim (cases_lt (2 * (64 * 2 ^ j)) r) [
+  | inl more ↦
+      let next : 2 * (64 * 2 ^ j) ≡ 64 * 2 ^ (suc j) = omega (arith, pow-succ' 2 j) in
+      let is : doubled (suc n) (64 * 2 ^ j) r ≡ doubled n (2 * (64 * 2 ^ j)) r = cond-false (leb r (2 * (64 * 2 ^ j))) (64 * 2 ^ j) _
+      (lt-leb r (2 * (64 * 2 ^ j)) more) in
+      let below : suc j ≤ k = elim (cases_lt j k) [ inl lt ↦ omega (arith, lt) | inr ge ↦ let up = pow_up k j ge in absurd (omega (arith, up, more, fits)) ] in
+      omega (arith, is, ap (λ (b : ℕ). doubled n b r) next, least n (suc j) k r below fits)
+  | inr done ↦
+      let is : doubled (suc n) (64 * 2 ^ j) r ≡ 64 * 2 ^ j = cond-true (leb r (2 * (64 * 2 ^ j))) (64 * 2 ^ j) _ (le-leb r (2 * (64 * 2 ^ j)) done) in
+      omega (arith, is, pow_up j k le)
+]
+
+pub count_least : (buckets r : ℕ) → is_bucket_count buckets ≡ true → r ≤ 2 * buckets → bucket_count r ≤ buckets
+unfolding bucket_count
+count_least buckets r is fits =
+    let c = count_parts buckets is in
+    omega (arith, c.is, least r 0 c.k r (omega arith) (omega (arith, fits, c.is)))
+
+-- ---- rows need no more units than their records
+
+key_least : (unit : ℕ → List ℕ) (at : ℕ) → record_units (length (row_at unit at).key) ≤ units_at unit at
+unfolding row_at
+key_least unit at =
+    let n = length_at unit at in
+    let bytes = bytes_of (run unit (at + 1) (key_units n)) in
+    omega (arith, length-take n bytes)
+
+live_least : (unit : ℕ → List ℕ) (ps : List ℕ) → live_of (map (row_at unit) ps) ≤ sum_by (units_at unit) ps
+unfolding live_of
+live_least unit [] = omega arith
+live_least unit (p ∷ ps) =
+    omega (
+      arith,
+      sum_by-cons (λ (r : Row). record_units (length r.key)) (row_at unit p) (map (row_at unit) ps),
+      sum_by-cons (units_at unit) p ps,
+      key_least unit p,
+      live_least unit ps,
+    )
+
+rows_least : (x : Index) → (length (rows_of x) ≡ length (all_places x)) × (live_of (rows_of x) ≤ sum_by (units_at x.unit) (all_places x))
+unfolding rows_of
+rows_least x = (length-map (all_places x) (row_at x.unit), live_least x.unit (all_places x))
+
+live-append : (xs ys : List Row) → live_of (xs ++ ys) ≡ live_of xs + live_of ys
+unfolding live_of
+live-append xs ys = sum_by-append (λ (r : Row). record_units (length r.key)) xs ys
+
+-- how many rows there are after drops and adds, and their units at most
+pub changed_least : (x : Index) (count live : ℕ) (drops adds old new : List Row) → IsWhole count live x → HasLess drops old (rows_of x) → HasChanged
+    drops adds old new
+    → (length new ≡ count + length adds) × (live_of new ≤ live + live_of adds)
+changed_least x count live drops adds old new whole less changed =
+    let few = rows_least x in
+    let same : SameRows (rows_of x ++ adds) new = λ r. changed r ∙ sym (times-append r (rows_of x) adds ∙ ap (λ (n : ℕ). n + times r adds) (less r)) in (
+      omega (arith, length_same_rows (rows_of x ++ adds) new same, length-append (rows_of x) adds, few.0, whole.records),
+      omega (arith, live_same_rows (rows_of x ++ adds) new same, live-append (rows_of x) adds, few.1, whole.live),
+    )
+
+-- ---- what a plan leaves
+
+second_is : (work : Work) (file : Units) (units : ℕ) → CanWrite units work → unit_at (after work file) 1 ≡ second_after work
+second_is (InPlace p) file units can = put_inside 1 (p.second ∷ []) (after_tail p.used p.tail.items (after_units p.units.items file)) 0 (omega arith)
+second_is (Scratch image) file units can =
+    let bytes = image.bytes.items in
+    put_inside 1 (units_of bytes) _ 0 (omega (arith, can.0, length-cut_up (length bytes / 16) bytes))
+    ∙ unit_at-cut_up (length bytes / 16) bytes 0 (omega (arith, can.0))
+
+pub plan_fits : (drops adds : List Row) (buckets : ℕ) (file : Units) (work : Work) (units : ℕ) → CanWrite units work → LeavesOrder work
+    → IsPlanFor drops adds buckets file work → HasRoomFor drops adds (records buckets file)
+unfolding IsPlanFor
+plan_fits drops adds buckets file work units can order plan = λ new changed.
+    let B = buckets_after work in
+    let later = after work file in
+    let x : Index = index_in B later in
+    let second = second_is work file units can in
+    let o = ordered_parts B (second_after work) (units_after work) (order (units_after work) (omega arith)) in
+    let few = rows_least x in
+    let long : length (rows_of x) ≤ 2 * B = omega (arith, few.0, plan.whole.records, ap (word 1) second, o.few) in
+    let live : live_of (rows_of x) ≤ word 2 (second_after work) = omega (arith, few.1, plan.whole.live, ap (word 2) second) in
+    let same = units_same_rows (rows_of x) new (λ r. changed r ∙ sym (plan.rows r)) in
+    omega (arith, same, count_least B (length (rows_of x)) o.count long, live, o.live, o.from, o.most)

@@ -1,0 +1,5 @@
+-- What inner calls read, keep and make.
+pub mod Changes
+pub mod Drafts
+pub mod Making
+pub mod Records

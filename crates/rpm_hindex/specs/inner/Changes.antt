@@ -1,0 +1,241 @@
+-- A change that is being worked out, as the index that it would leave.
+use Rattle.std.specs.Prelude.{◌≡◌, ℕ, zero, suc, ◌+◌, ◌-◌, ◌*◌, ◌/◌, ◌%◌, ◌^◌, ◌<◌, ◌≤◌, ◌⊎◌, List, [], ◌∷◌, length, map, Bool, not, if◌then◌else◌, nat_lt, Option, Some, unwrap_or, is_some, slice_index_or, true, false, Err, Result}
+use Rattle.std.specs.Ordering.{nat_cmp}
+use Rattle.std.specs.BTreeMap.{get}
+use Rattle.std.specs.List.{filter, Contains, flat_map, range_with_len, sum_by}
+use Rattle.rpm_outside.specs.Files.{Units, units_of, unit_at}
+use Rattle.rpm_hindex.specs.declared.chain.Record.{Record}
+use Rattle.rpm_hindex.specs.declared.links.Link.{Link}
+use Rattle.rpm_hindex.specs.declared.change.Change.{Change}
+use Rattle.rpm_hindex.specs.declared.planning.Patch.{Patch}
+use Rattle.rpm_hindex.specs.declared.planning.Work.{Work}
+use Rattle.rpm_hindex.specs.declared.planning.Work.TheVariants.{InPlace, Scratch}
+use Rattle.rpm_hindex.specs.declared.faults.PrepareFault.{PrepareFault}
+use Rattle.rpm_hindex.specs.declared.faults.PrepareFault.TheVariants.{IndexFull, BadIndex, DiskFault, NoMemory}
+use Rattle.rpm_hindex.specs.Words.{word, unit_of_words}
+use Rattle.rpm_hindex.specs.Rows.{Row, times, same_row}
+use Rattle.rpm_hindex.specs.Sizes.{first_record, bucket_count, units_for}
+use Rattle.rpm_hindex.specs.Plans.{HasChanged}
+use Rattle.rpm_hindex.specs.inner.Drafts.{IsImage}
+use Rattle.rpm_hindex.specs.Index.{Index, index_in, chain, is_link, row_at, bucket_unit, all_places, places_of, rows_of, units_at}
+use Rattle.rpm_hindex.specs.Whole.{IsWhole}
+
+-- ---- links
+
+abbrev pub row_of : Record → Row
+row_of r = record { kind = r.kind; key = r.key.items; number = r.number; place = r.place }
+
+abbrev pub is_kept : (ℕ → Option ℕ) → ℕ → Bool
+is_kept dropped place = not (is_some (dropped place))
+
+-- what was read of a record is what stands there
+pub record IsLink (unit : ℕ → List ℕ) (at : ℕ) (l : Link) : Type 0 where
+  pub place : l.at ≡ at
+  pub row : row_at unit at ≡ row_of l.record
+  pub packed : word 1 (unit at) ≡ l.record.kind * 2 ^ 28 + length l.record.key.items
+  pub number : word 2 (unit at) ≡ l.record.number
+  pub «in» : word 3 (unit at) ≡ l.record.place
+
+-- links of these places, in order
+abbrev pub AreLinks : (ℕ → List ℕ) → List ℕ → List Link → Type 0
+AreLinks unit [] [] = Unit {0}
+AreLinks unit [] (l ∷ ls) = ⊥
+AreLinks unit (p ∷ ps) [] = ⊥
+AreLinks unit (p ∷ ps) (l ∷ ls) = IsLink unit p l × AreLinks unit ps ls
+
+-- links that can be written back
+abbrev pub CanRelink : ℕ → List Link → Type 0
+CanRelink used [] = Unit {0}
+CanRelink used (l ∷ ls) = (l.at < used) × (0 < l.at) × (l.record.kind < 16) × (length l.record.key.items < 2 ^ 28) × CanRelink used ls
+
+-- no link before this one is of a row
+abbrev pub NoneBefore : Row → List Link → ℕ → Type 0
+NoneBefore row links at = (k : ℕ) (l : Link) → k < at → l ≡ slice_index_or links k l → same_row row (row_of l.record) ≡ false
+
+-- the link is
+abbrev pub IsOfRow : Row → List Link → ℕ → Type 0
+IsOfRow row links at = (l : Link) → at < length links → l ≡ slice_index_or links at l → same_row row (row_of l.record) ≡ true
+
+-- ---- units
+
+-- a map with a value at a key
+pub record Puts {X : Type 0} (old new : ℕ → Option X) (key : ℕ) (value : X) : Type 0 where
+  pub here : new key ≡ Some value
+  pub others : (k : ℕ) → (k ≡ key → ⊥) → new k ≡ old k
+
+-- or with some value there
+abbrev pub PutsOne : {X : Type 0} → (ℕ → Option X) → (ℕ → Option X) → ℕ → Type 0
+PutsOne {X} old new key = (value : X) × Puts old new key value
+
+-- a unit with another number k
+pub record HasWord (old new : List ℕ) (k n : ℕ) : Type 0 where
+  pub here : word k new ≡ n
+  pub others : (j : ℕ) → j < 4 → (j ≡ k → ⊥) → word j new ≡ word j old
+
+-- a unit as it is changed so far
+abbrev pub unit_after : (ℕ → Option (List ℕ)) → Units → ℕ → List ℕ
+unit_after units file i = unwrap_or (units i) (unit_at file i)
+
+-- a bucket's word names another unit
+pub record SetsBucket (file : Units) (old new : ℕ → Option (List ℕ)) (bucket n : ℕ) : Type 0 where
+  pub words : List ℕ
+  pub put : Puts old new (bucket_unit bucket) words
+  pub word' : HasWord (unit_after old file (bucket_unit bucket)) words (bucket % 4) n
+
+-- a record names another unit as its next
+pub record SetsNext (old new : ℕ → Option (List ℕ)) (l : Link) (n : ℕ) : Type 0 where
+  pub words : List ℕ
+  pub put : Puts old new l.at words
+  pub next : word 0 words ≡ n
+  pub packed : word 1 words ≡ l.record.kind * 2 ^ 28 + length l.record.key.items
+  pub number : word 2 words ≡ l.record.number
+  pub «in» : word 3 words ≡ l.record.place
+
+-- a unit behind unit 0 and before that one is put
+abbrev pub PutsWithin : {X : Type 0} → ℕ → (ℕ → Option X) → (ℕ → Option X) → Type 0
+PutsWithin {X} used old new = (key : ℕ) × (1 ≤ key) × (key < used) × PutsOne old new key
+
+-- the first of these links, or none
+abbrev pub first_at : List Link → ℕ
+first_at [] = 0
+first_at (l ∷ ls) = l.at
+
+-- the link before it names the link behind link number k of these
+abbrev pub UnlinksIn : (ℕ → Option (List ℕ)) → (ℕ → Option (List ℕ)) → Link → List Link → ℕ → Type 0
+UnlinksIn old new before [] k = ⊥
+UnlinksIn old new before (l ∷ ls) zero = SetsNext old new before (first_at ls)
+UnlinksIn old new before (l ∷ ls) (suc k) = UnlinksIn old new l ls k
+
+-- the word of the bucket, or of the link before it, names the link behind link number k
+abbrev pub Unlinks : Units → (ℕ → Option (List ℕ)) → (ℕ → Option (List ℕ)) → ℕ → List Link → ℕ → Type 0
+Unlinks file old new bucket [] k = ⊥
+Unlinks file old new bucket (l ∷ ls) zero = SetsBucket file old new bucket (first_at ls)
+Unlinks file old new bucket (l ∷ ls) (suc k) = UnlinksIn old new l ls k
+
+-- ---- a change that can go on
+
+-- each of these units stands behind unit 0 and before this one
+abbrev pub IsBehind : {X : Type 0} → ℕ → (ℕ → Option X) → Type 0
+IsBehind {X} used units = (key : ℕ) (value : X) → units key ≡ Some value → (1 ≤ key) × (key < used)
+
+pub record CanGo (c : Change) : Type 0 where
+  pub fours : c.extent.buckets % 4 ≡ 0
+  pub some : 0 < c.extent.buckets
+  pub few : c.extent.buckets ≤ 2 ^ 27
+  pub front : first_record c.extent.buckets ≤ c.extent.used
+  pub units : IsBehind c.extent.used (λ q. get nat_cmp c.units q)
+  pub whole : length c.tail.items % 16 ≡ 0
+  pub room : c.extent.used + length c.tail.items / 16 ≤ 2 ^ 28
+  pub live : first_record c.extent.buckets + c.live ≤ c.extent.used + length c.tail.items / 16
+  pub records : c.records ≤ 2 * c.extent.buckets
+
+-- the index so far: changed units, and records behind all others
+abbrev pub index_with : ℕ → ℕ → (ℕ → Option (List ℕ)) → List ℕ → Units → Index
+index_with buckets used units tail file = record {
+  buckets = buckets;
+  used = used + length tail / 16;
+  head = λ bucket. word (bucket % 4) (unit_after units file (bucket_unit bucket));
+  unit = λ i. if nat_lt i used then unit_after units file i else unit_at (units_of tail) (i - used);
+}
+
+abbrev pub changing : Change → Units → Index
+changing c file = index_with c.extent.buckets c.extent.used (λ q. get nat_cmp c.units q) c.tail.items file
+
+-- a record that stays but for its next
+pub record Stays (u v : ℕ → List ℕ) (q : ℕ) : Type 0 where
+  pub size : word 1 (v q) ≡ word 1 (u q)
+  pub number : word 2 (v q) ≡ word 2 (u q)
+  pub «in» : word 3 (v q) ≡ word 3 (u q)
+  pub key : (i : ℕ) → q < i → i < q + units_at u q → v i ≡ u i
+
+-- the index of a change has the chains of the file without the places that were dropped
+pub record IsCut (c : Change) (file : Units) : Type 0 where
+  pub whole : IsWhole c.records c.live (changing c file)
+  pub chains : (b : ℕ) → b < c.extent.buckets → places_of (changing c file) b ≡ filter (is_kept (λ p. get nat_cmp c.dropped p))
+      (places_of (index_in c.extent.buckets file) b)
+  pub stays : (q : ℕ) → Contains (all_places (index_in c.extent.buckets file)) q → Stays (unit_at file) (changing c file).unit q
+
+-- the index of a change of which nothing is worked out yet is that of the file
+pub record IsStarted (c : Change) (file : Units) : Type 0 where
+  pub whole : IsWhole c.records c.live (changing c file)
+  pub rows' : rows_of (changing c file) ≡ rows_of (index_in c.extent.buckets file)
+  pub cut : IsCut c file
+
+-- the index of d is whole, and has these rows more than that of c
+pub record AddsRows (c d : Change) (file : Units) (rows : List Row) : Type 0 where
+  pub whole : IsWhole d.records d.live (changing d file)
+  pub rows' : (row : Row) → times row (rows_of (changing d file)) ≡ times row (rows_of (changing c file)) + times row rows
+
+-- ---- what is written of it
+
+abbrev pub patch_of : ℕ × List ℕ → Patch
+patch_of e = record { unit = e.0; words = e.1 }
+
+-- what a change writes in place
+abbrev pub IsWorkOf : Change → Work → Type 0
+IsWorkOf c (InPlace p) =
+    (p.units.items ≡ map patch_of c.units.entries) × (p.tail ≡ c.tail) × (p.used ≡ c.extent.used)
+    × (p.second ≡ unit_of_words (c.extent.used + length c.tail.items / 16) c.records c.live 0) × (p.buckets ≡ c.extent.buckets)
+IsWorkOf c (Scratch image) = ⊥
+
+-- ---- the rows that are kept
+
+-- the rows of all places that are kept, bucket by bucket
+abbrev pub kept_of : Index → (ℕ → Bool) → List Row
+kept_of x kept = flat_map (λ (b : ℕ). map (row_at x.unit) (filter kept (places_of x b))) (range_with_len 0 x.buckets)
+
+-- the rows of the first buckets
+abbrev pub kept_below : Index → (ℕ → Bool) → ℕ → List Row
+kept_below x kept end = flat_map (λ (b : ℕ). map (row_at x.unit) (filter kept (places_of x b))) (range_with_len 0 end)
+
+-- the rows without those, each as often
+abbrev pub HasLess : List Row → List Row → List Row → Type 0
+HasLess drops old new = (row : Row) → times row new ≡ times row old - times row drops
+
+-- what is written is from scratch, and an image of these rows
+abbrev pub IsScratchOf : List Row → Work → Type 0
+IsScratchOf rows (InPlace p) = ⊥
+IsScratchOf rows (Scratch image) = (image.buckets ≡ bucket_count (length rows)) × IsImage rows (bucket_count (length rows)) image.bytes.items
+
+-- ---- faults
+
+-- a fault that isn't for want of room
+abbrev pub IsOther : PrepareFault → Type 0
+IsOther (BadIndex unit) = Unit {0}
+IsOther (IndexFull needed) = ⊥
+IsOther DiskFault = Unit {0}
+IsOther NoMemory = Unit {0}
+
+-- a fault for want of room tells what these rows need, which is too much
+abbrev pub IsTooLarge : List Row → PrepareFault → Type 0
+IsTooLarge rows (BadIndex unit) = Unit {0}
+IsTooLarge rows (IndexFull needed) = (2 ^ 28 < needed) × (needed ≡ units_for rows)
+IsTooLarge rows DiskFault = Unit {0}
+IsTooLarge rows NoMemory = Unit {0}
+
+-- a fault that says nothing of the index
+abbrev pub IsWithout : PrepareFault → Type 0
+IsWithout (BadIndex unit) = ⊥
+IsWithout (IndexFull needed) = ⊥
+IsWithout DiskFault = Unit {0}
+IsWithout NoMemory = Unit {0}
+
+-- a fault that names a unit names the first fault of this chain
+abbrev pub IsChainFault : Result (List ℕ) ℕ → PrepareFault → Type 0
+IsChainFault said (BadIndex unit) = said ≡ Err unit
+IsChainFault said (IndexFull needed) = Unit {0}
+IsChainFault said DiskFault = Unit {0}
+IsChainFault said NoMemory = Unit {0}
+
+-- a place that counts for so much, where it is kept
+abbrev pub if_kept : (ℕ → Bool) → (ℕ → ℕ) → ℕ → ℕ
+if_kept kept f p = if kept p then f p else 0
+
+-- each bucket's word is a link or as it was, and what unit 1 counts fell no faster than what the chains keep
+pub record IsHonest (c : Change) (file : Units) : Type 0 where
+  pub heads : (b : ℕ) → b < c.extent.buckets → (is_link (changing c file) ((changing c file).head b) ≡ true)
+      ⊎ ((changing c file).head b ≡ (index_in c.extent.buckets file).head b)
+  pub records : word 1 (unit_at file 1) + sum_by (if_kept (is_kept (λ p. get nat_cmp c.dropped p)) (λ p. 1))
+      (all_places (index_in c.extent.buckets file)) ≤ c.records + length (all_places (index_in c.extent.buckets file))
+  pub live : word 2 (unit_at file 1) + sum_by (if_kept (is_kept (λ p. get nat_cmp c.dropped p)) (units_at (unit_at file)))
+      (all_places (index_in c.extent.buckets file)) ≤ c.live + sum_by (units_at (unit_at file)) (all_places (index_in c.extent.buckets file))

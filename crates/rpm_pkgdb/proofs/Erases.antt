@@ -1,0 +1,121 @@
+-- What a stop leaves while a slot is set free and its blocks become zeros.
+use Rattle.std.proofs.Common.{◌≡◌, ◌≢◌, inl, inr, ℕ, ◌+◌, ◌*◌, ◌<◌, ◌≤◌, List, [], ◌∷◌, length, true, refl, sym, ap, ◌∙◌, subst, arith}
+use Rattle.std.proofs.lemmas.Bool.{cases_eq}
+use Rattle.rpm_outside.specs.Files.{Units, put}
+use Rattle.rpm_outside.specs.Crash.{Torn}
+use Rattle.rpm_pkgdb.specs.declared.slot.Slot.{Slot}
+use Rattle.rpm_pkgdb.specs.Slots.{slot_at, is_used, end_of, free}
+use Rattle.rpm_pkgdb.specs.Store.{Store, Keeps}
+use Rattle.rpm_pkgdb.specs.Undamaged.{AreApart, AreSound, IsSlotUnit, IsMade}
+use Rattle.rpm_pkgdb.proofs.Made.{made, from_made}
+use Rattle.rpm_pkgdb.specs.inner.Clear.{SameOutside, IsClear}
+use Rattle.rpm_pkgdb.specs.Quiet.{SameBlocks, StandsAs, BeforeOrAfter, HasSlot, with_free}
+use Rattle.rpm_pkgdb.proofs.ClearLaws.{torn_one, put_length, sound_longer, set_here, set_other, free_sound, set_made, page_blocks, outside_made, outside_blocks}
+
+-- ---- used blocks
+
+pub blocks_then : (slots : List Slot) (a b c : Units) → SameBlocks slots a b → SameBlocks slots b c → SameBlocks slots a c
+blocks_then slots a b c one two k i used from to = two k i used from to ∙ one k i used from to
+
+pub blocks_back : (slots : List Slot) (a b : Units) → SameBlocks slots a b → SameBlocks slots b a
+blocks_back slots a b same k i used from to = sym (same k i used from to)
+
+-- an image that stands as a file does, of another that does
+pub stands_by : (st : Store) (a b c : Units) → StandsAs st a b → StandsAs st a c → StandsAs st b c
+stands_by st a b c one two = record { keeps = two.keeps; blocks = blocks_then st.slots b a c (blocks_back st.slots a b one.blocks) two.blocks }
+
+module _ (st : Store) (k : ℕ) (s : Slot) (has : HasSlot st k s) where
+  abbrev after : Store
+  after = with_free k st
+
+  used_here : is_used (slot_at st.slots k) ≡ true
+  used_here = ap is_used has.is ∙ has.used
+
+  module _ (units : ℕ) (sound : AreSound st.pages units st.slots) where
+    after_sound : AreSound st.pages units after.slots
+    after_sound = free_sound st.pages units st.slots sound k has.below
+
+    -- a slot that is used after was used before, at another place
+    still : (j : ℕ) → is_used (slot_at after.slots j) ≡ true → (j ≢ k) × (slot_at after.slots j ≡ slot_at st.slots j)
+    still j used = elim (cases_eq j k) [
+      | inl here ↦
+          absurd (let e : slot_at after.slots j ≡ free = ap (slot_at after.slots) here ∙ set_here st.pages units st.slots sound k has.below free in
+          let f : is_used (slot_at after.slots j) ≡ is_used free = ap is_used e in cc)
+      | inr other ↦ (other, set_other st.pages units st.slots sound k has.below free j other)
+    ]
+
+    pub freed_clear : IsClear after s.offset s.count
+    freed_clear = record {
+      behind = subst (λ (t : Slot). 256 * st.pages ≤ t.offset) has.is (sound.placed k used_here).behind;
+      apart = λ j used.
+          let was = still j used in
+          let apart = sound.apart j k was.0 (ap is_used (sym was.1) ∙ used) used_here in
+          let both : AreApart (slot_at after.slots j) s =
+          subst (AreApart (slot_at after.slots j)) has.is (subst (λ (t : Slot). AreApart t (slot_at st.slots k)) (sym was.1) apart) in
+          elim both.blocks [ inl l ↦ inr l | inr r ↦ inl r ];
+    }
+
+    fewer_blocks : (a b : Units) → SameBlocks st.slots a b → SameBlocks after.slots a b
+    fewer_blocks a b same j i used from to =
+        let was = still j used in
+        same j i (ap is_used (sym was.1) ∙ used) (subst (λ (t : Slot). t.offset ≤ i) was.1 from) (subst (λ (t : Slot). i < end_of t) was.1 to)
+
+  module _ (unit : List ℕ) (is : IsSlotUnit unit free) where
+    freed_made : (file : Units) → IsMade file st → IsMade (put (2 + k) (unit ∷ []) file) after
+    freed_made file m = set_made file st m k unit free has.below is (after_sound (length file) m.sound)
+
+    -- the slot was freed
+    pub freed_stands : (file from : Units) → StandsAs st file from → StandsAs after file (put (2 + k) (unit ∷ []) from)
+    freed_stands file from stands =
+        let m = made from st stands.keeps has.made in
+        let next = freed_made from m in
+        let inside : 2 + k < 256 * st.pages = omega (arith, has.below, m.count) in
+        let behind : (j : ℕ) → is_used (slot_at after.slots j) ≡ true → 256 * st.pages ≤ (slot_at after.slots j).offset =
+        λ j used. (next.sound.placed j used).behind in
+        record {
+          keeps = from_made (put (2 + k) (unit ∷ []) from) after next;
+          blocks =
+              blocks_then after.slots file from (put (2 + k) (unit ∷ []) from) (fewer_blocks (length from) m.sound file from stands.blocks)
+              (page_blocks from st m (2 + k) unit after.slots inside behind);
+        }
+
+    -- a stop while the slot is written
+    pub while_freed : (file from image : Units) → StandsAs st file from → Torn (2 + k) (unit ∷ []) from image → BeforeOrAfter st after file image
+    while_freed file from image stands torn =
+        let m = made from st stands.keeps has.made in
+        elim (torn_one (2 + k) unit from image (omega (arith, has.below, m.count, m.lawful.inside)) torn) [
+          | inl same ↦ inl (subst (StandsAs st file) (sym same) stands)
+          | inr new ↦ inr (subst (StandsAs after file) (sym new) (freed_stands file from stands))
+        ]
+
+  -- a stop while its blocks become zeros
+  pub zeroed_stands : (file from image : Units) → StandsAs after file from → SameOutside s.offset s.count from image
+      → AreSound st.pages (length from) st.slots → StandsAs after file image
+  zeroed_stands file from image stands same sound =
+      let m = made from after stands.keeps has.made in
+      let clear = freed_clear (length from) sound in
+      record {
+        keeps = from_made image after (outside_made from after m s.offset s.count image clear same);
+        blocks = blocks_then after.slots file from image stands.blocks (outside_blocks from after m s.offset s.count image clear same);
+      }
+
+  -- the file once the slot is written
+  pub record Freed (file mid : Units) : Type 0 where
+    pub stands : StandsAs after file mid
+    pub sound : AreSound st.pages (length mid) st.slots
+
+  pub freed : (unit : List ℕ) → IsSlotUnit unit free → (file mid : Units) → Keeps file st → mid ≡ put (2 + k) (unit ∷ []) file → Freed file mid
+  freed unit is file mid keeps written =
+      let m = made file st keeps has.made in
+      let here : StandsAs st file file = record { keeps = keeps; blocks = λ j i used from to. refl } in
+      let long = put_length (2 + k) unit file (omega (arith, has.below, m.count, m.lawful.inside)) in
+      record {
+        stands = subst (StandsAs after file) (sym written) (freed_stands unit is file file here);
+        sound = sound_longer st.pages (length file) (length mid) st.slots (omega (arith, long, ap length written)) m.sound;
+      }
+
+  -- any file that was this one, after zeros
+  pub zeroed : (file mid from image : Units) → Freed file mid → from ≡ mid → SameOutside s.offset s.count from image → StandsAs after file image
+  zeroed file mid from image was same changed =
+      let stands : StandsAs after file from = subst (StandsAs after file) (sym same) was.stands in
+      zeroed_stands file from image stands changed (subst (λ (n : ℕ). AreSound st.pages n st.slots) (ap length (sym same)) was.sound)

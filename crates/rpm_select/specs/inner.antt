@@ -1,0 +1,7 @@
+-- What the crate's own calls say to each other: nothing that a reader of its public calls has to believe.
+pub mod Members
+pub mod Needs
+pub mod Pieces
+pub mod Single
+pub mod Steps
+pub mod Unclosed

@@ -1,0 +1,28 @@
+-- What is said of one package.
+use Rattle.std.specs.Prelude.{◌≡◌, ℕ, List, take, true, false, Option, Some, None, Result, Ok, Err}
+use Rattle.rpm_db.specs.State as state
+use Rattle.rpm_db.specs.State.{Package}
+use Rattle.rpm_select.specs.declared.picker.Picked.{Picked}
+use Rattle.rpm_select.specs.declared.picker.PickFault.{PickFault}
+use Rattle.rpm_select.specs.declared.picker.Taken.{Taken}
+use Rattle.rpm_select.specs.declared.picker.Taken.TheVariants as taken
+use Rattle.rpm_select.specs.declared.selection.Selection.{Selection}
+use Rattle.rpm_select.specs.Selections.{is_picked}
+use Rattle.rpm_select.specs.Picks.{entry_in, number_in}
+
+abbrev pub IsNumbered : ℕ → Result (Option Picked) PickFault → Type 0
+IsNumbered n (Ok (Some picked)) = number_in picked ≡ n
+IsNumbered n _ = Unit {0}
+
+-- of one number
+abbrev pub OneIs : Selection → ℕ → Package → Result (Option Picked) PickFault → Type 0
+OneIs sel n p (Ok None) = is_picked sel (n, p) ≡ false
+OneIs sel n p (Ok (Some picked)) = (is_picked sel (n, p) ≡ true) × (entry_in picked ≡ (n, p))
+OneIs sel n p (Err fault) = Unit {0}
+
+-- what a selection does with the bytes that a package is read from
+abbrev pub TakenIs : Selection → ℕ → List ℕ → Taken → Type 0
+TakenIs sel n blob (taken.Good length) =
+    (is_picked sel (n, state.package_of (Some blob)) ≡ true) × (state.package_of (Some blob) ≡ state.Good (take length blob))
+TakenIs sel n blob taken.Passed = is_picked sel (n, state.package_of (Some blob)) ≡ false
+TakenIs sel n blob taken.Bad = state.package_of (Some blob) ≡ state.Bad

@@ -1,0 +1,8 @@
+-- What private fields keep and show.
+pub mod KeysLeft
+pub mod Left
+pub mod Parts
+pub mod Recent
+pub mod Rows
+pub mod Shown
+pub mod Source

@@ -1,0 +1,22 @@
+-- What the elements of an entry keep of it.
+use Rattle.std.specs.Prelude.{◌≡◌, ℕ, ◌+◌, ◌^◌, ◌≤◌, ◌<◌, true, List, length, drop, All}
+use Rattle.rpm_tags.specs.Value.{are_matched}
+use Rattle.rpm_header.specs.Header.{max_data, Item, has_numbers, has_texts, IsWhole}
+
+pub record HasNumbers (e : Item) : Type 0 where
+  pub form : has_numbers e.form ≡ true
+  pub whole : IsWhole e
+  pub some : 0 < e.count
+
+pub record HasTexts (count : ℕ) (e : Item) : Type 0 where
+  pub form : has_texts e.form ≡ true
+  pub whole : IsWhole e
+  pub some : 0 < count
+  pub within : count ≤ e.count
+
+-- from a place on there is an index for each name, and a directory for each index
+pub record AreLeft (dirs : List (List ℕ)) (indexes : List ℕ) (bases : List (List ℕ)) (place : ℕ) : Type 0 where
+  pub matched : are_matched dirs (drop place indexes) bases ≡ true
+  pub few : length indexes < 2 ^ 32
+  pub whole : place + length bases ≡ length indexes
+  pub short : All (λ text. length text ≤ max_data) bases

@@ -1,0 +1,66 @@
+-- What each word of a command line is there for.
+use Rattle.std.specs.Prelude.{ℕ, List, Bool, true, false, not, ◌||◌, ◌==◌, ◌+◌, nat_lt, if◌then◌else◌, length, take, drop, codes}
+use Rattle.std.specs.Option.{option_map_or, is_some}
+use Rattle.std.specs.List.{list_all, before_first, position_or_len}
+use Rattle.std.specs.Str.{bytes_eq}
+use Rattle.rpm_words.specs.declared.switch.Program.{Program}
+use Rattle.rpm_words.specs.declared.switch.Program.TheVariants.{Rpm, Rpmdb}
+use Rattle.rpm_words.specs.declared.switch.Command.TheVariants.{Exercise}
+use Rattle.rpm_words.specs.declared.switch.Switch.{Switch}
+use Rattle.rpm_words.specs.declared.switch.Switch.TheVariants.{Mode, Format, After, Folder}
+use Rattle.rpm_words.specs.declared.purpose.Purpose.{Purpose}
+use Rattle.rpm_words.specs.declared.purpose.Purpose.TheVariants.{Unknown, Cluster, Whole, Inline, Awaits, Value, Ends, Plain, Rest}
+use Rattle.rpm_words.specs.Switch.{long_switch, short_switch}
+
+-- whether the option has a value
+abbrev pub takes_value : Switch → Bool
+takes_value (Mode Exercise) = true
+takes_value Format = true
+takes_value After = true
+takes_value Folder = true
+takes_value others = false
+
+abbrev pub is_equals : ℕ → Bool
+is_equals b = b == 61
+
+-- whether a value is written into the word
+abbrev pub has_equals : List ℕ → Bool
+has_equals text = nat_lt (position_or_len is_equals text) (length text)
+
+-- an option with its value behind the place of the sign
+abbrev pub inline : ℕ → Switch → Purpose
+inline place switch = if takes_value switch then Inline switch (place + 1) else Unknown
+
+-- an option with no value in its word
+abbrev pub lone : Switch → Purpose
+lone switch = if takes_value switch then Awaits switch else Whole switch
+
+abbrev pub spelled : List ℕ → Switch → Purpose
+spelled text switch =
+    if has_equals text then inline (position_or_len is_equals text) switch else lone switch
+
+-- a word that begins with two dashes
+unfoldable pub long_purpose : Program → List ℕ → Purpose
+long_purpose program text =
+    option_map_or (spelled text) (long_switch program (before_first is_equals text)) Unknown
+
+-- behind the first byte stand short options alone
+unfoldable pub is_cluster : Program → List ℕ → Bool
+is_cluster Rpm text = list_all (λ b. is_some (short_switch b)) (drop 1 text)
+is_cluster Rpmdb text = false
+
+-- a word that nothing in front gives another meaning
+unfoldable pub own_purpose : Program → List ℕ → Purpose
+own_purpose program text =
+    if bytes_eq text (codes "--") then Ends
+    else if bytes_eq (take 2 text) (codes "--") then long_purpose program text
+    else if bytes_eq text (codes "-") || not (bytes_eq (take 1 text) (codes "-")) then Plain
+    else if is_cluster program text then Cluster
+    else Unknown
+
+-- the word in front decides where it awaits a value, and where the options have ended
+unfoldable pub purpose_behind : Program → Purpose → List ℕ → Purpose
+purpose_behind program (Awaits switch) text = Value switch
+purpose_behind program Ends text = Rest
+purpose_behind program Rest text = Rest
+purpose_behind program others text = own_purpose program text

@@ -1,0 +1,71 @@
+-- How many arguments a command takes, and of which kind.
+use Rattle.std.specs.Prelude.{ℕ, List, Option, Some, None, take}
+use Rattle.rpm_words.specs.declared.switch.Command.{Command}
+use Rattle.rpm_words.specs.declared.switch.Command.TheVariants as command
+use Rattle.rpm_words.specs.declared.switch.Chosen.{Chosen}
+use Rattle.rpm_words.specs.declared.switch.Chosen.TheVariants as chosen
+use Rattle.rpm_words.specs.declared.takes.Expected.{Expected}
+use Rattle.rpm_words.specs.declared.takes.Expected.TheVariants.{Text, Number, Capability}
+use Rattle.rpm_words.specs.declared.takes.Takes.{Takes}
+use Rattle.rpm_words.specs.declared.takes.Takes.TheVariants.{Nothing, Any, Several, NumberAndText}
+
+-- what a query takes, by what it picks packages by
+abbrev pub query_takes : Chosen → Takes
+query_takes chosen.Label = Several Text
+query_takes chosen.All = Any Text
+query_takes chosen.Path = Several Text
+query_takes chosen.Group = Several Text
+query_takes chosen.Package = Several Text
+query_takes chosen.Provides = Several Capability
+query_takes chosen.Requires = Several Capability
+query_takes chosen.Conflicts = Several Capability
+query_takes chosen.Obsoletes = Several Capability
+query_takes chosen.Trigger = Several Text
+query_takes chosen.Number = Several Number
+query_takes chosen.Directory = Several Text
+query_takes chosen.Tid = Several Number
+query_takes chosen.Recommends = Several Capability
+
+-- what a command takes
+abbrev pub takes : Command → Chosen → Takes
+takes command.Query by = query_takes by
+takes command.Addpkg by = Several Text
+takes command.Replacepkg by = NumberAndText
+takes command.Erasepkg by = Several Number
+takes command.Verify by = Nothing
+takes command.Initdb by = Nothing
+takes command.Rebuilddb by = Nothing
+takes command.Verifydb by = Nothing
+takes command.Exportdb by = Nothing
+takes command.Importdb by = Nothing
+takes command.Exercise by = Nothing
+takes command.Order by = Nothing
+takes command.Checkfiles by = Nothing
+
+-- how many there have to be
+abbrev pub fewest : Takes → ℕ
+fewest Nothing = 0
+fewest (Any kind) = 0
+fewest (Several kind) = 1
+fewest NumberAndText = 2
+
+-- how many there may be
+abbrev pub most : Takes → Option ℕ
+most Nothing = Some 0
+most (Any kind) = None
+most (Several kind) = None
+most NumberAndText = Some 2
+
+-- what they have to be
+abbrev pub expected : Takes → Expected
+expected Nothing = Text
+expected (Any kind) = kind
+expected (Several kind) = kind
+expected NumberAndText = Number
+
+-- those that have to be so: of a number and a text the first alone
+abbrev pub checked : Takes → List ℕ → List ℕ
+checked Nothing arguments = arguments
+checked (Any kind) arguments = arguments
+checked (Several kind) arguments = arguments
+checked NumberAndText arguments = take 1 arguments

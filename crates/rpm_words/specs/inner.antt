@@ -1,0 +1,3 @@
+-- What the crate's own functions say of their steps. Nothing here is needed to read what `read` and `place_of` answer.
+pub mod Folder
+pub mod Steps
