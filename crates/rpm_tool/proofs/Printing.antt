@@ -21,13 +21,16 @@ pub closes_of : {S T F : Type 0} {follows : S → S → Type 0} (tells : Bool) (
 closes_of tells taken faults before old new line (Ok done) out_tells out later w = (refl, inl w.ok)
 closes_of tells taken faults before old new line (Err fault) out_tells out later w = (refl, inr (w.err, omega (arith, later, w.cause.failed)))
 
+pub inner_same : {O : Type 0} {a b : Buffered O} → a ≡ b → inner a ≡ inner b
+inner_same {O = O} e = ap (λ (b : Buffered O). inner b) e
+
 -- what was printed to a buffer that held nothing
 module _ {O : Type 0} {tells : Bool} {taken : O → List ℕ} {faults : O → ℕ} {follows : O → O → Type 0} (grows : (a b : O) → follows a b → IsTrue tells → Begins (taken a) (taken b)) where
   -- where it failed
   print_stopped : (meaning : Result (List ℕ) (ℕ × ℕ)) (old new : Buffered O) → holds old ≡ [] → Prints tells (all_taken taken) (λ b. faults (inner b)) (GoesOn tells taken follows) meaning old new Fails → Prints tells taken faults follows meaning (inner old) (inner new) Fails
   print_stopped (Ok bytes) old new nothing p =
       let w : Writes {T = Unit {0}} {E = Unit {0}} tells taken faults follows (inner old) (inner new) bytes (Err tt) =
-          stopped {T = Unit {0}} {E = Unit {0}} grows (Err tt) refl nothing (record { ok = tt; err = p.ends.0; cause = record { later = p.later; failed = p.ends.1 }; goes_on = p.goes_on }) in
+      stopped grows {T = Unit {0}} {E = Unit {0}} {bytes = bytes} {old = old} {new = new} (Err tt) refl nothing (record { ok = tt; err = p.ends.0; cause = record { later = p.later; failed = p.ends.1 }; goes_on = p.goes_on }) in
       record { ends = (w.err, w.cause.failed); later = p.later; goes_on = p.goes_on.0 }
   print_stopped (Err counts) old new nothing p = absurd p.ends
 
@@ -47,7 +50,7 @@ module _ {O : Type 0} {tells : Bool} {taken : O → List ℕ} {faults : O → �
     written : {T E : Type 0} (bytes : List ℕ) (old mid new : Buffered O) (r : Result T E) → holds old ≡ [] → Prints tells (all_taken taken) (λ b. faults (inner b)) (GoesOn tells taken follows) (Ok bytes) old mid Done
         → Flushes tells taken faults follows (inner mid) (holds mid) (inner new) (holds new) r → Writes tells taken faults follows (inner old) (inner new) bytes r
     written bytes old mid new r nothing p f =
-        flushed {T = Unit {0}} {E = Unit {0}} {t = tt} grows then new r nothing (record { ok = p.ends; err = tt; cause = record { later = p.later; failed = tt }; goes_on = p.goes_on }) f
+        flushed grows {T = Unit {0}} {E = Unit {0}} {bytes = bytes} {old = old} {mid = mid} {t = tt} then new r nothing (record { ok = p.ends; err = tt; cause = record { later = p.later; failed = tt }; goes_on = p.goes_on }) f
 
     -- where the flush went through
     pub print_done : {T E : Type 0} (meaning : Result (List ℕ) (ℕ × ℕ)) (old mid new : Buffered O) (t : T) → holds old ≡ [] → Prints tells (all_taken taken) (λ b. faults (inner b)) (GoesOn tells taken follows) meaning old mid Done

@@ -33,7 +33,11 @@ pub enum Stop {
 }
 
 /// Writes a message on a package to err.
-fn put_message<E: Sink + Drop>(err: &mut Buffered<E>, number: u32, message: &[u8]) -> Result<bool, Stop>
+fn put_message<E: Sink + Drop>(
+    err: &mut Buffered<E>,
+    number: u32,
+    message: &[u8],
+) -> Result<bool, Stop>
     requires err_empty { holds err.old ≡ [] }
     ensures step { (out_tells : Bool) (out : List ℕ) → StepIs (ToErr (bearer number) message.now) result (outputs out_tells out E.tells (E.taken (inner err.old))) (outputs out_tells out E.tells (E.taken (inner err.new))) }
     ensures no_disk { result ≢ Err Stop.DiskFault }
