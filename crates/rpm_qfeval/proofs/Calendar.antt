@@ -12,7 +12,8 @@ use borrow.Author.Differences.{up, down}
 
 -- ---- the last one that has begun
 
-pub last_is : (begun : ℕ → Bool) (first n k : ℕ) → k ≤ n → begun (first + k) ≡ true → ((m : ℕ) → first + k < m → m ≤ first + n → begun m ≡ false) → last_begun begun first n ≡ first + k
+pub last_is : (begun : ℕ → Bool) (first n k : ℕ) → k ≤ n → begun (first + k) ≡ true → ((m : ℕ) → first + k < m → m ≤ first + n → begun m ≡ false)
+    → last_begun begun first n ≡ first + k
 last_is begun first zero zero h at none = omega arith
 last_is begun first zero (suc k) h at none = absurd (omega arith)
 last_is begun first (suc n) k h at none =
@@ -122,7 +123,8 @@ pub record Found (d : Date) (day : ℕ) : Type 0 where
   pub of_month : month_of day ≡ d.month
   pub of_day : day_of day ≡ d.day
 
-found_at : (d : Date) (z : ℤ) (y day : ℕ) → z ≡ d.year → z ≡ pos y → IsCivilDate z d.month d.day → 1970 ≤ y → y ≤ 2106 → day_count z d.month d.day ≡ day + 4_371_953 → Found d day
+found_at : (d : Date) (z : ℤ) (y day : ℕ) → z ≡ d.year → z ≡ pos y → IsCivilDate z d.month d.day → 1970 ≤ y → y ≤ 2106 → day_count z d.month d.day
+    ≡ day + 4_371_953 → Found d day
 found_at d z y day same year civil low high is =
     let here = rw year at civil in
     let count = rw year at is in

@@ -14,7 +14,8 @@ module _ {X Y : Type 0} (f : X → Option Y) (xs : List X) (i : ℕ) where
   gives_some x y at e = ap (filter_map f) (drop_here xs i x at) ∙ rw (sym e) refl
 
   -- a reading of the whole list goes on where it gives nothing
-  pub passes : {Z : Type 0} (g : List Y → Z) (x : X) (r : Z) → slice_get xs i ≡ Some x → None ≡ f x → g (filter_map f (drop i xs)) ≡ r → g (filter_map f (drop (i + 1) xs)) ≡ r
+  pub passes : {Z : Type 0} (g : List Y → Z) (x : X) (r : Z) → slice_get xs i ≡ Some x → None ≡ f x → g (filter_map f (drop i xs)) ≡ r
+      → g (filter_map f (drop (i + 1) xs)) ≡ r
   passes g x r at e h = ap g (sym (gives_none x at e)) ∙ h
 
   pub ends : {Z : Type 0} (g : List Y → Z) (r : Z) → length xs ≤ i → g (filter_map f (drop i xs)) ≡ r → g [] ≡ r
@@ -29,11 +30,13 @@ differs_from None ns = different ns
 differs_from (Some n) ns = option_map (λ m. (n, m)) (find (λ m. not (m == n)) ns)
 
 module _ {X : Type 0} (f : X → Option ℕ) (xs : List X) (i : ℕ) where
-  pub same_count : (seen : Option ℕ) (x : X) (n : ℕ) (r : Option (ℕ × ℕ)) → slice_get xs i ≡ Some x → Some n ≡ f x → n ≡ unwrap_or seen n → differs_from seen (filter_map f (drop i xs)) ≡ r → differs_from (Some (unwrap_or seen n)) (filter_map f (drop (i + 1) xs)) ≡ r
+  pub same_count : (seen : Option ℕ) (x : X) (n : ℕ) (r : Option (ℕ × ℕ)) → slice_get xs i ≡ Some x → Some n ≡ f x → n ≡ unwrap_or seen n
+      → differs_from seen (filter_map f (drop i xs)) ≡ r → differs_from (Some (unwrap_or seen n)) (filter_map f (drop (i + 1) xs)) ≡ r
   same_count None x n r at e same h = sym (ap different (gives_some f xs i x n at e)) ∙ h
   same_count (Some k) x n r at e same h = sym (ap (differs_from (Some k)) (gives_some f xs i x n at e) ∙ rw (eq-eqb n k same) refl) ∙ h
 
-  pub other_count : (seen : Option ℕ) (x : X) (n : ℕ) (r : Option (ℕ × ℕ)) → slice_get xs i ≡ Some x → Some n ≡ f x → (n ≡ unwrap_or seen n → ⊥) → differs_from seen (filter_map f (drop i xs)) ≡ r → Some (unwrap_or seen n, n) ≡ r
+  pub other_count : (seen : Option ℕ) (x : X) (n : ℕ) (r : Option (ℕ × ℕ)) → slice_get xs i ≡ Some x → Some n ≡ f x → (n ≡ unwrap_or seen n → ⊥)
+      → differs_from seen (filter_map f (drop i xs)) ≡ r → Some (unwrap_or seen n, n) ≡ r
   other_count None x n r at e differs h = absurd (differs refl)
   other_count (Some k) x n r at e differs h = sym (ap (differs_from (Some k)) (gives_some f xs i x n at e) ∙ rw (ne_eqb n k differs) refl) ∙ h
 

@@ -42,7 +42,12 @@ length-symbols t (a ∷ b ∷ c ∷ rest) = let e = length-symbols t rest in ome
 
 pub length-base64 : (bytes : List ℕ) → length (base64_text bytes) ≡ (length bytes + 2) / 3 * 4
 length-base64 bytes =
-    omega (arith, length-append (encode_symbols standard.encode_table bytes) (replicate (padding_len (length bytes)) 61), length-symbols standard.encode_table bytes, length-replicate {A = ℕ} (padding_len (length bytes)) 61)
+    omega (
+      arith,
+      length-append (encode_symbols standard.encode_table bytes) (replicate (padding_len (length bytes)) 61),
+      length-symbols standard.encode_table bytes,
+      length-replicate {A = ℕ} (padding_len (length bytes)) 61,
+    )
 
 -- where the first part is made of groups of three
 pub base64-append : (a b : List ℕ) → length a % 3 ≡ 0 → base64_text (a ++ b) ≡ base64_text a ++ base64_text b
@@ -56,18 +61,22 @@ base64-append a b h =
 pub hex-cut : (n : ℕ) (bytes : List ℕ) {front back : List ℕ} → front ≡ take n bytes → back ≡ drop n bytes → hex_text bytes ≡ hex_text front ++ hex_text back
 hex-cut n bytes p q = rw (p, q) (sym (ap hex_text (take-append-drop n bytes)) ∙ hex-append (take n bytes) (drop n bytes))
 
-pub base64-cut : (groups : ℕ) (bytes : List ℕ) {front back : List ℕ} → front ≡ take (3 * groups) bytes → back ≡ drop (3 * groups) bytes → 3 * groups ≤ length bytes → base64_text bytes ≡ base64_text front ++ base64_text back
+pub base64-cut : (groups : ℕ) (bytes : List ℕ) {front back : List ℕ} → front ≡ take (3 * groups) bytes → back ≡ drop (3 * groups) bytes → 3 * groups
+    ≤ length bytes → base64_text bytes ≡ base64_text front ++ base64_text back
 base64-cut groups bytes p q h =
     let long : length (take (3 * groups) bytes) ≡ 3 * groups = length-take-le (3 * groups) bytes h in
-    rw (p, q) (sym (ap base64_text (take-append-drop (3 * groups) bytes)) ∙ base64-append (take (3 * groups) bytes) (drop (3 * groups) bytes) (omega (arith, long)))
+    rw (p, q) (sym (ap base64_text (take-append-drop (3 * groups) bytes)) ∙ base64-append (take (3 * groups) bytes) (drop (3 * groups) bytes)
+    (omega (arith, long)))
 
-pub escaped_here : {part : List ℕ} {parts rest : List (List ℕ)} → parts ≡ part ∷ rest → escaped_text (concat parts) ≡ escaped_text part ++ escaped_text (concat rest)
+pub escaped_here : {part : List ℕ} {parts rest : List (List ℕ)} → parts ≡ part ∷ rest → escaped_text (concat parts) ≡ escaped_text part
+    ++ escaped_text (concat rest)
 escaped_here {part = part} {rest = rest} e = ap (λ ps. escaped_text (concat ps)) e ∙ escaped-append part (concat rest)
 
 -- ---- where a quote stands
 
 -- the bytes in front of the first quote stand as they are
-pub run_is : (text : List ℕ) (i : ℕ) → i < length text → (get_or text i 0 == 39) ≡ true → ((k : ℕ) → k < i → (get_or text k 0 == 39) ≡ false) → escaped_text text ≡ (take i text ++ codes "'\\''") ++ escaped_text (drop (i + 1) text)
+pub run_is : (text : List ℕ) (i : ℕ) → i < length text → (get_or text i 0 == 39) ≡ true → ((k : ℕ) → k < i → (get_or text k 0 == 39) ≡ false)
+    → escaped_text text ≡ (take i text ++ codes "'\\''") ++ escaped_text (drop (i + 1) text)
 run_is [] i h at before = absurd (omega arith)
 run_is (x ∷ text) zero h at before = rw at refl
 run_is (x ∷ text) (suc i) h at before =

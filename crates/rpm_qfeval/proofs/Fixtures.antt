@@ -57,7 +57,8 @@ none_is_present : means (Bracket (tag role.Element epoch (tag role.First name En
 unfolding means small name epoch tag stored sizes bytes
 none_is_present = refl
 
-in_a_condition : means (Condition epoch (Bracket (tag role.Element name (tag role.Element requires End)) End) (tag role.Count requires End) (Condition name (tag role.Element Dbinstance End) End End)) ≡ Ok (codes "27")
+in_a_condition : means (Condition epoch (Bracket (tag role.Element name (tag role.Element requires End)) End) (tag role.Count requires End)
+    (Condition name (tag role.Element Dbinstance End) End End)) ≡ Ok (codes "27")
 unfolding means small name requires epoch tag stored sizes bytes digits
 in_a_condition = refl
 

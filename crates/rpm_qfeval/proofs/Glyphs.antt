@@ -23,14 +23,16 @@ quotient base n pos h = ne_eqb (n / base) 0 (is_some base n pos h)
 
 pub onto_more : (k base n : ℕ) (acc : List ℕ) → 0 < base → base ≤ n → onto (suc k) base n acc ≡ onto k base (n / base) (digit_glyph false (n % base) ∷ acc)
 unfolding onto
-onto_more k base n acc pos h = ap (λ (b : Bool). cond b (digit_glyph false (n % base) ∷ acc) (digits_onto k base false (n / base) (digit_glyph false (n % base) ∷ acc))) (quotient base n pos h)
+onto_more k base n acc pos h = ap (λ (b : Bool). cond b (digit_glyph false (n % base) ∷ acc)
+    (digits_onto k base false (n / base) (digit_glyph false (n % base) ∷ acc))) (quotient base n pos h)
 
 pub onto_last : (k base n : ℕ) (acc : List ℕ) → n < base → onto (suc k) base n acc ≡ digit_glyph false n ∷ acc
 unfolding onto
 onto_last k base n acc h =
     let none : n / base ≡ 0 = div-eq_of_lt h in
     let same : n % base ≡ n = mod-eq-sub-div-mul n base ∙ rw none (omega arith) in
-    ap (λ (b : Bool). cond b (digit_glyph false (n % base) ∷ acc) (digits_onto k base false (n / base) (digit_glyph false (n % base) ∷ acc))) (eq-eqb (n / base) 0 none)
+    ap (λ (b : Bool). cond b (digit_glyph false (n % base) ∷ acc) (digits_onto k base false (n / base) (digit_glyph false (n % base) ∷ acc)))
+    (eq-eqb (n / base) 0 none)
     ∙ ap (λ d. digit_glyph false d ∷ acc) same
 
 -- a digit less has room in a place less

@@ -10,4 +10,5 @@ three (a ∷ b ∷ c ∷ d ∷ rest) h = absurd (omega arith)
 
 pub replicate_more : (m n x : ℕ) → replicate {A = ℕ} (m + n) x ≡ replicate {A = ℕ} m x ++ replicate {A = ℕ} n x
 replicate_more zero n x = let e : zero + n ≡ n = omega arith in ap (λ k. replicate {A = ℕ} k x) e
-replicate_more (suc m) n x = let e : suc m + n ≡ suc (m + n) = omega arith in ap (λ k. replicate {A = ℕ} k x) e ∙ ap (λ (xs : List ℕ). x ∷ xs) (replicate_more m n x)
+replicate_more (suc m) n x = let e : suc m + n ≡ suc (m + n) = omega arith in ap (λ k. replicate {A = ℕ} k x) e ∙ ap (λ (xs : List ℕ). x ∷ xs)
+    (replicate_more m n x)

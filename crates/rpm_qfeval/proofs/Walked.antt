@@ -20,7 +20,8 @@ module _ (h : Header) (number : ℕ) where
   bytes_front i (part.Bracket a) ps = refl
   bytes_front i (part.Condition t a b) ps = refl
 
-  pub bytes_here : (i k : ℕ) (t : Tree) (p : Part) → slice_get (parts_of t) k ≡ Some p → bytes h number i (tree_of (drop k (parts_of t))) ≡ part_bytes h number i p ++ bytes h number i (tree_of (drop (k + 1) (parts_of t)))
+  pub bytes_here : (i k : ℕ) (t : Tree) (p : Part) → slice_get (parts_of t) k ≡ Some p → bytes h number i (tree_of (drop k (parts_of t))) ≡ part_bytes
+      h number i p ++ bytes h number i (tree_of (drop (k + 1) (parts_of t)))
   bytes_here i k t p at = ap (λ ps. bytes h number i (tree_of ps)) (drop_here (parts_of t) k p at) ∙ bytes_front i p (drop (k + 1) (parts_of t))
 
   pub bytes_start : (i : ℕ) (t : Tree) → bytes h number i t ≡ bytes h number i (tree_of (drop 0 (parts_of t)))
@@ -40,13 +41,17 @@ module _ (h : Header) (number : ℕ) where
   sizes_front (part.Bracket a) ps = refl
   sizes_front (part.Condition t a b) ps = refl
 
-  sizes_here : (k : ℕ) (t : Tree) (p : Part) (o : Option (ℕ × ℕ)) → slice_get (parts_of t) k ≡ Some p → o ≡ part_sizes h number p → sizes h number (tree_of (drop k (parts_of t))) ≡ option_or o (sizes h number (tree_of (drop (k + 1) (parts_of t))))
-  sizes_here k t p o at e = ap (λ ps. sizes h number (tree_of ps)) (drop_here (parts_of t) k p at) ∙ sizes_front p (drop (k + 1) (parts_of t)) ∙ sym (ap (λ o. option_or o (sizes h number (tree_of (drop (k + 1) (parts_of t))))) e)
+  sizes_here : (k : ℕ) (t : Tree) (p : Part) (o : Option (ℕ × ℕ)) → slice_get (parts_of t) k ≡ Some p → o ≡ part_sizes h number p → sizes h number
+      (tree_of (drop k (parts_of t))) ≡ option_or o (sizes h number (tree_of (drop (k + 1) (parts_of t))))
+  sizes_here k t p o at e = ap (λ ps. sizes h number (tree_of ps)) (drop_here (parts_of t) k p at) ∙ sizes_front p (drop (k + 1) (parts_of t))
+      ∙ sym (ap (λ o. option_or o (sizes h number (tree_of (drop (k + 1) (parts_of t))))) e)
 
-  pub sizes_next : (k : ℕ) (t : Tree) (p : Part) → slice_get (parts_of t) k ≡ Some p → None ≡ part_sizes h number p → sizes h number (tree_of (drop k (parts_of t))) ≡ sizes h number t → sizes h number (tree_of (drop (k + 1) (parts_of t))) ≡ sizes h number t
+  pub sizes_next : (k : ℕ) (t : Tree) (p : Part) → slice_get (parts_of t) k ≡ Some p → None ≡ part_sizes h number p → sizes h number
+      (tree_of (drop k (parts_of t))) ≡ sizes h number t → sizes h number (tree_of (drop (k + 1) (parts_of t))) ≡ sizes h number t
   sizes_next k t p at e f = sym (sizes_here k t p None at e) ∙ f
 
-  pub sizes_found : (k : ℕ) (t : Tree) (p : Part) (s : ℕ × ℕ) → slice_get (parts_of t) k ≡ Some p → Some s ≡ part_sizes h number p → sizes h number (tree_of (drop k (parts_of t))) ≡ sizes h number t → Some s ≡ sizes h number t
+  pub sizes_found : (k : ℕ) (t : Tree) (p : Part) (s : ℕ × ℕ) → slice_get (parts_of t) k ≡ Some p → Some s ≡ part_sizes h number p → sizes h number
+      (tree_of (drop k (parts_of t))) ≡ sizes h number t → Some s ≡ sizes h number t
   sizes_found k t p s at e f = sym (sizes_here k t p (Some s) at e) ∙ f
 
   pub sizes_start : (t : Tree) → sizes h number (tree_of (drop 0 (parts_of t))) ≡ sizes h number t

@@ -61,7 +61,8 @@ day_text day = weekday_name day ++ codes " " ++ month_name (month_of day) ++ cod
 
 abbrev pub date_text : ℕ → ℕ → List ℕ
 date_text day second =
-    weekday_name day ++ codes " " ++ month_name (month_of day) ++ codes " " ++ spaced (day_of day) ++ codes " " ++ clock second ++ codes " " ++ four (year_of day)
+    weekday_name day ++ codes " " ++ month_name (month_of day) ++ codes " " ++ spaced (day_of day) ++ codes " " ++ clock second ++ codes " "
+    ++ four (year_of day)
 
 -- ---- the formatters
 

@@ -33,7 +33,8 @@ EndsSo tells taken faults (Ok bytes) old new Fails = GainedPart tells (taken old
 EndsSo tells taken faults (Err counts) old new (Differs first second) = (counts ≡ (first, second)) × (new ≡ old)
 EndsSo tells taken faults meaning old new ending = ⊥
 
-pub record Prints {S : Type 0} (tells : Bool) (taken : S → List ℕ) (faults : S → ℕ) (follows : S → S → Type 0) (meaning : Result (List ℕ) (ℕ × ℕ)) (old new : S) (ending : Ending) : Type 0 where
+pub record Prints {S : Type 0} (tells : Bool) (taken : S → List ℕ) (faults : S → ℕ) (follows : S → S → Type 0) (meaning : Result (List ℕ) (ℕ × ℕ))
+    (old new : S) (ending : Ending) : Type 0 where
   pub ends : EndsSo tells taken faults meaning old new ending
   pub later : faults old ≤ faults new
   pub goes_on : follows old new

@@ -91,7 +91,8 @@ impl<'v, 'a> Column<'v, 'a> {
 
     /// Puts the value by the role of a tag, in a round.
     pub fn put<O: Sink>(&mut self, sink: &mut O, part: &TagPart, round: u32) -> Result<(), Failed>
-        ensures puts { Writes O.tells O.taken O.faults O.follows sink.old sink.new (padded part.now.left part.now.width (text_or_none part.now.role part.now.show round self.old.value)) result }
+        ensures puts { Writes O.tells O.taken O.faults O.follows sink.old sink.new
+            (padded part.now.left part.now.width (text_or_none part.now.role part.now.show round self.old.value)) result }
         ensures same { self.new ≡ self.old }
     {
         if let Some(cursor) = &mut self.cursor {

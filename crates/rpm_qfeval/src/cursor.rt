@@ -63,7 +63,8 @@ impl<'v, 'a> Cursor<'v, 'a> {
 
     /// Puts the text at a place. Over places that rise each text is read once.
     pub fn put<O: Sink>(&mut self, sink: &mut O, part: &TagPart, place: u32) -> Result<(), Failed>
-        ensures puts { Writes O.tells O.taken O.faults O.follows sink.old sink.new (padded part.now.left part.now.width (or_none (shown part.now.show self.old place))) result }
+        ensures puts { Writes O.tells O.taken O.faults O.follows sink.old sink.new
+            (padded part.now.left part.now.width (or_none (shown part.now.show self.old place))) result }
         ensures same { self.new ≡ self.old }
     {
         self.go_to(place);

@@ -59,7 +59,8 @@ pub fn put_number<O: Sink>(
     count: u32,
     number: u64,
 ) -> Result<(), Failed>
-    ensures { Writes O.tells O.taken O.faults O.follows sink.old sink.new (padded part.now.left part.now.width (number_text part.now.show count number)) result }
+    ensures { Writes O.tells O.taken O.faults O.follows sink.old sink.new
+        (padded part.now.left part.now.width (number_text part.now.show count number)) result }
 {
     match part.show {
         Show::Plain | Show::Shescape => put_decimal(sink, part, number),
@@ -83,7 +84,8 @@ pub fn put_text<O: Sink>(
     count: u32,
     text: &Joined<'_>,
 ) -> Result<(), Failed>
-    ensures { Writes O.tells O.taken O.faults O.follows sink.old sink.new (padded part.now.left part.now.width (text_text part.now.show count (concat text.now))) result }
+    ensures { Writes O.tells O.taken O.faults O.follows sink.old sink.new
+        (padded part.now.left part.now.width (text_text part.now.show count (concat text.now))) result }
 {
     match part.show {
         Show::Plain => put_padded(sink, part.left, part.width, &Shown::Joined(text)),
@@ -122,7 +124,8 @@ pub fn put_element<O: Sink>(
     value: &TagValue<'_>,
     place: u32,
 ) -> Result<(), Failed>
-    ensures { Writes O.tells O.taken O.faults O.follows sink.old sink.new (padded part.now.left part.now.width (or_none (shown part.now.show value.now place))) result }
+    ensures { Writes O.tells O.taken O.faults O.follows sink.old sink.new
+        (padded part.now.left part.now.width (or_none (shown part.now.show value.now place))) result }
 {
     let count = value.count();
     if place >= count {
@@ -142,7 +145,8 @@ pub fn put_value<O: Sink>(
     value: &TagValue<'_>,
     round: u32,
 ) -> Result<(), Failed>
-    ensures { Writes O.tells O.taken O.faults O.follows sink.old sink.new (padded part.now.left part.now.width (value_text part.now.role part.now.show round value.now)) result }
+    ensures { Writes O.tells O.taken O.faults O.follows sink.old sink.new (padded part.now.left part.now.width (value_text part.now.role part.now.show
+        round value.now)) result }
 {
     match part.role {
         Role::Element => put_element(sink, part, value, round),

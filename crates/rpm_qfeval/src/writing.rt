@@ -42,7 +42,8 @@ fn put_over<O: Sink>(
     columns: &mut [Option<Column<'_, '_>>],
 ) -> Result<(), Failed>
     requires { AreTold view.now number columns.old }
-    ensures { Writes O.tells O.taken O.faults O.follows sink.old sink.new (rounds (counts view.now number inner.now) (λ i. bytes view.now number i inner.now)) result }
+    ensures { Writes O.tells O.taken O.faults O.follows sink.old sink.new (rounds (counts view.now number inner.now)
+        (λ i. bytes view.now number i inner.now)) result }
 {
     match count_rounds(inner, columns, view, number) {
         None => put_all(sink, b"(none)\n"),
@@ -63,7 +64,8 @@ fn put_two<O: Sink>(
     number: u32,
     asked: &[Option<Asked>],
 ) -> Result<(), Failed>
-    ensures { Writes O.tells O.taken O.faults O.follows sink.old sink.new (rounds (counts view.now number inner.now) (λ i. bytes view.now number i inner.now)) result }
+    ensures { Writes O.tells O.taken O.faults O.follows sink.old sink.new (rounds (counts view.now number inner.now)
+        (λ i. bytes view.now number i inner.now)) result }
 {
     let mut found: ArrayVec<Option<Found<'_>>, 2> = ArrayVec::new();
     look_up(&mut found, asked, view, number);
@@ -82,7 +84,8 @@ fn put_four<O: Sink>(
     number: u32,
     asked: &[Option<Asked>],
 ) -> Result<(), Failed>
-    ensures { Writes O.tells O.taken O.faults O.follows sink.old sink.new (rounds (counts view.now number inner.now) (λ i. bytes view.now number i inner.now)) result }
+    ensures { Writes O.tells O.taken O.faults O.follows sink.old sink.new (rounds (counts view.now number inner.now)
+        (λ i. bytes view.now number i inner.now)) result }
 {
     let mut found: ArrayVec<Option<Found<'_>>, 4> = ArrayVec::new();
     look_up(&mut found, asked, view, number);
@@ -101,7 +104,8 @@ fn put_most<O: Sink>(
     number: u32,
     asked: &[Option<Asked>],
 ) -> Result<(), Failed>
-    ensures { Writes O.tells O.taken O.faults O.follows sink.old sink.new (rounds (counts view.now number inner.now) (λ i. bytes view.now number i inner.now)) result }
+    ensures { Writes O.tells O.taken O.faults O.follows sink.old sink.new (rounds (counts view.now number inner.now)
+        (λ i. bytes view.now number i inner.now)) result }
 {
     let mut found: ArrayVec<Option<Found<'_>>, MOST> = ArrayVec::new();
     look_up(&mut found, asked, view, number);
@@ -118,7 +122,8 @@ fn put_bracket<O: Sink>(
     view: &View<'_>,
     number: u32,
 ) -> Result<(), Failed>
-    ensures { Writes O.tells O.taken O.faults O.follows sink.old sink.new (rounds (counts view.now number inner.now) (λ i. bytes view.now number i inner.now)) result }
+    ensures { Writes O.tells O.taken O.faults O.follows sink.old sink.new (rounds (counts view.now number inner.now)
+        (λ i. bytes view.now number i inner.now)) result }
 {
     let asked = asked_in(inner);
     let asked = asked.as_slice();

@@ -18,7 +18,8 @@ use Rattle.rpm_tool.specs.Asked.{is_built, asks_unbuilt, asks_format, list_forma
 use Rattle.rpm_tool.specs.Closing.{rule_text, usage_line, fault_text, format_line}
 
 -- the line names the word that breaks the rule, and none where something is missing
-told : (usage_line (codes "rpm" ∷ codes "-qz" ∷ []) (fault UnknownOption 1) ≡ codes "rpm: unknown option: -qz\n") × (usage_line (codes "rpmx" ∷ []) (fault NoMode 0) ≡ codes "rpm: no command given\n")
+told : (usage_line (codes "rpm" ∷ codes "-qz" ∷ []) (fault UnknownOption 1) ≡ codes "rpm: unknown option: -qz\n")
+    × (usage_line (codes "rpmx" ∷ []) (fault NoMode 0) ≡ codes "rpm: no command given\n")
 unfolding usage_line rule_text
 told = (refl, refl)
 
@@ -26,18 +27,21 @@ words : List ℕ → List (List ℕ)
 words options = codes "rpm" ∷ options ∷ []
 
 refused : ask (words (codes "-qz")) ≡ Err (fault UnknownOption 1)
-unfolding words ask asked_by program_of said said_behind purpose_behind own_purpose is_cluster short_switch seen arguments early_fault misplaced bad_argument first_broken
+unfolding words ask asked_by program_of said said_behind purpose_behind own_purpose is_cluster short_switch seen arguments early_fault misplaced
+    bad_argument first_broken
 refused = refl
 
 -- the query of one package isn't built
 unbuilt : asks_unbuilt (codes "rpm" ∷ codes "-q" ∷ codes "bash" ∷ []) ≡ true
-unfolding asks_unbuilt is_built ask asked_by program_of said said_behind purpose_behind own_purpose is_cluster short_switch seen arguments early_fault misplaced bad_argument first_broken
+unfolding asks_unbuilt is_built ask asked_by program_of said said_behind purpose_behind own_purpose is_cluster short_switch seen arguments early_fault
+    misplaced bad_argument first_broken
 unbuilt = refl
 
 -- of `-l` and a format the last one counts, and a fault of the one that counts is told
 shown : (asks_format (codes "rpm" ∷ codes "-qa" ∷ codes "--qf" ∷ codes "%{NAME" ∷ []) ≡ Some (Err (record { kind = MissingClose; at = 6 })))
     × (asks_format (codes "rpm" ∷ codes "--qf=%{NAME" ∷ codes "-qal" ∷ []) ≡ Some (format list_format))
-unfolding asks_format is_built ask asked_by program_of said said_behind purpose_behind own_purpose is_cluster long_purpose long_switch rpm_switch short_switch seen arguments early_fault misplaced bad_argument first_broken format reading move_of tag_part number_of after_number
+unfolding asks_format is_built ask asked_by program_of said said_behind purpose_behind own_purpose is_cluster long_purpose long_switch rpm_switch
+    short_switch seen arguments early_fault misplaced bad_argument first_broken format reading move_of tag_part number_of after_number
 shown = (refl, refl)
 
 wrong : format_line (record { kind = MissingClose; at = 6 }) ≡ codes "error: incorrect format: } expected at byte 6\n"

@@ -50,7 +50,8 @@ unfolding whole line_of small header header_of entries entry_of entry_fault faul
 no_name = refl
 
 no_files : step_of list_tree 2 (read_as (header (small 6))) ≡ ToOut (bearer 2) (codes "(contains no files)\n")
-unfolding whole line_of list_tree small header header_of entries entry_of entry_fault fault_at number_at numbers texts are_ended sizes bytes stored texts_in numbers_in
+unfolding whole line_of list_tree small header header_of entries entry_of entry_fault fault_at number_at numbers texts are_ended sizes bytes stored
+    texts_in numbers_in
 no_files = refl
 
 -- one name and two requirements
@@ -64,6 +65,7 @@ needy = record {
 both : Tree
 both = Bracket (Shown (whole (Stored 1000)) (Shown (whole (Stored 1049)) End)) End
 
-differs : (meaning needy 2 both ≡ Err (1, 2)) × (step_of both 2 (Good needy) ≡ ToErr (bearer 2) (codes "error: incorrect format: array iterator used with different sized arrays\n"))
+differs : (meaning needy 2 both ≡ Err (1, 2))
+    × (step_of both 2 (Good needy) ≡ ToErr (bearer 2) (codes "error: incorrect format: array iterator used with different sized arrays\n"))
 unfolding needy both whole sizes bytes stored sizes_line
 differs = (refl, refl)

@@ -35,7 +35,8 @@ get-installed file s n =
     ∙ opened-package_of (finite.get (blobs file s) n)
 
 -- the package of a number is what its blob says
-pub package_is : (file : Units) (s : Store) (n : ℕ) (blob : Option (List ℕ)) (p : Package) → finite.get (blobs file s) n ≡ Some blob → finite.get (installed file s) n ≡ Some p → p ≡ package_of blob
+pub package_is : (file : Units) (s : Store) (n : ℕ) (blob : Option (List ℕ)) (p : Package) → finite.get (blobs file s) n ≡ Some blob → finite.get
+    (installed file s) n ≡ Some p → p ≡ package_of blob
 package_is file s n blob p said is =
     let both : Some p ≡ Some (package_of blob) = sym is ∙ get-installed file s n ∙ ap (option_map package_of) said in
     cc
@@ -49,6 +50,7 @@ pub is_some-installed : (file : Units) (s : Store) (n : ℕ) → is_some (finite
 is_some-installed file s n = ap is_some (get-installed file s n) ∙ is_some-map package_of (finite.get (blobs file s) n) ∙ is_some-get-blobs file s n
 
 -- what holds of the package that a blob says holds of the package of the number
-pub said_of : (told : Type 0) (file : Units) (s : Store) (n : ℕ) (blob : Option (List ℕ)) (Holds : Package → Type 0) → (told → finite.get (blobs file s) n ≡ Some blob) → Holds (package_of blob)
+pub said_of : (told : Type 0) (file : Units) (s : Store) (n : ℕ) (blob : Option (List ℕ)) (Holds : Package → Type 0)
+    → (told → finite.get (blobs file s) n ≡ Some blob) → Holds (package_of blob)
     → told → (p : Package) → finite.get (installed file s) n ≡ Some p → Holds p
 said_of told file s n blob Holds said holds t p held = subst Holds (sym (package_is file s n blob p (said t) held)) holds

@@ -132,7 +132,8 @@ query_cost file = opening_cost file + blocks_cost (store file)
 
 -- a line to err that went through, or of which err took the first bytes and failed
 abbrev pub Closes : List ℕ → Outputs → Outputs → ℕ → ℕ → Type 0
-Closes line old new before now = (new.out ≡ old.out) × (Gained new.err_tells old.err new.err line ⊎ (GainedPart new.err_tells old.err new.err line × Rose before now))
+Closes line old new before now = (new.out ≡ old.out) × (Gained new.err_tells old.err new.err line ⊎ (GainedPart new.err_tells old.err new.err line
+    × Rose before now))
 
 -- what was done, and then the closing line
 pub record Ends (Did : Outputs → Type 0) (line : List ℕ) (new : Outputs) (before now : ℕ) : Type 0 where

@@ -37,7 +37,9 @@ fn command<D: Disk, O: Sink + Drop, E: Sink + Drop>(
     ensures bad_format { (f : FormatFault) → ComesWhere (Why.BadFormat f) result (asks_format words.now ≡ Some (Err f)) }
     ensures bad_format_kind { (f : FormatFault) → result ≡ Why.BadFormat f → f.kind ≢ FormatKind.NoMemory }
     ensures unread { asks_all words.now ≡ None → (disk.new ≡ disk.old) × (out.new ≡ out.old) × (err.new ≡ err.old) }
-    ensures went { (tree : Tree) → asks_all words.now ≡ Some tree → IsTrue D.tells → Queried tree (D.files disk.old).pkg (store (D.files disk.old).pkg) result (outputs O.tells (O.taken (inner out.old)) E.tells (E.taken (inner err.old))) (outputs O.tells (O.taken (inner out.new)) E.tells (E.taken (inner err.new))) (D.bytes_read disk.old File.Pkg) (D.bytes_read disk.new File.Pkg) }
+    ensures went { (tree : Tree) → asks_all words.now ≡ Some tree → IsTrue D.tells → Queried tree (D.files disk.old).pkg
+        (store (D.files disk.old).pkg) result (outputs O.tells (O.taken (inner out.old)) E.tells (E.taken (inner err.old)))
+        (outputs O.tells (O.taken (inner out.new)) E.tells (E.taken (inner err.new))) (D.bytes_read disk.old File.Pkg) (D.bytes_read disk.new File.Pkg) }
     ensures reads { IsTrue D.tells → D.bytes_read disk.new File.Pkg ≤ D.bytes_read disk.old File.Pkg + query_cost (D.files disk.old).pkg }
     ensures looks { (most : ℕ) × Looks D.tells D.files D.left_since D.moment D.bytes_read D.follows Pkg most disk.old disk.new }
     ensures disk { HasCauseAt (result ≡ Why.DiskFault) (D.faults disk.old) (D.faults disk.new) }
@@ -89,10 +91,14 @@ pub fn run<D: Disk, S: Shelf, O: Sink, E: Sink>(
     ensures bad_format { (f : FormatFault) → ComesWhere (Why.BadFormat f) result.0.why (asks_format words.now ≡ Some (Err f)) }
     ensures bad_format_kind { (f : FormatFault) → result.0.why ≡ Why.BadFormat f → f.kind ≢ FormatKind.NoMemory }
     ensures unread { asks_all words.now ≡ None → (result.1 ≡ disk) × (out.new ≡ out.old) }
-    ensures unbuilt_closes { asks_all words.now ≡ None → Closes (closing words.now result.0.why) (outputs O.tells (O.taken out.old) E.tells (E.taken err.old)) (outputs O.tells (O.taken out.new) E.tells (E.taken err.new)) (E.faults err.old) (E.faults err.new) }
+    ensures unbuilt_closes { asks_all words.now ≡ None → Closes (closing words.now result.0.why) (outputs O.tells (O.taken out.old) E.tells
+        (E.taken err.old)) (outputs O.tells (O.taken out.new) E.tells (E.taken err.new)) (E.faults err.old) (E.faults err.new) }
 
     // The theorem: the query of all packages by the format of the words, and the line that closes it.
-    ensures answers { (tree : Tree) → asks_all words.now ≡ Some tree → IsTrue D.tells → Ends (λ mid. Queried tree (D.files disk).pkg (store (D.files disk).pkg) result.0.why (outputs O.tells (O.taken out.old) E.tells (E.taken err.old)) mid (D.bytes_read disk File.Pkg) (D.bytes_read result.1 File.Pkg)) (closing words.now result.0.why) (outputs O.tells (O.taken out.new) E.tells (E.taken err.new)) (E.faults err.old) (E.faults err.new) }
+    ensures answers { (tree : Tree) → asks_all words.now ≡ Some tree → IsTrue D.tells
+        → Ends (λ mid. Queried tree (D.files disk).pkg (store (D.files disk).pkg) result.0.why (outputs O.tells (O.taken out.old) E.tells
+        (E.taken err.old)) mid (D.bytes_read disk File.Pkg) (D.bytes_read result.1 File.Pkg)) (closing words.now result.0.why)
+        (outputs O.tells (O.taken out.new) E.tells (E.taken err.new)) (E.faults err.old) (E.faults err.new) }
 
     // The disk reads as before, and so do its images; of Packages.db no more is read than its pages and packages.
     ensures looks { (most : ℕ) × Looks D.tells D.files D.left_since D.moment D.bytes_read D.follows Pkg most disk result.1 }

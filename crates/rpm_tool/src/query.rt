@@ -45,7 +45,9 @@ fn print_all<D: Disk, O: Sink + Drop, E: Sink + Drop>(
     requires err_empty { holds err.old ≡ [] }
     requires keeps { IsTrue D.tells → Keeps (D.files disk.old).pkg db.now }
     requires from_one { slot_with 0 db.now.slots ≡ None }
-    ensures went { IsTrue D.tells → Went (all_packages format.now (installed (D.files disk.old).pkg db.now)) result (outputs O.tells (O.taken (inner out.old)) E.tells (E.taken (inner err.old))) (outputs O.tells (O.taken (inner out.new)) E.tells (E.taken (inner err.new))) (λ n. D.bytes_read disk.new File.Pkg ≤ D.bytes_read disk.old File.Pkg + cost_to n db.now) }
+    ensures went { IsTrue D.tells → Went (all_packages format.now (installed (D.files disk.old).pkg db.now)) result
+        (outputs O.tells (O.taken (inner out.old)) E.tells (E.taken (inner err.old))) (outputs O.tells (O.taken (inner out.new)) E.tells
+        (E.taken (inner err.new))) (λ n. D.bytes_read disk.new File.Pkg ≤ D.bytes_read disk.old File.Pkg + cost_to n db.now) }
     ensures done { is_of_words result ≡ false }
     ensures looks { Looks D.tells D.files D.left_since D.moment D.bytes_read D.follows Pkg (cost_all db.now) disk.old disk.new }
     ensures disk { HasCauseAt (result ≡ Why.DiskFault) (D.faults disk.old) (D.faults disk.new) }
@@ -78,7 +80,9 @@ pub fn query_all<D: Disk, O: Sink + Drop, E: Sink + Drop>(
 ) -> Why
     requires out_empty { holds out.old ≡ [] }
     requires err_empty { holds err.old ≡ [] }
-    ensures went { IsTrue D.tells → Queried format.now (D.files disk.old).pkg (store (D.files disk.old).pkg) result (outputs O.tells (O.taken (inner out.old)) E.tells (E.taken (inner err.old))) (outputs O.tells (O.taken (inner out.new)) E.tells (E.taken (inner err.new))) (D.bytes_read disk.old File.Pkg) (D.bytes_read disk.new File.Pkg) }
+    ensures went { IsTrue D.tells → Queried format.now (D.files disk.old).pkg (store (D.files disk.old).pkg) result
+        (outputs O.tells (O.taken (inner out.old)) E.tells (E.taken (inner err.old))) (outputs O.tells (O.taken (inner out.new)) E.tells
+        (E.taken (inner err.new))) (D.bytes_read disk.old File.Pkg) (D.bytes_read disk.new File.Pkg) }
     ensures reads { IsTrue D.tells → D.bytes_read disk.new File.Pkg ≤ D.bytes_read disk.old File.Pkg + query_cost (D.files disk.old).pkg }
     ensures done { is_of_words result ≡ false }
     ensures looks { (most : ℕ) × Looks D.tells D.files D.left_since D.moment D.bytes_read D.follows Pkg most disk.old disk.new }

@@ -39,7 +39,8 @@ fn put_message<E: Sink + Drop>(
     message: &[u8],
 ) -> Result<bool, Stop>
     requires err_empty { holds err.old ≡ [] }
-    ensures step { (out_tells : Bool) (out : List ℕ) → StepIs (ToErr (bearer number) message.now) result (outputs out_tells out E.tells (E.taken (inner err.old))) (outputs out_tells out E.tells (E.taken (inner err.new))) }
+    ensures step { (out_tells : Bool) (out : List ℕ) → StepIs (ToErr (bearer number) message.now) result
+        (outputs out_tells out E.tells (E.taken (inner err.old))) (outputs out_tells out E.tells (E.taken (inner err.new))) }
     ensures no_disk { result ≢ Err Stop.DiskFault }
     ensures no_out { result ≢ Err Stop.OutFault }
     ensures err { HasCauseAt (result ≡ Err Stop.ErrFault) (E.faults (inner err.old)) (E.faults (inner err.new)) }
@@ -67,7 +68,8 @@ fn bad_line(alloc: Global, number: u32) -> Result<Vec<u8>, AllocError>
 /// Writes to err that a package can't be read.
 fn put_bad<E: Sink + Drop>(alloc: Global, err: &mut Buffered<E>, number: u32) -> Result<bool, Stop>
     requires err_empty { holds err.old ≡ [] }
-    ensures step { (out_tells : Bool) (out : List ℕ) → StepIs (ToErr (bearer number) (bad_line number)) result (outputs out_tells out E.tells (E.taken (inner err.old))) (outputs out_tells out E.tells (E.taken (inner err.new))) }
+    ensures step { (out_tells : Bool) (out : List ℕ) → StepIs (ToErr (bearer number) (bad_line number)) result
+        (outputs out_tells out E.tells (E.taken (inner err.old))) (outputs out_tells out E.tells (E.taken (inner err.new))) }
     ensures no_disk { result ≢ Err Stop.DiskFault }
     ensures no_out { result ≢ Err Stop.OutFault }
     ensures err { HasCauseAt (result ≡ Err Stop.ErrFault) (E.faults (inner err.old)) (E.faults (inner err.new)) }
@@ -126,7 +128,8 @@ fn print_header<O: Sink + Drop, E: Sink + Drop>(
 ) -> Result<bool, Stop>
     requires out_empty { holds out.old ≡ [] }
     requires err_empty { holds err.old ≡ [] }
-    ensures step { StepIs (step_of format.now number (Good view.now)) result (outputs O.tells (O.taken (inner out.old)) E.tells (E.taken (inner err.old))) (outputs O.tells (O.taken (inner out.new)) E.tells (E.taken (inner err.new))) }
+    ensures step { StepIs (step_of format.now number (Good view.now)) result (outputs O.tells (O.taken (inner out.old)) E.tells
+        (E.taken (inner err.old))) (outputs O.tells (O.taken (inner out.new)) E.tells (E.taken (inner err.new))) }
     ensures no_disk { result ≢ Err Stop.DiskFault }
     ensures out { HasCauseAt (result ≡ Err Stop.OutFault) (O.faults (inner out.old)) (O.faults (inner out.new)) }
     ensures err { HasCauseAt (result ≡ Err Stop.ErrFault) (E.faults (inner err.old)) (E.faults (inner err.new)) }
@@ -155,7 +158,8 @@ fn print_blob<O: Sink + Drop, E: Sink + Drop>(
 ) -> Result<bool, Stop>
     requires out_empty { holds out.old ≡ [] }
     requires err_empty { holds err.old ≡ [] }
-    ensures step { StepIs (step_of format.now number (package_of (Some blob.now))) result (outputs O.tells (O.taken (inner out.old)) E.tells (E.taken (inner err.old))) (outputs O.tells (O.taken (inner out.new)) E.tells (E.taken (inner err.new))) }
+    ensures step { StepIs (step_of format.now number (package_of (Some blob.now))) result (outputs O.tells (O.taken (inner out.old)) E.tells
+        (E.taken (inner err.old))) (outputs O.tells (O.taken (inner out.new)) E.tells (E.taken (inner err.new))) }
     ensures no_disk { result ≢ Err Stop.DiskFault }
     ensures out { HasCauseAt (result ≡ Err Stop.OutFault) (O.faults (inner out.old)) (O.faults (inner out.new)) }
     ensures err { HasCauseAt (result ≡ Err Stop.ErrFault) (E.faults (inner err.old)) (E.faults (inner err.new)) }
@@ -182,7 +186,9 @@ pub fn print_package<D: Disk, O: Sink + Drop, E: Sink + Drop>(
     requires err_empty { holds err.old ≡ [] }
     requires keeps { IsTrue D.tells → Keeps (D.files disk.old).pkg db.now }
     requires held { IsSome (slot_with number db.now.slots) }
-    ensures step { IsTrue D.tells → (p : Package) → get (installed (D.files disk.old).pkg db.now) number ≡ Some p → StepIs (step_of format.now number p) result (outputs O.tells (O.taken (inner out.old)) E.tells (E.taken (inner err.old))) (outputs O.tells (O.taken (inner out.new)) E.tells (E.taken (inner err.new))) }
+    ensures step { IsTrue D.tells → (p : Package) → get (installed (D.files disk.old).pkg db.now) number ≡ Some p
+        → StepIs (step_of format.now number p) result (outputs O.tells (O.taken (inner out.old)) E.tells (E.taken (inner err.old)))
+        (outputs O.tells (O.taken (inner out.new)) E.tells (E.taken (inner err.new))) }
     ensures kept { IsTrue D.tells → Keeps (D.files disk.new).pkg db.now }
     ensures looks { Looks D.tells D.files D.left_since D.moment D.bytes_read D.follows Pkg (cost number db.now) disk.old disk.new }
     ensures disk { HasCauseAt (result ≡ Err Stop.DiskFault) (D.faults disk.old) (D.faults disk.new) }

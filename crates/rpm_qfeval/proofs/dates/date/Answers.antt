@@ -16,11 +16,14 @@ pub returns : goal.returns
 returns c =
     let m = c.moment-moment.result in
     let is = c.moment-moment.ensures in
-    let weekday : (get_or m.weekday 0 0 ∷ get_or m.weekday 1 0 ∷ get_or m.weekday 2 0 ∷ []) ≡ weekday_name (c.args.second / 86400) = three m.weekday (search rules) ∙ is.weekday in
-    let month : (get_or m.month 0 0 ∷ get_or m.month 1 0 ∷ get_or m.month 2 0 ∷ []) ≡ month_name (month_of (c.args.second / 86400)) = three m.month (search rules) ∙ is.month in
+    let weekday : (get_or m.weekday 0 0 ∷ get_or m.weekday 1 0 ∷ get_or m.weekday 2 0 ∷ []) ≡ weekday_name (c.args.second / 86400) = three m.weekday
+    (search rules) ∙ is.weekday in
+    let month : (get_or m.month 0 0 ∷ get_or m.month 1 0 ∷ get_or m.month 2 0 ∷ []) ≡ month_name (month_of (c.args.second / 86400)) = three m.month
+    (search rules) ∙ is.month in
     let day : (get_or c.spaced.result 0 0 ∷ get_or c.spaced.result 1 0 ∷ []) ≡ spaced (day_of (c.args.second / 86400)) = rw (c.spaced.ensures, is.day) refl in
     let hour = pair m.hour (c.args.second % 86400 / 3600) c.two.result c.two.ensures is.hour in
     let minute = pair m.minute (c.args.second % 86400 / 60 % 60) c.two-2.result c.two-2.ensures is.minute in
     let second = pair m.second (c.args.second % 86400 % 60) c.two-3.result c.two-3.ensures is.second in
-    let year : (get_or c.four.result 0 0 ∷ get_or c.four.result 1 0 ∷ get_or c.four.result 2 0 ∷ get_or c.four.result 3 0 ∷ []) ≡ four (year_of (c.args.second / 86400)) = rw (c.four.ensures, is.year) refl in
+    let year : (get_or c.four.result 0 0 ∷ get_or c.four.result 1 0 ∷ get_or c.four.result 2 0 ∷ get_or c.four.result 3 0 ∷ [])
+    ≡ four (year_of (c.args.second / 86400)) = rw (c.four.ensures, is.year) refl in
     λ i. pieces (weekday i) (month i) (day i) (hands (hour i) (minute i) (second i)) (year i)

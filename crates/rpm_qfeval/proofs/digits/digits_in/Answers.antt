@@ -3,7 +3,13 @@ use Rattle.rpm_qfeval.proofs.Glyphs.{onto, onto_all, onto_more, onto_last, less_
 use Rattle.rpm_qfeval.proofs.digits.digits_in.Goals as goal
 
 pub loop-left-init : goal.loop-left-init
-loop-left-init c = record { room = omega (arith, c.ranges.number.fits); some = omega arith; within = omega arith; long = refl; whole = onto_all c.args.base c.args.number }
+loop-left-init c = record {
+  room = omega (arith, c.ranges.number.fits);
+  some = omega arith;
+  within = omega arith;
+  long = refl;
+  whole = onto_all c.args.base c.args.number;
+}
 
 pub loop-left-preserved : goal.loop-left-preserved
 loop-left-preserved c =
@@ -20,7 +26,8 @@ loop-left-preserved c =
       some = has_room (l.left / base) k (some_left base l.left (omega (arith, low)) c.loop-left-test.true) room;
       within = omega (arith, l.invariant.within);
       long = c.put_glyph.array_long;
-      whole = ap (onto (k + 42) base (l.left / base)) (rw next at here) ∙ sym (onto_more (k + 42) base l.left (drop l.start l.bytes) (omega (arith, low)) c.loop-left-test.true) ∙ rw step at l.invariant.whole;
+      whole = ap (onto (k + 42) base (l.left / base)) (rw next at here) ∙ sym (onto_more (k + 42) base l.left (drop l.start l.bytes)
+          (omega (arith, low)) c.loop-left-test.true) ∙ rw step at l.invariant.whole;
     }
 
 pub overflow_sub-start-2 : goal.overflow_sub-start-2

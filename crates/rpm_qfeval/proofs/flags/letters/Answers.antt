@@ -11,7 +11,10 @@ without : (bit letter n : ℕ) (rest : List (ℕ × ℕ)) → has bit n ≡ fals
 without bit letter n rest h = rw h refl
 
 pub loop-bit-init : goal.loop-bit-init
-loop-bit-init c = record { few = omega (arith, ap length c.new-letters.ensures); whole = ap (λ (x : List ℕ). x ++ letters c.args.rows.now c.args.number) c.new-letters.ensures }
+loop-bit-init c = record {
+  few = omega (arith, ap length c.new-letters.ensures);
+  whole = ap (λ (x : List ℕ). x ++ letters c.args.rows.now c.args.number) c.new-letters.ensures;
+}
 
 pub loop-bit-preserved : goal.loop-bit-preserved
 loop-bit-preserved c =
@@ -25,7 +28,8 @@ loop-bit-preserved c =
           record {
             few = omega (arith, ap length items, length-append c.loop-bit.letters.items (row.1 ∷ []), c.loop-bit.invariant.few);
             whole = ap (λ (x : List ℕ). x ++ letters rest c.args.number) items ∙ append_assoc c.loop-bit.letters.items (row.1 ∷ []) (letters rest c.args.number)
-                ∙ ap (λ (x : List ℕ). c.loop-bit.letters.items ++ x) (sym (ap (λ rows. letters rows c.args.number) at ∙ with_letter row.0 row.1 c.args.number rest set)) ∙ c.loop-bit.invariant.whole;
+                ∙ ap (λ (x : List ℕ). c.loop-bit.letters.items ++ x)
+                (sym (ap (λ rows. letters rows c.args.number) at ∙ with_letter row.0 row.1 c.args.number rest set)) ∙ c.loop-bit.invariant.whole;
           }
       | else-has w ↦
           let unset : has row.0 c.args.number ≡ false = sym c.has.ensures ∙ w.if-has.false in
@@ -33,11 +37,13 @@ loop-bit-preserved c =
           record {
             few = omega (arith, ap length items, c.loop-bit.invariant.few);
             whole = ap (λ (x : List ℕ). x ++ letters rest c.args.number) items
-                ∙ ap (λ (x : List ℕ). c.loop-bit.letters.items ++ x) (sym (ap (λ rows. letters rows c.args.number) at ∙ without row.0 row.1 c.args.number rest unset)) ∙ c.loop-bit.invariant.whole;
+                ∙ ap (λ (x : List ℕ). c.loop-bit.letters.items ++ x)
+                (sym (ap (λ rows. letters rows c.args.number) at ∙ without row.0 row.1 c.args.number rest unset)) ∙ c.loop-bit.invariant.whole;
           }
     ]
 
 pub returns : goal.returns
 returns c =
     let none : drop c.loop-bit.bit-index c.args.rows.now ≡ [] = drop_all c.args.rows.now c.loop-bit.bit-index c.loop-bit-test.false in
-    sym (append-nil c.loop-bit.letters.items) ∙ ap (λ (x : List ℕ). c.loop-bit.letters.items ++ x) (sym (ap (λ rows. letters rows c.args.number) none)) ∙ c.loop-bit.invariant.whole
+    sym (append-nil c.loop-bit.letters.items) ∙ ap (λ (x : List ℕ). c.loop-bit.letters.items ++ x)
+    (sym (ap (λ rows. letters rows c.args.number) none)) ∙ c.loop-bit.invariant.whole

@@ -16,10 +16,13 @@ pub loop-part-smaller : goal.loop-part-smaller
 loop-part-smaller g c = omega (arith, within c.args.text.now c.loop-part.k _ (sym c.in-Some.ensures.value))
 
 pub loop-part-preserved : goal.loop-part-preserved
-loop-part-preserved g c = upto_more g.met.O.Sink.follows_trans (escaped_here (drop_here c.args.text.now c.loop-part.k _ (sym c.in-Some.ensures.value))) c.loop-part.invariant c.in_ok-put_escaped.ensures
+loop-part-preserved g c = upto_more g.met.O.Sink.follows_trans
+    (escaped_here (drop_here c.args.text.now c.loop-part.k _ (sym c.in-Some.ensures.value))) c.loop-part.invariant c.in_ok-put_escaped.ensures
 
 pub returns-in_err-put_escaped : goal.returns-in_err-put_escaped
-returns-in_err-put_escaped g c = upto_stop g.met.O.Sink.follows_trans _ c.from_residual.result c.from_residual.ensures.0 (escaped_here (drop_here c.args.text.now c.loop-part.k _ (sym c.in-Some.ensures.value))) c.loop-part.invariant c.in_err-put_escaped.ensures
+returns-in_err-put_escaped g c = upto_stop g.met.O.Sink.follows_trans _ c.from_residual.result c.from_residual.ensures.0
+    (escaped_here (drop_here c.args.text.now c.loop-part.k _ (sym c.in-Some.ensures.value))) c.loop-part.invariant c.in_err-put_escaped.ensures
 
 pub returns : goal.returns
-returns g c = upto_done (ap (λ parts. escaped_text (concat parts)) (drop_none c.args.text.now c.loop-part.k (sym c.in_default.ensures.value))) c.loop-part.invariant
+returns g c = upto_done (ap (λ parts. escaped_text (concat parts)) (drop_none c.args.text.now c.loop-part.k (sym c.in_default.ensures.value)))
+    c.loop-part.invariant

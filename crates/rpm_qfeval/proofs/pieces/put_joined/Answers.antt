@@ -14,10 +14,12 @@ pub loop-part-smaller : goal.loop-part-smaller
 loop-part-smaller g c = omega (arith, within c.args.text.now c.loop-part.k _ (sym c.in-Some.ensures.value))
 
 pub loop-part-preserved : goal.loop-part-preserved
-loop-part-preserved g c = upto_more g.met.O.Sink.follows_trans (ap concat (drop_here c.args.text.now c.loop-part.k _ (sym c.in-Some.ensures.value))) c.loop-part.invariant c.in_ok-put_all.ensures
+loop-part-preserved g c = upto_more g.met.O.Sink.follows_trans (ap concat (drop_here c.args.text.now c.loop-part.k _ (sym c.in-Some.ensures.value)))
+    c.loop-part.invariant c.in_ok-put_all.ensures
 
 pub returns-in_err-put_all : goal.returns-in_err-put_all
-returns-in_err-put_all g c = upto_stop g.met.O.Sink.follows_trans _ c.from_residual.result c.from_residual.ensures.0 (ap concat (drop_here c.args.text.now c.loop-part.k _ (sym c.in-Some.ensures.value))) c.loop-part.invariant c.in_err-put_all.ensures
+returns-in_err-put_all g c = upto_stop g.met.O.Sink.follows_trans _ c.from_residual.result c.from_residual.ensures.0
+    (ap concat (drop_here c.args.text.now c.loop-part.k _ (sym c.in-Some.ensures.value))) c.loop-part.invariant c.in_err-put_all.ensures
 
 pub returns : goal.returns
 returns g c = upto_done (ap concat (drop_none c.args.text.now c.loop-part.k (sym c.in_default.ensures.value))) c.loop-part.invariant

@@ -7,10 +7,12 @@ pub sizes-loop-i-init : goal.sizes-loop-i-init
 sizes-loop-i-init t c = sizes_start c.args.view.now c.args.number c.args.parts.now
 
 pub sizes-loop-i-preserved : goal.sizes-loop-i-preserved
-sizes-loop-i-preserved t c = sizes_next c.args.view.now c.args.number c.loop-i.i c.args.parts.now c.at.result.now c.at.ensures.value c.in_default.ensures c.loop-i.invariant
+sizes-loop-i-preserved t c = sizes_next c.args.view.now c.args.number c.loop-i.i c.args.parts.now c.at.result.now c.at.ensures.value
+    c.in_default.ensures c.loop-i.invariant
 
 pub sizes-returns-in-Some : goal.sizes-returns-in-Some
-sizes-returns-in-Some t c = sizes_found c.args.view.now c.args.number c.loop-i.i c.args.parts.now c.at.result.now _ c.at.ensures.value c.in-Some.ensures c.loop-i.invariant
+sizes-returns-in-Some t c = sizes_found c.args.view.now c.args.number c.loop-i.i c.args.parts.now c.at.result.now _ c.at.ensures.value
+    c.in-Some.ensures c.loop-i.invariant
 
 pub sizes-returns : goal.sizes-returns
 sizes-returns t c =

@@ -7,13 +7,18 @@ use Rattle.rpm_qfeval.proofs.sizes.different.Goals.{in-Some+else-count-first, in
 
 pub returns-then-count-first : goal.returns-then-count-first
 returns-then-count-first c =
-    rw c.unwrap_or-first.ensures (other_count (direct c.args.view.now c.args.number) (parts_of c.args.inner.now) c.loop-i.i c.loop-i.seen c.at.result.now c.in-Some.count _ c.at.ensures.value c.in-Some.ensures (λ e. c.if-count-first.true (e ∙ sym c.unwrap_or-first.ensures)) c.loop-i.invariant)
+    rw c.unwrap_or-first.ensures (other_count (direct c.args.view.now c.args.number) (parts_of c.args.inner.now) c.loop-i.i c.loop-i.seen
+    c.at.result.now c.in-Some.count _ c.at.ensures.value c.in-Some.ensures (λ e. c.if-count-first.true (e ∙ sym c.unwrap_or-first.ensures))
+    c.loop-i.invariant)
 
 pub loop-i-preserved : goal.loop-i-preserved
 loop-i-preserved c =
     elim c.match-direct.branch [
-      | in-Some+else-count-first w ↦ rw (w.seen-is, w.unwrap_or-first.ensures) (same_count (direct c.args.view.now c.args.number) (parts_of c.args.inner.now) c.loop-i.i c.loop-i.seen c.at.result.now w.in-Some.count _ c.at.ensures.value w.in-Some.ensures (w.if-count-first.false ∙ w.unwrap_or-first.ensures) c.loop-i.invariant)
-      | in_default w ↦ rw w.seen-is (passes (direct c.args.view.now c.args.number) (parts_of c.args.inner.now) c.loop-i.i (differs_from c.loop-i.seen) c.at.result.now _ c.at.ensures.value w.in_default.ensures c.loop-i.invariant)
+      | in-Some+else-count-first w ↦ rw (w.seen-is, w.unwrap_or-first.ensures) (same_count (direct c.args.view.now c.args.number)
+          (parts_of c.args.inner.now) c.loop-i.i c.loop-i.seen c.at.result.now w.in-Some.count _ c.at.ensures.value w.in-Some.ensures
+          (w.if-count-first.false ∙ w.unwrap_or-first.ensures) c.loop-i.invariant)
+      | in_default w ↦ rw w.seen-is (passes (direct c.args.view.now c.args.number) (parts_of c.args.inner.now) c.loop-i.i (differs_from c.loop-i.seen)
+          c.at.result.now _ c.at.ensures.value w.in_default.ensures c.loop-i.invariant)
     ]
 
 pub returns : goal.returns

@@ -31,7 +31,10 @@ abbrev pub decreases-put_parts : goal.decreases-put_parts
 decreases-put_parts g l = 5 * weight l.parts.now
 
 abbrev pub invariant-put_rounds-loop-round : goal.invariant-put_rounds-loop-round
-invariant-put_rounds-loop-round g l = (l.columns ≡ l.initial.columns) × Upto g.O.Sink.tells g.O.Sink.taken g.O.Sink.faults g.O.Sink.follows (concat (map (λ j. bytes l.view l.number j l.inner) (range_with_len 0 l.count))) (concat (map (λ j. bytes l.view l.number j l.inner) (range_with_len l.round (l.count - l.round)))) l.initial.sink l.sink
+invariant-put_rounds-loop-round g l = (l.columns ≡ l.initial.columns) × Upto g.O.Sink.tells g.O.Sink.taken g.O.Sink.faults g.O.Sink.follows
+    (concat (map (λ j. bytes l.view l.number j l.inner) (range_with_len 0 l.count)))
+    (concat (map (λ j. bytes l.view l.number j l.inner) (range_with_len l.round (l.count - l.round)))) l.initial.sink l.sink
 
 abbrev pub invariant-put_parts-loop-i : goal.invariant-put_parts-loop-i
-invariant-put_parts-loop-i g l = (l.columns ≡ l.initial.columns) × Upto g.O.Sink.tells g.O.Sink.taken g.O.Sink.faults g.O.Sink.follows (bytes l.view l.number l.round l.parts) (bytes l.view l.number l.round (tree_of (drop l.i (parts_of l.parts)))) l.initial.sink l.sink
+invariant-put_parts-loop-i g l = (l.columns ≡ l.initial.columns) × Upto g.O.Sink.tells g.O.Sink.taken g.O.Sink.faults g.O.Sink.follows
+    (bytes l.view l.number l.round l.parts) (bytes l.view l.number l.round (tree_of (drop l.i (parts_of l.parts)))) l.initial.sink l.sink

@@ -7,29 +7,35 @@ use Rattle.rpm_tool.proofs.closing.put_line.Goals as goal
 pub returns-in-NotBuilt : goal.returns-in-NotBuilt
 unfolding closing
 returns-in-NotBuilt g c =
-    subst (λ (w : Why). Writes g.E.Sink.tells g.E.Sink.taken g.E.Sink.faults g.E.Sink.follows c.args.err.now c.put_all-in-NotBuilt.new.sink (closing c.args.words.now w) c.put_all-in-NotBuilt.result) (sym c.in-NotBuilt.is) c.put_all-in-NotBuilt.ensures
+    subst (λ (w : Why). Writes g.E.Sink.tells g.E.Sink.taken g.E.Sink.faults g.E.Sink.follows c.args.err.now c.put_all-in-NotBuilt.new.sink
+    (closing c.args.words.now w) c.put_all-in-NotBuilt.result) (sym c.in-NotBuilt.is) c.put_all-in-NotBuilt.ensures
 
 pub returns-in-Usage : goal.returns-in-Usage
 unfolding closing
 returns-in-Usage g c =
-    subst (λ (w : Why). Writes g.E.Sink.tells g.E.Sink.taken g.E.Sink.faults g.E.Sink.follows c.args.err.now c.put_usage.new.err (closing c.args.words.now w) c.put_usage.result) (sym c.in-Usage.is) c.put_usage.ensures
+    subst (λ (w : Why). Writes g.E.Sink.tells g.E.Sink.taken g.E.Sink.faults g.E.Sink.follows c.args.err.now c.put_usage.new.err
+    (closing c.args.words.now w) c.put_usage.result) (sym c.in-Usage.is) c.put_usage.ensures
 
 pub returns-in-Damaged : goal.returns-in-Damaged
 unfolding closing
 returns-in-Damaged g c =
-    subst (λ (w : Why). Writes g.E.Sink.tells g.E.Sink.taken g.E.Sink.faults g.E.Sink.follows c.args.err.now c.put_damage.new.err (closing c.args.words.now w) c.put_damage.result) (sym c.in-Damaged.is) c.put_damage.ensures
+    subst (λ (w : Why). Writes g.E.Sink.tells g.E.Sink.taken g.E.Sink.faults g.E.Sink.follows c.args.err.now c.put_damage.new.err
+    (closing c.args.words.now w) c.put_damage.result) (sym c.in-Damaged.is) c.put_damage.ensures
 
 pub returns-in-DiskFault : goal.returns-in-DiskFault
 unfolding closing
 returns-in-DiskFault g c =
-    subst (λ (w : Why). Writes g.E.Sink.tells g.E.Sink.taken g.E.Sink.faults g.E.Sink.follows c.args.err.now c.put_all-in-DiskFault.new.sink (closing c.args.words.now w) c.put_all-in-DiskFault.result) (sym c.in-DiskFault.is) c.put_all-in-DiskFault.ensures
+    subst (λ (w : Why). Writes g.E.Sink.tells g.E.Sink.taken g.E.Sink.faults g.E.Sink.follows c.args.err.now c.put_all-in-DiskFault.new.sink
+    (closing c.args.words.now w) c.put_all-in-DiskFault.result) (sym c.in-DiskFault.is) c.put_all-in-DiskFault.ensures
 
 pub returns-in-OutFault : goal.returns-in-OutFault
 unfolding closing
 returns-in-OutFault g c =
-    subst (λ (w : Why). Writes g.E.Sink.tells g.E.Sink.taken g.E.Sink.faults g.E.Sink.follows c.args.err.now c.put_all-in-OutFault.new.sink (closing c.args.words.now w) c.put_all-in-OutFault.result) (sym c.in-OutFault.is) c.put_all-in-OutFault.ensures
+    subst (λ (w : Why). Writes g.E.Sink.tells g.E.Sink.taken g.E.Sink.faults g.E.Sink.follows c.args.err.now c.put_all-in-OutFault.new.sink
+    (closing c.args.words.now w) c.put_all-in-OutFault.result) (sym c.in-OutFault.is) c.put_all-in-OutFault.ensures
 
 pub returns-in-NoMemory : goal.returns-in-NoMemory
 unfolding closing
 returns-in-NoMemory g c =
-    subst (λ (w : Why). Writes g.E.Sink.tells g.E.Sink.taken g.E.Sink.faults g.E.Sink.follows c.args.err.now c.put_all-in-NoMemory.new.sink (closing c.args.words.now w) c.put_all-in-NoMemory.result) (sym c.in-NoMemory.is) c.put_all-in-NoMemory.ensures
+    subst (λ (w : Why). Writes g.E.Sink.tells g.E.Sink.taken g.E.Sink.faults g.E.Sink.follows c.args.err.now c.put_all-in-NoMemory.new.sink
+    (closing c.args.words.now w) c.put_all-in-NoMemory.result) (sym c.in-NoMemory.is) c.put_all-in-NoMemory.ensures

@@ -10,15 +10,18 @@ use Rattle.rpm_tool.proofs.command.command.Goals as goal
 
 pub returns-in-Ok-clause-usage : goal.returns-in-Ok-clause-usage
 unfolding asks_format
-returns-in-Ok-clause-usage g c = usage_of_done c.args.words.now (ask c.args.words.now) c.in-Ok.format c.in-Ok.ensures.ok c.query_all.result c.query_all.ensures.done
+returns-in-Ok-clause-usage g c = usage_of_done c.args.words.now (ask c.args.words.now) c.in-Ok.format c.in-Ok.ensures.ok c.query_all.result
+    c.query_all.ensures.done
 
 pub returns-in-Ok-clause-unbuilt : goal.returns-in-Ok-clause-unbuilt
 unfolding asks_format asks_unbuilt
-returns-in-Ok-clause-unbuilt g c = unbuilt_of_done c.args.words.now (ask c.args.words.now) c.in-Ok.format c.in-Ok.ensures.ok c.query_all.result c.query_all.ensures.done
+returns-in-Ok-clause-unbuilt g c = unbuilt_of_done c.args.words.now (ask c.args.words.now) c.in-Ok.format c.in-Ok.ensures.ok c.query_all.result
+    c.query_all.ensures.done
 
 pub returns-in-Ok-clause-bad_format : goal.returns-in-Ok-clause-bad_format
 unfolding asks_format
-returns-in-Ok-clause-bad_format g c = format_of_done c.args.words.now (ask c.args.words.now) c.in-Ok.format c.in-Ok.ensures.ok c.query_all.result c.query_all.ensures.done
+returns-in-Ok-clause-bad_format g c = format_of_done c.args.words.now (ask c.args.words.now) c.in-Ok.format c.in-Ok.ensures.ok c.query_all.result
+    c.query_all.ensures.done
 
 pub returns-in-Ok-clause-unread : goal.returns-in-Ok-clause-unread
 unfolding asks_all
@@ -48,4 +51,5 @@ unfolding asks_format asks_all
 returns-in-Err-clause-went g c = λ tree asks told.
     let file = (g.D.Disk.files c.args.disk.now).pkg in
     let none = starved c.args.words.now (ask c.args.words.now) c.in-Err.why c.in-Err.ensures.undone tree asks in
-    rw none (not_begun tree file (store file) g.O.Sink.tells g.E.Sink.tells (g.O.Sink.taken (inner c.args.out.now)) (g.E.Sink.taken (inner c.args.err.now)) (g.D.Disk.bytes_read c.args.disk.now Pkg))
+    rw none (not_begun tree file (store file) g.O.Sink.tells g.E.Sink.tells (g.O.Sink.taken (inner c.args.out.now))
+    (g.E.Sink.taken (inner c.args.err.now)) (g.D.Disk.bytes_read c.args.disk.now Pkg))

@@ -13,7 +13,8 @@ returns-clause-answers g c = λ tree asks told.
     let out = ap (λ (lent : _). lent.now) c.new-out.ensures.inner in
     let err = ap (λ (lent : _). lent.now) c.new-err.ensures.inner in
     let later : g.E.Sink.faults c.args.err.now ≤ g.E.Sink.faults (inner c.command-why.new.err).now =
-    subst (λ (n : ℕ). n ≤ g.E.Sink.faults (inner c.command-why.new.err).now) (ap (λ (lent : _). g.E.Sink.faults lent.now) c.new-err.ensures.inner) c.command-why.ensures.err.later in
+    subst (λ (n : ℕ). n ≤ g.E.Sink.faults (inner c.command-why.new.err).now) (ap (λ (lent : _). g.E.Sink.faults lent.now) c.new-err.ensures.inner)
+    c.command-why.ensures.err.later in
     let out_is : (inner c.command-why.new.out).now ≡ c.out-2-1.given.0 = search rules in
     let err_is : (inner c.put_closing.new.err).now ≡ c.err-3-1.given.0 = search rules in
     let line = closing c.args.words.now c.command-why.result in
@@ -22,9 +23,12 @@ returns-clause-answers g c = λ tree asks told.
       mid = mid;
       did = rw (out, err) at (c.command-why.ensures.went tree asks told);
       closes =
-          subst (λ (e : _). Closes line mid (outputs g.O.Sink.tells (g.O.Sink.taken c.out-2-1.given.0) g.E.Sink.tells (g.E.Sink.taken e)) (g.E.Sink.faults c.args.err.now) (g.E.Sink.faults e)) err_is
-          (subst (λ (o : _). Closes line mid (outputs g.O.Sink.tells (g.O.Sink.taken o) g.E.Sink.tells (g.E.Sink.taken (inner c.put_closing.new.err).now)) (g.E.Sink.faults c.args.err.now) (g.E.Sink.faults (inner c.put_closing.new.err).now)) out_is
-          (closes_of g.E.Sink.tells (λ lent. g.E.Sink.taken lent.now) (λ lent. g.E.Sink.faults lent.now) (g.E.Sink.faults c.args.err.now) (inner c.command-why.new.err) (inner c.put_closing.new.err) line c.put_closing.result
+          subst (λ (e : _). Closes line mid (outputs g.O.Sink.tells (g.O.Sink.taken c.out-2-1.given.0) g.E.Sink.tells (g.E.Sink.taken e))
+          (g.E.Sink.faults c.args.err.now) (g.E.Sink.faults e)) err_is
+          (subst (λ (o : _). Closes line mid (outputs g.O.Sink.tells (g.O.Sink.taken o) g.E.Sink.tells
+          (g.E.Sink.taken (inner c.put_closing.new.err).now)) (g.E.Sink.faults c.args.err.now) (g.E.Sink.faults (inner c.put_closing.new.err).now)) out_is
+          (closes_of g.E.Sink.tells (λ lent. g.E.Sink.taken lent.now) (λ lent. g.E.Sink.faults lent.now) (g.E.Sink.faults c.args.err.now)
+          (inner c.command-why.new.err) (inner c.put_closing.new.err) line c.put_closing.result
           g.O.Sink.tells (g.O.Sink.taken (inner c.command-why.new.out).now) later c.put_closing.ensures));
     }
 
@@ -42,30 +46,38 @@ returns-clause-unbuilt_closes g c = λ none.
     let out : (inner c.command-why.new.out).now ≡ c.args.out.now = ap (λ (lent : _). lent.now) (inner_same same.1 ∙ c.new-out.ensures.inner) in
     let err : (inner c.command-why.new.err).now ≡ c.args.err.now = ap (λ (lent : _). lent.now) (inner_same same.2 ∙ c.new-err.ensures.inner) in
     let later : g.E.Sink.faults c.args.err.now ≤ g.E.Sink.faults (inner c.command-why.new.err).now =
-    subst (λ (n : ℕ). n ≤ g.E.Sink.faults (inner c.command-why.new.err).now) (ap (λ (lent : _). g.E.Sink.faults lent.now) c.new-err.ensures.inner) c.command-why.ensures.err.later in
+    subst (λ (n : ℕ). n ≤ g.E.Sink.faults (inner c.command-why.new.err).now) (ap (λ (lent : _). g.E.Sink.faults lent.now) c.new-err.ensures.inner)
+    c.command-why.ensures.err.later in
     let line = closing c.args.words.now c.command-why.result in
     let before = g.E.Sink.faults c.args.err.now in
     let new_err = (inner c.put_closing.new.err).now in
     let out_tells = g.O.Sink.tells in
     let err_tells = g.E.Sink.tells in
-    subst (λ (e : _). Closes line (outputs out_tells (g.O.Sink.taken c.args.out.now) err_tells (g.E.Sink.taken c.args.err.now)) (outputs out_tells (g.O.Sink.taken c.out-2-1.given.0) err_tells (g.E.Sink.taken e)) before (g.E.Sink.faults e)) err_is
-    (subst (λ (o : _). Closes line (outputs out_tells (g.O.Sink.taken c.args.out.now) err_tells (g.E.Sink.taken c.args.err.now)) (outputs out_tells (g.O.Sink.taken o) err_tells (g.E.Sink.taken new_err)) before (g.E.Sink.faults new_err)) out_is
-    (subst (λ (e : _). Closes line (outputs out_tells (g.O.Sink.taken c.args.out.now) err_tells (g.E.Sink.taken e)) (outputs out_tells (g.O.Sink.taken (inner c.command-why.new.out).now) err_tells (g.E.Sink.taken new_err)) before (g.E.Sink.faults new_err)) err
-    (subst (λ (o : _). Closes line (outputs out_tells (g.O.Sink.taken o) err_tells (g.E.Sink.taken (inner c.command-why.new.err).now)) (outputs out_tells (g.O.Sink.taken (inner c.command-why.new.out).now) err_tells (g.E.Sink.taken new_err)) before (g.E.Sink.faults new_err)) out
-    (closes_of g.E.Sink.tells (λ lent. g.E.Sink.taken lent.now) (λ lent. g.E.Sink.faults lent.now) before (inner c.command-why.new.err) (inner c.put_closing.new.err) line c.put_closing.result
+    subst (λ (e : _). Closes line (outputs out_tells (g.O.Sink.taken c.args.out.now) err_tells (g.E.Sink.taken c.args.err.now))
+    (outputs out_tells (g.O.Sink.taken c.out-2-1.given.0) err_tells (g.E.Sink.taken e)) before (g.E.Sink.faults e)) err_is
+    (subst (λ (o : _). Closes line (outputs out_tells (g.O.Sink.taken c.args.out.now) err_tells (g.E.Sink.taken c.args.err.now))
+    (outputs out_tells (g.O.Sink.taken o) err_tells (g.E.Sink.taken new_err)) before (g.E.Sink.faults new_err)) out_is
+    (subst (λ (e : _). Closes line (outputs out_tells (g.O.Sink.taken c.args.out.now) err_tells (g.E.Sink.taken e))
+    (outputs out_tells (g.O.Sink.taken (inner c.command-why.new.out).now) err_tells (g.E.Sink.taken new_err)) before (g.E.Sink.faults new_err)) err
+    (subst (λ (o : _). Closes line (outputs out_tells (g.O.Sink.taken o) err_tells (g.E.Sink.taken (inner c.command-why.new.err).now))
+    (outputs out_tells (g.O.Sink.taken (inner c.command-why.new.out).now) err_tells (g.E.Sink.taken new_err)) before (g.E.Sink.faults new_err)) out
+    (closes_of g.E.Sink.tells (λ lent. g.E.Sink.taken lent.now) (λ lent. g.E.Sink.faults lent.now) before (inner c.command-why.new.err)
+    (inner c.put_closing.new.err) line c.put_closing.result
     out_tells (g.O.Sink.taken (inner c.command-why.new.out).now) later c.put_closing.ensures))))
 
 pub returns-clause-out_fault : goal.returns-clause-out_fault
 returns-clause-out_fault g c =
     let out_is : (inner c.command-why.new.out).now ≡ c.out-2-1.given.0 = search rules in
     subst (λ (o : _). HasCauseAt (c.command-why.result ≡ why.OutFault) (g.O.Sink.faults c.args.out.now) (g.O.Sink.faults o)) out_is
-    (subst (λ (n : ℕ). HasCauseAt (c.command-why.result ≡ why.OutFault) n (g.O.Sink.faults (inner c.command-why.new.out).now)) (ap (λ (lent : _). g.O.Sink.faults lent.now) c.new-out.ensures.inner) c.command-why.ensures.out)
+    (subst (λ (n : ℕ). HasCauseAt (c.command-why.result ≡ why.OutFault) n (g.O.Sink.faults (inner c.command-why.new.out).now))
+    (ap (λ (lent : _). g.O.Sink.faults lent.now) c.new-out.ensures.inner) c.command-why.ensures.out)
 
 pub returns-clause-err_fault : goal.returns-clause-err_fault
 returns-clause-err_fault g c =
     let err_is : (inner c.put_closing.new.err).now ≡ c.err-3-1.given.0 = search rules in
     let first : HasCauseAt (c.command-why.result ≡ why.ErrFault) (g.E.Sink.faults c.args.err.now) (g.E.Sink.faults (inner c.command-why.new.err).now) =
-    subst (λ (n : ℕ). HasCauseAt (c.command-why.result ≡ why.ErrFault) n (g.E.Sink.faults (inner c.command-why.new.err).now)) (ap (λ (lent : _). g.E.Sink.faults lent.now) c.new-err.ensures.inner) c.command-why.ensures.err in
+    subst (λ (n : ℕ). HasCauseAt (c.command-why.result ≡ why.ErrFault) n (g.E.Sink.faults (inner c.command-why.new.err).now))
+    (ap (λ (lent : _). g.E.Sink.faults lent.now) c.new-err.ensures.inner) c.command-why.ensures.err in
     let last : g.E.Sink.faults (inner c.command-why.new.err).now ≤ g.E.Sink.faults (inner c.put_closing.new.err).now = c.put_closing.ensures.cause.later in
     subst (λ (e : _). HasCauseAt (c.command-why.result ≡ why.ErrFault) (g.E.Sink.faults c.args.err.now) (g.E.Sink.faults e)) err_is
     (record { later = le_trans first.later last; rose = λ e. le_trans (first.rose e) last })
