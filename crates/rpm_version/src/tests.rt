@@ -101,7 +101,7 @@ fn epochs_decide_before_versions_and_versions_before_releases(rt: HostRuntime) {
 
 #[test]
 fn ranges_overlap_by_the_table(rt: HostRuntime) {
-    let cases: [(u32, &[u8], u32, &[u8], bool); 19] = [
+    let cases: [(u64, &[u8], u64, &[u8], bool); 19] = [
         (4, b"1.0-1", 8, b"1.0", true),
         (4, b"1.0-1", 8, b"1.0-", true),
         (4, b"1.0-1", 8, b"1.0-1", false),
