@@ -116,7 +116,7 @@ impl PkgDb {
     /// A file without units, or whose unit 0 is all zeros, is blank: a store of no pages and no packages, whose next number is 1.
     ///
     /// Reads 4096 bytes a page, each byte once, and at most unit 0 where the file is blank or its head is damaged. All slots are read
-    /// before the first damage is looked for, and room for them is taken first: 16 bytes a slot while opening, and 12 for as long as
+    /// before the first damage is looked for, and room for them is taken first: 32 bytes a slot while opening, and 12 for as long as
     /// the value lives. The time is n log n in the slots, whatever stands in them: two sorts show that no two of them meet. Where they
     /// don't, two ordered maps find the first damage, which takes about ten times as long.
     ///

@@ -8,7 +8,7 @@ use Rattle.rpm_header.specs.declared.form.HeaderFault.{HeaderFault}
 use Rattle.rpm_header.specs.Header.{Header, header}
 use Rattle.rpm_tags.specs.declared.kind.Kind.{Kind}
 use Rattle.rpm_tags.specs.declared.kind.Kind.TheVariants as kind
-use Rattle.rpm_tags.specs.Keys.{keys}
+use Rattle.rpm_tags.specs.Keys.{keys, number_key}
 use Rattle.rpm_tags.specs.Wanted.{base_name}
 use Rattle.rpm_version.specs.Capability.{CapabilityParts}
 use Rattle.rpm_db.specs.State.{Package, Good, Bad}
@@ -31,7 +31,7 @@ names_in x = x ∷ cut is_dot x ++ cut is_dash x ++ (if list_any is_dash x then 
 abbrev pub path_keys : CapabilityParts → List (Kind × List ℕ)
 path_keys c = if slice_index c.name 0 == 47 then (kind.Basenames, base_name c.name) ∷ [] else []
 
--- none: such a selection reads all packages; Directory, Tid and Recommends wait for their kinds
+-- none: such a selection reads all packages, or the one of its number
 unfoldable pub keys_asked : Selection → List (Kind × List ℕ)
 keys_asked (Label x) = map (λ name. (kind.Name, name)) (names_in x.now)
 keys_asked (Path x) = (kind.Basenames, base_name x.now) ∷ []
@@ -41,6 +41,9 @@ keys_asked (Requires c) = (kind.Requirename, c.name) ∷ []
 keys_asked (Conflicts c) = (kind.Conflictname, c.name) ∷ []
 keys_asked (Obsoletes c) = (kind.Obsoletename, c.name) ∷ []
 keys_asked (Trigger x) = (kind.Triggername, x.now) ∷ []
+keys_asked (Directory x) = (kind.Dirnames, x.now) ∷ []
+keys_asked (Tid t) = (kind.Installtid, number_key t) ∷ []
+keys_asked (Recommends c) = (kind.Recommendname, c.name) ∷ []
 keys_asked others = []
 
 abbrev pub has_key : Header → Kind × List ℕ → Bool
