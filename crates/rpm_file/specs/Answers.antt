@@ -1,15 +1,14 @@
 -- What a call answers that reads from a shelf. Only a failed read and want of memory come from elsewhere than the bytes.
-use Rattle.std.specs.Prelude.{◌≡◌, ℕ, ◌<◌, List, ◌++◌, length, Option, Some, None, Result, Ok, Err, Vec}
+use Rattle.std.specs.Prelude.{◌≡◌, ℕ, List, Option, Some, None, Result, Ok, Err, Vec}
 use Rattle.std.specs.declared.alloc.Global.{Global}
-use Rattle.rpm_header.specs.Header.{Header, header}
+use Rattle.rpm_header.specs.Header.{Header}
 use Rattle.rpm_file.specs.declared.fault.ListFault.{ListFault}
 use Rattle.rpm_file.specs.declared.fault.ListFault.TheVariants as of_list
 use Rattle.rpm_file.specs.declared.fault.FileFault.{FileFault}
 use Rattle.rpm_file.specs.declared.fault.FileFault.TheVariants as of_file
-use Rattle.rpm_file.specs.declared.fault.Part.{Part}
-use Rattle.rpm_file.specs.Browsing.{left, Takes}
-use Rattle.rpm_file.specs.List.{front_header, list_head}
-use Rattle.rpm_file.specs.Package.{Headed, headed, read_again}
+use Rattle.rpm_file.specs.Browsing.{left}
+use Rattle.rpm_file.specs.List.{list_head}
+use Rattle.rpm_file.specs.Package.{Headed}
 
 -- a fault is the definition's
 abbrev pub IsListFault : {X : Type 0} → Result X ListFault → ListFault → Type 0

@@ -1,15 +1,13 @@
 -- The entries of a signature header that join the main header behind its own.
-use Rattle.std.specs.Prelude.{◌≡◌, ℕ, ◌+◌, List, ◌++◌, length, Bool, true, false, ◌==◌, ◌&&◌, ◌||◌, nat_lt, nat_le, if◌then◌else◌, Option, Some, None, Result, Ok, Err, ◌<◌, slice_index_or}
+use Rattle.std.specs.Prelude.{ℕ, ◌+◌, List, ◌++◌, length, Bool, true, false, ◌==◌, ◌&&◌, ◌||◌, nat_lt, nat_le, if◌then◌else◌, Option, Some, None, Result, Ok, Err}
 use Rattle.std.specs.List.{list_any, filter_map}
 use Rattle.rpm_header.specs.declared.form.Form.{Form}
 use Rattle.rpm_header.specs.declared.form.Form.TheVariants as form
-use Rattle.rpm_header.specs.Header.{Item, Header, is_region_tag}
+use Rattle.rpm_header.specs.Header.{Item, Header}
 use Rattle.rpm_header.specs.Build.{retagged}
 use Rattle.rpm_header.specs.Dribbles.{dribbled, dribbled_data}
-use Rattle.rpm_header.specs.declared.laying.BuildFault.{BuildFault}
-use Rattle.rpm_header.specs.declared.laying.BuildFault.TheVariants as build
 use Rattle.rpm_file.specs.declared.fault.FileFault.{FileFault}
-use Rattle.rpm_file.specs.declared.fault.FileFault.TheVariants.{TooLarge, NoMemory}
+use Rattle.rpm_file.specs.declared.fault.FileFault.TheVariants.{TooLarge}
 
 -- the tag under which an entry of the signature header joins, by its own tag
 abbrev pub joins_as : ℕ → Option ℕ

@@ -17,10 +17,10 @@ pub enum FileFault {
     #[error("bad header magic")]
     BadMagic,
     /// The first fault of the signature header.
-    #[error("signature header: {0:?}")]
+    #[error("signature header: {0}")]
     Signature(HeaderFault),
     /// The first fault of the main header.
-    #[error("header: {0:?}")]
+    #[error("header: {0}")]
     Main(HeaderFault),
     /// The main header with the entries that join it would pass a limit of a header.
     #[error("header too large")]

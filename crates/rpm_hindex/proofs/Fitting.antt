@@ -1,5 +1,5 @@
 -- The rows of an index that is in order have room in one made from scratch.
-use Rattle.std.proofs.Common.{◌≡◌, ℕ, zero, suc, ◌+◌, ◌-◌, ◌*◌, ◌/◌, ◌^◌, ◌<◌, ◌≤◌, List, [], ◌∷◌, ◌++◌, length, length-append, map, take, leb, true, refl, sym, ap, ◌∙◌, arith, inl, inr}
+use Rattle.std.proofs.Common.{◌≡◌, ℕ, zero, suc, ◌+◌, ◌*◌, ◌/◌, ◌^◌, ◌≤◌, List, [], ◌∷◌, ◌++◌, length, length-append, map, leb, true, sym, ap, ◌∙◌, arith, inl, inr}
 use Rattle.std.specs.List.{sum_by}
 use Rattle.std.proofs.lemmas.Bool.{cases_lt, cond-true, cond-false, le-leb, lt-leb}
 use Rattle.std.proofs.lemmas.List.{length-map, length-take}
@@ -12,10 +12,9 @@ use Rattle.rpm_hindex.specs.declared.planning.Work.{Work}
 use Rattle.rpm_hindex.specs.declared.planning.Work.TheVariants.{InPlace, Scratch}
 use Rattle.rpm_hindex.specs.Words.{word}
 use Rattle.rpm_hindex.specs.Rows.{Row, times, SameRows}
-use Rattle.rpm_hindex.specs.Sizes.{doubled, bucket_count, is_bucket_count, first_record, live_of, units_for, record_units, key_units}
+use Rattle.rpm_hindex.specs.Sizes.{doubled, bucket_count, is_bucket_count, live_of, record_units, key_units}
 use Rattle.rpm_hindex.specs.Index.{Index, index_in, records, rows_of, row_at, all_places, units_at, length_at, run}
-use Rattle.rpm_hindex.specs.Whole.{IsWellFormed, IsWhole}
-use Rattle.rpm_hindex.specs.State.{is_ordered}
+use Rattle.rpm_hindex.specs.Whole.{IsWhole}
 use Rattle.rpm_hindex.specs.Plans.{CanWrite, LeavesOrder, IsPlanFor, HasChanged, after, buckets_after, second_after, units_after, after_tail, after_units}
 use Rattle.rpm_hindex.specs.inner.Changes.{HasLess}
 use Rattle.rpm_hindex.specs.Refusals.{HasRoomFor}

@@ -1,10 +1,10 @@
 -- The definitions of the index, computed on the units of one key: what they say doesn't come from the code.
 use Rattle.std.specs.Prelude.{◌≡◌, ℕ, List, [], ◌∷◌, ◌++◌, refl, replicate, true, false, Ok, Err}
 use Rattle.rpm_outside.specs.Files.{Units, unit_at, blank}
-use Rattle.rpm_hindex.specs.Words.{word, unit_of_words, bytes_of_word}
-use Rattle.rpm_hindex.specs.Rows.{Row, hash_of, times}
+use Rattle.rpm_hindex.specs.Words.{word}
+use Rattle.rpm_hindex.specs.Rows.{Row, hash_of}
 use Rattle.rpm_hindex.specs.Sizes.{index_units, bucket_count, is_bucket_count}
-use Rattle.rpm_hindex.specs.Index.{index_in, chain, is_sound, row_at, records, rows_of, all_places, places_of}
+use Rattle.rpm_hindex.specs.Index.{index_in, chain, is_sound, row_at}
 use Rattle.rpm_hindex.specs.State.{sealed, state_of, is_ordered, is_in_order, is_current}
 
 -- ---- sizes

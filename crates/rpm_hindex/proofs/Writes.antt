@@ -1,16 +1,13 @@
 -- What a torn write of Hindex.db leaves.
-use Rattle.std.proofs.Common.{◌≡◌, ℕ, ◌≤◌, List, [], ◌∷◌, length, Bool, refl, sym, ap, ◌∙◌, arith, inl, inr}
-use Rattle.std.specs.Prelude.{IsTrue}
+use Rattle.std.proofs.Common.{◌≡◌, ℕ, ◌≤◌, List, [], ◌∷◌, length, Bool, sym, ap, ◌∙◌, arith, inl, inr}
 use Rattle.std.proofs.lemmas.List.{get_or_past}
 use Rattle.std.proofs.lemmas.Bool.{cases_lt, cases_eq}
 use Rattle.rpm_outside.specs.declared.disk.File.{File}
 use Rattle.rpm_outside.specs.declared.disk.File.TheVariants.{Idx}
 use Rattle.rpm_outside.specs.Files.{Units, Files, unit_at, blank, put}
-use Rattle.rpm_outside.specs.Crash.{Torn, TornFile, Follows, Elapses}
+use Rattle.rpm_outside.specs.Crash.{Torn}
 use Rattle.rpm_outside.specs.inner.Puts.{length-put, put_before, put_inside, put_after}
 use Rattle.rpm_outside.specs.inner.PutLaws.{same_units}
-use Rattle.rpm_outside.specs.History.{torn_none}
-use Rattle.rpm_outside.specs.inner.Moments.{started, goes_on}
 use Rattle.rpm_outside.specs.Changes.{Changes, IsSame}
 use Rattle.rpm_outside.specs.inner.Changing.{changes_then}
 use Rattle.rpm_hindex.specs.Images.{SameSeal, VoidOrSame, SealedOrSame}

@@ -1,6 +1,6 @@
 -- How much is left of a glob and a text.
-use Rattle.std.proofs.Common.{◌≡◌, ℕ, suc, ◌+◌, ◌*◌, ◌<◌, ◌≤◌, Option, Some, None, arith}
-use Rattle.rpm_select.proofs.Back.{Back, tries, IsWithin}
+use Rattle.std.proofs.Common.{◌≡◌, ℕ, suc, ◌+◌, ◌*◌, ◌<◌, ◌≤◌, Some, None, arith}
+use Rattle.rpm_select.proofs.Back.{Back, IsWithin}
 
 pub left_within : (g t l : ℕ) (back : Back) → IsWithin g t l back → l ≤ t
 left_within g t l None w = w

@@ -1,5 +1,5 @@
 -- The definitions, computed on small globs and labels: what they say doesn't come from the code.
-use Rattle.std.specs.Prelude.{◌≡◌, ℕ, List, [], ◌∷◌, codes, Option, Some, None, true, false, refl}
+use Rattle.std.specs.Prelude.{◌≡◌, [], ◌∷◌, codes, Some, true, false, refl}
 use Rattle.rpm_select.specs.Glob.{glob, pieces_behind, piece_at}
 use Rattle.rpm_select.specs.Labels.{with_name, without, is_dash, is_dash_or_dot}
 

@@ -1,5 +1,5 @@
 -- The keys by which an index is asked for a selection, and the packages that have one of them.
-use Rattle.std.specs.Prelude.{ℕ, List, [], ◌∷◌, ◌++◌, map, filter, Bool, true, false, not, ◌&&◌, ◌==◌, if◌then◌else◌, slice_index, Result, Ok, Err}
+use Rattle.std.specs.Prelude.{ℕ, List, [], ◌∷◌, ◌++◌, map, filter, Bool, false, ◌==◌, if◌then◌else◌, slice_index, Result, Ok, Err}
 use Rattle.std.specs.List.{list_any, before_last}
 use Rattle.std.specs.Str.{bytes_eq}
 use Rattle.std.specs.Ordering.{nat_cmp}
@@ -13,7 +13,7 @@ use Rattle.rpm_tags.specs.Wanted.{base_name}
 use Rattle.rpm_version.specs.Capability.{CapabilityParts}
 use Rattle.rpm_db.specs.State.{Package, Good, Bad}
 use Rattle.rpm_select.specs.declared.selection.Selection.{Selection}
-use Rattle.rpm_select.specs.declared.selection.Selection.TheVariants.{All, Pattern, Label, Path, Group, Provides, Requires, Conflicts, Obsoletes, Trigger, Number, Directory, Tid, Recommends}
+use Rattle.rpm_select.specs.declared.selection.Selection.TheVariants.{Label, Path, Group, Provides, Requires, Conflicts, Obsoletes, Trigger, Directory, Tid, Recommends}
 use Rattle.rpm_select.specs.Labels.{is_dash}
 
 abbrev pub is_dot : ℕ → Bool

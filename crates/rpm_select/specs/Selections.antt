@@ -1,5 +1,5 @@
 -- Which packages a question picks.
-use Rattle.std.specs.Prelude.{ℕ, List, [], ◌∷◌, ◌++◌, map, filter, Bool, true, false, not, ◌&&◌, ◌||◌, ◌==◌, nat_le, slice_index, Option, Some, None, Result, Ok, Err}
+use Rattle.std.specs.Prelude.{ℕ, List, filter, Bool, true, false, not, ◌&&◌, ◌||◌, ◌==◌, slice_index, Option, Some, None, Result, Ok, Err}
 use Rattle.std.specs.List.{list_any}
 use Rattle.std.specs.Str.{bytes_eq}
 use Rattle.std.specs.Ordering.{nat_cmp}
@@ -10,7 +10,7 @@ use Rattle.rpm_tags.specs.declared.needed.Tags.{Tags}
 use Rattle.rpm_tags.specs.Value.{first_text, texts_in, numbers_in}
 use Rattle.rpm_tags.specs.Wanted.{Needed, listed, has_file, dependencies}
 use Rattle.rpm_version.specs.Capability.{CapabilityParts}
-use Rattle.rpm_version.specs.Range.{has_less, has_greater, has_equal, overlaps}
+use Rattle.rpm_version.specs.Range.{overlaps}
 use Rattle.rpm_db.specs.State.{Package, Good, Bad}
 use Rattle.rpm_select.specs.declared.selection.Selection.{Selection}
 use Rattle.rpm_select.specs.declared.selection.Selection.TheVariants.{All, Pattern, Label, Path, Group, Provides, Requires, Conflicts, Obsoletes, Trigger, Number, Directory, Tid, Recommends}

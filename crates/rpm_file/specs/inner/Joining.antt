@@ -1,5 +1,5 @@
 -- What the calls that join entries keep and answer.
-use Rattle.std.specs.Prelude.{◌≡◌, ℕ, List, length, Bool, false, if◌then◌else◌, Option, Some, None, ◌<◌, slice_index_or}
+use Rattle.std.specs.Prelude.{◌≡◌, ℕ, List, length, Bool, false, Option, Some, None, ◌<◌, slice_index_or}
 use Rattle.rpm_header.specs.declared.form.Form.TheVariants as form
 use Rattle.rpm_header.specs.Header.{Item, is_region_tag}
 use Rattle.rpm_header.specs.Build.{retagged}

@@ -15,9 +15,8 @@ use Rattle.rpm_hindex.specs.declared.faults.PrepareFault.TheVariants.{IndexFull,
 use Rattle.rpm_hindex.specs.Words.{word, unit_of_words}
 use Rattle.rpm_hindex.specs.Rows.{Row, times, same_row}
 use Rattle.rpm_hindex.specs.Sizes.{first_record, bucket_count, units_for}
-use Rattle.rpm_hindex.specs.Plans.{HasChanged}
 use Rattle.rpm_hindex.specs.inner.Drafts.{IsImage}
-use Rattle.rpm_hindex.specs.Index.{Index, index_in, chain, is_link, row_at, bucket_unit, all_places, places_of, rows_of, units_at}
+use Rattle.rpm_hindex.specs.Index.{Index, index_in, is_link, row_at, bucket_unit, all_places, places_of, rows_of, units_at}
 use Rattle.rpm_hindex.specs.Whole.{IsWhole}
 
 -- ---- links

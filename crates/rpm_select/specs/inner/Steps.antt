@@ -1,5 +1,5 @@
 -- How a glob is gone through.
-use Rattle.std.specs.Prelude.{◌≡◌, ◌≢◌, ℕ, ◌<◌, List, [], ◌∷◌, length, Bool, true, false, Option, Some, None}
+use Rattle.std.specs.Prelude.{◌≡◌, ◌≢◌, ℕ, ◌<◌, List, [], ◌∷◌, length, true, false}
 use Rattle.rpm_select.specs.declared.matching.Move.{Move}
 use Rattle.rpm_select.specs.declared.matching.Move.TheVariants.{Done, Starred, Taken, Short, Stuck}
 use Rattle.rpm_select.specs.inner.Unclosed.{IsUnclosed}

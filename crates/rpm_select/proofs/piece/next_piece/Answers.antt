@@ -1,7 +1,7 @@
-use Rattle.std.proofs.Common.{◌≡◌, ℕ, ◌<◌, List, ◌∷◌, length, drop, get_or, ap, sym, ◌∙◌, arith, eqb-true}
+use Rattle.std.proofs.Common.{ℕ, ◌<◌, List, ◌∷◌, length, get_or, ap, sym, ◌∙◌, arith}
 use Rattle.std.proofs.lemmas.Bool.Decides.{nat_tests}
-use Rattle.rpm_select.specs.Glob.{pieces, Piece, piece_at}
-use Rattle.rpm_select.specs.inner.Pieces.{piece_in, written_in}
+use Rattle.rpm_select.specs.Glob.{pieces, piece_at}
+use Rattle.rpm_select.specs.inner.Pieces.{written_in}
 use Rattle.rpm_select.proofs.Going.{none_cut, one_cut}
 use Rattle.rpm_select.proofs.Members.{rest_is}
 use Rattle.rpm_select.proofs.piece.next_piece.Goals as goal

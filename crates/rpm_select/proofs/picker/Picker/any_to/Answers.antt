@@ -1,13 +1,13 @@
-use Rattle.std.proofs.Common.{◌≡◌, ℕ, ◌+◌, ◌-◌, ◌≤◌, List, true, false, Some, None, refl, sym, ap, subst, ◌∙◌, arith}
+use Rattle.std.proofs.Common.{◌≡◌, Some, refl, sym, ap, subst, ◌∙◌, arith}
 use Rattle.std.specs.FinMap as finite
 use Rattle.rpm_outside.specs.Files.{Files}
 use Rattle.rpm_outside.specs.inner.Looking.{looks_none, looks_then, looks_more}
-use Rattle.rpm_db.specs.State.{Package, packages}
+use Rattle.rpm_db.specs.State.{packages}
 use Rattle.rpm_db.specs.Database.{cost, cost_to}
 use Rattle.rpm_db.specs.inner.Laws.{cost_more, cost_up}
 use Rattle.rpm_outside.specs.declared.disk.File.TheVariants.{Pkg}
 use Rattle.rpm_select.proofs.Owning.{own_then, own_all}
-use Rattle.rpm_select.proofs.Picking.{any_to, left, above_picks, next_package, passed_one, none_above, past_all, one_to}
+use Rattle.rpm_select.proofs.Picking.{any_to, above_picks, next_package, passed_one, none_above, past_all, one_to}
 use Rattle.rpm_select.proofs.picker.Picker.any_to.Goals as goal
 
 pub loop-next-init : goal.loop-next-init

@@ -1,4 +1,4 @@
-use Rattle.std.proofs.Common.{◌≡◌, ℕ, ◌+◌, ◌-◌, ◌≤◌, ◌∷◌, List, true, false, Some, None, is_some, sym, ap, subst, ◌∙◌, arith}
+use Rattle.std.proofs.Common.{◌≡◌, ℕ, ◌-◌, ◌∷◌, Some, sym, ap, subst, ◌∙◌, arith}
 use Rattle.std.specs.FinMap as finite
 use Rattle.rpm_outside.specs.Files.{Files}
 use Rattle.rpm_outside.specs.Looks.{Looks}
@@ -6,7 +6,6 @@ use Rattle.rpm_outside.specs.inner.Looking.{looks_then, looks_more}
 use Rattle.rpm_db.specs.State.{Package, packages}
 use Rattle.rpm_db.specs.Database.{cost, cost_to, cost_all}
 use Rattle.rpm_db.specs.inner.Laws.{cost_more, cost_some}
-use Rattle.rpm_select.specs.Picks.{number_in, entry_in}
 use Rattle.rpm_outside.specs.declared.disk.File.TheVariants.{Pkg}
 use Rattle.rpm_select.proofs.Owning.{own_then, own_all}
 use Rattle.rpm_select.proofs.Picking.{left, above_picks, next_package, passed_one, picked_one, none_above}
