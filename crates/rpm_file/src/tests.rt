@@ -28,13 +28,17 @@ fn lead(alloc: Global) -> Result<Vec<u8>, Fail> {
     Ok(lead)
 }
 
-fn package(alloc: Global) -> Result<Vec<u8>, Fail> {
+fn package_of(alloc: Global, signature: &[u8], head: &[u8]) -> Result<Vec<u8>, Fail> {
     let mut file = lead(alloc)?;
     file.extend_from_slice(&MAGIC)?;
-    file.extend_from_slice(&SIGNATURE)?;
+    file.extend_from_slice(signature)?;
     file.extend_from_slice(&MAGIC)?;
-    file.extend_from_slice(&HEADER)?;
+    file.extend_from_slice(head)?;
     Ok(file)
+}
+
+fn package(alloc: Global) -> Result<Vec<u8>, Fail> {
+    package_of(alloc, &SIGNATURE, &HEADER)
 }
 
 // In whole pieces, and one byte at a time.
@@ -68,21 +72,74 @@ fn with_bytes(alloc: Global, bytes: &[u8], changes: &[(usize, u8)]) -> Result<Ve
     Ok(wrong)
 }
 
+// An entry of the index.
+fn entry(tag: u16, form: u8, offset: u8, count: u8) -> [u8; 16] {
+    let [high, low] = tag.to_be_bytes();
+    [
+        0, 0, high, low, 0, 0, 0, form, 0, 0, 0, offset, 0, 0, 0, count,
+    ]
+}
+
+// A header of four entries and 8 bytes of data, with the number 88 behind them under this tag.
+fn joined(alloc: Global, head: &[u8; 80], tag: u16) -> Result<Vec<u8>, Fail> {
+    let mut bytes = [0, 0, 0, 5, 0, 0, 0, 12].to_vec(alloc)?;
+    bytes.extend_from_slice(&head[8..72])?;
+    bytes.extend_from_slice(&entry(tag, 4, 8, 1))?;
+    bytes.extend_from_slice(&head[72..])?;
+    bytes.extend_from_slice(&[0, 0, 0, 0x58])?;
+    Ok(bytes)
+}
+
 #[test]
 fn a_package_has_its_main_header_and_what_joins_it(rt: HostRuntime) -> Result<(), Fail> {
     let alloc = rt.alloc();
     let mut file = package(alloc)?;
     assert_eq!(rt; file.len(), 224);
     file.push(7)?;
+    let wanted = joined(alloc, &HEADER, 257)?;
     for most in PIECES {
         let mut shelf = opened(alloc, &file, most)?;
         let package = read_package(alloc, &mut shelf)?;
-        let header = package.header();
-        assert_eq!(rt; first(header, 8), [0, 0, 0, 5, 0, 0, 0, 12].as_slice());
-        assert!(rt; header.ends_with(&[0x78, 0, 0, 0, 0, 0x58]));
+        assert_eq!(rt; package.header(), wanted.as_slice());
         let mut into = [0u8; 2];
         assert_eq!(rt; shelf.read(&mut into), Ok(1));
         assert_eq!(rt; into[0], 7);
+    }
+    Ok(())
+}
+
+// The tag of the signature's entry, the tag of the main header's last entry, and the tag under which the first joins.
+const JOINS: [(u16, u16, Option<u16>); 11] = [
+    (1000, 1022, Some(257)),
+    (1004, 1022, Some(261)),
+    (1007, 1022, Some(1046)),
+    (256, 1022, Some(256)),
+    (999, 1022, Some(999)),
+    (255, 1022, None),
+    (1001, 1022, None),
+    // it is the tag that it gets that the main header must not have
+    (257, 257, None),
+    (1000, 257, None),
+    (1007, 1046, None),
+    (1004, 1004, Some(261)),
+];
+
+#[test]
+fn an_entry_joins_under_its_tag(rt: HostRuntime) -> Result<(), Fail> {
+    let alloc = rt.alloc();
+    for (tag, last, joins) in JOINS {
+        let mut signature = SIGNATURE;
+        [signature[10], signature[11]] = tag.to_be_bytes();
+        let mut head = HEADER;
+        [head[58], head[59]] = last.to_be_bytes();
+        let file = package_of(alloc, &signature, &head)?;
+        let mut shelf = opened(alloc, &file, 65_536)?;
+        let wanted = match joins {
+            Some(under) => joined(alloc, &head, under)?,
+            None => head.to_vec(alloc)?,
+        };
+        let package = read_package(alloc, &mut shelf)?;
+        assert_eq!(rt; package.header(), wanted.as_slice(), "tag {tag}");
     }
     Ok(())
 }
@@ -179,20 +236,12 @@ fn a_package_with_wrong_bytes_has_its_first_fault(rt: HostRuntime) -> Result<(),
     Ok(())
 }
 
-// An entry of the index.
-fn entry(tag: u16, form: u8, offset: u8, count: u8) -> [u8; 16] {
-    let [high, low] = tag.to_be_bytes();
-    [
-        0, 0, high, low, 0, 0, 0, form, 0, 0, 0, offset, 0, 0, 0, count,
-    ]
-}
-
 #[test]
 fn entries_of_each_form_join_in_their_order(rt: HostRuntime) -> Result<(), Fail> {
     let alloc = rt.alloc();
     let mut file = lead(alloc)?;
     file.extend_from_slice(&MAGIC)?;
-    file.extend_from_slice(&[0, 0, 0, 10, 0, 0, 0, 36])?;
+    file.extend_from_slice(&[0, 0, 0, 11, 0, 0, 0, 40])?;
     for (tag, form, offset, count) in [
         (270, 5, 0, 1),
         (269, 6, 8, 1),
@@ -205,14 +254,16 @@ fn entries_of_each_form_join_in_their_order(rt: HostRuntime) -> Result<(), Fail>
         (303, 0, 0, 0),
         (304, 9, 29, 1),
         (1000, 4, 32, 1),
+        // two entries that become one tag both join
+        (257, 4, 36, 1),
     ] {
         file.extend_from_slice(&entry(tag, form, offset, count))?;
     }
     file.extend_from_slice(b"\0\0\0\0\0\0\0\x05ab\0\x01\x02\x03\0\0\0\0\0\x07")?;
-    file.extend_from_slice(b"\0\x01\0\x02c\0d\0\x09e\0\0\0\0\0\x58\0\0\0\0")?;
+    file.extend_from_slice(b"\0\x01\0\x02c\0d\0\x09e\0\0\0\0\0\x58\0\0\0\x59")?;
     file.extend_from_slice(&MAGIC)?;
     file.extend_from_slice(&HEADER)?;
-    let mut wanted = [0, 0, 0, 12, 0, 0, 0, 40].to_vec(alloc)?;
+    let mut wanted = [0, 0, 0, 13, 0, 0, 0, 44].to_vec(alloc)?;
     wanted.extend_from_slice(&HEADER[8..72])?;
     for (tag, form, offset, count) in [
         (270, 5, 8, 1),
@@ -223,15 +274,18 @@ fn entries_of_each_form_join_in_their_order(rt: HostRuntime) -> Result<(), Fail>
         (302, 2, 30, 1),
         (304, 9, 31, 1),
         (257, 4, 36, 1),
+        (257, 4, 40, 1),
     ] {
         wanted.extend_from_slice(&entry(tag, form, offset, count))?;
     }
     wanted.extend_from_slice(&HEADER[72..])?;
     wanted.extend_from_slice(b"\0\0\0\0\0\0\0\x05ab\0\x01\x02\x03")?;
-    wanted.extend_from_slice(b"\0\x01\0\x02c\0d\0\x09e\0\0\0\0\0\0\0\x58")?;
-    let mut shelf = opened(alloc, &file, u32::MAX)?;
-    let package = read_package(alloc, &mut shelf)?;
-    assert_eq!(rt; package.header(), wanted.as_slice());
+    wanted.extend_from_slice(b"\0\x01\0\x02c\0d\0\x09e\0\0\0\0\0\0\0\x58\0\0\0\x59")?;
+    for most in PIECES {
+        let mut shelf = opened(alloc, &file, most)?;
+        let package = read_package(alloc, &mut shelf)?;
+        assert_eq!(rt; package.header(), wanted.as_slice());
+    }
     Ok(())
 }
 
@@ -274,32 +328,51 @@ fn a_list_gives_its_headers_and_its_end(rt: HostRuntime) -> Result<(), Fail> {
     Ok(())
 }
 
+// How many headers a list gives, and the fault behind them.
+fn walk(alloc: Global, shelf: &mut MemShelf) -> (u32, Option<ListFault>) {
+    for given in 0..3 {
+        match next_header(alloc, shelf) {
+            Ok(Some(_)) => {}
+            Ok(None) => return (given, None),
+            Err(fault) => return (given, Some(fault)),
+        }
+    }
+    (3, None)
+}
+
+// What is answered for the first bytes of a list of two headers, where it has this byte in place of its own.
+const LISTS: [(usize, (usize, u8), u32, Option<ListFault>); 13] = [
+    (0, (0, 0x8e), 0, None),
+    (4, (0, 0x8e), 0, Some(ListFault::Short)),
+    (12, (0, 0x8e), 0, Some(ListFault::Short)),
+    (87, (0, 0x8e), 0, Some(ListFault::Short)),
+    (88, (0, 0x8e), 1, None),
+    (92, (0, 0x8e), 1, Some(ListFault::Short)),
+    (100, (0, 0x8e), 1, Some(ListFault::Short)),
+    (175, (0, 0x8e), 1, Some(ListFault::Short)),
+    (176, (0, 0), 0, Some(ListFault::BadMagic)),
+    (176, (88, 0), 1, Some(ListFault::BadMagic)),
+    (176, (9, 1), 0, Some(ListFault::TooManyEntries)),
+    (176, (12, 4), 0, Some(ListFault::TooMuchData)),
+    // an entry of a type that no header has: a list is not parsed
+    (176, (23, 10), 2, None),
+];
+
 #[test]
 fn a_list_that_is_wrong_is_told(rt: HostRuntime) -> Result<(), Fail> {
     let alloc = rt.alloc();
-    let list = [MAGIC, [0, 0, 0, 1, 0, 0, 0, 0], [0; 8]].concat(alloc)?;
-    for (lengths, fault) in [
-        ([0, 1, 0, 0, 0, 0, 0, 0], ListFault::TooManyEntries),
-        ([0, 0, 0, 0, 4, 0, 0, 1], ListFault::TooMuchData),
+    let list = [MAGIC.as_slice(), &HEADER, &MAGIC, &HEADER].concat(alloc)?;
+    for most in PIECES {
+        for (cut, change, given, fault) in LISTS {
+            let wrong = with_bytes(alloc, first(&list, cut), &[change])?;
+            let mut shelf = opened(alloc, &wrong, most)?;
+            assert_eq!(rt; walk(alloc, &mut shelf), (given, fault), "{cut} bytes");
+        }
         // 16 bytes that claim 68,157,432
-        ([0, 0, 0xff, 0xff, 4, 0, 0, 0], ListFault::Short),
-        ([0, 0, 0, 1, 0, 0, 0, 0], ListFault::Short),
-    ] {
-        let mut shelf = opened(alloc, &[MAGIC, lengths].concat(alloc)?, 1)?;
-        assert_eq!(rt; next_header(alloc, &mut shelf).err(), Some(fault));
+        let hostile = [MAGIC, [0, 0, 0xff, 0xff, 4, 0, 0, 0]].concat(alloc)?;
+        let mut shelf = opened(alloc, &hostile, most)?;
+        assert_eq!(rt; walk(alloc, &mut shelf), (0, Some(ListFault::Short)));
     }
-    for cut in [4, 12, 23] {
-        let mut shelf = opened(alloc, first(&list, cut), 1)?;
-        assert_eq!(rt;
-            next_header(alloc, &mut shelf).err(),
-            Some(ListFault::Short)
-        );
-    }
-    let mut shelf = opened(alloc, &[0; 16], 1)?;
-    assert_eq!(rt;
-        next_header(alloc, &mut shelf).err(),
-        Some(ListFault::BadMagic)
-    );
     Ok(())
 }
 
@@ -307,11 +380,24 @@ fn a_list_that_is_wrong_is_told(rt: HostRuntime) -> Result<(), Fail> {
 fn a_failed_read_is_told(rt: HostRuntime) -> Result<(), Fail> {
     let alloc = rt.alloc();
     let file = package(alloc)?;
-    for read in 1..7 {
-        let mut shelf = opened(alloc, &file, 4096)?;
-        shelf.fail_read(read);
-        let answer = read_package(alloc, &mut shelf).err();
-        assert_eq!(rt; answer, Some(FileFault::ReadFault), "read {read}");
+    // in whole pieces, and one byte at a time
+    for (most, behind) in [(65_536, 7), (1, 225)] {
+        for read in 1..behind {
+            let mut shelf = opened(alloc, &file, most)?;
+            shelf.fail_read(read);
+            let answer = read_package(alloc, &mut shelf).err();
+            assert_eq!(rt; answer, Some(FileFault::ReadFault), "read {read}");
+        }
+    }
+    let list = [MAGIC.as_slice(), &HEADER, &MAGIC, &HEADER].concat(alloc)?;
+    // one more read sees the end
+    for (most, behind) in [(65_536, 6), (1, 178)] {
+        for read in 1..behind {
+            let mut shelf = opened(alloc, &list, most)?;
+            shelf.fail_read(read);
+            let (_, fault) = walk(alloc, &mut shelf);
+            assert_eq!(rt; fault, Some(ListFault::ReadFault), "read {read}");
+        }
     }
     Ok(())
 }
