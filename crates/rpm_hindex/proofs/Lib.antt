@@ -28,6 +28,7 @@ pub mod Costing
 pub mod Same
 pub mod Fitting
 mod Fixtures
+pub mod Sealed
 pub mod Dropping
 pub mod Drops
 pub mod Keeping
