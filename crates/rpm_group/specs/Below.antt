@@ -5,9 +5,10 @@ use Rattle.rpm_outside.specs.declared.disk.File.{File}
 use Rattle.rpm_outside.specs.Files.{Files}
 use Rattle.rpm_outside.specs.Crash.{Untouched, LeavesOnly, bytes_for}
 
--- the disk below has the same contents, images and moment, of each file at most as many bytes were read there as here, and it follows itself
+-- the disk below has the same contents, images and moment, of each file at most as many bytes were read there as here, it follows itself,
+-- and its count of faults didn't fall
 pub record KeepsBelow {D : Type 0} (tells : Bool) (files : D → Files) (moment : D → ℕ) (left_since : D → ℕ → Files → Type 0) (bytes_read : D → File
-    → ℕ) (follows : D → D → Type 0) (old new : D) (read_old read_new : File → ℕ) : Type 0 where
+    → ℕ) (follows : D → D → Type 0) (faults : D → ℕ) (old new : D) (read_old read_new : File → ℕ) : Type 0 where
   pub same : IsTrue tells → files new ≡ files old
   pub images : IsTrue tells → (t : ℕ) (image : Files) → left_since new t image → left_since old t image
   pub kept : IsTrue tells → (t : ℕ) (image : Files) → left_since old t image → left_since new t image
@@ -15,10 +16,11 @@ pub record KeepsBelow {D : Type 0} (tells : Bool) (files : D → Files) (moment 
   pub reads_later : (f : File) → read_old f ≤ read_new f
   pub reads : (f : File) → (bytes_read new f + read_old f ≤ bytes_read old f + read_new f) ⊎ (2 ^ 64 - 1 ≤ read_new f)
   pub below : follows old new
+  pub later : faults old ≤ faults new
 
 module _ {D : Type 0} (tells : Bool) (files : D → Files) (moment : D → ℕ) (left_since : D → ℕ → Files → Type 0) (bytes_read : D → File → ℕ)
-    (follows : D → D → Type 0) where
-  pub keeps_refl : (disk : D) (read : File → ℕ) → follows disk disk → KeepsBelow tells files moment left_since bytes_read follows disk disk read read
+    (follows : D → D → Type 0) (faults : D → ℕ) where
+  pub keeps_refl : (disk : D) (read : File → ℕ) → follows disk disk → KeepsBelow tells files moment left_since bytes_read follows faults disk disk read read
   keeps_refl disk read below = record {
     same = λ told. refl;
     images = λ told t image left. left;
@@ -27,11 +29,12 @@ module _ {D : Type 0} (tells : Bool) (files : D → Files) (moment : D → ℕ) 
     reads_later = λ f. omega arith;
     reads = λ f. inl (omega arith);
     below = below;
+    later = omega arith;
   }
 
   pub keeps_trans : ((a b c : D) → follows a b → follows b c → follows a c) → (a b c : D) (ra rb rc : File → ℕ)
-      → KeepsBelow tells files moment left_since bytes_read follows a b ra rb → KeepsBelow tells files moment left_since bytes_read follows b c rb rc
-      → KeepsBelow tells files moment left_since bytes_read follows a c ra rc
+      → KeepsBelow tells files moment left_since bytes_read follows faults a b ra rb → KeepsBelow tells files moment left_since bytes_read follows faults b c rb rc
+      → KeepsBelow tells files moment left_since bytes_read follows faults a c ra rc
   keeps_trans trans a b c ra rb rc first second = record {
     same = λ told. second.same told ∙ first.same told;
     images = λ told t image left. first.images told t image (second.images told t image left);
@@ -41,14 +44,15 @@ module _ {D : Type 0} (tells : Bool) (files : D → Files) (moment : D → ℕ) 
     reads = λ f. ⊎_elim (λ one. ⊎_elim (λ two. inl (omega (arith, one, two))) (λ two. inr two) (second.reads f))
         (λ one. inr (omega (arith, one, second.reads_later f))) (first.reads f);
     below = trans a b c first.below second.below;
+    later = omega (arith, first.later, second.later);
   }
 
 -- what a stop may leave of the disk below, while calls go to the overlay
 pub below_leaves : {D : Type 0} (tells : Bool) (files : D → Files) (moment : D → ℕ) (left_since : D → ℕ → Files → Type 0) (bytes_read : D → File → ℕ)
-    (follows : D → D → Type 0) (old new : D) (ro rn : File → ℕ) (P : Files → Type 0)
-    → IsTrue tells → KeepsBelow tells files moment left_since bytes_read follows old new ro rn
+    (follows : D → D → Type 0) (faults : D → ℕ) (old new : D) (ro rn : File → ℕ) (P : Files → Type 0)
+    → IsTrue tells → KeepsBelow tells files moment left_since bytes_read follows faults old new ro rn
     → ((image : Files) → left_since old (moment old) image → P image) → LeavesOnly moment left_since old new P
-below_leaves tells files moment left_since bytes_read follows old new ro rn P told keeps here = record {
+below_leaves tells files moment left_since bytes_read follows faults old new ro rn P told keeps here = record {
   later = omega (arith, keeps.moment_same);
   each = λ image left. here image (keeps.images told (moment old) image left);
   before = λ t image le left. inl (keeps.images told t image left);

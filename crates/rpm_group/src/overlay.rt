@@ -115,7 +115,7 @@ impl<D: Disk> Disk for Overlay<D> {
 
     ghost faults = { λ disk. D.faults disk.below + disk.starved };
 
-    ghost follows = { λ old new. KeepsBelow D.tells D.files D.moment D.left_since D.bytes_read D.follows old.below new.below (overlay_read old)
+    ghost follows = { λ old new. KeepsBelow D.tells D.files D.moment D.left_since D.bytes_read D.follows D.faults old.below new.below (overlay_read old)
         (overlay_read new) };
 
     ghost outcome = { StarvesOrHolds };
@@ -124,10 +124,10 @@ impl<D: Disk> Disk for Overlay<D> {
 
     ghost earlier = { λ disk s t image told le below left. left };
 
-    ghost follows_refl = { λ disk. keeps_refl D.tells D.files D.moment D.left_since D.bytes_read D.follows disk.below (overlay_read disk)
+    ghost follows_refl = { λ disk. keeps_refl D.tells D.files D.moment D.left_since D.bytes_read D.follows D.faults disk.below (overlay_read disk)
         (D.follows_refl disk.below) };
 
-    ghost follows_trans = { λ a b c f g. keeps_trans D.tells D.files D.moment D.left_since D.bytes_read D.follows D.follows_trans a.below b.below
+    ghost follows_trans = { λ a b c f g. keeps_trans D.tells D.files D.moment D.left_since D.bytes_read D.follows D.faults D.follows_trans a.below b.below
         c.below (overlay_read a) (overlay_read b) (overlay_read c) f g };
 
     fn len(&mut self, file: File) -> Result<u64, Failed> {

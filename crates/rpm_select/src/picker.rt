@@ -1,6 +1,6 @@
 //! The packages that a question picks, one at a time.
 
-ghost use Rattle.std.specs.Prelude.{◌≡◌, ◌≢◌, ℕ, IsTrue, IsOk, IfOk, false, true, Ok, Err, Some};
+ghost use Rattle.std.specs.Prelude.{◌≡◌, ◌≢◌, ℕ, ◌<◌, IsTrue, IsOk, IfOk, IfSome, false, true, Ok, Err, Some};
 ghost use Rattle.std.specs.FinMap as finite;
 ghost use Rattle.rpm_outside.specs.Causes.{HasCauseAt};
 ghost use Rattle.rpm_outside.specs.declared.disk.File.TheVariants.{Pkg};
@@ -8,7 +8,7 @@ ghost use Rattle.rpm_outside.specs.Looks.{Looks};
 ghost use Rattle.rpm_db.specs.State.{Package, Bad, packages, package_of, above};
 ghost use Rattle.rpm_db.specs.Database.{Keeps, holds, cost, cost_to};
 ghost use Rattle.rpm_select.specs.Selections.{picks, takes_bad, is_elsewhere};
-ghost use Rattle.rpm_select.specs.Picks.{NextIs, AnyIs, cost_after, ReadsOwn, is_broken};
+ghost use Rattle.rpm_select.specs.Picks.{NextIs, AnyIs, number_in, cost_after, ReadsOwn, is_broken};
 ghost use Rattle.rpm_select.specs.inner.Single.{OneIs, TakenIs, IsNumbered};
 
 use crate::rows::takes_header;
@@ -206,6 +206,7 @@ impl Picker {
         ensures kept { IsTrue D.tells → Keeps (D.files disk.new).pkg db.now }
         ensures begins { IsOk result }
         ensures looks { Looks D.tells D.files D.left_since D.moment D.bytes_read D.follows Pkg 0 disk.old disk.new }
+        ensures cause { HasCauseAt (result ≡ Err PickFault.DiskFault) (D.faults disk.old) (D.faults disk.new) }
     {
         Ok(Picker {})
     }
@@ -232,6 +233,7 @@ impl Picker {
         requires runs { db.now.stopped ≡ false }
         ensures kept { IsTrue D.tells → Keeps (D.files disk.new).pkg db.now }
         ensures told { IsTrue D.tells → NextIs (above n (picks (packages (D.files disk.old).pkg db.now.store) selection.now)) result }
+        ensures rises { IfOk result (λ o. IfSome o (λ picked. n < number_in picked)) }
         ensures looks { Looks D.tells D.files D.left_since D.moment D.bytes_read D.follows Pkg (cost_after n db.now result) disk.old disk.new }
         ensures own { ReadsOwn selection.now db.now (D.bytes_read disk.old File.Pkg) (D.bytes_read disk.new File.Pkg) }
         ensures unbroken { is_broken result ≡ false }

@@ -17,8 +17,9 @@ use Rattle.rpm_qfparse.specs.Moves.{condition, move_of}
 use Rattle.rpm_qfparse.specs.Format.{format, reading}
 use Rattle.rpm_qfeval.specs.Meaning.{sizes, bytes, meaning}
 use Rattle.rpm_tool.specs.Asked.{label_format, list_format}
-use Rattle.rpm_tool.specs.Installed.{Good, read_as}
-use Rattle.rpm_tool.specs.Steps.{ToOut, ToErr, bearer, sizes_line, step_of}
+use Rattle.rpm_db.specs.State.{Good}
+use Rattle.rpm_tool.specs.Steps.{ToOut, ToErr, bearer}
+use Rattle.rpm_tool.specs.Queries.{sizes_line, printed, step_of}
 use Rattle.rpm_tool.proofs.Fixtures.{small}
 
 -- a tag, as it is
@@ -40,16 +41,16 @@ list : format list_format ≡ Ok list_tree
 unfolding whole line_of list_tree list_format format reading move_of condition tag_part number_of after_number table show_in name.table name.tag_in
 list = refl
 
-its_line : step_of (line_of Nvra) 2 (read_as (header (small 6))) ≡ ToOut (bearer 2) (codes "a-1-2.x\n")
+its_line : step_of (line_of Nvra) 1 (2, Good (small 6)) ≡ ToOut (bearer 1 2) (codes "a-1-2.x\n")
 unfolding whole line_of small header header_of entries entry_of entry_fault fault_at number_at numbers texts are_ended sizes bytes stored texts_in first_text
 its_line = refl
 
 -- a name that isn't a text counts for nothing
-no_name : step_of (line_of Nvra) 2 (read_as (header (small 4))) ≡ ToOut (bearer 2) (codes "(none)\n")
+no_name : step_of (line_of Nvra) 1 (2, Good (small 4)) ≡ ToOut (bearer 1 2) (codes "(none)\n")
 unfolding whole line_of small header header_of entries entry_of entry_fault fault_at number_at numbers texts are_ended sizes bytes stored texts_in first_text
 no_name = refl
 
-no_files : step_of list_tree 2 (read_as (header (small 6))) ≡ ToOut (bearer 2) (codes "(contains no files)\n")
+no_files : step_of list_tree 1 (2, Good (small 6)) ≡ ToOut (bearer 1 2) (codes "(contains no files)\n")
 unfolding whole line_of list_tree small header header_of entries entry_of entry_fault fault_at number_at numbers texts are_ended sizes bytes stored
     texts_in numbers_in
 no_files = refl
@@ -66,6 +67,6 @@ both : Tree
 both = Bracket (Shown (whole (Stored 1000)) (Shown (whole (Stored 1049)) End)) End
 
 differs : (meaning needy 2 both ≡ Err (1, 2))
-    × (step_of both 2 (Good needy) ≡ ToErr (bearer 2) (codes "error: incorrect format: array iterator used with different sized arrays\n"))
+    × (printed (bearer 1 2) (meaning needy 2 both) ≡ ToErr (bearer 1 2) (codes "error: incorrect format: array iterator used with different sized arrays\n"))
 unfolding needy both whole sizes bytes stored sizes_line
 differs = (refl, refl)

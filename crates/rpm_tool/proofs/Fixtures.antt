@@ -11,7 +11,7 @@ use Rattle.rpm_pkgdb.specs.Words.{word}
 use Rattle.rpm_pkgdb.specs.Slots.{slot_of}
 use Rattle.rpm_pkgdb.specs.Damages.{head_reason, own_reason, shared_reason}
 use Rattle.rpm_pkgdb.specs.Blobs.{frame_of, blob_in, is_head, is_tail}
-use Rattle.rpm_tool.specs.Installed.{Bad, package_of, read_as}
+use Rattle.rpm_db.specs.State.{Bad, package_of, read_as}
 
 -- the name a, the version 1, the release 2 and the architecture x; the first entry has this type
 unfoldable pub small : ℕ → List ℕ

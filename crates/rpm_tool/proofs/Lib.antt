@@ -1,8 +1,12 @@
+mod Answering
 mod Asking
 mod Defaults
 mod Fixtures
-mod Held
 mod Joins
+mod Loading
+mod Printed
 mod Printing
-mod Through
+mod Questions
+mod Reaching
+mod Rising
 mod Undone

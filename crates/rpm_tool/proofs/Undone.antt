@@ -1,22 +1,44 @@
 -- What the answers to words that aren't done say.
 use Rattle.std.proofs.Common.{◌≡◌, ◌∙◌, ℕ, Bool, true, false, not, if◌then◌else◌, List, [], Option, Some, None, Result, Ok, Err, refl, sym, ap, inl, inr}
-use Rattle.std.specs.Option.{option_and_then}
 use Rattle.rpm_words.specs.declared.fault.WordsFault.{WordsFault}
 use Rattle.rpm_words.specs.Ask.{AskParts}
 use Rattle.rpm_qfparse.specs.declared.fault.FormatFault.{FormatFault}
 use Rattle.rpm_qfparse.specs.Tree.{Tree}
 use Rattle.rpm_qfparse.specs.Format.{format}
-use Rattle.rpm_outside.specs.Files.{Units}
+use Rattle.rpm_outside.specs.Files.{Units, Files}
+use Rattle.rpm_outside.specs.Logs.{LogState, Closed, Malformed, Open, log_state, reopened}
 use Rattle.rpm_pkgdb.specs.declared.slot.Damage.{Damage}
-use Rattle.rpm_pkgdb.specs.Store.{Store}
+use Rattle.rpm_pkgdb.specs.Store.{Store, store}
 use Rattle.rpm_tool.specs.declared.answer.Unbuilt.TheVariants.{Words}
 use Rattle.rpm_tool.specs.declared.answer.Why.{Why}
 use Rattle.rpm_tool.specs.declared.answer.Why.TheVariants as why
-use Rattle.rpm_tool.specs.Asked.{is_built, is_unbuilt_in, format_text, format_in, tree_in}
-use Rattle.rpm_tool.specs.Installed.{installed}
-use Rattle.rpm_tool.specs.Steps.{all_packages}
-use Rattle.rpm_tool.specs.Answers.{outputs, ComesWhere, Undone, Queried, is_of_words}
-use Rattle.rpm_tool.proofs.Through.{through_none}
+use Rattle.rpm_tool.specs.Asked.{is_built, is_unbuilt_in, format_text, format_in, command_in}
+use Rattle.rpm_tool.specs.Steps.{Bearer, Course}
+use Rattle.rpm_tool.specs.Answers.{outputs, ComesWhere, Undone, Opened, Loaded, Queried, ReadsTo, is_of_words}
+use Rattle.rpm_tool.proofs.Reaching.{through_none}
+
+none_some : (p : AskParts × Tree) (o : Option (AskParts × Tree)) → o ≡ None → o ≡ Some p → ⊥
+none_some p o none some = cc
+
+first_of : AskParts → Option (AskParts × Tree) → AskParts
+first_of d (Some p) = p.0
+first_of d None = d
+
+second_of : Tree → Option (AskParts × Tree) → Tree
+second_of d (Some p) = p.1
+second_of d None = d
+
+both_of : (p q : AskParts × Tree) → Some p ≡ Some q → (p.0 ≡ q.0) × (p.1 ≡ q.1)
+unfolding first_of second_of
+both_of p q e = (ap (first_of p.0) e, ap (second_of p.1) e)
+
+no_command : (asked : Result AskParts WordsFault) → command_in asked None ≡ None
+no_command (Ok a) = refl
+no_command (Err f) = refl
+
+no_tree : (asked : Result AskParts WordsFault) (f : FormatFault) → command_in asked (Some (Err f)) ≡ None
+no_tree (Ok a) f = refl
+no_tree (Err g) f = refl
 
 module _ (words : List (List ℕ)) where
   -- the format of a command that isn't built isn't read
@@ -72,22 +94,47 @@ module _ (words : List (List ℕ)) where
           e ∙ read in cc,
     )
 
-  -- words that ask for all packages by a format are undone for want of memory alone
-  pub starved : (asked : Result AskParts WordsFault) (w : Why) → Undone asked (format_in words asked) w → (tree : Tree) → option_and_then tree_in
-      (format_in words asked) ≡ Some tree → w ≡ why.NoMemory
-  starved asked (why.Usage f) t tree read = let both : None ≡ Some tree = sym
-      (ap (λ (a : Result AskParts WordsFault). option_and_then tree_in (format_in words a)) t.0) ∙ read in cc
-  starved asked (why.NotBuilt what) t tree read = let both : None ≡ Some tree = sym (ap (option_and_then tree_in) (unread asked t)) ∙ read in cc
-  starved asked (why.BadFormat f) t tree read = let both : None ≡ Some tree = sym (ap (option_and_then tree_in) t.0) ∙ read in cc
-  starved asked why.NoMemory t tree read = refl
-  starved asked _ t tree read = absurd t
+  -- words that ask for a command that is built are undone for want of memory alone
+  pub starved : (asked : Result AskParts WordsFault) (w : Why) → Undone asked (format_in words asked) w → (a : AskParts) (tree : Tree)
+      → command_in asked (format_in words asked) ≡ Some (a, tree) → w ≡ why.NoMemory
+  starved asked (why.Usage f) t a tree read =
+      absurd (none_some (a, tree) (command_in asked (format_in words asked))
+      (ap (λ (r : Result AskParts WordsFault). command_in r (format_in words r)) t.0) read)
+  starved asked (why.NotBuilt what) t a tree read =
+      absurd (none_some (a, tree) (command_in asked (format_in words asked)) (ap (command_in asked) (unread asked t) ∙ no_command asked) read)
+  starved asked (why.BadFormat f) t a tree read =
+      absurd (none_some (a, tree) (command_in asked (format_in words asked)) (ap (command_in asked) t.0 ∙ no_tree asked f) read)
+  starved asked why.NoMemory t a tree read = refl
+  starved asked _ t a tree read = absurd t
 
--- the tree of the format that was read is the one that the words ask for
-pub same_tree : (read : Option (Result Tree FormatFault)) (own tree : Tree) → read ≡ Some (Ok own) → option_and_then tree_in read ≡ Some tree → own ≡ tree
-same_tree read own tree is asks = let both : Some own ≡ Some tree = sym (ap (option_and_then tree_in) is) ∙ asks in cc
+-- the command that was read is the one that the words ask for
+pub none_asked : (asked : Result AskParts WordsFault) (read : Option (Result Tree FormatFault)) (a : AskParts) (tree : Tree) → asked ≡ Ok a
+    → read ≡ Some (Ok tree) → command_in asked read ≡ None → ⊥
+none_asked asked read a tree one two none =
+    none_some (a, tree) (command_in asked read) none
+    (ap (command_in asked) two ∙ ap (λ (r : Result AskParts WordsFault). command_in r (Some (Ok tree))) one)
 
--- and then the query of all packages has not begun
-pub not_begun : (tree : Tree) (file : Units) (s : Result Store Damage) (out_tells err_tells : Bool) (o e : List ℕ) (n : ℕ) → Queried tree file s
+pub same_command : (asked : Result AskParts WordsFault) (read : Option (Result Tree FormatFault)) (a b : AskParts) (tree other : Tree) → asked ≡ Ok a
+    → read ≡ Some (Ok tree) → command_in asked read ≡ Some (b, other) → (a ≡ b) × (tree ≡ other)
+same_command asked read a b tree other one two is =
+    let p : AskParts × Tree = (a, tree) in
+    let q : AskParts × Tree = (b, other) in
+    let there : command_in asked read ≡ Some p = ap (command_in asked) two ∙ ap (λ (r : Result AskParts WordsFault). command_in r (Some (Ok tree))) one in
+    both_of p q (sym there ∙ is)
+
+-- and then its database has not been opened
+pub not_begun : (course : Units → Store → Course) (files : Files) (out_tells err_tells : Bool) (o e : List ℕ) (n : ℕ) → Queried course files
     why.NoMemory (outputs out_tells o err_tells e) (outputs out_tells o err_tells e) n n
-not_begun tree file (Ok s) out_tells err_tells o e n = ([], (all_packages tree (installed file s)).steps, refl, through_none out_tells err_tells o e)
-not_begun tree file (Err damage) out_tells err_tells o e n = (tt, through_none out_tells err_tells o e)
+not_begun course files ot et o e n = loaded (log_state files.log) (store (reopened files).pkg)
+  where
+    reads : Store → Bearer → Type 0
+    reads s = ReadsTo (reopened files).pkg s n n
+
+    opened : (s : Result Store Damage) → Opened (course (reopened files).pkg) s why.NoMemory (outputs ot o et e) (outputs ot o et e) reads
+    opened (Ok s) = ([], (course (reopened files).pkg s).steps, refl, through_none {ot = ot} {et = et} o e)
+    opened (Err damage) = (tt, through_none {ot = ot} {et = et} o e)
+
+    loaded : (log : LogState) (s : Result Store Damage) → Loaded (course (reopened files).pkg) s log why.NoMemory (outputs ot o et e) (outputs ot o et e) reads
+    loaded Closed s = opened s
+    loaded (Malformed unit) s = (tt, through_none {ot = ot} {et = et} o e)
+    loaded (Open entries) s = opened s

@@ -1,25 +1,35 @@
 -- How far a command went, and what it answers.
-use Rattle.std.specs.Prelude.{◌≡◌, ◌≢◌, ◌⊎◌, ℕ, ◌+◌, ◌<◌, ◌≤◌, List, [], ◌∷◌, ◌++◌, Bool, true, false, Option, Some, Result, Ok, Err}
+use Rattle.std.specs.Prelude.{◌≡◌, ◌≢◌, ◌⊎◌, ℕ, ◌+◌, ◌*◌, ◌-◌, ◌^◌, ◌<◌, ◌≤◌, List, [], ◌∷◌, ◌++◌, map, length, max, Bool, true, false, Option, Some, None, Result, Ok, Err, IfOk, IsTrue}
 use Rattle.std.specs.List.{flat_map}
 use Rattle.rpm_outside.specs.Causes.{Rose}
-use Rattle.rpm_outside.specs.Files.{Units}
+use Rattle.rpm_outside.specs.declared.disk.File.{File}
+use Rattle.rpm_outside.specs.declared.disk.File.TheVariants.{Pkg, Idx}
+use Rattle.rpm_outside.specs.Crash.{Untouched}
+use Rattle.rpm_outside.specs.Files.{Units, Files}
+use Rattle.rpm_outside.specs.Logs.{LogState, Closed, Malformed, Open, log_state, reopened}
 use Rattle.rpm_outside.specs.Sinks.{Gained, GainedPart}
+use Rattle.rpm_group.specs.declared.load.LoadFault.{LoadFault}
+use Rattle.rpm_group.specs.declared.load.LoadFault.TheVariants as load
 use Rattle.rpm_pkgdb.specs.declared.slot.Damage.{Damage}
 use Rattle.rpm_pkgdb.specs.Store.{Store, store}
 use Rattle.rpm_pkgdb.specs.Costs.{opening_cost, cost_to, cost_all}
+use Rattle.rpm_db.specs.State.{Package, above}
 use Rattle.rpm_words.specs.declared.fault.WordsFault.{WordsFault}
 use Rattle.rpm_words.specs.declared.fault.WordsKind.TheVariants as kind
 use Rattle.rpm_words.specs.Ask.{AskParts}
 use Rattle.rpm_qfparse.specs.declared.fault.FormatFault.{FormatFault}
 use Rattle.rpm_qfparse.specs.declared.fault.FormatKind.TheVariants as wrong
 use Rattle.rpm_qfparse.specs.Tree.{Tree}
+use Rattle.rpm_select.specs.declared.picker.PickFault.{PickFault}
+use Rattle.rpm_select.specs.declared.picker.PickFault.TheVariants as pick
 use Rattle.rpm_tool.specs.declared.step.Stop.{Stop}
 use Rattle.rpm_tool.specs.declared.step.Stop.TheVariants as stop
+use Rattle.rpm_tool.specs.declared.picked.Printed.{Printed}
 use Rattle.rpm_tool.specs.declared.answer.Why.{Why}
 use Rattle.rpm_tool.specs.declared.answer.Why.TheVariants as why
 use Rattle.rpm_tool.specs.Asked.{is_unbuilt_in}
-use Rattle.rpm_tool.specs.Installed.{installed}
-use Rattle.rpm_tool.specs.Steps.{Step, Course, out_bytes, err_bytes, is_out, number_of, cut, all_packages}
+use Rattle.rpm_tool.specs.Steps.{Bearer, Step, Course, Part, out_bytes, err_bytes, is_out, bearer_of, cut}
+use Rattle.rpm_tool.specs.Queries.{query}
 
 -- what out and err took, and whether they tell it
 pub record Outputs : Type 0 where
@@ -41,7 +51,7 @@ abbrev pub ThroughSome : List Step → Outputs → Outputs → Type 0
 ThroughSome all old new = (done rest : List Step) × (all ≡ done ++ rest) × Through done old new
 
 -- some of the steps were gone through, and of the next one the first bytes; of packages behind that step's none was read
-pub record StoppedWithin (all : List Step) (to_out : Bool) (old new : Outputs) (reads_to : ℕ → Type 0) : Type 0 where
+pub record StoppedWithin (all : List Step) (to_out : Bool) (old new : Outputs) (reads_to : Bearer → Type 0) : Type 0 where
   pub done : List Step
   pub step : Step
   pub rest : List Step
@@ -49,7 +59,15 @@ pub record StoppedWithin (all : List Step) (to_out : Bool) (old new : Outputs) (
   pub sink : is_out step ≡ to_out
   pub bytes : ℕ
   pub through : Through (done ++ cut bytes step ∷ []) old new
-  pub reads : reads_to (number_of step)
+  pub reads : reads_to (bearer_of step)
+
+-- how far these steps were gone through: to their end, or to where something stopped
+abbrev pub Reached : {T : Type 0} → List Step → Result T Stop → Outputs → Outputs → (Bearer → Type 0) → Type 0
+Reached all (Ok done) old new reads_to = Through all old new
+Reached all (Err stop.DiskFault) old new reads_to = ThroughSome all old new
+Reached all (Err stop.OutFault) old new reads_to = StoppedWithin all true old new reads_to
+Reached all (Err stop.ErrFault) old new reads_to = StoppedWithin all false old new reads_to
+Reached all (Err stop.NoMemory) old new reads_to = ThroughSome all old new
 
 -- one step that a call goes through, or stops within, or doesn't begin
 abbrev pub StepIs : Step → Result Bool Stop → Outputs → Outputs → Type 0
@@ -58,6 +76,68 @@ StepIs step (Err stop.DiskFault) old new = Through [] old new
 StepIs step (Err stop.OutFault) old new = (is_out step ≡ true) × ((bytes : ℕ) × Through (cut bytes step ∷ []) old new)
 StepIs step (Err stop.ErrFault) old new = (is_out step ≡ false) × ((bytes : ℕ) × Through (cut bytes step ∷ []) old new)
 StepIs step (Err stop.NoMemory) old new = Through [] old new
+
+-- the same of a part, with the answer whether the argument fails for it
+pub record PartIs (part : Part) (result : Result Bool Stop) (old new : Outputs) (reads_to : Bearer → Type 0) : Type 0 where
+  pub steps : Reached part.steps result old new reads_to
+  pub fails : IfOk result (λ fails. part.fails ≡ fails)
+
+-- what is read up to a package of an argument, or for the whole of it
+abbrev pub reach_to : Store → Option ℕ → ℕ
+reach_to s None = cost_all s
+reach_to s (Some n) = cost_to n s
+
+-- read while the packages of argument j above n are gone through: up to the package that a step is for
+abbrev pub ReadsIn : ℕ → ℕ → Store → ℕ → ℕ → Bearer → Type 0
+ReadsIn j n s before now for = (for.argument ≡ j) × (now + cost_to n s ≤ before + reach_to s for.number)
+
+-- the same of a whole argument
+abbrev pub ReadsOf : ℕ → Store → ℕ → ℕ → Bearer → Type 0
+ReadsOf j s before now for = (for.argument ≡ j) × (now ≤ before + reach_to s for.number)
+
+-- and of several: the packages of each argument before, and of this one those up to its number
+abbrev pub reach_all : Store → Bearer → ℕ
+reach_all s for = for.argument * cost_all s + reach_to s for.number
+
+-- the step of one package is gone through, or stops
+abbrev pub OneIs : Step → Result (Option (ℕ × Bool)) Stop → Outputs → Outputs → Type 0
+OneIs step (Ok None) old new = ⊥
+OneIs step (Ok (Some e)) old new = StepIs step (Ok e.1) old new
+OneIs step (Err stop) old new = StepIs step (Err stop) old new
+
+-- the next of the packages above n is gone through, or there is none, or something stops
+abbrev pub NextIs : (ℕ × Package → Step) → ℕ → List (ℕ × Package) → Result (Option (ℕ × Bool)) Stop → Outputs → Outputs → (Bearer → Type 0) → Type 0
+NextIs step n es (Ok None) old new reads_to = (above n es ≡ []) × Through [] old new
+NextIs step n es (Ok (Some (m, to_out))) old new reads_to =
+    (p : Package) × (above n es ≡ (m, p) ∷ above m es) × StepIs (step (m, p)) (Ok to_out) old new
+NextIs step n es (Err stop) old new reads_to = Reached {T = Bool} (map step (above n es)) (Err stop) old new reads_to
+
+-- the blocks of the numbers above n, up to the one that is gone through
+abbrev pub cost_until : ℕ → Store → Result (Option (ℕ × Bool)) Stop → ℕ
+cost_until n s (Ok (Some e)) = cost_to e.0 s - cost_to n s
+cost_until n s others = cost_all s - cost_to n s
+
+-- whether the argument fails, of what was printed of its packages
+abbrev pub fails_in : Result Printed Stop → Result Bool Stop
+fails_in (Ok p) = Ok p.fails
+fails_in (Err stop) = Err stop
+
+-- a stop that a sink made
+abbrev pub is_of_sink : Stop → Bool
+is_of_sink stop.DiskFault = false
+is_of_sink stop.OutFault = true
+is_of_sink stop.ErrFault = true
+is_of_sink stop.NoMemory = false
+
+abbrev pub is_some_of : {X : Type 0} → List X → Bool
+is_some_of [] = false
+is_some_of (x ∷ xs) = true
+
+-- a fault of a picker that asks no index
+abbrev pub stop_of : PickFault → Stop
+stop_of (pick.BadIndex unit) = stop.DiskFault
+stop_of pick.DiskFault = stop.DiskFault
+stop_of pick.NoMemory = stop.NoMemory
 
 -- the ending of a command that was stopped
 abbrev pub why_of : Stop → Why
@@ -90,43 +170,91 @@ is_of_words others = false
 -- ---- the answers of a command that opens the database, before the closing line
 
 -- where the database is in order
-abbrev pub Went : Course → Why → Outputs → Outputs → (ℕ → Type 0) → Type 0
+abbrev pub Went : Course → Why → Outputs → Outputs → (Bearer → Type 0) → Type 0
 Went course why.Done old new reads_to = Through course.steps old new × (course.failed ≡ 0)
 Went course (why.Failed n) old new reads_to = Through course.steps old new × (course.failed ≡ n) × (0 < n)
 Went course (why.Usage fault) old new reads_to = ⊥
 Went course (why.NotBuilt what) old new reads_to = ⊥
 Went course (why.BadFormat fault) old new reads_to = ⊥
+Went course (why.BadLog unit) old new reads_to = ⊥
 Went course (why.Damaged damage) old new reads_to = ⊥
 Went course why.DiskFault old new reads_to = ThroughSome course.steps old new
 Went course why.OutFault old new reads_to = StoppedWithin course.steps true old new reads_to
 Went course why.ErrFault old new reads_to = StoppedWithin course.steps false old new reads_to
 Went course why.NoMemory old new reads_to = ThroughSome course.steps old new
 
--- where it is damaged
+-- where the log is malformed: that is told, and not a damage
+abbrev pub Misread : ℕ → Why → Type 0
+Misread unit (why.BadLog u) = u ≡ unit
+Misread unit why.DiskFault = Unit {0}
+Misread unit why.NoMemory = Unit {0}
+Misread unit _ = ⊥
+
+-- where the database is damaged
 abbrev pub Refused : Damage → Why → Type 0
 Refused damage (why.Damaged d) = d ≡ damage
 Refused damage why.DiskFault = Unit {0}
 Refused damage why.NoMemory = Unit {0}
 Refused damage _ = ⊥
 
--- ---- the query of all packages
+-- ---- a command that opens the database without its index, as it reads when an open log is gone through
 
--- of Packages.db no more bytes were read than those of its pages and of the blocks of the numbers up to n
-abbrev pub ReadsTo : Units → Store → ℕ → ℕ → ℕ → Type 0
-ReadsTo file s before now n = now ≤ before + opening_cost file + cost_to n s
+-- the most that is read of Packages.db up to a step: its pages, the packages of each argument before, and of this one those up to its number
+abbrev pub read_to : Units → Store → Bearer → ℕ
+read_to file s for = opening_cost file + reach_all s for
 
-abbrev pub Queried : Tree → Units → Result Store Damage → Why → Outputs → Outputs → ℕ → ℕ → Type 0
-Queried tree file (Ok s) why old new before now = Went (all_packages tree (installed file s)) why old new (ReadsTo file s before now)
-Queried tree file (Err damage) why old new before now = Refused damage why × Through [] old new
+-- a count rose by at most so much, where that is a number that counts have
+abbrev pub AtMost : ℕ → ℕ → ℕ → Type 0
+AtMost before now most = (now ≤ before + most) ⊎ (2 ^ 64 - 1 ≤ most)
+
+abbrev pub ReadsTo : Units → Store → ℕ → ℕ → Bearer → Type 0
+ReadsTo file s before now for = AtMost before now (read_to file s for)
+
+abbrev pub Opened : (Store → Course) → Result Store Damage → Why → Outputs → Outputs → (Store → Bearer → Type 0) → Type 0
+Opened course (Ok s) why old new reads_to = Went (course s) why old new (reads_to s)
+Opened course (Err damage) why old new reads_to = Refused damage why × Through [] old new
+
+abbrev pub Loaded : (Store → Course) → Result Store Damage → LogState → Why → Outputs → Outputs → (Store → Bearer → Type 0) → Type 0
+Loaded course s Closed why old new reads_to = Opened course s why old new reads_to
+Loaded course s (Malformed unit) why old new reads_to = Misread unit why × Through [] old new
+Loaded course s (Open entries) why old new reads_to = Opened course s why old new reads_to
+
+abbrev pub Queried : (Units → Store → Course) → Files → Why → Outputs → Outputs → ℕ → ℕ → Type 0
+Queried course files why old new before now =
+    let file = (reopened files).pkg in
+    Loaded (course file) (store file) (log_state files.log) why old new (λ s. ReadsTo file s before now)
+
+-- how often a query goes over all packages: once for each argument, and once without
+abbrev pub passes : AskParts → ℕ
+passes a = max 1 (length a.arguments)
 
 -- the bytes of the blocks of all packages
 abbrev pub blocks_cost : Result Store Damage → ℕ
 blocks_cost (Ok s) = cost_all s
 blocks_cost (Err damage) = 0
 
--- the most that a query of all packages reads
-abbrev pub query_cost : Units → ℕ
-query_cost file = opening_cost file + blocks_cost (store file)
+-- the most that a query of so many passes over all packages reads
+abbrev pub query_cost : ℕ → Units → ℕ
+query_cost passes file = opening_cost file + passes * blocks_cost (store file)
+
+-- the files, their images and the moment stay, and nothing of Hindex.db is read
+pub record Leaves {D : Type 0} (tells : Bool) (files : D → Files) (left_since : D → ℕ → Files → Type 0) (moment : D → ℕ) (bytes_read : D → File → ℕ)
+    (follows : D → D → Type 0) (old new : D) : Type 0 where
+  pub untouched : IsTrue tells → Untouched (files old) (files new) (left_since old) (left_since new)
+  pub moment_stays : moment new ≡ moment old
+  pub index_unread : bytes_read new Idx ≤ bytes_read old Idx
+  pub goes_on : follows old new
+
+-- an answer of loading
+abbrev pub why_of_load : LoadFault → Why
+why_of_load (load.BadLog unit) = why.BadLog unit
+why_of_load load.DiskFault = why.DiskFault
+why_of_load load.NoMemory = why.NoMemory
+
+-- where a write found no memory, a fault of the disk is that
+abbrev pub unless_starved : Bool → Why → Why
+unless_starved true why.DiskFault = why.NoMemory
+unless_starved starved given = given
 
 -- ---- the closing line
 

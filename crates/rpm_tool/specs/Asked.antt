@@ -1,10 +1,9 @@
 -- Which command lines are built, and by which format they print.
-use Rattle.std.specs.Prelude.{ℕ, List, Option, Some, None, Result, Ok, Err, Bool, true, false, not, ◌&&◌, ◌==◌, if◌then◌else◌, length, codes}
-use Rattle.std.specs.Option.{option_and_then}
+use Rattle.std.specs.Prelude.{ℕ, List, Option, Some, None, Result, Ok, Err, Bool, true, false, not, ◌&&◌, if◌then◌else◌, codes}
 use Rattle.rpm_words.specs.declared.ask.Mode.{Mode}
 use Rattle.rpm_words.specs.declared.ask.Mode.TheVariants.{Query}
 use Rattle.rpm_words.specs.declared.switch.Chosen.{Chosen}
-use Rattle.rpm_words.specs.declared.switch.Chosen.TheVariants.{All}
+use Rattle.rpm_words.specs.declared.switch.Chosen.TheVariants.{All, Number, Package}
 use Rattle.rpm_words.specs.declared.words.Span.{Span}
 use Rattle.rpm_words.specs.declared.fault.WordsFault.{WordsFault}
 use Rattle.rpm_words.specs.Words.{bytes_from}
@@ -17,13 +16,15 @@ abbrev pub is_query : Mode → Bool
 is_query Query = true
 is_query others = false
 
-abbrev pub is_all : Chosen → Bool
-is_all All = true
-is_all others = false
+-- a query of the database without its index: of all packages, of patterns and of numbers always, else where the words say so
+abbrev pub needs_no_index : Chosen → Bool → Bool
+needs_no_index All noindex = true
+needs_no_index Number noindex = true
+needs_no_index Package noindex = false
+needs_no_index others noindex = noindex
 
--- the query of all packages, from the first one on
 unfoldable pub is_built : AskParts → Bool
-is_built a = is_query a.mode && is_all a.chosen && length a.arguments == 0 && a.after == 0 && not a.noindex
+is_built a = is_query a.mode && needs_no_index a.chosen a.noindex
 
 -- a command was read, and it isn't built
 abbrev pub is_unbuilt_in : Result AskParts WordsFault → Bool
@@ -58,14 +59,14 @@ abbrev pub format_in : List (List ℕ) → Result AskParts WordsFault → Option
 format_in words (Ok a) = if is_built a then Some (format (format_text words a)) else None
 format_in words (Err f) = None
 
--- the words ask for all packages, and their format is this tree or has this fault
+-- the words ask for a command that is built, and their format is this tree or has this fault
 unfoldable pub asks_format : List (List ℕ) → Option (Result Tree FormatFault)
 asks_format words = format_in words (ask words)
 
-abbrev pub tree_in : Result Tree FormatFault → Option Tree
-tree_in (Ok tree) = Some tree
-tree_in (Err fault) = None
+abbrev pub command_in : Result AskParts WordsFault → Option (Result Tree FormatFault) → Option (AskParts × Tree)
+command_in (Ok a) (Some (Ok tree)) = Some (a, tree)
+command_in asked read = None
 
--- the words ask for all packages by this format: the one command that is built
-unfoldable pub asks_all : List (List ℕ) → Option Tree
-asks_all words = option_and_then tree_in (asks_format words)
+-- the words ask for this command, which is built, by this format
+unfoldable pub asks : List (List ℕ) → Option (AskParts × Tree)
+asks words = command_in (ask words) (asks_format words)

@@ -1,5 +1,5 @@
 -- The status of an ending, and the line that closes it.
-use Rattle.std.specs.Prelude.{ℕ, min, List, [], ◌∷◌, codes, decimal}
+use Rattle.std.specs.Prelude.{ℕ, ◌*◌, min, List, [], ◌∷◌, codes, decimal}
 use Rattle.std.specs.List.{concat}
 use Rattle.rpm_words.specs.declared.fault.WordsKind.{WordsKind}
 use Rattle.rpm_words.specs.declared.fault.WordsKind.TheVariants as kind
@@ -20,6 +20,7 @@ status_of (why.Failed n) = min n 250
 status_of (why.Usage fault) = 251
 status_of (why.BadFormat fault) = 251
 status_of (why.NotBuilt what) = 252
+status_of (why.BadLog unit) = 252
 status_of (why.Damaged damage) = 252
 status_of why.DiskFault = 252
 status_of why.OutFault = 253
@@ -39,6 +40,10 @@ reason_text Overlap = codes "blocks overlap"
 unfoldable pub damage_line : Damage → List ℕ
 damage_line damage =
     concat (codes "rpm: Packages.db is damaged at byte " ∷ decimal damage.offset ∷ codes ": " ∷ reason_text damage.reason ∷ codes "\n" ∷ [])
+
+-- the byte at which the unit begins
+unfoldable pub log_line : ℕ → List ℕ
+log_line unit = concat (codes "rpm: Hlog.db is damaged at byte " ∷ decimal (16 * unit) ∷ codes "\n" ∷ [])
 
 -- what is told of the rule that the words break
 unfoldable pub rule_text : WordsKind → List ℕ
@@ -94,6 +99,7 @@ closing words (why.Failed n) = []
 closing words (why.Usage fault) = usage_line words fault
 closing words (why.BadFormat fault) = format_line fault
 closing words (why.NotBuilt what) = codes "rpm: not built yet\n"
+closing words (why.BadLog unit) = log_line unit
 closing words (why.Damaged damage) = damage_line damage
 closing words why.DiskFault = codes "rpm: the database could not be read or written\n"
 closing words why.OutFault = codes "rpm: output could not be written\n"

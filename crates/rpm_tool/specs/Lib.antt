@@ -1,5 +1,6 @@
 pub mod Answers
 pub mod Asked
 pub mod Closing
-pub mod Installed
+pub mod Queries
+pub mod Reports
 pub mod Steps

@@ -1,16 +1,18 @@
 -- What a command does, step by step.
-use Rattle.std.specs.Prelude.{ℕ, List, [], ◌++◌, map, take, Bool, true, false, if◌then◌else◌, codes, decimal, Result, Ok, Err}
+use Rattle.std.specs.Prelude.{ℕ, ◌+◌, List, [], ◌∷◌, ◌++◌, take, Bool, true, false, not, if◌then◌else◌, Option, Some, None}
 use Rattle.std.specs.List.{list_any}
-use Rattle.std.specs.Ordering.{nat_cmp}
-use Rattle.std.specs.FinMap.{FinMap, entries}
-use Rattle.rpm_qfparse.specs.Tree.{Tree}
-use Rattle.rpm_qfeval.specs.Meaning.{meaning}
-use Rattle.rpm_tool.specs.Installed.{Package, Good, Bad}
 
--- whom a step is for: an argument, counted from 0, and a package number
+-- whom a step is for: an argument, counted from 0, and one of its packages, or the argument as a whole
 pub record Bearer : Type 0 where
   pub argument : ℕ
-  pub number : ℕ
+  pub number : Option ℕ
+
+-- of a package, and of a whole argument
+abbrev pub bearer : ℕ → ℕ → Bearer
+bearer j n = record { argument = j; number = Some n }
+
+abbrev pub whole : ℕ → Bearer
+whole j = record { argument = j; number = None }
 
 -- bytes to out, or to err
 pub data Step : Type 0 where
@@ -34,53 +36,54 @@ abbrev pub is_out : Step → Bool
 is_out (ToOut for bytes) = true
 is_out (ToErr for bytes) = false
 
-abbrev pub number_of : Step → ℕ
-number_of (ToOut for bytes) = for.number
-number_of (ToErr for bytes) = for.number
+abbrev pub bearer_of : Step → Bearer
+bearer_of (ToOut for bytes) = for
+bearer_of (ToErr for bytes) = for
 
 -- the first n bytes of a step
 abbrev pub cut : ℕ → Step → Step
 cut n (ToOut for bytes) = ToOut for (take n bytes)
 cut n (ToErr for bytes) = ToErr for (take n bytes)
 
--- the steps of a command, and how many of its arguments fail
+-- what is changed in the database
+pub data Change : Type 0 where
+  Add : List ℕ → Change
+  Put : ℕ → List ℕ → Change
+  Erase : ℕ → Change
+
+-- the steps of a command, how many of its arguments fail, and its changes: they come last, all as one
 pub record Course : Type 0 where
   pub steps : List Step
   pub failed : ℕ
+  pub changes : List Change
 
--- the line of a number whose package can't be read
-unfoldable pub bad_line : ℕ → List ℕ
-bad_line n = codes "error: package " ++ decimal n ++ codes ": header cannot be read\n"
+-- what an argument does, or one of its packages: steps, and whether the argument fails for it
+pub record Part : Type 0 where
+  pub steps : List Step
+  pub fails : Bool
 
--- a query without arguments counts as one
-abbrev pub bearer : ℕ → Bearer
-bearer n = record { argument = 0; number = n }
+abbrev pub nothing : Part
+nothing = record { steps = []; fails = false }
 
--- the line of a header for which a bracket's tags have different numbers of elements
-unfoldable pub sizes_line : List ℕ
-sizes_line = codes "error: incorrect format: array iterator used with different sized arrays\n"
-
--- what a format means is printed whole, or not at all
-abbrev pub printed : Bearer → Result (List ℕ) (ℕ × ℕ) → Step
-printed for (Ok bytes) = ToOut for bytes
-printed for (Err counts) = ToErr for sizes_line
-
--- of a number, by a format
-abbrev pub step_of : Tree → ℕ → Package → Step
-step_of tree n (Good h) = printed (bearer n) (meaning h n tree)
-step_of tree n Bad = ToErr (bearer n) (bad_line n)
-
-abbrev pub steps_of : Tree → List (ℕ × Package) → List Step
-steps_of tree packages = map (λ e. step_of tree e.0 e.1) packages
+-- a line for which the argument fails
+abbrev pub fails : Step → Part
+fails s = record { steps = s ∷ []; fails = true }
 
 abbrev pub is_bad : Step → Bool
-is_bad (ToOut for bytes) = false
-is_bad (ToErr for bytes) = true
+is_bad s = not (is_out s)
 
--- its argument fails once, however many of its packages can't be read or printed
-abbrev pub query_of : List Step → Course
-query_of steps = record { steps = steps; failed = if list_any is_bad steps then 1 else 0 }
+-- the steps of an argument's packages: it fails once, however many messages there are on err
+abbrev pub told : List Step → Part
+told steps = record { steps = steps; fails = list_any is_bad steps }
 
--- the query of all packages, by rising number
-abbrev pub all_packages : Tree → FinMap nat_cmp Package → Course
-all_packages tree packages = query_of (steps_of tree (entries packages))
+abbrev pub idle : Course
+idle = record { steps = []; failed = 0; changes = [] }
+
+-- an argument before the others
+abbrev pub before : Part → Course → Course
+before p c = record { steps = p.steps ++ c.steps; failed = (if p.fails then 1 else 0) + c.failed; changes = c.changes }
+
+-- each argument in turn, by its place and its text
+abbrev pub in_turn : (ℕ → List ℕ → Part) → ℕ → List (List ℕ) → Course
+in_turn each j [] = idle
+in_turn each j (x ∷ xs) = before (each j x) (in_turn each (j + 1) xs)

@@ -27,6 +27,8 @@ pub enum Why {
     NotBuilt(Unbuilt),
     /// Their format has this fault. Nothing was done.
     BadFormat(FormatFault),
+    /// `Hlog.db` is malformed at this unit.
+    BadLog { unit: u64 },
     /// `Packages.db` is damaged.
     Damaged(Damage),
     /// The database could not be read.
@@ -59,7 +61,7 @@ pub fn status_of(why: Why) -> u8
         Why::Failed(failed) => failed.min(250) as u8,
         Why::Usage(_) => 251,
         Why::BadFormat(_) => 251,
-        Why::NotBuilt(_) | Why::Damaged(_) | Why::DiskFault => 252,
+        Why::NotBuilt(_) | Why::BadLog { .. } | Why::Damaged(_) | Why::DiskFault => 252,
         Why::OutFault | Why::ErrFault => 253,
         Why::NoMemory => 254,
     }

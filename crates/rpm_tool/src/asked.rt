@@ -2,7 +2,7 @@
 
 ghost use Rattle.std.specs.Prelude.{◌≡◌, true, Some, Ok, IfOk, IfErr};
 ghost use Rattle.rpm_words.specs.Ask.{ask};
-ghost use Rattle.rpm_tool.specs.Asked.{is_built, format_text, asks_format};
+ghost use Rattle.rpm_tool.specs.Asked.{needs_no_index, is_built, format_text, asks_format};
 ghost use Rattle.rpm_tool.specs.Answers.{Undone};
 
 use crate::answer::{Unbuilt, Why};
@@ -10,16 +10,23 @@ use rpm_qfparse::{Format, FormatKind, parse};
 use rpm_words::{Ask, Chosen, Mode, Words, WordsKind, read};
 use std::alloc::Global;
 
-/// Whether a command is built: the query of all packages, from the first one on.
+/// Whether packages that are picked so are asked for without the index.
+fn needs_no_index(chosen: Chosen, noindex: bool) -> bool
+    ensures { result ≡ needs_no_index chosen noindex }
+{
+    match chosen {
+        Chosen::All | Chosen::Number => true,
+        Chosen::Package => false,
+        _ => noindex,
+    }
+}
+
+/// Whether a command is built: a query of the database without its index.
 #[tactic(auto, unfolding(crate::specs::Asked::is_built))]
 fn is_built(ask: &Ask) -> bool
     ensures { result ≡ is_built ask.now }
 {
-    matches!(ask.mode(), Mode::Query)
-        && matches!(ask.chosen(), Chosen::All)
-        && ask.arguments() == 0
-        && ask.after() == 0
-        && !ask.noindex()
+    matches!(ask.mode(), Mode::Query) && needs_no_index(ask.chosen(), ask.noindex())
 }
 
 /// The text of the format: the one that is given, that of the list, or else that of labels.
@@ -51,13 +58,13 @@ fn read_words(alloc: Global, words: &Words) -> Result<Ask, Why>
 
 /// Reads the words, and then the format by which they ask for packages; or else how they end. Goes over both once.
 #[tactic(auto, unfolding(crate::specs::Asked::asks_format))]
-pub fn read_format(alloc: Global, words: &Words) -> Result<Format, Why>
-    ensures ok { IfOk result (λ tree. asks_format words.now ≡ Some (Ok tree)) }
+pub fn read_command(alloc: Global, words: &Words) -> Result<(Ask, Format), Why>
+    ensures ok { IfOk result (λ c. (ask words.now ≡ Ok c.0) × (asks_format words.now ≡ Some (Ok c.1))) }
     ensures undone { IfErr result (λ why. Undone (ask words.now) (asks_format words.now) why) }
 {
     let ask = read_words(alloc, words)?;
     match parse(alloc, format_text(words, &ask)) {
-        Ok(format) => Ok(format),
+        Ok(format) => Ok((ask, format)),
         Err(fault) if fault.kind == FormatKind::NoMemory => Err(Why::NoMemory),
         Err(fault) => Err(Why::BadFormat(fault)),
     }

@@ -3,7 +3,7 @@
 ghost use Rattle.std.specs.Prelude.{◌≡◌, ◌++◌, [], codes, decimal, Err, Ok};
 ghost use Rattle.rpm_outside.specs.Buffered.{inner, holds};
 ghost use Rattle.rpm_outside.specs.Sinks.{Writes};
-ghost use Rattle.rpm_tool.specs.Closing.{reason_text, damage_line, rule_text, word_told, usage_line, fault_text, format_line, closing};
+ghost use Rattle.rpm_tool.specs.Closing.{reason_text, damage_line, log_line, rule_text, word_told, usage_line, fault_text, format_line, closing};
 ghost use Rattle.rpm_words.specs.Words.{text_at};
 
 use crate::answer::Why;
@@ -47,6 +47,16 @@ fn put_damage<E: Sink>(err: &mut E, damage: Damage) -> Result<(), Failed>
             b"\n",
         ],
     )
+}
+
+/// Writes where `Hlog.db` is damaged.
+#[tactic(auto, unfolding(crate::specs::Closing::log_line))]
+fn put_log<E: Sink>(err: &mut E, unit: u64) -> Result<(), Failed>
+    ensures { Writes E.tells E.taken E.faults E.follows err.old err.new (log_line unit) result }
+{
+    let mut digits = Buffer::new();
+    let offset = digits.format(16 * unit as u128).as_bytes();
+    put_pieces(err, &[b"rpm: Hlog.db is damaged at byte ", offset, b"\n"])
 }
 
 /// What is told of a rule that the words break.
@@ -137,6 +147,7 @@ fn put_line<E: Sink>(err: &mut E, words: &Words, why: Why) -> Result<(), Failed>
         Why::BadFormat(fault) => put_fault(err, fault),
         Why::NotBuilt(_) => put_all(err, b"rpm: not built yet\n"),
         Why::Damaged(damage) => put_damage(err, damage),
+        Why::BadLog { unit } => put_log(err, unit),
         Why::DiskFault => put_all(err, b"rpm: the database could not be read or written\n"),
         Why::OutFault => put_all(err, b"rpm: output could not be written\n"),
         Why::NoMemory => put_all(err, b"rpm: out of memory\n"),

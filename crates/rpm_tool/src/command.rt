@@ -1,21 +1,21 @@
 //! The top call: a command line does what its command's steps say.
 
-ghost use Rattle.std.specs.Prelude.{◌≡◌, ◌≢◌, ℕ, ◌+◌, ◌≤◌, [], true, IsTrue, Some, None, Err};
+ghost use Rattle.std.specs.Prelude.{◌≡◌, ◌≢◌, [], true, IsTrue, Some, None, Err};
 ghost use Rattle.rpm_outside.specs.Buffered.{inner, holds, HandsOn};
 ghost use Rattle.rpm_outside.specs.Causes.{HasCauseAt};
-ghost use Rattle.rpm_outside.specs.declared.disk.File.TheVariants.{Pkg};
-ghost use Rattle.rpm_outside.specs.Looks.{Looks};
-ghost use Rattle.rpm_pkgdb.specs.Store.{store};
-ghost use Rattle.rpm_words.specs.Ask.{ask};
+ghost use Rattle.rpm_outside.specs.Logs.{reopened};
+ghost use Rattle.rpm_db.specs.State.{packages};
+ghost use Rattle.rpm_words.specs.Ask.{AskParts, ask};
 ghost use Rattle.rpm_qfparse.specs.Tree.{Tree};
-ghost use Rattle.rpm_tool.specs.Asked.{asks_unbuilt, asks_format, asks_all};
+ghost use Rattle.rpm_tool.specs.Asked.{asks_unbuilt, asks_format, asks};
 ghost use Rattle.rpm_tool.specs.Closing.{status_of, closing};
-ghost use Rattle.rpm_tool.specs.Answers.{outputs, ComesWhere, Queried, Closes, Ends, query_cost};
+ghost use Rattle.rpm_tool.specs.Queries.{query};
+ghost use Rattle.rpm_tool.specs.Answers.{outputs, ComesWhere, Queried, Closes, Ends, AtMost, Leaves, passes, query_cost};
 
 use crate::answer::{Outcome, Unbuilt, Why, status_of};
-use crate::asked::read_format;
+use crate::asked::read_command;
 use crate::closing::put_closing;
-use crate::query::query_all;
+use crate::loaded::query_loaded;
 use rpm_outside::{Buffered, Disk, File, Shelf, Sink};
 use rpm_qfparse::{FormatFault, FormatKind};
 use rpm_words::{Words, WordsFault, WordsKind};
@@ -25,32 +25,34 @@ use std::alloc::Global;
 fn command<D: Disk, O: Sink + Drop, E: Sink + Drop>(
     alloc: Global,
     words: &Words,
-    disk: &mut D,
+    disk: D,
     out: &mut Buffered<O>,
     err: &mut Buffered<E>,
-) -> Why
+) -> (Why, D)
     requires out_empty { holds out.old ≡ [] }
     requires err_empty { holds err.old ≡ [] }
-    ensures usage { (f : WordsFault) → ComesWhere (Why.Usage f) result (ask words.now ≡ Err f) }
-    ensures usage_kind { (f : WordsFault) → result ≡ Why.Usage f → f.kind ≢ WordsKind.NoMemory }
-    ensures unbuilt { ComesWhere (Why.NotBuilt Unbuilt.Words) result (asks_unbuilt words.now ≡ true) }
-    ensures bad_format { (f : FormatFault) → ComesWhere (Why.BadFormat f) result (asks_format words.now ≡ Some (Err f)) }
-    ensures bad_format_kind { (f : FormatFault) → result ≡ Why.BadFormat f → f.kind ≢ FormatKind.NoMemory }
-    ensures unread { asks_all words.now ≡ None → (disk.new ≡ disk.old) × (out.new ≡ out.old) × (err.new ≡ err.old) }
-    ensures went { (tree : Tree) → asks_all words.now ≡ Some tree → IsTrue D.tells → Queried tree (D.files disk.old).pkg
-        (store (D.files disk.old).pkg) result (outputs O.tells (O.taken (inner out.old)) E.tells (E.taken (inner err.old)))
-        (outputs O.tells (O.taken (inner out.new)) E.tells (E.taken (inner err.new))) (D.bytes_read disk.old File.Pkg) (D.bytes_read disk.new File.Pkg) }
-    ensures reads { IsTrue D.tells → D.bytes_read disk.new File.Pkg ≤ D.bytes_read disk.old File.Pkg + query_cost (D.files disk.old).pkg }
-    ensures looks { (most : ℕ) × Looks D.tells D.files D.left_since D.moment D.bytes_read D.follows Pkg most disk.old disk.new }
-    ensures disk { HasCauseAt (result ≡ Why.DiskFault) (D.faults disk.old) (D.faults disk.new) }
-    ensures out { HasCauseAt (result ≡ Why.OutFault) (O.faults (inner out.old)) (O.faults (inner out.new)) }
-    ensures err { HasCauseAt (result ≡ Why.ErrFault) (E.faults (inner err.old)) (E.faults (inner err.new)) }
+    ensures usage { (f : WordsFault) → ComesWhere (Why.Usage f) result.0 (ask words.now ≡ Err f) }
+    ensures usage_kind { (f : WordsFault) → result.0 ≡ Why.Usage f → f.kind ≢ WordsKind.NoMemory }
+    ensures unbuilt { ComesWhere (Why.NotBuilt Unbuilt.Words) result.0 (asks_unbuilt words.now ≡ true) }
+    ensures bad_format { (f : FormatFault) → ComesWhere (Why.BadFormat f) result.0 (asks_format words.now ≡ Some (Err f)) }
+    ensures bad_format_kind { (f : FormatFault) → result.0 ≡ Why.BadFormat f → f.kind ≢ FormatKind.NoMemory }
+    ensures unread { asks words.now ≡ None → (result.1 ≡ disk) × (out.new ≡ out.old) × (err.new ≡ err.old) }
+    ensures went { (a : AskParts) (tree : Tree) → asks words.now ≡ Some (a, tree) → IsTrue D.tells
+        → Queried (λ file s. query tree (packages file s) words.now a) (D.files disk) result.0
+        (outputs O.tells (O.taken (inner out.old)) E.tells (E.taken (inner err.old))) (outputs O.tells (O.taken (inner out.new)) E.tells
+        (E.taken (inner err.new))) (D.bytes_read disk File.Pkg) (D.bytes_read result.1 File.Pkg) }
+    ensures reads { (a : AskParts) (tree : Tree) → asks words.now ≡ Some (a, tree) → IsTrue D.tells → AtMost (D.bytes_read disk File.Pkg)
+        (D.bytes_read result.1 File.Pkg) (query_cost (passes a) (reopened (D.files disk)).pkg) }
+    ensures looks { Leaves D.tells D.files D.left_since D.moment D.bytes_read D.follows disk result.1 }
+    ensures disk { HasCauseAt (result.0 ≡ Why.DiskFault) (D.faults disk) (D.faults result.1) }
+    ensures out { HasCauseAt (result.0 ≡ Why.OutFault) (O.faults (inner out.old)) (O.faults (inner out.new)) }
+    ensures err { HasCauseAt (result.0 ≡ Why.ErrFault) (E.faults (inner err.old)) (E.faults (inner err.new)) }
     ensures out_rest { HandsOn O.follows out.old out.new }
     ensures err_rest { HandsOn E.follows err.old err.new }
 {
-    match read_format(alloc, words) {
-        Ok(format) => query_all(alloc, &format, disk, out, err),
-        Err(why) => why,
+    match read_command(alloc, words) {
+        Ok((ask, format)) => query_loaded(alloc, disk, words, &ask, &format, out, err),
+        Err(why) => (why, disk),
     }
 }
 
@@ -90,19 +92,21 @@ pub fn run<D: Disk, S: Shelf, O: Sink, E: Sink>(
     // A format that has a fault is answered so, exactly there, with its first fault. Nothing is done for such words, nor for those above.
     ensures bad_format { (f : FormatFault) → ComesWhere (Why.BadFormat f) result.0.why (asks_format words.now ≡ Some (Err f)) }
     ensures bad_format_kind { (f : FormatFault) → result.0.why ≡ Why.BadFormat f → f.kind ≢ FormatKind.NoMemory }
-    ensures unread { asks_all words.now ≡ None → (result.1 ≡ disk) × (out.new ≡ out.old) }
-    ensures unbuilt_closes { asks_all words.now ≡ None → Closes (closing words.now result.0.why) (outputs O.tells (O.taken out.old) E.tells
+    ensures unread { asks words.now ≡ None → (result.1 ≡ disk) × (out.new ≡ out.old) }
+    ensures unbuilt_closes { asks words.now ≡ None → Closes (closing words.now result.0.why) (outputs O.tells (O.taken out.old) E.tells
         (E.taken err.old)) (outputs O.tells (O.taken out.new) E.tells (E.taken err.new)) (E.faults err.old) (E.faults err.new) }
 
-    // The theorem: the query of all packages by the format of the words, and the line that closes it.
-    ensures answers { (tree : Tree) → asks_all words.now ≡ Some tree → IsTrue D.tells
-        → Ends (λ mid. Queried tree (D.files disk).pkg (store (D.files disk).pkg) result.0.why (outputs O.tells (O.taken out.old) E.tells
-        (E.taken err.old)) mid (D.bytes_read disk File.Pkg) (D.bytes_read result.1 File.Pkg)) (closing words.now result.0.why)
+    // The theorem: the command of the words on the database as it reads when an open log is gone through, and the line that closes it.
+    ensures answers { (a : AskParts) (tree : Tree) → asks words.now ≡ Some (a, tree) → IsTrue D.tells
+        → Ends (λ mid. Queried (λ file s. query tree (packages file s) words.now a) (D.files disk) result.0.why
+        (outputs O.tells (O.taken out.old) E.tells (E.taken err.old)) mid (D.bytes_read disk File.Pkg) (D.bytes_read result.1 File.Pkg))
+        (closing words.now result.0.why)
         (outputs O.tells (O.taken out.new) E.tells (E.taken err.new)) (E.faults err.old) (E.faults err.new) }
 
-    // The disk reads as before, and so do its images; of Packages.db no more is read than its pages and packages.
-    ensures looks { (most : ℕ) × Looks D.tells D.files D.left_since D.moment D.bytes_read D.follows Pkg most disk result.1 }
-    ensures reads { IsTrue D.tells → D.bytes_read result.1 File.Pkg ≤ D.bytes_read disk File.Pkg + query_cost (D.files disk).pkg }
+    // The disk reads as before, and so do its images; of Packages.db no more is read than its pages and for each argument its packages.
+    ensures looks { Leaves D.tells D.files D.left_since D.moment D.bytes_read D.follows disk result.1 }
+    ensures reads { (a : AskParts) (tree : Tree) → asks words.now ≡ Some (a, tree) → IsTrue D.tells → AtMost (D.bytes_read disk File.Pkg)
+        (D.bytes_read result.1 File.Pkg) (query_cost (passes a) (reopened (D.files disk)).pkg) }
     ensures shelf { shelf.new ≡ shelf.old }
 
     // A fault is answered only where its object counted one.
@@ -110,10 +114,9 @@ pub fn run<D: Disk, S: Shelf, O: Sink, E: Sink>(
     ensures out_fault { HasCauseAt (result.0.why ≡ Why.OutFault) (O.faults out.old) (O.faults out.new) }
     ensures err_fault { HasCauseAt (result.0.why ≡ Why.ErrFault) (E.faults err.old) (E.faults err.new) }
 {
-    let mut disk = disk;
     let mut out = Buffered::new(out);
     let mut err = Buffered::new(err);
-    let why = command(alloc, words, &mut disk, &mut out, &mut err);
+    let (why, disk) = command(alloc, words, disk, &mut out, &mut err);
     let _ = put_closing(&mut err, words, why);
     let outcome = Outcome {
         status: status_of(why),

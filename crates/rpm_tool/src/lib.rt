@@ -4,9 +4,13 @@
 #![tactic(auto)]
 
 mod answer;
+mod argument;
 mod asked;
 mod closing;
 mod command;
+mod loaded;
+mod missing;
+mod picked;
 mod pieces;
 mod query;
 mod step;

@@ -1,10 +1,11 @@
 //! Text that is written in pieces.
 
-ghost use Rattle.std.specs.Prelude.{map};
+ghost use Rattle.std.specs.Prelude.{◌≡◌, [], map};
 ghost use Rattle.std.specs.List.{concat};
+ghost use Rattle.rpm_outside.specs.Buffered.{inner, holds};
 ghost use Rattle.rpm_outside.specs.Sinks.{Writes};
 
-use rpm_outside::{Failed, Sink, put_all};
+use rpm_outside::{Buffered, Failed, Sink, put_all};
 
 /// Writes these pieces, one after the other. It takes no memory.
 pub fn put_pieces<S: Sink>(sink: &mut S, pieces: &[&[u8]]) -> Result<(), Failed>
@@ -14,4 +15,24 @@ pub fn put_pieces<S: Sink>(sink: &mut S, pieces: &[&[u8]]) -> Result<(), Failed>
         put_all(sink, piece)?;
     }
     Ok(())
+}
+
+/// Writes them, and gives the sink behind the buffer all of them.
+fn put_through<S: Sink + Drop>(sink: &mut Buffered<S>, pieces: &[&[u8]]) -> Result<(), Failed>
+    requires { holds sink.old ≡ [] }
+    ensures { Writes S.tells S.taken S.faults S.follows (inner sink.old) (inner sink.new) (concat (map (λ piece. piece.now) pieces.now)) result }
+{
+    put_pieces(sink, pieces)?;
+    sink.flush()
+}
+
+/// Writes so. What a sink that failed didn't take is let go.
+pub fn put_line<S: Sink + Drop>(sink: &mut Buffered<S>, pieces: &[&[u8]]) -> Result<(), Failed>
+    requires { holds sink.old ≡ [] }
+    ensures writes { Writes S.tells S.taken S.faults S.follows (inner sink.old) (inner sink.new) (concat (map (λ piece. piece.now) pieces.now)) result }
+    ensures empty { holds sink.new ≡ [] }
+{
+    let put = put_through(sink, pieces);
+    sink.clear();
+    put
 }

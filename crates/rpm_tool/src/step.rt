@@ -1,26 +1,22 @@
 //! What is printed of one package.
 
-ghost use Rattle.std.specs.Prelude.{◌≡◌, ◌≢◌, ℕ, Bool, List, [], IsTrue, IsSome, Some, Err, IfOk};
-ghost use Rattle.std.specs.FinMap.{get};
+ghost use Rattle.std.specs.Prelude.{◌≡◌, ◌≢◌, ℕ, Bool, List, [], Err, IfOk};
 ghost use Rattle.rpm_outside.specs.Buffered.{inner, holds, HandsOn};
 ghost use Rattle.rpm_outside.specs.Causes.{HasCauseAt};
-ghost use Rattle.rpm_outside.specs.declared.disk.File.TheVariants.{Pkg};
-ghost use Rattle.rpm_outside.specs.Looks.{Looks};
-ghost use Rattle.rpm_pkgdb.specs.Slots.{slot_with};
-ghost use Rattle.rpm_pkgdb.specs.Store.{Keeps};
-ghost use Rattle.rpm_pkgdb.specs.Costs.{cost};
+ghost use Rattle.rpm_header.specs.Header.{header};
 ghost use Rattle.rpm_qfeval.specs.Meaning.{meaning};
 ghost use Rattle.rpm_qfeval.specs.Printed.{Prints, ending};
-ghost use Rattle.rpm_tool.specs.Installed.{Package, Good, package_of, installed};
+ghost use Rattle.rpm_select.specs.Picks.{entry_in};
 ghost use Rattle.rpm_tool.specs.Answers.{StepIs, outputs};
-ghost use Rattle.rpm_tool.specs.Steps.{ToErr, bearer, step_of, bad_line, sizes_line};
+ghost use Rattle.rpm_tool.specs.Steps.{Bearer, ToErr, bearer};
+ghost use Rattle.rpm_tool.specs.Queries.{bad_line, sizes_line, printed, bad_step, header_step, step_of};
 
 use itoa::Buffer;
 use rpm_header::View;
-use rpm_outside::{Buffered, Disk, Failed, Sink, put_and_flush};
-use rpm_pkgdb::{GetFault, PkgDb};
+use rpm_outside::{Buffered, Failed, Sink, put_and_flush};
 use rpm_qfeval::{DirectFault, print_direct};
 use rpm_qfparse::Format;
+use rpm_select::Picked;
 use std::alloc::{AllocError, Global};
 
 /// What stops a command before its end.
@@ -33,13 +29,9 @@ pub enum Stop {
 }
 
 /// Writes a message on a package to err.
-fn put_message<E: Sink + Drop>(
-    err: &mut Buffered<E>,
-    number: u32,
-    message: &[u8],
-) -> Result<bool, Stop>
+fn put_message<E: Sink + Drop>(err: &mut Buffered<E>, message: &[u8]) -> Result<bool, Stop>
     requires err_empty { holds err.old ≡ [] }
-    ensures step { (out_tells : Bool) (out : List ℕ) → StepIs (ToErr (bearer number) message.now) result
+    ensures step { (for : Bearer) (out_tells : Bool) (out : List ℕ) → StepIs (ToErr for message.now) result
         (outputs out_tells out E.tells (E.taken (inner err.old))) (outputs out_tells out E.tells (E.taken (inner err.new))) }
     ensures no_disk { result ≢ Err Stop.DiskFault }
     ensures no_out { result ≢ Err Stop.OutFault }
@@ -53,7 +45,7 @@ fn put_message<E: Sink + Drop>(
 }
 
 /// The message that a package can't be read.
-#[tactic(auto, unfolding(crate::specs::Steps::bad_line))]
+#[tactic(auto, unfolding(crate::specs::Queries::bad_line))]
 fn bad_line(alloc: Global, number: u32) -> Result<Vec<u8>, AllocError>
     ensures { IfOk result (λ line. line.items ≡ bad_line number) }
 {
@@ -68,7 +60,7 @@ fn bad_line(alloc: Global, number: u32) -> Result<Vec<u8>, AllocError>
 /// Writes to err that a package can't be read.
 fn put_bad<E: Sink + Drop>(alloc: Global, err: &mut Buffered<E>, number: u32) -> Result<bool, Stop>
     requires err_empty { holds err.old ≡ [] }
-    ensures step { (out_tells : Bool) (out : List ℕ) → StepIs (ToErr (bearer number) (bad_line number)) result
+    ensures step { (j : ℕ) (out_tells : Bool) (out : List ℕ) → StepIs (bad_step j number) result
         (outputs out_tells out E.tells (E.taken (inner err.old))) (outputs out_tells out E.tells (E.taken (inner err.new))) }
     ensures no_disk { result ≢ Err Stop.DiskFault }
     ensures no_out { result ≢ Err Stop.OutFault }
@@ -76,7 +68,7 @@ fn put_bad<E: Sink + Drop>(alloc: Global, err: &mut Buffered<E>, number: u32) ->
     ensures err_rest { HandsOn E.follows err.old err.new }
 {
     match bad_line(alloc, number) {
-        Ok(line) => put_message(err, number, &line),
+        Ok(line) => put_message(err, &line),
         Err(_) => Err(Stop::NoMemory),
     }
 }
@@ -118,7 +110,7 @@ fn print_flushed<O: Sink + Drop>(
 
 /// Prints what the format says of a header, to out (true), or where a bracket's tags have different numbers of elements
 /// a message, to err (false).
-#[tactic(auto, unfolding(crate::specs::Steps::sizes_line))]
+#[tactic(auto, unfolding(crate::specs::Queries::sizes_line))]
 fn print_header<O: Sink + Drop, E: Sink + Drop>(
     format: &Format,
     view: &View<'_>,
@@ -128,7 +120,7 @@ fn print_header<O: Sink + Drop, E: Sink + Drop>(
 ) -> Result<bool, Stop>
     requires out_empty { holds out.old ≡ [] }
     requires err_empty { holds err.old ≡ [] }
-    ensures step { StepIs (step_of format.now number (Good view.now)) result (outputs O.tells (O.taken (inner out.old)) E.tells
+    ensures step { (j : ℕ) → StepIs (printed (bearer j number) (meaning view.now number format.now)) result (outputs O.tells (O.taken (inner out.old)) E.tells
         (E.taken (inner err.old))) (outputs O.tells (O.taken (inner out.new)) E.tells (E.taken (inner err.new))) }
     ensures no_disk { result ≢ Err Stop.DiskFault }
     ensures out { HasCauseAt (result ≡ Err Stop.OutFault) (O.faults (inner out.old)) (O.faults (inner out.new)) }
@@ -141,7 +133,6 @@ fn print_header<O: Sink + Drop, E: Sink + Drop>(
         Err(DirectFault::OutFault) => Err(Stop::OutFault),
         Err(DirectFault::SizesDiffer { .. }) => put_message(
             err,
-            number,
             b"error: incorrect format: array iterator used with different sized arrays\n",
         ),
     }
@@ -158,7 +149,7 @@ fn print_blob<O: Sink + Drop, E: Sink + Drop>(
 ) -> Result<bool, Stop>
     requires out_empty { holds out.old ≡ [] }
     requires err_empty { holds err.old ≡ [] }
-    ensures step { StepIs (step_of format.now number (package_of (Some blob.now))) result (outputs O.tells (O.taken (inner out.old)) E.tells
+    ensures step { (j : ℕ) → StepIs (header_step format.now j number (header blob.now)) result (outputs O.tells (O.taken (inner out.old)) E.tells
         (E.taken (inner err.old))) (outputs O.tells (O.taken (inner out.new)) E.tells (E.taken (inner err.new))) }
     ensures no_disk { result ≢ Err Stop.DiskFault }
     ensures out { HasCauseAt (result ≡ Err Stop.OutFault) (O.faults (inner out.old)) (O.faults (inner out.new)) }
@@ -172,36 +163,28 @@ fn print_blob<O: Sink + Drop, E: Sink + Drop>(
     }
 }
 
-/// Prints a package, to out (true), or a message, to err (false). Its blocks are read once, and its blob is let go again.
-pub fn print_package<D: Disk, O: Sink + Drop, E: Sink + Drop>(
+/// Prints a package that was picked, to out (true), or a message, to err (false).
+pub fn print_picked<O: Sink + Drop, E: Sink + Drop>(
     alloc: Global,
-    db: &PkgDb,
-    disk: &mut D,
-    number: u32,
     format: &Format,
+    picked: &Picked,
     out: &mut Buffered<O>,
     err: &mut Buffered<E>,
 ) -> Result<bool, Stop>
     requires out_empty { holds out.old ≡ [] }
     requires err_empty { holds err.old ≡ [] }
-    requires keeps { IsTrue D.tells → Keeps (D.files disk.old).pkg db.now }
-    requires held { IsSome (slot_with number db.now.slots) }
-    ensures step { IsTrue D.tells → (p : Package) → get (installed (D.files disk.old).pkg db.now) number ≡ Some p
-        → StepIs (step_of format.now number p) result (outputs O.tells (O.taken (inner out.old)) E.tells (E.taken (inner err.old)))
-        (outputs O.tells (O.taken (inner out.new)) E.tells (E.taken (inner err.new))) }
-    ensures kept { IsTrue D.tells → Keeps (D.files disk.new).pkg db.now }
-    ensures looks { Looks D.tells D.files D.left_since D.moment D.bytes_read D.follows Pkg (cost number db.now) disk.old disk.new }
-    ensures disk { HasCauseAt (result ≡ Err Stop.DiskFault) (D.faults disk.old) (D.faults disk.new) }
+    ensures step { (j : ℕ) → StepIs (step_of format.now j (entry_in picked.now)) result (outputs O.tells (O.taken (inner out.old)) E.tells
+        (E.taken (inner err.old))) (outputs O.tells (O.taken (inner out.new)) E.tells (E.taken (inner err.new))) }
+    ensures no_disk { result ≢ Err Stop.DiskFault }
     ensures out { HasCauseAt (result ≡ Err Stop.OutFault) (O.faults (inner out.old)) (O.faults (inner out.new)) }
     ensures err { HasCauseAt (result ≡ Err Stop.ErrFault) (E.faults (inner err.old)) (E.faults (inner err.new)) }
     ensures out_rest { HandsOn O.follows out.old out.new }
     ensures err_rest { HandsOn E.follows err.old err.new }
 {
-    match db.get(alloc, disk, number) {
-        Ok(blob) => print_blob(alloc, format, number, &blob, out, err),
-        Err(GetFault::Bad) => put_bad(alloc, err, number),
-        Err(GetFault::NoSuch) => unreachable!(),
-        Err(GetFault::DiskFault) => Err(Stop::DiskFault),
-        Err(GetFault::NoMemory) => Err(Stop::NoMemory),
+    match picked {
+        Picked::Good { number, blob } => {
+            print_blob(alloc, format, *number, blob.as_slice(), out, err)
+        }
+        Picked::Bad { number } => put_bad(alloc, err, *number),
     }
 }

@@ -1,4 +1,5 @@
 mod formats;
+mod queries;
 mod words;
 
 use crate::{Damage, Outcome, Reason, Why, run};
@@ -208,11 +209,12 @@ struct Ran {
     err: MemSink,
 }
 
-// Runs words on a file, with a disk call that is to fail (0: none), and limits of the sinks.
-fn run_on(
+// Runs words on a file and a log, with a disk call that is to fail (0: none), and limits of the sinks.
+fn run_over(
     alloc: Global,
     words: &[&str],
     file: &[u8],
+    log: &[u8],
     call: u64,
     limits: [u64; 2],
 ) -> Result<Ran, AllocError> {
@@ -222,7 +224,7 @@ fn run_on(
             line.push(word)?;
         }
     }
-    let mut disk = MemDisk::new(alloc, file, &[], &[])?;
+    let mut disk = MemDisk::new(alloc, file, &[], log)?;
     disk.fail_call(call)?;
     let mut shelf = MemShelf::new(alloc);
     let mut out = MemSink::new(alloc);
@@ -237,6 +239,17 @@ fn run_on(
         out,
         err,
     })
+}
+
+// The same without a log.
+fn run_on(
+    alloc: Global,
+    words: &[&str],
+    file: &[u8],
+    call: u64,
+    limits: [u64; 2],
+) -> Result<Ran, AllocError> {
+    run_over(alloc, words, file, &[], call, limits)
 }
 
 const NO_LIMITS: [u64; 2] = [u64::MAX, u64::MAX];

@@ -68,10 +68,10 @@ fn other_commands_are_not_built(rt: HostRuntime) -> Result<(), Fail> {
     let commands: [&[&str]; 8] = [
         &["rpm", "-q", "a"],
         &["rpm", "-q", "--tid", "6"],
-        &["rpm", "-qa", "x"],
+        &["rpm", "-qp", "a"],
         // The format isn't looked at.
-        &["rpm", "-qa", "--after", "1", "--qf", "%"],
-        &["rpm", "-qa", "--noindex"],
+        &["rpm", "-q", "a", "--qf", "%"],
+        &["rpmdb", "--exportdb"],
         &["rpm", "--addpkg", "a"],
         &["rpm", "-Va", "--nofiles"],
         &["rpmdb", "--initdb"],

@@ -18,11 +18,11 @@ use Rattle.rpm_group.proofs.whole.write_seven.Goals as goal
 
 -- until the commit the disk is only looked at once it is recovered
 module _ {D : Type 0} (tells : Bool) (files : D → Files) (moment : D → ℕ) (left_since : D → ℕ → Files → Type 0) (bytes_read : D → File → ℕ)
-    (follows : D → D → Type 0) (told : IsTrue tells) where
+    (follows : D → D → Type 0) (faults : D → ℕ) (told : IsTrue tells) where
   recovered_leaves : (disk first second last : D) (ro rn : File → ℕ) (after : Files)
       → LeavesOnly moment left_since disk first (ReopensAsOneOf (left_since disk (moment disk)))
       → Untouched (files first) (files second) (left_since first) (left_since second) → moment second ≡ moment first
-      → KeepsBelow tells files moment left_since bytes_read follows second last ro rn
+      → KeepsBelow tells files moment left_since bytes_read follows faults second last ro rn
       → LeavesOnly moment left_since disk last (LeavesBoth (left_since disk (moment disk)) after)
   recovered_leaves disk first second last ro rn after run untouched same keeps =
       then_look moment left_since disk second last (LeavesBoth (left_since disk (moment disk)) after) (files second) (files last)
@@ -50,7 +50,7 @@ returns-in_default-write_at-clause-images g c = λ told.
     let looks = c.in-Ok-load.ensures.looks in
     subst (λ (d : _). LeavesOnly D.moment D.left_since c.args.disk d
     (LeavesBoth (D.left_since c.args.disk (D.moment c.args.disk)) (with_seven (reopened (D.files c.args.disk))))) (sym c.release.ensures)
-    (recovered_leaves D.tells D.files D.moment D.left_since D.bytes_read D.follows told c.args.disk c.recover.new.disk overlay.below last _ _
+    (recovered_leaves D.tells D.files D.moment D.left_since D.bytes_read D.follows D.faults told c.args.disk c.recover.new.disk overlay.below last _ _
     (with_seven (reopened (D.files c.args.disk)))
     (c.recover.ensures.images told) (looks.untouched told) looks.moment_stays c.write_at.ensures.follows)
 
@@ -62,7 +62,7 @@ returns-then-is_starved-clause-images g c = λ told.
     let looks = c.in-Ok-load.ensures.looks in
     subst (λ (d : _). LeavesOnly D.moment D.left_since c.args.disk d
     (LeavesBoth (D.left_since c.args.disk (D.moment c.args.disk)) (with_seven (reopened (D.files c.args.disk))))) (sym c.release-then-is_starved.ensures)
-    (recovered_leaves D.tells D.files D.moment D.left_since D.bytes_read D.follows told c.args.disk c.recover.new.disk overlay.below last _ _
+    (recovered_leaves D.tells D.files D.moment D.left_since D.bytes_read D.follows D.faults told c.args.disk c.recover.new.disk overlay.below last _ _
     (with_seven (reopened (D.files c.args.disk)))
     (c.recover.ensures.images told) (looks.untouched told) looks.moment_stays c.write_at.ensures.follows)
 
@@ -82,8 +82,8 @@ returns-clause-images g c = λ told.
     ∙ ap (λ (f : Files). unlogged (with_file Pkg (put 0 (replicate 16 7 ∷ []) f.pkg) f)) (c.in-Ok-load.ensures.files told
     ∙ ap (λ (f : Files). with_file Log (D.files c.recover.new.disk).log f) (c.recover.ensures.stands told))
     ∙ ap (λ (us : Units). record { pkg = after.pkg; idx = after.idx; log = us }) (sym (reopened_log (D.files disk))) in
-    committed_leaves D.tells D.files D.moment D.left_since D.bytes_read D.follows told disk last c.commit-below.result.0 (unlogged (D.files last))
+    committed_leaves D.tells D.files D.moment D.left_since D.bytes_read D.follows D.faults told disk last c.commit-below.result.0 (unlogged (D.files last))
     after (unlogged (laid_files (overlay_held new) (D.files last))) (g.met.D.Disk.as_read disk told) before changed
-    (recovered_leaves D.tells D.files D.moment D.left_since D.bytes_read D.follows told disk c.recover.new.disk overlay.below last _ _ after
+    (recovered_leaves D.tells D.files D.moment D.left_since D.bytes_read D.follows D.faults told disk c.recover.new.disk overlay.below last _ _ after
     (c.recover.ensures.images told) (looks.untouched told) looks.moment_stays c.write_at.ensures.follows)
     (c.commit-below.ensures.images told)

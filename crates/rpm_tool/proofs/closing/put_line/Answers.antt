@@ -39,3 +39,9 @@ unfolding closing
 returns-in-NoMemory g c =
     subst (λ (w : Why). Writes g.E.Sink.tells g.E.Sink.taken g.E.Sink.faults g.E.Sink.follows c.args.err.now c.put_all-in-NoMemory.new.sink
     (closing c.args.words.now w) c.put_all-in-NoMemory.result) (sym c.in-NoMemory.is) c.put_all-in-NoMemory.ensures
+
+pub returns-in-BadLog : goal.returns-in-BadLog
+unfolding closing
+returns-in-BadLog g c =
+    subst (λ (w : Why). Writes g.E.Sink.tells g.E.Sink.taken g.E.Sink.faults g.E.Sink.follows c.args.err.now c.put_log.new.err
+    (closing c.args.words.now w) c.put_log.result) (sym c.in-BadLog.is) c.put_log.ensures

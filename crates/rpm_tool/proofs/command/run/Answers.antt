@@ -9,7 +9,7 @@ use Rattle.rpm_tool.proofs.Printing.{closes_of, inner_same}
 use Rattle.rpm_tool.proofs.command.run.Goals as goal
 
 pub returns-clause-answers : goal.returns-clause-answers
-returns-clause-answers g c = λ tree asks told.
+returns-clause-answers g c = λ a tree asked told.
     let out = ap (λ (lent : _). lent.now) c.new-out.ensures.inner in
     let err = ap (λ (lent : _). lent.now) c.new-err.ensures.inner in
     let later : g.E.Sink.faults c.args.err.now ≤ g.E.Sink.faults (inner c.command-why.new.err).now =
@@ -17,11 +17,11 @@ returns-clause-answers g c = λ tree asks told.
     c.command-why.ensures.err.later in
     let out_is : (inner c.command-why.new.out).now ≡ c.out-2-1.given.0 = search rules in
     let err_is : (inner c.put_closing.new.err).now ≡ c.err-3-1.given.0 = search rules in
-    let line = closing c.args.words.now c.command-why.result in
+    let line = closing c.args.words.now c.command-why.result.0 in
     let mid = outputs g.O.Sink.tells (g.O.Sink.taken (inner c.command-why.new.out).now) g.E.Sink.tells (g.E.Sink.taken (inner c.command-why.new.err).now) in
     record {
       mid = mid;
-      did = rw (out, err) at (c.command-why.ensures.went tree asks told);
+      did = rw (out, err) at (c.command-why.ensures.went a tree asked told);
       closes =
           subst (λ (e : _). Closes line mid (outputs g.O.Sink.tells (g.O.Sink.taken c.out-2-1.given.0) g.E.Sink.tells (g.E.Sink.taken e))
           (g.E.Sink.faults c.args.err.now) (g.E.Sink.faults e)) err_is
@@ -48,7 +48,7 @@ returns-clause-unbuilt_closes g c = λ none.
     let later : g.E.Sink.faults c.args.err.now ≤ g.E.Sink.faults (inner c.command-why.new.err).now =
     subst (λ (n : ℕ). n ≤ g.E.Sink.faults (inner c.command-why.new.err).now) (ap (λ (lent : _). g.E.Sink.faults lent.now) c.new-err.ensures.inner)
     c.command-why.ensures.err.later in
-    let line = closing c.args.words.now c.command-why.result in
+    let line = closing c.args.words.now c.command-why.result.0 in
     let before = g.E.Sink.faults c.args.err.now in
     let new_err = (inner c.put_closing.new.err).now in
     let out_tells = g.O.Sink.tells in
@@ -68,16 +68,16 @@ returns-clause-unbuilt_closes g c = λ none.
 pub returns-clause-out_fault : goal.returns-clause-out_fault
 returns-clause-out_fault g c =
     let out_is : (inner c.command-why.new.out).now ≡ c.out-2-1.given.0 = search rules in
-    subst (λ (o : _). HasCauseAt (c.command-why.result ≡ why.OutFault) (g.O.Sink.faults c.args.out.now) (g.O.Sink.faults o)) out_is
-    (subst (λ (n : ℕ). HasCauseAt (c.command-why.result ≡ why.OutFault) n (g.O.Sink.faults (inner c.command-why.new.out).now))
+    subst (λ (o : _). HasCauseAt (c.command-why.result.0 ≡ why.OutFault) (g.O.Sink.faults c.args.out.now) (g.O.Sink.faults o)) out_is
+    (subst (λ (n : ℕ). HasCauseAt (c.command-why.result.0 ≡ why.OutFault) n (g.O.Sink.faults (inner c.command-why.new.out).now))
     (ap (λ (lent : _). g.O.Sink.faults lent.now) c.new-out.ensures.inner) c.command-why.ensures.out)
 
 pub returns-clause-err_fault : goal.returns-clause-err_fault
 returns-clause-err_fault g c =
     let err_is : (inner c.put_closing.new.err).now ≡ c.err-3-1.given.0 = search rules in
-    let first : HasCauseAt (c.command-why.result ≡ why.ErrFault) (g.E.Sink.faults c.args.err.now) (g.E.Sink.faults (inner c.command-why.new.err).now) =
-    subst (λ (n : ℕ). HasCauseAt (c.command-why.result ≡ why.ErrFault) n (g.E.Sink.faults (inner c.command-why.new.err).now))
+    let first : HasCauseAt (c.command-why.result.0 ≡ why.ErrFault) (g.E.Sink.faults c.args.err.now) (g.E.Sink.faults (inner c.command-why.new.err).now) =
+    subst (λ (n : ℕ). HasCauseAt (c.command-why.result.0 ≡ why.ErrFault) n (g.E.Sink.faults (inner c.command-why.new.err).now))
     (ap (λ (lent : _). g.E.Sink.faults lent.now) c.new-err.ensures.inner) c.command-why.ensures.err in
     let last : g.E.Sink.faults (inner c.command-why.new.err).now ≤ g.E.Sink.faults (inner c.put_closing.new.err).now = c.put_closing.ensures.cause.later in
-    subst (λ (e : _). HasCauseAt (c.command-why.result ≡ why.ErrFault) (g.E.Sink.faults c.args.err.now) (g.E.Sink.faults e)) err_is
+    subst (λ (e : _). HasCauseAt (c.command-why.result.0 ≡ why.ErrFault) (g.E.Sink.faults c.args.err.now) (g.E.Sink.faults e)) err_is
     (record { later = le_trans first.later last; rose = λ e. le_trans (first.rose e) last })

@@ -22,6 +22,7 @@ loop-next-preserved g c =
     let more = cost_more db k m c.in-Some.ensures.next.0 in
     record {
       keeps = done.kept;
+      later = omega (arith, inv.later, c.in-Some.ensures.next.0);
       more = omega (arith, more, inv.more);
       looks =
           looks_then g.D.Disk.tells g.D.Disk.files g.D.Disk.left_since g.D.Disk.moment g.D.Disk.bytes_read g.D.Disk.follows Pkg g.met.D.Disk.follows_trans
@@ -115,3 +116,8 @@ pub returns-clause-own : goal.returns-clause-own
 returns-clause-own g c =
     own_all c.args.selection.now c.args.db.now c.loop-next.passed (g.D.Disk.bytes_read c.args.disk.now Pkg)
     (g.D.Disk.bytes_read c.loop-next.disk Pkg) c.loop-next.invariant.own
+
+pub returns-in-Ok-Some-clause-rises : goal.returns-in-Ok-Some-clause-rises
+returns-in-Ok-Some-clause-rises g c =
+    let number = rw c.in-Ok-Some.field-0-is at c.in-Ok-Some.ensures.numbered in
+    omega (arith, c.loop-next.invariant.later, c.in-Some.ensures.next.0, number)

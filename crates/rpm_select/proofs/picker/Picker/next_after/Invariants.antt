@@ -11,6 +11,7 @@ use Rattle.rpm_select.proofs.picker.Picker.next_after.Given as goal
 abbrev pub invariant-loop-next : goal.invariant-loop-next
 invariant-loop-next g l = record {
   keeps : IsTrue g.D.Disk.tells → Keeps (g.D.Disk.files l.disk).pkg l.db;
+  later : l.n ≤ l.passed;
   more : cost_to l.n l.db ≤ cost_to l.passed l.db;
   looks : Looks g.D.Disk.tells g.D.Disk.files g.D.Disk.left_since g.D.Disk.moment g.D.Disk.bytes_read g.D.Disk.follows Pkg
       (cost_to l.passed l.db - cost_to l.n l.db) l.initial.disk l.disk;

@@ -1,0 +1,118 @@
+-- What is said of a whole argument, and of all of them.
+use Rattle.std.proofs.Common.{◌≡◌, ℕ, zero, suc, ◌+◌, ◌-◌, ◌*◌, ◌<◌, ◌≤◌, ◌≢◌, Bool, true, false, if◌then◌else◌, List, [], ◌∷◌, ◌++◌, map, drop, length, Result, Ok, Err, Some, None, refl, sym, ap, ◌∙◌, subst, add-one, arith}
+use Rattle.std.specs.Prelude.{slice_get}
+use Rattle.std.proofs.lemmas.List.{append-nil}
+use Rattle.rpm_pkgdb.specs.Store.{Store}
+use Rattle.rpm_pkgdb.specs.Costs.{cost_all}
+use Rattle.rpm_words.specs.declared.switch.Chosen.{Chosen}
+use Rattle.rpm_qfparse.specs.Tree.{Tree}
+use Rattle.rpm_db.specs.State.{Package, above}
+use Rattle.rpm_tool.specs.declared.step.Stop.{Stop}
+use Rattle.rpm_tool.specs.declared.step.Stop.TheVariants as stop
+use Rattle.std.proofs.Math.Nat.{mul-le-mul_right}
+use Rattle.std.proofs.Math.Seq.{drop-nil}
+use Rattle.rpm_tool.specs.declared.answer.Why.TheVariants as why
+use Rattle.rpm_tool.specs.Steps.{Bearer, whole, Step, Course, Part, before, in_turn}
+use Rattle.rpm_tool.specs.Queries.{step_of, packages_part, missing_part, answered}
+use Rattle.rpm_tool.specs.Answers.{Outputs, Through, Reached, PartIs, ReadsIn, ReadsOf, Went, why_of, is_some_of, reach_all}
+use Rattle.rpm_tool.proofs.Reaching.{reached_reads, reached_empty}
+
+pub part_reads : (part : Part) (r : Result Bool Stop) (old new : Outputs) (P Q : Bearer → Type 0) → ((b : Bearer) → P b → Q b) → PartIs part r old new P
+    → PartIs part r old new Q
+part_reads part r old new P Q so p = record { steps = reached_reads {T = Bool} part.steps r old new P Q so p.steps; fails = p.fails }
+
+-- where the packages of an argument were not all gone through
+pub answered_stop : (tree : Tree) (chosen : Chosen) (after j : ℕ) (text : List ℕ) (es : List (ℕ × Package)) (what : Stop) (old new : Outputs)
+    (P Q : Bearer → Type 0) → ((b : Bearer) → P b → Q b) → PartIs (packages_part (step_of tree j) after es) (Err what) old new P
+    → PartIs (answered tree chosen after j text es) (Err what) old new Q
+answered_stop tree chosen after j text [] what old new P Q so p =
+    record { steps = reached_empty Bool Bool (missing_part chosen j text).steps what old new P Q p.steps; fails = tt }
+answered_stop tree chosen after j text (e ∷ es) what old new P Q so p = part_reads (packages_part (step_of tree j) after (e ∷ es)) (Err what) old new P Q so p
+
+-- where some were there, and all were gone through
+pub answered_done : (tree : Tree) (chosen : Chosen) (after j : ℕ) (text : List ℕ) (es : List (ℕ × Package)) (fails : Bool) (old new : Outputs)
+    (P Q : Bearer → Type 0) → is_some_of es ≡ true → PartIs (packages_part (step_of tree j) after es) (Ok fails) old new P
+    → PartIs (answered tree chosen after j text es) (Ok fails) old new Q
+answered_done tree chosen after j text [] fails old new P Q some p = absurd cc
+answered_done tree chosen after j text (e ∷ es) fails old new P Q some p = record { steps = p.steps; fails = p.fails }
+
+-- a command that was stopped
+pub went_stop : (T : Type 0) (c : Course) (what : Stop) (old new : Outputs) (reads_to : Bearer → Type 0) → Reached {T = T} c.steps (Err what) old new reads_to
+    → Went c (why_of what) old new reads_to
+went_stop T c stop.DiskFault old new reads_to r = r
+went_stop T c stop.OutFault old new reads_to r = r
+went_stop T c stop.ErrFault old new reads_to r = r
+went_stop T c stop.NoMemory old new reads_to r = r
+
+pub some_above : (n : ℕ) (es : List (ℕ × Package)) → is_some_of (above n es) ≡ true → is_some_of es ≡ true
+some_above n [] some = some
+some_above n (e ∷ es) some = refl
+
+-- the argument at a place, and those behind it
+pub drop_get : {X : Type 0} (xs : List X) (i : ℕ) (x : X) → slice_get xs i ≡ Some x → drop i xs ≡ x ∷ drop (i + 1) xs
+drop_get [] i x is = absurd cc
+drop_get (y ∷ xs) zero x is = (let same : y ≡ x = cc in ap (λ z. z ∷ xs) same)
+drop_get (y ∷ xs) (suc i) x is = drop_get xs i x is ∙ ap (λ (k : ℕ). x ∷ drop k xs) (add-one i) ∙ ap (λ (k : ℕ). x ∷ drop k (y ∷ xs)) (sym (add-one (suc i)))
+
+-- ---- the arguments, one after the other
+
+pub none_left : {X : Type 0} (xs : List X) (n : ℕ) → length xs ≤ n → drop n xs ≡ []
+none_left [] n le = drop-nil n
+none_left (x ∷ xs) zero le = absurd (omega (arith, le))
+none_left (x ∷ xs) (suc n) le = none_left xs n (omega (arith, le))
+
+pub mul_more : (k c : ℕ) → k * c + c ≡ (k + 1) * c
+mul_more k c = omega arith
+
+abbrev counted : Bool → ℕ
+counted b = if b then 1 else 0
+
+module _ (each : ℕ → List ℕ → Part) (f : ℕ → List ℕ) (args : List ℕ) where
+  abbrev pub rest_of : ℕ → Course
+  rest_of k = in_turn each k (map f (drop k args))
+
+  module _ (k word : ℕ) (here : slice_get args k ≡ Some word) where
+    split : rest_of k ≡ before (each k (f word)) (rest_of (k + 1))
+    split = ap (λ (ws : List ℕ). in_turn each k (map f ws)) (drop_get args k word here)
+
+    pub turn_steps : (rest_of k).steps ≡ (each k (f word)).steps ++ (rest_of (k + 1)).steps
+    turn_steps = ap (λ (c : Course). c.steps) split
+
+    pub turn_failed : (all failed : ℕ) (fails : Bool) → (each k (f word)).fails ≡ fails → all ≡ failed + (rest_of k).failed
+        → all ≡ (failed + counted fails) + (rest_of (k + 1)).failed
+    turn_failed all failed fails is total =
+        let parts : (rest_of k).failed ≡ counted (each k (f word)).fails + (rest_of (k + 1)).failed = ap (λ (c : Course). c.failed) split in
+        let one : counted (each k (f word)).fails ≡ counted fails = ap counted is in
+        omega (arith, total, parts, one)
+
+  pub turn_end : (k : ℕ) → length args ≤ k → (rest_of k).steps ≡ []
+  turn_end k le = ap (λ (ws : List ℕ). (in_turn each k (map f ws)).steps) (none_left args k le)
+
+  pub turn_none : (k : ℕ) → length args ≤ k → (rest_of k).failed ≡ 0
+  turn_none k le = ap (λ (ws : List ℕ). (in_turn each k (map f ws)).failed) (none_left args k le)
+
+-- up to a package of an argument, and of all before it
+pub reads_all : (s : Store) (k before between now : ℕ) (for : Bearer) → between ≤ before + k * cost_all s → ReadsOf k s between now for → now ≤ before
+    + reach_all s for
+reads_all s k before between now for le r = rw r.0 (omega (arith, le, r.1))
+
+pub within_count : (k n c : ℕ) → k ≤ n → k * c ≤ n * c
+within_count k n c le = mul-le-mul_right c le
+
+pub within_all : (k n c : ℕ) → k < n → k * c + c ≤ n * c
+within_all k n c lt = omega (arith, mul_more k c, within_count (k + 1) n c (omega (arith, lt)))
+
+pub went_done : (c : Course) (failed : ℕ) (old new : Outputs) (reads_to : Bearer → Type 0) → c.failed ≡ failed → failed ≡ 0 → Through c.steps old new
+    → Went c why.Done old new reads_to
+went_done c failed old new reads_to is none through = (through, is ∙ none)
+
+pub went_failed : (c : Course) (failed : ℕ) (old new : Outputs) (reads_to : Bearer → Type 0) → c.failed ≡ failed → failed ≢ 0 → Through c.steps old new
+    → Went c (why.Failed failed) old new reads_to
+went_failed c failed old new reads_to is some through = (through, is, omega (arith, some))
+
+pub reads_first : (s : Store) (n before between now : ℕ) (for : Bearer) → between ≤ before + 0 → ReadsIn 0 n s between now for → now ≤ before + reach_all s for
+reads_first s n before between now for le r = rw r.0 (omega (arith, le, r.1))
+
+pub few_more : (fails : Bool) (failed k : ℕ) → failed ≤ k → failed + counted fails ≤ k + 1
+few_more true failed k le = omega (arith, le)
+few_more false failed k le = omega (arith, le)

@@ -1,0 +1,161 @@
+-- A command on the files that a disk's files stand for.
+use Rattle.std.specs.Prelude.{IsTrue, ◌↔◌}
+use Rattle.rpm_outside.specs.Causes.{Rose}
+use Rattle.std.proofs.Common.{◌≡◌, ◌≢◌, ◌⊎◌, ℕ, zero, suc, ◌+◌, ◌-◌, ◌*◌, ◌^◌, ◌<◌, ◌≤◌, Bool, true, false, List, [], ◌∷◌, map, length, max, Result, Ok, Err, refl, sym, ap, ◌∙◌, subst, inl, inr, ⊎_elim, arith}
+use Rattle.std.proofs.Math.Nat.{mul-le-mul_right}
+use Rattle.std.specs.Ordering.{nat_cmp}
+use Rattle.std.specs.FinMap.{FinMap}
+use Rattle.rpm_outside.specs.Logs.{LogState, Closed, Malformed, Open}
+use Rattle.rpm_pkgdb.specs.declared.slot.Damage.{Damage}
+use Rattle.rpm_pkgdb.specs.Store.{Store}
+use Rattle.rpm_group.specs.declared.load.LoadFault.{LoadFault}
+use Rattle.rpm_group.specs.declared.load.LoadFault.TheVariants as load
+use Rattle.rpm_group.specs.Loads.{IsSound, LoadSays}
+use Rattle.rpm_words.specs.declared.switch.Chosen.{Chosen}
+use Rattle.rpm_qfparse.specs.Tree.{Tree}
+use Rattle.rpm_db.specs.State.{Package}
+use Rattle.rpm_select.specs.declared.selection.Selection.TheVariants as question
+use Rattle.rpm_select.specs.Selections.{picks}
+use Rattle.rpm_tool.specs.declared.answer.Why.{Why}
+use Rattle.rpm_tool.specs.declared.answer.Why.TheVariants as why
+use Rattle.rpm_tool.specs.Steps.{Bearer, Step, Course, before, idle, in_turn}
+use Rattle.rpm_tool.specs.Queries.{step_of, packages_part, argument_part, query_of}
+use Rattle.rpm_tool.specs.Answers.{Outputs, outputs, Through, Went, Opened, Loaded, Misread, Refused, why_of_load, unless_starved, AtMost}
+use Rattle.rpm_tool.proofs.Reaching.{through_none, within_reads}
+
+module _ (tree : Tree) (packages : FinMap nat_cmp Package) (chosen : Chosen) (after : ℕ) (f : ℕ → List ℕ) where
+  pub query_none : (args : List ℕ) → length args ≡ 0 → query_of tree packages chosen after (map f args)
+      ≡ before (packages_part (step_of tree 0) after (picks packages question.All)) idle
+  query_none [] none = refl
+  query_none (x ∷ xs) none = absurd (omega (arith, none))
+
+  pub query_some : (args : List ℕ) → length args ≢ 0 → query_of tree packages chosen after (map f args)
+      ≡ in_turn (argument_part tree packages chosen after) 0 (map f args)
+  query_some [] some = absurd (some refl)
+  query_some (x ∷ xs) some = refl
+
+pub often : (n c : ℕ) → n * c ≤ max 1 n * c
+often n c = mul-le-mul_right c (omega arith)
+
+pub once : (n c : ℕ) → c ≤ max 1 n * c
+once n c =
+    let le : 1 * c ≤ max 1 n * c = mul-le-mul_right c (omega arith) in
+    omega (arith, le)
+
+module _ (course : Store → Course) (reads_to : Store → Bearer → Type 0) where
+  -- nothing was done, for a fault of the disk or for want of memory
+  pub opened_fault : (ot et : Bool) (s : Result Store Damage) (o e : List ℕ)
+      → Opened course s why.DiskFault (outputs ot o et e) (outputs ot o et e) reads_to
+  opened_fault ot et (Ok s) o e = ([], (course s).steps, refl, through_none {ot = ot} {et = et} o e)
+  opened_fault ot et (Err damage) o e = (tt, through_none {ot = ot} {et = et} o e)
+
+  pub opened_starved : (ot et : Bool) (s : Result Store Damage) (o e : List ℕ)
+      → Opened course s why.NoMemory (outputs ot o et e) (outputs ot o et e) reads_to
+  opened_starved ot et (Ok s) o e = ([], (course s).steps, refl, through_none {ot = ot} {et = et} o e)
+  opened_starved ot et (Err damage) o e = (tt, through_none {ot = ot} {et = et} o e)
+
+  pub loaded_sound : (s : Result Store Damage) (log : LogState) (w : Why) (old new : Outputs) → IsSound log → Opened course s w old new reads_to
+      → Loaded course s log w old new reads_to
+  loaded_sound s Closed w old new sound opened = opened
+  loaded_sound s (Malformed unit) w old new sound opened = absurd sound
+  loaded_sound s (Open entries) w old new sound opened = opened
+
+  pub loaded_refused : (ot et : Bool) (s : Result Store Damage) (log : LogState) (fault : LoadFault) (o e : List ℕ) → LoadSays log (Err fault)
+      → Loaded course s log (why_of_load fault) (outputs ot o et e) (outputs ot o et e) reads_to
+  loaded_refused ot et s log (load.BadLog unit) o e says =
+      subst (λ (l : LogState). Loaded course s l (why.BadLog unit) (outputs ot o et e) (outputs ot o et e) reads_to) (sym says)
+      (refl, through_none {ot = ot} {et = et} o e)
+  loaded_refused ot et s Closed load.DiskFault o e says = opened_fault ot et s o e
+  loaded_refused ot et s (Malformed unit) load.DiskFault o e says = (tt, through_none {ot = ot} {et = et} o e)
+  loaded_refused ot et s (Open entries) load.DiskFault o e says = opened_fault ot et s o e
+  loaded_refused ot et s Closed load.NoMemory o e says = opened_starved ot et s o e
+  loaded_refused ot et s (Malformed unit) load.NoMemory o e says = (tt, through_none {ot = ot} {et = et} o e)
+  loaded_refused ot et s (Open entries) load.NoMemory o e says = opened_starved ot et s o e
+
+-- want of memory in place of a fault of the disk
+went_starved : (c : Course) (starved : Bool) (w : Why) (old new : Outputs) (reads_to : Bearer → Type 0) → Went c w old new reads_to
+    → Went c (unless_starved starved w) old new reads_to
+went_starved c true why.DiskFault old new reads_to went = went
+went_starved c true why.Done old new reads_to went = went
+went_starved c true (why.Failed n) old new reads_to went = went
+went_starved c true (why.Usage f) old new reads_to went = went
+went_starved c true (why.NotBuilt x) old new reads_to went = went
+went_starved c true (why.BadFormat f) old new reads_to went = went
+went_starved c true (why.BadLog u) old new reads_to went = went
+went_starved c true (why.Damaged d) old new reads_to went = went
+went_starved c true why.OutFault old new reads_to went = went
+went_starved c true why.ErrFault old new reads_to went = went
+went_starved c true why.NoMemory old new reads_to went = went
+went_starved c false w old new reads_to went = went
+
+refused_starved : (d : Damage) (starved : Bool) (w : Why) → Refused d w → Refused d (unless_starved starved w)
+refused_starved d true why.DiskFault r = tt
+refused_starved d true why.Done r = r
+refused_starved d true (why.Failed n) r = r
+refused_starved d true (why.Usage f) r = r
+refused_starved d true (why.NotBuilt x) r = r
+refused_starved d true (why.BadFormat f) r = r
+refused_starved d true (why.BadLog u) r = r
+refused_starved d true (why.Damaged e) r = r
+refused_starved d true why.OutFault r = r
+refused_starved d true why.ErrFault r = r
+refused_starved d true why.NoMemory r = r
+refused_starved d false w r = r
+
+pub opened_unless : (course : Store → Course) (reads_to : Store → Bearer → Type 0) (s : Result Store Damage) (starved : Bool) (w : Why)
+    (old new : Outputs) → Opened course s w old new reads_to → Opened course s (unless_starved starved w) old new reads_to
+opened_unless course reads_to (Ok s) starved w old new went = went_starved (course s) starved w old new (reads_to s) went
+opened_unless course reads_to (Err d) starved w old new (r, t) = (refused_starved d starved w r, t)
+
+-- what the disk below read, by what the overlay did
+pub below_reads : (before below now over over' most : ℕ) → below ≤ before → over ≡ 0 → over' ≤ over + most
+    → (now + over ≤ below + over') ⊎ (2 ^ 64 - 1 ≤ over') → AtMost before now most
+below_reads before below now over over' most same none le reads =
+    ⊎_elim (λ one. inl (omega (arith, one, le, none, same))) (λ two. inr (omega (arith, two, le, none))) reads
+
+-- the same answers, with what was read put otherwise
+pub went_reads : (c : Course) (w : Why) (old new : Outputs) (P Q : Bearer → Type 0) → ((b : Bearer) → P b → Q b) → Went c w old new P → Went c w old new Q
+went_reads c why.Done old new P Q so went = went
+went_reads c (why.Failed n) old new P Q so went = went
+went_reads c (why.Usage f) old new P Q so went = went
+went_reads c (why.NotBuilt x) old new P Q so went = went
+went_reads c (why.BadFormat f) old new P Q so went = went
+went_reads c (why.BadLog u) old new P Q so went = went
+went_reads c (why.Damaged d) old new P Q so went = went
+went_reads c why.DiskFault old new P Q so went = went
+went_reads c why.OutFault old new P Q so went = within_reads c.steps true old new P Q so went
+went_reads c why.ErrFault old new P Q so went = within_reads c.steps false old new P Q so went
+went_reads c why.NoMemory old new P Q so went = went
+
+pub opened_reads : (course : Store → Course) (P Q : Store → Bearer → Type 0) (s : Result Store Damage) (w : Why) (old new : Outputs)
+    → ((s : Store) (b : Bearer) → P s b → Q s b) → Opened course s w old new P → Opened course s w old new Q
+opened_reads course P Q (Ok s) w old new so went = went_reads (course s) w old new (P s) (Q s) (so s) went
+opened_reads course P Q (Err d) w old new so refused = refused
+
+-- a fault of the disk that isn't a write without memory is one of the disk below
+is_disk_fault : (starved : Bool) (w : Why) → unless_starved starved w ≡ why.DiskFault → (starved ≡ false) × (w ≡ why.DiskFault)
+is_disk_fault true why.DiskFault is = absurd cc
+is_disk_fault true why.Done is = absurd cc
+is_disk_fault true (why.Failed n) is = absurd cc
+is_disk_fault true (why.Usage f) is = absurd cc
+is_disk_fault true (why.NotBuilt x) is = absurd cc
+is_disk_fault true (why.BadFormat f) is = absurd cc
+is_disk_fault true (why.BadLog u) is = absurd cc
+is_disk_fault true (why.Damaged d) is = absurd cc
+is_disk_fault true why.OutFault is = absurd cc
+is_disk_fault true why.ErrFault is = absurd cc
+is_disk_fault true why.NoMemory is = absurd cc
+is_disk_fault false w is = (refl, is)
+
+not_starved : (starved : Bool) (n : ℕ) → starved ≡ false → IsTrue starved ↔ (0 < n) → n ≡ 0
+not_starved true n is told = absurd cc
+not_starved false zero is told = refl
+not_starved false (suc n) is told =
+    let both : false ≡ true = told.1 (omega arith) in
+    absurd cc
+
+pub fault_below : (start below now before after : ℕ) (starved : Bool) (w : Why) → unless_starved starved w ≡ why.DiskFault → start ≤ below → before ≡ 0
+    → IsTrue starved ↔ (0 < after) → (w ≡ why.DiskFault → Rose (below + before) (now + after)) → Rose start now
+fault_below start below now before after starved w is le none told rose =
+    let both = is_disk_fault starved w is in
+    omega (arith, rose both.1, not_starved starved after both.0 told, none, le)

@@ -1,0 +1,101 @@
+use Rattle.std.proofs.Common.{◌≡◌, ℕ, ◌+◌, ◌-◌, ◌≤◌, Bool, true, false, List, [], ◌∷◌, map, Ok, Err, None, refl, sym, ap, ◌∙◌, subst, arith}
+use Rattle.rpm_outside.specs.Buffered.{inner}
+use Rattle.rpm_outside.specs.declared.disk.File.TheVariants.{Pkg}
+use Rattle.rpm_outside.specs.Files.{Files}
+use Rattle.rpm_outside.specs.inner.Looking.{looks_then, looks_more}
+use Rattle.rpm_db.specs.State.{Package, packages, above}
+use Rattle.rpm_db.specs.Database.{cost_to, cost_all}
+use Rattle.rpm_db.specs.inner.Laws.{cost_some}
+use Rattle.rpm_select.specs.Selections.{picks}
+use Rattle.rpm_tool.specs.Steps.{Bearer, Step, whole}
+use Rattle.rpm_tool.specs.Queries.{step_of, packages_part, missing_part, answered, argument_part, picked, question_of}
+use Rattle.rpm_tool.specs.Answers.{Outputs, outputs, Reached, Through, PartIs, ReadsIn, ReadsOf, is_some_of}
+use Rattle.rpm_tool.proofs.Reaching.{reached_later, reached_unsunk}
+use Rattle.rpm_tool.proofs.Rising.{none_at_all}
+use Rattle.rpm_tool.proofs.Answering.{part_reads, answered_stop, answered_done, some_above}
+use Rattle.rpm_tool.proofs.argument.answer_with.Goals as goal
+
+pub returns-in-Err-clause-went : goal.returns-in-Err-clause-went
+returns-in-Err-clause-went g c = λ told j.
+    let s = c.args.db.now.store in
+    let es = picks (packages (g.D.Disk.files c.args.disk.now).pkg s) c.args.selection.now in
+    let before = g.D.Disk.bytes_read c.args.disk.now Pkg in
+    let now = g.D.Disk.bytes_read c.print_above.new.disk Pkg in
+    answered_stop c.args.format.now c.args.chosen c.args.after j c.args.text.now es c.in-Err.stop
+    (outputs g.O.Sink.tells (g.O.Sink.taken (inner c.args.out.now)) g.E.Sink.tells (g.E.Sink.taken (inner c.args.err.now)))
+    (outputs g.O.Sink.tells (g.O.Sink.taken (inner c.print_above.new.out)) g.E.Sink.tells (g.E.Sink.taken (inner c.print_above.new.err)))
+    (ReadsIn j c.args.after s before now) (ReadsOf j s before now) (λ b r. (r.0, omega (arith, r.1))) (c.in-Err.ensures.went told j)
+
+pub returns-in-Ok-true-clause-looks : goal.returns-in-Ok-true-clause-looks
+returns-in-Ok-true-clause-looks g c =
+    let db = c.args.db.now in
+    looks_then g.D.Disk.tells g.D.Disk.files g.D.Disk.left_since g.D.Disk.moment g.D.Disk.bytes_read g.D.Disk.follows Pkg g.met.D.Disk.follows_trans
+    (cost_all db - cost_to c.args.after db) (cost_to c.args.after db) (cost_all db) c.args.disk.now c.print_above.new.disk
+    c.is_any_passed.new.disk (omega (arith, cost_some db c.args.after)) c.in-Ok.ensures.looks c.in-Ok-true.ensures.looks
+
+pub returns-in-Ok-false-clause-looks : goal.returns-in-Ok-false-clause-looks
+returns-in-Ok-false-clause-looks g c =
+    let db = c.args.db.now in
+    looks_then g.D.Disk.tells g.D.Disk.files g.D.Disk.left_since g.D.Disk.moment g.D.Disk.bytes_read g.D.Disk.follows Pkg g.met.D.Disk.follows_trans
+    (cost_all db - cost_to c.args.after db) (cost_to c.args.after db) (cost_all db) c.args.disk.now c.print_above.new.disk
+    c.is_any_passed.new.disk (omega (arith, cost_some db c.args.after)) c.in-Ok.ensures.looks c.in-Ok-false.ensures.looks
+
+pub returns-in-Err-is_any_passed-clause-looks : goal.returns-in-Err-is_any_passed-clause-looks
+returns-in-Err-is_any_passed-clause-looks g c =
+    let db = c.args.db.now in
+    looks_then g.D.Disk.tells g.D.Disk.files g.D.Disk.left_since g.D.Disk.moment g.D.Disk.bytes_read g.D.Disk.follows Pkg g.met.D.Disk.follows_trans
+    (cost_all db - cost_to c.args.after db) (cost_to c.args.after db) (cost_all db) c.args.disk.now c.print_above.new.disk
+    c.is_any_passed.new.disk (omega (arith, cost_some db c.args.after)) c.in-Ok.ensures.looks c.in-Err-is_any_passed.ensures.looks
+
+pub returns-in-Ok-false-clause-went : goal.returns-in-Ok-false-clause-went
+returns-in-Ok-false-clause-went g c = λ told j.
+    let s = c.args.db.now.store in
+    let ot = g.O.Sink.tells in
+    let et = g.E.Sink.tells in
+    let tree = c.args.format.now in
+    let es = picks (packages (g.D.Disk.files c.args.disk.now).pkg s) c.args.selection.now in
+    let before = g.D.Disk.bytes_read c.args.disk.now Pkg in
+    let now = g.D.Disk.bytes_read c.is_any_passed.new.disk Pkg in
+    let old = outputs ot (g.O.Sink.taken (inner c.args.out.now)) et (g.E.Sink.taken (inner c.args.err.now)) in
+    let mid = outputs ot (g.O.Sink.taken (inner c.print_above.new.out)) et (g.E.Sink.taken (inner c.print_above.new.err)) in
+    let new = outputs ot (g.O.Sink.taken (inner c.put_missing_part.new.out)) et (g.E.Sink.taken (inner c.put_missing_part.new.err)) in
+    let none : above c.args.after es ≡ [] = none_at_all (above c.args.after es) (sym (c.in-Ok.ensures.some told) ∙ c.if-printed.false) in
+    let through : Through [] old mid = subst (λ (xs : List (ℕ × Package)). Through (map (step_of tree j) xs) old mid) none
+        (c.in-Ok.ensures.went told j).steps in
+    let any = c.in-Ok-false.ensures.told told (subst (λ (f : Files). above c.args.after (picks (packages f.pkg s) c.args.selection.now) ≡ [])
+        (sym (c.in-Ok.ensures.looks.untouched told).same) none) in
+    let nothing : es ≡ [] = none_at_all es (subst (λ (f : Files). is_some_of (picks (packages f.pkg s) c.args.selection.now) ≡ false)
+        (c.in-Ok.ensures.looks.untouched told).same (sym any ∙ c.in-Ok-false.field-0-test)) in
+    let missed = part_reads (missing_part c.args.chosen j c.args.text.now) c.put_missing_part.result mid new (λ b. b ≡ whole j) (ReadsOf j s before now)
+    (λ b is. subst (λ (w : Bearer). ReadsOf j s before now w) (sym is)
+    (refl, omega (arith, c.in-Ok.ensures.looks.reads.pkg, c.in-Ok-false.ensures.looks.reads.pkg, cost_some c.args.db.now c.args.after)))
+    (rw c.as_bytes.ensures.value at (c.put_missing_part.ensures.part j)) in
+    subst (λ (xs : List (ℕ × Package)). PartIs (answered tree c.args.chosen c.args.after j c.args.text.now xs) c.put_missing_part.result old new
+    (ReadsOf j s before now)) (sym nothing)
+    (record {
+      steps = reached_later Bool ot et (missing_part c.args.chosen j c.args.text.now).steps c.put_missing_part.result
+          (g.O.Sink.taken (inner c.args.out.now)) (g.O.Sink.taken (inner c.print_above.new.out)) (g.O.Sink.taken (inner c.put_missing_part.new.out))
+          (g.E.Sink.taken (inner c.args.err.now)) (g.E.Sink.taken (inner c.print_above.new.err)) (g.E.Sink.taken (inner c.put_missing_part.new.err))
+          (ReadsOf j s before now) through missed.steps;
+      fails = missed.fails;
+    })
+
+pub returns-in-Err-is_any_passed-clause-went : goal.returns-in-Err-is_any_passed-clause-went
+returns-in-Err-is_any_passed-clause-went g c = λ told j.
+    let s = c.args.db.now.store in
+    let ot = g.O.Sink.tells in
+    let et = g.E.Sink.tells in
+    let tree = c.args.format.now in
+    let es = picks (packages (g.D.Disk.files c.args.disk.now).pkg s) c.args.selection.now in
+    let before = g.D.Disk.bytes_read c.args.disk.now Pkg in
+    let now = g.D.Disk.bytes_read c.is_any_passed.new.disk Pkg in
+    let old = outputs ot (g.O.Sink.taken (inner c.args.out.now)) et (g.E.Sink.taken (inner c.args.err.now)) in
+    let mid = outputs ot (g.O.Sink.taken (inner c.print_above.new.out)) et (g.E.Sink.taken (inner c.print_above.new.err)) in
+    let none : above c.args.after es ≡ [] = none_at_all (above c.args.after es) (sym (c.in-Ok.ensures.some told) ∙ c.if-printed.false) in
+    let through : Through [] old mid = subst (λ (xs : List (ℕ × Package)). Through (map (step_of tree j) xs) old mid) none
+        (c.in-Ok.ensures.went told j).steps in
+    record {
+      steps = reached_unsunk Bool (answered tree c.args.chosen c.args.after j c.args.text.now es).steps c.in-Err-is_any_passed.stop old mid
+          (ReadsOf j s before now) c.in-Err-is_any_passed.ensures.no_sink through;
+      fails = tt;
+    }

@@ -1,0 +1,131 @@
+-- What a query does: what is printed of each package that it picks.
+use Rattle.std.specs.Prelude.{ℕ, List, [], ◌∷◌, ◌++◌, map, codes, decimal, Option, Some, None, Result, Ok, Err}
+use Rattle.std.specs.Borrow.{Bor}
+use Rattle.std.specs.Option.{option_map}
+use Rattle.std.specs.List.{concat}
+use Rattle.std.specs.Ordering.{nat_cmp}
+use Rattle.std.specs.FinMap.{FinMap}
+use Rattle.rpm_header.specs.declared.form.HeaderFault.{HeaderFault}
+use Rattle.rpm_header.specs.Header.{Header, header}
+use Rattle.rpm_version.specs.declared.capability.BadCapability.{BadCapability}
+use Rattle.rpm_version.specs.Capability.{CapabilityParts, capability}
+use Rattle.rpm_words.specs.declared.switch.Chosen.{Chosen}
+use Rattle.rpm_words.specs.declared.switch.Chosen.TheVariants as by
+use Rattle.rpm_words.specs.Number.{number}
+use Rattle.rpm_words.specs.Words.{text_at}
+use Rattle.rpm_words.specs.Ask.{AskParts}
+use Rattle.rpm_qfparse.specs.Tree.{Tree}
+use Rattle.rpm_qfeval.specs.Meaning.{meaning}
+use Rattle.rpm_db.specs.State.{Package, Good, Bad, above}
+use Rattle.rpm_select.specs.declared.selection.Selection.{Selection}
+use Rattle.rpm_select.specs.declared.selection.Selection.TheVariants as question
+use Rattle.rpm_select.specs.Selections.{picks}
+use Rattle.rpm_tool.specs.Steps.{Bearer, bearer, whole, Step, ToOut, ToErr, Course, Part, nothing, fails, told, idle, before, in_turn}
+
+-- ---- a package
+
+-- the line of a number whose package can't be read
+unfoldable pub bad_line : ℕ → List ℕ
+bad_line n = codes "error: package " ++ decimal n ++ codes ": header cannot be read\n"
+
+-- the line of a header for which a bracket's tags have different numbers of elements
+unfoldable pub sizes_line : List ℕ
+sizes_line = codes "error: incorrect format: array iterator used with different sized arrays\n"
+
+abbrev pub bad_step : ℕ → ℕ → Step
+bad_step j n = ToErr (bearer j n) (bad_line n)
+
+-- what a format means is printed whole, or not at all
+abbrev pub printed : Bearer → Result (List ℕ) (ℕ × ℕ) → Step
+printed for (Ok bytes) = ToOut for bytes
+printed for (Err counts) = ToErr for sizes_line
+
+abbrev pub header_step : Tree → ℕ → ℕ → Result Header HeaderFault → Step
+header_step tree j n (Ok h) = printed (bearer j n) (meaning h n tree)
+header_step tree j n (Err fault) = bad_step j n
+
+-- of a number, by a format
+abbrev pub step_of : Tree → ℕ → ℕ × Package → Step
+step_of tree j (n, Good bytes) = header_step tree j n (header bytes)
+step_of tree j (n, Bad) = bad_step j n
+
+-- of the numbers above `after`, one after the other
+abbrev pub packages_part : (ℕ × Package → Step) → ℕ → List (ℕ × Package) → Part
+packages_part step after packages = told (map step (above after packages))
+
+-- ---- an argument
+
+-- a text that lies nowhere
+abbrev pub lent : List ℕ → Bor (List ℕ)
+lent text = record { ref_ptr = (0, 0); now = text }
+
+abbrev pub capability_in : (CapabilityParts → Selection) → Result CapabilityParts BadCapability → Option Selection
+capability_in of (Ok c) = Some (of c)
+capability_in of (Err bad) = None
+
+-- the question that an argument is. Of words that break no rule each number and each capability is one.
+abbrev pub question_of : Chosen → Bor (List ℕ) → Option Selection
+question_of by.Label x = Some (question.Label x)
+question_of by.All x = Some (question.Pattern x)
+question_of by.Path x = Some (question.Path x)
+question_of by.Group x = Some (question.Group x)
+question_of by.Package x = None
+question_of by.Provides x = capability_in question.Provides (capability x.now)
+question_of by.Requires x = capability_in question.Requires (capability x.now)
+question_of by.Conflicts x = capability_in question.Conflicts (capability x.now)
+question_of by.Obsoletes x = capability_in question.Obsoletes (capability x.now)
+question_of by.Trigger x = Some (question.Trigger x)
+question_of by.Number x = option_map question.Number (number x.now)
+question_of by.Directory x = Some (question.Directory x)
+question_of by.Tid x = option_map question.Tid (number x.now)
+question_of by.Recommends x = capability_in question.Recommends (capability x.now)
+
+abbrev pub picked_by : FinMap nat_cmp Package → Option Selection → List (ℕ × Package)
+picked_by packages None = []
+picked_by packages (Some sel) = picks packages sel
+
+-- the packages that an argument picks, by rising number
+unfoldable pub picked : FinMap nat_cmp Package → Chosen → List ℕ → List (ℕ × Package)
+picked packages chosen text = picked_by packages (question_of chosen (lent text))
+
+abbrev pub missing : ℕ → List ℕ → List ℕ → List ℕ → Part
+missing j front text back = fails (ToOut (whole j) (concat (front ∷ text ∷ back ∷ [])))
+
+abbrev pub missing_record : ℕ → List ℕ → Part
+missing_record j text = fails (ToErr (whole j) (concat (codes "error: record " ∷ text ∷ codes " could not be read\n" ∷ [])))
+
+-- the line of an argument that picks nothing, whatever was passed over; all packages and patterns have none
+unfoldable pub missing_part : Chosen → ℕ → List ℕ → Part
+missing_part by.Label j x = missing j (codes "package ") x (codes " is not installed\n")
+missing_part by.All j x = nothing
+missing_part by.Path j x = missing j (codes "file ") x (codes " is not owned by any package\n")
+missing_part by.Group j x = missing j (codes "group ") x (codes " does not contain any packages\n")
+missing_part by.Package j x = nothing
+missing_part by.Provides j x = missing j (codes "no package provides ") x (codes "\n")
+missing_part by.Requires j x = missing j (codes "no package requires ") x (codes "\n")
+missing_part by.Conflicts j x = missing j (codes "no package conflicts ") x (codes "\n")
+missing_part by.Obsoletes j x = missing j (codes "no package obsoletes ") x (codes "\n")
+missing_part by.Trigger j x = missing j (codes "no package triggers ") x (codes "\n")
+missing_part by.Number j x = missing_record j x
+missing_part by.Directory j x = missing j (codes "no package has files in ") x (codes "\n")
+missing_part by.Tid j x = missing j (codes "no package has transaction ") x (codes "\n")
+missing_part by.Recommends j x = missing j (codes "no package recommends ") x (codes "\n")
+
+-- given what it picks
+abbrev pub answered : Tree → Chosen → ℕ → ℕ → List ℕ → List (ℕ × Package) → Part
+answered tree chosen after j text [] = missing_part chosen j text
+answered tree chosen after j text (e ∷ es) = packages_part (step_of tree j) after (e ∷ es)
+
+abbrev pub argument_part : Tree → FinMap nat_cmp Package → Chosen → ℕ → ℕ → List ℕ → Part
+argument_part tree packages chosen after j text = answered tree chosen after j text (picked packages chosen text)
+
+-- ---- a query of the database
+
+-- a query without arguments is of all packages, and counts as one
+abbrev pub query_of : Tree → FinMap nat_cmp Package → Chosen → ℕ → List (List ℕ) → Course
+query_of tree packages chosen after [] = before (packages_part (step_of tree 0) after (picks packages question.All)) idle
+query_of tree packages chosen after (x ∷ xs) = in_turn (argument_part tree packages chosen after) 0 (x ∷ xs)
+
+-- by the words
+abbrev pub query : Tree → FinMap nat_cmp Package → List (List ℕ) → AskParts → Course
+query tree packages words a = query_of tree packages a.chosen a.after (map (text_at words) a.arguments)

@@ -1,0 +1,74 @@
+//! Commands on a database as it reads when an open log is gone through.
+
+ghost use Rattle.std.specs.Prelude.{◌≡◌, ◌≤◌, [], false, IsTrue};
+ghost use Rattle.rpm_outside.specs.Buffered.{inner, holds, HandsOn};
+ghost use Rattle.rpm_outside.specs.Causes.{HasCauseAt};
+ghost use Rattle.rpm_outside.specs.Logs.{reopened};
+ghost use Rattle.rpm_db.specs.State.{packages};
+ghost use Rattle.rpm_tool.specs.Queries.{query};
+ghost use Rattle.rpm_tool.specs.Answers.{outputs, is_of_words, why_of_load, unless_starved, Queried, AtMost, Leaves, passes, query_cost};
+
+use crate::answer::Why;
+use crate::query::query_unindexed;
+use rpm_group::{LoadFault, Overlay};
+use rpm_outside::{Buffered, Disk, File, Sink};
+use rpm_qfparse::Format;
+use rpm_words::{Ask, Words};
+use std::alloc::Global;
+
+/// The ending of a command whose database isn't loaded.
+fn why_of_load(fault: LoadFault) -> Why
+    ensures { result ≡ why_of_load fault }
+{
+    match fault {
+        LoadFault::BadLog { unit } => Why::BadLog { unit },
+        LoadFault::DiskFault => Why::DiskFault,
+        LoadFault::NoMemory => Why::NoMemory,
+    }
+}
+
+/// The ending of a command on an overlay: only the disk below counts.
+fn unless_starved(is_starved: bool, why: Why) -> Why
+    ensures { result ≡ unless_starved is_starved why }
+{
+    match why {
+        Why::DiskFault if is_starved => Why::NoMemory,
+        other => other,
+    }
+}
+
+/// Does a query on the files that the disk's files stand for, and hands the disk back as it was.
+pub fn query_loaded<D: Disk, O: Sink + Drop, E: Sink + Drop>(
+    alloc: Global,
+    disk: D,
+    words: &Words,
+    ask: &Ask,
+    format: &Format,
+    out: &mut Buffered<O>,
+    err: &mut Buffered<E>,
+) -> (Why, D)
+    requires out_empty { holds out.old ≡ [] }
+    requires err_empty { holds err.old ≡ [] }
+    ensures went { IsTrue D.tells → Queried (λ file s. query format.now (packages file s) words.now ask.now) (D.files disk) result.0
+        (outputs O.tells (O.taken (inner out.old)) E.tells (E.taken (inner err.old))) (outputs O.tells (O.taken (inner out.new)) E.tells
+        (E.taken (inner err.new))) (D.bytes_read disk File.Pkg) (D.bytes_read result.1 File.Pkg) }
+    ensures reads { IsTrue D.tells → AtMost (D.bytes_read disk File.Pkg) (D.bytes_read result.1 File.Pkg)
+        (query_cost (passes ask.now) (reopened (D.files disk)).pkg) }
+    ensures done { is_of_words result.0 ≡ false }
+    ensures looks { Leaves D.tells D.files D.left_since D.moment D.bytes_read D.follows disk result.1 }
+    ensures disk { HasCauseAt (result.0 ≡ Why.DiskFault) (D.faults disk) (D.faults result.1) }
+    ensures out { HasCauseAt (result.0 ≡ Why.OutFault) (O.faults (inner out.old)) (O.faults (inner out.new)) }
+    ensures err { HasCauseAt (result.0 ≡ Why.ErrFault) (E.faults (inner err.old)) (E.faults (inner err.new)) }
+    ensures out_rest { HandsOn O.follows out.old out.new }
+    ensures err_rest { HandsOn E.follows err.old err.new }
+{
+    match Overlay::load(alloc, disk) {
+        Ok(overlay) => {
+            let mut overlay = overlay;
+            let ended = query_unindexed(alloc, &mut overlay, words, ask, format, out, err);
+            let why = unless_starved(overlay.is_starved(), ended);
+            (why, overlay.release())
+        }
+        Err(refused) => (why_of_load(refused.why), refused.disk),
+    }
+}

@@ -1,0 +1,88 @@
+//! The line of an argument that picks nothing.
+
+ghost use Rattle.std.specs.Prelude.{◌≡◌, ◌≢◌, ℕ, Bool, List, [], Err};
+ghost use Rattle.rpm_outside.specs.Buffered.{inner, holds, HandsOn};
+ghost use Rattle.rpm_outside.specs.Causes.{HasCauseAt};
+ghost use Rattle.rpm_tool.specs.Steps.{whole};
+ghost use Rattle.rpm_tool.specs.Queries.{missing, missing_record, missing_part};
+ghost use Rattle.rpm_tool.specs.Answers.{outputs, PartIs};
+
+use crate::pieces::put_line;
+use crate::step::Stop;
+use rpm_outside::{Buffered, Sink};
+use rpm_words::Chosen;
+
+/// Writes to out a line that has the argument's text between two others; then the argument fails.
+fn put_missing<O: Sink + Drop>(
+    out: &mut Buffered<O>,
+    front: &[u8],
+    text: &[u8],
+    back: &[u8],
+) -> Result<bool, Stop>
+    requires out_empty { holds out.old ≡ [] }
+    ensures part { (j : ℕ) (err_tells : Bool) (err : List ℕ) → PartIs (missing j front.now text.now back.now) result
+        (outputs O.tells (O.taken (inner out.old)) err_tells err) (outputs O.tells (O.taken (inner out.new)) err_tells err) (λ for. for ≡ whole j) }
+    ensures no_disk { result ≢ Err Stop.DiskFault }
+    ensures no_err { result ≢ Err Stop.ErrFault }
+    ensures out { HasCauseAt (result ≡ Err Stop.OutFault) (O.faults (inner out.old)) (O.faults (inner out.new)) }
+    ensures out_rest { HandsOn O.follows out.old out.new }
+{
+    match put_line(out, &[front, text, back]) {
+        Ok(()) => Ok(true),
+        Err(_) => Err(Stop::OutFault),
+    }
+}
+
+/// Writes to err that a number has no record.
+fn put_no_record<E: Sink + Drop>(err: &mut Buffered<E>, text: &[u8]) -> Result<bool, Stop>
+    requires err_empty { holds err.old ≡ [] }
+    ensures part { (j : ℕ) (out_tells : Bool) (out : List ℕ) → PartIs (missing_record j text.now) result
+        (outputs out_tells out E.tells (E.taken (inner err.old))) (outputs out_tells out E.tells (E.taken (inner err.new))) (λ for. for ≡ whole j) }
+    ensures no_disk { result ≢ Err Stop.DiskFault }
+    ensures no_out { result ≢ Err Stop.OutFault }
+    ensures err { HasCauseAt (result ≡ Err Stop.ErrFault) (E.faults (inner err.old)) (E.faults (inner err.new)) }
+    ensures err_rest { HandsOn E.follows err.old err.new }
+{
+    match put_line(
+        err,
+        &[b"error: record ", text, b" could not be read\n"],
+    ) {
+        Ok(()) => Ok(true),
+        Err(_) => Err(Stop::ErrFault),
+    }
+}
+
+/// Writes the line of an argument that picks nothing, where it has one; then the argument fails.
+#[tactic(auto, unfolding(crate::specs::Queries::missing_part))]
+pub fn put_missing_part<O: Sink + Drop, E: Sink + Drop>(
+    chosen: Chosen,
+    text: &[u8],
+    out: &mut Buffered<O>,
+    err: &mut Buffered<E>,
+) -> Result<bool, Stop>
+    requires out_empty { holds out.old ≡ [] }
+    requires err_empty { holds err.old ≡ [] }
+    ensures part { (j : ℕ) → PartIs (missing_part chosen j text.now) result (outputs O.tells (O.taken (inner out.old)) E.tells
+        (E.taken (inner err.old))) (outputs O.tells (O.taken (inner out.new)) E.tells (E.taken (inner err.new))) (λ for. for ≡ whole j) }
+    ensures no_disk { result ≢ Err Stop.DiskFault }
+    ensures out { HasCauseAt (result ≡ Err Stop.OutFault) (O.faults (inner out.old)) (O.faults (inner out.new)) }
+    ensures err { HasCauseAt (result ≡ Err Stop.ErrFault) (E.faults (inner err.old)) (E.faults (inner err.new)) }
+    ensures out_rest { HandsOn O.follows out.old out.new }
+    ensures err_rest { HandsOn E.follows err.old err.new }
+{
+    match chosen {
+        Chosen::All | Chosen::Package => Ok(false),
+        Chosen::Label => put_missing(out, b"package ", text, b" is not installed\n"),
+        Chosen::Path => put_missing(out, b"file ", text, b" is not owned by any package\n"),
+        Chosen::Group => put_missing(out, b"group ", text, b" does not contain any packages\n"),
+        Chosen::Provides => put_missing(out, b"no package provides ", text, b"\n"),
+        Chosen::Requires => put_missing(out, b"no package requires ", text, b"\n"),
+        Chosen::Conflicts => put_missing(out, b"no package conflicts ", text, b"\n"),
+        Chosen::Obsoletes => put_missing(out, b"no package obsoletes ", text, b"\n"),
+        Chosen::Trigger => put_missing(out, b"no package triggers ", text, b"\n"),
+        Chosen::Number => put_no_record(err, text),
+        Chosen::Directory => put_missing(out, b"no package has files in ", text, b"\n"),
+        Chosen::Tid => put_missing(out, b"no package has transaction ", text, b"\n"),
+        Chosen::Recommends => put_missing(out, b"no package recommends ", text, b"\n"),
+    }
+}
