@@ -43,10 +43,7 @@ fn put_no_record<E: Sink + Drop>(err: &mut Buffered<E>, text: &[u8]) -> Result<b
     ensures err { HasCauseAt (result ≡ Err Stop.ErrFault) (E.faults (inner err.old)) (E.faults (inner err.new)) }
     ensures err_rest { HandsOn E.follows err.old err.new }
 {
-    match put_line(
-        err,
-        &[b"error: record ", text, b" could not be read\n"],
-    ) {
+    match put_line(err, &[b"error: record ", text, b" could not be read\n"]) {
         Ok(()) => Ok(true),
         Err(_) => Err(Stop::ErrFault),
     }

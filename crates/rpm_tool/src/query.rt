@@ -126,12 +126,26 @@ fn query_each<D: Disk, O: Sink + Drop, E: Sink + Drop>(
     let mut failed = 0u32;
     for k in 0..ask.arguments() {
         let text = words.text_at(ask.argument(k));
-        match answer(alloc, db, disk, ask.chosen(), text, ask.after(), format, out, err) {
+        match answer(
+            alloc,
+            db,
+            disk,
+            ask.chosen(),
+            text,
+            ask.after(),
+            format,
+            out,
+            err,
+        ) {
             Ok(fails) => failed = count(failed, fails),
             Err(stop) => return why_of(stop),
         }
     }
-    if failed == 0 { Why::Done } else { Why::Failed(failed) }
+    if failed == 0 {
+        Why::Done
+    } else {
+        Why::Failed(failed)
+    }
 }
 
 /// A query of an opened database.

@@ -13,7 +13,11 @@ fn answers(
     err: &str,
 ) -> Result<bool, AllocError> {
     let ran = run_on(alloc, words, file, 0, NO_LIMITS)?;
-    let why = if failed == 0 { Why::Done } else { Why::Failed(failed) };
+    let why = if failed == 0 {
+        Why::Done
+    } else {
+        Why::Failed(failed)
+    };
     Ok(
         ran.outcome.why == why
             && ran.out.bytes() == out.as_bytes()
@@ -31,8 +35,18 @@ fn each_argument_has_its_packages_or_its_line(rt: HostRuntime) -> Result<(), Fai
     let record = "error: record 9 could not be read\n";
     let table: [(&[&str], u32, &str, &str); 12] = [
         (&["rpm", "-q", "--noindex", "nosuch"], 1, nosuch, ""),
-        (&["rpm", "-q", "--noindex", "bash-5.1-2.x86_64"], 0, bash, ""),
-        (&["rpm", "-q", "--noindex", "--whatprovides", "libx >= 1.0"], 0, late, ""),
+        (
+            &["rpm", "-q", "--noindex", "bash-5.1-2.x86_64"],
+            0,
+            bash,
+            "",
+        ),
+        (
+            &["rpm", "-q", "--noindex", "--whatprovides", "libx >= 1.0"],
+            0,
+            late,
+            "",
+        ),
         (
             &["rpm", "-q", "--noindex", "--whatrequires", "libc < 2.30"],
             1,
@@ -51,15 +65,38 @@ fn each_argument_has_its_packages_or_its_line(rt: HostRuntime) -> Result<(), Fai
             "bash-5.1-2.x86_64\ngroup None does not contain any packages\n",
             "",
         ),
-        (&["rpm", "-q", "--noindex", "--after", "1", "libx"], 0, late, ""),
-        (&["rpm", "-q", "--noindex", "--after", "3", "libx"], 0, "", ""),
-        (&["rpm", "-q", "--noindex", "--after", "3", "nosuch"], 1, nosuch, ""),
+        (
+            &["rpm", "-q", "--noindex", "--after", "1", "libx"],
+            0,
+            late,
+            "",
+        ),
+        (
+            &["rpm", "-q", "--noindex", "--after", "3", "libx"],
+            0,
+            "",
+            "",
+        ),
+        (
+            &["rpm", "-q", "--noindex", "--after", "3", "nosuch"],
+            1,
+            nosuch,
+            "",
+        ),
         (&["rpm", "-q", "--querybynumber", "2", "9"], 1, bash, record),
         (&["rpm", "-qa", "*git*", "x*"], 0, late, ""),
-        (&["rpm", "-q", "--noindex", "--whatdir", "/usr/bin/"], 0, bash, ""),
+        (
+            &["rpm", "-q", "--noindex", "--whatdir", "/usr/bin/"],
+            0,
+            bash,
+            "",
+        ),
     ];
     for (words, failed, out, err) in table {
-        assert!(rt; answers(alloc, &file, words, failed, out, err)?, "{words:?}");
+        assert!(rt;
+            answers(alloc, &file, words, failed, out, err)?,
+            "{words:?}"
+        );
     }
     // The blob of number 2 has another end.
     let last = file.len().saturating_sub(1);
@@ -67,7 +104,16 @@ fn each_argument_has_its_packages_or_its_line(rt: HostRuntime) -> Result<(), Fai
     let message = "error: package 2: header cannot be read\n";
     let gone = "package bash is not installed\n";
     assert!(rt; answers(alloc, &broken, &["rpm", "-qa", "nosuch*"], 1, "", message)?);
-    assert!(rt; answers(alloc, &broken, &["rpm", "-q", "--noindex", "bash"], 1, gone, "")?);
+    assert!(rt;
+        answers(
+            alloc,
+            &broken,
+            &["rpm", "-q", "--noindex", "bash"],
+            1,
+            gone,
+            ""
+        )?
+    );
     Ok(())
 }
 
@@ -89,6 +135,9 @@ fn a_log_is_read_through_or_told(rt: HostRuntime) -> Result<(), Fail> {
     push_unit(&mut log, b"RpmL", [1, 1, 5])?;
     let ran = run_over(alloc, &["rpm", "-qa"], &[0x51; 16], &log, 0, NO_LIMITS)?;
     assert!(rt; ran.outcome.why == Why::BadLog { unit: 0 } && ran.outcome.status == 252);
-    assert_eq!(rt; ran.err.bytes(), b"rpm: Hlog.db is damaged at byte 0\n".as_slice());
+    assert_eq!(rt;
+        ran.err.bytes(),
+        b"rpm: Hlog.db is damaged at byte 0\n".as_slice()
+    );
     Ok(())
 }

@@ -61,11 +61,11 @@ returns-in-Ok-false-clause-went g c = λ told j.
     let new = outputs ot (g.O.Sink.taken (inner c.put_missing_part.new.out)) et (g.E.Sink.taken (inner c.put_missing_part.new.err)) in
     let none : above c.args.after es ≡ [] = none_at_all (above c.args.after es) (sym (c.in-Ok.ensures.some told) ∙ c.if-printed.false) in
     let through : Through [] old mid = subst (λ (xs : List (ℕ × Package)). Through (map (step_of tree j) xs) old mid) none
-        (c.in-Ok.ensures.went told j).steps in
+    (c.in-Ok.ensures.went told j).steps in
     let any = c.in-Ok-false.ensures.told told (subst (λ (f : Files). above c.args.after (picks (packages f.pkg s) c.args.selection.now) ≡ [])
-        (sym (c.in-Ok.ensures.looks.untouched told).same) none) in
+    (sym (c.in-Ok.ensures.looks.untouched told).same) none) in
     let nothing : es ≡ [] = none_at_all es (subst (λ (f : Files). is_some_of (picks (packages f.pkg s) c.args.selection.now) ≡ false)
-        (c.in-Ok.ensures.looks.untouched told).same (sym any ∙ c.in-Ok-false.field-0-test)) in
+    (c.in-Ok.ensures.looks.untouched told).same (sym any ∙ c.in-Ok-false.field-0-test)) in
     let missed = part_reads (missing_part c.args.chosen j c.args.text.now) c.put_missing_part.result mid new (λ b. b ≡ whole j) (ReadsOf j s before now)
     (λ b is. subst (λ (w : Bearer). ReadsOf j s before now w) (sym is)
     (refl, omega (arith, c.in-Ok.ensures.looks.reads.pkg, c.in-Ok-false.ensures.looks.reads.pkg, cost_some c.args.db.now c.args.after)))
@@ -93,7 +93,7 @@ returns-in-Err-is_any_passed-clause-went g c = λ told j.
     let mid = outputs ot (g.O.Sink.taken (inner c.print_above.new.out)) et (g.E.Sink.taken (inner c.print_above.new.err)) in
     let none : above c.args.after es ≡ [] = none_at_all (above c.args.after es) (sym (c.in-Ok.ensures.some told) ∙ c.if-printed.false) in
     let through : Through [] old mid = subst (λ (xs : List (ℕ × Package)). Through (map (step_of tree j) xs) old mid) none
-        (c.in-Ok.ensures.went told j).steps in
+    (c.in-Ok.ensures.went told j).steps in
     record {
       steps = reached_unsunk Bool (answered tree c.args.chosen c.args.after j c.args.text.now es).steps c.in-Err-is_any_passed.stop old mid
           (ReadsOf j s before now) c.in-Err-is_any_passed.ensures.no_sink through;

@@ -10,7 +10,7 @@ returns-then-after-eq0-clause-told g c = λ told none.
     let file = (g.D.Disk.files c.args.disk.now).pkg in
     let es = picks (packages file c.args.db.now.store) c.args.selection.now in
     let nothing : es ≡ [] = sym (picks_from_one file c.args.db.now c.args.selection.now c.requires.from_one)
-        ∙ subst (λ (k : ℕ). above k es ≡ []) c.if-after-eq0.true none in
+    ∙ subst (λ (k : ℕ). above k es ≡ []) c.if-after-eq0.true none in
     sym (ap is_some_of nothing)
 
 pub returns-in-Ok-clause-told : goal.returns-in-Ok-clause-told

@@ -23,7 +23,7 @@ returns-in-Ok-clause-went g c = λ told.
     let ended = c.query_unindexed-ended.result in
     let old = outputs g.O.Sink.tells (g.O.Sink.taken (inner c.args.out.now)) g.E.Sink.tells (g.E.Sink.taken (inner c.args.err.now)) in
     let new = outputs g.O.Sink.tells (g.O.Sink.taken (inner c.query_unindexed-ended.new.out)) g.E.Sink.tells
-        (g.E.Sink.taken (inner c.query_unindexed-ended.new.err)) in
+    (g.E.Sink.taken (inner c.query_unindexed-ended.new.err)) in
     let start = g.D.Disk.bytes_read c.args.disk Pkg in
     let below = g.D.Disk.bytes_read ov.below Pkg in
     let now = g.D.Disk.bytes_read end.below Pkg in

@@ -27,9 +27,11 @@ returns-in-Ok-Some-clause-went g c = λ told j.
     one_next (step_of tree j) n es p c.print_one.result old new (ReadsIn j n c.args.db.now.store before now)
     (next_picked (packages (g.D.Disk.files c.args.disk.now).pkg c.args.db.now.store) c.args.selection.now n (entry_in p) next.0 next.1)
     c.print_one.ensures.numbered
-    (subst (λ (b : Bearer). ReadsIn j n c.args.db.now.store before now b) (sym (bearer-step_of tree j (entry_in p)))
-    (refl, entry_cost c.args.db.now.store n p before now (rw c.in-Ok-Some.field-0-is at c.in-Ok-Some.ensures.rises)
-    (rw c.in-Ok-Some.field-0-is at c.in-Ok-Some.ensures.looks).reads.pkg)) (c.print_one.ensures.one j)
+    (subst (λ (b : Bearer). ReadsIn j n c.args.db.now.store before now b) (sym (bearer-step_of tree j (entry_in p))) (
+      refl,
+      entry_cost c.args.db.now.store n p before now (rw c.in-Ok-Some.field-0-is at c.in-Ok-Some.ensures.rises)
+          (rw c.in-Ok-Some.field-0-is at c.in-Ok-Some.ensures.looks).reads.pkg,
+    )) (c.print_one.ensures.one j)
 
 pub returns-in-Ok-Some-clause-looks : goal.returns-in-Ok-Some-clause-looks
 returns-in-Ok-Some-clause-looks g c =

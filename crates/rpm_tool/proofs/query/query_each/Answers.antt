@@ -117,8 +117,8 @@ returns-in-Err-clause-went g c = λ told.
     let all = rest_of each f args 0 in
     let reads : Bearer → Type 0 = λ for. now ≤ before + reach_all s for in
     let part = subst (λ (fs : Files). PartIs (argument_part c.args.format.now (packages fs.pkg s) c.args.ask.now.chosen c.args.ask.now.after k (f word)) (Err c.in-Err.stop)
-          (outputs ot o' et e') (outputs ot o'' et e'') (ReadsOf k s between now)) (inv.looks.untouched told).same
-          (rw (c.chosen.ensures, c.after.ensures, c.text_at-text.ensures) at (c.in-Err.ensures.went told k)) in
+    (outputs ot o' et e') (outputs ot o'' et e'') (ReadsOf k s between now)) (inv.looks.untouched told).same
+    (rw (c.chosen.ensures, c.after.ensures, c.text_at-text.ensures) at (c.in-Err.ensures.went told k)) in
     let old = outputs ot o et e in
     let new = outputs ot o'' et e'' in
     subst (λ (w : Why). Went all w old new reads) (sym c.why_of.ensures.value)
