@@ -4,7 +4,7 @@ use Rattle.std.proofs.lemmas.List.{append-nil}
 use Rattle.std.specs.List.{flat_map}
 use Rattle.std.proofs.lemmas.Grind.{flat_map-append}
 use Rattle.rpm_outside.specs.Sinks.{GainedPart}
-use Rattle.rpm_outside.specs.Taken.{gained_none, gained_more}
+use Rattle.rpm_outside.specs.inner.Taken.{gained_none, gained_more}
 use Rattle.rpm_tool.specs.declared.step.Stop.{Stop}
 use Rattle.rpm_tool.specs.declared.step.Stop.TheVariants as stop
 use Rattle.rpm_tool.specs.Steps.{Bearer, Step, ToOut, ToErr, out_bytes, err_bytes, is_out, bearer_of, cut}
