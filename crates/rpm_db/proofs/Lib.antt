@@ -1,1 +1,4 @@
 pub mod Answers
+pub mod Rowing
+pub mod Making
+pub mod Opened

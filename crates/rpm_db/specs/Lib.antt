@@ -1,5 +1,9 @@
 pub mod Answers
 pub mod Database
+pub mod Lawful
+pub mod Openings
+pub mod Rows
+pub mod Runs
 pub mod State
 pub mod Verdicts
 pub mod inner
