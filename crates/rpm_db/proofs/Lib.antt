@@ -2,3 +2,5 @@ pub mod Answers
 pub mod Rowing
 pub mod Making
 pub mod Opened
+pub mod Found
+pub mod Rebuilt

@@ -38,6 +38,12 @@ abbrev pub IsInOrder : ℕ → Option hindex.State → Type 0
 IsInOrder generation None = Unit {0}
 IsInOrder generation (Some state) = hindex.is_current generation state ≡ true
 
+-- what holds of each value: no package has the number 0, and until a changing call fails the store goes on and the index is current
+pub record IsFit (store : Store) (index : Option hindex.State) (stopped : Bool) : Type 0 where
+  pub from_one : slot_with 0 store.slots ≡ None
+  pub going : stopped ≡ false → store.is_stopped ≡ false
+  pub order : stopped ≡ false → IsInOrder store.generation index
+
 -- the index of these files is current, and holds the rows of the packages
 pub record IsIndexed (pkg idx : Units) (db : Database) : Type 0 where
   pub current : is_current_at db.store.generation idx ≡ true

@@ -2,6 +2,7 @@ pub mod Answers
 pub mod Database
 pub mod Lawful
 pub mod Openings
+pub mod Rebuilds
 pub mod Rows
 pub mod Runs
 pub mod State

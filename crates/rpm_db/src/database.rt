@@ -32,18 +32,17 @@ use std::marker::Model;
 pub struct Db {
     pub(crate) store: PkgDb,
     pub(crate) index: Option<Hindex>,
-    is_stopped: bool,
+    pub(crate) is_stopped: bool,
 }
 
 impl Model for Db {
-    ghost use Rattle.std.specs.Prelude.{◌≡◌, false};
-    ghost use Rattle.rpm_db.specs.Database.{Database, IsInOrder};
+    ghost use Rattle.rpm_db.specs.Database.{Database, IsFit};
 
     ghost Value = { Database };
 
     ghost view = { λ s. record { store = s.store; index = s.index; stopped = s.is_stopped } };
 
-    ghost invariant = { λ s. s.is_stopped ≡ false → IsInOrder s.store.generation s.index };
+    ghost invariant = { λ s. IsFit s.store s.index s.is_stopped };
 }
 
 /// The store, as it is opened for a database.
@@ -52,6 +51,7 @@ fn open_store<D: Disk>(alloc: Global, disk: &mut D) -> Result<PkgDb, DbOpenFault
     ensures no_index { (needed : ℕ) → result ≢ Err (DbOpenFault.IndexFull needed) }
     ensures kept { IfOk result (λ value. IsTrue D.tells → pkgdb.Keeps (D.files disk.new).pkg value) }
     ensures from_one { IfOk result (λ value. slot_with 0 value.slots ≡ None) }
+    ensures going { IfOk result (λ value. value.is_stopped ≡ false) }
     ensures reads { IsTrue D.tells → D.bytes_read disk.new File.Pkg ≤ D.bytes_read disk.old File.Pkg + opening_cost (D.files disk.old).pkg }
     ensures looks { Looks D.tells D.files D.left_since D.moment D.bytes_read D.follows Pkg (2 ^ 32) disk.old disk.new }
     ensures cause { HasCauseAt (result ≡ Err DbOpenFault.DiskFault) (D.faults disk.old) (D.faults disk.new) }

@@ -45,8 +45,7 @@ impl Db {
         ensures rows { IfOk result (λ hits. IsTrue D.tells → HasRows (packages (D.files disk.old).pkg self.now.store) (D.files disk.old).idx
             → AreHits (code_of kind) key.now (rows (packages (D.files disk.old).pkg self.now.store)) hits) }
         ensures told { IsTrue D.tells → FoundIs (key_chain (code_of kind) key.now (D.files disk.old).idx) result }
-        ensures lawful { IfErr result (λ e. IsTrue D.tells → HasRows (packages (D.files disk.old).pkg self.now.store) (D.files disk.old).idx
-            → IsOutside e) }
+        ensures lawful { IsTrue D.tells → HasRows (packages (D.files disk.old).pkg self.now.store) (D.files disk.old).idx → IfErr result IsOutside }
         ensures cost { IsTrue D.tells → ChainCosts (key_chain (code_of kind) key.now (D.files disk.old).idx) (units_at (unit_at (D.files disk.old).idx))
             (D.bytes_read disk.old File.Idx + 16) (D.bytes_read disk.new File.Idx) }
         ensures looks { LooksAt D.tells D.files D.left_since D.moment D.bytes_read D.follows Idx disk.old disk.new }

@@ -5,16 +5,21 @@
 //! files shows but how many bytes a call reads.
 #![tactic(auto)]
 
+mod change;
 mod database;
 mod finding;
+#[cfg(test)]
+mod index_tests;
 mod indexing;
 mod opening;
 mod reading;
+mod rebuilding;
 mod rows;
 #[cfg(test)]
 mod tests;
 mod verify;
 
+pub use change::ChangeFault;
 pub use database::Db;
 pub use opening::DbOpenFault;
 pub use rpm_hindex::{FindFault, Hit, Hits};

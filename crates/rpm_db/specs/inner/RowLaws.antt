@@ -1,12 +1,14 @@
 -- The rows of a map, row by row.
-use Rattle.std.proofs.Common.{◌≡◌, ℕ, ◌+◌, ◌-◌, ◌<◌, ◌≤◌, List, [], ◌∷◌, ◌++◌, map, Bool, true, false, cond, ◌==◌, Option, Some, None, Result, Ok, Err, refl, sym, ap, ◌∙◌, inl, inr, arith, eq-eqb}
+use Rattle.std.proofs.Common.{◌≡◌, ℕ, ◌+◌, ◌-◌, ◌<◌, ◌≤◌, List, [], ◌∷◌, ◌++◌, map, Bool, true, false, cond, ◌&&◌, ◌==◌, Option, Some, None, Result, Ok, Err, refl, sym, ap, ◌∙◌, inl, inr, arith, eq-eqb}
 use Rattle.std.specs.Prelude.{T}
 use Rattle.std.specs.List.{flat_map}
 use Rattle.std.specs.Ordering.{nat_cmp, eq_by_cmp}
+use Rattle.std.specs.Str.{bytes_eq}
+use Rattle.rpm_tags.specs.Kinds.{code_of}
 use Rattle.std.specs.Cmp.{unsigned_tied}
 use Rattle.std.specs.FinMap as finite
 use Rattle.std.specs.FinMap.Entries.{below_all}
-use Rattle.std.proofs.lemmas.Bool.{cases_Bool}
+use Rattle.std.proofs.lemmas.Bool.{cases_Bool, and_left}
 use Rattle.std.proofs.lemmas.Bool.Decides.{nat_tests}
 use Rattle.std.proofs.lemmas.Cmp.{nat_cmp_total}
 use Rattle.std.proofs.lemmas.List.Sums.{sum_by-append}
@@ -42,10 +44,19 @@ of_none n row other = times_none row
 of_both : (n : ℕ) (xs ys : List Row) → AreOf n xs → AreOf n ys → AreOf n (xs ++ ys)
 of_both n xs ys first second row other = omega (arith, times-append row xs ys, first row other, second row other)
 
+off : (a b : Bool) → b ≡ false → (a && b) ≡ false
+off true b e = e
+off false b e = refl
+
 of_one : (n : ℕ) (k : Kind) (key : List ℕ × ℕ) → AreOf n (key_row n k key ∷ [])
-of_one n k key row other =
-    let apart : (row.number == n) ≡ false = grind (arith, nat_tests) in
-    times_one row (key_row n k key) ∙ ap (λ (b : Bool). cond b 1 0) (grind (arith, apart))
+of_one n k key row other = elim (cases_Bool (row.number == n)) [
+  | inl same ↦ (let is : row.number ≡ n = grind (arith, nat_tests) in absurd (other is))
+  | inr apart ↦
+      (let none : same_row row (key_row n k key) ≡ false =
+      off (row.kind == code_of k) (bytes_eq row.key key.0 && ((row.number == n) && (row.place == key.1)))
+      (off (bytes_eq row.key key.0) ((row.number == n) && (row.place == key.1)) (and_left (row.number == n) (row.place == key.1) apart)) in
+      times_one row (key_row n k key) ∙ ap (λ (b : Bool). cond b 1 0) none)
+]
 
 of_keys : (n : ℕ) (k : Kind) (ks : List (List ℕ × ℕ)) → AreOf n (map (key_row n k) ks)
 of_keys n k [] = of_none n
@@ -79,11 +90,17 @@ times-rows_in row (e ∷ es) t =
           let tied : eq_by_cmp nat_cmp row.number e.0 ≡ true = unsigned_tied row.number e.0 ∙ same in
           let none : finite.find nat_cmp row.number es ≡ None = none_below row.number e.0 es s.0 (omega arith) in
           let gone : times row (rows_in es) ≡ 0 = rest ∙ ap (λ (o : Option Package). times row (rows_at row.number o)) none ∙ times_none row in
-          rw tied (omega (arith, both, gone, ap (λ (n : ℕ). times row (package_rows n e.1)) is)))
+          let same_package : times row (package_rows row.number e.1) ≡ times row (package_rows e.0 e.1) =
+          ap (λ (n : ℕ). times row (package_rows n e.1)) is in
+          let sum : times row (package_rows e.0 e.1) + times row (rows_in es) ≡ times row (package_rows row.number e.1) = omega arith in
+          rw tied (both ∙ sum))
       | inr other ↦
           (let apart : row.number ≡ e.0 → ⊥ = λ is. grind (arith, nat_tests) in
           let tied : eq_by_cmp nat_cmp row.number e.0 ≡ false = unsigned_tied row.number e.0 ∙ other in
-          rw tied (omega (arith, both, rest, of_package e.0 e.1 row apart)))
+          let none = of_package e.0 e.1 row apart in
+          let sum : times row (package_rows e.0 e.1) + times row (rows_in es)
+              ≡ times row (rows_at row.number (finite.find nat_cmp row.number es)) = omega (arith, none, rest) in
+          rw tied (both ∙ sum))
     ]
 
 pub times-rows : (row : Row) (packages : finite.FinMap nat_cmp Package) → times row (rows packages)
