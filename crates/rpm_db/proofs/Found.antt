@@ -1,14 +1,14 @@
 -- What is found of a key.
-use Rattle.std.proofs.Common.{◌≡◌, ℕ, ◌<◌, ◌%◌, List, Ok, Err, Result, true, refl, sym, ap, ◌∙◌, subst, arith, eqb}
+use Rattle.std.proofs.Common.{◌≡◌, ℕ, ◌<◌, ◌%◌, List, Ok, Err, Result, true, ◌∙◌, arith, eqb}
 use Rattle.std.specs.Prelude.{IfOk, IfErr, IsOk}
 use Rattle.std.proofs.lemmas.Bool.{and_parts}
-use Rattle.rpm_outside.specs.Files.{Units, unit_at}
+use Rattle.rpm_outside.specs.Files.{Units}
 use Rattle.rpm_hindex.specs.declared.hits.Hit.{Hit}
 use Rattle.rpm_hindex.specs.declared.faults.FindFault.{FindFault}
 use Rattle.rpm_hindex.specs.declared.faults.FindFault.TheVariants.{BadIndex, DiskFault, NoMemory}
 use Rattle.rpm_hindex.specs.Answers.{AreHits, FindIs, IsOutside, row_of_hit}
-use Rattle.rpm_hindex.specs.Index.{index_in, chain, records}
-use Rattle.rpm_hindex.specs.Rows.{Row, SameRows, hash_of}
+use Rattle.rpm_hindex.specs.Index.{index_in, chain}
+use Rattle.rpm_hindex.specs.Rows.{Row, SameRows}
 use Rattle.rpm_hindex.specs.State.{State, sealed, is_in_order, is_headed, is_ordered, is_current, buckets_of}
 use Rattle.rpm_hindex.specs.Whole.{IsWellFormed}
 use Rattle.rpm_db.proofs.Making.{ordered_pending}

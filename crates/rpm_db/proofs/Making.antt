@@ -1,11 +1,9 @@
 -- Making the index.
-use Rattle.std.proofs.Common.{◌≡◌, ◌⊎◌, ℕ, zero, suc, ◌+◌, ◌<◌, ◌≤◌, ◌^◌, ◌∷◌, [], List, length, true, false, Ok, refl, sym, ap, ◌∙◌, subst, inl, inr, arith, max, min}
-use Rattle.std.proofs.lemmas.Bool.{and_parts}
+use Rattle.std.proofs.Common.{◌≡◌, ◌⊎◌, ℕ, zero, suc, ◌<◌, ◌≤◌, ◌∷◌, [], List, length, true, Ok, refl, sym, ap, ◌∙◌, subst, inl, inr, arith}
 use Rattle.std.proofs.lemmas.Bool.Decides.{nat_tests}
 use Rattle.rpm_outside.specs.Files.{Units, Files, unit_at, blank, put}
 use Rattle.rpm_pkgdb.specs.Store.{Store, store, in_file}
 use Rattle.rpm_pkgdb.specs.Blobs.{blobs}
-use Rattle.rpm_hindex.specs.Words.{word}
 use Rattle.rpm_hindex.specs.Images.{VoidOrSame, SealedOrSame, IsSealed}
 use Rattle.rpm_hindex.specs.Index.{records}
 use Rattle.rpm_hindex.specs.Rows.{Row, SameRows}
@@ -15,7 +13,7 @@ use Rattle.rpm_hindex.specs.State.{State, seal_unit, is_ordered, is_in_order, is
 use Rattle.rpm_hindex.specs.Whole.{IsWellFormed}
 use Rattle.rpm_db.specs.State.{packages}
 use Rattle.rpm_db.specs.Rows.{rows}
-use Rattle.rpm_db.specs.Lawful.{HasRows, IsIndexOf, IsUnsealed, IsOfRows, Remade, is_current_at, IsLawful, Agrees}
+use Rattle.rpm_db.specs.Lawful.{HasRows, IsIndexOf, IsUnsealed, IsOfRows, Remade, is_current_at, IsLawful}
 
 -- numbers in order are those of a file that has units
 pub ordered_some : (buckets units : ℕ) (second : List ℕ) → is_ordered buckets second units ≡ true → 1 ≤ units

@@ -1,5 +1,5 @@
 -- An index that was made anew, as a value keeps it.
-use Rattle.std.proofs.Common.{◌≡◌, ℕ, Bool, true, Option, Some, None, Ok, is_some, sym, ap, ◌∙◌}
+use Rattle.std.proofs.Common.{◌≡◌, ℕ, Bool, true, Option, Some, None, is_some, sym, ap, ◌∙◌}
 use Rattle.rpm_outside.specs.Files.{Units, Files}
 use Rattle.rpm_pkgdb.specs.Store.{Store, store}
 use Rattle.rpm_pkgdb.specs.Store as pkgdb

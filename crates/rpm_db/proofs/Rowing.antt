@@ -1,5 +1,5 @@
 -- The rows of packages, one after the other.
-use Rattle.std.proofs.Common.{◌≡◌, ℕ, ◌+◌, ◌<◌, ◌≤◌, List, [], ◌∷◌, ◌++◌, take, length, true, false, Option, Some, None, Ok, Err, Result, is_some, refl, sym, ap, ◌∙◌, inl, inr, arith, append_assoc, subst}
+use Rattle.std.proofs.Common.{◌≡◌, ℕ, ◌+◌, ◌<◌, List, [], ◌++◌, take, true, false, Option, Some, None, Ok, Err, Result, is_some, refl, sym, ap, ◌∙◌, append_assoc}
 use Rattle.std.specs.List.{flat_map}
 use Rattle.std.specs.Option.{option_map}
 use Rattle.std.specs.Ordering.{nat_cmp}
@@ -17,7 +17,7 @@ use Rattle.rpm_pkgdb.specs.BlobLaws.{get-blobs}
 use Rattle.rpm_pkgdb.specs.Pairs as pairs
 use Rattle.rpm_pkgdb.specs.Slots.{slot_with}
 use Rattle.rpm_db.specs.Database.{IsNext}
-use Rattle.rpm_db.specs.State.{Package, Good, Bad, read_as, package_of, packages, above}
+use Rattle.rpm_db.specs.State.{Package, read_as, package_of, packages, above}
 use Rattle.rpm_db.specs.Rows.{kinds, package_rows, rows_at, rows_in, rows, rows_read}
 use Rattle.rpm_db.specs.inner.Above.{next_above, nothing_above, all_above_zero}
 use Rattle.rpm_db.specs.inner.Laws.{get-packages, is_there}

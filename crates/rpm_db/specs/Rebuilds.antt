@@ -1,6 +1,6 @@
 -- What making the index anew answers.
-use Rattle.std.specs.Prelude.{◌≡◌, ◌<◌, ◌≤◌, ◌^◌, ℕ, Bool, true, false, Result, Ok, Err}
-use Rattle.rpm_outside.specs.Files.{Units, Files}
+use Rattle.std.specs.Prelude.{◌≡◌, ◌<◌, ◌≤◌, ◌^◌, true, false, Result, Ok, Err}
+use Rattle.rpm_outside.specs.Files.{Files}
 use Rattle.rpm_hindex.specs.Sizes.{units_for}
 use Rattle.rpm_db.specs.declared.change.ChangeFault.{ChangeFault}
 use Rattle.rpm_db.specs.declared.change.ChangeFault.TheVariants.{Stopped, IndexFull, DiskFault, NoMemory}

@@ -76,7 +76,10 @@ fn an_index_is_made_where_it_is_not_current(rt: HostRuntime) -> Result<(), Fail>
 }
 
 // What finding the name `a` answers over an index whose word for it names no record, as it is and once it is made anew.
-fn found_over(alloc: Global, rebuilds: bool) -> Result<Option<Result<usize, FindFault>>, AllocError> {
+fn found_over(
+    alloc: Global,
+    rebuilds: bool,
+) -> Result<Option<Result<usize, FindFault>>, AllocError> {
     let mut index = made_index(alloc)?;
     if index.len() > 124 {
         index[124] = 0xff;

@@ -125,11 +125,7 @@ pub fn make_index<D: Disk>(
 }
 
 /// The index of a store, which is made from the packages where it isn't current.
-pub fn index_for<D: Disk>(
-    alloc: Global,
-    disk: &mut D,
-    store: &PkgDb,
-) -> Result<Hindex, DbOpenFault>
+pub fn index_for<D: Disk>(alloc: Global, disk: &mut D, store: &PkgDb) -> Result<Hindex, DbOpenFault>
     requires keeps { IsTrue D.tells → Keeps (D.files disk.old).pkg store.now }
     requires made { 1 ≤ store.now.pages }
     requires from_one { slot_with 0 store.now.slots ≡ None }

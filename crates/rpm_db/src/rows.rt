@@ -53,12 +53,7 @@ fn push_key(
 }
 
 /// Adds the rows of a header's keys of one kind.
-fn push_kind(
-    rows: &mut Rows,
-    view: &View<'_>,
-    kind: Kind,
-    number: u32,
-) -> Result<(), AllocError>
+fn push_kind(rows: &mut Rows, view: &View<'_>, kind: Kind, number: u32) -> Result<(), AllocError>
     ensures { OnOk result (rows.new ≡ rows.old ++ kind_rows number view.now kind) }
 {
     for (key, place) in keys(kind, view) {

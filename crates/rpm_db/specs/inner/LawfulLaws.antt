@@ -1,14 +1,13 @@
 -- Lawful files, and what making the index anew leaves of them.
-use Rattle.std.proofs.Common.{◌≡◌, ◌⊎◌, ◌≤◌, ℕ, length, true, false, eqb, Ok, refl, sym, ap, ◌∙◌, subst, inl, inr, arith}
+use Rattle.std.proofs.Common.{◌≡◌, ◌⊎◌, ℕ, length, false, eqb, refl, sym, ap, ◌∙◌, subst, inl, inr, arith}
 use Rattle.std.proofs.lemmas.Bool.{and_parts}
 use Rattle.rpm_outside.specs.Files.{Units, Files, unit_at, blank}
-use Rattle.rpm_pkgdb.specs.Store.{Store, store, blank_store}
+use Rattle.rpm_pkgdb.specs.Store.{Store}
 use Rattle.rpm_hindex.specs.Words.{word}
 use Rattle.rpm_hindex.specs.State.{state_of, sealed, is_headed, is_in_order, is_ordered, is_current, buckets_of}
-use Rattle.rpm_db.specs.State.{packages}
 use Rattle.rpm_outside.specs.Crash.{LeavesOnly}
 use Rattle.rpm_outside.specs.inner.Moments.{leaves_weaker}
-use Rattle.rpm_db.specs.Lawful.{HasRows, is_current_at, Agrees, IsLawful, AreLawful, IsLawfulStill, IsIndexOf, Remade}
+use Rattle.rpm_db.specs.Lawful.{Agrees, IsLawful, AreLawful, IsLawfulStill, IsIndexOf, Remade}
 use Rattle.rpm_db.specs.Runs.{CameOf}
 
 void_unsealed : sealed blank ≡ 0

@@ -1,5 +1,5 @@
 -- The rows of a map, row by row.
-use Rattle.std.proofs.Common.{◌≡◌, ℕ, ◌+◌, ◌-◌, ◌<◌, ◌≤◌, List, [], ◌∷◌, ◌++◌, map, Bool, true, false, cond, ◌&&◌, ◌==◌, Option, Some, None, Result, Ok, Err, refl, sym, ap, ◌∙◌, inl, inr, arith, eq-eqb}
+use Rattle.std.proofs.Common.{◌≡◌, ℕ, ◌+◌, ◌-◌, List, [], ◌∷◌, ◌++◌, map, Bool, true, false, cond, ◌&&◌, ◌==◌, Option, Some, None, Result, Ok, Err, refl, sym, ap, ◌∙◌, inl, inr, arith}
 use Rattle.std.specs.Prelude.{T}
 use Rattle.std.specs.List.{flat_map}
 use Rattle.std.specs.Ordering.{nat_cmp, eq_by_cmp}
@@ -18,7 +18,7 @@ use Rattle.rpm_tags.specs.declared.kind.Kind.{Kind}
 use Rattle.rpm_tags.specs.Keys.{keys}
 use Rattle.rpm_hindex.specs.Rows.{Row, times, same_row}
 use Rattle.rpm_hindex.specs.Plans.{HasChanged}
-use Rattle.rpm_db.specs.State.{Package, Good, Bad, above}
+use Rattle.rpm_db.specs.State.{Package, Good, Bad}
 use Rattle.rpm_db.specs.Rows.{kinds, key_row, kind_rows, header_rows, rows_read, package_rows, rows_at, rows_in, rows}
 use Rattle.rpm_db.specs.inner.Above.{both_true, none_below}
 
@@ -99,7 +99,7 @@ times-rows_in row (e ∷ es) t =
           let tied : eq_by_cmp nat_cmp row.number e.0 ≡ false = unsigned_tied row.number e.0 ∙ other in
           let none = of_package e.0 e.1 row apart in
           let sum : times row (package_rows e.0 e.1) + times row (rows_in es)
-              ≡ times row (rows_at row.number (finite.find nat_cmp row.number es)) = omega (arith, none, rest) in
+          ≡ times row (rows_at row.number (finite.find nat_cmp row.number es)) = omega (arith, none, rest) in
           rw tied (both ∙ sum))
     ]
 

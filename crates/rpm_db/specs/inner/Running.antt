@@ -2,13 +2,13 @@
 use Rattle.std.proofs.Common.{◌≡◌, inl, ℕ, Bool, sym, subst, arith}
 use Rattle.std.specs.Prelude.{IsTrue}
 use Rattle.rpm_outside.specs.declared.disk.File.{File}
-use Rattle.rpm_outside.specs.declared.disk.File.TheVariants.{Pkg, Idx, Log}
+use Rattle.rpm_outside.specs.declared.disk.File.TheVariants.{Idx, Log}
 use Rattle.rpm_outside.specs.Files.{Units, Files}
-use Rattle.rpm_outside.specs.Crash.{Elapses, LeavesOnly, bytes_for}
-use Rattle.rpm_outside.specs.Looks.{Looks, ReadAtMost}
-use Rattle.rpm_outside.specs.Changes.{Changes, Changed, OnlyIn}
+use Rattle.rpm_outside.specs.Crash.{Elapses, bytes_for}
+use Rattle.rpm_outside.specs.Looks.{Looks}
+use Rattle.rpm_outside.specs.Changes.{Changes, Changed}
 use Rattle.rpm_outside.specs.inner.Moments.{started, goes_on, leaves_then, leaves_weaker}
-use Rattle.rpm_db.specs.Runs.{CameOf, ReadsNoLog, Runs}
+use Rattle.rpm_db.specs.Runs.{CameOf, Runs}
 
 came_weaker : (P Q : Files → Files → Type 0) (images : Files → Type 0) (image : Files) → ((from : Files) → images from → P from image → Q from image)
     → CameOf P images image → CameOf Q images image

@@ -1,9 +1,8 @@
-use Rattle.std.proofs.Common.{◌≡◌, ℕ, true, refl, ap, sym, ◌∙◌, subst, arith}
-use Rattle.std.specs.Prelude.{Ok}
-use Rattle.rpm_outside.specs.Files.{Files, Units}
+use Rattle.std.proofs.Common.{◌≡◌, ℕ, true, refl, ap, sym, ◌∙◌, subst}
+use Rattle.rpm_outside.specs.Files.{Files}
 use Rattle.rpm_outside.specs.declared.disk.File.TheVariants.{Idx}
 use Rattle.rpm_hindex.specs.State.{is_current}
-use Rattle.rpm_pkgdb.specs.Store.{store, in_file}
+use Rattle.rpm_pkgdb.specs.Store.{store}
 use Rattle.rpm_db.specs.Lawful.{Remade, HasRows, is_current_at}
 use Rattle.rpm_db.specs.State.{packages}
 use Rattle.rpm_db.specs.inner.LawfulLaws.{remade_none, remade_then}

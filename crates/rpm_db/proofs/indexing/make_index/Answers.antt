@@ -1,4 +1,4 @@
-use Rattle.std.proofs.Common.{◌≡◌, ℕ, ap, sym, ◌∙◌, subst}
+use Rattle.std.proofs.Common.{ℕ, ap, sym, ◌∙◌, subst}
 use Rattle.rpm_outside.specs.Files.{Files}
 use Rattle.rpm_db.specs.Lawful.{IsOfRows}
 use Rattle.rpm_db.specs.Rows.{rows}

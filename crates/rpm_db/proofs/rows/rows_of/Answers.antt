@@ -1,4 +1,4 @@
-use Rattle.std.proofs.Common.{◌≡◌, ap, sym, ◌∙◌, arith, refl, subst, Some, None, List, ◌++◌}
+use Rattle.std.proofs.Common.{◌≡◌, ap, ◌∙◌, arith, subst, Some, None, List, ◌++◌}
 use Rattle.std.specs.FinMap as finite
 use Rattle.rpm_outside.specs.Files.{Files}
 use Rattle.rpm_outside.specs.inner.Looking.{looks_none, looks_then, looks_more}
