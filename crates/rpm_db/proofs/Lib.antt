@@ -4,3 +4,4 @@ pub mod Making
 pub mod Opened
 pub mod Found
 pub mod Rebuilt
+pub mod Emptied

@@ -1,5 +1,6 @@
 pub mod Answers
 pub mod Database
+pub mod Inits
 pub mod Lawful
 pub mod Openings
 pub mod Rebuilds

@@ -11,10 +11,12 @@ mod finding;
 #[cfg(test)]
 mod index_tests;
 mod indexing;
+
 mod opening;
 mod reading;
 mod rebuilding;
 mod rows;
+mod starting;
 #[cfg(test)]
 mod tests;
 mod verify;
