@@ -7,7 +7,7 @@ use Rattle.rpm_outside.specs.declared.disk.File.TheVariants.{Pkg}
 use Rattle.rpm_outside.specs.Files.{Units, Files, unit_at}
 use Rattle.rpm_outside.specs.Changes.{IsSettled}
 use Rattle.rpm_pkgdb.specs.declared.slot.Damage.{Damage}
-use Rattle.rpm_pkgdb.specs.Quiet.{IsQuiet}
+use Rattle.rpm_pkgdb.specs.Quiet.{IsQuiet, StandsAs}
 use Rattle.rpm_pkgdb.specs.Store.{Store, store}
 use Rattle.rpm_pkgdb.specs.Store as pkgdb
 use Rattle.rpm_hindex.specs.Sizes.{units_for}
@@ -57,3 +57,12 @@ module _ {D : Type 0} (tells : Bool) (files : D → Files) (left_since : D → �
   still_settled a b told run settled image here =
       let c = run.now told image here in
       c.came.pkg ∙ settled c.from c.was ∙ sym (run.reads_as told).pkg
+
+  -- and quiet
+  pub still_quiet : (a b : D) (value : Store) → IsTrue tells → Runs tells files left_since moment bytes_read follows Remade a b
+      → IsQuiet value (files a) (left_since a (moment a)) → IsQuiet value (files b) (left_since b (moment b))
+  still_quiet a b value told run quiet image here =
+      let c = run.now told image here in
+      let s = quiet c.from c.was in
+      subst (λ (u : Units). StandsAs value u image.pkg) (sym (run.reads_as told).pkg)
+      (subst (StandsAs value (files a).pkg) (sym c.came.pkg) s)

@@ -20,3 +20,12 @@ rebuilt old new value index stopped made keeps some order kept is = record {
   current = kept_current value.generation new.idx index some order kept;
   rows_are = rows_of_index new.pkg new.idx value (ap store made.pkg ∙ keeps) is;
 }
+
+-- a store's index that was made beside it
+pub indexed_now : (pkg idx : Units) (value : Store) (index : Option hindex.State) (stopped : Bool) → pkgdb.Keeps pkg value → is_some index ≡ true
+    → IsInOrder value.generation index → KeepsUnits idx index → IsIndexOf pkg idx
+    → IsIndexed pkg idx (record { store = value; index = index; stopped = stopped })
+indexed_now pkg idx value index stopped keeps some order kept is = record {
+  current = kept_current value.generation idx index some order kept;
+  rows_are = rows_of_index pkg idx value keeps is;
+}

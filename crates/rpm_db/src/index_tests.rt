@@ -124,3 +124,27 @@ fn a_stop_while_the_index_is_made_leaves_all_packages(rt: HostRuntime) -> Result
     }
     Ok(())
 }
+
+// What making a database answers where there is none, and where there is one.
+fn made_twice(alloc: Global) -> Result<Option<(bool, bool)>, AllocError> {
+    let mut disk = MemDisk::new(alloc, &[], &SEAL, &[])?;
+    let Ok(mut db) = Db::open(alloc, &mut disk) else {
+        return Ok(None);
+    };
+    let Ok(first) = db.init(alloc, &mut disk) else {
+        return Ok(None);
+    };
+    let Ok(mut db) = Db::open(alloc, &mut disk) else {
+        return Ok(None);
+    };
+    match db.init(alloc, &mut disk) {
+        Ok(second) => Ok(Some((first, second))),
+        Err(_) => Ok(None),
+    }
+}
+
+#[test]
+fn a_database_is_made_once(rt: HostRuntime) -> Result<(), Fail> {
+    assert!(rt; made_twice(rt.alloc())? == Some((true, false)));
+    Ok(())
+}

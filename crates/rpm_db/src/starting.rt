@@ -15,7 +15,7 @@ ghost use Rattle.rpm_hindex.specs.Rewrites.{IsRefused};
 ghost use Rattle.rpm_hindex.specs.Rows.{SameRows};
 ghost use Rattle.rpm_hindex.specs.State as hindex;
 ghost use Rattle.rpm_hindex.specs.Whole.{IsWellFormed};
-ghost use Rattle.rpm_db.specs.Database.{Keeps, KeepsIndex, is_blank, is_indexed};
+ghost use Rattle.rpm_db.specs.Database.{Keeps, KeepsIndex, IsIndexed, is_blank, is_indexed};
 ghost use Rattle.rpm_db.specs.Inits.{IsEmptyStill, IsInitFault};
 ghost use Rattle.rpm_db.specs.Lawful.{IsIndexOf, Remade};
 ghost use Rattle.rpm_db.specs.Runs.{Runs};
@@ -72,6 +72,7 @@ pub fn make_files<D: Disk>(
     ensures units { IfOk result (λ index. IsTrue D.tells → hindex.Keeps (D.files disk.new).idx index) }
     ensures index { IfOk result (λ _index. IsTrue D.tells → IsIndexOf (D.files disk.new).pkg (D.files disk.new).idx) }
     ensures settled { IfOk result (λ _index. IsTrue D.tells → IsSettled Idx (D.files disk.new) (D.left_since disk.new (D.moment disk.new))) }
+    ensures quiet { IfOk result (λ _index. IsTrue D.tells → IsQuiet store.new (D.files disk.new) (D.left_since disk.new (D.moment disk.new))) }
     ensures refused { IfErr result (λ e. IsRefused e → (store.new ≡ store.old) × (IsTrue D.tells → D.files disk.new ≡ D.files disk.old)) }
     ensures stops { IsTrue D.tells → LeavesOnly D.moment D.left_since disk.old disk.new (IsEmptyStill (D.left_since disk.old (D.moment disk.old))) }
     ensures reads { D.bytes_read disk.new Idx ≤ D.bytes_read disk.old Idx + 32 }
@@ -110,7 +111,12 @@ impl Db {
         ensures done { result ≡ Ok true → (self.new.store ≡ made_new self.old.store) × (is_indexed self.new ≡ true) × (self.new.stopped ≡ false) }
         ensures same { result ≡ Ok false → (self.new ≡ self.old) × (disk.new ≡ disk.old) }
         ensures kept { result ≡ Ok true → IsTrue D.tells → Keeps (D.files disk.new).pkg self.new × KeepsIndex (D.files disk.new).idx self.new }
-        ensures index { result ≡ Ok true → IsTrue D.tells → IsIndexOf (D.files disk.new).pkg (D.files disk.new).idx }
+        ensures index { result ≡ Ok true → IsTrue D.tells → IsIndexed (D.files disk.new).pkg (D.files disk.new).idx self.new }
+        ensures quiet { result ≡ Ok true → IsTrue D.tells → IsQuiet self.new.store (D.files disk.new) (D.left_since disk.new (D.moment disk.new)) }
+        ensures settled { result ≡ Ok true → IsTrue D.tells → IsSettled Idx (D.files disk.new) (D.left_since disk.new (D.moment disk.new)) }
+        ensures refused { IfErr result (λ e. e ≢ ChangeFault.DiskFault → IsTrue D.tells → D.files disk.new ≡ D.files disk.old) }
+        ensures reads { D.bytes_read disk.new Idx ≤ D.bytes_read disk.old Idx + 32 }
+        ensures unread { D.bytes_read disk.new Pkg ≤ D.bytes_read disk.old Pkg }
         ensures kinds { IfErr result IsInitFault }
         ensures stops { IsTrue D.tells → self.old.stopped ≡ false → is_blank self.old ≡ true → LeavesOnly D.moment D.left_since disk.old disk.new
             (IsEmptyStill (D.left_since disk.old (D.moment disk.old))) }

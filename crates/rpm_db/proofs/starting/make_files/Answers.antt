@@ -12,7 +12,7 @@ use Rattle.rpm_db.specs.Lawful.{Remade, IsUnsealed}
 use Rattle.rpm_db.specs.Runs.{CameOf}
 use Rattle.rpm_db.proofs.Emptied.{blank_is, stops_index, stops_make, stops_seal, two, empty_unsealed}
 use Rattle.rpm_db.proofs.Making.{ordered_pending}
-use Rattle.rpm_db.proofs.Opened.{settled_quiet, still_settled}
+use Rattle.rpm_db.proofs.Opened.{settled_quiet, still_settled, still_quiet}
 use Rattle.rpm_db.proofs.starting.make_files.Goals as goal
 
 pub seal_index-requires-clause-written : goal.seal_index-requires-clause-written
@@ -114,3 +114,8 @@ returns-in-Err-seal_index-clause-stops g c = λ told.
     let sealed = stops_seal g.D.Disk.moment g.D.Disk.left_since a b d f
     (λ i here. g.met.D.Disk.earlier d (g.D.Disk.moment b) (g.D.Disk.moment d) i told made.later (omega arith) here) made (c.in-Err-seal_index.ensures.runs.any_moment told) in
     two g.D.Disk.moment g.D.Disk.left_since a d f (two g.D.Disk.moment g.D.Disk.left_since a b d first made) sealed
+
+pub returns-in-Ok-seal_index-clause-quiet : goal.returns-in-Ok-seal_index-clause-quiet
+returns-in-Ok-seal_index-clause-quiet g c = λ told.
+    still_quiet g.D.Disk.tells g.D.Disk.files g.D.Disk.left_since g.D.Disk.moment g.D.Disk.bytes_read g.D.Disk.follows c.make.new.disk
+    c.seal_index.new.disk c.make.new.self told c.in-Ok-seal_index.ensures.runs (c.in-Ok-make.ensures.quiet told)
