@@ -73,6 +73,7 @@ fn open_settled<D: Disk>(alloc: Global, disk: &mut D) -> Result<Db, DbOpenFault>
     ensures indexed { IfOk result (λ db. is_indexed db ≡ not (is_blank db)) }
     ensures going { IfOk result (λ db. db.stopped ≡ false) }
     ensures quiet { IfOk result (λ db. IsTrue D.tells → IsQuiet db.store (D.files disk.new) (D.left_since disk.new (D.moment disk.new))) }
+    ensures durable { IfOk result (λ _db. IsTrue D.tells → IsSettled Pkg (D.files disk.new) (D.left_since disk.new (D.moment disk.new))) }
     ensures settled { IfOk result (λ _db. IsTrue D.tells → IsSettled Idx (D.files disk.new) (D.left_since disk.new (D.moment disk.new))) }
     ensures reads { IsTrue D.tells → D.bytes_read disk.new File.Pkg ≤ D.bytes_read disk.old File.Pkg + opening_cost (D.files disk.old).pkg
         + making_cost (D.files disk.old).idx (store (D.files disk.old).pkg) }
@@ -121,6 +122,7 @@ impl Db {
         ensures indexed { IfOk result (λ db. is_indexed db ≡ not (is_blank db)) }
         ensures going { IfOk result (λ db. db.stopped ≡ false) }
         ensures quiet { IfOk result (λ db. IsTrue D.tells → IsQuiet db.store (D.files disk.new) (D.left_since disk.new (D.moment disk.new))) }
+        ensures durable { IfOk result (λ _db. IsTrue D.tells → IsSettled Pkg (D.files disk.new) (D.left_since disk.new (D.moment disk.new))) }
         ensures settled { IfOk result (λ _db. IsTrue D.tells → IsSettled Idx (D.files disk.new) (D.left_since disk.new (D.moment disk.new))) }
         ensures stops { IsTrue D.tells → AreLawful (D.left_since disk.old (D.moment disk.old)) → LeavesOnly D.moment D.left_since disk.old disk.new
             (IsLawfulStill (D.left_since disk.old (D.moment disk.old))) }

@@ -11,7 +11,6 @@ mod finding;
 #[cfg(test)]
 mod index_tests;
 mod indexing;
-
 mod opening;
 mod reading;
 mod rebuilding;

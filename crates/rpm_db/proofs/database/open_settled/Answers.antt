@@ -46,3 +46,14 @@ returns-then-is_blank-clause-quiet g c = λ told.
     c.open_store.new.disk told
     (runs_looks g.D.Disk.tells g.D.Disk.files g.D.Disk.left_since g.D.Disk.moment g.D.Disk.bytes_read g.D.Disk.follows Remade remade_none Pkg _
     c.args.disk.now c.open_store.new.disk refl c.in-Ok.ensures.looks) (c.requires.pkg told))
+
+pub returns-in-Ok-index_for-clause-durable : goal.returns-in-Ok-index_for-clause-durable
+returns-in-Ok-index_for-clause-durable g c = λ told.
+    still_settled g.D.Disk.tells g.D.Disk.files g.D.Disk.left_since g.D.Disk.moment g.D.Disk.bytes_read g.D.Disk.follows c.args.disk.now
+    c.index_for.new.disk told (returns-in-Ok-index_for-clause-runs g c) (c.requires.pkg told)
+
+pub returns-then-is_blank-clause-durable : goal.returns-then-is_blank-clause-durable
+returns-then-is_blank-clause-durable g c = λ told.
+    still_settled g.D.Disk.tells g.D.Disk.files g.D.Disk.left_since g.D.Disk.moment g.D.Disk.bytes_read g.D.Disk.follows c.args.disk.now c.open_store.new.disk told
+    (runs_looks g.D.Disk.tells g.D.Disk.files g.D.Disk.left_since g.D.Disk.moment g.D.Disk.bytes_read g.D.Disk.follows Remade remade_none Pkg _
+    c.args.disk.now c.open_store.new.disk refl c.in-Ok.ensures.looks) (c.requires.pkg told)
