@@ -7,7 +7,7 @@ use Rattle.rpm_outside.specs.Files.{Units, Files}
 use Rattle.rpm_outside.specs.Crash.{Elapses, bytes_for}
 use Rattle.rpm_outside.specs.Looks.{Looks}
 use Rattle.rpm_outside.specs.Changes.{Changes, Changed}
-use Rattle.rpm_outside.specs.inner.Moments.{started, goes_on, leaves_then, leaves_weaker}
+use Rattle.rpm_outside.specs.inner.Moments.{started, one_more, leaves_then, leaves_weaker}
 use Rattle.rpm_db.specs.Runs.{CameOf, Runs}
 
 came_weaker : (P Q : Files → Files → Type 0) (images : Files → Type 0) (image : Files) → ((from : Files) → images from → P from image → Q from image)
@@ -69,7 +69,7 @@ module _ {D : Type 0} (tells : Bool) (files : D → Files) (left_since : D → �
         reads_as = λ told. subst (P (files a)) (sym (files_same told)) (same (files a));
         now = now;
         any_moment = λ told.
-            goes_on moment left_since a a b (CameOf P (images a))
+            one_more moment left_since a a b (CameOf P (images a))
             (started moment left_since a (CameOf P (images a)) (λ image here. record { from = image; was = here; came = same image }))
             (time told) (now told);
         reads = record { no_less = λ f. omega (arith, reads f); log = omega (arith, reads Log) };
