@@ -2,7 +2,6 @@
 use Rattle.std.proofs.Common.{◌≡◌, ◌≢◌, ◌⊎◌, inl, inr, ℕ, zero, suc, ◌+◌, ◌*◌, ◌^◌, ◌<◌, ◌≤◌, List, [], ◌∷◌, ◌++◌, length, take, true, false, Option, Some, None, MatchOption, refl, sym, ap, ◌∙◌, subst, arith, set, length-set}
 use Rattle.std.specs.Prelude.{Contains}
 use Rattle.std.proofs.lemmas.Bool.{cases_eq, cases_lt}
-use Rattle.std.proofs.lemmas.List.{take-append-le, take_all, get_or_append_left, get_or_push, length_push}
 use Rattle.std.proofs.lemmas.Bool.Decides.{nat_tests}
 use Rattle.std.proofs.lemmas.List.Sums.{sum_by-set}
 use Rattle.rpm_blocks.specs.declared.Range.{Range}
@@ -16,14 +15,15 @@ use Rattle.rpm_pkgdb.specs.Store.{Store}
 use Rattle.rpm_pkgdb.specs.Plans.{IsLeast, Fits, FitsNowhere}
 use Rattle.rpm_pkgdb.specs.Undamaged.{AreSound}
 use Rattle.rpm_pkgdb.specs.inner.Ranges.{range_of, UsedBy, AreRangesOf}
-use Rattle.rpm_pkgdb.specs.inner.Settings.{CanSet, moved}
-use Rattle.rpm_pkgdb.specs.inner.MoveLists.{no_move, move_at, after_move, after_moves, IsNextMove, AreMoves}
-use Rattle.rpm_pkgdb.specs.inner.Pages.{AreBehind, IsFirstBefore, AreFirstMoves, IsPlanning, AllMoved, CantMove, IsFirstSoFar, one_before, count_before}
+use Rattle.rpm_pkgdb.specs.inner.Settings.{CanSet}
+use Rattle.rpm_pkgdb.specs.Growing.{moved}
+use Rattle.rpm_pkgdb.specs.Growing.{after_move, after_moves, IsNextMove, AreMoves, AreBehind}
+use Rattle.rpm_pkgdb.specs.Planned.{CantMove}
+use Rattle.rpm_pkgdb.specs.inner.Pages.{IsFirstBefore, IsPlanning, AllMoved, IsFirstSoFar, one_before, count_before}
 use Rattle.rpm_pkgdb.proofs.Pairwise.{used_below}
 use Rattle.rpm_pkgdb.proofs.ClearLaws.{set_here, set_other}
 use Rattle.rpm_pkgdb.proofs.RangeLaws.{other_start}
 use Rattle.rpm_pkgdb.proofs.SettingLaws.{set_sound}
-use Rattle.rpm_pkgdb.proofs.MoveListLaws.{after_push}
 
 -- ---- the first range before a block
 
@@ -120,84 +120,77 @@ module _ (pages : ℕ) (slots : List Slot) (sound : AreSound pages (2 ^ 28) slot
       }
 
 -- the move is the next one
-pub next_move : (value : Store) (pages place to : ℕ) → AreSound pages (2 ^ 28) value.slots → IsFirstBefore value.slots (256 * (value.pages + 1)) place
-    → IsLeast value.slots (slot_at value.slots place).count (256 * (value.pages + 1)) to → IsNextMove value (record { place = place; to = to })
-next_move value pages place to sound first least = record {
+pub next_move : (slots : List Slot) (pages end place to : ℕ) → AreSound pages (2 ^ 28) slots → IsFirstBefore slots end place
+    → IsLeast slots (slot_at slots place).count end to → IsNextMove slots end (record { place = place; to = to })
+next_move slots pages end place to sound first least = record {
   used = first.used;
-  in_page = first.before;
+  before = first.before;
   first = λ j other used.
       let le = first.first j used in
-      let differ = other_start pages value.slots sound j place other used first.used in
-      let apart : (slot_at value.slots place).offset ≢ (slot_at value.slots j).offset = λ same. differ (sym same) in
+      let differ = other_start pages slots sound j place other used first.used in
+      let apart : (slot_at slots place).offset ≢ (slot_at slots j).offset = λ same. differ (sym same) in
       omega arith;
-  to_least = least;
+  least = least;
 }
 
-after_pages : (value : Store) (moves : List Move) → (after_moves value moves).pages ≡ value.pages
-after_pages value [] = refl
-after_pages value (m ∷ moves) = after_pages (after_move value m) moves
+moves_then : (slots : List Slot) (end : ℕ) (moves : List Move) (m : Move) → AreMoves slots end moves → IsNextMove (after_moves slots moves) end m
+    → AreMoves slots end (moves ++ m ∷ [])
+moves_then slots end [] m are next = (next, tt)
+moves_then slots end (x ∷ moves) m are next = (are.0, moves_then (after_move slots x) end moves m are.1 next)
 
-pub record Planned (value : Store) (moves : List Move) (slots : List Slot) : Type 0 where
-  pub are : AreFirstMoves value moves
-  pub slots_are : slots ≡ (after_moves value moves).slots
+after_then : (slots : List Slot) (moves : List Move) (m : Move) → after_moves slots (moves ++ m ∷ []) ≡ after_move (after_moves slots moves) m
+after_then slots [] m = refl
+after_then slots (x ∷ moves) m = after_then (after_move slots x) moves m
 
-pub planning_more : (value : Store) (moves : List Move) (slots : List Slot) (pages place end to : ℕ) → end ≡ 256 * (value.pages + 1) → AreSound pages (2 ^ 28) slots
-    → AreFirstMoves value moves → slots ≡ (after_moves value moves).slots → IsFirstBefore slots end place → IsLeast slots (slot_at slots place).count end to
-    → Planned value (moves ++ (record { place = place; to = to }) ∷ []) (set slots place (moved (slot_at slots place) to))
-planning_more value moves slots pages place end to end_is sound are slots_are first least =
+pub record Planned (slots : List Slot) (end : ℕ) (moves : List Move) (now : List Slot) : Type 0 where
+  pub are : AreMoves slots end moves
+  pub slots_are : now ≡ after_moves slots moves
+
+pub planning_more : (slots : List Slot) (end : ℕ) (moves : List Move) (now : List Slot) (pages place to : ℕ) → AreSound pages (2 ^ 28) now
+    → AreMoves slots end moves → now ≡ after_moves slots moves → IsFirstBefore now end place → IsLeast now (slot_at now place).count end to
+    → Planned slots end (moves ++ (record { place = place; to = to }) ∷ []) (set now place (moved (slot_at now place) to))
+planning_more slots end moves now pages place to sound are slots_are first least =
     let m : Move = record { place = place; to = to } in
-    let now = after_moves value moves in
-    let end_now : end ≡ 256 * (now.pages + 1) = omega (arith, end_is, after_pages value moves) in
-    let next : IsNextMove now m = next_move now pages place to (subst (AreSound pages (2 ^ 28)) slots_are sound)
-    (subst (λ (e : ℕ). IsFirstBefore now.slots e place) end_now (subst (λ (l : List Slot). IsFirstBefore l end place) slots_are first))
-    (subst (λ (e : ℕ). IsLeast now.slots (slot_at now.slots place).count e to) end_now (subst (λ (l : List Slot). IsLeast l (slot_at l place).count end to) slots_are least)) in
+    let next : IsNextMove now end m = next_move now pages end place to sound first least in
     record {
-      are = λ k below. elim (cases_lt k (length moves)) [
-        | inl old ↦
-            subst (λ (l : List Move). IsNextMove (after_moves value l) (move_at (moves ++ m ∷ []) k)) (sym (take-append-le k moves (m ∷ []) (omega arith)))
-            (subst (IsNextMove (after_moves value (take k moves))) (sym (get_or_append_left moves (m ∷ []) no_move k old)) (are k old))
-        | inr new ↦
-            (let here : k ≡ length moves = omega (arith, below, length_push moves m) in
-            subst (λ (l : List Move). IsNextMove (after_moves value l) (move_at (moves ++ m ∷ []) k))
-            (sym (take-append-le k moves (m ∷ []) (omega arith) ∙ take_all k moves (omega arith)))
-            (subst (IsNextMove now) (sym (get_or_push moves m no_move k (sym here))) next))
-      ];
-      slots_are = ap (λ (l : List Slot). set l place (moved (slot_at l place) to)) slots_are ∙ sym (ap (λ (v : Store). v.slots) (after_push value moves m));
+      are = moves_then slots end moves m are (subst (λ (l : List Slot). IsNextMove l end m) slots_are next);
+      slots_are = ap (λ (l : List Slot). after_move l m) slots_are ∙ sym (after_then slots moves m);
     }
 
--- once no range is left, these are all moves
-pub all_moves : (value : Store) (moves : List Move) → AreFirstMoves value moves → AreBehind (after_moves value moves).slots (256 * (value.pages + 1)) → AreMoves value moves
-all_moves value [] are behind = behind
-all_moves value (m ∷ moves) are behind = (are 0 (omega arith), all_moves (after_move value m) moves (λ k below. are (suc k) (omega arith)) behind)
-
 -- a range that is moved behind the block no longer begins before it
-pub fewer_before : (slots : List Slot) (end place to : ℕ) → IsFirstBefore slots end place → end ≤ to → count_before end (set slots place (moved (slot_at slots place) to)) < count_before end slots
+pub fewer_before : (slots : List Slot) (end place to : ℕ) → IsFirstBefore slots end place → end ≤ to
+    → count_before end (set slots place (moved (slot_at slots place) to)) < count_before end slots
 unfolding count_before
 fewer_before slots end place to first far =
     let was : one_before end (slot_at slots place) ≡ 1 = (let used = first.used in let before = first.before in grind (arith, nat_tests)) in
     let now : one_before end (moved (slot_at slots place) to) ≡ 0 = grind (arith, nat_tests) in
     omega (arith, sum_by-set (one_before end) slots place (moved (slot_at slots place) to) free first.below, was, now)
 
-count_after : (value : Store) (moves : List Move) → length (after_moves value moves).slots ≡ length value.slots
-count_after value [] = refl
-count_after value (m ∷ moves) = count_after (after_move value m) moves ∙ length-set value.slots m.place (moved (slot_at value.slots m.place) m.to)
+pub count_after : (slots : List Slot) (moves : List Move) → length (after_moves slots moves) ≡ length slots
+count_after slots [] = refl
+count_after slots (m ∷ moves) = count_after (after_move slots m) moves ∙ length-set slots m.place (moved (slot_at slots m.place) m.to)
 
-pub after_count : (value : Store) (page : Page) → IsPlanning value page → length page.slots.items ≡ length value.slots
-after_count value page planning = ap length planning.slots ∙ count_after value page.moves.items
+pub page_count : (slots : List Slot) (end : ℕ) (page : Page) → IsPlanning slots end page → length page.slots.items ≡ length slots
+page_count slots end page planning = ap length planning.slots_are ∙ count_after slots page.moves.items
 
-module _ (value : Store) (page : Page) (planning : IsPlanning value page) (slots : List Slot) (same : slots ≡ page.slots.items) (pages : ℕ) (pages_are : pages ≡ value.pages) where
-  pub cant_move : (place : ℕ) → IsFirstBefore slots (256 * (pages + 1)) place → FitsNowhere page.slots.items (slot_at page.slots.items place).count (256 * (pages + 1)) → CantMove value
-  cant_move place first nowhere = record {
-    moves = page.moves.items;
-    are = planning.moves;
-    place = place;
-    first = subst (λ (n : ℕ). IsFirstBefore (after_moves value page.moves.items).slots (256 * (n + 1)) place) pages_are (subst (λ (l : List Slot). IsFirstBefore l (256 * (pages + 1)) place) (same ∙ planning.slots) first);
-    nowhere = subst (λ (n : ℕ). FitsNowhere (after_moves value page.moves.items).slots (slot_at (after_moves value page.moves.items).slots place).count (256 * (n + 1))) pages_are
-        (subst (λ (l : List Slot). FitsNowhere l (slot_at l place).count (256 * (pages + 1))) planning.slots nowhere);
-  }
+module _ (slots : List Slot) (end : ℕ) (page : Page) (planning : IsPlanning slots end page) where
+  pub cant_move : (place : ℕ) → IsFirstBefore page.slots.items end place
+      → FitsNowhere page.slots.items (slot_at page.slots.items place).count end → CantMove slots end
+  cant_move place first nowhere =
+      let now = subst (λ (l : List Slot). IsFirstBefore l end place) planning.slots_are first in
+      record {
+        moves = page.moves.items;
+        are = planning.moves;
+        place = place;
+        used = now.used;
+        before = now.before;
+        first = now.first;
+        nowhere = subst (λ (l : List Slot). FitsNowhere l (slot_at l place).count end) planning.slots_are nowhere;
+      }
 
-  pub all_moved : AreBehind slots (256 * (pages + 1)) → AllMoved value page
+  pub all_moved : AreBehind page.slots.items end → AllMoved slots end page
   all_moved behind = record {
-    moves = all_moves value page.moves.items planning.moves (subst (λ (n : ℕ). AreBehind (after_moves value page.moves.items).slots (256 * (n + 1))) pages_are (subst (λ (l : List Slot). AreBehind l (256 * (pages + 1))) (same ∙ planning.slots) behind));
-    slots = planning.slots;
+    moves = planning.moves;
+    slots_are = planning.slots_are;
+    behind = subst (λ (l : List Slot). AreBehind l end) planning.slots_are behind;
   }

@@ -7,11 +7,9 @@ use Rattle.rpm_pkgdb.specs.declared.slot.Slot.{Slot}
 use Rattle.rpm_pkgdb.specs.declared.page.Page.{Page}
 use Rattle.rpm_pkgdb.specs.Slots.{slot_at, is_used}
 use Rattle.rpm_pkgdb.specs.Undamaged.{AreSound}
-use Rattle.rpm_pkgdb.specs.inner.Settings.{moved}
-use Rattle.rpm_pkgdb.specs.inner.Pages.{IsRanged, IsPlanning, AreFirstMoves}
-use Rattle.rpm_pkgdb.specs.inner.MoveLists.{after_moves}
+use Rattle.rpm_pkgdb.specs.Growing.{moved, after_moves, AreMoves}
+use Rattle.rpm_pkgdb.specs.inner.Pages.{IsRanged, IsPlanning}
 use Rattle.rpm_pkgdb.specs.declared.moving.Move.{Move}
-use Rattle.rpm_pkgdb.specs.Store.{Store}
 use Rattle.rpm_pkgdb.specs.Plans.{IsLeast}
 use Rattle.rpm_pkgdb.specs.inner.Ranges.{range_of, AreRangesOf}
 use Rattle.rpm_pkgdb.proofs.PlanLaws.{least_from}
@@ -70,19 +68,20 @@ returns-clause-ranged c = λ pages low r.
     }
 
 pub returns-clause-planning : goal.returns-clause-planning
-returns-clause-planning c = λ value end_is planning.
+returns-clause-planning c = λ slots planning.
     let p = c.args.self.now in
     let place = c.args.place in
+    let end = c.args.end in
     let s = slot_at p.slots.items place in
     let is : c.at-slot.result ≡ s = c.at-slot.ensures ∙ ap (λ (l : List Slot). slot_at l place) c.deref.ensures.value in
     let r = c.requires.ranged.2 in
     let pages = c.requires.ranged.0 in
     let to = c.in-Some.to in
-    let least = least_of pages p r place c.args.end to c.at-slot.result.count c.requires.first.used (ap (λ (t : Slot). t.count) is) c.in-Some.ensures.least in
-    let more = planning_more value p.moves.items p.slots.items pages place c.args.end to end_is r.sound planning.moves planning.slots c.requires.first least in
+    let least = least_of pages p r place end to c.at-slot.result.count c.requires.first.used (ap (λ (t : Slot). t.count) is) c.in-Some.ensures.least in
+    let more = planning_more slots end p.moves.items p.slots.items pages place to r.sound planning.moves planning.slots_are c.requires.first least in
     record {
-      moves = subst (AreFirstMoves value) (sym c.in-Ok-push.ensures.items) more.are;
-      slots = ap (λ (t : Slot). set p.slots.items place (moved t to)) is ∙ more.slots_are ∙ ap (λ (l : List Move). (after_moves value l).slots) (sym c.in-Ok-push.ensures.items);
+      moves = subst (AreMoves slots end) (sym c.in-Ok-push.ensures.items) more.are;
+      slots_are = ap (λ (t : Slot). set p.slots.items place (moved t to)) is ∙ more.slots_are ∙ ap (after_moves slots) (sym c.in-Ok-push.ensures.items);
     }
 
 pub returns-clause-moved : goal.returns-clause-moved

@@ -1,13 +1,11 @@
-use Rattle.std.proofs.Common.{◌≡◌, ℕ, ◌+◌, ◌*◌, ◌≤◌, length}
-use Rattle.std.specs.Prelude.{vec_capacity}
+use Rattle.std.proofs.Common.{◌+◌, ◌*◌}
 use Rattle.rpm_pkgdb.specs.inner.Pages.{IsRanged, IsPlanning, count_before}
-use Rattle.rpm_pkgdb.proofs.store.PkgDb.plan_page.Given as goal
+use Rattle.rpm_pkgdb.proofs.store.PkgDb.plan_moves.Given as goal
 
 abbrev pub invariant-loop-place : goal.invariant-loop-place
 invariant-loop-place l = record {
   ranged : IsRanged l.self.pages l.page;
-  planning : IsPlanning l.self l.page;
-  room : length l.self.slots + 256 ≤ vec_capacity l.page.slots;
+  planning : IsPlanning l.self.slots l.end l.page;
 }
 
 abbrev pub decreases-loop-place : goal.decreases-loop-place

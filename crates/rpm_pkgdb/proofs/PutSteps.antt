@@ -1,0 +1,65 @@
+-- A blob is put after the slot page that its plan asks for.
+use Rattle.std.proofs.Common.{◌≡◌, ◌⊎◌, ℕ, ◌+◌, ◌*◌, ◌^◌, ◌<◌, ◌≤◌, List, length, true, false, Option, Some, None, sym, ap, ◌∙◌, subst, arith}
+use Rattle.std.specs.FinMap as finite
+use Rattle.rpm_outside.specs.Files.{Units}
+use Rattle.rpm_pkgdb.specs.declared.slot.Slot.{Slot}
+use Rattle.rpm_pkgdb.specs.declared.moving.Move.{Move}
+use Rattle.rpm_pkgdb.specs.declared.plan.Plan.{Plan}
+use Rattle.rpm_pkgdb.specs.Slots.{slot_at, has_number, free}
+use Rattle.rpm_pkgdb.specs.Pairs.{Pairs}
+use Rattle.rpm_pkgdb.specs.Store.{Store}
+use Rattle.rpm_pkgdb.specs.Blobs.{blobs, blocks_for}
+use Rattle.rpm_pkgdb.specs.Growing.{grown}
+use Rattle.rpm_pkgdb.specs.Planned.{moves_of, IsPlan}
+use Rattle.rpm_pkgdb.specs.Quiet.{BlobMap, StandsFor}
+use Rattle.rpm_pkgdb.specs.Written.{next_field, field_after, PutsTo}
+use Rattle.rpm_pkgdb.specs.inner.Keeping.{IsKept}
+use Rattle.rpm_pkgdb.specs.inner.Puts.{CanPut}
+use Rattle.rpm_pkgdb.proofs.PlannedLaws.{grown_kept, none_for, grown_made, may_grow}
+
+module _ (v : Store) (plan : Plan) (is : IsPlan v plan) (made : 1 ≤ v.pages) where
+  abbrev pub after : Store
+  after = grown (moves_of plan.page) v
+
+  pub was_held : plan.target.is_new ≡ false → has_number plan.target.number (slot_at v.slots plan.target.place) ≡ true
+  was_held not_new =
+      ap (λ (o : Option (List Move)). has_number plan.target.number (slot_at (grown o v).slots plan.target.place))
+      (sym (none_for v plan.target.is_new (moves_of plan.page) is.page not_new)) ∙ is.target.held not_new
+
+  pub same_held : (old : Slot) → (plan.target.is_new ≡ false → old ≡ slot_at v.slots plan.target.place) → plan.target.is_new ≡ false
+      → old ≡ slot_at after.slots plan.target.place
+  same_held old held not_new =
+      held not_new ∙ ap (λ (o : Option (List Move)). slot_at (grown o v).slots plan.target.place)
+      (sym (none_for v plan.target.is_new (moves_of plan.page) is.page not_new))
+
+  pub place_fits : (numbers : Pairs) → IsKept numbers v.pages v.slots → plan.target.place + 3 ≤ 2 ^ 28
+  place_fits numbers kept =
+      let k = grown_kept numbers v kept made (moves_of plan.page) (may_grow v plan.target.is_new (moves_of plan.page) is.page) in
+      omega (arith, is.target.below, k.count, k.limit)
+
+  module _ (blob : List ℕ) (length_is : plan.target.length ≡ length blob) where
+    pub few_bytes : length blob ≤ 68157432
+    few_bytes = omega (arith, is.target.few, length_is)
+
+    pub room : plan.target.start + blocks_for (length blob) ≤ 2 ^ 28
+    room = subst (λ (n : ℕ). plan.target.start + blocks_for n ≤ 2 ^ 28) length_is is.target.start.fits.ends
+
+    pub can_put : (gen : ℕ) → gen ≡ v.generation → gen < 2 ^ 32 → (old : Slot) → (plan.target.is_new ≡ true → old ≡ free)
+        → (plan.target.is_new ≡ false → old ≡ slot_at v.slots plan.target.place) → CanPut after plan.target gen old blob
+    can_put gen gen_is fits old new held = record {
+      made = grown_made v (moves_of plan.page) made;
+      target_is = is.target;
+      length_is = length_is;
+      generation_is = gen_is;
+      fits = fits;
+      new = new;
+      replaced = same_held old held;
+    }
+
+    -- what stops leave is told of the blobs from before the page
+    pub puts_from : (F0 F1 image : Units) → blobs F1 after ≡ blobs F0 v → PutsTo after plan.target blob F1 image → PutsTo v plan.target blob F0 image
+    puts_from F0 F1 image same =
+        subst (λ (B : BlobMap). PutsTo after plan.target blob F1 image
+        → StandsFor v.generation v.field B image
+        ⊎ (StandsFor v.generation (field_after (next_field plan.target) v.field) B image
+        ⊎ StandsFor v.generation (field_after (next_field plan.target) v.field) (finite.insert B plan.target.number (Some blob)) image)) same (λ p. p)
