@@ -86,9 +86,6 @@ module _ (pages end : ℕ) (some : 1 ≤ pages) (low : 256 * pages ≤ end) wher
 
 -- ---- the greatest number
 
-
-
-
 same_greatest : (a b : List Slot) → length a ≡ length b → ((j : ℕ) → AreAlike (slot_at a j) (slot_at b j)) → greatest_number a ≡ greatest_number b
 same_greatest [] [] long alike = refl
 same_greatest [] (t ∷ b) long alike = absurd (omega arith)

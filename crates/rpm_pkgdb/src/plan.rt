@@ -92,7 +92,13 @@ impl PkgDb {
     }
 
     /// Plans a blob into a slot that is there.
-    fn plan_there(&self, number: u32, place: u32, size: u32, is_new: bool) -> Result<Plan, PlanFault>
+    fn plan_there(
+        &self,
+        number: u32,
+        place: u32,
+        size: u32,
+        is_new: bool,
+    ) -> Result<Plan, PlanFault>
         requires room { 1 ≤ self.now.spare }
         requires new { is_new ≡ true → (number ≡ next_number self.now) × IsFirstFree self.now.slots place }
         requires held { is_new ≡ false → has_number number (slot_at self.now.slots place) ≡ true }

@@ -80,7 +80,13 @@ impl PkgDb {
 
 impl PkgDb {
     /// Writes what a plan says.
-    fn write_plan<D: Disk>(&self, disk: &mut D, plan: &Plan, old: Slot, blob: &[u8]) -> Result<(), Failed>
+    fn write_plan<D: Disk>(
+        &self,
+        disk: &mut D,
+        plan: &Plan,
+        old: Slot,
+        blob: &[u8],
+    ) -> Result<(), Failed>
         requires made { 1 ≤ self.now.pages }
         requires plan { IsPlan self.now plan.now }
         requires length { plan.now.target.length ≡ length blob.now }
@@ -115,11 +121,13 @@ impl PkgDb {
     {
         match page {
             None => {}
-            Some(Page {
-                moves: _,
-                slots,
-                used,
-            }) => {
+            Some(
+                Page {
+                    moves: _,
+                    slots,
+                    used,
+                },
+            ) => {
                 self.slots = slots;
                 self.used = Some(used);
                 self.pages += 1;

@@ -48,10 +48,14 @@ returns-clause-page c =
     let kept = subst (λ (x : Store). IsKept c.self.inside.numbers.pairs x.pages x.slots) c.self.view_is c.self.invariant.kept in
     let old = c.in-Ok.page in
     let new = c.add_slots.new.self in
-    let e = c.in-Ok-add_slots.ensures in
-    ((refl, now_can v c.requires.all _ kept c.requires.made old new c.in-Ok.ensures.page c.in-Ok.ensures.ranged e.moves e.slots e.ranges),
-    (now_slots_too v c.requires.all _ kept c.requires.made old new c.in-Ok.ensures.page c.in-Ok.ensures.ranged e.moves e.slots e.ranges,
-    now_ranges v c.requires.all _ kept c.requires.made old new c.in-Ok.ensures.page c.in-Ok.ensures.ranged e.moves e.slots e.ranges, e.room))
+    let e = c.in-Ok-add_slots.ensures in (
+      (refl, now_can v c.requires.all _ kept c.requires.made old new c.in-Ok.ensures.page c.in-Ok.ensures.ranged e.moves e.slots e.ranges),
+      (
+        now_slots_too v c.requires.all _ kept c.requires.made old new c.in-Ok.ensures.page c.in-Ok.ensures.ranged e.moves e.slots e.ranges,
+        now_ranges v c.requires.all _ kept c.requires.made old new c.in-Ok.ensures.page c.in-Ok.ensures.ranged e.moves e.slots e.ranges,
+        e.room,
+      ),
+    )
 
 pub returns-clause-ranged : goal.returns-clause-ranged
 returns-clause-ranged c =
