@@ -1,11 +1,11 @@
 -- A blob is put after the slot page that its plan asks for.
-use Rattle.std.proofs.Common.{◌≡◌, ◌⊎◌, ℕ, ◌+◌, ◌*◌, ◌^◌, ◌<◌, ◌≤◌, List, length, true, false, Option, Some, None, sym, ap, ◌∙◌, subst, arith}
+use Rattle.std.proofs.Common.{◌≡◌, ◌≢◌, ◌⊎◌, inl, inr, set, ℕ, ◌+◌, ◌*◌, ◌^◌, ◌<◌, ◌≤◌, List, length, true, false, Option, Some, None, sym, ap, ◌∙◌, subst, arith}
 use Rattle.std.specs.FinMap as finite
-use Rattle.rpm_outside.specs.Files.{Units}
+use Rattle.rpm_outside.specs.Files.{Units, unit_at, blank}
 use Rattle.rpm_pkgdb.specs.declared.slot.Slot.{Slot}
 use Rattle.rpm_pkgdb.specs.declared.moving.Move.{Move}
 use Rattle.rpm_pkgdb.specs.declared.plan.Plan.{Plan}
-use Rattle.rpm_pkgdb.specs.Slots.{slot_at, has_number, free}
+use Rattle.rpm_pkgdb.specs.Slots.{slot_at, is_used, end_of, has_number, free}
 use Rattle.rpm_pkgdb.specs.Pairs.{Pairs}
 use Rattle.rpm_pkgdb.specs.Store.{Store}
 use Rattle.rpm_pkgdb.specs.Blobs.{blobs, blocks_for}
@@ -15,6 +15,11 @@ use Rattle.rpm_pkgdb.specs.Quiet.{BlobMap, StandsFor}
 use Rattle.rpm_pkgdb.specs.Written.{next_field, field_after, PutsTo}
 use Rattle.rpm_pkgdb.specs.inner.Keeping.{IsKept}
 use Rattle.rpm_pkgdb.specs.inner.Puts.{CanPut}
+use Rattle.std.proofs.lemmas.Bool.Decides.{nat_tests}
+use Rattle.rpm_pkgdb.specs.Plans.{slot_for}
+use Rattle.rpm_pkgdb.specs.Freed.{AreFreed, KeepsBlank}
+use Rattle.rpm_pkgdb.proofs.Facts.{cases_Bool}
+use Rattle.rpm_pkgdb.proofs.FreedLaws.{freed_put, decide_block}
 use Rattle.rpm_pkgdb.proofs.PlannedLaws.{grown_kept, none_for, grown_made, may_grow}
 
 module _ (v : Store) (plan : Plan) (is : IsPlan v plan) (made : 1 ≤ v.pages) where
@@ -63,3 +68,26 @@ module _ (v : Store) (plan : Plan) (is : IsPlan v plan) (made : 1 ≤ v.pages) w
         → StandsFor v.generation v.field B image
         ⊎ (StandsFor v.generation (field_after (next_field plan.target) v.field) B image
         ⊎ StandsFor v.generation (field_after (next_field plan.target) v.field) (finite.insert B plan.target.number (Some blob)) image)) same (λ p. p)
+
+  far_used : (s : Slot) (pages : ℕ) → 1 ≤ pages → 256 * pages ≤ s.offset → is_used s ≡ true
+  far_used s pages some behind = let far : s.offset ≢ 0 = omega arith in grind (arith, nat_tests)
+
+  -- a used slot at the plan's place is the one that is replaced
+  at_place : (old : Slot) → (plan.target.is_new ≡ false → old ≡ slot_at v.slots plan.target.place) → is_used (slot_at after.slots plan.target.place) ≡ true
+      → slot_at after.slots plan.target.place ≡ old
+  at_place old held used = elim (cases_Bool plan.target.is_new) [
+    | inl new ↦ absurd (let unused = (is.target.new new).1.unused in let e : true ≡ false = sym used ∙ unused in cc)
+    | inr not_new ↦ sym (same_held old held not_new)
+  ]
+
+  pub put_freed : (numbers : Pairs) → IsKept numbers v.pages v.slots → (old : Slot) → (plan.target.is_new ≡ false → old ≡ slot_at v.slots plan.target.place)
+      → (F1 F2 : Units) → AreFreed (256 * after.pages) v.slots after.slots F1
+      → ((i : ℕ) → old.offset ≤ i → i < end_of old → unit_at F2 i ≡ blank)
+      → KeepsBlank (plan.target.place + 3) plan.target.start (blocks_for plan.target.length) F1 F2
+      → AreFreed (256 * after.pages) v.slots (set after.slots plan.target.place (slot_for plan.target)) F2
+  put_freed numbers kept old held F1 F2 freed zeros blanks =
+      let k = grown_kept numbers v kept made (moves_of plan.page) (may_grow v plan.target.is_new (moves_of plan.page) is.page) in
+      let some = grown_made v (moves_of plan.page) made in
+      freed_put (256 * after.pages) v.slots after.slots plan.target.place (slot_for plan.target) old F1 F2 is.target.below
+      (far_used (slot_for plan.target) after.pages some is.target.start.from_on) (at_place old held) (omega (arith, is.target.below, k.count, some)) freed zeros
+      blanks (decide_block after.slots)

@@ -10,7 +10,8 @@ ghost use Rattle.rpm_outside.specs.Changes.{Changes, Stops, IsSettled};
 ghost use Rattle.rpm_pkgdb.specs.inner.Clear.{SameOutside};
 ghost use Rattle.rpm_pkgdb.specs.Quiet.{IsQuiet, Anything, BeforeOrAfter, StandsAs, StandsFor};
 ghost use Rattle.rpm_pkgdb.specs.Blobs.{blobs};
-ghost use Rattle.rpm_pkgdb.specs.Growing.{CanAdd, grown, moving_cost};
+ghost use Rattle.rpm_pkgdb.specs.Growing.{CanAdd, grown, moving_cost, next_end};
+ghost use Rattle.rpm_pkgdb.specs.Freed.{AreFreed, KeepsBlank};
 ghost use Rattle.rpm_pkgdb.specs.Planned.{moves_of};
 ghost use Rattle.rpm_pkgdb.specs.inner.MoveLists.{CanGrowBy};
 ghost use Rattle.rpm_pkgdb.specs.inner.Grows.{with_page, CanGrow, HasFreePage};
@@ -40,6 +41,7 @@ pub fn add_page<D: Disk>(disk: &mut D, generation: u32, pages: u32) -> Result<()
     requires { 256 * (pages + 1) ≤ 2 ^ 28 }
     ensures stands { OnOk result (IsTrue D.tells → (value : Store) → CanGrow value → generation ≡ value.generation → pages ≡ value.pages
         → Keeps (D.files disk.old).pkg value → StandsAs (with_page value) (D.files disk.old).pkg (D.files disk.new).pkg) }
+    ensures blanks { OnOk result (IsTrue D.tells → KeepsBlank (256 * (pages + 1)) 0 0 (D.files disk.old).pkg (D.files disk.new).pkg) }
     ensures images { IsTrue D.tells → (value : Store) → CanGrow value → generation ≡ value.generation → pages ≡ value.pages → IsQuiet value
         (D.files disk.old) (D.left_since disk.old (D.moment disk.old)) → LeavesOnly D.moment D.left_since disk.old disk.new
         (Stops Pkg (BeforeOrAfter value (with_page value) (D.files disk.old).pkg) (D.left_since disk.old (D.moment disk.old))) }
@@ -60,6 +62,8 @@ impl PkgDb {
         requires keeps { IsTrue D.tells → Keeps (D.files disk.old).pkg self.now }
         ensures kept { OnOk result (IsTrue D.tells → Keeps (D.files disk.new).pkg (grown (Some moves.now) self.now)) }
         ensures blobs { OnOk result (IsTrue D.tells → blobs (D.files disk.new).pkg (grown (Some moves.now) self.now) ≡ blobs (D.files disk.old).pkg self.now) }
+        ensures freed { OnOk result (IsTrue D.tells → AreFreed (next_end self.now) self.now.slots (grown (Some moves.now) self.now).slots
+            (D.files disk.new).pkg) }
         ensures images { IsTrue D.tells → IsQuiet self.now (D.files disk.old) (D.left_since disk.old (D.moment disk.old)) → LeavesOnly D.moment
             D.left_since disk.old disk.new (Stops Pkg (StandsFor self.now.generation self.now.field (blobs (D.files disk.old).pkg self.now))
             (D.left_since disk.old (D.moment disk.old))) }
@@ -80,6 +84,8 @@ impl PkgDb {
         requires keeps { IsTrue D.tells → Keeps (D.files disk.old).pkg self.now }
         ensures kept { OnOk result (IsTrue D.tells → Keeps (D.files disk.new).pkg (grown (moves_of page.now) self.now)) }
         ensures blobs { OnOk result (IsTrue D.tells → blobs (D.files disk.new).pkg (grown (moves_of page.now) self.now) ≡ blobs (D.files disk.old).pkg self.now) }
+        ensures freed { OnOk result (IsTrue D.tells → AreFreed (256 * (grown (moves_of page.now) self.now).pages) self.now.slots
+            (grown (moves_of page.now) self.now).slots (D.files disk.new).pkg) }
         ensures images { IsTrue D.tells → IsQuiet self.now (D.files disk.old) (D.left_since disk.old (D.moment disk.old)) → LeavesOnly D.moment
             D.left_since disk.old disk.new (Stops Pkg (StandsFor self.now.generation self.now.field (blobs (D.files disk.old).pkg self.now))
             (D.left_since disk.old (D.moment disk.old))) }

@@ -13,7 +13,8 @@ ghost use Rattle.rpm_outside.specs.Changes.{Stops, IsSettled, Changes};
 ghost use Rattle.rpm_pkgdb.specs.inner.Clear.{SameOutside};
 ghost use Rattle.rpm_pkgdb.specs.Quiet.{IsQuiet, StandsFor};
 ghost use Rattle.rpm_pkgdb.specs.inner.Settings.{NoShorter, CanMove, StandsSet, WhileMoved, blocks_of, with_slot};
-ghost use Rattle.rpm_pkgdb.specs.Growing.{moved, moving_cost};
+ghost use Rattle.rpm_pkgdb.specs.Growing.{moved, moving_cost, next_end};
+ghost use Rattle.rpm_pkgdb.specs.Freed.{AreFreed, KeepsBlank};
 
 use crate::copying::copy_blocks;
 use crate::slot::Slot;
@@ -53,6 +54,7 @@ pub fn move_blocks<D: Disk>(
     ensures stands { OnOk result (IsTrue D.tells → (value : Store) → CanMove value place old to → Keeps (D.files disk.old).pkg value → StandsSet value
         place (moved old to) (blocks_of old (D.files disk.old).pkg) (D.files disk.old).pkg (D.files disk.new).pkg) }
     ensures zeros { OnOk result (IsTrue D.tells → (i : ℕ) → old.offset ≤ i → zeros_from ≤ i → i < end_of old → unit_at (D.files disk.new).pkg i ≡ blank) }
+    ensures blanks { OnOk result (IsTrue D.tells → KeepsBlank (place + 3) to old.count (D.files disk.old).pkg (D.files disk.new).pkg) }
     ensures images { IsTrue D.tells → (value : Store) → CanMove value place old to → IsQuiet value (D.files disk.old)
         (D.left_since disk.old (D.moment disk.old)) → LeavesOnly D.moment D.left_since disk.old disk.new
         (Stops Pkg (WhileMoved value place old to (D.files disk.old).pkg) (D.left_since disk.old (D.moment disk.old))) }
@@ -96,6 +98,9 @@ pub fn move_all<D: Disk>(
         → Keeps (D.files disk.old).pkg value → Keeps (D.files disk.new).pkg (with_moves value moves.now)) }
     ensures blobs { OnOk result (IsTrue D.tells → (value : Store) → 1 ≤ value.pages → value.slots ≡ slots.now → AreMovesOf value moves.now
         → Keeps (D.files disk.old).pkg value → blobs (D.files disk.new).pkg (with_moves value moves.now) ≡ blobs (D.files disk.old).pkg value) }
+    ensures zeros { OnOk result (IsTrue D.tells → (value : Store) → 1 ≤ value.pages → value.slots ≡ slots.now → AreMovesOf value moves.now
+        → Keeps (D.files disk.old).pkg value → zeros_from ≡ next_end value → AreFreed (next_end value) value.slots (with_moves value moves.now).slots
+        (D.files disk.new).pkg) }
     ensures images { IsTrue D.tells → (value : Store) → 1 ≤ value.pages → value.slots ≡ slots.now → AreMovesOf value moves.now → IsQuiet value
         (D.files disk.old) (D.left_since disk.old (D.moment disk.old)) → LeavesOnly D.moment D.left_since disk.old disk.new
         (Stops Pkg (StandsFor value.generation value.field (blobs (D.files disk.old).pkg value)) (D.left_since disk.old (D.moment disk.old))) }

@@ -1,6 +1,6 @@
 //! Putting a package.
 
-ghost use Rattle.std.specs.Prelude.{◌≡◌, ℕ, ◌+◌, ◌^◌, ◌<◌, ◌≤◌, IsTrue, true, false, length, take, drop, Some, IsSome, OnOk, OnErr, IfOk};
+ghost use Rattle.std.specs.Prelude.{◌≡◌, ℕ, ◌+◌, ◌*◌, ◌^◌, ◌<◌, ◌≤◌, IsTrue, true, false, length, take, drop, Some, IsSome, OnOk, OnErr, IfOk};
 ghost use Rattle.std.specs.FinMap as finite;
 ghost use Rattle.rpm_outside.specs.declared.disk.File.TheVariants.{Pkg};
 ghost use Rattle.rpm_outside.specs.Files.{Files, units_of};
@@ -17,6 +17,7 @@ ghost use Rattle.rpm_pkgdb.specs.Pairs.{find_in};
 ghost use Rattle.rpm_pkgdb.specs.Plans.{IsTarget};
 ghost use Rattle.rpm_pkgdb.specs.Growing.{grown, moving_cost};
 ghost use Rattle.rpm_pkgdb.specs.Planned.{IsPlan, HoldsPage, moves_of};
+ghost use Rattle.rpm_pkgdb.specs.Freed.{AreFreed};
 ghost use Rattle.rpm_pkgdb.specs.Written.{with_blob, with_plan, PutsTo, stopped, with_spare, AreZeros};
 ghost use Rattle.rpm_pkgdb.specs.inner.MoveLists.{CanGrowBy};
 
@@ -100,6 +101,8 @@ impl PkgDb {
         ensures framed { OnOk result (IsTrue D.tells → take (blocks_for (length blob.now)) (drop plan.now.target.start (D.files disk.new).pkg)
             ≡ units_of (framed plan.now.target.number self.now.generation blob.now)) }
         ensures zeros { OnOk result (IsTrue D.tells → AreZeros (slot_with plan.now.target.number self.now.slots) (D.files disk.new).pkg) }
+        ensures freed { OnOk result (IsTrue D.tells → AreFreed (256 * (with_plan plan.now self.now).pages) self.now.slots
+            (with_plan plan.now self.now).slots (D.files disk.new).pkg) }
         ensures images { IsTrue D.tells → IsQuiet self.now (D.files disk.old) (D.left_since disk.old (D.moment disk.old)) → LeavesOnly D.moment
             D.left_since disk.old disk.new (Stops Pkg (PutsTo self.now plan.now.target blob.now (D.files disk.old).pkg)
             (D.left_since disk.old (D.moment disk.old))) }
@@ -168,6 +171,7 @@ impl PkgDb {
         ensures framed { OnOk result (IsTrue D.tells → take (blocks_for (length blob.now)) (drop plan.target.start (D.files disk.new).pkg)
             ≡ units_of (framed plan.target.number self.old.generation blob.now)) }
         ensures zeros { OnOk result (IsTrue D.tells → AreZeros (slot_with plan.target.number self.old.slots) (D.files disk.new).pkg) }
+        ensures freed { OnOk result (IsTrue D.tells → AreFreed (256 * self.new.pages) self.old.slots self.new.slots (D.files disk.new).pkg) }
         ensures images { IsTrue D.tells → IsQuiet self.old (D.files disk.old) (D.left_since disk.old (D.moment disk.old)) → LeavesOnly D.moment
             D.left_since disk.old disk.new (Stops Pkg (PutsTo self.old plan.target blob.now (D.files disk.old).pkg)
             (D.left_since disk.old (D.moment disk.old))) }

@@ -12,6 +12,7 @@ ghost use Rattle.rpm_pkgdb.specs.Framing.{framed};
 ghost use Rattle.rpm_outside.specs.Changes.{Changes, Stops, IsSettled};
 ghost use Rattle.rpm_pkgdb.specs.Quiet.{IsQuiet, Anything};
 ghost use Rattle.rpm_pkgdb.specs.Plans.{slot_for};
+ghost use Rattle.rpm_pkgdb.specs.Freed.{KeepsBlank};
 ghost use Rattle.rpm_pkgdb.specs.inner.Puts.{FieldPut, FieldTorn, BlobTorn, BlobPut, CanPut, StandsWith, WhilePut};
 ghost use Rattle.rpm_pkgdb.specs.Written.{next_field, with_blob};
 
@@ -73,6 +74,8 @@ pub fn put_blob<D: Disk>(
     ensures stands { OnOk result (IsTrue D.tells → (value : Store) → CanPut value target.now generation old blob.now → Keeps (D.files disk.old).pkg
         value → StandsWith value target.now generation blob.now (D.files disk.old).pkg (D.files disk.new).pkg) }
     ensures zeros { OnOk result (IsTrue D.tells → (i : ℕ) → old.offset ≤ i → i < end_of old → unit_at (D.files disk.new).pkg i ≡ blank) }
+    ensures blanks { OnOk result (IsTrue D.tells → KeepsBlank (target.now.place + 3) target.now.start (blocks_for (length blob.now))
+        (D.files disk.old).pkg (D.files disk.new).pkg) }
     ensures images { IsTrue D.tells → (value : Store) → CanPut value target.now generation old blob.now → IsQuiet value (D.files disk.old)
         (D.left_since disk.old (D.moment disk.old)) → LeavesOnly D.moment D.left_since disk.old disk.new
         (Stops Pkg (WhilePut value target.now generation blob.now (D.files disk.old).pkg) (D.left_since disk.old (D.moment disk.old))) }

@@ -15,6 +15,7 @@ use Rattle.rpm_pkgdb.proofs.Moves.{moved_map, moves_to}
 use Rattle.rpm_pkgdb.specs.Growing.{moving_cost}
 use Rattle.rpm_pkgdb.specs.inner.MoveLists.{with_moves, move_at}
 use Rattle.rpm_pkgdb.proofs.MoveSteps.{old_slot, cost_to, cost_more, cost_few, stands_for_same, current, next, old, kept, can_move, then_after}
+use Rattle.rpm_pkgdb.proofs.FreedMoves.{freed_then}
 use Rattle.rpm_pkgdb.proofs.moving.move_all.Goals as goal
 
 pub loop-k-init : goal.loop-k-init
@@ -24,6 +25,7 @@ loop-k-init g c =
     record {
       keeps = λ told value some same are keeps. keeps;
       blobs_are = λ told value some same are keeps. refl;
+      zeros = λ told value some same are keeps from_is i has from not. absurd (not has);
       images = λ told value some same are quiet.
           let P = StandsFor value.generation value.field (blobs (D.files d).pkg value) in
           let keeps : Keeps (D.files d).pkg value = (quiet (D.files d) (g.met.D.Disk.as_read d told)).keeps in
@@ -107,6 +109,9 @@ loop-k-preserved g c =
           ap (blobs F2) (then_after value slots moves k some same are lt)
           ∙ moved_map u m.place o m.to can F1 keeps1 F2 (c.in_ok-move_blocks.ensures.stands told u can keeps1)
           ∙ l.invariant.blobs_are told value some same are keeps0;
+      zeros = λ told value some same are keeps0 from_is.
+          freed_then value slots moves k some same are lt c.args.zeros_from from_is F0 F1 F2 keeps0 (l.invariant.zeros told value some same are keeps0 from_is)
+          (c.in_ok-move_blocks.ensures.zeros told) (c.in_ok-move_blocks.ensures.blanks told);
       images = λ told value some same are quiet.
           let u = current value slots moves k some same are lt in
           let m = next value slots moves k some same are lt in

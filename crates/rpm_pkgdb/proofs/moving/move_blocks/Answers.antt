@@ -1,9 +1,10 @@
-use Rattle.std.proofs.Common.{inr, ◌+◌, ◌*◌, ◌-◌, ◌<◌, ◌≤◌, [], ◌∷◌, refl, arith}
+use Rattle.std.proofs.Common.{◌≡◌, ℕ, IsTrue, inr, ◌+◌, ◌*◌, ◌-◌, ◌<◌, ◌≤◌, [], ◌∷◌, refl, arith}
 use Rattle.rpm_outside.specs.Crash.{Torn}
 use Rattle.rpm_pkgdb.specs.Slots.{end_of}
 use Rattle.rpm_pkgdb.specs.Store.{Keeps}
-use Rattle.rpm_pkgdb.proofs.Changing.{on_ok, stops_from}
-use Rattle.rpm_pkgdb.proofs.Changing.{copies_from, copies_weaker, copies_then, copies_stops_from, copies_stops_then}
+use Rattle.rpm_pkgdb.proofs.Changing.{on_ok, map_ok, stops_from, copies_from, copies_weaker, copies_then, copies_stops_from, copies_stops_then}
+use Rattle.rpm_pkgdb.proofs.FreedLaws.{moved_blank}
+use Rattle.rpm_outside.specs.Files.{Units, unit_at, blank}
 use Rattle.rpm_pkgdb.specs.inner.Clear.{SameOutside, Holds}
 use Rattle.rpm_pkgdb.specs.Quiet.{Anything}
 use Rattle.rpm_pkgdb.specs.inner.Settings.{NoShorter, WhileMoved, blocks_of}
@@ -146,3 +147,14 @@ returns-clause-copies g c =
     (λ x y r. r.no_shorter) c.write_one.ensures.changes))
     (copies_from _ _ _ _ _ _ (SameOutside c.min-at.result (end_of c.args.old - c.min-at.result)) NoShorter c.write_one.new.disk c.write_zeros.new.disk
     (λ x y r. r.no_shorter) c.write_zeros.ensures.changes)
+
+pub returns-clause-blanks : goal.returns-clause-blanks
+returns-clause-blanks g c =
+    let D = g.D.Disk in
+    let at = c.min-at.result in
+    let F3 = (D.files c.write_zeros.new.disk).pkg in
+    let n = end_of c.args.old - at in
+    map_ok c.write_zeros.result (λ (zeros : IsTrue D.tells → (i : ℕ) → at ≤ i → i < at + n → unit_at F3 i ≡ blank) told.
+    moved_blank c.args.place c.args.to c.args.old.count at n c.slot_unit.result (D.files c.args.disk.now).pkg (D.files c.copy_settled.new.disk).pkg
+    (D.files c.write_one.new.disk).pkg F3 (c.copy_settled.ensures.copies.pkg told) (c.in_ok-write_one.ensures.written told)
+    (c.write_zeros.ensures.changes.pkg told) (zeros told)) c.write_zeros.ensures.zeros

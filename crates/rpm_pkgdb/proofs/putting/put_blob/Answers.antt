@@ -1,11 +1,16 @@
-use Rattle.std.proofs.Common.{◌≡◌, ℕ, ◌+◌, [], ◌∷◌, List, length, refl, subst}
+use Rattle.std.proofs.Common.{◌≡◌, ℕ, IsTrue, ◌<◌, ◌≤◌, ◌+◌, [], ◌∷◌, List, length, refl, subst}
 use Rattle.rpm_outside.specs.Crash.{Torn}
 use Rattle.rpm_pkgdb.specs.declared.slot.Slot.{Slot}
 use Rattle.rpm_pkgdb.specs.declared.plan.Target.{Target}
 use Rattle.rpm_pkgdb.specs.Store.{Keeps}
 use Rattle.rpm_pkgdb.specs.Blobs.{blocks_for}
 use Rattle.rpm_pkgdb.specs.Undamaged.{IsSlotUnit}
-use Rattle.rpm_pkgdb.proofs.Changing.{on_ok, changes_then, stops_from, stops_then}
+use Rattle.rpm_outside.specs.Files.{Units, units_of, unit_at, blank}
+use Rattle.rpm_pkgdb.specs.Slots.{end_of}
+use Rattle.rpm_pkgdb.specs.Framing.{framed}
+use Rattle.rpm_pkgdb.proofs.FramingLaws.{count-framed}
+use Rattle.rpm_pkgdb.proofs.FreedLaws.{put_blank_all}
+use Rattle.rpm_pkgdb.proofs.Changing.{on_ok, map_ok, changes_then, stops_from, stops_then}
 use Rattle.rpm_pkgdb.specs.inner.Clear.{SameOutside}
 use Rattle.rpm_pkgdb.specs.Quiet.{Anything}
 use Rattle.rpm_pkgdb.specs.Plans.{slot_for}
@@ -123,3 +128,16 @@ returns-in_err-write_one-clause-changes g c =
     changes_then _ _ _ _ _ _ g.met.D.Disk.follows_trans R
     (Torn (2 + target.place) (c.slot_unit.result ∷ [])) Anything c.args.disk.now c.write_first.new.disk c.write_one.new.disk (λ x y r. tt)
     (λ x y z r s. tt) c.write_first.ensures.changes c.write_one.ensures.changes
+
+pub returns-clause-blanks : goal.returns-clause-blanks
+returns-clause-blanks g c =
+    let D = g.D.Disk in
+    let target = c.args.target.now in
+    let blob = c.args.blob.now in
+    let old = c.args.old in
+    let F3 = (D.files c.write_zeros.new.disk).pkg in
+    map_ok c.write_zeros.result (λ (zeros : IsTrue D.tells → (i : ℕ) → old.offset ≤ i → i < end_of old → unit_at F3 i ≡ blank) told.
+    put_blank_all (next_field target) (units_of (framed target.number c.args.generation blob)) target.place target.start (blocks_for (length blob))
+    old.offset old.count c.slot_unit.result (D.files c.args.disk.now).pkg (D.files c.write_first.new.disk).pkg (D.files c.write_one.new.disk).pkg F3
+    (count-framed target.number c.args.generation blob) (c.in_ok-write_first.ensures.written told) (c.in_ok-write_one.ensures.written told)
+    (c.write_zeros.ensures.changes.pkg told) (zeros told)) c.write_zeros.ensures.zeros

@@ -1,11 +1,12 @@
 use Rattle.rpm_outside.specs.declared.disk.File.TheVariants.{Pkg}
-use Rattle.std.proofs.Common.{◌≡◌, List, Option, Some, OnOk, refl, sym, ap, ◌∙◌, subst, arith, IsTrue}
+use Rattle.std.proofs.Common.{◌≡◌, ◌*◌, List, Option, Some, OnOk, refl, sym, ap, ◌∙◌, subst, arith, IsTrue}
 use Rattle.rpm_outside.specs.Changes.{Stops, Changes}
 use Rattle.rpm_outside.specs.inner.Moments.{started}
 use Rattle.rpm_pkgdb.specs.declared.moving.Move.{Move}
 use Rattle.rpm_pkgdb.specs.Store.{Store, Keeps}
 use Rattle.rpm_pkgdb.specs.Blobs.{blobs}
 use Rattle.rpm_pkgdb.specs.Growing.{grown, moving_cost}
+use Rattle.rpm_pkgdb.specs.Freed.{AreFreed}
 use Rattle.rpm_pkgdb.specs.Planned.{moves_of}
 use Rattle.rpm_pkgdb.specs.inner.MoveLists.{CanGrowBy}
 use Rattle.rpm_pkgdb.specs.declared.page.Page.{Page}
@@ -99,3 +100,19 @@ returns-in-Some-clause-changes g c =
     let whole : Some c.deref.result.now ≡ moves_of c.args.page.now = ap Some c.deref.ensures.value ∙ ap moves_of (sym c.in-Some.is) in
     subst (λ (m : Option (List Move)). Changes D.tells D.files D.left_since D.moment D.bytes_read D.follows Pkg Anything (moving_cost v.slots m) d e) whole
     c.grow_by.ensures.changes
+
+pub returns-in-None-clause-freed : goal.returns-in-None-clause-freed
+returns-in-None-clause-freed g c = λ told.
+    let D = g.D.Disk in
+    let v = c.args.self.now in
+    subst (λ (o : Option Page). AreFreed (256 * (grown (moves_of o) v).pages) v.slots (grown (moves_of o) v).slots (D.files c.args.disk.now).pkg)
+    (sym c.in-None.is) (λ i has from not. absurd (not has))
+
+pub returns-in-Some-clause-freed : goal.returns-in-Some-clause-freed
+returns-in-Some-clause-freed g c =
+    let D = g.D.Disk in
+    let v = c.args.self.now in
+    let e = c.grow_by.new.disk in
+    let whole : Some c.deref.result.now ≡ moves_of c.args.page.now = ap Some c.deref.ensures.value ∙ ap moves_of (sym c.in-Some.is) in
+    subst (λ (m : Option (List Move)). OnOk c.grow_by.result (IsTrue D.tells → AreFreed (256 * (grown m v).pages) v.slots (grown m v).slots
+    (D.files e).pkg)) whole c.grow_by.ensures.freed

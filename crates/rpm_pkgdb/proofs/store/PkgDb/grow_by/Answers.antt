@@ -6,7 +6,9 @@ use Rattle.rpm_pkgdb.specs.declared.slot.Slot.{Slot}
 use Rattle.rpm_pkgdb.specs.Slots.{slot_at, end_of}
 use Rattle.rpm_pkgdb.specs.Store.{Store, Keeps}
 use Rattle.rpm_pkgdb.specs.Blobs.{blobs}
-use Rattle.rpm_pkgdb.specs.Growing.{CanAdd, grown, moving_cost}
+use Rattle.rpm_pkgdb.specs.Growing.{CanAdd, grown, moving_cost, next_end}
+use Rattle.rpm_pkgdb.specs.Freed.{KeepsBlank}
+use Rattle.rpm_pkgdb.proofs.FreedLaws.{freed_page}
 use Rattle.rpm_pkgdb.specs.Quiet.{IsQuiet, Anything, StandsAs, StandsFor, BeforeOrAfter}
 use Rattle.rpm_pkgdb.specs.inner.Keeping.{IsKept}
 use Rattle.rpm_pkgdb.specs.inner.Settings.{NoShorter}
@@ -131,3 +133,18 @@ returns-clause-images g c = λ told quiet.
     (grows_to mid can F1 image keeps w))
     (c.add_page.ensures.images told mid can (ap (λ (x : Store). x.generation) c.self.view_is) (ap (λ (x : Store). x.pages) c.self.view_is)
     (c.in_ok-move_all.ensures.quiet told v c.requires.made same c.requires.can.are quiet)))
+
+pub returns-clause-freed : goal.returns-clause-freed
+returns-clause-freed g c =
+    let D = g.D.Disk in
+    let v = c.args.self.now in
+    let moves = c.args.moves.now in
+    let same : v.slots ≡ c.deref.result.now = ap (λ (x : Store). x.slots) (sym c.self.view_is) ∙ sym c.deref.ensures.value in
+    let end = 256 * (c.self.inside.pages + 1) in
+    let end_is : end ≡ next_end v = ap (λ (x : Store). next_end x) c.self.view_is in
+    let F1 = (D.files c.move_all.new.disk).pkg in
+    let F2 = (D.files c.add_page.new.disk).pkg in
+    map_ok c.add_page.result (λ (blanks : IsTrue D.tells → KeepsBlank end 0 0 F1 F2) told.
+    freed_page (next_end v) v.slots (with_moves v moves).slots F1 F2
+    (c.in_ok-move_all.ensures.zeros told v c.requires.made same c.requires.can.are (c.requires.keeps told) end_is)
+    (subst (λ (n : ℕ). KeepsBlank n 0 0 F1 F2) end_is (blanks told))) c.add_page.ensures.blanks

@@ -1,5 +1,5 @@
 use Rattle.rpm_outside.specs.declared.disk.File.TheVariants.{Pkg}
-use Rattle.std.proofs.Common.{◌≡◌, inl, ℕ, ◌^◌, ◌<◌, ◌≤◌, List, length, Some, IsTrue, sym, ap, ◌∙◌, subst, arith}
+use Rattle.std.proofs.Common.{◌≡◌, inl, ℕ, ◌^◌, ◌<◌, ◌≤◌, ◌+◌, List, length, Some, IsTrue, sym, ap, ◌∙◌, subst, arith}
 use Rattle.std.specs.FinMap as finite
 use Rattle.rpm_outside.specs.Files.{Units, units_of, unit_at, blank}
 use Rattle.rpm_outside.specs.Changes.{Stops}
@@ -13,11 +13,12 @@ use Rattle.rpm_pkgdb.specs.Quiet.{BlobMap, IsQuiet, Anything, StandsFor}
 use Rattle.rpm_pkgdb.specs.Written.{PutsTo, with_blob}
 use Rattle.rpm_pkgdb.specs.inner.Keeping.{IsKept}
 use Rattle.rpm_pkgdb.specs.inner.Puts.{CanPut, StandsWith, WhilePut}
-use Rattle.rpm_pkgdb.proofs.Changing.{map_ok, copies_then, copies_stops_then, stops_weaker}
+use Rattle.rpm_pkgdb.proofs.Changing.{map_ok, both_ok, copies_then, copies_stops_then, stops_weaker}
 use Rattle.rpm_pkgdb.proofs.FramingLaws.{count-framed}
 use Rattle.rpm_pkgdb.proofs.PlannedLaws.{may_grow}
 use Rattle.rpm_pkgdb.proofs.PutEnds.{whole_part, replaced_zeros}
-use Rattle.rpm_pkgdb.proofs.PutSteps.{after, was_held, place_fits, few_bytes, room, can_put, puts_from}
+use Rattle.rpm_pkgdb.proofs.PutSteps.{after, was_held, place_fits, few_bytes, room, can_put, puts_from, put_freed}
+use Rattle.rpm_pkgdb.specs.Freed.{KeepsBlank}
 use Rattle.rpm_pkgdb.proofs.PutsTo.{puts_to, put_map}
 use Rattle.rpm_pkgdb.proofs.store.PkgDb.write_plan.Goals as goal
 
@@ -160,3 +161,19 @@ returns-clause-zeros g c =
     map_ok c.put_blob.result (λ (zeros : IsTrue D.tells → (i : ℕ) → old.offset ≤ i → i < end_of old → unit_at F2 i ≡ blank) told.
     replaced_zeros v plan.target is.number (was_held v plan is c.requires.made) (D.files c.args.disk.now).pkg F2 old c.requires.made
     (c.requires.keeps told) c.requires.held (zeros told)) c.put_blob.ensures.zeros
+
+pub returns-clause-freed : goal.returns-clause-freed
+returns-clause-freed g c =
+    let D = g.D.Disk in
+    let v = c.args.self.now in
+    let plan = c.args.plan.now in
+    let blob = c.args.blob.now in
+    let old = c.args.old in
+    let kept = subst (λ (x : Store). IsKept c.self.inside.numbers.pairs x.pages x.slots) c.self.view_is c.self.invariant.kept in
+    let F1 = (D.files c.grow.new.disk).pkg in
+    let F2 = (D.files c.put_blob.new.disk).pkg in
+    both_ok c.put_blob.result (λ (zeros : IsTrue D.tells → (i : ℕ) → old.offset ≤ i → i < end_of old → unit_at F2 i ≡ blank)
+    (blanks : IsTrue D.tells → KeepsBlank (plan.target.place + 3) plan.target.start (blocks_for (length blob)) F1 F2) told.
+    put_freed v plan c.requires.plan c.requires.made _ kept old c.requires.held F1 F2 (c.in_ok-grow.ensures.freed told) (zeros told)
+    (subst (λ (n : ℕ). KeepsBlank (plan.target.place + 3) plan.target.start (blocks_for n) F1 F2) (sym c.requires.length) (blanks told)))
+    c.put_blob.ensures.zeros c.put_blob.ensures.blanks
