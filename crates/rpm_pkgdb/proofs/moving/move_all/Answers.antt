@@ -6,8 +6,7 @@ use Rattle.rpm_pkgdb.specs.declared.moving.Move.{Move}
 use Rattle.rpm_pkgdb.specs.Store.{Store, Keeps}
 use Rattle.rpm_pkgdb.specs.Blobs.{blobs}
 use Rattle.rpm_outside.specs.Changes.{Stops}
-use Rattle.rpm_pkgdb.proofs.Changing.{stops_weaker}
-use Rattle.rpm_pkgdb.proofs.Changing.{copies_none, copies_then, copies_weaker, copies_stops_then}
+use Rattle.rpm_pkgdb.proofs.Changing.{stops_weaker, copies_none, copies_then, copies_weaker, copies_stops_then}
 use Rattle.rpm_pkgdb.specs.Quiet.{StandsFor, IsQuiet}
 use Rattle.rpm_pkgdb.specs.inner.Settings.{NoShorter, WhileMoved}
 use Rattle.rpm_pkgdb.proofs.ErasesTo.{stands_for}
@@ -98,8 +97,8 @@ loop-k-preserved g c =
       keeps = λ told value some same are keeps0.
           let u = current value slots moves k some same are lt in
           let can = can_move value slots moves k some same are lt in
-          let keeps1 : Keeps F1 u = l.invariant.keeps told value some same are keeps0 in
-          subst (Keeps F2) (sym (then_after value slots moves k some same are lt)) (c.in_ok-move_blocks.ensures.stands told u can keeps1).keeps;
+          subst (Keeps F2) (sym (then_after value slots moves k some same are lt))
+          (c.in_ok-move_blocks.ensures.stands told u can (l.invariant.keeps told value some same are keeps0)).keeps;
       blobs_are = λ told value some same are keeps0.
           let u = current value slots moves k some same are lt in
           let m = next value slots moves k some same are lt in
@@ -151,9 +150,6 @@ returns-clause-quiet g c = λ told value some same are quiet.
 
 pub returns-clause-copies : goal.returns-clause-copies
 returns-clause-copies g c =
-    let D = g.D.Disk in
     let l = c.loop-k in
-    let slots = c.args.slots.now in
-    let moves = c.args.moves.now in
-    copies_weaker _ _ _ _ _ _ NoShorter NoShorter (cost_to slots moves l.k) (moving_cost slots (Some moves)) c.args.disk.now l.disk
-    (cost_few slots moves l.k) (λ x y r. r) l.invariant.copies
+    copies_weaker _ _ _ _ _ _ NoShorter NoShorter (cost_to c.args.slots.now c.args.moves.now l.k) (moving_cost c.args.slots.now (Some c.args.moves.now))
+    c.args.disk.now l.disk (cost_few c.args.slots.now c.args.moves.now l.k) (λ x y r. r) l.invariant.copies
