@@ -87,7 +87,12 @@ fn all_applied<D: Disk>(alloc: Global, disk: &mut D, changes: &[Change]) -> Opti
 }
 
 // The blob of a number, or none; `None` where it can't be read.
-fn blob_of<D: Disk>(alloc: Global, disk: &mut D, db: &PkgDb, n: u32) -> Result<Option<Vec<u8>>, AllocError>
+fn blob_of<D: Disk>(
+    alloc: Global,
+    disk: &mut D,
+    db: &PkgDb,
+    n: u32,
+) -> Result<Option<Vec<u8>>, AllocError>
     requires { IsTrue D.tells → Keeps (D.files disk.old).pkg db.now }
     ensures { IsTrue D.tells → Keeps (D.files disk.new).pkg db.now }
 {
@@ -98,21 +103,37 @@ fn blob_of<D: Disk>(alloc: Global, disk: &mut D, db: &PkgDb, n: u32) -> Result<O
     }
 }
 
-// The generation and the blobs of the first five numbers, each with its number before it.
+// Adds the blobs of the first five numbers, each with its number before it; or says that one can't be read.
+fn add_blobs<D: Disk>(
+    alloc: Global,
+    disk: &mut D,
+    db: &PkgDb,
+    state: &mut Vec<u8>,
+) -> Result<bool, AllocError>
+    requires { IsTrue D.tells → Keeps (D.files disk.old).pkg db.now }
+{
+    for n in 1..6u32 {
+        let Some(blob) = blob_of(alloc, disk, db, n)? else {
+            return Ok(false);
+        };
+        state.push(n as u8)?;
+        state.extend_from_slice(&blob)?;
+    }
+    Ok(true)
+}
+
+// The generation, and the blobs.
 fn state<D: Disk>(alloc: Global, disk: &mut D) -> Result<Option<Vec<u8>>, AllocError> {
     let Ok(db) = PkgDb::open(alloc, disk) else {
         return Ok(None);
     };
     let mut state = Vec::new(alloc);
     state.extend_from_slice(&db.generation().to_le_bytes())?;
-    for n in 1..6u32 {
-        let Some(blob) = blob_of(alloc, disk, &db, n)? else {
-            return Ok(None);
-        };
-        state.push(n as u8)?;
-        state.extend_from_slice(&blob)?;
+    if add_blobs(alloc, disk, &db, &mut state)? {
+        Ok(Some(state))
+    } else {
+        Ok(None)
     }
-    Ok(Some(state))
 }
 
 // A state as it was before a change, and as it is after it.
@@ -408,14 +429,23 @@ fn a_page_is_added(rt: HostRuntime) -> Result<(), Fail> {
         (8, [3, 0, 0, 0, 2, 0, 0, 0, 0, 1, 0, 0].as_slice()),
         // the first and the last that moves, and the one behind it
         (36, [1, 0, 0, 0, 0xf2, 7, 0, 0, 7, 0, 0, 0].as_slice()),
-        (36 + 16 * 36, [37, 0, 0, 0, 0xee, 8, 0, 0, 7, 0, 0, 0].as_slice()),
-        (36 + 16 * 37, [38, 0, 0, 0, 3, 2, 0, 0, 7, 0, 0, 0].as_slice()),
+        (
+            36 + 16 * 36,
+            [37, 0, 0, 0, 0xee, 8, 0, 0, 7, 0, 0, 0].as_slice(),
+        ),
+        (
+            36 + 16 * 37,
+            [38, 0, 0, 0, 3, 2, 0, 0, 7, 0, 0, 0].as_slice(),
+        ),
         // slots 256 and 257
         (4100, [255, 0, 0, 0, 0xf5, 8, 0, 0, 7, 0, 0, 0].as_slice()),
         (4116, [0; 12].as_slice()),
         // the old blocks behind the page
         (8192, [0; 48].as_slice()),
-        (16 * 2293, [0x42, 0x6c, 0x62, 0x53, 255, 0, 0, 0, 3, 0, 0, 0].as_slice()),
+        (
+            16 * 2293,
+            [0x42, 0x6c, 0x62, 0x53, 255, 0, 0, 0, 3, 0, 0, 0].as_slice(),
+        ),
     ] {
         let found = file.get(at..at + bytes.len()).unwrap_or(&[]);
         assert!(rt; found == bytes, "{at}");
@@ -428,7 +458,9 @@ fn a_page_is_added(rt: HostRuntime) -> Result<(), Fail> {
 }
 
 #[test]
-fn each_stop_and_fault_of_a_page_leaves_the_packages_before_or_after(rt: HostRuntime) -> Result<(), Fail> {
+fn each_stop_and_fault_of_a_page_leaves_the_packages_before_or_after(
+    rt: HostRuntime,
+) -> Result<(), Fail> {
     let alloc = rt.alloc();
     // two ranges move: the first lies in the new page, and the second on both sides of its end
     let file = full_page(alloc, 245)?;
