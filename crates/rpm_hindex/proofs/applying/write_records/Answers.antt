@@ -4,7 +4,7 @@ use Rattle.rpm_outside.specs.Files.{Units}
 use Rattle.rpm_hindex.specs.declared.planning.Patch.{Patch}
 use Rattle.rpm_hindex.specs.Plans.{after_units, after_tail}
 use Rattle.rpm_hindex.proofs.Swapping.{units_swap}
-use Rattle.rpm_hindex.proofs.Writes.{seal_then}
+use Rattle.rpm_hindex.proofs.TornWrites.{seal_then}
 use Rattle.rpm_hindex.proofs.applying.write_records.Goals as goal
 
 pub returns-clause-written : goal.returns-clause-written
