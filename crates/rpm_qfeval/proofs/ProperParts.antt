@@ -3,7 +3,7 @@ use Rattle.std.proofs.Common.{◌≡◌, ℕ, zero, suc, ◌+◌, Bool, Some, su
 use Rattle.std.specs.Prelude.{slice_get}
 use Rattle.rpm_qfparse.specs.declared.tree.Part.{Part}
 use Rattle.rpm_qfparse.specs.declared.tree.Part.TheVariants as part
-use Rattle.rpm_qfparse.specs.Tree.{Tree, End, Text, Shown, Bracket, Condition}
+use Rattle.rpm_qfparse.specs.Tree.{Tree, End, Text, Tagged, Bracket, Condition}
 use Rattle.rpm_qfparse.specs.Shape.{parts_of}
 use Rattle.rpm_qfparse.specs.Law.{IsProper}
 use Rattle.rpm_qfeval.specs.Proper.{AreProper, PartIsProper}
@@ -16,8 +16,8 @@ module _ (in_bracket : Bool) (depth : ℕ) where
   proper_at End k p h e = absurd cc
   proper_at (Text text rest) zero p h e = same (part.Text text) p e tt
   proper_at (Text text rest) (suc k) p h e = proper_at rest k p h.2 e
-  proper_at (Shown t rest) zero p h e = same (part.Tag t) p e tt
-  proper_at (Shown t rest) (suc k) p h e = proper_at rest k p h.1 e
+  proper_at (Tagged t rest) zero p h e = same (part.Tag t) p e tt
+  proper_at (Tagged t rest) (suc k) p h e = proper_at rest k p h.1 e
   proper_at (Bracket inner rest) zero p h e = same (part.Bracket inner) p e (h.0, (depth, h.1))
   proper_at (Bracket inner rest) (suc k) p h e = proper_at rest k p h.2 e
   proper_at (Condition tag first second rest) zero p h e = same (part.Condition tag first second) p e ((depth + 1, h.1), (depth + 1, h.2))
