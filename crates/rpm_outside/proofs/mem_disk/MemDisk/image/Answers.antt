@@ -52,8 +52,11 @@ loop-k-preserved c =
 pub returns-clause-image : goal.returns-clause-image
 returns-clause-image c =
     let disk = c.args.self.now in
-    let all : c.loop-k.k ≡ c.args.moment = omega (arith, begun_before disk.copies disk.steps.items (held_files disk.first) (held_files disk.held) disk.copied c.args.moment c.in_ok-from.from
-    (held_files c.in_ok-from.start) c.in_ok-from.ensures) in
+    let all : c.loop-k.k ≡ c.args.moment = omega (
+      arith,
+      begun_before disk.copies disk.steps.items (held_files disk.first) (held_files disk.held) disk.copied c.args.moment c.in_ok-from.from
+          (held_files c.in_ok-from.start) c.in_ok-from.ensures,
+    ) in
     let files : mem_files c.settled.result ≡ held_files c.loop-k.image = c.settled.ensures.files ∙ c.in_ok-copy_of.ensures in
     subst (λ (f : Files). Images (take c.args.moment disk.steps.items) (held_files disk.first) f) (sym files)
     (subst (λ (n : ℕ). Images (take n disk.steps.items) (held_files disk.first) (held_files c.loop-k.image)) all c.loop-k.invariant.image)
@@ -66,7 +69,10 @@ returns-clause-units c =
 pub returns-clause-picked : goal.returns-clause-picked
 returns-clause-picked c =
     let disk = c.args.self.now in
-    let all : c.loop-k.k ≡ c.args.moment = omega (arith, begun_before disk.copies disk.steps.items (held_files disk.first) (held_files disk.held) disk.copied c.args.moment c.in_ok-from.from
-    (held_files c.in_ok-from.start) c.in_ok-from.ensures) in
+    let all : c.loop-k.k ≡ c.args.moment = omega (
+      arith,
+      begun_before disk.copies disk.steps.items (held_files disk.first) (held_files disk.held) disk.copied c.args.moment c.in_ok-from.from
+          (held_files c.in_ok-from.start) c.in_ok-from.ensures,
+    ) in
     c.settled.ensures.files ∙ c.in_ok-copy_of.ensures ∙ c.loop-k.invariant.picked ∙ ap (λ (n : ℕ). picked_image c.args.pick (take n disk.steps.items)
     (held_files disk.first) (held_files disk.first)) all
