@@ -4,6 +4,7 @@ pub mod Counts
 mod Fixtures
 pub mod Walked
 pub mod ProperParts
+pub mod StoredTexts
 pub mod Moments
 pub mod Calendar
 pub mod Lists

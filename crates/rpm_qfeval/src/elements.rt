@@ -96,6 +96,25 @@ pub fn put_text<O: Sink>(
     }
 }
 
+/// Puts a text, whose bytes stand side by side, of a value that has so many elements.
+pub fn put_stored_text<O: Sink>(
+    sink: &mut O,
+    part: &TagPart,
+    count: u32,
+    text: &[u8],
+) -> Result<(), Failed>
+    ensures { Writes O.tells O.taken O.faults O.follows sink.old sink.new
+        (padded part.now.left part.now.width (text_text part.now.show count text.now)) result }
+{
+    match part.show {
+        Show::Plain => put_plain(sink, part, text),
+        Show::Shescape => put_padded(sink, part.left, part.width, &Shown::QuotedBytes(text)),
+        Show::Base64 => put_plain(sink, part, b"(not a blob)"),
+        Show::Arraysize => put_decimal(sink, part, count as u64),
+        _ => put_plain(sink, part, b"(not a number)"),
+    }
+}
+
 /// Puts a blob, which is the only element of its value.
 pub fn put_blob<O: Sink>(sink: &mut O, part: &TagPart, bytes: &[u8]) -> Result<(), Failed>
     ensures { Writes O.tells O.taken O.faults O.follows sink.old sink.new (padded part.now.left part.now.width (blob_text part.now.show bytes.now)) result }
