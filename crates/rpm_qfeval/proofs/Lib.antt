@@ -7,6 +7,7 @@ pub mod ProperParts
 pub mod StoredTexts
 pub mod Moments
 pub mod Calendar
+pub mod DateLaw
 pub mod Lists
 pub mod Glyphs
 pub mod Encodings

@@ -1,4 +1,4 @@
-//! The values of the tags of a bracket, which are looked up once.
+//! The values of the tags of a bracket, which are kept for its rounds.
 
 ghost use Rattle.std.specs.Prelude.{◌≡◌};
 ghost use Rattle.std.specs.Option.{option_map};
@@ -18,8 +18,8 @@ use rpm_qfparse::{Part, Parts, Role, TagPart};
 use rpm_tags::{Class, Tag, TagValue, texts_in, value};
 use std::marker::Model;
 
-/// Of how many tags of a bracket the values are looked up once: more than names have tags, each of
-/// which may be asked for in turn and for its first element.
+/// Of how many tags of a bracket the values are kept: more than two for each tag that has a name, one
+/// for its elements in turn and one for the first.
 pub const MOST: usize = 192;
 
 /// What a bracket asks for: the elements of a tag in turn, or the first one in each round.
