@@ -32,7 +32,7 @@ fn put_with<O: Sink, const N: usize>(
     let mut found: ArrayVec<Option<Found<'_>>, N> = ArrayVec::new();
     look_up(&mut found, asked, view, number);
     let mut columns: ArrayVec<Option<Column<'_, '_>>, N> = ArrayVec::new();
-    add_columns(&mut columns, found.as_slice());
+    add_columns(&mut columns, found.as_slice(), view, number);
     put_over(sink, inner, view, number, columns.as_mut_slice())
 }
 
