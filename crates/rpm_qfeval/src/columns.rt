@@ -12,7 +12,7 @@ ghost use Rattle.rpm_qfeval.specs.Padded.{padded};
 use crate::cursor::Cursor;
 use crate::elements::{put_none, put_value};
 use arrayvec::ArrayVec;
-use rpm_header::View;
+use rpm_header::{PlacesRoom, View};
 use rpm_outside::{Failed, Sink};
 use rpm_qfparse::{Part, Parts, Role, TagPart};
 use rpm_tags::{Class, Tag, TagValue, value};
@@ -56,14 +56,14 @@ impl<'v, 'a> Model for Column<'v, 'a> {
 
 impl<'v, 'a> Column<'v, 'a> {
     /// The column of a value, at its first text.
-    pub fn new(found: &'v Found<'a>) -> Column<'v, 'a>
+    pub fn new(found: &'v Found<'a>, room: Option<&'v mut PlacesRoom>) -> Column<'v, 'a>
         ensures { result ≡ found.now }
     {
         let cursor = match &found.value {
             None => None,
             Some(value) => {
                 if value.class() == Class::Text {
-                    Some(Cursor::new(value))
+                    Some(Cursor::new(value, room))
                 } else {
                     None
                 }
@@ -189,17 +189,25 @@ pub fn look_up<'a, const N: usize>(
     }
 }
 
-/// Adds the columns of values, as far as there is room.
+/// Adds the columns of values, as far as there is room for them. The paths of files, which are
+/// asked for in turn in one column alone, get the room for directories.
 pub fn add_columns<'v, 'a, const N: usize>(
     columns: &mut ArrayVec<Option<Column<'v, 'a>>, N>,
     found: &'v [Option<Found<'a>>],
+    room: &'v mut PlacesRoom,
 )
     ensures { (h : Header) (number : ℕ) → AreTold h number columns.old.items → AreTold h number found.now → AreTold h number columns.new.items }
 {
+    let mut room = Some(room);
     for found in found {
         if let Some(found) = found {
             if !columns.is_full() {
-                columns.push(Some(Column::new(found)));
+                let own = if found.asked.tag == Tag::Filenames && !found.asked.first {
+                    room.take()
+                } else {
+                    None
+                };
+                columns.push(Some(Column::new(found, own)));
             }
         }
     }

@@ -9,7 +9,7 @@ use crate::columns::{Asked, Column, Found, MOST, add_columns, asked_in, look_up}
 use crate::lookup::{is_present, put_tag};
 use crate::sizes::count_rounds;
 use arrayvec::ArrayVec;
-use rpm_header::View;
+use rpm_header::{PlacesRoom, View};
 use rpm_outside::{Failed, Sink, put_all};
 use rpm_qfparse::{Part, Parts};
 
@@ -69,8 +69,9 @@ fn put_two<O: Sink>(
 {
     let mut found: ArrayVec<Option<Found<'_>>, 2> = ArrayVec::new();
     look_up(&mut found, asked, view, number);
+    let mut room = PlacesRoom::new();
     let mut columns: ArrayVec<Option<Column<'_, '_>>, 2> = ArrayVec::new();
-    add_columns(&mut columns, found.as_slice());
+    add_columns(&mut columns, found.as_slice(), &mut room);
     put_over(sink, inner, view, number, columns.as_mut_slice())
 }
 
@@ -89,8 +90,9 @@ fn put_four<O: Sink>(
 {
     let mut found: ArrayVec<Option<Found<'_>>, 4> = ArrayVec::new();
     look_up(&mut found, asked, view, number);
+    let mut room = PlacesRoom::new();
     let mut columns: ArrayVec<Option<Column<'_, '_>>, 4> = ArrayVec::new();
-    add_columns(&mut columns, found.as_slice());
+    add_columns(&mut columns, found.as_slice(), &mut room);
     put_over(sink, inner, view, number, columns.as_mut_slice())
 }
 
@@ -109,8 +111,9 @@ fn put_most<O: Sink>(
 {
     let mut found: ArrayVec<Option<Found<'_>>, MOST> = ArrayVec::new();
     look_up(&mut found, asked, view, number);
+    let mut room = PlacesRoom::new();
     let mut columns: ArrayVec<Option<Column<'_, '_>>, MOST> = ArrayVec::new();
-    add_columns(&mut columns, found.as_slice());
+    add_columns(&mut columns, found.as_slice(), &mut room);
     put_over(sink, inner, view, number, columns.as_mut_slice())
 }
 

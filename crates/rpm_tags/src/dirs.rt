@@ -4,7 +4,7 @@ ghost use Rattle.std.specs.Prelude.{◌≡◌, ℕ, ◌+◌, ◌≤◌, ◌<◌,
 ghost use Rattle.rpm_header.specs.Header.{max_data};
 
 use crate::stored::{TextIter, Texts};
-use rpm_header::TextPlaces;
+use rpm_header::{PlacesRoom, TextPlaces};
 use std::marker::Model;
 
 /// The text n places ahead.
@@ -43,8 +43,10 @@ pub struct Directories<'v, 'a> {
     passed: u32,
     // The last that was read of those with the same remainder by 16.
     recent: [Seen<'a>; 16],
-    // All of them by place, once one was asked for again that isn't kept.
-    places: Option<TextPlaces<'a>>,
+    // All of them by place, once one was asked for again that isn't kept, and before that the room
+    // for their numbers.
+    places: Option<TextPlaces<'v, 'a>>,
+    room: Option<&'v mut PlacesRoom>,
 }
 
 impl<'v, 'a> Model for Directories<'v, 'a> {
@@ -60,7 +62,7 @@ impl<'v, 'a> Model for Directories<'v, 'a> {
 
 impl<'v, 'a> Directories<'v, 'a> {
     /// Reads the first directory.
-    pub fn new(all: &'v Texts<'a>) -> Directories<'v, 'a>
+    pub fn new(all: &'v Texts<'a>, room: Option<&'v mut PlacesRoom>) -> Directories<'v, 'a>
         ensures { result ≡ all.now }
     {
         let _ = all.count();
@@ -74,10 +76,12 @@ impl<'v, 'a> Directories<'v, 'a> {
             passed: 0,
             recent: [first; 16],
             places: None,
+            room,
         }
     }
 
-    /// The directory of an index that was passed, by its place.
+    /// The directory of an index that was passed, by its place; without room for the places by
+    /// going from the first one on.
     fn read_again(&mut self, index: u32) -> &'a [u8]
         requires { index < length self.old }
         ensures value { slice_get self.old index ≡ Some result.now }
@@ -85,8 +89,11 @@ impl<'v, 'a> Directories<'v, 'a> {
         ensures same { self.new ≡ self.old }
     {
         let places = match self.places.take() {
-            None => self.all.places(),
             Some(places) => places,
+            None => match self.room.take() {
+                Some(room) => self.all.places(room),
+                None => return self.all.text(index),
+            },
         };
         let dir = places.text(index);
         self.places = Some(places);
@@ -110,8 +117,9 @@ impl<'v, 'a> Directories<'v, 'a> {
     }
 
     /// The directory of an index. Reads nothing where it is among the 16 that are kept; else the
-    /// directories from the furthest one on that was read, or, where it is in front of that, a
-    /// 255th of all of them at most, and the first time all of them twice.
+    /// directories from the furthest one on that was read, or, where it is in front of that, two
+    /// strides of a 32,767th of all of them at most, and the first time all of them twice. Without
+    /// room it reads all of them up to its own.
     pub fn dir(&mut self, index: u64) -> &'a [u8]
         requires { index < length self.old }
         ensures value { slice_get self.old index ≡ Some result.now }

@@ -11,7 +11,7 @@ use crate::numbers::EPOCH;
 use crate::stored::{Stored, find_stored, first_number};
 use crate::tag::Tag;
 use crate::texts::ValueTexts;
-use rpm_header::View;
+use rpm_header::{PlacesRoom, View};
 use std::marker::Model;
 
 /// What the elements of a value are.
@@ -106,14 +106,24 @@ impl<'a> TagValue<'a> {
     /// All texts in order, each as `text` gives it. Going through them reads each byte of a stored
     /// text once. Of FILENAMES it reads each name once, and each directory once where files ask for
     /// new directories in order and for earlier ones not long after: the furthest one and 16 others
-    /// are kept, for 1.5 KiB. For any other directory it reads a 255th of all of them at most, and
-    /// the first time all of them twice: in the worst header of 64 MiB, 33.5 million times 256 KiB.
-    pub fn texts(&self) -> ValueTexts<'_, 'a>
+    /// are kept. For any other directory it looks where it begins and ends, in the room, which
+    /// reads 4 KiB at most, however long the directory is; the first time all of them twice.
+    ///
+    /// The worst header of 64 MiB has a file for each four bytes of its data, which are its index,
+    /// its name and a directory at once: 16.8 million files, each in a directory far from the last
+    /// one. Two bytes are enough for an index below 65,536, and a name needs a zero byte besides,
+    /// which the index may give: that is no more than 33.6 million files whose directories stand in
+    /// few bytes, or 22.4 million in directories of two thirds of the data; one byte gives 256
+    /// directories. FIGURE
+    ///
+    /// Without room each directory that isn't kept is read from the first one on, which costs files
+    /// times bytes: pass it wherever more than the first text is read.
+    pub fn texts<'v>(&'v self, room: Option<&'v mut PlacesRoom>) -> ValueTexts<'v, 'a>
         requires { class_of self.now ≡ Class.Text }
         ensures { result ≡ text_list self.now }
     {
         if let Source::Files(files) = &self.source {
-            return ValueTexts::files(files.iter());
+            return ValueTexts::files(files.iter(room));
         }
         match &self.source {
             Source::Stored(Stored::Texts(texts)) => ValueTexts::stored(texts.iter()),

@@ -9,7 +9,7 @@ use crate::dirs::Directories;
 use crate::files::are_matched;
 use crate::numbers::{BASENAMES, DIRINDEXES, DIRNAMES};
 use crate::stored::{Numbers, Texts, numbers_in, texts_in};
-use rpm_header::View;
+use rpm_header::{PlacesRoom, View};
 
 /// How many bytes of a path follow its last slash.
 fn base_len(path: &[u8]) -> usize
@@ -51,7 +51,8 @@ fn is_any_at(dirs: &Texts<'_>, indexes: &Numbers<'_>, bases: &Texts<'_>, path: &
 {
     let (front, base) = split_path(path);
     let _ = indexes.count();
-    let mut directories = Directories::new(dirs);
+    let mut room = PlacesRoom::new();
+    let mut directories = Directories::new(dirs, Some(&mut room));
     let mut left = bases.iter();
     let mut place = 0;
     while let Some(text) = left.next() {
