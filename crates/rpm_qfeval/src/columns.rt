@@ -189,6 +189,15 @@ pub fn look_up<'a, const N: usize>(
     }
 }
 
+/// The room for directories, where it is for this.
+fn room_for<'v>(asked: Asked, room: &mut Option<&'v mut PlacesRoom>) -> Option<&'v mut PlacesRoom> {
+    if asked.tag == Tag::Filenames && !asked.first {
+        room.take()
+    } else {
+        None
+    }
+}
+
 /// Adds the columns of values, as far as there is room for them. The paths of files, which are
 /// asked for in turn in one column alone, get the room for directories.
 pub fn add_columns<'v, 'a, const N: usize>(
@@ -202,11 +211,7 @@ pub fn add_columns<'v, 'a, const N: usize>(
     for found in found {
         if let Some(found) = found {
             if !columns.is_full() {
-                let own = if found.asked.tag == Tag::Filenames && !found.asked.first {
-                    room.take()
-                } else {
-                    None
-                };
+                let own = room_for(found.asked, &mut room);
                 columns.push(Some(Column::new(found, own)));
             }
         }
