@@ -166,6 +166,17 @@ pub fn asked_in(inner: &Parts) -> AllAsked {
     all
 }
 
+/// Whether the paths of files are asked for in turn, and need room for the places of directories.
+pub fn need_room(all: &[Option<Asked>], view: &View<'_>, number: u32) -> bool {
+    if !all.contains(&Some(Asked::of(Tag::Filenames))) {
+        return false;
+    }
+    match value(view, number, Tag::Filenames) {
+        None => false,
+        Some(paths) => paths.needs_room(),
+    }
+}
+
 /// Adds the values of what is asked for, as far as there is room.
 pub fn look_up<'a, const N: usize>(
     found: &mut ArrayVec<Option<Found<'a>>, N>,
@@ -203,11 +214,11 @@ fn room_for<'v>(asked: Asked, room: &mut Option<&'v mut PlacesRoom>) -> Option<&
 pub fn add_columns<'v, 'a, const N: usize>(
     columns: &mut ArrayVec<Option<Column<'v, 'a>>, N>,
     found: &'v [Option<Found<'a>>],
-    room: &'v mut PlacesRoom,
+    room: Option<&'v mut PlacesRoom>,
 )
     ensures { (h : Header) (number : ℕ) → AreTold h number columns.old.items → AreTold h number found.now → AreTold h number columns.new.items }
 {
-    let mut room = Some(room);
+    let mut room = room;
     for found in found {
         if let Some(found) = found {
             if !columns.is_full() {

@@ -5,7 +5,7 @@ ghost use Rattle.rpm_qfeval.specs.Columns.{AreTold};
 ghost use Rattle.rpm_outside.specs.Sinks.{Writes};
 ghost use Rattle.rpm_qfeval.specs.Meaning.{bytes, part_bytes, rounds, counts};
 
-use crate::columns::{Asked, Column, Found, MOST, add_columns, asked_in, look_up};
+use crate::columns::{Asked, Column, Found, MOST, add_columns, asked_in, look_up, need_room};
 use crate::lookup::{is_present, put_tag};
 use crate::sizes::count_rounds;
 use arrayvec::ArrayVec;
@@ -69,9 +69,8 @@ fn put_two<O: Sink>(
 {
     let mut found: ArrayVec<Option<Found<'_>>, 2> = ArrayVec::new();
     look_up(&mut found, asked, view, number);
-    let mut room = PlacesRoom::new();
     let mut columns: ArrayVec<Option<Column<'_, '_>>, 2> = ArrayVec::new();
-    add_columns(&mut columns, found.as_slice(), &mut room);
+    add_columns(&mut columns, found.as_slice(), None);
     put_over(sink, inner, view, number, columns.as_mut_slice())
 }
 
@@ -90,9 +89,8 @@ fn put_four<O: Sink>(
 {
     let mut found: ArrayVec<Option<Found<'_>>, 4> = ArrayVec::new();
     look_up(&mut found, asked, view, number);
-    let mut room = PlacesRoom::new();
     let mut columns: ArrayVec<Option<Column<'_, '_>>, 4> = ArrayVec::new();
-    add_columns(&mut columns, found.as_slice(), &mut room);
+    add_columns(&mut columns, found.as_slice(), None);
     put_over(sink, inner, view, number, columns.as_mut_slice())
 }
 
@@ -111,9 +109,30 @@ fn put_most<O: Sink>(
 {
     let mut found: ArrayVec<Option<Found<'_>>, MOST> = ArrayVec::new();
     look_up(&mut found, asked, view, number);
-    let mut room = PlacesRoom::new();
     let mut columns: ArrayVec<Option<Column<'_, '_>>, MOST> = ArrayVec::new();
-    add_columns(&mut columns, found.as_slice(), &mut room);
+    add_columns(&mut columns, found.as_slice(), None);
+    put_over(sink, inner, view, number, columns.as_mut_slice())
+}
+
+/// The same with room for the places of directories, which costs 128 KiB of zeros.
+#[cycle(writing)]
+#[cold]
+#[inline(never)]
+fn put_far<O: Sink>(
+    sink: &mut O,
+    inner: &Parts,
+    view: &View<'_>,
+    number: u32,
+    asked: &[Option<Asked>],
+) -> Result<(), Failed>
+    ensures { Writes O.tells O.taken O.faults O.follows sink.old sink.new (rounds (counts view.now number inner.now)
+        (λ i. bytes view.now number i inner.now)) result }
+{
+    let mut found: ArrayVec<Option<Found<'_>>, MOST> = ArrayVec::new();
+    let mut room = PlacesRoom::new();
+    look_up(&mut found, asked, view, number);
+    let mut columns: ArrayVec<Option<Column<'_, '_>>, MOST> = ArrayVec::new();
+    add_columns(&mut columns, found.as_slice(), Some(&mut room));
     put_over(sink, inner, view, number, columns.as_mut_slice())
 }
 
@@ -130,6 +149,9 @@ fn put_bracket<O: Sink>(
 {
     let asked = asked_in(inner);
     let asked = asked.as_slice();
+    if need_room(asked, view, number) {
+        return put_far(sink, inner, view, number, asked);
+    }
     match asked.len() {
         0..=2 => put_two(sink, inner, view, number, asked),
         3 | 4 => put_four(sink, inner, view, number, asked),

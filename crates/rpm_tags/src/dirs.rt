@@ -3,7 +3,7 @@
 ghost use Rattle.std.specs.Prelude.{◌≡◌, ℕ, ◌+◌, ◌≤◌, ◌<◌, length, drop, Some, slice_get};
 ghost use Rattle.rpm_header.specs.Header.{max_data};
 
-use crate::stored::{TextIter, Texts};
+use crate::stored::{Numbers, TextIter, Texts};
 use rpm_header::{PlacesRoom, TextPlaces};
 use std::marker::Model;
 
@@ -23,6 +23,30 @@ fn nth_text<'a>(texts: &mut TextIter<'a>, n: u32) -> &'a [u8]
         None => unreachable!(),
         Some(text) => text,
     }
+}
+
+/// Whether files ask more than 16 times for a directory that was passed and isn't kept. Reads each
+/// index once.
+pub fn go_back(indexes: &Numbers<'_>) -> bool {
+    let mut recent = [0; 16];
+    let mut passed = 0;
+    let mut missed: u32 = 0;
+    for i in 0..indexes.count() {
+        let index = indexes.number(i);
+        let slot = (index % 16) as usize;
+        if recent[slot] == index {
+            continue;
+        }
+        recent[slot] = index;
+        if index < passed {
+            missed = missed.saturating_add(1);
+        }
+        passed = passed.max(index);
+        if missed > 16 {
+            return true;
+        }
+    }
+    false
 }
 
 // A directory that was read, and its index.

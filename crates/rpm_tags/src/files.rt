@@ -7,7 +7,7 @@ ghost use Rattle.rpm_tags.specs.Value.{filenames, are_matched, file_name, texts_
 ghost use Rattle.rpm_header.specs.Header.{max_data};
 ghost use Rattle.rpm_tags.specs.Numbers.{DIRINDEXES, BASENAMES, DIRNAMES};
 
-use crate::dirs::Directories;
+use crate::dirs::{Directories, go_back};
 use crate::joined::Joined;
 use crate::numbers::{BASENAMES, DIRINDEXES, DIRNAMES};
 use crate::stored::{Numbers, TextIter, Texts, numbers_in, texts_in};
@@ -60,6 +60,11 @@ impl<'a> Files<'a> {
         let base = self.bases.text(i);
         let index = self.indexes.number(i);
         path_of(&self.dirs, index, base)
+    }
+
+    /// Whether all paths in order need room for the places of directories.
+    pub fn need_room(&self) -> bool {
+        go_back(&self.indexes)
     }
 
     /// All paths in order, with room for the places of directories.

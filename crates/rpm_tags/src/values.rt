@@ -103,6 +103,15 @@ impl<'a> TagValue<'a> {
         }
     }
 
+    /// Whether `texts` needs room: it is FILENAMES, and its files ask more than 16 times for
+    /// directories that were passed and aren't kept. Reads each index of a directory once.
+    pub fn needs_room(&self) -> bool {
+        match &self.source {
+            Source::Files(files) => files.need_room(),
+            _ => false,
+        }
+    }
+
     /// All texts in order, each as `text` gives it. Going through them reads each byte of a stored
     /// text once. Of FILENAMES it reads each name once, and each directory once where files ask for
     /// new directories in order and for earlier ones not long after: the furthest one and 16 others
@@ -116,8 +125,8 @@ impl<'a> TagValue<'a> {
     /// few bytes, or 22.4 million in directories of two thirds of the data; one byte gives 256
     /// directories. FIGURE
     ///
-    /// Without room each directory that isn't kept is read from the first one on, which costs files
-    /// times bytes: pass it wherever more than the first text is read.
+    /// Without room a directory that was passed and isn't kept is read from the first one on. Where
+    /// `needs_room` says no, that is 16 times at most.
     pub fn texts<'v>(&'v self, room: Option<&'v mut PlacesRoom>) -> ValueTexts<'v, 'a>
         requires { class_of self.now ≡ Class.Text }
         ensures { result ≡ text_list self.now }

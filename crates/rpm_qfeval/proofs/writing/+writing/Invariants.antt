@@ -18,6 +18,9 @@ decreases-put_four g l = 5 * weight l.inner.now + 3
 abbrev pub decreases-put_most : goal.decreases-put_most
 decreases-put_most g l = 5 * weight l.inner.now + 3
 
+abbrev pub decreases-put_far : goal.decreases-put_far
+decreases-put_far g l = 5 * weight l.inner.now + 3
+
 abbrev pub decreases-put_over : goal.decreases-put_over
 decreases-put_over g l = 5 * weight l.inner.now + 2
 
