@@ -13,8 +13,8 @@ use std::marker::Model;
 /// So many numbers of zeros are kept at most.
 const SUMS: usize = 32768;
 
-/// Room for the numbers that a `TextPlaces` keeps: 128 KiB, of which nothing is written before they
-/// are needed. Contracts say nothing of it.
+/// Room for the numbers that a `TextPlaces` keeps, 128 KiB: a frame that has it pays for as many
+/// zeros. Contracts say nothing of it.
 #[derive(Drop)]
 pub struct PlacesRoom {
     sums: Option<[u32; 32768]>,

@@ -118,12 +118,10 @@ impl<'a> TagValue<'a> {
     /// are kept. For any other directory it looks where it begins and ends, in the room, which
     /// reads 4 KiB at most, however long the directory is; the first time all of them twice.
     ///
-    /// The worst header of 64 MiB has a file for each four bytes of its data, which are its index,
-    /// its name and a directory at once: 16.8 million files, each in a directory far from the last
-    /// one. Two bytes are enough for an index below 65,536, and a name needs a zero byte besides,
-    /// which the index may give: that is no more than 33.6 million files whose directories stand in
-    /// few bytes, or 22.4 million in directories of two thirds of the data; one byte gives 256
-    /// directories. FIGURE
+    /// How many files a header of 64 MiB can have that each ask for a directory far from the others:
+    /// with indexes of four bytes, which may be names and directories at once, 16.8 million; with
+    /// indexes of two bytes and the zero byte of a name besides, 22.4 million; indexes of one byte
+    /// name 256 directories, for 44.7 million files. The README has what such headers cost.
     ///
     /// Without room a directory that was passed and isn't kept is read from the first one on. Where
     /// `needs_room` says no, that is 16 times at most.

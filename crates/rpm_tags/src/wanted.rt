@@ -72,7 +72,8 @@ fn is_any_in(dirs: &Texts<'_>, indexes: &Numbers<'_>, bases: &Texts<'_>, path: &
 }
 
 /// Whether an element of FILENAMES is this path, and its name is what follows the path's last slash. Reads each name once, and
-/// the directories of those alone that have the path's name, as `TagValue::texts` reads them. Takes no memory.
+/// the directories of those alone that have the path's name, as `TagValue::texts` reads them. Takes no
+/// memory; its frame has 128 KiB, which are filled with zeros.
 #[tactic(auto, unfolding(crate::specs::Wanted::has_file))]
 pub fn has_file(view: &View<'_>, path: &[u8]) -> bool
     ensures { result ≡ has_file view.now path.now }
