@@ -4,9 +4,9 @@ use Rattle.rpm_header.specs.declared.form.HeaderFault.{HeaderFault}
 use Rattle.rpm_header.specs.Header.{Header, header}
 use Rattle.rpm_file.specs.declared.fault.FileFault.{FileFault}
 use Rattle.rpm_file.specs.declared.fault.FileFault.TheVariants as fault
-use Rattle.rpm_file.specs.declared.fault.Part.{Part}
-use Rattle.rpm_file.specs.declared.fault.Part.TheVariants as part
-use Rattle.rpm_file.specs.Browsing.{left}
+use Rattle.rpm_file.specs.declared.fault.HeaderKind.{HeaderKind}
+use Rattle.rpm_file.specs.declared.fault.HeaderKind.TheVariants as part
+use Rattle.rpm_outside.specs.Browses.{left}
 use Rattle.rpm_file.specs.List.{front_header}
 use Rattle.rpm_file.specs.Merging.{merged}
 use Rattle.rpm_file.specs.Package.{behind_lead, Headed, with_rest, or_fault_in, headed, headed_of, behind_padding, joined_by, main_at, behind_signature, after_signature, signature_at, package_header}
@@ -26,7 +26,7 @@ passed found whole fault.ReadFault on is = tt
 passed found whole fault.NoMemory on is = tt
 
 -- a header with its magic
-headed_is : (p : Part) (bytes blob rest : List ℕ) (r : Result Header HeaderFault) → front_header bytes ≡ Ok (record { blob = blob; rest = rest })
+headed_is : (p : HeaderKind) (bytes blob rest : List ℕ) (r : Result Header HeaderFault) → front_header bytes ≡ Ok (record { blob = blob; rest = rest })
     → r ≡ header blob → headed p bytes ≡ with_rest (or_fault_in p r) rest
 unfolding headed
 headed_is p bytes blob rest r front is = ap (headed_of p) front ∙ ap (λ (h : Result Header HeaderFault). with_rest (or_fault_in p h) rest) (sym is)

@@ -4,30 +4,17 @@ use Rattle.std.specs.Prelude.{nat_lt, not, if◌then◌else◌, is_ok, nat_eq}
 use Rattle.std.specs.Cmp.Lexicographic.{pointwise}
 use Rattle.std.specs.Int.{Width, w32, byte_len, byte_worth, sum_through, from_be_bytes}
 use Rattle.std.proofs.lemmas.List.{get_or_append_left, take-append-le, take_all, take_at, drop_at, drop-append-le, drop-drop, length-take, length-drop}
+use Rattle.rpm_header.specs.inner.Longer.{number_longer}
 use Rattle.rpm_header.specs.Bytes.{number_at}
 use Rattle.rpm_header.specs.Digest.{magic}
 use Rattle.rpm_file.specs.declared.fault.ListFault.{ListFault}
 use Rattle.rpm_file.specs.declared.fault.ListFault.TheVariants as fault
-use Rattle.rpm_file.specs.Browsing.{left}
+use Rattle.rpm_outside.specs.Browses.{left}
 use Rattle.rpm_file.specs.inner.Filling.{Fills, IsOutside}
 use Rattle.rpm_file.specs.List.{has_magic, entries_in, data_in, size_in, sized, front_header, some_found, list_head}
 use Rattle.rpm_file.specs.Answers.{IsListFault}
 
 -- ---- what the first bytes say, whatever follows them
-
-sum_same : (f g : ℕ → ℕ) (n : ℕ) → ((k : ℕ) → k ≤ n → f k ≡ g k) → sum_through f n ≡ sum_through g n
-sum_same f g zero same = same 0 (omega arith)
-sum_same f g (suc n) same = rw (sum_same f g n (λ k le. same k (omega arith)), same (suc n) (omega arith)) refl
-
-pub number_longer : (w : Width) (at : ℕ) (xs ys : List ℕ) → 0 < byte_len w → at + byte_len w ≤ length xs → number_at w (xs ++ ys) at ≡ number_at w xs at
-unfolding number_at
-number_longer w at xs ys some within =
-    let apart : drop at (xs ++ ys) ≡ drop at xs ++ ys = drop-append-le at xs ys (omega arith) in
-    ap (from_be_bytes w) apart ∙ sum_same
-    (λ i. byte_worth (byte_len w - 1 - i) (get_or (drop at xs ++ ys) i 0))
-    (λ i. byte_worth (byte_len w - 1 - i) (get_or (drop at xs) i 0))
-    (byte_len w - 1)
-    (λ k le. ap (byte_worth (byte_len w - 1 - k)) (get_or_append_left (drop at xs) ys 0 k (omega (arith, length-drop at xs))))
 
 magic_longer : (xs ys : List ℕ) → 8 ≤ length xs → has_magic (xs ++ ys) ≡ has_magic xs
 magic_longer xs ys long = ap (pointwise nat_eq magic) (take-append-le 8 xs ys long)
@@ -36,9 +23,8 @@ pub size_longer : (intro more : List ℕ) → length intro ≡ 16 → size_in (i
 unfolding size_in
 size_longer intro more long = rw (
   magic_longer intro more (omega arith),
-  number_longer w32 8 intro more (omega arith) (omega arith),
-  number_longer w32
-      12 intro more (omega arith) (omega arith),
+  number_longer w32 intro more 8 (omega arith) (omega arith),
+  number_longer w32 intro more 12 (omega arith) (omega arith),
 ) refl
 
 -- ---- the two pieces

@@ -8,14 +8,14 @@ use Rattle.rpm_file.specs.declared.fault.FileFault.{FileFault}
 use Rattle.rpm_file.specs.declared.fault.FileFault.TheVariants as fault
 use Rattle.rpm_file.specs.declared.fault.ListFault.{ListFault}
 use Rattle.rpm_file.specs.declared.fault.ListFault.TheVariants as of_list
-use Rattle.rpm_file.specs.declared.fault.Part.{Part}
-use Rattle.rpm_file.specs.declared.fault.Part.TheVariants as part
-use Rattle.rpm_file.specs.Browsing.{left}
+use Rattle.rpm_file.specs.declared.fault.HeaderKind.{HeaderKind}
+use Rattle.rpm_file.specs.declared.fault.HeaderKind.TheVariants as part
+use Rattle.rpm_outside.specs.Browses.{left}
 use Rattle.rpm_file.specs.List.{Found, front_header, some_found, list_head}
 use Rattle.rpm_file.specs.Package.{lead_magic, is_lead, behind_lead, early_fault, headed, headed_of, padding_of, behind_padding}
 use Rattle.rpm_file.specs.Answers.{IsListFault, IsFileFault}
 use Rattle.rpm_file.specs.inner.Parts.{AnswersTake, AnswersSkip}
-use Rattle.rpm_file.proofs.Listed.{number_longer}
+use Rattle.rpm_header.specs.inner.Longer.{number_longer}
 
 -- ---- what is skipped
 
@@ -23,7 +23,7 @@ lead_longer : (lead rest : List ℕ) → 80 ≤ length lead → is_lead (lead ++
 lead_longer lead rest long =
     let front : take 4 (lead ++ rest) ≡ take 4 lead = take-append-le 4 lead rest (omega arith) in
     let magic = ap (pointwise nat_eq lead_magic) front in
-    let type = number_longer w16 78 lead rest (omega arith) (omega arith) in
+    let type = number_longer w16 lead rest 78 (omega arith) (omega arith) in
     rw (front, type) refl
 
 module _ (bytes lead rest : List ℕ) (whole : bytes ≡ lead ++ rest) (long : length lead ≡ 96) where
@@ -99,16 +99,16 @@ not_none : (r : Result Found ListFault) → some_found r ≡ Ok None → ⊥
 not_none (Ok f) is = cc
 not_none (Err e) is = cc
 
-pub headed_none : (p : Part) (bytes : List ℕ) → list_head bytes ≡ Ok None → headed p bytes ≡ Err fault.Short
+pub headed_none : (p : HeaderKind) (bytes : List ℕ) → list_head bytes ≡ Ok None → headed p bytes ≡ Err fault.Short
 unfolding headed
 headed_none p [] is = ap (headed_of p) front_none
 headed_none p (b ∷ bytes) is = absurd (not_none (front_header (b ∷ bytes)) is)
 
-headed_early : (p : Part) (bytes : List ℕ) (e : ListFault) → list_head bytes ≡ Err e → headed p bytes ≡ Err (early_fault p e)
+headed_early : (p : HeaderKind) (bytes : List ℕ) (e : ListFault) → list_head bytes ≡ Err e → headed p bytes ≡ Err (early_fault p e)
 unfolding headed
 headed_early p bytes e is = ap (headed_of p) (front_fault bytes e is)
 
-pub headed_fault : (p : Part) (bytes : List ℕ) (e : ListFault) → IsListFault (list_head bytes) e → IsFileFault (headed p bytes) (early_fault p e)
+pub headed_fault : (p : HeaderKind) (bytes : List ℕ) (e : ListFault) → IsListFault (list_head bytes) e → IsFileFault (headed p bytes) (early_fault p e)
 headed_fault p bytes of_list.ReadFault is = tt
 headed_fault p bytes of_list.NoMemory is = tt
 headed_fault p bytes of_list.Short is = headed_early p bytes of_list.Short is

@@ -6,7 +6,7 @@ use Rattle.rpm_file.specs.declared.fault.ListFault.{ListFault}
 use Rattle.rpm_file.specs.declared.fault.ListFault.TheVariants as of_list
 use Rattle.rpm_file.specs.declared.fault.FileFault.{FileFault}
 use Rattle.rpm_file.specs.declared.fault.FileFault.TheVariants as of_file
-use Rattle.rpm_file.specs.Browsing.{left}
+use Rattle.rpm_outside.specs.Browses.{left}
 use Rattle.rpm_file.specs.List.{list_head}
 use Rattle.rpm_file.specs.Package.{Headed}
 

@@ -1,5 +1,4 @@
 pub mod Answers
-pub mod Browsing
 pub mod List
 pub mod Merging
 pub mod Package

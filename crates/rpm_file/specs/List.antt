@@ -2,6 +2,7 @@
 use Rattle.std.specs.Prelude.{ℕ, ◌+◌, ◌*◌, List, [], ◌∷◌, length, take, drop, Bool, not, nat_eq, nat_lt, if◌then◌else◌, Option, Some, None, Result, Ok, Err}
 use Rattle.std.specs.List.{starts_with}
 use Rattle.std.specs.Int.{w32}
+use Rattle.rpm_header.specs.Header.{max_data, max_entries}
 use Rattle.rpm_header.specs.Bytes.{number_at}
 use Rattle.rpm_header.specs.Digest.{magic}
 use Rattle.rpm_file.specs.declared.fault.ListFault.{ListFault}
@@ -26,8 +27,8 @@ data_in bytes = number_at w32 bytes 12
 unfoldable pub size_in : List ℕ → Result ℕ ListFault
 size_in bytes =
     if not (has_magic bytes) then Err BadMagic
-    else if nat_lt 65535 (entries_in bytes) then Err TooManyEntries
-    else if nat_lt 67108864 (data_in bytes) then Err TooMuchData
+    else if nat_lt max_entries (entries_in bytes) then Err TooManyEntries
+    else if nat_lt max_data (data_in bytes) then Err TooMuchData
     else Ok (8 + 16 * entries_in bytes + data_in bytes)
 
 -- a header of this length behind its magic

@@ -3,7 +3,7 @@ use Rattle.std.specs.Prelude.{ℕ, ◌+◌, List, ◌++◌, length, Bool, true, 
 use Rattle.std.specs.List.{list_any, filter_map}
 use Rattle.rpm_header.specs.declared.form.Form.{Form}
 use Rattle.rpm_header.specs.declared.form.Form.TheVariants as form
-use Rattle.rpm_header.specs.Header.{Item, Header}
+use Rattle.rpm_header.specs.Header.{max_data, max_entries, Item, Header}
 use Rattle.rpm_header.specs.Build.{retagged}
 use Rattle.rpm_header.specs.Dribbles.{dribbled, dribbled_data}
 use Rattle.rpm_file.specs.declared.fault.FileFault.{FileFault}
@@ -39,7 +39,7 @@ abbrev pub dribbles : List Item → List Item → List Item
 dribbles main signature = filter_map (dribble main) signature
 
 abbrev pub passes_limits : ℕ → ℕ → Bool
-passes_limits count size = nat_lt 65535 count || nat_lt 67108864 size
+passes_limits count size = nat_lt max_entries count || nat_lt max_data size
 
 -- a header with these entries behind its own, unless it would pass a limit
 abbrev pub with_entries : Header → List Item → Result Header FileFault

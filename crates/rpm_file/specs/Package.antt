@@ -10,8 +10,8 @@ use Rattle.rpm_file.specs.declared.fault.ListFault.{ListFault}
 use Rattle.rpm_file.specs.declared.fault.ListFault.TheVariants as of_list
 use Rattle.rpm_file.specs.declared.fault.FileFault.{FileFault}
 use Rattle.rpm_file.specs.declared.fault.FileFault.TheVariants.{Short, NotAPackage, BadMagic, Signature, Main, ReadFault, NoMemory}
-use Rattle.rpm_file.specs.declared.fault.Part.{Part}
-use Rattle.rpm_file.specs.declared.fault.Part.TheVariants as part
+use Rattle.rpm_file.specs.declared.fault.HeaderKind.{HeaderKind}
+use Rattle.rpm_file.specs.declared.fault.HeaderKind.TheVariants as part
 use Rattle.rpm_file.specs.List.{Found, front_header}
 use Rattle.rpm_file.specs.Merging.{merged}
 
@@ -33,12 +33,12 @@ behind_lead bytes =
 
 -- ---- the two headers
 
-abbrev pub fault_in : Part → HeaderFault → FileFault
+abbrev pub fault_in : HeaderKind → HeaderFault → FileFault
 fault_in part.Signature fault = Signature fault
 fault_in part.Main fault = Main fault
 
 -- a fault that is found before the header's body is read
-abbrev pub early_fault : Part → ListFault → FileFault
+abbrev pub early_fault : HeaderKind → ListFault → FileFault
 early_fault p of_list.Short = Short
 early_fault p of_list.BadMagic = BadMagic
 early_fault p of_list.TooManyEntries = fault_in p of_header.TooManyEntries
@@ -55,16 +55,16 @@ abbrev pub with_rest : {E : Type 0} → Result Header E → List ℕ → Result 
 with_rest (Ok h) rest = Ok (record { header = h; rest = rest })
 with_rest (Err fault) rest = Err fault
 
-abbrev pub or_fault_in : {X : Type 0} → Part → Result X HeaderFault → Result X FileFault
+abbrev pub or_fault_in : {X : Type 0} → HeaderKind → Result X HeaderFault → Result X FileFault
 or_fault_in p (Ok x) = Ok x
 or_fault_in p (Err fault) = Err (fault_in p fault)
 
-abbrev pub headed_of : Part → Result Found ListFault → Result Headed FileFault
+abbrev pub headed_of : HeaderKind → Result Found ListFault → Result Headed FileFault
 headed_of p (Err fault) = Err (early_fault p fault)
 headed_of p (Ok found) = with_rest (or_fault_in p (header found.blob)) found.rest
 
 -- a header with its magic, which has no fault
-unfoldable pub headed : Part → List ℕ → Result Headed FileFault
+unfoldable pub headed : HeaderKind → List ℕ → Result Headed FileFault
 headed p bytes = headed_of p (front_header bytes)
 
 -- what these bytes are as a header, which says something only where they are one and nothing follows it

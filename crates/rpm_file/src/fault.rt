@@ -58,7 +58,7 @@ pub enum ListFault {
 
 /// Which of the two headers of a package file.
 #[derive(Clone, Copy)]
-pub enum Part {
+pub enum HeaderKind {
     Signature,
     Main,
 }

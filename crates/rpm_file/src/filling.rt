@@ -2,7 +2,7 @@
 
 ghost use Rattle.std.specs.Prelude.{◌≡◌, ◌≤◌, ◌+◌, IsTrue, true, length, vec_len, Err, IfOk, IfErr};
 ghost use Rattle.rpm_outside.specs.Causes.{HasCause, HasCauseAt};
-ghost use Rattle.rpm_file.specs.Browsing.{Browses};
+ghost use Rattle.rpm_outside.specs.Browses.{Browses};
 ghost use Rattle.rpm_file.specs.inner.Filling.{Fills, Appends, IsOutside};
 
 use crate::fault::ListFault;

@@ -3,7 +3,7 @@
 ghost use Rattle.std.specs.Prelude.{◌≡◌, ℕ, ◌≤◌, IsTrue, length, Ok, Err, IfOk};
 ghost use Rattle.rpm_outside.specs.Causes.{HasCauseAt};
 ghost use Rattle.rpm_file.specs.List.{size_in};
-ghost use Rattle.rpm_file.specs.Browsing.{Browses};
+ghost use Rattle.rpm_outside.specs.Browses.{Browses};
 ghost use Rattle.rpm_file.specs.Answers.{AnswersNext};
 ghost use Rattle.rpm_file.specs.inner.Parts.{AnswersBehind};
 

@@ -3,14 +3,14 @@
 ghost use Rattle.std.specs.Prelude.{◌≡◌, ◌≤◌, IsTrue, length, Ok, Err};
 ghost use Rattle.rpm_header.specs.Header.{header};
 ghost use Rattle.rpm_outside.specs.Causes.{HasCauseAt};
-ghost use Rattle.rpm_file.specs.Browsing.{Browses};
+ghost use Rattle.rpm_outside.specs.Browses.{Browses};
 ghost use Rattle.rpm_file.specs.Package.{is_lead, behind_lead, fault_in, early_fault, behind_padding, behind_signature, package_header};
 ghost use Rattle.rpm_file.specs.Merging.{merged};
 ghost use Rattle.rpm_file.specs.Answers.{AnswersBy};
 ghost use Rattle.rpm_file.specs.inner.Parts.{AnswersTake, AnswersSkip, AnswersPart, AnswersMade};
 
 use crate::bytes::u16_at;
-use crate::fault::{FileFault, ListFault, Part};
+use crate::fault::{FileFault, HeaderKind, ListFault};
 use crate::filling::fill;
 use crate::list::next_header;
 use crate::merging::merged;
@@ -102,16 +102,16 @@ fn skip_padding<S: Shelf>(shelf: &mut S, blob: &[u8]) -> Result<(), FileFault>
     take_all(shelf, &mut padding[..count])
 }
 
-fn fault_in(part: Part, fault: HeaderFault) -> FileFault
+fn fault_in(part: HeaderKind, fault: HeaderFault) -> FileFault
     ensures { result ≡ fault_in part fault }
 {
     match part {
-        Part::Signature => FileFault::Signature(fault),
-        Part::Main => FileFault::Main(fault),
+        HeaderKind::Signature => FileFault::Signature(fault),
+        HeaderKind::Main => FileFault::Main(fault),
     }
 }
 
-fn early_fault(part: Part, fault: ListFault) -> FileFault
+fn early_fault(part: HeaderKind, fault: ListFault) -> FileFault
     ensures { result ≡ early_fault part fault }
 {
     match fault {
@@ -125,7 +125,7 @@ fn early_fault(part: Part, fault: ListFault) -> FileFault
 }
 
 /// The bytes of one of the two headers, which may still have a fault in their entries.
-fn read_part<S: Shelf>(alloc: Global, shelf: &mut S, part: Part) -> Result<Vec<u8>, FileFault>
+fn read_part<S: Shelf>(alloc: Global, shelf: &mut S, part: HeaderKind) -> Result<Vec<u8>, FileFault>
     ensures answers { IsTrue S.tells → AnswersPart part (S.rest shelf.old) (S.rest shelf.new) result }
     ensures browses { Browses S.tells S.paths S.rest S.absences S.faults shelf.old shelf.new }
     ensures cause { HasCauseAt (result ≡ Err FileFault.ReadFault) (S.faults shelf.old) (S.faults shelf.new) }
@@ -148,7 +148,7 @@ fn read_main<S: Shelf>(
     ensures cause { HasCauseAt (result ≡ Err FileFault.ReadFault) (S.faults shelf.old) (S.faults shelf.new) }
 {
     skip_padding(shelf, signature.blob())?;
-    let blob = read_part(alloc, shelf, Part::Main)?;
+    let blob = read_part(alloc, shelf, HeaderKind::Main)?;
     match View::parse(&blob) {
         Ok(main) => joined(alloc, signature, &main),
         Err(fault) => Err(FileFault::Main(fault)),
@@ -180,7 +180,7 @@ pub fn read_package<S: Shelf>(alloc: Global, shelf: &mut S) -> Result<Package, F
     ensures cause { HasCauseAt (result ≡ Err FileFault.ReadFault) (S.faults shelf.old) (S.faults shelf.new) }
 {
     skip_lead(shelf)?;
-    let blob = read_part(alloc, shelf, Part::Signature)?;
+    let blob = read_part(alloc, shelf, HeaderKind::Signature)?;
     match View::parse(&blob) {
         Ok(signature) => read_main(alloc, shelf, &signature),
         Err(fault) => Err(FileFault::Signature(fault)),

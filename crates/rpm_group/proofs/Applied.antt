@@ -7,8 +7,9 @@ use Rattle.rpm_outside.specs.Files.{Units, Files, file_of, with_file, put, unit_
 use Rattle.rpm_outside.specs.Crash.{LeavesOnly}
 use Rattle.rpm_outside.specs.inner.Moments.{leaves_then, leaves_weaker}
 use Rattle.rpm_outside.specs.Logs.{Entry, LogState, Closed, Malformed, Open, word, is_head, entry_at, before, heads, with_entry, with_entries}
-use Rattle.rpm_outside.specs.LogRules.{heads_right, heads_wrong, heads_done, heads_more, head_parts, entry_units}
-use Rattle.rpm_outside.specs.EntryLaws.{Writes, Covers, within_changed}
+use Rattle.rpm_outside.specs.inner.LogRules.{heads_right, heads_wrong, heads_done, heads_more, head_parts, entry_units}
+use Rattle.rpm_outside.specs.Entries.{HasUnit, Covers}
+use Rattle.rpm_outside.specs.inner.EntryLaws.{within_changed}
 use Rattle.rpm_outside.specs.Changed.{WasChanged, LeavesChanged}
 use Rattle.rpm_group.specs.declared.log.Head.{Head}
 use Rattle.rpm_group.specs.inner.LogReadings.{HeadIs}
@@ -18,7 +19,7 @@ pub with_entries-append : (es fs : List Entry) (files : Files) → with_entries 
 with_entries-append [] fs files = refl
 with_entries-append (e ∷ es) fs files = with_entries-append es fs (with_entry e files)
 
-pub covers_middle : (done : List Entry) (entry : Entry) (rest : List Entry) (file : File) (i : ℕ) → Writes entry file i → Covers (done ++ entry ∷ rest) file i
+pub covers_middle : (done : List Entry) (entry : Entry) (rest : List Entry) (file : File) (i : ℕ) → HasUnit entry file i → Covers (done ++ entry ∷ rest) file i
 covers_middle [] entry rest file i w = inl w
 covers_middle (e ∷ done) entry rest file i w = inr (covers_middle done entry rest file i w)
 

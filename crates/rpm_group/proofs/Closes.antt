@@ -2,11 +2,11 @@
 use Rattle.std.proofs.Common.{◌≡◌, ℕ, ◌<◌, List, [], ◌∷◌, length, true, refl, sym, ap, subst, ◌∙◌}
 use Rattle.rpm_outside.specs.declared.disk.File.TheVariants.{Log}
 use Rattle.rpm_outside.specs.Files.{Units, Files, with_file, put, unit_at}
-use Rattle.rpm_outside.specs.Crash.{LeavesOnly, TornFile, Elapses, Follows}
-use Rattle.rpm_outside.specs.inner.Moments.{started, goes_on, leaves_weaker}
+use Rattle.rpm_outside.specs.Crash.{LeavesOnly, TornFile, Elapses, OnlyAfter}
+use Rattle.rpm_outside.specs.inner.Moments.{started, one_more, leaves_weaker}
 use Rattle.rpm_outside.specs.Logs.{Entry, LogState, Closed, Open, is_blank, log_state, unlogged, with_entries, reopened}
 use Rattle.rpm_outside.specs.inner.LogLaws.{NotLog, log_not_log, reopened_open, reopened_within, closing, blank_closed, first_unit, within_log, entries_log, unlogged_entries, entries_done}
-use Rattle.rpm_outside.specs.EntryLaws.{Within}
+use Rattle.rpm_outside.specs.Entries.{Within}
 use Rattle.rpm_group.specs.Readings.{IsOpen}
 use Rattle.rpm_group.specs.inner.Leavings.{WasWithin, ReopensAs}
 
@@ -15,11 +15,11 @@ module _ {D : Type 0} (moment : D → ℕ) (left_since : D → ℕ → Files →
   pub closing_leaves : (old new : D) (files : Files) (unit : List ℕ) (entries : List Entry) → is_blank unit ≡ true → 0 < length files.log
       → log_state files.log ≡ Open entries → with_entries entries (unlogged files) ≡ unlogged files
       → ((image : Files) → left_since old (moment old) image → image ≡ files)
-      → Follows (TornFile Log 0 (unit ∷ [])) (left_since old (moment old)) (left_since new (moment new))
+      → OnlyAfter (TornFile Log 0 (unit ∷ [])) (left_since old (moment old)) (left_since new (moment new))
       → Elapses (moment old) (moment new) (left_since old) (left_since new)
       → LeavesOnly moment left_since old new (ReopensAs (unlogged files))
   closing_leaves old new files unit entries blank some is done settled images time =
-      goes_on moment left_since old old new (ReopensAs (unlogged files))
+      one_more moment left_since old old new (ReopensAs (unlogged files))
       (started moment left_since old (ReopensAs (unlogged files)) (λ image left. ap reopened (settled image left) ∙ reopened_open files entries is ∙ done))
       time
       (λ image left.

@@ -2,14 +2,16 @@
 use Rattle.std.proofs.Common.{◌≡◌, inl, inr, ⊎_elim, ℕ, ◌+◌, ◌-◌, ◌<◌, ◌≤◌, ◌^◌, List, [], ◌∷◌, ◌++◌, length, refl, sym, ap, subst, ◌∙◌, arith, length-append}
 use Rattle.rpm_outside.specs.declared.disk.File.TheVariants.{Pkg, Idx, Log}
 use Rattle.rpm_outside.specs.Files.{Units, Files, with_file, put}
-use Rattle.rpm_outside.specs.Crash.{LeavesOnly, TornFile, Elapses, Follows}
-use Rattle.rpm_outside.specs.inner.Moments.{started, goes_on, leaves_then, leaves_weaker}
-use Rattle.rpm_outside.specs.Changed.{ChangedIn, WasChanged, LeavesChanged, changed_leaves_then, changed_leaves_more}
+use Rattle.rpm_outside.specs.Crash.{LeavesOnly, TornFile, Elapses, OnlyAfter}
+use Rattle.rpm_outside.specs.inner.Moments.{started, one_more, leaves_then, leaves_weaker}
+use Rattle.rpm_outside.specs.Changed.{ChangedIn, WasChanged, LeavesChanged}
+use Rattle.rpm_outside.specs.inner.ChangedLaws.{changed_leaves_then, changed_leaves_more}
 use Rattle.rpm_outside.specs.Logs.{Entry, Closed, Open, log_state, unlogged, with_entries, reopened, is_blank}
 use Rattle.rpm_outside.specs.inner.LogLaws.{reopened_closed, reopened_open, blank_closed}
-use Rattle.rpm_outside.specs.LogWrites.{EntriesIn, entries_kept, entries_then, entries_long, word_full, IsGate, opening, opened_is}
+use Rattle.rpm_outside.specs.LogWrites.{EntriesIn, IsGate}
+use Rattle.rpm_outside.specs.inner.LogWriting.{entries_kept, entries_then, entries_long, word_full, opening, opened_is}
 use Rattle.rpm_group.specs.inner.Words.{IsUnitOf}
-use Rattle.rpm_outside.specs.LogRules.{closed_blank}
+use Rattle.rpm_outside.specs.inner.LogRules.{closed_blank}
 use Rattle.rpm_group.specs.declared.group.Tail.{Tail}
 use Rattle.rpm_group.specs.declared.layers.Layers.{Layers}
 use Rattle.rpm_group.specs.Held.{laid}
@@ -68,11 +70,11 @@ module _ {D : Type 0} (moment : D → ℕ) (left_since : D → ℕ → Files →
   pub opening_leaves : (old new : D) (files : Files) (gate : List ℕ) (entries : List Entry) (last : ℕ) → IsGate gate (length entries) last
       → 0 < length entries → last < length files.log → EntriesIn entries 1 (last + 1) files.log → log_state files.log ≡ Closed
       → ((image : Files) → left_since old (moment old) image → image ≡ files)
-      → Follows (TornFile Log 0 (gate ∷ [])) (left_since old (moment old)) (left_since new (moment new))
+      → OnlyAfter (TornFile Log 0 (gate ∷ [])) (left_since old (moment old)) (left_since new (moment new))
       → Elapses (moment old) (moment new) (left_since old) (left_since new)
       → LeavesOnly moment left_since old new (BeforeOrAfter (unlogged files) (with_entries entries (unlogged files)))
   opening_leaves old new files gate entries last g some below is closed settled images time =
-      goes_on moment left_since old old new (BeforeOrAfter (unlogged files) (with_entries entries (unlogged files)))
+      one_more moment left_since old old new (BeforeOrAfter (unlogged files) (with_entries entries (unlogged files)))
       (started moment left_since old (BeforeOrAfter (unlogged files) (with_entries entries (unlogged files)))
       (λ image left. inl (ap reopened (settled image left) ∙ reopened_closed files closed)))
       time
@@ -110,12 +112,12 @@ module _ {D : Type 0} (moment : D → ℕ) (left_since : D → ℕ → Files →
   pub gate_leaves : (old new : D) (files : Files) (gate : List ℕ) (units : Units) (entries : List Entry) (tail : Tail) → units ≡ gate ∷ []
       → Opens gate entries tail files.log → log_state files.log ≡ Closed
       → ((image : Files) → left_since old (moment old) image → image ≡ files)
-      → Follows (TornFile Log 0 units) (left_since old (moment old)) (left_since new (moment new))
+      → OnlyAfter (TornFile Log 0 units) (left_since old (moment old)) (left_since new (moment new))
       → Elapses (moment old) (moment new) (left_since old) (left_since new)
       → LeavesOnly moment left_since old new (BeforeOrAfter (unlogged files) (with_entries entries (unlogged files)))
   gate_leaves old new files gate units entries tail is o closed settled images time =
       opening_leaves moment left_since old new files gate entries (tail.at - 1) o.is_gate o.some o.below o.placed closed settled
-      (subst (λ (us : Units). Follows (TornFile Log 0 us) (left_since old (moment old)) (left_since new (moment new))) is images) time
+      (subst (λ (us : Units). OnlyAfter (TornFile Log 0 us) (left_since old (moment old)) (left_since new (moment new))) is images) time
 
 pub gate_opened : (files mid new : Files) (gate : List ℕ) (units : Units) (entries : List Entry) (tail : Tail) → units ≡ gate ∷ []
     → Opens gate entries tail files.log → mid ≡ with_file Log (put 0 units files.log) files → new ≡ mid → log_state new.log ≡ Open entries

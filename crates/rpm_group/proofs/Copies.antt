@@ -5,9 +5,7 @@ use Rattle.std.proofs.Math.Seq.{take-add}
 use Rattle.rpm_outside.specs.declared.disk.File.{File}
 use Rattle.rpm_outside.specs.declared.disk.File.TheVariants.{Log}
 use Rattle.rpm_outside.specs.Files.{Units, Files, file_of, with_file, put}
-use Rattle.rpm_outside.specs.History.{file_of-with}
-use Rattle.rpm_outside.specs.Literal.{other_file}
-use Rattle.rpm_outside.specs.Changed.{with_file-with_file}
+use Rattle.rpm_outside.specs.inner.FileLaws.{file_of-with, other_file, with_file-with_file}
 use Rattle.rpm_outside.specs.inner.PutMore.{put_some, put_some_is, put_some_append}
 
 pub page_count : (n : ℕ) (page : List ℕ) → length page ≡ 4096 → n ≤ 256 → length (take (16 * n) page) / 16 ≡ n

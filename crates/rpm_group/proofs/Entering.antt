@@ -4,10 +4,12 @@ use Rattle.rpm_outside.specs.declared.disk.File.TheVariants.{Log}
 use Rattle.rpm_outside.specs.Files.{Units, Files, with_file, unit_at, put}
 use Rattle.rpm_outside.specs.Crash.{TornFile}
 use Rattle.rpm_outside.specs.inner.Puts.{length-put, put_before, put_inside}
-use Rattle.rpm_outside.specs.History.{torn_file_whole}
-use Rattle.rpm_outside.specs.Changed.{ChangedIn, torn_changed, changed_more}
+use Rattle.rpm_outside.specs.inner.History.{torn_file_whole}
+use Rattle.rpm_outside.specs.Changed.{ChangedIn}
+use Rattle.rpm_outside.specs.inner.ChangedLaws.{torn_changed, changed_more}
 use Rattle.rpm_outside.specs.Logs.{Entry, word}
-use Rattle.rpm_outside.specs.LogWrites.{EntryIn, EntriesIn, entries_kept, entries_push}
+use Rattle.rpm_outside.specs.LogWrites.{EntryIn, EntriesIn}
+use Rattle.rpm_outside.specs.inner.LogWriting.{entries_kept, entries_push}
 use Rattle.rpm_group.specs.inner.Words.{IsHeadOf}
 
 module _ (entry : Entry) (head : List ℕ) (p : ℕ) (old new : Units) (is : new ≡ put p (head ∷ entry.units) old)

@@ -5,13 +5,12 @@ use Rattle.std.proofs.lemmas.Bool.{cases_lt}
 use Rattle.std.proofs.lemmas.List.{length_push}
 use Rattle.rpm_outside.specs.declared.disk.File.{File}
 use Rattle.rpm_outside.specs.declared.disk.File.TheVariants.{Pkg, Idx, Log}
-use Rattle.rpm_outside.specs.Files.{Units, Files, file_of, with_file, unit_at, put, blank}
+use Rattle.rpm_outside.specs.Files.{Units, Files, file_of, with_file, unit_at, put, blank, cases_file}
 use Rattle.rpm_outside.specs.inner.Puts.{length-put, put_before, put_inside, put_after}
 use Rattle.rpm_outside.specs.inner.PutLaws.{same_units}
-use Rattle.rpm_outside.specs.History.{file_of-with}
-use Rattle.rpm_outside.specs.Literal.{cases_file, other_file}
+use Rattle.rpm_outside.specs.inner.FileLaws.{file_of-with, other_file}
 use Rattle.rpm_outside.specs.Logs.{Entry, with_entries}
-use Rattle.rpm_outside.specs.EntryLaws.{Covers}
+use Rattle.rpm_outside.specs.Entries.{Covers}
 use Rattle.rpm_group.specs.Held.{Table, held_at, unit_over, laid, EndsAt}
 use Rattle.rpm_group.specs.Counts.{is_held, begins_run, count_below}
 use Rattle.rpm_group.specs.inner.HeldUnits.{AreHeld}

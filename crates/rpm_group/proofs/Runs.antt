@@ -8,8 +8,7 @@ use Rattle.rpm_outside.specs.declared.disk.File.{File}
 use Rattle.rpm_outside.specs.Files.{Units, Files, file_of, with_file, unit_at, units_of, blank, put}
 use Rattle.rpm_outside.specs.inner.Cuts.{length-cut_up}
 use Rattle.rpm_outside.specs.inner.PutLaws.{same_units}
-use Rattle.rpm_outside.specs.History.{file_of-with}
-use Rattle.rpm_outside.specs.Changed.{with_file-with_file}
+use Rattle.rpm_outside.specs.inner.FileLaws.{file_of-with, with_file-with_file}
 use Rattle.rpm_outside.specs.inner.PutMore.{put_some, put_some_is, put_some_append}
 use Rattle.rpm_group.specs.declared.page.Page.{Page}
 use Rattle.rpm_group.specs.Held.{Table, unit_in, in_page, held_at}

@@ -5,7 +5,7 @@ ghost use Rattle.rpm_outside.specs.Files.{Files, file_of, with_file, put, unit_a
 ghost use Rattle.rpm_outside.specs.Crash.{LeavesOnly};
 ghost use Rattle.rpm_outside.specs.Causes.{HasCause, HasCauseAt};
 ghost use Rattle.rpm_outside.specs.Changed.{LeavesChanged};
-ghost use Rattle.rpm_outside.specs.EntryLaws.{Within};
+ghost use Rattle.rpm_outside.specs.Entries.{Within};
 ghost use Rattle.rpm_outside.specs.Logs.{Closed, log_state, unlogged, with_entries, reopened};
 ghost use Rattle.rpm_group.specs.LogReads.{ReadsLog};
 ghost use Rattle.rpm_group.specs.Readings.{entries_of, IsOpen};

@@ -103,7 +103,7 @@ bytes_left : (n : ℕ) (bytes : List ℕ) → AreBytes bytes → AreBytes (drop 
 bytes_left n bytes small i = rw get_or-drop (small (n + i))
 
 -- a width at which a number that is read is written again
-pub record Writes (w : Width) : Type 0 where
+pub record WritesAgain (w : Width) : Type 0 where
   pub some : 0 < byte_len w
   pub again : (bs : List ℕ) (n : ℕ) → length bs ≡ byte_len w → AreBytes bs → n ≡ from_be_bytes w bs → to_be_bytes w n ≡ bs
   pub below : (bs : List ℕ) → AreBytes bs → from_be_bytes w bs < 2 ^ (8 * byte_len w)
@@ -113,16 +113,16 @@ again_8 [] n long small is = absurd (omega arith)
 again_8 (a ∷ []) n long small is = ap (λ (x : ℕ). x ∷ []) (omega (arith, small 0))
 again_8 (a ∷ b ∷ bs) n long small is = absurd (omega arith)
 
-writes_8 : Writes w8
+writes_8 : WritesAgain w8
 writes_8 = record { some = omega arith; again = again_8; below = λ bs small. omega (arith, small 0) }
 
-writes_16 : Writes w16
+writes_16 : WritesAgain w16
 writes_16 = record { some = omega arith; again = be_bytes_2; below = λ bs small. omega (arith, small 0, small 1) }
 
-writes_32 : Writes w32
+writes_32 : WritesAgain w32
 writes_32 = record { some = omega arith; again = be_bytes_4; below = λ bs small. omega (arith, small 0, small 1, small 2, small 3) }
 
-writes_64 : Writes w64
+writes_64 : WritesAgain w64
 writes_64 =
     record {
       some = omega arith;
@@ -131,7 +131,7 @@ writes_64 =
           λ bs small. omega (arith, small 0, small 1, small 2, small 3, small 4, small 5, small 6, small 7);
     }
 
-writes : (f : Form) → Writes (width f)
+writes : (f : Form) → WritesAgain (width f)
 writes form.Int16 = writes_16
 writes form.Int32 = writes_32
 writes form.Int64 = writes_64
@@ -144,7 +144,7 @@ writes form.Texts = writes_8
 writes form.I18n = writes_8
 
 -- a number in front is its bytes
-written_front : (w : Width) → Writes w → (bytes : List ℕ) → byte_len w ≤ length bytes → AreBytes bytes
+written_front : (w : Width) → WritesAgain w → (bytes : List ℕ) → byte_len w ≤ length bytes → AreBytes bytes
     → to_be_bytes w (from_be_bytes w bytes) ≡ take (byte_len w) bytes
 unfolding number_at
 written_front w r bytes long small =
@@ -155,7 +155,7 @@ written_front w r bytes long small =
     sym (ap (from_be_bytes w) whole) ∙ number_longer w own (drop (byte_len w) bytes) 0 r.some (omega (arith, size)) in
     r.again own (from_be_bytes w bytes) size (bytes_taken (byte_len w) bytes small) same
 
-stored_from : (w : Width) → Writes w → (a n : ℕ) (bytes : List ℕ) → (a + n) * byte_len w ≤ length bytes → AreBytes bytes
+stored_from : (w : Width) → WritesAgain w → (a n : ℕ) (bytes : List ℕ) → (a + n) * byte_len w ≤ length bytes → AreBytes bytes
     → flat_map (to_be_bytes w) (map (λ i. number_at w bytes (i * byte_len w)) (range_with_len a n)) ≡ take (n * byte_len w) (drop (a * byte_len w) bytes)
 unfolding number_at
 stored_from w r a zero bytes room small =
@@ -173,14 +173,14 @@ stored_from w r a (suc n) bytes room small =
     let step : drop ((a + 1) * l) bytes ≡ drop l here = ap (λ (k : ℕ). drop k bytes) next ∙ sym (drop-drop l (a * l) bytes) in
     rw (front, others, step, size) (sym (take-add l (n * l) here))
 
-pub stored_numbers : (w : Width) → Writes w → (count : ℕ) (bytes : List ℕ) → count * byte_len w ≤ length bytes → AreBytes bytes
+pub stored_numbers : (w : Width) → WritesAgain w → (count : ℕ) (bytes : List ℕ) → count * byte_len w ≤ length bytes → AreBytes bytes
     → flat_map (to_be_bytes w) (numbers w count bytes) ≡ take (count * byte_len w) bytes
 unfolding numbers
 stored_numbers w r count bytes room small =
     let front : 0 * byte_len w ≡ 0 = grind arith in
     stored_from w r 0 count bytes (rw zero-add room) small ∙ ap (λ (k : ℕ). take (count * byte_len w) (drop k bytes)) front
 
-fit_from : (w : Width) → Writes w → (a n : ℕ) (bytes : List ℕ) → AreBytes bytes
+fit_from : (w : Width) → WritesAgain w → (a n : ℕ) (bytes : List ℕ) → AreBytes bytes
     → list_all (λ x. nat_lt x (2 ^ (8 * byte_len w))) (map (λ i. number_at w bytes (i * byte_len w)) (range_with_len a n)) ≡ true
 unfolding number_at
 fit_from w r a zero bytes small = refl
@@ -189,7 +189,7 @@ fit_from w r a (suc n) bytes small =
     lt-ltb _ _ (r.below (drop (a * byte_len w) bytes) (bytes_left (a * byte_len w) bytes small)) in
     rw (below, fit_from w r (a + 1) n bytes small) refl
 
-fit_numbers : (w : Width) → Writes w → (count : ℕ) (bytes : List ℕ) → AreBytes bytes
+fit_numbers : (w : Width) → WritesAgain w → (count : ℕ) (bytes : List ℕ) → AreBytes bytes
     → list_all (λ x. nat_lt x (2 ^ (8 * byte_len w))) (numbers w count bytes) ≡ true
 unfolding numbers
 fit_numbers w r count bytes small = fit_from w r 0 count bytes small

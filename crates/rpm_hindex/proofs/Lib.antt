@@ -1,19 +1,19 @@
+mod Links
 pub mod Runs
 pub mod Chains
 pub mod Packing
 pub mod Counts
-pub mod Follows
 pub mod Collects
 pub mod Orders
 pub mod Overlay
 pub mod Takes
 pub mod Tallies
+mod TornWrites
 pub mod Wholes
 pub mod Founds
 pub mod Gathers
 pub mod Going
 pub mod Extends
-pub mod Writes
 pub mod UnitWords
 pub mod Seals
 pub mod Made

@@ -4,11 +4,11 @@ use Rattle.rpm_outside.specs.declared.disk.File.{File}
 use Rattle.rpm_outside.specs.declared.disk.File.TheVariants.{Pkg, Idx, Log}
 use Rattle.rpm_outside.specs.declared.steps.Step.{Step}
 use Rattle.rpm_outside.specs.declared.steps.Step.TheVariants.{Wrote, Synced}
-use Rattle.rpm_outside.specs.Files.{Units, Files, file_of, with_file, put}
+use Rattle.rpm_outside.specs.Files.{Units, Files, file_of, with_file, put, cases_file}
 use Rattle.rpm_outside.specs.Crash.{Torn, TornFile}
 use Rattle.rpm_outside.specs.Past.{after_step, after_steps, LeftByStep, LeftBySteps, Images, StepsTo}
-use Rattle.rpm_outside.specs.History.{file_of-with, torn_whole, push_left, with_itself}
-use Rattle.rpm_outside.specs.Literal.{cases_file, other_file}
+use Rattle.rpm_outside.specs.inner.FileLaws.{file_of-with, with_itself, other_file}
+use Rattle.rpm_outside.specs.inner.History.{torn_whole, push_left}
 
 with_file-with : (file : File) (a b : Units) (files : Files) → with_file file a (with_file file b files) ≡ with_file file a files
 with_file-with Pkg a b files = refl

@@ -12,7 +12,8 @@ use Rattle.rpm_outside.specs.Files.{Units, Files, file_of, with_file, unit_at, b
 use Rattle.rpm_outside.specs.Crash.{Torn}
 use Rattle.rpm_outside.specs.inner.Puts.{length-put}
 use Rattle.rpm_outside.specs.Past.{after_step, after_steps, StepsTo}
-use Rattle.rpm_outside.specs.History.{file_of-with, torn_whole, torn_none}
+use Rattle.rpm_outside.specs.inner.FileLaws.{file_of-with}
+use Rattle.rpm_outside.specs.inner.History.{torn_whole, torn_none}
 use Rattle.rpm_outside.specs.Picks.{takes_new, mixed_unit, picked, picked_step, picked_image}
 
 module _ (seed at : ℕ) (units file : Units) where

@@ -6,10 +6,10 @@ use Rattle.rpm_outside.specs.declared.steps.Step.{Step}
 use Rattle.rpm_outside.specs.declared.steps.Step.TheVariants.{Wrote}
 use Rattle.rpm_outside.specs.Files.{Units, Files, file_of, with_file, put, unit_at, blank}
 use Rattle.rpm_outside.specs.Causes.{Rose}
-use Rattle.rpm_outside.specs.Crash.{Torn, TornFile, Follows, Elapses, RisesOrStays}
+use Rattle.rpm_outside.specs.Crash.{Torn, TornFile, OnlyAfter, Elapses, RisesOrStays}
 use Rattle.rpm_outside.specs.inner.Puts.{length-put, put_cases, put_inside}
 use Rattle.rpm_outside.specs.Past.{after_step, after_steps, ImagesSince, WroteOnce, WroteAny, part_of}
-use Rattle.rpm_outside.specs.History.{after_steps-push, torn_file_whole, torn_file_none, follows_write, follows_none, elapses_push, elapses_same}
+use Rattle.rpm_outside.specs.inner.History.{after_steps-push, torn_file_whole, torn_file_none, follows_write, follows_none, elapses_push, elapses_same}
 
 -- a write of some of the first units is one of all that was cut short
 torn_take : (at n : ℕ) (units old new : Units) → Torn at (take n units) old new → Torn at units old new
@@ -42,7 +42,7 @@ torn_part true file at units old new torn = record {
 pub record LeavesWrite (first old new : Files) (past steps : List Step) (file : File) (at : ℕ) (units : Units) : Type 0 where
   pub replayed : old ≡ after_steps past first → new ≡ after_steps steps first
   pub torn : TornFile file at units old new
-  pub images : Follows (TornFile file at units) (ImagesSince past first (length past)) (ImagesSince steps first (length steps))
+  pub images : OnlyAfter (TornFile file at units) (ImagesSince past first (length past)) (ImagesSince steps first (length steps))
   pub time : Elapses (length past) (length steps) (ImagesSince past first) (ImagesSince steps first)
   pub stays : RisesOrStays (length past) (length steps) old new (ImagesSince past first) (ImagesSince steps first)
 
@@ -51,7 +51,7 @@ pub nothing_left : (first old new : Files) (past steps : List Step) (file : File
 nothing_left first old new past steps file at units files none = record {
   replayed = λ is. files ∙ is ∙ ap (λ (s : List Step). after_steps s first) (sym none);
   torn = subst (λ (f : Files). TornFile file at units old f) (sym files) (torn_file_none file at units old);
-  images = subst (λ (s : List Step). Follows (TornFile file at units) (ImagesSince past first (length past)) (ImagesSince s first (length s)))
+  images = subst (λ (s : List Step). OnlyAfter (TornFile file at units) (ImagesSince past first (length past)) (ImagesSince s first (length s)))
       (sym none) (follows_none past file at units first);
   time = subst (λ (s : List Step). Elapses (length past) (length s) (ImagesSince past first) (ImagesSince s first)) (sym none) (elapses_same past first);
   stays = inr (

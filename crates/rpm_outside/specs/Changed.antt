@@ -1,12 +1,8 @@
 -- Files of which one range was written.
-use Rattle.std.specs.Prelude.{◌≡◌, ◌⊎◌, ℕ, ◌+◌, ◌<◌, ◌≤◌, max, length}
-use Rattle.std.proofs.Common.{inl, inr, ⊎_elim, refl, ap, ◌∙◌, arith}
+use Rattle.std.specs.Prelude.{◌≡◌, ◌⊎◌, ℕ, ◌<◌, ◌≤◌, max, length}
 use Rattle.rpm_outside.specs.declared.disk.File.{File}
-use Rattle.rpm_outside.specs.Files.{Units, Files, file_of, with_file, unit_at}
-use Rattle.rpm_outside.specs.Crash.{TornFile, LeavesOnly, Elapses, Follows}
-use Rattle.rpm_outside.specs.inner.Puts.{length-put, put_before, put_after}
-use Rattle.rpm_outside.specs.inner.Moments.{leaves_then, leaves_weaker, goes_on, started}
-use Rattle.rpm_outside.specs.History.{with_itself}
+use Rattle.rpm_outside.specs.Files.{Files, file_of, with_file, unit_at}
+use Rattle.rpm_outside.specs.Crash.{LeavesOnly}
 
 -- one file is another in this range alone, and no longer than its end
 pub record ChangedIn (file : File) (first end : ℕ) (old new : Files) : Type 0 where
@@ -19,80 +15,7 @@ pub record ChangedIn (file : File) (first end : ℕ) (old new : Files) : Type 0 
 abbrev pub WasChanged : File → ℕ → ℕ → (Files → Type 0) → Files → Type 0
 WasChanged file first end images image = (from : Files) × images from × ChangedIn file first end from image
 
-pub changed_none : (file : File) (first end : ℕ) (files : Files) → ChangedIn file first end files files
-changed_none file first end files = record { others = with_itself file files; each = λ i out. refl; no_shorter = omega arith; no_longer = omega arith }
-
-pub with_file-with_file : (file : File) (a b : Units) (files : Files) → with_file file a (with_file file b files) ≡ with_file file a files
-with_file-with_file File.Pkg a b files = refl
-with_file-with_file File.Idx a b files = refl
-with_file-with_file File.Log a b files = refl
-
-pub changed_then : (file : File) (first end : ℕ) (a b c : Files) → ChangedIn file first end a b → ChangedIn file first end b c → ChangedIn file first end a c
-changed_then file first end a b c one two = record {
-  others = two.others ∙ ap (λ (f : Files). with_file file (file_of file c) f) one.others ∙ with_file-with_file file (file_of file c) (file_of file b) a;
-  each = λ i out. two.each i out ∙ one.each i out;
-  no_shorter = omega (arith, one.no_shorter, two.no_shorter);
-  no_longer = omega (arith, one.no_longer, two.no_longer);
-}
-
-pub changed_more : (file : File) (first end low high : ℕ) (a b : Files) → low ≤ first → end ≤ high → ChangedIn file first end a b → ChangedIn file low high a b
-changed_more file first end low high a b below above one = record {
-  others = one.others;
-  each = λ i out. one.each i (⊎_elim (λ h. inl (omega (arith, h, below))) (λ h. inr (omega (arith, h, above))) out);
-  no_shorter = one.no_shorter;
-  no_longer = omega (arith, one.no_longer);
-}
-
--- a write that was cut short changes its range
-pub torn_changed : (file : File) (at : ℕ) (units : Units) (end : ℕ) (a b : Files) → at + length units ≡ end → TornFile file at units a b
-    → ChangedIn file at end a b
-torn_changed file at units end a b is torn = record {
-  others = torn.others;
-  each = λ i out. ⊎_elim
-      (λ same. same)
-      (λ new. new ∙ ⊎_elim (λ below. put_before at units (file_of file a) i below) (λ past. put_after at units (file_of file a) i
-      (omega (arith, is, past))) out)
-      (torn.torn.each i);
-  no_shorter = torn.torn.no_shorter;
-  no_longer = omega (arith, torn.torn.no_longer, length-put at units (file_of file a));
-}
-
 module _ {D : Type 0} (moment : D → ℕ) (left_since : D → ℕ → Files → Type 0) where
   -- what a stop may leave since a write to a range began
   abbrev pub LeavesChanged : File → ℕ → ℕ → D → D → Type 0
   LeavesChanged file first end old new = LeavesOnly moment left_since old new (WasChanged file first end (left_since old (moment old)))
-
-  pub leaves_none : (file : File) (first end : ℕ) (d : D) → LeavesChanged file first end d d
-  leaves_none file first end d = started moment left_since d (WasChanged file first end (left_since d (moment d)))
-      (λ image left. (image, left, changed_none file first end image))
-
-  -- two runs of writes to one range
-  pub changed_leaves_then : (file : File) (first end : ℕ) (old mid new : D) → ((image : Files) → left_since mid (moment mid) image → left_since mid
-      (moment old) image)
-      → LeavesChanged file first end old mid → LeavesChanged file first end mid new → LeavesChanged file first end old new
-  changed_leaves_then file first end old mid new earlier one two =
-      leaves_then moment left_since old mid new (WasChanged file first end (left_since old (moment old))) one
-      (leaves_weaker moment left_since mid new (WasChanged file first end (left_since mid (moment mid)))
-      (WasChanged file first end (left_since old (moment old)))
-      (λ image was.
-      let so_far = one.each was.0 (earlier was.0 was.1) in
-      (so_far.0, so_far.1, changed_then file first end so_far.0 was.0 image so_far.2 was.2))
-      two)
-
-  -- a wider range
-  pub changed_leaves_more : (file : File) (first end low high : ℕ) (old new : D) → low ≤ first → end ≤ high → LeavesChanged file first end old new
-      → LeavesChanged file low high old new
-  changed_leaves_more file first end low high old new below above one =
-      leaves_weaker moment left_since old new (WasChanged file first end (left_since old (moment old))) (WasChanged file low high (left_since old (moment old)))
-      (λ image was. (was.0, was.1, changed_more file first end low high was.0 image below above was.2)) one
-
-  -- one write
-  pub write_leaves : (file : File) (at : ℕ) (units : Units) (end : ℕ) (old new : D) → at + length units ≡ end
-      → Follows (TornFile file at units) (left_since old (moment old)) (left_since new (moment new)) → Elapses (moment old) (moment new)
-      (left_since old) (left_since new)
-      → LeavesChanged file at end old new
-  write_leaves file at units end old new is images time =
-      goes_on moment left_since old old new (WasChanged file at end (left_since old (moment old))) (leaves_none file at end old) time
-      (λ image left.
-      let was = images image left in
-      (was.0, was.1, torn_changed file at units end was.0 image is was.2))

@@ -17,8 +17,8 @@ pub record TornFile (file : File) (at : ℕ) (units : Units) (old new : Files) :
   pub others : new ≡ with_file file (file_of file new) old
 
 -- each new outcome of a stop is an old outcome after a step
-abbrev pub Follows : (Files → Files → Type 0) → (Files → Type 0) → (Files → Type 0) → Type 0
-Follows step old new = (image : Files) → new image → (from : Files) × old from × step from image
+abbrev pub OnlyAfter : (Files → Files → Type 0) → (Files → Type 0) → (Files → Type 0) → Type 0
+OnlyAfter step old new = (image : Files) → new image → (from : Files) × old from × step from image
 
 -- time goes on: an image since t is one from before, or one of the present moment
 pub record Elapses (before now : ℕ) (past since : ℕ → Files → Type 0) : Type 0 where

@@ -1,6 +1,6 @@
 -- Files of units, and what a write does to one.
-use Rattle.std.specs.Prelude.{◌≡◌, ℕ, ◌+◌, ◌-◌, ◌/◌, List, [], ◌∷◌, ◌++◌, length, take, drop, replicate, slice_index_or}
-use Rattle.std.proofs.Common.{zero, suc}
+use Rattle.std.specs.Prelude.{◌≡◌, ◌⊎◌, ℕ, ◌+◌, ◌-◌, ◌/◌, List, [], ◌∷◌, ◌++◌, length, take, drop, replicate, slice_index_or}
+use Rattle.std.proofs.Common.{zero, suc, inl, inr, refl}
 use Rattle.rpm_outside.specs.declared.disk.File.{File}
 use Rattle.rpm_outside.specs.declared.disk.File.TheVariants.{Pkg, Idx, Log}
 
@@ -24,6 +24,18 @@ abbrev pub with_file : File → Units → Files → Files
 with_file Pkg units files = record { pkg = units; idx = files.idx; log = files.log }
 with_file Idx units files = record { pkg = files.pkg; idx = units; log = files.log }
 with_file Log units files = record { pkg = files.pkg; idx = files.idx; log = units }
+
+-- two files are one, or they differ
+pub cases_file : (a b : File) → (a ≡ b) ⊎ (a ≡ b → ⊥)
+cases_file Pkg Pkg = inl refl
+cases_file Pkg Idx = inr (λ (e : Pkg ≡ Idx). cc e)
+cases_file Pkg Log = inr (λ (e : Pkg ≡ Log). cc e)
+cases_file Idx Pkg = inr (λ (e : Idx ≡ Pkg). cc e)
+cases_file Idx Idx = inl refl
+cases_file Idx Log = inr (λ (e : Idx ≡ Log). cc e)
+cases_file Log Pkg = inr (λ (e : Log ≡ Pkg). cc e)
+cases_file Log Idx = inr (λ (e : Log ≡ Idx). cc e)
+cases_file Log Log = inl refl
 
 -- a unit of zeros
 unfoldable pub blank : List ℕ

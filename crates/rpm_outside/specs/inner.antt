@@ -1,10 +1,21 @@
 -- Lemmas, for proofs alone: no clause is read by them.
+pub mod Browsing
+pub mod ChangedLaws
 pub mod Changing
 pub mod Cuts
+pub mod EntryLaws
+pub mod FileLaws
+pub mod Flushed
+pub mod History
+pub mod ImageLaws
 pub mod Leaves
+pub mod LogRules
+pub mod LogWriting
 pub mod Looking
 pub mod LogLaws
 pub mod Moments
 pub mod PutLaws
 pub mod PutMore
 pub mod Puts
+pub mod Taken
+pub mod Upto

@@ -109,7 +109,7 @@ pub fn put_and_flush<O: Sink + Drop>(sink: &mut Buffered<O>, bytes: &[u8]) -> Re
 
 impl<O: Sink + Drop> Sink for Buffered<O> {
     ghost use Rattle.rpm_outside.specs.Buffered.{all_taken, inner, GoesOn};
-    ghost use Rattle.rpm_outside.specs.Taken.{begins_refl, begins_trans};
+    ghost use Rattle.rpm_outside.specs.inner.Taken.{begins_refl, begins_trans};
 
     ghost tells = { O.tells };
 

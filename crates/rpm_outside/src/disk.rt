@@ -21,7 +21,7 @@ pub trait Disk {
     ghost use Rattle.rpm_outside.specs.Files.{Files, file_of, with_file, units_of, put};
     ghost use Rattle.rpm_outside.specs.Calls.{Call, Len, Read, Write, Sync};
     ghost use Rattle.rpm_outside.specs.Causes.{Rose, RoseBy, HasCause};
-    ghost use Rattle.rpm_outside.specs.Crash.{TornFile, Follows, Elapses, Untouched, RisesOrStays, bytes_for};
+    ghost use Rattle.rpm_outside.specs.Crash.{TornFile, OnlyAfter, Elapses, Untouched, RisesOrStays, bytes_for};
 
     /// Whether disks of this kind tell what they hold.
     ghost tells: { Bool };
@@ -92,7 +92,7 @@ pub trait Disk {
         ensures written { OnOk result (IsTrue tells → files self.new ≡ with_file file (put unit (units_of bytes.now) (file_of file (files self.old)))
             (files self.old)) }
         ensures torn { IsTrue tells → TornFile file unit (units_of bytes.now) (files self.old) (files self.new) }
-        ensures images { IsTrue tells → Follows (TornFile file unit (units_of bytes.now)) (left_since self.old (moment self.old))
+        ensures images { IsTrue tells → OnlyAfter (TornFile file unit (units_of bytes.now)) (left_since self.old (moment self.old))
             (left_since self.new (moment self.new)) }
         ensures time { IsTrue tells → Elapses (moment self.old) (moment self.new) (left_since self.old) (left_since self.new) }
         ensures later { moment self.old ≤ moment self.new }

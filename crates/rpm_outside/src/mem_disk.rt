@@ -160,7 +160,7 @@ fn call_fails(calls: &mut u64, failing: &[u64]) -> bool
 impl Disk for MemDisk {
     ghost use Rattle.rpm_outside.specs.MemDisk.{mem_files, mem_read, FailsWhereNamed};
     ghost use Rattle.rpm_outside.specs.Past.{ImagesSince};
-    ghost use Rattle.rpm_outside.specs.History.{as_read_now, since_earlier};
+    ghost use Rattle.rpm_outside.specs.inner.History.{as_read_now, since_earlier};
 
     ghost tells = { true };
 

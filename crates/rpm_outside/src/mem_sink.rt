@@ -97,7 +97,7 @@ fn room_for(limit: Option<u64>, held: usize, bytes: usize) -> usize
 impl Sink for MemSink {
     ghost use Rattle.rpm_outside.specs.MemSink.{sink_bytes, FailsWhereFull};
     ghost use Rattle.rpm_outside.specs.Sinks.{Begins};
-    ghost use Rattle.rpm_outside.specs.Taken.{begins_refl, begins_trans};
+    ghost use Rattle.rpm_outside.specs.inner.Taken.{begins_refl, begins_trans};
 
     ghost tells = { true };
 

@@ -4,43 +4,43 @@ use Rattle.std.specs.Prelude.{IsTrue}
 use Rattle.rpm_outside.specs.declared.disk.File.{File}
 use Rattle.rpm_outside.specs.declared.disk.File.TheVariants.{Pkg}
 use Rattle.rpm_outside.specs.Files.{Units, Files}
-use Rattle.rpm_outside.specs.Crash.{Torn, TornFile, Follows, Elapses, LeavesOnly}
+use Rattle.rpm_outside.specs.Crash.{Torn, TornFile, OnlyAfter, Elapses, LeavesOnly}
 use Rattle.rpm_outside.specs.Looks.{Looks}
 use Rattle.rpm_outside.specs.Changes.{Stops, Changes}
 use Rattle.rpm_outside.specs.inner.Changing as shared
 
 module _ {D : Type 0} (tells : Bool) (files : D → Files) (left_since : D → ℕ → Files → Type 0) (moment : D → ℕ)
     (bytes_read : D → File → ℕ) (follows : D → D → Type 0) where
-  abbrev pub Writes : (Units → Units → Type 0) → D → D → Type 0
-  Writes R a b = Changes tells files left_since moment bytes_read follows Pkg R 0 a b
+  abbrev pub WritesOnly : (Units → Units → Type 0) → D → D → Type 0
+  WritesOnly R a b = Changes tells files left_since moment bytes_read follows Pkg R 0 a b
 
   abbrev pub Copies : (Units → Units → Type 0) → ℕ → D → D → Type 0
   Copies R most a b = Changes tells files left_since moment bytes_read follows Pkg R most a b
 
-  pub changes_weaker : (R S : Units → Units → Type 0) (a b : D) → ((x y : Units) → R x y → S x y) → Writes R a b → Writes S a b
+  pub changes_weaker : (R S : Units → Units → Type 0) (a b : D) → ((x y : Units) → R x y → S x y) → WritesOnly R a b → WritesOnly S a b
   changes_weaker R S a b weaker run = shared.changes_weaker tells files left_since moment bytes_read follows Pkg R S 0 0 a b (omega arith) weaker run
 
   -- two runs, one after the other
   pub changes_then : ((a b c : D) → follows a b → follows b c → follows a c) → (R S T : Units → Units → Type 0) (a b c : D)
-      → ((x y : Units) → R x y → T x y) → ((x y z : Units) → R x y → S y z → T x z) → Writes R a b → Writes S b c → Writes T a c
+      → ((x y : Units) → R x y → T x y) → ((x y z : Units) → R x y → S y z → T x z) → WritesOnly R a b → WritesOnly S b c → WritesOnly T a c
   changes_then trans R S T a b c weaker joined first second =
       shared.changes_then tells files left_since moment bytes_read follows Pkg trans R S T 0 0 0 a b c (omega arith) weaker joined first second
 
   -- one write, whole or cut short
   pub changes_write : (at : ℕ) (units : Units) (a b : D) → (IsTrue tells → TornFile Pkg at units (files a) (files b))
-      → (IsTrue tells → Follows (TornFile Pkg at units) (left_since a (moment a)) (left_since b (moment b)))
+      → (IsTrue tells → OnlyAfter (TornFile Pkg at units) (left_since a (moment a)) (left_since b (moment b)))
       → (IsTrue tells → Elapses (moment a) (moment b) (left_since a) (left_since b)) → ((f : File) → bytes_read b f ≡ bytes_read a f) → follows a b
-      → Writes (Torn at units) a b
+      → WritesOnly (Torn at units) a b
   changes_write = shared.changes_write tells files left_since moment bytes_read follows Pkg
 
   -- one sync
   pub changes_sync : (R : Units → Units → Type 0) → ((x : Units) → R x x) → (a b : D) → (IsTrue tells → files b ≡ files a)
       → (IsTrue tells → (image : Files) → left_since b (moment b) image → left_since a (moment a) image)
       → (IsTrue tells → Elapses (moment a) (moment b) (left_since a) (left_since b)) → ((f : File) → bytes_read b f ≡ bytes_read a f) → follows a b
-      → Writes R a b
+      → WritesOnly R a b
   changes_sync = shared.changes_sync tells files left_since moment bytes_read follows Pkg
 
-  pub copies_from : (R S : Units → Units → Type 0) (a b : D) → ((x y : Units) → R x y → S x y) → Writes R a b → Copies S 0 a b
+  pub copies_from : (R S : Units → Units → Type 0) (a b : D) → ((x y : Units) → R x y → S x y) → WritesOnly R a b → Copies S 0 a b
   copies_from R S a b weaker run = shared.changes_weaker tells files left_since moment bytes_read follows Pkg R S 0 0 a b (omega arith) weaker run
 
   -- a run that only reads

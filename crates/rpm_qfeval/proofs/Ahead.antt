@@ -18,16 +18,16 @@ none_behind [] (suc i) e = let step : suc i + 1 ≡ suc (i + 1) = omega arith in
 none_behind (x ∷ xs) zero e = absurd cc
 none_behind (x ∷ xs) (suc i) e = let step : suc i + 1 ≡ suc (i + 1) = omega arith in rw step (none_behind xs i e)
 
-pub goes_on : (value : Elements) (before next : Option (List (List ℕ))) (old new : List (List ℕ)) (place : ℕ) → IsAt value before old place
+pub one_ahead : (value : Elements) (before next : Option (List (List ℕ))) (old new : List (List ℕ)) (place : ℕ) → IsAt value before old place
     → YieldsFirstBy {S = List (List ℕ)} {A = List (List ℕ)} {B = List ℕ} (λ x. concat x) (λ s. s) old next new → IsAt value next new (place + 1)
-goes_on value before None old new place is y =
+one_ahead value before None old new place is y =
     let none : drop (place + 1) (text_list value) ≡ [] = sym is.behind ∙ y.0 in
     record {
       are_texts = is.are_texts;
       here = sym (get_none (text_list value) (place + 1) none);
       behind = y.1 ∙ sym (none_behind (text_list value) (place + 1) none);
     }
-goes_on value before (Some x) old new place is y =
+one_ahead value before (Some x) old new place is y =
     let some : drop (place + 1) (text_list value) ≡ concat x ∷ new = sym is.behind ∙ y in
     let b = begins_with (text_list value) (place + 1) (concat x) new some in
     record { are_texts = is.are_texts; here = sym b.here; behind = b.behind }

@@ -12,7 +12,7 @@ use Rattle.rpm_tags.specs.Value.{stored}
 use Rattle.rpm_qfparse.specs.declared.tree.Role.{Role}
 use Rattle.rpm_qfparse.specs.declared.tree.Role.TheVariants as role
 use Rattle.rpm_qfparse.specs.declared.tree.Show.TheVariants as show
-use Rattle.rpm_qfparse.specs.Tree.{Tree, End, Text, Shown, Bracket, Condition}
+use Rattle.rpm_qfparse.specs.Tree.{Tree, End, Text, Tagged, Bracket, Condition}
 use Rattle.rpm_qfeval.specs.Dates.{year_of, month_of, day_of}
 use Rattle.rpm_qfeval.specs.Formatters.{number_text, text_text, blob_text}
 use Rattle.rpm_qfeval.specs.Meaning.{meaning, sizes, bytes}
@@ -37,10 +37,10 @@ epoch : Tag
 epoch = Stored 1003
 
 tag : Role → Tag → Tree → Tree
-tag r t rest = Shown (record { tag = t; role = r; left = false; width = 0; show = show.Plain }) rest
+tag r t rest = Tagged (record { tag = t; role = r; left = false; width = 0; show = show.Plain }) rest
 
 wide : Bool → Tag → Tree → Tree
-wide left t rest = Shown (record { tag = t; role = role.Element; left = left; width = 3; show = show.Plain }) rest
+wide left t rest = Tagged (record { tag = t; role = role.Element; left = left; width = 3; show = show.Plain }) rest
 
 means : Tree → Result (List ℕ) (ℕ × ℕ)
 means tree = meaning small 7 tree

@@ -11,7 +11,7 @@ use Rattle.rpm_qfparse.specs.declared.tree.Role.TheVariants as role
 use Rattle.rpm_qfparse.specs.declared.tree.Show.{Show}
 use Rattle.rpm_qfparse.specs.declared.tree.Part.{Part}
 use Rattle.rpm_qfparse.specs.declared.tree.Part.TheVariants as part
-use Rattle.rpm_qfparse.specs.Tree.{Tree, End, Text, Shown, Bracket, Condition}
+use Rattle.rpm_qfparse.specs.Tree.{Tree, End, Text, Tagged, Bracket, Condition}
 use Rattle.rpm_qfparse.specs.Shape.{parts_of}
 use Rattle.rpm_qfeval.specs.Formatters.{number_text, shown, or_none}
 use Rattle.rpm_qfeval.specs.Padded.{padded}
@@ -67,7 +67,7 @@ module _ (h : Header) (number : ℕ) where
   unfoldable pub sizes : Tree → Option (ℕ × ℕ)
   sizes End = None
   sizes (Text text rest) = sizes rest
-  sizes (Shown p rest) = sizes rest
+  sizes (Tagged p rest) = sizes rest
   sizes (Bracket inner rest) = option_or (different (counts inner)) (sizes rest)
   sizes (Condition tag first second rest) = option_or (if is_present tag then sizes first else sizes second) (sizes rest)
 
@@ -75,7 +75,7 @@ module _ (h : Header) (number : ℕ) where
   unfoldable pub bytes : ℕ → Tree → List ℕ
   bytes round End = []
   bytes round (Text text rest) = text ++ bytes round rest
-  bytes round (Shown p rest) = tag_text round p ++ bytes round rest
+  bytes round (Tagged p rest) = tag_text round p ++ bytes round rest
   bytes round (Bracket inner rest) = rounds (counts inner) (λ i. bytes i inner) ++ bytes round rest
   bytes round (Condition tag first second rest) = (if is_present tag then bytes round first else bytes round second) ++ bytes round rest
 

@@ -2,7 +2,7 @@
 use Rattle.std.proofs.Common.{◌≡◌, ℕ, ◌<◌, List, [], ◌∷◌, ◌++◌, length, refl, sym, ◌∙◌, ap, arith, Ok, Err}
 use Rattle.rpm_qfparse.specs.declared.tree.Part.{Part}
 use Rattle.rpm_qfparse.specs.declared.tree.Part.TheVariants as part
-use Rattle.rpm_qfparse.specs.Tree.{Tree, End, Text, Shown, Bracket, Condition}
+use Rattle.rpm_qfparse.specs.Tree.{Tree, End, Text, Tagged, Bracket, Condition}
 use Rattle.rpm_qfparse.specs.Shape.{onto}
 use Rattle.rpm_qfparse.specs.Tag.{Reading}
 use Rattle.rpm_qfparse.specs.Format.{with_byte, behind}
@@ -16,14 +16,14 @@ with_text_push (c ∷ text) b rest = ap (with_byte c) (with_text_push text b res
 pub onto-append : (ps qs : List Part) (rest : Tree) → onto (ps ++ qs) rest ≡ onto ps (onto qs rest)
 onto-append [] qs rest = refl
 onto-append (part.Text b ∷ ps) qs rest = ap (Text b) (onto-append ps qs rest)
-onto-append (part.Tag t ∷ ps) qs rest = ap (Shown t) (onto-append ps qs rest)
+onto-append (part.Tag t ∷ ps) qs rest = ap (Tagged t) (onto-append ps qs rest)
 onto-append (part.Bracket i ∷ ps) qs rest = ap (Bracket i) (onto-append ps qs rest)
 onto-append (part.Condition t a b ∷ ps) qs rest = ap (Condition t a b) (onto-append ps qs rest)
 
 begins_run : (b : ℕ) (rest : Tree) → BeginsApart rest → with_byte b rest ≡ Text (b ∷ []) rest
 begins_run b (Text c rest) h = absurd h
 begins_run b End h = refl
-begins_run b (Shown t rest) h = refl
+begins_run b (Tagged t rest) h = refl
 begins_run b (Bracket i rest) h = refl
 begins_run b (Condition t x y rest) h = refl
 

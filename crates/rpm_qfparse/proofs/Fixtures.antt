@@ -8,7 +8,7 @@ use Rattle.rpm_qfparse.specs.declared.fault.FormatKind.TheVariants.{MissingOpen,
 use Rattle.rpm_qfparse.specs.declared.tree.Role.TheVariants.{Element, First}
 use Rattle.rpm_qfparse.specs.declared.tree.Show.TheVariants.{Plain, Hex}
 use Rattle.rpm_qfparse.specs.declared.tree.TagPart.{TagPart}
-use Rattle.rpm_qfparse.specs.Tree.{Tree, End, Text, Shown, Bracket, Condition}
+use Rattle.rpm_qfparse.specs.Tree.{Tree, End, Text, Tagged, Bracket, Condition}
 use Rattle.rpm_qfparse.specs.Tag.{number_of, after_number, tag_part, table, show_in}
 use Rattle.rpm_qfparse.specs.Moves.{condition, move_of}
 use Rattle.rpm_qfparse.specs.Format.{format, reading}
@@ -25,11 +25,11 @@ one_text : format (codes "a\\n%%") ≡ Ok (Text (97 ∷ 10 ∷ 37 ∷ []) End)
 unfolding format reading move_of
 one_text = refl
 
-all_of_a_tag : format (codes "%-06{=NAME:hex}") ≡ Ok (Shown (record name { role = First; left = true; width = 6; show = Hex }) End)
+all_of_a_tag : format (codes "%-06{=NAME:hex}") ≡ Ok (Tagged (record name { role = First; left = true; width = 6; show = Hex }) End)
 unfolding format reading move_of number_of after_number tag_part table show_in names.table names.tag_in
 all_of_a_tag = refl
 
-in_a_bracket : format (codes "[%{NAME}]x") ≡ Ok (Bracket (Shown name End) (Text (codes "x") End))
+in_a_bracket : format (codes "[%{NAME}]x") ≡ Ok (Bracket (Tagged name End) (Text (codes "x") End))
 unfolding format reading move_of number_of after_number tag_part names.table names.tag_in
 in_a_bracket = refl
 

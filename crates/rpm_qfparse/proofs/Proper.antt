@@ -7,7 +7,7 @@ use Rattle.rpm_qfparse.specs.declared.moves.Context.{Context}
 use Rattle.rpm_qfparse.specs.declared.moves.Context.TheVariants as context
 use Rattle.rpm_qfparse.specs.declared.tree.Role.{Role}
 use Rattle.rpm_qfparse.specs.declared.tree.TagPart.{TagPart}
-use Rattle.rpm_qfparse.specs.Tree.{Tree, End, Text, Shown, Bracket, Condition}
+use Rattle.rpm_qfparse.specs.Tree.{Tree, End, Text, Tagged, Bracket, Condition}
 use Rattle.rpm_qfparse.specs.Tag.{Faulty, Reading, ◌>>=◌, or_fault, begins, split_once, side, number_of, after_number, width, role, named, show_of, name_and_show, formatter, tag_inside, tag_part}
 use Rattle.rpm_qfparse.specs.Moves.{Move, Ends, Stops, Literal, Shows, Opens, Asks, asked, second_follows, close, escaped, shows, asks, percent, at_end, is_bracket, is_branch, move_of}
 use Rattle.rpm_qfparse.specs.Moves as moves
@@ -176,7 +176,7 @@ AreProper ib d x = IsProper ib (d + 1) x.0.0 × IsProper ib (d + 1) x.0.1
 byte_proper : (ib : Bool) (d b : ℕ) (t : Tree) → IsProper ib d t → IsProper ib d (with_byte b t)
 byte_proper ib d b (Text bytes rest) h = (omega arith, h.1, h.2)
 byte_proper ib d b End h = (omega arith, tt, h)
-byte_proper ib d b (Shown p rest) h = (omega arith, tt, h)
+byte_proper ib d b (Tagged p rest) h = (omega arith, tt, h)
 byte_proper ib d b (Bracket inner rest) h = (omega arith, tt, h)
 byte_proper ib d b (Condition q first second rest) h = (omega arith, tt, h)
 
@@ -190,7 +190,7 @@ mutual
   proper (ends e) = tt
   proper (stops e) = allowed _ _ _ _ _ e
   proper (literal {ib = ib} {d = d} {b = b} {a = a} e g) = behind_proper ib d (with_byte b) a (byte_proper ib d b) (proper g)
-  proper (tag {ib = ib} {d = d} {p = p} {a = a} e g) = behind_proper ib d (Shown p) a (λ t h. (allowed _ _ _ _ _ e, h)) (proper g)
+  proper (tag {ib = ib} {d = d} {p = p} {a = a} e g) = behind_proper ib d (Tagged p) a (λ t h. (allowed _ _ _ _ _ e, h)) (proper g)
   proper (bracket {ib = ib} {d = d} {inner = inner} {a = a} e g h) = behind_proper ib d (Bracket inner) a (λ t k. (allowed _ _ _ _ _ e, proper g, k)) (proper h)
   proper (in_bracket e g) = proper g
   proper (condition {ib = ib} {d = d} {q = q} {first = first} {second = second} {a = a} e g h) =

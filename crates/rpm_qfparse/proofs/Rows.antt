@@ -5,24 +5,24 @@ use Rattle.std.proofs.lemmas.List.{at_drop_more, at_drop_all}
 use Rattle.rpm_qfparse.specs.declared.tag.Row.{Row}
 use Rattle.rpm_qfparse.specs.declared.tree.Show.{Show}
 use Rattle.rpm_qfparse.specs.Tag.{show_in}
-use Rattle.rpm_qfparse.specs.Seen.{seen_rows}
+use Rattle.rpm_qfparse.specs.Bare.{bare_rows}
 
-pub at_end : (rows : List Row) (name : List ℕ) (i : ℕ) → length rows ≤ i → show_in (seen_rows (drop i rows)) name ≡ None
+pub at_end : (rows : List Row) (name : List ℕ) (i : ℕ) → length rows ≤ i → show_in (bare_rows (drop i rows)) name ≡ None
 unfolding show_in
-at_end rows name i le = at_drop_all (λ rs. show_in (seen_rows rs) name) rows i le
+at_end rows name i le = at_drop_all (λ rs. show_in (bare_rows rs) name) rows i le
 
 pub found : (rows : List Row) (name : List ℕ) (i : ℕ) (d : Row) (r : Option Show) → i < length rows → true ≡ pointwise nat_eq name
-    (get_or rows i d).1.now → show_in (seen_rows (drop i rows)) name ≡ r → Some (get_or rows i d).0 ≡ r
+    (get_or rows i d).1.now → show_in (bare_rows (drop i rows)) name ≡ r → Some (get_or rows i d).0 ≡ r
 unfolding show_in
 found rows name i d r lt same e =
-    let step : show_in (seen_rows (drop i rows)) name ≡ cond (pointwise nat_eq name (get_or rows i d).1.now) (Some (get_or rows i d).0)
-    (show_in (seen_rows (drop (i + 1) rows)) name) = at_drop_more (λ rs. show_in (seen_rows rs) name) rows i d lt in
+    let step : show_in (bare_rows (drop i rows)) name ≡ cond (pointwise nat_eq name (get_or rows i d).1.now) (Some (get_or rows i d).0)
+    (show_in (bare_rows (drop (i + 1) rows)) name) = at_drop_more (λ rs. show_in (bare_rows rs) name) rows i d lt in
     sym (step ∙ rw (← same) refl) ∙ e
 
 pub passed : (rows : List Row) (name : List ℕ) (i : ℕ) (d : Row) (r : Option Show) → i < length rows → false ≡ pointwise nat_eq name
-    (get_or rows i d).1.now → show_in (seen_rows (drop i rows)) name ≡ r → show_in (seen_rows (drop (i + 1) rows)) name ≡ r
+    (get_or rows i d).1.now → show_in (bare_rows (drop i rows)) name ≡ r → show_in (bare_rows (drop (i + 1) rows)) name ≡ r
 unfolding show_in
 passed rows name i d r lt other e =
-    let step : show_in (seen_rows (drop i rows)) name ≡ cond (pointwise nat_eq name (get_or rows i d).1.now) (Some (get_or rows i d).0)
-    (show_in (seen_rows (drop (i + 1) rows)) name) = at_drop_more (λ rs. show_in (seen_rows rs) name) rows i d lt in
+    let step : show_in (bare_rows (drop i rows)) name ≡ cond (pointwise nat_eq name (get_or rows i d).1.now) (Some (get_or rows i d).0)
+    (show_in (bare_rows (drop (i + 1) rows)) name) = at_drop_more (λ rs. show_in (bare_rows rs) name) rows i d lt in
     sym (step ∙ rw (← other) refl) ∙ e

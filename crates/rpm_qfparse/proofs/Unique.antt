@@ -2,7 +2,7 @@
 use Rattle.std.proofs.Common.{◌≡◌, ℕ, zero, suc, ◌+◌, ◌<◌, ◌≤◌, List, length, Bool, true, false, Result, Ok, Err, refl, ◌∙◌, ap, arith, subst, if◌then◌else◌}
 use Rattle.rpm_qfparse.specs.declared.moves.Context.{Context}
 use Rattle.rpm_qfparse.specs.declared.moves.Context.TheVariants as context
-use Rattle.rpm_qfparse.specs.Tree.{Tree, Shown, Bracket, Condition}
+use Rattle.rpm_qfparse.specs.Tree.{Tree, Tagged, Bracket, Condition}
 use Rattle.rpm_qfparse.specs.Tag.{Faulty, Reading, ◌>>=◌}
 use Rattle.rpm_qfparse.specs.Moves.{Move, Ends, Stops, Literal, Shows, Opens, Asks, move_of, second_follows, close}
 use Rattle.rpm_qfparse.specs.Format.{Gives, Branches, ends, stops, literal, tag, bracket, in_bracket, condition, in_condition, one, two, in_first, between, in_second, behind_second, behind, with_byte, branches_by, step, reading}
@@ -65,7 +65,7 @@ mutual
       ap (step (reading n) c ib d) e ∙ ap (behind (with_byte b)) (only g n (omega arith))
   only (tag {c = c} {ib = ib} {d = d} {p = p} {t = t} e g) (suc n) lt =
       let k : length t < _ = moved _ _ _ _ _ e in
-      ap (step (reading n) c ib d) e ∙ ap (behind (Shown p)) (only g n (omega arith))
+      ap (step (reading n) c ib d) e ∙ ap (behind (Tagged p)) (only g n (omega arith))
   only (bracket {c = c} {ib = ib} {d = d} {t = t} {inner = inner} {u = u} e g h) (suc n) lt =
       let k : length t < _ = moved _ _ _ _ _ e in
       let l : length u ≤ length t = left g in

@@ -11,7 +11,7 @@ use Rattle.rpm_qfparse.specs.declared.draft.Draft.{Draft}
 use Rattle.rpm_qfparse.specs.Tree.{Tree}
 use Rattle.rpm_qfparse.specs.Shape.{onto}
 use Rattle.rpm_qfparse.specs.Tag.{Reading}
-use Rattle.rpm_qfparse.specs.Seen.{seen_fault}
+use Rattle.rpm_qfparse.specs.Bare.{bare_fault}
 use Rattle.rpm_qfparse.specs.Format.{with_byte}
 use Rattle.rpm_qfparse.specs.Law.{BeginsApart}
 
@@ -45,7 +45,7 @@ HasRoom in_bracket depth _ = Unit {0}
 -- what a function answers is as P says, unless memory ran out
 abbrev pub Stops : {X : Type 0} → (Reading X → Type 0) → Stop → Type 0
 Stops P stop.Memory = Unit {0}
-Stops P (stop.Fault f) = P (Err (seen_fault f))
+Stops P (stop.Fault f) = P (Err (bare_fault f))
 
 abbrev pub Meets : {X : Type 0} → (Reading X → Type 0) → Result (X × Bor (List ℕ)) Stop → Type 0
 Meets P (Ok x) = P (Ok (x.0, x.1.now))

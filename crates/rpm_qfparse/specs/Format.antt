@@ -6,7 +6,7 @@ use Rattle.rpm_qfparse.specs.declared.fault.FormatFault.{FormatFault}
 use Rattle.rpm_qfparse.specs.declared.moves.Context.{Context}
 use Rattle.rpm_qfparse.specs.declared.moves.Context.TheVariants as context
 use Rattle.rpm_qfparse.specs.declared.tree.TagPart.{TagPart}
-use Rattle.rpm_qfparse.specs.Tree.{Tree, End, Text, Shown, Bracket, Condition}
+use Rattle.rpm_qfparse.specs.Tree.{Tree, End, Text, Tagged, Bracket, Condition}
 use Rattle.rpm_qfparse.specs.Tag.{Faulty, Reading, ◌>>=◌}
 use Rattle.rpm_qfparse.specs.Moves.{Move, Ends, Stops, Literal, Shows, Opens, Asks, move_of, second_follows, close}
 
@@ -37,7 +37,7 @@ mutual
         → Gives c ib d s (behind (with_byte b) a)
     tag : {c : Context} {ib : Bool} {d : ℕ} {s : List ℕ} {p : TagPart} {t : List ℕ} {a : Reading Tree}
         → move_of c ib d s ≡ Shows p t → Gives c ib d t a
-        → Gives c ib d s (behind (Shown p) a)
+        → Gives c ib d s (behind (Tagged p) a)
     -- a bracket is read up to its own end, and what follows it in the context
     bracket : {c : Context} {ib : Bool} {d : ℕ} {s t : List ℕ} {inner : Tree} {u : List ℕ} {a : Reading Tree}
         → move_of c ib d s ≡ Opens t → Gives context.Bracket true d t (Ok (inner, u)) → Gives c ib d u a
@@ -92,7 +92,7 @@ abbrev pub step : (Context → Bool → ℕ → List ℕ → Reading Tree) → C
 step read c ib d (Ends r) = Ok (End, r)
 step read c ib d (Stops e) = Err e
 step read c ib d (Literal b t) = behind (with_byte b) (read c ib d t)
-step read c ib d (Shows p t) = behind (Shown p) (read c ib d t)
+step read c ib d (Shows p t) = behind (Tagged p) (read c ib d t)
 step read c ib d (Opens t) = read context.Bracket true d t >>= λ x. behind (Bracket x.0) (read c ib d x.1)
 step read c ib d (Asks q t) = branches_by read ib d t >>= λ x. behind (Condition q x.0.0 x.0.1) (read c ib d x.1)
 

@@ -5,7 +5,7 @@ use Rattle.rpm_qfparse.specs.declared.fault.FormatKind.TheVariants.{TooLong}
 use Rattle.rpm_qfparse.specs.declared.fault.FormatFault.{FormatFault}
 use Rattle.rpm_qfparse.specs.declared.moves.Context.{Context}
 use Rattle.rpm_qfparse.specs.declared.moves.Context.TheVariants as context
-use Rattle.rpm_qfparse.specs.Tree.{Tree, End, Text, Shown, Bracket, Condition}
+use Rattle.rpm_qfparse.specs.Tree.{Tree, End, Text, Tagged, Bracket, Condition}
 use Rattle.rpm_qfparse.specs.Format.{Gives}
 
 -- up to the end of a context a text is this tree, with these bytes behind it
@@ -38,7 +38,7 @@ BeginsApart _ = Unit {0}
 abbrev pub IsProper : Bool → ℕ → Tree → Type 0
 IsProper in_bracket depth End = Unit {0}
 IsProper in_bracket depth (Text bytes rest) = (0 < length bytes) × BeginsApart rest × IsProper in_bracket depth rest
-IsProper in_bracket depth (Shown part rest) = (part.width ≤ 4096) × IsProper in_bracket depth rest
+IsProper in_bracket depth (Tagged part rest) = (part.width ≤ 4096) × IsProper in_bracket depth rest
 IsProper in_bracket depth (Bracket inner rest) = (in_bracket ≡ false) × IsProper true depth inner × IsProper in_bracket depth rest
 IsProper in_bracket depth (Condition tag first second rest) =
     (depth < 16) × IsProper in_bracket (depth + 1) first × IsProper in_bracket (depth + 1) second × IsProper in_bracket depth rest

@@ -13,7 +13,7 @@ use Rattle.rpm_qfparse.specs.contracts.tree.TagPart as tagpart
 pub data Tree : Type 0 where
   End : Tree
   Text : List ℕ → Tree → Tree
-  Shown : TagPart → Tree → Tree
+  Tagged : TagPart → Tree → Tree
   Bracket : Tree → Tree → Tree
   Condition : Tag → Tree → Tree → Tree → Tree
 
@@ -21,7 +21,7 @@ pub data Tree : Type 0 where
 abbrev pub weight : Tree → ℕ
 weight End = 1
 weight (Text b rest) = 1 + weight rest
-weight (Shown t rest) = 1 + weight rest
+weight (Tagged t rest) = 1 + weight rest
 weight (Bracket inner rest) = 1 + weight inner + weight rest
 weight (Condition t first second rest) = 1 + weight first + weight second + weight rest
 
@@ -36,7 +36,7 @@ part_code = tagpart.the_row.coded
 abbrev pub code_of : Tree → Gv
 code_of End = gnum 0
 code_of (Text b rest) = gcons (gnum 1) (gcons ((coded_list coded_ℕ).code b) (code_of rest))
-code_of (Shown t rest) = gcons (gnum 2) (gcons (part_code.code t) (code_of rest))
+code_of (Tagged t rest) = gcons (gnum 2) (gcons (part_code.code t) (code_of rest))
 code_of (Bracket inner rest) = gcons (gnum 3) (gcons (code_of inner) (code_of rest))
 code_of (Condition t first second rest) = gcons (gnum 4) (gcons (gcons (tag_code.code t) (code_of first)) (gcons (code_of second) (code_of rest)))
 
@@ -53,7 +53,7 @@ tail (gcons a b) = b
 pub same_tree : (x y : Tree) → code_of x ≡ code_of y → x ≡ y
 same_tree End End p = refl
 same_tree (Text b r) (Text c s) p = λ i. Text ((coded_list coded_ℕ).inj b c (ap (λ g. head (tail g)) p) i) (same_tree r s (ap (λ g. tail (tail g)) p) i)
-same_tree (Shown t r) (Shown u s) p = λ i. Shown (part_code.inj t u (ap (λ g. head (tail g)) p) i) (same_tree r s (ap (λ g. tail (tail g)) p) i)
+same_tree (Tagged t r) (Tagged u s) p = λ i. Tagged (part_code.inj t u (ap (λ g. head (tail g)) p) i) (same_tree r s (ap (λ g. tail (tail g)) p) i)
 same_tree (Bracket a r) (Bracket b s) p = λ i. Bracket (same_tree a b (ap (λ g. head (tail g)) p) i) (same_tree r s (ap (λ g. tail (tail g)) p) i)
 same_tree (Condition t a b r) (Condition u c d s) p =
     λ i. Condition (tag_code.inj t u (ap (λ g. head (head (tail g))) p) i) (same_tree a c (ap (λ g. tail (head (tail g))) p) i)

@@ -3,7 +3,7 @@
 ghost use Rattle.std.specs.Prelude.{◌≡◌, ℕ, ◌<◌, [], Bool, OnOk};
 ghost use Rattle.rpm_qfparse.specs.Moves.{condition, escape, escaped, at_end, percent, move_of, second_follows, close};
 ghost use Rattle.rpm_qfparse.specs.Draft.{HasRoom};
-ghost use Rattle.rpm_qfparse.specs.Seen.{seen_reading, seen_rest, seen_move};
+ghost use Rattle.rpm_qfparse.specs.Bare.{bare_reading, bare_rest, bare_move};
 
 use crate::fault::{Fault, FormatKind};
 use crate::tag::{begins, named, split_once, tag_part};
@@ -45,7 +45,7 @@ fn condition<'a>(
     percent: &'a [u8],
     text: &'a [u8],
 ) -> Result<(Tag, &'a [u8]), Fault<'a>>
-    ensures value { seen_reading result ≡ condition depth percent.now text.now }
+    ensures value { bare_reading result ≡ condition depth percent.now text.now }
     ensures room { OnOk result (depth < 16) }
 {
     if depth >= MAX_DEPTH {
@@ -83,7 +83,7 @@ fn escape(byte: u8) -> u8
 /// What the end of the text is for a context.
 fn at_end(context: Context, text: &[u8]) -> Move<'_>
     requires { text.now ≡ [] }
-    ensures value { seen_move result ≡ at_end context }
+    ensures value { bare_move result ≡ at_end context }
     ensures room { (in_bracket : Bool) (depth : ℕ) → HasRoom in_bracket depth result }
 {
     match context {
@@ -95,7 +95,7 @@ fn at_end(context: Context, text: &[u8]) -> Move<'_>
 
 /// What stands behind a backslash.
 fn escaped(text: &[u8]) -> Move<'_>
-    ensures value { seen_move result ≡ escaped text.now }
+    ensures value { bare_move result ≡ escaped text.now }
     ensures room { (in_bracket : Bool) (depth : ℕ) → HasRoom in_bracket depth result }
 {
     match text {
@@ -106,7 +106,7 @@ fn escaped(text: &[u8]) -> Move<'_>
 
 /// What stands behind a percent.
 fn percent<'a>(in_bracket: bool, depth: u32, here: &'a [u8], text: &'a [u8]) -> Move<'a>
-    ensures value { seen_move result ≡ percent depth here.now text.now }
+    ensures value { bare_move result ≡ percent depth here.now text.now }
     ensures room { HasRoom in_bracket depth result }
 {
     if begins(b'%', text) {
@@ -127,7 +127,7 @@ fn percent<'a>(in_bracket: bool, depth: u32, here: &'a [u8], text: &'a [u8]) -> 
 /// What a text begins with in a context, within a bracket or not, and within so many conditions.
 #[tactic(auto, unfolding(crate::specs::Moves::move_of))]
 pub(crate) fn move_at(context: Context, in_bracket: bool, depth: u32, text: &[u8]) -> Move<'_>
-    ensures value { seen_move result ≡ move_of context in_bracket depth text.now }
+    ensures value { bare_move result ≡ move_of context in_bracket depth text.now }
     ensures room { HasRoom in_bracket depth result }
 {
     let [byte, rest @ ..] = text else {
@@ -163,7 +163,7 @@ pub(crate) fn move_at(context: Context, in_bracket: bool, depth: u32, text: &[u8
 
 /// Whether a second branch stands behind a first one, and what follows its brace, or else the bar.
 pub(crate) fn second_follows(text: &[u8]) -> Result<(bool, &[u8]), Fault<'_>>
-    ensures { seen_reading result ≡ second_follows text.now }
+    ensures { bare_reading result ≡ second_follows text.now }
 {
     if begins(b'|', text) {
         Ok((false, &text[1..]))
@@ -181,7 +181,7 @@ pub(crate) fn second_follows(text: &[u8]) -> Result<(bool, &[u8]), Fault<'_>>
 
 /// What follows the bar behind a second branch.
 pub(crate) fn close(text: &[u8]) -> Result<&[u8], Fault<'_>>
-    ensures { seen_rest result ≡ close text.now }
+    ensures { bare_rest result ≡ close text.now }
 {
     if begins(b'|', text) {
         Ok(&text[1..])

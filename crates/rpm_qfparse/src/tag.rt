@@ -5,7 +5,7 @@ ghost use Rattle.std.specs.List.{position};
 ghost use Rattle.std.specs.Cmp.Lexicographic.{pointwise};
 ghost use Rattle.std.specs.Option.{option_map, ForSome};
 ghost use Rattle.rpm_qfparse.specs.Tag.{width, begins, split_once, named, show_of, show_in, formatter, name_and_show, role, side, tag_inside, tag_part};
-ghost use Rattle.rpm_qfparse.specs.Seen.{seen_reading, seen_part, seen_name, seen_cut, seen_rows};
+ghost use Rattle.rpm_qfparse.specs.Bare.{bare_reading, bare_part, bare_name, bare_cut, bare_rows};
 
 use crate::fault::{Fault, FormatKind};
 use crate::tree::{Role, Show, TagPart};
@@ -73,7 +73,7 @@ fn side(text: &[u8]) -> (bool, &[u8])
 /// The number of the digits in front, and what follows them.
 #[tactic(auto, using(crate::proofs::Widths::number_of_is, crate::proofs::Widths::after_number_is), unfolding(crate::proofs::Widths::number_from, crate::proofs::Widths::after_digits))]
 fn width(text: &[u8]) -> Result<(u32, &[u8]), Fault<'_>>
-    ensures { seen_reading result ≡ width text.now }
+    ensures { bare_reading result ≡ width text.now }
 {
     let mut number = 0;
     let mut rest = text;
@@ -102,7 +102,7 @@ fn role(text: &[u8]) -> (Role, &[u8])
 
 /// The tag of a name that stands at a place.
 pub(crate) fn named<'a>(name: &[u8], place: &'a [u8]) -> Result<Tag, Fault<'a>>
-    ensures { seen_part result ≡ named name.now place.now }
+    ensures { bare_part result ≡ named name.now place.now }
 {
     if name.is_empty() {
         return Err(Fault::new(FormatKind::EmptyTag, place));
@@ -120,7 +120,7 @@ fn has_name(row: &Row, name: &[u8]) -> bool
 }
 
 fn show_in(rows: &[Row], name: &[u8]) -> Option<Show>
-    ensures { result ≡ show_in (seen_rows rows.now) name.now }
+    ensures { result ≡ show_in (bare_rows rows.now) name.now }
 {
     for row in rows {
         if has_name(row, name) {
@@ -138,7 +138,7 @@ fn show_of(name: &[u8]) -> Option<Show>
 
 /// The name of a tag, and what stands behind the first colon.
 fn name_and_show(inside: &[u8]) -> (&[u8], Option<&[u8]>)
-    ensures value { seen_cut result ≡ name_and_show inside.now }
+    ensures value { bare_cut result ≡ name_and_show inside.now }
     ensures within { IfSome result.1 (λ _. length result.0.now < length inside.now) }
 {
     match split_once(b':', inside) {
@@ -150,7 +150,7 @@ fn name_and_show(inside: &[u8]) -> (&[u8], Option<&[u8]>)
 /// The formatter of a name that stands so far behind a place, where there is one.
 fn formatter<'a>(name: Option<&[u8]>, far: usize, place: &'a [u8]) -> Result<Show, Fault<'a>>
     requires { ForSome name (λ _. far ≤ length place.now) }
-    ensures { seen_part result ≡ formatter (seen_name name.entry) far place.now }
+    ensures { bare_part result ≡ formatter (bare_name name.entry) far place.now }
 {
     let Some(name) = name else {
         return Ok(Show::Plain);
@@ -170,7 +170,7 @@ fn tag_inside<'a>(
     place: &'a [u8],
 ) -> Result<TagPart, Fault<'a>>
     requires { length inside.now ≤ length place.now }
-    ensures { seen_part result ≡ tag_inside left width role inside.now place.now }
+    ensures { bare_part result ≡ tag_inside left width role inside.now place.now }
 {
     let (name, show) = name_and_show(inside);
     let tag = named(name, place)?;
@@ -187,7 +187,7 @@ fn tag_inside<'a>(
 /// A tag behind its percent, and what follows its brace.
 #[tactic(auto, unfolding(crate::specs::Tag::tag_part))]
 pub(crate) fn tag_part(text: &[u8]) -> Result<(TagPart, &[u8]), Fault<'_>>
-    ensures { seen_reading result ≡ tag_part text.now }
+    ensures { bare_reading result ≡ tag_part text.now }
 {
     let (left, text) = side(text);
     let (width, text) = width(text)?;

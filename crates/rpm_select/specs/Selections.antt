@@ -7,6 +7,7 @@ use Rattle.std.specs.FinMap.{FinMap, entries}
 use Rattle.rpm_header.specs.declared.form.HeaderFault.{HeaderFault}
 use Rattle.rpm_header.specs.Header.{Header, header}
 use Rattle.rpm_tags.specs.declared.needed.Tags.{Tags}
+use Rattle.rpm_tags.specs.Numbers.{GROUP, PROVIDENAME, PROVIDEFLAGS, PROVIDEVERSION, REQUIRENAME, REQUIREFLAGS, REQUIREVERSION, CONFLICTNAME, CONFLICTFLAGS, CONFLICTVERSION, OBSOLETENAME, OBSOLETEFLAGS, OBSOLETEVERSION, RECOMMENDNAME, RECOMMENDFLAGS, RECOMMENDVERSION, TRIGGERNAME, DIRNAMES, INSTALLTID}
 use Rattle.rpm_tags.specs.Value.{first_text, texts_in, numbers_in}
 use Rattle.rpm_tags.specs.Wanted.{Needed, listed, has_file, dependencies}
 use Rattle.rpm_version.specs.Capability.{CapabilityParts}
@@ -51,16 +52,16 @@ takes_header All n h = true
 takes_header (Pattern p) n h = list_any (glob p.now) (labels h)
 takes_header (Label x) n h = is_among x.now (labels h)
 takes_header (Path x) n h = has_file h x.now
-takes_header (Group x) n h = is_first x.now (first_text h 1016)
-takes_header (Provides c) n h = has_any (tags 1047 1112 1113) c h || is_file_of c h
-takes_header (Requires c) n h = has_any (tags 1049 1048 1050) c h
-takes_header (Conflicts c) n h = has_any (tags 1054 1053 1055) c h
-takes_header (Obsoletes c) n h = has_any (tags 1090 1114 1115) c h
-takes_header (Trigger x) n h = is_among x.now (listed (texts_in h 1066))
+takes_header (Group x) n h = is_first x.now (first_text h GROUP)
+takes_header (Provides c) n h = has_any (tags PROVIDENAME PROVIDEFLAGS PROVIDEVERSION) c h || is_file_of c h
+takes_header (Requires c) n h = has_any (tags REQUIRENAME REQUIREFLAGS REQUIREVERSION) c h
+takes_header (Conflicts c) n h = has_any (tags CONFLICTNAME CONFLICTFLAGS CONFLICTVERSION) c h
+takes_header (Obsoletes c) n h = has_any (tags OBSOLETENAME OBSOLETEFLAGS OBSOLETEVERSION) c h
+takes_header (Trigger x) n h = is_among x.now (listed (texts_in h TRIGGERNAME))
 takes_header (Number m) n h = n == m
-takes_header (Directory x) n h = is_among x.now (listed (texts_in h 1118))
-takes_header (Tid t) n h = list_any (λ m. m == t) (listed (numbers_in h 1128))
-takes_header (Recommends c) n h = has_any (tags 5046 5048 5047) c h
+takes_header (Directory x) n h = is_among x.now (listed (texts_in h DIRNAMES))
+takes_header (Tid t) n h = list_any (λ m. m == t) (listed (numbers_in h INSTALLTID))
+takes_header (Recommends c) n h = has_any (tags RECOMMENDNAME RECOMMENDFLAGS RECOMMENDVERSION) c h
 
 -- ---- the packages that are picked
 

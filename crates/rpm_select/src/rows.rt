@@ -2,6 +2,7 @@
 
 ghost use Rattle.std.specs.Prelude.{◌≡◌, ◌==◌, slice_index, IfOk};
 ghost use Rattle.std.specs.List.{list_any};
+ghost use Rattle.rpm_tags.specs.Numbers.{GROUP, INSTALLTID};
 ghost use Rattle.rpm_tags.specs.Value.{first_text, texts_in, numbers_in};
 ghost use Rattle.rpm_tags.specs.Wanted.{listed};
 ghost use Rattle.rpm_select.specs.Selections.{meets, has_any, is_file_of, is_among, is_first, takes_header};
@@ -11,39 +12,40 @@ use crate::labels::{any_label, glob_of, text_of};
 use crate::selection::Selection;
 use rpm_header::View;
 use rpm_tags::{
-    Dependency, Numbers, Tags, Texts, dependencies, first_text, has_file, numbers_in, texts_in,
+    Dependency, Numbers, Tags, Texts, dependencies, first_text, has_file, numbers, numbers_in,
+    texts_in,
 };
 use rpm_version::{Capability, overlap};
 use std::alloc::{AllocError, Global};
 
 const PROVIDES: Tags = Tags {
-    names: 1047,
-    flags: 1112,
-    versions: 1113,
+    names: numbers::PROVIDENAME,
+    flags: numbers::PROVIDEFLAGS,
+    versions: numbers::PROVIDEVERSION,
 };
 
 const REQUIRES: Tags = Tags {
-    names: 1049,
-    flags: 1048,
-    versions: 1050,
+    names: numbers::REQUIRENAME,
+    flags: numbers::REQUIREFLAGS,
+    versions: numbers::REQUIREVERSION,
 };
 
 const CONFLICTS: Tags = Tags {
-    names: 1054,
-    flags: 1053,
-    versions: 1055,
+    names: numbers::CONFLICTNAME,
+    flags: numbers::CONFLICTFLAGS,
+    versions: numbers::CONFLICTVERSION,
 };
 
 const OBSOLETES: Tags = Tags {
-    names: 1090,
-    flags: 1114,
-    versions: 1115,
+    names: numbers::OBSOLETENAME,
+    flags: numbers::OBSOLETEFLAGS,
+    versions: numbers::OBSOLETEVERSION,
 };
 
 const RECOMMENDS: Tags = Tags {
-    names: 5046,
-    flags: 5048,
-    versions: 5047,
+    names: numbers::RECOMMENDNAME,
+    flags: numbers::RECOMMENDFLAGS,
+    versions: numbers::RECOMMENDVERSION,
 };
 
 /// Whether what a package needs or gives has the name of a capability, and their ranges overlap.
@@ -120,9 +122,9 @@ fn is_number_in(numbers: &Numbers<'_>, wanted: u32) -> bool
 
 /// Whether a number is an element of INSTALLTID.
 fn has_transaction(view: &View<'_>, wanted: u32) -> bool
-    ensures { result ≡ list_any (λ m. m == wanted) (listed (numbers_in view.now 1128)) }
+    ensures { result ≡ list_any (λ m. m == wanted) (listed (numbers_in view.now INSTALLTID)) }
 {
-    match numbers_in(view, 1128) {
+    match numbers_in(view, numbers::INSTALLTID) {
         None => false,
         Some(numbers) => is_number_in(&numbers, wanted),
     }
@@ -130,9 +132,9 @@ fn has_transaction(view: &View<'_>, wanted: u32) -> bool
 
 /// Whether a text is the first of GROUP.
 fn is_group(view: &View<'_>, wanted: &[u8]) -> bool
-    ensures { result ≡ is_first wanted.now (first_text view.now 1016) }
+    ensures { result ≡ is_first wanted.now (first_text view.now GROUP) }
 {
-    match first_text(view, 1016) {
+    match first_text(view, numbers::GROUP) {
         None => false,
         Some(text) => wanted == text,
     }
@@ -165,9 +167,9 @@ pub fn takes_header(
         Selection::Requires(c) => Ok(has_any(view, REQUIRES, c)),
         Selection::Conflicts(c) => Ok(has_any(view, CONFLICTS, c)),
         Selection::Obsoletes(c) => Ok(has_any(view, OBSOLETES, c)),
-        Selection::Trigger(text) => Ok(is_among(view, 1066, text.as_bytes())),
+        Selection::Trigger(text) => Ok(is_among(view, numbers::TRIGGERNAME, text.as_bytes())),
         Selection::Number(wanted) => Ok(number == *wanted),
-        Selection::Directory(text) => Ok(is_among(view, 1118, text.as_bytes())),
+        Selection::Directory(text) => Ok(is_among(view, numbers::DIRNAMES, text.as_bytes())),
         Selection::Tid(wanted) => Ok(has_transaction(view, *wanted)),
         Selection::Recommends(c) => Ok(has_any(view, RECOMMENDS, c)),
     }

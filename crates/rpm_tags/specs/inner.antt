@@ -4,5 +4,5 @@ pub mod Left
 pub mod Parts
 pub mod Recent
 pub mod Rows
-pub mod Shown
 pub mod Source
+pub mod SourceElements

@@ -51,7 +51,7 @@ pub fn go_back(indexes: &Numbers<'_>) -> bool {
 
 // A directory that was read, and its index.
 #[derive(Clone, Copy)]
-struct Seen<'a> {
+struct ReadDirectory<'a> {
     index: u32,
     dir: &'a [u8],
 }
@@ -66,7 +66,7 @@ pub struct Directories<'v, 'a> {
     ahead: TextIter<'a>,
     passed: u32,
     // The last that was read of those with the same remainder by 16.
-    recent: [Seen<'a>; 16],
+    recent: [ReadDirectory<'a>; 16],
     // All of them by place, once one was asked for again that isn't kept, and before that the room
     // for their numbers.
     places: Option<TextPlaces<'v, 'a>>,
@@ -90,7 +90,7 @@ impl<'v, 'a> Directories<'v, 'a> {
         ensures { result ≡ all.now }
     {
         let _ = all.count();
-        let first = Seen {
+        let first = ReadDirectory {
             index: 0,
             dir: all.text(0),
         };
@@ -158,7 +158,7 @@ impl<'v, 'a> Directories<'v, 'a> {
             return seen.dir;
         }
         let dir = self.read(index);
-        self.recent[slot] = Seen { index, dir };
+        self.recent[slot] = ReadDirectory { index, dir };
         dir
     }
 }

@@ -9,7 +9,7 @@ use crate::digits::{Digits, digits_in};
 use std::marker::Model;
 
 #[derive(Clone, Copy)]
-enum Part<'a> {
+enum TextPart<'a> {
     Text(&'a [u8]),
     Number(Digits),
 }
@@ -19,7 +19,7 @@ enum Part<'a> {
 /// number, which lie here: so a computed text is never copied.
 #[derive(Drop)]
 pub struct Joined<'a> {
-    parts: [Part<'a>; 9],
+    parts: [TextPart<'a>; 9],
     count: u32,
     len: u32,
 }
@@ -53,8 +53,8 @@ impl<'a> Joined<'a> {
             return None;
         }
         match &self.parts[k as usize] {
-            Part::Text(text) => Some(text),
-            Part::Number(digits) => Some(digits.bytes()),
+            TextPart::Text(text) => Some(text),
+            TextPart::Number(digits) => Some(digits.bytes()),
         }
     }
 
@@ -63,7 +63,7 @@ impl<'a> Joined<'a> {
         ensures { result ≡ [] }
     {
         Joined {
-            parts: [Part::Text(b""); 9],
+            parts: [TextPart::Text(b""); 9],
             count: 0,
             len: 0,
         }
@@ -75,7 +75,7 @@ impl<'a> Joined<'a> {
         requires short { length text.now ≤ max_data }
         ensures { self.new ≡ self.old ++ text.now ∷ [] }
     {
-        self.parts[self.count as usize] = Part::Text(text);
+        self.parts[self.count as usize] = TextPart::Text(text);
         self.count += 1;
         self.len += text.len() as u32;
     }
@@ -86,7 +86,7 @@ impl<'a> Joined<'a> {
         ensures { self.new ≡ self.old ++ decimal number ∷ [] }
     {
         let digits = digits_in(number);
-        self.parts[self.count as usize] = Part::Number(digits);
+        self.parts[self.count as usize] = TextPart::Number(digits);
         self.count += 1;
         self.len += 20 - digits.start as u32;
     }

@@ -13,7 +13,7 @@ mod key_iter;
 mod kind;
 mod labels;
 mod needed;
-mod numbers;
+pub mod numbers;
 mod stored;
 mod tag;
 #[cfg(test)]

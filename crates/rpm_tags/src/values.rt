@@ -42,11 +42,11 @@ pub struct TagValue<'a> {
 
 impl<'a> Model for TagValue<'a> {
     ghost use Rattle.rpm_tags.specs.Value.{Elements};
-    ghost use Rattle.rpm_tags.specs.inner.Shown.{shown};
+    ghost use Rattle.rpm_tags.specs.inner.SourceElements.{source_elements};
 
     ghost Value = { Elements };
 
-    ghost view = { λ s. shown s.source };
+    ghost view = { λ s. source_elements s.source };
 }
 
 impl<'a> TagValue<'a> {

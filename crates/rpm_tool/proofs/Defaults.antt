@@ -11,7 +11,7 @@ use Rattle.rpm_tags.specs.Value.{stored, texts_in, numbers_in, first_text}
 use Rattle.rpm_qfparse.specs.declared.tree.Role.TheVariants.{Element}
 use Rattle.rpm_qfparse.specs.declared.tree.Show.TheVariants.{Plain}
 use Rattle.rpm_qfparse.specs.declared.tree.TagPart.{TagPart}
-use Rattle.rpm_qfparse.specs.Tree.{Tree, End, Text, Shown, Bracket, Condition}
+use Rattle.rpm_qfparse.specs.Tree.{Tree, End, Text, Tagged, Bracket, Condition}
 use Rattle.rpm_qfparse.specs.Tag.{number_of, after_number, table, show_in, tag_part}
 use Rattle.rpm_qfparse.specs.Moves.{condition, move_of}
 use Rattle.rpm_qfparse.specs.Format.{format, reading}
@@ -27,7 +27,7 @@ whole tag = record { tag = tag; role = Element; left = false; width = 0; show = 
 
 -- and a line's end behind it
 line_of : Tag → Tree
-line_of tag = Shown (whole tag) (Text (codes "\n") End)
+line_of tag = Tagged (whole tag) (Text (codes "\n") End)
 
 label : format label_format ≡ Ok (line_of Nvra)
 unfolding whole line_of label_format format reading move_of condition tag_part number_of after_number table show_in name.table name.tag_in
@@ -63,7 +63,7 @@ needy = record {
 }
 
 both : Tree
-both = Bracket (Shown (whole (Stored 1000)) (Shown (whole (Stored 1049)) End)) End
+both = Bracket (Tagged (whole (Stored 1000)) (Tagged (whole (Stored 1049)) End)) End
 
 differs : (meaning needy 2 both ≡ Err (1, 2))
     × (step_of both 2 (Good needy) ≡ ToErr (bearer 2) (codes "error: incorrect format: array iterator used with different sized arrays\n"))

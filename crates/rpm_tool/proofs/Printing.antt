@@ -4,7 +4,7 @@ use Rattle.std.specs.Prelude.{IsTrue, []}
 use Rattle.rpm_outside.specs.declared.buffered.Buffered.{Buffered}
 use Rattle.rpm_outside.specs.Sinks.{Begins, Writes}
 use Rattle.rpm_outside.specs.Buffered.{inner, holds, all_taken, GoesOn, Flushes}
-use Rattle.rpm_outside.specs.Flushed.{stopped, flushed}
+use Rattle.rpm_outside.specs.inner.Flushed.{stopped, flushed}
 use Rattle.rpm_qfeval.specs.declared.printing.DirectFault.{DirectFault}
 use Rattle.rpm_qfeval.specs.declared.printing.DirectFault.TheVariants.{SizesDiffer, OutFault}
 use Rattle.rpm_qfeval.specs.Printed.{Done, Differs, Fails, EndsSo, Prints, ending}

@@ -6,7 +6,7 @@ use Rattle.std.specs.List.{flat_map, list_any}
 use Rattle.std.specs.FinMap as finite
 use Rattle.std.proofs.lemmas.Grind.{flat_map-append}
 use Rattle.rpm_outside.specs.Files.{Units}
-use Rattle.rpm_outside.specs.Taken.{gained_none, gained_more}
+use Rattle.rpm_outside.specs.inner.Taken.{gained_none, gained_more}
 use Rattle.rpm_pkgdb.specs.Store.{Store}
 use Rattle.rpm_pkgdb.specs.Slots.{slot_with}
 use Rattle.rpm_qfparse.specs.Tree.{Tree}

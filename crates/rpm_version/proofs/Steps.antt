@@ -54,8 +54,8 @@ module _ (a b s t : List ℕ) (p q : Piece) (r : Ordering)
       let f : q ≡ piece.End = end_at q (sym (same h) ∙ ap segment_at e) in
       tied r h ∙ sym (step ∙ (λ i. ordering_then (tied r h i) (slice_cmp segment_order (segments_behind (e i) s) (segments_behind (f i) t))))
 
-  pub goes_on : is_ne r ≡ false → p ≢ piece.End → version_order a b ≡ version_order s t
+  pub decided_behind : is_ne r ≡ false → p ≢ piece.End → version_order a b ≡ version_order s t
   unfolding version_order
-  goes_on h n =
+  decided_behind h n =
       let m : q ≢ piece.End = λ e. n (end_at p (same h ∙ ap segment_at e)) in
       step ∙ (λ i. ordering_then (tied r h i) (slice_cmp segment_order (behind p s n i) (behind q t m i)))

@@ -3,7 +3,8 @@ use Rattle.std.specs.Prelude.{◌≡◌, ℕ, ◌<◌, Bool, false, List, [], �
 use Rattle.std.proofs.Common.{ap, ◌∙◌, append_assoc}
 use Rattle.rpm_file.specs.declared.fault.ListFault.{ListFault}
 use Rattle.rpm_file.specs.declared.fault.ListFault.TheVariants as fault
-use Rattle.rpm_file.specs.Browsing.{left, Takes, takes_then}
+use Rattle.rpm_outside.specs.Browses.{left, Takes}
+use Rattle.rpm_outside.specs.inner.Browsing.{takes_then}
 
 -- what comes from elsewhere than the bytes
 abbrev pub IsOutside : ListFault → Type 0

@@ -5,8 +5,8 @@ use Rattle.rpm_header.specs.Header.{Header, header}
 use Rattle.rpm_file.specs.declared.fault.ListFault.{ListFault}
 use Rattle.rpm_file.specs.declared.fault.FileFault.{FileFault}
 use Rattle.rpm_file.specs.declared.fault.FileFault.TheVariants as of_file
-use Rattle.rpm_file.specs.declared.fault.Part.{Part}
-use Rattle.rpm_file.specs.Browsing.{left, Takes}
+use Rattle.rpm_file.specs.declared.fault.HeaderKind.{HeaderKind}
+use Rattle.rpm_outside.specs.Browses.{left, Takes}
 use Rattle.rpm_file.specs.List.{front_header}
 use Rattle.rpm_file.specs.Package.{headed, read_again}
 use Rattle.rpm_file.specs.Answers.{IsListFault, IsFileFault}
@@ -29,7 +29,7 @@ AnswersSkip behind old new (Ok done) = behind (left old) ≡ Ok (left new)
 AnswersSkip behind old new (Err fault) = IsFileFault (behind (left old)) fault
 
 -- the bytes of one of the two headers are taken
-abbrev pub AnswersPart : Part → Option (List ℕ) → Option (List ℕ) → Result (Vec ℕ Global) FileFault → Type 0
+abbrev pub AnswersPart : HeaderKind → Option (List ℕ) → Option (List ℕ) → Result (Vec ℕ Global) FileFault → Type 0
 AnswersPart part old new (Ok blob) = front_header (left old) ≡ Ok (record { blob = blob.items; rest = left new })
 AnswersPart part old new (Err fault) = IsFileFault (headed part (left old)) fault
 

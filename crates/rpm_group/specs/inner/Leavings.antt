@@ -2,7 +2,7 @@
 use Rattle.std.specs.Prelude.{◌≡◌, List}
 use Rattle.rpm_outside.specs.Files.{Files}
 use Rattle.rpm_outside.specs.Logs.{Entry, reopened}
-use Rattle.rpm_outside.specs.EntryLaws.{Within}
+use Rattle.rpm_outside.specs.Entries.{Within}
 
 -- it is one of these images in which some of the entries may have been written
 abbrev pub WasWithin : List Entry → (Files → Type 0) → Files → Type 0

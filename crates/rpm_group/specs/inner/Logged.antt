@@ -3,7 +3,7 @@ use Rattle.std.specs.Prelude.{◌≡◌, ℕ, ◌-◌, ◌<◌, ◌≤◌, List,
 use Rattle.rpm_outside.specs.declared.disk.File.{File}
 use Rattle.rpm_outside.specs.Files.{Files, file_of, unit_at}
 use Rattle.rpm_outside.specs.Logs.{Entry, with_entries}
-use Rattle.rpm_outside.specs.EntryLaws.{Covers}
+use Rattle.rpm_outside.specs.Entries.{Covers}
 use Rattle.rpm_group.specs.Held.{Table, unit_over}
 use Rattle.rpm_group.specs.Counts.{is_held, begins_run, count_below}
 use Rattle.rpm_group.specs.inner.HeldUnits.{units_held}

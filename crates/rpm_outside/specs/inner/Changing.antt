@@ -4,12 +4,12 @@ use Rattle.std.specs.Prelude.{IsTrue}
 use Rattle.rpm_outside.specs.declared.disk.File.{File}
 use Rattle.rpm_outside.specs.declared.disk.File.TheVariants.{Pkg, Idx, Log}
 use Rattle.rpm_outside.specs.Files.{Units, Files, file_of}
-use Rattle.rpm_outside.specs.Crash.{Torn, TornFile, Follows, Elapses, LeavesOnly}
-use Rattle.rpm_outside.specs.History.{torn_none}
+use Rattle.rpm_outside.specs.Crash.{Torn, TornFile, OnlyAfter, Elapses, LeavesOnly}
+use Rattle.rpm_outside.specs.inner.History.{torn_none}
 use Rattle.rpm_outside.specs.Looks.{Looks}
 use Rattle.rpm_outside.specs.Changes.{OnlyIn, Changed, Stops, Changes}
 use Rattle.rpm_outside.specs.inner.Looking.{read_none, read_same, read_then, read_more}
-use Rattle.rpm_outside.specs.inner.Moments.{started, goes_on, leaves_then, leaves_weaker}
+use Rattle.rpm_outside.specs.inner.Moments.{started, one_more, leaves_then, leaves_weaker}
 
 only_none : (file f : File) (R : Units → Units → Type 0) → ((a : Units) → R a a) → (a : Units) → OnlyIn file R f a a
 only_none Pkg Pkg R same a = same a
@@ -170,7 +170,7 @@ module _ {D : Type 0} (tells : Bool) (files : D → Files) (left_since : D → �
 
   -- one write, whole or cut short
   pub changes_write : (at : ℕ) (units : Units) (a b : D) → (IsTrue tells → TornFile file at units (files a) (files b))
-      → (IsTrue tells → Follows (TornFile file at units) (images a) (images b))
+      → (IsTrue tells → OnlyAfter (TornFile file at units) (images a) (images b))
       → (IsTrue tells → Elapses (moment a) (moment b) (left_since a) (left_since b)) → ((f : File) → bytes_read b f ≡ bytes_read a f) → follows a b
       → Run (Torn at units) 0 a b
   changes_write at units a b torn left time reads goes =
@@ -182,7 +182,7 @@ module _ {D : Type 0} (tells : Bool) (files : D → Files) (left_since : D → �
         log = λ told. only_torn file Log at units (files a) (files b) (torn told);
         now = now;
         any_moment = λ told.
-            goes_on moment left_since a a b (Changed file (Torn at units) (images a))
+            one_more moment left_since a a b (Changed file (Torn at units) (images a))
             (started moment left_since a (Changed file (Torn at units) (images a)) (λ image here. changed_none file (Torn at units) (images a) image
             (torn_none at units) here))
             (time told) (now told);
@@ -207,7 +207,7 @@ module _ {D : Type 0} (tells : Bool) (files : D → Files) (left_since : D → �
         log = λ told. only_files R same Log (files a) (files b) (files_same told);
         now = now;
         any_moment = λ told.
-            goes_on moment left_since a a b (Changed file R (images a))
+            one_more moment left_since a a b (Changed file R (images a))
             (started moment left_since a (Changed file R (images a)) (λ image here. changed_none file R (images a) image same here))
             (time told) (now told);
         reads = read_same file 0 (bytes_read a) (bytes_read b) reads;

@@ -4,7 +4,7 @@ use Rattle.std.proofs.Common.{inl, inr, ⊎_elim, sym, subst, arith}
 use Rattle.rpm_outside.specs.declared.disk.File.{File}
 use Rattle.rpm_outside.specs.Files.{Files}
 use Rattle.rpm_outside.specs.Crash.{LeavesOnly, Untouched, Elapses}
-use Rattle.rpm_outside.specs.inner.Moments.{leaves_then, leaves_weaker, goes_on}
+use Rattle.rpm_outside.specs.inner.Moments.{leaves_then, leaves_weaker, one_more}
 use Rattle.rpm_outside.specs.Changed.{WasChanged, LeavesChanged}
 
 module _ {D : Type 0} (moment : D → ℕ) (left_since : D → ℕ → Files → Type 0) where
@@ -44,7 +44,7 @@ module _ {D : Type 0} (moment : D → ℕ) (left_since : D → ℕ → Files →
       → ((image : Files) → left_since new (moment new) image → left_since mid (moment mid) image)
       → ((image : Files) → left_since mid (moment mid) image → left_since mid (moment old) image)
       → LeavesOnly moment left_since old new P
-  sync_leaves old mid new P run time images earlier = goes_on moment left_since old mid new P run time
+  sync_leaves old mid new P run time images earlier = one_more moment left_since old mid new P run time
       (λ image left. run.each image (earlier image (images image left)))
 
   -- calls that leave what was left before them

@@ -4,13 +4,13 @@ use Rattle.std.proofs.Common.{inl, inr, ⊎_elim, refl, sym, ap, subst, ◌∙�
 use Rattle.std.proofs.lemmas.Bool.{cases_Bool}
 use Rattle.rpm_outside.specs.declared.disk.File.{File}
 use Rattle.rpm_outside.specs.declared.disk.File.TheVariants.{Pkg, Idx, Log}
-use Rattle.rpm_outside.specs.Files.{Units, Files, file_of, with_file, unit_at, put}
+use Rattle.rpm_outside.specs.Files.{Units, Files, file_of, with_file, unit_at, put, cases_file}
 use Rattle.rpm_outside.specs.Crash.{TornFile}
 use Rattle.rpm_outside.specs.inner.Puts.{length-put, put_inside, put_after}
 use Rattle.rpm_outside.specs.inner.PutLaws.{same_units}
-use Rattle.rpm_outside.specs.Literal.{cases_file}
 use Rattle.rpm_outside.specs.Logs.{Entry, LogState, Closed, Malformed, Open, word, is_head, is_blank, is_gate, entry_at, before, heads, log_state, with_entry, with_entries, with_state, unlogged, reopened}
-use Rattle.rpm_outside.specs.EntryLaws.{Covers, Within, ends_in, end_in, within_same, written_within}
+use Rattle.rpm_outside.specs.Entries.{Covers, Within, ends_in, end_in}
+use Rattle.rpm_outside.specs.inner.EntryLaws.{within_same, written_within}
 
 -- no entry is written to the log
 abbrev pub NotLog : List Entry → Type 0

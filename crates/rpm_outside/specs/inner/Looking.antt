@@ -1,10 +1,9 @@
 -- Runs of calls that only read, one after the other.
 use Rattle.std.proofs.Common.{◌≡◌, ℕ, ◌+◌, ◌-◌, ◌≤◌, Bool, refl, ◌∙◌, arith}
-use Rattle.std.specs.Prelude.{IsTrue}
 use Rattle.rpm_outside.specs.declared.disk.File.{File}
 use Rattle.rpm_outside.specs.declared.disk.File.TheVariants.{Pkg, Idx, Log}
 use Rattle.rpm_outside.specs.Files.{Files}
-use Rattle.rpm_outside.specs.Crash.{Untouched, bytes_for}
+use Rattle.rpm_outside.specs.Crash.{bytes_for}
 use Rattle.rpm_outside.specs.Looks.{ReadAtMost, Looks, LooksAt}
 
 bytes_sum : (file f : File) (m n most : ℕ) → m + n ≤ most → bytes_for file f m + bytes_for file f n ≤ bytes_for file f most

@@ -9,10 +9,10 @@ module _ {D : Type 0} (moment : D → ℕ) (left_since : D → ℕ → Files →
   started old P here = record { later = omega arith; each = here; before = λ t image le left. inl left }
 
   -- one call more, after which a stop leaves what has P
-  pub goes_on : (old mid new : D) (P : Files → Type 0) → LeavesOnly moment left_since old mid P → Elapses (moment mid) (moment new) (left_since mid)
+  pub one_more : (old mid new : D) (P : Files → Type 0) → LeavesOnly moment left_since old mid P → Elapses (moment mid) (moment new) (left_since mid)
       (left_since new)
       → ((image : Files) → left_since new (moment new) image → P image) → LeavesOnly moment left_since old new P
-  goes_on old mid new P so_far time here = record {
+  one_more old mid new P so_far time here = record {
     later = omega (arith, so_far.later, time.later);
     each = λ image left. ⊎_elim (so_far.each image) (here image) (time.nothing_else (moment old) image so_far.later left);
     before = λ t image le left. ⊎_elim (so_far.before t image le) (λ now. inr (here image now))

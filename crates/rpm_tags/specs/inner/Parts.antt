@@ -3,26 +3,26 @@ use Rattle.std.specs.Prelude.{◌≡◌, ℕ, ◌≤◌, ◌*◌, List, drop, ta
 use Rattle.std.specs.List.{concat}
 use Rattle.rpm_header.specs.Header.{max_data}
 use Rattle.rpm_tags.specs.declared.digits.Digits.{Digits}
-use Rattle.rpm_tags.specs.declared.joined.Part.{Part}
-use Rattle.rpm_tags.specs.declared.joined.Part.TheVariants as part
+use Rattle.rpm_tags.specs.declared.joined.TextPart.{TextPart}
+use Rattle.rpm_tags.specs.declared.joined.TextPart.TheVariants as part
 
 abbrev pub digits_of : Digits → List ℕ
 digits_of d = drop d.start d.bytes
 
-abbrev pub bytes_of : Part → List ℕ
+abbrev pub bytes_of : TextPart → List ℕ
 bytes_of (part.Text text) = text.now
 bytes_of (part.Number digits) = digits_of digits
 
 -- the digits of a number lie within their bytes
-abbrev pub IsPart : Part → Type 0
+abbrev pub IsPart : TextPart → Type 0
 IsPart (part.Text text) = Unit {0}
 IsPart (part.Number digits) = digits.start ≤ 20
 
 -- so many of them
-abbrev pub parts_of : ℕ → List Part → List (List ℕ)
+abbrev pub parts_of : ℕ → List TextPart → List (List ℕ)
 parts_of count parts = take count (map bytes_of parts)
 
-pub record IsJoined (count len : ℕ) (parts : List Part) : Type 0 where
+pub record IsJoined (count len : ℕ) (parts : List TextPart) : Type 0 where
   pub nine : length parts ≡ 9
   pub fit : All IsPart parts
   pub room : count ≤ 9

@@ -1,5 +1,5 @@
 use Rattle.std.proofs.Common.{arith}
-use Rattle.rpm_file.specs.Browsing.{browses_then}
+use Rattle.rpm_outside.specs.inner.Browsing.{browses_then}
 use Rattle.rpm_file.specs.inner.Filling.{extends_then}
 use Rattle.rpm_file.proofs.filling.append_upto.Goals as goal
 

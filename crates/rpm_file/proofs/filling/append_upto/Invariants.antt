@@ -1,6 +1,6 @@
 use Rattle.std.proofs.Common.{◌≤◌, ◌-◌, vec_len}
 use Rattle.std.specs.Prelude.{IsTrue}
-use Rattle.rpm_file.specs.Browsing.{Browses}
+use Rattle.rpm_outside.specs.Browses.{Browses}
 use Rattle.rpm_file.specs.inner.Filling.{Extends}
 use Rattle.rpm_file.proofs.filling.append_upto.Given as goal
 

@@ -1,5 +1,5 @@
 use Rattle.std.proofs.Common.{arith}
-use Rattle.rpm_file.specs.Browsing.{browses_then}
+use Rattle.rpm_outside.specs.inner.Browsing.{browses_then}
 use Rattle.rpm_file.proofs.Listed.{short_fill}
 use Rattle.rpm_file.proofs.list.next_header.Goals as goal
 

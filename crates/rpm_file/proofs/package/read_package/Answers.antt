@@ -1,8 +1,9 @@
 use Rattle.std.proofs.Common.{ap, ◌∙◌}
 use Rattle.std.proofs.lemmas.Result.{err_from_is_err_and}
 use Rattle.rpm_header.specs.Header.{header}
-use Rattle.rpm_file.specs.declared.fault.Part.TheVariants as part
-use Rattle.rpm_file.specs.Browsing.{left, browses_then}
+use Rattle.rpm_file.specs.declared.fault.HeaderKind.TheVariants as part
+use Rattle.rpm_outside.specs.Browses.{left}
+use Rattle.rpm_outside.specs.inner.Browsing.{browses_then}
 use Rattle.rpm_file.specs.Package.{behind_lead, package_header, headed}
 use Rattle.rpm_file.proofs.Joined.{passed, lead_fault, signature_fault, signature_bad, signature_good, whole_answers}
 use Rattle.rpm_file.proofs.package.read_package.Goals as goal

@@ -4,7 +4,7 @@ use Rattle.rpm_outside.specs.Crash.{LeavesOnly}
 use Rattle.rpm_outside.specs.inner.Moments.{leaves_then, leaves_weaker}
 use Rattle.rpm_outside.specs.inner.Leaves.{then_back}
 use Rattle.rpm_outside.specs.Logs.{Entry}
-use Rattle.rpm_outside.specs.EntryLaws.{within_then}
+use Rattle.rpm_outside.specs.inner.EntryLaws.{within_then}
 use Rattle.rpm_group.specs.inner.Leavings.{WasWithin}
 use Rattle.rpm_group.proofs.commit.apply_held.Goals as goal
 

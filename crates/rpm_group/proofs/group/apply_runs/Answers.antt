@@ -2,7 +2,7 @@ use Rattle.std.proofs.Common.{◌≡◌, ℕ, ◌+◌, ◌-◌, ◌<◌, ◌++�
 use Rattle.rpm_outside.specs.Files.{Files}
 use Rattle.rpm_outside.specs.inner.Moments.{started}
 use Rattle.rpm_outside.specs.Logs.{with_entry}
-use Rattle.rpm_outside.specs.EntryLaws.{within_none}
+use Rattle.rpm_outside.specs.inner.EntryLaws.{within_none}
 use Rattle.rpm_group.specs.LogReads.{nothing_none, nothing_then}
 use Rattle.rpm_group.specs.inner.Logged.{Logged, run_entry}
 use Rattle.rpm_group.specs.inner.Leavings.{WasWithin}

@@ -1,7 +1,8 @@
 use Rattle.std.proofs.Common.{◌≡◌, ℕ, ◌+◌, ◌-◌, ◌<◌, ◌≤◌, ◌^◌, ◌++◌, ◌∷◌, [], length, refl, sym, ap, subst, arith}
 use Rattle.rpm_outside.specs.declared.disk.File.TheVariants.{Log}
 use Rattle.rpm_outside.specs.Files.{Files}
-use Rattle.rpm_outside.specs.Changed.{LeavesChanged, leaves_none, changed_none, changed_then, changed_leaves_then, changed_leaves_more}
+use Rattle.rpm_outside.specs.Changed.{LeavesChanged}
+use Rattle.rpm_outside.specs.inner.ChangedLaws.{leaves_none, changed_none, changed_then, changed_leaves_then, changed_leaves_more}
 use Rattle.rpm_group.specs.Held.{Table}
 use Rattle.rpm_group.specs.Counts.{begins_run, count_below, log_units}
 use Rattle.rpm_group.specs.LogReads.{nothing_none, nothing_then}

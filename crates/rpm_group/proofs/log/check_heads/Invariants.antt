@@ -1,6 +1,6 @@
 use Rattle.std.proofs.Common.{◌≡◌, ◌+◌, ◌-◌, ◌≤◌, IsTrue, List}
 use Rattle.rpm_outside.specs.Logs.{Entry, heads}
-use Rattle.rpm_outside.specs.LogRules.{after}
+use Rattle.rpm_outside.specs.inner.LogRules.{after}
 use Rattle.rpm_group.specs.inner.LogReadings.{heads_behind}
 use Rattle.rpm_outside.specs.declared.disk.File.TheVariants.{Log}
 use Rattle.rpm_outside.specs.Looks.{LooksAt}

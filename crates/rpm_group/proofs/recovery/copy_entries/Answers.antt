@@ -3,7 +3,7 @@ use Rattle.rpm_outside.specs.declared.disk.File.TheVariants.{Pkg, Idx}
 use Rattle.rpm_outside.specs.Files.{Files}
 use Rattle.rpm_outside.specs.inner.Moments.{started}
 use Rattle.rpm_outside.specs.Logs.{heads}
-use Rattle.rpm_outside.specs.EntryLaws.{within_none}
+use Rattle.rpm_outside.specs.inner.EntryLaws.{within_none}
 use Rattle.rpm_outside.specs.inner.Leaves.{then_look}
 use Rattle.rpm_group.specs.declared.log.Head.{Head}
 use Rattle.rpm_group.specs.LogReads.{reads_none, reads_then}

@@ -1,7 +1,7 @@
 use Rattle.std.proofs.Common.{◌≡◌, ℕ, ◌+◌, ◌/◌, List, length, ap, arith}
 use Rattle.rpm_outside.specs.Files.{units_of}
 use Rattle.rpm_outside.specs.inner.Cuts.{length-cut_up}
-use Rattle.rpm_outside.specs.Changed.{write_leaves}
+use Rattle.rpm_outside.specs.inner.ChangedLaws.{write_leaves}
 use Rattle.rpm_outside.specs.inner.Leaves.{changed_after_look}
 use Rattle.rpm_group.proofs.recovery.copy_piece.Goals as goal
 

@@ -1,8 +1,8 @@
 use Rattle.std.proofs.Common.{◌≡◌, ℕ, ◌+◌, ◌-◌, ◌*◌, ◌/◌, ◌≤◌, List, length, take, refl, ap, ◌∙◌, arith}
 use Rattle.std.proofs.lemmas.List.{length-take}
 use Rattle.rpm_outside.specs.Files.{Files, file_of, with_file, put}
-use Rattle.rpm_outside.specs.History.{with_itself}
-use Rattle.rpm_outside.specs.Changed.{leaves_none, changed_leaves_then, changed_leaves_more}
+use Rattle.rpm_outside.specs.inner.FileLaws.{with_itself}
+use Rattle.rpm_outside.specs.inner.ChangedLaws.{leaves_none, changed_leaves_then, changed_leaves_more}
 use Rattle.rpm_outside.specs.inner.PutMore.{put_some}
 use Rattle.rpm_group.specs.LogReads.{nothing_none, nothing_then}
 use Rattle.rpm_group.specs.inner.HeldUnits.{units_held}

@@ -1,8 +1,8 @@
 use Rattle.std.proofs.Common.{◌≡◌, ℕ, ◌+◌, ◌-◌, ◌/◌, length, refl, ap, ◌∙◌, arith}
 use Rattle.rpm_outside.specs.Files.{Units, Files, file_of, with_file, units_of, put}
-use Rattle.rpm_outside.specs.History.{with_itself}
+use Rattle.rpm_outside.specs.inner.FileLaws.{with_itself}
 use Rattle.rpm_outside.specs.inner.Cuts.{length-cut_up}
-use Rattle.rpm_outside.specs.Changed.{leaves_none}
+use Rattle.rpm_outside.specs.inner.ChangedLaws.{leaves_none}
 use Rattle.rpm_outside.specs.inner.PutMore.{put_some}
 use Rattle.rpm_group.specs.LogReads.{nothing_none, nothing_then}
 use Rattle.rpm_group.specs.inner.HeldUnits.{units_held}

@@ -1,7 +1,7 @@
 use Rattle.std.proofs.Common.{◌≡◌, ℕ, ◌+◌, ◌/◌, List, length, refl, ap, ◌∙◌, arith}
 use Rattle.rpm_outside.specs.Files.{Units, Files, file_of, with_file, units_of, put}
 use Rattle.rpm_outside.specs.inner.Cuts.{length-cut_up}
-use Rattle.rpm_outside.specs.Changed.{write_leaves}
+use Rattle.rpm_outside.specs.inner.ChangedLaws.{write_leaves}
 use Rattle.rpm_group.proofs.Runs.{gathered_units}
 use Rattle.rpm_group.proofs.writes.write_piece.Goals as goal
 

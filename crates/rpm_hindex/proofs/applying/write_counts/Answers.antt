@@ -1,4 +1,4 @@
-use Rattle.rpm_hindex.proofs.Writes.{seal_sync}
+use Rattle.rpm_hindex.proofs.TornWrites.{seal_sync}
 use Rattle.rpm_hindex.proofs.applying.write_counts.Goals as goal
 
 pub returns-clause-changes : goal.returns-clause-changes

@@ -2,7 +2,7 @@ use Rattle.std.proofs.Common.{arith}
 use Rattle.rpm_outside.specs.declared.disk.File.TheVariants.{Idx}
 use Rattle.rpm_outside.specs.inner.Changing.{changes_weaker}
 use Rattle.rpm_hindex.specs.Images.{SameSeal}
-use Rattle.rpm_hindex.proofs.Writes.{torn_behind}
+use Rattle.rpm_hindex.proofs.TornWrites.{torn_behind}
 use Rattle.rpm_hindex.proofs.applying.write_patch.Goals as goal
 
 pub returns-clause-changes : goal.returns-clause-changes

@@ -1,7 +1,7 @@
 use Rattle.std.proofs.Common.{◌∷◌, [], ap, sym, ◌∙◌, arith}
 use Rattle.rpm_outside.specs.Files.{Units, put}
 use Rattle.rpm_hindex.specs.Plans.{patch_at}
-use Rattle.rpm_hindex.proofs.Writes.{seal_then}
+use Rattle.rpm_hindex.proofs.TornWrites.{seal_then}
 use Rattle.rpm_hindex.proofs.Patched.{after_next}
 use Rattle.rpm_hindex.proofs.applying.write_patches.Goals as goal
 

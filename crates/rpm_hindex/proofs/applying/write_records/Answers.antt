@@ -1,4 +1,4 @@
-use Rattle.rpm_hindex.proofs.Writes.{seal_then}
+use Rattle.rpm_hindex.proofs.TornWrites.{seal_then}
 use Rattle.rpm_hindex.proofs.applying.write_records.Goals as goal
 
 pub returns-clause-changes : goal.returns-clause-changes

@@ -4,7 +4,7 @@ use Rattle.rpm_outside.specs.Sinks.{Writes}
 use Rattle.rpm_qfparse.specs.Shape.{parts_of}
 use Rattle.rpm_qfeval.specs.Meaning.{bytes, rounds, counts}
 use Rattle.rpm_qfeval.proofs.Walked.{bytes_start, bytes_here, bytes_end, round_start, round_here, round_end}
-use Rattle.rpm_outside.specs.Upto.{upto_start, upto_more, upto_stop, upto_done}
+use Rattle.rpm_outside.specs.inner.Upto.{upto_start, upto_more, upto_stop, upto_done}
 use Rattle.rpm_qfeval.proofs.writing.+writing.Goals as goal
 
 pub put_parts-loop-i-init : goal.put_parts-loop-i-init

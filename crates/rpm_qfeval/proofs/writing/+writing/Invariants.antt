@@ -3,7 +3,7 @@ use Rattle.std.specs.List.{concat, range_with_len}
 use Rattle.rpm_qfparse.specs.Tree.{weight}
 use Rattle.rpm_qfparse.specs.Shape.{parts_of, tree_of, load}
 use Rattle.rpm_qfeval.specs.Meaning.{bytes}
-use Rattle.rpm_outside.specs.Upto.{Upto}
+use Rattle.rpm_outside.specs.inner.Upto.{Upto}
 use Rattle.rpm_qfeval.proofs.writing.+writing.Given as goal
 
 abbrev pub decreases-put_bracket : goal.decreases-put_bracket

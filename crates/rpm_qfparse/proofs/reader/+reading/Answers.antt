@@ -2,8 +2,8 @@ use Rattle.std.proofs.Common.{ℕ, ◌+◌, ◌<◌, ◌≤◌, Ok, Err, true, s
 use Rattle.std.proofs.lemmas.Result.{err_from_is_err_and}
 use Rattle.rpm_qfparse.specs.declared.moves.Context.TheVariants as context
 use Rattle.rpm_qfparse.specs.declared.fault.Stop.TheVariants as stop
-use Rattle.rpm_qfparse.specs.Tree.{End, Shown, Bracket, Condition}
-use Rattle.rpm_qfparse.specs.Seen.{seen_fault}
+use Rattle.rpm_qfparse.specs.Tree.{End, Tagged, Bracket, Condition}
+use Rattle.rpm_qfparse.specs.Bare.{bare_fault}
 use Rattle.rpm_qfparse.specs.Format.{Gives, Branches, behind, with_byte, ends, stops, literal, tag, bracket, in_bracket, condition, in_condition, one, two, in_first, between, in_second, behind_second}
 use Rattle.rpm_qfparse.specs.Draft.{after}
 use Rattle.rpm_qfparse.proofs.Drafts.{behind_behind}
@@ -56,7 +56,7 @@ pub read-returns-in-Ends : goal.read-returns-in-Ends
 read-returns-in-Ends t c = rw c.in_ok-finish-in-Ends.ensures (c.loop-behind.invariant (Ok (End, c.in-Ends.behind.now)) (ends (sym c.in-Ends.ensures.value)))
 
 pub read-returns-in-Stops : goal.read-returns-in-Stops
-read-returns-in-Stops t c = c.loop-behind.invariant (Err (seen_fault c.in-Stops.fault)) (stops (sym c.in-Stops.ensures.value))
+read-returns-in-Stops t c = c.loop-behind.invariant (Err (bare_fault c.in-Stops.fault)) (stops (sym c.in-Stops.ensures.value))
 
 pub read-loop-behind-smaller-in-Literal : goal.read-loop-behind-smaller-in-Literal
 read-loop-behind-smaller-in-Literal t c = moved _ _ _ _ _ (sym c.in-Literal.ensures.value)
@@ -74,8 +74,8 @@ read-loop-behind-smaller-in-Shows t c = moved _ _ _ _ _ (sym c.in-Shows.ensures.
 pub read-loop-behind-preserved-in-Shows : goal.read-loop-behind-preserved-in-Shows
 read-loop-behind-preserved-in-Shows t c = λ a g.
     subst (Gives c.args.context c.args.in_bracket c.args.depth c.args.text.now)
-    (behind_behind (after c.push.new.self) (Shown c.in-Shows.part) (after c.loop-behind.draft) (λ rest. sym (c.in_ok-push-in-Shows.ensures rest)) a)
-    (c.loop-behind.invariant (behind (Shown c.in-Shows.part) a) (tag (sym c.in-Shows.ensures.value) g))
+    (behind_behind (after c.push.new.self) (Tagged c.in-Shows.part) (after c.loop-behind.draft) (λ rest. sym (c.in_ok-push-in-Shows.ensures rest)) a)
+    (c.loop-behind.invariant (behind (Tagged c.in-Shows.part) a) (tag (sym c.in-Shows.ensures.value) g))
 
 pub read-returns-in_err-parts-in-Opens : goal.read-returns-in_err-parts-in-Opens
 read-returns-in_err-parts-in-Opens t c =

@@ -1,6 +1,6 @@
 use Rattle.std.proofs.Common.{◌∙◌, Ok, Err, false, sym, ap, subst}
 use Rattle.rpm_qfparse.specs.Law.{IsProper}
-use Rattle.rpm_qfparse.specs.Seen.{seen_fault}
+use Rattle.rpm_qfparse.specs.Bare.{bare_fault}
 use Rattle.rpm_qfparse.proofs.Law.{format_placed}
 use Rattle.rpm_qfparse.proofs.Proper.{proper}
 use Rattle.rpm_qfparse.proofs.Unique.{left}
@@ -19,7 +19,7 @@ returns-in-Ok-clause-proper c = subst (IsProper false 0) (sym c.new.ensures) (pr
 pub returns-in-Err-Fault-clause-format : goal.returns-in-Err-Fault-clause-format
 returns-in-Err-Fault-clause-format c = λ _.
     let g = rw c.in-Err-Fault.field-0-is at c.in-Err-Fault.ensures in
-    format_placed c.args.text.now (Err (seen_fault c.in-Err-Fault.fault)) c.if-text.false g
+    format_placed c.args.text.now (Err (bare_fault c.in-Err-Fault.fault)) c.if-text.false g
 
 pub returns-in-Err-Fault-clause-memory : goal.returns-in-Err-Fault-clause-memory
 returns-in-Err-Fault-clause-memory c = λ e. let g = rw c.in-Err-Fault.field-0-is at c.in-Err-Fault.ensures in absurd (proper g e)

@@ -3,7 +3,7 @@ use Rattle.std.specs.Ordering.{is_ne}
 use Rattle.std.proofs.lemmas.Bool.{false≢true}
 use Rattle.rpm_version.specs.declared.segment.Piece.TheVariants as piece
 use Rattle.rpm_version.proofs.Laws.{any_two_compare, converse, transitive, ties}
-use Rattle.rpm_version.proofs.Steps.{differs, ends, goes_on}
+use Rattle.rpm_version.proofs.Steps.{differs, ends, decided_behind}
 use Rattle.rpm_version.proofs.order.compare.Goals as goal
 use Rattle.rpm_version.proofs.order.compare.Goals.{then-is_ne-via-then-is_ne, then-is_ne-via-else-is_ne+then-is_end}
 
@@ -40,7 +40,7 @@ loop-left-preserved c =
     let q = c.next_piece-in-loop-left.ensures.first in
     let eq : is_ne c.compare_pieces-order.result ≡ false = sym c.is_ne.ensures ∙ c.if-is_ne.false in
     let more : c.next_piece.result.0 ≢ piece.End = λ e. false≢true (c.if-is_end.ensures.1 e) in
-    c.loop-left.invariant ∙ goes_on _ _ _ _ _ _ _ p q c.compare_pieces-order.ensures eq more
+    c.loop-left.invariant ∙ decided_behind _ _ _ _ _ _ _ p q c.compare_pieces-order.ensures eq more
 
 pub loop-left-smaller : goal.loop-left-smaller
 loop-left-smaller c = c.next_piece.ensures.shorter (λ e. false≢true (c.if-is_end.ensures.1 e))

@@ -1,7 +1,7 @@
 use Rattle.std.proofs.Common.{◌≡◌, ℕ, ◌+◌, ◌/◌, ◌∷◌, [], List, length, max, ap, sym, ◌∙◌, subst}
 use Rattle.rpm_outside.specs.Files.{Units, put}
 use Rattle.rpm_hindex.specs.State.{State, Keeps}
-use Rattle.rpm_hindex.proofs.Writes.{seal_then}
+use Rattle.rpm_hindex.proofs.TornWrites.{seal_then}
 use Rattle.rpm_hindex.proofs.Patched.{patched_kept}
 use Rattle.rpm_hindex.proofs.index.Hindex.patch.Goals as goal
 

@@ -8,7 +8,7 @@ use Rattle.rpm_outside.specs.inner.Changing.{changes_weaker}
 use Rattle.rpm_hindex.specs.Images.{SealedOrSame}
 use Rattle.rpm_hindex.specs.State.{State, Keeps, seal_unit, magic, is_current}
 use Rattle.rpm_hindex.proofs.UnitWords.{length-unit, current}
-use Rattle.rpm_hindex.proofs.Writes.{torn_seal}
+use Rattle.rpm_hindex.proofs.TornWrites.{torn_seal}
 use Rattle.rpm_hindex.proofs.Seals.{front_kept, front_behind, whole_behind, records_behind, state, same_state}
 use Rattle.rpm_hindex.proofs.index.Hindex.seal.Given.{Over}
 use Rattle.rpm_hindex.proofs.index.Hindex.seal.Goals as goal

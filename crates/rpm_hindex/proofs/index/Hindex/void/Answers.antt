@@ -3,7 +3,7 @@ use Rattle.rpm_outside.specs.Files.{blank}
 use Rattle.rpm_outside.specs.declared.disk.File.TheVariants.{Idx}
 use Rattle.rpm_outside.specs.inner.Changing.{changes_weaker}
 use Rattle.rpm_hindex.specs.Images.{VoidOrSame}
-use Rattle.rpm_hindex.proofs.Writes.{torn_void}
+use Rattle.rpm_hindex.proofs.TornWrites.{torn_void}
 use Rattle.rpm_hindex.proofs.Seals.{front_kept, same_state}
 use Rattle.rpm_hindex.specs.State.{State, Keeps}
 use Rattle.rpm_hindex.proofs.index.Hindex.void.Goals as goal

@@ -4,7 +4,7 @@ use Rattle.rpm_hindex.specs.State.{State, Keeps}
 use Rattle.rpm_outside.specs.declared.disk.File.TheVariants.{Idx}
 use Rattle.rpm_outside.specs.inner.Changing.{changes_weaker}
 use Rattle.rpm_hindex.specs.Images.{SameSeal}
-use Rattle.rpm_hindex.proofs.Writes.{torn_behind}
+use Rattle.rpm_hindex.proofs.TornWrites.{torn_behind}
 use Rattle.rpm_hindex.proofs.Seals.{image_kept}
 use Rattle.rpm_hindex.proofs.index.Hindex.write_image.Goals as goal
 

@@ -4,8 +4,8 @@ use Rattle.rpm_outside.specs.declared.steps.Step.{Step}
 use Rattle.rpm_outside.specs.Files.{Files}
 use Rattle.rpm_outside.specs.MemDisk.{mem_files}
 use Rattle.rpm_outside.specs.Past.{held_files, after_step, after_steps, Images, StepsTo}
-use Rattle.rpm_outside.specs.History.{after_steps-push}
-use Rattle.rpm_outside.specs.Literal.{images_are}
+use Rattle.rpm_outside.specs.inner.History.{after_steps-push}
+use Rattle.rpm_outside.specs.inner.ImageLaws.{images_are}
 use Rattle.rpm_outside.specs.Picks.{picked_step, picked_image}
 use Rattle.rpm_outside.proofs.Mixes.{image_step}
 use Rattle.rpm_outside.proofs.Picking.{picked_step_to, picked_image-push}

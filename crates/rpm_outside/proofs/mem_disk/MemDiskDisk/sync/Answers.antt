@@ -6,7 +6,7 @@ use Rattle.rpm_outside.proofs.Named.{named_fails, other_passes}
 use Rattle.rpm_outside.specs.declared.steps.Step.TheVariants.{Synced}
 use Rattle.rpm_outside.specs.Files.{Files, file_of}
 use Rattle.rpm_outside.specs.Past.{held_files, after_steps}
-use Rattle.rpm_outside.specs.History.{after_steps-push, sync_step}
+use Rattle.rpm_outside.specs.inner.History.{after_steps-push, sync_step}
 use Rattle.rpm_outside.proofs.mem_disk.MemDiskDisk.sync.Goals as goal
 
 pub invariant_of-self-in-Ok : goal.invariant_of-self-in-Ok

@@ -3,7 +3,7 @@ use Rattle.std.specs.Prelude.{◌≡◌, ℕ, ◌≤◌, Bool, List, [], ◌++�
 use Rattle.std.proofs.Common.{refl, sym, ap, ◌∙◌, subst, append_assoc, arith}
 use Rattle.std.proofs.lemmas.List.{append-nil}
 use Rattle.rpm_outside.specs.Sinks.{Gained, GainedPart, Writes}
-use Rattle.rpm_outside.specs.Taken.{gained_none, gained_more, then_part, part_then}
+use Rattle.rpm_outside.specs.inner.Taken.{gained_none, gained_more, then_part, part_then}
 
 -- all is written but for what is left
 pub record Upto {S : Type 0} (tells : Bool) (taken : S → List ℕ) (faults : S → ℕ) (follows : S → S → Type 0) (all left : List ℕ) (old now : S) : Type 0 where

@@ -1,41 +1,16 @@
--- Writing entries over files that were written in part gives what writing them over the old files gives.
+-- Laws of what entries write.
 use Rattle.std.specs.Prelude.{◌≡◌, ◌⊎◌, ℕ, ◌+◌, ◌-◌, ◌<◌, ◌≤◌, max, List, [], ◌∷◌, length}
 use Rattle.std.proofs.Common.{inl, inr, ⊎_elim, refl, sym, ap, subst, ◌∙◌, arith}
 use Rattle.std.proofs.lemmas.Bool.{cases_lt}
 use Rattle.rpm_outside.specs.declared.disk.File.{File}
 use Rattle.rpm_outside.specs.declared.disk.File.TheVariants.{Pkg, Idx, Log}
-use Rattle.rpm_outside.specs.Files.{Units, Files, file_of, unit_at, put}
+use Rattle.rpm_outside.specs.Files.{cases_file, Units, Files, file_of, unit_at, put}
 use Rattle.rpm_outside.specs.inner.Puts.{length-put, put_before, put_inside, put_after}
 use Rattle.rpm_outside.specs.inner.PutLaws.{same_units}
-use Rattle.rpm_outside.specs.History.{file_of-with}
-use Rattle.rpm_outside.specs.Literal.{cases_file, other_file}
+use Rattle.rpm_outside.specs.inner.FileLaws.{file_of-with, other_file}
 use Rattle.rpm_outside.specs.Logs.{Entry, with_entry, with_entries}
 use Rattle.rpm_outside.specs.Changed.{ChangedIn}
-
--- an entry writes this unit of this file
-pub record Writes (entry : Entry) (file : File) (i : ℕ) : Type 0 where
-  pub there : entry.file ≡ file
-  pub from : entry.first ≤ i
-  pub before : i < entry.first + length entry.units
-
--- one of these entries does
-abbrev pub Covers : List Entry → File → ℕ → Type 0
-Covers [] file i = ⊥
-Covers (entry ∷ entries) file i = Writes entry file i ⊎ Covers entries file i
-
--- how long an entry leaves a file of this length
-abbrev pub end_in : File → Entry → ℕ → ℕ
-end_in file entry long = ⊎_elim (λ same. max long (entry.first + length entry.units)) (λ differ. long) (cases_file file entry.file)
-
-abbrev pub ends_in : File → List Entry → ℕ → ℕ
-ends_in file [] long = long
-ends_in file (entry ∷ entries) long = ends_in file entries (end_in file entry long)
-
--- files that differ from the old ones where these entries write alone, and are no longer than these make them
-pub record Within (entries : List Entry) (old new : Files) : Type 0 where
-  pub each : (file : File) (i : ℕ) → (unit_at (file_of file new) i ≡ unit_at (file_of file old) i) ⊎ Covers entries file i
-  pub no_shorter : (file : File) → length (file_of file old) ≤ length (file_of file new)
-  pub no_longer : (file : File) → length (file_of file new) ≤ ends_in file entries (length (file_of file old))
+use Rattle.rpm_outside.specs.Entries.{HasUnit, Covers, end_in, ends_in, Within}
 
 module _ (entry : Entry) (files : Files) where
   abbrev here : Units
@@ -88,7 +63,7 @@ entry_agrees entry a b file i agree = elim (cases_file file entry.file) [
       ∙ ap (λ (u : Units). unit_at u i) (sym (other_file file entry.file (here entry b) b differ))
 ]
 
-entry_covers : (entry : Entry) (a b : Files) (file : File) (i : ℕ) → Writes entry file i → Agree (with_entry entry a) (with_entry entry b) file i
+entry_covers : (entry : Entry) (a b : Files) (file : File) (i : ℕ) → HasUnit entry file i → Agree (with_entry entry a) (with_entry entry b) file i
 entry_covers entry a b file i w =
     let k : ℕ = i - entry.first in
     let place : i ≡ entry.first + k = omega (arith, w.from) in
@@ -178,7 +153,7 @@ written_within entries files = record {
 }
   where
     one : (entry : Entry) (files : Files) (file : File) (i : ℕ) → (unit_at (file_of file (with_entry entry files)) i ≡ unit_at (file_of file files) i)
-        ⊎ Writes entry file i
+        ⊎ HasUnit entry file i
     one entry files file i = elim (cases_file file entry.file) [
       | inr differ ↦ inl (ap (λ (u : Units). unit_at u i) (other_file file entry.file (here entry files) files differ))
       | inl same ↦ elim (cases_lt i entry.first) [

@@ -6,8 +6,8 @@ use Rattle.rpm_tags.specs.declared.values.Source.TheVariants as source
 use Rattle.rpm_tags.specs.inner.Source.{stored_elements}
 use Rattle.rpm_tags.specs.Value.{Elements, NumberList, TextList}
 
-abbrev pub shown : Source → Elements
-shown (source.Stored elements) = stored_elements elements
-shown (source.Joined parts) = TextList (concat parts ∷ [])
-shown (source.Files paths) = TextList paths
-shown (source.Number n) = NumberList (n ∷ [])
+abbrev pub source_elements : Source → Elements
+source_elements (source.Stored elements) = stored_elements elements
+source_elements (source.Joined parts) = TextList (concat parts ∷ [])
+source_elements (source.Files paths) = TextList paths
+source_elements (source.Number n) = NumberList (n ∷ [])

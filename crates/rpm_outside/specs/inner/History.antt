@@ -3,23 +3,13 @@ use Rattle.std.proofs.Common.{◌≡◌, inl, inr, ℕ, ◌+◌, ◌≤◌, List
 use Rattle.std.proofs.lemmas.List.{take_all, take-append-le, length_push}
 use Rattle.std.proofs.lemmas.Bool.{cases_lt}
 use Rattle.rpm_outside.specs.declared.disk.File.{File}
-use Rattle.rpm_outside.specs.declared.disk.File.TheVariants.{Pkg, Idx, Log}
 use Rattle.rpm_outside.specs.declared.steps.Step.{Step}
 use Rattle.rpm_outside.specs.declared.steps.Step.TheVariants.{Wrote, Synced}
 use Rattle.rpm_outside.specs.Files.{Units, Files, file_of, with_file, put}
-use Rattle.rpm_outside.specs.Crash.{Torn, TornFile, Elapses, Follows}
+use Rattle.rpm_outside.specs.Crash.{Torn, TornFile, Elapses, OnlyAfter}
 use Rattle.rpm_outside.specs.inner.Puts.{length-put}
 use Rattle.rpm_outside.specs.Past.{after_step, after_steps, LeftByStep, LeftBySteps, Images, ImagesSince}
-
-pub file_of-with : (file : File) (units : Units) (files : Files) → file_of file (with_file file units files) ≡ units
-file_of-with Pkg units files = refl
-file_of-with Idx units files = refl
-file_of-with Log units files = refl
-
-pub with_itself : (file : File) (files : Files) → files ≡ with_file file (file_of file files) files
-with_itself Pkg files = refl
-with_itself Idx files = refl
-with_itself Log files = refl
+use Rattle.rpm_outside.specs.inner.FileLaws.{file_of-with, with_itself}
 
 -- a write that was done whole, and one that was not begun
 pub torn_whole : (at : ℕ) (units file : Units) → Torn at units file (put at units file)
@@ -108,13 +98,13 @@ elapses_same steps first = record { later = omega arith; nothing_else = λ t ima
 
 -- what a write leaves follows from what was left before it
 pub follows_write : (steps later : List Step) (file : File) (at : ℕ) (units : _) (first : Files) → later ≡ steps ++ Wrote file at units ∷ []
-    → Follows (TornFile file at units.items) (ImagesSince steps first (length steps)) (ImagesSince later first (length later))
+    → OnlyAfter (TornFile file at units.items) (ImagesSince steps first (length steps)) (ImagesSince later first (length later))
 follows_write steps later file at units first is image since =
     let here = now_images later first image since in
     let step = left_push steps (Wrote file at units) first (λ f. f ≡ first) image (subst (λ (s : List Step). Images s first image) is here) in
     (step.0, images_now steps first step.0 step.1, step.2)
 
-pub follows_none : (steps : List Step) (file : File) (at : ℕ) (units : Units) (first : Files) → Follows (TornFile file at units)
+pub follows_none : (steps : List Step) (file : File) (at : ℕ) (units : Units) (first : Files) → OnlyAfter (TornFile file at units)
     (ImagesSince steps first (length steps)) (ImagesSince steps first (length steps))
 follows_none steps file at units first image since = (image, since, torn_file_none file at units image)
 

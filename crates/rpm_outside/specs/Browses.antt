@@ -1,0 +1,24 @@
+-- What a run of reads takes of a shelf.
+use Rattle.std.specs.Prelude.{◌≡◌, ℕ, ◌≤◌, Bool, IsTrue, List, [], ◌++◌, Option, Some, None, is_some}
+use Rattle.rpm_outside.specs.Shelves.{Paths}
+
+-- the bytes that reads will give, none where no item is open
+abbrev pub left : Option (List ℕ) → List ℕ
+left None = []
+left (Some bytes) = bytes
+
+-- these bytes were taken from the front of what was left; an open item stays open, and none is opened
+pub record Takes (old new : Option (List ℕ)) (taken : List ℕ) : Type 0 where
+  pub front : left old ≡ taken ++ left new
+  pub opened : is_some new ≡ is_some old
+
+-- some bytes were
+abbrev pub TakesSome : Option (List ℕ) → Option (List ℕ) → Type 0
+TakesSome old new = (taken : List ℕ) × Takes old new taken
+
+-- bytes were taken from the front of the open item, and nothing else was done
+pub record Browses {S : Type 0} (tells : Bool) (paths : S → Paths) (rest : S → Option (List ℕ)) (absences faults : S → ℕ) (old new : S) : Type 0 where
+  pub paths_stay : IsTrue tells → paths new ≡ paths old
+  pub taken : IsTrue tells → TakesSome (rest old) (rest new)
+  pub absences_stay : absences new ≡ absences old
+  pub later : faults old ≤ faults new
