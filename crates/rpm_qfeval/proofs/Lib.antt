@@ -3,6 +3,7 @@ pub mod Ahead
 pub mod Counts
 mod Fixtures
 pub mod Walked
+pub mod ProperParts
 pub mod Moments
 pub mod Calendar
 pub mod Lists

@@ -18,8 +18,9 @@ use rpm_qfparse::{Part, Parts, Role, TagPart};
 use rpm_tags::{Class, Tag, TagValue, value};
 use std::marker::Model;
 
-/// Of how many tags of a bracket the values are looked up once.
-pub const MOST: usize = 16;
+/// Of how many tags of a bracket the values are looked up once: more than names have tags, each of
+/// which may be asked for in turn and for its first element.
+pub const MOST: usize = 192;
 
 /// What a bracket asks for: the elements of a tag in turn, or the first one in each round.
 #[derive(Clone, Copy, PartialEq, Eq)]

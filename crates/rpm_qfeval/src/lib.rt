@@ -13,6 +13,7 @@ mod digits;
 mod elements;
 mod encoded;
 mod flags;
+mod inside;
 mod lookup;
 mod measure;
 mod modes;

@@ -1,8 +1,9 @@
 //! A format is printed.
 
-ghost use Rattle.std.specs.Prelude.{◌≡◌, [], Ok};
+ghost use Rattle.std.specs.Prelude.{◌≡◌, [], Ok, false};
 ghost use Rattle.rpm_outside.specs.Sinks.{Writes};
 ghost use Rattle.rpm_qfeval.specs.Meaning.{bytes, meaning};
+ghost use Rattle.rpm_qfeval.specs.Proper.{AreProper};
 ghost use Rattle.rpm_qfeval.specs.Printed.{Prints, ending, eval_ending};
 
 use crate::sizes::sizes;
@@ -40,9 +41,10 @@ fn print_parts<O: Sink>(
     number: u32,
     sink: &mut O,
 ) -> Result<(), Failed>
+    requires { AreProper false parts.now }
     ensures { Writes O.tells O.taken O.faults O.follows sink.old sink.new (bytes view.now number 0 parts.now) result }
 {
-    put_parts(sink, parts, view, number, &mut [], 0)
+    put_parts(sink, parts, view, number)
 }
 
 /// Prints what a format says of a header and of the number of its package. Takes no memory.
