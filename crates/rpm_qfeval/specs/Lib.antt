@@ -7,4 +7,5 @@ pub mod Padded
 pub mod Pieces
 pub mod Printed
 pub mod Proper
+pub mod Reached
 pub mod Texts

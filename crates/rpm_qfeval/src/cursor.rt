@@ -14,7 +14,7 @@ use rpm_qfparse::TagPart;
 use rpm_tags::{Class, Joined, TagValue, ValueTexts};
 use std::marker::Model;
 
-/// A value of texts, with a place among them up to which they were read. Contracts see it as the
+/// A value of texts that are put together, with a place among them up to which they were read. Contracts see it as the
 /// value alone.
 #[derive(Drop)]
 pub struct Cursor<'v, 'a> {
@@ -26,14 +26,16 @@ pub struct Cursor<'v, 'a> {
 }
 
 impl<'v, 'a> Model for Cursor<'v, 'a> {
+    ghost use Rattle.std.specs.List.{concat};
+    ghost use Rattle.std.specs.Option.{option_map};
     ghost use Rattle.rpm_tags.specs.Value.{Elements};
-    ghost use Rattle.rpm_qfeval.specs.Columns.{IsAt};
+    ghost use Rattle.rpm_qfeval.specs.Reached.{IsAt};
 
     ghost Value = { Elements };
 
     ghost view = { λ s. s.value.now };
 
-    ghost invariant = { λ s. IsAt s.value.now s.present s.texts s.place };
+    ghost invariant = { λ s. IsAt s.value.now (option_map (λ p. concat p) s.present) s.texts s.place };
 }
 
 impl<'v, 'a> Cursor<'v, 'a> {

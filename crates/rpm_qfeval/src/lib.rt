@@ -21,6 +21,7 @@ mod pieces;
 mod printing;
 mod shown;
 mod sizes;
+mod stream;
 #[cfg(test)]
 mod tests;
 mod writing;

@@ -28,6 +28,19 @@ fn is_at(columns: &[Option<Column<'_, '_>>], k: usize, asked: Asked) -> bool
     }
 }
 
+/// Where the column of what is asked for is, of all columns.
+fn find(columns: &[Option<Column<'_, '_>>], asked: Asked) -> Option<usize>
+    ensures within { IfSome result (λ k. k < length columns.now) }
+    ensures tag { IfSome result (λ k. IsOf columns.now k asked.tag) }
+{
+    for k in 0..columns.len() {
+        if is_at(columns, k, asked) {
+            return Some(k);
+        }
+    }
+    None
+}
+
 /// Where the column of what is asked for is. It is looked for at a place first, which becomes the one
 /// behind it: the parts of a bracket ask for its columns in their order.
 fn place_of(columns: &[Option<Column<'_, '_>>], next: &mut usize, asked: Asked) -> Option<usize>
@@ -39,13 +52,9 @@ fn place_of(columns: &[Option<Column<'_, '_>>], next: &mut usize, asked: Asked) 
         *next = first + 1;
         return Some(first);
     }
-    for k in 0..columns.len() {
-        if is_at(columns, k, asked) {
-            *next = k + 1;
-            return Some(k);
-        }
-    }
-    None
+    let k = find(columns, asked)?;
+    *next = k + 1;
+    Some(k)
 }
 
 /// How many elements a tag has, where it is present.

@@ -46,7 +46,7 @@ pub fn count_rounds(
     None
 }
 
-/// The first count of a bracket, and the first other one. Each tag is looked up once.
+/// The first count of a bracket, and the first other one. Each tag is looked up where it stands.
 fn different(inner: &Parts, view: &View<'_>, number: u32) -> Option<(u32, u32)>
     ensures { result ≡ different (counts view.now number inner.now) }
 {
