@@ -12,7 +12,7 @@ use crate::cursor::Cursor;
 use crate::elements::{put_none, put_value};
 use crate::stream::Stream;
 use arrayvec::ArrayVec;
-use rpm_header::View;
+use rpm_header::{PlacesRoom, View};
 use rpm_outside::{Failed, Sink};
 use rpm_qfparse::{Part, Parts, Role, TagPart};
 use rpm_tags::{Class, Tag, TagValue, texts_in, value};
@@ -64,7 +64,12 @@ impl<'v, 'a> Model for Column<'v, 'a> {
 }
 
 /// How the elements of what was found are read.
-fn reading_of<'v, 'a>(found: &'v Found<'a>, view: &View<'a>, number: u32) -> Reading<'v, 'a>
+fn reading_of<'v, 'a>(
+    found: &'v Found<'a>,
+    view: &View<'a>,
+    number: u32,
+    room: Option<&'v mut PlacesRoom>,
+) -> Reading<'v, 'a>
     requires { IsTold view.now number found.now }
     ensures { IsColumn found.now result }
 {
@@ -80,7 +85,7 @@ fn reading_of<'v, 'a>(found: &'v Found<'a>, view: &View<'a>, number: u32) -> Rea
             return Reading::Stored(Stream::new(value, &texts));
         }
     }
-    Reading::Joined(Cursor::new(value))
+    Reading::Joined(Cursor::new(value, room))
 }
 
 /// Puts what was found by the role of a tag, in a round.
@@ -101,11 +106,16 @@ fn put_found<O: Sink>(
 
 impl<'v, 'a> Column<'v, 'a> {
     /// The column of a value, at its first text.
-    pub fn new(found: &'v Found<'a>, view: &View<'a>, number: u32) -> Column<'v, 'a>
+    pub fn new(
+        found: &'v Found<'a>,
+        view: &View<'a>,
+        number: u32,
+        room: Option<&'v mut PlacesRoom>,
+    ) -> Column<'v, 'a>
         requires { IsTold view.now number found.now }
         ensures { result ≡ found.now }
     {
-        let reading = reading_of(found, view, number);
+        let reading = reading_of(found, view, number, room);
         Column { found, reading }
     }
 
@@ -202,6 +212,17 @@ pub fn asked_in(inner: &Parts) -> AllAsked {
     all
 }
 
+/// Whether the paths of files are asked for in turn, and need room for the places of directories.
+pub fn need_room(all: &[Option<Asked>], view: &View<'_>, number: u32) -> bool {
+    if !all.contains(&Some(Asked::of(Tag::Filenames))) {
+        return false;
+    }
+    match value(view, number, Tag::Filenames) {
+        None => false,
+        Some(paths) => paths.needs_room(),
+    }
+}
+
 /// Adds the values of what is asked for, as far as there is room.
 pub fn look_up<'a, const N: usize>(
     found: &mut ArrayVec<Option<Found<'a>>, N>,
@@ -225,21 +246,34 @@ pub fn look_up<'a, const N: usize>(
     }
 }
 
-/// Adds the columns of values, as far as there is room.
+/// The room for directories, where it is for this.
+fn room_for<'v>(asked: Asked, room: &mut Option<&'v mut PlacesRoom>) -> Option<&'v mut PlacesRoom> {
+    if asked.tag == Tag::Filenames && !asked.first {
+        room.take()
+    } else {
+        None
+    }
+}
+
+/// Adds the columns of values, as far as there is room for them. The paths of files, which are
+/// asked for in turn in one column alone, get the room for directories.
 pub fn add_columns<'v, 'a, const N: usize>(
     columns: &mut ArrayVec<Option<Column<'v, 'a>>, N>,
     found: &'v [Option<Found<'a>>],
     view: &View<'a>,
     number: u32,
+    room: Option<&'v mut PlacesRoom>,
 )
     requires columns { AreTold view.now number columns.old.items }
     requires found { AreTold view.now number found.now }
     ensures { AreTold view.now number columns.new.items }
 {
+    let mut room = room;
     for found in found {
         if let Some(found) = found {
             if !columns.is_full() {
-                columns.push(Some(Column::new(found, view, number)));
+                let own = room_for(found.asked, &mut room);
+                columns.push(Some(Column::new(found, view, number, own)));
             }
         }
     }

@@ -8,6 +8,7 @@ ghost use Rattle.rpm_qfeval.specs.Formatters.{shown, or_none};
 ghost use Rattle.rpm_qfeval.specs.Padded.{padded};
 
 use crate::elements::{put_element, put_text};
+use rpm_header::PlacesRoom;
 use rpm_outside::{Failed, Sink};
 use rpm_qfparse::TagPart;
 use rpm_tags::{Class, Joined, TagValue, ValueTexts};
@@ -39,11 +40,11 @@ impl<'v, 'a> Model for Cursor<'v, 'a> {
 
 impl<'v, 'a> Cursor<'v, 'a> {
     /// Reads the first text.
-    pub fn new(value: &'v TagValue<'a>) -> Cursor<'v, 'a>
+    pub fn new(value: &'v TagValue<'a>, room: Option<&'v mut PlacesRoom>) -> Cursor<'v, 'a>
         requires { class_of value.now ≡ Class.Text }
         ensures { result ≡ value.now }
     {
-        let mut texts = value.texts();
+        let mut texts = value.texts(room);
         let present = texts.next();
         Cursor {
             value,

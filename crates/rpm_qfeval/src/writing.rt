@@ -5,12 +5,12 @@ ghost use Rattle.rpm_outside.specs.Sinks.{Writes};
 ghost use Rattle.rpm_qfeval.specs.Meaning.{bytes, part_bytes, rounds, counts};
 ghost use Rattle.rpm_qfeval.specs.Proper.{AreProper, PartIsProper};
 
-use crate::columns::{Asked, Column, Found, MOST, add_columns, asked_in, look_up};
+use crate::columns::{Asked, Column, Found, MOST, add_columns, asked_in, look_up, need_room};
 use crate::elements::put_looked_up;
 use crate::inside::put_over;
 use crate::lookup::is_present;
 use arrayvec::ArrayVec;
-use rpm_header::View;
+use rpm_header::{PlacesRoom, View};
 use rpm_outside::{Failed, Sink, put_all};
 use rpm_qfparse::{Part, Parts};
 
@@ -32,7 +32,35 @@ fn put_with<O: Sink, const N: usize>(
     let mut found: ArrayVec<Option<Found<'_>>, N> = ArrayVec::new();
     look_up(&mut found, asked, view, number);
     let mut columns: ArrayVec<Option<Column<'_, '_>>, N> = ArrayVec::new();
-    add_columns(&mut columns, found.as_slice(), view, number);
+    add_columns(&mut columns, found.as_slice(), view, number, None);
+    put_over(sink, inner, view, number, columns.as_mut_slice())
+}
+
+/// A bracket with room for the places of directories, which costs 128 KiB of zeros.
+#[cold]
+#[inline(never)]
+fn put_far<O: Sink>(
+    sink: &mut O,
+    inner: &Parts,
+    view: &View<'_>,
+    number: u32,
+    asked: &[Option<Asked>],
+) -> Result<(), Failed>
+    requires proper { AreProper true inner.now }
+    ensures { Writes O.tells O.taken O.faults O.follows sink.old sink.new (rounds (counts view.now number inner.now)
+        (λ i. bytes view.now number i inner.now)) result }
+{
+    let mut found: ArrayVec<Option<Found<'_>>, MOST> = ArrayVec::new();
+    let mut room = PlacesRoom::new();
+    look_up(&mut found, asked, view, number);
+    let mut columns: ArrayVec<Option<Column<'_, '_>>, MOST> = ArrayVec::new();
+    add_columns(
+        &mut columns,
+        found.as_slice(),
+        view,
+        number,
+        Some(&mut room),
+    );
     put_over(sink, inner, view, number, columns.as_mut_slice())
 }
 
@@ -49,6 +77,9 @@ fn put_bracket<O: Sink>(
 {
     let asked = asked_in(inner);
     let asked = asked.as_slice();
+    if need_room(asked, view, number) {
+        return put_far(sink, inner, view, number, asked);
+    }
     match asked.len() {
         0..=2 => put_with::<O, 2>(sink, inner, view, number, asked),
         3 | 4 => put_with::<O, 4>(sink, inner, view, number, asked),
