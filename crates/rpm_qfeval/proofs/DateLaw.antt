@@ -42,8 +42,12 @@ module _ (day : ℕ) where
   of_number : (y m d : ℕ) → 1970 ≤ y → day_number y m 1 ≤ day → d ≡ day + 1 - day_number y m 1 → day_number y m d ≡ day
   of_number y m d low begun e =
       let some : 1 ≤ d = omega arith in
-      omega (arith, number_is y m 1 (from_epoch y m 1 low (omega arith)), number_is y m d (from_epoch y m d low some),
-      day_count-day (pos y) m 1 d (omega arith) some)
+      omega (
+        arith,
+        number_is y m 1 (from_epoch y m 1 low (omega arith)),
+        number_is y m d (from_epoch y m d low some),
+        day_count-day (pos y) m 1 d (omega arith) some,
+      )
 
   pub date_is_day : day_number (year_of day) (month_of day) (day_of day) ≡ day
   unfolding day_of

@@ -43,11 +43,7 @@ fn find(columns: &[Option<Column<'_, '_>>], asked: Asked) -> Option<usize>
 
 /// Where the column of what is asked for is. It is looked for at a place first, which becomes the one
 /// behind it: the parts of a bracket ask for its columns in their order.
-fn place_of(
-    columns: &[Option<Column<'_, '_>>],
-    next: &mut usize,
-    asked: Asked,
-) -> Option<usize>
+fn place_of(columns: &[Option<Column<'_, '_>>], next: &mut usize, asked: Asked) -> Option<usize>
     ensures within { IfSome result (λ k. k < length columns.now) }
     ensures tag { IfSome result (λ k. IsOf columns.now k asked.tag) }
 {

@@ -59,12 +59,7 @@ fn put_bracket<O: Sink>(
 
 /// A part outside of brackets.
 #[cycle(writing)]
-fn put_part<O: Sink>(
-    sink: &mut O,
-    part: &Part,
-    view: &View<'_>,
-    number: u32,
-) -> Result<(), Failed>
+fn put_part<O: Sink>(sink: &mut O, part: &Part, view: &View<'_>, number: u32) -> Result<(), Failed>
     requires { PartIsProper false part.now }
     ensures { Writes O.tells O.taken O.faults O.follows sink.old sink.new (part_bytes view.now number 0 part.now) result }
 {
