@@ -1,8 +1,8 @@
 -- What is kept of the tags of a bracket.
-use Rattle.std.specs.Prelude.{◌≡◌, ℕ, ◌+◌, List, drop, Option, None, Some, slice_get, All, IfSome}
+use Rattle.std.specs.Prelude.{◌≡◌, ℕ, List, Option, Some, slice_get, All, IfSome}
 use Rattle.rpm_header.specs.Header.{Header}
 use Rattle.rpm_tags.specs.declared.tag.Tag.{Tag}
-use Rattle.rpm_tags.specs.Value.{Elements, value, class_of, text_list}
+use Rattle.rpm_tags.specs.Value.{value}
 use Rattle.rpm_qfeval.specs.declared.columns.Found.{Found}
 use Rattle.rpm_qfeval.specs.declared.columns.Reading.{Reading}
 use Rattle.rpm_qfeval.specs.declared.columns.Reading.TheVariants as reading

@@ -68,7 +68,7 @@ fn print_parts<O: Sink>(
 ///
 /// Goes over the format once for the brackets and once to print. A bracket keeps the value of each of
 /// its tags, and goes through the texts of each once, so that n rounds of k tags cost n times k, however
-/// many they are. Up to 2, 4, 16 and 192 tags it takes 5, 10, 40 and 460 KiB of the stack, where a tag
+/// many they are. Up to 2, 4, 16 and 192 tags it takes 5, 10, 40 and 450 KiB of the stack, where a tag
 /// behind `=` counts apart. A padded text is measured before it is put. The sink gets each piece of the
 /// text in a call of its own: give one with a buffer, as `Buffered`, where a call costs much.
 #[tactic(auto, using(crate::proofs::DateLaw::date_is_day))]

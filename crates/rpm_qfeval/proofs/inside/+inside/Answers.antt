@@ -1,4 +1,4 @@
-use Rattle.std.proofs.Common.{◌≡◌, arith, length, ◌≤◌, refl, sym, ◌∙◌}
+use Rattle.std.proofs.Common.{arith, length, ◌≤◌, refl, sym, ◌∙◌}
 use Rattle.rpm_qfparse.specs.Shape.{parts_of}
 use Rattle.rpm_qfeval.specs.Meaning.{bytes}
 use Rattle.rpm_qfeval.proofs.Walked.{bytes_start, bytes_here, bytes_end}
