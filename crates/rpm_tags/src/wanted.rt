@@ -9,7 +9,7 @@ use crate::dirs::Directories;
 use crate::files::are_matched;
 use crate::numbers::{BASENAMES, DIRINDEXES, DIRNAMES};
 use crate::stored::{Numbers, Texts, numbers_in, texts_in};
-use rpm_header::View;
+use rpm_header::{PlacesRoom, View};
 
 /// How many bytes of a path follow its last slash.
 fn base_len(path: &[u8]) -> usize
@@ -51,7 +51,8 @@ fn is_any_at(dirs: &Texts<'_>, indexes: &Numbers<'_>, bases: &Texts<'_>, path: &
 {
     let (front, base) = split_path(path);
     let _ = indexes.count();
-    let mut directories = Directories::new(dirs);
+    let mut room = PlacesRoom::new();
+    let mut directories = Directories::new(dirs, Some(&mut room));
     let mut left = bases.iter();
     let mut place = 0;
     while let Some(text) = left.next() {
@@ -71,7 +72,8 @@ fn is_any_in(dirs: &Texts<'_>, indexes: &Numbers<'_>, bases: &Texts<'_>, path: &
 }
 
 /// Whether an element of FILENAMES is this path, and its name is what follows the path's last slash. Reads each name once, and
-/// the directories of those alone that have the path's name, as `TagValue::texts` reads them. Takes no memory.
+/// the directories of those alone that have the path's name, as `TagValue::texts` reads them. Takes no
+/// memory; its frame has 128 KiB, which are filled with zeros.
 #[tactic(auto, unfolding(crate::specs::Wanted::has_file))]
 pub fn has_file(view: &View<'_>, path: &[u8]) -> bool
     ensures { result ≡ has_file view.now path.now }
