@@ -3,7 +3,7 @@ use Rattle.std.specs.Prelude.{◌≡◌, ◌⊎◌, ℕ, ◌+◌, ◌-◌, ◌�
 use Rattle.std.proofs.Common.{inl, inr, ⊎_elim, refl, ◌∙◌, arith}
 use Rattle.rpm_outside.specs.declared.disk.File.{File}
 use Rattle.rpm_outside.specs.Files.{Files}
-use Rattle.rpm_outside.specs.Crash.{Untouched, LeavesOnly, bytes_for}
+use Rattle.rpm_outside.specs.Crash.{LeavesOnly}
 
 -- the disk below has the same contents, images and moment, of each file at most as many bytes were read there as here, and it follows itself
 pub record KeepsBelow {D : Type 0} (tells : Bool) (files : D → Files) (moment : D → ℕ) (left_since : D → ℕ → Files → Type 0) (bytes_read : D → File
