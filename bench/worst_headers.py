@@ -4,17 +4,21 @@
 BYTES of data (67108864 at most) are shared by the entries, which overlap. The cases, and what to ask of each:
 parse      65,535 lists of texts, each all of the data             -qa --qf 'x\\n'
 value      an index for each byte of the data                      -qa --qf '%{FILENAMES}\\n'
-filenames  half as many files, of two directories in turn          -qa --qf '[%{FILENAMES}\\n]'
+files      the same: as many files as a header can have            -qa --qf '[%{FILENAMES}\\n]'
+filenames  a file for each 4 bytes, in directories far apart       -qa --qf '[%{FILENAMES}\\n]'
+long       half a file for a byte, two long directories in turn    -qa --qf '[%{FILENAMES:perms}\\n]'
 bracket    17 lists of texts, each all of the data                 -qa --qf '[%{NAME}%{VERSION}..\\n]', the names of BRACKET
 """
+import random
 import struct
 import sys
 
 from make_database import store
 
-INT8, TEXTS = 2, 8
+INT8, INT32, TEXTS = 2, 4, 8
 DIRINDEXES, BASENAMES, DIRNAMES = 1116, 1117, 1118
 BRACKET = [1000, 1001, 1002, 1004, 1005, 1007, 1010, 1011, 1014, 1015, 1016, 1018, 1019, 1020, 1021, 1022, 1023]
+NAMES = "NAME VERSION RELEASE SUMMARY DESCRIPTION BUILDHOST DISTRIBUTION VENDOR LICENSE PACKAGER GROUP SOURCE PATCH URL OS ARCH PREIN".split()
 
 
 def header(entries, data):
@@ -22,22 +26,46 @@ def header(entries, data):
     return struct.pack(">II", len(entries), len(data)) + b"".join(struct.pack(">IIII", *entry) for entry in entries) + data
 
 
+def far_directories(size):
+    """The same bytes are the indexes, the names and the directories. An index is four bytes of which the first alone is zero: so
+    directory i has three bytes, and ends at byte 4 i. Each file asks for a directory at the end of a 32,767th of the data, the
+    dearest place, and for another one each time."""
+    files = size // 4
+    stride = max(64, 4 * files // 32767 + 1)
+    ends = [stride * k // 4 - 1 for k in range(1, 4 * files // stride)]
+    random.Random(1).shuffle(ends)
+    indexes = [index for index in ends if index > 0 and 0 not in struct.pack(">I", index)[1:]]
+    if not indexes:
+        sys.exit("too few bytes")
+    data = (struct.pack(f">{len(indexes)}I", *indexes) * (files // len(indexes) + 1))[:4 * files]
+    return header([(DIRINDEXES, INT32, 0, files), (BASENAMES, TEXTS, 0, files), (DIRNAMES, TEXTS, 0, files)], data)
+
+
+def long_directories(size):
+    """Directories 17 and 33 are long, and each file asks for the one that the file before it didn't ask for. Of the data a quarter is
+    indexes, a quarter the zeros of empty names and half the directories."""
+    files = size // 4
+    names = bytes(files)
+    directory = b"d" * (size // 4 - 32)
+    directories = bytes(17) + directory + bytes(16) + directory + bytes(1)
+    data = b"\x11\x21" * (files // 2) + names[:files // 2 * 2] + directories
+    files = files // 2 * 2
+    return header([(DIRINDEXES, INT8, 0, files), (BASENAMES, TEXTS, files, files), (DIRNAMES, TEXTS, 2 * files, 34)], data)
+
+
 def worst(case, size):
     zeros = bytes(size)
     if case == "parse":
         return header([(2000, TEXTS, 0, size)] * 65535, zeros)
-    if case == "value":
+    if case in ("value", "files"):
         return header([(DIRINDEXES, INT8, 0, size), (BASENAMES, TEXTS, 0, size), (DIRNAMES, TEXTS, 0, size)], zeros)
+    if case == "filenames":
+        return far_directories(size)
+    if case == "long":
+        return long_directories(size)
     if case == "bracket":
         return header([(tag, TEXTS, 0, size) for tag in BRACKET], zeros)
-    # Directory 0 is long, and directories 17 and 33 are empty and stand at the end of the first 255th of the directories' bytes. The
-    # same bytes are the numbers 17 and 33 in turn, so that each file asks for the directory that the one before it pushed out.
-    files, filler = size // 2, size // 255 - 64
-    indexes = bytearray(b"\x11\x21" * (files // 2))
-    indexes[filler:filler + 40] = bytes(40)
-    data = bytes(indexes) + bytes(size - len(indexes))
-    count = len(indexes)
-    return header([(DIRINDEXES, INT8, 0, count), (BASENAMES, TEXTS, count, count), (DIRNAMES, TEXTS, 0, data.count(0))], data)
+    sys.exit(__doc__)
 
 
 if __name__ == "__main__":

@@ -1,31 +1,22 @@
 -- What the store answers is what the state says.
-use Rattle.std.proofs.Common.{◌≡◌, ℕ, ◌+◌, ◌*◌, ◌≤◌, List, Bool, true, false, Option, Some, None, Ok, Err, length, take, refl, sym, ap, ◌∙◌, subst, inl, inr, arith, is_some}
-use Rattle.std.specs.Prelude.{◌<◌, nat_lt, Result, Vec}
+use Rattle.std.proofs.Common.{◌≡◌, ℕ, List, Bool, false, Option, Some, None, Ok, Err, refl, ap, ◌∙◌, is_some}
+use Rattle.std.specs.Prelude.{Result, Vec}
 use Rattle.std.specs.declared.alloc.Global.{Global}
 use Rattle.std.specs.Option.{option_map}
-use Rattle.std.specs.Int.{w32}
-use Rattle.std.specs.FinMap as finite
-use Rattle.std.proofs.lemmas.Bool.{cases_Bool}
-use Rattle.std.proofs.lemmas.Bool.Decides.{nat_tests}
-use Rattle.std.proofs.lemmas.List.{length-take-le}
-use Rattle.rpm_header.specs.declared.form.HeaderFault.{HeaderFault}
-use Rattle.rpm_header.specs.Bytes.{number_at}
-use Rattle.rpm_header.specs.Header.{Header, header, header_of, unless}
 use Rattle.rpm_outside.specs.Files.{Units}
 use Rattle.rpm_pkgdb.specs.declared.blob.GetFault.{GetFault}
 use Rattle.rpm_pkgdb.specs.declared.blob.GetFault.TheVariants.{NoSuch, Bad, DiskFault, NoMemory}
 use Rattle.rpm_pkgdb.specs.Answers.{AnswerIs, given}
-use Rattle.rpm_pkgdb.specs.Blobs.{Frame, frames, blobs, blob_in}
+use Rattle.rpm_pkgdb.specs.Blobs.{Frame, frames, blob_in}
 use Rattle.rpm_pkgdb.specs.declared.slot.Slot.{Slot}
 use Rattle.rpm_pkgdb.specs.Slots.{slot_with}
 use Rattle.rpm_pkgdb.specs.Pairs as pairs
 use Rattle.rpm_pkgdb.specs.BlobLaws.{get-blobs-frames}
 use Rattle.rpm_pkgdb.specs.Checksums.{checksums_hold, checksum_holds}
 use Rattle.rpm_db.specs.declared.verify.Verdict.TheVariants.{BadHeader}
-use Rattle.rpm_db.specs.State.{package_of, packages}
-use Rattle.rpm_db.specs.Database.{Database, IsNext, holds}
+use Rattle.rpm_db.specs.State.{package_of}
+use Rattle.rpm_db.specs.Database.{Database, IsNext}
 use Rattle.rpm_db.specs.Answers.{ReadIs}
-use Rattle.rpm_db.specs.inner.Laws.{get-packages, is_there}
 use Rattle.rpm_db.specs.Verdicts.{verdict, verdict_of}
 
 -- ---- a blob

@@ -1,9 +1,15 @@
 -- What the calls that read one package answer.
-use Rattle.std.specs.Prelude.{◌≡◌, List, ℕ, Option, Some, None, Result, Ok, Err, Vec}
+use Rattle.std.specs.Prelude.{◌≡◌, ◌%◌, List, ℕ, Option, Some, None, Result, Ok, Err, Vec}
 use Rattle.std.specs.declared.alloc.Global.{Global}
 use Rattle.rpm_pkgdb.specs.declared.blob.GetFault.{GetFault}
 use Rattle.rpm_pkgdb.specs.declared.blob.GetFault.TheVariants.{NoSuch, Bad, DiskFault, NoMemory}
 use Rattle.rpm_db.specs.declared.verify.Verdict.{Verdict}
+use Rattle.rpm_outside.specs.Files.{Units, unit_at}
+use Rattle.rpm_hindex.specs.declared.faults.FindFault.{FindFault}
+use Rattle.rpm_hindex.specs.Answers.{FindIs}
+use Rattle.rpm_hindex.specs.Index.{chain, index_in}
+use Rattle.rpm_hindex.specs.Rows.{hash_of}
+use Rattle.rpm_hindex.specs.State.{buckets_of}
 use Rattle.rpm_db.specs.State as state
 use Rattle.rpm_db.specs.State.{Package, Good, package_of}
 
@@ -33,3 +39,11 @@ abbrev pub CutIs : Package → Result (Vec ℕ Global) GetFault → Type 0
 CutIs p (Ok v) = p ≡ Good v.items
 CutIs p (Err Bad) = p ≡ state.Bad
 CutIs p (Err _) = ⊥
+
+-- the chain of a key's bucket
+abbrev pub key_chain : ℕ → List ℕ → Units → Result (List ℕ) ℕ
+key_chain kind key idx = chain (index_in (buckets_of (unit_at idx 0)) idx) (hash_of kind key % buckets_of (unit_at idx 0))
+
+-- what can be found exactly where that chain has no fault
+abbrev pub FoundIs : {A : Type 0} → Result (List ℕ) ℕ → Result A FindFault → Type 0
+FoundIs said found = FindIs (λ places hits. Unit {0}) said found

@@ -4,20 +4,50 @@ use Rattle.rpm_outside.specs.Files.{Units}
 use Rattle.rpm_pkgdb.specs.declared.slot.Damage.{Damage}
 use Rattle.rpm_pkgdb.specs.Slots.{slot_with}
 use Rattle.rpm_pkgdb.specs.Store.{Store, store}
+use Rattle.rpm_hindex.specs.State as hindex
 use Rattle.rpm_db.specs.declared.opening.DbOpenFault.{DbOpenFault}
 use Rattle.rpm_db.specs.declared.opening.DbOpenFault.TheVariants.{Damaged, IndexFull, DiskFault, NoMemory}
 use Rattle.rpm_pkgdb.specs.Store as pkgdb
 use Rattle.rpm_pkgdb.specs.Costs as costs
+use Rattle.rpm_db.specs.Lawful.{HasRows, is_current_at}
+use Rattle.rpm_db.specs.State.{packages}
 
--- its store, whether it keeps an index, and whether a changing call failed at the disk
+-- its store, the first units of the index where it keeps one, and whether a changing call failed at the disk
 pub record Database : Type 0 where
   pub store : Store
-  pub indexed : Bool
+  pub index : Option hindex.State
   pub stopped : Bool
+
+abbrev pub is_indexed : Database → Bool
+is_indexed db = is_some db.index
 
 -- what a value keeps of a file is what the file says
 abbrev pub Keeps : Units → Database → Type 0
 Keeps file db = pkgdb.Keeps file db.store
+
+abbrev pub KeepsUnits : Units → Option hindex.State → Type 0
+KeepsUnits idx None = Unit {0}
+KeepsUnits idx (Some state) = hindex.Keeps idx state
+
+-- the same of Hindex.db, where an index is kept
+abbrev pub KeepsIndex : Units → Database → Type 0
+KeepsIndex idx db = KeepsUnits idx db.index
+
+-- an index that a value keeps is current at this generation
+abbrev pub IsInOrder : ℕ → Option hindex.State → Type 0
+IsInOrder generation None = Unit {0}
+IsInOrder generation (Some state) = hindex.is_current generation state ≡ true
+
+-- what holds of each value: no package has the number 0, and until a changing call fails the store goes on and the index is current
+pub record IsFit (store : Store) (index : Option hindex.State) (stopped : Bool) : Type 0 where
+  pub from_one : slot_with 0 store.slots ≡ None
+  pub going : stopped ≡ false → store.is_stopped ≡ false
+  pub order : stopped ≡ false → IsInOrder store.generation index
+
+-- the index of these files is current, and holds the rows of the packages
+pub record IsIndexed (pkg idx : Units) (db : Database) : Type 0 where
+  pub current : is_current_at db.store.generation idx ≡ true
+  pub rows_are : HasRows (packages pkg db.store) idx
 
 -- no database was made yet
 abbrev pub is_blank : Database → Bool

@@ -1,5 +1,11 @@
 pub mod Answers
 pub mod Database
+pub mod Inits
+pub mod Lawful
+pub mod Openings
+pub mod Rebuilds
+pub mod Rows
+pub mod Runs
 pub mod State
 pub mod Verdicts
 pub mod inner

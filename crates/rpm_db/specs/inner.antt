@@ -1,4 +1,7 @@
 -- Laws on the definitions, for the crates above.
 pub mod Above
 pub mod Laws
+pub mod LawfulLaws
 pub mod Own
+pub mod RowLaws
+pub mod Running

@@ -1,17 +1,27 @@
 //! An opened database.
 
-ghost use Rattle.std.specs.Prelude.{◌≡◌, ℕ, ◌+◌, ◌^◌, ◌≤◌, IsTrue, false, is_some, Err, IfOk};
+ghost use Rattle.std.specs.Prelude.{◌≡◌, ◌≢◌, ℕ, ◌+◌, ◌^◌, ◌≤◌, IsTrue, true, false, not, is_some, None, Err, IfOk};
 ghost use Rattle.std.specs.FinMap as finite;
 ghost use Rattle.rpm_outside.specs.Files.{Units};
 ghost use Rattle.rpm_outside.specs.Causes.{HasCauseAt};
-ghost use Rattle.rpm_outside.specs.declared.disk.File.TheVariants.{Pkg};
+ghost use Rattle.rpm_outside.specs.Changes.{IsSettled};
+ghost use Rattle.rpm_outside.specs.Crash.{LeavesOnly};
+ghost use Rattle.rpm_outside.specs.declared.disk.File.TheVariants.{Pkg, Idx};
 ghost use Rattle.rpm_outside.specs.Looks.{Looks};
 ghost use Rattle.rpm_pkgdb.specs.Store.{store};
+ghost use Rattle.rpm_pkgdb.specs.Store as pkgdb;
+ghost use Rattle.rpm_pkgdb.specs.Slots.{slot_with};
 ghost use Rattle.rpm_pkgdb.specs.Costs.{opening_cost};
+ghost use Rattle.rpm_pkgdb.specs.Quiet.{IsQuiet};
 ghost use Rattle.rpm_db.specs.State.{state};
-ghost use Rattle.rpm_db.specs.Database.{Keeps, OpenIs, IsNext, holds, is_blank, next_number};
+ghost use Rattle.rpm_db.specs.Database.{Keeps, OpenIs, IsNext, holds, is_blank, is_indexed, next_number};
+ghost use Rattle.rpm_db.specs.Lawful.{AreLawful, IsLawfulStill, Remade};
+ghost use Rattle.rpm_db.specs.Openings.{IsOpened, StoreIs, making_cost};
+ghost use Rattle.rpm_db.specs.Runs.{Runs};
 
+use crate::indexing::{index_for, settle};
 use crate::opening::DbOpenFault;
+use rpm_hindex::Hindex;
 use rpm_outside::{Disk, File};
 use rpm_pkgdb::{OpenFault, PkgDb};
 use std::alloc::Global;
@@ -21,19 +31,113 @@ use std::marker::Model;
 #[derive(Drop)]
 pub struct Db {
     pub(crate) store: PkgDb,
-    is_indexed: bool,
-    is_stopped: bool,
+    pub(crate) index: Option<Hindex>,
+    pub(crate) is_stopped: bool,
 }
 
 impl Model for Db {
-    ghost use Rattle.rpm_db.specs.Database.{Database};
+    ghost use Rattle.rpm_db.specs.Database.{Database, IsFit};
 
     ghost Value = { Database };
 
-    ghost view = { λ s. record { store = s.store; indexed = s.is_indexed; stopped = s.is_stopped } };
+    ghost view = { λ s. record { store = s.store; index = s.index; stopped = s.is_stopped } };
+
+    ghost invariant = { λ s. IsFit s.store s.index s.is_stopped };
+}
+
+/// The store, as it is opened for a database.
+fn open_store<D: Disk>(alloc: Global, disk: &mut D) -> Result<PkgDb, DbOpenFault>
+    ensures store { IsTrue D.tells → StoreIs (store (D.files disk.old).pkg) result }
+    ensures no_index { (needed : ℕ) → result ≢ Err (DbOpenFault.IndexFull needed) }
+    ensures kept { IfOk result (λ value. IsTrue D.tells → pkgdb.Keeps (D.files disk.new).pkg value) }
+    ensures from_one { IfOk result (λ value. slot_with 0 value.slots ≡ None) }
+    ensures going { IfOk result (λ value. value.is_stopped ≡ false) }
+    ensures reads { IsTrue D.tells → D.bytes_read disk.new File.Pkg ≤ D.bytes_read disk.old File.Pkg + opening_cost (D.files disk.old).pkg }
+    ensures looks { Looks D.tells D.files D.left_since D.moment D.bytes_read D.follows Pkg (2 ^ 32) disk.old disk.new }
+    ensures cause { HasCauseAt (result ≡ Err DbOpenFault.DiskFault) (D.faults disk.old) (D.faults disk.new) }
+{
+    match PkgDb::open(alloc, disk) {
+        Ok(store) => Ok(store),
+        Err(OpenFault::Damaged(damage)) => Err(DbOpenFault::Damaged(damage)),
+        Err(OpenFault::DiskFault) => Err(DbOpenFault::DiskFault),
+        Err(OpenFault::NoMemory) => Err(DbOpenFault::NoMemory),
+    }
+}
+
+/// A value over settled files.
+fn open_settled<D: Disk>(alloc: Global, disk: &mut D) -> Result<Db, DbOpenFault>
+    requires pkg { IsTrue D.tells → IsSettled Pkg (D.files disk.old) (D.left_since disk.old (D.moment disk.old)) }
+    requires idx { IsTrue D.tells → IsSettled Idx (D.files disk.old) (D.left_since disk.old (D.moment disk.old)) }
+    ensures opened { IsTrue D.tells → IsOpened (D.files disk.old) (D.files disk.new) result }
+    ensures from_one { IfOk result (λ db. holds 0 db ≡ false) }
+    ensures indexed { IfOk result (λ db. is_indexed db ≡ not (is_blank db)) }
+    ensures going { IfOk result (λ db. db.stopped ≡ false) }
+    ensures quiet { IfOk result (λ db. IsTrue D.tells → IsQuiet db.store (D.files disk.new) (D.left_since disk.new (D.moment disk.new))) }
+    ensures durable { IfOk result (λ _db. IsTrue D.tells → IsSettled Pkg (D.files disk.new) (D.left_since disk.new (D.moment disk.new))) }
+    ensures settled { IfOk result (λ _db. IsTrue D.tells → IsSettled Idx (D.files disk.new) (D.left_since disk.new (D.moment disk.new))) }
+    ensures reads { IsTrue D.tells → D.bytes_read disk.new File.Pkg ≤ D.bytes_read disk.old File.Pkg + opening_cost (D.files disk.old).pkg
+        + making_cost (D.files disk.old).idx (store (D.files disk.old).pkg) }
+    ensures units { D.bytes_read disk.new File.Idx ≤ D.bytes_read disk.old File.Idx + 32 }
+    ensures runs { Runs D.tells D.files D.left_since D.moment D.bytes_read D.follows Remade disk.old disk.new }
+    ensures cause { HasCauseAt (result ≡ Err DbOpenFault.DiskFault) (D.faults disk.old) (D.faults disk.new) }
+{
+    let store = match open_store(alloc, disk) {
+        Ok(store) => store,
+        Err(fault) => return Err(fault),
+    };
+    if store.is_blank() {
+        return Ok(Db {
+            store,
+            index: None,
+            is_stopped: false,
+        });
+    }
+    match index_for(alloc, disk, &store) {
+        Ok(index) => Ok(Db {
+            store,
+            index: Some(index),
+            is_stopped: false,
+        }),
+        Err(fault) => Err(fault),
+    }
 }
 
 impl Db {
+    /// Settles both files, and opens the database with its index, which is made from the packages where it isn't current. A database
+    /// that is blank is opened without an index, and nothing is written.
+    ///
+    /// Reads the slot pages of `Packages.db`, each byte once, and two units of `Hindex.db`; and where the index must be made the blocks of
+    /// each package, each once. All memory is taken before the first write. A stop at any moment leaves the packages as they were, and an
+    /// index that is as it was, void, or current with the rows of the packages.
+    ///
+    /// # Errors
+    ///
+    /// - `Damaged` exactly where the file isn't a store: its first damage.
+    /// - `IndexFull` exactly where the index has to be made and needs more than 268435456 units.
+    /// - `DiskFault` only where the disk's count of faults rose.
+    /// - `NoMemory` where there is none for the slots, a package or the rows. After each but `DiskFault` the files are as they were.
+    pub fn open<D: Disk>(alloc: Global, disk: &mut D) -> Result<Db, DbOpenFault>
+        ensures opened { IsTrue D.tells → IsOpened (D.files disk.old) (D.files disk.new) result }
+        ensures from_one { IfOk result (λ db. holds 0 db ≡ false) }
+        ensures indexed { IfOk result (λ db. is_indexed db ≡ not (is_blank db)) }
+        ensures going { IfOk result (λ db. db.stopped ≡ false) }
+        ensures quiet { IfOk result (λ db. IsTrue D.tells → IsQuiet db.store (D.files disk.new) (D.left_since disk.new (D.moment disk.new))) }
+        ensures durable { IfOk result (λ _db. IsTrue D.tells → IsSettled Pkg (D.files disk.new) (D.left_since disk.new (D.moment disk.new))) }
+        ensures settled { IfOk result (λ _db. IsTrue D.tells → IsSettled Idx (D.files disk.new) (D.left_since disk.new (D.moment disk.new))) }
+        ensures stops { IsTrue D.tells → AreLawful (D.left_since disk.old (D.moment disk.old)) → LeavesOnly D.moment D.left_since disk.old disk.new
+            (IsLawfulStill (D.left_since disk.old (D.moment disk.old))) }
+        ensures reads { IsTrue D.tells → D.bytes_read disk.new File.Pkg ≤ D.bytes_read disk.old File.Pkg + opening_cost (D.files disk.old).pkg
+            + making_cost (D.files disk.old).idx (store (D.files disk.old).pkg) }
+        ensures units { D.bytes_read disk.new File.Idx ≤ D.bytes_read disk.old File.Idx + 32 }
+        ensures runs { Runs D.tells D.files D.left_since D.moment D.bytes_read D.follows Remade disk.old disk.new }
+        ensures cause { HasCauseAt (result ≡ Err DbOpenFault.DiskFault) (D.faults disk.old) (D.faults disk.new) }
+    {
+        match settle(disk) {
+            Ok(()) => open_settled(alloc, disk),
+            Err(_) => Err(DbOpenFault::DiskFault),
+        }
+    }
+
     /// Reads the store alone. Nothing is written and no file is settled, and the value has no index.
     ///
     /// Reads the slot pages of `Packages.db`, each byte once, and of the other files nothing.
@@ -47,21 +151,19 @@ impl Db {
         ensures store { IsTrue D.tells → OpenIs (store (D.files disk.old).pkg) result }
         ensures kept { IfOk result (λ db. IsTrue D.tells → Keeps (D.files disk.new).pkg db) }
         ensures from_one { IfOk result (λ db. holds 0 db ≡ false) }
-        ensures unindexed { IfOk result (λ db. db.indexed ≡ false) }
+        ensures unindexed { IfOk result (λ db. is_indexed db ≡ false) }
         ensures runs { IfOk result (λ db. db.stopped ≡ false) }
         ensures reads { IsTrue D.tells → D.bytes_read disk.new File.Pkg ≤ D.bytes_read disk.old File.Pkg + opening_cost (D.files disk.old).pkg }
         ensures looks { Looks D.tells D.files D.left_since D.moment D.bytes_read D.follows Pkg (2 ^ 32) disk.old disk.new }
         ensures cause { HasCauseAt (result ≡ Err DbOpenFault.DiskFault) (D.faults disk.old) (D.faults disk.new) }
     {
-        match PkgDb::open(alloc, disk) {
+        match open_store(alloc, disk) {
             Ok(store) => Ok(Db {
                 store,
-                is_indexed: false,
+                index: None,
                 is_stopped: false,
             }),
-            Err(OpenFault::Damaged(damage)) => Err(DbOpenFault::Damaged(damage)),
-            Err(OpenFault::DiskFault) => Err(DbOpenFault::DiskFault),
-            Err(OpenFault::NoMemory) => Err(DbOpenFault::NoMemory),
+            Err(fault) => Err(fault),
         }
     }
 
@@ -74,9 +176,9 @@ impl Db {
 
     /// Whether an index is kept.
     pub fn is_indexed(&self) -> bool
-        ensures { result ≡ self.now.indexed }
+        ensures { result ≡ is_indexed self.now }
     {
-        self.is_indexed
+        self.index.is_some()
     }
 
     /// Whether a changing call of this value failed at the disk.

@@ -1,17 +1,28 @@
 //! The database of packages: a map from package numbers to headers.
 //!
-//! A package is Good where its blob can be read and is a header, whose own bytes are then the package; else it is Bad. Nothing of
-//! the store's layout shows but how many bytes a call reads.
+//! A package is Good where its blob can be read and is a header, whose own bytes are then the package; else it is Bad. The index keeps
+//! the keys of the Good packages beside them; it is made from the packages where it isn't current. Nothing of the layout of the two
+//! files shows but how many bytes a call reads.
 #![tactic(auto)]
 
+mod change;
 mod database;
+mod finding;
+#[cfg(test)]
+mod index_tests;
+mod indexing;
 mod opening;
 mod reading;
+mod rebuilding;
+mod rows;
+mod starting;
 #[cfg(test)]
 mod tests;
 mod verify;
 
+pub use change::ChangeFault;
 pub use database::Db;
 pub use opening::DbOpenFault;
+pub use rpm_hindex::{FindFault, Hit, Hits};
 pub use rpm_pkgdb::{Damage, GetFault, Reason};
 pub use verify::Verdict;

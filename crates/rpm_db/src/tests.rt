@@ -70,7 +70,7 @@ fn push_blocks(
 }
 
 // The file of seven packages. Sums that don't hold are 0.
-fn file(alloc: Global) -> Result<Vec<u8>, AllocError> {
+pub fn file(alloc: Global) -> Result<Vec<u8>, AllocError> {
     let mut behind = Vec::new(alloc);
     behind.extend_from_slice(&PLAIN)?;
     behind.extend_from_slice(b"more")?;

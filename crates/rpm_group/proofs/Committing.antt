@@ -35,6 +35,15 @@ group_of held es fs pkg idx = record {
       ∙ logged_laid fs Idx held.idx.table.items held.idx.end idx held.idx.past held.idx.last
       (with_file Pkg (laid held.pkg.table.items held.pkg.end files.pkg) files);
   count = length-append es fs ∙ omega (arith, pkg.count, idx.count);
+  order = record {
+    pkg = es;
+    idx = fs;
+    joined = refl;
+    pkg_runs = pkg.runs;
+    idx_runs = idx.runs;
+    pkg_count = pkg.count;
+    idx_count = idx.count;
+  };
 }
 
 -- and stand in the log one behind the other

@@ -1,7 +1,7 @@
 -- The definitions of the log, computed on small logs: what they say doesn't come from the code.
 use Rattle.std.specs.Prelude.{◌≡◌, ℕ, List, [], ◌∷◌, refl, replicate}
-use Rattle.rpm_outside.specs.declared.disk.File.TheVariants.{Pkg, Idx}
-use Rattle.rpm_outside.specs.Files.{Units, Files, blank, put}
+use Rattle.rpm_outside.specs.declared.disk.File.TheVariants.{Pkg}
+use Rattle.rpm_outside.specs.Files.{blank, put}
 use Rattle.rpm_outside.specs.Logs.{Closed, Malformed, Open, log_state, reopened, word, is_gate, is_head, entry_at, heads}
 
 -- `RpmL`, version 1, so many entries, the last unit

@@ -12,4 +12,5 @@ pub mod Runs
 pub mod Pieces
 pub mod LoggedLaws
 pub mod Entering
+pub mod Orders
 pub mod Committing

@@ -15,6 +15,7 @@ use Rattle.rpm_group.specs.Held.{Table, held_at, unit_over, laid, EndsAt}
 use Rattle.rpm_group.specs.Counts.{is_held, begins_run, count_below}
 use Rattle.rpm_group.specs.inner.HeldUnits.{AreHeld}
 use Rattle.rpm_group.specs.inner.Logged.{Logged, run_entry}
+use Rattle.rpm_group.proofs.Orders.{runs_more, runs_push}
 use Rattle.rpm_group.proofs.Applied.{with_entries-append}
 use Rattle.rpm_group.proofs.Runs.{length-units_held, unit_at-units_held}
 use Rattle.rpm_group.proofs.Laids.{length-laid, unit_at-laid}
@@ -51,6 +52,7 @@ logged_none file table none = record {
   end_below = omega arith;
   gap = λ i from below. absurd (omega (arith, from, below));
   count = sym none;
+  runs = omega arith;
 }
 
 module _ (entries : List Entry) (file : File) (table : Table) (at first : ℕ) (so_far : Logged entries file table at) (low : at ≤ first)
@@ -76,6 +78,7 @@ module _ (entries : List Entry) (file : File) (table : Table) (at first : ℕ) (
       | inr past ↦ between i past below
     ];
     count = so_far.count ∙ sym counted;
+    runs = runs_more file 0 at first entries so_far.runs low;
   }
 
   module _ (stop : ℕ) (some : first < stop) (held : AreHeld table first stop) where
@@ -142,6 +145,7 @@ module _ (entries : List Entry) (file : File) (table : Table) (at first : ℕ) (
       end_below = omega arith;
       gap = λ i from below. absurd (omega (arith, from, below));
       count = length_push entries entry ∙ omega (arith, so_far.count, counted);
+      runs = runs_push file 0 at stop entries entry so_far.runs refl low (omega (arith, long_entry));
     }
 
 -- all runs together are what is held

@@ -3,7 +3,7 @@ use Rattle.std.specs.Prelude.{◌≡◌, ◌⊎◌, ℕ, ◌+◌, ◌-◌, ◌�
 use Rattle.std.proofs.Common.{inl, inr, ⊎_elim, refl, ◌∙◌, arith}
 use Rattle.rpm_outside.specs.declared.disk.File.{File}
 use Rattle.rpm_outside.specs.Files.{Files}
-use Rattle.rpm_outside.specs.Crash.{Untouched, LeavesOnly, bytes_for}
+use Rattle.rpm_outside.specs.Crash.{LeavesOnly}
 
 -- the disk below has the same contents, images and moment, of each file at most as many bytes were read there as here, it follows itself,
 -- and its count of faults didn't fall

@@ -1,5 +1,5 @@
 -- What a commit answers.
-use Rattle.std.specs.Prelude.{◌≡◌, ℕ, ◌<◌, ◌^◌, Result, Ok, Err}
+use Rattle.std.specs.Prelude.{◌≡◌, ℕ, ◌<◌, Result, Ok, Err}
 use Rattle.rpm_group.specs.declared.commit.CommitFault.{CommitFault}
 use Rattle.rpm_group.specs.declared.commit.CommitFault.TheVariants.{LogFull, DiskFault}
 
@@ -7,8 +7,8 @@ use Rattle.rpm_group.specs.declared.commit.CommitFault.TheVariants.{LogFull, Dis
 abbrev pub IsFull : ℕ → Result (Unit {0}) CommitFault → Type 0
 IsFull units result = result ≡ Err (LogFull units)
 
--- only a group that needs more units than a log has is refused, and with that number; only one that needs more than the gate can fail
-abbrev pub CommitSays : ℕ → Result (Unit {0}) CommitFault → Type 0
-CommitSays units (Ok done) = Unit {0}
-CommitSays units (Err (LogFull needed)) = (needed ≡ units) × (2 ^ 28 < units)
-CommitSays units (Err DiskFault) = 1 < units
+-- only a group that needs more units than a log may have is refused, and with that number; only one that needs more than the gate can fail
+abbrev pub CommitSays : ℕ → ℕ → Result (Unit {0}) CommitFault → Type 0
+CommitSays limit units (Ok done) = Unit {0}
+CommitSays limit units (Err (LogFull needed)) = (needed ≡ units) × (limit < units)
+CommitSays limit units (Err DiskFault) = 1 < units

@@ -1,7 +1,5 @@
 -- How many units are held, and in how many runs.
-use Rattle.std.specs.Prelude.{◌≡◌, ℕ, ◌+◌, ◌<◌, ◌≤◌, Bool, true, ◌&&◌, not, is_some, if◌then◌else◌, unwrap_or, map}
-use Rattle.std.specs.List.{range_with_len}
-use Rattle.rpm_outside.specs.Files.{Units, blank}
+use Rattle.std.specs.Prelude.{ℕ, ◌+◌, Bool, ◌&&◌, not, is_some, if◌then◌else◌}
 use Rattle.std.proofs.Common.{zero, suc}
 use Rattle.rpm_group.specs.Held.{Table, held_at}
 

@@ -1,17 +1,12 @@
 -- A group of changes: what is held of the two files.
-use Rattle.std.specs.Prelude.{◌≡◌, ◌⊎◌, ℕ, ◌+◌, List, length, Bool, IsTrue}
+use Rattle.std.specs.Prelude.{◌≡◌, ◌⊎◌, ℕ, ◌+◌, Bool, IsTrue}
 use Rattle.rpm_outside.specs.Crash.{Untouched}
 use Rattle.rpm_outside.specs.declared.disk.File.{File}
-use Rattle.rpm_outside.specs.declared.disk.File.TheVariants.{Pkg, Idx}
-use Rattle.rpm_outside.specs.Files.{Units, Files}
-use Rattle.rpm_outside.specs.Logs.{Entry, with_entries, reopened}
-use Rattle.rpm_outside.specs.LogWrites.{EntriesIn}
-use Rattle.rpm_group.specs.declared.group.Tail.{Tail}
+use Rattle.rpm_outside.specs.Files.{Files}
+use Rattle.rpm_outside.specs.Logs.{reopened}
 use Rattle.rpm_group.specs.declared.layers.Layers.{Layers}
 use Rattle.rpm_group.specs.declared.pages.Pages.{Pages}
 use Rattle.rpm_group.specs.Counts.{is_held, begins_run, count_below, log_units}
-use Rattle.rpm_group.specs.Layers.{laid_file}
-use Rattle.rpm_group.specs.inner.Logged.{CoversHeld}
 
 -- how many runs there are, and how many units a log takes for them
 abbrev pub runs_of : Pages → ℕ

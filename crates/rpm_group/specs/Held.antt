@@ -1,5 +1,5 @@
 -- What is held of a file.
-use Rattle.std.specs.Prelude.{◌≡◌, ◌⊎◌, ℕ, ◌+◌, ◌*◌, ◌/◌, ◌%◌, ◌<◌, ◌≤◌, List, take, drop, length, Option, Some, None, slice_index_or, if◌then◌else◌, true, false, is_some, Box, unwrap_or, map, max}
+use Rattle.std.specs.Prelude.{◌≡◌, ℕ, ◌*◌, ◌/◌, ◌%◌, ◌≤◌, List, take, drop, length, Option, Some, None, slice_index_or, if◌then◌else◌, false, Box, unwrap_or, map, max}
 use Rattle.std.specs.List.{range_with_len}
 use Rattle.rpm_outside.specs.Files.{Units, unit_at}
 use Rattle.std.specs.declared.alloc.Global.{Global}

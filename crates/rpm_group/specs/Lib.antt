@@ -9,5 +9,6 @@ pub mod Loads
 pub mod Loaded
 pub mod Counts
 pub mod Groups
+pub mod Orders
 pub mod Commits
 pub mod inner

@@ -1,10 +1,7 @@
 -- What a run of calls reads that writes several files.
-use Rattle.std.proofs.Common.{◌≡◌, ℕ, ◌≤◌, Bool, refl, ◌∙◌, arith}
-use Rattle.std.specs.Prelude.{IsTrue}
+use Rattle.std.proofs.Common.{◌≡◌, ℕ, ◌≤◌, refl, ◌∙◌, arith}
 use Rattle.rpm_outside.specs.declared.disk.File.{File}
-use Rattle.rpm_outside.specs.declared.disk.File.TheVariants.{Pkg, Idx, Log}
-use Rattle.rpm_outside.specs.Files.{Files}
-use Rattle.rpm_outside.specs.Crash.{Untouched}
+use Rattle.rpm_outside.specs.declared.disk.File.TheVariants.{Pkg, Idx}
 
 -- of the other two files nothing is read
 pub record ReadsLog {D : Type 0} (moment : D → ℕ) (bytes_read : D → File → ℕ) (follows : D → D → Type 0) (old new : D) : Type 0 where

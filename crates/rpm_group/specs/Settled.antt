@@ -1,8 +1,7 @@
 -- What a stop may leave of a disk, seen by what its files stand for.
-use Rattle.std.specs.Prelude.{◌≡◌, ℕ, Bool, List, Result, Ok, Err, true, false}
-use Rattle.rpm_outside.specs.declared.disk.File.{File}
-use Rattle.rpm_outside.specs.Files.{Files, file_of}
-use Rattle.rpm_outside.specs.Logs.{Entry, LogState, Closed, Malformed, reopened}
+use Rattle.std.specs.Prelude.{◌≡◌, Bool, Result, Ok, Err, true, false}
+use Rattle.rpm_outside.specs.Files.{Files}
+use Rattle.rpm_outside.specs.Logs.{LogState, Closed, Malformed, reopened}
 use Rattle.rpm_group.specs.Readings.{IsOpen}
 use Rattle.rpm_group.specs.declared.recovery.RecoverFault.{RecoverFault}
 use Rattle.rpm_group.specs.declared.recovery.RecoverFault.TheVariants.{BadLog, DiskFault}

@@ -3,6 +3,7 @@ pub mod Holding
 pub mod LogReadings
 pub mod HeldUnits
 pub mod Leavings
+pub mod Behind
 pub mod Words
 pub mod Logged
 pub mod Grouped

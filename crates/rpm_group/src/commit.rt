@@ -9,6 +9,8 @@ ghost use Rattle.rpm_outside.specs.Logs.{Entry, Closed, Open, log_state, unlogge
 ghost use Rattle.rpm_outside.specs.Changes.{AreSettled, IsSettled};
 ghost use Rattle.rpm_group.specs.LogReads.{ReadsNothing, ReadsLog};
 ghost use Rattle.rpm_group.specs.inner.Logged.{CoversHeld};
+ghost use Rattle.rpm_group.specs.Orders.{IsLogged};
+ghost use Rattle.rpm_group.specs.inner.Behind.{KeepsBehind};
 ghost use Rattle.rpm_group.specs.inner.Leavings.{WasWithin};
 ghost use Rattle.rpm_group.specs.Groups.{runs_of, units_of_log, needed, BeforeOrAfter, Unwritten};
 ghost use Rattle.rpm_group.specs.inner.Grouped.{with_held, IsGroup, IsTail};
@@ -57,6 +59,7 @@ fn open_log<D: Disk>(disk: &mut D, tail: Tail) -> Result<(), Failed>
         → log_state (D.files disk.new).log ≡ Open entries) }
     ensures same { IsTrue D.tells → unlogged (D.files disk.new) ≡ unlogged (D.files disk.old) }
     ensures long { IsTrue D.tells → length (D.files disk.old).log ≤ length (D.files disk.new).log }
+    ensures behind { OnOk result (IsTrue D.tells → KeepsBehind (D.files disk.old).log (D.files disk.new).log) }
     ensures settled { OnOk result (IsTrue D.tells → AreSettled (D.files disk.new) (D.left_since disk.new (D.moment disk.new))) }
     ensures images { IsTrue D.tells → (entries : List Entry) → IsTail entries tail (D.files disk.old).log
         → LeavesOnly D.moment D.left_since disk.old disk.new
@@ -93,6 +96,7 @@ fn write_group<D: Disk>(disk: &mut D, held: &Layers) -> Result<(), Failed>
     requires closed { IsTrue D.tells → log_state (D.files disk.old).log ≡ Closed }
     ensures files { OnOk result (IsTrue D.tells → unlogged (D.files disk.new) ≡ unlogged (with_held held.now (D.files disk.old))) }
     ensures closed { OnOk result (IsTrue D.tells → log_state (D.files disk.new).log ≡ Closed) }
+    ensures logged { OnOk result (IsTrue D.tells → IsLogged held.now (D.files disk.new).log) }
     ensures settled { OnOk result (IsTrue D.tells → AreSettled (D.files disk.new) (D.left_since disk.new (D.moment disk.new))) }
     ensures images { IsTrue D.tells
         → LeavesOnly D.moment D.left_since disk.old disk.new
@@ -115,18 +119,21 @@ pub enum CommitFault {
     DiskFault,
 }
 
-/// Writes what is held as one change, or nothing where nothing is held.
-fn write_held<D: Disk>(disk: &mut D, held: &Layers) -> Result<(), CommitFault>
+/// Writes what is held as one change, or nothing where nothing is held. The log may have this many units.
+fn write_held<D: Disk>(disk: &mut D, held: &Layers, limit: u64) -> Result<(), CommitFault>
+    requires some { 0 < limit }
+    requires limit { limit ≤ 2 ^ 28 }
     requires settled { IsTrue D.tells → AreSettled (D.files disk.old) (D.left_since disk.old (D.moment disk.old)) }
     requires closed { IsTrue D.tells → log_state (D.files disk.old).log ≡ Closed }
     ensures files { OnOk result (IsTrue D.tells → unlogged (D.files disk.new) ≡ unlogged (with_held held.now (D.files disk.old))) }
     ensures closed { OnOk result (IsTrue D.tells → log_state (D.files disk.new).log ≡ Closed) }
+    ensures logged { OnOk result (IsTrue D.tells → IsLogged held.now (D.files disk.new).log) }
     ensures settled { OnOk result (IsTrue D.tells → AreSettled (D.files disk.new) (D.left_since disk.new (D.moment disk.new))) }
     ensures images { IsTrue D.tells
         → LeavesOnly D.moment D.left_since disk.old disk.new
         (BeforeOrAfter (unlogged (D.files disk.old)) (unlogged (with_held held.now (D.files disk.old)))) }
-    ensures says { CommitSays (needed held.now) result }
-    ensures full { 2 ^ 28 < needed held.now → IsFull (needed held.now) result }
+    ensures says { CommitSays limit (needed held.now) result }
+    ensures full { limit < needed held.now → IsFull (needed held.now) result }
     ensures idle { needed held.now ≡ 1 → Unwritten D.tells D.files D.left_since D.moment D.bytes_read disk.old disk.new }
     ensures unwritten { IsFull (needed held.now) result → Unwritten D.tells D.files D.left_since D.moment D.bytes_read disk.old disk.new }
     ensures reads { ReadsLog D.moment D.bytes_read D.follows disk.old disk.new }
@@ -138,7 +145,7 @@ fn write_held<D: Disk>(disk: &mut D, held: &Layers) -> Result<(), CommitFault>
     if units == 0 {
         return Ok(());
     }
-    if units >= 268_435_456 {
+    if units >= limit {
         return Err(CommitFault::LogFull { needed: 1 + units });
     }
     let Ok(()) = write_group(disk, held) else {
@@ -147,8 +154,38 @@ fn write_held<D: Disk>(disk: &mut D, held: &Layers) -> Result<(), CommitFault>
     Ok(())
 }
 
+// How many units a log may have.
+const MOST: u64 = 268_435_456;
+
 impl<D: Disk> Overlay<D> {
     ghost use Rattle.rpm_group.specs.Overlay.{overlay_below, overlay_held, overlay_starved};
+
+    /// Makes what is held one change, as `commit` does, with a log that may have this many units.
+    pub(crate) fn commit_within(self, limit: u64) -> (D, Result<(), CommitFault>)
+        requires some { 0 < limit }
+        requires limit { limit ≤ 2 ^ 28 }
+        requires starved { overlay_starved self ≡ 0 }
+        requires settled { IsTrue D.tells → AreSettled (D.files (overlay_below self)) (D.left_since (overlay_below self) (D.moment (overlay_below self))) }
+        requires closed { IsTrue D.tells → log_state (D.files (overlay_below self)).log ≡ Closed }
+        ensures files { OnOk result.1 (IsTrue D.tells
+            → unlogged (D.files result.0) ≡ unlogged (laid_files (overlay_held self) (D.files (overlay_below self)))) }
+        ensures closed { OnOk result.1 (IsTrue D.tells → log_state (D.files result.0).log ≡ Closed) }
+        ensures logged { OnOk result.1 (IsTrue D.tells → IsLogged (overlay_held self) (D.files result.0).log) }
+        ensures settled { OnOk result.1 (IsTrue D.tells → AreSettled (D.files result.0) (D.left_since result.0 (D.moment result.0))) }
+        ensures images { IsTrue D.tells → LeavesOnly D.moment D.left_since (overlay_below self) result.0
+            (BeforeOrAfter (unlogged (D.files (overlay_below self))) (unlogged (laid_files (overlay_held self) (D.files (overlay_below self))))) }
+        ensures says { CommitSays limit (needed (overlay_held self)) result.1 }
+        ensures full { limit < needed (overlay_held self) → IsFull (needed (overlay_held self)) result.1 }
+        ensures idle { needed (overlay_held self) ≡ 1 → Unwritten D.tells D.files D.left_since D.moment D.bytes_read (overlay_below self) result.0 }
+        ensures unwritten { IsFull (needed (overlay_held self)) result.1 → Unwritten D.tells D.files D.left_since D.moment D.bytes_read
+            (overlay_below self) result.0 }
+        ensures reads { ReadsLog D.moment D.bytes_read D.follows (overlay_below self) result.0 }
+        ensures cause { HasCauseAt (result.1 ≡ Err CommitFault.DiskFault) (D.faults (overlay_below self)) (D.faults result.0) }
+    {
+        let (mut below, held) = self.into_parts();
+        let answer = write_held(&mut below, &held, limit);
+        (below, answer)
+    }
 
     /// Makes what is held of the two files one change of the disk below, and hands that back. What is held of the log is dropped.
     ///
@@ -167,10 +204,11 @@ impl<D: Disk> Overlay<D> {
         ensures files { OnOk result.1 (IsTrue D.tells
             → unlogged (D.files result.0) ≡ unlogged (laid_files (overlay_held self) (D.files (overlay_below self)))) }
         ensures closed { OnOk result.1 (IsTrue D.tells → log_state (D.files result.0).log ≡ Closed) }
+        ensures logged { OnOk result.1 (IsTrue D.tells → IsLogged (overlay_held self) (D.files result.0).log) }
         ensures settled { OnOk result.1 (IsTrue D.tells → AreSettled (D.files result.0) (D.left_since result.0 (D.moment result.0))) }
         ensures images { IsTrue D.tells → LeavesOnly D.moment D.left_since (overlay_below self) result.0
             (BeforeOrAfter (unlogged (D.files (overlay_below self))) (unlogged (laid_files (overlay_held self) (D.files (overlay_below self))))) }
-        ensures says { CommitSays (needed (overlay_held self)) result.1 }
+        ensures says { CommitSays (2 ^ 28) (needed (overlay_held self)) result.1 }
         ensures full { 2 ^ 28 < needed (overlay_held self) → IsFull (needed (overlay_held self)) result.1 }
         ensures idle { needed (overlay_held self) ≡ 1 → Unwritten D.tells D.files D.left_since D.moment D.bytes_read (overlay_below self) result.0 }
         ensures unwritten { IsFull (needed (overlay_held self)) result.1 → Unwritten D.tells D.files D.left_since D.moment D.bytes_read
@@ -178,8 +216,6 @@ impl<D: Disk> Overlay<D> {
         ensures reads { ReadsLog D.moment D.bytes_read D.follows (overlay_below self) result.0 }
         ensures cause { HasCauseAt (result.1 ≡ Err CommitFault.DiskFault) (D.faults (overlay_below self)) (D.faults result.0) }
     {
-        let (mut below, held) = self.into_parts();
-        let answer = write_held(&mut below, &held);
-        (below, answer)
+        self.commit_within(MOST)
     }
 }

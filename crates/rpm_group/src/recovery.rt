@@ -11,6 +11,7 @@ ghost use Rattle.rpm_group.specs.LogReads.{ReadsLog};
 ghost use Rattle.rpm_group.specs.Readings.{entries_of, IsOpen};
 ghost use Rattle.rpm_group.specs.inner.LogReadings.{IsHead, heads_behind};
 ghost use Rattle.rpm_group.specs.Settled.{ReopensAsOneOf, RecoverSays, RecoverKeeps};
+ghost use Rattle.rpm_group.specs.inner.Behind.{KeepsBehind};
 ghost use Rattle.rpm_group.specs.inner.Leavings.{WasWithin, ReopensAs};
 ghost use Rattle.rpm_outside.specs.declared.disk.File.TheVariants.{Log};
 ghost use Rattle.rpm_outside.specs.Looks.{LooksAt};
@@ -162,6 +163,7 @@ pub fn close_log<D: Disk>(disk: &mut D) -> Result<(), Failed>
     requires open { IsTrue D.tells → IsOpen (log_state (D.files disk.old).log) }
     requires done { IsTrue D.tells → with_entries (entries_of (log_state (D.files disk.old).log)) (unlogged (D.files disk.old)) ≡ unlogged (D.files disk.old) }
     ensures closed { OnOk result (IsTrue D.tells → log_state (D.files disk.new).log ≡ Closed) }
+    ensures behind { OnOk result (IsTrue D.tells → KeepsBehind (D.files disk.old).log (D.files disk.new).log) }
     ensures same { IsTrue D.tells → unlogged (D.files disk.new) ≡ unlogged (D.files disk.old) }
     ensures settled { OnOk result (IsTrue D.tells → AreSettled (D.files disk.new) (D.left_since disk.new (D.moment disk.new))) }
     ensures images { IsTrue D.tells → LeavesOnly D.moment D.left_since disk.old disk.new (ReopensAs (unlogged (D.files disk.old))) }

@@ -1,7 +1,7 @@
 ghost use Rattle.std.specs.Prelude.{◌≡◌, ◌%◌, length};
 
-use crate::whole::{write_seven, write_units};
-use crate::{LoadFault, Overlay, RecoverFault, recover};
+use crate::whole::{write_seven, write_units, write_within};
+use crate::{CommitFault, LoadFault, Overlay, RecoverFault, recover};
 use rpm_outside::{Disk, File, MemDisk, Pick};
 use std::alloc::{AllocError, Global};
 use std::test::Fail;
@@ -37,10 +37,40 @@ fn logged(alloc: Global, changes: &[(usize, u8)]) -> Result<MemDisk, AllocError>
     MemDisk::new(alloc, &unit(1), &[unit(2), unit(3)].concat(alloc)?, &log)
 }
 
+// The bytes of the two files.
+#[derive(Drop)]
+struct Both {
+    pkg: Vec<u8>,
+    idx: Vec<u8>,
+}
+
+fn has_both(alloc: Global, disk: &MemDisk, files: &Both) -> Result<bool, AllocError> {
+    Ok(has(alloc, disk, File::Pkg, &files.pkg)? && has(alloc, disk, File::Idx, &files.idx)?)
+}
+
+// The bytes of a gate that aren't zeros.
+const SHUT: [(usize, u8); 7] = [(0, 0), (1, 0), (2, 0), (3, 0), (4, 0), (8, 0), (12, 0)];
+
+#[test]
+fn a_closed_log_says_nothing(rt: HostRuntime) -> Result<(), Fail> {
+    let alloc = rt.alloc();
+    // a gate of zeros with rubbish behind it
+    let mut disk = logged(alloc, &SHUT)?;
+    assert_eq!(rt; recover(&mut disk), Ok(false));
+    assert!(rt; has(alloc, &disk, File::Pkg, &unit(1))?);
+    let Ok(overlay) = Overlay::load(alloc, disk) else {
+        return Err("not loaded".into());
+    };
+    assert_eq!(rt; overlay.held(), 0);
+    // each of the two calls read one unit
+    assert_eq!(rt; overlay.release().bytes_read(File::Log), 32);
+    Ok(())
+}
+
 #[test]
 fn an_open_log_is_finished(rt: HostRuntime) -> Result<(), Fail> {
     let alloc = rt.alloc();
-    // as it stands, with two entries of which the second lies over the first, and of zeros with rubbish behind them
+    // as it stands, and with two entries of which the second lies over the first
     for (changes, pkg, idx, open) in [
         ([(0, 0x52), (0, 0x52)], [1, 7, 8], [9, 3], true),
         ([(64, 1), (68, 2)], [1, 7, 9], [2, 3], true),
@@ -90,6 +120,11 @@ fn a_wrong_log_is_told_with_its_unit(rt: HostRuntime) -> Result<(), Fail> {
             Err(refused) => assert_eq!(rt; refused.why, LoadFault::BadLog { unit: at }),
         }
     }
+    // a gate alone
+    let mut log = [0u8; 16];
+    log.copy_from_slice(&LOG[..16]);
+    let mut disk = MemDisk::new(alloc, &[], &[], &log)?;
+    assert_eq!(rt; recover(&mut disk), Err(RecoverFault::BadLog { unit: 0 }));
     Ok(())
 }
 
@@ -129,13 +164,14 @@ fn an_overlay_reads_what_is_held_over_what_is_below(rt: HostRuntime) -> Result<(
     assert!(rt; has(alloc, &disk, File::Pkg, &unit(1))?);
     Ok(())
 }
-// Whether each image of a moment, once it is recovered, has one of these as Packages.db.
+
+// Whether each image of a moment, once it is recovered, has one of these as its two files.
 fn images_have(
     alloc: Global,
     disk: &MemDisk,
     moment: u64,
-    old: &[u8],
-    new: &[u8],
+    old: &Both,
+    new: &Both,
 ) -> Result<bool, Fail> {
     if moment > disk.now() {
         return Ok(false);
@@ -150,29 +186,43 @@ fn images_have(
         if recover(&mut image).is_err() {
             return Ok(false);
         }
-        let pkg = image.copy_file(alloc, File::Pkg)?;
-        if pkg.as_slice() != old && pkg.as_slice() != new {
+        if !has_both(alloc, &image, old)? && !has_both(alloc, &image, new)? {
             return Ok(false);
         }
     }
     Ok(true)
 }
 
+// One run, and a run of each file.
+const ONE: [(File, u16, u8); 1] = [(File::Pkg, 0, 7)];
+
+const TWO: [(File, u16, u8); 2] = [(File::Idx, 1, 9), (File::Pkg, 0, 7)];
+
 #[test]
 fn a_stop_leaves_a_change_whole_or_not_at_all(rt: HostRuntime) -> Result<(), Fail> {
     let alloc = rt.alloc();
-    let old = [unit(1), unit(2)].concat(alloc)?;
-    let new = [unit(7), unit(2)].concat(alloc)?;
-    for failing in 0..20u64 {
-        let mut disk = MemDisk::new(alloc, &old, &[], &[])?;
-        disk.fail_call(failing)?;
-        let (disk, done) = write_seven(alloc, disk);
-        for moment in 0..disk.now() {
-            assert!(rt; images_have(alloc, &disk, moment, &old, &new)?);
+    let old = Both {
+        pkg: [unit(1), unit(2)].concat(alloc)?,
+        idx: Vec::new(alloc),
+    };
+    // how many units of the index are there then, and how many calls are made
+    for (units, written, calls) in [(ONE.as_slice(), 0, 15), (TWO.as_slice(), 2, 18)] {
+        let mut new = Both {
+            pkg: [unit(7), unit(2)].concat(alloc)?,
+            idx: [unit(0), unit(9)].concat(alloc)?,
+        };
+        new.idx.truncate(16 * written);
+        for failing in 0..24u64 {
+            let mut disk = MemDisk::new(alloc, &old.pkg, &[], &[])?;
+            disk.fail_call(failing)?;
+            let (disk, done) = write_units(alloc, disk, units);
+            for moment in 0..disk.now() {
+                assert!(rt; images_have(alloc, &disk, moment, &old, &new)?);
+            }
+            let before = if done { &new } else { &old };
+            assert!(rt; images_have(alloc, &disk, disk.now(), before, &new)?);
+            assert_eq!(rt; done, failing == 0 || failing > calls, "call {failing}");
         }
-        let before = if done { &new } else { &old };
-        assert!(rt; images_have(alloc, &disk, disk.now(), before, &new)?);
-        assert_eq!(rt; done, failing == 0 || failing > 15, "call {failing}");
     }
     Ok(())
 }
@@ -185,6 +235,8 @@ fn a_change_is_written_run_by_run(rt: HostRuntime) -> Result<(), Fail> {
         let (disk, done) = write_units(alloc, MemDisk::new(alloc, &[], &[], &[])?, units);
         assert!(rt; done && disk.now() == 3);
     }
+    let (disk, done) = write_seven(alloc, MemDisk::new(alloc, &unit(1), &[], &[])?);
+    assert!(rt; done && has(alloc, &disk, File::Pkg, &unit(7))?);
     let units = [
         (File::Idx, 1, 9),
         (File::Pkg, 3, 7),
@@ -219,6 +271,24 @@ fn a_change_is_written_run_by_run(rt: HostRuntime) -> Result<(), Fail> {
 }
 
 #[test]
+fn a_group_that_the_log_has_no_room_for_is_refused(rt: HostRuntime) -> Result<(), Fail> {
+    let alloc = rt.alloc();
+    // the gate, and two runs of a unit each
+    for (limit, wanted) in [
+        (5, Ok(())),
+        (4, Err(CommitFault::LogFull { needed: 5 })),
+        (1, Err(CommitFault::LogFull { needed: 5 })),
+    ] {
+        let disk = MemDisk::new(alloc, &[], &[], &[])?;
+        let (disk, answer) = write_within(alloc, disk, &TWO, limit);
+        assert_eq!(rt; answer, wanted);
+        // nothing is written, and the three files were settled before
+        assert_eq!(rt; answer.is_err(), disk.now() == 3);
+    }
+    Ok(())
+}
+
+#[test]
 fn ten_thousand_runs_are_one_change(rt: HostRuntime) -> Result<(), Fail> {
     let alloc = rt.alloc();
     let mut units = Vec::new(alloc);
@@ -235,15 +305,17 @@ fn ten_thousand_runs_are_one_change(rt: HostRuntime) -> Result<(), Fail> {
 #[test]
 fn a_stop_while_recovering_is_recovered(rt: HostRuntime) -> Result<(), Fail> {
     let alloc = rt.alloc();
-    let new = [1, 7, 8].map(unit).concat(alloc)?;
+    let new = Both {
+        pkg: [1, 7, 8].map(unit).concat(alloc)?,
+        idx: [9, 3].map(unit).concat(alloc)?,
+    };
     for failing in 0..20u64 {
         let mut disk = logged(alloc, &[])?;
         disk.fail_call(failing)?;
         let done = recover(&mut disk).is_ok();
-        for moment in 0..disk.now() {
+        for moment in 0..=disk.now() {
             assert!(rt; images_have(alloc, &disk, moment, &new, &new)?);
         }
-        assert!(rt; images_have(alloc, &disk, disk.now(), &new, &new)?);
         assert_eq!(rt; done, failing == 0 || failing > 17, "call {failing}");
     }
     Ok(())

@@ -1,12 +1,12 @@
 //! Commands in small: what is left of an earlier change is finished, a change is made on an overlay, and committed.
 
-ghost use Rattle.std.specs.Prelude.{◌≡◌, ◌⊎◌, ℕ, IsTrue, true, ◌∷◌, [], replicate};
+ghost use Rattle.std.specs.Prelude.{◌≡◌, ◌⊎◌, ◌<◌, ◌≤◌, ◌^◌, ℕ, IsTrue, true, ◌∷◌, [], replicate};
 ghost use Rattle.rpm_outside.specs.Files.{Files, put};
 ghost use Rattle.rpm_outside.specs.Crash.{LeavesOnly};
 ghost use Rattle.rpm_outside.specs.Logs.{reopened};
 ghost use Rattle.rpm_group.specs.inner.Wholes.{with_seven, LeavesBoth};
 
-use crate::{Overlay, recover};
+use crate::{CommitFault, Overlay, recover};
 use rpm_outside::{Disk, Failed, File};
 use std::alloc::Global;
 
@@ -47,22 +47,34 @@ fn write_all<D: Disk>(disk: &mut D, units: &[(File, u16, u8)]) -> Result<(), Fai
     Ok(())
 }
 
-/// Writes units of one byte each, as one change.
-pub fn write_units<D: Disk + Drop>(alloc: Global, disk: D, units: &[(File, u16, u8)]) -> (D, bool) {
+/// Writes units of one byte each, as one change, with a log that may have this many units. `DiskFault` is any other fault too.
+pub fn write_within<D: Disk + Drop>(
+    alloc: Global,
+    disk: D,
+    units: &[(File, u16, u8)],
+    limit: u64,
+) -> (D, Result<(), CommitFault>)
+    requires { (0 < limit) × (limit ≤ 2 ^ 28) }
+{
     let mut disk = disk;
     let Ok(_) = recover(&mut disk) else {
-        return (disk, false);
+        return (disk, Err(CommitFault::DiskFault));
     };
     let mut overlay = match Overlay::load(alloc, disk) {
         Ok(overlay) => overlay,
-        Err(refused) => return (refused.disk, false),
+        Err(refused) => return (refused.disk, Err(CommitFault::DiskFault)),
     };
     let Ok(()) = write_all(&mut overlay, units) else {
-        return (overlay.release(), false);
+        return (overlay.release(), Err(CommitFault::DiskFault));
     };
     if overlay.is_starved() {
-        return (overlay.release(), false);
+        return (overlay.release(), Err(CommitFault::DiskFault));
     }
-    let (below, answer) = overlay.commit();
+    overlay.commit_within(limit)
+}
+
+/// Writes units of one byte each, as one change.
+pub fn write_units<D: Disk + Drop>(alloc: Global, disk: D, units: &[(File, u16, u8)]) -> (D, bool) {
+    let (below, answer) = write_within(alloc, disk, units, 268_435_456);
     (below, answer.is_ok())
 }

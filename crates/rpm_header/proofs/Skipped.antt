@@ -1,10 +1,11 @@
 -- Texts that are passed over.
 use Rattle.std.proofs.Common.{◌≡◌, ℕ, zero, suc, ◌+◌, ◌-◌, ◌<◌, List, [], ◌∷◌, take, drop, true, false, Some, refl, sym, ap, ◌∙◌, arith, inl, inr}
-use Rattle.std.specs.Prelude.{slice_get}
-use Rattle.std.specs.List.{before_first, after_first, position_or_len}
+use Rattle.std.specs.Prelude.{slice_get, is_some}
+use Rattle.std.specs.List.{before_first, after_first, position, position_or_len}
 use Rattle.std.proofs.lemmas.Bool.{cases_Bool}
-use Rattle.rpm_header.specs.Bytes.{is_zero, texts}
+use Rattle.rpm_header.specs.Bytes.{is_zero, texts, are_ended, Splits}
 use Rattle.rpm_header.specs.inner.Zeros.{zeros, skipped}
+use Rattle.rpm_header.proofs.Bools.{and_true}
 use Rattle.rpm_header.proofs.Counted.{zeros-cons, zeros-nil}
 
 -- the text behind so many others
@@ -50,3 +51,33 @@ skip_drop (suc k) i (b ∷ bs) lt =
           ∙ ap (λ (s : List ℕ). skipped (i - 1) s) (sym (after_other b bs there))
           ∙ sym (skip_one i (b ∷ bs) (omega arith)))
     ]
+
+-- a text more
+pub skip_split : (left next : ℕ) (bytes first others : List ℕ) → left ≡ next + 1 → Splits bytes first others → skipped left bytes ≡ skipped next others
+unfolding skipped
+skip_split left next bytes first others is s =
+    let k : left ≡ suc next = omega arith in
+    rw (k, s.others) refl
+
+pub skip_none : (n : ℕ) (bytes : List ℕ) → n ≡ 0 → skipped n bytes ≡ bytes
+unfolding skipped
+skip_none n bytes none = rw none refl
+
+skip_next : (i : ℕ) (bytes : List ℕ) → skipped (suc i) bytes ≡ after_first is_zero (skipped i bytes)
+unfolding skipped
+skip_next zero bytes = refl
+skip_next (suc i) bytes = skip_next i (after_first is_zero bytes)
+
+pub skip_one_more : (i j : ℕ) (bytes : List ℕ) → j ≡ i + 1 → skipped j bytes ≡ after_first is_zero (skipped i bytes)
+skip_one_more i j bytes is =
+    let k : j ≡ suc i = omega arith in
+    rw k (skip_next i bytes)
+
+-- the text behind fewer texts than there are has its zero byte
+pub ended_behind : (n i : ℕ) (bytes : List ℕ) → i < n → are_ended n bytes ≡ true → is_some (position is_zero (skipped i bytes)) ≡ true
+unfolding skipped are_ended
+ended_behind zero i bytes lt e = absurd (omega arith)
+ended_behind (suc n) zero bytes lt e = (and_true (is_some (position is_zero bytes)) (are_ended n (after_first is_zero bytes)) e).0
+ended_behind (suc n) (suc i) bytes lt e =
+    ended_behind n i (after_first is_zero bytes) (omega arith)
+    (and_true (is_some (position is_zero bytes)) (are_ended n (after_first is_zero bytes)) e).1

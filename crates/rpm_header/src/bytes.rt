@@ -5,6 +5,7 @@ ghost use Rattle.std.specs.List.{position};
 ghost use Rattle.std.specs.Int.{w16, w32, w64};
 ghost use Rattle.rpm_header.specs.Bytes.{number_at, is_zero, are_ended, texts, Splits};
 ghost use Rattle.rpm_header.specs.Laid.{joined};
+ghost use Rattle.rpm_header.specs.inner.Zeros.{skipped};
 
 /// The number of two bytes from a place on, the highest first.
 #[tactic(auto, unfolding(crate::specs::Bytes::number_at))]
@@ -92,6 +93,19 @@ pub fn text_of(count: u32, bytes: &[u8], i: u32) -> &[u8]
     }
     let (text, _) = next_text(rest);
     text
+}
+
+/// What stands behind so many texts that have their zero bytes. Reads the bytes of these texts once.
+pub fn skip_texts(count: u32, bytes: &[u8]) -> &[u8]
+    requires { are_ended count bytes.now ≡ true }
+    ensures { result.now ≡ skipped count bytes.now }
+{
+    let mut rest = bytes;
+    for _ in 0..count {
+        let (_, others) = next_text(rest);
+        rest = others;
+    }
+    rest
 }
 
 /// Where so many texts end that have their zero bytes. Reads the bytes of these texts once.

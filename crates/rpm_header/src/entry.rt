@@ -10,7 +10,7 @@ ghost use Rattle.rpm_header.specs.inner.Packed.{item_at, IsStored};
 use crate::bytes::{next_text, text_of, texts_end, u16_at, u32_at, u64_at};
 use crate::form::Form;
 use crate::index::{IndexEntry, alignment, form_of, has_texts, index_entry_at, section_of};
-use crate::places::TextPlaces;
+use crate::places::{PlacesRoom, TextPlaces};
 use std::marker::Model;
 
 /// One entry of a header: a tag, and elements that borrow the header's bytes. Contracts see it as
@@ -104,12 +104,13 @@ impl<'a> Entry<'a> {
         }
     }
 
-    /// All texts by place, to be read in any order. Counts the zeros of their bytes once.
-    pub fn places(&self) -> TextPlaces<'a>
+    /// All texts by place, to be read in any order. Counts the zeros of their bytes once, and keeps
+    /// these numbers in the room.
+    pub fn places<'p>(&self, room: &'p mut PlacesRoom) -> TextPlaces<'p, 'a>
         requires { IsTrue (has_texts self.now.form) }
         ensures { result ≡ texts_of self.now.values }
     {
-        TextPlaces::new(self.count, self.bytes)
+        TextPlaces::new(self.count, self.bytes, room)
     }
 
     /// The bytes of a `Bin`, borrowed from the header. Reads none of them.

@@ -38,7 +38,7 @@ pub use dribbles::with_dribbles;
 pub use entry::{Entry, EntryTexts};
 pub use form::{Form, HeaderFault};
 pub use laying::BuildFault;
-pub use places::TextPlaces;
+pub use places::{PlacesRoom, TextPlaces};
 pub use text_list::TextList;
 pub use view::View;
 

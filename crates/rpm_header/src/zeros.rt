@@ -82,13 +82,17 @@ pub fn between(bytes: &[u8], from: usize, to: usize) -> &[u8]
     &bytes[from..to.min(bytes.len())]
 }
 
+/// Whether one of the first 64 bytes is seen to be zero.
+pub fn has_end_near(bytes: &[u8]) -> bool {
+    bytes.len() >= BLOCK && zeros_of_block(bytes) > 0
+}
+
 /// The block in which so many texts end, and how many of them end in it or behind it. Reads each
 /// byte in front of it once, 64 at a time.
 pub fn pass_blocks(count: u32, bytes: &[u8]) -> (u32, &[u8])
-    requires { count < zeros bytes.now }
+    requires { count ≤ zeros bytes.now }
     ensures same { skipped result.0 result.1.now ≡ skipped count bytes.now }
-    ensures more { result.0 < zeros result.1.now }
-    ensures few { result.0 ≤ count }
+    ensures more { result.0 ≤ zeros result.1.now }
 {
     let mut rest = bytes;
     let mut left = count;

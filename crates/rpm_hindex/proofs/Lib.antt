@@ -23,6 +23,7 @@ pub mod Drafting
 pub mod Imaging
 pub mod Scratch
 pub mod Patched
+pub mod Swapping
 pub mod Placing
 pub mod Costing
 pub mod Same

@@ -19,7 +19,7 @@ pub after_next : (ps : List Patch) (k : ℕ) (file : Units) → k < length ps �
 after_next ps k file lt = ap (λ (qs : List Patch). after_units qs file) (take_more ps k (record { unit = 0; words = [] }) lt) ∙ after_push (take k ps)
     (patch_at ps k) file
 
-abbrev Within : ℕ → List Patch → Type 0
+abbrev pub Within : ℕ → List Patch → Type 0
 Within end ps = (k : ℕ) → k < length ps → (1 ≤ (patch_at ps k).unit) × ((patch_at ps k).unit < end)
 
 pub units_front : (end : ℕ) (ps : List Patch) (file : Units) → Within end ps → unit_at (after_units ps file) 0 ≡ unit_at file 0

@@ -1,8 +1,31 @@
--- An index that is current at a generation is in order.
-use Rattle.std.proofs.Common.{◌≡◌, true, ℕ, eqb}
-use Rattle.std.proofs.lemmas.Bool.{and_parts}
-use Rattle.rpm_hindex.specs.State.{State, sealed, is_in_order, is_current}
+-- An index that is sealed.
+use Rattle.std.proofs.Common.{◌≡◌, true, ℕ, ◌<◌, ◌^◌, ◌∷◌, [], refl, ap, ◌∙◌, arith, eqb}
+use Rattle.std.proofs.lemmas.Bool.{and_parts, cond-true}
+use Rattle.rpm_outside.specs.Files.{Units, unit_at, put}
+use Rattle.rpm_outside.specs.inner.Puts.{put_inside}
+use Rattle.rpm_hindex.specs.Words.{word}
+use Rattle.rpm_hindex.specs.State.{State, sealed, is_headed, is_in_order, is_current, buckets_of, seal_unit, magic}
+use Rattle.rpm_hindex.specs.Whole.{IsWellFormed}
+use Rattle.rpm_hindex.specs.Images.{IsSealed}
+use Rattle.rpm_hindex.proofs.UnitWords.{headed, word_2, word_3}
+use Rattle.rpm_hindex.proofs.Seals.{front_behind, whole_behind, records_behind}
 
+-- one that is current at a generation is in order
 pub current_in_order : (generation : ℕ) (s : State) → is_current generation s ≡ true → is_in_order s ≡ true
 unfolding is_current
 current_in_order generation s p = (and_parts (eqb (sealed s.first) generation) (is_in_order s) p).1
+
+-- a file that gets the unit of a seal in front
+pub sealed_file : (g buckets : ℕ) (old : Units) → g < 2 ^ 32 → buckets < 2 ^ 32 → IsWellFormed buckets old
+    → IsSealed g buckets old (put 0 (seal_unit g buckets ∷ []) old)
+sealed_file g buckets old glt blt whole =
+    let unit = seal_unit g buckets in
+    let new = put 0 (unit ∷ []) old in
+    let front : unit_at new 0 ≡ unit = put_inside 0 (unit ∷ []) old 0 (omega arith) in
+    let behind = front_behind unit old new refl in
+    record {
+      generation_is = ap sealed front ∙ cond-true (is_headed unit) (word 2 unit) 0 (headed g buckets) ∙ word_2 magic 2 g buckets glt;
+      buckets_are = ap buckets_of front ∙ word_3 magic 2 g buckets blt;
+      whole = whole_behind buckets old new behind whole;
+      records_are = records_behind buckets old new behind whole;
+    }

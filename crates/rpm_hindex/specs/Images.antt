@@ -1,6 +1,9 @@
 -- What a stop may leave of Hindex.db, beside what it was.
 use Rattle.std.specs.Prelude.{◌≡◌, ◌⊎◌, ◌≤◌, ℕ, List, [], ◌∷◌, length}
 use Rattle.rpm_outside.specs.Files.{Units, unit_at, blank, put}
+use Rattle.rpm_hindex.specs.Index.{records}
+use Rattle.rpm_hindex.specs.State.{sealed, buckets_of}
+use Rattle.rpm_hindex.specs.Whole.{IsWellFormed}
 
 -- unit 0 is that of the file before
 abbrev pub SameSeal : Units → Units → Type 0
@@ -17,3 +20,10 @@ VoidOrSameSeal from image = (unit_at image 0 ≡ blank) ⊎ (unit_at image 0 ≡
 -- the file before, or the same with this unit in front, where it has a unit 0
 abbrev pub SealedOrSame : List ℕ → Units → Units → Type 0
 SealedOrSame unit from image = 1 ≤ length from → (image ≡ from) ⊎ (image ≡ put 0 (unit ∷ []) from)
+
+-- a file that is sealed at this generation, and well formed with the same records
+pub record IsSealed (generation buckets : ℕ) (from image : Units) : Type 0 where
+  pub generation_is : sealed (unit_at image 0) ≡ generation
+  pub buckets_are : buckets_of (unit_at image 0) ≡ buckets
+  pub whole : IsWellFormed buckets image
+  pub records_are : records buckets image ≡ records buckets from

@@ -58,22 +58,24 @@ fn write_tail<D: Disk>(disk: &mut D, used: u32, tail: &[u8]) -> Result<(), Index
     write_units(disk, used as u64, tail)
 }
 
-/// Writes the units that change, and the records behind all others.
+/// Writes the records behind all others, and then the units that change, which lie before them.
 fn write_records<D: Disk>(disk: &mut D, patches: &Patches) -> Result<(), IndexDiskFault>
     requires units { (k : ℕ) → k < length patches.now.units.items → (1 ≤ (patch_at patches.now.units.items k).unit)
         × ((patch_at patches.now.units.items k).unit < 2 ^ 28) }
+    requires within { (k : ℕ) → k < length patches.now.units.items → (patch_at patches.now.units.items k).unit < patches.now.used }
     requires behind { 1 ≤ patches.now.used }
     requires whole { length patches.now.tail.items % 16 ≡ 0 }
     requires room { patches.now.used + length patches.now.tail.items / 16 ≤ 2 ^ 28 }
+    requires fits { IsTrue D.tells → patches.now.used ≤ length (D.files disk.old).idx }
     ensures written { OnOk result (IsTrue D.tells → (D.files disk.new).idx ≡ after_tail patches.now.used patches.now.tail.items
         (after_units patches.now.units.items (D.files disk.old).idx)) }
     ensures changes { Changes D.tells D.files D.left_since D.moment D.bytes_read D.follows Idx SameSeal 0 disk.old disk.new }
     ensures cause { HasCause (D.faults disk.old) (D.faults disk.new) result }
 {
-    let Ok(()) = write_patches(disk, &patches.units) else {
+    let Ok(()) = write_tail(disk, patches.used, &patches.tail) else {
         return Err(IndexDiskFault);
     };
-    write_tail(disk, patches.used, &patches.tail)
+    write_patches(disk, &patches.units)
 }
 
 /// Writes unit 1, and settles the file.
@@ -124,7 +126,7 @@ impl Hindex {
 
     /// Writes a change, and settles the file. The index isn't sealed then. Takes no memory and reads nothing.
     ///
-    /// In place, each unit that changes is one write, and all new records are one.
+    /// In place, all new records are one write, and then each unit that changes is one.
     ///
     /// # Errors
     ///

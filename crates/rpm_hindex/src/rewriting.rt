@@ -62,6 +62,7 @@ impl Hindex {
         requires keeps { IsTrue D.tells → Keeps (D.files disk.old).idx self.old }
         ensures full { IsFull (units_for rows.now) result }
         ensures pending { OnOk result (self.new.pending ≡ bucket_count (length rows.now)) }
+        ensures voided { OnOk result (self.new.first ≡ blank) }
         ensures ordered { OnOk result (is_ordered self.new.pending self.new.second self.new.units ≡ true) }
         ensures kept { OnOk result (IsTrue D.tells → Keeps (D.files disk.new).idx self.new) }
         ensures whole { OnOk result (IsTrue D.tells → IsWellFormed self.new.pending (D.files disk.new).idx) }
@@ -88,6 +89,7 @@ impl Hindex {
         requires room { 1 + length image.now.bytes.items / 16 ≤ 2 ^ 28 }
         requires keeps { IsTrue D.tells → Keeps (D.files disk.old).idx self.old }
         ensures pending { OnOk result (self.new.pending ≡ image.now.buckets) }
+        ensures voided { OnOk result (self.new.first ≡ blank) }
         ensures second { OnOk result (self.new.second ≡ take 16 image.now.bytes.items) }
         ensures units { OnOk result (1 + length image.now.bytes.items / 16 ≤ self.new.units) }
         ensures kept { OnOk result (IsTrue D.tells → Keeps (D.files disk.new).idx self.new) }

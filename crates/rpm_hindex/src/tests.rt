@@ -58,11 +58,6 @@ fn the_index_of_one_key_has_these_bytes(rt: HostRuntime) -> Result<(), Fail> {
     Ok(())
 }
 
-// A key of two letters for a number below 676.
-fn key(k: u32) -> [u8; 2] {
-    [b'a' + (k / 26 % 26) as u8, b'a' + (k % 26) as u8]
-}
-
 // Writes the index of these rows, and seals it.
 fn rewritten(
     alloc: Global,
@@ -124,35 +119,44 @@ fn push_times(rows: &mut Rows, key: &[u8], times: usize) -> Result<(), AllocErro
 
 // Keys, and how often the row of each is there before a change, is dropped and added by it, and is there then. The last three share
 // a bucket.
-const KEYS: [(&[u8], usize, usize, usize, usize); 6] = [
-    (b"", 1, 0, 1, 2),
-    (b"sixteen bytes go", 1, 1, 0, 0),
-    (b"seventeen bytes g", 0, 1, 1, 1),
-    (b"a", 2, 1, 0, 1),
-    (b"az", 1, 1, 1, 1),
-    (b"ef", 1, 0, 0, 1),
+const KEYS: [(&[u8], [usize; 4]); 6] = [
+    (b"", [1, 0, 1, 2]),
+    (b"sixteen bytes go", [1, 1, 0, 0]),
+    (b"seventeen bytes g", [0, 1, 1, 1]),
+    (b"a", [2, 1, 0, 1]),
+    (b"az", [1, 1, 1, 1]),
+    (b"ef", [1, 0, 0, 1]),
 ];
+
+// The rows of one of these columns.
+fn column(alloc: Global, at: usize) -> Result<Rows, AllocError> {
+    let mut rows = Rows::new(alloc);
+    for (key, times) in KEYS {
+        if at < 4 {
+            push_times(&mut rows, key, times[at])?;
+        }
+    }
+    Ok(rows)
+}
+
+// Whether each key is found as often as a column says.
+fn are_found(alloc: Global, disk: &mut MemDisk, generation: u32, at: usize) -> bool {
+    for (key, times) in KEYS {
+        if at >= 4 || found(alloc, disk, generation, key) != Some(times[at]) {
+            return false;
+        }
+    }
+    true
+}
 
 #[test]
 fn a_row_is_there_as_often_as_it_was_put(rt: HostRuntime) -> Result<(), Fail> {
     let alloc = rt.alloc();
     let mut disk = MemDisk::new(alloc, &[], &[], &[])?;
-    let mut rows = Rows::new(alloc);
-    let mut drops = Rows::new(alloc);
-    let mut adds = Rows::new(alloc);
-    for (key, before, dropped, added, _) in KEYS {
-        push_times(&mut rows, key, before)?;
-        push_times(&mut drops, key, dropped)?;
-        push_times(&mut adds, key, added)?;
-    }
-    rewritten(alloc, &mut disk, &rows, 1)?;
-    for (key, before, _, _, _) in KEYS {
-        assert_eq!(rt; found(alloc, &mut disk, 1, key), Some(before));
-    }
-    changed(alloc, &mut disk, &drops, &adds, 2)?;
-    for (key, _, _, _, after) in KEYS {
-        assert_eq!(rt; found(alloc, &mut disk, 2, key), Some(after));
-    }
+    rewritten(alloc, &mut disk, &column(alloc, 0)?, 1)?;
+    assert!(rt; are_found(alloc, &mut disk, 1, 0));
+    changed(alloc, &mut disk, &column(alloc, 1)?, &column(alloc, 2)?, 2)?;
+    assert!(rt; are_found(alloc, &mut disk, 2, 3));
     Ok(())
 }
 
@@ -192,142 +196,200 @@ const FAULTS: [(usize, u8, u64); 9] = [
     (304, 0x62, 18),
 ];
 
-#[test]
+// What is told to one who looks for the key `a` in an index that is sealed at 2.
 #[tactic(auto, using(crate::proofs::Sealed::current_in_order))]
+fn find_fault(alloc: Global, disk: &mut MemDisk) -> Option<FindFault> {
+    let index = Hindex::open(disk).ok()?;
+    if !index.is_current(2) {
+        return None;
+    }
+    index.find(alloc, disk, 1, b"a").err()
+}
+
+// What is told to one who drops these rows. None where the index isn't sealed at 2.
+#[tactic(auto, using(crate::proofs::Sealed::current_in_order))]
+fn drop_fault(alloc: Global, disk: &mut MemDisk, rows: &Rows) -> Option<Option<PrepareFault>> {
+    let index = Hindex::open(disk).ok()?;
+    if !index.is_current(2) {
+        return None;
+    }
+    let none = Rows::new(alloc);
+    Some(index.prepare(alloc, disk, rows, &none).err())
+}
+
+// A row of each of these keys.
+fn rows_of(alloc: Global, keys: &[&[u8]]) -> Result<Rows, AllocError> {
+    let mut rows = Rows::new(alloc);
+    for key in keys {
+        if key.len() < 100 {
+            rows.push(1, key, 1, 0)?;
+        }
+    }
+    Ok(rows)
+}
+
+#[test]
 fn the_fault_of_a_chain_is_told_with_its_unit(rt: HostRuntime) -> Result<(), Fail> {
     let alloc = rt.alloc();
-    let mut row = Rows::new(alloc);
-    row.push(1, b"a", 1, 0)?;
-    let none = Rows::new(alloc);
+    let row = rows_of(alloc, &[b"a"])?;
     for (at, byte, unit) in FAULTS {
         let mut disk = damaged(alloc, at, byte)?;
-        let index = Hindex::open(&mut disk).or(Err("failed"))?;
-        assert!(rt; index.is_current(2));
-        let hits = index.find(alloc, &mut disk, 1, b"a").err();
-        assert_eq!(rt; hits, Some(FindFault::BadIndex { unit }), "{at}");
-        let plan = index.prepare(alloc, &mut disk, &row, &none).err();
-        assert_eq!(rt; plan, Some(PrepareFault::BadIndex { unit }), "{at}");
+        let fault = find_fault(alloc, &mut disk);
+        assert_eq!(rt; fault, Some(FindFault::BadIndex { unit }), "{at}");
+        let fault = drop_fault(alloc, &mut disk, &row);
+        assert_eq!(rt; fault, Some(Some(PrepareFault::BadIndex { unit })), "{at}");
     }
     Ok(())
 }
 
-// A byte of the first two units to change, whether the index is then current still, and whether a change then drops three records.
-const COUNTS: [(usize, u8, bool); 12] = [
+// A byte of the first two units to change, and what is told then to one who drops three records: nothing where the index isn't current.
+const COUNTS: [(usize, u8, Option<Option<PrepareFault>>); 12] = [
     // as it was, and fewer records and fewer units than the chain has
-    (0, 0x52, true),
-    (20, 2, true),
-    (24, 3, true),
+    (0, 0x52, Some(None)),
+    (20, 2, Some(Some(PrepareFault::BadIndex { unit: 1 }))),
+    (24, 3, Some(Some(PrepareFault::BadIndex { unit: 1 }))),
     // the magic, the version, the generation and the count of buckets
-    (0, 0x53, false),
-    (4, 1, false),
-    (8, 3, false),
-    (12, 0x41, false),
+    (0, 0x53, None),
+    (4, 1, None),
+    (8, 3, None),
+    (12, 0x41, None),
     // units that end before the records or behind the file, records more than two a bucket, units with records more than are there,
     // and fewer than without
-    (16, 17, false),
-    (16, 25, false),
-    (20, 129, false),
-    (24, 7, false),
-    (24, 2, false),
+    (16, 17, None),
+    (16, 25, None),
+    (20, 129, None),
+    (24, 7, None),
+    (24, 2, None),
 ];
 
 #[test]
-#[tactic(auto, using(crate::proofs::Sealed::current_in_order))]
 fn the_first_two_units_are_looked_at(rt: HostRuntime) -> Result<(), Fail> {
     let alloc = rt.alloc();
-    let mut rows = Rows::new(alloc);
-    for key in [b"a".as_slice(), b"az".as_slice(), b"ef".as_slice()] {
-        rows.push(1, key, 1, 0)?;
-    }
-    let none = Rows::new(alloc);
-    for (at, byte, current) in COUNTS {
+    let rows = rows_of(alloc, &[b"a", b"az", b"ef"])?;
+    for (at, byte, wanted) in COUNTS {
         let mut disk = damaged(alloc, at, byte)?;
-        let index = Hindex::open(&mut disk).or(Err("failed"))?;
-        assert_eq!(rt; index.is_current(2), current, "{at}");
-        if index.is_current(2) {
-            let plan = index.prepare(alloc, &mut disk, &rows, &none).err();
-            let wanted = if at == 0 {
-                None
-            } else {
-                Some(PrepareFault::BadIndex { unit: 1 })
-            };
-            assert_eq!(rt; plan, wanted, "{at}");
-        }
+        let fault = drop_fault(alloc, &mut disk, &rows);
+        assert_eq!(rt; fault, wanted, "{at}");
     }
     Ok(())
 }
 
-// Writes an index of the key `a`, and changes it to one of the key `b`.
-fn written(alloc: Global, disk: &mut MemDisk) -> Result<(), &'static str> {
-    let mut row = Rows::new(alloc);
-    row.push(1, b"a", 1, 0).or(Err("no memory"))?;
-    let mut other = Rows::new(alloc);
-    other.push(1, b"b", 2, 0).or(Err("no memory"))?;
-    rewritten(alloc, disk, &row, 1)?;
-    changed(alloc, disk, &row, &other, 2)
+// How often the index has the keys `a` and `b` at each generation: it is made, then changed in place, then from scratch.
+const SEALS: [[usize; 2]; 3] = [[1, 0], [0, 1], [0, 0]];
+
+// Drops and adds a row of each of these keys.
+fn replaced(
+    alloc: Global,
+    disk: &mut MemDisk,
+    drops: &[&[u8]],
+    adds: &[&[u8]],
+    generation: u32,
+) -> Result<(), &'static str> {
+    let drops = rows_of(alloc, drops).or(Err("no memory"))?;
+    let adds = rows_of(alloc, adds).or(Err("no memory"))?;
+    changed(alloc, disk, &drops, &adds, generation)
 }
 
-// Whether an image of a moment is sealed at 2, and has then the second key alone. None where it has others.
-fn sealed_at(alloc: Global, disk: &MemDisk, moment: u64, pick: Pick) -> Option<bool> {
+// Makes the index of each generation up to this one, and voids the third.
+fn written(alloc: Global, disk: &mut MemDisk, last: u32) -> Result<(), &'static str> {
+    let row = rows_of(alloc, &[b"a"]).or(Err("no memory"))?;
+    rewritten(alloc, disk, &row, 1)?;
+    if last > 1 {
+        replaced(alloc, disk, &[b"a"], &[b"b"], 2)?;
+    }
+    if last > 2 {
+        replaced(alloc, disk, &[b"b"], &[], 3)?;
+        let mut index = Hindex::open(disk).or(Err("failed"))?;
+        index.void(disk).or(Err("failed"))?;
+    }
+    Ok(())
+}
+
+fn is_sealed(disk: &mut MemDisk, generation: u32) -> bool {
+    match Hindex::open(disk) {
+        Ok(index) => index.is_current(generation),
+        Err(_) => false,
+    }
+}
+
+// Whether an index has the keys of this generation, or isn't sealed at it.
+fn agrees(alloc: Global, disk: &mut MemDisk, generation: u32) -> bool {
+    for (k, [a, b]) in SEALS.into_iter().enumerate() {
+        if k as u32 + 1 == generation && is_sealed(disk, generation) {
+            return found(alloc, disk, generation, b"a") == Some(a)
+                && found(alloc, disk, generation, b"b") == Some(b);
+        }
+    }
+    true
+}
+
+// Whether each image of a moment agrees with this generation.
+fn images_agree(alloc: Global, disk: &MemDisk, moment: u64, generation: u32) -> bool {
     if moment > disk.now() {
-        return None;
+        return false;
     }
-    let mut image = disk.image(alloc, moment, pick).ok()?;
-    if !Hindex::open(&mut image).ok()?.is_current(2) {
-        return Some(false);
+    for pick in [
+        Pick::Old,
+        Pick::New,
+        Pick::Mixed(1),
+        Pick::Mixed(0x5555_5555),
+    ] {
+        let Ok(mut image) = disk.image(alloc, moment, pick) else {
+            return false;
+        };
+        if !agrees(alloc, &mut image, generation) {
+            return false;
+        }
     }
-    if found(alloc, &mut image, 2, b"a")? == 0 && found(alloc, &mut image, 2, b"b")? == 1 {
-        return Some(true);
-    }
-    None
+    true
 }
 
 #[test]
 fn each_call_stops_and_fails_in_turn(rt: HostRuntime) -> Result<(), Fail> {
     let alloc = rt.alloc();
-    for failing in 0..32u64 {
-        let mut disk = MemDisk::new(alloc, &[], &[], &[])?;
-        disk.fail_call(failing)?;
-        let done = written(alloc, &mut disk).is_ok();
-        assert_eq!(rt; done, disk.faults() == 0, "{failing}");
-        for moment in 0..=disk.now() {
-            for pick in [
-                Pick::Old,
-                Pick::New,
-                Pick::Mixed(1),
-                Pick::Mixed(0x5555_5555),
-            ] {
-                let sealed = sealed_at(alloc, &disk, moment, pick);
-                assert!(rt; sealed.is_some(), "{failing} {moment}");
-                if done && moment == disk.now() {
-                    assert!(rt; sealed == Some(true));
-                }
+    for last in 1..=3u32 {
+        for failing in 0..56u64 {
+            let mut disk = MemDisk::new(alloc, &[], &[], &[])?;
+            disk.fail_call(failing)?;
+            let done = written(alloc, &mut disk, last).is_ok();
+            assert_eq!(rt; done, disk.faults() == 0, "{failing}");
+            for moment in 0..=disk.now() {
+                assert!(rt;
+                    images_agree(alloc, &disk, moment, last),
+                    "{failing} {moment}"
+                );
+            }
+            if failing == 0 {
+                assert_eq!(rt; is_sealed(&mut disk, last), last < 3);
             }
         }
     }
     Ok(())
 }
 
-// Adds a row of each of these numbers.
-fn fill(rows: &mut Rows, from: u32, to: u32, number: u32) -> Result<(), AllocError> {
+// The row of a number.
+fn push_row(rows: &mut Rows, k: u32, number: u32) -> Result<(), AllocError> {
+    rows.push(1 + (k % 3) as u8, &(k / 2).to_be_bytes(), number, k)
+}
+
+// The rows of these numbers.
+fn numbered(alloc: Global, from: u32, to: u32, number: u32) -> Result<Rows, AllocError> {
+    let mut rows = Rows::new(alloc);
     for k in from..to {
-        rows.push(1 + (k % 3) as u8, &key(k / 2), number, k)?;
+        push_row(&mut rows, k, number)?;
     }
-    Ok(())
+    Ok(rows)
 }
 
 // How often the row of k is found, where the index is sealed at this generation.
 #[tactic(auto, using(crate::proofs::Sealed::current_in_order))]
 fn times(alloc: Global, disk: &mut MemDisk, generation: u32, k: u32) -> Option<u32> {
-    let Ok(index) = Hindex::open(disk) else {
-        return None;
-    };
+    let index = Hindex::open(disk).ok()?;
     if !index.is_current(generation) {
         return None;
     }
-    let Ok(hits) = index.find(alloc, disk, 1 + (k % 3) as u8, &key(k / 2)) else {
-        return None;
-    };
+    let kind = 1 + (k % 3) as u8;
+    let hits = index.find(alloc, disk, kind, &(k / 2).to_be_bytes()).ok()?;
     let mut times = 0u32;
     for i in 0..hits.len() {
         if hits.at(i).place == k {
@@ -337,55 +399,13 @@ fn times(alloc: Global, disk: &mut MemDisk, generation: u32, k: u32) -> Option<u
     Some(times)
 }
 
-// How many of the rows of `fill` are found.
+// How many rows of these numbers are found.
 fn count(alloc: Global, disk: &mut MemDisk, generation: u32, from: u32, to: u32) -> Option<u32> {
     let mut found = 0u32;
     for k in from..to {
         found = found.saturating_add(times(alloc, disk, generation, k)?);
     }
     Some(found)
-}
-
-#[test]
-fn a_change_drops_and_adds(rt: HostRuntime) -> Result<(), Fail> {
-    let alloc = rt.alloc();
-    let mut disk = MemDisk::new(alloc, &[], &[], &[])?;
-    let none = Rows::new(alloc);
-    let mut rows = Rows::new(alloc);
-    fill(&mut rows, 0, 100, 1)?;
-    rewritten(alloc, &mut disk, &rows, 1)?;
-    let mut drops = Rows::new(alloc);
-    fill(&mut drops, 10, 30, 1)?;
-    fill(&mut drops, 10, 30, 7)?;
-    let mut adds = Rows::new(alloc);
-    fill(&mut adds, 20, 40, 2)?;
-    changed(alloc, &mut disk, &drops, &adds, 2)?;
-    // in place, behind the 218 units that were there
-    assert_eq!(rt; disk.copy_file(alloc, File::Idx)?.len(), 16 * 258);
-    for (from, to, wanted) in [
-        (0, 10, 10),
-        (10, 20, 0),
-        (20, 30, 10),
-        (30, 40, 20),
-        (40, 100, 60),
-    ] {
-        assert_eq!(rt;
-            count(alloc, &mut disk, 2, from, to),
-            Some(wanted),
-            "{from}"
-        );
-    }
-    // more than two records a bucket: from scratch
-    let mut more = Rows::new(alloc);
-    fill(&mut more, 100, 400, 3)?;
-    changed(alloc, &mut disk, &none, &more, 3)?;
-    assert_eq!(rt; count(alloc, &mut disk, 3, 0, 400), Some(400));
-    assert_eq!(rt; used(alloc, &disk)?, Some(2 + 256 / 4 + 800));
-    // more dead units than live ones: from scratch
-    changed(alloc, &mut disk, &more, &none, 4)?;
-    assert_eq!(rt; count(alloc, &mut disk, 4, 0, 400), Some(100));
-    assert_eq!(rt; used(alloc, &disk)?, Some(2 + 64 / 4 + 200));
-    Ok(())
 }
 
 // The first unit behind all records, as unit 1 says it.
@@ -395,4 +415,64 @@ fn used(alloc: Global, disk: &MemDisk) -> Result<Option<u32>, AllocError> {
         return Ok(None);
     }
     Ok(Some(u32::from_le_bytes([file[16], file[17], file[18], file[19]])))
+}
+
+#[test]
+fn a_change_is_made_in_place_or_from_scratch(rt: HostRuntime) -> Result<(), Fail> {
+    let alloc = rt.alloc();
+    let mut disk = MemDisk::new(alloc, &[], &[], &[])?;
+    rewritten(alloc, &mut disk, &numbered(alloc, 0, 100, 1)?, 1)?;
+    // the rows of each change are dropped and added, and then so many are there, and so many units
+    for (k, (drops, adds, rows, units)) in [
+        // in place, behind the 218 units that were there
+        ((10, 30), (120, 140), 100, 258),
+        // more than two records a bucket: from scratch
+        ((0, 0), (140, 440), 400, 2 + 256 / 4 + 800),
+        // more dead units than live ones: from scratch
+        ((120, 440), (0, 0), 80, 2 + 64 / 4 + 160),
+    ]
+    .into_iter()
+    .enumerate()
+    {
+        let number = if k == 0 { 1 } else { 2 };
+        let drops = numbered(alloc, drops.0, drops.1, number)?;
+        let adds = numbered(alloc, adds.0, adds.1, 2)?;
+        let generation = k as u32 + 2;
+        changed(alloc, &mut disk, &drops, &adds, generation)?;
+        assert_eq!(rt; count(alloc, &mut disk, generation, 0, 440), Some(rows));
+        assert_eq!(rt; used(alloc, &disk)?, Some(units));
+    }
+    Ok(())
+}
+
+// Drops fifty rows of a large index and adds fifty. Gives the bytes that it reads, and how often it writes.
+fn small_change(alloc: Global, disk: &mut MemDisk) -> Result<(u64, u64), &'static str> {
+    let drops = numbered(alloc, 500, 550, 1).or(Err("no memory"))?;
+    let adds = numbered(alloc, 100_000, 100_050, 1).or(Err("no memory"))?;
+    let read = disk.bytes_read(File::Idx);
+    let now = disk.now();
+    changed(alloc, disk, &drops, &adds, 2)?;
+    Ok((
+        disk.bytes_read(File::Idx).saturating_sub(read),
+        disk.now().saturating_sub(now),
+    ))
+}
+
+#[test]
+fn a_small_change_of_a_large_index_stays_small(rt: HostRuntime) -> Result<(), Fail> {
+    let alloc = rt.alloc();
+    let mut disk = MemDisk::new(alloc, &[], &[], &[])?;
+    rewritten(alloc, &mut disk, &numbered(alloc, 0, 100_000, 1)?, 1)?;
+    // each row that is dropped is looked for by opening the index and reading its bucket's chain
+    let read = disk.bytes_read(File::Idx);
+    assert_eq!(rt; count(alloc, &mut disk, 1, 500, 550), Some(50));
+    let looked = disk.bytes_read(File::Idx).saturating_sub(read);
+    let (bytes, moments) = small_change(alloc, &mut disk)?;
+    assert!(rt;
+        bytes <= looked.saturating_add(50 * 16 + 32),
+        "{bytes} of {looked}"
+    );
+    // the records, at most a unit for each row, unit 1, and the seal, with two syncs
+    assert!(rt; moments <= 1 + 100 + 1 + 1 + 2, "{moments}");
+    Ok(())
 }

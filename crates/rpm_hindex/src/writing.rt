@@ -9,7 +9,7 @@ ghost use Rattle.rpm_hindex.specs.Index.{index_in, records};
 ghost use Rattle.rpm_hindex.specs.Whole.{IsWellFormed};
 ghost use Rattle.rpm_outside.specs.declared.disk.File.TheVariants.{Idx};
 ghost use Rattle.rpm_outside.specs.Changes.{Changes, IsSame, IsSettled};
-ghost use Rattle.rpm_hindex.specs.Images.{VoidOrSame, SealedOrSame};
+ghost use Rattle.rpm_hindex.specs.Images.{VoidOrSame, SealedOrSame, IsSealed};
 
 use crate::faults::IndexDiskFault;
 use crate::index::{Hindex, MAGIC};
@@ -108,6 +108,8 @@ impl Hindex {
             (D.files disk.new).idx) }
         ensures records { OnOk result (IsTrue D.tells → IsWellFormed self.old.pending (D.files disk.old).idx → records self.old.pending
             (D.files disk.new).idx ≡ records self.old.pending (D.files disk.old).idx) }
+        ensures whichever { IsTrue D.tells → IsWellFormed self.old.pending (D.files disk.old).idx → IsSealed generation self.old.pending
+            (D.files disk.old).idx (put 0 (seal_unit generation self.old.pending ∷ []) (D.files disk.old).idx) }
         ensures settled { OnOk result (IsTrue D.tells → IsSettled Idx (D.files disk.new) (D.left_since disk.new (D.moment disk.new))) }
         ensures changes { Changes D.tells D.files D.left_since D.moment D.bytes_read D.follows Idx
             (SealedOrSame (seal_unit generation self.old.pending)) 0 disk.old disk.new }

@@ -2,6 +2,7 @@
 pub mod Browsing
 pub mod ChangedLaws
 pub mod Changing
+pub mod Copies
 pub mod Cuts
 pub mod EntryLaws
 pub mod FileLaws

@@ -2,6 +2,7 @@
 #![tactic(auto)]
 
 mod buffered;
+mod copies;
 mod disk;
 mod failed;
 mod mem_disk;

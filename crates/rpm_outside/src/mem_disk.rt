@@ -4,7 +4,9 @@ ghost use Rattle.std.specs.Prelude.{◌≡◌, ◌≤◌, ◌+◌, ◌-◌, ◌^
 ghost use Rattle.std.specs.List.{list_any};
 ghost use Rattle.rpm_outside.specs.Files.{Files, file_of, units_of, bytes_of};
 ghost use Rattle.rpm_outside.specs.Past.{held_files, after_steps};
+ghost use Rattle.rpm_outside.specs.inner.Copies.{HoldCopies};
 
+use crate::copies::Copies;
 use crate::steps::{
     Held, Pick, Step, copy_of, copy_units, go_over, joined, keep_sync, write_units,
 };
@@ -18,6 +20,7 @@ pub struct MemDisk {
     first: Held,
     held: Held,
     steps: Vec<Step>,
+    copies: Copies,
     failing: Vec<u64>,
     calls: u64,
     starved: u64,
@@ -26,6 +29,7 @@ pub struct MemDisk {
     read_idx: u64,
     read_log: u64,
     ghost replayed: { held_files held ≡ after_steps steps.items (held_files first) },
+    ghost copied: { HoldCopies copies steps.items (held_files first) (held_files held) },
 }
 
 impl MemDisk {
@@ -44,6 +48,7 @@ impl MemDisk {
             first,
             held,
             steps: Vec::new(alloc),
+            copies: Copies::new(alloc),
             failing: Vec::new(alloc),
             calls: 0,
             starved: 0,
@@ -67,7 +72,10 @@ impl MemDisk {
         Ok(MemDisk::settled(alloc, first, held))
     }
 
-    /// One of the images that a stop at this moment may leave, as a settled disk. It costs a replay of all writes up to then.
+    /// One of the images that a stop at this moment may leave, as a settled disk. It is made from a copy of the
+    /// files at the last moment before it of which one is kept, and the writes and syncs since then.
+    /// `MemDisk` keeps one at a sync where all files are settled, and as many units were written since
+    /// the last copy as the files have.
     ///
     /// # Errors
     ///
@@ -79,9 +87,10 @@ impl MemDisk {
         ensures picked { IfOk result (λ disk. mem_files disk ≡ picked_image pick (take moment (mem_steps self.now)) (mem_first self.now) (mem_first self.now)) }
         ensures settled { IfOk result (λ disk. IsNew disk (mem_files disk)) }
     {
-        let mut now = copy_of(alloc, &self.first)?;
-        let mut image = copy_of(alloc, &self.first)?;
-        for k in 0..moment as usize {
+        let (from, start) = self.copies.start(alloc, &self.first, moment as usize)?;
+        let mut image = copy_of(alloc, &start)?;
+        let mut now = start;
+        for k in from..moment as usize {
             go_over(alloc, &self.steps[k], &mut now, &mut image, pick)?;
         }
         Ok(MemDisk::settled(alloc, copy_of(alloc, &image)?, image))
@@ -226,6 +235,7 @@ impl Disk for MemDisk {
             self.faults = self.faults.saturating_add(1);
             return Err(Failed);
         };
+        self.copies.loosen(file, bytes.len() as u64 / 16);
         if fails {
             self.faults = self.faults.saturating_add(1);
             return Err(Failed);
@@ -243,6 +253,8 @@ impl Disk for MemDisk {
             self.faults = self.faults.saturating_add(1);
             return Err(Failed);
         };
+        self.copies
+            .settle(self.alloc, file, self.steps.len(), &self.held);
         Ok(())
     }
 }

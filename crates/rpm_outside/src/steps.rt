@@ -46,6 +46,12 @@ impl Held {
         }
     }
 
+    /// How many units the three files have.
+    pub fn units(&self) -> u64 {
+        let most = (self.pkg.len() as u64).saturating_add(self.idx.len() as u64);
+        most.saturating_add(self.log.len() as u64)
+    }
+
     /// Writes units to a file, in place.
     pub fn write(
         &mut self,

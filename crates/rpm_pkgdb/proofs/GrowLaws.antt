@@ -26,16 +26,16 @@ use Rattle.rpm_pkgdb.proofs.ErasesTo.{stands_for, unfolded}
 
 -- ---- free slots behind others
 
-at_front : (slots : List Slot) (k : ℕ) → k < length slots → slot_at (slots ++ replicate 256 free) k ≡ slot_at slots k
+pub at_front : (slots : List Slot) (k : ℕ) → k < length slots → slot_at (slots ++ replicate 256 free) k ≡ slot_at slots k
 at_front slots k below = get_or_append_left slots (replicate 256 free) free k below
 
-at_back : (slots : List Slot) (k : ℕ) → length slots ≤ k → slot_at (slots ++ replicate 256 free) k ≡ free
+pub at_back : (slots : List Slot) (k : ℕ) → length slots ≤ k → slot_at (slots ++ replicate 256 free) k ≡ free
 at_back slots k past = elim (cases_lt (k - length slots) 256) [
   | inl below ↦ get_or-append_right slots (replicate 256 free) (length slots) k free refl past ∙ get_or-replicate 256 (k - length slots) free free below
   | inr far ↦ get_or_past (slots ++ replicate 256 free) k free (omega (arith, length-append slots (replicate 256 free), length-replicate 256 free))
 ]
 
-still_used : (slots : List Slot) (k : ℕ) → is_used (slot_at (slots ++ replicate 256 free) k) ≡ true
+pub still_used : (slots : List Slot) (k : ℕ) → is_used (slot_at (slots ++ replicate 256 free) k) ≡ true
     → (k < length slots) × (slot_at (slots ++ replicate 256 free) k ≡ slot_at slots k)
 still_used slots k used = elim (cases_lt k (length slots)) [
   | inl below ↦ (below, at_front slots k below)
@@ -71,7 +71,7 @@ module _ (st : Store) (can : CanGrow st) where
         blocks = blocks_then st.slots file from image stands.blocks (outside_blocks from st m (256 * st.pages) 256 image page_clear same);
       }
 
-  grown_sound : (units : ℕ) → AreSound st.pages units st.slots → AreSound (st.pages + 1) units after.slots
+  pub grown_sound : (units : ℕ) → AreSound st.pages units st.slots → AreSound (st.pages + 1) units after.slots
   grown_sound units sound = record {
     placed = λ k used.
         let was = still_used st.slots k used in

@@ -1,13 +1,15 @@
 -- One move of several.
-use Rattle.std.proofs.Common.{◌≡◌, ℕ, ◌+◌, ◌<◌, ◌≤◌, List, length, take, ap, ◌∙◌, subst, arith, ◌*◌, ◌^◌}
+use Rattle.std.proofs.Common.{◌≡◌, ℕ, ◌+◌, ◌<◌, ◌≤◌, List, length, take, Some, ap, ◌∙◌, subst, arith, ◌*◌, ◌^◌}
 use Rattle.rpm_outside.specs.Files.{Units}
 use Rattle.rpm_pkgdb.specs.declared.slot.Slot.{Slot}
 use Rattle.rpm_pkgdb.specs.declared.moving.Move.{Move}
 use Rattle.rpm_pkgdb.specs.Slots.{slot_at}
 use Rattle.rpm_pkgdb.specs.Store.{Store}
 use Rattle.rpm_pkgdb.specs.Quiet.{StandsFor, BlobMap}
-use Rattle.rpm_pkgdb.specs.inner.Settings.{CanMove, with_slot, moved}
-use Rattle.rpm_pkgdb.specs.inner.MoveLists.{AreMoves, after_moves, move_at}
+use Rattle.rpm_pkgdb.specs.inner.Settings.{CanMove, with_slot}
+use Rattle.rpm_pkgdb.specs.Growing.{moved, moving_cost}
+use Rattle.std.proofs.lemmas.List.Sums.{sum_by_more, sum_by-take-le}
+use Rattle.rpm_pkgdb.specs.inner.MoveLists.{AreMovesOf, with_moves, move_at, no_move}
 use Rattle.rpm_pkgdb.proofs.MoveListLaws.{Keep, next_can, next_of, after_more, keep_all, unmoved}
 
 pub stands_for_same : (g f g' f' : ℕ) (B B' : BlobMap) (image : Units) → g ≡ g' → f ≡ f' → B ≡ B' → StandsFor g f B image → StandsFor g' f' B' image
@@ -17,14 +19,24 @@ stands_for_same g f g' f' B B' image e_g e_f e_B s =
 abbrev pub old_slot : List Slot → Move → Slot
 old_slot slots m = slot_at slots m.place
 
--- what is read of one slot
-pub few_enough : (count k n : ℕ) → k < n → (offset : ℕ) → offset + count ≤ 2 ^ 28 → 2 ^ 32 * k + 16 * count ≤ 2 ^ 32 * n
-few_enough count k n lt offset le = omega arith
+-- what is read of the first moves
+abbrev pub cost_to : List Slot → List Move → ℕ → ℕ
+cost_to slots moves k = moving_cost slots (Some (take k moves))
 
-module _ (value : Store) (slots : List Slot) (moves : List Move) (k : ℕ) (some : 1 ≤ value.pages) (same : value.slots ≡ slots) (are : AreMoves value moves)
+abbrev count_of : List Slot → Move → ℕ
+count_of slots m = (slot_at slots m.place).count
+
+pub cost_more : (slots : List Slot) (moves : List Move) (k : ℕ) → k < length moves
+    → cost_to slots moves (k + 1) ≡ cost_to slots moves k + 16 * (slot_at slots (move_at moves k).place).count
+cost_more slots moves k below = omega (arith, sum_by_more (count_of slots) moves k no_move below)
+
+pub cost_few : (slots : List Slot) (moves : List Move) (k : ℕ) → cost_to slots moves k ≤ moving_cost slots (Some moves)
+cost_few slots moves k = omega (arith, sum_by-take-le (count_of slots) moves k)
+
+module _ (value : Store) (slots : List Slot) (moves : List Move) (k : ℕ) (some : 1 ≤ value.pages) (same : value.slots ≡ slots) (are : AreMovesOf value moves)
     (below : k < length moves) where
   abbrev pub current : Store
-  current = after_moves value (take k moves)
+  current = with_moves value (take k moves)
 
   abbrev pub next : Move
   next = move_at moves k
@@ -43,5 +55,5 @@ module _ (value : Store) (slots : List Slot) (moves : List Move) (k : ℕ) (some
       subst (λ (s : Slot). CanMove current next.place s next.to) old_is
       (next_can current next (omega (arith, kept.pages_are)) (next_of value moves k are below))
 
-  pub then_after : after_moves value (take (k + 1) moves) ≡ with_slot next.place (moved old next.to) current
+  pub then_after : with_moves value (take (k + 1) moves) ≡ with_slot next.place (moved old next.to) current
   then_after = after_more value moves k below ∙ ap (λ (s : Slot). with_slot next.place (moved s next.to) current) old_is

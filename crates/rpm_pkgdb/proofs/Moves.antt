@@ -23,7 +23,8 @@ use Rattle.rpm_pkgdb.proofs.ClearLaws.{set_here}
 use Rattle.rpm_pkgdb.proofs.FramingLaws.{held_part}
 use Rattle.rpm_pkgdb.specs.Quiet.{StandsAs, StandsFor}
 use Rattle.rpm_pkgdb.proofs.ErasesTo.{stands_for, unfolded}
-use Rattle.rpm_pkgdb.specs.inner.Settings.{CanSet, with_slot, StandsSet, CanMove, moved, blocks_of, WhileMoved}
+use Rattle.rpm_pkgdb.specs.inner.Settings.{CanSet, with_slot, StandsSet, CanMove, blocks_of, WhileMoved}
+use Rattle.rpm_pkgdb.specs.Growing.{moved}
 use Rattle.rpm_pkgdb.proofs.SettingLaws.{aside_stands, set_stands, while_set, set_aside, old_clear, set_alike}
 
 module _ (st : Store) (place : ℕ) (old : Slot) (to : ℕ) (can : CanMove st place old to) (F0 : Units) (keeps : Keeps F0 st) where

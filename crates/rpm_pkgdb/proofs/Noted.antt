@@ -7,7 +7,7 @@ use Rattle.rpm_blocks.specs.declared.Range.{Range}
 use Rattle.rpm_blocks.specs.Blocks.{Blocks, with_range, without}
 use Rattle.rpm_blocks.specs.Laws.{with_range_here, with_range_keeps, with_range_only, without_keeps, without_only, begins_in}
 use Rattle.rpm_pkgdb.specs.declared.slot.Slot.{Slot}
-use Rattle.rpm_pkgdb.specs.declared.plan.Plan.{Plan}
+use Rattle.rpm_pkgdb.specs.declared.plan.Target.{Target}
 use Rattle.rpm_pkgdb.proofs.Facts.{cases_Bool, number_facts, has_it_from}
 use Rattle.rpm_pkgdb.specs.Slots.{slot_at, is_used, has_number, free}
 use Rattle.rpm_pkgdb.specs.Pairs.{Pairs, find_in}
@@ -19,9 +19,9 @@ use Rattle.rpm_pkgdb.proofs.ClearLaws.{set_here, set_other}
 use Rattle.rpm_pkgdb.specs.inner.Keeping.{IsKept}
 use Rattle.rpm_pkgdb.specs.inner.Ranges.{range_of, UsedBy, AreRangesOf, HasUsed, HasStart, Forgets, ForgetsSlot, Remembers, IsFreeIn}
 use Rattle.rpm_pkgdb.proofs.RangeLaws.{other_start}
-use Rattle.rpm_pkgdb.specs.Plans.{IsPlan, slot_for}
+use Rattle.rpm_pkgdb.specs.Plans.{IsTarget, slot_for}
 use Rattle.rpm_pkgdb.proofs.PlanLaws.{fits_to}
-use Rattle.rpm_pkgdb.proofs.PutsLaws.{plan_sound, number_le, other_number}
+use Rattle.rpm_pkgdb.proofs.PutsLaws.{target_sound, number_le, other_number}
 
 some_of : (o : Option ℕ) → IsSome o → (x : ℕ) × (o ≡ Some x)
 some_of (Some x) is = (x, refl)
@@ -30,18 +30,18 @@ some_of None is = absurd (cc)
 some_same : (o : Option ℕ) (x y : ℕ) → o ≡ Some x → o ≡ Some y → x ≡ y
 some_same o x y e f = cc
 
-module _ (numbers : Pairs) (v : Store) (plan : Plan) (is : IsPlan v plan) (made : 1 ≤ v.pages) (kept : IsKept numbers v.pages v.slots) where
+module _ (numbers : Pairs) (v : Store) (target : Target) (is : IsTarget v target) (made : 1 ≤ v.pages) (kept : IsKept numbers v.pages v.slots) where
   abbrev k : ℕ
-  k = plan.place
+  k = target.place
 
   abbrev s : Slot
-  s = slot_for plan
+  s = slot_for target
 
   abbrev slots : List Slot
   slots = v.slots
 
   abbrev after : List Slot
-  after = set v.slots plan.place (slot_for plan)
+  after = set v.slots target.place (slot_for target)
 
   new_at : slot_at after k ≡ s
   new_at = set_here v.pages (2 ^ 28) slots kept.sound k is.below s
@@ -49,7 +49,7 @@ module _ (numbers : Pairs) (v : Store) (plan : Plan) (is : IsPlan v plan) (made 
   same_at : (j : ℕ) → j ≢ k → slot_at after j ≡ slot_at slots j
   same_at j differs = set_other v.pages (2 ^ 28) slots kept.sound k is.below s j differs
 
-  pub above_all : plan.is_new ≡ true → (m : ℕ) → IsSome (find_in numbers m) → m < plan.number
+  pub above_all : target.is_new ≡ true → (m : ℕ) → IsSome (find_in numbers m) → m < target.number
   above_all new m there =
       let x = some_of (find_in numbers m) there in
       let o = kept.places.only m x.0 x.1 in
@@ -60,38 +60,38 @@ module _ (numbers : Pairs) (v : Store) (plan : Plan) (is : IsPlan v plan) (made 
   pub fits_free : (used : Option Blocks) (spare : ℕ) → HasUsed used spare slots → 1 ≤ spare → IsFreeIn s used
   fits_free None spare has room = absurd (omega arith)
   fits_free (Some b) spare has room =
-      ((fits_to v.pages b.ranges slots kept.sound has.0 (blocks_for plan.length) (omega arith) plan.start is.start.fits).free, omega (arith, has.1))
+      ((fits_to v.pages b.ranges slots kept.sound has.0 (blocks_for target.length) (omega arith) target.start is.start.fits).free, omega (arith, has.1))
 
   used_new : is_used s ≡ true
-  used_new = (let low : plan.start ≢ 0 = omega (arith, made, is.start.from_on) in grind (arith, nat_tests))
+  used_new = (let low : target.start ≢ 0 = omega (arith, made, is.start.from_on) in grind (arith, nat_tests))
 
   -- ---- numbers
 
-  held_here : plan.is_new ≡ false → find_in numbers plan.number ≡ Some k
+  held_here : target.is_new ≡ false → find_in numbers target.number ≡ Some k
   held_here not_new =
-      let h = number_facts plan.number (slot_at slots k) (is.held not_new) in
+      let h = number_facts target.number (slot_at slots k) (is.held not_new) in
       ap (find_in numbers) (sym h.number) ∙ kept.places.each k is.below h.used
 
   -- what the map says after the put
   pub record Says (next : Pairs) : Type 0 where
-    pub here : find_in next plan.number ≡ Some k
-    pub others : (m : ℕ) → m ≢ plan.number → find_in next m ≡ find_in numbers m
+    pub here : find_in next target.number ≡ Some k
+    pub others : (m : ℕ) → m ≢ target.number → find_in next m ≡ find_in numbers m
 
-  pub says : (next : Pairs) → (plan.is_new ≡ true → Adds (find_in numbers) (find_in next) plan.number k) → (plan.is_new ≡ false → next ≡ numbers) → Says next
-  says next new held = elim (cases_Bool plan.is_new) [
+  pub says : (next : Pairs) → (target.is_new ≡ true → Adds (find_in numbers) (find_in next) target.number k) → (target.is_new ≡ false → next ≡ numbers) → Says next
+  says next new held = elim (cases_Bool target.is_new) [
     | inl is_new ↦ (let a = new is_new in record { here = a.here; others = a.others })
     | inr not_new ↦ (let e = held not_new in record {
-      here = ap (λ (l : Pairs). find_in l plan.number) e
+      here = ap (λ (l : Pairs). find_in l target.number) e
           ∙ held_here not_new;
       others = λ m differs. ap (λ (l : Pairs). find_in l m) e;
     })
   ]
 
   -- the slot that is replaced is free, or has the number
-  at_place : (m : ℕ) → has_number m (slot_at slots k) ≡ true → m ≡ plan.number
-  at_place m has = elim (cases_Bool plan.is_new) [
+  at_place : (m : ℕ) → has_number m (slot_at slots k) ≡ true → m ≡ target.number
+  at_place m has = elim (cases_Bool target.is_new) [
     | inl new ↦ absurd (let u = (is.new new).1.unused in let f = (number_facts m (slot_at slots k) has).used in let e : true ≡ false = sym f ∙ u in cc)
-    | inr not_new ↦ sym (number_facts m (slot_at slots k) has).number ∙ (number_facts plan.number (slot_at slots k) (is.held not_new)).number
+    | inr not_new ↦ sym (number_facts m (slot_at slots k) has).number ∙ (number_facts target.number (slot_at slots k) (is.held not_new)).number
   ]
 
   pub noted_kept : (next : Pairs) → Says next → IsKept next v.pages after
@@ -103,12 +103,12 @@ module _ (numbers : Pairs) (v : Store) (plan : Plan) (is : IsPlan v plan) (made 
         | inr other ↦
             (let stays = same_at j other in
             let was : is_used (slot_at slots j) ≡ true = ap is_used (sym stays) ∙ used in
-            let differs : (slot_at slots j).number ≢ plan.number = λ same. other_number v plan is (2 ^ 28) kept.sound j other was (sym same) in
+            let differs : (slot_at slots j).number ≢ target.number = λ same. other_number v target is (2 ^ 28) kept.sound j other was (sym same) in
             ap (λ (t : Slot). find_in next t.number) stays ∙ now.others (slot_at slots j).number differs ∙ kept.places.each j (used_below slots j was) was)
       ];
-      only = λ m j found. elim (cases_eq m plan.number) [
+      only = λ m j found. elim (cases_eq m target.number) [
         | inl same ↦
-            (let here : j ≡ k = some_same (find_in next plan.number) j k (ap (find_in next) (sym same) ∙ found) now.here in
+            (let here : j ≡ k = some_same (find_in next target.number) j k (ap (find_in next) (sym same) ∙ found) now.here in
             (omega (arith, is.below, length-set slots k s), ap (has_number m) (ap (slot_at after) here ∙ new_at) ∙ has_it_from m s used_new (sym same)))
         | inr differs ↦
             (let o = kept.places.only m j (sym (now.others m differs) ∙ found) in
@@ -123,24 +123,24 @@ module _ (numbers : Pairs) (v : Store) (plan : Plan) (is : IsPlan v plan) (made 
           subst (λ (t : Slot). IsPackageNumber t.number) (sym stays)
           (kept.numbered j (omega (arith, below, length-set slots k s)) (ap is_used (sym stays) ∙ used)))
     ];
-    sound = plan_sound v plan is made (2 ^ 28) is.start.fits.ends kept.sound;
+    sound = target_sound v target is made (2 ^ 28) is.start.fits.ends kept.sound;
     limit = kept.limit;
     count = length-set slots k s ∙ kept.count;
   }
 
   -- ---- ranges
 
-  module _ (old : Slot) (new : plan.is_new ≡ true → old ≡ free) (held : plan.is_new ≡ false → old ≡ slot_at slots k) where
+  module _ (old : Slot) (new : target.is_new ≡ true → old ≡ free) (held : target.is_new ≡ false → old ≡ slot_at slots k) where
     -- a used old slot is the one at the place
     old_is : is_used old ≡ true → old ≡ slot_at slots k
-    old_is used = elim (cases_Bool plan.is_new) [
+    old_is used = elim (cases_Bool target.is_new) [
       | inl is_new ↦ absurd (let e : is_used old ≡ is_used free = ap is_used (new is_new) in cc)
       | inr not_new ↦ held not_new
     ]
 
     -- and an unused one stands there
     old_unused : is_used old ≡ false → is_used (slot_at slots k) ≡ false
-    old_unused unused = elim (cases_Bool plan.is_new) [
+    old_unused unused = elim (cases_Bool target.is_new) [
       | inl is_new ↦ (is.new is_new).1.unused
       | inr not_new ↦ ap is_used (sym (held not_new)) ∙ unused
     ]
@@ -189,7 +189,7 @@ module _ (numbers : Pairs) (v : Store) (plan : Plan) (is : IsPlan v plan) (made 
       }
 
       module _ (e : Blocks) (used_k : is_used (slot_at slots k) ≡ true) (gone : e.ranges ≡ without (slot_at slots k).offset d.ranges) where
-        start_differs : plan.start ≢ (slot_at slots k).offset
+        start_differs : target.start ≢ (slot_at slots k).offset
         start_differs same = elim (is.start.fits.apart k used_k) [
           | inl l ↦ omega (arith, l)
           | inr r ↦ omega (arith, r, (kept.sound.placed k used_k).some)

@@ -4,7 +4,7 @@ use Rattle.rpm_outside.specs.Files.{Units, unit_at, units_of, put}
 use Rattle.rpm_outside.specs.Crash.{Torn}
 use Rattle.rpm_outside.specs.inner.Puts.{length-put, put_before, put_inside, put_after}
 use Rattle.rpm_pkgdb.specs.declared.slot.Slot.{Slot}
-use Rattle.rpm_pkgdb.specs.declared.plan.Plan.{Plan}
+use Rattle.rpm_pkgdb.specs.declared.plan.Target.{Target}
 use Rattle.rpm_pkgdb.specs.Slots.{slot_at, is_used, end_of, greatest_number}
 use Rattle.rpm_pkgdb.proofs.Facts.{cases_Bool, number_facts}
 use Rattle.rpm_pkgdb.specs.Store.{Store, Keeps}
@@ -15,7 +15,7 @@ use Rattle.rpm_pkgdb.proofs.Made.{made}
 use Rattle.rpm_pkgdb.specs.inner.Clear.{SameOutside, Holds}
 use Rattle.rpm_pkgdb.specs.Framing.{framed}
 use Rattle.rpm_pkgdb.proofs.FramingLaws.{count-framed}
-use Rattle.rpm_pkgdb.specs.Plans.{IsPlan, slot_for}
+use Rattle.rpm_pkgdb.specs.Plans.{IsTarget, slot_for}
 use Rattle.rpm_pkgdb.specs.Quiet.{StandsAs}
 use Rattle.rpm_pkgdb.specs.inner.Settings.{CanSet}
 use Rattle.rpm_pkgdb.proofs.SettingLaws.{set_sound, aside_stands, set_stands, while_set, set_aside, old_clear, set_alike}
@@ -32,72 +32,72 @@ number_le (s ∷ ss) (suc k) used = let rest = number_le ss k used in omega arit
 nothing_outside : (at : ℕ) (a b : Units) → SameOutside 0 0 a b → SameOutside at 0 a b
 nothing_outside at a b same = record { below = λ i lt. same.above i (omega arith); above = λ i le. same.above i (omega arith); no_shorter = same.no_shorter }
 
--- ---- the slot of a plan
+-- ---- the slot of a target
 
-module _ (st : Store) (plan : Plan) (plan_is : IsPlan st plan) where
+module _ (st : Store) (target : Target) (target_is : IsTarget st target) where
   -- the number is no other slot's
-  pub other_number : (units : ℕ) → AreSound st.pages units st.slots → (j : ℕ) → j ≢ plan.place → is_used (slot_at st.slots j) ≡ true
-      → plan.number ≢ (slot_at st.slots j).number
-  other_number units sound j differs used same = elim (cases_Bool plan.is_new) [
-    | inl new ↦ (let n = plan_is.new new in omega (arith, n.0, number_le st.slots j used))
+  pub other_number : (units : ℕ) → AreSound st.pages units st.slots → (j : ℕ) → j ≢ target.place → is_used (slot_at st.slots j) ≡ true
+      → target.number ≢ (slot_at st.slots j).number
+  other_number units sound j differs used same = elim (cases_Bool target.is_new) [
+    | inl new ↦ (let n = target_is.new new in omega (arith, n.0, number_le st.slots j used))
     | inr not_new ↦
-        (let f = number_facts plan.number (slot_at st.slots plan.place) (plan_is.held not_new) in
-        (sound.apart j plan.place differs used f.used).numbers (sym same ∙ sym f.number))
+        (let f = number_facts target.number (slot_at st.slots target.place) (target_is.held not_new) in
+        (sound.apart j target.place differs used f.used).numbers (sym same ∙ sym f.number))
   ]
 
   -- its slot may be set, whatever becomes of the number field
-  pub plan_set : 1 ≤ st.pages → (units : ℕ) → AreSound st.pages units st.slots → (next : Option ℕ) → CanSet (with_next next st) plan.place (slot_for plan)
+  pub plan_set : 1 ≤ st.pages → (units : ℕ) → AreSound st.pages units st.slots → (next : Option ℕ) → CanSet (with_next next st) target.place (slot_for target)
   plan_set some units sound next = record {
     made = some;
-    below = plan_is.below;
-    number = (plan_is.number.0, omega (arith, plan_is.number.1));
+    below = target_is.below;
+    number = (target_is.number.0, omega (arith, target_is.number.1));
     others = other_number units sound;
-    behind = plan_is.start.from_on;
+    behind = target_is.start.from_on;
     some = omega arith;
-    fits = plan_is.start.fits;
+    fits = target_is.start.fits;
   }
 
-  pub plan_sound : 1 ≤ st.pages → (units : ℕ) → end_of (slot_for plan) ≤ units → AreSound st.pages units st.slots
-      → AreSound st.pages units (set st.slots plan.place (slot_for plan))
-  plan_sound some units inside sound = set_sound st plan.place (slot_for plan) (plan_set some units sound None) units inside sound
+  pub target_sound : 1 ≤ st.pages → (units : ℕ) → end_of (slot_for target) ≤ units → AreSound st.pages units st.slots
+      → AreSound st.pages units (set st.slots target.place (slot_for target))
+  target_sound some units inside sound = set_sound st target.place (slot_for target) (plan_set some units sound None) units inside sound
 
 -- ---- one put
 
-module _ (st : Store) (plan : Plan) (g : ℕ) (old : Slot) (blob : List ℕ) (can : CanPut st plan g old blob) where
+module _ (st : Store) (target : Target) (g : ℕ) (old : Slot) (blob : List ℕ) (can : CanPut st target g old blob) where
   abbrev us : Units
-  us = units_of (framed plan.number g blob)
+  us = units_of (framed target.number g blob)
 
   abbrev s : Slot
-  s = slot_for plan
+  s = slot_for target
 
   abbrev k : ℕ
-  k = plan.place
+  k = target.place
 
   abbrev mid_value : Store
-  mid_value = with_next (next_field plan) st
+  mid_value = with_next (next_field target) st
 
   abbrev after : Store
-  after = with_blob plan st
+  after = with_blob target st
 
   us_count : length us ≡ s.count
-  us_count = count-framed plan.number g blob ∙ sym (ap blocks_for can.length_is)
+  us_count = count-framed target.number g blob ∙ sym (ap blocks_for can.length_is)
 
   can_set : (file : Units) → Keeps file st → (next : Option ℕ) → CanSet (with_next next st) k s
-  can_set file keeps = plan_set st plan can.plan_is can.made (length file) (made file st keeps can.made).sound
+  can_set file keeps = plan_set st target can.target_is can.made (length file) (made file st keeps can.made).sound
 
   can_after : (file : Units) → Keeps file st → CanSet mid_value k s
-  can_after file keeps = can_set file keeps (next_field plan)
+  can_after file keeps = can_set file keeps (next_field target)
 
-  blob_stands : (file from mid : Units) → StandsAs st file from → SameOutside plan.start (blocks_for (length blob)) from mid → StandsAs st file mid
+  blob_stands : (file from mid : Units) → StandsAs st file from → SameOutside target.start (blocks_for (length blob)) from mid → StandsAs st file mid
   blob_stands file from mid stands same =
       aside_stands st k s (can_set from stands.keeps None) file from mid stands
-      (subst (λ (n : ℕ). SameOutside plan.start n from mid) (sym (ap blocks_for can.length_is)) same)
+      (subst (λ (n : ℕ). SameOutside target.start n from mid) (sym (ap blocks_for can.length_is)) same)
 
   -- a stop while the blob is written
-  pub while_blob : (file from image : Units) → StandsAs st file from → BlobTorn plan.start (blocks_for (length blob)) (next_field plan) from image
-      → WhilePut st plan g blob file image
+  pub while_blob : (file from image : Units) → StandsAs st file from → BlobTorn target.start (blocks_for (length blob)) (next_field target) from image
+      → WhilePut st target g blob file image
   while_blob file from image stands torn =
-      elim (field_torn_stands st file torn.mid image (next_field plan) can.made (blob_stands file from torn.mid stands torn.blocks) torn.field_torn) [
+      elim (field_torn_stands st file torn.mid image (next_field target) can.made (blob_stands file from torn.mid stands torn.blocks) torn.field_torn) [
         | inl before ↦ Before before
         | inr numbered ↦ Numbered numbered
       ]
@@ -105,77 +105,77 @@ module _ (st : Store) (plan : Plan) (g : ℕ) (old : Slot) (blob : List ℕ) (ca
   -- once it is written
   pub record Stored (file next : Units) : Type 0 where
     pub stands : StandsAs mid_value file next
-    pub holds : Holds next plan.start us
+    pub holds : Holds next target.start us
 
-  pub stored : (file next : Units) → Keeps file st → BlobPut plan.start us (next_field plan) file next → Stored file next
+  pub stored : (file next : Units) → Keeps file st → BlobPut target.start us (next_field target) file next → Stored file next
   stored file next keeps written =
       let here : StandsAs st file file = record { keeps = keeps; blocks = λ j i used from to. refl } in
       let mid = written.mid in
-      let same : SameOutside plan.start (blocks_for (length blob)) file mid = record {
-        below = λ i lt. ap (λ (u : Units). unit_at u i) written.blocks ∙ put_before plan.start us file i lt;
+      let same : SameOutside target.start (blocks_for (length blob)) file mid = record {
+        below = λ i lt. ap (λ (u : Units). unit_at u i) written.blocks ∙ put_before target.start us file i lt;
         above =
             λ i le. ap (λ (u : Units). unit_at u i) written.blocks
-            ∙ put_after plan.start us file i (omega (arith, le, us_count, ap blocks_for can.length_is));
-        no_shorter = omega (arith, ap length written.blocks, length-put plan.start us file);
+            ∙ put_after target.start us file i (omega (arith, le, us_count, ap blocks_for can.length_is));
+        no_shorter = omega (arith, ap length written.blocks, length-put target.start us file);
       } in
-      let low : 2 ≤ plan.start = omega (arith, can.made, can.plan_is.start.from_on) in
+      let low : 2 ≤ target.start = omega (arith, can.made, can.target_is.start.from_on) in
       record {
-        stands = field_stands st file mid next (next_field plan) can.made (blob_stands file file mid here same) written.field_put;
+        stands = field_stands st file mid next (next_field target) can.made (blob_stands file file mid here same) written.field_put;
         holds = record {
-          within = omega (arith, ap length written.blocks, length-put plan.start us file, field_longer (next_field plan) mid next written.field_put);
+          within = omega (arith, ap length written.blocks, length-put target.start us file, field_longer (next_field target) mid next written.field_put);
           each =
-              λ i lt. field_keeps (next_field plan) mid next written.field_put (plan.start + i) (omega arith)
-              ∙ ap (λ (u : Units). unit_at u (plan.start + i)) written.blocks ∙ put_inside plan.start us file i lt;
+              λ i lt. field_keeps (next_field target) mid next written.field_put (target.start + i) (omega arith)
+              ∙ ap (λ (u : Units). unit_at u (target.start + i)) written.blocks ∙ put_inside target.start us file i lt;
         };
       }
 
   module _ (file : Units) (keeps : Keeps file st) (unit : List ℕ) (is : IsSlotUnit unit s) where
     -- once the slot is written
-    pub slotted : (from : Units) → Stored file from → StandsWith st plan g blob file (put (2 + k) (unit ∷ []) from)
+    pub slotted : (from : Units) → Stored file from → StandsWith st target g blob file (put (2 + k) (unit ∷ []) from)
     slotted from was = set_stands mid_value k s (can_after file keeps) us us_count unit is file from was.stands was.holds
 
     -- a stop while it is written
-    pub while_slotted : (from image : Units) → Stored file from → Torn (2 + k) (unit ∷ []) from image → WhilePut st plan g blob file image
+    pub while_slotted : (from image : Units) → Stored file from → Torn (2 + k) (unit ∷ []) from image → WhilePut st target g blob file image
     while_slotted from image was torn = elim (while_set mid_value k s (can_after file keeps) us us_count unit is file from was.stands was.holds image torn) [
       | inl before ↦ Numbered before
       | inr after_it ↦ After after_it
     ]
 
   -- while the old blocks become zeros, and once they are
-  pub cleared : (file from image : Units) → Keeps file st → StandsWith st plan g blob file from → SameOutside old.offset old.count from image
-      → StandsWith st plan g blob file image
+  pub cleared : (file from image : Units) → Keeps file st → StandsWith st target g blob file from → SameOutside old.offset old.count from image
+      → StandsWith st target g blob file image
   cleared file from image keeps was same =
       let base = made file st keeps can.made in
       let m = made from after was.keeps can.made in
-      elim (cases_Bool plan.is_new) [
+      elim (cases_Bool target.is_new) [
         | inl new ↦ set_aside mid_value k s (can_after file keeps) us us_count file from image was (2 ^ 28) 0
             (record { behind = base.lawful.below; apart = λ j used. inr (m.sound.placed j used).below })
             (nothing_outside (2 ^ 28) from image (subst (λ (t : Slot). SameOutside t.offset t.count from image) (can.new new) same))
         | inr not_new ↦
             (let is = can.replaced not_new in
-            let used = ap is_used is ∙ (number_facts plan.number (slot_at st.slots k) (can.plan_is.held not_new)).used in
+            let used = ap is_used is ∙ (number_facts target.number (slot_at st.slots k) (can.target_is.held not_new)).used in
             set_aside mid_value k s (can_after file keeps) us us_count file from image was old.offset old.count
             (old_clear mid_value k s (can_after file keeps) (length file) base.sound old (sym is) used old.offset old.count (omega arith) (omega arith))
             same)
       ]
 
   -- two images with the blob stand for each other
-  pub stand_alike : (file a b : Units) → Keeps file st → StandsWith st plan g blob file a → StandsWith st plan g blob file b → StandsAs after a b
+  pub stand_alike : (file a b : Units) → Keeps file st → StandsWith st target g blob file a → StandsWith st target g blob file b → StandsAs after a b
   stand_alike file a b keeps = set_alike mid_value k s (can_after file keeps) us us_count file a b
 
 -- the three phases, each after the one before
-module _ (st : Store) (plan : Plan) (g : ℕ) (old : Slot) (blob : List ℕ) (can : CanPut st plan g old blob) (unit : List ℕ)
-    (is : IsSlotUnit unit (slot_for plan)) (F0 F1 F2 : Units) (keeps : Keeps F0 st)
-    (first : BlobPut plan.start (units_of (framed plan.number g blob)) (next_field plan) F0 F1) where
-  pub second_phase : (from image : Units) → from ≡ F1 → Torn (2 + plan.place) (unit ∷ []) from image → WhilePut st plan g blob F0 image
+module _ (st : Store) (target : Target) (g : ℕ) (old : Slot) (blob : List ℕ) (can : CanPut st target g old blob) (unit : List ℕ)
+    (is : IsSlotUnit unit (slot_for target)) (F0 F1 F2 : Units) (keeps : Keeps F0 st)
+    (first : BlobPut target.start (units_of (framed target.number g blob)) (next_field target) F0 F1) where
+  pub second_phase : (from image : Units) → from ≡ F1 → Torn (2 + target.place) (unit ∷ []) from image → WhilePut st target g blob F0 image
   second_phase from image same torn =
-      while_slotted st plan g old blob can F0 keeps unit is from image
-      (subst (Stored st plan g old blob can F0) (sym same) (stored st plan g old blob can F0 F1 keeps first)) torn
+      while_slotted st target g old blob can F0 keeps unit is from image
+      (subst (Stored st target g old blob can F0) (sym same) (stored st target g old blob can F0 F1 keeps first)) torn
 
-  module _ (second : F2 ≡ put (2 + plan.place) (unit ∷ []) F1) where
-    pub third_phase : (from image : Units) → from ≡ F2 → SameOutside old.offset old.count from image → StandsWith st plan g blob F0 image
+  module _ (second : F2 ≡ put (2 + target.place) (unit ∷ []) F1) where
+    pub third_phase : (from image : Units) → from ≡ F2 → SameOutside old.offset old.count from image → StandsWith st target g blob F0 image
     third_phase from image same changed =
-        let at : StandsWith st plan g blob F0 F2 =
-        subst (StandsWith st plan g blob F0) (sym second) (slotted st plan g old blob can F0 keeps unit is F1
-        (stored st plan g old blob can F0 F1 keeps first)) in
-        cleared st plan g old blob can F0 from image keeps (subst (StandsWith st plan g blob F0) (sym same) at) changed
+        let at : StandsWith st target g blob F0 F2 =
+        subst (StandsWith st target g blob F0) (sym second) (slotted st target g old blob can F0 keeps unit is F1
+        (stored st target g old blob can F0 F1 keeps first)) in
+        cleared st target g old blob can F0 from image keeps (subst (StandsWith st target g blob F0) (sym same) at) changed

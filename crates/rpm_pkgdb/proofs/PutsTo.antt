@@ -4,7 +4,7 @@ use Rattle.std.specs.FinMap as finite
 use Rattle.std.proofs.lemmas.Bool.Decides.{nat_tests}
 use Rattle.rpm_outside.specs.Files.{Units}
 use Rattle.rpm_pkgdb.specs.declared.slot.Slot.{Slot}
-use Rattle.rpm_pkgdb.specs.declared.plan.Plan.{Plan}
+use Rattle.rpm_pkgdb.specs.declared.plan.Target.{Target}
 use Rattle.rpm_pkgdb.specs.Slots.{slot_at, is_used, has_number}
 use Rattle.rpm_pkgdb.proofs.Facts.{cases_Bool, number_facts, has_it_from}
 use Rattle.rpm_pkgdb.specs.Store.{Store, Keeps, in_file}
@@ -18,48 +18,48 @@ use Rattle.rpm_pkgdb.specs.inner.Puts.{CanPut, StandsWith, WhilePut}
 use Rattle.rpm_pkgdb.specs.Written.{next_field, with_next, with_blob, PutsTo}
 use Rattle.rpm_pkgdb.specs.inner.Puts.WhilePut.{Before, Numbered, After}
 
-module _ (st : Store) (plan : Plan) (g : ℕ) (old : Slot) (blob : List ℕ) (can : CanPut st plan g old blob) where
+module _ (st : Store) (target : Target) (g : ℕ) (old : Slot) (blob : List ℕ) (can : CanPut st target g old blob) where
   abbrev s : Slot
-  s = slot_for plan
+  s = slot_for target
 
   abbrev k : ℕ
-  k = plan.place
+  k = target.place
 
   abbrev after : Store
-  after = with_blob plan st
+  after = with_blob target st
 
   abbrev mid_value : Store
-  mid_value = with_next (next_field plan) st
+  mid_value = with_next (next_field target) st
 
   used_new : is_used s ≡ true
-  used_new = (let low : plan.start ≢ 0 = omega (arith, can.made, can.plan_is.start.from_on) in grind (arith, nat_tests))
+  used_new = (let low : target.start ≢ 0 = omega (arith, can.made, can.target_is.start.from_on) in grind (arith, nat_tests))
 
   -- the slot was free, or had the number
-  no_other : (m : ℕ) → m ≢ plan.number → has_number m (slot_at st.slots k) ≡ false
+  no_other : (m : ℕ) → m ≢ target.number → has_number m (slot_at st.slots k) ≡ false
   no_other m differs = elim (cases_Bool (has_number m (slot_at st.slots k))) [
     | inr fails ↦ fails
     | inl holds ↦
         (let f = number_facts m (slot_at st.slots k) holds in
-        absurd (elim (cases_Bool plan.is_new) [
-          | inl new ↦ (let free_there = (can.plan_is.new new).1.unused in let used = f.used in let e : true ≡ false = sym used ∙ free_there in cc)
-          | inr not_new ↦ (let h = number_facts plan.number (slot_at st.slots k) (can.plan_is.held not_new) in differs (sym f.number ∙ h.number))
+        absurd (elim (cases_Bool target.is_new) [
+          | inl new ↦ (let free_there = (can.target_is.new new).1.unused in let used = f.used in let e : true ≡ false = sym used ∙ free_there in cc)
+          | inr not_new ↦ (let h = number_facts target.number (slot_at st.slots k) (can.target_is.held not_new) in differs (sym f.number ∙ h.number))
         ]))
   ]
 
   -- the blobs once the slot is written
-  pub put_map : (file image : Units) → Keeps file st → StandsWith st plan g blob file image
-      → blobs image after ≡ finite.insert (blobs file st) plan.number (Some blob)
+  pub put_map : (file image : Units) → Keeps file st → StandsWith st target g blob file image
+      → blobs image after ≡ finite.insert (blobs file st) target.number (Some blob)
   put_map file image keeps stands =
       let here = made file st keeps can.made in
       let there = made image after stands.keeps can.made in
-      let fits_n : plan.number < 2 ^ 32 = omega (arith, can.plan_is.number.1) in
-      let few : length blob ≤ 68157432 = omega (arith, can.plan_is.few, can.length_is) in
-      let fr = frame plan.number g blob in
-      put_blobs file image st.pages st after k plan.number s can.plan_is.below here.sound there.sound refl (has_it_from plan.number s used_new refl) no_other fr
-      (framed_frame plan.number g blob fits_n can.fits few image s (ap blocks_for can.length_is) stands.holds) stands.others
-      ∙ ap (λ (b : List ℕ). finite.insert (blobs file st) plan.number (Some b)) (blob_is plan.number g blob fits_n can.fits few)
+      let fits_n : target.number < 2 ^ 32 = omega (arith, can.target_is.number.1) in
+      let few : length blob ≤ 68157432 = omega (arith, can.target_is.few, can.length_is) in
+      let fr = frame target.number g blob in
+      put_blobs file image st.pages st after k target.number s can.target_is.below here.sound there.sound refl (has_it_from target.number s used_new refl) no_other fr
+      (framed_frame target.number g blob fits_n can.fits few image s (ap blocks_for can.length_is) stands.holds) stands.others
+      ∙ ap (λ (b : List ℕ). finite.insert (blobs file st) target.number (Some b)) (blob_is target.number g blob fits_n can.fits few)
 
-  pub puts_to : (file image : Units) → Keeps file st → WhilePut st plan g blob file image → PutsTo st plan blob file image
+  pub puts_to : (file image : Units) → Keeps file st → WhilePut st target g blob file image → PutsTo st target blob file image
   puts_to file image keeps (Before stands) = inl (stands_for st file image can.made keeps stands)
   puts_to file image keeps (Numbered stands) = inr (inl (
       let here = made file st keeps can.made in

@@ -1,7 +1,7 @@
 -- Where a blob is to go.
-use Rattle.std.specs.Prelude.{◌≡◌, ◌⊎◌, ℕ, ◌+◌, ◌*◌, ◌^◌, ◌<◌, ◌≤◌, List, length, true, false, Option, is_none, IfSome}
+use Rattle.std.specs.Prelude.{◌≡◌, ◌⊎◌, ℕ, ◌+◌, ◌*◌, ◌^◌, ◌<◌, ◌≤◌, List, length, true, false}
 use Rattle.rpm_pkgdb.specs.declared.slot.Slot.{Slot}
-use Rattle.rpm_pkgdb.specs.declared.plan.Plan.{Plan}
+use Rattle.rpm_pkgdb.specs.declared.plan.Target.{Target}
 use Rattle.rpm_pkgdb.specs.Slots.{slot_at, is_used, end_of, has_number}
 use Rattle.rpm_pkgdb.specs.Maps.{IsPackageNumber}
 use Rattle.rpm_pkgdb.specs.Store.{Store, next_number}
@@ -31,21 +31,15 @@ pub record IsLeast (slots : List Slot) (count from start : ℕ) : Type 0 where
 abbrev pub FitsNowhere : List Slot → ℕ → ℕ → Type 0
 FitsNowhere slots count from = (block : ℕ) → from ≤ block → ¬ Fits slots count block
 
--- a plan that was made of these slots and this number field
-pub record IsPlan (value : Store) (plan : Plan) : Type 0 where
-  pub new : plan.is_new ≡ true → (plan.number ≡ next_number value) × IsFirstFree value.slots plan.place
-  pub held : plan.is_new ≡ false → has_number plan.number (slot_at value.slots plan.place) ≡ true
-  pub number : IsPackageNumber plan.number
-  pub below : plan.place < length value.slots
-  pub few : plan.length ≤ 68157432
-  pub start : IsLeast value.slots (blocks_for plan.length) (256 * value.pages) plan.start
+-- number, slot and blocks of a blob, as these slots and this number field ask for
+pub record IsTarget (value : Store) (target : Target) : Type 0 where
+  pub new : target.is_new ≡ true → (target.number ≡ next_number value) × IsFirstFree value.slots target.place
+  pub held : target.is_new ≡ false → has_number target.number (slot_at value.slots target.place) ≡ true
+  pub number : IsPackageNumber target.number
+  pub below : target.place < length value.slots
+  pub few : target.length ≤ 68157432
+  pub start : IsLeast value.slots (blocks_for target.length) (256 * value.pages) target.start
 
--- the slot that is written by a plan
-abbrev pub slot_for : Plan → Slot
-slot_for plan = record { number = plan.number; offset = plan.start; count = blocks_for plan.length }
-
--- a plan for this number, or for a new one, and this length
-pub record IsFor (n : Option ℕ) (length : ℕ) (plan : Plan) : Type 0 where
-  pub new : plan.is_new ≡ is_none n
-  pub number : IfSome n (λ m. plan.number ≡ m)
-  pub length_is : plan.length ≡ length
+-- the slot that is written
+abbrev pub slot_for : Target → Slot
+slot_for target = record { number = target.number; offset = target.start; count = blocks_for target.length }

@@ -3,11 +3,14 @@ use Rattle.std.specs.Prelude.{◌≡◌, ◌⊎◌, ℕ, ◌+◌, ◌<◌, ◌�
 use Rattle.std.specs.FinMap as finite
 use Rattle.rpm_outside.specs.Files.{Units, unit_at, blank}
 use Rattle.rpm_pkgdb.specs.declared.slot.Slot.{Slot}
+use Rattle.rpm_pkgdb.specs.declared.plan.Target.{Target}
 use Rattle.rpm_pkgdb.specs.declared.plan.Plan.{Plan}
 use Rattle.rpm_pkgdb.specs.Slots.{end_of, free, has_number}
 use Rattle.rpm_pkgdb.specs.Store.{Store, store, blank_store}
 use Rattle.rpm_pkgdb.specs.Blobs.{blobs}
 use Rattle.rpm_pkgdb.specs.Plans.{slot_for}
+use Rattle.rpm_pkgdb.specs.Growing.{grown}
+use Rattle.rpm_pkgdb.specs.Planned.{moves_of}
 use Rattle.rpm_pkgdb.specs.Quiet.{StandsFor}
 
 -- the value after a call of the disk failed
@@ -56,9 +59,9 @@ MakesTo image = (store image ≡ Ok blank_store) ⊎ StandsFor 1 1 finite.empty 
 abbrev pub with_spare : ℕ → Store → Store
 with_spare spare value = record value { spare = spare }
 
--- what a plan makes of the number field
-abbrev pub next_field : Plan → Option ℕ
-next_field plan = if plan.is_new then Some (plan.number + 1) else None
+-- what a target makes of the number field
+abbrev pub next_field : Target → Option ℕ
+next_field target = if target.is_new then Some (target.number + 1) else None
 
 abbrev pub field_after : Option ℕ → ℕ → ℕ
 field_after None field = field
@@ -68,12 +71,16 @@ abbrev pub with_next : Option ℕ → Store → Store
 with_next next value = record value { field = field_after next value.field }
 
 -- the value once a blob was put
-abbrev pub with_blob : Plan → Store → Store
-with_blob plan value = record (with_next (next_field plan) value) { slots = slice_set value.slots plan.place (slot_for plan) }
+abbrev pub with_blob : Target → Store → Store
+with_blob target value = record (with_next (next_field target) value) { slots = slice_set value.slots target.place (slot_for target) }
 
 -- what a stop leaves while a blob is put: the blobs from before, with the number field from before or after, or those after, with that after
-abbrev pub PutsTo : Store → Plan → List ℕ → Units → Units → Type 0
-PutsTo value plan blob file image =
+abbrev pub PutsTo : Store → Target → List ℕ → Units → Units → Type 0
+PutsTo value target blob file image =
     StandsFor value.generation value.field (blobs file value) image
-    ⊎ (StandsFor value.generation (field_after (next_field plan) value.field) (blobs file value) image
-    ⊎ StandsFor value.generation (field_after (next_field plan) value.field) (finite.insert (blobs file value) plan.number (Some blob)) image)
+    ⊎ (StandsFor value.generation (field_after (next_field target) value.field) (blobs file value) image
+    ⊎ StandsFor value.generation (field_after (next_field target) value.field) (finite.insert (blobs file value) target.number (Some blob)) image)
+
+-- the value once a plan was put
+abbrev pub with_plan : Plan → Store → Store
+with_plan plan value = with_blob plan.target (grown (moves_of plan.page) value)

@@ -11,3 +11,4 @@ pub mod Grows
 pub mod Puts
 pub mod RangeKeys
 pub mod Ready
+pub mod Pages

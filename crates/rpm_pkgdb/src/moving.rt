@@ -1,18 +1,20 @@
 //! Blocks that are moved out of the way of a new slot page.
 
-ghost use Rattle.std.specs.Prelude.{◌≡◌, ℕ, ◌+◌, ◌*◌, ◌^◌, ◌≤◌, ◌<◌, ◌⊎◌, IsTrue, length, OnOk};
+ghost use Rattle.std.specs.Prelude.{◌≡◌, ℕ, ◌+◌, ◌*◌, ◌^◌, ◌≤◌, ◌<◌, ◌⊎◌, IsTrue, length, Some, OnOk};
 ghost use Rattle.rpm_outside.specs.declared.disk.File.TheVariants.{Pkg};
 ghost use Rattle.rpm_outside.specs.Files.{Files, unit_at, blank};
 ghost use Rattle.rpm_outside.specs.Causes.{HasCause};
 ghost use Rattle.rpm_outside.specs.Crash.{LeavesOnly};
 ghost use Rattle.rpm_pkgdb.specs.Slots.{end_of, slot_at};
 ghost use Rattle.rpm_pkgdb.specs.Blobs.{blobs};
-ghost use Rattle.rpm_pkgdb.specs.inner.MoveLists.{AreMoves, IsMovable, after_moves, move_at};
+ghost use Rattle.rpm_pkgdb.specs.inner.MoveLists.{AreMovesOf, IsMovable, with_moves, move_at};
 ghost use Rattle.rpm_pkgdb.specs.Store.{Store, Keeps};
 ghost use Rattle.rpm_outside.specs.Changes.{Stops, IsSettled, Changes};
 ghost use Rattle.rpm_pkgdb.specs.inner.Clear.{SameOutside};
 ghost use Rattle.rpm_pkgdb.specs.Quiet.{IsQuiet, StandsFor};
-ghost use Rattle.rpm_pkgdb.specs.inner.Settings.{NoShorter, CanMove, StandsSet, WhileMoved, moved, blocks_of, with_slot};
+ghost use Rattle.rpm_pkgdb.specs.inner.Settings.{NoShorter, CanMove, StandsSet, WhileMoved, blocks_of, with_slot};
+ghost use Rattle.rpm_pkgdb.specs.Growing.{moved, moving_cost, next_end};
+ghost use Rattle.rpm_pkgdb.specs.Freed.{AreFreed, KeepsBlank};
 
 use crate::copying::copy_blocks;
 use crate::slot::Slot;
@@ -52,6 +54,7 @@ pub fn move_blocks<D: Disk>(
     ensures stands { OnOk result (IsTrue D.tells → (value : Store) → CanMove value place old to → Keeps (D.files disk.old).pkg value → StandsSet value
         place (moved old to) (blocks_of old (D.files disk.old).pkg) (D.files disk.old).pkg (D.files disk.new).pkg) }
     ensures zeros { OnOk result (IsTrue D.tells → (i : ℕ) → old.offset ≤ i → zeros_from ≤ i → i < end_of old → unit_at (D.files disk.new).pkg i ≡ blank) }
+    ensures blanks { OnOk result (IsTrue D.tells → KeepsBlank (place + 3) to old.count (D.files disk.old).pkg (D.files disk.new).pkg) }
     ensures images { IsTrue D.tells → (value : Store) → CanMove value place old to → IsQuiet value (D.files disk.old)
         (D.left_since disk.old (D.moment disk.old)) → LeavesOnly D.moment D.left_since disk.old disk.new
         (Stops Pkg (WhileMoved value place old to (D.files disk.old).pkg) (D.left_since disk.old (D.moment disk.old))) }
@@ -91,17 +94,20 @@ pub fn move_all<D: Disk>(
 ) -> Result<(), Failed>
     requires movable { (i : ℕ) → i < length moves.now → IsMovable slots.now (move_at moves.now i) }
     requires within { IsTrue D.tells → (i : ℕ) → i < length moves.now → end_of (slot_at slots.now (move_at moves.now i).place) ≤ length (D.files disk.old).pkg }
-    ensures keeps { OnOk result (IsTrue D.tells → (value : Store) → 1 ≤ value.pages → value.slots ≡ slots.now → AreMoves value moves.now
-        → Keeps (D.files disk.old).pkg value → Keeps (D.files disk.new).pkg (after_moves value moves.now)) }
-    ensures blobs { OnOk result (IsTrue D.tells → (value : Store) → 1 ≤ value.pages → value.slots ≡ slots.now → AreMoves value moves.now
-        → Keeps (D.files disk.old).pkg value → blobs (D.files disk.new).pkg (after_moves value moves.now) ≡ blobs (D.files disk.old).pkg value) }
-    ensures images { IsTrue D.tells → (value : Store) → 1 ≤ value.pages → value.slots ≡ slots.now → AreMoves value moves.now → IsQuiet value
+    ensures keeps { OnOk result (IsTrue D.tells → (value : Store) → 1 ≤ value.pages → value.slots ≡ slots.now → AreMovesOf value moves.now
+        → Keeps (D.files disk.old).pkg value → Keeps (D.files disk.new).pkg (with_moves value moves.now)) }
+    ensures blobs { OnOk result (IsTrue D.tells → (value : Store) → 1 ≤ value.pages → value.slots ≡ slots.now → AreMovesOf value moves.now
+        → Keeps (D.files disk.old).pkg value → blobs (D.files disk.new).pkg (with_moves value moves.now) ≡ blobs (D.files disk.old).pkg value) }
+    ensures zeros { OnOk result (IsTrue D.tells → (value : Store) → 1 ≤ value.pages → value.slots ≡ slots.now → AreMovesOf value moves.now
+        → Keeps (D.files disk.old).pkg value → zeros_from ≡ next_end value → AreFreed (next_end value) value.slots (with_moves value moves.now).slots
+        (D.files disk.new).pkg) }
+    ensures images { IsTrue D.tells → (value : Store) → 1 ≤ value.pages → value.slots ≡ slots.now → AreMovesOf value moves.now → IsQuiet value
         (D.files disk.old) (D.left_since disk.old (D.moment disk.old)) → LeavesOnly D.moment D.left_since disk.old disk.new
         (Stops Pkg (StandsFor value.generation value.field (blobs (D.files disk.old).pkg value)) (D.left_since disk.old (D.moment disk.old))) }
-    ensures quiet { OnOk result (IsTrue D.tells → (value : Store) → 1 ≤ value.pages → value.slots ≡ slots.now → AreMoves value moves.now
-        → IsQuiet value (D.files disk.old) (D.left_since disk.old (D.moment disk.old)) → IsQuiet (after_moves value moves.now) (D.files disk.new)
+    ensures quiet { OnOk result (IsTrue D.tells → (value : Store) → 1 ≤ value.pages → value.slots ≡ slots.now → AreMovesOf value moves.now
+        → IsQuiet value (D.files disk.old) (D.left_since disk.old (D.moment disk.old)) → IsQuiet (with_moves value moves.now) (D.files disk.new)
         (D.left_since disk.new (D.moment disk.new))) }
-    ensures copies { Changes D.tells D.files D.left_since D.moment D.bytes_read D.follows Pkg NoShorter (2 ^ 32 * length moves.now) disk.old disk.new }
+    ensures copies { Changes D.tells D.files D.left_since D.moment D.bytes_read D.follows Pkg NoShorter (moving_cost slots.now (Some moves.now)) disk.old disk.new }
     ensures cause { HasCause (D.faults disk.old) (D.faults disk.new) result }
 {
     for k in 0..moves.len() {

@@ -1,21 +1,24 @@
 //! Where a blob is to go, decided before anything is written.
 
-ghost use Rattle.std.specs.Prelude.{◌≡◌, ◌≢◌, ◌↔◌, ℕ, ◌+◌, ◌*◌, ◌^◌, ◌≤◌, ◌<◌, true, false, None, Err, length, MatchOption, IfSome, IsSome, OnOk, OnErr, IfOk};
+ghost use Rattle.std.specs.Prelude.{◌≡◌, ◌≢◌, ◌↔◌, ℕ, ◌+◌, ◌*◌, ◌^◌, ◌≤◌, ◌<◌, true, false, None, Err, length, MatchOption, IfSome, IsSome, OnOk, OnErr, IfOk, is_none};
 ghost use Rattle.rpm_pkgdb.specs.Slots.{slot_at, slot_with, has_number};
 ghost use Rattle.rpm_pkgdb.specs.Maps.{IsPackageNumber};
 ghost use Rattle.rpm_pkgdb.specs.Store.{next_number};
 ghost use Rattle.rpm_pkgdb.specs.Written.{with_spare, next_field, field_after};
-ghost use Rattle.rpm_pkgdb.specs.Plans.{slot_for, IsFirstFree, AreAllUsed, IsLeast, FitsNowhere, IsPlan, IsFor};
+ghost use Rattle.rpm_pkgdb.specs.Plans.{slot_for, IsFirstFree, AreAllUsed, IsLeast, FitsNowhere};
+ghost use Rattle.rpm_pkgdb.specs.Planned.{IsPlan, IsFor, IsFull};
 ghost use Rattle.rpm_pkgdb.specs.Blobs.{blocks_for};
+ghost use Rattle.rpm_pkgdb.specs.inner.Puts.{IsTargetFor};
 
+use crate::page::Page;
 use crate::slot::Slot;
 use crate::store::PkgDb;
 use crate::used::make_room;
 use std::alloc::{AllocError, Global};
 
-/// Where a blob of a length is to go.
-#[derive(Drop)]
-pub struct Plan {
+/// Number, slot and blocks of a blob.
+#[derive(Clone, Copy)]
+pub struct Target {
     pub(crate) number: u32,
     /// Of its slot.
     pub(crate) place: u32,
@@ -27,14 +30,20 @@ pub struct Plan {
     pub(crate) is_new: bool,
 }
 
+/// Where a blob of a length is to go.
+#[derive(Drop)]
+pub struct Plan {
+    pub(crate) target: Target,
+    /// A slot page that is added first.
+    pub(crate) page: Option<Page>,
+}
+
 /// Why a blob can't be put.
 #[derive(Clone, Copy, Debug, PartialEq, Eq)]
 pub enum PlanFault {
     /// The next number is 4294967295, which no package can have.
     NumbersSpent,
-    /// No slot is free. Adding a slot page isn't built yet.
-    NoSlot,
-    /// The blob fits nowhere below 4 GiB.
+    /// The blob, or a blob in the way of the slot page that is added for it, fits nowhere below 4 GiB.
     StoreFull,
     /// There was no memory for what the put needs.
     NoMemory,
@@ -82,27 +91,100 @@ impl PkgDb {
         }
     }
 
-    /// The number and the place of its slot.
-    fn target(&self, n: Option<u32>) -> Result<(u32, u32), PlanFault>
+    /// Plans a blob into a slot that is there.
+    fn plan_there(
+        &self,
+        number: u32,
+        place: u32,
+        size: u32,
+        is_new: bool,
+    ) -> Result<Plan, PlanFault>
+        requires room { 1 ≤ self.now.spare }
+        requires new { is_new ≡ true → (number ≡ next_number self.now) × IsFirstFree self.now.slots place }
+        requires held { is_new ≡ false → has_number number (slot_at self.now.slots place) ≡ true }
+        requires number { IsPackageNumber number }
+        requires below { place < length self.now.slots }
+        requires few { size ≤ 68157432 }
+        ensures plan { IfOk result (IsPlan self.now) }
+        ensures target { IfOk result (λ plan. IsTargetFor number size is_new plan.target) }
+        ensures full { result ≡ Err PlanFault.StoreFull → IsFull self.now is_new size }
+        ensures kinds { result ≢ Err PlanFault.NumbersSpent }
+    {
+        match self.fit((size + 43) / 16, 256 * self.pages) {
+            None => Err(PlanFault::StoreFull),
+            Some(start) => Ok(Plan {
+                target: Target {
+                    number,
+                    place,
+                    start,
+                    length: size,
+                    is_new,
+                },
+                page: None,
+            }),
+        }
+    }
+
+    /// Plans a blob into the first slot of a page more.
+    fn plan_behind(&self, alloc: Global, number: u32, length: u32) -> Result<Plan, PlanFault>
+        requires made { 1 ≤ self.now.pages }
+        requires all { AreAllUsed self.now.slots }
+        requires next { number ≡ next_number self.now }
+        requires number { IsPackageNumber number }
+        requires few { length ≤ 68157432 }
+        ensures plan { IfOk result (IsPlan self.now) }
+        ensures target { IfOk result (λ plan. IsTargetFor number length true plan.target) }
+        ensures full { result ≡ Err PlanFault.StoreFull → IsFull self.now true length }
+        ensures kinds { result ≢ Err PlanFault.NumbersSpent }
+    {
+        let _ = &self.slots;
+        let page = match self.plan_page(alloc) {
+            Ok(page) => page,
+            Err(fault) => return Err(fault),
+        };
+        match page.fit((length + 43) / 16, 256 * (self.pages + 1)) {
+            None => Err(PlanFault::StoreFull),
+            Some(start) => Ok(Plan {
+                target: Target {
+                    number,
+                    place: self.slots.len() as u32,
+                    start,
+                    length,
+                    is_new: true,
+                },
+                page: Some(page),
+            }),
+        }
+    }
+
+    /// Plans a blob, once there is room for it.
+    fn plan_ready(&self, alloc: Global, n: Option<u32>, length: u32) -> Result<Plan, PlanFault>
+        requires made { 1 ≤ self.now.pages }
+        requires room { 1 ≤ self.now.spare }
         requires held { IfSome n (λ m. IsSome (slot_with m self.now.slots)) }
-        ensures held { IfSome n (λ m. IfOk result (λ t. (t.0 ≡ m) × (has_number m (slot_at self.now.slots t.1) ≡ true))) }
-        ensures new { n ≡ None → IfOk result (λ t. (t.0 ≡ next_number self.now) × IsFirstFree self.now.slots t.1) }
-        ensures number { IfOk result (λ t. IsPackageNumber t.0 × (t.1 < length self.now.slots)) }
-        ensures kinds { result ≢ Err PlanFault.StoreFull }
-        ensures spent { (result ≡ Err PlanFault.NumbersSpent) ↔ ((n ≡ None) × (next_number self.now ≡ 4294967295)) }
-        ensures no_slot { (result ≡ Err PlanFault.NoSlot) ↔ ((n ≡ None) × (next_number self.now ≢ 4294967295) × AreAllUsed self.now.slots) }
+        requires few { length ≤ 68157432 }
+        requires left { n ≡ None → next_number self.now ≢ 4294967295 }
+        ensures plan { IfOk result (IsPlan self.now) }
+        ensures asked { IfOk result (λ plan. IsFor n length plan) }
+        ensures full { result ≡ Err PlanFault.StoreFull → IsFull self.now (is_none n) length }
+        ensures kinds { result ≢ Err PlanFault.NumbersSpent }
     {
         if let Some(m) = n {
-            return Ok((m, self.slot_place(m).0));
+            return self.plan_there(m, self.slot_place(m).0, length, false);
         }
         let number = self.next_number();
-        if number == u32::MAX {
-            return Err(PlanFault::NumbersSpent);
-        }
         match first_free(&self.slots) {
-            None => Err(PlanFault::NoSlot),
-            Some(place) => Ok((number, place)),
+            Some(place) => self.plan_there(number, place, length, true),
+            None => self.plan_behind(alloc, number, length),
         }
+    }
+
+    /// Whether a new number is asked for and there is none.
+    fn is_spent(&self, n: Option<u32>) -> bool
+        ensures spent { result ≡ true → (n ≡ None) × (next_number self.now ≡ 4294967295) }
+        ensures left { result ≡ false → n ≡ None → next_number self.now ≢ 4294967295 }
+    {
+        n.is_none() && self.next_number() == u32::MAX
     }
 }
 
@@ -113,15 +195,17 @@ impl PkgDb {
     /// written. The first plan of a value gathers the used ranges, n log n in the slots, and takes 32 bytes for each; a later one takes
     /// two binary searches, a step for each gap that is too narrow, and for a new number a step for each slot before the first free one.
     ///
-    /// No slot page is added yet: a store of which no slot is free takes no new number, however many blocks are free. A number that is
-    /// there can still be replaced.
+    /// A new number for which no slot is free asks for a slot page more. The blobs in its way are planned to move behind it, by rising
+    /// block, each to the least free place; then the new blob. This takes a step a slot for each of them, which are at most 256, and a
+    /// copy of the slots and of their ranges, 44 bytes a slot, until the put.
     ///
     /// # Errors
     ///
     /// - `NumbersSpent` exactly where a new number is asked for and the next one is 4294967295.
-    /// - `NoSlot` exactly where a new number is asked for, there is one, and no slot is free: not built yet.
-    /// - `StoreFull` exactly where none of these comes, the blob fits nowhere below 4 GiB, and there was memory.
-    /// - `NoMemory` where the room finds no memory. The value is as it was then.
+    /// - `StoreFull` exactly where it doesn't come, the blob or one that has to move fits nowhere below 4 GiB, and there was memory.
+    /// - `NoMemory` where the room finds no memory.
+    ///
+    /// The value is as it was then.
     pub fn plan(&mut self, alloc: Global, n: Option<u32>, length: u32) -> Result<Plan, PlanFault>
         requires made { 1 ≤ self.old.pages }
         requires held { IfSome n (λ m. IsSome (slot_with m self.old.slots)) }
@@ -129,34 +213,31 @@ impl PkgDb {
         ensures same { self.new ≡ with_spare self.new.spare self.old }
         ensures kept { self.old.spare ≤ self.new.spare }
         ensures room { OnOk result (1 ≤ self.new.spare) }
-        ensures no_memory { result ≡ Err PlanFault.NoMemory → self.new ≡ self.old }
-        ensures plan { IfOk result (λ plan. IsPlan self.new plan) }
+        ensures err { OnErr result (self.new ≡ self.old) }
+        ensures plan { IfOk result (IsPlan self.new) }
         ensures asked { IfOk result (λ plan. IsFor n length plan) }
         ensures spent { (result ≡ Err PlanFault.NumbersSpent) ↔ ((n ≡ None) × (next_number self.old ≡ 4294967295)) }
-        ensures no_slot { (result ≡ Err PlanFault.NoSlot) ↔ ((n ≡ None) × (next_number self.old ≢ 4294967295) × AreAllUsed self.old.slots) }
-        ensures full { result ≡ Err PlanFault.StoreFull → FitsNowhere self.old.slots (blocks_for length) (256 * self.old.pages) }
+        ensures full { result ≡ Err PlanFault.StoreFull → IsFull self.old (is_none n) length }
+        ensures fits { OnOk result (¬ IsFull self.old (is_none n) length) }
     {
-        let (number, place) = match self.target(n) {
-            Ok(target) => target,
-            Err(fault) => return Err(fault),
-        };
+        if self.is_spent(n) {
+            return Err(PlanFault::NumbersSpent);
+        }
+        let spare = self.spare;
         let Ok(()) = self.prepare(alloc) else {
             return Err(PlanFault::NoMemory);
         };
-        match self.fit((length + 43) / 16, 256 * self.pages) {
-            None => Err(PlanFault::StoreFull),
-            Some(start) => Ok(Plan {
-                number,
-                place,
-                start,
-                length,
-                is_new: n.is_none(),
-            }),
+        match self.plan_ready(alloc, n, length) {
+            Ok(plan) => Ok(plan),
+            Err(fault) => {
+                self.spare = spare;
+                Err(fault)
+            }
         }
     }
 }
 
-impl Plan {
+impl Target {
     /// What becomes of the number field: for a new number it is the one behind it.
     pub(crate) fn next_field(&self) -> Option<u32>
         requires { self.now.number < 4294967295 }

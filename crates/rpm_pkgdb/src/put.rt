@@ -1,12 +1,12 @@
 //! Putting a package.
 
-ghost use Rattle.std.specs.Prelude.{◌≡◌, ℕ, ◌+◌, ◌^◌, ◌<◌, ◌≤◌, IsTrue, true, false, length, take, drop, Some, IsSome, OnOk, OnErr, IfOk};
+ghost use Rattle.std.specs.Prelude.{◌≡◌, ℕ, ◌+◌, ◌*◌, ◌^◌, ◌<◌, ◌≤◌, IsTrue, true, false, length, take, drop, Some, IsSome, OnOk, OnErr, IfOk};
 ghost use Rattle.std.specs.FinMap as finite;
 ghost use Rattle.rpm_outside.specs.declared.disk.File.TheVariants.{Pkg};
 ghost use Rattle.rpm_outside.specs.Files.{Files, units_of};
 ghost use Rattle.rpm_outside.specs.Causes.{HasCause};
 ghost use Rattle.rpm_outside.specs.Crash.{LeavesOnly};
-ghost use Rattle.rpm_pkgdb.specs.Slots.{slot_with, slot_at, free, end_of};
+ghost use Rattle.rpm_pkgdb.specs.Slots.{slot_with, slot_at, has_number, free, end_of};
 ghost use Rattle.rpm_pkgdb.specs.Store.{Keeps};
 ghost use Rattle.rpm_pkgdb.specs.Blobs.{blobs, blocks_for};
 ghost use Rattle.rpm_pkgdb.specs.Framing.{framed};
@@ -14,61 +14,65 @@ ghost use Rattle.rpm_outside.specs.Changes.{Changes, Stops};
 ghost use Rattle.rpm_pkgdb.specs.Quiet.{IsQuiet, Anything};
 ghost use Rattle.rpm_pkgdb.specs.Maps.{Adds};
 ghost use Rattle.rpm_pkgdb.specs.Pairs.{find_in};
-ghost use Rattle.rpm_pkgdb.specs.Plans.{IsPlan};
-ghost use Rattle.rpm_pkgdb.specs.Written.{with_blob, PutsTo, stopped, with_spare, AreZeros};
+ghost use Rattle.rpm_pkgdb.specs.Plans.{IsTarget};
+ghost use Rattle.rpm_pkgdb.specs.Growing.{grown, moving_cost};
+ghost use Rattle.rpm_pkgdb.specs.Planned.{IsPlan, HoldsPage, moves_of};
+ghost use Rattle.rpm_pkgdb.specs.Freed.{AreFreed};
+ghost use Rattle.rpm_pkgdb.specs.Written.{with_blob, with_plan, PutsTo, stopped, with_spare, AreZeros};
+ghost use Rattle.rpm_pkgdb.specs.inner.MoveLists.{CanGrowBy};
 
 use crate::erasing::FREE;
 use crate::numbers::Numbers;
-use crate::plan::Plan;
+use crate::page::Page;
+use crate::plan::{Plan, Target};
 use crate::putting::put_blob;
 use crate::slot::Slot;
 use crate::store::{DiskFault, PkgDb};
 use crate::used::{forget_slot, remember};
-use rpm_outside::Disk;
+use rpm_outside::{Disk, Failed};
 
 /// Adds a new number, which is above all others.
-fn note_number(numbers: &mut Numbers, plan: &Plan)
+fn note_number(numbers: &mut Numbers, target: &Target)
     requires room { 1 ≤ numbers.old.room }
-    requires above { plan.now.is_new ≡ true → (m : ℕ) → IsSome (find_in numbers.old.pairs m) → m < plan.now.number }
-    ensures new { plan.now.is_new ≡ true → Adds (find_in numbers.old.pairs) (find_in numbers.new.pairs) plan.now.number plan.now.place }
-    ensures held { plan.now.is_new ≡ false → numbers.new.pairs ≡ numbers.old.pairs }
+    requires above { target.now.is_new ≡ true → (m : ℕ) → IsSome (find_in numbers.old.pairs m) → m < target.now.number }
+    ensures new { target.now.is_new ≡ true → Adds (find_in numbers.old.pairs) (find_in numbers.new.pairs) target.now.number target.now.place }
+    ensures held { target.now.is_new ≡ false → numbers.new.pairs ≡ numbers.old.pairs }
     ensures room { numbers.old.room ≤ numbers.new.room + 1 }
 {
-    if plan.is_new {
-        numbers.push(plan.number, plan.place);
+    if target.is_new {
+        numbers.push(target.number, target.place);
     }
 }
 
 impl PkgDb {
-    /// The slot that a plan replaces, and a free one for a new number.
-    fn replaced(&self, plan: &Plan) -> Slot
-        requires { IsPlan self.now plan.now }
-        ensures new { plan.now.is_new ≡ true → result ≡ free }
-        ensures held { plan.now.is_new ≡ false → result ≡ slot_at self.now.slots plan.now.place }
+    /// The slot that is replaced, and a free one for a new number.
+    fn replaced(&self, target: &Target) -> Slot
+        requires { target.now.is_new ≡ false → has_number target.now.number (slot_at self.now.slots target.now.place) ≡ true }
+        ensures new { target.now.is_new ≡ true → result ≡ free }
+        ensures held { target.now.is_new ≡ false → result ≡ slot_at self.now.slots target.now.place }
         ensures end { end_of result ≤ 2 ^ 28 }
-        ensures place { plan.now.place + 3 ≤ 2 ^ 28 }
     {
         let _ = &self.slots;
-        if plan.is_new {
+        if target.is_new {
             return FREE;
         }
-        self.slots[plan.place as usize]
+        self.slots[target.place as usize]
     }
 
     /// Notes in memory what a put wrote.
-    fn note_put(&mut self, plan: &Plan, old: Slot)
-        requires plan { IsPlan self.old plan.now }
+    fn note_put(&mut self, target: &Target, old: Slot)
+        requires target { IsTarget self.old target.now }
         requires made { 1 ≤ self.old.pages }
         requires room { 1 ≤ self.old.spare }
-        requires new { plan.now.is_new ≡ true → old ≡ free }
-        requires held { plan.now.is_new ≡ false → old ≡ slot_at self.old.slots plan.now.place }
-        ensures value { self.new ≡ with_spare self.new.spare (with_blob plan.now self.old) }
+        requires new { target.now.is_new ≡ true → old ≡ free }
+        requires held { target.now.is_new ≡ false → old ≡ slot_at self.old.slots target.now.place }
+        ensures value { self.new ≡ with_spare self.new.spare (with_blob target.now self.old) }
         ensures spare { self.old.spare ≡ self.new.spare + 1 }
     {
-        let slot = plan.slot();
-        self.slots[plan.place as usize] = slot;
-        self.field = plan.field_after(self.field);
-        note_number(&mut self.numbers, plan);
+        let slot = target.slot();
+        self.slots[target.place as usize] = slot;
+        self.field = target.field_after(self.field);
+        note_number(&mut self.numbers, target);
         remember(&mut self.used, slot);
         forget_slot(&mut self.used, old);
         self.spare -= 1;
@@ -76,11 +80,74 @@ impl PkgDb {
 }
 
 impl PkgDb {
+    /// Writes what a plan says.
+    fn write_plan<D: Disk>(
+        &self,
+        disk: &mut D,
+        plan: &Plan,
+        old: Slot,
+        blob: &[u8],
+    ) -> Result<(), Failed>
+        requires made { 1 ≤ self.now.pages }
+        requires plan { IsPlan self.now plan.now }
+        requires length { plan.now.target.length ≡ length blob.now }
+        requires keeps { IsTrue D.tells → Keeps (D.files disk.old).pkg self.now }
+        requires new { plan.now.target.is_new ≡ true → old ≡ free }
+        requires held { plan.now.target.is_new ≡ false → old ≡ slot_at self.now.slots plan.now.target.place }
+        requires end { end_of old ≤ 2 ^ 28 }
+        ensures kept { OnOk result (IsTrue D.tells → Keeps (D.files disk.new).pkg (with_plan plan.now self.now)) }
+        ensures blobs { OnOk result (IsTrue D.tells → blobs (D.files disk.new).pkg (with_plan plan.now self.now)
+            ≡ finite.insert (blobs (D.files disk.old).pkg self.now) plan.now.target.number (Some blob.now)) }
+        ensures framed { OnOk result (IsTrue D.tells → take (blocks_for (length blob.now)) (drop plan.now.target.start (D.files disk.new).pkg)
+            ≡ units_of (framed plan.now.target.number self.now.generation blob.now)) }
+        ensures zeros { OnOk result (IsTrue D.tells → AreZeros (slot_with plan.now.target.number self.now.slots) (D.files disk.new).pkg) }
+        ensures freed { OnOk result (IsTrue D.tells → AreFreed (256 * (with_plan plan.now self.now).pages) self.now.slots
+            (with_plan plan.now self.now).slots (D.files disk.new).pkg) }
+        ensures images { IsTrue D.tells → IsQuiet self.now (D.files disk.old) (D.left_since disk.old (D.moment disk.old)) → LeavesOnly D.moment
+            D.left_since disk.old disk.new (Stops Pkg (PutsTo self.now plan.now.target blob.now (D.files disk.old).pkg)
+            (D.left_since disk.old (D.moment disk.old))) }
+        ensures quiet { OnOk result (IsTrue D.tells → IsQuiet (with_plan plan.now self.now) (D.files disk.new) (D.left_since disk.new (D.moment disk.new))) }
+        ensures changes { Changes D.tells D.files D.left_since D.moment D.bytes_read D.follows Pkg Anything
+            (moving_cost self.now.slots (moves_of plan.now.page)) disk.old disk.new }
+        ensures cause { HasCause (D.faults disk.old) (D.faults disk.new) result }
+    {
+        self.grow(disk, &plan.page)?;
+        put_blob(disk, &plan.target, self.generation, old, blob)
+    }
+
+    /// Notes in memory the slot page that was added, if one was.
+    fn note_page(&mut self, page: Option<Page>)
+        requires made { 1 ≤ self.old.pages }
+        requires can { CanGrowBy self.old (moves_of page) }
+        requires held { HoldsPage self.old page }
+        ensures { self.new ≡ grown (moves_of page) self.old }
+    {
+        match page {
+            None => {}
+            Some(
+                Page {
+                    moves: _,
+                    slots,
+                    used,
+                },
+            ) => {
+                self.slots = slots;
+                self.used = Some(used);
+                self.pages += 1;
+            }
+        }
+    }
+}
+
+impl PkgDb {
     /// Puts a blob where a plan says, and answers its number.
     ///
-    /// The blob is written into free blocks, with the number field where the number is new, and settled; then its slot, and settled;
-    /// and then the blocks that it replaces become zeros. The blob isn't copied: five writes, one more for each page of zeros, and two
-    /// syncs. Reads nothing and takes no memory. In memory the ranges behind the new one move, which is none where it is the last.
+    /// A slot page that the plan asks for is added first: the blobs in its way are moved, each settled before the slot that names it,
+    /// and this before the next one; then the page is written and settled, and then unit 0. Then the blob is written into free blocks,
+    /// with the number field where the number is new, and settled; then its slot, and settled; and then the blocks that it replaces
+    /// become zeros. The blob isn't copied: five writes, one more for each page of zeros, and two syncs. Each block that moves is read
+    /// once, nothing else is read, and no memory is taken. In memory the ranges behind the new one move, which is none where it is the
+    /// last.
     ///
     /// A stop at any moment leaves the packages from before, or those with this one.
     ///
@@ -93,29 +160,34 @@ impl PkgDb {
         requires made { 1 ≤ self.old.pages }
         requires room { 1 ≤ self.old.spare }
         requires plan { IsPlan self.old plan }
-        requires length { plan.length ≡ length blob.now }
-        ensures number { IfOk result (λ n. n ≡ plan.number) }
-        ensures ok { OnOk result (self.new ≡ with_spare self.new.spare (with_blob plan self.old)) }
+        requires length { plan.target.length ≡ length blob.now }
+        ensures number { IfOk result (λ n. n ≡ plan.target.number) }
+        ensures ok { OnOk result (self.new ≡ with_spare self.new.spare (with_plan plan self.old)) }
         ensures spare { OnOk result (self.old.spare ≡ self.new.spare + 1) }
         ensures err { OnErr result (self.new ≡ stopped self.old) }
         ensures kept { OnOk result (IsTrue D.tells → Keeps (D.files disk.new).pkg self.new) }
         ensures blobs { OnOk result (IsTrue D.tells → blobs (D.files disk.new).pkg self.new ≡ finite.insert (blobs (D.files disk.old).pkg self.old)
-            plan.number (Some blob.now)) }
-        ensures framed { OnOk result (IsTrue D.tells → take (blocks_for (length blob.now)) (drop plan.start (D.files disk.new).pkg)
-            ≡ units_of (framed plan.number self.old.generation blob.now)) }
-        ensures zeros { OnOk result (IsTrue D.tells → AreZeros (slot_with plan.number self.old.slots) (D.files disk.new).pkg) }
+            plan.target.number (Some blob.now)) }
+        ensures framed { OnOk result (IsTrue D.tells → take (blocks_for (length blob.now)) (drop plan.target.start (D.files disk.new).pkg)
+            ≡ units_of (framed plan.target.number self.old.generation blob.now)) }
+        ensures zeros { OnOk result (IsTrue D.tells → AreZeros (slot_with plan.target.number self.old.slots) (D.files disk.new).pkg) }
+        ensures freed { OnOk result (IsTrue D.tells → AreFreed (256 * self.new.pages) self.old.slots self.new.slots (D.files disk.new).pkg) }
         ensures images { IsTrue D.tells → IsQuiet self.old (D.files disk.old) (D.left_since disk.old (D.moment disk.old)) → LeavesOnly D.moment
-            D.left_since disk.old disk.new (Stops Pkg (PutsTo self.old plan blob.now (D.files disk.old).pkg) (D.left_since disk.old (D.moment disk.old))) }
+            D.left_since disk.old disk.new (Stops Pkg (PutsTo self.old plan.target blob.now (D.files disk.old).pkg)
+            (D.left_since disk.old (D.moment disk.old))) }
         ensures quiet { OnOk result (IsTrue D.tells → IsQuiet self.new (D.files disk.new) (D.left_since disk.new (D.moment disk.new))) }
-        ensures changes { Changes D.tells D.files D.left_since D.moment D.bytes_read D.follows Pkg Anything 0 disk.old disk.new }
+        ensures changes { Changes D.tells D.files D.left_since D.moment D.bytes_read D.follows Pkg Anything
+            (moving_cost self.old.slots (moves_of plan.page)) disk.old disk.new }
         ensures cause { HasCause (D.faults disk.old) (D.faults disk.new) result }
     {
-        let old = self.replaced(&plan);
-        let Ok(()) = put_blob(disk, &plan, self.generation, old, blob) else {
+        let old = self.replaced(&plan.target);
+        let Ok(()) = self.write_plan(disk, &plan, old, blob) else {
             self.stopped = true;
             return Err(DiskFault);
         };
-        self.note_put(&plan, old);
-        Ok(plan.number)
+        let Plan { target, page } = plan;
+        self.note_page(page);
+        self.note_put(&target, old);
+        Ok(target.number)
     }
 }

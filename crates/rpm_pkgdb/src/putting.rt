@@ -12,11 +12,12 @@ ghost use Rattle.rpm_pkgdb.specs.Framing.{framed};
 ghost use Rattle.rpm_outside.specs.Changes.{Changes, Stops, IsSettled};
 ghost use Rattle.rpm_pkgdb.specs.Quiet.{IsQuiet, Anything};
 ghost use Rattle.rpm_pkgdb.specs.Plans.{slot_for};
+ghost use Rattle.rpm_pkgdb.specs.Freed.{KeepsBlank};
 ghost use Rattle.rpm_pkgdb.specs.inner.Puts.{FieldPut, FieldTorn, BlobTorn, BlobPut, CanPut, StandsWith, WhilePut};
 ghost use Rattle.rpm_pkgdb.specs.Written.{next_field, with_blob};
 
 use crate::framing::write_blob;
-use crate::plan::Plan;
+use crate::plan::Target;
 use crate::slot::Slot;
 use crate::units::{slot_unit, unit_of};
 use crate::writing::{settle, write_one, write_units, write_zeros};
@@ -37,52 +38,54 @@ fn write_field<D: Disk>(disk: &mut D, next: Option<u32>) -> Result<(), Failed>
 /// Writes a blob and the number field, and settles them.
 fn write_first<D: Disk>(
     disk: &mut D,
-    plan: &Plan,
+    target: &Target,
     generation: u32,
     blob: &[u8],
 ) -> Result<(), Failed>
     requires few { length blob.now ≤ 68157432 }
-    requires room { plan.now.start + blocks_for (length blob.now) ≤ 2 ^ 28 }
-    requires number { plan.now.number < 4294967295 }
-    ensures written { OnOk result (IsTrue D.tells → BlobPut plan.now.start (units_of (framed plan.now.number generation blob.now))
-        (next_field plan.now) (D.files disk.old).pkg (D.files disk.new).pkg) }
+    requires room { target.now.start + blocks_for (length blob.now) ≤ 2 ^ 28 }
+    requires number { target.now.number < 4294967295 }
+    ensures written { OnOk result (IsTrue D.tells → BlobPut target.now.start (units_of (framed target.now.number generation blob.now))
+        (next_field target.now) (D.files disk.old).pkg (D.files disk.new).pkg) }
     ensures settled { OnOk result (IsTrue D.tells → IsSettled Pkg (D.files disk.new) (D.left_since disk.new (D.moment disk.new))) }
-    ensures changes { Changes D.tells D.files D.left_since D.moment D.bytes_read D.follows Pkg (BlobTorn plan.now.start (blocks_for (length blob.now))
-        (next_field plan.now)) 0 disk.old disk.new }
+    ensures changes { Changes D.tells D.files D.left_since D.moment D.bytes_read D.follows Pkg (BlobTorn target.now.start (blocks_for (length blob.now))
+        (next_field target.now)) 0 disk.old disk.new }
     ensures cause { HasCause (D.faults disk.old) (D.faults disk.new) result }
 {
-    write_blob(disk, plan.start, plan.number, generation, blob)?;
-    write_field(disk, plan.next_field())?;
+    write_blob(disk, target.start, target.number, generation, blob)?;
+    write_field(disk, target.next_field())?;
     settle(disk)
 }
 
 /// Puts a blob, and makes the blocks of the slot zeros that it replaces.
 pub fn put_blob<D: Disk>(
     disk: &mut D,
-    plan: &Plan,
+    target: &Target,
     generation: u32,
     old: Slot,
     blob: &[u8],
 ) -> Result<(), Failed>
     requires few { length blob.now ≤ 68157432 }
-    requires room { plan.now.start + blocks_for (length blob.now) ≤ 2 ^ 28 }
-    requires length { plan.now.length ≡ length blob.now }
-    requires number { plan.now.number < 4294967295 }
-    requires place { plan.now.place + 3 ≤ 2 ^ 28 }
+    requires room { target.now.start + blocks_for (length blob.now) ≤ 2 ^ 28 }
+    requires length { target.now.length ≡ length blob.now }
+    requires number { target.now.number < 4294967295 }
+    requires place { target.now.place + 3 ≤ 2 ^ 28 }
     requires end { end_of old ≤ 2 ^ 28 }
-    ensures stands { OnOk result (IsTrue D.tells → (value : Store) → CanPut value plan.now generation old blob.now → Keeps (D.files disk.old).pkg
-        value → StandsWith value plan.now generation blob.now (D.files disk.old).pkg (D.files disk.new).pkg) }
+    ensures stands { OnOk result (IsTrue D.tells → (value : Store) → CanPut value target.now generation old blob.now → Keeps (D.files disk.old).pkg
+        value → StandsWith value target.now generation blob.now (D.files disk.old).pkg (D.files disk.new).pkg) }
     ensures zeros { OnOk result (IsTrue D.tells → (i : ℕ) → old.offset ≤ i → i < end_of old → unit_at (D.files disk.new).pkg i ≡ blank) }
-    ensures images { IsTrue D.tells → (value : Store) → CanPut value plan.now generation old blob.now → IsQuiet value (D.files disk.old)
+    ensures blanks { OnOk result (IsTrue D.tells → KeepsBlank (target.now.place + 3) target.now.start (blocks_for (length blob.now))
+        (D.files disk.old).pkg (D.files disk.new).pkg) }
+    ensures images { IsTrue D.tells → (value : Store) → CanPut value target.now generation old blob.now → IsQuiet value (D.files disk.old)
         (D.left_since disk.old (D.moment disk.old)) → LeavesOnly D.moment D.left_since disk.old disk.new
-        (Stops Pkg (WhilePut value plan.now generation blob.now (D.files disk.old).pkg) (D.left_since disk.old (D.moment disk.old))) }
-    ensures quiet { OnOk result (IsTrue D.tells → (value : Store) → CanPut value plan.now generation old blob.now → Keeps (D.files disk.old).pkg value
-        → IsQuiet (with_blob plan.now value) (D.files disk.new) (D.left_since disk.new (D.moment disk.new))) }
+        (Stops Pkg (WhilePut value target.now generation blob.now (D.files disk.old).pkg) (D.left_since disk.old (D.moment disk.old))) }
+    ensures quiet { OnOk result (IsTrue D.tells → (value : Store) → CanPut value target.now generation old blob.now → Keeps (D.files disk.old).pkg value
+        → IsQuiet (with_blob target.now value) (D.files disk.new) (D.left_since disk.new (D.moment disk.new))) }
     ensures changes { Changes D.tells D.files D.left_since D.moment D.bytes_read D.follows Pkg Anything 0 disk.old disk.new }
     ensures cause { HasCause (D.faults disk.old) (D.faults disk.new) result }
 {
-    write_first(disk, plan, generation, blob)?;
-    write_one(disk, 2 + plan.place as u64, &slot_unit(plan.slot()))?;
+    write_first(disk, target, generation, blob)?;
+    write_one(disk, 2 + target.place as u64, &slot_unit(target.slot()))?;
     // Only now: until the slot is durable they are the package.
     write_zeros(disk, old.offset, old.count)
 }

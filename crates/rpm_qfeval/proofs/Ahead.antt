@@ -1,10 +1,10 @@
 -- The first text of those that are left.
 use Rattle.std.proofs.Common.{◌≡◌, ℕ, zero, suc, ◌+◌, List, [], ◌∷◌, drop, Option, Some, None, refl, sym, ◌∙◌, arith}
 use Rattle.std.specs.Prelude.{slice_get}
-use Rattle.std.specs.List.{concat}
+use Rattle.std.specs.Option.{option_map}
 use Rattle.std.specs.Iterator.{YieldsFirstBy}
 use Rattle.rpm_tags.specs.Value.{Elements, text_list}
-use Rattle.rpm_qfeval.specs.Columns.{IsAt}
+use Rattle.rpm_qfeval.specs.Reached.{IsAt}
 use Rattle.rpm_qfeval.proofs.Steps.{begins_with}
 
 get_none : {X : Type 0} (xs : List X) (i : ℕ) → drop i xs ≡ [] → slice_get xs i ≡ None
@@ -18,16 +18,17 @@ none_behind [] (suc i) e = let step : suc i + 1 ≡ suc (i + 1) = omega arith in
 none_behind (x ∷ xs) zero e = absurd cc
 none_behind (x ∷ xs) (suc i) e = let step : suc i + 1 ≡ suc (i + 1) = omega arith in rw step (none_behind xs i e)
 
-pub one_ahead : (value : Elements) (before next : Option (List (List ℕ))) (old new : List (List ℕ)) (place : ℕ) → IsAt value before old place
-    → YieldsFirstBy {S = List (List ℕ)} {A = List (List ℕ)} {B = List ℕ} (λ x. concat x) (λ s. s) old next new → IsAt value next new (place + 1)
-one_ahead value before None old new place is y =
-    let none : drop (place + 1) (text_list value) ≡ [] = sym is.behind ∙ y.0 in
-    record {
-      are_texts = is.are_texts;
-      here = sym (get_none (text_list value) (place + 1) none);
-      behind = y.1 ∙ sym (none_behind (text_list value) (place + 1) none);
-    }
-one_ahead value before (Some x) old new place is y =
-    let some : drop (place + 1) (text_list value) ≡ concat x ∷ new = sym is.behind ∙ y in
-    let b = begins_with (text_list value) (place + 1) (concat x) new some in
-    record { are_texts = is.are_texts; here = sym b.here; behind = b.behind }
+module _ {A : Type 0} (view : A → List ℕ) where
+  pub one_ahead : (value : Elements) (before : Option (List ℕ)) (next : Option A) (old new : List (List ℕ)) (place : ℕ) → IsAt value before old place
+      → YieldsFirstBy {S = List (List ℕ)} {A = A} {B = List ℕ} view (λ s. s) old next new → IsAt value (option_map view next) new (place + 1)
+  one_ahead value before None old new place is y =
+      let none : drop (place + 1) (text_list value) ≡ [] = sym is.behind ∙ y.0 in
+      record {
+        are_texts = is.are_texts;
+        here = sym (get_none (text_list value) (place + 1) none);
+        behind = y.1 ∙ sym (none_behind (text_list value) (place + 1) none);
+      }
+  one_ahead value before (Some x) old new place is y =
+      let some : drop (place + 1) (text_list value) ≡ view x ∷ new = sym is.behind ∙ y in
+      let b = begins_with (text_list value) (place + 1) (view x) new some in
+      record { are_texts = is.are_texts; here = sym b.here; behind = b.behind }

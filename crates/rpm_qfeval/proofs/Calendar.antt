@@ -33,7 +33,7 @@ absolute : (z : ℤ) (count : ℕ) → up z + 4_371_953 ≡ down z + count → 4
 absolute (pos n) count e h = omega (arith, e)
 absolute (negsuc n) count e h = absurd (omega (arith, e))
 
-number_is : (y m d : ℕ) → 4_371_953 ≤ day_count (pos y) m d → day_number y m d + 4_371_953 ≡ day_count (pos y) m d
+pub number_is : (y m d : ℕ) → 4_371_953 ≤ day_count (pos y) m d → day_number y m d + 4_371_953 ≡ day_count (pos y) m d
 number_is y m d h = absolute (days_from_civil (pos y) m d) (day_count (pos y) m d) (days_from_civil-day_count (pos y) m d) h
 
 epoch : IsCivilDate (pos 1970) 1 1
@@ -46,7 +46,7 @@ from_january y m d h = omega (arith, day_count-day_of_year (pos y) m d h)
 later_year : (y z : ℕ) → y < z → pos y <ℤ pos z
 later_year y z h = omega (arith, signed_arith)
 
-from_epoch : (y m d : ℕ) → 1970 ≤ y → 1 ≤ d → 4_371_953 ≤ day_count (pos y) m d
+pub from_epoch : (y m d : ℕ) → 1970 ≤ y → 1 ≤ d → 4_371_953 ≤ day_count (pos y) m d
 from_epoch y m d h first =
     elim (cases_lt 1970 y) [
       | inl later ↦ omega (arith, day_count-epoch, day_count-lt_year (pos 1970) 1 1 (pos y) m d epoch first (later_year 1970 y later))

@@ -3,8 +3,11 @@ pub mod Ahead
 pub mod Counts
 mod Fixtures
 pub mod Walked
+pub mod ProperParts
+pub mod StoredTexts
 pub mod Moments
 pub mod Calendar
+pub mod DateLaw
 pub mod Lists
 pub mod Glyphs
 pub mod Encodings

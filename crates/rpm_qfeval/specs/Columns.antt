@@ -1,23 +1,17 @@
 -- What is kept of the tags of a bracket.
-use Rattle.std.specs.Prelude.{◌≡◌, ℕ, ◌+◌, List, drop, Option, None, Some, slice_get, All, IfSome}
-use Rattle.std.specs.List.{concat}
-use Rattle.std.specs.Option.{option_map}
+use Rattle.std.specs.Prelude.{◌≡◌, ℕ, List, Option, Some, slice_get, All, IfSome}
 use Rattle.rpm_header.specs.Header.{Header}
 use Rattle.rpm_tags.specs.declared.tag.Tag.{Tag}
-use Rattle.rpm_tags.specs.Value.{Elements, value, class_of, text_list}
+use Rattle.rpm_tags.specs.Value.{value}
 use Rattle.rpm_qfeval.specs.declared.columns.Found.{Found}
-use Rattle.rpm_tags.specs.declared.values.Class.TheVariants as class
+use Rattle.rpm_qfeval.specs.declared.columns.Reading.{Reading}
+use Rattle.rpm_qfeval.specs.declared.columns.Reading.TheVariants as reading
 
--- of a value of texts the one at a place, in parts, and those behind it
-pub record IsAt (all : Elements) (present : Option (List (List ℕ))) (texts : List (List ℕ)) (place : ℕ) : Type 0 where
-  pub are_texts : class_of all ≡ class.Text
-  pub here : option_map concat present ≡ slice_get (text_list all) place
-  pub behind : texts ≡ drop (place + 1) (text_list all)
-
--- a cursor is over the value
-abbrev pub IsColumn : Found → Option Elements → Type 0
-IsColumn found None = Unit {0}
-IsColumn found (Some value) = found.value ≡ Some value
+-- what reads is over the value
+abbrev pub IsColumn : Found → Reading → Type 0
+IsColumn found reading.Placed = Unit {0}
+IsColumn found (reading.Stored value) = found.value ≡ Some value
+IsColumn found (reading.Joined value) = found.value ≡ Some value
 
 -- what is kept of a tag is its value
 abbrev pub IsTold : Header → ℕ → Found → Type 0

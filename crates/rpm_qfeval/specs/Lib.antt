@@ -6,4 +6,6 @@ pub mod Numbers
 pub mod Padded
 pub mod Pieces
 pub mod Printed
+pub mod Proper
+pub mod Reached
 pub mod Texts

@@ -1,25 +1,26 @@
-//! The values of the tags of a bracket, which are looked up once.
+//! The values of the tags of a bracket, which are kept for its rounds.
 
-ghost use Rattle.std.specs.Prelude.{◌≡◌, ℕ, IfSome};
+ghost use Rattle.std.specs.Prelude.{◌≡◌};
 ghost use Rattle.std.specs.Option.{option_map};
-ghost use Rattle.rpm_header.specs.Header.{Header};
 ghost use Rattle.rpm_tags.specs.Value.{value, count_of};
-ghost use Rattle.rpm_qfeval.specs.Columns.{AreTold};
+ghost use Rattle.rpm_qfeval.specs.Columns.{AreTold, IsTold, IsColumn};
 ghost use Rattle.rpm_outside.specs.Sinks.{Writes};
 ghost use Rattle.rpm_qfeval.specs.Meaning.{text_or_none};
 ghost use Rattle.rpm_qfeval.specs.Padded.{padded};
 
 use crate::cursor::Cursor;
 use crate::elements::{put_none, put_value};
+use crate::stream::Stream;
 use arrayvec::ArrayVec;
-use rpm_header::View;
+use rpm_header::{PlacesRoom, View};
 use rpm_outside::{Failed, Sink};
 use rpm_qfparse::{Part, Parts, Role, TagPart};
-use rpm_tags::{Class, Tag, TagValue, value};
+use rpm_tags::{Class, Tag, TagValue, texts_in, value};
 use std::marker::Model;
 
-/// Of how many tags of a bracket the values are looked up once.
-pub const MOST: usize = 16;
+/// Of how many tags of a bracket the values are kept: more than two for each tag that has a name, one
+/// for its elements in turn and one for the first.
+pub const MOST: usize = 192;
 
 /// What a bracket asks for: the elements of a tag in turn, or the first one in each round.
 #[derive(Clone, Copy, PartialEq, Eq)]
@@ -35,12 +36,20 @@ pub struct Found<'a> {
     pub value: Option<TagValue<'a>>,
 }
 
+/// How the elements of a value are read: by their place, or texts one after the other.
+#[derive(Drop)]
+enum Reading<'v, 'a> {
+    Placed,
+    Stored(Stream<'v, 'a>),
+    Joined(Cursor<'v, 'a>),
+}
+
 /// What is asked for with its value, and of a value of texts how far it was read. Contracts see it
 /// without that.
 #[derive(Drop)]
 pub struct Column<'v, 'a> {
     found: &'v Found<'a>,
-    cursor: Option<Cursor<'v, 'a>>,
+    reading: Reading<'v, 'a>,
 }
 
 impl<'v, 'a> Model for Column<'v, 'a> {
@@ -51,25 +60,63 @@ impl<'v, 'a> Model for Column<'v, 'a> {
 
     ghost view = { λ s. s.found.now };
 
-    ghost invariant = { λ s. IsColumn s.found.now s.cursor };
+    ghost invariant = { λ s. IsColumn s.found.now s.reading };
+}
+
+/// How the elements of what was found are read.
+fn reading_of<'v, 'a>(
+    found: &'v Found<'a>,
+    view: &View<'a>,
+    number: u32,
+    room: Option<&'v mut PlacesRoom>,
+) -> Reading<'v, 'a>
+    requires { IsTold view.now number found.now }
+    ensures { IsColumn found.now result }
+{
+    let value = match &found.value {
+        None => return Reading::Placed,
+        Some(value) => value,
+    };
+    if value.class() != Class::Text {
+        return Reading::Placed;
+    }
+    if let Tag::Stored(tag) = found.asked.tag {
+        if let Some(texts) = texts_in(view, tag) {
+            return Reading::Stored(Stream::new(value, &texts));
+        }
+    }
+    Reading::Joined(Cursor::new(value, room))
+}
+
+/// Puts what was found by the role of a tag, in a round.
+fn put_found<O: Sink>(
+    sink: &mut O,
+    part: &TagPart,
+    found: &Found<'_>,
+    round: u32,
+) -> Result<(), Failed>
+    ensures { Writes O.tells O.taken O.faults O.follows sink.old sink.new
+        (padded part.now.left part.now.width (text_or_none part.now.role part.now.show round found.now.value)) result }
+{
+    match &found.value {
+        None => put_none(sink, part),
+        Some(value) => put_value(sink, part, value, round),
+    }
 }
 
 impl<'v, 'a> Column<'v, 'a> {
     /// The column of a value, at its first text.
-    pub fn new(found: &'v Found<'a>) -> Column<'v, 'a>
+    pub fn new(
+        found: &'v Found<'a>,
+        view: &View<'a>,
+        number: u32,
+        room: Option<&'v mut PlacesRoom>,
+    ) -> Column<'v, 'a>
+        requires { IsTold view.now number found.now }
         ensures { result ≡ found.now }
     {
-        let cursor = match &found.value {
-            None => None,
-            Some(value) => {
-                if value.class() == Class::Text {
-                    Some(Cursor::new(value))
-                } else {
-                    None
-                }
-            }
-        };
-        Column { found, cursor }
+        let reading = reading_of(found, view, number, room);
+        Column { found, reading }
     }
 
     /// What is asked for.
@@ -95,16 +142,15 @@ impl<'v, 'a> Column<'v, 'a> {
             (padded part.now.left part.now.width (text_or_none part.now.role part.now.show round self.old.value)) result }
         ensures same { self.new ≡ self.old }
     {
-        if let Some(cursor) = &mut self.cursor {
-            match part.role {
-                Role::Element => return cursor.put(sink, part, round),
-                Role::First => return cursor.put(sink, part, 0),
-                Role::Count => {}
-            }
-        }
-        match &self.found.value {
-            None => put_none(sink, part),
-            Some(value) => put_value(sink, part, value, round),
+        let place = match part.role {
+            Role::Element => round,
+            Role::First => 0,
+            Role::Count => return put_found(sink, part, self.found, round),
+        };
+        match &mut self.reading {
+            Reading::Placed => put_found(sink, part, self.found, round),
+            Reading::Stored(stream) => stream.put(sink, part, place),
+            Reading::Joined(cursor) => cursor.put(sink, part, place),
         }
     }
 }
@@ -166,6 +212,17 @@ pub fn asked_in(inner: &Parts) -> AllAsked {
     all
 }
 
+/// Whether the paths of files are asked for in turn, and need room for the places of directories.
+pub fn need_room(all: &[Option<Asked>], view: &View<'_>, number: u32) -> bool {
+    if !all.contains(&Some(Asked::of(Tag::Filenames))) {
+        return false;
+    }
+    match value(view, number, Tag::Filenames) {
+        None => false,
+        Some(paths) => paths.needs_room(),
+    }
+}
+
 /// Adds the values of what is asked for, as far as there is room.
 pub fn look_up<'a, const N: usize>(
     found: &mut ArrayVec<Option<Found<'a>>, N>,
@@ -189,17 +246,34 @@ pub fn look_up<'a, const N: usize>(
     }
 }
 
-/// Adds the columns of values, as far as there is room.
+/// The room for directories, where it is for this.
+fn room_for<'v>(asked: Asked, room: &mut Option<&'v mut PlacesRoom>) -> Option<&'v mut PlacesRoom> {
+    if asked.tag == Tag::Filenames && !asked.first {
+        room.take()
+    } else {
+        None
+    }
+}
+
+/// Adds the columns of values, as far as there is room for them. The paths of files, which are
+/// asked for in turn in one column alone, get the room for directories.
 pub fn add_columns<'v, 'a, const N: usize>(
     columns: &mut ArrayVec<Option<Column<'v, 'a>>, N>,
     found: &'v [Option<Found<'a>>],
+    view: &View<'a>,
+    number: u32,
+    room: Option<&'v mut PlacesRoom>,
 )
-    ensures { (h : Header) (number : ℕ) → AreTold h number columns.old.items → AreTold h number found.now → AreTold h number columns.new.items }
+    requires columns { AreTold view.now number columns.old.items }
+    requires found { AreTold view.now number found.now }
+    ensures { AreTold view.now number columns.new.items }
 {
+    let mut room = room;
     for found in found {
         if let Some(found) = found {
             if !columns.is_full() {
-                columns.push(Some(Column::new(found)));
+                let own = room_for(found.asked, &mut room);
+                columns.push(Some(Column::new(found, view, number, own)));
             }
         }
     }

@@ -8,12 +8,13 @@ ghost use Rattle.rpm_qfeval.specs.Formatters.{shown, or_none};
 ghost use Rattle.rpm_qfeval.specs.Padded.{padded};
 
 use crate::elements::{put_element, put_text};
+use rpm_header::PlacesRoom;
 use rpm_outside::{Failed, Sink};
 use rpm_qfparse::TagPart;
 use rpm_tags::{Class, Joined, TagValue, ValueTexts};
 use std::marker::Model;
 
-/// A value of texts, with a place among them up to which they were read. Contracts see it as the
+/// A value of texts that are put together, with a place among them up to which they were read. Contracts see it as the
 /// value alone.
 #[derive(Drop)]
 pub struct Cursor<'v, 'a> {
@@ -25,23 +26,25 @@ pub struct Cursor<'v, 'a> {
 }
 
 impl<'v, 'a> Model for Cursor<'v, 'a> {
+    ghost use Rattle.std.specs.List.{concat};
+    ghost use Rattle.std.specs.Option.{option_map};
     ghost use Rattle.rpm_tags.specs.Value.{Elements};
-    ghost use Rattle.rpm_qfeval.specs.Columns.{IsAt};
+    ghost use Rattle.rpm_qfeval.specs.Reached.{IsAt};
 
     ghost Value = { Elements };
 
     ghost view = { λ s. s.value.now };
 
-    ghost invariant = { λ s. IsAt s.value.now s.present s.texts s.place };
+    ghost invariant = { λ s. IsAt s.value.now (option_map (λ p. concat p) s.present) s.texts s.place };
 }
 
 impl<'v, 'a> Cursor<'v, 'a> {
     /// Reads the first text.
-    pub fn new(value: &'v TagValue<'a>) -> Cursor<'v, 'a>
+    pub fn new(value: &'v TagValue<'a>, room: Option<&'v mut PlacesRoom>) -> Cursor<'v, 'a>
         requires { class_of value.now ≡ Class.Text }
         ensures { result ≡ value.now }
     {
-        let mut texts = value.texts();
+        let mut texts = value.texts(room);
         let present = texts.next();
         Cursor {
             value,

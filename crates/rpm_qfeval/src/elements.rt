@@ -16,7 +16,7 @@ use crate::pieces::put_padded;
 use crate::shown::Shown;
 use itoa::Buffer as Decimal;
 use rpm_header::View;
-use rpm_outside::{Failed, Sink};
+use rpm_outside::{Failed, Sink, put_all};
 use rpm_qfparse::{Role, Show, TagPart};
 use rpm_tags::{Class, Joined, TagValue, value};
 
@@ -24,6 +24,9 @@ use rpm_tags::{Class, Joined, TagValue, value};
 pub fn put_plain<O: Sink>(sink: &mut O, part: &TagPart, text: &[u8]) -> Result<(), Failed>
     ensures { Writes O.tells O.taken O.faults O.follows sink.old sink.new (padded part.now.left part.now.width text.now) result }
 {
+    if part.width == 0 {
+        return put_all(sink, text);
+    }
     put_padded(sink, part.left, part.width, &Shown::Plain(text))
 }
 
@@ -90,6 +93,25 @@ pub fn put_text<O: Sink>(
     match part.show {
         Show::Plain => put_padded(sink, part.left, part.width, &Shown::Joined(text)),
         Show::Shescape => put_padded(sink, part.left, part.width, &Shown::Quoted(text)),
+        Show::Base64 => put_plain(sink, part, b"(not a blob)"),
+        Show::Arraysize => put_decimal(sink, part, count as u64),
+        _ => put_plain(sink, part, b"(not a number)"),
+    }
+}
+
+/// Puts a text, whose bytes stand side by side, of a value that has so many elements.
+pub fn put_stored_text<O: Sink>(
+    sink: &mut O,
+    part: &TagPart,
+    count: u32,
+    text: &[u8],
+) -> Result<(), Failed>
+    ensures { Writes O.tells O.taken O.faults O.follows sink.old sink.new
+        (padded part.now.left part.now.width (text_text part.now.show count text.now)) result }
+{
+    match part.show {
+        Show::Plain => put_plain(sink, part, text),
+        Show::Shescape => put_padded(sink, part.left, part.width, &Shown::QuotedBytes(text)),
         Show::Base64 => put_plain(sink, part, b"(not a blob)"),
         Show::Arraysize => put_decimal(sink, part, count as u64),
         _ => put_plain(sink, part, b"(not a number)"),

@@ -13,6 +13,7 @@ mod digits;
 mod elements;
 mod encoded;
 mod flags;
+mod inside;
 mod lookup;
 mod measure;
 mod modes;
@@ -20,6 +21,7 @@ mod pieces;
 mod printing;
 mod shown;
 mod sizes;
+mod stream;
 #[cfg(test)]
 mod tests;
 mod writing;

@@ -1,6 +1,6 @@
 //! Tags are asked for, in a bracket from the columns of its tags.
 
-ghost use Rattle.std.specs.Prelude.{◌≡◌, ◌<◌, length, IfSome};
+ghost use Rattle.std.specs.Prelude.{◌≡◌, ◌<◌, length, true, IfSome};
 ghost use Rattle.std.specs.Option.{option_map};
 ghost use Rattle.rpm_tags.specs.Value.{value, count_of};
 ghost use Rattle.rpm_qfeval.specs.Columns.{AreTold, IsOf};
@@ -14,24 +14,53 @@ use rpm_outside::{Failed, Sink};
 use rpm_qfparse::TagPart;
 use rpm_tags::{Tag, value};
 
-/// Where the column of what is asked for is.
-fn place_of(columns: &[Option<Column<'_, '_>>], asked: Asked) -> Option<usize>
+/// Whether the column of what is asked for is at a place.
+fn is_at(columns: &[Option<Column<'_, '_>>], k: usize, asked: Asked) -> bool
+    ensures within { result ≡ true → k < length columns.now }
+    ensures tag { result ≡ true → IsOf columns.now k asked.tag }
+{
+    if k >= columns.len() {
+        return false;
+    }
+    match &columns[k] {
+        None => false,
+        Some(column) => column.asked() == asked,
+    }
+}
+
+/// Where the column of what is asked for is, of all columns.
+fn find(columns: &[Option<Column<'_, '_>>], asked: Asked) -> Option<usize>
     ensures within { IfSome result (λ k. k < length columns.now) }
     ensures tag { IfSome result (λ k. IsOf columns.now k asked.tag) }
 {
-    for (k, column) in columns.iter().enumerate() {
-        if let Some(column) = column {
-            if column.asked() == asked {
-                return Some(k);
-            }
+    for k in 0..columns.len() {
+        if is_at(columns, k, asked) {
+            return Some(k);
         }
     }
     None
 }
 
+/// Where the column of what is asked for is. It is looked for at a place first, which becomes the one
+/// behind it: the parts of a bracket ask for its columns in their order.
+fn place_of(columns: &[Option<Column<'_, '_>>], next: &mut usize, asked: Asked) -> Option<usize>
+    ensures within { IfSome result (λ k. k < length columns.now) }
+    ensures tag { IfSome result (λ k. IsOf columns.now k asked.tag) }
+{
+    let first = *next;
+    if is_at(columns, first, asked) {
+        *next = first + 1;
+        return Some(first);
+    }
+    let k = find(columns, asked)?;
+    *next = k + 1;
+    Some(k)
+}
+
 /// How many elements a tag has, where it is present.
 pub fn count(
     columns: &[Option<Column<'_, '_>>],
+    next: &mut usize,
     view: &View<'_>,
     number: u32,
     tag: Tag,
@@ -39,7 +68,7 @@ pub fn count(
     requires { AreTold view.now number columns.now }
     ensures { result ≡ option_map count_of (value view.now number tag) }
 {
-    if let Some(k) = place_of(columns, Asked::of(tag)) {
+    if let Some(k) = place_of(columns, next, Asked::of(tag)) {
         if let Some(column) = &columns[k] {
             return column.count();
         }
@@ -53,6 +82,7 @@ pub fn count(
 /// Whether a tag is present.
 pub fn is_present(
     columns: &[Option<Column<'_, '_>>],
+    next: &mut usize,
     view: &View<'_>,
     number: u32,
     tag: Tag,
@@ -60,7 +90,7 @@ pub fn is_present(
     requires { AreTold view.now number columns.now }
     ensures { result ≡ is_present view.now number tag }
 {
-    count(columns, view, number, tag).is_some()
+    count(columns, next, view, number, tag).is_some()
 }
 
 /// Puts a tag in a round.
@@ -70,13 +100,14 @@ pub fn put_tag<O: Sink>(
     view: &View<'_>,
     number: u32,
     columns: &mut [Option<Column<'_, '_>>],
+    next: &mut usize,
     round: u32,
 ) -> Result<(), Failed>
     requires { AreTold view.now number columns.old }
     ensures puts { Writes O.tells O.taken O.faults O.follows sink.old sink.new (tag_text view.now number round part.now) result }
     ensures same { columns.new ≡ columns.old }
 {
-    if let Some(k) = place_of(columns, Asked::by(part)) {
+    if let Some(k) = place_of(columns, next, Asked::by(part)) {
         if let Some(column) = &mut columns[k] {
             return column.put(sink, part, round);
         }

@@ -67,6 +67,7 @@ pub fn lack(text: &Shown<'_>, width: u32) -> u32
         Shown::Plain(bytes) => lack_of(bytes.len(), width),
         Shown::Joined(text) => lack_of(text.len() as usize, width),
         Shown::Quoted(text) => lack_of_quoted(text, width.saturating_sub(2)),
+        Shown::QuotedBytes(text) => lack_of_escaped(text, width.saturating_sub(2)),
         Shown::Hex(bytes) => lack_of_hex(bytes, width),
         Shown::QuotedHex(bytes) => lack_of_hex(bytes, width.saturating_sub(2)),
         Shown::Base64(bytes) => lack_of_base64(bytes, width),

@@ -101,6 +101,14 @@ fn put_quoted<O: Sink>(sink: &mut O, text: &Joined<'_>) -> Result<(), Failed>
     put_all(sink, b"'")
 }
 
+fn put_quoted_bytes<O: Sink>(sink: &mut O, text: &[u8]) -> Result<(), Failed>
+    ensures { Writes O.tells O.taken O.faults O.follows sink.old sink.new (quoted text.now) result }
+{
+    put_all(sink, b"'")?;
+    put_escaped(sink, text)?;
+    put_all(sink, b"'")
+}
+
 fn put_quoted_hex<O: Sink>(sink: &mut O, bytes: &[u8]) -> Result<(), Failed>
     ensures { Writes O.tells O.taken O.faults O.follows sink.old sink.new (in_quotes (hex_text bytes.now)) result }
 {
@@ -116,6 +124,7 @@ fn put_shown<O: Sink>(sink: &mut O, text: &Shown<'_>) -> Result<(), Failed>
         Shown::Plain(bytes) => put_all(sink, bytes),
         Shown::Joined(text) => put_joined(sink, text),
         Shown::Quoted(text) => put_quoted(sink, text),
+        Shown::QuotedBytes(text) => put_quoted_bytes(sink, text),
         Shown::Hex(bytes) => put_hex(sink, bytes),
         Shown::QuotedHex(bytes) => put_quoted_hex(sink, bytes),
         Shown::Base64(bytes) => put_base64(sink, bytes),

@@ -11,6 +11,8 @@ pub enum Shown<'e> {
     Joined(&'e Joined<'e>),
     /// These parts, quoted for a shell.
     Quoted(&'e Joined<'e>),
+    /// These bytes, quoted for a shell.
+    QuotedBytes(&'e [u8]),
     /// Two digits for each byte.
     Hex(&'e [u8]),
     /// The same in quotes.

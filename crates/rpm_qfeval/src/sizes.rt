@@ -21,7 +21,7 @@ fn direct(
 {
     match part {
         Part::Tag(tag) => match tag.role {
-            Role::Element => count(columns, view, number, tag.tag),
+            Role::Element => count(columns, &mut 0, view, number, tag.tag),
             _ => None,
         },
         _ => None,
@@ -46,7 +46,7 @@ pub fn count_rounds(
     None
 }
 
-/// The first count of a bracket, and the first other one. Each tag is looked up once.
+/// The first count of a bracket, and the first other one. Each tag is looked up where it stands.
 fn different(inner: &Parts, view: &View<'_>, number: u32) -> Option<(u32, u32)>
     ensures { result ≡ different (counts view.now number inner.now) }
 {
@@ -72,7 +72,7 @@ fn part_sizes(part: &Part, view: &View<'_>, number: u32) -> Option<(u32, u32)>
         Part::Text(_) | Part::Tag(_) => None,
         Part::Bracket(inner) => different(inner, view, number),
         Part::Condition(tag, first, second) => {
-            if is_present(&[], view, number, *tag) {
+            if is_present(&[], &mut 0, view, number, *tag) {
                 sizes(first, view, number)
             } else {
                 sizes(second, view, number)

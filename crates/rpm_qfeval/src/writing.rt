@@ -1,183 +1,127 @@
 //! The parts of a format are put, one after the other.
 
-ghost use Rattle.std.specs.Prelude.{◌≡◌, ◌∷◌, [], codes};
-ghost use Rattle.rpm_qfeval.specs.Columns.{AreTold};
+ghost use Rattle.std.specs.Prelude.{◌≤◌, true, false};
 ghost use Rattle.rpm_outside.specs.Sinks.{Writes};
 ghost use Rattle.rpm_qfeval.specs.Meaning.{bytes, part_bytes, rounds, counts};
+ghost use Rattle.rpm_qfeval.specs.Proper.{AreProper, PartIsProper};
 
-use crate::columns::{Asked, Column, Found, MOST, add_columns, asked_in, look_up};
-use crate::lookup::{is_present, put_tag};
-use crate::sizes::count_rounds;
+use crate::columns::{Asked, Column, Found, MOST, add_columns, asked_in, look_up, need_room};
+use crate::elements::put_looked_up;
+use crate::inside::put_over;
+use crate::lookup::is_present;
 use arrayvec::ArrayVec;
-use rpm_header::View;
+use rpm_header::{PlacesRoom, View};
 use rpm_outside::{Failed, Sink, put_all};
 use rpm_qfparse::{Part, Parts};
 
-/// So many rounds of a bracket.
-#[cycle(writing)]
-fn put_rounds<O: Sink>(
-    sink: &mut O,
-    inner: &Parts,
-    view: &View<'_>,
-    number: u32,
-    columns: &mut [Option<Column<'_, '_>>],
-    count: u32,
-) -> Result<(), Failed>
-    requires { AreTold view.now number columns.old }
-    ensures { Writes O.tells O.taken O.faults O.follows sink.old sink.new (rounds (count ∷ []) (λ i. bytes view.now number i inner.now)) result }
-{
-    for round in 0..count {
-        put_parts(sink, inner, view, number, columns, round)?;
-    }
-    Ok(())
-}
-
-/// A bracket over the columns of its tags.
-#[cycle(writing)]
-fn put_over<O: Sink>(
-    sink: &mut O,
-    inner: &Parts,
-    view: &View<'_>,
-    number: u32,
-    columns: &mut [Option<Column<'_, '_>>],
-) -> Result<(), Failed>
-    requires { AreTold view.now number columns.old }
-    ensures { Writes O.tells O.taken O.faults O.follows sink.old sink.new (rounds (counts view.now number inner.now)
-        (λ i. bytes view.now number i inner.now)) result }
-{
-    match count_rounds(inner, columns, view, number) {
-        None => put_all(sink, b"(none)\n"),
-        Some(count) => put_rounds(sink, inner, view, number, columns, count),
-    }
-}
-
-// One function for each number of columns, since no cycle of calls is generic in a number. Each is
-// kept apart, so that the memory of the others isn't paid for.
-
-/// A bracket with two columns.
-#[cycle(writing)]
+/// A bracket with so many columns. It is kept apart for each number, so that the memory of more
+/// columns isn't paid for.
 #[inline(never)]
-fn put_two<O: Sink>(
+fn put_with<O: Sink, const N: usize>(
     sink: &mut O,
     inner: &Parts,
     view: &View<'_>,
     number: u32,
     asked: &[Option<Asked>],
 ) -> Result<(), Failed>
+    requires room { N ≤ 4096 }
+    requires proper { AreProper true inner.now }
     ensures { Writes O.tells O.taken O.faults O.follows sink.old sink.new (rounds (counts view.now number inner.now)
         (λ i. bytes view.now number i inner.now)) result }
 {
-    let mut found: ArrayVec<Option<Found<'_>>, 2> = ArrayVec::new();
+    let mut found: ArrayVec<Option<Found<'_>>, N> = ArrayVec::new();
     look_up(&mut found, asked, view, number);
-    let mut columns: ArrayVec<Option<Column<'_, '_>>, 2> = ArrayVec::new();
-    add_columns(&mut columns, found.as_slice());
+    let mut columns: ArrayVec<Option<Column<'_, '_>>, N> = ArrayVec::new();
+    add_columns(&mut columns, found.as_slice(), view, number, None);
     put_over(sink, inner, view, number, columns.as_mut_slice())
 }
 
-/// A bracket with four columns.
-#[cycle(writing)]
+/// A bracket with room for the places of directories, which costs 128 KiB of zeros.
+#[cold]
 #[inline(never)]
-fn put_four<O: Sink>(
+fn put_far<O: Sink>(
     sink: &mut O,
     inner: &Parts,
     view: &View<'_>,
     number: u32,
     asked: &[Option<Asked>],
 ) -> Result<(), Failed>
-    ensures { Writes O.tells O.taken O.faults O.follows sink.old sink.new (rounds (counts view.now number inner.now)
-        (λ i. bytes view.now number i inner.now)) result }
-{
-    let mut found: ArrayVec<Option<Found<'_>>, 4> = ArrayVec::new();
-    look_up(&mut found, asked, view, number);
-    let mut columns: ArrayVec<Option<Column<'_, '_>>, 4> = ArrayVec::new();
-    add_columns(&mut columns, found.as_slice());
-    put_over(sink, inner, view, number, columns.as_mut_slice())
-}
-
-/// A bracket with as many columns as there are at most.
-#[cycle(writing)]
-#[inline(never)]
-fn put_most<O: Sink>(
-    sink: &mut O,
-    inner: &Parts,
-    view: &View<'_>,
-    number: u32,
-    asked: &[Option<Asked>],
-) -> Result<(), Failed>
+    requires proper { AreProper true inner.now }
     ensures { Writes O.tells O.taken O.faults O.follows sink.old sink.new (rounds (counts view.now number inner.now)
         (λ i. bytes view.now number i inner.now)) result }
 {
     let mut found: ArrayVec<Option<Found<'_>>, MOST> = ArrayVec::new();
+    let mut room = PlacesRoom::new();
     look_up(&mut found, asked, view, number);
     let mut columns: ArrayVec<Option<Column<'_, '_>>, MOST> = ArrayVec::new();
-    add_columns(&mut columns, found.as_slice());
+    add_columns(
+        &mut columns,
+        found.as_slice(),
+        view,
+        number,
+        Some(&mut room),
+    );
     put_over(sink, inner, view, number, columns.as_mut_slice())
 }
 
 /// A bracket. A call pays for the memory of its columns, so there are few where few serve.
-#[cycle(writing)]
 fn put_bracket<O: Sink>(
     sink: &mut O,
     inner: &Parts,
     view: &View<'_>,
     number: u32,
 ) -> Result<(), Failed>
+    requires { AreProper true inner.now }
     ensures { Writes O.tells O.taken O.faults O.follows sink.old sink.new (rounds (counts view.now number inner.now)
         (λ i. bytes view.now number i inner.now)) result }
 {
     let asked = asked_in(inner);
     let asked = asked.as_slice();
+    if need_room(asked, view, number) {
+        return put_far(sink, inner, view, number, asked);
+    }
     match asked.len() {
-        0..=2 => put_two(sink, inner, view, number, asked),
-        3 | 4 => put_four(sink, inner, view, number, asked),
-        _ => put_most(sink, inner, view, number, asked),
+        0..=2 => put_with::<O, 2>(sink, inner, view, number, asked),
+        3 | 4 => put_with::<O, 4>(sink, inner, view, number, asked),
+        5..=16 => put_with::<O, 16>(sink, inner, view, number, asked),
+        _ => put_with::<O, MOST>(sink, inner, view, number, asked),
     }
 }
 
-/// A part in a round.
+/// A part outside of brackets.
 #[cycle(writing)]
-fn put_part<O: Sink>(
-    sink: &mut O,
-    part: &Part,
-    view: &View<'_>,
-    number: u32,
-    columns: &mut [Option<Column<'_, '_>>],
-    round: u32,
-) -> Result<(), Failed>
-    requires { AreTold view.now number columns.old }
-    ensures puts { Writes O.tells O.taken O.faults O.follows sink.old sink.new (part_bytes view.now number round part.now) result }
-    ensures same { columns.new ≡ columns.old }
+fn put_part<O: Sink>(sink: &mut O, part: &Part, view: &View<'_>, number: u32) -> Result<(), Failed>
+    requires { PartIsProper false part.now }
+    ensures { Writes O.tells O.taken O.faults O.follows sink.old sink.new (part_bytes view.now number 0 part.now) result }
 {
     match part {
         Part::Text(text) => put_all(sink, text.as_slice()),
-        Part::Tag(tag) => put_tag(sink, tag, view, number, columns, round),
+        Part::Tag(tag) => put_looked_up(sink, tag, view, number, 0),
         Part::Bracket(inner) => put_bracket(sink, inner, view, number),
         Part::Condition(tag, first, second) => {
-            if is_present(columns, view, number, *tag) {
-                put_parts(sink, first, view, number, columns, round)
+            if is_present(&[], &mut 0, view, number, *tag) {
+                put_parts(sink, first, view, number)
             } else {
-                put_parts(sink, second, view, number, columns, round)
+                put_parts(sink, second, view, number)
             }
         }
     }
 }
 
-/// Parts in a round.
+/// Parts outside of brackets.
 #[cycle(writing)]
+#[tactic(auto, using(crate::proofs::ProperParts::part_is_proper))]
 pub fn put_parts<O: Sink>(
     sink: &mut O,
     parts: &Parts,
     view: &View<'_>,
     number: u32,
-    columns: &mut [Option<Column<'_, '_>>],
-    round: u32,
 ) -> Result<(), Failed>
-    requires { AreTold view.now number columns.old }
-    ensures puts { Writes O.tells O.taken O.faults O.follows sink.old sink.new (bytes view.now number round parts.now) result }
-    ensures same { columns.new ≡ columns.old }
+    requires { AreProper false parts.now }
+    ensures { Writes O.tells O.taken O.faults O.follows sink.old sink.new (bytes view.now number 0 parts.now) result }
 {
     for i in 0..parts.len() {
-        put_part(sink, parts.at(i), view, number, columns, round)?;
+        put_part(sink, parts.at(i), view, number)?;
     }
     Ok(())
 }

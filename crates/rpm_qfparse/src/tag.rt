@@ -71,7 +71,7 @@ fn side(text: &[u8]) -> (bool, &[u8])
 }
 
 /// The number of the digits in front, and what follows them.
-#[tactic(auto, using(crate::proofs::Widths::number_of_is, crate::proofs::Widths::after_number_is), unfolding(crate::proofs::Widths::number_from, crate::proofs::Widths::after_digits))]
+#[tactic(auto, unfolding(crate::proofs::Widths::number_from, crate::proofs::Widths::after_digits))]
 fn width(text: &[u8]) -> Result<(u32, &[u8]), Fault<'_>>
     ensures { bare_reading result ≡ width text.now }
 {

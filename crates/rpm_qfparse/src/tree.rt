@@ -1,6 +1,7 @@
 //! The tree of a format.
 
-ghost use Rattle.std.specs.Prelude.{◌≡◌, ◌<◌, length, slice_get, Some};
+ghost use Rattle.std.specs.Prelude.{◌≡◌, ◌<◌, length, slice_get, Some, false};
+ghost use Rattle.rpm_qfparse.specs.Law.{IsProper};
 ghost use Rattle.rpm_qfparse.specs.Shape.{parts_of, load};
 ghost use Rattle.rpm_qfparse.specs.Tree.{weight};
 
@@ -157,24 +158,29 @@ impl Parts {
     }
 }
 
-/// A format that was read. Contracts see it as the tree of its parts.
+/// A format that was read. Contracts see it as the tree of its parts, which is proper.
 #[derive(Drop)]
 pub struct Format {
     parts: Parts,
 }
 
 impl Model for Format {
+    ghost use Rattle.std.specs.Prelude.{false};
     ghost use Rattle.rpm_qfparse.specs.Tree.{Tree, tree_code};
+    ghost use Rattle.rpm_qfparse.specs.Law.{IsProper};
 
     ghost Value = { Tree };
 
     ghost coded = { tree_code };
 
     ghost view = { λ s. s.parts };
+
+    ghost invariant = { λ s. IsProper false 0 s.parts };
 }
 
 impl Format {
     pub(crate) fn new(parts: Parts) -> Format
+        requires { IsProper false 0 parts }
         ensures { result ≡ parts }
     {
         Format { parts }
@@ -182,7 +188,8 @@ impl Format {
 
     /// Its parts, in the order of the text.
     pub fn parts(&self) -> &Parts
-        ensures { result.now ≡ self.now }
+        ensures value { result.now ≡ self.now }
+        ensures proper { IsProper false 0 result.now }
     {
         &self.parts
     }

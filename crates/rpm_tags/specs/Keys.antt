@@ -1,5 +1,5 @@
 -- The keys of a header, with their places.
-use Rattle.std.specs.Prelude.{ℕ, ◌+◌, ◌^◌, ◌<◌, List, map, length}
+use Rattle.std.specs.Prelude.{ℕ, List, map, length}
 use Rattle.std.specs.List.{zip, range_with_len}
 use Rattle.std.specs.Int.{w64, to_be_bytes}
 use Rattle.rpm_header.specs.Header.{Header}

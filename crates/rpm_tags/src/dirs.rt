@@ -3,8 +3,8 @@
 ghost use Rattle.std.specs.Prelude.{◌≡◌, ℕ, ◌+◌, ◌≤◌, ◌<◌, length, drop, Some, slice_get};
 ghost use Rattle.rpm_header.specs.Header.{max_data};
 
-use crate::stored::{TextIter, Texts};
-use rpm_header::TextPlaces;
+use crate::stored::{Numbers, TextIter, Texts};
+use rpm_header::{PlacesRoom, TextPlaces};
 use std::marker::Model;
 
 /// The text n places ahead.
@@ -25,6 +25,30 @@ fn nth_text<'a>(texts: &mut TextIter<'a>, n: u32) -> &'a [u8]
     }
 }
 
+/// Whether files ask more than 16 times for a directory that was passed and isn't kept. Reads each
+/// index once.
+pub fn go_back(indexes: &Numbers<'_>) -> bool {
+    let mut recent = [0; 16];
+    let mut passed = 0;
+    let mut missed: u32 = 0;
+    for i in 0..indexes.count() {
+        let index = indexes.number(i);
+        let slot = (index % 16) as usize;
+        if recent[slot] == index {
+            continue;
+        }
+        recent[slot] = index;
+        if index < passed {
+            missed = missed.saturating_add(1);
+        }
+        passed = passed.max(index);
+        if missed > 16 {
+            return true;
+        }
+    }
+    false
+}
+
 // A directory that was read, and its index.
 #[derive(Clone, Copy)]
 struct ReadDirectory<'a> {
@@ -43,8 +67,10 @@ pub struct Directories<'v, 'a> {
     passed: u32,
     // The last that was read of those with the same remainder by 16.
     recent: [ReadDirectory<'a>; 16],
-    // All of them by place, once one was asked for again that isn't kept.
-    places: Option<TextPlaces<'a>>,
+    // All of them by place, once one was asked for again that isn't kept, and before that the room
+    // for their numbers.
+    places: Option<TextPlaces<'v, 'a>>,
+    room: Option<&'v mut PlacesRoom>,
 }
 
 impl<'v, 'a> Model for Directories<'v, 'a> {
@@ -60,7 +86,7 @@ impl<'v, 'a> Model for Directories<'v, 'a> {
 
 impl<'v, 'a> Directories<'v, 'a> {
     /// Reads the first directory.
-    pub fn new(all: &'v Texts<'a>) -> Directories<'v, 'a>
+    pub fn new(all: &'v Texts<'a>, room: Option<&'v mut PlacesRoom>) -> Directories<'v, 'a>
         ensures { result ≡ all.now }
     {
         let _ = all.count();
@@ -74,10 +100,12 @@ impl<'v, 'a> Directories<'v, 'a> {
             passed: 0,
             recent: [first; 16],
             places: None,
+            room,
         }
     }
 
-    /// The directory of an index that was passed, by its place.
+    /// The directory of an index that was passed, by its place; without room for the places by
+    /// going from the first one on.
     fn read_again(&mut self, index: u32) -> &'a [u8]
         requires { index < length self.old }
         ensures value { slice_get self.old index ≡ Some result.now }
@@ -85,8 +113,11 @@ impl<'v, 'a> Directories<'v, 'a> {
         ensures same { self.new ≡ self.old }
     {
         let places = match self.places.take() {
-            None => self.all.places(),
             Some(places) => places,
+            None => match self.room.take() {
+                Some(room) => self.all.places(room),
+                None => return self.all.text(index),
+            },
         };
         let dir = places.text(index);
         self.places = Some(places);
@@ -110,8 +141,9 @@ impl<'v, 'a> Directories<'v, 'a> {
     }
 
     /// The directory of an index. Reads nothing where it is among the 16 that are kept; else the
-    /// directories from the furthest one on that was read, or, where it is in front of that, a
-    /// 255th of all of them at most, and the first time all of them twice.
+    /// directories from the furthest one on that was read, or, where it is in front of that, two
+    /// strides of a 32,767th of all of them at most, and the first time all of them twice. Without
+    /// room it reads all of them up to its own.
     pub fn dir(&mut self, index: u64) -> &'a [u8]
         requires { index < length self.old }
         ensures value { slice_get self.old index ≡ Some result.now }

@@ -7,11 +7,11 @@ ghost use Rattle.rpm_tags.specs.Value.{filenames, are_matched, file_name, texts_
 ghost use Rattle.rpm_header.specs.Header.{max_data};
 ghost use Rattle.rpm_tags.specs.Numbers.{DIRINDEXES, BASENAMES, DIRNAMES};
 
-use crate::dirs::Directories;
+use crate::dirs::{Directories, go_back};
 use crate::joined::Joined;
 use crate::numbers::{BASENAMES, DIRINDEXES, DIRNAMES};
 use crate::stored::{Numbers, TextIter, Texts, numbers_in, texts_in};
-use rpm_header::View;
+use rpm_header::{PlacesRoom, View};
 use std::marker::Model;
 
 /// The directory of this index, and a name behind it.
@@ -62,13 +62,18 @@ impl<'a> Files<'a> {
         path_of(&self.dirs, index, base)
     }
 
-    /// All paths in order.
-    pub fn iter(&self) -> FileIter<'_, 'a>
+    /// Whether all paths in order need room for the places of directories.
+    pub fn need_room(&self) -> bool {
+        go_back(&self.indexes)
+    }
+
+    /// All paths in order, with room for the places of directories.
+    pub fn iter<'v>(&'v self, room: Option<&'v mut PlacesRoom>) -> FileIter<'v, 'a>
         ensures { result ≡ self.now }
     {
         let _ = self.indexes.count();
         FileIter {
-            dirs: Directories::new(&self.dirs),
+            dirs: Directories::new(&self.dirs, room),
             indexes: &self.indexes,
             bases: self.bases.iter(),
             place: 0,

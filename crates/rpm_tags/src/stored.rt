@@ -8,7 +8,7 @@ ghost use Rattle.rpm_tags.specs.Value.{elements, stored, texts_in, numbers_in, f
 ghost use Rattle.rpm_tags.specs.inner.Source.{stored_elements};
 ghost use Rattle.rpm_header.specs.Header.{max_data};
 
-use rpm_header::{Entry, EntryTexts, Form, TextPlaces, View};
+use rpm_header::{Entry, EntryTexts, Form, PlacesRoom, TextPlaces, View};
 use std::marker::Model;
 
 /// The numbers of an entry, unsigned. Contracts see it as the list of them.
@@ -129,12 +129,13 @@ impl<'a> Texts<'a> {
         self.entry.text(i)
     }
 
-    /// The texts by place, to be read in any order. Counts the zeros of their bytes once.
-    pub fn places(&self) -> TextPlaces<'a>
+    /// The texts by place, to be read in any order. Counts the zeros of their bytes once, and keeps
+    /// these numbers in the room.
+    pub fn places<'p>(&self, room: &'p mut PlacesRoom) -> TextPlaces<'p, 'a>
         ensures { take (length self.now) result ≡ self.now }
     {
         let _ = self.entry.count();
-        self.entry.places()
+        self.entry.places(room)
     }
 
     /// All texts in order. Going through them reads each byte once.

@@ -1,5 +1,5 @@
 use super::*;
-use rpm_header::View;
+use rpm_header::{PlacesRoom, View};
 use std::alloc::{AllocError, Global};
 use std::test::Fail;
 
@@ -162,7 +162,8 @@ fn push_parts(bytes: &mut Vec<u8>, text: &Joined<'_>) -> Result<(), AllocError> 
 fn shown(alloc: Global, value: &TagValue<'_>) -> Result<Vec<u8>, AllocError> {
     let mut bytes = Vec::new(alloc);
     if value.class() == Class::Text {
-        for text in value.texts() {
+        let mut room = PlacesRoom::new();
+        for text in value.texts(Some(&mut room)) {
             push_parts(&mut bytes, &text)?;
             bytes.push(b'|')?;
         }

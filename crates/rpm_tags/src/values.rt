@@ -11,7 +11,7 @@ use crate::numbers::EPOCH;
 use crate::stored::{Stored, find_stored, first_number};
 use crate::tag::Tag;
 use crate::texts::ValueTexts;
-use rpm_header::View;
+use rpm_header::{PlacesRoom, View};
 use std::marker::Model;
 
 /// What the elements of a value are.
@@ -103,17 +103,34 @@ impl<'a> TagValue<'a> {
         }
     }
 
+    /// Whether `texts` needs room: it is FILENAMES, and its files ask more than 16 times for
+    /// directories that were passed and aren't kept. Reads each index of a directory once.
+    pub fn needs_room(&self) -> bool {
+        match &self.source {
+            Source::Files(files) => files.need_room(),
+            _ => false,
+        }
+    }
+
     /// All texts in order, each as `text` gives it. Going through them reads each byte of a stored
     /// text once. Of FILENAMES it reads each name once, and each directory once where files ask for
     /// new directories in order and for earlier ones not long after: the furthest one and 16 others
-    /// are kept, for 1.5 KiB. For any other directory it reads a 255th of all of them at most, and
-    /// the first time all of them twice: in the worst header of 64 MiB, 33.5 million times 256 KiB.
-    pub fn texts(&self) -> ValueTexts<'_, 'a>
+    /// are kept. For any other directory it looks where it begins and ends, in the room, which
+    /// reads 4 KiB at most, however long the directory is; the first time all of them twice.
+    ///
+    /// How many files a header of 64 MiB can have that each ask for a directory far from the others:
+    /// with indexes of four bytes, which may be names and directories at once, 16.8 million; with
+    /// indexes of two bytes and the zero byte of a name besides, 22.4 million; indexes of one byte
+    /// name 256 directories, for 44.7 million files. The README has what such headers cost.
+    ///
+    /// Without room a directory that was passed and isn't kept is read from the first one on. Where
+    /// `needs_room` says no, that is 16 times at most.
+    pub fn texts<'v>(&'v self, room: Option<&'v mut PlacesRoom>) -> ValueTexts<'v, 'a>
         requires { class_of self.now ≡ Class.Text }
         ensures { result ≡ text_list self.now }
     {
         if let Source::Files(files) = &self.source {
-            return ValueTexts::files(files.iter());
+            return ValueTexts::files(files.iter(room));
         }
         match &self.source {
             Source::Stored(Stored::Texts(texts)) => ValueTexts::stored(texts.iter()),

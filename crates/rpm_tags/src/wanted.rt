@@ -5,11 +5,11 @@ ghost use Rattle.std.specs.List.{list_any, zip, suffix_len};
 ghost use Rattle.rpm_tags.specs.Value.{file_name, file_names, filenames, are_matched, texts_in, numbers_in};
 ghost use Rattle.rpm_tags.specs.Wanted.{base_name, counts_for, any_counts_for, has_file, is_slash};
 
-use crate::dirs::Directories;
+use crate::dirs::{Directories, go_back};
 use crate::files::are_matched;
 use crate::numbers::{BASENAMES, DIRINDEXES, DIRNAMES};
 use crate::stored::{Numbers, Texts, numbers_in, texts_in};
-use rpm_header::View;
+use rpm_header::{PlacesRoom, View};
 
 /// How many bytes of a path follow its last slash.
 fn base_len(path: &[u8]) -> usize
@@ -45,18 +45,22 @@ fn counts(
 }
 
 /// Whether a file counts for a path. A directory is looked at only where the name is that of the path.
-fn is_any_at(dirs: &Texts<'_>, indexes: &Numbers<'_>, bases: &Texts<'_>, path: &[u8]) -> bool
-    requires { are_matched dirs.now indexes.now bases.now ≡ true }
-    ensures { result ≡ list_any (counts_for path.now) (zip (file_names dirs.now indexes.now bases.now) bases.now) }
+fn is_any_at(
+    directories: &mut Directories<'_, '_>,
+    indexes: &Numbers<'_>,
+    bases: &Texts<'_>,
+    path: &[u8],
+) -> bool
+    requires { are_matched directories.old indexes.now bases.now ≡ true }
+    ensures { result ≡ list_any (counts_for path.now) (zip (file_names directories.old indexes.now bases.now) bases.now) }
 {
     let (front, base) = split_path(path);
     let _ = indexes.count();
-    let mut directories = Directories::new(dirs);
     let mut left = bases.iter();
     let mut place = 0;
     while let Some(text) = left.next() {
         let index = indexes.number(place);
-        if counts(&mut directories, index, text, front, base) {
+        if counts(directories, index, text, front, base) {
             return true;
         }
         place += 1;
@@ -64,10 +68,32 @@ fn is_any_at(dirs: &Texts<'_>, indexes: &Numbers<'_>, bases: &Texts<'_>, path: &
     false
 }
 
+/// The same with room for the places of directories. A function of its own, as its frame has the room.
+#[cold]
+#[inline(never)]
+fn is_any_far(dirs: &Texts<'_>, indexes: &Numbers<'_>, bases: &Texts<'_>, path: &[u8]) -> bool
+    requires { are_matched dirs.now indexes.now bases.now ≡ true }
+    ensures { result ≡ list_any (counts_for path.now) (zip (file_names dirs.now indexes.now bases.now) bases.now) }
+{
+    let mut room = PlacesRoom::new();
+    is_any_at(
+        &mut Directories::new(dirs, Some(&mut room)),
+        indexes,
+        bases,
+        path,
+    )
+}
+
 fn is_any_in(dirs: &Texts<'_>, indexes: &Numbers<'_>, bases: &Texts<'_>, path: &[u8]) -> bool
     ensures { result ≡ any_counts_for path.now (filenames (Some dirs.now) (Some indexes.now) (Some bases.now)) (Some bases.now) }
 {
-    are_matched(dirs, indexes, bases) && is_any_at(dirs, indexes, bases, path)
+    if !are_matched(dirs, indexes, bases) {
+        return false;
+    }
+    if go_back(indexes) {
+        return is_any_far(dirs, indexes, bases, path);
+    }
+    is_any_at(&mut Directories::new(dirs, None), indexes, bases, path)
 }
 
 /// Whether an element of FILENAMES is this path, and its name is what follows the path's last slash. Reads each name once, and

@@ -40,7 +40,7 @@ verdict_steps n (Some verdict) = ToOut (bearer 0 n) (verdict_line n verdict) ∷
 
 -- a store that was opened without its index
 abbrev pub unindexed : Store → Database
-unindexed store = record { store = store; indexed = false; stopped = false }
+unindexed store = record { store = store; index = None; stopped = false }
 
 abbrev pub reported : List Step → Part
 reported [] = nothing

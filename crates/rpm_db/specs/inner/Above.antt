@@ -9,7 +9,7 @@ use Rattle.rpm_db.specs.State.{above}
 use Rattle.std.proofs.lemmas.Bool.{cases_lt, cases_order}
 use Rattle.std.proofs.lemmas.Bool.Decides.{nat_tests}
 
-both_true : (a b : Bool) → T (a && b) → T a × T b
+pub both_true : (a b : Bool) → T (a && b) → T a × T b
 both_true true b t = (tt, t)
 both_true false b t = absurd t
 
@@ -45,7 +45,7 @@ passed q e es other =
     let test : eq_by_cmp nat_cmp q e.0 ≡ false = unsigned_tied q e.0 ∙ grind (arith, nat_tests) in
     rw test refl
 
-none_below : {X : Type 0} (q x : ℕ) (es : List (ℕ × X)) → T (below_all nat_cmp x es) → q ≤ x → finite.find nat_cmp q es ≡ None
+pub none_below : {X : Type 0} (q x : ℕ) (es : List (ℕ × X)) → T (below_all nat_cmp x es) → q ≤ x → finite.find nat_cmp q es ≡ None
 none_below q x [] t le = refl
 none_below q x (e ∷ es) t le =
     let s = both_true (is_lt (nat_cmp x e.0)) (below_all nat_cmp x es) t in

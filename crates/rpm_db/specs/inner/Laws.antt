@@ -7,12 +7,11 @@ use Rattle.std.proofs.lemmas.Cmp.{nat_cmp_total}
 use Rattle.std.proofs.lemmas.Bool.{cases_lt}
 use Rattle.rpm_outside.specs.Files.{Units}
 use Rattle.rpm_pkgdb.specs.Store.{Store}
-use Rattle.rpm_pkgdb.specs.Slots.{slot_with}
 use Rattle.rpm_pkgdb.specs.Blobs.{blobs}
 use Rattle.rpm_pkgdb.specs.BlobLaws.{is_some-get-blobs}
 use Rattle.rpm_pkgdb.specs.Costs.{cost_to_more, cost_to-cost_all}
 use Rattle.rpm_db.specs.Database.{Database, holds, cost, cost_to, cost_all}
-use Rattle.rpm_db.specs.State.{Package, package_of, packages}
+use Rattle.rpm_db.specs.State.{package_of, packages}
 
 -- a map whose values are changed one by one
 pub find-map : {X Y : Type 0} (f : X → Y) (q : ℕ) (es : List (ℕ × X))

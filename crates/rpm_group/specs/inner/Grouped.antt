@@ -9,6 +9,7 @@ use Rattle.rpm_group.specs.declared.layers.Layers.{Layers}
 use Rattle.rpm_group.specs.Layers.{laid_file}
 use Rattle.rpm_group.specs.inner.Logged.{CoversHeld}
 use Rattle.rpm_group.specs.Groups.{runs_of}
+use Rattle.rpm_group.specs.Orders.{InOrder}
 
 -- the files with what is held of two of them
 abbrev pub with_held : Layers → Files → Files
@@ -20,6 +21,7 @@ pub record IsGroup (entries : List Entry) (held : Layers) : Type 0 where
   pub idx : CoversHeld entries Idx held.idx.table.items held.idx.end
   pub whole : (files : Files) → with_entries entries files ≡ with_held held files
   pub count : length entries ≡ runs_of held.pkg + runs_of held.idx
+  pub order : InOrder held entries
 
 -- these entries stand in a log as far as this tail
 pub record IsTail (entries : List Entry) (tail : Tail) (log : Units) : Type 0 where

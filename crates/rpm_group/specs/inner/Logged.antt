@@ -6,6 +6,7 @@ use Rattle.rpm_outside.specs.Logs.{Entry, with_entries}
 use Rattle.rpm_outside.specs.Entries.{Covers}
 use Rattle.rpm_group.specs.Held.{Table, unit_over}
 use Rattle.rpm_group.specs.Counts.{is_held, begins_run, count_below}
+use Rattle.rpm_group.specs.Orders.{AreRuns}
 use Rattle.rpm_group.specs.inner.HeldUnits.{units_held}
 
 -- these entries write what is held of a file below a unit, and nothing else
@@ -20,6 +21,7 @@ pub record Logged (entries : List Entry) (file : File) (table : Table) (below : 
   pub end_below : end ≤ below
   pub gap : (i : ℕ) → end ≤ i → i < below → is_held table i ≡ false
   pub count : length entries ≡ count_below (begins_run table) below
+  pub runs : AreRuns file 0 below entries
 
 -- the entry of a run
 abbrev pub run_entry : File → Table → ℕ → ℕ → Entry

@@ -21,12 +21,13 @@ unfoldable pub skipped : ℕ → List ℕ → List ℕ
 skipped zero bytes = bytes
 skipped (suc n) bytes = skipped n (after_first is_zero bytes)
 
--- in front of each of so many strides, how many of the bytes are zero
-pub record IsPlaced (count : ℕ) (bytes : List ℕ) (stride filled : ℕ) (sums : List ℕ) : Type 0 where
+-- in front of each stride, how many of the bytes are zero
+pub record AreCounted (bytes : List ℕ) (stride : ℕ) (sums : List ℕ) : Type 0 where
+  pub some : 0 < length sums
+  pub reach : (k : ℕ) → k < length sums → k * stride ≤ length bytes
+  pub each : (k : ℕ) → k < length sums → slice_index sums k ≡ zeros (take (k * stride) bytes)
+
+-- and so many texts have their zero bytes
+pub record IsPlaced (count : ℕ) (bytes : List ℕ) (stride : ℕ) (sums : List ℕ) : Type 0 where
   pub ended : are_ended count bytes ≡ true
-  pub few : length bytes ≤ max_data
-  pub some : 0 < filled
-  pub within : filled ≤ 256
-  pub size : length sums ≡ 256
-  pub reach : (k : ℕ) → k < filled → k * stride ≤ length bytes
-  pub each : (k : ℕ) → k < filled → slice_index sums k ≡ zeros (take (k * stride) bytes)
+  pub counted : AreCounted bytes stride sums

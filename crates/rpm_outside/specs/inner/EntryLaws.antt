@@ -3,11 +3,10 @@ use Rattle.std.specs.Prelude.{◌≡◌, ◌⊎◌, ℕ, ◌+◌, ◌-◌, ◌<�
 use Rattle.std.proofs.Common.{inl, inr, ⊎_elim, refl, sym, ap, subst, ◌∙◌, arith}
 use Rattle.std.proofs.lemmas.Bool.{cases_lt}
 use Rattle.rpm_outside.specs.declared.disk.File.{File}
-use Rattle.rpm_outside.specs.declared.disk.File.TheVariants.{Pkg, Idx, Log}
 use Rattle.rpm_outside.specs.Files.{cases_file, Units, Files, file_of, unit_at, put}
 use Rattle.rpm_outside.specs.inner.Puts.{length-put, put_before, put_inside, put_after}
 use Rattle.rpm_outside.specs.inner.PutLaws.{same_units}
-use Rattle.rpm_outside.specs.inner.FileLaws.{file_of-with, other_file}
+use Rattle.rpm_outside.specs.inner.FileLaws.{file_of-with, other_file, same_files}
 use Rattle.rpm_outside.specs.Logs.{Entry, with_entry, with_entries}
 use Rattle.rpm_outside.specs.Changed.{ChangedIn}
 use Rattle.rpm_outside.specs.Entries.{HasUnit, Covers, end_in, ends_in, Within}
@@ -85,12 +84,6 @@ pub entries_cover : (entries : List Entry) (a b : Files) (file : File) (i : ℕ)
 entries_cover [] a b file i covers = absurd covers
 entries_cover (entry ∷ entries) a b file i (inl w) = entries_agree entries (with_entry entry a) (with_entry entry b) file i (entry_covers entry a b file i w)
 entries_cover (entry ∷ entries) a b file i (inr later) = entries_cover entries (with_entry entry a) (with_entry entry b) file i later
-
-same_files : (a b : Files) → ((file : File) → file_of file a ≡ file_of file b) → a ≡ b
-same_files a b same =
-    ap (λ (u : Units). record { pkg = u; idx = a.idx; log = a.log }) (same Pkg)
-    ∙ ap (λ (u : Units). record { pkg = b.pkg; idx = u; log = a.log }) (same Idx)
-    ∙ ap (λ (u : Units). record { pkg = b.pkg; idx = b.idx; log = u }) (same Log)
 
 -- ---- lengths
 

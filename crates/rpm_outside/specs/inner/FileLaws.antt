@@ -1,5 +1,5 @@
 -- Three files, one of them replaced.
-use Rattle.std.proofs.Common.{◌≡◌, refl}
+use Rattle.std.proofs.Common.{◌≡◌, refl, ap, ◌∙◌}
 use Rattle.rpm_outside.specs.declared.disk.File.{File}
 use Rattle.rpm_outside.specs.declared.disk.File.TheVariants.{Pkg, Idx, Log}
 use Rattle.rpm_outside.specs.Files.{Units, Files, file_of, with_file}
@@ -29,3 +29,9 @@ other_file Idx Log units files differ = refl
 other_file Log Pkg units files differ = refl
 other_file Log Idx units files differ = refl
 other_file Log Log units files differ = absurd (differ refl)
+
+pub same_files : (a b : Files) → ((file : File) → file_of file a ≡ file_of file b) → a ≡ b
+same_files a b same =
+    ap (λ (u : Units). record { pkg = u; idx = a.idx; log = a.log }) (same Pkg)
+    ∙ ap (λ (u : Units). record { pkg = b.pkg; idx = u; log = a.log }) (same Idx)
+    ∙ ap (λ (u : Units). record { pkg = b.pkg; idx = b.idx; log = u }) (same Log)

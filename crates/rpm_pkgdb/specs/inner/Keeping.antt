@@ -23,3 +23,4 @@ pub record IsSound (s : Inside) : Type 0 where
   pub blank : s.pages ≡ 0 → 254 ≤ vec_capacity s.slots
   pub used : HasUsed s.used s.spare s.slots.items
   pub room : s.spare ≤ s.numbers.room
+  pub one : s.spare ≤ 1

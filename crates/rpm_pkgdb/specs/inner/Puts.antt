@@ -1,15 +1,15 @@
 -- What is written while a blob is put.
-use Rattle.std.specs.Prelude.{◌≡◌, ◌⊎◌, ℕ, ◌^◌, ◌<◌, ◌≤◌, List, [], ◌∷◌, length, true, false, Option, Some, None}
+use Rattle.std.specs.Prelude.{◌≡◌, ◌⊎◌, ℕ, ◌^◌, ◌<◌, ◌≤◌, List, [], ◌∷◌, length, Bool, true, false, Option, Some, None}
 use Rattle.rpm_outside.specs.Files.{Units, units_of, put}
 use Rattle.rpm_outside.specs.Crash.{Torn}
 use Rattle.rpm_pkgdb.specs.declared.slot.Slot.{Slot}
-use Rattle.rpm_pkgdb.specs.declared.plan.Plan.{Plan}
+use Rattle.rpm_pkgdb.specs.declared.plan.Target.{Target}
 use Rattle.rpm_pkgdb.specs.Words.{word}
 use Rattle.rpm_pkgdb.specs.Slots.{slot_at, free}
 use Rattle.rpm_pkgdb.specs.Store.{Store}
 use Rattle.rpm_pkgdb.specs.inner.Clear.{SameOutside}
 use Rattle.rpm_pkgdb.specs.Framing.{framed}
-use Rattle.rpm_pkgdb.specs.Plans.{IsPlan, slot_for}
+use Rattle.rpm_pkgdb.specs.Plans.{IsTarget, slot_for}
 use Rattle.rpm_pkgdb.specs.Quiet.{StandsAs}
 use Rattle.rpm_pkgdb.specs.Written.{next_field, with_next}
 use Rattle.rpm_pkgdb.specs.inner.Settings.{StandsSet}
@@ -36,23 +36,29 @@ pub record BlobPut (at : ℕ) (units : Units) (field : Option ℕ) (old new : Un
   pub blocks : mid ≡ put at units old
   pub field_put : FieldPut field mid new
 
--- a plan for this value, a blob of its length, and the slot whose blocks it frees
-pub record CanPut (value : Store) (plan : Plan) (generation : ℕ) (old : Slot) (blob : List ℕ) : Type 0 where
+-- a target for this value, a blob of its length, and the slot whose blocks it frees
+pub record CanPut (value : Store) (target : Target) (generation : ℕ) (old : Slot) (blob : List ℕ) : Type 0 where
   pub made : 1 ≤ value.pages
-  pub plan_is : IsPlan value plan
-  pub length_is : plan.length ≡ length blob
+  pub target_is : IsTarget value target
+  pub length_is : target.length ≡ length blob
   pub generation_is : generation ≡ value.generation
   pub fits : generation < 2 ^ 32
-  pub new : plan.is_new ≡ true → old ≡ free
-  pub replaced : plan.is_new ≡ false → old ≡ slot_at value.slots plan.place
+  pub new : target.is_new ≡ true → old ≡ free
+  pub replaced : target.is_new ≡ false → old ≡ slot_at value.slots target.place
 
 -- an image says the value with the blob, whose blocks stand in it; the other slots' blocks are as in a file from before
-abbrev pub StandsWith : Store → Plan → ℕ → List ℕ → Units → Units → Type 0
-StandsWith value plan generation blob file image =
-    StandsSet (with_next (next_field plan) value) plan.place (slot_for plan) (units_of (framed plan.number generation blob)) file image
+abbrev pub StandsWith : Store → Target → ℕ → List ℕ → Units → Units → Type 0
+StandsWith value target generation blob file image =
+    StandsSet (with_next (next_field target) value) target.place (slot_for target) (units_of (framed target.number generation blob)) file image
 
 -- an image stands for the value from before, for it with the next number, or for it with the blob
-pub data WhilePut (value : Store) (plan : Plan) (generation : ℕ) (blob : List ℕ) (file image : Units) : Type 0 where
-  Before : StandsAs value file image → WhilePut value plan generation blob file image
-  Numbered : StandsAs (with_next (next_field plan) value) file image → WhilePut value plan generation blob file image
-  After : StandsWith value plan generation blob file image → WhilePut value plan generation blob file image
+pub data WhilePut (value : Store) (target : Target) (generation : ℕ) (blob : List ℕ) (file image : Units) : Type 0 where
+  Before : StandsAs value file image → WhilePut value target generation blob file image
+  Numbered : StandsAs (with_next (next_field target) value) file image → WhilePut value target generation blob file image
+  After : StandsWith value target generation blob file image → WhilePut value target generation blob file image
+
+-- of this number and length, and new or not
+pub record IsTargetFor (number length : ℕ) (is_new : Bool) (target : Target) : Type 0 where
+  pub number_is : target.number ≡ number
+  pub length_is : target.length ≡ length
+  pub new_is : target.is_new ≡ is_new

@@ -6,6 +6,7 @@ use Rattle.rpm_pkgdb.specs.Slots.{slot_at, is_used, end_of}
 use Rattle.rpm_pkgdb.specs.Store.{Store, Keeps}
 use Rattle.rpm_pkgdb.specs.inner.Clear.{Holds}
 use Rattle.rpm_pkgdb.specs.Plans.{Fits}
+use Rattle.rpm_pkgdb.specs.Growing.{moved}
 use Rattle.rpm_pkgdb.specs.Quiet.{StandsAs, HasSlot}
 
 -- a slot may be set at a place: its number is no other slot's, and its blocks are free
@@ -33,9 +34,6 @@ pub record CanMove (value : Store) (place : ℕ) (old : Slot) (to : ℕ) : Type 
   pub slot : HasSlot value place old
   pub behind : 256 * value.pages ≤ to
   pub fits : Fits value.slots old.count to
-
-abbrev pub moved : Slot → ℕ → Slot
-moved old to = record old { offset = to }
 
 -- the blocks of a slot in a file
 abbrev pub blocks_of : Slot → Units → Units

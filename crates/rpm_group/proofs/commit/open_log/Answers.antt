@@ -4,6 +4,7 @@ use Rattle.rpm_outside.specs.inner.Cuts.{cut_up_one}
 use Rattle.rpm_outside.specs.inner.Leaves.{sync_leaves}
 use Rattle.rpm_outside.specs.Logs.{unlogged, with_entries}
 use Rattle.rpm_group.specs.Groups.{BeforeOrAfter}
+use Rattle.rpm_group.proofs.Orders.{gate_keeps}
 use Rattle.rpm_group.proofs.Committing.{opens, gate_leaves, gate_opened}
 use Rattle.rpm_group.proofs.commit.open_log.Goals as goal
 
@@ -54,3 +55,10 @@ returns-clause-open g c = λ told entries is.
     (cut_up_one gate c.unit_of-gate.ensures.long)
     (opens gate entries c.args.tail files.log c.unit_of-gate.ensures is c.requires.some c.requires.place) (c.in_ok-write_at.ensures.written told)
     (c.sync.ensures.same told)
+
+pub returns-clause-behind : goal.returns-clause-behind
+returns-clause-behind g c = λ told.
+    let D = g.D.Disk in
+    let gate = c.unit_of-gate.result in
+    gate_keeps gate (units_of gate) (D.files c.args.disk.now) (D.files c.write_at.new.self) (D.files c.sync.new.self)
+    (cut_up_one gate c.unit_of-gate.ensures.long) (c.in_ok-write_at.ensures.written told) (c.sync.ensures.same told)

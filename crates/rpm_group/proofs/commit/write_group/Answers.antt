@@ -1,10 +1,13 @@
-use Rattle.std.proofs.Common.{inl, inr, ◌+◌, sym, ap, ◌∙◌, arith}
+use Rattle.std.proofs.Common.{inl, inr, ◌+◌, sym, ap, subst, ◌∙◌, arith}
+use Rattle.std.proofs.lemmas.Result.{on_ok_weaker}
 use Rattle.std.proofs.lemmas.Bool.{cases_lt}
-use Rattle.rpm_outside.specs.Files.{Files}
+use Rattle.rpm_outside.specs.Files.{Units, Files}
 use Rattle.rpm_outside.specs.Logs.{LogState, unlogged, with_entries}
 use Rattle.rpm_outside.specs.inner.LogLaws.{log_not_log}
 use Rattle.rpm_group.specs.Readings.{entries_of}
 use Rattle.rpm_group.specs.Groups.{runs_of}
+use Rattle.rpm_group.specs.inner.Behind.{KeepsBehind}
+use Rattle.rpm_group.proofs.Orders.{keeps_then, group_logged}
 use Rattle.rpm_group.proofs.Countings.{no_runs}
 use Rattle.rpm_group.proofs.Closes.{applied_settled, mid_open, mid_done}
 use Rattle.rpm_group.proofs.Committing.{still_closed, unlogged_changed, stage_one, stage_two, stage_three, stage_four}
@@ -110,3 +113,15 @@ returns-clause-images g c = λ told.
     same_second logged.1 (c.in_ok-open_log.ensures.open told logged.0 logged.2) (c.in_ok-open_log.ensures.settled told)
     (c.apply_held.ensures.images told logged.0 logged.1))
     same_second (c.in_ok-apply_held.ensures.written told) (c.close_log.ensures.images told)
+
+pub returns-clause-logged : goal.returns-clause-logged
+returns-clause-logged g c = on_ok_weaker c.close_log.result (λ behind told.
+    let D = g.D.Disk in
+    let first : Files = D.files c.log_held.new.disk in
+    let third : Files = D.files c.apply_held.new.disk in
+    let last : Files = D.files c.close_log.new.disk in
+    let logged = c.in_ok-tail.ensures.logged told in
+    let applied : KeepsBehind first.log third.log = subst (λ (us : Units). KeepsBehind first.log us)
+    (sym (ap (λ (f : Files). f.log) (c.in_ok-apply_held.ensures.written told))) (c.in_ok-open_log.ensures.behind told) in
+    group_logged c.args.held.now logged.0 c.in_ok-tail.tail.at first.log last.log logged.1 logged.2.placed c.in_ok-tail.ensures.at
+    (keeps_then first.log third.log last.log applied (behind told))) c.close_log.ensures.behind

@@ -1,4 +1,4 @@
-use Rattle.std.proofs.Common.{◌≡◌, inl, inr, ℕ, ◌-◌, ◌<◌, [], sym, ap, subst, ◌∙◌, arith}
+use Rattle.std.proofs.Common.{◌≡◌, inl, inr, ℕ, ◌-◌, ◌<◌, [], refl, sym, ap, subst, ◌∙◌, arith}
 use Rattle.std.proofs.lemmas.Bool.{cases_lt}
 use Rattle.rpm_outside.specs.Files.{Units, Files}
 use Rattle.rpm_group.specs.declared.pages.Pages.{Pages}
@@ -30,3 +30,25 @@ returns-then-units-eq0-clause-files g c = λ told.
     let idx : log_units held.idx.table.items held.idx.end ≡ 0 = omega (arith, c.if-units-eq0.true, c.extent-idx.ensures.runs, c.extent-idx.ensures.units) in
     ap (λ (us : Units). record { pkg = us; idx = files.idx; log = [] }) (unheld_file held.pkg files.pkg pkg)
     ∙ ap (λ (us : Units). record { pkg = laid_file held.pkg files.pkg; idx = us; log = [] }) (unheld_file held.idx files.idx idx)
+
+pub returns-then-units-eq0-clause-logged : goal.returns-then-units-eq0-clause-logged
+returns-then-units-eq0-clause-logged g c = λ told.
+    let held = c.args.held.now in
+    let pkg : log_units held.pkg.table.items held.pkg.end ≡ 0 = omega (arith, c.if-units-eq0.true, c.extent-pkg.ensures.runs, c.extent-pkg.ensures.units) in
+    let idx : log_units held.idx.table.items held.idx.end ≡ 0 = omega (arith, c.if-units-eq0.true, c.extent-idx.ensures.runs, c.extent-idx.ensures.units) in
+    record {
+      entries = [];
+      placed = omega (arith, pkg, idx);
+      order = record {
+        pkg = [];
+        idx = [];
+        joined = refl;
+        pkg_runs = omega arith;
+        idx_runs = omega arith;
+        pkg_count = omega (arith, pkg);
+        idx_count = omega (arith, idx);
+      };
+      whole = λ files.
+          ap (λ (us : Units). record { pkg = us; idx = files.idx; log = [] }) (unheld_file held.pkg files.pkg pkg)
+          ∙ ap (λ (us : Units). record { pkg = laid_file held.pkg files.pkg; idx = us; log = [] }) (unheld_file held.idx files.idx idx);
+    }

@@ -4,6 +4,7 @@ use Rattle.rpm_outside.specs.inner.Leaves.{sync_leaves}
 use Rattle.rpm_outside.specs.Logs.{unlogged, log_state}
 use Rattle.rpm_group.specs.Readings.{entries_of}
 use Rattle.rpm_group.specs.inner.Leavings.{ReopensAs}
+use Rattle.rpm_group.proofs.Orders.{gate_keeps}
 use Rattle.rpm_group.proofs.Closes.{closing_leaves, closed_after}
 use Rattle.rpm_group.proofs.recovery.close_log.Goals as goal
 
@@ -41,3 +42,9 @@ returns-clause-images g c = λ told.
     (c.requires.open told) (c.requires.done told) (c.requires.settled told) (c.in_ok-write_at.ensures.images told) (c.in_ok-write_at.ensures.time told))
     (c.sync.ensures.time told) (c.sync.ensures.images told)
     (λ image left. g.met.D.Disk.earlier mid (D.moment c.args.disk.now) (D.moment mid) image told c.write_at.ensures.later (omega arith) left)
+
+pub returns-clause-behind : goal.returns-clause-behind
+returns-clause-behind g c = λ told.
+    let D = g.D.Disk in
+    gate_keeps _ _ (D.files c.args.disk.now) (D.files c.write_at.new.self) (D.files c.sync.new.self) refl (c.in_ok-write_at.ensures.written told)
+    (c.in_ok-sync.ensures.same told)

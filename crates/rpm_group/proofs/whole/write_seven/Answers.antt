@@ -1,5 +1,5 @@
-use Rattle.std.proofs.Common.{◌≡◌, inl, inr, ⊎_elim, ℕ, ◌∷◌, [], sym, ap, subst, ◌∙◌, replicate}
-use Rattle.std.specs.Prelude.{Bool, IsTrue}
+use Rattle.std.proofs.Common.{◌≡◌, inl, inr, ⊎_elim, ℕ, ◌∷◌, [], sym, ap, subst, ◌∙◌, replicate, true, false}
+use Rattle.std.specs.Prelude.{Bool, IsTrue, Result, Ok, Err, OnOk, is_ok}
 use Rattle.rpm_outside.specs.declared.disk.File.{File}
 use Rattle.rpm_outside.specs.declared.disk.File.TheVariants.{Pkg, Log}
 use Rattle.rpm_outside.specs.Files.{Units, Files, with_file, put}
@@ -7,7 +7,7 @@ use Rattle.rpm_outside.specs.Crash.{LeavesOnly, Untouched}
 use Rattle.rpm_outside.specs.inner.Moments.{leaves_then, leaves_weaker}
 use Rattle.rpm_outside.specs.inner.Leaves.{then_look}
 use Rattle.rpm_outside.specs.Logs.{unlogged, reopened}
-use Rattle.rpm_outside.specs.inner.LogLaws.{reopened_log}
+use Rattle.rpm_outside.specs.inner.LogLaws.{reopened_log, reopened_closed}
 use Rattle.rpm_group.specs.Below.{KeepsBelow}
 use Rattle.rpm_group.specs.Settled.{ReopensAsOneOf}
 use Rattle.rpm_group.specs.Groups.{BeforeOrAfter}
@@ -87,3 +87,26 @@ returns-clause-images g c = λ told.
     (recovered_leaves D.tells D.files D.moment D.left_since D.bytes_read D.follows D.faults told disk c.recover.new.disk overlay.below last _ _ after
     (c.recover.ensures.images told) (looks.untouched told) looks.moment_stays c.write_at.ensures.follows)
     (c.commit-below.ensures.images told)
+
+from_ok : {T E P : Type 0} (r : Result T E) → OnOk r P → is_ok r ≡ true → P
+from_ok (Ok x) on is = on
+from_ok (Err e) on is = absurd (let wrong : false ≡ true = is in cc)
+
+pub returns-clause-acknowledged : goal.returns-clause-acknowledged
+returns-clause-acknowledged g c = λ ok told image left.
+    let D = g.D.Disk in
+    let new = c.write_at.new.self in
+    let looks = c.in-Ok-load.ensures.looks in
+    let disk = c.args.disk in
+    let after = with_seven (reopened (D.files disk)) in
+    let answer = c.commit-below.result.1 in
+    let final : Files = D.files c.commit-below.result.0 in
+    let is : is_ok answer ≡ true = sym c.is_ok.ensures.value ∙ ok in
+    let same : image ≡ final = from_ok answer c.commit-below.ensures.settled is told image left in
+    ap reopened same
+    ∙ reopened_closed final (from_ok answer c.commit-below.ensures.closed is told)
+    ∙ from_ok answer c.commit-below.ensures.files is told
+    ∙ ap unlogged (c.in-Ok-write_at.ensures.written told)
+    ∙ ap (λ (f : Files). unlogged (with_file Pkg (put 0 (replicate 16 7 ∷ []) f.pkg) f)) (c.in-Ok-load.ensures.files told
+    ∙ ap (λ (f : Files). with_file Log (D.files c.recover.new.disk).log f) (c.recover.ensures.stands told))
+    ∙ ap (λ (us : Units). record { pkg = after.pkg; idx = after.idx; log = us }) (sym (reopened_log (D.files disk)))

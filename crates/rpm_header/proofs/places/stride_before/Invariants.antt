@@ -1,10 +1,10 @@
-use Rattle.std.proofs.Common.{◌≤◌, ◌<◌, ◌-◌, get_or}
+use Rattle.std.proofs.Common.{◌≤◌, ◌<◌, ◌-◌, get_or, length}
 use Rattle.rpm_header.proofs.places.stride_before.Given as goal
 
 abbrev pub invariant-loop-high : goal.invariant-loop-high
 invariant-loop-high l = record {
   ordered : l.low < l.high;
-  within : l.high ≤ l.filled;
+  within : l.high ≤ length l.sums;
   fewer : get_or l.sums l.low 0 < l.count;
 }
 

@@ -10,5 +10,4 @@ loop-rest-preserved c = record {
       rw (c.zeros_of_block-here.ensures.value, c.behind_block-rest.ensures.value) (skip_drop 64 c.loop-rest.left c.loop-rest.rest.now (omega arith)
       ∙ c.loop-rest.invariant.same);
   more = omega (arith, zeros-parts 64 c.loop-rest.rest.now, ap zeros c.behind_block-rest.ensures.value);
-  few = omega arith;
 }

@@ -11,6 +11,7 @@ use Rattle.rpm_pkgdb.specs.Quiet.{StandsAs, Anything, BeforeOrAfter}
 use Rattle.rpm_pkgdb.proofs.Erases.{stands_by}
 use Rattle.rpm_pkgdb.specs.inner.Grows.{with_page, CanGrow, HasFreePage}
 use Rattle.rpm_pkgdb.proofs.GrowLaws.{while_page, grown_stands, while_grown}
+use Rattle.rpm_pkgdb.proofs.FreedLaws.{page_blank}
 use Rattle.rpm_pkgdb.proofs.growing.add_page.Goals as goal
 
 head_is : (unit : List ℕ) (generation pages : ℕ) (value : Store) → generation ≡ value.generation → pages ≡ value.pages
@@ -94,3 +95,12 @@ returns-clause-changes g c =
     changes_then _ _ _ _ _ _ g.met.D.Disk.follows_trans (SameOutside (256 * c.args.pages) 256)
     (Torn 0 (c.head_unit.result ∷ [])) Anything c.args.disk.now c.write_free_page.new.disk c.write_one.new.disk (λ x y r. tt)
     (λ x y z r s. tt) c.write_free_page.ensures.changes c.write_one.ensures.changes
+
+pub returns-clause-blanks : goal.returns-clause-blanks
+returns-clause-blanks g c =
+    let D = g.D.Disk in
+    let F1 = (D.files c.write_free_page.new.disk).pkg in
+    let F2 = (D.files c.write_one.new.disk).pkg in
+    map_ok c.write_one.result (λ (written : IsTrue D.tells → F2 ≡ put 0 (c.head_unit.result ∷ []) F1) told.
+    page_blank c.args.pages c.head_unit.result (D.files c.args.disk.now).pkg F1 F2 (c.write_free_page.ensures.changes.pkg told) (written told))
+    c.write_one.ensures.written

@@ -1,19 +1,20 @@
 use Rattle.rpm_outside.specs.declared.disk.File.TheVariants.{Pkg}
-use Rattle.std.proofs.Common.{◌≡◌, ◌+◌, ◌*◌, ◌^◌, ◌<◌, List, length, take, sym, ap, ◌∙◌, subst, arith, refl}
+use Rattle.std.proofs.Common.{◌≡◌, ◌+◌, ◌*◌, ◌^◌, ◌<◌, List, length, take, Some, sym, ap, ◌∙◌, subst, arith, refl}
 use Rattle.std.proofs.lemmas.List.{take_all}
 use Rattle.rpm_outside.specs.inner.Moments.{started}
 use Rattle.rpm_pkgdb.specs.declared.moving.Move.{Move}
 use Rattle.rpm_pkgdb.specs.Store.{Store, Keeps}
 use Rattle.rpm_pkgdb.specs.Blobs.{blobs}
 use Rattle.rpm_outside.specs.Changes.{Stops}
-use Rattle.rpm_pkgdb.proofs.Changing.{stops_weaker}
-use Rattle.rpm_pkgdb.proofs.Changing.{copies_none, copies_then, copies_weaker, copies_stops_then}
+use Rattle.rpm_pkgdb.proofs.Changing.{stops_weaker, copies_none, copies_then, copies_weaker, copies_stops_then}
 use Rattle.rpm_pkgdb.specs.Quiet.{StandsFor, IsQuiet}
 use Rattle.rpm_pkgdb.specs.inner.Settings.{NoShorter, WhileMoved}
 use Rattle.rpm_pkgdb.proofs.ErasesTo.{stands_for}
 use Rattle.rpm_pkgdb.proofs.Moves.{moved_map, moves_to}
-use Rattle.rpm_pkgdb.specs.inner.MoveLists.{after_moves, move_at}
-use Rattle.rpm_pkgdb.proofs.MoveSteps.{old_slot, few_enough, stands_for_same, current, next, old, kept, can_move, then_after}
+use Rattle.rpm_pkgdb.specs.Growing.{moving_cost}
+use Rattle.rpm_pkgdb.specs.inner.MoveLists.{with_moves, move_at}
+use Rattle.rpm_pkgdb.proofs.MoveSteps.{old_slot, cost_to, cost_more, cost_few, stands_for_same, current, next, old, kept, can_move, then_after}
+use Rattle.rpm_pkgdb.proofs.FreedMoves.{freed_then}
 use Rattle.rpm_pkgdb.proofs.moving.move_all.Goals as goal
 
 pub loop-k-init : goal.loop-k-init
@@ -23,6 +24,7 @@ loop-k-init g c =
     record {
       keeps = λ told value some same are keeps. keeps;
       blobs_are = λ told value some same are keeps. refl;
+      zeros = λ told value some same are keeps from_is i has from not. absurd (not has);
       images = λ told value some same are quiet.
           let P = StandsFor value.generation value.field (blobs (D.files d).pkg value) in
           let keeps : Keeps (D.files d).pkg value = (quiet (D.files d) (g.met.D.Disk.as_read d told)).keeps in
@@ -37,7 +39,7 @@ loop-k-init g c =
           });
       quiet = λ told value some same are quiet. quiet;
       copies =
-          copies_weaker _ _ _ _ _ _ NoShorter NoShorter 0 (2 ^ 32 * 0) d d (omega arith) (λ x y r. r)
+          copies_weaker _ _ _ _ _ _ NoShorter NoShorter 0 (cost_to c.args.slots.now c.args.moves.now 0) d d (omega arith) (λ x y r. r)
           (copies_none _ _ _ _ _ _ g.met.D.Disk.follows_refl NoShorter (λ x. omega arith) d);
       faults = omega arith;
     }
@@ -59,7 +61,7 @@ returns-in_err-move_blocks-clause-images g c = λ told value some same are quiet
     let P = StandsFor value.generation value.field (blobs F0 value) in
     let keeps0 : Keeps F0 value = (quiet (D.files d) (g.met.D.Disk.as_read d told)).keeps in
     let keeps1 : Keeps F1 u = l.invariant.keeps told value some same are keeps0 in
-    copies_stops_then _ _ _ _ _ _ told NoShorter P (2 ^ 32 * l.k) d l.disk c.move_blocks.new.disk l.invariant.copies
+    copies_stops_then _ _ _ _ _ _ told NoShorter P (cost_to slots moves l.k) d l.disk c.move_blocks.new.disk l.invariant.copies
     (l.invariant.images told value some same are quiet)
     (stops_weaker D.moment D.left_since (WhileMoved u m.place o m.to F1) P l.disk c.move_blocks.new.disk
     (λ image w. stands_for_same u.generation u.field value.generation value.field (blobs F1 u) (blobs F0 value) image now.generation_is now.field_is
@@ -70,10 +72,11 @@ pub returns-in_err-move_blocks-clause-copies : goal.returns-in_err-move_blocks-c
 returns-in_err-move_blocks-clause-copies g c =
     let l = c.loop-k in
     let count = (old_slot c.args.slots.now (move_at c.args.moves.now l.k)).count in
-    copies_then _ _ _ _ _ _ g.met.D.Disk.follows_trans NoShorter NoShorter NoShorter (2 ^ 32 * l.k) (16 * count)
-    (2 ^ 32 * length c.args.moves.now) c.args.disk.now l.disk c.move_blocks.new.disk
-    (few_enough count l.k (length c.args.moves.now) c.loop-k-test.true (old_slot c.args.slots.now (move_at c.args.moves.now l.k)).offset
-    (c.requires.movable l.k c.loop-k-test.true).end)
+    let slots = c.args.slots.now in
+    let moves = c.args.moves.now in
+    copies_then _ _ _ _ _ _ g.met.D.Disk.follows_trans NoShorter NoShorter NoShorter (cost_to slots moves l.k) (16 * count)
+    (moving_cost slots (Some moves)) c.args.disk.now l.disk c.move_blocks.new.disk
+    (omega (arith, cost_more slots moves l.k c.loop-k-test.true, cost_few slots moves (l.k + 1)))
     (λ x y r. r) (λ x y z r q. omega (arith, r, q)) l.invariant.copies c.move_blocks.ensures.copies
 
 pub loop-k-preserved : goal.loop-k-preserved
@@ -94,8 +97,8 @@ loop-k-preserved g c =
       keeps = λ told value some same are keeps0.
           let u = current value slots moves k some same are lt in
           let can = can_move value slots moves k some same are lt in
-          let keeps1 : Keeps F1 u = l.invariant.keeps told value some same are keeps0 in
-          subst (Keeps F2) (sym (then_after value slots moves k some same are lt)) (c.in_ok-move_blocks.ensures.stands told u can keeps1).keeps;
+          subst (Keeps F2) (sym (then_after value slots moves k some same are lt))
+          (c.in_ok-move_blocks.ensures.stands told u can (l.invariant.keeps told value some same are keeps0)).keeps;
       blobs_are = λ told value some same are keeps0.
           let u = current value slots moves k some same are lt in
           let m = next value slots moves k some same are lt in
@@ -105,6 +108,9 @@ loop-k-preserved g c =
           ap (blobs F2) (then_after value slots moves k some same are lt)
           ∙ moved_map u m.place o m.to can F1 keeps1 F2 (c.in_ok-move_blocks.ensures.stands told u can keeps1)
           ∙ l.invariant.blobs_are told value some same are keeps0;
+      zeros = λ told value some same are keeps0 from_is.
+          freed_then value slots moves k some same are lt c.args.zeros_from from_is F0 F1 F2 keeps0 (l.invariant.zeros told value some same are keeps0 from_is)
+          (c.in_ok-move_blocks.ensures.zeros told) (c.in_ok-move_blocks.ensures.blanks told);
       images = λ told value some same are quiet.
           let u = current value slots moves k some same are lt in
           let m = next value slots moves k some same are lt in
@@ -114,7 +120,7 @@ loop-k-preserved g c =
           let P = StandsFor value.generation value.field (blobs F0 value) in
           let keeps0 : Keeps F0 value = (quiet (D.files d) (g.met.D.Disk.as_read d told)).keeps in
           let keeps1 : Keeps F1 u = l.invariant.keeps told value some same are keeps0 in
-          copies_stops_then _ _ _ _ _ _ told NoShorter P (2 ^ 32 * k) d l.disk e l.invariant.copies (l.invariant.images told value some same are quiet)
+          copies_stops_then _ _ _ _ _ _ told NoShorter P (cost_to slots moves k) d l.disk e l.invariant.copies (l.invariant.images told value some same are quiet)
           (stops_weaker D.moment D.left_since (WhileMoved u m.place o m.to F1) P l.disk e
           (λ image w. stands_for_same u.generation u.field value.generation value.field (blobs F1 u) (blobs F0 value) image now.generation_is now.field_is
           (l.invariant.blobs_are told value some same are keeps0) (moves_to u m.place o m.to can F1 keeps1 image w))
@@ -127,8 +133,8 @@ loop-k-preserved g c =
           subst (λ (v : Store). IsQuiet v (D.files e) (D.left_since e (D.moment e))) (sym (then_after value slots moves k some same are lt))
           (c.in_ok-move_blocks.ensures.quiet told u can keeps1);
       copies =
-          copies_then _ _ _ _ _ _ g.met.D.Disk.follows_trans NoShorter NoShorter NoShorter (2 ^ 32 * k) (16 * count) (2 ^ 32 * (k + 1)) d l.disk e
-          (few_enough count k (k + 1) (omega arith) (old_slot slots (move_at moves k)).offset (c.requires.movable k lt).end)
+          copies_then _ _ _ _ _ _ g.met.D.Disk.follows_trans NoShorter NoShorter NoShorter (cost_to slots moves k) (16 * count) (cost_to slots moves (k + 1)) d l.disk e
+          (omega (arith, cost_more slots moves k lt))
           (λ x y r. r) (λ x y z r q. omega (arith, r, q)) l.invariant.copies c.move_blocks.ensures.copies;
       faults = omega (arith, l.invariant.faults, c.move_blocks.ensures.cause.later);
     }
@@ -139,5 +145,11 @@ returns-clause-quiet g c = λ told value some same are quiet.
     let l = c.loop-k in
     let moves = c.args.moves.now in
     let all : take l.k moves ≡ moves = take_all l.k moves (omega arith) in
-    subst (λ (ms : List Move). IsQuiet (after_moves value ms) (D.files l.disk) (D.left_since l.disk (D.moment l.disk))) all
+    subst (λ (ms : List Move). IsQuiet (with_moves value ms) (D.files l.disk) (D.left_since l.disk (D.moment l.disk))) all
     (l.invariant.quiet told value some same are quiet)
+
+pub returns-clause-copies : goal.returns-clause-copies
+returns-clause-copies g c =
+    let l = c.loop-k in
+    copies_weaker _ _ _ _ _ _ NoShorter NoShorter (cost_to c.args.slots.now c.args.moves.now l.k) (moving_cost c.args.slots.now (Some c.args.moves.now))
+    c.args.disk.now l.disk (cost_few c.args.slots.now c.args.moves.now l.k) (λ x y r. r) l.invariant.copies

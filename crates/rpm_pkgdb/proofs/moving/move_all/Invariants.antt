@@ -1,5 +1,5 @@
 use Rattle.rpm_outside.specs.declared.disk.File.TheVariants.{Pkg}
-use Rattle.std.proofs.Common.{◌≡◌, ◌*◌, ◌^◌, ◌≤◌, IsTrue, take}
+use Rattle.std.proofs.Common.{◌≡◌, ◌*◌, ◌^◌, ◌≤◌, IsTrue, take, Some}
 use Rattle.rpm_outside.specs.Crash.{LeavesOnly}
 use Rattle.rpm_pkgdb.specs.Store.{Store, Keeps}
 use Rattle.rpm_pkgdb.specs.Blobs.{blobs}
@@ -7,7 +7,9 @@ use Rattle.rpm_outside.specs.Changes.{Stops}
 use Rattle.rpm_outside.specs.Changes.{Changes}
 use Rattle.rpm_pkgdb.specs.Quiet.{IsQuiet, StandsFor}
 use Rattle.rpm_pkgdb.specs.inner.Settings.{NoShorter}
-use Rattle.rpm_pkgdb.specs.inner.MoveLists.{AreMoves, after_moves}
+use Rattle.rpm_pkgdb.specs.Growing.{moving_cost, next_end}
+use Rattle.rpm_pkgdb.specs.Freed.{AreFreed}
+use Rattle.rpm_pkgdb.specs.inner.MoveLists.{AreMovesOf, with_moves}
 use Rattle.rpm_pkgdb.proofs.moving.move_all.Given as goal
 
 abbrev pub invariant-loop-k : goal.invariant-loop-k
@@ -15,17 +17,19 @@ invariant-loop-k g l =
     let D = g.D.Disk in
     let old = l.initial.disk in
     record {
-      keeps : IsTrue D.tells → (value : Store) → 1 ≤ value.pages → value.slots ≡ l.slots → AreMoves value l.moves → Keeps (D.files old).pkg value
-          → Keeps (D.files l.disk).pkg (after_moves value (take l.k l.moves));
-      blobs_are : IsTrue D.tells → (value : Store) → 1 ≤ value.pages → value.slots ≡ l.slots → AreMoves value l.moves → Keeps (D.files old).pkg value
-          → blobs (D.files l.disk).pkg (after_moves value (take l.k l.moves)) ≡ blobs (D.files old).pkg value;
-      images : IsTrue D.tells → (value : Store) → 1 ≤ value.pages → value.slots ≡ l.slots → AreMoves value l.moves
+      keeps : IsTrue D.tells → (value : Store) → 1 ≤ value.pages → value.slots ≡ l.slots → AreMovesOf value l.moves → Keeps (D.files old).pkg value
+          → Keeps (D.files l.disk).pkg (with_moves value (take l.k l.moves));
+      blobs_are : IsTrue D.tells → (value : Store) → 1 ≤ value.pages → value.slots ≡ l.slots → AreMovesOf value l.moves → Keeps (D.files old).pkg value
+          → blobs (D.files l.disk).pkg (with_moves value (take l.k l.moves)) ≡ blobs (D.files old).pkg value;
+      zeros : IsTrue D.tells → (value : Store) → 1 ≤ value.pages → value.slots ≡ l.slots → AreMovesOf value l.moves → Keeps (D.files old).pkg value
+          → l.zeros_from ≡ next_end value → AreFreed (next_end value) value.slots (with_moves value (take l.k l.moves)).slots (D.files l.disk).pkg;
+      images : IsTrue D.tells → (value : Store) → 1 ≤ value.pages → value.slots ≡ l.slots → AreMovesOf value l.moves
           → IsQuiet value (D.files old) (D.left_since old (D.moment old))
           → LeavesOnly D.moment D.left_since old l.disk (Stops Pkg (StandsFor value.generation value.field (blobs (D.files old).pkg value))
           (D.left_since old (D.moment old)));
-      quiet : IsTrue D.tells → (value : Store) → 1 ≤ value.pages → value.slots ≡ l.slots → AreMoves value l.moves
+      quiet : IsTrue D.tells → (value : Store) → 1 ≤ value.pages → value.slots ≡ l.slots → AreMovesOf value l.moves
           → IsQuiet value (D.files old) (D.left_since old (D.moment old))
-          → IsQuiet (after_moves value (take l.k l.moves)) (D.files l.disk) (D.left_since l.disk (D.moment l.disk));
-      copies : Changes D.tells D.files D.left_since D.moment D.bytes_read D.follows Pkg NoShorter (2 ^ 32 * l.k) old l.disk;
+          → IsQuiet (with_moves value (take l.k l.moves)) (D.files l.disk) (D.left_since l.disk (D.moment l.disk));
+      copies : Changes D.tells D.files D.left_since D.moment D.bytes_read D.follows Pkg NoShorter (moving_cost l.slots (Some (take l.k l.moves))) old l.disk;
       faults : D.faults old ≤ D.faults l.disk;
     }

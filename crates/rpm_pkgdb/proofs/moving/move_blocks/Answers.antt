@@ -1,9 +1,10 @@
-use Rattle.std.proofs.Common.{inr, ◌+◌, ◌*◌, ◌-◌, ◌<◌, ◌≤◌, [], ◌∷◌, refl, arith}
+use Rattle.std.proofs.Common.{◌≡◌, ℕ, IsTrue, inr, ◌+◌, ◌*◌, ◌-◌, ◌<◌, ◌≤◌, [], ◌∷◌, refl, arith}
 use Rattle.rpm_outside.specs.Crash.{Torn}
 use Rattle.rpm_pkgdb.specs.Slots.{end_of}
 use Rattle.rpm_pkgdb.specs.Store.{Keeps}
-use Rattle.rpm_pkgdb.proofs.Changing.{on_ok, stops_from}
-use Rattle.rpm_pkgdb.proofs.Changing.{copies_from, copies_weaker, copies_then, copies_stops_from, copies_stops_then}
+use Rattle.rpm_pkgdb.proofs.Changing.{on_ok, map_ok, stops_from, copies_from, copies_weaker, copies_then, copies_stops_from, copies_stops_then}
+use Rattle.rpm_pkgdb.proofs.FreedLaws.{moved_blank}
+use Rattle.rpm_outside.specs.Files.{Units, unit_at, blank}
 use Rattle.rpm_pkgdb.specs.inner.Clear.{SameOutside, Holds}
 use Rattle.rpm_pkgdb.specs.Quiet.{Anything}
 use Rattle.rpm_pkgdb.specs.inner.Settings.{NoShorter, WhileMoved, blocks_of}
@@ -24,21 +25,19 @@ pub returns-in_err-write_one-clause-images : goal.returns-in_err-write_one-claus
 returns-in_err-write_one-clause-images g c = λ told value can quiet.
     let D = g.D.Disk in
     let old = c.args.old in
-    let place = c.args.place in
-    let to = c.args.to in
     let F0 = (D.files c.args.disk.now).pkg in
     let F1 = (D.files c.copy_settled.new.disk).pkg in
-    let P = WhileMoved value place old to F0 in
+    let P = WhileMoved value c.args.place old c.args.to F0 in
     let keeps : Keeps F0 value = (quiet (D.files c.args.disk.now) (g.met.D.Disk.as_read c.args.disk.now told)).keeps in
-    let some : 0 < old.count = (move_set value place old to can F0 keeps).some in
-    let holds : Holds F1 to (blocks_of old F0) =
-    held_after value place old to can F0 keeps F1 (c.in_ok-copy_settled.ensures.long told some) (c.in_ok-copy_settled.ensures.copied told) in
-    copies_stops_then _ _ _ _ _ _ told (SameOutside to old.count) P
+    let some : 0 < old.count = (move_set value c.args.place old c.args.to can F0 keeps).some in
+    let holds : Holds F1 c.args.to (blocks_of old F0) =
+    held_after value c.args.place old c.args.to can F0 keeps F1 (c.in_ok-copy_settled.ensures.long told some) (c.in_ok-copy_settled.ensures.copied told) in
+    copies_stops_then _ _ _ _ _ _ told (SameOutside c.args.to old.count) P
     (16 * old.count) c.args.disk.now c.copy_settled.new.disk c.write_one.new.disk c.copy_settled.ensures.copies
-    (copies_stops_from _ _ _ _ _ _ told (SameOutside to old.count) P (16 * old.count) c.args.disk.now c.copy_settled.new.disk c.copy_settled.ensures.copies
-    (λ from image was same. while_copied value place old to can F0 keeps from.pkg image.pkg (quiet from was) same))
-    (stops_from _ _ _ _ _ _ told (Torn (2 + place) (c.slot_unit.result ∷ [])) P c.copy_settled.new.disk c.write_one.new.disk c.write_one.ensures.changes
-    (λ from image was torn. while_slot_moved value place old to can F0 keeps c.slot_unit.result c.slot_unit.ensures F1 F1
+    (copies_stops_from _ _ _ _ _ _ told (SameOutside c.args.to old.count) P (16 * old.count) c.args.disk.now c.copy_settled.new.disk
+    c.copy_settled.ensures.copies (λ from image was same. while_copied value c.args.place old c.args.to can F0 keeps from.pkg image.pkg (quiet from was) same))
+    (stops_from _ _ _ _ _ _ told (Torn (2 + c.args.place) (c.slot_unit.result ∷ [])) P c.copy_settled.new.disk c.write_one.new.disk c.write_one.ensures.changes
+    (λ from image was torn. while_slot_moved value c.args.place old c.args.to can F0 keeps c.slot_unit.result c.slot_unit.ensures F1 F1
     (c.copy_settled.ensures.copies.pkg told) holds from.pkg image.pkg (c.in_ok-copy_settled.ensures.settled told from was) torn))
 
 pub returns-clause-images : goal.returns-clause-images
@@ -81,17 +80,15 @@ pub returns-clause-stands : goal.returns-clause-stands
 returns-clause-stands g c = on_ok c.write_zeros.result (λ told value can keeps.
     let D = g.D.Disk in
     let old = c.args.old in
-    let place = c.args.place in
-    let to = c.args.to in
     let at = c.min-at.result in
     let n = end_of old - at in
     let F0 = (D.files c.args.disk.now).pkg in
     let F1 = (D.files c.copy_settled.new.disk).pkg in
     let F2 = (D.files c.write_one.new.disk).pkg in
-    let some : 0 < old.count = (move_set value place old to can F0 keeps).some in
-    let holds : Holds F1 to (blocks_of old F0) =
-    held_after value place old to can F0 keeps F1 (c.in_ok-copy_settled.ensures.long told some) (c.in_ok-copy_settled.ensures.copied told) in
-    while_old_zeroed value place old to can F0 keeps c.slot_unit.result c.slot_unit.ensures F1 F2 (c.copy_settled.ensures.copies.pkg told) holds
+    let some : 0 < old.count = (move_set value c.args.place old c.args.to can F0 keeps).some in
+    let holds : Holds F1 c.args.to (blocks_of old F0) =
+    held_after value c.args.place old c.args.to can F0 keeps F1 (c.in_ok-copy_settled.ensures.long told some) (c.in_ok-copy_settled.ensures.copied told) in
+    while_old_zeroed value c.args.place old c.args.to can F0 keeps c.slot_unit.result c.slot_unit.ensures F1 F2 (c.copy_settled.ensures.copies.pkg told) holds
     (c.in_ok-write_one.ensures.written told) at n (omega (arith, c.min-at.ensures, c.max.ensures)) (omega (arith, c.min-at.ensures, c.max.ensures)) F2
     (D.files c.write_zeros.new.disk).pkg refl (c.write_zeros.ensures.changes.pkg told))
 
@@ -99,24 +96,22 @@ pub returns-clause-quiet : goal.returns-clause-quiet
 returns-clause-quiet g c = on_ok c.write_zeros.result (λ told value can keeps image here.
     let D = g.D.Disk in
     let old = c.args.old in
-    let place = c.args.place in
-    let to = c.args.to in
     let at = c.min-at.result in
     let n = end_of old - at in
     let F0 = (D.files c.args.disk.now).pkg in
     let F1 = (D.files c.copy_settled.new.disk).pkg in
     let F2 = (D.files c.write_one.new.disk).pkg in
     let F3 = (D.files c.write_zeros.new.disk).pkg in
-    let some : 0 < old.count = (move_set value place old to can F0 keeps).some in
-    let holds : Holds F1 to (blocks_of old F0) =
-    held_after value place old to can F0 keeps F1 (c.in_ok-copy_settled.ensures.long told some) (c.in_ok-copy_settled.ensures.copied told) in
+    let some : 0 < old.count = (move_set value c.args.place old c.args.to can F0 keeps).some in
+    let holds : Holds F1 c.args.to (blocks_of old F0) =
+    held_after value c.args.place old c.args.to can F0 keeps F1 (c.in_ok-copy_settled.ensures.long told some) (c.in_ok-copy_settled.ensures.copied told) in
     let low : old.offset ≤ at = omega (arith, c.min-at.ensures, c.max.ensures) in
     let high : at + n ≤ end_of old = omega (arith, c.min-at.ensures, c.max.ensures) in
     let past = c.write_zeros.ensures.changes.now told image here in
     let third =
-    while_old_zeroed value place old to can F0 keeps c.slot_unit.result c.slot_unit.ensures F1 F2 (c.copy_settled.ensures.copies.pkg told) holds
+    while_old_zeroed value c.args.place old c.args.to can F0 keeps c.slot_unit.result c.slot_unit.ensures F1 F2 (c.copy_settled.ensures.copies.pkg told) holds
     (c.in_ok-write_one.ensures.written told) at n low high in
-    moved_alike value place old to can F0 keeps F3 image.pkg (third F2 F3 refl (c.write_zeros.ensures.changes.pkg told))
+    moved_alike value c.args.place old c.args.to can F0 keeps F3 image.pkg (third F2 F3 refl (c.write_zeros.ensures.changes.pkg told))
     (third past.from.pkg image.pkg (c.in_ok-write_one.ensures.settled told past.from past.was) past.pkg))
 
 pub returns-in_err-copy_settled-clause-copies : goal.returns-in_err-copy_settled-clause-copies
@@ -146,3 +141,13 @@ returns-clause-copies g c =
     (λ x y r. r.no_shorter) c.write_one.ensures.changes))
     (copies_from _ _ _ _ _ _ (SameOutside c.min-at.result (end_of c.args.old - c.min-at.result)) NoShorter c.write_one.new.disk c.write_zeros.new.disk
     (λ x y r. r.no_shorter) c.write_zeros.ensures.changes)
+
+pub returns-clause-blanks : goal.returns-clause-blanks
+returns-clause-blanks g c =
+    let D = g.D.Disk in
+    let at = c.min-at.result in
+    let F3 = (D.files c.write_zeros.new.disk).pkg in
+    map_ok c.write_zeros.result (λ (zeros : IsTrue D.tells → (i : ℕ) → at ≤ i → i < at + (end_of c.args.old - at) → unit_at F3 i ≡ blank) told.
+    moved_blank c.args.place c.args.to c.args.old.count at (end_of c.args.old - at) c.slot_unit.result (D.files c.args.disk.now).pkg
+    (D.files c.copy_settled.new.disk).pkg (D.files c.write_one.new.disk).pkg F3 (c.copy_settled.ensures.copies.pkg told) (c.in_ok-write_one.ensures.written told)
+    (c.write_zeros.ensures.changes.pkg told) (zeros told)) c.write_zeros.ensures.zeros

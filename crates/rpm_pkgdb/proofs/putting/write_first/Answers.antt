@@ -10,16 +10,16 @@ use Rattle.rpm_pkgdb.proofs.putting.write_first.Goals as goal
 
 pub returns-in_err-write_blob-clause-changes : goal.returns-in_err-write_blob-clause-changes
 returns-in_err-write_blob-clause-changes g c =
-    let at = c.args.plan.now.start in
+    let at = c.args.target.now.start in
     let n = blocks_for (length c.args.blob.now) in
-    let f = next_field c.args.plan.now in
+    let f = next_field c.args.target.now in
     changes_weaker _ _ _ _ _ _ (SameOutside at n) (BlobTorn at n f) c.args.disk.now c.write_blob.new.disk (blocks_torn at n f) c.write_blob.ensures.changes
 
 pub returns-in_err-write_field-clause-changes : goal.returns-in_err-write_field-clause-changes
 returns-in_err-write_field-clause-changes g c =
-    let at = c.args.plan.now.start in
+    let at = c.args.target.now.start in
     let n = blocks_for (length c.args.blob.now) in
-    let f = next_field c.args.plan.now in
+    let f = next_field c.args.target.now in
     changes_then _ _ _ _ _ _ g.met.D.Disk.follows_trans (SameOutside at n) (FieldTorn c.next_field.result)
     (BlobTorn at n f) c.args.disk.now c.write_blob.new.disk c.write_field.new.disk (blocks_torn at n f)
     (λ x y z same torn. then_field at n f x y z same (subst (λ (o : Option ℕ). FieldTorn o y z) c.next_field.ensures torn)) c.write_blob.ensures.changes
@@ -27,9 +27,9 @@ returns-in_err-write_field-clause-changes g c =
 
 pub returns-clause-changes : goal.returns-clause-changes
 returns-clause-changes g c =
-    let at = c.args.plan.now.start in
+    let at = c.args.target.now.start in
     let n = blocks_for (length c.args.blob.now) in
-    let f = next_field c.args.plan.now in
+    let f = next_field c.args.target.now in
     changes_then _ _ _ _ _ _ g.met.D.Disk.follows_trans (BlobTorn at n f) IsSame (BlobTorn at n f) c.args.disk.now c.write_field.new.disk c.settle.new.disk
     (λ x y r. r) (λ x y z r same. subst (BlobTorn at n f x) (sym same) r)
     (changes_then _ _ _ _ _ _ g.met.D.Disk.follows_trans (SameOutside at n) (FieldTorn c.next_field.result)

@@ -23,3 +23,6 @@ returns-in-Err-Fault-clause-format c = λ _.
 
 pub returns-in-Err-Fault-clause-memory : goal.returns-in-Err-Fault-clause-memory
 returns-in-Err-Fault-clause-memory c = λ e. let g = rw c.in-Err-Fault.field-0-is at c.in-Err-Fault.ensures in absurd (proper g e)
+
+pub new-requires : goal.new-requires
+new-requires c = proper c.in-Ok.ensures

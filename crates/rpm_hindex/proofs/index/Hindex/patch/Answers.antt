@@ -1,4 +1,4 @@
-use Rattle.std.proofs.Common.{◌≡◌, ℕ, ◌+◌, ◌/◌, ◌∷◌, [], List, length, max, ap, sym, ◌∙◌, subst}
+use Rattle.std.proofs.Common.{◌≡◌, ℕ, ◌+◌, ◌/◌, ◌∷◌, [], List, length, max, ap, sym, ◌∙◌, subst, arith}
 use Rattle.rpm_outside.specs.Files.{Units, put}
 use Rattle.rpm_hindex.specs.State.{State, Keeps}
 use Rattle.rpm_hindex.proofs.TornWrites.{seal_then}
@@ -25,3 +25,6 @@ returns-clause-kept g c = λ told.
     (patched_kept p s c.max-self-inside.result p.buckets (g.D.Disk.files c.args.disk.now).idx (g.D.Disk.files c.write_counts.new.disk).idx
     c.requires.patches (c.requires.keeps told)
     (c.in-Ok-write_counts.ensures.written told ∙ ap (λ (f : Units). put 1 (p.second ∷ []) f) (c.in-Ok.ensures.written told)) units)
+
+pub write_records-requires-clause-fits : goal.write_records-requires-clause-fits
+write_records-requires-clause-fits g c = λ told. omega (arith, c.requires.patches.fits, (c.requires.keeps told).units)

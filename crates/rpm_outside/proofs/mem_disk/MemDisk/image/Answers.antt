@@ -7,9 +7,21 @@ use Rattle.rpm_outside.specs.Past.{held_files, after_step, after_steps, Images, 
 use Rattle.rpm_outside.specs.inner.History.{after_steps-push}
 use Rattle.rpm_outside.specs.inner.ImageLaws.{images_are}
 use Rattle.rpm_outside.specs.Picks.{picked_step, picked_image}
+use Rattle.rpm_outside.proofs.Copying.{begun, begun_before}
 use Rattle.rpm_outside.proofs.Mixes.{image_step}
 use Rattle.rpm_outside.proofs.Picking.{picked_step_to, picked_image-push}
 use Rattle.rpm_outside.proofs.mem_disk.MemDisk.image.Goals as goal
+
+pub loop-k-init : goal.loop-k-init
+loop-k-init c =
+    let disk = c.args.self.now in
+    let b = begun disk.copies disk.steps.items (held_files disk.first) (held_files disk.held) disk.copied c.args.pick c.args.moment c.in_ok-from.from
+    (held_files c.in_ok-from.start) c.in_ok-from.ensures in
+    record {
+      now = b.now;
+      picked = c.in_ok-image.ensures ∙ b.picked_is;
+      image = subst (λ (f : Files). Images (take c.in_ok-from.from disk.steps.items) (held_files disk.first) f) (sym c.in_ok-image.ensures) b.image;
+    }
 
 pub loop-k-preserved : goal.loop-k-preserved
 loop-k-preserved c =
@@ -40,7 +52,11 @@ loop-k-preserved c =
 pub returns-clause-image : goal.returns-clause-image
 returns-clause-image c =
     let disk = c.args.self.now in
-    let all : c.loop-k.k ≡ c.args.moment = omega arith in
+    let all : c.loop-k.k ≡ c.args.moment = omega (
+      arith,
+      begun_before disk.copies disk.steps.items (held_files disk.first) (held_files disk.held) disk.copied c.args.moment c.in_ok-from.from
+          (held_files c.in_ok-from.start) c.in_ok-from.ensures,
+    ) in
     let files : mem_files c.settled.result ≡ held_files c.loop-k.image = c.settled.ensures.files ∙ c.in_ok-copy_of.ensures in
     subst (λ (f : Files). Images (take c.args.moment disk.steps.items) (held_files disk.first) f) (sym files)
     (subst (λ (n : ℕ). Images (take n disk.steps.items) (held_files disk.first) (held_files c.loop-k.image)) all c.loop-k.invariant.image)
@@ -53,6 +69,10 @@ returns-clause-units c =
 pub returns-clause-picked : goal.returns-clause-picked
 returns-clause-picked c =
     let disk = c.args.self.now in
-    let all : c.loop-k.k ≡ c.args.moment = omega arith in
+    let all : c.loop-k.k ≡ c.args.moment = omega (
+      arith,
+      begun_before disk.copies disk.steps.items (held_files disk.first) (held_files disk.held) disk.copied c.args.moment c.in_ok-from.from
+          (held_files c.in_ok-from.start) c.in_ok-from.ensures,
+    ) in
     c.settled.ensures.files ∙ c.in_ok-copy_of.ensures ∙ c.loop-k.invariant.picked ∙ ap (λ (n : ℕ). picked_image c.args.pick (take n disk.steps.items)
     (held_files disk.first) (held_files disk.first)) all

@@ -1,7 +1,8 @@
-use Rattle.std.proofs.Common.{ℕ, List, refl, sym, ◌∙◌, ap}
+use Rattle.std.proofs.Common.{ℕ, List, arith, refl, sym, ◌∙◌, ap}
 use Rattle.std.specs.Prelude.{◌==◌}
 use Rattle.std.specs.List.{list_any}
 use Rattle.rpm_outside.specs.Calls.{Sync}
+use Rattle.rpm_outside.proofs.Copying.{sync_held}
 use Rattle.rpm_outside.proofs.Named.{named_fails, other_passes}
 use Rattle.rpm_outside.specs.declared.steps.Step.TheVariants.{Synced}
 use Rattle.rpm_outside.specs.Files.{Files, file_of}
@@ -9,13 +10,16 @@ use Rattle.rpm_outside.specs.Past.{held_files, after_steps}
 use Rattle.rpm_outside.specs.inner.History.{after_steps-push, sync_step}
 use Rattle.rpm_outside.proofs.mem_disk.MemDiskDisk.sync.Goals as goal
 
-pub invariant_of-self-in-Ok : goal.invariant_of-self-in-Ok
-invariant_of-self-in-Ok c =
+pub invariant_of-self-2 : goal.invariant_of-self-2
+invariant_of-self-2 c =
     let disk = c.args.self.now in
     record {
       replayed = disk.replayed
           ∙ sym (after_steps-push disk.steps.items (Synced c.args.file) (held_files disk.first))
           ∙ ap (λ s. after_steps s (held_files disk.first)) (sym c.in-Ok.ensures.ok);
+      copied = sync_held disk.copies c.settle.new.self disk.steps.items (held_files disk.first) (held_files disk.held) disk.copied
+          c.keep_sync.new.steps.items c.args.file c.len.result disk.replayed c.in-Ok.ensures.ok (omega (arith, c.len.ensures, c.keep_sync.new.steps.ok.0))
+          c.settle.ensures;
     }
 
 pub returns-clause-settled : goal.returns-clause-settled

@@ -3,8 +3,14 @@ use Rattle.std.specs.Prelude.{◌==◌}
 use Rattle.std.specs.List.{list_any}
 use Rattle.rpm_outside.specs.Calls.{Write}
 use Rattle.rpm_outside.specs.inner.Cuts.{length-cut_up}
-use Rattle.rpm_outside.specs.Files.{units_of}
+use Rattle.rpm_outside.specs.Files.{Files, units_of}
 use Rattle.rpm_outside.specs.Past.{held_files, WroteAny, part_of}
+use Rattle.rpm_outside.specs.declared.copies.Copies.{Copies}
+use Rattle.rpm_outside.specs.declared.disk.File.{File}
+use Rattle.rpm_outside.specs.declared.mem_disk.MemDisk.{MemDisk}
+use Rattle.rpm_outside.specs.declared.steps.Step.{Step}
+use Rattle.rpm_outside.specs.inner.Copies.{HoldCopies}
+use Rattle.rpm_outside.proofs.Copying.{Loosens, any_held}
 use Rattle.rpm_outside.proofs.Named.{named_fails, other_passes}
 use Rattle.rpm_outside.proofs.Replays.{nothing_left, part_left, whole_rose}
 use Rattle.rpm_outside.proofs.mem_disk.MemDiskDisk.write_at.Goals as goal
@@ -21,12 +27,19 @@ returns-in_default-clause-images c = λ told. (nothing_left (held_files c.args.s
     c.in_default.ensures.files c.in_default.ensures.steps).images
 
 -- where the call was named
+copied : (disk : MemDisk) (new : Copies) (steps : List Step) (now : Files) (file : File) (unit : ℕ) (bytes : List ℕ) (half : Bool) → Loosens disk.copies new file
+    → WroteAny (held_files disk.held) now disk.steps.items steps file unit (part_of half (units_of bytes)) → HoldCopies new steps (held_files disk.first) now
+copied disk new steps now file unit bytes half loosens any = any_held disk.copies new disk.steps.items (held_files disk.first) (held_files disk.held)
+    disk.copied steps now file unit (part_of half (units_of bytes)) loosens any
 
 pub invariant_of-self-then-fails : goal.invariant_of-self-then-fails
 invariant_of-self-then-fails c = record {
   replayed = (part_left (held_files c.args.self.now.first) (held_files c.args.self.now.held)
       (held_files c.write_units.new.now) c.args.self.now.steps.items c.write_units.new.steps.items c.args.file c.args.unit (units_of c.args.bytes.now)
       c.call_fails-fails.result c.in-Ok.ensures.ok).replayed c.args.self.now.replayed;
+  copied = copied c.args.self.now c.loosen.new.self c.write_units.new.steps.items (held_files c.write_units.new.now) c.args.file c.args.unit
+      c.args.bytes.now c.call_fails-fails.result
+      (record { kept = c.loosen.ensures.kept; pkg = c.loosen.ensures.pkg; idx = c.loosen.ensures.idx; log = c.loosen.ensures.log }) c.in-Ok.ensures.ok;
 }
 
 pub returns-then-fails-clause-torn : goal.returns-then-fails-clause-torn
@@ -60,6 +73,9 @@ invariant_of-self-else-fails c = record {
   replayed = (part_left (held_files c.args.self.now.first) (held_files c.args.self.now.held)
       (held_files c.write_units.new.now) c.args.self.now.steps.items c.write_units.new.steps.items c.args.file c.args.unit (units_of c.args.bytes.now)
       c.call_fails-fails.result c.in-Ok.ensures.ok).replayed c.args.self.now.replayed;
+  copied = copied c.args.self.now c.loosen.new.self c.write_units.new.steps.items (held_files c.write_units.new.now) c.args.file c.args.unit
+      c.args.bytes.now c.call_fails-fails.result
+      (record { kept = c.loosen.ensures.kept; pkg = c.loosen.ensures.pkg; idx = c.loosen.ensures.idx; log = c.loosen.ensures.log }) c.in-Ok.ensures.ok;
 }
 
 pub returns-clause-torn : goal.returns-clause-torn

@@ -50,6 +50,7 @@ invariant_of-self-2 g c =
           freed_used i.pages i.slots.items kept.sound k (ap is_used has.is ∙ has.used) i.used c.forget.new.used i.spare c.self.invariant.used
           (subst (λ (t : Slot). Forgets t.offset i.used c.forget.new.used) (sym has.is) c.forget.ensures);
       room = omega (arith, c.self.invariant.room, c.remove.ensures.room);
+      one = c.self.invariant.one;
     }
 
 pub returns-clause-blobs : goal.returns-clause-blobs

@@ -21,6 +21,7 @@ invariant_of-self-2 g c =
       blank = λ zero. absurd (omega arith);
       used = subst (HasUsed i.used i.spare) (sym is) (new_used i.numbers.pairs i.pages i.slots.items kept none i.used i.spare c.self.invariant.used);
       room = c.self.invariant.room;
+      one = c.self.invariant.one;
     }
 
 pub returns-clause-kept : goal.returns-clause-kept

@@ -1,23 +1,19 @@
-use Rattle.std.proofs.Common.{◌≡◌, ℕ, ◌+◌, ◌/◌, Err, ap, sym, subst, ◌∙◌, arith, List}
-use Rattle.rpm_pkgdb.specs.declared.slot.Slot.{Slot}
+use Rattle.std.proofs.Common.{◌≡◌, ap, sym, Err, is_none}
 use Rattle.rpm_pkgdb.specs.declared.plan.PlanFault.TheVariants.{StoreFull}
 use Rattle.rpm_pkgdb.specs.Store.{Store}
-use Rattle.rpm_pkgdb.specs.Blobs.{blocks_for}
-use Rattle.rpm_pkgdb.specs.Plans.{Fits}
+use Rattle.rpm_pkgdb.proofs.FullLaws.{not_full, same_full}
 use Rattle.rpm_pkgdb.proofs.store.PkgDb.plan.Goals as goal
-use Rattle.rpm_pkgdb.proofs.store.PkgDb.plan.Goals.{in-None, in-Some}
+
+pub returns-in-Ok-plan_ready-clause-fits : goal.returns-in-Ok-plan_ready-clause-fits
+returns-in-Ok-plan_ready-clause-fits c = λ full.
+    let mid = c.prepare.new.self in
+    let same = c.prepare.ensures.same in
+    not_full mid c.args.n c.args.length c.in-Ok-plan_ready.plan c.in-Ok-plan_ready.ensures.plan c.in-Ok-plan_ready.ensures.asked
+    (same_full c.args.self.now mid (is_none c.args.n) c.args.length (sym (ap (λ (v : Store). v.slots) same)) (sym (ap (λ (v : Store). v.pages) same)) full)
 
 pub returns-in-Err-clause-full : goal.returns-in-Err-clause-full
-returns-in-Err-clause-full c = λ full. absurd (let f : c.in-Err.fault ≡ StoreFull = cc in c.in-Err.ensures.kinds (ap Err f))
-
-pub returns-clause-full : goal.returns-clause-full
-returns-clause-full c = λ full. elim c.match-fit.branch [
-  | in-None w ↦ (λ block le fits.
-      let old = c.args.self.now in
-      let slots : old.slots ≡ c.prepare.new.self.slots = sym (ap (λ (v : Store). v.slots) c.prepare.ensures.same) in
-      let pages : c.self.inside.pages ≡ old.pages = ap (λ (v : Store). v.pages) c.self.view_is ∙ ap (λ (v : Store). v.pages) c.prepare.ensures.same in
-      let count : blocks_for c.args.length ≡ (c.args.length + 43) / 16 = ap (λ (k : ℕ). k / 16) (omega arith) in
-      w.in-None.ensures block (omega (arith, le, pages))
-      (subst (λ (k : ℕ). Fits c.prepare.new.self.slots k block) count (subst (λ (l : List Slot). Fits l (blocks_for c.args.length) block) slots fits)))
-  | in-Some w ↦ absurd (let e = w.result-is in cc)
-]
+returns-in-Err-clause-full c = λ full.
+    let fault : c.in-Err.fault ≡ StoreFull = cc in
+    let same = c.prepare.ensures.same in
+    same_full c.prepare.new.self c.args.self.now (is_none c.args.n) c.args.length (ap (λ (v : Store). v.slots) same) (ap (λ (v : Store). v.pages) same)
+    (c.in-Err.ensures.full (ap Err fault))

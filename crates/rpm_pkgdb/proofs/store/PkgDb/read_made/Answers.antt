@@ -58,6 +58,7 @@ invariant_of-result g c =
       blank = λ none. absurd (omega (arith, l.some, c.word-pages.ensures));
       used = refl;
       room = omega arith;
+      one = omega arith;
     }
 
 pub returns-clause-from_one : goal.returns-clause-from_one

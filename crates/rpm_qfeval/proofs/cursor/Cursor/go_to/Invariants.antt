@@ -1,9 +1,11 @@
 use Rattle.std.proofs.Common.{◌-◌, ◌≡◌}
-use Rattle.rpm_qfeval.specs.Columns.{IsAt}
+use Rattle.std.specs.List.{concat}
+use Rattle.std.specs.Option.{option_map}
+use Rattle.rpm_qfeval.specs.Reached.{IsAt}
 use Rattle.rpm_qfeval.proofs.cursor.Cursor.go_to.Given as goal
 
 abbrev pub invariant-loop-self : goal.invariant-loop-self
-invariant-loop-self l = (l.self-inside.value.now ≡ l.initial.self-inside.value.now) × IsAt l.self-inside.value.now l.self-inside.present
+invariant-loop-self l = (l.self-inside.value.now ≡ l.initial.self-inside.value.now) × IsAt l.self-inside.value.now (option_map (λ p. concat p) l.self-inside.present)
     l.self-inside.texts l.self-inside.place
 
 abbrev pub decreases-loop-self : goal.decreases-loop-self

@@ -1,0 +1,68 @@
+-- Opening with an index.
+use Rattle.std.proofs.Common.{◌≡◌, ℕ, ◌≤◌, ◌^◌, Bool, true, false, not, ◌&&◌, ◌==◌, Some, Ok, sym, ap, ◌∙◌, subst}
+use Rattle.std.specs.Prelude.{IsTrue, Result}
+use Rattle.std.proofs.lemmas.Bool.{and_parts}
+use Rattle.rpm_outside.specs.declared.disk.File.{File}
+use Rattle.rpm_outside.specs.declared.disk.File.TheVariants.{Pkg}
+use Rattle.rpm_outside.specs.Files.{Units, Files, unit_at}
+use Rattle.rpm_outside.specs.Changes.{IsSettled}
+use Rattle.rpm_pkgdb.specs.declared.slot.Damage.{Damage}
+use Rattle.rpm_pkgdb.specs.Quiet.{IsQuiet, StandsAs}
+use Rattle.rpm_pkgdb.specs.Store.{Store, store}
+use Rattle.rpm_pkgdb.specs.Store as pkgdb
+use Rattle.rpm_hindex.specs.Sizes.{units_for}
+use Rattle.rpm_hindex.specs.State as hindex
+use Rattle.rpm_db.specs.Lawful.{HasRows, IsLawful, Remade, is_current_at}
+use Rattle.rpm_db.specs.Openings.{IsOpened, must_make, units_needed}
+use Rattle.rpm_db.specs.Rows.{rows}
+use Rattle.rpm_db.specs.Runs.{Runs}
+use Rattle.rpm_db.specs.State.{packages}
+use Rattle.rpm_db.proofs.Making.{current_same}
+
+-- a made database, whose files were read and whose index may have been made since
+pub opened_made : (old mid new : Files) (value : Store) (index : hindex.State) → store old.pkg ≡ Ok value → mid ≡ old → (value.pages == 0) ≡ false
+    → (not (is_current_at value.generation mid.idx) ≡ true → units_for (rows (packages mid.pkg value)) ≤ 2 ^ 28)
+    → (not (is_current_at value.generation mid.idx) ≡ false → new ≡ mid)
+    → new.pkg ≡ mid.pkg → pkgdb.Keeps mid.pkg value → hindex.Keeps new.idx index → hindex.is_current value.generation index ≡ true
+    → (IsLawful mid.pkg mid.idx → HasRows (packages new.pkg value) new.idx)
+    → IsOpened old new (Ok (record { store = value; index = Some index; stopped = false }))
+opened_made old mid new value index said same made full wrote pkg kept keeps current rows_are = record {
+  store_is = said;
+  full = subst (λ (s : Result Store Damage). must_make old.idx s ≡ true → units_needed old.pkg s ≤ 2 ^ 28) (sym said)
+      (λ making. subst (λ (f : Files). not (is_current_at value.generation f.idx) ≡ true → units_for (rows (packages f.pkg value)) ≤ 2 ^ 28) same full
+      (and_parts (not (value.pages == 0)) (not (is_current_at value.generation old.idx)) making).1);
+  same = subst (λ (s : Result Store Damage). must_make old.idx s ≡ false → new ≡ old) (sym said)
+      (λ making. subst (λ (f : Files). not (is_current_at value.generation f.idx) ≡ false → new ≡ f) same wrote
+      (sym (ap (λ (b : Bool). not b && not (is_current_at value.generation old.idx)) made) ∙ making));
+  keeps = (ap store pkg ∙ kept, keeps);
+  index = λ some lawful. record {
+    current = sym (current_same value.generation new.idx index keeps) ∙ current;
+    rows_are = rows_are (subst (λ (f : Files). IsLawful f.pkg f.idx) (sym same) lawful);
+  };
+}
+
+-- a file that is settled stands for what is kept of it in each image
+pub settled_quiet : (value : Store) (files : Files) (images : Files → Type 0) → pkgdb.Keeps files.pkg value → IsSettled Pkg files images
+    → IsQuiet value files images
+settled_quiet value files images keeps settled image here = record {
+  keeps = ap store (settled image here) ∙ keeps;
+  blocks = λ k i used from below. ap (λ (u : Units). unit_at u i) (settled image here);
+}
+
+-- Packages.db stays settled where the index is made anew
+module _ {D : Type 0} (tells : Bool) (files : D → Files) (left_since : D → ℕ → Files → Type 0) (moment : D → ℕ)
+    (bytes_read : D → File → ℕ) (follows : D → D → Type 0) where
+  pub still_settled : (a b : D) → IsTrue tells → Runs tells files left_since moment bytes_read follows Remade a b
+      → IsSettled Pkg (files a) (left_since a (moment a)) → IsSettled Pkg (files b) (left_since b (moment b))
+  still_settled a b told run settled image here =
+      let c = run.now told image here in
+      c.came.pkg ∙ settled c.from c.was ∙ sym (run.reads_as told).pkg
+
+  -- and quiet
+  pub still_quiet : (a b : D) (value : Store) → IsTrue tells → Runs tells files left_since moment bytes_read follows Remade a b
+      → IsQuiet value (files a) (left_since a (moment a)) → IsQuiet value (files b) (left_since b (moment b))
+  still_quiet a b value told run quiet image here =
+      let c = run.now told image here in
+      let s = quiet c.from c.was in
+      subst (λ (u : Units). StandsAs value u image.pkg) (sym (run.reads_as told).pkg)
+      (subst (StandsAs value (files a).pkg) (sym c.came.pkg) s)

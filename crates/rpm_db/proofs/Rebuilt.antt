@@ -1,0 +1,31 @@
+-- An index that was made anew, as a value keeps it.
+use Rattle.std.proofs.Common.{◌≡◌, ℕ, Bool, true, Option, Some, None, is_some, sym, ap, ◌∙◌}
+use Rattle.rpm_outside.specs.Files.{Units, Files}
+use Rattle.rpm_pkgdb.specs.Store.{Store, store}
+use Rattle.rpm_pkgdb.specs.Store as pkgdb
+use Rattle.rpm_hindex.specs.State as hindex
+use Rattle.rpm_db.specs.Database.{KeepsUnits, IsInOrder, IsIndexed}
+use Rattle.rpm_db.specs.Lawful.{Remade, IsIndexOf, is_current_at}
+use Rattle.rpm_db.proofs.Making.{current_same, rows_of_index}
+
+kept_current : (g : ℕ) (idx : Units) (index : Option hindex.State) → is_some index ≡ true → IsInOrder g index → KeepsUnits idx index
+    → is_current_at g idx ≡ true
+kept_current g idx None some order keeps = absurd cc
+kept_current g idx (Some s) some order keeps = sym (current_same g idx s keeps) ∙ order
+
+pub rebuilt : (old new : Files) (value : Store) (index : Option hindex.State) (stopped : Bool) → Remade old new → pkgdb.Keeps old.pkg value → is_some index ≡ true
+    → IsInOrder value.generation index → KeepsUnits new.idx index → IsIndexOf new.pkg new.idx
+    → IsIndexed new.pkg new.idx (record { store = value; index = index; stopped = stopped })
+rebuilt old new value index stopped made keeps some order kept is = record {
+  current = kept_current value.generation new.idx index some order kept;
+  rows_are = rows_of_index new.pkg new.idx value (ap store made.pkg ∙ keeps) is;
+}
+
+-- a store's index that was made beside it
+pub indexed_now : (pkg idx : Units) (value : Store) (index : Option hindex.State) (stopped : Bool) → pkgdb.Keeps pkg value → is_some index ≡ true
+    → IsInOrder value.generation index → KeepsUnits idx index → IsIndexOf pkg idx
+    → IsIndexed pkg idx (record { store = value; index = index; stopped = stopped })
+indexed_now pkg idx value index stopped keeps some order kept is = record {
+  current = kept_current value.generation idx index some order kept;
+  rows_are = rows_of_index pkg idx value keeps is;
+}

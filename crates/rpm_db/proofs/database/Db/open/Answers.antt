@@ -1,0 +1,18 @@
+use Rattle.rpm_db.specs.Lawful.{Remade}
+use Rattle.rpm_db.specs.inner.LawfulLaws.{remade_then, stops_lawful}
+use Rattle.rpm_db.specs.inner.Running.{runs_then}
+use Rattle.rpm_db.proofs.database.Db.open.Goals as goal
+
+pub returns-in-Ok-clause-runs : goal.returns-in-Ok-clause-runs
+returns-in-Ok-clause-runs g c =
+    runs_then g.D.Disk.tells g.D.Disk.files g.D.Disk.left_since g.D.Disk.moment g.D.Disk.bytes_read g.D.Disk.follows g.met.D.Disk.follows_trans
+    Remade Remade Remade c.args.disk.now c.settle.new.disk c.open_settled.new.disk (λ x y r. r) remade_then c.in-Ok.ensures.runs
+    c.open_settled.ensures.runs
+
+pub returns-in-Ok-clause-stops : goal.returns-in-Ok-clause-stops
+returns-in-Ok-clause-stops g c = λ told lawful. stops_lawful g.D.Disk.moment g.D.Disk.left_since c.args.disk.now c.open_settled.new.disk lawful
+    ((returns-in-Ok-clause-runs g c).any_moment told)
+
+pub returns-in-Err-clause-stops : goal.returns-in-Err-clause-stops
+returns-in-Err-clause-stops g c = λ told lawful. stops_lawful g.D.Disk.moment g.D.Disk.left_since c.args.disk.now c.settle.new.disk lawful
+    (c.in-Err.ensures.runs.any_moment told)

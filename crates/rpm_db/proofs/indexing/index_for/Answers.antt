@@ -1,0 +1,41 @@
+use Rattle.std.proofs.Common.{◌≡◌, ℕ, true, refl, ap, sym, ◌∙◌, subst}
+use Rattle.rpm_outside.specs.Files.{Files}
+use Rattle.rpm_outside.specs.declared.disk.File.TheVariants.{Idx}
+use Rattle.rpm_hindex.specs.State.{is_current}
+use Rattle.rpm_pkgdb.specs.Store.{store}
+use Rattle.rpm_db.specs.Lawful.{Remade, HasRows, is_current_at}
+use Rattle.rpm_db.specs.State.{packages}
+use Rattle.rpm_db.specs.inner.LawfulLaws.{remade_none, remade_then}
+use Rattle.rpm_db.specs.inner.Running.{runs_looks, runs_then}
+use Rattle.rpm_db.proofs.Making.{rows_of_lawful, rows_of_index, current_same}
+use Rattle.rpm_db.proofs.indexing.index_for.Goals as goal
+
+pub returns-then-is_current-clause-rows : goal.returns-then-is_current-clause-rows
+returns-then-is_current-clause-rows g c = λ told lawful.
+    let value = c.args.store.now in
+    let old = g.D.Disk.files c.args.disk.now in
+    let new = g.D.Disk.files c.open.new.disk in
+    let same = (c.in-Ok.ensures.looks.untouched told).same in
+    let here : is_current value.generation c.in-Ok.index ≡ true =
+    ap (λ (n : ℕ). is_current n c.in-Ok.index) (sym c.generation.ensures) ∙ sym c.is_current.ensures ∙ c.if-is_current.true in
+    let now : is_current_at value.generation new.idx ≡ true =
+    sym (current_same value.generation new.idx c.in-Ok.index (c.in-Ok.ensures.kept told)) ∙ here in
+    subst (λ (f : Files). HasRows (packages f.pkg value) f.idx) (sym same)
+    (rows_of_lawful old.pkg old.idx value (c.requires.keeps told) c.requires.made lawful
+    (ap (λ (f : Files). is_current_at value.generation f.idx) (sym same) ∙ now))
+
+pub returns-in-Ok-make_index-clause-rows : goal.returns-in-Ok-make_index-clause-rows
+returns-in-Ok-make_index-clause-rows g c = λ told lawful.
+    let value = c.args.store.now in
+    let same = (c.in-Ok.ensures.looks.untouched told).same in
+    let e = c.in-Ok-make_index.ensures in
+    let new = g.D.Disk.files c.make_index.new.disk in
+    let pkg : new.pkg ≡ (g.D.Disk.files c.args.disk.now).pkg = (e.runs.reads_as told).pkg ∙ ap (λ (f : Files). f.pkg) same in
+    rows_of_index new.pkg new.idx value (ap store pkg ∙ c.requires.keeps told) (e.index told)
+
+pub returns-in-Err-DiskFault-clause-runs : goal.returns-in-Err-DiskFault-clause-runs
+returns-in-Err-DiskFault-clause-runs g c =
+    runs_then g.D.Disk.tells g.D.Disk.files g.D.Disk.left_since g.D.Disk.moment g.D.Disk.bytes_read g.D.Disk.follows g.met.D.Disk.follows_trans
+    Remade Remade Remade c.args.disk.now c.open.new.disk c.make_index.new.disk (λ x y r. r) remade_then
+    (runs_looks g.D.Disk.tells g.D.Disk.files g.D.Disk.left_since g.D.Disk.moment g.D.Disk.bytes_read g.D.Disk.follows Remade remade_none Idx 32
+    c.args.disk.now c.open.new.disk refl c.in-Ok.ensures.looks) c.in-Err-DiskFault.ensures.runs

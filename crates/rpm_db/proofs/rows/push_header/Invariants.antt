@@ -1,0 +1,7 @@
+use Rattle.std.proofs.Common.{◌≡◌, ◌++◌, take}
+use Rattle.std.specs.List.{flat_map}
+use Rattle.rpm_db.specs.Rows.{kinds, kind_rows}
+use Rattle.rpm_db.proofs.rows.push_header.Given as goal
+
+abbrev pub invariant-loop-kind : goal.invariant-loop-kind
+invariant-loop-kind l = l.rows ≡ l.fn.rows ++ flat_map (kind_rows l.number l.view) (take l.kind-index kinds)

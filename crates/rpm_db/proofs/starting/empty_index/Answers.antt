@@ -1,0 +1,33 @@
+use Rattle.std.proofs.Common.{◌≡◌, refl}
+use Rattle.rpm_outside.specs.declared.disk.File.TheVariants.{Idx}
+use Rattle.rpm_hindex.specs.declared.faults.RewriteFault.TheVariants as rewrite
+use Rattle.rpm_hindex.specs.Images.{VoidOrSame}
+use Rattle.rpm_db.specs.Lawful.{Remade}
+use Rattle.rpm_db.specs.inner.LawfulLaws.{remade_none, remade_then}
+use Rattle.rpm_db.specs.inner.Running.{runs_index, runs_looks, runs_then}
+use Rattle.rpm_db.proofs.Emptied.{never_full}
+use Rattle.rpm_db.proofs.Making.{voiding}
+use Rattle.rpm_db.proofs.starting.empty_index.Goals as goal
+
+pub returns-in-Ok-rewrite-clause-runs : goal.returns-in-Ok-rewrite-clause-runs
+returns-in-Ok-rewrite-clause-runs g c =
+    runs_then g.D.Disk.tells g.D.Disk.files g.D.Disk.left_since g.D.Disk.moment g.D.Disk.bytes_read g.D.Disk.follows g.met.D.Disk.follows_trans
+    Remade Remade Remade c.args.disk.now c.open.new.disk c.rewrite.new.disk (λ x y r. r) remade_then
+    (runs_looks g.D.Disk.tells g.D.Disk.files g.D.Disk.left_since g.D.Disk.moment g.D.Disk.bytes_read g.D.Disk.follows Remade remade_none Idx 32
+    c.args.disk.now c.open.new.disk refl c.in-Ok.ensures.looks)
+    (runs_index g.D.Disk.tells g.D.Disk.files g.D.Disk.left_since g.D.Disk.moment g.D.Disk.bytes_read g.D.Disk.follows Remade VoidOrSame (λ f. Unit {0}) 0
+    c.open.new.disk c.rewrite.new.disk voiding (λ told. tt) (λ told image left. tt) c.rewrite.ensures.changes)
+
+pub returns-clause-runs : goal.returns-clause-runs
+returns-clause-runs g c =
+    runs_then g.D.Disk.tells g.D.Disk.files g.D.Disk.left_since g.D.Disk.moment g.D.Disk.bytes_read g.D.Disk.follows g.met.D.Disk.follows_trans
+    Remade Remade Remade c.args.disk.now c.open.new.disk c.rewrite.new.disk (λ x y r. r) remade_then
+    (runs_looks g.D.Disk.tells g.D.Disk.files g.D.Disk.left_since g.D.Disk.moment g.D.Disk.bytes_read g.D.Disk.follows Remade remade_none Idx 32
+    c.args.disk.now c.open.new.disk refl c.in-Ok.ensures.looks)
+    (runs_index g.D.Disk.tells g.D.Disk.files g.D.Disk.left_since g.D.Disk.moment g.D.Disk.bytes_read g.D.Disk.follows Remade VoidOrSame (λ f. Unit {0}) 0
+    c.open.new.disk c.rewrite.new.disk voiding (λ told. tt) (λ told image left. tt) c.rewrite.ensures.changes)
+
+pub returns-clause-room : goal.returns-clause-room
+returns-clause-room g c = λ needed is.
+    let same : c.in-Err-rewrite.fault ≡ rewrite.IndexFull needed = cc in
+    never_full c.new-rows.result c.new-rows.ensures c.in-Err-rewrite.fault c.in-Err-rewrite.ensures.full needed same

@@ -1,0 +1,121 @@
+use Rattle.std.proofs.Common.{◌≡◌, ℕ, sym, ap, ◌∙◌, subst, arith}
+use Rattle.rpm_outside.specs.Files.{Files, Units, unit_at, blank}
+use Rattle.rpm_outside.specs.Changes.{Stops}
+use Rattle.rpm_outside.specs.declared.disk.File.TheVariants.{Pkg}
+use Rattle.rpm_outside.specs.inner.Moments.{leaves_then, leaves_weaker}
+use Rattle.rpm_pkgdb.specs.Store.{Store, store, in_file}
+use Rattle.rpm_pkgdb.specs.Store as pkgdb
+use Rattle.rpm_pkgdb.specs.Written.{MakesTo, made_new}
+use Rattle.rpm_hindex.specs.State as hindex
+use Rattle.rpm_db.specs.Inits.{IsEmptyStill}
+use Rattle.rpm_db.specs.Lawful.{Remade, IsUnsealed}
+use Rattle.rpm_db.specs.Runs.{CameOf}
+use Rattle.rpm_db.proofs.Emptied.{blank_is, stops_index, stops_make, stops_seal, two, empty_unsealed}
+use Rattle.rpm_db.proofs.Making.{ordered_pending}
+use Rattle.rpm_db.proofs.Opened.{settled_quiet, still_settled, still_quiet}
+use Rattle.rpm_db.proofs.starting.make_files.Goals as goal
+
+pub seal_index-requires-clause-written : goal.seal_index-requires-clause-written
+seal_index-requires-clause-written g c =
+    ordered_pending c.in-Ok.index.pending c.in-Ok.index.units c.in-Ok.index.second c.in-Ok.ensures.ordered
+
+pub seal_index-requires-clause-keeps : goal.seal_index-requires-clause-keeps
+seal_index-requires-clause-keeps g c = λ told.
+    subst (λ (u : Units). hindex.Keeps u c.in-Ok.index) (sym (c.in-Ok-make.ensures.changes.idx told)) (c.in-Ok.ensures.kept told)
+
+pub seal_index-requires-clause-settled : goal.seal_index-requires-clause-settled
+seal_index-requires-clause-settled g c = λ told image here.
+    let m = c.in-Ok-make.ensures.changes in
+    let s = m.now told image here in
+    s.idx ∙ c.in-Ok.ensures.settled told s.from s.was ∙ sym (m.idx told)
+
+pub seal_index-requires-clause-here : goal.seal_index-requires-clause-here
+seal_index-requires-clause-here g c = λ told.
+    let m = c.in-Ok-make.ensures in
+    let idx = m.changes.idx told in
+    subst (λ (u : Units). IsUnsealed 1 c.in-Ok.index.pending (g.D.Disk.files c.make.new.disk).pkg u) (sym idx)
+    (empty_unsealed c.in-Ok.index.pending (g.D.Disk.files c.make.new.disk).pkg (g.D.Disk.files c.empty_index.new.disk).idx c.args.store.now
+    (subst (pkgdb.Keeps (g.D.Disk.files c.make.new.disk).pkg) m.ok (m.kept told)) (c.in-Ok.ensures.whole told) (c.in-Ok.ensures.rows told))
+
+pub seal_index-requires-clause-each : goal.seal_index-requires-clause-each
+seal_index-requires-clause-each g c = λ told image here.
+    let m = c.in-Ok-make.ensures in
+    let idx = m.changes.idx told in
+    subst (λ (u : Units). IsUnsealed 1 c.in-Ok.index.pending image.pkg u) (sym idx)
+    (empty_unsealed c.in-Ok.index.pending image.pkg (g.D.Disk.files c.empty_index.new.disk).idx c.args.store.now
+    (subst (pkgdb.Keeps image.pkg) m.ok (m.quiet told image here).keeps) (c.in-Ok.ensures.whole told) (c.in-Ok.ensures.rows told))
+
+pub returns-in-Err-clause-stops : goal.returns-in-Err-clause-stops
+returns-in-Err-clause-stops g c = λ told.
+    let value = c.args.store.now in
+    let a = c.args.disk.now in
+    let b = c.empty_index.new.disk in
+    let none = blank_is (g.D.Disk.files a).pkg (in_file value) (c.requires.keeps told) c.requires.blank in
+    let e = c.in-Err.ensures in
+    let first = stops_index g.D.Disk.moment g.D.Disk.left_since a b (g.D.Disk.files a).pkg none (c.requires.pkg told) (e.runs.any_moment told) in
+    first
+
+pub returns-in_default-clause-stops : goal.returns-in_default-clause-stops
+returns-in_default-clause-stops g c = λ told.
+    let value = c.args.store.now in
+    let a = c.args.disk.now in
+    let b = c.empty_index.new.disk in
+    let none = blank_is (g.D.Disk.files a).pkg (in_file value) (c.requires.keeps told) c.requires.blank in
+    let e = c.in-Ok.ensures in
+    let first = stops_index g.D.Disk.moment g.D.Disk.left_since a b (g.D.Disk.files a).pkg none (c.requires.pkg told) (e.runs.any_moment told) in
+    let d = c.make.new.disk in
+    let m = c.in_default.ensures in
+    let idx = (g.D.Disk.files b).idx in
+    let void : unit_at idx 0 ≡ blank = sym (e.kept told).first ∙ e.voided in
+    let keeps = ap store (e.runs.reads_as told).pkg ∙ c.requires.keeps told in
+    let quiet = settled_quiet value (g.D.Disk.files b) (g.D.Disk.left_since b (g.D.Disk.moment b)) keeps
+    (still_settled g.D.Disk.tells g.D.Disk.files g.D.Disk.left_since g.D.Disk.moment g.D.Disk.bytes_read g.D.Disk.follows a b told e.runs (c.requires.pkg told)) in
+    let made = stops_make g.D.Disk.moment g.D.Disk.left_since a b d idx void (e.runs.now told) (e.settled told) (m.images told quiet) in
+    two g.D.Disk.moment g.D.Disk.left_since a b d first made
+
+pub returns-in-Ok-seal_index-clause-stops : goal.returns-in-Ok-seal_index-clause-stops
+returns-in-Ok-seal_index-clause-stops g c = λ told.
+    let value = c.args.store.now in
+    let a = c.args.disk.now in
+    let b = c.empty_index.new.disk in
+    let none = blank_is (g.D.Disk.files a).pkg (in_file value) (c.requires.keeps told) c.requires.blank in
+    let e = c.in-Ok.ensures in
+    let first = stops_index g.D.Disk.moment g.D.Disk.left_since a b (g.D.Disk.files a).pkg none (c.requires.pkg told) (e.runs.any_moment told) in
+    let d = c.make.new.disk in
+    let m = c.in-Ok-make.ensures in
+    let idx = (g.D.Disk.files b).idx in
+    let void : unit_at idx 0 ≡ blank = sym (e.kept told).first ∙ e.voided in
+    let keeps = ap store (e.runs.reads_as told).pkg ∙ c.requires.keeps told in
+    let quiet = settled_quiet value (g.D.Disk.files b) (g.D.Disk.left_since b (g.D.Disk.moment b)) keeps
+    (still_settled g.D.Disk.tells g.D.Disk.files g.D.Disk.left_since g.D.Disk.moment g.D.Disk.bytes_read g.D.Disk.follows a b told e.runs (c.requires.pkg told)) in
+    let made = stops_make g.D.Disk.moment g.D.Disk.left_since a b d idx void (e.runs.now told) (e.settled told) (m.images told quiet) in
+    let f = c.seal_index.new.disk in
+    let sealed = stops_seal g.D.Disk.moment g.D.Disk.left_since a b d f
+    (λ i here. g.met.D.Disk.earlier d (g.D.Disk.moment b) (g.D.Disk.moment d) i told made.later (omega arith) here) made (c.in-Ok-seal_index.ensures.runs.any_moment told) in
+    two g.D.Disk.moment g.D.Disk.left_since a d f (two g.D.Disk.moment g.D.Disk.left_since a b d first made) sealed
+
+pub returns-in-Err-seal_index-clause-stops : goal.returns-in-Err-seal_index-clause-stops
+returns-in-Err-seal_index-clause-stops g c = λ told.
+    let value = c.args.store.now in
+    let a = c.args.disk.now in
+    let b = c.empty_index.new.disk in
+    let none = blank_is (g.D.Disk.files a).pkg (in_file value) (c.requires.keeps told) c.requires.blank in
+    let e = c.in-Ok.ensures in
+    let first = stops_index g.D.Disk.moment g.D.Disk.left_since a b (g.D.Disk.files a).pkg none (c.requires.pkg told) (e.runs.any_moment told) in
+    let d = c.make.new.disk in
+    let m = c.in-Ok-make.ensures in
+    let idx = (g.D.Disk.files b).idx in
+    let void : unit_at idx 0 ≡ blank = sym (e.kept told).first ∙ e.voided in
+    let keeps = ap store (e.runs.reads_as told).pkg ∙ c.requires.keeps told in
+    let quiet = settled_quiet value (g.D.Disk.files b) (g.D.Disk.left_since b (g.D.Disk.moment b)) keeps
+    (still_settled g.D.Disk.tells g.D.Disk.files g.D.Disk.left_since g.D.Disk.moment g.D.Disk.bytes_read g.D.Disk.follows a b told e.runs (c.requires.pkg told)) in
+    let made = stops_make g.D.Disk.moment g.D.Disk.left_since a b d idx void (e.runs.now told) (e.settled told) (m.images told quiet) in
+    let f = c.seal_index.new.disk in
+    let sealed = stops_seal g.D.Disk.moment g.D.Disk.left_since a b d f
+    (λ i here. g.met.D.Disk.earlier d (g.D.Disk.moment b) (g.D.Disk.moment d) i told made.later (omega arith) here) made (c.in-Err-seal_index.ensures.runs.any_moment told) in
+    two g.D.Disk.moment g.D.Disk.left_since a d f (two g.D.Disk.moment g.D.Disk.left_since a b d first made) sealed
+
+pub returns-in-Ok-seal_index-clause-quiet : goal.returns-in-Ok-seal_index-clause-quiet
+returns-in-Ok-seal_index-clause-quiet g c = λ told.
+    still_quiet g.D.Disk.tells g.D.Disk.files g.D.Disk.left_since g.D.Disk.moment g.D.Disk.bytes_read g.D.Disk.follows c.make.new.disk
+    c.seal_index.new.disk c.make.new.self told c.in-Ok-seal_index.ensures.runs (c.in-Ok-make.ensures.quiet told)

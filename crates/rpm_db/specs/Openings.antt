@@ -1,0 +1,85 @@
+-- What opening with an index answers.
+use Rattle.std.specs.Prelude.{◌≡◌, ℕ, ◌<◌, ◌≤◌, ◌^◌, Bool, ◌&&◌, true, false, not, ◌==◌, if◌then◌else◌, Result, Ok, Err, IfOk}
+use Rattle.rpm_outside.specs.Files.{Units, Files}
+use Rattle.rpm_pkgdb.specs.declared.slot.Damage.{Damage}
+use Rattle.rpm_pkgdb.specs.Costs as costs
+use Rattle.rpm_pkgdb.specs.Store.{Store, store}
+use Rattle.rpm_hindex.specs.Sizes.{units_for}
+use Rattle.rpm_hindex.specs.declared.faults.RewriteFault.{RewriteFault}
+use Rattle.rpm_hindex.specs.declared.faults.RewriteFault.TheVariants as rewrite
+use Rattle.rpm_db.specs.declared.opening.DbOpenFault.{DbOpenFault}
+use Rattle.rpm_db.specs.declared.opening.DbOpenFault.TheVariants.{Damaged, IndexFull, DiskFault, NoMemory}
+use Rattle.rpm_db.specs.Database.{Database, Keeps, KeepsIndex, IsIndexed, is_blank}
+use Rattle.rpm_db.specs.Lawful.{IsLawful, is_current_at}
+use Rattle.rpm_db.specs.Rows.{rows}
+use Rattle.rpm_db.specs.State.{packages}
+
+-- this store, or its first damage, as a store that is opened
+abbrev pub StoreIs : Result Store Damage → Result Store DbOpenFault → Type 0
+StoreIs said (Ok value) = said ≡ Ok value
+StoreIs said (Err (Damaged d)) = said ≡ Err d
+StoreIs said (Err (IndexFull needed)) = Unit {0}
+StoreIs said (Err DiskFault) = Unit {0}
+StoreIs said (Err NoMemory) = Unit {0}
+
+-- and as a database
+abbrev pub OpensAs : Result Store Damage → Result Database DbOpenFault → Type 0
+OpensAs said (Ok db) = said ≡ Ok db.store
+OpensAs said (Err (Damaged d)) = said ≡ Err d
+OpensAs said (Err (IndexFull needed)) = Unit {0}
+OpensAs said (Err DiskFault) = Unit {0}
+OpensAs said (Err NoMemory) = Unit {0}
+
+-- the database isn't blank, and its index isn't current
+abbrev pub must_make : Units → Result Store Damage → Bool
+must_make idx (Ok value) = not (value.pages == 0) && not (is_current_at value.generation idx)
+must_make idx (Err damage) = false
+
+-- the units of an index that is made of its packages
+abbrev pub units_needed : Units → Result Store Damage → ℕ
+units_needed pkg (Ok value) = units_for (rows (packages pkg value))
+units_needed pkg (Err damage) = 0
+
+-- the index is full exactly where it must be made and needs too many units
+abbrev pub FullOpenIs : {A : Type 0} → Bool → ℕ → Result A DbOpenFault → Type 0
+FullOpenIs making needed (Ok opened) = making ≡ true → needed ≤ 2 ^ 28
+FullOpenIs making needed (Err (Damaged d)) = Unit {0}
+FullOpenIs making needed (Err (IndexFull told)) = (making ≡ true) × (2 ^ 28 < needed) × (told ≡ needed)
+FullOpenIs making needed (Err DiskFault) = Unit {0}
+FullOpenIs making needed (Err NoMemory) = Unit {0}
+
+-- nothing was written: the index needn't be made, or there was another fault before
+abbrev pub WritesNothing : {A : Type 0} → Bool → Result A DbOpenFault → Type 0
+WritesNothing making (Ok opened) = making ≡ false
+WritesNothing making (Err (Damaged d)) = Unit {0}
+WritesNothing making (Err (IndexFull needed)) = Unit {0}
+WritesNothing making (Err DiskFault) = making ≡ false
+WritesNothing making (Err NoMemory) = Unit {0}
+
+-- the bytes of all packages, where the index must be made
+abbrev pub making_cost : Units → Result Store Damage → ℕ
+making_cost idx (Ok value) = if must_make idx (Ok value) then costs.cost_all value else 0
+making_cost idx (Err damage) = 0
+
+-- what opening answers of these files, and what it leaves
+pub record IsOpened (old new : Files) (result : Result Database DbOpenFault) : Type 0 where
+  pub store_is : OpensAs (store old.pkg) result
+  pub full : FullOpenIs (must_make old.idx (store old.pkg)) (units_needed old.pkg (store old.pkg)) result
+  pub same : WritesNothing (must_make old.idx (store old.pkg)) result → new ≡ old
+  pub keeps : IfOk result (λ db. Keeps new.pkg db × KeepsIndex new.idx db)
+  pub index : IfOk result (λ db. is_blank db ≡ false → IsLawful old.pkg old.idx → IsIndexed new.pkg new.idx db)
+
+-- ---- making the index
+
+-- there is room for it, and the fault that there is none comes exactly where there is none
+abbrev pub FullIs : {A : Type 0} → ℕ → Result A RewriteFault → Type 0
+FullIs needed (Ok done) = needed ≤ 2 ^ 28
+FullIs needed (Err (rewrite.IndexFull told)) = (2 ^ 28 < needed) × (told ≡ needed)
+FullIs needed (Err rewrite.DiskFault) = Unit {0}
+FullIs needed (Err rewrite.NoMemory) = Unit {0}
+
+-- a fault that comes of the outside
+abbrev pub IsOutside : RewriteFault → Type 0
+IsOutside (rewrite.IndexFull needed) = ⊥
+IsOutside rewrite.DiskFault = Unit {0}
+IsOutside rewrite.NoMemory = Unit {0}

@@ -1,0 +1,163 @@
+//! Making the index from the packages.
+
+ghost use Rattle.std.specs.Prelude.{◌≡◌, ◌≢◌, ℕ, ◌+◌, ◌≤◌, ◌<◌, IsTrue, true, not, None, Err, OnOk, IfOk, IfErr, if◌then◌else◌};
+ghost use Rattle.rpm_outside.specs.Files.{Files};
+ghost use Rattle.rpm_outside.specs.Causes.{HasCause, HasCauseAt};
+ghost use Rattle.rpm_outside.specs.Changes.{IsSettled};
+ghost use Rattle.rpm_outside.specs.declared.disk.File.TheVariants.{Pkg, Idx};
+ghost use Rattle.rpm_pkgdb.specs.declared.slot.Damage.{Damage};
+ghost use Rattle.rpm_pkgdb.specs.Costs.{cost_all};
+ghost use Rattle.rpm_pkgdb.specs.Slots.{slot_with};
+ghost use Rattle.rpm_pkgdb.specs.Store.{Keeps};
+ghost use Rattle.rpm_hindex.specs.Rewrites.{IsRefused};
+ghost use Rattle.rpm_hindex.specs.Rows.{Row};
+ghost use Rattle.rpm_hindex.specs.Sizes.{units_for};
+ghost use Rattle.rpm_hindex.specs.State as hindex;
+ghost use Rattle.rpm_db.specs.Lawful.{HasRows, IsIndexOf, IsUnsealed, IsLawful, Remade, is_current_at, IsOfRows};
+ghost use Rattle.rpm_db.specs.Openings.{FullIs, FullOpenIs, WritesNothing};
+ghost use Rattle.rpm_db.specs.Rows.{rows};
+ghost use Rattle.rpm_db.specs.Runs.{Runs};
+ghost use Rattle.rpm_db.specs.State.{packages};
+
+use crate::opening::DbOpenFault;
+use crate::rows::rows_of;
+use rpm_hindex::{Hindex, IndexDiskFault, RewriteFault, Rows};
+use rpm_outside::{Disk, Failed, File};
+use rpm_pkgdb::PkgDb;
+use std::alloc::Global;
+
+/// Settles both files.
+pub fn settle<D: Disk>(disk: &mut D) -> Result<(), Failed>
+    ensures same { IsTrue D.tells → D.files disk.new ≡ D.files disk.old }
+    ensures pkg { OnOk result (IsTrue D.tells → IsSettled Pkg (D.files disk.new) (D.left_since disk.new (D.moment disk.new))) }
+    ensures idx { OnOk result (IsTrue D.tells → IsSettled Idx (D.files disk.new) (D.left_since disk.new (D.moment disk.new))) }
+    ensures unread { (f : File) → D.bytes_read disk.new f ≡ D.bytes_read disk.old f }
+    ensures runs { Runs D.tells D.files D.left_since D.moment D.bytes_read D.follows Remade disk.old disk.new }
+    ensures cause { HasCause (D.faults disk.old) (D.faults disk.new) result }
+{
+    disk.sync(File::Pkg)?;
+    disk.sync(File::Idx)
+}
+
+/// Seals an index that is written, once it is durable, and settles it.
+pub fn seal_index<D: Disk>(
+    disk: &mut D,
+    index: &mut Hindex,
+    generation: u32,
+) -> Result<(), IndexDiskFault>
+    requires written { 0 < index.old.pending }
+    requires ordered { hindex.is_ordered index.old.pending index.old.second index.old.units ≡ true }
+    requires keeps { IsTrue D.tells → hindex.Keeps (D.files disk.old).idx index.old }
+    requires settled { IsTrue D.tells → IsSettled Idx (D.files disk.old) (D.left_since disk.old (D.moment disk.old)) }
+    requires here { IsTrue D.tells → IsUnsealed generation index.old.pending (D.files disk.old).pkg (D.files disk.old).idx }
+    requires each { IsTrue D.tells → (image : Files) → D.left_since disk.old (D.moment disk.old) image → IsUnsealed generation index.old.pending
+        image.pkg (D.files disk.old).idx }
+    ensures current { OnOk result (hindex.is_current generation index.new ≡ true) }
+    ensures kept { OnOk result (IsTrue D.tells → hindex.Keeps (D.files disk.new).idx index.new) }
+    ensures index { OnOk result (IsTrue D.tells → IsIndexOf (D.files disk.new).pkg (D.files disk.new).idx) }
+    ensures settled { OnOk result (IsTrue D.tells → IsSettled Idx (D.files disk.new) (D.left_since disk.new (D.moment disk.new))) }
+    ensures unread { (f : File) → D.bytes_read disk.new f ≤ D.bytes_read disk.old f }
+    ensures runs { Runs D.tells D.files D.left_since D.moment D.bytes_read D.follows Remade disk.old disk.new }
+    ensures cause { HasCause (D.faults disk.old) (D.faults disk.new) result }
+{
+    index.seal(disk, generation)
+}
+
+/// Writes the index of these rows from scratch, and seals it.
+fn write_index<D: Disk>(
+    alloc: Global,
+    disk: &mut D,
+    index: &mut Hindex,
+    rows: &Rows,
+    generation: u32,
+) -> Result<(), RewriteFault>
+    requires keeps { IsTrue D.tells → hindex.Keeps (D.files disk.old).idx index.old }
+    requires settled { IsTrue D.tells → IsSettled Pkg (D.files disk.old) (D.left_since disk.old (D.moment disk.old)) }
+    requires rows { IsTrue D.tells → IsOfRows generation rows.now (D.files disk.old).pkg }
+    ensures full { FullIs (units_for rows.now) result }
+    ensures current { OnOk result (hindex.is_current generation index.new ≡ true) }
+    ensures kept { OnOk result (IsTrue D.tells → hindex.Keeps (D.files disk.new).idx index.new) }
+    ensures index { OnOk result (IsTrue D.tells → IsIndexOf (D.files disk.new).pkg (D.files disk.new).idx) }
+    ensures settled { OnOk result (IsTrue D.tells → IsSettled Idx (D.files disk.new) (D.left_since disk.new (D.moment disk.new))) }
+    ensures refused { IfErr result (λ e. IsRefused e → (index.new ≡ index.old) × (disk.new ≡ disk.old)) }
+    ensures unread { (f : File) → D.bytes_read disk.new f ≤ D.bytes_read disk.old f }
+    ensures runs { Runs D.tells D.files D.left_since D.moment D.bytes_read D.follows Remade disk.old disk.new }
+    ensures cause { HasCauseAt (result ≡ Err RewriteFault.DiskFault) (D.faults disk.old) (D.faults disk.new) }
+{
+    if let Err(fault) = index.rewrite(alloc, disk, rows) {
+        return Err(fault);
+    }
+    match seal_index(disk, index, generation) {
+        Ok(()) => Ok(()),
+        Err(IndexDiskFault) => Err(RewriteFault::DiskFault),
+    }
+}
+
+/// Makes the index from the packages, and seals it at the store's generation.
+///
+/// Reads the blocks of each package once. All memory is taken before the first write.
+pub fn make_index<D: Disk>(
+    alloc: Global,
+    disk: &mut D,
+    store: &PkgDb,
+    index: &mut Hindex,
+) -> Result<(), RewriteFault>
+    requires keeps { IsTrue D.tells → Keeps (D.files disk.old).pkg store.now }
+    requires from_one { slot_with 0 store.now.slots ≡ None }
+    requires index { IsTrue D.tells → hindex.Keeps (D.files disk.old).idx index.old }
+    requires settled { IsTrue D.tells → IsSettled Pkg (D.files disk.old) (D.left_since disk.old (D.moment disk.old)) }
+    ensures full { IsTrue D.tells → FullIs (units_for (rows (packages (D.files disk.old).pkg store.now))) result }
+    ensures current { OnOk result (hindex.is_current store.now.generation index.new ≡ true) }
+    ensures kept { OnOk result (IsTrue D.tells → hindex.Keeps (D.files disk.new).idx index.new) }
+    ensures index { OnOk result (IsTrue D.tells → IsIndexOf (D.files disk.new).pkg (D.files disk.new).idx) }
+    ensures settled { OnOk result (IsTrue D.tells → IsSettled Idx (D.files disk.new) (D.left_since disk.new (D.moment disk.new))) }
+    ensures refused { IfErr result (λ e. IsRefused e → (index.new ≡ index.old) × (IsTrue D.tells → D.files disk.new ≡ D.files disk.old)) }
+    ensures reads { D.bytes_read disk.new Pkg ≤ D.bytes_read disk.old Pkg + cost_all store.now }
+    ensures unread { D.bytes_read disk.new Idx ≤ D.bytes_read disk.old Idx }
+    ensures runs { Runs D.tells D.files D.left_since D.moment D.bytes_read D.follows Remade disk.old disk.new }
+    ensures cause { HasCauseAt (result ≡ Err RewriteFault.DiskFault) (D.faults disk.old) (D.faults disk.new) }
+{
+    let rows = match rows_of(alloc, disk, store) {
+        Ok(rows) => rows,
+        Err(fault) => return Err(fault),
+    };
+    write_index(alloc, disk, index, &rows, store.generation())
+}
+
+/// The index of a store, which is made from the packages where it isn't current.
+pub fn index_for<D: Disk>(alloc: Global, disk: &mut D, store: &PkgDb) -> Result<Hindex, DbOpenFault>
+    requires keeps { IsTrue D.tells → Keeps (D.files disk.old).pkg store.now }
+    requires made { 1 ≤ store.now.pages }
+    requires from_one { slot_with 0 store.now.slots ≡ None }
+    requires pkg { IsTrue D.tells → IsSettled Pkg (D.files disk.old) (D.left_since disk.old (D.moment disk.old)) }
+    requires idx { IsTrue D.tells → IsSettled Idx (D.files disk.old) (D.left_since disk.old (D.moment disk.old)) }
+    ensures full { IsTrue D.tells → FullOpenIs (not (is_current_at store.now.generation (D.files disk.old).idx))
+        (units_for (rows (packages (D.files disk.old).pkg store.now))) result }
+    ensures undamaged { (d : Damage) → result ≢ Err (DbOpenFault.Damaged d) }
+    ensures same { IsTrue D.tells → WritesNothing (not (is_current_at store.now.generation (D.files disk.old).idx)) result → D.files disk.new
+        ≡ D.files disk.old }
+    ensures current { IfOk result (λ index. hindex.is_current store.now.generation index ≡ true) }
+    ensures kept { IfOk result (λ index. IsTrue D.tells → hindex.Keeps (D.files disk.new).idx index) }
+    ensures rows { IfOk result (λ _index. IsTrue D.tells → IsLawful (D.files disk.old).pkg (D.files disk.old).idx → HasRows
+        (packages (D.files disk.new).pkg store.now) (D.files disk.new).idx) }
+    ensures idx { IfOk result (λ _index. IsTrue D.tells → IsSettled Idx (D.files disk.new) (D.left_since disk.new (D.moment disk.new))) }
+    ensures reads { IsTrue D.tells → D.bytes_read disk.new Pkg ≤ D.bytes_read disk.old Pkg
+        + (if not (is_current_at store.now.generation (D.files disk.old).idx) then cost_all store.now else 0) }
+    ensures units { D.bytes_read disk.new Idx ≤ D.bytes_read disk.old Idx + 32 }
+    ensures runs { Runs D.tells D.files D.left_since D.moment D.bytes_read D.follows Remade disk.old disk.new }
+    ensures cause { HasCauseAt (result ≡ Err DbOpenFault.DiskFault) (D.faults disk.old) (D.faults disk.new) }
+{
+    let mut index = match Hindex::open(disk) {
+        Ok(index) => index,
+        Err(IndexDiskFault) => return Err(DbOpenFault::DiskFault),
+    };
+    if index.is_current(store.generation()) {
+        return Ok(index);
+    }
+    match make_index(alloc, disk, store, &mut index) {
+        Ok(()) => Ok(index),
+        Err(RewriteFault::IndexFull { needed }) => Err(DbOpenFault::IndexFull { needed }),
+        Err(RewriteFault::DiskFault) => Err(DbOpenFault::DiskFault),
+        Err(RewriteFault::NoMemory) => Err(DbOpenFault::NoMemory),
+    }
+}

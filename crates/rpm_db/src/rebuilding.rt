@@ -1,0 +1,105 @@
+//! Making the index anew.
+
+ghost use Rattle.std.specs.Prelude.{◌≡◌, ◌⊎◌, ℕ, ◌+◌, ◌≤◌, IsTrue, true, false, is_some, None, Err, OnOk, IfErr};
+ghost use Rattle.rpm_outside.specs.Causes.{HasCauseAt};
+ghost use Rattle.rpm_outside.specs.Changes.{IsSettled};
+ghost use Rattle.rpm_outside.specs.Crash.{LeavesOnly};
+ghost use Rattle.rpm_outside.specs.declared.disk.File.TheVariants.{Pkg, Idx};
+ghost use Rattle.rpm_pkgdb.specs.Costs as costs;
+ghost use Rattle.rpm_pkgdb.specs.Slots.{slot_with};
+ghost use Rattle.rpm_pkgdb.specs.Store as pkgdb;
+ghost use Rattle.rpm_hindex.specs.Rewrites.{IsRefused};
+ghost use Rattle.rpm_hindex.specs.Sizes.{units_for};
+ghost use Rattle.rpm_db.specs.Database.{Keeps, KeepsIndex, KeepsUnits, IsInOrder, IsIndexed, is_indexed, cost_all};
+ghost use Rattle.rpm_db.specs.Lawful.{AreLawful, IsIndexOf, IsLawfulStill, Remade};
+ghost use Rattle.rpm_db.specs.Openings.{FullIs};
+ghost use Rattle.rpm_db.specs.Rebuilds.{IsRebuilt};
+ghost use Rattle.rpm_db.specs.Rows.{rows};
+ghost use Rattle.rpm_db.specs.Runs.{Runs};
+ghost use Rattle.rpm_db.specs.State.{packages};
+
+use crate::change::ChangeFault;
+use crate::database::Db;
+use crate::indexing::{make_index, settle};
+use rpm_hindex::{Hindex, RewriteFault};
+use rpm_outside::Disk;
+use rpm_pkgdb::PkgDb;
+use std::alloc::Global;
+
+/// Settles both files, and makes the index from the packages.
+fn remake<D: Disk>(
+    alloc: Global,
+    disk: &mut D,
+    store: &PkgDb,
+    index: &mut Option<Hindex>,
+) -> Result<(), RewriteFault>
+    requires some { is_some index.old ≡ true }
+    requires keeps { IsTrue D.tells → pkgdb.Keeps (D.files disk.old).pkg store.now }
+    requires from_one { slot_with 0 store.now.slots ≡ None }
+    requires index { IsTrue D.tells → KeepsUnits (D.files disk.old).idx index.old }
+    ensures full { IsTrue D.tells → FullIs (units_for (rows (packages (D.files disk.old).pkg store.now))) result }
+    ensures some { is_some index.new ≡ true }
+    ensures order { OnOk result (IsInOrder store.now.generation index.new) }
+    ensures kept { OnOk result (IsTrue D.tells → KeepsUnits (D.files disk.new).idx index.new) }
+    ensures index { OnOk result (IsTrue D.tells → IsIndexOf (D.files disk.new).pkg (D.files disk.new).idx) }
+    ensures pkg { OnOk result (IsTrue D.tells → IsSettled Pkg (D.files disk.new) (D.left_since disk.new (D.moment disk.new))) }
+    ensures settled { OnOk result (IsTrue D.tells → IsSettled Idx (D.files disk.new) (D.left_since disk.new (D.moment disk.new))) }
+    ensures refused { IfErr result (λ e. IsRefused e → (index.new ≡ index.old) × (IsTrue D.tells → D.files disk.new ≡ D.files disk.old)) }
+    ensures reads { D.bytes_read disk.new Pkg ≤ D.bytes_read disk.old Pkg + costs.cost_all store.now }
+    ensures unread { D.bytes_read disk.new Idx ≤ D.bytes_read disk.old Idx }
+    ensures runs { Runs D.tells D.files D.left_since D.moment D.bytes_read D.follows Remade disk.old disk.new }
+    ensures cause { HasCauseAt (result ≡ Err RewriteFault.DiskFault) (D.faults disk.old) (D.faults disk.new) }
+{
+    let Ok(()) = settle(disk) else {
+        return Err(RewriteFault::DiskFault);
+    };
+    match index {
+        Some(index) => make_index(alloc, disk, store, index),
+        None => unreachable!(),
+    }
+}
+
+impl Db {
+    /// Makes the index from the packages, whatever it was, and seals it at the present generation.
+    ///
+    /// Settles both files first, and reads the blocks of each package once. All memory is taken before the first write. A stop at any moment
+    /// leaves the packages as they were, and an index that is as it was, void, or current with the rows of the packages.
+    ///
+    /// # Errors
+    ///
+    /// - `Stopped` exactly where an earlier changing call failed at the disk.
+    /// - `IndexFull` exactly where the index needs more than 268435456 units.
+    /// - `DiskFault` only where the disk's count of faults rose. The value is stopped then.
+    /// - `NoMemory` where a package or the rows find no memory. It answers no other fault.
+    pub fn rebuild<D: Disk>(&mut self, alloc: Global, disk: &mut D) -> Result<(), ChangeFault>
+        requires indexed { is_indexed self.old ≡ true }
+        requires keeps { self.old.stopped ≡ false → IsTrue D.tells → Keeps (D.files disk.old).pkg self.old }
+        requires index { self.old.stopped ≡ false → IsTrue D.tells → KeepsIndex (D.files disk.old).idx self.old }
+        ensures rebuilt { IsTrue D.tells → IsRebuilt (D.files disk.old) (D.files disk.new) self.old self.new result }
+        ensures store { self.new.store ≡ self.old.store }
+        ensures indexed { is_indexed self.new ≡ true }
+        ensures stopped { (self.new.stopped ≡ true → (self.old.stopped ≡ true) ⊎ (result ≡ Err ChangeFault.DiskFault))
+            × (result ≡ Err ChangeFault.Stopped → self.old.stopped ≡ true) }
+        ensures pkg { OnOk result (IsTrue D.tells → IsSettled Pkg (D.files disk.new) (D.left_since disk.new (D.moment disk.new))) }
+        ensures settled { OnOk result (IsTrue D.tells → IsSettled Idx (D.files disk.new) (D.left_since disk.new (D.moment disk.new))) }
+        ensures stops { IsTrue D.tells → AreLawful (D.left_since disk.old (D.moment disk.old)) → LeavesOnly D.moment D.left_since disk.old disk.new
+            (IsLawfulStill (D.left_since disk.old (D.moment disk.old))) }
+        ensures reads { D.bytes_read disk.new Pkg ≤ D.bytes_read disk.old Pkg + cost_all self.old }
+        ensures unread { D.bytes_read disk.new Idx ≤ D.bytes_read disk.old Idx }
+        ensures runs { Runs D.tells D.files D.left_since D.moment D.bytes_read D.follows Remade disk.old disk.new }
+        ensures cause { HasCauseAt (result ≡ Err ChangeFault.DiskFault) (D.faults disk.old) (D.faults disk.new) }
+    {
+        if self.is_stopped {
+            return Err(ChangeFault::Stopped);
+        }
+        match remake(alloc, disk, &self.store, &mut self.index) {
+            Ok(()) => Ok(()),
+            Err(RewriteFault::IndexFull { needed }) => Err(ChangeFault::IndexFull { needed }),
+            Err(RewriteFault::NoMemory) => Err(ChangeFault::NoMemory),
+            Err(RewriteFault::DiskFault) => {
+                self.is_stopped = true;
+                Err(ChangeFault::DiskFault)
+            }
+        }
+    }
+}

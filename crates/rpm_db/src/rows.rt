@@ -1,0 +1,132 @@
+//! The rows of packages for the index.
+
+ghost use Rattle.std.specs.Prelude.{◌≡◌, ℕ, ◌++◌, ◌∷◌, [], IsTrue, None, Err, OnOk, IfOk, IfErr};
+ghost use Rattle.std.specs.FinMap as finite;
+ghost use Rattle.rpm_header.specs.Header.{header};
+ghost use Rattle.rpm_outside.specs.Causes.{HasCauseAt};
+ghost use Rattle.rpm_outside.specs.declared.disk.File.TheVariants.{Pkg};
+ghost use Rattle.rpm_outside.specs.Looks.{Looks};
+ghost use Rattle.rpm_pkgdb.specs.Costs.{cost, cost_all};
+ghost use Rattle.rpm_pkgdb.specs.Slots.{slot_with};
+ghost use Rattle.rpm_pkgdb.specs.Store.{Keeps};
+ghost use Rattle.rpm_db.specs.State.{packages};
+ghost use Rattle.rpm_tags.specs.Kinds.{code_of};
+ghost use Rattle.rpm_db.specs.Openings.{IsOutside};
+ghost use Rattle.rpm_db.specs.Rows.{kind_rows, header_rows, rows_read, rows_at, rows};
+
+use rpm_header::View;
+use rpm_hindex::{RewriteFault, Rows};
+use rpm_outside::Disk;
+use rpm_pkgdb::{GetFault, PkgDb};
+use rpm_tags::{Kind, keys};
+use std::alloc::{AllocError, Global};
+
+// All kinds, by their codes.
+const KINDS: [Kind; 11] = [
+    Kind::Name,
+    Kind::Basenames,
+    Kind::Group,
+    Kind::Providename,
+    Kind::Requirename,
+    Kind::Conflictname,
+    Kind::Obsoletename,
+    Kind::Triggername,
+    Kind::Dirnames,
+    Kind::Installtid,
+    Kind::Recommendname,
+];
+
+/// Adds the row of a key. No header has a key of 256 MiB: it answers as if there were no memory for one.
+fn push_key(
+    rows: &mut Rows,
+    kind: Kind,
+    key: &[u8],
+    number: u32,
+    place: u32,
+) -> Result<(), AllocError>
+    ensures { OnOk result (rows.new ≡ rows.old ++ record { kind = code_of kind; key = key.now; number = number; place = place } ∷ []) }
+{
+    if key.len() >= 268_435_456 {
+        return Err(AllocError);
+    }
+    rows.push(kind.code(), key, number, place)
+}
+
+/// Adds the rows of a header's keys of one kind.
+fn push_kind(rows: &mut Rows, view: &View<'_>, kind: Kind, number: u32) -> Result<(), AllocError>
+    ensures { OnOk result (rows.new ≡ rows.old ++ kind_rows number view.now kind) }
+{
+    for (key, place) in keys(kind, view) {
+        push_key(rows, kind, key.bytes(), number, place)?;
+    }
+    Ok(())
+}
+
+/// Adds the rows of a header.
+pub fn push_header(rows: &mut Rows, view: &View<'_>, number: u32) -> Result<(), AllocError>
+    ensures { OnOk result (rows.new ≡ rows.old ++ header_rows number view.now) }
+{
+    for kind in KINDS {
+        push_kind(rows, view, kind, number)?;
+    }
+    Ok(())
+}
+
+/// Adds the rows of a blob: none where it is no header.
+fn push_blob(rows: &mut Rows, blob: &[u8], number: u32) -> Result<(), AllocError>
+    ensures { OnOk result (rows.new ≡ rows.old ++ rows_read number (header blob.now)) }
+{
+    match View::parse(blob) {
+        Err(_) => Ok(()),
+        Ok(view) => push_header(rows, &view, number),
+    }
+}
+
+/// Adds the rows of a number's package. Reads its blocks, each once.
+pub fn push_package<D: Disk>(
+    alloc: Global,
+    disk: &mut D,
+    store: &PkgDb,
+    rows: &mut Rows,
+    number: u32,
+) -> Result<(), RewriteFault>
+    requires keeps { IsTrue D.tells → Keeps (D.files disk.old).pkg store.now }
+    ensures kept { IsTrue D.tells → Keeps (D.files disk.new).pkg store.now }
+    ensures rows { OnOk result (IsTrue D.tells → rows.new ≡ rows.old ++ rows_at number
+        (finite.get (packages (D.files disk.old).pkg store.now) number)) }
+    ensures room { IfErr result IsOutside }
+    ensures looks { Looks D.tells D.files D.left_since D.moment D.bytes_read D.follows Pkg (cost number store.now) disk.old disk.new }
+    ensures cause { HasCauseAt (result ≡ Err RewriteFault.DiskFault) (D.faults disk.old) (D.faults disk.new) }
+{
+    match store.get(alloc, disk, number) {
+        Err(GetFault::NoSuch) => Ok(()),
+        Err(GetFault::Bad) => Ok(()),
+        Err(GetFault::DiskFault) => Err(RewriteFault::DiskFault),
+        Err(GetFault::NoMemory) => Err(RewriteFault::NoMemory),
+        Ok(blob) => match push_blob(rows, &blob, number) {
+            Ok(()) => Ok(()),
+            Err(_) => Err(RewriteFault::NoMemory),
+        },
+    }
+}
+
+/// The rows of all packages. Reads the blocks of each once.
+pub fn rows_of<D: Disk>(alloc: Global, disk: &mut D, store: &PkgDb) -> Result<Rows, RewriteFault>
+    requires keeps { IsTrue D.tells → Keeps (D.files disk.old).pkg store.now }
+    requires from_one { slot_with 0 store.now.slots ≡ None }
+    ensures kept { IsTrue D.tells → Keeps (D.files disk.new).pkg store.now }
+    ensures rows { IfOk result (λ all. IsTrue D.tells → all ≡ rows (packages (D.files disk.old).pkg store.now)) }
+    ensures room { IfErr result IsOutside }
+    ensures looks { Looks D.tells D.files D.left_since D.moment D.bytes_read D.follows Pkg (cost_all store.now) disk.old disk.new }
+    ensures cause { HasCauseAt (result ≡ Err RewriteFault.DiskFault) (D.faults disk.old) (D.faults disk.new) }
+{
+    let mut rows = Rows::new(alloc);
+    let mut passed = 0;
+    while let Some(number) = store.next_above(passed) {
+        match push_package(alloc, disk, store, &mut rows, number) {
+            Ok(()) => passed = number,
+            Err(fault) => return Err(fault),
+        }
+    }
+    Ok(rows)
+}

@@ -1,0 +1,144 @@
+//! Making a database.
+
+ghost use Rattle.std.specs.Prelude.{◌≡◌, ◌≢◌, ◌⊎◌, ℕ, ◌+◌, ◌<◌, ◌≤◌, [], IsTrue, true, false, None, Err, Ok, IfOk, IfErr};
+ghost use Rattle.rpm_outside.specs.Causes.{HasCauseAt};
+ghost use Rattle.rpm_outside.specs.Changes.{IsSettled};
+ghost use Rattle.rpm_outside.specs.Crash.{LeavesOnly};
+ghost use Rattle.rpm_outside.specs.Files.{Files, blank};
+ghost use Rattle.rpm_outside.specs.declared.disk.File.TheVariants.{Pkg, Idx};
+ghost use Rattle.rpm_pkgdb.specs.Quiet.{IsQuiet};
+ghost use Rattle.rpm_pkgdb.specs.Slots.{slot_with};
+ghost use Rattle.rpm_pkgdb.specs.Store as pkgdb;
+ghost use Rattle.rpm_pkgdb.specs.Written.{made_new};
+ghost use Rattle.rpm_hindex.specs.Index.{records};
+ghost use Rattle.rpm_hindex.specs.Rewrites.{IsRefused};
+ghost use Rattle.rpm_hindex.specs.Rows.{SameRows};
+ghost use Rattle.rpm_hindex.specs.State as hindex;
+ghost use Rattle.rpm_hindex.specs.Whole.{IsWellFormed};
+ghost use Rattle.rpm_db.specs.Database.{Keeps, KeepsIndex, IsIndexed, is_blank, is_indexed};
+ghost use Rattle.rpm_db.specs.Inits.{IsEmptyStill, IsInitFault};
+ghost use Rattle.rpm_db.specs.Lawful.{IsIndexOf, Remade};
+ghost use Rattle.rpm_db.specs.Runs.{Runs};
+
+use crate::change::ChangeFault;
+use crate::database::Db;
+use crate::indexing::seal_index;
+use rpm_hindex::{Hindex, IndexDiskFault, RewriteFault, Rows};
+use rpm_outside::Disk;
+use rpm_pkgdb::PkgDb;
+use std::alloc::Global;
+
+/// An index without rows, which isn't sealed.
+fn empty_index<D: Disk>(alloc: Global, disk: &mut D) -> Result<Hindex, RewriteFault>
+    ensures room { (needed : ℕ) → result ≢ Err (RewriteFault.IndexFull needed) }
+    ensures voided { IfOk result (λ index. index.first ≡ blank) }
+    ensures ordered { IfOk result (λ index. hindex.is_ordered index.pending index.second index.units ≡ true) }
+    ensures kept { IfOk result (λ index. IsTrue D.tells → hindex.Keeps (D.files disk.new).idx index) }
+    ensures whole { IfOk result (λ index. IsTrue D.tells → IsWellFormed index.pending (D.files disk.new).idx) }
+    ensures rows { IfOk result (λ index. IsTrue D.tells → SameRows [] (records index.pending (D.files disk.new).idx)) }
+    ensures settled { IfOk result (λ _index. IsTrue D.tells → IsSettled Idx (D.files disk.new) (D.left_since disk.new (D.moment disk.new))) }
+    ensures refused { IfErr result (λ e. IsRefused e → IsTrue D.tells → D.files disk.new ≡ D.files disk.old) }
+    ensures units { D.bytes_read disk.new Idx ≤ D.bytes_read disk.old Idx + 32 }
+    ensures unread { D.bytes_read disk.new Pkg ≤ D.bytes_read disk.old Pkg }
+    ensures runs { Runs D.tells D.files D.left_since D.moment D.bytes_read D.follows Remade disk.old disk.new }
+    ensures cause { HasCauseAt (result ≡ Err RewriteFault.DiskFault) (D.faults disk.old) (D.faults disk.new) }
+{
+    let mut index = match Hindex::open(disk) {
+        Ok(index) => index,
+        Err(IndexDiskFault) => return Err(RewriteFault::DiskFault),
+    };
+    let rows = Rows::new(alloc);
+    match index.rewrite(alloc, disk, &rows) {
+        Ok(()) => Ok(index),
+        Err(fault) => Err(fault),
+    }
+}
+
+/// Makes the files of a database without packages, and the index first, so that a made store never stands beside an older index.
+pub fn make_files<D: Disk>(
+    alloc: Global,
+    disk: &mut D,
+    store: &mut PkgDb,
+) -> Result<Hindex, RewriteFault>
+    requires going { store.old.is_stopped ≡ false }
+    requires blank { store.old.pages ≡ 0 }
+    requires keeps { IsTrue D.tells → pkgdb.Keeps (D.files disk.old).pkg store.old }
+    requires pkg { IsTrue D.tells → IsSettled Pkg (D.files disk.old) (D.left_since disk.old (D.moment disk.old)) }
+    ensures room { (needed : ℕ) → result ≢ Err (RewriteFault.IndexFull needed) }
+    ensures made { IfOk result (λ _index. store.new ≡ made_new store.old) }
+    ensures from_one { slot_with 0 store.old.slots ≡ None → slot_with 0 store.new.slots ≡ None }
+    ensures kept { IfOk result (λ _index. IsTrue D.tells → pkgdb.Keeps (D.files disk.new).pkg store.new) }
+    ensures current { IfOk result (λ index. hindex.is_current 1 index ≡ true) }
+    ensures units { IfOk result (λ index. IsTrue D.tells → hindex.Keeps (D.files disk.new).idx index) }
+    ensures index { IfOk result (λ _index. IsTrue D.tells → IsIndexOf (D.files disk.new).pkg (D.files disk.new).idx) }
+    ensures settled { IfOk result (λ _index. IsTrue D.tells → IsSettled Idx (D.files disk.new) (D.left_since disk.new (D.moment disk.new))) }
+    ensures quiet { IfOk result (λ _index. IsTrue D.tells → IsQuiet store.new (D.files disk.new) (D.left_since disk.new (D.moment disk.new))) }
+    ensures refused { IfErr result (λ e. IsRefused e → (store.new ≡ store.old) × (IsTrue D.tells → D.files disk.new ≡ D.files disk.old)) }
+    ensures stops { IsTrue D.tells → LeavesOnly D.moment D.left_since disk.old disk.new (IsEmptyStill (D.left_since disk.old (D.moment disk.old))) }
+    ensures reads { D.bytes_read disk.new Idx ≤ D.bytes_read disk.old Idx + 32 }
+    ensures unread { D.bytes_read disk.new Pkg ≤ D.bytes_read disk.old Pkg }
+    ensures cause { HasCauseAt (result ≡ Err RewriteFault.DiskFault) (D.faults disk.old) (D.faults disk.new) }
+{
+    let mut index = match empty_index(alloc, disk) {
+        Ok(index) => index,
+        Err(fault) => return Err(fault),
+    };
+    let Ok(()) = store.make(disk) else {
+        return Err(RewriteFault::DiskFault);
+    };
+    match seal_index(disk, &mut index, 1) {
+        Ok(()) => Ok(index),
+        Err(IndexDiskFault) => Err(RewriteFault::DiskFault),
+    }
+}
+
+impl Db {
+    /// Makes a database where there is none yet, and its index, and answers whether it did.
+    ///
+    /// Writes the index without rows and settles it, then the first page, and then the seal; reads two units of `Hindex.db`, and takes all
+    /// memory before the first write. A stop at any moment leaves a blank database, or one that is made and empty.
+    ///
+    /// # Errors
+    ///
+    /// - `Stopped` exactly where an earlier changing call failed at the disk.
+    /// - `DiskFault` only where the disk's count of faults rose. The value is stopped then.
+    /// - `NoMemory` where the index finds no memory. It answers no other fault.
+    pub fn init<D: Disk>(&mut self, alloc: Global, disk: &mut D) -> Result<bool, ChangeFault>
+        requires keeps { self.old.stopped ≡ false → IsTrue D.tells → Keeps (D.files disk.old).pkg self.old }
+        requires pkg { self.old.stopped ≡ false → is_blank self.old ≡ true → IsTrue D.tells → IsSettled Pkg (D.files disk.old)
+            (D.left_since disk.old (D.moment disk.old)) }
+        ensures made { IfOk result (λ made. made ≡ is_blank self.old) }
+        ensures done { result ≡ Ok true → (self.new.store ≡ made_new self.old.store) × (is_indexed self.new ≡ true) × (self.new.stopped ≡ false) }
+        ensures same { result ≡ Ok false → (self.new ≡ self.old) × (disk.new ≡ disk.old) }
+        ensures kept { result ≡ Ok true → IsTrue D.tells → Keeps (D.files disk.new).pkg self.new × KeepsIndex (D.files disk.new).idx self.new }
+        ensures index { result ≡ Ok true → IsTrue D.tells → IsIndexed (D.files disk.new).pkg (D.files disk.new).idx self.new }
+        ensures quiet { result ≡ Ok true → IsTrue D.tells → IsQuiet self.new.store (D.files disk.new) (D.left_since disk.new (D.moment disk.new)) }
+        ensures settled { result ≡ Ok true → IsTrue D.tells → IsSettled Idx (D.files disk.new) (D.left_since disk.new (D.moment disk.new)) }
+        ensures refused { IfErr result (λ e. e ≢ ChangeFault.DiskFault → IsTrue D.tells → D.files disk.new ≡ D.files disk.old) }
+        ensures reads { D.bytes_read disk.new Idx ≤ D.bytes_read disk.old Idx + 32 }
+        ensures unread { D.bytes_read disk.new Pkg ≤ D.bytes_read disk.old Pkg }
+        ensures kinds { IfErr result IsInitFault }
+        ensures stops { IsTrue D.tells → self.old.stopped ≡ false → is_blank self.old ≡ true → LeavesOnly D.moment D.left_since disk.old disk.new
+            (IsEmptyStill (D.left_since disk.old (D.moment disk.old))) }
+        ensures cause { HasCauseAt (result ≡ Err ChangeFault.DiskFault) (D.faults disk.old) (D.faults disk.new) }
+    {
+        if self.is_stopped {
+            return Err(ChangeFault::Stopped);
+        }
+        if !self.store.is_blank() {
+            return Ok(false);
+        }
+        match make_files(alloc, disk, &mut self.store) {
+            Ok(index) => {
+                self.index = Some(index);
+                Ok(true)
+            }
+            Err(RewriteFault::IndexFull { .. }) => unreachable!(),
+            Err(RewriteFault::NoMemory) => Err(ChangeFault::NoMemory),
+            Err(RewriteFault::DiskFault) => {
+                self.is_stopped = true;
+                Err(ChangeFault::DiskFault)
+            }
+        }
+    }
+}

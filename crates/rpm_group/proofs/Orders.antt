@@ -1,0 +1,52 @@
+-- Entries in their order, and a log that keeps them.
+use Rattle.std.proofs.Common.{◌≡◌, ℕ, ◌+◌, ◌≤◌, List, [], ◌∷◌, ◌++◌, length, ap, ◌∙◌, subst, arith}
+use Rattle.rpm_outside.specs.declared.disk.File.{File}
+use Rattle.rpm_outside.specs.declared.disk.File.TheVariants.{Log}
+use Rattle.rpm_outside.specs.Files.{Units, Files, with_file, unit_at, put}
+use Rattle.rpm_outside.specs.inner.Puts.{length-put, put_after}
+use Rattle.rpm_outside.specs.Logs.{Entry}
+use Rattle.rpm_outside.specs.LogWrites.{EntriesIn}
+use Rattle.rpm_outside.specs.inner.LogWriting.{entries_kept}
+use Rattle.rpm_group.specs.declared.layers.Layers.{Layers}
+use Rattle.rpm_group.specs.Groups.{needed}
+use Rattle.rpm_group.specs.Orders.{AreRuns, IsLogged}
+use Rattle.rpm_group.specs.inner.Behind.{KeepsBehind}
+use Rattle.rpm_group.specs.inner.Grouped.{IsGroup}
+
+pub runs_more : (file : File) (from a b : ℕ) (entries : List Entry) → AreRuns file from a entries → a ≤ b → AreRuns file from b entries
+runs_more file from a b [] is le = omega (arith, is, le)
+runs_more file from a b (e ∷ es) (one, low, rest) le = (one, low, runs_more file (e.first + length e.units) a b es rest le)
+
+pub runs_push : (file : File) (from a b : ℕ) (entries : List Entry) (entry : Entry) → AreRuns file from a entries → entry.file ≡ file → a ≤ entry.first
+    → entry.first + length entry.units ≤ b → AreRuns file from b (entries ++ entry ∷ [])
+runs_push file from a b [] entry is same low high = (same, omega (arith, is, low), high)
+runs_push file from a b (e ∷ es) entry (one, first, rest) same low high =
+    (one, first, runs_push file (e.first + length e.units) a b es entry rest same low high)
+
+-- a gate that is written leaves what is behind it
+pub gate_keeps : (unit : List ℕ) (units : Units) (files mid new : Files) → units ≡ unit ∷ [] → mid ≡ with_file Log (put 0 units files.log) files
+    → new ≡ mid → KeepsBehind files.log new.log
+gate_keeps unit units files mid new one written same = record {
+  long = omega (arith, ap length is, length-put 0 (unit ∷ []) files.log);
+  same = λ i low. ap (λ (us : Units). unit_at us i) is ∙ put_after 0 (unit ∷ []) files.log i low;
+}
+  where
+    is : new.log ≡ put 0 (unit ∷ []) files.log
+    is = ap (λ (f : Files). f.log) (same ∙ written) ∙ ap (λ (us : Units). put 0 us files.log) one
+
+pub keeps_then : (a b c : Units) → KeepsBehind a b → KeepsBehind b c → KeepsBehind a c
+keeps_then a b c one two = record {
+  long = omega (arith, one.long, two.long);
+  same = λ i low. two.same i low ∙ one.same i low;
+}
+
+-- the entries of a group stay behind the gate
+pub group_logged : (held : Layers) (entries : List Entry) (end : ℕ) (old new : Units) → IsGroup entries held → EntriesIn entries 1 end old → end
+    ≡ needed held → KeepsBehind old new → IsLogged held new
+group_logged held entries end old new group placed is keeps = record {
+  entries = entries;
+  placed = subst (λ (n : ℕ). EntriesIn entries 1 n new) is
+      (entries_kept entries 1 end old new (λ i low high. keeps.same i low) keeps.long placed);
+  order = group.order;
+  whole = λ files. ap (λ (f : Files). record { pkg = f.pkg; idx = f.idx; log = [] }) (group.whole files);
+}

@@ -1,0 +1,10 @@
+use Rattle.std.proofs.Common.{◌≡◌, ◌-◌, true}
+use Rattle.rpm_header.specs.Bytes.{are_ended}
+use Rattle.rpm_header.specs.inner.Zeros.{skipped}
+use Rattle.rpm_header.proofs.bytes.skip_texts.Given as goal
+
+abbrev pub invariant-loop : goal.invariant-loop
+invariant-loop l = record {
+  ended : are_ended (l.count - l.counter) l.rest ≡ true;
+  same : skipped (l.count - l.counter) l.rest ≡ skipped l.count l.bytes;
+}

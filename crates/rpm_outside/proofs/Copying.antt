@@ -1,0 +1,212 @@
+-- Copies of settled moments stay what they are, and one is as good a start as moment 0.
+use Rattle.std.proofs.Common.{◌≡◌, inl, inr, ⊎_elim, ℕ, zero, suc, ◌≤◌, Bool, true, false, List, [], ◌∷◌, ◌++◌, take, length, refl, sym, ◌∙◌, ap, subst, arith}
+use Rattle.std.specs.Prelude.{Some, slice_get, ◌⊎◌}
+use Rattle.std.proofs.lemmas.List.{take_all, take-append-le, length_push}
+use Rattle.rpm_outside.specs.declared.disk.File.{File}
+use Rattle.rpm_outside.specs.declared.disk.File.TheVariants.{Pkg, Idx, Log}
+use Rattle.rpm_outside.specs.declared.copies.Copy.{Copy}
+use Rattle.rpm_outside.specs.declared.copies.Copies.{Copies}
+use Rattle.rpm_outside.specs.declared.steps.Pick.{Pick}
+use Rattle.rpm_outside.specs.declared.steps.Step.{Step}
+use Rattle.rpm_outside.specs.declared.steps.Step.TheVariants.{Wrote, Synced}
+use Rattle.rpm_outside.specs.Files.{Units, Files, file_of, with_file, put, cases_file}
+use Rattle.rpm_outside.specs.Past.{after_steps, Images, WroteOnce, WroteAny}
+use Rattle.rpm_outside.specs.Picks.{picked, picked_image}
+use Rattle.rpm_outside.specs.inner.FileLaws.{file_of-with, other_file, same_files}
+use Rattle.rpm_outside.specs.inner.History.{after_steps-push, as_read_now, now_images}
+use Rattle.rpm_outside.specs.inner.Copies.{is_loose, loosened, tightened, AddsCopy, NoneLoose, SettlesFile, StartsFrom, IsCopy, HoldCopies}
+use Rattle.rpm_outside.proofs.Picking.{picked_image-push}
+
+loosened_same : (file : File) (loose : Bool) → loosened file file loose ≡ true
+loosened_same Pkg loose = refl
+loosened_same Idx loose = refl
+loosened_same Log loose = refl
+
+loosened_other : (file other : File) (loose : Bool) → (other ≡ file → ⊥) → loosened file other loose ≡ loose
+loosened_other Pkg Pkg loose differ = absurd (differ refl)
+loosened_other Pkg Idx loose differ = refl
+loosened_other Pkg Log loose differ = refl
+loosened_other Idx Pkg loose differ = refl
+loosened_other Idx Idx loose differ = absurd (differ refl)
+loosened_other Idx Log loose differ = refl
+loosened_other Log Pkg loose differ = refl
+loosened_other Log Idx loose differ = refl
+loosened_other Log Log loose differ = absurd (differ refl)
+
+tightened_other : (file other : File) (loose : Bool) → (other ≡ file → ⊥) → tightened file other loose ≡ loose
+tightened_other Pkg Pkg loose differ = absurd (differ refl)
+tightened_other Pkg Idx loose differ = refl
+tightened_other Pkg Log loose differ = refl
+tightened_other Idx Pkg loose differ = refl
+tightened_other Idx Idx loose differ = absurd (differ refl)
+tightened_other Idx Log loose differ = refl
+tightened_other Log Pkg loose differ = refl
+tightened_other Log Idx loose differ = refl
+tightened_other Log Log loose differ = absurd (differ refl)
+
+-- the flags of a file after a write
+pub record Loosens (old new : Copies) (file : File) : Type 0 where
+  pub kept : new.kept.items ≡ old.kept.items
+  pub pkg : new.loose_pkg ≡ loosened file Pkg old.loose_pkg
+  pub idx : new.loose_idx ≡ loosened file Idx old.loose_idx
+  pub log : new.loose_log ≡ loosened file Log old.loose_log
+
+loosens_each : (old new : Copies) (file : File) → Loosens old new file → (f : File) → is_loose new f ≡ loosened file f (is_loose old f)
+loosens_each old new file l Pkg = l.pkg
+loosens_each old new file l Idx = l.idx
+loosens_each old new file l Log = l.log
+
+settles_each : (old new : Copies) (file : File) (at : ℕ) (files : Files) → SettlesFile old new file at files → (f : File) → is_loose new f
+    ≡ tightened file f (is_loose old f)
+settles_each old new file at files s Pkg = s.pkg
+settles_each old new file at files s Idx = s.idx
+settles_each old new file at files s Log = s.log
+
+copy_longer : (past : List Step) (step : Step) (first : Files) (copy : Copy) → IsCopy past first copy → IsCopy (past ++ step ∷ []) first copy
+copy_longer past step first copy is =
+    let same : take copy.at (past ++ step ∷ []) ≡ take copy.at past = take-append-le copy.at past (step ∷ []) is.within in
+    record {
+      within = omega (arith, is.within, length_push past step);
+      read = is.read ∙ ap (λ (s : List Step). after_steps s first) (sym same);
+      picked = λ pick. ap (λ (s : List Step). picked_image pick s first first) same ∙ is.picked pick;
+    }
+
+-- an element of a list that is one longer
+pushed_get : (copies : List Copy) (last copy : Copy) (k : ℕ) → slice_get (copies ++ last ∷ []) k ≡ Some copy → (slice_get copies k ≡ Some copy) ⊎ (copy ≡ last)
+pushed_get [] last copy zero is = inr (let same : Some last ≡ Some copy = is in cc)
+pushed_get [] last copy (suc k) is = inl is
+pushed_get (c ∷ copies) last copy zero is = inl is
+pushed_get (c ∷ copies) last copy (suc k) is = pushed_get copies last copy k is
+
+module _ (old new : Copies) (past : List Step) (first files : Files) (hold : HoldCopies old past first files) where
+  -- nothing was written
+  none_held : (steps : List Step) (now : Files) (file : File) → Loosens old new file → now ≡ files → steps ≡ past → HoldCopies new steps first now
+  none_held steps now file l same none = record {
+    each = λ k copy there. subst (λ (s : List Step). IsCopy s first copy) (sym none)
+        (hold.each k copy (ap (λ (cs : List Copy). slice_get cs k) (sym l.kept) ∙ there));
+    settled = λ f tight pick. elim (cases_file f file) [
+      | inl is ↦
+          let wrong : true ≡ false = sym (loosened_same file (is_loose old f)) ∙ ap (λ (g : File). loosened file g (is_loose old f)) (sym is)
+          ∙ sym (loosens_each old new file l f) ∙ tight in
+          absurd cc
+      | inr differ ↦
+          let before : is_loose old f ≡ false = sym (loosened_other file f (is_loose old f) differ) ∙ sym (loosens_each old new file l f) ∙ tight in
+          ap (λ (s : List Step). file_of f (picked_image pick s first first)) none ∙ hold.settled f before pick ∙ ap (λ (x : Files). file_of f x) (sym same)
+    ];
+  }
+
+  -- units were written
+  once_held : (steps : List Step) (now : Files) (file : File) (at : ℕ) (units : Units) → Loosens old new file → WroteOnce files now past steps file at units
+      → HoldCopies new steps first now
+  once_held steps now file at units l write =
+      let step : Step = Wrote file at write.kept in
+      record {
+        each = λ k copy there. subst (λ (s : List Step). IsCopy s first copy) (sym write.step)
+            (copy_longer past step first copy (hold.each k copy (ap (λ (cs : List Copy). slice_get cs k) (sym l.kept) ∙ there)));
+        settled = λ f tight pick. elim (cases_file f file) [
+          | inl is ↦
+              let wrong : true ≡ false = sym (loosened_same file (is_loose old f)) ∙ ap (λ (g : File). loosened file g (is_loose old f)) (sym is)
+              ∙ sym (loosens_each old new file l f) ∙ tight in
+              absurd cc
+          | inr differ ↦
+              let before : is_loose old f ≡ false = sym (loosened_other file f (is_loose old f) differ) ∙ sym (loosens_each old new file l f) ∙ tight in
+              let image = picked_image pick past first first in
+              ap (λ (s : List Step). file_of f (picked_image pick s first first)) write.step
+              ∙ ap (λ (x : Files). file_of f x) (picked_image-push pick past step first first)
+              ∙ other_file f file (picked pick at write.kept.items (file_of file image)) image differ
+              ∙ hold.settled f before pick
+              ∙ sym (other_file f file (put at units (file_of file files)) files differ)
+              ∙ ap (λ (x : Files). file_of f x) (sym write.files)
+        ];
+      }
+
+  pub any_held : (steps : List Step) (now : Files) (file : File) (at : ℕ) (units : Units) → Loosens old new file → WroteAny files now past steps file at units
+      → HoldCopies new steps first now
+  any_held steps now file at [] l any = none_held steps now file l any.files any.none
+  any_held steps now file at (unit ∷ units) l any = once_held steps now file at (unit ∷ units) l any
+
+  -- a file was settled
+  pub sync_held : (steps : List Step) (file : File) (at : ℕ) → files ≡ after_steps past first → steps ≡ past ++ Synced file ∷ [] → at ≡ length steps
+      → SettlesFile old new file at files → HoldCopies new steps first files
+  sync_held steps file at read is end s = record {
+    each = λ k copy there. ⊎_elim
+        (λ same. longer k copy (ap (λ (cs : List Copy). slice_get cs k) (sym same) ∙ there))
+        (λ adds. ⊎_elim (longer k copy)
+        (λ last. subst (λ (c : Copy). IsCopy steps first c) (sym last) (added adds.0 adds.1))
+        (pushed_get old.kept.items adds.1.copy copy k (ap (λ (cs : List Copy). slice_get cs k) (sym adds.1.is) ∙ there)))
+        s.kept;
+    settled = settled;
+  }
+    where
+      step : Step
+      step = Synced file
+
+      longer : (k : ℕ) (copy : Copy) → slice_get old.kept.items k ≡ Some copy → IsCopy steps first copy
+      longer k copy there = subst (λ (s : List Step). IsCopy s first copy) (sym is) (copy_longer past step first copy (hold.each k copy there))
+
+      read_now : files ≡ after_steps steps first
+      read_now = read ∙ sym (after_steps-push past step first) ∙ ap (λ (s : List Step). after_steps s first) (sym is)
+
+      pushed : (pick : Pick) → picked_image pick steps first first
+          ≡ with_file file (file_of file (after_steps past first)) (picked_image pick past first first)
+      pushed pick = ap (λ (s : List Step). picked_image pick s first first) is ∙ picked_image-push pick past step first first
+
+      settled : (f : File) → is_loose new f ≡ false → (pick : Pick) → file_of f (picked_image pick steps first first) ≡ file_of f files
+      settled f tight pick = elim (cases_file f file) [
+        | inl same ↦
+            ap (λ (x : Files). file_of f x) (pushed pick)
+            ∙ ap (λ (g : File). file_of g (with_file file (file_of file (after_steps past first)) (picked_image pick past first first))) same
+            ∙ file_of-with file (file_of file (after_steps past first)) (picked_image pick past first first)
+            ∙ ap (λ (x : Files). file_of file x) (sym read)
+            ∙ ap (λ (g : File). file_of g files) (sym same)
+        | inr differ ↦
+            let before : is_loose old f ≡ false = sym (tightened_other file f (is_loose old f) differ) ∙ sym (settles_each old new file at files s f) ∙ tight in
+            ap (λ (x : Files). file_of f x) (pushed pick)
+            ∙ other_file f file (file_of file (after_steps past first)) (picked_image pick past first first) differ
+            ∙ hold.settled f before pick
+      ]
+
+      tight_each : NoneLoose new → (f : File) → is_loose new f ≡ false
+      tight_each none Pkg = none.pkg
+      tight_each none Idx = none.idx
+      tight_each none Log = none.log
+
+      added : NoneLoose new → (adds : AddsCopy old.kept.items new.kept.items at files) → IsCopy steps first adds.copy
+      added none adds =
+          let all : take adds.copy.at steps ≡ steps = take_all adds.copy.at steps (omega (arith, adds.moment, end)) in
+          record {
+            within = omega (arith, adds.moment, end);
+            read = adds.files_are ∙ read_now ∙ ap (λ (s : List Step). after_steps s first) (sym all);
+            picked = λ pick. ap (λ (s : List Step). picked_image pick s first first) all
+                ∙ same_files (picked_image pick steps first first) files (λ f. settled f (tight_each none f) pick)
+                ∙ sym adds.files_are;
+          }
+
+-- what a replay from a copy begins with
+pub record Begun (steps : List Step) (first : Files) (pick : Pick) (at : ℕ) (files : Files) : Type 0 where
+  pub now : files ≡ after_steps (take at steps) first
+  pub picked_is : files ≡ picked_image pick (take at steps) first first
+  pub image : Images (take at steps) first files
+
+module _ (copies : Copies) (steps : List Step) (first now : Files) (hold : HoldCopies copies steps first now) where
+  read_begun : (pick : Pick) (at : ℕ) (files : Files) → files ≡ after_steps (take at steps) first → files ≡ picked_image pick (take at steps) first first
+      → Begun steps first pick at files
+  read_begun pick at files read is = record {
+    now = read;
+    picked_is = is;
+    image = now_images (take at steps) first files (as_read_now (take at steps) first files read);
+  }
+
+  pub begun : (pick : Pick) (moment at : ℕ) (files : Files) → StartsFrom copies.kept.items first moment at files → Begun steps first pick at files
+  begun pick moment at files (inl (zeros, is)) = read_begun pick at files
+      (is ∙ ap (λ (n : ℕ). after_steps (take n steps) first) (sym zeros))
+      (is ∙ ap (λ (n : ℕ). picked_image pick (take n steps) first first) (sym zeros))
+  begun pick moment at files (inr from) =
+      let copy = hold.each from.has.k from.copy from.has.there in
+      read_begun pick at files
+      (from.files_are ∙ copy.read ∙ ap (λ (n : ℕ). after_steps (take n steps) first) (sym from.at_is))
+      (from.files_are ∙ sym (copy.picked pick) ∙ ap (λ (n : ℕ). picked_image pick (take n steps) first first) (sym from.at_is))
+
+  pub begun_before : (moment at : ℕ) (files : Files) → StartsFrom copies.kept.items first moment at files → at ≤ moment
+  begun_before moment at files (inl (zeros, is)) = omega (arith, zeros)
+  begun_before moment at files (inr from) = omega (arith, from.at_is, from.has.before)

@@ -1,0 +1,196 @@
+-- What is planned of a slot page, one move more.
+use Rattle.std.proofs.Common.{◌≡◌, ◌≢◌, ◌⊎◌, inl, inr, ℕ, zero, suc, ◌+◌, ◌*◌, ◌^◌, ◌<◌, ◌≤◌, List, [], ◌∷◌, ◌++◌, length, take, true, false, Option, Some, None, MatchOption, refl, sym, ap, ◌∙◌, subst, arith, set, length-set}
+use Rattle.std.specs.Prelude.{Contains}
+use Rattle.std.proofs.lemmas.Bool.{cases_eq, cases_lt}
+use Rattle.std.proofs.lemmas.Bool.Decides.{nat_tests}
+use Rattle.std.proofs.lemmas.List.Sums.{sum_by-set}
+use Rattle.rpm_blocks.specs.declared.Range.{Range}
+use Rattle.rpm_blocks.specs.Blocks.{range, with_range, without}
+use Rattle.rpm_blocks.specs.Laws.{with_range_here, with_range_keeps, with_range_only, without_keeps, without_only}
+use Rattle.rpm_pkgdb.specs.declared.slot.Slot.{Slot}
+use Rattle.rpm_pkgdb.specs.declared.moving.Move.{Move}
+use Rattle.rpm_pkgdb.specs.declared.page.Page.{Page}
+use Rattle.rpm_pkgdb.specs.Slots.{slot_at, is_used, end_of, free}
+use Rattle.rpm_pkgdb.specs.Store.{Store}
+use Rattle.rpm_pkgdb.specs.Plans.{IsLeast, Fits, FitsNowhere}
+use Rattle.rpm_pkgdb.specs.Undamaged.{AreSound}
+use Rattle.rpm_pkgdb.specs.inner.Ranges.{range_of, UsedBy, AreRangesOf}
+use Rattle.rpm_pkgdb.specs.inner.Settings.{CanSet}
+use Rattle.rpm_pkgdb.specs.Growing.{moved}
+use Rattle.rpm_pkgdb.specs.Growing.{after_move, after_moves, IsNextMove, AreMoves, AreBehind}
+use Rattle.rpm_pkgdb.specs.Planned.{CantMove}
+use Rattle.rpm_pkgdb.specs.inner.Pages.{IsFirstBefore, IsPlanning, AllMoved, IsFirstSoFar, one_before, count_before}
+use Rattle.rpm_pkgdb.proofs.Pairwise.{used_below}
+use Rattle.rpm_pkgdb.proofs.ClearLaws.{set_here, set_other}
+use Rattle.rpm_pkgdb.proofs.RangeLaws.{other_start}
+use Rattle.rpm_pkgdb.proofs.SettingLaws.{set_sound}
+
+-- ---- the first range before a block
+
+pub first_none : (slots : List Slot) (end : ℕ) → IsFirstSoFar slots end 0 None end
+first_none slots end = record { no_more = omega arith; low = λ j lt used. absurd (omega (arith, lt)); here = refl }
+
+pub first_here : (slots : List Slot) (end k : ℕ) (first : Option ℕ) (least : ℕ) → IsFirstSoFar slots end k first least → k < length slots
+    → is_used (slot_at slots k) ≡ true → (slot_at slots k).offset < least → IsFirstSoFar slots end (k + 1) (Some k) (slot_at slots k).offset
+first_here slots end k first least has below used lower = record {
+  no_more = omega (arith, has.no_more);
+  low = λ j lt used_j. elim (cases_eq j k) [
+    | inl same ↦ omega (arith, ap (λ (i : ℕ). (slot_at slots i).offset) same)
+    | inr other ↦ omega (arith, has.low j (omega arith) used_j)
+  ];
+  here = (below, used, refl, omega (arith, has.no_more));
+}
+
+pub first_stays : (slots : List Slot) (end k : ℕ) (first : Option ℕ) (least : ℕ) → IsFirstSoFar slots end k first least
+    → (is_used (slot_at slots k) ≡ true → least ≤ (slot_at slots k).offset) → IsFirstSoFar slots end (k + 1) first least
+first_stays slots end k first least has not_lower = record {
+  no_more = has.no_more;
+  low = λ j lt used_j. elim (cases_eq j k) [
+    | inl same ↦ subst (λ (i : ℕ). least ≤ (slot_at slots i).offset) (sym same) (not_lower (subst (λ (i : ℕ). is_used (slot_at slots i) ≡ true) same used_j))
+    | inr other ↦ has.low j (omega arith) used_j
+  ];
+  here = has.here;
+}
+
+pub first_of_all : (slots : List Slot) (end count : ℕ) (first : Option ℕ) (least : ℕ) → length slots ≤ count → IsFirstSoFar slots end count first least
+    → MatchOption first (AreBehind slots end) (IsFirstBefore slots end)
+first_of_all slots end count None least all has = λ j used. omega (arith, has.low j (omega (arith, used_below slots j used)) used, has.here)
+first_of_all slots end count (Some p) least all has = record {
+  below = has.here.0;
+  used = has.here.1;
+  before = omega (arith, has.here.2, has.here.3);
+  first = λ j used. omega (arith, has.low j (omega (arith, used_below slots j used)) used, has.here.2);
+}
+
+-- ---- one move more
+
+module _ (pages : ℕ) (slots : List Slot) (sound : AreSound pages (2 ^ 28) slots) (place end to : ℕ) (low : 256 * pages ≤ end) (first : IsFirstBefore slots end place) (least : IsLeast slots (slot_at slots place).count end to) (some : 1 ≤ pages) where
+  abbrev old : Slot
+  old = slot_at slots place
+
+  abbrev new : Slot
+  new = moved (slot_at slots place) to
+
+  used_new : is_used new ≡ true
+  used_new = let far : to ≢ 0 = omega (arith, some, low, least.from_on) in grind (arith, nat_tests)
+
+  pub moved_sound : AreSound pages (2 ^ 28) (set slots place new)
+  moved_sound =
+      let p = sound.placed place first.used in
+      let st : Store = record { generation = 0; pages = pages; field = 0; slots = slots; spare = 0; is_stopped = false } in
+      let can : CanSet st place new = record {
+        made = some;
+        below = first.below;
+        number = (p.number, p.few);
+        others = λ j differs used same. (sound.apart j place differs used first.used).numbers (sym same);
+        behind = omega (arith, low, least.from_on);
+        some = p.some;
+        fits = least.fits;
+      } in
+      set_sound st place new can (2 ^ 28) least.fits.ends sound
+
+  starts_differ : to ≢ old.offset
+  starts_differ same = omega (arith, least.from_on, first.before)
+
+  pub moved_ranges : (a b c : List Range) → AreRangesOf a slots → b ≡ with_range (range to old.count) a → c ≡ without old.offset b → AreRangesOf c (set slots place new)
+  moved_ranges a b c are added gone =
+      let new_at : slot_at (set slots place new) place ≡ new = set_here pages (2 ^ 28) slots sound place first.below new in
+      let stays : (j : ℕ) → j ≢ place → slot_at (set slots place new) j ≡ slot_at slots j = set_other pages (2 ^ 28) slots sound place first.below new in
+      let there_new : Contains b (range_of new) = subst (λ (l : List Range). Contains l (range_of new)) (sym added) (with_range_here (range_of new) a) in
+      record {
+        each = λ j used. subst (λ (l : List Range). Contains l (range_of (slot_at (set slots place new) j))) (sym gone) (elim (cases_eq j place) [
+          | inl here ↦ subst (λ (t : Slot). Contains (without old.offset b) (range_of t)) (sym (ap (slot_at (set slots place new)) here ∙ new_at))
+              (without_keeps old.offset (range_of new) b starts_differ there_new)
+          | inr other ↦
+              (let was : is_used (slot_at slots j) ≡ true = ap is_used (sym (stays j other)) ∙ used in
+              let there : Contains b (range_of (slot_at slots j)) = subst (λ (l : List Range). Contains l (range_of (slot_at slots j))) (sym added)
+              (with_range_keeps (range_of new) (range_of (slot_at slots j)) a (are.each j was)) in
+              subst (λ (t : Slot). Contains (without old.offset b) (range_of t)) (sym (stays j other))
+              (without_keeps old.offset (range_of (slot_at slots j)) b (other_start pages slots sound j place other was first.used) there))
+        ]);
+        only = λ x there.
+            let w = without_only old.offset x b (subst (λ (l : List Range). Contains l x) gone there) in
+            elim (with_range_only (range_of new) x a (subst (λ (l : List Range). Contains l x) added w.1)) [
+              | inl here ↦ record { at = place; used = ap is_used new_at ∙ used_new; is = here ∙ ap range_of (sym new_at) }
+              | inr was ↦
+                  (let u = are.only x was in
+                  let other : u.at ≢ place = λ here. w.0 (ap (λ (r : Range). r.start) u.is ∙ ap (λ (i : ℕ). (slot_at slots i).offset) here) in
+                  record { at = u.at; used = ap is_used (stays u.at other) ∙ u.used; is = u.is ∙ ap range_of (sym (stays u.at other)) })
+            ];
+      }
+
+-- the move is the next one
+pub next_move : (slots : List Slot) (pages end place to : ℕ) → AreSound pages (2 ^ 28) slots → IsFirstBefore slots end place
+    → IsLeast slots (slot_at slots place).count end to → IsNextMove slots end (record { place = place; to = to })
+next_move slots pages end place to sound first least = record {
+  used = first.used;
+  before = first.before;
+  first = λ j other used.
+      let le = first.first j used in
+      let differ = other_start pages slots sound j place other used first.used in
+      let apart : (slot_at slots place).offset ≢ (slot_at slots j).offset = λ same. differ (sym same) in
+      omega arith;
+  least = least;
+}
+
+moves_then : (slots : List Slot) (end : ℕ) (moves : List Move) (m : Move) → AreMoves slots end moves → IsNextMove (after_moves slots moves) end m
+    → AreMoves slots end (moves ++ m ∷ [])
+moves_then slots end [] m are next = (next, tt)
+moves_then slots end (x ∷ moves) m are next = (are.0, moves_then (after_move slots x) end moves m are.1 next)
+
+after_then : (slots : List Slot) (moves : List Move) (m : Move) → after_moves slots (moves ++ m ∷ []) ≡ after_move (after_moves slots moves) m
+after_then slots [] m = refl
+after_then slots (x ∷ moves) m = after_then (after_move slots x) moves m
+
+pub record Planned (slots : List Slot) (end : ℕ) (moves : List Move) (now : List Slot) : Type 0 where
+  pub are : AreMoves slots end moves
+  pub slots_are : now ≡ after_moves slots moves
+
+pub planning_more : (slots : List Slot) (end : ℕ) (moves : List Move) (now : List Slot) (pages place to : ℕ) → AreSound pages (2 ^ 28) now
+    → AreMoves slots end moves → now ≡ after_moves slots moves → IsFirstBefore now end place → IsLeast now (slot_at now place).count end to
+    → Planned slots end (moves ++ (record { place = place; to = to }) ∷ []) (set now place (moved (slot_at now place) to))
+planning_more slots end moves now pages place to sound are slots_are first least =
+    let m : Move = record { place = place; to = to } in
+    let next : IsNextMove now end m = next_move now pages end place to sound first least in
+    record {
+      are = moves_then slots end moves m are (subst (λ (l : List Slot). IsNextMove l end m) slots_are next);
+      slots_are = ap (λ (l : List Slot). after_move l m) slots_are ∙ sym (after_then slots moves m);
+    }
+
+-- a range that is moved behind the block no longer begins before it
+pub fewer_before : (slots : List Slot) (end place to : ℕ) → IsFirstBefore slots end place → end ≤ to
+    → count_before end (set slots place (moved (slot_at slots place) to)) < count_before end slots
+unfolding count_before
+fewer_before slots end place to first far =
+    let was : one_before end (slot_at slots place) ≡ 1 = (let used = first.used in let before = first.before in grind (arith, nat_tests)) in
+    let now : one_before end (moved (slot_at slots place) to) ≡ 0 = grind (arith, nat_tests) in
+    omega (arith, sum_by-set (one_before end) slots place (moved (slot_at slots place) to) free first.below, was, now)
+
+pub count_after : (slots : List Slot) (moves : List Move) → length (after_moves slots moves) ≡ length slots
+count_after slots [] = refl
+count_after slots (m ∷ moves) = count_after (after_move slots m) moves ∙ length-set slots m.place (moved (slot_at slots m.place) m.to)
+
+pub page_count : (slots : List Slot) (end : ℕ) (page : Page) → IsPlanning slots end page → length page.slots.items ≡ length slots
+page_count slots end page planning = ap length planning.slots_are ∙ count_after slots page.moves.items
+
+module _ (slots : List Slot) (end : ℕ) (page : Page) (planning : IsPlanning slots end page) where
+  pub cant_move : (place : ℕ) → IsFirstBefore page.slots.items end place
+      → FitsNowhere page.slots.items (slot_at page.slots.items place).count end → CantMove slots end
+  cant_move place first nowhere =
+      let now = subst (λ (l : List Slot). IsFirstBefore l end place) planning.slots_are first in
+      record {
+        moves = page.moves.items;
+        are = planning.moves;
+        place = place;
+        used = now.used;
+        before = now.before;
+        first = now.first;
+        nowhere = subst (λ (l : List Slot). FitsNowhere l (slot_at l place).count end) planning.slots_are nowhere;
+      }
+
+  pub all_moved : AreBehind page.slots.items end → AllMoved slots end page
+  all_moved behind = record {
+    moves = planning.moves;
+    slots_are = planning.slots_are;
+    behind = subst (λ (l : List Slot). AreBehind l end) planning.slots_are behind;
+  }

@@ -1,0 +1,45 @@
+use Rattle.std.proofs.Common.{◌≡◌, ℕ, ◌+◌, ◌*◌, ◌<◌, List, length, ap, sym, subst, arith, Err}
+use Rattle.rpm_pkgdb.specs.declared.slot.Slot.{Slot}
+use Rattle.rpm_pkgdb.specs.declared.plan.PlanFault.TheVariants.{StoreFull}
+use Rattle.rpm_pkgdb.specs.Store.{Store}
+use Rattle.rpm_pkgdb.specs.Growing.{next_end, AreBehind}
+use Rattle.rpm_pkgdb.specs.Planned.{CantMove}
+use Rattle.rpm_pkgdb.specs.inner.Pages.{IsFirstBefore, AllMoved, count_before}
+use Rattle.rpm_pkgdb.proofs.PageLaws.{cant_move, all_moved, fewer_before, page_count}
+use Rattle.rpm_pkgdb.proofs.store.PkgDb.plan_moves.Goals as goal
+
+pub first_before-requires : goal.first_before-requires
+first_before-requires c =
+    let kept = c.self.invariant.kept in
+    let l = c.loop-place in
+    let same : length l.page.slots.items ≡ length c.args.self.now.slots = page_count c.args.self.now.slots (256 * (c.self.inside.pages + 1)) l.page l.invariant.planning in
+    let view : length c.args.self.now.slots ≡ length c.self.inside.slots.items = ap (λ (v : Store). length v.slots) (sym c.self.view_is) in
+    omega (arith, c.deref-in-loop-place.ensures.len, same, view, kept.count, kept.limit)
+
+pub returns-in-Err-clause-full : goal.returns-in-Err-clause-full
+returns-in-Err-clause-full c = λ full.
+    let st = c.args.self.now in
+    let l = c.loop-place in
+    let fault : c.in-Err.fault ≡ StoreFull = cc in
+    let end = 256 * (c.self.inside.pages + 1) in
+    let same : end ≡ next_end st = ap (λ (v : Store). next_end v) c.self.view_is in
+    subst (CantMove st.slots) same
+    (cant_move st.slots end l.page l.invariant.planning c.in-Some.place
+    (subst (λ (s : List Slot). IsFirstBefore s end c.in-Some.place) c.deref-in-loop-place.ensures.value c.in-Some.ensures) (c.in-Err.ensures.full (ap Err fault)))
+
+pub loop-place-smaller : goal.loop-place-smaller
+loop-place-smaller c =
+    let end = 256 * (c.self.inside.pages + 1) in
+    let slots = c.loop-place.page.slots.items in
+    let m = c.in_default-add_move.ensures.moved in
+    subst (λ (l : List Slot). count_before end l < count_before end slots) (sym m.2)
+    (fewer_before slots end c.in-Some.place m.0 (subst (λ (l : List Slot). IsFirstBefore l end c.in-Some.place) c.deref-in-loop-place.ensures.value c.in-Some.ensures) m.1)
+
+pub returns-clause-page : goal.returns-clause-page
+returns-clause-page c =
+    let st = c.args.self.now in
+    let l = c.loop-place in
+    let end = 256 * (c.self.inside.pages + 1) in
+    let same : end ≡ next_end st = ap (λ (v : Store). next_end v) c.self.view_is in
+    subst (λ (n : ℕ). AllMoved st.slots n l.page) same
+    (all_moved st.slots end l.page l.invariant.planning (subst (λ (s : List Slot). AreBehind s end) c.deref-in-loop-place.ensures.value c.in_default-first_before.ensures))

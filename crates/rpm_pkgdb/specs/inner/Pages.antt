@@ -1,0 +1,51 @@
+-- A slot page that is planned.
+use Rattle.std.specs.Prelude.{◌≡◌, ℕ, ◌+◌, ◌*◌, ◌^◌, ◌<◌, ◌≤◌, List, length, true, Option, Some, None, ◌&&◌, nat_lt, if◌then◌else◌}
+use Rattle.std.specs.List.{sum_by}
+use Rattle.rpm_pkgdb.specs.declared.slot.Slot.{Slot}
+use Rattle.rpm_pkgdb.specs.declared.page.Page.{Page}
+use Rattle.rpm_pkgdb.specs.Slots.{slot_at, is_used}
+use Rattle.rpm_pkgdb.specs.Undamaged.{AreSound}
+use Rattle.rpm_pkgdb.specs.Growing.{after_moves, AreMoves, AreBehind}
+use Rattle.rpm_pkgdb.specs.inner.Ranges.{AreRangesOf}
+
+-- the slot at this place has the first of the used ranges, and it begins before this block
+pub record IsFirstBefore (slots : List Slot) (end place : ℕ) : Type 0 where
+  pub below : place < length slots
+  pub used : is_used (slot_at slots place) ≡ true
+  pub before : (slot_at slots place).offset < end
+  pub first : (j : ℕ) → is_used (slot_at slots j) ≡ true → (slot_at slots place).offset ≤ (slot_at slots j).offset
+
+-- the slots are sound, and the ranges are theirs
+pub record IsRanged (pages : ℕ) (page : Page) : Type 0 where
+  pub some : 1 ≤ pages
+  pub sound : AreSound pages (2 ^ 28) page.slots.items
+  pub ranges : AreRangesOf page.used.ranges page.slots.items
+
+-- the slots are those after the moves so far
+pub record IsPlanning (slots : List Slot) (end : ℕ) (page : Page) : Type 0 where
+  pub moves : AreMoves slots end page.moves.items
+  pub slots_are : page.slots.items ≡ after_moves slots page.moves.items
+
+-- all moves that a new page asks for are made
+pub record AllMoved (slots : List Slot) (end : ℕ) (page : Page) : Type 0 where
+  pub moves : AreMoves slots end page.moves.items
+  pub slots_are : page.slots.items ≡ after_moves slots page.moves.items
+  pub behind : AreBehind (after_moves slots page.moves.items) end
+
+-- a place whose range begins at the least block so far, or none
+abbrev pub IsHere : List Slot → ℕ → ℕ → Option ℕ → Type 0
+IsHere slots end least None = least ≡ end
+IsHere slots end least (Some p) = (p < length slots) × (is_used (slot_at slots p) ≡ true) × ((slot_at slots p).offset ≡ least) × (least < end)
+
+-- the first of the used ranges of the first so many slots that begins before a block
+pub record IsFirstSoFar (slots : List Slot) (end count : ℕ) (first : Option ℕ) (least : ℕ) : Type 0 where
+  pub no_more : least ≤ end
+  pub low : (j : ℕ) → j < count → is_used (slot_at slots j) ≡ true → least ≤ (slot_at slots j).offset
+  pub here : IsHere slots end least first
+
+abbrev pub one_before : ℕ → Slot → ℕ
+one_before end s = if is_used s && nat_lt s.offset end then 1 else 0
+
+-- how many used ranges begin before this block
+unfoldable pub count_before : ℕ → List Slot → ℕ
+count_before end slots = sum_by (one_before end) slots

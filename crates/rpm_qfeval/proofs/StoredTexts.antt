@@ -1,0 +1,17 @@
+-- The texts of a stored tag are its value.
+use Rattle.std.proofs.Common.{◌≡◌, ℕ, List, Option, Some, sym, ap, ◌∙◌}
+use Rattle.rpm_header.specs.Header.{Header}
+use Rattle.rpm_tags.specs.declared.tag.Tag.{Tag}
+use Rattle.rpm_tags.specs.declared.tag.Tag.TheVariants.{Stored}
+use Rattle.rpm_tags.specs.Value.{Elements, NumberList, TextList, OneBlob, value, texts_in, if_texts}
+
+by_texts : (v : Elements) (ts : List (List ℕ)) → Some ts ≡ if_texts (Some v) → v ≡ TextList ts
+by_texts (TextList us) ts e = let same : ts ≡ us = cc in ap TextList (sym same)
+by_texts (NumberList ns) ts e = absurd cc
+by_texts (OneBlob b) ts e = absurd cc
+
+pub stored_texts : (h : Header) (number tag : ℕ) (asked : Tag) (found : Option Elements) (v : Elements) (ts : List (List ℕ)) → found ≡ value h number asked
+    → asked ≡ Stored tag → found ≡ Some v → Some ts ≡ texts_in h tag → v ≡ TextList ts
+unfolding texts_in
+stored_texts h number tag asked found v ts told is some e =
+    by_texts v ts (e ∙ ap if_texts (ap (value h number) (sym is) ∙ sym told ∙ some))

@@ -1,0 +1,16 @@
+use Rattle.std.proofs.Common.{◌≡◌, ◌+◌, ◌*◌, drop}
+use Rattle.rpm_qfparse.specs.Tree.{weight}
+use Rattle.rpm_qfparse.specs.Shape.{parts_of, tree_of, load}
+use Rattle.rpm_qfeval.specs.Meaning.{bytes}
+use Rattle.rpm_outside.specs.inner.Upto.{Upto}
+use Rattle.rpm_qfeval.proofs.inside.+inside.Given as goal
+
+abbrev pub decreases-put_inner_part : goal.decreases-put_inner_part
+decreases-put_inner_part g l = 2 * load l.part.now + 1
+
+abbrev pub decreases-put_inner_parts : goal.decreases-put_inner_parts
+decreases-put_inner_parts g l = 2 * weight l.parts.now
+
+abbrev pub invariant-put_inner_parts-loop-i : goal.invariant-put_inner_parts-loop-i
+invariant-put_inner_parts-loop-i g l = (l.columns ≡ l.initial.columns) × Upto g.O.Sink.tells g.O.Sink.taken g.O.Sink.faults g.O.Sink.follows
+    (bytes l.view l.number l.round l.parts) (bytes l.view l.number l.round (tree_of (drop l.i (parts_of l.parts)))) l.initial.sink l.sink

@@ -1,0 +1,106 @@
+//! A bracket is put over the columns of its tags, round by round.
+
+ghost use Rattle.std.specs.Prelude.{◌≡◌, ◌∷◌, [], true};
+ghost use Rattle.rpm_qfeval.specs.Columns.{AreTold};
+ghost use Rattle.rpm_outside.specs.Sinks.{Writes};
+ghost use Rattle.rpm_qfeval.specs.Meaning.{bytes, part_bytes, rounds, counts};
+ghost use Rattle.rpm_qfeval.specs.Proper.{AreProper, PartIsProper};
+
+use crate::columns::Column;
+use crate::lookup::{is_present, put_tag};
+use crate::sizes::count_rounds;
+use rpm_header::View;
+use rpm_outside::{Failed, Sink, put_all};
+use rpm_qfparse::{Part, Parts};
+
+/// A part of a bracket in a round.
+#[cycle(inside)]
+fn put_inner_part<O: Sink>(
+    sink: &mut O,
+    part: &Part,
+    view: &View<'_>,
+    number: u32,
+    columns: &mut [Option<Column<'_, '_>>],
+    next: &mut usize,
+    round: u32,
+) -> Result<(), Failed>
+    requires told { AreTold view.now number columns.old }
+    requires proper { PartIsProper true part.now }
+    ensures puts { Writes O.tells O.taken O.faults O.follows sink.old sink.new (part_bytes view.now number round part.now) result }
+    ensures same { columns.new ≡ columns.old }
+{
+    match part {
+        Part::Text(text) => put_all(sink, text.as_slice()),
+        Part::Tag(tag) => put_tag(sink, tag, view, number, columns, next, round),
+        Part::Bracket(_) => unreachable!(),
+        Part::Condition(tag, first, second) => {
+            if is_present(columns, next, view, number, *tag) {
+                put_inner_parts(sink, first, view, number, columns, next, round)
+            } else {
+                put_inner_parts(sink, second, view, number, columns, next, round)
+            }
+        }
+    }
+}
+
+/// Parts of a bracket in a round.
+#[cycle(inside)]
+#[tactic(auto, using(crate::proofs::ProperParts::part_is_proper))]
+fn put_inner_parts<O: Sink>(
+    sink: &mut O,
+    parts: &Parts,
+    view: &View<'_>,
+    number: u32,
+    columns: &mut [Option<Column<'_, '_>>],
+    next: &mut usize,
+    round: u32,
+) -> Result<(), Failed>
+    requires told { AreTold view.now number columns.old }
+    requires proper { AreProper true parts.now }
+    ensures puts { Writes O.tells O.taken O.faults O.follows sink.old sink.new (bytes view.now number round parts.now) result }
+    ensures same { columns.new ≡ columns.old }
+{
+    for i in 0..parts.len() {
+        put_inner_part(sink, parts.at(i), view, number, columns, next, round)?;
+    }
+    Ok(())
+}
+
+/// So many rounds of a bracket.
+fn put_rounds<O: Sink>(
+    sink: &mut O,
+    inner: &Parts,
+    view: &View<'_>,
+    number: u32,
+    columns: &mut [Option<Column<'_, '_>>],
+    count: u32,
+) -> Result<(), Failed>
+    requires told { AreTold view.now number columns.old }
+    requires proper { AreProper true inner.now }
+    ensures { Writes O.tells O.taken O.faults O.follows sink.old sink.new (rounds (count ∷ []) (λ i. bytes view.now number i inner.now)) result }
+{
+    let mut next = 0;
+    for round in 0..count {
+        put_inner_parts(sink, inner, view, number, columns, &mut next, round)?;
+    }
+    Ok(())
+}
+
+/// A bracket over the columns of its tags.
+pub fn put_over<O: Sink>(
+    sink: &mut O,
+    inner: &Parts,
+    view: &View<'_>,
+    number: u32,
+    columns: &mut [Option<Column<'_, '_>>],
+) -> Result<(), Failed>
+    requires told { AreTold view.now number columns.old }
+    requires proper { AreProper true inner.now }
+    ensures { Writes O.tells O.taken O.faults O.follows sink.old sink.new (rounds (counts view.now number inner.now)
+        (λ i. bytes view.now number i inner.now)) result }
+{
+    match count_rounds(inner, columns, view, number) {
+        None => put_all(sink, b"(none)\n"),
+        Some(count) => put_rounds(sink, inner, view, number, columns, count),
+    }
+}
