@@ -12,7 +12,7 @@ use Rattle.rpm_hindex.specs.Index.{Index, is_link, next_at, units_at, row_at, bu
 use Rattle.rpm_hindex.specs.Whole.{IsWhole}
 use Rattle.rpm_hindex.proofs.Made.{made_next, made_size, row-made}
 use Rattle.rpm_hindex.proofs.Chains.{Sound}
-use Rattle.rpm_hindex.proofs.Links.{IsChain, within, link_at}
+use Rattle.rpm_hindex.proofs.FollowedLinks.{IsChain, within, link_at}
 use Rattle.rpm_hindex.proofs.Wholes.{HasChains, chains_ok, all_are, in_all, all_in}
 use Rattle.rpm_hindex.proofs.Extends.{Extends, Stands, stands_in, sound_whole, units_same, same_units, same_row, chain_extends, heads_extend}
 use Rattle.rpm_hindex.proofs.Tallies.{tally, times_rows, sum_flat, sum_at, sum_each, length_sum}

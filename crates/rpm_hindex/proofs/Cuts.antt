@@ -18,7 +18,7 @@ use Rattle.rpm_hindex.specs.Index.{Index, index_in, is_link, next_at, units_at, 
 use Rattle.rpm_hindex.specs.Whole.{IsWhole, IsWellFormed}
 use Rattle.rpm_hindex.specs.inner.Changes.{AreLinks, CanGo, CanRelink, Puts, SetsBucket, Unlinks, Stays, IsCut, changing, unit_after, is_kept, kept_of, first_at}
 use Rattle.rpm_hindex.proofs.Chains.{sound_parts}
-use Rattle.rpm_hindex.proofs.Links.{IsChain}
+use Rattle.rpm_hindex.proofs.FollowedLinks.{IsChain}
 use Rattle.rpm_hindex.proofs.Wholes.{HasChains, has_chains, places_are, sound_of, in_all, all_in}
 use Rattle.rpm_hindex.proofs.Extends.{Stands, stands_in}
 use Rattle.rpm_hindex.proofs.Drops.{chain_starts, chain_cuts, links_same}

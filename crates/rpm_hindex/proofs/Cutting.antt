@@ -11,7 +11,7 @@ use Rattle.rpm_hindex.specs.Index.{Index, is_link, next_at, units_at, row_at, ke
 use Rattle.rpm_hindex.specs.Whole.{IsWhole}
 use Rattle.rpm_hindex.specs.inner.Changes.{AreLinks, IsLink, SetsNext, UnlinksIn, Stays, first_at, kept_of}
 use Rattle.rpm_hindex.proofs.Runs.{run_same}
-use Rattle.rpm_hindex.proofs.Links.{IsChain}
+use Rattle.rpm_hindex.proofs.FollowedLinks.{IsChain}
 use Rattle.rpm_hindex.proofs.Wholes.{HasChains, chains_ok, all_are, in_all, all_in}
 use Rattle.rpm_hindex.proofs.Drops.{SameBut, has_with, sum_less, sum_without}
 use Rattle.rpm_hindex.proofs.Kept.{kept_less, is_other}

@@ -7,7 +7,7 @@ use Rattle.std.proofs.lemmas.Bool.{cases_eq, cond-true, cond-false, eq-eqb, ne_e
 use Rattle.rpm_hindex.specs.Rows.{Row}
 use Rattle.rpm_hindex.specs.Index.{Index, is_link, is_sound, next_at, units_at, row_at, bucket_of, all_places}
 use Rattle.rpm_hindex.proofs.Chains.{Sound, sound_parts}
-use Rattle.rpm_hindex.proofs.Links.{IsChain}
+use Rattle.rpm_hindex.proofs.FollowedLinks.{IsChain}
 use Rattle.rpm_hindex.proofs.Wholes.{HasChains, all_are}
 use Rattle.rpm_hindex.proofs.Extends.{sound_whole}
 use Rattle.rpm_hindex.proofs.Tallies.{sum_flat, sum_at}

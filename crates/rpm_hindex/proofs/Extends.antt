@@ -10,7 +10,7 @@ use Rattle.rpm_hindex.specs.Index.{Index, is_link, is_sound, is_placed, next_at,
 use Rattle.rpm_hindex.specs.Whole.{IsWhole}
 use Rattle.rpm_hindex.proofs.Runs.{run_same}
 use Rattle.rpm_hindex.proofs.Chains.{Sound, sound_parts}
-use Rattle.rpm_hindex.proofs.Links.{IsChain, within, behind_front, link_at}
+use Rattle.rpm_hindex.proofs.FollowedLinks.{IsChain, within, behind_front, link_at}
 use Rattle.rpm_hindex.proofs.Tallies.{sum_each}
 use Rattle.rpm_hindex.proofs.Wholes.{HasChains, has_chains, chains_ok, all_are, in_all}
 

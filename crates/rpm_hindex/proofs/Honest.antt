@@ -20,7 +20,7 @@ use Rattle.rpm_hindex.specs.Index.{Index, index_in, is_link, chain, units_at, le
 use Rattle.rpm_hindex.specs.inner.Changes.{AreLinks, CanGo, CanRelink, IsOfRow, row_of, Puts, HasWord, SetsBucket, Unlinks, UnlinksIn, changing, unit_after, is_kept, first_at, IsWithout, IsChainFault, IsHonest, if_kept}
 use Rattle.rpm_hindex.specs.Refusals.{HoldsMore, IsBad}
 use Rattle.rpm_hindex.proofs.Chains.{chain_bad}
-use Rattle.rpm_hindex.proofs.Links.{link_at, within, behind_front, chain_ok}
+use Rattle.rpm_hindex.proofs.FollowedLinks.{link_at, within, behind_front, chain_ok}
 use Rattle.rpm_hindex.proofs.Extends.{Stands, stands_in}
 use Rattle.rpm_hindex.proofs.Wholes.{flat_in}
 use Rattle.rpm_hindex.proofs.Tallies.{length_sum}

@@ -9,7 +9,7 @@ use Rattle.rpm_hindex.specs.Rows.{Row, times, same_row as same_rows}
 use Rattle.rpm_hindex.specs.Index.{Index, next_at, row_at, bucket_of, places_of, all_places, rows_of}
 use Rattle.rpm_hindex.specs.inner.Changes.{kept_of, HasLess}
 use Rattle.rpm_hindex.proofs.Chains.{sound_parts}
-use Rattle.rpm_hindex.proofs.Links.{IsChain}
+use Rattle.rpm_hindex.proofs.FollowedLinks.{IsChain}
 use Rattle.rpm_hindex.proofs.Wholes.{HasChains, in_all, sound_of}
 use Rattle.rpm_hindex.proofs.Drops.{chain_falls}
 use Rattle.rpm_hindex.proofs.Founds.{same_bucket, zeros_of}

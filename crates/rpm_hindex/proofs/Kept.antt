@@ -5,7 +5,7 @@ use Rattle.std.proofs.lemmas.List.Elements.{Contains-append_right}
 use Rattle.std.proofs.lemmas.Bool.{cases_eq, cases_Bool, eq-eqb, ne_eqb, cond-true, cond-false}
 use Rattle.rpm_hindex.specs.Index.{Index, next_at, bucket_of, row_at}
 use Rattle.rpm_hindex.proofs.Chains.{sound_parts}
-use Rattle.rpm_hindex.proofs.Links.{IsChain, sound_in}
+use Rattle.rpm_hindex.proofs.FollowedLinks.{IsChain, sound_in}
 use Rattle.rpm_hindex.proofs.Wholes.{HasChains, sound_of}
 use Rattle.rpm_hindex.proofs.Drops.{chain_falls, with_chain}
 

@@ -1,4 +1,4 @@
-mod Links
+mod FollowedLinks
 pub mod Runs
 pub mod Chains
 pub mod Packing

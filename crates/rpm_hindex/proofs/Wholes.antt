@@ -5,7 +5,7 @@ use Rattle.std.specs.List.{Contains, flat_map, range_with_len}
 use Rattle.std.proofs.lemmas.List.Elements.{Contains-append_left, Contains-append_right, Contains-append_cases}
 use Rattle.std.proofs.lemmas.Bool.{cases_eq, false≢true}
 use Rattle.rpm_hindex.specs.Index.{Index, is_link, is_sound, chain, places_of, places_in, all_places}
-use Rattle.rpm_hindex.proofs.Links.{IsChain, chain_ok, ok_chain, sound_in}
+use Rattle.rpm_hindex.proofs.FollowedLinks.{IsChain, chain_ok, ok_chain, sound_in}
 
 -- the chain of each bucket has these places
 abbrev pub HasChains : Index → (ℕ → List ℕ) → Type 0

@@ -2,7 +2,7 @@ use Rattle.std.proofs.Common.{◌%◌, ap, sym, ◌∙◌, refl, []}
 use Rattle.rpm_hindex.specs.Words.{word}
 use Rattle.rpm_hindex.specs.Index.{index_in, is_link, Index}
 use Rattle.rpm_hindex.proofs.Chains.{chain_bad}
-use Rattle.rpm_hindex.proofs.Links.{within}
+use Rattle.rpm_hindex.proofs.FollowedLinks.{within}
 use Rattle.rpm_hindex.proofs.chain.read_bucket.Goals as goal
 
 pub returns-then-not-is_link-clause-fault : goal.returns-then-not-is_link-clause-fault
