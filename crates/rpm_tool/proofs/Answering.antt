@@ -1,7 +1,6 @@
 -- What is said of a whole argument, and of all of them.
-use Rattle.std.proofs.Common.{◌≡◌, ℕ, zero, suc, ◌+◌, ◌-◌, ◌*◌, ◌<◌, ◌≤◌, ◌≢◌, Bool, true, false, if◌then◌else◌, List, [], ◌∷◌, ◌++◌, map, drop, length, Result, Ok, Err, Some, None, refl, sym, ap, ◌∙◌, subst, add-one, arith}
+use Rattle.std.proofs.Common.{◌≡◌, ℕ, zero, suc, ◌+◌, ◌*◌, ◌<◌, ◌≤◌, ◌≢◌, Bool, true, false, if◌then◌else◌, List, [], ◌∷◌, ◌++◌, map, drop, length, Result, Ok, Err, Some, refl, sym, ap, ◌∙◌, add-one, arith}
 use Rattle.std.specs.Prelude.{slice_get}
-use Rattle.std.proofs.lemmas.List.{append-nil}
 use Rattle.rpm_pkgdb.specs.Store.{Store}
 use Rattle.rpm_pkgdb.specs.Costs.{cost_all}
 use Rattle.rpm_words.specs.declared.switch.Chosen.{Chosen}
@@ -12,7 +11,7 @@ use Rattle.rpm_tool.specs.declared.step.Stop.TheVariants as stop
 use Rattle.std.proofs.Math.Nat.{mul-le-mul_right}
 use Rattle.std.proofs.Math.Seq.{drop-nil}
 use Rattle.rpm_tool.specs.declared.answer.Why.TheVariants as why
-use Rattle.rpm_tool.specs.Steps.{Bearer, whole, Step, Course, Part, before, in_turn}
+use Rattle.rpm_tool.specs.Steps.{Bearer, Course, Part, before, in_turn}
 use Rattle.rpm_tool.specs.Queries.{step_of, packages_part, missing_part, answered}
 use Rattle.rpm_tool.specs.Answers.{Outputs, Through, Reached, PartIs, ReadsIn, ReadsOf, Went, why_of, is_some_of, reach_all}
 use Rattle.rpm_tool.proofs.Reaching.{reached_reads, reached_empty}

@@ -1,7 +1,7 @@
 -- A command on the files that a disk's files stand for.
 use Rattle.std.specs.Prelude.{IsTrue, ◌↔◌}
 use Rattle.rpm_outside.specs.Causes.{Rose}
-use Rattle.std.proofs.Common.{◌≡◌, ◌≢◌, ◌⊎◌, ℕ, zero, suc, ◌+◌, ◌-◌, ◌*◌, ◌^◌, ◌<◌, ◌≤◌, Bool, true, false, List, [], ◌∷◌, map, length, max, Result, Ok, Err, refl, sym, ap, ◌∙◌, subst, inl, inr, ⊎_elim, arith}
+use Rattle.std.proofs.Common.{◌≡◌, ◌≢◌, ◌⊎◌, ℕ, zero, suc, ◌+◌, ◌-◌, ◌*◌, ◌^◌, ◌<◌, ◌≤◌, Bool, true, false, List, [], ◌∷◌, map, length, max, Result, Ok, Err, refl, sym, subst, inl, inr, ⊎_elim, arith}
 use Rattle.std.proofs.Math.Nat.{mul-le-mul_right}
 use Rattle.std.specs.Ordering.{nat_cmp}
 use Rattle.std.specs.FinMap.{FinMap}
@@ -18,9 +18,9 @@ use Rattle.rpm_select.specs.declared.selection.Selection.TheVariants as question
 use Rattle.rpm_select.specs.Selections.{picks}
 use Rattle.rpm_tool.specs.declared.answer.Why.{Why}
 use Rattle.rpm_tool.specs.declared.answer.Why.TheVariants as why
-use Rattle.rpm_tool.specs.Steps.{Bearer, Step, Course, before, idle, in_turn}
+use Rattle.rpm_tool.specs.Steps.{Bearer, Course, before, idle, in_turn}
 use Rattle.rpm_tool.specs.Queries.{step_of, packages_part, argument_part, query_of}
-use Rattle.rpm_tool.specs.Answers.{Outputs, outputs, Through, Went, Opened, Loaded, Misread, Refused, why_of_load, unless_starved, AtMost}
+use Rattle.rpm_tool.specs.Answers.{Outputs, outputs, Went, Opened, Loaded, Refused, why_of_load, unless_starved, AtMost}
 use Rattle.rpm_tool.proofs.Reaching.{through_none, within_reads}
 
 module _ (tree : Tree) (packages : FinMap nat_cmp Package) (chosen : Chosen) (after : ℕ) (f : ℕ → List ℕ) where

@@ -1,11 +1,11 @@
 -- What is said of the packages that are printed.
-use Rattle.std.proofs.Common.{◌≡◌, ◌≢◌, ℕ, ◌+◌, ◌-◌, ◌<◌, ◌≤◌, Bool, true, false, not, ◌||◌, List, [], ◌∷◌, ◌++◌, map, Result, Ok, Err, Option, Some, None, refl, sym, ap, ◌∙◌, subst, arith}
+use Rattle.std.proofs.Common.{◌≡◌, ℕ, ◌+◌, ◌-◌, ◌<◌, ◌≤◌, Bool, true, false, not, ◌||◌, List, ◌∷◌, map, Result, Ok, Err, Option, Some, None, refl, sym, ap, ◌∙◌, subst, arith}
 use Rattle.std.specs.Prelude.{IfOk, IfSome}
 use Rattle.std.specs.List.{list_any}
 use Rattle.rpm_header.specs.declared.form.HeaderFault.{HeaderFault}
 use Rattle.rpm_header.specs.Header.{Header, header}
 use Rattle.rpm_pkgdb.specs.Store.{Store}
-use Rattle.rpm_pkgdb.specs.Costs.{cost_to, cost_all, cost_to_more, cost_to-cost_all}
+use Rattle.rpm_pkgdb.specs.Costs.{cost_to, cost_to_more, cost_to-cost_all}
 use Rattle.rpm_qfparse.specs.Tree.{Tree}
 use Rattle.rpm_qfeval.specs.Meaning.{meaning}
 use Rattle.rpm_db.specs.State.{Package, Good, Bad, above}
@@ -13,7 +13,6 @@ use Rattle.rpm_select.specs.declared.picker.Picked.{Picked}
 use Rattle.rpm_select.specs.declared.picker.Picked.TheVariants as pick
 use Rattle.rpm_select.specs.Picks.{entry_in, number_in}
 use Rattle.rpm_tool.specs.declared.step.Stop.{Stop}
-use Rattle.rpm_tool.specs.declared.step.Stop.TheVariants as stop
 use Rattle.rpm_tool.specs.Steps.{Bearer, bearer, Step, bearer_of, is_out, is_bad}
 use Rattle.rpm_tool.specs.Queries.{printed, header_step, step_of}
 use Rattle.rpm_tool.specs.Answers.{Outputs, OneIs, NextIs, Reached, cost_until}

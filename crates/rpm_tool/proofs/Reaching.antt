@@ -1,5 +1,5 @@
 -- How far a list of steps was gone through.
-use Rattle.std.proofs.Common.{◌≡◌, ℕ, Bool, true, false, not, List, [], ◌∷◌, ◌++◌, Result, Ok, Err, take, refl, sym, ap, ◌∙◌, subst, append_assoc}
+use Rattle.std.proofs.Common.{◌≡◌, ℕ, Bool, true, false, List, [], ◌∷◌, ◌++◌, Result, Ok, Err, take, refl, sym, ap, ◌∙◌, subst, append_assoc}
 use Rattle.std.proofs.lemmas.List.{append-nil}
 use Rattle.std.specs.List.{flat_map}
 use Rattle.std.proofs.lemmas.Grind.{flat_map-append}
@@ -7,7 +7,7 @@ use Rattle.rpm_outside.specs.Sinks.{GainedPart}
 use Rattle.rpm_outside.specs.inner.Taken.{gained_none, gained_more}
 use Rattle.rpm_tool.specs.declared.step.Stop.{Stop}
 use Rattle.rpm_tool.specs.declared.step.Stop.TheVariants as stop
-use Rattle.rpm_tool.specs.Steps.{Bearer, Step, ToOut, ToErr, out_bytes, err_bytes, is_out, bearer_of, cut}
+use Rattle.rpm_tool.specs.Steps.{Bearer, Step, ToOut, ToErr, out_bytes, err_bytes, bearer_of, cut}
 use Rattle.rpm_tool.specs.Answers.{Outputs, outputs, StepIs, Through, ThroughSome, StoppedWithin, Reached, is_of_sink}
 
 module _ {ot et : Bool} where

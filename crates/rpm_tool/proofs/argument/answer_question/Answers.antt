@@ -1,15 +1,13 @@
-use Rattle.std.proofs.Common.{◌≡◌, ℕ, ◌+◌, ◌-◌, ◌≤◌, Bool, true, List, [], ◌∷◌, map, Ok, Err, None, refl, sym, ap, ◌∙◌, subst, arith}
+use Rattle.std.proofs.Common.{ℕ, List, subst, arith}
 use Rattle.rpm_outside.specs.Buffered.{inner}
 use Rattle.rpm_outside.specs.declared.disk.File.TheVariants.{Pkg}
 use Rattle.rpm_outside.specs.Files.{Files}
-use Rattle.rpm_outside.specs.inner.Looking.{looks_then, looks_more}
-use Rattle.rpm_db.specs.State.{Package, packages, above}
-use Rattle.rpm_db.specs.Database.{cost_to, cost_all}
-use Rattle.rpm_db.specs.inner.Laws.{cost_some}
+use Rattle.rpm_outside.specs.inner.Looking.{looks_then}
+use Rattle.rpm_db.specs.State.{Package, packages}
+use Rattle.rpm_db.specs.Database.{cost_all}
 use Rattle.rpm_select.specs.Selections.{picks}
-use Rattle.rpm_tool.specs.Steps.{Bearer, Step, whole}
-use Rattle.rpm_tool.specs.Queries.{step_of, packages_part, missing_part, answered, argument_part, picked, question_of}
-use Rattle.rpm_tool.specs.Answers.{Outputs, outputs, Reached, Through, PartIs, ReadsIn, ReadsOf, is_some_of}
+use Rattle.rpm_tool.specs.Queries.{answered}
+use Rattle.rpm_tool.specs.Answers.{outputs, PartIs, ReadsOf}
 use Rattle.rpm_tool.proofs.Answering.{part_reads}
 use Rattle.rpm_tool.proofs.argument.answer_question.Goals as goal
 

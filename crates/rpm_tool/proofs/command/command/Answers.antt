@@ -1,10 +1,9 @@
-use Rattle.std.proofs.Common.{◌≡◌, Some, None, sym, ap, ◌∙◌}
 use Rattle.rpm_db.specs.State.{packages}
 use Rattle.rpm_tool.specs.Queries.{query}
 use Rattle.rpm_outside.specs.Buffered.{inner}
 use Rattle.rpm_outside.specs.declared.disk.File.TheVariants.{Pkg}
 use Rattle.rpm_words.specs.Ask.{ask}
-use Rattle.rpm_tool.specs.Asked.{asks_format, asks, asks_unbuilt, command_in}
+use Rattle.rpm_tool.specs.Asked.{asks_format, asks, asks_unbuilt}
 use Rattle.rpm_tool.proofs.Undone.{usage_of_undone, usage_of_done, unbuilt_of_undone, unbuilt_of_done, format_of_undone, format_of_done, starved, none_asked, same_command, not_begun}
 use Rattle.rpm_tool.proofs.command.command.Goals as goal
 

@@ -1,16 +1,14 @@
-use Rattle.std.proofs.Common.{◌≡◌, ◌⊎◌, ℕ, ◌+◌, ◌-◌, ◌^◌, ◌≤◌, List, sym, ap, ◌∙◌, subst, ⊎_elim, arith}
+use Rattle.std.proofs.Common.{◌≡◌, ◌+◌, ◌≤◌, sym, ap, ◌∙◌, subst, ⊎_elim, arith}
 use Rattle.rpm_outside.specs.Buffered.{inner}
-use Rattle.rpm_outside.specs.declared.disk.File.{File}
 use Rattle.rpm_outside.specs.declared.disk.File.TheVariants.{Pkg, Idx}
 use Rattle.rpm_outside.specs.Files.{Units, Files}
 use Rattle.rpm_outside.specs.Logs.{log_state, reopened}
 use Rattle.rpm_pkgdb.specs.Store.{Store, store}
 use Rattle.rpm_group.specs.Layers.{laid_files}
 use Rattle.rpm_db.specs.State.{packages}
-use Rattle.rpm_tool.specs.declared.answer.Why.{Why}
 use Rattle.rpm_tool.specs.Steps.{Bearer, Course}
 use Rattle.rpm_tool.specs.Queries.{query}
-use Rattle.rpm_tool.specs.Answers.{outputs, Opened, Loaded, Queried, ReadsTo, AtMost, unless_starved, read_to, passes, query_cost}
+use Rattle.rpm_tool.specs.Answers.{outputs, Opened, ReadsTo, unless_starved, read_to, passes, query_cost}
 use Rattle.rpm_tool.proofs.Loading.{opened_unless, opened_reads, loaded_sound, below_reads, fault_below}
 use Rattle.rpm_tool.proofs.loaded.query_loaded.Goals as goal
 

@@ -1,15 +1,15 @@
-use Rattle.std.proofs.Common.{◌≡◌, ℕ, ◌+◌, ◌-◌, ◌<◌, ◌≤◌, ◌||◌, Bool, List, [], ◌∷◌, ◌++◌, map, Some, None, Ok, Err, refl, sym, ap, ◌∙◌, subst, arith}
+use Rattle.std.proofs.Common.{ℕ, ◌-◌, ◌<◌, ◌||◌, Bool, List, [], ◌∷◌, map, Some, None, Ok, Err, refl, sym, ap, ◌∙◌, subst, arith}
 use Rattle.std.proofs.lemmas.List.{append-nil}
 use Rattle.std.specs.List.{list_any}
 use Rattle.rpm_outside.specs.Buffered.{inner}
 use Rattle.rpm_outside.specs.declared.disk.File.TheVariants.{Pkg}
 use Rattle.rpm_outside.specs.Files.{Files}
-use Rattle.rpm_outside.specs.inner.Looking.{looks_none, looks_then, looks_more}
+use Rattle.rpm_outside.specs.inner.Looking.{looks_then}
 use Rattle.rpm_db.specs.State.{Package, packages, above}
 use Rattle.rpm_db.specs.Database.{cost_to, cost_all}
 use Rattle.rpm_db.specs.inner.Laws.{cost_some, cost_up}
 use Rattle.rpm_select.specs.Selections.{picks}
-use Rattle.rpm_tool.specs.Steps.{Bearer, Step, is_bad}
+use Rattle.rpm_tool.specs.Steps.{is_bad}
 use Rattle.rpm_tool.specs.Queries.{step_of}
 use Rattle.rpm_tool.specs.Answers.{outputs, NextIs, ReadsIn, is_some_of}
 use Rattle.rpm_tool.proofs.Reaching.{goes_more, goes_stop, goes_end, reached_reads}

@@ -1,4 +1,4 @@
-use Rattle.std.proofs.Common.{◌≡◌, ℕ, ◌+◌, ◌*◌, ◌≤◌, Bool, List, [], ◌++◌, Err, sym, subst, arith}
+use Rattle.std.proofs.Common.{◌+◌, ◌≤◌, Bool, List, Err, sym, subst}
 use Rattle.std.proofs.lemmas.List.{append-nil}
 use Rattle.rpm_outside.specs.Buffered.{inner}
 use Rattle.rpm_outside.specs.declared.disk.File.TheVariants.{Pkg}

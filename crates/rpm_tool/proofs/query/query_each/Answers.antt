@@ -1,6 +1,5 @@
-use Rattle.std.proofs.Common.{◌≡◌, ℕ, ◌+◌, ◌-◌, ◌*◌, ◌≤◌, ◌<◌, Bool, true, false, List, [], ◌∷◌, ◌++◌, map, length, Ok, Err, Some, None, refl, sym, ap, ◌∙◌, subst, arith, if◌then◌else◌}
+use Rattle.std.proofs.Common.{◌≡◌, ◌+◌, ◌*◌, ◌≤◌, Bool, length, Ok, Err, Some, refl, sym, subst, arith}
 use Rattle.std.specs.Prelude.{slice_get}
-use Rattle.std.proofs.lemmas.List.{append-nil}
 use Rattle.rpm_outside.specs.Buffered.{inner}
 use Rattle.rpm_outside.specs.declared.disk.File.TheVariants.{Pkg}
 use Rattle.rpm_outside.specs.Files.{Files}
@@ -9,9 +8,9 @@ use Rattle.rpm_db.specs.State.{packages}
 use Rattle.rpm_db.specs.Database.{cost_all}
 use Rattle.rpm_words.specs.Words.{text_at}
 use Rattle.rpm_tool.specs.declared.answer.Why.{Why}
-use Rattle.rpm_tool.specs.Steps.{Bearer, Step, Part, Course, in_turn, before, idle}
-use Rattle.rpm_tool.specs.Queries.{step_of, packages_part, argument_part}
-use Rattle.rpm_tool.specs.Answers.{outputs, PartIs, ReadsIn, ReadsOf, Reached, Went, reach_all}
+use Rattle.rpm_tool.specs.Steps.{Bearer}
+use Rattle.rpm_tool.specs.Queries.{argument_part}
+use Rattle.rpm_tool.specs.Answers.{outputs, PartIs, ReadsOf, Went, reach_all}
 use Rattle.rpm_tool.proofs.Reaching.{goes_start, goes_more, goes_stop, goes_end, reached_reads}
 use Rattle.rpm_tool.proofs.Answering.{mul_more, rest_of, turn_steps, turn_failed, turn_end, turn_none, reads_all, went_stop, went_done, went_failed, within_all, within_count, few_more}
 use Rattle.rpm_tool.proofs.query.query_each.Goals as goal

@@ -1,4 +1,4 @@
-use Rattle.std.proofs.Common.{◌≡◌, ℕ, ◌+◌, ◌*◌, ◌≤◌, map}
+use Rattle.std.proofs.Common.{◌≡◌, ◌+◌, ◌*◌, ◌≤◌}
 use Rattle.std.specs.Prelude.{IsTrue}
 use Rattle.rpm_outside.specs.Buffered.{inner, HandsOn}
 use Rattle.rpm_outside.specs.declared.disk.File.TheVariants.{Pkg}

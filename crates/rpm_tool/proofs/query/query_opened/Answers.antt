@@ -1,8 +1,7 @@
-use Rattle.std.proofs.Common.{◌≡◌, ◌≢◌, ℕ, ◌+◌, ◌*◌, ◌≤◌, max, length, List, map, sym, ◌∙◌, subst, arith}
+use Rattle.std.proofs.Common.{◌+◌, ◌*◌, ◌≤◌, length, sym, ◌∙◌, subst}
 use Rattle.rpm_outside.specs.Buffered.{inner}
 use Rattle.rpm_outside.specs.declared.disk.File.TheVariants.{Pkg}
 use Rattle.rpm_outside.specs.inner.Looking.{looks_more}
-use Rattle.std.proofs.Math.Nat.{mul-le-mul_right}
 use Rattle.rpm_db.specs.State.{packages}
 use Rattle.rpm_db.specs.Database.{cost_all}
 use Rattle.rpm_words.specs.Words.{text_at}
