@@ -13,7 +13,8 @@ kept_current : (g : ℕ) (idx : Units) (index : Option hindex.State) → is_some
 kept_current g idx None some order keeps = absurd cc
 kept_current g idx (Some s) some order keeps = sym (current_same g idx s keeps) ∙ order
 
-pub rebuilt : (old new : Files) (value : Store) (index : Option hindex.State) (stopped : Bool) → Remade old new → pkgdb.Keeps old.pkg value → is_some index ≡ true
+pub rebuilt : (old new : Files) (value : Store) (index : Option hindex.State) (stopped : Bool) → Remade old new → pkgdb.Keeps old.pkg value
+    → is_some index ≡ true
     → IsInOrder value.generation index → KeepsUnits new.idx index → IsIndexOf new.pkg new.idx
     → IsIndexed new.pkg new.idx (record { store = value; index = index; stopped = stopped })
 rebuilt old new value index stopped made keeps some order kept is = record {

@@ -74,5 +74,6 @@ none_more true all is = sym is
 none_more false all is = sym is
 
 -- reads that go on above a number
-pub reads_more : (low high before between now reach : ℕ) → low ≤ high → between ≤ before + (high - low) → now + high ≤ between + reach → now + low ≤ before + reach
+pub reads_more : (low high before between now reach : ℕ) → low ≤ high → between ≤ before + (high - low) → now + high ≤ between + reach
+    → now + low ≤ before + reach
 reads_more low high before between now reach le first second = omega (arith, le, first, second)

@@ -17,7 +17,8 @@ filter_same : {X : Type 0} (p q : X → Bool) → ((x : X) → p x ≡ q x) → 
 filter_same p q same [] = refl
 filter_same p q same (x ∷ xs) = rw (same x, filter_same p q same xs) refl
 
-module _ (s t : Selection) (header_same : (n : ℕ) (h : Header) → takes_header s n h ≡ takes_header t n h) (bad_same : (n : ℕ) → takes_bad s n ≡ takes_bad t n) where
+module _ (s t : Selection) (header_same : (n : ℕ) (h : Header) → takes_header s n h ≡ takes_header t n h) (bad_same : (n : ℕ)
+    → takes_bad s n ≡ takes_bad t n) where
   read_same : (n : ℕ) (r : Result Header HeaderFault) → takes_read s n r ≡ takes_read t n r
   read_same n (Ok h) = header_same n h
   read_same n (Err fault) = refl

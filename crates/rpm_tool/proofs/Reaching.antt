@@ -159,7 +159,8 @@ reached_empty T T' all stop.ErrFault old new P Q r = absurd (none_within r.done 
 reached_empty T T' all stop.NoMemory old new P Q r = ([], all, refl, subst (λ (d : List Step). Through d old new) (empty_done r.0 r.1 r.2) r.3)
 
 -- a stop that no sink made
-pub reached_unsunk : (T : Type 0) (all : List Step) (what : Stop) (old new : Outputs) (reads_to : Bearer → Type 0) → is_of_sink what ≡ false → Through [] old new
+pub reached_unsunk : (T : Type 0) (all : List Step) (what : Stop) (old new : Outputs) (reads_to : Bearer → Type 0) → is_of_sink what ≡ false
+    → Through [] old new
     → Reached {T = T} all (Err what) old new reads_to
 reached_unsunk T all stop.DiskFault old new reads_to is t = ([], all, refl, t)
 reached_unsunk T all stop.OutFault old new reads_to is t = absurd cc

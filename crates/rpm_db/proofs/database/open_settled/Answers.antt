@@ -54,6 +54,7 @@ returns-in-Ok-index_for-clause-durable g c = λ told.
 
 pub returns-then-is_blank-clause-durable : goal.returns-then-is_blank-clause-durable
 returns-then-is_blank-clause-durable g c = λ told.
-    still_settled g.D.Disk.tells g.D.Disk.files g.D.Disk.left_since g.D.Disk.moment g.D.Disk.bytes_read g.D.Disk.follows c.args.disk.now c.open_store.new.disk told
+    still_settled g.D.Disk.tells g.D.Disk.files g.D.Disk.left_since g.D.Disk.moment g.D.Disk.bytes_read g.D.Disk.follows c.args.disk.now
+    c.open_store.new.disk told
     (runs_looks g.D.Disk.tells g.D.Disk.files g.D.Disk.left_since g.D.Disk.moment g.D.Disk.bytes_read g.D.Disk.follows Remade remade_none Pkg _
     c.args.disk.now c.open_store.new.disk refl c.in-Ok.ensures.looks) (c.requires.pkg told)

@@ -6,7 +6,8 @@ use Rattle.rpm_db.proofs.Making.{voiding, ordered_pending}
 use Rattle.rpm_db.proofs.indexing.write_index.Goals as goal
 
 pub seal_index-requires-clause-written : goal.seal_index-requires-clause-written
-seal_index-requires-clause-written g c = ordered_pending c.rewrite.new.self.pending c.rewrite.new.self.units c.rewrite.new.self.second c.in_default.ensures.ordered
+seal_index-requires-clause-written g c = ordered_pending c.rewrite.new.self.pending c.rewrite.new.self.units c.rewrite.new.self.second
+    c.in_default.ensures.ordered
 
 pub returns-in-Ok-clause-runs : goal.returns-in-Ok-clause-runs
 returns-in-Ok-clause-runs g c =

@@ -69,7 +69,8 @@ returns-in_default-clause-stops g c = λ told.
     let void : unit_at idx 0 ≡ blank = sym (e.kept told).first ∙ e.voided in
     let keeps = ap store (e.runs.reads_as told).pkg ∙ c.requires.keeps told in
     let quiet = settled_quiet value (g.D.Disk.files b) (g.D.Disk.left_since b (g.D.Disk.moment b)) keeps
-    (still_settled g.D.Disk.tells g.D.Disk.files g.D.Disk.left_since g.D.Disk.moment g.D.Disk.bytes_read g.D.Disk.follows a b told e.runs (c.requires.pkg told)) in
+    (still_settled g.D.Disk.tells g.D.Disk.files g.D.Disk.left_since g.D.Disk.moment g.D.Disk.bytes_read g.D.Disk.follows a b told e.runs (c.requires.pkg
+    told)) in
     let made = stops_make g.D.Disk.moment g.D.Disk.left_since a b d idx void (e.runs.now told) (e.settled told) (m.images told quiet) in
     two g.D.Disk.moment g.D.Disk.left_since a b d first made
 
@@ -87,11 +88,13 @@ returns-in-Ok-seal_index-clause-stops g c = λ told.
     let void : unit_at idx 0 ≡ blank = sym (e.kept told).first ∙ e.voided in
     let keeps = ap store (e.runs.reads_as told).pkg ∙ c.requires.keeps told in
     let quiet = settled_quiet value (g.D.Disk.files b) (g.D.Disk.left_since b (g.D.Disk.moment b)) keeps
-    (still_settled g.D.Disk.tells g.D.Disk.files g.D.Disk.left_since g.D.Disk.moment g.D.Disk.bytes_read g.D.Disk.follows a b told e.runs (c.requires.pkg told)) in
+    (still_settled g.D.Disk.tells g.D.Disk.files g.D.Disk.left_since g.D.Disk.moment g.D.Disk.bytes_read g.D.Disk.follows a b told e.runs (c.requires.pkg
+    told)) in
     let made = stops_make g.D.Disk.moment g.D.Disk.left_since a b d idx void (e.runs.now told) (e.settled told) (m.images told quiet) in
     let f = c.seal_index.new.disk in
     let sealed = stops_seal g.D.Disk.moment g.D.Disk.left_since a b d f
-    (λ i here. g.met.D.Disk.earlier d (g.D.Disk.moment b) (g.D.Disk.moment d) i told made.later (omega arith) here) made (c.in-Ok-seal_index.ensures.runs.any_moment told) in
+    (λ i here. g.met.D.Disk.earlier d (g.D.Disk.moment b) (g.D.Disk.moment d) i told made.later (omega arith) here) made
+    (c.in-Ok-seal_index.ensures.runs.any_moment told) in
     two g.D.Disk.moment g.D.Disk.left_since a d f (two g.D.Disk.moment g.D.Disk.left_since a b d first made) sealed
 
 pub returns-in-Err-seal_index-clause-stops : goal.returns-in-Err-seal_index-clause-stops
@@ -108,11 +111,13 @@ returns-in-Err-seal_index-clause-stops g c = λ told.
     let void : unit_at idx 0 ≡ blank = sym (e.kept told).first ∙ e.voided in
     let keeps = ap store (e.runs.reads_as told).pkg ∙ c.requires.keeps told in
     let quiet = settled_quiet value (g.D.Disk.files b) (g.D.Disk.left_since b (g.D.Disk.moment b)) keeps
-    (still_settled g.D.Disk.tells g.D.Disk.files g.D.Disk.left_since g.D.Disk.moment g.D.Disk.bytes_read g.D.Disk.follows a b told e.runs (c.requires.pkg told)) in
+    (still_settled g.D.Disk.tells g.D.Disk.files g.D.Disk.left_since g.D.Disk.moment g.D.Disk.bytes_read g.D.Disk.follows a b told e.runs (c.requires.pkg
+    told)) in
     let made = stops_make g.D.Disk.moment g.D.Disk.left_since a b d idx void (e.runs.now told) (e.settled told) (m.images told quiet) in
     let f = c.seal_index.new.disk in
     let sealed = stops_seal g.D.Disk.moment g.D.Disk.left_since a b d f
-    (λ i here. g.met.D.Disk.earlier d (g.D.Disk.moment b) (g.D.Disk.moment d) i told made.later (omega arith) here) made (c.in-Err-seal_index.ensures.runs.any_moment told) in
+    (λ i here. g.met.D.Disk.earlier d (g.D.Disk.moment b) (g.D.Disk.moment d) i told made.later (omega arith) here) made
+    (c.in-Err-seal_index.ensures.runs.any_moment told) in
     two g.D.Disk.moment g.D.Disk.left_since a d f (two g.D.Disk.moment g.D.Disk.left_since a b d first made) sealed
 
 pub returns-in-Ok-seal_index-clause-quiet : goal.returns-in-Ok-seal_index-clause-quiet

@@ -24,11 +24,13 @@ returns-in-Requires-clause-part g c = λ j. rw c.in-Requires.is (c.put_missing-i
 
 pub returns-in-Conflicts-clause-part : goal.returns-in-Conflicts-clause-part
 unfolding missing_part
-returns-in-Conflicts-clause-part g c = λ j. rw c.in-Conflicts.is (c.put_missing-in-Conflicts.ensures.part j g.E.Sink.tells (g.E.Sink.taken (inner c.args.err.now)))
+returns-in-Conflicts-clause-part g c = λ j. rw c.in-Conflicts.is (c.put_missing-in-Conflicts.ensures.part j g.E.Sink.tells (g.E.Sink.taken (inner
+    c.args.err.now)))
 
 pub returns-in-Obsoletes-clause-part : goal.returns-in-Obsoletes-clause-part
 unfolding missing_part
-returns-in-Obsoletes-clause-part g c = λ j. rw c.in-Obsoletes.is (c.put_missing-in-Obsoletes.ensures.part j g.E.Sink.tells (g.E.Sink.taken (inner c.args.err.now)))
+returns-in-Obsoletes-clause-part g c = λ j. rw c.in-Obsoletes.is (c.put_missing-in-Obsoletes.ensures.part j g.E.Sink.tells (g.E.Sink.taken (inner
+    c.args.err.now)))
 
 pub returns-in-Trigger-clause-part : goal.returns-in-Trigger-clause-part
 unfolding missing_part
@@ -36,7 +38,8 @@ returns-in-Trigger-clause-part g c = λ j. rw c.in-Trigger.is (c.put_missing-in-
 
 pub returns-in-Directory-clause-part : goal.returns-in-Directory-clause-part
 unfolding missing_part
-returns-in-Directory-clause-part g c = λ j. rw c.in-Directory.is (c.put_missing-in-Directory.ensures.part j g.E.Sink.tells (g.E.Sink.taken (inner c.args.err.now)))
+returns-in-Directory-clause-part g c = λ j. rw c.in-Directory.is (c.put_missing-in-Directory.ensures.part j g.E.Sink.tells (g.E.Sink.taken (inner
+    c.args.err.now)))
 
 pub returns-in-Tid-clause-part : goal.returns-in-Tid-clause-part
 unfolding missing_part
@@ -44,7 +47,8 @@ returns-in-Tid-clause-part g c = λ j. rw c.in-Tid.is (c.put_missing-in-Tid.ensu
 
 pub returns-in-Recommends-clause-part : goal.returns-in-Recommends-clause-part
 unfolding missing_part
-returns-in-Recommends-clause-part g c = λ j. rw c.in-Recommends.is (c.put_missing-in-Recommends.ensures.part j g.E.Sink.tells (g.E.Sink.taken (inner c.args.err.now)))
+returns-in-Recommends-clause-part g c = λ j. rw c.in-Recommends.is (c.put_missing-in-Recommends.ensures.part j g.E.Sink.tells (g.E.Sink.taken (inner
+    c.args.err.now)))
 
 pub returns-in-Number-clause-part : goal.returns-in-Number-clause-part
 unfolding missing_part

@@ -78,13 +78,15 @@ loop-k-preserved g c =
       );
       few = rw c.count-failed.ensures (few_more c.in-Ok.fails c.loop-k.failed k inv.few);
       goes = λ told.
-          let part = subst (λ (fs : Files). PartIs (argument_part c.args.format.now (packages fs.pkg s) c.args.ask.now.chosen c.args.ask.now.after k (f word)) (Ok c.in-Ok.fails)
+          let part = subst (λ (fs : Files). PartIs (argument_part c.args.format.now (packages fs.pkg s) c.args.ask.now.chosen c.args.ask.now.after k (f
+          word)) (Ok c.in-Ok.fails)
           (outputs ot o' et e') (outputs ot o'' et e'') (ReadsOf k s between now)) (inv.looks.untouched told).same
           (rw (c.chosen.ensures, c.after.ensures, c.text_at-text.ensures) at (c.in-Ok.ensures.went told k)) in
           goes_more ot et (rest_of each f args 0).steps (rest_of each f args k).steps (each k (f word)).steps (rest_of each f args (k + 1)).steps
           o o' o'' e e' e'' (turn_steps each f args k word here) (inv.goes told) part.steps;
       count = λ told.
-          let part = subst (λ (fs : Files). PartIs (argument_part c.args.format.now (packages fs.pkg s) c.args.ask.now.chosen c.args.ask.now.after k (f word)) (Ok c.in-Ok.fails)
+          let part = subst (λ (fs : Files). PartIs (argument_part c.args.format.now (packages fs.pkg s) c.args.ask.now.chosen c.args.ask.now.after k (f
+          word)) (Ok c.in-Ok.fails)
           (outputs ot o' et e') (outputs ot o'' et e'') (ReadsOf k s between now)) (inv.looks.untouched told).same
           (rw (c.chosen.ensures, c.after.ensures, c.text_at-text.ensures) at (c.in-Ok.ensures.went told k)) in
           let total = turn_failed each f args k word here (rest_of each f args 0).failed c.loop-k.failed c.in-Ok.fails part.fails (inv.count told) in
@@ -115,7 +117,8 @@ returns-in-Err-clause-went g c = λ told.
     let before = g.D.Disk.bytes_read c.args.disk.now Pkg in
     let all = rest_of each f args 0 in
     let reads : Bearer → Type 0 = λ for. now ≤ before + reach_all s for in
-    let part = subst (λ (fs : Files). PartIs (argument_part c.args.format.now (packages fs.pkg s) c.args.ask.now.chosen c.args.ask.now.after k (f word)) (Err c.in-Err.stop)
+    let part = subst (λ (fs : Files). PartIs (argument_part c.args.format.now (packages fs.pkg s) c.args.ask.now.chosen c.args.ask.now.after k (f word)) (Err
+    c.in-Err.stop)
     (outputs ot o' et e') (outputs ot o'' et e'') (ReadsOf k s between now)) (inv.looks.untouched told).same
     (rw (c.chosen.ensures, c.after.ensures, c.text_at-text.ensures) at (c.in-Err.ensures.went told k)) in
     let old = outputs ot o et e in
@@ -133,7 +136,8 @@ returns-in-Err-clause-looks g c =
     let k = c.loop-k.k in
     looks_then g.D.Disk.tells g.D.Disk.files g.D.Disk.left_since g.D.Disk.moment g.D.Disk.bytes_read g.D.Disk.follows Pkg g.met.D.Disk.follows_trans
     (k * cost_all db) (cost_all db) (length c.args.ask.now.arguments * cost_all db) c.args.disk.now c.loop-k.disk c.answer.new.disk
-    (within_all k (length c.args.ask.now.arguments) (cost_all db) (omega (arith, c.loop-k-test.true, c.arguments-k-end.ensures))) c.loop-k.invariant.looks c.in-Err.ensures.looks
+    (within_all k (length c.args.ask.now.arguments) (cost_all db) (omega (arith, c.loop-k-test.true, c.arguments-k-end.ensures))) c.loop-k.invariant.looks
+    c.in-Err.ensures.looks
 
 pub returns-then-failed-eq0-clause-went : goal.returns-then-failed-eq0-clause-went
 returns-then-failed-eq0-clause-went g c = λ told.
@@ -153,7 +157,12 @@ returns-then-failed-eq0-clause-went g c = λ told.
     let all = rest_of each f args 0 in
     let past : length args ≤ k = omega (arith, c.loop-k-test.false, c.arguments-k-end.ensures) in
     went_done all c.loop-k.failed (outputs ot o et e) (outputs ot o' et e')
-    (λ for. g.D.Disk.bytes_read c.loop-k.disk Pkg ≤ g.D.Disk.bytes_read c.args.disk.now Pkg + reach_all s for) (omega (arith, inv.count told, turn_none each f args k past)) c.if-failed-eq0.true
+    (λ for. g.D.Disk.bytes_read c.loop-k.disk Pkg ≤ g.D.Disk.bytes_read c.args.disk.now Pkg + reach_all s for) (omega (
+      arith,
+      inv.count told,
+      turn_none each
+          f args k past,
+    )) c.if-failed-eq0.true
     (goes_end ot et all.steps (rest_of each f args k).steps o o' e e' (turn_end each f args k past) (inv.goes told))
 
 pub returns-then-failed-eq0-clause-looks : goal.returns-then-failed-eq0-clause-looks
@@ -182,7 +191,12 @@ returns-else-failed-eq0-clause-went g c = λ told.
     let all = rest_of each f args 0 in
     let past : length args ≤ k = omega (arith, c.loop-k-test.false, c.arguments-k-end.ensures) in
     went_failed all c.loop-k.failed (outputs ot o et e) (outputs ot o' et e')
-    (λ for. g.D.Disk.bytes_read c.loop-k.disk Pkg ≤ g.D.Disk.bytes_read c.args.disk.now Pkg + reach_all s for) (omega (arith, inv.count told, turn_none each f args k past)) c.if-failed-eq0.false
+    (λ for. g.D.Disk.bytes_read c.loop-k.disk Pkg ≤ g.D.Disk.bytes_read c.args.disk.now Pkg + reach_all s for) (omega (
+      arith,
+      inv.count told,
+      turn_none each
+          f args k past,
+    )) c.if-failed-eq0.false
     (goes_end ot et all.steps (rest_of each f args k).steps o o' e e' (turn_end each f args k past) (inv.goes told))
 
 pub returns-else-failed-eq0-clause-looks : goal.returns-else-failed-eq0-clause-looks
