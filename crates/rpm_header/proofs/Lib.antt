@@ -1,4 +1,5 @@
 pub mod Again
+pub mod Begins
 pub mod Bools
 pub mod Counted
 pub mod Cut
@@ -14,6 +15,7 @@ pub mod NumbersAgain
 pub mod Opened
 pub mod Own
 pub mod Packing
+pub mod Placed
 pub mod Region
 pub mod Repacked
 pub mod Stored

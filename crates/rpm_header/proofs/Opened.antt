@@ -7,7 +7,7 @@ use Rattle.std.proofs.lemmas.Bool.{cases_eq, ltb-false}
 use Rattle.rpm_header.specs.declared.form.HeaderFault.{HeaderFault}
 use Rattle.rpm_header.specs.declared.form.HeaderFault.TheVariants.{Short, TooManyEntries, TooMuchData}
 use Rattle.rpm_header.specs.Bytes.{number_at, each_below}
-use Rattle.rpm_header.specs.Header.{Item, Header, header, header_of, entries, fault_at, first, unless}
+use Rattle.rpm_header.specs.Header.{Item, Header, header, header_of, entries, fault_at, first, unless, IsOwn}
 use Rattle.rpm_header.specs.inner.Checked.{IsCut, IsSound}
 use Rattle.rpm_header.proofs.Cut.{is_cut}
 use Rattle.rpm_header.proofs.Each.{length-entries}
@@ -74,3 +74,18 @@ fits h n blob own number is =
       few = omega (arith, o.sound.cut.few);
       small = omega (arith, o.sound.cut.whole, o.sound.cut.small, ap length own);
     }
+
+-- own bytes keep what a view keeps, and are its header
+pub own_sound : (bytes : List ℕ) → IsOwn bytes → IsSound (number_at w32 bytes 0) bytes
+    × (header bytes ≡ Ok (record { blob = bytes; entries = entries (number_at w32 bytes 0) bytes }))
+own_sound bytes (h, is, own) =
+    let o = opened h (subst (λ (b : List ℕ). header b ≡ Ok h) (sym own) is) in
+    let number : length h.entries ≡ number_at w32 bytes 0 = sym o.sound.cut.front ∙ ap (λ (b : List ℕ). number_at w32 b 0) own in
+    let items : h.entries ≡ entries (number_at w32 bytes 0) bytes = o.same ∙ ap (λ (n : ℕ). entries n h.blob) number
+    ∙ ap (λ (b : List ℕ). entries (number_at w32 bytes 0) b) own in
+    let first : h ≡ record { blob = bytes; entries = h.entries } = ap (λ (b : List ℕ). record { blob = b; entries = h.entries }) own in
+    let whole : h ≡ record { blob = bytes; entries = entries (number_at w32 bytes 0) bytes } = first
+    ∙ ap (λ (es : List Item). record { blob = bytes; entries = es }) items in (
+      subst (λ (b : List ℕ). IsSound (number_at w32 bytes 0) b) own (subst (λ (n : ℕ). IsSound n h.blob) number o.sound),
+      is ∙ ap (λ (x : Header). Ok x) whole,
+    )

@@ -35,7 +35,7 @@ is_there true n e = refl
 is_there false n e = absurd cc
 
 -- a text stands with its zero byte
-splits_stored : (bytes first rest : List ℕ) → Splits bytes first rest → bytes ≡ first ++ 0 ∷ rest
+pub splits_stored : (bytes first rest : List ℕ) → Splits bytes first rest → bytes ≡ first ++ 0 ∷ rest
 splits_stored bytes first rest s =
     let within : position_or_len is_zero bytes < length bytes =
     ltb-true (position_or_len is_zero bytes) (length bytes)

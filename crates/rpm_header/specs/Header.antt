@@ -243,3 +243,7 @@ header bytes =
     else if nat_lt max_data dl then Err TooMuchData
     else if nat_lt (length bytes) (8 + 16 * il + dl) then Err Short
     else header_of il (take (8 + 16 * il + dl) bytes)
+
+-- a header's own bytes, without what follows them
+abbrev pub IsOwn : List ℕ → Type 0
+IsOwn bytes = (h : Header) × (header bytes ≡ Ok h) × (h.blob ≡ bytes)

@@ -2,4 +2,5 @@
 pub mod Checked
 pub mod Longer
 pub mod Packed
+pub mod Placed
 pub mod Zeros

@@ -1,6 +1,6 @@
 //! One entry of a header, and its elements.
 
-ghost use Rattle.std.specs.Prelude.{◌≡◌, ◌≢◌, ℕ, ◌+◌, ◌*◌, ◌≤◌, ◌<◌, length, IsTrue, Some, slice_get, drop, None};
+ghost use Rattle.std.specs.Prelude.{◌≡◌, ◌≢◌, ℕ, ◌+◌, ◌*◌, ◌≤◌, ◌<◌, length, IsTrue, Some, slice_get, take, drop, None};
 ghost use Rattle.std.specs.Iterator.{YieldsFirstRef, item_count};
 ghost use Rattle.rpm_header.specs.Header.{has_numbers, has_texts, numbers_of, texts_of, bytes_of, IsWhole, form_fault, values, entry_of, index_entry, section_of};
 ghost use Rattle.rpm_header.specs.inner.Checked.{HasRoom, IsInside, IsSound};
@@ -104,13 +104,14 @@ impl<'a> Entry<'a> {
         }
     }
 
-    /// All texts by place, to be read in any order. Counts the zeros of their bytes once, and keeps
-    /// these numbers in the room.
-    pub fn places<'p>(&self, room: &'p mut PlacesRoom) -> TextPlaces<'p, 'a>
-        requires { IsTrue (has_texts self.now.form) }
-        ensures { result ≡ texts_of self.now.values }
+    /// The first so many texts by place, to be read in any order. Reads their bytes twice at most,
+    /// and keeps in the room what it learns of where they stand.
+    pub fn places<'p>(&self, first: u32, room: &'p mut PlacesRoom) -> TextPlaces<'p, 'a>
+        requires texts { IsTrue (has_texts self.now.form) }
+        requires within { first ≤ self.now.count }
+        ensures { result ≡ take first (texts_of self.now.values) }
     {
-        TextPlaces::new(self.count, self.bytes, room)
+        TextPlaces::new(first, self.bytes, room)
     }
 
     /// The bytes of a `Bin`, borrowed from the header. Reads none of them.

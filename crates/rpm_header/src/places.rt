@@ -1,23 +1,24 @@
 //! Texts by place, in any order.
 
-ghost use Rattle.std.specs.Prelude.{◌≡◌, ℕ, ◌*◌, ◌≤◌, ◌<◌, true, length, Some, is_some, slice_get, slice_index, take};
+ghost use Rattle.std.specs.Prelude.{◌≡◌, ℕ, ◌-◌, ◌*◌, ◌≤◌, ◌<◌, true, length, Some, is_some, slice_get, slice_index, take, drop};
 ghost use Rattle.std.specs.List.{position, before_first, after_first};
 ghost use Rattle.rpm_header.specs.Bytes.{are_ended, texts, is_zero};
 ghost use Rattle.rpm_header.specs.Header.{max_data};
 ghost use Rattle.rpm_header.specs.inner.Zeros.{zeros, skipped, AreCounted};
+ghost use Rattle.rpm_header.specs.inner.Placed.{IsPlaced};
 
 use crate::bytes::{next_text, skip_texts};
-use crate::zeros::{between, has_end_near, look_for_ends, pass_blocks, zeros_in};
+use crate::zeros::{between, has_end_near, look_for_ends, pass_blocks, pass_parts, zeros_in};
 use std::marker::Model;
 
 /// So many numbers of zeros are kept at most.
-const SUMS: usize = 32768;
+const SUMS: usize = 131072;
 
-/// Room for the numbers that a `TextPlaces` keeps, 128 KiB: a frame that has it pays for as many
+/// Room for the numbers that a `TextPlaces` keeps, 512 KiB: a frame that has it pays for as many
 /// zeros. Contracts say nothing of it.
 #[derive(Drop)]
 pub struct PlacesRoom {
-    sums: Option<[u32; 32768]>,
+    sums: Option<[u32; 131072]>,
 }
 
 impl PlacesRoom {
@@ -27,43 +28,72 @@ impl PlacesRoom {
 
     /// So many zeros.
     fn zeroed(&mut self, n: usize) -> &mut [u32]
-        requires { n ≤ 32768 }
+        requires { n ≤ 131072 }
         ensures { length result.now ≡ n }
     {
         &mut self.sums.insert([0; SUMS])[..n]
     }
 }
 
-/// The texts of an entry, to be read in any order. Contracts see it as the list of them. It keeps
-/// how many zero bytes stand in front of each of at most 32,767 strides, so that what is read to
-/// find where a text begins is at most one stride, 2,049 bytes; the same for where it ends.
+/// What the numbers that are kept say of the texts.
+#[derive(Clone, Copy)]
+enum Kept {
+    /// Where each text begins, and where the last one ends.
+    Begins,
+    /// How many zero bytes stand in front of each stride of so many bytes.
+    Zeros(usize),
+}
+
+/// The texts of an entry, to be read in any order. Contracts see it as the list of them. Of fewer
+/// than 131,072 texts it keeps where each begins. Of more it keeps how many zero bytes stand in front
+/// of each of at most 131,071 strides, so that what is read to find where a text begins is at most
+/// one stride, 513 bytes; the same for where it ends.
 #[derive(Drop)]
 pub struct TextPlaces<'p, 'a> {
     count: u32,
     bytes: &'a [u8],
-    stride: usize,
-    sums: &'p [u32],
+    kept: Kept,
+    numbers: &'p [u32],
 }
 
 impl<'p, 'a> Model for TextPlaces<'p, 'a> {
     ghost use Rattle.std.specs.Prelude.{List, ℕ};
     ghost use Rattle.rpm_header.specs.Bytes.{texts};
-    ghost use Rattle.rpm_header.specs.inner.Zeros.{IsPlaced};
+    ghost use Rattle.rpm_header.specs.inner.Placed.{IsPlaced};
 
     ghost Value = { List (List ℕ) };
 
     ghost view = { λ s. texts s.count s.bytes.now };
 
-    ghost invariant = { λ s. IsPlaced s.count s.bytes.now s.stride s.sums.now };
+    ghost invariant = { λ s. IsPlaced s.count s.bytes.now s.kept s.numbers.now };
 }
 
-/// A stride of which fewer than 32,767 reach the end of so many bytes.
+/// A stride of which fewer than 131,071 reach the end of so many bytes.
 fn stride_for(len: usize) -> usize
     requires { len ≤ max_data }
-    ensures wide { len < 32767 * result }
-    ensures small { result ≤ 2049 }
+    ensures wide { len < 131071 * result }
+    ensures small { result ≤ 513 }
 {
     (len / (SUMS - 1) + 1).max(64)
+}
+
+/// Where each text begins, and where the last one ends. Reads each byte once.
+fn list_begins(begins: &mut [u32], bytes: &[u8])
+    requires few { length bytes.now ≤ max_data }
+    requires some { 0 < length begins.old }
+    requires ended { are_ended (length begins.old - 1) bytes.now ≡ true }
+    ensures size { length begins.new ≡ length begins.old }
+    ensures within { (k : ℕ) → k < length begins.old → slice_index begins.new k ≤ length bytes.now }
+    ensures each { (k : ℕ) → k < length begins.old → drop (slice_index begins.new k) bytes.now ≡ skipped k bytes.now }
+{
+    let count = begins.len() - 1;
+    let mut rest = bytes;
+    for k in 0..count {
+        begins[k] = (bytes.len() - rest.len()) as u32;
+        let (_, others) = next_text(rest);
+        rest = others;
+    }
+    begins[count] = (bytes.len() - rest.len()) as u32;
 }
 
 /// How many zero bytes stand in front of each stride. Reads each byte once.
@@ -102,8 +132,9 @@ fn stride_before(sums: &[u32], count: u32) -> usize
     low
 }
 
-/// What stands behind so many texts. Reads the bytes of one stride at most.
-fn behind<'a>(bytes: &'a [u8], stride: usize, sums: &[u32], count: u32) -> &'a [u8]
+/// What stands behind so many texts, by the zeros in front of strides. Reads the bytes of one stride
+/// at most.
+fn behind_strides<'a>(bytes: &'a [u8], stride: usize, sums: &[u32], count: u32) -> &'a [u8]
     requires counted { AreCounted bytes.now stride sums.now }
     requires ended { count ≤ zeros bytes.now }
     ensures { result.now ≡ skipped count bytes.now }
@@ -112,8 +143,21 @@ fn behind<'a>(bytes: &'a [u8], stride: usize, sums: &[u32], count: u32) -> &'a [
         return bytes;
     }
     let k = stride_before(sums, count);
-    let (left, rest) = pass_blocks(count - sums[k], &bytes[k * stride..]);
+    let (in_block, block) = pass_blocks(count - sums[k], &bytes[k * stride..]);
+    let (left, rest) = pass_parts(in_block, block);
     skip_texts(left, rest)
+}
+
+/// What stands behind so many of all texts. Reads the bytes of one stride at most.
+fn behind<'a>(all: u32, bytes: &'a [u8], kept: Kept, numbers: &[u32], count: u32) -> &'a [u8]
+    requires placed { IsPlaced all bytes.now kept numbers.now }
+    requires within { count ≤ all }
+    ensures { result.now ≡ skipped count bytes.now }
+{
+    match kept {
+        Kept::Begins => &bytes[numbers[count as usize] as usize..],
+        Kept::Zeros(stride) => behind_strides(bytes, stride, numbers, count),
+    }
 }
 
 /// The first text, where the others stand behind its zero byte. Reads none of them.
@@ -126,8 +170,25 @@ fn in_front<'a>(bytes: &'a [u8], others: &[u8]) -> &'a [u8]
 }
 
 impl<'p, 'a> TextPlaces<'p, 'a> {
+    /// Reads the bytes of the texts once.
+    fn listed(count: u32, bytes: &'a [u8], room: &'p mut PlacesRoom) -> TextPlaces<'p, 'a>
+        requires ended { are_ended count bytes.now ≡ true }
+        requires few { length bytes.now ≤ max_data }
+        requires room { count < 131072 }
+        ensures { result ≡ texts count bytes.now }
+    {
+        let begins = room.zeroed(count as usize + 1);
+        list_begins(begins, bytes);
+        TextPlaces {
+            count,
+            bytes,
+            kept: Kept::Begins,
+            numbers: begins,
+        }
+    }
+
     /// Reads the bytes of the texts twice, 64 at a time.
-    pub(crate) fn new(count: u32, bytes: &'a [u8], room: &'p mut PlacesRoom) -> TextPlaces<'p, 'a>
+    fn counted(count: u32, bytes: &'a [u8], room: &'p mut PlacesRoom) -> TextPlaces<'p, 'a>
         requires ended { are_ended count bytes.now ≡ true }
         requires few { length bytes.now ≤ max_data }
         ensures { result ≡ texts count bytes.now }
@@ -139,8 +200,21 @@ impl<'p, 'a> TextPlaces<'p, 'a> {
         TextPlaces {
             count,
             bytes,
-            stride,
-            sums,
+            kept: Kept::Zeros(stride),
+            numbers: sums,
+        }
+    }
+
+    /// Reads the bytes of the texts twice at most.
+    pub(crate) fn new(count: u32, bytes: &'a [u8], room: &'p mut PlacesRoom) -> TextPlaces<'p, 'a>
+        requires ended { are_ended count bytes.now ≡ true }
+        requires few { length bytes.now ≤ max_data }
+        ensures { result ≡ texts count bytes.now }
+    {
+        if (count as usize) < SUMS {
+            TextPlaces::listed(count, bytes, room)
+        } else {
+            TextPlaces::counted(count, bytes, room)
         }
     }
 
@@ -150,11 +224,12 @@ impl<'p, 'a> TextPlaces<'p, 'a> {
         requires { i < length self.now }
         ensures { slice_get self.now i ≡ Some result.now }
     {
-        let from = behind(self.bytes, self.stride, self.sums, i);
+        let from = behind(self.count, self.bytes, self.kept, self.numbers, i);
         if has_end_near(from) {
             let (text, _) = next_text(from);
             return text;
         }
-        in_front(from, behind(self.bytes, self.stride, self.sums, i + 1))
+        let others = behind(self.count, self.bytes, self.kept, self.numbers, i + 1);
+        in_front(from, others)
     }
 }

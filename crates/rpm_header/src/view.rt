@@ -1,7 +1,7 @@
 //! A header that was checked, over its own bytes.
 
 ghost use Rattle.std.specs.Prelude.{◌≡◌, ℕ, ◌+◌, ◌*◌, ◌≤◌, ◌<◌, length, map, Some, None, Ok, IfOk, take, slice_get};
-ghost use Rattle.rpm_header.specs.Header.{max_blob, max_entries, header, header_of, last_of, fault_at};
+ghost use Rattle.rpm_header.specs.Header.{max_blob, max_entries, header, header_of, last_of, fault_at, IsOwn};
 ghost use Rattle.rpm_header.specs.inner.Checked.{IsCut};
 
 use crate::bytes::u32_at;
@@ -61,6 +61,18 @@ impl<'a> View<'a> {
             return Err(HeaderFault::Short);
         }
         View::checked(il, &blob[..whole])
+    }
+
+    /// The header whose own bytes these are, as an earlier [`parse`](View::parse) of them found it. They aren't checked again: it reads
+    /// four of them.
+    pub fn of_checked(blob: &'a [u8]) -> View<'a>
+        requires { IsOwn blob.now }
+        ensures { header blob.now ≡ Ok result }
+    {
+        View {
+            blob,
+            count: u32_at(blob, 0),
+        }
     }
 
     fn checked(il: u32, blob: &'a [u8]) -> Result<View<'a>, HeaderFault>

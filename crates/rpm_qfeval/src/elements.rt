@@ -3,6 +3,7 @@
 ghost use Rattle.std.specs.Prelude.{◌≡◌, decimal, None};
 ghost use Rattle.std.specs.List.{concat};
 ghost use Rattle.rpm_outside.specs.Sinks.{Writes};
+ghost use Rattle.rpm_tags.specs.Value.{count_of};
 ghost use Rattle.rpm_qfeval.specs.Padded.{padded};
 ghost use Rattle.rpm_qfeval.specs.Formatters.{number_text, text_text, blob_text, shown, or_none};
 ghost use Rattle.rpm_qfeval.specs.Meaning.{value_text, tag_text};
@@ -99,21 +100,21 @@ pub fn put_text<O: Sink>(
     }
 }
 
-/// Puts a text, whose bytes stand side by side, of a value that has so many elements.
+/// Puts a text of a value, whose bytes stand side by side.
 pub fn put_stored_text<O: Sink>(
     sink: &mut O,
     part: &TagPart,
-    count: u32,
+    value: &TagValue<'_>,
     text: &[u8],
 ) -> Result<(), Failed>
     ensures { Writes O.tells O.taken O.faults O.follows sink.old sink.new
-        (padded part.now.left part.now.width (text_text part.now.show count text.now)) result }
+        (padded part.now.left part.now.width (text_text part.now.show (count_of value.now) text.now)) result }
 {
     match part.show {
         Show::Plain => put_plain(sink, part, text),
         Show::Shescape => put_padded(sink, part.left, part.width, &Shown::QuotedBytes(text)),
         Show::Base64 => put_plain(sink, part, b"(not a blob)"),
-        Show::Arraysize => put_decimal(sink, part, count as u64),
+        Show::Arraysize => put_decimal(sink, part, value.count() as u64),
         _ => put_plain(sink, part, b"(not a number)"),
     }
 }

@@ -15,6 +15,7 @@ use rpm_qfparse::TagPart;
 use rpm_tags::{Tag, value};
 
 /// Whether the column of what is asked for is at a place.
+#[inline(always)]
 fn is_at(columns: &[Option<Column<'_, '_>>], k: usize, asked: Asked) -> bool
     ensures within { result ≡ true → k < length columns.now }
     ensures tag { result ≡ true → IsOf columns.now k asked.tag }
@@ -29,6 +30,8 @@ fn is_at(columns: &[Option<Column<'_, '_>>], k: usize, asked: Asked) -> bool
 }
 
 /// Where the column of what is asked for is, of all columns.
+#[cold]
+#[inline(never)]
 fn find(columns: &[Option<Column<'_, '_>>], asked: Asked) -> Option<usize>
     ensures within { IfSome result (λ k. k < length columns.now) }
     ensures tag { IfSome result (λ k. IsOf columns.now k asked.tag) }
@@ -42,7 +45,9 @@ fn find(columns: &[Option<Column<'_, '_>>], asked: Asked) -> Option<usize>
 }
 
 /// Where the column of what is asked for is. It is looked for at a place first, which becomes the one
-/// behind it: the parts of a bracket ask for its columns in their order.
+/// behind it: the parts of a bracket ask for its columns in their order. Each element of a bracket
+/// comes by here.
+#[inline(always)]
 fn place_of(columns: &[Option<Column<'_, '_>>], next: &mut usize, asked: Asked) -> Option<usize>
     ensures within { IfSome result (λ k. k < length columns.now) }
     ensures tag { IfSome result (λ k. IsOf columns.now k asked.tag) }

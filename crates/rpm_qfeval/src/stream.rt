@@ -73,10 +73,7 @@ impl<'v, 'a> Stream<'v, 'a> {
         }
         match self.present {
             None => put_element(sink, part, self.value, place),
-            Some(text) => {
-                let count = self.value.count();
-                put_stored_text(sink, part, count, text)
-            }
+            Some(text) => put_stored_text(sink, part, self.value, text),
         }
     }
 }

@@ -36,7 +36,7 @@ fn put_with<O: Sink, const N: usize>(
     put_over(sink, inner, view, number, columns.as_mut_slice())
 }
 
-/// A bracket with room for the places of directories, which costs 128 KiB of zeros.
+/// A bracket with room for the places of directories, which costs 512 KiB of zeros.
 #[cold]
 #[inline(never)]
 fn put_far<O: Sink>(

@@ -1,5 +1,6 @@
 pub mod Beside
 pub mod Ahead
+pub mod Asked
 pub mod Decimal
 pub mod NamedAgain
 pub mod Parts

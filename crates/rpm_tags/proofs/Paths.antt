@@ -28,11 +28,11 @@ one_below limit xs i j n next at below = rw (drop_at xs i j n next at, below) re
 pub one_above : (limit : ℕ) (xs : List ℕ) (i n : ℕ) → slice_get xs i ≡ Some n → nat_lt n limit ≡ false → list_all (λ k. nat_lt k limit) (drop i xs) ≡ false
 one_above limit xs i n at above = rw (drop_at xs i (i + 1) n refl at, above) refl
 
-and_first : (a b : Bool) → (a && b) ≡ true → a ≡ true
+pub and_first : (a b : Bool) → (a && b) ≡ true → a ≡ true
 and_first true b both = refl
 and_first false b both = absurd cc
 
-and_second : (a b : Bool) → (a && b) ≡ true → b ≡ true
+pub and_second : (a b : Bool) → (a && b) ≡ true → b ≡ true
 and_second true b both = both
 and_second false b both = absurd cc
 

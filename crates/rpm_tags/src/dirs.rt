@@ -141,9 +141,9 @@ impl<'v, 'a> Directories<'v, 'a> {
     }
 
     /// The directory of an index. Reads nothing where it is among the 16 that are kept; else the
-    /// directories from the furthest one on that was read, or, where it is in front of that, two
-    /// strides of a 32,767th of all of them at most, and the first time all of them twice. Without
-    /// room it reads all of them up to its own.
+    /// directories from the furthest one on that was read, or, where it is in front of that, 513 bytes
+    /// at most to find where it begins and as many for where it ends, and the first time all of them
+    /// twice at most. Without room it reads all of them up to its own.
     pub fn dir(&mut self, index: u64) -> &'a [u8]
         requires { index < length self.old }
         ensures value { slice_get self.old index ≡ Some result.now }

@@ -1,10 +1,11 @@
 //! The paths of a package's files.
 
-ghost use Rattle.std.specs.Prelude.{◌≡◌, ℕ, ◌<◌, ◌≤◌, length, Some, slice_get, nat_lt, All};
+ghost use Rattle.std.specs.Prelude.{◌≡◌, ℕ, ◌<◌, ◌≤◌, length, Some, slice_get, nat_lt, false, MatchOption};
 ghost use Rattle.std.specs.Iterator.{YieldsFirstBy, item_count};
 ghost use Rattle.std.specs.List.{concat, list_all};
 ghost use Rattle.rpm_tags.specs.Value.{filenames, are_matched, file_name, texts_in, numbers_in};
 ghost use Rattle.rpm_header.specs.Header.{max_data};
+ghost use Rattle.rpm_tags.specs.inner.Rows.{AreAsked};
 ghost use Rattle.rpm_tags.specs.Numbers.{DIRINDEXES, BASENAMES, DIRNAMES};
 
 use crate::dirs::{Directories, go_back};
@@ -122,34 +123,43 @@ impl<'v, 'a> Iterator for FileIter<'v, 'a> {
     }
 }
 
-fn are_below(indexes: &Numbers<'_>, limit: u32) -> bool
-    ensures { result ≡ list_all (λ index. nat_lt index limit) indexes.now }
+/// The highest of some numbers.
+fn highest(numbers: &Numbers<'_>) -> u64
+    ensures { (limit : ℕ) → list_all (λ number. nat_lt number limit) numbers.now ≡ nat_lt result limit }
 {
-    for i in 0..indexes.count() {
-        if indexes.number(i) >= limit as u64 {
-            return false;
-        }
+    let count = numbers.count();
+    let mut high = numbers.number(0);
+    for i in 1..count {
+        high = high.max(numbers.number(i));
     }
-    true
+    high
 }
 
-pub fn are_matched(dirs: &Texts<'_>, indexes: &Numbers<'_>, bases: &Texts<'_>) -> bool
-    ensures { result ≡ are_matched dirs.now indexes.now bases.now }
+/// The directories up to the last that a file asks for; None where a file has no index, or an index
+/// no directory. Reads each index once.
+pub fn asked_for<'a>(dirs: Texts<'a>, indexes: &Numbers<'_>, bases: &Texts<'_>) -> Option<Texts<'a>>
+    ensures { MatchOption result
+        (are_matched dirs.entry indexes.now bases.now ≡ false)
+        (λ asked. AreAsked dirs.entry asked indexes.now bases.now) }
 {
-    bases.count() == indexes.count() && are_below(indexes, dirs.count())
+    let high = highest(indexes);
+    if bases.count() == indexes.count() && high < dirs.count() as u64 {
+        Some(dirs.first(high as u32 + 1))
+    } else {
+        None
+    }
 }
 
 fn files_of<'a>(dirs: Texts<'a>, indexes: Numbers<'a>, bases: Texts<'a>) -> Option<Files<'a>>
     ensures { result ≡ filenames (Some dirs.entry) (Some indexes.entry) (Some bases.entry) }
 {
-    if are_matched(&dirs, &indexes, &bases) {
-        Some(Files {
+    match asked_for(dirs, &indexes, &bases) {
+        None => None,
+        Some(dirs) => Some(Files {
             dirs,
             indexes,
             bases,
-        })
-    } else {
-        None
+        }),
     }
 }
 

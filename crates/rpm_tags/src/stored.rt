@@ -129,13 +129,26 @@ impl<'a> Texts<'a> {
         self.entry.text(i)
     }
 
-    /// The texts by place, to be read in any order. Counts the zeros of their bytes once, and keeps
-    /// these numbers in the room.
-    pub fn places<'p>(&self, room: &'p mut PlacesRoom) -> TextPlaces<'p, 'a>
-        ensures { take (length self.now) result ≡ self.now }
+    /// The first so many of them.
+    pub fn first(self, count: u32) -> Texts<'a>
+        requires some { 0 < count }
+        requires within { count ≤ length self }
+        ensures { result ≡ take count self.entry }
     {
         let _ = self.entry.count();
-        self.entry.places(room)
+        Texts {
+            entry: self.entry,
+            count,
+        }
+    }
+
+    /// The texts by place, to be read in any order. Reads their bytes twice at most, and keeps in the
+    /// room what it learns of where they stand.
+    pub fn places<'p>(&self, room: &'p mut PlacesRoom) -> TextPlaces<'p, 'a>
+        ensures { result ≡ self.now }
+    {
+        let _ = self.entry.count();
+        self.entry.places(self.count, room)
     }
 
     /// All texts in order. Going through them reads each byte once.

@@ -115,8 +115,10 @@ impl<'a> TagValue<'a> {
     /// All texts in order, each as `text` gives it. Going through them reads each byte of a stored
     /// text once. Of FILENAMES it reads each name once, and each directory once where files ask for
     /// new directories in order and for earlier ones not long after: the furthest one and 16 others
-    /// are kept. For any other directory it looks where it begins and ends, in the room, which
-    /// reads 4 KiB at most, however long the directory is; the first time all of them twice.
+    /// are kept. For any other directory it looks in the room where it begins and ends. Of fewer than
+    /// 131,072 directories, up to the last that a file asks for, the room has that; of more it has it
+    /// nearly, and 513 bytes at most are read for each of both, however long the directory is. The
+    /// first time all of them are read twice at most.
     ///
     /// How many files a header of 64 MiB can have that each ask for a directory far from the others:
     /// with indexes of four bytes, which may be names and directories at once, 16.8 million; with

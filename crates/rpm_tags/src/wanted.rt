@@ -6,7 +6,7 @@ ghost use Rattle.rpm_tags.specs.Value.{file_name, file_names, filenames, are_mat
 ghost use Rattle.rpm_tags.specs.Wanted.{base_name, counts_for, any_counts_for, has_file, is_slash};
 
 use crate::dirs::{Directories, go_back};
-use crate::files::are_matched;
+use crate::files::asked_for;
 use crate::numbers::{BASENAMES, DIRINDEXES, DIRNAMES};
 use crate::stored::{Numbers, Texts, numbers_in, texts_in};
 use rpm_header::{PlacesRoom, View};
@@ -84,16 +84,17 @@ fn is_any_far(dirs: &Texts<'_>, indexes: &Numbers<'_>, bases: &Texts<'_>, path: 
     )
 }
 
-fn is_any_in(dirs: &Texts<'_>, indexes: &Numbers<'_>, bases: &Texts<'_>, path: &[u8]) -> bool
-    ensures { result ≡ any_counts_for path.now (filenames (Some dirs.now) (Some indexes.now) (Some bases.now)) (Some bases.now) }
+fn is_any_in(dirs: Texts<'_>, indexes: &Numbers<'_>, bases: &Texts<'_>, path: &[u8]) -> bool
+    ensures { result ≡ any_counts_for path.now (filenames (Some dirs.entry) (Some indexes.now) (Some bases.now)) (Some bases.now) }
 {
-    if !are_matched(dirs, indexes, bases) {
-        return false;
-    }
+    let dirs = match asked_for(dirs, indexes, bases) {
+        None => return false,
+        Some(dirs) => dirs,
+    };
     if go_back(indexes) {
-        return is_any_far(dirs, indexes, bases, path);
+        return is_any_far(&dirs, indexes, bases, path);
     }
-    is_any_at(&mut Directories::new(dirs, None), indexes, bases, path)
+    is_any_at(&mut Directories::new(&dirs, None), indexes, bases, path)
 }
 
 /// Whether an element of FILENAMES is this path, and its name is what follows the path's last slash. Reads each name once, and
@@ -107,7 +108,7 @@ pub fn has_file(view: &View<'_>, path: &[u8]) -> bool
         numbers_in(view, DIRINDEXES),
         texts_in(view, BASENAMES),
     ) {
-        (Some(dirs), Some(indexes), Some(bases)) => is_any_in(&dirs, &indexes, &bases, path),
+        (Some(dirs), Some(indexes), Some(bases)) => is_any_in(dirs, &indexes, &bases, path),
         _ => false,
     }
 }

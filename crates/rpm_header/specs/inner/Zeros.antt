@@ -1,7 +1,7 @@
 -- How many zero bytes stand in a list of bytes.
-use Rattle.std.specs.Prelude.{◌≡◌, ℕ, zero, suc, ◌*◌, ◌≤◌, ◌<◌, List, length, take, drop, true, count_by, slice_index}
+use Rattle.std.specs.Prelude.{◌≡◌, ℕ, zero, suc, ◌*◌, ◌≤◌, ◌<◌, List, length, take, drop, count_by, slice_index}
 use Rattle.std.specs.List.{after_first}
-use Rattle.rpm_header.specs.Bytes.{is_zero, are_ended}
+use Rattle.rpm_header.specs.Bytes.{is_zero}
 use Rattle.rpm_header.specs.Header.{max_data}
 
 -- how many of the bytes are zero
@@ -26,8 +26,3 @@ pub record AreCounted (bytes : List ℕ) (stride : ℕ) (sums : List ℕ) : Type
   pub some : 0 < length sums
   pub reach : (k : ℕ) → k < length sums → k * stride ≤ length bytes
   pub each : (k : ℕ) → k < length sums → slice_index sums k ≡ zeros (take (k * stride) bytes)
-
--- and so many texts have their zero bytes
-pub record IsPlaced (count : ℕ) (bytes : List ℕ) (stride : ℕ) (sums : List ℕ) : Type 0 where
-  pub ended : are_ended count bytes ≡ true
-  pub counted : AreCounted bytes stride sums

@@ -1,5 +1,5 @@
 -- What a reader of directories keeps.
-use Rattle.std.specs.Prelude.{◌≡◌, ℕ, ◌≤◌, ◌<◌, ◌^◌, List, length, take, drop, Option, Some, IfSome, slice_get, All}
+use Rattle.std.specs.Prelude.{◌≡◌, ℕ, ◌≤◌, ◌<◌, ◌^◌, List, length, drop, Option, Some, IfSome, slice_get, All}
 use Rattle.rpm_header.specs.Header.{max_data}
 use Rattle.rpm_tags.specs.declared.dirs.ReadDirectory.{ReadDirectory}
 
@@ -14,4 +14,4 @@ pub record IsReader (dirs ahead : List (List ℕ)) (passed : ℕ) (recent : List
   pub all_short : All (λ text. length text ≤ max_data) dirs
   pub kept : length recent ≡ 16
   pub seen : All (IsRead dirs) recent
-  pub placed : IfSome places (λ texts. take (length dirs) texts ≡ dirs)
+  pub placed : IfSome places (λ texts. texts ≡ dirs)

@@ -1,6 +1,6 @@
 -- What the elements of an entry keep of it.
 use Rattle.std.specs.Prelude.{◌≡◌, ℕ, ◌+◌, ◌^◌, ◌≤◌, ◌<◌, true, List, length, drop, All}
-use Rattle.rpm_tags.specs.Value.{are_matched}
+use Rattle.rpm_tags.specs.Value.{are_matched, file_names}
 use Rattle.rpm_header.specs.Header.{max_data, Item, has_numbers, has_texts, IsWhole}
 
 pub record HasNumbers (e : Item) : Type 0 where
@@ -20,3 +20,9 @@ pub record AreLeft (dirs : List (List ℕ)) (indexes : List ℕ) (bases : List (
   pub few : length indexes < 2 ^ 32
   pub whole : place + length bases ≡ length indexes
   pub short : All (λ text. length text ≤ max_data) bases
+
+-- each file has an index, and each index one of the directories that are asked for, which do for all of them
+pub record AreAsked (dirs asked : List (List ℕ)) (indexes : List ℕ) (bases : List (List ℕ)) : Type 0 where
+  pub all : are_matched dirs indexes bases ≡ true
+  pub matched : are_matched asked indexes bases ≡ true
+  pub same : file_names asked indexes bases ≡ file_names dirs indexes bases

@@ -1,8 +1,9 @@
+use Rattle.rpm_tags.specs.Value.{count_of}
 use Rattle.rpm_qfeval.proofs.NotNumbers.{of_text}
 use Rattle.rpm_qfeval.proofs.elements.put_stored_text.Goals as goal
 
 pub returns-in_default : goal.returns-in_default
-returns-in_default g c = let e = of_text c.args.part.now.show c.args.count c.args.text.now c.in_default.not-Plain c.in_default.not-Shescape
+returns-in_default g c = let e = of_text c.args.part.now.show (count_of c.args.value.now) c.args.text.now c.in_default.not-Plain c.in_default.not-Shescape
     c.in_default.not-Base64 c.in_default.not-Arraysize in rw e c.put_plain-in_default.ensures
 
 pub returns-in-Base64 : goal.returns-in-Base64
