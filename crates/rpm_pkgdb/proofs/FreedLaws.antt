@@ -1,16 +1,13 @@
 -- Blocks that become zeros, and stay so.
-use Rattle.std.proofs.Common.{◌≡◌, ◌≢◌, ◌⊎◌, inl, inr, ℕ, zero, suc, ◌+◌, ◌*◌, ◌<◌, ◌≤◌, List, [], ◌∷◌, ◌++◌, length, replicate, true, false, Option, Some, None, refl, sym, ap, ◌∙◌, subst, arith, set}
+use Rattle.std.proofs.Common.{◌≡◌, ◌⊎◌, inl, inr, ℕ, zero, suc, ◌+◌, ◌*◌, ◌<◌, ◌≤◌, List, [], ◌∷◌, ◌++◌, length, replicate, true, Option, Some, None, refl, sym, ap, ◌∙◌, subst, arith, set}
 use Rattle.std.proofs.lemmas.Bool.{cases_eq, cases_lt, cases_Bool}
-use Rattle.rpm_outside.specs.Files.{Units, unit_at, units_of, blank, put}
+use Rattle.rpm_outside.specs.Files.{Units, unit_at, blank, put}
 use Rattle.rpm_outside.specs.inner.Puts.{put_before, put_after}
 use Rattle.rpm_pkgdb.specs.declared.slot.Slot.{Slot}
 use Rattle.rpm_pkgdb.specs.declared.moving.Move.{Move}
-use Rattle.rpm_pkgdb.specs.declared.plan.Target.{Target}
 use Rattle.rpm_pkgdb.specs.Slots.{slot_at, is_used, end_of, free}
 use Rattle.rpm_pkgdb.specs.Freed.{HasBlock, AreFreed, KeepsBlank}
-use Rattle.rpm_pkgdb.specs.Growing.{moved, after_move, IsNextMove}
-use Rattle.rpm_pkgdb.specs.Undamaged.{AreSound}
-use Rattle.rpm_pkgdb.specs.Words.{word}
+use Rattle.rpm_pkgdb.specs.Growing.{moved}
 use Rattle.rpm_pkgdb.specs.inner.Clear.{SameOutside}
 use Rattle.rpm_pkgdb.specs.inner.Puts.{FieldPut, BlobPut}
 use Rattle.rpm_pkgdb.proofs.ClearLaws.{put_elsewhere}
@@ -179,7 +176,8 @@ freed_put end slots now place s old F1 F2 below used held low freed zeros keeps 
 pub decide_block : (slots : List Slot) (i : ℕ) → HasBlock slots i ⊎ (HasBlock slots i → ⊥)
 decide_block [] i = inr (λ has. absurd (let u = has.used in cc))
 decide_block (s ∷ slots) i = elim (cases_Bool (is_used s)) [
-  | inr unused ↦ later (λ has at. absurd (let u : is_used s ≡ true = subst (λ (k : ℕ). is_used (slot_at (s ∷ slots) k) ≡ true) at has.used in cc)) (decide_block slots i)
+  | inr unused ↦ later (λ has at. absurd (let u : is_used s ≡ true = subst (λ (k : ℕ). is_used (slot_at (s ∷ slots) k) ≡ true) at has.used in cc))
+      (decide_block slots i)
   | inl used ↦ elim (cases_lt i s.offset) [
     | inl before ↦
         later (λ has at. omega (arith, before, subst (λ (k : ℕ). (slot_at (s ∷ slots) k).offset ≤ i) at has.from)) (decide_block slots i)

@@ -1,5 +1,5 @@
 -- Blocks that moves set free.
-use Rattle.std.proofs.Common.{◌≡◌, ◌≢◌, ℕ, ◌+◌, ◌*◌, ◌<◌, ◌≤◌, List, length, take, true, sym, ap, ◌∙◌, subst, arith}
+use Rattle.std.proofs.Common.{◌≡◌, ◌≢◌, ℕ, ◌+◌, ◌*◌, ◌<◌, ◌≤◌, List, length, take, true, sym, subst, arith}
 use Rattle.std.proofs.lemmas.Bool.Decides.{nat_tests}
 use Rattle.rpm_outside.specs.Files.{Units, unit_at, blank}
 use Rattle.rpm_pkgdb.specs.declared.slot.Slot.{Slot}
@@ -8,12 +8,10 @@ use Rattle.rpm_pkgdb.specs.Slots.{slot_at, is_used, end_of}
 use Rattle.rpm_pkgdb.specs.Store.{Store, Keeps}
 use Rattle.rpm_pkgdb.specs.Growing.{moved, next_end}
 use Rattle.rpm_pkgdb.specs.Freed.{AreFreed, KeepsBlank}
-use Rattle.rpm_pkgdb.specs.inner.Settings.{CanMove}
 use Rattle.rpm_pkgdb.specs.inner.MoveLists.{AreMovesOf, with_moves, move_at}
 use Rattle.rpm_pkgdb.proofs.Made.{made}
 use Rattle.rpm_pkgdb.proofs.FreedLaws.{freed_more}
-use Rattle.rpm_pkgdb.proofs.MoveSteps.{current, next, old, kept, can_move, then_after}
-use Rattle.rpm_pkgdb.proofs.MoveListLaws.{next_of}
+use Rattle.rpm_pkgdb.proofs.MoveSteps.{current, can_move, then_after}
 use Rattle.rpm_pkgdb.proofs.PageLaws.{count_after}
 
 moved_used : (s : Slot) (to pages : ℕ) → 1 ≤ pages → 256 * pages ≤ to → is_used (moved s to) ≡ true

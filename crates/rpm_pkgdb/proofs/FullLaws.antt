@@ -33,7 +33,8 @@ next_same slots end a b in_a in_b =
           absurd (omega (arith, in_a.first b.place back in_b.used, in_b.first a.place other in_a.used)))
     ] in
     let to : a.to ≡ b.to =
-    least_same slots (slot_at slots b.place).count end a.to b.to (subst (λ (k : ℕ). IsLeast slots (slot_at slots k).count end a.to) place in_a.least) in_b.least in
+    least_same slots (slot_at slots b.place).count end a.to b.to (subst (λ (k : ℕ). IsLeast slots (slot_at slots k).count end a.to) place in_a.least)
+    in_b.least in
     ap (λ (k : ℕ). move_of k a.to) place ∙ ap (move_of b.place) to
 
 module _ (end : ℕ) where
@@ -114,7 +115,8 @@ same_full v w is_new length slots pages (NoRoom moves needs nowhere) = NoRoom mo
         → FitsNowhere (grown o w).slots (blocks_for length) (256 * (grown o w).pages)
     same_room None none = subst (λ (s : List Slot). FitsNowhere s (blocks_for length) (256 * w.pages)) slots
         (subst (λ (n : ℕ). FitsNowhere v.slots (blocks_for length) (256 * n)) pages none)
-    same_room (Some l) none = subst (λ (s : List Slot). FitsNowhere (grown (Some l) (record w { slots = s })).slots (blocks_for length) (256 * (w.pages + 1))) slots
+    same_room (Some l) none = subst (λ (s : List Slot). FitsNowhere (grown (Some l) (record w { slots = s })).slots (blocks_for length)
+        (256 * (w.pages + 1))) slots
         (subst (λ (n : ℕ). FitsNowhere (grown (Some l) v).slots (blocks_for length) (256 * (n + 1))) pages none)
 same_full v w is_new length slots pages (NoMove new all stuck) =
     NoMove new (subst AreAllUsed slots all)

@@ -1,5 +1,5 @@
 -- The slot of a number that a value holds.
-use Rattle.std.proofs.Common.{◌≡◌, ◌≢◌, inl, inr, ℕ, ◌+◌, ◌^◌, ◌<◌, ◌≤◌, List, length, true, Some, None, IsSome, sym, ap, ◌∙◌, subst, arith, set, length-set}
+use Rattle.std.proofs.Common.{◌≡◌, ◌≢◌, inl, inr, ℕ, ◌+◌, ◌^◌, ◌<◌, ◌≤◌, List, length, true, Some, None, IsSome, min, sym, ap, ◌∙◌, subst, arith, set, length-set}
 use Rattle.std.proofs.lemmas.Bool.{cases_eq}
 use Rattle.rpm_pkgdb.specs.declared.slot.Slot.{Slot}
 use Rattle.rpm_pkgdb.specs.Slots.{slot_at, slot_with, is_used, has_number, end_of, free}
@@ -9,7 +9,8 @@ use Rattle.rpm_pkgdb.specs.Maps.{IsPackageNumber}
 use Rattle.rpm_pkgdb.specs.Store.{Store}
 use Rattle.rpm_pkgdb.proofs.ClearLaws.{free_sound, set_here, set_other}
 use Rattle.rpm_pkgdb.proofs.Pairwise.{used_below}
-use Rattle.rpm_pkgdb.specs.inner.Keeping.{IsKept}
+use Rattle.rpm_pkgdb.specs.inner.Keeping.{IsKept, AreUsedTo}
+use Rattle.rpm_pkgdb.specs.Undamaged.{AreSound}
 use Rattle.rpm_pkgdb.specs.Quiet.{HasSlot, with_free}
 use Rattle.rpm_pkgdb.proofs.Places.{freed_is_set, with_at}
 use Rattle.rpm_pkgdb.specs.Written.{freed, erased}
@@ -106,3 +107,9 @@ pub found_at_slot : (numbers : Pairs) (pages : ℕ) (slots : List Slot) → IsKe
     → slot_at slots k ≡ s → is_used s ≡ true → s.number ≡ n → find_in numbers n ≡ Some k
 found_at_slot numbers pages slots kept n k below s is used number =
     ap (find_in numbers) (sym (ap (λ (t : Slot). t.number) is ∙ number)) ∙ kept.places.each k below (ap is_used is ∙ used)
+
+-- the slots that are used for sure, once one is free
+pub freed_taken : (pages : ℕ) (slots : List Slot) → AreSound pages (2 ^ 28) slots → (k : ℕ) → k < length slots → (from next : ℕ) → AreUsedTo slots from
+    → next ≡ min from k → AreUsedTo (set slots k free) next
+freed_taken pages slots sound k below from next taken is j under =
+    ap is_used (set_other pages (2 ^ 28) slots sound k below free j (omega (arith, under, is))) ∙ taken j (omega (arith, under, is))

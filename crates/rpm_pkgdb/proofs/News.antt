@@ -1,9 +1,9 @@
 -- The fields of a value once a database was made.
-use Rattle.std.proofs.Common.{◌≡◌, ℕ, ◌^◌, List, [], ◌++◌, replicate, Option, Some, None, ap, ◌∙◌, arith}
+use Rattle.std.proofs.Common.{◌≡◌, ℕ, ◌^◌, List, [], ◌++◌, true, replicate, Option, Some, None, ap, ◌∙◌, arith}
 use Rattle.std.proofs.lemmas.List.{length-replicate, nil_from_length}
 use Rattle.rpm_blocks.specs.Blocks.{Blocks}
 use Rattle.rpm_pkgdb.specs.declared.slot.Slot.{Slot}
-use Rattle.rpm_pkgdb.specs.Slots.{free}
+use Rattle.rpm_pkgdb.specs.Slots.{free, slot_at, is_used}
 use Rattle.rpm_pkgdb.specs.Pairs.{Pairs}
 use Rattle.rpm_pkgdb.specs.inner.Keeping.{IsKept}
 use Rattle.rpm_pkgdb.specs.inner.Ranges.{HasUsed}
@@ -35,6 +35,9 @@ module _ (numbers : Pairs) (pages : ℕ) (slots : List Slot) (kept : IsKept numb
     },
     has.1,
   )
+
+  pub none_taken : (k : ℕ) → is_used (slot_at slots k) ≡ true → ⊥
+  none_taken k used = omega (arith, used_below slots k used, kept.count, none)
 
   pub new_slots : (items : List Slot) → items ≡ slots ++ replicate 254 free → items ≡ replicate 254 free
   new_slots items is = is ∙ ap (λ (l : List Slot). l ++ replicate 254 free) no_slots

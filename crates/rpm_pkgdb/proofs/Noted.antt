@@ -1,5 +1,5 @@
 -- The fields of a value once a blob was put.
-use Rattle.std.proofs.Common.{◌≡◌, ◌≢◌, ◌⊎◌, inl, inr, ℕ, ◌-◌, ◌^◌, ◌<◌, ◌≤◌, List, true, false, Option, Some, None, IsSome, refl, sym, ap, ◌∙◌, subst, arith, set, length-set}
+use Rattle.std.proofs.Common.{◌≡◌, ◌≢◌, ◌⊎◌, inl, inr, ℕ, ◌+◌, ◌-◌, ◌^◌, ◌<◌, ◌≤◌, List, true, false, Option, Some, None, IsSome, refl, sym, ap, ◌∙◌, subst, arith, set, length-set}
 use Rattle.std.specs.Prelude.{Contains}
 use Rattle.std.proofs.lemmas.Bool.{cases_eq}
 use Rattle.std.proofs.lemmas.Bool.Decides.{nat_tests}
@@ -16,7 +16,7 @@ use Rattle.rpm_pkgdb.specs.Store.{Store}
 use Rattle.rpm_pkgdb.specs.Blobs.{blocks_for}
 use Rattle.rpm_pkgdb.proofs.Pairwise.{used_below}
 use Rattle.rpm_pkgdb.proofs.ClearLaws.{set_here, set_other}
-use Rattle.rpm_pkgdb.specs.inner.Keeping.{IsKept}
+use Rattle.rpm_pkgdb.specs.inner.Keeping.{IsKept, AreUsedTo}
 use Rattle.rpm_pkgdb.specs.inner.Ranges.{range_of, UsedBy, AreRangesOf, HasUsed, HasStart, Forgets, ForgetsSlot, Remembers, IsFreeIn}
 use Rattle.rpm_pkgdb.proofs.RangeLaws.{other_start}
 use Rattle.rpm_pkgdb.specs.Plans.{IsTarget, slot_for}
@@ -77,7 +77,8 @@ module _ (numbers : Pairs) (v : Store) (target : Target) (is : IsTarget v target
     pub here : find_in next target.number ≡ Some k
     pub others : (m : ℕ) → m ≢ target.number → find_in next m ≡ find_in numbers m
 
-  pub says : (next : Pairs) → (target.is_new ≡ true → Adds (find_in numbers) (find_in next) target.number k) → (target.is_new ≡ false → next ≡ numbers) → Says next
+  pub says : (next : Pairs) → (target.is_new ≡ true → Adds (find_in numbers) (find_in next) target.number k) → (target.is_new ≡ false → next ≡ numbers)
+      → Says next
   says next new held = elim (cases_Bool target.is_new) [
     | inl is_new ↦ (let a = new is_new in record { here = a.here; others = a.others })
     | inr not_new ↦ (let e = held not_new in record {
@@ -127,6 +128,18 @@ module _ (numbers : Pairs) (v : Store) (target : Target) (is : IsTarget v target
     limit = kept.limit;
     count = length-set slots k s ∙ kept.count;
   }
+
+  -- ---- the first free slot
+
+  pub noted_taken : (from next : ℕ) → AreUsedTo slots from → (target.is_new ≡ true → next ≡ k + 1) → (target.is_new ≡ false → next ≡ from)
+      → AreUsedTo after next
+  noted_taken from next taken new held j below = elim (cases_eq j k) [
+    | inl here ↦ ap is_used (ap (slot_at after) here ∙ new_at) ∙ used_new
+    | inr other ↦ ap is_used (same_at j other) ∙ elim (cases_Bool target.is_new) [
+      | inl is_new ↦ (is.new is_new).1.first j (omega (arith, below, new is_new))
+      | inr not_new ↦ taken j (omega (arith, below, held not_new))
+    ]
+  ]
 
   -- ---- ranges
 

@@ -1,7 +1,7 @@
 -- What is planned of a slot page, one move more.
-use Rattle.std.proofs.Common.{◌≡◌, ◌≢◌, ◌⊎◌, inl, inr, ℕ, zero, suc, ◌+◌, ◌*◌, ◌^◌, ◌<◌, ◌≤◌, List, [], ◌∷◌, ◌++◌, length, take, true, false, Option, Some, None, MatchOption, refl, sym, ap, ◌∙◌, subst, arith, set, length-set}
+use Rattle.std.proofs.Common.{◌≡◌, ◌≢◌, inl, inr, ℕ, ◌+◌, ◌*◌, ◌^◌, ◌<◌, ◌≤◌, List, [], ◌∷◌, ◌++◌, length, true, false, Option, Some, None, MatchOption, refl, sym, ap, ◌∙◌, subst, arith, set, length-set}
 use Rattle.std.specs.Prelude.{Contains}
-use Rattle.std.proofs.lemmas.Bool.{cases_eq, cases_lt}
+use Rattle.std.proofs.lemmas.Bool.{cases_eq}
 use Rattle.std.proofs.lemmas.Bool.Decides.{nat_tests}
 use Rattle.std.proofs.lemmas.List.Sums.{sum_by-set}
 use Rattle.rpm_blocks.specs.declared.Range.{Range}
@@ -10,11 +10,11 @@ use Rattle.rpm_blocks.specs.Laws.{with_range_here, with_range_keeps, with_range_
 use Rattle.rpm_pkgdb.specs.declared.slot.Slot.{Slot}
 use Rattle.rpm_pkgdb.specs.declared.moving.Move.{Move}
 use Rattle.rpm_pkgdb.specs.declared.page.Page.{Page}
-use Rattle.rpm_pkgdb.specs.Slots.{slot_at, is_used, end_of, free}
+use Rattle.rpm_pkgdb.specs.Slots.{slot_at, is_used, free}
 use Rattle.rpm_pkgdb.specs.Store.{Store}
-use Rattle.rpm_pkgdb.specs.Plans.{IsLeast, Fits, FitsNowhere}
+use Rattle.rpm_pkgdb.specs.Plans.{IsLeast, FitsNowhere}
 use Rattle.rpm_pkgdb.specs.Undamaged.{AreSound}
-use Rattle.rpm_pkgdb.specs.inner.Ranges.{range_of, UsedBy, AreRangesOf}
+use Rattle.rpm_pkgdb.specs.inner.Ranges.{range_of, AreRangesOf}
 use Rattle.rpm_pkgdb.specs.inner.Settings.{CanSet}
 use Rattle.rpm_pkgdb.specs.Growing.{moved}
 use Rattle.rpm_pkgdb.specs.Growing.{after_move, after_moves, IsNextMove, AreMoves, AreBehind}
@@ -64,7 +64,8 @@ first_of_all slots end count (Some p) least all has = record {
 
 -- ---- one move more
 
-module _ (pages : ℕ) (slots : List Slot) (sound : AreSound pages (2 ^ 28) slots) (place end to : ℕ) (low : 256 * pages ≤ end) (first : IsFirstBefore slots end place) (least : IsLeast slots (slot_at slots place).count end to) (some : 1 ≤ pages) where
+module _ (pages : ℕ) (slots : List Slot) (sound : AreSound pages (2 ^ 28) slots) (place end to : ℕ) (low : 256 * pages ≤ end)
+    (first : IsFirstBefore slots end place) (least : IsLeast slots (slot_at slots place).count end to) (some : 1 ≤ pages) where
   abbrev old : Slot
   old = slot_at slots place
 
@@ -92,7 +93,8 @@ module _ (pages : ℕ) (slots : List Slot) (sound : AreSound pages (2 ^ 28) slot
   starts_differ : to ≢ old.offset
   starts_differ same = omega (arith, least.from_on, first.before)
 
-  pub moved_ranges : (a b c : List Range) → AreRangesOf a slots → b ≡ with_range (range to old.count) a → c ≡ without old.offset b → AreRangesOf c (set slots place new)
+  pub moved_ranges : (a b c : List Range) → AreRangesOf a slots → b ≡ with_range (range to old.count) a → c ≡ without old.offset b
+      → AreRangesOf c (set slots place new)
   moved_ranges a b c are added gone =
       let new_at : slot_at (set slots place new) place ≡ new = set_here pages (2 ^ 28) slots sound place first.below new in
       let stays : (j : ℕ) → j ≢ place → slot_at (set slots place new) j ≡ slot_at slots j = set_other pages (2 ^ 28) slots sound place first.below new in

@@ -1,8 +1,7 @@
 -- Plans with and without a slot page.
-use Rattle.std.proofs.Common.{◌≡◌, ℕ, ◌+◌, ◌*◌, ◌/◌, ◌^◌, ◌<◌, ◌≤◌, List, length, true, false, Bool, Some, None, refl, sym, ap, ◌∙◌, subst, arith}
+use Rattle.std.proofs.Common.{◌≡◌, ℕ, ◌+◌, ◌*◌, ◌/◌, ◌<◌, ◌≤◌, List, length, true, false, Bool, Some, None, refl, sym, ap, ◌∙◌, subst, arith}
 use Rattle.rpm_pkgdb.specs.declared.slot.Slot.{Slot}
 use Rattle.rpm_pkgdb.specs.declared.page.Page.{Page}
-use Rattle.rpm_pkgdb.specs.declared.plan.Plan.{Plan}
 use Rattle.rpm_pkgdb.specs.Slots.{slot_at, is_used, has_number}
 use Rattle.rpm_pkgdb.specs.Pairs.{Pairs}
 use Rattle.rpm_pkgdb.specs.Maps.{IsPackageNumber}
@@ -13,7 +12,7 @@ use Rattle.rpm_pkgdb.specs.Growing.{NeedsPage, CanAdd, grown, next_end}
 use Rattle.rpm_pkgdb.specs.Planned.{HoldsPage, IsPlan, IsFull, CantMove}
 use Rattle.rpm_pkgdb.specs.Planned.IsFull.{NoRoom, NoMove}
 use Rattle.rpm_pkgdb.specs.inner.Keeping.{IsKept}
-use Rattle.rpm_pkgdb.proofs.PlannedLaws.{same_next, first_behind, count_all}
+use Rattle.rpm_pkgdb.proofs.PlannedLaws.{same_next, first_behind}
 
 -- 43 more than a blob, in blocks
 blocks_are : (size : ℕ) → blocks_for size ≡ (size + 43) / 16

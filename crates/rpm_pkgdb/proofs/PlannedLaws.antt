@@ -1,5 +1,5 @@
 -- What a slot page more keeps of a value.
-use Rattle.std.proofs.Common.{◌≡◌, ◌≢◌, inl, inr, ℕ, zero, suc, ◌+◌, ◌-◌, ◌*◌, ◌^◌, ◌<◌, ◌≤◌, List, [], ◌∷◌, ◌++◌, length, replicate, max, true, false, Bool, Option, Some, None, if◌then◌else◌, refl, sym, ap, ◌∙◌, subst, arith, set, length-set, length-append}
+use Rattle.std.proofs.Common.{◌≡◌, ◌≢◌, inl, inr, ℕ, zero, suc, ◌+◌, ◌*◌, ◌^◌, ◌≤◌, List, [], ◌∷◌, ◌++◌, length, replicate, max, true, false, Bool, Option, Some, None, if◌then◌else◌, refl, sym, ap, ◌∙◌, subst, arith, length-append}
 use Rattle.std.specs.Prelude.{Contains}
 use Rattle.std.proofs.lemmas.Bool.{cases_eq}
 use Rattle.std.proofs.lemmas.Bool.Decides.{nat_tests}
@@ -7,20 +7,19 @@ use Rattle.std.proofs.lemmas.List.{length-replicate}
 use Rattle.rpm_blocks.specs.declared.Range.{Range}
 use Rattle.rpm_pkgdb.specs.declared.slot.Slot.{Slot}
 use Rattle.rpm_pkgdb.specs.declared.moving.Move.{Move}
-use Rattle.rpm_pkgdb.specs.declared.page.Page.{Page}
-use Rattle.rpm_pkgdb.specs.Slots.{slot_at, is_used, has_number, greatest_number, free}
+use Rattle.rpm_pkgdb.specs.Slots.{slot_at, is_used, greatest_number, free}
 use Rattle.rpm_pkgdb.specs.Pairs.{Pairs, find_in}
-use Rattle.rpm_pkgdb.specs.Maps.{HasPlaces, IsPackageNumber}
+use Rattle.rpm_pkgdb.specs.Maps.{IsPackageNumber}
 use Rattle.rpm_pkgdb.specs.Store.{Store, next_number}
 use Rattle.rpm_pkgdb.specs.Undamaged.{AreSound}
-use Rattle.rpm_pkgdb.specs.Plans.{IsFirstFree, AreAllUsed}
+use Rattle.rpm_pkgdb.specs.Plans.{IsFirstFree}
 use Rattle.rpm_pkgdb.specs.Growing.{moved, after_move, after_moves, IsNextMove, AreMoves, CanAdd, NeedsPage, grown, next_end}
 use Rattle.rpm_pkgdb.specs.inner.Keeping.{IsKept}
-use Rattle.rpm_pkgdb.specs.inner.Ranges.{range_of, UsedBy, AreRangesOf}
+use Rattle.rpm_pkgdb.specs.inner.Ranges.{range_of, AreRangesOf}
 use Rattle.rpm_pkgdb.specs.inner.Grows.{CanGrow}
 use Rattle.rpm_pkgdb.specs.inner.Pages.{IsFirstBefore}
 use Rattle.rpm_pkgdb.specs.inner.MoveLists.{with_moves, CanGrowBy}
-use Rattle.rpm_pkgdb.proofs.Facts.{cases_Bool, number_facts, has_it_from}
+use Rattle.rpm_pkgdb.proofs.Facts.{number_facts, has_it_from}
 use Rattle.rpm_pkgdb.proofs.Pairwise.{used_below}
 use Rattle.rpm_pkgdb.proofs.ClearLaws.{set_here, set_other}
 use Rattle.rpm_pkgdb.proofs.GrowLaws.{at_front, at_back, still_used, grown_sound}

@@ -55,7 +55,8 @@ module _ (st : Store) (target : Target) (g : ℕ) (old : Slot) (blob : List ℕ)
       let fits_n : target.number < 2 ^ 32 = omega (arith, can.target_is.number.1) in
       let few : length blob ≤ 68157432 = omega (arith, can.target_is.few, can.length_is) in
       let fr = frame target.number g blob in
-      put_blobs file image st.pages st after k target.number s can.target_is.below here.sound there.sound refl (has_it_from target.number s used_new refl) no_other fr
+      put_blobs file image st.pages st after k target.number s can.target_is.below here.sound there.sound refl (has_it_from target.number s used_new refl)
+      no_other fr
       (framed_frame target.number g blob fits_n can.fits few image s (ap blocks_for can.length_is) stands.holds) stands.others
       ∙ ap (λ (b : List ℕ). finite.insert (blobs file st) target.number (Some b)) (blob_is target.number g blob fits_n can.fits few)
 

@@ -1,7 +1,8 @@
 -- What the reading calls answer.
-use Rattle.std.specs.Prelude.{◌≡◌, ℕ, List, Option, Some, None, Result, Ok, Err, Vec}
+use Rattle.std.specs.Prelude.{◌≡◌, ℕ, List, Bool, Option, Some, None, Result, Ok, Err, Vec}
 use Rattle.std.specs.declared.alloc.Global.{Global}
 use Rattle.rpm_pkgdb.specs.declared.blob.Blocks.{Blocks}
+use Rattle.rpm_pkgdb.specs.declared.blob.Checked.{Checked}
 use Rattle.rpm_pkgdb.specs.declared.blob.GetFault.{GetFault}
 use Rattle.rpm_pkgdb.specs.declared.blob.GetFault.TheVariants.{NoSuch, Bad, DiskFault, NoMemory}
 use Rattle.rpm_pkgdb.specs.Blobs.{Frame}
@@ -17,6 +18,13 @@ AnswerIs shows said (Err NoMemory) = Unit {0}
 -- the bytes that a call gave
 abbrev pub given : Vec ℕ Global → List ℕ
 given v = v.items
+
+-- the bytes of a blob that was checked, and what the check says
+abbrev pub given_blob : Checked → List ℕ
+given_blob c = c.blob.items
+
+abbrev pub given_check : Checked → Bool
+given_check c = c.holds
 
 abbrev pub frame_in : Blocks → Frame
 frame_in b = record { head = b.head; rest = b.rest.items }

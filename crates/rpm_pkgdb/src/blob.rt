@@ -38,6 +38,13 @@ pub struct Blocks {
     pub rest: Vec<u8>,
 }
 
+/// A blob, and whether the checksum in its tail is the Adler-32 of its head, bytes and padding.
+#[derive(Drop)]
+pub struct Checked {
+    pub blob: Vec<u8>,
+    pub holds: bool,
+}
+
 /// `BlbS`.
 pub const HEAD: u32 = 0x5362_6c42;
 
@@ -111,6 +118,19 @@ impl Blocks {
         let mut rest = self.rest;
         rest.truncate(size);
         rest
+    }
+
+    /// The bytes of the blob, without a copy, and whether the stored checksum is right.
+    pub fn into_checked(self) -> Checked
+        requires { 12 ≤ length self.rest.items }
+        ensures blob { result.blob.items ≡ blob_in (frame_in self) }
+        ensures holds { result.holds ≡ checksum_holds (frame_in self) }
+    {
+        let holds = self.checksum_holds();
+        Checked {
+            blob: self.into_blob(),
+            holds,
+        }
     }
 }
 

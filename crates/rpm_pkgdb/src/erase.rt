@@ -10,7 +10,7 @@ ghost use Rattle.rpm_pkgdb.specs.Slots.{slot_with};
 ghost use Rattle.rpm_pkgdb.specs.Store.{Keeps};
 ghost use Rattle.rpm_pkgdb.specs.Blobs.{blobs};
 ghost use Rattle.rpm_outside.specs.Changes.{Changes, Stops};
-ghost use Rattle.rpm_pkgdb.specs.Quiet.{IsQuiet, Anything};
+ghost use Rattle.rpm_pkgdb.specs.Quiet.{IsQuiet, StandsFor, Anything};
 ghost use Rattle.rpm_pkgdb.specs.Written.{stopped, erased, AreZeros, ErasesTo};
 
 use crate::erasing::{FREE, free_slot};
@@ -41,6 +41,8 @@ impl PkgDb {
         ensures images { IsTrue D.tells → IsQuiet self.old (D.files disk.old) (D.left_since disk.old (D.moment disk.old)) → LeavesOnly D.moment
             D.left_since disk.old disk.new (Stops Pkg (ErasesTo self.old n (D.files disk.old).pkg) (D.left_since disk.old (D.moment disk.old))) }
         ensures quiet { OnOk result (IsTrue D.tells → IsQuiet self.new (D.files disk.new) (D.left_since disk.new (D.moment disk.new))) }
+        ensures stands { OnOk result (IsTrue D.tells → (image : Files) → D.left_since disk.new (D.moment disk.new) image → StandsFor
+            self.new.generation self.new.field (blobs (D.files disk.new).pkg self.new) image.pkg) }
         ensures changes { Changes D.tells D.files D.left_since D.moment D.bytes_read D.follows Pkg Anything 0 disk.old disk.new }
         ensures cause { HasCause (D.faults disk.old) (D.faults disk.new) result }
     {
@@ -50,6 +52,7 @@ impl PkgDb {
             return Err(DiskFault);
         };
         self.slots[place as usize] = FREE;
+        self.free_from = self.free_from.min(place);
         self.numbers.remove(n);
         forget(&mut self.used, slot.offset);
         Ok(())

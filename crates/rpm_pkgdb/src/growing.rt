@@ -83,7 +83,8 @@ impl PkgDb {
         requires can { CanGrowBy self.now (moves_of page.now) }
         requires keeps { IsTrue D.tells → Keeps (D.files disk.old).pkg self.now }
         ensures kept { OnOk result (IsTrue D.tells → Keeps (D.files disk.new).pkg (grown (moves_of page.now) self.now)) }
-        ensures blobs { OnOk result (IsTrue D.tells → blobs (D.files disk.new).pkg (grown (moves_of page.now) self.now) ≡ blobs (D.files disk.old).pkg self.now) }
+        ensures blobs { OnOk result (IsTrue D.tells → blobs (D.files disk.new).pkg (grown (moves_of page.now) self.now) ≡ blobs (D.files disk.old).pkg
+            self.now) }
         ensures freed { OnOk result (IsTrue D.tells → AreFreed (256 * (grown (moves_of page.now) self.now).pages) self.now.slots
             (grown (moves_of page.now) self.now).slots (D.files disk.new).pkg) }
         ensures images { IsTrue D.tells → IsQuiet self.now (D.files disk.old) (D.left_since disk.old (D.moment disk.old)) → LeavesOnly D.moment

@@ -107,7 +107,8 @@ pub fn move_all<D: Disk>(
     ensures quiet { OnOk result (IsTrue D.tells → (value : Store) → 1 ≤ value.pages → value.slots ≡ slots.now → AreMovesOf value moves.now
         → IsQuiet value (D.files disk.old) (D.left_since disk.old (D.moment disk.old)) → IsQuiet (with_moves value moves.now) (D.files disk.new)
         (D.left_since disk.new (D.moment disk.new))) }
-    ensures copies { Changes D.tells D.files D.left_since D.moment D.bytes_read D.follows Pkg NoShorter (moving_cost slots.now (Some moves.now)) disk.old disk.new }
+    ensures copies { Changes D.tells D.files D.left_since D.moment D.bytes_read D.follows Pkg NoShorter (moving_cost slots.now (Some moves.now)) disk.old
+        disk.new }
     ensures cause { HasCause (D.faults disk.old) (D.faults disk.new) result }
 {
     for k in 0..moves.len() {

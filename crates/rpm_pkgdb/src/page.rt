@@ -77,7 +77,8 @@ impl Page {
         requires first { IsFirstBefore self.old.slots.items end place }
         ensures ranged { OnOk result ((pages : ℕ) → 256 * pages ≤ end → IsRanged pages self.old → IsRanged pages self.new) }
         ensures planning { OnOk result ((slots : List Slot) → IsPlanning slots end self.old → IsPlanning slots end self.new) }
-        ensures moved { OnOk result ((to : ℕ) × (end ≤ to) × (self.new.slots.items ≡ slice_set self.old.slots.items place (moved (slot_at self.old.slots.items place) to))) }
+        ensures moved { OnOk result ((to : ℕ) × (end ≤ to) × (self.new.slots.items ≡ slice_set self.old.slots.items place
+            (moved (slot_at self.old.slots.items place) to))) }
         ensures full { result ≡ Err PlanFault.StoreFull → FitsNowhere self.old.slots.items (slot_at self.old.slots.items place).count end }
         ensures kinds { result ≢ Err PlanFault.NumbersSpent }
     {

@@ -9,6 +9,7 @@ ghost use Rattle.rpm_pkgdb.specs.Plans.{slot_for, IsFirstFree, AreAllUsed, IsLea
 ghost use Rattle.rpm_pkgdb.specs.Planned.{IsPlan, IsFor, IsFull};
 ghost use Rattle.rpm_pkgdb.specs.Blobs.{blocks_for};
 ghost use Rattle.rpm_pkgdb.specs.inner.Puts.{IsTargetFor};
+ghost use Rattle.rpm_pkgdb.specs.inner.Keeping.{AreUsedTo};
 
 use crate::page::Page;
 use crate::slot::Slot;
@@ -49,12 +50,13 @@ pub enum PlanFault {
     NoMemory,
 }
 
-/// The first free slot. Takes a step for each slot before it.
-pub fn first_free(slots: &[Slot]) -> Option<u32>
-    requires { length slots.now < 2 ^ 32 }
+/// The first free slot, where those before a place are used. Takes a step for each slot from there up to it.
+pub fn first_free(slots: &[Slot], from: u32) -> Option<u32>
+    requires few { length slots.now < 2 ^ 32 }
+    requires taken { AreUsedTo slots.now from }
     ensures { MatchOption result (AreAllUsed slots.now) (IsFirstFree slots.now) }
 {
-    for k in 0..slots.len() {
+    for k in from as usize..slots.len() {
         if slots[k].offset == 0 {
             return Some(k as u32);
         }
@@ -173,7 +175,7 @@ impl PkgDb {
             return self.plan_there(m, self.slot_place(m).0, length, false);
         }
         let number = self.next_number();
-        match first_free(&self.slots) {
+        match first_free(&self.slots, self.free_from) {
             Some(place) => self.plan_there(number, place, length, true),
             None => self.plan_behind(alloc, number, length),
         }
@@ -193,7 +195,7 @@ impl PkgDb {
     ///
     /// The blob goes to the least free blocks behind the slot pages, a new number to the first free slot. Nothing is read and nothing
     /// written. The first plan of a value gathers the used ranges, n log n in the slots, and takes 32 bytes for each; a later one takes
-    /// two binary searches, a step for each gap that is too narrow, and for a new number a step for each slot before the first free one.
+    /// two binary searches, a step for each gap that is too narrow, and for a new number a step for each used slot from the last one put on.
     ///
     /// A new number for which no slot is free asks for a slot page more. The blobs in its way are planned to move behind it, by rising
     /// block, each to the least free place; then the new blob. This takes a step a slot for each of them, which are at most 256, and a
@@ -259,6 +261,15 @@ impl Target {
             None => field,
             Some(next) => next,
         }
+    }
+
+    /// The place before which all slots are used after the put, given one before it. A new number takes the first free slot.
+    pub(crate) fn free_after(&self, from: u32) -> u32
+        requires { self.now.place < 2 ^ 28 }
+        ensures new { self.now.is_new ≡ true → result ≡ self.now.place + 1 }
+        ensures held { self.now.is_new ≡ false → result ≡ from }
+    {
+        if self.is_new { self.place + 1 } else { from }
     }
 
     /// The slot of the blob.

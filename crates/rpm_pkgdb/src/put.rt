@@ -11,7 +11,7 @@ ghost use Rattle.rpm_pkgdb.specs.Store.{Keeps};
 ghost use Rattle.rpm_pkgdb.specs.Blobs.{blobs, blocks_for};
 ghost use Rattle.rpm_pkgdb.specs.Framing.{framed};
 ghost use Rattle.rpm_outside.specs.Changes.{Changes, Stops};
-ghost use Rattle.rpm_pkgdb.specs.Quiet.{IsQuiet, Anything};
+ghost use Rattle.rpm_pkgdb.specs.Quiet.{IsQuiet, StandsFor, Anything};
 ghost use Rattle.rpm_pkgdb.specs.Maps.{Adds};
 ghost use Rattle.rpm_pkgdb.specs.Pairs.{find_in};
 ghost use Rattle.rpm_pkgdb.specs.Plans.{IsTarget};
@@ -72,6 +72,7 @@ impl PkgDb {
         let slot = target.slot();
         self.slots[target.place as usize] = slot;
         self.field = target.field_after(self.field);
+        self.free_from = target.free_after(self.free_from);
         note_number(&mut self.numbers, target);
         remember(&mut self.used, slot);
         forget_slot(&mut self.used, old);
@@ -134,6 +135,7 @@ impl PkgDb {
                 self.slots = slots;
                 self.used = Some(used);
                 self.pages += 1;
+                self.free_from = 0;
             }
         }
     }
@@ -176,6 +178,8 @@ impl PkgDb {
             D.left_since disk.old disk.new (Stops Pkg (PutsTo self.old plan.target blob.now (D.files disk.old).pkg)
             (D.left_since disk.old (D.moment disk.old))) }
         ensures quiet { OnOk result (IsTrue D.tells → IsQuiet self.new (D.files disk.new) (D.left_since disk.new (D.moment disk.new))) }
+        ensures stands { OnOk result (IsTrue D.tells → (image : Files) → D.left_since disk.new (D.moment disk.new) image → StandsFor
+            self.new.generation self.new.field (blobs (D.files disk.new).pkg self.new) image.pkg) }
         ensures changes { Changes D.tells D.files D.left_since D.moment D.bytes_read D.follows Pkg Anything
             (moving_cost self.old.slots (moves_of plan.page)) disk.old disk.new }
         ensures cause { HasCause (D.faults disk.old) (D.faults disk.new) result }

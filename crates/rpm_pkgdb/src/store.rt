@@ -18,9 +18,9 @@ ghost use Rattle.rpm_pkgdb.specs.Pairs.{IsNext};
 ghost use Rattle.rpm_pkgdb.specs.Blobs.{frames, blobs};
 ghost use Rattle.rpm_pkgdb.specs.Checksums.{checksums_hold};
 ghost use Rattle.rpm_pkgdb.specs.Costs.{cost, opening_cost};
-ghost use Rattle.rpm_pkgdb.specs.Answers.{AnswerIs, frame_in, given};
+ghost use Rattle.rpm_pkgdb.specs.Answers.{AnswerIs, frame_in, given, given_blob, given_check};
 
-use crate::blob::{Blocks, GetFault, read_blocks};
+use crate::blob::{Blocks, Checked, GetFault, read_blocks};
 use crate::numbers::Numbers;
 use crate::reading::read_unit;
 use crate::slot::{BLOCKS, MAGIC, OpenFault, Reason, Slot, damage_at};
@@ -47,6 +47,8 @@ pub struct PkgDb {
     pub(crate) slots: Vec<Slot>,
     pub(crate) numbers: Numbers,
     pub(crate) used: Option<Used>,
+    /// No slot before this one is free, so that a run of puts doesn't look at the used ones again each time.
+    pub(crate) free_from: u32,
     pub(crate) spare: u32,
     pub(crate) stopped: bool,
 }
@@ -106,6 +108,7 @@ impl PkgDb {
             slots,
             numbers: Numbers::new(alloc),
             used: None,
+            free_from: 0,
             spare: 0,
             stopped: false,
         })
@@ -117,7 +120,8 @@ impl PkgDb {
     ///
     /// Reads 4096 bytes a page, each byte once, and at most unit 0 where the file is blank or its head is damaged. All slots are read
     /// before the first damage is looked for, and room for them is taken first: 32 bytes a slot while opening, and 12 for as long as
-    /// the value lives. The time is n log n in the slots, whatever stands in them: two sorts show that no two of them meet. Where they
+    /// the value lives; five more where they aren't in order. The time is linear in the slots where numbers and blocks are spread evenly,
+    /// and n log n whatever stands in them: two sorts show that no two of them meet. Where they
     /// don't, two ordered maps find the first damage, which takes about ten times as long.
     ///
     /// No package has the number 0.
@@ -186,6 +190,7 @@ impl PkgDb {
             slots: table.slots,
             numbers: table.numbers,
             used: None,
+            free_from: 0,
             spare: 0,
             stopped: false,
         })
@@ -205,9 +210,10 @@ impl PkgDb {
         self.stopped
     }
 
-    /// The generation in unit 0; 0 of a blank file.
+    /// The generation in unit 0; 0 of a blank file. No package of any value has the number 0.
     pub fn generation(&self) -> u32
-        ensures { result ≡ self.now.generation }
+        ensures value { result ≡ self.now.generation }
+        ensures from_one { slot_with 0 self.now.slots ≡ None }
     {
         self.generation
     }
@@ -338,6 +344,33 @@ impl PkgDb {
         match self.blocks(alloc, disk, n) {
             Err(fault) => Err(fault),
             Ok(blocks) => Ok(blocks.checksum_holds()),
+        }
+    }
+
+    /// The blob of a number, and whether the checksum in its tail is right.
+    ///
+    /// Reads the number's own blocks, each once, as `get` does, and takes memory for them alone.
+    ///
+    /// # Errors
+    ///
+    /// Those of `get`, with the same causes. A wrong checksum is no error.
+    pub fn read_checked<D: Disk>(
+        &self,
+        alloc: Global,
+        disk: &mut D,
+        n: u32,
+    ) -> Result<Checked, GetFault>
+        requires keeps { IsTrue D.tells → Keeps (D.files disk.old).pkg self.now }
+        ensures kept { IsTrue D.tells → Keeps (D.files disk.new).pkg self.now }
+        ensures blob { IsTrue D.tells → AnswerIs given_blob (finite.get (blobs (D.files disk.old).pkg self.now) n) result }
+        ensures holds { IsTrue D.tells → AnswerIs given_check (checksums_hold (D.files disk.old).pkg self.now n) result }
+        ensures absent { (result ≡ Err GetFault.NoSuch) ↔ (slot_with n self.now.slots ≡ None) }
+        ensures looks { Looks D.tells D.files D.left_since D.moment D.bytes_read D.follows Pkg (cost n self.now) disk.old disk.new }
+        ensures cause { HasCauseAt (result ≡ Err GetFault.DiskFault) (D.faults disk.old) (D.faults disk.new) }
+    {
+        match self.blocks(alloc, disk, n) {
+            Err(fault) => Err(fault),
+            Ok(blocks) => Ok(blocks.into_checked()),
         }
     }
 }

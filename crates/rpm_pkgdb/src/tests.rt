@@ -16,11 +16,12 @@ pub const HEADER: [u8; 80] = [
 ];
 
 // Adds the head of a store of generation 2, and free slots to the end of its pages.
-pub fn add_pages(file: &mut Vec<u8>, pages: u8, next: u8) -> Result<(), AllocError> {
+pub fn add_pages(file: &mut Vec<u8>, pages: u8, next: u32) -> Result<(), AllocError> {
     file.extend_from_slice(&[
         0x52, 0x70, 0x6d, 0x50, 0, 0, 0, 0, 2, 0, 0, 0, pages, 0, 0, 0,
     ])?;
-    file.extend_from_slice(&[next, 0, 0, 0, 0, 0, 0, 0, 0, 0, 0, 0, 0, 0, 0, 0])?;
+    file.extend_from_slice(&next.to_le_bytes())?;
+    file.extend_from_slice(&[0; 12])?;
     for _ in 2..256 * pages as u32 {
         file.extend_from_slice(&SLOT)?;
         file.extend_from_slice(&[0; 12])?;
@@ -29,10 +30,10 @@ pub fn add_pages(file: &mut Vec<u8>, pages: u8, next: u8) -> Result<(), AllocErr
 }
 
 // Adds a blob of seven blocks with the header. The checksum is that of number 1.
-pub fn add_blob(file: &mut Vec<u8>, number: u8) -> Result<(), AllocError> {
-    file.extend_from_slice(&[
-        0x42, 0x6c, 0x62, 0x53, number, 0, 0, 0, 2, 0, 0, 0, 0x50, 0, 0, 0,
-    ])?;
+pub fn add_blob(file: &mut Vec<u8>, number: u32) -> Result<(), AllocError> {
+    file.extend_from_slice(&[0x42, 0x6c, 0x62, 0x53])?;
+    file.extend_from_slice(&number.to_le_bytes())?;
+    file.extend_from_slice(&[2, 0, 0, 0, 0x50, 0, 0, 0])?;
     file.extend_from_slice(&HEADER)?;
     file.extend_from_slice(&[0; 4])?;
     file.extend_from_slice(&[

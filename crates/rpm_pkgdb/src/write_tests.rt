@@ -12,7 +12,7 @@ use std::test::Fail;
 
 // A change of a store that is made.
 #[derive(Clone, Copy)]
-enum Change {
+pub enum Change {
     Raise,
     // Raises the generation first.
     Add(&'static [u8]),
@@ -21,7 +21,7 @@ enum Change {
 }
 
 // Opens a store, and makes it where the disk is blank.
-fn opened<D: Disk>(alloc: Global, disk: &mut D) -> Option<PkgDb>
+pub fn opened<D: Disk>(alloc: Global, disk: &mut D) -> Option<PkgDb>
     ensures { IfSome result (λ db. IsReady D.tells (D.files disk.new).pkg db) }
 {
     let Ok(mut db) = PkgDb::open(alloc, disk) else {
@@ -72,7 +72,7 @@ fn applied<D: Disk>(alloc: Global, disk: &mut D, db: &mut PkgDb, change: Change)
 }
 
 // Opens a store and makes changes, up to the first that fails.
-fn all_applied<D: Disk>(alloc: Global, disk: &mut D, changes: &[Change]) -> Option<PkgDb>
+pub fn all_applied<D: Disk>(alloc: Global, disk: &mut D, changes: &[Change]) -> Option<PkgDb>
     ensures { IfSome result (λ db. IsReady D.tells (D.files disk.new).pkg db) }
 {
     let Some(mut db) = opened(alloc, disk) else {
@@ -236,7 +236,7 @@ fn first_fault(
 }
 
 // Whether each stop, and each failing call, of a change leaves the state before it or after it.
-fn leaves_either(alloc: Global, file: &[u8], changes: &[Change]) -> Result<bool, AllocError> {
+pub fn leaves_either(alloc: Global, file: &[u8], changes: &[Change]) -> Result<bool, AllocError> {
     let Some(both) = both_of(alloc, file, changes)? else {
         return Ok(false);
     };
@@ -245,13 +245,35 @@ fn leaves_either(alloc: Global, file: &[u8], changes: &[Change]) -> Result<bool,
     Ok(stop.is_none() && fault == 0)
 }
 
-// The file after changes of a blank disk, and how many moments they took.
-fn made(alloc: Global, changes: &[Change]) -> Result<Option<(Vec<u8>, u64)>, AllocError> {
-    let mut disk = MemDisk::new(alloc, &[], &[], &[])?;
+// What changes left of a file, and how many moments they took and bytes they read.
+#[derive(Drop)]
+pub struct Left {
+    pub file: Vec<u8>,
+    pub moments: u64,
+    pub read: u64,
+}
+
+pub fn changed(alloc: Global, file: &[u8], changes: &[Change]) -> Result<Option<Left>, AllocError> {
+    let mut disk = MemDisk::new(alloc, file, &[], &[])?;
     if all_applied(alloc, &mut disk, changes).is_none() {
         return Ok(None);
     }
-    Ok(Some((disk.copy_file(alloc, File::Pkg)?, disk.now())))
+    Ok(Some(Left {
+        file: disk.copy_file(alloc, File::Pkg)?,
+        moments: disk.now(),
+        read: disk.bytes_read(File::Pkg),
+    }))
+}
+
+// The first of these places in a file at which other bytes stand.
+pub fn first_other(file: &[u8], places: &[(usize, [u8; 12])]) -> Option<usize> {
+    for (at, bytes) in places {
+        let end = at.saturating_add(12);
+        if file.get(*at..end).unwrap_or(&[]) != bytes.as_slice() {
+            return Some(*at);
+        }
+    }
+    None
 }
 
 // A store of one page and generation 2 with the header as number 1, laid out by hand.
@@ -266,19 +288,19 @@ fn laid(alloc: Global) -> Result<Vec<u8>, AllocError> {
 #[test]
 fn a_package_is_put_and_erased(rt: HostRuntime) -> Result<(), Fail> {
     let alloc = rt.alloc();
-    let Some((file, moments)) = made(alloc, &[Change::Add(&HEADER)])? else {
+    let Some(added) = changed(alloc, &[], &[Change::Add(&HEADER)])? else {
         return Err("add")?;
     };
-    assert_eq!(rt; file.as_slice(), laid(alloc)?.as_slice());
+    let mut want = laid(alloc)?;
+    assert_eq!(rt; added.file.as_slice(), want.as_slice());
     // no write and no sync more than the orders have
-    assert!(rt; moments == 14);
-    let Some((file, _)) = made(alloc, &[Change::Add(&HEADER), Change::Erase(1)])? else {
+    assert!(rt; added.moments == 14);
+    let Some(erased) = changed(alloc, &want, &[Change::Erase(1)])? else {
         return Err("erase")?;
     };
-    let mut want = laid(alloc)?;
     change(&mut want, 36, &[0; 9]);
     change(&mut want, 4096, &[0; 112]);
-    assert_eq!(rt; file.as_slice(), want.as_slice());
+    assert_eq!(rt; erased.file.as_slice(), want.as_slice());
     Ok(())
 }
 
@@ -287,22 +309,20 @@ fn a_freed_slot_and_freed_blocks_are_taken_again(rt: HostRuntime) -> Result<(), 
     let alloc = rt.alloc();
     let add = Change::Add(&HEADER);
     let changes = [add, add, add, Change::Raise, Change::Erase(2), add];
-    let Some((file, _)) = made(alloc, &changes)? else {
+    let Some(changed) = changed(alloc, &[], &changes)? else {
         return Err("changes")?;
     };
     // generation 6; next number 5; slots of the numbers 1, 4 and 3
-    for (at, bytes) in [
-        (8, [6, 0, 0, 0, 1, 0, 0, 0, 5, 0, 0, 0].as_slice()),
-        (36, [1, 0, 0, 0, 0, 1, 0, 0, 7, 0, 0, 0].as_slice()),
-        (52, [4, 0, 0, 0, 7, 1, 0, 0, 7, 0, 0, 0].as_slice()),
-        (68, [3, 0, 0, 0, 14, 1, 0, 0, 7, 0, 0, 0].as_slice()),
-        (84, [0; 12].as_slice()),
-        (4212, [4, 0, 0, 0, 6, 0, 0, 0, 0x50, 0, 0, 0].as_slice()),
-    ] {
-        let found = file.get(at..at + 12).unwrap_or(&[]);
-        assert!(rt; found == bytes, "{at}");
-    }
-    assert_eq!(rt; file.len(), 4096 + 3 * 112);
+    let places = [
+        (8, [6, 0, 0, 0, 1, 0, 0, 0, 5, 0, 0, 0]),
+        (36, [1, 0, 0, 0, 0, 1, 0, 0, 7, 0, 0, 0]),
+        (52, [4, 0, 0, 0, 7, 1, 0, 0, 7, 0, 0, 0]),
+        (68, [3, 0, 0, 0, 14, 1, 0, 0, 7, 0, 0, 0]),
+        (84, [0; 12]),
+        (4212, [4, 0, 0, 0, 6, 0, 0, 0, 0x50, 0, 0, 0]),
+    ];
+    assert_eq!(rt; first_other(&changed.file, &places), None);
+    assert_eq!(rt; changed.file.len(), 4096 + 3 * 112);
     Ok(())
 }
 
@@ -324,20 +344,17 @@ fn each_stop_and_fault_leaves_the_packages_before_or_after(rt: HostRuntime) -> R
     Ok(())
 }
 
-// A blob of a length as number 1: whether it is read, its checksum holds, and where the file ends.
+// A blob as number 1: whether it is read, its checksum holds, and where the file ends.
 fn put_and_read(alloc: Global, blob: &'static [u8]) -> Result<(bool, bool, usize), AllocError> {
     let mut disk = MemDisk::new(alloc, &[], &[], &[])?;
     let Some(db) = all_applied(alloc, &mut disk, &[Change::Add(blob)]) else {
         return Ok((false, false, 0));
     };
-    let read = db.get(alloc, &mut disk, 1);
-    let holds = db.checksum_holds(alloc, &mut disk, 1);
+    let Ok(read) = db.read_checked(alloc, &mut disk, 1) else {
+        return Ok((false, false, 0));
+    };
     let end = disk.copy_file(alloc, File::Pkg)?.len();
-    Ok((
-        read.is_ok_and(|read| read.as_slice() == blob),
-        holds.is_ok_and(|holds| holds),
-        end,
-    ))
+    Ok((read.blob.as_slice() == blob, read.holds, end))
 }
 
 static BYTES: [u8; 4069] = [0x5a; 4069];
@@ -364,106 +381,5 @@ fn no_number_is_left(rt: HostRuntime) -> Result<(), Fail> {
     let spent = db.plan(alloc, None, 80);
     assert!(rt; spent.is_err_and(|fault| fault == PlanFault::NumbersSpent));
     assert!(rt; db.generation() == 2);
-    Ok(())
-}
-
-// A store of generation 2 whose 254 slots have the header, one after the other, and so many free blocks behind the first.
-fn full_page(alloc: Global, gap: u32) -> Result<Vec<u8>, AllocError>
-    requires { gap ≤ 1000 }
-{
-    let mut file = Vec::new(alloc);
-    add_pages(&mut file, 1, 255)?;
-    let mut start = 256u32;
-    for k in 0..254u32 {
-        add_blob(&mut file, (k + 1) as u8)?;
-        let first = start.to_le_bytes();
-        let slot = [(k + 1) as u8, 0, 0, 0, first[0], first[1], 0, 0, 7];
-        change(&mut file, 36 + 16 * k as usize, &slot);
-        start = start.saturating_add(7);
-        if k == 0 {
-            add_zeros(&mut file, gap)?;
-            start = start.saturating_add(gap);
-        }
-    }
-    Ok(file)
-}
-
-fn add_zeros(file: &mut Vec<u8>, units: u32) -> Result<(), AllocError> {
-    for _ in 0..units {
-        file.extend_from_slice(&[0; 16])?;
-    }
-    Ok(())
-}
-
-#[test]
-fn a_page_is_planned(rt: HostRuntime) -> Result<(), Fail> {
-    let alloc = rt.alloc();
-    let mut disk = MemDisk::new(alloc, &full_page(alloc, 0)?, &[], &[])?;
-    let Some(mut db) = opened(alloc, &mut disk) else {
-        return Err("open")?;
-    };
-    let Ok(plan) = db.plan(alloc, None, 80) else {
-        return Err("plan")?;
-    };
-    assert!(rt; plan.target.number == 255 && plan.target.place == 254 && plan.target.start == 2293);
-    let Some(page) = plan.page else {
-        return Err("page")?;
-    };
-    assert!(rt; page.moves.len() == 37 && page.slots.len() == 510);
-    Ok(())
-}
-
-#[test]
-fn a_page_is_added(rt: HostRuntime) -> Result<(), Fail> {
-    let alloc = rt.alloc();
-    let page = full_page(alloc, 0)?;
-    let mut disk = MemDisk::new(alloc, &page, &[], &[])?;
-    if all_applied(alloc, &mut disk, &[Change::Add(&HEADER)]).is_none() {
-        return Err("add")?;
-    }
-    // the slots, and each block that moves
-    assert_eq!(rt; disk.bytes_read(File::Pkg), 4096 + 37 * 112);
-    let file = disk.copy_file(alloc, File::Pkg)?;
-    for (at, bytes) in [
-        // generation 3, two pages, next number 256
-        (8, [3, 0, 0, 0, 2, 0, 0, 0, 0, 1, 0, 0].as_slice()),
-        // the first and the last that moves, and the one behind it
-        (36, [1, 0, 0, 0, 0xf2, 7, 0, 0, 7, 0, 0, 0].as_slice()),
-        (
-            36 + 16 * 36,
-            [37, 0, 0, 0, 0xee, 8, 0, 0, 7, 0, 0, 0].as_slice(),
-        ),
-        (
-            36 + 16 * 37,
-            [38, 0, 0, 0, 3, 2, 0, 0, 7, 0, 0, 0].as_slice(),
-        ),
-        // slots 256 and 257
-        (4100, [255, 0, 0, 0, 0xf5, 8, 0, 0, 7, 0, 0, 0].as_slice()),
-        (4116, [0; 12].as_slice()),
-        // the old blocks behind the page
-        (8192, [0; 48].as_slice()),
-        (
-            16 * 2293,
-            [0x42, 0x6c, 0x62, 0x53, 255, 0, 0, 0, 3, 0, 0, 0].as_slice(),
-        ),
-    ] {
-        let found = file.get(at..at + bytes.len()).unwrap_or(&[]);
-        assert!(rt; found == bytes, "{at}");
-    }
-    assert_eq!(rt; file.len(), 16 * 2300);
-    let mut disk = MemDisk::new(alloc, &page, &[], &[])?;
-    let replaced = all_applied(alloc, &mut disk, &[Change::Put(Some(254), &HEADER)]);
-    assert!(rt; replaced.is_some_and(|db| db.pages() == 1));
-    Ok(())
-}
-
-#[test]
-fn each_stop_and_fault_of_a_page_leaves_the_packages_before_or_after(
-    rt: HostRuntime,
-) -> Result<(), Fail> {
-    let alloc = rt.alloc();
-    // two ranges move: the first lies in the new page, and the second on both sides of its end
-    let file = full_page(alloc, 245)?;
-    assert!(rt; leaves_either(alloc, &file, &[Change::Put(None, &HEADER)])?);
     Ok(())
 }

@@ -16,6 +16,10 @@ pub record IsKept (numbers : Pairs) (pages : ℕ) (slots : List Slot) : Type 0 w
   pub limit : 256 * pages ≤ 2 ^ 28
   pub count : length slots ≡ 256 * pages - 2
 
+-- the slots before a place are used
+abbrev pub AreUsedTo : List Slot → ℕ → Type 0
+AreUsedTo slots place = (k : ℕ) → k < place → is_used (slot_at slots k) ≡ true
+
 -- what is true of the fields of a value
 pub record IsSound (s : Inside) : Type 0 where
   pub kept : IsKept s.numbers.pairs s.pages s.slots.items
@@ -24,3 +28,4 @@ pub record IsSound (s : Inside) : Type 0 where
   pub used : HasUsed s.used s.spare s.slots.items
   pub room : s.spare ≤ s.numbers.room
   pub one : s.spare ≤ 1
+  pub taken : AreUsedTo s.slots.items s.free_from

@@ -1,5 +1,5 @@
 use Rattle.rpm_outside.specs.declared.disk.File.TheVariants.{Pkg}
-use Rattle.std.proofs.Common.{◌≡◌, ◌+◌, ◌*◌, ◌^◌, ◌<◌, List, length, take, Some, sym, ap, ◌∙◌, subst, arith, refl}
+use Rattle.std.proofs.Common.{◌≡◌, ◌+◌, ◌*◌, ◌<◌, List, length, take, Some, sym, ap, ◌∙◌, subst, arith, refl}
 use Rattle.std.proofs.lemmas.List.{take_all}
 use Rattle.rpm_outside.specs.inner.Moments.{started}
 use Rattle.rpm_pkgdb.specs.declared.moving.Move.{Move}
@@ -120,7 +120,8 @@ loop-k-preserved g c =
           let P = StandsFor value.generation value.field (blobs F0 value) in
           let keeps0 : Keeps F0 value = (quiet (D.files d) (g.met.D.Disk.as_read d told)).keeps in
           let keeps1 : Keeps F1 u = l.invariant.keeps told value some same are keeps0 in
-          copies_stops_then _ _ _ _ _ _ told NoShorter P (cost_to slots moves k) d l.disk e l.invariant.copies (l.invariant.images told value some same are quiet)
+          copies_stops_then _ _ _ _ _ _ told NoShorter P (cost_to slots moves k) d l.disk e l.invariant.copies
+          (l.invariant.images told value some same are quiet)
           (stops_weaker D.moment D.left_since (WhileMoved u m.place o m.to F1) P l.disk e
           (λ image w. stands_for_same u.generation u.field value.generation value.field (blobs F1 u) (blobs F0 value) image now.generation_is now.field_is
           (l.invariant.blobs_are told value some same are keeps0) (moves_to u m.place o m.to can F1 keeps1 image w))
@@ -133,7 +134,8 @@ loop-k-preserved g c =
           subst (λ (v : Store). IsQuiet v (D.files e) (D.left_since e (D.moment e))) (sym (then_after value slots moves k some same are lt))
           (c.in_ok-move_blocks.ensures.quiet told u can keeps1);
       copies =
-          copies_then _ _ _ _ _ _ g.met.D.Disk.follows_trans NoShorter NoShorter NoShorter (cost_to slots moves k) (16 * count) (cost_to slots moves (k + 1)) d l.disk e
+          copies_then _ _ _ _ _ _ g.met.D.Disk.follows_trans NoShorter NoShorter NoShorter (cost_to slots moves k) (16 * count) (cost_to slots moves (k + 1))
+          d l.disk e
           (omega (arith, cost_more slots moves k lt))
           (λ x y r. r) (λ x y z r q. omega (arith, r, q)) l.invariant.copies c.move_blocks.ensures.copies;
       faults = omega (arith, l.invariant.faults, c.move_blocks.ensures.cause.later);

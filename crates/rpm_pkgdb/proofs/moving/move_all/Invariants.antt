@@ -1,5 +1,5 @@
 use Rattle.rpm_outside.specs.declared.disk.File.TheVariants.{Pkg}
-use Rattle.std.proofs.Common.{◌≡◌, ◌*◌, ◌^◌, ◌≤◌, IsTrue, take, Some}
+use Rattle.std.proofs.Common.{◌≡◌, ◌≤◌, IsTrue, take, Some}
 use Rattle.rpm_outside.specs.Crash.{LeavesOnly}
 use Rattle.rpm_pkgdb.specs.Store.{Store, Keeps}
 use Rattle.rpm_pkgdb.specs.Blobs.{blobs}

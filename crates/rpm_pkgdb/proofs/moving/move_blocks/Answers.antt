@@ -4,7 +4,7 @@ use Rattle.rpm_pkgdb.specs.Slots.{end_of}
 use Rattle.rpm_pkgdb.specs.Store.{Keeps}
 use Rattle.rpm_pkgdb.proofs.Changing.{on_ok, map_ok, stops_from, copies_from, copies_weaker, copies_then, copies_stops_from, copies_stops_then}
 use Rattle.rpm_pkgdb.proofs.FreedLaws.{moved_blank}
-use Rattle.rpm_outside.specs.Files.{Units, unit_at, blank}
+use Rattle.rpm_outside.specs.Files.{unit_at, blank}
 use Rattle.rpm_pkgdb.specs.inner.Clear.{SameOutside, Holds}
 use Rattle.rpm_pkgdb.specs.Quiet.{Anything}
 use Rattle.rpm_pkgdb.specs.inner.Settings.{NoShorter, WhileMoved, blocks_of}
@@ -149,5 +149,6 @@ returns-clause-blanks g c =
     let F3 = (D.files c.write_zeros.new.disk).pkg in
     map_ok c.write_zeros.result (λ (zeros : IsTrue D.tells → (i : ℕ) → at ≤ i → i < at + (end_of c.args.old - at) → unit_at F3 i ≡ blank) told.
     moved_blank c.args.place c.args.to c.args.old.count at (end_of c.args.old - at) c.slot_unit.result (D.files c.args.disk.now).pkg
-    (D.files c.copy_settled.new.disk).pkg (D.files c.write_one.new.disk).pkg F3 (c.copy_settled.ensures.copies.pkg told) (c.in_ok-write_one.ensures.written told)
+    (D.files c.copy_settled.new.disk).pkg (D.files c.write_one.new.disk).pkg F3 (c.copy_settled.ensures.copies.pkg told)
+    (c.in_ok-write_one.ensures.written told)
     (c.write_zeros.ensures.changes.pkg told) (zeros told)) c.write_zeros.ensures.zeros

@@ -5,7 +5,7 @@ use Rattle.rpm_pkgdb.specs.declared.plan.Target.{Target}
 use Rattle.rpm_pkgdb.specs.Store.{Keeps}
 use Rattle.rpm_pkgdb.specs.Blobs.{blocks_for}
 use Rattle.rpm_pkgdb.specs.Undamaged.{IsSlotUnit}
-use Rattle.rpm_outside.specs.Files.{Units, units_of, unit_at, blank}
+use Rattle.rpm_outside.specs.Files.{units_of, unit_at, blank}
 use Rattle.rpm_pkgdb.specs.Slots.{end_of}
 use Rattle.rpm_pkgdb.specs.Framing.{framed}
 use Rattle.rpm_pkgdb.proofs.FramingLaws.{count-framed}

@@ -5,4 +5,5 @@ pub returns : goal.returns
 returns c =
     let p = c.args.self.now in
     let r = c.requires.ranged.1 in
-    least_from c.requires.ranged.0 p.used.ranges p.slots.items r.sound r.ranges c.args.count c.requires.some c.args.from c.first_fit.result c.first_fit.ensures.least
+    least_from c.requires.ranged.0 p.used.ranges p.slots.items r.sound r.ranges c.args.count c.requires.some c.args.from c.first_fit.result
+    c.first_fit.ensures.least

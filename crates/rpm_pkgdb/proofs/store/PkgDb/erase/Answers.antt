@@ -8,10 +8,10 @@ use Rattle.rpm_pkgdb.proofs.Changing.{stops_weaker}
 use Rattle.rpm_pkgdb.specs.inner.Keeping.{IsKept}
 use Rattle.rpm_pkgdb.proofs.RangeLaws.{freed_used}
 use Rattle.rpm_pkgdb.specs.inner.Ranges.{Forgets}
-use Rattle.rpm_pkgdb.specs.Quiet.{HasSlot, IsQuiet, BeforeOrAfter, with_free}
-use Rattle.rpm_pkgdb.proofs.ErasesTo.{erases_to, freed_map}
+use Rattle.rpm_pkgdb.specs.Quiet.{HasSlot, IsQuiet, StandsFor, BeforeOrAfter, with_free}
+use Rattle.rpm_pkgdb.proofs.ErasesTo.{erases_to, freed_map, stands_for}
 use Rattle.rpm_pkgdb.specs.Written.{ErasesTo}
-use Rattle.rpm_pkgdb.proofs.Held.{found_at_slot, freed_kept}
+use Rattle.rpm_pkgdb.proofs.Held.{found_at_slot, freed_kept, freed_taken}
 use Rattle.rpm_pkgdb.proofs.store.PkgDb.erase.Goals as goal
 
 pub returns-in_default-clause-images : goal.returns-in_default-clause-images
@@ -51,6 +51,7 @@ invariant_of-self-2 g c =
           (subst (λ (t : Slot). Forgets t.offset i.used c.forget.new.used) (sym has.is) c.forget.ensures);
       room = omega (arith, c.self.invariant.room, c.remove.ensures.room);
       one = c.self.invariant.one;
+      taken = freed_taken i.pages i.slots.items kept.sound k has.below i.free_from _ c.self.invariant.taken c.min-self-inside.ensures;
     }
 
 pub returns-clause-blobs : goal.returns-clause-blobs
@@ -71,3 +72,15 @@ returns-clause-quiet g c = λ told.
     let next = c.free_slot.new.disk in
     subst (λ (v : Store). IsQuiet v (D.files next) (D.left_since next (D.moment next))) (sym (ap (with_free k) c.self.view_is))
     (c.in-Ok.ensures.quiet told c.args.self.now c.slot_place-place.ensures.slot (c.requires.keeps told))
+
+pub returns-clause-stands : goal.returns-clause-stands
+returns-clause-stands g c = λ told image here.
+    let D = g.D.Disk in
+    let k = c.slot_place-place.result.0 in
+    let file = (D.files c.free_slot.new.disk).pkg in
+    let slot = c.slot_place-place.ensures.slot in
+    let keeps = c.requires.keeps told in
+    let kept = (c.in-Ok.ensures.stands told c.args.self.now slot keeps).keeps in
+    subst (λ (v : Store). StandsFor v.generation v.field (blobs file v) image.pkg) (sym (ap (with_free k) c.self.view_is))
+    (stands_for (with_free k c.args.self.now) file image.pkg slot.made kept
+    (c.in-Ok.ensures.quiet told c.args.self.now slot keeps image here))

@@ -1,9 +1,9 @@
 use Rattle.rpm_outside.specs.declared.disk.File.TheVariants.{Pkg}
-use Rattle.std.proofs.Common.{◌≡◌, ◌*◌, List, Option, Some, OnOk, refl, sym, ap, ◌∙◌, subst, arith, IsTrue}
+use Rattle.std.proofs.Common.{◌≡◌, ◌*◌, List, Option, Some, OnOk, refl, sym, ap, ◌∙◌, subst, IsTrue}
 use Rattle.rpm_outside.specs.Changes.{Stops, Changes}
 use Rattle.rpm_outside.specs.inner.Moments.{started}
 use Rattle.rpm_pkgdb.specs.declared.moving.Move.{Move}
-use Rattle.rpm_pkgdb.specs.Store.{Store, Keeps}
+use Rattle.rpm_pkgdb.specs.Store.{Keeps}
 use Rattle.rpm_pkgdb.specs.Blobs.{blobs}
 use Rattle.rpm_pkgdb.specs.Growing.{grown, moving_cost}
 use Rattle.rpm_pkgdb.specs.Freed.{AreFreed}
@@ -34,7 +34,8 @@ pub returns-in-None-clause-changes : goal.returns-in-None-clause-changes
 returns-in-None-clause-changes g c =
     let D = g.D.Disk in
     let d = c.args.disk.now in
-    subst (λ (o : Option Page). Changes D.tells D.files D.left_since D.moment D.bytes_read D.follows Pkg Anything (moving_cost c.args.self.now.slots (moves_of o)) d d)
+    subst (λ (o : Option Page). Changes D.tells D.files D.left_since D.moment D.bytes_read D.follows Pkg Anything
+    (moving_cost c.args.self.now.slots (moves_of o)) d d)
     (sym c.in-None.is) (copies_none _ _ _ _ _ _ g.met.D.Disk.follows_refl Anything (λ x. tt) d)
 
 pub returns-in-None-clause-kept : goal.returns-in-None-clause-kept

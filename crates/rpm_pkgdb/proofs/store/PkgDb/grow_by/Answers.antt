@@ -1,12 +1,9 @@
-use Rattle.rpm_outside.specs.declared.disk.File.TheVariants.{Pkg}
-use Rattle.std.proofs.Common.{◌≡◌, ℕ, ◌+◌, ◌*◌, ◌<◌, ◌≤◌, List, length, Some, refl, sym, ap, ◌∙◌, subst, arith, IsTrue}
-use Rattle.rpm_outside.specs.Files.{Units}
-use Rattle.rpm_outside.specs.Changes.{Stops}
+use Rattle.std.proofs.Common.{◌≡◌, ℕ, ◌+◌, ◌*◌, ◌≤◌, List, length, Some, refl, sym, ap, ◌∙◌, subst, arith, IsTrue}
 use Rattle.rpm_pkgdb.specs.declared.slot.Slot.{Slot}
 use Rattle.rpm_pkgdb.specs.Slots.{slot_at, end_of}
 use Rattle.rpm_pkgdb.specs.Store.{Store, Keeps}
 use Rattle.rpm_pkgdb.specs.Blobs.{blobs}
-use Rattle.rpm_pkgdb.specs.Growing.{CanAdd, grown, moving_cost, next_end}
+use Rattle.rpm_pkgdb.specs.Growing.{moving_cost, next_end}
 use Rattle.rpm_pkgdb.specs.Freed.{KeepsBlank}
 use Rattle.rpm_pkgdb.proofs.FreedLaws.{freed_page}
 use Rattle.rpm_pkgdb.specs.Quiet.{IsQuiet, Anything, StandsAs, StandsFor, BeforeOrAfter}

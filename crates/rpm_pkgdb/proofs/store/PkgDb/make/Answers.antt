@@ -6,7 +6,7 @@ use Rattle.rpm_pkgdb.specs.inner.Keeping.{IsKept}
 use Rattle.rpm_pkgdb.specs.inner.Ranges.{HasUsed}
 use Rattle.rpm_pkgdb.specs.Quiet.{IsQuiet}
 use Rattle.rpm_pkgdb.proofs.Makes.{new_map}
-use Rattle.rpm_pkgdb.proofs.News.{new_kept, new_used, new_slots}
+use Rattle.rpm_pkgdb.proofs.News.{new_kept, new_used, new_slots, none_taken}
 use Rattle.rpm_pkgdb.proofs.store.PkgDb.make.Goals as goal
 
 pub invariant_of-self-2 : goal.invariant_of-self-2
@@ -22,6 +22,7 @@ invariant_of-self-2 g c =
       used = subst (HasUsed i.used i.spare) (sym is) (new_used i.numbers.pairs i.pages i.slots.items kept none i.used i.spare c.self.invariant.used);
       room = c.self.invariant.room;
       one = c.self.invariant.one;
+      taken = λ k below. absurd (none_taken i.numbers.pairs i.pages i.slots.items kept none k (c.self.invariant.taken k below));
     }
 
 pub returns-clause-kept : goal.returns-clause-kept

@@ -1,8 +1,7 @@
-use Rattle.std.proofs.Common.{◌≡◌, ℕ, ◌+◌, ◌*◌, ◌^◌, ◌≤◌, List, Option, Some, None, sym, ap, ◌∙◌, subst, arith}
-use Rattle.rpm_pkgdb.specs.declared.slot.Slot.{Slot}
+use Rattle.std.proofs.Common.{◌≡◌, ◌+◌, ◌≤◌, Option, Some, sym, subst, arith}
 use Rattle.rpm_pkgdb.specs.declared.page.Page.{Page}
 use Rattle.rpm_pkgdb.specs.Store.{Store}
-use Rattle.rpm_pkgdb.specs.Growing.{CanAdd, grown}
+use Rattle.rpm_pkgdb.specs.Growing.{CanAdd}
 use Rattle.rpm_pkgdb.specs.Planned.{moves_of, HoldsPage}
 use Rattle.rpm_pkgdb.specs.inner.Keeping.{IsKept}
 use Rattle.rpm_pkgdb.specs.inner.MoveLists.{CanGrowBy}
@@ -32,4 +31,5 @@ invariant_of-self c =
       used = (held_p.1, omega (arith, c.self.invariant.one, held_p.2));
       room = c.self.invariant.room;
       one = c.self.invariant.one;
+      taken = λ k below. absurd (omega (arith, below));
     }

@@ -1,11 +1,11 @@
-use Rattle.std.proofs.Common.{◌≡◌, ◌-◌, ◌≤◌, false, sym, ap, subst, arith, set}
+use Rattle.std.proofs.Common.{◌≡◌, ◌-◌, ◌≤◌, List, false, sym, ap, subst, arith, set}
 use Rattle.rpm_pkgdb.specs.declared.slot.Slot.{Slot}
 use Rattle.rpm_pkgdb.specs.Slots.{slot_at}
 use Rattle.rpm_pkgdb.specs.Store.{Store}
-use Rattle.rpm_pkgdb.specs.inner.Keeping.{IsKept}
+use Rattle.rpm_pkgdb.specs.inner.Keeping.{IsKept, AreUsedTo}
 use Rattle.rpm_pkgdb.specs.Plans.{IsTarget, slot_for}
 use Rattle.rpm_pkgdb.specs.inner.Ranges.{HasUsed, Remembers, IsFreeIn}
-use Rattle.rpm_pkgdb.proofs.Noted.{above_all, fits_free, has_old_start, says, noted_kept, noted_used}
+use Rattle.rpm_pkgdb.proofs.Noted.{above_all, fits_free, has_old_start, says, noted_kept, noted_used, noted_taken}
 use Rattle.rpm_pkgdb.proofs.store.PkgDb.note_put.Goals as goal
 
 pub note_number-requires-clause-above : goal.note_number-requires-clause-above
@@ -44,7 +44,8 @@ invariant_of-self c =
     let held = subst (λ (v : Store). target.is_new ≡ false → c.args.old ≡ slot_at v.slots target.place) (sym c.self.view_is) c.requires.held in
     let after : set i.slots.items target.place c.slot-slot.result ≡ set i.slots.items target.place (slot_for target) =
     ap (set i.slots.items target.place) c.slot-slot.ensures in
-    let now = says i.numbers.pairs _ target is made c.self.invariant.kept c.note_number.new.numbers.pairs c.note_number.ensures.new c.note_number.ensures.held in
+    let now = says i.numbers.pairs _ target is made c.self.invariant.kept c.note_number.new.numbers.pairs c.note_number.ensures.new
+    c.note_number.ensures.held in
     record {
       kept =
           subst (IsKept c.note_number.new.numbers.pairs i.pages) (sym after)
@@ -56,4 +57,8 @@ invariant_of-self c =
           c.forget_slot.ensures);
       room = omega (arith, c.self.invariant.room, c.note_number.ensures.room);
       one = omega (arith, c.self.invariant.one);
+      taken =
+          subst (λ (l : List Slot). AreUsedTo l c.free_after-self-inside.result) (sym after)
+          (noted_taken i.numbers.pairs _ target is made c.self.invariant.kept i.free_from c.free_after-self-inside.result c.self.invariant.taken
+          c.free_after-self-inside.ensures.new c.free_after-self-inside.ensures.held);
     }

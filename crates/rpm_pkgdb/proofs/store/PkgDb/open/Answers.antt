@@ -1,5 +1,5 @@
 use Rattle.std.proofs.Common.{◌≡◌, ◌*◌, ◌-◌, Result, Err, sym, ap, subst, ◌∙◌, arith, IsTrue}
-use Rattle.rpm_outside.specs.declared.disk.File.TheVariants.{Pkg, Idx, Log}
+use Rattle.rpm_outside.specs.declared.disk.File.TheVariants.{Pkg}
 use Rattle.rpm_outside.specs.Files.{Files, unit_at}
 use Rattle.rpm_outside.specs.Looks.{Looks}
 use Rattle.rpm_outside.specs.inner.Looking.{looks_then, read_same}

@@ -12,7 +12,8 @@ pub first_before-requires : goal.first_before-requires
 first_before-requires c =
     let kept = c.self.invariant.kept in
     let l = c.loop-place in
-    let same : length l.page.slots.items ≡ length c.args.self.now.slots = page_count c.args.self.now.slots (256 * (c.self.inside.pages + 1)) l.page l.invariant.planning in
+    let same : length l.page.slots.items ≡ length c.args.self.now.slots = page_count c.args.self.now.slots (256 * (c.self.inside.pages + 1)) l.page
+    l.invariant.planning in
     let view : length c.args.self.now.slots ≡ length c.self.inside.slots.items = ap (λ (v : Store). length v.slots) (sym c.self.view_is) in
     omega (arith, c.deref-in-loop-place.ensures.len, same, view, kept.count, kept.limit)
 
@@ -25,7 +26,8 @@ returns-in-Err-clause-full c = λ full.
     let same : end ≡ next_end st = ap (λ (v : Store). next_end v) c.self.view_is in
     subst (CantMove st.slots) same
     (cant_move st.slots end l.page l.invariant.planning c.in-Some.place
-    (subst (λ (s : List Slot). IsFirstBefore s end c.in-Some.place) c.deref-in-loop-place.ensures.value c.in-Some.ensures) (c.in-Err.ensures.full (ap Err fault)))
+    (subst (λ (s : List Slot). IsFirstBefore s end c.in-Some.place) c.deref-in-loop-place.ensures.value c.in-Some.ensures)
+    (c.in-Err.ensures.full (ap Err fault)))
 
 pub loop-place-smaller : goal.loop-place-smaller
 loop-place-smaller c =
@@ -33,7 +35,8 @@ loop-place-smaller c =
     let slots = c.loop-place.page.slots.items in
     let m = c.in_default-add_move.ensures.moved in
     subst (λ (l : List Slot). count_before end l < count_before end slots) (sym m.2)
-    (fewer_before slots end c.in-Some.place m.0 (subst (λ (l : List Slot). IsFirstBefore l end c.in-Some.place) c.deref-in-loop-place.ensures.value c.in-Some.ensures) m.1)
+    (fewer_before slots end c.in-Some.place m.0 (subst (λ (l : List Slot). IsFirstBefore l end c.in-Some.place) c.deref-in-loop-place.ensures.value
+    c.in-Some.ensures) m.1)
 
 pub returns-clause-page : goal.returns-clause-page
 returns-clause-page c =
@@ -42,4 +45,5 @@ returns-clause-page c =
     let end = 256 * (c.self.inside.pages + 1) in
     let same : end ≡ next_end st = ap (λ (v : Store). next_end v) c.self.view_is in
     subst (λ (n : ℕ). AllMoved st.slots n l.page) same
-    (all_moved st.slots end l.page l.invariant.planning (subst (λ (s : List Slot). AreBehind s end) c.deref-in-loop-place.ensures.value c.in_default-first_before.ensures))
+    (all_moved st.slots end l.page l.invariant.planning (subst (λ (s : List Slot). AreBehind s end) c.deref-in-loop-place.ensures.value
+    c.in_default-first_before.ensures))

@@ -1,4 +1,3 @@
-use Rattle.std.proofs.Common.{◌+◌, ◌*◌}
 use Rattle.rpm_pkgdb.specs.inner.Pages.{IsRanged, IsPlanning, count_before}
 use Rattle.rpm_pkgdb.proofs.store.PkgDb.plan_moves.Given as goal
 

@@ -1,4 +1,4 @@
-use Rattle.std.proofs.Common.{◌≡◌, ◌*◌, List, map, sym, ap, subst, ◌∙◌}
+use Rattle.std.proofs.Common.{◌≡◌, ◌*◌, ◌≤◌, ℕ, List, map, Option, Some, None, sym, ap, subst, ◌∙◌, arith}
 use Rattle.std.specs.List.{filter}
 use Rattle.std.specs.FinMap as finite
 use Rattle.rpm_outside.specs.Files.{Units}
@@ -8,11 +8,20 @@ use Rattle.rpm_pkgdb.specs.Store.{Store}
 use Rattle.rpm_pkgdb.specs.Blobs.{blobs, entry_of}
 use Rattle.rpm_pkgdb.specs.Written.{with_blob, with_plan, with_spare}
 use Rattle.rpm_pkgdb.specs.Freed.{AreFreed}
+use Rattle.rpm_pkgdb.specs.declared.moving.Move.{Move}
+use Rattle.rpm_pkgdb.specs.Growing.{pages_after}
+use Rattle.rpm_pkgdb.specs.Planned.{moves_of}
+use Rattle.rpm_pkgdb.proofs.ErasesTo.{stands_for}
+use Rattle.rpm_pkgdb.proofs.MoveSteps.{stands_for_same}
 use Rattle.rpm_pkgdb.proofs.store.PkgDb.put.Goals as goal
 
 same_slots : (file : Units) (a b : Store) → b.slots ≡ a.slots → blobs file b ≡ blobs file a
 unfolding blobs
 same_slots file a b same = ap (λ (l : List Slot). finite.from_entries (map (entry_of file) (filter is_used l))) same
+
+grown_pages : (moves : Option (List Move)) (pages : ℕ) → 1 ≤ pages → 1 ≤ pages_after moves pages
+grown_pages None pages some = some
+grown_pages (Some moves) pages some = omega (arith, some)
 
 pub returns-clause-blobs : goal.returns-clause-blobs
 returns-clause-blobs g c = λ told.
@@ -32,3 +41,17 @@ returns-clause-freed g c = λ told.
     let same : new ≡ with_spare new.spare (with_plan plan st) =
     c.note_put.ensures.value ∙ ap (λ (v : Store). with_spare new.spare (with_blob plan.target v)) c.note_page.ensures in
     subst (λ (v : Store). AreFreed (256 * v.pages) st.slots v.slots (D.files c.write_plan.new.disk).pkg) (sym same) (c.in-Ok.ensures.freed told)
+
+pub returns-clause-stands : goal.returns-clause-stands
+returns-clause-stands g c = λ told image here.
+    let D = g.D.Disk in
+    let st = c.args.self.now in
+    let plan = c.args.plan in
+    let file = (D.files c.write_plan.new.disk).pkg in
+    let new = c.note_put.new.self in
+    let same : new ≡ with_spare new.spare (with_plan plan st) =
+    c.note_put.ensures.value ∙ ap (λ (v : Store). with_spare new.spare (with_blob plan.target v)) c.note_page.ensures in
+    let some : 1 ≤ (with_plan plan st).pages = grown_pages (moves_of plan.page) st.pages c.requires.made in
+    stands_for_same _ _ new.generation new.field _ (blobs file new) image.pkg (sym (ap (λ (v : Store). v.generation) same))
+    (sym (ap (λ (v : Store). v.field) same)) (sym (same_slots file (with_plan plan st) new (ap (λ (v : Store). v.slots) same)))
+    (stands_for (with_plan plan st) file image.pkg some (c.in-Ok.ensures.kept told) (c.in-Ok.ensures.quiet told image here))

@@ -59,6 +59,7 @@ invariant_of-result g c =
       used = refl;
       room = omega arith;
       one = omega arith;
+      taken = λ k below. absurd (omega (arith, below));
     }
 
 pub returns-clause-from_one : goal.returns-clause-from_one
