@@ -14,6 +14,7 @@ use Rattle.rpm_hindex.specs.inner.Drafts.{Holds, IsMade}
 use Rattle.rpm_hindex.specs.Plans.{IsPlanFor}
 use Rattle.rpm_hindex.proofs.Seals.{image_held}
 use Rattle.rpm_hindex.proofs.Counts.{times-append}
+use Rattle.rpm_hindex.proofs.Same.{units_same_rows}
 use Rattle.rpm_hindex.specs.inner.Changes.{AreLinks, kept_below, row_of, IsScratchOf, HasLess, IsOther, IsTooLarge}
 use Rattle.rpm_hindex.specs.Refusals.{IsTooLargeFor}
 use Rattle.rpm_hindex.specs.declared.faults.PrepareFault.{PrepareFault}
@@ -77,6 +78,11 @@ other_fits drops adds old NoMemory is = tt
 
 pub large_for : (drops adds kept old : List Row) (e : PrepareFault) → HasLess drops old kept → IsTooLarge (kept ++ adds) e → IsTooLargeFor drops adds old e
 large_for drops adds kept old (BadIndex unit) less is = tt
-large_for drops adds kept old (IndexFull needed) less is = (kept ++ adds, λ r. times-append r kept adds ∙ ap (λ (n : ℕ). n + times r adds) (less r), is.0, is.1)
+large_for drops adds kept old (IndexFull needed) less is = (
+  is.0,
+  λ new changed.
+      is.1
+      ∙ units_same_rows new (kept ++ adds) (λ r. times-append r kept adds ∙ ap (λ (n : ℕ). n + times r adds) (less r) ∙ sym (changed r)),
+)
 large_for drops adds kept old DiskFault less is = tt
 large_for drops adds kept old NoMemory less is = tt

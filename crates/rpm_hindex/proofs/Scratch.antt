@@ -9,7 +9,7 @@ use Rattle.rpm_outside.specs.Files.{units_of, unit_at}
 use Rattle.rpm_outside.specs.inner.Cuts.{unit_at-cut_up}
 use Rattle.rpm_hindex.specs.Words.{word}
 use Rattle.rpm_hindex.specs.Rows.{Row}
-use Rattle.rpm_hindex.specs.Sizes.{doubled, bucket_count, is_bucket_count, first_record, live_of}
+use Rattle.rpm_hindex.specs.Sizes.{doubled, bucket_count, is_bucket_count, first_record, live_of, units_for}
 use Rattle.rpm_hindex.specs.State.{is_ordered}
 use Rattle.rpm_hindex.specs.inner.Drafts.{IsImage}
 
@@ -53,6 +53,12 @@ count_is r le =
     let at : get_or (range_with_len 0 22) d.0 0 ≡ d.0 = get_or-range_with_len 0 22 d.0 0 d.1 ∙ omega arith in
     list_any_at (λ (k : ℕ). eqb (doubled r 64 r) (64 * 2 ^ k)) (range_with_len 0 22) d.0 0 (omega (arith, d.1, length-range_with_len 0 22))
     (ap (λ (k : ℕ). eqb (doubled r 64 r) (64 * 2 ^ k)) at ∙ eq-eqb (doubled r 64 r) (64 * 2 ^ d.0) d.2)
+
+-- unit 1 of an image says where its units end
+pub image_size : (rows : List Row) (bytes : List ℕ) → IsImage rows (bucket_count (length rows)) bytes → word 0 (take 16 bytes) ≡ units_for rows
+image_size rows bytes is =
+    let first : unit_at (units_of bytes) 0 ≡ take 16 bytes = unit_at-cut_up (length bytes / 16) bytes 0 (omega (arith, is.long)) in
+    ap (word 0) (sym first) ∙ is.used
 
 -- what unit 1 of an image says suits the file that holds it
 pub image_ordered : (rows : List Row) (bytes : List ℕ) (units : ℕ) → IsImage rows (bucket_count (length rows)) bytes → first_record

@@ -24,11 +24,11 @@ IsBefore a b = (a.number < b.number) ⊎ ((a.number ≡ b.number) × (a.place �
 abbrev pub row_of_hit : ℕ → List ℕ → Hit → Row
 row_of_hit kind key hit = record { kind = kind; key = key; number = hit.number; place = hit.place }
 
--- the numbers and places of the rows of this kind and key, each as often
 -- whether a row has this kind and key
 abbrev pub has_key : ℕ → List ℕ → Row → Bool
 has_key kind key row = (kind == row.kind) && bytes_eq key row.key
 
+-- the numbers and places of the rows of this kind and key, each as often
 abbrev pub AsOften : ℕ → List ℕ → List Row → List Hit → Type 0
 AsOften kind key rows hits = (hit : Hit) → times_hit hit hits ≡ times (row_of_hit kind key hit) rows
 

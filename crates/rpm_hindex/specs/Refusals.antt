@@ -13,7 +13,7 @@ use Rattle.rpm_hindex.specs.Index.{index_in, chain, all_places, units_at}
 -- a fault for want of room tells what the rows need that are those of a file with a change, which is too much
 abbrev pub IsTooLargeFor : List Row → List Row → List Row → PrepareFault → Type 0
 IsTooLargeFor drops adds old (BadIndex unit) = Unit {0}
-IsTooLargeFor drops adds old (IndexFull needed) = (new : List Row) × HasChanged drops adds old new × (2 ^ 28 < needed) × (needed ≡ units_for new)
+IsTooLargeFor drops adds old (IndexFull needed) = (2 ^ 28 < needed) × ((new : List Row) → HasChanged drops adds old new → needed ≡ units_for new)
 IsTooLargeFor drops adds old DiskFault = Unit {0}
 IsTooLargeFor drops adds old NoMemory = Unit {0}
 

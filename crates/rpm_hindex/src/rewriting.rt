@@ -4,6 +4,7 @@ ghost use Rattle.std.specs.Prelude.{◌≡◌, ℕ, ◌+◌, ◌*◌, ◌/◌, �
 ghost use Rattle.rpm_outside.specs.Files.{Files, Units, units_of, unit_at, blank, put};
 ghost use Rattle.rpm_outside.specs.Causes.{HasCause, HasCauseAt};
 ghost use Rattle.rpm_hindex.specs.Rows.{Row, SameRows};
+ghost use Rattle.rpm_hindex.specs.Words.{word};
 ghost use Rattle.rpm_hindex.specs.Sizes.{bucket_count, units_for};
 ghost use Rattle.rpm_hindex.specs.State.{State, Keeps, is_ordered};
 ghost use Rattle.rpm_hindex.specs.Index.{records};
@@ -43,7 +44,8 @@ pub fn image_of(alloc: Global, rows: &Rows) -> Result<Image, RewriteFault>
 }
 
 impl Hindex {
-    /// Makes the first unit zeros, writes an index of these rows from scratch, and settles the file. The index isn't sealed then.
+    /// Makes the first unit zeros, writes an index of these rows from scratch, and settles the file. The index isn't sealed then. No unit of it is
+    /// dead: it has as many as `index_units` says.
     ///
     /// Reads nothing. All memory is taken before the first write: once that of the rows, and 8 bytes a bucket. Records go out in one
     /// large write, and the time is linear in the rows.
@@ -63,6 +65,7 @@ impl Hindex {
         ensures full { IsFull (units_for rows.now) result }
         ensures pending { OnOk result (self.new.pending ≡ bucket_count (length rows.now)) }
         ensures voided { OnOk result (self.new.first ≡ blank) }
+        ensures size { OnOk result (word 0 self.new.second ≡ units_for rows.now) }
         ensures ordered { OnOk result (is_ordered self.new.pending self.new.second self.new.units ≡ true) }
         ensures kept { OnOk result (IsTrue D.tells → Keeps (D.files disk.new).idx self.new) }
         ensures whole { OnOk result (IsTrue D.tells → IsWellFormed self.new.pending (D.files disk.new).idx) }

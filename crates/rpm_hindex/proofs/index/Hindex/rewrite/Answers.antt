@@ -1,8 +1,9 @@
 use Rattle.std.proofs.Common.{ap, ◌∙◌, arith, ℕ, List, length, ◌+◌, ◌≤◌, ◌^◌}
+use Rattle.rpm_hindex.specs.Words.{word}
 use Rattle.rpm_hindex.specs.Sizes.{bucket_count, first_record, live_of}
 use Rattle.rpm_hindex.specs.State.{is_ordered}
 use Rattle.rpm_hindex.proofs.Drafting.{length-le-live}
-use Rattle.rpm_hindex.proofs.Scratch.{image_ordered}
+use Rattle.rpm_hindex.proofs.Scratch.{image_ordered, image_size}
 use Rattle.rpm_hindex.proofs.index.Hindex.rewrite.Goals as goal
 
 pub returns-clause-ordered : goal.returns-clause-ordered
@@ -15,3 +16,7 @@ returns-clause-ordered g c =
     ap (λ (b : ℕ). is_ordered b c.replace.new.self.second c.replace.new.self.units) pending
     ∙ ap (λ (u : List ℕ). is_ordered B u c.replace.new.self.units) c.in-Ok-replace.ensures.second
     ∙ image_ordered rows c.in-Ok.image.bytes.items c.replace.new.self.units c.in-Ok.ensures.made room few_rows c.in-Ok-replace.ensures.units
+
+pub returns-clause-size : goal.returns-clause-size
+returns-clause-size g c =
+    ap (word 0) c.in-Ok-replace.ensures.second ∙ image_size c.args.rows.now c.in-Ok.image.bytes.items c.in-Ok.ensures.made
