@@ -33,7 +33,8 @@ module _ {D : Type 0} (tells : Bool) (files : D → Files) (moment : D → ℕ) 
   }
 
   pub keeps_trans : ((a b c : D) → follows a b → follows b c → follows a c) → (a b c : D) (ra rb rc : File → ℕ)
-      → KeepsBelow tells files moment left_since bytes_read follows faults a b ra rb → KeepsBelow tells files moment left_since bytes_read follows faults b c rb rc
+      → KeepsBelow tells files moment left_since bytes_read follows faults a b ra rb
+      → KeepsBelow tells files moment left_since bytes_read follows faults b c rb rc
       → KeepsBelow tells files moment left_since bytes_read follows faults a c ra rc
   keeps_trans trans a b c ra rb rc first second = record {
     same = λ told. second.same told ∙ first.same told;

@@ -92,8 +92,12 @@ pub fn read_over<D: Disk>(
     ensures looks { Looks D.tells D.files D.left_since D.moment D.bytes_read D.follows file (length into.old) below.old below.new }
     ensures cause { HasCause (D.faults below.old) (D.faults below.new) result }
 {
-    let end = below.len(file)?;
     let pages = layers.file(file);
+    // A file of which nothing is held reads as below, and its length need not be asked for.
+    if pages.end == 0 {
+        return below.read_at(file, unit, into);
+    }
+    let end = below.len(file)?;
     let whole = pages.length(end);
     // Only the disk below can count the fault of a read past the end.
     if unit > whole || into.len() as u64 / 16 > whole - unit {
