@@ -5,3 +5,16 @@ pub mod Opened
 pub mod Found
 pub mod Rebuilt
 pub mod Emptied
+pub mod Results
+pub mod States
+pub mod Raised
+pub mod SealedRows
+pub mod Changed
+pub mod Both
+pub mod SameLogs
+pub mod Prepared
+pub mod Edited
+pub mod Refused
+pub mod Puts
+pub mod Applied
+pub mod Served

@@ -1,5 +1,5 @@
 -- What an opened database keeps.
-use Rattle.std.specs.Prelude.{◌≡◌, ℕ, ◌<◌, Bool, true, false, ◌==◌, is_some, Option, Some, None, Result, Ok, Err}
+use Rattle.std.specs.Prelude.{◌≡◌, ℕ, ◌<◌, ◌≤◌, Bool, true, false, ◌==◌, is_some, Option, Some, None, Result, Ok, Err}
 use Rattle.rpm_outside.specs.Files.{Units}
 use Rattle.rpm_pkgdb.specs.declared.slot.Damage.{Damage}
 use Rattle.rpm_pkgdb.specs.Slots.{slot_with}
@@ -38,9 +38,11 @@ abbrev pub IsInOrder : ℕ → Option hindex.State → Type 0
 IsInOrder generation None = Unit {0}
 IsInOrder generation (Some state) = hindex.is_current generation state ≡ true
 
--- what holds of each value: no package has the number 0, and until a changing call fails the store goes on and the index is current
+-- what holds of each value: no package has the number 0, a blank store has no index, and until a changing call fails the store goes on and
+-- the index is current
 pub record IsFit (store : Store) (index : Option hindex.State) (stopped : Bool) : Type 0 where
   pub from_one : slot_with 0 store.slots ≡ None
+  pub made : is_some index ≡ true → 1 ≤ store.pages
   pub going : stopped ≡ false → store.is_stopped ≡ false
   pub order : stopped ≡ false → IsInOrder store.generation index
 

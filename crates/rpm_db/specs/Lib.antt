@@ -1,9 +1,11 @@
 pub mod Answers
+pub mod Changes
 pub mod Database
 pub mod Inits
 pub mod Lawful
 pub mod Openings
 pub mod Rebuilds
+pub mod Refusals
 pub mod Rows
 pub mod Runs
 pub mod State

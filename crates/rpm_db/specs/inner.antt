@@ -5,3 +5,4 @@ pub mod LawfulLaws
 pub mod Own
 pub mod RowLaws
 pub mod Running
+pub mod Writes

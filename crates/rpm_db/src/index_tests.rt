@@ -25,7 +25,7 @@ fn made_index(alloc: Global) -> Result<Vec<u8>, AllocError> {
 }
 
 // How many packages have the name `a` on this disk, and the sum of their numbers.
-fn named(alloc: Global, disk: &mut MemDisk) -> Option<(usize, u32)> {
+pub fn named(alloc: Global, disk: &mut MemDisk) -> Option<(usize, u32)> {
     let Ok(db) = Db::open(alloc, disk) else {
         return None;
     };

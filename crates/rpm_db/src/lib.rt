@@ -6,12 +6,18 @@
 #![tactic(auto)]
 
 mod change;
+#[cfg(test)]
+mod change_tests;
+mod changing;
 mod database;
+mod editing;
 mod finding;
 #[cfg(test)]
 mod index_tests;
 mod indexing;
 mod opening;
+mod preparing;
+mod putting;
 mod reading;
 mod rebuilding;
 mod rows;
@@ -19,6 +25,7 @@ mod starting;
 #[cfg(test)]
 mod tests;
 mod verify;
+mod writing;
 
 pub use change::ChangeFault;
 pub use database::Db;

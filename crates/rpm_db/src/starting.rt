@@ -19,6 +19,7 @@ ghost use Rattle.rpm_db.specs.Database.{Keeps, KeepsIndex, IsIndexed, is_blank, 
 ghost use Rattle.rpm_db.specs.Inits.{IsEmptyStill, IsInitFault};
 ghost use Rattle.rpm_db.specs.Lawful.{IsIndexOf, Remade};
 ghost use Rattle.rpm_db.specs.Runs.{Runs};
+ghost use Rattle.rpm_db.specs.inner.Writes.{SameLog};
 
 use crate::change::ChangeFault;
 use crate::database::Db;
@@ -77,6 +78,7 @@ pub fn make_files<D: Disk>(
     ensures stops { IsTrue D.tells → LeavesOnly D.moment D.left_since disk.old disk.new (IsEmptyStill (D.left_since disk.old (D.moment disk.old))) }
     ensures reads { D.bytes_read disk.new Idx ≤ D.bytes_read disk.old Idx + 32 }
     ensures unread { D.bytes_read disk.new Pkg ≤ D.bytes_read disk.old Pkg }
+    ensures runs { Runs D.tells D.files D.left_since D.moment D.bytes_read D.follows SameLog disk.old disk.new }
     ensures cause { HasCauseAt (result ≡ Err RewriteFault.DiskFault) (D.faults disk.old) (D.faults disk.new) }
 {
     let mut index = match empty_index(alloc, disk) {
@@ -118,8 +120,13 @@ impl Db {
         ensures reads { D.bytes_read disk.new Idx ≤ D.bytes_read disk.old Idx + 32 }
         ensures unread { D.bytes_read disk.new Pkg ≤ D.bytes_read disk.old Pkg }
         ensures kinds { IfErr result IsInitFault }
+        ensures stopped { (self.new.stopped ≡ true → (self.old.stopped ≡ true) ⊎ (result ≡ Err ChangeFault.DiskFault))
+            × (result ≡ Err ChangeFault.DiskFault → self.new.stopped ≡ true) }
+        ensures is_stopped { (self.old.stopped ≡ true → result ≡ Err ChangeFault.Stopped) × (result ≡ Err ChangeFault.Stopped → self.old.stopped ≡ true) }
+        ensures value { IfErr result (λ e. e ≢ ChangeFault.DiskFault → self.new ≡ self.old) }
         ensures stops { IsTrue D.tells → self.old.stopped ≡ false → is_blank self.old ≡ true → LeavesOnly D.moment D.left_since disk.old disk.new
             (IsEmptyStill (D.left_since disk.old (D.moment disk.old))) }
+        ensures runs { Runs D.tells D.files D.left_since D.moment D.bytes_read D.follows SameLog disk.old disk.new }
         ensures cause { HasCauseAt (result ≡ Err ChangeFault.DiskFault) (D.faults disk.old) (D.faults disk.new) }
     {
         if self.is_stopped {

@@ -4,7 +4,7 @@ use std::alloc::{AllocError, Global};
 use std::test::Fail;
 
 // The header of a package `a-1-2.x`.
-const PLAIN: [u8; 80] = [
+pub const PLAIN: [u8; 80] = [
     0, 0, 0, 4, 0, 0, 0, 8, //
     0, 0, 3, 0xe8, 0, 0, 0, 6, 0, 0, 0, 0, 0, 0, 0, 1, //
     0, 0, 3, 0xe9, 0, 0, 0, 6, 0, 0, 0, 2, 0, 0, 0, 1, //
@@ -40,7 +40,7 @@ fn signed(alloc: Global, text: &[u8], kind: u8) -> Result<Vec<u8>, AllocError> {
     Ok(blob)
 }
 
-fn push_unit(bytes: &mut Vec<u8>, magic: &[u8], numbers: [u32; 3]) -> Result<(), AllocError> {
+pub fn push_unit(bytes: &mut Vec<u8>, magic: &[u8], numbers: [u32; 3]) -> Result<(), AllocError> {
     bytes.extend_from_slice(magic)?;
     for number in numbers {
         bytes.extend_from_slice(&number.to_le_bytes())?;

@@ -17,7 +17,7 @@ returns-then-is_current-clause-rows g c = λ told lawful.
     let new = g.D.Disk.files c.open.new.disk in
     let same = (c.in-Ok.ensures.looks.untouched told).same in
     let here : is_current value.generation c.in-Ok.index ≡ true =
-    ap (λ (n : ℕ). is_current n c.in-Ok.index) (sym c.generation.ensures) ∙ sym c.is_current.ensures ∙ c.if-is_current.true in
+    ap (λ (n : ℕ). is_current n c.in-Ok.index) (sym c.generation.ensures.value) ∙ sym c.is_current.ensures ∙ c.if-is_current.true in
     let now : is_current_at value.generation new.idx ≡ true =
     sym (current_same value.generation new.idx c.in-Ok.index (c.in-Ok.ensures.kept told)) ∙ here in
     subst (λ (f : Files). HasRows (packages f.pkg value) f.idx) (sym same)

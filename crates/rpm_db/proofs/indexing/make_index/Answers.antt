@@ -12,5 +12,5 @@ write_index-requires-clause-rows g c = λ told.
     let store = c.args.store.now in
     let file = (g.D.Disk.files c.rows_of.new.disk).pkg in
     let same = (e.looks.untouched told).same in
-    subst (λ (n : ℕ). IsOfRows n c.in-Ok.rows file) (sym c.generation.ensures)
+    subst (λ (n : ℕ). IsOfRows n c.in-Ok.rows file) (sym c.generation.ensures.value)
     (of_rows file store c.in-Ok.rows (e.kept told) (e.rows told ∙ ap (λ (f : Files). rows (packages f.pkg store)) (sym same)))

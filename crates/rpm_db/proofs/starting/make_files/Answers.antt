@@ -3,6 +3,7 @@ use Rattle.rpm_outside.specs.Files.{Files, Units, unit_at, blank}
 use Rattle.rpm_outside.specs.Changes.{Stops}
 use Rattle.rpm_outside.specs.declared.disk.File.TheVariants.{Pkg}
 use Rattle.rpm_outside.specs.inner.Moments.{leaves_then, leaves_weaker}
+use Rattle.rpm_pkgdb.specs.Quiet.{Anything}
 use Rattle.rpm_pkgdb.specs.Store.{Store, store, in_file}
 use Rattle.rpm_pkgdb.specs.Store as pkgdb
 use Rattle.rpm_pkgdb.specs.Written.{MakesTo, made_new}
@@ -13,6 +14,7 @@ use Rattle.rpm_db.specs.Runs.{CameOf}
 use Rattle.rpm_db.proofs.Emptied.{blank_is, stops_index, stops_make, stops_seal, two, empty_unsealed}
 use Rattle.rpm_db.proofs.Making.{ordered_pending}
 use Rattle.rpm_db.proofs.Opened.{settled_quiet, still_settled, still_quiet}
+use Rattle.rpm_db.proofs.SameLogs.{log_remade, log_made, log_sealed}
 use Rattle.rpm_db.proofs.starting.make_files.Goals as goal
 
 pub seal_index-requires-clause-written : goal.seal_index-requires-clause-written
@@ -124,3 +126,25 @@ pub returns-in-Ok-seal_index-clause-quiet : goal.returns-in-Ok-seal_index-clause
 returns-in-Ok-seal_index-clause-quiet g c = λ told.
     still_quiet g.D.Disk.tells g.D.Disk.files g.D.Disk.left_since g.D.Disk.moment g.D.Disk.bytes_read g.D.Disk.follows c.make.new.disk
     c.seal_index.new.disk c.make.new.self told c.in-Ok-seal_index.ensures.runs (c.in-Ok-make.ensures.quiet told)
+
+pub returns-in-Err-clause-runs : goal.returns-in-Err-clause-runs
+returns-in-Err-clause-runs g c =
+    log_remade g.D.Disk.tells g.D.Disk.files g.D.Disk.left_since g.D.Disk.moment g.D.Disk.bytes_read g.D.Disk.follows c.args.disk.now
+    c.empty_index.new.disk c.in-Err.ensures.runs
+
+pub returns-in_default-clause-runs : goal.returns-in_default-clause-runs
+returns-in_default-clause-runs g c =
+    log_made g.D.Disk.tells g.D.Disk.files g.D.Disk.left_since g.D.Disk.moment g.D.Disk.bytes_read g.D.Disk.follows g.met.D.Disk.follows_trans
+    Anything 0 c.args.disk.now c.empty_index.new.disk c.make.new.disk c.in-Ok.ensures.runs c.in_default.ensures.changes
+
+pub returns-in-Ok-seal_index-clause-runs : goal.returns-in-Ok-seal_index-clause-runs
+returns-in-Ok-seal_index-clause-runs g c =
+    log_sealed g.D.Disk.tells g.D.Disk.files g.D.Disk.left_since g.D.Disk.moment g.D.Disk.bytes_read g.D.Disk.follows g.met.D.Disk.follows_trans
+    Anything 0 c.args.disk.now c.empty_index.new.disk c.make.new.disk c.seal_index.new.disk c.in-Ok.ensures.runs c.in-Ok-make.ensures.changes
+    c.in-Ok-seal_index.ensures.runs
+
+pub returns-in-Err-seal_index-clause-runs : goal.returns-in-Err-seal_index-clause-runs
+returns-in-Err-seal_index-clause-runs g c =
+    log_sealed g.D.Disk.tells g.D.Disk.files g.D.Disk.left_since g.D.Disk.moment g.D.Disk.bytes_read g.D.Disk.follows g.met.D.Disk.follows_trans
+    Anything 0 c.args.disk.now c.empty_index.new.disk c.make.new.disk c.seal_index.new.disk c.in-Ok.ensures.runs c.in-Ok-make.ensures.changes
+    c.in-Err-seal_index.ensures.runs

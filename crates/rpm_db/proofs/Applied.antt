@@ -1,0 +1,51 @@
+-- The state that a change makes, as the blobs of its store say it.
+use Rattle.std.proofs.Common.{◌≡◌, ℕ, ◌+◌, List, Option, Some, None, Ok, refl, sym, ap, ◌∙◌}
+use Rattle.std.specs.FinMap as finite
+use Rattle.std.specs.Ordering.{nat_cmp}
+use Rattle.rpm_header.specs.Header.{Header, header}
+use Rattle.rpm_outside.specs.Files.{Units}
+use Rattle.rpm_pkgdb.specs.Blobs.{blobs}
+use Rattle.rpm_pkgdb.specs.Quiet.{BlobMap, StandsFor}
+use Rattle.rpm_pkgdb.specs.Store.{Store, next_number}
+use Rattle.rpm_db.specs.Changes.{apply, Erase, Says}
+use Rattle.rpm_db.specs.State.{State, Package, Good, packages, state}
+use Rattle.rpm_db.specs.inner.Writes.{state_with, state_of, number_for, field_for, change_for}
+use Rattle.rpm_db.proofs.Edited.{put_packages, erased_packages}
+use Rattle.rpm_db.proofs.States.{next-state, state-blobs}
+
+-- a header under a number that is there, or a new one
+pub put_state : (file : Units) (value : Store) (n : Option ℕ) (h : Header) → header h.blob ≡ Ok h
+    → state_of (finite.insert (blobs file value) (number_for n value) (Some h.blob)) (field_for n value) ≡ apply (change_for n h.blob) (state file value)
+put_state file value None h own =
+    ap (λ (ps : finite.FinMap nat_cmp Package). state_with ps (next_number value + 1)) (put_packages file value (next_number value) h own)
+    ∙ ap (λ (k : ℕ). state_with (finite.insert (packages file value) k (Good h.blob)) (k + 1)) (sym (next-state file value))
+put_state file value (Some n) h own =
+    ap (λ (ps : finite.FinMap nat_cmp Package). state_with ps value.field) (put_packages file value n h own)
+
+-- a number that is taken out
+pub erase_state : (file : Units) (value : Store) (n : ℕ)
+    → state_of (finite.remove (blobs file value) n) value.field ≡ apply (Erase n) (state file value)
+erase_state file value n = ap (λ (ps : finite.FinMap nat_cmp Package). state_with ps value.field) (erased_packages file value n)
+
+-- what an image says that stands for a file
+says_state : (generation field : ℕ) (map : BlobMap) (image : Units) (s : StandsFor generation field map image) → state image s.value ≡ state_of map field
+says_state generation field map image s =
+    state-blobs image s.value ∙ ap (λ (k : BlobMap). state_of k s.value.field) s.blobs_are ∙ ap (state_of map) s.field_is
+
+pub held_by : (file image : Units) (value : Store) (after : State) → state file value ≡ after
+    → StandsFor value.generation value.field (blobs file value) image → Says (λ t. t ≡ after) image
+held_by file image value after is s = record {
+  value = s.value;
+  undamaged = s.undamaged;
+  is = says_state value.generation value.field (blobs file value) image s ∙ sym (state-blobs file value) ∙ is;
+}
+
+-- of a value that is told otherwise
+pub put_goes : (file : Units) (value told : Store) → value ≡ told → (n : Option ℕ) (h : Header) → header h.blob ≡ Ok h
+    → state_of (finite.insert (blobs file value) (number_for n value) (Some h.blob)) (field_for n value) ≡ apply (change_for n h.blob) (state file told)
+put_goes file value told same n h own =
+    put_state file value n h own ∙ ap (λ (v : Store). apply (change_for n h.blob) (state file v)) same
+
+pub erase_goes : (file : Units) (value told : Store) → value ≡ told → (n : ℕ)
+    → state_of (finite.remove (blobs file value) n) value.field ≡ apply (Erase n) (state file told)
+erase_goes file value told same n = erase_state file value n ∙ ap (λ (v : Store). apply (Erase n) (state file v)) same

@@ -1,0 +1,169 @@
+-- What stops leave while a change is made.
+use Rattle.std.proofs.Common.{◌≡◌, ◌⊎◌, inl, inr, ℕ, ◌+◌, ◌≤◌, ◌<◌, eqb, refl, sym, ap, ◌∙◌, subst, arith}
+use Rattle.std.specs.FinMap as finite
+use Rattle.std.specs.Ordering.{nat_cmp}
+use Rattle.std.proofs.lemmas.Bool.{and_parts}
+use Rattle.std.proofs.lemmas.Bool.Decides.{nat_tests}
+use Rattle.rpm_outside.specs.declared.disk.File.TheVariants.{Pkg, Idx}
+use Rattle.rpm_outside.specs.Changes.{Changed, Stops}
+use Rattle.rpm_outside.specs.Crash.{LeavesOnly}
+use Rattle.rpm_outside.specs.Files.{Units, Files, unit_at, blank}
+use Rattle.rpm_outside.specs.inner.Moments.{leaves_then, leaves_weaker}
+use Rattle.rpm_pkgdb.specs.Blobs.{blobs}
+use Rattle.rpm_pkgdb.specs.Quiet.{StandsFor, BlobMap, Anything}
+use Rattle.rpm_pkgdb.specs.Store.{Store}
+use Rattle.rpm_hindex.specs.declared.planning.Work.{Work}
+use Rattle.rpm_hindex.specs.Images.{IsSealed}
+use Rattle.rpm_hindex.specs.Index.{records}
+use Rattle.rpm_hindex.specs.Plans.{after, buckets_after}
+use Rattle.rpm_hindex.specs.Rows.{SameRows}
+use Rattle.rpm_hindex.specs.State.{sealed, state_of, is_current, is_in_order}
+use Rattle.rpm_hindex.specs.Whole.{IsWellFormed}
+use Rattle.rpm_db.specs.Changes.{IsChangedStill}
+use Rattle.rpm_db.specs.Lawful.{HasRows, Agrees, IsLawful}
+use Rattle.rpm_db.specs.Rows.{rows}
+use Rattle.rpm_db.specs.State.{State, Package, packages, state}
+use Rattle.rpm_db.specs.inner.LawfulLaws.{void_agrees}
+use Rattle.rpm_db.specs.inner.Writes as writes
+use Rattle.rpm_db.specs.inner.Writes.{BlobsTo, IndexTo, IsSealedAfter, WritesRows, packages_of, state_with}
+use Rattle.rpm_db.proofs.States.{packages-blobs}
+
+-- the packages of an image, and its state
+image_packages : (g f : ℕ) (B : BlobMap) (image : Units) (s : StandsFor g f B image) → packages image s.value ≡ packages_of B
+image_packages g f B image s = packages-blobs image s.value ∙ ap packages_of s.blobs_are
+
+image_state : (g f : ℕ) (B : BlobMap) (image : Units) (s : StandsFor g f B image) → state image s.value ≡ writes.state_of B f
+image_state g f B image s =
+    ap (λ (p : finite.FinMap nat_cmp Package). state_with p s.value.field) (image_packages g f B image s)
+    ∙ ap (state_with (packages_of B)) s.field_is
+
+-- an index that is sealed at an earlier generation agrees with each store
+pub earlier_agrees : (value : Store) (pkg idx : Units) → sealed (unit_at idx 0) < value.generation → Agrees value pkg idx
+unfolding is_current
+earlier_agrees value pkg idx early = record {
+  rows_are = λ current.
+      (let at = (and_parts (eqb (sealed (unit_at idx 0)) value.generation) (is_in_order (state_of idx)) current).0 in
+      let is : sealed (unit_at idx 0) ≡ value.generation = grind (arith, nat_tests) in
+      absurd (omega (arith, early, is)));
+  no_later = omega (arith, early);
+}
+
+-- an index that holds the rows of an image's packages, sealed no later
+now_lawful : (g f : ℕ) (B : BlobMap) (pkg idx : Units) → StandsFor g f B pkg → HasRows (packages_of B) idx → sealed (unit_at idx 0) ≡ g → IsLawful pkg idx
+now_lawful g f B pkg idx s has at = inr (
+  s.value,
+  s.undamaged,
+  record {
+    rows_are = λ current. subst (λ p. HasRows p idx) (sym (image_packages g f B pkg s)) has;
+    no_later = omega (arith, at, s.generation_is);
+  },
+)
+
+later_lawful : (g f : ℕ) (B : BlobMap) (pkg idx : Units) → StandsFor g f B pkg → sealed (unit_at idx 0) < g → IsLawful pkg idx
+later_lawful g f B pkg idx s early = inr (s.value, s.undamaged, earlier_agrees s.value pkg idx (omega (arith, early, s.generation_is)))
+
+-- the index that is sealed behind a change
+pub rows_sealed : (g : ℕ) (packages : finite.FinMap nat_cmp Package) (work : Work) (file idx : Units) → WritesRows (rows packages) work file
+    → IsSealedAfter g work file idx → HasRows packages idx × (sealed (unit_at idx 0) ≡ g)
+rows_sealed g packages work file idx w s =
+    let sealed_is = s.sealed w.whole in (
+      record {
+        whole = subst (λ (b : ℕ). IsWellFormed b idx) (sym sealed_is.buckets_are) sealed_is.whole;
+        same = subst (λ (b : ℕ). SameRows (rows packages) (records b idx)) (sym sealed_is.buckets_are)
+            (subst (SameRows (rows packages)) (sym sealed_is.records_are) w.same);
+      },
+      sealed_is.generation_is,
+    )
+
+module _ (g f next : ℕ) (B after : BlobMap) (index : Units) (at : sealed (unit_at index 0) ≡ g) (has : HasRows (packages_of B) index)
+    (images : Files → Type 0) where
+  abbrev Still : Files → Type 0
+  Still = IsChangedStill (writes.state_of B f) (writes.state_of after next) images
+
+  -- while the store is written
+  pub store_stop : (image from : Files) → images from → image.idx ≡ index → image.log ≡ from.log → BlobsTo g f next B after image.pkg → Still image
+  store_stop image from was idx log to = either to
+    where
+      early : sealed (unit_at image.idx 0) < g + 1
+      early = omega (arith, ap (λ (u : Units). sealed (unit_at u 0)) idx, at)
+
+      either : BlobsTo g f next B after image.pkg → Still image
+      either (inl s) = record {
+        from = from;
+        was = was;
+        log = log;
+        lawful = now_lawful g f B image.pkg image.idx s (subst (HasRows (packages_of B)) (sym idx) has)
+            (ap (λ (u : Units). sealed (unit_at u 0)) idx ∙ at);
+        says = inr (record { value = s.value; undamaged = s.undamaged; is = inl (image_state g f B image.pkg s) });
+      }
+      either (inr (inl s)) = record {
+        from = from;
+        was = was;
+        log = log;
+        lawful = later_lawful (g + 1) f B image.pkg image.idx s early;
+        says = inr (record { value = s.value; undamaged = s.undamaged; is = inl (image_state (g + 1) f B image.pkg s) });
+      }
+      either (inr (inr (inl s))) = record {
+        from = from;
+        was = was;
+        log = log;
+        lawful = later_lawful (g + 1) next B image.pkg image.idx s early;
+        says = inr (record { value = s.value; undamaged = s.undamaged; is = inr (inl (image_state (g + 1) next B image.pkg s)) });
+      }
+      either (inr (inr (inr s))) = record {
+        from = from;
+        was = was;
+        log = log;
+        lawful = later_lawful (g + 1) next after image.pkg image.idx s early;
+        says = inr (record { value = s.value; undamaged = s.undamaged; is = inr (inr (image_state (g + 1) next after image.pkg s)) });
+      }
+
+  -- while the index is: the store says what it will
+  module _ (work : Work) (writes_rows : WritesRows (rows (packages_of after)) work index) where
+    index_lawful : (pkg mid idx : Units) → StandsFor (g + 1) next after pkg → mid ≡ index → IndexTo (g + 1) work index mid idx → IsLawful pkg idx
+    index_lawful pkg mid idx s same (inl void) = inr (s.value, s.undamaged, void_agrees s.value pkg idx void)
+    index_lawful pkg mid idx s same (inr (inl seal)) =
+        later_lawful (g + 1) next after pkg idx s (omega (arith, ap sealed seal, ap (λ (u : Units). sealed (unit_at u 0)) same, at))
+    index_lawful pkg mid idx s same (inr (inr sealed_is)) =
+        let r = rows_sealed (g + 1) (packages_of after) work index idx writes_rows sealed_is in
+        now_lawful (g + 1) next after pkg idx s r.0 r.1
+
+    pub index_stop : (image from mid : Files) → images from → mid.log ≡ from.log → mid.idx ≡ index → StandsFor (g + 1) next after mid.pkg
+        → image.pkg ≡ mid.pkg → image.log ≡ mid.log → IndexTo (g + 1) work index mid.idx image.idx → Still image
+    index_stop image from mid was log idx stands pkg same_log to =
+        let s = subst (StandsFor (g + 1) next after) (sym pkg) stands in
+        record {
+          from = from;
+          was = was;
+          log = same_log ∙ log;
+          lawful = index_lawful image.pkg mid.idx image.idx s idx to;
+          says = inr (record { value = s.value; undamaged = s.undamaged; is = inr (inr (image_state (g + 1) next after image.pkg s)) });
+        }
+
+module _ {D : Type 0} (moment : D → ℕ) (left_since : D → ℕ → Files → Type 0) (g f next : ℕ) (B after : BlobMap) (index : Units)
+    (at : sealed (unit_at index 0) ≡ g) (has : HasRows (packages_of B) index) (a : D) where
+  abbrev images : D → Files → Type 0
+  images d = left_since d (moment d)
+
+  abbrev Leaves : D → D → Type 0
+  Leaves x y = LeavesOnly moment left_since x y (IsChangedStill (writes.state_of B f) (writes.state_of after next) (images a))
+
+  pub stops_store : (b : D) → ((i : Files) → images a i → i.idx ≡ index)
+      → LeavesOnly moment left_since a b (Stops Pkg (BlobsTo g f next B after) (images a)) → Leaves a b
+  stops_store b settled run =
+      leaves_weaker moment left_since a b (Stops Pkg (BlobsTo g f next B after) (images a))
+      (IsChangedStill (writes.state_of B f) (writes.state_of after next) (images a))
+      (λ image s. store_stop g f next B after index at has (images a) image s.from s.was (s.idx ∙ settled s.from s.was) s.log s.pkg) run
+
+  pub stops_rows : (work : Work) → WritesRows (rows (packages_of after)) work index → (b c : D) → ((i : Files) → images a i → i.idx ≡ index)
+      → ((i : Files) → images b i → Changed Pkg Anything (images a) i) → ((i : Files) → images b i → StandsFor (g + 1) next after i.pkg)
+      → LeavesOnly moment left_since b c (Changed Idx (IndexTo (g + 1) work index) (images b)) → Leaves b c
+  stops_rows work writes_rows b c settled before stands run =
+      leaves_weaker moment left_since b c (Changed Idx (IndexTo (g + 1) work index) (images b))
+      (IsChangedStill (writes.state_of B f) (writes.state_of after next) (images a))
+      (λ image s. (let m = before s.from s.was in index_stop g f next B after index at has (images a) work writes_rows image m.from s.from m.was m.log
+      (m.idx ∙ settled m.from m.was) (stands s.from s.was) s.pkg s.log s.idx)) run
+
+  pub two_runs : (b c : D) → Leaves a b → Leaves b c → Leaves a c
+  two_runs b c first second =
+      leaves_then moment left_since a b c (IsChangedStill (writes.state_of B f) (writes.state_of after next) (images a)) first second

@@ -1,0 +1,107 @@
+-- A header that is planned, and what planning and writing it reads.
+use Rattle.std.proofs.Common.{◌≡◌, inl, inr, ℕ, ◌+◌, ◌≤◌, Bool, true, false, List, Option, Some, None, is_none, Ok, refl, sym, ap, ◌∙◌, subst, arith}
+use Rattle.std.specs.FinMap as finite
+use Rattle.std.specs.Ordering.{nat_cmp}
+use Rattle.rpm_header.specs.Header.{Header, header}
+use Rattle.rpm_outside.specs.Files.{Units}
+use Rattle.rpm_pkgdb.specs.declared.moving.Move.{Move}
+use Rattle.rpm_pkgdb.specs.declared.plan.Plan.{Plan}
+use Rattle.rpm_pkgdb.specs.declared.slot.Slot.{Slot}
+use Rattle.rpm_pkgdb.specs.Blobs.{blobs}
+use Rattle.rpm_pkgdb.specs.Growing.{NeedsPage, moving_cost}
+use Rattle.rpm_pkgdb.specs.Planned.{IsPlan, IsFor, moves_of}
+use Rattle.rpm_pkgdb.specs.Store.{Store}
+use Rattle.rpm_pkgdb.specs.Quiet.{BlobMap}
+use Rattle.rpm_pkgdb.specs.Written.{with_spare, next_field, field_after}
+use Rattle.rpm_hindex.specs.Plans.{HasChanged}
+use Rattle.rpm_db.specs.Changes.{ReadsAtMost}
+use Rattle.rpm_db.specs.Rows.{header_rows, rows}
+use Rattle.rpm_db.specs.State.{Package, packages}
+use Rattle.rpm_db.specs.inner.Writes.{packages_of, old_rows, number_for, field_for, cost_before}
+use Rattle.rpm_db.proofs.Edited.{rows_put, blobs_room, number_is, field_is}
+
+-- ---- the rows that change, as the planned value says them
+
+-- the blobs, in the file as it reads behind the plan
+pub blobs_planned : (file mid : Units) → mid ≡ file → (value planned : Store) → planned ≡ with_spare planned.spare value
+    → blobs mid planned ≡ blobs file value
+blobs_planned file mid here value planned same =
+    ap (λ (u : Units). blobs u planned) here ∙ ap (blobs file) same ∙ blobs_room file planned.spare value
+
+-- room in memory changes no package and no number
+packages_room : (file : Units) (spare : ℕ) (value : Store) → packages file (with_spare spare value) ≡ packages file value
+unfolding packages blobs
+packages_room file spare value = refl
+
+pub packages_same : (file : Units) (value planned : Store) → planned ≡ with_spare planned.spare value → packages file planned ≡ packages file value
+packages_same file value planned same = ap (packages file) same ∙ packages_room file planned.spare value
+
+number_room : (n : Option ℕ) (spare : ℕ) (value : Store) → number_for n (with_spare spare value) ≡ number_for n value
+number_room None spare value = refl
+number_room (Some n) spare value = refl
+
+pub number_same : (n : Option ℕ) (value planned : Store) → planned ≡ with_spare planned.spare value → number_for n planned ≡ number_for n value
+number_same n value planned same = ap (number_for n) same ∙ number_room n planned.spare value
+
+pub rows_planned : (file : Units) (value planned : Store) → planned ≡ with_spare planned.spare value → (n : Option ℕ) (number : ℕ)
+    → number ≡ number_for n planned → (h : Header) → header h.blob ≡ Ok h
+    → HasChanged (old_rows n (packages file planned)) (header_rows number h) (rows (packages file planned))
+    (rows (packages_of (finite.insert (blobs file value) (number_for n value) (Some h.blob))))
+rows_planned file value planned same n number is h own =
+    let new = rows (packages_of (finite.insert (blobs file value) (number_for n value) (Some h.blob))) in
+    let was = packages file value in
+    let number_is : number ≡ number_for n value = is ∙ number_same n value planned same in
+    subst (λ (ps : finite.FinMap nat_cmp Package). HasChanged (old_rows n ps) (header_rows number h) (rows ps) new)
+    (sym (packages_same file value planned same))
+    (subst (λ (k : ℕ). HasChanged (old_rows n was) (header_rows k h) (rows was) new) (sym number_is) (rows_put file value n h own))
+
+-- ---- what is written
+
+-- the blobs behind a plan
+pub map_planned : (file mid : Units) → mid ≡ file → (value planned : Store) → planned ≡ with_spare planned.spare value → (n : Option ℕ) (length : ℕ)
+    (plan : Plan) → IsPlan planned plan → IsFor n length plan → (bytes blob : List ℕ) → bytes ≡ blob
+    → finite.insert (blobs mid planned) plan.target.number (Some bytes) ≡ finite.insert (blobs file value) (number_for n value) (Some blob)
+map_planned file mid here value planned same n length plan is asked bytes blob own =
+    let number = number_is n length planned.spare value plan (subst (λ (v : Store). IsPlan v plan) same is) asked in
+    ap (λ (k : BlobMap). finite.insert k plan.target.number (Some bytes)) (blobs_planned file mid here value planned same)
+    ∙ ap (λ (k : ℕ). finite.insert (blobs file value) k (Some bytes)) number
+    ∙ ap (λ (bs : List ℕ). finite.insert (blobs file value) (number_for n value) (Some bs)) own
+
+-- and the number field
+pub field_planned : (value planned : Store) → planned ≡ with_spare planned.spare value → (n : Option ℕ) (length : ℕ) (plan : Plan) → IsPlan planned plan
+    → IsFor n length plan → field_after (next_field plan.target) planned.field ≡ field_for n value
+field_planned value planned same n length plan is asked =
+    let number = number_is n length planned.spare value plan (subst (λ (v : Store). IsPlan v plan) same is) asked in
+    ap (field_after (next_field plan.target)) (ap (λ (v : Store). v.field) same) ∙ field_is n value plan.target asked.new number
+
+-- ---- what is read
+
+-- while it is planned
+pub reads_planned : (n : Option ℕ) (value : Store) (a b : ℕ) → b ≤ a + cost_before n value → ReadsAtMost n value a b
+reads_planned None value a b le = inl (omega (arith, le))
+reads_planned (Some n) value a b le = le
+
+needs_room : (spare : ℕ) (value : Store) (is_new : Bool) (moves : Option (List Move)) → NeedsPage (with_spare spare value) is_new moves
+    → NeedsPage value is_new moves
+needs_room spare value is_new None needs = needs
+needs_room spare value is_new (Some moves) needs =
+    (needs.0, record { all_used = needs.1.all_used; are = needs.1.are; behind = needs.1.behind })
+
+reads_moved : (n : Option ℕ) (value : Store) (is_new : Bool) → is_new ≡ is_none n → (moves : Option (List Move)) → NeedsPage value is_new moves
+    → (a b d : ℕ) → b ≤ a + cost_before n value → d ≤ b + moving_cost value.slots moves → ReadsAtMost n value a d
+reads_moved None value is_new new moves needs a b d first second =
+    inr (moves, subst (λ (t : Bool). NeedsPage value t moves) new needs, omega (arith, first, second))
+reads_moved (Some n) value is_new new None needs a b d first second = omega (arith, first, second)
+reads_moved (Some n) value is_new new (Some moves) needs a b d first second =
+    (let both : true ≡ false = sym needs.0 ∙ new in absurd cc)
+
+-- and while it is written too
+pub reads_put : (n : Option ℕ) (value planned : Store) → planned ≡ with_spare planned.spare value → (length : ℕ) (plan : Plan) → IsPlan planned plan
+    → IsFor n length plan → (a b d : ℕ) → b ≤ a + cost_before n value → d ≤ b + moving_cost planned.slots (moves_of plan.page)
+    → ReadsAtMost n value a d
+reads_put n value planned same length plan is asked a b d first second =
+    let moves = moves_of plan.page in
+    let slots : planned.slots ≡ value.slots = ap (λ (v : Store). v.slots) same in
+    let needs = subst (λ (v : Store). NeedsPage v plan.target.is_new moves) same is.page in
+    reads_moved n value plan.target.is_new asked.new moves (needs_room planned.spare value plan.target.is_new moves needs) a b d first
+    (subst (λ (ss : List Slot). d ≤ b + moving_cost ss moves) slots second)

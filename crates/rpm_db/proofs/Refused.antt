@@ -1,0 +1,71 @@
+-- What a fault says.
+use Rattle.std.proofs.Common.{◌≡◌, ℕ, true, false, refl}
+use Rattle.rpm_db.specs.declared.change.ChangeFault.{ChangeFault}
+use Rattle.rpm_db.specs.declared.change.ChangeFault.TheVariants.{BadHeader, NoSuch, NumbersSpent, GenerationSpent, StoreFull, IndexFull, BadIndex, Stopped, DiskFault, NoMemory}
+use Rattle.rpm_db.specs.Database.{Database, holds}
+use Rattle.rpm_db.specs.Refusals.{LaterCause, EraseCause, IsOfIndex, IsRefusal, is_stopping}
+
+-- behind the generation and the room in the store
+pub later_of_index : (generation : ℕ) (full : Type 0) (fault : ChangeFault) → IsOfIndex fault → (generation ≡ 4294967295 → ⊥) → ¬ full
+    → LaterCause generation full fault
+later_of_index generation full (BadHeader f) is left fits = absurd is
+later_of_index generation full NoSuch is left fits = absurd is
+later_of_index generation full NumbersSpent is left fits = absurd is
+later_of_index generation full GenerationSpent is left fits = absurd is
+later_of_index generation full StoreFull is left fits = absurd is
+later_of_index generation full (IndexFull needed) is left fits = (left, fits)
+later_of_index generation full (BadIndex unit) is left fits = (left, fits)
+later_of_index generation full Stopped is left fits = absurd is
+later_of_index generation full DiskFault is left fits = left
+later_of_index generation full NoMemory is left fits = left
+
+-- all but a fault of the disk leave the files
+pub is_refusal : (fault : ChangeFault) → (fault ≡ DiskFault → ⊥) → IsRefusal fault
+is_refusal (BadHeader f) other = tt
+is_refusal NoSuch other = tt
+is_refusal NumbersSpent other = tt
+is_refusal GenerationSpent other = tt
+is_refusal StoreFull other = tt
+is_refusal (IndexFull needed) other = tt
+is_refusal (BadIndex unit) other = tt
+is_refusal Stopped other = tt
+is_refusal DiskFault other = other refl
+is_refusal NoMemory other = tt
+
+pub stopping_is : (fault : ChangeFault) → is_stopping fault ≡ true → fault ≡ DiskFault
+stopping_is (BadHeader f) is = absurd cc
+stopping_is NoSuch is = absurd cc
+stopping_is NumbersSpent is = absurd cc
+stopping_is GenerationSpent is = absurd cc
+stopping_is StoreFull is = absurd cc
+stopping_is (IndexFull needed) is = absurd cc
+stopping_is (BadIndex unit) is = absurd cc
+stopping_is Stopped is = absurd cc
+stopping_is DiskFault is = refl
+stopping_is NoMemory is = absurd cc
+
+pub refusal_goes : (fault : ChangeFault) → IsRefusal fault → is_stopping fault ≡ false
+refusal_goes (BadHeader f) is = refl
+refusal_goes NoSuch is = refl
+refusal_goes NumbersSpent is = refl
+refusal_goes GenerationSpent is = refl
+refusal_goes StoreFull is = refl
+refusal_goes (IndexFull needed) is = refl
+refusal_goes (BadIndex unit) is = refl
+refusal_goes Stopped is = refl
+refusal_goes DiskFault is = absurd is
+refusal_goes NoMemory is = refl
+
+-- a number that is there, of a value that isn't stopped
+pub erase_cause : (db : Database) (n : ℕ) (fault : ChangeFault) → db.stopped ≡ false → holds n db ≡ true → LaterCause db.store.generation ⊥ fault
+    → EraseCause db n fault
+erase_cause db n (BadHeader f) going here later = absurd later
+erase_cause db n NoSuch going here later = absurd later
+erase_cause db n NumbersSpent going here later = absurd later
+erase_cause db n GenerationSpent going here later = (going, here, later)
+erase_cause db n StoreFull going here later = (going, here, later)
+erase_cause db n (IndexFull needed) going here later = (going, here, later)
+erase_cause db n (BadIndex unit) going here later = (going, here, later)
+erase_cause db n Stopped going here later = absurd later
+erase_cause db n DiskFault going here later = (going, here, later)
+erase_cause db n NoMemory going here later = (going, here, later)

@@ -1,0 +1,11 @@
+-- Facts that hold of a result that is Ok.
+use Rattle.std.proofs.Common.{Ok, Err}
+use Rattle.std.specs.Prelude.{Result, OnOk, OnErr}
+
+pub map_ok : {A E P Q : Type 0} (r : Result A E) → (P → Q) → OnOk r P → OnOk r Q
+map_ok (Ok a) f p = f p
+map_ok (Err e) f p = tt
+
+pub map_err : {A E P Q : Type 0} (r : Result A E) → (P → Q) → OnErr r P → OnErr r Q
+map_err (Ok a) f p = tt
+map_err (Err e) f p = f p

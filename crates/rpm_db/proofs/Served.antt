@@ -1,0 +1,84 @@
+-- What a changing call leaves of a value.
+use Rattle.std.proofs.Common.{◌≡◌, ℕ, ◌≤◌, Bool, true, false, Option, Some, refl, sym, ap, ◌∙◌, subst}
+use Rattle.std.specs.Prelude.{IsTrue}
+use Rattle.rpm_outside.specs.declared.disk.File.{File}
+use Rattle.rpm_outside.specs.Files.{Units, Files}
+use Rattle.rpm_pkgdb.specs.Quiet.{IsQuiet}
+use Rattle.rpm_pkgdb.specs.Store.{Store, store}
+use Rattle.rpm_pkgdb.specs.Store as pkgdb
+use Rattle.rpm_pkgdb.specs.Written.{with_spare}
+use Rattle.rpm_hindex.specs.State as hindex
+use Rattle.rpm_db.specs.Changes.{IsServing, with_room}
+use Rattle.rpm_db.specs.Database.{Database, IsIndexed}
+use Rattle.rpm_db.specs.Lawful.{HasRows, IsLawful}
+use Rattle.rpm_db.specs.Runs.{Runs}
+use Rattle.rpm_db.specs.State.{packages}
+use Rattle.rpm_db.specs.inner.Writes.{SameFiles}
+use Rattle.rpm_db.proofs.Edited.{quiet_room, quiet_same, settled_same}
+use Rattle.rpm_db.proofs.Making.{current_same, rows_of_lawful}
+
+abbrev pub database_of : Store → Option hindex.State → Bool → Database
+database_of value index stopped = record { store = value; index = index; stopped = stopped }
+
+-- a current index of the packages
+pub indexed_as : (pkg idx : Units) (value : Store) (index : hindex.State) (stopped : Bool) → hindex.Keeps idx index
+    → hindex.is_current value.generation index ≡ true → HasRows (packages pkg value) idx → IsIndexed pkg idx (database_of value (Some index) stopped)
+indexed_as pkg idx value index stopped keeps current has = record {
+  current = sym (current_same value.generation idx index keeps) ∙ current;
+  rows_are = has;
+}
+
+-- it holds their rows where the files are lawful
+pub rows_of_disk : (pkg idx : Units) (value : Store) (index : hindex.State) → pkgdb.Keeps pkg value → 1 ≤ value.pages → hindex.Keeps idx index
+    → hindex.is_current value.generation index ≡ true → IsLawful pkg idx → HasRows (packages pkg value) idx
+rows_of_disk pkg idx value index keeps made kept current lawful =
+    rows_of_lawful pkg idx value keeps made lawful (sym (current_same value.generation idx index kept) ∙ current)
+
+-- ---- a call that refused
+
+-- room in memory alone
+pub room_same : (value new : Store) → new ≡ value → new ≡ with_spare new.spare value
+room_same value new same = subst (λ (v : Store). v ≡ with_spare v.spare value) (sym same) refl
+
+-- the value as it was, up to that room
+pub refused_room : (value new : Store) (index changed : hindex.State) (was is : Bool) (db : Database) → database_of value (Some index) was ≡ db
+    → new ≡ with_spare new.spare value → changed ≡ index → is ≡ was → database_of new (Some changed) is ≡ with_room new.spare db
+refused_room value new index changed was is db view same same_index going =
+    ap (λ (v : Store). database_of v (Some changed) is) same
+    ∙ ap (λ (i : hindex.State). database_of (with_spare new.spare value) (Some i) is) same_index
+    ∙ ap (λ (b : Bool). database_of (with_spare new.spare value) (Some index) b) going
+    ∙ ap (with_room new.spare) view
+
+-- as it was
+pub refused_same : (value new : Store) (index changed : hindex.State) (was is : Bool) (db : Database) → database_of value (Some index) was ≡ db
+    → new ≡ value → changed ≡ index → is ≡ was → database_of new (Some changed) is ≡ db
+refused_same value new index changed was is db view same same_index going =
+    ap (λ (v : Store). database_of v (Some changed) is) same
+    ∙ ap (λ (i : hindex.State). database_of value (Some i) is) same_index
+    ∙ ap (λ (b : Bool). database_of value (Some index) b) going
+    ∙ view
+
+-- and it still serves
+module _ {D : Type 0} (tells : Bool) (files : D → Files) (left_since : D → ℕ → Files → Type 0) (moment : D → ℕ)
+    (bytes_read : D → File → ℕ) (follows : D → D → Type 0) where
+  pub serving_same : (a b : D) → IsTrue tells → Runs tells files left_since moment bytes_read follows SameFiles a b
+      → (value new : Store) (index changed : hindex.State) (was is : Bool) → new ≡ with_spare new.spare value → changed ≡ index
+      → IsServing (files a) (left_since a (moment a)) (database_of value (Some index) was)
+      → IsServing (files b) (left_since b (moment b)) (database_of new (Some changed) is)
+  serving_same a b told run value new index changed was is same same_index s =
+      let images = left_since b (moment b) in
+      let quiet = quiet_same tells files left_since moment bytes_read follows a b told run value s.quiet in
+      record {
+        keeps = subst (pkgdb.Keeps (files b).pkg) (sym same) (ap (λ (f : Files). store f.pkg) (run.reads_as told) ∙ s.keeps);
+        index = subst (hindex.Keeps (files b).idx) (sym same_index)
+            (subst (λ (f : Files). hindex.Keeps f.idx index) (sym (run.reads_as told)) s.index);
+        quiet = subst (λ (v : Store). IsQuiet v (files b) images) (sym same) (quiet_room new.spare value (files b) images quiet);
+        settled = settled_same tells files left_since moment bytes_read follows a b told run s.settled;
+      }
+
+-- what a value keeps, told by its fields
+pub serving_inside : (files : Files) (images : Files → Type 0) (value : Store) (index : Option hindex.State) (found : hindex.State) (stopped : Bool)
+    (db : Database) → database_of value index stopped ≡ db → index ≡ Some found → IsServing files images db
+    → IsServing files images (database_of value (Some found) stopped)
+serving_inside files images value index found stopped db view is s =
+    subst (λ (i : Option hindex.State). IsServing files images (database_of value i stopped)) is (subst (IsServing files images) (sym view) s)

@@ -1,0 +1,135 @@
+use Rattle.std.proofs.Common.{◌≡◌, ℕ, ◌≤◌, ◌^◌, Bool, true, false, List, length, is_none, is_some, Option, Some, Ok, Err, refl, sym, ap, ◌∙◌, subst, inl, inr}
+use Rattle.rpm_header.specs.Header.{Header, header}
+use Rattle.rpm_outside.specs.Files.{Units, Files}
+use Rattle.rpm_pkgdb.specs.Planned.{IsFull}
+use Rattle.rpm_pkgdb.specs.Slots.{slot_with}
+use Rattle.rpm_pkgdb.specs.Store.{Store}
+use Rattle.rpm_hindex.specs.Sizes.{units_for}
+use Rattle.rpm_hindex.specs.State as hindex
+use Rattle.rpm_db.specs.declared.change.ChangeFault.{ChangeFault}
+use Rattle.rpm_db.specs.declared.change.ChangeFault.TheVariants.{DiskFault}
+use Rattle.rpm_db.specs.Database.{Database, IsInOrder, holds}
+use Rattle.rpm_db.specs.Lawful.{HasRows}
+use Rattle.rpm_db.specs.Refusals.{LaterCause, FullCause, is_stopping}
+use Rattle.rpm_db.specs.Rows.{rows}
+use Rattle.rpm_db.specs.State.{State, packages, state}
+use Rattle.rpm_db.proofs.Applied.{erase_goes, held_by}
+use Rattle.rpm_db.proofs.Edited.{stops_told}
+use Rattle.rpm_db.proofs.Refused.{is_refusal, stopping_is, refusal_goes, erase_cause}
+use Rattle.rpm_db.proofs.Served.{database_of, indexed_as, rows_of_disk, room_same, refused_same, serving_same, serving_inside}
+use Rattle.rpm_db.proofs.database.Db.erase.Goals as goal
+
+pub returns-in-Ok-clause-state : goal.returns-in-Ok-clause-state
+returns-in-Ok-clause-state g c = λ told.
+    let st = c.self.inside.store in
+    let old = g.D.Disk.files c.args.disk.now in
+    let same : c.self.inside.store ≡ c.args.self.now.store = ap (λ (db : Database). db.store) c.self.view_is in
+    c.in-Ok.ensures.state told ∙ erase_goes old.pkg st c.args.self.now.store same c.args.n
+
+pub returns-in-Ok-clause-held : goal.returns-in-Ok-clause-held
+returns-in-Ok-clause-held g c = λ told image here.
+    held_by (g.D.Disk.files c.erase_number.new.disk).pkg image.pkg c.erase_number.new.store _ (returns-in-Ok-clause-state g c told)
+    (c.in-Ok.ensures.stands told image here)
+
+pub returns-in-Ok-clause-index : goal.returns-in-Ok-clause-index
+returns-in-Ok-clause-index g c = λ told was.
+    let e = c.in-Ok.ensures in
+    let old = g.D.Disk.files c.args.disk.now in
+    let new = g.D.Disk.files c.erase_number.new.disk in
+    let same : c.self.inside.store ≡ c.args.self.now.store = ap (λ (db : Database). db.store) c.self.view_is in
+    indexed_as new.pkg new.idx c.erase_number.new.store c.erase_number.new.index c.self.inside.is_stopped (e.units told) e.current
+    (e.rows told (subst (λ (v : Store). HasRows (packages old.pkg v) old.idx) (sym same) was.rows_are))
+
+pub returns-in-Ok-clause-full : goal.returns-in-Ok-clause-full
+returns-in-Ok-clause-full g c = λ told runs was.
+    let st = c.self.inside.store in
+    let old = g.D.Disk.files c.args.disk.now in
+    let same : c.self.inside.store ≡ c.args.self.now.store = ap (λ (db : Database). db.store) c.self.view_is in
+    let has = subst (λ (v : Store). HasRows (packages old.pkg v) old.idx) (sym same) was.rows_are in
+    subst (λ (s : State). units_for (rows s.packages) ≤ 2 ^ 28) (erase_goes old.pkg st c.args.self.now.store same c.args.n) (c.in-Ok.ensures.full told has)
+
+pub returns-in-Err-clause-full : goal.returns-in-Err-clause-full
+returns-in-Err-clause-full g c = λ told runs was.
+    let st = c.self.inside.store in
+    let old = g.D.Disk.files c.args.disk.now in
+    let same : c.self.inside.store ≡ c.args.self.now.store = ap (λ (db : Database). db.store) c.self.view_is in
+    let has = subst (λ (v : Store). HasRows (packages old.pkg v) old.idx) (sym same) was.rows_are in
+    subst (λ (s : State). FullCause (units_for (rows s.packages)) c.in-Err.fault) (erase_goes old.pkg st c.args.self.now.store same c.args.n)
+    (c.in-Err.ensures.full told has)
+
+pub returns-in-Ok-clause-stops : goal.returns-in-Ok-clause-stops
+returns-in-Ok-clause-stops g c = λ told lawful.
+    let st = c.self.inside.store in
+    let a = c.args.disk.now in
+    let old = g.D.Disk.files a in
+    let images = g.D.Disk.left_since a (g.D.Disk.moment a) in
+    let same : c.self.inside.store ≡ c.args.self.now.store = ap (λ (db : Database). db.store) c.self.view_is in
+    let going = c.if-self.false in
+    let told_going : c.args.self.now.stopped ≡ false = sym (ap (λ (db : Database). db.stopped) c.self.view_is) ∙ going in
+    let s = serving_inside old images st c.self.inside.index c.in-Some.index c.self.inside.is_stopped c.args.self.now c.self.view_is c.in-Some.is
+    (c.requires.serving told_going told) in
+    let current = subst (IsInOrder st.generation) c.in-Some.is (c.self.invariant.order going) in
+    let made = c.self.invariant.made (ap is_some c.in-Some.is) in
+    let has = rows_of_disk old.pkg old.idx st c.in-Some.index s.keeps made s.index current (lawful old (g.met.D.Disk.as_read a told)) in
+    stops_told g.D.Disk.moment g.D.Disk.left_since a c.erase_number.new.disk images _ _ _ _ (ap (state old.pkg) same)
+    (erase_goes old.pkg st c.args.self.now.store same c.args.n) (c.in-Ok.ensures.stops told lawful has)
+
+-- ---- a fault
+
+pub returns-in-Err-clause-causes : goal.returns-in-Err-clause-causes
+returns-in-Err-clause-causes g c =
+    let same : c.self.inside.store ≡ c.args.self.now.store = ap (λ (db : Database). db.store) c.self.view_is in
+    let going = c.if-self.false in
+    let told_going : c.args.self.now.stopped ≡ false = sym (ap (λ (db : Database). db.stopped) c.self.view_is) ∙ going in
+    let here : holds c.args.n c.args.self.now ≡ true =
+    ap (λ (v : Store). is_some (slot_with c.args.n v.slots)) (sym same) ∙ sym c.holds.ensures ∙ c.if-not-holds.false in
+    erase_cause c.args.self.now c.args.n c.in-Err.fault told_going here
+    (subst (λ (v : Store). LaterCause v.generation ⊥ c.in-Err.fault) same c.in-Err.ensures.later)
+
+pub returns-in-Err-clause-serving : goal.returns-in-Err-clause-serving
+returns-in-Err-clause-serving g c = λ other runs told.
+    let st = c.self.inside.store in
+    let a = c.args.disk.now in
+    let e = c.in-Err.ensures in
+    let going = c.if-self.false in
+    let told_going : c.args.self.now.stopped ≡ false = sym (ap (λ (db : Database). db.stopped) c.self.view_is) ∙ going in
+    let s = serving_inside (g.D.Disk.files a) (g.D.Disk.left_since a (g.D.Disk.moment a)) st c.self.inside.index c.in-Some.index
+    c.self.inside.is_stopped c.args.self.now c.self.view_is c.in-Some.is (c.requires.serving told_going told) in
+    let refusal = is_refusal c.in-Err.fault (λ is. other (ap Err is)) in
+    serving_same g.D.Disk.tells g.D.Disk.files g.D.Disk.left_since g.D.Disk.moment g.D.Disk.bytes_read g.D.Disk.follows
+    a c.erase_number.new.disk told (e.same refusal) st c.erase_number.new.store c.in-Some.index c.erase_number.new.index c.self.inside.is_stopped
+    c.is_stopping-self-inside.result (room_same st c.erase_number.new.store (e.refused refusal).0) (e.refused refusal).1 s
+
+pub returns-in-Err-clause-refused : goal.returns-in-Err-clause-refused
+returns-in-Err-clause-refused g c = λ refusal.
+    let st = c.self.inside.store in
+    let r = c.in-Err.ensures.refused refusal in
+    let going = c.if-self.false in
+    let told_going : c.args.self.now.stopped ≡ false = sym (ap (λ (db : Database). db.stopped) c.self.view_is) ∙ going in
+    let view = ap (λ (i : Option hindex.State). database_of st i c.self.inside.is_stopped) (sym c.in-Some.is) ∙ c.self.view_is in
+    refused_same st c.erase_number.new.store c.in-Some.index c.erase_number.new.index c.self.inside.is_stopped c.is_stopping-self-inside.result
+    c.args.self.now view
+    r.0 r.1 (c.is_stopping-self-inside.ensures ∙ refusal_goes c.in-Err.fault refusal ∙ sym going)
+
+pub returns-in-Err-clause-stopped : goal.returns-in-Err-clause-stopped
+returns-in-Err-clause-stopped g c = (
+  λ on. inr (ap Err (stopping_is c.in-Err.fault (sym c.is_stopping-self-inside.ensures ∙ on))),
+  λ is. (let fault : c.in-Err.fault ≡ DiskFault = cc in c.is_stopping-self-inside.ensures ∙ ap is_stopping fault),
+)
+
+pub returns-in-Err-clause-stops : goal.returns-in-Err-clause-stops
+returns-in-Err-clause-stops g c = λ told lawful.
+    let st = c.self.inside.store in
+    let a = c.args.disk.now in
+    let old = g.D.Disk.files a in
+    let images = g.D.Disk.left_since a (g.D.Disk.moment a) in
+    let same : c.self.inside.store ≡ c.args.self.now.store = ap (λ (db : Database). db.store) c.self.view_is in
+    let going = c.if-self.false in
+    let told_going : c.args.self.now.stopped ≡ false = sym (ap (λ (db : Database). db.stopped) c.self.view_is) ∙ going in
+    let s = serving_inside old images st c.self.inside.index c.in-Some.index c.self.inside.is_stopped c.args.self.now c.self.view_is c.in-Some.is
+    (c.requires.serving told_going told) in
+    let current = subst (IsInOrder st.generation) c.in-Some.is (c.self.invariant.order going) in
+    let made = c.self.invariant.made (ap is_some c.in-Some.is) in
+    let has = rows_of_disk old.pkg old.idx st c.in-Some.index s.keeps made s.index current (lawful old (g.met.D.Disk.as_read a told)) in
+    stops_told g.D.Disk.moment g.D.Disk.left_since a c.erase_number.new.disk images _ _ _ _ (ap (state old.pkg) same)
+    (erase_goes old.pkg st c.args.self.now.store same c.args.n) (c.in-Err.ensures.stops told lawful has)

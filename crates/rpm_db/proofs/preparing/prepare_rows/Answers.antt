@@ -1,0 +1,107 @@
+use Rattle.std.proofs.Common.{◌≡◌, ℕ, ◌^◌, ◌<◌, List, sym, ap, ◌∙◌, subst, refl, arith}
+use Rattle.rpm_outside.specs.Files.{Units, unit_at}
+use Rattle.rpm_outside.specs.declared.disk.File.TheVariants.{Idx}
+use Rattle.rpm_hindex.specs.declared.faults.PrepareFault.TheVariants.{BadIndex}
+use Rattle.rpm_hindex.specs.Index.{records}
+use Rattle.rpm_hindex.specs.Plans.{IsPlanFor, HasChanged}
+use Rattle.rpm_hindex.specs.Refusals.{IsBad, HasRoomFor}
+use Rattle.rpm_hindex.specs.State.{buckets_of}
+use Rattle.rpm_hindex.specs.Whole.{IsWellFormed}
+use Rattle.rpm_db.specs.Rows.{rows}
+use Rattle.rpm_db.specs.inner.Running.{runs_looks}
+use Rattle.rpm_db.specs.inner.Writes.{SameFiles}
+use Rattle.rpm_db.proofs.Prepared.{of_records, writes_rows, never_bad}
+use Rattle.rpm_db.proofs.preparing.prepare_rows.Goals as goal
+
+pub returns-in-Ok-clause-makes : goal.returns-in-Ok-clause-makes
+returns-in-Ok-clause-makes g c = λ told old new has changed.
+    let idx = (g.D.Disk.files c.args.disk.now).idx in
+    let first = (c.requires.keeps told).first in
+    let drops = c.args.drops.now in
+    let adds = c.args.adds.now in
+    let whole = subst (λ (u : List ℕ). IsWellFormed (buckets_of u) idx) (sym first) has.whole in
+    writes_rows drops adds old new idx has changed c.in-Ok.plan.work
+    (subst (λ (u : List ℕ). IsPlanFor drops adds (buckets_of u) idx c.in-Ok.plan.work) first (c.in-Ok.ensures.makes told whole))
+
+pub returns-in-Ok-clause-full : goal.returns-in-Ok-clause-full
+returns-in-Ok-clause-full g c = λ told old new has changed.
+    let idx = (g.D.Disk.files c.args.disk.now).idx in
+    let first = (c.requires.keeps told).first in
+    let drops = c.args.drops.now in
+    let adds = c.args.adds.now in
+    let whole = subst (λ (u : List ℕ). IsWellFormed (buckets_of u) idx) (sym first) has.whole in
+    let room = subst (λ (u : List ℕ). HasRoomFor drops adds (records (buckets_of u) idx)) first (c.in-Ok.ensures.room told whole) in
+    room (rows new) (of_records drops adds old new idx has changed)
+
+pub returns-in-Err-IndexFull-clause-full : goal.returns-in-Err-IndexFull-clause-full
+returns-in-Err-IndexFull-clause-full g c = λ told old new has changed.
+    let idx = (g.D.Disk.files c.args.disk.now).idx in
+    let first = (c.requires.keeps told).first in
+    let drops = c.args.drops.now in
+    let adds = c.args.adds.now in
+    let whole = subst (λ (u : List ℕ). IsWellFormed (buckets_of u) idx) (sym first) has.whole in
+    let large = rw c.in-Err-IndexFull.field-0-is at (c.in-Err-IndexFull.ensures.full told whole) in
+    let is =
+    large.1 (rows new)
+    (subst (λ (u : List ℕ). HasChanged drops adds (records (buckets_of u) idx) (rows new)) (sym first)
+    (of_records drops adds old new idx has changed)) in
+    (subst (λ (n : ℕ). 2 ^ 28 < n) is large.0, is)
+
+pub returns-in-Err-BadIndex-clause-full : goal.returns-in-Err-BadIndex-clause-full
+returns-in-Err-BadIndex-clause-full g c = λ told old new has changed.
+    let idx = (g.D.Disk.files c.args.disk.now).idx in
+    let first = (c.requires.keeps told).first in
+    let whole = subst (λ (u : List ℕ). IsWellFormed (buckets_of u) idx) (sym first) has.whole in
+    let bad = rw c.in-Err-BadIndex.field-0-is at (c.in-Err-BadIndex.ensures.bad told) in
+    absurd (never_bad (buckets_of c.args.index.now.first) c.in-Err-BadIndex.unit idx whole bad)
+
+pub returns-in-Err-BadIndex-clause-bad : goal.returns-in-Err-BadIndex-clause-bad
+returns-in-Err-BadIndex-clause-bad g c = λ told.
+    let idx = (g.D.Disk.files c.args.disk.now).idx in
+    subst (λ (u : List ℕ). IsBad (buckets_of u) idx (BadIndex c.in-Err-BadIndex.unit)) (c.requires.keeps told).first
+    (rw c.in-Err-BadIndex.field-0-is at (c.in-Err-BadIndex.ensures.bad told))
+
+pub returns-in-Ok-clause-runs : goal.returns-in-Ok-clause-runs
+returns-in-Ok-clause-runs g c =
+    runs_looks g.D.Disk.tells g.D.Disk.files g.D.Disk.left_since g.D.Disk.moment g.D.Disk.bytes_read g.D.Disk.follows SameFiles (λ f. refl) Idx _
+    c.args.disk.now
+    c.prepare.new.disk refl c.in-Ok.ensures.looks
+
+pub returns-in-Ok-clause-unread : goal.returns-in-Ok-clause-unread
+returns-in-Ok-clause-unread g c = omega (arith, c.in-Ok.ensures.looks.reads.pkg)
+
+pub returns-in-Err-IndexFull-clause-runs : goal.returns-in-Err-IndexFull-clause-runs
+returns-in-Err-IndexFull-clause-runs g c =
+    runs_looks g.D.Disk.tells g.D.Disk.files g.D.Disk.left_since g.D.Disk.moment g.D.Disk.bytes_read g.D.Disk.follows SameFiles (λ f. refl) Idx _
+    c.args.disk.now
+    c.prepare.new.disk refl c.in-Err-IndexFull.ensures.looks
+
+pub returns-in-Err-IndexFull-clause-unread : goal.returns-in-Err-IndexFull-clause-unread
+returns-in-Err-IndexFull-clause-unread g c = omega (arith, c.in-Err-IndexFull.ensures.looks.reads.pkg)
+
+pub returns-in-Err-BadIndex-clause-runs : goal.returns-in-Err-BadIndex-clause-runs
+returns-in-Err-BadIndex-clause-runs g c =
+    runs_looks g.D.Disk.tells g.D.Disk.files g.D.Disk.left_since g.D.Disk.moment g.D.Disk.bytes_read g.D.Disk.follows SameFiles (λ f. refl) Idx _
+    c.args.disk.now
+    c.prepare.new.disk refl c.in-Err-BadIndex.ensures.looks
+
+pub returns-in-Err-BadIndex-clause-unread : goal.returns-in-Err-BadIndex-clause-unread
+returns-in-Err-BadIndex-clause-unread g c = omega (arith, c.in-Err-BadIndex.ensures.looks.reads.pkg)
+
+pub returns-in-Err-DiskFault-clause-runs : goal.returns-in-Err-DiskFault-clause-runs
+returns-in-Err-DiskFault-clause-runs g c =
+    runs_looks g.D.Disk.tells g.D.Disk.files g.D.Disk.left_since g.D.Disk.moment g.D.Disk.bytes_read g.D.Disk.follows SameFiles (λ f. refl) Idx _
+    c.args.disk.now
+    c.prepare.new.disk refl c.in-Err-DiskFault.ensures.looks
+
+pub returns-in-Err-DiskFault-clause-unread : goal.returns-in-Err-DiskFault-clause-unread
+returns-in-Err-DiskFault-clause-unread g c = omega (arith, c.in-Err-DiskFault.ensures.looks.reads.pkg)
+
+pub returns-in-Err-NoMemory-clause-runs : goal.returns-in-Err-NoMemory-clause-runs
+returns-in-Err-NoMemory-clause-runs g c =
+    runs_looks g.D.Disk.tells g.D.Disk.files g.D.Disk.left_since g.D.Disk.moment g.D.Disk.bytes_read g.D.Disk.follows SameFiles (λ f. refl) Idx _
+    c.args.disk.now
+    c.prepare.new.disk refl c.in-Err-NoMemory.ensures.looks
+
+pub returns-in-Err-NoMemory-clause-unread : goal.returns-in-Err-NoMemory-clause-unread
+returns-in-Err-NoMemory-clause-unread g c = omega (arith, c.in-Err-NoMemory.ensures.looks.reads.pkg)

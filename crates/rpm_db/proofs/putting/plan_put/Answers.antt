@@ -1,0 +1,65 @@
+use Rattle.std.proofs.Common.{◌≡◌, ℕ, List, length, is_none, Some, Ok, Err, refl, sym, ap, ◌∙◌, subst, arith}
+use Rattle.std.proofs.lemmas.Bool.Decides.{nat_tests}
+use Rattle.std.specs.FinMap as finite
+use Rattle.std.specs.Ordering.{nat_cmp}
+use Rattle.rpm_header.specs.Header.{Header, header}
+use Rattle.rpm_pkgdb.specs.Blobs.{blobs}
+use Rattle.rpm_pkgdb.specs.Planned.{IsFull}
+use Rattle.rpm_db.specs.Lawful.{HasRows}
+use Rattle.rpm_db.specs.State.{Package, packages}
+use Rattle.rpm_db.specs.inner.Writes.{packages_of, number_for}
+use Rattle.rpm_db.proofs.Puts.{packages_same, rows_planned}
+use Rattle.rpm_db.proofs.Refused.{later_of_index}
+use Rattle.rpm_db.proofs.putting.plan_put.Goals as goal
+
+pub returns-in-Err-StoreFull-clause-later : goal.returns-in-Err-StoreFull-clause-later
+returns-in-Err-StoreFull-clause-later g c = (
+  λ spent. grind (arith, nat_tests),
+  subst (λ (bs : List ℕ). IsFull c.args.store.now (is_none c.args.n) (length bs)) c.blob.ensures.value
+      (c.in-Err-StoreFull.ensures.full (ap Err c.in-Err-StoreFull.field-0-is)),
+)
+
+pub returns-in-Ok-prepare_put-clause-later : goal.returns-in-Ok-prepare_put-clause-later
+returns-in-Ok-prepare_put-clause-later g c = (
+  λ spent. grind (arith, nat_tests),
+  λ full. c.in-Ok.ensures.fits (subst (λ (bs : List ℕ). IsFull c.args.store.now (is_none c.args.n) (length bs)) (sym c.blob.ensures.value) full),
+)
+
+pub returns-in-Ok-prepare_put-clause-makes : goal.returns-in-Ok-prepare_put-clause-makes
+returns-in-Ok-prepare_put-clause-makes g c = λ told has.
+    let st = c.args.store.now in
+    let f = g.D.Disk.files c.args.disk.now in
+    let h = c.args.view.now in
+    let same = c.in-Ok.ensures.same in
+    let own : header h.blob ≡ Ok h = subst (λ (bs : List ℕ). header bs ≡ Ok h) c.blob.ensures.value c.blob.ensures.again in
+    c.in-Ok-prepare_put.ensures.makes told (packages_of (finite.insert (blobs f.pkg st) (number_for c.args.n st) (Some h.blob)))
+    (subst (λ (ps : finite.FinMap nat_cmp Package). HasRows ps f.idx) (sym (packages_same f.pkg st c.plan.new.self same)) has)
+    (rows_planned f.pkg st c.plan.new.self same c.args.n c.number_of-number.result c.number_of-number.ensures h own)
+
+pub returns-in-Ok-prepare_put-clause-full : goal.returns-in-Ok-prepare_put-clause-full
+returns-in-Ok-prepare_put-clause-full g c = λ told has.
+    let st = c.args.store.now in
+    let f = g.D.Disk.files c.args.disk.now in
+    let h = c.args.view.now in
+    let same = c.in-Ok.ensures.same in
+    let own : header h.blob ≡ Ok h = subst (λ (bs : List ℕ). header bs ≡ Ok h) c.blob.ensures.value c.blob.ensures.again in
+    c.in-Ok-prepare_put.ensures.full told (packages_of (finite.insert (blobs f.pkg st) (number_for c.args.n st) (Some h.blob)))
+    (subst (λ (ps : finite.FinMap nat_cmp Package). HasRows ps f.idx) (sym (packages_same f.pkg st c.plan.new.self same)) has)
+    (rows_planned f.pkg st c.plan.new.self same c.args.n c.number_of-number.result c.number_of-number.ensures h own)
+
+pub returns-in-Err-clause-later : goal.returns-in-Err-clause-later
+returns-in-Err-clause-later g c =
+    let fits = λ (full : IsFull c.args.store.now (is_none c.args.n) (length c.args.view.now.blob)). c.in-Ok.ensures.fits
+    (subst (λ (bs : List ℕ). IsFull c.args.store.now (is_none c.args.n) (length bs)) (sym c.blob.ensures.value) full) in
+    later_of_index _ _ c.in-Err.fault c.in-Err.ensures.kinds (λ spent. grind (arith, nat_tests)) fits
+
+pub returns-in-Err-clause-full : goal.returns-in-Err-clause-full
+returns-in-Err-clause-full g c = λ told has.
+    let st = c.args.store.now in
+    let f = g.D.Disk.files c.args.disk.now in
+    let h = c.args.view.now in
+    let same = c.in-Ok.ensures.same in
+    let own : header h.blob ≡ Ok h = subst (λ (bs : List ℕ). header bs ≡ Ok h) c.blob.ensures.value c.blob.ensures.again in
+    (c.in-Err.ensures.full told (packages_of (finite.insert (blobs f.pkg st) (number_for c.args.n st) (Some h.blob)))
+    (subst (λ (ps : finite.FinMap nat_cmp Package). HasRows ps f.idx) (sym (packages_same f.pkg st c.plan.new.self same)) has)
+    (rows_planned f.pkg st c.plan.new.self same c.args.n c.number_of-number.result c.number_of-number.ensures h own))

@@ -1,0 +1,59 @@
+use Rattle.std.proofs.Common.{◌≡◌, ℕ, ◌+◌, arith, refl, sym, ap, ◌∙◌, subst}
+use Rattle.std.specs.FinMap as finite
+use Rattle.rpm_outside.specs.declared.disk.File.TheVariants.{Pkg}
+use Rattle.rpm_outside.specs.inner.Changing.{changes_then, stops_then, stops_weaker}
+use Rattle.rpm_pkgdb.specs.Blobs.{blobs}
+use Rattle.rpm_pkgdb.specs.Quiet.{BlobMap, Anything}
+use Rattle.rpm_pkgdb.specs.Store.{Store}
+use Rattle.rpm_pkgdb.specs.Written.{stopped, RaisesTo, ErasesTo}
+use Rattle.rpm_db.specs.inner.Writes.{BlobsTo}
+use Rattle.rpm_db.proofs.Results.{map_err}
+use Rattle.rpm_db.proofs.Raised.{raises_to, erases_to}
+use Rattle.rpm_db.proofs.writing.erase_raised.Goals as goal
+
+pub returns-in-Err-clause-images : goal.returns-in-Err-clause-images
+returns-in-Err-clause-images g c = λ told quiet.
+    let D = g.D.Disk in
+    let st = c.args.store.now in
+    let a = c.args.disk.now in
+    let file = (D.files a).pkg in
+    let after = finite.remove (blobs file st) c.args.n in
+    stops_weaker D.moment D.left_since Pkg (RaisesTo st (st.generation + 1) file) (BlobsTo st.generation st.field st.field (blobs file st) after) a
+    _ (raises_to st st.field after file) (c.in-Err.ensures.images told quiet)
+
+pub returns-in-Ok-clause-images : goal.returns-in-Ok-clause-images
+returns-in-Ok-clause-images g c = λ told quiet.
+    let D = g.D.Disk in
+    let st = c.args.store.now in
+    let a = c.args.disk.now in
+    let b = c.raise.new.disk in
+    let d = c.erase.new.disk in
+    let file = (D.files a).pkg in
+    let after = finite.remove (blobs file st) c.args.n in
+    let to = BlobsTo st.generation st.field st.field (blobs file st) after in
+    let e = c.in-Ok.ensures in
+    let raised = c.raise.new.self in
+    let mid = (D.files b).pkg in
+    let first = stops_weaker D.moment D.left_since Pkg (RaisesTo st (st.generation + 1) file) to a b (raises_to st st.field after file) (e.images told quiet) in
+    let second =
+    stops_weaker D.moment D.left_since Pkg (ErasesTo raised c.args.n mid) to b d
+    (λ image. erases_to st.generation st.field (blobs file st) raised mid image (ap (λ (v : Store). v.generation) e.ok)
+    (ap (λ (v : Store). v.field) e.ok) (e.blobs told) c.args.n) (c.erase.ensures.images told (e.quiet told)) in
+    stops_then D.tells D.files D.left_since D.moment D.bytes_read D.follows Pkg told Anything to 0 a b d e.changes first second
+
+pub returns-in-Ok-clause-err : goal.returns-in-Ok-clause-err
+returns-in-Ok-clause-err g c = map_err c.erase.result (λ (is : c.erase.new.self ≡ stopped c.raise.new.self). (
+  ap (λ (v : Store). v.slots) is ∙ ap (λ (v : Store). v.slots) c.in-Ok.ensures.ok,
+  ap (λ (v : Store). v.pages) is ∙ ap (λ (v : Store). v.pages) c.in-Ok.ensures.ok,
+)) c.erase.ensures.err
+
+pub returns-in-Err-clause-err : goal.returns-in-Err-clause-err
+returns-in-Err-clause-err g c =
+    (ap (λ (v : Store). v.slots) c.in-Err.ensures.err, ap (λ (v : Store). v.pages) c.in-Err.ensures.err)
+
+pub returns-in-Ok-clause-changes : goal.returns-in-Ok-clause-changes
+returns-in-Ok-clause-changes g c =
+    let D = g.D.Disk in
+    changes_then D.tells D.files D.left_since D.moment D.bytes_read D.follows Pkg g.met.D.Disk.follows_trans Anything Anything Anything 0
+    0 0 c.args.disk.now c.raise.new.disk c.erase.new.disk
+    (omega arith) (λ x y r. r) (λ x y z p q. tt) c.in-Ok.ensures.changes c.erase.ensures.changes

@@ -1,0 +1,71 @@
+use Rattle.std.proofs.Common.{◌≡◌, ℕ, ◌+◌, arith, Some, refl, sym, ap, ◌∙◌, subst}
+use Rattle.std.specs.FinMap as finite
+use Rattle.rpm_outside.specs.declared.disk.File.TheVariants.{Pkg}
+use Rattle.rpm_outside.specs.inner.Changing.{changes_then, stops_then, stops_weaker}
+use Rattle.rpm_pkgdb.specs.Blobs.{blobs}
+use Rattle.rpm_pkgdb.specs.Growing.{moving_cost}
+use Rattle.rpm_pkgdb.specs.Planned.{IsPlan, moves_of}
+use Rattle.rpm_pkgdb.specs.Quiet.{BlobMap, Anything}
+use Rattle.rpm_pkgdb.specs.Store.{Store}
+use Rattle.rpm_pkgdb.specs.Written.{stopped, RaisesTo, PutsTo, with_generation, next_field, field_after}
+use Rattle.rpm_db.specs.inner.Writes.{BlobsTo}
+use Rattle.rpm_db.proofs.Results.{map_err}
+use Rattle.rpm_db.proofs.Raised.{plan_raised, raises_to, puts_to}
+use Rattle.rpm_db.proofs.writing.put_raised.Goals as goal
+
+pub put-requires-clause-plan : goal.put-requires-clause-plan
+put-requires-clause-plan g c =
+    subst (λ (v : Store). IsPlan v c.args.plan) (sym c.in-Ok.ensures.ok) (plan_raised (c.args.store.now.generation + 1) c.args.store.now c.args.plan
+    c.requires.plan)
+
+pub returns-in_default-clause-images : goal.returns-in_default-clause-images
+returns-in_default-clause-images g c = λ told quiet.
+    let D = g.D.Disk in
+    let st = c.args.store.now in
+    let a = c.args.disk.now in
+    let file = (D.files a).pkg in
+    let next = field_after (next_field c.args.plan.target) st.field in
+    let after = finite.insert (blobs file st) c.args.plan.target.number (Some c.args.blob.now) in
+    stops_weaker D.moment D.left_since Pkg (RaisesTo st (st.generation + 1) file) (BlobsTo st.generation st.field next (blobs file st) after) a
+    c.raise.new.disk (raises_to st next after file) (c.in_default.ensures.images told quiet)
+
+pub returns-clause-images : goal.returns-clause-images
+returns-clause-images g c = λ told quiet.
+    let D = g.D.Disk in
+    let st = c.args.store.now in
+    let a = c.args.disk.now in
+    let b = c.raise.new.disk in
+    let d = c.put.new.disk in
+    let file = (D.files a).pkg in
+    let target = c.args.plan.target in
+    let next = field_after (next_field target) st.field in
+    let after = finite.insert (blobs file st) target.number (Some c.args.blob.now) in
+    let to = BlobsTo st.generation st.field next (blobs file st) after in
+    let e = c.in-Ok.ensures in
+    let raised = c.raise.new.self in
+    let mid = (D.files b).pkg in
+    let first = stops_weaker D.moment D.left_since Pkg (RaisesTo st (st.generation + 1) file) to a b (raises_to st next after file) (e.images told quiet) in
+    let second =
+    stops_weaker D.moment D.left_since Pkg (PutsTo raised target c.args.blob.now mid) to b d
+    (λ image. puts_to st.generation st.field (blobs file st) raised mid image (ap (λ (v : Store). v.generation) e.ok)
+    (ap (λ (v : Store). v.field) e.ok) (e.blobs told) target c.args.blob.now) (c.put.ensures.images told (e.quiet told)) in
+    stops_then D.tells D.files D.left_since D.moment D.bytes_read D.follows Pkg told Anything to 0 a b d e.changes first second
+
+pub returns-clause-err : goal.returns-clause-err
+returns-clause-err g c = map_err c.put.result (λ (is : c.put.new.self ≡ stopped c.raise.new.self). (
+  ap (λ (v : Store). v.slots) is ∙ ap (λ (v : Store). v.slots) c.in-Ok.ensures.ok,
+  ap (λ (v : Store). v.pages) is ∙ ap (λ (v : Store). v.pages) c.in-Ok.ensures.ok,
+)) c.put.ensures.err
+
+pub returns-in_default-clause-err : goal.returns-in_default-clause-err
+returns-in_default-clause-err g c =
+    (ap (λ (v : Store). v.slots) c.in_default.ensures.err, ap (λ (v : Store). v.pages) c.in_default.ensures.err)
+
+pub returns-clause-changes : goal.returns-clause-changes
+returns-clause-changes g c =
+    let D = g.D.Disk in
+    changes_then D.tells D.files D.left_since D.moment D.bytes_read D.follows Pkg g.met.D.Disk.follows_trans Anything Anything Anything 0
+    (moving_cost c.raise.new.self.slots (moves_of c.args.plan.page)) (moving_cost c.args.store.now.slots (moves_of c.args.plan.page)) c.args.disk.now
+    c.raise.new.disk c.put.new.disk
+    (omega (arith, ap (λ (v : Store). moving_cost v.slots (moves_of c.args.plan.page)) c.in-Ok.ensures.ok)) (λ x y r. r) (λ x y z p q. tt)
+    c.in-Ok.ensures.changes c.put.ensures.changes

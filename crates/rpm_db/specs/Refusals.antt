@@ -1,0 +1,107 @@
+-- Which cause refuses a change: the first that holds, in this order.
+use Rattle.std.specs.Prelude.{◌≡◌, ◌≢◌, ℕ, ◌<◌, ◌≤◌, ◌^◌, Bool, List, length, true, false, Result, Ok, Err}
+use Rattle.rpm_outside.specs.Files.{Units, unit_at}
+use Rattle.rpm_header.specs.Header.{Header, header}
+use Rattle.rpm_pkgdb.specs.Planned.{IsFull}
+use Rattle.rpm_hindex.specs.Refusals as hindex
+use Rattle.rpm_hindex.specs.State.{buckets_of}
+use Rattle.rpm_hindex.specs.declared.faults.PrepareFault.TheVariants as prepare
+use Rattle.rpm_db.specs.declared.change.ChangeFault.{ChangeFault}
+use Rattle.rpm_db.specs.declared.change.ChangeFault.TheVariants.{BadHeader, NoSuch, NumbersSpent, GenerationSpent, StoreFull, IndexFull, BadIndex, Stopped, DiskFault, NoMemory}
+use Rattle.rpm_db.specs.Database.{Database, holds, next_number}
+
+-- behind the header and the number: the generation, and then the room in the store; the index comes last
+abbrev pub LaterCause : ℕ → Type 0 → ChangeFault → Type 0
+LaterCause generation full GenerationSpent = generation ≡ 4294967295
+LaterCause generation full StoreFull = (generation ≢ 4294967295) × full
+LaterCause generation full (IndexFull needed) = (generation ≢ 4294967295) × ¬ full
+LaterCause generation full (BadIndex unit) = (generation ≢ 4294967295) × ¬ full
+LaterCause generation full DiskFault = generation ≢ 4294967295
+LaterCause generation full NoMemory = generation ≢ 4294967295
+LaterCause generation full _ = ⊥
+
+abbrev pub LaterIs : {A : Type 0} → ℕ → Type 0 → Result A ChangeFault → Type 0
+LaterIs generation full (Ok done) = (generation ≢ 4294967295) × ¬ full
+LaterIs generation full (Err fault) = LaterCause generation full fault
+
+-- of a header that goes under a new number, or one that is there
+pub record PutsHeader {A : Type 0} (db : Database) (is_new : Bool) (bytes : List ℕ) (result : Result A ChangeFault) : Type 0 where
+  pub going : db.stopped ≡ false
+  pub own : Header
+  pub read : header bytes ≡ Ok own
+  pub later : LaterIs db.store.generation (IsFull db.store is_new (length own.blob)) result
+
+-- a value that isn't stopped, and bytes that are a header
+pub record IsRead (db : Database) (bytes : List ℕ) : Type 0 where
+  pub going : db.stopped ≡ false
+  pub own : Header
+  pub read : header bytes ≡ Ok own
+
+-- adding
+abbrev pub AddIs : {A : Type 0} → Database → List ℕ → Result A ChangeFault → Type 0
+AddIs db bytes (Err Stopped) = db.stopped ≡ true
+AddIs db bytes (Err (BadHeader fault)) = (db.stopped ≡ false) × (header bytes ≡ Err fault)
+AddIs db bytes (Err NumbersSpent) = IsRead db bytes × (next_number db ≡ 4294967295)
+AddIs db bytes result = (next_number db ≢ 4294967295) × PutsHeader db true bytes result
+
+-- putting
+abbrev pub PutIs : {A : Type 0} → Database → ℕ → List ℕ → Result A ChangeFault → Type 0
+PutIs db n bytes (Err Stopped) = db.stopped ≡ true
+PutIs db n bytes (Err (BadHeader fault)) = (db.stopped ≡ false) × (header bytes ≡ Err fault)
+PutIs db n bytes (Err NoSuch) = IsRead db bytes × (holds n db ≡ false)
+PutIs db n bytes result = (holds n db ≡ true) × PutsHeader db false bytes result
+
+-- erasing
+abbrev pub EraseCause : Database → ℕ → ChangeFault → Type 0
+EraseCause db n Stopped = db.stopped ≡ true
+EraseCause db n NoSuch = (db.stopped ≡ false) × (holds n db ≡ false)
+EraseCause db n fault = (db.stopped ≡ false) × (holds n db ≡ true) × LaterCause db.store.generation ⊥ fault
+
+abbrev pub EraseIs : {A : Type 0} → Database → ℕ → Result A ChangeFault → Type 0
+EraseIs db n (Ok done) = (db.stopped ≡ false) × (holds n db ≡ true) × LaterIs db.store.generation ⊥ (Ok done)
+EraseIs db n (Err fault) = EraseCause db n fault
+
+-- ---- the index
+
+-- it is full exactly where so many units are too many, and where it holds the rows of the packages it isn't bad
+abbrev pub FullCause : ℕ → ChangeFault → Type 0
+FullCause needed (IndexFull told) = (2 ^ 28 < needed) × (told ≡ needed)
+FullCause needed (BadIndex unit) = ⊥
+FullCause needed _ = Unit {0}
+
+abbrev pub FullIndexIs : {A : Type 0} → ℕ → Result A ChangeFault → Type 0
+FullIndexIs needed (Ok done) = needed ≤ 2 ^ 28
+FullIndexIs needed (Err fault) = FullCause needed fault
+
+-- a fault that names a unit names the fault of a chain, or unit 1, which counts too little
+abbrev pub BadCause : Units → ChangeFault → Type 0
+BadCause idx (BadIndex unit) = hindex.IsBad (buckets_of (unit_at idx 0)) idx (prepare.BadIndex unit)
+BadCause idx _ = Unit {0}
+
+abbrev pub BadIndexIs : {A : Type 0} → Units → Result A ChangeFault → Type 0
+BadIndexIs idx (Ok done) = Unit {0}
+BadIndexIs idx (Err fault) = BadCause idx fault
+
+-- the files stay
+abbrev pub IsRefusal : ChangeFault → Type 0
+IsRefusal DiskFault = ⊥
+IsRefusal _ = Unit {0}
+
+-- the value is stopped
+abbrev pub is_stopping : ChangeFault → Bool
+is_stopping DiskFault = true
+is_stopping _ = false
+
+-- a fault of reading a package
+abbrev pub IsOfReading : ChangeFault → Type 0
+IsOfReading DiskFault = Unit {0}
+IsOfReading NoMemory = Unit {0}
+IsOfReading _ = ⊥
+
+-- a fault of working out a change of the index
+abbrev pub IsOfIndex : ChangeFault → Type 0
+IsOfIndex (IndexFull needed) = Unit {0}
+IsOfIndex (BadIndex unit) = Unit {0}
+IsOfIndex DiskFault = Unit {0}
+IsOfIndex NoMemory = Unit {0}
+IsOfIndex _ = ⊥

@@ -1,0 +1,88 @@
+-- What the calls that write a change do, one file after the other.
+use Rattle.std.specs.Prelude.{◌≡◌, ◌⊎◌, ℕ, ◌+◌, List, ◌∷◌, [], Option, Some, None}
+use Rattle.std.specs.Prelude as lists
+use Rattle.std.specs.Ordering.{nat_cmp}
+use Rattle.std.specs.FinMap as finite
+use Rattle.rpm_outside.specs.Files.{Units, Files, unit_at, blank, put}
+use Rattle.rpm_pkgdb.specs.Costs.{cost}
+use Rattle.rpm_pkgdb.specs.Store.{Store, next_number}
+use Rattle.rpm_pkgdb.specs.Quiet.{StandsFor, BlobMap}
+use Rattle.rpm_hindex.specs.declared.planning.Work.{Work}
+use Rattle.rpm_hindex.specs.Images.{IsSealed}
+use Rattle.rpm_hindex.specs.Index.{records}
+use Rattle.rpm_hindex.specs.Plans.{after, buckets_after}
+use Rattle.rpm_hindex.specs.Rows.{Row, SameRows}
+use Rattle.rpm_hindex.specs.State.{seal_unit}
+use Rattle.rpm_hindex.specs.Whole.{IsWellFormed}
+use Rattle.rpm_db.specs.Changes.{Change, Add, Put}
+use Rattle.rpm_db.specs.Rows.{rows_at}
+use Rattle.rpm_db.specs.State.{State, Package, package_of}
+
+-- the packages of these blobs
+abbrev pub packages_of : BlobMap → finite.FinMap nat_cmp Package
+packages_of blobs = finite.from_entries (lists.map (λ e. (e.0, package_of e.1)) (finite.entries blobs))
+
+abbrev pub state_with : finite.FinMap nat_cmp Package → ℕ → State
+state_with packages field = record { packages = packages; field = field }
+
+abbrev pub state_of : BlobMap → ℕ → State
+state_of blobs field = state_with (packages_of blobs) field
+
+-- while a store's blobs change behind a raise of its generation: those before, with the number field before or after, or those after
+abbrev pub BlobsTo : ℕ → ℕ → ℕ → BlobMap → BlobMap → Units → Type 0
+BlobsTo generation field next before after image =
+    StandsFor generation field before image
+    ⊎ (StandsFor (generation + 1) field before image
+    ⊎ (StandsFor (generation + 1) next before image ⊎ StandsFor (generation + 1) next after image))
+
+-- the index once a change of this file was written and sealed
+abbrev pub sealed_after : ℕ → Work → Units → Units
+sealed_after generation work file = put 0 (seal_unit generation (buckets_after work) ∷ []) (after work file)
+
+-- it is sealed with the records that were written, where these are a well formed index
+pub record IsSealedAfter (generation : ℕ) (work : Work) (file image : Units) : Type 0 where
+  pub is : image ≡ sealed_after generation work file
+  pub sealed : IsWellFormed (buckets_after work) (after work file) → IsSealed generation (buckets_after work) (after work file) image
+
+-- while the index changes: it has no seal or the one from before, until it has the new one
+abbrev pub IndexTo : ℕ → Work → Units → Units → Units → Type 0
+IndexTo generation work file from image =
+    (unit_at image 0 ≡ blank) ⊎ ((unit_at image 0 ≡ unit_at from 0) ⊎ IsSealedAfter generation work file image)
+
+-- writing this to an index makes a well formed one of these rows
+pub record WritesRows (rows : List Row) (work : Work) (file : Units) : Type 0 where
+  pub whole : IsWellFormed (buckets_after work) (after work file)
+  pub same : SameRows rows (records (buckets_after work) (after work file))
+
+-- the log stays
+abbrev pub SameLog : Files → Files → Type 0
+SameLog from image = image.log ≡ from.log
+
+-- all three files stay
+abbrev pub SameFiles : Files → Files → Type 0
+SameFiles from image = image ≡ from
+
+-- the rows of a number that is there, and none for a new number
+abbrev pub old_rows : Option ℕ → finite.FinMap nat_cmp Package → List Row
+old_rows None packages = []
+old_rows (Some n) packages = rows_at n (finite.get packages n)
+
+-- what reading its package costs
+abbrev pub cost_before : Option ℕ → Store → ℕ
+cost_before None value = 0
+cost_before (Some n) value = cost n value
+
+-- the number that a header goes under
+abbrev pub number_for : Option ℕ → Store → ℕ
+number_for None value = next_number value
+number_for (Some n) value = n
+
+-- and what becomes of the number field
+abbrev pub field_for : Option ℕ → Store → ℕ
+field_for None value = next_number value + 1
+field_for (Some n) value = value.field
+
+-- the change that a header makes under a new number, or one that is there
+abbrev pub change_for : Option ℕ → List ℕ → Change
+change_for None bytes = Add bytes
+change_for (Some n) bytes = Put n bytes

@@ -1,0 +1,283 @@
+//! Adding, putting and erasing.
+
+ghost use Rattle.std.specs.Prelude.{◌≡◌, ◌≢◌, ◌⊎◌, ℕ, ◌+◌, ◌≤◌, IsTrue, true, false, length, is_none, IfSome, None, Some, Ok, Err, OnOk, IfOk, IfErr};
+ghost use Rattle.rpm_header.specs.Header.{Header, header};
+ghost use Rattle.rpm_outside.specs.Causes.{HasCauseAt};
+ghost use Rattle.rpm_outside.specs.Crash.{LeavesOnly};
+ghost use Rattle.rpm_outside.specs.Files.{Files};
+ghost use Rattle.rpm_outside.specs.declared.disk.File.TheVariants.{Pkg};
+ghost use Rattle.rpm_pkgdb.specs.Planned.{IsFull};
+ghost use Rattle.rpm_hindex.specs.Sizes.{units_for};
+ghost use Rattle.rpm_db.specs.Changes.{Add, Put, Erase, apply, AllSay, IsChangedStill, IsServing, ReadsAtMost, with_room};
+ghost use Rattle.rpm_db.specs.Database.{IsIndexed, holds, is_indexed, next_number, cost};
+ghost use Rattle.rpm_db.specs.Lawful.{AreLawful};
+ghost use Rattle.rpm_db.specs.Refusals.{LaterIs, AddIs, PutIs, EraseIs, FullIndexIs, BadIndexIs, IsRefusal, is_stopping};
+ghost use Rattle.rpm_db.specs.Rows.{rows};
+ghost use Rattle.rpm_db.specs.Runs.{Runs};
+ghost use Rattle.rpm_db.specs.State.{state};
+ghost use Rattle.rpm_db.specs.inner.Writes.{SameFiles, SameLog, change_for, number_for};
+
+use crate::change::ChangeFault;
+use crate::database::Db;
+use crate::putting::{erase_number, put_header};
+use rpm_header::View;
+use rpm_outside::Disk;
+use std::alloc::Global;
+
+/// Whether a value is stopped by this fault.
+fn is_stopping(fault: ChangeFault) -> bool
+    ensures { result ≡ is_stopping fault }
+{
+    matches!(fault, ChangeFault::DiskFault)
+}
+
+impl Db {
+    /// Puts a header under a number that is there, or for `None` under a new one.
+    fn put_view<D: Disk>(
+        &mut self,
+        alloc: Global,
+        disk: &mut D,
+        n: Option<u32>,
+        view: &View<'_>,
+    ) -> Result<u32, ChangeFault>
+        requires going { self.old.stopped ≡ false }
+        requires indexed { is_indexed self.old ≡ true }
+        requires held { IfSome n (λ m. holds m self.old ≡ true) }
+        requires left { n ≡ None → next_number self.old ≢ 4294967295 }
+        requires own { header view.now.blob ≡ Ok view.now }
+        requires serving { IsTrue D.tells → IsServing (D.files disk.old) (D.left_since disk.old (D.moment disk.old)) self.old }
+        ensures later { LaterIs self.old.store.generation (IsFull self.old.store (is_none n) (length view.now.blob)) result }
+        ensures number { IfOk result (λ m. m ≡ number_for n self.old.store) }
+        ensures state { OnOk result (IsTrue D.tells → state (D.files disk.new).pkg self.new.store ≡ apply (change_for n view.now.blob)
+            (state (D.files disk.old).pkg self.old.store)) }
+        ensures held { OnOk result (IsTrue D.tells → AllSay (apply (change_for n view.now.blob) (state (D.files disk.old).pkg self.old.store))
+            (D.left_since disk.new (D.moment disk.new))) }
+        ensures indexed { is_indexed self.new ≡ true }
+        ensures index { OnOk result (IsTrue D.tells → IsIndexed (D.files disk.old).pkg (D.files disk.old).idx self.old → IsIndexed (D.files disk.new).pkg
+            (D.files disk.new).idx self.new) }
+        ensures full { IsTrue D.tells → IsIndexed (D.files disk.old).pkg (D.files disk.old).idx self.old → FullIndexIs (units_for (rows
+            (apply (change_for n view.now.blob) (state (D.files disk.old).pkg self.old.store)).packages)) result }
+        ensures bad { IsTrue D.tells → BadIndexIs (D.files disk.old).idx result }
+        ensures serving { result ≢ Err ChangeFault.DiskFault → IsTrue D.tells → IsServing (D.files disk.new)
+            (D.left_since disk.new (D.moment disk.new)) self.new }
+        ensures refused { IfErr result (λ e. IsRefusal e → self.new ≡ with_room self.new.store.spare self.old) }
+        ensures same { IfErr result (λ e. IsRefusal e → Runs D.tells D.files D.left_since D.moment D.bytes_read D.follows SameFiles disk.old disk.new) }
+        ensures stopped { (self.new.stopped ≡ true → result ≡ Err ChangeFault.DiskFault) × (result ≡ Err ChangeFault.DiskFault → self.new.stopped ≡ true) }
+        ensures stops { IsTrue D.tells → AreLawful (D.left_since disk.old (D.moment disk.old)) → LeavesOnly D.moment D.left_since disk.old disk.new
+            (IsChangedStill (state (D.files disk.old).pkg self.old.store) (apply (change_for n view.now.blob)
+            (state (D.files disk.old).pkg self.old.store)) (D.left_since disk.old (D.moment disk.old))) }
+        ensures reads { ReadsAtMost n self.old.store (D.bytes_read disk.old Pkg) (D.bytes_read disk.new Pkg) }
+        ensures runs { Runs D.tells D.files D.left_since D.moment D.bytes_read D.follows SameLog disk.old disk.new }
+        ensures cause { HasCauseAt (result ≡ Err ChangeFault.DiskFault) (D.faults disk.old) (D.faults disk.new) }
+    {
+        let Some(index) = &mut self.index else {
+            unreachable!()
+        };
+        match put_header(alloc, disk, &mut self.store, index, n, view) {
+            Ok(number) => Ok(number),
+            Err(fault) => {
+                self.is_stopped = is_stopping(fault);
+                Err(fault)
+            }
+        }
+    }
+
+    /// Adds a header under the next number, and answers it. Bytes behind the header aren't kept.
+    ///
+    /// Both files are planned first, and all memory is taken. Then the generation rises; the blob, its slot and the number field are
+    /// written; then its rows; and then the seal. Where no slot is free a slot page is added before, and the blobs in its way move: each
+    /// of their blocks is read once. Nothing else of `Packages.db` is read.
+    ///
+    /// A stop at any moment leaves a database that is lawful, with the packages from before or with this one.
+    ///
+    /// # Errors
+    ///
+    /// The first of these that holds:
+    ///
+    /// - `Stopped` exactly where an earlier changing call failed at the disk.
+    /// - `BadHeader` exactly where the bytes are no header: its first fault.
+    /// - `NumbersSpent` exactly where the next number is 4294967295.
+    /// - `GenerationSpent` exactly where the generation is 4294967295.
+    /// - `StoreFull` exactly where the blob, or one in the way of its slot page, fits nowhere below 4 GiB.
+    /// - `IndexFull` exactly where the rows after the change need more than 268435456 units.
+    /// - `BadIndex` only where a chain of the index isn't well formed, or unit 1 counts too little; never where the index holds the rows.
+    ///
+    /// `DiskFault` only where the disk's count of faults rose: the value is stopped then. `NoMemory` where the change finds no memory.
+    pub fn add<D: Disk>(
+        &mut self,
+        alloc: Global,
+        disk: &mut D,
+        blob: &[u8],
+    ) -> Result<u32, ChangeFault>
+        requires indexed { is_indexed self.old ≡ true }
+        requires serving { self.old.stopped ≡ false → IsTrue D.tells → IsServing (D.files disk.old) (D.left_since disk.old (D.moment disk.old)) self.old }
+        ensures causes { AddIs self.old blob.now result }
+        ensures number { IfOk result (λ n. n ≡ next_number self.old) }
+        ensures state { OnOk result (IsTrue D.tells → (h : Header) → header blob.now ≡ Ok h → state (D.files disk.new).pkg self.new.store ≡ apply
+            (Add h.blob) (state (D.files disk.old).pkg self.old.store)) }
+        ensures held { OnOk result (IsTrue D.tells → (h : Header) → header blob.now ≡ Ok h → AllSay (apply (Add h.blob)
+            (state (D.files disk.old).pkg self.old.store)) (D.left_since disk.new (D.moment disk.new))) }
+        ensures indexed { is_indexed self.new ≡ true }
+        ensures index { OnOk result (IsTrue D.tells → IsIndexed (D.files disk.old).pkg (D.files disk.old).idx self.old → IsIndexed (D.files disk.new).pkg
+            (D.files disk.new).idx self.new) }
+        ensures full { IsTrue D.tells → self.old.stopped ≡ false → IsIndexed (D.files disk.old).pkg (D.files disk.old).idx self.old → (h : Header)
+            → header blob.now ≡ Ok h → FullIndexIs (units_for (rows (apply (Add h.blob) (state (D.files disk.old).pkg self.old.store)).packages)) result }
+        ensures bad { IsTrue D.tells → BadIndexIs (D.files disk.old).idx result }
+        ensures serving { result ≢ Err ChangeFault.DiskFault → self.old.stopped ≡ false → IsTrue D.tells → IsServing (D.files disk.new)
+            (D.left_since disk.new (D.moment disk.new)) self.new }
+        ensures refused { IfErr result (λ e. IsRefusal e → self.new ≡ with_room self.new.store.spare self.old) }
+        ensures same { IfErr result (λ e. IsRefusal e → Runs D.tells D.files D.left_since D.moment D.bytes_read D.follows SameFiles disk.old disk.new) }
+        ensures stopped { (self.new.stopped ≡ true → (self.old.stopped ≡ true) ⊎ (result ≡ Err ChangeFault.DiskFault))
+            × (result ≡ Err ChangeFault.DiskFault → self.new.stopped ≡ true) }
+        ensures stops { IsTrue D.tells → AreLawful (D.left_since disk.old (D.moment disk.old)) → (h : Header) → header blob.now ≡ Ok h → LeavesOnly
+            D.moment D.left_since disk.old disk.new (IsChangedStill (state (D.files disk.old).pkg self.old.store)
+            (apply (Add h.blob) (state (D.files disk.old).pkg self.old.store)) (D.left_since disk.old (D.moment disk.old))) }
+        ensures reads { ReadsAtMost None self.old.store (D.bytes_read disk.old Pkg) (D.bytes_read disk.new Pkg) }
+        ensures runs { Runs D.tells D.files D.left_since D.moment D.bytes_read D.follows SameLog disk.old disk.new }
+        ensures cause { HasCauseAt (result ≡ Err ChangeFault.DiskFault) (D.faults disk.old) (D.faults disk.new) }
+    {
+        if self.is_stopped {
+            return Err(ChangeFault::Stopped);
+        }
+        let view = match View::parse(blob) {
+            Ok(view) => view,
+            Err(fault) => return Err(ChangeFault::BadHeader(fault)),
+        };
+        if self.store.next_number() == u32::MAX {
+            return Err(ChangeFault::NumbersSpent);
+        }
+        self.put_view(alloc, disk, None, &view)
+    }
+
+    /// Puts a header in place of the package that a number has, Good or Bad. Bytes behind the header aren't kept.
+    ///
+    /// Both files are planned first, and all memory is taken; of `Packages.db` the blocks of the old package are read, each once. Then the
+    /// generation rises; the blob and its slot are written; then the rows that change; and then the seal.
+    ///
+    /// A stop at any moment leaves a database that is lawful, with the old package or the new one.
+    ///
+    /// # Errors
+    ///
+    /// The first of these that holds:
+    ///
+    /// - `Stopped` exactly where an earlier changing call failed at the disk.
+    /// - `BadHeader` exactly where the bytes are no header: its first fault.
+    /// - `NoSuch` exactly where there is no package of this number.
+    /// - `GenerationSpent` exactly where the generation is 4294967295.
+    /// - `StoreFull` exactly where the blob, as it replaces the old one, fits nowhere below 4 GiB.
+    /// - `IndexFull` exactly where the rows after the change need more than 268435456 units.
+    /// - `BadIndex` only where a chain of the index isn't well formed, or unit 1 counts too little; never where the index holds the rows.
+    ///
+    /// `DiskFault` only where the disk's count of faults rose: the value is stopped then. `NoMemory` where the change finds no memory.
+    pub fn put<D: Disk>(
+        &mut self,
+        alloc: Global,
+        disk: &mut D,
+        n: u32,
+        blob: &[u8],
+    ) -> Result<(), ChangeFault>
+        requires indexed { is_indexed self.old ≡ true }
+        requires serving { self.old.stopped ≡ false → IsTrue D.tells → IsServing (D.files disk.old) (D.left_since disk.old (D.moment disk.old)) self.old }
+        ensures causes { PutIs self.old n blob.now result }
+        ensures state { OnOk result (IsTrue D.tells → (h : Header) → header blob.now ≡ Ok h → state (D.files disk.new).pkg self.new.store ≡ apply
+            (Put n h.blob) (state (D.files disk.old).pkg self.old.store)) }
+        ensures held { OnOk result (IsTrue D.tells → (h : Header) → header blob.now ≡ Ok h → AllSay (apply (Put n h.blob)
+            (state (D.files disk.old).pkg self.old.store)) (D.left_since disk.new (D.moment disk.new))) }
+        ensures indexed { is_indexed self.new ≡ true }
+        ensures index { OnOk result (IsTrue D.tells → IsIndexed (D.files disk.old).pkg (D.files disk.old).idx self.old → IsIndexed (D.files disk.new).pkg
+            (D.files disk.new).idx self.new) }
+        ensures full { IsTrue D.tells → self.old.stopped ≡ false → IsIndexed (D.files disk.old).pkg (D.files disk.old).idx self.old → (h : Header)
+            → header blob.now ≡ Ok h → FullIndexIs (units_for (rows (apply (Put n h.blob) (state (D.files disk.old).pkg self.old.store)).packages)) result }
+        ensures bad { IsTrue D.tells → BadIndexIs (D.files disk.old).idx result }
+        ensures serving { result ≢ Err ChangeFault.DiskFault → self.old.stopped ≡ false → IsTrue D.tells → IsServing (D.files disk.new)
+            (D.left_since disk.new (D.moment disk.new)) self.new }
+        ensures refused { IfErr result (λ e. IsRefusal e → self.new ≡ with_room self.new.store.spare self.old) }
+        ensures same { IfErr result (λ e. IsRefusal e → Runs D.tells D.files D.left_since D.moment D.bytes_read D.follows SameFiles disk.old disk.new) }
+        ensures stopped { (self.new.stopped ≡ true → (self.old.stopped ≡ true) ⊎ (result ≡ Err ChangeFault.DiskFault))
+            × (result ≡ Err ChangeFault.DiskFault → self.new.stopped ≡ true) }
+        ensures stops { IsTrue D.tells → AreLawful (D.left_since disk.old (D.moment disk.old)) → (h : Header) → header blob.now ≡ Ok h → LeavesOnly
+            D.moment D.left_since disk.old disk.new (IsChangedStill (state (D.files disk.old).pkg self.old.store)
+            (apply (Put n h.blob) (state (D.files disk.old).pkg self.old.store)) (D.left_since disk.old (D.moment disk.old))) }
+        ensures reads { D.bytes_read disk.new Pkg ≤ D.bytes_read disk.old Pkg + cost n self.old }
+        ensures runs { Runs D.tells D.files D.left_since D.moment D.bytes_read D.follows SameLog disk.old disk.new }
+        ensures cause { HasCauseAt (result ≡ Err ChangeFault.DiskFault) (D.faults disk.old) (D.faults disk.new) }
+    {
+        if self.is_stopped {
+            return Err(ChangeFault::Stopped);
+        }
+        let view = match View::parse(blob) {
+            Ok(view) => view,
+            Err(fault) => return Err(ChangeFault::BadHeader(fault)),
+        };
+        if !self.store.holds(n) {
+            return Err(ChangeFault::NoSuch);
+        }
+        match self.put_view(alloc, disk, Some(n), &view) {
+            Ok(_) => Ok(()),
+            Err(fault) => Err(fault),
+        }
+    }
+
+    /// Takes the package that a number has out, Good or Bad.
+    ///
+    /// The index is planned first, and all memory is taken; of `Packages.db` the blocks of the package are read, each once. Then the
+    /// generation rises; the slot is set free and the blocks become zeros; then the rows are taken out; and then the seal is written.
+    ///
+    /// A stop at any moment leaves a database that is lawful, with the package or without it.
+    ///
+    /// # Errors
+    ///
+    /// The first of these that holds:
+    ///
+    /// - `Stopped` exactly where an earlier changing call failed at the disk.
+    /// - `NoSuch` exactly where there is no package of this number.
+    /// - `GenerationSpent` exactly where the generation is 4294967295.
+    /// - `IndexFull` exactly where the rows after the change need more than 268435456 units.
+    /// - `BadIndex` only where a chain of the index isn't well formed, or unit 1 counts too little; never where the index holds the rows.
+    ///
+    /// `DiskFault` only where the disk's count of faults rose: the value is stopped then. `NoMemory` where the change finds no memory.
+    pub fn erase<D: Disk>(&mut self, alloc: Global, disk: &mut D, n: u32) -> Result<(), ChangeFault>
+        requires indexed { is_indexed self.old ≡ true }
+        requires serving { self.old.stopped ≡ false → IsTrue D.tells → IsServing (D.files disk.old) (D.left_since disk.old (D.moment disk.old)) self.old }
+        ensures causes { EraseIs self.old n result }
+        ensures state { OnOk result (IsTrue D.tells → state (D.files disk.new).pkg self.new.store ≡ apply
+            (Erase n) (state (D.files disk.old).pkg self.old.store)) }
+        ensures held { OnOk result (IsTrue D.tells → AllSay (apply (Erase n) (state (D.files disk.old).pkg self.old.store))
+            (D.left_since disk.new (D.moment disk.new))) }
+        ensures indexed { is_indexed self.new ≡ true }
+        ensures index { OnOk result (IsTrue D.tells → IsIndexed (D.files disk.old).pkg (D.files disk.old).idx self.old → IsIndexed (D.files disk.new).pkg
+            (D.files disk.new).idx self.new) }
+        ensures full { IsTrue D.tells → self.old.stopped ≡ false → IsIndexed (D.files disk.old).pkg (D.files disk.old).idx self.old
+            → FullIndexIs (units_for (rows (apply (Erase n) (state (D.files disk.old).pkg self.old.store)).packages)) result }
+        ensures bad { IsTrue D.tells → BadIndexIs (D.files disk.old).idx result }
+        ensures serving { result ≢ Err ChangeFault.DiskFault → self.old.stopped ≡ false → IsTrue D.tells → IsServing (D.files disk.new)
+            (D.left_since disk.new (D.moment disk.new)) self.new }
+        ensures refused { IfErr result (λ e. IsRefusal e → self.new ≡ self.old) }
+        ensures same { IfErr result (λ e. IsRefusal e → Runs D.tells D.files D.left_since D.moment D.bytes_read D.follows SameFiles disk.old disk.new) }
+        ensures stopped { (self.new.stopped ≡ true → (self.old.stopped ≡ true) ⊎ (result ≡ Err ChangeFault.DiskFault))
+            × (result ≡ Err ChangeFault.DiskFault → self.new.stopped ≡ true) }
+        ensures stops { IsTrue D.tells → AreLawful (D.left_since disk.old (D.moment disk.old)) → LeavesOnly
+            D.moment D.left_since disk.old disk.new (IsChangedStill (state (D.files disk.old).pkg self.old.store)
+            (apply (Erase n) (state (D.files disk.old).pkg self.old.store)) (D.left_since disk.old (D.moment disk.old))) }
+        ensures reads { D.bytes_read disk.new Pkg ≤ D.bytes_read disk.old Pkg + cost n self.old }
+        ensures runs { Runs D.tells D.files D.left_since D.moment D.bytes_read D.follows SameLog disk.old disk.new }
+        ensures cause { HasCauseAt (result ≡ Err ChangeFault.DiskFault) (D.faults disk.old) (D.faults disk.new) }
+    {
+        if self.is_stopped {
+            return Err(ChangeFault::Stopped);
+        }
+        if !self.store.holds(n) {
+            return Err(ChangeFault::NoSuch);
+        }
+        let Some(index) = &mut self.index else {
+            unreachable!()
+        };
+        match erase_number(alloc, disk, &mut self.store, index, n) {
+            Ok(()) => Ok(()),
+            Err(fault) => {
+                self.is_stopped = is_stopping(fault);
+                Err(fault)
+            }
+        }
+    }
+}

@@ -1,0 +1,176 @@
+//! Working out what a change makes of the index.
+
+ghost use Rattle.std.specs.Prelude.{◌≡◌, ℕ, ◌+◌, ◌≤◌, [], IsTrue, true, Option, None, Err, IfOk, IfErr};
+ghost use Rattle.std.specs.FinMap as finite;
+ghost use Rattle.std.specs.Ordering.{nat_cmp};
+ghost use Rattle.rpm_outside.specs.Causes.{HasCauseAt};
+ghost use Rattle.rpm_outside.specs.declared.disk.File.TheVariants.{Pkg, Idx};
+ghost use Rattle.rpm_outside.specs.Looks.{Looks};
+ghost use Rattle.rpm_pkgdb.specs.Costs.{cost};
+ghost use Rattle.rpm_pkgdb.specs.Store.{Keeps};
+ghost use Rattle.rpm_hindex.specs.Plans.{CanWrite, LeavesOrder, HasChanged};
+ghost use Rattle.rpm_hindex.specs.Sizes.{units_for};
+ghost use Rattle.rpm_hindex.specs.State as hindex;
+ghost use Rattle.rpm_db.specs.Lawful.{HasRows};
+ghost use Rattle.rpm_db.specs.Openings.{IsOutside};
+ghost use Rattle.rpm_db.specs.Refusals.{FullIndexIs, BadIndexIs, IsOfIndex, IsOfReading};
+ghost use Rattle.rpm_db.specs.Rows.{header_rows, rows_at, rows};
+ghost use Rattle.rpm_db.specs.Runs.{Runs};
+ghost use Rattle.rpm_db.specs.State.{Package, packages};
+ghost use Rattle.rpm_db.specs.inner.Writes.{WritesRows, SameFiles, old_rows, cost_before};
+
+use crate::change::ChangeFault;
+use crate::rows::{push_header, push_package};
+use rpm_header::View;
+use rpm_hindex::{Hindex, IndexPlan, PrepareFault, RewriteFault, Rows};
+use rpm_outside::Disk;
+use rpm_pkgdb::PkgDb;
+use std::alloc::{AllocError, Global};
+
+/// The rows of the package that a number has, none for a new number. Reads its blocks, each once.
+fn rows_before<D: Disk>(
+    alloc: Global,
+    disk: &mut D,
+    store: &PkgDb,
+    n: Option<u32>,
+) -> Result<Rows, ChangeFault>
+    requires keeps { IsTrue D.tells → Keeps (D.files disk.old).pkg store.now }
+    ensures kept { IsTrue D.tells → Keeps (D.files disk.new).pkg store.now }
+    ensures rows { IfOk result (λ rows. IsTrue D.tells → rows ≡ old_rows n (packages (D.files disk.old).pkg store.now)) }
+    ensures kinds { IfErr result IsOfReading }
+    ensures reads { D.bytes_read disk.new Pkg ≤ D.bytes_read disk.old Pkg + cost_before n store.now }
+    ensures unread { D.bytes_read disk.new Idx ≤ D.bytes_read disk.old Idx }
+    ensures runs { Runs D.tells D.files D.left_since D.moment D.bytes_read D.follows SameFiles disk.old disk.new }
+    ensures cause { HasCauseAt (result ≡ Err ChangeFault.DiskFault) (D.faults disk.old) (D.faults disk.new) }
+{
+    let mut rows = Rows::new(alloc);
+    match n {
+        None => Ok(rows),
+        Some(m) => match push_package(alloc, disk, store, &mut rows, m) {
+            Ok(()) => Ok(rows),
+            Err(RewriteFault::DiskFault) => Err(ChangeFault::DiskFault),
+            Err(RewriteFault::NoMemory) => Err(ChangeFault::NoMemory),
+            Err(RewriteFault::IndexFull { .. }) => unreachable!(),
+        },
+    }
+}
+
+/// The rows of a header under a number.
+fn rows_behind(alloc: Global, number: u32, view: &View<'_>) -> Result<Rows, AllocError>
+    ensures { IfOk result (λ rows. rows ≡ header_rows number view.now) }
+{
+    let mut rows = Rows::new(alloc);
+    match push_header(&mut rows, view, number) {
+        Ok(()) => Ok(rows),
+        Err(fault) => Err(fault),
+    }
+}
+
+/// Works out the change of the index. Writes nothing, and takes all memory that the change needs.
+fn prepare_rows<D: Disk>(
+    alloc: Global,
+    disk: &mut D,
+    index: &Hindex,
+    drops: &Rows,
+    adds: &Rows,
+) -> Result<IndexPlan, ChangeFault>
+    requires order { hindex.is_in_order index.now ≡ true }
+    requires keeps { IsTrue D.tells → hindex.Keeps (D.files disk.old).idx index.now }
+    ensures can { IfOk result (λ plan. CanWrite index.now.units plan.work) }
+    ensures ordered { IfOk result (λ plan. LeavesOrder plan.work) }
+    ensures makes { IfOk result (λ plan. IsTrue D.tells → (before after : finite.FinMap nat_cmp Package) → HasRows before (D.files disk.old).idx
+        → HasChanged drops.now adds.now (rows before) (rows after) → WritesRows (rows after) plan.work (D.files disk.old).idx) }
+    ensures full { IsTrue D.tells → (before after : finite.FinMap nat_cmp Package) → HasRows before (D.files disk.old).idx
+        → HasChanged drops.now adds.now (rows before) (rows after) → FullIndexIs (units_for (rows after)) result }
+    ensures bad { IsTrue D.tells → BadIndexIs (D.files disk.old).idx result }
+    ensures kinds { IfErr result IsOfIndex }
+    ensures unread { D.bytes_read disk.new Pkg ≤ D.bytes_read disk.old Pkg }
+    ensures runs { Runs D.tells D.files D.left_since D.moment D.bytes_read D.follows SameFiles disk.old disk.new }
+    ensures cause { HasCauseAt (result ≡ Err ChangeFault.DiskFault) (D.faults disk.old) (D.faults disk.new) }
+{
+    match index.prepare(alloc, disk, drops, adds) {
+        Ok(plan) => Ok(plan),
+        Err(PrepareFault::IndexFull { needed }) => Err(ChangeFault::IndexFull { needed }),
+        Err(PrepareFault::BadIndex { unit }) => Err(ChangeFault::BadIndex { unit }),
+        Err(PrepareFault::DiskFault) => Err(ChangeFault::DiskFault),
+        Err(PrepareFault::NoMemory) => Err(ChangeFault::NoMemory),
+    }
+}
+
+/// Works out what a header under a number makes of the index.
+pub fn prepare_put<D: Disk>(
+    alloc: Global,
+    disk: &mut D,
+    store: &PkgDb,
+    index: &Hindex,
+    n: Option<u32>,
+    number: u32,
+    view: &View<'_>,
+) -> Result<IndexPlan, ChangeFault>
+    requires order { hindex.is_in_order index.now ≡ true }
+    requires keeps { IsTrue D.tells → Keeps (D.files disk.old).pkg store.now }
+    requires units { IsTrue D.tells → hindex.Keeps (D.files disk.old).idx index.now }
+    ensures can { IfOk result (λ plan. CanWrite index.now.units plan.work) }
+    ensures ordered { IfOk result (λ plan. LeavesOrder plan.work) }
+    ensures makes { IfOk result (λ plan. IsTrue D.tells → (after : finite.FinMap nat_cmp Package)
+        → HasRows (packages (D.files disk.old).pkg store.now) (D.files disk.old).idx
+        → HasChanged (old_rows n (packages (D.files disk.old).pkg store.now)) (header_rows number view.now)
+        (rows (packages (D.files disk.old).pkg store.now)) (rows after) → WritesRows (rows after) plan.work (D.files disk.old).idx) }
+    ensures full { IsTrue D.tells → (after : finite.FinMap nat_cmp Package) → HasRows (packages (D.files disk.old).pkg store.now) (D.files disk.old).idx
+        → HasChanged (old_rows n (packages (D.files disk.old).pkg store.now)) (header_rows number view.now)
+        (rows (packages (D.files disk.old).pkg store.now)) (rows after) → FullIndexIs (units_for (rows after)) result }
+    ensures bad { IsTrue D.tells → BadIndexIs (D.files disk.old).idx result }
+    ensures kinds { IfErr result IsOfIndex }
+    ensures reads { D.bytes_read disk.new Pkg ≤ D.bytes_read disk.old Pkg + cost_before n store.now }
+    ensures runs { Runs D.tells D.files D.left_since D.moment D.bytes_read D.follows SameFiles disk.old disk.new }
+    ensures cause { HasCauseAt (result ≡ Err ChangeFault.DiskFault) (D.faults disk.old) (D.faults disk.new) }
+{
+    let Ok(adds) = rows_behind(alloc, number, view) else {
+        return Err(ChangeFault::NoMemory);
+    };
+    let drops = match rows_before(alloc, disk, store, n) {
+        Ok(drops) => drops,
+        Err(fault) => return Err(fault),
+    };
+    match prepare_rows(alloc, disk, index, &drops, &adds) {
+        Ok(plan) => Ok(plan),
+        Err(fault) => Err(fault),
+    }
+}
+
+/// Works out what taking a number out makes of the index.
+pub fn prepare_erase<D: Disk>(
+    alloc: Global,
+    disk: &mut D,
+    store: &PkgDb,
+    index: &Hindex,
+    n: u32,
+) -> Result<IndexPlan, ChangeFault>
+    requires order { hindex.is_in_order index.now ≡ true }
+    requires keeps { IsTrue D.tells → Keeps (D.files disk.old).pkg store.now }
+    requires units { IsTrue D.tells → hindex.Keeps (D.files disk.old).idx index.now }
+    ensures can { IfOk result (λ plan. CanWrite index.now.units plan.work) }
+    ensures ordered { IfOk result (λ plan. LeavesOrder plan.work) }
+    ensures makes { IfOk result (λ plan. IsTrue D.tells → (after : finite.FinMap nat_cmp Package)
+        → HasRows (packages (D.files disk.old).pkg store.now) (D.files disk.old).idx
+        → HasChanged (rows_at n (finite.get (packages (D.files disk.old).pkg store.now) n)) []
+        (rows (packages (D.files disk.old).pkg store.now)) (rows after) → WritesRows (rows after) plan.work (D.files disk.old).idx) }
+    ensures full { IsTrue D.tells → (after : finite.FinMap nat_cmp Package) → HasRows (packages (D.files disk.old).pkg store.now) (D.files disk.old).idx
+        → HasChanged (rows_at n (finite.get (packages (D.files disk.old).pkg store.now) n)) []
+        (rows (packages (D.files disk.old).pkg store.now)) (rows after) → FullIndexIs (units_for (rows after)) result }
+    ensures bad { IsTrue D.tells → BadIndexIs (D.files disk.old).idx result }
+    ensures kinds { IfErr result IsOfIndex }
+    ensures reads { D.bytes_read disk.new Pkg ≤ D.bytes_read disk.old Pkg + cost n store.now }
+    ensures runs { Runs D.tells D.files D.left_since D.moment D.bytes_read D.follows SameFiles disk.old disk.new }
+    ensures cause { HasCauseAt (result ≡ Err ChangeFault.DiskFault) (D.faults disk.old) (D.faults disk.new) }
+{
+    let adds = Rows::new(alloc);
+    let drops = match rows_before(alloc, disk, store, Some(n)) {
+        Ok(drops) => drops,
+        Err(fault) => return Err(fault),
+    };
+    match prepare_rows(alloc, disk, index, &drops, &adds) {
+        Ok(plan) => Ok(plan),
+        Err(fault) => Err(fault),
+    }
+}
