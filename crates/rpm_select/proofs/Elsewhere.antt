@@ -1,11 +1,14 @@
 -- A number that a selection can't pick.
-use Rattle.std.proofs.Common.{◌≡◌, ℕ, ◌==◌, Bool, true, false, not, Ok, Err, refl, sym}
+use Rattle.std.proofs.Common.{◌≡◌, ℕ, ◌==◌, Bool, true, false, not, Option, Some, None, Ok, Err, refl, sym, subst}
 use Rattle.std.specs.Prelude.{Result}
 use Rattle.rpm_header.specs.declared.form.HeaderFault.{HeaderFault}
 use Rattle.rpm_header.specs.Header.{Header, header}
 use Rattle.rpm_db.specs.State.{Package, Good, Bad}
 use Rattle.rpm_select.specs.declared.selection.Selection.{Selection}
 use Rattle.rpm_select.specs.declared.selection.Selection.TheVariants.{Number, All, Pattern, Label, Path, Group, Provides, Requires, Conflicts, Obsoletes, Trigger, Directory, Tid, Recommends}
+use Rattle.rpm_select.specs.declared.picker.Picked.{Picked}
+use Rattle.rpm_select.specs.declared.picker.PickFault.{PickFault}
+use Rattle.rpm_select.specs.inner.Single.{OneIs, OneOf}
 use Rattle.rpm_select.specs.Selections.{takes_header, takes_read, is_picked, is_elsewhere}
 
 no_header : (m n : ℕ) → (n == m) ≡ false → (r : Result Header HeaderFault) → takes_read (Number m) n r ≡ false
@@ -36,3 +39,19 @@ elsewhere (Trigger x) n is p = absurd cc
 elsewhere (Directory x) n is p = absurd cc
 elsewhere (Tid t) n is p = absurd cc
 elsewhere (Recommends c) n is p = absurd cc
+
+pub one_elsewhere : (sel : Selection) (n : ℕ) → true ≡ is_elsewhere sel n → (o : Option Package) → OneOf sel n o (Ok None)
+one_elsewhere sel n is None = tt
+one_elsewhere sel n is (Some p) = elsewhere sel n is p
+
+-- of the package that a number was read as
+pub one_of : (sel : Selection) (n : ℕ) (o : Option Package) (p : Package) (result : Result (Option Picked) PickFault) → o ≡ Some p → OneIs sel n p result
+    → OneOf sel n o result
+one_of sel n o p result is one = subst (λ (x : Option Package). OneOf sel n x result) (sym is) one
+
+pub none_of : (sel : Selection) (n : ℕ) (o : Option Package) → o ≡ None → OneOf sel n o (Ok None)
+none_of sel n o is = subst (λ (x : Option Package). OneOf sel n x (Ok None)) (sym is) tt
+
+pub fault_of : (sel : Selection) (n : ℕ) (o : Option Package) (fault : PickFault) → OneOf sel n o (Err fault)
+fault_of sel n None fault = tt
+fault_of sel n (Some p) fault = tt

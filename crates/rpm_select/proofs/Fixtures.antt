@@ -1,5 +1,6 @@
 -- The definitions, computed on small globs and labels: what they say doesn't come from the code.
 use Rattle.std.specs.Prelude.{◌≡◌, [], ◌∷◌, codes, Some, true, false, refl}
+use Rattle.rpm_select.specs.Candidates.{names_in}
 use Rattle.rpm_select.specs.Glob.{glob, pieces_behind, piece_at}
 use Rattle.rpm_select.specs.Labels.{with_name, without, is_dash, is_dash_or_dot}
 
@@ -25,3 +26,9 @@ six = refl
 few : with_name (without is_dash_or_dot (Some (codes "x.y"))) (Some (codes "n")) (without is_dash (Some (codes "1-1"))) (without is_dash (Some (codes "2")))
     ≡ codes "n" ∷ []
 few = refl
+
+names : names_in (codes "n-m-1-2.x") ≡ codes "n-m-1-2.x" ∷ codes "n-m-1-2" ∷ codes "n-m-1" ∷ codes "n-m" ∷ []
+names = refl
+
+short_names : (names_in (codes "n-1") ≡ codes "n-1" ∷ codes "n" ∷ []) × (names_in (codes "n") ≡ codes "n" ∷ [])
+short_names = (refl, refl)

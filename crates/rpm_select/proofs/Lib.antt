@@ -1,9 +1,17 @@
 pub mod Back
 pub mod Bounds
+pub mod Costing
+pub mod Cutting
 pub mod Elsewhere
 pub mod Fixtures
 pub mod Going
+pub mod Having
 pub mod Members
+pub mod Numbering
 pub mod Owning
+pub mod Passing
 pub mod Picking
+pub mod Rising
+pub mod Searching
+pub mod Serving
 pub mod Unclosed

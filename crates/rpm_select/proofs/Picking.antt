@@ -33,47 +33,12 @@ pub above_picks : (packages : finite.FinMap nat_cmp Package) (sel : Selection) (
 unfolding picks
 above_picks packages sel n = commute (λ e. nat_lt n e.0) (is_picked sel) (finite.entries packages)
 
-some_is : (o : Option Package) → is_some o ≡ true → (p : Package) × (o ≡ Some p)
-some_is None some = absurd cc
-some_is (Some p) some = (p, refl)
-
-none_is : (o : Option Package) → is_some o ≡ false → o ≡ None
-none_is None none = refl
-none_is (Some p) none = absurd cc
-
--- the next found
-pub record Next (packages : finite.FinMap nat_cmp Package) (n m : ℕ) : Type 0 where
-  pub found : Package
-  pub there : finite.get packages m ≡ Some found
-  pub split : above n (finite.entries packages) ≡ (m, found) ∷ above m (finite.entries packages)
-
-pub next_package : (packages : finite.FinMap nat_cmp Package) (n m : ℕ) → IsNext (λ k. is_some (finite.get packages k)) n (Some m) → Next packages n m
-next_package packages n m next =
-    let p = some_is (finite.get packages m) next.1 in
-    record {
-      found = p.0;
-      there = p.1;
-      split = next_above packages n m p.0 next.0 p.1 (λ k a b. none_is (finite.get packages k) (next.2 k a b));
-    }
-
-pub passed_one : (packages : finite.FinMap nat_cmp Package) (sel : Selection) (n m : ℕ) (next : Next packages n m) → is_picked sel (m, next.found) ≡ false
-    → left packages sel n ≡ left packages sel m
-passed_one packages sel n m next other = ap (filter (is_picked sel)) next.split ∙ rw other refl
-
-pub picked_one : (packages : finite.FinMap nat_cmp Package) (sel : Selection) (n m : ℕ) (next : Next packages n m) → is_picked sel (m, next.found) ≡ true
-    → left packages sel n ≡ (m, next.found) ∷ left packages sel m
-picked_one packages sel n m next takes = ap (filter (is_picked sel)) next.split ∙ rw takes refl
-
-pub none_above : (packages : finite.FinMap nat_cmp Package) (sel : Selection) (n : ℕ) → IsNext (λ k. is_some (finite.get packages k)) n None
-    → left packages sel n ≡ []
-none_above packages sel n next = ap (filter (is_picked sel)) (nothing_above packages n (λ k lt. none_is (finite.get packages k) (next k lt)))
-
 -- ---- whether one is at most a number
 
 abbrev pub any_to : ℕ → List (ℕ × Package) → Bool
 any_to n es = list_any (λ e. nat_le e.0 n) es
 
-none_so_far : (P : ℕ × Package → Bool) (n m : ℕ) → n ≤ m → (es : List (ℕ × Package)) → any_to n (filter P (above m es)) ≡ false
+pub none_so_far : (P : ℕ × Package → Bool) (n m : ℕ) → n ≤ m → (es : List (ℕ × Package)) → any_to n (filter P (above m es)) ≡ false
 none_so_far P n m le [] = refl
 none_so_far P n m le (e ∷ es) = elim (cases_Bool (nat_lt m e.0)) [
   | inr below ↦ simp below (none_so_far P n m le es)
@@ -84,20 +49,6 @@ none_so_far P n m le (e ∷ es) = elim (cases_Bool (nat_lt m e.0)) [
         | inr other ↦ simp (over, other) (none_so_far P n m le es)
       ])
 ]
-
-pub past_all : (packages : finite.FinMap nat_cmp Package) (sel : Selection) (n k m : ℕ) → n < m → Next packages k m → any_to n (left packages sel k) ≡ false
-past_all packages sel n k m past next = elim (cases_Bool (is_picked sel (m, next.found))) [
-  | inl takes ↦
-      (let over : nat_le m n ≡ false = grind (arith, nat_tests) in
-      ap (any_to n) (picked_one packages sel k m next takes) ∙ rw over (none_so_far (is_picked sel) n m (omega arith) (finite.entries packages)))
-  | inr other ↦ ap (any_to n) (passed_one packages sel k m next other) ∙ none_so_far (is_picked sel) n m (omega arith) (finite.entries packages)
-]
-
-pub one_to : (packages : finite.FinMap nat_cmp Package) (sel : Selection) (n k m : ℕ) (next : Next packages k m) → m ≤ n
-    → is_picked sel (m, next.found) ≡ true → any_to n (left packages sel k) ≡ true
-one_to packages sel n k m next within takes =
-    let here : nat_le m n ≡ true = grind (arith, nat_tests) in
-    ap (any_to n) (picked_one packages sel k m next takes) ∙ rw here refl
 
 -- ---- numbers, one by one
 

@@ -1,42 +1,52 @@
 -- The keys by which an index is asked for a selection, and the packages that have one of them.
-use Rattle.std.specs.Prelude.{ℕ, List, [], ◌∷◌, ◌++◌, map, filter, Bool, false, ◌==◌, if◌then◌else◌, slice_index, Result, Ok, Err}
+use Rattle.std.specs.Prelude.{ℕ, List, [], ◌∷◌, ◌++◌, map, filter, Bool, true, false, ◌==◌, if◌then◌else◌, slice_index, Option, Some, None, Result, Ok, Err}
 use Rattle.std.specs.List.{list_any, before_last}
-use Rattle.std.specs.Str.{bytes_eq}
+use Rattle.std.specs.Option.{option_and_then}
 use Rattle.std.specs.Ordering.{nat_cmp}
 use Rattle.std.specs.FinMap.{FinMap, entries}
 use Rattle.rpm_header.specs.declared.form.HeaderFault.{HeaderFault}
 use Rattle.rpm_header.specs.Header.{Header, header}
 use Rattle.rpm_tags.specs.declared.kind.Kind.{Kind}
 use Rattle.rpm_tags.specs.declared.kind.Kind.TheVariants as kind
-use Rattle.rpm_tags.specs.Keys.{keys, number_key}
+use Rattle.rpm_tags.specs.Keys.{key_list, number_key}
 use Rattle.rpm_tags.specs.Wanted.{base_name}
-use Rattle.rpm_version.specs.Capability.{CapabilityParts}
 use Rattle.rpm_db.specs.State.{Package, Good, Bad}
 use Rattle.rpm_select.specs.declared.selection.Selection.{Selection}
-use Rattle.rpm_select.specs.declared.selection.Selection.TheVariants.{Label, Path, Group, Provides, Requires, Conflicts, Obsoletes, Trigger, Directory, Tid, Recommends}
+use Rattle.rpm_select.specs.declared.selection.Selection.TheVariants.{All, Pattern, Number, Label, Path, Group, Provides, Requires, Conflicts, Obsoletes, Trigger, Directory, Tid, Recommends}
 use Rattle.rpm_select.specs.Labels.{is_dash}
+use Rattle.rpm_select.specs.Selections.{is_among}
 
 abbrev pub is_dot : ℕ → Bool
 is_dot b = b == 46
 
--- a text cut before its last such byte, where it has one
-abbrev pub cut : (ℕ → Bool) → List ℕ → List (List ℕ)
-cut is_end text = if list_any is_end text then before_last is_end text ∷ [] else []
+-- a text cut before its last such byte; none where it has no such byte
+abbrev pub cut : (ℕ → Bool) → List ℕ → Option (List ℕ)
+cut is_end text = if list_any is_end text then Some (before_last is_end text) else None
 
--- the names that a label can have in front
+abbrev pub one : Option (List ℕ) → List (List ℕ)
+one None = []
+one (Some text) = text ∷ []
+
+-- the names that a label can begin with
 abbrev pub names_in : List ℕ → List (List ℕ)
-names_in x = x ∷ cut is_dot x ++ cut is_dash x ++ (if list_any is_dash x then cut is_dash (before_last is_dash x) else [])
+names_in x = x ∷ one (cut is_dot x) ++ one (cut is_dash x) ++ one (option_and_then (cut is_dash) (cut is_dash x))
 
 -- a capability that can be a path is also looked for among the names of files
-abbrev pub path_keys : CapabilityParts → List (Kind × List ℕ)
-path_keys c = if slice_index c.name 0 == 47 then (kind.Basenames, base_name c.name) ∷ [] else []
+abbrev pub path_keys : List ℕ → List (Kind × List ℕ)
+path_keys name = if slice_index name 0 == 47 then (kind.Basenames, base_name name) ∷ [] else []
 
--- none: such a selection reads all packages, or the one of its number
+-- whether keys are asked: the others read all packages, or the one of their number
+abbrev pub has_keys : Selection → Bool
+has_keys All = false
+has_keys (Pattern p) = false
+has_keys (Number m) = false
+has_keys others = true
+
 unfoldable pub keys_asked : Selection → List (Kind × List ℕ)
 keys_asked (Label x) = map (λ name. (kind.Name, name)) (names_in x.now)
 keys_asked (Path x) = (kind.Basenames, base_name x.now) ∷ []
 keys_asked (Group x) = (kind.Group, x.now) ∷ []
-keys_asked (Provides c) = (kind.Providename, c.name) ∷ path_keys c
+keys_asked (Provides c) = (kind.Providename, c.name) ∷ path_keys c.name
 keys_asked (Requires c) = (kind.Requirename, c.name) ∷ []
 keys_asked (Conflicts c) = (kind.Conflictname, c.name) ∷ []
 keys_asked (Obsoletes c) = (kind.Obsoletename, c.name) ∷ []
@@ -47,7 +57,7 @@ keys_asked (Recommends c) = (kind.Recommendname, c.name) ∷ []
 keys_asked others = []
 
 abbrev pub has_key : Header → Kind × List ℕ → Bool
-has_key h (k, key) = list_any (λ e. bytes_eq e.0 key) (keys k h)
+has_key h (k, key) = is_among key (key_list k h)
 
 abbrev pub has_key_in : Selection → Result Header HeaderFault → Bool
 has_key_in sel (Ok h) = list_any (has_key h) (keys_asked sel)

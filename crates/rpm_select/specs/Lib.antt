@@ -2,5 +2,6 @@ pub mod Candidates
 pub mod Glob
 pub mod Labels
 pub mod Picks
+pub mod Reach
 pub mod Selections
 pub mod inner

@@ -1,10 +1,13 @@
 //! Which packages a question picks.
 #![tactic(auto)]
 
+mod asked;
+mod asking;
 mod labels;
 mod matching;
 mod picker;
 mod piece;
+mod reach;
 mod rows;
 mod selection;
 #[cfg(test)]

@@ -1,16 +1,22 @@
 //! The packages that a question picks, one at a time.
 
-ghost use Rattle.std.specs.Prelude.{◌≡◌, ◌≢◌, ℕ, ◌<◌, IsTrue, IsOk, IfOk, IfSome, false, true, Ok, Err, Some};
+ghost use Rattle.std.specs.Prelude.{◌≡◌, ◌≢◌, ℕ, ◌<◌, IsTrue, IsOk, IfOk, IfErr, IfSome, ◌+◌, ◌≤◌, false, true, Ok, Err, Some};
 ghost use Rattle.std.specs.FinMap as finite;
+ghost use Rattle.std.specs.List.Sorted.{IsStrictlyIncreasing};
+ghost use Rattle.rpm_header.specs.Header.{header};
 ghost use Rattle.rpm_outside.specs.Causes.{HasCauseAt};
-ghost use Rattle.rpm_outside.specs.declared.disk.File.TheVariants.{Pkg};
-ghost use Rattle.rpm_outside.specs.Looks.{Looks};
-ghost use Rattle.rpm_db.specs.State.{Package, Bad, packages, package_of, above};
-ghost use Rattle.rpm_db.specs.Database.{Keeps, holds, cost, cost_to};
+ghost use Rattle.rpm_outside.specs.declared.disk.File.TheVariants.{Pkg, Idx};
+ghost use Rattle.rpm_outside.specs.Looks.{Looks, LooksAt};
+ghost use Rattle.rpm_db.specs.State.{Bad, packages, package_of, above};
+ghost use Rattle.rpm_db.specs.Database.{Keeps, KeepsIndex, IsNext, cost, cost_to};
 ghost use Rattle.rpm_select.specs.Selections.{picks, takes_bad, is_elsewhere};
+ghost use Rattle.rpm_select.specs.Candidates.{keys_asked};
+ghost use Rattle.rpm_select.specs.Reach.{These, asks, unasked, reach, reaches, reach_to, reach_after, Serves, HasIndexRows, IsBroken};
 ghost use Rattle.rpm_select.specs.Picks.{NextIs, AnyIs, number_in, cost_after, ReadsOwn, is_broken};
-ghost use Rattle.rpm_select.specs.inner.Single.{OneIs, TakenIs, IsNumbered};
+ghost use Rattle.rpm_select.specs.inner.Single.{OneIs, OneOf, TakenIs, IsNumbered};
 
+use crate::asking::numbers_asked;
+use crate::reach::Reach;
 use crate::rows::takes_header;
 use crate::selection::Selection;
 use rpm_db::{Db, GetFault};
@@ -19,7 +25,7 @@ use rpm_outside::{Disk, File};
 use std::alloc::Global;
 use std::marker::Model;
 
-/// The bytes of a header. Contracts see it as the list of them.
+/// The bytes of a header, which was parsed. Contracts see it as the list of them.
 #[derive(Drop)]
 pub struct Blob {
     bytes: Vec<u8>,
@@ -27,10 +33,13 @@ pub struct Blob {
 
 impl Model for Blob {
     ghost use Rattle.std.specs.Prelude.{List, ℕ};
+    ghost use Rattle.rpm_header.specs.Header.{IsOwn};
 
     ghost Value = { List ℕ };
 
     ghost view = { λ s. s.bytes.items };
+
+    ghost invariant = { λ s. IsOwn s.bytes.items };
 }
 
 impl Blob {
@@ -38,6 +47,13 @@ impl Blob {
         ensures { result.now ≡ self.now }
     {
         &self.bytes
+    }
+
+    /// The header. It isn't parsed again.
+    pub fn view(&self) -> View<'_>
+        ensures { header self.now ≡ Ok result }
+    {
+        View::of_checked(&self.bytes)
     }
 }
 
@@ -72,10 +88,23 @@ enum Taken {
     Bad,
 }
 
-/// The way through the packages that a selection picks. No index is asked yet, so it goes by the numbers of all that are there, and
-/// holds nothing.
+/// The way through the packages that a selection picks: the numbers that it goes over. Contracts see these. It holds four bytes for each
+/// number that an index gave, and nothing where no index is asked.
 #[derive(Drop)]
-pub struct Picker {}
+pub struct Picker {
+    reach: Reach,
+}
+
+impl Model for Picker {
+    ghost use Rattle.rpm_select.specs.inner.Reaching.{reach_of, IsRising};
+    ghost use Rattle.rpm_select.specs.Reach as model;
+
+    ghost Value = { model.Reach };
+
+    ghost view = { λ s. reach_of s.reach };
+
+    ghost invariant = { λ s. IsRising s.reach };
+}
 
 /// Whether a selection takes a package that can't be read.
 fn takes_bad(selection: &Selection<'_>, number: u32) -> bool
@@ -161,7 +190,8 @@ fn is_elsewhere(selection: &Selection<'_>, number: u32) -> bool
     }
 }
 
-/// A package that is there, where the selection takes it. Reads its blocks once, and nothing where the selection is another number.
+/// A number's package, where it is there and the selection takes it. Reads its blocks once, and nothing where the selection is another
+/// number.
 fn pick<D: Disk>(
     alloc: Global,
     db: &Db,
@@ -171,10 +201,8 @@ fn pick<D: Disk>(
 ) -> Result<Option<Picked>, PickFault>
     requires keeps { IsTrue D.tells → Keeps (D.files disk.old).pkg db.now }
     requires runs { db.now.stopped ≡ false }
-    requires there { holds number db.now ≡ true }
     ensures kept { IsTrue D.tells → Keeps (D.files disk.new).pkg db.now }
-    ensures told { IsTrue D.tells → (p : Package) → finite.get (packages (D.files disk.old).pkg db.now.store) number ≡ Some p
-        → OneIs selection.now number p result }
+    ensures told { IsTrue D.tells → OneOf selection.now number (finite.get (packages (D.files disk.old).pkg db.now.store) number) result }
     ensures numbered { IsNumbered number result }
     ensures looks { Looks D.tells D.files D.left_since D.moment D.bytes_read D.follows Pkg (cost number db.now) disk.old disk.new }
     ensures cause { HasCauseAt (result ≡ Err PickFault.DiskFault) (D.faults disk.old) (D.faults disk.new) }
@@ -187,40 +215,105 @@ fn pick<D: Disk>(
     match db.read(alloc, disk, number) {
         Ok(blob) => pick_blob(alloc, selection, number, blob),
         Err(GetFault::Bad) => pick_bad(selection, number),
-        Err(GetFault::NoSuch) => unreachable!(),
+        Err(GetFault::NoSuch) => Ok(None),
         Err(GetFault::DiskFault) => Err(PickFault::DiskFault),
         Err(GetFault::NoMemory) => Err(PickFault::NoMemory),
     }
 }
 
+/// Whether an index is asked: one is kept, and the selection has keys.
+fn asks(db: &Db, selection: &Selection<'_>) -> bool
+    ensures { result ≡ asks db.now selection.now }
+{
+    match selection {
+        Selection::All | Selection::Pattern(_) | Selection::Number(_) => false,
+        _ => db.is_indexed(),
+    }
+}
+
+/// A picker that asked no index.
+fn unasked(selection: &Selection<'_>) -> Picker
+    ensures { result ≡ unasked selection.now }
+{
+    match selection {
+        Selection::Number(number) => Picker {
+            reach: Reach::One(*number),
+        },
+        _ => Picker { reach: Reach::All },
+    }
+}
+
+/// A picker over the numbers that an index gave.
+fn over(numbers: Vec<u32>) -> Picker
+    requires { IsStrictlyIncreasing numbers.items }
+    ensures { result ≡ These numbers.items }
+{
+    Picker {
+        reach: Reach::These(numbers),
+    }
+}
+
 impl Picker {
-    /// Begins to go through the packages that a selection picks. Nothing is read, and it always answers Ok, since no index is asked.
+    /// The least number above this one that is gone over.
+    fn next_number(&self, db: &Db, n: u32) -> Option<u32>
+        ensures { IsNext (reaches self.now db.now) n result }
+    {
+        self.reach.next_above(db, n)
+    }
+
+    /// Begins to go through the packages that a selection picks. The other calls are for the same selection, and the database in the
+    /// same state.
+    ///
+    /// Where an index is kept and the selection has keys, the candidates are looked up: it reads of `Hindex.db` 16 bytes and the records
+    /// of its bucket for each key, of which there are at most four. Otherwise nothing is read, and it answers Ok. No package is read.
+    ///
+    /// # Errors
+    ///
+    /// - `BadIndex` only where an index is kept, the selection has keys, and the chain of the bucket of one of them isn't well formed:
+    ///   the unit of its first fault. It never comes where the index holds the rows of the packages.
+    /// - `DiskFault` only where the disk's count of faults rose.
+    /// - `NoMemory` where the keys, what is found of them or the numbers find no memory.
     pub fn new<D: Disk>(
-        _alloc: Global,
+        alloc: Global,
         db: &Db,
         disk: &mut D,
-        _selection: &Selection<'_>,
+        selection: &Selection<'_>,
     ) -> Result<Picker, PickFault>
-        requires keeps { IsTrue D.tells → Keeps (D.files disk.old).pkg db.now }
+        requires keeps_index { IsTrue D.tells → KeepsIndex (D.files disk.old).idx db.now }
         requires runs { db.now.stopped ≡ false }
-        ensures kept { IsTrue D.tells → Keeps (D.files disk.new).pkg db.now }
-        ensures begins { IsOk result }
-        ensures looks { Looks D.tells D.files D.left_since D.moment D.bytes_read D.follows Pkg 0 disk.old disk.new }
+        ensures kept_index { IsTrue D.tells → KeepsIndex (D.files disk.new).idx db.now }
+        ensures begins { asks db.now selection.now ≡ false → IsOk result }
+        ensures unread { asks db.now selection.now ≡ false
+            → Looks D.tells D.files D.left_since D.moment D.bytes_read D.follows Pkg 0 disk.old disk.new }
+        ensures looks { LooksAt D.tells D.files D.left_since D.moment D.bytes_read D.follows Idx disk.old disk.new }
+        ensures reach { IfOk result (λ picker. IsTrue D.tells → HasIndexRows db.now (D.files disk.old).pkg (D.files disk.old).idx
+            → picker ≡ reach (asks db.now selection.now) selection.now (packages (D.files disk.old).pkg db.now.store)) }
+        ensures serves { IfOk result (λ picker. IsTrue D.tells → HasIndexRows db.now (D.files disk.old).pkg (D.files disk.old).idx
+            → Serves picker (packages (D.files disk.old).pkg db.now.store) selection.now) }
+        ensures broken { IsTrue D.tells → IfErr result (IsBroken (keys_asked selection.now) (D.files disk.old).idx) }
+        ensures lawful { IsTrue D.tells → HasIndexRows db.now (D.files disk.old).pkg (D.files disk.old).idx → is_broken result ≡ false }
         ensures cause { HasCauseAt (result ≡ Err PickFault.DiskFault) (D.faults disk.old) (D.faults disk.new) }
     {
-        Ok(Picker {})
+        if !asks(db, selection) {
+            return Ok(unasked(selection));
+        }
+        match numbers_asked(alloc, db, disk, selection) {
+            Ok(numbers) => Ok(over(numbers)),
+            Err(fault) => Err(fault),
+        }
     }
 
     /// The package that is picked with the least number above n; None exactly where there is none.
     ///
-    /// Reads the blocks of the numbers above n, up to the one that is given or all of them, each once, and where the selection is a
-    /// number those of that number alone. Holds one package at a time, and parses its header once.
+    /// Reads the blocks of the numbers that it goes over above n, up to the one that is given or all of them, each once: those of the
+    /// candidates where an index was asked, and where the selection is a number those of that number alone. Each header is looked at,
+    /// whatever the index says. Holds one package at a time, and parses its header once: the blob that it gives needs no other.
     ///
     /// # Errors
     ///
     /// - `DiskFault` only where the disk's count of faults rose.
     /// - `NoMemory` where a package or a label finds no memory.
-    /// - It doesn't answer `BadIndex`, since no index is asked.
+    /// - It doesn't answer `BadIndex`: the index was asked before.
     pub fn next_after<D: Disk>(
         &mut self,
         alloc: Global,
@@ -232,7 +325,10 @@ impl Picker {
         requires keeps { IsTrue D.tells → Keeps (D.files disk.old).pkg db.now }
         requires runs { db.now.stopped ≡ false }
         ensures kept { IsTrue D.tells → Keeps (D.files disk.new).pkg db.now }
-        ensures told { IsTrue D.tells → NextIs (above n (picks (packages (D.files disk.old).pkg db.now.store) selection.now)) result }
+        ensures told { IsTrue D.tells → Serves self.old (packages (D.files disk.old).pkg db.now.store) selection.now
+            → NextIs (above n (picks (packages (D.files disk.old).pkg db.now.store) selection.now)) result }
+        ensures same { self.new ≡ self.old }
+        ensures reads { D.bytes_read disk.new File.Pkg ≤ D.bytes_read disk.old File.Pkg + reach_after n self.old db.now result }
         ensures rises { IfOk result (λ o. IfSome o (λ picked. n < number_in picked)) }
         ensures looks { Looks D.tells D.files D.left_since D.moment D.bytes_read D.follows Pkg (cost_after n db.now result) disk.old disk.new }
         ensures own { ReadsOwn selection.now db.now (D.bytes_read disk.old File.Pkg) (D.bytes_read disk.new File.Pkg) }
@@ -240,7 +336,7 @@ impl Picker {
         ensures cause { HasCauseAt (result ≡ Err PickFault.DiskFault) (D.faults disk.old) (D.faults disk.new) }
     {
         let mut passed = n;
-        while let Some(next) = db.next_above(passed) {
+        while let Some(next) = self.next_number(db, passed) {
             match pick(alloc, db, disk, selection, next) {
                 Ok(None) => passed = next,
                 Ok(Some(picked)) => return Ok(Some(picked)),
@@ -252,8 +348,7 @@ impl Picker {
 
     /// Whether some number from 1 to n is picked.
     ///
-    /// Reads the blocks of the numbers from 1 to n, up to the first that is picked, each once, and where the selection is a number
-    /// those of that number alone.
+    /// Reads the blocks of the numbers that it goes over from 1 to n, up to the first that is picked, each once, as `next_after` does.
     ///
     /// # Errors
     ///
@@ -269,14 +364,17 @@ impl Picker {
         requires keeps { IsTrue D.tells → Keeps (D.files disk.old).pkg db.now }
         requires runs { db.now.stopped ≡ false }
         ensures kept { IsTrue D.tells → Keeps (D.files disk.new).pkg db.now }
-        ensures told { IsTrue D.tells → AnyIs (above 0 (picks (packages (D.files disk.old).pkg db.now.store) selection.now)) n result }
+        ensures told { IsTrue D.tells → Serves self.old (packages (D.files disk.old).pkg db.now.store) selection.now
+            → AnyIs (above 0 (picks (packages (D.files disk.old).pkg db.now.store) selection.now)) n result }
+        ensures same { self.new ≡ self.old }
+        ensures reads { D.bytes_read disk.new File.Pkg ≤ D.bytes_read disk.old File.Pkg + reach_to n self.old db.now }
         ensures looks { Looks D.tells D.files D.left_since D.moment D.bytes_read D.follows Pkg (cost_to n db.now) disk.old disk.new }
         ensures own { ReadsOwn selection.now db.now (D.bytes_read disk.old File.Pkg) (D.bytes_read disk.new File.Pkg) }
         ensures unbroken { is_broken result ≡ false }
         ensures cause { HasCauseAt (result ≡ Err PickFault.DiskFault) (D.faults disk.old) (D.faults disk.new) }
     {
         let mut passed = 0;
-        while let Some(next) = db.next_above(passed) {
+        while let Some(next) = self.next_number(db, passed) {
             if next > n {
                 return Ok(false);
             }

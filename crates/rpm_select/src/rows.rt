@@ -73,7 +73,7 @@ fn has_any(view: &View<'_>, tags: Tags, capability: &Capability<'_>) -> bool
     false
 }
 
-fn is_slash_first(text: &[u8]) -> bool
+pub fn is_slash_first(text: &[u8]) -> bool
     ensures { result ≡ (slice_index text.now 0 == 47) }
 {
     !text.is_empty() && text[0] == b'/'

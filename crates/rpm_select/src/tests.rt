@@ -98,7 +98,7 @@ fn late_library(alloc: Global) -> Result<Vec<u8>, AllocError> {
             (1113, TEXTS, 1, b"1.0^git1\0"),
             (1090, TEXTS, 1, b"libold\0"),
             (1066, TEXTS, 1, b"bash\0"),
-            (5046, TEXTS, 1, b"more\0"),
+            (5046, TEXTS, 2, b"more\0more\0"),
             (1128, INT32, 1, b"\0\0\0\x07"),
         ],
     )
@@ -235,7 +235,28 @@ fn picked_after(
     }
 }
 
-// Whether exactly these numbers are picked above a number; the fourth, and no other, can't be read.
+// The same over an index, which opening makes.
+fn found_after(
+    alloc: Global,
+    selection: &Selection<'_>,
+    n: u32,
+) -> Result<Option<(u32, bool)>, AllocError> {
+    let mut disk = packages(alloc)?;
+    let Ok(db) = Db::open(alloc, &mut disk) else {
+        return Err(AllocError);
+    };
+    let Ok(mut picker) = Picker::new(alloc, &db, &mut disk, selection) else {
+        return Err(AllocError);
+    };
+    match picker.next_after(alloc, &db, &mut disk, selection, n) {
+        Ok(Some(Picked::Good { number, .. })) => Ok(Some((number, true))),
+        Ok(Some(Picked::Bad { number })) => Ok(Some((number, false))),
+        Ok(None) => Ok(None),
+        Err(_) => Err(AllocError),
+    }
+}
+
+// Whether exactly these numbers are picked above a number, without an index and with one; the fourth, and no other, can't be read.
 fn are_picked(
     alloc: Global,
     selection: &Selection<'_>,
@@ -244,12 +265,16 @@ fn are_picked(
 ) -> Result<bool, AllocError> {
     let mut number = above;
     for want in expected {
-        match picked_after(alloc, selection, number)? {
-            Some((next, is_good)) if next == *want && is_good == (next != 4) => number = next,
-            _ => return Ok(false),
+        let next = picked_after(alloc, selection, number)?;
+        if next != Some((*want, *want != 4)) || found_after(alloc, selection, number)? != next {
+            return Ok(false);
         }
+        number = *want;
     }
-    Ok(picked_after(alloc, selection, number)?.is_none())
+    Ok(
+        picked_after(alloc, selection, number)?.is_none()
+            && found_after(alloc, selection, number)?.is_none(),
+    )
 }
 
 // A question by its letter.

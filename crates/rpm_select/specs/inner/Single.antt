@@ -1,5 +1,6 @@
 -- What is said of one package.
 use Rattle.std.specs.Prelude.{◌≡◌, ℕ, List, take, true, false, Option, Some, None, Result, Ok, Err}
+use Rattle.rpm_header.specs.Header.{IsOwn}
 use Rattle.rpm_db.specs.State as state
 use Rattle.rpm_db.specs.State.{Package}
 use Rattle.rpm_select.specs.declared.picker.Picked.{Picked}
@@ -20,9 +21,16 @@ OneIs sel n p (Ok None) = is_picked sel (n, p) ≡ false
 OneIs sel n p (Ok (Some picked)) = (is_picked sel (n, p) ≡ true) × (entry_in picked ≡ (n, p))
 OneIs sel n p (Err fault) = Unit {0}
 
+-- of a number that may have no package
+abbrev pub OneOf : Selection → ℕ → Option Package → Result (Option Picked) PickFault → Type 0
+OneOf sel n (Some p) result = OneIs sel n p result
+OneOf sel n None (Ok None) = Unit {0}
+OneOf sel n None (Ok (Some picked)) = ⊥
+OneOf sel n None (Err fault) = Unit {0}
+
 -- what a selection does with the bytes that a package is read from
 abbrev pub TakenIs : Selection → ℕ → List ℕ → Taken → Type 0
 TakenIs sel n blob (taken.Good length) =
-    (is_picked sel (n, state.package_of (Some blob)) ≡ true) × (state.package_of (Some blob) ≡ state.Good (take length blob))
+    (is_picked sel (n, state.package_of (Some blob)) ≡ true) × (state.package_of (Some blob) ≡ state.Good (take length blob)) × IsOwn (take length blob)
 TakenIs sel n blob taken.Passed = is_picked sel (n, state.package_of (Some blob)) ≡ false
 TakenIs sel n blob taken.Bad = state.package_of (Some blob) ≡ state.Bad

@@ -1,12 +1,16 @@
 use Rattle.std.proofs.Common.{arith}
 use Rattle.rpm_outside.specs.declared.disk.File.TheVariants.{Pkg}
 use Rattle.rpm_outside.specs.inner.Looking.{looks_none, looks_more}
+use Rattle.std.specs.FinMap as finite
 use Rattle.rpm_db.specs.Database.{cost}
-use Rattle.rpm_select.proofs.Elsewhere.{elsewhere}
+use Rattle.rpm_db.specs.State.{packages}
+use Rattle.rpm_select.proofs.Elsewhere.{one_elsewhere}
 use Rattle.rpm_select.proofs.picker.pick.Goals as goal
 
 pub returns-then-is_elsewhere-clause-told : goal.returns-then-is_elsewhere-clause-told
-returns-then-is_elsewhere-clause-told g c = λ told p held. elsewhere c.args.selection.now c.args.number c.if-is_elsewhere.ensures p
+returns-then-is_elsewhere-clause-told g c = λ told.
+    one_elsewhere c.args.selection.now c.args.number c.if-is_elsewhere.ensures
+    (finite.get (packages (g.D.Disk.files c.args.disk.now).pkg c.args.db.now.store) c.args.number)
 
 pub returns-then-is_elsewhere-clause-looks : goal.returns-then-is_elsewhere-clause-looks
 returns-then-is_elsewhere-clause-looks g c =

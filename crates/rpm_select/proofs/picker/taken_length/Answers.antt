@@ -9,10 +9,13 @@ returns-in-Ok-true-clause-told c =
     let is : header c.args.blob.now ≡ Ok c.in-Ok.view = cc in
     let found : read_as (header c.args.blob.now) ≡ Good c.in-Ok.view.blob = ap read_as is in
     let again : header c.in-Ok.view.blob ≡ Ok c.in-Ok.view = ap header (sym c.blob-length.ensures.value) ∙ c.blob-length.ensures.again in
-    let answer : true ≡ takes_header c.args.selection.now c.args.number c.in-Ok.view = rw c.in-Ok-true.field-0-test at c.in-Ok-true.ensures in (
+    let answer : true ≡ takes_header c.args.selection.now c.args.number c.in-Ok.view = rw c.in-Ok-true.field-0-test at c.in-Ok-true.ensures in
+    let cut : c.in-Ok.view.blob ≡ take (length c.blob-length.result.now) c.args.blob.now =
+    sym (ap (λ (xs : List ℕ). take (length xs) c.args.blob.now) c.blob-length.ensures.value ∙ c.in-Ok.ensures.own) in (
       subst (λ (p : Package). is_picked c.args.selection.now (c.args.number, p) ≡ true) (sym found)
           (ap (takes_read c.args.selection.now c.args.number) again ∙ sym answer),
-      found ∙ ap Good (sym (ap (λ (xs : List ℕ). take (length xs) c.args.blob.now) c.blob-length.ensures.value ∙ c.in-Ok.ensures.own)),
+      found ∙ ap Good cut,
+      (c.in-Ok.view, ap header (sym cut) ∙ again, cut),
     )
 
 pub returns-in-Ok-false-clause-told : goal.returns-in-Ok-false-clause-told

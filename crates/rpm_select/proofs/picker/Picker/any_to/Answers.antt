@@ -1,4 +1,4 @@
-use Rattle.std.proofs.Common.{◌≡◌, Some, refl, sym, ap, subst, ◌∙◌, arith}
+use Rattle.std.proofs.Common.{◌≡◌, Some, None, Ok, refl, sym, ap, subst, ◌∙◌, arith}
 use Rattle.std.specs.FinMap as finite
 use Rattle.rpm_outside.specs.Files.{Files}
 use Rattle.rpm_outside.specs.inner.Looking.{looks_none, looks_then, looks_more}
@@ -7,12 +7,16 @@ use Rattle.rpm_db.specs.Database.{cost, cost_to}
 use Rattle.rpm_db.specs.inner.Laws.{cost_more, cost_up}
 use Rattle.rpm_outside.specs.declared.disk.File.TheVariants.{Pkg}
 use Rattle.rpm_select.proofs.Owning.{own_then, own_all}
-use Rattle.rpm_select.proofs.Picking.{any_to, above_picks, next_package, passed_one, none_above, past_all, one_to}
+use Rattle.rpm_select.specs.inner.Single.{OneOf}
+use Rattle.rpm_select.proofs.Costing.{reach_more, reach_up}
+use Rattle.rpm_select.proofs.Passing.{found_one, passed_next, none_next, none_to, one_to}
+use Rattle.rpm_select.proofs.Picking.{any_to, above_picks}
 use Rattle.rpm_select.proofs.picker.Picker.any_to.Goals as goal
 
 pub loop-next-init : goal.loop-next-init
 loop-next-init g c = record {
   keeps = c.requires.keeps;
+  below = omega arith;
   within = cost_up c.args.db.now 0 c.args.n (omega arith);
   looks =
       looks_more g.D.Disk.tells g.D.Disk.files g.D.Disk.left_since g.D.Disk.moment g.D.Disk.bytes_read g.D.Disk.follows Pkg 0
@@ -20,39 +24,42 @@ loop-next-init g c = record {
       (looks_none g.D.Disk.tells g.D.Disk.files g.D.Disk.left_since g.D.Disk.moment g.D.Disk.bytes_read g.D.Disk.follows Pkg g.met.D.Disk.follows_refl
       c.args.disk.now);
   own = λ m is. omega arith;
+  reads = omega arith;
   faults = omega arith;
-  same = λ told. refl;
+  same = λ told serves. refl;
 }
 
 pub returns-then-next-n-clause-told : goal.returns-then-next-n-clause-told
-returns-then-next-n-clause-told g c = λ told.
-    let map = packages (g.D.Disk.files c.args.disk.now).pkg c.args.db.now.store in
+returns-then-next-n-clause-told g c = λ told serves.
+    let file = (g.D.Disk.files c.args.disk.now).pkg in
+    let db = c.args.db.now in
     let sel = c.args.selection.now in
     let n = c.args.n in
-    let k = c.loop-next.passed in
-    let m = c.in-Some.next in
-    let next = next_package map k m (c.in-Some.ensures.told (g.D.Disk.files c.args.disk.now).pkg) in
-    sym (ap (any_to n) (above_picks map sel 0 ∙ c.loop-next.invariant.same told) ∙ past_all map sel n k m c.if-next-n.true next)
+    let inv = c.loop-next.invariant in
+    sym (ap (any_to n) (above_picks (packages file db.store) sel 0 ∙ inv.same told serves)
+    ∙ none_to c.args.self.now file db sel serves n c.loop-next.passed c.in-Some.next c.in-Some.ensures inv.below c.if-next-n.true)
 
 pub returns-in-Ok-Some-clause-told : goal.returns-in-Ok-Some-clause-told
-returns-in-Ok-Some-clause-told g c = λ told.
-    let map = packages (g.D.Disk.files c.args.disk.now).pkg c.args.db.now.store in
+returns-in-Ok-Some-clause-told g c = λ told serves.
+    let file = (g.D.Disk.files c.args.disk.now).pkg in
+    let db = c.args.db.now in
     let sel = c.args.selection.now in
     let n = c.args.n in
     let k = c.loop-next.passed in
     let m = c.in-Some.next in
     let inv = c.loop-next.invariant in
-    let next = next_package map k m (c.in-Some.ensures.told (g.D.Disk.files c.args.disk.now).pkg) in
-    let there = subst (λ (f : Files). finite.get (packages f.pkg c.args.db.now.store) m ≡ Some next.found) (sym (inv.looks.untouched told).same) next.there in
-    let one = rw c.in-Ok-Some.field-0-is at (c.in-Ok-Some.ensures.told told next.found there) in
-    sym (ap (any_to n) (above_picks map sel 0 ∙ inv.same told) ∙ one_to map sel n k m next c.if-next-n.false one.0)
+    let said = subst (λ (f : Files). OneOf sel m (finite.get (packages f.pkg db.store) m) (Ok c.in-Ok-Some.field-0)) (inv.looks.untouched told).same
+    (c.in-Ok-Some.ensures.told told) in
+    let found = found_one (packages file db.store) sel m _ (rw c.in-Ok-Some.field-0-is at said) in
+    sym (ap (any_to n) (above_picks (packages file db.store) sel 0 ∙ inv.same told serves)
+    ∙ one_to c.args.self.now file db sel serves n k m _ c.in-Some.ensures found c.if-next-n.false)
 
 pub returns-in-Ok-Some-clause-looks : goal.returns-in-Ok-Some-clause-looks
 returns-in-Ok-Some-clause-looks g c =
     let db = c.args.db.now in
     let k = c.loop-next.passed in
     let m = c.in-Some.next in
-    let more = cost_more db k m c.in-Some.ensures.next.0 in
+    let more = cost_more db k m c.in-Some.ensures.0 in
     let up = cost_up db m c.args.n c.if-next-n.false in
     looks_then g.D.Disk.tells g.D.Disk.files g.D.Disk.left_since g.D.Disk.moment g.D.Disk.bytes_read g.D.Disk.follows Pkg g.met.D.Disk.follows_trans
     (cost_to k db) (cost m db) (cost_to c.args.n db) c.args.disk.now c.loop-next.disk c.pick.new.disk
@@ -63,7 +70,7 @@ returns-in-Err-clause-looks g c =
     let db = c.args.db.now in
     let k = c.loop-next.passed in
     let m = c.in-Some.next in
-    let more = cost_more db k m c.in-Some.ensures.next.0 in
+    let more = cost_more db k m c.in-Some.ensures.0 in
     let up = cost_up db m c.args.n c.if-next-n.false in
     looks_then g.D.Disk.tells g.D.Disk.files g.D.Disk.left_since g.D.Disk.moment g.D.Disk.bytes_read g.D.Disk.follows Pkg g.met.D.Disk.follows_trans
     (cost_to k db) (cost m db) (cost_to c.args.n db) c.args.disk.now c.loop-next.disk c.pick.new.disk
@@ -76,30 +83,68 @@ loop-next-preserved-in-Ok-None-3 g c =
     let m = c.in-Some.next in
     let inv = c.loop-next.invariant in
     let done = c.in-Ok-None.ensures in
-    let more = cost_more db k m c.in-Some.ensures.next.0 in
+    let more = cost_more db k m c.in-Some.ensures.0 in
     record {
       keeps = done.kept;
+      below = c.if-next-n.false;
       within = cost_up db m c.args.n c.if-next-n.false;
       looks =
           looks_then g.D.Disk.tells g.D.Disk.files g.D.Disk.left_since g.D.Disk.moment g.D.Disk.bytes_read g.D.Disk.follows Pkg g.met.D.Disk.follows_trans
           (cost_to k db) (cost m db) (cost_to m db) c.args.disk.now c.loop-next.disk c.pick.new.disk more inv.looks done.looks;
       own =
           own_then c.args.selection.now db k m (g.D.Disk.bytes_read c.args.disk.now Pkg) (g.D.Disk.bytes_read c.loop-next.disk Pkg)
-          (g.D.Disk.bytes_read c.pick.new.disk Pkg) c.in-Some.ensures.next.0
+          (g.D.Disk.bytes_read c.pick.new.disk Pkg) c.in-Some.ensures.0
           inv.own done.looks.reads.pkg done.unread;
+      reads = omega (arith, inv.reads, done.looks.reads.pkg, reach_more c.args.self.now db k m c.in-Some.ensures);
       faults = omega (arith, inv.faults, done.cause.later);
-      same = λ told.
-          let map = packages (g.D.Disk.files c.args.disk.now).pkg db.store in
-          let next = next_package map k m (c.in-Some.ensures.told (g.D.Disk.files c.args.disk.now).pkg) in
-          let there = subst (λ (f : Files). finite.get (packages f.pkg db.store) m ≡ Some next.found) (sym (inv.looks.untouched told).same) next.there in
-          inv.same told ∙ passed_one map c.args.selection.now k m next (rw c.in-Ok-None.field-0-is at (done.told told next.found there));
+      same = λ told serves.
+          let sel = c.args.selection.now in
+          let file = (g.D.Disk.files c.args.disk.now).pkg in
+          let one = subst (λ (f : Files). OneOf sel m (finite.get (packages f.pkg db.store) m) (Ok None)) (inv.looks.untouched told).same
+          (rw c.in-Ok-None.field-0-is at (done.told told)) in
+          inv.same told serves ∙ passed_next c.args.self.now file db sel serves k m c.in-Some.ensures one;
     }
 
 pub returns-clause-told : goal.returns-clause-told
-returns-clause-told g c = λ told.
-    let map = packages (g.D.Disk.files c.args.disk.now).pkg c.args.db.now.store in
-    sym (ap (any_to c.args.n) (above_picks map c.args.selection.now 0 ∙ c.loop-next.invariant.same told
-    ∙ none_above map c.args.selection.now c.loop-next.passed (c.in_default.ensures.told (g.D.Disk.files c.args.disk.now).pkg)))
+returns-clause-told g c = λ told serves.
+    let file = (g.D.Disk.files c.args.disk.now).pkg in
+    let db = c.args.db.now in
+    sym (ap (any_to c.args.n) (above_picks (packages file db.store) c.args.selection.now 0 ∙ c.loop-next.invariant.same told serves
+    ∙ none_next c.args.self.now file db c.args.selection.now serves c.loop-next.passed c.in_default.ensures))
+
+pub returns-clause-reads : goal.returns-clause-reads
+returns-clause-reads g c =
+    omega (arith, c.loop-next.invariant.reads, reach_up c.args.self.now c.args.db.now c.loop-next.passed c.args.n c.loop-next.invariant.below)
+
+pub returns-then-next-n-clause-reads : goal.returns-then-next-n-clause-reads
+returns-then-next-n-clause-reads g c =
+    omega (arith, c.loop-next.invariant.reads, reach_up c.args.self.now c.args.db.now c.loop-next.passed c.args.n c.loop-next.invariant.below)
+
+pub returns-in-Err-clause-reads : goal.returns-in-Err-clause-reads
+returns-in-Err-clause-reads g c =
+    let r = c.args.self.now in
+    let db = c.args.db.now in
+    let m = c.in-Some.next in
+    omega (
+      arith,
+      c.loop-next.invariant.reads,
+      c.in-Err.ensures.looks.reads.pkg,
+      reach_more r db c.loop-next.passed m c.in-Some.ensures,
+      reach_up r db m c.args.n c.if-next-n.false,
+    )
+
+pub returns-in-Ok-Some-clause-reads : goal.returns-in-Ok-Some-clause-reads
+returns-in-Ok-Some-clause-reads g c =
+    let r = c.args.self.now in
+    let db = c.args.db.now in
+    let m = c.in-Some.next in
+    omega (
+      arith,
+      c.loop-next.invariant.reads,
+      c.in-Ok-Some.ensures.looks.reads.pkg,
+      reach_more r db c.loop-next.passed m c.in-Some.ensures,
+      reach_up r db m c.args.n c.if-next-n.false,
+    )
 
 pub returns-in-Ok-Some-clause-own : goal.returns-in-Ok-Some-clause-own
 returns-in-Ok-Some-clause-own g c =
@@ -107,7 +152,7 @@ returns-in-Ok-Some-clause-own g c =
     own_all c.args.selection.now c.args.db.now c.in-Some.next (g.D.Disk.bytes_read c.args.disk.now Pkg) (g.D.Disk.bytes_read c.pick.new.disk Pkg)
     (own_then c.args.selection.now c.args.db.now c.loop-next.passed c.in-Some.next (g.D.Disk.bytes_read c.args.disk.now Pkg)
     (g.D.Disk.bytes_read c.loop-next.disk Pkg) (g.D.Disk.bytes_read c.pick.new.disk Pkg)
-    c.in-Some.ensures.next.0 c.loop-next.invariant.own done.looks.reads.pkg done.unread)
+    c.in-Some.ensures.0 c.loop-next.invariant.own done.looks.reads.pkg done.unread)
 
 pub returns-in-Err-clause-own : goal.returns-in-Err-clause-own
 returns-in-Err-clause-own g c =
@@ -115,7 +160,7 @@ returns-in-Err-clause-own g c =
     own_all c.args.selection.now c.args.db.now c.in-Some.next (g.D.Disk.bytes_read c.args.disk.now Pkg) (g.D.Disk.bytes_read c.pick.new.disk Pkg)
     (own_then c.args.selection.now c.args.db.now c.loop-next.passed c.in-Some.next (g.D.Disk.bytes_read c.args.disk.now Pkg)
     (g.D.Disk.bytes_read c.loop-next.disk Pkg) (g.D.Disk.bytes_read c.pick.new.disk Pkg)
-    c.in-Some.ensures.next.0 c.loop-next.invariant.own done.looks.reads.pkg done.unread)
+    c.in-Some.ensures.0 c.loop-next.invariant.own done.looks.reads.pkg done.unread)
 
 pub returns-clause-own : goal.returns-clause-own
 returns-clause-own g c =

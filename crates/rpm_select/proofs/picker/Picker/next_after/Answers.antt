@@ -1,14 +1,19 @@
-use Rattle.std.proofs.Common.{◌≡◌, ℕ, ◌-◌, ◌∷◌, Some, sym, ap, subst, ◌∙◌, arith}
+use Rattle.std.proofs.Common.{◌≡◌, ℕ, ◌-◌, Some, None, Ok, sym, ap, subst, ◌∙◌, arith}
 use Rattle.std.specs.FinMap as finite
 use Rattle.rpm_outside.specs.Files.{Files}
 use Rattle.rpm_outside.specs.Looks.{Looks}
 use Rattle.rpm_outside.specs.inner.Looking.{looks_then, looks_more}
-use Rattle.rpm_db.specs.State.{Package, packages}
+use Rattle.rpm_db.specs.State.{packages}
 use Rattle.rpm_db.specs.Database.{cost, cost_to, cost_all}
 use Rattle.rpm_db.specs.inner.Laws.{cost_more, cost_some}
 use Rattle.rpm_outside.specs.declared.disk.File.TheVariants.{Pkg}
 use Rattle.rpm_select.proofs.Owning.{own_then, own_all}
-use Rattle.rpm_select.proofs.Picking.{left, above_picks, next_package, passed_one, picked_one, none_above}
+use Rattle.rpm_select.specs.Picks.{number_in}
+use Rattle.rpm_select.specs.Reach.{reach_to}
+use Rattle.rpm_select.specs.inner.Single.{OneOf}
+use Rattle.rpm_select.proofs.Costing.{reach_more, reach_some}
+use Rattle.rpm_select.proofs.Passing.{found_one, passed_next, picked_next, none_next}
+use Rattle.rpm_select.proofs.Picking.{left, above_picks}
 use Rattle.rpm_select.proofs.picker.Picker.next_after.Goals as goal
 
 pub loop-next-preserved : goal.loop-next-preserved
@@ -17,12 +22,13 @@ loop-next-preserved g c =
     let n = c.args.n in
     let k = c.loop-next.passed in
     let m = c.in-Some.next in
+    let sel = c.args.selection.now in
     let inv = c.loop-next.invariant in
     let done = c.in-Ok-None.ensures in
-    let more = cost_more db k m c.in-Some.ensures.next.0 in
+    let more = cost_more db k m c.in-Some.ensures.0 in
     record {
       keeps = done.kept;
-      later = omega (arith, inv.later, c.in-Some.ensures.next.0);
+      later = omega (arith, inv.later, c.in-Some.ensures.0);
       more = omega (arith, more, inv.more);
       looks =
           looks_then g.D.Disk.tells g.D.Disk.files g.D.Disk.left_since g.D.Disk.moment g.D.Disk.bytes_read g.D.Disk.follows Pkg g.met.D.Disk.follows_trans
@@ -30,29 +36,33 @@ loop-next-preserved g c =
           (omega (arith, more, inv.more)) inv.looks done.looks;
       own =
           own_then c.args.selection.now db k m (g.D.Disk.bytes_read c.args.disk.now Pkg) (g.D.Disk.bytes_read c.loop-next.disk Pkg)
-          (g.D.Disk.bytes_read c.pick.new.disk Pkg) c.in-Some.ensures.next.0
+          (g.D.Disk.bytes_read c.pick.new.disk Pkg) c.in-Some.ensures.0
           inv.own done.looks.reads.pkg done.unread;
+      up = omega (arith, inv.up, reach_more c.args.self.now db k m c.in-Some.ensures);
+      reads = omega (arith, inv.reads, inv.up, done.looks.reads.pkg, reach_more c.args.self.now db k m c.in-Some.ensures);
       faults = omega (arith, inv.faults, done.cause.later);
-      same = λ told.
-          let map = packages (g.D.Disk.files c.args.disk.now).pkg db.store in
-          let next = next_package map k m (c.in-Some.ensures.told (g.D.Disk.files c.args.disk.now).pkg) in
-          let there = subst (λ (f : Files). finite.get (packages f.pkg db.store) m ≡ Some next.found) (sym (inv.looks.untouched told).same) next.there in
-          inv.same told ∙ passed_one map c.args.selection.now k m next (rw c.in-Ok-None.field-0-is at (done.told told next.found there));
+      same = λ told serves.
+          let file = (g.D.Disk.files c.args.disk.now).pkg in
+          let one = subst (λ (f : Files). OneOf sel m (finite.get (packages f.pkg db.store) m) (Ok None)) (inv.looks.untouched told).same
+          (rw c.in-Ok-None.field-0-is at (done.told told)) in
+          inv.same told serves ∙ passed_next c.args.self.now file db sel serves k m c.in-Some.ensures one;
     }
 
 pub returns-in-Ok-Some-clause-told : goal.returns-in-Ok-Some-clause-told
-returns-in-Ok-Some-clause-told g c = λ told.
+returns-in-Ok-Some-clause-told g c = λ told serves.
     let db = c.args.db.now in
-    let n = c.args.n in
     let k = c.loop-next.passed in
     let m = c.in-Some.next in
     let sel = c.args.selection.now in
     let inv = c.loop-next.invariant in
-    let map = packages (g.D.Disk.files c.args.disk.now).pkg db.store in
-    let next = next_package map k m (c.in-Some.ensures.told (g.D.Disk.files c.args.disk.now).pkg) in
-    let there = subst (λ (f : Files). finite.get (packages f.pkg db.store) m ≡ Some next.found) (sym (inv.looks.untouched told).same) next.there in
-    let one = rw c.in-Ok-Some.field-0-is at (c.in-Ok-Some.ensures.told told next.found there) in
-    (left map sel m, above_picks map sel n ∙ inv.same told ∙ picked_one map sel k m next one.0 ∙ ap (λ (e : ℕ × Package). e ∷ left map sel m) (sym one.1))
+    let file = (g.D.Disk.files c.args.disk.now).pkg in
+    let one = subst (λ (f : Files). OneOf sel m (finite.get (packages f.pkg db.store) m) (Ok (Some c.in-Ok-Some.picked))) (inv.looks.untouched told).same
+    (rw c.in-Ok-Some.field-0-is at (c.in-Ok-Some.ensures.told told)) in
+    let found = found_one (packages file db.store) sel m c.in-Ok-Some.picked one in (
+      left (packages file db.store) sel m,
+      above_picks (packages file db.store) sel c.args.n ∙ inv.same told serves
+          ∙ picked_next c.args.self.now file db sel serves k m c.in-Ok-Some.picked c.in-Some.ensures found,
+    )
 
 pub returns-in-Ok-Some-clause-looks : goal.returns-in-Ok-Some-clause-looks
 returns-in-Ok-Some-clause-looks g c =
@@ -61,7 +71,7 @@ returns-in-Ok-Some-clause-looks g c =
     let k = c.loop-next.passed in
     let m = c.in-Some.next in
     let inv = c.loop-next.invariant in
-    let more = cost_more db k m c.in-Some.ensures.next.0 in
+    let more = cost_more db k m c.in-Some.ensures.0 in
     let number = rw c.in-Ok-Some.field-0-is at c.in-Ok-Some.ensures.numbered in
     subst (λ (i : ℕ). Looks g.D.Disk.tells g.D.Disk.files g.D.Disk.left_since g.D.Disk.moment g.D.Disk.bytes_read g.D.Disk.follows Pkg
     (cost_to i db - cost_to n db) c.args.disk.now c.pick.new.disk) (sym number)
@@ -76,17 +86,52 @@ returns-in-Err-clause-looks g c =
     let k = c.loop-next.passed in
     let m = c.in-Some.next in
     let inv = c.loop-next.invariant in
-    let more = cost_more db k m c.in-Some.ensures.next.0 in
+    let more = cost_more db k m c.in-Some.ensures.0 in
     let all = cost_some db m in
     looks_then g.D.Disk.tells g.D.Disk.files g.D.Disk.left_since g.D.Disk.moment g.D.Disk.bytes_read g.D.Disk.follows Pkg g.met.D.Disk.follows_trans
     (cost_to k db - cost_to n db) (cost m db) (cost_all db - cost_to n db) c.args.disk.now c.loop-next.disk c.pick.new.disk
     (omega (arith, more, all, inv.more)) inv.looks c.in-Err.ensures.looks
 
 pub returns-clause-told : goal.returns-clause-told
-returns-clause-told g c = λ told.
-    let map = packages (g.D.Disk.files c.args.disk.now).pkg c.args.db.now.store in
-    above_picks map c.args.selection.now c.args.n ∙ c.loop-next.invariant.same told
-    ∙ none_above map c.args.selection.now c.loop-next.passed (c.in_default.ensures.told (g.D.Disk.files c.args.disk.now).pkg)
+returns-clause-told g c = λ told serves.
+    let file = (g.D.Disk.files c.args.disk.now).pkg in
+    let db = c.args.db.now in
+    above_picks (packages file db.store) c.args.selection.now c.args.n ∙ c.loop-next.invariant.same told serves
+    ∙ none_next c.args.self.now file db c.args.selection.now serves c.loop-next.passed c.in_default.ensures
+
+pub returns-clause-reads : goal.returns-clause-reads
+returns-clause-reads g c =
+    omega (arith, c.loop-next.invariant.reads, reach_some c.args.self.now c.args.db.now c.loop-next.passed)
+
+pub returns-in-Err-clause-reads : goal.returns-in-Err-clause-reads
+returns-in-Err-clause-reads g c =
+    let r = c.args.self.now in
+    let db = c.args.db.now in
+    let m = c.in-Some.next in
+    omega (
+      arith,
+      c.loop-next.invariant.reads,
+      c.loop-next.invariant.up,
+      c.in-Err.ensures.looks.reads.pkg,
+      reach_more r db c.loop-next.passed m c.in-Some.ensures,
+      reach_some r db m,
+    )
+
+pub returns-in-Ok-Some-clause-reads : goal.returns-in-Ok-Some-clause-reads
+returns-in-Ok-Some-clause-reads g c =
+    let r = c.args.self.now in
+    let db = c.args.db.now in
+    let m = c.in-Some.next in
+    let number = rw c.in-Ok-Some.field-0-is at c.in-Ok-Some.ensures.numbered in
+    let same : reach_to (number_in c.in-Ok-Some.picked) r db ≡ reach_to m r db = ap (λ (i : ℕ). reach_to i r db) number in
+    omega (
+      arith,
+      same,
+      c.loop-next.invariant.reads,
+      c.loop-next.invariant.up,
+      c.in-Ok-Some.ensures.looks.reads.pkg,
+      reach_more r db c.loop-next.passed m c.in-Some.ensures,
+    )
 
 pub returns-clause-looks : goal.returns-clause-looks
 returns-clause-looks g c =
@@ -102,7 +147,7 @@ returns-in-Ok-Some-clause-own g c =
     own_all c.args.selection.now c.args.db.now c.in-Some.next (g.D.Disk.bytes_read c.args.disk.now Pkg) (g.D.Disk.bytes_read c.pick.new.disk Pkg)
     (own_then c.args.selection.now c.args.db.now c.loop-next.passed c.in-Some.next (g.D.Disk.bytes_read c.args.disk.now Pkg)
     (g.D.Disk.bytes_read c.loop-next.disk Pkg) (g.D.Disk.bytes_read c.pick.new.disk Pkg)
-    c.in-Some.ensures.next.0 c.loop-next.invariant.own done.looks.reads.pkg done.unread)
+    c.in-Some.ensures.0 c.loop-next.invariant.own done.looks.reads.pkg done.unread)
 
 pub returns-in-Err-clause-own : goal.returns-in-Err-clause-own
 returns-in-Err-clause-own g c =
@@ -110,7 +155,7 @@ returns-in-Err-clause-own g c =
     own_all c.args.selection.now c.args.db.now c.in-Some.next (g.D.Disk.bytes_read c.args.disk.now Pkg) (g.D.Disk.bytes_read c.pick.new.disk Pkg)
     (own_then c.args.selection.now c.args.db.now c.loop-next.passed c.in-Some.next (g.D.Disk.bytes_read c.args.disk.now Pkg)
     (g.D.Disk.bytes_read c.loop-next.disk Pkg) (g.D.Disk.bytes_read c.pick.new.disk Pkg)
-    c.in-Some.ensures.next.0 c.loop-next.invariant.own done.looks.reads.pkg done.unread)
+    c.in-Some.ensures.0 c.loop-next.invariant.own done.looks.reads.pkg done.unread)
 
 pub returns-clause-own : goal.returns-clause-own
 returns-clause-own g c =
@@ -120,4 +165,4 @@ returns-clause-own g c =
 pub returns-in-Ok-Some-clause-rises : goal.returns-in-Ok-Some-clause-rises
 returns-in-Ok-Some-clause-rises g c =
     let number = rw c.in-Ok-Some.field-0-is at c.in-Ok-Some.ensures.numbered in
-    omega (arith, c.loop-next.invariant.later, c.in-Some.ensures.next.0, number)
+    omega (arith, c.loop-next.invariant.later, c.in-Some.ensures.0, number)

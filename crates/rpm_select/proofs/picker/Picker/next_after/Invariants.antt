@@ -1,9 +1,10 @@
-use Rattle.std.proofs.Common.{◌≡◌, ◌≤◌, ◌-◌, ◌^◌}
+use Rattle.std.proofs.Common.{◌≡◌, ◌≤◌, ◌+◌, ◌-◌, ◌^◌}
 use Rattle.std.specs.Prelude.{IsTrue}
 use Rattle.rpm_outside.specs.Looks.{Looks}
 use Rattle.rpm_db.specs.State.{packages}
 use Rattle.rpm_db.specs.Database.{Keeps, cost_to}
 use Rattle.rpm_outside.specs.declared.disk.File.TheVariants.{Pkg}
+use Rattle.rpm_select.specs.Reach.{reach_to, Serves}
 use Rattle.rpm_select.proofs.Owning.{ReadsOwnTo}
 use Rattle.rpm_select.proofs.Picking.{left}
 use Rattle.rpm_select.proofs.picker.Picker.next_after.Given as goal
@@ -16,8 +17,11 @@ invariant-loop-next g l = record {
   looks : Looks g.D.Disk.tells g.D.Disk.files g.D.Disk.left_since g.D.Disk.moment g.D.Disk.bytes_read g.D.Disk.follows Pkg
       (cost_to l.passed l.db - cost_to l.n l.db) l.initial.disk l.disk;
   own : ReadsOwnTo l.passed l.selection l.db (g.D.Disk.bytes_read l.initial.disk Pkg) (g.D.Disk.bytes_read l.disk Pkg);
+  up : reach_to l.n l.self l.db ≤ reach_to l.passed l.self l.db;
+  reads : g.D.Disk.bytes_read l.disk Pkg ≤ g.D.Disk.bytes_read l.initial.disk Pkg + (reach_to l.passed l.self l.db - reach_to l.n l.self l.db);
   faults : g.D.Disk.faults l.initial.disk ≤ g.D.Disk.faults l.disk;
-  same : IsTrue g.D.Disk.tells → left (packages (g.D.Disk.files l.initial.disk).pkg l.db.store) l.selection l.n
+  same : IsTrue g.D.Disk.tells → Serves l.self (packages (g.D.Disk.files l.initial.disk).pkg l.db.store) l.selection
+      → left (packages (g.D.Disk.files l.initial.disk).pkg l.db.store) l.selection l.n
       ≡ left (packages (g.D.Disk.files l.initial.disk).pkg l.db.store) l.selection l.passed;
 }
 

@@ -1,0 +1,48 @@
+use Rattle.std.proofs.Common.{◌≡◌, Bool, true, sym, ap, ◌∙◌, subst}
+use Rattle.std.proofs.lemmas.Bool.{and_parts}
+use Rattle.std.specs.Ordering.{nat_cmp}
+use Rattle.std.specs.FinMap.{FinMap}
+use Rattle.rpm_db.specs.Database.{is_indexed}
+use Rattle.rpm_db.specs.Rows.{rows}
+use Rattle.rpm_db.specs.State.{Package, packages}
+use Rattle.std.specs.List.Sorted.{IsStrictlyIncreasing}
+use Rattle.std.proofs.Common.{List, ℕ}
+use Rattle.rpm_select.specs.declared.selection.Selection.{Selection}
+use Rattle.rpm_select.specs.Candidates.{has_keys, keys_asked}
+use Rattle.rpm_select.specs.Reach.{Reach, These, asks, reach, Serves}
+use Rattle.rpm_select.specs.inner.Asking.{AreWith}
+use Rattle.rpm_select.proofs.Having.{with_candidates}
+use Rattle.rpm_select.proofs.Rising.{are_candidates}
+use Rattle.rpm_select.proofs.Serving.{served, unasked_serves}
+use Rattle.rpm_select.proofs.picker.Picker.new.Goals as goal
+
+-- the numbers that an index gave are those that a picker over it goes over
+gone_over : (asked : Bool) (all : FinMap nat_cmp Package) (sel : Selection) (ns : List ℕ) (r : Reach) → asked ≡ true → IsStrictlyIncreasing ns
+    → AreWith (rows all) (keys_asked sel) ns → r ≡ These ns → r ≡ reach asked sel all
+gone_over asked all sel ns r is_asked rising are is =
+    is ∙ ap These (are_candidates all sel ns rising (with_candidates all sel ns are)) ∙ sym (ap (λ (b : Bool). reach b sel all) is_asked)
+
+pub returns-then-not-asks-clause-serves : goal.returns-then-not-asks-clause-serves
+returns-then-not-asks-clause-serves g c = λ told has.
+    let all = packages (g.D.Disk.files c.args.disk.now).pkg c.args.db.now.store in
+    subst (λ (r : Reach). Serves r all c.args.selection.now) (sym c.unasked.ensures) (unasked_serves all c.args.selection.now)
+
+pub returns-in-Ok-clause-reach : goal.returns-in-Ok-clause-reach
+returns-in-Ok-clause-reach g c = λ told has.
+    let db = c.args.db.now in
+    let sel = c.args.selection.now in
+    let all = packages (g.D.Disk.files c.args.disk.now).pkg db.store in
+    let asked : asks db sel ≡ true = sym c.if-not-asks.ensures in
+    gone_over (asks db sel) all sel c.in-Ok.numbers.items c.over.result asked c.in-Ok.ensures.rising
+    (c.in-Ok.ensures.with told (has (and_parts (has_keys sel) (is_indexed db) asked).1)) c.over.ensures
+
+pub returns-in-Ok-clause-serves : goal.returns-in-Ok-clause-serves
+returns-in-Ok-clause-serves g c = λ told has.
+    let db = c.args.db.now in
+    let sel = c.args.selection.now in
+    let all = packages (g.D.Disk.files c.args.disk.now).pkg db.store in
+    let asked : asks db sel ≡ true = sym c.if-not-asks.ensures in
+    subst (λ (r : Reach). Serves r all sel)
+    (sym (gone_over (asks db sel) all sel c.in-Ok.numbers.items c.over.result asked c.in-Ok.ensures.rising
+    (c.in-Ok.ensures.with told (has (and_parts (has_keys sel) (is_indexed db) asked).1)) c.over.ensures))
+    (served (asks db sel) sel all (λ is_asked. (and_parts (has_keys sel) (is_indexed db) is_asked).0))

@@ -1,0 +1,87 @@
+-- The packages that a picker goes over, and what reading them takes.
+use Rattle.std.specs.Prelude.{◌≡◌, ◌⊎◌, ℕ, ◌-◌, List, [], ◌∷◌, map, filter, Bool, true, false, ◌&&◌, ◌==◌, nat_le, if◌then◌else◌, Option, Some, None, Result, Ok, Err}
+use Rattle.std.specs.List.{list_any, sum_by}
+use Rattle.std.specs.Ordering.{nat_cmp}
+use Rattle.std.specs.FinMap as finite
+use Rattle.rpm_outside.specs.Files.{Units}
+use Rattle.rpm_tags.specs.declared.kind.Kind.{Kind}
+use Rattle.rpm_tags.specs.Kinds.{code_of}
+use Rattle.rpm_db.specs.Answers.{key_chain}
+use Rattle.rpm_db.specs.Database.{Database, is_indexed, holds, cost, cost_to, cost_all}
+use Rattle.rpm_db.specs.Lawful.{HasRows}
+use Rattle.rpm_db.specs.State.{Package, packages}
+use Rattle.rpm_select.specs.declared.picker.Picked.{Picked}
+use Rattle.rpm_select.specs.declared.picker.PickFault.{PickFault}
+use Rattle.rpm_select.specs.declared.picker.PickFault.TheVariants.{BadIndex, DiskFault, NoMemory}
+use Rattle.rpm_select.specs.declared.selection.Selection.{Selection}
+use Rattle.rpm_select.specs.declared.selection.Selection.TheVariants.{Number}
+use Rattle.rpm_select.specs.Candidates.{has_keys, candidates}
+use Rattle.rpm_select.specs.Picks.{number_in}
+use Rattle.rpm_select.specs.Selections.{is_picked}
+
+-- those of all numbers that are there, or those of these numbers
+pub data Reach : Type 0 where
+  Everything : Reach
+  These : List ℕ → Reach
+
+-- an index is asked
+abbrev pub asks : Database → Selection → Bool
+asks db sel = has_keys sel && is_indexed db
+
+-- where no index is asked
+abbrev pub unasked : Selection → Reach
+unasked (Number m) = These (m ∷ [])
+unasked others = Everything
+
+-- where an index is asked, the candidates alone
+abbrev pub reach : Bool → Selection → finite.FinMap nat_cmp Package → Reach
+reach asked sel packages = if asked then These (map (λ e. e.0) (candidates packages sel)) else unasked sel
+
+abbrev pub is_in : ℕ → List ℕ → Bool
+is_in n ns = list_any (λ m. m == n) ns
+
+abbrev pub reaches : Reach → Database → ℕ → Bool
+reaches Everything db n = holds n db
+reaches (These ns) db n = is_in n ns
+
+-- whatever is picked is in reach
+abbrev pub Serves : Reach → finite.FinMap nat_cmp Package → Selection → Type 0
+Serves Everything packages sel = Unit {0}
+Serves (These ns) packages sel = (n : ℕ) (p : Package) → finite.get packages n ≡ Some p → is_picked sel (n, p) ≡ true → is_in n ns ≡ true
+
+-- an index that is kept holds the rows of the packages
+abbrev pub HasIndexRows : Database → Units → Units → Type 0
+HasIndexRows db pkg idx = is_indexed db ≡ true → HasRows (packages pkg db.store) idx
+
+-- ---- what is read
+
+-- the blocks of these numbers, up to this one
+abbrev pub costs_to : ℕ → List ℕ → Database → ℕ
+costs_to m ns db = sum_by (λ n. cost n db) (filter (λ n. nat_le n m) ns)
+
+abbrev pub reach_to : ℕ → Reach → Database → ℕ
+reach_to m Everything db = cost_to m db
+reach_to m (These ns) db = costs_to m ns db
+
+-- and of all of them
+abbrev pub reach_all : Reach → Database → ℕ
+reach_all Everything db = cost_all db
+reach_all (These ns) db = sum_by (λ n. cost n db) ns
+
+-- those above n, up to the one that is given
+abbrev pub reach_after : ℕ → Reach → Database → Result (Option Picked) PickFault → ℕ
+reach_after n r db (Ok (Some picked)) = reach_to (number_in picked) r db - reach_to n r db
+reach_after n r db _ = reach_all r db - reach_to n r db
+
+-- ---- a broken index
+
+-- the fault of the chain of one of these keys
+abbrev pub IsFaultOfOne : List (Kind × List ℕ) → Units → ℕ → Type 0
+IsFaultOfOne [] idx unit = ⊥
+IsFaultOfOne ((kind, key) ∷ keys) idx unit = (key_chain (code_of kind) key idx ≡ Err unit) ⊎ IsFaultOfOne keys idx unit
+
+-- an index is said to be broken only by that
+abbrev pub IsBroken : List (Kind × List ℕ) → Units → PickFault → Type 0
+IsBroken keys idx (BadIndex unit) = IsFaultOfOne keys idx unit
+IsBroken keys idx DiskFault = Unit {0}
+IsBroken keys idx NoMemory = Unit {0}

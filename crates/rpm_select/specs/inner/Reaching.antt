@@ -1,0 +1,16 @@
+-- What a picker's reach shows.
+use Rattle.std.specs.Prelude.{ℕ, [], ◌∷◌}
+use Rattle.std.specs.List.Sorted.{IsStrictlyIncreasing}
+use Rattle.rpm_select.specs.declared.reach.Reach as declared
+use Rattle.rpm_select.specs.declared.reach.Reach.TheVariants as code
+use Rattle.rpm_select.specs.Reach.{Reach, Everything, These}
+
+abbrev pub reach_of : declared.Reach → Reach
+reach_of code.All = Everything
+reach_of (code.One n) = These (n ∷ [])
+reach_of (code.These numbers) = These numbers.items
+
+abbrev pub IsRising : declared.Reach → Type 0
+IsRising code.All = Unit {0}
+IsRising (code.One n) = Unit {0}
+IsRising (code.These numbers) = IsStrictlyIncreasing numbers.items

@@ -1,0 +1,144 @@
+//! The packages that an index has under the keys of a selection.
+
+ghost use Rattle.std.specs.Prelude.{◌≡◌, ◌≢◌, ℕ, ◌++◌, ◌∷◌, [], IsTrue, true, false, map, Err, IfOk, IfErr, OnOk};
+ghost use Rattle.std.specs.List.Sorted.{IsStrictlyIncreasing};
+ghost use Rattle.rpm_outside.specs.Causes.{HasCauseAt};
+ghost use Rattle.rpm_outside.specs.declared.disk.File.TheVariants.{Idx};
+ghost use Rattle.rpm_outside.specs.Looks.{LooksAt};
+ghost use Rattle.rpm_db.specs.Database.{KeepsIndex, is_indexed};
+ghost use Rattle.rpm_db.specs.Lawful.{HasRows};
+ghost use Rattle.rpm_db.specs.Rows.{rows};
+ghost use Rattle.rpm_db.specs.State.{packages};
+ghost use Rattle.rpm_select.specs.Candidates.{keys_asked};
+ghost use Rattle.rpm_select.specs.Reach.{is_in, IsBroken};
+ghost use Rattle.rpm_select.specs.Picks.{is_of_index};
+ghost use Rattle.rpm_select.specs.inner.Asking.{AreWith, Adds};
+
+use crate::asked::{Asked, keys_asked};
+use crate::picker::PickFault;
+use crate::selection::Selection;
+use rpm_db::{Db, FindFault, Hits};
+use rpm_outside::{Disk, File};
+use std::alloc::{AllocError, Global};
+
+/// Adds the numbers of hits.
+#[tactic(auto, using(crate::proofs::Numbering::number_more, crate::proofs::Numbering::all_numbers))]
+fn push_numbers(numbers: &mut Vec<u32>, hits: &Hits) -> Result<(), AllocError>
+    ensures { OnOk result (numbers.new.items ≡ numbers.old.items ++ map (λ hit. hit.number) hits.now) }
+{
+    for i in 0..hits.len() {
+        numbers.push(hits.at(i).number)?;
+    }
+    Ok(())
+}
+
+/// Adds the numbers of the hits of a key.
+fn push_hits(numbers: &mut Vec<u32>, hits: &Hits) -> Result<(), PickFault>
+    ensures adds { OnOk result (numbers.new.items ≡ numbers.old.items ++ map (λ hit. hit.number) hits.now) }
+    ensures no_fault { result ≢ Err PickFault.DiskFault }
+    ensures unbroken { IfErr result (λ fault. is_of_index fault ≡ false) }
+{
+    match push_numbers(numbers, hits) {
+        Ok(()) => Ok(()),
+        Err(_) => Err(PickFault::NoMemory),
+    }
+}
+
+/// Adds the numbers of the packages that have a key, each as often as it has it.
+fn push_found<D: Disk>(
+    alloc: Global,
+    db: &Db,
+    disk: &mut D,
+    key: &Asked<'_>,
+    numbers: &mut Vec<u32>,
+) -> Result<(), PickFault>
+    requires indexed { is_indexed db.now ≡ true }
+    requires runs { db.now.stopped ≡ false }
+    requires keeps { IsTrue D.tells → KeepsIndex (D.files disk.old).idx db.now }
+    ensures kept { IsTrue D.tells → KeepsIndex (D.files disk.new).idx db.now }
+    ensures adds { OnOk result (IsTrue D.tells → HasRows (packages (D.files disk.old).pkg db.now.store) (D.files disk.old).idx
+        → Adds (rows (packages (D.files disk.old).pkg db.now.store)) key.now numbers.old.items numbers.new.items) }
+    ensures broken { IsTrue D.tells → IfErr result (IsBroken (key.now ∷ []) (D.files disk.old).idx) }
+    ensures lawful { IsTrue D.tells → HasRows (packages (D.files disk.old).pkg db.now.store) (D.files disk.old).idx
+        → IfErr result (λ fault. is_of_index fault ≡ false) }
+    ensures looks { LooksAt D.tells D.files D.left_since D.moment D.bytes_read D.follows Idx disk.old disk.new }
+    ensures cause { HasCauseAt (result ≡ Err PickFault.DiskFault) (D.faults disk.old) (D.faults disk.new) }
+{
+    match db.find(alloc, disk, key.kind(), key.bytes()) {
+        Ok(hits) => push_hits(numbers, &hits),
+        Err(FindFault::BadIndex { unit }) => Err(PickFault::BadIndex { unit }),
+        Err(FindFault::DiskFault) => Err(PickFault::DiskFault),
+        Err(FindFault::NoMemory) => Err(PickFault::NoMemory),
+    }
+}
+
+/// The numbers of the packages that have one of some keys, as often as they have them.
+fn found<D: Disk>(
+    alloc: Global,
+    db: &Db,
+    disk: &mut D,
+    keys: &[Asked<'_>],
+) -> Result<Vec<u32>, PickFault>
+    requires indexed { is_indexed db.now ≡ true }
+    requires runs { db.now.stopped ≡ false }
+    requires keeps { IsTrue D.tells → KeepsIndex (D.files disk.old).idx db.now }
+    ensures kept { IsTrue D.tells → KeepsIndex (D.files disk.new).idx db.now }
+    ensures with { IfOk result (λ numbers. IsTrue D.tells → HasRows (packages (D.files disk.old).pkg db.now.store) (D.files disk.old).idx
+        → AreWith (rows (packages (D.files disk.old).pkg db.now.store)) keys.now numbers.items) }
+    ensures broken { IsTrue D.tells → IfErr result (IsBroken keys.now (D.files disk.old).idx) }
+    ensures lawful { IsTrue D.tells → HasRows (packages (D.files disk.old).pkg db.now.store) (D.files disk.old).idx
+        → IfErr result (λ fault. is_of_index fault ≡ false) }
+    ensures looks { LooksAt D.tells D.files D.left_since D.moment D.bytes_read D.follows Idx disk.old disk.new }
+    ensures cause { HasCauseAt (result ≡ Err PickFault.DiskFault) (D.faults disk.old) (D.faults disk.new) }
+{
+    let mut numbers = Vec::new(alloc);
+    let mut left = keys;
+    while let [key, rest @ ..] = left {
+        push_found(alloc, db, disk, key, &mut numbers)?;
+        left = rest;
+    }
+    Ok(numbers)
+}
+
+/// Puts numbers in order, each once.
+fn each_once(numbers: Vec<u32>) -> Vec<u32>
+    ensures rising { IsStrictlyIncreasing result.items }
+    ensures same { (n : ℕ) → is_in n result.items ≡ is_in n numbers.items }
+{
+    let mut numbers = numbers;
+    numbers.sort_unstable();
+    numbers.dedup();
+    numbers
+}
+
+/// The numbers of the packages that have one of the keys of a selection, rising, each once.
+///
+/// Reads of `Hindex.db` 16 bytes and the records of its bucket for each key, and of `Packages.db` nothing.
+pub fn numbers_asked<D: Disk>(
+    alloc: Global,
+    db: &Db,
+    disk: &mut D,
+    selection: &Selection<'_>,
+) -> Result<Vec<u32>, PickFault>
+    requires indexed { is_indexed db.now ≡ true }
+    requires runs { db.now.stopped ≡ false }
+    requires keeps { IsTrue D.tells → KeepsIndex (D.files disk.old).idx db.now }
+    ensures kept { IsTrue D.tells → KeepsIndex (D.files disk.new).idx db.now }
+    ensures rising { IfOk result (λ numbers. IsStrictlyIncreasing numbers.items) }
+    ensures with { IfOk result (λ numbers. IsTrue D.tells → HasRows (packages (D.files disk.old).pkg db.now.store) (D.files disk.old).idx
+        → AreWith (rows (packages (D.files disk.old).pkg db.now.store)) (keys_asked selection.now) numbers.items) }
+    ensures broken { IsTrue D.tells → IfErr result (IsBroken (keys_asked selection.now) (D.files disk.old).idx) }
+    ensures lawful { IsTrue D.tells → HasRows (packages (D.files disk.old).pkg db.now.store) (D.files disk.old).idx
+        → IfErr result (λ fault. is_of_index fault ≡ false) }
+    ensures looks { LooksAt D.tells D.files D.left_since D.moment D.bytes_read D.follows Idx disk.old disk.new }
+    ensures cause { HasCauseAt (result ≡ Err PickFault.DiskFault) (D.faults disk.old) (D.faults disk.new) }
+{
+    let keys = match keys_asked(alloc, selection) {
+        Ok(keys) => keys,
+        Err(_) => return Err(PickFault::NoMemory),
+    };
+    match found(alloc, db, disk, &keys) {
+        Ok(numbers) => Ok(each_once(numbers)),
+        Err(fault) => Err(fault),
+    }
+}
