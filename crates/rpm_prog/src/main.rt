@@ -54,7 +54,7 @@ fn status_of(rt: &HostRuntime) -> u8 {
     let Ok(disk) = RealDisk::new(rt.alloc(), rt, place_of(&words)) else {
         return NO_MEMORY;
     };
-    let mut shelf = RealShelf::new(rt);
+    let mut shelf = RealShelf::new(rt.alloc(), rt);
     let mut out = RealSink::new(rt.stdout());
     let mut err = RealSink::new(rt.stderr());
     let now = moment_of(rt);

@@ -4,7 +4,7 @@ ghost use Rattle.std.specs.Prelude.{◌≡◌, ◌≤◌, ◌+◌, ◌-◌, ◌^
 
 use std::alloc::{AllocError, Global};
 use std::fs::{OpenFile, OpenOptions};
-use std::io::ErrorKind;
+use std::io::{ErrorKind, Seek, SeekFrom};
 use std::os::unix::fs::FileExt;
 use std::rt::Files;
 use std::{fs, io};
@@ -77,9 +77,10 @@ impl RealFile {
         ensures { self.new.read ≡ self.old.read }
     {
         self.open_to_read(rt)?;
-        match &self.file {
+        match &mut self.file {
             None => Ok(0),
-            Some(file) => Ok(file.metadata()?.len() / 16),
+            // Where the end is costs less to ask than all that is known of the file. Each read and write says its own place.
+            Some(file) => Ok(file.seek(SeekFrom::End(0))? / 16),
         }
     }
 

@@ -4,21 +4,26 @@ ghost use Rattle.std.specs.Prelude.{false, None};
 ghost use Rattle.std.specs.FinMap.{empty};
 
 use rpm_outside::{Absent, Failed, Shelf};
-use std::fs;
-use std::io::{BufRead, Input, Read};
+use std::alloc::Global;
+use std::io::{BufReader, Input, Read};
 use std::rt::Files;
+use std::{fs, io};
 
 /// What is open.
 #[derive(Drop)]
 enum Item<F: Drop, I: Drop> {
     Nothing,
-    File(F),
-    Input(I),
+    File(BufReader<F>),
+    Input(BufReader<I>),
 }
 
-/// A shelf that opens files by their paths, and tells nothing of what they hold.
+/// How many bytes are read at once where a caller asks for fewer.
+const AHEAD: usize = 32768;
+
+/// A shelf that opens files by their paths, and tells nothing of what they hold. It reads ahead of its callers.
 #[derive(Drop)]
 pub struct RealShelf<'a, R: Files + Input> {
+    alloc: Global,
     rt: &'a R,
     item: Item<R::File, R::Reader>,
     absences: u64,
@@ -27,13 +32,25 @@ pub struct RealShelf<'a, R: Files + Input> {
 
 impl<'a, R: Files + Input> RealShelf<'a, R> {
     /// A shelf on which nothing is open.
-    pub fn new(rt: &'a R) -> RealShelf<'a, R> {
+    pub fn new(alloc: Global, rt: &'a R) -> RealShelf<'a, R> {
         RealShelf {
+            alloc,
             rt,
             item: Item::Nothing,
             absences: 0,
             faults: 0,
         }
+    }
+
+    /// The item under a path, with a buffer in front of it.
+    fn item_of(&self, path: &str) -> io::Result<Item<R::File, R::Reader>> {
+        if path == "-" {
+            let input = BufReader::with_capacity(self.alloc, AHEAD, self.rt.reader())?;
+            return Ok(Item::Input(input));
+        }
+        let file = fs::open(self.rt, path)?;
+        let file = BufReader::with_capacity(self.alloc, AHEAD, file)?;
+        Ok(Item::File(file))
     }
 }
 
@@ -49,13 +66,9 @@ impl<'a, R: Files + Input> Shelf for RealShelf<'a, R> {
     ghost faults = { λ shelf. shelf.faults };
 
     fn open(&mut self, path: &str) -> Result<(), Absent> {
-        if path == "-" {
-            self.item = Item::Input(self.rt.reader());
-            return Ok(());
-        }
-        match fs::open(self.rt, path) {
-            Ok(file) => {
-                self.item = Item::File(file);
+        match self.item_of(path) {
+            Ok(item) => {
+                self.item = item;
                 Ok(())
             }
             Err(_) => {

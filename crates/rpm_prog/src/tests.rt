@@ -45,7 +45,7 @@ fn the_program_lists_real_files(rt: HostRuntime) -> Result<(), Fail> {
     words.push("rpm")?;
     words.push("-qa")?;
     let disk = RealDisk::new(alloc, &rt, folder)?;
-    let mut shelf = RealShelf::new(&rt);
+    let mut shelf = RealShelf::new(rt.alloc(), &rt);
     let mut out = MemSink::new(alloc);
     let mut err = MemSink::new(alloc);
     let (outcome, _) = run(alloc, &words, disk, &mut shelf, &mut out, &mut err, 5);
@@ -53,6 +53,35 @@ fn the_program_lists_real_files(rt: HostRuntime) -> Result<(), Fail> {
     assert_eq!(rt; out.bytes(), b"a-1-2.x\n".as_slice());
     assert!(rt; fs::read(&rt, path)?.as_slice() == file.as_slice());
     fs::remove_dir_all(&rt, folder)?;
+    Ok(())
+}
+
+#[test]
+fn the_program_reads_a_real_package_file(rt: HostRuntime) -> Result<(), Fail> {
+    let alloc = rt.alloc();
+    // A lead, a signature header without entries, and the header of the package above.
+    let mut file = Vec::new(alloc);
+    file.extend_from_slice(&[0xed, 0xab, 0xee, 0xdb])?;
+    file.extend_from_slice(&[0; 75])?;
+    file.extend_from_slice(&[5])?;
+    file.extend_from_slice(&[0; 16])?;
+    file.extend_from_slice(&[0x8e, 0xad, 0xe8, 1, 0, 0, 0, 0, 0, 0, 0, 0, 0, 0, 0, 0])?;
+    file.extend_from_slice(&[0x8e, 0xad, 0xe8, 1, 0, 0, 0, 0])?;
+    file.extend_from_slice(&BLOB[16..96])?;
+    fs::write(&rt, "p1.rpm", file.as_slice())?;
+
+    let mut words = Words::new(alloc);
+    words.push("rpm")?;
+    words.push("-qp")?;
+    words.push("p1.rpm")?;
+    let disk = RealDisk::new(alloc, &rt, "no such folder")?;
+    let mut shelf = RealShelf::new(alloc, &rt);
+    let mut out = MemSink::new(alloc);
+    let mut err = MemSink::new(alloc);
+    let (outcome, _) = run(alloc, &words, disk, &mut shelf, &mut out, &mut err, 5);
+    assert!(rt; outcome.why == Why::Done && outcome.status == 0);
+    assert_eq!(rt; out.bytes(), b"a-1-2.x\n".as_slice());
+    fs::remove_file(&rt, "p1.rpm")?;
     Ok(())
 }
 
@@ -78,7 +107,7 @@ fn a_real_disk_makes_its_files_by_writing_only(rt: HostRuntime) -> Result<(), Fa
 #[test]
 fn a_real_shelf_reads_files_and_sinks_write(rt: HostRuntime) -> Result<(), Fail> {
     fs::write(&rt, "item", "abc")?;
-    let mut shelf = RealShelf::new(&rt);
+    let mut shelf = RealShelf::new(rt.alloc(), &rt);
     let mut into = [0u8; 8];
     assert_eq!(rt; shelf.open("no such item"), Err(Absent));
     assert_eq!(rt; shelf.read(&mut into), Ok(0));

@@ -38,7 +38,7 @@ answered_done tree chosen after j text (e ∷ es) fails old new P Q some p = rec
 -- a command that was stopped
 pub went_stop : (T : Type 0) (c : Course) (what : Stop) (old new : Outputs) (reads_to : Bearer → Type 0) → Reached {T = T} c.steps (Err what) old new reads_to
     → Went c (why_of what) old new reads_to
-went_stop T c stop.DiskFault old new reads_to r = r
+went_stop T c stop.ReadFault old new reads_to r = r
 went_stop T c stop.OutFault old new reads_to r = r
 went_stop T c stop.ErrFault old new reads_to r = r
 went_stop T c stop.NoMemory old new reads_to r = r

@@ -1,12 +1,15 @@
 mod Answering
 mod Asking
 mod Defaults
+mod Filed
 mod Fixtures
 mod Joins
 mod Loading
+mod Numbered
 mod Printed
 mod Printing
 mod Questions
 mod Reaching
 mod Rising
 mod Undone
+mod Verified

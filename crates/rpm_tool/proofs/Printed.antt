@@ -14,7 +14,10 @@ use Rattle.rpm_select.specs.declared.picker.Picked.TheVariants as pick
 use Rattle.rpm_select.specs.Picks.{entry_in, number_in}
 use Rattle.rpm_tool.specs.declared.step.Stop.{Stop}
 use Rattle.rpm_tool.specs.Steps.{Bearer, bearer, Step, bearer_of, is_out, is_bad}
-use Rattle.rpm_tool.specs.Queries.{printed, header_step, step_of}
+use Rattle.rpm_tool.specs.declared.step.Way.{Way}
+use Rattle.rpm_tool.specs.declared.step.Way.TheVariants as way
+use Rattle.rpm_tool.specs.Queries.{printed, bad_step, header_step, step_of}
+use Rattle.rpm_tool.specs.Reports.{step_by}
 use Rattle.rpm_tool.specs.Answers.{Outputs, OneIs, NextIs, Reached, cost_until}
 use Rattle.rpm_tool.proofs.Reaching.{reached_first}
 
@@ -30,6 +33,16 @@ bearer-header_step tree j n (Err fault) = refl
 pub bearer-step_of : (tree : Tree) (j : ℕ) (e : ℕ × Package) → bearer_of (step_of tree j e) ≡ bearer j e.0
 bearer-step_of tree j (n, Good bytes) = bearer-header_step tree j n (header bytes)
 bearer-step_of tree j (n, Bad) = refl
+
+pub bearer-step_by : (w : Way) (j : ℕ) (e : ℕ × Package) → bearer_of (step_by w j e) ≡ bearer j e.0
+bearer-step_by (way.Format format) j e = bearer-step_of format.now j e
+bearer-step_by way.Export j (n, Good bytes) = refl
+bearer-step_by way.Export j (n, Bad) = refl
+
+-- a package that can't be read has its line in each way
+pub step_by-bad : (w : Way) (j n : ℕ) → step_by w j (n, Bad) ≡ bad_step j n
+step_by-bad (way.Format format) j n = refl
+step_by-bad way.Export j n = refl
 
 number-entry : (p : Picked) → number_in p ≡ (entry_in p).0
 number-entry (pick.Good number blob) = refl

@@ -1,5 +1,5 @@
 -- The packages that are picked, by rising number.
-use Rattle.std.proofs.Common.{◌≡◌, ℕ, ◌<◌, ◌≤◌, Bool, true, false, ◌&&◌, ◌==◌, cond, List, [], ◌∷◌, Option, Some, None, is_some, refl, sym, ap, ◌∙◌, subst, inl, inr, arith, nat_lt, Less, Equal, Greater}
+use Rattle.std.proofs.Common.{◌≡◌, ℕ, ◌<◌, ◌≤◌, Bool, true, false, ◌&&◌, ◌==◌, cond, List, [], ◌∷◌, map, Option, Some, None, is_some, refl, sym, ap, ◌∙◌, subst, inl, inr, arith, nat_lt, Less, Equal, Greater}
 use Rattle.std.specs.Prelude.{T, nat_le}
 use Rattle.std.specs.Ordering.{nat_cmp, is_lt}
 use Rattle.std.specs.List.{filter, list_any}
@@ -14,6 +14,7 @@ use Rattle.rpm_db.specs.inner.Above.{all_above_zero}
 use Rattle.rpm_db.specs.inner.Laws.{is_there}
 use Rattle.rpm_select.specs.declared.selection.Selection.{Selection}
 use Rattle.rpm_select.specs.Selections.{is_picked, picks}
+use Rattle.rpm_tool.specs.Steps.{Rises}
 use Rattle.rpm_tool.specs.Answers.{is_some_of}
 
 both_true : (a b : Bool) → T (a && b) → T a × T b
@@ -69,6 +70,25 @@ module _ {X : Type 0} (p : ℕ × X → Bool) where
               let lt : n < e.0 = r.0 in
               let past : nat_lt e.0 x.0 ≡ false = grind (arith, nat_tests) in
               (r.0, simp (takes, past) r.1))
+        ]
+      ]
+
+  -- those above a number rise
+  pub rises_above : (n : ℕ) (es : List (ℕ × X)) → T (finite.is_sorted nat_cmp es) → Rises n (map (λ e. e.0) (above n (filter p es)))
+  rises_above n [] t = tt
+  rises_above n (x ∷ xs) t =
+      let s = both_true (below_all nat_cmp x.0 xs) (finite.is_sorted nat_cmp xs) t in
+      elim (cases_Bool (p x)) [
+        | inr other ↦ rw other (rises_above n xs s.1)
+        | inl takes ↦ elim (cases_Bool (nat_lt n x.0)) [
+          | inr under ↦ simp (takes, under) (rises_above n xs s.1)
+          | inl over ↦
+              (let lt : n < x.0 = grind (arith, nat_tests) in
+              let same : above n (filter p xs) ≡ above x.0 (filter p xs) = kept_above n x.0 xs s.0 (omega (arith, lt))
+              ∙ sym (kept_above x.0 x.0 xs s.0 (omega arith)) in
+              let later : Rises x.0 (map (λ e. e.0) (above n (filter p xs))) =
+              subst (λ (ys : List (ℕ × X)). Rises x.0 (map (λ e. e.0) ys)) (sym same) (rises_above x.0 xs s.1) in
+              simp (takes, over) (lt, later))
         ]
       ]
 

@@ -12,9 +12,10 @@ use Rattle.rpm_pkgdb.specs.Store.{Store, store}
 use Rattle.rpm_tool.specs.declared.answer.Unbuilt.TheVariants.{Words}
 use Rattle.rpm_tool.specs.declared.answer.Why.{Why}
 use Rattle.rpm_tool.specs.declared.answer.Why.TheVariants as why
+use Rattle.rpm_tool.specs.declared.asked.Deed.{Deed}
 use Rattle.rpm_tool.specs.Asked.{is_built, is_unbuilt_in, format_text, format_in, command_in}
 use Rattle.rpm_tool.specs.Steps.{Bearer, Course}
-use Rattle.rpm_tool.specs.Answers.{outputs, ComesWhere, Undone, Opened, Loaded, Queried, ReadsTo, is_of_words}
+use Rattle.rpm_tool.specs.Answers.{outputs, ComesWhere, Undone, Opened, Loaded, Queried, ReadsTo, is_of_words, is_foreign}
 use Rattle.rpm_tool.proofs.Reaching.{through_none}
 
 none_some : (p : AskParts × Tree) (o : Option (AskParts × Tree)) → o ≡ None → o ≡ Some p → ⊥
@@ -123,12 +124,12 @@ same_command asked read a b tree other one two is =
     both_of p q (sym there ∙ is)
 
 -- and then its database has not been opened
-pub not_begun : (course : Units → Store → Course) (files : Files) (out_tells err_tells : Bool) (o e : List ℕ) (n : ℕ) → Queried course files
+pub not_begun : (what : Deed) (course : Units → Store → Course) (files : Files) (out_tells err_tells : Bool) (o e : List ℕ) (n : ℕ) → Queried what course files
     why.NoMemory (outputs out_tells o err_tells e) (outputs out_tells o err_tells e) n n
-not_begun course files ot et o e n = loaded (log_state files.log) (store (reopened files).pkg)
+not_begun what course files ot et o e n = loaded (log_state files.log) (store (reopened files).pkg)
   where
     reads : Store → Bearer → Type 0
-    reads s = ReadsTo (reopened files).pkg s n n
+    reads s = ReadsTo what (reopened files).pkg s n n
 
     opened : (s : Result Store Damage) → Opened (course (reopened files).pkg) s why.NoMemory (outputs ot o et e) (outputs ot o et e) reads
     opened (Ok s) = ([], (course (reopened files).pkg s).steps, refl, through_none {ot = ot} {et = et} o e)
@@ -138,3 +139,18 @@ not_begun course files ot et o e n = loaded (log_state files.log) (store (reopen
     loaded Closed s = opened s
     loaded (Malformed unit) s = (tt, through_none {ot = ot} {et = et} o e)
     loaded (Open entries) s = opened s
+
+-- an ending of a command that was begun is none of words
+pub unforeign : (w : Why) → is_foreign w ≡ false → is_of_words w ≡ false
+unforeign why.Done is = refl
+unforeign (why.Failed n) is = refl
+unforeign (why.Usage f) is = is
+unforeign (why.NotBuilt x) is = is
+unforeign (why.BadFormat f) is = is
+unforeign (why.BadLog u) is = refl
+unforeign (why.Damaged d) is = refl
+unforeign why.DiskFault is = refl
+unforeign why.ShelfFault is = refl
+unforeign why.OutFault is = refl
+unforeign why.ErrFault is = refl
+unforeign why.NoMemory is = refl

@@ -14,6 +14,8 @@ use Rattle.rpm_pkgdb.specs.declared.slot.Damage.{Damage}
 use Rattle.rpm_pkgdb.specs.Store.{Store, store}
 use Rattle.rpm_pkgdb.specs.Costs.{opening_cost, cost_to, cost_all}
 use Rattle.rpm_db.specs.State.{Package, above}
+use Rattle.rpm_file.specs.declared.fault.FileFault.{FileFault}
+use Rattle.rpm_file.specs.declared.fault.FileFault.TheVariants as file
 use Rattle.rpm_words.specs.declared.fault.WordsFault.{WordsFault}
 use Rattle.rpm_words.specs.declared.fault.WordsKind.TheVariants as kind
 use Rattle.rpm_words.specs.Ask.{AskParts}
@@ -27,7 +29,9 @@ use Rattle.rpm_tool.specs.declared.step.Stop.TheVariants as stop
 use Rattle.rpm_tool.specs.declared.picked.Printed.{Printed}
 use Rattle.rpm_tool.specs.declared.answer.Why.{Why}
 use Rattle.rpm_tool.specs.declared.answer.Why.TheVariants as why
-use Rattle.rpm_tool.specs.Asked.{is_unbuilt_in}
+use Rattle.rpm_tool.specs.declared.asked.Deed.{Deed}
+use Rattle.rpm_tool.specs.declared.asked.Deed.TheVariants as deed
+use Rattle.rpm_tool.specs.Asked.{deed_of, is_unbuilt_in}
 use Rattle.rpm_tool.specs.Steps.{Bearer, Step, Course, Part, out_bytes, err_bytes, is_out, bearer_of, cut}
 
 -- what out and err took, and whether they tell it
@@ -63,7 +67,7 @@ pub record StoppedWithin (all : List Step) (to_out : Bool) (old new : Outputs) (
 -- how far these steps were gone through: to their end, or to where something stopped
 abbrev pub Reached : {T : Type 0} → List Step → Result T Stop → Outputs → Outputs → (Bearer → Type 0) → Type 0
 Reached all (Ok done) old new reads_to = Through all old new
-Reached all (Err stop.DiskFault) old new reads_to = ThroughSome all old new
+Reached all (Err stop.ReadFault) old new reads_to = ThroughSome all old new
 Reached all (Err stop.OutFault) old new reads_to = StoppedWithin all true old new reads_to
 Reached all (Err stop.ErrFault) old new reads_to = StoppedWithin all false old new reads_to
 Reached all (Err stop.NoMemory) old new reads_to = ThroughSome all old new
@@ -71,7 +75,7 @@ Reached all (Err stop.NoMemory) old new reads_to = ThroughSome all old new
 -- one step that a call goes through, or stops within, or doesn't begin
 abbrev pub StepIs : Step → Result Bool Stop → Outputs → Outputs → Type 0
 StepIs step (Ok to_out) old new = (is_out step ≡ to_out) × Through (step ∷ []) old new
-StepIs step (Err stop.DiskFault) old new = Through [] old new
+StepIs step (Err stop.ReadFault) old new = Through [] old new
 StepIs step (Err stop.OutFault) old new = (is_out step ≡ true) × ((bytes : ℕ) × Through (cut bytes step ∷ []) old new)
 StepIs step (Err stop.ErrFault) old new = (is_out step ≡ false) × ((bytes : ℕ) × Through (cut bytes step ∷ []) old new)
 StepIs step (Err stop.NoMemory) old new = Through [] old new
@@ -123,7 +127,7 @@ fails_in (Err stop) = Err stop
 
 -- a stop that a sink made
 abbrev pub is_of_sink : Stop → Bool
-is_of_sink stop.DiskFault = false
+is_of_sink stop.ReadFault = false
 is_of_sink stop.OutFault = true
 is_of_sink stop.ErrFault = true
 is_of_sink stop.NoMemory = false
@@ -134,16 +138,33 @@ is_some_of (x ∷ xs) = true
 
 -- a fault of a picker that asks no index
 abbrev pub stop_of : PickFault → Stop
-stop_of (pick.BadIndex unit) = stop.DiskFault
-stop_of pick.DiskFault = stop.DiskFault
+stop_of (pick.BadIndex unit) = stop.ReadFault
+stop_of pick.DiskFault = stop.ReadFault
 stop_of pick.NoMemory = stop.NoMemory
 
--- the ending of a command that was stopped
+-- the ending of a command on a database that was stopped
 abbrev pub why_of : Stop → Why
-why_of stop.DiskFault = why.DiskFault
+why_of stop.ReadFault = why.DiskFault
 why_of stop.OutFault = why.OutFault
 why_of stop.ErrFault = why.ErrFault
 why_of stop.NoMemory = why.NoMemory
+
+-- and of a query of package files
+abbrev pub why_of_files : Stop → Why
+why_of_files stop.ReadFault = why.ShelfFault
+why_of_files stop.OutFault = why.OutFault
+why_of_files stop.ErrFault = why.ErrFault
+why_of_files stop.NoMemory = why.NoMemory
+
+-- a fault that stops it; the others are the file's own
+abbrev pub stop_in : FileFault → Option Stop
+stop_in file.ReadFault = Some stop.ReadFault
+stop_in file.NoMemory = Some stop.NoMemory
+stop_in others = None
+
+-- nothing is said of what was read
+abbrev pub Anywhere : Bearer → Type 0
+Anywhere for = Unit {0}
 
 -- ---- the answers to words that aren't done
 
@@ -166,6 +187,14 @@ is_of_words (why.NotBuilt what) = true
 is_of_words (why.BadFormat fault) = true
 is_of_words others = false
 
+-- a command on a database doesn't end so
+abbrev pub is_foreign : Why → Bool
+is_foreign (why.Usage fault) = true
+is_foreign (why.NotBuilt what) = true
+is_foreign (why.BadFormat fault) = true
+is_foreign why.ShelfFault = true
+is_foreign others = false
+
 -- ---- the answers of a command that opens the database, before the closing line
 
 -- where the database is in order
@@ -178,6 +207,7 @@ Went course (why.BadFormat fault) old new reads_to = ⊥
 Went course (why.BadLog unit) old new reads_to = ⊥
 Went course (why.Damaged damage) old new reads_to = ⊥
 Went course why.DiskFault old new reads_to = ThroughSome course.steps old new
+Went course why.ShelfFault old new reads_to = ThroughSome course.steps old new
 Went course why.OutFault old new reads_to = StoppedWithin course.steps true old new reads_to
 Went course why.ErrFault old new reads_to = StoppedWithin course.steps false old new reads_to
 Went course why.NoMemory old new reads_to = ThroughSome course.steps old new
@@ -198,16 +228,21 @@ Refused damage _ = ⊥
 
 -- ---- a command that opens the database without its index, as it reads when an open log is gone through
 
--- the most that is read of Packages.db up to a step: its pages, the packages of each argument before, and of this one those up to its number
-abbrev pub read_to : Units → Store → Bearer → ℕ
-read_to file s for = opening_cost file + reach_all s for
+-- what is read of packages up to a step: those of each argument before, and of this one those up to its number; a verdict reads them twice
+abbrev pub reach_by : Deed → Store → Bearer → ℕ
+reach_by deed.Verify s for = 2 * reach_all s for
+reach_by others s for = reach_all s for
+
+-- the most that is read of Packages.db up to a step, its pages with it
+abbrev pub read_to : Deed → Units → Store → Bearer → ℕ
+read_to what file s for = opening_cost file + reach_by what s for
 
 -- a count rose by at most so much, where that is a number that counts have
 abbrev pub AtMost : ℕ → ℕ → ℕ → Type 0
 AtMost before now most = (now ≤ before + most) ⊎ (2 ^ 64 - 1 ≤ most)
 
-abbrev pub ReadsTo : Units → Store → ℕ → ℕ → Bearer → Type 0
-ReadsTo file s before now for = AtMost before now (read_to file s for)
+abbrev pub ReadsTo : Deed → Units → Store → ℕ → ℕ → Bearer → Type 0
+ReadsTo what file s before now for = AtMost before now (read_to what file s for)
 
 abbrev pub Opened : (Store → Course) → Result Store Damage → Why → Outputs → Outputs → (Store → Bearer → Type 0) → Type 0
 Opened course (Ok s) why old new reads_to = Went (course s) why old new (reads_to s)
@@ -218,21 +253,26 @@ Loaded course s Closed why old new reads_to = Opened course s why old new reads_
 Loaded course s (Malformed unit) why old new reads_to = Misread unit why × Through [] old new
 Loaded course s (Open entries) why old new reads_to = Opened course s why old new reads_to
 
-abbrev pub Queried : (Units → Store → Course) → Files → Why → Outputs → Outputs → ℕ → ℕ → Type 0
-Queried course files why old new before now =
+abbrev pub Queried : Deed → (Units → Store → Course) → Files → Why → Outputs → Outputs → ℕ → ℕ → Type 0
+Queried what course files why old new before now =
     let file = (reopened files).pkg in
-    Loaded (course file) (store file) (log_state files.log) why old new (λ s. ReadsTo file s before now)
+    Loaded (course file) (store file) (log_state files.log) why old new (λ s. ReadsTo what file s before now)
 
--- how often a query goes over all packages: once for each argument, and once without
+-- how often the blocks of all packages are read: by a query once for each argument, and once without
+abbrev pub passes_by : Deed → ℕ → ℕ
+passes_by deed.Print arguments = max 1 arguments
+passes_by deed.Export arguments = 1
+passes_by deed.Verify arguments = 2
+
 abbrev pub passes : AskParts → ℕ
-passes a = max 1 (length a.arguments)
+passes a = passes_by (deed_of a.mode) (length a.arguments)
 
 -- the bytes of the blocks of all packages
 abbrev pub blocks_cost : Result Store Damage → ℕ
 blocks_cost (Ok s) = cost_all s
 blocks_cost (Err damage) = 0
 
--- the most that a query of so many passes over all packages reads
+-- the most that a command of so many passes over all packages reads
 abbrev pub query_cost : ℕ → Units → ℕ
 query_cost passes file = opening_cost file + passes * blocks_cost (store file)
 

@@ -1,7 +1,7 @@
 -- Which command lines are built, and by which format they print.
 use Rattle.std.specs.Prelude.{ℕ, List, Option, Some, None, Result, Ok, Err, Bool, true, false, not, ◌&&◌, if◌then◌else◌, codes}
 use Rattle.rpm_words.specs.declared.ask.Mode.{Mode}
-use Rattle.rpm_words.specs.declared.ask.Mode.TheVariants.{Query}
+use Rattle.rpm_words.specs.declared.ask.Mode.TheVariants.{Query, Verifydb, Exportdb}
 use Rattle.rpm_words.specs.declared.switch.Chosen.{Chosen}
 use Rattle.rpm_words.specs.declared.switch.Chosen.TheVariants.{All, Number, Package}
 use Rattle.rpm_words.specs.declared.words.Span.{Span}
@@ -11,20 +11,42 @@ use Rattle.rpm_words.specs.Ask.{AskParts, ask}
 use Rattle.rpm_qfparse.specs.declared.fault.FormatFault.{FormatFault}
 use Rattle.rpm_qfparse.specs.Tree.{Tree}
 use Rattle.rpm_qfparse.specs.Format.{format}
+use Rattle.rpm_tool.specs.declared.asked.Deed.{Deed}
+use Rattle.rpm_tool.specs.declared.asked.Deed.TheVariants as deed
+
+-- what a command does with the database that it opens
+abbrev pub deed_of : Mode → Deed
+deed_of Exportdb = deed.Export
+deed_of Verifydb = deed.Verify
+deed_of others = deed.Print
+
+-- a query that asks no index: of package files, of all packages, of patterns and of numbers always, else where the words say so
+abbrev pub needs_no_index : Chosen → Bool → Bool
+needs_no_index All noindex = true
+needs_no_index Number noindex = true
+needs_no_index Package noindex = true
+needs_no_index others noindex = noindex
+
+abbrev pub is_built_in : Mode → Chosen → Bool → Bool
+is_built_in Query chosen noindex = needs_no_index chosen noindex
+is_built_in Verifydb chosen noindex = true
+is_built_in Exportdb chosen noindex = true
+is_built_in others chosen noindex = false
 
 abbrev pub is_query : Mode → Bool
 is_query Query = true
 is_query others = false
 
--- a query of the database without its index: of all packages, of patterns and of numbers always, else where the words say so
-abbrev pub needs_no_index : Chosen → Bool → Bool
-needs_no_index All noindex = true
-needs_no_index Number noindex = true
-needs_no_index Package noindex = false
-needs_no_index others noindex = noindex
+abbrev pub is_package : Chosen → Bool
+is_package Package = true
+is_package others = false
+
+-- a query of package files, which opens no database
+abbrev pub of_files : AskParts → Bool
+of_files a = is_query a.mode && is_package a.chosen
 
 unfoldable pub is_built : AskParts → Bool
-is_built a = is_query a.mode && needs_no_index a.chosen a.noindex
+is_built a = is_built_in a.mode a.chosen a.noindex
 
 -- a command was read, and it isn't built
 abbrev pub is_unbuilt_in : Result AskParts WordsFault → Bool

@@ -1,6 +1,6 @@
--- What the commands do that go over all packages of the database.
-use Rattle.std.specs.Prelude.{ℕ, List, [], ◌∷◌, ◌++◌, true, false, codes, decimal, Option, Some, None}
-use Rattle.std.specs.List.{flat_map}
+-- What the commands do that go over all packages of the database, and what each command does.
+use Rattle.std.specs.Prelude.{ℕ, List, [], ◌∷◌, ◌++◌, map, false, codes, decimal, Option, Some, None}
+use Rattle.std.specs.List.{concat}
 use Rattle.std.specs.Ordering.{nat_cmp}
 use Rattle.std.specs.FinMap.{FinMap, entries}
 use Rattle.rpm_header.specs.Digest.{magic}
@@ -11,41 +11,65 @@ use Rattle.rpm_db.specs.Database.{Database}
 use Rattle.rpm_db.specs.declared.verify.Verdict.{Verdict}
 use Rattle.rpm_db.specs.declared.verify.Verdict.TheVariants.{Sound, BadHeader, BadChecksum, BadDigest}
 use Rattle.rpm_db.specs.Verdicts.{verdict}
-use Rattle.rpm_tool.specs.Steps.{bearer, Step, ToOut, Course, Part, nothing, idle, before}
-use Rattle.rpm_tool.specs.Queries.{bad_step, packages_part}
+use Rattle.rpm_select.specs.declared.selection.Selection.TheVariants as question
+use Rattle.rpm_select.specs.Selections.{picks}
+use Rattle.rpm_words.specs.Ask.{AskParts}
+use Rattle.rpm_qfparse.specs.Tree.{Tree}
+use Rattle.rpm_tool.specs.declared.step.Way.{Way}
+use Rattle.rpm_tool.specs.declared.step.Way.TheVariants as way
+use Rattle.rpm_tool.specs.declared.asked.Deed.{Deed}
+use Rattle.rpm_tool.specs.declared.asked.Deed.TheVariants as deed
+use Rattle.rpm_tool.specs.Asked.{deed_of}
+use Rattle.rpm_tool.specs.Steps.{bearer, Step, ToOut, Course, Part, nothing, fails, together, idle, before}
+use Rattle.rpm_tool.specs.Queries.{bad_step, step_of, packages_part, query}
 
 -- a header goes out behind the magic
 abbrev pub exported : ℕ → ℕ × Package → Step
 exported j (n, Good bytes) = ToOut (bearer j n) (magic ++ bytes)
 exported j (n, Bad) = bad_step j n
 
+-- of a package, by a way
+abbrev pub step_by : Way → ℕ → ℕ × Package → Step
+step_by (way.Format format) j e = step_of format.now j e
+step_by way.Export j e = exported j e
+
 -- all packages, by rising number
 abbrev pub export : FinMap nat_cmp Package → Course
-export packages = before (packages_part (exported 0) 0 (entries packages)) idle
+export packages = before (packages_part (exported 0) 0 (picks packages question.All)) idle
 
-abbrev pub verdict_text : Verdict → List ℕ
-verdict_text Sound = []
-verdict_text BadHeader = codes "header cannot be read"
-verdict_text BadChecksum = codes "checksum differs"
-verdict_text BadDigest = codes "header digest differs"
+unfoldable pub verdict_line : ℕ → List ℕ → List ℕ
+verdict_line n text = concat (codes "package " ∷ decimal n ∷ codes ": " ∷ text ∷ codes "\n" ∷ [])
 
-unfoldable pub verdict_line : ℕ → Verdict → List ℕ
-verdict_line n verdict = codes "package " ++ (decimal n ++ (codes ": " ++ (verdict_text verdict ++ codes "\n")))
+abbrev pub unsound : ℕ → List ℕ → Part
+unsound n text = fails (ToOut (bearer 0 n) (verdict_line n text))
 
 -- a package that isn't sound has a line, for which the one argument fails
-abbrev pub verdict_steps : ℕ → Option Verdict → List Step
-verdict_steps n None = []
-verdict_steps n (Some Sound) = []
-verdict_steps n (Some verdict) = ToOut (bearer 0 n) (verdict_line n verdict) ∷ []
+abbrev pub verdict_part : ℕ → Option Verdict → Part
+verdict_part n None = nothing
+verdict_part n (Some Sound) = nothing
+verdict_part n (Some BadHeader) = unsound n (codes "header cannot be read")
+verdict_part n (Some BadChecksum) = unsound n (codes "checksum differs")
+verdict_part n (Some BadDigest) = unsound n (codes "header digest differs")
 
 -- a store that was opened without its index
 abbrev pub unindexed : Store → Database
 unindexed store = record { store = store; index = None; stopped = false }
 
-abbrev pub reported : List Step → Part
-reported [] = nothing
-reported (s ∷ ss) = record { steps = s ∷ ss; fails = true }
+-- of the number of an entry
+abbrev pub entry_verdict : Units → Store → ℕ × Package → Part
+entry_verdict file store e = verdict_part e.0 (verdict file (unindexed store) e.0)
 
 -- the verdicts of all packages, by rising number
 abbrev pub verify : Units → Store → Course
-verify file store = before (reported (flat_map (λ e. verdict_steps e.0 (verdict file (unindexed store) e.0)) (entries (packages file store)))) idle
+verify file store = before (together (map (entry_verdict file store) (entries (packages file store)))) idle
+
+-- ---- the commands that open the database without its index
+
+abbrev pub course_by : Deed → Tree → Units → Store → List (List ℕ) → AskParts → Course
+course_by deed.Print tree file store words a = query tree (packages file store) words a
+course_by deed.Export tree file store words a = export (packages file store)
+course_by deed.Verify tree file store words a = verify file store
+
+-- by the words; the tree is the format of a query
+abbrev pub course : Tree → Units → Store → List (List ℕ) → AskParts → Course
+course tree file store words a = course_by (deed_of a.mode) tree file store words a

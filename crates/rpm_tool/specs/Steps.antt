@@ -1,6 +1,6 @@
 -- What a command does, step by step.
-use Rattle.std.specs.Prelude.{ℕ, ◌+◌, List, [], ◌∷◌, ◌++◌, take, Bool, true, false, not, if◌then◌else◌, Option, Some, None}
-use Rattle.std.specs.List.{list_any}
+use Rattle.std.specs.Prelude.{ℕ, ◌+◌, ◌<◌, List, [], ◌∷◌, ◌++◌, take, Bool, true, false, not, if◌then◌else◌, Option, Some, None}
+use Rattle.std.specs.List.{list_any, flat_map}
 
 -- whom a step is for: an argument, counted from 0, and one of its packages, or the argument as a whole
 pub record Bearer : Type 0 where
@@ -27,6 +27,10 @@ abbrev pub err_bytes : Step → List ℕ
 err_bytes (ToOut for bytes) = []
 err_bytes (ToErr for bytes) = bytes
 
+abbrev pub with_number : Option ℕ → List ℕ → List ℕ
+with_number None ns = ns
+with_number (Some n) ns = n ∷ ns
+
 -- a step to out, or to err
 abbrev pub step_to : Bool → Bearer → List ℕ → Step
 step_to true for bytes = ToOut for bytes
@@ -39,6 +43,16 @@ is_out (ToErr for bytes) = false
 abbrev pub bearer_of : Step → Bearer
 bearer_of (ToOut for bytes) = for
 bearer_of (ToErr for bytes) = for
+
+-- the numbers of the packages that steps are for; the line of an argument as a whole is for none
+abbrev pub numbers : List Step → List ℕ
+numbers [] = []
+numbers (s ∷ steps) = with_number (bearer_of s).number (numbers steps)
+
+-- above n, and each greater than the one before it
+abbrev pub Rises : ℕ → List ℕ → Type 0
+Rises n [] = Unit {0}
+Rises n (m ∷ ms) = (n < m) × Rises m ms
 
 -- the first n bytes of a step
 abbrev pub cut : ℕ → Step → Step
@@ -75,6 +89,10 @@ is_bad s = not (is_out s)
 -- the steps of an argument's packages: it fails once, however many messages there are on err
 abbrev pub told : List Step → Part
 told steps = record { steps = steps; fails = list_any is_bad steps }
+
+-- several parts as one, which fails where one of them does
+abbrev pub together : List Part → Part
+together parts = record { steps = flat_map (λ p. p.steps) parts; fails = list_any (λ p. p.fails) parts }
 
 abbrev pub idle : Course
 idle = record { steps = []; failed = 0; changes = [] }

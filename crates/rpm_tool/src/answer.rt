@@ -33,6 +33,8 @@ pub enum Why {
     Damaged(Damage),
     /// The database could not be read.
     DiskFault,
+    /// A package file could not be read.
+    ShelfFault,
     /// Standard output could not be written.
     OutFault,
     /// Standard error could not be written.
@@ -62,7 +64,7 @@ pub fn status_of(why: Why) -> u8
         Why::Usage(_) => 251,
         Why::BadFormat(_) => 251,
         Why::NotBuilt(_) | Why::BadLog { .. } | Why::Damaged(_) | Why::DiskFault => 252,
-        Why::OutFault | Why::ErrFault => 253,
+        Why::ShelfFault | Why::OutFault | Why::ErrFault => 253,
         Why::NoMemory => 254,
     }
 }

@@ -7,14 +7,15 @@ ghost use Rattle.rpm_outside.specs.declared.disk.File.TheVariants.{Pkg};
 ghost use Rattle.rpm_outside.specs.Looks.{Looks};
 ghost use Rattle.rpm_db.specs.State.{packages, above};
 ghost use Rattle.rpm_db.specs.Database as database;
-ghost use Rattle.rpm_db.specs.Database.{Keeps, cost_to, cost_all};
+ghost use Rattle.rpm_db.specs.Database.{Keeps, is_indexed, cost_to, cost_all};
 ghost use Rattle.rpm_select.specs.Selections.{picks};
+ghost use Rattle.rpm_select.specs.Reach.{Serves};
 ghost use Rattle.rpm_tool.specs.Queries.{question_of, answered, argument_part};
 ghost use Rattle.rpm_tool.specs.Answers.{outputs, PartIs, ReadsOf, is_some_of, is_of_sink};
 
 use crate::missing::put_missing_part;
-use crate::picked::{print_above, stop_of};
-use crate::step::Stop;
+use crate::picked::{begin_unindexed, print_above, stop_of};
+use crate::step::{Stop, Way};
 use rpm_db::Db;
 use rpm_outside::{Buffered, Disk, File, Sink};
 use rpm_qfparse::Format;
@@ -78,11 +79,12 @@ fn is_any_passed<D: Disk>(
     requires keeps { IsTrue D.tells → Keeps (D.files disk.old).pkg db.now }
     requires runs { db.now.stopped ≡ false }
     requires from_one { database.holds 0 db.now ≡ false }
+    requires serves { IsTrue D.tells → Serves picker.old (packages (D.files disk.old).pkg db.now.store) selection.now }
     ensures kept { IsTrue D.tells → Keeps (D.files disk.new).pkg db.now }
     ensures told { IsTrue D.tells → above after (picks (packages (D.files disk.old).pkg db.now.store) selection.now) ≡ []
         → IfOk result (λ any. any ≡ is_some_of (picks (packages (D.files disk.old).pkg db.now.store) selection.now)) }
     ensures looks { Looks D.tells D.files D.left_since D.moment D.bytes_read D.follows Pkg (cost_to after db.now) disk.old disk.new }
-    ensures disk { HasCauseAt (result ≡ Err Stop.DiskFault) (D.faults disk.old) (D.faults disk.new) }
+    ensures disk { HasCauseAt (result ≡ Err Stop.ReadFault) (D.faults disk.old) (D.faults disk.new) }
     ensures no_sink { IfErr result (λ stop. is_of_sink stop ≡ false) }
 {
     if after == 0 {
@@ -113,19 +115,21 @@ fn answer_with<D: Disk, O: Sink + Drop, E: Sink + Drop>(
     requires keeps { IsTrue D.tells → Keeps (D.files disk.old).pkg db.now }
     requires runs { db.now.stopped ≡ false }
     requires from_one { database.holds 0 db.now ≡ false }
+    requires serves { IsTrue D.tells → Serves picker.old (packages (D.files disk.old).pkg db.now.store) selection.now }
     ensures kept { IsTrue D.tells → Keeps (D.files disk.new).pkg db.now }
     ensures went { IsTrue D.tells → (j : ℕ) → PartIs
         (answered format.now chosen after j text.now (picks (packages (D.files disk.old).pkg db.now.store) selection.now)) result
         (outputs O.tells (O.taken (inner out.old)) E.tells (E.taken (inner err.old))) (outputs O.tells (O.taken (inner out.new)) E.tells
         (E.taken (inner err.new))) (ReadsOf j db.now.store (D.bytes_read disk.old File.Pkg) (D.bytes_read disk.new File.Pkg)) }
     ensures looks { Looks D.tells D.files D.left_since D.moment D.bytes_read D.follows Pkg (cost_all db.now) disk.old disk.new }
-    ensures disk { HasCauseAt (result ≡ Err Stop.DiskFault) (D.faults disk.old) (D.faults disk.new) }
+    ensures disk { HasCauseAt (result ≡ Err Stop.ReadFault) (D.faults disk.old) (D.faults disk.new) }
     ensures out { HasCauseAt (result ≡ Err Stop.OutFault) (O.faults (inner out.old)) (O.faults (inner out.new)) }
     ensures err { HasCauseAt (result ≡ Err Stop.ErrFault) (E.faults (inner err.old)) (E.faults (inner err.new)) }
     ensures out_rest { HandsOn O.follows out.old out.new }
     ensures err_rest { HandsOn E.follows err.old err.new }
 {
-    let printed = match print_above(alloc, picker, db, disk, selection, after, format, out, err) {
+    let way = Way::Format(format);
+    let printed = match print_above(alloc, picker, db, disk, selection, after, &way, out, err) {
         Ok(printed) => printed,
         Err(stop) => return Err(stop),
     };
@@ -157,22 +161,20 @@ fn answer_question<D: Disk, O: Sink + Drop, E: Sink + Drop>(
     requires keeps { IsTrue D.tells → Keeps (D.files disk.old).pkg db.now }
     requires runs { db.now.stopped ≡ false }
     requires from_one { database.holds 0 db.now ≡ false }
+    requires no_index { is_indexed db.now ≡ false }
     ensures kept { IsTrue D.tells → Keeps (D.files disk.new).pkg db.now }
     ensures went { IsTrue D.tells → (j : ℕ) → PartIs
         (answered format.now chosen after j text.now (picks (packages (D.files disk.old).pkg db.now.store) selection.now)) result
         (outputs O.tells (O.taken (inner out.old)) E.tells (E.taken (inner err.old))) (outputs O.tells (O.taken (inner out.new)) E.tells
         (E.taken (inner err.new))) (ReadsOf j db.now.store (D.bytes_read disk.old File.Pkg) (D.bytes_read disk.new File.Pkg)) }
     ensures looks { Looks D.tells D.files D.left_since D.moment D.bytes_read D.follows Pkg (cost_all db.now) disk.old disk.new }
-    ensures disk { HasCauseAt (result ≡ Err Stop.DiskFault) (D.faults disk.old) (D.faults disk.new) }
+    ensures disk { HasCauseAt (result ≡ Err Stop.ReadFault) (D.faults disk.old) (D.faults disk.new) }
     ensures out { HasCauseAt (result ≡ Err Stop.OutFault) (O.faults (inner out.old)) (O.faults (inner out.new)) }
     ensures err { HasCauseAt (result ≡ Err Stop.ErrFault) (E.faults (inner err.old)) (E.faults (inner err.new)) }
     ensures out_rest { HandsOn O.follows out.old out.new }
     ensures err_rest { HandsOn E.follows err.old err.new }
 {
-    let mut picker = match Picker::new(alloc, db, disk, selection) {
-        Ok(picker) => picker,
-        Err(_) => unreachable!(),
-    };
+    let mut picker = begin_unindexed(alloc, db, disk, selection);
     answer_with(
         alloc,
         &mut picker,
@@ -207,13 +209,14 @@ pub fn answer<D: Disk, O: Sink + Drop, E: Sink + Drop>(
     requires keeps { IsTrue D.tells → Keeps (D.files disk.old).pkg db.now }
     requires runs { db.now.stopped ≡ false }
     requires from_one { database.holds 0 db.now ≡ false }
+    requires no_index { is_indexed db.now ≡ false }
     ensures kept { IsTrue D.tells → Keeps (D.files disk.new).pkg db.now }
     ensures went { IsTrue D.tells → (j : ℕ) → PartIs
         (argument_part format.now (packages (D.files disk.old).pkg db.now.store) chosen after j text.now) result
         (outputs O.tells (O.taken (inner out.old)) E.tells (E.taken (inner err.old))) (outputs O.tells (O.taken (inner out.new)) E.tells
         (E.taken (inner err.new))) (ReadsOf j db.now.store (D.bytes_read disk.old File.Pkg) (D.bytes_read disk.new File.Pkg)) }
     ensures looks { Looks D.tells D.files D.left_since D.moment D.bytes_read D.follows Pkg (cost_all db.now) disk.old disk.new }
-    ensures disk { HasCauseAt (result ≡ Err Stop.DiskFault) (D.faults disk.old) (D.faults disk.new) }
+    ensures disk { HasCauseAt (result ≡ Err Stop.ReadFault) (D.faults disk.old) (D.faults disk.new) }
     ensures out { HasCauseAt (result ≡ Err Stop.OutFault) (O.faults (inner out.old)) (O.faults (inner out.new)) }
     ensures err { HasCauseAt (result ≡ Err Stop.ErrFault) (E.faults (inner err.old)) (E.faults (inner err.new)) }
     ensures out_rest { HandsOn O.follows out.old out.new }

@@ -2,7 +2,7 @@
 
 ghost use Rattle.std.specs.Prelude.{◌≡◌, true, Some, Ok, IfOk, IfErr};
 ghost use Rattle.rpm_words.specs.Ask.{ask};
-ghost use Rattle.rpm_tool.specs.Asked.{needs_no_index, is_built, format_text, asks_format};
+ghost use Rattle.rpm_tool.specs.Asked.{deed_of, of_files, needs_no_index, is_built_in, is_built, format_text, asks_format};
 ghost use Rattle.rpm_tool.specs.Answers.{Undone};
 
 use crate::answer::{Unbuilt, Why};
@@ -15,18 +15,57 @@ fn needs_no_index(chosen: Chosen, noindex: bool) -> bool
     ensures { result ≡ needs_no_index chosen noindex }
 {
     match chosen {
-        Chosen::All | Chosen::Number => true,
-        Chosen::Package => false,
+        Chosen::All | Chosen::Number | Chosen::Package => true,
         _ => noindex,
     }
 }
 
-/// Whether a command is built: a query of the database without its index.
+/// What a command does with the database that it opens.
+#[derive(Clone, Copy, Debug, PartialEq, Eq)]
+pub enum Deed {
+    /// It prints what arguments pick.
+    Print,
+    /// It writes all headers out.
+    Export,
+    /// It tells the verdicts of all packages.
+    Verify,
+}
+
+/// What a command of this mode does.
+pub fn deed_of(mode: Mode) -> Deed
+    ensures { result ≡ deed_of mode }
+{
+    match mode {
+        Mode::Exportdb => Deed::Export,
+        Mode::Verifydb => Deed::Verify,
+        _ => Deed::Print,
+    }
+}
+
+/// Whether a command of this mode is built.
+fn is_built_in(mode: Mode, chosen: Chosen, noindex: bool) -> bool
+    ensures { result ≡ is_built_in mode chosen noindex }
+{
+    match mode {
+        Mode::Query => needs_no_index(chosen, noindex),
+        Mode::Verifydb | Mode::Exportdb => true,
+        _ => false,
+    }
+}
+
+/// Whether a command is a query of package files.
+pub fn of_files(ask: &Ask) -> bool
+    ensures { result ≡ of_files ask.now }
+{
+    matches!(ask.mode(), Mode::Query) && matches!(ask.chosen(), Chosen::Package)
+}
+
+/// Whether a command is built: one that asks no index.
 #[tactic(auto, unfolding(crate::specs::Asked::is_built))]
 fn is_built(ask: &Ask) -> bool
     ensures { result ≡ is_built ask.now }
 {
-    matches!(ask.mode(), Mode::Query) && needs_no_index(ask.chosen(), ask.noindex())
+    is_built_in(ask.mode(), ask.chosen(), ask.noindex())
 }
 
 /// The text of the format: the one that is given, that of the list, or else that of labels.

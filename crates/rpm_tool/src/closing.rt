@@ -149,6 +149,7 @@ fn put_line<E: Sink>(err: &mut E, words: &Words, why: Why) -> Result<(), Failed>
         Why::Damaged(damage) => put_damage(err, damage),
         Why::BadLog { unit } => put_log(err, unit),
         Why::DiskFault => put_all(err, b"rpm: the database could not be read or written\n"),
+        Why::ShelfFault => put_all(err, b"rpm: input could not be read\n"),
         Why::OutFault => put_all(err, b"rpm: output could not be written\n"),
         Why::NoMemory => put_all(err, b"rpm: out of memory\n"),
     }

@@ -1,31 +1,81 @@
 //! The top call: a command line does what its command's steps say.
 
-ghost use Rattle.std.specs.Prelude.{◌≡◌, ◌≢◌, [], true, IsTrue, Some, None, Err};
+ghost use Rattle.std.specs.Prelude.{◌≡◌, ◌≢◌, ℕ, List, [], map, true, false, IsTrue, Some, None, Err};
+ghost use Rattle.std.specs.Ordering.{nat_cmp};
+ghost use Rattle.std.specs.FinMap.{FinMap};
 ghost use Rattle.rpm_outside.specs.Buffered.{inner, holds, HandsOn};
 ghost use Rattle.rpm_outside.specs.Causes.{HasCauseAt};
 ghost use Rattle.rpm_outside.specs.Logs.{reopened};
-ghost use Rattle.rpm_db.specs.State.{packages};
+ghost use Rattle.rpm_outside.specs.Shelves.{Paths};
+ghost use Rattle.rpm_db.specs.State.{Package, above};
+ghost use Rattle.rpm_words.specs.declared.switch.Chosen.{Chosen};
 ghost use Rattle.rpm_words.specs.Ask.{AskParts, ask};
 ghost use Rattle.rpm_qfparse.specs.Tree.{Tree};
-ghost use Rattle.rpm_tool.specs.Asked.{asks_unbuilt, asks_format, asks};
+ghost use Rattle.rpm_tool.specs.Asked.{deed_of, of_files, asks_unbuilt, asks_format, asks};
 ghost use Rattle.rpm_tool.specs.Closing.{status_of, closing};
-ghost use Rattle.rpm_tool.specs.Queries.{query};
-ghost use Rattle.rpm_tool.specs.Answers.{outputs, ComesWhere, Queried, Closes, Ends, AtMost, Leaves, passes, query_cost};
+ghost use Rattle.rpm_tool.specs.Steps.{numbers, Rises};
+ghost use Rattle.rpm_tool.specs.Queries.{picked, argument_part};
+ghost use Rattle.rpm_tool.specs.Reports.{course};
+ghost use Rattle.rpm_tool.specs.PackageFiles.{passing, query_files};
+ghost use Rattle.rpm_tool.specs.Answers.{outputs, is_of_words, ComesWhere, Queried, Anywhere, Went, Closes, Ends, AtMost, Leaves, passes, query_cost};
 
 use crate::answer::{Outcome, Unbuilt, Why, status_of};
-use crate::asked::read_command;
+use crate::asked::{of_files, read_command};
 use crate::closing::put_closing;
-use crate::loaded::query_loaded;
+use crate::loaded::answer_loaded;
+use crate::package_files::print_files;
 use rpm_outside::{Buffered, Disk, File, Shelf, Sink};
-use rpm_qfparse::{FormatFault, FormatKind};
-use rpm_words::{Words, WordsFault, WordsKind};
+use rpm_qfparse::{Format, FormatFault, FormatKind};
+use rpm_words::{Ask, Words, WordsFault, WordsKind};
 use std::alloc::Global;
 
+/// Does a command that was read, on the package files that it names or on the database.
+fn begin<D: Disk, S: Shelf, O: Sink + Drop, E: Sink + Drop>(
+    alloc: Global,
+    words: &Words,
+    ask: &Ask,
+    format: &Format,
+    disk: D,
+    shelf: &mut S,
+    out: &mut Buffered<O>,
+    err: &mut Buffered<E>,
+) -> (Why, D)
+    requires out_empty { holds out.old ≡ [] }
+    requires err_empty { holds err.old ≡ [] }
+    ensures went { of_files ask.now ≡ false → IsTrue D.tells
+        → Queried (deed_of ask.now.mode) (λ file s. course format.now file s words.now ask.now) (D.files disk) result.0
+        (outputs O.tells (O.taken (inner out.old)) E.tells (E.taken (inner err.old))) (outputs O.tells (O.taken (inner out.new)) E.tells
+        (E.taken (inner err.new))) (D.bytes_read disk File.Pkg) (D.bytes_read result.1 File.Pkg) }
+    ensures reads { of_files ask.now ≡ false → IsTrue D.tells → AtMost (D.bytes_read disk File.Pkg)
+        (D.bytes_read result.1 File.Pkg) (query_cost (passes ask.now) (reopened (D.files disk)).pkg) }
+    ensures files { of_files ask.now ≡ true → IsTrue S.tells → Went (query_files format.now (S.paths shelf.old) words.now ask.now) result.0
+        (outputs O.tells (O.taken (inner out.old)) E.tells (E.taken (inner err.old))) (outputs O.tells (O.taken (inner out.new)) E.tells
+        (E.taken (inner err.new))) Anywhere }
+    ensures disk_unread { of_files ask.now ≡ true → result.1 ≡ disk }
+    ensures shelf_unread { of_files ask.now ≡ false → shelf.new ≡ shelf.old }
+    ensures done { is_of_words result.0 ≡ false }
+    ensures looks { Leaves D.tells D.files D.left_since D.moment D.bytes_read D.follows disk result.1 }
+    ensures disk { HasCauseAt (result.0 ≡ Why.DiskFault) (D.faults disk) (D.faults result.1) }
+    ensures shelf { HasCauseAt (result.0 ≡ Why.ShelfFault) (S.faults shelf.old) (S.faults shelf.new) }
+    ensures out { HasCauseAt (result.0 ≡ Why.OutFault) (O.faults (inner out.old)) (O.faults (inner out.new)) }
+    ensures err { HasCauseAt (result.0 ≡ Why.ErrFault) (E.faults (inner err.old)) (E.faults (inner err.new)) }
+    ensures out_rest { HandsOn O.follows out.old out.new }
+    ensures err_rest { HandsOn E.follows err.old err.new }
+{
+    if of_files(ask) {
+        let why = print_files(alloc, shelf, words, ask, format, out, err);
+        (why, disk)
+    } else {
+        answer_loaded(alloc, disk, words, ask, format, out, err)
+    }
+}
+
 /// Does what a command line asks for, up to its closing line.
-fn command<D: Disk, O: Sink + Drop, E: Sink + Drop>(
+fn command<D: Disk, S: Shelf, O: Sink + Drop, E: Sink + Drop>(
     alloc: Global,
     words: &Words,
     disk: D,
+    shelf: &mut S,
     out: &mut Buffered<O>,
     err: &mut Buffered<E>,
 ) -> (Why, D)
@@ -36,12 +86,19 @@ fn command<D: Disk, O: Sink + Drop, E: Sink + Drop>(
     ensures unbuilt { ComesWhere (Why.NotBuilt Unbuilt.Words) result.0 (asks_unbuilt words.now ≡ true) }
     ensures bad_format { (f : FormatFault) → ComesWhere (Why.BadFormat f) result.0 (asks_format words.now ≡ Some (Err f)) }
     ensures bad_format_kind { (f : FormatFault) → result.0 ≡ Why.BadFormat f → f.kind ≢ FormatKind.NoMemory }
-    ensures unread { asks words.now ≡ None → (result.1 ≡ disk) × (out.new ≡ out.old) × (err.new ≡ err.old) }
-    ensures went { (a : AskParts) (tree : Tree) → asks words.now ≡ Some (a, tree) → IsTrue D.tells
-        → Queried (λ file s. query tree (packages file s) words.now a) (D.files disk) result.0
+    ensures unread { asks words.now ≡ None → (result.1 ≡ disk) × (shelf.new ≡ shelf.old) × (out.new ≡ out.old) × (err.new ≡ err.old) }
+    ensures files { (a : AskParts) (tree : Tree) → asks words.now ≡ Some (a, tree) → of_files a ≡ true → IsTrue S.tells
+        → Went (query_files tree (S.paths shelf.old) words.now a) result.0
+        (outputs O.tells (O.taken (inner out.old)) E.tells (E.taken (inner err.old))) (outputs O.tells (O.taken (inner out.new)) E.tells
+        (E.taken (inner err.new))) Anywhere }
+    ensures disk_unread { (a : AskParts) (tree : Tree) → asks words.now ≡ Some (a, tree) → of_files a ≡ true → result.1 ≡ disk }
+    ensures shelf_unread { (a : AskParts) (tree : Tree) → asks words.now ≡ Some (a, tree) → of_files a ≡ false → shelf.new ≡ shelf.old }
+    ensures shelf { HasCauseAt (result.0 ≡ Why.ShelfFault) (S.faults shelf.old) (S.faults shelf.new) }
+    ensures went { (a : AskParts) (tree : Tree) → asks words.now ≡ Some (a, tree) → of_files a ≡ false → IsTrue D.tells
+        → Queried (deed_of a.mode) (λ file s. course tree file s words.now a) (D.files disk) result.0
         (outputs O.tells (O.taken (inner out.old)) E.tells (E.taken (inner err.old))) (outputs O.tells (O.taken (inner out.new)) E.tells
         (E.taken (inner err.new))) (D.bytes_read disk File.Pkg) (D.bytes_read result.1 File.Pkg) }
-    ensures reads { (a : AskParts) (tree : Tree) → asks words.now ≡ Some (a, tree) → IsTrue D.tells → AtMost (D.bytes_read disk File.Pkg)
+    ensures reads { (a : AskParts) (tree : Tree) → asks words.now ≡ Some (a, tree) → of_files a ≡ false → IsTrue D.tells → AtMost (D.bytes_read disk File.Pkg)
         (D.bytes_read result.1 File.Pkg) (query_cost (passes a) (reopened (D.files disk)).pkg) }
     ensures looks { Leaves D.tells D.files D.left_since D.moment D.bytes_read D.follows disk result.1 }
     ensures disk { HasCauseAt (result.0 ≡ Why.DiskFault) (D.faults disk) (D.faults result.1) }
@@ -51,25 +108,32 @@ fn command<D: Disk, O: Sink + Drop, E: Sink + Drop>(
     ensures err_rest { HandsOn E.follows err.old err.new }
 {
     match read_command(alloc, words) {
-        Ok((ask, format)) => query_loaded(alloc, disk, words, &ask, &format, out, err),
+        Ok((ask, format)) => begin(alloc, words, &ask, &format, disk, shelf, out, err),
         Err(why) => (why, disk),
     }
 }
 
-/// Does to a database what a command line asks for, and writes the line that closes it.
+/// Does what a command line asks for, to a database or with package files, and writes the line that closes it.
 ///
 /// The disk is handed back beside every outcome, and reads as before. The words are read first, by the rules of
-/// [`read`](rpm_words::read). Where they break one, the answer is `Usage` with the first that is broken. Of the commands the query of
-/// all packages is built, with or without a folder: `rpm -qa`, and of `-l`, `--list`, `--qf F` and `--queryformat F` the last one. All
-/// others are answered `NotBuilt`. Then the format is read, by the rules of [`parse`](rpm_qfparse::parse): F, the list of files, or
+/// [`read`](rpm_words::read). Where they break one, the answer is `Usage` with the first that is broken. Of the commands those
+/// that ask no index are built: the queries with `-p`, `-a`, `--querybynumber` or `--noindex`, `--exportdb` and `--verifydb`. All others
+/// are answered `NotBuilt`. Then the format is read, by the rules of [`parse`](rpm_qfparse::parse): F, the list of files, or
 /// `%{NVRA}\n`. Where it has a fault, the answer is `BadFormat` with the first one. With these three answers no call is made on the disk,
 /// the shelf or `out`.
 ///
-/// The query prints what the format means for each installed package, by rising number. A package that can't be read, and one
-/// for which a bracket's tags have different numbers of elements, has a message on `err` in its place; then the argument fails, once.
+/// A query prints for each argument what the format means for each package that it picks, by rising number. A package that can't be
+/// read, and one for which a bracket's tags have different numbers of elements, has a message on `err` in its place; then the argument
+/// fails, once. `--exportdb` writes each header behind the magic, in one piece. `--verifydb` writes a line for each package that isn't sound.
 ///
-/// The query reads the slot pages of `Packages.db` and the blocks of its packages, each once, and of no package before what is
-/// printed of those with lesser numbers is written. What is printed of a package goes out in few pieces, and no piece is of two packages.
+/// With `-p` each argument is the path of a package file, `-` the standard input, and what is printed is of its header with the number 0:
+/// no call is made on the disk, and `--after` and `--noindex` change nothing. A path that can't be opened and a file that is refused have
+/// a line on `err`; then the argument fails. A read that fails ends the command with `ShelfFault`. Each file is read up to the end of its
+/// header. The other commands make no call on the shelf.
+///
+/// A command on a database reads the slot pages of `Packages.db` and the blocks of its packages, each once for each argument (for the verdicts
+/// twice), and of no package before what is printed of those with lesser numbers is written. It parses each header once. What is printed
+/// of a package goes out in few pieces, and no piece is of two packages.
 pub fn run<D: Disk, S: Shelf, O: Sink, E: Sink>(
     alloc: Global,
     words: &Words,
@@ -92,31 +156,47 @@ pub fn run<D: Disk, S: Shelf, O: Sink, E: Sink>(
     // A format that has a fault is answered so, exactly there, with its first fault. Nothing is done for such words, nor for those above.
     ensures bad_format { (f : FormatFault) → ComesWhere (Why.BadFormat f) result.0.why (asks_format words.now ≡ Some (Err f)) }
     ensures bad_format_kind { (f : FormatFault) → result.0.why ≡ Why.BadFormat f → f.kind ≢ FormatKind.NoMemory }
-    ensures unread { asks words.now ≡ None → (result.1 ≡ disk) × (out.new ≡ out.old) }
+    ensures unread { asks words.now ≡ None → (result.1 ≡ disk) × (shelf.new ≡ shelf.old) × (out.new ≡ out.old) }
     ensures unbuilt_closes { asks words.now ≡ None → Closes (closing words.now result.0.why) (outputs O.tells (O.taken out.old) E.tells
         (E.taken err.old)) (outputs O.tells (O.taken out.new) E.tells (E.taken err.new)) (E.faults err.old) (E.faults err.new) }
 
     // The theorem: the command of the words on the database as it reads when an open log is gone through, and the line that closes it.
-    ensures answers { (a : AskParts) (tree : Tree) → asks words.now ≡ Some (a, tree) → IsTrue D.tells
-        → Ends (λ mid. Queried (λ file s. query tree (packages file s) words.now a) (D.files disk) result.0.why
+    ensures answers { (a : AskParts) (tree : Tree) → asks words.now ≡ Some (a, tree) → of_files a ≡ false → IsTrue D.tells
+        → Ends (λ mid. Queried (deed_of a.mode) (λ file s. course tree file s words.now a) (D.files disk) result.0.why
         (outputs O.tells (O.taken out.old) E.tells (E.taken err.old)) mid (D.bytes_read disk File.Pkg) (D.bytes_read result.1 File.Pkg))
         (closing words.now result.0.why)
         (outputs O.tells (O.taken out.new) E.tells (E.taken err.new)) (E.faults err.old) (E.faults err.new) }
 
+    // And on the package files that the words name, which makes no call on the disk; the others make none on the shelf. No number is passed
+    // over.
+    ensures files { (a : AskParts) (tree : Tree) → asks words.now ≡ Some (a, tree) → of_files a ≡ true → IsTrue S.tells
+        → Ends (λ mid. Went (query_files tree (S.paths shelf.old) words.now a) result.0.why
+        (outputs O.tells (O.taken out.old) E.tells (E.taken err.old)) mid Anywhere) (closing words.now result.0.why)
+        (outputs O.tells (O.taken out.new) E.tells (E.taken err.new)) (E.faults err.old) (E.faults err.new) }
+    ensures disk_unread { (a : AskParts) (tree : Tree) → asks words.now ≡ Some (a, tree) → of_files a ≡ true → result.1 ≡ disk }
+    ensures shelf_unread { (a : AskParts) (tree : Tree) → asks words.now ≡ Some (a, tree) → of_files a ≡ false → shelf.new ≡ shelf.old }
+    ensures files_after { (tree : Tree) (paths : Paths) (n : ℕ) (a : AskParts)
+        → query_files tree paths words.now (passing n a) ≡ query_files tree paths words.now a }
+
     // The disk reads as before, and so do its images; of Packages.db no more is read than its pages and for each argument its packages.
     ensures looks { Leaves D.tells D.files D.left_since D.moment D.bytes_read D.follows disk result.1 }
-    ensures reads { (a : AskParts) (tree : Tree) → asks words.now ≡ Some (a, tree) → IsTrue D.tells → AtMost (D.bytes_read disk File.Pkg)
+    ensures reads { (a : AskParts) (tree : Tree) → asks words.now ≡ Some (a, tree) → of_files a ≡ false → IsTrue D.tells → AtMost (D.bytes_read disk File.Pkg)
         (D.bytes_read result.1 File.Pkg) (query_cost (passes a) (reopened (D.files disk)).pkg) }
-    ensures shelf { shelf.new ≡ shelf.old }
+
+    // The packages that an argument's steps are for: those that it picks above `--after`, each once and rising.
+    ensures numbers { (tree : Tree) (packages : FinMap nat_cmp Package) (chosen : Chosen) (after j : ℕ) (text : List ℕ)
+        → (numbers (argument_part tree packages chosen after j text).steps ≡ map (λ e. e.0) (above after (picked packages chosen text)))
+        × Rises after (map (λ e. e.0) (above after (picked packages chosen text))) }
 
     // A fault is answered only where its object counted one.
     ensures disk_fault { HasCauseAt (result.0.why ≡ Why.DiskFault) (D.faults disk) (D.faults result.1) }
+    ensures shelf_fault { HasCauseAt (result.0.why ≡ Why.ShelfFault) (S.faults shelf.old) (S.faults shelf.new) }
     ensures out_fault { HasCauseAt (result.0.why ≡ Why.OutFault) (O.faults out.old) (O.faults out.new) }
     ensures err_fault { HasCauseAt (result.0.why ≡ Why.ErrFault) (E.faults err.old) (E.faults err.new) }
 {
     let mut out = Buffered::new(out);
     let mut err = Buffered::new(err);
-    let (why, disk) = command(alloc, words, disk, &mut out, &mut err);
+    let (why, disk) = command(alloc, words, disk, shelf, &mut out, &mut err);
     let _ = put_closing(&mut err, words, why);
     let outcome = Outcome {
         status: status_of(why),

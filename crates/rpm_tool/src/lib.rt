@@ -10,12 +10,15 @@ mod closing;
 mod command;
 mod loaded;
 mod missing;
+mod package_files;
 mod picked;
 mod pieces;
 mod query;
 mod step;
 #[cfg(test)]
 mod tests;
+mod unindexed;
+mod verdicts;
 
 pub use answer::{Outcome, Unbuilt, Why};
 pub use command::run;

@@ -4,12 +4,12 @@ ghost use Rattle.std.specs.Prelude.{◌≡◌, ◌≤◌, [], false, IsTrue};
 ghost use Rattle.rpm_outside.specs.Buffered.{inner, holds, HandsOn};
 ghost use Rattle.rpm_outside.specs.Causes.{HasCauseAt};
 ghost use Rattle.rpm_outside.specs.Logs.{reopened};
-ghost use Rattle.rpm_db.specs.State.{packages};
-ghost use Rattle.rpm_tool.specs.Queries.{query};
-ghost use Rattle.rpm_tool.specs.Answers.{outputs, is_of_words, why_of_load, unless_starved, Queried, AtMost, Leaves, passes, query_cost};
+ghost use Rattle.rpm_tool.specs.Asked.{deed_of};
+ghost use Rattle.rpm_tool.specs.Reports.{course};
+ghost use Rattle.rpm_tool.specs.Answers.{outputs, is_foreign, why_of_load, unless_starved, Queried, AtMost, Leaves, passes, query_cost};
 
 use crate::answer::Why;
-use crate::query::query_unindexed;
+use crate::unindexed::answer_unindexed;
 use rpm_group::{LoadFault, Overlay};
 use rpm_outside::{Buffered, Disk, File, Sink};
 use rpm_qfparse::Format;
@@ -37,8 +37,8 @@ fn unless_starved(is_starved: bool, why: Why) -> Why
     }
 }
 
-/// Does a query on the files that the disk's files stand for, and hands the disk back as it was.
-pub fn query_loaded<D: Disk, O: Sink + Drop, E: Sink + Drop>(
+/// Does what the words ask for on the files that the disk's files stand for, and hands the disk back as it was.
+pub fn answer_loaded<D: Disk, O: Sink + Drop, E: Sink + Drop>(
     alloc: Global,
     disk: D,
     words: &Words,
@@ -49,12 +49,12 @@ pub fn query_loaded<D: Disk, O: Sink + Drop, E: Sink + Drop>(
 ) -> (Why, D)
     requires out_empty { holds out.old ≡ [] }
     requires err_empty { holds err.old ≡ [] }
-    ensures went { IsTrue D.tells → Queried (λ file s. query format.now (packages file s) words.now ask.now) (D.files disk) result.0
+    ensures went { IsTrue D.tells → Queried (deed_of ask.now.mode) (λ file s. course format.now file s words.now ask.now) (D.files disk) result.0
         (outputs O.tells (O.taken (inner out.old)) E.tells (E.taken (inner err.old))) (outputs O.tells (O.taken (inner out.new)) E.tells
         (E.taken (inner err.new))) (D.bytes_read disk File.Pkg) (D.bytes_read result.1 File.Pkg) }
     ensures reads { IsTrue D.tells → AtMost (D.bytes_read disk File.Pkg) (D.bytes_read result.1 File.Pkg)
         (query_cost (passes ask.now) (reopened (D.files disk)).pkg) }
-    ensures done { is_of_words result.0 ≡ false }
+    ensures done { is_foreign result.0 ≡ false }
     ensures looks { Leaves D.tells D.files D.left_since D.moment D.bytes_read D.follows disk result.1 }
     ensures disk { HasCauseAt (result.0 ≡ Why.DiskFault) (D.faults disk) (D.faults result.1) }
     ensures out { HasCauseAt (result.0 ≡ Why.OutFault) (O.faults (inner out.old)) (O.faults (inner out.new)) }
@@ -65,7 +65,7 @@ pub fn query_loaded<D: Disk, O: Sink + Drop, E: Sink + Drop>(
     match Overlay::load(alloc, disk) {
         Ok(overlay) => {
             let mut overlay = overlay;
-            let ended = query_unindexed(alloc, &mut overlay, words, ask, format, out, err);
+            let ended = answer_unindexed(alloc, &mut overlay, words, ask, format, out, err);
             let why = unless_starved(overlay.is_starved(), ended);
             (why, overlay.release())
         }

@@ -22,7 +22,7 @@ fn put_missing<O: Sink + Drop>(
     requires out_empty { holds out.old ≡ [] }
     ensures part { (j : ℕ) (err_tells : Bool) (err : List ℕ) → PartIs (missing j front.now text.now back.now) result
         (outputs O.tells (O.taken (inner out.old)) err_tells err) (outputs O.tells (O.taken (inner out.new)) err_tells err) (λ for. for ≡ whole j) }
-    ensures no_disk { result ≢ Err Stop.DiskFault }
+    ensures no_read { result ≢ Err Stop.ReadFault }
     ensures no_err { result ≢ Err Stop.ErrFault }
     ensures out { HasCauseAt (result ≡ Err Stop.OutFault) (O.faults (inner out.old)) (O.faults (inner out.new)) }
     ensures out_rest { HandsOn O.follows out.old out.new }
@@ -38,7 +38,7 @@ fn put_no_record<E: Sink + Drop>(err: &mut Buffered<E>, text: &[u8]) -> Result<b
     requires err_empty { holds err.old ≡ [] }
     ensures part { (j : ℕ) (out_tells : Bool) (out : List ℕ) → PartIs (missing_record j text.now) result
         (outputs out_tells out E.tells (E.taken (inner err.old))) (outputs out_tells out E.tells (E.taken (inner err.new))) (λ for. for ≡ whole j) }
-    ensures no_disk { result ≢ Err Stop.DiskFault }
+    ensures no_read { result ≢ Err Stop.ReadFault }
     ensures no_out { result ≢ Err Stop.OutFault }
     ensures err { HasCauseAt (result ≡ Err Stop.ErrFault) (E.faults (inner err.old)) (E.faults (inner err.new)) }
     ensures err_rest { HandsOn E.follows err.old err.new }
@@ -61,7 +61,7 @@ pub fn put_missing_part<O: Sink + Drop, E: Sink + Drop>(
     requires err_empty { holds err.old ≡ [] }
     ensures part { (j : ℕ) → PartIs (missing_part chosen j text.now) result (outputs O.tells (O.taken (inner out.old)) E.tells
         (E.taken (inner err.old))) (outputs O.tells (O.taken (inner out.new)) E.tells (E.taken (inner err.new))) (λ for. for ≡ whole j) }
-    ensures no_disk { result ≢ Err Stop.DiskFault }
+    ensures no_read { result ≢ Err Stop.ReadFault }
     ensures out { HasCauseAt (result ≡ Err Stop.OutFault) (O.faults (inner out.old)) (O.faults (inner out.new)) }
     ensures err { HasCauseAt (result ≡ Err Stop.ErrFault) (E.faults (inner err.old)) (E.faults (inner err.new)) }
     ensures out_rest { HandsOn O.follows out.old out.new }

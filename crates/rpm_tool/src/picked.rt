@@ -1,21 +1,22 @@
 //! The packages that a question picks, printed one after the other.
 
-ghost use Rattle.std.specs.Prelude.{◌≡◌, ◌≢◌, ℕ, ◌-◌, ◌<◌, ◌||◌, [], false, IsTrue, Err, IfOk, IfSome};
+ghost use Rattle.std.specs.Prelude.{◌≡◌, ◌≢◌, ℕ, ◌-◌, ◌<◌, ◌≤◌, ◌||◌, [], false, IsTrue, Err, IfOk, IfSome};
 ghost use Rattle.rpm_outside.specs.Buffered.{inner, holds, HandsOn};
 ghost use Rattle.rpm_outside.specs.Causes.{HasCauseAt};
 ghost use Rattle.rpm_outside.specs.declared.disk.File.TheVariants.{Pkg};
 ghost use Rattle.rpm_outside.specs.Looks.{Looks};
 ghost use Rattle.rpm_db.specs.State.{packages, above};
-ghost use Rattle.rpm_db.specs.Database.{Keeps, cost_to, cost_all};
+ghost use Rattle.rpm_db.specs.Database.{Keeps, is_indexed, cost_to, cost_all};
 ghost use Rattle.rpm_select.specs.Selections.{picks};
+ghost use Rattle.rpm_select.specs.Reach.{Serves};
 ghost use Rattle.rpm_select.specs.Picks.{is_of_index, entry_in, number_in};
-ghost use Rattle.rpm_tool.specs.Queries.{step_of, packages_part};
+ghost use Rattle.rpm_tool.specs.Queries.{packages_part};
+ghost use Rattle.rpm_tool.specs.Reports.{step_by};
 ghost use Rattle.rpm_tool.specs.Answers.{outputs, stop_of, OneIs, NextIs, PartIs, ReadsIn, cost_until, fails_in, is_some_of};
 
-use crate::step::{Stop, print_picked};
+use crate::step::{Stop, Way, print_picked};
 use rpm_db::Db;
 use rpm_outside::{Buffered, Disk, File, Sink};
-use rpm_qfparse::Format;
 use rpm_select::{PickFault, Picked, Picker, Selection};
 use std::alloc::Global;
 
@@ -33,8 +34,29 @@ pub fn stop_of(fault: PickFault) -> Stop
 {
     match fault {
         PickFault::BadIndex { .. } => unreachable!(),
-        PickFault::DiskFault => Stop::DiskFault,
+        PickFault::DiskFault => Stop::ReadFault,
         PickFault::NoMemory => Stop::NoMemory,
+    }
+}
+
+/// Begins to go through what a selection picks, where the database keeps no index: that reads nothing, and doesn't fail.
+pub fn begin_unindexed<D: Disk>(
+    alloc: Global,
+    db: &Db,
+    disk: &mut D,
+    selection: &Selection<'_>,
+) -> Picker
+    requires keeps { IsTrue D.tells → Keeps (D.files disk.old).pkg db.now }
+    requires runs { db.now.stopped ≡ false }
+    requires no_index { is_indexed db.now ≡ false }
+    ensures kept { IsTrue D.tells → Keeps (D.files disk.new).pkg db.now }
+    ensures serves { IsTrue D.tells → Serves result (packages (D.files disk.new).pkg db.now.store) selection.now }
+    ensures looks { Looks D.tells D.files D.left_since D.moment D.bytes_read D.follows Pkg 0 disk.old disk.new }
+    ensures faults { D.faults disk.old ≤ D.faults disk.new }
+{
+    match Picker::new(alloc, db, disk, selection) {
+        Ok(picker) => picker,
+        Err(_) => unreachable!(),
     }
 }
 
@@ -51,23 +73,23 @@ fn number_of(picked: &Picked) -> u32
 /// Prints a package that was picked, and says its number, and whether it went to out (true), or a message to err (false).
 fn print_one<O: Sink + Drop, E: Sink + Drop>(
     alloc: Global,
-    format: &Format,
+    way: &Way<'_>,
     picked: &Picked,
     out: &mut Buffered<O>,
     err: &mut Buffered<E>,
 ) -> Result<Option<(u32, bool)>, Stop>
     requires out_empty { holds out.old ≡ [] }
     requires err_empty { holds err.old ≡ [] }
-    ensures one { (j : ℕ) → OneIs (step_of format.now j (entry_in picked.now)) result (outputs O.tells (O.taken (inner out.old)) E.tells
+    ensures one { (j : ℕ) → OneIs (step_by way.now j (entry_in picked.now)) result (outputs O.tells (O.taken (inner out.old)) E.tells
         (E.taken (inner err.old))) (outputs O.tells (O.taken (inner out.new)) E.tells (E.taken (inner err.new))) }
     ensures numbered { IfOk result (λ o. IfSome o (λ e. e.0 ≡ number_in picked.now)) }
-    ensures no_disk { result ≢ Err Stop.DiskFault }
+    ensures no_read { result ≢ Err Stop.ReadFault }
     ensures out { HasCauseAt (result ≡ Err Stop.OutFault) (O.faults (inner out.old)) (O.faults (inner out.new)) }
     ensures err { HasCauseAt (result ≡ Err Stop.ErrFault) (E.faults (inner err.old)) (E.faults (inner err.new)) }
     ensures out_rest { HandsOn O.follows out.old out.new }
     ensures err_rest { HandsOn E.follows err.old err.new }
 {
-    match print_picked(alloc, format, picked, out, err) {
+    match print_picked(alloc, way, picked, out, err) {
         Ok(to_out) => Ok(Some((number_of(picked), to_out))),
         Err(stop) => Err(stop),
     }
@@ -81,7 +103,7 @@ fn print_next<D: Disk, O: Sink + Drop, E: Sink + Drop>(
     disk: &mut D,
     selection: &Selection<'_>,
     number: u32,
-    format: &Format,
+    way: &Way<'_>,
     out: &mut Buffered<O>,
     err: &mut Buffered<E>,
 ) -> Result<Option<(u32, bool)>, Stop>
@@ -89,13 +111,15 @@ fn print_next<D: Disk, O: Sink + Drop, E: Sink + Drop>(
     requires err_empty { holds err.old ≡ [] }
     requires keeps { IsTrue D.tells → Keeps (D.files disk.old).pkg db.now }
     requires runs { db.now.stopped ≡ false }
+    requires serves { IsTrue D.tells → Serves picker.old (packages (D.files disk.old).pkg db.now.store) selection.now }
+    ensures same { picker.new ≡ picker.old }
     ensures kept { IsTrue D.tells → Keeps (D.files disk.new).pkg db.now }
-    ensures went { IsTrue D.tells → (j : ℕ) → NextIs (step_of format.now j) number (picks (packages (D.files disk.old).pkg db.now.store) selection.now) result
+    ensures went { IsTrue D.tells → (j : ℕ) → NextIs (step_by way.now j) number (picks (packages (D.files disk.old).pkg db.now.store) selection.now) result
         (outputs O.tells (O.taken (inner out.old)) E.tells (E.taken (inner err.old))) (outputs O.tells (O.taken (inner out.new)) E.tells
         (E.taken (inner err.new))) (ReadsIn j number db.now.store (D.bytes_read disk.old File.Pkg) (D.bytes_read disk.new File.Pkg)) }
     ensures rises { IfOk result (λ o. IfSome o (λ e. number < e.0)) }
     ensures looks { Looks D.tells D.files D.left_since D.moment D.bytes_read D.follows Pkg (cost_until number db.now.store result) disk.old disk.new }
-    ensures disk { HasCauseAt (result ≡ Err Stop.DiskFault) (D.faults disk.old) (D.faults disk.new) }
+    ensures disk { HasCauseAt (result ≡ Err Stop.ReadFault) (D.faults disk.old) (D.faults disk.new) }
     ensures out { HasCauseAt (result ≡ Err Stop.OutFault) (O.faults (inner out.old)) (O.faults (inner out.new)) }
     ensures err { HasCauseAt (result ≡ Err Stop.ErrFault) (E.faults (inner err.old)) (E.faults (inner err.new)) }
     ensures out_rest { HandsOn O.follows out.old out.new }
@@ -103,13 +127,13 @@ fn print_next<D: Disk, O: Sink + Drop, E: Sink + Drop>(
 {
     match picker.next_after(alloc, db, disk, selection, number) {
         Ok(None) => Ok(None),
-        Ok(Some(picked)) => print_one(alloc, format, &picked, out, err),
+        Ok(Some(picked)) => print_one(alloc, way, &picked, out, err),
         Err(fault) => Err(stop_of(fault)),
     }
 }
 
 /// Whether one of two holds.
-fn either(one: bool, other: bool) -> bool
+pub fn either(one: bool, other: bool) -> bool
     ensures { result ≡ (one || other) }
 {
     one || other
@@ -123,7 +147,7 @@ pub fn print_above<D: Disk, O: Sink + Drop, E: Sink + Drop>(
     disk: &mut D,
     selection: &Selection<'_>,
     after: u32,
-    format: &Format,
+    way: &Way<'_>,
     out: &mut Buffered<O>,
     err: &mut Buffered<E>,
 ) -> Result<Printed, Stop>
@@ -131,15 +155,17 @@ pub fn print_above<D: Disk, O: Sink + Drop, E: Sink + Drop>(
     requires err_empty { holds err.old ≡ [] }
     requires keeps { IsTrue D.tells → Keeps (D.files disk.old).pkg db.now }
     requires runs { db.now.stopped ≡ false }
+    requires serves { IsTrue D.tells → Serves picker.old (packages (D.files disk.old).pkg db.now.store) selection.now }
+    ensures same { picker.new ≡ picker.old }
     ensures kept { IsTrue D.tells → Keeps (D.files disk.new).pkg db.now }
     ensures went { IsTrue D.tells → (j : ℕ) → PartIs
-        (packages_part (step_of format.now j) after (picks (packages (D.files disk.old).pkg db.now.store) selection.now)) (fails_in result)
+        (packages_part (step_by way.now j) after (picks (packages (D.files disk.old).pkg db.now.store) selection.now)) (fails_in result)
         (outputs O.tells (O.taken (inner out.old)) E.tells (E.taken (inner err.old))) (outputs O.tells (O.taken (inner out.new)) E.tells
         (E.taken (inner err.new))) (ReadsIn j after db.now.store (D.bytes_read disk.old File.Pkg) (D.bytes_read disk.new File.Pkg)) }
     ensures some { IsTrue D.tells → IfOk result (λ p. p.some
         ≡ is_some_of (above after (picks (packages (D.files disk.old).pkg db.now.store) selection.now))) }
     ensures looks { Looks D.tells D.files D.left_since D.moment D.bytes_read D.follows Pkg (cost_all db.now - cost_to after db.now) disk.old disk.new }
-    ensures disk { HasCauseAt (result ≡ Err Stop.DiskFault) (D.faults disk.old) (D.faults disk.new) }
+    ensures disk { HasCauseAt (result ≡ Err Stop.ReadFault) (D.faults disk.old) (D.faults disk.new) }
     ensures out { HasCauseAt (result ≡ Err Stop.OutFault) (O.faults (inner out.old)) (O.faults (inner out.new)) }
     ensures err { HasCauseAt (result ≡ Err Stop.ErrFault) (E.faults (inner err.old)) (E.faults (inner err.new)) }
     ensures out_rest { HandsOn O.follows out.old out.new }
@@ -149,7 +175,7 @@ pub fn print_above<D: Disk, O: Sink + Drop, E: Sink + Drop>(
     let mut some = false;
     let mut fails = false;
     loop {
-        match print_next(alloc, picker, db, disk, selection, number, format, out, err) {
+        match print_next(alloc, picker, db, disk, selection, number, way, out, err) {
             Ok(Some((next, to_out))) => {
                 number = next;
                 some = true;

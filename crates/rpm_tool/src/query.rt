@@ -1,52 +1,52 @@
 //! The queries that open the database without its index.
 
-ghost use Rattle.std.specs.Prelude.{◌≡◌, ◌+◌, ◌*◌, ◌<◌, ◌≤◌, ℕ, [], if◌then◌else◌, false, length, map, IsTrue};
+ghost use Rattle.std.specs.Prelude.{◌≡◌, ◌+◌, ◌*◌, ◌<◌, ◌≤◌, ℕ, [], if◌then◌else◌, false, length, map, max, IsTrue};
 ghost use Rattle.rpm_outside.specs.Buffered.{inner, holds, HandsOn};
 ghost use Rattle.rpm_outside.specs.Causes.{HasCauseAt};
 ghost use Rattle.rpm_outside.specs.declared.disk.File.TheVariants.{Pkg};
 ghost use Rattle.rpm_outside.specs.Looks.{Looks};
-ghost use Rattle.rpm_pkgdb.specs.Store.{store};
 ghost use Rattle.rpm_db.specs.State.{packages};
 ghost use Rattle.rpm_db.specs.Database as database;
-ghost use Rattle.rpm_db.specs.Database.{Keeps, cost_all};
+ghost use Rattle.rpm_db.specs.Database.{Keeps, is_indexed, cost_all};
 ghost use Rattle.rpm_select.specs.Selections.{picks};
 ghost use Rattle.rpm_select.specs.declared.selection.Selection.TheVariants as question;
 ghost use Rattle.rpm_words.specs.Words.{text_at};
 ghost use Rattle.rpm_tool.specs.Steps.{before, idle, in_turn};
-ghost use Rattle.rpm_tool.specs.Queries.{step_of, packages_part, argument_part, query};
-ghost use Rattle.rpm_tool.specs.Answers.{outputs, why_of, is_of_words, Went, Opened, passes, reach_all, read_to, query_cost};
+ghost use Rattle.rpm_tool.specs.Queries.{packages_part, argument_part, query};
+ghost use Rattle.rpm_tool.specs.Reports.{step_by};
+ghost use Rattle.rpm_tool.specs.Answers.{outputs, why_of, is_foreign, Went, reach_all};
 
 use crate::answer::Why;
 use crate::argument::answer;
-use crate::picked::print_above;
-use crate::step::Stop;
-use rpm_db::{Db, DbOpenFault};
+use crate::picked::{begin_unindexed, print_above};
+use crate::step::{Stop, Way};
+use rpm_db::Db;
 use rpm_outside::{Buffered, Disk, File, Sink};
 use rpm_qfparse::Format;
-use rpm_select::{Picker, Selection};
+use rpm_select::Selection;
 use rpm_words::{Ask, Words};
 use std::alloc::Global;
 
 /// The ending of a command that was stopped.
-fn why_of(stop: Stop) -> Why
+pub fn why_of(stop: Stop) -> Why
     ensures value { result ≡ why_of stop }
-    ensures done { is_of_words result ≡ false }
+    ensures done { is_foreign result ≡ false }
 {
     match stop {
-        Stop::DiskFault => Why::DiskFault,
+        Stop::ReadFault => Why::DiskFault,
         Stop::OutFault => Why::OutFault,
         Stop::ErrFault => Why::ErrFault,
         Stop::NoMemory => Why::NoMemory,
     }
 }
 
-/// Prints each package above a number by the format.
-fn query_all<D: Disk, O: Sink + Drop, E: Sink + Drop>(
+/// Prints each package above a number.
+pub fn query_all<D: Disk, O: Sink + Drop, E: Sink + Drop>(
     alloc: Global,
     db: &Db,
     disk: &mut D,
     after: u32,
-    format: &Format,
+    way: &Way<'_>,
     out: &mut Buffered<O>,
     err: &mut Buffered<E>,
 ) -> Why
@@ -54,11 +54,12 @@ fn query_all<D: Disk, O: Sink + Drop, E: Sink + Drop>(
     requires err_empty { holds err.old ≡ [] }
     requires keeps { IsTrue D.tells → Keeps (D.files disk.old).pkg db.now }
     requires runs { db.now.stopped ≡ false }
+    requires no_index { is_indexed db.now ≡ false }
     ensures went { IsTrue D.tells → Went
-        (before (packages_part (step_of format.now 0) after (picks (packages (D.files disk.old).pkg db.now.store) question.All)) idle) result
+        (before (packages_part (step_by way.now 0) after (picks (packages (D.files disk.old).pkg db.now.store) question.All)) idle) result
         (outputs O.tells (O.taken (inner out.old)) E.tells (E.taken (inner err.old))) (outputs O.tells (O.taken (inner out.new)) E.tells
         (E.taken (inner err.new))) (λ for. D.bytes_read disk.new File.Pkg ≤ D.bytes_read disk.old File.Pkg + reach_all db.now.store for) }
-    ensures done { is_of_words result ≡ false }
+    ensures done { is_foreign result ≡ false }
     ensures looks { Looks D.tells D.files D.left_since D.moment D.bytes_read D.follows Pkg (cost_all db.now) disk.old disk.new }
     ensures disk { HasCauseAt (result ≡ Why.DiskFault) (D.faults disk.old) (D.faults disk.new) }
     ensures out { HasCauseAt (result ≡ Why.OutFault) (O.faults (inner out.old)) (O.faults (inner out.new)) }
@@ -66,10 +67,7 @@ fn query_all<D: Disk, O: Sink + Drop, E: Sink + Drop>(
     ensures out_rest { HandsOn O.follows out.old out.new }
     ensures err_rest { HandsOn E.follows err.old err.new }
 {
-    let mut picker = match Picker::new(alloc, db, disk, &Selection::All) {
-        Ok(picker) => picker,
-        Err(_) => unreachable!(),
-    };
+    let mut picker = begin_unindexed(alloc, db, disk, &Selection::All);
     match print_above(
         alloc,
         &mut picker,
@@ -77,7 +75,7 @@ fn query_all<D: Disk, O: Sink + Drop, E: Sink + Drop>(
         disk,
         &Selection::All,
         after,
-        format,
+        way,
         out,
         err,
     ) {
@@ -88,7 +86,7 @@ fn query_all<D: Disk, O: Sink + Drop, E: Sink + Drop>(
 }
 
 /// One more argument, which may have failed.
-fn count(failed: u32, fails: bool) -> u32
+pub fn count(failed: u32, fails: bool) -> u32
     requires { failed < 4294967295 }
     ensures { result ≡ failed + (if fails then 1 else 0) }
 {
@@ -110,12 +108,13 @@ fn query_each<D: Disk, O: Sink + Drop, E: Sink + Drop>(
     requires err_empty { holds err.old ≡ [] }
     requires keeps { IsTrue D.tells → Keeps (D.files disk.old).pkg db.now }
     requires runs { db.now.stopped ≡ false }
+    requires no_index { is_indexed db.now ≡ false }
     requires from_one { database.holds 0 db.now ≡ false }
     ensures went { IsTrue D.tells → Went (in_turn (argument_part format.now (packages (D.files disk.old).pkg db.now.store) ask.now.chosen ask.now.after) 0
         (map (text_at words.now) ask.now.arguments)) result
         (outputs O.tells (O.taken (inner out.old)) E.tells (E.taken (inner err.old))) (outputs O.tells (O.taken (inner out.new)) E.tells
         (E.taken (inner err.new))) (λ for. D.bytes_read disk.new File.Pkg ≤ D.bytes_read disk.old File.Pkg + reach_all db.now.store for) }
-    ensures done { is_of_words result ≡ false }
+    ensures done { is_foreign result ≡ false }
     ensures looks { Looks D.tells D.files D.left_since D.moment D.bytes_read D.follows Pkg (length ask.now.arguments * cost_all db.now) disk.old disk.new }
     ensures disk { HasCauseAt (result ≡ Why.DiskFault) (D.faults disk.old) (D.faults disk.new) }
     ensures out { HasCauseAt (result ≡ Why.OutFault) (O.faults (inner out.old)) (O.faults (inner out.new)) }
@@ -149,7 +148,7 @@ fn query_each<D: Disk, O: Sink + Drop, E: Sink + Drop>(
 }
 
 /// A query of an opened database.
-fn query_opened<D: Disk, O: Sink + Drop, E: Sink + Drop>(
+pub fn query_opened<D: Disk, O: Sink + Drop, E: Sink + Drop>(
     alloc: Global,
     db: &Db,
     disk: &mut D,
@@ -163,12 +162,14 @@ fn query_opened<D: Disk, O: Sink + Drop, E: Sink + Drop>(
     requires err_empty { holds err.old ≡ [] }
     requires keeps { IsTrue D.tells → Keeps (D.files disk.old).pkg db.now }
     requires runs { db.now.stopped ≡ false }
+    requires no_index { is_indexed db.now ≡ false }
     requires from_one { database.holds 0 db.now ≡ false }
     ensures went { IsTrue D.tells → Went (query format.now (packages (D.files disk.old).pkg db.now.store) words.now ask.now) result
         (outputs O.tells (O.taken (inner out.old)) E.tells (E.taken (inner err.old))) (outputs O.tells (O.taken (inner out.new)) E.tells
         (E.taken (inner err.new))) (λ for. D.bytes_read disk.new File.Pkg ≤ D.bytes_read disk.old File.Pkg + reach_all db.now.store for) }
-    ensures done { is_of_words result ≡ false }
-    ensures looks { Looks D.tells D.files D.left_since D.moment D.bytes_read D.follows Pkg (passes ask.now * cost_all db.now) disk.old disk.new }
+    ensures done { is_foreign result ≡ false }
+    ensures looks { Looks D.tells D.files D.left_since D.moment D.bytes_read D.follows Pkg (max 1 (length ask.now.arguments) * cost_all db.now) disk.old
+        disk.new }
     ensures disk { HasCauseAt (result ≡ Why.DiskFault) (D.faults disk.old) (D.faults disk.new) }
     ensures out { HasCauseAt (result ≡ Why.OutFault) (O.faults (inner out.old)) (O.faults (inner out.new)) }
     ensures err { HasCauseAt (result ≡ Why.ErrFault) (E.faults (inner err.old)) (E.faults (inner err.new)) }
@@ -177,43 +178,8 @@ fn query_opened<D: Disk, O: Sink + Drop, E: Sink + Drop>(
 {
     let count = ask.arguments();
     if count == 0 {
-        query_all(alloc, db, disk, ask.after(), format, out, err)
+        query_all(alloc, db, disk, ask.after(), &Way::Format(format), out, err)
     } else {
         query_each(alloc, db, disk, words, ask, format, out, err)
-    }
-}
-
-/// Opens the database, as it reads and without its index, and prints what is asked for by the format. Besides the slot pages it reads
-/// the blocks of packages, one package after the other, each before it is printed and for each argument once.
-pub fn query_unindexed<D: Disk, O: Sink + Drop, E: Sink + Drop>(
-    alloc: Global,
-    disk: &mut D,
-    words: &Words,
-    ask: &Ask,
-    format: &Format,
-    out: &mut Buffered<O>,
-    err: &mut Buffered<E>,
-) -> Why
-    requires out_empty { holds out.old ≡ [] }
-    requires err_empty { holds err.old ≡ [] }
-    ensures went { IsTrue D.tells → Opened (λ s. query format.now (packages (D.files disk.old).pkg s) words.now ask.now)
-        (store (D.files disk.old).pkg) result
-        (outputs O.tells (O.taken (inner out.old)) E.tells (E.taken (inner err.old))) (outputs O.tells (O.taken (inner out.new)) E.tells
-        (E.taken (inner err.new))) (λ s for. D.bytes_read disk.new File.Pkg ≤ D.bytes_read disk.old File.Pkg + read_to (D.files disk.old).pkg s for) }
-    ensures reads { IsTrue D.tells → D.bytes_read disk.new File.Pkg ≤ D.bytes_read disk.old File.Pkg + query_cost (passes ask.now) (D.files disk.old).pkg }
-    ensures done { is_of_words result ≡ false }
-    ensures looks { (most : ℕ) × Looks D.tells D.files D.left_since D.moment D.bytes_read D.follows Pkg most disk.old disk.new }
-    ensures disk { HasCauseAt (result ≡ Why.DiskFault) (D.faults disk.old) (D.faults disk.new) }
-    ensures out { HasCauseAt (result ≡ Why.OutFault) (O.faults (inner out.old)) (O.faults (inner out.new)) }
-    ensures err { HasCauseAt (result ≡ Why.ErrFault) (E.faults (inner err.old)) (E.faults (inner err.new)) }
-    ensures out_rest { HandsOn O.follows out.old out.new }
-    ensures err_rest { HandsOn E.follows err.old err.new }
-{
-    match Db::open_unindexed(alloc, disk) {
-        Ok(db) => query_opened(alloc, &db, disk, words, ask, format, out, err),
-        Err(DbOpenFault::Damaged(damage)) => Why::Damaged(damage),
-        Err(DbOpenFault::DiskFault) => Why::DiskFault,
-        // No index is made, and so none is full.
-        Err(DbOpenFault::IndexFull { .. } | DbOpenFault::NoMemory) => Why::NoMemory,
     }
 }

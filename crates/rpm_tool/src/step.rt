@@ -1,28 +1,31 @@
 //! What is printed of one package.
 
-ghost use Rattle.std.specs.Prelude.{◌≡◌, ◌≢◌, ℕ, Bool, List, [], Err, IfOk};
+ghost use Rattle.std.specs.Prelude.{◌≡◌, ◌≢◌, ℕ, Bool, List, [], ◌++◌, Err, IfOk};
 ghost use Rattle.rpm_outside.specs.Buffered.{inner, holds, HandsOn};
 ghost use Rattle.rpm_outside.specs.Causes.{HasCauseAt};
-ghost use Rattle.rpm_header.specs.Header.{header};
+ghost use Rattle.rpm_header.specs.Digest.{magic};
+ghost use Rattle.rpm_db.specs.State.{Good};
 ghost use Rattle.rpm_qfeval.specs.Meaning.{meaning};
 ghost use Rattle.rpm_qfeval.specs.Printed.{Prints, ending};
 ghost use Rattle.rpm_select.specs.Picks.{entry_in};
 ghost use Rattle.rpm_tool.specs.Answers.{StepIs, outputs};
-ghost use Rattle.rpm_tool.specs.Steps.{Bearer, ToErr, bearer};
-ghost use Rattle.rpm_tool.specs.Queries.{bad_line, sizes_line, printed, bad_step, header_step, step_of};
+ghost use Rattle.rpm_tool.specs.Steps.{Bearer, ToOut, ToErr, bearer};
+ghost use Rattle.rpm_tool.specs.Queries.{bad_line, sizes_line, printed, bad_step};
+ghost use Rattle.rpm_tool.specs.Reports.{step_by};
 
 use itoa::Buffer;
-use rpm_header::View;
+use rpm_header::{MAGIC, View};
 use rpm_outside::{Buffered, Failed, Sink, put_and_flush};
 use rpm_qfeval::{DirectFault, print_direct};
 use rpm_qfparse::Format;
-use rpm_select::Picked;
+use rpm_select::{Blob, Picked};
 use std::alloc::{AllocError, Global};
 
 /// What stops a command before its end.
 #[derive(Clone, Copy, Debug, PartialEq, Eq)]
 pub enum Stop {
-    DiskFault,
+    /// What is printed can't be read: a call of the disk or of the shelf failed.
+    ReadFault,
     OutFault,
     ErrFault,
     NoMemory,
@@ -33,7 +36,7 @@ fn put_message<E: Sink + Drop>(err: &mut Buffered<E>, message: &[u8]) -> Result<
     requires err_empty { holds err.old ≡ [] }
     ensures step { (for : Bearer) (out_tells : Bool) (out : List ℕ) → StepIs (ToErr for message.now) result
         (outputs out_tells out E.tells (E.taken (inner err.old))) (outputs out_tells out E.tells (E.taken (inner err.new))) }
-    ensures no_disk { result ≢ Err Stop.DiskFault }
+    ensures no_read { result ≢ Err Stop.ReadFault }
     ensures no_out { result ≢ Err Stop.OutFault }
     ensures err { HasCauseAt (result ≡ Err Stop.ErrFault) (E.faults (inner err.old)) (E.faults (inner err.new)) }
     ensures err_rest { HandsOn E.follows err.old err.new }
@@ -62,7 +65,7 @@ fn put_bad<E: Sink + Drop>(alloc: Global, err: &mut Buffered<E>, number: u32) ->
     requires err_empty { holds err.old ≡ [] }
     ensures step { (j : ℕ) (out_tells : Bool) (out : List ℕ) → StepIs (bad_step j number) result
         (outputs out_tells out E.tells (E.taken (inner err.old))) (outputs out_tells out E.tells (E.taken (inner err.new))) }
-    ensures no_disk { result ≢ Err Stop.DiskFault }
+    ensures no_read { result ≢ Err Stop.ReadFault }
     ensures no_out { result ≢ Err Stop.OutFault }
     ensures err { HasCauseAt (result ≡ Err Stop.ErrFault) (E.faults (inner err.old)) (E.faults (inner err.new)) }
     ensures err_rest { HandsOn E.follows err.old err.new }
@@ -111,7 +114,7 @@ fn print_flushed<O: Sink + Drop>(
 /// Prints what the format says of a header, to out (true), or where a bracket's tags have different numbers of elements
 /// a message, to err (false).
 #[tactic(auto, unfolding(crate::specs::Queries::sizes_line))]
-fn print_header<O: Sink + Drop, E: Sink + Drop>(
+pub fn print_header<O: Sink + Drop, E: Sink + Drop>(
     format: &Format,
     view: &View<'_>,
     number: u32,
@@ -122,7 +125,7 @@ fn print_header<O: Sink + Drop, E: Sink + Drop>(
     requires err_empty { holds err.old ≡ [] }
     ensures step { (j : ℕ) → StepIs (printed (bearer j number) (meaning view.now number format.now)) result (outputs O.tells (O.taken (inner out.old)) E.tells
         (E.taken (inner err.old))) (outputs O.tells (O.taken (inner out.new)) E.tells (E.taken (inner err.new))) }
-    ensures no_disk { result ≢ Err Stop.DiskFault }
+    ensures no_read { result ≢ Err Stop.ReadFault }
     ensures out { HasCauseAt (result ≡ Err Stop.OutFault) (O.faults (inner out.old)) (O.faults (inner out.new)) }
     ensures err { HasCauseAt (result ≡ Err Stop.ErrFault) (E.faults (inner err.old)) (E.faults (inner err.new)) }
     ensures out_rest { HandsOn O.follows out.old out.new }
@@ -138,53 +141,109 @@ fn print_header<O: Sink + Drop, E: Sink + Drop>(
     }
 }
 
-/// Prints a package by its blob, to out (true), or a message, to err (false).
-fn print_blob<O: Sink + Drop, E: Sink + Drop>(
+/// A header behind the magic.
+fn with_magic(alloc: Global, blob: &[u8]) -> Result<Vec<u8>, AllocError>
+    ensures { IfOk result (λ piece. piece.items ≡ magic ++ blob.now) }
+{
+    let mut piece = Vec::new(alloc);
+    piece.extend_from_slice(&MAGIC)?;
+    piece.extend_from_slice(blob)?;
+    Ok(piece)
+}
+
+/// Writes a text to out.
+fn put_text<O: Sink + Drop>(out: &mut Buffered<O>, text: &[u8]) -> Result<bool, Stop>
+    requires out_empty { holds out.old ≡ [] }
+    ensures step { (for : Bearer) (err_tells : Bool) (err : List ℕ) → StepIs (ToOut for text.now) result
+        (outputs O.tells (O.taken (inner out.old)) err_tells err) (outputs O.tells (O.taken (inner out.new)) err_tells err) }
+    ensures no_read { result ≢ Err Stop.ReadFault }
+    ensures no_err { result ≢ Err Stop.ErrFault }
+    ensures out { HasCauseAt (result ≡ Err Stop.OutFault) (O.faults (inner out.old)) (O.faults (inner out.new)) }
+    ensures out_rest { HandsOn O.follows out.old out.new }
+{
+    match put_and_flush(out, text) {
+        Ok(()) => Ok(true),
+        Err(_) => Err(Stop::OutFault),
+    }
+}
+
+/// Writes a header behind the magic to out, all in one piece.
+fn put_export<O: Sink + Drop>(
     alloc: Global,
-    format: &Format,
-    number: u32,
     blob: &[u8],
+    out: &mut Buffered<O>,
+) -> Result<bool, Stop>
+    requires out_empty { holds out.old ≡ [] }
+    ensures step { (for : Bearer) (err_tells : Bool) (err : List ℕ) → StepIs (ToOut for (magic ++ blob.now)) result
+        (outputs O.tells (O.taken (inner out.old)) err_tells err) (outputs O.tells (O.taken (inner out.new)) err_tells err) }
+    ensures no_read { result ≢ Err Stop.ReadFault }
+    ensures no_err { result ≢ Err Stop.ErrFault }
+    ensures out { HasCauseAt (result ≡ Err Stop.OutFault) (O.faults (inner out.old)) (O.faults (inner out.new)) }
+    ensures out_rest { HandsOn O.follows out.old out.new }
+{
+    match with_magic(alloc, blob) {
+        Ok(piece) => put_text(out, &piece),
+        Err(_) => Err(Stop::NoMemory),
+    }
+}
+
+/// How a package is told.
+#[derive(Drop)]
+pub enum Way<'a> {
+    /// What a format says of it.
+    Format(&'a Format),
+    /// Its bytes, behind the magic.
+    Export,
+}
+
+/// Prints a header, to out (true), or a message, to err (false).
+fn print_good<O: Sink + Drop, E: Sink + Drop>(
+    alloc: Global,
+    way: &Way<'_>,
+    number: u32,
+    blob: &Blob,
     out: &mut Buffered<O>,
     err: &mut Buffered<E>,
 ) -> Result<bool, Stop>
     requires out_empty { holds out.old ≡ [] }
     requires err_empty { holds err.old ≡ [] }
-    ensures step { (j : ℕ) → StepIs (header_step format.now j number (header blob.now)) result (outputs O.tells (O.taken (inner out.old)) E.tells
+    ensures step { (j : ℕ) → StepIs (step_by way.now j (number, Good blob.now)) result (outputs O.tells (O.taken (inner out.old)) E.tells
         (E.taken (inner err.old))) (outputs O.tells (O.taken (inner out.new)) E.tells (E.taken (inner err.new))) }
-    ensures no_disk { result ≢ Err Stop.DiskFault }
+    ensures no_read { result ≢ Err Stop.ReadFault }
     ensures out { HasCauseAt (result ≡ Err Stop.OutFault) (O.faults (inner out.old)) (O.faults (inner out.new)) }
     ensures err { HasCauseAt (result ≡ Err Stop.ErrFault) (E.faults (inner err.old)) (E.faults (inner err.new)) }
     ensures out_rest { HandsOn O.follows out.old out.new }
     ensures err_rest { HandsOn E.follows err.old err.new }
 {
-    match View::parse(blob) {
-        Ok(view) => print_header(format, &view, number, out, err),
-        Err(_) => put_bad(alloc, err, number),
+    match way {
+        Way::Format(format) => {
+            let view = blob.view();
+            print_header(format, &view, number, out, err)
+        }
+        Way::Export => put_export(alloc, blob.as_slice(), out),
     }
 }
 
 /// Prints a package that was picked, to out (true), or a message, to err (false).
 pub fn print_picked<O: Sink + Drop, E: Sink + Drop>(
     alloc: Global,
-    format: &Format,
+    way: &Way<'_>,
     picked: &Picked,
     out: &mut Buffered<O>,
     err: &mut Buffered<E>,
 ) -> Result<bool, Stop>
     requires out_empty { holds out.old ≡ [] }
     requires err_empty { holds err.old ≡ [] }
-    ensures step { (j : ℕ) → StepIs (step_of format.now j (entry_in picked.now)) result (outputs O.tells (O.taken (inner out.old)) E.tells
+    ensures step { (j : ℕ) → StepIs (step_by way.now j (entry_in picked.now)) result (outputs O.tells (O.taken (inner out.old)) E.tells
         (E.taken (inner err.old))) (outputs O.tells (O.taken (inner out.new)) E.tells (E.taken (inner err.new))) }
-    ensures no_disk { result ≢ Err Stop.DiskFault }
+    ensures no_read { result ≢ Err Stop.ReadFault }
     ensures out { HasCauseAt (result ≡ Err Stop.OutFault) (O.faults (inner out.old)) (O.faults (inner out.new)) }
     ensures err { HasCauseAt (result ≡ Err Stop.ErrFault) (E.faults (inner err.old)) (E.faults (inner err.new)) }
     ensures out_rest { HandsOn O.follows out.old out.new }
     ensures err_rest { HandsOn E.follows err.old err.new }
 {
     match picked {
-        Picked::Good { number, blob } => {
-            print_blob(alloc, format, *number, blob.as_slice(), out, err)
-        }
+        Picked::Good { number, blob } => print_good(alloc, way, *number, blob, out, err),
         Picked::Bad { number } => put_bad(alloc, err, *number),
     }
 }

@@ -1,5 +1,7 @@
 mod formats;
+mod packages;
 mod queries;
+mod reports;
 mod words;
 
 use crate::{Damage, Outcome, Reason, Why, run};
@@ -401,39 +403,74 @@ fn a_damaged_database_says_where(rt: HostRuntime) -> Result<(), Fail> {
 }
 
 #[test]
-fn faults_end_the_query(rt: HostRuntime) -> Result<(), Fail> {
+fn a_disk_fault_ends_the_query(rt: HostRuntime) -> Result<(), Fail> {
     let alloc = rt.alloc();
-    let failed = run_on(alloc, ALL, &three(alloc)?, 1, NO_LIMITS)?;
+    let failed = run_on(alloc, ALL, &one(alloc)?, 1, NO_LIMITS)?;
     assert!(rt; failed.outcome.why == Why::DiskFault && failed.outcome.status == 252);
     assert_eq!(rt;
         failed.err.bytes(),
         b"rpm: the database could not be read or written\n".as_slice()
     );
+    Ok(())
+}
 
-    let failed = run_on(alloc, ALL, &one(alloc)?, 0, [3, 99])?;
-    assert!(rt; failed.outcome.why == Why::OutFault && failed.outcome.status == 253);
-    assert_eq!(rt; failed.out.bytes(), b"a-1".as_slice());
-    assert_eq!(rt;
-        failed.err.bytes(),
-        b"rpm: output could not be written\n".as_slice()
-    );
+// Whether a query whose sinks have these limits ends so with status 253, with so many bytes on out and err, and having read so many
+// packages of seven blocks.
+fn is_cut(
+    alloc: Global,
+    file: &[u8],
+    limits: [u64; 2],
+    why: Why,
+    texts: [&[u8]; 2],
+    packages: u64,
+) -> Result<bool, AllocError> {
+    let ran = run_on(alloc, ALL, file, 0, limits)?;
+    let read = ran.disk.bytes_read(File::Pkg);
+    Ok(
+        ran.outcome.why == why
+            && ran.outcome.status == 253
+            && ran.out.bytes() == texts[0]
+            && ran.err.bytes() == texts[1]
+            && read.saturating_sub(4096) / 112 == packages,
+    )
+}
 
-    // Nothing of number 3 is read before the line of number 2 is cut off.
-    let file = three(alloc)?;
-    let failed = run_on(alloc, ALL, &file, 0, [30, 99])?;
-    assert_eq!(rt;
-        failed.out.bytes(),
-        b"libx-1.0~rc1-1.noarch\nbash-5.1".as_slice()
+#[test]
+fn a_sink_that_fails_keeps_what_it_took(rt: HostRuntime) -> Result<(), Fail> {
+    let alloc = rt.alloc();
+    // The blob of number 2 is no header: its first entry is of type 10.
+    let file = changed(
+        three_small(alloc)?,
+        4096 + 2 * 112 + 16 + 8 + 4,
+        &[0, 0, 0, 10],
     );
-    let third = ((28 + late_library(alloc)?.len() + 15) / 16 * 16) as u64;
-    assert_eq!(rt;
-        failed.disk.bytes_read(File::Pkg).saturating_add(third),
-        file.len() as u64
-    );
-
-    let last = file.len().saturating_sub(1);
-    let failed = run_on(alloc, ALL, &changed(file, last, b"F"), 0, [99, 5])?;
-    assert!(rt; failed.outcome.why == Why::ErrFault && failed.outcome.status == 253);
-    assert_eq!(rt; failed.err.bytes(), b"error".as_slice());
+    let lines = b"c-1-2.x\nb-1-2.x\n".as_slice();
+    let message = b"error: package 2: header cannot be read\n".as_slice();
+    let closing = b"rpm: output could not be written\n".as_slice();
+    let both =
+        b"error: package 2: header cannot be read\nrpm: output could not be written\n".as_slice();
+    for k in 0..16usize {
+        let (told, read) = if k < 8 { (closing, 1) } else { (both, 3) };
+        let limits = [k as u64, u64::MAX];
+        assert!(rt;
+            is_cut(
+                alloc,
+                &file,
+                limits,
+                Why::OutFault,
+                [&lines[..k], told],
+                read
+            )?,
+            "{k}"
+        );
+    }
+    for k in 0..40usize {
+        let limits = [u64::MAX, k as u64];
+        let texts = [&lines[..8], &message[..k]];
+        assert!(rt;
+            is_cut(alloc, &file, limits, Why::ErrFault, texts, 2)?,
+            "{k}"
+        );
+    }
     Ok(())
 }

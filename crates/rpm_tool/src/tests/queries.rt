@@ -118,6 +118,21 @@ fn each_argument_has_its_packages_or_its_line(rt: HostRuntime) -> Result<(), Fai
 }
 
 #[test]
+fn each_argument_fails_once(rt: HostRuntime) -> Result<(), Fail> {
+    let alloc = rt.alloc();
+    let mut words = vec![in alloc; "rpm", "-q", "--noindex"]?;
+    let mut lines = Vec::new(alloc);
+    for _ in 0..300 {
+        words.push("nosuch")?;
+        lines.extend_from_slice(b"package nosuch is not installed\n")?;
+    }
+    let ran = run_on(alloc, &words, &[], 0, NO_LIMITS)?;
+    assert!(rt; ran.outcome.why == Why::Failed(300) && ran.outcome.status == 250);
+    assert!(rt; ran.out.bytes() == lines.as_slice());
+    Ok(())
+}
+
+#[test]
 fn a_log_is_read_through_or_told(rt: HostRuntime) -> Result<(), Fail> {
     let alloc = rt.alloc();
     let file = three_small(alloc)?;

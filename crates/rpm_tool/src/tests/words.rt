@@ -68,10 +68,10 @@ fn other_commands_are_not_built(rt: HostRuntime) -> Result<(), Fail> {
     let commands: [&[&str]; 8] = [
         &["rpm", "-q", "a"],
         &["rpm", "-q", "--tid", "6"],
-        &["rpm", "-qp", "a"],
+        &["rpm", "--replacepkg", "1", "a"],
         // The format isn't looked at.
         &["rpm", "-q", "a", "--qf", "%"],
-        &["rpmdb", "--exportdb"],
+        &["rpmdb", "--importdb"],
         &["rpm", "--addpkg", "a"],
         &["rpm", "-Va", "--nofiles"],
         &["rpmdb", "--initdb"],

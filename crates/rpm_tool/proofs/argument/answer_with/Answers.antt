@@ -1,4 +1,5 @@
-use Rattle.std.proofs.Common.{◌≡◌, ℕ, ◌-◌, Bool, false, List, [], map, refl, sym, ◌∙◌, subst, arith}
+use Rattle.std.proofs.Common.{◌≡◌, ℕ, ◌-◌, Bool, true, false, List, [], map, refl, sym, ap, ◌∙◌, subst, arith}
+use Rattle.std.specs.List.{list_any}
 use Rattle.rpm_outside.specs.Buffered.{inner}
 use Rattle.rpm_outside.specs.declared.disk.File.TheVariants.{Pkg}
 use Rattle.rpm_outside.specs.Files.{Files}
@@ -7,12 +8,12 @@ use Rattle.rpm_db.specs.State.{Package, packages, above}
 use Rattle.rpm_db.specs.Database.{cost_to, cost_all}
 use Rattle.rpm_db.specs.inner.Laws.{cost_some}
 use Rattle.rpm_select.specs.Selections.{picks}
-use Rattle.rpm_tool.specs.Steps.{Bearer, whole}
+use Rattle.rpm_tool.specs.Steps.{Bearer, whole, is_bad}
 use Rattle.rpm_tool.specs.Queries.{step_of, missing_part, answered}
 use Rattle.rpm_tool.specs.Answers.{outputs, Through, PartIs, ReadsIn, ReadsOf, is_some_of}
 use Rattle.rpm_tool.proofs.Reaching.{reached_later, reached_unsunk}
 use Rattle.rpm_tool.proofs.Rising.{none_at_all}
-use Rattle.rpm_tool.proofs.Answering.{part_reads, answered_stop}
+use Rattle.rpm_tool.proofs.Answering.{part_reads, answered_stop, answered_done, some_above}
 use Rattle.rpm_tool.proofs.argument.answer_with.Goals as goal
 
 pub returns-in-Err-clause-went : goal.returns-in-Err-clause-went
@@ -99,3 +100,36 @@ returns-in-Err-is_any_passed-clause-went g c = λ told j.
           (ReadsOf j s before now) c.in-Err-is_any_passed.ensures.no_sink through;
       fails = tt;
     }
+
+pub returns-then-printed-clause-went : goal.returns-then-printed-clause-went
+returns-then-printed-clause-went g c = λ told j.
+    let s = c.args.db.now.store in
+    let es = picks (packages (g.D.Disk.files c.args.disk.now).pkg s) c.args.selection.now in
+    let before = g.D.Disk.bytes_read c.args.disk.now Pkg in
+    let now = g.D.Disk.bytes_read c.print_above.new.disk Pkg in
+    answered_done c.args.format.now c.args.chosen c.args.after j c.args.text.now es c.in-Ok.printed.fails
+    (outputs g.O.Sink.tells (g.O.Sink.taken (inner c.args.out.now)) g.E.Sink.tells (g.E.Sink.taken (inner c.args.err.now)))
+    (outputs g.O.Sink.tells (g.O.Sink.taken (inner c.print_above.new.out)) g.E.Sink.tells (g.E.Sink.taken (inner c.print_above.new.err)))
+    (ReadsIn j c.args.after s before now) (ReadsOf j s before now)
+    (some_above c.args.after es (sym (c.in-Ok.ensures.some told) ∙ c.if-printed.true)) (c.in-Ok.ensures.went told j)
+
+pub returns-in-Ok-true-clause-went : goal.returns-in-Ok-true-clause-went
+returns-in-Ok-true-clause-went g c = λ told j.
+    let s = c.args.db.now.store in
+    let tree = c.args.format.now in
+    let es = picks (packages (g.D.Disk.files c.args.disk.now).pkg s) c.args.selection.now in
+    let before = g.D.Disk.bytes_read c.args.disk.now Pkg in
+    let now = g.D.Disk.bytes_read c.is_any_passed.new.disk Pkg in
+    let none : above c.args.after es ≡ [] = none_at_all (above c.args.after es) (sym (c.in-Ok.ensures.some told) ∙ c.if-printed.false) in
+    let any = c.in-Ok-true.ensures.told told (subst (λ (f : Files). above c.args.after (picks (packages f.pkg s) c.args.selection.now) ≡ [])
+    (sym (c.in-Ok.ensures.looks.untouched told).same) none) in
+    let some : is_some_of es ≡ true = subst (λ (f : Files). is_some_of (picks (packages f.pkg s) c.args.selection.now) ≡ true)
+    (c.in-Ok.ensures.looks.untouched told).same (sym any ∙ c.in-Ok-true.field-0-test) in
+    answered_done tree c.args.chosen c.args.after j c.args.text.now es false
+    (outputs g.O.Sink.tells (g.O.Sink.taken (inner c.args.out.now)) g.E.Sink.tells (g.E.Sink.taken (inner c.args.err.now)))
+    (outputs g.O.Sink.tells (g.O.Sink.taken (inner c.print_above.new.out)) g.E.Sink.tells (g.E.Sink.taken (inner c.print_above.new.err)))
+    (ReadsIn j c.args.after s before now) (ReadsOf j s before now) some
+    (record {
+      steps = (c.in-Ok.ensures.went told j).steps;
+      fails = ap (λ (xs : List (ℕ × Package)). list_any is_bad (map (step_of tree j) xs)) none;
+    })

@@ -16,5 +16,5 @@ returns-then-after-eq0-clause-told g c = λ told none.
 pub returns-in-Ok-clause-told : goal.returns-in-Ok-clause-told
 returns-in-Ok-clause-told g c = λ told none.
     let file = (g.D.Disk.files c.args.disk.now).pkg in
-    c.in-Ok.ensures.told told ∙ any_passed c.args.after (picks (packages file c.args.db.now.store) c.args.selection.now) none
+    c.in-Ok.ensures.told told (c.requires.serves told) ∙ any_passed c.args.after (picks (packages file c.args.db.now.store) c.args.selection.now) none
     (picks_from_one file c.args.db.now c.args.selection.now c.requires.from_one)

@@ -28,6 +28,12 @@ returns-in-DiskFault g c =
     subst (λ (w : Why). Writes g.E.Sink.tells g.E.Sink.taken g.E.Sink.faults g.E.Sink.follows c.args.err.now c.put_all-in-DiskFault.new.sink
     (closing c.args.words.now w) c.put_all-in-DiskFault.result) (sym c.in-DiskFault.is) c.put_all-in-DiskFault.ensures
 
+pub returns-in-ShelfFault : goal.returns-in-ShelfFault
+unfolding closing
+returns-in-ShelfFault g c =
+    subst (λ (w : Why). Writes g.E.Sink.tells g.E.Sink.taken g.E.Sink.faults g.E.Sink.follows c.args.err.now c.put_all-in-ShelfFault.new.sink
+    (closing c.args.words.now w) c.put_all-in-ShelfFault.result) (sym c.in-ShelfFault.is) c.put_all-in-ShelfFault.ensures
+
 pub returns-in-OutFault : goal.returns-in-OutFault
 unfolding closing
 returns-in-OutFault g c =

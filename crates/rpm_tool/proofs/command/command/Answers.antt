@@ -1,26 +1,28 @@
-use Rattle.rpm_db.specs.State.{packages}
-use Rattle.rpm_tool.specs.Queries.{query}
+use Rattle.std.proofs.Common.{ap, refl, ◌∙◌, []}
+use Rattle.rpm_tool.specs.Reports.{course}
 use Rattle.rpm_outside.specs.Buffered.{inner}
 use Rattle.rpm_outside.specs.declared.disk.File.TheVariants.{Pkg}
 use Rattle.rpm_words.specs.Ask.{ask}
-use Rattle.rpm_tool.specs.Asked.{asks_format, asks, asks_unbuilt}
+use Rattle.rpm_tool.specs.Asked.{deed_of, of_files, asks_format, asks, asks_unbuilt}
+use Rattle.rpm_tool.specs.PackageFiles.{query_files}
+use Rattle.rpm_tool.proofs.Reaching.{through_none}
 use Rattle.rpm_tool.proofs.Undone.{usage_of_undone, usage_of_done, unbuilt_of_undone, unbuilt_of_done, format_of_undone, format_of_done, starved, none_asked, same_command, not_begun}
 use Rattle.rpm_tool.proofs.command.command.Goals as goal
 
 pub returns-in-Ok-clause-usage : goal.returns-in-Ok-clause-usage
 unfolding asks_format
-returns-in-Ok-clause-usage g c = usage_of_done c.args.words.now (ask c.args.words.now) c.in-Ok.format c.in-Ok.ensures.ok.1 c.query_loaded.result.0
-    c.query_loaded.ensures.done
+returns-in-Ok-clause-usage g c = usage_of_done c.args.words.now (ask c.args.words.now) c.in-Ok.format c.in-Ok.ensures.ok.1 c.begin.result.0
+    c.begin.ensures.done
 
 pub returns-in-Ok-clause-unbuilt : goal.returns-in-Ok-clause-unbuilt
 unfolding asks_format asks_unbuilt
-returns-in-Ok-clause-unbuilt g c = unbuilt_of_done c.args.words.now (ask c.args.words.now) c.in-Ok.format c.in-Ok.ensures.ok.1 c.query_loaded.result.0
-    c.query_loaded.ensures.done
+returns-in-Ok-clause-unbuilt g c = unbuilt_of_done c.args.words.now (ask c.args.words.now) c.in-Ok.format c.in-Ok.ensures.ok.1 c.begin.result.0
+    c.begin.ensures.done
 
 pub returns-in-Ok-clause-bad_format : goal.returns-in-Ok-clause-bad_format
 unfolding asks_format
-returns-in-Ok-clause-bad_format g c = format_of_done c.args.words.now (ask c.args.words.now) c.in-Ok.format c.in-Ok.ensures.ok.1 c.query_loaded.result.0
-    c.query_loaded.ensures.done
+returns-in-Ok-clause-bad_format g c = format_of_done c.args.words.now (ask c.args.words.now) c.in-Ok.format c.in-Ok.ensures.ok.1 c.begin.result.0
+    c.begin.ensures.done
 
 pub returns-in-Ok-clause-unread : goal.returns-in-Ok-clause-unread
 unfolding asks
@@ -29,17 +31,17 @@ returns-in-Ok-clause-unread g c = λ none.
 
 pub returns-in-Ok-clause-went : goal.returns-in-Ok-clause-went
 unfolding asks
-returns-in-Ok-clause-went g c = λ a tree asked told.
+returns-in-Ok-clause-went g c = λ a tree asked other told.
     let same = same_command (ask c.args.words.now) (asks_format c.args.words.now) c.in-Ok.ask a c.in-Ok.format tree c.in-Ok.ensures.ok.0
     c.in-Ok.ensures.ok.1 asked in
-    rw (← same.0, ← same.1) (c.query_loaded.ensures.went told)
+    rw (← same.0, ← same.1) (c.begin.ensures.went (ap of_files same.0 ∙ other) told)
 
 pub returns-in-Ok-clause-reads : goal.returns-in-Ok-clause-reads
 unfolding asks
-returns-in-Ok-clause-reads g c = λ a tree asked told.
+returns-in-Ok-clause-reads g c = λ a tree asked other told.
     let same = same_command (ask c.args.words.now) (asks_format c.args.words.now) c.in-Ok.ask a c.in-Ok.format tree c.in-Ok.ensures.ok.0
     c.in-Ok.ensures.ok.1 asked in
-    rw (← same.0) (c.query_loaded.ensures.reads told)
+    rw (← same.0) (c.begin.ensures.reads (ap of_files same.0 ∙ other) told)
 
 pub returns-in-Err-clause-usage : goal.returns-in-Err-clause-usage
 unfolding asks_format
@@ -55,7 +57,39 @@ returns-in-Err-clause-bad_format g c = format_of_undone c.args.words.now (ask c.
 
 pub returns-in-Err-clause-went : goal.returns-in-Err-clause-went
 unfolding asks_format asks
-returns-in-Err-clause-went g c = λ a tree asked told.
+returns-in-Err-clause-went g c = λ a tree asked other told.
     let none = starved c.args.words.now (ask c.args.words.now) c.in-Err.why c.in-Err.ensures.undone a tree asked in
-    rw none (not_begun (λ file s. query tree (packages file s) c.args.words.now a) (g.D.Disk.files c.args.disk) g.O.Sink.tells g.E.Sink.tells
+    rw none (not_begun (deed_of a.mode) (λ file s. course tree file s c.args.words.now a) (g.D.Disk.files c.args.disk) g.O.Sink.tells g.E.Sink.tells
     (g.O.Sink.taken (inner c.args.out.now)) (g.E.Sink.taken (inner c.args.err.now)) (g.D.Disk.bytes_read c.args.disk Pkg))
+
+pub returns-in-Ok-clause-files : goal.returns-in-Ok-clause-files
+unfolding asks
+returns-in-Ok-clause-files g c = λ a tree asked is told.
+    let same = same_command (ask c.args.words.now) (asks_format c.args.words.now) c.in-Ok.ask a c.in-Ok.format tree c.in-Ok.ensures.ok.0
+    c.in-Ok.ensures.ok.1 asked in
+    rw (← same.0, ← same.1) (c.begin.ensures.files (ap of_files same.0 ∙ is) told)
+
+pub returns-in-Ok-clause-disk_unread : goal.returns-in-Ok-clause-disk_unread
+unfolding asks
+returns-in-Ok-clause-disk_unread g c = λ a tree asked is.
+    let same = same_command (ask c.args.words.now) (asks_format c.args.words.now) c.in-Ok.ask a c.in-Ok.format tree c.in-Ok.ensures.ok.0
+    c.in-Ok.ensures.ok.1 asked in
+    c.begin.ensures.disk_unread (ap of_files same.0 ∙ is)
+
+pub returns-in-Ok-clause-shelf_unread : goal.returns-in-Ok-clause-shelf_unread
+unfolding asks
+returns-in-Ok-clause-shelf_unread g c = λ a tree asked other.
+    let same = same_command (ask c.args.words.now) (asks_format c.args.words.now) c.in-Ok.ask a c.in-Ok.format tree c.in-Ok.ensures.ok.0
+    c.in-Ok.ensures.ok.1 asked in
+    c.begin.ensures.shelf_unread (ap of_files same.0 ∙ other)
+
+pub returns-in-Err-clause-files : goal.returns-in-Err-clause-files
+unfolding asks_format asks
+returns-in-Err-clause-files g c = λ a tree asked is told.
+    let none = starved c.args.words.now (ask c.args.words.now) c.in-Err.why c.in-Err.ensures.undone a tree asked in
+    rw none (
+      [],
+      (query_files tree (g.S.Shelf.paths c.args.shelf.now) c.args.words.now a).steps,
+      refl,
+      through_none {ot = g.O.Sink.tells} {et = g.E.Sink.tells} (g.O.Sink.taken (inner c.args.out.now)) (g.E.Sink.taken (inner c.args.err.now)),
+    )

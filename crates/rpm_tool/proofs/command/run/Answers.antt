@@ -6,10 +6,11 @@ use Rattle.rpm_tool.specs.declared.answer.Why.TheVariants as why
 use Rattle.rpm_tool.specs.Closing.{closing}
 use Rattle.rpm_tool.specs.Answers.{outputs, Closes}
 use Rattle.rpm_tool.proofs.Printing.{closes_of, inner_same}
+use Rattle.rpm_tool.proofs.Numbered.{argument_numbers, picked_rises}
 use Rattle.rpm_tool.proofs.command.run.Goals as goal
 
 pub returns-clause-answers : goal.returns-clause-answers
-returns-clause-answers g c = λ a tree asked told.
+returns-clause-answers g c = λ a tree asked other told.
     let out = ap (λ (lent : _). lent.now) c.new-out.ensures.inner in
     let err = ap (λ (lent : _). lent.now) c.new-err.ensures.inner in
     let later : g.E.Sink.faults c.args.err.now ≤ g.E.Sink.faults (inner c.command-why.new.err).now =
@@ -21,7 +22,31 @@ returns-clause-answers g c = λ a tree asked told.
     let mid = outputs g.O.Sink.tells (g.O.Sink.taken (inner c.command-why.new.out).now) g.E.Sink.tells (g.E.Sink.taken (inner c.command-why.new.err).now) in
     record {
       mid = mid;
-      did = rw (out, err) at (c.command-why.ensures.went a tree asked told);
+      did = rw (out, err) at (c.command-why.ensures.went a tree asked other told);
+      closes =
+          subst (λ (e : _). Closes line mid (outputs g.O.Sink.tells (g.O.Sink.taken c.out-2-1.given.0) g.E.Sink.tells (g.E.Sink.taken e))
+          (g.E.Sink.faults c.args.err.now) (g.E.Sink.faults e)) err_is
+          (subst (λ (o : _). Closes line mid (outputs g.O.Sink.tells (g.O.Sink.taken o) g.E.Sink.tells
+          (g.E.Sink.taken (inner c.put_closing.new.err).now)) (g.E.Sink.faults c.args.err.now) (g.E.Sink.faults (inner c.put_closing.new.err).now)) out_is
+          (closes_of g.E.Sink.tells (λ lent. g.E.Sink.taken lent.now) (λ lent. g.E.Sink.faults lent.now) (g.E.Sink.faults c.args.err.now)
+          (inner c.command-why.new.err) (inner c.put_closing.new.err) line c.put_closing.result
+          g.O.Sink.tells (g.O.Sink.taken (inner c.command-why.new.out).now) later c.put_closing.ensures));
+    }
+
+pub returns-clause-files : goal.returns-clause-files
+returns-clause-files g c = λ a tree asked is told.
+    let out = ap (λ (lent : _). lent.now) c.new-out.ensures.inner in
+    let err = ap (λ (lent : _). lent.now) c.new-err.ensures.inner in
+    let later : g.E.Sink.faults c.args.err.now ≤ g.E.Sink.faults (inner c.command-why.new.err).now =
+    subst (λ (n : ℕ). n ≤ g.E.Sink.faults (inner c.command-why.new.err).now) (ap (λ (lent : _). g.E.Sink.faults lent.now) c.new-err.ensures.inner)
+    c.command-why.ensures.err.later in
+    let out_is : (inner c.command-why.new.out).now ≡ c.out-2-1.given.0 = search rules in
+    let err_is : (inner c.put_closing.new.err).now ≡ c.err-3-1.given.0 = search rules in
+    let line = closing c.args.words.now c.command-why.result.0 in
+    let mid = outputs g.O.Sink.tells (g.O.Sink.taken (inner c.command-why.new.out).now) g.E.Sink.tells (g.E.Sink.taken (inner c.command-why.new.err).now) in
+    record {
+      mid = mid;
+      did = rw (out, err) at (c.command-why.ensures.files a tree asked is told);
       closes =
           subst (λ (e : _). Closes line mid (outputs g.O.Sink.tells (g.O.Sink.taken c.out-2-1.given.0) g.E.Sink.tells (g.E.Sink.taken e))
           (g.E.Sink.faults c.args.err.now) (g.E.Sink.faults e)) err_is
@@ -36,15 +61,15 @@ pub returns-clause-unread : goal.returns-clause-unread
 returns-clause-unread g c = λ none.
     let same = c.command-why.ensures.unread none in
     let out_is : (inner c.command-why.new.out).now ≡ c.out-2-1.given.0 = search rules in
-    (same.0, sym out_is ∙ ap (λ (lent : _). lent.now) (inner_same same.1 ∙ c.new-out.ensures.inner))
+    (same.0, same.1, sym out_is ∙ ap (λ (lent : _). lent.now) (inner_same same.2 ∙ c.new-out.ensures.inner))
 
 pub returns-clause-unbuilt_closes : goal.returns-clause-unbuilt_closes
 returns-clause-unbuilt_closes g c = λ none.
     let same = c.command-why.ensures.unread none in
     let out_is : (inner c.command-why.new.out).now ≡ c.out-2-1.given.0 = search rules in
     let err_is : (inner c.put_closing.new.err).now ≡ c.err-3-1.given.0 = search rules in
-    let out : (inner c.command-why.new.out).now ≡ c.args.out.now = ap (λ (lent : _). lent.now) (inner_same same.1 ∙ c.new-out.ensures.inner) in
-    let err : (inner c.command-why.new.err).now ≡ c.args.err.now = ap (λ (lent : _). lent.now) (inner_same same.2 ∙ c.new-err.ensures.inner) in
+    let out : (inner c.command-why.new.out).now ≡ c.args.out.now = ap (λ (lent : _). lent.now) (inner_same same.2 ∙ c.new-out.ensures.inner) in
+    let err : (inner c.command-why.new.err).now ≡ c.args.err.now = ap (λ (lent : _). lent.now) (inner_same same.3 ∙ c.new-err.ensures.inner) in
     let later : g.E.Sink.faults c.args.err.now ≤ g.E.Sink.faults (inner c.command-why.new.err).now =
     subst (λ (n : ℕ). n ≤ g.E.Sink.faults (inner c.command-why.new.err).now) (ap (λ (lent : _). g.E.Sink.faults lent.now) c.new-err.ensures.inner)
     c.command-why.ensures.err.later in
@@ -81,3 +106,6 @@ returns-clause-err_fault g c =
     let last : g.E.Sink.faults (inner c.command-why.new.err).now ≤ g.E.Sink.faults (inner c.put_closing.new.err).now = c.put_closing.ensures.cause.later in
     subst (λ (e : _). HasCauseAt (c.command-why.result.0 ≡ why.ErrFault) (g.E.Sink.faults c.args.err.now) (g.E.Sink.faults e)) err_is
     (record { later = le_trans first.later last; rose = λ e. le_trans (first.rose e) last })
+
+pub returns-clause-numbers : goal.returns-clause-numbers
+returns-clause-numbers g c = λ tree packages chosen after j text. (argument_numbers tree packages chosen after j text, picked_rises packages chosen text after)

@@ -9,8 +9,9 @@ use Rattle.rpm_db.specs.State.{Package, packages, above}
 use Rattle.rpm_db.specs.Database.{cost_to, cost_all}
 use Rattle.rpm_db.specs.inner.Laws.{cost_some, cost_up}
 use Rattle.rpm_select.specs.Selections.{picks}
+use Rattle.rpm_select.specs.Reach.{Reach, Serves}
 use Rattle.rpm_tool.specs.Steps.{is_bad}
-use Rattle.rpm_tool.specs.Queries.{step_of}
+use Rattle.rpm_tool.specs.Reports.{step_by}
 use Rattle.rpm_tool.specs.Answers.{outputs, NextIs, ReadsIn, is_some_of}
 use Rattle.rpm_tool.proofs.Reaching.{goes_more, goes_stop, goes_end, reached_reads}
 use Rattle.rpm_tool.proofs.Printed.{fails_more, some_more, none_more, reads_more}
@@ -31,6 +32,10 @@ loop-next-preserved g c =
     let new = outputs ot (g.O.Sink.taken (inner c.print_next.new.out)) et (g.E.Sink.taken (inner c.print_next.new.err)) in
     record {
       keeps = done.kept;
+      serves = λ told. subst (λ (f : Files). Serves c.print_next.new.picker (packages f.pkg db.store) c.args.selection.now)
+          (sym (done.looks.untouched told).same)
+          (subst (λ (r : Reach). Serves r (packages (g.D.Disk.files c.loop-next.disk).pkg db.store) c.args.selection.now) (sym done.same) (inv.serves told));
+      same = done.same ∙ inv.same;
       later = omega (arith, inv.later, lt);
       more = omega (arith, inv.more, up);
       looks = looks_then g.D.Disk.tells g.D.Disk.files g.D.Disk.left_since g.D.Disk.moment g.D.Disk.bytes_read g.D.Disk.follows Pkg
@@ -51,7 +56,7 @@ loop-next-preserved g c =
         done.err_rest.1,
       );
       goes = λ told j.
-          let step = step_of c.args.format.now j in
+          let step = step_by c.args.way.now j in
           let es = picks (packages (g.D.Disk.files c.args.disk.now).pkg db.store) c.args.selection.now in
           let reads = ReadsIn j n db.store (g.D.Disk.bytes_read c.loop-next.disk Pkg) (g.D.Disk.bytes_read c.print_next.new.disk Pkg) in
           let x : NextIs step n es (Ok (Some (m, c.in-Ok-Some.to_out))) mid new reads =
@@ -62,7 +67,7 @@ loop-next-preserved g c =
           (g.E.Sink.taken (inner c.args.err.now)) (g.E.Sink.taken (inner c.loop-next.err)) (g.E.Sink.taken (inner c.print_next.new.err))
           (ap (λ (xs : List (ℕ × Package)). map step xs) x.1) (inv.goes told j) x.2.1;
       bad = λ told j.
-          let step = step_of c.args.format.now j in
+          let step = step_by c.args.way.now j in
           let es = picks (packages (g.D.Disk.files c.args.disk.now).pkg db.store) c.args.selection.now in
           let reads = ReadsIn j n db.store (g.D.Disk.bytes_read c.loop-next.disk Pkg) (g.D.Disk.bytes_read c.print_next.new.disk Pkg) in
           let x : NextIs step n es (Ok (Some (m, c.in-Ok-Some.to_out))) mid new reads =
@@ -72,7 +77,7 @@ loop-next-preserved g c =
           (list_any is_bad (map step (above c.args.after es))) x.2.0
           (inv.bad told j ∙ ap (λ (xs : List (ℕ × Package)). c.loop-next.fails || list_any is_bad (map step xs)) x.1));
       there = λ told.
-          let step = step_of c.args.format.now 0 in
+          let step = step_by c.args.way.now 0 in
           let es = picks (packages (g.D.Disk.files c.args.disk.now).pkg db.store) c.args.selection.now in
           let reads = ReadsIn 0 n db.store (g.D.Disk.bytes_read c.loop-next.disk Pkg) (g.D.Disk.bytes_read c.print_next.new.disk Pkg) in
           let x : NextIs step n es (Ok (Some (m, c.in-Ok-Some.to_out))) mid new reads =
@@ -91,7 +96,7 @@ returns-in-Ok-None-clause-went g c = λ told j.
     let et = g.E.Sink.tells in
     let mid = outputs ot (g.O.Sink.taken (inner c.loop-next.out)) et (g.E.Sink.taken (inner c.loop-next.err)) in
     let new = outputs ot (g.O.Sink.taken (inner c.print_next.new.out)) et (g.E.Sink.taken (inner c.print_next.new.err)) in
-    let step = step_of c.args.format.now j in
+    let step = step_by c.args.way.now j in
     let es = picks (packages (g.D.Disk.files c.args.disk.now).pkg db.store) c.args.selection.now in
     let reads = ReadsIn j n db.store (g.D.Disk.bytes_read c.loop-next.disk Pkg) (g.D.Disk.bytes_read c.print_next.new.disk Pkg) in
     let x : NextIs step n es (Ok None) mid new reads =
@@ -119,7 +124,7 @@ returns-in-Ok-None-clause-some g c = λ told.
     let inv = c.loop-next.invariant in
     let mid = outputs g.O.Sink.tells (g.O.Sink.taken (inner c.loop-next.out)) g.E.Sink.tells (g.E.Sink.taken (inner c.loop-next.err)) in
     let new = outputs g.O.Sink.tells (g.O.Sink.taken (inner c.print_next.new.out)) g.E.Sink.tells (g.E.Sink.taken (inner c.print_next.new.err)) in
-    let step = step_of c.args.format.now 0 in
+    let step = step_by c.args.way.now 0 in
     let es = picks (packages (g.D.Disk.files c.args.disk.now).pkg db.store) c.args.selection.now in
     let reads = ReadsIn 0 n db.store (g.D.Disk.bytes_read c.loop-next.disk Pkg) (g.D.Disk.bytes_read c.print_next.new.disk Pkg) in
     let x : NextIs step n es (Ok None) mid new reads =
@@ -146,7 +151,7 @@ returns-in-Err-clause-went g c = λ told j.
     let et = g.E.Sink.tells in
     let mid = outputs ot (g.O.Sink.taken (inner c.loop-next.out)) et (g.E.Sink.taken (inner c.loop-next.err)) in
     let new = outputs ot (g.O.Sink.taken (inner c.print_next.new.out)) et (g.E.Sink.taken (inner c.print_next.new.err)) in
-    let step = step_of c.args.format.now j in
+    let step = step_by c.args.way.now j in
     let es = picks (packages (g.D.Disk.files c.args.disk.now).pkg db.store) c.args.selection.now in
     let before = g.D.Disk.bytes_read c.args.disk.now Pkg in
     let between = g.D.Disk.bytes_read c.loop-next.disk Pkg in

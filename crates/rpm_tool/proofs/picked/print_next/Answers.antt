@@ -7,10 +7,10 @@ use Rattle.rpm_pkgdb.specs.Costs.{cost_to}
 use Rattle.rpm_select.specs.Selections.{picks}
 use Rattle.rpm_select.specs.Picks.{entry_in, number_in}
 use Rattle.rpm_tool.specs.Steps.{Bearer}
-use Rattle.rpm_tool.specs.Queries.{step_of}
+use Rattle.rpm_tool.specs.Reports.{step_by}
 use Rattle.rpm_tool.specs.Answers.{outputs, ReadsIn, cost_until}
 use Rattle.rpm_tool.proofs.Rising.{next_picked}
-use Rattle.rpm_tool.proofs.Printed.{bearer-step_of, one_next, cost_one, entry_cost}
+use Rattle.rpm_tool.proofs.Printed.{bearer-step_by, one_next, cost_one, entry_cost}
 use Rattle.rpm_tool.proofs.picked.print_next.Goals as goal
 
 pub returns-in-Ok-Some-clause-went : goal.returns-in-Ok-Some-clause-went
@@ -18,16 +18,16 @@ returns-in-Ok-Some-clause-went g c = λ told j.
     let es = picks (packages (g.D.Disk.files c.args.disk.now).pkg c.args.db.now.store) c.args.selection.now in
     let n = c.args.number in
     let p = c.in-Ok-Some.picked in
-    let tree = c.args.format.now in
-    let next = rw c.in-Ok-Some.field-0-is at (c.in-Ok-Some.ensures.told told) in
+    let way = c.args.way.now in
+    let next = rw c.in-Ok-Some.field-0-is at (c.in-Ok-Some.ensures.told told (c.requires.serves told)) in
     let old = outputs g.O.Sink.tells (g.O.Sink.taken (inner c.args.out.now)) g.E.Sink.tells (g.E.Sink.taken (inner c.args.err.now)) in
     let new = outputs g.O.Sink.tells (g.O.Sink.taken (inner c.print_one.new.out)) g.E.Sink.tells (g.E.Sink.taken (inner c.print_one.new.err)) in
     let before = g.D.Disk.bytes_read c.args.disk.now Pkg in
     let now = g.D.Disk.bytes_read c.next_after.new.disk Pkg in
-    one_next (step_of tree j) n es p c.print_one.result old new (ReadsIn j n c.args.db.now.store before now)
+    one_next (step_by way j) n es p c.print_one.result old new (ReadsIn j n c.args.db.now.store before now)
     (next_picked (packages (g.D.Disk.files c.args.disk.now).pkg c.args.db.now.store) c.args.selection.now n (entry_in p) next.0 next.1)
     c.print_one.ensures.numbered
-    (subst (λ (b : Bearer). ReadsIn j n c.args.db.now.store before now b) (sym (bearer-step_of tree j (entry_in p))) (
+    (subst (λ (b : Bearer). ReadsIn j n c.args.db.now.store before now b) (sym (bearer-step_by way j (entry_in p))) (
       refl,
       entry_cost c.args.db.now.store n p before now (rw c.in-Ok-Some.field-0-is at c.in-Ok-Some.ensures.rises)
           (rw c.in-Ok-Some.field-0-is at c.in-Ok-Some.ensures.looks).reads.pkg,

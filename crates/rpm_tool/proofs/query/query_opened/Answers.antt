@@ -1,4 +1,4 @@
-use Rattle.std.proofs.Common.{◌+◌, ◌*◌, ◌≤◌, length, sym, ◌∙◌, subst}
+use Rattle.std.proofs.Common.{◌+◌, ◌*◌, ◌≤◌, length, max, sym, ◌∙◌, subst}
 use Rattle.rpm_outside.specs.Buffered.{inner}
 use Rattle.rpm_outside.specs.declared.disk.File.TheVariants.{Pkg}
 use Rattle.rpm_outside.specs.inner.Looking.{looks_more}
@@ -6,7 +6,7 @@ use Rattle.rpm_db.specs.State.{packages}
 use Rattle.rpm_db.specs.Database.{cost_all}
 use Rattle.rpm_words.specs.Words.{text_at}
 use Rattle.rpm_tool.specs.Steps.{Course}
-use Rattle.rpm_tool.specs.Answers.{outputs, Went, passes, reach_all}
+use Rattle.rpm_tool.specs.Answers.{outputs, Went, reach_all}
 use Rattle.rpm_tool.proofs.Loading.{query_none, query_some, once, often}
 use Rattle.rpm_tool.proofs.query.query_opened.Goals as goal
 
@@ -23,7 +23,7 @@ returns-then-count-eq0-clause-went g c = λ told.
 pub returns-then-count-eq0-clause-looks : goal.returns-then-count-eq0-clause-looks
 returns-then-count-eq0-clause-looks g c =
     looks_more g.D.Disk.tells g.D.Disk.files g.D.Disk.left_since g.D.Disk.moment g.D.Disk.bytes_read g.D.Disk.follows Pkg
-    (cost_all c.args.db.now) (passes c.args.ask.now * cost_all c.args.db.now) c.args.disk.now c.query_all.new.disk
+    (cost_all c.args.db.now) (max 1 (length c.args.ask.now.arguments) * cost_all c.args.db.now) c.args.disk.now c.query_all.new.disk
     (once (length c.args.ask.now.arguments) (cost_all c.args.db.now)) c.query_all.ensures.looks
 
 pub returns-else-count-eq0-clause-went : goal.returns-else-count-eq0-clause-went
@@ -39,5 +39,6 @@ returns-else-count-eq0-clause-went g c = λ told.
 pub returns-else-count-eq0-clause-looks : goal.returns-else-count-eq0-clause-looks
 returns-else-count-eq0-clause-looks g c =
     looks_more g.D.Disk.tells g.D.Disk.files g.D.Disk.left_since g.D.Disk.moment g.D.Disk.bytes_read g.D.Disk.follows Pkg
-    (length c.args.ask.now.arguments * cost_all c.args.db.now) (passes c.args.ask.now * cost_all c.args.db.now) c.args.disk.now c.query_each.new.disk
+    (length c.args.ask.now.arguments * cost_all c.args.db.now) (max 1 (length c.args.ask.now.arguments) * cost_all c.args.db.now) c.args.disk.now
+    c.query_each.new.disk
     (often (length c.args.ask.now.arguments) (cost_all c.args.db.now)) c.query_each.ensures.looks

@@ -1,0 +1,59 @@
+-- The numbers that an argument's steps are for.
+use Rattle.std.proofs.Common.{◌≡◌, ℕ, List, [], ◌∷◌, map, Option, Some, None, refl, ap, ◌∙◌}
+use Rattle.std.specs.Ordering.{nat_cmp}
+use Rattle.std.specs.FinMap as finite
+use Rattle.rpm_words.specs.declared.switch.Chosen.{Chosen}
+use Rattle.rpm_words.specs.declared.switch.Chosen.TheVariants as by
+use Rattle.rpm_qfparse.specs.Tree.{Tree}
+use Rattle.rpm_db.specs.State.{Package, above}
+use Rattle.rpm_select.specs.declared.selection.Selection.{Selection}
+use Rattle.rpm_select.specs.Selections.{is_picked, picks}
+use Rattle.rpm_tool.specs.Steps.{Bearer, bearer, Step, bearer_of, with_number, numbers, Rises}
+use Rattle.rpm_tool.specs.Queries.{step_of, lent, question_of, picked_by, picked, missing_part, answered, argument_part}
+use Rattle.rpm_tool.proofs.Printed.{bearer-step_of}
+use Rattle.rpm_tool.proofs.Rising.{rises_above}
+
+told_numbers : (tree : Tree) (j : ℕ) (es : List (ℕ × Package)) → numbers (map (step_of tree j) es) ≡ map (λ e. e.0) es
+told_numbers tree j [] = refl
+told_numbers tree j (e ∷ es) =
+    ap (λ (b : Bearer). with_number b.number (numbers (map (step_of tree j) es))) (bearer-step_of tree j e)
+    ∙ ap (λ (ns : List ℕ). e.0 ∷ ns) (told_numbers tree j es)
+
+missing_numbers : (chosen : Chosen) (j : ℕ) (text : List ℕ) → numbers (missing_part chosen j text).steps ≡ []
+unfolding missing_part
+missing_numbers by.Label j text = refl
+missing_numbers by.All j text = refl
+missing_numbers by.Path j text = refl
+missing_numbers by.Group j text = refl
+missing_numbers by.Package j text = refl
+missing_numbers by.Provides j text = refl
+missing_numbers by.Requires j text = refl
+missing_numbers by.Conflicts j text = refl
+missing_numbers by.Obsoletes j text = refl
+missing_numbers by.Trigger j text = refl
+missing_numbers by.Number j text = refl
+missing_numbers by.Directory j text = refl
+missing_numbers by.Tid j text = refl
+missing_numbers by.Recommends j text = refl
+
+answered_numbers : (tree : Tree) (chosen : Chosen) (after j : ℕ) (text : List ℕ) (es : List (ℕ × Package))
+    → numbers (answered tree chosen after j text es).steps ≡ map (λ e. e.0) (above after es)
+answered_numbers tree chosen after j text [] = missing_numbers chosen j text
+answered_numbers tree chosen after j text (e ∷ es) = told_numbers tree j (above after (e ∷ es))
+
+-- they are those of the picked packages above `--after`
+pub argument_numbers : (tree : Tree) (packages : finite.FinMap nat_cmp Package) (chosen : Chosen) (after j : ℕ) (text : List ℕ)
+    → numbers (argument_part tree packages chosen after j text).steps ≡ map (λ e. e.0) (above after (picked packages chosen text))
+argument_numbers tree packages chosen after j text = answered_numbers tree chosen after j text (picked packages chosen text)
+
+by_rises : (packages : finite.FinMap nat_cmp Package) (question : Option Selection) (after : ℕ)
+    → Rises after (map (λ e. e.0) (above after (picked_by packages question)))
+unfolding picks
+by_rises packages None after = tt
+by_rises packages (Some sel) after = rises_above (is_picked sel) after (finite.entries packages) (finite.entries_sorted packages)
+
+-- each once and rising
+pub picked_rises : (packages : finite.FinMap nat_cmp Package) (chosen : Chosen) (text : List ℕ) (after : ℕ)
+    → Rises after (map (λ e. e.0) (above after (picked packages chosen text)))
+unfolding picked
+picked_rises packages chosen text after = by_rises packages (question_of chosen (lent text)) after

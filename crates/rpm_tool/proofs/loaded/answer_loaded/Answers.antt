@@ -1,0 +1,93 @@
+use Rattle.std.proofs.Common.{◌≡◌, ◌+◌, ◌≤◌, sym, ap, ◌∙◌, subst, ⊎_elim, arith}
+use Rattle.rpm_outside.specs.Buffered.{inner}
+use Rattle.rpm_outside.specs.declared.disk.File.TheVariants.{Pkg, Idx}
+use Rattle.rpm_outside.specs.Files.{Units, Files}
+use Rattle.rpm_outside.specs.Logs.{log_state, reopened}
+use Rattle.rpm_pkgdb.specs.Store.{Store, store}
+use Rattle.rpm_group.specs.Layers.{laid_files}
+use Rattle.rpm_tool.specs.Steps.{Bearer, Course}
+use Rattle.rpm_tool.specs.Asked.{deed_of}
+use Rattle.rpm_tool.specs.Reports.{course}
+use Rattle.rpm_tool.specs.Answers.{outputs, Opened, ReadsTo, unless_starved, read_to, passes, query_cost}
+use Rattle.rpm_tool.proofs.Loading.{opened_unless, opened_reads, loaded_sound, below_reads, fault_below}
+use Rattle.rpm_tool.proofs.loaded.answer_loaded.Goals as goal
+
+pub returns-in-Ok-clause-went : goal.returns-in-Ok-clause-went
+returns-in-Ok-clause-went g c = λ told.
+    let files = g.D.Disk.files c.args.disk in
+    let file = (reopened files).pkg in
+    let ov = c.in-Ok.overlay in
+    let end = c.answer_unindexed-ended.new.disk in
+    let ended = c.answer_unindexed-ended.result in
+    let old = outputs g.O.Sink.tells (g.O.Sink.taken (inner c.args.out.now)) g.E.Sink.tells (g.E.Sink.taken (inner c.args.err.now)) in
+    let new = outputs g.O.Sink.tells (g.O.Sink.taken (inner c.answer_unindexed-ended.new.out)) g.E.Sink.tells
+    (g.E.Sink.taken (inner c.answer_unindexed-ended.new.err)) in
+    let start = g.D.Disk.bytes_read c.args.disk Pkg in
+    let below = g.D.Disk.bytes_read ov.below Pkg in
+    let now = g.D.Disk.bytes_read end.below Pkg in
+    let over = ov.read_pkg in
+    let over' = end.read_pkg in
+    let what = deed_of c.args.ask.now.mode in
+    let does : Units → Store → Course = λ u t. course c.args.format.now u t c.args.words.now c.args.ask.now in
+    let pkg : (laid_files ov.held (g.D.Disk.files ov.below)).pkg ≡ file = ap (λ (f : Files). f.pkg) (c.in-Ok.ensures.files told) in
+    let here : Store → Bearer → Type 0 = λ t for. over' ≤ over + read_to what file t for in
+    let there : Store → Bearer → Type 0 = λ t for. ReadsTo what file t start now for in
+    let keeps = c.answer_unindexed-ended.ensures.looks.1.goes_on in
+    let opened : Opened (does file) (store file) ended old new here =
+    subst (λ (u : Units). Opened (does u) (store u) ended old new (λ t for. over' ≤ over + read_to what u t for)) pkg
+    (c.answer_unindexed-ended.ensures.went told) in
+    let answered : Opened (does file) (store file) (unless_starved c.is_starved.result ended) old new there =
+    opened_reads (does file) here there (store file) (unless_starved c.is_starved.result ended) old new
+    (λ t b le. below_reads start below now over over' (read_to what file t b) (omega (arith, c.in-Ok.ensures.looks.reads.pkg))
+    (c.in-Ok.ensures.loaded.reads Pkg) le (keeps.reads Pkg))
+    (opened_unless (does file) here (store file) c.is_starved.result ended old new opened) in
+    rw (c.release.ensures, c.unless_starved-why.ensures) (loaded_sound (does file) there (store file) (log_state files.log)
+    (unless_starved c.is_starved.result ended) old new (c.in-Ok.ensures.says told) answered)
+
+pub returns-in-Ok-clause-reads : goal.returns-in-Ok-clause-reads
+returns-in-Ok-clause-reads g c = λ told.
+    let file = (reopened (g.D.Disk.files c.args.disk)).pkg in
+    let ov = c.in-Ok.overlay in
+    let end = c.answer_unindexed-ended.new.disk in
+    let start = g.D.Disk.bytes_read c.args.disk Pkg in
+    let below = g.D.Disk.bytes_read ov.below Pkg in
+    let now = g.D.Disk.bytes_read end.below Pkg in
+    let pkg : (laid_files ov.held (g.D.Disk.files ov.below)).pkg ≡ file = ap (λ (f : Files). f.pkg) (c.in-Ok.ensures.files told) in
+    let keeps = c.answer_unindexed-ended.ensures.looks.1.goes_on in
+    let le : end.read_pkg ≤ ov.read_pkg + query_cost (passes c.args.ask.now) file =
+    subst (λ (u : Units). end.read_pkg ≤ ov.read_pkg + query_cost (passes c.args.ask.now) u) pkg (c.answer_unindexed-ended.ensures.reads told) in
+    rw c.release.ensures (below_reads start below now ov.read_pkg end.read_pkg (query_cost (passes c.args.ask.now) file)
+    (omega (arith, c.in-Ok.ensures.looks.reads.pkg)) (c.in-Ok.ensures.loaded.reads Pkg) le (keeps.reads Pkg))
+
+pub returns-in-Ok-clause-looks : goal.returns-in-Ok-clause-looks
+returns-in-Ok-clause-looks g c =
+    let ov = c.in-Ok.overlay in
+    let end = c.answer_unindexed-ended.new.disk in
+    let keeps = c.answer_unindexed-ended.ensures.looks.1.goes_on in
+    let first = c.in-Ok.ensures.looks in
+    let over = c.answer_unindexed-ended.ensures.looks.1.reads.idx in
+    rw c.release.ensures (record {
+      untouched = λ told.
+          let f = first.untouched told in
+          record {
+            same = keeps.same told ∙ f.same;
+            images = λ t i x. f.images t i (keeps.images told t i x);
+            kept = λ t i x. keeps.kept told t i (f.kept t i x);
+          };
+      moment_stays = keeps.moment_same ∙ first.moment_stays;
+      index_unread = ⊎_elim (λ one. omega (arith, one, over, first.reads.idx)) (λ two. omega (arith, two, over, c.in-Ok.ensures.loaded.reads Idx))
+          (keeps.reads Idx);
+      goes_on = g.met.D.Disk.follows_trans c.args.disk ov.below end.below first.goes_on keeps.below;
+    })
+
+pub returns-in-Ok-clause-disk : goal.returns-in-Ok-clause-disk
+returns-in-Ok-clause-disk g c =
+    let ov = c.in-Ok.overlay in
+    let end = c.answer_unindexed-ended.new.disk in
+    let keeps = c.answer_unindexed-ended.ensures.looks.1.goes_on in
+    rw c.release.ensures (record {
+      later = omega (arith, c.in-Ok.ensures.cause.later, keeps.later);
+      rose = λ is. fault_below (g.D.Disk.faults c.args.disk) (g.D.Disk.faults ov.below) (g.D.Disk.faults end.below) ov.starved end.starved
+          c.is_starved.result c.answer_unindexed-ended.result (sym c.unless_starved-why.ensures ∙ is) c.in-Ok.ensures.cause.later
+          c.in-Ok.ensures.loaded.starved c.is_starved.ensures c.answer_unindexed-ended.ensures.disk.rose;
+    })

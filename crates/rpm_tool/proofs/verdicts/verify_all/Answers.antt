@@ -1,0 +1,154 @@
+use Rattle.std.proofs.Common.{◌≡◌, ℕ, ◌+◌, ◌*◌, ◌≤◌, ◌||◌, Bool, List, ◌∷◌, map, Result, Ok, Err, refl, sym, ap, ◌∙◌, subst, arith}
+use Rattle.std.specs.FinMap.{entries}
+use Rattle.rpm_outside.specs.Buffered.{inner}
+use Rattle.rpm_outside.specs.declared.disk.File.TheVariants.{Pkg}
+use Rattle.rpm_outside.specs.Files.{Files}
+use Rattle.rpm_outside.specs.inner.Looking.{looks_none, looks_then, looks_more}
+use Rattle.rpm_db.specs.State.{Package, packages, above}
+use Rattle.rpm_db.specs.Database.{cost, cost_to, cost_all}
+use Rattle.rpm_db.specs.Verdicts.{verdict}
+use Rattle.rpm_db.specs.inner.Laws.{cost_more, cost_some}
+use Rattle.rpm_tool.specs.declared.step.Stop.{Stop}
+use Rattle.rpm_tool.specs.Steps.{Bearer, bearer, Part, together}
+use Rattle.rpm_tool.specs.Reports.{verdict_part, entry_verdict}
+use Rattle.rpm_tool.specs.Answers.{outputs, Through, Reached, PartIs, reach_all}
+use Rattle.rpm_tool.proofs.Reaching.{goes_start, goes_more, goes_stop, goes_end, reached_reads}
+use Rattle.rpm_tool.proofs.Printed.{none_more}
+use Rattle.rpm_tool.proofs.Verified.{next_entry, no_entry, from_one, fails_later}
+use Rattle.rpm_tool.proofs.verdicts.verify_all.Goals as goal
+
+pub loop-next-init : goal.loop-next-init
+loop-next-init g c =
+    let db = c.args.db.now in
+    let file = (g.D.Disk.files c.args.disk.now).pkg in
+    let all = (together (map (entry_verdict file db.store) (above 0 (entries (packages file db.store))))).steps in
+    record {
+      keeps = c.requires.keeps;
+      looks = looks_more g.D.Disk.tells g.D.Disk.files g.D.Disk.left_since g.D.Disk.moment g.D.Disk.bytes_read g.D.Disk.follows Pkg 0
+          (2 * cost_to 0 db) c.args.disk.now c.args.disk.now (omega arith)
+          (looks_none g.D.Disk.tells g.D.Disk.files g.D.Disk.left_since g.D.Disk.moment g.D.Disk.bytes_read g.D.Disk.follows Pkg
+          g.met.D.Disk.follows_refl c.args.disk.now);
+      disk = omega arith;
+      out = omega arith;
+      out_rest = (g.met.O.Sink.follows_refl (inner c.args.out.now), c.requires.out_empty);
+      goes = λ told err_tells err. goes_start g.O.Sink.tells err_tells all all (g.O.Sink.taken (inner c.args.out.now)) err refl;
+      bad = λ told. refl;
+    }
+
+pub loop-next-preserved : goal.loop-next-preserved
+loop-next-preserved g c =
+    let db = c.args.db.now in
+    let k = c.loop-next.number in
+    let m = c.in-Some.next in
+    let inv = c.loop-next.invariant in
+    let done = c.in-Ok.ensures in
+    let file = (g.D.Disk.files c.args.disk.now).pkg in
+    let es = entries (packages file db.store) in
+    let each : ℕ × Package → Part = entry_verdict file db.store in
+    let next = next_entry (packages file db.store) k m (c.in-Some.ensures.told file) in
+    let o' = g.O.Sink.taken (inner c.loop-next.out) in
+    let o'' = g.O.Sink.taken (inner c.verify_one.new.out) in
+    record {
+      keeps = done.kept;
+      looks = looks_then g.D.Disk.tells g.D.Disk.files g.D.Disk.left_since g.D.Disk.moment g.D.Disk.bytes_read g.D.Disk.follows Pkg
+          g.met.D.Disk.follows_trans (2 * cost_to k db) (2 * cost m db) (2 * cost_to m db) c.args.disk.now c.loop-next.disk c.verify_one.new.disk
+          (omega (arith, cost_more db k m c.in-Some.ensures.next.0)) inv.looks done.looks;
+      disk = omega (arith, inv.disk, done.disk.later);
+      out = omega (arith, inv.out, done.out.later);
+      out_rest = (
+        g.met.O.Sink.follows_trans (inner c.args.out.now) (inner c.loop-next.out) (inner c.verify_one.new.out) inv.out_rest.0
+            done.out_rest.0,
+        done.out_rest.1,
+      );
+      goes = λ told et e.
+          let part : PartIs (each (m, next.0)) (Ok c.in-Ok.unsound) (outputs g.O.Sink.tells o' et e) (outputs g.O.Sink.tells o'' et e)
+          (λ for. for ≡ bearer 0 m) =
+          subst (λ (f : Files). PartIs (verdict_part m (verdict f.pkg db m)) (Ok c.in-Ok.unsound) (outputs g.O.Sink.tells o' et e)
+          (outputs g.O.Sink.tells o'' et e) (λ for. for ≡ bearer 0 m)) (inv.looks.untouched told).same (done.went told et e) in
+          goes_more g.O.Sink.tells et (together (map each (above 0 es))).steps (together (map each (above k es))).steps (each (m, next.0)).steps
+          (together (map each (above m es))).steps (g.O.Sink.taken (inner c.args.out.now)) o' o'' e e e
+          (ap (λ (xs : List (ℕ × Package)). (together (map each xs)).steps) next.1) (inv.goes told et e) part.steps;
+      bad = λ told.
+          let et = g.O.Sink.tells in
+          let part : PartIs (each (m, next.0)) (Ok c.in-Ok.unsound) (outputs g.O.Sink.tells o' et o') (outputs g.O.Sink.tells o'' et o')
+          (λ for. for ≡ bearer 0 m) =
+          subst (λ (f : Files). PartIs (verdict_part m (verdict f.pkg db m)) (Ok c.in-Ok.unsound) (outputs g.O.Sink.tells o' et o')
+          (outputs g.O.Sink.tells o'' et o') (λ for. for ≡ bearer 0 m)) (inv.looks.untouched told).same (done.went told et o') in
+          rw c.either-fails.ensures (fails_later c.loop-next.fails (each (m, next.0)).fails c.in-Ok.unsound (together (map each (above m es))).fails
+          (together (map each (above 0 es))).fails part.fails
+          (inv.bad told ∙ ap (λ (xs : List (ℕ × Package)). c.loop-next.fails || (together (map each xs)).fails) next.1));
+    }
+
+pub returns-in-Err-clause-went : goal.returns-in-Err-clause-went
+returns-in-Err-clause-went g c = λ told et e.
+    let db = c.args.db.now in
+    let k = c.loop-next.number in
+    let m = c.in-Some.next in
+    let inv = c.loop-next.invariant in
+    let file = (g.D.Disk.files c.args.disk.now).pkg in
+    let es = entries (packages file db.store) in
+    let each : ℕ × Package → Part = entry_verdict file db.store in
+    let next = next_entry (packages file db.store) k m (c.in-Some.ensures.told file) in
+    let ot = g.O.Sink.tells in
+    let o = g.O.Sink.taken (inner c.args.out.now) in
+    let o' = g.O.Sink.taken (inner c.loop-next.out) in
+    let o'' = g.O.Sink.taken (inner c.verify_one.new.out) in
+    let before = g.D.Disk.bytes_read c.args.disk.now Pkg in
+    let now = g.D.Disk.bytes_read c.verify_one.new.disk Pkg in
+    let what = c.in-Err.stop in
+    let own : Bearer → Type 0 = λ for. for ≡ bearer 0 m in
+    let reads : Bearer → Type 0 = λ for. now ≤ before + 2 * reach_all db.store for in
+    let few : now ≤ before + 2 * reach_all db.store (bearer 0 m) =
+    omega (arith, inv.looks.reads.pkg, c.in-Err.ensures.looks.reads.pkg, cost_more db k m c.in-Some.ensures.next.0) in
+    let part : PartIs (each (m, next.0)) (Err what) (outputs ot o' et e) (outputs ot o'' et e) own =
+    subst (λ (f : Files). PartIs (verdict_part m (verdict f.pkg db m)) (Err what) (outputs ot o' et e) (outputs ot o'' et e) own)
+    (inv.looks.untouched told).same (c.in-Err.ensures.went told et e) in
+    let reached : Reached {T = Bool} (together (map each (above 0 es))).steps (Err what) (outputs ot o et e) (outputs ot o'' et e) reads =
+    goes_stop ot et (together (map each (above 0 es))).steps (together (map each (above k es))).steps (each (m, next.0)).steps
+    (together (map each (above m es))).steps o o' o'' e e e (ap (λ (xs : List (ℕ × Package)). (together (map each xs)).steps) next.1)
+    (inv.goes told et e) Bool Bool what reads
+    (reached_reads {T = Bool} (each (m, next.0)).steps (Err what) (outputs ot o' et e) (outputs ot o'' et e) own reads
+    (λ b is. subst (λ (w : Bearer). now ≤ before + 2 * reach_all db.store w) (sym is) few) part.steps) in
+    record {
+      steps = subst (λ (xs : List (ℕ × Package)). Reached {T = Bool} (together (map each xs)).steps (Err what) (outputs ot o et e) (outputs ot o'' et e) reads)
+          (from_one file db c.requires.from_one) reached;
+      fails = tt;
+    }
+
+pub returns-in-Err-clause-looks : goal.returns-in-Err-clause-looks
+returns-in-Err-clause-looks g c =
+    let db = c.args.db.now in
+    let k = c.loop-next.number in
+    let m = c.in-Some.next in
+    looks_then g.D.Disk.tells g.D.Disk.files g.D.Disk.left_since g.D.Disk.moment g.D.Disk.bytes_read g.D.Disk.follows Pkg g.met.D.Disk.follows_trans
+    (2 * cost_to k db) (2 * cost m db) (2 * cost_all db) c.args.disk.now c.loop-next.disk c.verify_one.new.disk
+    (omega (arith, cost_more db k m c.in-Some.ensures.next.0, cost_some db m)) c.loop-next.invariant.looks c.in-Err.ensures.looks
+
+pub returns-clause-went : goal.returns-clause-went
+returns-clause-went g c = λ told et e.
+    let db = c.args.db.now in
+    let k = c.loop-next.number in
+    let inv = c.loop-next.invariant in
+    let file = (g.D.Disk.files c.args.disk.now).pkg in
+    let es = entries (packages file db.store) in
+    let each : ℕ × Package → Part = entry_verdict file db.store in
+    let none = no_entry (packages file db.store) k (c.in_default.ensures.told file) in
+    let first = from_one file db c.requires.from_one in
+    let ot = g.O.Sink.tells in
+    let o = g.O.Sink.taken (inner c.args.out.now) in
+    let o' = g.O.Sink.taken (inner c.loop-next.out) in
+    let all = (together (map each (above 0 es))).fails in
+    record {
+      steps = subst (λ (xs : List (ℕ × Package)). Through (together (map each xs)).steps (outputs ot o et e) (outputs ot o' et e)) first
+          (goes_end ot et (together (map each (above 0 es))).steps (together (map each (above k es))).steps o o' e e
+          (ap (λ (xs : List (ℕ × Package)). (together (map each xs)).steps) none) (inv.goes told et e));
+      fails = ap (λ (xs : List (ℕ × Package)). (together (map each xs)).fails) (sym first)
+          ∙ sym (none_more c.loop-next.fails all (inv.bad told ∙ ap (λ (xs : List (ℕ × Package)). c.loop-next.fails || (together (map each xs)).fails) none));
+    }
+
+pub returns-clause-looks : goal.returns-clause-looks
+returns-clause-looks g c =
+    let db = c.args.db.now in
+    looks_more g.D.Disk.tells g.D.Disk.files g.D.Disk.left_since g.D.Disk.moment g.D.Disk.bytes_read g.D.Disk.follows Pkg
+    (2 * cost_to c.loop-next.number db) (2 * cost_all db) c.args.disk.now c.loop-next.disk
+    (omega (arith, cost_some db c.loop-next.number)) c.loop-next.invariant.looks

@@ -1,0 +1,283 @@
+//! A query of package files.
+
+ghost use Rattle.std.specs.Prelude.{◌≡◌, ◌≢◌, ◌++◌, ℕ, Bool, List, [], ◌∷◌, map, false, IsTrue, Some, Ok, Err, IfOk};
+ghost use Rattle.std.specs.List.{concat};
+ghost use Rattle.rpm_outside.specs.Buffered.{inner, holds, HandsOn};
+ghost use Rattle.rpm_outside.specs.Causes.{HasCauseAt};
+ghost use Rattle.rpm_qfeval.specs.Meaning.{meaning};
+ghost use Rattle.rpm_words.specs.Words.{text_at};
+ghost use Rattle.rpm_outside.specs.Browses.{left};
+ghost use Rattle.rpm_file.specs.Package.{package_header};
+ghost use Rattle.rpm_tool.specs.Steps.{bearer, whole, ToErr, fails, told, in_turn};
+ghost use Rattle.rpm_tool.specs.Queries.{printed};
+ghost use Rattle.rpm_tool.specs.PackageFiles.{at_entry, header_text, file_text, refused_line, absent_line, read_part, file_part, query_files};
+ghost use Rattle.rpm_tool.specs.Answers.{outputs, stop_in, why_of_files, PartIs, Anywhere, Went, is_of_words};
+
+use crate::answer::Why;
+use crate::pieces::put_line;
+use crate::query::count;
+use crate::step::{Stop, print_header};
+use itoa::Buffer;
+use rpm_file::{FileFault, Package, read_package};
+use rpm_header::{HeaderFault, View};
+use rpm_outside::{Absent, Buffered, Shelf, Sink};
+use rpm_qfparse::Format;
+use rpm_words::{Ask, Words};
+use std::alloc::{AllocError, Global};
+
+/// Adds what is told of an entry.
+fn push_entry(text: &mut Vec<u8>, entry: u32, what: &[u8]) -> Result<(), AllocError>
+    ensures { IfOk result (λ done. text.new.items ≡ text.old.items ++ at_entry entry what.now) }
+{
+    let mut digits = Buffer::new();
+    text.extend_from_slice(b"entry ")?;
+    text.extend_from_slice(digits.format(entry).as_bytes())?;
+    text.extend_from_slice(b": ")?;
+    text.extend_from_slice(what)
+}
+
+/// Adds what is told of a fault of a header.
+#[tactic(auto, unfolding(crate::specs::PackageFiles::header_text))]
+fn push_header_text(text: &mut Vec<u8>, fault: HeaderFault) -> Result<(), AllocError>
+    ensures { IfOk result (λ done. text.new.items ≡ text.old.items ++ header_text fault) }
+{
+    match fault {
+        HeaderFault::Short => text.extend_from_slice(b"header is cut short"),
+        HeaderFault::TooManyEntries => text.extend_from_slice(b"too many entries"),
+        HeaderFault::TooMuchData => text.extend_from_slice(b"too much data"),
+        HeaderFault::BadType(entry) => push_entry(text, entry, b"bad type"),
+        HeaderFault::BadOffset(entry) => push_entry(text, entry, b"bad offset"),
+        HeaderFault::BadCount(entry) => push_entry(text, entry, b"bad count"),
+        HeaderFault::NoEnd(entry) => push_entry(text, entry, b"text has no end"),
+        HeaderFault::BadRegion => text.extend_from_slice(b"bad region"),
+    }
+}
+
+/// Adds what is told of a fault of a package file.
+#[tactic(auto, unfolding(crate::specs::PackageFiles::file_text))]
+fn push_file_text(text: &mut Vec<u8>, fault: FileFault) -> Result<(), AllocError>
+    ensures { IfOk result (λ done. text.new.items ≡ text.old.items ++ file_text fault) }
+{
+    match fault {
+        FileFault::Short => text.extend_from_slice(b"file is cut short"),
+        FileFault::NotAPackage => text.extend_from_slice(b"not an rpm package"),
+        FileFault::BadMagic => text.extend_from_slice(b"bad header magic"),
+        FileFault::Signature(of) => {
+            text.extend_from_slice(b"signature header: ")?;
+            push_header_text(text, of)
+        }
+        FileFault::Main(of) => {
+            text.extend_from_slice(b"header: ")?;
+            push_header_text(text, of)
+        }
+        FileFault::TooLarge => text.extend_from_slice(b"header too large"),
+        FileFault::ReadFault | FileFault::NoMemory => Ok(()),
+    }
+}
+
+/// The line that a package file is refused.
+fn refused_line(alloc: Global, path: &[u8], fault: FileFault) -> Result<Vec<u8>, AllocError>
+    ensures { IfOk result (λ line. line.items ≡ refused_line path.now fault) }
+{
+    let mut line = Vec::new(alloc);
+    line.extend_from_slice(b"error: ")?;
+    line.extend_from_slice(path)?;
+    line.extend_from_slice(b": ")?;
+    push_file_text(&mut line, fault)?;
+    line.extend_from_slice(b"\n")?;
+    Ok(line)
+}
+
+/// Writes pieces of a line to err, for which the argument fails.
+fn put_failing<E: Sink + Drop>(err: &mut Buffered<E>, pieces: &[&[u8]]) -> Result<bool, Stop>
+    requires err_empty { holds err.old ≡ [] }
+    ensures part { (j : ℕ) (out_tells : Bool) (out : List ℕ)
+        → PartIs (fails (ToErr (whole j) (concat (map (λ piece. piece.now) pieces.now)))) result
+        (outputs out_tells out E.tells (E.taken (inner err.old))) (outputs out_tells out E.tells (E.taken (inner err.new))) Anywhere }
+    ensures no_read { result ≢ Err Stop.ReadFault }
+    ensures no_out { result ≢ Err Stop.OutFault }
+    ensures err { HasCauseAt (result ≡ Err Stop.ErrFault) (E.faults (inner err.old)) (E.faults (inner err.new)) }
+    ensures err_rest { HandsOn E.follows err.old err.new }
+{
+    match put_line(err, pieces) {
+        Ok(()) => Ok(true),
+        Err(_) => Err(Stop::ErrFault),
+    }
+}
+
+/// Writes to err that a package file is refused; then the argument fails.
+fn put_refused<E: Sink + Drop>(
+    alloc: Global,
+    err: &mut Buffered<E>,
+    path: &[u8],
+    fault: FileFault,
+) -> Result<bool, Stop>
+    requires err_empty { holds err.old ≡ [] }
+    ensures part { (j : ℕ) (out_tells : Bool) (out : List ℕ) → PartIs (fails (ToErr (whole j) (refused_line path.now fault))) result
+        (outputs out_tells out E.tells (E.taken (inner err.old))) (outputs out_tells out E.tells (E.taken (inner err.new))) Anywhere }
+    ensures no_read { result ≢ Err Stop.ReadFault }
+    ensures no_out { result ≢ Err Stop.OutFault }
+    ensures err { HasCauseAt (result ≡ Err Stop.ErrFault) (E.faults (inner err.old)) (E.faults (inner err.new)) }
+    ensures err_rest { HandsOn E.follows err.old err.new }
+{
+    match refused_line(alloc, path, fault) {
+        Ok(line) => put_failing(err, &[line.as_slice()]),
+        Err(_) => Err(Stop::NoMemory),
+    }
+}
+
+/// Writes to err that a path can't be opened; then the argument fails.
+fn put_absent<E: Sink + Drop>(err: &mut Buffered<E>, path: &[u8]) -> Result<bool, Stop>
+    requires err_empty { holds err.old ≡ [] }
+    ensures part { (j : ℕ) (out_tells : Bool) (out : List ℕ) → PartIs (fails (ToErr (whole j) (absent_line path.now))) result
+        (outputs out_tells out E.tells (E.taken (inner err.old))) (outputs out_tells out E.tells (E.taken (inner err.new))) Anywhere }
+    ensures no_read { result ≢ Err Stop.ReadFault }
+    ensures no_out { result ≢ Err Stop.OutFault }
+    ensures err { HasCauseAt (result ≡ Err Stop.ErrFault) (E.faults (inner err.old)) (E.faults (inner err.new)) }
+    ensures err_rest { HandsOn E.follows err.old err.new }
+{
+    put_failing(err, &[b"error: open of ", path, b" failed\n"])
+}
+
+/// Prints the header of a package file. Says whether the argument fails.
+fn print_package<O: Sink + Drop, E: Sink + Drop>(
+    format: &Format,
+    found: &Package,
+    out: &mut Buffered<O>,
+    err: &mut Buffered<E>,
+) -> Result<bool, Stop>
+    requires out_empty { holds out.old ≡ [] }
+    requires err_empty { holds err.old ≡ [] }
+    ensures part { (j : ℕ) → PartIs (told (printed (bearer j 0) (meaning found.now 0 format.now) ∷ [])) result
+        (outputs O.tells (O.taken (inner out.old)) E.tells (E.taken (inner err.old))) (outputs O.tells (O.taken (inner out.new)) E.tells
+        (E.taken (inner err.new))) Anywhere }
+    ensures no_read { result ≢ Err Stop.ReadFault }
+    ensures out { HasCauseAt (result ≡ Err Stop.OutFault) (O.faults (inner out.old)) (O.faults (inner out.new)) }
+    ensures err { HasCauseAt (result ≡ Err Stop.ErrFault) (E.faults (inner err.old)) (E.faults (inner err.new)) }
+    ensures out_rest { HandsOn O.follows out.old out.new }
+    ensures err_rest { HandsOn E.follows err.old err.new }
+{
+    let view = View::of_checked(found.header());
+    match print_header(format, &view, 0, out, err) {
+        Ok(to_out) => Ok(!to_out),
+        Err(stop) => Err(stop),
+    }
+}
+
+/// What stops a command where a package file isn't read; None where the file itself is refused.
+fn stop_in(fault: FileFault) -> Option<Stop>
+    ensures { result ≡ stop_in fault }
+{
+    match fault {
+        FileFault::ReadFault => Some(Stop::ReadFault),
+        FileFault::NoMemory => Some(Stop::NoMemory),
+        _ => None,
+    }
+}
+
+/// Reads the package file that is open and prints it, or the line that it is refused. Says whether the argument fails.
+fn print_opened<S: Shelf, O: Sink + Drop, E: Sink + Drop>(
+    alloc: Global,
+    shelf: &mut S,
+    path: &[u8],
+    format: &Format,
+    out: &mut Buffered<O>,
+    err: &mut Buffered<E>,
+) -> Result<bool, Stop>
+    requires out_empty { holds out.old ≡ [] }
+    requires err_empty { holds err.old ≡ [] }
+    ensures went { IsTrue S.tells → (j : ℕ) → PartIs (read_part format.now j path.now (package_header (left (S.rest shelf.old)))) result
+        (outputs O.tells (O.taken (inner out.old)) E.tells (E.taken (inner err.old))) (outputs O.tells (O.taken (inner out.new)) E.tells
+        (E.taken (inner err.new))) Anywhere }
+    ensures paths { IsTrue S.tells → S.paths shelf.new ≡ S.paths shelf.old }
+    ensures shelf { HasCauseAt (result ≡ Err Stop.ReadFault) (S.faults shelf.old) (S.faults shelf.new) }
+    ensures out { HasCauseAt (result ≡ Err Stop.OutFault) (O.faults (inner out.old)) (O.faults (inner out.new)) }
+    ensures err { HasCauseAt (result ≡ Err Stop.ErrFault) (E.faults (inner err.old)) (E.faults (inner err.new)) }
+    ensures out_rest { HandsOn O.follows out.old out.new }
+    ensures err_rest { HandsOn E.follows err.old err.new }
+{
+    match read_package(alloc, shelf) {
+        Ok(found) => print_package(format, &found, out, err),
+        Err(fault) => match stop_in(fault) {
+            Some(stop) => Err(stop),
+            None => put_refused(alloc, err, path, fault),
+        },
+    }
+}
+
+/// Prints the package file under a path, or its line. Says whether the argument fails.
+fn print_file<S: Shelf, O: Sink + Drop, E: Sink + Drop>(
+    alloc: Global,
+    shelf: &mut S,
+    path: &str,
+    format: &Format,
+    out: &mut Buffered<O>,
+    err: &mut Buffered<E>,
+) -> Result<bool, Stop>
+    requires out_empty { holds out.old ≡ [] }
+    requires err_empty { holds err.old ≡ [] }
+    ensures went { IsTrue S.tells → (j : ℕ) → PartIs (file_part format.now (S.paths shelf.old) j path.now) result
+        (outputs O.tells (O.taken (inner out.old)) E.tells (E.taken (inner err.old))) (outputs O.tells (O.taken (inner out.new)) E.tells
+        (E.taken (inner err.new))) Anywhere }
+    ensures paths { IsTrue S.tells → S.paths shelf.new ≡ S.paths shelf.old }
+    ensures shelf { HasCauseAt (result ≡ Err Stop.ReadFault) (S.faults shelf.old) (S.faults shelf.new) }
+    ensures out { HasCauseAt (result ≡ Err Stop.OutFault) (O.faults (inner out.old)) (O.faults (inner out.new)) }
+    ensures err { HasCauseAt (result ≡ Err Stop.ErrFault) (E.faults (inner err.old)) (E.faults (inner err.new)) }
+    ensures out_rest { HandsOn O.follows out.old out.new }
+    ensures err_rest { HandsOn E.follows err.old err.new }
+{
+    match shelf.open(path) {
+        Ok(()) => print_opened(alloc, shelf, path.as_bytes(), format, out, err),
+        Err(Absent) => put_absent(err, path.as_bytes()),
+    }
+}
+
+/// The ending of a query of files that was stopped.
+fn why_of_files(stop: Stop) -> Why
+    ensures { result ≡ why_of_files stop }
+{
+    match stop {
+        Stop::ReadFault => Why::ShelfFault,
+        Stop::OutFault => Why::OutFault,
+        Stop::ErrFault => Why::ErrFault,
+        Stop::NoMemory => Why::NoMemory,
+    }
+}
+
+/// Prints each package file, or its line, one after the other.
+pub fn print_files<S: Shelf, O: Sink + Drop, E: Sink + Drop>(
+    alloc: Global,
+    shelf: &mut S,
+    words: &Words,
+    ask: &Ask,
+    format: &Format,
+    out: &mut Buffered<O>,
+    err: &mut Buffered<E>,
+) -> Why
+    requires out_empty { holds out.old ≡ [] }
+    requires err_empty { holds err.old ≡ [] }
+    ensures went { IsTrue S.tells → Went (query_files format.now (S.paths shelf.old) words.now ask.now) result
+        (outputs O.tells (O.taken (inner out.old)) E.tells (E.taken (inner err.old))) (outputs O.tells (O.taken (inner out.new)) E.tells
+        (E.taken (inner err.new))) Anywhere }
+    ensures done { is_of_words result ≡ false }
+    ensures no_disk { result ≢ Why.DiskFault }
+    ensures shelf { HasCauseAt (result ≡ Why.ShelfFault) (S.faults shelf.old) (S.faults shelf.new) }
+    ensures out { HasCauseAt (result ≡ Why.OutFault) (O.faults (inner out.old)) (O.faults (inner out.new)) }
+    ensures err { HasCauseAt (result ≡ Why.ErrFault) (E.faults (inner err.old)) (E.faults (inner err.new)) }
+    ensures out_rest { HandsOn O.follows out.old out.new }
+    ensures err_rest { HandsOn E.follows err.old err.new }
+{
+    let mut failed = 0u32;
+    for k in 0..ask.arguments() {
+        let path = words.text_at(ask.argument(k));
+        match print_file(alloc, shelf, path, format, out, err) {
+            Ok(fails) => failed = count(failed, fails),
+            Err(stop) => return why_of_files(stop),
+        }
+    }
+    if failed == 0 {
+        Why::Done
+    } else {
+        Why::Failed(failed)
+    }
+}

@@ -1,0 +1,94 @@
+//! Queries of package files.
+
+use super::small;
+use crate::{Why, run};
+use rpm_header::MAGIC;
+use rpm_outside::{MemDisk, MemShelf, MemSink};
+use rpm_words::Words;
+use std::alloc::{AllocError, Global};
+use std::test::Fail;
+
+// A package file without a payload. Its signature header has the size of the package, 88.
+fn package(alloc: Global) -> Result<Vec<u8>, AllocError> {
+    let mut file = Vec::new(alloc);
+    file.extend_from_slice(&[0xed, 0xab, 0xee, 0xdb, 3, 0, 0, 0, 0, 1])?;
+    file.extend_from_slice(b"a-1-2")?;
+    file.extend_from_slice(&[0; 61])?;
+    file.extend_from_slice(&[0, 1, 0, 5])?;
+    file.extend_from_slice(&[0; 16])?;
+    file.extend_from_slice(&MAGIC)?;
+    file.extend_from_slice(&[0, 0, 0, 1, 0, 0, 0, 4, 0, 0, 3, 0xe8, 0, 0, 0, 4])?;
+    file.extend_from_slice(&[0, 0, 0, 0, 0, 0, 0, 1, 0, 0, 0, 0x58, 0, 0, 0, 0])?;
+    file.extend_from_slice(&MAGIC)?;
+    file.extend_from_slice(&small(alloc, b"a\0")?)?;
+    Ok(file)
+}
+
+// How a query of package files ends: why, and the bytes on out and err.
+type End<'a> = (Why, &'a str, &'a str);
+
+// Whether it ends so, with a shelf that has a file under this path and under `-`, and fails at a read (0: at none). The disk fails.
+fn ends(
+    alloc: Global,
+    arguments: &[&str],
+    file: &[u8],
+    read: u64,
+    end: End<'_>,
+) -> Result<bool, AllocError> {
+    let mut line = Words::new(alloc);
+    line.push("rpm")?;
+    line.push("-qp")?;
+    line.push("--qf=%{NVRA} %{SIGSIZE} %{DBINSTANCE}\\n")?;
+    for word in arguments {
+        if line.len() < u32::MAX {
+            line.push(word)?;
+        }
+    }
+    let mut disk = MemDisk::new(alloc, &[0x51; 16], &[], &[])?;
+    disk.fail_call(1)?;
+    let mut shelf = MemShelf::new(alloc);
+    shelf.put("p1.rpm", file)?;
+    shelf.put("-", file)?;
+    shelf.put("text", &[0; 96])?;
+    shelf.fail_read(read);
+    let mut out = MemSink::new(alloc);
+    let mut err = MemSink::new(alloc);
+    let (outcome, disk) = run(alloc, &line, disk, &mut shelf, &mut out, &mut err, 0);
+    Ok(
+        outcome.why == end.0
+            && disk.faults() == 0
+            && out.bytes() == end.1.as_bytes()
+            && err.bytes() == end.2.as_bytes(),
+    )
+}
+
+#[test]
+fn package_files_are_printed_or_told(rt: HostRuntime) -> Result<(), Fail> {
+    let alloc = rt.alloc();
+    let file = package(alloc)?;
+    assert!(rt; file.len() == 224);
+    let whole = file.as_slice();
+    let short = &whole[..223];
+    let line = "a-1-2.x 88 0\n";
+    let cut = "error: p1.rpm: file is cut short\n";
+    let absent = "error: open of x failed\n";
+    let foreign = "error: text: not an rpm package\n";
+    let unread = "rpm: input could not be read\n";
+    let cases: [(&[&str], &[u8], u64, End<'_>); 6] = [
+        (&["p1.rpm"], whole, 0, (Why::Done, line, "")),
+        (&["p1.rpm"], short, 0, (Why::Failed(1), "", cut)),
+        (&["x"], whole, 0, (Why::Failed(1), "", absent)),
+        (
+            &["text", "p1.rpm"],
+            whole,
+            0,
+            (Why::Failed(1), line, foreign),
+        ),
+        (&["--after", "9", "-"], whole, 0, (Why::Done, line, "")),
+        (&["-", "p1.rpm"], whole, 1, (Why::ShelfFault, "", unread)),
+    ];
+    for (arguments, bytes, read, end) in cases {
+        assert!(rt; ends(alloc, arguments, bytes, read, end)?, "{arguments:?}");
+    }
+    Ok(())
+}

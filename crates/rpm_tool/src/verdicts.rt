@@ -1,0 +1,178 @@
+//! What verifying says of all packages.
+
+ghost use Rattle.std.specs.Prelude.{◌≡◌, ◌≢◌, ◌+◌, ◌*◌, ◌≤◌, ℕ, Bool, List, [], map, true, false, IsTrue, Some, Err};
+ghost use Rattle.std.specs.FinMap.{entries};
+ghost use Rattle.rpm_outside.specs.Buffered.{inner, holds, HandsOn};
+ghost use Rattle.rpm_outside.specs.Causes.{HasCauseAt};
+ghost use Rattle.rpm_outside.specs.Sinks.{Writes};
+ghost use Rattle.rpm_outside.specs.declared.disk.File.TheVariants.{Pkg};
+ghost use Rattle.rpm_outside.specs.Looks.{Looks};
+ghost use Rattle.rpm_db.specs.State.{packages};
+ghost use Rattle.rpm_db.specs.Database as database;
+ghost use Rattle.rpm_db.specs.Database.{Keeps, cost, cost_all};
+ghost use Rattle.rpm_db.specs.Verdicts.{verdict};
+ghost use Rattle.rpm_tool.specs.Steps.{bearer, together};
+ghost use Rattle.rpm_tool.specs.Reports.{verdict_line, unsound, verdict_part, entry_verdict, verify};
+ghost use Rattle.rpm_tool.specs.Answers.{outputs, PartIs, Went, is_foreign, reach_all};
+
+use crate::answer::Why;
+use crate::picked::either;
+use crate::pieces::put_line;
+use crate::query::why_of;
+use crate::step::Stop;
+use itoa::Buffer;
+use rpm_db::{Db, GetFault, Verdict};
+use rpm_outside::{Buffered, Disk, Failed, File, Sink};
+use std::alloc::Global;
+
+/// Writes the line of a package that isn't sound.
+#[tactic(auto, unfolding(crate::specs::Reports::verdict_line))]
+fn put_verdict<O: Sink + Drop>(
+    out: &mut Buffered<O>,
+    number: u32,
+    text: &[u8],
+) -> Result<(), Failed>
+    requires { holds out.old ≡ [] }
+    ensures writes { Writes O.tells O.taken O.faults O.follows (inner out.old) (inner out.new) (verdict_line number text.now) result }
+    ensures empty { holds out.new ≡ [] }
+{
+    let mut digits = Buffer::new();
+    let number = digits.format(number).as_bytes();
+    put_line(out, &[b"package ", number, b": ", text, b"\n"])
+}
+
+/// Writes that line; then the argument fails.
+fn put_unsound<O: Sink + Drop>(
+    out: &mut Buffered<O>,
+    number: u32,
+    text: &[u8],
+) -> Result<bool, Stop>
+    requires out_empty { holds out.old ≡ [] }
+    ensures part { (err_tells : Bool) (err : List ℕ) → PartIs (unsound number text.now) result (outputs O.tells (O.taken (inner out.old)) err_tells err)
+        (outputs O.tells (O.taken (inner out.new)) err_tells err) (λ for. for ≡ bearer 0 number) }
+    ensures no_read { result ≢ Err Stop.ReadFault }
+    ensures no_err { result ≢ Err Stop.ErrFault }
+    ensures out { HasCauseAt (result ≡ Err Stop.OutFault) (O.faults (inner out.old)) (O.faults (inner out.new)) }
+    ensures out_rest { HandsOn O.follows out.old out.new }
+{
+    match put_verdict(out, number, text) {
+        Ok(()) => Ok(true),
+        Err(_) => Err(Stop::OutFault),
+    }
+}
+
+/// Tells a verdict, where the package isn't sound. Says whether the argument fails for it.
+fn tell_verdict<O: Sink + Drop>(
+    out: &mut Buffered<O>,
+    number: u32,
+    said: Verdict,
+) -> Result<bool, Stop>
+    requires out_empty { holds out.old ≡ [] }
+    ensures part { (err_tells : Bool) (err : List ℕ) → PartIs (verdict_part number (Some said)) result
+        (outputs O.tells (O.taken (inner out.old)) err_tells err) (outputs O.tells (O.taken (inner out.new)) err_tells err) (λ for. for ≡ bearer 0 number) }
+    ensures no_read { result ≢ Err Stop.ReadFault }
+    ensures no_err { result ≢ Err Stop.ErrFault }
+    ensures out { HasCauseAt (result ≡ Err Stop.OutFault) (O.faults (inner out.old)) (O.faults (inner out.new)) }
+    ensures out_rest { HandsOn O.follows out.old out.new }
+{
+    match said {
+        Verdict::Sound => Ok(false),
+        Verdict::BadHeader => put_unsound(out, number, b"header cannot be read"),
+        Verdict::BadChecksum => put_unsound(out, number, b"checksum differs"),
+        Verdict::BadDigest => put_unsound(out, number, b"header digest differs"),
+    }
+}
+
+/// Verifies a package that is there, and tells its verdict where it isn't sound. Says whether the argument fails for it.
+fn verify_one<D: Disk, O: Sink + Drop>(
+    alloc: Global,
+    db: &Db,
+    disk: &mut D,
+    number: u32,
+    out: &mut Buffered<O>,
+) -> Result<bool, Stop>
+    requires out_empty { holds out.old ≡ [] }
+    requires keeps { IsTrue D.tells → Keeps (D.files disk.old).pkg db.now }
+    requires runs { db.now.stopped ≡ false }
+    requires there { database.holds number db.now ≡ true }
+    ensures kept { IsTrue D.tells → Keeps (D.files disk.new).pkg db.now }
+    ensures went { IsTrue D.tells → (err_tells : Bool) (err : List ℕ) → PartIs (verdict_part number (verdict (D.files disk.old).pkg db.now number)) result
+        (outputs O.tells (O.taken (inner out.old)) err_tells err) (outputs O.tells (O.taken (inner out.new)) err_tells err) (λ for. for ≡ bearer 0 number) }
+    ensures looks { Looks D.tells D.files D.left_since D.moment D.bytes_read D.follows Pkg (2 * cost number db.now) disk.old disk.new }
+    ensures no_err { result ≢ Err Stop.ErrFault }
+    ensures disk { HasCauseAt (result ≡ Err Stop.ReadFault) (D.faults disk.old) (D.faults disk.new) }
+    ensures out { HasCauseAt (result ≡ Err Stop.OutFault) (O.faults (inner out.old)) (O.faults (inner out.new)) }
+    ensures out_rest { HandsOn O.follows out.old out.new }
+{
+    match db.verify(alloc, disk, number) {
+        Ok(said) => tell_verdict(out, number, said),
+        Err(GetFault::NoSuch) => unreachable!(),
+        // It doesn't come.
+        Err(GetFault::Bad) => tell_verdict(out, number, Verdict::BadHeader),
+        Err(GetFault::DiskFault) => Err(Stop::ReadFault),
+        Err(GetFault::NoMemory) => Err(Stop::NoMemory),
+    }
+}
+
+/// Verifies all packages, by rising number. Says whether one isn't sound.
+fn verify_all<D: Disk, O: Sink + Drop>(
+    alloc: Global,
+    db: &Db,
+    disk: &mut D,
+    out: &mut Buffered<O>,
+) -> Result<bool, Stop>
+    requires out_empty { holds out.old ≡ [] }
+    requires keeps { IsTrue D.tells → Keeps (D.files disk.old).pkg db.now }
+    requires runs { db.now.stopped ≡ false }
+    requires from_one { database.holds 0 db.now ≡ false }
+    ensures went { IsTrue D.tells → (err_tells : Bool) (err : List ℕ) → PartIs
+        (together (map (entry_verdict (D.files disk.old).pkg db.now.store) (entries (packages (D.files disk.old).pkg db.now.store)))) result
+        (outputs O.tells (O.taken (inner out.old)) err_tells err) (outputs O.tells (O.taken (inner out.new)) err_tells err)
+        (λ for. D.bytes_read disk.new File.Pkg ≤ D.bytes_read disk.old File.Pkg + 2 * reach_all db.now.store for) }
+    ensures looks { Looks D.tells D.files D.left_since D.moment D.bytes_read D.follows Pkg (2 * cost_all db.now) disk.old disk.new }
+    ensures no_err { result ≢ Err Stop.ErrFault }
+    ensures disk { HasCauseAt (result ≡ Err Stop.ReadFault) (D.faults disk.old) (D.faults disk.new) }
+    ensures out { HasCauseAt (result ≡ Err Stop.OutFault) (O.faults (inner out.old)) (O.faults (inner out.new)) }
+    ensures out_rest { HandsOn O.follows out.old out.new }
+{
+    let mut number = 0;
+    let mut fails = false;
+    while let Some(next) = db.next_above(number) {
+        match verify_one(alloc, db, disk, next, out) {
+            Ok(unsound) => {
+                number = next;
+                fails = either(fails, unsound);
+            }
+            Err(stop) => return Err(stop),
+        }
+    }
+    Ok(fails)
+}
+
+/// Tells the verdict of each package that isn't sound.
+pub fn report<D: Disk, O: Sink + Drop>(
+    alloc: Global,
+    db: &Db,
+    disk: &mut D,
+    out: &mut Buffered<O>,
+) -> Why
+    requires out_empty { holds out.old ≡ [] }
+    requires keeps { IsTrue D.tells → Keeps (D.files disk.old).pkg db.now }
+    requires runs { db.now.stopped ≡ false }
+    requires from_one { database.holds 0 db.now ≡ false }
+    ensures went { IsTrue D.tells → (err_tells : Bool) (err : List ℕ) → Went (verify (D.files disk.old).pkg db.now.store) result
+        (outputs O.tells (O.taken (inner out.old)) err_tells err) (outputs O.tells (O.taken (inner out.new)) err_tells err)
+        (λ for. D.bytes_read disk.new File.Pkg ≤ D.bytes_read disk.old File.Pkg + 2 * reach_all db.now.store for) }
+    ensures done { is_foreign result ≡ false }
+    ensures looks { Looks D.tells D.files D.left_since D.moment D.bytes_read D.follows Pkg (2 * cost_all db.now) disk.old disk.new }
+    ensures no_err { result ≢ Why.ErrFault }
+    ensures disk { HasCauseAt (result ≡ Why.DiskFault) (D.faults disk.old) (D.faults disk.new) }
+    ensures out { HasCauseAt (result ≡ Why.OutFault) (O.faults (inner out.old)) (O.faults (inner out.new)) }
+    ensures out_rest { HandsOn O.follows out.old out.new }
+{
+    match verify_all(alloc, db, disk, out) {
+        Ok(true) => Why::Failed(1),
+        Ok(false) => Why::Done,
+        Err(stop) => why_of(stop),
+    }
+}
