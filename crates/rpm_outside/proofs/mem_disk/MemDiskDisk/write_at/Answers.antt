@@ -27,8 +27,9 @@ returns-in_default-clause-images c = λ told. (nothing_left (held_files c.args.s
     c.in_default.ensures.files c.in_default.ensures.steps).images
 
 -- where the call was named
-copied : (disk : MemDisk) (new : Copies) (steps : List Step) (now : Files) (file : File) (unit : ℕ) (bytes : List ℕ) (half : Bool) → Loosens disk.copies new file
-    → WroteAny (held_files disk.held) now disk.steps.items steps file unit (part_of half (units_of bytes)) → HoldCopies new steps (held_files disk.first) now
+copied : (disk : MemDisk) (new : Copies) (steps : List Step) (now : Files) (file : File) (unit : ℕ) (bytes : List ℕ) (half : Bool)
+    → Loosens disk.copies new file → WroteAny (held_files disk.held) now disk.steps.items steps file unit (part_of half (units_of bytes))
+    → HoldCopies new steps (held_files disk.first) now
 copied disk new steps now file unit bytes half loosens any = any_held disk.copies new disk.steps.items (held_files disk.first) (held_files disk.held)
     disk.copied steps now file unit (part_of half (units_of bytes)) loosens any
 
