@@ -104,6 +104,18 @@ impl<'a> Entry<'a> {
         }
     }
 
+    /// The first so many texts in order. Going through them reads each byte of them once.
+    pub fn first_texts(&self, first: u32) -> EntryTexts<'a>
+        requires texts { IsTrue (has_texts self.now.form) }
+        requires within { first ≤ self.now.count }
+        ensures { result ≡ take first (texts_of self.now.values) }
+    {
+        EntryTexts {
+            left: first,
+            bytes: self.bytes,
+        }
+    }
+
     /// The first so many texts by place, to be read in any order. Reads their bytes twice at most,
     /// and keeps in the room what it learns of where they stand.
     pub fn places<'p>(&self, first: u32, room: &'p mut PlacesRoom) -> TextPlaces<'p, 'a>
