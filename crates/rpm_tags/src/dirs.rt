@@ -1,6 +1,6 @@
 //! The directories of files, which many files share.
 
-ghost use Rattle.std.specs.Prelude.{◌≡◌, ℕ, ◌+◌, ◌≤◌, ◌<◌, length, drop, Some, slice_get};
+ghost use Rattle.std.specs.Prelude.{◌≡◌, ℕ, ◌+◌, ◌≤◌, ◌<◌, IsTrue, length, drop, Some, slice_get};
 ghost use Rattle.rpm_header.specs.Header.{max_data};
 
 use crate::stored::{Numbers, TextIter, Texts};
@@ -27,7 +27,9 @@ fn nth_text<'a>(texts: &mut TextIter<'a>, n: u32) -> &'a [u8]
 
 /// Whether files ask more than 16 times for a directory that was passed and isn't kept. Reads each
 /// index once.
-pub fn go_back(indexes: &Numbers<'_>) -> bool {
+pub fn go_back(indexes: &Numbers<'_>) -> bool
+    ensures { IsTrue result → 16 < length indexes.now }
+{
     let mut recent = [0; 16];
     let mut passed = 0;
     let mut missed: u32 = 0;

@@ -1,6 +1,6 @@
 //! The paths of a package's files.
 
-ghost use Rattle.std.specs.Prelude.{◌≡◌, ℕ, ◌<◌, ◌≤◌, length, Some, slice_get, nat_lt, false, MatchOption};
+ghost use Rattle.std.specs.Prelude.{◌≡◌, ℕ, ◌<◌, ◌≤◌, IsTrue, length, Some, slice_get, nat_lt, false, MatchOption};
 ghost use Rattle.std.specs.Iterator.{YieldsFirstBy, item_count};
 ghost use Rattle.std.specs.List.{concat, list_all};
 ghost use Rattle.rpm_tags.specs.Value.{filenames, are_matched, file_name, texts_in, numbers_in};
@@ -64,7 +64,9 @@ impl<'a> Files<'a> {
     }
 
     /// Whether all paths in order need room for the places of directories.
-    pub fn need_room(&self) -> bool {
+    pub fn need_room(&self) -> bool
+        ensures { IsTrue result → 16 < length self.now }
+    {
         go_back(&self.indexes)
     }
 

@@ -135,7 +135,6 @@ impl<'a> Texts<'a> {
         requires within { count ≤ length self }
         ensures { result ≡ take count self.entry }
     {
-        let _ = self.entry.count();
         Texts {
             entry: self.entry,
             count,
@@ -158,8 +157,7 @@ impl<'a> Texts<'a> {
     {
         let _ = self.entry.count();
         TextIter {
-            texts: self.entry.texts(),
-            left: self.count,
+            texts: self.entry.first_texts(self.count),
         }
     }
 }
@@ -168,17 +166,14 @@ impl<'a> Texts<'a> {
 #[derive(Drop)]
 pub struct TextIter<'a> {
     texts: EntryTexts<'a>,
-    left: u32,
 }
 
 impl<'a> Model for TextIter<'a> {
-    ghost use Rattle.std.specs.Prelude.{List, ℕ, ◌≤◌, take, length, All};
+    ghost use Rattle.std.specs.Prelude.{List, ℕ};
 
     ghost Value = { List (List ℕ) };
 
-    ghost view = { λ s. take s.left s.texts };
-
-    ghost invariant = { λ s. s.left ≤ length s.texts };
+    ghost view = { λ s. s.texts };
 }
 
 impl<'a> Iterator for TextIter<'a> {
@@ -189,10 +184,6 @@ impl<'a> Iterator for TextIter<'a> {
     ghost remaining = { item_count (λ s. s) };
 
     fn next(&mut self) -> Option<&'a [u8]> {
-        if self.left == 0 {
-            return None;
-        }
-        self.left -= 1;
         self.texts.next()
     }
 }

@@ -1,6 +1,6 @@
 //! The value of a tag in a header.
 
-ghost use Rattle.std.specs.Prelude.{◌≡◌, ℕ, ◌<◌, ◌∷◌, [], Some, slice_get};
+ghost use Rattle.std.specs.Prelude.{◌≡◌, ℕ, ◌<◌, ◌∷◌, [], IsTrue, Some, slice_get};
 ghost use Rattle.std.specs.List.{concat};
 ghost use Rattle.rpm_tags.specs.Value.{value, class_of, count_of, number_list, text_list, blob_of, as_text, stored, if_some_texts, NumberList};
 
@@ -105,7 +105,10 @@ impl<'a> TagValue<'a> {
 
     /// Whether `texts` needs room: it is FILENAMES, and its files ask more than 16 times for
     /// directories that were passed and aren't kept. Reads each index of a directory once.
-    pub fn needs_room(&self) -> bool {
+    pub fn needs_room(&self) -> bool
+        ensures texts { IsTrue result → class_of self.now ≡ Class.Text }
+        ensures many { IsTrue result → 16 < count_of self.now }
+    {
         match &self.source {
             Source::Files(files) => files.need_room(),
             _ => false,

@@ -1,5 +1,8 @@
-use Rattle.std.proofs.Common.{◌≡◌, length}
+use Rattle.std.proofs.Common.{◌≡◌, ◌≤◌, length}
 use Rattle.rpm_tags.proofs.dirs.go_back.Given as goal
 
 abbrev pub invariant-loop-i : goal.invariant-loop-i
-invariant-loop-i l = length l.recent ≡ 16
+invariant-loop-i l = record {
+  kept : length l.recent ≡ 16;
+  fewer : l.missed ≤ l.i;
+}
