@@ -14,6 +14,12 @@ use rpm_header::MAGIC;
 use rpm_outside::{Failed, Shelf};
 use std::alloc::Global;
 
+/// The most entries that a header has.
+const MAX_ENTRIES: u32 = 65_535;
+
+/// The most bytes of data that a header has.
+const MAX_DATA: u32 = 67_108_864;
+
 /// The length of a header without its magic, as the 16 bytes say it with which it begins.
 ///
 /// # Errors
@@ -30,11 +36,11 @@ fn size_in(intro: &[u8]) -> Result<usize, ListFault>
         return Err(ListFault::BadMagic);
     }
     let entries = u32_at(intro, 8);
-    if entries > 65_535 {
+    if entries > MAX_ENTRIES {
         return Err(ListFault::TooManyEntries);
     }
     let data = u32_at(intro, 12);
-    if data > 67_108_864 {
+    if data > MAX_DATA {
         return Err(ListFault::TooMuchData);
     }
     Ok(8 + 16 * entries as usize + data as usize)
