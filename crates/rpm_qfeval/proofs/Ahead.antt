@@ -7,7 +7,7 @@ use Rattle.rpm_tags.specs.Value.{Elements, text_list}
 use Rattle.rpm_qfeval.specs.Reached.{IsAt}
 use Rattle.rpm_qfeval.proofs.Steps.{begins_with}
 
-get_none : {X : Type 0} (xs : List X) (i : ℕ) → drop i xs ≡ [] → slice_get xs i ≡ None
+pub get_none : {X : Type 0} (xs : List X) (i : ℕ) → drop i xs ≡ [] → slice_get xs i ≡ None
 get_none [] i e = refl
 get_none (x ∷ xs) zero e = absurd cc
 get_none (x ∷ xs) (suc i) e = get_none xs i e

@@ -5,6 +5,7 @@ mod Fixtures
 pub mod Walked
 pub mod ProperParts
 pub mod StoredTexts
+pub mod Plain
 pub mod Moments
 pub mod Calendar
 pub mod DateLaw

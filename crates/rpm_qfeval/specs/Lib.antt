@@ -8,4 +8,5 @@ pub mod Pieces
 pub mod Printed
 pub mod Proper
 pub mod Reached
+pub mod Ready
 pub mod Texts

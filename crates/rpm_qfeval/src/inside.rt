@@ -1,13 +1,15 @@
 //! A bracket is put over the columns of its tags, round by round.
 
-ghost use Rattle.std.specs.Prelude.{◌≡◌, ◌∷◌, [], true};
+ghost use Rattle.std.specs.Prelude.{◌≡◌, ℕ, ◌∷◌, [], List, true, Some, slice_get};
 ghost use Rattle.rpm_qfeval.specs.Columns.{AreTold};
 ghost use Rattle.rpm_outside.specs.Sinks.{Writes};
 ghost use Rattle.rpm_qfeval.specs.Meaning.{bytes, part_bytes, rounds, counts};
 ghost use Rattle.rpm_qfeval.specs.Proper.{AreProper, PartIsProper};
+ghost use Rattle.rpm_qfeval.specs.Ready.{AreReady, IsPlain};
 
 use crate::columns::Column;
 use crate::lookup::{is_present, put_tag};
+use crate::ready::PlainTexts;
 use crate::sizes::count_rounds;
 use rpm_header::View;
 use rpm_outside::{Failed, Sink, put_all};
@@ -66,6 +68,61 @@ fn put_inner_parts<O: Sink>(
     Ok(())
 }
 
+/// The part of a bracket at a place, in a round: by what stands ready of it, or as any other.
+#[inline(always)]
+fn put_part_at<O: Sink>(
+    sink: &mut O,
+    part: &Part,
+    i: usize,
+    view: &View<'_>,
+    number: u32,
+    columns: &mut [Option<Column<'_, '_>>],
+    ready: &mut [Option<PlainTexts<'_>>],
+    next: &mut usize,
+    round: u32,
+) -> Result<(), Failed>
+    requires told { AreTold view.now number columns.old }
+    requires plain { (texts : List (List ℕ)) → slice_get ready.old i ≡ Some (Some texts) → IsPlain view.now number part.now texts }
+    requires proper { PartIsProper true part.now }
+    ensures puts { Writes O.tells O.taken O.faults O.follows sink.old sink.new (part_bytes view.now number round part.now) result }
+    ensures columns { columns.new ≡ columns.old }
+    ensures ready { ready.new ≡ ready.old }
+{
+    if i < ready.len() {
+        if let Some(texts) = &mut ready[i] {
+            return texts.put(sink, round);
+        }
+    }
+    put_inner_part(sink, part, view, number, columns, next, round)
+}
+
+/// The parts of a bracket in a round.
+#[inline(always)]
+#[tactic(auto, using(crate::proofs::ProperParts::part_is_proper))]
+fn put_round<O: Sink>(
+    sink: &mut O,
+    inner: &Parts,
+    view: &View<'_>,
+    number: u32,
+    columns: &mut [Option<Column<'_, '_>>],
+    ready: &mut [Option<PlainTexts<'_>>],
+    next: &mut usize,
+    round: u32,
+) -> Result<(), Failed>
+    requires told { AreTold view.now number columns.old }
+    requires ready { AreReady view.now number inner.now ready.old }
+    requires proper { AreProper true inner.now }
+    ensures puts { Writes O.tells O.taken O.faults O.follows sink.old sink.new (bytes view.now number round inner.now) result }
+    ensures columns { columns.new ≡ columns.old }
+    ensures ready { ready.new ≡ ready.old }
+{
+    for i in 0..inner.len() {
+        let part = inner.at(i);
+        put_part_at(sink, part, i, view, number, columns, ready, next, round)?;
+    }
+    Ok(())
+}
+
 /// So many rounds of a bracket.
 fn put_rounds<O: Sink>(
     sink: &mut O,
@@ -73,15 +130,17 @@ fn put_rounds<O: Sink>(
     view: &View<'_>,
     number: u32,
     columns: &mut [Option<Column<'_, '_>>],
+    ready: &mut [Option<PlainTexts<'_>>],
     count: u32,
 ) -> Result<(), Failed>
     requires told { AreTold view.now number columns.old }
+    requires ready { AreReady view.now number inner.now ready.old }
     requires proper { AreProper true inner.now }
     ensures { Writes O.tells O.taken O.faults O.follows sink.old sink.new (rounds (count ∷ []) (λ i. bytes view.now number i inner.now)) result }
 {
     let mut next = 0;
     for round in 0..count {
-        put_inner_parts(sink, inner, view, number, columns, &mut next, round)?;
+        put_round(sink, inner, view, number, columns, ready, &mut next, round)?;
     }
     Ok(())
 }
@@ -93,14 +152,16 @@ pub fn put_over<O: Sink>(
     view: &View<'_>,
     number: u32,
     columns: &mut [Option<Column<'_, '_>>],
+    ready: &mut [Option<PlainTexts<'_>>],
 ) -> Result<(), Failed>
     requires told { AreTold view.now number columns.old }
+    requires ready { AreReady view.now number inner.now ready.old }
     requires proper { AreProper true inner.now }
     ensures { Writes O.tells O.taken O.faults O.follows sink.old sink.new (rounds (counts view.now number inner.now)
         (λ i. bytes view.now number i inner.now)) result }
 {
     match count_rounds(inner, columns, view, number) {
         None => put_all(sink, b"(none)\n"),
-        Some(count) => put_rounds(sink, inner, view, number, columns, count),
+        Some(count) => put_rounds(sink, inner, view, number, columns, ready, count),
     }
 }

@@ -19,6 +19,7 @@ mod measure;
 mod modes;
 mod pieces;
 mod printing;
+mod ready;
 mod shown;
 mod sizes;
 mod stream;

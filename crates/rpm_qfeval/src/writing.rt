@@ -9,15 +9,16 @@ use crate::columns::{Asked, Column, Found, MOST, add_columns, asked_in, look_up,
 use crate::elements::put_looked_up;
 use crate::inside::put_over;
 use crate::lookup::is_present;
+use crate::ready::{PlainTexts, make_ready};
 use arrayvec::ArrayVec;
 use rpm_header::{PlacesRoom, View};
 use rpm_outside::{Failed, Sink, put_all};
 use rpm_qfparse::{Part, Parts};
 
-/// A bracket with so many columns. It is kept apart for each number, so that the memory of more
-/// columns isn't paid for.
+/// A bracket with so many columns, and room for so many parts that stand ready. It is kept apart for each
+/// number, so that the memory of more columns isn't paid for.
 #[inline(never)]
-fn put_with<O: Sink, const N: usize>(
+fn put_with<O: Sink, const N: usize, const R: usize>(
     sink: &mut O,
     inner: &Parts,
     view: &View<'_>,
@@ -25,6 +26,7 @@ fn put_with<O: Sink, const N: usize>(
     asked: &[Option<Asked>],
 ) -> Result<(), Failed>
     requires room { N ≤ 4096 }
+    requires places { R ≤ 4096 }
     requires proper { AreProper true inner.now }
     ensures { Writes O.tells O.taken O.faults O.follows sink.old sink.new (rounds (counts view.now number inner.now)
         (λ i. bytes view.now number i inner.now)) result }
@@ -33,7 +35,16 @@ fn put_with<O: Sink, const N: usize>(
     look_up(&mut found, asked, view, number);
     let mut columns: ArrayVec<Option<Column<'_, '_>>, N> = ArrayVec::new();
     add_columns(&mut columns, found.as_slice(), view, number, None);
-    put_over(sink, inner, view, number, columns.as_mut_slice())
+    let mut ready: ArrayVec<Option<PlainTexts<'_>>, R> = ArrayVec::new();
+    make_ready(&mut ready, inner, view, number);
+    put_over(
+        sink,
+        inner,
+        view,
+        number,
+        columns.as_mut_slice(),
+        ready.as_mut_slice(),
+    )
 }
 
 /// A bracket with room for the places of directories, which costs 512 KiB of zeros.
@@ -61,7 +72,16 @@ fn put_far<O: Sink>(
         number,
         Some(&mut room),
     );
-    put_over(sink, inner, view, number, columns.as_mut_slice())
+    let mut ready: ArrayVec<Option<PlainTexts<'_>>, MOST> = ArrayVec::new();
+    make_ready(&mut ready, inner, view, number);
+    put_over(
+        sink,
+        inner,
+        view,
+        number,
+        columns.as_mut_slice(),
+        ready.as_mut_slice(),
+    )
 }
 
 /// A bracket. A call pays for the memory of its columns, so there are few where few serve.
@@ -81,10 +101,10 @@ fn put_bracket<O: Sink>(
         return put_far(sink, inner, view, number, asked);
     }
     match asked.len() {
-        0..=2 => put_with::<O, 2>(sink, inner, view, number, asked),
-        3 | 4 => put_with::<O, 4>(sink, inner, view, number, asked),
-        5..=16 => put_with::<O, 16>(sink, inner, view, number, asked),
-        _ => put_with::<O, MOST>(sink, inner, view, number, asked),
+        0..=2 => put_with::<O, 2, 4>(sink, inner, view, number, asked),
+        3 | 4 => put_with::<O, 4, 8>(sink, inner, view, number, asked),
+        5..=16 => put_with::<O, 16, 32>(sink, inner, view, number, asked),
+        _ => put_with::<O, MOST, MOST>(sink, inner, view, number, asked),
     }
 }
 

@@ -5,26 +5,28 @@ use Rattle.rpm_outside.specs.inner.Upto.{upto_start, upto_more, upto_stop, upto_
 use Rattle.rpm_qfeval.proofs.inside.put_rounds.Goals as goal
 
 pub loop-round-init : goal.loop-round-init
-loop-round-init g c = (
-  refl,
-  upto_start g.met.O.Sink.follows_refl
-      (sym (round_start (λ i. bytes c.args.view.now c.args.number i c.args.inner.now) c.args.count)),
-)
+loop-round-init g c = record {
+  columns = refl;
+  ready = refl;
+  upto = upto_start g.met.O.Sink.follows_refl
+      (sym (round_start (λ i. bytes c.args.view.now c.args.number i c.args.inner.now) c.args.count));
+}
 
 pub loop-round-preserved : goal.loop-round-preserved
-loop-round-preserved g c = (
-  c.in_ok-put_inner_parts.ensures.same ∙ c.loop-round.invariant.0,
-  upto_more g.met.O.Sink.follows_trans
+loop-round-preserved g c = record {
+  columns = c.in_ok-put_round.ensures.columns ∙ c.loop-round.invariant.columns;
+  ready = c.in_ok-put_round.ensures.ready ∙ c.loop-round.invariant.ready;
+  upto = upto_more g.met.O.Sink.follows_trans
       (round_here (λ i. bytes c.args.view.now c.args.number i c.args.inner.now) c.args.count c.loop-round.round c.loop-round-test.true)
-      c.loop-round.invariant.1 c.in_ok-put_inner_parts.ensures.puts,
-)
+      c.loop-round.invariant.upto c.in_ok-put_round.ensures.puts;
+}
 
-pub returns-in_err-put_inner_parts : goal.returns-in_err-put_inner_parts
-returns-in_err-put_inner_parts g c =
+pub returns-in_err-put_round : goal.returns-in_err-put_round
+returns-in_err-put_round g c =
     upto_stop g.met.O.Sink.follows_trans _ c.from_residual.result c.from_residual.ensures.0
     (round_here (λ i. bytes c.args.view.now c.args.number i c.args.inner.now) c.args.count c.loop-round.round c.loop-round-test.true)
-    c.loop-round.invariant.1 c.in_err-put_inner_parts.ensures.puts
+    c.loop-round.invariant.upto c.in_err-put_round.ensures.puts
 
 pub returns : goal.returns
 returns g c = upto_done (round_end (λ i. bytes c.args.view.now c.args.number i c.args.inner.now) c.args.count c.loop-round.round
-    c.loop-round-test.false) c.loop-round.invariant.1
+    c.loop-round-test.false) c.loop-round.invariant.upto

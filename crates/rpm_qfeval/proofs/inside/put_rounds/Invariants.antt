@@ -5,6 +5,10 @@ use Rattle.rpm_outside.specs.inner.Upto.{Upto}
 use Rattle.rpm_qfeval.proofs.inside.put_rounds.Given as goal
 
 abbrev pub invariant-loop-round : goal.invariant-loop-round
-invariant-loop-round g l = (l.columns ≡ l.initial.columns) × Upto g.O.Sink.tells g.O.Sink.taken g.O.Sink.faults g.O.Sink.follows
-    (concat (map (λ j. bytes l.view l.number j l.inner) (range_with_len 0 l.count)))
-    (concat (map (λ j. bytes l.view l.number j l.inner) (range_with_len l.round (l.count - l.round)))) l.initial.sink l.sink
+invariant-loop-round g l = record {
+  columns : l.columns ≡ l.initial.columns;
+  ready : l.ready ≡ l.initial.ready;
+  upto : Upto g.O.Sink.tells g.O.Sink.taken g.O.Sink.faults g.O.Sink.follows
+      (concat (map (λ j. bytes l.view l.number j l.inner) (range_with_len 0 l.count)))
+      (concat (map (λ j. bytes l.view l.number j l.inner) (range_with_len l.round (l.count - l.round)))) l.initial.sink l.sink;
+}

@@ -1,0 +1,38 @@
+use Rattle.std.proofs.Common.{◌≡◌, ℕ, List, [], drop, Option, Some, None, refl, sym, ap, ◌∙◌, arith, subst}
+use Rattle.std.specs.Prelude.{slice_get}
+use Rattle.rpm_outside.specs.Sinks.{Writes}
+use Rattle.rpm_qfeval.specs.Formatters.{or_none}
+use Rattle.rpm_qfeval.proofs.Ahead.{get_none}
+use Rattle.rpm_qfeval.proofs.Steps.{begins_with}
+use Rattle.rpm_qfeval.proofs.ready.PlainTexts.put.Goals as goal
+
+pub overflow_add-self : goal.overflow_add-self
+overflow_add-self g c =
+    let b = begins_with c.self.inside.all c.self.inside.place c.in-Some.text.now c.next.new.self (sym c.self.invariant.behind ∙ c.in-Some.ensures.steps) in
+    omega (arith, b.below, c.self.invariant.whole, c.self.invariant.few)
+
+pub invariant_of-self-in-Some : goal.invariant_of-self-in-Some
+invariant_of-self-in-Some g c =
+    let b = begins_with c.self.inside.all c.self.inside.place c.in-Some.text.now c.next.new.self (sym c.self.invariant.behind ∙ c.in-Some.ensures.steps) in
+    record { whole = c.self.invariant.whole; few = c.self.invariant.few; behind = b.behind }
+
+-- the text of a round is that at the place where the reading stands
+text_here : (all self : List (List ℕ)) (place round : ℕ) (o : Option (List ℕ)) → all ≡ self → place ≡ round → slice_get all place ≡ o
+    → or_none o ≡ or_none (slice_get self round)
+text_here all self place round o e f h =
+    let same : slice_get self round ≡ slice_get all place = rw (e, f) refl in
+    ap or_none (sym h ∙ sym same)
+
+pub returns-in-None-clause-puts : goal.returns-in-None-clause-puts
+returns-in-None-clause-puts g c =
+    let none : drop c.self.inside.place c.self.inside.all ≡ [] = sym c.self.invariant.behind ∙ c.in-None.ensures.steps.0 in
+    subst (λ (x : List ℕ). Writes g.O.Sink.tells g.O.Sink.taken g.O.Sink.faults g.O.Sink.follows c.args.sink.now c.put_all.new.sink x c.put_all.result)
+    (text_here c.self.inside.all c.args.self.now c.self.inside.place c.args.round None c.self.view_is c.if-self-round.false
+    (get_none c.self.inside.all c.self.inside.place none)) c.put_all.ensures
+
+pub returns-in-Some-clause-puts : goal.returns-in-Some-clause-puts
+returns-in-Some-clause-puts g c =
+    let b = begins_with c.self.inside.all c.self.inside.place c.in-Some.text.now c.next.new.self (sym c.self.invariant.behind ∙ c.in-Some.ensures.steps) in
+    subst (λ (x : List ℕ). Writes g.O.Sink.tells g.O.Sink.taken g.O.Sink.faults g.O.Sink.follows c.args.sink.now c.put_short.new.sink x c.put_short.result)
+    (text_here c.self.inside.all c.args.self.now c.self.inside.place c.args.round (Some c.in-Some.text.now) c.self.view_is c.if-self-round.false b.here)
+    c.put_short.ensures
