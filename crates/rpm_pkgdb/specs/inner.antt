@@ -1,5 +1,5 @@
 -- Invariants and steps of the crate's own calls: nothing that a reader of its public calls must believe.
-pub mod Keys
+pub mod Rows
 pub mod Tables
 pub mod Runs
 pub mod Ranges

@@ -1,8 +1,10 @@
 ghost use Rattle.std.specs.Prelude.{ℕ, ◌-◌, ◌^◌, false, []};
 
+use super::page_tests::full_pages;
 use super::tests::{add_pages, change};
 use crate::{PkgDb, PlanFault};
-use rpm_outside::{Disk, Failed, File};
+use rpm_outside::{Disk, Failed, File, MemDisk};
+use std::alloc::Global;
 use std::test::Fail;
 
 // A disk whose Packages.db ends at the greatest block, with zeros behind these bytes. It writes nothing, and counts nothing: its
@@ -56,8 +58,53 @@ impl Disk for LongDisk {
     }
 }
 
+// Number, place of the slot and first block of a plan, and how many blobs move and how many slots there are in a page that it adds.
+fn planned<D: Disk>(
+    alloc: Global,
+    disk: &mut D,
+    n: Option<u32>,
+    length: u32,
+) -> Option<Result<(u32, u32, u32, usize, usize), PlanFault>> {
+    let Ok(mut db) = PkgDb::open(alloc, disk) else {
+        return None;
+    };
+    if db.is_blank() || length > 1000 {
+        return None;
+    }
+    if let Some(m) = n
+        && !db.holds(m)
+    {
+        return None;
+    }
+    let plan = match db.plan(alloc, n, length) {
+        Ok(plan) => plan,
+        Err(fault) => return Some(Err(fault)),
+    };
+    let (moves, slots) = match &plan.page {
+        None => (0, 0),
+        Some(page) => (page.moves.len(), page.slots.len()),
+    };
+    let target = plan.target;
+    Some(Ok((target.number, target.place, target.start, moves, slots)))
+}
+
 #[test]
-fn the_last_blocks_are_planned(rt: HostRuntime) -> Result<(), Fail> {
+fn pages_are_planned(rt: HostRuntime) -> Result<(), Fail> {
+    let alloc = rt.alloc();
+    for (pages, n, want) in [
+        (1, None, (255, 254, 2293, 37, 510)),
+        (2, None, (511, 510, 4341, 37, 766)),
+        // a replacement adds no page
+        (1, Some(254), (254, 253, 2034, 0, 0)),
+    ] {
+        let mut disk = MemDisk::new(alloc, &full_pages(alloc, pages, 0)?, &[], &[])?;
+        assert!(rt; planned(alloc, &mut disk, n, 80) == Some(Ok(want)));
+    }
+    Ok(())
+}
+
+#[test]
+fn numbers_and_blocks_are_spent(rt: HostRuntime) -> Result<(), Fail> {
     let alloc = rt.alloc();
     let mut front = Vec::new(alloc);
     add_pages(&mut front, 1, 2)?;
@@ -67,19 +114,19 @@ fn the_last_blocks_are_planned(rt: HostRuntime) -> Result<(), Fail> {
         36,
         &[1, 0, 0, 0, 0, 1, 0, 0, 0xf9, 0xfe, 0xff, 0x0f],
     );
-    let Ok(mut db) = PkgDb::open(alloc, &mut LongDisk { front }) else {
-        return Err("open")?;
-    };
-    if db.is_blank() || !db.holds(1) {
-        return Err("number 1")?;
+    let mut disk = LongDisk { front };
+    for (n, length, want) in [
+        (None, 84, Ok((2, 1, 268_435_449, 0, 0))),
+        (None, 85, Err(PlanFault::StoreFull)),
+        (Some(1), 84, Ok((1, 0, 268_435_449, 0, 0))),
+        (Some(1), 85, Err(PlanFault::StoreFull)),
+    ] {
+        assert!(rt;
+            planned(alloc, &mut disk, n, length) == Some(want),
+            "{length}"
+        );
     }
-    let fits = db.plan(alloc, None, 84);
-    assert!(rt; fits.is_ok_and(|plan| plan.target.start == 268_435_449));
-    let full = db.plan(alloc, None, 85);
-    assert!(rt; full.is_err_and(|fault| fault == PlanFault::StoreFull));
-    let fits = db.plan(alloc, Some(1), 84);
-    assert!(rt; fits.is_ok_and(|plan| plan.target.start == 268_435_449));
-    let full = db.plan(alloc, Some(1), 85);
-    assert!(rt; full.is_err_and(|fault| fault == PlanFault::StoreFull));
+    change(&mut disk.front, 16, &[0xff; 4]);
+    assert!(rt; planned(alloc, &mut disk, None, 80) == Some(Err(PlanFault::NumbersSpent)));
     Ok(())
 }

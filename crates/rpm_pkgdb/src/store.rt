@@ -119,10 +119,12 @@ impl PkgDb {
     /// A file without units, or whose unit 0 is all zeros, is blank: a store of no pages and no packages, whose next number is 1.
     ///
     /// Reads 4096 bytes a page, each byte once, and at most unit 0 where the file is blank or its head is damaged. All slots are read
-    /// before the first damage is looked for, and room for them is taken first: 32 bytes a slot while opening, and 12 for as long as
-    /// the value lives; five more where they aren't in order. The time is linear in the slots where numbers and blocks are spread evenly,
-    /// and n log n whatever stands in them: two sorts show that no two of them meet. Where they
-    /// don't, two ordered maps find the first damage, which takes about ten times as long.
+    /// before the first damage is looked for, and room for them is taken first: 20 bytes a slot for as long as the value lives, and
+    /// while opening 16 more and two rows of at most 32 each.
+    ///
+    /// Two rows of the slots, by their numbers and by their first blocks, show that no two of them meet. Where both lie close, in any
+    /// order, that is linear in the slots, and else n log n whatever stands in them. Where the rows don't show it, two ordered maps find
+    /// the first damage, which takes about ten times as long.
     ///
     /// No package has the number 0.
     ///

@@ -1,3 +1,5 @@
+use crate::reading::unit_in;
+use crate::words::word;
 use crate::{Damage, GetFault, OpenFault, PkgDb, Reason};
 use rpm_outside::{File, MemDisk};
 use std::alloc::{AllocError, Global};
@@ -52,6 +54,20 @@ pub fn change(file: &mut Vec<u8>, at: usize, bytes: &[u8]) {
     }
 }
 
+// The first of these units in which other words stand.
+pub fn first_other(file: &[u8], units: &[(usize, [u32; 4])]) -> Option<usize> {
+    for (at, words) in units {
+        if *at >= file.len() / 16 {
+            return Some(*at);
+        }
+        let unit = unit_in(file, *at);
+        if [word(unit, 0), word(unit, 1), word(unit, 2), word(unit, 3)] != *words {
+            return Some(*at);
+        }
+    }
+    None
+}
+
 // A store of one page with the header as number 1 in slot 2, and then two changes of its bytes.
 fn one_package(
     alloc: Global,
@@ -83,57 +99,43 @@ fn damage_after(
 }
 
 #[test]
-fn each_damage_is_named(rt: HostRuntime) -> Result<(), Fail> {
-    let alloc = rt.alloc();
-    let same_number = [
-        6, 0, 0, 0, 0x53, 0x6c, 0x6f, 0x74, 1, 0, 0, 0, 6, 1, 0, 0, 1,
-    ];
-    for (at, bytes, reason, offset) in [
-        (0, [0x51].as_slice(), Reason::BadMagic, 0),
-        (4, [1].as_slice(), Reason::BadVersion, 4),
-        (12, [0].as_slice(), Reason::BadPages, 12),
-        (12, [2].as_slice(), Reason::BadPages, 12),
-        (4080, [0x52].as_slice(), Reason::BadSlot, 4080),
-        (36, [0].as_slice(), Reason::BadNumber, 36),
-        (36, [0xff; 4].as_slice(), Reason::BadNumber, 36),
-        (40, [0xff, 0, 0, 0, 1].as_slice(), Reason::BadRange, 40),
-        (44, [0].as_slice(), Reason::BadRange, 40),
-        (44, [8].as_slice(), Reason::BadRange, 40),
-        // the first six blocks for slot 2, and the last for slot 3
-        (44, same_number.as_slice(), Reason::SameNumber, 52),
-        (
-            52,
-            [2, 0, 0, 0, 6, 1, 0, 0, 1].as_slice(),
-            Reason::Overlap,
-            56,
-        ),
-    ] {
-        let damage = damage_after(alloc, (at, bytes), NOTHING)?;
-        assert!(rt; damage == Some(Damage { reason, offset }), "{at}");
-    }
-    Ok(())
-}
-
-#[test]
-fn the_first_of_two_damages_is_named(rt: HostRuntime) -> Result<(), Fail> {
+fn the_first_damage_is_named(rt: HostRuntime) -> Result<(), Fail> {
     let alloc = rt.alloc();
     let zero: &[u8] = &[0];
     let nine: &[u8] = &[9];
-    // slots with the number, the first block and the block count of slot 2; and with its last block alone
+    // slots with the number, the first block and the block count of slot 2, and with its last block alone
     let same: &[u8] = &[1, 0, 0, 0, 0, 1, 0, 0, 7];
     let last: &[u8] = &[2, 0, 0, 0, 6, 1, 0, 0, 1];
     let no_number: &[u8] = &[0, 0, 0, 0, 6, 1, 0, 0, 1];
     for (first, second, reason, offset) in [
-        // unit 0, then the slots
+        // each by itself
+        ((0, nine), NOTHING, Reason::BadMagic, 0),
+        ((4, nine), NOTHING, Reason::BadVersion, 4),
+        ((12, zero), NOTHING, Reason::BadPages, 12),
+        ((12, nine), NOTHING, Reason::BadPages, 12),
+        ((4080, nine), NOTHING, Reason::BadSlot, 4080),
+        ((36, zero), NOTHING, Reason::BadNumber, 36),
+        ((36, &[0xff; 4]), NOTHING, Reason::BadNumber, 36),
+        ((40, &[0xff, 0]), NOTHING, Reason::BadRange, 40),
+        ((44, zero), NOTHING, Reason::BadRange, 40),
+        ((44, nine), NOTHING, Reason::BadRange, 40),
+        (
+            (44, &[6]),
+            (52, &[1, 0, 0, 0, 6, 1, 0, 0, 1]),
+            Reason::SameNumber,
+            52,
+        ),
+        ((52, last), NOTHING, Reason::Overlap, 56),
+        // in unit 0, then the slots
         ((0, zero), (4, nine), Reason::BadMagic, 0),
         ((4, nine), (12, nine), Reason::BadVersion, 4),
         ((12, nine), (32, zero), Reason::BadPages, 12),
-        // one slot
+        // in one slot
         ((32, zero), (36, zero), Reason::BadSlot, 32),
         ((36, zero), (44, zero), Reason::BadNumber, 36),
         ((52, same), (60, zero), Reason::BadRange, 56),
         ((52, same), NOTHING, Reason::SameNumber, 52),
-        // a slot, then a later one
+        // in a slot, then a later one
         ((52, last), (100, no_number), Reason::Overlap, 56),
         ((80, zero), (100, no_number), Reason::BadSlot, 80),
     ] {
@@ -160,12 +162,8 @@ fn a_package_is_read(rt: HostRuntime) -> Result<(), Fail> {
     };
     assert_eq!(rt; blob.as_slice(), HEADER.as_slice());
     assert_eq!(rt; disk.bytes_read(File::Pkg), 4096 + 112);
-    assert!(rt;
-        db.checksum_holds(alloc, &mut disk, 1)
-            .is_ok_and(|holds| holds)
-    );
-    let absent = db.get(alloc, &mut disk, 2);
-    assert!(rt; absent.is_err_and(|fault| fault == GetFault::NoSuch));
+    assert!(rt; db.checksum_holds(alloc, &mut disk, 1) == Ok(true));
+    assert!(rt; db.get(alloc, &mut disk, 2).err() == Some(GetFault::NoSuch));
     assert_eq!(rt; disk.bytes_read(File::Pkg), 4096 + 224);
     Ok(())
 }
@@ -176,12 +174,9 @@ fn blob_after(alloc: Global, at: usize) -> Result<Option<(bool, bool)>, AllocErr
     let Ok(db) = PkgDb::open(alloc, &mut disk) else {
         return Ok(None);
     };
-    let blob = db.get(alloc, &mut disk, 1);
+    let fault = db.get(alloc, &mut disk, 1).err();
     let holds = db.checksum_holds(alloc, &mut disk, 1);
-    Ok(Some((
-        blob.is_err_and(|fault| fault == GetFault::Bad),
-        holds.is_ok_and(|holds| holds),
-    )))
+    Ok(Some((fault == Some(GetFault::Bad), holds == Ok(true))))
 }
 
 #[test]
@@ -207,46 +202,33 @@ fn broken_blobs_are_told(rt: HostRuntime) -> Result<(), Fail> {
 }
 
 #[test]
-fn numbers_are_walked_by_rising_number(rt: HostRuntime) -> Result<(), Fail> {
+fn numbers_are_walked_over_both_pages(rt: HostRuntime) -> Result<(), Fail> {
     let alloc = rt.alloc();
     let mut file = Vec::new(alloc);
-    add_pages(&mut file, 1, 2)?;
-    change(&mut file, 36, &[3, 0, 0, 0, 0, 1, 0, 0, 7]);
-    change(&mut file, 52, &[1, 0, 0, 0, 7, 1, 0, 0, 7]);
-    change(&mut file, 68, &[2, 0, 0, 0, 14, 1, 0, 0, 7]);
-    for number in [3, 1, 2] {
+    add_pages(&mut file, 2, 2)?;
+    // slots 2, 255 and 256, the last two on both sides of the boundary; the greatest number is that of the last
+    change(&mut file, 36, &[8, 0, 0, 0, 0, 2, 0, 0, 7]);
+    change(&mut file, 4084, &[3, 0, 0, 0, 7, 2, 0, 0, 7]);
+    change(&mut file, 4100, &[0xfe, 0xff, 0xff, 0xff, 14, 2, 0, 0, 7]);
+    for number in [8, 3, 4_294_967_294] {
         add_blob(&mut file, number)?;
     }
     let mut disk = MemDisk::new(alloc, &file, &[], &[])?;
     let Ok(db) = PkgDb::open(alloc, &mut disk) else {
         return Err("open")?;
     };
+    assert!(rt; disk.bytes_read(File::Pkg) == 8192 && db.pages() == 2);
     // the field in unit 1 fell behind
-    assert_eq!(rt; db.next_number(), 4);
-    for (n, next) in [(0, Some(1)), (1, Some(2)), (2, Some(3)), (3, None)] {
+    assert_eq!(rt; db.next_number(), 4_294_967_295);
+    for (n, next) in [
+        (0, Some(3)),
+        (3, Some(8)),
+        (8, Some(4_294_967_294)),
+        (4_294_967_294, None),
+    ] {
         assert!(rt; db.next_above(n) == next, "{n}");
     }
-    assert!(rt; db.get(alloc, &mut disk, 3).is_ok());
-    Ok(())
-}
-
-#[test]
-fn a_second_page_is_read(rt: HostRuntime) -> Result<(), Fail> {
-    let alloc = rt.alloc();
-    let mut file = Vec::new(alloc);
-    add_pages(&mut file, 2, 9)?;
-    // slots 255 and 256, on both sides of the boundary
-    change(&mut file, 4084, &[7, 0, 0, 0, 0, 2, 0, 0, 7]);
-    change(&mut file, 4100, &[8, 0, 0, 0, 7, 2, 0, 0, 7]);
-    add_blob(&mut file, 7)?;
-    add_blob(&mut file, 8)?;
-    let mut disk = MemDisk::new(alloc, &file, &[], &[])?;
-    let Ok(db) = PkgDb::open(alloc, &mut disk) else {
-        return Err("open")?;
-    };
-    assert_eq!(rt; disk.bytes_read(File::Pkg), 8192);
-    assert!(rt; db.pages() == 2 && db.holds(7) && db.holds(8) && db.next_number() == 9);
-    assert!(rt; db.get(alloc, &mut disk, 8).is_ok());
+    assert!(rt; db.get(alloc, &mut disk, 4_294_967_294).is_ok());
     Ok(())
 }
 
@@ -272,12 +254,12 @@ fn faults_at(alloc: Global, call: u64) -> Result<(bool, bool, bool), AllocError>
         Ok(db) => db,
         Err(fault) => return Ok((fault == OpenFault::DiskFault, false, false)),
     };
-    let blob = db.get(alloc, &mut disk, 1);
+    let fault = db.get(alloc, &mut disk, 1).err();
     let holds = db.checksum_holds(alloc, &mut disk, 1);
     Ok((
         false,
-        blob.is_err_and(|fault| fault == GetFault::DiskFault),
-        holds.is_err_and(|fault| fault == GetFault::DiskFault),
+        fault == Some(GetFault::DiskFault),
+        holds == Err(GetFault::DiskFault),
     ))
 }
 

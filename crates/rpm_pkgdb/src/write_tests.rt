@@ -4,8 +4,10 @@ ghost use Rattle.rpm_pkgdb.specs.Slots.{slot_with};
 ghost use Rattle.rpm_pkgdb.specs.Store.{Keeps};
 ghost use Rattle.rpm_pkgdb.specs.inner.Ready.{IsReady};
 
-use super::tests::{HEADER, add_blob, add_pages, change};
-use crate::{GetFault, PkgDb, PlanFault};
+use super::tests::{HEADER, add_blob, add_pages, change, first_other};
+use crate::blob::HEAD;
+use crate::slot::{MAGIC, SLOT};
+use crate::{GetFault, PkgDb};
 use rpm_outside::{Disk, File, MemDisk, Pick};
 use std::alloc::{AllocError, Global};
 use std::test::Fail;
@@ -16,6 +18,8 @@ pub enum Change {
     Raise,
     // Raises the generation first.
     Add(&'static [u8]),
+    // Adds the header so many times.
+    Fill(u32),
     Put(Option<u32>, &'static [u8]),
     Erase(u32),
 }
@@ -58,6 +62,18 @@ fn put<D: Disk>(alloc: Global, disk: &mut D, db: &mut PkgDb, n: Option<u32>, blo
     db.put(disk, plan, blob).is_ok()
 }
 
+fn filled<D: Disk>(alloc: Global, disk: &mut D, db: &mut PkgDb, count: u32) -> bool
+    requires ready { IsReady D.tells (D.files disk.old).pkg db.old }
+    ensures { IsTrue result → IsReady D.tells (D.files disk.new).pkg db.new }
+{
+    for k in 0..count {
+        if !raised(disk, db) || !put(alloc, disk, db, None, &HEADER) {
+            return false;
+        }
+    }
+    true
+}
+
 fn applied<D: Disk>(alloc: Global, disk: &mut D, db: &mut PkgDb, change: Change) -> bool
     requires ready { IsReady D.tells (D.files disk.old).pkg db.old }
     ensures { IsTrue result → IsReady D.tells (D.files disk.new).pkg db.new }
@@ -65,6 +81,7 @@ fn applied<D: Disk>(alloc: Global, disk: &mut D, db: &mut PkgDb, change: Change)
     match change {
         Change::Raise => raised(disk, db),
         Change::Add(blob) => raised(disk, db) && put(alloc, disk, db, None, blob),
+        Change::Fill(count) => filled(alloc, disk, db, count),
         Change::Put(None, blob) => put(alloc, disk, db, None, blob),
         Change::Put(Some(n), blob) => db.holds(n) && put(alloc, disk, db, Some(n), blob),
         Change::Erase(n) => db.holds(n) && db.erase(disk, n).is_ok(),
@@ -265,17 +282,6 @@ pub fn changed(alloc: Global, file: &[u8], changes: &[Change]) -> Result<Option<
     }))
 }
 
-// The first of these places in a file at which other bytes stand.
-pub fn first_other(file: &[u8], places: &[(usize, [u8; 12])]) -> Option<usize> {
-    for (at, bytes) in places {
-        let end = at.saturating_add(12);
-        if file.get(*at..end).unwrap_or(&[]) != bytes.as_slice() {
-            return Some(*at);
-        }
-    }
-    None
-}
-
 // A store of one page and generation 2 with the header as number 1, laid out by hand.
 fn laid(alloc: Global) -> Result<Vec<u8>, AllocError> {
     let mut file = Vec::new(alloc);
@@ -308,20 +314,21 @@ fn a_package_is_put_and_erased(rt: HostRuntime) -> Result<(), Fail> {
 fn a_freed_slot_and_freed_blocks_are_taken_again(rt: HostRuntime) -> Result<(), Fail> {
     let alloc = rt.alloc();
     let add = Change::Add(&HEADER);
-    let changes = [add, add, add, Change::Raise, Change::Erase(2), add];
+    let changes = [Change::Fill(3), Change::Raise, Change::Erase(2), add];
     let Some(changed) = changed(alloc, &[], &changes)? else {
         return Err("changes")?;
     };
-    // generation 6; next number 5; slots of the numbers 1, 4 and 3
-    let places = [
-        (8, [6, 0, 0, 0, 1, 0, 0, 0, 5, 0, 0, 0]),
-        (36, [1, 0, 0, 0, 0, 1, 0, 0, 7, 0, 0, 0]),
-        (52, [4, 0, 0, 0, 7, 1, 0, 0, 7, 0, 0, 0]),
-        (68, [3, 0, 0, 0, 14, 1, 0, 0, 7, 0, 0, 0]),
-        (84, [0; 12]),
-        (4212, [4, 0, 0, 0, 6, 0, 0, 0, 0x50, 0, 0, 0]),
+    // generation 6, next number 5, slots of the numbers 1, 4 and 3, and the blob of number 4
+    let units = [
+        (0, [MAGIC, 0, 6, 1]),
+        (1, [5, 0, 0, 0]),
+        (2, [SLOT, 1, 256, 7]),
+        (3, [SLOT, 4, 263, 7]),
+        (4, [SLOT, 3, 270, 7]),
+        (5, [SLOT, 0, 0, 0]),
+        (263, [HEAD, 4, 6, 80]),
     ];
-    assert_eq!(rt; first_other(&changed.file, &places), None);
+    assert_eq!(rt; first_other(&changed.file, &units), None);
     assert_eq!(rt; changed.file.len(), 4096 + 3 * 112);
     Ok(())
 }
@@ -366,20 +373,5 @@ fn blobs_of_each_length_are_read(rt: HostRuntime) -> Result<(), Fail> {
         let found = put_and_read(alloc, &BYTES[..length])?;
         assert!(rt; found == (true, true, 4096 + 16 * blocks), "{length}");
     }
-    Ok(())
-}
-
-#[test]
-fn no_number_is_left(rt: HostRuntime) -> Result<(), Fail> {
-    let alloc = rt.alloc();
-    let mut file = laid(alloc)?;
-    change(&mut file, 16, &[0xff; 4]);
-    let mut disk = MemDisk::new(alloc, &file, &[], &[])?;
-    let Some(mut db) = opened(alloc, &mut disk) else {
-        return Err("open")?;
-    };
-    let spent = db.plan(alloc, None, 80);
-    assert!(rt; spent.is_err_and(|fault| fault == PlanFault::NumbersSpent));
-    assert!(rt; db.generation() == 2);
     Ok(())
 }
