@@ -1,14 +1,36 @@
 -- What a stop leaves while a log is closed.
-use Rattle.std.proofs.Common.{◌≡◌, ℕ, ◌<◌, List, [], ◌∷◌, length, true, refl, sym, ap, subst, ◌∙◌}
+use Rattle.std.proofs.Common.{◌≡◌, ⊎_elim, ℕ, ◌<◌, List, [], ◌∷◌, length, true, refl, sym, ap, subst, ◌∙◌}
 use Rattle.rpm_outside.specs.declared.disk.File.TheVariants.{Log}
 use Rattle.rpm_outside.specs.Files.{Units, Files, with_file, put, unit_at}
 use Rattle.rpm_outside.specs.Crash.{LeavesOnly, TornFile, Elapses, OnlyAfter}
 use Rattle.rpm_outside.specs.inner.Moments.{started, one_more, leaves_weaker}
 use Rattle.rpm_outside.specs.Logs.{Entry, LogState, Closed, Open, is_blank, log_state, unlogged, with_entries, reopened}
-use Rattle.rpm_outside.specs.inner.LogLaws.{NotLog, log_not_log, reopened_open, reopened_within, closing, blank_closed, first_unit, within_log, entries_log, unlogged_entries, entries_done}
+use Rattle.rpm_outside.specs.inner.LogLaws.{NotLog, log_not_log, torn_first, reopened_open, reopened_within, closing, blank_closed, first_unit, within_log, entries_log, unlogged_entries, entries_done}
 use Rattle.rpm_outside.specs.Entries.{Within}
+use Rattle.rpm_group.specs.Loads.{IsSound}
 use Rattle.rpm_group.specs.Readings.{IsOpen}
-use Rattle.rpm_group.specs.inner.Leavings.{WasWithin, ReopensAs}
+use Rattle.rpm_group.specs.inner.Leavings.{WasWithin}
+use Rattle.rpm_group.specs.Settled.{ReopensAs}
+
+-- a log that is closed or open isn't malformed
+pub closed_sound : (log : Units) → log_state log ≡ Closed → IsSound (log_state log)
+closed_sound log is = subst IsSound (sym is) tt
+
+pub open_sound : (log : Units) (entries : List Entry) → log_state log ≡ Open entries → IsSound (log_state log)
+open_sound log entries is = subst IsSound (sym is) tt
+
+pub closed_after : (files new : Files) (unit : List ℕ) → is_blank unit ≡ true → new ≡ with_file Log (put 0 (unit ∷ []) files.log) files
+    → log_state new.log ≡ Closed
+closed_after files new unit blank is =
+    blank_closed new.log (ap (λ (f : Files). is_blank (unit_at f.log 0)) is ∙ ap is_blank (first_unit unit files.log) ∙ blank)
+
+-- a gate of zeros that was written in part leaves the log closed, or as it was
+closing_sound : (unit : List ℕ) (from image : Files) (entries : List Entry) → is_blank unit ≡ true → 0 < length from.log
+    → log_state from.log ≡ Open entries → TornFile Log 0 (unit ∷ []) from image → IsSound (log_state image.log)
+closing_sound unit from image entries blank some is torn = ⊎_elim
+    (λ (same : image ≡ from). open_sound image.log entries (ap (λ (f : Files). log_state f.log) same ∙ is))
+    (λ (same : image ≡ with_file Log (put 0 (unit ∷ []) from.log) from). closed_sound image.log (closed_after from image unit blank same))
+    (torn_first unit from image some torn)
 
 module _ {D : Type 0} (moment : D → ℕ) (left_since : D → ℕ → Files → Type 0) where
   -- the write of the gate
@@ -20,11 +42,18 @@ module _ {D : Type 0} (moment : D → ℕ) (left_since : D → ℕ → Files →
       → LeavesOnly moment left_since old new (ReopensAs (unlogged files))
   closing_leaves old new files unit entries blank some is done settled images time =
       one_more moment left_since old old new (ReopensAs (unlogged files))
-      (started moment left_since old (ReopensAs (unlogged files)) (λ image left. ap reopened (settled image left) ∙ reopened_open files entries is ∙ done))
+      (started moment left_since old (ReopensAs (unlogged files)) (λ image left. record {
+        same = ap reopened (settled image left) ∙ reopened_open files entries is ∙ done;
+        sound = open_sound image.log entries (ap (λ (f : Files). log_state f.log) (settled image left) ∙ is);
+      }))
       time
       (λ image left.
       let was = images image left in
-      closing unit files image entries blank some is done (subst (λ (f : Files). TornFile Log 0 (unit ∷ []) f image) (settled was.0 was.1) was.2))
+      let torn : TornFile Log 0 (unit ∷ []) files image = subst (λ (f : Files). TornFile Log 0 (unit ∷ []) f image) (settled was.0 was.1) was.2 in
+      record {
+        same = closing unit files image entries blank some is done torn;
+        sound = closing_sound unit files image entries blank some is torn;
+      })
 
   -- the entries, before it
   pub written_leaves : (old new : D) (files : Files) (entries : List Entry) → log_state files.log ≡ Open entries
@@ -33,12 +62,14 @@ module _ {D : Type 0} (moment : D → ℕ) (left_since : D → ℕ → Files →
       → LeavesOnly moment left_since old new (ReopensAs (reopened files))
   written_leaves old new files entries is settled run =
       leaves_weaker moment left_since old new (WasWithin entries (left_since old (moment old))) (ReopensAs (reopened files))
-      (λ image was. reopened_within files image entries is (subst (λ (f : Files). Within entries f image) (settled was.0 was.1) was.2)) run
-
-pub closed_after : (files new : Files) (unit : List ℕ) → is_blank unit ≡ true → new ≡ with_file Log (put 0 (unit ∷ []) files.log) files
-    → log_state new.log ≡ Closed
-closed_after files new unit blank is =
-    blank_closed new.log (ap (λ (f : Files). is_blank (unit_at f.log 0)) is ∙ ap is_blank (first_unit unit files.log) ∙ blank)
+      (λ image was.
+      let within : Within entries files image = subst (λ (f : Files). Within entries f image) (settled was.0 was.1) was.2 in
+      record {
+        same = reopened_within files image entries is within;
+        sound = open_sound image.log entries
+            (ap log_state (within_log entries files image (log_not_log files.log entries is) within) ∙ is);
+      })
+      run
 
 pub three_files : (a b : Files) → a.pkg ≡ b.pkg → a.idx ≡ b.idx → a.log ≡ b.log → a ≡ b
 three_files a b p x l =

@@ -7,21 +7,22 @@ use Rattle.rpm_outside.specs.inner.Moments.{started, one_more, leaves_then, leav
 use Rattle.rpm_outside.specs.Changed.{ChangedIn, WasChanged, LeavesChanged}
 use Rattle.rpm_outside.specs.inner.ChangedLaws.{changed_leaves_then, changed_leaves_more}
 use Rattle.rpm_outside.specs.Logs.{Entry, Closed, Open, log_state, unlogged, with_entries, reopened, is_blank}
-use Rattle.rpm_outside.specs.inner.LogLaws.{reopened_closed, reopened_open, blank_closed}
+use Rattle.rpm_outside.specs.inner.LogLaws.{torn_first, reopened_closed, reopened_open, blank_closed}
 use Rattle.rpm_outside.specs.LogWrites.{EntriesIn, IsGate}
-use Rattle.rpm_outside.specs.inner.LogWriting.{entries_kept, entries_then, entries_long, word_full, opening, opened_is}
+use Rattle.rpm_outside.specs.inner.LogWriting.{entries_kept, entries_then, entries_long, word_full, opened_is}
 use Rattle.rpm_group.specs.inner.Words.{IsUnitOf}
 use Rattle.rpm_outside.specs.inner.LogRules.{closed_blank}
 use Rattle.rpm_group.specs.declared.group.Tail.{Tail}
 use Rattle.rpm_group.specs.declared.layers.Layers.{Layers}
 use Rattle.rpm_group.specs.Held.{laid}
 use Rattle.rpm_group.specs.inner.Logged.{Logged}
-use Rattle.rpm_group.specs.inner.Leavings.{WasWithin, ReopensAs}
+use Rattle.rpm_group.specs.inner.Leavings.{WasWithin}
+use Rattle.rpm_group.specs.Settled.{ReopensAs}
 use Rattle.rpm_group.specs.Groups.{BeforeOrAfter}
 use Rattle.rpm_group.specs.inner.Grouped.{with_held, IsGroup, IsTail}
 use Rattle.rpm_group.proofs.Applied.{with_entries-append}
 use Rattle.rpm_group.proofs.LoggedLaws.{covers_before, covers_behind, logged_laid}
-use Rattle.rpm_group.proofs.Closes.{three_files, written_leaves}
+use Rattle.rpm_group.proofs.Closes.{three_files, written_leaves, closed_sound, open_sound}
 
 -- the entries of both files are a group
 pub group_of : (held : Layers) (es fs : List Entry) → Logged es Pkg held.pkg.table.items held.pkg.end
@@ -51,6 +52,26 @@ pub tail_of : (es fs : List Entry) (middle end : ℕ) (first last : Files) → E
     → ChangedIn Log middle (2 ^ 28) first last → EntriesIn (es ++ fs) 1 end last.log
 tail_of es fs middle end first last one two changed =
     entries_then es fs 1 middle end last.log (entries_kept es 1 middle first.log last.log (λ i low high. changed.each i (inl high)) changed.no_shorter one) two
+
+closed_reopens : (image files : Files) → image ≡ files → log_state files.log ≡ Closed → ReopensAs (unlogged files) image
+closed_reopens image files same closed = record {
+  same = ap reopened same ∙ reopened_closed files closed;
+  sound = closed_sound image.log (ap (λ (f : Files). log_state f.log) same ∙ closed);
+}
+
+-- a gate that was written in part leaves the log closed, or open with these entries
+opening_reopens : (gate : List ℕ) (entries : List Entry) (last : ℕ) (from image : Files) → IsGate gate (length entries) last → 0 < length entries
+    → last < length from.log → EntriesIn entries 1 (last + 1) from.log → log_state from.log ≡ Closed → TornFile Log 0 (gate ∷ []) from image
+    → BeforeOrAfter (unlogged from) (with_entries entries (unlogged from)) image
+opening_reopens gate entries last from image g some below is closed torn = ⊎_elim
+    (λ (same : image ≡ from). inl (closed_reopens image from same closed))
+    (λ (same : image ≡ with_file Log (put 0 (gate ∷ []) from.log) from).
+    let open_now : log_state image.log ≡ Open entries = ap (λ (f : Files). log_state f.log) same ∙ opened_is gate entries last from.log g some below is in
+    inr (record {
+      same = reopened_open image entries open_now ∙ ap (λ (f : Files). with_entries entries (unlogged f)) same;
+      sound = open_sound image.log entries open_now;
+    }))
+    (torn_first gate from image (omega (arith, below)) torn)
 
 module _ {D : Type 0} (moment : D → ℕ) (left_since : D → ℕ → Files → Type 0) where
   -- two runs of writes to the log
@@ -85,11 +106,12 @@ module _ {D : Type 0} (moment : D → ℕ) (left_since : D → ℕ → Files →
   opening_leaves old new files gate entries last g some below is closed settled images time =
       one_more moment left_since old old new (BeforeOrAfter (unlogged files) (with_entries entries (unlogged files)))
       (started moment left_since old (BeforeOrAfter (unlogged files) (with_entries entries (unlogged files)))
-      (λ image left. inl (ap reopened (settled image left) ∙ reopened_closed files closed)))
+      (λ image left. inl (closed_reopens image files (settled image left) closed)))
       time
       (λ image left.
       let was = images image left in
-      opening gate entries last files image g some below is closed (subst (λ (f : Files). TornFile Log 0 (gate ∷ []) f image) (settled was.0 was.1) was.2))
+      opening_reopens gate entries last files image g some below is closed
+      (subst (λ (f : Files). TornFile Log 0 (gate ∷ []) f image) (settled was.0 was.1) was.2))
 
 -- a gate that opens a log
 pub record Opens (gate : List ℕ) (entries : List Entry) (tail : Tail) (log : Units) : Type 0 where
@@ -148,18 +170,22 @@ module _ {D : Type 0} (moment : D → ℕ) (left_since : D → ℕ → Files →
       leaves_weaker moment left_since old new (WasChanged Log 1 (2 ^ 28) (left_since old (moment old))) (BeforeOrAfter before after)
       (λ image was.
       let changed : ChangedIn Log 1 (2 ^ 28) files image = subst (λ (f : Files). ChangedIn Log 1 (2 ^ 28) f image) (settled was.0 was.1) was.2 in
-      inl (reopened_closed image (still_closed files image 1 (2 ^ 28) (omega arith) closed changed) ∙ ap unlogged changed.others ∙ is))
+      let shut : log_state image.log ≡ Closed = still_closed files image 1 (2 ^ 28) (omega arith) closed changed in
+      inl (record { same = reopened_closed image shut ∙ ap unlogged changed.others ∙ is; sound = closed_sound image.log shut }))
       run
 
   pub opened_leaves : (old new : D) (a b : Files) → a ≡ before → b ≡ after → LeavesOnly moment left_since old new (BeforeOrAfter a b)
       → LeavesOnly moment left_since old new (BeforeOrAfter before after)
   opened_leaves old new a b is_a is_b run =
       leaves_weaker moment left_since old new (BeforeOrAfter a b) (BeforeOrAfter before after)
-      (λ image either. ⊎_elim (λ one. inl (one ∙ is_a)) (λ two. inr (two ∙ is_b)) either) run
+      (λ image either. ⊎_elim (λ one. inl (record { same = one.same ∙ is_a; sound = one.sound }))
+      (λ two. inr (record { same = two.same ∙ is_b; sound = two.sound })) either) run
 
   pub after_leaves : (old new : D) (files : Files) → files ≡ after → LeavesOnly moment left_since old new (ReopensAs files)
       → LeavesOnly moment left_since old new (BeforeOrAfter before after)
-  after_leaves old new files is run = leaves_weaker moment left_since old new (ReopensAs files) (BeforeOrAfter before after) (λ image one. inr (one ∙ is)) run
+  after_leaves old new files is run =
+      leaves_weaker moment left_since old new (ReopensAs files) (BeforeOrAfter before after)
+      (λ image one. inr (record { same = one.same ∙ is; sound = one.sound })) run
 
 -- what the files stand for in each stage
 module _ (held : Layers) (files first : Files) (same : unlogged first ≡ unlogged files) where

@@ -3,7 +3,7 @@ use Rattle.std.specs.Prelude.{◌≡◌, ◌⊎◌, ℕ, ◌+◌, Bool, IsTrue}
 use Rattle.rpm_outside.specs.Crash.{Untouched}
 use Rattle.rpm_outside.specs.declared.disk.File.{File}
 use Rattle.rpm_outside.specs.Files.{Files}
-use Rattle.rpm_outside.specs.Logs.{reopened}
+use Rattle.rpm_group.specs.Settled.{ReopensAs}
 use Rattle.rpm_group.specs.declared.layers.Layers.{Layers}
 use Rattle.rpm_group.specs.declared.pages.Pages.{Pages}
 use Rattle.rpm_group.specs.Counts.{is_held, begins_run, count_below, log_units}
@@ -26,9 +26,9 @@ held_units held = held_of held.pkg + held_of held.idx + held_of held.log
 abbrev pub needed : Layers → ℕ
 needed held = 1 + units_of_log held.pkg + units_of_log held.idx
 
--- an image stands for the files before or after
+-- an image stands for the files before or after, and its log isn't malformed
 abbrev pub BeforeOrAfter : Files → Files → Files → Type 0
-BeforeOrAfter before after image = (reopened image ≡ before) ⊎ (reopened image ≡ after)
+BeforeOrAfter before after image = ReopensAs before image ⊎ ReopensAs after image
 
 -- a call that changed nothing at all
 pub record Unwritten {D : Type 0} (tells : Bool) (files : D → Files) (left_since : D → ℕ → Files → Type 0) (moment : D → ℕ) (bytes_read : D → File

@@ -1,11 +1,11 @@
 pub mod Readings
 pub mod LogReads
-pub mod Settled
 pub mod Held
 pub mod Layers
 pub mod Below
 pub mod Overlay
 pub mod Loads
+pub mod Settled
 pub mod Loaded
 pub mod Counts
 pub mod Groups

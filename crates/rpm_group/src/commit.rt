@@ -196,7 +196,8 @@ impl<D: Disk> Overlay<D> {
     /// # Errors
     ///
     /// `LogFull` exactly where the log would be longer than a file can be; nothing is written then. `DiskFault` only where the
-    /// count of faults of the disk below rose; the disk stands then for its files before or for those of the overlay.
+    /// count of faults of the disk below rose; the disk stands then for its files before or for those of the overlay, as does each
+    /// image that a stop since the start may leave, and none of them has a malformed log.
     pub fn commit(self) -> (D, Result<(), CommitFault>)
         requires starved { overlay_starved self ≡ 0 }
         requires settled { IsTrue D.tells → AreSettled (D.files (overlay_below self)) (D.left_since (overlay_below self) (D.moment (overlay_below self))) }

@@ -10,9 +10,9 @@ ghost use Rattle.rpm_outside.specs.Logs.{Closed, log_state, unlogged, with_entri
 ghost use Rattle.rpm_group.specs.LogReads.{ReadsLog};
 ghost use Rattle.rpm_group.specs.Readings.{entries_of, IsOpen};
 ghost use Rattle.rpm_group.specs.inner.LogReadings.{IsHead, heads_behind};
-ghost use Rattle.rpm_group.specs.Settled.{ReopensAsOneOf, RecoverSays, RecoverKeeps};
+ghost use Rattle.rpm_group.specs.Settled.{ReopensAs, ReopensAsOneOf, RecoverSays, RecoverKeeps};
 ghost use Rattle.rpm_group.specs.inner.Behind.{KeepsBehind};
-ghost use Rattle.rpm_group.specs.inner.Leavings.{WasWithin, ReopensAs};
+ghost use Rattle.rpm_group.specs.inner.Leavings.{WasWithin};
 ghost use Rattle.rpm_outside.specs.declared.disk.File.TheVariants.{Log};
 ghost use Rattle.rpm_outside.specs.Looks.{LooksAt};
 ghost use Rattle.rpm_outside.specs.Changes.{AreSettled, IsSettled};
@@ -209,7 +209,8 @@ fn finish<D: Disk>(disk: &mut D, gate: Gate) -> Result<bool, RecoverFault>
 /// # Errors
 ///
 /// `BadLog` where the log is malformed, with the unit. `DiskFault` only where the count of faults rose. Whatever the answer, the
-/// disk, and each image that a stop since the start may leave, stands for what it stood for at the start. A malformed log is left as it is.
+/// disk stands for what it stood for at the start, and each image that a stop since the start may leave for what one of the start
+/// stood for; its log is malformed only where that one's was. A malformed log is left as it is.
 pub fn recover<D: Disk>(disk: &mut D) -> Result<bool, RecoverFault>
     ensures says { IsTrue D.tells → RecoverSays (log_state (D.files disk.old).log) result }
     ensures kept { IsTrue D.tells → RecoverKeeps (D.files disk.old) (D.files disk.new) result }

@@ -1,13 +1,9 @@
 -- What a stop may leave while entries are written.
-use Rattle.std.specs.Prelude.{◌≡◌, List}
+use Rattle.std.specs.Prelude.{List}
 use Rattle.rpm_outside.specs.Files.{Files}
-use Rattle.rpm_outside.specs.Logs.{Entry, reopened}
+use Rattle.rpm_outside.specs.Logs.{Entry}
 use Rattle.rpm_outside.specs.Entries.{Within}
 
 -- it is one of these images in which some of the entries may have been written
 abbrev pub WasWithin : List Entry → (Files → Type 0) → Files → Type 0
 WasWithin entries images image = (from : Files) × images from × Within entries from image
-
--- it stands for these files
-abbrev pub ReopensAs : Files → Files → Type 0
-ReopensAs files image = reopened image ≡ files

@@ -3,7 +3,7 @@ use Rattle.rpm_outside.specs.Files.{Files}
 use Rattle.rpm_outside.specs.inner.Leaves.{sync_leaves}
 use Rattle.rpm_outside.specs.Logs.{unlogged, log_state}
 use Rattle.rpm_group.specs.Readings.{entries_of}
-use Rattle.rpm_group.specs.inner.Leavings.{ReopensAs}
+use Rattle.rpm_group.specs.Settled.{ReopensAs}
 use Rattle.rpm_group.proofs.Orders.{gate_keeps}
 use Rattle.rpm_group.proofs.Closes.{closing_leaves, closed_after}
 use Rattle.rpm_group.proofs.recovery.close_log.Goals as goal

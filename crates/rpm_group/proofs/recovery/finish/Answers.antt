@@ -5,7 +5,8 @@ use Rattle.rpm_outside.specs.inner.Moments.{leaves_then, leaves_weaker}
 use Rattle.rpm_outside.specs.Logs.{LogState, log_state, unlogged, with_entries, reopened}
 use Rattle.rpm_group.specs.Readings.{entries_of, IsOpen}
 use Rattle.rpm_group.specs.inner.LogReadings.{heads_behind}
-use Rattle.rpm_group.specs.inner.Leavings.{ReopensAs, WasWithin}
+use Rattle.rpm_group.specs.inner.Leavings.{WasWithin}
+use Rattle.rpm_group.specs.Settled.{ReopensAs}
 use Rattle.rpm_group.proofs.Closes.{mid_log, mid_open, mid_done, mid_stands, written_leaves, open_as}
 use Rattle.rpm_group.proofs.recovery.finish.Goals as goal
 
@@ -65,7 +66,7 @@ both_leave : {D : Type 0} (moment : D → ℕ) (left_since : D → ℕ → Files
     → LeavesOnly moment left_since old new (ReopensAs stands)
 both_leave moment left_since old mid new stands a same one two =
     leaves_then moment left_since old mid new (ReopensAs stands) one (leaves_weaker moment left_since mid new (ReopensAs a) (ReopensAs stands)
-    (λ image is. is ∙ same) two)
+    (λ image is. record { same = is.same ∙ same; sound = is.sound }) two)
 
 pub returns-in_default-close_log-clause-images : goal.returns-in_default-close_log-clause-images
 returns-in_default-close_log-clause-images g c = λ told.

@@ -4,8 +4,7 @@ use Rattle.rpm_outside.specs.Files.{Files}
 use Rattle.rpm_outside.specs.inner.Moments.{leaves_then, leaves_weaker}
 use Rattle.rpm_outside.specs.inner.Leaves.{then_look}
 use Rattle.rpm_outside.specs.Logs.{reopened}
-use Rattle.rpm_group.specs.Settled.{ReopensAsOneOf, RecoverKeeps}
-use Rattle.rpm_group.specs.inner.Leavings.{ReopensAs}
+use Rattle.rpm_group.specs.Settled.{ReopensAs, ReopensAsOneOf, RecoverKeeps}
 use Rattle.rpm_group.specs.declared.recovery.RecoverFault.{RecoverFault}
 use Rattle.rpm_group.specs.declared.recovery.RecoverFault.TheVariants.{BadLog, DiskFault}
 use Rattle.rpm_group.proofs.recovery.recover.Goals as goal
@@ -33,7 +32,9 @@ returns-in-Opened-clause-images g c = λ told.
     let same : D.files mid ≡ D.files old = (looks.untouched told).same ∙ c.settle.ensures.same told in
     leaves_then D.moment D.left_since old mid new one_of
     (then_look D.moment D.left_since old first mid one_of _ _
-    (leaves_weaker D.moment D.left_since old first (D.left_since old (D.moment old)) one_of (λ image left. (image, left, refl)) (c.settle.ensures.images told))
+    (leaves_weaker D.moment D.left_since old first (D.left_since old (D.moment old)) one_of
+    (λ image left. (image, left, record { same = refl; sound = λ was. was })) (c.settle.ensures.images told))
     (looks.untouched told) looks.moment_stays)
     (leaves_weaker D.moment D.left_since mid new (ReopensAs (reopened (D.files mid))) one_of
-    (λ image is. (D.files old, g.met.D.Disk.as_read old told, is ∙ ap reopened same)) (c.finish.ensures.images told))
+    (λ image is. (D.files old, g.met.D.Disk.as_read old told, record { same = is.same ∙ ap reopened same; sound = λ was. is.sound }))
+    (c.finish.ensures.images told))

@@ -40,7 +40,8 @@ module _ {D : Type 0} (tells : Bool) (files : D → Files) (moment : D → ℕ) 
   committed_leaves disk last new before after changed here is_before is_after one two =
       leaves_then moment left_since disk last new (LeavesBoth (left_since disk (moment disk)) after) one
       (leaves_weaker moment left_since last new (BeforeOrAfter before changed) (LeavesBoth (left_since disk (moment disk)) after)
-      (λ image either. ⊎_elim (λ old. inl (files disk, here, old ∙ is_before)) (λ done. inr (done ∙ is_after)) either) two)
+      (λ image either. ⊎_elim (λ old. inl (files disk, here, record { same = old.same ∙ is_before; sound = λ was. old.sound }))
+      (λ done. inr (record { same = done.same ∙ is_after; sound = done.sound })) either) two)
 
 pub returns-in_default-write_at-clause-images : goal.returns-in_default-write_at-clause-images
 returns-in_default-write_at-clause-images g c = λ told.
