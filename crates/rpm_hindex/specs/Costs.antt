@@ -16,11 +16,14 @@ chain_bytes x bucket = 16 + 16 * sum_by (units_at x.unit) (places_of x bucket)
 abbrev pub chains_bytes : Index → List Row → ℕ
 chains_bytes x rows = sum_by (λ (r : Row). chain_bytes x (bucket_of x.buckets r)) rows
 
--- a change after which there are at most two records a bucket, at most as many units as a file has, and no more units without records than
--- with
-pub record StaysInPlace (drops adds : List Row) (buckets : ℕ) (file : Units) : Type 0 where
+-- a change after which there are at most two records a bucket, at most so many units, and no more units without records than with
+pub record StaysWithin (limit : ℕ) (drops adds : List Row) (buckets : ℕ) (file : Units) : Type 0 where
   pub rows : List Row
   pub changed : HasChanged drops adds (records buckets file) rows
   pub few : length rows ≤ 2 * buckets
-  pub room : word 0 (unit_at file 1) + live_of adds ≤ 2 ^ 28
+  pub room : word 0 (unit_at file 1) + live_of adds ≤ limit
   pub half : word 0 (unit_at file 1) + live_of adds ≤ first_record buckets + 2 * live_of rows
+
+-- at most as many units as a file has
+abbrev pub StaysInPlace : List Row → List Row → ℕ → Units → Type 0
+StaysInPlace = StaysWithin (2 ^ 28)

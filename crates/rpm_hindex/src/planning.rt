@@ -26,7 +26,6 @@ use crate::index::Hindex;
 use crate::links::{Link, read_links};
 use crate::rewriting::image_of;
 use crate::rows::Rows;
-use crate::sizes::UNITS;
 use crate::words::{unit_of_words, word};
 use rpm_outside::Disk;
 use std::alloc::{AllocError, Global};
@@ -123,14 +122,15 @@ pub fn add_rows<D: Disk>(disk: &mut D, change: &mut Change, rows: &Rows) -> Resu
     Ok(())
 }
 
-/// Whether the chains can take these rows more, so that no new index is due.
-pub fn has_room(change: &Change, adds: &Rows) -> bool
+/// Whether the chains can take these rows more, with at most so many units, so that no new index is due.
+pub fn has_room(change: &Change, adds: &Rows, limit: u64) -> bool
+    requires limit { limit ≤ 2 ^ 28 }
     requires go { CanGo change.now }
     requires none { length change.now.tail.items ≡ 0 }
-    ensures least { change.now.records + length adds.now ≤ 2 * change.now.extent.buckets → change.now.extent.used + live_of adds.now ≤ 2 ^ 28
+    ensures least { change.now.records + length adds.now ≤ 2 * change.now.extent.buckets → change.now.extent.used + live_of adds.now ≤ limit
         → change.now.extent.used + live_of adds.now ≤ first_record change.now.extent.buckets + 2 * (change.now.live + live_of adds.now) → result ≡ true }
     ensures count { result ≡ true → change.now.records + length adds.now ≤ 2 * change.now.extent.buckets }
-    ensures room { result ≡ true → change.now.extent.used + live_of adds.now ≤ 2 ^ 28 }
+    ensures room { result ≡ true → change.now.extent.used + live_of adds.now ≤ limit }
     ensures half { result ≡ true → change.now.extent.used ≤ first_record change.now.extent.buckets + 2 * change.now.live + live_of adds.now }
 {
     let more = adds.live();
@@ -138,7 +138,7 @@ pub fn has_room(change: &Change, adds: &Rows) -> bool
     let used = change.extent.used as u64 + more;
     let live = change.live as u64 + more;
     let first = 2 + change.extent.buckets as u64 / 4;
-    records <= 2 * change.extent.buckets as u64 && used <= UNITS && used - first - live <= live
+    records <= 2 * change.extent.buckets as u64 && used <= limit && used - first - live <= live
 }
 
 /// The pairs of a map, by rising key.

@@ -14,7 +14,7 @@ ghost use Rattle.rpm_hindex.specs.Plans.{LeavesOrder, CanWrite, IsPlanFor};
 ghost use Rattle.rpm_hindex.specs.inner.Changes.{CanGo, IsStarted, IsHonest, is_kept};
 ghost use Rattle.rpm_hindex.specs.Refusals.{IsBad, IsTooLargeFor, HasRoomFor};
 ghost use Rattle.rpm_hindex.specs.Index.{index_in, records};
-ghost use Rattle.rpm_hindex.specs.Costs.{chains_bytes, StaysInPlace};
+ghost use Rattle.rpm_hindex.specs.Costs.{chains_bytes, StaysWithin, StaysInPlace};
 ghost use Rattle.rpm_hindex.specs.Whole.{IsWellFormed};
 
 use crate::change::Change;
@@ -22,6 +22,7 @@ use crate::faults::PrepareFault;
 use crate::index::Hindex;
 use crate::planning::{IndexPlan, add_rows, drop_rows, from_scratch, has_room, in_place};
 use crate::rows::Rows;
+use crate::sizes::UNITS;
 use crate::words::word;
 use rpm_outside::Disk;
 use std::alloc::Global;
@@ -43,6 +44,46 @@ impl Hindex {
         let records = word(&self.second, 1);
         let live = word(&self.second, 2);
         Change::new(alloc, self.extent(), records, live)
+    }
+
+    /// Works out a change of the index, as `prepare` does, which is made in place only where so many units are enough.
+    pub(crate) fn prepare_within<D: Disk>(
+        &self,
+        alloc: Global,
+        disk: &mut D,
+        drops: &Rows,
+        adds: &Rows,
+        limit: u64,
+    ) -> Result<IndexPlan, PrepareFault>
+        requires limit { limit ≤ 2 ^ 28 }
+        requires order { is_in_order self.now ≡ true }
+        requires keeps { IsTrue D.tells → Keeps (D.files disk.old).idx self.now }
+        ensures can { IfOk result (λ plan. CanWrite self.now.units plan.work) }
+        ensures ordered { IfOk result (λ plan. LeavesOrder plan.work) }
+        ensures full { IfErr result (λ e. IsTrue D.tells → IsWellFormed (buckets_of self.now.first) (D.files disk.old).idx → IsTooLargeFor drops.now
+            adds.now (records (buckets_of self.now.first) (D.files disk.old).idx) e) }
+        ensures room { IfOk result (λ plan. IsTrue D.tells → IsWellFormed (buckets_of self.now.first) (D.files disk.old).idx → HasRoomFor drops.now
+            adds.now (records (buckets_of self.now.first) (D.files disk.old).idx)) }
+        ensures bad { IfErr result (λ e. IsTrue D.tells → IsBad (buckets_of self.now.first) (D.files disk.old).idx e) }
+        ensures makes { IfOk result (λ plan. IsTrue D.tells → IsWellFormed (buckets_of self.now.first) (D.files disk.old).idx → IsPlanFor drops.now
+            adds.now (buckets_of self.now.first) (D.files disk.old).idx plan.work) }
+        ensures cost { IsTrue D.tells → IsWellFormed (buckets_of self.now.first) (D.files disk.old).idx → StaysWithin limit drops.now adds.now
+            (buckets_of self.now.first) (D.files disk.old).idx → D.bytes_read disk.new Idx ≤ D.bytes_read disk.old Idx + chains_bytes
+            (index_in (buckets_of self.now.first) (D.files disk.old).idx) drops.now + 16 * length adds.now }
+        ensures looks { LooksAt D.tells D.files D.left_since D.moment D.bytes_read D.follows Idx disk.old disk.new }
+        ensures cause { HasCauseAt (result ≡ Err PrepareFault.DiskFault) (D.faults disk.old) (D.faults disk.new) }
+    {
+        let mut change = self.start(alloc);
+        if let Err(fault) = drop_rows(alloc, disk, &mut change, drops) {
+            return Err(fault);
+        }
+        if !has_room(&change, adds, limit) {
+            return from_scratch(alloc, disk, &change, adds);
+        }
+        if let Err(fault) = add_rows(disk, &mut change, adds) {
+            return Err(fault);
+        }
+        in_place(alloc, change)
     }
 
     /// Works out a change of the index: drops a record of each of these rows, where there is one, and then adds records. Writes nothing,
@@ -82,16 +123,6 @@ impl Hindex {
         ensures looks { LooksAt D.tells D.files D.left_since D.moment D.bytes_read D.follows Idx disk.old disk.new }
         ensures cause { HasCauseAt (result ≡ Err PrepareFault.DiskFault) (D.faults disk.old) (D.faults disk.new) }
     {
-        let mut change = self.start(alloc);
-        if let Err(fault) = drop_rows(alloc, disk, &mut change, drops) {
-            return Err(fault);
-        }
-        if !has_room(&change, adds) {
-            return from_scratch(alloc, disk, &change, adds);
-        }
-        if let Err(fault) = add_rows(disk, &mut change, adds) {
-            return Err(fault);
-        }
-        in_place(alloc, change)
+        self.prepare_within(alloc, disk, drops, adds, UNITS)
     }
 }

@@ -73,7 +73,10 @@ fn rewritten(
     index.seal(disk, generation).or(Err("failed"))
 }
 
-// Changes an index that is sealed at the generation before, and seals it.
+// The most units that a file has.
+const UNITS: u64 = 268_435_456;
+
+// Changes an index that is sealed at the generation before, in place where so many units are enough, and seals it.
 #[tactic(auto, using(crate::proofs::Sealed::current_in_order))]
 fn changed(
     alloc: Global,
@@ -81,12 +84,16 @@ fn changed(
     drops: &Rows,
     adds: &Rows,
     generation: u32,
+    limit: u64,
 ) -> Result<(), &'static str> {
     let mut index = Hindex::open(disk).or(Err("failed"))?;
     if !index.is_current(generation.wrapping_sub(1)) {
         return Err("not current");
     }
-    let plan = index.prepare(alloc, disk, drops, adds).or(Err("failed"))?;
+    let limit = limit.min(UNITS);
+    let plan = index
+        .prepare_within(alloc, disk, drops, adds, limit)
+        .or(Err("failed"))?;
     index.apply(disk, plan).or(Err("failed"))?;
     if index.pending == 0 {
         return Err("nothing to seal");
@@ -155,7 +162,14 @@ fn a_row_is_there_as_often_as_it_was_put(rt: HostRuntime) -> Result<(), Fail> {
     let mut disk = MemDisk::new(alloc, &[], &[], &[])?;
     rewritten(alloc, &mut disk, &column(alloc, 0)?, 1)?;
     assert!(rt; are_found(alloc, &mut disk, 1, 0));
-    changed(alloc, &mut disk, &column(alloc, 1)?, &column(alloc, 2)?, 2)?;
+    changed(
+        alloc,
+        &mut disk,
+        &column(alloc, 1)?,
+        &column(alloc, 2)?,
+        2,
+        UNITS,
+    )?;
     assert!(rt; are_found(alloc, &mut disk, 2, 3));
     Ok(())
 }
@@ -287,7 +301,7 @@ fn replaced(
 ) -> Result<(), &'static str> {
     let drops = rows_of(alloc, drops).or(Err("no memory"))?;
     let adds = rows_of(alloc, adds).or(Err("no memory"))?;
-    changed(alloc, disk, &drops, &adds, generation)
+    changed(alloc, disk, &drops, &adds, generation, UNITS)
 }
 
 // Makes the index of each generation up to this one, and voids the third.
@@ -422,14 +436,16 @@ fn a_change_is_made_in_place_or_from_scratch(rt: HostRuntime) -> Result<(), Fail
     let alloc = rt.alloc();
     let mut disk = MemDisk::new(alloc, &[], &[], &[])?;
     rewritten(alloc, &mut disk, &numbered(alloc, 0, 100, 1)?, 1)?;
-    // the rows of each change are dropped and added, and then so many are there, and so many units
-    for (k, (drops, adds, rows, units)) in [
+    // the rows of each change are dropped and added, where a file has so many units, and then so many rows are there, and so many units
+    for (k, (drops, adds, limit, rows, units)) in [
         // in place, behind the 218 units that were there
-        ((10, 30), (120, 140), 100, 258),
+        ((10, 30), (120, 140), 258, 100, 258),
+        // one unit more than a file has: from scratch
+        ((130, 140), (130, 140), 277, 100, 2 + 64 / 4 + 200),
         // more than two records a bucket: from scratch
-        ((0, 0), (140, 440), 400, 2 + 256 / 4 + 800),
+        ((0, 0), (140, 440), UNITS, 400, 2 + 256 / 4 + 800),
         // more dead units than live ones: from scratch
-        ((120, 440), (0, 0), 80, 2 + 64 / 4 + 160),
+        ((120, 440), (0, 0), UNITS, 80, 2 + 64 / 4 + 160),
     ]
     .into_iter()
     .enumerate()
@@ -438,7 +454,7 @@ fn a_change_is_made_in_place_or_from_scratch(rt: HostRuntime) -> Result<(), Fail
         let drops = numbered(alloc, drops.0, drops.1, number)?;
         let adds = numbered(alloc, adds.0, adds.1, 2)?;
         let generation = k as u32 + 2;
-        changed(alloc, &mut disk, &drops, &adds, generation)?;
+        changed(alloc, &mut disk, &drops, &adds, generation, limit)?;
         assert_eq!(rt; count(alloc, &mut disk, generation, 0, 440), Some(rows));
         assert_eq!(rt; used(alloc, &disk)?, Some(units));
     }
@@ -451,7 +467,7 @@ fn small_change(alloc: Global, disk: &mut MemDisk) -> Result<(u64, u64), &'stati
     let adds = numbered(alloc, 100_000, 100_050, 1).or(Err("no memory"))?;
     let read = disk.bytes_read(File::Idx);
     let now = disk.now();
-    changed(alloc, disk, &drops, &adds, 2)?;
+    changed(alloc, disk, &drops, &adds, 2, UNITS)?;
     Ok((
         disk.bytes_read(File::Idx).saturating_sub(read),
         disk.now().saturating_sub(now),

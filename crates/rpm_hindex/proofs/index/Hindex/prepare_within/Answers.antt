@@ -21,7 +21,7 @@ use Rattle.rpm_hindex.proofs.Honest.{bad_memory}
 use Rattle.rpm_hindex.proofs.Fitting.{plan_fits, changed_least}
 use Rattle.rpm_hindex.specs.Costs.{chains_bytes}
 use Rattle.rpm_hindex.proofs.Results.{if_ok, if_err, if_ok_three}
-use Rattle.rpm_hindex.proofs.index.Hindex.prepare.Goals as goal
+use Rattle.rpm_hindex.proofs.index.Hindex.prepare_within.Goals as goal
 
 pub returns-then-not-has_room-clause-can : goal.returns-then-not-has_room-clause-can
 returns-then-not-has_room-clause-can g c = if_ok c.from_scratch.result _ _ (λ plan can. can c.args.self.now.units) c.from_scratch.ensures.can
