@@ -6,7 +6,6 @@ use Rattle.std.specs.List.{filter_map, cons_option, best_of, slice_get}
 use Rattle.rpm_version.specs.Capability.{capability}
 use Rattle.rpm_words.specs.declared.switch.Command.{Command}
 use Rattle.rpm_words.specs.declared.switch.Command.TheVariants.{Query}
-use Rattle.rpm_words.specs.declared.switch.Switch.{Switch}
 use Rattle.rpm_words.specs.declared.switch.Chosen.{Chosen}
 use Rattle.rpm_words.specs.declared.switch.Chosen.TheVariants.{Label}
 use Rattle.rpm_words.specs.declared.token.Token.{Token}
@@ -18,7 +17,6 @@ use Rattle.rpm_words.specs.declared.fault.WordsKind.{WordsKind}
 use Rattle.rpm_words.specs.declared.fault.WordsKind.TheVariants.{NoMode, Misplaced, MissingArgument, ExtraArgument, NoMemory}
 use Rattle.rpm_words.specs.declared.takes.Expected.{Expected}
 use Rattle.rpm_words.specs.declared.takes.Expected.TheVariants.{Text, Number, Capability}
-use Rattle.rpm_words.specs.declared.takes.Takes.{Takes}
 use Rattle.rpm_words.specs.Words.{text_at}
 use Rattle.rpm_words.specs.Number.{number}
 use Rattle.rpm_words.specs.Command.{head, is_other}

@@ -1,23 +1,20 @@
 -- What a command line says stands within its words.
-use Rattle.std.proofs.Common.{◌≡◌, ℕ, zero, suc, ◌+◌, ◌<◌, ◌≤◌, List, [], ◌∷◌, ◌++◌, Option, Some, None, Bool, true, false, cond, Result, Ok, Err, ◌&&◌, nat_le, length, drop, unwrap_or, refl, add-one, arith}
-use Rattle.std.specs.Option.{option_map, IfSome}
-use Rattle.std.specs.List.{All, filter_map, cons_option, last_or, slice_get}
-use Rattle.std.proofs.lemmas.List.Elements.{All-nil, All-cons, All-head, All-tail, All-append}
-use Rattle.std.proofs.lemmas.Grind.{common_steps}
+use Rattle.std.proofs.Common.{◌≡◌, ℕ, zero, suc, ◌+◌, ◌<◌, ◌≤◌, List, [], ◌∷◌, Option, Some, None, length, drop, refl, add-one, arith}
+use Rattle.std.specs.Option.{option_map}
+use Rattle.std.specs.List.{All, cons_option}
+use Rattle.std.proofs.lemmas.List.Elements.{All-nil, All-cons, All-append}
 use Rattle.rpm_words.specs.declared.switch.Program.{Program}
-use Rattle.rpm_words.specs.declared.switch.Command.{Command}
-use Rattle.rpm_words.specs.declared.switch.Command.TheVariants.{Query, Addpkg, Replacepkg, Erasepkg, Verify, Initdb, Rebuilddb, Verifydb, Exportdb, Importdb, Exercise, Order, Checkfiles}
 use Rattle.rpm_words.specs.declared.switch.Switch.{Switch}
 use Rattle.rpm_words.specs.declared.purpose.Purpose.{Purpose}
 use Rattle.rpm_words.specs.declared.purpose.Purpose.TheVariants.{Name, Unknown, Cluster, Whole, Inline, Awaits, Value, Ends, Plain, Rest}
 use Rattle.rpm_words.specs.declared.token.Token.{Token}
 use Rattle.rpm_words.specs.declared.token.Said.{Said}
-use Rattle.rpm_words.specs.declared.token.Said.TheVariants.{Refused, Sets, Gives, Argument}
+use Rattle.rpm_words.specs.declared.token.Said.TheVariants.{Refused, Gives, Argument}
 use Rattle.rpm_words.specs.Switch.{short_switch}
 use Rattle.rpm_words.specs.Words.{text_at}
 use Rattle.rpm_words.specs.Purpose.{purpose_behind}
 use Rattle.rpm_words.specs.Token.{token_at, option_at, letters, says, said_behind, said}
-use Rattle.rpm_words.specs.inner.Folder.{IsCut, IsSpelled}
+use Rattle.rpm_words.specs.inner.Folder.{IsSpelled}
 use Rattle.rpm_words.proofs.Spelled.{purpose_spelled}
 
 -- a value begins in its text, or at its end

@@ -23,7 +23,8 @@ use Rattle.rpm_words.specs.Fault.{fault}
 use Rattle.rpm_words.specs.Token.{said}
 use Rattle.rpm_words.specs.Place.{program_of}
 use Rattle.rpm_words.specs.Seen.{seen}
-use Rattle.rpm_words.specs.Broken.{first_broken}
+use Rattle.rpm_words.specs.Takes.{query_takes, expected}
+use Rattle.rpm_words.specs.Broken.{argument_fault, first_broken}
 
 pub record AskParts : Type 0 where
   pub mode : Mode
@@ -106,3 +107,7 @@ pub record IsSound (words : List (List ℕ)) (a : AskParts) : Type 0 where
   pub arguments : All (λ i. i < length words) a.arguments
   pub exercise : (n : ℕ) → a.mode ≡ mode.Exercise n → (1 ≤ n) × (n ≤ 100000)
   pub format : IfSome a.format (λ span. (span.word < length words) × (span.from ≤ length (text_at words span.word)))
+
+-- an argument of a query is what its selection wants
+abbrev pub IsFit : List (List ℕ) → Chosen → ℕ → Type 0
+IsFit words chosen word = argument_fault words (expected (query_takes chosen)) word ≡ None

@@ -1,6 +1,6 @@
 -- The mode and the selection that a command line begins with.
 use Rattle.std.specs.Prelude.{ℕ, List, Option, Some, None, Bool, false, not, ◌||◌, ◌==◌}
-use Rattle.std.specs.List.{filter_map, slice_get}
+use Rattle.std.specs.List.{slice_get}
 use Rattle.rpm_words.specs.declared.switch.Command.{Command}
 use Rattle.rpm_words.specs.declared.switch.Command.TheVariants.{Query, Addpkg, Replacepkg, Erasepkg, Verify, Initdb, Rebuilddb, Verifydb, Exportdb, Importdb, Exercise, Order, Checkfiles}
 use Rattle.rpm_words.specs.declared.switch.Chosen.{Chosen}

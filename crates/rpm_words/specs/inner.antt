@@ -1,3 +1,4 @@
 -- What the crate's own functions say of their steps. Nothing here is needed to read what `read` and `place_of` answer.
 pub mod Folder
+pub mod Given
 pub mod Steps
