@@ -9,7 +9,7 @@ use Rattle.rpm_outside.specs.declared.disk.File.TheVariants.{Pkg, Idx, Log}
 use Rattle.rpm_outside.specs.Changes.{Changes, Changed, Stops, OnlyIn, IsSettled}
 use Rattle.rpm_outside.specs.Crash.{LeavesOnly, bytes_for}
 use Rattle.rpm_outside.specs.Files.{Units, Files, unit_at}
-use Rattle.rpm_outside.specs.inner.Moments.{leaves_weaker}
+use Rattle.rpm_outside.specs.inner.Moments.{leaves_then, leaves_weaker}
 use Rattle.rpm_pkgdb.specs.Blobs.{blobs}
 use Rattle.rpm_pkgdb.specs.Quiet.{StandsFor, StandsAs, BlobMap, IsQuiet, Anything}
 use Rattle.rpm_pkgdb.specs.Store.{Store}
@@ -22,7 +22,7 @@ use Rattle.rpm_db.specs.Rows.{rows}
 use Rattle.rpm_db.specs.Runs.{Runs, CameOf}
 use Rattle.rpm_db.specs.inner.Running.{runs_then}
 use Rattle.rpm_db.specs.inner.Writes.{BlobsTo, IndexTo, WritesRows, SameLog, packages_of, state_of}
-use Rattle.rpm_db.proofs.Changed.{stops_store, stops_rows, two_runs}
+use Rattle.rpm_db.proofs.Changed.{store_stop, index_stop}
 use Rattle.rpm_db.proofs.Raised.{stands_same}
 
 -- the generation at which a value's index is sealed
@@ -32,6 +32,34 @@ sealed_at g idx s keeps current =
     let test = (and_parts (eqb (sealed s.first) g) (is_in_order s) current).0 in
     let is : sealed s.first ≡ g = grind (arith, nat_tests) in
     ap sealed (sym keeps.first) ∙ is
+
+module _ {D : Type 0} (moment : D → ℕ) (left_since : D → ℕ → Files → Type 0) (g f next : ℕ) (B after : BlobMap) (index : Units)
+    (at : sealed (unit_at index 0) ≡ g) (has : HasRows (packages_of B) index) (a : D) where
+  abbrev left : D → Files → Type 0
+  left d = left_since d (moment d)
+
+  abbrev LeavesStill : D → D → Type 0
+  LeavesStill x y = LeavesOnly moment left_since x y (IsChangedStill (state_of B f) (state_of after next) (left a))
+
+  stops_store : (b : D) → ((i : Files) → left a i → i.idx ≡ index)
+      → LeavesOnly moment left_since a b (Stops Pkg (BlobsTo g f next B after) (left a)) → LeavesStill a b
+  stops_store b settled run =
+      leaves_weaker moment left_since a b (Stops Pkg (BlobsTo g f next B after) (left a))
+      (IsChangedStill (state_of B f) (state_of after next) (left a))
+      (λ image s. store_stop g f next B after index at has (left a) image s.from s.was (s.idx ∙ settled s.from s.was) s.log s.pkg) run
+
+  stops_rows : (work : Work) → WritesRows (rows (packages_of after)) work index → (b c : D) → ((i : Files) → left a i → i.idx ≡ index)
+      → ((i : Files) → left b i → Changed Pkg Anything (left a) i) → ((i : Files) → left b i → StandsFor (g + 1) next after i.pkg)
+      → LeavesOnly moment left_since b c (Changed Idx (IndexTo (g + 1) work index) (left b)) → LeavesStill b c
+  stops_rows work writes_rows b c settled before stands run =
+      leaves_weaker moment left_since b c (Changed Idx (IndexTo (g + 1) work index) (left b))
+      (IsChangedStill (state_of B f) (state_of after next) (left a))
+      (λ image s. (let m = before s.from s.was in index_stop g f next B after index at has (left a) work writes_rows image m.from s.from m.was m.log
+      (m.idx ∙ settled m.from m.was) (stands s.from s.was) s.pkg s.log s.idx)) run
+
+  two_runs : (b c : D) → LeavesStill a b → LeavesStill b c → LeavesStill a c
+  two_runs b c first second =
+      leaves_then moment left_since a b c (IsChangedStill (state_of B f) (state_of after next) (left a)) first second
 
 module _ {D : Type 0} (tells : Bool) (files : D → Files) (left_since : D → ℕ → Files → Type 0) (moment : D → ℕ)
     (bytes_read : D → File → ℕ) (follows : D → D → Type 0) where

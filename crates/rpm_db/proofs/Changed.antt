@@ -1,28 +1,21 @@
 -- What stops leave while a change is made.
-use Rattle.std.proofs.Common.{◌≡◌, ◌⊎◌, inl, inr, ℕ, ◌+◌, ◌≤◌, ◌<◌, eqb, refl, sym, ap, ◌∙◌, subst, arith}
+use Rattle.std.proofs.Common.{◌≡◌, inl, inr, ℕ, ◌+◌, ◌<◌, eqb, sym, ap, ◌∙◌, subst, arith}
 use Rattle.std.specs.FinMap as finite
 use Rattle.std.specs.Ordering.{nat_cmp}
 use Rattle.std.proofs.lemmas.Bool.{and_parts}
 use Rattle.std.proofs.lemmas.Bool.Decides.{nat_tests}
-use Rattle.rpm_outside.specs.declared.disk.File.TheVariants.{Pkg, Idx}
-use Rattle.rpm_outside.specs.Changes.{Changed, Stops}
-use Rattle.rpm_outside.specs.Crash.{LeavesOnly}
-use Rattle.rpm_outside.specs.Files.{Units, Files, unit_at, blank}
-use Rattle.rpm_outside.specs.inner.Moments.{leaves_then, leaves_weaker}
-use Rattle.rpm_pkgdb.specs.Blobs.{blobs}
-use Rattle.rpm_pkgdb.specs.Quiet.{StandsFor, BlobMap, Anything}
+use Rattle.rpm_outside.specs.Files.{Units, Files, unit_at}
+use Rattle.rpm_pkgdb.specs.Quiet.{StandsFor, BlobMap}
 use Rattle.rpm_pkgdb.specs.Store.{Store}
 use Rattle.rpm_hindex.specs.declared.planning.Work.{Work}
-use Rattle.rpm_hindex.specs.Images.{IsSealed}
 use Rattle.rpm_hindex.specs.Index.{records}
-use Rattle.rpm_hindex.specs.Plans.{after, buckets_after}
 use Rattle.rpm_hindex.specs.Rows.{SameRows}
 use Rattle.rpm_hindex.specs.State.{sealed, state_of, is_current, is_in_order}
 use Rattle.rpm_hindex.specs.Whole.{IsWellFormed}
 use Rattle.rpm_db.specs.Changes.{IsChangedStill}
 use Rattle.rpm_db.specs.Lawful.{HasRows, Agrees, IsLawful}
 use Rattle.rpm_db.specs.Rows.{rows}
-use Rattle.rpm_db.specs.State.{State, Package, packages, state}
+use Rattle.rpm_db.specs.State.{Package, packages, state}
 use Rattle.rpm_db.specs.inner.LawfulLaws.{void_agrees}
 use Rattle.rpm_db.specs.inner.Writes as writes
 use Rattle.rpm_db.specs.inner.Writes.{BlobsTo, IndexTo, IsSealedAfter, WritesRows, packages_of, state_with}
@@ -139,31 +132,3 @@ module _ (g f next : ℕ) (B after : BlobMap) (index : Units) (at : sealed (unit
           lawful = index_lawful image.pkg mid.idx image.idx s idx to;
           says = inr (record { value = s.value; undamaged = s.undamaged; is = inr (inr (image_state (g + 1) next after image.pkg s)) });
         }
-
-module _ {D : Type 0} (moment : D → ℕ) (left_since : D → ℕ → Files → Type 0) (g f next : ℕ) (B after : BlobMap) (index : Units)
-    (at : sealed (unit_at index 0) ≡ g) (has : HasRows (packages_of B) index) (a : D) where
-  abbrev images : D → Files → Type 0
-  images d = left_since d (moment d)
-
-  abbrev Leaves : D → D → Type 0
-  Leaves x y = LeavesOnly moment left_since x y (IsChangedStill (writes.state_of B f) (writes.state_of after next) (images a))
-
-  pub stops_store : (b : D) → ((i : Files) → images a i → i.idx ≡ index)
-      → LeavesOnly moment left_since a b (Stops Pkg (BlobsTo g f next B after) (images a)) → Leaves a b
-  stops_store b settled run =
-      leaves_weaker moment left_since a b (Stops Pkg (BlobsTo g f next B after) (images a))
-      (IsChangedStill (writes.state_of B f) (writes.state_of after next) (images a))
-      (λ image s. store_stop g f next B after index at has (images a) image s.from s.was (s.idx ∙ settled s.from s.was) s.log s.pkg) run
-
-  pub stops_rows : (work : Work) → WritesRows (rows (packages_of after)) work index → (b c : D) → ((i : Files) → images a i → i.idx ≡ index)
-      → ((i : Files) → images b i → Changed Pkg Anything (images a) i) → ((i : Files) → images b i → StandsFor (g + 1) next after i.pkg)
-      → LeavesOnly moment left_since b c (Changed Idx (IndexTo (g + 1) work index) (images b)) → Leaves b c
-  stops_rows work writes_rows b c settled before stands run =
-      leaves_weaker moment left_since b c (Changed Idx (IndexTo (g + 1) work index) (images b))
-      (IsChangedStill (writes.state_of B f) (writes.state_of after next) (images a))
-      (λ image s. (let m = before s.from s.was in index_stop g f next B after index at has (images a) work writes_rows image m.from s.from m.was m.log
-      (m.idx ∙ settled m.from m.was) (stands s.from s.was) s.pkg s.log s.idx)) run
-
-  pub two_runs : (b c : D) → Leaves a b → Leaves b c → Leaves a c
-  two_runs b c first second =
-      leaves_then moment left_since a b c (IsChangedStill (writes.state_of B f) (writes.state_of after next) (images a)) first second

@@ -5,6 +5,7 @@ pub mod Opened
 pub mod Found
 pub mod Rebuilt
 pub mod Emptied
+pub mod EmptyStops
 pub mod Results
 pub mod States
 pub mod Raised
@@ -14,6 +15,8 @@ pub mod Both
 pub mod SameLogs
 pub mod Prepared
 pub mod Edited
+pub mod Unwritten
+pub mod Planning
 pub mod Refused
 pub mod Puts
 pub mod Applied

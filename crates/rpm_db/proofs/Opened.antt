@@ -1,5 +1,5 @@
 -- Opening with an index.
-use Rattle.std.proofs.Common.{◌≡◌, ℕ, ◌≤◌, ◌^◌, Bool, true, false, not, ◌&&◌, ◌==◌, Some, Ok, sym, ap, ◌∙◌, subst}
+use Rattle.std.proofs.Common.{◌≡◌, ℕ, ◌≤◌, ◌^◌, Bool, true, false, not, ◌&&◌, ◌==◌, Some, Ok, refl, sym, ap, ◌∙◌, subst}
 use Rattle.std.specs.Prelude.{IsTrue, Result}
 use Rattle.std.proofs.lemmas.Bool.{and_parts}
 use Rattle.rpm_outside.specs.declared.disk.File.{File}
@@ -25,8 +25,9 @@ pub opened_made : (old mid new : Files) (value : Store) (index : hindex.State) �
     → (not (is_current_at value.generation mid.idx) ≡ false → new ≡ mid)
     → new.pkg ≡ mid.pkg → pkgdb.Keeps mid.pkg value → hindex.Keeps new.idx index → hindex.is_current value.generation index ≡ true
     → (IsLawful mid.pkg mid.idx → HasRows (packages new.pkg value) new.idx)
+    → (is_current_at value.generation mid.idx ≡ false → HasRows (packages new.pkg value) new.idx)
     → IsOpened old new (Ok (record { store = value; index = Some index; stopped = false }))
-opened_made old mid new value index said same made full wrote pkg kept keeps current rows_are = record {
+opened_made old mid new value index said same made full wrote pkg kept keeps current rows_are rows_made = record {
   store_is = said;
   full = subst (λ (s : Result Store Damage). must_make old.idx s ≡ true → units_needed old.pkg s ≤ 2 ^ 28) (sym said)
       (λ making. subst (λ (f : Files). not (is_current_at value.generation f.idx) ≡ true → units_for (rows (packages f.pkg value)) ≤ 2 ^ 28) same full
@@ -39,7 +40,19 @@ opened_made old mid new value index said same made full wrote pkg kept keeps cur
     current = sym (current_same value.generation new.idx index keeps) ∙ current;
     rows_are = rows_are (subst (λ (f : Files). IsLawful f.pkg f.idx) (sym same) lawful);
   };
+  made = λ making. record {
+    current = sym (current_same value.generation new.idx index keeps) ∙ current;
+    rows_are = rows_made (subst (λ (f : Files). is_current_at value.generation f.idx ≡ false) (sym same)
+        (stale (subst (λ (s : Result Store Damage). must_make old.idx s ≡ true) said making)));
+  };
 }
+  where
+    unsaid : (b : Bool) → not b ≡ true → b ≡ false
+    unsaid true is = absurd cc
+    unsaid false is = refl
+
+    stale : must_make old.idx (Ok value) ≡ true → is_current_at value.generation old.idx ≡ false
+    stale making = unsaid (is_current_at value.generation old.idx) (and_parts (not (value.pages == 0)) (not (is_current_at value.generation old.idx)) making).1
 
 -- a file that is settled stands for what is kept of it in each image
 pub settled_quiet : (value : Store) (files : Files) (images : Files → Type 0) → pkgdb.Keeps files.pkg value → IsSettled Pkg files images

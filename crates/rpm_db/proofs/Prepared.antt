@@ -1,5 +1,5 @@
 -- A change of the index that is worked out, as one of the rows of packages.
-use Rattle.std.proofs.Common.{◌≡◌, ◌⊎◌, ℕ, ◌+◌, ◌-◌, ◌^◌, ◌<◌, ◌≤◌, List, length, inl, inr, sym, ap, ◌∙◌, Ok, Err, Result, arith}
+use Rattle.std.proofs.Common.{◌≡◌, ℕ, ◌+◌, ◌-◌, List, inl, inr, sym, ap, ◌∙◌, Ok, Err, Result, arith}
 use Rattle.std.specs.Prelude.{IsOk}
 use Rattle.std.specs.FinMap as finite
 use Rattle.std.specs.Ordering.{nat_cmp}
@@ -7,9 +7,9 @@ use Rattle.rpm_outside.specs.Files.{Units, unit_at}
 use Rattle.rpm_hindex.specs.declared.planning.Work.{Work}
 use Rattle.rpm_hindex.specs.declared.faults.PrepareFault.TheVariants.{BadIndex}
 use Rattle.rpm_hindex.specs.Index.{records}
-use Rattle.rpm_hindex.specs.Plans.{HasChanged, IsPlanFor, after, buckets_after}
-use Rattle.rpm_hindex.specs.Refusals.{IsBad, HasRoomFor}
-use Rattle.rpm_hindex.specs.Rows.{Row, SameRows, times}
+use Rattle.rpm_hindex.specs.Plans.{HasChanged, IsPlanFor}
+use Rattle.rpm_hindex.specs.Refusals.{IsBad}
+use Rattle.rpm_hindex.specs.Rows.{Row, times}
 use Rattle.rpm_hindex.specs.State.{buckets_of}
 use Rattle.rpm_hindex.specs.Whole.{IsWellFormed}
 use Rattle.rpm_db.specs.Lawful.{HasRows}

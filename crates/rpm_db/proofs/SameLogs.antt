@@ -1,6 +1,5 @@
 -- The log stays while a database is made.
 use Rattle.std.proofs.Common.{◌∙◌, ℕ, Bool}
-use Rattle.std.specs.Prelude.{IsTrue}
 use Rattle.rpm_outside.specs.declared.disk.File.{File}
 use Rattle.rpm_outside.specs.declared.disk.File.TheVariants.{Pkg}
 use Rattle.rpm_outside.specs.Changes.{Changes}

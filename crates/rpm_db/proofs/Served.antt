@@ -1,5 +1,5 @@
 -- What a changing call leaves of a value.
-use Rattle.std.proofs.Common.{◌≡◌, ℕ, ◌≤◌, Bool, true, false, Option, Some, refl, sym, ap, ◌∙◌, subst}
+use Rattle.std.proofs.Common.{◌≡◌, ℕ, ◌≤◌, Bool, true, Option, Some, refl, sym, ap, ◌∙◌, subst}
 use Rattle.std.specs.Prelude.{IsTrue}
 use Rattle.rpm_outside.specs.declared.disk.File.{File}
 use Rattle.rpm_outside.specs.Files.{Units, Files}
@@ -14,7 +14,8 @@ use Rattle.rpm_db.specs.Lawful.{HasRows, IsLawful}
 use Rattle.rpm_db.specs.Runs.{Runs}
 use Rattle.rpm_db.specs.State.{packages}
 use Rattle.rpm_db.specs.inner.Writes.{SameFiles}
-use Rattle.rpm_db.proofs.Edited.{quiet_room, quiet_same, settled_same}
+use Rattle.rpm_db.proofs.Edited.{quiet_room}
+use Rattle.rpm_db.proofs.Unwritten.{quiet_same, settled_same}
 use Rattle.rpm_db.proofs.Making.{current_same, rows_of_lawful}
 
 abbrev pub database_of : Store → Option hindex.State → Bool → Database

@@ -1,5 +1,5 @@
 -- The state that a change makes.
-use Rattle.std.proofs.Common.{◌≡◌, ◌⊎◌, ℕ, ◌+◌, ◌≤◌, ◌<◌, Bool, true, false, cond, ◌==◌, List, [], ◌∷◌, map, max, Option, Some, None, is_some, Ok, refl, sym, ap, ◌∙◌, inl, inr, arith}
+use Rattle.std.proofs.Common.{◌≡◌, ℕ, ◌+◌, ◌≤◌, ◌<◌, Bool, true, false, cond, ◌==◌, List, [], ◌∷◌, map, max, Option, Some, None, is_some, Ok, refl, sym, ap, ◌∙◌, inl, inr, arith}
 use Rattle.std.specs.List.{filter}
 use Rattle.std.specs.Option.{option_map}
 use Rattle.std.specs.Ordering.{nat_cmp, eq_by_cmp}
@@ -15,8 +15,8 @@ use Rattle.rpm_pkgdb.specs.Blobs.{blobs, entry_of}
 use Rattle.rpm_pkgdb.specs.Quiet.{BlobMap}
 use Rattle.rpm_pkgdb.specs.Slots.{is_used, greatest_number, slot_with}
 use Rattle.rpm_pkgdb.specs.Store.{Store, next_number}
-use Rattle.rpm_db.specs.Changes.{greatest_in, next, apply, Add, Put, Erase}
-use Rattle.rpm_db.specs.State.{State, Package, Good, read_as, package_of, packages, state}
+use Rattle.rpm_db.specs.Changes.{greatest_in, next}
+use Rattle.rpm_db.specs.State.{Package, Good, read_as, package_of, packages, state}
 use Rattle.rpm_db.specs.inner.Laws.{find-map, get-packages}
 use Rattle.rpm_db.specs.inner.Writes.{packages_of, state_with, state_of}
 

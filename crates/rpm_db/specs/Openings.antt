@@ -68,6 +68,7 @@ pub record IsOpened (old new : Files) (result : Result Database DbOpenFault) : T
   pub same : WritesNothing (must_make old.idx (store old.pkg)) result → new ≡ old
   pub keeps : IfOk result (λ db. Keeps new.pkg db × KeepsIndex new.idx db)
   pub index : IfOk result (λ db. is_blank db ≡ false → IsLawful old.pkg old.idx → IsIndexed new.pkg new.idx db)
+  pub made : IfOk result (λ db. must_make old.idx (store old.pkg) ≡ true → IsIndexed new.pkg new.idx db)
 
 -- ---- making the index
 

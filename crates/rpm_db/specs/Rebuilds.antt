@@ -18,3 +18,12 @@ IsRebuilt old new before after (Err NoMemory) = (new ≡ old) × (after ≡ befo
 IsRebuilt old new before after (Err Stopped) = (new ≡ old) × (after ≡ before) × (before.stopped ≡ true)
 IsRebuilt old new before after (Err DiskFault) = after.stopped ≡ true
 IsRebuilt old new before after (Err _) = ⊥
+
+-- which cause it answers: Stopped comes first, and there is no other but these
+abbrev pub RebuildIs : Database → Result (Unit {0}) ChangeFault → Type 0
+RebuildIs db (Ok done) = db.stopped ≡ false
+RebuildIs db (Err Stopped) = db.stopped ≡ true
+RebuildIs db (Err (IndexFull needed)) = db.stopped ≡ false
+RebuildIs db (Err DiskFault) = db.stopped ≡ false
+RebuildIs db (Err NoMemory) = db.stopped ≡ false
+RebuildIs db (Err _) = ⊥

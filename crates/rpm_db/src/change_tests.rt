@@ -8,14 +8,18 @@ use std::test::Fail;
 
 // One change of a database.
 #[derive(Clone, Copy)]
-enum Step<'a> {
+pub enum Step<'a> {
     Add(&'a [u8]),
     Put(u32, &'a [u8]),
     Erase(u32),
 }
 
 // Opens the database of this disk and changes it, and answers the number that was changed.
-fn change(alloc: Global, disk: &mut MemDisk, step: Step<'_>) -> Option<Result<u32, ChangeFault>> {
+pub fn change(
+    alloc: Global,
+    disk: &mut MemDisk,
+    step: Step<'_>,
+) -> Option<Result<u32, ChangeFault>> {
     let Ok(mut db) = Db::open(alloc, disk) else {
         return None;
     };
@@ -36,7 +40,7 @@ fn change(alloc: Global, disk: &mut MemDisk, step: Step<'_>) -> Option<Result<u3
 }
 
 // A disk with a database that was made, and has no packages.
-fn made(alloc: Global) -> Result<Option<MemDisk>, AllocError> {
+pub fn made(alloc: Global) -> Result<Option<MemDisk>, AllocError> {
     let mut disk = MemDisk::new(alloc, &[], &[], &[])?;
     let Ok(mut db) = Db::open(alloc, &mut disk) else {
         return Ok(None);
@@ -80,7 +84,7 @@ fn packages(
 }
 
 // Packages.db once package 1 was added, and Hindex.db: bucket 23 of 64 has the record of the name.
-fn store_of_one(alloc: Global) -> Result<Vec<u8>, AllocError> {
+pub fn store_of_one(alloc: Global) -> Result<Vec<u8>, AllocError> {
     packages(
         alloc,
         2,
@@ -89,7 +93,7 @@ fn store_of_one(alloc: Global) -> Result<Vec<u8>, AllocError> {
     )
 }
 
-fn index_of_one(alloc: Global) -> Result<Vec<u8>, AllocError> {
+pub fn index_of_one(alloc: Global) -> Result<Vec<u8>, AllocError> {
     let mut bytes = Vec::new(alloc);
     push_unit(&mut bytes, b"RpmH", [2, 2, 64])?;
     push_unit(&mut bytes, &[20, 0, 0, 0], [1, 2, 0])?;
@@ -218,6 +222,17 @@ fn only_header(alloc: Global, disk: &mut MemDisk) -> Option<Vec<u8>> {
     }
 }
 
+// Whether opening the database of one package reads its blocks exactly where the generations of the files differ: for the index.
+fn is_remade_where_due(alloc: Global, disk: &mut MemDisk) -> Result<bool, AllocError> {
+    let packages = disk.copy_file(alloc, File::Pkg)?;
+    let index = disk.copy_file(alloc, File::Idx)?;
+    let is_current = packages.get(8..12) == index.get(8..12);
+    match Db::open(alloc, disk) {
+        Ok(_) => Ok((disk.bytes_read(File::Pkg) == 4096) == is_current),
+        Err(_) => Ok(false),
+    }
+}
+
 #[test]
 fn a_stop_leaves_the_old_header_or_the_new_one(rt: HostRuntime) -> Result<(), Fail> {
     let alloc = rt.alloc();
@@ -237,6 +252,7 @@ fn a_stop_leaves_the_old_header_or_the_new_one(rt: HostRuntime) -> Result<(), Fa
         }
         for pick in [Pick::Old, Pick::New, Pick::Mixed(1)] {
             let mut image = disk.image(alloc, moment, pick)?;
+            assert!(rt; is_remade_where_due(alloc, &mut image)?, "{moment}");
             let Some(bytes) = only_header(alloc, &mut image) else {
                 return Err("stopped")?;
             };

@@ -13,6 +13,7 @@ ghost use Rattle.rpm_pkgdb.specs.Store as pkgdb;
 ghost use Rattle.rpm_pkgdb.specs.Slots.{slot_with};
 ghost use Rattle.rpm_pkgdb.specs.Costs.{opening_cost};
 ghost use Rattle.rpm_pkgdb.specs.Quiet.{IsQuiet};
+ghost use Rattle.rpm_db.specs.Changes.{next};
 ghost use Rattle.rpm_db.specs.State.{state};
 ghost use Rattle.rpm_db.specs.Database.{Keeps, OpenIs, IsNext, holds, is_blank, is_indexed, next_number};
 ghost use Rattle.rpm_db.specs.Lawful.{AreLawful, IsLawfulStill, Remade};
@@ -188,9 +189,10 @@ impl Db {
         self.is_stopped
     }
 
-    /// The number of the next package.
+    /// The number of the next package: the greater of the number field and one above the greatest number.
     pub fn next_number(&self) -> u32
-        ensures { result ≡ next_number self.now }
+        ensures number { result ≡ next_number self.now }
+        ensures told { (file : Units) → result ≡ next (state file self.now.store) }
     {
         self.store.next_number()
     }

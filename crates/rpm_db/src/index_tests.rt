@@ -1,3 +1,4 @@
+use crate::change_tests::{index_of_one, store_of_one};
 use crate::tests::file;
 use crate::{Db, FindFault};
 use rpm_outside::{File, MemDisk, Pick};
@@ -6,7 +7,7 @@ use std::alloc::{AllocError, Global};
 use std::test::Fail;
 
 // Unit 0 of an index of 64 buckets that is sealed at 1.
-const SEAL: [u8; 16] = [
+pub const SEAL: [u8; 16] = [
     0x52, 0x70, 0x6d, 0x48, 2, 0, 0, 0, 1, 0, 0, 0, 0x40, 0, 0, 0,
 ];
 
@@ -111,17 +112,39 @@ fn rebuilding_mends_an_index(rt: HostRuntime) -> Result<(), Fail> {
     Ok(())
 }
 
-#[test]
-fn a_stop_while_the_index_is_made_leaves_all_packages(rt: HostRuntime) -> Result<(), Fail> {
-    let alloc = rt.alloc();
-    let mut disk = MemDisk::new(alloc, &file(alloc)?, &[], &[])?;
-    assert!(rt; named(alloc, &mut disk) == Some((5, 21)));
+// Whether each stop of opening this store over this index leaves the store as it is, and so many packages with the name `a`.
+fn stays(
+    alloc: Global,
+    store: &[u8],
+    index: &[u8],
+    expected: (usize, u32),
+) -> Result<bool, AllocError> {
+    let mut disk = MemDisk::new(alloc, store, index, &[])?;
+    if named(alloc, &mut disk) != Some(expected) {
+        return Ok(false);
+    }
     for moment in 0..=disk.now() {
         for pick in [Pick::Old, Pick::New, Pick::Mixed(1)] {
             let mut image = disk.image(alloc, moment, pick)?;
-            assert!(rt; named(alloc, &mut image) == Some((5, 21)), "{moment}");
+            let packages = image.copy_file(alloc, File::Pkg)?;
+            if packages.as_slice() != store || named(alloc, &mut image) != Some(expected) {
+                return Ok(false);
+            }
         }
     }
+    Ok(true)
+}
+
+#[test]
+fn a_stop_while_the_index_is_made_leaves_all_packages(rt: HostRuntime) -> Result<(), Fail> {
+    let alloc = rt.alloc();
+    assert!(rt; stays(alloc, &file(alloc)?, &[], (5, 21))?);
+    // the index of generation 1 under a store of generation 2
+    let mut older = index_of_one(alloc)?;
+    if older.len() > 8 {
+        older[8] = 1;
+    }
+    assert!(rt; stays(alloc, &store_of_one(alloc)?, &older, (1, 1))?);
     Ok(())
 }
 

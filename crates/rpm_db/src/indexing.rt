@@ -1,6 +1,6 @@
 //! Making the index from the packages.
 
-ghost use Rattle.std.specs.Prelude.{◌≡◌, ◌≢◌, ℕ, ◌+◌, ◌≤◌, ◌<◌, IsTrue, true, not, None, Err, OnOk, IfOk, IfErr, if◌then◌else◌};
+ghost use Rattle.std.specs.Prelude.{◌≡◌, ◌≢◌, ℕ, ◌+◌, ◌≤◌, ◌<◌, IsTrue, true, false, not, None, Err, OnOk, IfOk, IfErr, if◌then◌else◌};
 ghost use Rattle.rpm_outside.specs.Files.{Files};
 ghost use Rattle.rpm_outside.specs.Causes.{HasCause, HasCauseAt};
 ghost use Rattle.rpm_outside.specs.Changes.{IsSettled};
@@ -139,6 +139,8 @@ pub fn index_for<D: Disk>(alloc: Global, disk: &mut D, store: &PkgDb) -> Result<
     ensures current { IfOk result (λ index. hindex.is_current store.now.generation index ≡ true) }
     ensures kept { IfOk result (λ index. IsTrue D.tells → hindex.Keeps (D.files disk.new).idx index) }
     ensures rows { IfOk result (λ _index. IsTrue D.tells → IsLawful (D.files disk.old).pkg (D.files disk.old).idx → HasRows
+        (packages (D.files disk.new).pkg store.now) (D.files disk.new).idx) }
+    ensures made { IfOk result (λ _index. IsTrue D.tells → is_current_at store.now.generation (D.files disk.old).idx ≡ false → HasRows
         (packages (D.files disk.new).pkg store.now) (D.files disk.new).idx) }
     ensures idx { IfOk result (λ _index. IsTrue D.tells → IsSettled Idx (D.files disk.new) (D.left_since disk.new (D.moment disk.new))) }
     ensures reads { IsTrue D.tells → D.bytes_read disk.new Pkg ≤ D.bytes_read disk.old Pkg

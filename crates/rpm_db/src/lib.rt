@@ -15,6 +15,10 @@ mod finding;
 #[cfg(test)]
 mod index_tests;
 mod indexing;
+#[cfg(test)]
+mod limit_tests;
+#[cfg(test)]
+mod many_tests;
 mod opening;
 mod preparing;
 mod putting;

@@ -13,7 +13,7 @@ ghost use Rattle.rpm_hindex.specs.Sizes.{units_for};
 ghost use Rattle.rpm_db.specs.Database.{Keeps, KeepsIndex, KeepsUnits, IsInOrder, IsIndexed, is_indexed, cost_all};
 ghost use Rattle.rpm_db.specs.Lawful.{AreLawful, IsIndexOf, IsLawfulStill, Remade};
 ghost use Rattle.rpm_db.specs.Openings.{FullIs};
-ghost use Rattle.rpm_db.specs.Rebuilds.{IsRebuilt};
+ghost use Rattle.rpm_db.specs.Rebuilds.{IsRebuilt, RebuildIs};
 ghost use Rattle.rpm_db.specs.Rows.{rows};
 ghost use Rattle.rpm_db.specs.Runs.{Runs};
 ghost use Rattle.rpm_db.specs.State.{packages};
@@ -75,11 +75,12 @@ impl Db {
         requires indexed { is_indexed self.old ≡ true }
         requires keeps { self.old.stopped ≡ false → IsTrue D.tells → Keeps (D.files disk.old).pkg self.old }
         requires index { self.old.stopped ≡ false → IsTrue D.tells → KeepsIndex (D.files disk.old).idx self.old }
+        ensures causes { RebuildIs self.old result }
         ensures rebuilt { IsTrue D.tells → IsRebuilt (D.files disk.old) (D.files disk.new) self.old self.new result }
         ensures store { self.new.store ≡ self.old.store }
         ensures indexed { is_indexed self.new ≡ true }
         ensures stopped { (self.new.stopped ≡ true → (self.old.stopped ≡ true) ⊎ (result ≡ Err ChangeFault.DiskFault))
-            × (result ≡ Err ChangeFault.Stopped → self.old.stopped ≡ true) }
+            × (result ≡ Err ChangeFault.DiskFault → self.new.stopped ≡ true) }
         ensures pkg { OnOk result (IsTrue D.tells → IsSettled Pkg (D.files disk.new) (D.left_since disk.new (D.moment disk.new))) }
         ensures settled { OnOk result (IsTrue D.tells → IsSettled Idx (D.files disk.new) (D.left_since disk.new (D.moment disk.new))) }
         ensures stops { IsTrue D.tells → AreLawful (D.left_since disk.old (D.moment disk.old)) → LeavesOnly D.moment D.left_since disk.old disk.new

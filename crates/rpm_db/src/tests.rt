@@ -69,32 +69,22 @@ fn push_blocks(
     bytes.extend_from_slice(end)
 }
 
-// The file of seven packages. Sums that don't hold are 0.
-pub fn file(alloc: Global) -> Result<Vec<u8>, AllocError> {
-    let mut behind = Vec::new(alloc);
-    behind.extend_from_slice(&PLAIN)?;
-    behind.extend_from_slice(b"more")?;
-    let right = signed(alloc, DIGEST, 6)?;
-    let wrong = signed(alloc, OTHER, 6)?;
-    let bytes = signed(alloc, OTHER, 7)?;
-    let table: [(u32, &[u8], u32, &[u8]); 7] = [
-        (1, behind.as_slice(), 0x761f_08a2, b"BlbE"),
-        (2, wrong.as_slice(), 0, b"BlbE"),
-        (3, b"no header", 0, b"BlbE"),
-        (4, &PLAIN, 0, b"BlbX"),
-        (5, right.as_slice(), 0xa550_1ddc, b"BlbE"),
-        (6, wrong.as_slice(), 0xa51c_1da9, b"BlbE"),
-        (7, bytes.as_slice(), 0xa651_1dab, b"BlbE"),
-    ];
+// A Packages.db of one page, generation 1 and next number 4: its packages in the order of their slots, with a checksum and the magic at
+// the end of their blocks.
+pub fn store(alloc: Global, packages: &[(u32, &[u8], u32, &[u8])]) -> Result<Vec<u8>, AllocError> {
     let mut pages = Vec::new(alloc);
     push_unit(&mut pages, b"RpmP", [0, 1, 1])?;
     push_unit(&mut pages, &[4, 0, 0, 0], [0; 3])?;
     let mut blobs = Vec::new(alloc);
-    for (number, blob, sum, end) in table {
+    for (number, blob, sum, end) in packages {
         let before = u32::try_from(blobs.len() / 16).unwrap_or(0);
-        push_blocks(&mut blobs, number, blob, sum, end)?;
+        push_blocks(&mut blobs, *number, blob, *sum, end)?;
         let after = u32::try_from(blobs.len() / 16).unwrap_or(0);
-        let slot = [number, before.wrapping_add(256), after.wrapping_sub(before)];
+        let slot = [
+            *number,
+            before.wrapping_add(256),
+            after.wrapping_sub(before),
+        ];
         push_unit(&mut pages, b"Slot", slot)?;
     }
     for _ in 0..256 {
@@ -104,6 +94,28 @@ pub fn file(alloc: Global) -> Result<Vec<u8>, AllocError> {
     }
     pages.extend_from_slice(&blobs)?;
     Ok(pages)
+}
+
+// The file of seven packages. Sums that don't hold are 0.
+pub fn file(alloc: Global) -> Result<Vec<u8>, AllocError> {
+    let mut behind = Vec::new(alloc);
+    behind.extend_from_slice(&PLAIN)?;
+    behind.extend_from_slice(b"more")?;
+    let right = signed(alloc, DIGEST, 6)?;
+    let wrong = signed(alloc, OTHER, 6)?;
+    let bytes = signed(alloc, OTHER, 7)?;
+    store(
+        alloc,
+        &[
+            (1, behind.as_slice(), 0x761f_08a2, b"BlbE"),
+            (2, wrong.as_slice(), 0, b"BlbE"),
+            (3, b"no header", 0, b"BlbE"),
+            (4, &PLAIN, 0, b"BlbX"),
+            (5, right.as_slice(), 0xa550_1ddc, b"BlbE"),
+            (6, wrong.as_slice(), 0xa51c_1da9, b"BlbE"),
+            (7, bytes.as_slice(), 0xa651_1dab, b"BlbE"),
+        ],
+    )
 }
 
 // What verifying a number of the file says.

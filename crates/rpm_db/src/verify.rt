@@ -1,6 +1,6 @@
 //! Whether a package is sound.
 
-ghost use Rattle.std.specs.Prelude.{◌≡◌, ℕ, length, ◌+◌, ◌*◌, ◌≤◌, ◌↔◌, IsTrue, false, Some, Err};
+ghost use Rattle.std.specs.Prelude.{◌≡◌, ℕ, length, ◌+◌, ◌≤◌, ◌↔◌, IsTrue, false, Some, Err};
 ghost use Rattle.std.specs.Option.{option_map, option_copied};
 ghost use Rattle.rpm_header.specs.Header.{header};
 ghost use Rattle.rpm_header.specs.Digest.{immutable_digest};
@@ -16,7 +16,7 @@ use crate::database::Db;
 use hex::encode_to_slice;
 use rpm_header::{View, immutable_digest};
 use rpm_outside::Disk;
-use rpm_pkgdb::GetFault;
+use rpm_pkgdb::{Checked, GetFault};
 use rpm_tags::first_text;
 use std::alloc::Global;
 
@@ -70,7 +70,7 @@ fn header_verdict(holds: bool, blob: &[u8]) -> Verdict
 impl Db {
     /// What verifying a number says.
     ///
-    /// Reads the number's own blocks twice at most, and hashes the header's region.
+    /// Reads the number's own blocks, each once, and hashes the header's region.
     ///
     /// # Errors
     ///
@@ -83,16 +83,11 @@ impl Db {
         ensures kept { IsTrue D.tells → Keeps (D.files disk.new).pkg self.now }
         ensures told { IsTrue D.tells → VerifyIs (verdict (D.files disk.old).pkg self.now n) result }
         ensures absent { (result ≡ Err GetFault.NoSuch) ↔ (holds n self.now ≡ false) }
-        ensures looks { Looks D.tells D.files D.left_since D.moment D.bytes_read D.follows Pkg (2 * cost n self.now) disk.old disk.new }
+        ensures looks { Looks D.tells D.files D.left_since D.moment D.bytes_read D.follows Pkg (cost n self.now) disk.old disk.new }
         ensures cause { HasCauseAt (result ≡ Err GetFault.DiskFault) (D.faults disk.old) (D.faults disk.new) }
     {
-        let holds = match self.store.checksum_holds(alloc, disk, n) {
-            Ok(holds) => holds,
-            Err(GetFault::Bad) => return Ok(Verdict::BadHeader),
-            Err(fault) => return Err(fault),
-        };
-        match self.store.get(alloc, disk, n) {
-            Ok(blob) => Ok(header_verdict(holds, &blob)),
+        match self.store.read_checked(alloc, disk, n) {
+            Ok(Checked { blob, holds }) => Ok(header_verdict(holds, &blob)),
             Err(GetFault::Bad) => Ok(Verdict::BadHeader),
             Err(fault) => Err(fault),
         }

@@ -7,7 +7,7 @@ use Rattle.std.proofs.lemmas.Bool.Decides.{nat_tests}
 use Rattle.std.proofs.lemmas.List.{length-take-le, drop-take, take_all}
 use Rattle.rpm_header.specs.declared.form.HeaderFault.{HeaderFault}
 use Rattle.rpm_header.specs.Bytes.{number_at}
-use Rattle.rpm_header.specs.Header.{Header, header, header_of, unless}
+use Rattle.rpm_header.specs.Header.{Header, header, header_of, unless, max_entries, max_data}
 
 passed : (o : Option HeaderFault) (x h : Header) → unless o x ≡ Ok h → x ≡ h
 passed None x h is = cc
@@ -32,7 +32,7 @@ number_in_front n at bytes within =
     rw (← size, drop-take) (four_in_front (n - (at + 4)) (drop at bytes))
 
 whole_again : (il dl n : ℕ) (bytes : List ℕ) (h : Header) → il ≡ number_at w32 bytes 0 → dl ≡ number_at w32 bytes 4 → n ≡ 8 + 16 * il + dl → n ≤ length bytes
-    → nat_lt 65535 il ≡ false → nat_lt 67108864 dl ≡ false → header_of il (take n bytes) ≡ Ok h → header (take n bytes) ≡ Ok h
+    → nat_lt max_entries il ≡ false → nat_lt max_data dl ≡ false → header_of il (take n bytes) ≡ Ok h → header (take n bytes) ≡ Ok h
 unfolding header
 whole_again il dl n bytes h first second size within few small is =
     let own : length (take n bytes) ≡ n = length-take-le n bytes within in
@@ -52,9 +52,9 @@ header-own bytes h is =
     let n = 8 + 16 * il + dl in
     elim (cases_Bool (nat_lt (length bytes) 8)) [
       | inl short ↦ (let no = rw short at is in absurd cc)
-      | inr long ↦ elim (cases_Bool (nat_lt 65535 il)) [
+      | inr long ↦ elim (cases_Bool (nat_lt max_entries il)) [
         | inl many ↦ (let no = rw (long, many) at is in absurd cc)
-        | inr few ↦ elim (cases_Bool (nat_lt 67108864 dl)) [
+        | inr few ↦ elim (cases_Bool (nat_lt max_data dl)) [
           | inl much ↦ (let no = rw (long, few, much) at is in absurd cc)
           | inr small ↦ elim (cases_Bool (nat_lt (length bytes) n)) [
             | inl cut ↦ (let no = rw (long, few, small, cut) at is in absurd cc)

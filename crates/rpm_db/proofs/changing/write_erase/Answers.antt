@@ -1,13 +1,10 @@
-use Rattle.std.proofs.Common.{◌≡◌, ℕ, ◌+◌, true, refl, sym, ap, ◌∙◌, subst, arith}
+use Rattle.std.proofs.Common.{◌≡◌, ℕ, true, sym, ap, ◌∙◌, subst, arith}
 use Rattle.std.specs.FinMap as finite
 use Rattle.rpm_outside.specs.Files.{Units}
 use Rattle.rpm_pkgdb.specs.Blobs.{blobs}
-use Rattle.rpm_pkgdb.specs.Growing.{moving_cost}
-use Rattle.rpm_pkgdb.specs.Planned.{moves_of}
 use Rattle.rpm_pkgdb.specs.Quiet.{Anything, StandsFor}
 use Rattle.rpm_pkgdb.specs.Slots.{slot_with}
 use Rattle.rpm_pkgdb.specs.Store.{Store, store}
-use Rattle.rpm_pkgdb.specs.Written.{next_field, field_after}
 use Rattle.rpm_hindex.specs.State as hindex
 use Rattle.rpm_db.specs.inner.Writes.{IndexTo, IsSealedAfter}
 use Rattle.rpm_db.proofs.Both.{sealed_at, runs_store, runs_both, quiet_then, store_stops, change_stops}

@@ -1,4 +1,4 @@
-use Rattle.std.proofs.Common.{◌≡◌, ℕ, ◌+◌, true, Some, refl, sym, ap, ◌∙◌, subst, arith}
+use Rattle.std.proofs.Common.{◌≡◌, ℕ, true, Some, sym, ap, ◌∙◌, subst, arith}
 use Rattle.std.specs.FinMap as finite
 use Rattle.rpm_outside.specs.Files.{Units}
 use Rattle.rpm_pkgdb.specs.Blobs.{blobs}
@@ -39,9 +39,7 @@ returns-in_default-clause-unread g c = omega (arith, c.in_default.ensures.change
 
 pub returns-in_default-clause-runs : goal.returns-in_default-clause-runs
 returns-in_default-clause-runs g c =
-    runs_store g.D.Disk.tells g.D.Disk.files g.D.Disk.left_since g.D.Disk.moment g.D.Disk.bytes_read g.D.Disk.follows Anything (moving_cost
-    c.args.store.now.slots (moves_of c.args.plan.page)) c.args.disk.now
-    c.put_raised.new.disk c.in_default.ensures.changes
+    runs_store _ _ _ _ _ _ Anything (moving_cost c.args.store.now.slots (moves_of c.args.plan.page)) _ _ c.in_default.ensures.changes
 
 -- ---- the index was
 
@@ -51,15 +49,13 @@ returns-in-Ok-write_rows-clause-stops g c = λ told has change.
     let a = c.args.disk.now in
     let file = (g.D.Disk.files a).pkg in
     let e = c.in-Ok.ensures in
-    let put = c.put_raised.new.store in
     let generation = ap (λ (v : Store). v.generation) e.ok in
-    change_stops g.D.Disk.tells g.D.Disk.files g.D.Disk.left_since g.D.Disk.moment g.D.Disk.bytes_read g.D.Disk.follows told st.generation st.field
-    (field_after (next_field c.args.plan.target) st.field) (blobs file st) (finite.insert (blobs file st) c.args.plan.target.number (Some c.args.blob.now))
-    a c.put_raised.new.disk c.write_rows.new.disk
+    change_stops _ _ _ _ _ _ told st.generation st.field (field_after (next_field c.args.plan.target) st.field) (blobs file st)
+    (finite.insert (blobs file st) c.args.plan.target.number (Some c.args.blob.now)) a c.put_raised.new.disk c.write_rows.new.disk
     (sealed_at st.generation (g.D.Disk.files a).idx c.args.index.now (c.requires.units told) c.requires.order) has (c.requires.settled told)
-    c.args.change.work put c.generation.result (moving_cost c.args.store.now.slots (moves_of c.args.plan.page)) change (e.images told (c.requires.quiet
-    told)) e.changes generation
-    (ap (λ (v : Store). v.field) e.ok) (e.blobs told) (e.stands told) (c.generation.ensures.value ∙ generation) c.in-Ok-write_rows.ensures.changes
+    c.args.change.work c.put_raised.new.store c.generation.result (moving_cost st.slots (moves_of c.args.plan.page)) change
+    (e.images told (c.requires.quiet told)) e.changes generation (ap (λ (v : Store). v.field) e.ok) (e.blobs told) (e.stands told)
+    (c.generation.ensures.value ∙ generation) c.in-Ok-write_rows.ensures.changes
 
 pub returns-in-Ok-write_rows-clause-reads : goal.returns-in-Ok-write_rows-clause-reads
 returns-in-Ok-write_rows-clause-reads g c = omega (arith, c.in-Ok.ensures.changes.reads.pkg, c.in-Ok-write_rows.ensures.changes.reads.pkg)
@@ -69,10 +65,9 @@ returns-in-Ok-write_rows-clause-unread g c = omega (arith, c.in-Ok.ensures.chang
 
 pub returns-in-Ok-write_rows-clause-runs : goal.returns-in-Ok-write_rows-clause-runs
 returns-in-Ok-write_rows-clause-runs g c =
-    runs_both g.D.Disk.tells g.D.Disk.files g.D.Disk.left_since g.D.Disk.moment g.D.Disk.bytes_read g.D.Disk.follows g.met.D.Disk.follows_trans Anything
-    (IndexTo c.generation.result c.args.change.work (g.D.Disk.files c.put_raised.new.disk).idx) (moving_cost c.args.store.now.slots (moves_of
-    c.args.plan.page)) 0
-    c.args.disk.now c.put_raised.new.disk c.write_rows.new.disk c.in-Ok.ensures.changes c.in-Ok-write_rows.ensures.changes
+    runs_both _ _ _ _ _ _ g.met.D.Disk.follows_trans Anything
+    (IndexTo c.generation.result c.args.change.work (g.D.Disk.files c.put_raised.new.disk).idx)
+    (moving_cost c.args.store.now.slots (moves_of c.args.plan.page)) 0 _ _ _ c.in-Ok.ensures.changes c.in-Ok-write_rows.ensures.changes
 
 pub returns-in-Err-clause-stops : goal.returns-in-Err-clause-stops
 returns-in-Err-clause-stops g c = λ told has change.
@@ -80,15 +75,13 @@ returns-in-Err-clause-stops g c = λ told has change.
     let a = c.args.disk.now in
     let file = (g.D.Disk.files a).pkg in
     let e = c.in-Ok.ensures in
-    let put = c.put_raised.new.store in
     let generation = ap (λ (v : Store). v.generation) e.ok in
-    change_stops g.D.Disk.tells g.D.Disk.files g.D.Disk.left_since g.D.Disk.moment g.D.Disk.bytes_read g.D.Disk.follows told st.generation st.field
-    (field_after (next_field c.args.plan.target) st.field) (blobs file st) (finite.insert (blobs file st) c.args.plan.target.number (Some c.args.blob.now))
-    a c.put_raised.new.disk c.write_rows.new.disk
+    change_stops _ _ _ _ _ _ told st.generation st.field (field_after (next_field c.args.plan.target) st.field) (blobs file st)
+    (finite.insert (blobs file st) c.args.plan.target.number (Some c.args.blob.now)) a c.put_raised.new.disk c.write_rows.new.disk
     (sealed_at st.generation (g.D.Disk.files a).idx c.args.index.now (c.requires.units told) c.requires.order) has (c.requires.settled told)
-    c.args.change.work put c.generation.result (moving_cost c.args.store.now.slots (moves_of c.args.plan.page)) change (e.images told (c.requires.quiet
-    told)) e.changes generation
-    (ap (λ (v : Store). v.field) e.ok) (e.blobs told) (e.stands told) (c.generation.ensures.value ∙ generation) c.in-Err.ensures.changes
+    c.args.change.work c.put_raised.new.store c.generation.result (moving_cost st.slots (moves_of c.args.plan.page)) change
+    (e.images told (c.requires.quiet told)) e.changes generation (ap (λ (v : Store). v.field) e.ok) (e.blobs told) (e.stands told)
+    (c.generation.ensures.value ∙ generation) c.in-Err.ensures.changes
 
 pub returns-in-Err-clause-reads : goal.returns-in-Err-clause-reads
 returns-in-Err-clause-reads g c = omega (arith, c.in-Ok.ensures.changes.reads.pkg, c.in-Err.ensures.changes.reads.pkg)
@@ -98,10 +91,9 @@ returns-in-Err-clause-unread g c = omega (arith, c.in-Ok.ensures.changes.reads.i
 
 pub returns-in-Err-clause-runs : goal.returns-in-Err-clause-runs
 returns-in-Err-clause-runs g c =
-    runs_both g.D.Disk.tells g.D.Disk.files g.D.Disk.left_since g.D.Disk.moment g.D.Disk.bytes_read g.D.Disk.follows g.met.D.Disk.follows_trans Anything
-    (IndexTo c.generation.result c.args.change.work (g.D.Disk.files c.put_raised.new.disk).idx) (moving_cost c.args.store.now.slots (moves_of
-    c.args.plan.page)) 0
-    c.args.disk.now c.put_raised.new.disk c.write_rows.new.disk c.in-Ok.ensures.changes c.in-Err.ensures.changes
+    runs_both _ _ _ _ _ _ g.met.D.Disk.follows_trans Anything
+    (IndexTo c.generation.result c.args.change.work (g.D.Disk.files c.put_raised.new.disk).idx)
+    (moving_cost c.args.store.now.slots (moves_of c.args.plan.page)) 0 _ _ _ c.in-Ok.ensures.changes c.in-Err.ensures.changes
 
 -- ---- all was
 
@@ -125,9 +117,7 @@ returns-in-Ok-write_rows-clause-sealed g c = λ told.
 
 pub returns-in-Ok-write_rows-clause-quiet : goal.returns-in-Ok-write_rows-clause-quiet
 returns-in-Ok-write_rows-clause-quiet g c = λ told.
-    quiet_then g.D.Disk.tells g.D.Disk.files g.D.Disk.left_since g.D.Disk.moment g.D.Disk.bytes_read g.D.Disk.follows told c.put_raised.new.store
-    (IndexTo c.generation.result c.args.change.work (g.D.Disk.files c.put_raised.new.disk).idx) 0 c.put_raised.new.disk c.write_rows.new.disk
-    c.in-Ok-write_rows.ensures.changes (c.in-Ok.ensures.quiet told)
+    quiet_then _ _ _ _ _ _ told c.put_raised.new.store _ 0 _ _ c.in-Ok-write_rows.ensures.changes (c.in-Ok.ensures.quiet told)
 
 -- ---- what holds of each value
 

@@ -13,7 +13,7 @@ returns-in-Ok-index_for-clause-opened g c = λ told.
     let f = g.D.Disk.files in
     opened_made (f c.args.disk.now) (f c.open_store.new.disk) (f c.index_for.new.disk) c.in-Ok.store c.in-Ok-index_for.index
     (c.in-Ok.ensures.store told) (c.in-Ok.ensures.looks.untouched told).same (sym c.is_blank.ensures ∙ c.if-is_blank.false)
-    (e.full told) (e.same told) (e.runs.reads_as told).pkg (c.in-Ok.ensures.kept told) (e.kept told) e.current (e.rows told)
+    (e.full told) (e.same told) (e.runs.reads_as told).pkg (c.in-Ok.ensures.kept told) (e.kept told) e.current (e.rows told) (e.made told)
 
 pub returns-in-Ok-index_for-clause-runs : goal.returns-in-Ok-index_for-clause-runs
 returns-in-Ok-index_for-clause-runs g c =

@@ -1,4 +1,4 @@
-use Rattle.std.proofs.Common.{◌≡◌, ℕ, true, refl, ap, sym, ◌∙◌, subst}
+use Rattle.std.proofs.Common.{◌≡◌, ℕ, true, false, refl, ap, sym, ◌∙◌, subst}
 use Rattle.rpm_outside.specs.Files.{Files}
 use Rattle.rpm_outside.specs.declared.disk.File.TheVariants.{Idx}
 use Rattle.rpm_hindex.specs.State.{is_current}
@@ -26,6 +26,28 @@ returns-then-is_current-clause-rows g c = λ told lawful.
 
 pub returns-in-Ok-make_index-clause-rows : goal.returns-in-Ok-make_index-clause-rows
 returns-in-Ok-make_index-clause-rows g c = λ told lawful.
+    let value = c.args.store.now in
+    let same = (c.in-Ok.ensures.looks.untouched told).same in
+    let e = c.in-Ok-make_index.ensures in
+    let new = g.D.Disk.files c.make_index.new.disk in
+    let pkg : new.pkg ≡ (g.D.Disk.files c.args.disk.now).pkg = (e.runs.reads_as told).pkg ∙ ap (λ (f : Files). f.pkg) same in
+    rows_of_index new.pkg new.idx value (ap store pkg ∙ c.requires.keeps told) (e.index told)
+
+pub returns-then-is_current-clause-made : goal.returns-then-is_current-clause-made
+returns-then-is_current-clause-made g c = λ told stale.
+    let value = c.args.store.now in
+    let old = g.D.Disk.files c.args.disk.now in
+    let new = g.D.Disk.files c.open.new.disk in
+    let same = (c.in-Ok.ensures.looks.untouched told).same in
+    let here : is_current value.generation c.in-Ok.index ≡ true =
+    ap (λ (n : ℕ). is_current n c.in-Ok.index) (sym c.generation.ensures.value) ∙ sym c.is_current.ensures ∙ c.if-is_current.true in
+    let now : is_current_at value.generation new.idx ≡ true =
+    sym (current_same value.generation new.idx c.in-Ok.index (c.in-Ok.ensures.kept told)) ∙ here in
+    let both : true ≡ false = sym now ∙ ap (λ (f : Files). is_current_at value.generation f.idx) same ∙ stale in
+    absurd cc
+
+pub returns-in-Ok-make_index-clause-made : goal.returns-in-Ok-make_index-clause-made
+returns-in-Ok-make_index-clause-made g c = λ told stale.
     let value = c.args.store.now in
     let same = (c.in-Ok.ensures.looks.untouched told).same in
     let e = c.in-Ok-make_index.ensures in

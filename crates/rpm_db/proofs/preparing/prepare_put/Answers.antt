@@ -1,14 +1,10 @@
-use Rattle.std.proofs.Common.{◌≡◌, ℕ, List, [], Option, Some, Err, refl, sym, ap, ◌∙◌, subst, arith}
-use Rattle.std.specs.FinMap as finite
+use Rattle.std.proofs.Common.{List, refl, sym, ◌∙◌, subst, arith}
 use Rattle.rpm_outside.specs.Files.{Files}
-use Rattle.rpm_hindex.specs.declared.planning.IndexPlan.{IndexPlan}
 use Rattle.rpm_hindex.specs.Plans.{HasChanged}
 use Rattle.rpm_hindex.specs.Rows.{Row}
-use Rattle.rpm_hindex.specs.Sizes.{units_for}
 use Rattle.rpm_hindex.specs.State as hindex
 use Rattle.rpm_db.specs.Lawful.{HasRows}
-use Rattle.rpm_db.specs.Refusals.{FullIndexIs, BadIndexIs}
-use Rattle.rpm_db.specs.Rows.{header_rows, rows_at, rows}
+use Rattle.rpm_db.specs.Rows.{rows}
 use Rattle.rpm_db.specs.State.{packages}
 use Rattle.rpm_db.specs.inner.Running.{runs_none, runs_then}
 use Rattle.rpm_db.specs.inner.Writes.{WritesRows, SameFiles, old_rows}

@@ -1,5 +1,4 @@
-use Rattle.std.proofs.Common.{◌≡◌, ℕ, ◌^◌, ◌<◌, List, sym, ap, ◌∙◌, subst, refl, arith}
-use Rattle.rpm_outside.specs.Files.{Units, unit_at}
+use Rattle.std.proofs.Common.{ℕ, ◌^◌, ◌<◌, List, sym, subst, refl, arith}
 use Rattle.rpm_outside.specs.declared.disk.File.TheVariants.{Idx}
 use Rattle.rpm_hindex.specs.declared.faults.PrepareFault.TheVariants.{BadIndex}
 use Rattle.rpm_hindex.specs.Index.{records}

@@ -1,12 +1,12 @@
-use Rattle.std.proofs.Common.{◌≡◌, ℕ, List, length, is_none, Some, Ok, Err, refl, sym, ap, ◌∙◌, subst, arith}
+use Rattle.std.proofs.Common.{◌≡◌, ℕ, List, length, is_none, Some, Ok, Err, sym, ap, subst, arith}
 use Rattle.std.proofs.lemmas.Bool.Decides.{nat_tests}
 use Rattle.std.specs.FinMap as finite
 use Rattle.std.specs.Ordering.{nat_cmp}
-use Rattle.rpm_header.specs.Header.{Header, header}
+use Rattle.rpm_header.specs.Header.{header}
 use Rattle.rpm_pkgdb.specs.Blobs.{blobs}
 use Rattle.rpm_pkgdb.specs.Planned.{IsFull}
 use Rattle.rpm_db.specs.Lawful.{HasRows}
-use Rattle.rpm_db.specs.State.{Package, packages}
+use Rattle.rpm_db.specs.State.{Package}
 use Rattle.rpm_db.specs.inner.Writes.{packages_of, number_for}
 use Rattle.rpm_db.proofs.Puts.{packages_same, rows_planned}
 use Rattle.rpm_db.proofs.Refused.{later_of_index}

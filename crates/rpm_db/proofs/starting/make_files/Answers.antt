@@ -1,17 +1,12 @@
-use Rattle.std.proofs.Common.{◌≡◌, ℕ, sym, ap, ◌∙◌, subst, arith}
-use Rattle.rpm_outside.specs.Files.{Files, Units, unit_at, blank}
-use Rattle.rpm_outside.specs.Changes.{Stops}
-use Rattle.rpm_outside.specs.declared.disk.File.TheVariants.{Pkg}
-use Rattle.rpm_outside.specs.inner.Moments.{leaves_then, leaves_weaker}
+use Rattle.std.proofs.Common.{◌≡◌, sym, ap, ◌∙◌, subst, arith}
+use Rattle.rpm_outside.specs.Files.{Units, unit_at, blank}
 use Rattle.rpm_pkgdb.specs.Quiet.{Anything}
 use Rattle.rpm_pkgdb.specs.Store.{Store, store, in_file}
 use Rattle.rpm_pkgdb.specs.Store as pkgdb
-use Rattle.rpm_pkgdb.specs.Written.{MakesTo, made_new}
 use Rattle.rpm_hindex.specs.State as hindex
-use Rattle.rpm_db.specs.Inits.{IsEmptyStill}
-use Rattle.rpm_db.specs.Lawful.{Remade, IsUnsealed}
-use Rattle.rpm_db.specs.Runs.{CameOf}
-use Rattle.rpm_db.proofs.Emptied.{blank_is, stops_index, stops_make, stops_seal, two, empty_unsealed}
+use Rattle.rpm_db.specs.Lawful.{IsUnsealed}
+use Rattle.rpm_db.proofs.Emptied.{blank_is, empty_unsealed}
+use Rattle.rpm_db.proofs.EmptyStops.{stops_index, stops_make, stops_seal, two}
 use Rattle.rpm_db.proofs.Making.{ordered_pending}
 use Rattle.rpm_db.proofs.Opened.{settled_quiet, still_settled, still_quiet}
 use Rattle.rpm_db.proofs.SameLogs.{log_remade, log_made, log_sealed}

@@ -1,13 +1,13 @@
-use Rattle.std.proofs.Common.{◌≡◌, ℕ, ◌+◌, arith, Some, refl, sym, ap, ◌∙◌, subst}
+use Rattle.std.proofs.Common.{◌≡◌, ◌+◌, arith, Some, sym, ap, ◌∙◌, subst}
 use Rattle.std.specs.FinMap as finite
 use Rattle.rpm_outside.specs.declared.disk.File.TheVariants.{Pkg}
 use Rattle.rpm_outside.specs.inner.Changing.{changes_then, stops_then, stops_weaker}
 use Rattle.rpm_pkgdb.specs.Blobs.{blobs}
 use Rattle.rpm_pkgdb.specs.Growing.{moving_cost}
 use Rattle.rpm_pkgdb.specs.Planned.{IsPlan, moves_of}
-use Rattle.rpm_pkgdb.specs.Quiet.{BlobMap, Anything}
+use Rattle.rpm_pkgdb.specs.Quiet.{Anything}
 use Rattle.rpm_pkgdb.specs.Store.{Store}
-use Rattle.rpm_pkgdb.specs.Written.{stopped, RaisesTo, PutsTo, with_generation, next_field, field_after}
+use Rattle.rpm_pkgdb.specs.Written.{stopped, RaisesTo, PutsTo, next_field, field_after}
 use Rattle.rpm_db.specs.inner.Writes.{BlobsTo}
 use Rattle.rpm_db.proofs.Results.{map_err}
 use Rattle.rpm_db.proofs.Raised.{plan_raised, raises_to, puts_to}

@@ -1,12 +1,8 @@
-use Rattle.std.proofs.Common.{◌≡◌, ℕ, ◌≤◌, ◌^◌, Bool, true, false, List, length, is_none, is_some, Option, Some, Ok, Err, refl, sym, ap, ◌∙◌, subst, inl, inr}
-use Rattle.rpm_header.specs.Header.{Header, header}
-use Rattle.rpm_outside.specs.Files.{Units, Files}
-use Rattle.rpm_pkgdb.specs.Planned.{IsFull}
+use Rattle.std.proofs.Common.{◌≡◌, ◌≤◌, ◌^◌, true, false, is_some, Option, Err, sym, ap, ◌∙◌, subst, inr}
 use Rattle.rpm_pkgdb.specs.Slots.{slot_with}
 use Rattle.rpm_pkgdb.specs.Store.{Store}
 use Rattle.rpm_hindex.specs.Sizes.{units_for}
 use Rattle.rpm_hindex.specs.State as hindex
-use Rattle.rpm_db.specs.declared.change.ChangeFault.{ChangeFault}
 use Rattle.rpm_db.specs.declared.change.ChangeFault.TheVariants.{DiskFault}
 use Rattle.rpm_db.specs.Database.{Database, IsInOrder, holds}
 use Rattle.rpm_db.specs.Lawful.{HasRows}
@@ -14,7 +10,7 @@ use Rattle.rpm_db.specs.Refusals.{LaterCause, FullCause, is_stopping}
 use Rattle.rpm_db.specs.Rows.{rows}
 use Rattle.rpm_db.specs.State.{State, packages, state}
 use Rattle.rpm_db.proofs.Applied.{erase_goes, held_by}
-use Rattle.rpm_db.proofs.Edited.{stops_told}
+use Rattle.rpm_db.proofs.Unwritten.{stops_told}
 use Rattle.rpm_db.proofs.Refused.{is_refusal, stopping_is, refusal_goes, erase_cause}
 use Rattle.rpm_db.proofs.Served.{database_of, indexed_as, rows_of_disk, room_same, refused_same, serving_same, serving_inside}
 use Rattle.rpm_db.proofs.database.Db.erase.Goals as goal

@@ -1,4 +1,4 @@
-use Rattle.std.proofs.Common.{◌≡◌, ℕ, Some, true, refl, sym, ap, ◌∙◌}
+use Rattle.std.proofs.Common.{◌≡◌, ℕ, Some, refl, ap, ◌∙◌}
 use Rattle.rpm_hindex.specs.State as hindex
 use Rattle.rpm_pkgdb.specs.Store.{Store}
 use Rattle.rpm_db.proofs.Rebuilt.{indexed_now}

@@ -10,4 +10,4 @@ returns-in-Err-Bad-clause-told g c = λ told.
     let file = (g.D.Disk.files c.args.disk.now).pkg in
     subst (λ (db : Database). verdict file db c.args.n ≡ Some BadHeader) c.self.view_is
     (broken file (record { store = c.self.inside.store; index = c.self.inside.index; stopped = c.self.inside.is_stopped }) c.args.n
-    (rw c.in-Err-Bad.field-0-is at (c.in-Err-Bad.ensures.told told)))
+    (rw c.in-Err-Bad.field-0-is at (c.in-Err-Bad.ensures.holds told)))
