@@ -1,5 +1,5 @@
 -- Numbers that have rows of a key: of hits, of all packages, of one package.
-use Rattle.std.proofs.Common.{◌≡◌, ℕ, ◌+◌, ◌<◌, ◌&&◌, ◌||◌, ◌==◌, List, [], ◌∷◌, ◌++◌, map, length, Bool, true, false, cond, Option, Some, None, Result, Ok, Err, refl, sym, ap, ◌∙◌, subst, inl, inr, arith}
+use Rattle.std.proofs.Common.{◌≡◌, ℕ, ◌+◌, ◌<◌, ◌&&◌, ◌||◌, ◌==◌, List, [], ◌∷◌, map, length, Bool, true, false, cond, Option, Some, None, Result, Ok, Err, refl, sym, ap, ◌∙◌, subst, inl, inr, arith}
 use Rattle.std.specs.Prelude.{zip}
 use Rattle.std.specs.List.{list_any, flat_map, range_with_len}
 use Rattle.std.specs.Ordering.{nat_cmp}
@@ -13,19 +13,19 @@ use Rattle.rpm_header.specs.Header.{Header, header}
 use Rattle.rpm_tags.specs.declared.kind.Kind.{Kind}
 use Rattle.rpm_tags.specs.declared.kind.Kind.TheVariants as kind
 use Rattle.rpm_tags.specs.Kinds.{code_of}
-use Rattle.rpm_tags.specs.Keys.{keys, key_list, placed}
+use Rattle.rpm_tags.specs.Keys.{keys, key_list}
 use Rattle.rpm_hindex.specs.declared.hits.Hit.{Hit}
 use Rattle.rpm_hindex.specs.Answers.{AreHits, same_hit, times_hit, row_of_hit}
 use Rattle.rpm_hindex.specs.Rows.{Row, same_row, times}
 use Rattle.rpm_db.specs.State.{Package, Good, Bad}
-use Rattle.rpm_db.specs.Rows.{kinds, key_row, kind_rows, header_rows, rows_read, package_rows, rows_at, rows}
+use Rattle.rpm_db.specs.Rows.{kinds, key_row, kind_rows, header_rows, rows_read, rows_at, rows}
 use Rattle.rpm_db.specs.inner.RowLaws.{times-rows}
 use Rattle.rpm_select.specs.declared.selection.Selection.{Selection}
 use Rattle.rpm_select.specs.Candidates.{has_key, has_key_in, keys_asked, is_candidate}
 use Rattle.rpm_select.specs.Selections.{is_among}
 use Rattle.rpm_select.specs.Reach.{is_in}
 use Rattle.rpm_select.specs.inner.Asking.{is_row_of, has_row, AreWith}
-use Rattle.rpm_select.specs.inner.Keyed.{or_left, or_right, or_cases, same_bytes, are_same}
+use Rattle.rpm_select.specs.inner.Keyed.{or_left, or_right, or_cases}
 
 pub same_truth : (a b : Bool) → (a ≡ true → b ≡ true) → (b ≡ true → a ≡ true) → a ≡ b
 same_truth true b there back = sym (there refl)

@@ -1,5 +1,5 @@
 -- Packages that are passed over, since they aren't picked.
-use Rattle.std.proofs.Common.{◌≡◌, ℕ, ◌+◌, ◌-◌, ◌<◌, ◌≤◌, ◌&&◌, ◌==◌, List, [], ◌∷◌, Bool, true, false, cond, Option, Some, None, is_some, Ok, refl, sym, ap, ◌∙◌, subst, inl, inr, arith, nat_lt}
+use Rattle.std.proofs.Common.{◌≡◌, ℕ, ◌+◌, ◌-◌, ◌<◌, ◌≤◌, ◌==◌, List, [], ◌∷◌, Bool, true, false, Option, Some, None, is_some, Ok, refl, sym, ap, ◌∙◌, subst, inl, inr, arith, nat_lt}
 use Rattle.std.specs.Prelude.{T, nat_le}
 use Rattle.std.specs.Ordering.{nat_cmp, eq_by_cmp}
 use Rattle.std.specs.Cmp.{unsigned_tied}
@@ -10,14 +10,14 @@ use Rattle.std.proofs.lemmas.Bool.{cases_Bool}
 use Rattle.std.proofs.lemmas.Bool.Decides.{nat_tests}
 use Rattle.rpm_outside.specs.Files.{Units}
 use Rattle.rpm_db.specs.State.{Package, packages, above}
-use Rattle.rpm_db.specs.Database.{Database, IsNext, holds}
+use Rattle.rpm_db.specs.Database.{Database, IsNext}
 use Rattle.rpm_db.specs.inner.Above.{both_true, none_below, next_above}
 use Rattle.rpm_db.specs.inner.Laws.{is_there}
 use Rattle.rpm_select.specs.declared.picker.Picked.{Picked}
 use Rattle.rpm_select.specs.declared.selection.Selection.{Selection}
 use Rattle.rpm_select.specs.inner.Single.{OneOf}
 use Rattle.rpm_select.specs.Picks.{entry_in}
-use Rattle.rpm_select.specs.Reach.{Reach, Everything, These, reaches, is_in, Serves}
+use Rattle.rpm_select.specs.Reach.{Reach, Everything, These, reaches, Serves}
 use Rattle.rpm_select.specs.Selections.{is_picked}
 use Rattle.rpm_select.proofs.Picking.{left, any_to, none_so_far}
 

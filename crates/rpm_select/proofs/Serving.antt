@@ -1,5 +1,5 @@
 -- What a picker goes over has whatever is picked.
-use Rattle.std.proofs.Common.{◌≡◌, ℕ, ◌==◌, Bool, true, false, List, [], ◌∷◌, map, Option, Some, Ok, Err, Result, refl, sym, ap, ◌∙◌, subst}
+use Rattle.std.proofs.Common.{◌≡◌, ℕ, ◌==◌, Bool, true, false, [], ◌∷◌, Ok, Err, Result, refl, sym, ap, ◌∙◌}
 use Rattle.std.specs.Ordering.{nat_cmp}
 use Rattle.std.specs.FinMap as finite
 use Rattle.std.proofs.lemmas.Bool.{eqb-true, eq-eqb}
@@ -8,7 +8,7 @@ use Rattle.rpm_header.specs.Header.{Header, header}
 use Rattle.rpm_db.specs.State.{Package, Good, Bad}
 use Rattle.rpm_select.specs.declared.selection.Selection.{Selection}
 use Rattle.rpm_select.specs.declared.selection.Selection.TheVariants.{All, Pattern, Label, Path, Group, Provides, Requires, Conflicts, Obsoletes, Trigger, Number, Directory, Tid, Recommends}
-use Rattle.rpm_select.specs.Candidates.{has_keys, candidates}
+use Rattle.rpm_select.specs.Candidates.{has_keys}
 use Rattle.rpm_select.specs.Reach.{is_in, reach, unasked, Serves}
 use Rattle.rpm_select.specs.Selections.{takes_header, takes_read, is_picked}
 use Rattle.rpm_select.specs.inner.Complete.{complete}

@@ -1,11 +1,12 @@
 -- The packages that a picker goes over, and what reading them takes.
-use Rattle.std.specs.Prelude.{◌≡◌, ◌⊎◌, ℕ, ◌-◌, List, [], ◌∷◌, map, filter, Bool, true, false, ◌&&◌, ◌==◌, nat_le, if◌then◌else◌, Option, Some, None, Result, Ok, Err}
-use Rattle.std.specs.List.{list_any, sum_by}
+use Rattle.std.specs.Prelude.{◌≡◌, ◌⊎◌, ℕ, ◌+◌, ◌-◌, ◌*◌, ◌≤◌, IsOk, List, [], ◌∷◌, map, filter, Bool, true, ◌&&◌, ◌==◌, nat_le, if◌then◌else◌, Option, Some, Result, Ok, Err}
+use Rattle.std.specs.List.{list_any, sum_by, AllByRecursion}
 use Rattle.std.specs.Ordering.{nat_cmp}
 use Rattle.std.specs.FinMap as finite
-use Rattle.rpm_outside.specs.Files.{Units}
+use Rattle.rpm_outside.specs.Files.{Units, unit_at}
 use Rattle.rpm_tags.specs.declared.kind.Kind.{Kind}
 use Rattle.rpm_tags.specs.Kinds.{code_of}
+use Rattle.rpm_hindex.specs.Index.{units_at}
 use Rattle.rpm_db.specs.Answers.{key_chain}
 use Rattle.rpm_db.specs.Database.{Database, is_indexed, holds, cost, cost_to, cost_all}
 use Rattle.rpm_db.specs.Lawful.{HasRows}
@@ -72,6 +73,28 @@ reach_all (These ns) db = sum_by (λ n. cost n db) ns
 abbrev pub reach_after : ℕ → Reach → Database → Result (Option Picked) PickFault → ℕ
 reach_after n r db (Ok (Some picked)) = reach_to (number_in picked) r db - reach_to n r db
 reach_after n r db _ = reach_all r db - reach_to n r db
+
+-- ---- what is read of an index
+
+-- the bytes of the records of a chain that is well formed
+abbrev pub records_cost : (ℕ → ℕ) → Result (List ℕ) ℕ → ℕ
+records_cost units (Ok places) = 16 * sum_by units places
+records_cost units (Err unit) = 0
+
+-- asking for a key: the unit with its bucket's word, and the records of that bucket
+abbrev pub key_cost : Units → Kind × List ℕ → ℕ
+key_cost idx (kind, key) = 16 + records_cost (units_at (unit_at idx)) (key_chain (code_of kind) key idx)
+
+abbrev pub keys_cost : Units → List (Kind × List ℕ) → ℕ
+keys_cost idx keys = sum_by (key_cost idx) keys
+
+-- the chain of a key's bucket is well formed
+abbrev pub HasChain : Units → Kind × List ℕ → Type 0
+HasChain idx (kind, key) = IsOk (key_chain (code_of kind) key idx)
+
+-- asking for these keys reads at most that much, where their chains are well formed
+abbrev pub KeysCost : Units → List (Kind × List ℕ) → ℕ → ℕ → Type 0
+KeysCost idx keys old new = AllByRecursion (HasChain idx) keys → new ≤ old + keys_cost idx keys
 
 -- ---- a broken index
 

@@ -10,7 +10,7 @@ ghost use Rattle.rpm_db.specs.Lawful.{HasRows};
 ghost use Rattle.rpm_db.specs.Rows.{rows};
 ghost use Rattle.rpm_db.specs.State.{packages};
 ghost use Rattle.rpm_select.specs.Candidates.{keys_asked};
-ghost use Rattle.rpm_select.specs.Reach.{is_in, IsBroken};
+ghost use Rattle.rpm_select.specs.Reach.{is_in, IsBroken, KeysCost};
 ghost use Rattle.rpm_select.specs.Picks.{is_of_index};
 ghost use Rattle.rpm_select.specs.inner.Asking.{AreWith, Adds};
 
@@ -61,6 +61,7 @@ fn push_found<D: Disk>(
     ensures broken { IsTrue D.tells → IfErr result (IsBroken (key.now ∷ []) (D.files disk.old).idx) }
     ensures lawful { IsTrue D.tells → HasRows (packages (D.files disk.old).pkg db.now.store) (D.files disk.old).idx
         → IfErr result (λ fault. is_of_index fault ≡ false) }
+    ensures cost { IsTrue D.tells → KeysCost (D.files disk.old).idx (key.now ∷ []) (D.bytes_read disk.old File.Idx) (D.bytes_read disk.new File.Idx) }
     ensures looks { LooksAt D.tells D.files D.left_since D.moment D.bytes_read D.follows Idx disk.old disk.new }
     ensures cause { HasCauseAt (result ≡ Err PickFault.DiskFault) (D.faults disk.old) (D.faults disk.new) }
 {
@@ -88,6 +89,7 @@ fn found<D: Disk>(
     ensures broken { IsTrue D.tells → IfErr result (IsBroken keys.now (D.files disk.old).idx) }
     ensures lawful { IsTrue D.tells → HasRows (packages (D.files disk.old).pkg db.now.store) (D.files disk.old).idx
         → IfErr result (λ fault. is_of_index fault ≡ false) }
+    ensures cost { IsTrue D.tells → KeysCost (D.files disk.old).idx keys.now (D.bytes_read disk.old File.Idx) (D.bytes_read disk.new File.Idx) }
     ensures looks { LooksAt D.tells D.files D.left_since D.moment D.bytes_read D.follows Idx disk.old disk.new }
     ensures cause { HasCauseAt (result ≡ Err PickFault.DiskFault) (D.faults disk.old) (D.faults disk.new) }
 {
@@ -130,6 +132,8 @@ pub fn numbers_asked<D: Disk>(
     ensures broken { IsTrue D.tells → IfErr result (IsBroken (keys_asked selection.now) (D.files disk.old).idx) }
     ensures lawful { IsTrue D.tells → HasRows (packages (D.files disk.old).pkg db.now.store) (D.files disk.old).idx
         → IfErr result (λ fault. is_of_index fault ≡ false) }
+    ensures cost { IsTrue D.tells → KeysCost (D.files disk.old).idx (keys_asked selection.now) (D.bytes_read disk.old File.Idx)
+        (D.bytes_read disk.new File.Idx) }
     ensures looks { LooksAt D.tells D.files D.left_since D.moment D.bytes_read D.follows Idx disk.old disk.new }
     ensures cause { HasCauseAt (result ≡ Err PickFault.DiskFault) (D.faults disk.old) (D.faults disk.new) }
 {

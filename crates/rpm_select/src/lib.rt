@@ -3,6 +3,8 @@
 
 mod asked;
 mod asking;
+#[cfg(test)]
+mod index_tests;
 mod labels;
 mod matching;
 mod picker;

@@ -11,7 +11,7 @@ ghost use Rattle.rpm_db.specs.State.{Bad, packages, package_of, above};
 ghost use Rattle.rpm_db.specs.Database.{Keeps, KeepsIndex, IsNext, cost, cost_to};
 ghost use Rattle.rpm_select.specs.Selections.{picks, takes_bad, is_elsewhere};
 ghost use Rattle.rpm_select.specs.Candidates.{keys_asked};
-ghost use Rattle.rpm_select.specs.Reach.{These, asks, unasked, reach, reaches, reach_to, reach_after, Serves, HasIndexRows, IsBroken};
+ghost use Rattle.rpm_select.specs.Reach.{These, asks, unasked, reach, reaches, reach_to, reach_after, Serves, HasIndexRows, IsBroken, KeysCost};
 ghost use Rattle.rpm_select.specs.Picks.{NextIs, AnyIs, number_in, cost_after, ReadsOwn, is_broken};
 ghost use Rattle.rpm_select.specs.inner.Single.{OneIs, OneOf, TakenIs, IsNumbered};
 
@@ -24,6 +24,7 @@ use rpm_header::View;
 use rpm_outside::{Disk, File};
 use std::alloc::Global;
 use std::marker::Model;
+use thiserror::Error;
 
 /// The bytes of a header, which was parsed. Contracts see it as the list of them.
 #[derive(Drop)]
@@ -67,13 +68,16 @@ pub enum Picked {
 }
 
 /// Why nothing is picked.
-#[derive(Clone, Copy, Debug, PartialEq, Eq)]
+#[derive(Clone, Copy, Debug, PartialEq, Eq, Error)]
 pub enum PickFault {
     /// The index is broken at this unit.
+    #[error("Hindex.db is damaged")]
     BadIndex { unit: u64 },
     /// A call of the disk failed.
+    #[error("the database could not be read or written")]
     DiskFault,
     /// There was no memory for a package.
+    #[error("out of memory")]
     NoMemory,
 }
 
@@ -286,6 +290,8 @@ impl Picker {
         ensures unread { asks db.now selection.now ≡ false
             → Looks D.tells D.files D.left_since D.moment D.bytes_read D.follows Pkg 0 disk.old disk.new }
         ensures looks { LooksAt D.tells D.files D.left_since D.moment D.bytes_read D.follows Idx disk.old disk.new }
+        ensures cost { IsTrue D.tells → KeysCost (D.files disk.old).idx (keys_asked selection.now) (D.bytes_read disk.old File.Idx)
+            (D.bytes_read disk.new File.Idx) }
         ensures reach { IfOk result (λ picker. IsTrue D.tells → HasIndexRows db.now (D.files disk.old).pkg (D.files disk.old).idx
             → picker ≡ reach (asks db.now selection.now) selection.now (packages (D.files disk.old).pkg db.now.store)) }
         ensures serves { IfOk result (λ picker. IsTrue D.tells → HasIndexRows db.now (D.files disk.old).pkg (D.files disk.old).idx

@@ -1,21 +1,24 @@
+ghost use Rattle.std.specs.Prelude.{◌≡◌, IsTrue, IfSome, false};
+ghost use Rattle.rpm_db.specs.Database.{Keeps, KeepsIndex};
+
 use crate::{Picked, Picker, Selection, glob};
 use rpm_db::Db;
-use rpm_outside::MemDisk;
+use rpm_outside::{Disk, MemDisk};
 use rpm_version::Capability;
 use std::alloc::{AllocError, Global};
 
 const INT16: u32 = 3;
 
-const INT32: u32 = 4;
+pub const INT32: u32 = 4;
 
-const TEXT: u32 = 6;
+pub const TEXT: u32 = 6;
 
-const TEXTS: u32 = 8;
+pub const TEXTS: u32 = 8;
 
-const I18N: u32 = 9;
+pub const I18N: u32 = 9;
 
 // A header of entries (tag, type, count, elements), each at the least aligned offset.
-fn laid(alloc: Global, entries: &[(u32, u32, u32, &[u8])]) -> Result<Vec<u8>, AllocError> {
+pub fn laid(alloc: Global, entries: &[(u32, u32, u32, &[u8])]) -> Result<Vec<u8>, AllocError> {
     let mut index = Vec::new(alloc);
     let mut data = Vec::new(alloc);
     for (tag, kind, count, elements) in entries {
@@ -104,6 +107,25 @@ fn late_library(alloc: Global) -> Result<Vec<u8>, AllocError> {
     )
 }
 
+// A name that is the name and the version of another package, a version with a dash, an architecture with a dot, fewer versions than
+// names of what is provided and no flags, and a base name with a slash.
+fn odd(alloc: Global) -> Result<Vec<u8>, AllocError> {
+    laid(
+        alloc,
+        &[
+            (1000, TEXT, 1, b"libx-1.0~rc1\0"),
+            (1001, TEXT, 1, b"2-3\0"),
+            (1002, TEXT, 1, b"1\0"),
+            (1022, TEXT, 1, b"x.y\0"),
+            (1047, TEXTS, 2, b"first\0second\0"),
+            (1113, TEXTS, 1, b"1\0"),
+            (1117, TEXTS, 1, b"bin/x\0"),
+            (1116, INT32, 1, b"\0\0\0\0"),
+            (1118, TEXTS, 1, b"/opt/\0"),
+        ],
+    )
+}
+
 fn push_unit(bytes: &mut Vec<u8>, magic: &[u8], numbers: [u32; 3]) -> Result<(), AllocError> {
     bytes.extend_from_slice(magic)?;
     for number in numbers {
@@ -127,44 +149,53 @@ fn push_blocks(bytes: &mut Vec<u8>, number: u32, blob: &[u8]) -> Result<(), Allo
     bytes.extend_from_slice(b"BlbE")
 }
 
-// A Packages.db of one page with these packages, in the order of their slots.
-fn store(alloc: Global, packages: &[(u32, Vec<u8>)]) -> Result<Vec<u8>, AllocError> {
+// A slot of a package, and behind the blocks of others its own. The first block is this one.
+pub fn push_package(
+    slots: &mut Vec<u8>,
+    blobs: &mut Vec<u8>,
+    first: u32,
+    number: u32,
+    blob: &[u8],
+) -> Result<(), AllocError> {
+    let before = u32::try_from(blobs.len() / 16).unwrap_or(0);
+    push_blocks(blobs, number, blob)?;
+    let after = u32::try_from(blobs.len() / 16).unwrap_or(0);
+    let start = before.wrapping_add(first);
+    push_unit(slots, b"Slot", [number, start, after.wrapping_sub(before)])
+}
+
+// A Packages.db of so many pages with these slots and blocks.
+pub fn store_of(
+    alloc: Global,
+    pages: u32,
+    slots: &[u8],
+    blobs: &[u8],
+) -> Result<Vec<u8>, AllocError> {
     let mut bytes = Vec::new(alloc);
-    push_unit(&mut bytes, b"RpmP", [0, 1, 1])?;
-    push_unit(&mut bytes, &[4, 0, 0, 0], [0; 3])?;
-    let mut blobs = Vec::new(alloc);
-    for (number, blob) in packages {
-        let before = u32::try_from(blobs.len() / 16).unwrap_or(0);
-        push_blocks(&mut blobs, *number, blob)?;
-        let after = u32::try_from(blobs.len() / 16).unwrap_or(0);
-        let slot = [
-            *number,
-            before.wrapping_add(256),
-            after.wrapping_sub(before),
-        ];
-        push_unit(&mut bytes, b"Slot", slot)?;
-    }
+    push_unit(&mut bytes, b"RpmP", [0, 1, pages])?;
+    push_unit(&mut bytes, &[0xff, 0xff, 0, 0], [0; 3])?;
+    bytes.extend_from_slice(slots)?;
     for _ in 0..256 {
-        if bytes.len() < 4096 {
+        if bytes.len() % 4096 != 0 {
             push_unit(&mut bytes, b"Slot", [0; 3])?;
         }
     }
-    bytes.extend_from_slice(&blobs)?;
+    bytes.extend_from_slice(blobs)?;
     Ok(bytes)
 }
 
-// Three packages and what is no header as number 4, in slots of another order. Behind the header of number 2 there are more bytes.
-fn packages(alloc: Global) -> Result<MemDisk, AllocError> {
+// Four packages and what is no header as number 4, in slots of another order. Behind the header of number 2 there are more bytes.
+fn packages(alloc: Global) -> Result<Vec<u8>, AllocError> {
     let mut second = bash(alloc)?;
     second.extend_from_slice(b"more")?;
-    let mut fourth = Vec::new(alloc);
-    fourth.extend_from_slice(b"no header")?;
-    let mut packages = Vec::new(alloc);
-    packages.push((3, late_library(alloc)?))?;
-    packages.push((1, early_library(alloc)?))?;
-    packages.push((4, fourth))?;
-    packages.push((2, second))?;
-    MemDisk::new(alloc, &store(alloc, &packages)?, &[], &[])
+    let mut slots = Vec::new(alloc);
+    let mut blobs = Vec::new(alloc);
+    push_package(&mut slots, &mut blobs, 256, 3, &late_library(alloc)?)?;
+    push_package(&mut slots, &mut blobs, 256, 1, &early_library(alloc)?)?;
+    push_package(&mut slots, &mut blobs, 256, 5, &odd(alloc)?)?;
+    push_package(&mut slots, &mut blobs, 256, 4, b"no header")?;
+    push_package(&mut slots, &mut blobs, 256, 2, &second)?;
+    store_of(alloc, 1, &slots, &blobs)
 }
 
 #[test]
@@ -214,20 +245,33 @@ fn globs_match_whole_texts(rt: HostRuntime) {
     }
 }
 
+// Opens a database, with its index or without.
+pub fn opened<D: Disk>(alloc: Global, disk: &mut D, is_indexed: bool) -> Option<Db>
+    ensures keeps { IfSome result (λ db. IsTrue D.tells → Keeps (D.files disk.new).pkg db) }
+    ensures keeps_index { IfSome result (λ db. IsTrue D.tells → KeepsIndex (D.files disk.new).idx db) }
+    ensures runs { IfSome result (λ db. db.stopped ≡ false) }
+{
+    if is_indexed {
+        Db::open(alloc, disk).ok()
+    } else {
+        Db::open_unindexed(alloc, disk).ok()
+    }
+}
+
 // The number that is picked next above a number, and whether it can be read.
-fn picked_after(
+pub fn picked_next<D: Disk>(
     alloc: Global,
+    db: &Db,
+    disk: &mut D,
+    picker: &mut Picker,
     selection: &Selection<'_>,
     n: u32,
-) -> Result<Option<(u32, bool)>, AllocError> {
-    let mut disk = packages(alloc)?;
-    let Ok(db) = Db::open_unindexed(alloc, &mut disk) else {
-        return Err(AllocError);
-    };
-    let Ok(mut picker) = Picker::new(alloc, &db, &mut disk, selection) else {
-        return Err(AllocError);
-    };
-    match picker.next_after(alloc, &db, &mut disk, selection, n) {
+) -> Result<Option<(u32, bool)>, AllocError>
+    requires keeps { IsTrue D.tells → Keeps (D.files disk.old).pkg db.now }
+    requires runs { db.now.stopped ≡ false }
+    ensures kept { IsTrue D.tells → Keeps (D.files disk.new).pkg db.now }
+{
+    match picker.next_after(alloc, db, disk, selection, n) {
         Ok(Some(Picked::Good { number, .. })) => Ok(Some((number, true))),
         Ok(Some(Picked::Bad { number })) => Ok(Some((number, false))),
         Ok(None) => Ok(None),
@@ -235,50 +279,91 @@ fn picked_after(
     }
 }
 
-// The same over an index, which opening makes.
-fn found_after(
+// Whether a number up to this one is picked.
+fn picked_to<D: Disk>(
     alloc: Global,
+    db: &Db,
+    disk: &mut D,
+    picker: &mut Picker,
     selection: &Selection<'_>,
     n: u32,
-) -> Result<Option<(u32, bool)>, AllocError> {
-    let mut disk = packages(alloc)?;
-    let Ok(db) = Db::open(alloc, &mut disk) else {
-        return Err(AllocError);
-    };
-    let Ok(mut picker) = Picker::new(alloc, &db, &mut disk, selection) else {
-        return Err(AllocError);
-    };
-    match picker.next_after(alloc, &db, &mut disk, selection, n) {
-        Ok(Some(Picked::Good { number, .. })) => Ok(Some((number, true))),
-        Ok(Some(Picked::Bad { number })) => Ok(Some((number, false))),
-        Ok(None) => Ok(None),
+) -> Result<bool, AllocError>
+    requires keeps { IsTrue D.tells → Keeps (D.files disk.old).pkg db.now }
+    requires runs { db.now.stopped ≡ false }
+    ensures kept { IsTrue D.tells → Keeps (D.files disk.new).pkg db.now }
+{
+    match picker.any_to(alloc, db, disk, selection, n) {
+        Ok(any) => Ok(any),
         Err(_) => Err(AllocError),
     }
 }
 
-// Whether exactly these numbers are picked above a number, without an index and with one; the fourth, and no other, can't be read.
-fn are_picked(
+// The first of these numbers above this one. The fourth, and no other, can't be read.
+fn first_above(numbers: &[u32], n: u32) -> Option<(u32, bool)> {
+    for number in numbers {
+        if *number > n {
+            return Some((*number, *number != 4));
+        }
+    }
+    None
+}
+
+// Whether exactly these numbers are picked, above each number and up to it.
+fn picks_are<D: Disk>(
     alloc: Global,
+    db: &Db,
+    disk: &mut D,
+    picker: &mut Picker,
     selection: &Selection<'_>,
-    above: u32,
     expected: &[u32],
-) -> Result<bool, AllocError> {
-    let mut number = above;
-    for want in expected {
-        let next = picked_after(alloc, selection, number)?;
-        if next != Some((*want, *want != 4)) || found_after(alloc, selection, number)? != next {
+) -> Result<bool, AllocError>
+    requires keeps { IsTrue D.tells → Keeps (D.files disk.old).pkg db.now }
+    requires runs { db.now.stopped ≡ false }
+{
+    let first = first_above(expected, 0);
+    for n in 0..6 {
+        let next = picked_next(alloc, db, disk, picker, selection, n)?;
+        let any = picked_to(alloc, db, disk, picker, selection, n)?;
+        if next != first_above(expected, n) || any != first.is_some_and(|least| least.0 <= n) {
             return Ok(false);
         }
-        number = *want;
     }
+    Ok(true)
+}
+
+// The same of a file.
+fn are_picked_by(
+    alloc: Global,
+    file: &[u8],
+    selection: &Selection<'_>,
+    expected: &[u32],
+    is_indexed: bool,
+) -> Result<bool, AllocError> {
+    let mut disk = MemDisk::new(alloc, file, &[], &[])?;
+    let Some(db) = opened(alloc, &mut disk, is_indexed) else {
+        return Err(AllocError);
+    };
+    let Ok(mut picker) = Picker::new(alloc, &db, &mut disk, selection) else {
+        return Err(AllocError);
+    };
+    picks_are(alloc, &db, &mut disk, &mut picker, selection, expected)
+}
+
+// And without an index and with one.
+pub fn are_picked(
+    alloc: Global,
+    file: &[u8],
+    selection: &Selection<'_>,
+    expected: &[u32],
+) -> Result<bool, AllocError> {
     Ok(
-        picked_after(alloc, selection, number)?.is_none()
-            && found_after(alloc, selection, number)?.is_none(),
+        are_picked_by(alloc, file, selection, expected, false)?
+            && are_picked_by(alloc, file, selection, expected, true)?,
     )
 }
 
 // A question by its letter.
-fn asked(letter: u8, text: &str) -> Option<Selection<'_>> {
+pub fn asked(letter: u8, text: &str) -> Option<Selection<'_>> {
     match letter {
         b'a' => Some(Selection::All),
         b'm' => Some(Selection::Pattern(text)),
@@ -298,9 +383,9 @@ fn asked(letter: u8, text: &str) -> Option<Selection<'_>> {
 
 #[test]
 fn selections_pick(rt: HostRuntime) -> Result<(), AllocError> {
-    let table: [(u8, &str, &[u32]); 29] = [
-        (b'a', "", &[1, 2, 3, 4]),
-        (b'm', "lib*", &[1, 3, 4]),
+    let table: [(u8, &str, &[u32]); 35] = [
+        (b'a', "", &[1, 2, 3, 4, 5]),
+        (b'm', "lib*", &[1, 3, 4, 5]),
         (b'm', "*-[0-9].x86_64", &[2, 4]),
         (b'm', "", &[4]),
         (b'l', "libx", &[1, 3]),
@@ -309,9 +394,14 @@ fn selections_pick(rt: HostRuntime) -> Result<(), AllocError> {
         (b'l', "bash.x86_64", &[2]),
         (b'l', "libx-1.0~rc1.noarch", &[1]),
         (b'l', "bash-5", &[]),
+        // a name and a version, and a name
+        (b'l', "libx-1.0~rc1", &[1, 5]),
+        (b'l', "libx-1.0~rc1-2-3", &[]),
+        (b'l', "libx-1.0~rc1.x.y", &[]),
         (b'f', "/usr/bin/sh", &[2]),
         (b'f', "/bin/x", &[]),
         (b'f', "sh", &[]),
+        (b'f', "/opt/bin/x", &[]),
         (b'g', "Shells", &[2]),
         (b'g', "shells", &[]),
         (b'd', "/usr/bin/", &[2]),
@@ -321,64 +411,42 @@ fn selections_pick(rt: HostRuntime) -> Result<(), AllocError> {
         (b'p', "sh", &[2]),
         (b'p', "/usr/bin/bash", &[2]),
         (b'p', "/usr/bin/bash = 1", &[]),
+        // no flags, and no version at this place
+        (b'p', "second = 3", &[5]),
         (b'r', "libc = 2.31", &[2]),
         (b'r', "libc = 2.29", &[]),
         (b'r', "libtinfo < 1", &[2]),
         (b'c', "libc", &[]),
         (b'o', "libold", &[3]),
         (b't', "bash", &[3]),
+        // a header has it twice
         (b'w', "more", &[3]),
+        (b'p', "bash", &[2]),
     ];
+    let file = packages(rt.alloc())?;
     for (letter, text, expected) in table {
         let Some(selection) = asked(letter, text) else {
             return Err(AllocError);
         };
-        let picked = are_picked(rt.alloc(), &selection, 0, expected)?;
+        let picked = are_picked(rt.alloc(), &file, &selection, expected)?;
         assert!(rt; picked, "{letter} {text}");
     }
     Ok(())
 }
 
 #[test]
-fn numbers_are_picked_above_a_number(rt: HostRuntime) -> Result<(), AllocError> {
-    let table: [(Selection<'_>, u32, &[u32]); 9] = [
-        (Selection::Number(2), 0, &[2]),
-        (Selection::Number(2), 2, &[]),
-        (Selection::Number(4), 0, &[4]),
-        (Selection::Number(9), 0, &[]),
-        (Selection::Tid(7), 0, &[3]),
-        (Selection::Tid(8), 0, &[]),
-        (Selection::Label("libx"), 1, &[3]),
-        (Selection::All, 2, &[3, 4]),
-        (Selection::All, 4, &[]),
+fn numbers_are_picked(rt: HostRuntime) -> Result<(), AllocError> {
+    let table: [(Selection<'_>, &[u32]); 5] = [
+        (Selection::Number(2), &[2]),
+        (Selection::Number(4), &[4]),
+        (Selection::Number(9), &[]),
+        (Selection::Tid(7), &[3]),
+        (Selection::Tid(8), &[]),
     ];
-    for (selection, above, expected) in &table {
-        let picked = are_picked(rt.alloc(), selection, *above, expected)?;
-        assert!(rt; picked, "above {above}: {expected:?}");
-    }
-    Ok(())
-}
-
-// Whether a package up to this number has the group.
-fn any_up_to(alloc: Global, n: u32) -> Result<bool, AllocError> {
-    let group = Selection::Group("Shells");
-    let mut disk = packages(alloc)?;
-    let Ok(db) = Db::open_unindexed(alloc, &mut disk) else {
-        return Err(AllocError);
-    };
-    let Ok(mut picker) = Picker::new(alloc, &db, &mut disk, &group) else {
-        return Err(AllocError);
-    };
-    match picker.any_to(alloc, &db, &mut disk, &group, n) {
-        Ok(any) => Ok(any),
-        Err(_) => Err(AllocError),
-    }
-}
-
-#[test]
-fn numbers_are_looked_for_up_to_a_number(rt: HostRuntime) -> Result<(), AllocError> {
-    for (n, expected) in [(0, false), (1, false), (2, true), (9, true)] {
-        assert!(rt; any_up_to(rt.alloc(), n)? == expected, "up to {n}");
+    let file = packages(rt.alloc())?;
+    for (selection, expected) in &table {
+        let picked = are_picked(rt.alloc(), &file, selection, expected)?;
+        assert!(rt; picked, "{expected:?}");
     }
     Ok(())
 }
@@ -386,7 +454,7 @@ fn numbers_are_looked_for_up_to_a_number(rt: HostRuntime) -> Result<(), AllocErr
 #[test]
 fn a_header_comes_without_what_follows_it(rt: HostRuntime) -> Result<(), AllocError> {
     let alloc = rt.alloc();
-    let mut disk = packages(alloc)?;
+    let mut disk = MemDisk::new(alloc, &packages(alloc)?, &[], &[])?;
     let group = Selection::Group("Shells");
     let Ok(db) = Db::open_unindexed(alloc, &mut disk) else {
         return Err(AllocError);

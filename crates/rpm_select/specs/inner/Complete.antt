@@ -1,18 +1,14 @@
 -- An index is complete for each selection that has keys: whatever is picked has one of them.
-use Rattle.std.proofs.Common.{◌≡◌, ℕ, List, [], ◌∷◌, ◌++◌, map, Bool, true, false, ◌||◌, ◌==◌, Option, Some, None, Result, Ok, Err, refl, sym, ap, ◌∙◌, subst, inl, inr}
+use Rattle.std.proofs.Common.{◌≡◌, ℕ, List, [], ◌∷◌, map, Bool, true, false, ◌||◌, ◌==◌, Option, Result, Ok, Err, refl, sym, ap, ◌∙◌, subst, inl, inr}
 use Rattle.std.specs.Prelude.{◌&&◌, slice_index, if◌then◌else◌}
 use Rattle.std.specs.List.{list_any}
-use Rattle.std.specs.Option.{option_and_then}
 use Rattle.std.specs.Str.{bytes_eq}
-use Rattle.std.specs.Ordering.{nat_cmp}
-use Rattle.std.specs.FinMap as finite
 use Rattle.std.proofs.lemmas.Bool.{and_parts}
 use Rattle.rpm_header.specs.declared.form.HeaderFault.{HeaderFault}
 use Rattle.rpm_header.specs.Header.{Header, header}
-use Rattle.rpm_tags.specs.declared.kind.Kind.{Kind}
 use Rattle.rpm_tags.specs.declared.kind.Kind.TheVariants as kind
 use Rattle.rpm_tags.specs.declared.needed.Tags.{Tags}
-use Rattle.rpm_tags.specs.Keys.{key_list, number_key}
+use Rattle.rpm_tags.specs.Keys.{number_key}
 use Rattle.rpm_tags.specs.Numbers.{NAME, GROUP, DIRINDEXES, BASENAMES, DIRNAMES, INSTALLTID, PROVIDENAME, PROVIDEFLAGS, PROVIDEVERSION, REQUIRENAME, REQUIREFLAGS, REQUIREVERSION, CONFLICTNAME, CONFLICTFLAGS, CONFLICTVERSION, OBSOLETENAME, OBSOLETEFLAGS, OBSOLETEVERSION, RECOMMENDNAME, RECOMMENDFLAGS, RECOMMENDVERSION, TRIGGERNAME}
 use Rattle.rpm_tags.specs.Value.{first_text, texts_in, numbers_in, filenames}
 use Rattle.rpm_tags.specs.Wanted.{listed, has_file, dependencies, base_name}

@@ -1,13 +1,13 @@
 -- What a selection takes has one of the keys that it asks: selection by selection.
-use Rattle.std.proofs.Common.{◌≡◌, ℕ, List, [], ◌∷◌, map, drop, Bool, true, false, ◌&&◌, ◌||◌, ◌==◌, Option, Some, None, refl, sym, ap, ◌∙◌, subst, inl, inr}
+use Rattle.std.proofs.Common.{◌≡◌, ℕ, List, [], ◌∷◌, map, drop, Bool, true, false, ◌||◌, ◌==◌, Option, Some, None, refl, sym, ap, inl, inr}
 use Rattle.std.specs.Prelude.{◌⊎◌, slice_get}
 use Rattle.std.specs.List.{list_any, zip}
 use Rattle.std.specs.Option.{option_and_then}
 use Rattle.std.specs.Str.{bytes_eq}
-use Rattle.std.proofs.lemmas.Bool.{cases_Bool, and_parts, eqb-true}
+use Rattle.std.proofs.lemmas.Bool.{and_parts, eqb-true}
 use Rattle.std.proofs.lemmas.Slice.Eq.{bytes_eq-Decides}
 use Rattle.rpm_tags.specs.Keys.{number_key}
-use Rattle.rpm_tags.specs.Wanted.{Needed, listed, beside, first_or, counts_for, any_counts_for, base_name}
+use Rattle.rpm_tags.specs.Wanted.{listed, beside, first_or, counts_for, any_counts_for, base_name}
 use Rattle.rpm_version.specs.Capability.{CapabilityParts}
 use Rattle.rpm_version.specs.Range.{overlaps}
 use Rattle.rpm_select.specs.Selections.{meets, is_among, is_first}

@@ -1,5 +1,5 @@
 -- What a picker's reach shows.
-use Rattle.std.specs.Prelude.{ℕ, [], ◌∷◌}
+use Rattle.std.specs.Prelude.{[], ◌∷◌}
 use Rattle.std.specs.List.Sorted.{IsStrictlyIncreasing}
 use Rattle.rpm_select.specs.declared.reach.Reach as declared
 use Rattle.rpm_select.specs.declared.reach.Reach.TheVariants as code

@@ -1,6 +1,6 @@
-use Rattle.std.proofs.Common.{◌≡◌, ◌≤◌, ◌||◌, ℕ, length}
+use Rattle.std.proofs.Common.{◌≡◌, ◌≤◌, ◌+◌, ◌||◌, ℕ, length}
 use Rattle.std.specs.Prelude.{IsTrue}
-use Rattle.std.specs.List.{list_any}
+use Rattle.std.specs.List.{list_any, AllByRecursion}
 use Rattle.rpm_outside.specs.Files.{Units}
 use Rattle.rpm_outside.specs.Looks.{LooksAt}
 use Rattle.rpm_outside.specs.declared.disk.File.TheVariants.{Idx}
@@ -8,7 +8,7 @@ use Rattle.rpm_db.specs.Database.{KeepsIndex}
 use Rattle.rpm_db.specs.Lawful.{HasRows}
 use Rattle.rpm_db.specs.Rows.{rows}
 use Rattle.rpm_db.specs.State.{packages}
-use Rattle.rpm_select.specs.Reach.{is_in, IsFaultOfOne}
+use Rattle.rpm_select.specs.Reach.{is_in, IsFaultOfOne, HasChain, keys_cost}
 use Rattle.rpm_select.specs.inner.Asking.{has_row}
 use Rattle.rpm_select.proofs.asking.found.Given as goal
 
@@ -19,6 +19,10 @@ invariant-loop-left g l = record {
       → (is_in n l.numbers.items || list_any (has_row (rows (packages (g.D.Disk.files l.initial.disk).pkg l.db.store)) n) l.left)
       ≡ list_any (has_row (rows (packages (g.D.Disk.files l.initial.disk).pkg l.db.store)) n) l.keys;
   broken : (idx : Units) (unit : ℕ) → IsFaultOfOne l.left idx unit → IsFaultOfOne l.keys idx unit;
+  cost : IsTrue g.D.Disk.tells → AllByRecursion (HasChain (g.D.Disk.files l.initial.disk).idx) l.keys
+      → AllByRecursion (HasChain (g.D.Disk.files l.initial.disk).idx) l.left
+      × (g.D.Disk.bytes_read l.disk Idx + keys_cost (g.D.Disk.files l.initial.disk).idx l.left
+      ≤ g.D.Disk.bytes_read l.initial.disk Idx + keys_cost (g.D.Disk.files l.initial.disk).idx l.keys);
   looks : LooksAt g.D.Disk.tells g.D.Disk.files g.D.Disk.left_since g.D.Disk.moment g.D.Disk.bytes_read g.D.Disk.follows Idx l.initial.disk l.disk;
   faults : g.D.Disk.faults l.initial.disk ≤ g.D.Disk.faults l.disk;
 }
