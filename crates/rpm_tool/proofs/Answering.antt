@@ -1,20 +1,23 @@
 -- What is said of a whole argument, and of all of them.
-use Rattle.std.proofs.Common.{◌≡◌, ℕ, zero, suc, ◌+◌, ◌*◌, ◌<◌, ◌≤◌, ◌≢◌, Bool, true, false, if◌then◌else◌, List, [], ◌∷◌, ◌++◌, map, drop, length, Result, Ok, Err, Some, refl, sym, ap, ◌∙◌, add-one, arith}
+use Rattle.std.proofs.Common.{◌≡◌, ℕ, zero, suc, ◌+◌, ◌≤◌, ◌≢◌, Bool, true, false, if◌then◌else◌, List, [], ◌∷◌, ◌++◌, map, drop, length, Result, Ok, Err, Some, refl, sym, ap, ◌∙◌, add-one, arith}
 use Rattle.std.specs.Prelude.{slice_get}
-use Rattle.rpm_pkgdb.specs.Store.{Store}
-use Rattle.rpm_pkgdb.specs.Costs.{cost_all}
+use Rattle.std.specs.Ordering.{nat_cmp}
+use Rattle.std.specs.FinMap.{FinMap}
 use Rattle.rpm_words.specs.declared.switch.Chosen.{Chosen}
 use Rattle.rpm_qfparse.specs.Tree.{Tree}
 use Rattle.rpm_db.specs.State.{Package, above}
+use Rattle.rpm_select.specs.declared.selection.Selection.TheVariants as question
+use Rattle.rpm_select.specs.Selections.{picks}
+use Rattle.rpm_select.specs.Reach.{Reach, Everything}
 use Rattle.rpm_tool.specs.declared.step.Stop.{Stop}
 use Rattle.rpm_tool.specs.declared.step.Stop.TheVariants as stop
-use Rattle.std.proofs.Math.Nat.{mul-le-mul_right}
 use Rattle.std.proofs.Math.Seq.{drop-nil}
 use Rattle.rpm_tool.specs.declared.answer.Why.TheVariants as why
-use Rattle.rpm_tool.specs.Steps.{Bearer, Course, Part, before, in_turn}
-use Rattle.rpm_tool.specs.Queries.{step_of, packages_part, missing_part, answered}
-use Rattle.rpm_tool.specs.Answers.{Outputs, Through, Reached, PartIs, ReadsIn, ReadsOf, Went, why_of, is_some_of, reach_all}
-use Rattle.rpm_tool.proofs.Reaching.{reached_reads, reached_empty}
+use Rattle.rpm_tool.specs.Steps.{Bearer, Course, Part, before, idle, in_turn}
+use Rattle.rpm_tool.specs.Reads.{reaches_by}
+use Rattle.rpm_tool.specs.Queries.{step_of, packages_part, missing_part, answered, argument_part, query_of}
+use Rattle.rpm_tool.specs.Answers.{Outputs, outputs, Through, Reached, PartIs, Went, why_of, is_some_of}
+use Rattle.rpm_tool.proofs.Reaching.{Goes, goes_end, reached_reads, reached_empty}
 
 pub part_reads : (part : Part) (r : Result Bool Stop) (old new : Outputs) (P Q : Bearer → Type 0) → ((b : Bearer) → P b → Q b) → PartIs part r old new P
     → PartIs part r old new Q
@@ -39,6 +42,7 @@ answered_done tree chosen after j text (e ∷ es) fails old new P Q some p = rec
 pub went_stop : (T : Type 0) (c : Course) (what : Stop) (old new : Outputs) (reads_to : Bearer → Type 0) → Reached {T = T} c.steps (Err what) old new reads_to
     → Went c (why_of what) old new reads_to
 went_stop T c stop.ReadFault old new reads_to r = r
+went_stop T c (stop.BadIndex unit) old new reads_to r = r
 went_stop T c stop.OutFault old new reads_to r = r
 went_stop T c stop.ErrFault old new reads_to r = r
 went_stop T c stop.NoMemory old new reads_to r = r
@@ -53,15 +57,34 @@ drop_get [] i x is = absurd cc
 drop_get (y ∷ xs) zero x is = (let same : y ≡ x = cc in ap (λ z. z ∷ xs) same)
 drop_get (y ∷ xs) (suc i) x is = drop_get xs i x is ∙ ap (λ (k : ℕ). x ∷ drop k xs) (add-one i) ∙ ap (λ (k : ℕ). x ∷ drop k (y ∷ xs)) (sym (add-one (suc i)))
 
+-- ---- with and without arguments
+
+module _ (tree : Tree) (packages : FinMap nat_cmp Package) (chosen : Chosen) (after : ℕ) (f : ℕ → List ℕ) where
+  pub query_none : (args : List ℕ) → length args ≡ 0 → query_of tree packages chosen after (map f args)
+      ≡ before (packages_part (step_of tree 0) after (picks packages question.All)) idle
+  query_none [] none = refl
+  query_none (x ∷ xs) none = absurd (omega (arith, none))
+
+  pub query_some : (args : List ℕ) → length args ≢ 0 → query_of tree packages chosen after (map f args)
+      ≡ in_turn (argument_part tree packages chosen after) 0 (map f args)
+  query_some [] some = absurd (some refl)
+  query_some (x ∷ xs) some = refl
+
+module _ (over : List ℕ → Reach) (f : ℕ → List ℕ) where
+  pub reaches_none : (args : List ℕ) → length args ≡ 0 → reaches_by over (map f args) ≡ Everything ∷ []
+  reaches_none [] none = refl
+  reaches_none (x ∷ xs) none = absurd (omega (arith, none))
+
+  pub reaches_some : (args : List ℕ) → length args ≢ 0 → reaches_by over (map f args) ≡ map over (map f args)
+  reaches_some [] some = absurd (some refl)
+  reaches_some (x ∷ xs) some = refl
+
 -- ---- the arguments, one after the other
 
 pub none_left : {X : Type 0} (xs : List X) (n : ℕ) → length xs ≤ n → drop n xs ≡ []
 none_left [] n le = drop-nil n
 none_left (x ∷ xs) zero le = absurd (omega (arith, le))
 none_left (x ∷ xs) (suc n) le = none_left xs n (omega (arith, le))
-
-pub mul_more : (k c : ℕ) → k * c + c ≡ (k + 1) * c
-mul_more k c = omega arith
 
 abbrev counted : Bool → ℕ
 counted b = if b then 1 else 0
@@ -90,27 +113,21 @@ module _ (each : ℕ → List ℕ → Part) (f : ℕ → List ℕ) (args : List 
   pub turn_none : (k : ℕ) → length args ≤ k → (rest_of k).failed ≡ 0
   turn_none k le = ap (λ (ws : List ℕ). (in_turn each k (map f ws)).failed) (none_left args k le)
 
--- up to a package of an argument, and of all before it
-pub reads_all : (s : Store) (k before between now : ℕ) (for : Bearer) → between ≤ before + k * cost_all s → ReadsOf k s between now for → now ≤ before
-    + reach_all s for
-reads_all s k before between now for le r = rw r.0 (omega (arith, le, r.1))
+-- all of them were gone through
+module _ (each : ℕ → List ℕ → Part) (f : ℕ → List ℕ) (args : List ℕ) (k failed : ℕ) (past : length args ≤ k) (ot et : Bool) (o o' e e' : List ℕ)
+    (reads_to : Bearer → Type 0) (goes : Goes ot et (rest_of each f args 0).steps (rest_of each f args k).steps o e o' e')
+    (count : (rest_of each f args 0).failed ≡ failed + (rest_of each f args k).failed) where
+  through : Through (rest_of each f args 0).steps (outputs ot o et e) (outputs ot o' et e')
+  through = goes_end ot et (rest_of each f args 0).steps (rest_of each f args k).steps o o' e e' (turn_end each f args k past) goes
 
-pub within_count : (k n c : ℕ) → k ≤ n → k * c ≤ n * c
-within_count k n c le = mul-le-mul_right c le
+  total : (rest_of each f args 0).failed ≡ failed
+  total = omega (arith, count, turn_none each f args k past)
 
-pub within_all : (k n c : ℕ) → k < n → k * c + c ≤ n * c
-within_all k n c lt = omega (arith, mul_more k c, within_count (k + 1) n c (omega (arith, lt)))
+  pub went_done : failed ≡ 0 → Went (rest_of each f args 0) why.Done (outputs ot o et e) (outputs ot o' et e') reads_to
+  went_done none = (through, total ∙ none)
 
-pub went_done : (c : Course) (failed : ℕ) (old new : Outputs) (reads_to : Bearer → Type 0) → c.failed ≡ failed → failed ≡ 0 → Through c.steps old new
-    → Went c why.Done old new reads_to
-went_done c failed old new reads_to is none through = (through, is ∙ none)
-
-pub went_failed : (c : Course) (failed : ℕ) (old new : Outputs) (reads_to : Bearer → Type 0) → c.failed ≡ failed → failed ≢ 0 → Through c.steps old new
-    → Went c (why.Failed failed) old new reads_to
-went_failed c failed old new reads_to is some through = (through, is, omega (arith, some))
-
-pub reads_first : (s : Store) (n before between now : ℕ) (for : Bearer) → between ≤ before + 0 → ReadsIn 0 n s between now for → now ≤ before + reach_all s for
-reads_first s n before between now for le r = rw r.0 (omega (arith, le, r.1))
+  pub went_failed : failed ≢ 0 → Went (rest_of each f args 0) (why.Failed failed) (outputs ot o et e) (outputs ot o' et e') reads_to
+  went_failed some = (through, total, omega (arith, some))
 
 pub few_more : (fails : Bool) (failed k : ℕ) → failed ≤ k → failed + counted fails ≤ k + 1
 few_more true failed k le = omega (arith, le)

@@ -1,5 +1,5 @@
 -- What a few words ask for, and the lines of a rule that they break and of a format's fault: computed, without the code.
-use Rattle.std.specs.Prelude.{◌≡◌, ℕ, true, List, [], ◌∷◌, Some, Err, codes, refl}
+use Rattle.std.specs.Prelude.{◌≡◌, ℕ, false, List, [], ◌∷◌, Some, Err, codes, refl}
 use Rattle.std.specs.Fmt.{digits}
 use Rattle.rpm_words.specs.declared.fault.WordsKind.TheVariants.{NoMode, UnknownOption}
 use Rattle.rpm_words.specs.Switch.{short_switch, long_switch, rpm_switch}
@@ -31,11 +31,11 @@ unfolding words ask asked_by program_of said said_behind purpose_behind own_purp
     bad_argument first_broken
 refused = refl
 
--- the query of one package isn't built
-unbuilt : asks_unbuilt (codes "rpm" ∷ codes "-q" ∷ codes "bash" ∷ []) ≡ true
+-- the query of one package is built
+built : asks_unbuilt (codes "rpm" ∷ codes "-q" ∷ codes "bash" ∷ []) ≡ false
 unfolding asks_unbuilt is_built ask asked_by program_of said said_behind purpose_behind own_purpose is_cluster short_switch seen arguments early_fault
     misplaced bad_argument first_broken
-unbuilt = refl
+built = refl
 
 -- of `-l` and a format the last one counts, and a fault of the one that counts is told
 shown : (asks_format (codes "rpm" ∷ codes "-qa" ∷ codes "--qf" ∷ codes "%{NAME" ∷ []) ≡ Some (Err (record { kind = MissingClose; at = 6 })))

@@ -1,5 +1,5 @@
 -- What is said of package files.
-use Rattle.std.proofs.Common.{◌≡◌, ℕ, Bool, true, false, not, ◌||◌, List, [], ◌∷◌, Option, Some, None, Result, Ok, Err, refl, sym, ap, ◌∙◌}
+use Rattle.std.proofs.Common.{◌≡◌, ℕ, Bool, true, false, not, ◌||◌, List, Option, Some, None, Result, Err, refl, sym, ap, ◌∙◌}
 use Rattle.rpm_file.specs.declared.fault.FileFault.{FileFault}
 use Rattle.rpm_file.specs.declared.fault.FileFault.TheVariants as file
 use Rattle.rpm_file.specs.Answers.{IsFileFault}
@@ -60,18 +60,21 @@ fails_one s to_out is = or_false (not (is_out s)) ∙ ap not is
 pub went_stop_files : (T : Type 0) (c : Course) (what : Stop) (old new : Outputs) (reads_to : Bearer → Type 0)
     → Reached {T = T} c.steps (Err what) old new reads_to → Went c (why_of_files what) old new reads_to
 went_stop_files T c stop.ReadFault old new reads_to r = r
+went_stop_files T c (stop.BadIndex unit) old new reads_to r = r
 went_stop_files T c stop.OutFault old new reads_to r = r
 went_stop_files T c stop.ErrFault old new reads_to r = r
 went_stop_files T c stop.NoMemory old new reads_to r = r
 
 pub ends_of_files : (what : Stop) → is_of_words (why_of_files what) ≡ false
 ends_of_files stop.ReadFault = refl
+ends_of_files (stop.BadIndex unit) = refl
 ends_of_files stop.OutFault = refl
 ends_of_files stop.ErrFault = refl
 ends_of_files stop.NoMemory = refl
 
 pub never_of_disk : (what : Stop) → why_of_files what ≡ why.DiskFault → ⊥
 never_of_disk stop.ReadFault is = cc
+never_of_disk (stop.BadIndex unit) is = cc
 never_of_disk stop.OutFault is = cc
 never_of_disk stop.ErrFault is = cc
 never_of_disk stop.NoMemory is = cc

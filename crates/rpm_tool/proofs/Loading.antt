@@ -1,46 +1,18 @@
 -- A command on the files that a disk's files stand for.
 use Rattle.std.specs.Prelude.{IsTrue, ◌↔◌}
 use Rattle.rpm_outside.specs.Causes.{Rose}
-use Rattle.std.proofs.Common.{◌≡◌, ◌≢◌, ◌⊎◌, ℕ, zero, suc, ◌+◌, ◌-◌, ◌*◌, ◌^◌, ◌<◌, ◌≤◌, Bool, true, false, List, [], ◌∷◌, map, length, max, Result, Ok, Err, refl, sym, subst, inl, inr, ⊎_elim, arith}
-use Rattle.std.proofs.Math.Nat.{mul-le-mul_right}
-use Rattle.std.specs.Ordering.{nat_cmp}
-use Rattle.std.specs.FinMap.{FinMap}
+use Rattle.std.proofs.Common.{◌≡◌, ◌⊎◌, ℕ, zero, suc, ◌+◌, ◌-◌, ◌^◌, ◌<◌, ◌≤◌, Bool, true, false, List, [], Result, Ok, Err, refl, sym, subst, inl, inr, ⊎_elim, arith}
 use Rattle.rpm_outside.specs.Logs.{LogState, Closed, Malformed, Open}
 use Rattle.rpm_pkgdb.specs.declared.slot.Damage.{Damage}
 use Rattle.rpm_pkgdb.specs.Store.{Store}
 use Rattle.rpm_group.specs.declared.load.LoadFault.{LoadFault}
 use Rattle.rpm_group.specs.declared.load.LoadFault.TheVariants as load
 use Rattle.rpm_group.specs.Loads.{IsSound, LoadSays}
-use Rattle.rpm_words.specs.declared.switch.Chosen.{Chosen}
-use Rattle.rpm_qfparse.specs.Tree.{Tree}
-use Rattle.rpm_db.specs.State.{Package}
-use Rattle.rpm_select.specs.declared.selection.Selection.TheVariants as question
-use Rattle.rpm_select.specs.Selections.{picks}
 use Rattle.rpm_tool.specs.declared.answer.Why.{Why}
 use Rattle.rpm_tool.specs.declared.answer.Why.TheVariants as why
-use Rattle.rpm_tool.specs.Steps.{Bearer, Course, before, idle, in_turn}
-use Rattle.rpm_tool.specs.Queries.{step_of, packages_part, argument_part, query_of}
+use Rattle.rpm_tool.specs.Steps.{Bearer, Course}
 use Rattle.rpm_tool.specs.Answers.{Outputs, outputs, Went, Opened, Loaded, Refused, why_of_load, unless_starved, AtMost}
 use Rattle.rpm_tool.proofs.Reaching.{through_none, within_reads}
-
-module _ (tree : Tree) (packages : FinMap nat_cmp Package) (chosen : Chosen) (after : ℕ) (f : ℕ → List ℕ) where
-  pub query_none : (args : List ℕ) → length args ≡ 0 → query_of tree packages chosen after (map f args)
-      ≡ before (packages_part (step_of tree 0) after (picks packages question.All)) idle
-  query_none [] none = refl
-  query_none (x ∷ xs) none = absurd (omega (arith, none))
-
-  pub query_some : (args : List ℕ) → length args ≢ 0 → query_of tree packages chosen after (map f args)
-      ≡ in_turn (argument_part tree packages chosen after) 0 (map f args)
-  query_some [] some = absurd (some refl)
-  query_some (x ∷ xs) some = refl
-
-pub often : (n c : ℕ) → n * c ≤ max 1 n * c
-often n c = mul-le-mul_right c (omega arith)
-
-pub once : (n c : ℕ) → c ≤ max 1 n * c
-once n c =
-    let le : 1 * c ≤ max 1 n * c = mul-le-mul_right c (omega arith) in
-    omega (arith, le)
 
 module _ (course : Store → Course) (reads_to : Store → Bearer → Type 0) where
   -- nothing was done, for a fault of the disk or for want of memory
@@ -83,6 +55,8 @@ went_starved c true (why.NotBuilt x) old new reads_to went = went
 went_starved c true (why.BadFormat f) old new reads_to went = went
 went_starved c true (why.BadLog u) old new reads_to went = went
 went_starved c true (why.Damaged d) old new reads_to went = went
+went_starved c true (why.BadIndex u) old new reads_to went = went
+went_starved c true (why.IndexFull u) old new reads_to went = went
 went_starved c true why.ShelfFault old new reads_to went = went
 went_starved c true why.OutFault old new reads_to went = went
 went_starved c true why.ErrFault old new reads_to went = went
@@ -98,6 +72,8 @@ refused_starved d true (why.NotBuilt x) r = r
 refused_starved d true (why.BadFormat f) r = r
 refused_starved d true (why.BadLog u) r = r
 refused_starved d true (why.Damaged e) r = r
+refused_starved d true (why.BadIndex u) r = r
+refused_starved d true (why.IndexFull u) r = r
 refused_starved d true why.ShelfFault r = r
 refused_starved d true why.OutFault r = r
 refused_starved d true why.ErrFault r = r
@@ -124,6 +100,8 @@ went_reads c (why.NotBuilt x) old new P Q so went = went
 went_reads c (why.BadFormat f) old new P Q so went = went
 went_reads c (why.BadLog u) old new P Q so went = went
 went_reads c (why.Damaged d) old new P Q so went = went
+went_reads c (why.BadIndex u) old new P Q so went = went
+went_reads c (why.IndexFull u) old new P Q so went = went
 went_reads c why.DiskFault old new P Q so went = went
 went_reads c why.ShelfFault old new P Q so went = went
 went_reads c why.OutFault old new P Q so went = within_reads c.steps true old new P Q so went
@@ -145,6 +123,8 @@ is_disk_fault true (why.NotBuilt x) is = absurd cc
 is_disk_fault true (why.BadFormat f) is = absurd cc
 is_disk_fault true (why.BadLog u) is = absurd cc
 is_disk_fault true (why.Damaged d) is = absurd cc
+is_disk_fault true (why.BadIndex u) is = absurd cc
+is_disk_fault true (why.IndexFull u) is = absurd cc
 is_disk_fault true why.ShelfFault is = absurd cc
 is_disk_fault true why.OutFault is = absurd cc
 is_disk_fault true why.ErrFault is = absurd cc

@@ -1,7 +1,10 @@
 -- A question picks by its text, wherever the text lies.
-use Rattle.std.proofs.Common.{◌≡◌, ℕ, Bool, List, [], ◌∷◌, Bor, Result, Ok, Err, refl}
+use Rattle.std.proofs.Common.{◌≡◌, ℕ, Bool, true, false, List, [], ◌∷◌, map, Bor, Result, Ok, Err, refl, ap}
 use Rattle.std.specs.Ordering.{nat_cmp}
-use Rattle.std.specs.List.{filter}
+use Rattle.std.specs.List.{filter, list_any}
+use Rattle.std.specs.Prelude.{IfErr}
+use Rattle.rpm_outside.specs.Files.{Units}
+use Rattle.rpm_tags.specs.declared.kind.Kind.{Kind}
 use Rattle.std.specs.FinMap as finite
 use Rattle.rpm_header.specs.declared.form.HeaderFault.{HeaderFault}
 use Rattle.rpm_header.specs.Header.{Header, header}
@@ -11,6 +14,11 @@ use Rattle.rpm_db.specs.State.{Package, Good, Bad}
 use Rattle.rpm_select.specs.declared.selection.Selection.{Selection}
 use Rattle.rpm_select.specs.declared.selection.Selection.TheVariants as question
 use Rattle.rpm_select.specs.Selections.{takes_header, takes_bad, takes_read, is_picked, picks}
+use Rattle.rpm_select.specs.Candidates.{keys_asked, has_key, has_key_in, is_candidate, candidates}
+use Rattle.rpm_select.specs.Reach.{These, unasked, reach}
+use Rattle.rpm_tool.specs.declared.step.Stop.{Stop}
+use Rattle.rpm_tool.specs.declared.step.Stop.TheVariants as stop
+use Rattle.rpm_tool.specs.Reads.{reach_of, argument_reach, IsFaultOf, IsOfChain}
 use Rattle.rpm_tool.specs.Queries.{lent, question_of, picked_by, picked}
 
 filter_same : {X : Type 0} (p q : X → Bool) → ((x : X) → p x ≡ q x) → (xs : List X) → filter p xs ≡ filter q xs
@@ -47,3 +55,70 @@ picked_same map by.Number x = refl
 picked_same map by.Directory x = picks_same (question.Directory (lent x.now)) (question.Directory x) (λ n h. refl) (λ n. refl) map
 picked_same map by.Tid x = refl
 picked_same map by.Recommends x = refl
+
+-- ---- and asks an index so
+
+abbrev numbers_of : List (ℕ × Package) → List ℕ
+numbers_of es = map (λ e. e.0) es
+
+module _ (s t : Selection) (keys : keys_asked s ≡ keys_asked t) where
+  key_same : (r : Result Header HeaderFault) → has_key_in s r ≡ has_key_in t r
+  key_same (Ok h) = ap (λ (ks : List (Kind × List ℕ)). list_any (has_key h) ks) keys
+  key_same (Err fault) = refl
+
+  candidate_alike : (e : ℕ × Package) → is_candidate s e ≡ is_candidate t e
+  candidate_alike (n, Good bytes) = key_same (header bytes)
+  candidate_alike (n, Bad) = refl
+
+  candidates_same : (map : finite.FinMap nat_cmp Package) → candidates map s ≡ candidates map t
+  unfolding candidates
+  candidates_same map = filter_same (is_candidate s) (is_candidate t) candidate_alike (finite.entries map)
+
+  reach_alike : unasked s ≡ unasked t → (asked : Bool) (map : finite.FinMap nat_cmp Package) → reach asked s map ≡ reach asked t map
+  reach_alike same true map = ap (λ (es : List (ℕ × Package)). These (numbers_of es)) (candidates_same map)
+  reach_alike same false map = same
+
+pub reach_same : (indexed : Bool) (map : finite.FinMap nat_cmp Package) (chosen : Chosen) (x : Bor (List ℕ))
+    → argument_reach indexed map chosen x.now ≡ reach_of indexed map (question_of chosen x)
+unfolding argument_reach keys_asked
+reach_same indexed map by.Label x = reach_alike (question.Label (lent x.now)) (question.Label x) refl refl indexed map
+reach_same indexed map by.All x = refl
+reach_same indexed map by.Path x = reach_alike (question.Path (lent x.now)) (question.Path x) refl refl indexed map
+reach_same indexed map by.Group x = reach_alike (question.Group (lent x.now)) (question.Group x) refl refl indexed map
+reach_same indexed map by.Package x = refl
+reach_same indexed map by.Provides x = refl
+reach_same indexed map by.Requires x = refl
+reach_same indexed map by.Conflicts x = refl
+reach_same indexed map by.Obsoletes x = refl
+reach_same indexed map by.Trigger x = reach_alike (question.Trigger (lent x.now)) (question.Trigger x) refl refl indexed map
+reach_same indexed map by.Number x = refl
+reach_same indexed map by.Directory x = reach_alike (question.Directory (lent x.now)) (question.Directory x) refl refl indexed map
+reach_same indexed map by.Tid x = refl
+reach_same indexed map by.Recommends x = refl
+
+pub fault_same : (chosen : Chosen) (x : Bor (List ℕ)) (idx : Units) (unit : ℕ) → IsFaultOf (question_of chosen x) idx unit
+    → IsFaultOf (question_of chosen (lent x.now)) idx unit
+unfolding keys_asked
+fault_same by.Label x idx unit is = is
+fault_same by.All x idx unit is = is
+fault_same by.Path x idx unit is = is
+fault_same by.Group x idx unit is = is
+fault_same by.Package x idx unit is = is
+fault_same by.Provides x idx unit is = is
+fault_same by.Requires x idx unit is = is
+fault_same by.Conflicts x idx unit is = is
+fault_same by.Obsoletes x idx unit is = is
+fault_same by.Trigger x idx unit is = is
+fault_same by.Number x idx unit is = is
+fault_same by.Directory x idx unit is = is
+fault_same by.Tid x idx unit is = is
+fault_same by.Recommends x idx unit is = is
+
+pub chain_same : (chosen : Chosen) (x : Bor (List ℕ)) (idx : Units) (r : Result Bool Stop) → IfErr r (IsOfChain (question_of chosen x) idx)
+    → IfErr r (IsOfChain (question_of chosen (lent x.now)) idx)
+chain_same chosen x idx (Ok o) is = tt
+chain_same chosen x idx (Err stop.ReadFault) is = tt
+chain_same chosen x idx (Err (stop.BadIndex unit)) is = fault_same chosen x idx unit is
+chain_same chosen x idx (Err stop.OutFault) is = tt
+chain_same chosen x idx (Err stop.ErrFault) is = tt
+chain_same chosen x idx (Err stop.NoMemory) is = tt

@@ -66,6 +66,7 @@ module _ (ot et : Bool) (all left front rest : List Step) (o o' o'' e e' e'' : L
   pub goes_stop : (T T' : Type 0) (what : Stop) (reads_to : Bearer → Type 0) → Reached {T = T} front (Err what) (outputs ot o' et e') (outputs ot o'' et e'')
       reads_to → Reached {T = T'} all (Err what) (outputs ot o et e) (outputs ot o'' et e'') reads_to
   goes_stop T T' stop.ReadFault reads_to r = some_more r
+  goes_stop T T' (stop.BadIndex unit) reads_to r = r
   goes_stop T T' stop.OutFault reads_to r = within_more true reads_to r
   goes_stop T T' stop.ErrFault reads_to r = within_more false reads_to r
   goes_stop T T' stop.NoMemory reads_to r = some_more r
@@ -80,6 +81,7 @@ goes_end ot et all left o o' e e' none g =
 pub reached_first : (T : Type 0) (s : Step) (rest : List Step) (what : Stop) (old new : Outputs) (reads_to : Bearer → Type 0) → reads_to (bearer_of s)
     → StepIs s (Err what) old new → Reached {T = T} (s ∷ rest) (Err what) old new reads_to
 reached_first T s rest stop.ReadFault old new reads_to reads step = ([], s ∷ rest, refl, step)
+reached_first T s rest (stop.BadIndex unit) old new reads_to reads step = step
 reached_first T s rest stop.OutFault old new reads_to reads step =
     record { done = []; step = s; rest = rest; all_is = refl; sink = step.0; bytes = step.1.0; through = step.1.1; reads = reads }
 reached_first T s rest stop.ErrFault old new reads_to reads step =
@@ -103,17 +105,20 @@ pub reached_reads : {T : Type 0} (all : List Step) (r : Result T Stop) (old new 
     → Reached all r old new P → Reached all r old new Q
 reached_reads all (Ok t) old new P Q so s = s
 reached_reads all (Err stop.ReadFault) old new P Q so s = s
+reached_reads all (Err (stop.BadIndex unit)) old new P Q so s = s
 reached_reads all (Err stop.OutFault) old new P Q so s = within_reads all true old new P Q so s
 reached_reads all (Err stop.ErrFault) old new P Q so s = within_reads all false old new P Q so s
 reached_reads all (Err stop.NoMemory) old new P Q so s = s
 
 -- no step at all
-pub reached_none : (T : Type 0) (all : List Step) (what : Stop) (old new : Outputs) (reads_to : Bearer → Type 0) → (what ≡ stop.OutFault → ⊥)
-    → (what ≡ stop.ErrFault → ⊥) → Through [] old new → Reached {T = T} all (Err what) old new reads_to
-reached_none T all stop.ReadFault old new reads_to a b t = ([], all, refl, t)
-reached_none T all stop.OutFault old new reads_to a b t = absurd (a refl)
-reached_none T all stop.ErrFault old new reads_to a b t = absurd (b refl)
-reached_none T all stop.NoMemory old new reads_to a b t = ([], all, refl, t)
+pub reached_none : (T : Type 0) (all : List Step) (what : Stop) (old new : Outputs) (reads_to : Bearer → Type 0)
+    → ((unit : ℕ) → what ≡ stop.BadIndex unit → ⊥) → (what ≡ stop.OutFault → ⊥) → (what ≡ stop.ErrFault → ⊥) → Through [] old new
+    → Reached {T = T} all (Err what) old new reads_to
+reached_none T all stop.ReadFault old new reads_to i a b t = ([], all, refl, t)
+reached_none T all (stop.BadIndex unit) old new reads_to i a b t = absurd (i unit refl)
+reached_none T all stop.OutFault old new reads_to i a b t = absurd (a refl)
+reached_none T all stop.ErrFault old new reads_to i a b t = absurd (b refl)
+reached_none T all stop.NoMemory old new reads_to i a b t = ([], all, refl, t)
 
 -- a line of which a sink took the first bytes alone
 pub out_cut : (ot et : Bool) (o o' e bytes : List ℕ) (for : Bearer) → GainedPart ot o o' bytes
@@ -154,6 +159,7 @@ none_within (x ∷ d) s r is = cc
 pub reached_empty : (T T' : Type 0) (all : List Step) (what : Stop) (old new : Outputs) (P Q : Bearer → Type 0) → Reached {T = T} [] (Err what) old new P
     → Reached {T = T'} all (Err what) old new Q
 reached_empty T T' all stop.ReadFault old new P Q r = ([], all, refl, subst (λ (d : List Step). Through d old new) (empty_done r.0 r.1 r.2) r.3)
+reached_empty T T' all (stop.BadIndex unit) old new P Q r = r
 reached_empty T T' all stop.OutFault old new P Q r = absurd (none_within r.done r.step r.rest r.all_is)
 reached_empty T T' all stop.ErrFault old new P Q r = absurd (none_within r.done r.step r.rest r.all_is)
 reached_empty T T' all stop.NoMemory old new P Q r = ([], all, refl, subst (λ (d : List Step). Through d old new) (empty_done r.0 r.1 r.2) r.3)
@@ -163,6 +169,7 @@ pub reached_unsunk : (T : Type 0) (all : List Step) (what : Stop) (old new : Out
     → Through [] old new
     → Reached {T = T} all (Err what) old new reads_to
 reached_unsunk T all stop.ReadFault old new reads_to is t = ([], all, refl, t)
+reached_unsunk T all (stop.BadIndex unit) old new reads_to is t = absurd cc
 reached_unsunk T all stop.OutFault old new reads_to is t = absurd cc
 reached_unsunk T all stop.ErrFault old new reads_to is t = absurd cc
 reached_unsunk T all stop.NoMemory old new reads_to is t = ([], all, refl, t)

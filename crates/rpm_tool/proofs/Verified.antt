@@ -45,6 +45,7 @@ fails_later false one unsound rest all same is = is ∙ ap (λ (b : Bool). b || 
 -- a stop that isn't a fault of err
 pub not_of_err : (s : Stop) → (s ≡ stop.ErrFault → ⊥) → why_of s ≡ why.ErrFault → ⊥
 not_of_err stop.ReadFault other is = cc
+not_of_err (stop.BadIndex unit) other is = cc
 not_of_err stop.OutFault other is = cc
 not_of_err stop.ErrFault other is = other refl
 not_of_err stop.NoMemory other is = cc

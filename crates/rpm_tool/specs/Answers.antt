@@ -1,6 +1,8 @@
 -- How far a command went, and what it answers.
-use Rattle.std.specs.Prelude.{◌≡◌, ◌≢◌, ◌⊎◌, ℕ, ◌+◌, ◌*◌, ◌-◌, ◌^◌, ◌<◌, ◌≤◌, List, [], ◌∷◌, ◌++◌, map, length, max, Bool, true, false, Option, Some, None, Result, Ok, Err, IfOk, IsTrue}
+use Rattle.std.specs.Prelude.{◌≡◌, ◌≢◌, ◌⊎◌, ℕ, ◌+◌, ◌*◌, ◌-◌, ◌^◌, ◌<◌, ◌≤◌, List, [], ◌∷◌, ◌++◌, map, Bool, true, false, Option, Some, None, Result, Ok, Err, IfOk, IsTrue}
 use Rattle.std.specs.List.{flat_map}
+use Rattle.std.specs.Ordering.{nat_cmp}
+use Rattle.std.specs.FinMap.{FinMap}
 use Rattle.rpm_outside.specs.Causes.{Rose}
 use Rattle.rpm_outside.specs.declared.disk.File.{File}
 use Rattle.rpm_outside.specs.declared.disk.File.TheVariants.{Idx}
@@ -13,15 +15,17 @@ use Rattle.rpm_group.specs.declared.load.LoadFault.TheVariants as load
 use Rattle.rpm_pkgdb.specs.declared.slot.Damage.{Damage}
 use Rattle.rpm_pkgdb.specs.Store.{Store, store}
 use Rattle.rpm_pkgdb.specs.Costs.{opening_cost, cost_to, cost_all}
-use Rattle.rpm_db.specs.State.{Package, above}
+use Rattle.rpm_db.specs.State.{Package, packages, above}
 use Rattle.rpm_file.specs.declared.fault.FileFault.{FileFault}
 use Rattle.rpm_file.specs.declared.fault.FileFault.TheVariants as file
 use Rattle.rpm_words.specs.declared.fault.WordsFault.{WordsFault}
 use Rattle.rpm_words.specs.declared.fault.WordsKind.TheVariants as kind
+use Rattle.rpm_words.specs.Words.{text_at}
 use Rattle.rpm_words.specs.Ask.{AskParts}
 use Rattle.rpm_qfparse.specs.declared.fault.FormatFault.{FormatFault}
 use Rattle.rpm_qfparse.specs.declared.fault.FormatKind.TheVariants as wrong
 use Rattle.rpm_qfparse.specs.Tree.{Tree}
+use Rattle.rpm_select.specs.Reach.{Reach, Everything}
 use Rattle.rpm_select.specs.declared.picker.PickFault.{PickFault}
 use Rattle.rpm_select.specs.declared.picker.PickFault.TheVariants as pick
 use Rattle.rpm_tool.specs.declared.step.Stop.{Stop}
@@ -32,6 +36,8 @@ use Rattle.rpm_tool.specs.declared.answer.Why.TheVariants as why
 use Rattle.rpm_tool.specs.declared.asked.Deed.{Deed}
 use Rattle.rpm_tool.specs.declared.asked.Deed.TheVariants as deed
 use Rattle.rpm_tool.specs.Asked.{deed_of, is_unbuilt_in}
+use Rattle.rpm_tool.specs.Reads.{argument_reach, reaches_by, reach_sum, reached_by}
+use Rattle.rpm_tool.specs.Reports.{unindexed, course}
 use Rattle.rpm_tool.specs.Steps.{Bearer, Step, Course, Part, out_bytes, err_bytes, is_out, bearer_of, cut}
 
 -- what out and err took, and whether they tell it
@@ -68,6 +74,7 @@ pub record StoppedWithin (all : List Step) (to_out : Bool) (old new : Outputs) (
 abbrev pub Reached : {T : Type 0} → List Step → Result T Stop → Outputs → Outputs → (Bearer → Type 0) → Type 0
 Reached all (Ok done) old new reads_to = Through all old new
 Reached all (Err stop.ReadFault) old new reads_to = ThroughSome all old new
+Reached all (Err (stop.BadIndex unit)) old new reads_to = ⊥
 Reached all (Err stop.OutFault) old new reads_to = StoppedWithin all true old new reads_to
 Reached all (Err stop.ErrFault) old new reads_to = StoppedWithin all false old new reads_to
 Reached all (Err stop.NoMemory) old new reads_to = ThroughSome all old new
@@ -76,6 +83,7 @@ Reached all (Err stop.NoMemory) old new reads_to = ThroughSome all old new
 abbrev pub StepIs : Step → Result Bool Stop → Outputs → Outputs → Type 0
 StepIs step (Ok to_out) old new = (is_out step ≡ to_out) × Through (step ∷ []) old new
 StepIs step (Err stop.ReadFault) old new = Through [] old new
+StepIs step (Err (stop.BadIndex unit)) old new = ⊥
 StepIs step (Err stop.OutFault) old new = (is_out step ≡ true) × ((bytes : ℕ) × Through (cut bytes step ∷ []) old new)
 StepIs step (Err stop.ErrFault) old new = (is_out step ≡ false) × ((bytes : ℕ) × Through (cut bytes step ∷ []) old new)
 StepIs step (Err stop.NoMemory) old new = Through [] old new
@@ -84,23 +92,6 @@ StepIs step (Err stop.NoMemory) old new = Through [] old new
 pub record PartIs (part : Part) (result : Result Bool Stop) (old new : Outputs) (reads_to : Bearer → Type 0) : Type 0 where
   pub steps : Reached part.steps result old new reads_to
   pub fails : IfOk result (λ fails. part.fails ≡ fails)
-
--- what is read up to a package of an argument, or for the whole of it
-abbrev pub reach_to : Store → Option ℕ → ℕ
-reach_to s None = cost_all s
-reach_to s (Some n) = cost_to n s
-
--- read while the packages of argument j above n are gone through: up to the package that a step is for
-abbrev pub ReadsIn : ℕ → ℕ → Store → ℕ → ℕ → Bearer → Type 0
-ReadsIn j n s before now for = (for.argument ≡ j) × (now + cost_to n s ≤ before + reach_to s for.number)
-
--- the same of a whole argument
-abbrev pub ReadsOf : ℕ → Store → ℕ → ℕ → Bearer → Type 0
-ReadsOf j s before now for = (for.argument ≡ j) × (now ≤ before + reach_to s for.number)
-
--- and of several: the packages of each argument before, and of this one those up to its number
-abbrev pub reach_all : Store → Bearer → ℕ
-reach_all s for = for.argument * cost_all s + reach_to s for.number
 
 -- the step of one package is gone through, or stops
 abbrev pub OneIs : Step → Result (Option (ℕ × Bool)) Stop → Outputs → Outputs → Type 0
@@ -125,9 +116,10 @@ abbrev pub fails_in : Result Printed Stop → Result Bool Stop
 fails_in (Ok p) = Ok p.fails
 fails_in (Err stop) = Err stop
 
--- a stop that a sink made
+-- a stop that a sink made, or a malformed index
 abbrev pub is_of_sink : Stop → Bool
 is_of_sink stop.ReadFault = false
+is_of_sink (stop.BadIndex unit) = true
 is_of_sink stop.OutFault = true
 is_of_sink stop.ErrFault = true
 is_of_sink stop.NoMemory = false
@@ -136,15 +128,16 @@ abbrev pub is_some_of : {X : Type 0} → List X → Bool
 is_some_of [] = false
 is_some_of (x ∷ xs) = true
 
--- a fault of a picker that asks no index
+-- a fault of a picker
 abbrev pub stop_of : PickFault → Stop
-stop_of (pick.BadIndex unit) = stop.ReadFault
+stop_of (pick.BadIndex unit) = stop.BadIndex unit
 stop_of pick.DiskFault = stop.ReadFault
 stop_of pick.NoMemory = stop.NoMemory
 
 -- the ending of a command on a database that was stopped
 abbrev pub why_of : Stop → Why
 why_of stop.ReadFault = why.DiskFault
+why_of (stop.BadIndex unit) = why.BadIndex unit
 why_of stop.OutFault = why.OutFault
 why_of stop.ErrFault = why.ErrFault
 why_of stop.NoMemory = why.NoMemory
@@ -152,6 +145,7 @@ why_of stop.NoMemory = why.NoMemory
 -- and of a query of package files
 abbrev pub why_of_files : Stop → Why
 why_of_files stop.ReadFault = why.ShelfFault
+why_of_files (stop.BadIndex unit) = why.BadIndex unit
 why_of_files stop.OutFault = why.OutFault
 why_of_files stop.ErrFault = why.ErrFault
 why_of_files stop.NoMemory = why.NoMemory
@@ -195,6 +189,13 @@ is_foreign (why.BadFormat fault) = true
 is_foreign why.ShelfFault = true
 is_foreign others = false
 
+-- so a command ends whose database isn't opened
+abbrev pub is_of_opening : Why → Bool
+is_of_opening (why.BadLog unit) = true
+is_of_opening (why.Damaged damage) = true
+is_of_opening (why.IndexFull needed) = true
+is_of_opening others = false
+
 -- ---- the answers of a command that opens the database, before the closing line
 
 -- where the database is in order
@@ -206,6 +207,8 @@ Went course (why.NotBuilt what) old new reads_to = ⊥
 Went course (why.BadFormat fault) old new reads_to = ⊥
 Went course (why.BadLog unit) old new reads_to = ⊥
 Went course (why.Damaged damage) old new reads_to = ⊥
+Went course (why.BadIndex unit) old new reads_to = ⊥
+Went course (why.IndexFull needed) old new reads_to = ⊥
 Went course why.DiskFault old new reads_to = ThroughSome course.steps old new
 Went course why.ShelfFault old new reads_to = ThroughSome course.steps old new
 Went course why.OutFault old new reads_to = StoppedWithin course.steps true old new reads_to
@@ -228,21 +231,30 @@ Refused damage _ = ⊥
 
 -- ---- a command that opens the database without its index, as it reads when an open log is gone through
 
--- what is read of packages up to a step: those of each argument before, and of this one those up to its number; a verdict reads them twice
-abbrev pub reach_by : Deed → Store → Bearer → ℕ
-reach_by deed.Verify s for = 2 * reach_all s for
-reach_by others s for = reach_all s for
+-- what each argument goes over, where no index is asked; exports and verdicts go over all packages
+abbrev pub unkeyed_reaches : Deed → FinMap nat_cmp Package → List (List ℕ) → AskParts → List Reach
+unkeyed_reaches deed.Print packages words a = reaches_by (argument_reach false packages a.chosen) (map (text_at words) a.arguments)
+unkeyed_reaches deed.Export packages words a = Everything ∷ []
+unkeyed_reaches deed.Verify packages words a = Everything ∷ []
+
+-- what is read of packages up to a step: what each argument before goes over, and of this one what it goes over up to its number
+abbrev pub reach_by : Deed → Units → List (List ℕ) → AskParts → Store → Bearer → ℕ
+reach_by what file words a s for = reached_by (unkeyed_reaches what (packages file s) words a) (unindexed s) for
+
+-- and in all
+abbrev pub reach_cost : Deed → Units → List (List ℕ) → AskParts → Store → ℕ
+reach_cost what file words a s = reach_sum (unkeyed_reaches what (packages file s) words a) (unindexed s)
 
 -- the most that is read of Packages.db up to a step, its pages with it
-abbrev pub read_to : Deed → Units → Store → Bearer → ℕ
-read_to what file s for = opening_cost file + reach_by what s for
+abbrev pub read_to : Units → List (List ℕ) → AskParts → Store → Bearer → ℕ
+read_to file words a s for = opening_cost file + reach_by (deed_of a.mode) file words a s for
 
 -- a count rose by at most so much, where that is a number that counts have
 abbrev pub AtMost : ℕ → ℕ → ℕ → Type 0
 AtMost before now most = (now ≤ before + most) ⊎ (2 ^ 64 - 1 ≤ most)
 
-abbrev pub ReadsTo : Deed → Units → Store → ℕ → ℕ → Bearer → Type 0
-ReadsTo what file s before now for = AtMost before now (read_to what file s for)
+abbrev pub ReadsTo : Units → List (List ℕ) → AskParts → Store → ℕ → ℕ → Bearer → Type 0
+ReadsTo file words a s before now for = AtMost before now (read_to file words a s for)
 
 abbrev pub Opened : (Store → Course) → Result Store Damage → Why → Outputs → Outputs → (Store → Bearer → Type 0) → Type 0
 Opened course (Ok s) why old new reads_to = Went (course s) why old new (reads_to s)
@@ -253,28 +265,18 @@ Loaded course s Closed why old new reads_to = Opened course s why old new reads_
 Loaded course s (Malformed unit) why old new reads_to = Misread unit why × Through [] old new
 Loaded course s (Open entries) why old new reads_to = Opened course s why old new reads_to
 
-abbrev pub Queried : Deed → (Units → Store → Course) → Files → Why → Outputs → Outputs → ℕ → ℕ → Type 0
-Queried what course files why old new before now =
+abbrev pub Queried : Tree → List (List ℕ) → AskParts → Files → Why → Outputs → Outputs → ℕ → ℕ → Type 0
+Queried tree words a files why old new before now =
     let file = (reopened files).pkg in
-    Loaded (course file) (store file) (log_state files.log) why old new (λ s. ReadsTo what file s before now)
+    Loaded (λ s. course tree file s words a) (store file) (log_state files.log) why old new (λ s. ReadsTo file words a s before now)
 
--- how often the blocks of all packages are read: by a query once for each argument, and once without
-abbrev pub passes_by : Deed → ℕ → ℕ
-passes_by deed.Print arguments = max 1 arguments
-passes_by deed.Export arguments = 1
-passes_by deed.Verify arguments = 2
+abbrev pub blocks_cost : Units → List (List ℕ) → AskParts → Result Store Damage → ℕ
+blocks_cost file words a (Ok s) = reach_cost (deed_of a.mode) file words a s
+blocks_cost file words a (Err damage) = 0
 
-abbrev pub passes : AskParts → ℕ
-passes a = passes_by (deed_of a.mode) (length a.arguments)
-
--- the bytes of the blocks of all packages
-abbrev pub blocks_cost : Result Store Damage → ℕ
-blocks_cost (Ok s) = cost_all s
-blocks_cost (Err damage) = 0
-
--- the most that a command of so many passes over all packages reads
-abbrev pub query_cost : ℕ → Units → ℕ
-query_cost passes file = opening_cost file + passes * blocks_cost (store file)
+-- the most that a command reads
+abbrev pub query_cost : List (List ℕ) → AskParts → Units → ℕ
+query_cost words a file = opening_cost file + blocks_cost file words a (store file)
 
 -- the files, their images and the moment stay, and nothing of Hindex.db is read
 pub record Leaves {D : Type 0} (tells : Bool) (files : D → Files) (left_since : D → ℕ → Files → Type 0) (moment : D → ℕ) (bytes_read : D → File → ℕ)

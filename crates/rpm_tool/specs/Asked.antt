@@ -27,15 +27,19 @@ needs_no_index Number noindex = true
 needs_no_index Package noindex = true
 needs_no_index others noindex = noindex
 
-abbrev pub is_built_in : Mode → Chosen → Bool → Bool
-is_built_in Query chosen noindex = needs_no_index chosen noindex
-is_built_in Verifydb chosen noindex = true
-is_built_in Exportdb chosen noindex = true
-is_built_in others chosen noindex = false
+abbrev pub is_built_in : Mode → Bool
+is_built_in Query = true
+is_built_in Verifydb = true
+is_built_in Exportdb = true
+is_built_in others = false
 
 abbrev pub is_query : Mode → Bool
 is_query Query = true
 is_query others = false
+
+-- the command opens the database with its index
+abbrev pub by_key : AskParts → Bool
+by_key a = is_query a.mode && not (needs_no_index a.chosen a.noindex)
 
 abbrev pub is_package : Chosen → Bool
 is_package Package = true
@@ -46,7 +50,7 @@ abbrev pub of_files : AskParts → Bool
 of_files a = is_query a.mode && is_package a.chosen
 
 unfoldable pub is_built : AskParts → Bool
-is_built a = is_built_in a.mode a.chosen a.noindex
+is_built a = is_built_in a.mode
 
 -- a command was read, and it isn't built
 abbrev pub is_unbuilt_in : Result AskParts WordsFault → Bool

@@ -22,6 +22,8 @@ status_of (why.BadFormat fault) = 251
 status_of (why.NotBuilt what) = 252
 status_of (why.BadLog unit) = 252
 status_of (why.Damaged damage) = 252
+status_of (why.BadIndex unit) = 252
+status_of (why.IndexFull needed) = 252
 status_of why.DiskFault = 252
 status_of why.ShelfFault = 253
 status_of why.OutFault = 253
@@ -45,6 +47,9 @@ damage_line damage =
 -- the byte at which the unit begins
 unfoldable pub log_line : ℕ → List ℕ
 log_line unit = concat (codes "rpm: Hlog.db is damaged at byte " ∷ decimal (16 * unit) ∷ codes "\n" ∷ [])
+
+unfoldable pub index_line : ℕ → List ℕ
+index_line unit = concat (codes "rpm: Hindex.db is damaged at byte " ∷ decimal (16 * unit) ∷ codes "\n" ∷ [])
 
 -- what is told of the rule that the words break
 unfoldable pub rule_text : WordsKind → List ℕ
@@ -102,6 +107,8 @@ closing words (why.BadFormat fault) = format_line fault
 closing words (why.NotBuilt what) = codes "rpm: not built yet\n"
 closing words (why.BadLog unit) = log_line unit
 closing words (why.Damaged damage) = damage_line damage
+closing words (why.BadIndex unit) = index_line unit
+closing words (why.IndexFull needed) = codes "rpm: Hindex.db is full\n"
 closing words why.DiskFault = codes "rpm: the database could not be read or written\n"
 closing words why.ShelfFault = codes "rpm: input could not be read\n"
 closing words why.OutFault = codes "rpm: output could not be written\n"

@@ -1,7 +1,9 @@
 pub mod Answers
 pub mod Asked
 pub mod Closing
+pub mod Keyed
 pub mod PackageFiles
 pub mod Queries
+pub mod Reads
 pub mod Reports
 pub mod Steps

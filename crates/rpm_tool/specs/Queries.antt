@@ -1,5 +1,5 @@
 -- What a query does: what is printed of each package that it picks.
-use Rattle.std.specs.Prelude.{ℕ, List, [], ◌∷◌, ◌++◌, map, codes, decimal, Option, Some, None, Result, Ok, Err}
+use Rattle.std.specs.Prelude.{ℕ, List, [], ◌∷◌, ◌++◌, map, codes, decimal, Bool, Option, Some, None, is_some, Result, Ok, Err}
 use Rattle.std.specs.Borrow.{Bor}
 use Rattle.std.specs.Option.{option_map}
 use Rattle.std.specs.List.{concat}
@@ -79,6 +79,10 @@ question_of by.Number x = option_map question.Number (number x.now)
 question_of by.Directory x = Some (question.Directory x)
 question_of by.Tid x = option_map question.Tid (number x.now)
 question_of by.Recommends x = capability_in question.Recommends (capability x.now)
+
+-- an argument is a question
+abbrev pub is_question : Chosen → List ℕ → Bool
+is_question chosen text = is_some (question_of chosen (lent text))
 
 abbrev pub picked_by : FinMap nat_cmp Package → Option Selection → List (ℕ × Package)
 picked_by packages None = []

@@ -1,6 +1,7 @@
 -- What a command does, step by step.
 use Rattle.std.specs.Prelude.{ℕ, ◌+◌, ◌<◌, List, [], ◌∷◌, ◌++◌, take, Bool, true, false, not, if◌then◌else◌, Option, Some, None}
 use Rattle.std.specs.List.{list_any, flat_map}
+use Rattle.rpm_db.specs.Changes.{Change}
 
 -- whom a step is for: an argument, counted from 0, and one of its packages, or the argument as a whole
 pub record Bearer : Type 0 where
@@ -58,12 +59,6 @@ Rises n (m ∷ ms) = (n < m) × Rises m ms
 abbrev pub cut : ℕ → Step → Step
 cut n (ToOut for bytes) = ToOut for (take n bytes)
 cut n (ToErr for bytes) = ToErr for (take n bytes)
-
--- what is changed in the database
-pub data Change : Type 0 where
-  Add : List ℕ → Change
-  Put : ℕ → List ℕ → Change
-  Erase : ℕ → Change
 
 -- the steps of a command, how many of its arguments fail, and its changes: they come last, all as one
 pub record Course : Type 0 where

@@ -31,7 +31,11 @@ pub enum Why {
     BadLog { unit: u64 },
     /// `Packages.db` is damaged.
     Damaged(Damage),
-    /// The database could not be read.
+    /// `Hindex.db` is malformed at this unit: in the chain of a key that was asked.
+    BadIndex { unit: u64 },
+    /// An index of the packages needs so many units, more than `Hindex.db` may have.
+    IndexFull { needed: u64 },
+    /// The database could not be read or written.
     DiskFault,
     /// A package file could not be read.
     ShelfFault,
@@ -64,6 +68,7 @@ pub fn status_of(why: Why) -> u8
         Why::Usage(_) => 251,
         Why::BadFormat(_) => 251,
         Why::NotBuilt(_) | Why::BadLog { .. } | Why::Damaged(_) | Why::DiskFault => 252,
+        Why::BadIndex { .. } | Why::IndexFull { .. } => 252,
         Why::ShelfFault | Why::OutFault | Why::ErrFault => 253,
         Why::NoMemory => 254,
     }

@@ -2,7 +2,7 @@
 
 ghost use Rattle.std.specs.Prelude.{◌≡◌, true, Some, Ok, IfOk, IfErr};
 ghost use Rattle.rpm_words.specs.Ask.{ask};
-ghost use Rattle.rpm_tool.specs.Asked.{deed_of, of_files, needs_no_index, is_built_in, is_built, format_text, asks_format};
+ghost use Rattle.rpm_tool.specs.Asked.{deed_of, of_files, by_key, needs_no_index, is_built_in, is_built, format_text, asks_format};
 ghost use Rattle.rpm_tool.specs.Answers.{Undone};
 
 use crate::answer::{Unbuilt, Why};
@@ -43,14 +43,20 @@ pub fn deed_of(mode: Mode) -> Deed
 }
 
 /// Whether a command of this mode is built.
-fn is_built_in(mode: Mode, chosen: Chosen, noindex: bool) -> bool
-    ensures { result ≡ is_built_in mode chosen noindex }
+fn is_built_in(mode: Mode) -> bool
+    ensures { result ≡ is_built_in mode }
 {
     match mode {
-        Mode::Query => needs_no_index(chosen, noindex),
-        Mode::Verifydb | Mode::Exportdb => true,
+        Mode::Query | Mode::Verifydb | Mode::Exportdb => true,
         _ => false,
     }
+}
+
+/// Whether a command opens the database with its index.
+pub fn by_key(ask: &Ask) -> bool
+    ensures { result ≡ by_key ask.now }
+{
+    matches!(ask.mode(), Mode::Query) && !needs_no_index(ask.chosen(), ask.noindex())
 }
 
 /// Whether a command is a query of package files.
@@ -60,12 +66,12 @@ pub fn of_files(ask: &Ask) -> bool
     matches!(ask.mode(), Mode::Query) && matches!(ask.chosen(), Chosen::Package)
 }
 
-/// Whether a command is built: one that asks no index.
+/// Whether a command is built: one that changes no package, the reports aside.
 #[tactic(auto, unfolding(crate::specs::Asked::is_built))]
 fn is_built(ask: &Ask) -> bool
     ensures { result ≡ is_built ask.now }
 {
-    is_built_in(ask.mode(), ask.chosen(), ask.noindex())
+    is_built_in(ask.mode())
 }
 
 /// The text of the format: the one that is given, that of the list, or else that of labels.

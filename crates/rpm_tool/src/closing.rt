@@ -1,9 +1,9 @@
 //! The line that closes a command on standard error.
 
-ghost use Rattle.std.specs.Prelude.{◌≡◌, ◌++◌, [], codes, decimal, Err, Ok};
+ghost use Rattle.std.specs.Prelude.{◌≡◌, []};
 ghost use Rattle.rpm_outside.specs.Buffered.{inner, holds};
 ghost use Rattle.rpm_outside.specs.Sinks.{Writes};
-ghost use Rattle.rpm_tool.specs.Closing.{reason_text, damage_line, log_line, rule_text, word_told, usage_line, fault_text, format_line, closing};
+ghost use Rattle.rpm_tool.specs.Closing.{reason_text, damage_line, log_line, index_line, rule_text, word_told, usage_line, fault_text, format_line, closing};
 ghost use Rattle.rpm_words.specs.Words.{text_at};
 
 use crate::answer::Why;
@@ -57,6 +57,16 @@ fn put_log<E: Sink>(err: &mut E, unit: u64) -> Result<(), Failed>
     let mut digits = Buffer::new();
     let offset = digits.format(16 * unit as u128).as_bytes();
     put_pieces(err, &[b"rpm: Hlog.db is damaged at byte ", offset, b"\n"])
+}
+
+/// Writes where `Hindex.db` is damaged.
+#[tactic(auto, unfolding(crate::specs::Closing::index_line))]
+fn put_index<E: Sink>(err: &mut E, unit: u64) -> Result<(), Failed>
+    ensures { Writes E.tells E.taken E.faults E.follows err.old err.new (index_line unit) result }
+{
+    let mut digits = Buffer::new();
+    let offset = digits.format(16 * unit as u128).as_bytes();
+    put_pieces(err, &[b"rpm: Hindex.db is damaged at byte ", offset, b"\n"])
 }
 
 /// What is told of a rule that the words break.
@@ -148,6 +158,8 @@ fn put_line<E: Sink>(err: &mut E, words: &Words, why: Why) -> Result<(), Failed>
         Why::NotBuilt(_) => put_all(err, b"rpm: not built yet\n"),
         Why::Damaged(damage) => put_damage(err, damage),
         Why::BadLog { unit } => put_log(err, unit),
+        Why::BadIndex { unit } => put_index(err, unit),
+        Why::IndexFull { .. } => put_all(err, b"rpm: Hindex.db is full\n"),
         Why::DiskFault => put_all(err, b"rpm: the database could not be read or written\n"),
         Why::ShelfFault => put_all(err, b"rpm: input could not be read\n"),
         Why::OutFault => put_all(err, b"rpm: output could not be written\n"),

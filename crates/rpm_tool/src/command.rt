@@ -1,27 +1,34 @@
 //! The top call: a command line does what its command's steps say.
 
-ghost use Rattle.std.specs.Prelude.{◌≡◌, ◌≢◌, ℕ, List, [], map, true, false, IsTrue, Some, None, Err};
+ghost use Rattle.std.specs.Prelude.{◌≡◌, ◌≢◌, ◌+◌, ◌≤◌, ℕ, List, [], map, true, false, IsTrue, Some, None, Ok, Err};
+ghost use Rattle.std.specs.List.{AllByRecursion};
 ghost use Rattle.std.specs.Ordering.{nat_cmp};
 ghost use Rattle.std.specs.FinMap.{FinMap};
 ghost use Rattle.rpm_outside.specs.Buffered.{inner, holds, HandsOn};
 ghost use Rattle.rpm_outside.specs.Causes.{HasCauseAt};
+ghost use Rattle.rpm_outside.specs.Crash.{LeavesOnly};
 ghost use Rattle.rpm_outside.specs.Logs.{reopened};
 ghost use Rattle.rpm_outside.specs.Shelves.{Paths};
 ghost use Rattle.rpm_db.specs.State.{Package, above};
 ghost use Rattle.rpm_words.specs.declared.switch.Chosen.{Chosen};
+ghost use Rattle.rpm_words.specs.declared.switch.Chosen.TheVariants as by;
+ghost use Rattle.rpm_words.specs.declared.ask.Mode.TheVariants as mode;
+ghost use Rattle.rpm_words.specs.Words.{text_at};
 ghost use Rattle.rpm_words.specs.Ask.{AskParts, ask};
 ghost use Rattle.rpm_qfparse.specs.Tree.{Tree};
-ghost use Rattle.rpm_tool.specs.Asked.{deed_of, of_files, asks_unbuilt, asks_format, asks};
+ghost use Rattle.rpm_tool.specs.Asked.{of_files, by_key, asks_unbuilt, asks_format, asks};
 ghost use Rattle.rpm_tool.specs.Closing.{status_of, closing};
 ghost use Rattle.rpm_tool.specs.Steps.{numbers, Rises};
-ghost use Rattle.rpm_tool.specs.Queries.{picked, argument_part};
-ghost use Rattle.rpm_tool.specs.Reports.{course};
+ghost use Rattle.rpm_tool.specs.Queries.{is_question, picked, argument_part};
+ghost use Rattle.rpm_tool.specs.Keyed.{AreLawfulGroups, IsLawfulGroup, StandsStill, IsReady, KeyedIs, AnswersByKey, FullIs, BadIs, HasRoom};
+ghost use Rattle.rpm_tool.specs.Keyed.{is_done, is_done_or_outside, keyed_cost};
 ghost use Rattle.rpm_tool.specs.PackageFiles.{passing, query_files};
-ghost use Rattle.rpm_tool.specs.Answers.{outputs, is_of_words, ComesWhere, Queried, Anywhere, Went, Closes, Ends, AtMost, Leaves, passes, query_cost};
+ghost use Rattle.rpm_tool.specs.Answers.{outputs, is_of_words, ComesWhere, Queried, Anywhere, Went, Closes, Ends, AtMost, Leaves, query_cost};
 
 use crate::answer::{Outcome, Unbuilt, Why, status_of};
-use crate::asked::{of_files, read_command};
+use crate::asked::{by_key, of_files, read_command};
 use crate::closing::put_closing;
+use crate::keyed::answer_keyed;
 use crate::loaded::answer_loaded;
 use crate::package_files::print_files;
 use rpm_outside::{Buffered, Disk, File, Shelf, Sink};
@@ -42,19 +49,24 @@ fn begin<D: Disk, S: Shelf, O: Sink + Drop, E: Sink + Drop>(
 ) -> (Why, D)
     requires out_empty { holds out.old ≡ [] }
     requires err_empty { holds err.old ≡ [] }
-    ensures went { of_files ask.now ≡ false → IsTrue D.tells
-        → Queried (deed_of ask.now.mode) (λ file s. course format.now file s words.now ask.now) (D.files disk) result.0
+    ensures went { of_files ask.now ≡ false → by_key ask.now ≡ false → IsTrue D.tells
+        → Queried format.now words.now ask.now (D.files disk) result.0
         (outputs O.tells (O.taken (inner out.old)) E.tells (E.taken (inner err.old))) (outputs O.tells (O.taken (inner out.new)) E.tells
         (E.taken (inner err.new))) (D.bytes_read disk File.Pkg) (D.bytes_read result.1 File.Pkg) }
-    ensures reads { of_files ask.now ≡ false → IsTrue D.tells → AtMost (D.bytes_read disk File.Pkg)
-        (D.bytes_read result.1 File.Pkg) (query_cost (passes ask.now) (reopened (D.files disk)).pkg) }
+    ensures reads { of_files ask.now ≡ false → by_key ask.now ≡ false → IsTrue D.tells → AtMost (D.bytes_read disk File.Pkg)
+        (D.bytes_read result.1 File.Pkg) (query_cost words.now ask.now (reopened (D.files disk)).pkg) }
     ensures files { of_files ask.now ≡ true → IsTrue S.tells → Went (query_files format.now (S.paths shelf.old) words.now ask.now) result.0
         (outputs O.tells (O.taken (inner out.old)) E.tells (E.taken (inner err.old))) (outputs O.tells (O.taken (inner out.new)) E.tells
         (E.taken (inner err.new))) Anywhere }
     ensures disk_unread { of_files ask.now ≡ true → result.1 ≡ disk }
     ensures shelf_unread { of_files ask.now ≡ false → shelf.new ≡ shelf.old }
     ensures done { is_of_words result.0 ≡ false }
-    ensures looks { Leaves D.tells D.files D.left_since D.moment D.bytes_read D.follows disk result.1 }
+    ensures looks { by_key ask.now ≡ false → Leaves D.tells D.files D.left_since D.moment D.bytes_read D.follows disk result.1 }
+    ensures keyed { by_key ask.now ≡ true → IsTrue D.tells
+        → AnswersByKey D.files D.left_since D.moment D.bytes_read format.now words.now ask.now result.0
+        (outputs O.tells (O.taken (inner out.old)) E.tells (E.taken (inner err.old))) (outputs O.tells (O.taken (inner out.new)) E.tells
+        (E.taken (inner err.new))) disk result.1 }
+    ensures goes_on { D.follows disk result.1 }
     ensures disk { HasCauseAt (result.0 ≡ Why.DiskFault) (D.faults disk) (D.faults result.1) }
     ensures shelf { HasCauseAt (result.0 ≡ Why.ShelfFault) (S.faults shelf.old) (S.faults shelf.new) }
     ensures out { HasCauseAt (result.0 ≡ Why.OutFault) (O.faults (inner out.old)) (O.faults (inner out.new)) }
@@ -65,6 +77,8 @@ fn begin<D: Disk, S: Shelf, O: Sink + Drop, E: Sink + Drop>(
     if of_files(ask) {
         let why = print_files(alloc, shelf, words, ask, format, out, err);
         (why, disk)
+    } else if by_key(ask) {
+        answer_keyed(alloc, disk, words, ask, format, out, err)
     } else {
         answer_loaded(alloc, disk, words, ask, format, out, err)
     }
@@ -94,13 +108,20 @@ fn command<D: Disk, S: Shelf, O: Sink + Drop, E: Sink + Drop>(
     ensures disk_unread { (a : AskParts) (tree : Tree) → asks words.now ≡ Some (a, tree) → of_files a ≡ true → result.1 ≡ disk }
     ensures shelf_unread { (a : AskParts) (tree : Tree) → asks words.now ≡ Some (a, tree) → of_files a ≡ false → shelf.new ≡ shelf.old }
     ensures shelf { HasCauseAt (result.0 ≡ Why.ShelfFault) (S.faults shelf.old) (S.faults shelf.new) }
-    ensures went { (a : AskParts) (tree : Tree) → asks words.now ≡ Some (a, tree) → of_files a ≡ false → IsTrue D.tells
-        → Queried (deed_of a.mode) (λ file s. course tree file s words.now a) (D.files disk) result.0
+    ensures went { (a : AskParts) (tree : Tree) → asks words.now ≡ Some (a, tree) → of_files a ≡ false → by_key a ≡ false → IsTrue D.tells
+        → Queried tree words.now a (D.files disk) result.0
         (outputs O.tells (O.taken (inner out.old)) E.tells (E.taken (inner err.old))) (outputs O.tells (O.taken (inner out.new)) E.tells
         (E.taken (inner err.new))) (D.bytes_read disk File.Pkg) (D.bytes_read result.1 File.Pkg) }
-    ensures reads { (a : AskParts) (tree : Tree) → asks words.now ≡ Some (a, tree) → of_files a ≡ false → IsTrue D.tells → AtMost (D.bytes_read disk File.Pkg)
-        (D.bytes_read result.1 File.Pkg) (query_cost (passes a) (reopened (D.files disk)).pkg) }
-    ensures looks { Leaves D.tells D.files D.left_since D.moment D.bytes_read D.follows disk result.1 }
+    ensures reads { (a : AskParts) (tree : Tree) → asks words.now ≡ Some (a, tree) → of_files a ≡ false → by_key a ≡ false → IsTrue D.tells
+        → AtMost (D.bytes_read disk File.Pkg)
+        (D.bytes_read result.1 File.Pkg) (query_cost words.now a (reopened (D.files disk)).pkg) }
+    ensures looks { (a : AskParts) (tree : Tree) → asks words.now ≡ Some (a, tree) → by_key a ≡ false
+        → Leaves D.tells D.files D.left_since D.moment D.bytes_read D.follows disk result.1 }
+    ensures keyed { (a : AskParts) (tree : Tree) → asks words.now ≡ Some (a, tree) → by_key a ≡ true → IsTrue D.tells
+        → AnswersByKey D.files D.left_since D.moment D.bytes_read tree words.now a result.0
+        (outputs O.tells (O.taken (inner out.old)) E.tells (E.taken (inner err.old))) (outputs O.tells (O.taken (inner out.new)) E.tells
+        (E.taken (inner err.new))) disk result.1 }
+    ensures goes_on { D.follows disk result.1 }
     ensures disk { HasCauseAt (result.0 ≡ Why.DiskFault) (D.faults disk) (D.faults result.1) }
     ensures out { HasCauseAt (result.0 ≡ Why.OutFault) (O.faults (inner out.old)) (O.faults (inner out.new)) }
     ensures err { HasCauseAt (result.0 ≡ Why.ErrFault) (E.faults (inner err.old)) (E.faults (inner err.new)) }
@@ -115,12 +136,11 @@ fn command<D: Disk, S: Shelf, O: Sink + Drop, E: Sink + Drop>(
 
 /// Does what a command line asks for, to a database or with package files, and writes the line that closes it.
 ///
-/// The disk is handed back beside every outcome, and reads as before. The words are read first, by the rules of
-/// [`read`](rpm_words::read). Where they break one, the answer is `Usage` with the first that is broken. Of the commands those
-/// that ask no index are built: the queries with `-p`, `-a`, `--querybynumber` or `--noindex`, `--exportdb` and `--verifydb`. All others
-/// are answered `NotBuilt`. Then the format is read, by the rules of [`parse`](rpm_qfparse::parse): F, the list of files, or
-/// `%{NVRA}\n`. Where it has a fault, the answer is `BadFormat` with the first one. With these three answers no call is made on the disk,
-/// the shelf or `out`.
+/// The disk is handed back beside every outcome. Only a question by key may change its files; what they stand for stays, the index aside.
+/// The words are read first, by the rules of [`read`](rpm_words::read). Where they break one, the answer is `Usage` with the first that is
+/// broken. Of the commands those that change no package are built: the queries, `--exportdb` and `--verifydb`. All others are answered
+/// `NotBuilt`. Then the format is read, by the rules of [`parse`](rpm_qfparse::parse): F, the list of files, or `%{NVRA}\n`. Where it has a
+/// fault, the answer is `BadFormat` with the first one. With these three answers no call is made on the disk, the shelf or `out`.
 ///
 /// A query prints for each argument what the format means for each package that it picks, by rising number. A package that can't be
 /// read, and one for which a bracket's tags have different numbers of elements, has a message on `err` in its place; then the argument
@@ -131,9 +151,13 @@ fn command<D: Disk, S: Shelf, O: Sink + Drop, E: Sink + Drop>(
 /// a line on `err`; then the argument fails. A read that fails ends the command with `ShelfFault`. Each file is read up to the end of its
 /// header. The other commands make no call on the shelf.
 ///
-/// A command on a database reads the slot pages of `Packages.db` and the blocks of its packages, each once for each argument (for the verdicts
-/// twice), and of no package before what is printed of those with lesser numbers is written. It parses each header once. What is printed
-/// of a package goes out in few pieces, and no piece is of two packages.
+/// A query without `-p`, `-a`, `--querybynumber` and `--noindex` is a question by key. It first finishes what a stop left of a change, syncs
+/// the files, and makes the index from the packages where it isn't current. On a database that can't be written it answers `DiskFault`
+/// where the index must be made: then `--noindex` answers.
+///
+/// A command on a database reads the slot pages of `Packages.db` and the blocks of packages: for each argument those of each package once, for
+/// one that is a number that package's alone, and by key those of the packages that have one of its keys. None is read before what is printed of those with lesser numbers is written. Each header is parsed once. What is printed of a
+/// package goes out in few pieces, and no piece is of two packages.
 pub fn run<D: Disk, S: Shelf, O: Sink, E: Sink>(
     alloc: Global,
     words: &Words,
@@ -160,9 +184,10 @@ pub fn run<D: Disk, S: Shelf, O: Sink, E: Sink>(
     ensures unbuilt_closes { asks words.now ≡ None → Closes (closing words.now result.0.why) (outputs O.tells (O.taken out.old) E.tells
         (E.taken err.old)) (outputs O.tells (O.taken out.new) E.tells (E.taken err.new)) (E.faults err.old) (E.faults err.new) }
 
-    // The theorem: the command of the words on the database as it reads when an open log is gone through, and the line that closes it.
-    ensures answers { (a : AskParts) (tree : Tree) → asks words.now ≡ Some (a, tree) → of_files a ≡ false → IsTrue D.tells
-        → Ends (λ mid. Queried (deed_of a.mode) (λ file s. course tree file s words.now a) (D.files disk) result.0.why
+    // The theorem: the command of the words on the database as it reads when an open log is gone through, and the line that closes it. First
+    // of the commands that ask no index.
+    ensures answers { (a : AskParts) (tree : Tree) → asks words.now ≡ Some (a, tree) → of_files a ≡ false → by_key a ≡ false → IsTrue D.tells
+        → Ends (λ mid. Queried tree words.now a (D.files disk) result.0.why
         (outputs O.tells (O.taken out.old) E.tells (E.taken err.old)) mid (D.bytes_read disk File.Pkg) (D.bytes_read result.1 File.Pkg))
         (closing words.now result.0.why)
         (outputs O.tells (O.taken out.new) E.tells (E.taken err.new)) (E.faults err.old) (E.faults err.new) }
@@ -178,15 +203,50 @@ pub fn run<D: Disk, S: Shelf, O: Sink, E: Sink>(
     ensures files_after { (tree : Tree) (paths : Paths) (n : ℕ) (a : AskParts)
         → query_files tree paths words.now (passing n a) ≡ query_files tree paths words.now a }
 
-    // The disk reads as before, and so do its images; of Packages.db no more is read than its pages and for each argument its packages.
-    ensures looks { Leaves D.tells D.files D.left_since D.moment D.bytes_read D.follows disk result.1 }
-    ensures reads { (a : AskParts) (tree : Tree) → asks words.now ≡ Some (a, tree) → of_files a ≡ false → IsTrue D.tells → AtMost (D.bytes_read disk File.Pkg)
-        (D.bytes_read result.1 File.Pkg) (query_cost (passes a) (reopened (D.files disk)).pkg) }
+    // Then the disk reads as before, and so do its images; of Packages.db no more is read than its pages and for each argument what it goes
+    // over, which is of a number its own blocks.
+    ensures looks { (a : AskParts) (tree : Tree) → asks words.now ≡ Some (a, tree) → by_key a ≡ false
+        → Leaves D.tells D.files D.left_since D.moment D.bytes_read D.follows disk result.1 }
+    ensures reads { (a : AskParts) (tree : Tree) → asks words.now ≡ Some (a, tree) → of_files a ≡ false → by_key a ≡ false → IsTrue D.tells
+        → AtMost (D.bytes_read disk File.Pkg)
+        (D.bytes_read result.1 File.Pkg) (query_cost words.now a (reopened (D.files disk)).pkg) }
+
+    // A question by key finishes what a stop left of a change, and has its index made where that isn't current. A malformed log is told
+    // exactly where there is one, and else a damage exactly where there is one. Where the database is lawful it answers the same as without
+    // an index, and of Packages.db no more is read than its pages and for each argument the packages that have one of its keys, and all
+    // where the index is made.
+    ensures keyed { (a : AskParts) (tree : Tree) → asks words.now ≡ Some (a, tree) → by_key a ≡ true → IsTrue D.tells
+        → Ends (λ mid. KeyedIs tree words.now a (D.files disk) result.0.why (outputs O.tells (O.taken out.old) E.tells (E.taken err.old)) mid
+        (D.bytes_read disk File.Pkg) (D.bytes_read result.1 File.Pkg)) (closing words.now result.0.why)
+        (outputs O.tells (O.taken out.new) E.tells (E.taken err.new)) (E.faults err.old) (E.faults err.new) }
+    ensures keyed_reads { (a : AskParts) (tree : Tree) → asks words.now ≡ Some (a, tree) → by_key a ≡ true → IsTrue D.tells → IsLawfulGroup (D.files disk)
+        → D.bytes_read result.1 File.Pkg ≤ D.bytes_read disk File.Pkg + keyed_cost (reopened (D.files disk)) words.now a }
+    // An index that must be made and is too large is told, exactly there; one that is malformed with the fault of a chain that was asked.
+    ensures index_full { (a : AskParts) (tree : Tree) → asks words.now ≡ Some (a, tree) → by_key a ≡ true → IsTrue D.tells
+        → FullIs (reopened (D.files disk)) result.0.why }
+    ensures bad_index { (a : AskParts) (tree : Tree) → asks words.now ≡ Some (a, tree) → by_key a ≡ true → IsTrue D.tells
+        → BadIs words.now a (reopened (D.files disk)) result.0.why }
+    // Where the database is lawful and an index that must be made has room, it is done, but for a fault of the disk or a sink, or want of memory.
+    ensures complete { (a : AskParts) (tree : Tree) → asks words.now ≡ Some (a, tree) → by_key a ≡ true → IsTrue D.tells
+        → IsLawfulGroup (D.files disk) → HasRoom (reopened (D.files disk)) → is_done_or_outside result.0.why ≡ true }
+    // Behind it the index is current, and holds the rows of the packages; these stay, also in each image that a stop leaves.
+    ensures index { (a : AskParts) (tree : Tree) → asks words.now ≡ Some (a, tree) → by_key a ≡ true → IsTrue D.tells → IsLawfulGroup (D.files disk)
+        → is_done result.0.why ≡ true → IsReady (D.files result.1) }
+    ensures packages { (a : AskParts) (tree : Tree) → asks words.now ≡ Some (a, tree) → by_key a ≡ true → IsTrue D.tells
+        → (reopened (D.files result.1)).pkg ≡ (reopened (D.files disk)).pkg }
+    ensures stops { (a : AskParts) (tree : Tree) → asks words.now ≡ Some (a, tree) → by_key a ≡ true → IsTrue D.tells
+        → AreLawfulGroups (D.left_since disk (D.moment disk))
+        → LeavesOnly D.moment D.left_since disk result.1 (StandsStill (D.left_since disk (D.moment disk))) }
+    ensures goes_on { D.follows disk result.1 }
 
     // The packages that an argument's steps are for: those that it picks above `--after`, each once and rising.
     ensures numbers { (tree : Tree) (packages : FinMap nat_cmp Package) (chosen : Chosen) (after j : ℕ) (text : List ℕ)
         → (numbers (argument_part tree packages chosen after j text).steps ≡ map (λ e. e.0) (above after (picked packages chosen text)))
         × Rises after (map (λ e. e.0) (above after (picked packages chosen text))) }
+
+    // Words that break no rule give questions alone: none of their arguments goes unasked.
+    ensures questions { (a : AskParts) → ask words.now ≡ Ok a → a.mode ≡ mode.Query → a.chosen ≢ by.Package
+        → AllByRecursion (λ w. is_question a.chosen (text_at words.now w) ≡ true) a.arguments }
 
     // A fault is answered only where its object counted one.
     ensures disk_fault { HasCauseAt (result.0.why ≡ Why.DiskFault) (D.faults disk) (D.faults result.1) }

@@ -8,6 +8,7 @@ mod argument;
 mod asked;
 mod closing;
 mod command;
+mod keyed;
 mod loaded;
 mod missing;
 mod package_files;

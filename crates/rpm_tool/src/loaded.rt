@@ -1,12 +1,10 @@
 //! Commands on a database as it reads when an open log is gone through.
 
-ghost use Rattle.std.specs.Prelude.{◌≡◌, ◌≤◌, [], false, IsTrue};
+ghost use Rattle.std.specs.Prelude.{◌≡◌, [], false, IsTrue};
 ghost use Rattle.rpm_outside.specs.Buffered.{inner, holds, HandsOn};
 ghost use Rattle.rpm_outside.specs.Causes.{HasCauseAt};
 ghost use Rattle.rpm_outside.specs.Logs.{reopened};
-ghost use Rattle.rpm_tool.specs.Asked.{deed_of};
-ghost use Rattle.rpm_tool.specs.Reports.{course};
-ghost use Rattle.rpm_tool.specs.Answers.{outputs, is_foreign, why_of_load, unless_starved, Queried, AtMost, Leaves, passes, query_cost};
+ghost use Rattle.rpm_tool.specs.Answers.{outputs, is_foreign, why_of_load, unless_starved, Queried, AtMost, Leaves, query_cost};
 
 use crate::answer::Why;
 use crate::unindexed::answer_unindexed;
@@ -49,11 +47,11 @@ pub fn answer_loaded<D: Disk, O: Sink + Drop, E: Sink + Drop>(
 ) -> (Why, D)
     requires out_empty { holds out.old ≡ [] }
     requires err_empty { holds err.old ≡ [] }
-    ensures went { IsTrue D.tells → Queried (deed_of ask.now.mode) (λ file s. course format.now file s words.now ask.now) (D.files disk) result.0
+    ensures went { IsTrue D.tells → Queried format.now words.now ask.now (D.files disk) result.0
         (outputs O.tells (O.taken (inner out.old)) E.tells (E.taken (inner err.old))) (outputs O.tells (O.taken (inner out.new)) E.tells
         (E.taken (inner err.new))) (D.bytes_read disk File.Pkg) (D.bytes_read result.1 File.Pkg) }
     ensures reads { IsTrue D.tells → AtMost (D.bytes_read disk File.Pkg) (D.bytes_read result.1 File.Pkg)
-        (query_cost (passes ask.now) (reopened (D.files disk)).pkg) }
+        (query_cost words.now ask.now (reopened (D.files disk)).pkg) }
     ensures done { is_foreign result.0 ≡ false }
     ensures looks { Leaves D.tells D.files D.left_since D.moment D.bytes_read D.follows disk result.1 }
     ensures disk { HasCauseAt (result.0 ≡ Why.DiskFault) (D.faults disk) (D.faults result.1) }

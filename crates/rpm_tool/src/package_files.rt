@@ -8,7 +8,7 @@ ghost use Rattle.rpm_qfeval.specs.Meaning.{meaning};
 ghost use Rattle.rpm_words.specs.Words.{text_at};
 ghost use Rattle.rpm_outside.specs.Browses.{left};
 ghost use Rattle.rpm_file.specs.Package.{package_header};
-ghost use Rattle.rpm_tool.specs.Steps.{bearer, whole, ToErr, fails, told, in_turn};
+ghost use Rattle.rpm_tool.specs.Steps.{bearer, whole, ToErr, fails, told};
 ghost use Rattle.rpm_tool.specs.Queries.{printed};
 ghost use Rattle.rpm_tool.specs.PackageFiles.{at_entry, header_text, file_text, refused_line, absent_line, read_part, file_part, query_files};
 ghost use Rattle.rpm_tool.specs.Answers.{outputs, stop_in, why_of_files, PartIs, Anywhere, Went, is_of_words};
@@ -238,6 +238,8 @@ fn why_of_files(stop: Stop) -> Why
 {
     match stop {
         Stop::ReadFault => Why::ShelfFault,
+        // It doesn't come: no index is asked.
+        Stop::BadIndex { unit } => Why::BadIndex { unit },
         Stop::OutFault => Why::OutFault,
         Stop::ErrFault => Why::ErrFault,
         Stop::NoMemory => Why::NoMemory,

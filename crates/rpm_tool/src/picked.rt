@@ -1,18 +1,19 @@
 //! The packages that a question picks, printed one after the other.
 
-ghost use Rattle.std.specs.Prelude.{◌≡◌, ◌≢◌, ℕ, ◌-◌, ◌<◌, ◌≤◌, ◌||◌, [], false, IsTrue, Err, IfOk, IfSome};
+ghost use Rattle.std.specs.Prelude.{◌≡◌, ◌≢◌, ℕ, ◌+◌, ◌-◌, ◌<◌, ◌≤◌, ◌||◌, [], false, IsTrue, Err, IfOk, IfSome};
 ghost use Rattle.rpm_outside.specs.Buffered.{inner, holds, HandsOn};
 ghost use Rattle.rpm_outside.specs.Causes.{HasCauseAt};
 ghost use Rattle.rpm_outside.specs.declared.disk.File.TheVariants.{Pkg};
 ghost use Rattle.rpm_outside.specs.Looks.{Looks};
 ghost use Rattle.rpm_db.specs.State.{packages, above};
-ghost use Rattle.rpm_db.specs.Database.{Keeps, is_indexed, cost_to, cost_all};
+ghost use Rattle.rpm_db.specs.Database.{Keeps, KeepsIndex, cost_to, cost_all};
 ghost use Rattle.rpm_select.specs.Selections.{picks};
-ghost use Rattle.rpm_select.specs.Reach.{Serves};
-ghost use Rattle.rpm_select.specs.Picks.{is_of_index, entry_in, number_in};
+ghost use Rattle.rpm_select.specs.Reach.{Serves, HasIndexRows, asks, unasked, reach_to, reach_all};
+ghost use Rattle.rpm_select.specs.Picks.{entry_in, number_in};
 ghost use Rattle.rpm_tool.specs.Queries.{packages_part};
 ghost use Rattle.rpm_tool.specs.Reports.{step_by};
-ghost use Rattle.rpm_tool.specs.Answers.{outputs, stop_of, OneIs, NextIs, PartIs, ReadsIn, cost_until, fails_in, is_some_of};
+ghost use Rattle.rpm_tool.specs.Reads.{ReadsIn, reach_until};
+ghost use Rattle.rpm_tool.specs.Answers.{outputs, stop_of, OneIs, NextIs, PartIs, cost_until, fails_in, is_some_of};
 
 use crate::step::{Stop, Way, print_picked};
 use rpm_db::Db;
@@ -27,30 +28,32 @@ pub struct Printed {
     pub fails: bool,
 }
 
-/// What stops a command where a picker fails that asks no index.
+/// What stops a command where a picker fails.
 pub fn stop_of(fault: PickFault) -> Stop
-    requires { is_of_index fault ≡ false }
     ensures { result ≡ stop_of fault }
 {
     match fault {
-        PickFault::BadIndex { .. } => unreachable!(),
+        PickFault::BadIndex { unit } => Stop::BadIndex { unit },
         PickFault::DiskFault => Stop::ReadFault,
         PickFault::NoMemory => Stop::NoMemory,
     }
 }
 
-/// Begins to go through what a selection picks, where the database keeps no index: that reads nothing, and doesn't fail.
-pub fn begin_unindexed<D: Disk>(
+/// Begins to go through what a selection picks that asks no index: that reads nothing, and doesn't fail.
+pub fn begin_unasked<D: Disk>(
     alloc: Global,
     db: &Db,
     disk: &mut D,
     selection: &Selection<'_>,
 ) -> Picker
     requires keeps { IsTrue D.tells → Keeps (D.files disk.old).pkg db.now }
+    requires keeps_index { IsTrue D.tells → KeepsIndex (D.files disk.old).idx db.now }
     requires runs { db.now.stopped ≡ false }
-    requires no_index { is_indexed db.now ≡ false }
+    requires unasked { asks db.now selection.now ≡ false }
     ensures kept { IsTrue D.tells → Keeps (D.files disk.new).pkg db.now }
-    ensures serves { IsTrue D.tells → Serves result (packages (D.files disk.new).pkg db.now.store) selection.now }
+    ensures reach { IsTrue D.tells → HasIndexRows db.now (D.files disk.old).pkg (D.files disk.old).idx → result ≡ unasked selection.now }
+    ensures serves { IsTrue D.tells → HasIndexRows db.now (D.files disk.old).pkg (D.files disk.old).idx
+        → Serves result (packages (D.files disk.new).pkg db.now.store) selection.now }
     ensures looks { Looks D.tells D.files D.left_since D.moment D.bytes_read D.follows Pkg 0 disk.old disk.new }
     ensures faults { D.faults disk.old ≤ D.faults disk.new }
 {
@@ -84,6 +87,7 @@ fn print_one<O: Sink + Drop, E: Sink + Drop>(
         (E.taken (inner err.old))) (outputs O.tells (O.taken (inner out.new)) E.tells (E.taken (inner err.new))) }
     ensures numbered { IfOk result (λ o. IfSome o (λ e. e.0 ≡ number_in picked.now)) }
     ensures no_read { result ≢ Err Stop.ReadFault }
+    ensures unbroken { (unit : ℕ) → result ≢ Err (Stop.BadIndex unit) }
     ensures out { HasCauseAt (result ≡ Err Stop.OutFault) (O.faults (inner out.old)) (O.faults (inner out.new)) }
     ensures err { HasCauseAt (result ≡ Err Stop.ErrFault) (E.faults (inner err.old)) (E.faults (inner err.new)) }
     ensures out_rest { HandsOn O.follows out.old out.new }
@@ -111,15 +115,17 @@ fn print_next<D: Disk, O: Sink + Drop, E: Sink + Drop>(
     requires err_empty { holds err.old ≡ [] }
     requires keeps { IsTrue D.tells → Keeps (D.files disk.old).pkg db.now }
     requires runs { db.now.stopped ≡ false }
-    requires serves { IsTrue D.tells → Serves picker.old (packages (D.files disk.old).pkg db.now.store) selection.now }
     ensures same { picker.new ≡ picker.old }
     ensures kept { IsTrue D.tells → Keeps (D.files disk.new).pkg db.now }
-    ensures went { IsTrue D.tells → (j : ℕ) → NextIs (step_by way.now j) number (picks (packages (D.files disk.old).pkg db.now.store) selection.now) result
+    ensures went { IsTrue D.tells → Serves picker.old (packages (D.files disk.old).pkg db.now.store) selection.now → (j : ℕ)
+        → NextIs (step_by way.now j) number (picks (packages (D.files disk.old).pkg db.now.store) selection.now) result
         (outputs O.tells (O.taken (inner out.old)) E.tells (E.taken (inner err.old))) (outputs O.tells (O.taken (inner out.new)) E.tells
-        (E.taken (inner err.new))) (ReadsIn j number db.now.store (D.bytes_read disk.old File.Pkg) (D.bytes_read disk.new File.Pkg)) }
+        (E.taken (inner err.new))) (ReadsIn j number picker.old db.now (D.bytes_read disk.old File.Pkg) (D.bytes_read disk.new File.Pkg)) }
     ensures rises { IfOk result (λ o. IfSome o (λ e. number < e.0)) }
+    ensures reads { D.bytes_read disk.new File.Pkg ≤ D.bytes_read disk.old File.Pkg + reach_until number picker.old db.now result }
     ensures looks { Looks D.tells D.files D.left_since D.moment D.bytes_read D.follows Pkg (cost_until number db.now.store result) disk.old disk.new }
     ensures disk { HasCauseAt (result ≡ Err Stop.ReadFault) (D.faults disk.old) (D.faults disk.new) }
+    ensures unbroken { (unit : ℕ) → result ≢ Err (Stop.BadIndex unit) }
     ensures out { HasCauseAt (result ≡ Err Stop.OutFault) (O.faults (inner out.old)) (O.faults (inner out.new)) }
     ensures err { HasCauseAt (result ≡ Err Stop.ErrFault) (E.faults (inner err.old)) (E.faults (inner err.new)) }
     ensures out_rest { HandsOn O.follows out.old out.new }
@@ -155,17 +161,18 @@ pub fn print_above<D: Disk, O: Sink + Drop, E: Sink + Drop>(
     requires err_empty { holds err.old ≡ [] }
     requires keeps { IsTrue D.tells → Keeps (D.files disk.old).pkg db.now }
     requires runs { db.now.stopped ≡ false }
-    requires serves { IsTrue D.tells → Serves picker.old (packages (D.files disk.old).pkg db.now.store) selection.now }
     ensures same { picker.new ≡ picker.old }
     ensures kept { IsTrue D.tells → Keeps (D.files disk.new).pkg db.now }
-    ensures went { IsTrue D.tells → (j : ℕ) → PartIs
+    ensures went { IsTrue D.tells → Serves picker.old (packages (D.files disk.old).pkg db.now.store) selection.now → (j : ℕ) → PartIs
         (packages_part (step_by way.now j) after (picks (packages (D.files disk.old).pkg db.now.store) selection.now)) (fails_in result)
         (outputs O.tells (O.taken (inner out.old)) E.tells (E.taken (inner err.old))) (outputs O.tells (O.taken (inner out.new)) E.tells
-        (E.taken (inner err.new))) (ReadsIn j after db.now.store (D.bytes_read disk.old File.Pkg) (D.bytes_read disk.new File.Pkg)) }
-    ensures some { IsTrue D.tells → IfOk result (λ p. p.some
+        (E.taken (inner err.new))) (ReadsIn j after picker.old db.now (D.bytes_read disk.old File.Pkg) (D.bytes_read disk.new File.Pkg)) }
+    ensures some { IsTrue D.tells → Serves picker.old (packages (D.files disk.old).pkg db.now.store) selection.now → IfOk result (λ p. p.some
         ≡ is_some_of (above after (picks (packages (D.files disk.old).pkg db.now.store) selection.now))) }
+    ensures reads { D.bytes_read disk.new File.Pkg + reach_to after picker.old db.now ≤ D.bytes_read disk.old File.Pkg + reach_all picker.old db.now }
     ensures looks { Looks D.tells D.files D.left_since D.moment D.bytes_read D.follows Pkg (cost_all db.now - cost_to after db.now) disk.old disk.new }
     ensures disk { HasCauseAt (result ≡ Err Stop.ReadFault) (D.faults disk.old) (D.faults disk.new) }
+    ensures unbroken { (unit : ℕ) → result ≢ Err (Stop.BadIndex unit) }
     ensures out { HasCauseAt (result ≡ Err Stop.OutFault) (O.faults (inner out.old)) (O.faults (inner out.new)) }
     ensures err { HasCauseAt (result ≡ Err Stop.ErrFault) (E.faults (inner err.old)) (E.faults (inner err.new)) }
     ensures out_rest { HandsOn O.follows out.old out.new }

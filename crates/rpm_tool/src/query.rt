@@ -1,24 +1,26 @@
-//! The queries that open the database without its index.
+//! The queries of an opened database.
 
-ghost use Rattle.std.specs.Prelude.{◌≡◌, ◌+◌, ◌*◌, ◌<◌, ◌≤◌, ℕ, [], if◌then◌else◌, false, length, map, max, IsTrue};
+ghost use Rattle.std.specs.Prelude.{◌≡◌, ◌≢◌, ◌+◌, ◌<◌, ◌≤◌, ℕ, [], ◌∷◌, if◌then◌else◌, false, map, IsTrue};
 ghost use Rattle.rpm_outside.specs.Buffered.{inner, holds, HandsOn};
 ghost use Rattle.rpm_outside.specs.Causes.{HasCauseAt};
 ghost use Rattle.rpm_outside.specs.declared.disk.File.TheVariants.{Pkg};
 ghost use Rattle.rpm_outside.specs.Looks.{Looks};
 ghost use Rattle.rpm_db.specs.State.{packages};
 ghost use Rattle.rpm_db.specs.Database as database;
-ghost use Rattle.rpm_db.specs.Database.{Keeps, is_indexed, cost_all};
+ghost use Rattle.rpm_db.specs.Database.{Keeps, KeepsIndex, is_indexed, cost_all};
 ghost use Rattle.rpm_select.specs.Selections.{picks};
+ghost use Rattle.rpm_select.specs.Reach.{Everything, HasIndexRows};
 ghost use Rattle.rpm_select.specs.declared.selection.Selection.TheVariants as question;
 ghost use Rattle.rpm_words.specs.Words.{text_at};
 ghost use Rattle.rpm_tool.specs.Steps.{before, idle, in_turn};
 ghost use Rattle.rpm_tool.specs.Queries.{packages_part, argument_part, query};
 ghost use Rattle.rpm_tool.specs.Reports.{step_by};
-ghost use Rattle.rpm_tool.specs.Answers.{outputs, why_of, is_foreign, Went, reach_all};
+ghost use Rattle.rpm_tool.specs.Reads.{argument_reach, reaches_by, reach_sum, reached_by, Peeks, IsOfChains};
+ghost use Rattle.rpm_tool.specs.Answers.{outputs, why_of, is_foreign, is_of_opening, Went};
 
 use crate::answer::Why;
 use crate::argument::answer;
-use crate::picked::{begin_unindexed, print_above};
+use crate::picked::{begin_unasked, print_above};
 use crate::step::{Stop, Way};
 use rpm_db::Db;
 use rpm_outside::{Buffered, Disk, File, Sink};
@@ -31,9 +33,11 @@ use std::alloc::Global;
 pub fn why_of(stop: Stop) -> Why
     ensures value { result ≡ why_of stop }
     ensures done { is_foreign result ≡ false }
+    ensures opened { is_of_opening result ≡ false }
 {
     match stop {
         Stop::ReadFault => Why::DiskFault,
+        Stop::BadIndex { unit } => Why::BadIndex { unit },
         Stop::OutFault => Why::OutFault,
         Stop::ErrFault => Why::ErrFault,
         Stop::NoMemory => Why::NoMemory,
@@ -54,20 +58,22 @@ pub fn query_all<D: Disk, O: Sink + Drop, E: Sink + Drop>(
     requires err_empty { holds err.old ≡ [] }
     requires keeps { IsTrue D.tells → Keeps (D.files disk.old).pkg db.now }
     requires runs { db.now.stopped ≡ false }
-    requires no_index { is_indexed db.now ≡ false }
-    ensures went { IsTrue D.tells → Went
+    requires keeps_index { IsTrue D.tells → KeepsIndex (D.files disk.old).idx db.now }
+    ensures went { IsTrue D.tells → HasIndexRows db.now (D.files disk.old).pkg (D.files disk.old).idx → Went
         (before (packages_part (step_by way.now 0) after (picks (packages (D.files disk.old).pkg db.now.store) question.All)) idle) result
         (outputs O.tells (O.taken (inner out.old)) E.tells (E.taken (inner err.old))) (outputs O.tells (O.taken (inner out.new)) E.tells
-        (E.taken (inner err.new))) (λ for. D.bytes_read disk.new File.Pkg ≤ D.bytes_read disk.old File.Pkg + reach_all db.now.store for) }
+        (E.taken (inner err.new))) (λ for. D.bytes_read disk.new File.Pkg ≤ D.bytes_read disk.old File.Pkg + reached_by (Everything ∷ []) db.now for) }
     ensures done { is_foreign result ≡ false }
+    ensures opened { is_of_opening result ≡ false }
     ensures looks { Looks D.tells D.files D.left_since D.moment D.bytes_read D.follows Pkg (cost_all db.now) disk.old disk.new }
     ensures disk { HasCauseAt (result ≡ Why.DiskFault) (D.faults disk.old) (D.faults disk.new) }
+    ensures unbroken { (unit : ℕ) → result ≢ Why.BadIndex unit }
     ensures out { HasCauseAt (result ≡ Why.OutFault) (O.faults (inner out.old)) (O.faults (inner out.new)) }
     ensures err { HasCauseAt (result ≡ Why.ErrFault) (E.faults (inner err.old)) (E.faults (inner err.new)) }
     ensures out_rest { HandsOn O.follows out.old out.new }
     ensures err_rest { HandsOn E.follows err.old err.new }
 {
-    let mut picker = begin_unindexed(alloc, db, disk, &Selection::All);
+    let mut picker = begin_unasked(alloc, db, disk, &Selection::All);
     match print_above(
         alloc,
         &mut picker,
@@ -108,14 +114,24 @@ fn query_each<D: Disk, O: Sink + Drop, E: Sink + Drop>(
     requires err_empty { holds err.old ≡ [] }
     requires keeps { IsTrue D.tells → Keeps (D.files disk.old).pkg db.now }
     requires runs { db.now.stopped ≡ false }
-    requires no_index { is_indexed db.now ≡ false }
+    requires keeps_index { IsTrue D.tells → KeepsIndex (D.files disk.old).idx db.now }
     requires from_one { database.holds 0 db.now ≡ false }
-    ensures went { IsTrue D.tells → Went (in_turn (argument_part format.now (packages (D.files disk.old).pkg db.now.store) ask.now.chosen ask.now.after) 0
+    ensures went { IsTrue D.tells → HasIndexRows db.now (D.files disk.old).pkg (D.files disk.old).idx
+        → Went (in_turn (argument_part format.now (packages (D.files disk.old).pkg db.now.store) ask.now.chosen ask.now.after) 0
         (map (text_at words.now) ask.now.arguments)) result
         (outputs O.tells (O.taken (inner out.old)) E.tells (E.taken (inner err.old))) (outputs O.tells (O.taken (inner out.new)) E.tells
-        (E.taken (inner err.new))) (λ for. D.bytes_read disk.new File.Pkg ≤ D.bytes_read disk.old File.Pkg + reach_all db.now.store for) }
+        (E.taken (inner err.new))) (λ for. D.bytes_read disk.new File.Pkg ≤ D.bytes_read disk.old File.Pkg
+        + reached_by (map (argument_reach (is_indexed db.now) (packages (D.files disk.old).pkg db.now.store) ask.now.chosen) (map (text_at words.now)
+        ask.now.arguments))
+        db.now for) }
     ensures done { is_foreign result ≡ false }
-    ensures looks { Looks D.tells D.files D.left_since D.moment D.bytes_read D.follows Pkg (length ask.now.arguments * cost_all db.now) disk.old disk.new }
+    ensures opened { is_of_opening result ≡ false }
+    ensures reads { IsTrue D.tells → HasIndexRows db.now (D.files disk.old).pkg (D.files disk.old).idx → D.bytes_read disk.new File.Pkg
+        ≤ D.bytes_read disk.old File.Pkg
+        + reach_sum (map (argument_reach (is_indexed db.now) (packages (D.files disk.old).pkg db.now.store) ask.now.chosen) (map (text_at words.now)
+        ask.now.arguments)) db.now }
+    ensures bad_index { IsTrue D.tells → IsOfChains ask.now.chosen (map (text_at words.now) ask.now.arguments) (D.files disk.old).idx result }
+    ensures looks { Peeks D.tells D.files D.left_since D.moment D.bytes_read D.follows (is_indexed db.now) disk.old disk.new }
     ensures disk { HasCauseAt (result ≡ Why.DiskFault) (D.faults disk.old) (D.faults disk.new) }
     ensures out { HasCauseAt (result ≡ Why.OutFault) (O.faults (inner out.old)) (O.faults (inner out.new)) }
     ensures err { HasCauseAt (result ≡ Why.ErrFault) (E.faults (inner err.old)) (E.faults (inner err.new)) }
@@ -162,14 +178,23 @@ pub fn query_opened<D: Disk, O: Sink + Drop, E: Sink + Drop>(
     requires err_empty { holds err.old ≡ [] }
     requires keeps { IsTrue D.tells → Keeps (D.files disk.old).pkg db.now }
     requires runs { db.now.stopped ≡ false }
-    requires no_index { is_indexed db.now ≡ false }
+    requires keeps_index { IsTrue D.tells → KeepsIndex (D.files disk.old).idx db.now }
     requires from_one { database.holds 0 db.now ≡ false }
-    ensures went { IsTrue D.tells → Went (query format.now (packages (D.files disk.old).pkg db.now.store) words.now ask.now) result
+    ensures went { IsTrue D.tells → HasIndexRows db.now (D.files disk.old).pkg (D.files disk.old).idx
+        → Went (query format.now (packages (D.files disk.old).pkg db.now.store) words.now ask.now) result
         (outputs O.tells (O.taken (inner out.old)) E.tells (E.taken (inner err.old))) (outputs O.tells (O.taken (inner out.new)) E.tells
-        (E.taken (inner err.new))) (λ for. D.bytes_read disk.new File.Pkg ≤ D.bytes_read disk.old File.Pkg + reach_all db.now.store for) }
+        (E.taken (inner err.new))) (λ for. D.bytes_read disk.new File.Pkg ≤ D.bytes_read disk.old File.Pkg
+        + reached_by (reaches_by (argument_reach (is_indexed db.now) (packages (D.files disk.old).pkg db.now.store) ask.now.chosen) (map (text_at
+        words.now) ask.now.arguments))
+        db.now for) }
     ensures done { is_foreign result ≡ false }
-    ensures looks { Looks D.tells D.files D.left_since D.moment D.bytes_read D.follows Pkg (max 1 (length ask.now.arguments) * cost_all db.now) disk.old
-        disk.new }
+    ensures opened { is_of_opening result ≡ false }
+    ensures reads { IsTrue D.tells → HasIndexRows db.now (D.files disk.old).pkg (D.files disk.old).idx → D.bytes_read disk.new File.Pkg
+        ≤ D.bytes_read disk.old File.Pkg
+        + reach_sum (reaches_by (argument_reach (is_indexed db.now) (packages (D.files disk.old).pkg db.now.store) ask.now.chosen) (map (text_at
+        words.now) ask.now.arguments)) db.now }
+    ensures bad_index { IsTrue D.tells → IsOfChains ask.now.chosen (map (text_at words.now) ask.now.arguments) (D.files disk.old).idx result }
+    ensures looks { Peeks D.tells D.files D.left_since D.moment D.bytes_read D.follows (is_indexed db.now) disk.old disk.new }
     ensures disk { HasCauseAt (result ≡ Why.DiskFault) (D.faults disk.old) (D.faults disk.new) }
     ensures out { HasCauseAt (result ≡ Why.OutFault) (O.faults (inner out.old)) (O.faults (inner out.new)) }
     ensures err { HasCauseAt (result ≡ Why.ErrFault) (E.faults (inner err.old)) (E.faults (inner err.new)) }

@@ -26,6 +26,8 @@ use std::alloc::{AllocError, Global};
 pub enum Stop {
     /// What is printed can't be read: a call of the disk or of the shelf failed.
     ReadFault,
+    /// The index is malformed at this unit.
+    BadIndex { unit: u64 },
     OutFault,
     ErrFault,
     NoMemory,

@@ -1,4 +1,5 @@
 mod formats;
+mod keyed;
 mod packages;
 mod queries;
 mod reports;
@@ -211,21 +212,29 @@ struct Ran {
     err: MemSink,
 }
 
+// The words of a line, and one behind them, which may have spaces. Without it there is none more.
+fn words_of(alloc: Global, line: &str, last: &str) -> Result<Words, AllocError> {
+    let mut words = Words::new(alloc);
+    for word in line.split_whitespace() {
+        if words.len() < u32::MAX {
+            words.push(word)?;
+        }
+    }
+    if !last.is_empty() && words.len() < u32::MAX {
+        words.push(last)?;
+    }
+    Ok(words)
+}
+
 // Runs words on a file and a log, with a disk call that is to fail (0: none), and limits of the sinks.
 fn run_over(
     alloc: Global,
-    words: &[&str],
+    words: &Words,
     file: &[u8],
     log: &[u8],
     call: u64,
     limits: [u64; 2],
 ) -> Result<Ran, AllocError> {
-    let mut line = Words::new(alloc);
-    for word in words {
-        if line.len() < u32::MAX {
-            line.push(word)?;
-        }
-    }
     let mut disk = MemDisk::new(alloc, file, &[], log)?;
     disk.fail_call(call)?;
     let mut shelf = MemShelf::new(alloc);
@@ -233,7 +242,7 @@ fn run_over(
     let mut err = MemSink::new(alloc);
     out.fail_after(limits[0]);
     err.fail_after(limits[1]);
-    let (outcome, disk) = run(alloc, &line, disk, &mut shelf, &mut out, &mut err, 0);
+    let (outcome, disk) = run(alloc, words, disk, &mut shelf, &mut out, &mut err, 0);
     Ok(Ran {
         outcome,
         disk,
@@ -243,174 +252,173 @@ fn run_over(
     })
 }
 
-// The same without a log.
-fn run_on(
-    alloc: Global,
-    words: &[&str],
-    file: &[u8],
-    call: u64,
-    limits: [u64; 2],
-) -> Result<Ran, AllocError> {
-    run_over(alloc, words, file, &[], call, limits)
-}
-
 const NO_LIMITS: [u64; 2] = [u64::MAX, u64::MAX];
 
-const ALL: &[&str] = &["rpm", "-qa"];
-
-// Whether `rpm -qa` on a file ends so, with this status and these bytes on out and err.
-fn ends(
-    alloc: Global,
-    file: &[u8],
-    why: Why,
-    status: u8,
-    out: &[u8],
-    err: &[u8],
-) -> Result<bool, AllocError> {
-    let ran = run_on(alloc, ALL, file, 0, NO_LIMITS)?;
-    Ok(
-        ran.outcome.why == why
-            && ran.outcome.status == status
-            && ran.outcome.changes == 0
-            && ran.out.bytes() == out
-            && ran.err.bytes() == err,
+// The same of a line, without a log and with nothing that fails.
+fn run_line(alloc: Global, line: &str, last: &str, file: &[u8]) -> Result<Ran, AllocError> {
+    run_over(
+        alloc,
+        &words_of(alloc, line, last)?,
+        file,
+        &[],
+        0,
+        NO_LIMITS,
     )
 }
 
-// Whether words are answered so, with this status and line, on a damaged file and with no call on it, the shelf or out.
+// A line and the word behind it; how many arguments fail; the bytes on out and on err.
+type Case<'a> = (&'a str, &'a str, u32, &'a str, &'a str);
+
+// Whether a line on a file ends so, with nothing changed or written.
+fn ends(alloc: Global, file: &[u8], case: Case<'_>) -> Result<bool, AllocError> {
+    let (line, last, failed, out, err) = case;
+    let ran = run_line(alloc, line, last, file)?;
+    let why = if failed == 0 {
+        Why::Done
+    } else {
+        Why::Failed(failed)
+    };
+    let outcome = Outcome {
+        status: failed.min(250) as u8,
+        why,
+        changes: 0,
+    };
+    Ok(
+        ran.outcome == outcome
+            && ran.disk.now() == 0
+            && ran.out.bytes() == out.as_bytes()
+            && ran.err.bytes() == err.as_bytes(),
+    )
+}
+
+// Whether a line is answered so, with this status and line on err, on a damaged file and with no call on it, the shelf or out.
 fn is_refused(
     alloc: Global,
-    words: &[&str],
+    line: &str,
+    last: &str,
     why: Why,
     status: u8,
-    line: &[u8],
+    told: &str,
 ) -> Result<bool, AllocError> {
-    let ran = run_on(alloc, words, &[0x51; 16], 1, [0, u64::MAX])?;
+    let words = words_of(alloc, line, last)?;
+    let ran = run_over(alloc, &words, &[0x51; 16], &[], 1, [0, u64::MAX])?;
     Ok(
         ran.outcome.why == why
             && ran.outcome.status == status
             && ran.disk.faults() == 0
             && ran.shelf.absences() == 0
             && ran.out.faults() == 0
-            && ran.err.bytes() == line,
+            && ran.err.bytes() == told.as_bytes(),
     )
 }
 
 #[test]
 fn packages_are_printed_by_rising_number(rt: HostRuntime) -> Result<(), Fail> {
     let alloc = rt.alloc();
-    let lines = b"c-1-2.x\na-1-2.x\nb-1-2.x\n";
-    assert!(rt; ends(alloc, &three_small(alloc)?, Why::Done, 0, lines, b"")?);
-    // The name of number 2 is a number.
-    let numbered = changed(
-        three_small(alloc)?,
-        4096 + 2 * 112 + 16 + 8 + 4,
-        &[0, 0, 0, 4],
-    );
-    let lines = b"c-1-2.x\n(none)\nb-1-2.x\n";
-    assert!(rt; ends(alloc, &numbered, Why::Done, 0, lines, b"")?);
-    let lines = b"libx-1.0~rc1-1.noarch\nbash-5.1-2.x86_64\nlibx-1.0^git1-1.noarch\n";
-    assert!(rt; ends(alloc, &three(alloc)?, Why::Done, 0, lines, b"")?);
-    Ok(())
-}
-
-#[test]
-fn a_blank_database_has_no_packages(rt: HostRuntime) -> Result<(), Fail> {
-    let alloc = rt.alloc();
+    let small = three_small(alloc)?;
+    let all = "c-1-2.x\na-1-2.x\nb-1-2.x\n";
+    assert!(rt; ends(alloc, &small, ("rpm -qa", "", 0, all, ""))?);
     for file in [[].as_slice(), [0; 32].as_slice()] {
-        assert!(rt; ends(alloc, file, Why::Done, 0, b"", b"")?);
+        assert!(rt; ends(alloc, file, ("rpm -qa", "", 0, "", ""))?);
     }
+    // The name of number 2 is a number.
+    let second = 4096 + 2 * 112 + 16 + 8 + 4;
+    let numbered = changed(small, second, &[0, 0, 0, 4]);
+    let unnamed = "c-1-2.x\n(none)\nb-1-2.x\n";
+    assert!(rt; ends(alloc, &numbered, ("rpm -qa", "", 0, unnamed, ""))?);
+    // Two blobs that are no headers: their entries are of type 10.
+    let broken = changed(
+        changed(three_small(alloc)?, 4096 + 16 + 8 + 4, &[0, 0, 0, 10]),
+        4096 + 112 + 16 + 8 + 4,
+        &[0, 0, 0, 10],
+    );
+    let messages =
+        "error: package 1: header cannot be read\nerror: package 3: header cannot be read\n";
+    assert!(rt; ends(alloc, &broken, ("rpm -qa", "", 1, "a-1-2.x\n", messages))?);
     Ok(())
 }
 
-#[test]
-fn a_package_that_cannot_be_read_fails_the_argument_once(rt: HostRuntime) -> Result<(), Fail> {
-    let alloc = rt.alloc();
-    let file = three(alloc)?;
-    let last = file.len().saturating_sub(1);
-    let broken = changed(file, last, b"F");
-    let lines = b"libx-1.0~rc1-1.noarch\nlibx-1.0^git1-1.noarch\n";
-    let message = b"error: package 2: header cannot be read\n";
-    assert!(rt; ends(alloc, &broken, Why::Failed(1), 1, lines, message)?);
-    // Two blobs that are no headers: their entries are of type 10.
-    let file = changed(three_small(alloc)?, 4096 + 16 + 8 + 4, &[0, 0, 0, 10]);
-    let broken = changed(file, 4096 + 112 + 16 + 8 + 4, &[0, 0, 0, 10]);
-    let messages =
-        b"error: package 1: header cannot be read\nerror: package 3: header cannot be read\n";
-    assert!(rt; ends(alloc, &broken, Why::Failed(1), 1, b"a-1-2.x\n", messages)?);
-    Ok(())
+// Whether `rpm -qa` on a file is refused so, with this line behind the file's name.
+fn is_damaged(
+    alloc: Global,
+    file: &[u8],
+    reason: Reason,
+    offset: u64,
+    told: &str,
+) -> Result<bool, AllocError> {
+    let ran = run_line(alloc, "rpm -qa", "", file)?;
+    let line = format!(in alloc; "rpm: Packages.db is damaged at byte {offset}: {told}\n")?;
+    let outcome = Outcome {
+        status: 252,
+        why: Why::Damaged(Damage { reason, offset }),
+        changes: 0,
+    };
+    Ok(
+        ran.outcome == outcome
+            && ran.out.bytes().is_empty()
+            && ran.err.bytes() == line.as_str().as_bytes(),
+    )
 }
 
 #[test]
 fn a_damaged_database_says_where(rt: HostRuntime) -> Result<(), Fail> {
     let alloc = rt.alloc();
-    for (at, bytes, reason, offset, text) in [
-        (0, [0x51].as_slice(), Reason::BadMagic, 0, "0: file magic"),
-        (4, [1].as_slice(), Reason::BadVersion, 4, "4: version"),
-        (12, [2].as_slice(), Reason::BadPages, 12, "12: slot pages"),
+    for (at, bytes, reason, offset, told) in [
+        (0, b"\x51".as_slice(), Reason::BadMagic, 0, "file magic"),
+        (4, b"\x01".as_slice(), Reason::BadVersion, 4, "version"),
+        (12, b"\x02".as_slice(), Reason::BadPages, 12, "slot pages"),
         (
             32,
-            [0, 0, 0, 0].as_slice(),
+            b"\0\0\0\0".as_slice(),
             Reason::BadSlot,
             32,
-            "32: slot magic",
+            "slot magic",
         ),
         (
             36,
-            [0].as_slice(),
+            b"\0".as_slice(),
             Reason::BadNumber,
             36,
-            "36: package number",
+            "package number",
         ),
-        (44, [8].as_slice(), Reason::BadRange, 40, "40: block range"),
+        (44, b"\x08".as_slice(), Reason::BadRange, 40, "block range"),
         (
             52,
-            [1, 0, 0, 0, 0, 1, 0, 0, 7].as_slice(),
+            b"\x01\0\0\0\0\x01\0\0\x07".as_slice(),
             Reason::SameNumber,
             52,
-            "52: number used twice",
+            "number used twice",
         ),
         (
             52,
-            [2, 0, 0, 0, 6, 1, 0, 0, 1].as_slice(),
+            b"\x02\0\0\0\x06\x01\0\0\x01".as_slice(),
             Reason::Overlap,
             56,
-            "56: blocks overlap",
+            "blocks overlap",
         ),
     ] {
-        let line = format!(in alloc; "rpm: Packages.db is damaged at byte {text}\n")?;
-        let why = Why::Damaged(Damage { reason, offset });
         let file = changed(one(alloc)?, at, bytes);
-        assert!(rt;
-            ends(alloc, &file, why, 252, b"", line.as_str().as_bytes())?,
-            "{text}"
-        );
+        assert!(rt; is_damaged(alloc, &file, reason, offset, told)?, "{told}");
     }
     // The slots of one page are no slots of two.
-    let mut file = changed(three_small(alloc)?, 12, &[2]);
+    let mut file = changed(three_small(alloc)?, 12, b"\x02");
     for _ in 0..4096 {
         if file.len() < 8192 {
             file.push(0)?;
         }
     }
-    let why = Why::Damaged(Damage {
-        reason: Reason::BadRange,
-        offset: 40,
-    });
-    let line = b"rpm: Packages.db is damaged at byte 40: block range\n";
-    assert!(rt; ends(alloc, &file, why, 252, b"", line)?);
+    assert!(rt; is_damaged(alloc, &file, Reason::BadRange, 40, "block range")?);
     Ok(())
 }
 
 #[test]
 fn a_disk_fault_ends_the_query(rt: HostRuntime) -> Result<(), Fail> {
     let alloc = rt.alloc();
-    let failed = run_on(alloc, ALL, &one(alloc)?, 1, NO_LIMITS)?;
+    let words = words_of(alloc, "rpm -qa", "")?;
+    let failed = run_over(alloc, &words, &one(alloc)?, &[], 1, NO_LIMITS)?;
     assert!(rt; failed.outcome.why == Why::DiskFault && failed.outcome.status == 252);
-    assert_eq!(rt;
-        failed.err.bytes(),
-        b"rpm: the database could not be read or written\n".as_slice()
-    );
+    let line = b"rpm: the database could not be read or written\n".as_slice();
+    assert_eq!(rt; failed.err.bytes(), line);
     Ok(())
 }
 
@@ -424,7 +432,14 @@ fn is_cut(
     texts: [&[u8]; 2],
     packages: u64,
 ) -> Result<bool, AllocError> {
-    let ran = run_on(alloc, ALL, file, 0, limits)?;
+    let ran = run_over(
+        alloc,
+        &words_of(alloc, "rpm -qa", "")?,
+        file,
+        &[],
+        0,
+        limits,
+    )?;
     let read = ran.disk.bytes_read(File::Pkg);
     Ok(
         ran.outcome.why == why

@@ -1,16 +1,16 @@
 //! The commands that open the database without its index.
 
-ghost use Rattle.std.specs.Prelude.{◌≡◌, ◌+◌, ◌*◌, ◌≤◌, ℕ, [], false, IsTrue};
+ghost use Rattle.std.specs.Prelude.{◌≡◌, ◌+◌, ◌≤◌, ℕ, [], false, IsTrue};
 ghost use Rattle.rpm_outside.specs.Buffered.{inner, holds, HandsOn};
 ghost use Rattle.rpm_outside.specs.Causes.{HasCauseAt};
 ghost use Rattle.rpm_outside.specs.declared.disk.File.TheVariants.{Pkg};
-ghost use Rattle.rpm_outside.specs.Looks.{Looks};
+ghost use Rattle.rpm_outside.specs.Looks.{Looks, LooksAt};
 ghost use Rattle.rpm_pkgdb.specs.Store.{store};
 ghost use Rattle.rpm_db.specs.Database as database;
-ghost use Rattle.rpm_db.specs.Database.{Keeps, is_indexed, cost_all};
+ghost use Rattle.rpm_db.specs.Database.{Keeps, is_indexed};
 ghost use Rattle.rpm_tool.specs.Asked.{deed_of};
 ghost use Rattle.rpm_tool.specs.Reports.{course};
-ghost use Rattle.rpm_tool.specs.Answers.{outputs, is_foreign, Went, Opened, passes, reach_by, read_to, query_cost};
+ghost use Rattle.rpm_tool.specs.Answers.{outputs, is_foreign, Went, Opened, reach_by, reach_cost, read_to, query_cost};
 
 use crate::answer::Why;
 use crate::asked::{Deed, deed_of};
@@ -43,9 +43,11 @@ fn answer_opened<D: Disk, O: Sink + Drop, E: Sink + Drop>(
     ensures went { IsTrue D.tells → Went (course format.now (D.files disk.old).pkg db.now.store words.now ask.now) result
         (outputs O.tells (O.taken (inner out.old)) E.tells (E.taken (inner err.old))) (outputs O.tells (O.taken (inner out.new)) E.tells
         (E.taken (inner err.new))) (λ for. D.bytes_read disk.new File.Pkg
-        ≤ D.bytes_read disk.old File.Pkg + reach_by (deed_of ask.now.mode) db.now.store for) }
+        ≤ D.bytes_read disk.old File.Pkg + reach_by (deed_of ask.now.mode) (D.files disk.old).pkg words.now ask.now db.now.store for) }
     ensures done { is_foreign result ≡ false }
-    ensures looks { Looks D.tells D.files D.left_since D.moment D.bytes_read D.follows Pkg (passes ask.now * cost_all db.now) disk.old disk.new }
+    ensures reads { IsTrue D.tells → D.bytes_read disk.new File.Pkg ≤ D.bytes_read disk.old File.Pkg
+        + reach_cost (deed_of ask.now.mode) (D.files disk.old).pkg words.now ask.now db.now.store }
+    ensures looks { LooksAt D.tells D.files D.left_since D.moment D.bytes_read D.follows Pkg disk.old disk.new }
     ensures disk { HasCauseAt (result ≡ Why.DiskFault) (D.faults disk.old) (D.faults disk.new) }
     ensures out { HasCauseAt (result ≡ Why.OutFault) (O.faults (inner out.old)) (O.faults (inner out.new)) }
     ensures err { HasCauseAt (result ≡ Why.ErrFault) (E.faults (inner err.old)) (E.faults (inner err.new)) }
@@ -60,7 +62,8 @@ fn answer_opened<D: Disk, O: Sink + Drop, E: Sink + Drop>(
 }
 
 /// Opens the database, as it reads and without its index, and does what the words ask for. Besides the slot pages it reads the blocks of
-/// packages, one package after the other, each before it is printed: once for each argument, and twice for the verdicts.
+/// packages, one package after the other, each before it is printed: for each argument of those that it goes over, which are all or that
+/// of its number.
 pub fn answer_unindexed<D: Disk, O: Sink + Drop, E: Sink + Drop>(
     alloc: Global,
     disk: &mut D,
@@ -75,9 +78,9 @@ pub fn answer_unindexed<D: Disk, O: Sink + Drop, E: Sink + Drop>(
     ensures went { IsTrue D.tells → Opened (λ s. course format.now (D.files disk.old).pkg s words.now ask.now)
         (store (D.files disk.old).pkg) result
         (outputs O.tells (O.taken (inner out.old)) E.tells (E.taken (inner err.old))) (outputs O.tells (O.taken (inner out.new)) E.tells
-        (E.taken (inner err.new))) (λ s for. D.bytes_read disk.new File.Pkg ≤ D.bytes_read disk.old File.Pkg + read_to (deed_of ask.now.mode)
-        (D.files disk.old).pkg s for) }
-    ensures reads { IsTrue D.tells → D.bytes_read disk.new File.Pkg ≤ D.bytes_read disk.old File.Pkg + query_cost (passes ask.now) (D.files disk.old).pkg }
+        (E.taken (inner err.new))) (λ s for. D.bytes_read disk.new File.Pkg ≤ D.bytes_read disk.old File.Pkg
+        + read_to (D.files disk.old).pkg words.now ask.now s for) }
+    ensures reads { IsTrue D.tells → D.bytes_read disk.new File.Pkg ≤ D.bytes_read disk.old File.Pkg + query_cost words.now ask.now (D.files disk.old).pkg }
     ensures done { is_foreign result ≡ false }
     ensures looks { (most : ℕ) × Looks D.tells D.files D.left_since D.moment D.bytes_read D.follows Pkg most disk.old disk.new }
     ensures disk { HasCauseAt (result ≡ Why.DiskFault) (D.faults disk.old) (D.faults disk.new) }

@@ -1,6 +1,6 @@
 //! What verifying says of all packages.
 
-ghost use Rattle.std.specs.Prelude.{◌≡◌, ◌≢◌, ◌+◌, ◌*◌, ◌≤◌, ℕ, Bool, List, [], map, true, false, IsTrue, Some, Err};
+ghost use Rattle.std.specs.Prelude.{◌≡◌, ◌≢◌, ◌+◌, ◌*◌, ◌≤◌, ℕ, Bool, List, [], ◌∷◌, map, true, false, IsTrue, Some, Err};
 ghost use Rattle.std.specs.FinMap.{entries};
 ghost use Rattle.rpm_outside.specs.Buffered.{inner, holds, HandsOn};
 ghost use Rattle.rpm_outside.specs.Causes.{HasCauseAt};
@@ -11,9 +11,11 @@ ghost use Rattle.rpm_db.specs.State.{packages};
 ghost use Rattle.rpm_db.specs.Database as database;
 ghost use Rattle.rpm_db.specs.Database.{Keeps, cost, cost_all};
 ghost use Rattle.rpm_db.specs.Verdicts.{verdict};
+ghost use Rattle.rpm_select.specs.Reach.{Everything};
 ghost use Rattle.rpm_tool.specs.Steps.{bearer, together};
 ghost use Rattle.rpm_tool.specs.Reports.{verdict_line, unsound, verdict_part, entry_verdict, verify};
-ghost use Rattle.rpm_tool.specs.Answers.{outputs, PartIs, Went, is_foreign, reach_all};
+ghost use Rattle.rpm_tool.specs.Reads.{reached_by};
+ghost use Rattle.rpm_tool.specs.Answers.{outputs, PartIs, Went, is_foreign};
 
 use crate::answer::Why;
 use crate::picked::either;
@@ -98,7 +100,7 @@ fn verify_one<D: Disk, O: Sink + Drop>(
     ensures kept { IsTrue D.tells → Keeps (D.files disk.new).pkg db.now }
     ensures went { IsTrue D.tells → (err_tells : Bool) (err : List ℕ) → PartIs (verdict_part number (verdict (D.files disk.old).pkg db.now number)) result
         (outputs O.tells (O.taken (inner out.old)) err_tells err) (outputs O.tells (O.taken (inner out.new)) err_tells err) (λ for. for ≡ bearer 0 number) }
-    ensures looks { Looks D.tells D.files D.left_since D.moment D.bytes_read D.follows Pkg (2 * cost number db.now) disk.old disk.new }
+    ensures looks { Looks D.tells D.files D.left_since D.moment D.bytes_read D.follows Pkg (cost number db.now) disk.old disk.new }
     ensures no_err { result ≢ Err Stop.ErrFault }
     ensures disk { HasCauseAt (result ≡ Err Stop.ReadFault) (D.faults disk.old) (D.faults disk.new) }
     ensures out { HasCauseAt (result ≡ Err Stop.OutFault) (O.faults (inner out.old)) (O.faults (inner out.new)) }
@@ -128,8 +130,8 @@ fn verify_all<D: Disk, O: Sink + Drop>(
     ensures went { IsTrue D.tells → (err_tells : Bool) (err : List ℕ) → PartIs
         (together (map (entry_verdict (D.files disk.old).pkg db.now.store) (entries (packages (D.files disk.old).pkg db.now.store)))) result
         (outputs O.tells (O.taken (inner out.old)) err_tells err) (outputs O.tells (O.taken (inner out.new)) err_tells err)
-        (λ for. D.bytes_read disk.new File.Pkg ≤ D.bytes_read disk.old File.Pkg + 2 * reach_all db.now.store for) }
-    ensures looks { Looks D.tells D.files D.left_since D.moment D.bytes_read D.follows Pkg (2 * cost_all db.now) disk.old disk.new }
+        (λ for. D.bytes_read disk.new File.Pkg ≤ D.bytes_read disk.old File.Pkg + reached_by (Everything ∷ []) db.now for) }
+    ensures looks { Looks D.tells D.files D.left_since D.moment D.bytes_read D.follows Pkg (cost_all db.now) disk.old disk.new }
     ensures no_err { result ≢ Err Stop.ErrFault }
     ensures disk { HasCauseAt (result ≡ Err Stop.ReadFault) (D.faults disk.old) (D.faults disk.new) }
     ensures out { HasCauseAt (result ≡ Err Stop.OutFault) (O.faults (inner out.old)) (O.faults (inner out.new)) }
@@ -162,9 +164,9 @@ pub fn report<D: Disk, O: Sink + Drop>(
     requires from_one { database.holds 0 db.now ≡ false }
     ensures went { IsTrue D.tells → (err_tells : Bool) (err : List ℕ) → Went (verify (D.files disk.old).pkg db.now.store) result
         (outputs O.tells (O.taken (inner out.old)) err_tells err) (outputs O.tells (O.taken (inner out.new)) err_tells err)
-        (λ for. D.bytes_read disk.new File.Pkg ≤ D.bytes_read disk.old File.Pkg + 2 * reach_all db.now.store for) }
+        (λ for. D.bytes_read disk.new File.Pkg ≤ D.bytes_read disk.old File.Pkg + reached_by (Everything ∷ []) db.now for) }
     ensures done { is_foreign result ≡ false }
-    ensures looks { Looks D.tells D.files D.left_since D.moment D.bytes_read D.follows Pkg (2 * cost_all db.now) disk.old disk.new }
+    ensures looks { Looks D.tells D.files D.left_since D.moment D.bytes_read D.follows Pkg (cost_all db.now) disk.old disk.new }
     ensures no_err { result ≢ Why.ErrFault }
     ensures disk { HasCauseAt (result ≡ Why.DiskFault) (D.faults disk.old) (D.faults disk.new) }
     ensures out { HasCauseAt (result ≡ Why.OutFault) (O.faults (inner out.old)) (O.faults (inner out.new)) }

@@ -1,56 +1,82 @@
 //! Queries by a format.
 
-use super::{NO_LIMITS, bash, is_refused, run_on, store, three};
-use crate::{FormatFault, FormatKind, Outcome, Why};
+use super::{Case, ends, is_refused, three};
+use crate::{FormatFault, FormatKind, Why};
 use std::alloc::{AllocError, Global};
 use std::test::Fail;
-
-// Whether words print so on a file, and end so.
-fn prints(
-    alloc: Global,
-    words: &[&str],
-    file: &[u8],
-    why: Why,
-    out: &[u8],
-    err: &[u8],
-) -> Result<bool, AllocError> {
-    let ran = run_on(alloc, words, file, 0, NO_LIMITS)?;
-    let status = match why {
-        Why::Done => 0,
-        _ => 1,
-    };
-    let outcome = Outcome {
-        status,
-        why,
-        changes: 0,
-    };
-    Ok(ran.outcome == outcome && ran.out.bytes() == out && ran.err.bytes() == err)
-}
 
 #[test]
 fn packages_are_printed_by_a_format(rt: HostRuntime) -> Result<(), Fail> {
     let alloc = rt.alloc();
     let file = three(alloc)?;
-    let cases: [(&str, &[u8]); 4] = [
-        (
-            "%{NVR} %{NVRA} %{EVR} %{NEVRA} %{EPOCHNUM} %{FILENAMES} %{DBINSTANCE}\\n",
-            b"libx-1.0~rc1-1 libx-1.0~rc1-1.noarch 1:1.0~rc1-1 libx-1:1.0~rc1-1.noarch 1 (none) 1\n\
+    let names =
+        "libx-1.0~rc1-1 libx-1.0~rc1-1.noarch 1:1.0~rc1-1 libx-1:1.0~rc1-1.noarch 1 (none) 1\n\
 bash-5.1-2 bash-5.1-2.x86_64 5.1-2 bash-5.1-2.x86_64 0 /usr/bin/bash 2\n\
-libx-1.0^git1-1 libx-1.0^git1-1.noarch 1.0^git1-1 libx-1.0^git1-1.noarch 0 (none) 3\n",
+libx-1.0^git1-1 libx-1.0^git1-1.noarch 1.0^git1-1 libx-1.0^git1-1.noarch 0 (none) 3\n";
+    let differ = "error: incorrect format: array iterator used with different sized arrays\n";
+    let cases: [Case<'_>; 10] = [
+        (
+            "rpm -qa --qf",
+            "%{NVR} %{NVRA} %{EVR} %{NEVRA} %{EPOCHNUM} %{FILENAMES} %{DBINSTANCE}\\n",
+            0,
+            names,
+            "",
         ),
         (
+            "rpm -qa --qf",
             "%6{EPOCH}|%{FILEMODES}|%{DIRINDEXES}\\n",
-            b"     1|(none)|(none)\n(none)|33261|0\n(none)|(none)|(none)\n",
+            0,
+            "     1|(none)|(none)\n(none)|33261|0\n(none)|(none)|(none)\n",
+            "",
         ),
-        ("%{DBINSTANCE}%%", b"1%2%3%"),
-        ("", b""),
+        ("rpm -qa --qf", "%{DBINSTANCE}%%", 0, "1%2%3%", ""),
+        ("rpm -qa --qf=", "", 0, "", ""),
+        (
+            "rpm -q --noindex bash --qf",
+            "[%{=NAME} %{REQUIRENAME}\\n]",
+            0,
+            "bash libc\nbash libtinfo\n",
+            "",
+        ),
+        (
+            "rpm -q --noindex libx --qf",
+            "%|EPOCH?{%{EPOCH}:}|%{VERSION}\\n",
+            0,
+            "1:1.0~rc1\n1.0^git1\n",
+            "",
+        ),
+        (
+            "rpm -q --noindex bash --qf",
+            "[%{FILEMODES:perms} %{BASENAMES}\\n]%{NAME:perms}\\n",
+            0,
+            "-rwxr-xr-x bash\nlrwxrwxrwx sh\n(not a number)\n",
+            "",
+        ),
+        (
+            "rpm -q --noindex bash --qf",
+            "%-6{NAME}|%6{NAME}|%2{NAME}|%8{EPOCH}\\n",
+            0,
+            "bash  |  bash|bash|  (none)\n",
+            "",
+        ),
+        // Of the others only the name is there.
+        (
+            "rpm -qa --qf",
+            "a[%{NAME} %{REQUIRENAME}\\n]",
+            1,
+            "alibx (none)\nalibx (none)\n",
+            differ,
+        ),
+        (
+            "rpm -q --noindex bash --qf",
+            "a[%{NAME} %{REQUIRENAME}\\n]",
+            1,
+            "",
+            differ,
+        ),
     ];
-    for (format, out) in cases {
-        let words = ["rpm", "-qa", "--qf", format];
-        assert!(rt;
-            prints(alloc, &words, &file, Why::Done, out, b"")?,
-            "{format}"
-        );
+    for case in cases {
+        assert!(rt; ends(alloc, &file, case)?, "{} {}", case.0, case.1);
     }
     Ok(())
 }
@@ -59,39 +85,29 @@ libx-1.0^git1-1 libx-1.0^git1-1.noarch 1.0^git1-1 libx-1.0^git1-1.noarch 0 (none
 fn the_last_format_counts(rt: HostRuntime) -> Result<(), Fail> {
     let alloc = rt.alloc();
     let file = three(alloc)?;
-    let files =
-        b"(contains no files)\n/usr/bin/bash\n/usr/bin/sh\n(contains no files)\n".as_slice();
-    let cases: [(&[&str], &[u8]); 4] = [
-        (&["rpm", "-qal"], files),
-        (&["rpm", "-qa", "--qf=%{NAME", "--list"], files),
+    let files = "(contains no files)\n/usr/bin/bash\n/usr/bin/sh\n(contains no files)\n";
+    let first = "/usr/bin/bash\n/usr/bin/sh\n(contains no files)\n(contains no files)\n";
+    let all = "libx-1.0~rc1-1.noarch\nbash-5.1-2.x86_64\nlibx-1.0^git1-1.noarch\n";
+    let cases: [Case<'_>; 8] = [
+        ("rpm -qal", "", 0, files, ""),
+        ("rpm -ql --noindex bash libx", "", 0, first, ""),
+        ("rpm -qa --qf=%{NAME --list", "", 0, files, ""),
         (
-            &["rpm", "-lqa", "--queryformat", "%{NAME} "],
-            b"libx bash libx ",
+            "rpm -lqa --queryformat",
+            "%{NAME} ",
+            0,
+            "libx bash libx ",
+            "",
         ),
-        (&["rpm", "--qf", "%{NAME", "-qa", "--qf=="], b"==="),
+        ("rpm --qf %{NAME -qa --qf==", "", 0, "===", ""),
+        // The query of all, in several ways.
+        ("rpm --dbpath d -qa", "", 0, all, ""),
+        ("rpm --all --query --dbpath=d", "", 0, all, ""),
+        ("rpm -a -q --after 0 --", "", 0, all, ""),
     ];
-    for (words, out) in cases {
-        assert!(rt;
-            prints(alloc, words, &file, Why::Done, out, b"")?,
-            "{words:?}"
-        );
+    for case in cases {
+        assert!(rt; ends(alloc, &file, case)?, "{}", case.0);
     }
-    Ok(())
-}
-
-#[test]
-fn arrays_that_differ_fail_the_argument_once(rt: HostRuntime) -> Result<(), Fail> {
-    let alloc = rt.alloc();
-    let words = ["rpm", "-qa", "--qf", "a[%{NAME} %{REQUIRENAME}\\n]"];
-    let line =
-        b"error: incorrect format: array iterator used with different sized arrays\n".as_slice();
-    let mut packages = Vec::new(alloc);
-    packages.push((1, bash(alloc)?))?;
-    let file = store(alloc, &packages)?;
-    assert!(rt; prints(alloc, &words, &file, Why::Failed(1), b"", line)?);
-    // Of the others only the name is there.
-    let others = b"alibx (none)\nalibx (none)\n";
-    assert!(rt; prints(alloc, &words, &three(alloc)?, Why::Failed(1), others, line)?);
     Ok(())
 }
 
@@ -105,8 +121,7 @@ fn is_bad(
 ) -> Result<bool, AllocError> {
     let line = format!(in alloc; "error: incorrect format: {text} at byte {at}\n")?;
     let why = Why::BadFormat(FormatFault { kind, at });
-    let words = ["rpm", "-qa", "--qf", format];
-    is_refused(alloc, &words, why, 251, line.as_str().as_bytes())
+    is_refused(alloc, "rpm -qa --qf", format, why, 251, line.as_str())
 }
 
 #[test]
@@ -128,15 +143,6 @@ fn a_format_with_a_fault_is_told(rt: HostRuntime) -> Result<(), Fail> {
             1,
             "width too large",
         ),
-    ] {
-        assert!(rt; is_bad(rt.alloc(), format, kind, at, text)?, "{format}");
-    }
-    Ok(())
-}
-
-#[test]
-fn a_bracket_or_a_condition_with_a_fault_is_told(rt: HostRuntime) -> Result<(), Fail> {
-    for (format, kind, at, text) in [
         ("[%{NAME}", FormatKind::BracketExpected, 8, "] expected"),
         ("a]", FormatKind::UnexpectedBracket, 1, "unexpected ]"),
         ("a}", FormatKind::UnexpectedBrace, 1, "unexpected }"),
@@ -147,11 +153,6 @@ fn a_bracket_or_a_condition_with_a_fault_is_told(rt: HostRuntime) -> Result<(), 
     ] {
         assert!(rt; is_bad(rt.alloc(), format, kind, at, text)?, "{format}");
     }
-    Ok(())
-}
-
-#[test]
-fn a_format_that_goes_too_far_is_told(rt: HostRuntime) -> Result<(), Fail> {
     let mut format = String::new(rt.alloc());
     for _ in 0..17 {
         format.push_str("%|EPOCH?{")?;

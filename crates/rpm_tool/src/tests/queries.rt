@@ -1,140 +1,115 @@
-use super::{NO_LIMITS, changed, push_unit, run_on, run_over, three, three_small};
+//! Questions, each by the lines that it has to print on a database of three packages.
+
+use super::{Case, NO_LIMITS, changed, ends, push_unit, run_over, three, three_small, words_of};
 use crate::Why;
-use std::alloc::{AllocError, Global};
 use std::test::Fail;
 
-// Whether a command line on a file ends with so many failed arguments, and these bytes on out and err.
-fn answers(
-    alloc: Global,
-    file: &[u8],
-    words: &[&str],
-    failed: u32,
-    out: &str,
-    err: &str,
-) -> Result<bool, AllocError> {
-    let ran = run_on(alloc, words, file, 0, NO_LIMITS)?;
-    let why = if failed == 0 {
-        Why::Done
-    } else {
-        Why::Failed(failed)
-    };
-    Ok(
-        ran.outcome.why == why
-            && ran.out.bytes() == out.as_bytes()
-            && ran.err.bytes() == err.as_bytes(),
-    )
-}
+const BASH: &str = "bash-5.1-2.x86_64\n";
+
+const LATE: &str = "libx-1.0^git1-1.noarch\n";
 
 #[test]
 fn each_argument_has_its_packages_or_its_line(rt: HostRuntime) -> Result<(), Fail> {
     let alloc = rt.alloc();
     let file = three(alloc)?;
-    let bash = "bash-5.1-2.x86_64\n";
-    let late = "libx-1.0^git1-1.noarch\n";
+    let none = "no package requires libc < 2.30\n";
     let nosuch = "package nosuch is not installed\n";
     let record = "error: record 9 could not be read\n";
-    let table: [(&[&str], u32, &str, &str); 12] = [
-        (&["rpm", "-q", "--noindex", "nosuch"], 1, nosuch, ""),
+    let both = "bash-5.1-2.x86_64\nlibx-1.0~rc1-1.noarch\n";
+    let owned = "bash-5.1-2.x86_64\nfile /bin/x is not owned by any package\n";
+    let group = "bash-5.1-2.x86_64\ngroup None does not contain any packages\n";
+    let cases: [Case<'_>; 15] = [
+        ("rpm -q --noindex nosuch", "", 1, nosuch, ""),
         (
-            &["rpm", "-q", "--noindex", "bash-5.1-2.x86_64"],
+            "rpm -q --noindex bash-5.1-2.x86_64 libx-1.0~rc1.noarch",
+            "",
             0,
-            bash,
+            both,
             "",
         ),
         (
-            &["rpm", "-q", "--noindex", "--whatprovides", "libx >= 1.0"],
+            "rpm -q --noindex --whatprovides",
+            "libx >= 1.0",
             0,
-            late,
+            LATE,
             "",
         ),
         (
-            &["rpm", "-q", "--noindex", "--whatrequires", "libc < 2.30"],
+            "rpm -q --noindex --whatrequires",
+            "libc = 2.31",
+            0,
+            BASH,
+            "",
+        ),
+        (
+            "rpm -q --noindex --whatrequires",
+            "libc < 2.30",
             1,
-            "no package requires libc < 2.30\n",
+            none,
             "",
         ),
+        ("rpm -qf --noindex /usr/bin/sh /bin/x", "", 1, owned, ""),
+        ("rpm -qg --noindex Shells None", "", 1, group, ""),
         (
-            &["rpm", "-qf", "--noindex", "/usr/bin/sh", "/bin/x"],
+            "rpm -q --noindex --triggeredby bash",
+            "",
             1,
-            "bash-5.1-2.x86_64\nfile /bin/x is not owned by any package\n",
+            "no package triggers bash\n",
             "",
         ),
-        (
-            &["rpm", "-qg", "--noindex", "Shells", "None"],
-            1,
-            "bash-5.1-2.x86_64\ngroup None does not contain any packages\n",
-            "",
-        ),
-        (
-            &["rpm", "-q", "--noindex", "--after", "1", "libx"],
-            0,
-            late,
-            "",
-        ),
-        (
-            &["rpm", "-q", "--noindex", "--after", "3", "libx"],
-            0,
-            "",
-            "",
-        ),
-        (
-            &["rpm", "-q", "--noindex", "--after", "3", "nosuch"],
-            1,
-            nosuch,
-            "",
-        ),
-        (&["rpm", "-q", "--querybynumber", "2", "9"], 1, bash, record),
-        (&["rpm", "-qa", "*git*", "x*"], 0, late, ""),
-        (
-            &["rpm", "-q", "--noindex", "--whatdir", "/usr/bin/"],
-            0,
-            bash,
-            "",
-        ),
+        ("rpm -q --noindex --after 1 libx", "", 0, LATE, ""),
+        ("rpm -q --noindex --after 3 libx", "", 0, "", ""),
+        ("rpm -q --noindex --after 3 nosuch", "", 1, nosuch, ""),
+        ("rpm -q --querybynumber 2 9", "", 1, BASH, record),
+        ("rpm -qa *git* x*", "", 0, LATE, ""),
+        ("rpm -qa --after 1 lib*", "", 0, LATE, ""),
+        ("rpm -q --noindex --whatdir /usr/bin/", "", 0, BASH, ""),
     ];
-    for (words, failed, out, err) in table {
-        assert!(rt;
-            answers(alloc, &file, words, failed, out, err)?,
-            "{words:?}"
-        );
+    for case in cases {
+        assert!(rt; ends(alloc, &file, case)?, "{} {}", case.0, case.1);
     }
+    Ok(())
+}
+
+#[test]
+fn a_package_that_cannot_be_read_fails_the_argument_once(rt: HostRuntime) -> Result<(), Fail> {
+    let alloc = rt.alloc();
+    let whole = three(alloc)?;
     // The blob of number 2 has another end.
-    let last = file.len().saturating_sub(1);
-    let broken = changed(file, last, b"F");
+    let last = whole.len().saturating_sub(1);
+    let file = changed(whole, last, b"F");
+    let others = "libx-1.0~rc1-1.noarch\nlibx-1.0^git1-1.noarch\n";
     let message = "error: package 2: header cannot be read\n";
     let gone = "package bash is not installed\n";
-    assert!(rt; answers(alloc, &broken, &["rpm", "-qa", "nosuch*"], 1, "", message)?);
-    assert!(rt;
-        answers(
-            alloc,
-            &broken,
-            &["rpm", "-q", "--noindex", "bash"],
-            1,
-            gone,
-            ""
-        )?
-    );
+    let cases: [Case<'_>; 3] = [
+        ("rpm -qa", "", 1, others, message),
+        ("rpm -qa nosuch*", "", 1, "", message),
+        ("rpm -q --noindex bash", "", 1, gone, ""),
+    ];
+    for case in cases {
+        assert!(rt; ends(alloc, &file, case)?, "{}", case.0);
+    }
     Ok(())
 }
 
 #[test]
 fn each_argument_fails_once(rt: HostRuntime) -> Result<(), Fail> {
     let alloc = rt.alloc();
-    let mut words = vec![in alloc; "rpm", "-q", "--noindex"]?;
-    let mut lines = Vec::new(alloc);
+    let mut line = String::new(alloc);
+    line.push_str("rpm -q --noindex")?;
+    let mut told = String::new(alloc);
     for _ in 0..300 {
-        words.push("nosuch")?;
-        lines.extend_from_slice(b"package nosuch is not installed\n")?;
+        line.push_str(" nosuch")?;
+        told.push_str("package nosuch is not installed\n")?;
     }
-    let ran = run_on(alloc, &words, &[], 0, NO_LIMITS)?;
-    assert!(rt; ran.outcome.why == Why::Failed(300) && ran.outcome.status == 250);
-    assert!(rt; ran.out.bytes() == lines.as_slice());
+    assert!(rt; ends(alloc, &[], (line.as_str(), "", 300, told.as_str(), ""))?);
     Ok(())
 }
 
 #[test]
 fn a_log_is_read_through_or_told(rt: HostRuntime) -> Result<(), Fail> {
     let alloc = rt.alloc();
+    let words = words_of(alloc, "rpm -qa", "")?;
     let file = three_small(alloc)?;
     let units = u32::try_from(file.len() / 16).unwrap_or(0);
     // One entry, which is the whole file.
@@ -142,17 +117,15 @@ fn a_log_is_read_through_or_told(rt: HostRuntime) -> Result<(), Fail> {
     push_unit(&mut log, b"RpmL", [1, 1, units.wrapping_add(1)])?;
     push_unit(&mut log, &[1, 0, 0, 0], [0, units, 0])?;
     log.extend_from_slice(&file)?;
-    let ran = run_over(alloc, &["rpm", "-qa"], &[], &log, 0, NO_LIMITS)?;
+    let ran = run_over(alloc, &words, &[], &log, 0, NO_LIMITS)?;
     assert!(rt; ran.outcome.why == Why::Done && ran.disk.now() == 0);
     assert_eq!(rt; ran.out.bytes(), b"c-1-2.x\na-1-2.x\nb-1-2.x\n".as_slice());
 
     let mut log = Vec::new(alloc);
     push_unit(&mut log, b"RpmL", [1, 1, 5])?;
-    let ran = run_over(alloc, &["rpm", "-qa"], &[0x51; 16], &log, 0, NO_LIMITS)?;
+    let ran = run_over(alloc, &words, &[0x51; 16], &log, 0, NO_LIMITS)?;
     assert!(rt; ran.outcome.why == Why::BadLog { unit: 0 } && ran.outcome.status == 252);
-    assert_eq!(rt;
-        ran.err.bytes(),
-        b"rpm: Hlog.db is damaged at byte 0\n".as_slice()
-    );
+    let line = b"rpm: Hlog.db is damaged at byte 0\n".as_slice();
+    assert_eq!(rt; ran.err.bytes(), line);
     Ok(())
 }

@@ -1,6 +1,6 @@
 //! The commands that go over all packages.
 
-use super::{NO_LIMITS, changed, laid, one, run_on, small, store};
+use super::{changed, laid, one, run_line, run_over, small, store, words_of};
 use crate::Why;
 use rpm_header::MAGIC;
 use std::alloc::{AllocError, Global};
@@ -9,13 +9,13 @@ use std::test::Fail;
 // Whether a command of rpmdb on a file ends so, with these bytes on out and err, and no write.
 fn reports(
     alloc: Global,
-    word: &str,
+    line: &str,
     file: &[u8],
     why: Why,
     out: &[u8],
     err: &str,
 ) -> Result<bool, AllocError> {
-    let ran = run_on(alloc, &["rpmdb", word], file, 0, NO_LIMITS)?;
+    let ran = run_line(alloc, line, "", file)?;
     Ok(
         ran.outcome.why == why
             && ran.out.bytes() == out
@@ -27,7 +27,7 @@ fn reports(
 #[test]
 fn headers_are_written_out_behind_the_magic(rt: HostRuntime) -> Result<(), Fail> {
     let alloc = rt.alloc();
-    let export = "--exportdb";
+    let export = "rpmdb --exportdb";
     let mut packages = Vec::new(alloc);
     packages.push((2, small(alloc, b"a\0")?))?;
     packages.push((1, small(alloc, b"a\0")?))?;
@@ -45,7 +45,8 @@ fn headers_are_written_out_behind_the_magic(rt: HostRuntime) -> Result<(), Fail>
     let broken = changed(file, last, b"F");
     let message = "error: package 1: header cannot be read\n";
     assert!(rt; reports(alloc, export, &broken, Why::Failed(1), &piece, message)?);
-    let cut = run_on(alloc, &["rpmdb", export], &broken, 0, [30, 99])?;
+    let words = words_of(alloc, export, "")?;
+    let cut = run_over(alloc, &words, &broken, &[], 0, [30, 99])?;
     piece.truncate(30);
     assert!(rt; cut.outcome.why == Why::OutFault && cut.out.bytes() == piece.as_slice());
     Ok(())
@@ -54,7 +55,7 @@ fn headers_are_written_out_behind_the_magic(rt: HostRuntime) -> Result<(), Fail>
 #[test]
 fn packages_that_are_not_sound_are_told(rt: HostRuntime) -> Result<(), Fail> {
     let alloc = rt.alloc();
-    let verify = "--verifydb";
+    let verify = "rpmdb --verifydb";
     // The checksum of the blocks, which the file of one package doesn't have.
     let sum = 4096 + 16 + 80 + 4;
     let sound = changed(one(alloc)?, sum, &[0xeb, 0x06, 0x75, 0x70]);

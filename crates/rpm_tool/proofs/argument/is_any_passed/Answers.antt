@@ -6,7 +6,7 @@ use Rattle.rpm_tool.proofs.Rising.{picks_from_one, any_passed}
 use Rattle.rpm_tool.proofs.argument.is_any_passed.Goals as goal
 
 pub returns-then-after-eq0-clause-told : goal.returns-then-after-eq0-clause-told
-returns-then-after-eq0-clause-told g c = λ told none.
+returns-then-after-eq0-clause-told g c = λ told serves none.
     let file = (g.D.Disk.files c.args.disk.now).pkg in
     let es = picks (packages file c.args.db.now.store) c.args.selection.now in
     let nothing : es ≡ [] = sym (picks_from_one file c.args.db.now c.args.selection.now c.requires.from_one)
@@ -14,7 +14,7 @@ returns-then-after-eq0-clause-told g c = λ told none.
     sym (ap is_some_of nothing)
 
 pub returns-in-Ok-clause-told : goal.returns-in-Ok-clause-told
-returns-in-Ok-clause-told g c = λ told none.
+returns-in-Ok-clause-told g c = λ told serves none.
     let file = (g.D.Disk.files c.args.disk.now).pkg in
-    c.in-Ok.ensures.told told (c.requires.serves told) ∙ any_passed c.args.after (picks (packages file c.args.db.now.store) c.args.selection.now) none
+    c.in-Ok.ensures.told told serves ∙ any_passed c.args.after (picks (packages file c.args.db.now.store) c.args.selection.now) none
     (picks_from_one file c.args.db.now c.args.selection.now c.requires.from_one)

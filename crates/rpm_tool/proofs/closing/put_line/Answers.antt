@@ -51,3 +51,15 @@ unfolding closing
 returns-in-BadLog g c =
     subst (λ (w : Why). Writes g.E.Sink.tells g.E.Sink.taken g.E.Sink.faults g.E.Sink.follows c.args.err.now c.put_log.new.err
     (closing c.args.words.now w) c.put_log.result) (sym c.in-BadLog.is) c.put_log.ensures
+
+pub returns-in-BadIndex : goal.returns-in-BadIndex
+unfolding closing
+returns-in-BadIndex g c =
+    subst (λ (w : Why). Writes g.E.Sink.tells g.E.Sink.taken g.E.Sink.faults g.E.Sink.follows c.args.err.now c.put_index.new.err
+    (closing c.args.words.now w) c.put_index.result) (sym c.in-BadIndex.is) c.put_index.ensures
+
+pub returns-in-IndexFull : goal.returns-in-IndexFull
+unfolding closing
+returns-in-IndexFull g c =
+    subst (λ (w : Why). Writes g.E.Sink.tells g.E.Sink.taken g.E.Sink.faults g.E.Sink.follows c.args.err.now c.put_all-in-IndexFull.new.sink
+    (closing c.args.words.now w) c.put_all-in-IndexFull.result) (sym c.in-IndexFull.is) c.put_all-in-IndexFull.ensures

@@ -1,13 +1,26 @@
 use Rattle.std.proofs.Common.{◌≡◌, true, false, sym, ap, ◌∙◌, arith}
 use Rattle.rpm_tool.specs.Answers.{is_foreign}
-use Rattle.rpm_tool.proofs.Undone.{unforeign}
+use Rattle.rpm_tool.proofs.Undone.{unforeign, files_unkeyed}
 use Rattle.rpm_tool.proofs.command.begin.Goals as goal
 
-pub returns-else-of_files-clause-done : goal.returns-else-of_files-clause-done
-returns-else-of_files-clause-done g c = unforeign c.answer_loaded.result.0 c.answer_loaded.ensures.done
+pub returns-then-of_files-clause-keyed : goal.returns-then-of_files-clause-keyed
+returns-then-of_files-clause-keyed g c = λ is told.
+    absurd (files_unkeyed c.args.ask.now (sym c.of_files.ensures ∙ c.if-of_files.true) is)
 
-pub returns-else-of_files-clause-shelf : goal.returns-else-of_files-clause-shelf
-returns-else-of_files-clause-shelf g c = record {
+pub returns-then-by_key-clause-done : goal.returns-then-by_key-clause-done
+returns-then-by_key-clause-done g c = unforeign c.answer_keyed.result.0 c.answer_keyed.ensures.done
+
+pub returns-then-by_key-clause-shelf : goal.returns-then-by_key-clause-shelf
+returns-then-by_key-clause-shelf g c = record {
+  later = omega arith;
+  rose = λ is. let both : true ≡ false = sym (ap is_foreign is) ∙ c.answer_keyed.ensures.done in absurd cc;
+}
+
+pub returns-else-by_key-clause-done : goal.returns-else-by_key-clause-done
+returns-else-by_key-clause-done g c = unforeign c.answer_loaded.result.0 c.answer_loaded.ensures.done
+
+pub returns-else-by_key-clause-shelf : goal.returns-else-by_key-clause-shelf
+returns-else-by_key-clause-shelf g c = record {
   later = omega arith;
   rose = λ is. let both : true ≡ false = sym (ap is_foreign is) ∙ c.answer_loaded.ensures.done in absurd cc;
 }

@@ -1,11 +1,11 @@
 use Rattle.std.proofs.Common.{ap, refl, ◌∙◌, []}
-use Rattle.rpm_tool.specs.Reports.{course}
 use Rattle.rpm_outside.specs.Buffered.{inner}
 use Rattle.rpm_outside.specs.declared.disk.File.TheVariants.{Pkg}
 use Rattle.rpm_words.specs.Ask.{ask}
-use Rattle.rpm_tool.specs.Asked.{deed_of, of_files, asks_format, asks, asks_unbuilt}
+use Rattle.rpm_tool.specs.Asked.{of_files, by_key, asks_format, asks, asks_unbuilt}
 use Rattle.rpm_tool.specs.PackageFiles.{query_files}
 use Rattle.rpm_tool.proofs.Reaching.{through_none}
+use Rattle.rpm_tool.proofs.Recovered.{unbegun}
 use Rattle.rpm_tool.proofs.Undone.{usage_of_undone, usage_of_done, unbuilt_of_undone, unbuilt_of_done, format_of_undone, format_of_done, starved, none_asked, same_command, not_begun}
 use Rattle.rpm_tool.proofs.command.command.Goals as goal
 
@@ -31,17 +31,17 @@ returns-in-Ok-clause-unread g c = λ none.
 
 pub returns-in-Ok-clause-went : goal.returns-in-Ok-clause-went
 unfolding asks
-returns-in-Ok-clause-went g c = λ a tree asked other told.
+returns-in-Ok-clause-went g c = λ a tree asked other unkeyed told.
     let same = same_command (ask c.args.words.now) (asks_format c.args.words.now) c.in-Ok.ask a c.in-Ok.format tree c.in-Ok.ensures.ok.0
     c.in-Ok.ensures.ok.1 asked in
-    rw (← same.0, ← same.1) (c.begin.ensures.went (ap of_files same.0 ∙ other) told)
+    rw (← same.0, ← same.1) (c.begin.ensures.went (ap of_files same.0 ∙ other) (ap by_key same.0 ∙ unkeyed) told)
 
 pub returns-in-Ok-clause-reads : goal.returns-in-Ok-clause-reads
 unfolding asks
-returns-in-Ok-clause-reads g c = λ a tree asked other told.
+returns-in-Ok-clause-reads g c = λ a tree asked other unkeyed told.
     let same = same_command (ask c.args.words.now) (asks_format c.args.words.now) c.in-Ok.ask a c.in-Ok.format tree c.in-Ok.ensures.ok.0
     c.in-Ok.ensures.ok.1 asked in
-    rw (← same.0) (c.begin.ensures.reads (ap of_files same.0 ∙ other) told)
+    rw (← same.0) (c.begin.ensures.reads (ap of_files same.0 ∙ other) (ap by_key same.0 ∙ unkeyed) told)
 
 pub returns-in-Err-clause-usage : goal.returns-in-Err-clause-usage
 unfolding asks_format
@@ -57,9 +57,9 @@ returns-in-Err-clause-bad_format g c = format_of_undone c.args.words.now (ask c.
 
 pub returns-in-Err-clause-went : goal.returns-in-Err-clause-went
 unfolding asks_format asks
-returns-in-Err-clause-went g c = λ a tree asked other told.
+returns-in-Err-clause-went g c = λ a tree asked other unkeyed told.
     let none = starved c.args.words.now (ask c.args.words.now) c.in-Err.why c.in-Err.ensures.undone a tree asked in
-    rw none (not_begun (deed_of a.mode) (λ file s. course tree file s c.args.words.now a) (g.D.Disk.files c.args.disk) g.O.Sink.tells g.E.Sink.tells
+    rw none (not_begun tree c.args.words.now a (g.D.Disk.files c.args.disk) g.O.Sink.tells g.E.Sink.tells
     (g.O.Sink.taken (inner c.args.out.now)) (g.E.Sink.taken (inner c.args.err.now)) (g.D.Disk.bytes_read c.args.disk Pkg))
 
 pub returns-in-Ok-clause-files : goal.returns-in-Ok-clause-files
@@ -93,3 +93,24 @@ returns-in-Err-clause-files g c = λ a tree asked is told.
       refl,
       through_none {ot = g.O.Sink.tells} {et = g.E.Sink.tells} (g.O.Sink.taken (inner c.args.out.now)) (g.E.Sink.taken (inner c.args.err.now)),
     )
+
+pub returns-in-Ok-clause-looks : goal.returns-in-Ok-clause-looks
+unfolding asks
+returns-in-Ok-clause-looks g c = λ a tree asked unkeyed.
+    let same = same_command (ask c.args.words.now) (asks_format c.args.words.now) c.in-Ok.ask a c.in-Ok.format tree c.in-Ok.ensures.ok.0
+    c.in-Ok.ensures.ok.1 asked in
+    c.begin.ensures.looks (ap by_key same.0 ∙ unkeyed)
+
+pub returns-in-Ok-clause-keyed : goal.returns-in-Ok-clause-keyed
+unfolding asks
+returns-in-Ok-clause-keyed g c = λ a tree asked is told.
+    let same = same_command (ask c.args.words.now) (asks_format c.args.words.now) c.in-Ok.ask a c.in-Ok.format tree c.in-Ok.ensures.ok.0
+    c.in-Ok.ensures.ok.1 asked in
+    rw (← same.0, ← same.1) (c.begin.ensures.keyed (ap by_key same.0 ∙ is) told)
+
+pub returns-in-Err-clause-keyed : goal.returns-in-Err-clause-keyed
+unfolding asks_format asks
+returns-in-Err-clause-keyed g c = λ a tree asked is told.
+    let none = starved c.args.words.now (ask c.args.words.now) c.in-Err.why c.in-Err.ensures.undone a tree asked in
+    rw none (unbegun g.D.Disk.files g.D.Disk.left_since g.D.Disk.moment g.D.Disk.bytes_read tree c.args.words.now a g.O.Sink.tells g.E.Sink.tells
+    (g.O.Sink.taken (inner c.args.out.now)) (g.E.Sink.taken (inner c.args.err.now)) c.args.disk)

@@ -6,11 +6,12 @@ use Rattle.rpm_tool.specs.declared.answer.Why.TheVariants as why
 use Rattle.rpm_tool.specs.Closing.{closing}
 use Rattle.rpm_tool.specs.Answers.{outputs, Closes}
 use Rattle.rpm_tool.proofs.Printing.{closes_of, inner_same}
+use Rattle.rpm_tool.proofs.Arguments.{questions}
 use Rattle.rpm_tool.proofs.Numbered.{argument_numbers, picked_rises}
 use Rattle.rpm_tool.proofs.command.run.Goals as goal
 
 pub returns-clause-answers : goal.returns-clause-answers
-returns-clause-answers g c = λ a tree asked other told.
+returns-clause-answers g c = λ a tree asked other unkeyed told.
     let out = ap (λ (lent : _). lent.now) c.new-out.ensures.inner in
     let err = ap (λ (lent : _). lent.now) c.new-err.ensures.inner in
     let later : g.E.Sink.faults c.args.err.now ≤ g.E.Sink.faults (inner c.command-why.new.err).now =
@@ -22,7 +23,7 @@ returns-clause-answers g c = λ a tree asked other told.
     let mid = outputs g.O.Sink.tells (g.O.Sink.taken (inner c.command-why.new.out).now) g.E.Sink.tells (g.E.Sink.taken (inner c.command-why.new.err).now) in
     record {
       mid = mid;
-      did = rw (out, err) at (c.command-why.ensures.went a tree asked other told);
+      did = rw (out, err) at (c.command-why.ensures.went a tree asked other unkeyed told);
       closes =
           subst (λ (e : _). Closes line mid (outputs g.O.Sink.tells (g.O.Sink.taken c.out-2-1.given.0) g.E.Sink.tells (g.E.Sink.taken e))
           (g.E.Sink.faults c.args.err.now) (g.E.Sink.faults e)) err_is
@@ -56,6 +57,51 @@ returns-clause-files g c = λ a tree asked is told.
           (inner c.command-why.new.err) (inner c.put_closing.new.err) line c.put_closing.result
           g.O.Sink.tells (g.O.Sink.taken (inner c.command-why.new.out).now) later c.put_closing.ensures));
     }
+
+pub returns-clause-keyed : goal.returns-clause-keyed
+returns-clause-keyed g c = λ a tree asked is told.
+    let out = ap (λ (lent : _). lent.now) c.new-out.ensures.inner in
+    let err = ap (λ (lent : _). lent.now) c.new-err.ensures.inner in
+    let later : g.E.Sink.faults c.args.err.now ≤ g.E.Sink.faults (inner c.command-why.new.err).now =
+    subst (λ (n : ℕ). n ≤ g.E.Sink.faults (inner c.command-why.new.err).now) (ap (λ (lent : _). g.E.Sink.faults lent.now) c.new-err.ensures.inner)
+    c.command-why.ensures.err.later in
+    let out_is : (inner c.command-why.new.out).now ≡ c.out-2-1.given.0 = search rules in
+    let err_is : (inner c.put_closing.new.err).now ≡ c.err-3-1.given.0 = search rules in
+    let line = closing c.args.words.now c.command-why.result.0 in
+    let mid = outputs g.O.Sink.tells (g.O.Sink.taken (inner c.command-why.new.out).now) g.E.Sink.tells (g.E.Sink.taken (inner c.command-why.new.err).now) in
+    record {
+      mid = mid;
+      did = rw (out, err) at ((c.command-why.ensures.keyed a tree asked is told).went);
+      closes =
+          subst (λ (e : _). Closes line mid (outputs g.O.Sink.tells (g.O.Sink.taken c.out-2-1.given.0) g.E.Sink.tells (g.E.Sink.taken e))
+          (g.E.Sink.faults c.args.err.now) (g.E.Sink.faults e)) err_is
+          (subst (λ (o : _). Closes line mid (outputs g.O.Sink.tells (g.O.Sink.taken o) g.E.Sink.tells
+          (g.E.Sink.taken (inner c.put_closing.new.err).now)) (g.E.Sink.faults c.args.err.now) (g.E.Sink.faults (inner c.put_closing.new.err).now)) out_is
+          (closes_of g.E.Sink.tells (λ lent. g.E.Sink.taken lent.now) (λ lent. g.E.Sink.faults lent.now) (g.E.Sink.faults c.args.err.now)
+          (inner c.command-why.new.err) (inner c.put_closing.new.err) line c.put_closing.result
+          g.O.Sink.tells (g.O.Sink.taken (inner c.command-why.new.out).now) later c.put_closing.ensures));
+    }
+
+pub returns-clause-keyed_reads : goal.returns-clause-keyed_reads
+returns-clause-keyed_reads g c = λ a tree asked is told. (c.command-why.ensures.keyed a tree asked is told).reads
+
+pub returns-clause-index_full : goal.returns-clause-index_full
+returns-clause-index_full g c = λ a tree asked is told. (c.command-why.ensures.keyed a tree asked is told).full
+
+pub returns-clause-bad_index : goal.returns-clause-bad_index
+returns-clause-bad_index g c = λ a tree asked is told. (c.command-why.ensures.keyed a tree asked is told).bad
+
+pub returns-clause-complete : goal.returns-clause-complete
+returns-clause-complete g c = λ a tree asked is told. (c.command-why.ensures.keyed a tree asked is told).complete
+
+pub returns-clause-index : goal.returns-clause-index
+returns-clause-index g c = λ a tree asked is told. (c.command-why.ensures.keyed a tree asked is told).index
+
+pub returns-clause-packages : goal.returns-clause-packages
+returns-clause-packages g c = λ a tree asked is told. (c.command-why.ensures.keyed a tree asked is told).packages
+
+pub returns-clause-stops : goal.returns-clause-stops
+returns-clause-stops g c = λ a tree asked is told. (c.command-why.ensures.keyed a tree asked is told).stops
 
 pub returns-clause-unread : goal.returns-clause-unread
 returns-clause-unread g c = λ none.
@@ -109,3 +155,6 @@ returns-clause-err_fault g c =
 
 pub returns-clause-numbers : goal.returns-clause-numbers
 returns-clause-numbers g c = λ tree packages chosen after j text. (argument_numbers tree packages chosen after j text, picked_rises packages chosen text after)
+
+pub returns-clause-questions : goal.returns-clause-questions
+returns-clause-questions g c = λ a asked query other. questions c.args.words.now a asked query other

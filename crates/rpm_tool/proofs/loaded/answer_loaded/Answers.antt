@@ -6,9 +6,8 @@ use Rattle.rpm_outside.specs.Logs.{log_state, reopened}
 use Rattle.rpm_pkgdb.specs.Store.{Store, store}
 use Rattle.rpm_group.specs.Layers.{laid_files}
 use Rattle.rpm_tool.specs.Steps.{Bearer, Course}
-use Rattle.rpm_tool.specs.Asked.{deed_of}
 use Rattle.rpm_tool.specs.Reports.{course}
-use Rattle.rpm_tool.specs.Answers.{outputs, Opened, ReadsTo, unless_starved, read_to, passes, query_cost}
+use Rattle.rpm_tool.specs.Answers.{outputs, Opened, ReadsTo, unless_starved, read_to, query_cost}
 use Rattle.rpm_tool.proofs.Loading.{opened_unless, opened_reads, loaded_sound, below_reads, fault_below}
 use Rattle.rpm_tool.proofs.loaded.answer_loaded.Goals as goal
 
@@ -27,18 +26,19 @@ returns-in-Ok-clause-went g c = λ told.
     let now = g.D.Disk.bytes_read end.below Pkg in
     let over = ov.read_pkg in
     let over' = end.read_pkg in
-    let what = deed_of c.args.ask.now.mode in
-    let does : Units → Store → Course = λ u t. course c.args.format.now u t c.args.words.now c.args.ask.now in
+    let words = c.args.words.now in
+    let a = c.args.ask.now in
+    let does : Units → Store → Course = λ u t. course c.args.format.now u t words a in
     let pkg : (laid_files ov.held (g.D.Disk.files ov.below)).pkg ≡ file = ap (λ (f : Files). f.pkg) (c.in-Ok.ensures.files told) in
-    let here : Store → Bearer → Type 0 = λ t for. over' ≤ over + read_to what file t for in
-    let there : Store → Bearer → Type 0 = λ t for. ReadsTo what file t start now for in
+    let here : Store → Bearer → Type 0 = λ t for. over' ≤ over + read_to file words a t for in
+    let there : Store → Bearer → Type 0 = λ t for. ReadsTo file words a t start now for in
     let keeps = c.answer_unindexed-ended.ensures.looks.1.goes_on in
     let opened : Opened (does file) (store file) ended old new here =
-    subst (λ (u : Units). Opened (does u) (store u) ended old new (λ t for. over' ≤ over + read_to what u t for)) pkg
+    subst (λ (u : Units). Opened (does u) (store u) ended old new (λ t for. over' ≤ over + read_to u words a t for)) pkg
     (c.answer_unindexed-ended.ensures.went told) in
     let answered : Opened (does file) (store file) (unless_starved c.is_starved.result ended) old new there =
     opened_reads (does file) here there (store file) (unless_starved c.is_starved.result ended) old new
-    (λ t b le. below_reads start below now over over' (read_to what file t b) (omega (arith, c.in-Ok.ensures.looks.reads.pkg))
+    (λ t b le. below_reads start below now over over' (read_to file words a t b) (omega (arith, c.in-Ok.ensures.looks.reads.pkg))
     (c.in-Ok.ensures.loaded.reads Pkg) le (keeps.reads Pkg))
     (opened_unless (does file) here (store file) c.is_starved.result ended old new opened) in
     rw (c.release.ensures, c.unless_starved-why.ensures) (loaded_sound (does file) there (store file) (log_state files.log)
@@ -54,9 +54,9 @@ returns-in-Ok-clause-reads g c = λ told.
     let now = g.D.Disk.bytes_read end.below Pkg in
     let pkg : (laid_files ov.held (g.D.Disk.files ov.below)).pkg ≡ file = ap (λ (f : Files). f.pkg) (c.in-Ok.ensures.files told) in
     let keeps = c.answer_unindexed-ended.ensures.looks.1.goes_on in
-    let le : end.read_pkg ≤ ov.read_pkg + query_cost (passes c.args.ask.now) file =
-    subst (λ (u : Units). end.read_pkg ≤ ov.read_pkg + query_cost (passes c.args.ask.now) u) pkg (c.answer_unindexed-ended.ensures.reads told) in
-    rw c.release.ensures (below_reads start below now ov.read_pkg end.read_pkg (query_cost (passes c.args.ask.now) file)
+    let le : end.read_pkg ≤ ov.read_pkg + query_cost c.args.words.now c.args.ask.now file =
+    subst (λ (u : Units). end.read_pkg ≤ ov.read_pkg + query_cost c.args.words.now c.args.ask.now u) pkg (c.answer_unindexed-ended.ensures.reads told) in
+    rw c.release.ensures (below_reads start below now ov.read_pkg end.read_pkg (query_cost c.args.words.now c.args.ask.now file)
     (omega (arith, c.in-Ok.ensures.looks.reads.pkg)) (c.in-Ok.ensures.loaded.reads Pkg) le (keeps.reads Pkg))
 
 pub returns-in-Ok-clause-looks : goal.returns-in-Ok-clause-looks

@@ -1,4 +1,4 @@
-use Rattle.std.proofs.Common.{◌≡◌, ◌+◌, ◌≤◌, Bool, length, Ok, Err, Some, refl, sym, ◌∙◌, subst, arith}
+use Rattle.std.proofs.Common.{◌≡◌, ◌+◌, Bool, Ok, Err, Some, refl, sym, ◌∙◌, subst, arith}
 use Rattle.std.specs.Prelude.{slice_get}
 use Rattle.rpm_outside.specs.Buffered.{inner}
 use Rattle.rpm_outside.specs.Shelves.{Paths}
@@ -6,8 +6,8 @@ use Rattle.rpm_words.specs.Words.{text_at}
 use Rattle.rpm_tool.specs.declared.answer.Why.{Why}
 use Rattle.rpm_tool.specs.PackageFiles.{file_part}
 use Rattle.rpm_tool.specs.Answers.{outputs, PartIs, Anywhere, Went}
-use Rattle.rpm_tool.proofs.Reaching.{goes_start, goes_more, goes_stop, goes_end}
-use Rattle.rpm_tool.proofs.Answering.{rest_of, turn_steps, turn_failed, turn_end, turn_none, went_done, went_failed, few_more}
+use Rattle.rpm_tool.proofs.Reaching.{goes_start, goes_more, goes_stop}
+use Rattle.rpm_tool.proofs.Answering.{rest_of, turn_steps, turn_failed, went_done, went_failed, few_more}
 use Rattle.rpm_tool.proofs.Filed.{went_stop_files, ends_of_files, never_of_disk}
 use Rattle.rpm_tool.proofs.package_files.print_files.Goals as goal
 
@@ -109,38 +109,16 @@ returns-in-Err-clause-no_disk g c = λ is. never_of_disk c.in-Err.stop (sym c.wh
 
 pub returns-then-failed-eq0-clause-went : goal.returns-then-failed-eq0-clause-went
 returns-then-failed-eq0-clause-went g c = λ told.
-    let k = c.loop-k.k in
     let inv = c.loop-k.invariant in
-    let each = file_part c.args.format.now (g.S.Shelf.paths c.args.shelf.now) in
-    let f = text_at c.args.words.now in
-    let args = c.args.ask.now.arguments in
-    let all = rest_of each f args 0 in
-    let o = g.O.Sink.taken (inner c.args.out.now) in
-    let o' = g.O.Sink.taken (inner c.loop-k.out) in
-    let e = g.E.Sink.taken (inner c.args.err.now) in
-    let e' = g.E.Sink.taken (inner c.loop-k.err) in
-    let ot = g.O.Sink.tells in
-    let et = g.E.Sink.tells in
-    let past : length args ≤ k = omega (arith, c.loop-k-test.false, c.arguments-k-end.ensures) in
-    went_done all c.loop-k.failed (outputs ot o et e) (outputs ot o' et e') Anywhere
-    (omega (arith, inv.count told, turn_none each f args k past)) c.if-failed-eq0.true
-    (goes_end ot et all.steps (rest_of each f args k).steps o o' e e' (turn_end each f args k past) (inv.goes told))
+    went_done (file_part c.args.format.now (g.S.Shelf.paths c.args.shelf.now)) (text_at c.args.words.now) c.args.ask.now.arguments c.loop-k.k c.loop-k.failed
+    (omega (arith, c.loop-k-test.false, c.arguments-k-end.ensures)) g.O.Sink.tells g.E.Sink.tells (g.O.Sink.taken (inner c.args.out.now))
+    (g.O.Sink.taken (inner c.loop-k.out)) (g.E.Sink.taken (inner c.args.err.now)) (g.E.Sink.taken (inner c.loop-k.err)) Anywhere (inv.goes told)
+    (inv.count told) c.if-failed-eq0.true
 
 pub returns-else-failed-eq0-clause-went : goal.returns-else-failed-eq0-clause-went
 returns-else-failed-eq0-clause-went g c = λ told.
-    let k = c.loop-k.k in
     let inv = c.loop-k.invariant in
-    let each = file_part c.args.format.now (g.S.Shelf.paths c.args.shelf.now) in
-    let f = text_at c.args.words.now in
-    let args = c.args.ask.now.arguments in
-    let all = rest_of each f args 0 in
-    let o = g.O.Sink.taken (inner c.args.out.now) in
-    let o' = g.O.Sink.taken (inner c.loop-k.out) in
-    let e = g.E.Sink.taken (inner c.args.err.now) in
-    let e' = g.E.Sink.taken (inner c.loop-k.err) in
-    let ot = g.O.Sink.tells in
-    let et = g.E.Sink.tells in
-    let past : length args ≤ k = omega (arith, c.loop-k-test.false, c.arguments-k-end.ensures) in
-    went_failed all c.loop-k.failed (outputs ot o et e) (outputs ot o' et e') Anywhere
-    (omega (arith, inv.count told, turn_none each f args k past)) c.if-failed-eq0.false
-    (goes_end ot et all.steps (rest_of each f args k).steps o o' e e' (turn_end each f args k past) (inv.goes told))
+    went_failed (file_part c.args.format.now (g.S.Shelf.paths c.args.shelf.now)) (text_at c.args.words.now) c.args.ask.now.arguments c.loop-k.k c.loop-k.failed
+    (omega (arith, c.loop-k-test.false, c.arguments-k-end.ensures)) g.O.Sink.tells g.E.Sink.tells (g.O.Sink.taken (inner c.args.out.now))
+    (g.O.Sink.taken (inner c.loop-k.out)) (g.E.Sink.taken (inner c.args.err.now)) (g.E.Sink.taken (inner c.loop-k.err)) Anywhere (inv.goes told)
+    (inv.count told) c.if-failed-eq0.false

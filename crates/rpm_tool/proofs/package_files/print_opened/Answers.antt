@@ -1,4 +1,4 @@
-use Rattle.std.proofs.Common.{◌≡◌, ℕ, Bool, List, Option, Some, None, Result, Ok, Err, sym, ap, ◌∙◌, subst}
+use Rattle.std.proofs.Common.{◌≡◌, Bool, Some, Result, Err, sym, ap, ◌∙◌, subst}
 use Rattle.rpm_outside.specs.Buffered.{inner}
 use Rattle.rpm_file.specs.declared.fault.FileFault.{FileFault}
 use Rattle.rpm_outside.specs.Browses.{left}

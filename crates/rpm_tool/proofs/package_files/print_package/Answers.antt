@@ -1,10 +1,10 @@
-use Rattle.std.proofs.Common.{◌≡◌, ℕ, Bool, List, [], ◌∷◌, Ok, Err, sym, subst}
+use Rattle.std.proofs.Common.{◌≡◌, Bool, [], Ok, Err, sym, subst}
 use Rattle.rpm_header.specs.Header.{Header}
 use Rattle.rpm_outside.specs.Buffered.{inner}
 use Rattle.rpm_qfeval.specs.Meaning.{meaning}
-use Rattle.rpm_tool.specs.Steps.{bearer, told}
+use Rattle.rpm_tool.specs.Steps.{bearer}
 use Rattle.rpm_tool.specs.Queries.{printed}
-use Rattle.rpm_tool.specs.Answers.{outputs, Anywhere, PartIs, StepIs}
+use Rattle.rpm_tool.specs.Answers.{outputs, Anywhere, StepIs}
 use Rattle.rpm_tool.proofs.Reaching.{reached_first}
 use Rattle.rpm_tool.proofs.Filed.{fails_one}
 use Rattle.rpm_tool.proofs.package_files.print_package.Goals as goal

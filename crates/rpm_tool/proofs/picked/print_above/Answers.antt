@@ -1,5 +1,6 @@
-use Rattle.std.proofs.Common.{ℕ, ◌-◌, ◌<◌, ◌||◌, Bool, List, [], ◌∷◌, map, Some, None, Ok, Err, refl, sym, ap, ◌∙◌, subst, arith}
+use Rattle.std.proofs.Common.{ℕ, ◌+◌, ◌-◌, ◌<◌, ◌≤◌, ◌||◌, Bool, List, [], ◌∷◌, map, Some, None, Ok, Err, refl, sym, ap, ◌∙◌, subst, arith}
 use Rattle.std.proofs.lemmas.List.{append-nil}
+use Rattle.std.specs.Prelude.{IsTrue}
 use Rattle.std.specs.List.{list_any}
 use Rattle.rpm_outside.specs.Buffered.{inner}
 use Rattle.rpm_outside.specs.declared.disk.File.TheVariants.{Pkg}
@@ -9,10 +10,12 @@ use Rattle.rpm_db.specs.State.{Package, packages, above}
 use Rattle.rpm_db.specs.Database.{cost_to, cost_all}
 use Rattle.rpm_db.specs.inner.Laws.{cost_some, cost_up}
 use Rattle.rpm_select.specs.Selections.{picks}
-use Rattle.rpm_select.specs.Reach.{Reach, Serves}
+use Rattle.rpm_select.specs.Reach.{Reach, Serves, reach_to, reach_all}
 use Rattle.rpm_tool.specs.Steps.{is_bad}
 use Rattle.rpm_tool.specs.Reports.{step_by}
-use Rattle.rpm_tool.specs.Answers.{outputs, NextIs, ReadsIn, is_some_of}
+use Rattle.rpm_tool.specs.Answers.{outputs, NextIs, is_some_of}
+use Rattle.rpm_tool.specs.Reads.{ReadsIn, reached}
+use Rattle.rpm_tool.proofs.Reached.{served, reach_up, reach_then, reach_rest}
 use Rattle.rpm_tool.proofs.Reaching.{goes_more, goes_stop, goes_end, reached_reads}
 use Rattle.rpm_tool.proofs.Printed.{fails_more, some_more, none_more, reads_more}
 use Rattle.rpm_tool.proofs.picked.print_above.Goals as goal
@@ -30,12 +33,22 @@ loop-next-preserved g c =
     let et = g.E.Sink.tells in
     let mid = outputs ot (g.O.Sink.taken (inner c.loop-next.out)) et (g.E.Sink.taken (inner c.loop-next.err)) in
     let new = outputs ot (g.O.Sink.taken (inner c.print_next.new.out)) et (g.E.Sink.taken (inner c.print_next.new.err)) in
+    let sel = c.args.selection.now in
+    let start = g.D.Disk.files c.args.disk.now in
+    let between = g.D.Disk.bytes_read c.loop-next.disk Pkg in
+    let now = g.D.Disk.bytes_read c.print_next.new.disk Pkg in
+    let es = picks (packages start.pkg db.store) sel in
+    let next : IsTrue g.D.Disk.tells → Serves c.args.picker.now (packages start.pkg db.store) sel → (j : ℕ) → NextIs (step_by c.args.way.now j) n es
+    (Ok (Some (m, c.in-Ok-Some.to_out))) mid new (ReadsIn j n c.loop-next.picker db between now) = λ told serves j.
+    let same = (inv.looks.untouched told).same in
+    let serves' = served sel db.store c.loop-next.picker c.args.picker.now (g.D.Disk.files c.loop-next.disk) start inv.same same serves in
+    subst (λ (f : Files). NextIs (step_by c.args.way.now j) n (picks (packages f.pkg db.store) sel) (Ok (Some (m, c.in-Ok-Some.to_out))) mid new
+    (ReadsIn j n c.loop-next.picker db between now)) same (rw c.in-Ok-Some.field-0-is at (done.went told serves' j)) in
     record {
       keeps = done.kept;
-      serves = λ told. subst (λ (f : Files). Serves c.print_next.new.picker (packages f.pkg db.store) c.args.selection.now)
-          (sym (done.looks.untouched told).same)
-          (subst (λ (r : Reach). Serves r (packages (g.D.Disk.files c.loop-next.disk).pkg db.store) c.args.selection.now) (sym done.same) (inv.serves told));
       same = done.same ∙ inv.same;
+      reads = reach_then c.args.picker.now db c.args.after n m (g.D.Disk.bytes_read c.args.disk.now Pkg) between now (omega (arith, lt)) inv.reads
+          (subst (λ (r : Reach). now ≤ between + (reach_to m r db - reach_to n r db)) inv.same (rw c.in-Ok-Some.field-0-is at done.reads));
       later = omega (arith, inv.later, lt);
       more = omega (arith, inv.more, up);
       looks = looks_then g.D.Disk.tells g.D.Disk.files g.D.Disk.left_since g.D.Disk.moment g.D.Disk.bytes_read g.D.Disk.follows Pkg
@@ -55,40 +68,26 @@ loop-next-preserved g c =
             done.err_rest.0,
         done.err_rest.1,
       );
-      goes = λ told j.
+      goes = λ told serves j.
           let step = step_by c.args.way.now j in
-          let es = picks (packages (g.D.Disk.files c.args.disk.now).pkg db.store) c.args.selection.now in
-          let reads = ReadsIn j n db.store (g.D.Disk.bytes_read c.loop-next.disk Pkg) (g.D.Disk.bytes_read c.print_next.new.disk Pkg) in
-          let x : NextIs step n es (Ok (Some (m, c.in-Ok-Some.to_out))) mid new reads =
-          subst (λ (f : Files). NextIs step n (picks (packages f.pkg db.store) c.args.selection.now) (Ok (Some (m, c.in-Ok-Some.to_out))) mid new reads)
-          (inv.looks.untouched told).same (rw c.in-Ok-Some.field-0-is at (done.went told j)) in
+          let x = next told serves j in
           goes_more ot et (map step (above c.args.after es)) (map step (above n es)) (step (m, x.0) ∷ []) (map step (above m es))
           (g.O.Sink.taken (inner c.args.out.now)) (g.O.Sink.taken (inner c.loop-next.out)) (g.O.Sink.taken (inner c.print_next.new.out))
           (g.E.Sink.taken (inner c.args.err.now)) (g.E.Sink.taken (inner c.loop-next.err)) (g.E.Sink.taken (inner c.print_next.new.err))
-          (ap (λ (xs : List (ℕ × Package)). map step xs) x.1) (inv.goes told j) x.2.1;
-      bad = λ told j.
+          (ap (λ (xs : List (ℕ × Package)). map step xs) x.1) (inv.goes told serves j) x.2.1;
+      bad = λ told serves j.
           let step = step_by c.args.way.now j in
-          let es = picks (packages (g.D.Disk.files c.args.disk.now).pkg db.store) c.args.selection.now in
-          let reads = ReadsIn j n db.store (g.D.Disk.bytes_read c.loop-next.disk Pkg) (g.D.Disk.bytes_read c.print_next.new.disk Pkg) in
-          let x : NextIs step n es (Ok (Some (m, c.in-Ok-Some.to_out))) mid new reads =
-          subst (λ (f : Files). NextIs step n (picks (packages f.pkg db.store) c.args.selection.now) (Ok (Some (m, c.in-Ok-Some.to_out))) mid new reads)
-          (inv.looks.untouched told).same (rw c.in-Ok-Some.field-0-is at (done.went told j)) in
+          let x = next told serves j in
           rw c.either-fails.ensures (fails_more c.loop-next.fails c.in-Ok-Some.to_out (step (m, x.0)) (map step (above m es))
           (list_any is_bad (map step (above c.args.after es))) x.2.0
-          (inv.bad told j ∙ ap (λ (xs : List (ℕ × Package)). c.loop-next.fails || list_any is_bad (map step xs)) x.1));
-      there = λ told.
-          let step = step_by c.args.way.now 0 in
-          let es = picks (packages (g.D.Disk.files c.args.disk.now).pkg db.store) c.args.selection.now in
-          let reads = ReadsIn 0 n db.store (g.D.Disk.bytes_read c.loop-next.disk Pkg) (g.D.Disk.bytes_read c.print_next.new.disk Pkg) in
-          let x : NextIs step n es (Ok (Some (m, c.in-Ok-Some.to_out))) mid new reads =
-          subst (λ (f : Files). NextIs step n (picks (packages f.pkg db.store) c.args.selection.now) (Ok (Some (m, c.in-Ok-Some.to_out))) mid new reads)
-          (inv.looks.untouched told).same (rw c.in-Ok-Some.field-0-is at (done.went told 0)) in
+          (inv.bad told serves j ∙ ap (λ (xs : List (ℕ × Package)). c.loop-next.fails || list_any is_bad (map step xs)) x.1));
+      there = λ told serves.
           some_more c.loop-next.some (is_some_of (above c.args.after es))
-          (inv.there told ∙ ap (λ (xs : List (ℕ × Package)). c.loop-next.some || is_some_of xs) x.1);
+          (inv.there told serves ∙ ap (λ (xs : List (ℕ × Package)). c.loop-next.some || is_some_of xs) (next told serves 0).1);
     }
 
 pub returns-in-Ok-None-clause-went : goal.returns-in-Ok-None-clause-went
-returns-in-Ok-None-clause-went g c = λ told j.
+returns-in-Ok-None-clause-went g c = λ told serves j.
     let db = c.args.db.now in
     let n = c.loop-next.number in
     let inv = c.loop-next.invariant in
@@ -98,10 +97,13 @@ returns-in-Ok-None-clause-went g c = λ told j.
     let new = outputs ot (g.O.Sink.taken (inner c.print_next.new.out)) et (g.E.Sink.taken (inner c.print_next.new.err)) in
     let step = step_by c.args.way.now j in
     let es = picks (packages (g.D.Disk.files c.args.disk.now).pkg db.store) c.args.selection.now in
-    let reads = ReadsIn j n db.store (g.D.Disk.bytes_read c.loop-next.disk Pkg) (g.D.Disk.bytes_read c.print_next.new.disk Pkg) in
+    let reads = ReadsIn j n c.loop-next.picker db (g.D.Disk.bytes_read c.loop-next.disk Pkg) (g.D.Disk.bytes_read c.print_next.new.disk Pkg) in
+    let same = (inv.looks.untouched told).same in
+    let serves' = served c.args.selection.now db.store c.loop-next.picker c.args.picker.now (g.D.Disk.files c.loop-next.disk)
+    (g.D.Disk.files c.args.disk.now) inv.same same serves in
     let x : NextIs step n es (Ok None) mid new reads =
     subst (λ (f : Files). NextIs step n (picks (packages f.pkg db.store) c.args.selection.now) (Ok None) mid new reads)
-    (inv.looks.untouched told).same (rw c.in-Ok-None.field-0-is at (c.in-Ok-None.ensures.went told j)) in
+    same (rw c.in-Ok-None.field-0-is at (c.in-Ok-None.ensures.went told serves' j)) in
     let all = map step (above c.args.after es) in
     let left = map step (above n es) in
     record {
@@ -111,14 +113,14 @@ returns-in-Ok-None-clause-went g c = λ told j.
           (goes_more ot et all left [] left
           (g.O.Sink.taken (inner c.args.out.now)) (g.O.Sink.taken (inner c.loop-next.out)) (g.O.Sink.taken (inner c.print_next.new.out))
           (g.E.Sink.taken (inner c.args.err.now)) (g.E.Sink.taken (inner c.loop-next.err)) (g.E.Sink.taken (inner c.print_next.new.err))
-          refl (inv.goes told j) x.1);
+          refl (inv.goes told serves j) x.1);
       fails =
           sym (none_more c.loop-next.fails (list_any is_bad all)
-          (inv.bad told j ∙ ap (λ (xs : List (ℕ × Package)). c.loop-next.fails || list_any is_bad (map step xs)) x.0));
+          (inv.bad told serves j ∙ ap (λ (xs : List (ℕ × Package)). c.loop-next.fails || list_any is_bad (map step xs)) x.0));
     }
 
 pub returns-in-Ok-None-clause-some : goal.returns-in-Ok-None-clause-some
-returns-in-Ok-None-clause-some g c = λ told.
+returns-in-Ok-None-clause-some g c = λ told serves.
     let db = c.args.db.now in
     let n = c.loop-next.number in
     let inv = c.loop-next.invariant in
@@ -126,12 +128,15 @@ returns-in-Ok-None-clause-some g c = λ told.
     let new = outputs g.O.Sink.tells (g.O.Sink.taken (inner c.print_next.new.out)) g.E.Sink.tells (g.E.Sink.taken (inner c.print_next.new.err)) in
     let step = step_by c.args.way.now 0 in
     let es = picks (packages (g.D.Disk.files c.args.disk.now).pkg db.store) c.args.selection.now in
-    let reads = ReadsIn 0 n db.store (g.D.Disk.bytes_read c.loop-next.disk Pkg) (g.D.Disk.bytes_read c.print_next.new.disk Pkg) in
+    let reads = ReadsIn 0 n c.loop-next.picker db (g.D.Disk.bytes_read c.loop-next.disk Pkg) (g.D.Disk.bytes_read c.print_next.new.disk Pkg) in
+    let same = (inv.looks.untouched told).same in
+    let serves' = served c.args.selection.now db.store c.loop-next.picker c.args.picker.now (g.D.Disk.files c.loop-next.disk)
+    (g.D.Disk.files c.args.disk.now) inv.same same serves in
     let x : NextIs step n es (Ok None) mid new reads =
     subst (λ (f : Files). NextIs step n (picks (packages f.pkg db.store) c.args.selection.now) (Ok None) mid new reads)
-    (inv.looks.untouched told).same (rw c.in-Ok-None.field-0-is at (c.in-Ok-None.ensures.went told 0)) in
+    same (rw c.in-Ok-None.field-0-is at (c.in-Ok-None.ensures.went told serves' 0)) in
     none_more c.loop-next.some (is_some_of (above c.args.after es))
-    (inv.there told ∙ ap (λ (xs : List (ℕ × Package)). c.loop-next.some || is_some_of xs) x.0)
+    (inv.there told serves ∙ ap (λ (xs : List (ℕ × Package)). c.loop-next.some || is_some_of xs) x.0)
 
 pub returns-in-Ok-None-clause-looks : goal.returns-in-Ok-None-clause-looks
 returns-in-Ok-None-clause-looks g c =
@@ -143,9 +148,10 @@ returns-in-Ok-None-clause-looks g c =
     c.print_next.new.disk (omega (arith, inv.more, cost_some db n)) inv.looks (rw c.in-Ok-None.field-0-is at c.in-Ok-None.ensures.looks)
 
 pub returns-in-Err-clause-went : goal.returns-in-Err-clause-went
-returns-in-Err-clause-went g c = λ told j.
+returns-in-Err-clause-went g c = λ told serves j.
     let db = c.args.db.now in
     let n = c.loop-next.number in
+    let r = c.args.picker.now in
     let inv = c.loop-next.invariant in
     let ot = g.O.Sink.tells in
     let et = g.E.Sink.tells in
@@ -156,9 +162,12 @@ returns-in-Err-clause-went g c = λ told j.
     let before = g.D.Disk.bytes_read c.args.disk.now Pkg in
     let between = g.D.Disk.bytes_read c.loop-next.disk Pkg in
     let now = g.D.Disk.bytes_read c.print_next.new.disk Pkg in
-    let x : NextIs step n es (Err c.in-Err.stop) mid new (ReadsIn j n db.store between now) =
-    subst (λ (f : Files). NextIs step n (picks (packages f.pkg db.store) c.args.selection.now) (Err c.in-Err.stop) mid new (ReadsIn j n db.store between now))
-    (inv.looks.untouched told).same (c.in-Err.ensures.went told j) in
+    let same = (inv.looks.untouched told).same in
+    let serves' = served c.args.selection.now db.store c.loop-next.picker c.args.picker.now (g.D.Disk.files c.loop-next.disk)
+    (g.D.Disk.files c.args.disk.now) inv.same same serves in
+    let x : NextIs step n es (Err c.in-Err.stop) mid new (ReadsIn j n c.loop-next.picker db between now) =
+    subst (λ (f : Files). NextIs step n (picks (packages f.pkg db.store) c.args.selection.now) (Err c.in-Err.stop) mid new
+    (ReadsIn j n c.loop-next.picker db between now)) same (c.in-Err.ensures.went told serves' j) in
     let all = map step (above c.args.after es) in
     let left = map step (above n es) in
     record {
@@ -166,9 +175,14 @@ returns-in-Err-clause-went g c = λ told j.
           goes_stop ot et all left left []
           (g.O.Sink.taken (inner c.args.out.now)) (g.O.Sink.taken (inner c.loop-next.out)) (g.O.Sink.taken (inner c.print_next.new.out))
           (g.E.Sink.taken (inner c.args.err.now)) (g.E.Sink.taken (inner c.loop-next.err)) (g.E.Sink.taken (inner c.print_next.new.err))
-          (sym (append-nil left)) (inv.goes told j) Bool Bool c.in-Err.stop (ReadsIn j c.args.after db.store before now)
-          (reached_reads {T = Bool} left (Err c.in-Err.stop) mid new (ReadsIn j n db.store between now) (ReadsIn j c.args.after db.store before now)
-          (λ b r. (r.0, reads_more (cost_to c.args.after db) (cost_to n db) before between now _ inv.more inv.looks.reads.pkg r.1)) x);
+          (sym (append-nil left)) (inv.goes told serves j) Bool Bool c.in-Err.stop (ReadsIn j c.args.after r db before now)
+          (reached_reads {T = Bool} left (Err c.in-Err.stop) mid new (ReadsIn j n c.loop-next.picker db between now) (ReadsIn j c.args.after r db before now)
+          (λ b read. (
+            read.0,
+            reads_more (reach_to c.args.after r db) (reach_to n r db) before between now _ (reach_up r db c.args.after n inv.later)
+                (omega (arith, inv.reads, reach_up r db c.args.after n inv.later))
+                (subst (λ (p : Reach). now + reach_to n p db ≤ between + reached p db b.number) inv.same read.1),
+          )) x);
       fails = tt;
     }
 
@@ -180,3 +194,23 @@ returns-in-Err-clause-looks g c =
     looks_then g.D.Disk.tells g.D.Disk.files g.D.Disk.left_since g.D.Disk.moment g.D.Disk.bytes_read g.D.Disk.follows Pkg g.met.D.Disk.follows_trans
     (cost_to n db - cost_to c.args.after db) (cost_all db - cost_to n db) (cost_all db - cost_to c.args.after db) c.args.disk.now c.loop-next.disk
     c.print_next.new.disk (omega (arith, inv.more, cost_some db n)) inv.looks c.in-Err.ensures.looks
+
+pub returns-in-Ok-None-clause-reads : goal.returns-in-Ok-None-clause-reads
+returns-in-Ok-None-clause-reads g c =
+    let db = c.args.db.now in
+    let n = c.loop-next.number in
+    let inv = c.loop-next.invariant in
+    let between = g.D.Disk.bytes_read c.loop-next.disk Pkg in
+    let now = g.D.Disk.bytes_read c.print_next.new.disk Pkg in
+    reach_rest c.args.picker.now db c.args.after n (g.D.Disk.bytes_read c.args.disk.now Pkg) between now inv.reads
+    (subst (λ (r : Reach). now ≤ between + (reach_all r db - reach_to n r db)) inv.same (rw c.in-Ok-None.field-0-is at c.in-Ok-None.ensures.reads))
+
+pub returns-in-Err-clause-reads : goal.returns-in-Err-clause-reads
+returns-in-Err-clause-reads g c =
+    let db = c.args.db.now in
+    let n = c.loop-next.number in
+    let inv = c.loop-next.invariant in
+    let between = g.D.Disk.bytes_read c.loop-next.disk Pkg in
+    let now = g.D.Disk.bytes_read c.print_next.new.disk Pkg in
+    reach_rest c.args.picker.now db c.args.after n (g.D.Disk.bytes_read c.args.disk.now Pkg) between now inv.reads
+    (subst (λ (r : Reach). now ≤ between + (reach_all r db - reach_to n r db)) inv.same c.in-Err.ensures.reads)

@@ -1,4 +1,4 @@
-use Rattle.std.proofs.Common.{◌≡◌, ℕ, ◌+◌, ◌*◌, ◌≤◌, ◌||◌, Bool, List, ◌∷◌, map, Result, Ok, Err, refl, sym, ap, ◌∙◌, subst, arith}
+use Rattle.std.proofs.Common.{◌≡◌, ℕ, ◌+◌, ◌*◌, ◌≤◌, ◌||◌, Bool, List, [], ◌∷◌, map, Ok, Err, refl, sym, ap, ◌∙◌, subst, arith}
 use Rattle.std.specs.FinMap.{entries}
 use Rattle.rpm_outside.specs.Buffered.{inner}
 use Rattle.rpm_outside.specs.declared.disk.File.TheVariants.{Pkg}
@@ -8,10 +8,11 @@ use Rattle.rpm_db.specs.State.{Package, packages, above}
 use Rattle.rpm_db.specs.Database.{cost, cost_to, cost_all}
 use Rattle.rpm_db.specs.Verdicts.{verdict}
 use Rattle.rpm_db.specs.inner.Laws.{cost_more, cost_some}
-use Rattle.rpm_tool.specs.declared.step.Stop.{Stop}
+use Rattle.rpm_select.specs.Reach.{Everything}
 use Rattle.rpm_tool.specs.Steps.{Bearer, bearer, Part, together}
 use Rattle.rpm_tool.specs.Reports.{verdict_part, entry_verdict}
-use Rattle.rpm_tool.specs.Answers.{outputs, Through, Reached, PartIs, reach_all}
+use Rattle.rpm_tool.specs.Reads.{reached_by}
+use Rattle.rpm_tool.specs.Answers.{outputs, Through, Reached, PartIs}
 use Rattle.rpm_tool.proofs.Reaching.{goes_start, goes_more, goes_stop, goes_end, reached_reads}
 use Rattle.rpm_tool.proofs.Printed.{none_more}
 use Rattle.rpm_tool.proofs.Verified.{next_entry, no_entry, from_one, fails_later}
@@ -25,7 +26,7 @@ loop-next-init g c =
     record {
       keeps = c.requires.keeps;
       looks = looks_more g.D.Disk.tells g.D.Disk.files g.D.Disk.left_since g.D.Disk.moment g.D.Disk.bytes_read g.D.Disk.follows Pkg 0
-          (2 * cost_to 0 db) c.args.disk.now c.args.disk.now (omega arith)
+          (cost_to 0 db) c.args.disk.now c.args.disk.now (omega arith)
           (looks_none g.D.Disk.tells g.D.Disk.files g.D.Disk.left_since g.D.Disk.moment g.D.Disk.bytes_read g.D.Disk.follows Pkg
           g.met.D.Disk.follows_refl c.args.disk.now);
       disk = omega arith;
@@ -51,7 +52,7 @@ loop-next-preserved g c =
     record {
       keeps = done.kept;
       looks = looks_then g.D.Disk.tells g.D.Disk.files g.D.Disk.left_since g.D.Disk.moment g.D.Disk.bytes_read g.D.Disk.follows Pkg
-          g.met.D.Disk.follows_trans (2 * cost_to k db) (2 * cost m db) (2 * cost_to m db) c.args.disk.now c.loop-next.disk c.verify_one.new.disk
+          g.met.D.Disk.follows_trans (cost_to k db) (cost m db) (cost_to m db) c.args.disk.now c.loop-next.disk c.verify_one.new.disk
           (omega (arith, cost_more db k m c.in-Some.ensures.next.0)) inv.looks done.looks;
       disk = omega (arith, inv.disk, done.disk.later);
       out = omega (arith, inv.out, done.out.later);
@@ -97,8 +98,8 @@ returns-in-Err-clause-went g c = λ told et e.
     let now = g.D.Disk.bytes_read c.verify_one.new.disk Pkg in
     let what = c.in-Err.stop in
     let own : Bearer → Type 0 = λ for. for ≡ bearer 0 m in
-    let reads : Bearer → Type 0 = λ for. now ≤ before + 2 * reach_all db.store for in
-    let few : now ≤ before + 2 * reach_all db.store (bearer 0 m) =
+    let reads : Bearer → Type 0 = λ for. now ≤ before + reached_by (Everything ∷ []) db for in
+    let few : now ≤ before + reached_by (Everything ∷ []) db (bearer 0 m) =
     omega (arith, inv.looks.reads.pkg, c.in-Err.ensures.looks.reads.pkg, cost_more db k m c.in-Some.ensures.next.0) in
     let part : PartIs (each (m, next.0)) (Err what) (outputs ot o' et e) (outputs ot o'' et e) own =
     subst (λ (f : Files). PartIs (verdict_part m (verdict f.pkg db m)) (Err what) (outputs ot o' et e) (outputs ot o'' et e) own)
@@ -108,7 +109,7 @@ returns-in-Err-clause-went g c = λ told et e.
     (together (map each (above m es))).steps o o' o'' e e e (ap (λ (xs : List (ℕ × Package)). (together (map each xs)).steps) next.1)
     (inv.goes told et e) Bool Bool what reads
     (reached_reads {T = Bool} (each (m, next.0)).steps (Err what) (outputs ot o' et e) (outputs ot o'' et e) own reads
-    (λ b is. subst (λ (w : Bearer). now ≤ before + 2 * reach_all db.store w) (sym is) few) part.steps) in
+    (λ b is. subst (λ (w : Bearer). now ≤ before + reached_by (Everything ∷ []) db w) (sym is) few) part.steps) in
     record {
       steps = subst (λ (xs : List (ℕ × Package)). Reached {T = Bool} (together (map each xs)).steps (Err what) (outputs ot o et e) (outputs ot o'' et e) reads)
           (from_one file db c.requires.from_one) reached;
@@ -121,7 +122,7 @@ returns-in-Err-clause-looks g c =
     let k = c.loop-next.number in
     let m = c.in-Some.next in
     looks_then g.D.Disk.tells g.D.Disk.files g.D.Disk.left_since g.D.Disk.moment g.D.Disk.bytes_read g.D.Disk.follows Pkg g.met.D.Disk.follows_trans
-    (2 * cost_to k db) (2 * cost m db) (2 * cost_all db) c.args.disk.now c.loop-next.disk c.verify_one.new.disk
+    (cost_to k db) (cost m db) (cost_all db) c.args.disk.now c.loop-next.disk c.verify_one.new.disk
     (omega (arith, cost_more db k m c.in-Some.ensures.next.0, cost_some db m)) c.loop-next.invariant.looks c.in-Err.ensures.looks
 
 pub returns-clause-went : goal.returns-clause-went
@@ -150,5 +151,5 @@ pub returns-clause-looks : goal.returns-clause-looks
 returns-clause-looks g c =
     let db = c.args.db.now in
     looks_more g.D.Disk.tells g.D.Disk.files g.D.Disk.left_since g.D.Disk.moment g.D.Disk.bytes_read g.D.Disk.follows Pkg
-    (2 * cost_to c.loop-next.number db) (2 * cost_all db) c.args.disk.now c.loop-next.disk
+    (cost_to c.loop-next.number db) (cost_all db) c.args.disk.now c.loop-next.disk
     (omega (arith, cost_some db c.loop-next.number)) c.loop-next.invariant.looks

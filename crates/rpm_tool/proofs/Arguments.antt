@@ -1,0 +1,53 @@
+-- Words that break no rule: each argument of a query is a question.
+use Rattle.std.proofs.Common.{◌≡◌, ℕ, true, if◌then◌else◌, List, [], ◌∷◌, Option, Some, None, is_some, Result, Ok, Err, refl}
+use Rattle.std.specs.Option.{option_map, is_none}
+use Rattle.std.specs.Result.{is_err}
+use Rattle.std.specs.List.{AllByRecursion}
+use Rattle.rpm_version.specs.declared.capability.BadCapability.{BadCapability}
+use Rattle.rpm_version.specs.Capability.{CapabilityParts, capability}
+use Rattle.rpm_words.specs.declared.switch.Chosen.{Chosen}
+use Rattle.rpm_words.specs.declared.switch.Chosen.TheVariants as by
+use Rattle.rpm_words.specs.declared.fault.WordsFault.{WordsFault}
+use Rattle.rpm_words.specs.declared.ask.Mode.TheVariants as mode
+use Rattle.rpm_words.specs.Words.{text_at}
+use Rattle.rpm_words.specs.Number.{number}
+use Rattle.rpm_words.specs.Ask.{AskParts, ask, IsFit}
+use Rattle.rpm_words.specs.inner.Given.{fit_arguments}
+use Rattle.rpm_select.specs.declared.selection.Selection.{Selection}
+use Rattle.rpm_tool.specs.Queries.{capability_in, is_question}
+
+each_then : {P Q : ℕ → Type 0} → ((x : ℕ) → P x → Q x) → (xs : List ℕ) → AllByRecursion P xs → AllByRecursion Q xs
+each_then so [] t = tt
+each_then {P = P} {Q = Q} so (x ∷ xs) t = (so x t.0, each_then {P = P} {Q = Q} so xs t.1)
+
+a_capability : (of : CapabilityParts → Selection) (r : Result CapabilityParts BadCapability) (f : WordsFault)
+    → (if is_err r then Some f else None) ≡ None → is_some (capability_in of r) ≡ true
+a_capability of (Ok c) f none = refl
+a_capability of (Err bad) f none = absurd cc
+
+a_number : (of : ℕ → Selection) (o : Option ℕ) (f : WordsFault) → (if is_none o then Some f else None) ≡ None → is_some (option_map of o) ≡ true
+a_number of (Some n) f none = refl
+a_number of None f none = absurd cc
+
+question_here : (words : List (List ℕ)) (c : Chosen) (w : ℕ) → (c ≡ by.Package → ⊥) → IsFit words c w
+    → is_question c (text_at words w) ≡ true
+question_here words by.Label w other none = refl
+question_here words by.All w other none = refl
+question_here words by.Path w other none = refl
+question_here words by.Group w other none = refl
+question_here words by.Package w other none = absurd (other refl)
+question_here words by.Provides w other none = a_capability _ (capability (text_at words w)) _ none
+question_here words by.Requires w other none = a_capability _ (capability (text_at words w)) _ none
+question_here words by.Conflicts w other none = a_capability _ (capability (text_at words w)) _ none
+question_here words by.Obsoletes w other none = a_capability _ (capability (text_at words w)) _ none
+question_here words by.Trigger w other none = refl
+question_here words by.Number w other none = a_number _ (number (text_at words w)) _ none
+question_here words by.Directory w other none = refl
+question_here words by.Tid w other none = a_number _ (number (text_at words w)) _ none
+question_here words by.Recommends w other none = a_capability _ (capability (text_at words w)) _ none
+
+pub questions : (words : List (List ℕ)) (a : AskParts) → ask words ≡ Ok a → a.mode ≡ mode.Query → (a.chosen ≡ by.Package → ⊥)
+    → AllByRecursion (λ w. is_question a.chosen (text_at words w) ≡ true) a.arguments
+questions words a is query other =
+    each_then {P = IsFit words a.chosen} {Q = λ w. is_question a.chosen (text_at words w) ≡ true}
+    (λ w fit. question_here words a.chosen w other fit) a.arguments (fit_arguments words a is query)

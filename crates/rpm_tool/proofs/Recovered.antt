@@ -1,0 +1,165 @@
+-- A database that is recovered, and then opened.
+use Rattle.std.proofs.Common.{◌≡◌, ℕ, ◌+◌, ◌≤◌, Bool, true, false, List, Result, Ok, Err, refl, sym, ap, ◌∙◌, subst, arith}
+use Rattle.rpm_outside.specs.declared.disk.File.{File}
+use Rattle.rpm_outside.specs.declared.disk.File.TheVariants.{Pkg}
+use Rattle.rpm_outside.specs.Changes.{AreSettled}
+use Rattle.rpm_outside.specs.Crash.{LeavesOnly}
+use Rattle.rpm_outside.specs.Files.{Files}
+use Rattle.rpm_outside.specs.Logs.{LogState, Closed, Malformed, Open, log_state, reopened, unlogged, with_state}
+use Rattle.rpm_outside.specs.inner.Moments.{started, leaves_then, leaves_weaker}
+use Rattle.rpm_group.specs.declared.recovery.RecoverFault.{RecoverFault}
+use Rattle.rpm_group.specs.declared.recovery.RecoverFault.TheVariants as recover
+use Rattle.rpm_group.specs.Loads.{IsSound}
+use Rattle.rpm_group.specs.Settled.{ReopensAsOneOf, RecoverSays}
+use Rattle.rpm_pkgdb.specs.declared.slot.Damage.{Damage}
+use Rattle.rpm_pkgdb.specs.Store.{Store, store}
+use Rattle.rpm_db.specs.Lawful.{IsLawful, AreLawful, IsLawfulStill}
+use Rattle.rpm_db.specs.State.{packages}
+use Rattle.rpm_qfparse.specs.Tree.{Tree}
+use Rattle.rpm_words.specs.Ask.{AskParts}
+use Rattle.rpm_tool.specs.declared.answer.Why.{Why}
+use Rattle.rpm_tool.specs.declared.answer.Why.TheVariants as why
+use Rattle.rpm_tool.specs.Steps.{Bearer, Course}
+use Rattle.rpm_tool.specs.Queries.{query}
+use Rattle.rpm_tool.specs.Answers.{Outputs, outputs}
+use Rattle.rpm_tool.specs.Keyed.{IsLawfulGroup, AreLawfulGroups, StandsStill, OpenedBy, LoadedBy, KeyedIs, AnswersByKey, FullIs, BadIs, keyed_to, is_done, is_done_or_outside, why_of_recover}
+use Rattle.rpm_tool.proofs.Opening.{by_fault, by_memory}
+use Rattle.rpm_tool.proofs.Reaching.{through_none}
+
+-- ---- the log
+
+-- files with a closed log stand for themselves
+pub closed_stands : (files : Files) → log_state files.log ≡ Closed → reopened files ≡ unlogged files
+closed_stands files closed = ap (λ (l : LogState). with_state l (unlogged files)) closed
+
+module _ (Lawful : Type 0) (course : Store → Course) (s : Result Store Damage) (reads_to : Store → Bearer → Type 0) where
+  pub loaded_by : (log : LogState) (finished : Bool) (given : Why) (old new : Outputs) → RecoverSays log (Ok finished)
+      → OpenedBy Lawful course s given old new reads_to → LoadedBy Lawful course s log given old new reads_to
+  loaded_by log true given old new says opened = subst (λ (l : LogState). LoadedBy Lawful course s l given old new reads_to) (sym says) opened
+  loaded_by log false given old new says opened = subst (λ (l : LogState). LoadedBy Lawful course s l given old new reads_to) (sym says) opened
+
+  module _ (ot et : Bool) (o e : List ℕ) where
+    pub loaded_memory : (log : LogState) → LoadedBy Lawful course s log why.NoMemory (outputs ot o et e) (outputs ot o et e) reads_to
+    loaded_memory Closed = by_memory Lawful course ot et o e reads_to s
+    loaded_memory (Malformed unit) = (tt, through_none {ot = ot} {et = et} o e)
+    loaded_memory (Open entries) = by_memory Lawful course ot et o e reads_to s
+
+    loaded_fault : (log : LogState) → LoadedBy Lawful course s log why.DiskFault (outputs ot o et e) (outputs ot o et e) reads_to
+    loaded_fault Closed = by_fault Lawful course ot et o e reads_to s
+    loaded_fault (Malformed unit) = (tt, through_none {ot = ot} {et = et} o e)
+    loaded_fault (Open entries) = by_fault Lawful course ot et o e reads_to s
+
+    pub unrecovered : (log : LogState) (fault : RecoverFault) → RecoverSays log (Err fault)
+        → LoadedBy Lawful course s log (why_of_recover fault) (outputs ot o et e) (outputs ot o et e) reads_to
+    unrecovered log (recover.BadLog unit) says =
+        subst (λ (l : LogState). LoadedBy Lawful course s l (why.BadLog unit) (outputs ot o et e) (outputs ot o et e) reads_to) (sym says)
+        (refl, through_none {ot = ot} {et = et} o e)
+    unrecovered log recover.DiskFault says = loaded_fault log
+
+-- what else is said where it isn't recovered
+pub unrecovered_full : (files : Files) (fault : RecoverFault) → FullIs files (why_of_recover fault)
+unrecovered_full files (recover.BadLog unit) = tt
+unrecovered_full files recover.DiskFault = tt
+
+pub unrecovered_bad : (words : List (List ℕ)) (a : AskParts) (files : Files) (fault : RecoverFault) → BadIs words a files (why_of_recover fault)
+unrecovered_bad words a files (recover.BadLog unit) = tt
+unrecovered_bad words a files recover.DiskFault = tt
+
+pub unrecovered_complete : (log : LogState) (fault : RecoverFault) → RecoverSays log (Err fault) → IsSound log
+    → is_done_or_outside (why_of_recover fault) ≡ true
+unrecovered_complete log (recover.BadLog unit) says sound = absurd (subst IsSound says sound)
+unrecovered_complete log recover.DiskFault says sound = refl
+
+pub unrecovered_undone : (fault : RecoverFault) → is_done (why_of_recover fault) ≡ true → ⊥
+unrecovered_undone (recover.BadLog unit) done = absurd cc
+unrecovered_undone recover.DiskFault done = absurd cc
+
+-- ---- what was opened is what the files stand for
+
+pub opened_keyed : (tree : Tree) (words : List (List ℕ)) (a : AskParts) (old mid : Files) (given : Why) (before after : Outputs) (first between now : ℕ)
+    (finished : Bool) → unlogged mid ≡ reopened old → between ≡ first → RecoverSays (log_state old.log) (Ok finished)
+    → OpenedBy (IsLawful mid.pkg mid.idx) (λ s. query tree (packages mid.pkg s) words a) (store mid.pkg) given before after
+    (λ s for. now ≤ between + keyed_to mid words a s for) → KeyedIs tree words a old given before after first now
+opened_keyed tree words a old mid given before after first between now finished stand same says opened =
+    let r = reopened old in
+    loaded_by (IsLawful r.pkg r.idx) (λ s. query tree (packages r.pkg s) words a) (store r.pkg) (λ s for. now ≤ first + keyed_to r words a s for)
+    (log_state old.log) finished given before after says
+    (subst (λ (n : ℕ). OpenedBy (IsLawful r.pkg r.idx) (λ s. query tree (packages r.pkg s) words a) (store r.pkg) given before after
+    (λ s for. now ≤ n + keyed_to r words a s for)) same
+    (subst (λ (f : Files). OpenedBy (IsLawful f.pkg f.idx) (λ s. query tree (packages f.pkg s) words a) (store f.pkg) given before after
+    (λ s for. now ≤ between + keyed_to f words a s for)) stand opened))
+
+-- ---- what a stop leaves
+
+-- an image stands still that stands for what one of these stands for
+recovered_still : (images : Files → Type 0) → AreLawfulGroups images → (image : Files) → ReopensAsOneOf images image → StandsStill images image
+recovered_still images lawful image (from, was, stands) = record {
+  from = from;
+  was = was;
+  pkg = ap (λ (f : Files). f.pkg) stands.same;
+  lawful = record {
+    sound = stands.sound (lawful from was).sound;
+    lawful = subst (λ (f : Files). IsLawful f.pkg f.idx) (sym stands.same) (lawful from was).lawful;
+  };
+}
+
+-- with a closed log
+closed_lawful : (image : Files) → log_state image.log ≡ Closed → IsLawful image.pkg image.idx → IsLawfulGroup image
+closed_lawful image closed lawful = record {
+  sound = subst IsSound (sym closed) tt;
+  lawful = subst (λ (f : Files). IsLawful f.pkg f.idx) (sym (closed_stands image closed)) lawful;
+}
+
+module _ {D : Type 0} (files : D → Files) (left_since : D → ℕ → Files → Type 0) (moment : D → ℕ) (old mid : D)
+    (first : LeavesOnly moment left_since old mid (ReopensAsOneOf (left_since old (moment old)))) (lawful : AreLawfulGroups (left_since old (moment old))) where
+  abbrev images : Files → Type 0
+  images = left_since old (moment old)
+
+  pub recovering_stops : LeavesOnly moment left_since old mid (StandsStill (left_since old (moment old)))
+  recovering_stops = leaves_weaker moment left_since old mid (ReopensAsOneOf images) (StandsStill images) (recovered_still images lawful) first
+
+  module _ (new : D) (here : left_since old (moment old) (files old)) (closed : log_state (files mid).log ≡ Closed)
+      (stand : unlogged (files mid) ≡ reopened (files old)) (settled : AreSettled (files mid) (left_since mid (moment mid))) where
+    opened_still : (image : Files) → IsLawfulStill (left_since mid (moment mid)) image → StandsStill images image
+    opened_still image still =
+        let as_read = settled still.from still.was in
+        let shut : log_state image.log ≡ Closed = ap log_state (still.log ∙ ap (λ (f : Files). f.log) as_read) ∙ closed in
+        record {
+          from = files old;
+          was = here;
+          pkg = ap (λ (f : Files). f.pkg) (closed_stands image shut) ∙ still.pkg ∙ ap (λ (f : Files). f.pkg) as_read ∙ ap (λ (f : Files). f.pkg) stand;
+          lawful = closed_lawful image shut still.lawful;
+        }
+
+    still_lawful : AreLawful (left_since mid (moment mid))
+    still_lawful image is = subst (λ (f : Files). IsLawful f.pkg f.idx) (sym (settled image is))
+        (subst (λ (f : Files). IsLawful f.pkg f.idx) (sym stand) (lawful (files old) here).lawful)
+
+    pub opening_stops : (AreLawful (left_since mid (moment mid)) → LeavesOnly moment left_since mid new (IsLawfulStill (left_since mid (moment mid))))
+        → LeavesOnly moment left_since old new (StandsStill (left_since old (moment old)))
+    opening_stops second = leaves_then moment left_since old mid new (StandsStill images) recovering_stops
+        (leaves_weaker moment left_since mid new (IsLawfulStill (left_since mid (moment mid))) (StandsStill images) opened_still (second still_lawful))
+
+-- ---- nothing was begun
+
+-- each lawful image stands for itself
+still_here : (images : Files → Type 0) → AreLawfulGroups images → (image : Files) → images image → StandsStill images image
+still_here images lawful image is = record { from = image; was = is; pkg = refl; lawful = lawful image is }
+
+pub unbegun : {D : Type 0} (files : D → Files) (left_since : D → ℕ → Files → Type 0) (moment : D → ℕ) (bytes_read : D → File → ℕ) (tree : Tree)
+    (words : List (List ℕ)) (a : AskParts) (ot et : Bool) (o e : List ℕ) (disk : D)
+    → AnswersByKey files left_since moment bytes_read tree words a why.NoMemory (outputs ot o et e) (outputs ot o et e) disk disk
+unbegun files left_since moment bytes_read tree words a ot et o e disk = record {
+  went =
+      (let r = reopened (files disk) in
+      loaded_memory (IsLawful r.pkg r.idx) (λ s. query tree (packages r.pkg s) words a) (store r.pkg)
+      (λ s for. bytes_read disk Pkg ≤ bytes_read disk Pkg + keyed_to r words a s for) ot et o e (log_state (files disk).log));
+  reads = λ lawful. omega arith;
+  full = tt;
+  bad = tt;
+  complete = λ lawful room. refl;
+  index = λ lawful done. absurd cc;
+  packages = refl;
+  stops = λ lawful. started moment left_since disk (StandsStill (left_since disk (moment disk)))
+      (still_here (left_since disk (moment disk)) lawful);
+}

@@ -1,0 +1,164 @@
+-- Questions by key: what they answer, and what they leave.
+use Rattle.std.specs.Prelude.{◌≡◌, ◌⊎◌, ℕ, ◌+◌, ◌^◌, ◌<◌, ◌≤◌, List, [], map, Bool, true, false, not, ◌==◌, Result, Ok, Err}
+use Rattle.rpm_outside.specs.Crash.{LeavesOnly}
+use Rattle.rpm_outside.specs.declared.disk.File.{File}
+use Rattle.rpm_outside.specs.declared.disk.File.TheVariants.{Pkg}
+use Rattle.rpm_outside.specs.Files.{Units, Files}
+use Rattle.rpm_outside.specs.Logs.{LogState, Closed, Malformed, Open, log_state, reopened}
+use Rattle.rpm_group.specs.declared.recovery.RecoverFault.{RecoverFault}
+use Rattle.rpm_group.specs.declared.recovery.RecoverFault.TheVariants as recover
+use Rattle.rpm_group.specs.Loads.{IsSound}
+use Rattle.rpm_pkgdb.specs.declared.slot.Damage.{Damage}
+use Rattle.rpm_pkgdb.specs.Store.{Store, store}
+use Rattle.rpm_pkgdb.specs.Costs.{opening_cost}
+use Rattle.rpm_db.specs.State.{packages}
+use Rattle.rpm_db.specs.Lawful.{IsLawful, HasRows, is_current_at}
+use Rattle.rpm_db.specs.Openings.{must_make, units_needed, making_cost}
+use Rattle.rpm_words.specs.Words.{text_at}
+use Rattle.rpm_words.specs.Ask.{AskParts}
+use Rattle.rpm_qfparse.specs.Tree.{Tree}
+use Rattle.rpm_select.specs.Reach.{Reach}
+use Rattle.rpm_tool.specs.declared.answer.Why.{Why}
+use Rattle.rpm_tool.specs.declared.answer.Why.TheVariants as why
+use Rattle.rpm_tool.specs.Steps.{Bearer, Course}
+use Rattle.rpm_tool.specs.Queries.{query}
+use Rattle.rpm_tool.specs.Reports.{unindexed}
+use Rattle.rpm_tool.specs.Reads.{argument_reach, reaches_by, reach_sum, reached_by, IsOfChains}
+use Rattle.rpm_tool.specs.Answers.{Outputs, Through, Went, Misread, Refused}
+
+-- ---- lawful disks
+
+-- files that stand for a lawful database: their log is closed, or a group that makes it of them
+pub record IsLawfulGroup (files : Files) : Type 0 where
+  pub sound : IsSound (log_state files.log)
+  pub lawful : IsLawful (reopened files).pkg (reopened files).idx
+
+-- each of these images is
+abbrev pub AreLawfulGroups : (Files → Type 0) → Type 0
+AreLawfulGroups images = (image : Files) → images image → IsLawfulGroup image
+
+-- a lawful image, that stands for the packages that one of these stands for
+pub record StandsStill (images : Files → Type 0) (image : Files) : Type 0 where
+  pub from : Files
+  pub was : images from
+  pub pkg : (reopened image).pkg ≡ (reopened from).pkg
+  pub lawful : IsLawfulGroup image
+
+-- the index is current, and holds the rows of the packages; a database that is blank needs none
+pub record HasIndex (pkg idx : Units) : Type 0 where
+  pub value : Store
+  pub undamaged : store pkg ≡ Ok value
+  pub index : (value.pages ≡ 0) ⊎ ((is_current_at value.generation idx ≡ true) × HasRows (packages pkg value) idx)
+
+-- and nothing is left of a change
+pub record IsReady (files : Files) : Type 0 where
+  pub closed : log_state files.log ≡ Closed
+  pub indexed : HasIndex files.pkg files.idx
+
+-- ---- the endings
+
+-- an ending that says what is wrong with the files: neither comes where they can be read
+abbrev pub is_refusal : Why → Bool
+is_refusal (why.BadLog unit) = true
+is_refusal (why.Damaged damage) = true
+is_refusal others = false
+
+-- of a lawful database; its index may have to be made, and be too large, and then nothing is done
+abbrev pub WentBy : Course → Why → Outputs → Outputs → (Bearer → Type 0) → Type 0
+WentBy course (why.IndexFull needed) old new reads_to = Through [] old new
+WentBy course others old new reads_to = Went course others old new reads_to
+
+-- of one that can be read, what was done where it is lawful; of one that can't, its first damage
+abbrev pub OpenedBy : Type 0 → (Store → Course) → Result Store Damage → Why → Outputs → Outputs → (Store → Bearer → Type 0) → Type 0
+OpenedBy Lawful course (Ok s) given old new reads_to = (is_refusal given ≡ false) × (Lawful → WentBy (course s) given old new (reads_to s))
+OpenedBy Lawful course (Err damage) given old new reads_to = Refused damage given × Through [] old new
+
+-- the log is read first
+abbrev pub LoadedBy : Type 0 → (Store → Course) → Result Store Damage → LogState → Why → Outputs → Outputs → (Store → Bearer → Type 0) → Type 0
+LoadedBy Lawful course s Closed given old new reads_to = OpenedBy Lawful course s given old new reads_to
+LoadedBy Lawful course s (Malformed unit) given old new reads_to = Misread unit given × Through [] old new
+LoadedBy Lawful course s (Open entries) given old new reads_to = OpenedBy Lawful course s given old new reads_to
+
+-- what is said where an index must be made, or needn't, that needs so many units
+abbrev pub FullBy : Bool → ℕ → Why → Type 0
+FullBy making needed (why.IndexFull said) = (making ≡ true) × (2 ^ 28 < needed) × (said ≡ needed)
+FullBy making needed why.DiskFault = Unit {0}
+FullBy making needed why.NoMemory = Unit {0}
+FullBy making needed (why.BadLog unit) = Unit {0}
+FullBy making needed others = making ≡ true → needed ≤ 2 ^ 28
+
+-- the index is full exactly where it must be made and needs too many units; a malformed log, a fault of the disk or want of memory may come before
+abbrev pub FullIs : Files → Why → Type 0
+FullIs files given = FullBy (must_make files.idx (store files.pkg)) (units_needed files.pkg (store files.pkg)) given
+
+-- an index is told to be malformed only where it is current, with the fault of the chain of a key that is asked
+abbrev pub BadIs : List (List ℕ) → AskParts → Files → Why → Type 0
+BadIs words a files (why.BadIndex unit) = (s : Store) × (store files.pkg ≡ Ok s) × (is_current_at s.generation files.idx ≡ true)
+    × IsOfChains a.chosen (map (text_at words) a.arguments) files.idx (why.BadIndex unit)
+BadIs words a files others = Unit {0}
+
+-- done, with or without arguments that failed
+abbrev pub is_done : Why → Bool
+is_done why.Done = true
+is_done (why.Failed n) = true
+is_done others = false
+
+-- an index that must be made has room
+abbrev pub HasRoom : Files → Type 0
+HasRoom files = must_make files.idx (store files.pkg) ≡ true → units_needed files.pkg (store files.pkg) ≤ 2 ^ 28
+
+-- an ending that nothing in the files makes: done, a fault of the disk or of a sink, or want of memory
+abbrev pub is_done_or_outside : Why → Bool
+is_done_or_outside why.Done = true
+is_done_or_outside (why.Failed n) = true
+is_done_or_outside why.DiskFault = true
+is_done_or_outside why.OutFault = true
+is_done_or_outside why.ErrFault = true
+is_done_or_outside why.NoMemory = true
+is_done_or_outside others = false
+
+-- ---- what is read
+
+-- what the arguments go over: by the index that a database has unless it is blank
+abbrev pub keyed_reaches : Units → Store → List (List ℕ) → AskParts → List Reach
+keyed_reaches file s words a = reaches_by (argument_reach (not (s.pages == 0)) (packages file s) a.chosen) (map (text_at words) a.arguments)
+
+-- up to a step: the pages, the packages where the index must be made of them, and those that the arguments go over
+abbrev pub keyed_to : Files → List (List ℕ) → AskParts → Store → Bearer → ℕ
+keyed_to files words a s for =
+    opening_cost files.pkg + making_cost files.idx (store files.pkg) + reached_by (keyed_reaches files.pkg s words a) (unindexed s) for
+
+abbrev pub asked_cost : Units → Result Store Damage → List (List ℕ) → AskParts → ℕ
+asked_cost file (Ok s) words a = reach_sum (keyed_reaches file s words a) (unindexed s)
+asked_cost file (Err damage) words a = 0
+
+-- in all
+abbrev pub keyed_cost : Files → List (List ℕ) → AskParts → ℕ
+keyed_cost files words a = opening_cost files.pkg + making_cost files.idx (store files.pkg) + asked_cost files.pkg (store files.pkg) words a
+
+-- ---- a question by key
+
+-- how far it went on these files, of whose Packages.db so many bytes were read before and then
+abbrev pub KeyedIs : Tree → List (List ℕ) → AskParts → Files → Why → Outputs → Outputs → ℕ → ℕ → Type 0
+KeyedIs tree words a files given old new before now =
+    let r = reopened files in
+    LoadedBy (IsLawful r.pkg r.idx) (λ s. query tree (packages r.pkg s) words a) (store r.pkg) (log_state files.log) given old new
+    (λ s for. now ≤ before + keyed_to r words a s for)
+
+-- all that is said of it on a disk that tells its contents
+pub record AnswersByKey {D : Type 0} (files : D → Files) (left_since : D → ℕ → Files → Type 0) (moment : D → ℕ) (bytes_read : D → File → ℕ) (tree : Tree)
+    (words : List (List ℕ)) (a : AskParts) (given : Why) (before now : Outputs) (old new : D) : Type 0 where
+  pub went : KeyedIs tree words a (files old) given before now (bytes_read old Pkg) (bytes_read new Pkg)
+  pub reads : IsLawfulGroup (files old) → bytes_read new Pkg ≤ bytes_read old Pkg + keyed_cost (reopened (files old)) words a
+  pub full : FullIs (reopened (files old)) given
+  pub bad : BadIs words a (reopened (files old)) given
+  pub complete : IsLawfulGroup (files old) → HasRoom (reopened (files old)) → is_done_or_outside given ≡ true
+  pub index : IsLawfulGroup (files old) → is_done given ≡ true → IsReady (files new)
+  pub packages : (reopened (files new)).pkg ≡ (reopened (files old)).pkg
+  pub stops : AreLawfulGroups (left_since old (moment old)) → LeavesOnly moment left_since old new (StandsStill (left_since old (moment old)))
+
+-- ---- recovering
+
+abbrev pub why_of_recover : RecoverFault → Why
+why_of_recover (recover.BadLog unit) = why.BadLog unit
+why_of_recover recover.DiskFault = why.DiskFault

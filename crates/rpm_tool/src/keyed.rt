@@ -1,0 +1,109 @@
+//! Questions by key: the database is opened with its index.
+
+ghost use Rattle.std.specs.Prelude.{◌≡◌, ◌+◌, ◌≤◌, [], false, true, IsTrue};
+ghost use Rattle.rpm_outside.specs.Buffered.{inner, holds, HandsOn};
+ghost use Rattle.rpm_outside.specs.Causes.{HasCauseAt};
+ghost use Rattle.rpm_outside.specs.Crash.{LeavesOnly};
+ghost use Rattle.rpm_pkgdb.specs.Store.{store};
+ghost use Rattle.rpm_db.specs.State.{packages};
+ghost use Rattle.rpm_db.specs.Lawful.{IsLawful, AreLawful, IsLawfulStill, Remade};
+ghost use Rattle.rpm_db.specs.Runs.{Runs};
+ghost use Rattle.rpm_tool.specs.Queries.{query};
+ghost use Rattle.rpm_tool.specs.Keyed.{HasIndex, OpenedBy, AnswersByKey, FullIs, BadIs, is_done, keyed_to, keyed_cost, why_of_recover};
+ghost use Rattle.rpm_tool.specs.Answers.{outputs, is_foreign};
+
+use crate::answer::Why;
+use crate::query::query_opened;
+use rpm_db::{Db, DbOpenFault};
+use rpm_group::{RecoverFault, recover};
+use rpm_outside::{Buffered, Disk, File, Sink};
+use rpm_qfparse::Format;
+use rpm_words::{Ask, Words};
+use std::alloc::Global;
+
+/// The ending of a question whose database isn't recovered.
+fn why_of_recover(fault: RecoverFault) -> Why
+    ensures { result ≡ why_of_recover fault }
+{
+    match fault {
+        RecoverFault::BadLog { unit } => Why::BadLog { unit },
+        RecoverFault::DiskFault => Why::DiskFault,
+    }
+}
+
+/// Opens the database with its index, and answers.
+fn answer_indexed<D: Disk, O: Sink + Drop, E: Sink + Drop>(
+    alloc: Global,
+    disk: &mut D,
+    words: &Words,
+    ask: &Ask,
+    format: &Format,
+    out: &mut Buffered<O>,
+    err: &mut Buffered<E>,
+) -> Why
+    requires out_empty { holds out.old ≡ [] }
+    requires err_empty { holds err.old ≡ [] }
+    ensures went { IsTrue D.tells → OpenedBy (IsLawful (D.files disk.old).pkg (D.files disk.old).idx)
+        (λ s. query format.now (packages (D.files disk.old).pkg s) words.now ask.now) (store (D.files disk.old).pkg) result
+        (outputs O.tells (O.taken (inner out.old)) E.tells (E.taken (inner err.old))) (outputs O.tells (O.taken (inner out.new)) E.tells
+        (E.taken (inner err.new))) (λ s for. D.bytes_read disk.new File.Pkg ≤ D.bytes_read disk.old File.Pkg
+        + keyed_to (D.files disk.old) words.now ask.now s for) }
+    ensures reads { IsTrue D.tells → IsLawful (D.files disk.old).pkg (D.files disk.old).idx → D.bytes_read disk.new File.Pkg
+        ≤ D.bytes_read disk.old File.Pkg + keyed_cost (D.files disk.old) words.now ask.now }
+    ensures index_full { IsTrue D.tells → FullIs (D.files disk.old) result }
+    ensures bad_index { IsTrue D.tells → BadIs words.now ask.now (D.files disk.old) result }
+    ensures index { IsTrue D.tells → IsLawful (D.files disk.old).pkg (D.files disk.old).idx → is_done result ≡ true
+        → HasIndex (D.files disk.new).pkg (D.files disk.new).idx }
+    ensures stops { IsTrue D.tells → AreLawful (D.left_since disk.old (D.moment disk.old)) → LeavesOnly D.moment D.left_since disk.old disk.new
+        (IsLawfulStill (D.left_since disk.old (D.moment disk.old))) }
+    ensures runs { Runs D.tells D.files D.left_since D.moment D.bytes_read D.follows Remade disk.old disk.new }
+    ensures done { is_foreign result ≡ false }
+    ensures disk { HasCauseAt (result ≡ Why.DiskFault) (D.faults disk.old) (D.faults disk.new) }
+    ensures out { HasCauseAt (result ≡ Why.OutFault) (O.faults (inner out.old)) (O.faults (inner out.new)) }
+    ensures err { HasCauseAt (result ≡ Why.ErrFault) (E.faults (inner err.old)) (E.faults (inner err.new)) }
+    ensures out_rest { HandsOn O.follows out.old out.new }
+    ensures err_rest { HandsOn E.follows err.old err.new }
+{
+    match Db::open(alloc, disk) {
+        Ok(db) => query_opened(alloc, &db, disk, words, ask, format, out, err),
+        Err(DbOpenFault::Damaged(damage)) => Why::Damaged(damage),
+        Err(DbOpenFault::IndexFull { needed }) => Why::IndexFull { needed },
+        Err(DbOpenFault::DiskFault) => Why::DiskFault,
+        Err(DbOpenFault::NoMemory) => Why::NoMemory,
+    }
+}
+
+/// Finishes what a stop left of a change, opens the database with its index, which is made from the packages where it isn't current, and
+/// answers. Of `Packages.db` it reads the slot pages, the blocks of all packages where the index must be made, and for each argument
+/// those of the packages that have one of its keys.
+pub fn answer_keyed<D: Disk, O: Sink + Drop, E: Sink + Drop>(
+    alloc: Global,
+    disk: D,
+    words: &Words,
+    ask: &Ask,
+    format: &Format,
+    out: &mut Buffered<O>,
+    err: &mut Buffered<E>,
+) -> (Why, D)
+    requires out_empty { holds out.old ≡ [] }
+    requires err_empty { holds err.old ≡ [] }
+    ensures keyed { IsTrue D.tells → AnswersByKey D.files D.left_since D.moment D.bytes_read format.now words.now ask.now result.0
+        (outputs O.tells (O.taken (inner out.old)) E.tells (E.taken (inner err.old))) (outputs O.tells (O.taken (inner out.new)) E.tells
+        (E.taken (inner err.new))) disk result.1 }
+    ensures goes_on { D.follows disk result.1 }
+    ensures done { is_foreign result.0 ≡ false }
+    ensures disk { HasCauseAt (result.0 ≡ Why.DiskFault) (D.faults disk) (D.faults result.1) }
+    ensures out { HasCauseAt (result.0 ≡ Why.OutFault) (O.faults (inner out.old)) (O.faults (inner out.new)) }
+    ensures err { HasCauseAt (result.0 ≡ Why.ErrFault) (E.faults (inner err.old)) (E.faults (inner err.new)) }
+    ensures out_rest { HandsOn O.follows out.old out.new }
+    ensures err_rest { HandsOn E.follows err.old err.new }
+{
+    let mut disk = disk;
+    match recover(&mut disk) {
+        Ok(_) => {
+            let why = answer_indexed(alloc, &mut disk, words, ask, format, out, err);
+            (why, disk)
+        }
+        Err(fault) => (why_of_recover(fault), disk),
+    }
+}
