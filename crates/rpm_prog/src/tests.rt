@@ -1,3 +1,5 @@
+mod unwritable;
+
 use crate::real_disk::RealDisk;
 use crate::real_shelf::RealShelf;
 use crate::real_sink::RealSink;
