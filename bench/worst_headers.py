@@ -11,6 +11,10 @@ two        a file for each 3 bytes, 65,000 directories, far apart   -qa --qf '[%
 four       a file for each 5 1/3 bytes, more directories, of 64 MiB -qa --qf '[%{FILENAMES:perms}\\n]'
 long       half a file for a byte, two long directories in turn    -qa --qf '[%{FILENAMES:perms}\\n]'
 bracket    17 lists of texts, each all of the data                 -qa --qf '[%{NAME}%{VERSION}..\\n]', the names of BRACKET
+short      the same, with texts of one byte                        the same
+numbers    17 lists of numbers, each all of the data               the same
+label      four texts, each all of the data, in front of an index  -qa --qf '%{NEVRA}\\n', and NVR, NVRA, EVR
+           of 65,535 entries
 """
 import random
 import struct
@@ -18,7 +22,8 @@ import sys
 
 from make_database import store
 
-INT8, INT16, INT32, TEXTS = 2, 3, 4, 8
+NULL, INT8, INT16, INT32, TEXT, TEXTS = 0, 2, 3, 4, 6, 8
+NAME, VERSION, RELEASE, EPOCH, ARCH = 1000, 1001, 1002, 1003, 1022
 DIRINDEXES, BASENAMES, DIRNAMES = 1116, 1117, 1118
 BRACKET = [1000, 1001, 1002, 1004, 1005, 1007, 1010, 1011, 1014, 1015, 1016, 1018, 1019, 1020, 1021, 1022, 1023]
 NAMES = "NAME VERSION RELEASE SUMMARY DESCRIPTION BUILDHOST DISTRIBUTION VENDOR LICENSE PACKAGER GROUP SOURCE PATCH URL OS ARCH PREIN".split()
@@ -86,6 +91,14 @@ def long_directories(size):
     return header([(DIRINDEXES, INT8, 0, files), (BASENAMES, TEXTS, files, files), (DIRNAMES, TEXTS, 2 * files, 34)], data)
 
 
+def long_label(size):
+    """The name, the version, the release and the architecture are one text, and the epoch is the greatest. They stand first in an index
+    that is gone over from its end."""
+    data = b"d" * (size - 9) + bytes(5) + b"\xff" * 4
+    entries = [(tag, TEXT, 0, 1) for tag in (NAME, VERSION, RELEASE, ARCH)] + [(EPOCH, INT32, size - 4, 1)]
+    return header(entries + [(9, NULL, 0, 0)] * (65535 - len(entries)), data)
+
+
 def worst(case, size):
     zeros = bytes(size)
     if case == "parse":
@@ -100,6 +113,12 @@ def worst(case, size):
         return long_directories(size)
     if case == "bracket":
         return header([(tag, TEXTS, 0, size) for tag in BRACKET], zeros)
+    if case == "short":
+        return header([(tag, TEXTS, 0, size // 2) for tag in BRACKET], b"a\0" * (size // 2))
+    if case == "numbers":
+        return header([(tag, INT8, 0, size) for tag in BRACKET], zeros)
+    if case == "label":
+        return long_label(size // 4 * 4)
     sys.exit(__doc__)
 
 

@@ -155,9 +155,10 @@ fn command<D: Disk, S: Shelf, O: Sink + Drop, E: Sink + Drop>(
 /// the files, and makes the index from the packages where it isn't current. On a database that can't be written it answers `DiskFault`
 /// where the index must be made: then `--noindex` answers.
 ///
-/// A command on a database reads the slot pages of `Packages.db` and the blocks of packages: for each argument those of each package once, for
-/// one that is a number that package's alone, and by key those of the packages that have one of its keys. None is read before what is printed of those with lesser numbers is written. Each header is parsed once. What is printed of a
-/// package goes out in few pieces, and no piece is of two packages.
+/// A command on a database reads the slot pages of `Packages.db` and the blocks of packages: for each argument those of each package once,
+/// for one that is a number that package's alone, and by key those of the packages that have one of its keys. None is read before what is
+/// printed of those with lesser numbers is written. Each header is parsed once. What is printed of a package goes out in few pieces, and no
+/// piece is of two packages.
 pub fn run<D: Disk, S: Shelf, O: Sink, E: Sink>(
     alloc: Global,
     words: &Words,
