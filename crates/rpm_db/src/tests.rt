@@ -118,9 +118,9 @@ pub fn file(alloc: Global) -> Result<Vec<u8>, AllocError> {
     )
 }
 
-// What verifying a number of the file says.
-fn verified(alloc: Global, n: u32) -> Result<Result<Verdict, GetFault>, AllocError> {
-    let mut disk = MemDisk::new(alloc, &file(alloc)?, &[], &[])?;
+// What verifying a number of a file says.
+fn verified(alloc: Global, file: &[u8], n: u32) -> Result<Result<Verdict, GetFault>, AllocError> {
+    let mut disk = MemDisk::new(alloc, file, &[], &[])?;
     let Ok(db) = Db::open_unindexed(alloc, &mut disk) else {
         return Err(AllocError);
     };
@@ -129,6 +129,8 @@ fn verified(alloc: Global, n: u32) -> Result<Result<Verdict, GetFault>, AllocErr
 
 #[test]
 fn the_first_verdict_counts(rt: HostRuntime) -> Result<(), Fail> {
+    let alloc = rt.alloc();
+    let mut bytes = file(alloc)?;
     for (n, expected) in [
         (0, Err(GetFault::NoSuch)),
         (1, Ok(Verdict::Sound)),
@@ -142,8 +144,13 @@ fn the_first_verdict_counts(rt: HostRuntime) -> Result<(), Fail> {
         (7, Ok(Verdict::Sound)),
         (8, Err(GetFault::NoSuch)),
     ] {
-        assert!(rt; verified(rt.alloc(), n)? == expected, "{n}");
+        assert!(rt; verified(alloc, &bytes, n)? == expected, "{n}");
     }
+    // a byte of the zeros behind number 5
+    if let Some(byte) = bytes.get_mut(4801) {
+        *byte = 1;
+    }
+    assert!(rt; verified(alloc, &bytes, 5)? == Ok(Verdict::BadChecksum));
     Ok(())
 }
 
