@@ -1,8 +1,9 @@
 #!/usr/bin/env python3
-"""Writes a Packages.db with N packages, to measure with: bench/make_database.py N FOLDER
+"""Writes a Packages.db with N packages, to measure with: bench/make_database.py N FOLDER [LIST]
 
 The file is laid out by docs/FORMATS.md and owes nothing to the program. Each package has a header of some 40 entries with 20 files,
-about 3 kB, which is the size of a small package of a distribution.
+about 3 kB, which is the size of a small package of a distribution. Where a LIST is named, the same headers are written there, each
+behind its magic, as rpmdb --importdb reads them.
 """
 import struct
 import sys
@@ -10,6 +11,7 @@ import zlib
 
 CHAR, INT16, INT32, TEXT, BIN, TEXTS, I18N = 1, 3, 4, 6, 7, 8, 9
 SIZES = {INT16: 2, INT32: 4}
+MAGIC = bytes.fromhex("8eade80100000000")
 
 
 def header(entries):
@@ -40,7 +42,7 @@ def store(packages, next_number, pages=None, generation=1):
     """A Packages.db of (number, blob), in the order of their slots."""
     if pages is None:
         pages = (2 + len(packages) + 255) // 256
-    slots, blobs, block = b"", b"", 256 * pages
+    slots, blobs, block = bytearray(), bytearray(), 256 * pages
     for number, blob in packages:
         blocks = framed(number, generation, blob)
         slots += struct.pack("<4sIII", b"Slot", number, block, len(blocks) // 16)
@@ -71,5 +73,9 @@ def package(i):
 
 if __name__ == "__main__":
     count, folder = int(sys.argv[1]), sys.argv[2]
+    packages = [(i, package(i)) for i in range(1, count + 1)]
     with open(f"{folder}/Packages.db", "wb") as file:
-        file.write(store([(i, package(i)) for i in range(1, count + 1)], count + 1))
+        file.write(store(packages, count + 1))
+    for name in sys.argv[3:]:
+        with open(name, "wb") as file:
+            file.writelines(MAGIC + blob for _, blob in packages)
