@@ -22,4 +22,4 @@ pub use mem_shelf::MemShelf;
 pub use mem_sink::MemSink;
 pub use shelf::{Absent, Shelf};
 pub use sink::{Sink, put_all};
-pub use steps::Pick;
+pub use steps::{Pick, copy_units};

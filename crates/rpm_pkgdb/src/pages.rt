@@ -2,7 +2,7 @@
 
 ghost use Rattle.std.specs.Prelude.{◌≡◌, ℕ, ◌+◌, ◌*◌, ◌^◌, ◌≤◌, ◌<◌, IsTrue, length, OnOk};
 ghost use Rattle.rpm_outside.specs.declared.disk.File.TheVariants.{Pkg};
-ghost use Rattle.rpm_outside.specs.Files.{Files, units_of, unit_at};
+ghost use Rattle.rpm_outside.specs.Files.{Files, unit_at};
 ghost use Rattle.rpm_outside.specs.Causes.{HasCause};
 ghost use Rattle.rpm_pkgdb.specs.Slots.{free};
 ghost use Rattle.rpm_outside.specs.Changes.{Changes};
@@ -12,17 +12,7 @@ ghost use Rattle.rpm_pkgdb.specs.Undamaged.{IsSlotUnit};
 use crate::erasing::FREE;
 use crate::units::slot_unit;
 use crate::writing::write_units;
-use rpm_outside::{Disk, Failed};
-
-/// Copies units into bytes.
-fn copy_units(units: &[[u8; 16]], into: &mut [u8])
-    requires { length into.old ≡ 16 * length units.now }
-    ensures { units_of into.new ≡ units.now }
-{
-    for k in 0..units.len() {
-        into[16 * k..16 * k + 16].copy_from_slice(&units[k]);
-    }
-}
+use rpm_outside::{Disk, Failed, copy_units};
 
 /// Writes free slots in one write, at most a page of them.
 pub fn write_free_slots<D: Disk>(disk: &mut D, at: u32, count: u32) -> Result<(), Failed>

@@ -1,6 +1,0 @@
-use Rattle.std.proofs.Common.{◌≡◌, ◌*◌, take, length}
-use Rattle.rpm_outside.specs.Files.{bytes_of}
-use Rattle.rpm_pkgdb.proofs.pages.copy_units.Given as goal
-
-abbrev pub invariant-loop-k : goal.invariant-loop-k
-invariant-loop-k l = record { size : length l.into ≡ 16 * length l.units; done : take (16 * l.k) l.into ≡ bytes_of (take l.k l.units) }
