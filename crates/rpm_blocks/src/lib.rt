@@ -7,7 +7,7 @@
 //! steps over runs and not over ranges, so it costs next to nothing in a file that has no gaps.
 #![tactic(auto)]
 
-ghost use Rattle.std.specs.Prelude.{◌≡◌, ◌+◌, ◌^◌, ◌<◌, ◌≤◌, [], OnOk, OnErr, IsOk, SomeIndex};
+ghost use Rattle.std.specs.Prelude.{◌≡◌, ◌+◌, ◌^◌, ◌<◌, ◌≤◌, [], OnOk, OnErr, IfOk, IsOk, SomeIndex};
 ghost use Rattle.rpm_blocks.specs.Blocks.{Blocks, range, range_at, end_of, block_limit, IsFree, AreApart, IsLeastFit, with_range, without};
 
 mod places;
@@ -92,6 +92,25 @@ impl Used {
         self.runs.reserve(2 * more as usize + ranges)?;
         self.spare = more;
         Ok(())
+    }
+
+    /// The same ranges, with room for so many more.
+    ///
+    /// `Err` where memory is refused. Takes 16 bytes for each range, 8 for each run and 24 for each further range, and copies ranges and
+    /// runs: no search is made.
+    pub fn copy_with_room(&self, alloc: Global, more: u32) -> Result<Used, AllocError>
+        ensures { IfOk result (λ used. used ≡ record { ranges = self.now.ranges; spare = more }) }
+    {
+        let count = self.ranges.len();
+        let mut ranges = Vec::with_capacity(alloc, count + more as usize)?;
+        ranges.extend_from_slice(&self.ranges)?;
+        let mut runs = Vec::with_capacity(alloc, self.runs.len() + 2 * more as usize + count)?;
+        runs.extend_from_slice(&self.runs)?;
+        Ok(Used {
+            ranges,
+            runs,
+            spare: more,
+        })
     }
 
     /// Adds a range, which meets no other. Takes no memory.
