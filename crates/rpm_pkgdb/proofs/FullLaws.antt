@@ -12,7 +12,7 @@ use Rattle.rpm_pkgdb.specs.Growing.{after_move, after_moves, IsNextMove, AreMove
 use Rattle.rpm_pkgdb.specs.Planned.{moves_of, IsPlan, IsFor, CantMove, IsFull}
 use Rattle.rpm_pkgdb.specs.Planned.IsFull.{NoRoom, NoMove}
 
-least_same : (slots : List Slot) (count from a b : ℕ) → IsLeast slots count from a → IsLeast slots count from b → a ≡ b
+pub least_same : (slots : List Slot) (count from a b : ℕ) → IsLeast slots count from a → IsLeast slots count from b → a ≡ b
 least_same slots count from a b in_a in_b = elim (cases_lt a b) [
   | inl below ↦ absurd (in_b.least a in_a.from_on below in_a.fits)
   | inr le ↦ elim (cases_lt b a) [

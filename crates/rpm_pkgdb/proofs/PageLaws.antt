@@ -1,5 +1,5 @@
 -- What is planned of a slot page, one move more.
-use Rattle.std.proofs.Common.{◌≡◌, ◌≢◌, inl, inr, ℕ, ◌+◌, ◌*◌, ◌^◌, ◌<◌, ◌≤◌, List, [], ◌∷◌, ◌++◌, length, true, false, Option, Some, None, MatchOption, refl, sym, ap, ◌∙◌, subst, arith, set, length-set}
+use Rattle.std.proofs.Common.{◌≡◌, ◌≢◌, inl, inr, ℕ, ◌+◌, ◌*◌, ◌^◌, ◌<◌, ◌≤◌, List, [], ◌∷◌, ◌++◌, length, true, false, refl, sym, ap, ◌∙◌, subst, arith, set, length-set}
 use Rattle.std.specs.Prelude.{Contains}
 use Rattle.std.proofs.lemmas.Bool.{cases_eq}
 use Rattle.std.proofs.lemmas.Bool.Decides.{nat_tests}
@@ -19,48 +19,11 @@ use Rattle.rpm_pkgdb.specs.inner.Settings.{CanSet}
 use Rattle.rpm_pkgdb.specs.Growing.{moved}
 use Rattle.rpm_pkgdb.specs.Growing.{after_move, after_moves, IsNextMove, AreMoves, AreBehind}
 use Rattle.rpm_pkgdb.specs.Planned.{CantMove}
-use Rattle.rpm_pkgdb.specs.inner.Pages.{IsFirstBefore, IsPlanning, AllMoved, IsFirstSoFar, one_before, count_before}
-use Rattle.rpm_pkgdb.proofs.Pairwise.{used_below}
+use Rattle.rpm_pkgdb.specs.inner.Pages.{IsFirstBefore, IsPlanning, AllMoved}
+use Rattle.rpm_pkgdb.specs.Placing.{one_before, count_before}
 use Rattle.rpm_pkgdb.proofs.ClearLaws.{set_here, set_other}
 use Rattle.rpm_pkgdb.proofs.RangeLaws.{other_start}
 use Rattle.rpm_pkgdb.proofs.SettingLaws.{set_sound}
-
--- ---- the first range before a block
-
-pub first_none : (slots : List Slot) (end : ℕ) → IsFirstSoFar slots end 0 None end
-first_none slots end = record { no_more = omega arith; low = λ j lt used. absurd (omega (arith, lt)); here = refl }
-
-pub first_here : (slots : List Slot) (end k : ℕ) (first : Option ℕ) (least : ℕ) → IsFirstSoFar slots end k first least → k < length slots
-    → is_used (slot_at slots k) ≡ true → (slot_at slots k).offset < least → IsFirstSoFar slots end (k + 1) (Some k) (slot_at slots k).offset
-first_here slots end k first least has below used lower = record {
-  no_more = omega (arith, has.no_more);
-  low = λ j lt used_j. elim (cases_eq j k) [
-    | inl same ↦ omega (arith, ap (λ (i : ℕ). (slot_at slots i).offset) same)
-    | inr other ↦ omega (arith, has.low j (omega arith) used_j)
-  ];
-  here = (below, used, refl, omega (arith, has.no_more));
-}
-
-pub first_stays : (slots : List Slot) (end k : ℕ) (first : Option ℕ) (least : ℕ) → IsFirstSoFar slots end k first least
-    → (is_used (slot_at slots k) ≡ true → least ≤ (slot_at slots k).offset) → IsFirstSoFar slots end (k + 1) first least
-first_stays slots end k first least has not_lower = record {
-  no_more = has.no_more;
-  low = λ j lt used_j. elim (cases_eq j k) [
-    | inl same ↦ subst (λ (i : ℕ). least ≤ (slot_at slots i).offset) (sym same) (not_lower (subst (λ (i : ℕ). is_used (slot_at slots i) ≡ true) same used_j))
-    | inr other ↦ has.low j (omega arith) used_j
-  ];
-  here = has.here;
-}
-
-pub first_of_all : (slots : List Slot) (end count : ℕ) (first : Option ℕ) (least : ℕ) → length slots ≤ count → IsFirstSoFar slots end count first least
-    → MatchOption first (AreBehind slots end) (IsFirstBefore slots end)
-first_of_all slots end count None least all has = λ j used. omega (arith, has.low j (omega (arith, used_below slots j used)) used, has.here)
-first_of_all slots end count (Some p) least all has = record {
-  below = has.here.0;
-  used = has.here.1;
-  before = omega (arith, has.here.2, has.here.3);
-  first = λ j used. omega (arith, has.low j (omega (arith, used_below slots j used)) used, has.here.2);
-}
 
 -- ---- one move more
 
@@ -160,13 +123,17 @@ planning_more slots end moves now pages place to sound are slots_are first least
     }
 
 -- a range that is moved behind the block no longer begins before it
-pub fewer_before : (slots : List Slot) (end place to : ℕ) → IsFirstBefore slots end place → end ≤ to
-    → count_before end (set slots place (moved (slot_at slots place) to)) < count_before end slots
+pub one_less : (slots : List Slot) (end place to : ℕ) → IsFirstBefore slots end place → end ≤ to
+    → count_before end (set slots place (moved (slot_at slots place) to)) + 1 ≡ count_before end slots
 unfolding count_before
-fewer_before slots end place to first far =
+one_less slots end place to first far =
     let was : one_before end (slot_at slots place) ≡ 1 = (let used = first.used in let before = first.before in grind (arith, nat_tests)) in
     let now : one_before end (moved (slot_at slots place) to) ≡ 0 = grind (arith, nat_tests) in
     omega (arith, sum_by-set (one_before end) slots place (moved (slot_at slots place) to) free first.below, was, now)
+
+pub fewer_before : (slots : List Slot) (end place to : ℕ) → IsFirstBefore slots end place → end ≤ to
+    → count_before end (set slots place (moved (slot_at slots place) to)) < count_before end slots
+fewer_before slots end place to first far = omega (arith, one_less slots end place to first far)
 
 pub count_after : (slots : List Slot) (moves : List Move) → length (after_moves slots moves) ≡ length slots
 count_after slots [] = refl

@@ -6,15 +6,13 @@ ghost use Rattle.rpm_pkgdb.specs.Slots.{slot_at, free};
 ghost use Rattle.rpm_pkgdb.specs.Plans.{FitsNowhere, IsLeast, AreAllUsed};
 ghost use Rattle.rpm_pkgdb.specs.Growing.{moved, AreBehind, NeedsPage, next_end};
 ghost use Rattle.rpm_pkgdb.specs.Planned.{HoldsPage, CantMove};
-ghost use Rattle.rpm_pkgdb.specs.Undamaged.{AreSound};
-ghost use Rattle.rpm_pkgdb.specs.inner.Pages.{IsFirstBefore, IsRanged, IsPlanning, AllMoved};
+ghost use Rattle.rpm_pkgdb.specs.inner.Pages.{HasPlacesBefore, IsFirstBefore, IsRanged, IsPlanning, AllMoved};
 
 use crate::erasing::FREE;
 use crate::moving::Move;
 use crate::plan::PlanFault;
 use crate::slot::Slot;
 use crate::store::PkgDb;
-use crate::used::gather;
 use rpm_blocks::Used;
 use std::alloc::{AllocError, Global};
 
@@ -29,18 +27,33 @@ pub struct Page {
     pub used: Used,
 }
 
-/// The place of the first of the used ranges that begin before a block. Takes a step a slot.
-fn first_before(slots: &[Slot], end: u32) -> Option<u32>
+/// The places of the used slots whose blocks begin before a block. Takes a step a slot.
+fn places_before(alloc: Global, slots: &[Slot], end: u32) -> Result<Vec<u32>, AllocError>
     requires { length slots.now < 2 ^ 32 }
+    ensures { IfOk result (λ places. HasPlacesBefore slots.now end places.items) }
+{
+    let mut places = Vec::new(alloc);
+    for k in 0..slots.len() {
+        let slot = slots[k];
+        if slot.offset != 0 && slot.offset < end {
+            places.push(k as u32)?;
+        }
+    }
+    Ok(places)
+}
+
+/// The place of the first of the used ranges that begin before a block. Takes a step for each of these places.
+fn first_before(slots: &[Slot], places: &[u32], end: u32) -> Option<u32>
+    requires { HasPlacesBefore slots.now end places.now }
     ensures { MatchOption result (AreBehind slots.now end) (IsFirstBefore slots.now end) }
 {
     let mut first: Option<u32> = None;
     let mut least = end;
-    for k in 0..slots.len() {
-        let slot = slots[k];
+    for i in 0..places.len() {
+        let slot = at(slots, places[i]);
         if slot.offset != 0 && slot.offset < least {
             least = slot.offset;
-            first = Some(k as u32);
+            first = Some(places[i]);
         }
     }
     first
@@ -55,22 +68,6 @@ fn at(slots: &[Slot], place: u32) -> Slot
 }
 
 impl Page {
-    /// The slots as they are, with their ranges and room for a page more.
-    fn of(alloc: Global, slots: &[Slot]) -> Result<Page, AllocError>
-        requires { (pages : ℕ) × AreSound pages (2 ^ 28) slots.now }
-        ensures slots { IfOk result (λ page. page.slots.items ≡ slots.now) }
-        ensures none { IfOk result (λ page. vec_len page.moves ≡ 0) }
-        ensures ranged { (pages : ℕ) → 1 ≤ pages → AreSound pages (2 ^ 28) slots.now → IfOk result (IsRanged pages) }
-    {
-        let mut all = Vec::with_capacity(alloc, slots.len() + 256)?;
-        all.extend_from_slice(slots)?;
-        Ok(Page {
-            moves: Vec::new(alloc),
-            slots: all,
-            used: gather(alloc, slots)?,
-        })
-    }
-
     /// Plans the move of a slot's blocks to the least free place from a block on.
     fn add_move(&mut self, place: u32, end: u32) -> Result<(), PlanFault>
         requires ranged { (pages : ℕ) × (256 * pages ≤ end) × IsRanged pages self.old }
@@ -127,19 +124,43 @@ impl Page {
 }
 
 impl PkgDb {
+    /// The slots and their ranges as they are, copied, with room for a page more.
+    fn page_of(&self, alloc: Global) -> Result<Page, AllocError>
+        requires made { 1 ≤ self.now.pages }
+        requires room { 1 ≤ self.now.spare }
+        ensures slots { IfOk result (λ page. page.slots.items ≡ self.now.slots) }
+        ensures none { IfOk result (λ page. vec_len page.moves ≡ 0) }
+        ensures ranged { IfOk result (IsRanged self.now.pages) }
+    {
+        let Some(used) = &self.used else {
+            unreachable!()
+        };
+        let mut slots = Vec::with_capacity(alloc, self.slots.len() + 256)?;
+        slots.extend_from_slice(&self.slots)?;
+        Ok(Page {
+            moves: Vec::new(alloc),
+            slots,
+            used: used.copy_with_room(alloc, 257)?,
+        })
+    }
+
     /// Plans the moves that a slot page more asks for, one after the other by rising block, each to the least free place behind it.
     fn plan_moves(&self, alloc: Global) -> Result<Page, PlanFault>
-        requires { 1 ≤ self.now.pages }
+        requires made { 1 ≤ self.now.pages }
+        requires room { 1 ≤ self.now.spare }
         ensures page { IfOk result (AllMoved self.now.slots (next_end self.now)) }
         ensures ranged { IfOk result (IsRanged self.now.pages) }
         ensures full { result ≡ Err PlanFault.StoreFull → CantMove self.now.slots (next_end self.now) }
         ensures kinds { result ≢ Err PlanFault.NumbersSpent }
     {
         let end = 256 * (self.pages + 1);
-        let Ok(mut page) = Page::of(alloc, &self.slots) else {
+        let Ok(places) = places_before(alloc, &self.slots, end) else {
             return Err(PlanFault::NoMemory);
         };
-        while let Some(place) = first_before(&page.slots, end) {
+        let Ok(mut page) = self.page_of(alloc) else {
+            return Err(PlanFault::NoMemory);
+        };
+        while let Some(place) = first_before(&page.slots, &places, end) {
             if let Err(fault) = page.add_move(place, end) {
                 return Err(fault);
             }
@@ -149,9 +170,11 @@ impl PkgDb {
 
     /// Plans a slot page more.
     ///
-    /// Takes a step a slot for each move, which are at most 256, and a copy of the slots and of their ranges.
+    /// Takes a step a slot and a copy of the slots and of their ranges, and for each of the moves, which are at most 256, as many steps
+    /// as there are moves.
     pub(crate) fn plan_page(&self, alloc: Global) -> Result<Page, PlanFault>
         requires made { 1 ≤ self.now.pages }
+        requires room { 1 ≤ self.now.spare }
         requires all { AreAllUsed self.now.slots }
         ensures page { IfOk result (λ page. NeedsPage self.now true (Some page.moves.items) × HoldsPage self.now (Some page)) }
         ensures ranged { IfOk result (IsRanged (self.now.pages + 1)) }

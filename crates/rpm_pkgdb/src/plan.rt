@@ -1,12 +1,13 @@
 //! Where a blob is to go, decided before anything is written.
 
-ghost use Rattle.std.specs.Prelude.{◌≡◌, ◌≢◌, ◌↔◌, ℕ, ◌+◌, ◌*◌, ◌^◌, ◌≤◌, ◌<◌, true, false, None, Err, length, MatchOption, IfSome, IsSome, OnOk, OnErr, IfOk, is_none};
+ghost use Rattle.std.specs.Prelude.{◌≡◌, ◌≢◌, ◌↔◌, ℕ, ◌+◌, ◌*◌, ◌^◌, ◌≤◌, ◌<◌, true, false, None, Some, Err, length, MatchOption, IfSome, IsSome, OnOk, OnErr, IfOk, is_none};
 ghost use Rattle.rpm_pkgdb.specs.Slots.{slot_at, slot_with, has_number};
 ghost use Rattle.rpm_pkgdb.specs.Maps.{IsPackageNumber};
 ghost use Rattle.rpm_pkgdb.specs.Store.{next_number};
 ghost use Rattle.rpm_pkgdb.specs.Written.{with_spare, next_field, field_after};
 ghost use Rattle.rpm_pkgdb.specs.Plans.{slot_for, IsFirstFree, AreAllUsed, IsLeast, FitsNowhere};
 ghost use Rattle.rpm_pkgdb.specs.Planned.{IsPlan, IsFor, IsFull};
+ghost use Rattle.rpm_pkgdb.specs.Placing.{placed, placement_of};
 ghost use Rattle.rpm_pkgdb.specs.Blobs.{blocks_for};
 ghost use Rattle.rpm_pkgdb.specs.inner.Puts.{IsTargetFor};
 ghost use Rattle.rpm_pkgdb.specs.inner.Keeping.{AreUsedTo};
@@ -130,6 +131,7 @@ impl PkgDb {
     /// Plans a blob into the first slot of a page more.
     fn plan_behind(&self, alloc: Global, number: u32, length: u32) -> Result<Plan, PlanFault>
         requires made { 1 ≤ self.now.pages }
+        requires room { 1 ≤ self.now.spare }
         requires all { AreAllUsed self.now.slots }
         requires next { number ≡ next_number self.now }
         requires number { IsPackageNumber number }
@@ -198,8 +200,9 @@ impl PkgDb {
     /// two binary searches, a step for each gap that is too narrow, and for a new number a step for each used slot from the last one put on.
     ///
     /// A new number for which no slot is free asks for a slot page more. The blobs in its way are planned to move behind it, by rising
-    /// block, each to the least free place; then the new blob. This takes a step a slot for each of them, which are at most 256, and a
-    /// copy of the slots and of their ranges, 44 bytes a slot, until the put.
+    /// block, each to the least free place; then the new blob. This takes a step a slot to find them and a copy of the slots and of their
+    /// ranges, 28 bytes a slot and 8 for each gap, until the put; and for each of them, which are at most 256, as many steps as there are
+    /// of them, and the ranges behind it move in memory. In a row of additions each so pays a 256th of it.
     ///
     /// # Errors
     ///
@@ -221,6 +224,8 @@ impl PkgDb {
         ensures spent { (result ≡ Err PlanFault.NumbersSpent) ↔ ((n ≡ None) × (next_number self.old ≡ 4294967295)) }
         ensures full { result ≡ Err PlanFault.StoreFull → IsFull self.old (is_none n) length }
         ensures fits { OnOk result (¬ IsFull self.old (is_none n) length) }
+        ensures placed { IfOk result (λ plan. placed n length self.old ≡ Some (placement_of plan)) }
+        ensures nowhere { result ≡ Err PlanFault.StoreFull → placed n length self.old ≡ None }
     {
         if self.is_spent(n) {
             return Err(PlanFault::NumbersSpent);

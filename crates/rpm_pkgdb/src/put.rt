@@ -17,6 +17,7 @@ ghost use Rattle.rpm_pkgdb.specs.Pairs.{find_in};
 ghost use Rattle.rpm_pkgdb.specs.Plans.{IsTarget};
 ghost use Rattle.rpm_pkgdb.specs.Growing.{grown, moving_cost};
 ghost use Rattle.rpm_pkgdb.specs.Planned.{IsPlan, HoldsPage, moves_of};
+ghost use Rattle.rpm_pkgdb.specs.Placing.{put_in, replaced_by};
 ghost use Rattle.rpm_pkgdb.specs.Freed.{AreFreed};
 ghost use Rattle.rpm_pkgdb.specs.Written.{with_blob, with_plan, PutsTo, stopped, with_spare, AreZeros};
 ghost use Rattle.rpm_pkgdb.specs.inner.MoveLists.{CanGrowBy};
@@ -165,6 +166,7 @@ impl PkgDb {
         requires length { plan.target.length ≡ length blob.now }
         ensures number { IfOk result (λ n. n ≡ plan.target.number) }
         ensures ok { OnOk result (self.new ≡ with_spare self.new.spare (with_plan plan self.old)) }
+        ensures placed { OnOk result (put_in (replaced_by plan.target) (length blob.now) self.old ≡ Some (with_spare self.old.spare self.new)) }
         ensures spare { OnOk result (self.old.spare ≡ self.new.spare + 1) }
         ensures err { OnErr result (self.new ≡ stopped self.old) }
         ensures kept { OnOk result (IsTrue D.tells → Keeps (D.files disk.new).pkg self.new) }

@@ -1,6 +1,6 @@
 -- A slot page that is planned.
-use Rattle.std.specs.Prelude.{◌≡◌, ℕ, ◌^◌, ◌<◌, ◌≤◌, List, length, true, Option, Some, None, ◌&&◌, nat_lt, if◌then◌else◌}
-use Rattle.std.specs.List.{sum_by}
+use Rattle.std.specs.Prelude.{◌≡◌, ℕ, ◌^◌, ◌<◌, ◌≤◌, List, length, true, Option, Some, None, Contains}
+use Rattle.rpm_pkgdb.specs.inner.Rows.{nth}
 use Rattle.rpm_pkgdb.specs.declared.slot.Slot.{Slot}
 use Rattle.rpm_pkgdb.specs.declared.page.Page.{Page}
 use Rattle.rpm_pkgdb.specs.Slots.{slot_at, is_used}
@@ -37,15 +37,18 @@ abbrev pub IsHere : List Slot → ℕ → ℕ → Option ℕ → Type 0
 IsHere slots end least None = least ≡ end
 IsHere slots end least (Some p) = (p < length slots) × (is_used (slot_at slots p) ≡ true) × ((slot_at slots p).offset ≡ least) × (least < end)
 
--- the first of the used ranges of the first so many slots that begins before a block
-pub record IsFirstSoFar (slots : List Slot) (end count : ℕ) (first : Option ℕ) (least : ℕ) : Type 0 where
+-- these places are of slots, and have that of each used slot of the first so many whose blocks begin before a block
+pub record HasPlacesSoFar (slots : List Slot) (end count : ℕ) (places : List ℕ) : Type 0 where
+  pub below : (i : ℕ) → i < length places → nth places i < length slots
+  pub all : (j : ℕ) → j < count → is_used (slot_at slots j) ≡ true → (slot_at slots j).offset < end → Contains places j
+
+-- of each
+pub record HasPlacesBefore (slots : List Slot) (end : ℕ) (places : List ℕ) : Type 0 where
+  pub below : (i : ℕ) → i < length places → nth places i < length slots
+  pub all : (j : ℕ) → is_used (slot_at slots j) ≡ true → (slot_at slots j).offset < end → Contains places j
+
+-- the first of the used ranges at the first so many of these places that begins before a block
+pub record IsFirstSoFar (slots : List Slot) (places : List ℕ) (end count : ℕ) (first : Option ℕ) (least : ℕ) : Type 0 where
   pub no_more : least ≤ end
-  pub low : (j : ℕ) → j < count → is_used (slot_at slots j) ≡ true → least ≤ (slot_at slots j).offset
+  pub low : (i : ℕ) → i < count → is_used (slot_at slots (nth places i)) ≡ true → least ≤ (slot_at slots (nth places i)).offset
   pub here : IsHere slots end least first
-
-abbrev pub one_before : ℕ → Slot → ℕ
-one_before end s = if is_used s && nat_lt s.offset end then 1 else 0
-
--- how many used ranges begin before this block
-unfoldable pub count_before : ℕ → List Slot → ℕ
-count_before end slots = sum_by (one_before end) slots

@@ -1,5 +1,5 @@
 use Rattle.rpm_pkgdb.specs.inner.Pages.{IsFirstSoFar}
 use Rattle.rpm_pkgdb.proofs.page.first_before.Given as goal
 
-abbrev pub invariant-loop-k : goal.invariant-loop-k
-invariant-loop-k l = IsFirstSoFar l.slots l.end l.k l.first l.least
+abbrev pub invariant-loop-i : goal.invariant-loop-i
+invariant-loop-i l = IsFirstSoFar l.slots l.places l.end l.i l.first l.least

@@ -1,21 +1,13 @@
-use Rattle.std.proofs.Common.{◌≡◌, ℕ, ◌+◌, ◌*◌, ◌<◌, List, length, ap, sym, subst, arith, Err}
+use Rattle.std.proofs.Common.{◌≡◌, ℕ, ◌+◌, ◌*◌, ◌<◌, List, ap, sym, subst, Err}
 use Rattle.rpm_pkgdb.specs.declared.slot.Slot.{Slot}
 use Rattle.rpm_pkgdb.specs.declared.plan.PlanFault.TheVariants.{StoreFull}
 use Rattle.rpm_pkgdb.specs.Store.{Store}
 use Rattle.rpm_pkgdb.specs.Growing.{next_end, AreBehind}
 use Rattle.rpm_pkgdb.specs.Planned.{CantMove}
-use Rattle.rpm_pkgdb.specs.inner.Pages.{IsFirstBefore, AllMoved, count_before}
-use Rattle.rpm_pkgdb.proofs.PageLaws.{cant_move, all_moved, fewer_before, page_count}
+use Rattle.rpm_pkgdb.specs.inner.Pages.{IsFirstBefore, AllMoved}
+use Rattle.rpm_pkgdb.specs.Placing.{count_before}
+use Rattle.rpm_pkgdb.proofs.PageLaws.{cant_move, all_moved, fewer_before}
 use Rattle.rpm_pkgdb.proofs.store.PkgDb.plan_moves.Goals as goal
-
-pub first_before-requires : goal.first_before-requires
-first_before-requires c =
-    let kept = c.self.invariant.kept in
-    let l = c.loop-place in
-    let same : length l.page.slots.items ≡ length c.args.self.now.slots = page_count c.args.self.now.slots (256 * (c.self.inside.pages + 1)) l.page
-    l.invariant.planning in
-    let view : length c.args.self.now.slots ≡ length c.self.inside.slots.items = ap (λ (v : Store). length v.slots) (sym c.self.view_is) in
-    omega (arith, c.deref-in-loop-place.ensures.len, same, view, kept.count, kept.limit)
 
 pub returns-in-Err-clause-full : goal.returns-in-Err-clause-full
 returns-in-Err-clause-full c = λ full.

@@ -11,6 +11,10 @@ use Rattle.rpm_pkgdb.specs.Freed.{AreFreed}
 use Rattle.rpm_pkgdb.specs.declared.moving.Move.{Move}
 use Rattle.rpm_pkgdb.specs.Growing.{pages_after}
 use Rattle.rpm_pkgdb.specs.Planned.{moves_of}
+use Rattle.std.specs.Option.{option_map}
+use Rattle.rpm_pkgdb.specs.Placing.{Placement, put_in, replaced_by, with_placed}
+use Rattle.rpm_pkgdb.specs.inner.Keeping.{IsKept}
+use Rattle.rpm_pkgdb.proofs.PlacedRules.{own_placed}
 use Rattle.rpm_pkgdb.proofs.ErasesTo.{stands_for}
 use Rattle.rpm_pkgdb.proofs.MoveSteps.{stands_for_same}
 use Rattle.rpm_pkgdb.proofs.store.PkgDb.put.Goals as goal
@@ -55,3 +59,15 @@ returns-clause-stands g c = λ told image here.
     stands_for_same _ _ new.generation new.field _ (blobs file new) image.pkg (sym (ap (λ (v : Store). v.generation) same))
     (sym (ap (λ (v : Store). v.field) same)) (sym (same_slots file (with_plan plan st) new (ap (λ (v : Store). v.slots) same)))
     (stands_for (with_plan plan st) file image.pkg some (c.in-Ok.ensures.kept told) (c.in-Ok.ensures.quiet told image here))
+
+pub returns-clause-placed : goal.returns-clause-placed
+returns-clause-placed g c =
+    let st = c.args.self.now in
+    let plan = c.args.plan in
+    let new = c.note_put.new.self in
+    let kept = subst (λ (x : Store). IsKept c.self.inside.numbers.pairs x.pages x.slots) c.self.view_is c.self.invariant.kept in
+    let same : new ≡ with_spare new.spare (with_plan plan st) =
+    c.note_put.ensures.value ∙ ap (λ (v : Store). with_spare new.spare (with_blob plan.target v)) c.note_page.ensures in
+    ap (λ (k : ℕ). put_in (replaced_by plan.target) k st) (sym c.requires.length)
+    ∙ ap (option_map (λ (p : Placement). with_placed p st)) (own_placed _ st kept c.requires.made plan c.requires.plan)
+    ∙ ap Some (sym (ap (with_spare st.spare) same))
