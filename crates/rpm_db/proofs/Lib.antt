@@ -18,6 +18,7 @@ pub mod Edited
 pub mod Unwritten
 pub mod Planning
 pub mod Refused
+pub mod Rooms
 pub mod Puts
 pub mod Applied
 pub mod Served

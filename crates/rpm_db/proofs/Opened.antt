@@ -6,17 +6,20 @@ use Rattle.rpm_outside.specs.declared.disk.File.{File}
 use Rattle.rpm_outside.specs.declared.disk.File.TheVariants.{Pkg}
 use Rattle.rpm_outside.specs.Files.{Units, Files, unit_at}
 use Rattle.rpm_outside.specs.Changes.{IsSettled}
+use Rattle.rpm_outside.specs.Looks.{Looks}
 use Rattle.rpm_pkgdb.specs.declared.slot.Damage.{Damage}
 use Rattle.rpm_pkgdb.specs.Quiet.{IsQuiet, StandsAs}
 use Rattle.rpm_pkgdb.specs.Store.{Store, store}
 use Rattle.rpm_pkgdb.specs.Store as pkgdb
 use Rattle.rpm_hindex.specs.Sizes.{units_for}
 use Rattle.rpm_hindex.specs.State as hindex
-use Rattle.rpm_db.specs.Lawful.{HasRows, IsLawful, Remade, is_current_at}
+use Rattle.rpm_db.specs.Lawful.{HasRows, IsLawful, Remade, StaysLawful, is_current_at}
 use Rattle.rpm_db.specs.Openings.{IsOpened, must_make, units_needed}
 use Rattle.rpm_db.specs.Rows.{rows}
 use Rattle.rpm_db.specs.Runs.{Runs}
 use Rattle.rpm_db.specs.State.{packages}
+use Rattle.rpm_db.specs.inner.LawfulLaws.{remade_none, stops_lawful}
+use Rattle.rpm_db.specs.inner.Running.{runs_looks}
 use Rattle.rpm_db.proofs.Making.{current_same}
 
 -- a made database, whose files were read and whose index may have been made since
@@ -79,3 +82,12 @@ module _ {D : Type 0} (tells : Bool) (files : D → Files) (left_since : D → �
       let s = quiet c.from c.was in
       subst (λ (u : Units). StandsAs value u image.pkg) (sym (run.reads_as told).pkg)
       (subst (StandsAs value (files a).pkg) (sym c.came.pkg) s)
+
+  -- reading Packages.db is such a run
+  pub runs_read : (most : ℕ) (a b : D) → Looks tells files left_since moment bytes_read follows Pkg most a b
+      → Runs tells files left_since moment bytes_read follows Remade a b
+  runs_read most a b looks = runs_looks tells files left_since moment bytes_read follows Remade remade_none Pkg most a b refl looks
+
+  -- and what stops leave of it is lawful, where the images at the start are
+  pub stays_lawful : (a b : D) → IsTrue tells → Runs tells files left_since moment bytes_read follows Remade a b → StaysLawful moment left_since a b
+  stays_lawful a b told run lawful = stops_lawful moment left_since a b lawful (run.any_moment told)

@@ -1,12 +1,16 @@
 -- An index that was made anew, as a value keeps it.
 use Rattle.std.proofs.Common.{◌≡◌, ℕ, Bool, true, Option, Some, None, is_some, sym, ap, ◌∙◌}
+use Rattle.rpm_outside.specs.declared.disk.File.TheVariants.{Pkg, Idx}
+use Rattle.rpm_outside.specs.Changes.{IsSettled}
 use Rattle.rpm_outside.specs.Files.{Units, Files}
 use Rattle.rpm_pkgdb.specs.Store.{Store, store}
 use Rattle.rpm_pkgdb.specs.Store as pkgdb
 use Rattle.rpm_hindex.specs.State as hindex
+use Rattle.rpm_db.specs.Changes.{IsServing}
 use Rattle.rpm_db.specs.Database.{KeepsUnits, IsInOrder, IsIndexed}
 use Rattle.rpm_db.specs.Lawful.{Remade, IsIndexOf, is_current_at}
 use Rattle.rpm_db.proofs.Making.{current_same, rows_of_index}
+use Rattle.rpm_db.proofs.Opened.{settled_quiet}
 
 kept_current : (g : ℕ) (idx : Units) (index : Option hindex.State) → is_some index ≡ true → IsInOrder g index → KeepsUnits idx index
     → is_current_at g idx ≡ true
@@ -29,4 +33,15 @@ pub indexed_now : (pkg idx : Units) (value : Store) (index : Option hindex.State
 indexed_now pkg idx value index stopped keeps some order kept is = record {
   current = kept_current value.generation idx index some order kept;
   rows_are = rows_of_index pkg idx value keeps is;
+}
+
+-- a settled store, whose index was made beside it, serves
+pub serving_now : (files : Files) (images : Files → Type 0) (value : Store) (index : Option hindex.State) (stopped : Bool) → pkgdb.Keeps files.pkg value
+    → KeepsUnits files.idx index → IsSettled Pkg files images → IsSettled Idx files images
+    → IsServing files images (record { store = value; index = index; stopped = stopped })
+serving_now files images value index stopped keeps kept pkg idx = record {
+  keeps = keeps;
+  index = kept;
+  quiet = settled_quiet value files images keeps pkg;
+  settled = idx;
 }

@@ -9,12 +9,14 @@ use Rattle.rpm_outside.specs.Files.{Files}
 use Rattle.rpm_outside.specs.inner.Moments.{leaves_then, leaves_weaker}
 use Rattle.rpm_pkgdb.specs.Quiet.{IsQuiet, StandsAs}
 use Rattle.rpm_pkgdb.specs.Store.{Store}
+use Rattle.rpm_pkgdb.specs.Written.{with_spare}
 use Rattle.rpm_db.specs.Changes.{IsChangedStill, IsBetween, Says}
 use Rattle.rpm_db.specs.Lawful.{IsLawful, AreLawful}
 use Rattle.rpm_db.specs.Runs.{Runs, CameOf}
 use Rattle.rpm_db.specs.State.{State}
 use Rattle.rpm_db.specs.inner.Running.{runs_then}
 use Rattle.rpm_db.specs.inner.Writes.{SameFiles, SameLog}
+use Rattle.rpm_db.proofs.Edited.{quiet_room}
 
 module _ (before after : State) where
   -- images of the start
@@ -77,6 +79,13 @@ module _ {D : Type 0} (tells : Bool) (files : D → Files) (left_since : D → �
       let c = run.now told image here in
       subst (λ (f : Files). StandsAs value f.pkg image.pkg) (sym (run.reads_as told))
       (subst (λ (f : Files). StandsAs value (files a).pkg f.pkg) (sym c.came) (quiet c.from c.was))
+
+  -- also a value that made room in memory
+  pub quiet_roomed : (a b : D) → IsTrue tells → Runs tells files left_since moment bytes_read follows SameFiles a b → (value new : Store)
+      → new ≡ with_spare new.spare value → IsQuiet value (files a) (images_at a) → IsQuiet new (files b) (images_at b)
+  quiet_roomed a b told run value new same quiet =
+      subst (λ (v : Store). IsQuiet v (files b) (images_at b)) (sym same)
+      (quiet_room new.spare value (files b) (images_at b) (quiet_same a b told run value quiet))
 
   -- and the index settled
   pub settled_same : (a b : D) → IsTrue tells → Runs tells files left_since moment bytes_read follows SameFiles a b → IsSettled Idx (files a) (images_at a)

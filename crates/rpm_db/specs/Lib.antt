@@ -6,6 +6,7 @@ pub mod Lawful
 pub mod Openings
 pub mod Rebuilds
 pub mod Refusals
+pub mod Room
 pub mod Rows
 pub mod Runs
 pub mod State

@@ -1,5 +1,5 @@
 -- What opening with an index answers.
-use Rattle.std.specs.Prelude.{◌≡◌, ℕ, ◌<◌, ◌≤◌, ◌^◌, Bool, ◌&&◌, true, false, not, ◌==◌, if◌then◌else◌, Result, Ok, Err, IfOk}
+use Rattle.std.specs.Prelude.{◌≡◌, ℕ, ◌+◌, ◌<◌, ◌≤◌, ◌^◌, Bool, ◌&&◌, true, false, not, ◌==◌, if◌then◌else◌, Result, Ok, Err, IfOk}
 use Rattle.rpm_outside.specs.Files.{Units, Files}
 use Rattle.rpm_pkgdb.specs.declared.slot.Damage.{Damage}
 use Rattle.rpm_pkgdb.specs.Costs as costs
@@ -60,6 +60,10 @@ WritesNothing making (Err NoMemory) = Unit {0}
 abbrev pub making_cost : Units → Result Store Damage → ℕ
 making_cost idx (Ok value) = if must_make idx (Ok value) then costs.cost_all value else 0
 making_cost idx (Err damage) = 0
+
+-- what opening reads at most of Packages.db
+abbrev pub OpeningReads : Files → ℕ → ℕ → Type 0
+OpeningReads files old new = new ≤ old + costs.opening_cost files.pkg + making_cost files.idx (store files.pkg)
 
 -- what opening answers of these files, and what it leaves
 pub record IsOpened (old new : Files) (result : Result Database DbOpenFault) : Type 0 where

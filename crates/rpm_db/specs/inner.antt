@@ -3,6 +3,7 @@ pub mod Above
 pub mod Laws
 pub mod LawfulLaws
 pub mod Own
+pub mod RoomLaws
 pub mod RowLaws
 pub mod Running
 pub mod Writes

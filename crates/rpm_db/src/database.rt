@@ -5,7 +5,6 @@ ghost use Rattle.std.specs.FinMap as finite;
 ghost use Rattle.rpm_outside.specs.Files.{Units};
 ghost use Rattle.rpm_outside.specs.Causes.{HasCauseAt};
 ghost use Rattle.rpm_outside.specs.Changes.{IsSettled};
-ghost use Rattle.rpm_outside.specs.Crash.{LeavesOnly};
 ghost use Rattle.rpm_outside.specs.declared.disk.File.TheVariants.{Pkg, Idx};
 ghost use Rattle.rpm_outside.specs.Looks.{Looks};
 ghost use Rattle.rpm_pkgdb.specs.Store.{store};
@@ -16,8 +15,8 @@ ghost use Rattle.rpm_pkgdb.specs.Quiet.{IsQuiet};
 ghost use Rattle.rpm_db.specs.Changes.{next};
 ghost use Rattle.rpm_db.specs.State.{state};
 ghost use Rattle.rpm_db.specs.Database.{Keeps, OpenIs, IsNext, holds, is_blank, is_indexed, next_number};
-ghost use Rattle.rpm_db.specs.Lawful.{AreLawful, IsLawfulStill, Remade};
-ghost use Rattle.rpm_db.specs.Openings.{IsOpened, StoreIs, making_cost};
+ghost use Rattle.rpm_db.specs.Lawful.{Remade, StaysLawful};
+ghost use Rattle.rpm_db.specs.Openings.{IsOpened, OpeningReads, StoreIs};
 ghost use Rattle.rpm_db.specs.Runs.{Runs};
 
 use crate::indexing::{index_for, settle};
@@ -37,13 +36,13 @@ pub struct Db {
 }
 
 impl Model for Db {
-    ghost use Rattle.rpm_db.specs.Database.{Database, IsFit};
+    ghost use Rattle.rpm_db.specs.Database.{Database, IsConsistent};
 
     ghost Value = { Database };
 
     ghost view = { λ s. record { store = s.store; index = s.index; stopped = s.is_stopped } };
 
-    ghost invariant = { λ s. IsFit s.store s.index s.is_stopped };
+    ghost invariant = { λ s. IsConsistent s.store s.index s.is_stopped };
 }
 
 /// The store, as it is opened for a database.
@@ -65,58 +64,11 @@ fn open_store<D: Disk>(alloc: Global, disk: &mut D) -> Result<PkgDb, DbOpenFault
     }
 }
 
-/// A value over settled files.
-fn open_settled<D: Disk>(alloc: Global, disk: &mut D) -> Result<Db, DbOpenFault>
-    requires pkg { IsTrue D.tells → IsSettled Pkg (D.files disk.old) (D.left_since disk.old (D.moment disk.old)) }
-    requires idx { IsTrue D.tells → IsSettled Idx (D.files disk.old) (D.left_since disk.old (D.moment disk.old)) }
-    ensures opened { IsTrue D.tells → IsOpened (D.files disk.old) (D.files disk.new) result }
-    ensures from_one { IfOk result (λ db. holds 0 db ≡ false) }
-    ensures indexed { IfOk result (λ db. is_indexed db ≡ not (is_blank db)) }
-    ensures going { IfOk result (λ db. db.stopped ≡ false) }
-    ensures quiet { IfOk result (λ db. IsTrue D.tells → IsQuiet db.store (D.files disk.new) (D.left_since disk.new (D.moment disk.new))) }
-    ensures durable { IfOk result (λ _db. IsTrue D.tells → IsSettled Pkg (D.files disk.new) (D.left_since disk.new (D.moment disk.new))) }
-    ensures settled { IfOk result (λ _db. IsTrue D.tells → IsSettled Idx (D.files disk.new) (D.left_since disk.new (D.moment disk.new))) }
-    ensures reads { IsTrue D.tells → D.bytes_read disk.new File.Pkg ≤ D.bytes_read disk.old File.Pkg + opening_cost (D.files disk.old).pkg
-        + making_cost (D.files disk.old).idx (store (D.files disk.old).pkg) }
-    ensures units { D.bytes_read disk.new File.Idx ≤ D.bytes_read disk.old File.Idx + 32 }
-    ensures runs { Runs D.tells D.files D.left_since D.moment D.bytes_read D.follows Remade disk.old disk.new }
-    ensures cause { HasCauseAt (result ≡ Err DbOpenFault.DiskFault) (D.faults disk.old) (D.faults disk.new) }
-{
-    let store = match open_store(alloc, disk) {
-        Ok(store) => store,
-        Err(fault) => return Err(fault),
-    };
-    if store.is_blank() {
-        return Ok(Db {
-            store,
-            index: None,
-            is_stopped: false,
-        });
-    }
-    match index_for(alloc, disk, &store) {
-        Ok(index) => Ok(Db {
-            store,
-            index: Some(index),
-            is_stopped: false,
-        }),
-        Err(fault) => Err(fault),
-    }
-}
-
 impl Db {
     /// Settles both files, and opens the database with its index, which is made from the packages where it isn't current. A database
     /// that is blank is opened without an index, and nothing is written.
     ///
-    /// Reads the slot pages of `Packages.db`, each byte once, and two units of `Hindex.db`; and where the index must be made the blocks of
-    /// each package, each once. All memory is taken before the first write. A stop at any moment leaves the packages as they were, and an
-    /// index that is as it was, void, or current with the rows of the packages.
-    ///
-    /// # Errors
-    ///
-    /// - `Damaged` exactly where the file isn't a store: its first damage.
-    /// - `IndexFull` exactly where the index has to be made and needs more than 268435456 units.
-    /// - `DiskFault` only where the disk's count of faults rose.
-    /// - `NoMemory` where there is none for the slots, a package or the rows. After each but `DiskFault` the files are as they were.
+    /// Beside the two syncs it does what `open_settled` does, and answers what that answers.
     pub fn open<D: Disk>(alloc: Global, disk: &mut D) -> Result<Db, DbOpenFault>
         ensures opened { IsTrue D.tells → IsOpened (D.files disk.old) (D.files disk.new) result }
         ensures from_one { IfOk result (λ db. holds 0 db ≡ false) }
@@ -125,17 +77,65 @@ impl Db {
         ensures quiet { IfOk result (λ db. IsTrue D.tells → IsQuiet db.store (D.files disk.new) (D.left_since disk.new (D.moment disk.new))) }
         ensures durable { IfOk result (λ _db. IsTrue D.tells → IsSettled Pkg (D.files disk.new) (D.left_since disk.new (D.moment disk.new))) }
         ensures settled { IfOk result (λ _db. IsTrue D.tells → IsSettled Idx (D.files disk.new) (D.left_since disk.new (D.moment disk.new))) }
-        ensures stops { IsTrue D.tells → AreLawful (D.left_since disk.old (D.moment disk.old)) → LeavesOnly D.moment D.left_since disk.old disk.new
-            (IsLawfulStill (D.left_since disk.old (D.moment disk.old))) }
-        ensures reads { IsTrue D.tells → D.bytes_read disk.new File.Pkg ≤ D.bytes_read disk.old File.Pkg + opening_cost (D.files disk.old).pkg
-            + making_cost (D.files disk.old).idx (store (D.files disk.old).pkg) }
+        ensures stops { IsTrue D.tells → StaysLawful D.moment D.left_since disk.old disk.new }
+        ensures reads { IsTrue D.tells → OpeningReads (D.files disk.old) (D.bytes_read disk.old File.Pkg) (D.bytes_read disk.new File.Pkg) }
         ensures units { D.bytes_read disk.new File.Idx ≤ D.bytes_read disk.old File.Idx + 32 }
         ensures runs { Runs D.tells D.files D.left_since D.moment D.bytes_read D.follows Remade disk.old disk.new }
         ensures cause { HasCauseAt (result ≡ Err DbOpenFault.DiskFault) (D.faults disk.old) (D.faults disk.new) }
     {
         match settle(disk) {
-            Ok(()) => open_settled(alloc, disk),
+            Ok(()) => Db::open_settled(alloc, disk),
             Err(_) => Err(DbOpenFault::DiskFault),
+        }
+    }
+
+    /// Opens the database with its index on files that are settled already, as `rpm_group::recover` leaves them: the index is made from the
+    /// packages where it isn't current. A database that is blank is opened without an index, and nothing is written.
+    ///
+    /// No file is settled but an index that is made. Reads the slot pages of `Packages.db`, each byte once, and two units of `Hindex.db`;
+    /// and where the index must be made the blocks of each package, each once. All memory is taken before the first write. A stop at any
+    /// moment leaves the packages as they were, and an index that is as it was, void, or current with the rows of the packages.
+    ///
+    /// # Errors
+    ///
+    /// - `Damaged` exactly where the file isn't a store: its first damage.
+    /// - `IndexFull` exactly where the index has to be made and needs more than 268435456 units.
+    /// - `DiskFault` only where the disk's count of faults rose.
+    /// - `NoMemory` where there is none for the slots, a package or the rows. After each but `DiskFault` the files are as they were.
+    pub fn open_settled<D: Disk>(alloc: Global, disk: &mut D) -> Result<Db, DbOpenFault>
+        requires pkg { IsTrue D.tells → IsSettled Pkg (D.files disk.old) (D.left_since disk.old (D.moment disk.old)) }
+        requires idx { IsTrue D.tells → IsSettled Idx (D.files disk.old) (D.left_since disk.old (D.moment disk.old)) }
+        ensures opened { IsTrue D.tells → IsOpened (D.files disk.old) (D.files disk.new) result }
+        ensures from_one { IfOk result (λ db. holds 0 db ≡ false) }
+        ensures indexed { IfOk result (λ db. is_indexed db ≡ not (is_blank db)) }
+        ensures going { IfOk result (λ db. db.stopped ≡ false) }
+        ensures quiet { IfOk result (λ db. IsTrue D.tells → IsQuiet db.store (D.files disk.new) (D.left_since disk.new (D.moment disk.new))) }
+        ensures durable { IfOk result (λ _db. IsTrue D.tells → IsSettled Pkg (D.files disk.new) (D.left_since disk.new (D.moment disk.new))) }
+        ensures settled { IfOk result (λ _db. IsTrue D.tells → IsSettled Idx (D.files disk.new) (D.left_since disk.new (D.moment disk.new))) }
+        ensures stops { IsTrue D.tells → StaysLawful D.moment D.left_since disk.old disk.new }
+        ensures reads { IsTrue D.tells → OpeningReads (D.files disk.old) (D.bytes_read disk.old File.Pkg) (D.bytes_read disk.new File.Pkg) }
+        ensures units { D.bytes_read disk.new File.Idx ≤ D.bytes_read disk.old File.Idx + 32 }
+        ensures runs { Runs D.tells D.files D.left_since D.moment D.bytes_read D.follows Remade disk.old disk.new }
+        ensures cause { HasCauseAt (result ≡ Err DbOpenFault.DiskFault) (D.faults disk.old) (D.faults disk.new) }
+    {
+        let store = match open_store(alloc, disk) {
+            Ok(store) => store,
+            Err(fault) => return Err(fault),
+        };
+        if store.is_blank() {
+            return Ok(Db {
+                store,
+                index: None,
+                is_stopped: false,
+            });
+        }
+        match index_for(alloc, disk, &store) {
+            Ok(index) => Ok(Db {
+                store,
+                index: Some(index),
+                is_stopped: false,
+            }),
+            Err(fault) => Err(fault),
         }
     }
 
@@ -195,6 +195,14 @@ impl Db {
         ensures told { (file : Units) → result ≡ next (state file self.now.store) }
     {
         self.store.next_number()
+    }
+
+    /// Whether a package has this number, Good or Bad. Reads nothing, and takes log n steps.
+    pub fn holds(&self, n: u32) -> bool
+        ensures held { result ≡ holds n self.now }
+        ensures told { (file : Units) → result ≡ is_some (finite.get (state file self.now.store).packages n) }
+    {
+        self.store.holds(n)
     }
 
     /// The least number above this one that a package has, Good or Bad; `None` where there is none. Takes log n steps.

@@ -12,6 +12,7 @@ ghost use Rattle.rpm_db.specs.Changes.{Add, Put, Erase, apply, AllSay, IsChanged
 ghost use Rattle.rpm_db.specs.Database.{IsIndexed, holds, is_indexed, next_number, cost};
 ghost use Rattle.rpm_db.specs.Lawful.{AreLawful};
 ghost use Rattle.rpm_db.specs.Refusals.{LaterIs, AddIs, PutIs, EraseIs, FullIndexIs, BadIndexIs, IsRefusal, is_stopping};
+ghost use Rattle.rpm_db.specs.Room.{RoomIs, next_store};
 ghost use Rattle.rpm_db.specs.Rows.{rows};
 ghost use Rattle.rpm_db.specs.Runs.{Runs};
 ghost use Rattle.rpm_db.specs.State.{state};
@@ -47,11 +48,13 @@ impl Db {
         requires own { header view.now.blob ≡ Ok view.now }
         requires serving { IsTrue D.tells → IsServing (D.files disk.old) (D.left_since disk.old (D.moment disk.old)) self.old }
         ensures later { LaterIs self.old.store.generation (IsFull self.old.store (is_none n) (length view.now.blob)) result }
+        ensures placed { RoomIs (next_store (change_for n view.now.blob) self.old.store) self.old.store self.new.store result }
         ensures number { IfOk result (λ m. m ≡ number_for n self.old.store) }
         ensures state { OnOk result (IsTrue D.tells → state (D.files disk.new).pkg self.new.store ≡ apply (change_for n view.now.blob)
             (state (D.files disk.old).pkg self.old.store)) }
         ensures held { OnOk result (IsTrue D.tells → AllSay (apply (change_for n view.now.blob) (state (D.files disk.old).pkg self.old.store))
             (D.left_since disk.new (D.moment disk.new))) }
+        ensures generation { OnOk result (self.new.store.generation ≡ self.old.store.generation + 1) }
         ensures indexed { is_indexed self.new ≡ true }
         ensures index { OnOk result (IsTrue D.tells → IsIndexed (D.files disk.old).pkg (D.files disk.old).idx self.old → IsIndexed (D.files disk.new).pkg
             (D.files disk.new).idx self.new) }
@@ -112,11 +115,13 @@ impl Db {
         requires indexed { is_indexed self.old ≡ true }
         requires serving { self.old.stopped ≡ false → IsTrue D.tells → IsServing (D.files disk.old) (D.left_since disk.old (D.moment disk.old)) self.old }
         ensures causes { AddIs self.old blob.now result }
+        ensures placed { (h : Header) → header blob.now ≡ Ok h → RoomIs (next_store (Add h.blob) self.old.store) self.old.store self.new.store result }
         ensures number { IfOk result (λ n. n ≡ next_number self.old) }
         ensures state { OnOk result (IsTrue D.tells → (h : Header) → header blob.now ≡ Ok h → state (D.files disk.new).pkg self.new.store ≡ apply
             (Add h.blob) (state (D.files disk.old).pkg self.old.store)) }
         ensures held { OnOk result (IsTrue D.tells → (h : Header) → header blob.now ≡ Ok h → AllSay (apply (Add h.blob)
             (state (D.files disk.old).pkg self.old.store)) (D.left_since disk.new (D.moment disk.new))) }
+        ensures generation { OnOk result (self.new.store.generation ≡ self.old.store.generation + 1) }
         ensures indexed { is_indexed self.new ≡ true }
         ensures index { OnOk result (IsTrue D.tells → IsIndexed (D.files disk.old).pkg (D.files disk.old).idx self.old → IsIndexed (D.files disk.new).pkg
             (D.files disk.new).idx self.new) }
@@ -179,10 +184,12 @@ impl Db {
         requires indexed { is_indexed self.old ≡ true }
         requires serving { self.old.stopped ≡ false → IsTrue D.tells → IsServing (D.files disk.old) (D.left_since disk.old (D.moment disk.old)) self.old }
         ensures causes { PutIs self.old n blob.now result }
+        ensures placed { (h : Header) → header blob.now ≡ Ok h → RoomIs (next_store (Put n h.blob) self.old.store) self.old.store self.new.store result }
         ensures state { OnOk result (IsTrue D.tells → (h : Header) → header blob.now ≡ Ok h → state (D.files disk.new).pkg self.new.store ≡ apply
             (Put n h.blob) (state (D.files disk.old).pkg self.old.store)) }
         ensures held { OnOk result (IsTrue D.tells → (h : Header) → header blob.now ≡ Ok h → AllSay (apply (Put n h.blob)
             (state (D.files disk.old).pkg self.old.store)) (D.left_since disk.new (D.moment disk.new))) }
+        ensures generation { OnOk result (self.new.store.generation ≡ self.old.store.generation + 1) }
         ensures indexed { is_indexed self.new ≡ true }
         ensures index { OnOk result (IsTrue D.tells → IsIndexed (D.files disk.old).pkg (D.files disk.old).idx self.old → IsIndexed (D.files disk.new).pkg
             (D.files disk.new).idx self.new) }
@@ -240,10 +247,12 @@ impl Db {
         requires indexed { is_indexed self.old ≡ true }
         requires serving { self.old.stopped ≡ false → IsTrue D.tells → IsServing (D.files disk.old) (D.left_since disk.old (D.moment disk.old)) self.old }
         ensures causes { EraseIs self.old n result }
+        ensures placed { RoomIs (next_store (Erase n) self.old.store) self.old.store self.new.store result }
         ensures state { OnOk result (IsTrue D.tells → state (D.files disk.new).pkg self.new.store ≡ apply
             (Erase n) (state (D.files disk.old).pkg self.old.store)) }
         ensures held { OnOk result (IsTrue D.tells → AllSay (apply (Erase n) (state (D.files disk.old).pkg self.old.store))
             (D.left_since disk.new (D.moment disk.new))) }
+        ensures generation { OnOk result (self.new.store.generation ≡ self.old.store.generation + 1) }
         ensures indexed { is_indexed self.new ≡ true }
         ensures index { OnOk result (IsTrue D.tells → IsIndexed (D.files disk.old).pkg (D.files disk.old).idx self.old → IsIndexed (D.files disk.new).pkg
             (D.files disk.new).idx self.new) }

@@ -16,10 +16,10 @@ const PAGE: u64 = 4096;
 
 const BLOCKS: u64 = 1168;
 
-// The index that opening makes of the seven packages.
+// The index that opening makes of the seven packages, on a new disk, which is settled.
 fn made_index(alloc: Global) -> Result<Vec<u8>, AllocError> {
     let mut disk = MemDisk::new(alloc, &file(alloc)?, &[], &[])?;
-    match Db::open(alloc, &mut disk) {
+    match Db::open_settled(alloc, &mut disk) {
         Ok(_) => disk.copy_file(alloc, File::Idx),
         Err(_) => Err(AllocError),
     }

@@ -10,17 +10,19 @@ ghost use Rattle.rpm_outside.specs.Files.{Files};
 ghost use Rattle.rpm_outside.specs.declared.disk.File.TheVariants.{Pkg, Idx};
 ghost use Rattle.rpm_pkgdb.specs.Blobs.{blobs};
 ghost use Rattle.rpm_pkgdb.specs.Costs.{cost};
+ghost use Rattle.rpm_pkgdb.specs.Placing.{placed, placement_of, put_in};
 ghost use Rattle.rpm_pkgdb.specs.Planned.{IsFull, IsPlan, IsFor};
 ghost use Rattle.rpm_pkgdb.specs.Quiet.{IsQuiet, StandsFor};
 ghost use Rattle.rpm_pkgdb.specs.Slots.{slot_with};
 ghost use Rattle.rpm_pkgdb.specs.Store.{Keeps, next_number};
-ghost use Rattle.rpm_pkgdb.specs.Written.{with_spare};
+ghost use Rattle.rpm_pkgdb.specs.Written.{erased, with_spare};
 ghost use Rattle.rpm_hindex.specs.Plans.{CanWrite, LeavesOrder};
 ghost use Rattle.rpm_hindex.specs.Sizes.{units_for};
 ghost use Rattle.rpm_hindex.specs.State as hindex;
 ghost use Rattle.rpm_db.specs.Changes.{IsChangedStill, ReadsAtMost};
 ghost use Rattle.rpm_db.specs.Lawful.{HasRows, AreLawful};
 ghost use Rattle.rpm_db.specs.Refusals.{LaterIs, FullIndexIs, BadIndexIs, IsRefusal};
+ghost use Rattle.rpm_db.specs.Room.{RoomCause, RoomIs, raised};
 ghost use Rattle.rpm_db.specs.Rows.{rows};
 ghost use Rattle.rpm_db.specs.Runs.{Runs};
 ghost use Rattle.rpm_db.specs.State.{packages, state};
@@ -64,6 +66,8 @@ fn plan_put<D: Disk>(
     ensures later { LaterIs store.old.generation (IsFull store.old (is_none n) (length view.now.blob)) result }
     ensures left { OnOk result (store.old.generation < 4294967295) }
     ensures room { OnOk result (1 ≤ store.new.spare) }
+    ensures placed { IfOk result (λ planned. placed n (length view.now.blob) store.old ≡ Some (placement_of planned.0)) }
+    ensures nowhere { IfErr result (RoomCause (placed n (length view.now.blob) store.old)) }
     ensures plan { IfOk result (λ planned. IsPlan store.new planned.0) }
     ensures asked { IfOk result (λ planned. IsFor n (length view.now.blob) planned.0) }
     ensures can { IfOk result (λ planned. CanWrite index.now.units planned.1.work) }
@@ -114,8 +118,10 @@ pub fn put_header<D: Disk>(
     requires quiet { IsTrue D.tells → IsQuiet store.old (D.files disk.old) (D.left_since disk.old (D.moment disk.old)) }
     requires settled { IsTrue D.tells → IsSettled Idx (D.files disk.old) (D.left_since disk.old (D.moment disk.old)) }
     ensures later { LaterIs store.old.generation (IsFull store.old (is_none n) (length view.now.blob)) result }
+    ensures placed { RoomIs (put_in n (length view.now.blob) (raised store.old)) store.old store.new result }
     ensures number { IfOk result (λ m. m ≡ number_for n store.old) }
     ensures going { OnOk result (store.new.is_stopped ≡ false) }
+    ensures generation { OnOk result (store.new.generation ≡ store.old.generation + 1) }
     ensures made { 1 ≤ store.new.pages }
     ensures from_one { slot_with 0 store.new.slots ≡ None }
     ensures current { OnOk result (hindex.is_current store.new.generation index.new ≡ true) }
@@ -170,7 +176,9 @@ pub fn erase_number<D: Disk>(
     requires quiet { IsTrue D.tells → IsQuiet store.old (D.files disk.old) (D.left_since disk.old (D.moment disk.old)) }
     requires settled { IsTrue D.tells → IsSettled Idx (D.files disk.old) (D.left_since disk.old (D.moment disk.old)) }
     ensures later { LaterIs store.old.generation ⊥ result }
+    ensures ok { OnOk result (store.new ≡ erased n (raised store.old)) }
     ensures going { OnOk result (store.new.is_stopped ≡ false) }
+    ensures generation { OnOk result (store.new.generation ≡ store.old.generation + 1) }
     ensures made { 1 ≤ store.new.pages }
     ensures from_one { slot_with 0 store.new.slots ≡ None }
     ensures current { OnOk result (hindex.is_current store.new.generation index.new ≡ true) }

@@ -3,15 +3,15 @@
 ghost use Rattle.std.specs.Prelude.{◌≡◌, ◌⊎◌, ℕ, ◌+◌, ◌≤◌, IsTrue, true, false, is_some, None, Err, OnOk, IfErr};
 ghost use Rattle.rpm_outside.specs.Causes.{HasCauseAt};
 ghost use Rattle.rpm_outside.specs.Changes.{IsSettled};
-ghost use Rattle.rpm_outside.specs.Crash.{LeavesOnly};
 ghost use Rattle.rpm_outside.specs.declared.disk.File.TheVariants.{Pkg, Idx};
 ghost use Rattle.rpm_pkgdb.specs.Costs as costs;
 ghost use Rattle.rpm_pkgdb.specs.Slots.{slot_with};
 ghost use Rattle.rpm_pkgdb.specs.Store as pkgdb;
 ghost use Rattle.rpm_hindex.specs.Rewrites.{IsRefused};
 ghost use Rattle.rpm_hindex.specs.Sizes.{units_for};
+ghost use Rattle.rpm_db.specs.Changes.{IsServing};
 ghost use Rattle.rpm_db.specs.Database.{Keeps, KeepsIndex, KeepsUnits, IsInOrder, IsIndexed, is_indexed, cost_all};
-ghost use Rattle.rpm_db.specs.Lawful.{AreLawful, IsIndexOf, IsLawfulStill, Remade};
+ghost use Rattle.rpm_db.specs.Lawful.{IsIndexOf, Remade, StaysLawful};
 ghost use Rattle.rpm_db.specs.Openings.{FullIs};
 ghost use Rattle.rpm_db.specs.Rebuilds.{IsRebuilt, RebuildIs};
 ghost use Rattle.rpm_db.specs.Rows.{rows};
@@ -63,7 +63,8 @@ impl Db {
     /// Makes the index from the packages, whatever it was, and seals it at the present generation.
     ///
     /// Settles both files first, and reads the blocks of each package once. All memory is taken before the first write. A stop at any moment
-    /// leaves the packages as they were, and an index that is as it was, void, or current with the rows of the packages.
+    /// leaves the packages as they were, and an index that is as it was, void, or current with the rows of the packages. Then the value
+    /// serves: it can be changed.
     ///
     /// # Errors
     ///
@@ -78,13 +79,15 @@ impl Db {
         ensures causes { RebuildIs self.old result }
         ensures rebuilt { IsTrue D.tells → IsRebuilt (D.files disk.old) (D.files disk.new) self.old self.new result }
         ensures store { self.new.store ≡ self.old.store }
+        ensures generation { self.new.store.generation ≡ self.old.store.generation }
         ensures indexed { is_indexed self.new ≡ true }
         ensures stopped { (self.new.stopped ≡ true → (self.old.stopped ≡ true) ⊎ (result ≡ Err ChangeFault.DiskFault))
             × (result ≡ Err ChangeFault.DiskFault → self.new.stopped ≡ true) }
         ensures pkg { OnOk result (IsTrue D.tells → IsSettled Pkg (D.files disk.new) (D.left_since disk.new (D.moment disk.new))) }
         ensures settled { OnOk result (IsTrue D.tells → IsSettled Idx (D.files disk.new) (D.left_since disk.new (D.moment disk.new))) }
-        ensures stops { IsTrue D.tells → AreLawful (D.left_since disk.old (D.moment disk.old)) → LeavesOnly D.moment D.left_since disk.old disk.new
-            (IsLawfulStill (D.left_since disk.old (D.moment disk.old))) }
+        ensures going { OnOk result (self.new.stopped ≡ false) }
+        ensures serving { OnOk result (IsTrue D.tells → IsServing (D.files disk.new) (D.left_since disk.new (D.moment disk.new)) self.new) }
+        ensures stops { IsTrue D.tells → StaysLawful D.moment D.left_since disk.old disk.new }
         ensures reads { D.bytes_read disk.new Pkg ≤ D.bytes_read disk.old Pkg + cost_all self.old }
         ensures unread { D.bytes_read disk.new Idx ≤ D.bytes_read disk.old Idx }
         ensures runs { Runs D.tells D.files D.left_since D.moment D.bytes_read D.follows Remade disk.old disk.new }

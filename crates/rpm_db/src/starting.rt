@@ -111,6 +111,7 @@ impl Db {
             (D.left_since disk.old (D.moment disk.old)) }
         ensures made { IfOk result (λ made. made ≡ is_blank self.old) }
         ensures done { result ≡ Ok true → (self.new.store ≡ made_new self.old.store) × (is_indexed self.new ≡ true) × (self.new.stopped ≡ false) }
+        ensures generation { result ≡ Ok true → self.new.store.generation ≡ 1 }
         ensures same { result ≡ Ok false → (self.new ≡ self.old) × (disk.new ≡ disk.old) }
         ensures kept { result ≡ Ok true → IsTrue D.tells → Keeps (D.files disk.new).pkg self.new × KeepsIndex (D.files disk.new).idx self.new }
         ensures index { result ≡ Ok true → IsTrue D.tells → IsIndexed (D.files disk.new).pkg (D.files disk.new).idx self.new }

@@ -1,15 +1,17 @@
-use Rattle.std.proofs.Common.{◌≡◌, ℕ, List, length, is_none, Some, Ok, Err, sym, ap, subst, arith}
+use Rattle.std.proofs.Common.{◌≡◌, ℕ, List, length, is_none, Some, None, Ok, Err, sym, ap, subst, arith}
 use Rattle.std.proofs.lemmas.Bool.Decides.{nat_tests}
 use Rattle.std.specs.FinMap as finite
 use Rattle.std.specs.Ordering.{nat_cmp}
 use Rattle.rpm_header.specs.Header.{header}
 use Rattle.rpm_pkgdb.specs.Blobs.{blobs}
+use Rattle.rpm_pkgdb.specs.Placing.{placed, placement_of}
 use Rattle.rpm_pkgdb.specs.Planned.{IsFull}
 use Rattle.rpm_db.specs.Lawful.{HasRows}
 use Rattle.rpm_db.specs.State.{Package}
 use Rattle.rpm_db.specs.inner.Writes.{packages_of, number_for}
 use Rattle.rpm_db.proofs.Puts.{packages_same, rows_planned}
 use Rattle.rpm_db.proofs.Refused.{later_of_index}
+use Rattle.rpm_db.proofs.Rooms.{room_of_index}
 use Rattle.rpm_db.proofs.putting.plan_put.Goals as goal
 
 pub returns-in-Err-StoreFull-clause-later : goal.returns-in-Err-StoreFull-clause-later
@@ -18,6 +20,20 @@ returns-in-Err-StoreFull-clause-later g c = (
   subst (λ (bs : List ℕ). IsFull c.args.store.now (is_none c.args.n) (length bs)) c.blob.ensures.value
       (c.in-Err-StoreFull.ensures.full (ap Err c.in-Err-StoreFull.field-0-is)),
 )
+
+pub returns-in-Err-StoreFull-clause-nowhere : goal.returns-in-Err-StoreFull-clause-nowhere
+returns-in-Err-StoreFull-clause-nowhere g c =
+    subst (λ (bs : List ℕ). placed c.args.n (length bs) c.args.store.now ≡ None) c.blob.ensures.value
+    (c.in-Err-StoreFull.ensures.nowhere (ap Err c.in-Err-StoreFull.field-0-is))
+
+pub returns-in-Ok-prepare_put-clause-placed : goal.returns-in-Ok-prepare_put-clause-placed
+returns-in-Ok-prepare_put-clause-placed g c =
+    subst (λ (bs : List ℕ). placed c.args.n (length bs) c.args.store.now ≡ Some (placement_of c.in-Ok.plan)) c.blob.ensures.value c.in-Ok.ensures.placed
+
+pub returns-in-Err-clause-nowhere : goal.returns-in-Err-clause-nowhere
+returns-in-Err-clause-nowhere g c =
+    room_of_index (placed c.args.n (length c.args.view.now.blob) c.args.store.now) (placement_of c.in-Ok.plan) c.in-Err.fault c.in-Err.ensures.kinds
+    (subst (λ (bs : List ℕ). placed c.args.n (length bs) c.args.store.now ≡ Some (placement_of c.in-Ok.plan)) c.blob.ensures.value c.in-Ok.ensures.placed)
 
 pub returns-in-Ok-prepare_put-clause-later : goal.returns-in-Ok-prepare_put-clause-later
 returns-in-Ok-prepare_put-clause-later g c = (

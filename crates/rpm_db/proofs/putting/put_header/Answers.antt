@@ -1,16 +1,14 @@
-use Rattle.std.proofs.Common.{length, sym, ap, ◌∙◌, subst, arith}
+use Rattle.std.proofs.Common.{◌+◌, length, sym, ap, ◌∙◌, subst, arith}
 use Rattle.rpm_outside.specs.Files.{Files}
-use Rattle.rpm_pkgdb.specs.Quiet.{IsQuiet}
 use Rattle.rpm_pkgdb.specs.Slots.{slot_with}
 use Rattle.rpm_pkgdb.specs.Store.{Store, store}
 use Rattle.rpm_pkgdb.specs.Store as pkgdb
 use Rattle.rpm_hindex.specs.State as hindex
-use Rattle.rpm_hindex.specs.State.{is_current}
-use Rattle.rpm_db.proofs.Edited.{quiet_room}
 use Rattle.rpm_db.proofs.Found.{current_in_order}
 use Rattle.rpm_db.proofs.Planning.{number_put, reads_of_put, state_put, rows_put, stops_put}
 use Rattle.rpm_db.proofs.Puts.{reads_planned}
-use Rattle.rpm_db.proofs.Unwritten.{quiet_same, settled_same, log_same, log_then, stops_refused}
+use Rattle.rpm_db.proofs.Rooms.{put_placed, room_put}
+use Rattle.rpm_db.proofs.Unwritten.{quiet_roomed, settled_same, log_same, log_then, stops_refused}
 use Rattle.rpm_db.proofs.putting.put_header.Goals as goal
 
 -- ---- what the write asks for
@@ -40,16 +38,11 @@ write_put-requires-clause-units g c = λ told.
     subst (λ (f : Files). hindex.Keeps f.idx c.args.index.now) (sym (c.in-Ok.ensures.runs.reads_as told)) (c.requires.units told)
 
 pub write_put-requires-clause-order : goal.write_put-requires-clause-order
-write_put-requires-clause-order g c = ap (λ (v : Store). is_current v.generation c.args.index.now) c.in-Ok.ensures.value ∙ c.requires.order
+write_put-requires-clause-order g c = ap (λ (v : Store). hindex.is_current v.generation c.args.index.now) c.in-Ok.ensures.value ∙ c.requires.order
 
 pub write_put-requires-clause-quiet : goal.write_put-requires-clause-quiet
 write_put-requires-clause-quiet g c = λ told.
-    let st = c.args.store.now in
-    let a = c.args.disk.now in
-    let e = c.in-Ok.ensures in
-    quiet_same _ _ _ _ _ _ _ _ told e.runs c.plan_put.new.store
-    (subst (λ (v : Store). IsQuiet v (g.D.Disk.files a) (g.D.Disk.left_since a (g.D.Disk.moment a))) (sym e.value)
-    (quiet_room c.plan_put.new.store.spare st (g.D.Disk.files a) (g.D.Disk.left_since a (g.D.Disk.moment a)) (c.requires.quiet told)))
+    quiet_roomed _ _ _ _ _ _ _ _ told c.in-Ok.ensures.runs c.args.store.now c.plan_put.new.store c.in-Ok.ensures.value (c.requires.quiet told)
 
 pub write_put-requires-clause-settled : goal.write_put-requires-clause-settled
 write_put-requires-clause-settled g c = λ told. settled_same _ _ _ _ _ _ _ _ told c.in-Ok.ensures.runs (c.requires.settled told)
@@ -105,6 +98,19 @@ returns-in-Ok-write_put-clause-number g c =
 pub returns-in-Ok-write_put-clause-going : goal.returns-in-Ok-write_put-clause-going
 returns-in-Ok-write_put-clause-going g c =
     ap (λ (v : Store). v.is_stopped) c.in-Ok-write_put.ensures.ok ∙ ap (λ (v : Store). v.is_stopped) c.in-Ok.ensures.value ∙ c.requires.going
+
+pub returns-in-Ok-write_put-clause-placed : goal.returns-in-Ok-write_put-clause-placed
+returns-in-Ok-write_put-clause-placed g c =
+    let e = c.in-Ok.ensures in
+    put_placed c.args.n (length c.args.view.now.blob) c.args.store.now c.plan_put.new.store c.write_put.new.store c.in-Ok.planned.0 e.placed e.value
+    c.in-Ok-write_put.ensures.ok
+
+pub returns-in-Err-clause-placed : goal.returns-in-Err-clause-placed
+returns-in-Err-clause-placed g c = room_put c.args.n (length c.args.view.now.blob) c.args.store.now c.in-Err.fault c.in-Err.ensures.nowhere
+
+pub returns-in-Ok-write_put-clause-generation : goal.returns-in-Ok-write_put-clause-generation
+returns-in-Ok-write_put-clause-generation g c =
+    ap (λ (v : Store). v.generation) c.in-Ok-write_put.ensures.ok ∙ ap (λ (v : Store). v.generation + 1) c.in-Ok.ensures.value
 
 pub plan_put-requires-clause-order : goal.plan_put-requires-clause-order
 plan_put-requires-clause-order g c = current_in_order c.args.store.now.generation c.args.index.now c.requires.order

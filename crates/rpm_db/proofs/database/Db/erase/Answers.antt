@@ -1,19 +1,29 @@
-use Rattle.std.proofs.Common.{◌≡◌, ◌≤◌, ◌^◌, true, false, is_some, Option, Err, sym, ap, ◌∙◌, subst, inr}
+use Rattle.std.proofs.Common.{◌≡◌, ◌≤◌, ◌^◌, true, false, is_some, Option, Some, Err, sym, ap, ◌∙◌, subst, inr}
 use Rattle.rpm_pkgdb.specs.Slots.{slot_with}
 use Rattle.rpm_pkgdb.specs.Store.{Store}
+use Rattle.rpm_pkgdb.specs.Written.{with_spare}
 use Rattle.rpm_hindex.specs.Sizes.{units_for}
 use Rattle.rpm_hindex.specs.State as hindex
 use Rattle.rpm_db.specs.declared.change.ChangeFault.TheVariants.{DiskFault}
+use Rattle.rpm_db.specs.Changes.{Erase}
 use Rattle.rpm_db.specs.Database.{Database, IsInOrder, holds}
 use Rattle.rpm_db.specs.Lawful.{HasRows}
 use Rattle.rpm_db.specs.Refusals.{LaterCause, FullCause, is_stopping}
+use Rattle.rpm_db.specs.Room.{next_store, raised}
 use Rattle.rpm_db.specs.Rows.{rows}
 use Rattle.rpm_db.specs.State.{State, packages, state}
 use Rattle.rpm_db.proofs.Applied.{erase_goes, held_by}
 use Rattle.rpm_db.proofs.Unwritten.{stops_told}
 use Rattle.rpm_db.proofs.Refused.{is_refusal, stopping_is, refusal_goes, erase_cause}
+use Rattle.rpm_db.proofs.Rooms.{room_erased}
 use Rattle.rpm_db.proofs.Served.{database_of, indexed_as, rows_of_disk, room_same, refused_same, serving_same, serving_inside}
 use Rattle.rpm_db.proofs.database.Db.erase.Goals as goal
+
+pub returns-in-Ok-clause-placed : goal.returns-in-Ok-clause-placed
+returns-in-Ok-clause-placed g c =
+    let same : c.self.inside.store ≡ c.args.self.now.store = ap (λ (db : Database). db.store) c.self.view_is in
+    subst (λ (v : Store). next_store (Erase c.args.n) v ≡ Some (with_spare v.spare c.erase_number.new.store)) same
+    (ap Some (sym (ap (with_spare c.self.inside.store.spare) c.in-Ok.ensures.ok)))
 
 pub returns-in-Ok-clause-state : goal.returns-in-Ok-clause-state
 returns-in-Ok-clause-state g c = λ told.
@@ -81,6 +91,10 @@ returns-in-Err-clause-causes g c =
     ap (λ (v : Store). is_some (slot_with c.args.n v.slots)) (sym same) ∙ sym c.holds.ensures ∙ c.if-not-holds.false in
     erase_cause c.args.self.now c.args.n c.in-Err.fault told_going here
     (subst (λ (v : Store). LaterCause v.generation ⊥ c.in-Err.fault) same c.in-Err.ensures.later)
+
+pub returns-in-Err-clause-placed : goal.returns-in-Err-clause-placed
+returns-in-Err-clause-placed g c =
+    room_erased c.self.inside.store.generation c.args.n (raised c.args.self.now.store) c.in-Err.fault c.in-Err.ensures.later
 
 pub returns-in-Err-clause-serving : goal.returns-in-Err-clause-serving
 returns-in-Err-clause-serving g c = λ other runs told.

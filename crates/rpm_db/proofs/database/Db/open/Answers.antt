@@ -1,6 +1,7 @@
 use Rattle.rpm_db.specs.Lawful.{Remade}
-use Rattle.rpm_db.specs.inner.LawfulLaws.{remade_then, stops_lawful}
+use Rattle.rpm_db.specs.inner.LawfulLaws.{remade_then}
 use Rattle.rpm_db.specs.inner.Running.{runs_then}
+use Rattle.rpm_db.proofs.Opened.{stays_lawful}
 use Rattle.rpm_db.proofs.database.Db.open.Goals as goal
 
 pub returns-in-Ok-clause-runs : goal.returns-in-Ok-clause-runs
@@ -10,9 +11,7 @@ returns-in-Ok-clause-runs g c =
     c.open_settled.ensures.runs
 
 pub returns-in-Ok-clause-stops : goal.returns-in-Ok-clause-stops
-returns-in-Ok-clause-stops g c = λ told lawful. stops_lawful g.D.Disk.moment g.D.Disk.left_since c.args.disk.now c.open_settled.new.disk lawful
-    ((returns-in-Ok-clause-runs g c).any_moment told)
+returns-in-Ok-clause-stops g c = λ told. stays_lawful _ _ _ _ _ _ _ _ told (returns-in-Ok-clause-runs g c)
 
 pub returns-in-Err-clause-stops : goal.returns-in-Err-clause-stops
-returns-in-Err-clause-stops g c = λ told lawful. stops_lawful g.D.Disk.moment g.D.Disk.left_since c.args.disk.now c.settle.new.disk lawful
-    (c.in-Err.ensures.runs.any_moment told)
+returns-in-Err-clause-stops g c = λ told. stays_lawful _ _ _ _ _ _ _ _ told c.in-Err.ensures.runs

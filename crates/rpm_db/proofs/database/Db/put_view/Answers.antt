@@ -1,17 +1,21 @@
-use Rattle.std.proofs.Common.{◌≡◌, ◌≤◌, ◌^◌, false, length, is_none, is_some, Option, Err, sym, ap, ◌∙◌, subst}
+use Rattle.std.proofs.Common.{◌≡◌, ◌≤◌, ◌^◌, false, length, is_none, is_some, Option, Some, Err, sym, ap, ◌∙◌, subst}
+use Rattle.rpm_pkgdb.specs.Placing.{put_in}
 use Rattle.rpm_pkgdb.specs.Planned.{IsFull}
 use Rattle.rpm_pkgdb.specs.Store.{Store}
+use Rattle.rpm_pkgdb.specs.Written.{with_spare}
 use Rattle.rpm_hindex.specs.Sizes.{units_for}
 use Rattle.rpm_hindex.specs.State as hindex
 use Rattle.rpm_db.specs.declared.change.ChangeFault.TheVariants.{DiskFault}
 use Rattle.rpm_db.specs.Database.{Database, IsInOrder}
 use Rattle.rpm_db.specs.Lawful.{HasRows}
 use Rattle.rpm_db.specs.Refusals.{LaterCause, FullCause, is_stopping}
+use Rattle.rpm_db.specs.Room.{RoomCause, raised}
 use Rattle.rpm_db.specs.Rows.{rows}
 use Rattle.rpm_db.specs.State.{State, packages, state}
 use Rattle.rpm_db.proofs.Applied.{put_goes, held_by}
 use Rattle.rpm_db.proofs.Unwritten.{stops_told}
 use Rattle.rpm_db.proofs.Refused.{is_refusal, stopping_is, refusal_goes}
+use Rattle.rpm_db.proofs.Rooms.{put_next}
 use Rattle.rpm_db.proofs.Served.{database_of, indexed_as, rows_of_disk, refused_room, serving_same, serving_inside}
 use Rattle.rpm_db.proofs.database.Db.put_view.Goals as goal
 
@@ -20,6 +24,13 @@ returns-in-Ok-clause-later g c =
     let same : c.self.inside.store ≡ c.args.self.now.store = ap (λ (db : Database). db.store) c.self.view_is in
     subst (λ (v : Store). (v.generation ≡ 4294967295 → ⊥) × (IsFull v (is_none c.args.n) (length c.args.view.now.blob) → ⊥)) same
     c.in-Ok.ensures.later
+
+pub returns-in-Ok-clause-placed : goal.returns-in-Ok-clause-placed
+returns-in-Ok-clause-placed g c =
+    let same : c.self.inside.store ≡ c.args.self.now.store = ap (λ (db : Database). db.store) c.self.view_is in
+    let bytes = c.args.view.now.blob in
+    sym (put_next c.args.n bytes c.args.self.now.store)
+    ∙ subst (λ (v : Store). put_in c.args.n (length bytes) (raised v) ≡ Some (with_spare v.spare c.put_header.new.store)) same c.in-Ok.ensures.placed
 
 pub returns-in-Ok-clause-state : goal.returns-in-Ok-clause-state
 returns-in-Ok-clause-state g c = λ told.
@@ -83,6 +94,13 @@ returns-in-Err-clause-later g c =
     let same : c.self.inside.store ≡ c.args.self.now.store = ap (λ (db : Database). db.store) c.self.view_is in
     subst (λ (v : Store). LaterCause v.generation (IsFull v (is_none c.args.n) (length c.args.view.now.blob)) c.in-Err.fault) same
     c.in-Err.ensures.later
+
+pub returns-in-Err-clause-placed : goal.returns-in-Err-clause-placed
+returns-in-Err-clause-placed g c =
+    let same : c.self.inside.store ≡ c.args.self.now.store = ap (λ (db : Database). db.store) c.self.view_is in
+    let bytes = c.args.view.now.blob in
+    subst (λ (o : Option Store). RoomCause o c.in-Err.fault)
+    (ap (λ (v : Store). put_in c.args.n (length bytes) (raised v)) same ∙ put_next c.args.n bytes c.args.self.now.store) c.in-Err.ensures.placed
 
 pub returns-in-Err-clause-serving : goal.returns-in-Err-clause-serving
 returns-in-Err-clause-serving g c = λ other told.

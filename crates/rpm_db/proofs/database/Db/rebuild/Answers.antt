@@ -1,12 +1,12 @@
 use Rattle.std.proofs.Common.{◌≡◌, ◌≤◌, ◌^◌, false, sym, ap, ◌∙◌, subst}
-use Rattle.rpm_pkgdb.specs.Store.{Store}
+use Rattle.rpm_pkgdb.specs.Store.{Store, store}
 use Rattle.rpm_pkgdb.specs.Store as pkgdb
 use Rattle.rpm_hindex.specs.Sizes.{units_for}
 use Rattle.rpm_db.specs.Database.{Database}
 use Rattle.rpm_db.specs.Rows.{rows}
 use Rattle.rpm_db.specs.State.{packages}
-use Rattle.rpm_db.specs.inner.LawfulLaws.{stops_lawful}
-use Rattle.rpm_db.proofs.Rebuilt.{rebuilt}
+use Rattle.rpm_db.proofs.Opened.{stays_lawful}
+use Rattle.rpm_db.proofs.Rebuilt.{rebuilt, serving_now}
 use Rattle.rpm_db.proofs.database.Db.rebuild.Goals as goal
 
 pub returns-in-Ok-clause-rebuilt : goal.returns-in-Ok-clause-rebuilt
@@ -24,18 +24,25 @@ returns-in-Ok-clause-rebuilt g c = λ told.
       rebuilt old new value c.remake.new.index c.self.inside.is_stopped (e.runs.reads_as told) keeps e.some e.order (e.kept told) (e.index told),
     )
 
+pub returns-in-Ok-clause-serving : goal.returns-in-Ok-clause-serving
+returns-in-Ok-clause-serving g c = λ told.
+    let e = c.in-Ok.ensures in
+    let old = g.D.Disk.files c.args.disk.now in
+    let new = c.remake.new.disk in
+    let going : c.args.self.now.stopped ≡ false = sym (ap (λ (db : Database). db.stopped) c.self.view_is) ∙ c.if-self.false in
+    let same : c.self.inside.store ≡ c.args.self.now.store = ap (λ (db : Database). db.store) c.self.view_is in
+    let keeps = subst (pkgdb.Keeps old.pkg) (sym same) (c.requires.keeps going told) in
+    serving_now (g.D.Disk.files new) (g.D.Disk.left_since new (g.D.Disk.moment new)) c.self.inside.store c.remake.new.index c.self.inside.is_stopped
+    (ap store (e.runs.reads_as told).pkg ∙ keeps) (e.kept told) (e.pkg told) (e.settled told)
+
 pub returns-in-Ok-clause-stops : goal.returns-in-Ok-clause-stops
-returns-in-Ok-clause-stops g c = λ told lawful. stops_lawful g.D.Disk.moment g.D.Disk.left_since c.args.disk.now c.remake.new.disk lawful
-    (c.in-Ok.ensures.runs.any_moment told)
+returns-in-Ok-clause-stops g c = λ told. stays_lawful _ _ _ _ _ _ _ _ told c.in-Ok.ensures.runs
 
 pub returns-in-Err-IndexFull-clause-stops : goal.returns-in-Err-IndexFull-clause-stops
-returns-in-Err-IndexFull-clause-stops g c = λ told lawful. stops_lawful g.D.Disk.moment g.D.Disk.left_since c.args.disk.now c.remake.new.disk lawful
-    (c.in-Err-IndexFull.ensures.runs.any_moment told)
+returns-in-Err-IndexFull-clause-stops g c = λ told. stays_lawful _ _ _ _ _ _ _ _ told c.in-Err-IndexFull.ensures.runs
 
 pub returns-in-Err-NoMemory-clause-stops : goal.returns-in-Err-NoMemory-clause-stops
-returns-in-Err-NoMemory-clause-stops g c = λ told lawful. stops_lawful g.D.Disk.moment g.D.Disk.left_since c.args.disk.now c.remake.new.disk lawful
-    (c.in-Err-NoMemory.ensures.runs.any_moment told)
+returns-in-Err-NoMemory-clause-stops g c = λ told. stays_lawful _ _ _ _ _ _ _ _ told c.in-Err-NoMemory.ensures.runs
 
 pub returns-in-Err-DiskFault-clause-stops : goal.returns-in-Err-DiskFault-clause-stops
-returns-in-Err-DiskFault-clause-stops g c = λ told lawful. stops_lawful g.D.Disk.moment g.D.Disk.left_since c.args.disk.now c.remake.new.disk lawful
-    (c.in-Err-DiskFault.ensures.runs.any_moment told)
+returns-in-Err-DiskFault-clause-stops g c = λ told. stays_lawful _ _ _ _ _ _ _ _ told c.in-Err-DiskFault.ensures.runs

@@ -1,0 +1,11 @@
+use Rattle.std.proofs.Common.{is_some, sym, ap, ◌∙◌}
+use Rattle.rpm_pkgdb.specs.Slots.{slot_with}
+use Rattle.rpm_db.specs.Database.{Database}
+use Rattle.rpm_db.specs.inner.Laws.{is_there}
+use Rattle.rpm_db.proofs.database.Db.holds.Goals as goal
+
+pub returns-clause-held : goal.returns-clause-held
+returns-clause-held c = c.holds.ensures ∙ ap (λ (db : Database). is_some (slot_with c.args.n db.store.slots)) c.self.view_is
+
+pub returns-clause-told : goal.returns-clause-told
+returns-clause-told c = λ file. returns-clause-held c ∙ sym (is_there file c.args.self.now c.args.n)

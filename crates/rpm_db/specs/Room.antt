@@ -1,0 +1,30 @@
+-- Whether changes find room in Packages.db: each of them in the store that those before it leave.
+use Rattle.std.specs.Prelude.{◌≡◌, ◌+◌, length, Option, Some, None, IsSome, Result, Ok, Err}
+use Rattle.rpm_pkgdb.specs.Placing.{put_in}
+use Rattle.rpm_pkgdb.specs.Store.{Store}
+use Rattle.rpm_pkgdb.specs.Written.{erased, with_generation, with_spare}
+use Rattle.rpm_db.specs.declared.change.ChangeFault.{ChangeFault}
+use Rattle.rpm_db.specs.declared.change.ChangeFault.TheVariants.{StoreFull, IndexFull, BadIndex}
+use Rattle.rpm_db.specs.Changes.{Change, Add, Put, Erase}
+
+-- the same slots under the next generation
+abbrev pub raised : Store → Store
+raised value = with_generation (value.generation + 1) value
+
+-- the store after a change: its slots, number field and generation; None where it is full
+abbrev pub next_store : Change → Store → Option Store
+next_store (Add bytes) value = put_in None (length bytes) (raised value)
+next_store (Put n bytes) value = put_in (Some n) (length bytes) (raised value)
+next_store (Erase n) value = Some (erased n (raised value))
+
+-- the store is full exactly where there is none, and the index comes behind it
+abbrev pub RoomCause : {X : Type 0} → Option X → ChangeFault → Type 0
+RoomCause said StoreFull = said ≡ None
+RoomCause said (IndexFull needed) = IsSome said
+RoomCause said (BadIndex unit) = IsSome said
+RoomCause said _ = Unit {0}
+
+-- once the change was made the store is that one, up to room in memory
+abbrev pub RoomIs : {A : Type 0} → Option Store → Store → Store → Result A ChangeFault → Type 0
+RoomIs said old new (Ok done) = said ≡ Some (with_spare old.spare new)
+RoomIs said old new (Err fault) = RoomCause said fault
