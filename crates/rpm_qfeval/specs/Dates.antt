@@ -1,5 +1,6 @@
 -- The date and the time of a number of seconds since 1970-01-01T00:00:00, in UTC. The calendar is that of `jiff`.
-use Rattle.std.specs.Prelude.{ℕ, zero, suc, ◌+◌, ◌-◌, ◌/◌, ◌%◌, Bool, nat_lt, nat_le, List, [], ◌∷◌, ◌++◌, codes, pos, unsigned_abs, slice_index_or, if◌then◌else◌}
+use Rattle.std.specs.Prelude.{ℕ, zero, suc, ◌+◌, ◌-◌, ◌/◌, ◌%◌, Bool, nat_lt, nat_le}
+use Rattle.std.specs.Prelude.{List, [], ◌∷◌, ◌++◌, codes, pos, unsigned_abs, slice_index_or, if◌then◌else◌}
 use Rattle.jiff_core.specs.Calendar.{days_from_civil, weekday_number}
 
 -- ---- the date of a day number

@@ -1,5 +1,6 @@
 -- What a format means for a header and a number: bytes, or two counts that differ.
-use Rattle.std.specs.Prelude.{ℕ, List, [], ◌∷◌, ◌++◌, codes, map, find, filter_map, Bool, not, ◌==◌, if◌then◌else◌, is_some, Option, Some, None, Result, Ok, Err}
+use Rattle.std.specs.Prelude.{ℕ, List, [], ◌∷◌, ◌++◌, codes, map, find, filter_map, Bool}
+use Rattle.std.specs.Prelude.{not, ◌==◌, if◌then◌else◌, is_some, Option, Some, None, Result, Ok, Err}
 use Rattle.std.specs.List.{concat, range_with_len}
 use Rattle.std.specs.Option.{option_map, option_or}
 use Rattle.rpm_header.specs.Header.{Header}

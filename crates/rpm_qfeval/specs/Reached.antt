@@ -1,5 +1,5 @@
 -- How far a value of texts was read.
-use Rattle.std.specs.Prelude.{◌≡◌, ℕ, ◌+◌, List, drop, Option, slice_get}
+use Rattle.std.specs.Prelude.{◌≡◌, ℕ, ◌+◌, ◌<◌, ◌^◌, List, drop, length, Option, slice_get}
 use Rattle.rpm_tags.specs.declared.values.Class.TheVariants as class
 use Rattle.rpm_tags.specs.Value.{Elements, class_of, text_list}
 
@@ -8,3 +8,9 @@ pub record IsAt (all : Elements) (present : Option (List ℕ)) (texts : List (Li
   pub are_texts : class_of all ≡ class.Text
   pub here : present ≡ slice_get (text_list all) place
   pub behind : texts ≡ drop (place + 1) (text_list all)
+
+-- so many of all texts were read
+pub record IsReached (all left : List (List ℕ)) (count place : ℕ) : Type 0 where
+  pub whole : count ≡ length all
+  pub few : count < 2 ^ 32
+  pub behind : left ≡ drop place all

@@ -1,9 +1,11 @@
--- The parts of a bracket that stand ready for its rounds: each prints a text of a list, as it is.
-use Rattle.std.specs.Prelude.{◌≡◌, ℕ, ◌<◌, ◌^◌, List, drop, length, Option, Some, slice_get}
+-- The parts of a bracket that stand ready for its rounds: each prints a text or a number of a list, as it is.
+use Rattle.std.specs.Prelude.{◌≡◌, ℕ, List, map, decimal, Some, slice_get}
 use Rattle.rpm_header.specs.Header.{Header}
 use Rattle.rpm_qfparse.specs.declared.tree.Part.{Part}
 use Rattle.rpm_qfparse.specs.Tree.{Tree}
 use Rattle.rpm_qfparse.specs.Shape.{parts_of}
+use Rattle.rpm_qfeval.specs.declared.ready.Ready.{Ready}
+use Rattle.rpm_qfeval.specs.declared.ready.Ready.TheVariants as ready
 use Rattle.rpm_qfeval.specs.Meaning.{part_bytes}
 use Rattle.rpm_qfeval.specs.Formatters.{or_none}
 
@@ -11,13 +13,13 @@ use Rattle.rpm_qfeval.specs.Formatters.{or_none}
 abbrev pub IsPlain : Header → ℕ → Part → List (List ℕ) → Type 0
 IsPlain header number part texts = (round : ℕ) → part_bytes header number round part ≡ or_none (slice_get texts round)
 
--- what stands ready at a place are the texts of the part there
-abbrev pub AreReady : Header → ℕ → Tree → List (Option (List (List ℕ))) → Type 0
-AreReady header number inner ready = (k : ℕ) (part : Part) (texts : List (List ℕ)) → slice_get (parts_of inner) k ≡ Some part
-    → slice_get ready k ≡ Some (Some texts) → IsPlain header number part texts
+-- what stands ready is what the part prints
+abbrev pub IsReady : Header → ℕ → Part → Ready → Type 0
+IsReady header number part ready.Other = Unit {0}
+IsReady header number part (ready.Texts texts) = IsPlain header number part texts
+IsReady header number part (ready.Numbers numbers) = IsPlain header number part (map decimal numbers)
 
--- so many of all texts were read
-pub record IsReached (all left : List (List ℕ)) (count place : ℕ) : Type 0 where
-  pub whole : count ≡ length all
-  pub few : count < 2 ^ 32
-  pub behind : left ≡ drop place all
+-- what stands ready at a place is what the part there prints
+abbrev pub AreReady : Header → ℕ → Tree → List Ready → Type 0
+AreReady header number inner all = (k : ℕ) (part : Part) (one : Ready) → slice_get (parts_of inner) k ≡ Some part → slice_get all k ≡ Some one
+    → IsReady header number part one

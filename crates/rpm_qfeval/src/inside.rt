@@ -1,16 +1,17 @@
 //! A bracket is put over the columns of its tags, round by round.
 
-ghost use Rattle.std.specs.Prelude.{◌≡◌, ℕ, ◌∷◌, [], List, true, Some, slice_get};
+ghost use Rattle.std.specs.Prelude.{◌≡◌, ℕ, ◌∷◌, [], true, IfSome, slice_get};
 ghost use Rattle.rpm_qfeval.specs.Columns.{AreTold};
 ghost use Rattle.rpm_outside.specs.Sinks.{Writes};
 ghost use Rattle.rpm_qfeval.specs.Meaning.{bytes, part_bytes, rounds, counts};
 ghost use Rattle.rpm_qfeval.specs.Proper.{AreProper, PartIsProper};
-ghost use Rattle.rpm_qfeval.specs.Ready.{AreReady, IsPlain};
+ghost use Rattle.rpm_qfeval.specs.Ready.{AreReady, IsReady};
 
 use crate::columns::Column;
 use crate::lookup::{is_present, put_tag};
-use crate::ready::PlainTexts;
+use crate::ready::{Ready, put_number};
 use crate::sizes::count_rounds;
+use itoa::Buffer as Decimal;
 use rpm_header::View;
 use rpm_outside::{Failed, Sink, put_all};
 use rpm_qfparse::{Part, Parts};
@@ -77,20 +78,23 @@ fn put_part_at<O: Sink>(
     view: &View<'_>,
     number: u32,
     columns: &mut [Option<Column<'_, '_>>],
-    ready: &mut [Option<PlainTexts<'_>>],
+    ready: &mut [Ready<'_>],
     next: &mut usize,
+    digits: &mut Decimal,
     round: u32,
 ) -> Result<(), Failed>
     requires told { AreTold view.now number columns.old }
-    requires plain { (texts : List (List ℕ)) → slice_get ready.old i ≡ Some (Some texts) → IsPlain view.now number part.now texts }
+    requires plain { IfSome (slice_get ready.old i) (IsReady view.now number part.now) }
     requires proper { PartIsProper true part.now }
     ensures puts { Writes O.tells O.taken O.faults O.follows sink.old sink.new (part_bytes view.now number round part.now) result }
     ensures columns { columns.new ≡ columns.old }
     ensures ready { ready.new ≡ ready.old }
 {
     if i < ready.len() {
-        if let Some(texts) = &mut ready[i] {
-            return texts.put(sink, round);
+        match &mut ready[i] {
+            Ready::Other => {}
+            Ready::Texts(texts) => return texts.put(sink, round),
+            Ready::Numbers(numbers) => return put_number(sink, digits, numbers, round),
         }
     }
     put_inner_part(sink, part, view, number, columns, next, round)
@@ -105,8 +109,9 @@ fn put_round<O: Sink>(
     view: &View<'_>,
     number: u32,
     columns: &mut [Option<Column<'_, '_>>],
-    ready: &mut [Option<PlainTexts<'_>>],
+    ready: &mut [Ready<'_>],
     next: &mut usize,
+    digits: &mut Decimal,
     round: u32,
 ) -> Result<(), Failed>
     requires told { AreTold view.now number columns.old }
@@ -118,7 +123,9 @@ fn put_round<O: Sink>(
 {
     for i in 0..inner.len() {
         let part = inner.at(i);
-        put_part_at(sink, part, i, view, number, columns, ready, next, round)?;
+        put_part_at(
+            sink, part, i, view, number, columns, ready, next, digits, round,
+        )?;
     }
     Ok(())
 }
@@ -130,7 +137,7 @@ fn put_rounds<O: Sink>(
     view: &View<'_>,
     number: u32,
     columns: &mut [Option<Column<'_, '_>>],
-    ready: &mut [Option<PlainTexts<'_>>],
+    ready: &mut [Ready<'_>],
     count: u32,
 ) -> Result<(), Failed>
     requires told { AreTold view.now number columns.old }
@@ -139,8 +146,19 @@ fn put_rounds<O: Sink>(
     ensures { Writes O.tells O.taken O.faults O.follows sink.old sink.new (rounds (count ∷ []) (λ i. bytes view.now number i inner.now)) result }
 {
     let mut next = 0;
+    let mut digits = Decimal::new();
     for round in 0..count {
-        put_round(sink, inner, view, number, columns, ready, &mut next, round)?;
+        put_round(
+            sink,
+            inner,
+            view,
+            number,
+            columns,
+            ready,
+            &mut next,
+            &mut digits,
+            round,
+        )?;
     }
     Ok(())
 }
@@ -152,7 +170,7 @@ pub fn put_over<O: Sink>(
     view: &View<'_>,
     number: u32,
     columns: &mut [Option<Column<'_, '_>>],
-    ready: &mut [Option<PlainTexts<'_>>],
+    ready: &mut [Ready<'_>],
 ) -> Result<(), Failed>
     requires told { AreTold view.now number columns.old }
     requires ready { AreReady view.now number inner.now ready.old }

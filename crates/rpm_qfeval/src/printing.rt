@@ -68,9 +68,13 @@ fn print_parts<O: Sink>(
 ///
 /// Goes over the format once for the brackets and once to print. A bracket keeps the value of each of
 /// its tags, and goes through the texts of each once, so that n rounds of k tags cost n times k, however
-/// many they are. Up to 2, 4, 16 and 192 tags it takes 5, 10, 40 and 450 KiB of the stack, where a tag
-/// behind `=` counts apart. A padded text is measured before it is put. The sink gets each piece of the
-/// text in a call of its own: give one with a buffer, as `Buffered`, where a call costs much.
+/// many they are. A padded text is measured before it is put. The sink gets each piece of the text in a
+/// call of its own: give one with a buffer, as `Buffered`, where a call costs much.
+///
+/// Up to 2, 4, 16 and 192 tags a bracket takes 13, 16, 34 and 285 KiB of the stack, where a tag behind
+/// `=` counts apart, and 800 KiB where the files of `FILENAMES` go back often. These are the sizes of
+/// arrays, whatever the format. A tag for which an array has no place would be looked up in each round;
+/// there is none in a format that was read, which has at most two for each of the 89 tags with a name.
 #[tactic(auto, using(crate::proofs::DateLaw::date_is_day))]
 pub fn print_direct<O: Sink>(
     format: &Format,

@@ -1,127 +1,78 @@
-//! The parts of a bracket that print texts of the header as they are.
+//! The parts of a bracket that print texts or numbers of the header as they are.
 
-ghost use Rattle.std.specs.Prelude.{◌≡◌, ℕ, [], Some, IfSome, slice_get};
+ghost use Rattle.std.specs.Prelude.{◌≡◌, [], slice_get, map, decimal};
 ghost use Rattle.rpm_outside.specs.Sinks.{Writes};
 ghost use Rattle.rpm_qfparse.specs.declared.tree.Part.TheVariants as part;
 ghost use Rattle.rpm_qfeval.specs.Formatters.{or_none};
-ghost use Rattle.rpm_qfeval.specs.Ready.{IsPlain, AreReady};
+ghost use Rattle.rpm_qfeval.specs.Ready.{IsReady, AreReady};
 
+use crate::plain_texts::PlainTexts;
 use arrayvec::ArrayVec;
+use itoa::Buffer as Decimal;
 use rpm_header::View;
 use rpm_outside::{Failed, Sink, put_all};
 use rpm_qfparse::{Part, Parts, Role, Show, TagPart};
-use rpm_tags::{Tag, TextIter, Texts, texts_in};
-use std::marker::Model;
+use rpm_tags::{Numbers, Tag, numbers_in, texts_in};
 
-/// The texts of a tag, of which each round prints the one at its place as it is. Contracts see it as the
-/// list of them, without how far they were read. Where rounds go from one to the next, a round costs
-/// some 40 instructions and the bytes of its text.
-#[derive(Drop)]
-pub struct PlainTexts<'a> {
-    all: Texts<'a>,
-    count: u32,
-    // Those that are left, and how many were read.
-    left: TextIter<'a>,
-    place: u32,
-}
-
-impl<'a> Model for PlainTexts<'a> {
-    ghost use Rattle.std.specs.Prelude.{List, ℕ};
-    ghost use Rattle.rpm_qfeval.specs.Ready.{IsReached};
-
-    ghost Value = { List (List ℕ) };
-
-    ghost view = { λ s. s.all };
-
-    ghost invariant = { λ s. IsReached s.all s.left s.count s.place };
-}
-
-/// Puts a text, which is mostly empty where there are many.
+/// Puts the number of a round.
 #[inline(always)]
-fn put_short<O: Sink>(sink: &mut O, text: &[u8]) -> Result<(), Failed>
-    ensures { Writes O.tells O.taken O.faults O.follows sink.old sink.new text.now result }
+pub fn put_number<O: Sink>(
+    sink: &mut O,
+    digits: &mut Decimal,
+    numbers: &Numbers<'_>,
+    round: u32,
+) -> Result<(), Failed>
+    ensures { Writes O.tells O.taken O.faults O.follows sink.old sink.new (or_none (slice_get (map decimal numbers.now) round)) result }
 {
-    if text.is_empty() {
-        return Ok(());
+    if round >= numbers.count() {
+        return put_all(sink, b"(none)");
     }
-    put_all(sink, text)
+    put_all(sink, digits.format(numbers.number(round)).as_bytes())
 }
 
-impl<'a> PlainTexts<'a> {
-    fn new(all: Texts<'a>) -> PlainTexts<'a>
-        ensures { result ≡ all.entry }
-    {
-        let count = all.count();
-        let left = all.iter();
-        PlainTexts {
-            all,
-            count,
-            left,
-            place: 0,
-        }
-    }
-
-    /// Puts the text of a round, read from the first one on.
-    #[cold]
-    #[inline(never)]
-    fn put_again<O: Sink>(&self, sink: &mut O, round: u32) -> Result<(), Failed>
-        ensures { Writes O.tells O.taken O.faults O.follows sink.old sink.new (or_none (slice_get self.now round)) result }
-    {
-        if round >= self.count {
-            return put_all(sink, b"(none)");
-        }
-        put_all(sink, self.all.text(round))
-    }
-
-    /// Puts the text of a round. Each element of a bracket comes by here, so the call is no call.
-    #[inline(always)]
-    pub fn put<O: Sink>(&mut self, sink: &mut O, round: u32) -> Result<(), Failed>
-        ensures puts { Writes O.tells O.taken O.faults O.follows sink.old sink.new (or_none (slice_get self.old round)) result }
-        ensures same { self.new ≡ self.old }
-    {
-        if self.place != round {
-            return self.put_again(sink, round);
-        }
-        match self.left.next() {
-            None => put_all(sink, b"(none)"),
-            Some(text) => {
-                self.place += 1;
-                put_short(sink, text)
-            }
-        }
-    }
+/// What stands ready of a part of a bracket: what it prints as it is, of which each round has the one
+/// at its place; nothing of any other part.
+#[derive(Drop, Default)]
+pub enum Ready<'a> {
+    #[default]
+    Other,
+    Texts(PlainTexts<'a>),
+    Numbers(Numbers<'a>),
 }
 
-/// The texts that a tag prints as they are, where it is one that does so.
-fn texts_of<'a>(tag: &TagPart, view: &View<'a>, number: u32) -> Option<Texts<'a>>
-    ensures { IfSome result (λ texts. IsPlain view.now number (part.Tag tag.now) texts) }
+/// What stands ready of a tag.
+fn ready_tag<'a>(tag: &TagPart, view: &View<'a>, number: u32) -> Ready<'a>
+    ensures { IsReady view.now number (part.Tag tag.now) result }
 {
     if tag.role != Role::Element || tag.show != Show::Plain || tag.width != 0 {
-        return None;
+        return Ready::Other;
     }
-    match tag.tag {
-        Tag::Stored(stored) => texts_in(view, stored),
-        _ => None,
+    let stored = match tag.tag {
+        Tag::Stored(stored) => stored,
+        _ => return Ready::Other,
+    };
+    if let Some(texts) = texts_in(view, stored) {
+        return Ready::Texts(PlainTexts::new(texts));
+    }
+    match numbers_in(view, stored) {
+        None => Ready::Other,
+        Some(numbers) => Ready::Numbers(numbers),
     }
 }
 
-/// The texts that a part prints as they are, where it does so.
-fn plain_of<'a>(part: &Part, view: &View<'a>, number: u32) -> Option<PlainTexts<'a>>
-    ensures { IfSome result (λ texts. IsPlain view.now number part.now texts) }
+/// What stands ready of a part.
+fn ready_part<'a>(part: &Part, view: &View<'a>, number: u32) -> Ready<'a>
+    ensures { IsReady view.now number part.now result }
 {
-    let texts = match part {
-        Part::Tag(tag) => texts_of(tag, view, number),
-        _ => None,
-    };
-    match texts {
-        None => None,
-        Some(texts) => Some(PlainTexts::new(texts)),
+    match part {
+        Part::Tag(tag) => ready_tag(tag, view, number),
+        _ => Ready::Other,
     }
 }
 
 /// Adds what stands ready of the parts of a bracket, from the first one on and as far as there is room.
 pub fn make_ready<'a, const R: usize>(
-    ready: &mut ArrayVec<Option<PlainTexts<'a>>, R>,
+    ready: &mut ArrayVec<Ready<'a>, R>,
     inner: &Parts,
     view: &View<'a>,
     number: u32,
@@ -130,6 +81,6 @@ pub fn make_ready<'a, const R: usize>(
     ensures { AreReady view.now number inner.now ready.new.items }
 {
     for i in 0..inner.len().min(R) {
-        ready.push(plain_of(inner.at(i), view, number));
+        ready.push(ready_part(inner.at(i), view, number));
     }
 }

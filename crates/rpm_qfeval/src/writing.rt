@@ -9,7 +9,7 @@ use crate::columns::{Asked, Column, Found, MOST, add_columns, asked_in, look_up,
 use crate::elements::put_looked_up;
 use crate::inside::put_over;
 use crate::lookup::is_present;
-use crate::ready::{PlainTexts, make_ready};
+use crate::ready::{Ready, make_ready};
 use arrayvec::ArrayVec;
 use rpm_header::{PlacesRoom, View};
 use rpm_outside::{Failed, Sink, put_all};
@@ -35,7 +35,7 @@ fn put_with<O: Sink, const N: usize, const R: usize>(
     look_up(&mut found, asked, view, number);
     let mut columns: ArrayVec<Option<Column<'_, '_>>, N> = ArrayVec::new();
     add_columns(&mut columns, found.as_slice(), view, number, None);
-    let mut ready: ArrayVec<Option<PlainTexts<'_>>, R> = ArrayVec::new();
+    let mut ready: ArrayVec<Ready<'_>, R> = ArrayVec::new();
     make_ready(&mut ready, inner, view, number);
     put_over(
         sink,
@@ -72,7 +72,7 @@ fn put_far<O: Sink>(
         number,
         Some(&mut room),
     );
-    let mut ready: ArrayVec<Option<PlainTexts<'_>>, MOST> = ArrayVec::new();
+    let mut ready: ArrayVec<Ready<'_>, MOST> = ArrayVec::new();
     make_ready(&mut ready, inner, view, number);
     put_over(
         sink,

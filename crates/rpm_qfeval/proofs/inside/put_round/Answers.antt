@@ -1,5 +1,6 @@
-use Rattle.std.proofs.Common.{arith, length, ◌≤◌, refl, sym, ◌∙◌, ap}
-use Rattle.std.specs.Prelude.{slice_get}
+use Rattle.std.proofs.Common.{◌≡◌, arith, length, ◌≤◌, Option, Some, None, refl, sym, ◌∙◌, ap}
+use Rattle.std.specs.Prelude.{slice_get, IfSome}
+use Rattle.rpm_qfeval.specs.declared.ready.Ready.{Ready}
 use Rattle.rpm_qfparse.specs.Shape.{parts_of}
 use Rattle.rpm_qfeval.specs.Meaning.{bytes}
 use Rattle.rpm_qfeval.proofs.Walked.{bytes_start, bytes_here, bytes_end}
@@ -13,9 +14,13 @@ loop-i-init g c = record {
   upto = upto_start g.met.O.Sink.follows_refl (sym (bytes_start c.args.view.now c.args.number c.args.round c.args.inner.now));
 }
 
+if_there : {P : Ready → Type 0} (o : Option Ready) → ((one : Ready) → o ≡ Some one → P one) → IfSome o P
+if_there None f = tt
+if_there (Some one) f = f one refl
+
 pub put_part_at-requires-clause-plain : goal.put_part_at-requires-clause-plain
-put_part_at-requires-clause-plain g c = λ texts here.
-    c.requires.ready c.loop-i.i c.at-part.result.now texts c.at-part.ensures.value (sym (ap (λ r. slice_get r c.loop-i.i) c.loop-i.invariant.ready) ∙ here)
+put_part_at-requires-clause-plain g c = if_there _ (λ one here.
+    c.requires.ready c.loop-i.i c.at-part.result.now one c.at-part.ensures.value (sym (ap (λ r. slice_get r c.loop-i.i) c.loop-i.invariant.ready) ∙ here))
 
 pub loop-i-preserved : goal.loop-i-preserved
 loop-i-preserved g c = record {

@@ -4,7 +4,7 @@ use Rattle.rpm_outside.specs.Sinks.{Writes}
 use Rattle.rpm_qfeval.specs.Formatters.{or_none}
 use Rattle.rpm_qfeval.proofs.Ahead.{get_none}
 use Rattle.rpm_qfeval.proofs.Steps.{begins_with}
-use Rattle.rpm_qfeval.proofs.ready.PlainTexts.put.Goals as goal
+use Rattle.rpm_qfeval.proofs.plain_texts.PlainTexts.put.Goals as goal
 
 pub overflow_add-self : goal.overflow_add-self
 overflow_add-self g c =
