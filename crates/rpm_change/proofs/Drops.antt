@@ -1,0 +1,110 @@
+-- What dropping one package is: its change, and its line.
+use Rattle.std.proofs.Common.{◌≡◌, ℕ, ◌^◌, ◌≤◌, Bool, List, [], ◌++◌, take, Option, Some, Result, Ok, Err, refl, sym, ap, ◌∙◌, subst, inl}
+use Rattle.std.specs.Prelude.{IsTrue, IfOk, IfErr}
+use Rattle.std.proofs.lemmas.List.{append-nil}
+use Rattle.rpm_outside.specs.Files.{Files}
+use Rattle.rpm_outside.specs.Sinks.{Gained, GainedPart}
+use Rattle.rpm_outside.specs.inner.Taken.{gained_none}
+use Rattle.rpm_db.specs.declared.change.ChangeFault.{ChangeFault}
+use Rattle.rpm_db.specs.declared.change.ChangeFault.TheVariants as fault
+use Rattle.rpm_db.specs.Changes.{Erase, apply}
+use Rattle.rpm_db.specs.Database.{Database, IsIndexed}
+use Rattle.rpm_db.specs.Refusals.{EraseCause, FullCause}
+use Rattle.rpm_db.specs.State.{State, Package, Good, Bad}
+use Rattle.rpm_change.specs.declared.tally.Tally.{Tally}
+use Rattle.rpm_change.specs.declared.tally.Halt.{Halt}
+use Rattle.rpm_change.specs.declared.tally.Halt.TheVariants as halt
+use Rattle.rpm_change.specs.Steps.{Course, ToOut, bearer}
+use Rattle.rpm_change.specs.Endings.{Outputs, outputs, Through, ThroughSome, Done, Ended, IsCarried, IndexTurn, needed, halt_of}
+use Rattle.rpm_change.specs.Rebuilding.{dropped_line, dropped, IsOfRebuilding}
+
+-- ---- the line of a package that is dropped
+
+pub dropped_done : (ot et : Bool) (o o' e line : List ℕ) (n : ℕ) (s t : State) → line ≡ dropped_line n → t ≡ apply (Erase n) s → Gained ot o o' line
+    → Done (dropped n Bad) s t (record { failed = 0; changes = 1 }) (outputs ot o et e) (outputs ot o' et e)
+dropped_done ot et o o' e line n s t same is g = record {
+  steps = record { out = λ told. g told ∙ ap (λ (b : List ℕ). o ++ b) (same ∙ sym (append-nil (dropped_line n))); err = gained_none et e };
+  failed = refl;
+  changes = refl;
+  state_is = is;
+}
+
+pub dropped_cut : (ot et : Bool) (o o' e line : List ℕ) (n : ℕ) (s t : State) → line ≡ dropped_line n → GainedPart ot o o' line
+    → Ended (dropped n Bad) s t (Err halt.OutFault) (outputs ot o et e) (outputs ot o' et e)
+dropped_cut ot et o o' e line n s t same p = record {
+  done = [];
+  step = ToOut (bearer 0 n) (dropped_line n);
+  rest = [];
+  all_is = refl;
+  sink = refl;
+  bytes = p.0;
+  through = record {
+    out = λ told. p.2 told ∙ ap (λ (b : List ℕ). o ++ b) (ap (take p.0) same ∙ sym (append-nil (take p.0 (dropped_line n))));
+    err = gained_none et e;
+  };
+}
+
+-- the change had room, and the line may not be written
+pub dropped_turn : (s : State) (n : ℕ) (r : Result Tally Halt) → needed s (Erase n) ≤ 2 ^ 28 → IfErr r (λ h. h ≡ halt.OutFault)
+    → IndexTurn s (dropped n Bad).changes r
+dropped_turn s n (Ok tally) fits kinds = (fits, tt)
+dropped_turn s n (Err h) fits kinds = rw kinds tt
+
+pub drop_turn : (s : State) (n : ℕ) (f : ChangeFault) → FullCause (needed s (Erase n)) f → IndexTurn s (dropped n Bad).changes (Err (halt_of f))
+drop_turn s n fault.NumbersSpent full = tt
+drop_turn s n fault.GenerationSpent full = tt
+drop_turn s n fault.StoreFull full = tt
+drop_turn s n (fault.IndexFull told) full = inl (full.0, full.1)
+drop_turn s n (fault.BadIndex unit) full = absurd full
+drop_turn s n fault.DiskFault full = tt
+drop_turn s n fault.NoMemory full = tt
+drop_turn s n (fault.BadHeader why) full = tt
+drop_turn s n fault.NoSuch full = tt
+drop_turn s n fault.Stopped full = tt
+
+pub drop_kinds : (db : Database) (n : ℕ) (f : ChangeFault) → EraseCause db n f → IsOfRebuilding (halt_of f)
+drop_kinds db n fault.NumbersSpent cause = absurd cause.2
+drop_kinds db n fault.GenerationSpent cause = tt
+drop_kinds db n fault.StoreFull cause = absurd cause.2.1
+drop_kinds db n (fault.IndexFull needed) cause = tt
+drop_kinds db n (fault.BadIndex unit) cause = tt
+drop_kinds db n fault.DiskFault cause = tt
+drop_kinds db n fault.NoMemory cause = tt
+drop_kinds db n (fault.BadHeader why) cause = tt
+drop_kinds db n fault.NoSuch cause = tt
+drop_kinds db n fault.Stopped cause = tt
+
+-- ---- a package that is Good, and one that is Bad
+
+pub good_is : (o : Option Package) (p : Package) (bytes : List ℕ) → o ≡ Some (Good bytes) → o ≡ Some p → p ≡ Good bytes
+good_is o p bytes good is = cc
+
+pub bad_is : (o : Option Package) (p : Package) → o ≡ Some Bad → o ≡ Some p → p ≡ Bad
+bad_is o p bad is = cc
+
+-- nothing was done of a course
+pub none_gone : (course : Course) (old new : Outputs) → Through [] old new → ThroughSome course.steps old new
+none_gone course old new none = record { done = []; rest = course.steps; all_is = refl; through = none }
+
+-- nothing is done of a package that is Good
+module _ (n : ℕ) (p : Package) (o : Option Package) (bytes : List ℕ) (s : State) (good : o ≡ Some (Good bytes)) (is : o ≡ Some p) where
+  pub kept_done : (ot et : Bool) (out err : List ℕ) (t : State) → t ≡ s
+      → Done (dropped n p) s t (record { failed = 0; changes = 0 }) (outputs ot out et err) (outputs ot out et err)
+  kept_done ot et out err t same =
+      subst (λ (q : Package). Done (dropped n q) s t (record { failed = 0; changes = 0 }) (outputs ot out et err) (outputs ot out et err))
+      (sym (good_is o p bytes good is))
+      (record { steps = record { out = gained_none ot out; err = gained_none et err }; failed = refl; changes = refl; state_is = same })
+
+  pub kept_turn : IndexTurn s (dropped n p).changes (Ok (record { failed = 0; changes = 0 }))
+  kept_turn =
+      subst (λ (q : Package). IndexTurn s (dropped n q).changes (Ok (record { failed = 0; changes = 0 }))) (sym (good_is o p bytes good is)) tt
+
+-- what is carried from files that are as they were
+pub carried_from : (tells : Bool) (old mid new : Files) (images : Files → Type 0) (before after : Database) → (IsTrue tells → mid ≡ old)
+    → (r : Result Tally Halt) → IfOk r (λ _tally. IsCarried tells mid new images before after) → IfOk r (λ _tally. IsCarried tells old new images before after)
+carried_from tells old mid new images before after same (Ok tally) c = record {
+  going = c.going;
+  serving = c.serving;
+  index = λ told rows. c.index told (subst (λ (f : Files). IsIndexed f.pkg f.idx before) (sym (same told)) rows);
+}
+carried_from tells old mid new images before after same (Err h) c = tt

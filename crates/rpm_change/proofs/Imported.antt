@@ -1,0 +1,138 @@
+-- What adding one header of a list is.
+use Rattle.std.proofs.Common.{◌≡◌, ℕ, List, Option, Some, None, Result, Ok, Err, refl, sym, ap, ◌∙◌, subst, inl, min, codes}
+use Rattle.std.specs.Prelude.{IfOk}
+use Rattle.rpm_header.specs.Header.{Header, header}
+use Rattle.rpm_outside.specs.Files.{Units, Files}
+use Rattle.rpm_outside.specs.Browses.{left}
+use Rattle.rpm_pkgdb.specs.Blobs.{blobs}
+use Rattle.rpm_db.specs.declared.change.ChangeFault.{ChangeFault}
+use Rattle.rpm_db.specs.declared.change.ChangeFault.TheVariants as fault
+use Rattle.rpm_db.specs.Changes.{Add, with_room}
+use Rattle.rpm_db.specs.Database.{Database, IsIndexed, next_number}
+use Rattle.rpm_db.specs.Lawful.{HasRows}
+use Rattle.rpm_db.specs.Refusals.{AddIs, FullCause, IsRefusal}
+use Rattle.rpm_db.specs.State.{State, state, packages}
+use Rattle.rpm_change.specs.declared.tally.Tally.{Tally}
+use Rattle.rpm_change.specs.declared.tally.Halt.{Halt}
+use Rattle.rpm_change.specs.declared.tally.Halt.TheVariants as halt
+use Rattle.rpm_change.specs.Steps.{Course, ToErr, whole, changing, failing}
+use Rattle.rpm_change.specs.Endings.{Outputs, Ended, IndexTurn, needed, halt_of}
+use Rattle.rpm_change.specs.Importing.{imported, once, import_listed, import_list, listed}
+use Rattle.rpm_change.specs.Texts.{absent_line}
+use Rattle.rpm_change.specs.Turns.{counted_once, IsOfHeaders}
+
+-- ---- room in memory is nothing that a file says
+
+packages_room : (file : Units) (spare : ℕ) (db : Database) → packages file (with_room spare db).store ≡ packages file db.store
+unfolding packages blobs
+packages_room file spare db = refl
+
+state_of_room : (file : Units) (spare : ℕ) (db : Database) → state file (with_room spare db).store ≡ state file db.store
+state_of_room file spare db = rw (packages_room file spare db) refl
+
+pub state_room : (f g : Files) (a b : Database) → g ≡ f → b ≡ with_room b.store.spare a → state g.pkg b.store ≡ state f.pkg a.store
+state_room f g a b files same =
+    ap (λ (x : Files). state x.pkg b.store) files ∙ ap (λ (d : Database). state f.pkg d.store) same ∙ state_of_room f.pkg b.store.spare a
+
+pub indexed_room : (f g : Files) (a b : Database) → g ≡ f → b ≡ with_room b.store.spare a → IsIndexed f.pkg f.idx a → IsIndexed g.pkg g.idx b
+indexed_room f g a b files same i =
+    let here : IsIndexed f.pkg f.idx (with_room b.store.spare a) =
+    record { current = i.current; rows_are = subst (λ ps. HasRows ps f.idx) (sym (packages_room f.pkg b.store.spare a)) i.rows_are } in
+    subst (λ (x : Files). IsIndexed x.pkg x.idx b) (sym files) (subst (λ (d : Database). IsIndexed f.pkg f.idx d) (sym same) here)
+
+-- ---- a header that is added, or refused
+
+pub imported_good : (k : ℕ) (bytes : List ℕ) (h : Header) → header bytes ≡ Ok h → imported k (header bytes) ≡ changing (Add h.blob)
+imported_good k bytes h is = ap (imported k) is
+
+pub add_turn : (db : Database) (s : State) (k : ℕ) (bytes : List ℕ) (f : ChangeFault) → AddIs {A = ℕ} db bytes (Err f)
+    → ((h : Header) → header bytes ≡ Ok h → FullCause (needed s (Add h.blob)) f) → IndexTurn s (imported k (header bytes)).changes (Err (halt_of f))
+add_turn db s k bytes fault.NumbersSpent cause full = tt
+add_turn db s k bytes fault.GenerationSpent cause full = tt
+add_turn db s k bytes fault.StoreFull cause full = tt
+add_turn db s k bytes (fault.IndexFull told) cause full =
+    let said = full cause.1.own cause.1.read in
+    subst (λ (x : Course). IndexTurn s x.changes (Err (halt.IndexFull told))) (sym (imported_good k bytes cause.1.own cause.1.read)) (inl (said.0, said.1))
+add_turn db s k bytes (fault.BadIndex unit) cause full = absurd (full cause.1.own cause.1.read)
+add_turn db s k bytes fault.DiskFault cause full = tt
+add_turn db s k bytes fault.NoMemory cause full = tt
+add_turn db s k bytes (fault.BadHeader why) cause full = tt
+add_turn db s k bytes fault.NoSuch cause full = tt
+add_turn db s k bytes fault.Stopped cause full = tt
+
+pub add_kinds : (f : ChangeFault) → IsOfHeaders (halt_of f)
+add_kinds fault.NumbersSpent = tt
+add_kinds fault.GenerationSpent = tt
+add_kinds fault.StoreFull = tt
+add_kinds (fault.IndexFull needed) = tt
+add_kinds (fault.BadIndex unit) = tt
+add_kinds fault.DiskFault = tt
+add_kinds fault.NoMemory = tt
+add_kinds (fault.BadHeader why) = tt
+add_kinds fault.NoSuch = tt
+add_kinds fault.Stopped = tt
+
+module _ (db after : Database) (bytes : List ℕ) where
+  pub add_spent : (f : ChangeFault) → AddIs {A = ℕ} db bytes (Err f) → (IsRefusal f → after ≡ with_room after.store.spare db)
+      → halt_of f ≡ halt.GenerationSpent → after.store.generation ≡ 4294967295
+  add_spent fault.NumbersSpent cause refused is = absurd cc
+  add_spent fault.GenerationSpent cause refused is = ap (λ (d : Database). d.store.generation) (refused tt) ∙ cause.1.later
+  add_spent fault.StoreFull cause refused is = absurd cc
+  add_spent (fault.IndexFull needed) cause refused is = absurd cc
+  add_spent (fault.BadIndex unit) cause refused is = absurd cc
+  add_spent fault.DiskFault cause refused is = absurd cc
+  add_spent fault.NoMemory cause refused is = absurd cc
+  add_spent (fault.BadHeader why) cause refused is = absurd cc
+  add_spent fault.NoSuch cause refused is = absurd cc
+  add_spent fault.Stopped cause refused is = absurd cc
+
+  pub add_numbers : (f : ChangeFault) → AddIs {A = ℕ} db bytes (Err f) → (IsRefusal f → after ≡ with_room after.store.spare db)
+      → halt_of f ≡ halt.NumbersSpent → next_number after ≡ 4294967295
+  add_numbers fault.NumbersSpent cause refused is = ap next_number (refused tt) ∙ cause.1
+  add_numbers fault.GenerationSpent cause refused is = absurd cc
+  add_numbers fault.StoreFull cause refused is = absurd cc
+  add_numbers (fault.IndexFull needed) cause refused is = absurd cc
+  add_numbers (fault.BadIndex unit) cause refused is = absurd cc
+  add_numbers fault.DiskFault cause refused is = absurd cc
+  add_numbers fault.NoMemory cause refused is = absurd cc
+  add_numbers (fault.BadHeader why) cause refused is = absurd cc
+  add_numbers fault.NoSuch cause refused is = absurd cc
+  add_numbers fault.Stopped cause refused is = absurd cc
+
+-- what holds anyway holds after an Ok
+pub any_ok : (r : Result Tally Halt) (C : Type 0) → C → IfOk r (λ _tally. C)
+any_ok (Ok tally) C p = p
+any_ok (Err h) C p = tt
+
+-- ---- the command counts once
+
+module _ (c : Course) (s t : State) (old new : Outputs) where
+  stop_once : (h : Halt) → Ended c s t (Err h) old new → Ended (once c) s t (Err h) old new
+  stop_once halt.NumbersSpent p = p
+  stop_once halt.GenerationSpent p = p
+  stop_once halt.StoreFull p = p
+  stop_once (halt.IndexFull needed) p = p
+  stop_once (halt.BadIndex unit) p = p
+  stop_once halt.DiskFault p = p
+  stop_once halt.ShelfFault p = p
+  stop_once halt.OutFault p = p
+  stop_once halt.ErrFault p = p
+  stop_once halt.NoMemory p = p
+
+  pub ended_once : (r : Result Tally Halt) → Ended c s t r old new → Ended (once c) s t (counted_once r) old new
+  ended_once (Ok tally) d = record { steps = d.steps; failed = ap (min 1) d.failed; changes = d.changes; state_is = d.state_is }
+  ended_once (Err h) p = stop_once h p
+
+pub turn_once : (c : Course) (s : State) (r : Result Tally Halt) → IndexTurn s c.changes r → IndexTurn s (once c).changes (counted_once r)
+turn_once c s (Ok tally) p = p
+turn_once c s (Err h) p = p
+
+-- ---- the path that is opened
+
+pub opened_list : (most : ℕ) (found rest : Option (List ℕ)) → rest ≡ found → (found ≡ None → ⊥)
+    → import_list most found ≡ once (import_listed most (listed (left rest)))
+opened_list most None rest same some = absurd (some refl)
+opened_list most (Some bytes) rest same some = rw same refl
+
+pub absent_list : (most : ℕ) (found : Option (List ℕ)) → found ≡ None → import_list most found ≡ failing (ToErr (whole 0) (absent_line (codes "-")))
+absent_list most found none = rw none refl

@@ -1,0 +1,15 @@
+pub mod Bounds
+pub mod Courses
+pub mod Dropped
+pub mod Drops
+pub mod Erased
+pub mod Filed
+pub mod Imported
+pub mod Listed
+pub mod Numbers
+pub mod Placed
+pub mod Rebuilt
+pub mod Stops
+pub mod Told
+pub mod Texts
+pub mod Turned

@@ -1,0 +1,99 @@
+-- The headers of a list, one after the other.
+use Rattle.std.proofs.Common.{◌≡◌, ℕ, zero, suc, ◌+◌, ◌<◌, ◌≤◌, Bool, true, false, List, [], ◌∷◌, length, take, drop, Option, Some, None, Result, Ok, Err, refl, sym, ap, ◌∙◌, inl, inr, arith, nat_lt, length-drop}
+use Rattle.std.proofs.lemmas.Bool.{cases_Bool, cases_lt}
+use Rattle.std.proofs.lemmas.Bool.Decides.{nat_tests}
+use Rattle.rpm_file.specs.declared.fault.ListFault.{ListFault}
+use Rattle.rpm_file.specs.declared.fault.ListFault.TheVariants.{Short}
+use Rattle.rpm_file.specs.List.{Found, sized, size_in, front_header, some_found, list_head}
+use Rattle.rpm_change.specs.Steps.{joined}
+use Rattle.rpm_change.specs.Importing.{Listed, ending, with_blob, listed_next, listed_in, listed}
+use Rattle.rpm_change.specs.Turns.{turn, Leaves, from_place}
+
+-- ---- what follows a header is shorter
+
+shorter_sized : (bytes : List ℕ) (said : Result ℕ ListFault) (found : Found) → sized bytes said ≡ Ok found → length found.rest + 8 ≤ length bytes
+shorter_sized bytes (Err fault) found is = absurd cc
+shorter_sized bytes (Ok size) found is = elim (cases_Bool (nat_lt (length bytes) (8 + size))) [
+  | inl cut ↦ (let none : Err Short ≡ Ok found = rw cut at is in absurd cc)
+  | inr whole ↦
+      (let fits : 8 + size ≤ length bytes = grind (arith, nat_tests) in
+      let same : Ok (record { blob = take size (drop 8 bytes); rest = drop (8 + size) bytes }) ≡ Ok found = rw whole at is in
+      let rest : found.rest ≡ drop (8 + size) bytes = cc in
+      rw rest (omega (arith, length-drop (8 + size) bytes)))
+]
+
+some_of : (r : Result Found ListFault) (found : Found) → some_found r ≡ Ok (Some found) → r ≡ Ok found
+some_of (Ok f) found is = cc
+some_of (Err fault) found is = absurd cc
+
+shorter_front : (bytes : List ℕ) (found : Found) → front_header bytes ≡ Ok found → length found.rest + 8 ≤ length bytes
+unfolding front_header
+shorter_front bytes found is = elim (cases_Bool (nat_lt (length bytes) 16)) [
+  | inl cut ↦ (let none : Err Short ≡ Ok found = rw cut at is in absurd cc)
+  | inr whole ↦ shorter_sized bytes (size_in bytes) found (rw whole at is)
+]
+
+shorter : (byte : ℕ) (bytes : List ℕ) (found : Found) → list_head (byte ∷ bytes) ≡ Ok (Some found) → length found.rest ≤ length bytes
+shorter byte bytes found is =
+    let less = shorter_front (byte ∷ bytes) found (some_of (front_header (byte ∷ bytes)) found is) in
+    omega arith
+
+-- ---- so many turns are enough
+
+next_same : (f g : List ℕ → Listed) (r : Result (Option Found) ListFault)
+    → ((found : Found) → r ≡ Ok (Some found) → f found.rest ≡ g found.rest) → listed_next f r ≡ listed_next g r
+next_same f g (Ok None) same = refl
+next_same f g (Ok (Some found)) same = ap (with_blob found.blob) (same found refl)
+next_same f g (Err fault) same = refl
+
+none_in : (n : ℕ) → listed_in n [] ≡ ending None
+none_in zero = refl
+none_in (suc n) = refl
+
+enough : (n m : ℕ) (bytes : List ℕ) → length bytes ≤ n → length bytes ≤ m → listed_in n bytes ≡ listed_in m bytes
+enough n m [] a b = none_in n ∙ sym (none_in m)
+enough zero m (x ∷ xs) a b = absurd (omega arith)
+enough (suc n) zero (x ∷ xs) a b = absurd (omega arith)
+enough (suc n) (suc m) (x ∷ xs) a b =
+    next_same (listed_in n) (listed_in m) (list_head (x ∷ xs))
+    (λ found is. let less = shorter x xs found is in enough n m found.rest (omega arith) (omega arith))
+
+-- what stands in front, and then the list behind it
+pub listed_step : (bytes : List ℕ) → listed bytes ≡ listed_next listed (list_head bytes)
+listed_step [] = refl
+listed_step (x ∷ xs) =
+    next_same (listed_in (length xs)) listed (list_head (x ∷ xs))
+    (λ found is. enough (length xs) (length found.rest) found.rest (shorter x xs found is) (omega arith))
+
+-- ---- courses
+
+found_split : (most k : ℕ) (found : Found) (is_last past : Bool) (left : List ℕ) → nat_lt most k ≡ past → is_last ≡ past → found.rest ≡ left
+    → from_place false most k (listed_next listed (Ok (Some found)))
+    ≡ joined (turn most k (Ok (Some found))) (from_place is_last most (k + 1) (listed left))
+found_split most k found is_last true left test last rest = rw (last, test) refl
+found_split most k found is_last false left test last rest = rw (last, test, ← rest) refl
+
+split_next : (most k : ℕ) (r : Result (Option Found) ListFault) (is_last : Bool) (left : List ℕ) → Leaves most k r is_last left
+    → from_place false most k (listed_next listed r) ≡ joined (turn most k r) (from_place is_last most (k + 1) (listed left))
+split_next most k (Ok None) is_last left leaves = rw leaves refl
+split_next most k (Ok (Some found)) is_last left leaves = found_split most k found is_last (nat_lt most k) left refl leaves.0 leaves.1
+split_next most k (Err fault) is_last left leaves = rw leaves refl
+
+-- one turn, and what is left behind it
+pub turn_splits : (most k : ℕ) (bytes : List ℕ) (is_last : Bool) (left : List ℕ) → Leaves most k (list_head bytes) is_last left
+    → from_place false most k (listed bytes) ≡ joined (turn most k (list_head bytes)) (from_place is_last most (k + 1) (listed left))
+turn_splits most k bytes is_last left leaves =
+    ap (from_place false most k) (listed_step bytes) ∙ split_next most k (list_head bytes) is_last left leaves
+
+-- whatever stands in front, something is left behind it
+pub turn_ahead : (most k : ℕ) (r : Result (Option Found) ListFault) → (is_last : Bool) × ((left : List ℕ) × Leaves most k r is_last left)
+turn_ahead most k (Ok None) = (true, ([], refl))
+turn_ahead most k (Ok (Some found)) = (nat_lt most k, (found.rest, (refl, refl)))
+turn_ahead most k (Err fault) = (true, ([], refl))
+
+-- where the list goes on, one more header may come
+pub within_next : (most k : ℕ) (is_last : Bool) → is_last ≡ false → (most < k → is_last ≡ true) → k + 1 ≤ most + 1
+within_next most k is_last more last = elim (cases_lt most k) [
+  | inl over ↦ (let past : is_last ≡ true = last over in absurd cc)
+  | inr within ↦ omega arith
+]

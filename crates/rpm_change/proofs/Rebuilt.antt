@@ -1,0 +1,77 @@
+-- What making the index anew answers.
+use Rattle.std.proofs.Common.{◌≡◌, ℕ, ◌^◌, ◌<◌, Bool, true, false, List, Err, refl, ◌∙◌, subst, inl}
+use Rattle.rpm_outside.specs.Files.{Files}
+use Rattle.rpm_outside.specs.declared.disk.File.{File}
+use Rattle.rpm_db.specs.declared.change.ChangeFault.{ChangeFault}
+use Rattle.rpm_db.specs.declared.change.ChangeFault.TheVariants as fault
+use Rattle.rpm_db.specs.Changes.{Change}
+use Rattle.rpm_db.specs.Database.{Database}
+use Rattle.rpm_db.specs.Lawful.{Remade}
+use Rattle.rpm_db.specs.Rebuilds.{IsRebuilt, RebuildIs}
+use Rattle.rpm_db.specs.Runs.{Runs}
+use Rattle.rpm_db.specs.State.{state}
+use Rattle.rpm_db.specs.inner.Running.{runs_none, runs_then}
+use Rattle.rpm_db.specs.inner.Writes.{SameLog}
+use Rattle.rpm_change.specs.declared.tally.Halt.TheVariants as halt
+use Rattle.rpm_change.specs.Endings.{halt_of, ends_command}
+use Rattle.rpm_change.specs.Rebuilding.{RebuildTurn, IsOfRebuilding}
+
+pub rebuild_kinds : (db : Database) (f : ChangeFault) → RebuildIs db (Err f) → IsOfRebuilding (halt_of f)
+rebuild_kinds db fault.NumbersSpent is = absurd is
+rebuild_kinds db fault.GenerationSpent is = tt
+rebuild_kinds db fault.StoreFull is = absurd is
+rebuild_kinds db (fault.IndexFull needed) is = tt
+rebuild_kinds db (fault.BadIndex unit) is = tt
+rebuild_kinds db fault.DiskFault is = tt
+rebuild_kinds db fault.NoMemory is = tt
+rebuild_kinds db (fault.BadHeader why) is = tt
+rebuild_kinds db fault.NoSuch is = tt
+rebuild_kinds db fault.Stopped is = tt
+
+pub rebuild_ends : (db : Database) (f : ChangeFault) → db.stopped ≡ false → RebuildIs db (Err f) → ends_command f ≡ true
+rebuild_ends db fault.NumbersSpent going is = absurd is
+rebuild_ends db fault.GenerationSpent going is = absurd is
+rebuild_ends db fault.StoreFull going is = absurd is
+rebuild_ends db (fault.IndexFull needed) going is = refl
+rebuild_ends db (fault.BadIndex unit) going is = absurd is
+rebuild_ends db fault.DiskFault going is = refl
+rebuild_ends db fault.NoMemory going is = refl
+rebuild_ends db (fault.BadHeader why) going is = absurd is
+rebuild_ends db fault.NoSuch going is = absurd is
+rebuild_ends db fault.Stopped going is = let stopped : db.stopped ≡ true = is in absurd cc
+
+-- the generation isn't spent by it
+pub rebuild_spends : (db : Database) (f : ChangeFault) → RebuildIs db (Err f) → halt_of f ≡ halt.GenerationSpent → ⊥
+rebuild_spends db fault.NumbersSpent is same = absurd is
+rebuild_spends db fault.GenerationSpent is same = absurd is
+rebuild_spends db fault.StoreFull is same = absurd is
+rebuild_spends db (fault.IndexFull needed) is same = cc
+rebuild_spends db (fault.BadIndex unit) is same = absurd is
+rebuild_spends db fault.DiskFault is same = cc
+rebuild_spends db fault.NoMemory is same = cc
+rebuild_spends db (fault.BadHeader why) is same = absurd is
+rebuild_spends db fault.NoSuch is same = absurd is
+rebuild_spends db fault.Stopped is same = cc
+
+-- its index is full by the rows of the packages as they are
+pub unbuilt_turn : (old new : Files) (before after : Database) (changes : List Change) (f : ChangeFault) → IsRebuilt old new before after (Err f)
+    → RebuildTurn (state old.pkg before.store) changes (Err (halt_of f))
+unbuilt_turn old new before after changes fault.NumbersSpent is = absurd is
+unbuilt_turn old new before after changes fault.GenerationSpent is = absurd is
+unbuilt_turn old new before after changes fault.StoreFull is = absurd is
+unbuilt_turn old new before after changes (fault.IndexFull needed) is = inl (subst (λ (n : ℕ). 2 ^ 28 < n) is.3 is.2, is.3)
+unbuilt_turn old new before after changes (fault.BadIndex unit) is = absurd is
+unbuilt_turn old new before after changes fault.DiskFault is = tt
+unbuilt_turn old new before after changes fault.NoMemory is = tt
+unbuilt_turn old new before after changes (fault.BadHeader why) is = absurd is
+unbuilt_turn old new before after changes fault.NoSuch is = absurd is
+unbuilt_turn old new before after changes fault.Stopped is = tt
+
+-- it leaves the log
+module _ {D : Type 0} (tells : Bool) (files : D → Files) (left_since : D → ℕ → Files → Type 0) (moment : D → ℕ)
+    (bytes_read : D → File → ℕ) (follows : D → D → Type 0) where
+  pub runs_weaker : ((d : D) → follows d d) → ((a b c : D) → follows a b → follows b c → follows a c) → (a b : D)
+      → Runs tells files left_since moment bytes_read follows Remade a b → Runs tells files left_since moment bytes_read follows SameLog a b
+  runs_weaker stays trans a b run =
+      runs_then tells files left_since moment bytes_read follows trans Remade SameLog SameLog a b b (λ x y made. made.log)
+      (λ x y z made second. second ∙ made.log) run (runs_none tells files left_since moment bytes_read follows stays SameLog (λ f. refl) b)

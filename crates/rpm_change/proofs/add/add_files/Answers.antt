@@ -1,0 +1,186 @@
+use Rattle.std.proofs.Common.{◌+◌, true, [], map, get_or, drop, refl, ◌∙◌, subst, Err, arith}
+use Rattle.rpm_outside.specs.Buffered.{inner}
+use Rattle.rpm_outside.specs.Shelves.{Paths}
+use Rattle.rpm_db.specs.Database.{IsIndexed}
+use Rattle.rpm_db.specs.State.{state}
+use Rattle.rpm_db.specs.inner.Running.{runs_none, runs_then}
+use Rattle.rpm_db.specs.inner.Writes.{SameLog}
+use Rattle.rpm_change.specs.Adding.{add_file, add_files}
+use Rattle.rpm_change.specs.Endings.{outputs, Done, Ended, AllHaveRoom, IndexTurn}
+use Rattle.rpm_change.specs.Numbers.{AllHaveNumbers, NumbersTurn}
+use Rattle.rpm_change.specs.Steps.{in_turn, apply_all}
+use Rattle.rpm_change.proofs.Courses.{halfway_start, halfway_more, halfway_stop, halfway_turn, halfway_end, halfway_room}
+use Rattle.rpm_change.proofs.Filed.{bytes, nothing, path_next, path_none}
+use Rattle.rpm_change.proofs.Numbers.{numbered_start, numbered_more, numbered_stop, numbered_end}
+use Rattle.rpm_change.proofs.add.add_files.Goals as goal
+
+pub loop-path-init : goal.loop-path-init
+loop-path-init g c =
+    let s = state (g.D.Disk.files c.args.disk.now).pkg c.args.db.now.store in
+    let all = add_files (g.S.Shelf.paths c.args.shelf.now) c.args.now s (map bytes c.args.paths.now) in
+    record {
+      goes = λ told shelf_told out_tells out.
+          halfway_start out_tells g.E.Sink.tells (IsIndexed (g.D.Disk.files c.args.disk.now).pkg (g.D.Disk.files c.args.disk.now).idx c.args.db.now)
+          all s out (g.E.Sink.taken (inner c.args.err.now));
+      numbered = λ told shelf_told. numbered_start all s;
+      few = refl;
+      carried = record { going = c.requires.going; serving = c.requires.serving; index = λ told rows. rows };
+      indexed = c.requires.indexed;
+      runs = runs_none g.D.Disk.tells g.D.Disk.files g.D.Disk.left_since g.D.Disk.moment g.D.Disk.bytes_read g.D.Disk.follows g.met.D.Disk.follows_refl SameLog
+          (λ f. refl) c.args.disk.now;
+      paths = λ shelf_told. refl;
+      disk = omega arith;
+      shelf = omega arith;
+      err = omega arith;
+      err_rest = (g.met.E.Sink.follows_refl (inner c.args.err.now), c.requires.err_empty);
+    }
+
+pub loop-path-preserved : goal.loop-path-preserved
+loop-path-preserved g c =
+    let k = c.loop-path.path-index in
+    let xs = c.args.paths.now in
+    let inv = c.loop-path.invariant in
+    let done = c.in-Ok.ensures in
+    let ps = g.S.Shelf.paths c.args.shelf.now in
+    let each = add_file c.args.now ps in
+    let s = state (g.D.Disk.files c.args.disk.now).pkg c.args.db.now.store in
+    let t = state (g.D.Disk.files c.loop-path.disk).pkg c.loop-path.db.store in
+    let u = state (g.D.Disk.files c.put_file.new.disk).pkg c.put_file.new.db.store in
+    let P = IsIndexed (g.D.Disk.files c.args.disk.now).pkg (g.D.Disk.files c.args.disk.now).idx c.args.db.now in
+    let e = g.E.Sink.taken (inner c.args.err.now) in
+    let e' = g.E.Sink.taken (inner c.loop-path.err) in
+    let e'' = g.E.Sink.taken (inner c.put_file.new.err) in
+    let path = bytes (get_or xs k nothing) in
+    let turn = each t k path in
+    let rest = in_turn each u (k + 1) (map bytes (drop (k + 1) xs)) in
+    record {
+      goes = λ told shelf_told out_tells out.
+          let ended = subst (λ (qs : Paths). Done (add_file c.args.now qs t k path) t u c.in-Ok.tally (outputs out_tells out g.E.Sink.tells e')
+          (outputs out_tells out g.E.Sink.tells e'')) (inv.paths shelf_told) (done.ended told shelf_told k out_tells out) in
+          halfway_more out_tells g.E.Sink.tells P (in_turn each s 0 (map bytes xs)) (in_turn each t k (map bytes (drop k xs))) turn rest s t u
+          c.loop-path.failed c.loop-path.changes out out out e e' e'' (path_next each xs k t u (omega arith) ended.state_is)
+          (inv.goes told shelf_told out_tells out) c.in-Ok.tally ended
+          (λ rows. subst (λ (qs : Paths). AllHaveRoom t (add_file c.args.now qs t k path).changes) (inv.paths shelf_told)
+          (done.room told shelf_told (inv.carried.index told rows) k));
+      numbered = λ told shelf_told.
+          let ended = subst (λ (qs : Paths). Done (add_file c.args.now qs t k path) t u c.in-Ok.tally (outputs true [] g.E.Sink.tells e')
+          (outputs true [] g.E.Sink.tells e'')) (inv.paths shelf_told) (done.ended told shelf_told k true []) in
+          numbered_more (in_turn each s 0 (map bytes xs)) (in_turn each t k (map bytes (drop k xs))) turn rest s t u
+          (path_next each xs k t u (omega arith) ended.state_is) (inv.numbered told shelf_told) ended.state_is
+          (subst (λ (qs : Paths). AllHaveNumbers t (add_file c.args.now qs t k path).changes) (inv.paths shelf_told) (done.numbers told shelf_told k));
+      few = omega (arith, inv.few, done.one);
+      carried = record {
+        going = done.carried.going;
+        serving = done.carried.serving;
+        index = λ told rows. done.carried.index told (inv.carried.index told rows);
+      };
+      indexed = c.put_file.ensures.indexed;
+      runs = runs_then g.D.Disk.tells g.D.Disk.files g.D.Disk.left_since g.D.Disk.moment g.D.Disk.bytes_read g.D.Disk.follows g.met.D.Disk.follows_trans
+          SameLog SameLog SameLog c.args.disk.now c.loop-path.disk c.put_file.new.disk (λ x y log. log) (λ x y z first second. second ∙ first)
+          inv.runs done.runs;
+      paths = λ shelf_told. done.paths shelf_told ∙ inv.paths shelf_told;
+      disk = omega (arith, inv.disk, done.disk.later);
+      shelf = omega (arith, inv.shelf, done.shelf.later);
+      err = omega (arith, inv.err, done.err.later);
+      err_rest = (
+        g.met.E.Sink.follows_trans (inner c.args.err.now) (inner c.loop-path.err) (inner c.put_file.new.err) inv.err_rest.0 done.err_rest.0,
+        done.err_rest.1,
+      );
+    }
+
+pub returns-in-Err-clause-ended : goal.returns-in-Err-clause-ended
+returns-in-Err-clause-ended g c = λ told shelf_told out_tells out.
+    let k = c.loop-path.path-index in
+    let xs = c.args.paths.now in
+    let inv = c.loop-path.invariant in
+    let each = add_file c.args.now (g.S.Shelf.paths c.args.shelf.now) in
+    let s = state (g.D.Disk.files c.args.disk.now).pkg c.args.db.now.store in
+    let t = state (g.D.Disk.files c.loop-path.disk).pkg c.loop-path.db.store in
+    let u = state (g.D.Disk.files c.put_file.new.disk).pkg c.put_file.new.db.store in
+    let P = IsIndexed (g.D.Disk.files c.args.disk.now).pkg (g.D.Disk.files c.args.disk.now).idx c.args.db.now in
+    let e' = g.E.Sink.taken (inner c.loop-path.err) in
+    let e'' = g.E.Sink.taken (inner c.put_file.new.err) in
+    let path = bytes (get_or xs k nothing) in
+    let turn = each t k path in
+    let v = apply_all turn.changes t in
+    halfway_stop out_tells g.E.Sink.tells P (in_turn each s 0 (map bytes xs)) (in_turn each t k (map bytes (drop k xs))) turn
+    (in_turn each v (k + 1) (map bytes (drop (k + 1) xs))) s t u c.loop-path.failed c.loop-path.changes out out out
+    (g.E.Sink.taken (inner c.args.err.now)) e' e'' (path_next each xs k t v (omega arith) refl) (inv.goes told shelf_told out_tells out) c.in-Err.halt
+    (subst (λ (qs : Paths). Ended (add_file c.args.now qs t k path) t u (Err c.in-Err.halt) (outputs out_tells out g.E.Sink.tells e')
+    (outputs out_tells out g.E.Sink.tells e'')) (inv.paths shelf_told) (c.in-Err.ensures.ended told shelf_told k out_tells out))
+
+pub returns-in-Err-clause-room : goal.returns-in-Err-clause-room
+returns-in-Err-clause-room g c = λ told shelf_told rows.
+    let k = c.loop-path.path-index in
+    let xs = c.args.paths.now in
+    let inv = c.loop-path.invariant in
+    let each = add_file c.args.now (g.S.Shelf.paths c.args.shelf.now) in
+    let s = state (g.D.Disk.files c.args.disk.now).pkg c.args.db.now.store in
+    let t = state (g.D.Disk.files c.loop-path.disk).pkg c.loop-path.db.store in
+    let u = state (g.D.Disk.files c.put_file.new.disk).pkg c.put_file.new.db.store in
+    let P = IsIndexed (g.D.Disk.files c.args.disk.now).pkg (g.D.Disk.files c.args.disk.now).idx c.args.db.now in
+    let path = bytes (get_or xs k nothing) in
+    let turn = each t k path in
+    let v = apply_all turn.changes t in
+    halfway_turn true g.E.Sink.tells P (in_turn each s 0 (map bytes xs)) (in_turn each t k (map bytes (drop k xs))) turn
+    (in_turn each v (k + 1) (map bytes (drop (k + 1) xs))) s t u c.loop-path.failed c.loop-path.changes [] [] [] (g.E.Sink.taken (inner c.args.err.now))
+    (g.E.Sink.taken (inner c.loop-path.err)) (g.E.Sink.taken (inner c.put_file.new.err)) (path_next each xs k t v (omega arith) refl)
+    (inv.goes told shelf_told true []) c.in-Err.halt rows
+    (subst (λ (qs : Paths). IndexTurn t (add_file c.args.now qs t k path).changes (Err c.in-Err.halt)) (inv.paths shelf_told)
+    (c.in-Err.ensures.room told shelf_told (inv.carried.index told rows) k))
+
+pub returns-in-Err-clause-numbers : goal.returns-in-Err-clause-numbers
+returns-in-Err-clause-numbers g c = λ told shelf_told.
+    let k = c.loop-path.path-index in
+    let xs = c.args.paths.now in
+    let inv = c.loop-path.invariant in
+    let each = add_file c.args.now (g.S.Shelf.paths c.args.shelf.now) in
+    let s = state (g.D.Disk.files c.args.disk.now).pkg c.args.db.now.store in
+    let t = state (g.D.Disk.files c.loop-path.disk).pkg c.loop-path.db.store in
+    let path = bytes (get_or xs k nothing) in
+    let turn = each t k path in
+    let v = apply_all turn.changes t in
+    numbered_stop (in_turn each s 0 (map bytes xs)) (in_turn each t k (map bytes (drop k xs))) turn
+    (in_turn each v (k + 1) (map bytes (drop (k + 1) xs))) s t v (path_next each xs k t v (omega arith) refl) (inv.numbered told shelf_told) c.in-Err.halt
+    (subst (λ (qs : Paths). NumbersTurn t (add_file c.args.now qs t k path).changes (Err c.in-Err.halt)) (inv.paths shelf_told)
+    (c.in-Err.ensures.numbers told shelf_told k))
+
+pub returns-in-Err-clause-runs : goal.returns-in-Err-clause-runs
+returns-in-Err-clause-runs g c =
+    runs_then g.D.Disk.tells g.D.Disk.files g.D.Disk.left_since g.D.Disk.moment g.D.Disk.bytes_read g.D.Disk.follows g.met.D.Disk.follows_trans
+    SameLog SameLog SameLog c.args.disk.now c.loop-path.disk c.put_file.new.disk (λ x y log. log) (λ x y z first second. second ∙ first)
+    c.loop-path.invariant.runs c.in-Err.ensures.runs
+
+pub returns-clause-ended : goal.returns-clause-ended
+returns-clause-ended g c = λ told shelf_told out_tells out.
+    let k = c.loop-path.path-index in
+    let xs = c.args.paths.now in
+    let each = add_file c.args.now (g.S.Shelf.paths c.args.shelf.now) in
+    let s = state (g.D.Disk.files c.args.disk.now).pkg c.args.db.now.store in
+    let t = state (g.D.Disk.files c.loop-path.disk).pkg c.loop-path.db.store in
+    let P = IsIndexed (g.D.Disk.files c.args.disk.now).pkg (g.D.Disk.files c.args.disk.now).idx c.args.db.now in
+    halfway_end out_tells g.E.Sink.tells P (in_turn each s 0 (map bytes xs)) (in_turn each t k (map bytes (drop k xs))) s t c.loop-path.failed
+    c.loop-path.changes out out (g.E.Sink.taken (inner c.args.err.now)) (g.E.Sink.taken (inner c.loop-path.err)) (path_none each xs k t (omega arith))
+    (c.loop-path.invariant.goes told shelf_told out_tells out)
+
+pub returns-clause-room : goal.returns-clause-room
+returns-clause-room g c = λ told shelf_told rows.
+    let k = c.loop-path.path-index in
+    let xs = c.args.paths.now in
+    let each = add_file c.args.now (g.S.Shelf.paths c.args.shelf.now) in
+    let s = state (g.D.Disk.files c.args.disk.now).pkg c.args.db.now.store in
+    let t = state (g.D.Disk.files c.loop-path.disk).pkg c.loop-path.db.store in
+    let P = IsIndexed (g.D.Disk.files c.args.disk.now).pkg (g.D.Disk.files c.args.disk.now).idx c.args.db.now in
+    halfway_room true g.E.Sink.tells P (in_turn each s 0 (map bytes xs)) (in_turn each t k (map bytes (drop k xs))) s t c.loop-path.failed
+    c.loop-path.changes [] [] (g.E.Sink.taken (inner c.args.err.now)) (g.E.Sink.taken (inner c.loop-path.err)) (path_none each xs k t (omega arith))
+    (c.loop-path.invariant.goes told shelf_told true []) rows
+
+pub returns-clause-numbers : goal.returns-clause-numbers
+returns-clause-numbers g c = λ told shelf_told.
+    let k = c.loop-path.path-index in
+    let xs = c.args.paths.now in
+    let each = add_file c.args.now (g.S.Shelf.paths c.args.shelf.now) in
+    let s = state (g.D.Disk.files c.args.disk.now).pkg c.args.db.now.store in
+    let t = state (g.D.Disk.files c.loop-path.disk).pkg c.loop-path.db.store in
+    numbered_end (in_turn each s 0 (map bytes xs)) (in_turn each t k (map bytes (drop k xs))) s t (path_none each xs k t (omega arith))
+    (c.loop-path.invariant.numbered told shelf_told)

@@ -1,0 +1,65 @@
+use Rattle.std.proofs.Common.{ℕ, List, Option, sym, subst}
+use Rattle.rpm_outside.specs.Buffered.{inner}
+use Rattle.rpm_outside.specs.Shelves.{bytes_at}
+use Rattle.rpm_db.specs.State.{state}
+use Rattle.rpm_change.specs.Adding.{put_found}
+use Rattle.rpm_change.specs.Endings.{outputs, Ended, IndexTurn}
+use Rattle.rpm_change.specs.Numbers.{NumbersTurn}
+use Rattle.rpm_change.specs.Steps.{Course}
+use Rattle.rpm_change.proofs.Erased.{line_turn}
+use Rattle.rpm_change.proofs.Filed.{opened_is}
+use Rattle.rpm_change.proofs.Stops.{line_numbers, lines_putting}
+use Rattle.rpm_change.proofs.add.put_file.Goals as goal
+
+pub returns-in-Ok-clause-ended : goal.returns-in-Ok-clause-ended
+returns-in-Ok-clause-ended g c = λ told shelf_told j out_tells out.
+    let opened = c.in-Ok.ensures.opened shelf_told in
+    let found = bytes_at (g.S.Shelf.paths c.args.shelf.now) c.args.path.now in
+    subst (λ (x : Course). Ended x (state (g.D.Disk.files c.args.disk.now).pkg c.args.db.now.store)
+    (state (g.D.Disk.files c.put_opened.new.disk).pkg c.put_opened.new.db.store) c.put_opened.result
+    (outputs out_tells out g.E.Sink.tells (g.E.Sink.taken (inner c.args.err.now)))
+    (outputs out_tells out g.E.Sink.tells (g.E.Sink.taken (inner c.put_opened.new.err))))
+    (sym (opened_is c.args.how j c.args.path.now found (g.S.Shelf.rest c.open.new.self) opened.0 opened.1))
+    (rw c.as_bytes.ensures.value at (c.put_opened.ensures.ended told shelf_told j out_tells out))
+
+pub returns-in-Ok-clause-room : goal.returns-in-Ok-clause-room
+returns-in-Ok-clause-room g c = λ told shelf_told rows j.
+    let opened = c.in-Ok.ensures.opened shelf_told in
+    let found = bytes_at (g.S.Shelf.paths c.args.shelf.now) c.args.path.now in
+    subst (λ (x : Course). IndexTurn (state (g.D.Disk.files c.args.disk.now).pkg c.args.db.now.store) x.changes c.put_opened.result)
+    (sym (opened_is c.args.how j c.args.path.now found (g.S.Shelf.rest c.open.new.self) opened.0 opened.1))
+    (rw c.as_bytes.ensures.value at (c.put_opened.ensures.room told shelf_told rows j))
+
+pub returns-in-Ok-clause-numbers : goal.returns-in-Ok-clause-numbers
+returns-in-Ok-clause-numbers g c = λ told shelf_told j.
+    let opened = c.in-Ok.ensures.opened shelf_told in
+    let found = bytes_at (g.S.Shelf.paths c.args.shelf.now) c.args.path.now in
+    subst (λ (x : Course). NumbersTurn (state (g.D.Disk.files c.args.disk.now).pkg c.args.db.now.store) x.changes c.put_opened.result)
+    (sym (opened_is c.args.how j c.args.path.now found (g.S.Shelf.rest c.open.new.self) opened.0 opened.1))
+    (rw c.as_bytes.ensures.value at (c.put_opened.ensures.numbers told shelf_told j))
+
+pub returns-in-Err-clause-ended : goal.returns-in-Err-clause-ended
+returns-in-Err-clause-ended g c = λ told shelf_told j out_tells out.
+    let opened = c.in-Err.ensures.opened shelf_told in
+    let s = state (g.D.Disk.files c.args.disk.now).pkg c.args.db.now.store in
+    subst (λ (found : Option (List ℕ)). Ended (put_found c.args.how j c.args.path.now found) s s c.put_absent.result
+    (outputs out_tells out g.E.Sink.tells (g.E.Sink.taken (inner c.args.err.now)))
+    (outputs out_tells out g.E.Sink.tells (g.E.Sink.taken (inner c.put_absent.new.err))))
+    (sym opened.1) (rw c.as_bytes-in-Err.ensures.value at (c.put_absent.ensures.ended j s out_tells out))
+
+pub returns-in-Err-clause-room : goal.returns-in-Err-clause-room
+returns-in-Err-clause-room g c = λ told shelf_told rows j.
+    let opened = c.in-Err.ensures.opened shelf_told in
+    let s = state (g.D.Disk.files c.args.disk.now).pkg c.args.db.now.store in
+    subst (λ (found : Option (List ℕ)). IndexTurn s (put_found c.args.how j c.args.path.now found).changes c.put_absent.result)
+    (sym opened.1) (line_turn s c.put_absent.result c.put_absent.ensures.kinds)
+
+pub returns-in-Err-clause-numbers : goal.returns-in-Err-clause-numbers
+returns-in-Err-clause-numbers g c = λ told shelf_told j.
+    let opened = c.in-Err.ensures.opened shelf_told in
+    let s = state (g.D.Disk.files c.args.disk.now).pkg c.args.db.now.store in
+    subst (λ (found : Option (List ℕ)). NumbersTurn s (put_found c.args.how j c.args.path.now found).changes c.put_absent.result)
+    (sym opened.1) (line_numbers s c.put_absent.result c.put_absent.ensures.kinds)
+
+pub returns-in-Err-clause-kinds : goal.returns-in-Err-clause-kinds
+returns-in-Err-clause-kinds g c = lines_putting c.args.how.number c.put_absent.result c.put_absent.ensures.kinds

@@ -1,0 +1,123 @@
+use Rattle.std.proofs.Common.{◌+◌, true, [], get_or, drop, refl, ◌∙◌, arith}
+use Rattle.rpm_outside.specs.Buffered.{inner}
+use Rattle.rpm_db.specs.Database.{IsIndexed}
+use Rattle.rpm_db.specs.State.{state}
+use Rattle.rpm_db.specs.inner.Running.{runs_none, runs_then}
+use Rattle.rpm_db.specs.inner.Writes.{SameLog}
+use Rattle.rpm_change.specs.Steps.{in_turn, apply_all}
+use Rattle.rpm_change.specs.Erasing.{erase_one, erase}
+use Rattle.rpm_change.proofs.Courses.{halfway_start, halfway_more, halfway_stop, halfway_turn, halfway_end, halfway_room, turn_next, turn_none}
+use Rattle.rpm_change.proofs.erase.erase_numbers.Goals as goal
+
+pub loop-number-init : goal.loop-number-init
+loop-number-init g c = record {
+  goes = λ told out_tells out.
+      let s = state (g.D.Disk.files c.args.disk.now).pkg c.args.db.now.store in
+      halfway_start out_tells g.E.Sink.tells (IsIndexed (g.D.Disk.files c.args.disk.now).pkg (g.D.Disk.files c.args.disk.now).idx c.args.db.now)
+      (erase s c.args.numbers.now) s out (g.E.Sink.taken (inner c.args.err.now));
+  few = refl;
+  carried = record { going = c.requires.going; serving = c.requires.serving; index = λ told rows. rows };
+  indexed = c.requires.indexed;
+  runs = runs_none g.D.Disk.tells g.D.Disk.files g.D.Disk.left_since g.D.Disk.moment g.D.Disk.bytes_read g.D.Disk.follows g.met.D.Disk.follows_refl SameLog
+      (λ f. refl) c.args.disk.now;
+  disk = omega arith;
+  err = omega arith;
+  err_rest = (g.met.E.Sink.follows_refl (inner c.args.err.now), c.requires.err_empty);
+}
+
+pub loop-number-preserved : goal.loop-number-preserved
+loop-number-preserved g c =
+    let k = c.loop-number.number-index in
+    let xs = c.args.numbers.now in
+    let inv = c.loop-number.invariant in
+    let done = c.in-Ok.ensures in
+    let s = state (g.D.Disk.files c.args.disk.now).pkg c.args.db.now.store in
+    let t = state (g.D.Disk.files c.loop-number.disk).pkg c.loop-number.db.store in
+    let u = state (g.D.Disk.files c.erase_one.new.disk).pkg c.erase_one.new.db.store in
+    let P = IsIndexed (g.D.Disk.files c.args.disk.now).pkg (g.D.Disk.files c.args.disk.now).idx c.args.db.now in
+    record {
+      goes = λ told out_tells out.
+          let turn = erase_one t k (get_or xs k 0) in
+          let ended = done.ended told k out_tells out in
+          halfway_more out_tells g.E.Sink.tells P (erase s xs) (in_turn erase_one t k (drop k xs)) turn (in_turn erase_one u (k + 1) (drop (k + 1) xs)) s t u
+          c.loop-number.failed c.loop-number.changes out out out (g.E.Sink.taken (inner c.args.err.now)) (g.E.Sink.taken (inner c.loop-number.err))
+          (g.E.Sink.taken (inner c.erase_one.new.err)) (turn_next erase_one xs k 0 t u (omega arith) ended.state_is) (inv.goes told out_tells out)
+          c.in-Ok.tally ended (λ rows. done.room told (inv.carried.index told rows) k);
+      few = omega (arith, inv.few, done.one);
+      carried = record {
+        going = done.carried.going;
+        serving = done.carried.serving;
+        index = λ told rows. done.carried.index told (inv.carried.index told rows);
+      };
+      indexed = c.erase_one.ensures.indexed;
+      runs = runs_then g.D.Disk.tells g.D.Disk.files g.D.Disk.left_since g.D.Disk.moment g.D.Disk.bytes_read g.D.Disk.follows g.met.D.Disk.follows_trans
+          SameLog SameLog SameLog c.args.disk.now c.loop-number.disk c.erase_one.new.disk (λ x y log. log) (λ x y z first second. second ∙ first)
+          inv.runs done.runs;
+      disk = omega (arith, inv.disk, done.disk.later);
+      err = omega (arith, inv.err, done.err.later);
+      err_rest = (
+        g.met.E.Sink.follows_trans (inner c.args.err.now) (inner c.loop-number.err) (inner c.erase_one.new.err) inv.err_rest.0 done.err_rest.0,
+        done.err_rest.1,
+      );
+    }
+
+pub returns-in-Err-clause-ended : goal.returns-in-Err-clause-ended
+returns-in-Err-clause-ended g c = λ told out_tells out.
+    let k = c.loop-number.number-index in
+    let xs = c.args.numbers.now in
+    let inv = c.loop-number.invariant in
+    let s = state (g.D.Disk.files c.args.disk.now).pkg c.args.db.now.store in
+    let t = state (g.D.Disk.files c.loop-number.disk).pkg c.loop-number.db.store in
+    let u = state (g.D.Disk.files c.erase_one.new.disk).pkg c.erase_one.new.db.store in
+    let P = IsIndexed (g.D.Disk.files c.args.disk.now).pkg (g.D.Disk.files c.args.disk.now).idx c.args.db.now in
+    let turn = erase_one t k (get_or xs k 0) in
+    let v = apply_all turn.changes t in
+    halfway_stop out_tells g.E.Sink.tells P (erase s xs) (in_turn erase_one t k (drop k xs)) turn (in_turn erase_one v (k + 1) (drop (k + 1) xs)) s t u
+    c.loop-number.failed c.loop-number.changes out out out (g.E.Sink.taken (inner c.args.err.now)) (g.E.Sink.taken (inner c.loop-number.err))
+    (g.E.Sink.taken (inner c.erase_one.new.err)) (turn_next erase_one xs k 0 t v (omega arith) refl) (inv.goes told out_tells out) c.in-Err.halt
+    (c.in-Err.ensures.ended told k out_tells out)
+
+pub returns-in-Err-clause-room : goal.returns-in-Err-clause-room
+returns-in-Err-clause-room g c = λ told rows.
+    let k = c.loop-number.number-index in
+    let xs = c.args.numbers.now in
+    let inv = c.loop-number.invariant in
+    let s = state (g.D.Disk.files c.args.disk.now).pkg c.args.db.now.store in
+    let t = state (g.D.Disk.files c.loop-number.disk).pkg c.loop-number.db.store in
+    let u = state (g.D.Disk.files c.erase_one.new.disk).pkg c.erase_one.new.db.store in
+    let P = IsIndexed (g.D.Disk.files c.args.disk.now).pkg (g.D.Disk.files c.args.disk.now).idx c.args.db.now in
+    let e = g.E.Sink.taken (inner c.args.err.now) in
+    let turn = erase_one t k (get_or xs k 0) in
+    let v = apply_all turn.changes t in
+    halfway_turn true g.E.Sink.tells P (erase s xs) (in_turn erase_one t k (drop k xs)) turn (in_turn erase_one v (k + 1) (drop (k + 1) xs)) s t u
+    c.loop-number.failed c.loop-number.changes [] [] [] e (g.E.Sink.taken (inner c.loop-number.err)) (g.E.Sink.taken (inner c.erase_one.new.err))
+    (turn_next erase_one xs k 0 t v (omega arith) refl) (inv.goes told true []) c.in-Err.halt rows
+    (c.in-Err.ensures.room told (inv.carried.index told rows) k)
+
+pub returns-in-Err-clause-runs : goal.returns-in-Err-clause-runs
+returns-in-Err-clause-runs g c =
+    runs_then g.D.Disk.tells g.D.Disk.files g.D.Disk.left_since g.D.Disk.moment g.D.Disk.bytes_read g.D.Disk.follows g.met.D.Disk.follows_trans
+    SameLog SameLog SameLog c.args.disk.now c.loop-number.disk c.erase_one.new.disk (λ x y log. log) (λ x y z first second. second ∙ first)
+    c.loop-number.invariant.runs c.in-Err.ensures.runs
+
+pub returns-clause-ended : goal.returns-clause-ended
+returns-clause-ended g c = λ told out_tells out.
+    let k = c.loop-number.number-index in
+    let xs = c.args.numbers.now in
+    let s = state (g.D.Disk.files c.args.disk.now).pkg c.args.db.now.store in
+    let t = state (g.D.Disk.files c.loop-number.disk).pkg c.loop-number.db.store in
+    let P = IsIndexed (g.D.Disk.files c.args.disk.now).pkg (g.D.Disk.files c.args.disk.now).idx c.args.db.now in
+    halfway_end out_tells g.E.Sink.tells P (erase s xs) (in_turn erase_one t k (drop k xs)) s t c.loop-number.failed c.loop-number.changes out out
+    (g.E.Sink.taken (inner c.args.err.now)) (g.E.Sink.taken (inner c.loop-number.err)) (turn_none erase_one xs k t (omega arith))
+    (c.loop-number.invariant.goes told out_tells out)
+
+pub returns-clause-room : goal.returns-clause-room
+returns-clause-room g c = λ told rows.
+    let k = c.loop-number.number-index in
+    let xs = c.args.numbers.now in
+    let s = state (g.D.Disk.files c.args.disk.now).pkg c.args.db.now.store in
+    let t = state (g.D.Disk.files c.loop-number.disk).pkg c.loop-number.db.store in
+    let P = IsIndexed (g.D.Disk.files c.args.disk.now).pkg (g.D.Disk.files c.args.disk.now).idx c.args.db.now in
+    halfway_room true g.E.Sink.tells P (erase s xs) (in_turn erase_one t k (drop k xs)) s t c.loop-number.failed c.loop-number.changes [] []
+    (g.E.Sink.taken (inner c.args.err.now)) (g.E.Sink.taken (inner c.loop-number.err)) (turn_none erase_one xs k t (omega arith))
+    (c.loop-number.invariant.goes told true []) rows

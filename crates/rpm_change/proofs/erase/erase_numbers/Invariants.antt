@@ -1,0 +1,30 @@
+use Rattle.std.proofs.Common.{◌≡◌, ℕ, ◌+◌, ◌≤◌, Bool, true, List, drop}
+use Rattle.std.specs.Prelude.{IsTrue}
+use Rattle.rpm_outside.specs.Buffered.{inner, HandsOn}
+use Rattle.rpm_db.specs.Database.{IsIndexed, is_indexed}
+use Rattle.rpm_db.specs.Runs.{Runs}
+use Rattle.rpm_db.specs.State.{state}
+use Rattle.rpm_db.specs.inner.Writes.{SameLog}
+use Rattle.rpm_change.specs.Steps.{in_turn}
+use Rattle.rpm_change.specs.Endings.{IsCarried}
+use Rattle.rpm_change.specs.Erasing.{erase_one, erase}
+use Rattle.rpm_change.proofs.Courses.{Halfway}
+use Rattle.rpm_change.proofs.erase.erase_numbers.Given as goal
+
+abbrev pub invariant-loop-number : goal.invariant-loop-number
+invariant-loop-number g l = record {
+  goes : IsTrue g.D.Disk.tells → (out_tells : Bool) (out : List ℕ) → Halfway out_tells g.E.Sink.tells
+      (IsIndexed (g.D.Disk.files l.initial.disk).pkg (g.D.Disk.files l.initial.disk).idx l.initial.db)
+      (erase (state (g.D.Disk.files l.initial.disk).pkg l.initial.db.store) l.numbers)
+      (in_turn erase_one (state (g.D.Disk.files l.disk).pkg l.db.store) l.number-index (drop l.number-index l.numbers))
+      (state (g.D.Disk.files l.initial.disk).pkg l.initial.db.store) (state (g.D.Disk.files l.disk).pkg l.db.store) l.failed l.changes out out
+      (g.E.Sink.taken (inner l.initial.err)) (g.E.Sink.taken (inner l.err));
+  few : l.failed + l.changes ≡ l.number-index;
+  carried : IsCarried g.D.Disk.tells (g.D.Disk.files l.initial.disk) (g.D.Disk.files l.disk) (g.D.Disk.left_since l.disk (g.D.Disk.moment l.disk))
+      l.initial.db l.db;
+  indexed : is_indexed l.db ≡ true;
+  runs : Runs g.D.Disk.tells g.D.Disk.files g.D.Disk.left_since g.D.Disk.moment g.D.Disk.bytes_read g.D.Disk.follows SameLog l.initial.disk l.disk;
+  disk : g.D.Disk.faults l.initial.disk ≤ g.D.Disk.faults l.disk;
+  err : g.E.Sink.faults (inner l.initial.err) ≤ g.E.Sink.faults (inner l.err);
+  err_rest : HandsOn g.E.Sink.follows l.initial.err l.err;
+}

@@ -1,0 +1,69 @@
+use Rattle.std.proofs.Common.{◌≡◌, refl, sym, subst}
+use Rattle.rpm_outside.specs.Buffered.{inner}
+use Rattle.rpm_db.specs.State.{State, state}
+use Rattle.rpm_change.specs.declared.tally.Halt.TheVariants as halt
+use Rattle.rpm_change.specs.Steps.{Course}
+use Rattle.rpm_change.specs.Endings.{outputs, Done, Ended, IndexTurn, halt_of}
+use Rattle.rpm_change.specs.Erasing.{erase_one}
+use Rattle.rpm_change.proofs.Courses.{through_none}
+use Rattle.rpm_change.proofs.Erased.{erase_held, erase_missing, state_same, line_turn, refused_ended, erase_kinds, erase_spent, refused_turn}
+use Rattle.rpm_change.proofs.erase.erase_one.Goals as goal
+
+pub returns-in-Ok-clause-ended : goal.returns-in-Ok-clause-ended
+returns-in-Ok-clause-ended g c = λ told j out_tells out.
+    let file = (g.D.Disk.files c.args.disk.now).pkg in
+    let s = state file c.args.db.now.store in
+    let t = state (g.D.Disk.files c.erase.new.disk).pkg c.erase.new.self.store in
+    let now = outputs out_tells out g.E.Sink.tells (g.E.Sink.taken (inner c.args.err.now)) in
+    subst (λ (x : Course). Done x s t (record { failed = 0; changes = 1 }) now now)
+    (sym (erase_held file c.args.db.now j c.args.number c.in-Ok.ensures.causes.1))
+    (record {
+      steps = through_none {ot = out_tells} {et = g.E.Sink.tells} out (g.E.Sink.taken (inner c.args.err.now));
+      failed = refl;
+      changes = refl;
+      state_is = c.in-Ok.ensures.state told;
+    })
+
+pub returns-in-Err-NoSuch-clause-ended : goal.returns-in-Err-NoSuch-clause-ended
+returns-in-Err-NoSuch-clause-ended g c = λ told j out_tells out.
+    let file = (g.D.Disk.files c.args.disk.now).pkg in
+    let s = state file c.args.db.now.store in
+    let said = rw c.in-Err-NoSuch.field-0-is at c.in-Err-NoSuch.ensures in
+    let stays : state (g.D.Disk.files c.erase.new.disk).pkg c.erase.new.self.store ≡ s =
+    state_same (g.D.Disk.files c.args.disk.now) (g.D.Disk.files c.erase.new.disk) c.args.db.now c.erase.new.self ((said.same tt).reads_as told)
+    (said.refused tt) in
+    let old = outputs out_tells out g.E.Sink.tells (g.E.Sink.taken (inner c.args.err.now)) in
+    let new = outputs out_tells out g.E.Sink.tells (g.E.Sink.taken (inner c.put_missing.new.err)) in
+    let line = c.put_missing.ensures.ended j s out_tells out in
+    subst (λ (t : State). Ended (erase_one s j c.args.number) s t c.put_missing.result old new) (sym stays)
+    (subst (λ (x : Course). Ended x s s c.put_missing.result old new) (sym (erase_missing file c.args.db.now j c.args.number said.causes.1)) line)
+
+pub returns-in-Err-NoSuch-clause-room : goal.returns-in-Err-NoSuch-clause-room
+returns-in-Err-NoSuch-clause-room g c = λ told indexed j.
+    let file = (g.D.Disk.files c.args.disk.now).pkg in
+    let s = state file c.args.db.now.store in
+    let said = rw c.in-Err-NoSuch.field-0-is at c.in-Err-NoSuch.ensures in
+    subst (λ (x : Course). IndexTurn s x.changes c.put_missing.result) (sym (erase_missing file c.args.db.now j c.args.number said.causes.1))
+    (line_turn s c.put_missing.result c.put_missing.ensures.kinds)
+
+pub returns-in-Err-clause-ended : goal.returns-in-Err-clause-ended
+returns-in-Err-clause-ended g c = λ told j out_tells out.
+    let s = state (g.D.Disk.files c.args.disk.now).pkg c.args.db.now.store in
+    let now = outputs out_tells out g.E.Sink.tells (g.E.Sink.taken (inner c.args.err.now)) in
+    rw c.halt_of.ensures
+    (refused_ended (erase_one s j c.args.number) s s c.in-Err.fault now now
+    (through_none {ot = out_tells} {et = g.E.Sink.tells} out (g.E.Sink.taken (inner c.args.err.now))))
+
+pub returns-in-Err-clause-room : goal.returns-in-Err-clause-room
+returns-in-Err-clause-room g c = λ told indexed j.
+    rw c.halt_of.ensures
+    (refused_turn (g.D.Disk.files c.args.disk.now).pkg c.args.db.now j c.args.number c.in-Err.fault c.in-Err.ensures.causes
+    (c.in-Err.ensures.full told c.requires.going indexed))
+
+pub returns-in-Err-clause-spent : goal.returns-in-Err-clause-spent
+returns-in-Err-clause-spent g c = λ is.
+    let same : halt_of c.in-Err.fault ≡ halt.GenerationSpent = cc in
+    erase_spent c.args.db.now c.erase.new.self c.args.number c.in-Err.fault c.in-Err.ensures.causes c.in-Err.ensures.refused same
+
+pub returns-in-Err-clause-kinds : goal.returns-in-Err-clause-kinds
+returns-in-Err-clause-kinds g c = rw c.halt_of.ensures (erase_kinds c.args.db.now c.args.number c.in-Err.fault c.in-Err.ensures.causes)

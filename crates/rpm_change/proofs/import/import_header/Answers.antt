@@ -1,0 +1,96 @@
+use Rattle.std.proofs.Common.{◌≡◌, Ok, refl, sym, subst, ap, ◌∙◌}
+use Rattle.rpm_outside.specs.Buffered.{inner}
+use Rattle.rpm_header.specs.Header.{header}
+use Rattle.rpm_db.specs.Database.{Database}
+use Rattle.rpm_db.specs.State.{State, state}
+use Rattle.rpm_change.specs.declared.tally.Halt.TheVariants as halt
+use Rattle.rpm_change.specs.Steps.{Course}
+use Rattle.rpm_change.specs.Endings.{outputs, Done, Ended, IsCarried, IndexTurn, halt_of}
+use Rattle.rpm_change.specs.Importing.{imported}
+use Rattle.rpm_change.proofs.Courses.{through_none}
+use Rattle.rpm_change.proofs.Erased.{line_turn, refused_ended}
+use Rattle.rpm_change.proofs.Imported.{imported_good, state_room, indexed_room, any_ok, add_turn, add_kinds, add_spent, add_numbers}
+use Rattle.rpm_change.proofs.import.import_header.Goals as goal
+
+pub returns-in-Ok-clause-ended : goal.returns-in-Ok-clause-ended
+returns-in-Ok-clause-ended g c = λ told out_tells out.
+    let s = state (g.D.Disk.files c.args.disk.now).pkg c.args.db.now.store in
+    let t = state (g.D.Disk.files c.add.new.disk).pkg c.add.new.self.store in
+    let now = outputs out_tells out g.E.Sink.tells (g.E.Sink.taken (inner c.args.err.now)) in
+    let put = c.in-Ok.ensures.causes.1 in
+    subst (λ (x : Course). Done x s t (record { failed = 0; changes = 1 }) now now)
+    (sym (imported_good c.args.place c.args.blob.now put.own put.read))
+    (record {
+      steps = through_none {ot = out_tells} {et = g.E.Sink.tells} out (g.E.Sink.taken (inner c.args.err.now));
+      failed = refl;
+      changes = refl;
+      state_is = c.in-Ok.ensures.state told put.own put.read;
+    })
+
+pub returns-in-Ok-clause-room : goal.returns-in-Ok-clause-room
+returns-in-Ok-clause-room g c = λ told indexed.
+    let s = state (g.D.Disk.files c.args.disk.now).pkg c.args.db.now.store in
+    let put = c.in-Ok.ensures.causes.1 in
+    subst (λ (x : Course). IndexTurn s x.changes (Ok (record { failed = 0; changes = 1 })))
+    (sym (imported_good c.args.place c.args.blob.now put.own put.read))
+    (c.in-Ok.ensures.full told c.requires.going indexed put.own put.read, tt)
+
+pub returns-in-Err-BadHeader-clause-ended : goal.returns-in-Err-BadHeader-clause-ended
+returns-in-Err-BadHeader-clause-ended g c = λ told out_tells out.
+    let s = state (g.D.Disk.files c.args.disk.now).pkg c.args.db.now.store in
+    let said = rw c.in-Err-BadHeader.field-0-is at c.in-Err-BadHeader.ensures in
+    let stays = state_room (g.D.Disk.files c.args.disk.now) (g.D.Disk.files c.add.new.disk) c.args.db.now c.add.new.self ((said.same tt).reads_as told)
+    (said.refused tt) in
+    let old = outputs out_tells out g.E.Sink.tells (g.E.Sink.taken (inner c.args.err.now)) in
+    let new = outputs out_tells out g.E.Sink.tells (g.E.Sink.taken (inner c.put_bad_header.new.err)) in
+    let line = c.put_bad_header.ensures.ended s out_tells out in
+    subst (λ (t : State). Ended (imported c.args.place (header c.args.blob.now)) s t c.put_bad_header.result old new) (sym stays)
+    (subst (λ (x : Course). Ended x s s c.put_bad_header.result old new) (sym (ap (imported c.args.place) said.causes.1)) line)
+
+pub returns-in-Err-BadHeader-clause-room : goal.returns-in-Err-BadHeader-clause-room
+returns-in-Err-BadHeader-clause-room g c = λ told indexed.
+    let s = state (g.D.Disk.files c.args.disk.now).pkg c.args.db.now.store in
+    let said = rw c.in-Err-BadHeader.field-0-is at c.in-Err-BadHeader.ensures in
+    subst (λ (x : Course). IndexTurn s x.changes c.put_bad_header.result) (sym (ap (imported c.args.place) said.causes.1))
+    (line_turn s c.put_bad_header.result c.put_bad_header.ensures.kinds)
+
+pub returns-in-Err-BadHeader-clause-carried : goal.returns-in-Err-BadHeader-clause-carried
+returns-in-Err-BadHeader-clause-carried g c =
+    let said = rw c.in-Err-BadHeader.field-0-is at c.in-Err-BadHeader.ensures in
+    any_ok c.put_bad_header.result (IsCarried g.D.Disk.tells (g.D.Disk.files c.args.disk.now) (g.D.Disk.files c.add.new.disk)
+    (g.D.Disk.left_since c.add.new.disk (g.D.Disk.moment c.add.new.disk)) c.args.db.now c.add.new.self)
+    (record {
+      going = ap (λ (d : Database). d.stopped) (said.refused tt) ∙ c.requires.going;
+      serving = λ told. said.serving (λ e. cc) c.requires.going told;
+      index = λ told rows.
+          indexed_room (g.D.Disk.files c.args.disk.now) (g.D.Disk.files c.add.new.disk) c.args.db.now c.add.new.self ((said.same tt).reads_as told)
+          (said.refused tt) rows;
+    })
+
+pub returns-in-Err-clause-ended : goal.returns-in-Err-clause-ended
+returns-in-Err-clause-ended g c = λ told out_tells out.
+    let s = state (g.D.Disk.files c.args.disk.now).pkg c.args.db.now.store in
+    let t = state (g.D.Disk.files c.add.new.disk).pkg c.add.new.self.store in
+    let now = outputs out_tells out g.E.Sink.tells (g.E.Sink.taken (inner c.args.err.now)) in
+    rw c.halt_of.ensures
+    (refused_ended (imported c.args.place (header c.args.blob.now)) s t c.in-Err.fault now now
+    (through_none {ot = out_tells} {et = g.E.Sink.tells} out (g.E.Sink.taken (inner c.args.err.now))))
+
+pub returns-in-Err-clause-room : goal.returns-in-Err-clause-room
+returns-in-Err-clause-room g c = λ told indexed.
+    let s = state (g.D.Disk.files c.args.disk.now).pkg c.args.db.now.store in
+    rw c.halt_of.ensures
+    (add_turn c.args.db.now s c.args.place c.args.blob.now c.in-Err.fault c.in-Err.ensures.causes (c.in-Err.ensures.full told c.requires.going indexed))
+
+pub returns-in-Err-clause-numbers : goal.returns-in-Err-clause-numbers
+returns-in-Err-clause-numbers g c = λ is.
+    let same : halt_of c.in-Err.fault ≡ halt.NumbersSpent = cc in
+    add_numbers c.args.db.now c.add.new.self c.args.blob.now c.in-Err.fault c.in-Err.ensures.causes c.in-Err.ensures.refused same
+
+pub returns-in-Err-clause-spent : goal.returns-in-Err-clause-spent
+returns-in-Err-clause-spent g c = λ is.
+    let same : halt_of c.in-Err.fault ≡ halt.GenerationSpent = cc in
+    add_spent c.args.db.now c.add.new.self c.args.blob.now c.in-Err.fault c.in-Err.ensures.causes c.in-Err.ensures.refused same
+
+pub returns-in-Err-clause-kinds : goal.returns-in-Err-clause-kinds
+returns-in-Err-clause-kinds g c = rw c.halt_of.ensures (add_kinds c.in-Err.fault)

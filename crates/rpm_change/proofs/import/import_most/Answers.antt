@@ -1,0 +1,52 @@
+use Rattle.std.proofs.Common.{sym, subst}
+use Rattle.std.specs.Prelude.{codes}
+use Rattle.rpm_outside.specs.Browses.{left}
+use Rattle.rpm_outside.specs.Buffered.{inner}
+use Rattle.rpm_outside.specs.Shelves.{bytes_at}
+use Rattle.rpm_db.specs.State.{state}
+use Rattle.rpm_change.specs.Steps.{Course, whole}
+use Rattle.rpm_change.specs.Endings.{outputs, Ended, IndexTurn}
+use Rattle.rpm_change.specs.Importing.{import_listed, listed}
+use Rattle.rpm_change.specs.Turns.{counted_once}
+use Rattle.rpm_change.proofs.Imported.{ended_once, turn_once, opened_list, absent_list}
+use Rattle.rpm_change.proofs.Erased.{line_turn}
+use Rattle.rpm_change.proofs.import.import_most.Goals as goal
+
+pub returns-in-Ok-clause-ended : goal.returns-in-Ok-clause-ended
+returns-in-Ok-clause-ended g c = λ told heard ot o.
+    let s = state (g.D.Disk.files c.args.disk.now).pkg c.args.db.now.store in
+    let t = state (g.D.Disk.files c.import_open.new.disk).pkg c.import_open.new.db.store in
+    let old = outputs ot o g.E.Sink.tells (g.E.Sink.taken (inner c.args.err.now)) in
+    let new = outputs ot o g.E.Sink.tells (g.E.Sink.taken (inner c.import_open.new.err)) in
+    let found = bytes_at (g.S.Shelf.paths c.args.shelf.now) (codes "-") in
+    let rest = g.S.Shelf.rest c.open.new.self in
+    rw c.counted_once.ensures
+    (subst (λ (x : Course). Ended x s t (counted_once c.import_open.result) old new)
+    (sym (opened_list c.args.most found rest (c.in-Ok.ensures.opened heard).0 (c.in-Ok.ensures.opened heard).1))
+    (ended_once (import_listed c.args.most (listed (left rest))) s t old new c.import_open.result (c.import_open.ensures.ended told heard ot o)))
+
+pub returns-in-Ok-clause-room : goal.returns-in-Ok-clause-room
+returns-in-Ok-clause-room g c = λ told heard rows.
+    let s = state (g.D.Disk.files c.args.disk.now).pkg c.args.db.now.store in
+    let found = bytes_at (g.S.Shelf.paths c.args.shelf.now) (codes "-") in
+    let rest = g.S.Shelf.rest c.open.new.self in
+    rw c.counted_once.ensures
+    (subst (λ (x : Course). IndexTurn s x.changes (counted_once c.import_open.result))
+    (sym (opened_list c.args.most found rest (c.in-Ok.ensures.opened heard).0 (c.in-Ok.ensures.opened heard).1))
+    (turn_once (import_listed c.args.most (listed (left rest))) s c.import_open.result (c.import_open.ensures.room told heard rows)))
+
+pub returns-in-Err-clause-ended : goal.returns-in-Err-clause-ended
+returns-in-Err-clause-ended g c = λ told heard ot o.
+    let s = state (g.D.Disk.files c.args.disk.now).pkg c.args.db.now.store in
+    let old = outputs ot o g.E.Sink.tells (g.E.Sink.taken (inner c.args.err.now)) in
+    let new = outputs ot o g.E.Sink.tells (g.E.Sink.taken (inner c.put_failing.new.err)) in
+    let found = bytes_at (g.S.Shelf.paths c.args.shelf.now) (codes "-") in
+    subst (λ (x : Course). Ended x s s c.put_failing.result old new) (sym (absent_list c.args.most found (c.in-Err.ensures.opened heard).1))
+    (c.put_failing.ensures.ended (whole 0) s ot o)
+
+pub returns-in-Err-clause-room : goal.returns-in-Err-clause-room
+returns-in-Err-clause-room g c = λ told heard rows.
+    let s = state (g.D.Disk.files c.args.disk.now).pkg c.args.db.now.store in
+    let found = bytes_at (g.S.Shelf.paths c.args.shelf.now) (codes "-") in
+    subst (λ (x : Course). IndexTurn s x.changes c.put_failing.result) (sym (absent_list c.args.most found (c.in-Err.ensures.opened heard).1))
+    (line_turn s c.put_failing.result c.put_failing.ensures.kinds)

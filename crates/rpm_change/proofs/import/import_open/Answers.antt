@@ -1,0 +1,153 @@
+use Rattle.std.proofs.Common.{◌≡◌, ◌+◌, true, false, [], refl, ◌∙◌, arith}
+use Rattle.rpm_outside.specs.Browses.{left}
+use Rattle.rpm_outside.specs.Buffered.{inner}
+use Rattle.rpm_outside.specs.inner.Browsing.{browses_none, browses_then}
+use Rattle.rpm_file.specs.List.{list_head}
+use Rattle.rpm_db.specs.Database.{IsIndexed}
+use Rattle.rpm_db.specs.State.{state}
+use Rattle.rpm_db.specs.inner.Running.{runs_none, runs_then}
+use Rattle.rpm_db.specs.inner.Writes.{SameLog}
+use Rattle.rpm_change.specs.Importing.{import_listed, listed}
+use Rattle.rpm_change.specs.Turns.{turn, from_place}
+use Rattle.rpm_change.proofs.Courses.{halfway_start, halfway_more, halfway_stop, halfway_turn, halfway_end, halfway_room}
+use Rattle.rpm_change.proofs.Listed.{turn_splits, turn_ahead, within_next}
+use Rattle.rpm_change.proofs.import.import_open.Goals as goal
+
+pub loop-is_last-init : goal.loop-is_last-init
+loop-is_last-init g c = record {
+  goes = λ told heard out_tells out.
+      let s = state (g.D.Disk.files c.args.disk.now).pkg c.args.db.now.store in
+      halfway_start out_tells g.E.Sink.tells (IsIndexed (g.D.Disk.files c.args.disk.now).pkg (g.D.Disk.files c.args.disk.now).idx c.args.db.now)
+      (import_listed c.args.most (listed (left (g.S.Shelf.rest c.args.shelf.now)))) s out (g.E.Sink.taken (inner c.args.err.now));
+  few = omega arith;
+  within = λ going. omega arith;
+  below = omega arith;
+  carried = record { going = c.requires.going; serving = c.requires.serving; index = λ told rows. rows };
+  indexed = c.requires.indexed;
+  runs = runs_none g.D.Disk.tells g.D.Disk.files g.D.Disk.left_since g.D.Disk.moment g.D.Disk.bytes_read g.D.Disk.follows g.met.D.Disk.follows_refl SameLog
+      (λ f. refl) c.args.disk.now;
+  browses = browses_none g.S.Shelf.tells g.S.Shelf.paths g.S.Shelf.rest g.S.Shelf.absences g.S.Shelf.faults c.args.shelf.now;
+  disk = omega arith;
+  err = omega arith;
+  err_rest = (g.met.E.Sink.follows_refl (inner c.args.err.now), c.requires.err_empty);
+}
+
+pub loop-is_last-preserved : goal.loop-is_last-preserved
+loop-is_last-preserved g c =
+    let most = c.args.most in
+    let k = c.loop-is_last.place in
+    let inv = c.loop-is_last.invariant in
+    let done = c.in-Ok.ensures in
+    let going : c.loop-is_last.is_last ≡ false = cc in
+    let s = state (g.D.Disk.files c.args.disk.now).pkg c.args.db.now.store in
+    let t = state (g.D.Disk.files c.loop-is_last.disk).pkg c.loop-is_last.db.store in
+    let u = state (g.D.Disk.files c.import_next.new.disk).pkg c.import_next.new.db.store in
+    let P = IsIndexed (g.D.Disk.files c.args.disk.now).pkg (g.D.Disk.files c.args.disk.now).idx c.args.db.now in
+    let bytes = left (g.S.Shelf.rest c.loop-is_last.shelf) in
+    let behind = left (g.S.Shelf.rest c.import_next.new.shelf) in
+    let all = import_listed most (listed (left (g.S.Shelf.rest c.args.shelf.now))) in
+    let said = c.in-Ok.turn in
+    record {
+      goes = λ told heard out_tells out.
+          let ended = done.ended told heard out_tells out in
+          halfway_more out_tells g.E.Sink.tells P all (from_place false most k (listed bytes)) (turn most k (list_head bytes))
+          (from_place said.is_last most (k + 1) (listed behind)) s t u c.loop-is_last.failed c.loop-is_last.changes out out out
+          (g.E.Sink.taken (inner c.args.err.now)) (g.E.Sink.taken (inner c.loop-is_last.err)) (g.E.Sink.taken (inner c.import_next.new.err))
+          (turn_splits most k bytes said.is_last behind (done.leaves heard)) (rw going at (inv.goes told heard out_tells out))
+          said.tally ended (λ rows. done.room told heard (inv.carried.index told rows));
+      few = omega (arith, inv.few, done.one);
+      within = λ more. within_next most k said.is_last more done.last;
+      below = omega (arith, inv.within going);
+      carried = record {
+        going = done.carried.going;
+        serving = done.carried.serving;
+        index = λ told rows. done.carried.index told (inv.carried.index told rows);
+      };
+      indexed = c.import_next.ensures.indexed;
+      runs = runs_then g.D.Disk.tells g.D.Disk.files g.D.Disk.left_since g.D.Disk.moment g.D.Disk.bytes_read g.D.Disk.follows g.met.D.Disk.follows_trans
+          SameLog SameLog SameLog c.args.disk.now c.loop-is_last.disk c.import_next.new.disk (λ x y log. log) (λ x y z first second. second ∙ first)
+          inv.runs done.runs;
+      browses = browses_then g.S.Shelf.tells g.S.Shelf.paths g.S.Shelf.rest g.S.Shelf.absences g.S.Shelf.faults c.args.shelf.now c.loop-is_last.shelf
+          c.import_next.new.shelf inv.browses done.browses;
+      disk = omega (arith, inv.disk, done.disk.later);
+      err = omega (arith, inv.err, done.err.later);
+      err_rest = (
+        g.met.E.Sink.follows_trans (inner c.args.err.now) (inner c.loop-is_last.err) (inner c.import_next.new.err) inv.err_rest.0 done.err_rest.0,
+        done.err_rest.1,
+      );
+    }
+
+pub returns-in-Err-clause-ended : goal.returns-in-Err-clause-ended
+returns-in-Err-clause-ended g c = λ told heard out_tells out.
+    let most = c.args.most in
+    let k = c.loop-is_last.place in
+    let inv = c.loop-is_last.invariant in
+    let going : c.loop-is_last.is_last ≡ false = cc in
+    let s = state (g.D.Disk.files c.args.disk.now).pkg c.args.db.now.store in
+    let t = state (g.D.Disk.files c.loop-is_last.disk).pkg c.loop-is_last.db.store in
+    let u = state (g.D.Disk.files c.import_next.new.disk).pkg c.import_next.new.db.store in
+    let P = IsIndexed (g.D.Disk.files c.args.disk.now).pkg (g.D.Disk.files c.args.disk.now).idx c.args.db.now in
+    let bytes = left (g.S.Shelf.rest c.loop-is_last.shelf) in
+    let all = import_listed most (listed (left (g.S.Shelf.rest c.args.shelf.now))) in
+    let split = turn_ahead most k (list_head bytes) in
+    halfway_stop out_tells g.E.Sink.tells P all (from_place false most k (listed bytes)) (turn most k (list_head bytes))
+    (from_place split.0 most (k + 1) (listed split.1.0)) s t u c.loop-is_last.failed c.loop-is_last.changes out out out
+    (g.E.Sink.taken (inner c.args.err.now)) (g.E.Sink.taken (inner c.loop-is_last.err)) (g.E.Sink.taken (inner c.import_next.new.err))
+    (turn_splits most k bytes split.0 split.1.0 split.1.1) (rw going at (inv.goes told heard out_tells out)) c.in-Err.halt
+    (c.in-Err.ensures.ended told heard out_tells out)
+
+pub returns-in-Err-clause-room : goal.returns-in-Err-clause-room
+returns-in-Err-clause-room g c = λ told heard rows.
+    let most = c.args.most in
+    let k = c.loop-is_last.place in
+    let inv = c.loop-is_last.invariant in
+    let going : c.loop-is_last.is_last ≡ false = cc in
+    let s = state (g.D.Disk.files c.args.disk.now).pkg c.args.db.now.store in
+    let t = state (g.D.Disk.files c.loop-is_last.disk).pkg c.loop-is_last.db.store in
+    let u = state (g.D.Disk.files c.import_next.new.disk).pkg c.import_next.new.db.store in
+    let P = IsIndexed (g.D.Disk.files c.args.disk.now).pkg (g.D.Disk.files c.args.disk.now).idx c.args.db.now in
+    let bytes = left (g.S.Shelf.rest c.loop-is_last.shelf) in
+    let all = import_listed most (listed (left (g.S.Shelf.rest c.args.shelf.now))) in
+    let split = turn_ahead most k (list_head bytes) in
+    halfway_turn true g.E.Sink.tells P all (from_place false most k (listed bytes)) (turn most k (list_head bytes))
+    (from_place split.0 most (k + 1) (listed split.1.0)) s t u c.loop-is_last.failed c.loop-is_last.changes [] [] []
+    (g.E.Sink.taken (inner c.args.err.now)) (g.E.Sink.taken (inner c.loop-is_last.err)) (g.E.Sink.taken (inner c.import_next.new.err))
+    (turn_splits most k bytes split.0 split.1.0 split.1.1) (rw going at (inv.goes told heard true [])) c.in-Err.halt rows
+    (c.in-Err.ensures.room told heard (inv.carried.index told rows))
+
+pub returns-in-Err-clause-runs : goal.returns-in-Err-clause-runs
+returns-in-Err-clause-runs g c =
+    runs_then g.D.Disk.tells g.D.Disk.files g.D.Disk.left_since g.D.Disk.moment g.D.Disk.bytes_read g.D.Disk.follows g.met.D.Disk.follows_trans
+    SameLog SameLog SameLog c.args.disk.now c.loop-is_last.disk c.import_next.new.disk (λ x y log. log) (λ x y z first second. second ∙ first)
+    c.loop-is_last.invariant.runs c.in-Err.ensures.runs
+
+pub returns-in-Err-clause-browses : goal.returns-in-Err-clause-browses
+returns-in-Err-clause-browses g c =
+    browses_then g.S.Shelf.tells g.S.Shelf.paths g.S.Shelf.rest g.S.Shelf.absences g.S.Shelf.faults c.args.shelf.now c.loop-is_last.shelf
+    c.import_next.new.shelf c.loop-is_last.invariant.browses c.in-Err.ensures.browses
+
+pub returns-clause-ended : goal.returns-clause-ended
+returns-clause-ended g c = λ told heard out_tells out.
+    let most = c.args.most in
+    let k = c.loop-is_last.place in
+    let past : c.loop-is_last.is_last ≡ true = cc in
+    let s = state (g.D.Disk.files c.args.disk.now).pkg c.args.db.now.store in
+    let t = state (g.D.Disk.files c.loop-is_last.disk).pkg c.loop-is_last.db.store in
+    let P = IsIndexed (g.D.Disk.files c.args.disk.now).pkg (g.D.Disk.files c.args.disk.now).idx c.args.db.now in
+    let bytes = left (g.S.Shelf.rest c.loop-is_last.shelf) in
+    halfway_end out_tells g.E.Sink.tells P (import_listed most (listed (left (g.S.Shelf.rest c.args.shelf.now)))) (from_place true most k (listed bytes)) s t
+    c.loop-is_last.failed c.loop-is_last.changes out out (g.E.Sink.taken (inner c.args.err.now)) (g.E.Sink.taken (inner c.loop-is_last.err)) refl
+    (rw past at (c.loop-is_last.invariant.goes told heard out_tells out))
+
+pub returns-clause-room : goal.returns-clause-room
+returns-clause-room g c = λ told heard rows.
+    let most = c.args.most in
+    let k = c.loop-is_last.place in
+    let past : c.loop-is_last.is_last ≡ true = cc in
+    let s = state (g.D.Disk.files c.args.disk.now).pkg c.args.db.now.store in
+    let t = state (g.D.Disk.files c.loop-is_last.disk).pkg c.loop-is_last.db.store in
+    let P = IsIndexed (g.D.Disk.files c.args.disk.now).pkg (g.D.Disk.files c.args.disk.now).idx c.args.db.now in
+    let bytes = left (g.S.Shelf.rest c.loop-is_last.shelf) in
+    halfway_room true g.E.Sink.tells P (import_listed most (listed (left (g.S.Shelf.rest c.args.shelf.now)))) (from_place true most k (listed bytes)) s t
+    c.loop-is_last.failed c.loop-is_last.changes [] [] (g.E.Sink.taken (inner c.args.err.now)) (g.E.Sink.taken (inner c.loop-is_last.err)) refl
+    (rw past at (c.loop-is_last.invariant.goes told heard true [])) rows

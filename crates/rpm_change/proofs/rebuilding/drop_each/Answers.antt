@@ -1,0 +1,138 @@
+use Rattle.std.proofs.Common.{true, [], refl, ◌∙◌, arith}
+use Rattle.std.specs.FinMap as finite
+use Rattle.rpm_outside.specs.Buffered.{inner}
+use Rattle.rpm_db.specs.Database.{IsIndexed}
+use Rattle.rpm_db.specs.State.{state, above}
+use Rattle.rpm_db.specs.inner.Running.{runs_none, runs_then}
+use Rattle.rpm_db.specs.inner.Writes.{SameLog}
+use Rattle.rpm_change.specs.Rebuilding.{dropped, drop_each, rebuild}
+use Rattle.rpm_change.proofs.Courses.{halfway_start, halfway_more, halfway_stop, halfway_turn, halfway_end, halfway_room}
+use Rattle.rpm_change.proofs.Dropped.{drop_next, drop_none, same_dropped}
+use Rattle.rpm_change.proofs.rebuilding.drop_each.Goals as goal
+
+pub loop-next-init : goal.loop-next-init
+loop-next-init g c = record {
+  goes = λ told err_tells err.
+      let file = (g.D.Disk.files c.args.disk.now).pkg in
+      let s = state file c.args.db.now.store in
+      let P = IsIndexed file (g.D.Disk.files c.args.disk.now).idx c.args.db.now in
+      let o = g.O.Sink.taken (inner c.args.out.now) in
+      halfway_start g.O.Sink.tells err_tells P (rebuild s) s o err;
+  same = λ told k over. refl;
+  few = omega arith;
+  carried = record { going = c.requires.going; serving = c.requires.serving; index = λ told rows. rows };
+  indexed = c.requires.indexed;
+  runs = runs_none g.D.Disk.tells g.D.Disk.files g.D.Disk.left_since g.D.Disk.moment g.D.Disk.bytes_read g.D.Disk.follows g.met.D.Disk.follows_refl SameLog
+      (λ f. refl) c.args.disk.now;
+  disk = omega arith;
+  out = omega arith;
+  out_rest = (g.met.O.Sink.follows_refl (inner c.args.out.now), c.requires.out_empty);
+}
+
+pub loop-next-preserved : goal.loop-next-preserved
+loop-next-preserved g c =
+    let n = c.loop-next.number in
+    let m = c.in-Some.next in
+    let inv = c.loop-next.invariant in
+    let done = c.in-Ok.ensures in
+    let old = (g.D.Disk.files c.args.disk.now).pkg in
+    let mid = (g.D.Disk.files c.loop-next.disk).pkg in
+    let s = state old c.args.db.now.store in
+    let t = state mid c.loop-next.db.store in
+    let u = state (g.D.Disk.files c.drop_one.new.disk).pkg c.drop_one.new.db.store in
+    let P = IsIndexed old (g.D.Disk.files c.args.disk.now).idx c.args.db.now in
+    let es = finite.entries s.packages in
+    let o = g.O.Sink.taken (inner c.args.out.now) in
+    let o' = g.O.Sink.taken (inner c.loop-next.out) in
+    let o'' = g.O.Sink.taken (inner c.drop_one.new.out) in
+    record {
+      goes = λ told et e.
+          let next = drop_next s.packages t.packages n m (inv.same told) (c.in-Some.ensures.told mid) in
+          let ended = done.ended told next.0 next.1.0 et e in
+          halfway_more g.O.Sink.tells et P (rebuild s) (drop_each (above n es)) (dropped m next.0) (drop_each (above m es)) s t u
+          c.loop-next.failed c.loop-next.changes o o' o'' e e e next.1.1 (inv.goes told et e)
+          c.in-Ok.tally ended (λ rows. done.room told (inv.carried.index told rows) next.0 next.1.0);
+      same = λ told.
+          let next = drop_next s.packages t.packages n m (inv.same told) (c.in-Some.ensures.told mid) in
+          same_dropped next.0 n m s t u (inv.same told) c.in-Some.ensures.next.0 (done.ended told next.0 next.1.0 true []).state_is;
+      few = omega (arith, inv.few, done.one, c.in-Some.ensures.next.0);
+      carried = record {
+        going = done.carried.going;
+        serving = done.carried.serving;
+        index = λ told rows. done.carried.index told (inv.carried.index told rows);
+      };
+      indexed = c.drop_one.ensures.indexed;
+      runs = runs_then g.D.Disk.tells g.D.Disk.files g.D.Disk.left_since g.D.Disk.moment g.D.Disk.bytes_read g.D.Disk.follows g.met.D.Disk.follows_trans
+          SameLog SameLog SameLog c.args.disk.now c.loop-next.disk c.drop_one.new.disk (λ x y log. log) (λ x y z first second. second ∙ first)
+          inv.runs done.runs;
+      disk = omega (arith, inv.disk, done.disk.later);
+      out = omega (arith, inv.out, done.out.later);
+      out_rest = (
+        g.met.O.Sink.follows_trans (inner c.args.out.now) (inner c.loop-next.out) (inner c.drop_one.new.out) inv.out_rest.0 done.out_rest.0,
+        done.out_rest.1,
+      );
+    }
+
+pub returns-in-Err-clause-ended : goal.returns-in-Err-clause-ended
+returns-in-Err-clause-ended g c = λ told et e.
+    let n = c.loop-next.number in
+    let m = c.in-Some.next in
+    let inv = c.loop-next.invariant in
+    let mid = (g.D.Disk.files c.loop-next.disk).pkg in
+    let s = state (g.D.Disk.files c.args.disk.now).pkg c.args.db.now.store in
+    let t = state mid c.loop-next.db.store in
+    let u = state (g.D.Disk.files c.drop_one.new.disk).pkg c.drop_one.new.db.store in
+    let P = IsIndexed (g.D.Disk.files c.args.disk.now).pkg (g.D.Disk.files c.args.disk.now).idx c.args.db.now in
+    let es = finite.entries s.packages in
+    let next = drop_next s.packages t.packages n m (inv.same told) (c.in-Some.ensures.told mid) in
+    halfway_stop g.O.Sink.tells et P (rebuild s) (drop_each (above n es)) (dropped m next.0) (drop_each (above m es)) s t u
+    c.loop-next.failed c.loop-next.changes (g.O.Sink.taken (inner c.args.out.now)) (g.O.Sink.taken (inner c.loop-next.out))
+    (g.O.Sink.taken (inner c.drop_one.new.out)) e e e next.1.1 (inv.goes told et e) c.in-Err.halt
+    (c.in-Err.ensures.ended told next.0 next.1.0 et e)
+
+pub returns-in-Err-clause-room : goal.returns-in-Err-clause-room
+returns-in-Err-clause-room g c = λ told rows.
+    let n = c.loop-next.number in
+    let m = c.in-Some.next in
+    let inv = c.loop-next.invariant in
+    let mid = (g.D.Disk.files c.loop-next.disk).pkg in
+    let s = state (g.D.Disk.files c.args.disk.now).pkg c.args.db.now.store in
+    let t = state mid c.loop-next.db.store in
+    let u = state (g.D.Disk.files c.drop_one.new.disk).pkg c.drop_one.new.db.store in
+    let P = IsIndexed (g.D.Disk.files c.args.disk.now).pkg (g.D.Disk.files c.args.disk.now).idx c.args.db.now in
+    let es = finite.entries s.packages in
+    let next = drop_next s.packages t.packages n m (inv.same told) (c.in-Some.ensures.told mid) in
+    halfway_turn g.O.Sink.tells true P (rebuild s) (drop_each (above n es)) (dropped m next.0) (drop_each (above m es)) s t u
+    c.loop-next.failed c.loop-next.changes (g.O.Sink.taken (inner c.args.out.now)) (g.O.Sink.taken (inner c.loop-next.out))
+    (g.O.Sink.taken (inner c.drop_one.new.out)) [] [] [] next.1.1 (inv.goes told true []) c.in-Err.halt rows
+    (c.in-Err.ensures.room told (inv.carried.index told rows) next.0 next.1.0)
+
+pub returns-in-Err-clause-runs : goal.returns-in-Err-clause-runs
+returns-in-Err-clause-runs g c =
+    runs_then g.D.Disk.tells g.D.Disk.files g.D.Disk.left_since g.D.Disk.moment g.D.Disk.bytes_read g.D.Disk.follows g.met.D.Disk.follows_trans
+    SameLog SameLog SameLog c.args.disk.now c.loop-next.disk c.drop_one.new.disk (λ x y log. log) (λ x y z first second. second ∙ first)
+    c.loop-next.invariant.runs c.in-Err.ensures.runs
+
+pub returns-clause-ended : goal.returns-clause-ended
+returns-clause-ended g c = λ told et e.
+    let n = c.loop-next.number in
+    let inv = c.loop-next.invariant in
+    let mid = (g.D.Disk.files c.loop-next.disk).pkg in
+    let s = state (g.D.Disk.files c.args.disk.now).pkg c.args.db.now.store in
+    let t = state mid c.loop-next.db.store in
+    let P = IsIndexed (g.D.Disk.files c.args.disk.now).pkg (g.D.Disk.files c.args.disk.now).idx c.args.db.now in
+    halfway_end g.O.Sink.tells et P (rebuild s) (drop_each (above n (finite.entries s.packages))) s t c.loop-next.failed c.loop-next.changes
+    (g.O.Sink.taken (inner c.args.out.now)) (g.O.Sink.taken (inner c.loop-next.out)) e e
+    (drop_none s.packages t.packages n (inv.same told) (c.in_default.ensures.told mid)) (inv.goes told et e)
+
+pub returns-clause-room : goal.returns-clause-room
+returns-clause-room g c = λ told rows.
+    let n = c.loop-next.number in
+    let inv = c.loop-next.invariant in
+    let mid = (g.D.Disk.files c.loop-next.disk).pkg in
+    let s = state (g.D.Disk.files c.args.disk.now).pkg c.args.db.now.store in
+    let t = state mid c.loop-next.db.store in
+    let P = IsIndexed (g.D.Disk.files c.args.disk.now).pkg (g.D.Disk.files c.args.disk.now).idx c.args.db.now in
+    halfway_room g.O.Sink.tells true P (rebuild s) (drop_each (above n (finite.entries s.packages))) s t c.loop-next.failed c.loop-next.changes
+    (g.O.Sink.taken (inner c.args.out.now)) (g.O.Sink.taken (inner c.loop-next.out)) [] []
+    (drop_none s.packages t.packages n (inv.same told) (c.in_default.ensures.told mid)) (inv.goes told true []) rows

@@ -1,0 +1,69 @@
+use Rattle.std.proofs.Common.{subst, ◌∙◌}
+use Rattle.rpm_outside.specs.Buffered.{inner}
+use Rattle.rpm_db.specs.State.{State, state}
+use Rattle.rpm_db.specs.inner.Running.{runs_then}
+use Rattle.rpm_db.specs.inner.Writes.{SameLog}
+use Rattle.rpm_db.specs.Lawful.{Remade}
+use Rattle.rpm_change.specs.Endings.{outputs, Ended, IndexTurn}
+use Rattle.rpm_change.specs.Rebuilding.{rebuild}
+use Rattle.rpm_change.proofs.Courses.{through_none}
+use Rattle.rpm_change.proofs.Erased.{refused_ended}
+use Rattle.rpm_change.proofs.Dropped.{serving_remade, state_remade, rebuild_turn}
+use Rattle.rpm_change.proofs.Rebuilt.{rebuild_kinds, unbuilt_turn, runs_weaker}
+use Rattle.rpm_change.proofs.rebuilding.rebuild.Goals as goal
+
+pub drop_each-requires-clause-serving : goal.drop_each-requires-clause-serving
+drop_each-requires-clause-serving g c = λ told.
+    let said = c.in-Ok.ensures in
+    let made = said.runs.reads_as told in
+    let served = c.requires.serving told in
+    serving_remade (g.D.Disk.files c.args.disk.now) (g.D.Disk.files c.rebuild.new.disk)
+    (g.D.Disk.left_since c.rebuild.new.disk (g.D.Disk.moment c.rebuild.new.disk)) c.args.db.now c.rebuild.new.self made said.store served.keeps
+    (said.rebuilt told).2 (said.pkg told) (said.settled told)
+
+pub returns-in-Ok-clause-ended : goal.returns-in-Ok-clause-ended
+returns-in-Ok-clause-ended g c = λ told et e.
+    let t = state (g.D.Disk.files c.drop_each.new.disk).pkg c.drop_each.new.db.store in
+    let old = outputs g.O.Sink.tells (g.O.Sink.taken (inner c.args.out.now)) et e in
+    let new = outputs g.O.Sink.tells (g.O.Sink.taken (inner c.drop_each.new.out)) et e in
+    let same = state_remade (g.D.Disk.files c.args.disk.now) (g.D.Disk.files c.rebuild.new.disk) c.args.db.now c.rebuild.new.self
+    (c.in-Ok.ensures.runs.reads_as told) c.in-Ok.ensures.store in
+    subst (λ (s : State). Ended (rebuild s) s t c.drop_each.result old new) same (c.drop_each.ensures.ended told et e)
+
+pub returns-in-Ok-clause-room : goal.returns-in-Ok-clause-room
+returns-in-Ok-clause-room g c = λ told.
+    let said = c.in-Ok.ensures.rebuilt told in
+    let s = state (g.D.Disk.files c.args.disk.now).pkg c.args.db.now.store in
+    let same = state_remade (g.D.Disk.files c.args.disk.now) (g.D.Disk.files c.rebuild.new.disk) c.args.db.now c.rebuild.new.self
+    (c.in-Ok.ensures.runs.reads_as told) c.in-Ok.ensures.store in
+    rebuild_turn s (rebuild s).changes c.drop_each.result said.0
+    (subst (λ (s : State). IndexTurn s (rebuild s).changes c.drop_each.result) same (c.drop_each.ensures.room told said.3))
+
+pub returns-in-Ok-clause-runs : goal.returns-in-Ok-clause-runs
+returns-in-Ok-clause-runs g c =
+    runs_then g.D.Disk.tells g.D.Disk.files g.D.Disk.left_since g.D.Disk.moment g.D.Disk.bytes_read g.D.Disk.follows g.met.D.Disk.follows_trans
+    Remade SameLog SameLog c.args.disk.now c.rebuild.new.disk c.drop_each.new.disk (λ x y made. made.log) (λ x y z made second. second ∙ made.log)
+    c.in-Ok.ensures.runs c.drop_each.ensures.runs
+
+pub returns-in-Err-clause-ended : goal.returns-in-Err-clause-ended
+returns-in-Err-clause-ended g c = λ told et e.
+    let s = state (g.D.Disk.files c.args.disk.now).pkg c.args.db.now.store in
+    let t = state (g.D.Disk.files c.rebuild.new.disk).pkg c.rebuild.new.self.store in
+    let now = outputs g.O.Sink.tells (g.O.Sink.taken (inner c.args.out.now)) et e in
+    rw c.halt_of.ensures
+    (refused_ended (rebuild s) s t c.in-Err.fault now now (through_none {ot = g.O.Sink.tells} {et = et} (g.O.Sink.taken (inner c.args.out.now)) e))
+
+pub returns-in-Err-clause-room : goal.returns-in-Err-clause-room
+returns-in-Err-clause-room g c = λ told.
+    let s = state (g.D.Disk.files c.args.disk.now).pkg c.args.db.now.store in
+    rw c.halt_of.ensures
+    (unbuilt_turn (g.D.Disk.files c.args.disk.now) (g.D.Disk.files c.rebuild.new.disk) c.args.db.now c.rebuild.new.self (rebuild s).changes c.in-Err.fault
+    (c.in-Err.ensures.rebuilt told))
+
+pub returns-in-Err-clause-kinds : goal.returns-in-Err-clause-kinds
+returns-in-Err-clause-kinds g c = rw c.halt_of.ensures (rebuild_kinds c.args.db.now c.in-Err.fault c.in-Err.ensures.causes)
+
+pub returns-in-Err-clause-runs : goal.returns-in-Err-clause-runs
+returns-in-Err-clause-runs g c =
+    runs_weaker g.D.Disk.tells g.D.Disk.files g.D.Disk.left_since g.D.Disk.moment g.D.Disk.bytes_read g.D.Disk.follows g.met.D.Disk.follows_refl
+    g.met.D.Disk.follows_trans c.args.disk.now c.rebuild.new.disk c.in-Err.ensures.runs

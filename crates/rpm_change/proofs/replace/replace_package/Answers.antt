@@ -1,0 +1,58 @@
+use Rattle.std.proofs.Common.{◌≡◌, true, false, Some, sym, ◌∙◌, subst}
+use Rattle.std.specs.FinMap as finite
+use Rattle.rpm_outside.specs.Buffered.{inner}
+use Rattle.rpm_db.specs.Database.{holds}
+use Rattle.rpm_db.specs.State.{state, packages}
+use Rattle.rpm_db.specs.inner.Laws.{is_there}
+use Rattle.rpm_change.specs.Endings.{outputs, Ended, IndexTurn}
+use Rattle.rpm_change.specs.Steps.{Course}
+use Rattle.rpm_change.proofs.Erased.{line_turn}
+use Rattle.rpm_change.proofs.Filed.{replaced_none, replaced_some}
+use Rattle.rpm_change.proofs.Stops.{lines_putting}
+use Rattle.rpm_change.proofs.replace.replace_package.Goals as goal
+
+pub returns-then-holds-clause-ended : goal.returns-then-holds-clause-ended
+returns-then-holds-clause-ended g c = λ told shelf_told out_tells out.
+    let file = (g.D.Disk.files c.args.disk.now).pkg in
+    let db = c.args.db.now in
+    let held : holds c.args.number db ≡ true = sym c.holds.ensures.held ∙ c.if-holds.true in
+    subst (λ (x : Course). Ended x (state file db.store) (state (g.D.Disk.files c.put_file.new.disk).pkg c.put_file.new.db.store) c.put_file.result
+    (outputs out_tells out g.E.Sink.tells (g.E.Sink.taken (inner c.args.err.now)))
+    (outputs out_tells out g.E.Sink.tells (g.E.Sink.taken (inner c.put_file.new.err))))
+    (sym (replaced_some (finite.get (packages file db.store) c.args.number) (g.S.Shelf.paths c.args.shelf.now) c.args.now c.args.number c.args.path.now
+    (is_there file db c.args.number ∙ held))) (c.put_file.ensures.ended told shelf_told 0 out_tells out)
+
+pub returns-then-holds-clause-room : goal.returns-then-holds-clause-room
+returns-then-holds-clause-room g c = λ told shelf_told rows.
+    let file = (g.D.Disk.files c.args.disk.now).pkg in
+    let db = c.args.db.now in
+    let held : holds c.args.number db ≡ true = sym c.holds.ensures.held ∙ c.if-holds.true in
+    subst (λ (x : Course). IndexTurn (state file db.store) x.changes c.put_file.result)
+    (sym (replaced_some (finite.get (packages file db.store) c.args.number) (g.S.Shelf.paths c.args.shelf.now) c.args.now c.args.number c.args.path.now
+    (is_there file db c.args.number ∙ held))) (c.put_file.ensures.room told shelf_told rows 0)
+
+pub returns-then-holds-clause-untried : goal.returns-then-holds-clause-untried
+returns-then-holds-clause-untried g c = λ not. (let held : holds c.args.number c.args.db.now ≡ true = sym c.holds.ensures.held ∙ c.if-holds.true in absurd cc)
+
+pub returns-else-holds-clause-ended : goal.returns-else-holds-clause-ended
+returns-else-holds-clause-ended g c = λ told shelf_told out_tells out.
+    let file = (g.D.Disk.files c.args.disk.now).pkg in
+    let db = c.args.db.now in
+    let not : holds c.args.number db ≡ false = sym c.holds.ensures.held ∙ c.if-holds.false in
+    let s = state file db.store in
+    subst (λ (x : Course). Ended x s s c.put_missing.result (outputs out_tells out g.E.Sink.tells (g.E.Sink.taken (inner c.args.err.now)))
+    (outputs out_tells out g.E.Sink.tells (g.E.Sink.taken (inner c.put_missing.new.err))))
+    (sym (replaced_none (finite.get (packages file db.store) c.args.number) (g.S.Shelf.paths c.args.shelf.now) c.args.now c.args.number c.args.path.now
+    (is_there file db c.args.number ∙ not))) (c.put_missing.ensures.ended 0 s out_tells out)
+
+pub returns-else-holds-clause-room : goal.returns-else-holds-clause-room
+returns-else-holds-clause-room g c = λ told shelf_told rows.
+    let file = (g.D.Disk.files c.args.disk.now).pkg in
+    let db = c.args.db.now in
+    let not : holds c.args.number db ≡ false = sym c.holds.ensures.held ∙ c.if-holds.false in
+    subst (λ (x : Course). IndexTurn (state file db.store) x.changes c.put_missing.result)
+    (sym (replaced_none (finite.get (packages file db.store) c.args.number) (g.S.Shelf.paths c.args.shelf.now) c.args.now c.args.number c.args.path.now
+    (is_there file db c.args.number ∙ not))) (line_turn (state file db.store) c.put_missing.result c.put_missing.ensures.kinds)
+
+pub returns-else-holds-clause-kinds : goal.returns-else-holds-clause-kinds
+returns-else-holds-clause-kinds g c = lines_putting (Some c.args.number) c.put_missing.result c.put_missing.ensures.kinds

@@ -1,0 +1,98 @@
+-- What package files make of the database.
+use Rattle.std.specs.Prelude.{◌≡◌, ℕ, List, Option, Some, None, Result, Ok, Err, Vec}
+use Rattle.std.specs.FinMap as finite
+use Rattle.std.specs.declared.alloc.Global.{Global}
+use Rattle.rpm_header.specs.Header.{Header}
+use Rattle.rpm_outside.specs.Shelves.{Paths, bytes_at}
+use Rattle.rpm_file.specs.declared.fault.FileFault.{FileFault}
+use Rattle.rpm_file.specs.declared.fault.FileFault.TheVariants as file
+use Rattle.rpm_file.specs.Package.{Headed, package_header, read_again}
+use Rattle.rpm_db.specs.Changes.{Change, Add, Put}
+use Rattle.rpm_db.specs.State.{State, Package}
+use Rattle.rpm_change.specs.declared.add.Placing.{Placing}
+use Rattle.rpm_change.specs.declared.tally.Halt.{Halt}
+use Rattle.rpm_change.specs.declared.tally.Halt.TheVariants as halt
+use Rattle.rpm_change.specs.Installs.{installed}
+use Rattle.rpm_change.specs.Steps.{Course, ToErr, whole, changing, failing, in_turn}
+use Rattle.rpm_change.specs.Erasing.{missing}
+use Rattle.rpm_change.specs.Texts.{refused_line, absent_line}
+
+-- a header goes under a new number, or in place of this number's package
+abbrev pub change_at : Option ℕ → List ℕ → Change
+change_at None bytes = Add bytes
+change_at (Some n) bytes = Put n bytes
+
+-- ---- a file
+
+-- the header of a package file as it is installed at this moment
+abbrev pub as_installed : ℕ → Result Headed FileFault → Result Header FileFault
+as_installed now (Ok found) = installed now found.header
+as_installed now (Err fault) = Err fault
+
+-- it goes into the database so, or the file is refused
+abbrev pub put_installed : Option ℕ → ℕ → List ℕ → Result Header FileFault → Course
+put_installed number j path (Ok h) = changing (change_at number h.blob)
+put_installed number j path (Err fault) = failing (ToErr (whole j) (refused_line path fault))
+
+abbrev pub put_read : Placing → ℕ → List ℕ → List ℕ → Course
+put_read how j path bytes = put_installed how.number j path (as_installed how.moment (package_header bytes))
+
+abbrev pub put_found : Placing → ℕ → List ℕ → Option (List ℕ) → Course
+put_found how j path None = failing (ToErr (whole j) (absent_line path))
+put_found how j path (Some bytes) = put_read how j path bytes
+
+-- the package file under a path
+abbrev pub put_file : Placing → Paths → ℕ → List ℕ → Course
+put_file how paths j path = put_found how j path (bytes_at paths path)
+
+-- ---- the commands
+
+abbrev pub adding : ℕ → Placing
+adding now = record { number = None; moment = now }
+
+-- what adding a file does isn't of the state
+abbrev pub add_file : ℕ → Paths → State → ℕ → List ℕ → Course
+add_file now paths s j path = put_file (adding now) paths j path
+
+-- each file is added, at the moment `now`
+abbrev pub add_files : Paths → ℕ → State → List (List ℕ) → Course
+add_files paths now s files = in_turn (add_file now paths) s 0 files
+
+-- a file goes in place of a number's package; that there is one is tried before the file
+abbrev pub replaced : Option Package → Paths → ℕ → ℕ → List ℕ → Course
+replaced None paths now n path = missing 0 n
+replaced (Some held) paths now n path = put_file (record { number = Some n; moment = now }) paths 0 path
+
+abbrev pub replace : Paths → ℕ → State → ℕ → List ℕ → Course
+replace paths now s n path = replaced (finite.get s.packages n) paths now n path
+
+-- ---- what a call answers
+
+-- the bytes of such a header, which are read as it again; or its fault, a read that failed, or a want of memory
+abbrev pub GivesInstalled : Result Header FileFault → Result (Vec ℕ Global) FileFault → Type 0
+GivesInstalled said (Ok blob) = said ≡ Ok (read_again blob.items)
+GivesInstalled said (Err file.ReadFault) = Unit {0}
+GivesInstalled said (Err file.NoMemory) = Unit {0}
+GivesInstalled said (Err fault) = said ≡ Err fault
+
+-- what stops a command where a package file isn't read; None where the file itself is refused
+abbrev pub stop_in : FileFault → Option Halt
+stop_in file.ReadFault = Some halt.ShelfFault
+stop_in file.NoMemory = Some halt.NoMemory
+stop_in fault = None
+
+-- a change of the database reads no shelf and writes no line; and only a new number can be spent
+abbrev pub IsOfPlacing : Option ℕ → Halt → Type 0
+IsOfPlacing number halt.ShelfFault = ⊥
+IsOfPlacing number halt.OutFault = ⊥
+IsOfPlacing number halt.ErrFault = ⊥
+IsOfPlacing None halt.NumbersSpent = Unit {0}
+IsOfPlacing (Some n) halt.NumbersSpent = ⊥
+IsOfPlacing number others = Unit {0}
+
+-- nothing is written to out; and only a new number can be spent
+abbrev pub IsOfPutting : Option ℕ → Halt → Type 0
+IsOfPutting number halt.OutFault = ⊥
+IsOfPutting None halt.NumbersSpent = Unit {0}
+IsOfPutting (Some n) halt.NumbersSpent = ⊥
+IsOfPutting number others = Unit {0}

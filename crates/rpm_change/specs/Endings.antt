@@ -1,0 +1,127 @@
+-- How far a command went, and why it was stopped.
+use Rattle.std.specs.Prelude.{◌≡◌, ◌⊎◌, ℕ, ◌^◌, ◌<◌, ◌≤◌, List, [], ◌∷◌, ◌++◌, length, Bool, true, false, IsTrue, Result, Ok, Err}
+use Rattle.std.specs.List.{flat_map}
+use Rattle.rpm_outside.specs.Sinks.{Gained}
+use Rattle.rpm_outside.specs.Files.{Files}
+use Rattle.rpm_hindex.specs.Sizes.{units_for}
+use Rattle.rpm_db.specs.Changes.{Change, apply, IsServing}
+use Rattle.rpm_db.specs.Database.{Database, IsIndexed}
+use Rattle.rpm_db.specs.Rows.{rows}
+use Rattle.rpm_db.specs.State.{State}
+use Rattle.rpm_db.specs.declared.change.ChangeFault.{ChangeFault}
+use Rattle.rpm_db.specs.declared.change.ChangeFault.TheVariants as fault
+use Rattle.rpm_change.specs.declared.tally.Tally.{Tally}
+use Rattle.rpm_change.specs.declared.tally.Halt.{Halt}
+use Rattle.rpm_change.specs.declared.tally.Halt.TheVariants as halt
+use Rattle.rpm_change.specs.Steps.{Step, Course, out_bytes, err_bytes, is_out, cut, apply_all}
+
+-- what out and err took, and whether they tell it
+pub record Outputs : Type 0 where
+  pub out_tells : Bool
+  pub out : List ℕ
+  pub err_tells : Bool
+  pub err : List ℕ
+
+abbrev pub outputs : Bool → List ℕ → Bool → List ℕ → Outputs
+outputs out_tells out err_tells err = record { out_tells = out_tells; out = out; err_tells = err_tells; err = err }
+
+-- out and err gained exactly the bytes of these steps
+pub record Through (done : List Step) (old new : Outputs) : Type 0 where
+  pub out : Gained old.out_tells old.out new.out (flat_map out_bytes done)
+  pub err : Gained old.err_tells old.err new.err (flat_map err_bytes done)
+
+-- some of the steps were gone through
+pub record ThroughSome (all : List Step) (old new : Outputs) : Type 0 where
+  pub done : List Step
+  pub rest : List Step
+  pub all_is : all ≡ done ++ rest
+  pub through : Through done old new
+
+-- some of the steps were gone through, and of the next one the first bytes
+pub record StoppedWithin (all : List Step) (to_out : Bool) (old new : Outputs) : Type 0 where
+  pub done : List Step
+  pub step : Step
+  pub rest : List Step
+  pub all_is : all ≡ done ++ step ∷ rest
+  pub sink : is_out step ≡ to_out
+  pub bytes : ℕ
+  pub through : Through (done ++ cut bytes step ∷ []) old new
+
+-- all was done, and the state is the one after the changes
+pub record Done (course : Course) (s t : State) (tally : Tally) (old new : Outputs) : Type 0 where
+  pub steps : Through course.steps old new
+  pub failed : course.failed ≡ tally.failed
+  pub changes : length course.changes ≡ tally.changes
+  pub state_is : t ≡ apply_all course.changes s
+
+-- what a command leaves that isn't stopped: the database can be changed further, and its index holds the rows where it did before
+pub record IsCarried (tells : Bool) (old new : Files) (images : Files → Type 0) (before after : Database) : Type 0 where
+  pub going : after.stopped ≡ false
+  pub serving : IsTrue tells → IsServing new images after
+  pub index : IsTrue tells → IsIndexed old.pkg old.idx before → IsIndexed new.pkg new.idx after
+
+-- how a course ended
+abbrev pub Ended : Course → State → State → Result Tally Halt → Outputs → Outputs → Type 0
+Ended course s t (Ok tally) old new = Done course s t tally old new
+Ended course s t (Err halt.OutFault) old new = StoppedWithin course.steps true old new
+Ended course s t (Err halt.ErrFault) old new = StoppedWithin course.steps false old new
+Ended course s t (Err others) old new = ThroughSome course.steps old new
+
+-- ---- limits
+
+-- a change has room in the index
+abbrev pub needed : State → Change → ℕ
+needed s change = units_for (rows (apply change s).packages)
+
+abbrev pub HasRoom : State → Change → Type 0
+HasRoom s change = needed s change ≤ 2 ^ 28
+
+-- and so has each change at its turn
+abbrev pub AllHaveRoom : State → List Change → Type 0
+AllHaveRoom s [] = Unit {0}
+AllHaveRoom s (change ∷ changes) = HasRoom s change × AllHaveRoom (apply change s) changes
+
+-- going through the changes in order, the first that has none needs so many units
+abbrev pub IsFullAt : ℕ → State → List Change → Type 0
+IsFullAt told s [] = ⊥
+IsFullAt told s (change ∷ changes) =
+    ((2 ^ 28 < needed s change) × (told ≡ needed s change)) ⊎ (HasRoom s change × IsFullAt told (apply change s) changes)
+
+-- the index is full exactly at the turn of a change that has no room in it, and never bad
+abbrev pub IndexTurn : State → List Change → Result Tally Halt → Type 0
+IndexTurn s changes (Ok tally) = AllHaveRoom s changes
+IndexTurn s changes (Err (halt.IndexFull told)) = IsFullAt told s changes
+IndexTurn s changes (Err (halt.BadIndex unit)) = ⊥
+IndexTurn s changes (Err others) = Unit {0}
+
+-- ---- faults
+
+-- a line can't be written, or there is no memory for it
+abbrev pub IsOfLines : Halt → Type 0
+IsOfLines halt.ErrFault = Unit {0}
+IsOfLines halt.NoMemory = Unit {0}
+IsOfLines others = ⊥
+
+-- erasing takes no new number and no room in the store, reads no shelf and writes no line to out
+abbrev pub IsOfErasing : Halt → Type 0
+IsOfErasing halt.NumbersSpent = ⊥
+IsOfErasing halt.StoreFull = ⊥
+IsOfErasing halt.ShelfFault = ⊥
+IsOfErasing halt.OutFault = ⊥
+IsOfErasing others = Unit {0}
+
+-- a change that is refused for these is one that the command doesn't ask for
+abbrev pub ends_command : ChangeFault → Bool
+ends_command (fault.BadHeader why) = false
+ends_command fault.NoSuch = false
+ends_command fault.Stopped = false
+ends_command others = true
+
+abbrev pub halt_of : ChangeFault → Halt
+halt_of fault.NumbersSpent = halt.NumbersSpent
+halt_of fault.GenerationSpent = halt.GenerationSpent
+halt_of fault.StoreFull = halt.StoreFull
+halt_of (fault.IndexFull needed) = halt.IndexFull needed
+halt_of (fault.BadIndex unit) = halt.BadIndex unit
+halt_of fault.DiskFault = halt.DiskFault
+halt_of others = halt.NoMemory

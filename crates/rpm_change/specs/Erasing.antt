@@ -1,0 +1,25 @@
+-- What erasing packages does.
+use Rattle.std.specs.Prelude.{ℕ, List, codes, ◌++◌, decimal, Option, Some, None}
+use Rattle.std.specs.FinMap as finite
+use Rattle.rpm_db.specs.Changes.{Erase}
+use Rattle.rpm_db.specs.State.{State, Package}
+use Rattle.rpm_change.specs.Steps.{Course, ToErr, whole, changing, failing, in_turn}
+
+-- the line of a number that no package has
+unfoldable pub missing_line : ℕ → List ℕ
+missing_line n = codes "error: record " ++ decimal n ++ codes " could not be read\n"
+
+abbrev pub missing : ℕ → ℕ → Course
+missing j n = failing (ToErr (whole j) (missing_line n))
+
+-- given what the number has
+abbrev pub erased : Option Package → ℕ → ℕ → Course
+erased None j n = missing j n
+erased (Some held) j n = changing (Erase n)
+
+abbrev pub erase_one : State → ℕ → ℕ → Course
+erase_one s j n = erased (finite.get s.packages n) j n
+
+-- each number in turn: one that is named twice is missing the second time
+abbrev pub erase : State → List ℕ → Course
+erase s numbers = in_turn erase_one s 0 numbers

@@ -1,0 +1,11 @@
+pub mod Adding
+pub mod Endings
+pub mod Erasing
+pub mod Exercise
+pub mod Importing
+pub mod Installs
+pub mod Numbers
+pub mod Rebuilding
+pub mod Steps
+pub mod Texts
+pub mod Turns

@@ -1,0 +1,69 @@
+-- What a command does, step by step.
+use Rattle.std.specs.Prelude.{ℕ, ◌+◌, List, [], ◌∷◌, ◌++◌, take, Bool, true, false, Option, Some, None}
+use Rattle.rpm_db.specs.Changes.{Change, apply}
+use Rattle.rpm_db.specs.State.{State}
+
+-- whom a step is for: an argument, counted from 0, and one of its packages, or the argument as a whole
+pub record Bearer : Type 0 where
+  pub argument : ℕ
+  pub number : Option ℕ
+
+-- of a package, and of a whole argument
+abbrev pub bearer : ℕ → ℕ → Bearer
+bearer j n = record { argument = j; number = Some n }
+
+abbrev pub whole : ℕ → Bearer
+whole j = record { argument = j; number = None }
+
+-- bytes to out, or to err
+pub data Step : Type 0 where
+  ToOut : Bearer → List ℕ → Step
+  ToErr : Bearer → List ℕ → Step
+
+abbrev pub out_bytes : Step → List ℕ
+out_bytes (ToOut for bytes) = bytes
+out_bytes (ToErr for bytes) = []
+
+abbrev pub err_bytes : Step → List ℕ
+err_bytes (ToOut for bytes) = []
+err_bytes (ToErr for bytes) = bytes
+
+abbrev pub is_out : Step → Bool
+is_out (ToOut for bytes) = true
+is_out (ToErr for bytes) = false
+
+-- the first n bytes of a step
+abbrev pub cut : ℕ → Step → Step
+cut n (ToOut for bytes) = ToOut for (take n bytes)
+cut n (ToErr for bytes) = ToErr for (take n bytes)
+
+-- the steps of a command, how many of its arguments fail, and its changes: they come last, all as one
+pub record Course : Type 0 where
+  pub steps : List Step
+  pub failed : ℕ
+  pub changes : List Change
+
+abbrev pub idle : Course
+idle = record { steps = []; failed = 0; changes = [] }
+
+-- one course and then another
+abbrev pub joined : Course → Course → Course
+joined a b = record { steps = a.steps ++ b.steps; failed = a.failed + b.failed; changes = a.changes ++ b.changes }
+
+-- a change, and nothing else
+abbrev pub changing : Change → Course
+changing change = record { steps = []; failed = 0; changes = change ∷ [] }
+
+-- a line for which the argument fails
+abbrev pub failing : Step → Course
+failing step = record { steps = step ∷ []; failed = 1; changes = [] }
+
+-- the state after several changes, one after the other
+abbrev pub apply_all : List Change → State → State
+apply_all [] s = s
+apply_all (c ∷ cs) s = apply_all cs (apply c s)
+
+-- each argument in turn, by its place: each begins with the state that the changes of those before it leave
+abbrev pub in_turn : {X : Type 0} → (State → ℕ → X → Course) → State → ℕ → List X → Course
+in_turn each s j [] = idle
+in_turn each s j (x ∷ xs) = joined (each s j x) (in_turn each (apply_all (each s j x).changes s) (j + 1) xs)

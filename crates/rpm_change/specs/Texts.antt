@@ -1,0 +1,51 @@
+-- What is told of package files and of lists.
+use Rattle.std.specs.Prelude.{ℕ, List, [], ◌++◌, codes, decimal}
+use Rattle.rpm_header.specs.declared.form.HeaderFault.{HeaderFault}
+use Rattle.rpm_header.specs.declared.form.HeaderFault.TheVariants as header
+use Rattle.rpm_file.specs.declared.fault.FileFault.{FileFault}
+use Rattle.rpm_file.specs.declared.fault.FileFault.TheVariants as file
+use Rattle.rpm_file.specs.declared.fault.ListFault.{ListFault}
+use Rattle.rpm_file.specs.declared.fault.ListFault.TheVariants as list
+
+abbrev pub at_entry : ℕ → List ℕ → List ℕ
+at_entry i text = codes "entry " ++ decimal i ++ codes ": " ++ text
+
+unfoldable pub header_text : HeaderFault → List ℕ
+header_text header.Short = codes "header is cut short"
+header_text header.TooManyEntries = codes "too many entries"
+header_text header.TooMuchData = codes "too much data"
+header_text (header.BadType i) = at_entry i (codes "bad type")
+header_text (header.BadOffset i) = at_entry i (codes "bad offset")
+header_text (header.BadCount i) = at_entry i (codes "bad count")
+header_text (header.NoEnd i) = at_entry i (codes "text has no end")
+header_text header.BadRegion = codes "bad region"
+
+-- of a file; the last two are of no file
+unfoldable pub file_text : FileFault → List ℕ
+file_text file.Short = codes "file is cut short"
+file_text file.NotAPackage = codes "not an rpm package"
+file_text file.BadMagic = codes "bad header magic"
+file_text (file.Signature fault) = codes "signature header: " ++ header_text fault
+file_text (file.Main fault) = codes "header: " ++ header_text fault
+file_text file.TooLarge = codes "header too large"
+file_text file.ReadFault = []
+file_text file.NoMemory = []
+
+abbrev pub refused_line : List ℕ → FileFault → List ℕ
+refused_line path fault = codes "error: " ++ path ++ codes ": " ++ file_text fault ++ codes "\n"
+
+abbrev pub absent_line : List ℕ → List ℕ
+absent_line path = codes "error: open of " ++ path ++ codes " failed\n"
+
+-- of a list; the last two are of no list
+unfoldable pub list_text : ListFault → List ℕ
+list_text list.Short = codes "list is cut short"
+list_text list.BadMagic = codes "bad header magic"
+list_text list.TooManyEntries = codes "too many entries"
+list_text list.TooMuchData = codes "too much data"
+list_text list.ReadFault = []
+list_text list.NoMemory = []
+
+-- of the header at this place of a list, from 1
+abbrev pub place_line : ℕ → List ℕ → List ℕ
+place_line k text = codes "error: header " ++ decimal k ++ codes ": " ++ text ++ codes "\n"

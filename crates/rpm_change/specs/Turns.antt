@@ -1,0 +1,63 @@
+-- What is done with what stands in front of a list.
+use Rattle.std.specs.Prelude.{◌≡◌, ℕ, min, List, Bool, true, false, codes, nat_lt, if◌then◌else◌, Option, Some, None, Result, Ok, Err}
+use Rattle.rpm_header.specs.Header.{header}
+use Rattle.rpm_file.specs.declared.fault.ListFault.{ListFault}
+use Rattle.rpm_file.specs.declared.fault.ListFault.TheVariants as list
+use Rattle.rpm_file.specs.List.{Found}
+use Rattle.rpm_change.specs.declared.tally.Tally.{Tally}
+use Rattle.rpm_change.specs.declared.tally.Halt.{Halt}
+use Rattle.rpm_change.specs.declared.tally.Halt.TheVariants as halt
+use Rattle.rpm_change.specs.declared.import.Turn.{Turn}
+use Rattle.rpm_change.specs.Steps.{Course, idle}
+use Rattle.rpm_change.specs.Importing.{Listed, place_fails, imported, import_from}
+use Rattle.rpm_change.specs.Texts.{list_text}
+
+-- a header at place k of a list that may have so many
+abbrev pub turn_found : ℕ → ℕ → List ℕ → Course
+turn_found most k blob = if nat_lt most k then place_fails k (codes "too many headers") else imported k (header blob)
+
+-- what stands at place k
+abbrev pub turn : ℕ → ℕ → Result (Option Found) ListFault → Course
+turn most k (Ok None) = idle
+turn most k (Ok (Some found)) = turn_found most k found.blob
+turn most k (Err fault) = place_fails k (list_text fault)
+
+-- whether the list ends there; where it doesn't, these bytes are left
+abbrev pub Leaves : ℕ → ℕ → Result (Option Found) ListFault → Bool → List ℕ → Type 0
+Leaves most k (Ok None) is_last left = is_last ≡ true
+Leaves most k (Ok (Some found)) is_last left = (is_last ≡ nat_lt most k) × (found.rest ≡ left)
+Leaves most k (Err fault) is_last left = is_last ≡ true
+
+-- what is left of a course, where the list has ended or goes on
+abbrev pub from_place : Bool → ℕ → ℕ → Listed → Course
+from_place true most k l = idle
+from_place false most k l = import_from most k l.blobs l.fault
+
+-- what a turn came to
+abbrev pub tally_of : Result Turn Halt → Result Tally Halt
+tally_of (Ok turn) = Ok turn.tally
+tally_of (Err halt) = Err halt
+
+-- what the command came to: one argument failed, or none
+abbrev pub counted_once : Result Tally Halt → Result Tally Halt
+counted_once (Ok tally) = Ok (record { failed = min 1 tally.failed; changes = tally.changes })
+counted_once (Err halt) = Err halt
+
+-- ---- faults
+
+-- adding a header reads no shelf and writes no line to out
+abbrev pub IsOfHeaders : Halt → Type 0
+IsOfHeaders halt.ShelfFault = ⊥
+IsOfHeaders halt.OutFault = ⊥
+IsOfHeaders others = Unit {0}
+
+-- importing writes no line to out
+abbrev pub IsOfImporting : Halt → Type 0
+IsOfImporting halt.OutFault = ⊥
+IsOfImporting others = Unit {0}
+
+-- a failed read and want of memory stop the command; the others are faults of the list
+abbrev pub StopIs : ListFault → Option Halt → Type 0
+StopIs list.ReadFault stop = stop ≡ Some halt.ShelfFault
+StopIs list.NoMemory stop = stop ≡ Some halt.NoMemory
+StopIs others stop = stop ≡ None

@@ -1,0 +1,302 @@
+//! Adding package files.
+
+ghost use Rattle.std.specs.Prelude.{◌≡◌, ℕ, ◌+◌, ◌^◌, ◌<◌, Bool, List, [], ◌∷◌, Some, None, length, map, true, false, IsTrue, Ok, Err, IfOk, IfErr, IfSome};
+ghost use Rattle.rpm_header.specs.Header.{header};
+ghost use Rattle.rpm_outside.specs.Browses.{left};
+ghost use Rattle.rpm_outside.specs.Buffered.{inner, holds as holds_bytes, HandsOn};
+ghost use Rattle.rpm_outside.specs.Causes.{HasCauseAt};
+ghost use Rattle.rpm_file.specs.Package.{read_again};
+ghost use Rattle.rpm_db.specs.Changes.{Add, Put, IsServing};
+ghost use Rattle.rpm_db.specs.Database.{IsIndexed, is_indexed, holds};
+ghost use Rattle.rpm_db.specs.Runs.{Runs};
+ghost use Rattle.rpm_db.specs.State.{state};
+ghost use Rattle.rpm_db.specs.inner.Writes.{SameLog};
+ghost use Rattle.rpm_change.specs.Adding.{change_at, put_read, put_file, adding, add_files, stop_in, IsOfPlacing, IsOfPutting};
+ghost use Rattle.rpm_change.specs.Endings.{outputs, Ended, IsCarried, IndexTurn};
+ghost use Rattle.rpm_change.specs.Numbers.{NumbersTurn};
+ghost use Rattle.rpm_change.specs.Steps.{changing};
+
+use crate::faults::{put_absent, put_refused};
+use crate::install::read_installed;
+use crate::tally::{Halt, Tally, halt_of};
+use rpm_db::Db;
+use rpm_file::FileFault;
+use rpm_outside::{Absent, Buffered, Disk, Shelf, Sink};
+use std::alloc::Global;
+
+/// How a package file goes into the database: in place of a number's package, or for `None` under a new number; and at which moment, in
+/// seconds since 1970.
+#[derive(Clone, Copy)]
+pub struct Placing {
+    pub number: Option<u32>,
+    pub moment: u32,
+}
+
+/// Puts a header under a new number.
+fn add_blob<D: Disk>(alloc: Global, db: &mut Db, disk: &mut D, blob: &[u8]) -> Result<Tally, Halt>
+    requires indexed { is_indexed db.old ≡ true }
+    requires going { db.old.stopped ≡ false }
+    requires serving { IsTrue D.tells → IsServing (D.files disk.old) (D.left_since disk.old (D.moment disk.old)) db.old }
+    requires own { header blob.now ≡ Ok (read_again blob.now) }
+    ensures ended { IsTrue D.tells → (out_tells err_tells : Bool) (out err : List ℕ) → Ended (changing (Add blob.now))
+        (state (D.files disk.old).pkg db.old.store) (state (D.files disk.new).pkg db.new.store) result
+        (outputs out_tells out err_tells err) (outputs out_tells out err_tells err) }
+    ensures room { IsTrue D.tells → IsIndexed (D.files disk.old).pkg (D.files disk.old).idx db.old
+        → IndexTurn (state (D.files disk.old).pkg db.old.store) (Add blob.now ∷ []) result }
+    ensures numbers { IsTrue D.tells → NumbersTurn (state (D.files disk.old).pkg db.old.store) (Add blob.now ∷ []) result }
+    ensures one { IfOk result (λ tally. tally.failed + tally.changes ≡ 1) }
+    ensures carried { IfOk result (λ _tally. IsCarried D.tells (D.files disk.old) (D.files disk.new) (D.left_since disk.new (D.moment disk.new))
+        db.old db.new) }
+    ensures indexed { is_indexed db.new ≡ true }
+    ensures spent { result ≡ Err Halt.GenerationSpent → db.new.store.generation ≡ 4294967295 }
+    ensures kinds { IfErr result (IsOfPlacing None) }
+    ensures runs { Runs D.tells D.files D.left_since D.moment D.bytes_read D.follows SameLog disk.old disk.new }
+    ensures disk { HasCauseAt (result ≡ Err Halt.DiskFault) (D.faults disk.old) (D.faults disk.new) }
+{
+    // What it says of the state is what is asked of it; `add` looks at it again.
+    let _next = db.next_number();
+    match db.add(alloc, disk, blob) {
+        Ok(_) => Ok(Tally {
+            failed: 0,
+            changes: 1,
+        }),
+        Err(fault) => Err(halt_of(fault)),
+    }
+}
+
+/// Puts a header in place of a number's package.
+fn replace_blob<D: Disk>(
+    alloc: Global,
+    db: &mut Db,
+    disk: &mut D,
+    number: u32,
+    blob: &[u8],
+) -> Result<Tally, Halt>
+    requires indexed { is_indexed db.old ≡ true }
+    requires going { db.old.stopped ≡ false }
+    requires serving { IsTrue D.tells → IsServing (D.files disk.old) (D.left_since disk.old (D.moment disk.old)) db.old }
+    requires own { header blob.now ≡ Ok (read_again blob.now) }
+    requires held { holds number db.old ≡ true }
+    ensures ended { IsTrue D.tells → (out_tells err_tells : Bool) (out err : List ℕ) → Ended (changing (Put number blob.now))
+        (state (D.files disk.old).pkg db.old.store) (state (D.files disk.new).pkg db.new.store) result
+        (outputs out_tells out err_tells err) (outputs out_tells out err_tells err) }
+    ensures room { IsTrue D.tells → IsIndexed (D.files disk.old).pkg (D.files disk.old).idx db.old
+        → IndexTurn (state (D.files disk.old).pkg db.old.store) (Put number blob.now ∷ []) result }
+    ensures numbers { IsTrue D.tells → NumbersTurn (state (D.files disk.old).pkg db.old.store) (Put number blob.now ∷ []) result }
+    ensures one { IfOk result (λ tally. tally.failed + tally.changes ≡ 1) }
+    ensures carried { IfOk result (λ _tally. IsCarried D.tells (D.files disk.old) (D.files disk.new) (D.left_since disk.new (D.moment disk.new))
+        db.old db.new) }
+    ensures indexed { is_indexed db.new ≡ true }
+    ensures spent { result ≡ Err Halt.GenerationSpent → db.new.store.generation ≡ 4294967295 }
+    ensures kinds { IfErr result (IsOfPlacing (Some number)) }
+    ensures runs { Runs D.tells D.files D.left_since D.moment D.bytes_read D.follows SameLog disk.old disk.new }
+    ensures disk { HasCauseAt (result ≡ Err Halt.DiskFault) (D.faults disk.old) (D.faults disk.new) }
+{
+    match db.put(alloc, disk, number, blob) {
+        Ok(()) => Ok(Tally {
+            failed: 0,
+            changes: 1,
+        }),
+        Err(fault) => Err(halt_of(fault)),
+    }
+}
+
+/// Puts a header under a new number, or in place of a number's package.
+fn put_blob<D: Disk>(
+    alloc: Global,
+    db: &mut Db,
+    disk: &mut D,
+    number: Option<u32>,
+    blob: &[u8],
+) -> Result<Tally, Halt>
+    requires indexed { is_indexed db.old ≡ true }
+    requires going { db.old.stopped ≡ false }
+    requires serving { IsTrue D.tells → IsServing (D.files disk.old) (D.left_since disk.old (D.moment disk.old)) db.old }
+    requires own { header blob.now ≡ Ok (read_again blob.now) }
+    requires held { IfSome number (λ n. holds n db.old ≡ true) }
+    ensures ended { IsTrue D.tells → (out_tells err_tells : Bool) (out err : List ℕ) → Ended (changing (change_at number blob.now))
+        (state (D.files disk.old).pkg db.old.store) (state (D.files disk.new).pkg db.new.store) result
+        (outputs out_tells out err_tells err) (outputs out_tells out err_tells err) }
+    ensures room { IsTrue D.tells → IsIndexed (D.files disk.old).pkg (D.files disk.old).idx db.old
+        → IndexTurn (state (D.files disk.old).pkg db.old.store) (change_at number blob.now ∷ []) result }
+    ensures numbers { IsTrue D.tells → NumbersTurn (state (D.files disk.old).pkg db.old.store) (change_at number blob.now ∷ []) result }
+    ensures one { IfOk result (λ tally. tally.failed + tally.changes ≡ 1) }
+    ensures carried { IfOk result (λ _tally. IsCarried D.tells (D.files disk.old) (D.files disk.new) (D.left_since disk.new (D.moment disk.new))
+        db.old db.new) }
+    ensures indexed { is_indexed db.new ≡ true }
+    ensures spent { result ≡ Err Halt.GenerationSpent → db.new.store.generation ≡ 4294967295 }
+    ensures kinds { IfErr result (IsOfPlacing number) }
+    ensures runs { Runs D.tells D.files D.left_since D.moment D.bytes_read D.follows SameLog disk.old disk.new }
+    ensures disk { HasCauseAt (result ≡ Err Halt.DiskFault) (D.faults disk.old) (D.faults disk.new) }
+{
+    match number {
+        None => add_blob(alloc, db, disk, blob),
+        Some(n) => replace_blob(alloc, db, disk, n, blob),
+    }
+}
+
+/// What stops a command where a package file isn't read; None where the file itself is refused.
+fn stop_in(fault: FileFault) -> Option<Halt>
+    ensures { result ≡ stop_in fault }
+{
+    match fault {
+        FileFault::ReadFault => Some(Halt::ShelfFault),
+        FileFault::NoMemory => Some(Halt::NoMemory),
+        _ => None,
+    }
+}
+
+/// Puts the package file that is open into the database, or writes to err that it is refused.
+fn put_opened<D: Disk, S: Shelf, E: Sink + Drop>(
+    alloc: Global,
+    db: &mut Db,
+    disk: &mut D,
+    shelf: &mut S,
+    how: Placing,
+    path: &[u8],
+    err: &mut Buffered<E>,
+) -> Result<Tally, Halt>
+    requires indexed { is_indexed db.old ≡ true }
+    requires going { db.old.stopped ≡ false }
+    requires serving { IsTrue D.tells → IsServing (D.files disk.old) (D.left_since disk.old (D.moment disk.old)) db.old }
+    requires held { IfSome how.number (λ n. holds n db.old ≡ true) }
+    requires err_empty { holds_bytes err.old ≡ [] }
+    ensures ended { IsTrue D.tells → IsTrue S.tells → (j : ℕ) (out_tells : Bool) (out : List ℕ)
+        → Ended (put_read how j path.now (left (S.rest shelf.old))) (state (D.files disk.old).pkg db.old.store)
+        (state (D.files disk.new).pkg db.new.store) result
+        (outputs out_tells out E.tells (E.taken (inner err.old))) (outputs out_tells out E.tells (E.taken (inner err.new))) }
+    ensures room { IsTrue D.tells → IsTrue S.tells → IsIndexed (D.files disk.old).pkg (D.files disk.old).idx db.old → (j : ℕ)
+        → IndexTurn (state (D.files disk.old).pkg db.old.store) (put_read how j path.now (left (S.rest shelf.old))).changes result }
+    ensures numbers { IsTrue D.tells → IsTrue S.tells → (j : ℕ)
+        → NumbersTurn (state (D.files disk.old).pkg db.old.store) (put_read how j path.now (left (S.rest shelf.old))).changes result }
+    ensures one { IfOk result (λ tally. tally.failed + tally.changes ≡ 1) }
+    ensures carried { IfOk result (λ _tally. IsCarried D.tells (D.files disk.old) (D.files disk.new) (D.left_since disk.new (D.moment disk.new))
+        db.old db.new) }
+    ensures indexed { is_indexed db.new ≡ true }
+    ensures spent { result ≡ Err Halt.GenerationSpent → db.new.store.generation ≡ 4294967295 }
+    ensures kinds { IfErr result (IsOfPutting how.number) }
+    ensures runs { Runs D.tells D.files D.left_since D.moment D.bytes_read D.follows SameLog disk.old disk.new }
+    ensures paths { IsTrue S.tells → S.paths shelf.new ≡ S.paths shelf.old }
+    ensures disk { HasCauseAt (result ≡ Err Halt.DiskFault) (D.faults disk.old) (D.faults disk.new) }
+    ensures shelf { HasCauseAt (result ≡ Err Halt.ShelfFault) (S.faults shelf.old) (S.faults shelf.new) }
+    ensures err { HasCauseAt (result ≡ Err Halt.ErrFault) (E.faults (inner err.old)) (E.faults (inner err.new)) }
+    ensures err_rest { HandsOn E.follows err.old err.new }
+{
+    match read_installed(alloc, shelf, how.moment) {
+        Ok(blob) => put_blob(alloc, db, disk, how.number, &blob),
+        Err(fault) => match stop_in(fault) {
+            Some(halt) => Err(halt),
+            None => put_refused(alloc, err, path, fault),
+        },
+    }
+}
+
+/// Puts the package file under a path into the database, or writes to err why it doesn't go.
+pub fn put_file<D: Disk, S: Shelf, E: Sink + Drop>(
+    alloc: Global,
+    db: &mut Db,
+    disk: &mut D,
+    shelf: &mut S,
+    how: Placing,
+    path: &str,
+    err: &mut Buffered<E>,
+) -> Result<Tally, Halt>
+    requires indexed { is_indexed db.old ≡ true }
+    requires going { db.old.stopped ≡ false }
+    requires serving { IsTrue D.tells → IsServing (D.files disk.old) (D.left_since disk.old (D.moment disk.old)) db.old }
+    requires held { IfSome how.number (λ n. holds n db.old ≡ true) }
+    requires err_empty { holds_bytes err.old ≡ [] }
+    ensures ended { IsTrue D.tells → IsTrue S.tells → (j : ℕ) (out_tells : Bool) (out : List ℕ)
+        → Ended (put_file how (S.paths shelf.old) j path.now) (state (D.files disk.old).pkg db.old.store)
+        (state (D.files disk.new).pkg db.new.store) result
+        (outputs out_tells out E.tells (E.taken (inner err.old))) (outputs out_tells out E.tells (E.taken (inner err.new))) }
+    ensures room { IsTrue D.tells → IsTrue S.tells → IsIndexed (D.files disk.old).pkg (D.files disk.old).idx db.old → (j : ℕ)
+        → IndexTurn (state (D.files disk.old).pkg db.old.store) (put_file how (S.paths shelf.old) j path.now).changes result }
+    ensures numbers { IsTrue D.tells → IsTrue S.tells → (j : ℕ)
+        → NumbersTurn (state (D.files disk.old).pkg db.old.store) (put_file how (S.paths shelf.old) j path.now).changes result }
+    ensures one { IfOk result (λ tally. tally.failed + tally.changes ≡ 1) }
+    ensures carried { IfOk result (λ _tally. IsCarried D.tells (D.files disk.old) (D.files disk.new) (D.left_since disk.new (D.moment disk.new))
+        db.old db.new) }
+    ensures indexed { is_indexed db.new ≡ true }
+    ensures spent { result ≡ Err Halt.GenerationSpent → db.new.store.generation ≡ 4294967295 }
+    ensures kinds { IfErr result (IsOfPutting how.number) }
+    ensures runs { Runs D.tells D.files D.left_since D.moment D.bytes_read D.follows SameLog disk.old disk.new }
+    ensures paths { IsTrue S.tells → S.paths shelf.new ≡ S.paths shelf.old }
+    ensures disk { HasCauseAt (result ≡ Err Halt.DiskFault) (D.faults disk.old) (D.faults disk.new) }
+    ensures shelf { HasCauseAt (result ≡ Err Halt.ShelfFault) (S.faults shelf.old) (S.faults shelf.new) }
+    ensures err { HasCauseAt (result ≡ Err Halt.ErrFault) (E.faults (inner err.old)) (E.faults (inner err.new)) }
+    ensures err_rest { HandsOn E.follows err.old err.new }
+{
+    match shelf.open(path) {
+        Ok(()) => put_opened(alloc, db, disk, shelf, how, path.as_bytes(), err),
+        Err(Absent) => put_absent(alloc, err, path.as_bytes()),
+    }
+}
+
+/// Adds the package files under these paths, one after the other, each under a new number: its header with the signature's entries, and
+/// with `INSTALLTIME` and `INSTALLTID`, both `now` in seconds since 1970. A path that can't be opened has a line on `err`, and so has a file
+/// that is refused; its argument fails. The path `-` is the standard input. One header at a time is kept in memory.
+///
+/// The disk may be an overlay: then all changes can be committed as one. After an `Err` the database isn't to be used further.
+///
+/// # Errors
+///
+/// - `NumbersSpent` exactly where, going through the files in order, one is to be added while the next number is 4294967295.
+/// - `GenerationSpent` where a file is to be added while the generation is 4294967295.
+/// - `StoreFull` where a header, or a package in the way of its slot page, fits nowhere below 4 GiB.
+/// - `IndexFull` exactly where, going through the files in order, the rows after one is added need more than 268435456 units.
+/// - `BadIndex` only where a chain of the index isn't well formed, or unit 1 counts too little; never where the index holds the rows.
+/// - `DiskFault`, `ShelfFault` and `ErrFault` only where that object's count of faults rose.
+/// - `NoMemory` where a file, a change or a line finds no memory. It answers nothing else.
+pub fn add_files<D: Disk, S: Shelf, E: Sink + Drop>(
+    alloc: Global,
+    db: &mut Db,
+    disk: &mut D,
+    shelf: &mut S,
+    paths: &[&str],
+    now: u32,
+    err: &mut Buffered<E>,
+) -> Result<Tally, Halt>
+    requires few { length paths.now < 2 ^ 32 }
+    requires indexed { is_indexed db.old ≡ true }
+    requires going { db.old.stopped ≡ false }
+    requires serving { IsTrue D.tells → IsServing (D.files disk.old) (D.left_since disk.old (D.moment disk.old)) db.old }
+    requires err_empty { holds_bytes err.old ≡ [] }
+    ensures ended { IsTrue D.tells → IsTrue S.tells → (out_tells : Bool) (out : List ℕ)
+        → Ended (add_files (S.paths shelf.old) now (state (D.files disk.old).pkg db.old.store) (map (λ path. path.now) paths.now))
+        (state (D.files disk.old).pkg db.old.store) (state (D.files disk.new).pkg db.new.store) result
+        (outputs out_tells out E.tells (E.taken (inner err.old))) (outputs out_tells out E.tells (E.taken (inner err.new))) }
+    ensures room { IsTrue D.tells → IsTrue S.tells → IsIndexed (D.files disk.old).pkg (D.files disk.old).idx db.old
+        → IndexTurn (state (D.files disk.old).pkg db.old.store)
+        (add_files (S.paths shelf.old) now (state (D.files disk.old).pkg db.old.store) (map (λ path. path.now) paths.now)).changes result }
+    ensures numbers { IsTrue D.tells → IsTrue S.tells → NumbersTurn (state (D.files disk.old).pkg db.old.store)
+        (add_files (S.paths shelf.old) now (state (D.files disk.old).pkg db.old.store) (map (λ path. path.now) paths.now)).changes result }
+    ensures carried { IfOk result (λ _tally. IsCarried D.tells (D.files disk.old) (D.files disk.new) (D.left_since disk.new (D.moment disk.new))
+        db.old db.new) }
+    ensures indexed { is_indexed db.new ≡ true }
+    ensures spent { result ≡ Err Halt.GenerationSpent → db.new.store.generation ≡ 4294967295 }
+    ensures kinds { IfErr result (IsOfPutting None) }
+    ensures runs { Runs D.tells D.files D.left_since D.moment D.bytes_read D.follows SameLog disk.old disk.new }
+    ensures paths { IsTrue S.tells → S.paths shelf.new ≡ S.paths shelf.old }
+    ensures disk { HasCauseAt (result ≡ Err Halt.DiskFault) (D.faults disk.old) (D.faults disk.new) }
+    ensures shelf { HasCauseAt (result ≡ Err Halt.ShelfFault) (S.faults shelf.old) (S.faults shelf.new) }
+    ensures err { HasCauseAt (result ≡ Err Halt.ErrFault) (E.faults (inner err.old)) (E.faults (inner err.new)) }
+    ensures err_rest { HandsOn E.follows err.old err.new }
+{
+    let how = Placing {
+        number: None,
+        moment: now,
+    };
+    let mut failed = 0u32;
+    let mut changes = 0u32;
+    for path in paths {
+        match put_file(alloc, db, disk, shelf, how, path, err) {
+            Ok(tally) => {
+                failed += tally.failed;
+                changes += tally.changes;
+            }
+            Err(halt) => return Err(halt),
+        }
+    }
+    Ok(Tally { failed, changes })
+}

@@ -1,0 +1,112 @@
+//! Erasing packages.
+
+ghost use Rattle.std.specs.Prelude.{◌≡◌, ℕ, ◌+◌, ◌^◌, ◌<◌, Bool, List, [], length, true, false, IsTrue, Err, IfOk, IfErr};
+ghost use Rattle.rpm_outside.specs.Buffered.{inner, holds, HandsOn};
+ghost use Rattle.rpm_outside.specs.Causes.{HasCauseAt};
+ghost use Rattle.rpm_db.specs.Changes.{IsServing};
+ghost use Rattle.rpm_db.specs.Database.{IsIndexed, is_indexed};
+ghost use Rattle.rpm_db.specs.Runs.{Runs};
+ghost use Rattle.rpm_db.specs.State.{state};
+ghost use Rattle.rpm_db.specs.inner.Writes.{SameLog};
+ghost use Rattle.rpm_change.specs.Endings.{outputs, Ended, IsCarried, IndexTurn, IsOfErasing};
+ghost use Rattle.rpm_change.specs.Erasing.{erase_one, erase};
+
+use crate::lines::put_missing;
+use crate::tally::{Halt, Tally, halt_of};
+use rpm_db::{ChangeFault, Db};
+use rpm_outside::{Buffered, Disk, Sink};
+use std::alloc::Global;
+
+/// Takes the package of a number out, or writes to err that there is none.
+fn erase_one<D: Disk, E: Sink + Drop>(
+    alloc: Global,
+    db: &mut Db,
+    disk: &mut D,
+    number: u32,
+    err: &mut Buffered<E>,
+) -> Result<Tally, Halt>
+    requires indexed { is_indexed db.old ≡ true }
+    requires going { db.old.stopped ≡ false }
+    requires serving { IsTrue D.tells → IsServing (D.files disk.old) (D.left_since disk.old (D.moment disk.old)) db.old }
+    requires err_empty { holds err.old ≡ [] }
+    ensures ended { IsTrue D.tells → (j : ℕ) (out_tells : Bool) (out : List ℕ)
+        → Ended (erase_one (state (D.files disk.old).pkg db.old.store) j number) (state (D.files disk.old).pkg db.old.store)
+        (state (D.files disk.new).pkg db.new.store) result
+        (outputs out_tells out E.tells (E.taken (inner err.old))) (outputs out_tells out E.tells (E.taken (inner err.new))) }
+    ensures room { IsTrue D.tells → IsIndexed (D.files disk.old).pkg (D.files disk.old).idx db.old → (j : ℕ)
+        → IndexTurn (state (D.files disk.old).pkg db.old.store) (erase_one (state (D.files disk.old).pkg db.old.store) j number).changes result }
+    ensures one { IfOk result (λ tally. tally.failed + tally.changes ≡ 1) }
+    ensures carried { IfOk result (λ _tally. IsCarried D.tells (D.files disk.old) (D.files disk.new) (D.left_since disk.new (D.moment disk.new))
+        db.old db.new) }
+    ensures indexed { is_indexed db.new ≡ true }
+    ensures spent { result ≡ Err Halt.GenerationSpent → db.new.store.generation ≡ 4294967295 }
+    ensures kinds { IfErr result IsOfErasing }
+    ensures runs { Runs D.tells D.files D.left_since D.moment D.bytes_read D.follows SameLog disk.old disk.new }
+    ensures disk { HasCauseAt (result ≡ Err Halt.DiskFault) (D.faults disk.old) (D.faults disk.new) }
+    ensures err { HasCauseAt (result ≡ Err Halt.ErrFault) (E.faults (inner err.old)) (E.faults (inner err.new)) }
+    ensures err_rest { HandsOn E.follows err.old err.new }
+{
+    match db.erase(alloc, disk, number) {
+        Ok(()) => Ok(Tally {
+            failed: 0,
+            changes: 1,
+        }),
+        Err(ChangeFault::NoSuch) => put_missing(alloc, err, number),
+        Err(fault) => Err(halt_of(fault)),
+    }
+}
+
+/// Erases the packages of these numbers, one after the other, each Good or Bad. A number that no package has at its turn has a line on
+/// `err`, and its argument fails; so a number that is named twice is missing the second time. Of `Packages.db` the blocks of each package
+/// that is erased are read once. Nothing of a package is kept in memory.
+///
+/// The disk may be an overlay: then all changes can be committed as one. After an `Err` the database isn't to be used further.
+///
+/// # Errors
+///
+/// - `GenerationSpent` where a package is to be erased while the generation is 4294967295.
+/// - `IndexFull` exactly where, going through the numbers in order, the rows after one is erased need more than 268435456 units.
+/// - `BadIndex` only where a chain of the index isn't well formed, or unit 1 counts too little; never where the index holds the rows.
+/// - `DiskFault` and `ErrFault` only where that object's count of faults rose.
+/// - `NoMemory` where a change or a line finds no memory. It answers nothing else.
+pub fn erase_numbers<D: Disk, E: Sink + Drop>(
+    alloc: Global,
+    db: &mut Db,
+    disk: &mut D,
+    numbers: &[u32],
+    err: &mut Buffered<E>,
+) -> Result<Tally, Halt>
+    requires few { length numbers.now < 2 ^ 32 }
+    requires indexed { is_indexed db.old ≡ true }
+    requires going { db.old.stopped ≡ false }
+    requires serving { IsTrue D.tells → IsServing (D.files disk.old) (D.left_since disk.old (D.moment disk.old)) db.old }
+    requires err_empty { holds err.old ≡ [] }
+    ensures ended { IsTrue D.tells → (out_tells : Bool) (out : List ℕ)
+        → Ended (erase (state (D.files disk.old).pkg db.old.store) numbers.now) (state (D.files disk.old).pkg db.old.store)
+        (state (D.files disk.new).pkg db.new.store) result
+        (outputs out_tells out E.tells (E.taken (inner err.old))) (outputs out_tells out E.tells (E.taken (inner err.new))) }
+    ensures room { IsTrue D.tells → IsIndexed (D.files disk.old).pkg (D.files disk.old).idx db.old
+        → IndexTurn (state (D.files disk.old).pkg db.old.store) (erase (state (D.files disk.old).pkg db.old.store) numbers.now).changes result }
+    ensures carried { IfOk result (λ _tally. IsCarried D.tells (D.files disk.old) (D.files disk.new) (D.left_since disk.new (D.moment disk.new))
+        db.old db.new) }
+    ensures indexed { is_indexed db.new ≡ true }
+    ensures spent { result ≡ Err Halt.GenerationSpent → db.new.store.generation ≡ 4294967295 }
+    ensures kinds { IfErr result IsOfErasing }
+    ensures runs { Runs D.tells D.files D.left_since D.moment D.bytes_read D.follows SameLog disk.old disk.new }
+    ensures disk { HasCauseAt (result ≡ Err Halt.DiskFault) (D.faults disk.old) (D.faults disk.new) }
+    ensures err { HasCauseAt (result ≡ Err Halt.ErrFault) (E.faults (inner err.old)) (E.faults (inner err.new)) }
+    ensures err_rest { HandsOn E.follows err.old err.new }
+{
+    let mut failed = 0u32;
+    let mut changes = 0u32;
+    for number in numbers {
+        match erase_one(alloc, db, disk, *number, err) {
+            Ok(tally) => {
+                failed += tally.failed;
+                changes += tally.changes;
+            }
+            Err(halt) => return Err(halt),
+        }
+    }
+    Ok(Tally { failed, changes })
+}

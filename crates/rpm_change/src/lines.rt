@@ -1,0 +1,66 @@
+//! Lines for which an argument fails.
+
+ghost use Rattle.std.specs.Prelude.{◌≡◌, ℕ, Bool, List, [], Err, IfOk, IfErr};
+ghost use Rattle.rpm_outside.specs.Buffered.{inner, holds, HandsOn};
+ghost use Rattle.rpm_outside.specs.Causes.{HasCauseAt};
+ghost use Rattle.rpm_db.specs.State.{State};
+ghost use Rattle.rpm_change.specs.Steps.{Bearer, ToErr, failing};
+ghost use Rattle.rpm_change.specs.Endings.{outputs, Ended, IsOfLines};
+ghost use Rattle.rpm_change.specs.Erasing.{missing_line, missing};
+
+use crate::tally::{Halt, Tally};
+use itoa::Buffer;
+use rpm_outside::{Buffered, Sink, put_and_flush};
+use std::alloc::{AllocError, Global};
+
+/// Writes a line to err; then the argument fails.
+pub fn put_failing<E: Sink + Drop>(err: &mut Buffered<E>, line: &[u8]) -> Result<Tally, Halt>
+    requires err_empty { holds err.old ≡ [] }
+    ensures ended { (for : Bearer) (s : State) (out_tells : Bool) (out : List ℕ) → Ended (failing (ToErr for line.now)) s s result
+        (outputs out_tells out E.tells (E.taken (inner err.old))) (outputs out_tells out E.tells (E.taken (inner err.new))) }
+    ensures one { IfOk result (λ tally. tally ≡ record { failed = 1; changes = 0 }) }
+    ensures kinds { IfErr result IsOfLines }
+    ensures err { HasCauseAt (result ≡ Err Halt.ErrFault) (E.faults (inner err.old)) (E.faults (inner err.new)) }
+    ensures err_rest { HandsOn E.follows err.old err.new }
+{
+    match put_and_flush(err, line) {
+        Ok(()) => Ok(Tally {
+            failed: 1,
+            changes: 0,
+        }),
+        Err(_) => Err(Halt::ErrFault),
+    }
+}
+
+/// The line of a number that no package has.
+#[tactic(auto, unfolding(crate::specs::Erasing::missing_line))]
+fn missing_line(alloc: Global, number: u32) -> Result<Vec<u8>, AllocError>
+    ensures { IfOk result (λ line. line.items ≡ missing_line number) }
+{
+    let mut digits = Buffer::new();
+    let mut line = Vec::new(alloc);
+    line.extend_from_slice(b"error: record ")?;
+    line.extend_from_slice(digits.format(number).as_bytes())?;
+    line.extend_from_slice(b" could not be read\n")?;
+    Ok(line)
+}
+
+/// Writes to err that no package has a number; then the argument fails.
+pub fn put_missing<E: Sink + Drop>(
+    alloc: Global,
+    err: &mut Buffered<E>,
+    number: u32,
+) -> Result<Tally, Halt>
+    requires err_empty { holds err.old ≡ [] }
+    ensures ended { (j : ℕ) (s : State) (out_tells : Bool) (out : List ℕ) → Ended (missing j number) s s result
+        (outputs out_tells out E.tells (E.taken (inner err.old))) (outputs out_tells out E.tells (E.taken (inner err.new))) }
+    ensures one { IfOk result (λ tally. tally ≡ record { failed = 1; changes = 0 }) }
+    ensures kinds { IfErr result IsOfLines }
+    ensures err { HasCauseAt (result ≡ Err Halt.ErrFault) (E.faults (inner err.old)) (E.faults (inner err.new)) }
+    ensures err_rest { HandsOn E.follows err.old err.new }
+{
+    match missing_line(alloc, number) {
+        Ok(line) => put_failing(err, &line),
+        Err(_) => Err(Halt::NoMemory),
+    }
+}

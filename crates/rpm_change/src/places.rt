@@ -1,0 +1,90 @@
+//! Lines of the headers of a list.
+
+ghost use Rattle.std.specs.Prelude.{◌≡◌, ◌++◌, ℕ, Bool, List, [], Err, IfOk, IfErr};
+ghost use Rattle.rpm_outside.specs.Buffered.{inner, holds, HandsOn};
+ghost use Rattle.rpm_outside.specs.Causes.{HasCauseAt};
+ghost use Rattle.rpm_db.specs.State.{State};
+ghost use Rattle.rpm_change.specs.Endings.{outputs, Ended, IsOfLines};
+ghost use Rattle.rpm_change.specs.Importing.{place_fails};
+ghost use Rattle.rpm_change.specs.Texts.{header_text, list_text, place_line};
+
+use crate::faults::push_header_text;
+use crate::lines::put_failing;
+use crate::tally::{Halt, Tally};
+use itoa::Buffer;
+use rpm_file::ListFault;
+use rpm_header::HeaderFault;
+use rpm_outside::{Buffered, Sink};
+use std::alloc::{AllocError, Global};
+
+/// What is told of a fault of a list: of the last two, which are of no list, nothing.
+#[tactic(auto, unfolding(crate::specs::Texts::list_text))]
+pub fn list_text(fault: ListFault) -> &'static [u8]
+    ensures { result.now ≡ list_text fault }
+{
+    match fault {
+        ListFault::Short => b"list is cut short",
+        ListFault::BadMagic => b"bad header magic",
+        ListFault::TooManyEntries => b"too many entries",
+        ListFault::TooMuchData => b"too much data",
+        ListFault::ReadFault => b"",
+        ListFault::NoMemory => b"",
+    }
+}
+
+/// The line of the header at a place, from 1.
+fn place_line(alloc: Global, place: u32, text: &[u8]) -> Result<Vec<u8>, AllocError>
+    ensures { IfOk result (λ line. line.items ≡ place_line place text.now) }
+{
+    let mut digits = Buffer::new();
+    let mut line = Vec::new(alloc);
+    line.extend_from_slice(b"error: header ")?;
+    line.extend_from_slice(digits.format(place).as_bytes())?;
+    line.extend_from_slice(b": ")?;
+    line.extend_from_slice(text)?;
+    line.extend_from_slice(b"\n")?;
+    Ok(line)
+}
+
+/// Writes to err what is told of the header at a place; then the argument fails.
+pub fn put_place<E: Sink + Drop>(
+    alloc: Global,
+    err: &mut Buffered<E>,
+    place: u32,
+    text: &[u8],
+) -> Result<Tally, Halt>
+    requires err_empty { holds err.old ≡ [] }
+    ensures ended { (s : State) (out_tells : Bool) (out : List ℕ) → Ended (place_fails place text.now) s s result
+        (outputs out_tells out E.tells (E.taken (inner err.old))) (outputs out_tells out E.tells (E.taken (inner err.new))) }
+    ensures one { IfOk result (λ tally. tally ≡ record { failed = 1; changes = 0 }) }
+    ensures kinds { IfErr result IsOfLines }
+    ensures err { HasCauseAt (result ≡ Err Halt.ErrFault) (E.faults (inner err.old)) (E.faults (inner err.new)) }
+    ensures err_rest { HandsOn E.follows err.old err.new }
+{
+    match place_line(alloc, place, text) {
+        Ok(line) => put_failing(err, &line),
+        Err(_) => Err(Halt::NoMemory),
+    }
+}
+
+/// Writes to err that the header at a place is none; then the argument fails.
+pub fn put_bad_header<E: Sink + Drop>(
+    alloc: Global,
+    err: &mut Buffered<E>,
+    place: u32,
+    fault: HeaderFault,
+) -> Result<Tally, Halt>
+    requires err_empty { holds err.old ≡ [] }
+    ensures ended { (s : State) (out_tells : Bool) (out : List ℕ) → Ended (place_fails place (header_text fault)) s s result
+        (outputs out_tells out E.tells (E.taken (inner err.old))) (outputs out_tells out E.tells (E.taken (inner err.new))) }
+    ensures one { IfOk result (λ tally. tally ≡ record { failed = 1; changes = 0 }) }
+    ensures kinds { IfErr result IsOfLines }
+    ensures err { HasCauseAt (result ≡ Err Halt.ErrFault) (E.faults (inner err.old)) (E.faults (inner err.new)) }
+    ensures err_rest { HandsOn E.follows err.old err.new }
+{
+    let mut text = Vec::new(alloc);
+    match push_header_text(&mut text, fault) {
+        Ok(()) => put_place(alloc, err, place, &text),
+        Err(_) => Err(Halt::NoMemory),
+    }
+}

@@ -1,0 +1,227 @@
+//! Making the index anew, and dropping the packages that can't be read.
+
+ghost use Rattle.std.specs.Prelude.{◌≡◌, ℕ, ◌+◌, ◌≤◌, Bool, List, [], ◌∷◌, true, false, IsTrue, Some, Err, IfOk, IfErr};
+ghost use Rattle.std.specs.FinMap as finite;
+ghost use Rattle.rpm_outside.specs.Buffered.{inner, holds, HandsOn};
+ghost use Rattle.rpm_outside.specs.Causes.{HasCauseAt};
+ghost use Rattle.rpm_db.specs.Changes.{Erase, apply, IsServing};
+ghost use Rattle.rpm_db.specs.Database as database;
+ghost use Rattle.rpm_db.specs.Database.{IsIndexed, is_indexed};
+ghost use Rattle.rpm_db.specs.Runs.{Runs};
+ghost use Rattle.rpm_db.specs.State.{State, Package, Bad, state};
+ghost use Rattle.rpm_db.specs.inner.Writes.{SameLog};
+ghost use Rattle.rpm_change.specs.Endings.{outputs, Ended, IsCarried, IndexTurn};
+ghost use Rattle.rpm_change.specs.Rebuilding.{dropped_line, dropped, rebuild, RebuildTurn, IsOfRebuilding};
+
+use crate::tally::{Halt, Tally, halt_of};
+use itoa::Buffer;
+use rpm_db::{ChangeFault, Db, GetFault};
+use rpm_outside::{Buffered, Disk, Sink, put_and_flush};
+use std::alloc::{AllocError, Global};
+
+/// The line of a package that is dropped.
+#[tactic(auto, unfolding(crate::specs::Rebuilding::dropped_line))]
+fn dropped_line(alloc: Global, number: u32) -> Result<Vec<u8>, AllocError>
+    ensures { IfOk result (λ line. line.items ≡ dropped_line number) }
+{
+    let mut digits = Buffer::new();
+    let mut line = Vec::new(alloc);
+    line.extend_from_slice(b"package ")?;
+    line.extend_from_slice(digits.format(number).as_bytes())?;
+    line.extend_from_slice(b": dropped\n")?;
+    Ok(line)
+}
+
+/// Writes to out that a package was dropped.
+fn put_dropped<O: Sink + Drop>(
+    out: &mut Buffered<O>,
+    number: u32,
+    line: &[u8],
+) -> Result<Tally, Halt>
+    requires line { line.now ≡ dropped_line number }
+    requires out_empty { holds out.old ≡ [] }
+    ensures ended { (s t : State) → t ≡ apply (Erase number) s → (err_tells : Bool) (err : List ℕ) → Ended (dropped number Bad) s t result
+        (outputs O.tells (O.taken (inner out.old)) err_tells err) (outputs O.tells (O.taken (inner out.new)) err_tells err) }
+    ensures one { IfOk result (λ tally. tally ≡ record { failed = 0; changes = 1 }) }
+    ensures kinds { IfErr result (λ halt. halt ≡ Halt.OutFault) }
+    ensures out { HasCauseAt (result ≡ Err Halt.OutFault) (O.faults (inner out.old)) (O.faults (inner out.new)) }
+    ensures out_rest { HandsOn O.follows out.old out.new }
+{
+    match put_and_flush(out, line) {
+        Ok(()) => Ok(Tally {
+            failed: 0,
+            changes: 1,
+        }),
+        Err(_) => Err(Halt::OutFault),
+    }
+}
+
+/// Erases a package that is Bad, and then writes to out that it is dropped.
+fn drop_bad<D: Disk, O: Sink + Drop>(
+    alloc: Global,
+    db: &mut Db,
+    disk: &mut D,
+    number: u32,
+    out: &mut Buffered<O>,
+) -> Result<Tally, Halt>
+    requires held { database.holds number db.old ≡ true }
+    requires indexed { is_indexed db.old ≡ true }
+    requires going { db.old.stopped ≡ false }
+    requires serving { IsTrue D.tells → IsServing (D.files disk.old) (D.left_since disk.old (D.moment disk.old)) db.old }
+    requires out_empty { holds out.old ≡ [] }
+    ensures ended { IsTrue D.tells → (err_tells : Bool) (err : List ℕ)
+        → Ended (dropped number Bad) (state (D.files disk.old).pkg db.old.store) (state (D.files disk.new).pkg db.new.store) result
+        (outputs O.tells (O.taken (inner out.old)) err_tells err) (outputs O.tells (O.taken (inner out.new)) err_tells err) }
+    ensures room { IsTrue D.tells → IsIndexed (D.files disk.old).pkg (D.files disk.old).idx db.old
+        → IndexTurn (state (D.files disk.old).pkg db.old.store) (dropped number Bad).changes result }
+    ensures one { IfOk result (λ tally. tally ≡ record { failed = 0; changes = 1 }) }
+    ensures carried { IfOk result (λ _tally. IsCarried D.tells (D.files disk.old) (D.files disk.new) (D.left_since disk.new (D.moment disk.new))
+        db.old db.new) }
+    ensures indexed { is_indexed db.new ≡ true }
+    ensures spent { result ≡ Err Halt.GenerationSpent → db.new.store.generation ≡ 4294967295 }
+    ensures kinds { IfErr result IsOfRebuilding }
+    ensures runs { Runs D.tells D.files D.left_since D.moment D.bytes_read D.follows SameLog disk.old disk.new }
+    ensures disk { HasCauseAt (result ≡ Err Halt.DiskFault) (D.faults disk.old) (D.faults disk.new) }
+    ensures out { HasCauseAt (result ≡ Err Halt.OutFault) (O.faults (inner out.old)) (O.faults (inner out.new)) }
+    ensures out_rest { HandsOn O.follows out.old out.new }
+{
+    let Ok(line) = dropped_line(alloc, number) else {
+        return Err(Halt::NoMemory);
+    };
+    match db.erase(alloc, disk, number) {
+        Ok(()) => put_dropped(out, number, &line),
+        Err(fault) => Err(halt_of(fault)),
+    }
+}
+
+/// Drops a package where it is Bad.
+fn drop_one<D: Disk, O: Sink + Drop>(
+    alloc: Global,
+    db: &mut Db,
+    disk: &mut D,
+    number: u32,
+    out: &mut Buffered<O>,
+) -> Result<Tally, Halt>
+    requires held { database.holds number db.old ≡ true }
+    requires indexed { is_indexed db.old ≡ true }
+    requires going { db.old.stopped ≡ false }
+    requires serving { IsTrue D.tells → IsServing (D.files disk.old) (D.left_since disk.old (D.moment disk.old)) db.old }
+    requires out_empty { holds out.old ≡ [] }
+    ensures ended { IsTrue D.tells → (p : Package) → finite.get (state (D.files disk.old).pkg db.old.store).packages number ≡ Some p
+        → (err_tells : Bool) (err : List ℕ)
+        → Ended (dropped number p) (state (D.files disk.old).pkg db.old.store) (state (D.files disk.new).pkg db.new.store) result
+        (outputs O.tells (O.taken (inner out.old)) err_tells err) (outputs O.tells (O.taken (inner out.new)) err_tells err) }
+    ensures room { IsTrue D.tells → IsIndexed (D.files disk.old).pkg (D.files disk.old).idx db.old → (p : Package)
+        → finite.get (state (D.files disk.old).pkg db.old.store).packages number ≡ Some p
+        → IndexTurn (state (D.files disk.old).pkg db.old.store) (dropped number p).changes result }
+    ensures one { IfOk result (λ tally. tally.failed + tally.changes ≤ 1) }
+    ensures carried { IfOk result (λ _tally. IsCarried D.tells (D.files disk.old) (D.files disk.new) (D.left_since disk.new (D.moment disk.new))
+        db.old db.new) }
+    ensures indexed { is_indexed db.new ≡ true }
+    ensures spent { result ≡ Err Halt.GenerationSpent → db.new.store.generation ≡ 4294967295 }
+    ensures kinds { IfErr result IsOfRebuilding }
+    ensures runs { Runs D.tells D.files D.left_since D.moment D.bytes_read D.follows SameLog disk.old disk.new }
+    ensures disk { HasCauseAt (result ≡ Err Halt.DiskFault) (D.faults disk.old) (D.faults disk.new) }
+    ensures out { HasCauseAt (result ≡ Err Halt.OutFault) (O.faults (inner out.old)) (O.faults (inner out.new)) }
+    ensures out_rest { HandsOn O.follows out.old out.new }
+{
+    match db.get(alloc, disk, number) {
+        Ok(_good) => Ok(Tally {
+            failed: 0,
+            changes: 0,
+        }),
+        Err(GetFault::Bad) => drop_bad(alloc, db, disk, number, out),
+        Err(GetFault::DiskFault) => Err(Halt::DiskFault),
+        Err(GetFault::NoMemory) => Err(Halt::NoMemory),
+        Err(GetFault::NoSuch) => unreachable!(),
+    }
+}
+
+/// Drops each package that is Bad, by rising number.
+fn drop_each<D: Disk, O: Sink + Drop>(
+    alloc: Global,
+    db: &mut Db,
+    disk: &mut D,
+    out: &mut Buffered<O>,
+) -> Result<Tally, Halt>
+    requires indexed { is_indexed db.old ≡ true }
+    requires going { db.old.stopped ≡ false }
+    requires serving { IsTrue D.tells → IsServing (D.files disk.old) (D.left_since disk.old (D.moment disk.old)) db.old }
+    requires out_empty { holds out.old ≡ [] }
+    ensures ended { IsTrue D.tells → (err_tells : Bool) (err : List ℕ)
+        → Ended (rebuild (state (D.files disk.old).pkg db.old.store)) (state (D.files disk.old).pkg db.old.store)
+        (state (D.files disk.new).pkg db.new.store) result
+        (outputs O.tells (O.taken (inner out.old)) err_tells err) (outputs O.tells (O.taken (inner out.new)) err_tells err) }
+    ensures room { IsTrue D.tells → IsIndexed (D.files disk.old).pkg (D.files disk.old).idx db.old
+        → IndexTurn (state (D.files disk.old).pkg db.old.store) (rebuild (state (D.files disk.old).pkg db.old.store)).changes result }
+    ensures carried { IfOk result (λ _tally. IsCarried D.tells (D.files disk.old) (D.files disk.new) (D.left_since disk.new (D.moment disk.new))
+        db.old db.new) }
+    ensures indexed { is_indexed db.new ≡ true }
+    ensures spent { result ≡ Err Halt.GenerationSpent → db.new.store.generation ≡ 4294967295 }
+    ensures kinds { IfErr result IsOfRebuilding }
+    ensures runs { Runs D.tells D.files D.left_since D.moment D.bytes_read D.follows SameLog disk.old disk.new }
+    ensures disk { HasCauseAt (result ≡ Err Halt.DiskFault) (D.faults disk.old) (D.faults disk.new) }
+    ensures out { HasCauseAt (result ≡ Err Halt.OutFault) (O.faults (inner out.old)) (O.faults (inner out.new)) }
+    ensures out_rest { HandsOn O.follows out.old out.new }
+{
+    let mut number = 0u32;
+    let mut failed = 0u32;
+    let mut changes = 0u32;
+    while let Some(next) = db.next_above(number) {
+        match drop_one(alloc, db, disk, next, out) {
+            Ok(tally) => {
+                number = next;
+                failed += tally.failed;
+                changes += tally.changes;
+            }
+            Err(halt) => return Err(halt),
+        }
+    }
+    Ok(Tally { failed, changes })
+}
+
+/// Makes the index anew, whatever it was, and then erases each package that is Bad, by rising number: each has a line on `out`, for which
+/// nothing fails. Reads the blocks of each package twice, and those of one that is erased once more; but for the rows of the index nothing
+/// but the present package is in memory.
+///
+/// The disk may be an overlay: then all changes can be committed as one. After an `Err` the database isn't to be used further.
+///
+/// # Errors
+///
+/// - `GenerationSpent` where a package is to be erased while the generation is 4294967295.
+/// - `IndexFull` exactly where the rows of the packages as they are, or after one is erased, need more than 268435456 units.
+/// - `BadIndex` only where a chain of the index isn't well formed, or unit 1 counts too little; never where the disk's contents are told.
+/// - `DiskFault` and `OutFault` only where that object's count of faults rose.
+/// - `NoMemory` where a package, the rows, a change or a line finds no memory. It answers nothing else.
+pub fn rebuild<D: Disk, O: Sink + Drop>(
+    alloc: Global,
+    db: &mut Db,
+    disk: &mut D,
+    out: &mut Buffered<O>,
+) -> Result<Tally, Halt>
+    requires indexed { is_indexed db.old ≡ true }
+    requires going { db.old.stopped ≡ false }
+    requires serving { IsTrue D.tells → IsServing (D.files disk.old) (D.left_since disk.old (D.moment disk.old)) db.old }
+    requires out_empty { holds out.old ≡ [] }
+    ensures ended { IsTrue D.tells → (err_tells : Bool) (err : List ℕ)
+        → Ended (rebuild (state (D.files disk.old).pkg db.old.store)) (state (D.files disk.old).pkg db.old.store)
+        (state (D.files disk.new).pkg db.new.store) result
+        (outputs O.tells (O.taken (inner out.old)) err_tells err) (outputs O.tells (O.taken (inner out.new)) err_tells err) }
+    ensures room { IsTrue D.tells
+        → RebuildTurn (state (D.files disk.old).pkg db.old.store) (rebuild (state (D.files disk.old).pkg db.old.store)).changes result }
+    ensures going { IfOk result (λ _tally. db.new.stopped ≡ false) }
+    ensures serving { IfOk result (λ _tally. IsTrue D.tells → IsServing (D.files disk.new) (D.left_since disk.new (D.moment disk.new)) db.new) }
+    ensures index { IfOk result (λ _tally. IsTrue D.tells → IsIndexed (D.files disk.new).pkg (D.files disk.new).idx db.new) }
+    ensures indexed { is_indexed db.new ≡ true }
+    ensures spent { result ≡ Err Halt.GenerationSpent → db.new.store.generation ≡ 4294967295 }
+    ensures kinds { IfErr result IsOfRebuilding }
+    ensures runs { Runs D.tells D.files D.left_since D.moment D.bytes_read D.follows SameLog disk.old disk.new }
+    ensures disk { HasCauseAt (result ≡ Err Halt.DiskFault) (D.faults disk.old) (D.faults disk.new) }
+    ensures out { HasCauseAt (result ≡ Err Halt.OutFault) (O.faults (inner out.old)) (O.faults (inner out.new)) }
+    ensures out_rest { HandsOn O.follows out.old out.new }
+{
+    match db.rebuild(alloc, disk) {
+        Ok(()) => drop_each(alloc, db, disk, out),
+        Err(fault) => Err(halt_of(fault)),
+    }
+}

@@ -1,0 +1,79 @@
+//! A package file in place of a package.
+
+ghost use Rattle.std.specs.Prelude.{◌≡◌, ℕ, ◌+◌, Bool, List, [], Some, true, false, IsTrue, Err, IfOk, IfErr};
+ghost use Rattle.rpm_outside.specs.Buffered.{inner, holds as holds_bytes, HandsOn};
+ghost use Rattle.rpm_outside.specs.Causes.{HasCauseAt};
+ghost use Rattle.rpm_db.specs.Changes.{IsServing};
+ghost use Rattle.rpm_db.specs.Database.{IsIndexed, is_indexed, holds};
+ghost use Rattle.rpm_db.specs.Runs.{Runs};
+ghost use Rattle.rpm_db.specs.State.{state};
+ghost use Rattle.rpm_db.specs.inner.Writes.{SameLog};
+ghost use Rattle.rpm_change.specs.Adding.{replace, IsOfPutting};
+ghost use Rattle.rpm_change.specs.Endings.{outputs, Ended, IsCarried, IndexTurn};
+
+use crate::add::{Placing, put_file};
+use crate::lines::put_missing;
+use crate::tally::{Halt, Tally};
+use rpm_db::Db;
+use rpm_outside::{Buffered, Disk, Shelf, Sink};
+use std::alloc::Global;
+
+/// Puts the package file under a path in place of the package that a number has, Good or Bad, with the entries that `add_files` gives it.
+/// Where no package has the number, that has a line on `err`, and the file isn't opened. A path that can't be opened has a line, and so has
+/// a file that is refused.
+///
+/// The disk may be an overlay. After an `Err` the database isn't to be used further.
+///
+/// # Errors
+///
+/// - `GenerationSpent` where a package is to be put while the generation is 4294967295.
+/// - `StoreFull` where the header, as it replaces the old one, fits nowhere below 4 GiB.
+/// - `IndexFull` exactly where the rows after the change need more than 268435456 units.
+/// - `BadIndex` only where a chain of the index isn't well formed, or unit 1 counts too little; never where the index holds the rows.
+/// - `DiskFault`, `ShelfFault` and `ErrFault` only where that object's count of faults rose.
+/// - `NoMemory` where the file, the change or a line finds no memory. It answers nothing else.
+pub fn replace_package<D: Disk, S: Shelf, E: Sink + Drop>(
+    alloc: Global,
+    db: &mut Db,
+    disk: &mut D,
+    shelf: &mut S,
+    number: u32,
+    path: &str,
+    now: u32,
+    err: &mut Buffered<E>,
+) -> Result<Tally, Halt>
+    requires indexed { is_indexed db.old ≡ true }
+    requires going { db.old.stopped ≡ false }
+    requires serving { IsTrue D.tells → IsServing (D.files disk.old) (D.left_since disk.old (D.moment disk.old)) db.old }
+    requires err_empty { holds_bytes err.old ≡ [] }
+    ensures ended { IsTrue D.tells → IsTrue S.tells → (out_tells : Bool) (out : List ℕ)
+        → Ended (replace (S.paths shelf.old) now (state (D.files disk.old).pkg db.old.store) number path.now)
+        (state (D.files disk.old).pkg db.old.store) (state (D.files disk.new).pkg db.new.store) result
+        (outputs out_tells out E.tells (E.taken (inner err.old))) (outputs out_tells out E.tells (E.taken (inner err.new))) }
+    ensures room { IsTrue D.tells → IsTrue S.tells → IsIndexed (D.files disk.old).pkg (D.files disk.old).idx db.old
+        → IndexTurn (state (D.files disk.old).pkg db.old.store)
+        (replace (S.paths shelf.old) now (state (D.files disk.old).pkg db.old.store) number path.now).changes result }
+    ensures one { IfOk result (λ tally. tally.failed + tally.changes ≡ 1) }
+    ensures carried { IfOk result (λ _tally. IsCarried D.tells (D.files disk.old) (D.files disk.new) (D.left_since disk.new (D.moment disk.new))
+        db.old db.new) }
+    ensures indexed { is_indexed db.new ≡ true }
+    ensures spent { result ≡ Err Halt.GenerationSpent → db.new.store.generation ≡ 4294967295 }
+    ensures kinds { IfErr result (IsOfPutting (Some number)) }
+    ensures runs { Runs D.tells D.files D.left_since D.moment D.bytes_read D.follows SameLog disk.old disk.new }
+    ensures untried { holds number db.old ≡ false → shelf.new ≡ shelf.old }
+    ensures paths { IsTrue S.tells → S.paths shelf.new ≡ S.paths shelf.old }
+    ensures disk { HasCauseAt (result ≡ Err Halt.DiskFault) (D.faults disk.old) (D.faults disk.new) }
+    ensures shelf { HasCauseAt (result ≡ Err Halt.ShelfFault) (S.faults shelf.old) (S.faults shelf.new) }
+    ensures err { HasCauseAt (result ≡ Err Halt.ErrFault) (E.faults (inner err.old)) (E.faults (inner err.new)) }
+    ensures err_rest { HandsOn E.follows err.old err.new }
+{
+    if db.holds(number) {
+        let how = Placing {
+            number: Some(number),
+            moment: now,
+        };
+        put_file(alloc, db, disk, shelf, how, path, err)
+    } else {
+        put_missing(alloc, err, number)
+    }
+}

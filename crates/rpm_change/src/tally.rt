@@ -1,0 +1,55 @@
+//! How a command that changes ends.
+
+ghost use Rattle.std.specs.Prelude.{◌≡◌, true};
+ghost use Rattle.rpm_change.specs.Endings.{ends_command, halt_of};
+
+use rpm_db::ChangeFault;
+
+/// How many arguments of a command failed, and how many changes it made.
+#[derive(Clone, Copy, Debug, PartialEq, Eq)]
+pub struct Tally {
+    pub failed: u32,
+    pub changes: u32,
+}
+
+/// Why a command was stopped before its end.
+#[derive(Clone, Copy, Debug, PartialEq, Eq)]
+pub enum Halt {
+    /// No package number is left.
+    NumbersSpent,
+    /// No generation is left.
+    GenerationSpent,
+    /// There is no room in `Packages.db`.
+    StoreFull,
+    /// The index would need so many units: too many.
+    IndexFull { needed: u64 },
+    /// A chain of the index isn't well formed: the unit of its first fault; or unit 1 counts too little.
+    BadIndex { unit: u64 },
+    /// A call of the disk failed.
+    DiskFault,
+    /// A read of the shelf failed.
+    ShelfFault,
+    /// A write to `out` failed.
+    OutFault,
+    /// A write to `err` failed.
+    ErrFault,
+    /// There was no memory.
+    NoMemory,
+}
+
+/// What a fault of a change makes of the command.
+pub fn halt_of(fault: ChangeFault) -> Halt
+    requires { ends_command fault ≡ true }
+    ensures { result ≡ halt_of fault }
+{
+    match fault {
+        ChangeFault::NumbersSpent => Halt::NumbersSpent,
+        ChangeFault::GenerationSpent => Halt::GenerationSpent,
+        ChangeFault::StoreFull => Halt::StoreFull,
+        ChangeFault::IndexFull { needed } => Halt::IndexFull { needed },
+        ChangeFault::BadIndex { unit } => Halt::BadIndex { unit },
+        ChangeFault::DiskFault => Halt::DiskFault,
+        ChangeFault::NoMemory => Halt::NoMemory,
+        ChangeFault::BadHeader(_) | ChangeFault::NoSuch | ChangeFault::Stopped => unreachable!(),
+    }
+}
