@@ -1,0 +1,93 @@
+use Rattle.std.proofs.Common.{◌+◌, ◌-◌, refl, ◌∙◌, arith}
+use Rattle.std.specs.List.{flat_map, range_with_len}
+use Rattle.rpm_db.specs.Database.{IsIndexed}
+use Rattle.rpm_db.specs.State.{state}
+use Rattle.rpm_db.specs.inner.Running.{runs_none, runs_then}
+use Rattle.rpm_db.specs.inner.Writes.{SameLog}
+use Rattle.rpm_exercise.specs.Rounds.{turn, round_changes}
+use Rattle.rpm_exercise.proofs.Parts.{partly_start, partly_more, partly_turn, partly_end, partly_room, each_next, each_none, each_all}
+use Rattle.rpm_exercise.proofs.rounds.go_round.Goals as goal
+
+pub loop-done-init : goal.loop-done-init
+loop-done-init g c = record {
+  goes = λ told.
+      partly_start (IsIndexed (g.D.Disk.files c.args.disk.now).pkg (g.D.Disk.files c.args.disk.now).idx c.args.db.now)
+      (round_changes c.args.round c.args.b c.args.n) (flat_map (turn c.args.round c.args.b) (range_with_len 1 (c.args.n - 0)))
+      (state (g.D.Disk.files c.args.disk.now).pkg c.args.db.now.store) (each_all (turn c.args.round c.args.b) c.args.n);
+  few = omega arith;
+  carried = record { going = c.requires.going; serving = c.requires.serving; index = λ told rows. rows };
+  indexed = c.requires.indexed;
+  runs = runs_none g.D.Disk.tells g.D.Disk.files g.D.Disk.left_since g.D.Disk.moment g.D.Disk.bytes_read g.D.Disk.follows g.met.D.Disk.follows_refl SameLog
+      (λ f. refl) c.args.disk.now;
+  disk = omega arith;
+}
+
+pub loop-done-preserved : goal.loop-done-preserved
+loop-done-preserved g c =
+    let k = c.loop-done.done in
+    let n = c.args.n in
+    let f = turn c.args.round c.args.b in
+    let inv = c.loop-done.invariant in
+    let one = c.in-Ok.ensures in
+    let s = state (g.D.Disk.files c.args.disk.now).pkg c.args.db.now.store in
+    let t = state (g.D.Disk.files c.loop-done.disk).pkg c.loop-done.db.store in
+    let u = state (g.D.Disk.files c.take_turn.new.disk).pkg c.take_turn.new.db.store in
+    let P = IsIndexed (g.D.Disk.files c.args.disk.now).pkg (g.D.Disk.files c.args.disk.now).idx c.args.db.now in
+    record {
+      goes = λ told.
+          partly_more P (round_changes c.args.round c.args.b n) (flat_map f (range_with_len (k + 1) (n - k))) (f (k + 1))
+          (flat_map f (range_with_len (k + 1 + 1) (n - (k + 1)))) s t c.loop-done.changes (each_next f (k + 1) n k (omega arith)) (inv.goes told) u
+          c.in-Ok.tally (one.made told) (λ rows. one.room told (inv.carried.index told rows));
+      few = omega (arith, inv.few, one.few);
+      carried = record {
+        going = one.carried.going;
+        serving = one.carried.serving;
+        index = λ told rows. one.carried.index told (inv.carried.index told rows);
+      };
+      indexed = c.take_turn.ensures.indexed;
+      runs = runs_then g.D.Disk.tells g.D.Disk.files g.D.Disk.left_since g.D.Disk.moment g.D.Disk.bytes_read g.D.Disk.follows g.met.D.Disk.follows_trans
+          SameLog SameLog SameLog c.args.disk.now c.loop-done.disk c.take_turn.new.disk (λ x y log. log) (λ x y z first second. second ∙ first)
+          inv.runs one.runs;
+      disk = omega (arith, inv.disk, one.disk.later);
+    }
+
+pub returns-in-Err-clause-room : goal.returns-in-Err-clause-room
+returns-in-Err-clause-room g c = λ told rows.
+    let k = c.loop-done.done in
+    let n = c.args.n in
+    let f = turn c.args.round c.args.b in
+    let inv = c.loop-done.invariant in
+    let s = state (g.D.Disk.files c.args.disk.now).pkg c.args.db.now.store in
+    let t = state (g.D.Disk.files c.loop-done.disk).pkg c.loop-done.db.store in
+    let P = IsIndexed (g.D.Disk.files c.args.disk.now).pkg (g.D.Disk.files c.args.disk.now).idx c.args.db.now in
+    partly_turn P (round_changes c.args.round c.args.b n) (flat_map f (range_with_len (k + 1) (n - k))) (f (k + 1))
+    (flat_map f (range_with_len (k + 1 + 1) (n - (k + 1)))) s t c.loop-done.changes (each_next f (k + 1) n k (omega arith)) (inv.goes told) c.in-Err.halt rows
+    (c.in-Err.ensures.room told (inv.carried.index told rows))
+
+pub returns-in-Err-clause-runs : goal.returns-in-Err-clause-runs
+returns-in-Err-clause-runs g c =
+    runs_then g.D.Disk.tells g.D.Disk.files g.D.Disk.left_since g.D.Disk.moment g.D.Disk.bytes_read g.D.Disk.follows g.met.D.Disk.follows_trans
+    SameLog SameLog SameLog c.args.disk.now c.loop-done.disk c.take_turn.new.disk (λ x y log. log) (λ x y z first second. second ∙ first)
+    c.loop-done.invariant.runs c.in-Err.ensures.runs
+
+pub returns-clause-made : goal.returns-clause-made
+returns-clause-made g c = λ told.
+    let k = c.loop-done.done in
+    let n = c.args.n in
+    let f = turn c.args.round c.args.b in
+    let s = state (g.D.Disk.files c.args.disk.now).pkg c.args.db.now.store in
+    let t = state (g.D.Disk.files c.loop-done.disk).pkg c.loop-done.db.store in
+    let P = IsIndexed (g.D.Disk.files c.args.disk.now).pkg (g.D.Disk.files c.args.disk.now).idx c.args.db.now in
+    partly_end P (round_changes c.args.round c.args.b n) (flat_map f (range_with_len (k + 1) (n - k))) s t c.loop-done.changes
+    (each_none f (k + 1) n k (omega arith)) (c.loop-done.invariant.goes told)
+
+pub returns-clause-room : goal.returns-clause-room
+returns-clause-room g c = λ told rows.
+    let k = c.loop-done.done in
+    let n = c.args.n in
+    let f = turn c.args.round c.args.b in
+    let s = state (g.D.Disk.files c.args.disk.now).pkg c.args.db.now.store in
+    let t = state (g.D.Disk.files c.loop-done.disk).pkg c.loop-done.db.store in
+    let P = IsIndexed (g.D.Disk.files c.args.disk.now).pkg (g.D.Disk.files c.args.disk.now).idx c.args.db.now in
+    partly_room P (round_changes c.args.round c.args.b n) (flat_map f (range_with_len (k + 1) (n - k))) s t c.loop-done.changes
+    (each_none f (k + 1) n k (omega arith)) (c.loop-done.invariant.goes told) rows

@@ -1,0 +1,60 @@
+-- The changes that the exercise makes, round by round.
+use Rattle.std.specs.Prelude.{◌≡◌, ℕ, ◌+◌, ◌-◌, ◌%◌, ◌==◌, List, [], ◌∷◌, ◌++◌, length, false, if◌then◌else◌, None}
+use Rattle.std.specs.List.{flat_map, range_with_len}
+use Rattle.std.specs.FinMap as finite
+use Rattle.rpm_header.specs.Laid.{laid}
+use Rattle.rpm_db.specs.Changes.{Change, Add, Put, Erase, next}
+use Rattle.rpm_db.specs.Database.{Database, next_number}
+use Rattle.rpm_db.specs.State.{State}
+use Rattle.rpm_change.specs.declared.tally.Tally.{Tally}
+use Rattle.rpm_change.specs.declared.tally.Halt.{Halt}
+use Rattle.rpm_change.specs.declared.tally.Halt.TheVariants as halt
+use Rattle.rpm_change.specs.Exercise.{generated}
+use Rattle.rpm_change.specs.Steps.{apply_all}
+use Rattle.rpm_exercise.specs.declared.rounds.Round.{Round}
+use Rattle.rpm_exercise.specs.declared.rounds.Round.TheVariants as round
+
+-- the bytes of header i with the leading number m
+abbrev pub made : ℕ → ℕ → List ℕ
+made i m = laid false (generated i m)
+
+-- what a round does with header i, where b is the number before the first that is added
+abbrev pub turn : Round → ℕ → ℕ → List Change
+turn round.Adding b i = Add (made i 1) ∷ []
+turn round.Replacing b i = if i % 3 == 0 then Put (b + i) (made i 2) ∷ [] else []
+turn round.Erasing b i = if i % 5 == 0 then Erase (b + i) ∷ [] else []
+
+-- a round goes through the headers from 1 to n
+abbrev pub round_changes : Round → ℕ → ℕ → List Change
+round_changes r b n = flat_map (turn r b) (range_with_len 1 n)
+
+-- all are added, then each third is replaced, then each fifth is erased
+abbrev pub changes_after : ℕ → ℕ → List Change
+changes_after b n = round_changes round.Adding b n ++ (round_changes round.Replacing b n ++ round_changes round.Erasing b n)
+
+-- from a state
+unfoldable pub changes : ℕ → State → List Change
+changes n s = changes_after (next s - 1) n
+
+-- ---- what making changes leaves
+
+-- these changes and no others were made, and none failed
+pub record Made (changes : List Change) (s t : State) (tally : Tally) : Type 0 where
+  pub failed : tally.failed ≡ 0
+  pub count : length changes ≡ tally.changes
+  pub state_is : t ≡ apply_all changes s
+  -- no package gets the number 0
+  pub from_one : finite.get s.packages 0 ≡ None → finite.get t.packages 0 ≡ None
+
+-- a change reads no shelf and writes no line
+abbrev pub IsOfChanges : Halt → Type 0
+IsOfChanges halt.ShelfFault = ⊥
+IsOfChanges halt.OutFault = ⊥
+IsOfChanges halt.ErrFault = ⊥
+IsOfChanges others = Unit {0}
+
+-- no number, no generation is left in this value
+abbrev pub IsSpent : Database → Halt → Type 0
+IsSpent db halt.NumbersSpent = next_number db ≡ 4294967295
+IsSpent db halt.GenerationSpent = db.store.generation ≡ 4294967295
+IsSpent db others = Unit {0}

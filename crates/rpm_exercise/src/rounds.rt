@@ -1,0 +1,303 @@
+//! The changes of the exercise, round by round.
+
+ghost use Rattle.std.specs.Prelude.{◌≡◌, ◌+◌, ◌-◌, ◌<◌, ◌≤◌, [], ◌∷◌, false, true, IsTrue, Err, IfOk, IfErr};
+ghost use Rattle.rpm_outside.specs.Causes.{HasCauseAt};
+ghost use Rattle.rpm_db.specs.Changes.{Add, Put, Erase, IsServing};
+ghost use Rattle.rpm_db.specs.Database.{IsIndexed, is_indexed};
+ghost use Rattle.rpm_db.specs.Runs.{Runs};
+ghost use Rattle.rpm_db.specs.State.{state};
+ghost use Rattle.rpm_db.specs.inner.Writes.{SameLog};
+ghost use Rattle.rpm_change.specs.Endings.{IsCarried, IndexTurn, halt_of};
+ghost use Rattle.rpm_exercise.specs.Rounds.{made, turn, round_changes, changes, Made, IsOfChanges, IsSpent};
+
+use rpm_change::{Halt, Tally, generated};
+use rpm_db::{ChangeFault, Db};
+use rpm_outside::Disk;
+use std::alloc::Global;
+
+/// What is done with the headers, one after the other.
+#[derive(Clone, Copy)]
+pub enum Round {
+    /// Each is added.
+    Adding,
+    /// Each third is replaced.
+    Replacing,
+    /// Each fifth is erased.
+    Erasing,
+}
+
+// What became of a change that was made, and of a turn that has none.
+const CHANGED: Tally = Tally {
+    failed: 0,
+    changes: 1,
+};
+
+const IDLE: Tally = Tally {
+    failed: 0,
+    changes: 0,
+};
+
+/// What a fault of a change makes of the exercise. Its headers are headers, its numbers were given before and no earlier call failed, so
+/// the last three don't come on a disk that keeps what it is given.
+fn halt_of(fault: ChangeFault) -> Halt
+    ensures { result ≡ halt_of fault }
+{
+    match fault {
+        ChangeFault::NumbersSpent => Halt::NumbersSpent,
+        ChangeFault::GenerationSpent => Halt::GenerationSpent,
+        ChangeFault::StoreFull => Halt::StoreFull,
+        ChangeFault::IndexFull { needed } => Halt::IndexFull { needed },
+        ChangeFault::BadIndex { unit } => Halt::BadIndex { unit },
+        ChangeFault::DiskFault => Halt::DiskFault,
+        ChangeFault::NoMemory => Halt::NoMemory,
+        ChangeFault::BadHeader(_) | ChangeFault::NoSuch | ChangeFault::Stopped => Halt::NoMemory,
+    }
+}
+
+/// Adds header `i`.
+fn add_one<D: Disk>(alloc: Global, db: &mut Db, disk: &mut D, i: u32) -> Result<Tally, Halt>
+    requires small { i < 4294967295 }
+    requires indexed { is_indexed db.old ≡ true }
+    requires going { db.old.stopped ≡ false }
+    requires serving { IsTrue D.tells → IsServing (D.files disk.old) (D.left_since disk.old (D.moment disk.old)) db.old }
+    ensures made { IsTrue D.tells → IfOk result (λ tally. Made (Add (made i 1) ∷ []) (state (D.files disk.old).pkg db.old.store)
+        (state (D.files disk.new).pkg db.new.store) tally) }
+    ensures room { IsTrue D.tells → IsIndexed (D.files disk.old).pkg (D.files disk.old).idx db.old
+        → IndexTurn (state (D.files disk.old).pkg db.old.store) (Add (made i 1) ∷ []) result }
+    ensures few { IfOk result (λ tally. tally.changes ≤ 1) }
+    ensures carried { IfOk result (λ _tally. IsCarried D.tells (D.files disk.old) (D.files disk.new) (D.left_since disk.new (D.moment disk.new))
+        db.old db.new) }
+    ensures indexed { is_indexed db.new ≡ true }
+    ensures spent { IfErr result (IsSpent db.new) }
+    ensures kinds { IfErr result IsOfChanges }
+    ensures runs { Runs D.tells D.files D.left_since D.moment D.bytes_read D.follows SameLog disk.old disk.new }
+    ensures disk { HasCauseAt (result ≡ Err Halt.DiskFault) (D.faults disk.old) (D.faults disk.new) }
+{
+    let Ok(blob) = generated(alloc, i, 1) else {
+        return Err(Halt::NoMemory);
+    };
+    match db.add(alloc, disk, &blob) {
+        Ok(_) => Ok(CHANGED),
+        Err(fault) => Err(halt_of(fault)),
+    }
+}
+
+/// The number of header `i`. It was given before, so it is one.
+fn number_of(b: u32, i: u32) -> Result<u32, Halt>
+    ensures value { IfOk result (λ number. number ≡ b + i) }
+    ensures kinds { IfErr result (λ halt. halt ≡ Halt.NoMemory) }
+{
+    match b.checked_add(i) {
+        Some(number) => Ok(number),
+        None => Err(Halt::NoMemory),
+    }
+}
+
+/// Puts header `i` in place of the package of its number.
+fn replace_one<D: Disk>(
+    alloc: Global,
+    db: &mut Db,
+    disk: &mut D,
+    b: u32,
+    i: u32,
+) -> Result<Tally, Halt>
+    requires small { i < 4294967295 }
+    requires some { 1 ≤ i }
+    requires indexed { is_indexed db.old ≡ true }
+    requires going { db.old.stopped ≡ false }
+    requires serving { IsTrue D.tells → IsServing (D.files disk.old) (D.left_since disk.old (D.moment disk.old)) db.old }
+    ensures made { IsTrue D.tells → IfOk result (λ tally. Made (Put (b + i) (made i 2) ∷ []) (state (D.files disk.old).pkg db.old.store)
+        (state (D.files disk.new).pkg db.new.store) tally) }
+    ensures room { IsTrue D.tells → IsIndexed (D.files disk.old).pkg (D.files disk.old).idx db.old
+        → IndexTurn (state (D.files disk.old).pkg db.old.store) (Put (b + i) (made i 2) ∷ []) result }
+    ensures few { IfOk result (λ tally. tally.changes ≤ 1) }
+    ensures carried { IfOk result (λ _tally. IsCarried D.tells (D.files disk.old) (D.files disk.new) (D.left_since disk.new (D.moment disk.new))
+        db.old db.new) }
+    ensures indexed { is_indexed db.new ≡ true }
+    ensures spent { IfErr result (IsSpent db.new) }
+    ensures kinds { IfErr result IsOfChanges }
+    ensures runs { Runs D.tells D.files D.left_since D.moment D.bytes_read D.follows SameLog disk.old disk.new }
+    ensures disk { HasCauseAt (result ≡ Err Halt.DiskFault) (D.faults disk.old) (D.faults disk.new) }
+{
+    let number = match number_of(b, i) {
+        Ok(number) => number,
+        Err(halt) => return Err(halt),
+    };
+    let Ok(blob) = generated(alloc, i, 2) else {
+        return Err(Halt::NoMemory);
+    };
+    match db.put(alloc, disk, number, &blob) {
+        Ok(()) => Ok(CHANGED),
+        Err(fault) => Err(halt_of(fault)),
+    }
+}
+
+/// Takes the package of header `i` out.
+fn erase_one<D: Disk>(
+    alloc: Global,
+    db: &mut Db,
+    disk: &mut D,
+    b: u32,
+    i: u32,
+) -> Result<Tally, Halt>
+    requires some { 1 ≤ i }
+    requires indexed { is_indexed db.old ≡ true }
+    requires going { db.old.stopped ≡ false }
+    requires serving { IsTrue D.tells → IsServing (D.files disk.old) (D.left_since disk.old (D.moment disk.old)) db.old }
+    ensures made { IsTrue D.tells → IfOk result (λ tally. Made (Erase (b + i) ∷ []) (state (D.files disk.old).pkg db.old.store)
+        (state (D.files disk.new).pkg db.new.store) tally) }
+    ensures room { IsTrue D.tells → IsIndexed (D.files disk.old).pkg (D.files disk.old).idx db.old
+        → IndexTurn (state (D.files disk.old).pkg db.old.store) (Erase (b + i) ∷ []) result }
+    ensures few { IfOk result (λ tally. tally.changes ≤ 1) }
+    ensures carried { IfOk result (λ _tally. IsCarried D.tells (D.files disk.old) (D.files disk.new) (D.left_since disk.new (D.moment disk.new))
+        db.old db.new) }
+    ensures indexed { is_indexed db.new ≡ true }
+    ensures spent { IfErr result (IsSpent db.new) }
+    ensures kinds { IfErr result IsOfChanges }
+    ensures runs { Runs D.tells D.files D.left_since D.moment D.bytes_read D.follows SameLog disk.old disk.new }
+    ensures disk { HasCauseAt (result ≡ Err Halt.DiskFault) (D.faults disk.old) (D.faults disk.new) }
+{
+    let number = match number_of(b, i) {
+        Ok(number) => number,
+        Err(halt) => return Err(halt),
+    };
+    match db.erase(alloc, disk, number) {
+        Ok(()) => Ok(CHANGED),
+        Err(fault) => Err(halt_of(fault)),
+    }
+}
+
+/// What a round does with header `i`, where `b` is the number before the first that is added.
+fn take_turn<D: Disk>(
+    alloc: Global,
+    db: &mut Db,
+    disk: &mut D,
+    round: Round,
+    b: u32,
+    i: u32,
+) -> Result<Tally, Halt>
+    requires small { i < 4294967295 }
+    requires some { 1 ≤ i }
+    requires indexed { is_indexed db.old ≡ true }
+    requires going { db.old.stopped ≡ false }
+    requires serving { IsTrue D.tells → IsServing (D.files disk.old) (D.left_since disk.old (D.moment disk.old)) db.old }
+    ensures made { IsTrue D.tells → IfOk result (λ tally. Made (turn round b i) (state (D.files disk.old).pkg db.old.store)
+        (state (D.files disk.new).pkg db.new.store) tally) }
+    ensures room { IsTrue D.tells → IsIndexed (D.files disk.old).pkg (D.files disk.old).idx db.old
+        → IndexTurn (state (D.files disk.old).pkg db.old.store) (turn round b i) result }
+    ensures few { IfOk result (λ tally. tally.changes ≤ 1) }
+    ensures carried { IfOk result (λ _tally. IsCarried D.tells (D.files disk.old) (D.files disk.new) (D.left_since disk.new (D.moment disk.new))
+        db.old db.new) }
+    ensures indexed { is_indexed db.new ≡ true }
+    ensures spent { IfErr result (IsSpent db.new) }
+    ensures kinds { IfErr result IsOfChanges }
+    ensures runs { Runs D.tells D.files D.left_since D.moment D.bytes_read D.follows SameLog disk.old disk.new }
+    ensures disk { HasCauseAt (result ≡ Err Halt.DiskFault) (D.faults disk.old) (D.faults disk.new) }
+{
+    match round {
+        Round::Adding => add_one(alloc, db, disk, i),
+        Round::Replacing => {
+            if i % 3 == 0 {
+                replace_one(alloc, db, disk, b, i)
+            } else {
+                Ok(IDLE)
+            }
+        }
+        Round::Erasing => {
+            if i % 5 == 0 {
+                erase_one(alloc, db, disk, b, i)
+            } else {
+                Ok(IDLE)
+            }
+        }
+    }
+}
+
+/// Goes through the headers from 1 to `n`.
+fn go_round<D: Disk>(
+    alloc: Global,
+    db: &mut Db,
+    disk: &mut D,
+    round: Round,
+    b: u32,
+    n: u32,
+) -> Result<Tally, Halt>
+    requires few { n ≤ 100000 }
+    requires indexed { is_indexed db.old ≡ true }
+    requires going { db.old.stopped ≡ false }
+    requires serving { IsTrue D.tells → IsServing (D.files disk.old) (D.left_since disk.old (D.moment disk.old)) db.old }
+    ensures made { IsTrue D.tells → IfOk result (λ tally. Made (round_changes round b n) (state (D.files disk.old).pkg db.old.store)
+        (state (D.files disk.new).pkg db.new.store) tally) }
+    ensures room { IsTrue D.tells → IsIndexed (D.files disk.old).pkg (D.files disk.old).idx db.old
+        → IndexTurn (state (D.files disk.old).pkg db.old.store) (round_changes round b n) result }
+    ensures few { IfOk result (λ tally. tally.changes ≤ n) }
+    ensures carried { IfOk result (λ _tally. IsCarried D.tells (D.files disk.old) (D.files disk.new) (D.left_since disk.new (D.moment disk.new))
+        db.old db.new) }
+    ensures indexed { is_indexed db.new ≡ true }
+    ensures spent { IfErr result (IsSpent db.new) }
+    ensures kinds { IfErr result IsOfChanges }
+    ensures runs { Runs D.tells D.files D.left_since D.moment D.bytes_read D.follows SameLog disk.old disk.new }
+    ensures disk { HasCauseAt (result ≡ Err Halt.DiskFault) (D.faults disk.old) (D.faults disk.new) }
+{
+    let mut changes = 0u32;
+    for done in 0..n {
+        match take_turn(alloc, db, disk, round, b, done + 1) {
+            Ok(tally) => changes += tally.changes,
+            Err(halt) => return Err(halt),
+        }
+    }
+    Ok(Tally { failed: 0, changes })
+}
+
+/// Adds the headers 1 to `n` with the leading number 1; then puts each that is divisible by 3 in its own place with the leading number 2;
+/// then erases each that is divisible by 5. Each round goes by rising number. Header `i` has the `i`th number behind those that the
+/// database gave before. These are `n + n / 3 + n / 5` changes, and nothing fails.
+///
+/// One header is held at a time, below 512 bytes. Of `Packages.db` the blocks of each package that is replaced or erased are read once. The
+/// disk may be an overlay: then all changes can be committed as one. After an `Err` the database isn't to be used further. The headers and
+/// the rounds are this project's own.
+///
+/// # Errors
+///
+/// - `NumbersSpent` where a header is to be added while the next number is 4294967295.
+/// - `GenerationSpent` where a change is to be made while the generation is 4294967295.
+/// - `StoreFull` where a header fits nowhere below 4 GiB.
+/// - `IndexFull` exactly where, going through the changes in order, the rows after one of them need more than 268435456 units.
+/// - `BadIndex` only where a chain of the index isn't well formed, or unit 1 counts too little; never where the index holds the rows.
+/// - `DiskFault` only where the disk's count of faults rose.
+/// - `NoMemory` where a header or a change finds no memory; also where a number that was given isn't there or is too great, which takes a
+///   disk that doesn't keep what it is given. It answers nothing else.
+pub fn change_all<D: Disk>(alloc: Global, db: &mut Db, disk: &mut D, n: u32) -> Result<Tally, Halt>
+    requires few { n ≤ 100000 }
+    requires indexed { is_indexed db.old ≡ true }
+    requires going { db.old.stopped ≡ false }
+    requires serving { IsTrue D.tells → IsServing (D.files disk.old) (D.left_since disk.old (D.moment disk.old)) db.old }
+    ensures made { IsTrue D.tells → IfOk result (λ tally. Made (changes n (state (D.files disk.old).pkg db.old.store))
+        (state (D.files disk.old).pkg db.old.store) (state (D.files disk.new).pkg db.new.store) tally) }
+    ensures room { IsTrue D.tells → IsIndexed (D.files disk.old).pkg (D.files disk.old).idx db.old
+        → IndexTurn (state (D.files disk.old).pkg db.old.store) (changes n (state (D.files disk.old).pkg db.old.store)) result }
+    ensures carried { IfOk result (λ _tally. IsCarried D.tells (D.files disk.old) (D.files disk.new) (D.left_since disk.new (D.moment disk.new))
+        db.old db.new) }
+    ensures indexed { is_indexed db.new ≡ true }
+    ensures spent { IfErr result (IsSpent db.new) }
+    ensures kinds { IfErr result IsOfChanges }
+    ensures runs { Runs D.tells D.files D.left_since D.moment D.bytes_read D.follows SameLog disk.old disk.new }
+    ensures disk { HasCauseAt (result ≡ Err Halt.DiskFault) (D.faults disk.old) (D.faults disk.new) }
+{
+    let b = db.next_number().saturating_sub(1);
+    let added = match go_round(alloc, db, disk, Round::Adding, b, n) {
+        Ok(tally) => tally,
+        Err(halt) => return Err(halt),
+    };
+    let replaced = match go_round(alloc, db, disk, Round::Replacing, b, n) {
+        Ok(tally) => tally,
+        Err(halt) => return Err(halt),
+    };
+    match go_round(alloc, db, disk, Round::Erasing, b, n) {
+        Ok(erased) => Ok(Tally {
+            failed: 0,
+            changes: added.changes + replaced.changes + erased.changes,
+        }),
+        Err(halt) => Err(halt),
+    }
+}
