@@ -1,5 +1,5 @@
 -- What is said of a whole argument, and of all of them.
-use Rattle.std.proofs.Common.{◌≡◌, ℕ, zero, suc, ◌+◌, ◌≤◌, ◌≢◌, Bool, true, false, if◌then◌else◌, List, [], ◌∷◌, ◌++◌, map, drop, length, Result, Ok, Err, Some, refl, sym, ap, ◌∙◌, add-one, arith}
+use Rattle.std.proofs.Common.{◌≡◌, ℕ, zero, suc, ◌+◌, ◌≤◌, ◌≢◌, Bool, true, false, if◌then◌else◌, List, [], ◌∷◌, ◌++◌, map, drop, length, Result, Ok, Err, Some, refl, sym, ap, ◌∙◌, subst, add-one, arith}
 use Rattle.std.specs.Prelude.{slice_get}
 use Rattle.std.specs.Ordering.{nat_cmp}
 use Rattle.std.specs.FinMap.{FinMap}
@@ -13,11 +13,12 @@ use Rattle.rpm_tool.specs.declared.step.Stop.{Stop}
 use Rattle.rpm_tool.specs.declared.step.Stop.TheVariants as stop
 use Rattle.std.proofs.Math.Seq.{drop-nil}
 use Rattle.rpm_tool.specs.declared.answer.Why.TheVariants as why
-use Rattle.rpm_tool.specs.Steps.{Bearer, Course, Part, before, idle, in_turn}
+use Rattle.rpm_tool.specs.Steps.{Bearer, whole, Course, Part, before, idle, in_turn}
 use Rattle.rpm_tool.specs.Reads.{reaches_by}
 use Rattle.rpm_tool.specs.Queries.{step_of, packages_part, missing_part, answered, argument_part, query_of}
 use Rattle.rpm_tool.specs.Answers.{Outputs, outputs, Through, Reached, PartIs, Went, why_of, is_some_of}
-use Rattle.rpm_tool.proofs.Reaching.{Goes, goes_end, reached_reads, reached_empty}
+use Rattle.rpm_tool.proofs.Reaching.{Goes, goes_end}
+use Rattle.rpm_tool.proofs.Stopping.{reached_reads, reached_empty, reached_later}
 
 pub part_reads : (part : Part) (r : Result Bool Stop) (old new : Outputs) (P Q : Bearer → Type 0) → ((b : Bearer) → P b → Q b) → PartIs part r old new P
     → PartIs part r old new Q
@@ -37,6 +38,18 @@ pub answered_done : (tree : Tree) (chosen : Chosen) (after j : ℕ) (text : List
     → PartIs (answered tree chosen after j text es) (Ok fails) old new Q
 answered_done tree chosen after j text [] fails old new P Q some p = absurd cc
 answered_done tree chosen after j text (e ∷ es) fails old new P Q some p = record { steps = p.steps; fails = p.fails }
+
+-- where none was there, and nothing was printed before its line
+pub answered_missed : (tree : Tree) (chosen : Chosen) (after j : ℕ) (text : List ℕ) (es : List (ℕ × Package)) (r : Result Bool Stop) (ot et : Bool)
+    (o o' o'' e e' e'' : List ℕ) (reads_to : Bearer → Type 0) → es ≡ [] → Through [] (outputs ot o et e) (outputs ot o' et e') → reads_to (whole j)
+    → PartIs (missing_part chosen j text) r (outputs ot o' et e') (outputs ot o'' et e'') (λ b. b ≡ whole j)
+    → PartIs (answered tree chosen after j text es) r (outputs ot o et e) (outputs ot o'' et e'') reads_to
+answered_missed tree chosen after j text es r ot et o o' o'' e e' e'' reads_to none through reads missed =
+    let part = missing_part chosen j text in
+    let read = part_reads part r (outputs ot o' et e') (outputs ot o'' et e'') (λ b. b ≡ whole j) reads_to
+    (λ b is. subst (λ (w : Bearer). reads_to w) (sym is) reads) missed in
+    subst (λ (xs : List (ℕ × Package)). PartIs (answered tree chosen after j text xs) r (outputs ot o et e) (outputs ot o'' et e'') reads_to) (sym none)
+    (record { steps = reached_later Bool ot et part.steps r o o' o'' e e' e'' reads_to through read.steps; fails = read.fails })
 
 -- a command that was stopped
 pub went_stop : (T : Type 0) (c : Course) (what : Stop) (old new : Outputs) (reads_to : Bearer → Type 0) → Reached {T = T} c.steps (Err what) old new reads_to
@@ -86,7 +99,7 @@ none_left [] n le = drop-nil n
 none_left (x ∷ xs) zero le = absurd (omega (arith, le))
 none_left (x ∷ xs) (suc n) le = none_left xs n (omega (arith, le))
 
-abbrev counted : Bool → ℕ
+abbrev pub counted : Bool → ℕ
 counted b = if b then 1 else 0
 
 module _ (each : ℕ → List ℕ → Part) (f : ℕ → List ℕ) (args : List ℕ) where

@@ -44,6 +44,10 @@ left course making needed (why.BadLog u) old new reads_to own opened went full r
 left course making needed (why.Damaged d) old new reads_to own opened went full room = absurd cc
 left course making needed (why.BadIndex u) old new reads_to own opened went full room = absurd went
 left course making needed (why.IndexFull u) old new reads_to own opened went full room = absurd (omega (arith, full.1, room full.0))
+left course making needed why.NumbersSpent old new reads_to own opened went full room = absurd went
+left course making needed why.GenerationSpent old new reads_to own opened went full room = absurd went
+left course making needed why.StoreFull old new reads_to own opened went full room = absurd went
+left course making needed (why.LogFull u) old new reads_to own opened went full room = absurd went
 left course making needed why.DiskFault old new reads_to own opened went full room = refl
 left course making needed why.ShelfFault old new reads_to own opened went full room = absurd cc
 left course making needed why.OutFault old new reads_to own opened went full room = refl

@@ -12,7 +12,8 @@ use Rattle.rpm_tool.specs.declared.answer.Why.{Why}
 use Rattle.rpm_tool.specs.declared.answer.Why.TheVariants as why
 use Rattle.rpm_tool.specs.Steps.{Bearer, Course}
 use Rattle.rpm_tool.specs.Answers.{Outputs, outputs, Went, Opened, Loaded, Refused, why_of_load, unless_starved, AtMost}
-use Rattle.rpm_tool.proofs.Reaching.{through_none, within_reads}
+use Rattle.rpm_tool.proofs.Reaching.{through_none}
+use Rattle.rpm_tool.proofs.Stopping.{within_reads}
 
 module _ (course : Store → Course) (reads_to : Store → Bearer → Type 0) where
   -- nothing was done, for a fault of the disk or for want of memory
@@ -57,6 +58,10 @@ went_starved c true (why.BadLog u) old new reads_to went = went
 went_starved c true (why.Damaged d) old new reads_to went = went
 went_starved c true (why.BadIndex u) old new reads_to went = went
 went_starved c true (why.IndexFull u) old new reads_to went = went
+went_starved c true why.NumbersSpent old new reads_to went = went
+went_starved c true why.GenerationSpent old new reads_to went = went
+went_starved c true why.StoreFull old new reads_to went = went
+went_starved c true (why.LogFull u) old new reads_to went = went
 went_starved c true why.ShelfFault old new reads_to went = went
 went_starved c true why.OutFault old new reads_to went = went
 went_starved c true why.ErrFault old new reads_to went = went
@@ -74,6 +79,10 @@ refused_starved d true (why.BadLog u) r = r
 refused_starved d true (why.Damaged e) r = r
 refused_starved d true (why.BadIndex u) r = r
 refused_starved d true (why.IndexFull u) r = r
+refused_starved d true why.NumbersSpent r = r
+refused_starved d true why.GenerationSpent r = r
+refused_starved d true why.StoreFull r = r
+refused_starved d true (why.LogFull u) r = r
 refused_starved d true why.ShelfFault r = r
 refused_starved d true why.OutFault r = r
 refused_starved d true why.ErrFault r = r
@@ -102,6 +111,10 @@ went_reads c (why.BadLog u) old new P Q so went = went
 went_reads c (why.Damaged d) old new P Q so went = went
 went_reads c (why.BadIndex u) old new P Q so went = went
 went_reads c (why.IndexFull u) old new P Q so went = went
+went_reads c why.NumbersSpent old new P Q so went = went
+went_reads c why.GenerationSpent old new P Q so went = went
+went_reads c why.StoreFull old new P Q so went = went
+went_reads c (why.LogFull u) old new P Q so went = went
 went_reads c why.DiskFault old new P Q so went = went
 went_reads c why.ShelfFault old new P Q so went = went
 went_reads c why.OutFault old new P Q so went = within_reads c.steps true old new P Q so went
@@ -125,6 +138,10 @@ is_disk_fault true (why.BadLog u) is = absurd cc
 is_disk_fault true (why.Damaged d) is = absurd cc
 is_disk_fault true (why.BadIndex u) is = absurd cc
 is_disk_fault true (why.IndexFull u) is = absurd cc
+is_disk_fault true why.NumbersSpent is = absurd cc
+is_disk_fault true why.GenerationSpent is = absurd cc
+is_disk_fault true why.StoreFull is = absurd cc
+is_disk_fault true (why.LogFull u) is = absurd cc
 is_disk_fault true why.ShelfFault is = absurd cc
 is_disk_fault true why.OutFault is = absurd cc
 is_disk_fault true why.ErrFault is = absurd cc

@@ -1,5 +1,5 @@
 -- A database that is opened with its index, and then asked.
-use Rattle.std.proofs.Common.{◌≡◌, ℕ, ◌^◌, ◌≤◌, Bool, true, false, not, ◌&&◌, List, [], map, Result, Ok, Err, refl, sym, ap, ◌∙◌, subst, inl, inr, arith}
+use Rattle.std.proofs.Common.{◌≡◌, ℕ, ◌≤◌, Bool, true, false, not, ◌&&◌, List, map, Result, Ok, refl, sym, ap, ◌∙◌, subst, inl, inr, arith}
 use Rattle.std.specs.Prelude.{IsTrue}
 use Rattle.std.proofs.lemmas.Bool.{cases_Bool, eqb-true}
 use Rattle.rpm_outside.specs.declared.disk.File.{File}
@@ -19,11 +19,10 @@ use Rattle.rpm_words.specs.Ask.{AskParts}
 use Rattle.rpm_tool.specs.declared.answer.Why.{Why}
 use Rattle.rpm_tool.specs.declared.answer.Why.TheVariants as why
 use Rattle.rpm_tool.specs.Steps.{Bearer, Course}
-use Rattle.rpm_tool.specs.Answers.{Outputs, outputs, Went, is_of_opening}
-use Rattle.rpm_tool.specs.Keyed.{WentBy, OpenedBy, HasIndex, FullBy, BadIs, is_refusal, keyed_reaches}
+use Rattle.rpm_tool.specs.Answers.{Outputs, Went}
+use Rattle.rpm_tool.specs.Keyed.{HasIndex, BadIs, keyed_reaches}
 use Rattle.rpm_tool.specs.Reads.{Peeks, IsOfChains, argument_reach, reaches_by, reach_sum, reached_by}
 use Rattle.rpm_tool.specs.Reports.{unindexed}
-use Rattle.rpm_tool.proofs.Reaching.{through_none}
 use Rattle.rpm_tool.proofs.Sums.{store_by, store_sum}
 
 -- ---- a run of calls that opened the database, and then looked things up
@@ -61,70 +60,6 @@ module _ (file : Units) (db : Database) (indexed : is_indexed db ≡ not (is_bla
       ≤ reach_sum (keyed_reaches file db.store words a) (unindexed db.store)
   keyed_sum = rw indexed (omega (arith, store_sum (keyed_reaches file db.store words a) db))
 
--- ---- the endings
-
--- what a query answers is what a question by key answers
-pub went_by : (course : Course) (given : Why) (old new : Outputs) (reads_to : Bearer → Type 0) → Went course given old new reads_to
-    → WentBy course given old new reads_to
-went_by course (why.IndexFull needed) old new reads_to went = absurd went
-went_by course why.Done old new reads_to went = went
-went_by course (why.Failed n) old new reads_to went = went
-went_by course (why.Usage f) old new reads_to went = went
-went_by course (why.NotBuilt x) old new reads_to went = went
-went_by course (why.BadFormat f) old new reads_to went = went
-went_by course (why.BadLog u) old new reads_to went = went
-went_by course (why.Damaged d) old new reads_to went = went
-went_by course (why.BadIndex u) old new reads_to went = went
-went_by course why.DiskFault old new reads_to went = went
-went_by course why.ShelfFault old new reads_to went = went
-went_by course why.OutFault old new reads_to went = went
-went_by course why.ErrFault old new reads_to went = went
-went_by course why.NoMemory old new reads_to went = went
-
-pub unrefused : (w : Why) → is_of_opening w ≡ false → is_refusal w ≡ false
-unrefused why.Done is = refl
-unrefused (why.Failed n) is = refl
-unrefused (why.Usage f) is = refl
-unrefused (why.NotBuilt x) is = refl
-unrefused (why.BadFormat f) is = refl
-unrefused (why.BadLog u) is = is
-unrefused (why.Damaged d) is = is
-unrefused (why.BadIndex u) is = refl
-unrefused (why.IndexFull u) is = refl
-unrefused why.DiskFault is = refl
-unrefused why.ShelfFault is = refl
-unrefused why.OutFault is = refl
-unrefused why.ErrFault is = refl
-unrefused why.NoMemory is = refl
-
-module _ (Lawful : Type 0) (course : Store → Course) (ot et : Bool) (o e : List ℕ) (reads_to : Store → Bearer → Type 0) where
-  -- of a store that wasn't opened
-  pub by_fault : (s : Result Store Damage) → OpenedBy Lawful course s why.DiskFault (outputs ot o et e) (outputs ot o et e) reads_to
-  by_fault (Ok s) = (refl, λ lawful. ([], (course s).steps, refl, through_none {ot = ot} {et = et} o e))
-  by_fault (Err d) = (tt, through_none {ot = ot} {et = et} o e)
-
-  pub by_memory : (s : Result Store Damage) → OpenedBy Lawful course s why.NoMemory (outputs ot o et e) (outputs ot o et e) reads_to
-  by_memory (Ok s) = (refl, λ lawful. ([], (course s).steps, refl, through_none {ot = ot} {et = et} o e))
-  by_memory (Err d) = (tt, through_none {ot = ot} {et = et} o e)
-
--- an index that was opened isn't full
-pub full_opened : (making : Bool) (needed : ℕ) (w : Why) → is_of_opening w ≡ false → (making ≡ true → needed ≤ 2 ^ 28) → FullBy making needed w
-full_opened making needed why.Done is room = room
-full_opened making needed (why.Failed n) is room = room
-full_opened making needed (why.Usage f) is room = room
-full_opened making needed (why.NotBuilt x) is room = room
-full_opened making needed (why.BadFormat f) is room = room
-full_opened making needed (why.BadLog u) is room = tt
-full_opened making needed (why.Damaged d) is room = room
-full_opened making needed (why.BadIndex u) is room = room
-full_opened making needed (why.IndexFull u) is room = absurd cc
-full_opened making needed why.DiskFault is room = tt
-full_opened making needed why.ShelfFault is room = room
-full_opened making needed why.OutFault is room = room
-full_opened making needed why.ErrFault is room = room
-full_opened making needed why.NoMemory is room = tt
-
--- the index of a damaged store is never made
 -- ---- what opening says of the index
 
 not_not : (b : Bool) → not b ≡ true → b ≡ false
@@ -183,6 +118,10 @@ module _ (old new : Files) (db : Database) (opened : IsOpened old new (Ok db)) (
     bad_opened (why.BadLog u) went chain = tt
     bad_opened (why.Damaged d) went chain = tt
     bad_opened (why.IndexFull u) went chain = tt
+    bad_opened why.NumbersSpent went chain = tt
+    bad_opened why.GenerationSpent went chain = tt
+    bad_opened why.StoreFull went chain = tt
+    bad_opened (why.LogFull u) went chain = tt
     bad_opened why.DiskFault went chain = tt
     bad_opened why.ShelfFault went chain = tt
     bad_opened why.OutFault went chain = tt

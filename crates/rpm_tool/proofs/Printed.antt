@@ -19,7 +19,7 @@ use Rattle.rpm_tool.specs.declared.step.Way.TheVariants as way
 use Rattle.rpm_tool.specs.Queries.{printed, bad_step, header_step, step_of}
 use Rattle.rpm_tool.specs.Reports.{step_by}
 use Rattle.rpm_tool.specs.Answers.{Outputs, OneIs, NextIs, Reached, cost_until}
-use Rattle.rpm_tool.proofs.Reaching.{reached_first}
+use Rattle.rpm_tool.proofs.Stopping.{reached_first}
 
 bearer-printed : (for : Bearer) (what : Result (List ℕ) (ℕ × ℕ)) → bearer_of (printed for what) ≡ for
 bearer-printed for (Ok bytes) = refl

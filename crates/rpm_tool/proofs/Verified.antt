@@ -1,13 +1,15 @@
 -- The parts of all packages, one after the other.
-use Rattle.std.proofs.Common.{◌≡◌, ℕ, ◌+◌, ◌||◌, Bool, true, false, if◌then◌else◌, List, [], ◌∷◌, Option, Some, None, is_some, Ok, refl, sym, ap, ◌∙◌, subst, arith}
+use Rattle.std.proofs.Common.{◌≡◌, ℕ, ◌+◌, ◌||◌, Bool, true, false, if◌then◌else◌, List, [], ◌∷◌, Option, Some, None, is_some, Result, Ok, refl, sym, ap, ◌∙◌, subst, arith}
 use Rattle.std.proofs.lemmas.List.{append-nil}
 use Rattle.std.specs.Ordering.{nat_cmp}
 use Rattle.std.specs.FinMap as finite
-use Rattle.rpm_outside.specs.Files.{Units}
+use Rattle.rpm_outside.specs.Files.{Units, Files}
 use Rattle.rpm_db.specs.State.{Package, packages, above}
 use Rattle.rpm_db.specs.Database.{Database, IsNext, holds}
 use Rattle.rpm_db.specs.inner.Above.{next_above, nothing_above, all_above_zero}
 use Rattle.rpm_db.specs.inner.Laws.{is_there}
+use Rattle.rpm_db.specs.Verdicts.{verdict}
+use Rattle.rpm_tool.specs.Reports.{verdict_part}
 use Rattle.rpm_tool.specs.declared.step.Stop.{Stop}
 use Rattle.rpm_tool.specs.declared.step.Stop.TheVariants as stop
 use Rattle.rpm_tool.specs.declared.answer.Why.TheVariants as why
@@ -36,6 +38,12 @@ no_entry map n none = nothing_above map n (λ k lt. none_is (finite.get map k) (
 pub from_one : (file : Units) (db : Database) → holds 0 db ≡ false
     → above 0 (finite.entries (packages file db.store)) ≡ finite.entries (packages file db.store)
 from_one file db none = all_above_zero (packages file db.store) (none_is (finite.get (packages file db.store) 0) (is_there file db 0 ∙ none))
+
+-- what is said of the files as they read is said of the files as they were
+pub verdict_here : (f f' : Files) (db : Database) (m : ℕ) (r : Result Bool Stop) (old new : Outputs) (reads_to : Bearer → Type 0) → f ≡ f'
+    → PartIs (verdict_part m (verdict f.pkg db m)) r old new reads_to → PartIs (verdict_part m (verdict f'.pkg db m)) r old new reads_to
+verdict_here f f' db m r old new reads_to same part =
+    subst (λ (g : Files). PartIs (verdict_part m (verdict g.pkg db m)) r old new reads_to) same part
 
 -- one more part, for which all of them may fail
 pub fails_later : (fails one unsound rest all : Bool) → one ≡ unsound → all ≡ (fails || (one || rest)) → all ≡ ((fails || unsound) || rest)

@@ -1,5 +1,6 @@
 pub mod Answers
 pub mod Asked
+pub mod Changing
 pub mod Closing
 pub mod Keyed
 pub mod PackageFiles
@@ -7,3 +8,4 @@ pub mod Queries
 pub mod Reads
 pub mod Reports
 pub mod Steps
+pub mod Working

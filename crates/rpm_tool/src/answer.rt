@@ -31,10 +31,18 @@ pub enum Why {
     BadLog { unit: u64 },
     /// `Packages.db` is damaged.
     Damaged(Damage),
-    /// `Hindex.db` is malformed at this unit: in the chain of a key that was asked.
+    /// No package number is left.
+    NumbersSpent,
+    /// No generation is left.
+    GenerationSpent,
+    /// There is no room in `Packages.db`.
+    StoreFull,
+    /// `Hindex.db` is malformed at this unit: in the chain of a key that was asked, or of one that changes.
     BadIndex { unit: u64 },
     /// An index of the packages needs so many units, more than `Hindex.db` may have.
     IndexFull { needed: u64 },
+    /// The changes of the command need so many units of `Hlog.db`, more than it may have.
+    LogFull { needed: u64 },
     /// The database could not be read or written.
     DiskFault,
     /// A package file could not be read.
@@ -68,7 +76,8 @@ pub fn status_of(why: Why) -> u8
         Why::Usage(_) => 251,
         Why::BadFormat(_) => 251,
         Why::NotBuilt(_) | Why::BadLog { .. } | Why::Damaged(_) | Why::DiskFault => 252,
-        Why::BadIndex { .. } | Why::IndexFull { .. } => 252,
+        Why::NumbersSpent | Why::GenerationSpent | Why::StoreFull => 252,
+        Why::BadIndex { .. } | Why::IndexFull { .. } | Why::LogFull { .. } => 252,
         Why::ShelfFault | Why::OutFault | Why::ErrFault => 253,
         Why::NoMemory => 254,
     }

@@ -3,6 +3,8 @@
 ghost use Rattle.std.specs.Prelude.{◌≡◌, ◌+◌, ◌≤◌, [], false, true, IsTrue};
 ghost use Rattle.rpm_outside.specs.Buffered.{inner, holds, HandsOn};
 ghost use Rattle.rpm_outside.specs.Causes.{HasCauseAt};
+ghost use Rattle.rpm_outside.specs.Changes.{IsSettled};
+ghost use Rattle.rpm_outside.specs.declared.disk.File.TheVariants.{Pkg, Idx};
 ghost use Rattle.rpm_outside.specs.Crash.{LeavesOnly};
 ghost use Rattle.rpm_pkgdb.specs.Store.{store};
 ghost use Rattle.rpm_db.specs.State.{packages};
@@ -21,8 +23,8 @@ use rpm_qfparse::Format;
 use rpm_words::{Ask, Words};
 use std::alloc::Global;
 
-/// The ending of a question whose database isn't recovered.
-fn why_of_recover(fault: RecoverFault) -> Why
+/// The ending of a command whose database isn't recovered.
+pub fn why_of_recover(fault: RecoverFault) -> Why
     ensures { result ≡ why_of_recover fault }
 {
     match fault {
@@ -31,7 +33,7 @@ fn why_of_recover(fault: RecoverFault) -> Why
     }
 }
 
-/// Opens the database with its index, and answers.
+/// Opens the database with its index on files that are settled, and answers.
 fn answer_indexed<D: Disk, O: Sink + Drop, E: Sink + Drop>(
     alloc: Global,
     disk: &mut D,
@@ -43,6 +45,8 @@ fn answer_indexed<D: Disk, O: Sink + Drop, E: Sink + Drop>(
 ) -> Why
     requires out_empty { holds out.old ≡ [] }
     requires err_empty { holds err.old ≡ [] }
+    requires pkg { IsTrue D.tells → IsSettled Pkg (D.files disk.old) (D.left_since disk.old (D.moment disk.old)) }
+    requires idx { IsTrue D.tells → IsSettled Idx (D.files disk.old) (D.left_since disk.old (D.moment disk.old)) }
     ensures went { IsTrue D.tells → OpenedBy (IsLawful (D.files disk.old).pkg (D.files disk.old).idx)
         (λ s. query format.now (packages (D.files disk.old).pkg s) words.now ask.now) (store (D.files disk.old).pkg) result
         (outputs O.tells (O.taken (inner out.old)) E.tells (E.taken (inner err.old))) (outputs O.tells (O.taken (inner out.new)) E.tells
@@ -64,7 +68,7 @@ fn answer_indexed<D: Disk, O: Sink + Drop, E: Sink + Drop>(
     ensures out_rest { HandsOn O.follows out.old out.new }
     ensures err_rest { HandsOn E.follows err.old err.new }
 {
-    match Db::open(alloc, disk) {
+    match Db::open_settled(alloc, disk) {
         Ok(db) => query_opened(alloc, &db, disk, words, ask, format, out, err),
         Err(DbOpenFault::Damaged(damage)) => Why::Damaged(damage),
         Err(DbOpenFault::IndexFull { needed }) => Why::IndexFull { needed },

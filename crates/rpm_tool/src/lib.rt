@@ -6,6 +6,7 @@
 mod answer;
 mod argument;
 mod asked;
+mod changing;
 mod closing;
 mod command;
 mod keyed;
@@ -22,6 +23,7 @@ mod unindexed;
 mod verdicts;
 
 pub use answer::{Outcome, Unbuilt, Why};
+pub use changing::{Ending, erase};
 pub use command::run;
 pub use rpm_pkgdb::{Damage, Reason};
 pub use rpm_qfparse::{FormatFault, FormatKind};

@@ -15,7 +15,7 @@ use rpm_words::{Ask, Words};
 use std::alloc::Global;
 
 /// The ending of a command whose database isn't loaded.
-fn why_of_load(fault: LoadFault) -> Why
+pub fn why_of_load(fault: LoadFault) -> Why
     ensures { result ≡ why_of_load fault }
 {
     match fault {
@@ -26,7 +26,7 @@ fn why_of_load(fault: LoadFault) -> Why
 }
 
 /// The ending of a command on an overlay: only the disk below counts.
-fn unless_starved(is_starved: bool, why: Why) -> Why
+pub fn unless_starved(is_starved: bool, why: Why) -> Why
     ensures { result ≡ unless_starved is_starved why }
 {
     match why {

@@ -1,11 +1,14 @@
+mod damage;
 mod formats;
 mod keyed;
+mod many;
 mod packages;
 mod queries;
 mod reports;
+mod stops;
 mod words;
 
-use crate::{Damage, Outcome, Reason, Why, run};
+use crate::{Outcome, Why, run};
 use rpm_outside::{File, MemDisk, MemShelf, MemSink};
 use rpm_words::Words;
 use std::alloc::{AllocError, Global};
@@ -143,11 +146,17 @@ fn push_blocks(bytes: &mut Vec<u8>, number: u32, blob: &[u8]) -> Result<(), Allo
     bytes.extend_from_slice(b"BlbE")
 }
 
-// A Packages.db of one page with these packages, in the order of their slots.
-fn store(alloc: Global, packages: &[(u32, Vec<u8>)]) -> Result<Vec<u8>, AllocError> {
+// A Packages.db of so many pages with these packages, in the order of their slots, and the next number.
+fn store_of(
+    alloc: Global,
+    pages: u32,
+    next: u32,
+    packages: &[(u32, Vec<u8>)],
+) -> Result<Vec<u8>, AllocError> {
+    let slots = pages.wrapping_mul(256);
     let mut bytes = Vec::new(alloc);
-    push_unit(&mut bytes, b"RpmP", [0, 1, 1])?;
-    push_unit(&mut bytes, &[4, 0, 0, 0], [0; 3])?;
+    push_unit(&mut bytes, b"RpmP", [0, 1, pages])?;
+    push_unit(&mut bytes, &next.to_le_bytes(), [0; 3])?;
     let mut blobs = Vec::new(alloc);
     for (number, blob) in packages {
         let before = u32::try_from(blobs.len() / 16).unwrap_or(0);
@@ -155,18 +164,23 @@ fn store(alloc: Global, packages: &[(u32, Vec<u8>)]) -> Result<Vec<u8>, AllocErr
         let after = u32::try_from(blobs.len() / 16).unwrap_or(0);
         let slot = [
             *number,
-            before.wrapping_add(256),
+            before.wrapping_add(slots),
             after.wrapping_sub(before),
         ];
         push_unit(&mut bytes, b"Slot", slot)?;
     }
-    for _ in 0..256 {
-        if bytes.len() < 4096 {
+    for unit in 2..slots {
+        if bytes.len() / 16 == unit as usize {
             push_unit(&mut bytes, b"Slot", [0; 3])?;
         }
     }
     bytes.extend_from_slice(&blobs)?;
     Ok(bytes)
+}
+
+// One of one page, whose next number is 4.
+fn store(alloc: Global, packages: &[(u32, Vec<u8>)]) -> Result<Vec<u8>, AllocError> {
+    store_of(alloc, 1, 4, packages)
 }
 
 fn three_small(alloc: Global) -> Result<Vec<u8>, AllocError> {
@@ -212,11 +226,11 @@ struct Ran {
     err: MemSink,
 }
 
-// The words of a line, and one behind them, which may have spaces. Without it there is none more.
-fn words_of(alloc: Global, line: &str, last: &str) -> Result<Words, AllocError> {
+// The words of a line but this one, and one behind them, which may have spaces. Without it there is none more.
+fn words_but(alloc: Global, line: &str, last: &str, passed: &str) -> Result<Words, AllocError> {
     let mut words = Words::new(alloc);
     for word in line.split_whitespace() {
-        if words.len() < u32::MAX {
+        if word != passed && words.len() < u32::MAX {
             words.push(word)?;
         }
     }
@@ -224,6 +238,10 @@ fn words_of(alloc: Global, line: &str, last: &str) -> Result<Words, AllocError> 
         words.push(last)?;
     }
     Ok(words)
+}
+
+fn words_of(alloc: Global, line: &str, last: &str) -> Result<Words, AllocError> {
+    words_but(alloc, line, last, "")
 }
 
 // Runs words on a file and a log, with a disk call that is to fail (0: none), and limits of the sinks.
@@ -237,6 +255,16 @@ fn run_over(
 ) -> Result<Ran, AllocError> {
     let mut disk = MemDisk::new(alloc, file, &[], log)?;
     disk.fail_call(call)?;
+    run_on(alloc, words, disk, limits)
+}
+
+// The same on a disk.
+fn run_on(
+    alloc: Global,
+    words: &Words,
+    disk: MemDisk,
+    limits: [u64; 2],
+) -> Result<Ran, AllocError> {
     let mut shelf = MemShelf::new(alloc);
     let mut out = MemSink::new(alloc);
     let mut err = MemSink::new(alloc);
@@ -269,10 +297,9 @@ fn run_line(alloc: Global, line: &str, last: &str, file: &[u8]) -> Result<Ran, A
 // A line and the word behind it; how many arguments fail; the bytes on out and on err.
 type Case<'a> = (&'a str, &'a str, u32, &'a str, &'a str);
 
-// Whether a line on a file ends so, with nothing changed or written.
-fn ends(alloc: Global, file: &[u8], case: Case<'_>) -> Result<bool, AllocError> {
-    let (line, last, failed, out, err) = case;
-    let ran = run_line(alloc, line, last, file)?;
+// Whether it ended so.
+fn has_ended(ran: &Ran, case: Case<'_>) -> bool {
+    let (_, _, failed, out, err) = case;
     let why = if failed == 0 {
         Why::Done
     } else {
@@ -283,12 +310,15 @@ fn ends(alloc: Global, file: &[u8], case: Case<'_>) -> Result<bool, AllocError> 
         why,
         changes: 0,
     };
-    Ok(
-        ran.outcome == outcome
-            && ran.disk.now() == 0
-            && ran.out.bytes() == out.as_bytes()
-            && ran.err.bytes() == err.as_bytes(),
-    )
+    ran.outcome == outcome && ran.out.bytes() == out.as_bytes() && ran.err.bytes() == err.as_bytes()
+}
+
+// Whether a line on a file ends so, with nothing changed or written; and so without `--noindex`, by an index that is made.
+fn ends(alloc: Global, file: &[u8], case: Case<'_>) -> Result<bool, AllocError> {
+    let plain = run_line(alloc, case.0, case.1, file)?;
+    let words = words_but(alloc, case.0, case.1, "--noindex")?;
+    let keyed = run_over(alloc, &words, file, &[], 0, NO_LIMITS)?;
+    Ok(has_ended(&plain, case) && plain.disk.now() == 0 && has_ended(&keyed, case))
 }
 
 // Whether a line is answered so, with this status and line on err, on a damaged file and with no call on it, the shelf or out.
@@ -310,6 +340,16 @@ fn is_refused(
             && ran.out.faults() == 0
             && ran.err.bytes() == told.as_bytes(),
     )
+}
+
+// A log of one entry, which is a whole Packages.db.
+fn log_of(alloc: Global, file: &[u8]) -> Result<Vec<u8>, AllocError> {
+    let units = u32::try_from(file.len() / 16).unwrap_or(0);
+    let mut log = Vec::new(alloc);
+    push_unit(&mut log, b"RpmL", [1, 1, units.wrapping_add(1)])?;
+    push_unit(&mut log, &[1, 0, 0, 0], [0, units, 0])?;
+    log.extend_from_slice(file)?;
+    Ok(log)
 }
 
 #[test]
@@ -335,79 +375,6 @@ fn packages_are_printed_by_rising_number(rt: HostRuntime) -> Result<(), Fail> {
     let messages =
         "error: package 1: header cannot be read\nerror: package 3: header cannot be read\n";
     assert!(rt; ends(alloc, &broken, ("rpm -qa", "", 1, "a-1-2.x\n", messages))?);
-    Ok(())
-}
-
-// Whether `rpm -qa` on a file is refused so, with this line behind the file's name.
-fn is_damaged(
-    alloc: Global,
-    file: &[u8],
-    reason: Reason,
-    offset: u64,
-    told: &str,
-) -> Result<bool, AllocError> {
-    let ran = run_line(alloc, "rpm -qa", "", file)?;
-    let line = format!(in alloc; "rpm: Packages.db is damaged at byte {offset}: {told}\n")?;
-    let outcome = Outcome {
-        status: 252,
-        why: Why::Damaged(Damage { reason, offset }),
-        changes: 0,
-    };
-    Ok(
-        ran.outcome == outcome
-            && ran.out.bytes().is_empty()
-            && ran.err.bytes() == line.as_str().as_bytes(),
-    )
-}
-
-#[test]
-fn a_damaged_database_says_where(rt: HostRuntime) -> Result<(), Fail> {
-    let alloc = rt.alloc();
-    for (at, bytes, reason, offset, told) in [
-        (0, b"\x51".as_slice(), Reason::BadMagic, 0, "file magic"),
-        (4, b"\x01".as_slice(), Reason::BadVersion, 4, "version"),
-        (12, b"\x02".as_slice(), Reason::BadPages, 12, "slot pages"),
-        (
-            32,
-            b"\0\0\0\0".as_slice(),
-            Reason::BadSlot,
-            32,
-            "slot magic",
-        ),
-        (
-            36,
-            b"\0".as_slice(),
-            Reason::BadNumber,
-            36,
-            "package number",
-        ),
-        (44, b"\x08".as_slice(), Reason::BadRange, 40, "block range"),
-        (
-            52,
-            b"\x01\0\0\0\0\x01\0\0\x07".as_slice(),
-            Reason::SameNumber,
-            52,
-            "number used twice",
-        ),
-        (
-            52,
-            b"\x02\0\0\0\x06\x01\0\0\x01".as_slice(),
-            Reason::Overlap,
-            56,
-            "blocks overlap",
-        ),
-    ] {
-        let file = changed(one(alloc)?, at, bytes);
-        assert!(rt; is_damaged(alloc, &file, reason, offset, told)?, "{told}");
-    }
-    // The slots of one page are no slots of two.
-    let mut file = changed(three_small(alloc)?, 12, b"\x02");
-    for _ in 0..4096 {
-        if file.len() < 8192 {
-            file.push(0)?;
-        }
-    }
-    assert!(rt; is_damaged(alloc, &file, Reason::BadRange, 40, "block range")?);
     Ok(())
 }
 

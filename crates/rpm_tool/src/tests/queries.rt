@@ -1,6 +1,8 @@
 //! Questions, each by the lines that it has to print on a database of three packages.
 
-use super::{Case, NO_LIMITS, changed, ends, push_unit, run_over, three, three_small, words_of};
+use super::{
+    Case, NO_LIMITS, changed, ends, log_of, push_unit, run_over, three, three_small, words_of,
+};
 use crate::Why;
 use std::test::Fail;
 
@@ -111,12 +113,7 @@ fn a_log_is_read_through_or_told(rt: HostRuntime) -> Result<(), Fail> {
     let alloc = rt.alloc();
     let words = words_of(alloc, "rpm -qa", "")?;
     let file = three_small(alloc)?;
-    let units = u32::try_from(file.len() / 16).unwrap_or(0);
-    // One entry, which is the whole file.
-    let mut log = Vec::new(alloc);
-    push_unit(&mut log, b"RpmL", [1, 1, units.wrapping_add(1)])?;
-    push_unit(&mut log, &[1, 0, 0, 0], [0, units, 0])?;
-    log.extend_from_slice(&file)?;
+    let log = log_of(alloc, &file)?;
     let ran = run_over(alloc, &words, &[], &log, 0, NO_LIMITS)?;
     assert!(rt; ran.outcome.why == Why::Done && ran.disk.now() == 0);
     assert_eq!(rt; ran.out.bytes(), b"c-1-2.x\na-1-2.x\nb-1-2.x\n".as_slice());

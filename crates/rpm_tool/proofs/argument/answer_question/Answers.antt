@@ -1,31 +1,26 @@
-use Rattle.std.proofs.Common.{◌≡◌, ℕ, ◌+◌, ◌-◌, ◌≤◌, Bool, true, false, List, [], map, refl, sym, ap, ◌∙◌, subst, arith}
+use Rattle.std.proofs.Common.{◌≡◌, ℕ, ◌-◌, Bool, false, List, [], map, refl, sym, ap, ◌∙◌, subst, arith}
 use Rattle.std.specs.List.{list_any}
 use Rattle.rpm_outside.specs.Buffered.{inner}
 use Rattle.rpm_outside.specs.declared.disk.File.TheVariants.{Pkg}
-use Rattle.rpm_outside.specs.Files.{Files}
-use Rattle.rpm_outside.specs.inner.Looking.{looks_then}
 use Rattle.rpm_db.specs.State.{Package, packages, above}
-use Rattle.rpm_db.specs.Database.{cost_to, cost_all}
-use Rattle.rpm_db.specs.inner.Laws.{cost_some}
 use Rattle.rpm_select.specs.Selections.{picks}
-use Rattle.rpm_select.specs.Reach.{Reach, reach_to}
-use Rattle.rpm_tool.specs.Steps.{Bearer, whole, is_bad}
+use Rattle.rpm_tool.specs.Steps.{whole, is_bad}
 use Rattle.rpm_tool.specs.Queries.{step_of, missing_part, answered}
-use Rattle.rpm_tool.specs.Answers.{outputs, Through, PartIs, is_some_of}
+use Rattle.rpm_tool.specs.Answers.{outputs, Through}
 use Rattle.rpm_tool.specs.Reads.{ReadsIn, ReadsOf}
-use Rattle.rpm_tool.proofs.Reached.{served, reach_both}
+use Rattle.rpm_tool.proofs.Looked.{looks_both, both_read}
+use Rattle.rpm_tool.proofs.Nexts.{passed_here}
 use Rattle.rpm_tool.proofs.Unbroken.{part_unbroken}
-use Rattle.rpm_tool.proofs.Reaching.{reached_later, reached_unsunk}
+use Rattle.rpm_tool.proofs.Stopping.{reached_unsunk}
 use Rattle.rpm_tool.proofs.Rising.{none_at_all}
-use Rattle.rpm_tool.proofs.Answering.{part_reads, answered_stop, answered_done, some_above}
+use Rattle.rpm_tool.proofs.Answering.{answered_stop, answered_done, answered_missed, some_above}
 use Rattle.rpm_tool.proofs.argument.answer_question.Goals as goal
 
 pub returns-in-Err-clause-went : goal.returns-in-Err-clause-went
 returns-in-Err-clause-went g c = λ told serves j.
     let db = c.args.db.now in
-    let s = db.store in
     let r = c.args.picker.now in
-    let es = picks (packages (g.D.Disk.files c.args.disk.now).pkg s) c.args.selection.now in
+    let es = picks (packages (g.D.Disk.files c.args.disk.now).pkg db.store) c.args.selection.now in
     let before = g.D.Disk.bytes_read c.args.disk.now Pkg in
     let now = g.D.Disk.bytes_read c.print_above.new.disk Pkg in
     answered_stop c.args.format.now c.args.chosen c.args.after j c.args.text.now es c.in-Err.stop
@@ -35,24 +30,18 @@ returns-in-Err-clause-went g c = λ told serves j.
 
 pub returns-in-Ok-true-clause-looks : goal.returns-in-Ok-true-clause-looks
 returns-in-Ok-true-clause-looks g c =
-    let db = c.args.db.now in
-    looks_then g.D.Disk.tells g.D.Disk.files g.D.Disk.left_since g.D.Disk.moment g.D.Disk.bytes_read g.D.Disk.follows Pkg g.met.D.Disk.follows_trans
-    (cost_all db - cost_to c.args.after db) (cost_to c.args.after db) (cost_all db) c.args.disk.now c.print_above.new.disk
-    c.is_any_passed.new.disk (omega (arith, cost_some db c.args.after)) c.in-Ok.ensures.looks c.in-Ok-true.ensures.looks
+    looks_both g.D.Disk.tells g.D.Disk.files g.D.Disk.left_since g.D.Disk.moment g.D.Disk.bytes_read g.D.Disk.follows g.met.D.Disk.follows_trans
+    c.args.db.now c.args.after c.args.disk.now c.print_above.new.disk c.is_any_passed.new.disk c.in-Ok.ensures.looks c.in-Ok-true.ensures.looks
 
 pub returns-in-Ok-false-clause-looks : goal.returns-in-Ok-false-clause-looks
 returns-in-Ok-false-clause-looks g c =
-    let db = c.args.db.now in
-    looks_then g.D.Disk.tells g.D.Disk.files g.D.Disk.left_since g.D.Disk.moment g.D.Disk.bytes_read g.D.Disk.follows Pkg g.met.D.Disk.follows_trans
-    (cost_all db - cost_to c.args.after db) (cost_to c.args.after db) (cost_all db) c.args.disk.now c.print_above.new.disk
-    c.is_any_passed.new.disk (omega (arith, cost_some db c.args.after)) c.in-Ok.ensures.looks c.in-Ok-false.ensures.looks
+    looks_both g.D.Disk.tells g.D.Disk.files g.D.Disk.left_since g.D.Disk.moment g.D.Disk.bytes_read g.D.Disk.follows g.met.D.Disk.follows_trans
+    c.args.db.now c.args.after c.args.disk.now c.print_above.new.disk c.is_any_passed.new.disk c.in-Ok.ensures.looks c.in-Ok-false.ensures.looks
 
 pub returns-in-Err-is_any_passed-clause-looks : goal.returns-in-Err-is_any_passed-clause-looks
 returns-in-Err-is_any_passed-clause-looks g c =
-    let db = c.args.db.now in
-    looks_then g.D.Disk.tells g.D.Disk.files g.D.Disk.left_since g.D.Disk.moment g.D.Disk.bytes_read g.D.Disk.follows Pkg g.met.D.Disk.follows_trans
-    (cost_all db - cost_to c.args.after db) (cost_to c.args.after db) (cost_all db) c.args.disk.now c.print_above.new.disk
-    c.is_any_passed.new.disk (omega (arith, cost_some db c.args.after)) c.in-Ok.ensures.looks c.in-Err-is_any_passed.ensures.looks
+    looks_both g.D.Disk.tells g.D.Disk.files g.D.Disk.left_since g.D.Disk.moment g.D.Disk.bytes_read g.D.Disk.follows g.met.D.Disk.follows_trans
+    c.args.db.now c.args.after c.args.disk.now c.print_above.new.disk c.is_any_passed.new.disk c.in-Ok.ensures.looks c.in-Err-is_any_passed.ensures.looks
 
 pub returns-in-Ok-false-clause-went : goal.returns-in-Ok-false-clause-went
 returns-in-Ok-false-clause-went g c = λ told serves j.
@@ -61,40 +50,25 @@ returns-in-Ok-false-clause-went g c = λ told serves j.
     let r = c.args.picker.now in
     let ot = g.O.Sink.tells in
     let et = g.E.Sink.tells in
-    let tree = c.args.format.now in
-    let es = picks (packages (g.D.Disk.files c.args.disk.now).pkg s) c.args.selection.now in
+    let sel = c.args.selection.now in
+    let es = picks (packages (g.D.Disk.files c.args.disk.now).pkg s) sel in
     let before = g.D.Disk.bytes_read c.args.disk.now Pkg in
     let now = g.D.Disk.bytes_read c.is_any_passed.new.disk Pkg in
     let old = outputs ot (g.O.Sink.taken (inner c.args.out.now)) et (g.E.Sink.taken (inner c.args.err.now)) in
     let mid = outputs ot (g.O.Sink.taken (inner c.print_above.new.out)) et (g.E.Sink.taken (inner c.print_above.new.err)) in
-    let new = outputs ot (g.O.Sink.taken (inner c.put_missing_part.new.out)) et (g.E.Sink.taken (inner c.put_missing_part.new.err)) in
     let none : above c.args.after es ≡ [] = none_at_all (above c.args.after es) (sym (c.in-Ok.ensures.some told serves) ∙ c.if-printed.false) in
-    let through : Through [] old mid = subst (λ (xs : List (ℕ × Package)). Through (map (step_of tree j) xs) old mid) none
+    let through : Through [] old mid = subst (λ (xs : List (ℕ × Package)). Through (map (step_of c.args.format.now j) xs) old mid) none
     (c.in-Ok.ensures.went told serves j).steps in
-    let same = (c.in-Ok.ensures.looks.untouched told).same in
-    let serves' = served c.args.selection.now s c.print_above.new.picker r (g.D.Disk.files c.print_above.new.disk) (g.D.Disk.files c.args.disk.now)
-    c.in-Ok.ensures.same same serves in
-    let any = c.in-Ok-false.ensures.told told serves'
-    (subst (λ (f : Files). above c.args.after (picks (packages f.pkg s) c.args.selection.now) ≡ []) (sym same) none) in
-    let nothing : es ≡ [] = none_at_all es (subst (λ (f : Files). is_some_of (picks (packages f.pkg s) c.args.selection.now) ≡ false)
-    same (sym any ∙ c.in-Ok-false.field-0-test)) in
-    let missed = part_reads (missing_part c.args.chosen j c.args.text.now) c.put_missing_part.result mid new (λ b. b ≡ whole j) (ReadsOf j r db before now)
-    (λ b is. subst (λ (w : Bearer). ReadsOf j r db before now w) (sym is) (
+    let any = passed_here sel s c.print_above.new.picker r (g.D.Disk.files c.print_above.new.disk) (g.D.Disk.files c.args.disk.now) c.in-Ok.ensures.same
+    (c.in-Ok.ensures.looks.untouched told).same c.args.after _ (c.in-Ok-false.ensures.told told) serves none in
+    answered_missed c.args.format.now c.args.chosen c.args.after j c.args.text.now es c.put_missing_part.result ot et
+    (g.O.Sink.taken (inner c.args.out.now)) (g.O.Sink.taken (inner c.print_above.new.out)) (g.O.Sink.taken (inner c.put_missing_part.new.out))
+    (g.E.Sink.taken (inner c.args.err.now)) (g.E.Sink.taken (inner c.print_above.new.err)) (g.E.Sink.taken (inner c.put_missing_part.new.err))
+    (ReadsOf j r db before now) (none_at_all es (sym any ∙ c.in-Ok-false.field-0-test)) through (
       refl,
-      reach_both r db c.args.after before (g.D.Disk.bytes_read c.print_above.new.disk Pkg) now c.in-Ok.ensures.reads
-          (subst (λ (p : Reach). now ≤ g.D.Disk.bytes_read c.print_above.new.disk Pkg + reach_to c.args.after p db) c.in-Ok.ensures.same
-          c.in-Ok-false.ensures.reads),
-    ))
-    (rw c.as_bytes.ensures.value at (c.put_missing_part.ensures.part j)) in
-    subst (λ (xs : List (ℕ × Package)). PartIs (answered tree c.args.chosen c.args.after j c.args.text.now xs) c.put_missing_part.result old new
-    (ReadsOf j r db before now)) (sym nothing)
-    (record {
-      steps = reached_later Bool ot et (missing_part c.args.chosen j c.args.text.now).steps c.put_missing_part.result
-          (g.O.Sink.taken (inner c.args.out.now)) (g.O.Sink.taken (inner c.print_above.new.out)) (g.O.Sink.taken (inner c.put_missing_part.new.out))
-          (g.E.Sink.taken (inner c.args.err.now)) (g.E.Sink.taken (inner c.print_above.new.err)) (g.E.Sink.taken (inner c.put_missing_part.new.err))
-          (ReadsOf j r db before now) through missed.steps;
-      fails = missed.fails;
-    })
+      both_read c.print_above.new.picker r c.in-Ok.ensures.same db c.args.after before (g.D.Disk.bytes_read c.print_above.new.disk Pkg) now
+          c.in-Ok.ensures.reads c.in-Ok-false.ensures.reads,
+    ) (rw c.as_bytes.ensures.value at (c.put_missing_part.ensures.part j))
 
 pub returns-in-Err-is_any_passed-clause-went : goal.returns-in-Err-is_any_passed-clause-went
 returns-in-Err-is_any_passed-clause-went g c = λ told serves j.
@@ -121,9 +95,8 @@ returns-in-Err-is_any_passed-clause-went g c = λ told serves j.
 pub returns-then-printed-clause-went : goal.returns-then-printed-clause-went
 returns-then-printed-clause-went g c = λ told serves j.
     let db = c.args.db.now in
-    let s = db.store in
     let r = c.args.picker.now in
-    let es = picks (packages (g.D.Disk.files c.args.disk.now).pkg s) c.args.selection.now in
+    let es = picks (packages (g.D.Disk.files c.args.disk.now).pkg db.store) c.args.selection.now in
     let before = g.D.Disk.bytes_read c.args.disk.now Pkg in
     let now = g.D.Disk.bytes_read c.print_above.new.disk Pkg in
     answered_done c.args.format.now c.args.chosen c.args.after j c.args.text.now es c.in-Ok.printed.fails
@@ -142,17 +115,12 @@ returns-in-Ok-true-clause-went g c = λ told serves j.
     let before = g.D.Disk.bytes_read c.args.disk.now Pkg in
     let now = g.D.Disk.bytes_read c.is_any_passed.new.disk Pkg in
     let none : above c.args.after es ≡ [] = none_at_all (above c.args.after es) (sym (c.in-Ok.ensures.some told serves) ∙ c.if-printed.false) in
-    let same = (c.in-Ok.ensures.looks.untouched told).same in
-    let serves' = served c.args.selection.now s c.print_above.new.picker r (g.D.Disk.files c.print_above.new.disk) (g.D.Disk.files c.args.disk.now)
-    c.in-Ok.ensures.same same serves in
-    let any = c.in-Ok-true.ensures.told told serves'
-    (subst (λ (f : Files). above c.args.after (picks (packages f.pkg s) c.args.selection.now) ≡ []) (sym same) none) in
-    let some : is_some_of es ≡ true = subst (λ (f : Files). is_some_of (picks (packages f.pkg s) c.args.selection.now) ≡ true)
-    same (sym any ∙ c.in-Ok-true.field-0-test) in
+    let any = passed_here c.args.selection.now s c.print_above.new.picker r (g.D.Disk.files c.print_above.new.disk) (g.D.Disk.files c.args.disk.now)
+    c.in-Ok.ensures.same (c.in-Ok.ensures.looks.untouched told).same c.args.after _ (c.in-Ok-true.ensures.told told) serves none in
     answered_done tree c.args.chosen c.args.after j c.args.text.now es false
     (outputs g.O.Sink.tells (g.O.Sink.taken (inner c.args.out.now)) g.E.Sink.tells (g.E.Sink.taken (inner c.args.err.now)))
     (outputs g.O.Sink.tells (g.O.Sink.taken (inner c.print_above.new.out)) g.E.Sink.tells (g.E.Sink.taken (inner c.print_above.new.err)))
-    (ReadsIn j c.args.after r db before now) (ReadsOf j r db before now) some
+    (ReadsIn j c.args.after r db before now) (ReadsOf j r db before now) (sym any ∙ c.in-Ok-true.field-0-test)
     (record {
       steps = (c.in-Ok.ensures.went told serves j).steps;
       fails = ap (λ (xs : List (ℕ × Package)). list_any is_bad (map (step_of tree j) xs)) none;
@@ -160,27 +128,19 @@ returns-in-Ok-true-clause-went g c = λ told serves j.
 
 pub returns-in-Ok-true-clause-reads : goal.returns-in-Ok-true-clause-reads
 returns-in-Ok-true-clause-reads g c =
-    let db = c.args.db.now in
-    let between = g.D.Disk.bytes_read c.print_above.new.disk Pkg in
-    let now = g.D.Disk.bytes_read c.is_any_passed.new.disk Pkg in
-    reach_both c.args.picker.now db c.args.after (g.D.Disk.bytes_read c.args.disk.now Pkg) between now c.in-Ok.ensures.reads
-    (subst (λ (p : Reach). now ≤ between + reach_to c.args.after p db) c.in-Ok.ensures.same c.in-Ok-true.ensures.reads)
+    both_read c.print_above.new.picker c.args.picker.now c.in-Ok.ensures.same c.args.db.now c.args.after (g.D.Disk.bytes_read c.args.disk.now Pkg)
+    (g.D.Disk.bytes_read c.print_above.new.disk Pkg) (g.D.Disk.bytes_read c.is_any_passed.new.disk Pkg) c.in-Ok.ensures.reads c.in-Ok-true.ensures.reads
 
 pub returns-in-Ok-false-clause-reads : goal.returns-in-Ok-false-clause-reads
 returns-in-Ok-false-clause-reads g c =
-    let db = c.args.db.now in
-    let between = g.D.Disk.bytes_read c.print_above.new.disk Pkg in
-    let now = g.D.Disk.bytes_read c.is_any_passed.new.disk Pkg in
-    reach_both c.args.picker.now db c.args.after (g.D.Disk.bytes_read c.args.disk.now Pkg) between now c.in-Ok.ensures.reads
-    (subst (λ (p : Reach). now ≤ between + reach_to c.args.after p db) c.in-Ok.ensures.same c.in-Ok-false.ensures.reads)
+    both_read c.print_above.new.picker c.args.picker.now c.in-Ok.ensures.same c.args.db.now c.args.after (g.D.Disk.bytes_read c.args.disk.now Pkg)
+    (g.D.Disk.bytes_read c.print_above.new.disk Pkg) (g.D.Disk.bytes_read c.is_any_passed.new.disk Pkg) c.in-Ok.ensures.reads c.in-Ok-false.ensures.reads
 
 pub returns-in-Err-is_any_passed-clause-reads : goal.returns-in-Err-is_any_passed-clause-reads
 returns-in-Err-is_any_passed-clause-reads g c =
-    let db = c.args.db.now in
-    let between = g.D.Disk.bytes_read c.print_above.new.disk Pkg in
-    let now = g.D.Disk.bytes_read c.is_any_passed.new.disk Pkg in
-    reach_both c.args.picker.now db c.args.after (g.D.Disk.bytes_read c.args.disk.now Pkg) between now c.in-Ok.ensures.reads
-    (subst (λ (p : Reach). now ≤ between + reach_to c.args.after p db) c.in-Ok.ensures.same c.in-Err-is_any_passed.ensures.reads)
+    both_read c.print_above.new.picker c.args.picker.now c.in-Ok.ensures.same c.args.db.now c.args.after (g.D.Disk.bytes_read c.args.disk.now Pkg)
+    (g.D.Disk.bytes_read c.print_above.new.disk Pkg) (g.D.Disk.bytes_read c.is_any_passed.new.disk Pkg)
+    c.in-Ok.ensures.reads c.in-Err-is_any_passed.ensures.reads
 
 pub returns-in-Ok-false-clause-unbroken : goal.returns-in-Ok-false-clause-unbroken
 returns-in-Ok-false-clause-unbroken g c = λ unit same.

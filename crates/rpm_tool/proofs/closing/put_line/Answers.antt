@@ -63,3 +63,27 @@ unfolding closing
 returns-in-IndexFull g c =
     subst (λ (w : Why). Writes g.E.Sink.tells g.E.Sink.taken g.E.Sink.faults g.E.Sink.follows c.args.err.now c.put_all-in-IndexFull.new.sink
     (closing c.args.words.now w) c.put_all-in-IndexFull.result) (sym c.in-IndexFull.is) c.put_all-in-IndexFull.ensures
+
+pub returns-in-NumbersSpent : goal.returns-in-NumbersSpent
+unfolding closing
+returns-in-NumbersSpent g c =
+    subst (λ (w : Why). Writes g.E.Sink.tells g.E.Sink.taken g.E.Sink.faults g.E.Sink.follows c.args.err.now c.put_all-in-NumbersSpent.new.sink
+    (closing c.args.words.now w) c.put_all-in-NumbersSpent.result) (sym c.in-NumbersSpent.is) c.put_all-in-NumbersSpent.ensures
+
+pub returns-in-GenerationSpent : goal.returns-in-GenerationSpent
+unfolding closing
+returns-in-GenerationSpent g c =
+    subst (λ (w : Why). Writes g.E.Sink.tells g.E.Sink.taken g.E.Sink.faults g.E.Sink.follows c.args.err.now c.put_all-in-GenerationSpent.new.sink
+    (closing c.args.words.now w) c.put_all-in-GenerationSpent.result) (sym c.in-GenerationSpent.is) c.put_all-in-GenerationSpent.ensures
+
+pub returns-in-StoreFull : goal.returns-in-StoreFull
+unfolding closing
+returns-in-StoreFull g c =
+    subst (λ (w : Why). Writes g.E.Sink.tells g.E.Sink.taken g.E.Sink.faults g.E.Sink.follows c.args.err.now c.put_all-in-StoreFull.new.sink
+    (closing c.args.words.now w) c.put_all-in-StoreFull.result) (sym c.in-StoreFull.is) c.put_all-in-StoreFull.ensures
+
+pub returns-in-LogFull : goal.returns-in-LogFull
+unfolding closing
+returns-in-LogFull g c =
+    subst (λ (w : Why). Writes g.E.Sink.tells g.E.Sink.taken g.E.Sink.faults g.E.Sink.follows c.args.err.now c.put_all-in-LogFull.new.sink
+    (closing c.args.words.now w) c.put_all-in-LogFull.result) (sym c.in-LogFull.is) c.put_all-in-LogFull.ensures

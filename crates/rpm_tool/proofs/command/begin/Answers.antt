@@ -1,6 +1,6 @@
 use Rattle.std.proofs.Common.{◌≡◌, true, false, sym, ap, ◌∙◌, arith}
 use Rattle.rpm_tool.specs.Answers.{is_foreign}
-use Rattle.rpm_tool.proofs.Undone.{unforeign, files_unkeyed}
+use Rattle.rpm_tool.proofs.Begun.{unforeign, files_unkeyed}
 use Rattle.rpm_tool.proofs.command.begin.Goals as goal
 
 pub returns-then-of_files-clause-keyed : goal.returns-then-of_files-clause-keyed

@@ -6,7 +6,8 @@ use Rattle.rpm_tool.specs.Asked.{of_files, by_key, asks_format, asks, asks_unbui
 use Rattle.rpm_tool.specs.PackageFiles.{query_files}
 use Rattle.rpm_tool.proofs.Reaching.{through_none}
 use Rattle.rpm_tool.proofs.Recovered.{unbegun}
-use Rattle.rpm_tool.proofs.Undone.{usage_of_undone, usage_of_done, unbuilt_of_undone, unbuilt_of_done, format_of_undone, format_of_done, starved, none_asked, same_command, not_begun}
+use Rattle.rpm_tool.proofs.Undone.{usage_of_undone, usage_of_done, unbuilt_of_undone, unbuilt_of_done, format_of_undone, format_of_done, starved, none_asked, same_command}
+use Rattle.rpm_tool.proofs.Begun.{not_begun}
 use Rattle.rpm_tool.proofs.command.command.Goals as goal
 
 pub returns-in-Ok-clause-usage : goal.returns-in-Ok-clause-usage

@@ -14,7 +14,8 @@ use Rattle.rpm_tool.specs.Reads.{argument_reach, reaches_by, reach_sum, reached_
 use Rattle.rpm_tool.specs.Answers.{outputs, Went}
 use Rattle.rpm_tool.specs.Keyed.{OpenedBy, HasIndex, keyed_to, asked_cost}
 use Rattle.rpm_tool.proofs.Loading.{went_reads}
-use Rattle.rpm_tool.proofs.Opening.{leaves_peeks, runs_peeks, went_by, unrefused, full_opened, opened_rows, opened_index, bad_opened, by_fault, by_memory, keyed_by, keyed_sum}
+use Rattle.rpm_tool.proofs.Opening.{leaves_peeks, runs_peeks, opened_rows, opened_index, bad_opened, keyed_by, keyed_sum}
+use Rattle.rpm_tool.proofs.Endings.{went_by, unrefused, full_opened, by_fault, by_memory}
 use Rattle.rpm_tool.proofs.keyed.answer_indexed.Goals as goal
 
 pub returns-in-Ok-clause-went : goal.returns-in-Ok-clause-went
@@ -23,14 +24,14 @@ returns-in-Ok-clause-went g c = λ told.
     let words = c.args.words.now in
     let db = c.in-Ok.db in
     let files = g.D.Disk.files c.args.disk.now in
-    let mid = g.D.Disk.files c.open.new.disk in
+    let mid = g.D.Disk.files c.open_settled.new.disk in
     let opened = c.in-Ok.ensures.opened told in
     let pkg : mid.pkg ≡ files.pkg = (c.in-Ok.ensures.runs.reads_as told).pkg in
     let given = c.query_opened.result in
     let old = outputs g.O.Sink.tells (g.O.Sink.taken (inner c.args.out.now)) g.E.Sink.tells (g.E.Sink.taken (inner c.args.err.now)) in
     let new = outputs g.O.Sink.tells (g.O.Sink.taken (inner c.query_opened.new.out)) g.E.Sink.tells (g.E.Sink.taken (inner c.query_opened.new.err)) in
     let start = g.D.Disk.bytes_read c.args.disk.now Pkg in
-    let between = g.D.Disk.bytes_read c.open.new.disk Pkg in
+    let between = g.D.Disk.bytes_read c.open_settled.new.disk Pkg in
     let now = g.D.Disk.bytes_read c.query_opened.new.disk Pkg in
     let course : Store → Course = λ s. query c.args.format.now (packages files.pkg s) words a in
     let to : Store → Bearer → Type 0 = λ s for. now ≤ start + keyed_to files words a s for in
@@ -53,10 +54,10 @@ returns-in-Ok-clause-reads g c = λ told lawful.
     let words = c.args.words.now in
     let db = c.in-Ok.db in
     let files = g.D.Disk.files c.args.disk.now in
-    let mid = g.D.Disk.files c.open.new.disk in
+    let mid = g.D.Disk.files c.open_settled.new.disk in
     let opened = c.in-Ok.ensures.opened told in
     let pkg : mid.pkg ≡ files.pkg = (c.in-Ok.ensures.runs.reads_as told).pkg in
-    let between = g.D.Disk.bytes_read c.open.new.disk Pkg in
+    let between = g.D.Disk.bytes_read c.open_settled.new.disk Pkg in
     let now = g.D.Disk.bytes_read c.query_opened.new.disk Pkg in
     let read : now ≤ between + reach_sum (reaches_by (argument_reach (is_indexed db) (packages files.pkg db.store) a.chosen) (map (text_at words)
     a.arguments)) db =
@@ -73,14 +74,14 @@ pub returns-in-Ok-clause-bad_index : goal.returns-in-Ok-clause-bad_index
 returns-in-Ok-clause-bad_index g c = λ told.
     let db = c.in-Ok.db in
     let files = g.D.Disk.files c.args.disk.now in
-    let mid = g.D.Disk.files c.open.new.disk in
+    let mid = g.D.Disk.files c.open_settled.new.disk in
     bad_opened files mid db (c.in-Ok.ensures.opened told) (c.in-Ok.ensures.runs.reads_as told).pkg c.in-Ok.ensures.indexed c.args.words.now c.args.ask.now
     (query c.args.format.now (packages mid.pkg db.store) c.args.words.now c.args.ask.now) _ _ _ c.query_opened.result (c.query_opened.ensures.went told)
     (c.query_opened.ensures.bad_index told)
 
 pub returns-in-Ok-clause-index : goal.returns-in-Ok-clause-index
 returns-in-Ok-clause-index g c = λ told lawful done.
-    let mid = g.D.Disk.files c.open.new.disk in
+    let mid = g.D.Disk.files c.open_settled.new.disk in
     subst (λ (f : Files). HasIndex f.pkg f.idx) (sym (c.query_opened.ensures.looks.untouched told).same)
     (opened_index (g.D.Disk.files c.args.disk.now) mid c.in-Ok.db (c.in-Ok.ensures.opened told) (c.in-Ok.ensures.runs.reads_as told).pkg
     c.in-Ok.ensures.indexed lawful)
@@ -88,12 +89,12 @@ returns-in-Ok-clause-index g c = λ told lawful done.
 pub returns-in-Ok-clause-runs : goal.returns-in-Ok-clause-runs
 returns-in-Ok-clause-runs g c =
     runs_peeks g.D.Disk.tells g.D.Disk.files g.D.Disk.left_since g.D.Disk.moment g.D.Disk.bytes_read g.D.Disk.follows (is_indexed c.in-Ok.db)
-    c.args.disk.now c.open.new.disk c.query_opened.new.disk c.query_opened.ensures.looks g.met.D.Disk.follows_trans Remade c.in-Ok.ensures.runs
+    c.args.disk.now c.open_settled.new.disk c.query_opened.new.disk c.query_opened.ensures.looks g.met.D.Disk.follows_trans Remade c.in-Ok.ensures.runs
 
 pub returns-in-Ok-clause-stops : goal.returns-in-Ok-clause-stops
 returns-in-Ok-clause-stops g c = λ told lawful.
     leaves_peeks g.D.Disk.tells g.D.Disk.files g.D.Disk.left_since g.D.Disk.moment g.D.Disk.bytes_read g.D.Disk.follows (is_indexed c.in-Ok.db)
-    c.args.disk.now c.open.new.disk c.query_opened.new.disk c.query_opened.ensures.looks
+    c.args.disk.now c.open_settled.new.disk c.query_opened.new.disk c.query_opened.ensures.looks
     (IsLawfulStill (g.D.Disk.left_since c.args.disk.now (g.D.Disk.moment c.args.disk.now))) told (c.in-Ok.ensures.stops told lawful)
 
 pub returns-in-Err-DiskFault-clause-went : goal.returns-in-Err-DiskFault-clause-went
@@ -101,7 +102,7 @@ returns-in-Err-DiskFault-clause-went g c = λ told.
     let files = g.D.Disk.files c.args.disk.now in
     by_fault (IsLawful files.pkg files.idx) (λ s. query c.args.format.now (packages files.pkg s) c.args.words.now c.args.ask.now) g.O.Sink.tells
     g.E.Sink.tells (g.O.Sink.taken (inner c.args.out.now)) (g.E.Sink.taken (inner c.args.err.now))
-    (λ s for. g.D.Disk.bytes_read c.open.new.disk Pkg ≤ g.D.Disk.bytes_read c.args.disk.now Pkg + keyed_to files c.args.words.now c.args.ask.now s for)
+    (λ s for. g.D.Disk.bytes_read c.open_settled.new.disk Pkg ≤ g.D.Disk.bytes_read c.args.disk.now Pkg + keyed_to files c.args.words.now c.args.ask.now s for)
     (store files.pkg)
 
 pub returns-in-Err-NoMemory-clause-went : goal.returns-in-Err-NoMemory-clause-went
@@ -109,5 +110,5 @@ returns-in-Err-NoMemory-clause-went g c = λ told.
     let files = g.D.Disk.files c.args.disk.now in
     by_memory (IsLawful files.pkg files.idx) (λ s. query c.args.format.now (packages files.pkg s) c.args.words.now c.args.ask.now) g.O.Sink.tells
     g.E.Sink.tells (g.O.Sink.taken (inner c.args.out.now)) (g.E.Sink.taken (inner c.args.err.now))
-    (λ s for. g.D.Disk.bytes_read c.open.new.disk Pkg ≤ g.D.Disk.bytes_read c.args.disk.now Pkg + keyed_to files c.args.words.now c.args.ask.now s for)
+    (λ s for. g.D.Disk.bytes_read c.open_settled.new.disk Pkg ≤ g.D.Disk.bytes_read c.args.disk.now Pkg + keyed_to files c.args.words.now c.args.ask.now s for)
     (store files.pkg)

@@ -9,6 +9,7 @@ use Rattle.rpm_tool.specs.Answers.{outputs, PartIs, Anywhere, Went}
 use Rattle.rpm_tool.proofs.Reaching.{goes_start, goes_more, goes_stop}
 use Rattle.rpm_tool.proofs.Answering.{rest_of, turn_steps, turn_failed, went_done, went_failed, few_more}
 use Rattle.rpm_tool.proofs.Filed.{went_stop_files, ends_of_files, never_of_disk}
+use Rattle.rpm_tool.proofs.Joins.{hands_then}
 use Rattle.rpm_tool.proofs.package_files.print_files.Goals as goal
 
 pub loop-k-init : goal.loop-k-init
@@ -50,16 +51,8 @@ loop-k-preserved g c =
       shelf = omega (arith, inv.shelf, done.shelf.later);
       out = omega (arith, inv.out, done.out.later);
       err = omega (arith, inv.err, done.err.later);
-      out_rest = (
-        g.met.O.Sink.follows_trans (inner c.args.out.now) (inner c.loop-k.out) (inner c.print_file.new.out) inv.out_rest.0
-            done.out_rest.0,
-        done.out_rest.1,
-      );
-      err_rest = (
-        g.met.E.Sink.follows_trans (inner c.args.err.now) (inner c.loop-k.err) (inner c.print_file.new.err) inv.err_rest.0
-            done.err_rest.0,
-        done.err_rest.1,
-      );
+      out_rest = hands_then g.met.O.Sink.follows_trans c.args.out.now c.loop-k.out c.print_file.new.out inv.out_rest done.out_rest;
+      err_rest = hands_then g.met.E.Sink.follows_trans c.args.err.now c.loop-k.err c.print_file.new.err inv.err_rest done.err_rest;
       few = rw c.count-failed.ensures (few_more c.in-Ok.fails c.loop-k.failed k inv.few);
       goes = λ told.
           let part = subst (λ (ps : Paths). PartIs (file_part c.args.format.now ps k (f word)) (Ok c.in-Ok.fails)

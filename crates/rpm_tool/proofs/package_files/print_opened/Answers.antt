@@ -6,7 +6,8 @@ use Rattle.rpm_file.specs.Package.{Headed, package_header}
 use Rattle.rpm_tool.specs.declared.step.Stop.TheVariants as stop
 use Rattle.rpm_tool.specs.PackageFiles.{read_part}
 use Rattle.rpm_tool.specs.Answers.{outputs, Anywhere, PartIs}
-use Rattle.rpm_tool.proofs.Reaching.{through_none, reached_unsunk}
+use Rattle.rpm_tool.proofs.Reaching.{through_none}
+use Rattle.rpm_tool.proofs.Stopping.{reached_unsunk}
 use Rattle.rpm_tool.proofs.Filed.{unsunk, read_stop, own_fault}
 use Rattle.rpm_tool.proofs.package_files.print_opened.Goals as goal
 

@@ -5,7 +5,7 @@ use Rattle.rpm_qfeval.specs.Meaning.{meaning}
 use Rattle.rpm_tool.specs.Steps.{bearer}
 use Rattle.rpm_tool.specs.Queries.{printed}
 use Rattle.rpm_tool.specs.Answers.{outputs, Anywhere, StepIs}
-use Rattle.rpm_tool.proofs.Reaching.{reached_first}
+use Rattle.rpm_tool.proofs.Stopping.{reached_first}
 use Rattle.rpm_tool.proofs.Filed.{fails_one}
 use Rattle.rpm_tool.proofs.package_files.print_package.Goals as goal
 

@@ -3,7 +3,7 @@ use Rattle.std.specs.List.{concat}
 use Rattle.rpm_outside.specs.Buffered.{inner}
 use Rattle.rpm_tool.specs.Steps.{ToErr, whole}
 use Rattle.rpm_tool.specs.Answers.{outputs, Anywhere}
-use Rattle.rpm_tool.proofs.Reaching.{err_cut, within_reads}
+use Rattle.rpm_tool.proofs.Stopping.{err_cut, within_reads}
 use Rattle.rpm_tool.proofs.package_files.put_failing.Goals as goal
 
 pub returns-in-Err-clause-part : goal.returns-in-Err-clause-part

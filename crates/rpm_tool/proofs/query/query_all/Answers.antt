@@ -15,7 +15,7 @@ use Rattle.rpm_tool.specs.Reads.{ReadsIn, reached_by}
 use Rattle.rpm_select.specs.Reach.{Reach, Everything}
 use Rattle.rpm_tool.proofs.Sums.{reads_one}
 use Rattle.rpm_tool.proofs.Unbroken.{why_unbroken}
-use Rattle.rpm_tool.proofs.Reaching.{reached_reads}
+use Rattle.rpm_tool.proofs.Stopping.{reached_reads}
 use Rattle.rpm_tool.proofs.Answering.{went_stop}
 use Rattle.rpm_tool.proofs.query.query_all.Goals as goal
 

@@ -1,21 +1,21 @@
-use Rattle.std.proofs.Common.{◌≡◌, ℕ, ◌+◌, ◌*◌, ◌≤◌, ◌||◌, Bool, List, [], ◌∷◌, map, Ok, Err, refl, sym, ap, ◌∙◌, subst, arith}
+use Rattle.std.proofs.Common.{◌≡◌, ℕ, ◌+◌, ◌≤◌, ◌||◌, Bool, List, [], ◌∷◌, map, Ok, Err, refl, sym, ap, ◌∙◌, subst, arith}
 use Rattle.std.specs.FinMap.{entries}
 use Rattle.rpm_outside.specs.Buffered.{inner}
 use Rattle.rpm_outside.specs.declared.disk.File.TheVariants.{Pkg}
-use Rattle.rpm_outside.specs.Files.{Files}
 use Rattle.rpm_outside.specs.inner.Looking.{looks_none, looks_then, looks_more}
 use Rattle.rpm_db.specs.State.{Package, packages, above}
 use Rattle.rpm_db.specs.Database.{cost, cost_to, cost_all}
-use Rattle.rpm_db.specs.Verdicts.{verdict}
 use Rattle.rpm_db.specs.inner.Laws.{cost_more, cost_some}
 use Rattle.rpm_select.specs.Reach.{Everything}
 use Rattle.rpm_tool.specs.Steps.{Bearer, bearer, Part, together}
-use Rattle.rpm_tool.specs.Reports.{verdict_part, entry_verdict}
+use Rattle.rpm_tool.specs.Reports.{entry_verdict}
 use Rattle.rpm_tool.specs.Reads.{reached_by}
 use Rattle.rpm_tool.specs.Answers.{outputs, Through, Reached, PartIs}
-use Rattle.rpm_tool.proofs.Reaching.{goes_start, goes_more, goes_stop, goes_end, reached_reads}
+use Rattle.rpm_tool.proofs.Reaching.{goes_start, goes_more, goes_stop, goes_end}
+use Rattle.rpm_tool.proofs.Stopping.{reached_reads}
 use Rattle.rpm_tool.proofs.Printed.{none_more}
-use Rattle.rpm_tool.proofs.Verified.{next_entry, no_entry, from_one, fails_later}
+use Rattle.rpm_tool.proofs.Verified.{next_entry, no_entry, from_one, verdict_here, fails_later}
+use Rattle.rpm_tool.proofs.Joins.{hands_then}
 use Rattle.rpm_tool.proofs.verdicts.verify_all.Goals as goal
 
 pub loop-next-init : goal.loop-next-init
@@ -43,7 +43,8 @@ loop-next-preserved g c =
     let m = c.in-Some.next in
     let inv = c.loop-next.invariant in
     let done = c.in-Ok.ensures in
-    let file = (g.D.Disk.files c.args.disk.now).pkg in
+    let start = g.D.Disk.files c.args.disk.now in
+    let file = start.pkg in
     let es = entries (packages file db.store) in
     let each : ℕ × Package → Part = entry_verdict file db.store in
     let next = next_entry (packages file db.store) k m (c.in-Some.ensures.told file) in
@@ -56,16 +57,11 @@ loop-next-preserved g c =
           (omega (arith, cost_more db k m c.in-Some.ensures.next.0)) inv.looks done.looks;
       disk = omega (arith, inv.disk, done.disk.later);
       out = omega (arith, inv.out, done.out.later);
-      out_rest = (
-        g.met.O.Sink.follows_trans (inner c.args.out.now) (inner c.loop-next.out) (inner c.verify_one.new.out) inv.out_rest.0
-            done.out_rest.0,
-        done.out_rest.1,
-      );
+      out_rest = hands_then g.met.O.Sink.follows_trans c.args.out.now c.loop-next.out c.verify_one.new.out inv.out_rest done.out_rest;
       goes = λ told et e.
           let part : PartIs (each (m, next.0)) (Ok c.in-Ok.unsound) (outputs g.O.Sink.tells o' et e) (outputs g.O.Sink.tells o'' et e)
           (λ for. for ≡ bearer 0 m) =
-          subst (λ (f : Files). PartIs (verdict_part m (verdict f.pkg db m)) (Ok c.in-Ok.unsound) (outputs g.O.Sink.tells o' et e)
-          (outputs g.O.Sink.tells o'' et e) (λ for. for ≡ bearer 0 m)) (inv.looks.untouched told).same (done.went told et e) in
+          verdict_here (g.D.Disk.files c.loop-next.disk) start db m (Ok c.in-Ok.unsound) _ _ _ (inv.looks.untouched told).same (done.went told et e) in
           goes_more g.O.Sink.tells et (together (map each (above 0 es))).steps (together (map each (above k es))).steps (each (m, next.0)).steps
           (together (map each (above m es))).steps (g.O.Sink.taken (inner c.args.out.now)) o' o'' e e e
           (ap (λ (xs : List (ℕ × Package)). (together (map each xs)).steps) next.1) (inv.goes told et e) part.steps;
@@ -73,8 +69,7 @@ loop-next-preserved g c =
           let et = g.O.Sink.tells in
           let part : PartIs (each (m, next.0)) (Ok c.in-Ok.unsound) (outputs g.O.Sink.tells o' et o') (outputs g.O.Sink.tells o'' et o')
           (λ for. for ≡ bearer 0 m) =
-          subst (λ (f : Files). PartIs (verdict_part m (verdict f.pkg db m)) (Ok c.in-Ok.unsound) (outputs g.O.Sink.tells o' et o')
-          (outputs g.O.Sink.tells o'' et o') (λ for. for ≡ bearer 0 m)) (inv.looks.untouched told).same (done.went told et o') in
+          verdict_here (g.D.Disk.files c.loop-next.disk) start db m (Ok c.in-Ok.unsound) _ _ _ (inv.looks.untouched told).same (done.went told et o') in
           rw c.either-fails.ensures (fails_later c.loop-next.fails (each (m, next.0)).fails c.in-Ok.unsound (together (map each (above m es))).fails
           (together (map each (above 0 es))).fails part.fails
           (inv.bad told ∙ ap (λ (xs : List (ℕ × Package)). c.loop-next.fails || (together (map each xs)).fails) next.1));
@@ -102,8 +97,8 @@ returns-in-Err-clause-went g c = λ told et e.
     let few : now ≤ before + reached_by (Everything ∷ []) db (bearer 0 m) =
     omega (arith, inv.looks.reads.pkg, c.in-Err.ensures.looks.reads.pkg, cost_more db k m c.in-Some.ensures.next.0) in
     let part : PartIs (each (m, next.0)) (Err what) (outputs ot o' et e) (outputs ot o'' et e) own =
-    subst (λ (f : Files). PartIs (verdict_part m (verdict f.pkg db m)) (Err what) (outputs ot o' et e) (outputs ot o'' et e) own)
-    (inv.looks.untouched told).same (c.in-Err.ensures.went told et e) in
+    verdict_here (g.D.Disk.files c.loop-next.disk) (g.D.Disk.files c.args.disk.now) db m (Err what) _ _ own (inv.looks.untouched told).same
+    (c.in-Err.ensures.went told et e) in
     let reached : Reached {T = Bool} (together (map each (above 0 es))).steps (Err what) (outputs ot o et e) (outputs ot o'' et e) reads =
     goes_stop ot et (together (map each (above 0 es))).steps (together (map each (above k es))).steps (each (m, next.0)).steps
     (together (map each (above m es))).steps o o' o'' e e e (ap (λ (xs : List (ℕ × Package)). (together (map each xs)).steps) next.1)
@@ -119,11 +114,10 @@ returns-in-Err-clause-went g c = λ told et e.
 pub returns-in-Err-clause-looks : goal.returns-in-Err-clause-looks
 returns-in-Err-clause-looks g c =
     let db = c.args.db.now in
-    let k = c.loop-next.number in
     let m = c.in-Some.next in
     looks_then g.D.Disk.tells g.D.Disk.files g.D.Disk.left_since g.D.Disk.moment g.D.Disk.bytes_read g.D.Disk.follows Pkg g.met.D.Disk.follows_trans
-    (cost_to k db) (cost m db) (cost_all db) c.args.disk.now c.loop-next.disk c.verify_one.new.disk
-    (omega (arith, cost_more db k m c.in-Some.ensures.next.0, cost_some db m)) c.loop-next.invariant.looks c.in-Err.ensures.looks
+    (cost_to c.loop-next.number db) (cost m db) (cost_all db) c.args.disk.now c.loop-next.disk c.verify_one.new.disk
+    (omega (arith, cost_more db c.loop-next.number m c.in-Some.ensures.next.0, cost_some db m)) c.loop-next.invariant.looks c.in-Err.ensures.looks
 
 pub returns-clause-went : goal.returns-clause-went
 returns-clause-went g c = λ told et e.

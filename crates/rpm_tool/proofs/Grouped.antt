@@ -1,0 +1,173 @@
+-- The changes of a command as one group: what they leave of a disk that was recovered.
+use Rattle.std.proofs.Common.{◌≡◌, ℕ, true, eqb, Result, Ok, Err, refl, sym, ap, ◌∙◌, subst, inl, inr, arith}
+use Rattle.std.specs.Prelude.{IfOk}
+use Rattle.std.proofs.lemmas.Bool.{and_parts, eqb-true}
+use Rattle.rpm_outside.specs.declared.disk.File.TheVariants.{Log}
+use Rattle.rpm_outside.specs.Changes.{AreSettled}
+use Rattle.rpm_outside.specs.Crash.{LeavesOnly}
+use Rattle.rpm_outside.specs.Files.{Units, Files, unit_at, with_file}
+use Rattle.rpm_outside.specs.Logs.{LogState, Closed, log_state, reopened, unlogged, with_state}
+use Rattle.rpm_outside.specs.inner.Moments.{leaves_then, leaves_weaker}
+use Rattle.rpm_hindex.specs.State.{state_of, sealed, is_in_order, is_current}
+use Rattle.rpm_group.specs.Settled.{ReopensAs}
+use Rattle.rpm_pkgdb.specs.declared.slot.Damage.{Damage}
+use Rattle.rpm_pkgdb.specs.Store.{Store, store, blank_store}
+use Rattle.rpm_db.specs.Lawful.{IsLawful}
+use Rattle.rpm_db.specs.State.{State, state}
+use Rattle.rpm_change.specs.declared.tally.Tally.{Tally}
+use Rattle.rpm_change.specs.Steps.{Course}
+use Rattle.rpm_change.specs.Endings.{Outputs}
+use Rattle.rpm_tool.specs.declared.answer.Why.{Why}
+use Rattle.rpm_tool.specs.Keyed.{IsLawfulGroup, AreLawfulGroups, StandsStill, is_done}
+use Rattle.rpm_tool.specs.Changing.{DidOpened, DidLoaded, DidOn, HasState, HasCurrent, IsSealed, StandsStillOr, LeavesState, FullOn, ChangesBy, after, is_of_lawful}
+use Rattle.rpm_tool.specs.Working.{Worked, WorkedOn, WorkedBy, EndsGroup, GroupLeaves}
+use Rattle.rpm_tool.proofs.Ended.{did_opened, done_ok, counted_ended, full_ended, leaves_ended, same_state, worked_state}
+use Rattle.rpm_tool.proofs.Leavings.{leaves_after, lawful_ending}
+
+pub if_ok : {T E : Type 0} {P : T → Type 0} (x : Result T E) → ((t : T) → x ≡ Ok t → P t) → IfOk x P
+if_ok (Ok t) each = each t refl
+if_ok (Err e) each = tt
+
+pub if_ok_at : {T E : Type 0} (P : T → Type 0) (x : Result T E) (t : T) → x ≡ Ok t → IfOk x P → P t
+if_ok_at P x t is each = subst (λ (y : _). IfOk y P) is each
+
+-- files with a closed log stand for themselves
+pub shut_stands : (files : Files) → log_state files.log ≡ Closed → reopened files ≡ unlogged files
+shut_stands files closed = ap (λ (l : LogState). with_state l (unlogged files)) closed
+
+-- files with a current index are lawful
+current_lawful : (pkg idx : Units) → HasCurrent pkg idx → IsLawful pkg idx
+unfolding is_current
+current_lawful pkg idx has = inr (
+  has.value,
+  has.undamaged,
+  record {
+    rows_are = λ current. has.rows_are;
+    no_later =
+        (let same = eqb-true (sealed (unit_at idx 0)) has.value.generation
+        (and_parts (eqb (sealed (unit_at idx 0)) has.value.generation) (is_in_order (state_of idx)) has.current).0 in
+        omega (arith, same));
+  },
+)
+
+lawful_store : (pkg idx : Units) → IsLawful pkg idx → (s : Store) × (store pkg ≡ Ok s)
+lawful_store pkg idx (inl blank) = (blank_store, blank)
+lawful_store pkg idx (inr made) = (made.0, made.1)
+
+-- an image that stands for lawful files
+stands_lawful : (files image : Files) → ReopensAs files image → IsLawful files.pkg files.idx → IsLawfulGroup image
+stands_lawful files image stands lawful = record {
+  sound = stands.sound;
+  lawful = subst (λ (f : Files). IsLawful f.pkg f.idx) (sym stands.same) lawful;
+}
+
+module _ {D : Type 0} (files : D → Files) (left_since : D → ℕ → Files → Type 0) (moment : D → ℕ) (course : State → Course) (ended : Result Tally Why)
+    (given : Why) (n : ℕ) (first last final : D) (new : Files) (before now : Outputs)
+    (closed : log_state (files first).log ≡ Closed)
+    (worked : Worked course (with_file Log (files first).log (reopened (files first))) new ended before now)
+    (ends : EndsGroup files left_since moment ended given n (unlogged new) last final) where
+  abbrev r : Files
+  r = reopened (files first)
+
+  abbrev s0 : Store → State
+  s0 s = state r.pkg s
+
+  pub group_did : DidOn course (files first) given before now
+  group_did = subst (λ (l : LogState). DidLoaded (λ s. course (state r.pkg s)) (store r.pkg) l given before now) (sym closed)
+      (did_opened course r.pkg (store r.pkg) new ended given n before now worked.went ends.says)
+
+  module _ (same : files last ≡ files first) (here : left_since first (moment first) (files first))
+      (settled : AreSettled (files first) (left_since first (moment first)))
+      (back : (t : ℕ) (image : Files) → left_since last t image → left_since first t image) (moment_same : moment last ≡ moment first)
+      (as_read : left_since final (moment last) (files final)) where
+    start_is : unlogged (files last) ≡ r
+    start_is = ap unlogged same ∙ sym (shut_stands (files first) closed)
+
+    final_is : is_done given ≡ true → reopened (files final) ≡ unlogged new
+    final_is is = shut_stands (files final) (ends.done is).closed ∙ (ends.done is).same
+
+    final_stays : files final ≡ files last → reopened (files final) ≡ r
+    final_stays stays = ap reopened (stays ∙ same)
+
+    leaves_at : (s : Store) → store r.pkg ≡ Ok s → LeavesState course (s0 s) given n (files final)
+    leaves_at s is = leaves_ended course (s0 s) r new (files final) before now (record { value = s; undamaged = is; is = refl }) ended given n
+        (subst (λ (sr : Result Store Damage). WorkedBy course r.pkg sr new ended before now) is worked.went) ends.says final_is
+        (λ no. final_stays (ends.stays no))
+        (subst (λ (f : Files). GroupLeaves ended f (unlogged new) (files final)) start_is (ends.images.each (files final) as_read))
+
+    lawful_new : IsLawful r.pkg r.idx → (tally : Tally) → ended ≡ Ok tally → HasCurrent new.pkg new.idx
+    lawful_new lawful tally is = if_ok_at _ ended tally is (worked.index lawful)
+
+    group_sealed : IsLawfulGroup (files first) → is_done given ≡ true → IsSealed (files final)
+    group_sealed lawful is =
+        let ok = done_ok course r.pkg (store r.pkg) new ended given n before now worked.went ends.says is in
+        let end = ends.done is in
+        record {
+          closed = end.closed;
+          indexed = subst (λ (f : Files). HasCurrent f.pkg f.idx) (sym end.same) (lawful_new lawful.lawful ok.0 ok.1);
+        }
+
+    full_at : IsLawfulGroup (files first) → FullOn course r given
+    full_at lawful = if_ok (store r.pkg) (λ s is. full_ended _ _ (s0 s) (course (s0 s)).changes ended given n ends.says
+        (if_ok_at _ (store r.pkg) s is (worked.full lawful.lawful)))
+
+    group_complete : IsLawfulGroup (files first) → is_of_lawful given ≡ true
+    group_complete lawful =
+        let is = lawful_store r.pkg r.idx lawful.lawful in
+        let did = subst (λ (sr : Result Store Damage). DidOpened (λ s. course (state r.pkg s)) sr given before now) is.1
+        (did_opened course r.pkg (store r.pkg) new ended given n before now worked.went ends.says) in
+        lawful_ending (course (s0 is.0)) _ _ (s0 is.0) (course (s0 is.0)).changes given before now did (if_ok_at _ (store r.pkg) is.0 is.1 (full_at lawful))
+
+    abbrev images : Files → Type 0
+    images = left_since first (moment first)
+
+    still_here : AreLawfulGroups images → (image : Files) → images image → StandsStill images image
+    still_here lawful image is = record { from = image; was = is; pkg = refl; lawful = lawful image is }
+
+    still_start : IsLawfulGroup (files first) → (image : Files) → ReopensAs (unlogged (files last)) image → StandsStill images image
+    still_start lawful image stands = record {
+      from = files first;
+      was = here;
+      pkg = ap (λ (f : Files). f.pkg) (stands.same ∙ start_is);
+      lawful = stands_lawful (unlogged (files last)) image stands (subst (λ (f : Files). IsLawful f.pkg f.idx) (sym start_is) lawful.lawful);
+    }
+
+    group_still : IsLawfulGroup (files first) → (s : Store) → store r.pkg ≡ Ok s → (how : Result Tally Why) → ended ≡ how → (image : Files)
+        → GroupLeaves how (unlogged (files last)) (unlogged new) image → StandsStillOr images (after course (s0 s)) image
+    group_still lawful s is (Err was) how image left = inl (still_start lawful image left)
+    group_still lawful s is (Ok tally) how image (inl left) = inl (still_start lawful image left)
+    group_still lawful s is (Ok tally) how image (inr left) =
+        let done : WorkedOn (course (s0 s)) (s0 s) new (Ok tally) before now = subst (λ (e : Result Tally Why).
+        WorkedOn (course (s0 s)) (s0 s) new e before now) how
+        (subst (λ (sr : Result Store Damage). WorkedBy course r.pkg sr new ended before now) is worked.went) in
+        inr (
+          stands_lawful (unlogged new) image left (current_lawful new.pkg new.idx (lawful_new lawful.lawful tally how)),
+          same_state (after course (s0 s)) (reopened image) new (ap (λ (f : Files). f.pkg) left.same) (worked_state course (s0 s) new tally before now done),
+        )
+
+    stops_at : AreLawfulGroups images → (s : Store) → store r.pkg ≡ Ok s
+        → LeavesOnly moment left_since first final (StandsStillOr images (after course (s0 s)))
+    stops_at lawful s is =
+        let P : Files → Type 0 = StandsStillOr images (after course (s0 s)) in
+        leaves_then moment left_since first last final P
+        (record {
+          later = omega (arith, moment_same);
+          each = λ image left. inl (still_here lawful image (back (moment first) image left));
+          before = λ t image le left. inl (back t image left);
+        })
+        (leaves_weaker moment left_since last final (GroupLeaves ended (unlogged (files last)) (unlogged new)) P
+        (group_still (lawful (files first) here) s is ended refl) ends.images)
+
+    pub group_changes : ChangesBy files left_since moment course given n first final
+    group_changes = record {
+      counted = counted_ended ended given n ends.says;
+      leaves = if_ok (store r.pkg) leaves_at;
+      refused = λ no. final_stays (ends.stays no);
+      index = group_sealed;
+      full = full_at;
+      complete = group_complete;
+      stops = λ lawful. if_ok (store r.pkg) (stops_at lawful);
+      held = λ done. if_ok (store r.pkg) (λ s is image left.
+          (let as_final : image ≡ files final = (ends.done done).settled image left in
+          subst (λ (f : Files). HasState (after course (s0 s)) f) (sym as_final) (leaves_after course (s0 s) given n (files final) done (leaves_at s is))));
+    }

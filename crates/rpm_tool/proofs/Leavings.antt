@@ -1,0 +1,144 @@
+-- What the endings of a command that changes packages leave.
+use Rattle.std.proofs.Common.{◌≡◌, ◌⊎◌, ℕ, ◌^◌, ◌<◌, ◌≤◌, Bool, true, false, List, [], ◌==◌, if◌then◌else◌, refl, sym, ap, ◌∙◌, subst, inl, inr, length, append-nil, arith}
+use Rattle.std.proofs.lemmas.Bool.{cases_Bool, eqb-true}
+use Rattle.std.proofs.lemmas.Bool.Decides.{nat_tests}
+use Rattle.rpm_outside.specs.Files.{Files}
+use Rattle.rpm_pkgdb.specs.declared.slot.Damage.{Damage}
+use Rattle.rpm_db.specs.Changes.{Change}
+use Rattle.rpm_db.specs.State.{State}
+use Rattle.rpm_change.specs.Steps.{Course}
+use Rattle.rpm_change.specs.Endings.{Outputs, Through, ThroughSome, AllHaveRoom}
+use Rattle.rpm_tool.specs.declared.answer.Why.{Why}
+use Rattle.rpm_tool.specs.declared.answer.Why.TheVariants as why
+use Rattle.rpm_tool.specs.Answers.{Refused}
+use Rattle.rpm_tool.specs.Keyed.{is_done}
+use Rattle.rpm_tool.specs.Changing.{Did, LeavesState, HasState, FullTurn, after, is_done_or_fault, is_of_lawful}
+use Rattle.rpm_tool.specs.Working.{Stopped, IsUncommitted, done_why}
+use Rattle.rpm_tool.proofs.Outcomes.{done_is}
+
+-- nothing changed
+pub leaves_start : (course : State → Course) (s : State) (w : Why) (n : ℕ) (files : Files) → (is_done w ≡ true → ⊥) → n ≡ 0 → HasState s files
+    → LeavesState course s w n files
+leaves_start course s why.Done m files undone none has = absurd (undone refl)
+leaves_start course s (why.Failed n) m files undone none has = absurd (undone refl)
+leaves_start course s (why.Usage f) m files undone none has = (none, has)
+leaves_start course s (why.NotBuilt x) m files undone none has = (none, has)
+leaves_start course s (why.BadFormat f) m files undone none has = (none, has)
+leaves_start course s (why.BadLog u) m files undone none has = (none, has)
+leaves_start course s (why.Damaged d) m files undone none has = (none, has)
+leaves_start course s why.NumbersSpent m files undone none has = (none, has)
+leaves_start course s why.GenerationSpent m files undone none has = (none, has)
+leaves_start course s why.StoreFull m files undone none has = (none, has)
+leaves_start course s (why.BadIndex u) m files undone none has = (none, has)
+leaves_start course s (why.IndexFull u) m files undone none has = (none, has)
+leaves_start course s (why.LogFull u) m files undone none has = (none, has)
+leaves_start course s why.DiskFault m files undone none has = (none, inl has)
+leaves_start course s why.ShelfFault m files undone none has = (none, has)
+leaves_start course s why.OutFault m files undone none has = (none, has)
+leaves_start course s why.ErrFault m files undone none has = (none, has)
+leaves_start course s why.NoMemory m files undone none has = (none, has)
+
+pub uncommitted_leaves : (course : State → Course) (s : State) (w : Why) (n : ℕ) (files : Files) → IsUncommitted w → n ≡ 0
+    → HasState s files ⊎ HasState (after course s) files → (is_done_or_fault w ≡ false → HasState s files) → LeavesState course s w n files
+uncommitted_leaves course s why.Done m files un none either stays = absurd un
+uncommitted_leaves course s (why.Failed n) m files un none either stays = absurd un
+uncommitted_leaves course s (why.Usage f) m files un none either stays = absurd un
+uncommitted_leaves course s (why.NotBuilt x) m files un none either stays = absurd un
+uncommitted_leaves course s (why.BadFormat f) m files un none either stays = absurd un
+uncommitted_leaves course s (why.BadLog u) m files un none either stays = absurd un
+uncommitted_leaves course s (why.Damaged d) m files un none either stays = absurd un
+uncommitted_leaves course s why.NumbersSpent m files un none either stays = absurd un
+uncommitted_leaves course s why.GenerationSpent m files un none either stays = absurd un
+uncommitted_leaves course s why.StoreFull m files un none either stays = absurd un
+uncommitted_leaves course s (why.BadIndex u) m files un none either stays = absurd un
+uncommitted_leaves course s (why.IndexFull u) m files un none either stays = absurd un
+uncommitted_leaves course s (why.LogFull u) m files un none either stays = (none, stays refl)
+uncommitted_leaves course s why.DiskFault m files un none either stays = (none, either)
+uncommitted_leaves course s why.ShelfFault m files un none either stays = absurd un
+uncommitted_leaves course s why.OutFault m files un none either stays = absurd un
+uncommitted_leaves course s why.ErrFault m files un none either stays = absurd un
+uncommitted_leaves course s why.NoMemory m files un none either stays = (none, stays refl)
+
+pub leaves_done : (course : State → Course) (s : State) (k n : ℕ) (files : Files) → n ≡ length (course s).changes → HasState (after course s) files
+    → LeavesState course s (done_why k) n files
+leaves_done course s k n files is has = elim (done_is k) [
+  | inl none ↦ subst (λ (w : Why). LeavesState course s w n files) (sym none.1) (is, has)
+  | inr some ↦ subst (λ (w : Why). LeavesState course s w n files) (sym some.1) (is, has)
+]
+
+pub leaves_after : (course : State → Course) (s : State) (w : Why) (n : ℕ) (files : Files) → is_done w ≡ true → LeavesState course s w n files
+    → HasState (after course s) files
+leaves_after course s why.Done m files is leaves = leaves.1
+leaves_after course s (why.Failed n) m files is leaves = leaves.1
+leaves_after course s (why.Usage f) m files is leaves = absurd cc
+leaves_after course s (why.NotBuilt x) m files is leaves = absurd cc
+leaves_after course s (why.BadFormat f) m files is leaves = absurd cc
+leaves_after course s (why.BadLog u) m files is leaves = absurd cc
+leaves_after course s (why.Damaged d) m files is leaves = absurd cc
+leaves_after course s why.NumbersSpent m files is leaves = absurd cc
+leaves_after course s why.GenerationSpent m files is leaves = absurd cc
+leaves_after course s why.StoreFull m files is leaves = absurd cc
+leaves_after course s (why.BadIndex u) m files is leaves = absurd cc
+leaves_after course s (why.IndexFull u) m files is leaves = absurd cc
+leaves_after course s (why.LogFull u) m files is leaves = absurd cc
+leaves_after course s why.DiskFault m files is leaves = absurd cc
+leaves_after course s why.ShelfFault m files is leaves = absurd cc
+leaves_after course s why.OutFault m files is leaves = absurd cc
+leaves_after course s why.ErrFault m files is leaves = absurd cc
+leaves_after course s why.NoMemory m files is leaves = absurd cc
+
+full_of_done : (making : Bool) (needed : ℕ) (s : State) (changes : List Change) (k : ℕ) → FullTurn making needed s changes (done_why k)
+    → (making ≡ true → needed ≤ 2 ^ 28) × AllHaveRoom s changes
+full_of_done making needed s changes k full = elim (done_is k) [
+  | inl none ↦ subst (λ (w : Why). FullTurn making needed s changes w) none.1 full
+  | inr some ↦ subst (λ (w : Why). FullTurn making needed s changes w) some.1 full
+]
+
+pub full_done : (making : Bool) (needed : ℕ) (s : State) (changes : List Change) (k : ℕ) → (making ≡ true → needed ≤ 2 ^ 28) → AllHaveRoom s changes
+    → FullTurn making needed s changes (done_why k)
+full_done making needed s changes k room all = elim (done_is k) [
+  | inl none ↦ subst (λ (w : Why). FullTurn making needed s changes w) (sym none.1) (room, all)
+  | inr some ↦ subst (λ (w : Why). FullTurn making needed s changes w) (sym some.1) (room, all)
+]
+
+pub full_uncommitted : (making : Bool) (needed : ℕ) (s : State) (changes : List Change) (k : ℕ) (w : Why) → IsUncommitted w
+    → FullTurn making needed s changes (done_why k) → FullTurn making needed s changes w
+full_uncommitted making needed s changes k why.Done un full = absurd un
+full_uncommitted making needed s changes k (why.Failed n) un full = absurd un
+full_uncommitted making needed s changes k (why.Usage f) un full = absurd un
+full_uncommitted making needed s changes k (why.NotBuilt x) un full = absurd un
+full_uncommitted making needed s changes k (why.BadFormat f) un full = absurd un
+full_uncommitted making needed s changes k (why.BadLog u) un full = absurd un
+full_uncommitted making needed s changes k (why.Damaged d) un full = absurd un
+full_uncommitted making needed s changes k why.NumbersSpent un full = absurd un
+full_uncommitted making needed s changes k why.GenerationSpent un full = absurd un
+full_uncommitted making needed s changes k why.StoreFull un full = absurd un
+full_uncommitted making needed s changes k (why.BadIndex u) un full = absurd un
+full_uncommitted making needed s changes k (why.IndexFull u) un full = absurd un
+full_uncommitted making needed s changes k (why.LogFull u) un full = full_of_done making needed s changes k full
+full_uncommitted making needed s changes k why.DiskFault un full = tt
+full_uncommitted making needed s changes k why.ShelfFault un full = absurd un
+full_uncommitted making needed s changes k why.OutFault un full = absurd un
+full_uncommitted making needed s changes k why.ErrFault un full = absurd un
+full_uncommitted making needed s changes k why.NoMemory un full = tt
+
+pub lawful_ending : (c : Course) (making : Bool) (needed : ℕ) (s : State) (changes : List Change) (w : Why) (old new : Outputs) → Did c w old new
+    → FullTurn making needed s changes w → is_of_lawful w ≡ true
+lawful_ending c making needed s changes why.Done old new did full = refl
+lawful_ending c making needed s changes (why.Failed n) old new did full = refl
+lawful_ending c making needed s changes (why.Usage f) old new did full = absurd did
+lawful_ending c making needed s changes (why.NotBuilt x) old new did full = absurd did
+lawful_ending c making needed s changes (why.BadFormat f) old new did full = absurd did
+lawful_ending c making needed s changes (why.BadLog u) old new did full = absurd did
+lawful_ending c making needed s changes (why.Damaged d) old new did full = absurd did
+lawful_ending c making needed s changes why.NumbersSpent old new did full = refl
+lawful_ending c making needed s changes why.GenerationSpent old new did full = refl
+lawful_ending c making needed s changes why.StoreFull old new did full = refl
+lawful_ending c making needed s changes (why.BadIndex u) old new did full = absurd full
+lawful_ending c making needed s changes (why.IndexFull u) old new did full = refl
+lawful_ending c making needed s changes (why.LogFull u) old new did full = refl
+lawful_ending c making needed s changes why.DiskFault old new did full = refl
+lawful_ending c making needed s changes why.ShelfFault old new did full = refl
+lawful_ending c making needed s changes why.OutFault old new did full = refl
+lawful_ending c making needed s changes why.ErrFault old new did full = refl
+lawful_ending c making needed s changes why.NoMemory old new did full = refl

@@ -1,0 +1,157 @@
+-- A command whose database isn't recovered, or isn't loaded: nothing was changed.
+use Rattle.std.proofs.Common.{◌≡◌, ◌⊎◌, ℕ, Bool, true, false, [], Result, Ok, Err, refl, sym, ap, ◌∙◌, subst, inl, inr, append-nil}
+use Rattle.rpm_outside.specs.Crash.{LeavesOnly}
+use Rattle.rpm_outside.specs.Files.{Units, Files}
+use Rattle.rpm_outside.specs.Logs.{LogState, Closed, Malformed, Open, log_state, reopened}
+use Rattle.rpm_group.specs.declared.load.LoadFault.{LoadFault}
+use Rattle.rpm_group.specs.declared.load.LoadFault.TheVariants as load
+use Rattle.rpm_group.specs.declared.recovery.RecoverFault.{RecoverFault}
+use Rattle.rpm_group.specs.declared.recovery.RecoverFault.TheVariants as recover
+use Rattle.rpm_group.specs.Loads.{IsSound, LoadSays}
+use Rattle.rpm_group.specs.Settled.{ReopensAsOneOf, RecoverSays}
+use Rattle.rpm_pkgdb.specs.declared.slot.Damage.{Damage}
+use Rattle.rpm_pkgdb.specs.Store.{Store, store}
+use Rattle.rpm_db.specs.State.{State, state}
+use Rattle.rpm_change.specs.Steps.{Course}
+use Rattle.rpm_change.specs.Endings.{Outputs, Through, ThroughSome}
+use Rattle.rpm_tool.specs.declared.answer.Why.{Why}
+use Rattle.rpm_tool.specs.declared.answer.Why.TheVariants as why
+use Rattle.rpm_tool.specs.Answers.{why_of_load}
+use Rattle.rpm_tool.specs.Keyed.{AreLawfulGroups, is_done, why_of_recover}
+use Rattle.rpm_tool.specs.Changing.{Did, DidOpened, DidLoaded, DidOn, FullOn, ChangesBy, after}
+use Rattle.rpm_tool.specs.Working.{Stopped, Worked, WorkedBy, IsOutside, is_halt}
+use Rattle.rpm_tool.proofs.Grouped.{if_ok}
+use Rattle.rpm_tool.proofs.Regrouped.{recovering}
+
+-- nothing was written
+pub through_none : (x : Outputs) → Through [] x x
+through_none x = record { out = λ told. sym (append-nil x.out); err = λ told. sym (append-nil x.err) }
+
+none_done : (c : Course) (old new : Outputs) → Through [] old new → ThroughSome c.steps old new
+none_done c old new none = record { done = []; rest = c.steps; all_is = refl; through = none }
+
+-- ---- a log that is closed and isn't loaded
+
+-- a fault of the disk, or want of memory
+pub closed_load : (log : LogState) (fault : LoadFault) → log ≡ Closed → LoadSays log (Err fault) → IsOutside (why_of_load fault)
+closed_load log (load.BadLog unit) closed says = absurd (let wrong : Closed ≡ Malformed unit = sym closed ∙ says in cc)
+closed_load log load.DiskFault closed says = tt
+closed_load log load.NoMemory closed says = tt
+
+pub load_halts : (fault : LoadFault) → is_halt (why_of_load fault) ≡ true
+load_halts (load.BadLog unit) = refl
+load_halts load.DiskFault = refl
+load_halts load.NoMemory = refl
+
+worked_fault : (course : State → Course) (pkg : Units) (sr : Result Store Damage) (new : Files) (old now : Outputs) → Through [] old now
+    → WorkedBy course pkg sr new (Err why.DiskFault) old now
+worked_fault course pkg (Ok s) new old now none = none_done (course (state pkg s)) old now none
+worked_fault course pkg (Err d) new old now none = (tt, none)
+
+worked_memory : (course : State → Course) (pkg : Units) (sr : Result Store Damage) (new : Files) (old now : Outputs) → Through [] old now
+    → WorkedBy course pkg sr new (Err why.NoMemory) old now
+worked_memory course pkg (Ok s) new old now none = none_done (course (state pkg s)) old now none
+worked_memory course pkg (Err d) new old now none = (tt, none)
+
+-- so nothing was done
+pub worked_none : (course : State → Course) (log : LogState) (fault : LoadFault) (old new : Files) (before now : Outputs) → log ≡ Closed
+    → LoadSays log (Err fault) → Through [] before now → Worked course old new (Err (why_of_load fault)) before now
+worked_none course log (load.BadLog unit) old new before now closed says none = absurd (let wrong : Closed ≡ Malformed unit = sym closed ∙ says in cc)
+worked_none course log load.DiskFault old new before now closed says none = record {
+  went = worked_fault course old.pkg (store old.pkg) new before now none;
+  full = λ lawful. if_ok (store old.pkg) (λ s is. tt);
+  index = λ lawful. tt;
+}
+worked_none course log load.NoMemory old new before now closed says none = record {
+  went = worked_memory course old.pkg (store old.pkg) new before now none;
+  full = λ lawful. if_ok (store old.pkg) (λ s is. tt);
+  index = λ lawful. tt;
+}
+
+-- ---- a database that isn't recovered
+
+opened_fault : (course : Store → Course) (sr : Result Store Damage) (old new : Outputs) → Through [] old new → DidOpened course sr why.DiskFault old new
+opened_fault course (Ok s) old new none = none_done (course s) old new none
+opened_fault course (Err d) old new none = (tt, none)
+
+loaded_fault : (course : Store → Course) (sr : Result Store Damage) (log : LogState) (old new : Outputs) → Through [] old new
+    → DidLoaded course sr log why.DiskFault old new
+loaded_fault course sr Closed old new none = opened_fault course sr old new none
+loaded_fault course sr (Malformed unit) old new none = (tt, none)
+loaded_fault course sr (Open entries) old new none = opened_fault course sr old new none
+
+pub unrecovered_did : (course : State → Course) (files : Files) (fault : RecoverFault) (old new : Outputs)
+    → RecoverSays (log_state files.log) (Err fault) → Through [] old new → DidOn course files (why_of_recover fault) old new
+unrecovered_did course files (recover.BadLog unit) old new says none =
+    subst (λ (l : LogState). DidLoaded (λ s. course (state (reopened files).pkg s)) (store (reopened files).pkg) l (why.BadLog unit) old new) (sym says)
+    (refl, none)
+unrecovered_did course files recover.DiskFault old new says none =
+    loaded_fault (λ s. course (state (reopened files).pkg s)) (store (reopened files).pkg) (log_state files.log) old new none
+
+-- a database that is recovered is told as one that was
+recovered_by : (course : Store → Course) (sr : Result Store Damage) (log : LogState) (finished : Bool) (given : Why) (old new : Outputs)
+    → RecoverSays log (Ok finished) → DidOpened course sr given old new → DidLoaded course sr log given old new
+recovered_by course sr log true given old new says did = subst (λ (l : LogState). DidLoaded course sr l given old new) (sym says) did
+recovered_by course sr log false given old new says did = subst (λ (l : LogState). DidLoaded course sr l given old new) (sym says) did
+
+pub recovered_did : (course : State → Course) (before mid : Files) (finished : Bool) (given : Why) (old new : Outputs)
+    → RecoverSays (log_state before.log) (Ok finished) → log_state mid.log ≡ Closed → reopened mid ≡ reopened before → DidOn course mid given old new
+    → DidOn course before given old new
+recovered_did course before mid finished given old new says closed stands did =
+    let r = reopened mid in
+    let opened = subst (λ (l : LogState). DidLoaded (λ s. course (state r.pkg s)) (store r.pkg) l given old new) closed did in
+    recovered_by (λ s. course (state (reopened before).pkg s)) (store (reopened before).pkg) (log_state before.log) finished given old new says
+    (subst (λ (f : Files). DidOpened (λ s. course (state f.pkg s)) (store f.pkg) given old new) stands opened)
+
+unlawful_log : (log : LogState) (unit : ℕ) → log ≡ Malformed unit → IsSound log → ⊥
+unlawful_log log unit is sound = subst IsSound is sound
+
+module _ {D : Type 0} (files : D → Files) (left_since : D → ℕ → Files → Type 0) (moment : D → ℕ) (course : State → Course) (old new : D)
+    (here : left_since old (moment old) (files old)) (stands : reopened (files new) ≡ reopened (files old))
+    (run : LeavesOnly moment left_since old new (ReopensAsOneOf (left_since old (moment old)))) where
+  abbrev r : Files
+  r = reopened (files old)
+
+  abbrev past : Files → Type 0
+  past = left_since old (moment old)
+
+  pub unrecovered_changes : (fault : RecoverFault) → RecoverSays (log_state (files old).log) (Err fault)
+      → ChangesBy files left_since moment course (why_of_recover fault) 0 old new
+  unrecovered_changes (recover.BadLog unit) says = record {
+    counted = λ no. refl;
+    leaves = if_ok (store r.pkg) (λ s is. (
+      refl,
+      record {
+        value = s;
+        undamaged = ap (λ (f : Files). store f.pkg) stands ∙ is;
+        is =
+            ap (λ (f : Files). state f.pkg s) stands;
+      },
+    ));
+    refused = λ no. stands;
+    index = λ lawful done. absurd cc;
+    full = λ lawful. if_ok (store r.pkg) (λ s is. tt);
+    complete = λ lawful. absurd (unlawful_log (log_state (files old).log) unit says lawful.sound);
+    stops = λ lawful. if_ok (store r.pkg) (λ s is.
+        recovering files left_since moment course (why.BadLog unit) 0 old new new here stands run lawful (after course (state r.pkg s)));
+    held = λ done. absurd cc;
+  }
+  unrecovered_changes recover.DiskFault says = record {
+    counted = λ no. refl;
+    leaves = if_ok (store r.pkg) (λ s is. (
+      refl,
+      inl (record {
+        value = s;
+        undamaged = ap (λ (f : Files). store f.pkg) stands ∙ is;
+        is =
+            ap (λ (f : Files). state f.pkg s) stands;
+      }),
+    ));
+    refused = λ no. stands;
+    index = λ lawful done. absurd cc;
+    full = λ lawful. if_ok (store r.pkg) (λ s is. tt);
+    complete = λ lawful. refl;
+    stops = λ lawful. if_ok (store r.pkg) (λ s is.
+        recovering files left_since moment course why.DiskFault 0 old new new here stands run lawful (after course (state r.pkg s)));
+    held = λ done. absurd cc;
+  }

@@ -1,0 +1,48 @@
+use Rattle.std.proofs.Common.{◌∙◌}
+use Rattle.rpm_outside.specs.Buffered.{inner}
+use Rattle.rpm_db.specs.State.{state}
+use Rattle.rpm_db.specs.inner.Running.{runs_then}
+use Rattle.rpm_db.specs.inner.Writes.{SameLog}
+use Rattle.rpm_change.specs.Endings.{outputs}
+use Rattle.rpm_change.specs.Erasing.{erase}
+use Rattle.rpm_tool.proofs.Unmade.{through_none}
+use Rattle.rpm_tool.proofs.Works.{open_worked, done_worked, halted_worked}
+use Rattle.rpm_tool.proofs.changing.erase_on.Goals as goal
+
+pub returns-in-Err-clause-worked : goal.returns-in-Err-clause-worked
+returns-in-Err-clause-worked g c = λ told out_tells out.
+    let now = outputs out_tells out g.E.Sink.tells (g.E.Sink.taken (inner c.args.err.now)) in
+    open_worked (λ s. erase s c.args.numbers.now) (g.D.Disk.files c.args.disk.now) (g.D.Disk.files c.open_to_change.new.disk) c.in-Err.why now now
+    (c.in-Err.ensures.opened told) (through_none now)
+
+pub returns-in-Ok-erase_numbers-clause-worked : goal.returns-in-Ok-erase_numbers-clause-worked
+returns-in-Ok-erase_numbers-clause-worked g c = λ told out_tells out.
+    let said = c.in-Ok-erase_numbers.ensures in
+    let before = outputs out_tells out g.E.Sink.tells (g.E.Sink.taken (inner c.args.err.now)) in
+    let now = outputs out_tells out g.E.Sink.tells (g.E.Sink.taken (inner c.erase_numbers.new.err)) in
+    done_worked (λ s. erase s c.args.numbers.now) (g.D.Disk.files c.args.disk.now) (g.D.Disk.files c.open_to_change.new.disk)
+    (g.D.Disk.files c.erase_numbers.new.disk) c.in-Ok.db c.erase_numbers.new.db before now c.in-Ok-erase_numbers.tally (c.in-Ok.ensures.opened told)
+    (said.carried.serving told).keeps (said.ended told out_tells out) (λ lawful. said.room told (c.in-Ok.ensures.rows told lawful))
+    (λ lawful. said.carried.index told (c.in-Ok.ensures.rows told lawful))
+
+pub returns-in-Ok-erase_numbers-clause-runs : goal.returns-in-Ok-erase_numbers-clause-runs
+returns-in-Ok-erase_numbers-clause-runs g c =
+    runs_then g.D.Disk.tells g.D.Disk.files g.D.Disk.left_since g.D.Disk.moment g.D.Disk.bytes_read g.D.Disk.follows g.met.D.Disk.follows_trans
+    SameLog SameLog SameLog c.args.disk.now c.open_to_change.new.disk c.erase_numbers.new.disk (λ x y log. log) (λ x y z first second. second ∙ first)
+    c.in-Ok.ensures.runs c.erase_numbers.ensures.runs
+
+pub returns-clause-worked : goal.returns-clause-worked
+returns-clause-worked g c = λ told out_tells out.
+    let said = c.in-Err-erase_numbers.ensures in
+    let before = outputs out_tells out g.E.Sink.tells (g.E.Sink.taken (inner c.args.err.now)) in
+    let now = outputs out_tells out g.E.Sink.tells (g.E.Sink.taken (inner c.erase_numbers.new.err)) in
+    rw c.why_of_halt.ensures (halted_worked (λ s. erase s c.args.numbers.now) (g.D.Disk.files c.args.disk.now) (g.D.Disk.files c.open_to_change.new.disk)
+    (g.D.Disk.files c.erase_numbers.new.disk) c.in-Ok.db c.erase_numbers.new.db before now c.in-Err-erase_numbers.halt
+    (state (g.D.Disk.files c.erase_numbers.new.disk).pkg c.erase_numbers.new.db.store) (c.in-Ok.ensures.opened told)
+    (said.ended told out_tells out) (λ lawful. said.room told (c.in-Ok.ensures.rows told lawful)))
+
+pub returns-clause-runs : goal.returns-clause-runs
+returns-clause-runs g c =
+    runs_then g.D.Disk.tells g.D.Disk.files g.D.Disk.left_since g.D.Disk.moment g.D.Disk.bytes_read g.D.Disk.follows g.met.D.Disk.follows_trans
+    SameLog SameLog SameLog c.args.disk.now c.open_to_change.new.disk c.erase_numbers.new.disk (λ x y log. log) (λ x y z first second. second ∙ first)
+    c.in-Ok.ensures.runs c.erase_numbers.ensures.runs

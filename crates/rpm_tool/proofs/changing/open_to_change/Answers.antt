@@ -1,0 +1,47 @@
+use Rattle.std.proofs.Common.{refl, ◌∙◌}
+use Rattle.rpm_db.specs.inner.Running.{runs_none, runs_then}
+use Rattle.rpm_db.specs.inner.Writes.{SameLog}
+use Rattle.rpm_db.specs.Lawful.{Remade}
+use Rattle.rpm_tool.proofs.Works.{open_refused, open_made, open_unmade, open_kinds}
+use Rattle.rpm_tool.proofs.changing.open_to_change.Goals as goal
+
+pub returns-in-Err-clause-opened : goal.returns-in-Err-clause-opened
+returns-in-Err-clause-opened g c = λ told.
+    rw c.why_of_open.ensures (open_refused (g.D.Disk.files c.args.disk.now) (g.D.Disk.files c.open.new.disk) (g.D.Disk.files c.open.new.disk) c.in-Err.fault
+    (c.in-Err.ensures.opened told))
+
+pub returns-in-Err-clause-fault : goal.returns-in-Err-clause-fault
+returns-in-Err-clause-fault g c = rw c.why_of_open.ensures (open_kinds c.in-Err.fault)
+
+pub returns-in-Err-clause-runs : goal.returns-in-Err-clause-runs
+returns-in-Err-clause-runs g c =
+    runs_then g.D.Disk.tells g.D.Disk.files g.D.Disk.left_since g.D.Disk.moment g.D.Disk.bytes_read g.D.Disk.follows g.met.D.Disk.follows_trans
+    Remade SameLog SameLog c.args.disk.now c.open.new.disk c.open.new.disk (λ x y made. made.log) (λ x y z made same. same ∙ made.log)
+    c.in-Err.ensures.runs
+    (runs_none g.D.Disk.tells g.D.Disk.files g.D.Disk.left_since g.D.Disk.moment g.D.Disk.bytes_read g.D.Disk.follows g.met.D.Disk.follows_refl SameLog
+    (λ f. refl) c.open.new.disk)
+
+pub returns-in-Ok-make_blank-clause-opened : goal.returns-in-Ok-make_blank-clause-opened
+returns-in-Ok-make_blank-clause-opened g c = λ told.
+    open_made (g.D.Disk.files c.args.disk.now) (g.D.Disk.files c.open.new.disk) (g.D.Disk.files c.make_blank.new.disk) c.in-Ok.db c.make_blank.new.db
+    (c.in-Ok.ensures.opened told) (c.in-Ok.ensures.runs.reads_as told).pkg (c.in-Ok-make_blank.ensures.state told)
+
+pub returns-in-Ok-make_blank-clause-rows : goal.returns-in-Ok-make_blank-clause-rows
+returns-in-Ok-make_blank-clause-rows g c = λ told lawful.
+    c.in-Ok-make_blank.ensures.rows told (λ some. (c.in-Ok.ensures.opened told).index some lawful)
+
+pub returns-in-Ok-make_blank-clause-runs : goal.returns-in-Ok-make_blank-clause-runs
+returns-in-Ok-make_blank-clause-runs g c =
+    runs_then g.D.Disk.tells g.D.Disk.files g.D.Disk.left_since g.D.Disk.moment g.D.Disk.bytes_read g.D.Disk.follows g.met.D.Disk.follows_trans
+    Remade SameLog SameLog c.args.disk.now c.open.new.disk c.make_blank.new.disk (λ x y made. made.log) (λ x y z made same. same ∙ made.log)
+    c.in-Ok.ensures.runs c.make_blank.ensures.runs
+
+pub returns-in-Err-make_blank-clause-opened : goal.returns-in-Err-make_blank-clause-opened
+returns-in-Err-make_blank-clause-opened g c = λ told.
+    open_unmade (g.D.Disk.files c.args.disk.now) (g.D.Disk.files c.make_blank.new.disk) c.in-Err-make_blank.why c.in-Err-make_blank.ensures.fault
+
+pub returns-in-Err-make_blank-clause-runs : goal.returns-in-Err-make_blank-clause-runs
+returns-in-Err-make_blank-clause-runs g c =
+    runs_then g.D.Disk.tells g.D.Disk.files g.D.Disk.left_since g.D.Disk.moment g.D.Disk.bytes_read g.D.Disk.follows g.met.D.Disk.follows_trans
+    Remade SameLog SameLog c.args.disk.now c.open.new.disk c.make_blank.new.disk (λ x y made. made.log) (λ x y z made same. same ∙ made.log)
+    c.in-Ok.ensures.runs c.make_blank.ensures.runs

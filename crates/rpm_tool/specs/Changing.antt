@@ -1,0 +1,135 @@
+-- Commands that change packages: what each answers and leaves. A command is the course that it takes from the state that it finds.
+use Rattle.std.specs.Prelude.{◌≡◌, ◌⊎◌, ℕ, ◌^◌, ◌<◌, ◌≤◌, ◌==◌, if◌then◌else◌, List, [], length, Bool, true, false, Result, Ok, Err, IfOk}
+use Rattle.rpm_outside.specs.Crash.{LeavesOnly}
+use Rattle.rpm_outside.specs.Files.{Units, Files}
+use Rattle.rpm_outside.specs.Logs.{LogState, Closed, Malformed, Open, log_state, reopened}
+use Rattle.rpm_pkgdb.specs.declared.slot.Damage.{Damage}
+use Rattle.rpm_pkgdb.specs.Store.{Store, store}
+use Rattle.rpm_db.specs.Changes.{Change, Says}
+use Rattle.rpm_db.specs.Lawful.{HasRows, is_current_at}
+use Rattle.rpm_db.specs.Openings.{must_make, units_needed}
+use Rattle.rpm_db.specs.State.{State, state, packages}
+use Rattle.rpm_change.specs.Steps.{Course, apply_all}
+use Rattle.rpm_change.specs.Endings.{Outputs, Through, ThroughSome, StoppedWithin, AllHaveRoom, IsFullAt}
+use Rattle.rpm_tool.specs.declared.answer.Why.{Why}
+use Rattle.rpm_tool.specs.declared.answer.Why.TheVariants as why
+use Rattle.rpm_tool.specs.Answers.{Misread, Refused}
+use Rattle.rpm_tool.specs.Keyed.{IsLawfulGroup, AreLawfulGroups, StandsStill, is_done}
+
+-- ---- what a command answers
+
+-- of a database that can be read: all steps were gone through, or some, or it stopped within one
+abbrev pub Did : Course → Why → Outputs → Outputs → Type 0
+Did course why.Done old new = Through course.steps old new × (course.failed ≡ 0)
+Did course (why.Failed n) old new = Through course.steps old new × (course.failed ≡ n) × (0 < n)
+Did course (why.Usage fault) old new = ⊥
+Did course (why.NotBuilt what) old new = ⊥
+Did course (why.BadFormat fault) old new = ⊥
+Did course (why.BadLog unit) old new = ⊥
+Did course (why.Damaged damage) old new = ⊥
+Did course why.OutFault old new = StoppedWithin course.steps true old new
+Did course why.ErrFault old new = StoppedWithin course.steps false old new
+Did course others old new = ThroughSome course.steps old new
+
+-- of one that is damaged, that alone
+abbrev pub DidOpened : (Store → Course) → Result Store Damage → Why → Outputs → Outputs → Type 0
+DidOpened course (Ok s) given old new = Did (course s) given old new
+DidOpened course (Err damage) given old new = Refused damage given × Through [] old new
+
+-- the log is read first
+abbrev pub DidLoaded : (Store → Course) → Result Store Damage → LogState → Why → Outputs → Outputs → Type 0
+DidLoaded course s Closed given old new = DidOpened course s given old new
+DidLoaded course s (Malformed unit) given old new = Misread unit given × Through [] old new
+DidLoaded course s (Open entries) given old new = DidOpened course s given old new
+
+-- by what the files stand for
+abbrev pub DidOn : (State → Course) → Files → Why → Outputs → Outputs → Type 0
+DidOn course files given old new =
+    let r = reopened files in
+    DidLoaded (λ s. course (state r.pkg s)) (store r.pkg) (log_state files.log) given old new
+
+-- ---- what it leaves
+
+-- the files stand for this state
+abbrev pub HasState : State → Files → Type 0
+HasState s files = Says (λ t. t ≡ s) (reopened files).pkg
+
+-- the state after all changes of a course, which are one group
+abbrev pub after : (State → Course) → State → State
+after course s = apply_all (course s).changes s
+
+-- done, the group is made and counted; a fault of the disk may come before it or behind it; else nothing changed
+abbrev pub LeavesState : (State → Course) → State → Why → ℕ → Files → Type 0
+LeavesState course s why.Done changes files = (changes ≡ length (course s).changes) × HasState (after course s) files
+LeavesState course s (why.Failed n) changes files = (changes ≡ length (course s).changes) × HasState (after course s) files
+LeavesState course s why.DiskFault changes files = (changes ≡ 0) × (HasState s files ⊎ HasState (after course s) files)
+LeavesState course s others changes files = (changes ≡ 0) × HasState s files
+
+-- done, or a fault of the disk
+abbrev pub is_done_or_fault : Why → Bool
+is_done_or_fault why.Done = true
+is_done_or_fault (why.Failed n) = true
+is_done_or_fault why.DiskFault = true
+is_done_or_fault others = false
+
+-- the index is current, and holds the rows of the packages, each as often
+pub record HasCurrent (pkg idx : Units) : Type 0 where
+  pub value : Store
+  pub undamaged : store pkg ≡ Ok value
+  pub current : is_current_at value.generation idx ≡ true
+  pub rows_are : HasRows (packages pkg value) idx
+
+-- and nothing is left of a change
+pub record IsSealed (files : Files) : Type 0 where
+  pub closed : log_state files.log ≡ Closed
+  pub indexed : HasCurrent files.pkg files.idx
+
+-- ---- what a stop leaves
+
+-- a lawful image, which stands for the packages that one of these stands for, or for this state
+abbrev pub StandsStillOr : (Files → Type 0) → State → Files → Type 0
+StandsStillOr images s image = StandsStill images image ⊎ (IsLawfulGroup image × HasState s image)
+
+-- ---- limits
+
+-- the index is full exactly where it must be made and has no room, or at the turn of a change that has none; and never bad
+abbrev pub FullTurn : Bool → ℕ → State → List Change → Why → Type 0
+FullTurn making needed s changes (why.IndexFull told) =
+    ((making ≡ true) × (2 ^ 28 < needed) × (told ≡ needed)) ⊎ ((making ≡ true → needed ≤ 2 ^ 28) × IsFullAt told s changes)
+FullTurn making needed s changes (why.BadIndex unit) = ⊥
+FullTurn making needed s changes why.Done = (making ≡ true → needed ≤ 2 ^ 28) × AllHaveRoom s changes
+FullTurn making needed s changes (why.Failed n) = (making ≡ true → needed ≤ 2 ^ 28) × AllHaveRoom s changes
+FullTurn making needed s changes (why.LogFull units) = (making ≡ true → needed ≤ 2 ^ 28) × AllHaveRoom s changes
+FullTurn making needed s changes others = Unit {0}
+
+-- of files whose Packages.db isn't damaged
+abbrev pub FullOn : (State → Course) → Files → Why → Type 0
+FullOn course files given = IfOk (store files.pkg) (λ value. FullTurn (must_make files.idx (Ok value)) (units_needed files.pkg (Ok value))
+    (state files.pkg value) (course (state files.pkg value)).changes given)
+
+-- an ending that a lawful database may have: done, a limit, a fault of the outside, or want of memory
+abbrev pub is_of_lawful : Why → Bool
+is_of_lawful (why.Usage fault) = false
+is_of_lawful (why.NotBuilt what) = false
+is_of_lawful (why.BadFormat fault) = false
+is_of_lawful (why.BadLog unit) = false
+is_of_lawful (why.Damaged damage) = false
+is_of_lawful (why.BadIndex unit) = false
+is_of_lawful others = true
+
+-- ---- a command that changes packages
+
+-- all that is said, beside what it answers, on a disk that tells its contents
+pub record ChangesBy {D : Type 0} (files : D → Files) (left_since : D → ℕ → Files → Type 0) (moment : D → ℕ) (course : State → Course) (given : Why)
+    (changes : ℕ) (old new : D) : Type 0 where
+  pub counted : is_done given ≡ false → changes ≡ 0
+  pub leaves : IfOk (store (reopened (files old)).pkg)
+      (λ s. LeavesState course (state (reopened (files old)).pkg s) given changes (files new))
+  pub refused : is_done_or_fault given ≡ false → reopened (files new) ≡ reopened (files old)
+  pub index : IsLawfulGroup (files old) → is_done given ≡ true → IsSealed (files new)
+  pub full : IsLawfulGroup (files old) → FullOn course (reopened (files old)) given
+  pub complete : IsLawfulGroup (files old) → is_of_lawful given ≡ true
+  pub stops : AreLawfulGroups (left_since old (moment old)) → IfOk (store (reopened (files old)).pkg)
+      (λ s. LeavesOnly moment left_since old new (StandsStillOr (left_since old (moment old)) (after course (state (reopened (files old)).pkg s))))
+  pub held : is_done given ≡ true → IfOk (store (reopened (files old)).pkg)
+      (λ s. (image : Files) → left_since new (moment new) image → HasState (after course (state (reopened (files old)).pkg s)) image)

@@ -1,0 +1,172 @@
+-- What a changing command does on the disk over which its changes are held, and how the group ends.
+use Rattle.std.specs.Prelude.{◌≡◌, ◌⊎◌, ℕ, ◌^◌, ◌<◌, ◌≤◌, ◌==◌, if◌then◌else◌, List, [], Bool, true, false, Result, Ok, Err, IfOk, IfErr}
+use Rattle.rpm_outside.specs.Changes.{AreSettled}
+use Rattle.rpm_outside.specs.Crash.{LeavesOnly}
+use Rattle.rpm_outside.specs.Files.{Units, Files}
+use Rattle.rpm_outside.specs.Logs.{Closed, log_state, unlogged}
+use Rattle.rpm_group.specs.declared.commit.CommitFault.{CommitFault}
+use Rattle.rpm_group.specs.declared.commit.CommitFault.TheVariants as commit
+use Rattle.rpm_group.specs.Groups.{BeforeOrAfter}
+use Rattle.rpm_group.specs.Settled.{ReopensAs}
+use Rattle.rpm_pkgdb.specs.declared.slot.Damage.{Damage}
+use Rattle.rpm_pkgdb.specs.Store.{Store, store}
+use Rattle.rpm_db.specs.declared.opening.DbOpenFault.{DbOpenFault}
+use Rattle.rpm_db.specs.declared.opening.DbOpenFault.TheVariants as opening
+use Rattle.rpm_db.specs.Database.{Database, IsIndexed}
+use Rattle.rpm_db.specs.Lawful.{IsLawful}
+use Rattle.rpm_db.specs.Openings.{must_make, units_needed}
+use Rattle.rpm_db.specs.State.{State, state}
+use Rattle.rpm_change.specs.declared.tally.Halt.{Halt}
+use Rattle.rpm_change.specs.declared.tally.Halt.TheVariants as halt
+use Rattle.rpm_change.specs.declared.tally.Tally.{Tally}
+use Rattle.rpm_change.specs.Steps.{Course}
+use Rattle.rpm_change.specs.Endings.{Outputs, Through, Done}
+use Rattle.rpm_tool.specs.declared.answer.Why.{Why}
+use Rattle.rpm_tool.specs.declared.answer.Why.TheVariants as why
+use Rattle.rpm_tool.specs.Answers.{Refused}
+use Rattle.rpm_tool.specs.Changing.{Did, FullOn, HasCurrent, is_done_or_fault}
+use Rattle.rpm_tool.specs.Keyed.{is_done}
+
+-- ---- opening
+
+-- the state that is found, with room for an index that must be made; or why it isn't opened
+abbrev pub OpensIn : Bool → ℕ → State → Files → Result Database Why → Type 0
+OpensIn making needed s new (Ok db) = (state new.pkg db.store ≡ s) × (making ≡ true → needed ≤ 2 ^ 28)
+OpensIn making needed s new (Err (why.IndexFull told)) = (making ≡ true) × (2 ^ 28 < needed) × (told ≡ needed)
+OpensIn making needed s new (Err why.DiskFault) = Unit {0}
+OpensIn making needed s new (Err why.NoMemory) = Unit {0}
+OpensIn making needed s new (Err others) = ⊥
+
+-- of these files, whose store is this
+abbrev pub OpensBy : Files → Result Store Damage → Files → Result Database Why → Type 0
+OpensBy old (Ok s) new result = OpensIn (must_make old.idx (Ok s)) (units_needed old.pkg (Ok s)) (state old.pkg s) new result
+OpensBy old (Err damage) new (Ok db) = ⊥
+OpensBy old (Err damage) new (Err given) = Refused damage given
+
+abbrev pub why_of_open : DbOpenFault → Why
+why_of_open (opening.Damaged damage) = why.Damaged damage
+why_of_open (opening.IndexFull needed) = why.IndexFull needed
+why_of_open opening.DiskFault = why.DiskFault
+why_of_open opening.NoMemory = why.NoMemory
+
+abbrev pub why_of_halt : Halt → Why
+why_of_halt halt.NumbersSpent = why.NumbersSpent
+why_of_halt halt.GenerationSpent = why.GenerationSpent
+why_of_halt halt.StoreFull = why.StoreFull
+why_of_halt (halt.IndexFull needed) = why.IndexFull needed
+why_of_halt (halt.BadIndex unit) = why.BadIndex unit
+why_of_halt halt.DiskFault = why.DiskFault
+why_of_halt halt.ShelfFault = why.ShelfFault
+why_of_halt halt.OutFault = why.OutFault
+why_of_halt halt.ErrFault = why.ErrFault
+why_of_halt halt.NoMemory = why.NoMemory
+
+-- a fault of the disk, or want of memory
+abbrev pub IsOutside : Why → Type 0
+IsOutside why.DiskFault = Unit {0}
+IsOutside why.NoMemory = Unit {0}
+IsOutside others = ⊥
+
+-- why a database isn't opened to be changed
+abbrev pub IsOfOpening : Why → Type 0
+IsOfOpening (why.Damaged damage) = Unit {0}
+IsOfOpening (why.IndexFull needed) = Unit {0}
+IsOfOpening given = IsOutside given
+
+-- ---- from the opening to the last change
+
+-- an ending that comes before a commit
+abbrev pub is_halt : Why → Bool
+is_halt why.Done = false
+is_halt (why.Failed n) = false
+is_halt (why.Usage fault) = false
+is_halt (why.NotBuilt what) = false
+is_halt (why.BadFormat fault) = false
+is_halt (why.LogFull units) = false
+is_halt others = true
+
+-- stopped before its end; nothing was committed yet
+abbrev pub Stopped : Course → Why → Outputs → Outputs → Type 0
+Stopped course why.Done old new = ⊥
+Stopped course (why.Failed n) old new = ⊥
+Stopped course (why.LogFull units) old new = ⊥
+Stopped course given old new = Did course given old new
+
+-- all was done, and these files have the state after it; or it was stopped
+abbrev pub WorkedOn : Course → State → Files → Result Tally Why → Outputs → Outputs → Type 0
+WorkedOn course s new (Ok tally) before now = (value : Store) × (store new.pkg ≡ Ok value) × Done course s (state new.pkg value) tally before now
+WorkedOn course s new (Err given) before now = Stopped course given before now
+
+abbrev pub WorkedBy : (State → Course) → Units → Result Store Damage → Files → Result Tally Why → Outputs → Outputs → Type 0
+WorkedBy course pkg (Ok s) new ended before now = WorkedOn (course (state pkg s)) (state pkg s) new ended before now
+WorkedBy course pkg (Err damage) new (Ok tally) before now = ⊥
+WorkedBy course pkg (Err damage) new (Err given) before now = Refused damage given × Through [] before now
+
+-- done, of which so many arguments failed
+abbrev pub done_why : ℕ → Why
+done_why n = if n == 0 then why.Done else why.Failed n
+
+abbrev pub why_of : Result Tally Why → Why
+why_of (Ok tally) = done_why tally.failed
+why_of (Err given) = given
+
+-- from these files to those
+pub record Worked (course : State → Course) (old new : Files) (ended : Result Tally Why) (before now : Outputs) : Type 0 where
+  pub went : WorkedBy course old.pkg (store old.pkg) new ended before now
+  pub full : IsLawful old.pkg old.idx → FullOn course old (why_of ended)
+  pub index : IsLawful old.pkg old.idx → IfOk ended (λ tally. HasCurrent new.pkg new.idx)
+
+-- ---- how the group ends
+
+-- a commit that wasn't made: the disk or a write failed, or the log has no room
+abbrev pub IsUncommitted : Why → Type 0
+IsUncommitted why.DiskFault = Unit {0}
+IsUncommitted why.NoMemory = Unit {0}
+IsUncommitted (why.LogFull units) = Unit {0}
+IsUncommitted others = ⊥
+
+-- an ending that a commit makes, or one that is kept from before it
+abbrev pub is_of_commit : Why → Bool
+is_of_commit why.Done = true
+is_of_commit (why.Failed n) = true
+is_of_commit why.DiskFault = true
+is_of_commit why.NoMemory = true
+is_of_commit (why.LogFull units) = true
+is_of_commit others = false
+
+-- a fault of the shelf or of a sink
+abbrev pub is_of_streams : Why → Bool
+is_of_streams why.ShelfFault = true
+is_of_streams why.OutFault = true
+is_of_streams why.ErrFault = true
+is_of_streams others = false
+
+-- what a commit answers, once a command was done
+abbrev pub CommittedAs : Tally → Result (Unit {0}) CommitFault → Why → ℕ → Type 0
+CommittedAs tally (Ok done) given changes = (given ≡ done_why tally.failed) × (changes ≡ tally.changes)
+CommittedAs tally (Err (commit.LogFull needed)) given changes = (given ≡ why.LogFull needed) × (changes ≡ 0)
+CommittedAs tally (Err commit.DiskFault) given changes = (given ≡ why.DiskFault) × (changes ≡ 0)
+
+-- the changes count where they are committed; a fault of the disk is want of memory where a write found none
+abbrev pub EndsAs : Result Tally Why → Why → ℕ → Type 0
+EndsAs (Ok tally) given changes = ((given ≡ done_why tally.failed) × (changes ≡ tally.changes)) ⊎ ((changes ≡ 0) × IsUncommitted given)
+EndsAs (Err was) given changes = (changes ≡ 0) × ((given ≡ was) ⊎ ((was ≡ why.DiskFault) × (given ≡ why.NoMemory)))
+
+-- the files are those after a group, with a closed log, and no stop from now on leaves others
+pub record IsCommitted (after final : Files) (images : Files → Type 0) : Type 0 where
+  pub same : unlogged final ≡ after
+  pub closed : log_state final.log ≡ Closed
+  pub settled : AreSettled final images
+
+-- what a stop leaves meanwhile: the files before, or those after a group whose changes were all made
+abbrev pub GroupLeaves : Result Tally Why → Files → Files → Files → Type 0
+GroupLeaves (Ok tally) before after = BeforeOrAfter before after
+GroupLeaves (Err given) before after = ReopensAs before
+
+-- the group that makes these files of the disk's
+pub record EndsGroup {D : Type 0} (files : D → Files) (left_since : D → ℕ → Files → Type 0) (moment : D → ℕ) (ended : Result Tally Why) (given : Why)
+    (changes : ℕ) (after : Files) (old new : D) : Type 0 where
+  pub says : EndsAs ended given changes
+  pub done : is_done given ≡ true → IsCommitted after (files new) (left_since new (moment new))
+  pub stays : is_done_or_fault given ≡ false → files new ≡ files old
+  pub images : LeavesOnly moment left_since old new (GroupLeaves ended (unlogged (files old)) after)

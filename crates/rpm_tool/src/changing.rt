@@ -1,0 +1,286 @@
+//! Commands that change packages: all changes of a command line are one.
+
+ghost use Rattle.std.specs.Prelude.{◌≡◌, ◌≢◌, ◌⊎◌, ℕ, ◌^◌, ◌<◌, ◌≤◌, List, [], length, Bool, true, false, not, IsTrue, Ok, Err, IfOk, IfErr, OnOk};
+ghost use Rattle.rpm_outside.specs.Buffered.{inner, holds, HandsOn};
+ghost use Rattle.rpm_outside.specs.Causes.{HasCauseAt, Rose};
+ghost use Rattle.rpm_outside.specs.Changes.{AreSettled, IsSettled};
+ghost use Rattle.rpm_outside.specs.Logs.{Closed, log_state, unlogged};
+ghost use Rattle.rpm_pkgdb.specs.Store.{store};
+ghost use Rattle.rpm_db.specs.Changes.{IsServing};
+ghost use Rattle.rpm_db.specs.Database.{IsIndexed, is_blank, is_indexed};
+ghost use Rattle.rpm_db.specs.Lawful.{IsLawful};
+ghost use Rattle.rpm_db.specs.Runs.{Runs};
+ghost use Rattle.rpm_db.specs.State.{state};
+ghost use Rattle.rpm_db.specs.inner.Writes.{SameLog};
+ghost use Rattle.rpm_group.specs.Layers.{laid_files};
+ghost use Rattle.rpm_group.specs.Overlay.{overlay_below, overlay_held, overlay_starved};
+ghost use Rattle.rpm_change.specs.Endings.{outputs};
+ghost use Rattle.rpm_change.specs.Erasing as erasing;
+ghost use Rattle.rpm_tool.specs.Answers.{why_of_load, unless_starved, is_of_words};
+ghost use Rattle.rpm_tool.specs.Keyed.{why_of_recover, is_done};
+ghost use Rattle.rpm_tool.specs.Changing.{DidOn, ChangesBy};
+ghost use Rattle.rpm_tool.specs.Working.{OpensBy, IsOutside, IsOfOpening, Worked, CommittedAs, EndsGroup, is_halt, is_of_commit, is_of_streams, done_why, why_of_open, why_of_halt};
+
+use crate::answer::Why;
+use crate::keyed::why_of_recover;
+use crate::loaded::{unless_starved, why_of_load};
+use rpm_change::{Halt, Tally, erase_numbers};
+use rpm_db::{ChangeFault, Db, DbOpenFault};
+use rpm_group::{CommitFault, Overlay, recover};
+use rpm_outside::{Buffered, Disk, File, Sink};
+use std::alloc::Global;
+
+/// How a command that changes packages ended, and how many of its changes were made.
+#[derive(Clone, Copy, Debug, PartialEq, Eq)]
+pub struct Ending {
+    pub why: Why,
+    pub changes: u32,
+}
+
+/// The ending of a command whose database isn't opened.
+fn why_of_open(fault: DbOpenFault) -> Why
+    ensures { result ≡ why_of_open fault }
+{
+    match fault {
+        DbOpenFault::Damaged(damage) => Why::Damaged(damage),
+        DbOpenFault::IndexFull { needed } => Why::IndexFull { needed },
+        DbOpenFault::DiskFault => Why::DiskFault,
+        DbOpenFault::NoMemory => Why::NoMemory,
+    }
+}
+
+/// The ending of a command that was stopped.
+fn why_of_halt(halt: Halt) -> Why
+    ensures { result ≡ why_of_halt halt }
+{
+    match halt {
+        Halt::NumbersSpent => Why::NumbersSpent,
+        Halt::GenerationSpent => Why::GenerationSpent,
+        Halt::StoreFull => Why::StoreFull,
+        Halt::IndexFull { needed } => Why::IndexFull { needed },
+        Halt::BadIndex { unit } => Why::BadIndex { unit },
+        Halt::DiskFault => Why::DiskFault,
+        Halt::ShelfFault => Why::ShelfFault,
+        Halt::OutFault => Why::OutFault,
+        Halt::ErrFault => Why::ErrFault,
+        Halt::NoMemory => Why::NoMemory,
+    }
+}
+
+/// The ending of a command that was done.
+fn done_why(failed: u32) -> Why
+    ensures { result ≡ done_why failed }
+{
+    if failed == 0 {
+        Why::Done
+    } else {
+        Why::Failed(failed)
+    }
+}
+
+/// Makes a database where there is none, without packages.
+fn make_blank<D: Disk>(alloc: Global, db: &mut Db, disk: &mut D) -> Result<(), Why>
+    requires going { db.old.stopped ≡ false }
+    requires indexed { is_indexed db.old ≡ not (is_blank db.old) }
+    requires serving { IsTrue D.tells → IsServing (D.files disk.old) (D.left_since disk.old (D.moment disk.old)) db.old }
+    requires pkg { IsTrue D.tells → IsSettled File.Pkg (D.files disk.old) (D.left_since disk.old (D.moment disk.old)) }
+    ensures indexed { OnOk result (is_indexed db.new ≡ true) }
+    ensures going { OnOk result (db.new.stopped ≡ false) }
+    ensures serving { OnOk result (IsTrue D.tells → IsServing (D.files disk.new) (D.left_since disk.new (D.moment disk.new)) db.new) }
+    ensures state { OnOk result (IsTrue D.tells → state (D.files disk.new).pkg db.new.store ≡ state (D.files disk.old).pkg db.old.store) }
+    ensures rows { OnOk result (IsTrue D.tells → (is_blank db.old ≡ false → IsIndexed (D.files disk.old).pkg (D.files disk.old).idx db.old)
+        → IsIndexed (D.files disk.new).pkg (D.files disk.new).idx db.new) }
+    ensures fault { IfErr result IsOutside }
+    ensures runs { Runs D.tells D.files D.left_since D.moment D.bytes_read D.follows SameLog disk.old disk.new }
+    ensures disk { HasCauseAt (result ≡ Err Why.DiskFault) (D.faults disk.old) (D.faults disk.new) }
+{
+    match db.init(alloc, disk) {
+        Ok(true) => Ok(()),
+        Ok(false) => Ok(()),
+        Err(ChangeFault::DiskFault) => Err(Why::DiskFault),
+        Err(_) => Err(Why::NoMemory),
+    }
+}
+
+/// Opens the database with its index, to change it; where there is none, one is made.
+fn open_to_change<D: Disk>(alloc: Global, disk: &mut D) -> Result<Db, Why>
+    ensures opened { IsTrue D.tells → OpensBy (D.files disk.old) (store (D.files disk.old).pkg) (D.files disk.new) result }
+    ensures indexed { IfOk result (λ db. is_indexed db ≡ true) }
+    ensures going { IfOk result (λ db. db.stopped ≡ false) }
+    ensures serving { IfOk result (λ db. IsTrue D.tells → IsServing (D.files disk.new) (D.left_since disk.new (D.moment disk.new)) db) }
+    ensures rows { IfOk result (λ db. IsTrue D.tells → IsLawful (D.files disk.old).pkg (D.files disk.old).idx
+        → IsIndexed (D.files disk.new).pkg (D.files disk.new).idx db) }
+    ensures fault { IfErr result IsOfOpening }
+    ensures runs { Runs D.tells D.files D.left_since D.moment D.bytes_read D.follows SameLog disk.old disk.new }
+    ensures disk { HasCauseAt (result ≡ Err Why.DiskFault) (D.faults disk.old) (D.faults disk.new) }
+{
+    let mut db = match Db::open(alloc, disk) {
+        Ok(db) => db,
+        Err(fault) => return Err(why_of_open(fault)),
+    };
+    match make_blank(alloc, &mut db, disk) {
+        Ok(()) => Ok(db),
+        Err(why) => Err(why),
+    }
+}
+
+/// Opens the database and erases packages.
+fn erase_on<D: Disk, E: Sink + Drop>(
+    alloc: Global,
+    disk: &mut D,
+    numbers: &[u32],
+    err: &mut Buffered<E>,
+) -> Result<Tally, Why>
+    requires few { length numbers.now < 2 ^ 32 }
+    requires err_empty { holds err.old ≡ [] }
+    ensures worked { IsTrue D.tells → (out_tells : Bool) (out : List ℕ)
+        → Worked (λ s. erasing.erase s numbers.now) (D.files disk.old) (D.files disk.new) result
+        (outputs out_tells out E.tells (E.taken (inner err.old))) (outputs out_tells out E.tells (E.taken (inner err.new))) }
+    ensures runs { Runs D.tells D.files D.left_since D.moment D.bytes_read D.follows SameLog disk.old disk.new }
+    ensures halted { IfErr result (λ given. is_halt given ≡ true) }
+    ensures shelf { result ≢ Err Why.ShelfFault }
+    ensures out { result ≢ Err Why.OutFault }
+    ensures disk { HasCauseAt (result ≡ Err Why.DiskFault) (D.faults disk.old) (D.faults disk.new) }
+    ensures err { HasCauseAt (result ≡ Err Why.ErrFault) (E.faults (inner err.old)) (E.faults (inner err.new)) }
+    ensures err_rest { HandsOn E.follows err.old err.new }
+{
+    let mut db = match open_to_change(alloc, disk) {
+        Ok(db) => db,
+        Err(why) => return Err(why),
+    };
+    match erase_numbers(alloc, &mut db, disk, numbers, err) {
+        Ok(tally) => Ok(tally),
+        Err(halt) => Err(why_of_halt(halt)),
+    }
+}
+
+/// An ending that leaves everything as it was.
+fn unchanged(why: Why) -> Ending
+    ensures { result ≡ record { why = why; changes = 0 } }
+{
+    Ending { why, changes: 0 }
+}
+
+/// The ending of a command whose changes were to be committed: they count where they were.
+fn committed(tally: Tally, answer: Result<(), CommitFault>) -> Ending
+    ensures { CommittedAs tally answer result.why result.changes }
+{
+    match answer {
+        Ok(()) => Ending {
+            why: done_why(tally.failed),
+            changes: tally.changes,
+        },
+        Err(CommitFault::LogFull { needed }) => unchanged(Why::LogFull { needed }),
+        Err(CommitFault::DiskFault) => unchanged(Why::DiskFault),
+    }
+}
+
+/// Commits the changes of a command that was done, which count where that succeeds.
+fn commit_all<D: Disk>(overlay: Overlay<D>, tally: Tally) -> (Ending, D)
+    requires settled { IsTrue D.tells → AreSettled (D.files (overlay_below overlay)) (D.left_since (overlay_below overlay) (D.moment (overlay_below overlay))) }
+    requires closed { IsTrue D.tells → log_state (D.files (overlay_below overlay)).log ≡ Closed }
+    ensures ends { IsTrue D.tells → EndsGroup D.files D.left_since D.moment (Ok tally) result.0.why result.0.changes
+        (unlogged (laid_files (overlay_held overlay) (D.files (overlay_below overlay)))) (overlay_below overlay) result.1 }
+    ensures kinds { is_of_commit result.0.why ≡ true }
+    ensures goes_on { D.follows (overlay_below overlay) result.1 }
+    ensures disk { HasCauseAt (result.0.why ≡ Why.DiskFault) (D.faults (overlay_below overlay)) (D.faults result.1) }
+{
+    if overlay.is_starved() {
+        return (unchanged(Why::NoMemory), overlay.release());
+    }
+    let (disk, answer) = overlay.commit();
+    (committed(tally, answer), disk)
+}
+
+/// Ends a command on an overlay: its changes are committed where it was done, and else let go.
+fn end_group<D: Disk>(overlay: Overlay<D>, ended: Result<Tally, Why>) -> (Ending, D)
+    requires halted { IfErr ended (λ given. is_halt given ≡ true) }
+    requires settled { IsTrue D.tells → AreSettled (D.files (overlay_below overlay)) (D.left_since (overlay_below overlay) (D.moment (overlay_below overlay))) }
+    requires closed { IsTrue D.tells → log_state (D.files (overlay_below overlay)).log ≡ Closed }
+    ensures ends { IsTrue D.tells → EndsGroup D.files D.left_since D.moment ended result.0.why result.0.changes
+        (unlogged (laid_files (overlay_held overlay) (D.files (overlay_below overlay)))) (overlay_below overlay) result.1 }
+    ensures of_words { is_of_words result.0.why ≡ false }
+    ensures kept { is_of_streams result.0.why ≡ true → ended ≡ Err result.0.why }
+    ensures goes_on { D.follows (overlay_below overlay) result.1 }
+    ensures later { D.faults (overlay_below overlay) ≤ D.faults result.1 }
+    ensures disk { result.0.why ≡ Why.DiskFault → Rose (D.faults (overlay_below overlay)) (D.faults result.1)
+        ⊎ ((ended ≡ Err Why.DiskFault) × (overlay_starved overlay ≡ 0)) }
+{
+    match ended {
+        Ok(tally) => commit_all(overlay, tally),
+        Err(given) => {
+            let why = unless_starved(overlay.is_starved(), given);
+            (unchanged(why), overlay.release())
+        }
+    }
+}
+
+/// Erases packages of a database that is recovered.
+fn erase_recovered<D: Disk, E: Sink + Drop>(
+    alloc: Global,
+    disk: D,
+    numbers: &[u32],
+    err: &mut Buffered<E>,
+) -> (Ending, D)
+    requires few { length numbers.now < 2 ^ 32 }
+    requires err_empty { holds err.old ≡ [] }
+    requires settled { IsTrue D.tells → AreSettled (D.files disk) (D.left_since disk (D.moment disk)) }
+    requires closed { IsTrue D.tells → log_state (D.files disk).log ≡ Closed }
+    ensures went { IsTrue D.tells → (out_tells : Bool) (out : List ℕ) → DidOn (λ s. erasing.erase s numbers.now) (D.files disk) result.0.why
+        (outputs out_tells out E.tells (E.taken (inner err.old))) (outputs out_tells out E.tells (E.taken (inner err.new))) }
+    ensures changed { IsTrue D.tells → ChangesBy D.files D.left_since D.moment (λ s. erasing.erase s numbers.now) result.0.why result.0.changes disk result.1 }
+    ensures of_words { is_of_words result.0.why ≡ false }
+    ensures shelf { result.0.why ≢ Why.ShelfFault }
+    ensures out { result.0.why ≢ Why.OutFault }
+    ensures goes_on { D.follows disk result.1 }
+    ensures disk { HasCauseAt (result.0.why ≡ Why.DiskFault) (D.faults disk) (D.faults result.1) }
+    ensures err { HasCauseAt (result.0.why ≡ Why.ErrFault) (E.faults (inner err.old)) (E.faults (inner err.new)) }
+    ensures err_rest { HandsOn E.follows err.old err.new }
+{
+    match Overlay::load(alloc, disk) {
+        Ok(overlay) => {
+            let mut overlay = overlay;
+            let ended = erase_on(alloc, &mut overlay, numbers, err);
+            end_group(overlay, ended)
+        }
+        Err(refused) => (unchanged(why_of_load(refused.why)), refused.disk),
+    }
+}
+
+/// Finishes what a stop left of a change, and erases the packages of these numbers, one after the other and all as one change. A number
+/// that no package has at its turn has a line on `err`, and its argument fails; the others are erased. Where there is no database, one is made.
+///
+/// The changes are held in memory, over the disk, and committed behind the last number: a stop at any moment leaves all of them or none.
+/// The ending is `Done`, or `Failed` with how many arguments failed; only then are changes counted, and the index is current. Any other
+/// ending leaves what the files stand for as it was, `DiskFault` aside, behind which all changes or none are made: `BadLog` and `Damaged`,
+/// with the place; `GenerationSpent`; `IndexFull` exactly where the index must be made, or is changed, and needs too many units; `LogFull`
+/// where the log does; `BadIndex` never where the database is lawful; `DiskFault` and `ErrFault` only where that object's count of faults
+/// rose; and `NoMemory`. That a command line is one change is this project's own rule.
+///
+/// Of `Packages.db` it reads the slot pages, the blocks of all packages where the index must be made, and those of each package that is erased.
+/// It syncs three times before the changes and five times for them, and keeps a page of 4 KiB in memory for each 4 KiB that are written.
+pub fn erase<D: Disk, E: Sink + Drop>(
+    alloc: Global,
+    disk: D,
+    numbers: &[u32],
+    err: &mut Buffered<E>,
+) -> (Ending, D)
+    requires few { length numbers.now < 2 ^ 32 }
+    requires err_empty { holds err.old ≡ [] }
+    ensures went { IsTrue D.tells → (out_tells : Bool) (out : List ℕ) → DidOn (λ s. erasing.erase s numbers.now) (D.files disk) result.0.why
+        (outputs out_tells out E.tells (E.taken (inner err.old))) (outputs out_tells out E.tells (E.taken (inner err.new))) }
+    ensures changed { IsTrue D.tells → ChangesBy D.files D.left_since D.moment (λ s. erasing.erase s numbers.now) result.0.why result.0.changes disk result.1 }
+    ensures of_words { is_of_words result.0.why ≡ false }
+    ensures shelf { result.0.why ≢ Why.ShelfFault }
+    ensures out { result.0.why ≢ Why.OutFault }
+    ensures goes_on { D.follows disk result.1 }
+    ensures disk { HasCauseAt (result.0.why ≡ Why.DiskFault) (D.faults disk) (D.faults result.1) }
+    ensures err { HasCauseAt (result.0.why ≡ Why.ErrFault) (E.faults (inner err.old)) (E.faults (inner err.new)) }
+    ensures err_rest { HandsOn E.follows err.old err.new }
+{
+    let mut disk = disk;
+    match recover(&mut disk) {
+        Ok(_) => erase_recovered(alloc, disk, numbers, err),
+        Err(fault) => (unchanged(why_of_recover(fault)), disk),
+    }
+}
