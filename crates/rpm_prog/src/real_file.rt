@@ -15,6 +15,8 @@ pub struct RealFile {
     path: String,
     file: Option<fs::File>,
     can_write: bool,
+    // It was looked for, and wasn't there.
+    is_absent: bool,
     // It was made, and its folder wasn't synced since.
     is_new: bool,
     pub read: u64,
@@ -34,24 +36,31 @@ impl RealFile {
             path: format!(in alloc; "{folder}/{name}")?,
             file: None,
             can_write: false,
+            is_absent: false,
             is_new: false,
             read: 0,
         })
     }
 
-    /// Opens the file for reading, and says whether it is there.
+    /// Opens the file for reading, and says whether it is there. One that isn't there is looked for once.
     fn open_to_read<R: Files<File = fs::File>>(&mut self, rt: &R) -> io::Result<bool>
         ensures { self.new.read ≡ self.old.read }
     {
         if self.file.is_some() {
             return Ok(true);
         }
+        if self.is_absent {
+            return Ok(false);
+        }
         match fs::open(rt, self.path.as_str()) {
             Ok(file) => {
                 self.file = Some(file);
                 Ok(true)
             }
-            Err(error) if error.kind() == ErrorKind::NotFound => Ok(false),
+            Err(error) if error.kind() == ErrorKind::NotFound => {
+                self.is_absent = true;
+                Ok(false)
+            }
             Err(error) => Err(error),
         }
     }
@@ -68,6 +77,7 @@ impl RealFile {
         how.read(true).write(true).create(true);
         self.file = Some(how.open(rt, self.path.as_str())?);
         self.can_write = true;
+        self.is_absent = false;
         self.is_new = !is_there;
         Ok(())
     }
