@@ -10,83 +10,21 @@ ghost use Rattle.rpm_outside.specs.Browses.{left};
 ghost use Rattle.rpm_file.specs.Package.{package_header};
 ghost use Rattle.rpm_tool.specs.Steps.{bearer, whole, ToErr, fails, told};
 ghost use Rattle.rpm_tool.specs.Queries.{printed};
-ghost use Rattle.rpm_tool.specs.PackageFiles.{at_entry, header_text, file_text, refused_line, absent_line, read_part, file_part, query_files};
+ghost use Rattle.rpm_change.specs.Texts.{refused_line, absent_line};
+ghost use Rattle.rpm_tool.specs.PackageFiles.{read_part, file_part, query_files};
 ghost use Rattle.rpm_tool.specs.Answers.{outputs, stop_in, why_of_files, PartIs, Anywhere, Went, is_of_words};
 
 use crate::answer::Why;
 use crate::pieces::put_line;
 use crate::query::count;
 use crate::step::{Stop, print_header};
-use itoa::Buffer;
+use rpm_change::refused_line;
 use rpm_file::{FileFault, Package, read_package};
-use rpm_header::{HeaderFault, View};
+use rpm_header::View;
 use rpm_outside::{Absent, Buffered, Shelf, Sink};
 use rpm_qfparse::Format;
 use rpm_words::{Ask, Words};
-use std::alloc::{AllocError, Global};
-
-/// Adds what is told of an entry.
-fn push_entry(text: &mut Vec<u8>, entry: u32, what: &[u8]) -> Result<(), AllocError>
-    ensures { IfOk result (λ done. text.new.items ≡ text.old.items ++ at_entry entry what.now) }
-{
-    let mut digits = Buffer::new();
-    text.extend_from_slice(b"entry ")?;
-    text.extend_from_slice(digits.format(entry).as_bytes())?;
-    text.extend_from_slice(b": ")?;
-    text.extend_from_slice(what)
-}
-
-/// Adds what is told of a fault of a header.
-#[tactic(auto, unfolding(crate::specs::PackageFiles::header_text))]
-fn push_header_text(text: &mut Vec<u8>, fault: HeaderFault) -> Result<(), AllocError>
-    ensures { IfOk result (λ done. text.new.items ≡ text.old.items ++ header_text fault) }
-{
-    match fault {
-        HeaderFault::Short => text.extend_from_slice(b"header is cut short"),
-        HeaderFault::TooManyEntries => text.extend_from_slice(b"too many entries"),
-        HeaderFault::TooMuchData => text.extend_from_slice(b"too much data"),
-        HeaderFault::BadType(entry) => push_entry(text, entry, b"bad type"),
-        HeaderFault::BadOffset(entry) => push_entry(text, entry, b"bad offset"),
-        HeaderFault::BadCount(entry) => push_entry(text, entry, b"bad count"),
-        HeaderFault::NoEnd(entry) => push_entry(text, entry, b"text has no end"),
-        HeaderFault::BadRegion => text.extend_from_slice(b"bad region"),
-    }
-}
-
-/// Adds what is told of a fault of a package file.
-#[tactic(auto, unfolding(crate::specs::PackageFiles::file_text))]
-fn push_file_text(text: &mut Vec<u8>, fault: FileFault) -> Result<(), AllocError>
-    ensures { IfOk result (λ done. text.new.items ≡ text.old.items ++ file_text fault) }
-{
-    match fault {
-        FileFault::Short => text.extend_from_slice(b"file is cut short"),
-        FileFault::NotAPackage => text.extend_from_slice(b"not an rpm package"),
-        FileFault::BadMagic => text.extend_from_slice(b"bad header magic"),
-        FileFault::Signature(of) => {
-            text.extend_from_slice(b"signature header: ")?;
-            push_header_text(text, of)
-        }
-        FileFault::Main(of) => {
-            text.extend_from_slice(b"header: ")?;
-            push_header_text(text, of)
-        }
-        FileFault::TooLarge => text.extend_from_slice(b"header too large"),
-        FileFault::ReadFault | FileFault::NoMemory => Ok(()),
-    }
-}
-
-/// The line that a package file is refused.
-fn refused_line(alloc: Global, path: &[u8], fault: FileFault) -> Result<Vec<u8>, AllocError>
-    ensures { IfOk result (λ line. line.items ≡ refused_line path.now fault) }
-{
-    let mut line = Vec::new(alloc);
-    line.extend_from_slice(b"error: ")?;
-    line.extend_from_slice(path)?;
-    line.extend_from_slice(b": ")?;
-    push_file_text(&mut line, fault)?;
-    line.extend_from_slice(b"\n")?;
-    Ok(line)
-}
+use std::alloc::Global;
 
 /// Writes pieces of a line to err, for which the argument fails.
 fn put_failing<E: Sink + Drop>(err: &mut Buffered<E>, pieces: &[&[u8]]) -> Result<bool, Stop>

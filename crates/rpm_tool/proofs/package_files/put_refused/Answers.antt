@@ -2,7 +2,7 @@ use Rattle.std.proofs.Common.{◌≡◌, List, [], ◌++◌, ℕ, ◌∙◌, sub
 use Rattle.std.proofs.lemmas.List.{append-nil}
 use Rattle.rpm_outside.specs.Buffered.{inner}
 use Rattle.rpm_tool.specs.Steps.{ToErr, whole, fails}
-use Rattle.rpm_tool.specs.PackageFiles.{refused_line}
+use Rattle.rpm_change.specs.Texts.{refused_line}
 use Rattle.rpm_tool.specs.Answers.{outputs, Anywhere, PartIs}
 use Rattle.rpm_tool.proofs.package_files.put_refused.Goals as goal
 
