@@ -1,4 +1,5 @@
 pub mod Counts
+pub mod Fits
 pub mod Folders
 pub mod Memory
 pub mod Numbers

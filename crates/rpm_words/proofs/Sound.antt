@@ -1,7 +1,7 @@
 -- What is so of each command that words ask for.
 use Rattle.std.proofs.Common.{◌≡◌, ℕ, ◌<◌, ◌≤◌, List, [], ◌∷◌, Option, Some, None, Bool, true, false, cond, Result, Ok, Err, ◌&&◌, nat_le, length, drop, unwrap_or, refl, subst, lit≤, MatchResult, IfOk, arith}
 use Rattle.std.specs.Option.{IfSome}
-use Rattle.std.specs.List.{All, AllByRecursion, filter_map, cons_option, last_or}
+use Rattle.std.specs.List.{All, filter_map, cons_option, last_or}
 use Rattle.std.proofs.lemmas.List.Elements.{All-nil, All-cons, All-head, All-tail}
 use Rattle.std.proofs.lemmas.Grind.{common_steps}
 use Rattle.rpm_words.specs.declared.switch.Program.{Program}
@@ -22,8 +22,7 @@ use Rattle.rpm_words.specs.Number.{number, within_exercise}
 use Rattle.rpm_words.specs.Token.{said}
 use Rattle.rpm_words.specs.Seen.{printed_said, printed_in, exercise_said, exercise_in, seen}
 use Rattle.rpm_words.specs.Broken.{first_broken}
-use Rattle.rpm_words.specs.Ask.{AskParts, argument_said, argument_in, arguments, mode_of, format_printed, meant, fault_or, asked_by, IsSound, IsFit}
-use Rattle.rpm_words.specs.inner.Given.{fit_asked}
+use Rattle.rpm_words.specs.Ask.{AskParts, argument_said, argument_in, arguments, mode_of, format_printed, meant, fault_or, asked_by, IsSound}
 use Rattle.rpm_words.proofs.Within.{BeginsIn, IsWithin, all_within}
 
 cons_all : {Y : Type 0} (Q : Y → Type 0) (o : Option Y) (ys : List Y) → IfSome o Q → All Q ys → All Q (cons_option o ys)
@@ -136,9 +135,3 @@ pub read_sound : (program : Program) (words : List (List ℕ)) (r : Result AskPa
     MatchResult r (λ a. asked_by program words ≡ Ok a) (λ f. (f.kind ≡ NoMemory → ⊥) → asked_by program words ≡ Err f) → IfOk r (λ a. IsSound words a)
 read_sound program words (Ok a) h = asked_sound program words a h
 read_sound program words (Err f) h = tt
-
-pub read_fits : (program : Program) (words : List (List ℕ)) (r : Result AskParts WordsFault) →
-    MatchResult r (λ a. asked_by program words ≡ Ok a) (λ f. (f.kind ≡ NoMemory → ⊥) → asked_by program words ≡ Err f) →
-    IfOk r (λ a. a.mode ≡ mode.Query → AllByRecursion (IsFit words a.chosen) a.arguments)
-read_fits program words (Ok a) h = λ query. fit_asked program words a h query
-read_fits program words (Err f) h = tt

@@ -1,7 +1,7 @@
 -- The command that a command line asks for.
-use Rattle.std.specs.Prelude.{◌≡◌, ◌<◌, ◌≤◌, ℕ, List, Option, Some, None, Result, Ok, Err, Bool, true, false, length, unwrap_or}
+use Rattle.std.specs.Prelude.{◌≡◌, ◌<◌, ◌≤◌, ℕ, List, Option, Some, None, Result, Ok, Err, Bool, true, false, IsSome, length, take, unwrap_or}
 use Rattle.std.specs.Option.{option_map_or, IfSome}
-use Rattle.std.specs.List.{filter_map, All}
+use Rattle.std.specs.List.{filter_map, All, AllByRecursion}
 use Rattle.rpm_words.specs.declared.switch.Program.{Program}
 use Rattle.rpm_words.specs.declared.switch.Command.{Command}
 use Rattle.rpm_words.specs.declared.switch.Command.TheVariants.{Query, Addpkg, Replacepkg, Erasepkg, Verify, Initdb, Rebuilddb, Verifydb, Exportdb, Importdb, Exercise, Order, Checkfiles}
@@ -19,6 +19,7 @@ use Rattle.rpm_words.specs.declared.fault.WordsKind.TheVariants.{NoMode}
 use Rattle.rpm_words.specs.declared.ask.Mode.{Mode}
 use Rattle.rpm_words.specs.declared.ask.Mode.TheVariants as mode
 use Rattle.rpm_words.specs.Words.{text_at}
+use Rattle.rpm_words.specs.Number.{number}
 use Rattle.rpm_words.specs.Fault.{fault}
 use Rattle.rpm_words.specs.Token.{said}
 use Rattle.rpm_words.specs.Place.{program_of}
@@ -111,3 +112,12 @@ pub record IsSound (words : List (List ℕ)) (a : AskParts) : Type 0 where
 -- an argument of a query is what its selection wants
 abbrev pub IsFit : List (List ℕ) → Chosen → ℕ → Type 0
 IsFit words chosen word = argument_fault words (expected (query_takes chosen)) word ≡ None
+
+-- an argument is a package number
+abbrev pub IsNumber : List (List ℕ) → ℕ → Type 0
+IsNumber words word = IsSome (number (text_at words word))
+
+-- the package numbers among the arguments: each where packages are erased, and the first of two where one is replaced
+pub record HasNumbers (words : List (List ℕ)) (a : AskParts) : Type 0 where
+  pub erased : a.mode ≡ mode.Erasepkg → AllByRecursion (IsNumber words) a.arguments
+  pub replaced : a.mode ≡ mode.Replacepkg → (length a.arguments ≡ 2) × AllByRecursion (IsNumber words) (take 1 a.arguments)

@@ -5,7 +5,7 @@ ghost use Rattle.std.specs.List.{AllByRecursion};
 ghost use Rattle.rpm_words.specs.declared.fault.WordsKind.TheVariants.{NoMemory};
 ghost use Rattle.rpm_words.specs.Fault.{fault};
 ghost use Rattle.rpm_words.specs.Place.{program_of};
-ghost use Rattle.rpm_words.specs.Ask.{argument_in, arguments, mode_of, ask, asked_by, IsSound, IsFit};
+ghost use Rattle.rpm_words.specs.Ask.{argument_in, arguments, mode_of, ask, asked_by, IsSound, IsFit, HasNumbers};
 
 use crate::broken::first_broken;
 use crate::fault::{WordsFault, WordsKind};
@@ -229,7 +229,8 @@ fn read_options(alloc: Global, program: Program, words: &Words) -> Result<Ask, W
 ///
 /// Of a command that is read each argument is a word, an exercise is with 1 to 100,000 packages, and
 /// the place of a format lies in its word. Of a query each argument is what its selection wants: a
-/// number, a capability, or any text.
+/// number, a capability, or any text. What is erased are numbers, and what is replaced is one, with one
+/// file behind it.
 ///
 /// # Errors
 ///
@@ -246,6 +247,7 @@ fn read_options(alloc: Global, program: Program, words: &Words) -> Result<Ask, W
 pub fn read(alloc: Global, words: &Words) -> Result<Ask, WordsFault>
     ensures command { MatchResult result (λ a. ask words.now ≡ Ok a) (λ f. f.kind ≢ NoMemory → ask words.now ≡ Err f) }
     ensures sound { IfOk result (λ a. IsSound words.now a) }
+    ensures numbers { IfOk result (λ a. HasNumbers words.now a) }
     ensures fits { IfOk result (λ a. a.mode ≡ Mode.Query → AllByRecursion (IsFit words.now a.chosen) a.arguments) }
     ensures memory { MatchResult result (λ a. Unit {0}) (λ f. f.kind ≡ NoMemory → f.word ≡ 0) }
 {

@@ -14,7 +14,7 @@ fn line(alloc: Global, texts: &[&str]) -> Result<Words, AllocError> {
 
 #[test]
 fn the_first_broken_rule_is_told(rt: HostRuntime) -> Result<(), Fail> {
-    let cases: [(&[&str], WordsKind, u32); 52] = [
+    let cases: [(&[&str], WordsKind, u32); 57] = [
         (&[], WordsKind::NoMode, 0),
         (&["rpmx", "-qa"], WordsKind::NoMode, 0),
         (&["rpm"], WordsKind::NoMode, 1),
@@ -84,7 +84,12 @@ fn the_first_broken_rule_is_told(rt: HostRuntime) -> Result<(), Fail> {
         ),
         // Packages are verified with both options, and with no other.
         (&["rpm", "-Va"], WordsKind::MissingArgument, 2),
+        (&["rpm", "-V"], WordsKind::MissingArgument, 2),
         (&["rpm", "-V", "--nofiles"], WordsKind::MissingArgument, 3),
+        (&["rpm", "-Va", "x"], WordsKind::MissingArgument, 3),
+        (&["rpm", "-Va", "--noindex"], WordsKind::Misplaced, 2),
+        (&["rpm", "--nofiles"], WordsKind::NoMode, 2),
+        (&["rpmdb", "--checkfiles", "x"], WordsKind::ExtraArgument, 2),
         (&["rpm", "-qa", "--nofiles"], WordsKind::Misplaced, 2),
         (
             &["rpm", "-Va", "--nofiles", "x"],

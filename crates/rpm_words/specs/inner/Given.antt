@@ -1,6 +1,6 @@
--- Words that break no rule: none of the arguments of a query is at fault.
-use Rattle.std.proofs.Common.{◌≡◌, ℕ, List, [], ◌∷◌, ◌++◌, Option, Some, None, Ok, Err, refl, ap, ◌∙◌, subst}
-use Rattle.std.specs.Prelude.{unwrap_or}
+-- Words that break no rule: no argument is at fault, and there are as many as the command takes.
+use Rattle.std.proofs.Common.{◌≡◌, ℕ, List, [], ◌∷◌, Option, Some, None, Ok, Err, Bool, true, false, ◌||◌, length, refl, sym, subst}
+use Rattle.std.specs.Prelude.{unwrap_or, nat_lt, if◌then◌else◌}
 use Rattle.std.specs.Option.{option_map_or}
 use Rattle.std.specs.List.{filter_map, cons_option, AllByRecursion}
 use Rattle.rpm_words.specs.declared.switch.Program.{Program}
@@ -11,55 +11,29 @@ use Rattle.rpm_words.specs.declared.switch.Chosen.TheVariants as by
 use Rattle.rpm_words.specs.declared.token.Token.{Token}
 use Rattle.rpm_words.specs.declared.seen.Seen.{Seen}
 use Rattle.rpm_words.specs.declared.fault.WordsFault.{WordsFault}
-use Rattle.rpm_words.specs.declared.fault.WordsKind.TheVariants.{NoMode}
+use Rattle.rpm_words.specs.declared.fault.WordsKind.TheVariants.{NoMode, MissingArgument}
 use Rattle.rpm_words.specs.declared.takes.Takes.{Takes}
+use Rattle.rpm_words.specs.declared.ask.Mode.{Mode}
 use Rattle.rpm_words.specs.declared.ask.Mode.TheVariants as mode
 use Rattle.rpm_words.specs.Command.{head}
-use Rattle.rpm_words.specs.Takes.{query_takes, takes, expected, checked}
+use Rattle.rpm_words.specs.Takes.{query_takes, takes, fewest, expected, checked}
 use Rattle.rpm_words.specs.Fault.{fault, first_told}
 use Rattle.rpm_words.specs.Token.{said}
 use Rattle.rpm_words.specs.Place.{program_of}
 use Rattle.rpm_words.specs.Seen.{seen}
-use Rattle.rpm_words.specs.Broken.{argument_fault, early_fault, no_value, no_mode, misplaced, too_few, too_many, bad_argument, broken_by, first_broken}
+use Rattle.rpm_words.specs.Broken.{argument_fault, early_fault, no_value, no_mode, misplaced, lacks_option, too_few, too_many, bad_argument, broken_by, first_broken}
+use Rattle.rpm_words.specs.inner.Commands.{command_in, command_back}
 use Rattle.rpm_words.specs.Ask.{AskParts, arguments, mode_of, meant, fault_or, asked_by, ask, IsFit}
 
--- where no rule is broken, the last is not
-last_none : (os : List (Option WordsFault)) (o : Option WordsFault) → first_told (os ++ o ∷ []) ≡ None → o ≡ None
-last_none [] None is = refl
-last_none [] (Some f) is = absurd cc
-last_none (None ∷ os) o is = last_none os o is
-last_none (Some f ∷ os) o is = absurd cc
+-- where none is told there is none
+each_untold : (os : List (Option WordsFault)) → first_told os ≡ None → AllByRecursion (λ o. o ≡ None) os
+each_untold [] is = tt
+each_untold (None ∷ os) is = (refl, each_untold os is)
+each_untold (Some f ∷ os) is = absurd cc
 
 fault_free : (o : Option WordsFault) (a b : AskParts) → fault_or o a ≡ Ok b → (o ≡ None) × (a ≡ b)
 fault_free None a b is = (refl, cc)
 fault_free (Some f) a b is = absurd cc
-
-query_command : (c : Command) (n : ℕ) → mode_of c n ≡ mode.Query → c ≡ command.Query
-query_command command.Query n is = refl
-query_command command.Addpkg n is = absurd cc
-query_command command.Replacepkg n is = absurd cc
-query_command command.Erasepkg n is = absurd cc
-query_command command.Verify n is = absurd cc
-query_command command.Initdb n is = absurd cc
-query_command command.Rebuilddb n is = absurd cc
-query_command command.Verifydb n is = absurd cc
-query_command command.Exportdb n is = absurd cc
-query_command command.Importdb n is = absurd cc
-query_command command.Exercise n is = absurd cc
-query_command command.Order n is = absurd cc
-query_command command.Checkfiles n is = absurd cc
-
--- the arguments are the last that are looked at
-bad_none : (words : List (List ℕ)) (tokens : List Token) (s : Seen) (args : List ℕ) (c : Command) (taken : Takes)
-    → broken_by words tokens s args c taken ≡ None → bad_argument words (expected taken) (checked taken args) ≡ None
-bad_none words tokens s args c taken is = last_none (
-    early_fault words s.command s.chosen tokens
-    ∷ no_value words s.last
-    ∷ no_mode words s.command
-    ∷ misplaced c tokens
-    ∷ too_few words c s taken args
-    ∷ too_many taken args
-    ∷ []) (bad_argument words (expected taken) (checked taken args)) is
 
 each_by : (f : ℕ → Option WordsFault) (x : ℕ) (xs : List ℕ) (o : Option WordsFault) → f x ≡ o
     → (head (filter_map f xs) ≡ None → AllByRecursion (λ y. f y ≡ None) xs) → head (cons_option o (filter_map f xs)) ≡ None
@@ -70,6 +44,52 @@ each_by f x xs (Some fault) e rest is = absurd cc
 each_none : (f : ℕ → Option WordsFault) (xs : List ℕ) → head (filter_map f xs) ≡ None → AllByRecursion (λ x. f x ≡ None) xs
 each_none f [] is = tt
 each_none f (x ∷ xs) is = each_by f x xs (f x) refl (each_none f xs) is
+
+-- arguments break none of the rules on what a command takes
+pub record Keeps (words : List (List ℕ)) (args : List ℕ) (taken : Takes) : Type 0 where
+  pub enough : nat_lt (length args) (fewest taken) ≡ false
+  pub no_more : too_many taken args ≡ None
+  pub good : AllByRecursion (λ w. argument_fault words (expected taken) w ≡ None) (checked taken args)
+
+neither : (a b : Bool) (f : WordsFault) → (if a || b then Some f else None) ≡ None → b ≡ false
+neither false false f is = refl
+neither false true f is = absurd cc
+neither true b f is = absurd cc
+
+kept_by : (words : List (List ℕ)) (tokens : List Token) (s : Seen) (args : List ℕ) (c : Command) (taken : Takes)
+    → broken_by words tokens s args c taken ≡ None → Keeps words args taken
+unfolding bad_argument
+kept_by words tokens s args c taken is =
+    let each = each_untold (
+    early_fault words s.command s.chosen tokens
+    ∷ no_value words s.last
+    ∷ no_mode words s.command
+    ∷ misplaced c tokens
+    ∷ too_few words c s taken args
+    ∷ too_many taken args
+    ∷ bad_argument words (expected taken) (checked taken args)
+    ∷ []) is in
+    record {
+      enough = neither (lacks_option c s) (nat_lt (length args) (fewest taken)) (fault MissingArgument (length words)) each.1.1.1.1.0;
+      no_more = each.1.1.1.1.1.0;
+      good = each_none (argument_fault words (expected taken)) (checked taken args) each.1.1.1.1.1.1.0;
+    }
+
+-- the arguments of a command are as many as it takes, and what they have to be
+pub kept_asked : (program : Program) (words : List (List ℕ)) (a : AskParts) → asked_by program words ≡ Ok a
+    → Keeps words a.arguments (takes (command_in a.mode) a.chosen)
+unfolding asked_by first_broken
+kept_asked program words a is =
+    let tokens = said program words in
+    let s = seen words tokens in
+    let args = arguments tokens in
+    let c = unwrap_or s.command command.Query in
+    let chosen = unwrap_or s.chosen by.Label in
+    let parts = fault_free (first_broken words tokens s args) (meant s args) a is in
+    let own : Keeps words args (takes c chosen) = kept_by words tokens s args c (takes c chosen) parts.0 in
+    let back : command_in (mode_of c (unwrap_or s.exercise 1)) ≡ c = command_back c (unwrap_or s.exercise 1) in
+    subst (λ (x : AskParts). Keeps words x.arguments (takes (command_in x.mode) x.chosen)) parts.1
+    (subst (λ (k : Command). Keeps words args (takes k chosen)) (sym back) own)
 
 all_checked : (c : Chosen) (args : List ℕ) → checked (query_takes c) args ≡ args
 all_checked by.Label args = refl
@@ -89,22 +109,10 @@ all_checked by.Recommends args = refl
 
 pub fit_asked : (program : Program) (words : List (List ℕ)) (a : AskParts) → asked_by program words ≡ Ok a → a.mode ≡ mode.Query
     → AllByRecursion (IsFit words a.chosen) a.arguments
-unfolding asked_by first_broken bad_argument
 fit_asked program words a is query =
-    let tokens = said program words in
-    let s = seen words tokens in
-    let args = arguments tokens in
-    let c = unwrap_or s.command command.Query in
-    let chosen = unwrap_or s.chosen by.Label in
-    let parts = fault_free (first_broken words tokens s args) (meant s args) a is in
-    let queries : c ≡ command.Query = query_command c (unwrap_or s.exercise 1) (ap (λ (x : AskParts). x.mode) parts.1 ∙ query) in
-    let bad = bad_none words tokens s args c (takes c chosen) parts.0 in
-    let own : bad_argument words (expected (query_takes chosen)) (checked (query_takes chosen) args) ≡ None =
-    subst (λ (k : Command). bad_argument words (expected (takes k chosen)) (checked (takes k chosen) args) ≡ None) queries bad in
-    let all : bad_argument words (expected (query_takes chosen)) args ≡ None =
-    subst (λ (xs : List ℕ). bad_argument words (expected (query_takes chosen)) xs ≡ None) (all_checked chosen args) own in
-    subst (λ (x : AskParts). AllByRecursion (IsFit words x.chosen) x.arguments) parts.1
-    (each_none (argument_fault words (expected (query_takes chosen))) args all)
+    let own : Keeps words a.arguments (query_takes a.chosen) =
+    subst (λ (m : Mode). Keeps words a.arguments (takes (command_in m) a.chosen)) query (kept_asked program words a is) in
+    subst (λ (xs : List ℕ). AllByRecursion (IsFit words a.chosen) xs) (all_checked a.chosen a.arguments) own.good
 
 by_program : (words : List (List ℕ)) (a : AskParts) (p : Option Program)
     → option_map_or (λ program. asked_by program words) p (Err (fault NoMode 0)) ≡ Ok a → a.mode ≡ mode.Query
