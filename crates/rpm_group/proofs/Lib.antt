@@ -14,3 +14,4 @@ pub mod LoggedLaws
 pub mod Entering
 pub mod Orders
 pub mod Committing
+pub mod Longest

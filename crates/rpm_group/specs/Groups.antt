@@ -1,5 +1,5 @@
 -- A group of changes: what is held of the two files.
-use Rattle.std.specs.Prelude.{◌≡◌, ◌⊎◌, ℕ, ◌+◌, Bool, IsTrue}
+use Rattle.std.specs.Prelude.{◌≡◌, ◌⊎◌, ℕ, ◌+◌, ◌*◌, Bool, IsTrue, length}
 use Rattle.rpm_outside.specs.Crash.{Untouched}
 use Rattle.rpm_outside.specs.declared.disk.File.{File}
 use Rattle.rpm_outside.specs.Files.{Files}
@@ -25,6 +25,10 @@ held_units held = held_of held.pkg + held_of held.idx + held_of held.log
 -- how many units a log takes for a group: the gate, a head for each run, and the units
 abbrev pub needed : Layers → ℕ
 needed held = 1 + units_of_log held.pkg + units_of_log held.idx
+
+-- no log of a group that leaves these files is longer: the gate, and for each of their units itself and a head
+abbrev pub longest_log : Files → ℕ
+longest_log files = 1 + 2 * length files.pkg + 2 * length files.idx
 
 -- an image stands for the files before or after, and its log isn't malformed
 abbrev pub BeforeOrAfter : Files → Files → Files → Type 0

@@ -12,7 +12,7 @@ ghost use Rattle.rpm_group.specs.inner.Logged.{CoversHeld};
 ghost use Rattle.rpm_group.specs.Orders.{IsLogged};
 ghost use Rattle.rpm_group.specs.inner.Behind.{KeepsBehind};
 ghost use Rattle.rpm_group.specs.inner.Leavings.{WasWithin};
-ghost use Rattle.rpm_group.specs.Groups.{runs_of, units_of_log, needed, BeforeOrAfter, Unwritten};
+ghost use Rattle.rpm_group.specs.Groups.{runs_of, units_of_log, needed, longest_log, BeforeOrAfter, Unwritten};
 ghost use Rattle.rpm_group.specs.inner.Grouped.{with_held, IsGroup, IsTail};
 ghost use Rattle.rpm_group.specs.Commits.{IsFull, CommitSays};
 ghost use Rattle.rpm_group.specs.Layers.{laid_files};
@@ -195,7 +195,8 @@ impl<D: Disk> Overlay<D> {
     ///
     /// # Errors
     ///
-    /// `LogFull` exactly where the log would be longer than a file can be; nothing is written then. `DiskFault` only where the
+    /// `LogFull` exactly where the log would be longer than a file can be, which takes two files of the overlay that together have
+    /// half as many units; nothing is written then. `DiskFault` only where the
     /// count of faults of the disk below rose; the disk stands then for its files before or for those of the overlay, as does each
     /// image that a stop since the start may leave, and none of them has a malformed log.
     pub fn commit(self) -> (D, Result<(), CommitFault>)
@@ -211,6 +212,7 @@ impl<D: Disk> Overlay<D> {
             (BeforeOrAfter (unlogged (D.files (overlay_below self))) (unlogged (laid_files (overlay_held self) (D.files (overlay_below self))))) }
         ensures says { CommitSays (2 ^ 28) (needed (overlay_held self)) result.1 }
         ensures full { 2 ^ 28 < needed (overlay_held self) → IsFull (needed (overlay_held self)) result.1 }
+        ensures longest { needed (overlay_held self) ≤ longest_log (laid_files (overlay_held self) (D.files (overlay_below self))) }
         ensures idle { needed (overlay_held self) ≡ 1 → Unwritten D.tells D.files D.left_since D.moment D.bytes_read (overlay_below self) result.0 }
         ensures unwritten { IsFull (needed (overlay_held self)) result.1 → Unwritten D.tells D.files D.left_since D.moment D.bytes_read
             (overlay_below self) result.0 }
