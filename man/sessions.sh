@@ -23,7 +23,7 @@ sessions() {
 # A shell's text that runs each command of a session, and writes it and what it prints.
 script() {
     awk '
-        /^\$ / { told = 1; line = substr($0, 3); copy = line; gsub(/\047/, "\047\\\047\047", copy); printf "printf \"%%s\\n\" \047$ %s\047\n{ %s\n} 2>&1 || true\n", copy, line }
+        /^\$ / { line = substr($0, 3); copy = line; gsub(/\047/, "\047\\\047\047", copy); printf "printf \"%%s\\n\" \047$ %s\047\n{ %s\n} 2>&1 || true\n", copy, line }
     '
 }
 
@@ -31,8 +31,8 @@ for file in README.md man/*.8; do
     rm -rf "$room/run"
     mkdir "$room/run"
     cp -r example "$room/run/example"
-    # (a line of no session is one of a block that no command begins)
-    sessions "$file" | awk '/^\$ / { told = 1 } told' | sed '/^\.\/install\.sh/d; /^rt ci/d' > "$room/wanted"
+    # (what stands before the first command is of no session: how to install, how to test)
+    sessions "$file" | awk '/^\$ / { told = 1 } told' > "$room/wanted"
     script < "$room/wanted" > "$room/script"
     (cd "$room/run" && PATH="$bin:$PATH" sh "$room/script" > "$room/printed" < /dev/null) || true
     if ! diff -u "$room/wanted" "$room/printed"; then
