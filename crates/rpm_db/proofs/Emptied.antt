@@ -61,7 +61,7 @@ blank_is file value is none = elim (cases_Bool (is_blank file)) [
 ]
 
 -- no package, whatever the file
-unused : (file : Units) (n : ℕ) → map (entry_of file) (filter is_used (replicate n free)) ≡ []
+pub unused : (file : Units) (n : ℕ) → map (entry_of file) (filter is_used (replicate n free)) ≡ []
 unused file zero = refl
 unused file (suc n) = unused file n
 

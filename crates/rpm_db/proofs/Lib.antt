@@ -8,6 +8,7 @@ pub mod Emptied
 pub mod EmptyStops
 pub mod Results
 pub mod States
+pub mod Stays
 pub mod Raised
 pub mod SealedRows
 pub mod Changed

@@ -175,9 +175,10 @@ impl Db {
         self.store.is_blank()
     }
 
-    /// Whether an index is kept.
+    /// Whether an index is kept. No blank database has one.
     pub fn is_indexed(&self) -> bool
-        ensures { result ≡ is_indexed self.now }
+        ensures kept { result ≡ is_indexed self.now }
+        ensures not_blank { is_indexed self.now ≡ true → is_blank self.now ≡ false }
     {
         self.index.is_some()
     }

@@ -9,7 +9,7 @@ ghost use Rattle.rpm_outside.specs.declared.disk.File.TheVariants.{Pkg};
 ghost use Rattle.rpm_pkgdb.specs.Planned.{IsFull};
 ghost use Rattle.rpm_hindex.specs.Sizes.{units_for};
 ghost use Rattle.rpm_db.specs.Changes.{Add, Put, Erase, apply, AllSay, IsChangedStill, IsServing, ReadsAtMost, with_room};
-ghost use Rattle.rpm_db.specs.Database.{IsIndexed, holds, is_indexed, next_number, cost};
+ghost use Rattle.rpm_db.specs.Database.{IsIndexed, holds, is_blank, is_indexed, next_number, cost};
 ghost use Rattle.rpm_db.specs.Lawful.{AreLawful};
 ghost use Rattle.rpm_db.specs.Refusals.{LaterIs, AddIs, PutIs, EraseIs, FullIndexIs, BadIndexIs, IsRefusal, is_stopping};
 ghost use Rattle.rpm_db.specs.Room.{RoomIs, next_store};
@@ -56,6 +56,7 @@ impl Db {
             (D.left_since disk.new (D.moment disk.new))) }
         ensures generation { OnOk result (self.new.store.generation ≡ self.old.store.generation + 1) }
         ensures indexed { is_indexed self.new ≡ true }
+        ensures not_blank { is_blank self.new ≡ false }
         ensures index { OnOk result (IsTrue D.tells → IsIndexed (D.files disk.old).pkg (D.files disk.old).idx self.old → IsIndexed (D.files disk.new).pkg
             (D.files disk.new).idx self.new) }
         ensures full { IsTrue D.tells → IsIndexed (D.files disk.old).pkg (D.files disk.old).idx self.old → FullIndexIs (units_for (rows
@@ -123,6 +124,7 @@ impl Db {
             (state (D.files disk.old).pkg self.old.store)) (D.left_since disk.new (D.moment disk.new))) }
         ensures generation { OnOk result (self.new.store.generation ≡ self.old.store.generation + 1) }
         ensures indexed { is_indexed self.new ≡ true }
+        ensures not_blank { is_blank self.new ≡ false }
         ensures index { OnOk result (IsTrue D.tells → IsIndexed (D.files disk.old).pkg (D.files disk.old).idx self.old → IsIndexed (D.files disk.new).pkg
             (D.files disk.new).idx self.new) }
         ensures full { IsTrue D.tells → self.old.stopped ≡ false → IsIndexed (D.files disk.old).pkg (D.files disk.old).idx self.old → (h : Header)
@@ -191,6 +193,7 @@ impl Db {
             (state (D.files disk.old).pkg self.old.store)) (D.left_since disk.new (D.moment disk.new))) }
         ensures generation { OnOk result (self.new.store.generation ≡ self.old.store.generation + 1) }
         ensures indexed { is_indexed self.new ≡ true }
+        ensures not_blank { is_blank self.new ≡ false }
         ensures index { OnOk result (IsTrue D.tells → IsIndexed (D.files disk.old).pkg (D.files disk.old).idx self.old → IsIndexed (D.files disk.new).pkg
             (D.files disk.new).idx self.new) }
         ensures full { IsTrue D.tells → self.old.stopped ≡ false → IsIndexed (D.files disk.old).pkg (D.files disk.old).idx self.old → (h : Header)
@@ -254,6 +257,7 @@ impl Db {
             (D.left_since disk.new (D.moment disk.new))) }
         ensures generation { OnOk result (self.new.store.generation ≡ self.old.store.generation + 1) }
         ensures indexed { is_indexed self.new ≡ true }
+        ensures not_blank { is_blank self.new ≡ false }
         ensures index { OnOk result (IsTrue D.tells → IsIndexed (D.files disk.old).pkg (D.files disk.old).idx self.old → IsIndexed (D.files disk.new).pkg
             (D.files disk.new).idx self.new) }
         ensures full { IsTrue D.tells → self.old.stopped ≡ false → IsIndexed (D.files disk.old).pkg (D.files disk.old).idx self.old

@@ -10,7 +10,7 @@ ghost use Rattle.rpm_pkgdb.specs.Store as pkgdb;
 ghost use Rattle.rpm_hindex.specs.Rewrites.{IsRefused};
 ghost use Rattle.rpm_hindex.specs.Sizes.{units_for};
 ghost use Rattle.rpm_db.specs.Changes.{IsServing};
-ghost use Rattle.rpm_db.specs.Database.{Keeps, KeepsIndex, KeepsUnits, IsInOrder, IsIndexed, is_indexed, cost_all};
+ghost use Rattle.rpm_db.specs.Database.{Keeps, KeepsIndex, KeepsUnits, IsInOrder, IsIndexed, is_blank, is_indexed, cost_all};
 ghost use Rattle.rpm_db.specs.Lawful.{IsIndexOf, Remade, StaysLawful};
 ghost use Rattle.rpm_db.specs.Openings.{FullIs};
 ghost use Rattle.rpm_db.specs.Rebuilds.{IsRebuilt, RebuildIs};
@@ -81,6 +81,7 @@ impl Db {
         ensures store { self.new.store ≡ self.old.store }
         ensures generation { self.new.store.generation ≡ self.old.store.generation }
         ensures indexed { is_indexed self.new ≡ true }
+        ensures not_blank { is_blank self.new ≡ false }
         ensures stopped { (self.new.stopped ≡ true → (self.old.stopped ≡ true) ⊎ (result ≡ Err ChangeFault.DiskFault))
             × (result ≡ Err ChangeFault.DiskFault → self.new.stopped ≡ true) }
         ensures pkg { OnOk result (IsTrue D.tells → IsSettled Pkg (D.files disk.new) (D.left_since disk.new (D.moment disk.new))) }

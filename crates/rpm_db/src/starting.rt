@@ -19,6 +19,7 @@ ghost use Rattle.rpm_db.specs.Database.{Keeps, KeepsIndex, IsIndexed, is_blank, 
 ghost use Rattle.rpm_db.specs.Inits.{IsEmptyStill, IsInitFault};
 ghost use Rattle.rpm_db.specs.Lawful.{IsIndexOf, Remade};
 ghost use Rattle.rpm_db.specs.Runs.{Runs};
+ghost use Rattle.rpm_db.specs.State.{state};
 ghost use Rattle.rpm_db.specs.inner.Writes.{SameLog};
 
 use crate::change::ChangeFault;
@@ -95,7 +96,8 @@ pub fn make_files<D: Disk>(
 }
 
 impl Db {
-    /// Makes a database where there is none yet, and its index, and answers whether it did.
+    /// Makes a database where there is none yet, and its index, and answers whether it did. What it says stays: no package, and the
+    /// number field 1.
     ///
     /// Writes the index without rows and settles it, then the first page, and then the seal; reads two units of `Hindex.db`, and takes all
     /// memory before the first write. A stop at any moment leaves a blank database, or one that is made and empty.
@@ -111,6 +113,8 @@ impl Db {
             (D.left_since disk.old (D.moment disk.old)) }
         ensures made { IfOk result (λ made. made ≡ is_blank self.old) }
         ensures done { result ≡ Ok true → (self.new.store ≡ made_new self.old.store) × (is_indexed self.new ≡ true) × (self.new.stopped ≡ false) }
+        ensures state { IfOk result (λ _made. IsTrue D.tells → state (D.files disk.new).pkg self.new.store ≡ state (D.files disk.old).pkg self.old.store) }
+        ensures not_blank { IfOk result (λ _made. is_blank self.new ≡ false) }
         ensures generation { result ≡ Ok true → self.new.store.generation ≡ 1 }
         ensures same { result ≡ Ok false → (self.new ≡ self.old) × (disk.new ≡ disk.old) }
         ensures kept { result ≡ Ok true → IsTrue D.tells → Keeps (D.files disk.new).pkg self.new × KeepsIndex (D.files disk.new).idx self.new }

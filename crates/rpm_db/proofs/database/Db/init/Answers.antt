@@ -1,7 +1,12 @@
-use Rattle.std.proofs.Common.{◌≡◌, ℕ, Some, refl, ap, ◌∙◌}
+use Rattle.std.proofs.Common.{◌≡◌, ℕ, Some, false, refl, sym, ap, ◌∙◌, arith}
+use Rattle.std.proofs.lemmas.Grind.{common_steps}
 use Rattle.rpm_hindex.specs.State as hindex
 use Rattle.rpm_pkgdb.specs.Store.{Store}
+use Rattle.rpm_pkgdb.specs.Written.{made_new}
+use Rattle.rpm_db.specs.Database.{Database}
+use Rattle.rpm_db.specs.State.{state}
 use Rattle.rpm_db.proofs.Rebuilt.{indexed_now}
+use Rattle.rpm_db.proofs.Stays.{state_made}
 use Rattle.rpm_db.proofs.database.Db.init.Goals as goal
 
 pub returns-in-Ok-clause-index : goal.returns-in-Ok-clause-index
@@ -11,3 +16,14 @@ returns-in-Ok-clause-index g c = λ is told.
     let one : c.make_files.new.store.generation ≡ 1 = ap (λ (s : Store). s.generation) e.made in
     indexed_now new.pkg new.idx c.make_files.new.store (Some c.in-Ok.index) c.self.inside.is_stopped (e.kept told) refl
     (ap (λ (n : ℕ). hindex.is_current n c.in-Ok.index) one ∙ e.current) (e.units told) (e.index told)
+
+pub returns-in-Ok-clause-state : goal.returns-in-Ok-clause-state
+returns-in-Ok-clause-state g c = λ told.
+    let old = g.D.Disk.files c.args.disk.now in
+    let new = g.D.Disk.files c.make_files.new.disk in
+    let value : Store = c.args.self.now.store in
+    let same : c.self.inside.store ≡ value = ap (λ (db : Database). db.store) c.self.view_is in
+    let going : c.args.self.now.stopped ≡ false = sym (ap (λ (db : Database). db.stopped) c.self.view_is) ∙ c.if-self.false in
+    let none : c.self.inside.store.pages ≡ 0 = grind (arith, common_steps, c.is_blank.ensures, c.if-not-is_blank.false) in
+    ap (state new.pkg) (c.in-Ok.ensures.made ∙ ap made_new same)
+    ∙ state_made old.pkg new.pkg value (c.requires.keeps going told) (sym (ap (λ (s : Store). s.pages) same) ∙ none)
