@@ -5,5 +5,6 @@ pub mod Fronts
 pub mod Laws
 pub mod Numbers
 pub mod RangeLaws
+pub mod Senses
 pub mod Steps
 pub mod Words

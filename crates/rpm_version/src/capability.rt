@@ -1,10 +1,11 @@
 //! The capabilities that a command line names.
 
-ghost use Rattle.std.specs.Prelude.{◌≡◌, ◌≤◌, ◌∷◌, [], MatchOption, drop, length};
+ghost use Rattle.std.specs.Prelude.{◌≡◌, ◌==◌, ◌≤◌, ◌∷◌, [], ℕ, List, MatchOption, drop, length};
 ghost use Rattle.std.specs.List.{prefix_len, position_or_len};
 ghost use Rattle.rpm_version.specs.Capability.{is_blank, words, sense, capability};
+ghost use Rattle.rpm_version.specs.Range.{is_open, overlaps};
 
-use crate::range::{EQUAL, GREATER, LESS};
+use crate::range::{EQUAL, GREATER, LESS, SENSE, is_open};
 use std::marker::Model;
 
 /// A text is no capability.
@@ -104,6 +105,25 @@ impl<'a> Capability<'a> {
         }
         let flags = sense_of(sign).ok_or(BadCapability)?;
         Ok(Capability { name, flags, evr })
+    }
+
+    /// The capability that a package needs, by its name and by the range that its flags and its version give: a plain name where every
+    /// version is in that range. It overlaps what the range overlaps. Copies nothing.
+    pub fn of_range(name: &'a [u8], flags: u64, version: &'a [u8]) -> Self
+        ensures name { result.name ≡ name.now }
+        ensures plain { (result.flags == 0) ≡ is_open flags version.now }
+        ensures same { (f : ℕ) (v : List ℕ) → overlaps f v result.flags result.evr ≡ overlaps f v flags version.now }
+    {
+        let bits = if is_open(flags, version) {
+            0
+        } else {
+            (flags & SENSE) as u32
+        };
+        Capability {
+            name,
+            flags: bits,
+            evr: version,
+        }
     }
 
     /// The first word.

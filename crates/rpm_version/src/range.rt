@@ -23,9 +23,12 @@ fn has(flags: u64, sense: u32) -> bool
     flags & u64::from(sense) != 0
 }
 
+/// The bits of flags that say a sense.
+pub const SENSE: u64 = 14;
+
 /// Whether every version is in a range: it has no sense, or no version.
 #[tactic(auto, unfolding(crate::specs::Range::is_open))]
-fn is_open(flags: u64, text: &[u8]) -> bool
+pub fn is_open(flags: u64, text: &[u8]) -> bool
     ensures { result ≡ is_open flags text.now }
 {
     !(has(flags, LESS) || has(flags, GREATER) || has(flags, EQUAL)) || text.is_empty()
