@@ -1,0 +1,19 @@
+-- Faults of an index.
+use Rattle.std.proofs.Common.{◌≡◌, ℕ, List, [], ◌∷◌, inl, inr}
+use Rattle.rpm_outside.specs.Files.{Units}
+use Rattle.rpm_tags.specs.declared.kind.Kind.{Kind}
+use Rattle.rpm_select.specs.declared.picker.PickFault.{PickFault}
+use Rattle.rpm_select.specs.declared.picker.PickFault.TheVariants as pick
+use Rattle.rpm_select.specs.Reach as select
+use Rattle.rpm_select.specs.Reach.{IsFaultOfOne}
+use Rattle.rpm_check.specs.Answers.{IsFaultOfSome, IsBroken}
+use Rattle.rpm_check.specs.inner.Faults.{fault_in}
+
+of_some : (keys : List (Kind × List ℕ)) (idx : Units) (unit : ℕ) → IsFaultOfOne keys idx unit → IsFaultOfSome idx unit
+of_some [] idx unit none = absurd none
+of_some ((kind, key) ∷ keys) idx unit some = elim some [ inl first ↦ (kind, key, first) | inr later ↦ of_some keys idx unit later ]
+
+pub broken_from : (keys : List (Kind × List ℕ)) (idx : Units) (fault : PickFault) → select.IsBroken keys idx fault → IsBroken idx (fault_in fault)
+broken_from keys idx (pick.BadIndex unit) some = of_some keys idx unit some
+broken_from keys idx pick.DiskFault any = tt
+broken_from keys idx pick.NoMemory any = tt

@@ -1,0 +1,54 @@
+-- Runs of calls that read packages and an index.
+use Rattle.std.proofs.Common.{◌≡◌, ℕ, Bool, refl, ap, ◌∙◌, sym, subst, arith}
+use Rattle.std.specs.Prelude.{IsTrue}
+use Rattle.rpm_outside.specs.declared.disk.File.{File}
+use Rattle.rpm_outside.specs.declared.disk.File.TheVariants.{Pkg, Idx}
+use Rattle.rpm_outside.specs.Files.{Files}
+use Rattle.rpm_outside.specs.Looks.{Looks, LooksAt}
+use Rattle.rpm_check.specs.Answers.{Glances}
+
+module _ {D : Type 0} (tells : Bool) (files : D → Files) (left_since : D → ℕ → Files → Type 0) (moment : D → ℕ)
+    (bytes_read : D → File → ℕ) (follows : D → D → Type 0) where
+  abbrev Glanced : D → D → Type 0
+  Glanced = Glances tells files left_since moment bytes_read follows
+
+  pub glances_none : ((d : D) → follows d d) → (d : D) → Glanced d d
+  glances_none same d = record {
+    untouched = λ told. record { same = refl; images = λ t i x. x; kept = λ t i x. x };
+    moment_stays = refl;
+    no_less = λ f. omega arith;
+    log = omega arith;
+    goes_on = same d;
+  }
+
+  pub glances_then : ((a b c : D) → follows a b → follows b c → follows a c) → (a b c : D) → Glanced a b → Glanced b c → Glanced a c
+  glances_then trans a b c first second = record {
+    untouched = λ told.
+        let f = first.untouched told in
+        let s = second.untouched told in
+        record { same = s.same ∙ f.same; images = λ t i x. f.images t i (s.images t i x); kept = λ t i x. s.kept t i (f.kept t i x) };
+    moment_stays = second.moment_stays ∙ first.moment_stays;
+    no_less = λ f. omega (arith, first.no_less f, second.no_less f);
+    log = omega (arith, first.log, second.log);
+    goes_on = trans a b c first.goes_on second.goes_on;
+  }
+
+  -- packages
+  pub glances_packages : (most : ℕ) (a b : D) → Looks tells files left_since moment bytes_read follows Pkg most a b → Glanced a b
+  glances_packages most a b looks = record {
+    untouched = looks.untouched;
+    moment_stays = looks.moment_stays;
+    no_less = looks.reads.no_less;
+    log = omega (arith, looks.reads.log);
+    goes_on = looks.goes_on;
+  }
+
+  -- the index
+  pub glances_index : (a b : D) → LooksAt tells files left_since moment bytes_read follows Idx a b → Glanced a b
+  glances_index a b looks = record {
+    untouched = looks.untouched;
+    moment_stays = looks.moment_stays;
+    no_less = looks.reads.no_less;
+    log = omega (arith, looks.reads.log);
+    goes_on = looks.goes_on;
+  }

@@ -1,0 +1,47 @@
+-- Keys of a memo that the order doesn't tell apart are one requirement.
+use Rattle.std.proofs.Common.{◌≡◌, Bool, true, false, cond, Some, refl, sym, ap, ◌∙◌, subst, inl, inr}
+use Rattle.std.specs.Prelude.{Option, IfSome}
+use Rattle.std.specs.declared.cmp.Ordering.{Ordering}
+use Rattle.std.specs.declared.cmp.Ordering.TheVariants.{Less, Equal, Greater}
+use Rattle.std.specs.BTreeMap.{get, is_at, Updates}
+use Rattle.std.specs.Ordering.{ordering_then, is_eq, nat_cmp}
+use Rattle.std.specs.Cmp.Lexicographic.{slice_cmp}
+use Rattle.std.proofs.lemmas.Bool.{cases_Bool}
+use Rattle.std.proofs.lemmas.Map.Lookups.{exact_bytes, exact_unsigned}
+use Rattle.rpm_tags.specs.Wanted.{Needed}
+use Rattle.rpm_check.specs.declared.memo.Requirement.{Requirement}
+use Rattle.rpm_check.specs.declared.memo.Memo.{Memo}
+use Rattle.rpm_check.specs.inner.Memos.{need_of, key_order, Remembers}
+
+equal_if : (o : Ordering) → is_eq o ≡ true → o ≡ Equal
+equal_if Less is = absurd cc
+equal_if Equal is = refl
+equal_if Greater is = absurd cc
+
+both_equal : (o p : Ordering) → ordering_then o p ≡ Equal → (o ≡ Equal) × (p ≡ Equal)
+both_equal Less p is = absurd cc
+both_equal Equal p is = (refl, is)
+both_equal Greater p is = absurd cc
+
+same_need : (a b : Requirement) → key_order a b ≡ Equal → need_of a ≡ need_of b
+same_need a b is =
+    let first = both_equal (slice_cmp nat_cmp a.name.items b.name.items)
+    (ordering_then (nat_cmp a.flags b.flags) (slice_cmp nat_cmp a.version.items b.version.items)) is in
+    let second = both_equal (nat_cmp a.flags b.flags) (slice_cmp nat_cmp a.version.items b.version.items) first.1 in
+    λ i. record {
+      name = exact_bytes a.name.items b.name.items first.0 i;
+      flags = exact_unsigned a.flags b.flags second.0 i;
+      version = exact_bytes a.version.items b.version.items second.1 i;
+    }
+
+-- what is noted is remembered, and the rest stays
+pub remembers_more : (so : Needed → Bool) (m n : Memo) (key : Requirement) (b : Bool) → Updates key_order m.answers n.answers key (Some b)
+    → b ≡ so (need_of key) → Remembers so m → Remembers so n
+remembers_more so m n key b updates is old = λ q.
+    let P : Option Bool → Type 0 = λ o. IfSome o (λ known. known ≡ so (need_of q)) in
+    elim (cases_Bool (is_at (key_order key) q)) [
+      | inl same ↦
+          (let found : get key_order n.answers q ≡ Some b = updates.0 q ∙ ap (λ (t : Bool). cond t (Some b) (get key_order m.answers q)) same in
+          subst P (sym found) (is ∙ ap so (same_need key q (equal_if (key_order key q) same))))
+      | inr other ↦ subst P (sym (updates.2 q other)) (old q)
+    ]

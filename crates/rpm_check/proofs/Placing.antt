@@ -1,0 +1,14 @@
+-- How many requirements a package has.
+use Rattle.std.proofs.Common.{◌≡◌, ℕ, List, [], ◌∷◌, length, refl}
+use Rattle.rpm_header.specs.Header.{Header}
+use Rattle.rpm_tags.specs.declared.needed.Tags.{Tags}
+use Rattle.rpm_tags.specs.Value.{texts_in, numbers_in}
+use Rattle.rpm_tags.specs.Wanted.{listed, beside, dependencies}
+
+length-beside : (names : List (List ℕ)) (flags : List ℕ) (versions : List (List ℕ)) → length (beside names flags versions) ≡ length names
+length-beside [] flags versions = refl
+length-beside (name ∷ names) flags versions = simp (length-beside names)
+
+pub length-dependencies : (tags : Tags) (h : Header) → length (dependencies tags h) ≡ length (listed (texts_in h tags.names))
+unfolding dependencies
+length-dependencies tags h = length-beside (listed (texts_in h tags.names)) (listed (numbers_in h tags.flags)) (listed (texts_in h tags.versions))

@@ -1,0 +1,50 @@
+-- A requirement is met where its capability is provided.
+use Rattle.std.proofs.Common.{◌≡◌, ℕ, List, Bool, ◌==◌, ◌||◌, Ok, Err, refl, ap, ◌∙◌}
+use Rattle.std.specs.Prelude.{◌&&◌, Result, slice_index}
+use Rattle.std.specs.List.{list_any}
+use Rattle.std.specs.Ordering.{nat_cmp}
+use Rattle.std.specs.Str.{bytes_eq}
+use Rattle.std.specs.FinMap.{FinMap, entries}
+use Rattle.rpm_header.specs.declared.form.HeaderFault.{HeaderFault}
+use Rattle.rpm_header.specs.Header.{Header, header}
+use Rattle.rpm_tags.specs.Wanted.{Needed, has_file}
+use Rattle.rpm_version.specs.Capability.{CapabilityParts}
+use Rattle.rpm_version.specs.Range.{is_open, overlaps}
+use Rattle.rpm_db.specs.State.{Package, Good, Bad}
+use Rattle.rpm_select.specs.declared.selection.Selection.TheVariants.{Provides}
+use Rattle.rpm_select.specs.Selections as select
+use Rattle.rpm_select.specs.Selections.{is_picked, takes_header, takes_read, picks}
+use Rattle.rpm_check.specs.Unmet.{answers, is_file_of, provided, gives, read_gives, meets, is_met}
+use Rattle.rpm_check.specs.inner.Picking.{is_some_of}
+use Rattle.rpm_check.proofs.Picking.{is_some_of-filter, list_any_same}
+
+-- a capability stands for a requirement
+pub record StandsFor (c : CapabilityParts) (need : Needed) : Type 0 where
+  pub name : c.name ≡ need.name
+  pub plain : (c.flags == 0) ≡ is_open need.flags need.version
+  pub same : (f : ℕ) (v : List ℕ) → overlaps f v c.flags c.evr ≡ overlaps f v need.flags need.version
+
+module _ (c : CapabilityParts) (need : Needed) (stands : StandsFor c need) where
+  same_answer : (given : Needed) → select.meets c given ≡ answers need given
+  same_answer given = λ i. bytes_eq given.name (stands.name i) && stands.same given.flags given.version i
+
+  same_file : (h : Header) → select.is_file_of c h ≡ is_file_of need h
+  same_file h = λ i. stands.plain i && (slice_index (stands.name i) 0 == 47 && has_file h (stands.name i))
+
+  same_header : (n : ℕ) (h : Header) → takes_header (Provides c) n h ≡ gives need h
+  unfolding takes_header
+  same_header n h = λ i. list_any_same (select.meets c) (answers need) same_answer (provided h) i || same_file h i
+
+  same_read : (n : ℕ) (r : Result Header HeaderFault) → takes_read (Provides c) n r ≡ read_gives need r
+  same_read n (Ok h) = same_header n h
+  same_read n (Err fault) = refl
+
+  same_package : (e : ℕ × Package) → is_picked (Provides c) e ≡ meets need e
+  same_package (n, Good bytes) = same_read n (header bytes)
+  same_package (n, Bad) = refl
+
+  pub met_is : (packages : FinMap nat_cmp Package) → is_some_of (picks packages (Provides c)) ≡ is_met packages need
+  unfolding picks is_met
+  met_is packages =
+      is_some_of-filter (is_picked (Provides c)) (entries packages)
+      ∙ list_any_same (is_picked (Provides c)) (meets need) same_package (entries packages)

@@ -1,0 +1,60 @@
+-- The packages of a report, one after the other.
+use Rattle.std.proofs.Common.{◌≡◌, ℕ, ◌<◌, List, [], ◌++◌, Bool, true, false, Option, Some, None, is_some, Ok, Err, refl, sym, ap, ◌∙◌}
+use Rattle.std.specs.List.{flat_map}
+use Rattle.std.specs.Ordering.{nat_cmp}
+use Rattle.std.specs.FinMap as finite
+use Rattle.rpm_header.specs.declared.form.HeaderFault.{HeaderFault}
+use Rattle.rpm_header.specs.Header.{Header, header}
+use Rattle.rpm_tags.specs.Wanted.{Needed}
+use Rattle.rpm_outside.specs.Files.{Units}
+use Rattle.rpm_db.specs.Database.{Database, IsNext, holds}
+use Rattle.rpm_db.specs.State.{Package, packages, package_of, read_as, above}
+use Rattle.rpm_db.specs.inner.Above.{next_above, nothing_above, all_above_zero}
+use Rattle.rpm_db.specs.inner.Laws.{is_there}
+use Rattle.rpm_db.specs.inner.Own.{header-own}
+use Rattle.rpm_check.specs.declared.list.Unmet.{Unmet}
+use Rattle.rpm_check.specs.Unmet.{required, unmet_in, unmet_read, unmet_of, lacks, unmet}
+use Rattle.rpm_check.specs.inner.Rounds.{unmet_at}
+use Rattle.rpm_check.proofs.Picking.{none_is}
+
+-- ---- one package
+
+pub unmet_good : (is_lacking : Needed → Bool) (n : ℕ) (blob : List ℕ) (h : Header) → header blob ≡ Ok h
+    → unmet_of is_lacking (n, package_of (Some blob)) ≡ unmet_in is_lacking n (required h) 0
+unmet_good is_lacking n blob h is =
+    ap (λ r. unmet_of is_lacking (n, read_as r)) is ∙ ap (unmet_read is_lacking n) (header-own blob h is)
+
+pub unmet_bad : (is_lacking : Needed → Bool) (n : ℕ) (blob : List ℕ) (fault : HeaderFault) → header blob ≡ Err fault
+    → unmet_of is_lacking (n, package_of (Some blob)) ≡ []
+unmet_bad is_lacking n blob fault is = ap (λ r. unmet_of is_lacking (n, read_as r)) is
+
+-- ---- all of them
+
+module _ (all : finite.FinMap nat_cmp Package) (is_lacking : Needed → Bool) where
+  -- what the packages above a number have
+  abbrev pub unmet_above : ℕ → List Unmet
+  unmet_above k = flat_map (unmet_of is_lacking) (above k (finite.entries all))
+
+  first_above : (k m : ℕ) (o : Option Package) → finite.get all m ≡ o → k < m → is_some o ≡ true
+      → ((q : ℕ) → k < q → q < m → is_some (finite.get all q) ≡ false) → unmet_above k ≡ unmet_at is_lacking m o ++ unmet_above m
+  first_above k m None there lt some none = absurd cc
+  first_above k m (Some p) there lt some none =
+      ap (flat_map (unmet_of is_lacking)) (next_above all k m p lt there (λ q a b. none_is (finite.get all q) (none q a b)))
+
+  pub one_round : (k m : ℕ) → IsNext (λ q. is_some (finite.get all q)) k (Some m) → unmet_above k ≡ unmet_at is_lacking m (finite.get all m) ++ unmet_above m
+  one_round k m next = first_above k m (finite.get all m) refl next.0 next.1 next.2
+
+  pub no_round : (k : ℕ) → IsNext (λ q. is_some (finite.get all q)) k None → unmet_above k ≡ []
+  no_round k next = ap (flat_map (unmet_of is_lacking)) (nothing_above all k (λ q lt. none_is (finite.get all q) (next q lt)))
+
+-- no package has the number 0
+above_from_one : (file : Units) (db : Database) → holds 0 db ≡ false → above 0 (finite.entries (packages file db.store))
+    ≡ finite.entries (packages file db.store)
+above_from_one file db none =
+    let all = packages file db.store in
+    all_above_zero all (none_is (finite.get all 0) (is_there file db 0 ∙ none))
+
+pub all_rounds : (file : Units) (db : Database) → holds 0 db ≡ false
+    → unmet_above (packages file db.store) (lacks (packages file db.store)) 0 ≡ unmet (packages file db.store)
+unfolding unmet
+all_rounds file db none = ap (flat_map (unmet_of (lacks (packages file db.store)))) (above_from_one file db none)

@@ -1,0 +1,66 @@
+use Rattle.std.proofs.Common.{◌≡◌, ◌++◌, sym, ap, ◌∙◌, subst, arith, append_assoc, append-nil}
+use Rattle.std.specs.Prelude.{List}
+use Rattle.std.specs.FinMap as finite
+use Rattle.rpm_outside.specs.Files.{Files}
+use Rattle.rpm_db.specs.State.{packages}
+use Rattle.rpm_select.specs.Reach.{HasIndexRows}
+use Rattle.rpm_check.specs.declared.list.Unmet.{Unmet}
+use Rattle.rpm_check.specs.Unmet.{is_met, lacks, unmet}
+use Rattle.rpm_check.specs.inner.Memos.{Remembers}
+use Rattle.rpm_check.specs.inner.Rounds.{unmet_at}
+use Rattle.rpm_check.proofs.Glancing.{glances_none, glances_then}
+use Rattle.rpm_check.proofs.Rounding.{unmet_above, one_round, no_round, all_rounds}
+use Rattle.rpm_check.proofs.report.unmet.Goals as goal
+
+pub loop-next-init : goal.loop-next-init
+loop-next-init g c = record {
+  keeps = c.requires.keeps;
+  keeps_index = c.requires.keeps_index;
+  looks =
+      glances_none g.D.Disk.tells g.D.Disk.files g.D.Disk.left_since g.D.Disk.moment g.D.Disk.bytes_read g.D.Disk.follows g.met.D.Disk.follows_refl
+      c.args.disk.now;
+  faults = omega arith;
+  remembers = λ told has. c.new-memo.ensures (is_met (packages (g.D.Disk.files c.args.disk.now).pkg c.args.db.now.store));
+  told = λ told has.
+      let pkg = (g.D.Disk.files c.args.disk.now).pkg in
+      let all = packages pkg c.args.db.now.store in
+      ap (λ (us : List Unmet). us ++ unmet_above all (lacks all) 0) c.new-found.ensures.items ∙ all_rounds pkg c.args.db.now c.requires.from_one;
+}
+
+pub loop-next-preserved : goal.loop-next-preserved
+loop-next-preserved g c =
+    let db = c.args.db.now in
+    let inv = c.loop-next.invariant in
+    let done = c.in-Ok.ensures in
+    let next = c.in-Some.next in
+    record {
+      keeps = done.kept;
+      keeps_index = done.kept_index;
+      looks =
+          glances_then g.D.Disk.tells g.D.Disk.files g.D.Disk.left_since g.D.Disk.moment g.D.Disk.bytes_read g.D.Disk.follows g.met.D.Disk.follows_trans
+          c.args.disk.now c.loop-next.disk c.push_unmet.new.disk inv.looks done.looks;
+      faults = omega (arith, inv.faults, done.cause.later);
+      remembers = λ told has.
+          subst (λ (f : Files). HasIndexRows db f.pkg f.idx → Remembers (is_met (packages f.pkg db.store)) c.push_unmet.new.memo)
+          (inv.looks.untouched told).same (done.remembered told) has;
+      told = λ told has.
+          let pkg = (g.D.Disk.files c.args.disk.now).pkg in
+          let all = packages pkg db.store in
+          let old = c.loop-next.found.items in
+          let added = subst (λ (f : Files). HasIndexRows db f.pkg f.idx → c.push_unmet.new.found.items
+          ≡ old ++ unmet_at (lacks (packages f.pkg db.store)) next (finite.get (packages f.pkg db.store) next)) (inv.looks.untouched told).same
+          (done.told told) has in
+          ap (λ (us : List Unmet). us ++ unmet_above all (lacks all) next) added
+          ∙ append_assoc old (unmet_at (lacks all) next (finite.get all next)) (unmet_above all (lacks all) next)
+          ∙ ap (λ (us : List Unmet). old ++ us) (sym (one_round all (lacks all) c.loop-next.passed next (c.in-Some.ensures.told pkg)))
+          ∙ inv.told told has;
+    }
+
+pub returns-clause-told : goal.returns-clause-told
+returns-clause-told g c = λ told has.
+    let pkg = (g.D.Disk.files c.args.disk.now).pkg in
+    let all = packages pkg c.args.db.now.store in
+    let old = c.loop-next.found.items in
+    c.of.ensures ∙ sym (append-nil old)
+    ∙ ap (λ (us : List Unmet). old ++ us) (sym (no_round all (lacks all) c.loop-next.passed (c.in_default.ensures.told pkg)))
+    ∙ c.loop-next.invariant.told told has

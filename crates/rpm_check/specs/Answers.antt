@@ -1,0 +1,39 @@
+-- What a report answers, and what it reads.
+use Rattle.std.specs.Prelude.{◌≡◌, ℕ, ◌≤◌, List, Bool, true, false, IsTrue, Result, Ok, Err}
+use Rattle.rpm_outside.specs.declared.disk.File.{File}
+use Rattle.rpm_outside.specs.declared.disk.File.TheVariants.{Log}
+use Rattle.rpm_outside.specs.Crash.{Untouched}
+use Rattle.rpm_outside.specs.Files.{Units, Files}
+use Rattle.rpm_tags.specs.declared.kind.Kind.{Kind}
+use Rattle.rpm_tags.specs.Kinds.{code_of}
+use Rattle.rpm_db.specs.Answers.{key_chain}
+use Rattle.rpm_check.specs.declared.faults.CheckFault.{CheckFault}
+use Rattle.rpm_check.specs.declared.faults.CheckFault.TheVariants.{BadIndex, DiskFault, NoMemory}
+
+-- the fault of the chain of some key
+abbrev pub IsFaultOfSome : Units → ℕ → Type 0
+IsFaultOfSome idx unit = (kind : Kind) × (key : List ℕ) × (key_chain (code_of kind) key idx ≡ Err unit)
+
+-- an index is said to be broken only by that
+abbrev pub IsBroken : Units → CheckFault → Type 0
+IsBroken idx (BadIndex unit) = IsFaultOfSome idx unit
+IsBroken idx DiskFault = Unit {0}
+IsBroken idx NoMemory = Unit {0}
+
+abbrev pub is_of_index : CheckFault → Bool
+is_of_index (BadIndex unit) = true
+is_of_index DiskFault = false
+is_of_index NoMemory = false
+
+abbrev pub is_broken : {X : Type 0} → Result X CheckFault → Bool
+is_broken (Ok x) = false
+is_broken (Err fault) = is_of_index fault
+
+-- the files, their images and the moment stay, and of Hlog.db nothing is read
+pub record Glances {D : Type 0} (tells : Bool) (files : D → Files) (left_since : D → ℕ → Files → Type 0) (moment : D → ℕ)
+    (bytes_read : D → File → ℕ) (follows : D → D → Type 0) (old new : D) : Type 0 where
+  pub untouched : IsTrue tells → Untouched (files old) (files new) (left_since old) (left_since new)
+  pub moment_stays : moment new ≡ moment old
+  pub no_less : (f : File) → bytes_read old f ≤ bytes_read new f
+  pub log : bytes_read new Log ≤ bytes_read old Log
+  pub goes_on : follows old new

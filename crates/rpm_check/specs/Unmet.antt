@@ -1,0 +1,79 @@
+-- Which requirements no package meets.
+use Rattle.std.specs.Prelude.{ℕ, List, [], ◌∷◌, map, filter, length, codes, Bool, false, not, ◌&&◌, ◌||◌, ◌==◌, nat_eq, slice_index, Result, Ok, Err}
+use Rattle.std.specs.List.{list_any, flat_map, zip, range_with_len, starts_with}
+use Rattle.std.specs.Ordering.{nat_cmp}
+use Rattle.std.specs.Str.{bytes_eq}
+use Rattle.std.specs.FinMap.{FinMap, entries}
+use Rattle.rpm_header.specs.declared.form.HeaderFault.{HeaderFault}
+use Rattle.rpm_header.specs.Header.{Header, header}
+use Rattle.rpm_tags.specs.declared.needed.Tags.{Tags}
+use Rattle.rpm_tags.specs.Numbers.{PROVIDENAME, PROVIDEFLAGS, PROVIDEVERSION, REQUIRENAME, REQUIREFLAGS, REQUIREVERSION}
+use Rattle.rpm_tags.specs.Wanted.{Needed, has_file, dependencies}
+use Rattle.rpm_version.specs.Range.{is_open, overlaps}
+use Rattle.rpm_db.specs.State.{Package, Good, Bad}
+use Rattle.rpm_check.specs.declared.list.Unmet.{Unmet}
+
+-- ---- one requirement and one header
+
+abbrev pub provided : Header → List Needed
+provided h = dependencies (record { names = PROVIDENAME; flags = PROVIDEFLAGS; versions = PROVIDEVERSION }) h
+
+abbrev pub required : Header → List Needed
+required h = dependencies (record { names = REQUIRENAME; flags = REQUIREFLAGS; versions = REQUIREVERSION }) h
+
+-- what is given has the name that is needed, and their ranges overlap
+abbrev pub answers : Needed → Needed → Bool
+answers need given = bytes_eq given.name need.name && overlaps given.flags given.version need.flags need.version
+
+-- what is needed is a path without a range, of a file that is there
+abbrev pub is_file_of : Needed → Header → Bool
+is_file_of need h = is_open need.flags need.version && (slice_index need.name 0 == 47 && has_file h need.name)
+
+abbrev pub gives : Needed → Header → Bool
+gives need h = list_any (answers need) (provided h) || is_file_of need h
+
+-- ---- one requirement and all packages
+
+abbrev pub read_gives : Needed → Result Header HeaderFault → Bool
+read_gives need (Ok h) = gives need h
+read_gives need (Err fault) = false
+
+-- a package that can't be read gives nothing
+abbrev pub meets : Needed → ℕ × Package → Bool
+meets need (n, Good bytes) = read_gives need (header bytes)
+meets need (n, Bad) = false
+
+unfoldable pub is_met : FinMap nat_cmp Package → Needed → Bool
+is_met packages need = list_any (meets need) (entries packages)
+
+-- ---- all requirements
+
+-- names of features of rpm itself, and of rich dependencies
+abbrev pub is_passed_over : List ℕ → Bool
+is_passed_over name = starts_with nat_eq name (codes "rpmlib(") || starts_with nat_eq name (codes "(")
+
+abbrev pub lacks : FinMap nat_cmp Package → Needed → Bool
+lacks packages need = not (is_passed_over need.name) && not (is_met packages need)
+
+-- each with its place, from this one on
+abbrev pub placed : List Needed → ℕ → List (Needed × ℕ)
+placed needs place = zip needs (range_with_len place (length needs))
+
+abbrev pub at_place : ℕ → Needed × ℕ → Unmet
+at_place n e = record { number = n; place = e.1 }
+
+-- of a package of this number: those of its requirements, from this place on, that are lacking
+abbrev pub unmet_in : (Needed → Bool) → ℕ → List Needed → ℕ → List Unmet
+unmet_in is_lacking n needs place = map (at_place n) (filter (λ e. is_lacking e.0) (placed needs place))
+
+abbrev pub unmet_read : (Needed → Bool) → ℕ → Result Header HeaderFault → List Unmet
+unmet_read is_lacking n (Ok h) = unmet_in is_lacking n (required h) 0
+unmet_read is_lacking n (Err fault) = []
+
+abbrev pub unmet_of : (Needed → Bool) → ℕ × Package → List Unmet
+unmet_of is_lacking (n, Good bytes) = unmet_read is_lacking n (header bytes)
+unmet_of is_lacking (n, Bad) = []
+
+-- by rising number and place
+unfoldable pub unmet : FinMap nat_cmp Package → List Unmet
+unmet packages = flat_map (unmet_of (lacks packages)) (entries packages)

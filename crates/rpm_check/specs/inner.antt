@@ -1,0 +1,6 @@
+-- What the crate's own calls say to each other: nothing that a reader of its public calls has to believe.
+pub mod Faults
+pub mod Memos
+pub mod Needs
+pub mod Picking
+pub mod Rounds

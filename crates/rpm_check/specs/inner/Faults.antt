@@ -1,0 +1,10 @@
+-- What stops a report where a picker fails.
+use Rattle.rpm_select.specs.declared.picker.PickFault.{PickFault}
+use Rattle.rpm_select.specs.declared.picker.PickFault.TheVariants as pick
+use Rattle.rpm_check.specs.declared.faults.CheckFault.{CheckFault}
+use Rattle.rpm_check.specs.declared.faults.CheckFault.TheVariants.{BadIndex, DiskFault, NoMemory}
+
+abbrev pub fault_in : PickFault → CheckFault
+fault_in (pick.BadIndex unit) = BadIndex unit
+fault_in pick.DiskFault = DiskFault
+fault_in pick.NoMemory = NoMemory

@@ -1,0 +1,23 @@
+-- What a memo remembers.
+use Rattle.std.specs.Prelude.{◌≡◌, Bool, IfSome}
+use Rattle.std.specs.declared.cmp.Ordering.{Ordering}
+use Rattle.std.specs.BTreeMap.{get}
+use Rattle.std.specs.Cmp.Lexicographic.{slice_cmp}
+use Rattle.std.specs.Ordering.{nat_cmp, ordering_then}
+use Rattle.rpm_tags.specs.Wanted.{Needed}
+use Rattle.rpm_check.specs.declared.memo.Requirement.{Requirement}
+use Rattle.rpm_check.specs.declared.memo.Memo.{Memo}
+
+-- the requirement that a key stands for
+abbrev pub need_of : Requirement → Needed
+need_of key = record { name = key.name.items; flags = key.flags; version = key.version.items }
+
+-- by name, then flags, then version
+abbrev pub key_order : Requirement → Requirement → Ordering
+key_order a b =
+    ordering_then (slice_cmp nat_cmp a.name.items b.name.items)
+    (ordering_then (nat_cmp a.flags b.flags) (slice_cmp nat_cmp a.version.items b.version.items))
+
+-- what is known of a requirement is so
+abbrev pub Remembers : (Needed → Bool) → Memo → Type 0
+Remembers is_so memo = (key : Requirement) → IfSome (get key_order memo.answers key) (λ known. known ≡ is_so (need_of key))

@@ -1,0 +1,6 @@
+-- What a reader of a header gives.
+use Rattle.rpm_tags.specs.declared.needed.Dependency.{Dependency}
+use Rattle.rpm_tags.specs.Wanted.{Needed}
+
+abbrev pub needed_in : Dependency → Needed
+needed_in e = record { name = e.name.now; flags = e.flags; version = e.version.now }

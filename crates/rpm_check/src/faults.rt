@@ -1,0 +1,35 @@
+//! What stops a report.
+
+ghost use Rattle.std.specs.Prelude.{◌≡◌, ◌↔◌};
+ghost use Rattle.rpm_outside.specs.Files.{Units};
+ghost use Rattle.rpm_select.specs.Picks as picks;
+ghost use Rattle.rpm_check.specs.Answers.{is_of_index};
+ghost use Rattle.rpm_check.specs.inner.Faults.{fault_in};
+
+use rpm_select::PickFault;
+use thiserror::Error;
+
+/// Why there is no report.
+#[derive(Clone, Copy, Debug, PartialEq, Eq, Error)]
+pub enum CheckFault {
+    /// The index is broken at this unit.
+    #[error("Hindex.db is damaged")]
+    BadIndex { unit: u64 },
+    /// A call of the disk failed.
+    #[error("the database could not be read or written")]
+    DiskFault,
+    /// There was no memory for a package, a requirement or the list.
+    #[error("out of memory")]
+    NoMemory,
+}
+
+/// What stops a report where a picker fails.
+pub fn fault_of(fault: PickFault) -> CheckFault
+    ensures { result ≡ fault_in fault }
+{
+    match fault {
+        PickFault::BadIndex { unit } => CheckFault::BadIndex { unit },
+        PickFault::DiskFault => CheckFault::DiskFault,
+        PickFault::NoMemory => CheckFault::NoMemory,
+    }
+}

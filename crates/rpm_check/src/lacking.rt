@@ -1,0 +1,164 @@
+//! The requirements of one package that are lacking.
+
+ghost use Rattle.std.specs.Prelude.{◌≡◌, ◌++◌, not, length, IsTrue, false, Err, IfOk, IfErr, OnOk};
+ghost use Rattle.rpm_outside.specs.Causes.{HasCauseAt};
+ghost use Rattle.rpm_db.specs.Database.{Keeps, KeepsIndex, holds};
+ghost use Rattle.rpm_db.specs.State.{packages};
+ghost use Rattle.rpm_select.specs.Reach.{HasIndexRows};
+ghost use Rattle.rpm_check.specs.Answers.{Glances, IsBroken, is_broken};
+ghost use Rattle.rpm_check.specs.Unmet.{required, is_met, is_passed_over, lacks, unmet_in};
+ghost use Rattle.rpm_check.specs.inner.Memos.{Remembers};
+ghost use Rattle.rpm_check.specs.inner.Needs.{needed_in};
+
+use crate::faults::CheckFault;
+use crate::list::Unmet;
+use crate::meeting::is_met;
+use crate::memo::{Memo, Requirement};
+use rpm_db::Db;
+use rpm_header::View;
+use rpm_outside::Disk;
+use rpm_tags::{Dependency, Tags, dependencies, numbers, texts_in};
+use std::alloc::Global;
+
+const REQUIRES: Tags = Tags {
+    names: numbers::REQUIRENAME,
+    flags: numbers::REQUIREFLAGS,
+    versions: numbers::REQUIREVERSION,
+};
+
+/// Whether a requirement isn't looked at: it names a feature of rpm itself, or it is a rich dependency.
+fn is_passed_over(name: &[u8]) -> bool
+    ensures { result ≡ is_passed_over name.now }
+{
+    name.starts_with(b"rpmlib(") || name.starts_with(b"(")
+}
+
+/// Whether a requirement is met, which is looked up once.
+fn is_met_once<D: Disk>(
+    alloc: Global,
+    db: &Db,
+    disk: &mut D,
+    memo: &mut Memo,
+    needed: &Dependency<'_>,
+) -> Result<bool, CheckFault>
+    requires keeps { IsTrue D.tells → Keeps (D.files disk.old).pkg db.now }
+    requires keeps_index { IsTrue D.tells → KeepsIndex (D.files disk.old).idx db.now }
+    requires runs { db.now.stopped ≡ false }
+    requires from_one { holds 0 db.now ≡ false }
+    requires remembers { IsTrue D.tells → HasIndexRows db.now (D.files disk.old).pkg (D.files disk.old).idx
+        → Remembers (is_met (packages (D.files disk.old).pkg db.now.store)) memo.old }
+    ensures kept { IsTrue D.tells → Keeps (D.files disk.new).pkg db.now }
+    ensures kept_index { IsTrue D.tells → KeepsIndex (D.files disk.new).idx db.now }
+    ensures told { IfOk result (λ met. IsTrue D.tells → HasIndexRows db.now (D.files disk.old).pkg (D.files disk.old).idx
+        → met ≡ is_met (packages (D.files disk.old).pkg db.now.store) (needed_in needed.now)) }
+    ensures remembered { IsTrue D.tells → HasIndexRows db.now (D.files disk.old).pkg (D.files disk.old).idx
+        → Remembers (is_met (packages (D.files disk.old).pkg db.now.store)) memo.new }
+    ensures broken { IsTrue D.tells → IfErr result (IsBroken (D.files disk.old).idx) }
+    ensures lawful { IsTrue D.tells → HasIndexRows db.now (D.files disk.old).pkg (D.files disk.old).idx → is_broken result ≡ false }
+    ensures looks { Glances D.tells D.files D.left_since D.moment D.bytes_read D.follows disk.old disk.new }
+    ensures cause { HasCauseAt (result ≡ Err CheckFault.DiskFault) (D.faults disk.old) (D.faults disk.new) }
+{
+    let Ok(key) = Requirement::of(alloc, needed) else {
+        return Err(CheckFault::NoMemory);
+    };
+    if let Some(known) = memo.get(&key) {
+        return Ok(known);
+    }
+    let found = match is_met(alloc, db, disk, needed) {
+        Ok(found) => found,
+        Err(fault) => return Err(fault),
+    };
+    match memo.put(key, found) {
+        Ok(()) => Ok(found),
+        Err(_) => Err(CheckFault::NoMemory),
+    }
+}
+
+/// Whether a requirement is lacking.
+fn lacks<D: Disk>(
+    alloc: Global,
+    db: &Db,
+    disk: &mut D,
+    memo: &mut Memo,
+    needed: &Dependency<'_>,
+) -> Result<bool, CheckFault>
+    requires keeps { IsTrue D.tells → Keeps (D.files disk.old).pkg db.now }
+    requires keeps_index { IsTrue D.tells → KeepsIndex (D.files disk.old).idx db.now }
+    requires runs { db.now.stopped ≡ false }
+    requires from_one { holds 0 db.now ≡ false }
+    requires remembers { IsTrue D.tells → HasIndexRows db.now (D.files disk.old).pkg (D.files disk.old).idx
+        → Remembers (is_met (packages (D.files disk.old).pkg db.now.store)) memo.old }
+    ensures kept { IsTrue D.tells → Keeps (D.files disk.new).pkg db.now }
+    ensures kept_index { IsTrue D.tells → KeepsIndex (D.files disk.new).idx db.now }
+    ensures told { IfOk result (λ b. IsTrue D.tells → HasIndexRows db.now (D.files disk.old).pkg (D.files disk.old).idx
+        → b ≡ lacks (packages (D.files disk.old).pkg db.now.store) (needed_in needed.now)) }
+    ensures remembered { IsTrue D.tells → HasIndexRows db.now (D.files disk.old).pkg (D.files disk.old).idx
+        → Remembers (is_met (packages (D.files disk.old).pkg db.now.store)) memo.new }
+    ensures broken { IsTrue D.tells → IfErr result (IsBroken (D.files disk.old).idx) }
+    ensures lawful { IsTrue D.tells → HasIndexRows db.now (D.files disk.old).pkg (D.files disk.old).idx → is_broken result ≡ false }
+    ensures looks { Glances D.tells D.files D.left_since D.moment D.bytes_read D.follows disk.old disk.new }
+    ensures cause { HasCauseAt (result ≡ Err CheckFault.DiskFault) (D.faults disk.old) (D.faults disk.new) }
+{
+    if is_passed_over(needed.name) {
+        return Ok(false);
+    }
+    match is_met_once(alloc, db, disk, memo, needed) {
+        Ok(found) => Ok(!found),
+        Err(fault) => Err(fault),
+    }
+}
+
+/// How many requirements a package has.
+fn required_count(view: &View<'_>) -> u32
+    ensures { result ≡ length (required view.now) }
+{
+    match texts_in(view, numbers::REQUIRENAME) {
+        None => 0,
+        Some(texts) => texts.count(),
+    }
+}
+
+/// Adds the requirements of a package that are lacking.
+pub fn push_lacking<D: Disk>(
+    alloc: Global,
+    db: &Db,
+    disk: &mut D,
+    memo: &mut Memo,
+    number: u32,
+    view: &View<'_>,
+    found: &mut Vec<Unmet>,
+) -> Result<(), CheckFault>
+    requires keeps { IsTrue D.tells → Keeps (D.files disk.old).pkg db.now }
+    requires keeps_index { IsTrue D.tells → KeepsIndex (D.files disk.old).idx db.now }
+    requires runs { db.now.stopped ≡ false }
+    requires from_one { holds 0 db.now ≡ false }
+    requires remembers { IsTrue D.tells → HasIndexRows db.now (D.files disk.old).pkg (D.files disk.old).idx
+        → Remembers (is_met (packages (D.files disk.old).pkg db.now.store)) memo.old }
+    ensures kept { IsTrue D.tells → Keeps (D.files disk.new).pkg db.now }
+    ensures kept_index { IsTrue D.tells → KeepsIndex (D.files disk.new).idx db.now }
+    ensures told { OnOk result (IsTrue D.tells → HasIndexRows db.now (D.files disk.old).pkg (D.files disk.old).idx → found.new.items
+        ≡ found.old.items ++ unmet_in (lacks (packages (D.files disk.old).pkg db.now.store)) number (required view.now) 0) }
+    ensures remembered { IsTrue D.tells → HasIndexRows db.now (D.files disk.old).pkg (D.files disk.old).idx
+        → Remembers (is_met (packages (D.files disk.old).pkg db.now.store)) memo.new }
+    ensures broken { IsTrue D.tells → IfErr result (IsBroken (D.files disk.old).idx) }
+    ensures lawful { IsTrue D.tells → HasIndexRows db.now (D.files disk.old).pkg (D.files disk.old).idx → is_broken result ≡ false }
+    ensures looks { Glances D.tells D.files D.left_since D.moment D.bytes_read D.follows disk.old disk.new }
+    ensures cause { HasCauseAt (result ≡ Err CheckFault.DiskFault) (D.faults disk.old) (D.faults disk.new) }
+{
+    let mut left = dependencies(view, REQUIRES);
+    for place in 0..required_count(view) {
+        let Some(needed) = left.next() else {
+            return Ok(());
+        };
+        match lacks(alloc, db, disk, memo, &needed) {
+            Ok(false) => {}
+            Ok(true) => {
+                if found.push(Unmet { number, place }).is_err() {
+                    return Err(CheckFault::NoMemory);
+                }
+            }
+            Err(fault) => return Err(fault),
+        }
+    }
+    Ok(())
+}

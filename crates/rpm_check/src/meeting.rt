@@ -1,0 +1,85 @@
+//! Whether one requirement is met.
+
+ghost use Rattle.std.specs.Prelude.{◌≡◌, IsTrue, false, Err, IfOk, IfErr};
+ghost use Rattle.rpm_outside.specs.Causes.{HasCauseAt};
+ghost use Rattle.rpm_db.specs.Database.{Keeps, KeepsIndex, holds};
+ghost use Rattle.rpm_db.specs.State.{packages};
+ghost use Rattle.rpm_select.specs.Reach.{HasIndexRows};
+ghost use Rattle.rpm_select.specs.Selections.{picks};
+ghost use Rattle.rpm_check.specs.Answers.{Glances, IsBroken, is_broken};
+ghost use Rattle.rpm_check.specs.Unmet.{is_met};
+ghost use Rattle.rpm_check.specs.inner.Needs.{needed_in};
+ghost use Rattle.rpm_check.specs.inner.Picking.{is_some_of};
+
+use crate::faults::{CheckFault, fault_of};
+use rpm_db::Db;
+use rpm_outside::Disk;
+use rpm_select::{Picker, Selection};
+use rpm_tags::Dependency;
+use rpm_version::Capability;
+use std::alloc::Global;
+
+/// Whether a selection picks a package.
+fn picks_any<D: Disk>(
+    alloc: Global,
+    db: &Db,
+    disk: &mut D,
+    selection: &Selection<'_>,
+) -> Result<bool, CheckFault>
+    requires keeps { IsTrue D.tells → Keeps (D.files disk.old).pkg db.now }
+    requires keeps_index { IsTrue D.tells → KeepsIndex (D.files disk.old).idx db.now }
+    requires runs { db.now.stopped ≡ false }
+    requires from_one { holds 0 db.now ≡ false }
+    ensures kept { IsTrue D.tells → Keeps (D.files disk.new).pkg db.now }
+    ensures kept_index { IsTrue D.tells → KeepsIndex (D.files disk.new).idx db.now }
+    ensures told { IfOk result (λ any. IsTrue D.tells → HasIndexRows db.now (D.files disk.old).pkg (D.files disk.old).idx
+        → any ≡ is_some_of (picks (packages (D.files disk.old).pkg db.now.store) selection.now)) }
+    ensures broken { IsTrue D.tells → IfErr result (IsBroken (D.files disk.old).idx) }
+    ensures lawful { IsTrue D.tells → HasIndexRows db.now (D.files disk.old).pkg (D.files disk.old).idx → is_broken result ≡ false }
+    ensures looks { Glances D.tells D.files D.left_since D.moment D.bytes_read D.follows disk.old disk.new }
+    ensures cause { HasCauseAt (result ≡ Err CheckFault.DiskFault) (D.faults disk.old) (D.faults disk.new) }
+{
+    let mut picker = match Picker::new(alloc, db, disk, selection) {
+        Ok(picker) => picker,
+        Err(fault) => return Err(fault_of(fault)),
+    };
+    match picker.next_after(alloc, db, disk, selection, 0) {
+        Ok(picked) => Ok(picked.is_some()),
+        Err(fault) => Err(fault_of(fault)),
+    }
+}
+
+/// Whether a package meets a requirement: one that can be read provides its name in a range that overlaps, or has the file of which it
+/// is the path.
+///
+/// Asks the index for the packages that provide the name, and for those with a file of its last part where it is a path; of these it
+/// reads the blocks of each once, up to the first that meets it. Without an index it goes over all packages.
+///
+/// # Errors
+///
+/// - `BadIndex` only where an index is kept, and the chain of the bucket of a key isn't well formed: the unit of its first fault. It never
+///   comes where the index holds the rows of the packages.
+/// - `DiskFault` only where the disk's count of faults rose.
+/// - `NoMemory` where what is found of the keys or a package finds no memory.
+pub fn is_met<D: Disk>(
+    alloc: Global,
+    db: &Db,
+    disk: &mut D,
+    needed: &Dependency<'_>,
+) -> Result<bool, CheckFault>
+    requires keeps { IsTrue D.tells → Keeps (D.files disk.old).pkg db.now }
+    requires keeps_index { IsTrue D.tells → KeepsIndex (D.files disk.old).idx db.now }
+    requires runs { db.now.stopped ≡ false }
+    requires from_one { holds 0 db.now ≡ false }
+    ensures kept { IsTrue D.tells → Keeps (D.files disk.new).pkg db.now }
+    ensures kept_index { IsTrue D.tells → KeepsIndex (D.files disk.new).idx db.now }
+    ensures told { IfOk result (λ met. IsTrue D.tells → HasIndexRows db.now (D.files disk.old).pkg (D.files disk.old).idx
+        → met ≡ is_met (packages (D.files disk.old).pkg db.now.store) (needed_in needed.now)) }
+    ensures broken { IsTrue D.tells → IfErr result (IsBroken (D.files disk.old).idx) }
+    ensures lawful { IsTrue D.tells → HasIndexRows db.now (D.files disk.old).pkg (D.files disk.old).idx → is_broken result ≡ false }
+    ensures looks { Glances D.tells D.files D.left_since D.moment D.bytes_read D.follows disk.old disk.new }
+    ensures cause { HasCauseAt (result ≡ Err CheckFault.DiskFault) (D.faults disk.old) (D.faults disk.new) }
+{
+    let wanted = Capability::of_range(needed.name, needed.flags, needed.version);
+    picks_any(alloc, db, disk, &Selection::Provides(wanted))
+}

@@ -1,0 +1,99 @@
+//! All requirements that no package meets.
+
+ghost use Rattle.std.specs.Prelude.{◌≡◌, ◌++◌, IsTrue, false, Err, IfOk, IfErr, OnOk};
+ghost use Rattle.std.specs.FinMap as finite;
+ghost use Rattle.rpm_outside.specs.Causes.{HasCauseAt};
+ghost use Rattle.rpm_db.specs.Database.{Keeps, KeepsIndex, holds};
+ghost use Rattle.rpm_db.specs.State.{packages};
+ghost use Rattle.rpm_select.specs.Reach.{HasIndexRows};
+ghost use Rattle.rpm_check.specs.Answers.{Glances, IsBroken, is_broken};
+ghost use Rattle.rpm_check.specs.Unmet.{is_met, lacks, unmet};
+ghost use Rattle.rpm_check.specs.inner.Memos.{Remembers};
+ghost use Rattle.rpm_check.specs.inner.Rounds.{unmet_at};
+
+use crate::faults::CheckFault;
+use crate::lacking::push_lacking;
+use crate::list::{Unmet, UnmetList};
+use crate::memo::Memo;
+use rpm_db::{Db, GetFault};
+use rpm_header::View;
+use rpm_outside::Disk;
+use std::alloc::Global;
+
+/// Adds the requirements of a number's package that are lacking.
+fn push_unmet<D: Disk>(
+    alloc: Global,
+    db: &Db,
+    disk: &mut D,
+    memo: &mut Memo,
+    number: u32,
+    found: &mut Vec<Unmet>,
+) -> Result<(), CheckFault>
+    requires keeps { IsTrue D.tells → Keeps (D.files disk.old).pkg db.now }
+    requires keeps_index { IsTrue D.tells → KeepsIndex (D.files disk.old).idx db.now }
+    requires runs { db.now.stopped ≡ false }
+    requires from_one { holds 0 db.now ≡ false }
+    requires remembers { IsTrue D.tells → HasIndexRows db.now (D.files disk.old).pkg (D.files disk.old).idx
+        → Remembers (is_met (packages (D.files disk.old).pkg db.now.store)) memo.old }
+    ensures kept { IsTrue D.tells → Keeps (D.files disk.new).pkg db.now }
+    ensures kept_index { IsTrue D.tells → KeepsIndex (D.files disk.new).idx db.now }
+    ensures told { OnOk result (IsTrue D.tells → HasIndexRows db.now (D.files disk.old).pkg (D.files disk.old).idx → found.new.items
+        ≡ found.old.items ++ unmet_at (lacks (packages (D.files disk.old).pkg db.now.store)) number (finite.get (packages (D.files disk.old).pkg db.now.store) number)) }
+    ensures remembered { IsTrue D.tells → HasIndexRows db.now (D.files disk.old).pkg (D.files disk.old).idx
+        → Remembers (is_met (packages (D.files disk.old).pkg db.now.store)) memo.new }
+    ensures broken { IsTrue D.tells → IfErr result (IsBroken (D.files disk.old).idx) }
+    ensures lawful { IsTrue D.tells → HasIndexRows db.now (D.files disk.old).pkg (D.files disk.old).idx → is_broken result ≡ false }
+    ensures looks { Glances D.tells D.files D.left_since D.moment D.bytes_read D.follows disk.old disk.new }
+    ensures cause { HasCauseAt (result ≡ Err CheckFault.DiskFault) (D.faults disk.old) (D.faults disk.new) }
+{
+    match db.read(alloc, disk, number) {
+        Ok(blob) => match View::parse(&blob) {
+            Ok(view) => push_lacking(alloc, db, disk, memo, number, &view, found),
+            Err(_) => Ok(()),
+        },
+        Err(GetFault::NoSuch | GetFault::Bad) => Ok(()),
+        Err(GetFault::DiskFault) => Err(CheckFault::DiskFault),
+        Err(GetFault::NoMemory) => Err(CheckFault::NoMemory),
+    }
+}
+
+/// The requirements of the packages that no package meets, by rising number and place, each once.
+///
+/// A package that can't be read requires nothing and meets nothing. A requirement whose name begins with `rpmlib(` or with `(` isn't
+/// looked at: the first names a feature of rpm itself, and the second is a rich dependency (own).
+///
+/// Reads the blocks of each package once, and looks each distinct requirement up once, as `is_met` does: what was found of a name with
+/// these flags and this version is remembered, in order. So with an index it takes n log n steps in the requirements, and reads beside
+/// them the candidates of each distinct one. Holds the distinct requirements, one package at a time, and 8 bytes for each that is listed.
+///
+/// # Errors
+///
+/// - `BadIndex` only where an index is kept, and the chain of the bucket of a key isn't well formed: the unit of its first fault. It never
+///   comes where the index holds the rows of the packages.
+/// - `DiskFault` only where the disk's count of faults rose.
+/// - `NoMemory` where a package, a requirement, what is found of it or the list finds no memory.
+pub fn unmet<D: Disk>(alloc: Global, db: &Db, disk: &mut D) -> Result<UnmetList, CheckFault>
+    requires keeps { IsTrue D.tells → Keeps (D.files disk.old).pkg db.now }
+    requires keeps_index { IsTrue D.tells → KeepsIndex (D.files disk.old).idx db.now }
+    requires runs { db.now.stopped ≡ false }
+    requires from_one { holds 0 db.now ≡ false }
+    ensures kept { IsTrue D.tells → Keeps (D.files disk.new).pkg db.now }
+    ensures kept_index { IsTrue D.tells → KeepsIndex (D.files disk.new).idx db.now }
+    ensures told { IfOk result (λ list. IsTrue D.tells → HasIndexRows db.now (D.files disk.old).pkg (D.files disk.old).idx
+        → list ≡ unmet (packages (D.files disk.old).pkg db.now.store)) }
+    ensures broken { IsTrue D.tells → IfErr result (IsBroken (D.files disk.old).idx) }
+    ensures lawful { IsTrue D.tells → HasIndexRows db.now (D.files disk.old).pkg (D.files disk.old).idx → is_broken result ≡ false }
+    ensures looks { Glances D.tells D.files D.left_since D.moment D.bytes_read D.follows disk.old disk.new }
+    ensures cause { HasCauseAt (result ≡ Err CheckFault.DiskFault) (D.faults disk.old) (D.faults disk.new) }
+{
+    let mut memo = Memo::new(alloc);
+    let mut found = Vec::new(alloc);
+    let mut passed = 0;
+    while let Some(next) = db.next_above(passed) {
+        match push_unmet(alloc, db, disk, &mut memo, next, &mut found) {
+            Ok(()) => passed = next,
+            Err(fault) => return Err(fault),
+        }
+    }
+    Ok(UnmetList::of(found))
+}
