@@ -1,5 +1,5 @@
 -- What dropping one package is: its change, and its line.
-use Rattle.std.proofs.Common.{◌≡◌, ℕ, ◌^◌, ◌≤◌, Bool, List, [], ◌++◌, take, Option, Some, Result, Ok, Err, refl, sym, ap, ◌∙◌, subst, inl}
+use Rattle.std.proofs.Common.{◌≡◌, ◌≢◌, ℕ, ◌+◌, ◌^◌, ◌≤◌, Bool, List, [], ◌++◌, take, Option, Some, Result, Ok, Err, refl, sym, ap, ◌∙◌, subst, inl}
 use Rattle.std.specs.Prelude.{IsTrue, IfOk, IfErr}
 use Rattle.std.proofs.lemmas.List.{append-nil}
 use Rattle.rpm_outside.specs.Files.{Files}
@@ -10,13 +10,18 @@ use Rattle.rpm_db.specs.declared.change.ChangeFault.TheVariants as fault
 use Rattle.rpm_db.specs.Changes.{Erase, apply}
 use Rattle.rpm_db.specs.Database.{Database, IsIndexed}
 use Rattle.rpm_db.specs.Refusals.{EraseCause, FullCause}
+use Rattle.rpm_db.specs.Room.{next_store}
 use Rattle.rpm_db.specs.State.{State, Package, Good, Bad}
+use Rattle.rpm_pkgdb.specs.Store.{Store}
+use Rattle.rpm_pkgdb.specs.Written.{with_spare}
 use Rattle.rpm_change.specs.declared.tally.Tally.{Tally}
 use Rattle.rpm_change.specs.declared.tally.Halt.{Halt}
 use Rattle.rpm_change.specs.declared.tally.Halt.TheVariants as halt
 use Rattle.rpm_change.specs.Steps.{Course, ToOut, bearer}
 use Rattle.rpm_change.specs.Endings.{Outputs, outputs, Through, ThroughSome, Done, Ended, IsCarried, IndexTurn, needed, halt_of}
+use Rattle.rpm_change.specs.Limits.{LimitsTurn}
 use Rattle.rpm_change.specs.Rebuilding.{dropped_line, dropped, IsOfRebuilding}
+use Rattle.rpm_change.proofs.Single.{one_made, none_made}
 
 -- ---- the line of a package that is dropped
 
@@ -49,6 +54,12 @@ pub dropped_turn : (s : State) (n : ℕ) (r : Result Tally Halt) → needed s (E
     → IndexTurn s (dropped n Bad).changes r
 dropped_turn s n (Ok tally) fits kinds = (fits, tt)
 dropped_turn s n (Err h) fits kinds = rw kinds tt
+
+pub dropped_limits : (s : State) (n : ℕ) (v w : Store) (r : Result Tally Halt) → v.generation ≢ 4294967295
+    → next_store (Erase n) v ≡ Some (with_spare v.spare w) → w.generation ≡ v.generation + 1 → IfErr r (λ h. h ≡ halt.OutFault)
+    → LimitsTurn s v w (dropped n Bad).changes r
+dropped_limits s n v w (Ok tally) unspent placed raised kinds = one_made s (Erase n) v w tally tt unspent placed raised
+dropped_limits s n v w (Err h) unspent placed raised kinds = rw kinds (record { numbers = tt; generation = tt; store_room = tt; raised = tt })
 
 pub drop_turn : (s : State) (n : ℕ) (f : ChangeFault) → FullCause (needed s (Erase n)) f → IndexTurn s (dropped n Bad).changes (Err (halt_of f))
 drop_turn s n fault.NumbersSpent full = tt
@@ -98,6 +109,11 @@ module _ (n : ℕ) (p : Package) (o : Option Package) (bytes : List ℕ) (s : St
   pub kept_turn : IndexTurn s (dropped n p).changes (Ok (record { failed = 0; changes = 0 }))
   kept_turn =
       subst (λ (q : Package). IndexTurn s (dropped n q).changes (Ok (record { failed = 0; changes = 0 }))) (sym (good_is o p bytes good is)) tt
+
+  pub kept_limits : (v : Store) → LimitsTurn s v v (dropped n p).changes (Ok (record { failed = 0; changes = 0 }))
+  kept_limits v =
+      subst (λ (q : Package). LimitsTurn s v v (dropped n q).changes (Ok (record { failed = 0; changes = 0 }))) (sym (good_is o p bytes good is))
+      (none_made s v v v.spare (record { failed = 0; changes = 0 }) refl)
 
 -- what is carried from files that are as they were
 pub carried_from : (tells : Bool) (old mid new : Files) (images : Files → Type 0) (before after : Database) → (IsTrue tells → mid ≡ old)

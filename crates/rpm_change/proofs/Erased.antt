@@ -1,5 +1,5 @@
 -- What erasing one number is.
-use Rattle.std.proofs.Common.{◌≡◌, ℕ, true, false, [], Option, Some, None, is_some, Result, Ok, Err, refl, sym, ap, ◌∙◌, subst, inl}
+use Rattle.std.proofs.Common.{◌≡◌, ℕ, true, false, [], Option, Some, None, is_some, Result, Ok, Err, refl, sym, ◌∙◌, subst, inl}
 use Rattle.std.specs.Prelude.{IfErr}
 use Rattle.std.specs.FinMap as finite
 use Rattle.rpm_outside.specs.Files.{Units, Files}
@@ -7,8 +7,9 @@ use Rattle.rpm_db.specs.declared.change.ChangeFault.{ChangeFault}
 use Rattle.rpm_db.specs.declared.change.ChangeFault.TheVariants as fault
 use Rattle.rpm_db.specs.Changes.{Erase}
 use Rattle.rpm_db.specs.Database.{Database, holds}
-use Rattle.rpm_db.specs.Refusals.{EraseCause, FullCause, IsRefusal}
+use Rattle.rpm_db.specs.Refusals.{EraseCause, FullCause}
 use Rattle.rpm_db.specs.State.{State, Package, state, packages}
+use Rattle.rpm_pkgdb.specs.Store.{Store}
 use Rattle.rpm_db.specs.inner.Laws.{is_there}
 use Rattle.rpm_change.specs.declared.tally.Tally.{Tally}
 use Rattle.rpm_change.specs.declared.tally.Halt.{Halt}
@@ -16,6 +17,8 @@ use Rattle.rpm_change.specs.declared.tally.Halt.TheVariants as halt
 use Rattle.rpm_change.specs.Steps.{Course, changing}
 use Rattle.rpm_change.specs.Endings.{Outputs, Through, ThroughSome, Ended, IndexTurn, IsOfLines, IsOfErasing, needed, halt_of}
 use Rattle.rpm_change.specs.Erasing.{missing, erased, erase_one}
+use Rattle.rpm_change.specs.Limits.{LimitsTurn}
+use Rattle.rpm_change.proofs.Single.{one_refused, erase_fault}
 
 some_erased : (o : Option Package) (j n : ℕ) → is_some o ≡ true → erased o j n ≡ changing (Erase n)
 some_erased None j n is = absurd cc
@@ -78,19 +81,6 @@ erase_kinds db n (fault.BadHeader why) cause = tt
 erase_kinds db n fault.NoSuch cause = tt
 erase_kinds db n fault.Stopped cause = tt
 
-pub erase_spent : (db after : Database) (n : ℕ) (f : ChangeFault) → EraseCause db n f → (IsRefusal f → after ≡ db) → halt_of f ≡ halt.GenerationSpent
-    → after.store.generation ≡ 4294967295
-erase_spent db after n fault.NumbersSpent cause refused is = absurd cc
-erase_spent db after n fault.GenerationSpent cause refused is = ap (λ (d : Database). d.store.generation) (refused tt) ∙ cause.2
-erase_spent db after n fault.StoreFull cause refused is = absurd cc
-erase_spent db after n (fault.IndexFull needed) cause refused is = absurd cc
-erase_spent db after n (fault.BadIndex unit) cause refused is = absurd cc
-erase_spent db after n fault.DiskFault cause refused is = absurd cc
-erase_spent db after n fault.NoMemory cause refused is = absurd cc
-erase_spent db after n (fault.BadHeader why) cause refused is = absurd cc
-erase_spent db after n fault.NoSuch cause refused is = absurd cc
-erase_spent db after n fault.Stopped cause refused is = absurd cc
-
 module _ (file : Units) (db : Database) (j n : ℕ) where
   full_turn : (told : ℕ) → holds n db ≡ true → FullCause (needed (state file db.store) (Erase n)) (fault.IndexFull told)
       → IndexTurn (state file db.store) (erase_one (state file db.store) j n).changes (Err (halt.IndexFull told))
@@ -109,6 +99,25 @@ module _ (file : Units) (db : Database) (j n : ℕ) where
   refused_turn (fault.BadHeader why) cause full = tt
   refused_turn fault.NoSuch cause full = tt
   refused_turn fault.Stopped cause full = tt
+
+  held_limits : (w : Store) (f : ChangeFault) → holds n db ≡ true → EraseCause db n f
+      → LimitsTurn (state file db.store) db.store w (erase_one (state file db.store) j n).changes (Err (halt_of f))
+  held_limits w f held cause =
+      subst (λ (x : Course). LimitsTurn (state file db.store) db.store w x.changes (Err (halt_of f))) (sym (erase_held file db j n held))
+      (one_refused (state file db.store) (Erase n) db.store w f (erase_fault db (state file db.store) n f cause))
+
+  pub erase_limits : (w : Store) (f : ChangeFault) → EraseCause db n f
+      → LimitsTurn (state file db.store) db.store w (erase_one (state file db.store) j n).changes (Err (halt_of f))
+  erase_limits w fault.NumbersSpent cause = absurd cause.2
+  erase_limits w fault.GenerationSpent cause = held_limits w fault.GenerationSpent cause.1 cause
+  erase_limits w fault.StoreFull cause = absurd cause.2.1
+  erase_limits w (fault.IndexFull told) cause = record { numbers = tt; generation = tt; store_room = tt; raised = tt }
+  erase_limits w (fault.BadIndex unit) cause = record { numbers = tt; generation = tt; store_room = tt; raised = tt }
+  erase_limits w fault.DiskFault cause = record { numbers = tt; generation = tt; store_room = tt; raised = tt }
+  erase_limits w fault.NoMemory cause = record { numbers = tt; generation = tt; store_room = tt; raised = tt }
+  erase_limits w (fault.BadHeader why) cause = record { numbers = tt; generation = tt; store_room = tt; raised = tt }
+  erase_limits w fault.NoSuch cause = record { numbers = tt; generation = tt; store_room = tt; raised = tt }
+  erase_limits w fault.Stopped cause = record { numbers = tt; generation = tt; store_room = tt; raised = tt }
 
 pub of_disk : (f : ChangeFault) → halt_of f ≡ halt.DiskFault → f ≡ fault.DiskFault
 of_disk fault.NumbersSpent is = absurd cc

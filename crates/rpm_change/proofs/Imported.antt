@@ -7,11 +7,13 @@ use Rattle.rpm_outside.specs.Browses.{left}
 use Rattle.rpm_pkgdb.specs.Blobs.{blobs}
 use Rattle.rpm_db.specs.declared.change.ChangeFault.{ChangeFault}
 use Rattle.rpm_db.specs.declared.change.ChangeFault.TheVariants as fault
-use Rattle.rpm_db.specs.Changes.{Add, with_room}
+use Rattle.rpm_db.specs.Changes.{Change, Add, next, with_room}
 use Rattle.rpm_db.specs.Database.{Database, IsIndexed, next_number}
 use Rattle.rpm_db.specs.Lawful.{HasRows}
-use Rattle.rpm_db.specs.Refusals.{AddIs, FullCause, IsRefusal}
+use Rattle.rpm_db.specs.Refusals.{AddIs, FullCause}
+use Rattle.rpm_db.specs.Room.{RoomCause, next_store}
 use Rattle.rpm_db.specs.State.{State, state, packages}
+use Rattle.rpm_pkgdb.specs.Store.{Store}
 use Rattle.rpm_change.specs.declared.tally.Tally.{Tally}
 use Rattle.rpm_change.specs.declared.tally.Halt.{Halt}
 use Rattle.rpm_change.specs.declared.tally.Halt.TheVariants as halt
@@ -19,7 +21,9 @@ use Rattle.rpm_change.specs.Steps.{Course, ToErr, whole, changing, failing}
 use Rattle.rpm_change.specs.Endings.{Outputs, Ended, IndexTurn, needed, halt_of}
 use Rattle.rpm_change.specs.Importing.{imported, once, import_listed, import_list, listed}
 use Rattle.rpm_change.specs.Texts.{absent_line}
+use Rattle.rpm_change.specs.Limits.{LimitsTurn}
 use Rattle.rpm_change.specs.Turns.{counted_once, IsOfHeaders}
+use Rattle.rpm_change.proofs.Single.{one_refused, add_fault}
 
 -- ---- room in memory is nothing that a file says
 
@@ -72,32 +76,26 @@ add_kinds (fault.BadHeader why) = tt
 add_kinds fault.NoSuch = tt
 add_kinds fault.Stopped = tt
 
-module _ (db after : Database) (bytes : List ℕ) where
-  pub add_spent : (f : ChangeFault) → AddIs {A = ℕ} db bytes (Err f) → (IsRefusal f → after ≡ with_room after.store.spare db)
-      → halt_of f ≡ halt.GenerationSpent → after.store.generation ≡ 4294967295
-  add_spent fault.NumbersSpent cause refused is = absurd cc
-  add_spent fault.GenerationSpent cause refused is = ap (λ (d : Database). d.store.generation) (refused tt) ∙ cause.1.later
-  add_spent fault.StoreFull cause refused is = absurd cc
-  add_spent (fault.IndexFull needed) cause refused is = absurd cc
-  add_spent (fault.BadIndex unit) cause refused is = absurd cc
-  add_spent fault.DiskFault cause refused is = absurd cc
-  add_spent fault.NoMemory cause refused is = absurd cc
-  add_spent (fault.BadHeader why) cause refused is = absurd cc
-  add_spent fault.NoSuch cause refused is = absurd cc
-  add_spent fault.Stopped cause refused is = absurd cc
+module _ (db : Database) (s : State) (w : Store) (k : ℕ) (bytes : List ℕ) (law : next s ≡ next_number db) where
+  read_limits : (f : ChangeFault) (h : Header) → header bytes ≡ Ok h → AddIs {A = ℕ} db bytes (Err f) → RoomCause (next_store (Add h.blob) db.store) f
+      → LimitsTurn s db.store w (imported k (header bytes)).changes (Err (halt_of f))
+  read_limits f h read cause room =
+      subst (λ (x : Course). LimitsTurn s db.store w x.changes (Err (halt_of f))) (sym (imported_good k bytes h read))
+      (one_refused s (Add h.blob) db.store w f (add_fault ℕ db s bytes h.blob f law cause room))
 
-  pub add_numbers : (f : ChangeFault) → AddIs {A = ℕ} db bytes (Err f) → (IsRefusal f → after ≡ with_room after.store.spare db)
-      → halt_of f ≡ halt.NumbersSpent → next_number after ≡ 4294967295
-  add_numbers fault.NumbersSpent cause refused is = ap next_number (refused tt) ∙ cause.1
-  add_numbers fault.GenerationSpent cause refused is = absurd cc
-  add_numbers fault.StoreFull cause refused is = absurd cc
-  add_numbers (fault.IndexFull needed) cause refused is = absurd cc
-  add_numbers (fault.BadIndex unit) cause refused is = absurd cc
-  add_numbers fault.DiskFault cause refused is = absurd cc
-  add_numbers fault.NoMemory cause refused is = absurd cc
-  add_numbers (fault.BadHeader why) cause refused is = absurd cc
-  add_numbers fault.NoSuch cause refused is = absurd cc
-  add_numbers fault.Stopped cause refused is = absurd cc
+  pub add_limits : (f : ChangeFault) → AddIs {A = ℕ} db bytes (Err f)
+      → ((h : Header) → header bytes ≡ Ok h → RoomCause (next_store (Add h.blob) db.store) f)
+      → LimitsTurn s db.store w (imported k (header bytes)).changes (Err (halt_of f))
+  add_limits fault.NumbersSpent cause room = read_limits fault.NumbersSpent cause.0.own cause.0.read cause tt
+  add_limits fault.GenerationSpent cause room = read_limits fault.GenerationSpent cause.1.own cause.1.read cause tt
+  add_limits fault.StoreFull cause room = read_limits fault.StoreFull cause.1.own cause.1.read cause (room cause.1.own cause.1.read)
+  add_limits (fault.IndexFull told) cause room = record { numbers = tt; generation = tt; store_room = tt; raised = tt }
+  add_limits (fault.BadIndex unit) cause room = record { numbers = tt; generation = tt; store_room = tt; raised = tt }
+  add_limits fault.DiskFault cause room = record { numbers = tt; generation = tt; store_room = tt; raised = tt }
+  add_limits fault.NoMemory cause room = record { numbers = tt; generation = tt; store_room = tt; raised = tt }
+  add_limits (fault.BadHeader why) cause room = record { numbers = tt; generation = tt; store_room = tt; raised = tt }
+  add_limits fault.NoSuch cause room = record { numbers = tt; generation = tt; store_room = tt; raised = tt }
+  add_limits fault.Stopped cause room = record { numbers = tt; generation = tt; store_room = tt; raised = tt }
 
 -- what holds anyway holds after an Ok
 pub any_ok : (r : Result Tally Halt) (C : Type 0) → C → IfOk r (λ _tally. C)
@@ -126,6 +124,11 @@ module _ (c : Course) (s t : State) (old new : Outputs) where
 pub turn_once : (c : Course) (s : State) (r : Result Tally Halt) → IndexTurn s c.changes r → IndexTurn s (once c).changes (counted_once r)
 turn_once c s (Ok tally) p = p
 turn_once c s (Err h) p = p
+
+pub limits_once : (changes : List Change) (s : State) (v w : Store) (r : Result Tally Halt) → LimitsTurn s v w changes r
+    → LimitsTurn s v w changes (counted_once r)
+limits_once changes s v w (Ok tally) p = record { numbers = p.numbers; generation = p.generation; store_room = p.store_room; raised = p.raised }
+limits_once changes s v w (Err h) p = p
 
 -- ---- the path that is opened
 

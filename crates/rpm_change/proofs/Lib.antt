@@ -5,11 +5,13 @@ pub mod Drops
 pub mod Erased
 pub mod Filed
 pub mod Imported
+pub mod Limits
 pub mod Listed
-pub mod Numbers
 pub mod Placed
 pub mod Rebuilt
+pub mod Single
 pub mod Stops
+pub mod Stored
 pub mod Told
 pub mod Texts
 pub mod Turned

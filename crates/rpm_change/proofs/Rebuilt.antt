@@ -1,5 +1,5 @@
 -- What making the index anew answers.
-use Rattle.std.proofs.Common.{◌≡◌, ℕ, ◌^◌, ◌<◌, Bool, true, false, List, Err, refl, ◌∙◌, subst, inl}
+use Rattle.std.proofs.Common.{◌≡◌, ℕ, ◌^◌, ◌<◌, Bool, true, false, List, Result, Err, refl, ◌∙◌, subst, inl}
 use Rattle.rpm_outside.specs.Files.{Files}
 use Rattle.rpm_outside.specs.declared.disk.File.{File}
 use Rattle.rpm_db.specs.declared.change.ChangeFault.{ChangeFault}
@@ -9,12 +9,15 @@ use Rattle.rpm_db.specs.Database.{Database}
 use Rattle.rpm_db.specs.Lawful.{Remade}
 use Rattle.rpm_db.specs.Rebuilds.{IsRebuilt, RebuildIs}
 use Rattle.rpm_db.specs.Runs.{Runs}
-use Rattle.rpm_db.specs.State.{state}
+use Rattle.rpm_db.specs.State.{State, state}
+use Rattle.rpm_pkgdb.specs.Store.{Store}
 use Rattle.rpm_db.specs.inner.Running.{runs_none, runs_then}
 use Rattle.rpm_db.specs.inner.Writes.{SameLog}
-use Rattle.rpm_change.specs.declared.tally.Halt.TheVariants as halt
+use Rattle.rpm_change.specs.declared.tally.Tally.{Tally}
+use Rattle.rpm_change.specs.declared.tally.Halt.{Halt}
 use Rattle.rpm_change.specs.Endings.{halt_of, ends_command}
-use Rattle.rpm_change.specs.Rebuilding.{RebuildTurn, IsOfRebuilding}
+use Rattle.rpm_change.specs.Limits.{LimitsTurn}
+use Rattle.rpm_change.specs.Rebuilding.{rebuild, RebuildTurn, IsOfRebuilding}
 
 pub rebuild_kinds : (db : Database) (f : ChangeFault) → RebuildIs db (Err f) → IsOfRebuilding (halt_of f)
 rebuild_kinds db fault.NumbersSpent is = absurd is
@@ -40,18 +43,25 @@ rebuild_ends db (fault.BadHeader why) going is = absurd is
 rebuild_ends db fault.NoSuch going is = absurd is
 rebuild_ends db fault.Stopped going is = let stopped : db.stopped ≡ true = is in absurd cc
 
--- the generation isn't spent by it
-pub rebuild_spends : (db : Database) (f : ChangeFault) → RebuildIs db (Err f) → halt_of f ≡ halt.GenerationSpent → ⊥
-rebuild_spends db fault.NumbersSpent is same = absurd is
-rebuild_spends db fault.GenerationSpent is same = absurd is
-rebuild_spends db fault.StoreFull is same = absurd is
-rebuild_spends db (fault.IndexFull needed) is same = cc
-rebuild_spends db (fault.BadIndex unit) is same = absurd is
-rebuild_spends db fault.DiskFault is same = cc
-rebuild_spends db fault.NoMemory is same = cc
-rebuild_spends db (fault.BadHeader why) is same = absurd is
-rebuild_spends db fault.NoSuch is same = absurd is
-rebuild_spends db fault.Stopped is same = cc
+-- no limit but the index's stops it
+pub unbuilt_limits : (db : Database) (s : State) (v w : Store) (changes : List Change) (f : ChangeFault) → RebuildIs db (Err f)
+    → LimitsTurn s v w changes (Err (halt_of f))
+unbuilt_limits db s v w changes fault.NumbersSpent is = absurd is
+unbuilt_limits db s v w changes fault.GenerationSpent is = absurd is
+unbuilt_limits db s v w changes fault.StoreFull is = absurd is
+unbuilt_limits db s v w changes (fault.IndexFull needed) is = record { numbers = tt; generation = tt; store_room = tt; raised = tt }
+unbuilt_limits db s v w changes (fault.BadIndex unit) is = absurd is
+unbuilt_limits db s v w changes fault.DiskFault is = record { numbers = tt; generation = tt; store_room = tt; raised = tt }
+unbuilt_limits db s v w changes fault.NoMemory is = record { numbers = tt; generation = tt; store_room = tt; raised = tt }
+unbuilt_limits db s v w changes (fault.BadHeader why) is = absurd is
+unbuilt_limits db s v w changes fault.NoSuch is = absurd is
+unbuilt_limits db s v w changes fault.Stopped is = record { numbers = tt; generation = tt; store_room = tt; raised = tt }
+
+-- of the store as it was
+pub remade_limits : {v w : Store} {t : State} (s : State) (x : Store) (r : Result Tally Halt) → w ≡ v → t ≡ s → LimitsTurn t w x (rebuild t).changes r
+    → LimitsTurn s v x (rebuild s).changes r
+remade_limits {v = v} {w = w} {t = t} s x r store same p =
+    subst (λ (u : Store). LimitsTurn s u x (rebuild s).changes r) store (subst (λ (y : State). LimitsTurn y w x (rebuild y).changes r) same p)
 
 -- its index is full by the rows of the packages as they are
 pub unbuilt_turn : (old new : Files) (before after : Database) (changes : List Change) (f : ChangeFault) → IsRebuilt old new before after (Err f)

@@ -10,7 +10,6 @@ use Rattle.rpm_change.specs.declared.tally.Halt.{Halt}
 use Rattle.rpm_change.specs.declared.tally.Halt.TheVariants as halt
 use Rattle.rpm_change.specs.Adding.{stop_in, IsOfPlacing, IsOfPutting}
 use Rattle.rpm_change.specs.Endings.{Outputs, Through, Ended, IndexTurn, IsOfLines}
-use Rattle.rpm_change.specs.Numbers.{NumbersTurn}
 use Rattle.rpm_change.specs.Steps.{Course}
 
 -- a stop of reading: nothing was done
@@ -55,32 +54,7 @@ stop_turn s changes halt.DiskFault kind = absurd kind
 stop_turn s changes halt.OutFault kind = absurd kind
 stop_turn s changes halt.ErrFault kind = absurd kind
 
-pub stop_numbers : (s : State) (changes : List Change) (h : Halt) → IsOfReading h → NumbersTurn s changes (Err h)
-stop_numbers s changes halt.ShelfFault kind = tt
-stop_numbers s changes halt.NoMemory kind = tt
-stop_numbers s changes halt.NumbersSpent kind = absurd kind
-stop_numbers s changes halt.GenerationSpent kind = absurd kind
-stop_numbers s changes halt.StoreFull kind = absurd kind
-stop_numbers s changes (halt.IndexFull told) kind = absurd kind
-stop_numbers s changes (halt.BadIndex unit) kind = absurd kind
-stop_numbers s changes halt.DiskFault kind = absurd kind
-stop_numbers s changes halt.OutFault kind = absurd kind
-stop_numbers s changes halt.ErrFault kind = absurd kind
-
 -- ---- of a line
-
-pub line_numbers : (s : State) (r : Result Tally Halt) → IfErr r IsOfLines → NumbersTurn s [] r
-line_numbers s (Ok tally) kinds = tt
-line_numbers s (Err halt.NumbersSpent) kinds = absurd kinds
-line_numbers s (Err (halt.IndexFull told)) kinds = tt
-line_numbers s (Err (halt.BadIndex unit)) kinds = tt
-line_numbers s (Err halt.GenerationSpent) kinds = tt
-line_numbers s (Err halt.StoreFull) kinds = tt
-line_numbers s (Err halt.DiskFault) kinds = tt
-line_numbers s (Err halt.ShelfFault) kinds = tt
-line_numbers s (Err halt.OutFault) kinds = tt
-line_numbers s (Err halt.ErrFault) kinds = tt
-line_numbers s (Err halt.NoMemory) kinds = tt
 
 pub lines_putting : (number : Option ℕ) (r : Result Tally Halt) → IfErr r IsOfLines → IfErr r (IsOfPutting number)
 lines_putting number (Ok tally) kinds = tt

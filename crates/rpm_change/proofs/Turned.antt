@@ -12,10 +12,13 @@ use Rattle.rpm_change.specs.declared.tally.Halt.TheVariants as halt
 use Rattle.rpm_change.specs.declared.import.Turn.{Turn}
 use Rattle.rpm_db.specs.Changes.{Change}
 use Rattle.rpm_db.specs.State.{State}
+use Rattle.rpm_pkgdb.specs.Store.{Store}
 use Rattle.rpm_change.specs.Steps.{Course}
 use Rattle.rpm_change.specs.Turns.{Leaves, StopIs, tally_of, IsOfHeaders, IsOfImporting}
 use Rattle.rpm_change.specs.Endings.{Outputs, Through, Ended, IndexTurn, IsOfLines}
+use Rattle.rpm_change.specs.Limits.{LimitsTurn}
 use Rattle.rpm_change.proofs.Drops.{none_gone}
+use Rattle.rpm_change.proofs.Single.{read_limits}
 
 ok_of : (r : Result Turn Halt) (P : Tally → Type 0) → IfOk (tally_of r) P → IfOk r (λ t. P t.tally)
 ok_of (Ok t) P p = p
@@ -118,14 +121,14 @@ module _ (fault : ListFault) (h : Halt) (stop : StopIs fault (Some h)) where
   pub stop_turn : (s : State) (changes : List Change) → IndexTurn s changes (Err h)
   stop_turn s changes = elim (stop_is fault h stop) [ inl a ↦ (let e : h ≡ halt.ShelfFault = a.0 in rw e tt) | inr e ↦ rw e tt ]
 
+  pub stop_limits : (s : State) (v w : Store) (changes : List Change) → LimitsTurn s v w changes (Err h)
+  stop_limits s v w changes = elim (stop_is fault h stop) [
+    | inl a ↦ (let e : h ≡ halt.ShelfFault = a.0 in rw e (read_limits s v w changes halt.ShelfFault tt))
+    | inr e ↦ rw e (read_limits s v w changes halt.NoMemory tt)
+  ]
+
   pub stop_kinds : IsOfImporting h
   stop_kinds = elim (stop_is fault h stop) [ inl a ↦ (let e : h ≡ halt.ShelfFault = a.0 in rw e tt) | inr e ↦ rw e tt ]
-
-  pub stop_numbers : h ≡ halt.NumbersSpent → ⊥
-  stop_numbers is = elim (stop_is fault h stop) [ inl a ↦ (let e : h ≡ halt.ShelfFault = a.0 in cc) | inr e ↦ cc ]
-
-  pub stop_spent : h ≡ halt.GenerationSpent → ⊥
-  stop_spent is = elim (stop_is fault h stop) [ inl a ↦ (let e : h ≡ halt.ShelfFault = a.0 in cc) | inr e ↦ cc ]
 
   pub stop_disk : h ≡ halt.DiskFault → ⊥
   stop_disk is = elim (stop_is fault h stop) [ inl a ↦ (let e : h ≡ halt.ShelfFault = a.0 in cc) | inr e ↦ cc ]

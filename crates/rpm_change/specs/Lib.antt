@@ -4,6 +4,7 @@ pub mod Erasing
 pub mod Exercise
 pub mod Importing
 pub mod Installs
+pub mod Limits
 pub mod Numbers
 pub mod Rebuilding
 pub mod Steps

@@ -13,6 +13,7 @@ ghost use Rattle.rpm_db.specs.State.{state};
 ghost use Rattle.rpm_db.specs.inner.Writes.{SameLog};
 ghost use Rattle.rpm_change.specs.Adding.{change_at, put_read, put_file, adding, add_files, stop_in, IsOfPlacing, IsOfPutting};
 ghost use Rattle.rpm_change.specs.Endings.{outputs, Ended, IsCarried, IndexTurn};
+ghost use Rattle.rpm_change.specs.Limits.{SpentTurn, StoreTurn, LimitsTurn};
 ghost use Rattle.rpm_change.specs.Numbers.{NumbersTurn};
 ghost use Rattle.rpm_change.specs.Steps.{changing};
 
@@ -43,18 +44,15 @@ fn add_blob<D: Disk>(alloc: Global, db: &mut Db, disk: &mut D, blob: &[u8]) -> R
         (outputs out_tells out err_tells err) (outputs out_tells out err_tells err) }
     ensures room { IsTrue D.tells → IsIndexed (D.files disk.old).pkg (D.files disk.old).idx db.old
         → IndexTurn (state (D.files disk.old).pkg db.old.store) (Add blob.now ∷ []) result }
-    ensures numbers { IsTrue D.tells → NumbersTurn (state (D.files disk.old).pkg db.old.store) (Add blob.now ∷ []) result }
+    ensures limits { IsTrue D.tells → LimitsTurn (state (D.files disk.old).pkg db.old.store) db.old.store db.new.store (Add blob.now ∷ []) result }
     ensures one { IfOk result (λ tally. tally.failed + tally.changes ≡ 1) }
     ensures carried { IfOk result (λ _tally. IsCarried D.tells (D.files disk.old) (D.files disk.new) (D.left_since disk.new (D.moment disk.new))
         db.old db.new) }
     ensures indexed { is_indexed db.new ≡ true }
-    ensures spent { result ≡ Err Halt.GenerationSpent → db.new.store.generation ≡ 4294967295 }
     ensures kinds { IfErr result (IsOfPlacing None) }
     ensures runs { Runs D.tells D.files D.left_since D.moment D.bytes_read D.follows SameLog disk.old disk.new }
     ensures disk { HasCauseAt (result ≡ Err Halt.DiskFault) (D.faults disk.old) (D.faults disk.new) }
 {
-    // What it says of the state is what is asked of it; `add` looks at it again.
-    let _next = db.next_number();
     match db.add(alloc, disk, blob) {
         Ok(_) => Ok(Tally {
             failed: 0,
@@ -82,12 +80,11 @@ fn replace_blob<D: Disk>(
         (outputs out_tells out err_tells err) (outputs out_tells out err_tells err) }
     ensures room { IsTrue D.tells → IsIndexed (D.files disk.old).pkg (D.files disk.old).idx db.old
         → IndexTurn (state (D.files disk.old).pkg db.old.store) (Put number blob.now ∷ []) result }
-    ensures numbers { IsTrue D.tells → NumbersTurn (state (D.files disk.old).pkg db.old.store) (Put number blob.now ∷ []) result }
+    ensures limits { IsTrue D.tells → LimitsTurn (state (D.files disk.old).pkg db.old.store) db.old.store db.new.store (Put number blob.now ∷ []) result }
     ensures one { IfOk result (λ tally. tally.failed + tally.changes ≡ 1) }
     ensures carried { IfOk result (λ _tally. IsCarried D.tells (D.files disk.old) (D.files disk.new) (D.left_since disk.new (D.moment disk.new))
         db.old db.new) }
     ensures indexed { is_indexed db.new ≡ true }
-    ensures spent { result ≡ Err Halt.GenerationSpent → db.new.store.generation ≡ 4294967295 }
     ensures kinds { IfErr result (IsOfPlacing (Some number)) }
     ensures runs { Runs D.tells D.files D.left_since D.moment D.bytes_read D.follows SameLog disk.old disk.new }
     ensures disk { HasCauseAt (result ≡ Err Halt.DiskFault) (D.faults disk.old) (D.faults disk.new) }
@@ -119,12 +116,11 @@ fn put_blob<D: Disk>(
         (outputs out_tells out err_tells err) (outputs out_tells out err_tells err) }
     ensures room { IsTrue D.tells → IsIndexed (D.files disk.old).pkg (D.files disk.old).idx db.old
         → IndexTurn (state (D.files disk.old).pkg db.old.store) (change_at number blob.now ∷ []) result }
-    ensures numbers { IsTrue D.tells → NumbersTurn (state (D.files disk.old).pkg db.old.store) (change_at number blob.now ∷ []) result }
+    ensures limits { IsTrue D.tells → LimitsTurn (state (D.files disk.old).pkg db.old.store) db.old.store db.new.store (change_at number blob.now ∷ []) result }
     ensures one { IfOk result (λ tally. tally.failed + tally.changes ≡ 1) }
     ensures carried { IfOk result (λ _tally. IsCarried D.tells (D.files disk.old) (D.files disk.new) (D.left_since disk.new (D.moment disk.new))
         db.old db.new) }
     ensures indexed { is_indexed db.new ≡ true }
-    ensures spent { result ≡ Err Halt.GenerationSpent → db.new.store.generation ≡ 4294967295 }
     ensures kinds { IfErr result (IsOfPlacing number) }
     ensures runs { Runs D.tells D.files D.left_since D.moment D.bytes_read D.follows SameLog disk.old disk.new }
     ensures disk { HasCauseAt (result ≡ Err Halt.DiskFault) (D.faults disk.old) (D.faults disk.new) }
@@ -167,13 +163,12 @@ fn put_opened<D: Disk, S: Shelf, E: Sink + Drop>(
         (outputs out_tells out E.tells (E.taken (inner err.old))) (outputs out_tells out E.tells (E.taken (inner err.new))) }
     ensures room { IsTrue D.tells → IsTrue S.tells → IsIndexed (D.files disk.old).pkg (D.files disk.old).idx db.old → (j : ℕ)
         → IndexTurn (state (D.files disk.old).pkg db.old.store) (put_read how j path.now (left (S.rest shelf.old))).changes result }
-    ensures numbers { IsTrue D.tells → IsTrue S.tells → (j : ℕ)
-        → NumbersTurn (state (D.files disk.old).pkg db.old.store) (put_read how j path.now (left (S.rest shelf.old))).changes result }
+    ensures limits { IsTrue D.tells → IsTrue S.tells → (j : ℕ)
+        → LimitsTurn (state (D.files disk.old).pkg db.old.store) db.old.store db.new.store (put_read how j path.now (left (S.rest shelf.old))).changes result }
     ensures one { IfOk result (λ tally. tally.failed + tally.changes ≡ 1) }
     ensures carried { IfOk result (λ _tally. IsCarried D.tells (D.files disk.old) (D.files disk.new) (D.left_since disk.new (D.moment disk.new))
         db.old db.new) }
     ensures indexed { is_indexed db.new ≡ true }
-    ensures spent { result ≡ Err Halt.GenerationSpent → db.new.store.generation ≡ 4294967295 }
     ensures kinds { IfErr result (IsOfPutting how.number) }
     ensures runs { Runs D.tells D.files D.left_since D.moment D.bytes_read D.follows SameLog disk.old disk.new }
     ensures paths { IsTrue S.tells → S.paths shelf.new ≡ S.paths shelf.old }
@@ -212,13 +207,12 @@ pub fn put_file<D: Disk, S: Shelf, E: Sink + Drop>(
         (outputs out_tells out E.tells (E.taken (inner err.old))) (outputs out_tells out E.tells (E.taken (inner err.new))) }
     ensures room { IsTrue D.tells → IsTrue S.tells → IsIndexed (D.files disk.old).pkg (D.files disk.old).idx db.old → (j : ℕ)
         → IndexTurn (state (D.files disk.old).pkg db.old.store) (put_file how (S.paths shelf.old) j path.now).changes result }
-    ensures numbers { IsTrue D.tells → IsTrue S.tells → (j : ℕ)
-        → NumbersTurn (state (D.files disk.old).pkg db.old.store) (put_file how (S.paths shelf.old) j path.now).changes result }
+    ensures limits { IsTrue D.tells → IsTrue S.tells → (j : ℕ)
+        → LimitsTurn (state (D.files disk.old).pkg db.old.store) db.old.store db.new.store (put_file how (S.paths shelf.old) j path.now).changes result }
     ensures one { IfOk result (λ tally. tally.failed + tally.changes ≡ 1) }
     ensures carried { IfOk result (λ _tally. IsCarried D.tells (D.files disk.old) (D.files disk.new) (D.left_since disk.new (D.moment disk.new))
         db.old db.new) }
     ensures indexed { is_indexed db.new ≡ true }
-    ensures spent { result ≡ Err Halt.GenerationSpent → db.new.store.generation ≡ 4294967295 }
     ensures kinds { IfErr result (IsOfPutting how.number) }
     ensures runs { Runs D.tells D.files D.left_since D.moment D.bytes_read D.follows SameLog disk.old disk.new }
     ensures paths { IsTrue S.tells → S.paths shelf.new ≡ S.paths shelf.old }
@@ -242,8 +236,10 @@ pub fn put_file<D: Disk, S: Shelf, E: Sink + Drop>(
 /// # Errors
 ///
 /// - `NumbersSpent` exactly where, going through the files in order, one is to be added while the next number is 4294967295.
-/// - `GenerationSpent` where a file is to be added while the generation is 4294967295.
-/// - `StoreFull` where a header, or a package in the way of its slot page, fits nowhere below 4 GiB.
+/// - `GenerationSpent` exactly where, going through the files in order, one is to be added while the generation is 4294967295; each that is
+///   added raises it by one.
+/// - `StoreFull` exactly where, going through the files in order, the header of one, or a package in the way of its slot page, fits nowhere
+///   below 4 GiB.
 /// - `IndexFull` exactly where, going through the files in order, the rows after one is added need more than 268435456 units.
 /// - `BadIndex` only where a chain of the index isn't well formed, or unit 1 counts too little; never where the index holds the rows.
 /// - `DiskFault`, `ShelfFault` and `ErrFault` only where that object's count of faults rose.
@@ -274,7 +270,11 @@ pub fn add_files<D: Disk, S: Shelf, E: Sink + Drop>(
     ensures carried { IfOk result (λ _tally. IsCarried D.tells (D.files disk.old) (D.files disk.new) (D.left_since disk.new (D.moment disk.new))
         db.old db.new) }
     ensures indexed { is_indexed db.new ≡ true }
-    ensures spent { result ≡ Err Halt.GenerationSpent → db.new.store.generation ≡ 4294967295 }
+    ensures generation { IsTrue D.tells → IsTrue S.tells → SpentTurn db.old.store.generation
+        (add_files (S.paths shelf.old) now (state (D.files disk.old).pkg db.old.store) (map (λ path. path.now) paths.now)).changes result }
+    ensures store_room { IsTrue D.tells → IsTrue S.tells → StoreTurn
+        (add_files (S.paths shelf.old) now (state (D.files disk.old).pkg db.old.store) (map (λ path. path.now) paths.now)).changes db.old.store db.new.store
+        result }
     ensures kinds { IfErr result (IsOfPutting None) }
     ensures runs { Runs D.tells D.files D.left_since D.moment D.bytes_read D.follows SameLog disk.old disk.new }
     ensures paths { IsTrue S.tells → S.paths shelf.new ≡ S.paths shelf.old }

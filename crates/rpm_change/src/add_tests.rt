@@ -78,77 +78,55 @@ fn has(alloc: Global, disk: &mut MemDisk, number: u32, bytes: &str) -> Option<bo
     Some(text.as_str() == bytes)
 }
 
-#[test]
-fn files_are_added_and_replace(rt: HostRuntime) -> Result<(), Fail> {
-    let alloc = rt.alloc();
-    let mut file = hex::decode(alloc, FILE.as_bytes()).map_err(|_| "hex")?;
+/// A shelf with a package file, and with one that is cut short.
+fn shelved(alloc: Global) -> Option<MemShelf> {
+    let mut file = hex::decode(alloc, FILE.as_bytes()).ok()?;
     let mut shelf = MemShelf::new(alloc);
-    shelf.put("p1.rpm", &file)?;
+    shelf.put("p1.rpm", &file).ok()?;
     file.truncate(223);
-    shelf.put("cut.rpm", &file)?;
+    shelf.put("cut.rpm", &file).ok()?;
+    Some(shelf)
+}
+
+/// What a command came to that had no fault, and whose lines were taken.
+fn tallied(failed: u32, changes: u32) -> Said {
+    Some((Ok(Tally { failed, changes }), true))
+}
+
+#[test]
+fn files_are_added(rt: HostRuntime) -> Result<(), Fail> {
+    let alloc = rt.alloc();
+    let mut shelf = shelved(alloc).ok_or("shelf")?;
     let mut disk = MemDisk::new(alloc, &[], &[], &[])?;
     assert!(rt; make(alloc, &mut disk) == Some(true));
+    let paths = ["cut.rpm", "p1.rpm", "none"];
     let lines = "error: cut.rpm: file is cut short\nerror: open of none failed\n";
-    let said = add(
-        alloc,
-        &mut disk,
-        &mut shelf,
-        &["cut.rpm", "p1.rpm", "none"],
-        5,
-        lines,
-    );
-    assert!(rt;
-        said == Some((
-            Ok(Tally {
-                failed: 2,
-                changes: 1
-            }),
-            true
-        ))
-    );
+    assert!(rt; add(alloc, &mut disk, &mut shelf, &paths, 5, lines) == tallied(2, 1));
     assert!(rt; has(alloc, &mut disk, 1, AT_FIVE) == Some(true));
-    let said = replace(alloc, &mut disk, &mut shelf, 1, "p1.rpm", "");
-    assert!(rt;
-        said == Some((
-            Ok(Tally {
-                failed: 0,
-                changes: 1
-            }),
-            true
-        ))
-    );
+    assert!(rt; add(alloc, &mut disk, &mut shelf, &["p1.rpm"], 5, "") == tallied(0, 1));
+    assert!(rt; has(alloc, &mut disk, 2, AT_FIVE) == Some(true));
+    let mut torn = shelved(alloc).ok_or("shelf")?;
+    torn.fail_read(1);
+    let said = add(alloc, &mut disk, &mut torn, &["p1.rpm"], 5, "");
+    assert!(rt; said == Some((Err(Halt::ShelfFault), true)));
+    Ok(())
+}
+
+#[test]
+fn a_file_replaces(rt: HostRuntime) -> Result<(), Fail> {
+    let alloc = rt.alloc();
+    let mut shelf = shelved(alloc).ok_or("shelf")?;
+    let mut disk = MemDisk::new(alloc, &[], &[], &[])?;
+    assert!(rt; make(alloc, &mut disk) == Some(true));
+    assert!(rt; add(alloc, &mut disk, &mut shelf, &["p1.rpm"], 5, "") == tallied(0, 1));
+    assert!(rt; replace(alloc, &mut disk, &mut shelf, 1, "p1.rpm", "") == tallied(0, 1));
     assert!(rt; has(alloc, &mut disk, 1, AT_SIX) == Some(true));
     for (number, line) in [
         (4, "error: record 4 could not be read\n"),
         (0, "error: record 0 could not be read\n"),
     ] {
         let said = replace(alloc, &mut disk, &mut shelf, number, "none", line);
-        assert!(rt;
-            said == Some((
-                Ok(Tally {
-                    failed: 1,
-                    changes: 0
-                }),
-                true
-            )),
-            "{line}"
-        );
+        assert!(rt; said == tallied(1, 0), "{line}");
     }
-    let said = add(alloc, &mut disk, &mut shelf, &["p1.rpm"], 5, "");
-    assert!(rt;
-        said == Some((
-            Ok(Tally {
-                failed: 0,
-                changes: 1
-            }),
-            true
-        ))
-    );
-    assert!(rt; has(alloc, &mut disk, 2, AT_FIVE) == Some(true));
-    let mut torn = MemShelf::new(alloc);
-    torn.put("p1.rpm", &file)?;
-    torn.fail_read(1);
-    let said = add(alloc, &mut disk, &mut torn, &["p1.rpm"], 5, "");
-    assert!(rt; said == Some((Err(Halt::ShelfFault), true)));
     Ok(())
 }

@@ -10,6 +10,7 @@ ghost use Rattle.rpm_db.specs.State.{state};
 ghost use Rattle.rpm_db.specs.inner.Writes.{SameLog};
 ghost use Rattle.rpm_change.specs.Endings.{outputs, Ended, IsCarried, IndexTurn, IsOfErasing};
 ghost use Rattle.rpm_change.specs.Erasing.{erase_one, erase};
+ghost use Rattle.rpm_change.specs.Limits.{SpentTurn, StoreTurn, LimitsTurn};
 
 use crate::lines::put_missing;
 use crate::tally::{Halt, Tally, halt_of};
@@ -39,7 +40,9 @@ fn erase_one<D: Disk, E: Sink + Drop>(
     ensures carried { IfOk result (λ _tally. IsCarried D.tells (D.files disk.old) (D.files disk.new) (D.left_since disk.new (D.moment disk.new))
         db.old db.new) }
     ensures indexed { is_indexed db.new ≡ true }
-    ensures spent { result ≡ Err Halt.GenerationSpent → db.new.store.generation ≡ 4294967295 }
+    ensures limits { IsTrue D.tells → (j : ℕ)
+        → LimitsTurn (state (D.files disk.old).pkg db.old.store) db.old.store db.new.store
+        (erase_one (state (D.files disk.old).pkg db.old.store) j number).changes result }
     ensures kinds { IfErr result IsOfErasing }
     ensures runs { Runs D.tells D.files D.left_since D.moment D.bytes_read D.follows SameLog disk.old disk.new }
     ensures disk { HasCauseAt (result ≡ Err Halt.DiskFault) (D.faults disk.old) (D.faults disk.new) }
@@ -64,7 +67,8 @@ fn erase_one<D: Disk, E: Sink + Drop>(
 ///
 /// # Errors
 ///
-/// - `GenerationSpent` where a package is to be erased while the generation is 4294967295.
+/// - `GenerationSpent` exactly where, going through the numbers in order, a package is to be erased while the generation is 4294967295; each
+///   that is erased raises it by one.
 /// - `IndexFull` exactly where, going through the numbers in order, the rows after one is erased need more than 268435456 units.
 /// - `BadIndex` only where a chain of the index isn't well formed, or unit 1 counts too little; never where the index holds the rows.
 /// - `DiskFault` and `ErrFault` only where that object's count of faults rose.
@@ -90,7 +94,8 @@ pub fn erase_numbers<D: Disk, E: Sink + Drop>(
     ensures carried { IfOk result (λ _tally. IsCarried D.tells (D.files disk.old) (D.files disk.new) (D.left_since disk.new (D.moment disk.new))
         db.old db.new) }
     ensures indexed { is_indexed db.new ≡ true }
-    ensures spent { result ≡ Err Halt.GenerationSpent → db.new.store.generation ≡ 4294967295 }
+    ensures generation { IsTrue D.tells → SpentTurn db.old.store.generation (erase (state (D.files disk.old).pkg db.old.store) numbers.now).changes result }
+    ensures store_room { IsTrue D.tells → StoreTurn (erase (state (D.files disk.old).pkg db.old.store) numbers.now).changes db.old.store db.new.store result }
     ensures kinds { IfErr result IsOfErasing }
     ensures runs { Runs D.tells D.files D.left_since D.moment D.bytes_read D.follows SameLog disk.old disk.new }
     ensures disk { HasCauseAt (result ≡ Err Halt.DiskFault) (D.faults disk.old) (D.faults disk.new) }

@@ -8,12 +8,14 @@ ghost use Rattle.rpm_outside.specs.Causes.{HasCauseAt};
 ghost use Rattle.rpm_outside.specs.Shelves.{bytes_at};
 ghost use Rattle.rpm_file.specs.List.{list_head};
 ghost use Rattle.rpm_db.specs.Changes.{IsServing};
-ghost use Rattle.rpm_db.specs.Database.{IsIndexed, is_indexed, next_number};
+ghost use Rattle.rpm_db.specs.Database.{IsIndexed, is_indexed};
 ghost use Rattle.rpm_db.specs.Runs.{Runs};
 ghost use Rattle.rpm_db.specs.State.{state};
 ghost use Rattle.rpm_db.specs.inner.Writes.{SameLog};
 ghost use Rattle.rpm_change.specs.Endings.{outputs, Ended, IsCarried, IndexTurn};
 ghost use Rattle.rpm_change.specs.Importing.{place_fails, imported, import_listed, import_list, listed, max_headers};
+ghost use Rattle.rpm_change.specs.Limits.{SpentTurn, StoreTurn, LimitsTurn};
+ghost use Rattle.rpm_change.specs.Numbers.{NumbersTurn};
 ghost use Rattle.rpm_change.specs.Turns.{turn, turn_found, Leaves, StopIs, tally_of, counted_once, IsOfHeaders, IsOfImporting};
 
 use crate::lines::put_failing;
@@ -81,8 +83,8 @@ fn import_header<D: Disk, E: Sink + Drop>(
     ensures carried { IfOk result (λ _tally. IsCarried D.tells (D.files disk.old) (D.files disk.new) (D.left_since disk.new (D.moment disk.new))
         db.old db.new) }
     ensures indexed { is_indexed db.new ≡ true }
-    ensures numbers { result ≡ Err Halt.NumbersSpent → next_number db.new ≡ 4294967295 }
-    ensures spent { result ≡ Err Halt.GenerationSpent → db.new.store.generation ≡ 4294967295 }
+    ensures limits { IsTrue D.tells
+        → LimitsTurn (state (D.files disk.old).pkg db.old.store) db.old.store db.new.store (imported place (header blob.now)).changes result }
     ensures kinds { IfErr result IsOfHeaders }
     ensures runs { Runs D.tells D.files D.left_since D.moment D.bytes_read D.follows SameLog disk.old disk.new }
     ensures disk { HasCauseAt (result ≡ Err Halt.DiskFault) (D.faults disk.old) (D.faults disk.new) }
@@ -123,8 +125,8 @@ fn import_within<D: Disk, E: Sink + Drop>(
     ensures carried { IfOk result (λ _tally. IsCarried D.tells (D.files disk.old) (D.files disk.new) (D.left_since disk.new (D.moment disk.new))
         db.old db.new) }
     ensures indexed { is_indexed db.new ≡ true }
-    ensures numbers { result ≡ Err Halt.NumbersSpent → next_number db.new ≡ 4294967295 }
-    ensures spent { result ≡ Err Halt.GenerationSpent → db.new.store.generation ≡ 4294967295 }
+    ensures limits { IsTrue D.tells
+        → LimitsTurn (state (D.files disk.old).pkg db.old.store) db.old.store db.new.store (turn_found most place blob.now).changes result }
     ensures kinds { IfErr result IsOfHeaders }
     ensures runs { Runs D.tells D.files D.left_since D.moment D.bytes_read D.follows SameLog disk.old disk.new }
     ensures disk { HasCauseAt (result ≡ Err Halt.DiskFault) (D.faults disk.old) (D.faults disk.new) }
@@ -163,8 +165,9 @@ fn import_next<D: Disk, S: Shelf, E: Sink + Drop>(
     ensures one { IfOk result (λ done. done.tally.failed + done.tally.changes ≤ 1) }
     ensures carried { IfOk result (λ _done. IsCarried D.tells (D.files disk.old) (D.files disk.new) (D.left_since disk.new (D.moment disk.new)) db.old db.new) }
     ensures indexed { is_indexed db.new ≡ true }
-    ensures numbers { result ≡ Err Halt.NumbersSpent → next_number db.new ≡ 4294967295 }
-    ensures spent { result ≡ Err Halt.GenerationSpent → db.new.store.generation ≡ 4294967295 }
+    ensures limits { IsTrue D.tells → IsTrue S.tells
+        → LimitsTurn (state (D.files disk.old).pkg db.old.store) db.old.store db.new.store
+        (turn most place (list_head (left (S.rest shelf.old)))).changes (tally_of result) }
     ensures kinds { IfErr result IsOfImporting }
     ensures runs { Runs D.tells D.files D.left_since D.moment D.bytes_read D.follows SameLog disk.old disk.new }
     ensures browses { Browses S.tells S.paths S.rest S.absences S.faults shelf.old shelf.new }
@@ -215,8 +218,9 @@ fn import_open<D: Disk, S: Shelf, E: Sink + Drop>(
     ensures carried { IfOk result (λ _tally. IsCarried D.tells (D.files disk.old) (D.files disk.new) (D.left_since disk.new (D.moment disk.new))
         db.old db.new) }
     ensures indexed { is_indexed db.new ≡ true }
-    ensures numbers { result ≡ Err Halt.NumbersSpent → next_number db.new ≡ 4294967295 }
-    ensures spent { result ≡ Err Halt.GenerationSpent → db.new.store.generation ≡ 4294967295 }
+    ensures limits { IsTrue D.tells → IsTrue S.tells
+        → LimitsTurn (state (D.files disk.old).pkg db.old.store) db.old.store db.new.store
+        (import_listed most (listed (left (S.rest shelf.old)))).changes result }
     ensures kinds { IfErr result IsOfImporting }
     ensures runs { Runs D.tells D.files D.left_since D.moment D.bytes_read D.follows SameLog disk.old disk.new }
     ensures browses { Browses S.tells S.paths S.rest S.absences S.faults shelf.old shelf.new }
@@ -279,8 +283,9 @@ pub(crate) fn import_most<D: Disk, S: Shelf, E: Sink + Drop>(
     ensures carried { IfOk result (λ _tally. IsCarried D.tells (D.files disk.old) (D.files disk.new) (D.left_since disk.new (D.moment disk.new))
         db.old db.new) }
     ensures indexed { is_indexed db.new ≡ true }
-    ensures numbers { result ≡ Err Halt.NumbersSpent → next_number db.new ≡ 4294967295 }
-    ensures spent { result ≡ Err Halt.GenerationSpent → db.new.store.generation ≡ 4294967295 }
+    ensures limits { IsTrue D.tells → IsTrue S.tells
+        → LimitsTurn (state (D.files disk.old).pkg db.old.store) db.old.store db.new.store
+        (import_list most (bytes_at (S.paths shelf.old) (codes "-"))).changes result }
     ensures kinds { IfErr result IsOfImporting }
     ensures runs { Runs D.tells D.files D.left_since D.moment D.bytes_read D.follows SameLog disk.old disk.new }
     ensures paths { IsTrue S.tells → S.paths shelf.new ≡ S.paths shelf.old }
@@ -304,8 +309,10 @@ pub(crate) fn import_most<D: Disk, S: Shelf, E: Sink + Drop>(
 ///
 /// # Errors
 ///
-/// - `NumbersSpent` where a header is to be added while the next number is 4294967295, and `GenerationSpent` where the generation is.
-/// - `StoreFull` where a header fits nowhere below 4 GiB.
+/// - `NumbersSpent` exactly where, going through the headers in order, one is to be added while the next number is 4294967295.
+/// - `GenerationSpent` exactly where, going through the headers in order, one is to be added while the generation is 4294967295; each that
+///   is added raises it by one.
+/// - `StoreFull` exactly where, going through the headers in order, one, or a package in the way of its slot page, fits nowhere below 4 GiB.
 /// - `IndexFull` exactly where, going through the headers in order, the rows after one is added need more than 268435456 units.
 /// - `BadIndex` only where a chain of the index isn't well formed, or unit 1 counts too little; never where the index holds the rows.
 /// - `DiskFault`, `ShelfFault` and `ErrFault` only where that object's count of faults rose.
@@ -330,8 +337,12 @@ pub fn import_list<D: Disk, S: Shelf, E: Sink + Drop>(
     ensures carried { IfOk result (λ _tally. IsCarried D.tells (D.files disk.old) (D.files disk.new) (D.left_since disk.new (D.moment disk.new))
         db.old db.new) }
     ensures indexed { is_indexed db.new ≡ true }
-    ensures numbers { result ≡ Err Halt.NumbersSpent → next_number db.new ≡ 4294967295 }
-    ensures spent { result ≡ Err Halt.GenerationSpent → db.new.store.generation ≡ 4294967295 }
+    ensures numbers { IsTrue D.tells → IsTrue S.tells → NumbersTurn (state (D.files disk.old).pkg db.old.store)
+        (import_list max_headers (bytes_at (S.paths shelf.old) (codes "-"))).changes result }
+    ensures generation { IsTrue D.tells → IsTrue S.tells → SpentTurn db.old.store.generation
+        (import_list max_headers (bytes_at (S.paths shelf.old) (codes "-"))).changes result }
+    ensures store_room { IsTrue D.tells → IsTrue S.tells → StoreTurn
+        (import_list max_headers (bytes_at (S.paths shelf.old) (codes "-"))).changes db.old.store db.new.store result }
     ensures kinds { IfErr result IsOfImporting }
     ensures runs { Runs D.tells D.files D.left_since D.moment D.bytes_read D.follows SameLog disk.old disk.new }
     ensures paths { IsTrue S.tells → S.paths shelf.new ≡ S.paths shelf.old }

@@ -11,6 +11,7 @@ ghost use Rattle.rpm_db.specs.Runs.{Runs};
 ghost use Rattle.rpm_db.specs.State.{State, Package, Bad, state};
 ghost use Rattle.rpm_db.specs.inner.Writes.{SameLog};
 ghost use Rattle.rpm_change.specs.Endings.{outputs, Ended, IsCarried, IndexTurn};
+ghost use Rattle.rpm_change.specs.Limits.{SpentTurn, StoreTurn, LimitsTurn};
 ghost use Rattle.rpm_change.specs.Rebuilding.{dropped_line, dropped, rebuild, RebuildTurn, IsOfRebuilding};
 
 use crate::tally::{Halt, Tally, halt_of};
@@ -78,7 +79,8 @@ fn drop_bad<D: Disk, O: Sink + Drop>(
     ensures carried { IfOk result (λ _tally. IsCarried D.tells (D.files disk.old) (D.files disk.new) (D.left_since disk.new (D.moment disk.new))
         db.old db.new) }
     ensures indexed { is_indexed db.new ≡ true }
-    ensures spent { result ≡ Err Halt.GenerationSpent → db.new.store.generation ≡ 4294967295 }
+    ensures limits { IsTrue D.tells
+        → LimitsTurn (state (D.files disk.old).pkg db.old.store) db.old.store db.new.store (dropped number Bad).changes result }
     ensures kinds { IfErr result IsOfRebuilding }
     ensures runs { Runs D.tells D.files D.left_since D.moment D.bytes_read D.follows SameLog disk.old disk.new }
     ensures disk { HasCauseAt (result ≡ Err Halt.DiskFault) (D.faults disk.old) (D.faults disk.new) }
@@ -118,7 +120,8 @@ fn drop_one<D: Disk, O: Sink + Drop>(
     ensures carried { IfOk result (λ _tally. IsCarried D.tells (D.files disk.old) (D.files disk.new) (D.left_since disk.new (D.moment disk.new))
         db.old db.new) }
     ensures indexed { is_indexed db.new ≡ true }
-    ensures spent { result ≡ Err Halt.GenerationSpent → db.new.store.generation ≡ 4294967295 }
+    ensures limits { IsTrue D.tells → (p : Package) → finite.get (state (D.files disk.old).pkg db.old.store).packages number ≡ Some p
+        → LimitsTurn (state (D.files disk.old).pkg db.old.store) db.old.store db.new.store (dropped number p).changes result }
     ensures kinds { IfErr result IsOfRebuilding }
     ensures runs { Runs D.tells D.files D.left_since D.moment D.bytes_read D.follows SameLog disk.old disk.new }
     ensures disk { HasCauseAt (result ≡ Err Halt.DiskFault) (D.faults disk.old) (D.faults disk.new) }
@@ -157,7 +160,9 @@ fn drop_each<D: Disk, O: Sink + Drop>(
     ensures carried { IfOk result (λ _tally. IsCarried D.tells (D.files disk.old) (D.files disk.new) (D.left_since disk.new (D.moment disk.new))
         db.old db.new) }
     ensures indexed { is_indexed db.new ≡ true }
-    ensures spent { result ≡ Err Halt.GenerationSpent → db.new.store.generation ≡ 4294967295 }
+    ensures limits { IsTrue D.tells
+        → LimitsTurn (state (D.files disk.old).pkg db.old.store) db.old.store db.new.store
+        (rebuild (state (D.files disk.old).pkg db.old.store)).changes result }
     ensures kinds { IfErr result IsOfRebuilding }
     ensures runs { Runs D.tells D.files D.left_since D.moment D.bytes_read D.follows SameLog disk.old disk.new }
     ensures disk { HasCauseAt (result ≡ Err Halt.DiskFault) (D.faults disk.old) (D.faults disk.new) }
@@ -188,7 +193,8 @@ fn drop_each<D: Disk, O: Sink + Drop>(
 ///
 /// # Errors
 ///
-/// - `GenerationSpent` where a package is to be erased while the generation is 4294967295.
+/// - `GenerationSpent` exactly where, going through the packages that are Bad by rising number, one is to be erased while the generation is
+///   4294967295; each that is erased raises it by one.
 /// - `IndexFull` exactly where the rows of the packages as they are, or after one is erased, need more than 268435456 units.
 /// - `BadIndex` only where a chain of the index isn't well formed, or unit 1 counts too little; never where the disk's contents are told.
 /// - `DiskFault` and `OutFault` only where that object's count of faults rose.
@@ -213,7 +219,8 @@ pub fn rebuild<D: Disk, O: Sink + Drop>(
     ensures serving { IfOk result (λ _tally. IsTrue D.tells → IsServing (D.files disk.new) (D.left_since disk.new (D.moment disk.new)) db.new) }
     ensures index { IfOk result (λ _tally. IsTrue D.tells → IsIndexed (D.files disk.new).pkg (D.files disk.new).idx db.new) }
     ensures indexed { is_indexed db.new ≡ true }
-    ensures spent { result ≡ Err Halt.GenerationSpent → db.new.store.generation ≡ 4294967295 }
+    ensures generation { IsTrue D.tells → SpentTurn db.old.store.generation (rebuild (state (D.files disk.old).pkg db.old.store)).changes result }
+    ensures store_room { IsTrue D.tells → StoreTurn (rebuild (state (D.files disk.old).pkg db.old.store)).changes db.old.store db.new.store result }
     ensures kinds { IfErr result IsOfRebuilding }
     ensures runs { Runs D.tells D.files D.left_since D.moment D.bytes_read D.follows SameLog disk.old disk.new }
     ensures disk { HasCauseAt (result ≡ Err Halt.DiskFault) (D.faults disk.old) (D.faults disk.new) }

@@ -10,6 +10,7 @@ ghost use Rattle.rpm_db.specs.State.{state};
 ghost use Rattle.rpm_db.specs.inner.Writes.{SameLog};
 ghost use Rattle.rpm_change.specs.Adding.{replace, IsOfPutting};
 ghost use Rattle.rpm_change.specs.Endings.{outputs, Ended, IsCarried, IndexTurn};
+ghost use Rattle.rpm_change.specs.Limits.{SpentTurn, StoreTurn};
 
 use crate::add::{Placing, put_file};
 use crate::lines::put_missing;
@@ -26,8 +27,8 @@ use std::alloc::Global;
 ///
 /// # Errors
 ///
-/// - `GenerationSpent` where a package is to be put while the generation is 4294967295.
-/// - `StoreFull` where the header, as it replaces the old one, fits nowhere below 4 GiB.
+/// - `GenerationSpent` exactly where a header is to be put while the generation is 4294967295.
+/// - `StoreFull` exactly where the header, as it replaces the old one, fits nowhere below 4 GiB.
 /// - `IndexFull` exactly where the rows after the change need more than 268435456 units.
 /// - `BadIndex` only where a chain of the index isn't well formed, or unit 1 counts too little; never where the index holds the rows.
 /// - `DiskFault`, `ShelfFault` and `ErrFault` only where that object's count of faults rose.
@@ -57,7 +58,10 @@ pub fn replace_package<D: Disk, S: Shelf, E: Sink + Drop>(
     ensures carried { IfOk result (λ _tally. IsCarried D.tells (D.files disk.old) (D.files disk.new) (D.left_since disk.new (D.moment disk.new))
         db.old db.new) }
     ensures indexed { is_indexed db.new ≡ true }
-    ensures spent { result ≡ Err Halt.GenerationSpent → db.new.store.generation ≡ 4294967295 }
+    ensures generation { IsTrue D.tells → IsTrue S.tells → SpentTurn db.old.store.generation
+        (replace (S.paths shelf.old) now (state (D.files disk.old).pkg db.old.store) number path.now).changes result }
+    ensures store_room { IsTrue D.tells → IsTrue S.tells → StoreTurn
+        (replace (S.paths shelf.old) now (state (D.files disk.old).pkg db.old.store) number path.now).changes db.old.store db.new.store result }
     ensures kinds { IfErr result (IsOfPutting (Some number)) }
     ensures runs { Runs D.tells D.files D.left_since D.moment D.bytes_read D.follows SameLog disk.old disk.new }
     ensures untried { holds number db.old ≡ false → shelf.new ≡ shelf.old }

@@ -1,13 +1,14 @@
-use Rattle.std.proofs.Common.{◌≡◌, refl, sym, ◌∙◌}
+use Rattle.std.proofs.Common.{refl, sym, ◌∙◌}
 use Rattle.rpm_db.specs.Changes.{Add}
 use Rattle.rpm_db.specs.State.{state}
+use Rattle.rpm_db.proofs.States.{next-state}
 use Rattle.rpm_file.specs.Package.{read_again}
-use Rattle.rpm_change.specs.declared.tally.Halt.TheVariants as halt
-use Rattle.rpm_change.specs.Endings.{outputs, halt_of}
+use Rattle.rpm_change.specs.Endings.{outputs}
 use Rattle.rpm_change.specs.Steps.{changing}
 use Rattle.rpm_change.proofs.Courses.{through_none}
 use Rattle.rpm_change.proofs.Erased.{refused_ended}
-use Rattle.rpm_change.proofs.Placed.{one_turn, add_ends, add_spent, add_numbers, add_kinds}
+use Rattle.rpm_change.proofs.Placed.{one_turn, add_ends, add_kinds}
+use Rattle.rpm_change.proofs.Single.{one_made, one_refused, add_fault}
 use Rattle.rpm_change.proofs.add.add_blob.Goals as goal
 
 pub returns-in-Ok-clause-ended : goal.returns-in-Ok-clause-ended
@@ -22,9 +23,13 @@ returns-in-Ok-clause-ended g c = λ told out_tells err_tells out err.
 pub returns-in-Ok-clause-room : goal.returns-in-Ok-clause-room
 returns-in-Ok-clause-room g c = λ told rows. (c.in-Ok.ensures.full told c.requires.going rows (read_again c.args.blob.now) c.requires.own, tt)
 
-pub returns-in-Ok-clause-numbers : goal.returns-in-Ok-clause-numbers
-returns-in-Ok-clause-numbers g c = λ told.
-    (λ is. c.in-Ok.ensures.causes.0 (sym c.next_number-next.ensures.number ∙ c.next_number-next.ensures.told (g.D.Disk.files c.args.disk.now).pkg ∙ is), tt)
+pub returns-in-Ok-clause-limits : goal.returns-in-Ok-clause-limits
+returns-in-Ok-clause-limits g c = λ told.
+    let file = (g.D.Disk.files c.args.disk.now).pkg in
+    let done = c.in-Ok.ensures in
+    one_made (state file c.args.db.now.store) (Add c.args.blob.now) c.args.db.now.store c.add.new.self.store (record { failed = 0; changes = 1 })
+    (λ is. done.causes.0 (sym (next-state file c.args.db.now.store) ∙ is)) done.causes.1.later.0
+    (done.placed (read_again c.args.blob.now) c.requires.own) done.generation
 
 pub halt_of-requires : goal.halt_of-requires
 halt_of-requires g c = add_ends _ c.args.db.now c.args.blob.now c.in-Err.fault c.requires.going c.requires.own c.in-Err.ensures.causes
@@ -42,17 +47,15 @@ returns-in-Err-clause-room g c = λ told rows.
     (one_turn (state (g.D.Disk.files c.args.disk.now).pkg c.args.db.now.store) (Add c.args.blob.now) c.in-Err.fault
     (c.in-Err.ensures.full told c.requires.going rows (read_again c.args.blob.now) c.requires.own))
 
-pub returns-in-Err-clause-numbers : goal.returns-in-Err-clause-numbers
-returns-in-Err-clause-numbers g c = λ told.
+pub returns-in-Err-clause-limits : goal.returns-in-Err-clause-limits
+returns-in-Err-clause-limits g c = λ told.
     let file = (g.D.Disk.files c.args.disk.now).pkg in
+    let s = state file c.args.db.now.store in
     rw c.halt_of.ensures
-    (add_numbers _ c.args.db.now c.args.blob.now file c.in-Err.fault (sym (c.next_number-next.ensures.told file) ∙ c.next_number-next.ensures.number)
-    c.in-Err.ensures.causes)
-
-pub returns-in-Err-clause-spent : goal.returns-in-Err-clause-spent
-returns-in-Err-clause-spent g c = λ is.
-    let same : halt_of c.in-Err.fault ≡ halt.GenerationSpent = cc in
-    add_spent _ c.args.db.now c.args.blob.now c.add.new.self c.add.new.self.store.spare c.in-Err.fault c.in-Err.ensures.causes c.in-Err.ensures.refused same
+    (one_refused s (Add c.args.blob.now) c.args.db.now.store c.add.new.self.store c.in-Err.fault
+    (add_fault _ c.args.db.now s c.args.blob.now c.args.blob.now c.in-Err.fault
+    (next-state file c.args.db.now.store) c.in-Err.ensures.causes
+    (c.in-Err.ensures.placed (read_again c.args.blob.now) c.requires.own)))
 
 pub returns-in-Err-clause-kinds : goal.returns-in-Err-clause-kinds
 returns-in-Err-clause-kinds g c = rw c.halt_of.ensures (add_kinds c.in-Err.fault)

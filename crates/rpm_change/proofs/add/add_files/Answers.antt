@@ -1,4 +1,4 @@
-use Rattle.std.proofs.Common.{◌+◌, true, [], map, get_or, drop, refl, ◌∙◌, subst, Err, arith}
+use Rattle.std.proofs.Common.{◌+◌, true, [], map, get_or, drop, refl, ◌∙◌, subst, Ok, Err, arith}
 use Rattle.rpm_outside.specs.Buffered.{inner}
 use Rattle.rpm_outside.specs.Shelves.{Paths}
 use Rattle.rpm_db.specs.Database.{IsIndexed}
@@ -7,11 +7,11 @@ use Rattle.rpm_db.specs.inner.Running.{runs_none, runs_then}
 use Rattle.rpm_db.specs.inner.Writes.{SameLog}
 use Rattle.rpm_change.specs.Adding.{add_file, add_files}
 use Rattle.rpm_change.specs.Endings.{outputs, Done, Ended, AllHaveRoom, IndexTurn}
-use Rattle.rpm_change.specs.Numbers.{AllHaveNumbers, NumbersTurn}
+use Rattle.rpm_change.specs.Limits.{LimitsTurn}
 use Rattle.rpm_change.specs.Steps.{in_turn, apply_all}
 use Rattle.rpm_change.proofs.Courses.{halfway_start, halfway_more, halfway_stop, halfway_turn, halfway_end, halfway_room}
 use Rattle.rpm_change.proofs.Filed.{bytes, nothing, path_next, path_none}
-use Rattle.rpm_change.proofs.Numbers.{numbered_start, numbered_more, numbered_stop, numbered_end}
+use Rattle.rpm_change.proofs.Limits.{limited_start, limited_more, path_limits, limited_end}
 use Rattle.rpm_change.proofs.add.add_files.Goals as goal
 
 pub loop-path-init : goal.loop-path-init
@@ -22,7 +22,7 @@ loop-path-init g c =
       goes = λ told shelf_told out_tells out.
           halfway_start out_tells g.E.Sink.tells (IsIndexed (g.D.Disk.files c.args.disk.now).pkg (g.D.Disk.files c.args.disk.now).idx c.args.db.now)
           all s out (g.E.Sink.taken (inner c.args.err.now));
-      numbered = λ told shelf_told. numbered_start all s;
+      limited = λ told shelf_told. limited_start all s c.args.db.now.store;
       few = refl;
       carried = record { going = c.requires.going; serving = c.requires.serving; index = λ told rows. rows };
       indexed = c.requires.indexed;
@@ -62,12 +62,13 @@ loop-path-preserved g c =
           (inv.goes told shelf_told out_tells out) c.in-Ok.tally ended
           (λ rows. subst (λ (qs : Paths). AllHaveRoom t (add_file c.args.now qs t k path).changes) (inv.paths shelf_told)
           (done.room told shelf_told (inv.carried.index told rows) k));
-      numbered = λ told shelf_told.
+      limited = λ told shelf_told.
           let ended = subst (λ (qs : Paths). Done (add_file c.args.now qs t k path) t u c.in-Ok.tally (outputs true [] g.E.Sink.tells e')
           (outputs true [] g.E.Sink.tells e'')) (inv.paths shelf_told) (done.ended told shelf_told k true []) in
-          numbered_more (in_turn each s 0 (map bytes xs)) (in_turn each t k (map bytes (drop k xs))) turn rest s t u
-          (path_next each xs k t u (omega arith) ended.state_is) (inv.numbered told shelf_told) ended.state_is
-          (subst (λ (qs : Paths). AllHaveNumbers t (add_file c.args.now qs t k path).changes) (inv.paths shelf_told) (done.numbers told shelf_told k));
+          limited_more (in_turn each s 0 (map bytes xs)) (in_turn each t k (map bytes (drop k xs))) turn rest s t c.args.db.now.store c.loop-path.db.store
+          c.put_file.new.db.store (path_next each xs k t u (omega arith) ended.state_is) (inv.limited told shelf_told) u c.in-Ok.tally ended.state_is
+          (subst (λ (qs : Paths). LimitsTurn t c.loop-path.db.store c.put_file.new.db.store (add_file c.args.now qs t k path).changes (Ok c.in-Ok.tally))
+          (inv.paths shelf_told) (done.limits told shelf_told k));
       few = omega (arith, inv.few, done.one);
       carried = record {
         going = done.carried.going;
@@ -132,18 +133,44 @@ returns-in-Err-clause-room g c = λ told shelf_told rows.
 pub returns-in-Err-clause-numbers : goal.returns-in-Err-clause-numbers
 returns-in-Err-clause-numbers g c = λ told shelf_told.
     let k = c.loop-path.path-index in
-    let xs = c.args.paths.now in
-    let inv = c.loop-path.invariant in
-    let each = add_file c.args.now (g.S.Shelf.paths c.args.shelf.now) in
+    let ps = g.S.Shelf.paths c.args.shelf.now in
+    let path = bytes (get_or c.args.paths.now k nothing) in
     let s = state (g.D.Disk.files c.args.disk.now).pkg c.args.db.now.store in
     let t = state (g.D.Disk.files c.loop-path.disk).pkg c.loop-path.db.store in
-    let path = bytes (get_or xs k nothing) in
-    let turn = each t k path in
-    let v = apply_all turn.changes t in
-    numbered_stop (in_turn each s 0 (map bytes xs)) (in_turn each t k (map bytes (drop k xs))) turn
-    (in_turn each v (k + 1) (map bytes (drop (k + 1) xs))) s t v (path_next each xs k t v (omega arith) refl) (inv.numbered told shelf_told) c.in-Err.halt
-    (subst (λ (qs : Paths). NumbersTurn t (add_file c.args.now qs t k path).changes (Err c.in-Err.halt)) (inv.paths shelf_told)
-    (c.in-Err.ensures.numbers told shelf_told k))
+    let w = c.loop-path.db.store in
+    let x = c.put_file.new.db.store in
+    (path_limits (add_file c.args.now ps) c.args.paths.now k s t c.args.db.now.store w x (omega arith) (c.loop-path.invariant.limited told shelf_told)
+    c.in-Err.halt
+    (subst (λ (qs : Paths). LimitsTurn t w x (add_file c.args.now qs t k path).changes (Err c.in-Err.halt)) (c.loop-path.invariant.paths shelf_told)
+    (c.in-Err.ensures.limits told shelf_told k))).numbers
+
+pub returns-in-Err-clause-generation : goal.returns-in-Err-clause-generation
+returns-in-Err-clause-generation g c = λ told shelf_told.
+    let k = c.loop-path.path-index in
+    let ps = g.S.Shelf.paths c.args.shelf.now in
+    let path = bytes (get_or c.args.paths.now k nothing) in
+    let s = state (g.D.Disk.files c.args.disk.now).pkg c.args.db.now.store in
+    let t = state (g.D.Disk.files c.loop-path.disk).pkg c.loop-path.db.store in
+    let w = c.loop-path.db.store in
+    let x = c.put_file.new.db.store in
+    (path_limits (add_file c.args.now ps) c.args.paths.now k s t c.args.db.now.store w x (omega arith) (c.loop-path.invariant.limited told shelf_told)
+    c.in-Err.halt
+    (subst (λ (qs : Paths). LimitsTurn t w x (add_file c.args.now qs t k path).changes (Err c.in-Err.halt)) (c.loop-path.invariant.paths shelf_told)
+    (c.in-Err.ensures.limits told shelf_told k))).generation
+
+pub returns-in-Err-clause-store_room : goal.returns-in-Err-clause-store_room
+returns-in-Err-clause-store_room g c = λ told shelf_told.
+    let k = c.loop-path.path-index in
+    let ps = g.S.Shelf.paths c.args.shelf.now in
+    let path = bytes (get_or c.args.paths.now k nothing) in
+    let s = state (g.D.Disk.files c.args.disk.now).pkg c.args.db.now.store in
+    let t = state (g.D.Disk.files c.loop-path.disk).pkg c.loop-path.db.store in
+    let w = c.loop-path.db.store in
+    let x = c.put_file.new.db.store in
+    (path_limits (add_file c.args.now ps) c.args.paths.now k s t c.args.db.now.store w x (omega arith) (c.loop-path.invariant.limited told shelf_told)
+    c.in-Err.halt
+    (subst (λ (qs : Paths). LimitsTurn t w x (add_file c.args.now qs t k path).changes (Err c.in-Err.halt)) (c.loop-path.invariant.paths shelf_told)
+    (c.in-Err.ensures.limits told shelf_told k))).store_room
 
 pub returns-in-Err-clause-runs : goal.returns-in-Err-clause-runs
 returns-in-Err-clause-runs g c =
@@ -182,5 +209,28 @@ returns-clause-numbers g c = λ told shelf_told.
     let each = add_file c.args.now (g.S.Shelf.paths c.args.shelf.now) in
     let s = state (g.D.Disk.files c.args.disk.now).pkg c.args.db.now.store in
     let t = state (g.D.Disk.files c.loop-path.disk).pkg c.loop-path.db.store in
-    numbered_end (in_turn each s 0 (map bytes xs)) (in_turn each t k (map bytes (drop k xs))) s t (path_none each xs k t (omega arith))
-    (c.loop-path.invariant.numbered told shelf_told)
+    (limited_end (in_turn each s 0 (map bytes xs)) (in_turn each t k (map bytes (drop k xs))) s t c.args.db.now.store c.loop-path.db.store
+    (record { failed = c.loop-path.failed; changes = c.loop-path.changes }) (path_none each xs k t (omega arith))
+    (c.loop-path.invariant.limited told shelf_told)).numbers
+
+pub returns-clause-generation : goal.returns-clause-generation
+returns-clause-generation g c = λ told shelf_told.
+    let k = c.loop-path.path-index in
+    let xs = c.args.paths.now in
+    let each = add_file c.args.now (g.S.Shelf.paths c.args.shelf.now) in
+    let s = state (g.D.Disk.files c.args.disk.now).pkg c.args.db.now.store in
+    let t = state (g.D.Disk.files c.loop-path.disk).pkg c.loop-path.db.store in
+    (limited_end (in_turn each s 0 (map bytes xs)) (in_turn each t k (map bytes (drop k xs))) s t c.args.db.now.store c.loop-path.db.store
+    (record { failed = c.loop-path.failed; changes = c.loop-path.changes }) (path_none each xs k t (omega arith))
+    (c.loop-path.invariant.limited told shelf_told)).generation
+
+pub returns-clause-store_room : goal.returns-clause-store_room
+returns-clause-store_room g c = λ told shelf_told.
+    let k = c.loop-path.path-index in
+    let xs = c.args.paths.now in
+    let each = add_file c.args.now (g.S.Shelf.paths c.args.shelf.now) in
+    let s = state (g.D.Disk.files c.args.disk.now).pkg c.args.db.now.store in
+    let t = state (g.D.Disk.files c.loop-path.disk).pkg c.loop-path.db.store in
+    (limited_end (in_turn each s 0 (map bytes xs)) (in_turn each t k (map bytes (drop k xs))) s t c.args.db.now.store c.loop-path.db.store
+    (record { failed = c.loop-path.failed; changes = c.loop-path.changes }) (path_none each xs k t (omega arith))
+    (c.loop-path.invariant.limited told shelf_told)).store_room

@@ -10,7 +10,7 @@ use Rattle.rpm_change.specs.Endings.{IsCarried}
 use Rattle.rpm_change.specs.Steps.{in_turn}
 use Rattle.rpm_change.proofs.Courses.{Halfway}
 use Rattle.rpm_change.proofs.Filed.{bytes}
-use Rattle.rpm_change.proofs.Numbers.{Numbered}
+use Rattle.rpm_change.proofs.Limits.{Limited}
 use Rattle.rpm_change.proofs.add.add_files.Given as goal
 
 abbrev pub invariant-loop-path : goal.invariant-loop-path
@@ -22,11 +22,11 @@ invariant-loop-path g l = record {
       (map bytes (drop l.path-index l.paths)))
       (state (g.D.Disk.files l.initial.disk).pkg l.initial.db.store) (state (g.D.Disk.files l.disk).pkg l.db.store) l.failed l.changes out out
       (g.E.Sink.taken (inner l.initial.err)) (g.E.Sink.taken (inner l.err));
-  numbered : IsTrue g.D.Disk.tells → IsTrue g.S.Shelf.tells → Numbered
+  limited : IsTrue g.D.Disk.tells → IsTrue g.S.Shelf.tells → Limited
       (add_files (g.S.Shelf.paths l.initial.shelf) l.fn.now (state (g.D.Disk.files l.initial.disk).pkg l.initial.db.store) (map bytes l.paths))
       (in_turn (add_file l.fn.now (g.S.Shelf.paths l.initial.shelf)) (state (g.D.Disk.files l.disk).pkg l.db.store) l.path-index
       (map bytes (drop l.path-index l.paths)))
-      (state (g.D.Disk.files l.initial.disk).pkg l.initial.db.store) (state (g.D.Disk.files l.disk).pkg l.db.store);
+      (state (g.D.Disk.files l.initial.disk).pkg l.initial.db.store) (state (g.D.Disk.files l.disk).pkg l.db.store) l.initial.db.store l.db.store;
   few : l.failed + l.changes ≡ l.path-index;
   carried : IsCarried g.D.Disk.tells (g.D.Disk.files l.initial.disk) (g.D.Disk.files l.disk) (g.D.Disk.left_since l.disk (g.D.Disk.moment l.disk))
       l.initial.db l.db;

@@ -1,4 +1,4 @@
-use Rattle.std.proofs.Common.{Result, sym, subst}
+use Rattle.std.proofs.Common.{Result, refl, sym, subst}
 use Rattle.rpm_header.specs.Header.{Header}
 use Rattle.rpm_outside.specs.Browses.{left}
 use Rattle.rpm_outside.specs.Buffered.{inner}
@@ -7,11 +7,12 @@ use Rattle.rpm_file.specs.Package.{package_header}
 use Rattle.rpm_db.specs.State.{state}
 use Rattle.rpm_change.specs.Adding.{put_installed, put_read, as_installed}
 use Rattle.rpm_change.specs.Endings.{outputs, Ended, IndexTurn}
-use Rattle.rpm_change.specs.Numbers.{NumbersTurn}
+use Rattle.rpm_change.specs.Limits.{LimitsTurn}
 use Rattle.rpm_change.proofs.Courses.{through_none}
 use Rattle.rpm_change.proofs.Erased.{line_turn}
 use Rattle.rpm_change.proofs.Filed.{own_fault}
-use Rattle.rpm_change.proofs.Stops.{stop_kind, stop_ended, stop_turn, stop_numbers, line_numbers, placing_putting, lines_putting}
+use Rattle.rpm_change.proofs.Single.{line_limits, read_limits}
+use Rattle.rpm_change.proofs.Stops.{stop_kind, stop_ended, stop_turn, placing_putting, lines_putting}
 use Rattle.rpm_change.proofs.add.put_opened.Goals as goal
 
 pub returns-in-Ok-clause-ended : goal.returns-in-Ok-clause-ended
@@ -29,11 +30,12 @@ returns-in-Ok-clause-room g c = λ told shelf_told rows j.
     subst (λ (r : Result Header FileFault). IndexTurn s (put_installed c.args.how.number j c.args.path.now r).changes c.put_blob.result)
     (sym (c.in-Ok.ensures.gives shelf_told)) (rw c.deref.ensures.value at (c.put_blob.ensures.room told rows))
 
-pub returns-in-Ok-clause-numbers : goal.returns-in-Ok-clause-numbers
-returns-in-Ok-clause-numbers g c = λ told shelf_told j.
+pub returns-in-Ok-clause-limits : goal.returns-in-Ok-clause-limits
+returns-in-Ok-clause-limits g c = λ told shelf_told j.
     let s = state (g.D.Disk.files c.args.disk.now).pkg c.args.db.now.store in
-    subst (λ (r : Result Header FileFault). NumbersTurn s (put_installed c.args.how.number j c.args.path.now r).changes c.put_blob.result)
-    (sym (c.in-Ok.ensures.gives shelf_told)) (rw c.deref.ensures.value at (c.put_blob.ensures.numbers told))
+    subst (λ (r : Result Header FileFault). LimitsTurn s c.args.db.now.store c.put_blob.new.db.store
+    (put_installed c.args.how.number j c.args.path.now r).changes c.put_blob.result)
+    (sym (c.in-Ok.ensures.gives shelf_told)) (rw c.deref.ensures.value at (c.put_blob.ensures.limits told))
 
 pub returns-in-Ok-clause-kinds : goal.returns-in-Ok-clause-kinds
 returns-in-Ok-clause-kinds g c = placing_putting c.args.how.number c.put_blob.result c.put_blob.ensures.kinds
@@ -52,9 +54,9 @@ returns-in-Some-clause-room g c = λ told shelf_told rows j.
     (put_read c.args.how j c.args.path.now (left (g.S.Shelf.rest c.args.shelf.now))).changes c.in-Some.halt
     (stop_kind c.in-Err.fault c.in-Some.halt (sym c.in-Some.ensures))
 
-pub returns-in-Some-clause-numbers : goal.returns-in-Some-clause-numbers
-returns-in-Some-clause-numbers g c = λ told shelf_told j.
-    stop_numbers (state (g.D.Disk.files c.args.disk.now).pkg c.args.db.now.store)
+pub returns-in-Some-clause-limits : goal.returns-in-Some-clause-limits
+returns-in-Some-clause-limits g c = λ told shelf_told j.
+    read_limits (state (g.D.Disk.files c.args.disk.now).pkg c.args.db.now.store) c.args.db.now.store c.args.db.now.store
     (put_read c.args.how j c.args.path.now (left (g.S.Shelf.rest c.args.shelf.now))).changes c.in-Some.halt
     (stop_kind c.in-Err.fault c.in-Some.halt (sym c.in-Some.ensures))
 
@@ -75,13 +77,14 @@ returns-in-None-clause-room g c = λ told shelf_told rows j.
     (sym (own_fault said c.in-Err.fault (sym c.in-None.ensures) (c.in-Err.ensures.gives shelf_told)))
     (line_turn s c.put_refused.result c.put_refused.ensures.kinds)
 
-pub returns-in-None-clause-numbers : goal.returns-in-None-clause-numbers
-returns-in-None-clause-numbers g c = λ told shelf_told j.
+pub returns-in-None-clause-limits : goal.returns-in-None-clause-limits
+returns-in-None-clause-limits g c = λ told shelf_told j.
     let said = as_installed c.args.how.moment (package_header (left (g.S.Shelf.rest c.args.shelf.now))) in
     let s = state (g.D.Disk.files c.args.disk.now).pkg c.args.db.now.store in
-    subst (λ (r : Result Header FileFault). NumbersTurn s (put_installed c.args.how.number j c.args.path.now r).changes c.put_refused.result)
+    subst (λ (r : Result Header FileFault). LimitsTurn s c.args.db.now.store c.args.db.now.store
+    (put_installed c.args.how.number j c.args.path.now r).changes c.put_refused.result)
     (sym (own_fault said c.in-Err.fault (sym c.in-None.ensures) (c.in-Err.ensures.gives shelf_told)))
-    (line_numbers s c.put_refused.result c.put_refused.ensures.kinds)
+    (line_limits s c.args.db.now.store c.args.db.now.store c.args.db.now.store.spare c.put_refused.result refl c.put_refused.ensures.kinds)
 
 pub returns-in-None-clause-kinds : goal.returns-in-None-clause-kinds
 returns-in-None-clause-kinds g c = lines_putting c.args.how.number c.put_refused.result c.put_refused.ensures.kinds

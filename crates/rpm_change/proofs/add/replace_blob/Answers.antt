@@ -1,13 +1,13 @@
-use Rattle.std.proofs.Common.{◌≡◌, refl}
+use Rattle.std.proofs.Common.{refl}
 use Rattle.rpm_db.specs.Changes.{Put}
 use Rattle.rpm_db.specs.State.{state}
 use Rattle.rpm_file.specs.Package.{read_again}
-use Rattle.rpm_change.specs.declared.tally.Halt.TheVariants as halt
-use Rattle.rpm_change.specs.Endings.{outputs, halt_of}
+use Rattle.rpm_change.specs.Endings.{outputs}
 use Rattle.rpm_change.specs.Steps.{changing}
 use Rattle.rpm_change.proofs.Courses.{through_none}
 use Rattle.rpm_change.proofs.Erased.{refused_ended}
-use Rattle.rpm_change.proofs.Placed.{one_turn, put_ends, put_spent, put_numbers, put_kinds}
+use Rattle.rpm_change.proofs.Placed.{one_turn, put_ends, put_kinds}
+use Rattle.rpm_change.proofs.Single.{one_made, one_refused, put_fault}
 use Rattle.rpm_change.proofs.add.replace_blob.Goals as goal
 
 pub returns-in-Ok-clause-ended : goal.returns-in-Ok-clause-ended
@@ -21,6 +21,12 @@ returns-in-Ok-clause-ended g c = λ told out_tells err_tells out err.
 
 pub returns-in-Ok-clause-room : goal.returns-in-Ok-clause-room
 returns-in-Ok-clause-room g c = λ told rows. (c.in-Ok.ensures.full told c.requires.going rows (read_again c.args.blob.now) c.requires.own, tt)
+
+pub returns-in-Ok-clause-limits : goal.returns-in-Ok-clause-limits
+returns-in-Ok-clause-limits g c = λ told.
+    let done = c.in-Ok.ensures in
+    one_made (state (g.D.Disk.files c.args.disk.now).pkg c.args.db.now.store) (Put c.args.number c.args.blob.now) c.args.db.now.store c.put.new.self.store
+    (record { failed = 0; changes = 1 }) tt done.causes.1.later.0 (done.placed (read_again c.args.blob.now) c.requires.own) done.generation
 
 pub halt_of-requires : goal.halt_of-requires
 halt_of-requires g c = put_ends _ c.args.db.now c.args.number c.args.blob.now c.in-Err.fault c.requires.going c.requires.own c.requires.held
@@ -40,17 +46,13 @@ returns-in-Err-clause-room g c = λ told rows.
     (one_turn (state (g.D.Disk.files c.args.disk.now).pkg c.args.db.now.store) (Put c.args.number c.args.blob.now) c.in-Err.fault
     (c.in-Err.ensures.full told c.requires.going rows (read_again c.args.blob.now) c.requires.own))
 
-pub returns-in-Err-clause-numbers : goal.returns-in-Err-clause-numbers
-returns-in-Err-clause-numbers g c = λ told.
+pub returns-in-Err-clause-limits : goal.returns-in-Err-clause-limits
+returns-in-Err-clause-limits g c = λ told.
+    let s = state (g.D.Disk.files c.args.disk.now).pkg c.args.db.now.store in
     rw c.halt_of.ensures
-    (put_numbers _ c.args.db.now c.args.number c.args.blob.now (state (g.D.Disk.files c.args.disk.now).pkg c.args.db.now.store) c.in-Err.fault
-    c.in-Err.ensures.causes)
-
-pub returns-in-Err-clause-spent : goal.returns-in-Err-clause-spent
-returns-in-Err-clause-spent g c = λ is.
-    let same : halt_of c.in-Err.fault ≡ halt.GenerationSpent = cc in
-    put_spent _ c.args.db.now c.args.number c.args.blob.now c.put.new.self c.put.new.self.store.spare c.in-Err.fault c.in-Err.ensures.causes
-    c.in-Err.ensures.refused same
+    (one_refused s (Put c.args.number c.args.blob.now) c.args.db.now.store c.put.new.self.store c.in-Err.fault
+    (put_fault _ c.args.db.now s c.args.number c.args.blob.now c.in-Err.fault c.in-Err.ensures.causes
+    (c.in-Err.ensures.placed (read_again c.args.blob.now) c.requires.own)))
 
 pub returns-in-Err-clause-kinds : goal.returns-in-Err-clause-kinds
 returns-in-Err-clause-kinds g c = rw c.halt_of.ensures (put_kinds _ c.args.db.now c.args.number c.args.blob.now c.in-Err.fault c.in-Err.ensures.causes)

@@ -7,6 +7,7 @@ use Rattle.rpm_db.specs.inner.Writes.{SameLog}
 use Rattle.rpm_change.specs.Steps.{in_turn, apply_all}
 use Rattle.rpm_change.specs.Erasing.{erase_one, erase}
 use Rattle.rpm_change.proofs.Courses.{halfway_start, halfway_more, halfway_stop, halfway_turn, halfway_end, halfway_room, turn_next, turn_none}
+use Rattle.rpm_change.proofs.Limits.{limited_start, limited_more, limited_stop, limited_end}
 use Rattle.rpm_change.proofs.erase.erase_numbers.Goals as goal
 
 pub loop-number-init : goal.loop-number-init
@@ -15,6 +16,9 @@ loop-number-init g c = record {
       let s = state (g.D.Disk.files c.args.disk.now).pkg c.args.db.now.store in
       halfway_start out_tells g.E.Sink.tells (IsIndexed (g.D.Disk.files c.args.disk.now).pkg (g.D.Disk.files c.args.disk.now).idx c.args.db.now)
       (erase s c.args.numbers.now) s out (g.E.Sink.taken (inner c.args.err.now));
+  limited = λ told.
+      let s = state (g.D.Disk.files c.args.disk.now).pkg c.args.db.now.store in
+      limited_start (erase s c.args.numbers.now) s c.args.db.now.store;
   few = refl;
   carried = record { going = c.requires.going; serving = c.requires.serving; index = λ told rows. rows };
   indexed = c.requires.indexed;
@@ -43,6 +47,12 @@ loop-number-preserved g c =
           c.loop-number.failed c.loop-number.changes out out out (g.E.Sink.taken (inner c.args.err.now)) (g.E.Sink.taken (inner c.loop-number.err))
           (g.E.Sink.taken (inner c.erase_one.new.err)) (turn_next erase_one xs k 0 t u (omega arith) ended.state_is) (inv.goes told out_tells out)
           c.in-Ok.tally ended (λ rows. done.room told (inv.carried.index told rows) k);
+      limited = λ told.
+          let turn = erase_one t k (get_or xs k 0) in
+          let after = (done.ended told k true []).state_is in
+          limited_more (erase s xs) (in_turn erase_one t k (drop k xs)) turn (in_turn erase_one u (k + 1) (drop (k + 1) xs)) s t c.args.db.now.store
+          c.loop-number.db.store c.erase_one.new.db.store (turn_next erase_one xs k 0 t u (omega arith) after) (inv.limited told) u c.in-Ok.tally after
+          (done.limits told k);
       few = omega (arith, inv.few, done.one);
       carried = record {
         going = done.carried.going;
@@ -94,6 +104,30 @@ returns-in-Err-clause-room g c = λ told rows.
     (turn_next erase_one xs k 0 t v (omega arith) refl) (inv.goes told true []) c.in-Err.halt rows
     (c.in-Err.ensures.room told (inv.carried.index told rows) k)
 
+pub returns-in-Err-clause-generation : goal.returns-in-Err-clause-generation
+returns-in-Err-clause-generation g c = λ told.
+    let k = c.loop-number.number-index in
+    let xs = c.args.numbers.now in
+    let s = state (g.D.Disk.files c.args.disk.now).pkg c.args.db.now.store in
+    let t = state (g.D.Disk.files c.loop-number.disk).pkg c.loop-number.db.store in
+    let turn = erase_one t k (get_or xs k 0) in
+    let v = apply_all turn.changes t in
+    (limited_stop (erase s xs) (in_turn erase_one t k (drop k xs)) turn (in_turn erase_one v (k + 1) (drop (k + 1) xs)) s t c.args.db.now.store
+    c.loop-number.db.store c.erase_one.new.db.store (turn_next erase_one xs k 0 t v (omega arith) refl) (c.loop-number.invariant.limited told) c.in-Err.halt
+    (c.in-Err.ensures.limits told k)).generation
+
+pub returns-in-Err-clause-store_room : goal.returns-in-Err-clause-store_room
+returns-in-Err-clause-store_room g c = λ told.
+    let k = c.loop-number.number-index in
+    let xs = c.args.numbers.now in
+    let s = state (g.D.Disk.files c.args.disk.now).pkg c.args.db.now.store in
+    let t = state (g.D.Disk.files c.loop-number.disk).pkg c.loop-number.db.store in
+    let turn = erase_one t k (get_or xs k 0) in
+    let v = apply_all turn.changes t in
+    (limited_stop (erase s xs) (in_turn erase_one t k (drop k xs)) turn (in_turn erase_one v (k + 1) (drop (k + 1) xs)) s t c.args.db.now.store
+    c.loop-number.db.store c.erase_one.new.db.store (turn_next erase_one xs k 0 t v (omega arith) refl) (c.loop-number.invariant.limited told) c.in-Err.halt
+    (c.in-Err.ensures.limits told k)).store_room
+
 pub returns-in-Err-clause-runs : goal.returns-in-Err-clause-runs
 returns-in-Err-clause-runs g c =
     runs_then g.D.Disk.tells g.D.Disk.files g.D.Disk.left_since g.D.Disk.moment g.D.Disk.bytes_read g.D.Disk.follows g.met.D.Disk.follows_trans
@@ -121,3 +155,23 @@ returns-clause-room g c = λ told rows.
     halfway_room true g.E.Sink.tells P (erase s xs) (in_turn erase_one t k (drop k xs)) s t c.loop-number.failed c.loop-number.changes [] []
     (g.E.Sink.taken (inner c.args.err.now)) (g.E.Sink.taken (inner c.loop-number.err)) (turn_none erase_one xs k t (omega arith))
     (c.loop-number.invariant.goes told true []) rows
+
+pub returns-clause-generation : goal.returns-clause-generation
+returns-clause-generation g c = λ told.
+    let k = c.loop-number.number-index in
+    let xs = c.args.numbers.now in
+    let s = state (g.D.Disk.files c.args.disk.now).pkg c.args.db.now.store in
+    let t = state (g.D.Disk.files c.loop-number.disk).pkg c.loop-number.db.store in
+    (limited_end (erase s xs) (in_turn erase_one t k (drop k xs)) s t c.args.db.now.store c.loop-number.db.store
+    (record { failed = c.loop-number.failed; changes = c.loop-number.changes }) (turn_none erase_one xs k t (omega arith))
+    (c.loop-number.invariant.limited told)).generation
+
+pub returns-clause-store_room : goal.returns-clause-store_room
+returns-clause-store_room g c = λ told.
+    let k = c.loop-number.number-index in
+    let xs = c.args.numbers.now in
+    let s = state (g.D.Disk.files c.args.disk.now).pkg c.args.db.now.store in
+    let t = state (g.D.Disk.files c.loop-number.disk).pkg c.loop-number.db.store in
+    (limited_end (erase s xs) (in_turn erase_one t k (drop k xs)) s t c.args.db.now.store c.loop-number.db.store
+    (record { failed = c.loop-number.failed; changes = c.loop-number.changes }) (turn_none erase_one xs k t (omega arith))
+    (c.loop-number.invariant.limited told)).store_room

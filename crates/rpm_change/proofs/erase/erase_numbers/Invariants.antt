@@ -9,6 +9,7 @@ use Rattle.rpm_change.specs.Steps.{in_turn}
 use Rattle.rpm_change.specs.Endings.{IsCarried}
 use Rattle.rpm_change.specs.Erasing.{erase_one, erase}
 use Rattle.rpm_change.proofs.Courses.{Halfway}
+use Rattle.rpm_change.proofs.Limits.{Limited}
 use Rattle.rpm_change.proofs.erase.erase_numbers.Given as goal
 
 abbrev pub invariant-loop-number : goal.invariant-loop-number
@@ -19,6 +20,9 @@ invariant-loop-number g l = record {
       (in_turn erase_one (state (g.D.Disk.files l.disk).pkg l.db.store) l.number-index (drop l.number-index l.numbers))
       (state (g.D.Disk.files l.initial.disk).pkg l.initial.db.store) (state (g.D.Disk.files l.disk).pkg l.db.store) l.failed l.changes out out
       (g.E.Sink.taken (inner l.initial.err)) (g.E.Sink.taken (inner l.err));
+  limited : IsTrue g.D.Disk.tells → Limited (erase (state (g.D.Disk.files l.initial.disk).pkg l.initial.db.store) l.numbers)
+      (in_turn erase_one (state (g.D.Disk.files l.disk).pkg l.db.store) l.number-index (drop l.number-index l.numbers))
+      (state (g.D.Disk.files l.initial.disk).pkg l.initial.db.store) (state (g.D.Disk.files l.disk).pkg l.db.store) l.initial.db.store l.db.store;
   few : l.failed + l.changes ≡ l.number-index;
   carried : IsCarried g.D.Disk.tells (g.D.Disk.files l.initial.disk) (g.D.Disk.files l.disk) (g.D.Disk.left_since l.disk (g.D.Disk.moment l.disk))
       l.initial.db l.db;

@@ -1,12 +1,15 @@
-use Rattle.std.proofs.Common.{◌≡◌, refl, sym, subst}
+use Rattle.std.proofs.Common.{◌≡◌, Ok, refl, sym, ap, subst}
 use Rattle.rpm_outside.specs.Buffered.{inner}
+use Rattle.rpm_db.specs.Changes.{Erase}
+use Rattle.rpm_db.specs.Database.{Database}
 use Rattle.rpm_db.specs.State.{State, state}
-use Rattle.rpm_change.specs.declared.tally.Halt.TheVariants as halt
 use Rattle.rpm_change.specs.Steps.{Course}
-use Rattle.rpm_change.specs.Endings.{outputs, Done, Ended, IndexTurn, halt_of}
+use Rattle.rpm_change.specs.Endings.{outputs, Done, Ended, IndexTurn}
 use Rattle.rpm_change.specs.Erasing.{erase_one}
+use Rattle.rpm_change.specs.Limits.{LimitsTurn}
 use Rattle.rpm_change.proofs.Courses.{through_none}
-use Rattle.rpm_change.proofs.Erased.{erase_held, erase_missing, state_same, line_turn, refused_ended, erase_kinds, erase_spent, refused_turn}
+use Rattle.rpm_change.proofs.Erased.{erase_held, erase_missing, state_same, line_turn, refused_ended, erase_kinds, refused_turn, erase_limits}
+use Rattle.rpm_change.proofs.Single.{one_made, line_limits}
 use Rattle.rpm_change.proofs.erase.erase_one.Goals as goal
 
 pub returns-in-Ok-clause-ended : goal.returns-in-Ok-clause-ended
@@ -23,6 +26,16 @@ returns-in-Ok-clause-ended g c = λ told j out_tells out.
       changes = refl;
       state_is = c.in-Ok.ensures.state told;
     })
+
+pub returns-in-Ok-clause-limits : goal.returns-in-Ok-clause-limits
+returns-in-Ok-clause-limits g c = λ told j.
+    let file = (g.D.Disk.files c.args.disk.now).pkg in
+    let s = state file c.args.db.now.store in
+    let done = c.in-Ok.ensures in
+    subst (λ (x : Course). LimitsTurn s c.args.db.now.store c.erase.new.self.store x.changes (Ok (record { failed = 0; changes = 1 })))
+    (sym (erase_held file c.args.db.now j c.args.number done.causes.1))
+    (one_made s (Erase c.args.number) c.args.db.now.store c.erase.new.self.store (record { failed = 0; changes = 1 }) tt done.causes.2.0 done.placed
+    done.generation)
 
 pub returns-in-Err-NoSuch-clause-ended : goal.returns-in-Err-NoSuch-clause-ended
 returns-in-Err-NoSuch-clause-ended g c = λ told j out_tells out.
@@ -46,6 +59,16 @@ returns-in-Err-NoSuch-clause-room g c = λ told indexed j.
     subst (λ (x : Course). IndexTurn s x.changes c.put_missing.result) (sym (erase_missing file c.args.db.now j c.args.number said.causes.1))
     (line_turn s c.put_missing.result c.put_missing.ensures.kinds)
 
+pub returns-in-Err-NoSuch-clause-limits : goal.returns-in-Err-NoSuch-clause-limits
+returns-in-Err-NoSuch-clause-limits g c = λ told j.
+    let file = (g.D.Disk.files c.args.disk.now).pkg in
+    let s = state file c.args.db.now.store in
+    let said = rw c.in-Err-NoSuch.field-0-is at c.in-Err-NoSuch.ensures in
+    subst (λ (x : Course). LimitsTurn s c.args.db.now.store c.erase.new.self.store x.changes c.put_missing.result)
+    (sym (erase_missing file c.args.db.now j c.args.number said.causes.1))
+    (line_limits s c.args.db.now.store c.erase.new.self.store c.args.db.now.store.spare c.put_missing.result
+    (ap (λ (db : Database). db.store) (said.refused tt)) c.put_missing.ensures.kinds)
+
 pub returns-in-Err-clause-ended : goal.returns-in-Err-clause-ended
 returns-in-Err-clause-ended g c = λ told j out_tells out.
     let s = state (g.D.Disk.files c.args.disk.now).pkg c.args.db.now.store in
@@ -60,10 +83,10 @@ returns-in-Err-clause-room g c = λ told indexed j.
     (refused_turn (g.D.Disk.files c.args.disk.now).pkg c.args.db.now j c.args.number c.in-Err.fault c.in-Err.ensures.causes
     (c.in-Err.ensures.full told c.requires.going indexed))
 
-pub returns-in-Err-clause-spent : goal.returns-in-Err-clause-spent
-returns-in-Err-clause-spent g c = λ is.
-    let same : halt_of c.in-Err.fault ≡ halt.GenerationSpent = cc in
-    erase_spent c.args.db.now c.erase.new.self c.args.number c.in-Err.fault c.in-Err.ensures.causes c.in-Err.ensures.refused same
+pub returns-in-Err-clause-limits : goal.returns-in-Err-clause-limits
+returns-in-Err-clause-limits g c = λ told j.
+    rw c.halt_of.ensures
+    (erase_limits (g.D.Disk.files c.args.disk.now).pkg c.args.db.now j c.args.number c.erase.new.self.store c.in-Err.fault c.in-Err.ensures.causes)
 
 pub returns-in-Err-clause-kinds : goal.returns-in-Err-clause-kinds
 returns-in-Err-clause-kinds g c = rw c.halt_of.ensures (erase_kinds c.args.db.now c.args.number c.in-Err.fault c.in-Err.ensures.causes)

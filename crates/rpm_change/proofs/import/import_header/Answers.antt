@@ -1,15 +1,18 @@
-use Rattle.std.proofs.Common.{◌≡◌, Ok, refl, sym, subst, ap, ◌∙◌}
+use Rattle.std.proofs.Common.{Ok, refl, sym, subst, ap, ◌∙◌}
 use Rattle.rpm_outside.specs.Buffered.{inner}
 use Rattle.rpm_header.specs.Header.{header}
+use Rattle.rpm_db.specs.Changes.{Add}
 use Rattle.rpm_db.specs.Database.{Database}
 use Rattle.rpm_db.specs.State.{State, state}
-use Rattle.rpm_change.specs.declared.tally.Halt.TheVariants as halt
+use Rattle.rpm_db.proofs.States.{next-state}
 use Rattle.rpm_change.specs.Steps.{Course}
-use Rattle.rpm_change.specs.Endings.{outputs, Done, Ended, IsCarried, IndexTurn, halt_of}
+use Rattle.rpm_change.specs.Endings.{outputs, Done, Ended, IsCarried, IndexTurn}
 use Rattle.rpm_change.specs.Importing.{imported}
+use Rattle.rpm_change.specs.Limits.{LimitsTurn}
 use Rattle.rpm_change.proofs.Courses.{through_none}
 use Rattle.rpm_change.proofs.Erased.{line_turn, refused_ended}
-use Rattle.rpm_change.proofs.Imported.{imported_good, state_room, indexed_room, any_ok, add_turn, add_kinds, add_spent, add_numbers}
+use Rattle.rpm_change.proofs.Imported.{imported_good, state_room, indexed_room, any_ok, add_turn, add_kinds, add_limits}
+use Rattle.rpm_change.proofs.Single.{one_made, line_limits}
 use Rattle.rpm_change.proofs.import.import_header.Goals as goal
 
 pub returns-in-Ok-clause-ended : goal.returns-in-Ok-clause-ended
@@ -35,6 +38,18 @@ returns-in-Ok-clause-room g c = λ told indexed.
     (sym (imported_good c.args.place c.args.blob.now put.own put.read))
     (c.in-Ok.ensures.full told c.requires.going indexed put.own put.read, tt)
 
+pub returns-in-Ok-clause-limits : goal.returns-in-Ok-clause-limits
+returns-in-Ok-clause-limits g c = λ told.
+    let file = (g.D.Disk.files c.args.disk.now).pkg in
+    let s = state file c.args.db.now.store in
+    let done = c.in-Ok.ensures in
+    let put = done.causes.1 in
+    subst (λ (x : Course). LimitsTurn s c.args.db.now.store c.add.new.self.store x.changes (Ok (record { failed = 0; changes = 1 })))
+    (sym (imported_good c.args.place c.args.blob.now put.own put.read))
+    (one_made s (Add put.own.blob) c.args.db.now.store c.add.new.self.store (record { failed = 0; changes = 1 })
+    (λ is. done.causes.0 (sym (next-state file c.args.db.now.store) ∙ is)) put.later.0 (done.placed put.own put.read)
+    done.generation)
+
 pub returns-in-Err-BadHeader-clause-ended : goal.returns-in-Err-BadHeader-clause-ended
 returns-in-Err-BadHeader-clause-ended g c = λ told out_tells out.
     let s = state (g.D.Disk.files c.args.disk.now).pkg c.args.db.now.store in
@@ -53,6 +68,15 @@ returns-in-Err-BadHeader-clause-room g c = λ told indexed.
     let said = rw c.in-Err-BadHeader.field-0-is at c.in-Err-BadHeader.ensures in
     subst (λ (x : Course). IndexTurn s x.changes c.put_bad_header.result) (sym (ap (imported c.args.place) said.causes.1))
     (line_turn s c.put_bad_header.result c.put_bad_header.ensures.kinds)
+
+pub returns-in-Err-BadHeader-clause-limits : goal.returns-in-Err-BadHeader-clause-limits
+returns-in-Err-BadHeader-clause-limits g c = λ told.
+    let s = state (g.D.Disk.files c.args.disk.now).pkg c.args.db.now.store in
+    let said = rw c.in-Err-BadHeader.field-0-is at c.in-Err-BadHeader.ensures in
+    subst (λ (x : Course). LimitsTurn s c.args.db.now.store c.add.new.self.store x.changes c.put_bad_header.result)
+    (sym (ap (imported c.args.place) said.causes.1))
+    (line_limits s c.args.db.now.store c.add.new.self.store c.add.new.self.store.spare c.put_bad_header.result
+    (ap (λ (db : Database). db.store) (said.refused tt)) c.put_bad_header.ensures.kinds)
 
 pub returns-in-Err-BadHeader-clause-carried : goal.returns-in-Err-BadHeader-clause-carried
 returns-in-Err-BadHeader-clause-carried g c =
@@ -82,15 +106,12 @@ returns-in-Err-clause-room g c = λ told indexed.
     rw c.halt_of.ensures
     (add_turn c.args.db.now s c.args.place c.args.blob.now c.in-Err.fault c.in-Err.ensures.causes (c.in-Err.ensures.full told c.requires.going indexed))
 
-pub returns-in-Err-clause-numbers : goal.returns-in-Err-clause-numbers
-returns-in-Err-clause-numbers g c = λ is.
-    let same : halt_of c.in-Err.fault ≡ halt.NumbersSpent = cc in
-    add_numbers c.args.db.now c.add.new.self c.args.blob.now c.in-Err.fault c.in-Err.ensures.causes c.in-Err.ensures.refused same
-
-pub returns-in-Err-clause-spent : goal.returns-in-Err-clause-spent
-returns-in-Err-clause-spent g c = λ is.
-    let same : halt_of c.in-Err.fault ≡ halt.GenerationSpent = cc in
-    add_spent c.args.db.now c.add.new.self c.args.blob.now c.in-Err.fault c.in-Err.ensures.causes c.in-Err.ensures.refused same
+pub returns-in-Err-clause-limits : goal.returns-in-Err-clause-limits
+returns-in-Err-clause-limits g c = λ told.
+    let file = (g.D.Disk.files c.args.disk.now).pkg in
+    rw c.halt_of.ensures
+    (add_limits c.args.db.now (state file c.args.db.now.store) c.add.new.self.store c.args.place c.args.blob.now
+    (next-state file c.args.db.now.store) c.in-Err.fault c.in-Err.ensures.causes c.in-Err.ensures.placed)
 
 pub returns-in-Err-clause-kinds : goal.returns-in-Err-clause-kinds
 returns-in-Err-clause-kinds g c = rw c.halt_of.ensures (add_kinds c.in-Err.fault)

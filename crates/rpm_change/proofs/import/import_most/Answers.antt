@@ -1,4 +1,4 @@
-use Rattle.std.proofs.Common.{sym, subst}
+use Rattle.std.proofs.Common.{refl, sym, subst}
 use Rattle.std.specs.Prelude.{codes}
 use Rattle.rpm_outside.specs.Browses.{left}
 use Rattle.rpm_outside.specs.Buffered.{inner}
@@ -7,9 +7,11 @@ use Rattle.rpm_db.specs.State.{state}
 use Rattle.rpm_change.specs.Steps.{Course, whole}
 use Rattle.rpm_change.specs.Endings.{outputs, Ended, IndexTurn}
 use Rattle.rpm_change.specs.Importing.{import_listed, listed}
+use Rattle.rpm_change.specs.Limits.{LimitsTurn}
 use Rattle.rpm_change.specs.Turns.{counted_once}
-use Rattle.rpm_change.proofs.Imported.{ended_once, turn_once, opened_list, absent_list}
+use Rattle.rpm_change.proofs.Imported.{ended_once, turn_once, limits_once, opened_list, absent_list}
 use Rattle.rpm_change.proofs.Erased.{line_turn}
+use Rattle.rpm_change.proofs.Single.{line_limits}
 use Rattle.rpm_change.proofs.import.import_most.Goals as goal
 
 pub returns-in-Ok-clause-ended : goal.returns-in-Ok-clause-ended
@@ -35,6 +37,18 @@ returns-in-Ok-clause-room g c = λ told heard rows.
     (sym (opened_list c.args.most found rest (c.in-Ok.ensures.opened heard).0 (c.in-Ok.ensures.opened heard).1))
     (turn_once (import_listed c.args.most (listed (left rest))) s c.import_open.result (c.import_open.ensures.room told heard rows)))
 
+pub returns-in-Ok-clause-limits : goal.returns-in-Ok-clause-limits
+returns-in-Ok-clause-limits g c = λ told heard.
+    let s = state (g.D.Disk.files c.args.disk.now).pkg c.args.db.now.store in
+    let v = c.args.db.now.store in
+    let w = c.import_open.new.db.store in
+    let found = bytes_at (g.S.Shelf.paths c.args.shelf.now) (codes "-") in
+    let rest = g.S.Shelf.rest c.open.new.self in
+    rw c.counted_once.ensures
+    (subst (λ (x : Course). LimitsTurn s v w x.changes (counted_once c.import_open.result))
+    (sym (opened_list c.args.most found rest (c.in-Ok.ensures.opened heard).0 (c.in-Ok.ensures.opened heard).1))
+    (limits_once (import_listed c.args.most (listed (left rest))).changes s v w c.import_open.result (c.import_open.ensures.limits told heard)))
+
 pub returns-in-Err-clause-ended : goal.returns-in-Err-clause-ended
 returns-in-Err-clause-ended g c = λ told heard ot o.
     let s = state (g.D.Disk.files c.args.disk.now).pkg c.args.db.now.store in
@@ -50,3 +64,11 @@ returns-in-Err-clause-room g c = λ told heard rows.
     let found = bytes_at (g.S.Shelf.paths c.args.shelf.now) (codes "-") in
     subst (λ (x : Course). IndexTurn s x.changes c.put_failing.result) (sym (absent_list c.args.most found (c.in-Err.ensures.opened heard).1))
     (line_turn s c.put_failing.result c.put_failing.ensures.kinds)
+
+pub returns-in-Err-clause-limits : goal.returns-in-Err-clause-limits
+returns-in-Err-clause-limits g c = λ told heard.
+    let s = state (g.D.Disk.files c.args.disk.now).pkg c.args.db.now.store in
+    let v = c.args.db.now.store in
+    let found = bytes_at (g.S.Shelf.paths c.args.shelf.now) (codes "-") in
+    subst (λ (x : Course). LimitsTurn s v v x.changes c.put_failing.result) (sym (absent_list c.args.most found (c.in-Err.ensures.opened heard).1))
+    (line_limits s v v v.spare c.put_failing.result refl c.put_failing.ensures.kinds)

@@ -9,11 +9,13 @@ use Rattle.rpm_change.specs.declared.tally.Tally.{Tally}
 use Rattle.rpm_change.specs.declared.tally.Halt.TheVariants as halt
 use Rattle.rpm_change.specs.Endings.{outputs, Done, Ended, IsCarried, IndexTurn}
 use Rattle.rpm_change.specs.Importing.{place_fails}
+use Rattle.rpm_change.specs.Limits.{LimitsTurn}
 use Rattle.rpm_change.specs.Turns.{turn, turn_found, Leaves}
 use Rattle.rpm_change.proofs.Courses.{through_none}
 use Rattle.rpm_change.proofs.Imported.{any_ok}
 use Rattle.rpm_change.proofs.Erased.{line_turn}
-use Rattle.rpm_change.proofs.Turned.{turn_ok, turn_err, turn_kinds, turn_cause, no_shelf, turn_leaves, turn_last, at_most, line_most, line_kinds, lines_only, of_list, stop_ended, stop_turn, stop_kinds, stop_numbers, stop_spent, stop_disk, stop_err, stop_read}
+use Rattle.rpm_change.proofs.Single.{none_made, line_limits}
+use Rattle.rpm_change.proofs.Turned.{turn_ok, turn_err, turn_kinds, turn_cause, no_shelf, turn_leaves, turn_last, at_most, line_most, line_kinds, lines_only, of_list, stop_ended, stop_turn, stop_limits, stop_kinds, stop_disk, stop_err, stop_read}
 use Rattle.rpm_change.proofs.import.import_next.Goals as goal
 
 -- a header stands in front
@@ -41,6 +43,18 @@ returns-in-Ok-Some-clause-room g c = λ told heard rows.
     (subst (λ (b : List ℕ). IndexTurn s (turn_found c.args.most c.args.place b).changes c.import_within-done.result) c.deref.ensures.value
     (c.import_within-done.ensures.room told rows)))
 
+pub returns-in-Ok-Some-clause-limits : goal.returns-in-Ok-Some-clause-limits
+returns-in-Ok-Some-clause-limits g c = λ told heard.
+    let s = state (g.D.Disk.files c.args.disk.now).pkg c.args.db.now.store in
+    let v = c.args.db.now.store in
+    let w = c.import_within-done.new.db.store in
+    let said = rw c.in-Ok-Some.field-0-is at c.in-Ok-Some.ensures in
+    rw c.as_turn.ensures.value
+    (subst (λ (r : Result (Option Found) ListFault). LimitsTurn s v w (turn c.args.most c.args.place r).changes c.import_within-done.result)
+    (sym (said.answers heard))
+    (subst (λ (b : List ℕ). LimitsTurn s v w (turn_found c.args.most c.args.place b).changes c.import_within-done.result) c.deref.ensures.value
+    (c.import_within-done.ensures.limits told)))
+
 pub returns-in-Ok-Some-clause-leaves : goal.returns-in-Ok-Some-clause-leaves
 returns-in-Ok-Some-clause-leaves g c =
     let said = rw c.in-Ok-Some.field-0-is at c.in-Ok-Some.ensures in
@@ -65,14 +79,6 @@ returns-in-Ok-Some-clause-carried g c =
     (λ (tally : Tally). IsCarried g.D.Disk.tells (g.D.Disk.files c.args.disk.now) (g.D.Disk.files c.import_within-done.new.disk)
     (g.D.Disk.left_since c.import_within-done.new.disk (g.D.Disk.moment c.import_within-done.new.disk)) c.args.db.now c.import_within-done.new.db)
     c.import_within-done.ensures.carried
-
-pub returns-in-Ok-Some-clause-numbers : goal.returns-in-Ok-Some-clause-numbers
-returns-in-Ok-Some-clause-numbers g c = λ is.
-    c.import_within-done.ensures.numbers (turn_err c.as_turn.result c.import_within-done.result c.as_turn.ensures.value halt.NumbersSpent is)
-
-pub returns-in-Ok-Some-clause-spent : goal.returns-in-Ok-Some-clause-spent
-returns-in-Ok-Some-clause-spent g c = λ is.
-    c.import_within-done.ensures.spent (turn_err c.as_turn.result c.import_within-done.result c.as_turn.ensures.value halt.GenerationSpent is)
 
 pub returns-in-Ok-Some-clause-kinds : goal.returns-in-Ok-Some-clause-kinds
 returns-in-Ok-Some-clause-kinds g c = turn_kinds c.as_turn.result c.import_within-done.result c.as_turn.ensures.value c.import_within-done.ensures.kinds
@@ -112,6 +118,14 @@ returns-in-Ok-None-clause-room g c = λ told heard rows.
     subst (λ (r : Result (Option Found) ListFault). IndexTurn s (turn c.args.most c.args.place r).changes (Ok (record { failed = 0; changes = 0 })))
     (sym (said.answers heard).0) tt
 
+pub returns-in-Ok-None-clause-limits : goal.returns-in-Ok-None-clause-limits
+returns-in-Ok-None-clause-limits g c = λ told heard.
+    let s = state (g.D.Disk.files c.args.disk.now).pkg c.args.db.now.store in
+    let v = c.args.db.now.store in
+    let said = rw c.in-Ok-None.field-0-is at c.in-Ok-None.ensures in
+    subst (λ (r : Result (Option Found) ListFault). LimitsTurn s v v (turn c.args.most c.args.place r).changes (Ok (record { failed = 0; changes = 0 })))
+    (sym (said.answers heard).0) (none_made s v v v.spare (record { failed = 0; changes = 0 }) refl)
+
 pub returns-in-Ok-None-clause-leaves : goal.returns-in-Ok-None-clause-leaves
 returns-in-Ok-None-clause-leaves g c = λ heard.
     let said = rw c.in-Ok-None.field-0-is at c.in-Ok-None.ensures in
@@ -135,11 +149,10 @@ returns-in-Some-clause-room g c = λ told heard rows.
     stop_turn c.in-Err.fault c.in-Some.halt c.in-Some.ensures (state (g.D.Disk.files c.args.disk.now).pkg c.args.db.now.store)
     (turn c.args.most c.args.place (list_head (left (g.S.Shelf.rest c.args.shelf.now)))).changes
 
-pub returns-in-Some-clause-numbers : goal.returns-in-Some-clause-numbers
-returns-in-Some-clause-numbers g c = λ is. absurd (stop_numbers c.in-Err.fault c.in-Some.halt c.in-Some.ensures (cc))
-
-pub returns-in-Some-clause-spent : goal.returns-in-Some-clause-spent
-returns-in-Some-clause-spent g c = λ is. absurd (stop_spent c.in-Err.fault c.in-Some.halt c.in-Some.ensures (cc))
+pub returns-in-Some-clause-limits : goal.returns-in-Some-clause-limits
+returns-in-Some-clause-limits g c = λ told heard.
+    stop_limits c.in-Err.fault c.in-Some.halt c.in-Some.ensures (state (g.D.Disk.files c.args.disk.now).pkg c.args.db.now.store) c.args.db.now.store
+    c.args.db.now.store (turn c.args.most c.args.place (list_head (left (g.S.Shelf.rest c.args.shelf.now)))).changes
 
 pub returns-in-Some-clause-kinds : goal.returns-in-Some-clause-kinds
 returns-in-Some-clause-kinds g c = stop_kinds c.in-Err.fault c.in-Some.halt c.in-Some.ensures
@@ -185,6 +198,15 @@ returns-in-None-clause-room g c = λ told heard rows.
     (subst (λ (r : Result (Option Found) ListFault). IndexTurn s (turn c.args.most c.args.place r).changes c.put_place.result) (sym head)
     (line_turn s c.put_place.result c.put_place.ensures.kinds))
 
+pub returns-in-None-clause-limits : goal.returns-in-None-clause-limits
+returns-in-None-clause-limits g c = λ told heard.
+    let s = state (g.D.Disk.files c.args.disk.now).pkg c.args.db.now.store in
+    let v = c.args.db.now.store in
+    let head = of_list (list_head (left (g.S.Shelf.rest c.args.shelf.now))) c.in-Err.fault c.in-None.ensures (c.in-Err.ensures.answers heard) in
+    rw c.as_turn-in-None.ensures.value
+    (subst (λ (r : Result (Option Found) ListFault). LimitsTurn s v v (turn c.args.most c.args.place r).changes c.put_place.result) (sym head)
+    (line_limits s v v v.spare c.put_place.result refl c.put_place.ensures.kinds))
+
 pub returns-in-None-clause-leaves : goal.returns-in-None-clause-leaves
 returns-in-None-clause-leaves g c =
     let behind = left (g.S.Shelf.rest c.next_header.new.shelf) in
@@ -208,16 +230,6 @@ returns-in-None-clause-carried g c =
     (g.D.Disk.left_since c.args.disk.now (g.D.Disk.moment c.args.disk.now)) c.args.db.now c.args.db.now in
     turn_ok c.as_turn-in-None.result c.put_place.result c.as_turn-in-None.ensures.value (λ (tally : Tally). C)
     (any_ok c.put_place.result C (record { going = c.requires.going; serving = c.requires.serving; index = λ told rows. rows }))
-
-pub returns-in-None-clause-numbers : goal.returns-in-None-clause-numbers
-returns-in-None-clause-numbers g c = λ is.
-    absurd (lines_only c.put_place.result halt.NumbersSpent c.put_place.ensures.kinds
-    (turn_err c.as_turn-in-None.result c.put_place.result c.as_turn-in-None.ensures.value halt.NumbersSpent is))
-
-pub returns-in-None-clause-spent : goal.returns-in-None-clause-spent
-returns-in-None-clause-spent g c = λ is.
-    absurd (lines_only c.put_place.result halt.GenerationSpent c.put_place.ensures.kinds
-    (turn_err c.as_turn-in-None.result c.put_place.result c.as_turn-in-None.ensures.value halt.GenerationSpent is))
 
 pub returns-in-None-clause-kinds : goal.returns-in-None-clause-kinds
 returns-in-None-clause-kinds g c =

@@ -10,6 +10,7 @@ use Rattle.rpm_db.specs.inner.Writes.{SameLog}
 use Rattle.rpm_change.specs.Importing.{import_listed, listed}
 use Rattle.rpm_change.specs.Turns.{turn, from_place}
 use Rattle.rpm_change.proofs.Courses.{halfway_start, halfway_more, halfway_stop, halfway_turn, halfway_end, halfway_room}
+use Rattle.rpm_change.proofs.Limits.{limited_start, limited_more, limited_stop, limited_end}
 use Rattle.rpm_change.proofs.Listed.{turn_splits, turn_ahead, within_next}
 use Rattle.rpm_change.proofs.import.import_open.Goals as goal
 
@@ -19,6 +20,9 @@ loop-is_last-init g c = record {
       let s = state (g.D.Disk.files c.args.disk.now).pkg c.args.db.now.store in
       halfway_start out_tells g.E.Sink.tells (IsIndexed (g.D.Disk.files c.args.disk.now).pkg (g.D.Disk.files c.args.disk.now).idx c.args.db.now)
       (import_listed c.args.most (listed (left (g.S.Shelf.rest c.args.shelf.now)))) s out (g.E.Sink.taken (inner c.args.err.now));
+  limited = λ told heard.
+      limited_start (import_listed c.args.most (listed (left (g.S.Shelf.rest c.args.shelf.now))))
+      (state (g.D.Disk.files c.args.disk.now).pkg c.args.db.now.store) c.args.db.now.store;
   few = omega arith;
   within = λ going. omega arith;
   below = omega arith;
@@ -55,6 +59,10 @@ loop-is_last-preserved g c =
           (g.E.Sink.taken (inner c.args.err.now)) (g.E.Sink.taken (inner c.loop-is_last.err)) (g.E.Sink.taken (inner c.import_next.new.err))
           (turn_splits most k bytes said.is_last behind (done.leaves heard)) (rw going at (inv.goes told heard out_tells out))
           said.tally ended (λ rows. done.room told heard (inv.carried.index told rows));
+      limited = λ told heard.
+          limited_more all (from_place false most k (listed bytes)) (turn most k (list_head bytes)) (from_place said.is_last most (k + 1) (listed behind)) s t
+          c.args.db.now.store c.loop-is_last.db.store c.import_next.new.db.store (turn_splits most k bytes said.is_last behind (done.leaves heard))
+          (rw going at (inv.limited told heard)) u said.tally (done.ended told heard true []).state_is (done.limits told heard);
       few = omega (arith, inv.few, done.one);
       within = λ more. within_next most k said.is_last more done.last;
       below = omega (arith, inv.within going);
@@ -115,6 +123,21 @@ returns-in-Err-clause-room g c = λ told heard rows.
     (turn_splits most k bytes split.0 split.1.0 split.1.1) (rw going at (inv.goes told heard true [])) c.in-Err.halt rows
     (c.in-Err.ensures.room told heard (inv.carried.index told rows))
 
+pub returns-in-Err-clause-limits : goal.returns-in-Err-clause-limits
+returns-in-Err-clause-limits g c = λ told heard.
+    let most = c.args.most in
+    let k = c.loop-is_last.place in
+    let inv = c.loop-is_last.invariant in
+    let going : c.loop-is_last.is_last ≡ false = cc in
+    let s = state (g.D.Disk.files c.args.disk.now).pkg c.args.db.now.store in
+    let t = state (g.D.Disk.files c.loop-is_last.disk).pkg c.loop-is_last.db.store in
+    let bytes = left (g.S.Shelf.rest c.loop-is_last.shelf) in
+    let all = import_listed most (listed (left (g.S.Shelf.rest c.args.shelf.now))) in
+    let split = turn_ahead most k (list_head bytes) in
+    limited_stop all (from_place false most k (listed bytes)) (turn most k (list_head bytes)) (from_place split.0 most (k + 1) (listed split.1.0)) s t
+    c.args.db.now.store c.loop-is_last.db.store c.import_next.new.db.store (turn_splits most k bytes split.0 split.1.0 split.1.1)
+    (rw going at (inv.limited told heard)) c.in-Err.halt (c.in-Err.ensures.limits told heard)
+
 pub returns-in-Err-clause-runs : goal.returns-in-Err-clause-runs
 returns-in-Err-clause-runs g c =
     runs_then g.D.Disk.tells g.D.Disk.files g.D.Disk.left_since g.D.Disk.moment g.D.Disk.bytes_read g.D.Disk.follows g.met.D.Disk.follows_trans
@@ -151,3 +174,13 @@ returns-clause-room g c = λ told heard rows.
     halfway_room true g.E.Sink.tells P (import_listed most (listed (left (g.S.Shelf.rest c.args.shelf.now)))) (from_place true most k (listed bytes)) s t
     c.loop-is_last.failed c.loop-is_last.changes [] [] (g.E.Sink.taken (inner c.args.err.now)) (g.E.Sink.taken (inner c.loop-is_last.err)) refl
     (rw past at (c.loop-is_last.invariant.goes told heard true [])) rows
+
+pub returns-clause-limits : goal.returns-clause-limits
+returns-clause-limits g c = λ told heard.
+    let past : c.loop-is_last.is_last ≡ true = cc in
+    let s = state (g.D.Disk.files c.args.disk.now).pkg c.args.db.now.store in
+    let t = state (g.D.Disk.files c.loop-is_last.disk).pkg c.loop-is_last.db.store in
+    let bytes = left (g.S.Shelf.rest c.loop-is_last.shelf) in
+    limited_end (import_listed c.args.most (listed (left (g.S.Shelf.rest c.args.shelf.now))))
+    (from_place true c.args.most c.loop-is_last.place (listed bytes)) s t c.args.db.now.store c.loop-is_last.db.store
+    (record { failed = c.loop-is_last.failed; changes = c.loop-is_last.changes }) refl (rw past at (c.loop-is_last.invariant.limited told heard))

@@ -10,6 +10,7 @@ use Rattle.rpm_change.specs.Endings.{IsCarried}
 use Rattle.rpm_change.specs.Importing.{import_listed, listed}
 use Rattle.rpm_change.specs.Turns.{from_place}
 use Rattle.rpm_change.proofs.Courses.{Halfway}
+use Rattle.rpm_change.proofs.Limits.{Limited}
 use Rattle.rpm_change.proofs.import.import_open.Given as goal
 
 abbrev pub invariant-loop-is_last : goal.invariant-loop-is_last
@@ -20,6 +21,9 @@ invariant-loop-is_last g l = record {
       (from_place l.is_last l.most l.place (listed (left (g.S.Shelf.rest l.shelf))))
       (state (g.D.Disk.files l.initial.disk).pkg l.initial.db.store) (state (g.D.Disk.files l.disk).pkg l.db.store) l.failed l.changes out out
       (g.E.Sink.taken (inner l.initial.err)) (g.E.Sink.taken (inner l.err));
+  limited : IsTrue g.D.Disk.tells → IsTrue g.S.Shelf.tells → Limited (import_listed l.most (listed (left (g.S.Shelf.rest l.initial.shelf))))
+      (from_place l.is_last l.most l.place (listed (left (g.S.Shelf.rest l.shelf)))) (state (g.D.Disk.files l.initial.disk).pkg l.initial.db.store)
+      (state (g.D.Disk.files l.disk).pkg l.db.store) l.initial.db.store l.db.store;
   few : l.failed + l.changes + 1 ≤ l.place;
   within : l.is_last ≡ false → l.place ≤ l.most + 1;
   below : l.place ≤ l.most + 2;

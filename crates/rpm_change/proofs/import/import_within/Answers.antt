@@ -1,9 +1,22 @@
-use Rattle.std.proofs.Common.{◌≡◌, true, arith, nat_lt}
+use Rattle.std.proofs.Common.{◌≡◌, true, false, refl, arith, nat_lt}
 use Rattle.std.proofs.lemmas.Bool.Decides.{nat_tests}
 use Rattle.rpm_db.specs.State.{state}
+use Rattle.rpm_change.proofs.Single.{line_limits}
 use Rattle.rpm_change.proofs.import.import_within.Goals as goal
 
 pub returns-then-most-place-clause-ended : goal.returns-then-most-place-clause-ended
 returns-then-most-place-clause-ended g c = λ told out_tells out.
     let past : nat_lt c.args.most c.args.place ≡ true = grind (arith, nat_tests) in
     rw past (c.put_place.ensures.ended (state (g.D.Disk.files c.args.disk.now).pkg c.args.db.now.store) out_tells out)
+
+pub returns-then-most-place-clause-limits : goal.returns-then-most-place-clause-limits
+returns-then-most-place-clause-limits g c = λ told.
+    let past : nat_lt c.args.most c.args.place ≡ true = grind (arith, nat_tests) in
+    rw past
+    (line_limits (state (g.D.Disk.files c.args.disk.now).pkg c.args.db.now.store) c.args.db.now.store c.args.db.now.store c.args.db.now.store.spare
+    c.put_place.result refl c.put_place.ensures.kinds)
+
+pub returns-else-most-place-clause-limits : goal.returns-else-most-place-clause-limits
+returns-else-most-place-clause-limits g c = λ told.
+    let within : nat_lt c.args.most c.args.place ≡ false = grind (arith, nat_tests) in
+    rw within (c.import_header.ensures.limits told)

@@ -1,12 +1,12 @@
-use Rattle.std.proofs.Common.{◌≡◌}
 use Rattle.rpm_outside.specs.Buffered.{inner}
+use Rattle.rpm_db.specs.Changes.{Erase}
 use Rattle.rpm_db.specs.State.{Bad, state}
-use Rattle.rpm_change.specs.declared.tally.Halt.TheVariants as halt
-use Rattle.rpm_change.specs.Endings.{outputs, halt_of}
+use Rattle.rpm_change.specs.Endings.{outputs}
 use Rattle.rpm_change.specs.Rebuilding.{dropped}
 use Rattle.rpm_change.proofs.Courses.{through_none}
-use Rattle.rpm_change.proofs.Erased.{refused_ended, erase_spent}
-use Rattle.rpm_change.proofs.Drops.{dropped_turn, drop_turn, drop_kinds, none_gone}
+use Rattle.rpm_change.proofs.Erased.{refused_ended}
+use Rattle.rpm_change.proofs.Drops.{dropped_turn, dropped_limits, drop_turn, drop_kinds, none_gone}
+use Rattle.rpm_change.proofs.Single.{one_refused, erase_fault}
 use Rattle.rpm_change.proofs.rebuilding.drop_bad.Goals as goal
 
 pub returns-in-Ok-erase-clause-ended : goal.returns-in-Ok-erase-clause-ended
@@ -19,6 +19,12 @@ pub returns-in-Ok-erase-clause-room : goal.returns-in-Ok-erase-clause-room
 returns-in-Ok-erase-clause-room g c = λ told indexed.
     dropped_turn (state (g.D.Disk.files c.args.disk.now).pkg c.args.db.now.store) c.args.number c.put_dropped.result
     (c.in-Ok-erase.ensures.full told c.requires.going indexed) c.put_dropped.ensures.kinds
+
+pub returns-in-Ok-erase-clause-limits : goal.returns-in-Ok-erase-clause-limits
+returns-in-Ok-erase-clause-limits g c = λ told.
+    let done = c.in-Ok-erase.ensures in
+    dropped_limits (state (g.D.Disk.files c.args.disk.now).pkg c.args.db.now.store) c.args.number c.args.db.now.store c.erase.new.self.store
+    c.put_dropped.result done.causes.2.0 done.placed done.generation c.put_dropped.ensures.kinds
 
 pub returns-clause-ended : goal.returns-clause-ended
 returns-clause-ended g c = λ told err_tells err.
@@ -35,10 +41,12 @@ returns-clause-room g c = λ told indexed.
     (drop_turn (state (g.D.Disk.files c.args.disk.now).pkg c.args.db.now.store) c.args.number c.in-Err.fault
     (c.in-Err.ensures.full told c.requires.going indexed))
 
-pub returns-clause-spent : goal.returns-clause-spent
-returns-clause-spent g c = λ is.
-    let same : halt_of c.in-Err.fault ≡ halt.GenerationSpent = cc in
-    erase_spent c.args.db.now c.erase.new.self c.args.number c.in-Err.fault c.in-Err.ensures.causes c.in-Err.ensures.refused same
+pub returns-clause-limits : goal.returns-clause-limits
+returns-clause-limits g c = λ told.
+    let s = state (g.D.Disk.files c.args.disk.now).pkg c.args.db.now.store in
+    rw c.halt_of.ensures
+    (one_refused s (Erase c.args.number) c.args.db.now.store c.erase.new.self.store c.in-Err.fault
+    (erase_fault c.args.db.now s c.args.number c.in-Err.fault c.in-Err.ensures.causes))
 
 pub returns-clause-kinds : goal.returns-clause-kinds
 returns-clause-kinds g c = rw c.halt_of.ensures (drop_kinds c.args.db.now c.args.number c.in-Err.fault c.in-Err.ensures.causes)
@@ -47,3 +55,6 @@ pub returns-in_default-clause-ended : goal.returns-in_default-clause-ended
 returns-in_default-clause-ended g c = λ told err_tells err.
     let now = outputs g.O.Sink.tells (g.O.Sink.taken (inner c.args.out.now)) err_tells err in
     none_gone (dropped c.args.number Bad) now now (through_none {ot = g.O.Sink.tells} {et = err_tells} (g.O.Sink.taken (inner c.args.out.now)) err)
+
+pub returns-in_default-clause-limits : goal.returns-in_default-clause-limits
+returns-in_default-clause-limits g c = λ told. record { numbers = tt; generation = tt; store_room = tt; raised = tt }

@@ -8,6 +8,7 @@ use Rattle.rpm_db.specs.inner.Writes.{SameLog}
 use Rattle.rpm_change.specs.Rebuilding.{dropped, drop_each, rebuild}
 use Rattle.rpm_change.proofs.Courses.{halfway_start, halfway_more, halfway_stop, halfway_turn, halfway_end, halfway_room}
 use Rattle.rpm_change.proofs.Dropped.{drop_next, drop_none, same_dropped}
+use Rattle.rpm_change.proofs.Limits.{limited_start, limited_more, limited_stop, limited_end}
 use Rattle.rpm_change.proofs.rebuilding.drop_each.Goals as goal
 
 pub loop-next-init : goal.loop-next-init
@@ -18,6 +19,9 @@ loop-next-init g c = record {
       let P = IsIndexed file (g.D.Disk.files c.args.disk.now).idx c.args.db.now in
       let o = g.O.Sink.taken (inner c.args.out.now) in
       halfway_start g.O.Sink.tells err_tells P (rebuild s) s o err;
+  limited = λ told.
+      let s = state (g.D.Disk.files c.args.disk.now).pkg c.args.db.now.store in
+      limited_start (rebuild s) s c.args.db.now.store;
   same = λ told k over. refl;
   few = omega arith;
   carried = record { going = c.requires.going; serving = c.requires.serving; index = λ told rows. rows };
@@ -52,6 +56,11 @@ loop-next-preserved g c =
           halfway_more g.O.Sink.tells et P (rebuild s) (drop_each (above n es)) (dropped m next.0) (drop_each (above m es)) s t u
           c.loop-next.failed c.loop-next.changes o o' o'' e e e next.1.1 (inv.goes told et e)
           c.in-Ok.tally ended (λ rows. done.room told (inv.carried.index told rows) next.0 next.1.0);
+      limited = λ told.
+          let next = drop_next s.packages t.packages n m (inv.same told) (c.in-Some.ensures.told mid) in
+          limited_more (rebuild s) (drop_each (above n es)) (dropped m next.0) (drop_each (above m es)) s t c.args.db.now.store c.loop-next.db.store
+          c.drop_one.new.db.store next.1.1 (inv.limited told) u c.in-Ok.tally (done.ended told next.0 next.1.0 true []).state_is
+          (done.limits told next.0 next.1.0);
       same = λ told.
           let next = drop_next s.packages t.packages n m (inv.same told) (c.in-Some.ensures.told mid) in
           same_dropped next.0 n m s t u (inv.same told) c.in-Some.ensures.next.0 (done.ended told next.0 next.1.0 true []).state_is;
@@ -107,6 +116,19 @@ returns-in-Err-clause-room g c = λ told rows.
     (g.O.Sink.taken (inner c.drop_one.new.out)) [] [] [] next.1.1 (inv.goes told true []) c.in-Err.halt rows
     (c.in-Err.ensures.room told (inv.carried.index told rows) next.0 next.1.0)
 
+pub returns-in-Err-clause-limits : goal.returns-in-Err-clause-limits
+returns-in-Err-clause-limits g c = λ told.
+    let n = c.loop-next.number in
+    let m = c.in-Some.next in
+    let inv = c.loop-next.invariant in
+    let mid = (g.D.Disk.files c.loop-next.disk).pkg in
+    let s = state (g.D.Disk.files c.args.disk.now).pkg c.args.db.now.store in
+    let t = state mid c.loop-next.db.store in
+    let es = finite.entries s.packages in
+    let next = drop_next s.packages t.packages n m (inv.same told) (c.in-Some.ensures.told mid) in
+    limited_stop (rebuild s) (drop_each (above n es)) (dropped m next.0) (drop_each (above m es)) s t c.args.db.now.store c.loop-next.db.store
+    c.drop_one.new.db.store next.1.1 (inv.limited told) c.in-Err.halt (c.in-Err.ensures.limits told next.0 next.1.0)
+
 pub returns-in-Err-clause-runs : goal.returns-in-Err-clause-runs
 returns-in-Err-clause-runs g c =
     runs_then g.D.Disk.tells g.D.Disk.files g.D.Disk.left_since g.D.Disk.moment g.D.Disk.bytes_read g.D.Disk.follows g.met.D.Disk.follows_trans
@@ -136,3 +158,14 @@ returns-clause-room g c = λ told rows.
     halfway_room g.O.Sink.tells true P (rebuild s) (drop_each (above n (finite.entries s.packages))) s t c.loop-next.failed c.loop-next.changes
     (g.O.Sink.taken (inner c.args.out.now)) (g.O.Sink.taken (inner c.loop-next.out)) [] []
     (drop_none s.packages t.packages n (inv.same told) (c.in_default.ensures.told mid)) (inv.goes told true []) rows
+
+pub returns-clause-limits : goal.returns-clause-limits
+returns-clause-limits g c = λ told.
+    let n = c.loop-next.number in
+    let inv = c.loop-next.invariant in
+    let mid = (g.D.Disk.files c.loop-next.disk).pkg in
+    let s = state (g.D.Disk.files c.args.disk.now).pkg c.args.db.now.store in
+    let t = state mid c.loop-next.db.store in
+    limited_end (rebuild s) (drop_each (above n (finite.entries s.packages))) s t c.args.db.now.store c.loop-next.db.store
+    (record { failed = c.loop-next.failed; changes = c.loop-next.changes })
+    (drop_none s.packages t.packages n (inv.same told) (c.in_default.ensures.told mid)) (inv.limited told)

@@ -10,6 +10,7 @@ use Rattle.rpm_change.specs.Endings.{IsCarried}
 use Rattle.rpm_change.specs.Rebuilding.{drop_each, rebuild}
 use Rattle.rpm_change.proofs.Courses.{Halfway}
 use Rattle.rpm_change.proofs.Dropped.{SameAbove}
+use Rattle.rpm_change.proofs.Limits.{Limited}
 use Rattle.rpm_change.proofs.rebuilding.drop_each.Given as goal
 
 abbrev pub invariant-loop-next : goal.invariant-loop-next
@@ -20,6 +21,9 @@ invariant-loop-next g l = record {
       (drop_each (above l.number (finite.entries (packages (g.D.Disk.files l.initial.disk).pkg l.initial.db.store))))
       (state (g.D.Disk.files l.initial.disk).pkg l.initial.db.store) (state (g.D.Disk.files l.disk).pkg l.db.store) l.failed l.changes
       (g.O.Sink.taken (inner l.initial.out)) (g.O.Sink.taken (inner l.out)) err err;
+  limited : IsTrue g.D.Disk.tells → Limited (rebuild (state (g.D.Disk.files l.initial.disk).pkg l.initial.db.store))
+      (drop_each (above l.number (finite.entries (packages (g.D.Disk.files l.initial.disk).pkg l.initial.db.store))))
+      (state (g.D.Disk.files l.initial.disk).pkg l.initial.db.store) (state (g.D.Disk.files l.disk).pkg l.db.store) l.initial.db.store l.db.store;
   same : IsTrue g.D.Disk.tells → SameAbove l.number (packages (g.D.Disk.files l.initial.disk).pkg l.initial.db.store)
       (packages (g.D.Disk.files l.disk).pkg l.db.store);
   few : l.failed + l.changes ≤ l.number;

@@ -9,7 +9,7 @@ use Rattle.rpm_change.specs.Rebuilding.{rebuild}
 use Rattle.rpm_change.proofs.Courses.{through_none}
 use Rattle.rpm_change.proofs.Erased.{refused_ended}
 use Rattle.rpm_change.proofs.Dropped.{serving_remade, state_remade, rebuild_turn}
-use Rattle.rpm_change.proofs.Rebuilt.{rebuild_kinds, unbuilt_turn, runs_weaker}
+use Rattle.rpm_change.proofs.Rebuilt.{rebuild_kinds, unbuilt_turn, unbuilt_limits, remade_limits, runs_weaker}
 use Rattle.rpm_change.proofs.rebuilding.rebuild.Goals as goal
 
 pub drop_each-requires-clause-serving : goal.drop_each-requires-clause-serving
@@ -39,6 +39,24 @@ returns-in-Ok-clause-room g c = λ told.
     rebuild_turn s (rebuild s).changes c.drop_each.result said.0
     (subst (λ (s : State). IndexTurn s (rebuild s).changes c.drop_each.result) same (c.drop_each.ensures.room told said.3))
 
+pub returns-in-Ok-clause-generation : goal.returns-in-Ok-clause-generation
+returns-in-Ok-clause-generation g c = λ told.
+    let s = state (g.D.Disk.files c.args.disk.now).pkg c.args.db.now.store in
+    let x = c.drop_each.new.db.store in
+    let said = c.in-Ok.ensures in
+    let same = state_remade (g.D.Disk.files c.args.disk.now) (g.D.Disk.files c.rebuild.new.disk) c.args.db.now c.rebuild.new.self (said.runs.reads_as told)
+    said.store in
+    (remade_limits s x c.drop_each.result said.store same (c.drop_each.ensures.limits told)).generation
+
+pub returns-in-Ok-clause-store_room : goal.returns-in-Ok-clause-store_room
+returns-in-Ok-clause-store_room g c = λ told.
+    let s = state (g.D.Disk.files c.args.disk.now).pkg c.args.db.now.store in
+    let x = c.drop_each.new.db.store in
+    let said = c.in-Ok.ensures in
+    let same = state_remade (g.D.Disk.files c.args.disk.now) (g.D.Disk.files c.rebuild.new.disk) c.args.db.now c.rebuild.new.self (said.runs.reads_as told)
+    said.store in
+    (remade_limits s x c.drop_each.result said.store same (c.drop_each.ensures.limits told)).store_room
+
 pub returns-in-Ok-clause-runs : goal.returns-in-Ok-clause-runs
 returns-in-Ok-clause-runs g c =
     runs_then g.D.Disk.tells g.D.Disk.files g.D.Disk.left_since g.D.Disk.moment g.D.Disk.bytes_read g.D.Disk.follows g.met.D.Disk.follows_trans
@@ -59,6 +77,18 @@ returns-in-Err-clause-room g c = λ told.
     rw c.halt_of.ensures
     (unbuilt_turn (g.D.Disk.files c.args.disk.now) (g.D.Disk.files c.rebuild.new.disk) c.args.db.now c.rebuild.new.self (rebuild s).changes c.in-Err.fault
     (c.in-Err.ensures.rebuilt told))
+
+pub returns-in-Err-clause-generation : goal.returns-in-Err-clause-generation
+returns-in-Err-clause-generation g c = λ told.
+    let s = state (g.D.Disk.files c.args.disk.now).pkg c.args.db.now.store in
+    rw c.halt_of.ensures
+    (unbuilt_limits c.args.db.now s c.args.db.now.store c.rebuild.new.self.store (rebuild s).changes c.in-Err.fault c.in-Err.ensures.causes).generation
+
+pub returns-in-Err-clause-store_room : goal.returns-in-Err-clause-store_room
+returns-in-Err-clause-store_room g c = λ told.
+    let s = state (g.D.Disk.files c.args.disk.now).pkg c.args.db.now.store in
+    rw c.halt_of.ensures
+    (unbuilt_limits c.args.db.now s c.args.db.now.store c.rebuild.new.self.store (rebuild s).changes c.in-Err.fault c.in-Err.ensures.causes).store_room
 
 pub returns-in-Err-clause-kinds : goal.returns-in-Err-clause-kinds
 returns-in-Err-clause-kinds g c = rw c.halt_of.ensures (rebuild_kinds c.args.db.now c.in-Err.fault c.in-Err.ensures.causes)

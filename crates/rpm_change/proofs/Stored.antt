@@ -1,0 +1,58 @@
+-- Several changes of a store, some of them and then the others.
+use Rattle.std.proofs.Common.{◌≡◌, ◌≢◌, ℕ, ◌+◌, ◌-◌, ◌<◌, List, [], ◌∷◌, ◌++◌, length, Option, Some, None, Err, refl, ap, ◌∙◌, length-append, inl, inr, arith}
+use Rattle.std.specs.Option.{option_map, option_and_then}
+use Rattle.std.proofs.lemmas.Bool.{cases_lt}
+use Rattle.rpm_pkgdb.specs.Store.{Store}
+use Rattle.rpm_pkgdb.specs.Written.{with_spare}
+use Rattle.rpm_db.specs.Changes.{Change}
+use Rattle.rpm_db.specs.Room.{next_store}
+use Rattle.rpm_db.specs.inner.RoomLaws.{next_spare}
+use Rattle.rpm_change.specs.declared.tally.Halt.TheVariants as halt
+use Rattle.rpm_change.specs.Limits.{next_stores, SpentTurn}
+
+-- ---- places
+
+some_stores : (xs ys : List Change) → ((v : Store) → next_stores (xs ++ ys) v ≡ option_and_then (next_stores ys) (next_stores xs v)) → (o : Option Store)
+    → option_and_then (next_stores (xs ++ ys)) o ≡ option_and_then (next_stores ys) (option_and_then (next_stores xs) o)
+some_stores xs ys law None = refl
+some_stores xs ys law (Some v) = law v
+
+next_stores-append : (xs ys : List Change) (v : Store) → next_stores (xs ++ ys) v ≡ option_and_then (next_stores ys) (next_stores xs v)
+next_stores-append [] ys v = refl
+next_stores-append (x ∷ xs) ys v = some_stores xs ys (next_stores-append xs ys) (next_store x v)
+
+some_spare : (xs : List Change) (k : ℕ) → ((v : Store) → next_stores xs (with_spare k v) ≡ option_map (with_spare k) (next_stores xs v)) → (o : Option Store)
+    → option_and_then (next_stores xs) (option_map (with_spare k) o) ≡ option_map (with_spare k) (option_and_then (next_stores xs) o)
+some_spare xs k law None = refl
+some_spare xs k law (Some v) = law v
+
+-- room in memory stays as it is
+next_stores-spare : (xs : List Change) (k : ℕ) (v : Store) → next_stores xs (with_spare k v) ≡ option_map (with_spare k) (next_stores xs v)
+next_stores-spare [] k v = refl
+next_stores-spare (x ∷ xs) k v =
+    ap (option_and_then (next_stores xs)) (next_spare x k v) ∙ some_spare xs k (next_stores-spare xs k) (next_store x v)
+
+-- those behind the first ones go on in the store that these leave
+pub stores_behind : (xs ys : List Change) (k : ℕ) (v w : Store) → next_stores xs v ≡ Some (with_spare k w)
+    → next_stores (xs ++ ys) v ≡ option_map (with_spare k) (next_stores ys w)
+stores_behind xs ys k v w is = next_stores-append xs ys v ∙ ap (option_and_then (next_stores ys)) is ∙ next_stores-spare ys k w
+
+pub full_behind : (xs ys zs : List Change) (k : ℕ) (v w : Store) → next_stores xs v ≡ Some (with_spare k w) → next_stores ys w ≡ None
+    → next_stores (xs ++ (ys ++ zs)) v ≡ None
+full_behind xs ys zs k v w is full =
+    stores_behind xs (ys ++ zs) k v w is
+    ∙ ap (option_map (with_spare k)) (next_stores-append ys zs w ∙ ap (option_and_then (next_stores zs)) full)
+
+-- ---- generations
+
+pub unspent_more : (xs ys : List Change) (g h : ℕ) → h ≡ g + length xs → ((k : ℕ) → k < length xs → g + k ≢ 4294967295)
+    → ((k : ℕ) → k < length ys → h + k ≢ 4294967295) → (k : ℕ) → k < length (xs ++ ys) → g + k ≢ 4294967295
+unspent_more xs ys g h raised first more k within = elim (cases_lt k (length xs)) [
+  | inl below ↦ first k below
+  | inr above ↦ λ is. more (k - length xs) (omega (arith, length-append xs ys)) (omega arith)
+]
+
+pub spent_within : (xs ys zs : List Change) (g h k : ℕ) → h ≡ g + length xs → k < length ys → h + k ≡ 4294967295
+    → SpentTurn g (xs ++ (ys ++ zs)) (Err halt.GenerationSpent)
+spent_within xs ys zs g h k raised below is =
+    (length xs + k, omega (arith, length-append xs (ys ++ zs), length-append ys zs), omega arith)
