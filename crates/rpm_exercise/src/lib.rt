@@ -1,10 +1,18 @@
-//! The exercise: a database is given packages that are made for it, some of them are replaced, and some are erased.
+//! The exercise: a database makes packages of its own, replaces some of them and erases some, asks for them, and says what is left.
 //!
-//! It goes through adding, replacing and erasing in one call, and what it leaves is the same on every machine.
+//! It goes through adding, replacing, erasing, the index, the questions and the export in one call, and what it prints is the same on
+//! every machine.
 #![tactic(auto)]
 
+mod counts;
+mod digest;
+mod lines;
 mod rounds;
+mod running;
+#[cfg(test)]
+mod running_tests;
+mod summary;
 #[cfg(test)]
 mod tests;
 
-pub use rounds::change_all;
+pub use running::{ExerciseFault, exercise};

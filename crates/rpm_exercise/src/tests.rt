@@ -1,6 +1,6 @@
 //! The changes of the exercise, on a database that was just made.
 
-use crate::change_all;
+use crate::rounds::change_all;
 use rpm_change::{Halt, Tally};
 use rpm_db::Db;
 use rpm_outside::MemDisk;

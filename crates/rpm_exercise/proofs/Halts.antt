@@ -1,0 +1,50 @@
+-- What stops the exercise, by cases.
+use Rattle.std.proofs.Common.{◌≡◌, ℕ, false, Result, Ok, Err}
+use Rattle.std.specs.Prelude.{IfErr}
+use Rattle.rpm_select.specs.declared.picker.PickFault.{PickFault}
+use Rattle.rpm_select.specs.declared.picker.PickFault.TheVariants as pick
+use Rattle.rpm_select.specs.Picks.{is_of_index}
+use Rattle.rpm_change.specs.declared.tally.Halt.{Halt}
+use Rattle.rpm_change.specs.declared.tally.Halt.TheVariants as halt
+use Rattle.rpm_exercise.specs.Endings.{IsOfReading, IsOfAsking, IsOfTelling, pick_halt}
+
+pub reading_cases : (P : Halt → Type 0) → P halt.DiskFault → P halt.NoMemory → (h : Halt) → IsOfReading h → P h
+reading_cases P disk memory (halt.BadIndex unit) kind = absurd kind
+reading_cases P disk memory halt.DiskFault kind = disk
+reading_cases P disk memory halt.NoMemory kind = memory
+reading_cases P disk memory (halt.IndexFull told) kind = absurd kind
+reading_cases P disk memory halt.NumbersSpent kind = absurd kind
+reading_cases P disk memory halt.GenerationSpent kind = absurd kind
+reading_cases P disk memory halt.StoreFull kind = absurd kind
+reading_cases P disk memory halt.ShelfFault kind = absurd kind
+reading_cases P disk memory halt.OutFault kind = absurd kind
+reading_cases P disk memory halt.ErrFault kind = absurd kind
+
+pub telling_cases : (P : Halt → Type 0) → ((unit : ℕ) → P (halt.BadIndex unit)) → P halt.DiskFault → P halt.OutFault → P halt.NoMemory
+    → (h : Halt) → IsOfTelling h → P h
+telling_cases P bad disk out memory (halt.BadIndex unit) kind = bad unit
+telling_cases P bad disk out memory halt.DiskFault kind = disk
+telling_cases P bad disk out memory halt.OutFault kind = out
+telling_cases P bad disk out memory halt.NoMemory kind = memory
+telling_cases P bad disk out memory (halt.IndexFull told) kind = absurd kind
+telling_cases P bad disk out memory halt.NumbersSpent kind = absurd kind
+telling_cases P bad disk out memory halt.GenerationSpent kind = absurd kind
+telling_cases P bad disk out memory halt.StoreFull kind = absurd kind
+telling_cases P bad disk out memory halt.ShelfFault kind = absurd kind
+telling_cases P bad disk out memory halt.ErrFault kind = absurd kind
+
+-- ---- what asking is stopped by
+
+pub reading_kind : (f : PickFault) → is_of_index f ≡ false → IsOfReading (pick_halt f)
+reading_kind (pick.BadIndex unit) sound = absurd cc
+reading_kind pick.DiskFault sound = tt
+reading_kind pick.NoMemory sound = tt
+
+pub asking_kind : (f : PickFault) → IsOfAsking (pick_halt f)
+asking_kind (pick.BadIndex unit) = tt
+asking_kind pick.DiskFault = tt
+asking_kind pick.NoMemory = tt
+
+pub all_asking : {X : Type 0} (r : Result X Halt) → IfErr r IsOfReading → IfErr r IsOfAsking
+all_asking (Ok x) kinds = tt
+all_asking (Err h) kinds = reading_cases IsOfAsking tt tt h kinds

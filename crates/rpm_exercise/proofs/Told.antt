@@ -1,0 +1,75 @@
+-- What the exercise leaves once its changes are made.
+use Rattle.std.proofs.Common.{◌≡◌, ℕ, Bool, false, List, [], ◌++◌, Option, Some, None, is_some, Err, take, refl, sym, ap, ◌∙◌, subst}
+use Rattle.std.proofs.lemmas.List.{append-nil}
+use Rattle.std.specs.FinMap as finite
+use Rattle.rpm_outside.specs.Files.{Units, Files}
+use Rattle.rpm_outside.specs.Sinks.{Gained, GainedPart}
+use Rattle.rpm_outside.specs.inner.Taken.{gained_none}
+use Rattle.rpm_db.specs.Database.{Database, holds}
+use Rattle.rpm_db.specs.State.{State, Package, packages}
+use Rattle.rpm_db.specs.inner.Laws.{is_there}
+use Rattle.rpm_select.specs.Reach.{HasIndexRows}
+use Rattle.rpm_change.specs.declared.tally.Tally.{Tally}
+use Rattle.rpm_change.specs.declared.tally.Halt.{Halt}
+use Rattle.rpm_change.specs.declared.tally.Halt.TheVariants as halt
+use Rattle.rpm_change.specs.Steps.{Course, ToOut, whole, apply_all}
+use Rattle.rpm_change.specs.Endings.{outputs, ThroughSome, Ended}
+use Rattle.rpm_exercise.specs.Endings.{IsReadable, IsCutOff, IsOfTelling}
+use Rattle.rpm_exercise.specs.Exercised.{summary, exercise}
+use Rattle.rpm_exercise.specs.Rounds.{changes, Made}
+use Rattle.rpm_exercise.proofs.Halts.{telling_cases}
+
+-- ---- files that stay
+
+pub readable_same : (f g : Files) (db : Database) → g ≡ f → IsReadable f db → IsReadable g db
+readable_same f g db same r = subst (λ (h : Files). IsReadable h db) (sym same) r
+
+pub rows_same : (f g : Files) (db : Database) → g ≡ f → HasIndexRows db f.pkg f.idx → HasIndexRows db g.pkg g.idx
+rows_same f g db same r = subst (λ (h : Files). HasIndexRows db h.pkg h.idx) (sym same) r
+
+pub packages_same : (f g : Files) (db : Database) → g ≡ f → packages g.pkg db.store ≡ packages f.pkg db.store
+packages_same f g db same = ap (λ (h : Files). packages h.pkg db.store) same
+
+-- ---- no package has the number 0
+
+none_is : (o : Option Package) → is_some o ≡ false → o ≡ None
+none_is None none = refl
+none_is (Some p) none = absurd cc
+
+pub from_one_after : (f g : Units) (a b : Database) → (finite.get (packages f a.store) 0 ≡ None → finite.get (packages g b.store) 0 ≡ None)
+    → holds 0 a ≡ false → holds 0 b ≡ false
+from_one_after f g a b stays none =
+    sym (is_there g b 0) ∙ ap is_some (stays (none_is (finite.get (packages f a.store) 0) (is_there f a 0 ∙ none)))
+
+-- ---- how it ends
+
+module _ (ot et : Bool) (o o' e : List ℕ) (course : Course) where
+  none_done : Gained ot o o' [] → ThroughSome course.steps (outputs ot o et e) (outputs ot o' et e)
+  none_done none = record { done = []; rest = course.steps; all_is = refl; through = record { out = none; err = gained_none et e } }
+
+-- the changes were made, and the summary was told or not
+module _ (ot et : Bool) (o o' e : List ℕ) (n : ℕ) (s t u : State) (tally : Tally) (made : Made (changes n s) s t tally) (stays : u ≡ t) where
+  text_is : summary t.packages ≡ summary (apply_all (changes n s) s).packages
+  text_is = ap (λ (v : State). summary v.packages) made.state_is
+
+  told_cut : GainedPart ot o o' (summary t.packages) → Ended (exercise n s) s u (Err halt.OutFault) (outputs ot o et e) (outputs ot o' et e)
+  told_cut part = record {
+    done = [];
+    step = ToOut (whole 0) (summary (apply_all (changes n s) s).packages);
+    rest = [];
+    all_is = refl;
+    sink = refl;
+    bytes = part.0;
+    through = record {
+      out = λ told.
+          part.2 told ∙ ap (λ (b : List ℕ). o ++ b) (ap (take part.0) text_is ∙ sym (append-nil (take part.0 (summary (apply_all (changes n s) s).packages))));
+      err = gained_none et e;
+    };
+  }
+
+  pub told_halted : (h : Halt) → IsOfTelling h → IsCutOff ot o o' (summary t.packages) h
+      → Ended (exercise n s) s u (Err h) (outputs ot o et e) (outputs ot o' et e)
+  told_halted h kind =
+      let none = none_done ot et o o' e (exercise n s) in
+      telling_cases (λ (k : Halt). IsCutOff ot o o' (summary t.packages) k → Ended (exercise n s) s u (Err k) (outputs ot o et e) (outputs ot o' et e))
+      (λ unit. none) none told_cut none h kind

@@ -1,0 +1,120 @@
+use Rattle.std.proofs.Common.{◌≡◌, ℕ, ◌∷◌, [], List, ◌++◌, refl, sym, ap, ◌∙◌, subst, arith}
+use Rattle.std.proofs.lemmas.List.{append-nil}
+use Rattle.std.specs.List.{flat_map}
+use Rattle.sha2.specs.Sha256.{sha256}
+use Rattle.rpm_outside.specs.Files.{Files}
+use Rattle.rpm_outside.specs.declared.disk.File.TheVariants.{Pkg}
+use Rattle.rpm_db.specs.State.{Package, packages, above}
+use Rattle.rpm_db.specs.inner.Running.{runs_none, runs_looks, runs_then}
+use Rattle.rpm_db.specs.inner.Writes.{SameFiles}
+use Rattle.rpm_select.specs.declared.selection.Selection.TheVariants as question
+use Rattle.rpm_select.specs.Picks.{entry_in}
+use Rattle.rpm_select.specs.Selections.{picks}
+use Rattle.rpm_exercise.specs.Exercised.{exported}
+use Rattle.rpm_exercise.proofs.Walked.{served, fed_more}
+use Rattle.rpm_exercise.proofs.digest.digest_served.Goals as goal
+
+pub loop-picked-init : goal.loop-picked-init
+loop-picked-init g c = record {
+  keeps = c.requires.keeps;
+  same = refl;
+  goes = λ told serves. ([], (c.new-hasher.ensures, refl));
+  runs = runs_none g.D.Disk.tells g.D.Disk.files g.D.Disk.left_since g.D.Disk.moment g.D.Disk.bytes_read g.D.Disk.follows g.met.D.Disk.follows_refl SameFiles
+      (λ f. refl) c.args.disk.now;
+  disk = omega arith;
+}
+
+pub loop-picked-preserved : goal.loop-picked-preserved
+loop-picked-preserved g c =
+    let db = c.args.db.now in
+    let sel = question.All in
+    let n = c.loop-picked.number in
+    let inv = c.loop-picked.invariant in
+    let done = c.in-Ok-Some.ensures in
+    let start = g.D.Disk.files c.args.disk.now in
+    let mid = g.D.Disk.files c.loop-picked.disk in
+    record {
+      keeps = done.kept;
+      same = done.same ∙ inv.same;
+      goes = λ told serves.
+          let same = inv.runs.reads_as told in
+          let next = rw c.in-Ok-Some.field-0-is at (done.told told (served sel db c.loop-picked.picker c.args.picker.now mid start inv.same same serves)) in
+          let here = subst (λ (f : Files). (rest : List (ℕ × Package)) × (above n (picks (packages f.pkg db.store) sel) ≡ entry_in c.in-Ok-Some.picked ∷ rest)) same next in
+          let fed = inv.goes told serves in (
+            fed.0 ++ exported (entry_in c.in-Ok-Some.picked),
+            (
+              c.feed.ensures fed.0 fed.1.0,
+              rw c.number_of-number.ensures (fed_more (packages start.pkg db.store) sel n c.in-Ok-Some.picked here.0 here.1 fed.0
+                  (flat_map exported (above 0 (picks (packages start.pkg db.store) sel))) fed.1.1),
+            ),
+          );
+      runs = runs_then g.D.Disk.tells g.D.Disk.files g.D.Disk.left_since g.D.Disk.moment g.D.Disk.bytes_read g.D.Disk.follows g.met.D.Disk.follows_trans
+          SameFiles SameFiles SameFiles c.args.disk.now c.loop-picked.disk c.next_after.new.disk (λ x y same. same) (λ x y z first second. second ∙ first)
+          inv.runs
+          (runs_looks g.D.Disk.tells g.D.Disk.files g.D.Disk.left_since g.D.Disk.moment g.D.Disk.bytes_read g.D.Disk.follows SameFiles (λ f. refl) Pkg _
+          c.loop-picked.disk c.next_after.new.disk refl done.looks);
+      disk = omega (arith, inv.disk, done.cause.later);
+    }
+
+pub loop-picked-preserved-in-Ok-Some : goal.loop-picked-preserved-in-Ok-Some
+loop-picked-preserved-in-Ok-Some g c =
+    let db = c.args.db.now in
+    let sel = question.All in
+    let n = c.loop-picked.number in
+    let inv = c.loop-picked.invariant in
+    let done = c.in-Ok-Some.ensures in
+    let start = g.D.Disk.files c.args.disk.now in
+    let mid = g.D.Disk.files c.loop-picked.disk in
+    record {
+      keeps = done.kept;
+      same = done.same ∙ inv.same;
+      goes = λ told serves.
+          let same = inv.runs.reads_as told in
+          let next = rw c.in-Ok-Some.field-0-is at (done.told told (served sel db c.loop-picked.picker c.args.picker.now mid start inv.same same serves)) in
+          let here = subst (λ (f : Files). (rest : List (ℕ × Package)) × (above n (picks (packages f.pkg db.store) sel) ≡ entry_in c.in-Ok-Some.picked ∷ rest)) same next in
+          let fed = inv.goes told serves in (
+            fed.0 ++ exported (entry_in c.in-Ok-Some.picked),
+            (
+              c.feed.ensures fed.0 fed.1.0,
+              rw c.number_of-number.ensures (fed_more (packages start.pkg db.store) sel n c.in-Ok-Some.picked here.0 here.1 fed.0
+                  (flat_map exported (above 0 (picks (packages start.pkg db.store) sel))) fed.1.1),
+            ),
+          );
+      runs = runs_then g.D.Disk.tells g.D.Disk.files g.D.Disk.left_since g.D.Disk.moment g.D.Disk.bytes_read g.D.Disk.follows g.met.D.Disk.follows_trans
+          SameFiles SameFiles SameFiles c.args.disk.now c.loop-picked.disk c.next_after.new.disk (λ x y same. same) (λ x y z first second. second ∙ first)
+          inv.runs
+          (runs_looks g.D.Disk.tells g.D.Disk.files g.D.Disk.left_since g.D.Disk.moment g.D.Disk.bytes_read g.D.Disk.follows SameFiles (λ f. refl) Pkg _
+          c.loop-picked.disk c.next_after.new.disk refl done.looks);
+      disk = omega (arith, inv.disk, done.cause.later);
+    }
+
+pub returns-in-Ok-None-clause-told : goal.returns-in-Ok-None-clause-told
+returns-in-Ok-None-clause-told g c = λ told serves.
+    let db = c.args.db.now in
+    let sel = question.All in
+    let n = c.loop-picked.number in
+    let inv = c.loop-picked.invariant in
+    let start = g.D.Disk.files c.args.disk.now in
+    let mid = g.D.Disk.files c.loop-picked.disk in
+    let same = inv.runs.reads_as told in
+    let none = rw c.in-Ok-None.field-0-is at (c.in-Ok-None.ensures.told told (served sel db c.loop-picked.picker c.args.picker.now mid start inv.same same serves)) in
+    let here = subst (λ (f : Files). above n (picks (packages f.pkg db.store) sel) ≡ []) same none in
+    let fed = inv.goes told serves in
+    c.finalize.ensures fed.0 fed.1.0
+    ∙ ap sha256 (sym (append-nil fed.0) ∙ ap (λ (l : List (ℕ × Package)). fed.0 ++ flat_map exported l) (sym here) ∙ fed.1.1)
+
+pub returns-in-Ok-None-clause-runs : goal.returns-in-Ok-None-clause-runs
+returns-in-Ok-None-clause-runs g c =
+    runs_then g.D.Disk.tells g.D.Disk.files g.D.Disk.left_since g.D.Disk.moment g.D.Disk.bytes_read g.D.Disk.follows g.met.D.Disk.follows_trans
+    SameFiles SameFiles SameFiles c.args.disk.now c.loop-picked.disk c.next_after.new.disk (λ x y same. same) (λ x y z first second. second ∙ first)
+    c.loop-picked.invariant.runs
+    (runs_looks g.D.Disk.tells g.D.Disk.files g.D.Disk.left_since g.D.Disk.moment g.D.Disk.bytes_read g.D.Disk.follows SameFiles (λ f. refl) Pkg _
+    c.loop-picked.disk c.next_after.new.disk refl c.in-Ok-None.ensures.looks)
+
+pub returns-in-Err-clause-runs : goal.returns-in-Err-clause-runs
+returns-in-Err-clause-runs g c =
+    runs_then g.D.Disk.tells g.D.Disk.files g.D.Disk.left_since g.D.Disk.moment g.D.Disk.bytes_read g.D.Disk.follows g.met.D.Disk.follows_trans
+    SameFiles SameFiles SameFiles c.args.disk.now c.loop-picked.disk c.next_after.new.disk (λ x y same. same) (λ x y z first second. second ∙ first)
+    c.loop-picked.invariant.runs
+    (runs_looks g.D.Disk.tells g.D.Disk.files g.D.Disk.left_since g.D.Disk.moment g.D.Disk.bytes_read g.D.Disk.follows SameFiles (λ f. refl) Pkg _
+    c.loop-picked.disk c.next_after.new.disk refl c.in-Err.ensures.looks)

@@ -1,0 +1,30 @@
+use Rattle.std.proofs.Common.{ap, ◌∙◌}
+use Rattle.rpm_outside.specs.Buffered.{inner}
+use Rattle.rpm_outside.specs.Files.{Files}
+use Rattle.rpm_db.specs.State.{state}
+use Rattle.rpm_db.specs.inner.Running.{runs_then}
+use Rattle.rpm_db.specs.inner.Writes.{SameFiles, SameLog}
+use Rattle.rpm_exercise.proofs.Told.{from_one_after, told_halted}
+use Rattle.rpm_exercise.proofs.running.change_and_tell.Goals as goal
+
+pub tell-requires-clause-from_one : goal.tell-requires-clause-from_one
+tell-requires-clause-from_one g c = λ told.
+    from_one_after (g.D.Disk.files c.args.disk.now).pkg (g.D.Disk.files c.change_all.new.disk).pkg c.args.db.now c.change_all.new.db
+    (c.in-Ok.ensures.made told).from_one (c.requires.from_one told)
+
+pub returns-in-Err-tell-clause-ended : goal.returns-in-Err-tell-clause-ended
+returns-in-Err-tell-clause-ended g c = λ told rows et e.
+    let db = c.change_all.new.db in
+    let s = state (g.D.Disk.files c.args.disk.now).pkg c.args.db.now.store in
+    let t = state (g.D.Disk.files c.change_all.new.disk).pkg db.store in
+    let u = state (g.D.Disk.files c.tell.new.disk).pkg db.store in
+    let stays = ap (λ (f : Files). state f.pkg db.store) (c.in-Err-tell.ensures.runs.reads_as told) in
+    told_halted g.O.Sink.tells et (g.O.Sink.taken (inner c.args.out.now)) (g.O.Sink.taken (inner c.tell.new.out)) e c.args.n s t u c.in-Ok.tally
+    (c.in-Ok.ensures.made told) stays c.in-Err-tell.halt c.in-Err-tell.ensures.kinds
+    (c.in-Err-tell.ensures.told told (λ is. (c.in-Ok.ensures.carried.index told rows).rows_are))
+
+pub returns-in-Err-tell-clause-runs : goal.returns-in-Err-tell-clause-runs
+returns-in-Err-tell-clause-runs g c =
+    runs_then g.D.Disk.tells g.D.Disk.files g.D.Disk.left_since g.D.Disk.moment g.D.Disk.bytes_read g.D.Disk.follows g.met.D.Disk.follows_trans
+    SameLog SameFiles SameLog c.args.disk.now c.change_all.new.disk c.tell.new.disk (λ x y log. log)
+    (λ x y z log same. ap (λ (f : Files). f.log) same ∙ log) c.in-Ok.ensures.runs c.in-Err-tell.ensures.runs

@@ -1,0 +1,61 @@
+use Rattle.std.proofs.Common.{◌++◌, refl, ap, ◌∙◌, arith}
+use Rattle.std.specs.Ordering.{nat_cmp}
+use Rattle.std.specs.FinMap as finite
+use Rattle.rpm_db.specs.State.{Package, packages}
+use Rattle.rpm_db.specs.inner.Running.{runs_none, runs_then}
+use Rattle.rpm_db.specs.inner.Writes.{SameFiles}
+use Rattle.rpm_exercise.specs.Exercised.{capability_line, capability_lines}
+use Rattle.rpm_exercise.proofs.Told.{readable_same, rows_same, packages_same}
+use Rattle.rpm_exercise.proofs.Walked.{lines_more, lines_end}
+use Rattle.rpm_exercise.proofs.summary.push_capabilities.Goals as goal
+
+pub loop-c-init : goal.loop-c-init
+loop-c-init g c = record {
+  goes = λ told rows. refl;
+  runs = runs_none g.D.Disk.tells g.D.Disk.files g.D.Disk.left_since g.D.Disk.moment g.D.Disk.bytes_read g.D.Disk.follows g.met.D.Disk.follows_refl SameFiles
+      (λ f. refl) c.args.disk.now;
+  disk = omega arith;
+}
+
+pub push_capability-requires-clause-readable : goal.push_capability-requires-clause-readable
+push_capability-requires-clause-readable g c = λ told.
+    readable_same (g.D.Disk.files c.args.disk.now) (g.D.Disk.files c.loop-c.disk) c.args.db.now (c.loop-c.invariant.runs.reads_as told)
+    (c.requires.readable told)
+
+pub loop-c-preserved : goal.loop-c-preserved
+loop-c-preserved g c =
+    let inv = c.loop-c.invariant in
+    let done = c.in-Ok.ensures in
+    let db = c.args.db.now in
+    let start = g.D.Disk.files c.args.disk.now in
+    let mid = g.D.Disk.files c.loop-c.disk in
+    record {
+      goes = λ told rows.
+          let same = inv.runs.reads_as told in
+          let line = capability_line (packages start.pkg db.store) in
+          let is = done.told told (rows_same start mid db same rows)
+          ∙ ap (λ (p : finite.FinMap nat_cmp Package). c.loop-c.text.items ++ capability_line p c.loop-c.c) (packages_same start mid db same) in
+          lines_more line c.loop-c.text.items c.push_capability.new.text.items (c.args.text.now.items ++ capability_lines (packages start.pkg db.store))
+          c.loop-c.c 7 (omega arith) is (inv.goes told rows);
+      runs = runs_then g.D.Disk.tells g.D.Disk.files g.D.Disk.left_since g.D.Disk.moment g.D.Disk.bytes_read g.D.Disk.follows g.met.D.Disk.follows_trans
+          SameFiles SameFiles SameFiles c.args.disk.now c.loop-c.disk c.push_capability.new.disk (λ x y same. same) (λ x y z first second. second ∙ first)
+          inv.runs done.runs;
+      disk = omega (arith, inv.disk, done.disk.later);
+    }
+
+pub returns-in-Err-clause-lawful : goal.returns-in-Err-clause-lawful
+returns-in-Err-clause-lawful g c = λ told rows.
+    c.in-Err.ensures.lawful told
+    (rows_same (g.D.Disk.files c.args.disk.now) (g.D.Disk.files c.loop-c.disk) c.args.db.now (c.loop-c.invariant.runs.reads_as told) rows)
+
+pub returns-in-Err-clause-runs : goal.returns-in-Err-clause-runs
+returns-in-Err-clause-runs g c =
+    runs_then g.D.Disk.tells g.D.Disk.files g.D.Disk.left_since g.D.Disk.moment g.D.Disk.bytes_read g.D.Disk.follows g.met.D.Disk.follows_trans
+    SameFiles SameFiles SameFiles c.args.disk.now c.loop-c.disk c.push_capability.new.disk (λ x y same. same) (λ x y z first second. second ∙ first)
+    c.loop-c.invariant.runs c.in-Err.ensures.runs
+
+pub returns-clause-told : goal.returns-clause-told
+returns-clause-told g c = λ told rows.
+    let all = packages (g.D.Disk.files c.args.disk.now).pkg c.args.db.now.store in
+    lines_end (capability_line all) c.loop-c.text.items (c.args.text.now.items ++ capability_lines all) c.loop-c.c 7 (omega arith)
+    (c.loop-c.invariant.goes told rows)

@@ -1,0 +1,70 @@
+-- What the exercise tells of the packages that are left.
+use Rattle.std.specs.Prelude.{ℕ, List, [], ◌∷◌, ◌++◌, length, codes, decimal}
+use Rattle.std.specs.List.{flat_map, range_with_len}
+use Rattle.std.specs.Ordering.{nat_cmp}
+use Rattle.std.specs.FinMap.{FinMap}
+use Rattle.hex.specs.Hex.{encode_lower}
+use Rattle.sha2.specs.Sha256.{sha256}
+use Rattle.rpm_header.specs.Digest.{magic}
+use Rattle.rpm_version.specs.Capability.{CapabilityParts}
+use Rattle.rpm_db.specs.State.{State, Package, Good, Bad}
+use Rattle.rpm_select.specs.declared.selection.Selection.{Selection}
+use Rattle.rpm_select.specs.declared.selection.Selection.TheVariants as question
+use Rattle.rpm_select.specs.Selections.{picks}
+use Rattle.rpm_change.specs.Exercise.{numbered}
+use Rattle.rpm_change.specs.Steps.{Course, ToOut, whole, apply_all}
+use Rattle.rpm_exercise.specs.Rounds.{changes}
+
+-- ---- the export
+
+-- a Good header as it is exported, behind the magic; of a Bad one nothing goes out
+abbrev pub exported : ℕ × Package → List ℕ
+exported (n, Good bytes) = magic ++ bytes
+exported (n, Bad) = []
+
+-- all packages, by rising number
+abbrev pub export_bytes : FinMap nat_cmp Package → List ℕ
+export_bytes packages = flat_map exported (picks packages question.All)
+
+-- ---- the lines
+
+-- a word and how many
+abbrev pub count_line : List ℕ → ℕ → List ℕ
+count_line word n = word ++ (codes " " ++ (decimal n ++ codes "\n"))
+
+-- how many packages a question picks
+abbrev pub picked : FinMap nat_cmp Package → Selection → ℕ
+picked packages sel = length (picks packages sel)
+
+-- in any version
+abbrev pub capability_named : List ℕ → CapabilityParts
+capability_named name = record { name = name; flags = 0; evr = [] }
+
+-- the seven capabilities, and how many packages provide each
+abbrev pub capability_line : FinMap nat_cmp Package → ℕ → List ℕ
+capability_line packages c =
+    count_line (numbered (codes "cap") c) (picked packages (question.Provides (capability_named (numbered (codes "cap") c))))
+
+abbrev pub capability_lines : FinMap nat_cmp Package → List ℕ
+capability_lines packages = flat_map (capability_line packages) (range_with_len 0 7)
+
+-- a digest in lower-case hex
+abbrev pub digest_text : List ℕ → List ℕ
+digest_text digest = codes "sha256 " ++ (encode_lower digest ++ codes "\n")
+
+-- that of what an export writes
+abbrev pub digest_line : FinMap nat_cmp Package → List ℕ
+digest_line packages = digest_text (sha256 (export_bytes packages))
+
+unfoldable pub summary : FinMap nat_cmp Package → List ℕ
+summary packages = count_line (codes "packages") (picked packages question.All) ++ (capability_lines packages ++ digest_line packages)
+
+-- ---- the course
+
+-- its changes, and then what it tells of the packages that they leave, in one step
+abbrev pub exercise : ℕ → State → Course
+exercise n s = record {
+  steps = ToOut (whole 0) (summary (apply_all (changes n s) s).packages) ∷ [];
+  failed = 0;
+  changes = changes n s;
+}

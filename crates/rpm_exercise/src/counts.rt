@@ -1,0 +1,123 @@
+//! How many packages a question picks.
+
+ghost use Rattle.std.specs.Prelude.{◌≡◌, ℕ, ◌<◌, ◌≤◌, false, length, IsTrue, Ok, Err, IfOk, IfErr};
+ghost use Rattle.rpm_outside.specs.Causes.{HasCauseAt};
+ghost use Rattle.rpm_version.specs.Capability.{capability};
+ghost use Rattle.rpm_db.specs.State.{packages, above};
+ghost use Rattle.rpm_db.specs.Database.{Keeps, holds};
+ghost use Rattle.rpm_db.specs.Runs.{Runs};
+ghost use Rattle.rpm_db.specs.inner.Writes.{SameFiles};
+ghost use Rattle.rpm_select.specs.declared.selection.Selection.TheVariants as question;
+ghost use Rattle.rpm_select.specs.Picks.{number_in};
+ghost use Rattle.rpm_select.specs.Reach.{Serves, HasIndexRows};
+ghost use Rattle.rpm_select.specs.Selections.{picks};
+ghost use Rattle.rpm_exercise.specs.Endings.{IsReadable, IsOfAsking, IsOfReading, pick_halt};
+ghost use Rattle.rpm_exercise.specs.Exercised.{picked, capability_named};
+
+use rpm_change::Halt;
+use rpm_db::Db;
+use rpm_outside::Disk;
+use rpm_select::{PickFault, Picked, Picker, Selection};
+use rpm_version::Capability;
+use std::alloc::Global;
+
+/// What a fault of a picker makes of the exercise.
+pub fn halt_of(fault: PickFault) -> Halt
+    ensures { result ≡ pick_halt fault }
+{
+    match fault {
+        PickFault::BadIndex { unit } => Halt::BadIndex { unit },
+        PickFault::DiskFault => Halt::DiskFault,
+        PickFault::NoMemory => Halt::NoMemory,
+    }
+}
+
+/// The number of a package that was picked.
+pub fn number_of(picked: &Picked) -> u32
+    ensures { result ≡ number_in picked.now }
+{
+    match picked {
+        Picked::Good { number, .. } => *number,
+        Picked::Bad { number } => *number,
+    }
+}
+
+/// How many packages are picked.
+fn count_served<D: Disk>(
+    alloc: Global,
+    picker: &mut Picker,
+    db: &Db,
+    disk: &mut D,
+    selection: &Selection<'_>,
+) -> Result<u32, Halt>
+    requires keeps { IsTrue D.tells → Keeps (D.files disk.old).pkg db.now }
+    requires going { db.now.stopped ≡ false }
+    ensures told { IsTrue D.tells → Serves picker.old (packages (D.files disk.old).pkg db.now.store) selection.now
+        → IfOk result (λ count. count ≡ length (above 0 (picks (packages (D.files disk.old).pkg db.now.store) selection.now))) }
+    ensures kinds { IfErr result IsOfReading }
+    ensures runs { Runs D.tells D.files D.left_since D.moment D.bytes_read D.follows SameFiles disk.old disk.new }
+    ensures disk { HasCauseAt (result ≡ Err Halt.DiskFault) (D.faults disk.old) (D.faults disk.new) }
+{
+    let mut number = 0;
+    let mut count = 0u32;
+    loop {
+        match picker.next_after(alloc, db, disk, selection, number) {
+            Ok(Some(picked)) => {
+                number = number_of(&picked);
+                count += 1;
+            }
+            Ok(None) => return Ok(count),
+            Err(fault) => return Err(halt_of(fault)),
+        }
+    }
+}
+
+/// How many packages a question picks. Reads what the question reads.
+pub fn count_picked<D: Disk>(
+    alloc: Global,
+    db: &Db,
+    disk: &mut D,
+    selection: &Selection<'_>,
+) -> Result<u32, Halt>
+    requires readable { IsTrue D.tells → IsReadable (D.files disk.old) db.now }
+    requires going { db.now.stopped ≡ false }
+    requires from_one { IsTrue D.tells → holds 0 db.now ≡ false }
+    ensures told { IsTrue D.tells → HasIndexRows db.now (D.files disk.old).pkg (D.files disk.old).idx → IfOk result (λ count.
+        count ≡ picked (packages (D.files disk.old).pkg db.now.store) selection.now) }
+    ensures lawful { IsTrue D.tells → HasIndexRows db.now (D.files disk.old).pkg (D.files disk.old).idx → IfErr result IsOfReading }
+    ensures kinds { IfErr result IsOfAsking }
+    ensures runs { Runs D.tells D.files D.left_since D.moment D.bytes_read D.follows SameFiles disk.old disk.new }
+    ensures disk { HasCauseAt (result ≡ Err Halt.DiskFault) (D.faults disk.old) (D.faults disk.new) }
+{
+    match Picker::new(alloc, db, disk, selection) {
+        Ok(picker) => {
+            let mut picker = picker;
+            count_served(alloc, &mut picker, db, disk, selection)
+        }
+        Err(fault) => Err(halt_of(fault)),
+    }
+}
+
+/// How many packages provide a capability.
+pub fn count_provided<D: Disk>(
+    alloc: Global,
+    db: &Db,
+    disk: &mut D,
+    name: &str,
+) -> Result<u32, Halt>
+    requires named { capability name.now ≡ Ok (capability_named name.now) }
+    requires readable { IsTrue D.tells → IsReadable (D.files disk.old) db.now }
+    requires going { db.now.stopped ≡ false }
+    requires from_one { IsTrue D.tells → holds 0 db.now ≡ false }
+    ensures told { IsTrue D.tells → HasIndexRows db.now (D.files disk.old).pkg (D.files disk.old).idx → IfOk result (λ count.
+        count ≡ picked (packages (D.files disk.old).pkg db.now.store) (question.Provides (capability_named name.now))) }
+    ensures lawful { IsTrue D.tells → HasIndexRows db.now (D.files disk.old).pkg (D.files disk.old).idx → IfErr result IsOfReading }
+    ensures kinds { IfErr result IsOfAsking }
+    ensures runs { Runs D.tells D.files D.left_since D.moment D.bytes_read D.follows SameFiles disk.old disk.new }
+    ensures disk { HasCauseAt (result ≡ Err Halt.DiskFault) (D.faults disk.old) (D.faults disk.new) }
+{
+    match Capability::read(name) {
+        Ok(capability) => count_picked(alloc, db, disk, &Selection::Provides(capability)),
+        Err(_) => unreachable!(),
+    }
+}

@@ -1,0 +1,89 @@
+//! The digest of what an export writes.
+
+ghost use Rattle.std.specs.Prelude.{◌≡◌, ◌++◌, ℕ, List, false, IsTrue, Err, IfOk, IfErr};
+ghost use Rattle.std.specs.List.{flat_map};
+ghost use Rattle.sha2.specs.Hashers.{Holds256};
+ghost use Rattle.sha2.specs.Sha256.{sha256};
+ghost use Rattle.rpm_outside.specs.Causes.{HasCauseAt};
+ghost use Rattle.rpm_db.specs.State.{packages, above};
+ghost use Rattle.rpm_db.specs.Database.{Keeps, holds};
+ghost use Rattle.rpm_db.specs.Runs.{Runs};
+ghost use Rattle.rpm_db.specs.inner.Writes.{SameFiles};
+ghost use Rattle.rpm_select.specs.declared.selection.Selection.TheVariants as question;
+ghost use Rattle.rpm_select.specs.Picks.{entry_in};
+ghost use Rattle.rpm_select.specs.Reach.{Serves, HasIndexRows};
+ghost use Rattle.rpm_select.specs.Selections.{picks};
+ghost use Rattle.rpm_exercise.specs.Endings.{IsReadable, IsOfAsking, IsOfReading};
+ghost use Rattle.rpm_exercise.specs.Exercised.{exported, export_bytes};
+
+use crate::counts::{halt_of, number_of};
+use rpm_change::Halt;
+use rpm_db::Db;
+use rpm_header::MAGIC;
+use rpm_outside::Disk;
+use rpm_select::{Picked, Picker, Selection};
+use sha2::{Digest, Sha256};
+use std::alloc::Global;
+
+/// Feeds a package as it is exported.
+fn feed(hasher: &mut Sha256, picked: &Picked)
+    ensures { (m : List ℕ) → Holds256 hasher.old m → Holds256 hasher.new (m ++ exported (entry_in picked.now)) }
+{
+    match picked {
+        Picked::Good { blob, .. } => {
+            hasher.update(MAGIC.as_slice());
+            hasher.update(blob.as_slice());
+        }
+        Picked::Bad { .. } => {}
+    }
+}
+
+/// The digest of all packages, header by header: one is held at a time.
+fn digest_served<D: Disk>(
+    alloc: Global,
+    picker: &mut Picker,
+    db: &Db,
+    disk: &mut D,
+) -> Result<[u8; 32], Halt>
+    requires keeps { IsTrue D.tells → Keeps (D.files disk.old).pkg db.now }
+    requires going { db.now.stopped ≡ false }
+    ensures told { IsTrue D.tells → Serves picker.old (packages (D.files disk.old).pkg db.now.store) question.All
+        → IfOk result (λ digest. digest ≡ sha256 (flat_map exported (above 0 (picks (packages (D.files disk.old).pkg db.now.store) question.All)))) }
+    ensures kinds { IfErr result IsOfReading }
+    ensures runs { Runs D.tells D.files D.left_since D.moment D.bytes_read D.follows SameFiles disk.old disk.new }
+    ensures disk { HasCauseAt (result ≡ Err Halt.DiskFault) (D.faults disk.old) (D.faults disk.new) }
+{
+    let mut hasher = Sha256::new();
+    let mut number = 0;
+    loop {
+        match picker.next_after(alloc, db, disk, &Selection::All, number) {
+            Ok(Some(picked)) => {
+                number = number_of(&picked);
+                feed(&mut hasher, &picked);
+            }
+            Ok(None) => return Ok(hasher.finalize()),
+            Err(fault) => return Err(halt_of(fault)),
+        }
+    }
+}
+
+/// The digest of what an export writes.
+pub fn digest<D: Disk>(alloc: Global, db: &Db, disk: &mut D) -> Result<[u8; 32], Halt>
+    requires readable { IsTrue D.tells → IsReadable (D.files disk.old) db.now }
+    requires going { db.now.stopped ≡ false }
+    requires from_one { IsTrue D.tells → holds 0 db.now ≡ false }
+    ensures told { IsTrue D.tells → HasIndexRows db.now (D.files disk.old).pkg (D.files disk.old).idx → IfOk result (λ digest.
+        digest ≡ sha256 (export_bytes (packages (D.files disk.old).pkg db.now.store))) }
+    ensures lawful { IsTrue D.tells → HasIndexRows db.now (D.files disk.old).pkg (D.files disk.old).idx → IfErr result IsOfReading }
+    ensures kinds { IfErr result IsOfAsking }
+    ensures runs { Runs D.tells D.files D.left_since D.moment D.bytes_read D.follows SameFiles disk.old disk.new }
+    ensures disk { HasCauseAt (result ≡ Err Halt.DiskFault) (D.faults disk.old) (D.faults disk.new) }
+{
+    match Picker::new(alloc, db, disk, &Selection::All) {
+        Ok(picker) => {
+            let mut picker = picker;
+            digest_served(alloc, &mut picker, db, disk)
+        }
+        Err(fault) => Err(halt_of(fault)),
+    }
+}

@@ -1,0 +1,128 @@
+//! What is told of the packages that are left.
+
+ghost use Rattle.std.specs.Prelude.{◌≡◌, ◌++◌, ◌<◌, codes, false, IsTrue, Err, OnOk, IfOk, IfErr};
+ghost use Rattle.rpm_outside.specs.Causes.{HasCauseAt};
+ghost use Rattle.rpm_db.specs.State.{packages};
+ghost use Rattle.rpm_db.specs.Database.{holds};
+ghost use Rattle.rpm_db.specs.Runs.{Runs};
+ghost use Rattle.rpm_db.specs.inner.Writes.{SameFiles};
+ghost use Rattle.rpm_select.specs.declared.selection.Selection.TheVariants as question;
+ghost use Rattle.rpm_select.specs.Reach.{HasIndexRows};
+ghost use Rattle.rpm_exercise.specs.Endings.{IsReadable, IsOfAsking, IsOfReading};
+ghost use Rattle.rpm_exercise.specs.Exercised.{picked, count_line, capability_line, capability_lines, summary};
+
+use crate::counts::{count_picked, count_provided};
+use crate::digest::digest;
+use crate::lines::{capability_name, push_count, push_digest};
+use rpm_change::Halt;
+use rpm_db::Db;
+use rpm_outside::Disk;
+use rpm_select::Selection;
+use std::alloc::Global;
+
+/// Appends how many packages provide a capability.
+fn push_capability<D: Disk>(
+    alloc: Global,
+    db: &Db,
+    disk: &mut D,
+    text: &mut Vec<u8>,
+    c: u32,
+) -> Result<(), Halt>
+    requires few { c < 7 }
+    requires readable { IsTrue D.tells → IsReadable (D.files disk.old) db.now }
+    requires going { db.now.stopped ≡ false }
+    requires from_one { IsTrue D.tells → holds 0 db.now ≡ false }
+    ensures told { IsTrue D.tells → HasIndexRows db.now (D.files disk.old).pkg (D.files disk.old).idx → OnOk result
+        (text.new.items ≡ text.old.items ++ capability_line (packages (D.files disk.old).pkg db.now.store) c) }
+    ensures lawful { IsTrue D.tells → HasIndexRows db.now (D.files disk.old).pkg (D.files disk.old).idx → IfErr result IsOfReading }
+    ensures kinds { IfErr result IsOfAsking }
+    ensures runs { Runs D.tells D.files D.left_since D.moment D.bytes_read D.follows SameFiles disk.old disk.new }
+    ensures disk { HasCauseAt (result ≡ Err Halt.DiskFault) (D.faults disk.old) (D.faults disk.new) }
+{
+    let Ok(name) = capability_name(alloc, c) else {
+        return Err(Halt::NoMemory);
+    };
+    let count = match count_provided(alloc, db, disk, &name) {
+        Ok(count) => count,
+        Err(halt) => return Err(halt),
+    };
+    match push_count(text, name.as_bytes(), count) {
+        Ok(()) => Ok(()),
+        Err(_) => Err(Halt::NoMemory),
+    }
+}
+
+/// Appends the lines of the seven capabilities.
+fn push_capabilities<D: Disk>(
+    alloc: Global,
+    db: &Db,
+    disk: &mut D,
+    text: &mut Vec<u8>,
+) -> Result<(), Halt>
+    requires readable { IsTrue D.tells → IsReadable (D.files disk.old) db.now }
+    requires going { db.now.stopped ≡ false }
+    requires from_one { IsTrue D.tells → holds 0 db.now ≡ false }
+    ensures told { IsTrue D.tells → HasIndexRows db.now (D.files disk.old).pkg (D.files disk.old).idx → OnOk result
+        (text.new.items ≡ text.old.items ++ capability_lines (packages (D.files disk.old).pkg db.now.store)) }
+    ensures lawful { IsTrue D.tells → HasIndexRows db.now (D.files disk.old).pkg (D.files disk.old).idx → IfErr result IsOfReading }
+    ensures kinds { IfErr result IsOfAsking }
+    ensures runs { Runs D.tells D.files D.left_since D.moment D.bytes_read D.follows SameFiles disk.old disk.new }
+    ensures disk { HasCauseAt (result ≡ Err Halt.DiskFault) (D.faults disk.old) (D.faults disk.new) }
+{
+    for c in 0..7u32 {
+        match push_capability(alloc, db, disk, text, c) {
+            Ok(()) => {}
+            Err(halt) => return Err(halt),
+        }
+    }
+    Ok(())
+}
+
+/// Appends how many packages there are.
+fn push_packages<D: Disk>(
+    alloc: Global,
+    db: &Db,
+    disk: &mut D,
+    text: &mut Vec<u8>,
+) -> Result<(), Halt>
+    requires readable { IsTrue D.tells → IsReadable (D.files disk.old) db.now }
+    requires going { db.now.stopped ≡ false }
+    requires from_one { IsTrue D.tells → holds 0 db.now ≡ false }
+    ensures told { IsTrue D.tells → HasIndexRows db.now (D.files disk.old).pkg (D.files disk.old).idx → OnOk result
+        (text.new.items ≡ text.old.items ++ count_line (codes "packages") (picked (packages (D.files disk.old).pkg db.now.store) question.All)) }
+    ensures lawful { IsTrue D.tells → HasIndexRows db.now (D.files disk.old).pkg (D.files disk.old).idx → IfErr result IsOfReading }
+    ensures kinds { IfErr result IsOfAsking }
+    ensures runs { Runs D.tells D.files D.left_since D.moment D.bytes_read D.follows SameFiles disk.old disk.new }
+    ensures disk { HasCauseAt (result ≡ Err Halt.DiskFault) (D.faults disk.old) (D.faults disk.new) }
+{
+    let count = match count_picked(alloc, db, disk, &Selection::All) {
+        Ok(count) => count,
+        Err(halt) => return Err(halt),
+    };
+    match push_count(text, b"packages", count) {
+        Ok(()) => Ok(()),
+        Err(_) => Err(Halt::NoMemory),
+    }
+}
+
+/// How many packages are left, how many provide each capability, and the digest of what an export would write.
+pub fn summary<D: Disk>(alloc: Global, db: &Db, disk: &mut D) -> Result<Vec<u8>, Halt>
+    requires readable { IsTrue D.tells → IsReadable (D.files disk.old) db.now }
+    requires going { db.now.stopped ≡ false }
+    requires from_one { IsTrue D.tells → holds 0 db.now ≡ false }
+    ensures told { IsTrue D.tells → HasIndexRows db.now (D.files disk.old).pkg (D.files disk.old).idx → IfOk result (λ text.
+        text.items ≡ summary (packages (D.files disk.old).pkg db.now.store)) }
+    ensures lawful { IsTrue D.tells → HasIndexRows db.now (D.files disk.old).pkg (D.files disk.old).idx → IfErr result IsOfReading }
+    ensures kinds { IfErr result IsOfAsking }
+    ensures runs { Runs D.tells D.files D.left_since D.moment D.bytes_read D.follows SameFiles disk.old disk.new }
+    ensures disk { HasCauseAt (result ≡ Err Halt.DiskFault) (D.faults disk.old) (D.faults disk.new) }
+{
+    let mut text = Vec::new(alloc);
+    push_packages(alloc, db, disk, &mut text)?;
+    push_capabilities(alloc, db, disk, &mut text)?;
+    let digest = digest(alloc, db, disk)?;
+    match push_digest(alloc, &mut text, &digest) {
+        Ok(()) => Ok(text),
+        Err(_) => Err(Halt::NoMemory),
+    }
+}
