@@ -6,7 +6,9 @@ use Rattle.rpm_outside.specs.Files.{Units, Files}
 use Rattle.rpm_outside.specs.Sinks.{Gained, GainedPart}
 use Rattle.rpm_outside.specs.inner.Taken.{gained_none}
 use Rattle.rpm_db.specs.Database.{Database, holds}
-use Rattle.rpm_db.specs.State.{State, Package, packages}
+use Rattle.rpm_db.specs.Lawful.{Remade}
+use Rattle.rpm_pkgdb.specs.Store.{Store}
+use Rattle.rpm_db.specs.State.{State, Package, state, packages}
 use Rattle.rpm_db.specs.inner.Laws.{is_there}
 use Rattle.rpm_select.specs.Reach.{HasIndexRows}
 use Rattle.rpm_change.specs.declared.tally.Tally.{Tally}
@@ -29,6 +31,12 @@ rows_same f g db same r = subst (λ (h : Files). HasIndexRows db h.pkg h.idx) (s
 
 pub packages_same : (f g : Files) (db : Database) → g ≡ f → packages g.pkg db.store ≡ packages f.pkg db.store
 packages_same f g db same = ap (λ (h : Files). packages h.pkg db.store) same
+
+-- the index was made anew
+pub state_remade : (old new : Files) (before after : Database) → Remade old new → after.store ≡ before.store
+    → state new.pkg after.store ≡ state old.pkg before.store
+state_remade old new before after made store =
+    ap (λ (u : Units). state u after.store) made.pkg ∙ ap (λ (v : Store). state old.pkg v) store
 
 -- ---- no package has the number 0
 

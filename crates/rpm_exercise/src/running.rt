@@ -1,24 +1,25 @@
 //! The exercise as a whole.
 
-ghost use Rattle.std.specs.Prelude.{◌≡◌, ℕ, ◌≤◌, Bool, List, [], false, true, IsTrue, Err, IfOk, IfErr};
+ghost use Rattle.std.specs.Prelude.{◌≡◌, ℕ, ◌≤◌, Bool, List, [], false, true, IsTrue, Err, OnOk, IfOk, IfErr};
 ghost use Rattle.rpm_outside.specs.Buffered.{inner, holds, HandsOn};
 ghost use Rattle.rpm_outside.specs.Causes.{HasCauseAt};
 ghost use Rattle.rpm_db.specs.Changes.{IsServing};
 ghost use Rattle.rpm_db.specs.Database as database;
 ghost use Rattle.rpm_db.specs.Database.{IsIndexed, IsNext, is_indexed};
+ghost use Rattle.rpm_db.specs.Lawful.{Remade};
 ghost use Rattle.rpm_db.specs.Runs.{Runs};
 ghost use Rattle.rpm_db.specs.State.{state, packages};
 ghost use Rattle.rpm_db.specs.inner.Writes.{SameFiles, SameLog};
 ghost use Rattle.rpm_select.specs.Reach.{HasIndexRows};
 ghost use Rattle.rpm_change.specs.Endings.{outputs, Ended, IsCarried, IndexTurn};
-ghost use Rattle.rpm_exercise.specs.Endings.{IsReadable, IsTold, IsUnbroken, IsOfTelling, IsOfExercise, OnceBegun, IsRefused};
+ghost use Rattle.rpm_exercise.specs.Endings.{IsReadable, IsTold, IsUnbroken, IsOfReading, IsOfTelling, IsOfExercise, OnceBegun, IsRefused};
 ghost use Rattle.rpm_exercise.specs.Exercised.{summary, exercise};
 ghost use Rattle.rpm_exercise.specs.Rounds.{changes, IsSpent};
 
 use crate::rounds::change_all;
 use crate::summary::summary;
 use rpm_change::{Halt, Tally};
-use rpm_db::Db;
+use rpm_db::{ChangeFault, Db};
 use rpm_outside::{Buffered, Disk, Sink, put_and_flush};
 use std::alloc::Global;
 
@@ -99,16 +100,74 @@ fn change_and_tell<D: Disk, O: Sink + Drop>(
     }
 }
 
+/// Makes the index anew, whatever it was. There are no packages, so it has room.
+fn renew<D: Disk>(alloc: Global, db: &mut Db, disk: &mut D) -> Result<(), Halt>
+    requires indexed { is_indexed db.old ≡ true }
+    requires going { db.old.stopped ≡ false }
+    requires serving { IsTrue D.tells → IsServing (D.files disk.old) (D.left_since disk.old (D.moment disk.old)) db.old }
+    ensures store { db.new.store ≡ db.old.store }
+    ensures indexed { is_indexed db.new ≡ true }
+    ensures going { OnOk result (db.new.stopped ≡ false) }
+    ensures serving { OnOk result (IsTrue D.tells → IsServing (D.files disk.new) (D.left_since disk.new (D.moment disk.new)) db.new) }
+    ensures index { OnOk result (IsTrue D.tells → IsIndexed (D.files disk.new).pkg (D.files disk.new).idx db.new) }
+    ensures kinds { IfErr result IsOfReading }
+    ensures runs { Runs D.tells D.files D.left_since D.moment D.bytes_read D.follows Remade disk.old disk.new }
+    ensures disk { HasCauseAt (result ≡ Err Halt.DiskFault) (D.faults disk.old) (D.faults disk.new) }
+{
+    match db.rebuild(alloc, disk) {
+        Ok(()) => Ok(()),
+        Err(ChangeFault::DiskFault) => Err(Halt::DiskFault),
+        Err(_) => Err(Halt::NoMemory),
+    }
+}
+
+/// Makes the index anew, and the changes, and writes to out what is told of the packages that are left.
+fn exercise_all<D: Disk, O: Sink + Drop>(
+    alloc: Global,
+    db: &mut Db,
+    disk: &mut D,
+    n: u32,
+    out: &mut Buffered<O>,
+) -> Result<Tally, Halt>
+    requires few { n ≤ 100000 }
+    requires indexed { is_indexed db.old ≡ true }
+    requires going { db.old.stopped ≡ false }
+    requires from_one { IsTrue D.tells → database.holds 0 db.old ≡ false }
+    requires serving { IsTrue D.tells → IsServing (D.files disk.old) (D.left_since disk.old (D.moment disk.old)) db.old }
+    requires out_empty { holds out.old ≡ [] }
+    ensures ended { IsTrue D.tells → (err_tells : Bool) (err : List ℕ)
+        → Ended (exercise n (state (D.files disk.old).pkg db.old.store)) (state (D.files disk.old).pkg db.old.store) (state (D.files disk.new).pkg db.new.store) result
+        (outputs O.tells (O.taken (inner out.old)) err_tells err) (outputs O.tells (O.taken (inner out.new)) err_tells err) }
+    ensures room { IsTrue D.tells
+        → IndexTurn (state (D.files disk.old).pkg db.old.store) (changes n (state (D.files disk.old).pkg db.old.store)) result }
+    ensures going { IfOk result (λ _tally. db.new.stopped ≡ false) }
+    ensures serving { IfOk result (λ _tally. IsTrue D.tells → IsServing (D.files disk.new) (D.left_since disk.new (D.moment disk.new)) db.new) }
+    ensures index { IfOk result (λ _tally. IsTrue D.tells → IsIndexed (D.files disk.new).pkg (D.files disk.new).idx db.new) }
+    ensures indexed { is_indexed db.new ≡ true }
+    ensures spent { IfErr result (IsSpent db.new) }
+    ensures kinds { IfErr result IsOfExercise }
+    ensures runs { Runs D.tells D.files D.left_since D.moment D.bytes_read D.follows SameLog disk.old disk.new }
+    ensures disk { HasCauseAt (result ≡ Err Halt.DiskFault) (D.faults disk.old) (D.faults disk.new) }
+    ensures out { HasCauseAt (result ≡ Err Halt.OutFault) (O.faults (inner out.old)) (O.faults (inner out.new)) }
+    ensures out_rest { HandsOn O.follows out.old out.new }
+{
+    match renew(alloc, db, disk) {
+        Ok(()) => change_and_tell(alloc, db, disk, n, out),
+        Err(halt) => Err(halt),
+    }
+}
+
 /// The exercise: on a database without packages it makes the changes of `n` headers, and then writes to `out` how many packages are left,
 /// how many provide each of the seven capabilities, and the SHA-256 of what an export of them would write, in one piece.
 ///
 /// It adds the headers 1 to `n` with the leading number 1, then puts each that is divisible by 3 in its own place with the leading number
 /// 2, then erases each that is divisible by 5: `n + n / 3 + n / 5` changes, and nothing fails. The next number may be any; so the headers
-/// may begin anywhere. What it tells is asked of the database with its index, as any question is: all packages are read once to count
-/// them and once for the digest, and the candidates of each capability once. One header is held at a time, and the lines.
+/// may begin anywhere. First the index is made anew, from no packages, so that what is told doesn't rest on what it was. What is told is
+/// asked of the database with that index, as any question is: all packages are read once to count them and once for the digest, and the
+/// candidates of each capability once. One header is held at a time, and the lines.
 ///
-/// The disk may be an overlay: then all changes can be committed as one. After an `Err` of a stop the database isn't to be used further.
-/// The headers, the rounds and the lines are this project's own.
+/// The disk may be an overlay: then all changes can be committed as one. After an `Err` but `NotEmpty` the database isn't to be used
+/// further. The headers, the rounds and the lines are this project's own.
 ///
 /// # Errors
 ///
@@ -117,7 +176,7 @@ fn change_and_tell<D: Disk, O: Sink + Drop>(
 /// - `GenerationSpent` where a change is to be made while the generation is 4294967295.
 /// - `StoreFull` where a header fits nowhere below 4 GiB.
 /// - `IndexFull` exactly where, going through the changes in order, the rows after one of them need more than 268435456 units.
-/// - `BadIndex` only where a chain of the index isn't well formed, or unit 1 counts too little; never where the index holds the rows.
+/// - `BadIndex` never where the disk's contents are told: the index holds the rows.
 /// - `DiskFault` and `OutFault` only where that object's count of faults rose. Before `OutFault` the first bytes of the lines were written.
 /// - `NoMemory` where a header, a change, a question or the lines find no memory; also where a number that was given isn't there or is too
 ///   great, which takes a disk that doesn't keep what it is given. It answers nothing else.
@@ -136,13 +195,14 @@ pub fn exercise<D: Disk, O: Sink + Drop>(
     requires out_empty { holds out.old ≡ [] }
     ensures empty { IsRefused (IsNext (λ m. database.holds m db.old) 0) result }
     ensures refused { (number : ℕ) → result ≡ Err (ExerciseFault.NotEmpty number) → (db.new ≡ db.old) × (disk.new ≡ disk.old) × (out.new ≡ out.old) }
-    ensures ended { IsTrue D.tells → IsIndexed (D.files disk.old).pkg (D.files disk.old).idx db.old → (err_tells : Bool) (err : List ℕ)
-        → OnceBegun (λ r. Ended (exercise n (state (D.files disk.old).pkg db.old.store)) (state (D.files disk.old).pkg db.old.store)
-        (state (D.files disk.new).pkg db.new.store) r
+    ensures ended { IsTrue D.tells → (err_tells : Bool) (err : List ℕ) → OnceBegun (λ r. Ended (exercise n (state (D.files disk.old).pkg db.old.store))
+        (state (D.files disk.old).pkg db.old.store) (state (D.files disk.new).pkg db.new.store) r
         (outputs O.tells (O.taken (inner out.old)) err_tells err) (outputs O.tells (O.taken (inner out.new)) err_tells err)) result }
-    ensures room { IsTrue D.tells → IsIndexed (D.files disk.old).pkg (D.files disk.old).idx db.old
+    ensures room { IsTrue D.tells
         → OnceBegun (λ r. IndexTurn (state (D.files disk.old).pkg db.old.store) (changes n (state (D.files disk.old).pkg db.old.store)) r) result }
-    ensures carried { IfOk result (λ _tally. IsCarried D.tells (D.files disk.old) (D.files disk.new) (D.left_since disk.new (D.moment disk.new)) db.old db.new) }
+    ensures going { IfOk result (λ _tally. db.new.stopped ≡ false) }
+    ensures serving { IfOk result (λ _tally. IsTrue D.tells → IsServing (D.files disk.new) (D.left_since disk.new (D.moment disk.new)) db.new) }
+    ensures index { IfOk result (λ _tally. IsTrue D.tells → IsIndexed (D.files disk.new).pkg (D.files disk.new).idx db.new) }
     ensures indexed { is_indexed db.new ≡ true }
     ensures spent { OnceBegun (λ r. IfErr r (IsSpent db.new)) result }
     ensures kinds { OnceBegun (λ r. IfErr r IsOfExercise) result }
@@ -154,7 +214,7 @@ pub fn exercise<D: Disk, O: Sink + Drop>(
     if let Some(number) = db.next_above(0) {
         return Err(ExerciseFault::NotEmpty { number });
     }
-    match change_and_tell(alloc, db, disk, n, out) {
+    match exercise_all(alloc, db, disk, n, out) {
         Ok(tally) => Ok(tally),
         Err(halt) => Err(ExerciseFault::Halted(halt)),
     }

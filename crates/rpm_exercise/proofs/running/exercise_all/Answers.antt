@@ -1,0 +1,64 @@
+use Rattle.std.proofs.Common.{Result, Ok, Err, is_some, refl, ap, ◌∙◌, subst}
+use Rattle.std.specs.Prelude.{IfOk}
+use Rattle.rpm_outside.specs.Buffered.{inner}
+use Rattle.rpm_pkgdb.specs.Slots.{slot_with}
+use Rattle.rpm_pkgdb.specs.Store.{Store}
+use Rattle.rpm_db.specs.Lawful.{Remade}
+use Rattle.rpm_db.specs.State.{State, state}
+use Rattle.rpm_db.specs.inner.Running.{runs_none, runs_then}
+use Rattle.rpm_db.specs.inner.Writes.{SameLog}
+use Rattle.rpm_change.specs.Endings.{outputs, Ended, IndexTurn}
+use Rattle.rpm_exercise.specs.Exercised.{exercise}
+use Rattle.rpm_exercise.specs.Rounds.{changes}
+use Rattle.rpm_exercise.proofs.Told.{state_remade}
+use Rattle.rpm_exercise.proofs.running.exercise_all.Goals as goal
+
+if_ok : {X E : Type 0} (P Q : Type 0) (r : Result X E) → (P → Q) → IfOk r (λ x. P) → IfOk r (λ x. Q)
+if_ok P Q (Ok x) so p = so p
+if_ok P Q (Err e) so p = tt
+
+pub change_and_tell-requires-clause-from_one : goal.change_and_tell-requires-clause-from_one
+change_and_tell-requires-clause-from_one g c = λ told.
+    ap (λ (v : Store). is_some (slot_with 0 v.slots)) c.in-Ok.ensures.store ∙ c.requires.from_one told
+
+pub returns-in-Ok-clause-ended : goal.returns-in-Ok-clause-ended
+returns-in-Ok-clause-ended g c = λ told et e.
+    let u = state (g.D.Disk.files c.change_and_tell.new.disk).pkg c.change_and_tell.new.db.store in
+    let old = outputs g.O.Sink.tells (g.O.Sink.taken (inner c.args.out.now)) et e in
+    let new = outputs g.O.Sink.tells (g.O.Sink.taken (inner c.change_and_tell.new.out)) et e in
+    let same = state_remade (g.D.Disk.files c.args.disk.now) (g.D.Disk.files c.renew.new.disk) c.args.db.now c.renew.new.db
+    (c.in-Ok.ensures.runs.reads_as told) c.in-Ok.ensures.store in
+    subst (λ (s : State). Ended (exercise c.args.n s) s u c.change_and_tell.result old new) same
+    (c.change_and_tell.ensures.ended told (c.in-Ok.ensures.index told) et e)
+
+pub returns-in-Ok-clause-room : goal.returns-in-Ok-clause-room
+returns-in-Ok-clause-room g c = λ told.
+    let same = state_remade (g.D.Disk.files c.args.disk.now) (g.D.Disk.files c.renew.new.disk) c.args.db.now c.renew.new.db
+    (c.in-Ok.ensures.runs.reads_as told) c.in-Ok.ensures.store in
+    subst (λ (s : State). IndexTurn s (changes c.args.n s) c.change_and_tell.result) same
+    (c.change_and_tell.ensures.room told (c.in-Ok.ensures.index told))
+
+pub returns-in-Ok-clause-going : goal.returns-in-Ok-clause-going
+returns-in-Ok-clause-going g c = if_ok _ _ c.change_and_tell.result (λ carried. carried.going) c.change_and_tell.ensures.carried
+
+pub returns-in-Ok-clause-serving : goal.returns-in-Ok-clause-serving
+returns-in-Ok-clause-serving g c = if_ok _ _ c.change_and_tell.result (λ carried. carried.serving) c.change_and_tell.ensures.carried
+
+pub returns-in-Ok-clause-index : goal.returns-in-Ok-clause-index
+returns-in-Ok-clause-index g c =
+    if_ok _ _ c.change_and_tell.result (λ carried told. carried.index told (c.in-Ok.ensures.index told)) c.change_and_tell.ensures.carried
+
+pub returns-in-Ok-clause-runs : goal.returns-in-Ok-clause-runs
+returns-in-Ok-clause-runs g c =
+    runs_then g.D.Disk.tells g.D.Disk.files g.D.Disk.left_since g.D.Disk.moment g.D.Disk.bytes_read g.D.Disk.follows g.met.D.Disk.follows_trans
+    Remade SameLog SameLog c.args.disk.now c.renew.new.disk c.change_and_tell.new.disk (λ x y made. made.log) (λ x y z made log. log ∙ made.log)
+    c.in-Ok.ensures.runs c.change_and_tell.ensures.runs
+
+pub returns-in-Err-clause-runs : goal.returns-in-Err-clause-runs
+returns-in-Err-clause-runs g c =
+    let none =
+    runs_none g.D.Disk.tells g.D.Disk.files g.D.Disk.left_since g.D.Disk.moment g.D.Disk.bytes_read g.D.Disk.follows g.met.D.Disk.follows_refl SameLog
+    (λ f. refl) c.renew.new.disk in
+    runs_then g.D.Disk.tells g.D.Disk.files g.D.Disk.left_since g.D.Disk.moment g.D.Disk.bytes_read g.D.Disk.follows g.met.D.Disk.follows_trans
+    Remade SameLog SameLog c.args.disk.now c.renew.new.disk c.renew.new.disk (λ x y made. made.log) (λ x y z made log. log ∙ made.log)
+    c.in-Err.ensures.runs none
