@@ -13,10 +13,12 @@ use Rattle.rpm_tool.specs.declared.step.Stop.{Stop}
 use Rattle.rpm_tool.specs.declared.step.Stop.TheVariants as stop
 use Rattle.std.proofs.Math.Seq.{drop-nil}
 use Rattle.rpm_tool.specs.declared.answer.Why.TheVariants as why
-use Rattle.rpm_tool.specs.Steps.{Bearer, whole, Course, Part, before, idle, in_turn}
+use Rattle.rpm_change.specs.Steps.{Bearer, whole, Course, idle}
+use Rattle.rpm_tool.specs.Steps.{Part, before, in_turn}
 use Rattle.rpm_tool.specs.Reads.{reaches_by}
 use Rattle.rpm_tool.specs.Queries.{step_of, packages_part, missing_part, answered, argument_part, query_of}
-use Rattle.rpm_tool.specs.Answers.{Outputs, outputs, Through, Reached, PartIs, Went, why_of, is_some_of}
+use Rattle.rpm_change.specs.Endings.{Outputs, outputs, Through}
+use Rattle.rpm_tool.specs.Answers.{Reached, PartIs, Went, why_of, is_some_of}
 use Rattle.rpm_tool.proofs.Reaching.{Goes, goes_end}
 use Rattle.rpm_tool.proofs.Stopping.{reached_reads, reached_empty, reached_later}
 

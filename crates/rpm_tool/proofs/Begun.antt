@@ -12,9 +12,10 @@ use Rattle.rpm_pkgdb.specs.Store.{Store, store}
 use Rattle.rpm_tool.specs.declared.answer.Why.{Why}
 use Rattle.rpm_tool.specs.declared.answer.Why.TheVariants as why
 use Rattle.rpm_tool.specs.Asked.{is_query, is_package, of_files, by_key, needs_no_index}
-use Rattle.rpm_tool.specs.Steps.{Bearer, Course}
+use Rattle.rpm_change.specs.Steps.{Bearer, Course}
 use Rattle.rpm_tool.specs.Reports.{course}
-use Rattle.rpm_tool.specs.Answers.{outputs, Opened, Loaded, Queried, ReadsTo, is_of_words, is_foreign}
+use Rattle.rpm_change.specs.Endings.{outputs}
+use Rattle.rpm_tool.specs.Answers.{Opened, Loaded, Queried, ReadsTo, is_of_words, is_foreign}
 use Rattle.rpm_tool.proofs.Reaching.{through_none}
 
 -- where memory was wanting before, its database has not been opened

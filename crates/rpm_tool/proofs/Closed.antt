@@ -3,7 +3,8 @@ use Rattle.std.proofs.Common.{◌≡◌, ℕ, ◌≤◌, Bool, List, Result, sym
 use Rattle.std.proofs.Math.Nat.{le_trans}
 use Rattle.rpm_outside.specs.Causes.{HasCauseAt}
 use Rattle.rpm_outside.specs.Sinks.{Writes}
-use Rattle.rpm_tool.specs.Answers.{Outputs, outputs, Closes, Ends}
+use Rattle.rpm_change.specs.Endings.{Outputs, outputs}
+use Rattle.rpm_tool.specs.Answers.{Closes, Ends}
 use Rattle.rpm_tool.proofs.Printing.{closes_of}
 
 module _ {S T F O E : Type 0} {follows : S → S → Type 0} (ot et : Bool) (gained : O → List ℕ) (taken : E → List ℕ) (faults : E → ℕ) (sink : S → E)

@@ -11,9 +11,10 @@ use Rattle.rpm_qfparse.specs.Tree.{Tree}
 use Rattle.rpm_words.specs.Ask.{AskParts}
 use Rattle.rpm_tool.specs.declared.answer.Why.{Why}
 use Rattle.rpm_tool.specs.declared.answer.Why.TheVariants as why
-use Rattle.rpm_tool.specs.Steps.{Bearer, Course}
+use Rattle.rpm_change.specs.Steps.{Bearer, Course}
 use Rattle.rpm_tool.specs.Queries.{query}
-use Rattle.rpm_tool.specs.Answers.{Outputs, is_foreign}
+use Rattle.rpm_change.specs.Endings.{Outputs}
+use Rattle.rpm_tool.specs.Answers.{is_foreign}
 use Rattle.rpm_tool.specs.Keyed.{IsLawfulGroup, WentBy, OpenedBy, LoadedBy, KeyedIs, FullBy, FullIs, HasRoom, is_refusal, is_done_or_outside, keyed_to}
 
 -- a lawful database has a store

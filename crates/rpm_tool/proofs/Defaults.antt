@@ -18,7 +18,7 @@ use Rattle.rpm_qfparse.specs.Format.{format, reading}
 use Rattle.rpm_qfeval.specs.Meaning.{sizes, bytes, meaning}
 use Rattle.rpm_tool.specs.Asked.{label_format, list_format}
 use Rattle.rpm_db.specs.State.{Good}
-use Rattle.rpm_tool.specs.Steps.{ToOut, ToErr, bearer}
+use Rattle.rpm_change.specs.Steps.{ToOut, ToErr, bearer}
 use Rattle.rpm_tool.specs.Queries.{sizes_line, printed, step_of}
 use Rattle.rpm_tool.proofs.Fixtures.{small}
 

@@ -4,8 +4,9 @@ use Rattle.rpm_pkgdb.specs.declared.slot.Damage.{Damage}
 use Rattle.rpm_pkgdb.specs.Store.{Store}
 use Rattle.rpm_tool.specs.declared.answer.Why.{Why}
 use Rattle.rpm_tool.specs.declared.answer.Why.TheVariants as why
-use Rattle.rpm_tool.specs.Steps.{Bearer, Course}
-use Rattle.rpm_tool.specs.Answers.{Outputs, outputs, Went, is_of_opening}
+use Rattle.rpm_change.specs.Steps.{Bearer, Course}
+use Rattle.rpm_change.specs.Endings.{Outputs, outputs}
+use Rattle.rpm_tool.specs.Answers.{Went, is_of_opening}
 use Rattle.rpm_tool.specs.Keyed.{WentBy, OpenedBy, FullBy, is_refusal}
 use Rattle.rpm_tool.proofs.Reaching.{through_none}
 

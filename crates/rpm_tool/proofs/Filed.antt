@@ -9,9 +9,11 @@ use Rattle.rpm_qfparse.specs.Tree.{Tree}
 use Rattle.rpm_tool.specs.declared.step.Stop.{Stop}
 use Rattle.rpm_tool.specs.declared.step.Stop.TheVariants as stop
 use Rattle.rpm_tool.specs.declared.answer.Why.TheVariants as why
-use Rattle.rpm_tool.specs.Steps.{Bearer, Step, Course, is_out, is_bad}
+use Rattle.rpm_change.specs.Steps.{Bearer, Step, Course, is_out}
+use Rattle.rpm_tool.specs.Steps.{is_bad}
 use Rattle.rpm_tool.specs.PackageFiles.{read_part, found_part}
-use Rattle.rpm_tool.specs.Answers.{Outputs, Reached, Went, stop_in, why_of_files, is_of_sink, is_of_words}
+use Rattle.rpm_change.specs.Endings.{Outputs}
+use Rattle.rpm_tool.specs.Answers.{Reached, Went, stop_in, why_of_files, is_of_sink, is_of_words}
 
 pub found_open : (tree : Tree) (j : ℕ) (path : List ℕ) (found rest : Option (List ℕ)) → rest ≡ found → (found ≡ None → ⊥)
     → found_part tree j path found ≡ read_part tree j path (package_header (left rest))

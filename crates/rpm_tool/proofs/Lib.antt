@@ -37,5 +37,6 @@ mod Undone
 mod Unloaded
 mod Unmade
 mod Unrecovered
+mod Unstarted
 mod Verified
 mod Works

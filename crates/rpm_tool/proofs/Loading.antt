@@ -10,8 +10,9 @@ use Rattle.rpm_group.specs.declared.load.LoadFault.TheVariants as load
 use Rattle.rpm_group.specs.Loads.{IsSound, LoadSays}
 use Rattle.rpm_tool.specs.declared.answer.Why.{Why}
 use Rattle.rpm_tool.specs.declared.answer.Why.TheVariants as why
-use Rattle.rpm_tool.specs.Steps.{Bearer, Course}
-use Rattle.rpm_tool.specs.Answers.{Outputs, outputs, Went, Opened, Loaded, Refused, why_of_load, unless_starved, AtMost}
+use Rattle.rpm_change.specs.Steps.{Bearer, Course}
+use Rattle.rpm_change.specs.Endings.{Outputs, outputs}
+use Rattle.rpm_tool.specs.Answers.{Went, Opened, Loaded, Refused, why_of_load, unless_starved, AtMost}
 use Rattle.rpm_tool.proofs.Reaching.{through_none}
 use Rattle.rpm_tool.proofs.Stopping.{within_reads}
 

@@ -8,7 +8,7 @@ use Rattle.rpm_outside.specs.inner.Looking.{looks_then}
 use Rattle.rpm_db.specs.Database.{Database, cost_to, cost_all}
 use Rattle.rpm_db.specs.inner.Laws.{cost_some}
 use Rattle.rpm_select.specs.Reach.{Reach, reach_to, reach_all}
-use Rattle.rpm_tool.specs.Steps.{Bearer}
+use Rattle.rpm_change.specs.Steps.{Bearer}
 use Rattle.rpm_tool.specs.Reads.{ReadsIn, reached}
 use Rattle.rpm_tool.proofs.Printed.{reads_more}
 use Rattle.rpm_tool.proofs.Reached.{reach_up, reach_both, reach_rest}

@@ -9,8 +9,10 @@ use Rattle.rpm_select.specs.declared.selection.Selection.{Selection}
 use Rattle.rpm_select.specs.Selections.{picks}
 use Rattle.rpm_select.specs.Reach.{Reach, Serves}
 use Rattle.rpm_tool.specs.declared.step.Stop.{Stop}
-use Rattle.rpm_tool.specs.Steps.{Bearer, Step, is_bad}
-use Rattle.rpm_tool.specs.Answers.{Outputs, outputs, Through, Reached, NextIs, is_some_of}
+use Rattle.rpm_change.specs.Steps.{Bearer, Step}
+use Rattle.rpm_tool.specs.Steps.{is_bad}
+use Rattle.rpm_change.specs.Endings.{Outputs, outputs, Through}
+use Rattle.rpm_tool.specs.Answers.{Reached, NextIs, is_some_of}
 use Rattle.rpm_tool.proofs.Printed.{fails_more, some_more, none_more}
 use Rattle.rpm_tool.proofs.Reached.{served}
 use Rattle.rpm_tool.proofs.Reaching.{Goes, goes_more, goes_stop, goes_end}

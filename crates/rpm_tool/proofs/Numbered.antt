@@ -8,7 +8,8 @@ use Rattle.rpm_qfparse.specs.Tree.{Tree}
 use Rattle.rpm_db.specs.State.{Package, above}
 use Rattle.rpm_select.specs.declared.selection.Selection.{Selection}
 use Rattle.rpm_select.specs.Selections.{is_picked, picks}
-use Rattle.rpm_tool.specs.Steps.{Bearer, with_number, numbers, Rises}
+use Rattle.rpm_change.specs.Steps.{Bearer}
+use Rattle.rpm_tool.specs.Steps.{with_number, numbers, Rises}
 use Rattle.rpm_tool.specs.Queries.{step_of, lent, question_of, picked_by, picked, missing_part, answered, argument_part}
 use Rattle.rpm_tool.proofs.Printed.{bearer-step_of}
 use Rattle.rpm_tool.proofs.Rising.{rises_above}

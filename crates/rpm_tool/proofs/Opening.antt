@@ -18,8 +18,9 @@ use Rattle.rpm_words.specs.Words.{text_at}
 use Rattle.rpm_words.specs.Ask.{AskParts}
 use Rattle.rpm_tool.specs.declared.answer.Why.{Why}
 use Rattle.rpm_tool.specs.declared.answer.Why.TheVariants as why
-use Rattle.rpm_tool.specs.Steps.{Bearer, Course}
-use Rattle.rpm_tool.specs.Answers.{Outputs, Went}
+use Rattle.rpm_change.specs.Steps.{Bearer, Course}
+use Rattle.rpm_change.specs.Endings.{Outputs}
+use Rattle.rpm_tool.specs.Answers.{Went}
 use Rattle.rpm_tool.specs.Keyed.{HasIndex, BadIs, keyed_reaches}
 use Rattle.rpm_tool.specs.Reads.{Peeks, IsOfChains, argument_reach, reaches_by, reach_sum, reached_by}
 use Rattle.rpm_tool.specs.Reports.{unindexed}

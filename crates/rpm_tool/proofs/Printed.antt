@@ -13,12 +13,14 @@ use Rattle.rpm_select.specs.declared.picker.Picked.{Picked}
 use Rattle.rpm_select.specs.declared.picker.Picked.TheVariants as pick
 use Rattle.rpm_select.specs.Picks.{entry_in, number_in}
 use Rattle.rpm_tool.specs.declared.step.Stop.{Stop}
-use Rattle.rpm_tool.specs.Steps.{Bearer, bearer, Step, bearer_of, is_out, is_bad}
+use Rattle.rpm_change.specs.Steps.{Bearer, bearer, Step, is_out}
+use Rattle.rpm_tool.specs.Steps.{bearer_of, is_bad}
 use Rattle.rpm_tool.specs.declared.step.Way.{Way}
 use Rattle.rpm_tool.specs.declared.step.Way.TheVariants as way
 use Rattle.rpm_tool.specs.Queries.{printed, bad_step, header_step, step_of}
 use Rattle.rpm_tool.specs.Reports.{step_by}
-use Rattle.rpm_tool.specs.Answers.{Outputs, OneIs, NextIs, Reached, cost_until}
+use Rattle.rpm_change.specs.Endings.{Outputs}
+use Rattle.rpm_tool.specs.Answers.{OneIs, NextIs, Reached, cost_until}
 use Rattle.rpm_tool.proofs.Stopping.{reached_first}
 
 bearer-printed : (for : Bearer) (what : Result (List ℕ) (ℕ × ℕ)) → bearer_of (printed for what) ≡ for

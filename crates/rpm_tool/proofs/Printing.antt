@@ -8,7 +8,8 @@ use Rattle.rpm_outside.specs.inner.Flushed.{stopped, flushed}
 use Rattle.rpm_qfeval.specs.declared.printing.DirectFault.{DirectFault}
 use Rattle.rpm_qfeval.specs.declared.printing.DirectFault.TheVariants.{SizesDiffer, OutFault}
 use Rattle.rpm_qfeval.specs.Printed.{Done, Differs, Fails, EndsSo, Prints, ending}
-use Rattle.rpm_tool.specs.Answers.{outputs, Closes}
+use Rattle.rpm_change.specs.Endings.{outputs}
+use Rattle.rpm_tool.specs.Answers.{Closes}
 
 -- two counts that are told are those of the meaning, and nothing was written
 pub told_counts : {S : Type 0} (tells : Bool) (taken : S → List ℕ) (faults : S → ℕ) (meaning : Result (List ℕ) (ℕ × ℕ)) (old new : S)

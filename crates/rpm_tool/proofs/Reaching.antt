@@ -6,8 +6,9 @@ use Rattle.std.proofs.lemmas.Grind.{flat_map-append}
 use Rattle.rpm_outside.specs.inner.Taken.{gained_none, gained_more}
 use Rattle.rpm_tool.specs.declared.step.Stop.{Stop}
 use Rattle.rpm_tool.specs.declared.step.Stop.TheVariants as stop
-use Rattle.rpm_tool.specs.Steps.{Bearer, Step, out_bytes, err_bytes, cut}
-use Rattle.rpm_tool.specs.Answers.{outputs, Through, ThroughSome, StoppedWithin, Reached}
+use Rattle.rpm_change.specs.Steps.{Bearer, Step, out_bytes, err_bytes, cut}
+use Rattle.rpm_change.specs.Endings.{outputs, Through}
+use Rattle.rpm_tool.specs.Answers.{ThroughSome, StoppedWithin, Reached}
 
 module _ {ot et : Bool} where
   pub through_none : (o e : List ℕ) → Through [] (outputs ot o et e) (outputs ot o et e)

@@ -17,7 +17,7 @@ use Rattle.rpm_words.specs.Ask.{AskParts}
 use Rattle.rpm_tool.specs.declared.answer.Why.{Why}
 use Rattle.rpm_tool.specs.declared.answer.Why.TheVariants as why
 use Rattle.rpm_tool.specs.Queries.{query}
-use Rattle.rpm_tool.specs.Answers.{Outputs, outputs}
+use Rattle.rpm_change.specs.Endings.{Outputs, outputs}
 use Rattle.rpm_tool.specs.Keyed.{IsLawfulGroup, AreLawfulGroups, StandsStill, OpenedBy, KeyedIs, AnswersByKey, keyed_to}
 use Rattle.rpm_tool.proofs.Unrecovered.{loaded_by, loaded_memory}
 

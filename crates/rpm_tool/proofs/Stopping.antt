@@ -5,8 +5,10 @@ use Rattle.rpm_outside.specs.Sinks.{GainedPart}
 use Rattle.rpm_outside.specs.inner.Taken.{gained_none}
 use Rattle.rpm_tool.specs.declared.step.Stop.{Stop}
 use Rattle.rpm_tool.specs.declared.step.Stop.TheVariants as stop
-use Rattle.rpm_tool.specs.Steps.{Bearer, Step, ToOut, ToErr, bearer_of}
-use Rattle.rpm_tool.specs.Answers.{Outputs, outputs, StepIs, Through, StoppedWithin, Reached, is_of_sink}
+use Rattle.rpm_change.specs.Steps.{Bearer, Step, ToOut, ToErr}
+use Rattle.rpm_tool.specs.Steps.{bearer_of}
+use Rattle.rpm_change.specs.Endings.{Outputs, outputs, Through}
+use Rattle.rpm_tool.specs.Answers.{StepIs, StoppedWithin, Reached, is_of_sink}
 use Rattle.rpm_tool.proofs.Reaching.{through_more, goes_stop}
 
 -- one step that stops is the first of some

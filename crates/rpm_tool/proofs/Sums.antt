@@ -3,7 +3,7 @@ use Rattle.std.proofs.Common.{◌≡◌, ℕ, zero, suc, ◌+◌, ◌≤◌, Lis
 use Rattle.std.specs.Prelude.{slice_get}
 use Rattle.rpm_db.specs.Database.{Database}
 use Rattle.rpm_select.specs.Reach.{Reach, Everything, These, reach_all}
-use Rattle.rpm_tool.specs.Steps.{Bearer}
+use Rattle.rpm_change.specs.Steps.{Bearer}
 use Rattle.rpm_tool.specs.Reads.{ReadsIn, ReadsOf, reached, reach_sum, reach_before, reached_in, reached_by}
 use Rattle.rpm_tool.specs.Reports.{unindexed}
 

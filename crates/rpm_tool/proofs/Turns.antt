@@ -8,10 +8,12 @@ use Rattle.rpm_db.specs.Database.{Database, is_indexed}
 use Rattle.rpm_select.specs.Reach.{Reach, HasIndexRows, reach_all}
 use Rattle.rpm_words.specs.declared.switch.Chosen.{Chosen}
 use Rattle.rpm_tool.specs.declared.step.Stop.{Stop}
-use Rattle.rpm_tool.specs.Steps.{Bearer, Part}
+use Rattle.rpm_change.specs.Steps.{Bearer}
+use Rattle.rpm_tool.specs.Steps.{Part}
 use Rattle.rpm_tool.specs.Queries.{argument_part}
 use Rattle.rpm_tool.specs.Reads.{ReadsOf, argument_reach, reach_sum, reach_before, reached_by}
-use Rattle.rpm_tool.specs.Answers.{Outputs, outputs, PartIs, Went, why_of}
+use Rattle.rpm_change.specs.Endings.{Outputs, outputs}
+use Rattle.rpm_tool.specs.Answers.{PartIs, Went, why_of}
 use Rattle.rpm_tool.proofs.Answering.{rest_of, turn_steps, went_stop}
 use Rattle.rpm_tool.proofs.Reached.{rows_at}
 use Rattle.rpm_tool.proofs.Reaching.{Goes, goes_more, goes_stop}

@@ -15,8 +15,10 @@ use Rattle.rpm_tool.specs.declared.step.Stop.{Stop}
 use Rattle.rpm_tool.specs.declared.step.Stop.TheVariants as stop
 use Rattle.rpm_tool.specs.declared.answer.Why.{Why}
 use Rattle.rpm_tool.specs.declared.answer.Why.TheVariants as why
-use Rattle.rpm_tool.specs.Steps.{Bearer, Step, Part}
-use Rattle.rpm_tool.specs.Answers.{Outputs, OneIs, StepIs, PartIs, Reached, stop_of, why_of, is_of_sink}
+use Rattle.rpm_change.specs.Steps.{Bearer, Step}
+use Rattle.rpm_tool.specs.Steps.{Part}
+use Rattle.rpm_change.specs.Endings.{Outputs}
+use Rattle.rpm_tool.specs.Answers.{OneIs, StepIs, PartIs, Reached, stop_of, why_of, is_of_sink}
 
 pub stop_unsunk : (fault : PickFault) → is_of_index fault ≡ false → is_of_sink (stop_of fault) ≡ false
 stop_unsunk (pick.BadIndex unit) is = absurd cc

@@ -27,7 +27,7 @@ use Rattle.rpm_tool.proofs.Regrouped.{recovering}
 pub through_none : (x : Outputs) → Through [] x x
 through_none x = record { out = λ told. sym (append-nil x.out); err = λ told. sym (append-nil x.err) }
 
-none_done : (c : Course) (old new : Outputs) → Through [] old new → ThroughSome c.steps old new
+pub none_done : (c : Course) (old new : Outputs) → Through [] old new → ThroughSome c.steps old new
 none_done c old new none = record { done = []; rest = c.steps; all_is = refl; through = none }
 
 -- ---- a log that is closed and isn't loaded

@@ -11,8 +11,8 @@ use Rattle.rpm_pkgdb.specs.Store.{Store}
 use Rattle.rpm_words.specs.Ask.{AskParts}
 use Rattle.rpm_tool.specs.declared.answer.Why.{Why}
 use Rattle.rpm_tool.specs.declared.answer.Why.TheVariants as why
-use Rattle.rpm_tool.specs.Steps.{Bearer, Course}
-use Rattle.rpm_tool.specs.Answers.{Outputs, outputs}
+use Rattle.rpm_change.specs.Steps.{Bearer, Course}
+use Rattle.rpm_change.specs.Endings.{Outputs, outputs}
 use Rattle.rpm_tool.specs.Keyed.{OpenedBy, LoadedBy, FullIs, BadIs, is_done, is_done_or_outside, why_of_recover}
 use Rattle.rpm_tool.proofs.Endings.{by_fault, by_memory}
 use Rattle.rpm_tool.proofs.Reaching.{through_none}

@@ -13,8 +13,10 @@ use Rattle.rpm_tool.specs.Reports.{verdict_part}
 use Rattle.rpm_tool.specs.declared.step.Stop.{Stop}
 use Rattle.rpm_tool.specs.declared.step.Stop.TheVariants as stop
 use Rattle.rpm_tool.specs.declared.answer.Why.TheVariants as why
-use Rattle.rpm_tool.specs.Steps.{Bearer, Step, Part, before, idle}
-use Rattle.rpm_tool.specs.Answers.{Outputs, Through, PartIs, Went, why_of}
+use Rattle.rpm_change.specs.Steps.{Bearer, Step, idle}
+use Rattle.rpm_tool.specs.Steps.{Part, before}
+use Rattle.rpm_change.specs.Endings.{Outputs, Through}
+use Rattle.rpm_tool.specs.Answers.{PartIs, Went, why_of}
 
 some_is : (o : Option Package) → is_some o ≡ true → (p : Package) × (o ≡ Some p)
 some_is None some = absurd cc

@@ -1,6 +1,5 @@
 -- How far a command went, and what it answers.
 use Rattle.std.specs.Prelude.{◌≡◌, ◌≢◌, ◌⊎◌, ℕ, ◌+◌, ◌*◌, ◌-◌, ◌^◌, ◌<◌, ◌≤◌, List, [], ◌∷◌, ◌++◌, map, Bool, true, false, Option, Some, None, Result, Ok, Err, IfOk, IsTrue}
-use Rattle.std.specs.List.{flat_map}
 use Rattle.std.specs.Ordering.{nat_cmp}
 use Rattle.std.specs.FinMap.{FinMap}
 use Rattle.rpm_outside.specs.Causes.{Rose}
@@ -38,22 +37,9 @@ use Rattle.rpm_tool.specs.declared.asked.Deed.TheVariants as deed
 use Rattle.rpm_tool.specs.Asked.{deed_of, is_unbuilt_in}
 use Rattle.rpm_tool.specs.Reads.{argument_reach, reaches_by, reach_sum, reached_by}
 use Rattle.rpm_tool.specs.Reports.{unindexed, course}
-use Rattle.rpm_tool.specs.Steps.{Bearer, Step, Course, Part, out_bytes, err_bytes, is_out, bearer_of, cut}
-
--- what out and err took, and whether they tell it
-pub record Outputs : Type 0 where
-  pub out_tells : Bool
-  pub out : List ℕ
-  pub err_tells : Bool
-  pub err : List ℕ
-
-abbrev pub outputs : Bool → List ℕ → Bool → List ℕ → Outputs
-outputs out_tells out err_tells err = record { out_tells = out_tells; out = out; err_tells = err_tells; err = err }
-
--- out and err gained exactly the bytes of these steps
-pub record Through (done : List Step) (old new : Outputs) : Type 0 where
-  pub out : Gained old.out_tells old.out new.out (flat_map out_bytes done)
-  pub err : Gained old.err_tells old.err new.err (flat_map err_bytes done)
+use Rattle.rpm_change.specs.Endings.{Outputs, Through}
+use Rattle.rpm_change.specs.Steps.{Bearer, Step, Course, is_out, cut}
+use Rattle.rpm_tool.specs.Steps.{Part, bearer_of}
 
 -- some of the steps were gone through
 abbrev pub ThroughSome : List Step → Outputs → Outputs → Type 0

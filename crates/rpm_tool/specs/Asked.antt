@@ -1,7 +1,7 @@
 -- Which command lines are built, and by which format they print.
 use Rattle.std.specs.Prelude.{ℕ, List, Option, Some, None, Result, Ok, Err, Bool, true, false, not, ◌&&◌, if◌then◌else◌, codes}
 use Rattle.rpm_words.specs.declared.ask.Mode.{Mode}
-use Rattle.rpm_words.specs.declared.ask.Mode.TheVariants.{Query, Verifydb, Exportdb}
+use Rattle.rpm_words.specs.declared.ask.Mode.TheVariants.{Query, Verifydb, Exportdb, Initdb, Erasepkg}
 use Rattle.rpm_words.specs.declared.switch.Chosen.{Chosen}
 use Rattle.rpm_words.specs.declared.switch.Chosen.TheVariants.{All, Number, Package}
 use Rattle.rpm_words.specs.declared.words.Span.{Span}
@@ -31,7 +31,15 @@ abbrev pub is_built_in : Mode → Bool
 is_built_in Query = true
 is_built_in Verifydb = true
 is_built_in Exportdb = true
+is_built_in Initdb = true
+is_built_in Erasepkg = true
 is_built_in others = false
+
+-- of those the ones that change packages, or make the database
+abbrev pub is_changing_in : Mode → Bool
+is_changing_in Initdb = true
+is_changing_in Erasepkg = true
+is_changing_in others = false
 
 abbrev pub is_query : Mode → Bool
 is_query Query = true
@@ -40,6 +48,18 @@ is_query others = false
 -- the command opens the database with its index
 abbrev pub by_key : AskParts → Bool
 by_key a = is_query a.mode && not (needs_no_index a.chosen a.noindex)
+
+-- the command changes packages, or makes the database
+abbrev pub is_changing : AskParts → Bool
+is_changing a = is_changing_in a.mode
+
+-- the words break no rule, and ask for such a command
+abbrev pub changes_in : Result AskParts WordsFault → Bool
+changes_in (Ok a) = is_changing a
+changes_in (Err f) = false
+
+unfoldable pub asks_change : List (List ℕ) → Bool
+asks_change words = changes_in (ask words)
 
 abbrev pub is_package : Chosen → Bool
 is_package Package = true

@@ -20,11 +20,12 @@ use Rattle.rpm_qfparse.specs.Tree.{Tree}
 use Rattle.rpm_select.specs.Reach.{Reach}
 use Rattle.rpm_tool.specs.declared.answer.Why.{Why}
 use Rattle.rpm_tool.specs.declared.answer.Why.TheVariants as why
-use Rattle.rpm_tool.specs.Steps.{Bearer, Course}
+use Rattle.rpm_change.specs.Steps.{Bearer, Course}
 use Rattle.rpm_tool.specs.Queries.{query}
 use Rattle.rpm_tool.specs.Reports.{unindexed}
 use Rattle.rpm_tool.specs.Reads.{argument_reach, reaches_by, reach_sum, reached_by, IsOfChains}
-use Rattle.rpm_tool.specs.Answers.{Outputs, Through, Went, Misread, Refused}
+use Rattle.rpm_change.specs.Endings.{Outputs, Through}
+use Rattle.rpm_tool.specs.Answers.{Went, Misread, Refused}
 
 -- ---- lawful disks
 

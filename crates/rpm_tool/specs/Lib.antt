@@ -8,4 +8,5 @@ pub mod Queries
 pub mod Reads
 pub mod Reports
 pub mod Steps
+pub mod Tasks
 pub mod Working

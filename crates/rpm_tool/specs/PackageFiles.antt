@@ -8,7 +8,8 @@ use Rattle.rpm_words.specs.Ask.{AskParts}
 use Rattle.rpm_qfparse.specs.Tree.{Tree}
 use Rattle.rpm_qfeval.specs.Meaning.{meaning}
 use Rattle.rpm_change.specs.Texts.{refused_line, absent_line}
-use Rattle.rpm_tool.specs.Steps.{bearer, whole, ToErr, Course, Part, fails, told, in_turn}
+use Rattle.rpm_change.specs.Steps.{bearer, whole, ToErr, Course}
+use Rattle.rpm_tool.specs.Steps.{Part, fails, told, in_turn}
 use Rattle.rpm_tool.specs.Queries.{printed}
 
 -- its header is printed with the number 0, or it has a line, for which the argument fails

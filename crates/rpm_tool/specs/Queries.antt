@@ -20,7 +20,8 @@ use Rattle.rpm_db.specs.State.{Package, Good, Bad, above}
 use Rattle.rpm_select.specs.declared.selection.Selection.{Selection}
 use Rattle.rpm_select.specs.declared.selection.Selection.TheVariants as question
 use Rattle.rpm_select.specs.Selections.{picks}
-use Rattle.rpm_tool.specs.Steps.{Bearer, bearer, whole, Step, ToOut, ToErr, Course, Part, nothing, fails, told, idle, before, in_turn}
+use Rattle.rpm_change.specs.Steps.{Bearer, bearer, whole, Step, ToOut, ToErr, Course, idle}
+use Rattle.rpm_tool.specs.Steps.{Part, nothing, fails, told, before, in_turn}
 
 -- ---- a package
 

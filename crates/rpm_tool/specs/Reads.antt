@@ -16,7 +16,7 @@ use Rattle.rpm_tool.specs.declared.step.Stop.{Stop}
 use Rattle.rpm_tool.specs.declared.step.Stop.TheVariants as stop
 use Rattle.rpm_tool.specs.declared.answer.Why.{Why}
 use Rattle.rpm_tool.specs.declared.answer.Why.TheVariants as why
-use Rattle.rpm_tool.specs.Steps.{Bearer}
+use Rattle.rpm_change.specs.Steps.{Bearer}
 use Rattle.rpm_tool.specs.Queries.{lent, question_of}
 
 -- ---- one argument

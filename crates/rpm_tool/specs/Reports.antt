@@ -20,7 +20,8 @@ use Rattle.rpm_tool.specs.declared.step.Way.TheVariants as way
 use Rattle.rpm_tool.specs.declared.asked.Deed.{Deed}
 use Rattle.rpm_tool.specs.declared.asked.Deed.TheVariants as deed
 use Rattle.rpm_tool.specs.Asked.{deed_of}
-use Rattle.rpm_tool.specs.Steps.{bearer, Step, ToOut, Course, Part, nothing, fails, together, idle, before}
+use Rattle.rpm_change.specs.Steps.{bearer, Step, ToOut, Course, idle}
+use Rattle.rpm_tool.specs.Steps.{Part, nothing, fails, together, before}
 use Rattle.rpm_tool.specs.Queries.{bad_step, step_of, packages_part, query}
 
 -- a header goes out behind the magic

@@ -1,32 +1,7 @@
--- What a command does, step by step.
-use Rattle.std.specs.Prelude.{ℕ, ◌+◌, ◌<◌, List, [], ◌∷◌, ◌++◌, take, Bool, true, false, not, if◌then◌else◌, Option, Some, None}
+-- What a command that changes nothing does, argument by argument.
+use Rattle.std.specs.Prelude.{ℕ, ◌+◌, ◌<◌, List, [], ◌∷◌, ◌++◌, Bool, true, false, not, if◌then◌else◌, Option, Some, None}
 use Rattle.std.specs.List.{list_any, flat_map}
-use Rattle.rpm_db.specs.Changes.{Change}
-
--- whom a step is for: an argument, counted from 0, and one of its packages, or the argument as a whole
-pub record Bearer : Type 0 where
-  pub argument : ℕ
-  pub number : Option ℕ
-
--- of a package, and of a whole argument
-abbrev pub bearer : ℕ → ℕ → Bearer
-bearer j n = record { argument = j; number = Some n }
-
-abbrev pub whole : ℕ → Bearer
-whole j = record { argument = j; number = None }
-
--- bytes to out, or to err
-pub data Step : Type 0 where
-  ToOut : Bearer → List ℕ → Step
-  ToErr : Bearer → List ℕ → Step
-
-abbrev pub out_bytes : Step → List ℕ
-out_bytes (ToOut for bytes) = bytes
-out_bytes (ToErr for bytes) = []
-
-abbrev pub err_bytes : Step → List ℕ
-err_bytes (ToOut for bytes) = []
-err_bytes (ToErr for bytes) = bytes
+use Rattle.rpm_change.specs.Steps.{Bearer, Step, ToOut, ToErr, is_out, Course, idle}
 
 abbrev pub with_number : Option ℕ → List ℕ → List ℕ
 with_number None ns = ns
@@ -36,10 +11,6 @@ with_number (Some n) ns = n ∷ ns
 abbrev pub step_to : Bool → Bearer → List ℕ → Step
 step_to true for bytes = ToOut for bytes
 step_to false for bytes = ToErr for bytes
-
-abbrev pub is_out : Step → Bool
-is_out (ToOut for bytes) = true
-is_out (ToErr for bytes) = false
 
 abbrev pub bearer_of : Step → Bearer
 bearer_of (ToOut for bytes) = for
@@ -54,17 +25,6 @@ numbers (s ∷ steps) = with_number (bearer_of s).number (numbers steps)
 abbrev pub Rises : ℕ → List ℕ → Type 0
 Rises n [] = Unit {0}
 Rises n (m ∷ ms) = (n < m) × Rises m ms
-
--- the first n bytes of a step
-abbrev pub cut : ℕ → Step → Step
-cut n (ToOut for bytes) = ToOut for (take n bytes)
-cut n (ToErr for bytes) = ToErr for (take n bytes)
-
--- the steps of a command, how many of its arguments fail, and its changes: they come last, all as one
-pub record Course : Type 0 where
-  pub steps : List Step
-  pub failed : ℕ
-  pub changes : List Change
 
 -- what an argument does, or one of its packages: steps, and whether the argument fails for it
 pub record Part : Type 0 where
@@ -88,9 +48,6 @@ told steps = record { steps = steps; fails = list_any is_bad steps }
 -- several parts as one, which fails where one of them does
 abbrev pub together : List Part → Part
 together parts = record { steps = flat_map (λ p. p.steps) parts; fails = list_any (λ p. p.fails) parts }
-
-abbrev pub idle : Course
-idle = record { steps = []; failed = 0; changes = [] }
 
 -- an argument before the others
 abbrev pub before : Part → Course → Course

@@ -12,7 +12,8 @@ ghost use Rattle.rpm_select.specs.Selections.{picks};
 ghost use Rattle.rpm_select.specs.Reach.{Serves, HasIndexRows, reach_to, reach_all};
 ghost use Rattle.rpm_tool.specs.Queries.{lent, question_of, answered, argument_part};
 ghost use Rattle.rpm_tool.specs.Reads.{ReadsOf, argument_reach, Peeks, IsOfChain};
-ghost use Rattle.rpm_tool.specs.Answers.{outputs, PartIs, is_some_of, is_of_sink};
+ghost use Rattle.rpm_change.specs.Endings.{outputs};
+ghost use Rattle.rpm_tool.specs.Answers.{PartIs, is_some_of, is_of_sink};
 
 use crate::missing::put_missing_part;
 use crate::picked::{print_above, stop_of};

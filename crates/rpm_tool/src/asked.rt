@@ -48,6 +48,7 @@ fn is_built_in(mode: Mode) -> bool
 {
     match mode {
         Mode::Query | Mode::Verifydb | Mode::Exportdb => true,
+        Mode::Initdb | Mode::Erasepkg => true,
         _ => false,
     }
 }
@@ -66,7 +67,7 @@ pub fn of_files(ask: &Ask) -> bool
     matches!(ask.mode(), Mode::Query) && matches!(ask.chosen(), Chosen::Package)
 }
 
-/// Whether a command is built: one that changes no package, the reports aside.
+/// Whether a command is built.
 #[tactic(auto, unfolding(crate::specs::Asked::is_built))]
 fn is_built(ask: &Ask) -> bool
     ensures { result ≡ is_built ask.now }

@@ -16,19 +16,23 @@ ghost use Rattle.rpm_group.specs.Layers.{laid_files};
 ghost use Rattle.rpm_group.specs.Overlay.{overlay_below, overlay_held, overlay_starved};
 ghost use Rattle.rpm_change.specs.Endings.{outputs};
 ghost use Rattle.rpm_change.specs.Erasing as erasing;
+ghost use Rattle.rpm_change.specs.Steps.{idle};
 ghost use Rattle.rpm_tool.specs.Answers.{why_of_load, unless_starved, is_of_words};
 ghost use Rattle.rpm_tool.specs.Keyed.{why_of_recover, is_done};
 ghost use Rattle.rpm_tool.specs.Changing.{DidOn, ChangesBy};
+ghost use Rattle.rpm_tool.specs.Tasks.{task_parts, task_course, asked_task, asked_course, reads_shelf, IsCountable};
 ghost use Rattle.rpm_tool.specs.Working.{OpensBy, IsOutside, IsOfOpening, Worked, CommittedAs, EndsGroup, is_halt, is_of_commit, is_of_streams, done_why, why_of_open, why_of_halt};
 
 use crate::answer::Why;
 use crate::keyed::why_of_recover;
 use crate::loaded::{unless_starved, why_of_load};
+use crate::task::{Task, task_of};
 use rpm_change::{Halt, Tally, erase_numbers};
 use rpm_db::{ChangeFault, Db, DbOpenFault};
 use rpm_group::{CommitFault, Overlay, recover};
-use rpm_outside::{Buffered, Disk, File, Sink};
-use std::alloc::Global;
+use rpm_outside::{Buffered, Disk, File, Shelf, Sink};
+use rpm_words::{Ask, Words};
+use std::alloc::{AllocError, Global};
 
 /// How a command that changes packages ended, and how many of its changes were made.
 #[derive(Clone, Copy, Debug, PartialEq, Eq)]
@@ -69,7 +73,8 @@ fn why_of_halt(halt: Halt) -> Why
 
 /// The ending of a command that was done.
 fn done_why(failed: u32) -> Why
-    ensures { result ≡ done_why failed }
+    ensures is { result ≡ done_why failed }
+    ensures done { is_done result ≡ true }
 {
     if failed == 0 {
         Why::Done
@@ -124,6 +129,26 @@ fn open_to_change<D: Disk>(alloc: Global, disk: &mut D) -> Result<Db, Why>
     }
 }
 
+/// Opens the database, and makes one where there is none.
+fn make_on<D: Disk>(alloc: Global, disk: &mut D) -> Result<Tally, Why>
+    ensures worked { IsTrue D.tells → (out_tells err_tells : Bool) (out err : List ℕ)
+        → Worked (λ s. idle) (D.files disk.old) (D.files disk.new) result
+        (outputs out_tells out err_tells err) (outputs out_tells out err_tells err) }
+    ensures runs { Runs D.tells D.files D.left_since D.moment D.bytes_read D.follows SameLog disk.old disk.new }
+    ensures halted { IfErr result (λ given. is_halt given ≡ true) }
+    ensures streams { IfErr result (λ given. is_of_streams given ≡ false) }
+    ensures disk { HasCauseAt (result ≡ Err Why.DiskFault) (D.faults disk.old) (D.faults disk.new) }
+{
+    let _db = match open_to_change(alloc, disk) {
+        Ok(db) => db,
+        Err(why) => return Err(why),
+    };
+    Ok(Tally {
+        failed: 0,
+        changes: 0,
+    })
+}
+
 /// Opens the database and erases packages.
 fn erase_on<D: Disk, E: Sink + Drop>(
     alloc: Global,
@@ -154,6 +179,39 @@ fn erase_on<D: Disk, E: Sink + Drop>(
     }
 }
 
+/// Opens the database and makes the changes of a command.
+fn change_on<D: Disk, S: Shelf, O: Sink + Drop, E: Sink + Drop>(
+    alloc: Global,
+    disk: &mut D,
+    shelf: &mut S,
+    task: &Task,
+    now: u32,
+    out: &mut Buffered<O>,
+    err: &mut Buffered<E>,
+) -> Result<Tally, Why>
+    requires countable { IsCountable (task_parts task.now) }
+    requires out_empty { holds out.old ≡ [] }
+    requires err_empty { holds err.old ≡ [] }
+    ensures worked { IsTrue D.tells → (reads_shelf (task_parts task.now) ≡ true → IsTrue S.tells)
+        → Worked (task_course (S.paths shelf.old) now (task_parts task.now)) (D.files disk.old) (D.files disk.new) result
+        (outputs O.tells (O.taken (inner out.old)) E.tells (E.taken (inner err.old)))
+        (outputs O.tells (O.taken (inner out.new)) E.tells (E.taken (inner err.new))) }
+    ensures runs { Runs D.tells D.files D.left_since D.moment D.bytes_read D.follows SameLog disk.old disk.new }
+    ensures halted { IfErr result (λ given. is_halt given ≡ true) }
+    ensures shelf_unread { reads_shelf (task_parts task.now) ≡ false → shelf.new ≡ shelf.old }
+    ensures disk { HasCauseAt (result ≡ Err Why.DiskFault) (D.faults disk.old) (D.faults disk.new) }
+    ensures shelf { HasCauseAt (result ≡ Err Why.ShelfFault) (S.faults shelf.old) (S.faults shelf.new) }
+    ensures out { HasCauseAt (result ≡ Err Why.OutFault) (O.faults (inner out.old)) (O.faults (inner out.new)) }
+    ensures err { HasCauseAt (result ≡ Err Why.ErrFault) (E.faults (inner err.old)) (E.faults (inner err.new)) }
+    ensures out_rest { HandsOn O.follows out.old out.new }
+    ensures err_rest { HandsOn E.follows err.old err.new }
+{
+    match task {
+        Task::Make => make_on(alloc, disk),
+        Task::Erase(numbers) => erase_on(alloc, disk, numbers.as_slice(), err),
+    }
+}
+
 /// An ending that leaves everything as it was.
 fn unchanged(why: Why) -> Ending
     ensures { result ≡ record { why = why; changes = 0 } }
@@ -163,7 +221,8 @@ fn unchanged(why: Why) -> Ending
 
 /// The ending of a command whose changes were to be committed: they count where they were.
 fn committed(tally: Tally, answer: Result<(), CommitFault>) -> Ending
-    ensures { CommittedAs tally answer result.why result.changes }
+    ensures says { CommittedAs tally answer result.why result.changes }
+    ensures counted { is_done result.why ≡ false → result.changes ≡ 0 }
 {
     match answer {
         Ok(()) => Ending {
@@ -182,6 +241,7 @@ fn commit_all<D: Disk>(overlay: Overlay<D>, tally: Tally) -> (Ending, D)
     ensures ends { IsTrue D.tells → EndsGroup D.files D.left_since D.moment (Ok tally) result.0.why result.0.changes
         (unlogged (laid_files (overlay_held overlay) (D.files (overlay_below overlay)))) (overlay_below overlay) result.1 }
     ensures kinds { is_of_commit result.0.why ≡ true }
+    ensures counted { is_done result.0.why ≡ false → result.0.changes ≡ 0 }
     ensures goes_on { D.follows (overlay_below overlay) result.1 }
     ensures disk { HasCauseAt (result.0.why ≡ Why.DiskFault) (D.faults (overlay_below overlay)) (D.faults result.1) }
 {
@@ -199,6 +259,7 @@ fn end_group<D: Disk>(overlay: Overlay<D>, ended: Result<Tally, Why>) -> (Ending
     requires closed { IsTrue D.tells → log_state (D.files (overlay_below overlay)).log ≡ Closed }
     ensures ends { IsTrue D.tells → EndsGroup D.files D.left_since D.moment ended result.0.why result.0.changes
         (unlogged (laid_files (overlay_held overlay) (D.files (overlay_below overlay)))) (overlay_below overlay) result.1 }
+    ensures counted { is_done result.0.why ≡ false → result.0.changes ≡ 0 }
     ensures of_words { is_of_words result.0.why ≡ false }
     ensures kept { is_of_streams result.0.why ≡ true → ended ≡ Err result.0.why }
     ensures goes_on { D.follows (overlay_below overlay) result.1 }
@@ -215,72 +276,129 @@ fn end_group<D: Disk>(overlay: Overlay<D>, ended: Result<Tally, Why>) -> (Ending
     }
 }
 
-/// Erases packages of a database that is recovered.
-fn erase_recovered<D: Disk, E: Sink + Drop>(
+/// Makes the changes of a command on a database that is recovered.
+fn change_recovered<D: Disk, S: Shelf, O: Sink + Drop, E: Sink + Drop>(
     alloc: Global,
     disk: D,
-    numbers: &[u32],
+    shelf: &mut S,
+    task: &Task,
+    now: u32,
+    out: &mut Buffered<O>,
     err: &mut Buffered<E>,
 ) -> (Ending, D)
-    requires few { length numbers.now < 2 ^ 32 }
+    requires countable { IsCountable (task_parts task.now) }
+    requires out_empty { holds out.old ≡ [] }
     requires err_empty { holds err.old ≡ [] }
     requires settled { IsTrue D.tells → AreSettled (D.files disk) (D.left_since disk (D.moment disk)) }
     requires closed { IsTrue D.tells → log_state (D.files disk).log ≡ Closed }
-    ensures went { IsTrue D.tells → (out_tells : Bool) (out : List ℕ) → DidOn (λ s. erasing.erase s numbers.now) (D.files disk) result.0.why
-        (outputs out_tells out E.tells (E.taken (inner err.old))) (outputs out_tells out E.tells (E.taken (inner err.new))) }
-    ensures changed { IsTrue D.tells → ChangesBy D.files D.left_since D.moment (λ s. erasing.erase s numbers.now) result.0.why result.0.changes disk result.1 }
+    ensures went { IsTrue D.tells → (reads_shelf (task_parts task.now) ≡ true → IsTrue S.tells)
+        → DidOn (task_course (S.paths shelf.old) now (task_parts task.now)) (D.files disk) result.0.why
+        (outputs O.tells (O.taken (inner out.old)) E.tells (E.taken (inner err.old)))
+        (outputs O.tells (O.taken (inner out.new)) E.tells (E.taken (inner err.new))) }
+    ensures changed { IsTrue D.tells → (reads_shelf (task_parts task.now) ≡ true → IsTrue S.tells)
+        → ChangesBy D.files D.left_since D.moment (task_course (S.paths shelf.old) now (task_parts task.now)) result.0.why result.0.changes disk result.1 }
+    ensures counted { is_done result.0.why ≡ false → result.0.changes ≡ 0 }
+    ensures shelf_unread { reads_shelf (task_parts task.now) ≡ false → shelf.new ≡ shelf.old }
     ensures of_words { is_of_words result.0.why ≡ false }
-    ensures shelf { result.0.why ≢ Why.ShelfFault }
-    ensures out { result.0.why ≢ Why.OutFault }
     ensures goes_on { D.follows disk result.1 }
     ensures disk { HasCauseAt (result.0.why ≡ Why.DiskFault) (D.faults disk) (D.faults result.1) }
+    ensures shelf { HasCauseAt (result.0.why ≡ Why.ShelfFault) (S.faults shelf.old) (S.faults shelf.new) }
+    ensures out { HasCauseAt (result.0.why ≡ Why.OutFault) (O.faults (inner out.old)) (O.faults (inner out.new)) }
     ensures err { HasCauseAt (result.0.why ≡ Why.ErrFault) (E.faults (inner err.old)) (E.faults (inner err.new)) }
+    ensures out_rest { HandsOn O.follows out.old out.new }
     ensures err_rest { HandsOn E.follows err.old err.new }
 {
     match Overlay::load(alloc, disk) {
         Ok(overlay) => {
             let mut overlay = overlay;
-            let ended = erase_on(alloc, &mut overlay, numbers, err);
+            let ended = change_on(alloc, &mut overlay, shelf, task, now, out, err);
             end_group(overlay, ended)
         }
         Err(refused) => (unchanged(why_of_load(refused.why)), refused.disk),
     }
 }
 
-/// Finishes what a stop left of a change, and erases the packages of these numbers, one after the other and all as one change. A number
-/// that no package has at its turn has a line on `err`, and its argument fails; the others are erased. Where there is no database, one is made.
+/// Finishes what a stop left of a change, and makes the changes of a command, one after the other and all as one change. An argument that
+/// fails has its line, and the others go on. Where there is no database, one is made.
 ///
-/// The changes are held in memory, over the disk, and committed behind the last number: a stop at any moment leaves all of them or none.
+/// The changes are held in memory, over the disk, and committed behind the last one: a stop at any moment leaves all of them or none.
 /// The ending is `Done`, or `Failed` with how many arguments failed; only then are changes counted, and the index is current. Any other
 /// ending leaves what the files stand for as it was, `DiskFault` aside, behind which all changes or none are made: `BadLog` and `Damaged`,
-/// with the place; `GenerationSpent`; `IndexFull` exactly where the index must be made, or is changed, and needs too many units; `LogFull`
-/// where the log does; `BadIndex` never where the database is lawful; `DiskFault` and `ErrFault` only where that object's count of faults
-/// rose; and `NoMemory`. That a command line is one change is this project's own rule.
+/// with the place; `NumbersSpent`, `GenerationSpent` and `StoreFull`; `IndexFull` exactly where the index must be made, or is changed, and
+/// needs too many units; `LogFull` where the log does; `BadIndex` never where the database is lawful; `DiskFault`, `ShelfFault`, `OutFault`
+/// and `ErrFault` only where that object's count of faults rose; and `NoMemory`. That a command line is one change is this project's own rule.
 ///
-/// Of `Packages.db` it reads the slot pages, the blocks of all packages where the index must be made, and those of each package that is erased.
-/// It syncs three times before the changes and five times for them, and keeps a page of 4 KiB in memory for each 4 KiB that are written.
-pub fn erase<D: Disk, E: Sink + Drop>(
+/// Of `Packages.db` it reads the slot pages, the blocks of all packages where the index must be made, and those of each package that is
+/// replaced or erased. It syncs three times before the changes and five times for them, and keeps a page of 4 KiB in memory for each 4 KiB
+/// that are written. `now` is the moment of an installation, in seconds since 1970.
+fn change<D: Disk, S: Shelf, O: Sink + Drop, E: Sink + Drop>(
     alloc: Global,
     disk: D,
-    numbers: &[u32],
+    shelf: &mut S,
+    task: &Task,
+    now: u32,
+    out: &mut Buffered<O>,
     err: &mut Buffered<E>,
 ) -> (Ending, D)
-    requires few { length numbers.now < 2 ^ 32 }
+    requires countable { IsCountable (task_parts task.now) }
+    requires out_empty { holds out.old ≡ [] }
     requires err_empty { holds err.old ≡ [] }
-    ensures went { IsTrue D.tells → (out_tells : Bool) (out : List ℕ) → DidOn (λ s. erasing.erase s numbers.now) (D.files disk) result.0.why
-        (outputs out_tells out E.tells (E.taken (inner err.old))) (outputs out_tells out E.tells (E.taken (inner err.new))) }
-    ensures changed { IsTrue D.tells → ChangesBy D.files D.left_since D.moment (λ s. erasing.erase s numbers.now) result.0.why result.0.changes disk result.1 }
+    ensures went { IsTrue D.tells → (reads_shelf (task_parts task.now) ≡ true → IsTrue S.tells)
+        → DidOn (task_course (S.paths shelf.old) now (task_parts task.now)) (D.files disk) result.0.why
+        (outputs O.tells (O.taken (inner out.old)) E.tells (E.taken (inner err.old)))
+        (outputs O.tells (O.taken (inner out.new)) E.tells (E.taken (inner err.new))) }
+    ensures changed { IsTrue D.tells → (reads_shelf (task_parts task.now) ≡ true → IsTrue S.tells)
+        → ChangesBy D.files D.left_since D.moment (task_course (S.paths shelf.old) now (task_parts task.now)) result.0.why result.0.changes disk result.1 }
+    ensures counted { is_done result.0.why ≡ false → result.0.changes ≡ 0 }
+    ensures shelf_unread { reads_shelf (task_parts task.now) ≡ false → shelf.new ≡ shelf.old }
     ensures of_words { is_of_words result.0.why ≡ false }
-    ensures shelf { result.0.why ≢ Why.ShelfFault }
-    ensures out { result.0.why ≢ Why.OutFault }
     ensures goes_on { D.follows disk result.1 }
     ensures disk { HasCauseAt (result.0.why ≡ Why.DiskFault) (D.faults disk) (D.faults result.1) }
+    ensures shelf { HasCauseAt (result.0.why ≡ Why.ShelfFault) (S.faults shelf.old) (S.faults shelf.new) }
+    ensures out { HasCauseAt (result.0.why ≡ Why.OutFault) (O.faults (inner out.old)) (O.faults (inner out.new)) }
     ensures err { HasCauseAt (result.0.why ≡ Why.ErrFault) (E.faults (inner err.old)) (E.faults (inner err.new)) }
+    ensures out_rest { HandsOn O.follows out.old out.new }
     ensures err_rest { HandsOn E.follows err.old err.new }
 {
     let mut disk = disk;
     match recover(&mut disk) {
-        Ok(_) => erase_recovered(alloc, disk, numbers, err),
+        Ok(_) => change_recovered(alloc, disk, shelf, task, now, out, err),
         Err(fault) => (unchanged(why_of_recover(fault)), disk),
+    }
+}
+
+/// Does a command that changes packages, or makes the database: what its words ask for.
+pub fn change_asked<D: Disk, S: Shelf, O: Sink + Drop, E: Sink + Drop>(
+    alloc: Global,
+    words: &Words,
+    ask: &Ask,
+    disk: D,
+    shelf: &mut S,
+    out: &mut Buffered<O>,
+    err: &mut Buffered<E>,
+    now: u32,
+) -> (Ending, D)
+    requires out_empty { holds out.old ≡ [] }
+    requires err_empty { holds err.old ≡ [] }
+    ensures did { IsTrue D.tells → (reads_shelf (asked_task words.now ask.now) ≡ true → IsTrue S.tells)
+        → DidOn (asked_course (S.paths shelf.old) now words.now ask.now) (D.files disk) result.0.why
+        (outputs O.tells (O.taken (inner out.old)) E.tells (E.taken (inner err.old)))
+        (outputs O.tells (O.taken (inner out.new)) E.tells (E.taken (inner err.new))) }
+    ensures changed { IsTrue D.tells → (reads_shelf (asked_task words.now ask.now) ≡ true → IsTrue S.tells)
+        → ChangesBy D.files D.left_since D.moment (asked_course (S.paths shelf.old) now words.now ask.now) result.0.why result.0.changes disk result.1 }
+    ensures counted { is_done result.0.why ≡ false → result.0.changes ≡ 0 }
+    ensures shelf_unread { reads_shelf (asked_task words.now ask.now) ≡ false → shelf.new ≡ shelf.old }
+    ensures of_words { is_of_words result.0.why ≡ false }
+    ensures goes_on { D.follows disk result.1 }
+    ensures disk { HasCauseAt (result.0.why ≡ Why.DiskFault) (D.faults disk) (D.faults result.1) }
+    ensures shelf { HasCauseAt (result.0.why ≡ Why.ShelfFault) (S.faults shelf.old) (S.faults shelf.new) }
+    ensures out { HasCauseAt (result.0.why ≡ Why.OutFault) (O.faults (inner out.old)) (O.faults (inner out.new)) }
+    ensures err { HasCauseAt (result.0.why ≡ Why.ErrFault) (E.faults (inner err.old)) (E.faults (inner err.new)) }
+    ensures out_rest { HandsOn O.follows out.old out.new }
+    ensures err_rest { HandsOn E.follows err.old err.new }
+{
+    match task_of(alloc, words, ask) {
+        Ok(task) => change(alloc, disk, shelf, &task, now, out, err),
+        Err(AllocError) => (unchanged(Why::NoMemory), disk),
     }
 }

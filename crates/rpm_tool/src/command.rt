@@ -16,21 +16,26 @@ ghost use Rattle.rpm_words.specs.declared.ask.Mode.TheVariants as mode;
 ghost use Rattle.rpm_words.specs.Words.{text_at};
 ghost use Rattle.rpm_words.specs.Ask.{AskParts, ask};
 ghost use Rattle.rpm_qfparse.specs.Tree.{Tree};
-ghost use Rattle.rpm_tool.specs.Asked.{of_files, by_key, asks_unbuilt, asks_format, asks};
+ghost use Rattle.rpm_tool.specs.Asked.{of_files, by_key, is_changing, asks_change, asks_unbuilt, asks_format, asks};
+ghost use Rattle.rpm_tool.specs.Changing.{DidOn, ChangesBy};
 ghost use Rattle.rpm_tool.specs.Closing.{status_of, closing};
 ghost use Rattle.rpm_tool.specs.Steps.{numbers, Rises};
 ghost use Rattle.rpm_tool.specs.Queries.{is_question, picked, argument_part};
 ghost use Rattle.rpm_tool.specs.Keyed.{AreLawfulGroups, IsLawfulGroup, StandsStill, IsReady, KeyedIs, AnswersByKey, FullIs, BadIs, HasRoom};
 ghost use Rattle.rpm_tool.specs.Keyed.{is_done, is_done_or_outside, keyed_cost};
+ghost use Rattle.rpm_tool.specs.Tasks.{asked_task, asked_course, reads_shelf};
 ghost use Rattle.rpm_tool.specs.PackageFiles.{passing, query_files};
-ghost use Rattle.rpm_tool.specs.Answers.{outputs, is_of_words, ComesWhere, Queried, Anywhere, Went, Closes, Ends, AtMost, Leaves, query_cost};
+ghost use Rattle.rpm_change.specs.Endings.{outputs};
+ghost use Rattle.rpm_tool.specs.Answers.{is_of_words, ComesWhere, Queried, Anywhere, Went, Closes, Ends, AtMost, Leaves, query_cost};
 
 use crate::answer::{Outcome, Unbuilt, Why, status_of};
 use crate::asked::{by_key, of_files, read_command};
+use crate::changing::{Ending, change_asked};
 use crate::closing::put_closing;
 use crate::keyed::answer_keyed;
 use crate::loaded::answer_loaded;
 use crate::package_files::print_files;
+use crate::task::is_changing;
 use rpm_outside::{Buffered, Disk, File, Shelf, Sink};
 use rpm_qfparse::{Format, FormatFault, FormatKind};
 use rpm_words::{Ask, Words, WordsFault, WordsKind};
@@ -46,41 +51,54 @@ fn begin<D: Disk, S: Shelf, O: Sink + Drop, E: Sink + Drop>(
     shelf: &mut S,
     out: &mut Buffered<O>,
     err: &mut Buffered<E>,
-) -> (Why, D)
+    now: u32,
+) -> (Ending, D)
     requires out_empty { holds out.old ≡ [] }
     requires err_empty { holds err.old ≡ [] }
-    ensures went { of_files ask.now ≡ false → by_key ask.now ≡ false → IsTrue D.tells
-        → Queried format.now words.now ask.now (D.files disk) result.0
+    ensures went { of_files ask.now ≡ false → by_key ask.now ≡ false → is_changing ask.now ≡ false → IsTrue D.tells
+        → Queried format.now words.now ask.now (D.files disk) result.0.why
         (outputs O.tells (O.taken (inner out.old)) E.tells (E.taken (inner err.old))) (outputs O.tells (O.taken (inner out.new)) E.tells
         (E.taken (inner err.new))) (D.bytes_read disk File.Pkg) (D.bytes_read result.1 File.Pkg) }
-    ensures reads { of_files ask.now ≡ false → by_key ask.now ≡ false → IsTrue D.tells → AtMost (D.bytes_read disk File.Pkg)
+    ensures reads { of_files ask.now ≡ false → by_key ask.now ≡ false → is_changing ask.now ≡ false → IsTrue D.tells → AtMost (D.bytes_read disk File.Pkg)
         (D.bytes_read result.1 File.Pkg) (query_cost words.now ask.now (reopened (D.files disk)).pkg) }
-    ensures files { of_files ask.now ≡ true → IsTrue S.tells → Went (query_files format.now (S.paths shelf.old) words.now ask.now) result.0
+    ensures files { of_files ask.now ≡ true → IsTrue S.tells → Went (query_files format.now (S.paths shelf.old) words.now ask.now) result.0.why
         (outputs O.tells (O.taken (inner out.old)) E.tells (E.taken (inner err.old))) (outputs O.tells (O.taken (inner out.new)) E.tells
         (E.taken (inner err.new))) Anywhere }
     ensures disk_unread { of_files ask.now ≡ true → result.1 ≡ disk }
-    ensures shelf_unread { of_files ask.now ≡ false → shelf.new ≡ shelf.old }
-    ensures done { is_of_words result.0 ≡ false }
-    ensures looks { by_key ask.now ≡ false → Leaves D.tells D.files D.left_since D.moment D.bytes_read D.follows disk result.1 }
+    ensures shelf_unread { of_files ask.now ≡ false → reads_shelf (asked_task words.now ask.now) ≡ false → shelf.new ≡ shelf.old }
+    ensures done { is_of_words result.0.why ≡ false }
+    ensures looks { by_key ask.now ≡ false → is_changing ask.now ≡ false → Leaves D.tells D.files D.left_since D.moment D.bytes_read D.follows disk result.1 }
     ensures keyed { by_key ask.now ≡ true → IsTrue D.tells
-        → AnswersByKey D.files D.left_since D.moment D.bytes_read format.now words.now ask.now result.0
+        → AnswersByKey D.files D.left_since D.moment D.bytes_read format.now words.now ask.now result.0.why
         (outputs O.tells (O.taken (inner out.old)) E.tells (E.taken (inner err.old))) (outputs O.tells (O.taken (inner out.new)) E.tells
         (E.taken (inner err.new))) disk result.1 }
+    ensures did { is_changing ask.now ≡ true → IsTrue D.tells → (reads_shelf (asked_task words.now ask.now) ≡ true → IsTrue S.tells)
+        → DidOn (asked_course (S.paths shelf.old) now words.now ask.now) (D.files disk) result.0.why
+        (outputs O.tells (O.taken (inner out.old)) E.tells (E.taken (inner err.old)))
+        (outputs O.tells (O.taken (inner out.new)) E.tells (E.taken (inner err.new))) }
+    ensures changed { is_changing ask.now ≡ true → IsTrue D.tells → (reads_shelf (asked_task words.now ask.now) ≡ true → IsTrue S.tells)
+        → ChangesBy D.files D.left_since D.moment (asked_course (S.paths shelf.old) now words.now ask.now) result.0.why result.0.changes disk result.1 }
+    ensures changes { is_changing ask.now ≡ false → result.0.changes ≡ 0 }
+    ensures counted { is_done result.0.why ≡ false → result.0.changes ≡ 0 }
     ensures goes_on { D.follows disk result.1 }
-    ensures disk { HasCauseAt (result.0 ≡ Why.DiskFault) (D.faults disk) (D.faults result.1) }
-    ensures shelf { HasCauseAt (result.0 ≡ Why.ShelfFault) (S.faults shelf.old) (S.faults shelf.new) }
-    ensures out { HasCauseAt (result.0 ≡ Why.OutFault) (O.faults (inner out.old)) (O.faults (inner out.new)) }
-    ensures err { HasCauseAt (result.0 ≡ Why.ErrFault) (E.faults (inner err.old)) (E.faults (inner err.new)) }
+    ensures disk { HasCauseAt (result.0.why ≡ Why.DiskFault) (D.faults disk) (D.faults result.1) }
+    ensures shelf { HasCauseAt (result.0.why ≡ Why.ShelfFault) (S.faults shelf.old) (S.faults shelf.new) }
+    ensures out { HasCauseAt (result.0.why ≡ Why.OutFault) (O.faults (inner out.old)) (O.faults (inner out.new)) }
+    ensures err { HasCauseAt (result.0.why ≡ Why.ErrFault) (E.faults (inner err.old)) (E.faults (inner err.new)) }
     ensures out_rest { HandsOn O.follows out.old out.new }
     ensures err_rest { HandsOn E.follows err.old err.new }
 {
-    if of_files(ask) {
+    if is_changing(ask) {
+        change_asked(alloc, words, ask, disk, shelf, out, err, now)
+    } else if of_files(ask) {
         let why = print_files(alloc, shelf, words, ask, format, out, err);
-        (why, disk)
+        (Ending { why, changes: 0 }, disk)
     } else if by_key(ask) {
-        answer_keyed(alloc, disk, words, ask, format, out, err)
+        let (why, disk) = answer_keyed(alloc, disk, words, ask, format, out, err);
+        (Ending { why, changes: 0 }, disk)
     } else {
-        answer_loaded(alloc, disk, words, ask, format, out, err)
+        let (why, disk) = answer_loaded(alloc, disk, words, ask, format, out, err);
+        (Ending { why, changes: 0 }, disk)
     }
 }
 
@@ -92,45 +110,59 @@ fn command<D: Disk, S: Shelf, O: Sink + Drop, E: Sink + Drop>(
     shelf: &mut S,
     out: &mut Buffered<O>,
     err: &mut Buffered<E>,
-) -> (Why, D)
+    now: u32,
+) -> (Ending, D)
     requires out_empty { holds out.old ≡ [] }
     requires err_empty { holds err.old ≡ [] }
-    ensures usage { (f : WordsFault) → ComesWhere (Why.Usage f) result.0 (ask words.now ≡ Err f) }
-    ensures usage_kind { (f : WordsFault) → result.0 ≡ Why.Usage f → f.kind ≢ WordsKind.NoMemory }
-    ensures unbuilt { ComesWhere (Why.NotBuilt Unbuilt.Words) result.0 (asks_unbuilt words.now ≡ true) }
-    ensures bad_format { (f : FormatFault) → ComesWhere (Why.BadFormat f) result.0 (asks_format words.now ≡ Some (Err f)) }
-    ensures bad_format_kind { (f : FormatFault) → result.0 ≡ Why.BadFormat f → f.kind ≢ FormatKind.NoMemory }
+    ensures usage { (f : WordsFault) → ComesWhere (Why.Usage f) result.0.why (ask words.now ≡ Err f) }
+    ensures usage_kind { (f : WordsFault) → result.0.why ≡ Why.Usage f → f.kind ≢ WordsKind.NoMemory }
+    ensures unbuilt { ComesWhere (Why.NotBuilt Unbuilt.Words) result.0.why (asks_unbuilt words.now ≡ true) }
+    ensures bad_format { (f : FormatFault) → ComesWhere (Why.BadFormat f) result.0.why (asks_format words.now ≡ Some (Err f)) }
+    ensures bad_format_kind { (f : FormatFault) → result.0.why ≡ Why.BadFormat f → f.kind ≢ FormatKind.NoMemory }
     ensures unread { asks words.now ≡ None → (result.1 ≡ disk) × (shelf.new ≡ shelf.old) × (out.new ≡ out.old) × (err.new ≡ err.old) }
     ensures files { (a : AskParts) (tree : Tree) → asks words.now ≡ Some (a, tree) → of_files a ≡ true → IsTrue S.tells
-        → Went (query_files tree (S.paths shelf.old) words.now a) result.0
+        → Went (query_files tree (S.paths shelf.old) words.now a) result.0.why
         (outputs O.tells (O.taken (inner out.old)) E.tells (E.taken (inner err.old))) (outputs O.tells (O.taken (inner out.new)) E.tells
         (E.taken (inner err.new))) Anywhere }
     ensures disk_unread { (a : AskParts) (tree : Tree) → asks words.now ≡ Some (a, tree) → of_files a ≡ true → result.1 ≡ disk }
-    ensures shelf_unread { (a : AskParts) (tree : Tree) → asks words.now ≡ Some (a, tree) → of_files a ≡ false → shelf.new ≡ shelf.old }
-    ensures shelf { HasCauseAt (result.0 ≡ Why.ShelfFault) (S.faults shelf.old) (S.faults shelf.new) }
-    ensures went { (a : AskParts) (tree : Tree) → asks words.now ≡ Some (a, tree) → of_files a ≡ false → by_key a ≡ false → IsTrue D.tells
-        → Queried tree words.now a (D.files disk) result.0
+    ensures shelf_unread { (a : AskParts) (tree : Tree) → asks words.now ≡ Some (a, tree) → of_files a ≡ false
+        → reads_shelf (asked_task words.now a) ≡ false → shelf.new ≡ shelf.old }
+    ensures shelf { HasCauseAt (result.0.why ≡ Why.ShelfFault) (S.faults shelf.old) (S.faults shelf.new) }
+    ensures went { (a : AskParts) (tree : Tree) → asks words.now ≡ Some (a, tree) → of_files a ≡ false → by_key a ≡ false
+        → is_changing a ≡ false → IsTrue D.tells
+        → Queried tree words.now a (D.files disk) result.0.why
         (outputs O.tells (O.taken (inner out.old)) E.tells (E.taken (inner err.old))) (outputs O.tells (O.taken (inner out.new)) E.tells
         (E.taken (inner err.new))) (D.bytes_read disk File.Pkg) (D.bytes_read result.1 File.Pkg) }
-    ensures reads { (a : AskParts) (tree : Tree) → asks words.now ≡ Some (a, tree) → of_files a ≡ false → by_key a ≡ false → IsTrue D.tells
+    ensures reads { (a : AskParts) (tree : Tree) → asks words.now ≡ Some (a, tree) → of_files a ≡ false → by_key a ≡ false
+        → is_changing a ≡ false → IsTrue D.tells
         → AtMost (D.bytes_read disk File.Pkg)
         (D.bytes_read result.1 File.Pkg) (query_cost words.now a (reopened (D.files disk)).pkg) }
-    ensures looks { (a : AskParts) (tree : Tree) → asks words.now ≡ Some (a, tree) → by_key a ≡ false
+    ensures looks { (a : AskParts) (tree : Tree) → asks words.now ≡ Some (a, tree) → by_key a ≡ false → is_changing a ≡ false
         → Leaves D.tells D.files D.left_since D.moment D.bytes_read D.follows disk result.1 }
     ensures keyed { (a : AskParts) (tree : Tree) → asks words.now ≡ Some (a, tree) → by_key a ≡ true → IsTrue D.tells
-        → AnswersByKey D.files D.left_since D.moment D.bytes_read tree words.now a result.0
+        → AnswersByKey D.files D.left_since D.moment D.bytes_read tree words.now a result.0.why
         (outputs O.tells (O.taken (inner out.old)) E.tells (E.taken (inner err.old))) (outputs O.tells (O.taken (inner out.new)) E.tells
         (E.taken (inner err.new))) disk result.1 }
+    ensures did { (a : AskParts) (tree : Tree) → asks words.now ≡ Some (a, tree) → is_changing a ≡ true → IsTrue D.tells
+        → (reads_shelf (asked_task words.now a) ≡ true → IsTrue S.tells)
+        → DidOn (asked_course (S.paths shelf.old) now words.now a) (D.files disk) result.0.why
+        (outputs O.tells (O.taken (inner out.old)) E.tells (E.taken (inner err.old)))
+        (outputs O.tells (O.taken (inner out.new)) E.tells (E.taken (inner err.new))) }
+    ensures changed { (a : AskParts) (tree : Tree) → asks words.now ≡ Some (a, tree) → is_changing a ≡ true → IsTrue D.tells
+        → (reads_shelf (asked_task words.now a) ≡ true → IsTrue S.tells)
+        → ChangesBy D.files D.left_since D.moment (asked_course (S.paths shelf.old) now words.now a) result.0.why result.0.changes disk result.1 }
+    ensures changes { asks_change words.now ≡ false → result.0.changes ≡ 0 }
+    ensures counted { is_done result.0.why ≡ false → result.0.changes ≡ 0 }
     ensures goes_on { D.follows disk result.1 }
-    ensures disk { HasCauseAt (result.0 ≡ Why.DiskFault) (D.faults disk) (D.faults result.1) }
-    ensures out { HasCauseAt (result.0 ≡ Why.OutFault) (O.faults (inner out.old)) (O.faults (inner out.new)) }
-    ensures err { HasCauseAt (result.0 ≡ Why.ErrFault) (E.faults (inner err.old)) (E.faults (inner err.new)) }
+    ensures disk { HasCauseAt (result.0.why ≡ Why.DiskFault) (D.faults disk) (D.faults result.1) }
+    ensures out { HasCauseAt (result.0.why ≡ Why.OutFault) (O.faults (inner out.old)) (O.faults (inner out.new)) }
+    ensures err { HasCauseAt (result.0.why ≡ Why.ErrFault) (E.faults (inner err.old)) (E.faults (inner err.new)) }
     ensures out_rest { HandsOn O.follows out.old out.new }
     ensures err_rest { HandsOn E.follows err.old err.new }
 {
     match read_command(alloc, words) {
-        Ok((ask, format)) => begin(alloc, words, &ask, &format, disk, shelf, out, err),
-        Err(why) => (why, disk),
+        Ok((ask, format)) => begin(alloc, words, &ask, &format, disk, shelf, out, err, now),
+        Err(why) => (Ending { why, changes: 0 }, disk),
     }
 }
 
@@ -169,7 +201,10 @@ pub fn run<D: Disk, S: Shelf, O: Sink, E: Sink>(
     now: u32,
 ) -> (Outcome, D)
     ensures status { result.0.status ≡ status_of result.0.why }
-    ensures changes { result.0.changes ≡ 0 }
+
+    // Changes are counted of a command that makes some, where it was done.
+    ensures changes { asks_change words.now ≡ false → result.0.changes ≡ 0 }
+    ensures counted { is_done result.0.why ≡ false → result.0.changes ≡ 0 }
 
     // Words that break a rule are answered so, exactly there, with the first rule that they break.
     ensures usage { (f : WordsFault) → ComesWhere (Why.Usage f) result.0.why (ask words.now ≡ Err f) }
@@ -187,7 +222,8 @@ pub fn run<D: Disk, S: Shelf, O: Sink, E: Sink>(
 
     // The theorem: the command of the words on the database as it reads when an open log is gone through, and the line that closes it. First
     // of the commands that ask no index.
-    ensures answers { (a : AskParts) (tree : Tree) → asks words.now ≡ Some (a, tree) → of_files a ≡ false → by_key a ≡ false → IsTrue D.tells
+    ensures answers { (a : AskParts) (tree : Tree) → asks words.now ≡ Some (a, tree) → of_files a ≡ false → by_key a ≡ false
+        → is_changing a ≡ false → IsTrue D.tells
         → Ends (λ mid. Queried tree words.now a (D.files disk) result.0.why
         (outputs O.tells (O.taken out.old) E.tells (E.taken err.old)) mid (D.bytes_read disk File.Pkg) (D.bytes_read result.1 File.Pkg))
         (closing words.now result.0.why)
@@ -200,15 +236,17 @@ pub fn run<D: Disk, S: Shelf, O: Sink, E: Sink>(
         (outputs O.tells (O.taken out.old) E.tells (E.taken err.old)) mid Anywhere) (closing words.now result.0.why)
         (outputs O.tells (O.taken out.new) E.tells (E.taken err.new)) (E.faults err.old) (E.faults err.new) }
     ensures disk_unread { (a : AskParts) (tree : Tree) → asks words.now ≡ Some (a, tree) → of_files a ≡ true → result.1 ≡ disk }
-    ensures shelf_unread { (a : AskParts) (tree : Tree) → asks words.now ≡ Some (a, tree) → of_files a ≡ false → shelf.new ≡ shelf.old }
+    ensures shelf_unread { (a : AskParts) (tree : Tree) → asks words.now ≡ Some (a, tree) → of_files a ≡ false
+        → reads_shelf (asked_task words.now a) ≡ false → shelf.new ≡ shelf.old }
     ensures files_after { (tree : Tree) (paths : Paths) (n : ℕ) (a : AskParts)
         → query_files tree paths words.now (passing n a) ≡ query_files tree paths words.now a }
 
     // Then the disk reads as before, and so do its images; of Packages.db no more is read than its pages and for each argument what it goes
     // over, which is of a number its own blocks.
-    ensures looks { (a : AskParts) (tree : Tree) → asks words.now ≡ Some (a, tree) → by_key a ≡ false
+    ensures looks { (a : AskParts) (tree : Tree) → asks words.now ≡ Some (a, tree) → by_key a ≡ false → is_changing a ≡ false
         → Leaves D.tells D.files D.left_since D.moment D.bytes_read D.follows disk result.1 }
-    ensures reads { (a : AskParts) (tree : Tree) → asks words.now ≡ Some (a, tree) → of_files a ≡ false → by_key a ≡ false → IsTrue D.tells
+    ensures reads { (a : AskParts) (tree : Tree) → asks words.now ≡ Some (a, tree) → of_files a ≡ false → by_key a ≡ false
+        → is_changing a ≡ false → IsTrue D.tells
         → AtMost (D.bytes_read disk File.Pkg)
         (D.bytes_read result.1 File.Pkg) (query_cost words.now a (reopened (D.files disk)).pkg) }
 
@@ -238,6 +276,18 @@ pub fn run<D: Disk, S: Shelf, O: Sink, E: Sink>(
     ensures stops { (a : AskParts) (tree : Tree) → asks words.now ≡ Some (a, tree) → by_key a ≡ true → IsTrue D.tells
         → AreLawfulGroups (D.left_since disk (D.moment disk))
         → LeavesOnly D.moment D.left_since disk result.1 (StandsStill (D.left_since disk (D.moment disk))) }
+
+    // A command that changes packages goes through its course, from the state that the database stands for, to its end or to where it is
+    // stopped, and closes with its line. Its changes are one: where it was done they are all made and counted, else none is, a fault of the
+    // disk aside, which may come before that or behind it. What goes with each ending is the record `ChangesBy`.
+    ensures did { (a : AskParts) (tree : Tree) → asks words.now ≡ Some (a, tree) → is_changing a ≡ true → IsTrue D.tells
+        → (reads_shelf (asked_task words.now a) ≡ true → IsTrue S.tells)
+        → Ends (λ mid. DidOn (asked_course (S.paths shelf.old) now words.now a) (D.files disk) result.0.why
+        (outputs O.tells (O.taken out.old) E.tells (E.taken err.old)) mid) (closing words.now result.0.why)
+        (outputs O.tells (O.taken out.new) E.tells (E.taken err.new)) (E.faults err.old) (E.faults err.new) }
+    ensures changed { (a : AskParts) (tree : Tree) → asks words.now ≡ Some (a, tree) → is_changing a ≡ true → IsTrue D.tells
+        → (reads_shelf (asked_task words.now a) ≡ true → IsTrue S.tells)
+        → ChangesBy D.files D.left_since D.moment (asked_course (S.paths shelf.old) now words.now a) result.0.why result.0.changes disk result.1 }
     ensures goes_on { D.follows disk result.1 }
 
     // The packages that an argument's steps are for: those that it picks above `--after`, each once and rising.
@@ -257,12 +307,12 @@ pub fn run<D: Disk, S: Shelf, O: Sink, E: Sink>(
 {
     let mut out = Buffered::new(out);
     let mut err = Buffered::new(err);
-    let (why, disk) = command(alloc, words, disk, shelf, &mut out, &mut err);
-    let _ = put_closing(&mut err, words, why);
+    let (ending, disk) = command(alloc, words, disk, shelf, &mut out, &mut err, now);
+    let _ = put_closing(&mut err, words, ending.why);
     let outcome = Outcome {
-        status: status_of(why),
-        why,
-        changes: 0,
+        status: status_of(ending.why),
+        why: ending.why,
+        changes: ending.changes,
     };
     (outcome, disk)
 }

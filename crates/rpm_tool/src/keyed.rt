@@ -12,7 +12,8 @@ ghost use Rattle.rpm_db.specs.Lawful.{IsLawful, AreLawful, IsLawfulStill, Remade
 ghost use Rattle.rpm_db.specs.Runs.{Runs};
 ghost use Rattle.rpm_tool.specs.Queries.{query};
 ghost use Rattle.rpm_tool.specs.Keyed.{HasIndex, OpenedBy, AnswersByKey, FullIs, BadIs, is_done, keyed_to, keyed_cost, why_of_recover};
-ghost use Rattle.rpm_tool.specs.Answers.{outputs, is_foreign};
+ghost use Rattle.rpm_change.specs.Endings.{outputs};
+ghost use Rattle.rpm_tool.specs.Answers.{is_foreign};
 
 use crate::answer::Why;
 use crate::query::query_opened;

@@ -17,13 +17,13 @@ mod picked;
 mod pieces;
 mod query;
 mod step;
+mod task;
 #[cfg(test)]
 mod tests;
 mod unindexed;
 mod verdicts;
 
 pub use answer::{Outcome, Unbuilt, Why};
-pub use changing::{Ending, erase};
 pub use command::run;
 pub use rpm_pkgdb::{Damage, Reason};
 pub use rpm_qfparse::{FormatFault, FormatKind};

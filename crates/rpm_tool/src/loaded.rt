@@ -4,7 +4,8 @@ ghost use Rattle.std.specs.Prelude.{◌≡◌, [], false, IsTrue};
 ghost use Rattle.rpm_outside.specs.Buffered.{inner, holds, HandsOn};
 ghost use Rattle.rpm_outside.specs.Causes.{HasCauseAt};
 ghost use Rattle.rpm_outside.specs.Logs.{reopened};
-ghost use Rattle.rpm_tool.specs.Answers.{outputs, is_foreign, why_of_load, unless_starved, Queried, AtMost, Leaves, query_cost};
+ghost use Rattle.rpm_change.specs.Endings.{outputs};
+ghost use Rattle.rpm_tool.specs.Answers.{is_foreign, why_of_load, unless_starved, Queried, AtMost, Leaves, query_cost};
 
 use crate::answer::Why;
 use crate::unindexed::answer_unindexed;

@@ -3,9 +3,10 @@
 ghost use Rattle.std.specs.Prelude.{◌≡◌, ◌≢◌, ℕ, Bool, List, [], Err};
 ghost use Rattle.rpm_outside.specs.Buffered.{inner, holds, HandsOn};
 ghost use Rattle.rpm_outside.specs.Causes.{HasCauseAt};
-ghost use Rattle.rpm_tool.specs.Steps.{whole};
+ghost use Rattle.rpm_change.specs.Steps.{whole};
 ghost use Rattle.rpm_tool.specs.Queries.{missing, missing_record, missing_part};
-ghost use Rattle.rpm_tool.specs.Answers.{outputs, PartIs};
+ghost use Rattle.rpm_change.specs.Endings.{outputs};
+ghost use Rattle.rpm_tool.specs.Answers.{PartIs};
 
 use crate::pieces::put_line;
 use crate::step::Stop;

@@ -8,11 +8,13 @@ ghost use Rattle.rpm_qfeval.specs.Meaning.{meaning};
 ghost use Rattle.rpm_words.specs.Words.{text_at};
 ghost use Rattle.rpm_outside.specs.Browses.{left};
 ghost use Rattle.rpm_file.specs.Package.{package_header};
-ghost use Rattle.rpm_tool.specs.Steps.{bearer, whole, ToErr, fails, told};
+ghost use Rattle.rpm_change.specs.Steps.{bearer, whole, ToErr};
+ghost use Rattle.rpm_tool.specs.Steps.{fails, told};
 ghost use Rattle.rpm_tool.specs.Queries.{printed};
 ghost use Rattle.rpm_change.specs.Texts.{refused_line, absent_line};
 ghost use Rattle.rpm_tool.specs.PackageFiles.{read_part, file_part, query_files};
-ghost use Rattle.rpm_tool.specs.Answers.{outputs, stop_in, why_of_files, PartIs, Anywhere, Went, is_of_words};
+ghost use Rattle.rpm_change.specs.Endings.{outputs};
+ghost use Rattle.rpm_tool.specs.Answers.{stop_in, why_of_files, PartIs, Anywhere, Went, is_of_words};
 
 use crate::answer::Why;
 use crate::pieces::put_line;

@@ -13,7 +13,8 @@ ghost use Rattle.rpm_select.specs.Picks.{entry_in, number_in};
 ghost use Rattle.rpm_tool.specs.Queries.{packages_part};
 ghost use Rattle.rpm_tool.specs.Reports.{step_by};
 ghost use Rattle.rpm_tool.specs.Reads.{ReadsIn, reach_until};
-ghost use Rattle.rpm_tool.specs.Answers.{outputs, stop_of, OneIs, NextIs, PartIs, cost_until, fails_in, is_some_of};
+ghost use Rattle.rpm_change.specs.Endings.{outputs};
+ghost use Rattle.rpm_tool.specs.Answers.{stop_of, OneIs, NextIs, PartIs, cost_until, fails_in, is_some_of};
 
 use crate::step::{Stop, Way, print_picked};
 use rpm_db::Db;

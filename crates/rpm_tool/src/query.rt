@@ -12,11 +12,13 @@ ghost use Rattle.rpm_select.specs.Selections.{picks};
 ghost use Rattle.rpm_select.specs.Reach.{Everything, HasIndexRows};
 ghost use Rattle.rpm_select.specs.declared.selection.Selection.TheVariants as question;
 ghost use Rattle.rpm_words.specs.Words.{text_at};
-ghost use Rattle.rpm_tool.specs.Steps.{before, idle, in_turn};
+ghost use Rattle.rpm_change.specs.Steps.{idle};
+ghost use Rattle.rpm_tool.specs.Steps.{before, in_turn};
 ghost use Rattle.rpm_tool.specs.Queries.{packages_part, argument_part, query};
 ghost use Rattle.rpm_tool.specs.Reports.{step_by};
 ghost use Rattle.rpm_tool.specs.Reads.{argument_reach, reaches_by, reach_sum, reached_by, Peeks, IsOfChains};
-ghost use Rattle.rpm_tool.specs.Answers.{outputs, why_of, is_foreign, is_of_opening, Went};
+ghost use Rattle.rpm_change.specs.Endings.{outputs};
+ghost use Rattle.rpm_tool.specs.Answers.{why_of, is_foreign, is_of_opening, Went};
 
 use crate::answer::Why;
 use crate::argument::answer;

@@ -8,8 +8,9 @@ ghost use Rattle.rpm_db.specs.State.{Good};
 ghost use Rattle.rpm_qfeval.specs.Meaning.{meaning};
 ghost use Rattle.rpm_qfeval.specs.Printed.{Prints, ending};
 ghost use Rattle.rpm_select.specs.Picks.{entry_in};
-ghost use Rattle.rpm_tool.specs.Answers.{StepIs, outputs};
-ghost use Rattle.rpm_tool.specs.Steps.{Bearer, ToOut, ToErr, bearer};
+ghost use Rattle.rpm_change.specs.Endings.{outputs};
+ghost use Rattle.rpm_tool.specs.Answers.{StepIs};
+ghost use Rattle.rpm_change.specs.Steps.{Bearer, ToOut, ToErr, bearer};
 ghost use Rattle.rpm_tool.specs.Queries.{bad_line, sizes_line, printed, bad_step};
 ghost use Rattle.rpm_tool.specs.Reports.{step_by};
 

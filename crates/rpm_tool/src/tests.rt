@@ -1,3 +1,4 @@
+mod changes;
 mod damage;
 mod formats;
 mod keyed;

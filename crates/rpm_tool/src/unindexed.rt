@@ -10,7 +10,8 @@ ghost use Rattle.rpm_db.specs.Database as database;
 ghost use Rattle.rpm_db.specs.Database.{Keeps, is_indexed};
 ghost use Rattle.rpm_tool.specs.Asked.{deed_of};
 ghost use Rattle.rpm_tool.specs.Reports.{course};
-ghost use Rattle.rpm_tool.specs.Answers.{outputs, is_foreign, Went, Opened, reach_by, reach_cost, read_to, query_cost};
+ghost use Rattle.rpm_change.specs.Endings.{outputs};
+ghost use Rattle.rpm_tool.specs.Answers.{is_foreign, Went, Opened, reach_by, reach_cost, read_to, query_cost};
 
 use crate::answer::Why;
 use crate::asked::{Deed, deed_of};

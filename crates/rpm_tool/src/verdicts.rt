@@ -12,10 +12,12 @@ ghost use Rattle.rpm_db.specs.Database as database;
 ghost use Rattle.rpm_db.specs.Database.{Keeps, cost, cost_all};
 ghost use Rattle.rpm_db.specs.Verdicts.{verdict};
 ghost use Rattle.rpm_select.specs.Reach.{Everything};
-ghost use Rattle.rpm_tool.specs.Steps.{bearer, together};
+ghost use Rattle.rpm_change.specs.Steps.{bearer};
+ghost use Rattle.rpm_tool.specs.Steps.{together};
 ghost use Rattle.rpm_tool.specs.Reports.{verdict_line, unsound, verdict_part, entry_verdict, verify};
 ghost use Rattle.rpm_tool.specs.Reads.{reached_by};
-ghost use Rattle.rpm_tool.specs.Answers.{outputs, PartIs, Went, is_foreign};
+ghost use Rattle.rpm_change.specs.Endings.{outputs};
+ghost use Rattle.rpm_tool.specs.Answers.{PartIs, Went, is_foreign};
 
 use crate::answer::Why;
 use crate::picked::either;

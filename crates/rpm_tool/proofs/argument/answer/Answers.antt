@@ -9,9 +9,11 @@ use Rattle.rpm_select.specs.Selections.{picks}
 use Rattle.rpm_select.specs.Reach.{Reach, reach_all}
 use Rattle.rpm_select.specs.inner.Unindexed.{not_asked}
 use Rattle.rpm_tool.specs.declared.step.Stop.{Stop}
-use Rattle.rpm_tool.specs.Steps.{Bearer, Part, whole}
+use Rattle.rpm_change.specs.Steps.{Bearer, whole}
+use Rattle.rpm_tool.specs.Steps.{Part}
 use Rattle.rpm_tool.specs.Queries.{lent, question_of, picked_by, missing_part, answered}
-use Rattle.rpm_tool.specs.Answers.{outputs, PartIs}
+use Rattle.rpm_change.specs.Endings.{outputs}
+use Rattle.rpm_tool.specs.Answers.{PartIs}
 use Rattle.rpm_tool.specs.Reads.{ReadsOf, reached, reach_of, argument_reach, IsOfChain}
 use Rattle.rpm_tool.proofs.Peeking.{peeks_none, peeks_then, peeks_packages, peeks_index}
 use Rattle.rpm_tool.proofs.Unbroken.{part_unbroken, chain_unbroken, chain_of}

@@ -4,9 +4,10 @@ use Rattle.rpm_outside.specs.Buffered.{inner}
 use Rattle.rpm_outside.specs.declared.disk.File.TheVariants.{Pkg}
 use Rattle.rpm_db.specs.State.{Package, packages, above}
 use Rattle.rpm_select.specs.Selections.{picks}
-use Rattle.rpm_tool.specs.Steps.{whole, is_bad}
+use Rattle.rpm_change.specs.Steps.{whole}
+use Rattle.rpm_tool.specs.Steps.{is_bad}
 use Rattle.rpm_tool.specs.Queries.{step_of, missing_part, answered}
-use Rattle.rpm_tool.specs.Answers.{outputs, Through}
+use Rattle.rpm_change.specs.Endings.{outputs, Through}
 use Rattle.rpm_tool.specs.Reads.{ReadsIn, ReadsOf}
 use Rattle.rpm_tool.proofs.Looked.{looks_both, both_read}
 use Rattle.rpm_tool.proofs.Nexts.{passed_here}

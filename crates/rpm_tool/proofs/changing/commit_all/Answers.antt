@@ -18,5 +18,5 @@ returns-clause-ends g c = λ told.
     let done = c.commit-disk.ensures in
     commit_ends g.D.Disk.files g.D.Disk.left_since g.D.Disk.moment (unlogged (laid_files (overlay_held c.args.overlay) (g.D.Disk.files below))) below
     c.commit-disk.result.0 g.D.Disk.tells told c.args.tally c.commit-disk.result.1 c.committed.result.why c.committed.result.changes
-    (needed (overlay_held c.args.overlay)) c.committed.ensures done.files done.closed done.settled done.says
+    (needed (overlay_held c.args.overlay)) c.committed.ensures.says done.files done.closed done.settled done.says
     (λ full. ((done.unwritten full).untouched told).same) (done.images told)

@@ -8,10 +8,11 @@ use Rattle.rpm_db.specs.Database.{is_indexed}
 use Rattle.rpm_db.specs.Lawful.{IsLawful, IsLawfulStill, Remade}
 use Rattle.rpm_db.specs.State.{packages}
 use Rattle.rpm_words.specs.Words.{text_at}
-use Rattle.rpm_tool.specs.Steps.{Bearer, Course}
+use Rattle.rpm_change.specs.Steps.{Bearer, Course}
 use Rattle.rpm_tool.specs.Queries.{query}
 use Rattle.rpm_tool.specs.Reads.{argument_reach, reaches_by, reach_sum, reached_by}
-use Rattle.rpm_tool.specs.Answers.{outputs, Went}
+use Rattle.rpm_change.specs.Endings.{outputs}
+use Rattle.rpm_tool.specs.Answers.{Went}
 use Rattle.rpm_tool.specs.Keyed.{OpenedBy, HasIndex, keyed_to, asked_cost}
 use Rattle.rpm_tool.proofs.Loading.{went_reads}
 use Rattle.rpm_tool.proofs.Opening.{leaves_peeks, runs_peeks, opened_rows, opened_index, bad_opened, keyed_by, keyed_sum}

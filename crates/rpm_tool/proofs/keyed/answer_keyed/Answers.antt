@@ -8,7 +8,7 @@ use Rattle.rpm_db.specs.Lawful.{IsLawful}
 use Rattle.rpm_db.specs.State.{packages}
 use Rattle.rpm_tool.specs.Queries.{query}
 use Rattle.rpm_tool.specs.Keyed.{KeyedIs, FullIs, BadIs, keyed_to, keyed_cost}
-use Rattle.rpm_tool.specs.Answers.{outputs}
+use Rattle.rpm_change.specs.Endings.{outputs}
 use Rattle.rpm_tool.proofs.Recovered.{closed_stands, opened_keyed, opening_stops, recovering_stops}
 use Rattle.rpm_tool.proofs.Unrecovered.{unrecovered, unrecovered_full, unrecovered_bad, unrecovered_complete, unrecovered_undone}
 use Rattle.rpm_tool.proofs.Completed.{completes}

@@ -5,9 +5,10 @@ use Rattle.rpm_outside.specs.Files.{Units, Files}
 use Rattle.rpm_outside.specs.Logs.{log_state, reopened}
 use Rattle.rpm_pkgdb.specs.Store.{Store, store}
 use Rattle.rpm_group.specs.Layers.{laid_files}
-use Rattle.rpm_tool.specs.Steps.{Bearer, Course}
+use Rattle.rpm_change.specs.Steps.{Bearer, Course}
 use Rattle.rpm_tool.specs.Reports.{course}
-use Rattle.rpm_tool.specs.Answers.{outputs, Opened, ReadsTo, unless_starved, read_to, query_cost}
+use Rattle.rpm_change.specs.Endings.{outputs}
+use Rattle.rpm_tool.specs.Answers.{Opened, ReadsTo, unless_starved, read_to, query_cost}
 use Rattle.rpm_tool.proofs.Loading.{opened_unless, opened_reads, loaded_sound, below_reads, fault_below}
 use Rattle.rpm_tool.proofs.loaded.answer_loaded.Goals as goal
 

@@ -3,7 +3,8 @@ use Rattle.rpm_outside.specs.Buffered.{inner}
 use Rattle.rpm_outside.specs.Shelves.{bytes_at}
 use Rattle.rpm_tool.specs.Steps.{Part}
 use Rattle.rpm_tool.specs.PackageFiles.{found_part}
-use Rattle.rpm_tool.specs.Answers.{outputs, Anywhere, PartIs}
+use Rattle.rpm_change.specs.Endings.{outputs}
+use Rattle.rpm_tool.specs.Answers.{Anywhere, PartIs}
 use Rattle.rpm_tool.proofs.Filed.{found_open}
 use Rattle.rpm_tool.proofs.package_files.print_file.Goals as goal
 

@@ -5,7 +5,8 @@ use Rattle.rpm_outside.specs.Shelves.{Paths}
 use Rattle.rpm_words.specs.Words.{text_at}
 use Rattle.rpm_tool.specs.declared.answer.Why.{Why}
 use Rattle.rpm_tool.specs.PackageFiles.{file_part}
-use Rattle.rpm_tool.specs.Answers.{outputs, PartIs, Anywhere, Went}
+use Rattle.rpm_change.specs.Endings.{outputs}
+use Rattle.rpm_tool.specs.Answers.{PartIs, Anywhere, Went}
 use Rattle.rpm_tool.proofs.Reaching.{goes_start, goes_more, goes_stop}
 use Rattle.rpm_tool.proofs.Answering.{rest_of, turn_steps, turn_failed, went_done, went_failed, few_more}
 use Rattle.rpm_tool.proofs.Filed.{went_stop_files, ends_of_files, never_of_disk}

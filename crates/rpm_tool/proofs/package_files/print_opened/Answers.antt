@@ -5,7 +5,8 @@ use Rattle.rpm_outside.specs.Browses.{left}
 use Rattle.rpm_file.specs.Package.{Headed, package_header}
 use Rattle.rpm_tool.specs.declared.step.Stop.TheVariants as stop
 use Rattle.rpm_tool.specs.PackageFiles.{read_part}
-use Rattle.rpm_tool.specs.Answers.{outputs, Anywhere, PartIs}
+use Rattle.rpm_change.specs.Endings.{outputs}
+use Rattle.rpm_tool.specs.Answers.{Anywhere, PartIs}
 use Rattle.rpm_tool.proofs.Reaching.{through_none}
 use Rattle.rpm_tool.proofs.Stopping.{reached_unsunk}
 use Rattle.rpm_tool.proofs.Filed.{unsunk, read_stop, own_fault}

@@ -2,9 +2,10 @@ use Rattle.std.proofs.Common.{◌≡◌, Bool, [], Ok, Err, sym, subst}
 use Rattle.rpm_header.specs.Header.{Header}
 use Rattle.rpm_outside.specs.Buffered.{inner}
 use Rattle.rpm_qfeval.specs.Meaning.{meaning}
-use Rattle.rpm_tool.specs.Steps.{bearer}
+use Rattle.rpm_change.specs.Steps.{bearer}
 use Rattle.rpm_tool.specs.Queries.{printed}
-use Rattle.rpm_tool.specs.Answers.{outputs, Anywhere, StepIs}
+use Rattle.rpm_change.specs.Endings.{outputs}
+use Rattle.rpm_tool.specs.Answers.{Anywhere, StepIs}
 use Rattle.rpm_tool.proofs.Stopping.{reached_first}
 use Rattle.rpm_tool.proofs.Filed.{fails_one}
 use Rattle.rpm_tool.proofs.package_files.print_package.Goals as goal

@@ -11,7 +11,8 @@ use Rattle.rpm_select.specs.Selections.{picks}
 use Rattle.rpm_select.specs.Reach.{Reach, Serves, reach_to}
 use Rattle.rpm_tool.specs.Steps.{is_bad}
 use Rattle.rpm_tool.specs.Reports.{step_by}
-use Rattle.rpm_tool.specs.Answers.{outputs, NextIs, is_some_of}
+use Rattle.rpm_change.specs.Endings.{outputs}
+use Rattle.rpm_tool.specs.Answers.{NextIs, is_some_of}
 use Rattle.rpm_tool.specs.Reads.{ReadsIn}
 use Rattle.rpm_tool.proofs.Looked.{looks_rest, rest_read, more_read}
 use Rattle.rpm_tool.proofs.Nexts.{next_here, fails_next, some_next, fails_last, some_last, goes_next, goes_last, goes_cut}

@@ -6,10 +6,11 @@ use Rattle.rpm_db.specs.State.{packages}
 use Rattle.rpm_pkgdb.specs.Costs.{cost_to}
 use Rattle.rpm_select.specs.Selections.{picks}
 use Rattle.rpm_select.specs.Picks.{entry_in, number_in}
-use Rattle.rpm_tool.specs.Steps.{Bearer}
+use Rattle.rpm_change.specs.Steps.{Bearer}
 use Rattle.rpm_tool.specs.Reports.{step_by}
 use Rattle.rpm_tool.specs.Reads.{ReadsIn}
-use Rattle.rpm_tool.specs.Answers.{outputs, cost_until}
+use Rattle.rpm_change.specs.Endings.{outputs}
+use Rattle.rpm_tool.specs.Answers.{cost_until}
 use Rattle.rpm_tool.proofs.Rising.{next_picked}
 use Rattle.rpm_tool.proofs.Printed.{bearer-step_by, one_next, cost_one}
 use Rattle.rpm_tool.proofs.Reached.{entry_reach, reach_one}

@@ -2,7 +2,7 @@ use Rattle.std.proofs.Common.{Err}
 use Rattle.rpm_outside.specs.Buffered.{inner}
 use Rattle.rpm_select.specs.Picks.{entry_in}
 use Rattle.rpm_tool.specs.Reports.{step_by}
-use Rattle.rpm_tool.specs.Answers.{outputs}
+use Rattle.rpm_change.specs.Endings.{outputs}
 use Rattle.rpm_tool.proofs.Unbroken.{one_unbroken}
 use Rattle.rpm_tool.proofs.picked.print_one.Goals as goal
 

@@ -7,10 +7,12 @@ use Rattle.rpm_db.specs.State.{packages}
 use Rattle.rpm_select.specs.declared.selection.Selection.TheVariants as question
 use Rattle.rpm_select.specs.Selections.{picks}
 use Rattle.rpm_tool.specs.declared.answer.Why.{Why}
-use Rattle.rpm_tool.specs.Steps.{Bearer, Step, Part, before, idle}
+use Rattle.rpm_change.specs.Steps.{Bearer, Step, idle}
+use Rattle.rpm_tool.specs.Steps.{Part, before}
 use Rattle.rpm_tool.specs.Queries.{packages_part}
 use Rattle.rpm_tool.specs.Reports.{step_by}
-use Rattle.rpm_tool.specs.Answers.{outputs, PartIs, Reached, Went}
+use Rattle.rpm_change.specs.Endings.{outputs}
+use Rattle.rpm_tool.specs.Answers.{PartIs, Reached, Went}
 use Rattle.rpm_tool.specs.Reads.{ReadsIn, reached_by}
 use Rattle.rpm_select.specs.Reach.{Reach, Everything}
 use Rattle.rpm_tool.proofs.Sums.{reads_one}

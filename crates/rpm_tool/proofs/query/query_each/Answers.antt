@@ -8,9 +8,10 @@ use Rattle.rpm_db.specs.Database.{is_indexed}
 use Rattle.rpm_select.specs.Reach.{HasIndexRows}
 use Rattle.rpm_words.specs.Words.{text_at}
 use Rattle.rpm_tool.specs.declared.answer.Why.{Why}
-use Rattle.rpm_tool.specs.Steps.{Bearer}
+use Rattle.rpm_change.specs.Steps.{Bearer}
 use Rattle.rpm_tool.specs.Queries.{lent, question_of, argument_part}
-use Rattle.rpm_tool.specs.Answers.{outputs, PartIs, Went}
+use Rattle.rpm_change.specs.Endings.{outputs}
+use Rattle.rpm_tool.specs.Answers.{PartIs, Went}
 use Rattle.rpm_tool.specs.Reads.{ReadsOf, argument_reach, reached_by, IsOfChain, IsOfChains}
 use Rattle.rpm_tool.proofs.Peeking.{peeks_none, peeks_then}
 use Rattle.rpm_tool.proofs.Sums.{before_some, get_map}

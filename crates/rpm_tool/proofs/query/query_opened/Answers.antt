@@ -5,9 +5,10 @@ use Rattle.rpm_db.specs.State.{packages}
 use Rattle.rpm_db.specs.Database.{cost_all, is_indexed}
 use Rattle.rpm_select.specs.Reach.{Reach, Everything}
 use Rattle.rpm_words.specs.Words.{text_at}
-use Rattle.rpm_tool.specs.Steps.{Course}
+use Rattle.rpm_change.specs.Steps.{Course}
 use Rattle.rpm_tool.specs.Queries.{query}
-use Rattle.rpm_tool.specs.Answers.{outputs, Went}
+use Rattle.rpm_change.specs.Endings.{outputs}
+use Rattle.rpm_tool.specs.Answers.{Went}
 use Rattle.rpm_tool.specs.Reads.{argument_reach, reach_sum, reached_by}
 use Rattle.rpm_tool.proofs.Answering.{query_none, query_some, reaches_none, reaches_some}
 use Rattle.rpm_tool.proofs.Peeking.{peeks_packages}

@@ -1,7 +1,7 @@
 use Rattle.rpm_outside.specs.Buffered.{inner}
 use Rattle.rpm_qfeval.specs.Meaning.{meaning}
 use Rattle.rpm_tool.specs.Queries.{sizes_line}
-use Rattle.rpm_tool.specs.Steps.{bearer}
+use Rattle.rpm_change.specs.Steps.{bearer}
 use Rattle.rpm_tool.proofs.Printing.{told_counts}
 use Rattle.rpm_tool.proofs.step.print_header.Goals as goal
 

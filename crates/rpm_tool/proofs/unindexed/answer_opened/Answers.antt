@@ -12,7 +12,8 @@ use Rattle.rpm_tool.specs.declared.asked.Deed.TheVariants as deed
 use Rattle.rpm_tool.specs.Asked.{deed_of}
 use Rattle.rpm_tool.specs.Reports.{course_by}
 use Rattle.rpm_tool.specs.Reads.{argument_reach, reaches_by, reached_by}
-use Rattle.rpm_tool.specs.Answers.{outputs, Went, reach_by, reach_cost}
+use Rattle.rpm_change.specs.Endings.{outputs}
+use Rattle.rpm_tool.specs.Answers.{Went, reach_by, reach_cost}
 use Rattle.rpm_tool.proofs.Loading.{went_reads}
 use Rattle.rpm_tool.proofs.Peeking.{looks_unindexed}
 use Rattle.rpm_tool.proofs.Sums.{store_by, store_sum}

@@ -1,5 +1,5 @@
 use Rattle.rpm_outside.specs.Buffered.{inner}
-use Rattle.rpm_tool.specs.Steps.{bearer}
+use Rattle.rpm_change.specs.Steps.{bearer}
 use Rattle.rpm_tool.specs.Reports.{verdict_line}
 use Rattle.rpm_tool.proofs.Stopping.{out_cut}
 use Rattle.rpm_tool.proofs.verdicts.put_unsound.Goals as goal

@@ -6,10 +6,12 @@ use Rattle.rpm_outside.specs.declared.disk.File.TheVariants.{Pkg}
 use Rattle.rpm_db.specs.State.{packages}
 use Rattle.rpm_select.specs.Reach.{Everything}
 use Rattle.rpm_tool.specs.declared.answer.Why.{Why}
-use Rattle.rpm_tool.specs.Steps.{Bearer, Step, before, idle, together}
+use Rattle.rpm_change.specs.Steps.{Bearer, Step, idle}
+use Rattle.rpm_tool.specs.Steps.{before, together}
 use Rattle.rpm_tool.specs.Reports.{entry_verdict}
 use Rattle.rpm_tool.specs.Reads.{reached_by}
-use Rattle.rpm_tool.specs.Answers.{outputs, Reached, Went}
+use Rattle.rpm_change.specs.Endings.{outputs}
+use Rattle.rpm_tool.specs.Answers.{Reached, Went}
 use Rattle.rpm_tool.proofs.Answering.{went_stop}
 use Rattle.rpm_tool.proofs.Verified.{not_of_err, went_failing, went_sound}
 use Rattle.rpm_tool.proofs.verdicts.report.Goals as goal

@@ -7,10 +7,12 @@ use Rattle.rpm_db.specs.State.{Package, packages, above}
 use Rattle.rpm_db.specs.Database.{cost, cost_to, cost_all}
 use Rattle.rpm_db.specs.inner.Laws.{cost_more, cost_some}
 use Rattle.rpm_select.specs.Reach.{Everything}
-use Rattle.rpm_tool.specs.Steps.{Bearer, bearer, Part, together}
+use Rattle.rpm_change.specs.Steps.{Bearer, bearer}
+use Rattle.rpm_tool.specs.Steps.{Part, together}
 use Rattle.rpm_tool.specs.Reports.{entry_verdict}
 use Rattle.rpm_tool.specs.Reads.{reached_by}
-use Rattle.rpm_tool.specs.Answers.{outputs, Through, Reached, PartIs}
+use Rattle.rpm_change.specs.Endings.{outputs, Through}
+use Rattle.rpm_tool.specs.Answers.{Reached, PartIs}
 use Rattle.rpm_tool.proofs.Reaching.{goes_start, goes_more, goes_stop, goes_end}
 use Rattle.rpm_tool.proofs.Stopping.{reached_reads}
 use Rattle.rpm_tool.proofs.Printed.{none_more}

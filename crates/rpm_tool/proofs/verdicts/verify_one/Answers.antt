@@ -1,9 +1,10 @@
 use Rattle.std.proofs.Common.{◌≡◌, Option, sym, subst}
 use Rattle.rpm_outside.specs.Buffered.{inner}
 use Rattle.rpm_db.specs.declared.verify.Verdict.{Verdict}
-use Rattle.rpm_tool.specs.Steps.{bearer}
+use Rattle.rpm_change.specs.Steps.{bearer}
 use Rattle.rpm_tool.specs.Reports.{verdict_part}
-use Rattle.rpm_tool.specs.Answers.{outputs, PartIs}
+use Rattle.rpm_change.specs.Endings.{outputs}
+use Rattle.rpm_tool.specs.Answers.{PartIs}
 use Rattle.rpm_tool.proofs.verdicts.verify_one.Goals as goal
 
 pub returns-in-Ok-clause-went : goal.returns-in-Ok-clause-went

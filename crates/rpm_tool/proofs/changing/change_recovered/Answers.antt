@@ -8,65 +8,65 @@ use Rattle.rpm_group.specs.Overlay.{overlay_below, overlay_held, overlay_read}
 use Rattle.rpm_db.specs.State.{State}
 use Rattle.rpm_change.specs.Steps.{Course}
 use Rattle.rpm_change.specs.Endings.{outputs}
-use Rattle.rpm_change.specs.Erasing.{erase}
 use Rattle.rpm_tool.specs.Answers.{why_of_load}
+use Rattle.rpm_tool.specs.Tasks.{task_parts, task_course}
 use Rattle.rpm_tool.specs.Working.{Worked}
 use Rattle.rpm_tool.proofs.Grouped.{group_did, group_changes}
 use Rattle.rpm_tool.proofs.Ends.{below_same, below_back, below_moment, below_settled, below_closed}
 use Rattle.rpm_tool.proofs.Unloaded.{unloaded_did, unloaded_changes}
-use Rattle.rpm_tool.proofs.changing.erase_recovered.Goals as goal
+use Rattle.rpm_tool.proofs.changing.change_recovered.Goals as goal
 
 pub end_group-requires-clause-settled : goal.end_group-requires-clause-settled
 end_group-requires-clause-settled g c = λ told.
     below_settled g.D.Disk.tells g.D.Disk.files g.D.Disk.left_since g.D.Disk.moment g.D.Disk.bytes_read g.D.Disk.follows g.D.Disk.faults c.args.disk
-    (overlay_below c.in-Ok.overlay) (overlay_below c.erase_on-ended.new.disk) (overlay_read c.in-Ok.overlay) (overlay_read c.erase_on-ended.new.disk)
-    c.in-Ok.ensures.looks c.erase_on-ended.ensures.runs.goes_on told (c.requires.settled told)
+    (overlay_below c.in-Ok.overlay) (overlay_below c.change_on-ended.new.disk) (overlay_read c.in-Ok.overlay) (overlay_read c.change_on-ended.new.disk)
+    c.in-Ok.ensures.looks c.change_on-ended.ensures.runs.goes_on told (c.requires.settled told)
 
 pub end_group-requires-clause-closed : goal.end_group-requires-clause-closed
 end_group-requires-clause-closed g c = λ told.
     below_closed g.D.Disk.tells g.D.Disk.files g.D.Disk.left_since g.D.Disk.moment g.D.Disk.bytes_read g.D.Disk.follows g.D.Disk.faults c.args.disk
-    (overlay_below c.in-Ok.overlay) (overlay_below c.erase_on-ended.new.disk) (overlay_read c.in-Ok.overlay) (overlay_read c.erase_on-ended.new.disk)
-    c.in-Ok.ensures.looks c.erase_on-ended.ensures.runs.goes_on told (c.requires.closed told)
+    (overlay_below c.in-Ok.overlay) (overlay_below c.change_on-ended.new.disk) (overlay_read c.in-Ok.overlay) (overlay_read c.change_on-ended.new.disk)
+    c.in-Ok.ensures.looks c.change_on-ended.ensures.runs.goes_on told (c.requires.closed told)
 
 pub returns-in-Ok-clause-went : goal.returns-in-Ok-clause-went
-returns-in-Ok-clause-went g c = λ told out_tells out.
+returns-in-Ok-clause-went g c = λ told shelf.
     let D = g.D.Disk in
     let first = c.args.disk in
     let ov = c.in-Ok.overlay in
-    let end = c.erase_on-ended.new.disk in
+    let end = c.change_on-ended.new.disk in
     let last = overlay_below end in
     let new = laid_files (overlay_held end) (D.files last) in
-    let ended = c.erase_on-ended.result in
-    let course : State → Course = λ s. erase s c.args.numbers.now in
-    let before = outputs out_tells out g.E.Sink.tells (g.E.Sink.taken (inner c.args.err.now)) in
-    let now = outputs out_tells out g.E.Sink.tells (g.E.Sink.taken (inner c.erase_on-ended.new.err)) in
+    let ended = c.change_on-ended.result in
+    let course : State → Course = task_course (g.S.Shelf.paths c.args.shelf.now) c.args.now (task_parts c.args.task.now) in
+    let before = outputs g.O.Sink.tells (g.O.Sink.taken (inner c.args.out.now)) g.E.Sink.tells (g.E.Sink.taken (inner c.args.err.now)) in
+    let now = outputs g.O.Sink.tells (g.O.Sink.taken (inner c.change_on-ended.new.out)) g.E.Sink.tells (g.E.Sink.taken (inner c.change_on-ended.new.err)) in
     group_did D.files D.left_since D.moment course ended c.end_group.result.0.why c.end_group.result.0.changes first last c.end_group.result.1 new before now
     (c.requires.closed told)
-    (subst (λ (f : Files). Worked course f new ended before now) (c.in-Ok.ensures.files told) (c.erase_on-ended.ensures.worked told out_tells out))
+    (subst (λ (f : Files). Worked course f new ended before now) (c.in-Ok.ensures.files told) (c.change_on-ended.ensures.worked told shelf))
     (c.end_group.ensures.ends told)
 
 pub returns-in-Ok-clause-changed : goal.returns-in-Ok-clause-changed
-returns-in-Ok-clause-changed g c = λ told.
+returns-in-Ok-clause-changed g c = λ told shelf.
     let D = g.D.Disk in
     let first = c.args.disk in
     let ov = c.in-Ok.overlay in
-    let end = c.erase_on-ended.new.disk in
+    let end = c.change_on-ended.new.disk in
     let last = overlay_below end in
     let new = laid_files (overlay_held end) (D.files last) in
-    let ended = c.erase_on-ended.result in
-    let course : State → Course = λ s. erase s c.args.numbers.now in
+    let ended = c.change_on-ended.result in
+    let course : State → Course = task_course (g.S.Shelf.paths c.args.shelf.now) c.args.now (task_parts c.args.task.now) in
     let final = c.end_group.result.1 in
     let looks = c.in-Ok.ensures.looks in
-    let keeps = c.erase_on-ended.ensures.runs.goes_on in
+    let keeps = c.change_on-ended.ensures.runs.goes_on in
     let mid = overlay_below ov in
     let ro = overlay_read ov in
     let rn = overlay_read end in
-    let before = outputs true [] g.E.Sink.tells (g.E.Sink.taken (inner c.args.err.now)) in
-    let now = outputs true [] g.E.Sink.tells (g.E.Sink.taken (inner c.erase_on-ended.new.err)) in
+    let before = outputs g.O.Sink.tells (g.O.Sink.taken (inner c.args.out.now)) g.E.Sink.tells (g.E.Sink.taken (inner c.args.err.now)) in
+    let now = outputs g.O.Sink.tells (g.O.Sink.taken (inner c.change_on-ended.new.out)) g.E.Sink.tells (g.E.Sink.taken (inner c.change_on-ended.new.err)) in
     let ends = c.end_group.ensures.ends told in
     group_changes D.files D.left_since D.moment course ended c.end_group.result.0.why c.end_group.result.0.changes first last final new before now
     (c.requires.closed told)
-    (subst (λ (f : Files). Worked course f new ended before now) (c.in-Ok.ensures.files told) (c.erase_on-ended.ensures.worked told true []))
+    (subst (λ (f : Files). Worked course f new ended before now) (c.in-Ok.ensures.files told) (c.change_on-ended.ensures.worked told shelf))
     ends
     (below_same D.tells D.files D.left_since D.moment D.bytes_read D.follows D.faults first mid last ro rn looks keeps told)
     (g.met.D.Disk.as_read first told) (c.requires.settled told)
@@ -75,18 +75,18 @@ returns-in-Ok-clause-changed g c = λ told.
     (g.met.D.Disk.earlier final (D.moment last) (D.moment final) (D.files final) told ends.images.later (omega arith) (g.met.D.Disk.as_read final told))
 
 pub returns-in-Err-clause-went : goal.returns-in-Err-clause-went
-returns-in-Err-clause-went g c = λ told out_tells out.
+returns-in-Err-clause-went g c = λ told shelf.
     let D = g.D.Disk in
     rw (c.unchanged.ensures, c.why_of_load.ensures)
-    (unloaded_did D.tells D.files D.left_since D.moment D.bytes_read D.follows (λ s. erase s c.args.numbers.now) c.args.disk c.in-Err.refused.disk
+    (unloaded_did D.tells D.files D.left_since D.moment D.bytes_read D.follows (task_course (g.S.Shelf.paths c.args.shelf.now) c.args.now (task_parts c.args.task.now)) c.args.disk c.in-Err.refused.disk
     c.in-Err.ensures.looks told (c.requires.closed told) (c.requires.settled told) c.in-Err.refused.why (c.in-Err.ensures.says told)
-    (outputs out_tells out g.E.Sink.tells (g.E.Sink.taken (inner c.args.err.now))))
+    (outputs g.O.Sink.tells (g.O.Sink.taken (inner c.args.out.now)) g.E.Sink.tells (g.E.Sink.taken (inner c.args.err.now))))
 
 pub returns-in-Err-clause-changed : goal.returns-in-Err-clause-changed
-returns-in-Err-clause-changed g c = λ told.
+returns-in-Err-clause-changed g c = λ told shelf.
     let D = g.D.Disk in
     rw (c.unchanged.ensures, c.why_of_load.ensures)
-    (unloaded_changes D.tells D.files D.left_since D.moment D.bytes_read D.follows (λ s. erase s c.args.numbers.now) c.args.disk c.in-Err.refused.disk
+    (unloaded_changes D.tells D.files D.left_since D.moment D.bytes_read D.follows (task_course (g.S.Shelf.paths c.args.shelf.now) c.args.now (task_parts c.args.task.now)) c.args.disk c.in-Err.refused.disk
     c.in-Err.ensures.looks told (c.requires.closed told) (c.requires.settled told) c.in-Err.refused.why (c.in-Err.ensures.says told)
-    (outputs true [] g.E.Sink.tells (g.E.Sink.taken (inner c.args.err.now))) (g.met.D.Disk.as_read c.args.disk told)
+    (outputs g.O.Sink.tells (g.O.Sink.taken (inner c.args.out.now)) g.E.Sink.tells (g.E.Sink.taken (inner c.args.err.now))) (g.met.D.Disk.as_read c.args.disk told)
     (g.met.D.Disk.as_read c.in-Err.refused.disk told))

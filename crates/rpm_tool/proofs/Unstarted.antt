@@ -1,0 +1,78 @@
+-- A command that changes packages and didn't begin, for want of memory: nothing was changed.
+use Rattle.std.proofs.Common.{◌≡◌, ℕ, Bool, true, false, not, Result, Ok, Err, refl, ap, inl, arith}
+use Rattle.std.proofs.lemmas.Bool.{and_parts}
+use Rattle.rpm_outside.specs.Crash.{LeavesOnly}
+use Rattle.rpm_outside.specs.Files.{Files}
+use Rattle.rpm_outside.specs.Logs.{LogState, Closed, Malformed, Open, log_state, reopened}
+use Rattle.rpm_pkgdb.specs.declared.slot.Damage.{Damage}
+use Rattle.rpm_pkgdb.specs.Store.{Store, store}
+use Rattle.rpm_db.specs.State.{State, state}
+use Rattle.rpm_words.specs.declared.ask.Mode.{Mode}
+use Rattle.rpm_words.specs.declared.ask.Mode.TheVariants as mode
+use Rattle.rpm_words.specs.Ask.{AskParts}
+use Rattle.rpm_change.specs.Steps.{Course}
+use Rattle.rpm_change.specs.Endings.{Outputs}
+use Rattle.rpm_tool.specs.declared.answer.Why.TheVariants as why
+use Rattle.rpm_tool.specs.Asked.{is_query, is_package, needs_no_index, is_changing_in, is_changing, of_files, by_key}
+use Rattle.rpm_tool.specs.Changing.{DidOpened, DidLoaded, DidOn, ChangesBy, StandsStillOr, after}
+use Rattle.rpm_tool.specs.Keyed.{AreLawfulGroups}
+use Rattle.rpm_tool.proofs.Grouped.{if_ok}
+use Rattle.rpm_tool.proofs.Unmade.{through_none, none_done}
+
+opened_memory : (course : Store → Course) (sr : Result Store Damage) (x : Outputs) → DidOpened course sr why.NoMemory x x
+opened_memory course (Ok s) x = none_done (course s) x x (through_none x)
+opened_memory course (Err d) x = (tt, through_none x)
+
+loaded_memory : (course : Store → Course) (sr : Result Store Damage) (log : LogState) (x : Outputs) → DidLoaded course sr log why.NoMemory x x
+loaded_memory course sr Closed x = opened_memory course sr x
+loaded_memory course sr (Malformed unit) x = (tt, through_none x)
+loaded_memory course sr (Open entries) x = opened_memory course sr x
+
+pub unstarted_did : (course : State → Course) (files : Files) (x : Outputs) → DidOn course files why.NoMemory x x
+unstarted_did course files x = loaded_memory (λ s. course (state (reopened files).pkg s)) (store (reopened files).pkg) (log_state files.log) x
+
+module _ {D : Type 0} (files : D → Files) (left_since : D → ℕ → Files → Type 0) (moment : D → ℕ) (course : State → Course) (disk : D) where
+  abbrev past : Files → Type 0
+  past = left_since disk (moment disk)
+
+  still : AreLawfulGroups past → (s : State) → LeavesOnly moment left_since disk disk (StandsStillOr past s)
+  still lawful s = record {
+    later = omega arith;
+    each = λ image left. inl (record { from = image; was = left; pkg = refl; lawful = lawful image left });
+    before = λ t image le left. inl left;
+  }
+
+  pub unstarted_changes : ChangesBy files left_since moment course why.NoMemory 0 disk disk
+  unstarted_changes = record {
+    counted = λ no. refl;
+    leaves = if_ok (store (reopened (files disk)).pkg) (λ s is. (refl, record { value = s; undamaged = is; is = refl }));
+    refused = λ no. refl;
+    index = λ lawful done. absurd cc;
+    full = λ lawful. if_ok (store (reopened (files disk)).pkg) (λ s is. tt);
+    complete = λ lawful. refl;
+    stops = λ lawful. if_ok (store (reopened (files disk)).pkg) (λ s is. still lawful (after course (state (reopened (files disk)).pkg s)));
+    held = λ done. absurd cc;
+  }
+
+-- ---- a query changes nothing
+
+query_changes : (m : Mode) → is_query m ≡ true → is_changing_in m ≡ true → ⊥
+query_changes mode.Query is changes = absurd cc
+query_changes mode.Addpkg is changes = absurd cc
+query_changes mode.Replacepkg is changes = absurd cc
+query_changes mode.Erasepkg is changes = absurd cc
+query_changes mode.Verify is changes = absurd cc
+query_changes mode.Initdb is changes = absurd cc
+query_changes mode.Rebuilddb is changes = absurd cc
+query_changes mode.Verifydb is changes = absurd cc
+query_changes mode.Exportdb is changes = absurd cc
+query_changes mode.Importdb is changes = absurd cc
+query_changes (mode.Exercise n) is changes = absurd cc
+query_changes mode.Order is changes = absurd cc
+query_changes mode.Checkfiles is changes = absurd cc
+
+pub files_unchanging : (a : AskParts) → of_files a ≡ true → is_changing a ≡ true → ⊥
+files_unchanging a files changes = query_changes a.mode (and_parts (is_query a.mode) (is_package a.chosen) files).0 changes
+
+pub keyed_unchanging : (a : AskParts) → by_key a ≡ true → is_changing a ≡ true → ⊥
+keyed_unchanging a keyed changes = query_changes a.mode (and_parts (is_query a.mode) (not (needs_no_index a.chosen a.noindex)) keyed).0 changes

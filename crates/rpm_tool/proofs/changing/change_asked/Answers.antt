@@ -1,0 +1,36 @@
+use Rattle.std.proofs.Common.{◌≡◌, true, sym, ap, ◌∙◌, subst}
+use Rattle.rpm_outside.specs.Buffered.{inner}
+use Rattle.rpm_change.specs.Endings.{outputs}
+use Rattle.rpm_tool.specs.Changing.{DidOn, ChangesBy}
+use Rattle.rpm_tool.specs.Tasks.{TaskParts, asked_course, task_course, reads_shelf}
+use Rattle.rpm_tool.proofs.Unstarted.{unstarted_did, unstarted_changes}
+use Rattle.rpm_tool.proofs.changing.change_asked.Goals as goal
+
+pub returns-in-Ok-clause-did : goal.returns-in-Ok-clause-did
+returns-in-Ok-clause-did g c = λ told shelf.
+    let same = c.in-Ok.ensures.asked in
+    subst (λ (t : TaskParts). DidOn (task_course (g.S.Shelf.paths c.args.shelf.now) c.args.now t) (g.D.Disk.files c.args.disk) c.change.result.0.why
+    (outputs g.O.Sink.tells (g.O.Sink.taken (inner c.args.out.now)) g.E.Sink.tells (g.E.Sink.taken (inner c.args.err.now)))
+    (outputs g.O.Sink.tells (g.O.Sink.taken (inner c.change.new.out)) g.E.Sink.tells (g.E.Sink.taken (inner c.change.new.err)))) same
+    (c.change.ensures.went told (λ reads. shelf (sym (ap reads_shelf same) ∙ reads)))
+
+pub returns-in-Ok-clause-changed : goal.returns-in-Ok-clause-changed
+returns-in-Ok-clause-changed g c = λ told shelf.
+    let same = c.in-Ok.ensures.asked in
+    subst (λ (t : TaskParts). ChangesBy g.D.Disk.files g.D.Disk.left_since g.D.Disk.moment
+    (task_course (g.S.Shelf.paths c.args.shelf.now) c.args.now t) c.change.result.0.why c.change.result.0.changes c.args.disk c.change.result.1) same
+    (c.change.ensures.changed told (λ reads. shelf (sym (ap reads_shelf same) ∙ reads)))
+
+pub returns-in-Ok-clause-shelf_unread : goal.returns-in-Ok-clause-shelf_unread
+returns-in-Ok-clause-shelf_unread g c = λ reads. c.change.ensures.shelf_unread (ap reads_shelf c.in-Ok.ensures.asked ∙ reads)
+
+pub returns-in-Err-clause-did : goal.returns-in-Err-clause-did
+returns-in-Err-clause-did g c = λ told shelf.
+    rw c.unchanged.ensures (unstarted_did (asked_course (g.S.Shelf.paths c.args.shelf.now) c.args.now c.args.words.now c.args.ask.now)
+    (g.D.Disk.files c.args.disk)
+    (outputs g.O.Sink.tells (g.O.Sink.taken (inner c.args.out.now)) g.E.Sink.tells (g.E.Sink.taken (inner c.args.err.now))))
+
+pub returns-in-Err-clause-changed : goal.returns-in-Err-clause-changed
+returns-in-Err-clause-changed g c = λ told shelf.
+    rw c.unchanged.ensures (unstarted_changes g.D.Disk.files g.D.Disk.left_since g.D.Disk.moment
+    (asked_course (g.S.Shelf.paths c.args.shelf.now) c.args.now c.args.words.now c.args.ask.now) c.args.disk)

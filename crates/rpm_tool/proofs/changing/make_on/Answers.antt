@@ -1,0 +1,20 @@
+use Rattle.std.proofs.Common.{refl, []}
+use Rattle.rpm_change.specs.Endings.{outputs}
+use Rattle.rpm_change.specs.Steps.{idle}
+use Rattle.rpm_tool.proofs.Unmade.{through_none}
+use Rattle.rpm_tool.proofs.Works.{open_worked, done_worked}
+use Rattle.rpm_tool.proofs.changing.make_on.Goals as goal
+
+pub returns-clause-worked : goal.returns-clause-worked
+returns-clause-worked g c = λ told out_tells err_tells out err.
+    let x = outputs out_tells out err_tells err in
+    let old = g.D.Disk.files c.args.disk.now in
+    let new = g.D.Disk.files c.open_to_change.new.disk in
+    done_worked (λ s. idle) old new new c.in-Ok.db c.in-Ok.db x x (record { failed = 0; changes = 0 }) (c.in-Ok.ensures.opened told) (c.in-Ok.ensures.serving told).keeps
+    (record { steps = through_none x; failed = refl; changes = refl; state_is = refl }) (λ lawful. tt) (c.in-Ok.ensures.rows told)
+
+pub returns-in-Err-clause-worked : goal.returns-in-Err-clause-worked
+returns-in-Err-clause-worked g c = λ told out_tells err_tells out err.
+    let x = outputs out_tells out err_tells err in
+    open_worked (λ s. idle) (g.D.Disk.files c.args.disk.now) (g.D.Disk.files c.open_to_change.new.disk) c.in-Err.why x x
+    (c.in-Err.ensures.opened told) (through_none x)

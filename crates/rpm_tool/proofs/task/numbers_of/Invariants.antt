@@ -1,0 +1,12 @@
+use Rattle.std.proofs.Common.{◌≡◌, ◌≤◌, ◌++◌, length, drop}
+use Rattle.std.specs.List.{filter_map}
+use Rattle.rpm_words.specs.Number.{number}
+use Rattle.rpm_words.specs.Words.{text_at}
+use Rattle.rpm_tool.proofs.task.numbers_of.Given as goal
+
+abbrev pub invariant-loop-k : goal.invariant-loop-k
+invariant-loop-k l = record {
+  numbers : l.numbers.items ++ filter_map (λ w. number (text_at l.words w)) (drop l.k l.ask.arguments)
+      ≡ filter_map (λ w. number (text_at l.words w)) l.ask.arguments;
+  few : length l.numbers.items ≤ l.k;
+}

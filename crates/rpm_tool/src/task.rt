@@ -1,0 +1,76 @@
+//! What a command changes, by its words.
+
+ghost use Rattle.std.specs.Prelude.{◌≡◌, ℕ, ◌+◌, ◌<◌, ◌≤◌, ◌^◌, [], ◌∷◌, ◌++◌, length, IfOk, OnOk};
+ghost use Rattle.std.specs.List.{filter_map};
+ghost use Rattle.rpm_words.specs.Number.{number};
+ghost use Rattle.rpm_tool.specs.Asked.{is_changing, is_changing_in};
+ghost use Rattle.rpm_tool.specs.Tasks.{TaskParts, task_parts, numbers_asked, asked_task, IsCountable};
+
+use rpm_words::{Ask, Mode, Words, number_of};
+use std::alloc::{AllocError, Global};
+
+/// What a command changes, with what it is asked.
+#[derive(Debug, Drop)]
+pub enum Task {
+    /// It makes a database where there is none.
+    Make,
+    /// It erases the packages of these numbers.
+    Erase(Vec<u32>),
+}
+
+/// Whether a command of this mode changes packages, or makes the database.
+fn is_changing_in(mode: Mode) -> bool
+    ensures { result ≡ is_changing_in mode }
+{
+    match mode {
+        Mode::Initdb | Mode::Erasepkg => true,
+        _ => false,
+    }
+}
+
+/// Whether a command changes packages, or makes the database.
+pub fn is_changing(ask: &Ask) -> bool
+    ensures { result ≡ is_changing ask.now }
+{
+    is_changing_in(ask.mode())
+}
+
+/// Puts the number behind the others that a text is, where it is one.
+fn push_number(numbers: &mut Vec<u32>, text: &str) -> Result<(), AllocError>
+    ensures items { OnOk result (numbers.new.items ≡ numbers.old.items ++ filter_map number (text.now ∷ [])) }
+    ensures few { OnOk result (length numbers.new.items ≤ length numbers.old.items + 1) }
+{
+    match number_of(text) {
+        Some(number) => {
+            numbers.push(number)?;
+            Ok(())
+        }
+        None => Ok(()),
+    }
+}
+
+/// The arguments that are numbers: all, where the words break no rule.
+fn numbers_of(alloc: Global, words: &Words, ask: &Ask) -> Result<Vec<u32>, AllocError>
+    ensures numbers { IfOk result (λ v. v.items ≡ numbers_asked words.now ask.now) }
+    ensures few { IfOk result (λ v. length v.items < 2 ^ 32) }
+{
+    let mut numbers = Vec::new(alloc);
+    for k in 0..ask.arguments() {
+        push_number(&mut numbers, words.text_at(ask.argument(k)))?;
+    }
+    Ok(numbers)
+}
+
+/// What a command changes that changes anything.
+pub fn task_of(alloc: Global, words: &Words, ask: &Ask) -> Result<Task, AllocError>
+    ensures asked { IfOk result (λ task. task_parts task ≡ asked_task words.now ask.now) }
+    ensures countable { IfOk result (λ task. IsCountable (task_parts task)) }
+{
+    match ask.mode() {
+        Mode::Erasepkg => match numbers_of(alloc, words, ask) {
+            Ok(numbers) => Ok(Task::Erase(numbers)),
+            Err(AllocError) => Err(AllocError),
+        },
+        _ => Ok(Task::Make),
+    }
+}
