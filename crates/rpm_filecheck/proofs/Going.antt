@@ -1,0 +1,39 @@
+-- Going through the packages by their numbers.
+use Rattle.std.proofs.Common.{◌≡◌, ℕ, List, ◌∷◌, [], true, false, Option, Some, None, is_some, refl, sym, ap, ◌∙◌}
+use Rattle.std.specs.Ordering.{nat_cmp}
+use Rattle.std.specs.FinMap as finite
+use Rattle.rpm_outside.specs.Files.{Units}
+use Rattle.rpm_db.specs.State.{Package, packages, above}
+use Rattle.rpm_db.specs.Database.{Database, IsNext, holds}
+use Rattle.rpm_db.specs.inner.Above.{next_above, nothing_above, all_above_zero}
+use Rattle.rpm_db.specs.inner.Laws.{is_there}
+use Rattle.rpm_filecheck.specs.inner.Gathered.{Found, with_some, with_packages}
+
+some_is : (o : Option Package) → is_some o ≡ true → (p : Package) × (o ≡ Some p)
+some_is None some = absurd cc
+some_is (Some p) some = (p, refl)
+
+none_is : (o : Option Package) → is_some o ≡ false → o ≡ None
+none_is None none = refl
+none_is (Some p) none = absurd cc
+
+-- one package more
+pub next_found : (map : finite.FinMap nat_cmp Package) (n m : ℕ) (old new all : Found) → IsNext (λ k. is_some (finite.get map k)) n (Some m)
+    → with_packages (above n (finite.entries map)) old ≡ all → new ≡ with_some m (finite.get map m) old
+    → with_packages (above m (finite.entries map)) new ≡ all
+next_found map n m old new all next was is =
+    let p = some_is (finite.get map m) next.1 in
+    let left = next_above map n m p.0 next.0 p.1 (λ k a b. none_is (finite.get map k) (next.2 k a b)) in
+    ap (λ (f : Found). with_packages (above m (finite.entries map)) f) (is ∙ ap (λ (o : Option Package). with_some m o old) p.1)
+    ∙ sym (ap (λ (es : List (ℕ × Package)). with_packages es old) left) ∙ was
+
+-- none is left
+pub last_found : (map : finite.FinMap nat_cmp Package) (n : ℕ) (found all : Found) → IsNext (λ k. is_some (finite.get map k)) n None
+    → with_packages (above n (finite.entries map)) found ≡ all → found ≡ all
+last_found map n found all none was =
+    sym (ap (λ (es : List (ℕ × Package)). with_packages es found) (nothing_above map n (λ k lt. none_is (finite.get map k) (none k lt)))) ∙ was
+
+-- none has the number 0
+pub from_one : (file : Units) (db : Database) → holds 0 db ≡ false
+    → above 0 (finite.entries (packages file db.store)) ≡ finite.entries (packages file db.store)
+from_one file db none = all_above_zero (packages file db.store) (none_is (finite.get (packages file db.store) 0) (is_there file db 0 ∙ none))

@@ -1,0 +1,71 @@
+use Rattle.std.proofs.Common.{◌≡◌, ℕ, List, ap, ◌∙◌, arith, subst, Some, None}
+use Rattle.std.specs.FinMap as finite
+use Rattle.rpm_outside.specs.Files.{Files}
+use Rattle.rpm_outside.specs.inner.Looking.{looks_none, looks_then, looks_more}
+use Rattle.rpm_outside.specs.declared.disk.File.TheVariants.{Pkg}
+use Rattle.rpm_db.specs.Database.{cost, cost_to, cost_all}
+use Rattle.rpm_db.specs.State.{Package, packages, above}
+use Rattle.rpm_db.specs.inner.Laws.{cost_more, cost_some}
+use Rattle.rpm_filecheck.specs.inner.Gathered.{Found, nothing, with_some, with_packages}
+use Rattle.rpm_filecheck.proofs.Going.{next_found, last_found, from_one}
+use Rattle.rpm_filecheck.proofs.gathering.gather.Goals as goal
+
+pub loop-number-init : goal.loop-number-init
+loop-number-init g c =
+    let db = c.args.db.now in
+    let file = (g.D.Disk.files c.args.disk.now).pkg in
+    record {
+      keeps = c.requires.keeps;
+      looks =
+          looks_more g.D.Disk.tells g.D.Disk.files g.D.Disk.left_since g.D.Disk.moment g.D.Disk.bytes_read g.D.Disk.follows Pkg 0
+          (cost_to 0 db) c.args.disk.now c.args.disk.now (omega arith)
+          (looks_none g.D.Disk.tells g.D.Disk.files g.D.Disk.left_since g.D.Disk.moment g.D.Disk.bytes_read g.D.Disk.follows Pkg g.met.D.Disk.follows_refl
+          c.args.disk.now);
+      faults = omega arith;
+      same = λ told.
+          ap (λ (f : Found). with_packages (above 0 (finite.entries (packages file db.store))) f) c.new-found.ensures
+          ∙ ap (λ (es : List (ℕ × Package)). with_packages es nothing) (from_one file db c.requires.from_one);
+    }
+
+pub loop-number-preserved : goal.loop-number-preserved
+loop-number-preserved g c =
+    let db = c.args.db.now in
+    let k = c.loop-number.passed in
+    let m = c.in-Some.number in
+    let inv = c.loop-number.invariant in
+    let e = c.in-Ok.ensures in
+    let file = (g.D.Disk.files c.args.disk.now).pkg in
+    record {
+      keeps = e.kept;
+      looks =
+          looks_then g.D.Disk.tells g.D.Disk.files g.D.Disk.left_since g.D.Disk.moment g.D.Disk.bytes_read g.D.Disk.follows Pkg g.met.D.Disk.follows_trans
+          (cost_to k db) (cost m db) (cost_to m db) c.args.disk.now c.loop-number.disk c.add_package.new.disk
+          (omega (arith, cost_more db k m c.in-Some.ensures.next.0)) inv.looks e.looks;
+      faults = omega (arith, inv.faults, e.cause.later);
+      same = λ told. next_found (packages file db.store) k m c.loop-number.found c.add_package.new.found
+          (with_packages (finite.entries (packages file db.store)) nothing) (c.in-Some.ensures.told file) (inv.same told)
+          (subst (λ (f : Files). c.add_package.new.found ≡ with_some m (finite.get (packages f.pkg db.store) m) c.loop-number.found)
+          (inv.looks.untouched told).same (e.found told));
+    }
+
+pub returns-in-Err-clause-looks : goal.returns-in-Err-clause-looks
+returns-in-Err-clause-looks g c =
+    let db = c.args.db.now in
+    let m = c.in-Some.number in
+    looks_then g.D.Disk.tells g.D.Disk.files g.D.Disk.left_since g.D.Disk.moment g.D.Disk.bytes_read g.D.Disk.follows Pkg g.met.D.Disk.follows_trans
+    (cost_to c.loop-number.passed db) (cost m db) (cost_all db) c.args.disk.now c.loop-number.disk c.add_package.new.disk
+    (omega (arith, cost_more db c.loop-number.passed m c.in-Some.ensures.next.0, cost_some db m)) c.loop-number.invariant.looks c.in-Err.ensures.looks
+
+pub returns-clause-looks : goal.returns-clause-looks
+returns-clause-looks g c =
+    let db = c.args.db.now in
+    looks_more g.D.Disk.tells g.D.Disk.files g.D.Disk.left_since g.D.Disk.moment g.D.Disk.bytes_read g.D.Disk.follows Pkg
+    (cost_to c.loop-number.passed db) (cost_all db) c.args.disk.now c.loop-number.disk
+    (omega (arith, cost_some db c.loop-number.passed)) c.loop-number.invariant.looks
+
+pub returns-clause-found : goal.returns-clause-found
+returns-clause-found g c = λ told.
+    let db = c.args.db.now in
+    let file = (g.D.Disk.files c.args.disk.now).pkg in
+    last_found (packages file db.store) c.loop-number.passed c.loop-number.found (with_packages (finite.entries (packages file db.store)) nothing)
+    (c.in_default.ensures.told file) (c.loop-number.invariant.same told)

@@ -1,0 +1,103 @@
+-- The paths that several packages own and that differ.
+use Rattle.std.specs.Prelude.{◌≡◌, ℕ, List, [], ◌∷◌, map, codes, Option, Some, None, Result, Ok, Err}
+use Rattle.std.specs.List.{flat_map}
+use Rattle.std.specs.Option.{option_and_then}
+use Rattle.std.specs.declared.cmp.Ordering.{Ordering}
+use Rattle.std.specs.Ordering.{nat_cmp}
+use Rattle.std.specs.Cmp.Lexicographic.{slice_cmp}
+use Rattle.std.specs.FinMap.{FinMap, entries, from_entries, find, get}
+use Rattle.rpm_header.specs.declared.form.HeaderFault.{HeaderFault}
+use Rattle.rpm_header.specs.Header.{Header, header}
+use Rattle.rpm_tags.specs.declared.tag.Tag.TheVariants.{Nvra}
+use Rattle.rpm_tags.specs.Value.{Elements, TextList, value}
+use Rattle.rpm_db.specs.State.{Package, Good, Bad}
+use Rattle.rpm_filecheck.specs.Files.{Facts, OwnFile, files, said_of}
+use Rattle.rpm_filecheck.specs.Owners.{Owner, Conflict, conflicts_on}
+
+-- ---- who owns what
+
+abbrev pub files_read : Result Header HeaderFault → List OwnFile
+files_read (Ok h) = files h
+files_read (Err fault) = []
+
+-- a Bad package has no files
+abbrev pub files_of : Package → List OwnFile
+files_of (Good bytes) = files_read (header bytes)
+files_of Bad = []
+
+abbrev pub as_owner : ℕ → Option Facts → List Owner
+as_owner n None = []
+as_owner n (Some facts) = record { number = n; facts = facts } ∷ []
+
+-- a package, where it has the path
+abbrev pub owner_of : List ℕ → ℕ × Package → List Owner
+owner_of path (n, p) = as_owner n (said_of path (files_of p))
+
+-- of these packages, one after the other
+abbrev pub owners : List ℕ → List (ℕ × Package) → List Owner
+owners path es = flat_map (owner_of path) es
+
+abbrev pub own_paths : ℕ × Package → List (List ℕ)
+own_paths (n, p) = map (λ f. f.path) (files_of p)
+
+abbrev pub all_paths : List (ℕ × Package) → List (List ℕ)
+all_paths es = flat_map own_paths es
+
+-- byte by byte
+abbrev pub path_order : List ℕ → List ℕ → Ordering
+path_order = slice_cmp nat_cmp
+
+-- each path, with its owners by rising number
+unfoldable pub owned : FinMap nat_cmp Package → FinMap path_order (List Owner)
+owned packages = from_entries (map (λ path. (path, owners path (entries packages))) (all_paths (entries packages)))
+
+-- by path, then by the first number, then by the second
+unfoldable pub conflicts : FinMap nat_cmp Package → List Conflict
+conflicts packages = flat_map (λ e. conflicts_on e.0 e.1) (entries (owned packages))
+
+-- ---- what goes with them
+
+abbrev pub bad_of : ℕ × Package → List ℕ
+bad_of (n, Good bytes) = []
+bad_of (n, Bad) = n ∷ []
+
+-- the numbers of the packages that can't be read, rising
+unfoldable pub bad : FinMap nat_cmp Package → List ℕ
+bad packages = flat_map bad_of (entries packages)
+
+-- the first text of a value, as a format without width prints it
+abbrev pub printed : Option Elements → List ℕ
+printed (Some (TextList (text ∷ texts))) = text
+printed _ = codes "(none)"
+
+abbrev pub label : Header → List ℕ
+label h = printed (value h 0 Nvra)
+
+abbrev pub label_read : Result Header HeaderFault → Option (List ℕ)
+label_read (Ok h) = Some (label h)
+label_read (Err fault) = None
+
+abbrev pub label_of : Package → Option (List ℕ)
+label_of (Good bytes) = label_read (header bytes)
+label_of Bad = None
+
+-- the label of a number, where its package can be read
+abbrev pub label_at : FinMap nat_cmp Package → ℕ → Option (List ℕ)
+label_at packages n = option_and_then label_of (get packages n)
+
+-- ---- all of it
+
+-- the conflicts, the numbers that can't be read, and the labels by number
+pub record Report : Type 0 where
+  pub conflicts : List Conflict
+  pub bad : List ℕ
+  pub labels : List (ℕ × List ℕ)
+
+-- what a report has as the label of a number
+abbrev pub told_label : Report → ℕ → Option (List ℕ)
+told_label r n = find nat_cmp n r.labels
+
+pub record IsReport (packages : FinMap nat_cmp Package) (report : Report) : Type 0 where
+  pub conflicts_are : report.conflicts ≡ conflicts packages
+  pub bad_are : report.bad ≡ bad packages
+  pub labels_are : (n : ℕ) → told_label report n ≡ label_at packages n

@@ -1,0 +1,72 @@
+-- What a header says of its files.
+use Rattle.std.specs.Prelude.{ℕ, List, [], ◌∷◌, drop, Option, Some, None, if◌then◌else◌}
+use Rattle.std.specs.Str.{bytes_eq}
+use Rattle.rpm_header.specs.Header.{Header}
+use Rattle.rpm_tags.specs.declared.tag.Tag.TheVariants.{Filenames}
+use Rattle.rpm_tags.specs.Value.{Elements, text_list, texts_in, numbers_in, value}
+use Rattle.rpm_tags.specs.Wanted.{listed, first_or}
+
+abbrev pub FILEMODES : ℕ
+FILEMODES = 1030
+
+abbrev pub FILEDIGESTS : ℕ
+FILEDIGESTS = 1035
+
+abbrev pub FILELINKTOS : ℕ
+FILELINKTOS = 1036
+
+abbrev pub FILEFLAGS : ℕ
+FILEFLAGS = 1037
+
+-- of one file
+pub record Facts : Type 0 where
+  pub mode : ℕ
+  pub digest : List ℕ
+  pub link : List ℕ
+  pub flags : ℕ
+
+pub record OwnFile : Type 0 where
+  pub path : List ℕ
+  pub facts : Facts
+
+-- the lists that stand beside the paths
+pub record Columns : Type 0 where
+  pub modes : List ℕ
+  pub digests : List (List ℕ)
+  pub links : List (List ℕ)
+  pub flags : List ℕ
+
+-- a tag that is missing or of another class has no element
+unfoldable pub columns : Header → Columns
+columns h =
+    record {
+      modes = listed (numbers_in h FILEMODES);
+      digests = listed (texts_in h FILEDIGESTS);
+      links = listed (texts_in h FILELINKTOS);
+      flags = listed (numbers_in h FILEFLAGS);
+    }
+
+-- the first of each, or 0 and the empty text
+abbrev pub first_facts : Columns → Facts
+first_facts c =
+    record { mode = first_or 0 c.modes; digest = first_or [] c.digests; link = first_or [] c.links; flags = first_or 0 c.flags }
+
+abbrev pub rest_of : Columns → Columns
+rest_of c = record { modes = drop 1 c.modes; digests = drop 1 c.digests; links = drop 1 c.links; flags = drop 1 c.flags }
+
+-- each path with the facts at its place
+abbrev pub beside : List (List ℕ) → Columns → List OwnFile
+beside [] c = []
+beside (path ∷ paths) c = record { path = path; facts = first_facts c } ∷ beside paths (rest_of c)
+
+abbrev pub texts_of : Option Elements → List (List ℕ)
+texts_of None = []
+texts_of (Some v) = text_list v
+
+unfoldable pub files : Header → List OwnFile
+files h = beside (texts_of (value h 0 Filenames)) (columns h)
+
+-- what is said of a path: the facts at the first place that has it
+abbrev pub said_of : List ℕ → List OwnFile → Option Facts
+said_of path [] = None
+said_of path (f ∷ fs) = if bytes_eq path f.path then Some f.facts else said_of path fs

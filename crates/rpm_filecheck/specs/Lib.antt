@@ -1,0 +1,4 @@
+pub mod Conflicts
+pub mod Files
+pub mod Owners
+pub mod inner

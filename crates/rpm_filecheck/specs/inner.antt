@@ -1,0 +1,2 @@
+-- What the code gathers on its way.
+pub mod Gathered

@@ -1,0 +1,75 @@
+-- The owners of all paths, one package after the other.
+use Rattle.std.specs.Prelude.{ℕ, ◌==◌, List, [], ◌∷◌, ◌++◌, Option, Some, None, Result, Ok, Err, if◌then◌else◌, Vec}
+use Rattle.std.specs.declared.alloc.Global.{Global}
+use Rattle.std.specs.declared.cmp.Ordering.{Ordering}
+use Rattle.std.specs.Ordering.{nat_cmp}
+use Rattle.std.specs.FinMap.{find, put}
+use Rattle.rpm_header.specs.declared.form.HeaderFault.{HeaderFault}
+use Rattle.rpm_header.specs.Header.{Header, header}
+use Rattle.rpm_db.specs.State.{Package, Good, Bad}
+use Rattle.rpm_filecheck.specs.Conflicts.{path_order, label}
+use Rattle.rpm_filecheck.specs.Files.{OwnFile, files}
+use Rattle.rpm_filecheck.specs.Owners.{Owner}
+
+abbrev pub key_order : Vec ℕ Global → Vec ℕ Global → Ordering
+key_order x y = path_order x.items y.items
+
+-- of some owners the number of the last, behind this one
+abbrev pub last_from : ℕ → List Owner → ℕ
+last_from n [] = n
+last_from n (o ∷ os) = last_from o.number os
+
+-- one more behind them, but for a second place in the package of the last
+abbrev pub joined : List Owner → Owner → List Owner
+joined os o = if last_from 0 os == o.number then os else os ++ o ∷ []
+
+abbrev pub joined_to : Option (List Owner) → Owner → List Owner
+joined_to None o = o ∷ []
+joined_to (Some os) o = joined os o
+
+abbrev pub Paths : Type 0
+Paths = List (List ℕ × List Owner)
+
+abbrev pub with_owner : List ℕ → Owner → Paths → Paths
+with_owner path o es = put path_order path (joined_to (find path_order path es) o) es
+
+-- with the files of a package
+abbrev pub with_files : ℕ → List OwnFile → Paths → Paths
+with_files n [] es = es
+with_files n (f ∷ fs) es = with_files n fs (with_owner f.path (record { number = n; facts = f.facts }) es)
+
+-- ---- of all packages so far
+
+abbrev pub Labels : Type 0
+Labels = List (ℕ × List ℕ)
+
+pub record Found : Type 0 where
+  pub paths : Paths
+  pub labels : Labels
+  pub bad : List ℕ
+
+abbrev pub nothing : Found
+nothing = record { paths = []; labels = []; bad = [] }
+
+abbrev pub with_header : ℕ → Header → Found → Found
+with_header n h f = record { paths = with_files n (files h) f.paths; labels = put nat_cmp n (label h) f.labels; bad = f.bad }
+
+abbrev pub with_bad : ℕ → Found → Found
+with_bad n f = record { paths = f.paths; labels = f.labels; bad = f.bad ++ n ∷ [] }
+
+abbrev pub with_read : ℕ → Result Header HeaderFault → Found → Found
+with_read n (Ok h) f = with_header n h f
+with_read n (Err fault) f = f
+
+abbrev pub with_package : ℕ → Package → Found → Found
+with_package n (Good bytes) f = with_read n (header bytes) f
+with_package n Bad f = with_bad n f
+
+abbrev pub with_some : ℕ → Option Package → Found → Found
+with_some n None f = f
+with_some n (Some p) f = with_package n p f
+
+-- one after the other
+abbrev pub with_packages : List (ℕ × Package) → Found → Found
+with_packages [] f = f
+with_packages (e ∷ es) f = with_packages es (with_package e.0 e.1 f)

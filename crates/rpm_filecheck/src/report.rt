@@ -1,0 +1,106 @@
+//! The report of all conflicts.
+
+ghost use Rattle.std.specs.Prelude.{◌≡◌, ◌<◌, [], IsTrue, false, Some, Err, IfOk, length, slice_get, unwrap_or};
+ghost use Rattle.rpm_outside.specs.Causes.{HasCauseAt};
+ghost use Rattle.rpm_outside.specs.declared.disk.File.TheVariants.{Pkg};
+ghost use Rattle.rpm_outside.specs.Looks.{Looks};
+ghost use Rattle.rpm_db.specs.State.{packages};
+ghost use Rattle.rpm_db.specs.Database.{Keeps, holds, cost_all};
+ghost use Rattle.rpm_filecheck.specs.Conflicts.{IsReport, told_label};
+
+use crate::conflict::Conflict;
+use crate::fault::FileCheckFault;
+use crate::found::Found;
+use crate::gathering::gather;
+use crate::labels::Labels;
+use rpm_db::Db;
+use rpm_outside::Disk;
+use std::alloc::Global;
+use std::marker::Model;
+
+/// The conflicts of all packages, by path, then by the lesser number, then by the greater one; the numbers of the packages that can't be
+/// read; and the labels of the others.
+#[derive(Drop)]
+pub struct ConflictList {
+    conflicts: Vec<Conflict>,
+    bad: Vec<u32>,
+    labels: Labels,
+}
+
+impl Model for ConflictList {
+    ghost use Rattle.rpm_filecheck.specs.Conflicts as model;
+
+    ghost Value = { model.Report };
+
+    ghost view = { λ s. record { conflicts = s.conflicts.items; bad = s.bad.items; labels = s.labels } };
+}
+
+impl ConflictList {
+    /// How many conflicts there are.
+    pub fn len(&self) -> usize
+        ensures { result ≡ length self.now.conflicts }
+    {
+        self.conflicts.len()
+    }
+
+    /// The conflict at a place, from 0.
+    pub fn at(&self, i: usize) -> &Conflict
+        requires { i < length self.now.conflicts }
+        ensures { slice_get self.now.conflicts i ≡ Some result.now }
+    {
+        &self.conflicts[i]
+    }
+
+    /// The numbers of the packages that can't be read, rising.
+    pub fn bad(&self) -> &[u32]
+        ensures { result.now ≡ self.now.bad }
+    {
+        &self.bad
+    }
+
+    /// The label of a number, as the format `%{NVRA}` prints it. Of a number whose package can't be read or isn't there, which stands in
+    /// no conflict, it is empty.
+    pub fn label(&self, number: u32) -> &[u8]
+        ensures { result.now ≡ unwrap_or (told_label self.now number) [] }
+    {
+        self.labels.get(number)
+    }
+}
+
+/// The paths that several packages own and that differ: in the mode, in the digest or in what they link to. Two directories may share a
+/// path, and so may a ghost with any other. Of a path that a package has twice its first place counts.
+///
+/// Reads the blocks of each package, once. Takes memory for each path once and for what each package says of it, and n log n steps in the
+/// files, besides one for every two owners of a path.
+///
+/// # Errors
+///
+/// - `DiskFault` only where the disk's count of faults rose.
+/// - `NoMemory` where a package or what it says finds no memory.
+pub fn conflicts<D: Disk>(
+    alloc: Global,
+    db: &Db,
+    disk: &mut D,
+) -> Result<ConflictList, FileCheckFault>
+    requires keeps { IsTrue D.tells → Keeps (D.files disk.old).pkg db.now }
+    requires runs { db.now.stopped ≡ false }
+    requires from_one { holds 0 db.now ≡ false }
+    ensures kept { IsTrue D.tells → Keeps (D.files disk.new).pkg db.now }
+    ensures told { IfOk result (λ report. IsTrue D.tells → IsReport (packages (D.files disk.old).pkg db.now.store) report) }
+    ensures looks { Looks D.tells D.files D.left_since D.moment D.bytes_read D.follows Pkg (cost_all db.now) disk.old disk.new }
+    ensures cause { HasCauseAt (result ≡ Err FileCheckFault.DiskFault) (D.faults disk.old) (D.faults disk.new) }
+{
+    let found = match gather(alloc, db, disk) {
+        Ok(found) => found,
+        Err(fault) => return Err(fault),
+    };
+    let Found { owned, labels, bad } = found;
+    match owned.conflicts(alloc) {
+        Ok(conflicts) => Ok(ConflictList {
+            conflicts,
+            bad,
+            labels,
+        }),
+        Err(_) => Err(FileCheckFault::NoMemory),
+    }
+}
