@@ -1,5 +1,5 @@
 -- The changes of a command as one group: what they leave of a disk that was recovered.
-use Rattle.std.proofs.Common.{◌≡◌, ℕ, true, eqb, Result, Ok, Err, refl, sym, ap, ◌∙◌, subst, inl, inr, arith}
+use Rattle.std.proofs.Common.{◌≡◌, ℕ, Bool, true, false, eqb, Result, Ok, Err, refl, sym, ap, ◌∙◌, subst, inl, inr, arith}
 use Rattle.std.specs.Prelude.{IfOk}
 use Rattle.std.proofs.lemmas.Bool.{and_parts, eqb-true}
 use Rattle.rpm_outside.specs.declared.disk.File.TheVariants.{Log}
@@ -19,8 +19,8 @@ use Rattle.rpm_change.specs.Steps.{Course}
 use Rattle.rpm_change.specs.Endings.{Outputs}
 use Rattle.rpm_tool.specs.declared.answer.Why.{Why}
 use Rattle.rpm_tool.specs.Keyed.{IsLawfulGroup, AreLawfulGroups, StandsStill, is_done}
-use Rattle.rpm_tool.specs.Changing.{DidOpened, DidLoaded, DidOn, HasState, HasCurrent, IsSealed, StandsStillOr, LeavesState, FullOn, ChangesBy, after, is_of_lawful}
-use Rattle.rpm_tool.specs.Working.{Worked, WorkedOn, WorkedBy, EndsGroup, GroupLeaves}
+use Rattle.rpm_tool.specs.Changing.{DidOpened, DidLoaded, DidOn, HasState, HasCurrent, IsSealed, StandsStillOr, LeavesState, FullBy, ChangesWith, MayBegin, after, is_of_lawful}
+use Rattle.rpm_tool.specs.Working.{WorkedWith, WorkedOn, WorkedBy, EndsGroup, GroupLeaves}
 use Rattle.rpm_tool.proofs.Ended.{did_opened, done_ok, counted_ended, full_ended, leaves_ended, same_state, worked_state}
 use Rattle.rpm_tool.proofs.Leavings.{leaves_after, lawful_ending}
 
@@ -30,6 +30,15 @@ if_ok (Err e) each = tt
 
 pub if_ok_at : {T E : Type 0} (P : T → Type 0) (x : Result T E) (t : T) → x ≡ Ok t → IfOk x P → P t
 if_ok_at P x t is each = subst (λ (y : _). IfOk y P) is each
+
+-- what is asked of the files at the start, and of a part of them
+pub begins : {Lawful : Type 0} (anew : Bool) → Lawful → MayBegin anew Lawful
+begins true lawful = tt
+begins false lawful = lawful
+
+pub may_begin : {A B : Type 0} (anew : Bool) → (A → B) → MayBegin anew A → MayBegin anew B
+may_begin true f may = tt
+may_begin false f may = f may
 
 -- files with a closed log stand for themselves
 pub shut_stands : (files : Files) → log_state files.log ≡ Closed → reopened files ≡ unlogged files
@@ -61,10 +70,10 @@ stands_lawful files image stands lawful = record {
   lawful = subst (λ (f : Files). IsLawful f.pkg f.idx) (sym stands.same) lawful;
 }
 
-module _ {D : Type 0} (files : D → Files) (left_since : D → ℕ → Files → Type 0) (moment : D → ℕ) (course : State → Course) (ended : Result Tally Why)
-    (given : Why) (n : ℕ) (first last final : D) (new : Files) (before now : Outputs)
+module _ {D : Type 0} {anew : Bool} (files : D → Files) (left_since : D → ℕ → Files → Type 0) (moment : D → ℕ) (course : State → Course)
+    (ended : Result Tally Why) (given : Why) (n : ℕ) (first last final : D) (new : Files) (before now : Outputs)
     (closed : log_state (files first).log ≡ Closed)
-    (worked : Worked course (with_file Log (files first).log (reopened (files first))) new ended before now)
+    (worked : WorkedWith anew course (with_file Log (files first).log (reopened (files first))) new ended before now)
     (ends : EndsGroup files left_since moment ended given n (unlogged new) last final) where
   abbrev r : Files
   r = reopened (files first)
@@ -95,28 +104,29 @@ module _ {D : Type 0} (files : D → Files) (left_since : D → ℕ → Files �
         (λ no. final_stays (ends.stays no))
         (subst (λ (f : Files). GroupLeaves ended f (unlogged new) (files final)) start_is (ends.images.each (files final) as_read))
 
-    lawful_new : IsLawful r.pkg r.idx → (tally : Tally) → ended ≡ Ok tally → HasCurrent new.pkg new.idx
+    lawful_new : MayBegin anew (IsLawful r.pkg r.idx) → (tally : Tally) → ended ≡ Ok tally → HasCurrent new.pkg new.idx
     lawful_new lawful tally is = if_ok_at _ ended tally is (worked.index lawful)
 
-    group_sealed : IsLawfulGroup (files first) → is_done given ≡ true → IsSealed (files final)
-    group_sealed lawful is =
+    group_sealed : MayBegin anew (IsLawfulGroup (files first)) → is_done given ≡ true → IsSealed (files final)
+    group_sealed may is =
         let ok = done_ok course r.pkg (store r.pkg) new ended given n before now worked.went ends.says is in
         let end = ends.done is in
         record {
           closed = end.closed;
-          indexed = subst (λ (f : Files). HasCurrent f.pkg f.idx) (sym end.same) (lawful_new lawful.lawful ok.0 ok.1);
+          indexed = subst (λ (f : Files). HasCurrent f.pkg f.idx) (sym end.same) (lawful_new (may_begin anew (λ group. group.lawful) may) ok.0 ok.1);
         }
 
-    full_at : IsLawfulGroup (files first) → FullOn course r given
-    full_at lawful = if_ok (store r.pkg) (λ s is. full_ended _ _ (s0 s) (course (s0 s)).changes ended given n ends.says
-        (if_ok_at _ (store r.pkg) s is (worked.full lawful.lawful)))
+    full_at : MayBegin anew (IsLawfulGroup (files first)) → FullBy anew course r given
+    full_at may = if_ok (store r.pkg) (λ s is. full_ended _ _ (s0 s) (course (s0 s)).changes ended given n ends.says
+        (if_ok_at _ (store r.pkg) s is (worked.full (may_begin anew (λ group. group.lawful) may))))
 
     group_complete : IsLawfulGroup (files first) → is_of_lawful given ≡ true
     group_complete lawful =
         let is = lawful_store r.pkg r.idx lawful.lawful in
         let did = subst (λ (sr : Result Store Damage). DidOpened (λ s. course (state r.pkg s)) sr given before now) is.1
         (did_opened course r.pkg (store r.pkg) new ended given n before now worked.went ends.says) in
-        lawful_ending (course (s0 is.0)) _ _ (s0 is.0) (course (s0 is.0)).changes given before now did (if_ok_at _ (store r.pkg) is.0 is.1 (full_at lawful))
+        lawful_ending (course (s0 is.0)) _ _ (s0 is.0) (course (s0 is.0)).changes given before now did
+        (if_ok_at _ (store r.pkg) is.0 is.1 (full_at (begins anew lawful)))
 
     abbrev images : Files → Type 0
     images = left_since first (moment first)
@@ -141,7 +151,7 @@ module _ {D : Type 0} (files : D → Files) (left_since : D → ℕ → Files �
         WorkedOn (course (s0 s)) (s0 s) new e before now) how
         (subst (λ (sr : Result Store Damage). WorkedBy course r.pkg sr new ended before now) is worked.went) in
         inr (
-          stands_lawful (unlogged new) image left (current_lawful new.pkg new.idx (lawful_new lawful.lawful tally how)),
+          stands_lawful (unlogged new) image left (current_lawful new.pkg new.idx (lawful_new (begins anew lawful.lawful) tally how)),
           same_state (after course (s0 s)) (reopened image) new (ap (λ (f : Files). f.pkg) left.same) (worked_state course (s0 s) new tally before now done),
         )
 
@@ -158,7 +168,7 @@ module _ {D : Type 0} (files : D → Files) (left_since : D → ℕ → Files �
         (leaves_weaker moment left_since last final (GroupLeaves ended (unlogged (files last)) (unlogged new)) P
         (group_still (lawful (files first) here) s is ended refl) ends.images)
 
-    pub group_changes : ChangesBy files left_since moment course given n first final
+    pub group_changes : ChangesWith anew files left_since moment course given n first final
     group_changes = record {
       counted = counted_ended ended given n ends.says;
       leaves = if_ok (store r.pkg) leaves_at;

@@ -1,3 +1,4 @@
+mod Anew
 mod Answering
 mod Arguments
 mod Asking

@@ -14,8 +14,8 @@ use Rattle.rpm_change.specs.Steps.{Course}
 use Rattle.rpm_change.specs.Endings.{Outputs}
 use Rattle.rpm_tool.specs.declared.answer.Why.{Why}
 use Rattle.rpm_tool.specs.Answers.{why_of_load}
-use Rattle.rpm_tool.specs.Changing.{DidOn, ChangesBy}
-use Rattle.rpm_tool.specs.Working.{Worked, EndsGroup}
+use Rattle.rpm_tool.specs.Changing.{DidOn, ChangesWith}
+use Rattle.rpm_tool.specs.Working.{WorkedWith, EndsGroup}
 use Rattle.rpm_tool.proofs.Grouped.{group_did, group_changes}
 use Rattle.rpm_tool.proofs.Ends.{release_ends}
 use Rattle.rpm_tool.proofs.Unmade.{through_none, worked_none, load_halts}
@@ -33,8 +33,8 @@ module _ {D : Type 0} (tells : Bool) (files : D → Files) (left_since : D → �
   same : files last ≡ files first
   same = (looks.untouched told).same
 
-  worked : Worked course over over (Err given) x x
-  worked = worked_none course (log_state (files first).log) fault over over x x closed says (through_none x)
+  worked : (anew : Bool) → WorkedWith anew course over over (Err given) x x
+  worked anew = worked_none course (log_state (files first).log) fault over over x x closed says (through_none x)
 
   still : AreSettled (files last) (left_since last (moment last))
   still image left =
@@ -45,9 +45,10 @@ module _ {D : Type 0} (tells : Bool) (files : D → Files) (left_since : D → �
       (load_halts fault)
 
   pub unloaded_did : DidOn course (files first) given x x
-  unloaded_did = group_did files left_since moment course (Err given) given 0 first last last over x x closed worked ends
+  unloaded_did = group_did files left_since moment course (Err given) given 0 first last last over x x closed (worked false) ends
 
-  pub unloaded_changes : left_since first (moment first) (files first) → left_since last (moment last) (files last)
-      → ChangesBy files left_since moment course given 0 first last
-  unloaded_changes here there = group_changes files left_since moment course (Err given) given 0 first last last over x x closed worked ends same here settled
+  pub unloaded_changes : {anew : Bool} → left_since first (moment first) (files first) → left_since last (moment last) (files last)
+      → ChangesWith anew files left_since moment course given 0 first last
+  unloaded_changes {anew} here there = group_changes files left_since moment course (Err given) given 0 first last last over x x closed (worked anew) ends
+      same here settled
       (looks.untouched told).images looks.moment_stays there

@@ -1,5 +1,5 @@
 -- A command whose database isn't recovered, or isn't loaded: nothing was changed.
-use Rattle.std.proofs.Common.{◌≡◌, ◌⊎◌, ℕ, Bool, true, false, [], Result, Ok, Err, refl, sym, ap, ◌∙◌, subst, inl, inr, append-nil}
+use Rattle.std.proofs.Common.{◌≡◌, ℕ, Bool, true, false, [], Result, Ok, Err, refl, sym, ap, ◌∙◌, subst, inl, append-nil}
 use Rattle.rpm_outside.specs.Crash.{LeavesOnly}
 use Rattle.rpm_outside.specs.Files.{Units, Files}
 use Rattle.rpm_outside.specs.Logs.{LogState, Closed, Malformed, Open, log_state, reopened}
@@ -17,9 +17,9 @@ use Rattle.rpm_change.specs.Endings.{Outputs, Through, ThroughSome}
 use Rattle.rpm_tool.specs.declared.answer.Why.{Why}
 use Rattle.rpm_tool.specs.declared.answer.Why.TheVariants as why
 use Rattle.rpm_tool.specs.Answers.{why_of_load}
-use Rattle.rpm_tool.specs.Keyed.{AreLawfulGroups, is_done, why_of_recover}
-use Rattle.rpm_tool.specs.Changing.{Did, DidOpened, DidLoaded, DidOn, FullOn, ChangesBy, after}
-use Rattle.rpm_tool.specs.Working.{Stopped, Worked, WorkedBy, IsOutside, is_halt}
+use Rattle.rpm_tool.specs.Keyed.{why_of_recover}
+use Rattle.rpm_tool.specs.Changing.{DidOpened, DidLoaded, DidOn, ChangesWith, after}
+use Rattle.rpm_tool.specs.Working.{WorkedWith, WorkedBy, IsOutside, is_halt}
 use Rattle.rpm_tool.proofs.Grouped.{if_ok}
 use Rattle.rpm_tool.proofs.Regrouped.{recovering}
 
@@ -54,8 +54,8 @@ worked_memory course pkg (Ok s) new old now none = none_done (course (state pkg 
 worked_memory course pkg (Err d) new old now none = (tt, none)
 
 -- so nothing was done
-pub worked_none : (course : State → Course) (log : LogState) (fault : LoadFault) (old new : Files) (before now : Outputs) → log ≡ Closed
-    → LoadSays log (Err fault) → Through [] before now → Worked course old new (Err (why_of_load fault)) before now
+pub worked_none : {anew : Bool} (course : State → Course) (log : LogState) (fault : LoadFault) (old new : Files) (before now : Outputs) → log ≡ Closed
+    → LoadSays log (Err fault) → Through [] before now → WorkedWith anew course old new (Err (why_of_load fault)) before now
 worked_none course log (load.BadLog unit) old new before now closed says none = absurd (let wrong : Closed ≡ Malformed unit = sym closed ∙ says in cc)
 worked_none course log load.DiskFault old new before now closed says none = record {
   went = worked_fault course old.pkg (store old.pkg) new before now none;
@@ -115,8 +115,8 @@ module _ {D : Type 0} (files : D → Files) (left_since : D → ℕ → Files �
   abbrev past : Files → Type 0
   past = left_since old (moment old)
 
-  pub unrecovered_changes : (fault : RecoverFault) → RecoverSays (log_state (files old).log) (Err fault)
-      → ChangesBy files left_since moment course (why_of_recover fault) 0 old new
+  pub unrecovered_changes : {anew : Bool} (fault : RecoverFault) → RecoverSays (log_state (files old).log) (Err fault)
+      → ChangesWith anew files left_since moment course (why_of_recover fault) 0 old new
   unrecovered_changes (recover.BadLog unit) says = record {
     counted = λ no. refl;
     leaves = if_ok (store r.pkg) (λ s is. (

@@ -1,5 +1,5 @@
 -- From the opening of a database to the last change of a command.
-use Rattle.std.proofs.Common.{◌≡◌, ◌⊎◌, ℕ, ◌^◌, ◌≤◌, Bool, true, false, List, [], Result, Ok, Err, refl, sym, ap, ◌∙◌, subst, inl, inr}
+use Rattle.std.proofs.Common.{◌≡◌, ℕ, ◌^◌, ◌≤◌, Bool, true, false, List, [], Result, Ok, Err, refl, sym, ap, ◌∙◌, subst, inl, inr}
 use Rattle.rpm_outside.specs.Files.{Units, Files}
 use Rattle.rpm_pkgdb.specs.declared.slot.Damage.{Damage}
 use Rattle.rpm_pkgdb.specs.Store.{Store, store, in_file}
@@ -9,16 +9,16 @@ use Rattle.rpm_db.specs.Changes.{Change}
 use Rattle.rpm_db.specs.Database.{Database, IsIndexed}
 use Rattle.rpm_db.specs.Lawful.{IsLawful, HasRows}
 use Rattle.rpm_db.specs.Openings.{IsOpened, OpensAs, FullOpenIs, must_make, units_needed}
-use Rattle.rpm_db.specs.State.{State, state, packages}
+use Rattle.rpm_db.specs.State.{State, state}
 use Rattle.rpm_change.specs.declared.tally.Halt.{Halt}
 use Rattle.rpm_change.specs.declared.tally.Halt.TheVariants as halt
 use Rattle.rpm_change.specs.declared.tally.Tally.{Tally}
 use Rattle.rpm_change.specs.Steps.{Course}
-use Rattle.rpm_change.specs.Endings.{Outputs, Through, ThroughSome, Done, Ended, AllHaveRoom, IndexTurn, IsOfErasing}
+use Rattle.rpm_change.specs.Endings.{Outputs, Through, ThroughSome, Done, Ended, AllHaveRoom, IndexTurn}
 use Rattle.rpm_tool.specs.declared.answer.Why.{Why}
 use Rattle.rpm_tool.specs.declared.answer.Why.TheVariants as why
-use Rattle.rpm_tool.specs.Changing.{FullTurn, FullOn, HasCurrent}
-use Rattle.rpm_tool.specs.Working.{OpensIn, OpensBy, IsOutside, IsOfOpening, Stopped, WorkedOn, WorkedBy, Worked, is_halt, done_why, why_of_open, why_of_halt}
+use Rattle.rpm_tool.specs.Changing.{FullTurn, makes}
+use Rattle.rpm_tool.specs.Working.{OpensIn, OpensBy, IsOutside, IsOfOpening, Stopped, WorkedBy, WorkedWith, Worked, why_of_open, why_of_halt}
 use Rattle.rpm_tool.proofs.Leavings.{full_done}
 use Rattle.rpm_tool.proofs.Grouped.{if_ok}
 use Rattle.rpm_tool.proofs.Blank.{state-in_file}
@@ -114,26 +114,26 @@ stopped_open c making needed s new why.OutFault before now opens none = absurd o
 stopped_open c making needed s new why.ErrFault before now opens none = absurd opens
 stopped_open c making needed s new why.NoMemory before now opens none = none_done c before now none
 
-full_open : (making : Bool) (needed : ℕ) (s : State) (changes : List Change) (new : Files) (w : Why) → OpensIn making needed s new (Err w)
-    → FullTurn making needed s changes w
-full_open making needed s changes new why.Done opens = absurd opens
-full_open making needed s changes new (why.Failed n) opens = absurd opens
-full_open making needed s changes new (why.Usage f) opens = absurd opens
-full_open making needed s changes new (why.NotBuilt x) opens = absurd opens
-full_open making needed s changes new (why.BadFormat f) opens = absurd opens
-full_open making needed s changes new (why.BadLog u) opens = absurd opens
-full_open making needed s changes new (why.Damaged d) opens = absurd opens
-full_open making needed s changes new why.NumbersSpent opens = absurd opens
-full_open making needed s changes new why.GenerationSpent opens = absurd opens
-full_open making needed s changes new why.StoreFull opens = absurd opens
-full_open making needed s changes new (why.BadIndex u) opens = absurd opens
-full_open making needed s changes new (why.IndexFull u) opens = inl opens
-full_open making needed s changes new (why.LogFull u) opens = absurd opens
-full_open making needed s changes new why.DiskFault opens = tt
-full_open making needed s changes new why.ShelfFault opens = absurd opens
-full_open making needed s changes new why.OutFault opens = absurd opens
-full_open making needed s changes new why.ErrFault opens = absurd opens
-full_open making needed s changes new why.NoMemory opens = tt
+full_open : (making makes : Bool) (needed : ℕ) (s : State) (changes : List Change) (new : Files) (w : Why) → (making ≡ true → makes ≡ true)
+    → OpensIn making needed s new (Err w) → FullTurn makes needed s changes w
+full_open making makes needed s changes new why.Done more opens = absurd opens
+full_open making makes needed s changes new (why.Failed n) more opens = absurd opens
+full_open making makes needed s changes new (why.Usage f) more opens = absurd opens
+full_open making makes needed s changes new (why.NotBuilt x) more opens = absurd opens
+full_open making makes needed s changes new (why.BadFormat f) more opens = absurd opens
+full_open making makes needed s changes new (why.BadLog u) more opens = absurd opens
+full_open making makes needed s changes new (why.Damaged d) more opens = absurd opens
+full_open making makes needed s changes new why.NumbersSpent more opens = absurd opens
+full_open making makes needed s changes new why.GenerationSpent more opens = absurd opens
+full_open making makes needed s changes new why.StoreFull more opens = absurd opens
+full_open making makes needed s changes new (why.BadIndex u) more opens = absurd opens
+full_open making makes needed s changes new (why.IndexFull u) more opens = inl (more opens.0, opens.1, opens.2)
+full_open making makes needed s changes new (why.LogFull u) more opens = absurd opens
+full_open making makes needed s changes new why.DiskFault more opens = tt
+full_open making makes needed s changes new why.ShelfFault more opens = absurd opens
+full_open making makes needed s changes new why.OutFault more opens = absurd opens
+full_open making makes needed s changes new why.ErrFault more opens = absurd opens
+full_open making makes needed s changes new why.NoMemory more opens = tt
 
 unopened : (course : State → Course) (old new last : Files) (sr : Result Store Damage) (w : Why) (before now : Outputs) → OpensBy old sr new (Err w)
     → Through [] before now → WorkedBy course old.pkg sr last (Err w) before now
@@ -141,13 +141,23 @@ unopened course old new last (Ok s) w before now opens none =
     stopped_open (course (state old.pkg s)) (must_make old.idx (Ok s)) (units_needed old.pkg (Ok s)) (state old.pkg s) new w before now opens none
 unopened course old new last (Err d) w before now opens none = (opens, none)
 
+-- an index that must be made is made
+more_makes : (anew : Bool) (idx : Units) (s : Store) → must_make idx (Ok s) ≡ true → makes anew idx s ≡ true
+more_makes true idx s must = refl
+more_makes false idx s must = must
+
+pub open_with : (anew : Bool) (course : State → Course) (old new : Files) (w : Why) (before now : Outputs) → OpensBy old (store old.pkg) new (Err w)
+    → Through [] before now → WorkedWith anew course old new (Err w) before now
+open_with anew course old new w before now opens none = record {
+  went = unopened course old new new (store old.pkg) w before now opens none;
+  full = λ _. if_ok (store old.pkg) (λ s is. full_open (must_make old.idx (Ok s)) _ _ _ _ new w (more_makes anew old.idx s)
+      (subst (λ (sr : Result Store Damage). OpensBy old sr new (Err w)) is opens));
+  index = λ _. tt;
+}
+
 pub open_worked : (course : State → Course) (old new : Files) (w : Why) (before now : Outputs) → OpensBy old (store old.pkg) new (Err w)
     → Through [] before now → Worked course old new (Err w) before now
-open_worked course old new w before now opens none = record {
-  went = unopened course old new new (store old.pkg) w before now opens none;
-  full = λ lawful. if_ok (store old.pkg) (λ s is. full_open _ _ _ _ new w (subst (λ (sr : Result Store Damage). OpensBy old sr new (Err w)) is opens));
-  index = λ lawful. tt;
-}
+open_worked = open_with false
 
 -- ---- stopped later, or done
 
@@ -176,72 +186,12 @@ halt_full making needed s changes halt.OutFault room turn = tt
 halt_full making needed s changes halt.ErrFault room turn = tt
 halt_full making needed s changes halt.NoMemory room turn = tt
 
-pub halt_halts : (h : Halt) → is_halt (why_of_halt h) ≡ true
-halt_halts halt.NumbersSpent = refl
-halt_halts halt.GenerationSpent = refl
-halt_halts halt.StoreFull = refl
-halt_halts (halt.IndexFull n) = refl
-halt_halts (halt.BadIndex u) = refl
-halt_halts halt.DiskFault = refl
-halt_halts halt.ShelfFault = refl
-halt_halts halt.OutFault = refl
-halt_halts halt.ErrFault = refl
-halt_halts halt.NoMemory = refl
-
-pub halt_shelf : (h : Halt) → IsOfErasing h → why_of_halt h ≡ why.ShelfFault → ⊥
-halt_shelf halt.NumbersSpent kinds is = absurd cc
-halt_shelf halt.GenerationSpent kinds is = absurd cc
-halt_shelf halt.StoreFull kinds is = absurd cc
-halt_shelf (halt.IndexFull n) kinds is = absurd cc
-halt_shelf (halt.BadIndex u) kinds is = absurd cc
-halt_shelf halt.DiskFault kinds is = absurd cc
-halt_shelf halt.ShelfFault kinds is = kinds
-halt_shelf halt.OutFault kinds is = absurd cc
-halt_shelf halt.ErrFault kinds is = absurd cc
-halt_shelf halt.NoMemory kinds is = absurd cc
-
-pub halt_out : (h : Halt) → IsOfErasing h → why_of_halt h ≡ why.OutFault → ⊥
-halt_out halt.NumbersSpent kinds is = absurd cc
-halt_out halt.GenerationSpent kinds is = absurd cc
-halt_out halt.StoreFull kinds is = absurd cc
-halt_out (halt.IndexFull n) kinds is = absurd cc
-halt_out (halt.BadIndex u) kinds is = absurd cc
-halt_out halt.DiskFault kinds is = absurd cc
-halt_out halt.ShelfFault kinds is = absurd cc
-halt_out halt.OutFault kinds is = kinds
-halt_out halt.ErrFault kinds is = absurd cc
-halt_out halt.NoMemory kinds is = absurd cc
-
-pub halt_err : (h : Halt) → why_of_halt h ≡ why.ErrFault → h ≡ halt.ErrFault
-halt_err halt.NumbersSpent is = absurd cc
-halt_err halt.GenerationSpent is = absurd cc
-halt_err halt.StoreFull is = absurd cc
-halt_err (halt.IndexFull n) is = absurd cc
-halt_err (halt.BadIndex u) is = absurd cc
-halt_err halt.DiskFault is = absurd cc
-halt_err halt.ShelfFault is = absurd cc
-halt_err halt.OutFault is = absurd cc
-halt_err halt.ErrFault is = refl
-halt_err halt.NoMemory is = absurd cc
-
-pub halt_disk : (h : Halt) → why_of_halt h ≡ why.DiskFault → h ≡ halt.DiskFault
-halt_disk halt.NumbersSpent is = absurd cc
-halt_disk halt.GenerationSpent is = absurd cc
-halt_disk halt.StoreFull is = absurd cc
-halt_disk (halt.IndexFull n) is = absurd cc
-halt_disk (halt.BadIndex u) is = absurd cc
-halt_disk halt.DiskFault is = refl
-halt_disk halt.ShelfFault is = absurd cc
-halt_disk halt.OutFault is = absurd cc
-halt_disk halt.ErrFault is = absurd cc
-halt_disk halt.NoMemory is = absurd cc
-
 module _ (course : State → Course) (old mid new : Files) (db last : Database) (before now : Outputs) where
   -- the state that was found
   abbrev found : State
   found = state mid.pkg db.store
 
-  halted_by : (sr : Result Store Damage) (h : Halt) (t : State) → OpensBy old sr mid (Ok db) → Ended (course found) found t (Err h) before now
+  pub halted_by : (sr : Result Store Damage) (h : Halt) (t : State) → OpensBy old sr mid (Ok db) → Ended (course found) found t (Err h) before now
       → WorkedBy course old.pkg sr new (Err (why_of_halt h)) before now
   halted_by (Ok s) h t opens ended = subst (λ (x : State). Stopped (course x) (why_of_halt h) before now) opens.0
       (halt_stopped (course found) found t h before now ended)
@@ -258,7 +208,7 @@ module _ (course : State → Course) (old mid new : Files) (db last : Database) 
     index = λ lawful. tt;
   }
 
-  done_by : (sr : Result Store Damage) (tally : Tally) → OpensBy old sr mid (Ok db) → store new.pkg ≡ Ok (in_file last.store)
+  pub done_by : (sr : Result Store Damage) (tally : Tally) → OpensBy old sr mid (Ok db) → store new.pkg ≡ Ok (in_file last.store)
       → Done (course found) found (state new.pkg last.store) tally before now → WorkedBy course old.pkg sr new (Ok tally) before now
   done_by (Ok s) tally opens keeps done = (
     in_file last.store,

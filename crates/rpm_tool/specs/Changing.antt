@@ -1,5 +1,5 @@
 -- Commands that change packages: what each answers and leaves. A command is the course that it takes from the state that it finds.
-use Rattle.std.specs.Prelude.{◌≡◌, ◌⊎◌, ℕ, ◌^◌, ◌<◌, ◌≤◌, ◌==◌, if◌then◌else◌, List, [], length, Bool, true, false, Result, Ok, Err, IfOk}
+use Rattle.std.specs.Prelude.{◌≡◌, ◌⊎◌, ℕ, ◌^◌, ◌<◌, ◌≤◌, List, [], length, Bool, true, false, Result, Ok, Err, IfOk}
 use Rattle.rpm_outside.specs.Crash.{LeavesOnly}
 use Rattle.rpm_outside.specs.Files.{Units, Files}
 use Rattle.rpm_outside.specs.Logs.{LogState, Closed, Malformed, Open, log_state, reopened}
@@ -102,10 +102,18 @@ FullTurn making needed s changes (why.Failed n) = (making ≡ true → needed �
 FullTurn making needed s changes (why.LogFull units) = (making ≡ true → needed ≤ 2 ^ 28) × AllHaveRoom s changes
 FullTurn making needed s changes others = Unit {0}
 
--- of files whose Packages.db isn't damaged
-abbrev pub FullOn : (State → Course) → Files → Why → Type 0
-FullOn course files given = IfOk (store files.pkg) (λ value. FullTurn (must_make files.idx (Ok value)) (units_needed files.pkg (Ok value))
+-- the index is made where it isn't current; anew, whatever it is
+abbrev pub makes : Bool → Units → Store → Bool
+makes true idx value = true
+makes false idx value = must_make idx (Ok value)
+
+-- of files whose Packages.db isn't damaged, and of a command that makes the index anew or doesn't
+abbrev pub FullBy : Bool → (State → Course) → Files → Why → Type 0
+FullBy anew course files given = IfOk (store files.pkg) (λ value. FullTurn (makes anew files.idx value) (units_needed files.pkg (Ok value))
     (state files.pkg value) (course (state files.pkg value)).changes given)
+
+abbrev pub FullOn : (State → Course) → Files → Why → Type 0
+FullOn course files given = FullBy false course files given
 
 -- an ending that a lawful database may have: done, a limit, a fault of the outside, or want of memory
 abbrev pub is_of_lawful : Why → Bool
@@ -119,17 +127,26 @@ is_of_lawful others = true
 
 -- ---- a command that changes packages
 
+-- a command that makes the index anew may begin with any index; another asks for a lawful database
+abbrev pub MayBegin : Bool → Type 0 → Type 0
+MayBegin true Lawful = Unit {0}
+MayBegin false Lawful = Lawful
+
 -- all that is said, beside what it answers, on a disk that tells its contents
-pub record ChangesBy {D : Type 0} (files : D → Files) (left_since : D → ℕ → Files → Type 0) (moment : D → ℕ) (course : State → Course) (given : Why)
-    (changes : ℕ) (old new : D) : Type 0 where
+pub record ChangesWith {D : Type 0} (anew : Bool) (files : D → Files) (left_since : D → ℕ → Files → Type 0) (moment : D → ℕ) (course : State → Course)
+    (given : Why) (changes : ℕ) (old new : D) : Type 0 where
   pub counted : is_done given ≡ false → changes ≡ 0
   pub leaves : IfOk (store (reopened (files old)).pkg)
       (λ s. LeavesState course (state (reopened (files old)).pkg s) given changes (files new))
   pub refused : is_done_or_fault given ≡ false → reopened (files new) ≡ reopened (files old)
-  pub index : IsLawfulGroup (files old) → is_done given ≡ true → IsSealed (files new)
-  pub full : IsLawfulGroup (files old) → FullOn course (reopened (files old)) given
+  pub index : MayBegin anew (IsLawfulGroup (files old)) → is_done given ≡ true → IsSealed (files new)
+  pub full : MayBegin anew (IsLawfulGroup (files old)) → FullBy anew course (reopened (files old)) given
   pub complete : IsLawfulGroup (files old) → is_of_lawful given ≡ true
   pub stops : AreLawfulGroups (left_since old (moment old)) → IfOk (store (reopened (files old)).pkg)
       (λ s. LeavesOnly moment left_since old new (StandsStillOr (left_since old (moment old)) (after course (state (reopened (files old)).pkg s))))
   pub held : is_done given ≡ true → IfOk (store (reopened (files old)).pkg)
       (λ s. (image : Files) → left_since new (moment new) image → HasState (after course (state (reopened (files old)).pkg s)) image)
+
+-- of a command that makes the index where it isn't current
+abbrev pub ChangesBy : {D : Type 0} → (D → Files) → (D → ℕ → Files → Type 0) → (D → ℕ) → (State → Course) → Why → ℕ → D → D → Type 0
+ChangesBy files left_since moment course given changes old new = ChangesWith false files left_since moment course given changes old new

@@ -1,5 +1,5 @@
 -- What a changing command does on the disk over which its changes are held, and how the group ends.
-use Rattle.std.specs.Prelude.{◌≡◌, ◌⊎◌, ℕ, ◌^◌, ◌<◌, ◌≤◌, ◌==◌, if◌then◌else◌, List, [], Bool, true, false, Result, Ok, Err, IfOk, IfErr}
+use Rattle.std.specs.Prelude.{◌≡◌, ◌⊎◌, ℕ, ◌^◌, ◌<◌, ◌≤◌, ◌==◌, if◌then◌else◌, [], Bool, true, false, Result, Ok, Err, IfOk}
 use Rattle.rpm_outside.specs.Changes.{AreSettled}
 use Rattle.rpm_outside.specs.Crash.{LeavesOnly}
 use Rattle.rpm_outside.specs.Files.{Units, Files}
@@ -12,7 +12,7 @@ use Rattle.rpm_pkgdb.specs.declared.slot.Damage.{Damage}
 use Rattle.rpm_pkgdb.specs.Store.{Store, store}
 use Rattle.rpm_db.specs.declared.opening.DbOpenFault.{DbOpenFault}
 use Rattle.rpm_db.specs.declared.opening.DbOpenFault.TheVariants as opening
-use Rattle.rpm_db.specs.Database.{Database, IsIndexed}
+use Rattle.rpm_db.specs.Database.{Database}
 use Rattle.rpm_db.specs.Lawful.{IsLawful}
 use Rattle.rpm_db.specs.Openings.{must_make, units_needed}
 use Rattle.rpm_db.specs.State.{State, state}
@@ -24,7 +24,7 @@ use Rattle.rpm_change.specs.Endings.{Outputs, Through, Done}
 use Rattle.rpm_tool.specs.declared.answer.Why.{Why}
 use Rattle.rpm_tool.specs.declared.answer.Why.TheVariants as why
 use Rattle.rpm_tool.specs.Answers.{Refused}
-use Rattle.rpm_tool.specs.Changing.{Did, FullOn, HasCurrent, is_done_or_fault}
+use Rattle.rpm_tool.specs.Changing.{Did, FullBy, MayBegin, HasCurrent, is_done_or_fault}
 use Rattle.rpm_tool.specs.Keyed.{is_done}
 
 -- ---- opening
@@ -110,11 +110,15 @@ abbrev pub why_of : Result Tally Why → Why
 why_of (Ok tally) = done_why tally.failed
 why_of (Err given) = given
 
--- from these files to those
-pub record Worked (course : State → Course) (old new : Files) (ended : Result Tally Why) (before now : Outputs) : Type 0 where
+-- from these files to those, of a command that makes the index anew or doesn't
+pub record WorkedWith (anew : Bool) (course : State → Course) (old new : Files) (ended : Result Tally Why) (before now : Outputs) : Type 0 where
   pub went : WorkedBy course old.pkg (store old.pkg) new ended before now
-  pub full : IsLawful old.pkg old.idx → FullOn course old (why_of ended)
-  pub index : IsLawful old.pkg old.idx → IfOk ended (λ tally. HasCurrent new.pkg new.idx)
+  pub full : MayBegin anew (IsLawful old.pkg old.idx) → FullBy anew course old (why_of ended)
+  pub index : MayBegin anew (IsLawful old.pkg old.idx) → IfOk ended (λ tally. HasCurrent new.pkg new.idx)
+
+-- of one that makes it where it isn't current
+abbrev pub Worked : (State → Course) → Files → Files → Result Tally Why → Outputs → Outputs → Type 0
+Worked course old new ended before now = WorkedWith false course old new ended before now
 
 -- ---- how the group ends
 

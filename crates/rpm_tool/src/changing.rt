@@ -54,7 +54,7 @@ fn why_of_open(fault: DbOpenFault) -> Why
 }
 
 /// The ending of a command that was stopped.
-fn why_of_halt(halt: Halt) -> Why
+pub(crate) fn why_of_halt(halt: Halt) -> Why
     ensures { result ≡ why_of_halt halt }
 {
     match halt {
@@ -108,7 +108,7 @@ fn make_blank<D: Disk>(alloc: Global, db: &mut Db, disk: &mut D) -> Result<(), W
 }
 
 /// Opens the database with its index, to change it; where there is none, one is made.
-fn open_to_change<D: Disk>(alloc: Global, disk: &mut D) -> Result<Db, Why>
+pub(crate) fn open_to_change<D: Disk>(alloc: Global, disk: &mut D) -> Result<Db, Why>
     ensures opened { IsTrue D.tells → OpensBy (D.files disk.old) (store (D.files disk.old).pkg) (D.files disk.new) result }
     ensures indexed { IfOk result (λ db. is_indexed db ≡ true) }
     ensures going { IfOk result (λ db. db.stopped ≡ false) }

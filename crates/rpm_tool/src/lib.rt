@@ -9,6 +9,7 @@ mod asked;
 mod changing;
 mod closing;
 mod command;
+mod courses;
 mod keyed;
 mod loaded;
 mod missing;

@@ -1,0 +1,53 @@
+use Rattle.std.proofs.Common.{codes, ◌∙◌}
+use Rattle.rpm_outside.specs.Buffered.{inner}
+use Rattle.rpm_db.specs.State.{State, state}
+use Rattle.rpm_db.specs.inner.Running.{runs_then}
+use Rattle.rpm_db.specs.inner.Writes.{SameLog}
+use Rattle.rpm_change.specs.Steps.{Course}
+use Rattle.rpm_change.specs.Endings.{outputs}
+use Rattle.rpm_outside.specs.Shelves.{bytes_at}
+use Rattle.rpm_change.specs.Importing.{import_list, max_headers}
+use Rattle.rpm_tool.proofs.Unmade.{through_none}
+use Rattle.rpm_tool.proofs.Works.{open_worked, done_worked, halted_worked}
+use Rattle.rpm_tool.proofs.courses.import_on.Goals as goal
+
+pub returns-in-Err-clause-worked : goal.returns-in-Err-clause-worked
+returns-in-Err-clause-worked g c = λ told telling out_tells out.
+    let course : State → Course = λ s. import_list max_headers (bytes_at (g.S.Shelf.paths c.args.shelf.now) (codes "-")) in
+    let now = outputs out_tells out g.E.Sink.tells (g.E.Sink.taken (inner c.args.err.now)) in
+    open_worked course (g.D.Disk.files c.args.disk.now) (g.D.Disk.files c.open_to_change.new.disk) c.in-Err.why now now
+    (c.in-Err.ensures.opened told) (through_none now)
+
+pub returns-in-Ok-import_list-clause-worked : goal.returns-in-Ok-import_list-clause-worked
+returns-in-Ok-import_list-clause-worked g c = λ told telling out_tells out.
+    let course : State → Course = λ s. import_list max_headers (bytes_at (g.S.Shelf.paths c.args.shelf.now) (codes "-")) in
+    let said = c.in-Ok-import_list.ensures in
+    let before = outputs out_tells out g.E.Sink.tells (g.E.Sink.taken (inner c.args.err.now)) in
+    let now = outputs out_tells out g.E.Sink.tells (g.E.Sink.taken (inner c.import_list.new.err)) in
+    done_worked course (g.D.Disk.files c.args.disk.now) (g.D.Disk.files c.open_to_change.new.disk)
+    (g.D.Disk.files c.import_list.new.disk) c.in-Ok.db c.import_list.new.db before now c.in-Ok-import_list.tally (c.in-Ok.ensures.opened told)
+    (said.carried.serving told).keeps (said.ended told telling out_tells out) (λ lawful. said.room told telling (c.in-Ok.ensures.rows told lawful))
+    (λ lawful. said.carried.index told (c.in-Ok.ensures.rows told lawful))
+
+pub returns-in-Ok-import_list-clause-runs : goal.returns-in-Ok-import_list-clause-runs
+returns-in-Ok-import_list-clause-runs g c =
+    runs_then g.D.Disk.tells g.D.Disk.files g.D.Disk.left_since g.D.Disk.moment g.D.Disk.bytes_read g.D.Disk.follows g.met.D.Disk.follows_trans
+    SameLog SameLog SameLog c.args.disk.now c.open_to_change.new.disk c.import_list.new.disk (λ x y log. log) (λ x y z first second. second ∙ first)
+    c.in-Ok.ensures.runs c.import_list.ensures.runs
+
+pub returns-clause-worked : goal.returns-clause-worked
+returns-clause-worked g c = λ told telling out_tells out.
+    let course : State → Course = λ s. import_list max_headers (bytes_at (g.S.Shelf.paths c.args.shelf.now) (codes "-")) in
+    let said = c.in-Err-import_list.ensures in
+    let before = outputs out_tells out g.E.Sink.tells (g.E.Sink.taken (inner c.args.err.now)) in
+    let now = outputs out_tells out g.E.Sink.tells (g.E.Sink.taken (inner c.import_list.new.err)) in
+    rw c.why_of_halt.ensures (halted_worked course (g.D.Disk.files c.args.disk.now) (g.D.Disk.files c.open_to_change.new.disk)
+    (g.D.Disk.files c.import_list.new.disk) c.in-Ok.db c.import_list.new.db before now c.in-Err-import_list.halt
+    (state (g.D.Disk.files c.import_list.new.disk).pkg c.import_list.new.db.store) (c.in-Ok.ensures.opened told)
+    (said.ended told telling out_tells out) (λ lawful. said.room told telling (c.in-Ok.ensures.rows told lawful)))
+
+pub returns-clause-runs : goal.returns-clause-runs
+returns-clause-runs g c =
+    runs_then g.D.Disk.tells g.D.Disk.files g.D.Disk.left_since g.D.Disk.moment g.D.Disk.bytes_read g.D.Disk.follows g.met.D.Disk.follows_trans
+    SameLog SameLog SameLog c.args.disk.now c.open_to_change.new.disk c.import_list.new.disk (λ x y log. log) (λ x y z first second. second ∙ first)
+    c.in-Ok.ensures.runs c.import_list.ensures.runs

@@ -1,0 +1,47 @@
+use Rattle.std.proofs.Common.{true, ◌∙◌}
+use Rattle.rpm_outside.specs.Buffered.{inner}
+use Rattle.rpm_db.specs.State.{state}
+use Rattle.rpm_db.specs.inner.Running.{runs_then}
+use Rattle.rpm_db.specs.inner.Writes.{SameLog}
+use Rattle.rpm_change.specs.Endings.{outputs}
+use Rattle.rpm_change.specs.Rebuilding.{rebuild}
+use Rattle.rpm_tool.proofs.Anew.{done_anew, halted_anew}
+use Rattle.rpm_tool.proofs.Unmade.{through_none}
+use Rattle.rpm_tool.proofs.Works.{open_with}
+use Rattle.rpm_tool.proofs.courses.rebuild_on.Goals as goal
+
+pub returns-in-Err-clause-worked : goal.returns-in-Err-clause-worked
+returns-in-Err-clause-worked g c = λ told err_tells err.
+    let now = outputs g.O.Sink.tells (g.O.Sink.taken (inner c.args.out.now)) err_tells err in
+    open_with true (λ s. rebuild s) (g.D.Disk.files c.args.disk.now) (g.D.Disk.files c.open_to_change.new.disk) c.in-Err.why now now
+    (c.in-Err.ensures.opened told) (through_none now)
+
+pub returns-in-Ok-rebuild-clause-worked : goal.returns-in-Ok-rebuild-clause-worked
+returns-in-Ok-rebuild-clause-worked g c = λ told err_tells err.
+    let said = c.in-Ok-rebuild.ensures in
+    let before = outputs g.O.Sink.tells (g.O.Sink.taken (inner c.args.out.now)) err_tells err in
+    let now = outputs g.O.Sink.tells (g.O.Sink.taken (inner c.rebuild.new.out)) err_tells err in
+    done_anew (λ s. rebuild s) (g.D.Disk.files c.args.disk.now) (g.D.Disk.files c.open_to_change.new.disk) (g.D.Disk.files c.rebuild.new.disk)
+    c.in-Ok.db c.rebuild.new.db before now c.in-Ok-rebuild.tally (c.in-Ok.ensures.opened told) (said.serving told).keeps
+    (said.ended told err_tells err) (said.room told) (said.index told)
+
+pub returns-in-Ok-rebuild-clause-runs : goal.returns-in-Ok-rebuild-clause-runs
+returns-in-Ok-rebuild-clause-runs g c =
+    runs_then g.D.Disk.tells g.D.Disk.files g.D.Disk.left_since g.D.Disk.moment g.D.Disk.bytes_read g.D.Disk.follows g.met.D.Disk.follows_trans
+    SameLog SameLog SameLog c.args.disk.now c.open_to_change.new.disk c.rebuild.new.disk (λ x y log. log) (λ x y z first second. second ∙ first)
+    c.in-Ok.ensures.runs c.rebuild.ensures.runs
+
+pub returns-clause-worked : goal.returns-clause-worked
+returns-clause-worked g c = λ told err_tells err.
+    let said = c.in-Err-rebuild.ensures in
+    let before = outputs g.O.Sink.tells (g.O.Sink.taken (inner c.args.out.now)) err_tells err in
+    let now = outputs g.O.Sink.tells (g.O.Sink.taken (inner c.rebuild.new.out)) err_tells err in
+    rw c.why_of_halt.ensures (halted_anew (λ s. rebuild s) (g.D.Disk.files c.args.disk.now) (g.D.Disk.files c.open_to_change.new.disk)
+    (g.D.Disk.files c.rebuild.new.disk) c.in-Ok.db c.rebuild.new.db before now c.in-Err-rebuild.halt
+    (state (g.D.Disk.files c.rebuild.new.disk).pkg c.rebuild.new.db.store) (c.in-Ok.ensures.opened told) (said.ended told err_tells err) (said.room told))
+
+pub returns-clause-runs : goal.returns-clause-runs
+returns-clause-runs g c =
+    runs_then g.D.Disk.tells g.D.Disk.files g.D.Disk.left_since g.D.Disk.moment g.D.Disk.bytes_read g.D.Disk.follows g.met.D.Disk.follows_trans
+    SameLog SameLog SameLog c.args.disk.now c.open_to_change.new.disk c.rebuild.new.disk (λ x y log. log) (λ x y z first second. second ∙ first)
+    c.in-Ok.ensures.runs c.rebuild.ensures.runs

@@ -1,0 +1,146 @@
+//! What each command does on the disk over which its changes are held: it opens the database, and changes it.
+
+ghost use Rattle.std.specs.Prelude.{◌≡◌, ◌≢◌, ℕ, ◌^◌, ◌<◌, Bool, List, [], codes, length, map, true, IsTrue, Err, IfErr};
+ghost use Rattle.rpm_outside.specs.Buffered.{inner, holds, HandsOn};
+ghost use Rattle.rpm_outside.specs.Causes.{HasCauseAt};
+ghost use Rattle.rpm_outside.specs.Shelves.{bytes_at};
+ghost use Rattle.rpm_db.specs.Runs.{Runs};
+ghost use Rattle.rpm_db.specs.inner.Writes.{SameLog};
+ghost use Rattle.rpm_change.specs.Adding as adding;
+ghost use Rattle.rpm_change.specs.Endings.{outputs};
+ghost use Rattle.rpm_change.specs.Importing as importing;
+ghost use Rattle.rpm_change.specs.Rebuilding as rebuilding;
+ghost use Rattle.rpm_tool.specs.Working.{Worked, WorkedWith, is_halt};
+
+use crate::answer::Why;
+use crate::changing::{open_to_change, why_of_halt};
+use rpm_change::{Tally, add_files, import_list, rebuild, replace_package};
+use rpm_outside::{Buffered, Disk, Shelf, Sink};
+use std::alloc::Global;
+
+/// Opens the database and adds the package files under these paths, at the moment `now`.
+pub(crate) fn add_on<D: Disk, S: Shelf, E: Sink + Drop>(
+    alloc: Global,
+    disk: &mut D,
+    shelf: &mut S,
+    paths: &[&str],
+    now: u32,
+    err: &mut Buffered<E>,
+) -> Result<Tally, Why>
+    requires few { length paths.now < 2 ^ 32 }
+    requires err_empty { holds err.old ≡ [] }
+    ensures worked { IsTrue D.tells → IsTrue S.tells → (out_tells : Bool) (out : List ℕ)
+        → Worked (λ s. adding.add_files (S.paths shelf.old) now s (map (λ path. path.now) paths.now)) (D.files disk.old) (D.files disk.new) result
+        (outputs out_tells out E.tells (E.taken (inner err.old))) (outputs out_tells out E.tells (E.taken (inner err.new))) }
+    ensures runs { Runs D.tells D.files D.left_since D.moment D.bytes_read D.follows SameLog disk.old disk.new }
+    ensures halted { IfErr result (λ given. is_halt given ≡ true) }
+    ensures out { result ≢ Err Why.OutFault }
+    ensures paths { IsTrue S.tells → S.paths shelf.new ≡ S.paths shelf.old }
+    ensures disk { HasCauseAt (result ≡ Err Why.DiskFault) (D.faults disk.old) (D.faults disk.new) }
+    ensures shelf { HasCauseAt (result ≡ Err Why.ShelfFault) (S.faults shelf.old) (S.faults shelf.new) }
+    ensures err { HasCauseAt (result ≡ Err Why.ErrFault) (E.faults (inner err.old)) (E.faults (inner err.new)) }
+    ensures err_rest { HandsOn E.follows err.old err.new }
+{
+    let mut db = match open_to_change(alloc, disk) {
+        Ok(db) => db,
+        Err(why) => return Err(why),
+    };
+    match add_files(alloc, &mut db, disk, shelf, paths, now, err) {
+        Ok(tally) => Ok(tally),
+        Err(halt) => Err(why_of_halt(halt)),
+    }
+}
+
+/// Opens the database and puts the package file under a path in place of a number's package, at the moment `now`.
+pub(crate) fn replace_on<D: Disk, S: Shelf, E: Sink + Drop>(
+    alloc: Global,
+    disk: &mut D,
+    shelf: &mut S,
+    number: u32,
+    path: &str,
+    now: u32,
+    err: &mut Buffered<E>,
+) -> Result<Tally, Why>
+    requires err_empty { holds err.old ≡ [] }
+    ensures worked { IsTrue D.tells → IsTrue S.tells → (out_tells : Bool) (out : List ℕ)
+        → Worked (λ s. adding.replace (S.paths shelf.old) now s number path.now) (D.files disk.old) (D.files disk.new) result
+        (outputs out_tells out E.tells (E.taken (inner err.old))) (outputs out_tells out E.tells (E.taken (inner err.new))) }
+    ensures runs { Runs D.tells D.files D.left_since D.moment D.bytes_read D.follows SameLog disk.old disk.new }
+    ensures halted { IfErr result (λ given. is_halt given ≡ true) }
+    ensures numbers { result ≢ Err Why.NumbersSpent }
+    ensures out { result ≢ Err Why.OutFault }
+    ensures paths { IsTrue S.tells → S.paths shelf.new ≡ S.paths shelf.old }
+    ensures disk { HasCauseAt (result ≡ Err Why.DiskFault) (D.faults disk.old) (D.faults disk.new) }
+    ensures shelf { HasCauseAt (result ≡ Err Why.ShelfFault) (S.faults shelf.old) (S.faults shelf.new) }
+    ensures err { HasCauseAt (result ≡ Err Why.ErrFault) (E.faults (inner err.old)) (E.faults (inner err.new)) }
+    ensures err_rest { HandsOn E.follows err.old err.new }
+{
+    let mut db = match open_to_change(alloc, disk) {
+        Ok(db) => db,
+        Err(why) => return Err(why),
+    };
+    match replace_package(alloc, &mut db, disk, shelf, number, path, now, err) {
+        Ok(tally) => Ok(tally),
+        Err(halt) => Err(why_of_halt(halt)),
+    }
+}
+
+/// Opens the database and imports the list under the path `-`.
+pub(crate) fn import_on<D: Disk, S: Shelf, E: Sink + Drop>(
+    alloc: Global,
+    disk: &mut D,
+    shelf: &mut S,
+    err: &mut Buffered<E>,
+) -> Result<Tally, Why>
+    requires err_empty { holds err.old ≡ [] }
+    ensures worked { IsTrue D.tells → IsTrue S.tells → (out_tells : Bool) (out : List ℕ)
+        → Worked (λ s. importing.import_list importing.max_headers (bytes_at (S.paths shelf.old) (codes "-"))) (D.files disk.old) (D.files disk.new) result
+        (outputs out_tells out E.tells (E.taken (inner err.old))) (outputs out_tells out E.tells (E.taken (inner err.new))) }
+    ensures runs { Runs D.tells D.files D.left_since D.moment D.bytes_read D.follows SameLog disk.old disk.new }
+    ensures halted { IfErr result (λ given. is_halt given ≡ true) }
+    ensures out { result ≢ Err Why.OutFault }
+    ensures paths { IsTrue S.tells → S.paths shelf.new ≡ S.paths shelf.old }
+    ensures disk { HasCauseAt (result ≡ Err Why.DiskFault) (D.faults disk.old) (D.faults disk.new) }
+    ensures shelf { HasCauseAt (result ≡ Err Why.ShelfFault) (S.faults shelf.old) (S.faults shelf.new) }
+    ensures err { HasCauseAt (result ≡ Err Why.ErrFault) (E.faults (inner err.old)) (E.faults (inner err.new)) }
+    ensures err_rest { HandsOn E.follows err.old err.new }
+{
+    let mut db = match open_to_change(alloc, disk) {
+        Ok(db) => db,
+        Err(why) => return Err(why),
+    };
+    match import_list(alloc, &mut db, disk, shelf, err) {
+        Ok(tally) => Ok(tally),
+        Err(halt) => Err(why_of_halt(halt)),
+    }
+}
+
+/// Opens the database, makes its index anew, and drops the packages that can't be read, each with a line on out.
+pub(crate) fn rebuild_on<D: Disk, O: Sink + Drop>(
+    alloc: Global,
+    disk: &mut D,
+    out: &mut Buffered<O>,
+) -> Result<Tally, Why>
+    requires out_empty { holds out.old ≡ [] }
+    ensures worked { IsTrue D.tells → (err_tells : Bool) (err : List ℕ)
+        → WorkedWith true (λ s. rebuilding.rebuild s) (D.files disk.old) (D.files disk.new) result
+        (outputs O.tells (O.taken (inner out.old)) err_tells err) (outputs O.tells (O.taken (inner out.new)) err_tells err) }
+    ensures runs { Runs D.tells D.files D.left_since D.moment D.bytes_read D.follows SameLog disk.old disk.new }
+    ensures halted { IfErr result (λ given. is_halt given ≡ true) }
+    ensures numbers { result ≢ Err Why.NumbersSpent }
+    ensures store { result ≢ Err Why.StoreFull }
+    ensures shelf { result ≢ Err Why.ShelfFault }
+    ensures err { result ≢ Err Why.ErrFault }
+    ensures disk { HasCauseAt (result ≡ Err Why.DiskFault) (D.faults disk.old) (D.faults disk.new) }
+    ensures out { HasCauseAt (result ≡ Err Why.OutFault) (O.faults (inner out.old)) (O.faults (inner out.new)) }
+    ensures out_rest { HandsOn O.follows out.old out.new }
+{
+    let mut db = match open_to_change(alloc, disk) {
+        Ok(db) => db,
+        Err(why) => return Err(why),
+    };
+    match rebuild(alloc, &mut db, disk, out) {
+        Ok(tally) => Ok(tally),
+        Err(halt) => Err(why_of_halt(halt)),
+    }
+}
