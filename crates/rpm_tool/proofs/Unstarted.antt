@@ -14,7 +14,7 @@ use Rattle.rpm_change.specs.Steps.{Course}
 use Rattle.rpm_change.specs.Endings.{Outputs}
 use Rattle.rpm_tool.specs.declared.answer.Why.TheVariants as why
 use Rattle.rpm_tool.specs.Asked.{is_query, is_package, needs_no_index, is_changing_in, is_changing, of_files, by_key}
-use Rattle.rpm_tool.specs.Changing.{DidOpened, DidLoaded, DidOn, ChangesBy, StandsStillOr, after}
+use Rattle.rpm_tool.specs.Changing.{DidOpened, DidLoaded, DidOn, ChangesWith, StandsStillOr, after}
 use Rattle.rpm_tool.specs.Keyed.{AreLawfulGroups}
 use Rattle.rpm_tool.proofs.Grouped.{if_ok}
 use Rattle.rpm_tool.proofs.Unmade.{through_none, none_done}
@@ -42,8 +42,8 @@ module _ {D : Type 0} (files : D → Files) (left_since : D → ℕ → Files �
     before = λ t image le left. inl left;
   }
 
-  pub unstarted_changes : ChangesBy files left_since moment course why.NoMemory 0 disk disk
-  unstarted_changes = record {
+  pub unstarted_changes : {anew : Bool} → ChangesWith anew files left_since moment course why.NoMemory 0 disk disk
+  unstarted_changes {anew} = record {
     counted = λ no. refl;
     leaves = if_ok (store (reopened (files disk)).pkg) (λ s is. (refl, record { value = s; undamaged = is; is = refl }));
     refused = λ no. refl;

@@ -1,7 +1,7 @@
 -- Which command lines are built, and by which format they print.
 use Rattle.std.specs.Prelude.{ℕ, List, Option, Some, None, Result, Ok, Err, Bool, true, false, not, ◌&&◌, if◌then◌else◌, codes}
 use Rattle.rpm_words.specs.declared.ask.Mode.{Mode}
-use Rattle.rpm_words.specs.declared.ask.Mode.TheVariants.{Query, Verifydb, Exportdb, Initdb, Erasepkg}
+use Rattle.rpm_words.specs.declared.ask.Mode.TheVariants.{Query, Addpkg, Replacepkg, Erasepkg, Initdb, Rebuilddb, Verifydb, Exportdb, Importdb}
 use Rattle.rpm_words.specs.declared.switch.Chosen.{Chosen}
 use Rattle.rpm_words.specs.declared.switch.Chosen.TheVariants.{All, Number, Package}
 use Rattle.rpm_words.specs.declared.words.Span.{Span}
@@ -31,14 +31,22 @@ abbrev pub is_built_in : Mode → Bool
 is_built_in Query = true
 is_built_in Verifydb = true
 is_built_in Exportdb = true
-is_built_in Initdb = true
+is_built_in Addpkg = true
+is_built_in Replacepkg = true
 is_built_in Erasepkg = true
+is_built_in Initdb = true
+is_built_in Rebuilddb = true
+is_built_in Importdb = true
 is_built_in others = false
 
 -- of those the ones that change packages, or make the database
 abbrev pub is_changing_in : Mode → Bool
-is_changing_in Initdb = true
+is_changing_in Addpkg = true
+is_changing_in Replacepkg = true
 is_changing_in Erasepkg = true
+is_changing_in Initdb = true
+is_changing_in Rebuilddb = true
+is_changing_in Importdb = true
 is_changing_in others = false
 
 abbrev pub is_query : Mode → Bool

@@ -48,7 +48,8 @@ fn is_built_in(mode: Mode) -> bool
 {
     match mode {
         Mode::Query | Mode::Verifydb | Mode::Exportdb => true,
-        Mode::Initdb | Mode::Erasepkg => true,
+        Mode::Addpkg | Mode::Replacepkg | Mode::Erasepkg => true,
+        Mode::Initdb | Mode::Rebuilddb | Mode::Importdb => true,
         _ => false,
     }
 }

@@ -19,11 +19,12 @@ ghost use Rattle.rpm_change.specs.Erasing as erasing;
 ghost use Rattle.rpm_change.specs.Steps.{idle};
 ghost use Rattle.rpm_tool.specs.Answers.{why_of_load, unless_starved, is_of_words};
 ghost use Rattle.rpm_tool.specs.Keyed.{why_of_recover, is_done};
-ghost use Rattle.rpm_tool.specs.Changing.{DidOn, ChangesBy};
-ghost use Rattle.rpm_tool.specs.Tasks.{task_parts, task_course, asked_task, asked_course, reads_shelf, IsCountable};
-ghost use Rattle.rpm_tool.specs.Working.{OpensBy, IsOutside, IsOfOpening, Worked, CommittedAs, EndsGroup, is_halt, is_of_commit, is_of_streams, done_why, why_of_open, why_of_halt};
+ghost use Rattle.rpm_tool.specs.Changing.{DidOn, ChangesWith};
+ghost use Rattle.rpm_tool.specs.Tasks.{task_parts, task_course, asked_task, asked_course, reads_shelf, is_anew, IsCountable};
+ghost use Rattle.rpm_tool.specs.Working.{OpensBy, IsOutside, IsOfOpening, Worked, WorkedWith, CommittedAs, EndsGroup, is_halt, is_of_commit, is_of_streams, done_why, why_of_open, why_of_halt};
 
 use crate::answer::Why;
+use crate::courses::{add_on, import_on, rebuild_on, replace_on};
 use crate::keyed::why_of_recover;
 use crate::loaded::{unless_starved, why_of_load};
 use crate::task::{Task, task_of};
@@ -184,7 +185,7 @@ fn change_on<D: Disk, S: Shelf, O: Sink + Drop, E: Sink + Drop>(
     alloc: Global,
     disk: &mut D,
     shelf: &mut S,
-    task: &Task,
+    task: &Task<'_>,
     now: u32,
     out: &mut Buffered<O>,
     err: &mut Buffered<E>,
@@ -193,7 +194,7 @@ fn change_on<D: Disk, S: Shelf, O: Sink + Drop, E: Sink + Drop>(
     requires out_empty { holds out.old ≡ [] }
     requires err_empty { holds err.old ≡ [] }
     ensures worked { IsTrue D.tells → (reads_shelf (task_parts task.now) ≡ true → IsTrue S.tells)
-        → Worked (task_course (S.paths shelf.old) now (task_parts task.now)) (D.files disk.old) (D.files disk.new) result
+        → WorkedWith (is_anew (task_parts task.now)) (task_course (S.paths shelf.old) now (task_parts task.now)) (D.files disk.old) (D.files disk.new) result
         (outputs O.tells (O.taken (inner out.old)) E.tells (E.taken (inner err.old)))
         (outputs O.tells (O.taken (inner out.new)) E.tells (E.taken (inner err.new))) }
     ensures runs { Runs D.tells D.files D.left_since D.moment D.bytes_read D.follows SameLog disk.old disk.new }
@@ -208,7 +209,11 @@ fn change_on<D: Disk, S: Shelf, O: Sink + Drop, E: Sink + Drop>(
 {
     match task {
         Task::Make => make_on(alloc, disk),
+        Task::Add(paths) => add_on(alloc, disk, shelf, paths.as_slice(), now, err),
+        Task::Replace { number, path } => replace_on(alloc, disk, shelf, *number, path, now, err),
         Task::Erase(numbers) => erase_on(alloc, disk, numbers.as_slice(), err),
+        Task::Import => import_on(alloc, disk, shelf, err),
+        Task::Rebuild => rebuild_on(alloc, disk, out),
     }
 }
 
@@ -281,7 +286,7 @@ fn change_recovered<D: Disk, S: Shelf, O: Sink + Drop, E: Sink + Drop>(
     alloc: Global,
     disk: D,
     shelf: &mut S,
-    task: &Task,
+    task: &Task<'_>,
     now: u32,
     out: &mut Buffered<O>,
     err: &mut Buffered<E>,
@@ -296,7 +301,8 @@ fn change_recovered<D: Disk, S: Shelf, O: Sink + Drop, E: Sink + Drop>(
         (outputs O.tells (O.taken (inner out.old)) E.tells (E.taken (inner err.old)))
         (outputs O.tells (O.taken (inner out.new)) E.tells (E.taken (inner err.new))) }
     ensures changed { IsTrue D.tells → (reads_shelf (task_parts task.now) ≡ true → IsTrue S.tells)
-        → ChangesBy D.files D.left_since D.moment (task_course (S.paths shelf.old) now (task_parts task.now)) result.0.why result.0.changes disk result.1 }
+        → ChangesWith (is_anew (task_parts task.now)) D.files D.left_since D.moment (task_course (S.paths shelf.old) now (task_parts task.now))
+        result.0.why result.0.changes disk result.1 }
     ensures counted { is_done result.0.why ≡ false → result.0.changes ≡ 0 }
     ensures shelf_unread { reads_shelf (task_parts task.now) ≡ false → shelf.new ≡ shelf.old }
     ensures of_words { is_of_words result.0.why ≡ false }
@@ -335,7 +341,7 @@ fn change<D: Disk, S: Shelf, O: Sink + Drop, E: Sink + Drop>(
     alloc: Global,
     disk: D,
     shelf: &mut S,
-    task: &Task,
+    task: &Task<'_>,
     now: u32,
     out: &mut Buffered<O>,
     err: &mut Buffered<E>,
@@ -348,7 +354,8 @@ fn change<D: Disk, S: Shelf, O: Sink + Drop, E: Sink + Drop>(
         (outputs O.tells (O.taken (inner out.old)) E.tells (E.taken (inner err.old)))
         (outputs O.tells (O.taken (inner out.new)) E.tells (E.taken (inner err.new))) }
     ensures changed { IsTrue D.tells → (reads_shelf (task_parts task.now) ≡ true → IsTrue S.tells)
-        → ChangesBy D.files D.left_since D.moment (task_course (S.paths shelf.old) now (task_parts task.now)) result.0.why result.0.changes disk result.1 }
+        → ChangesWith (is_anew (task_parts task.now)) D.files D.left_since D.moment (task_course (S.paths shelf.old) now (task_parts task.now))
+        result.0.why result.0.changes disk result.1 }
     ensures counted { is_done result.0.why ≡ false → result.0.changes ≡ 0 }
     ensures shelf_unread { reads_shelf (task_parts task.now) ≡ false → shelf.new ≡ shelf.old }
     ensures of_words { is_of_words result.0.why ≡ false }
@@ -385,7 +392,8 @@ pub fn change_asked<D: Disk, S: Shelf, O: Sink + Drop, E: Sink + Drop>(
         (outputs O.tells (O.taken (inner out.old)) E.tells (E.taken (inner err.old)))
         (outputs O.tells (O.taken (inner out.new)) E.tells (E.taken (inner err.new))) }
     ensures changed { IsTrue D.tells → (reads_shelf (asked_task words.now ask.now) ≡ true → IsTrue S.tells)
-        → ChangesBy D.files D.left_since D.moment (asked_course (S.paths shelf.old) now words.now ask.now) result.0.why result.0.changes disk result.1 }
+        → ChangesWith (is_anew (asked_task words.now ask.now)) D.files D.left_since D.moment (asked_course (S.paths shelf.old) now words.now ask.now)
+        result.0.why result.0.changes disk result.1 }
     ensures counted { is_done result.0.why ≡ false → result.0.changes ≡ 0 }
     ensures shelf_unread { reads_shelf (asked_task words.now ask.now) ≡ false → shelf.new ≡ shelf.old }
     ensures of_words { is_of_words result.0.why ≡ false }

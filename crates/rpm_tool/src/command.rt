@@ -17,13 +17,13 @@ ghost use Rattle.rpm_words.specs.Words.{text_at};
 ghost use Rattle.rpm_words.specs.Ask.{AskParts, ask};
 ghost use Rattle.rpm_qfparse.specs.Tree.{Tree};
 ghost use Rattle.rpm_tool.specs.Asked.{of_files, by_key, is_changing, asks_change, asks_unbuilt, asks_format, asks};
-ghost use Rattle.rpm_tool.specs.Changing.{DidOn, ChangesBy};
+ghost use Rattle.rpm_tool.specs.Changing.{DidOn, ChangesWith};
 ghost use Rattle.rpm_tool.specs.Closing.{status_of, closing};
 ghost use Rattle.rpm_tool.specs.Steps.{numbers, Rises};
 ghost use Rattle.rpm_tool.specs.Queries.{is_question, picked, argument_part};
 ghost use Rattle.rpm_tool.specs.Keyed.{AreLawfulGroups, IsLawfulGroup, StandsStill, IsReady, KeyedIs, AnswersByKey, FullIs, BadIs, HasRoom};
 ghost use Rattle.rpm_tool.specs.Keyed.{is_done, is_done_or_outside, keyed_cost};
-ghost use Rattle.rpm_tool.specs.Tasks.{asked_task, asked_course, reads_shelf};
+ghost use Rattle.rpm_tool.specs.Tasks.{asked_task, asked_course, reads_shelf, is_anew};
 ghost use Rattle.rpm_tool.specs.PackageFiles.{passing, query_files};
 ghost use Rattle.rpm_change.specs.Endings.{outputs};
 ghost use Rattle.rpm_tool.specs.Answers.{is_of_words, ComesWhere, Queried, Anywhere, Went, Closes, Ends, AtMost, Leaves, query_cost};
@@ -77,7 +77,8 @@ fn begin<D: Disk, S: Shelf, O: Sink + Drop, E: Sink + Drop>(
         (outputs O.tells (O.taken (inner out.old)) E.tells (E.taken (inner err.old)))
         (outputs O.tells (O.taken (inner out.new)) E.tells (E.taken (inner err.new))) }
     ensures changed { is_changing ask.now ≡ true → IsTrue D.tells → (reads_shelf (asked_task words.now ask.now) ≡ true → IsTrue S.tells)
-        → ChangesBy D.files D.left_since D.moment (asked_course (S.paths shelf.old) now words.now ask.now) result.0.why result.0.changes disk result.1 }
+        → ChangesWith (is_anew (asked_task words.now ask.now)) D.files D.left_since D.moment (asked_course (S.paths shelf.old) now words.now ask.now)
+        result.0.why result.0.changes disk result.1 }
     ensures changes { is_changing ask.now ≡ false → result.0.changes ≡ 0 }
     ensures counted { is_done result.0.why ≡ false → result.0.changes ≡ 0 }
     ensures goes_on { D.follows disk result.1 }
@@ -150,7 +151,8 @@ fn command<D: Disk, S: Shelf, O: Sink + Drop, E: Sink + Drop>(
         (outputs O.tells (O.taken (inner out.new)) E.tells (E.taken (inner err.new))) }
     ensures changed { (a : AskParts) (tree : Tree) → asks words.now ≡ Some (a, tree) → is_changing a ≡ true → IsTrue D.tells
         → (reads_shelf (asked_task words.now a) ≡ true → IsTrue S.tells)
-        → ChangesBy D.files D.left_since D.moment (asked_course (S.paths shelf.old) now words.now a) result.0.why result.0.changes disk result.1 }
+        → ChangesWith (is_anew (asked_task words.now a)) D.files D.left_since D.moment (asked_course (S.paths shelf.old) now words.now a)
+        result.0.why result.0.changes disk result.1 }
     ensures changes { asks_change words.now ≡ false → result.0.changes ≡ 0 }
     ensures counted { is_done result.0.why ≡ false → result.0.changes ≡ 0 }
     ensures goes_on { D.follows disk result.1 }
@@ -168,11 +170,11 @@ fn command<D: Disk, S: Shelf, O: Sink + Drop, E: Sink + Drop>(
 
 /// Does what a command line asks for, to a database or with package files, and writes the line that closes it.
 ///
-/// The disk is handed back beside every outcome. Only a question by key may change its files; what they stand for stays, the index aside.
-/// The words are read first, by the rules of [`read`](rpm_words::read). Where they break one, the answer is `Usage` with the first that is
-/// broken. Of the commands those that change no package are built: the queries, `--exportdb` and `--verifydb`. All others are answered
-/// `NotBuilt`. Then the format is read, by the rules of [`parse`](rpm_qfparse::parse): F, the list of files, or `%{NVRA}\n`. Where it has a
-/// fault, the answer is `BadFormat` with the first one. With these three answers no call is made on the disk, the shelf or `out`.
+/// The disk is handed back beside every outcome. Queries leave what its files stand for, the index aside, and so do `--exportdb` and
+/// `--verifydb`. The words are read first, by the rules of [`read`](rpm_words::read). Where they break one, the answer is `Usage` with the
+/// first that is broken. `--exercise` and the three reports aren't built: they are answered `NotBuilt`. Then the format is read, by the rules
+/// of [`parse`](rpm_qfparse::parse): F, the list of files, or `%{NVRA}\n`. Where it has a fault, the answer is `BadFormat` with the first one.
+/// With these three answers no call is made on the disk, the shelf or `out`.
 ///
 /// A query prints for each argument what the format means for each package that it picks, by rising number. A package that can't be
 /// read, and one for which a bracket's tags have different numbers of elements, has a message on `err` in its place; then the argument
@@ -181,13 +183,19 @@ fn command<D: Disk, S: Shelf, O: Sink + Drop, E: Sink + Drop>(
 /// With `-p` each argument is the path of a package file, `-` the standard input, and what is printed is of its header with the number 0:
 /// no call is made on the disk, and `--after` and `--noindex` change nothing. A path that can't be opened and a file that is refused have
 /// a line on `err`; then the argument fails. A read that fails ends the command with `ShelfFault`. Each file is read up to the end of its
-/// header. The other commands make no call on the shelf.
+/// header. Of the other commands `--addpkg`, `--replacepkg` and `--importdb` alone make calls on the shelf.
 ///
 /// A query without `-p`, `-a`, `--querybynumber` and `--noindex` is a question by key. It first finishes what a stop left of a change, syncs
 /// the files, and makes the index from the packages where it isn't current. On a database that can't be written it answers `DiskFault`
 /// where the index must be made: then `--noindex` answers.
 ///
-/// A command on a database reads the slot pages of `Packages.db` and the blocks of packages: for each argument those of each package once,
+/// `--initdb`, `--addpkg`, `--replacepkg`, `--erasepkg`, `--importdb` and `--rebuilddb` change the database; where there is none, they make
+/// one. All changes of a command are one: they are held in memory, and committed behind the last argument; a command that is stopped
+/// before that changes nothing. An argument that fails has its line on `err`, and the others go on. `now` is the moment that
+/// `INSTALLTIME` and `INSTALLTID` of a package file get, in seconds since 1970. `--rebuilddb` makes the index anew, and drops the packages
+/// that can't be read, each with a line on `out`. The outcome counts the changes, where the command was done.
+///
+/// A query reads the slot pages of `Packages.db` and the blocks of packages: for each argument those of each package once,
 /// for one that is a number that package's alone, and by key those of the packages that have one of its keys. None is read before what is
 /// printed of those with lesser numbers is written. Each header is parsed once. What is printed of a package goes out in few pieces, and no
 /// piece is of two packages.
@@ -279,7 +287,7 @@ pub fn run<D: Disk, S: Shelf, O: Sink, E: Sink>(
 
     // A command that changes packages goes through its course, from the state that the database stands for, to its end or to where it is
     // stopped, and closes with its line. Its changes are one: where it was done they are all made and counted, else none is, a fault of the
-    // disk aside, which may come before that or behind it. What goes with each ending is the record `ChangesBy`.
+    // disk aside, which may come before that or behind it. What goes with each ending is the record `ChangesWith`.
     ensures did { (a : AskParts) (tree : Tree) → asks words.now ≡ Some (a, tree) → is_changing a ≡ true → IsTrue D.tells
         → (reads_shelf (asked_task words.now a) ≡ true → IsTrue S.tells)
         → Ends (λ mid. DidOn (asked_course (S.paths shelf.old) now words.now a) (D.files disk) result.0.why
@@ -287,7 +295,8 @@ pub fn run<D: Disk, S: Shelf, O: Sink, E: Sink>(
         (outputs O.tells (O.taken out.new) E.tells (E.taken err.new)) (E.faults err.old) (E.faults err.new) }
     ensures changed { (a : AskParts) (tree : Tree) → asks words.now ≡ Some (a, tree) → is_changing a ≡ true → IsTrue D.tells
         → (reads_shelf (asked_task words.now a) ≡ true → IsTrue S.tells)
-        → ChangesBy D.files D.left_since D.moment (asked_course (S.paths shelf.old) now words.now a) result.0.why result.0.changes disk result.1 }
+        → ChangesWith (is_anew (asked_task words.now a)) D.files D.left_since D.moment (asked_course (S.paths shelf.old) now words.now a)
+        result.0.why result.0.changes disk result.1 }
     ensures goes_on { D.follows disk result.1 }
 
     // The packages that an argument's steps are for: those that it picks above `--after`, each once and rising.

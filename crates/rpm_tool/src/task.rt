@@ -1,21 +1,30 @@
 //! What a command changes, by its words.
 
-ghost use Rattle.std.specs.Prelude.{◌≡◌, ℕ, ◌+◌, ◌<◌, ◌≤◌, ◌^◌, [], ◌∷◌, ◌++◌, length, IfOk, OnOk};
+ghost use Rattle.std.specs.Prelude.{◌≡◌, ℕ, ◌+◌, ◌<◌, ◌≤◌, ◌^◌, [], ◌∷◌, ◌++◌, length, map, IfOk, OnOk};
 ghost use Rattle.std.specs.List.{filter_map};
 ghost use Rattle.rpm_words.specs.Number.{number};
+ghost use Rattle.rpm_words.specs.Words.{text_at};
 ghost use Rattle.rpm_tool.specs.Asked.{is_changing, is_changing_in};
-ghost use Rattle.rpm_tool.specs.Tasks.{TaskParts, task_parts, numbers_asked, asked_task, IsCountable};
+ghost use Rattle.rpm_tool.specs.Tasks.{TaskParts, task_parts, numbers_asked, replacing, asked_task, IsCountable};
 
 use rpm_words::{Ask, Mode, Words, number_of};
 use std::alloc::{AllocError, Global};
 
 /// What a command changes, with what it is asked.
 #[derive(Debug, Drop)]
-pub enum Task {
+pub enum Task<'a> {
     /// It makes a database where there is none.
     Make,
+    /// It adds the package files under these paths.
+    Add(Vec<&'a str>),
+    /// It puts the package file under a path in place of a number's package.
+    Replace { number: u32, path: &'a str },
     /// It erases the packages of these numbers.
     Erase(Vec<u32>),
+    /// It adds the headers of the list on the standard input.
+    Import,
+    /// It makes the index anew, and drops the packages that can't be read.
+    Rebuild,
 }
 
 /// Whether a command of this mode changes packages, or makes the database.
@@ -23,7 +32,8 @@ fn is_changing_in(mode: Mode) -> bool
     ensures { result ≡ is_changing_in mode }
 {
     match mode {
-        Mode::Initdb | Mode::Erasepkg => true,
+        Mode::Addpkg | Mode::Replacepkg | Mode::Erasepkg => true,
+        Mode::Initdb | Mode::Rebuilddb | Mode::Importdb => true,
         _ => false,
     }
 }
@@ -61,16 +71,50 @@ fn numbers_of(alloc: Global, words: &Words, ask: &Ask) -> Result<Vec<u32>, Alloc
     Ok(numbers)
 }
 
+/// The texts of the arguments.
+fn texts_of<'a>(alloc: Global, words: &'a Words, ask: &Ask) -> Result<Vec<&'a str>, AllocError>
+    ensures texts { IfOk result (λ v. map (λ text. text.now) v.items ≡ map (text_at words.now) ask.now.arguments) }
+    ensures few { IfOk result (λ v. length v.items < 2 ^ 32) }
+{
+    let mut texts = Vec::new(alloc);
+    for k in 0..ask.arguments() {
+        texts.push(words.text_at(ask.argument(k)))?;
+    }
+    Ok(texts)
+}
+
+/// Puts the package file that the second argument names in place of the package of the first, a number, where the words break no rule.
+fn replacing_of<'a>(words: &'a Words, ask: &Ask) -> Task<'a>
+    ensures asked { task_parts result ≡ replacing words.now ask.now.arguments }
+    ensures countable { IsCountable (task_parts result) }
+{
+    if ask.arguments() != 2 {
+        return Task::Make;
+    }
+    let number = number_of(words.text_at(ask.argument(0))).unwrap_or(0);
+    Task::Replace {
+        number,
+        path: words.text_at(ask.argument(1)),
+    }
+}
+
 /// What a command changes that changes anything.
-pub fn task_of(alloc: Global, words: &Words, ask: &Ask) -> Result<Task, AllocError>
+pub fn task_of<'a>(alloc: Global, words: &'a Words, ask: &Ask) -> Result<Task<'a>, AllocError>
     ensures asked { IfOk result (λ task. task_parts task ≡ asked_task words.now ask.now) }
     ensures countable { IfOk result (λ task. IsCountable (task_parts task)) }
 {
     match ask.mode() {
+        Mode::Addpkg => match texts_of(alloc, words, ask) {
+            Ok(paths) => Ok(Task::Add(paths)),
+            Err(AllocError) => Err(AllocError),
+        },
+        Mode::Replacepkg => Ok(replacing_of(words, ask)),
         Mode::Erasepkg => match numbers_of(alloc, words, ask) {
             Ok(numbers) => Ok(Task::Erase(numbers)),
             Err(AllocError) => Err(AllocError),
         },
+        Mode::Importdb => Ok(Task::Import),
+        Mode::Rebuilddb => Ok(Task::Rebuild),
         _ => Ok(Task::Make),
     }
 }

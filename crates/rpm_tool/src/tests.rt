@@ -1,5 +1,6 @@
 mod changes;
 mod damage;
+mod files;
 mod formats;
 mod keyed;
 mod many;

@@ -9,7 +9,7 @@ use std::alloc::{AllocError, Global};
 use std::test::Fail;
 
 // A package file without a payload. Its signature header has the size of the package, 88.
-fn package(alloc: Global) -> Result<Vec<u8>, AllocError> {
+pub fn package(alloc: Global) -> Result<Vec<u8>, AllocError> {
     let mut file = Vec::new(alloc);
     file.extend_from_slice(&[0xed, 0xab, 0xee, 0xdb, 3, 0, 0, 0, 0, 1])?;
     file.extend_from_slice(b"a-1-2")?;

@@ -1,8 +1,8 @@
 use Rattle.std.proofs.Common.{◌≡◌, true, sym, ap, ◌∙◌, subst}
 use Rattle.rpm_outside.specs.Buffered.{inner}
 use Rattle.rpm_change.specs.Endings.{outputs}
-use Rattle.rpm_tool.specs.Changing.{DidOn, ChangesBy}
-use Rattle.rpm_tool.specs.Tasks.{TaskParts, asked_course, task_course, reads_shelf}
+use Rattle.rpm_tool.specs.Changing.{DidOn, ChangesWith}
+use Rattle.rpm_tool.specs.Tasks.{TaskParts, asked_course, task_course, reads_shelf, is_anew}
 use Rattle.rpm_tool.proofs.Unstarted.{unstarted_did, unstarted_changes}
 use Rattle.rpm_tool.proofs.changing.change_asked.Goals as goal
 
@@ -17,7 +17,7 @@ returns-in-Ok-clause-did g c = λ told shelf.
 pub returns-in-Ok-clause-changed : goal.returns-in-Ok-clause-changed
 returns-in-Ok-clause-changed g c = λ told shelf.
     let same = c.in-Ok.ensures.asked in
-    subst (λ (t : TaskParts). ChangesBy g.D.Disk.files g.D.Disk.left_since g.D.Disk.moment
+    subst (λ (t : TaskParts). ChangesWith (is_anew t) g.D.Disk.files g.D.Disk.left_since g.D.Disk.moment
     (task_course (g.S.Shelf.paths c.args.shelf.now) c.args.now t) c.change.result.0.why c.change.result.0.changes c.args.disk c.change.result.1) same
     (c.change.ensures.changed told (λ reads. shelf (sym (ap reads_shelf same) ∙ reads)))
 

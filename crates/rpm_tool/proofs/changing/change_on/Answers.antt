@@ -1,7 +1,10 @@
-use Rattle.std.proofs.Common.{ℕ, List, subst}
+use Rattle.std.proofs.Common.{◌≡◌, ℕ, List, map, true, refl, sym, ap, ◌∙◌, subst}
+use Rattle.std.specs.Prelude.{IsTrue}
 use Rattle.rpm_outside.specs.Buffered.{inner}
+use Rattle.rpm_change.specs.Adding.{add_files}
 use Rattle.rpm_change.specs.Endings.{outputs}
 use Rattle.rpm_change.specs.Erasing.{erase}
+use Rattle.rpm_tool.specs.Tasks.{task_parts, reads_shelf}
 use Rattle.rpm_tool.specs.Working.{Worked}
 use Rattle.rpm_tool.proofs.changing.change_on.Goals as goal
 
@@ -10,6 +13,22 @@ returns-in-Make-clause-worked g c = λ told shelf.
     rw c.in-Make.is
     (c.make_on.ensures.worked told g.O.Sink.tells g.E.Sink.tells (g.O.Sink.taken (inner c.args.out.now)) (g.E.Sink.taken (inner c.args.err.now)))
 
+pub returns-in-Add-clause-worked : goal.returns-in-Add-clause-worked
+returns-in-Add-clause-worked g c = λ told shelf.
+    let O = g.O.Sink in
+    let E = g.E.Sink in
+    let out = O.taken (inner c.args.out.now) in
+    let shelf_told : IsTrue g.S.Shelf.tells = shelf (ap (λ (t : _). reads_shelf (task_parts t)) c.in-Add.is) in
+    rw c.in-Add.is (subst (λ (files : List (List ℕ)). Worked (λ s. add_files (g.S.Shelf.paths c.args.shelf.now) c.args.now s files)
+    (g.D.Disk.files c.args.disk.now) (g.D.Disk.files c.add_on.new.disk) c.add_on.result
+    (outputs O.tells out E.tells (E.taken (inner c.args.err.now))) (outputs O.tells out E.tells (E.taken (inner c.add_on.new.err))))
+    (ap (map (λ path. path.now)) c.as_slice.ensures.value) (c.add_on.ensures.worked told shelf_told O.tells out))
+
+pub returns-in-Replace-clause-worked : goal.returns-in-Replace-clause-worked
+returns-in-Replace-clause-worked g c = λ told shelf.
+    let shelf_told : IsTrue g.S.Shelf.tells = shelf (ap (λ (t : _). reads_shelf (task_parts t)) c.in-Replace.is) in
+    rw c.in-Replace.is (c.replace_on.ensures.worked told shelf_told g.O.Sink.tells (g.O.Sink.taken (inner c.args.out.now)))
+
 pub returns-in-Erase-clause-worked : goal.returns-in-Erase-clause-worked
 returns-in-Erase-clause-worked g c = λ told shelf.
     let O = g.O.Sink in
@@ -17,4 +36,13 @@ returns-in-Erase-clause-worked g c = λ told shelf.
     let out = O.taken (inner c.args.out.now) in
     rw c.in-Erase.is (subst (λ (ns : List ℕ). Worked (λ s. erase s ns) (g.D.Disk.files c.args.disk.now) (g.D.Disk.files c.erase_on.new.disk) c.erase_on.result
     (outputs O.tells out E.tells (E.taken (inner c.args.err.now))) (outputs O.tells out E.tells (E.taken (inner c.erase_on.new.err))))
-    c.as_slice.ensures.value (c.erase_on.ensures.worked told O.tells out))
+    c.as_slice-in-Erase.ensures.value (c.erase_on.ensures.worked told O.tells out))
+
+pub returns-in-Import-clause-worked : goal.returns-in-Import-clause-worked
+returns-in-Import-clause-worked g c = λ told shelf.
+    let shelf_told : IsTrue g.S.Shelf.tells = shelf (ap (λ (t : _). reads_shelf (task_parts t)) c.in-Import.is) in
+    rw c.in-Import.is (c.import_on.ensures.worked told shelf_told g.O.Sink.tells (g.O.Sink.taken (inner c.args.out.now)))
+
+pub returns-in-Rebuild-clause-worked : goal.returns-in-Rebuild-clause-worked
+returns-in-Rebuild-clause-worked g c = λ told shelf.
+    rw c.in-Rebuild.is (c.rebuild_on.ensures.worked told g.E.Sink.tells (g.E.Sink.taken (inner c.args.err.now)))

@@ -9,8 +9,8 @@ use Rattle.rpm_db.specs.State.{State}
 use Rattle.rpm_change.specs.Steps.{Course}
 use Rattle.rpm_change.specs.Endings.{outputs}
 use Rattle.rpm_tool.specs.Answers.{why_of_load}
-use Rattle.rpm_tool.specs.Tasks.{task_parts, task_course}
-use Rattle.rpm_tool.specs.Working.{Worked}
+use Rattle.rpm_tool.specs.Tasks.{task_parts, task_course, is_anew}
+use Rattle.rpm_tool.specs.Working.{WorkedWith}
 use Rattle.rpm_tool.proofs.Grouped.{group_did, group_changes}
 use Rattle.rpm_tool.proofs.Ends.{below_same, below_back, below_moment, below_settled, below_closed}
 use Rattle.rpm_tool.proofs.Unloaded.{unloaded_did, unloaded_changes}
@@ -42,7 +42,7 @@ returns-in-Ok-clause-went g c = λ told shelf.
     let now = outputs g.O.Sink.tells (g.O.Sink.taken (inner c.change_on-ended.new.out)) g.E.Sink.tells (g.E.Sink.taken (inner c.change_on-ended.new.err)) in
     group_did D.files D.left_since D.moment course ended c.end_group.result.0.why c.end_group.result.0.changes first last c.end_group.result.1 new before now
     (c.requires.closed told)
-    (subst (λ (f : Files). Worked course f new ended before now) (c.in-Ok.ensures.files told) (c.change_on-ended.ensures.worked told shelf))
+    (subst (λ (f : Files). WorkedWith (is_anew (task_parts c.args.task.now)) course f new ended before now) (c.in-Ok.ensures.files told) (c.change_on-ended.ensures.worked told shelf))
     (c.end_group.ensures.ends told)
 
 pub returns-in-Ok-clause-changed : goal.returns-in-Ok-clause-changed
@@ -66,7 +66,7 @@ returns-in-Ok-clause-changed g c = λ told shelf.
     let ends = c.end_group.ensures.ends told in
     group_changes D.files D.left_since D.moment course ended c.end_group.result.0.why c.end_group.result.0.changes first last final new before now
     (c.requires.closed told)
-    (subst (λ (f : Files). Worked course f new ended before now) (c.in-Ok.ensures.files told) (c.change_on-ended.ensures.worked told shelf))
+    (subst (λ (f : Files). WorkedWith (is_anew (task_parts c.args.task.now)) course f new ended before now) (c.in-Ok.ensures.files told) (c.change_on-ended.ensures.worked told shelf))
     ends
     (below_same D.tells D.files D.left_since D.moment D.bytes_read D.follows D.faults first mid last ro rn looks keeps told)
     (g.met.D.Disk.as_read first told) (c.requires.settled told)
