@@ -9,10 +9,11 @@ use Rattle.rpm_db.specs.State.{State}
 use Rattle.rpm_change.specs.declared.tally.Tally.{Tally}
 use Rattle.rpm_change.specs.declared.tally.Halt.{Halt}
 use Rattle.rpm_change.specs.declared.tally.Halt.TheVariants as halt
+use Rattle.rpm_change.specs.Erasing.{erase_one, erase}
 use Rattle.rpm_change.specs.Limits.{next_stores, LimitsTurn}
 use Rattle.rpm_change.specs.Numbers.{AllHaveNumbers, AreSpent}
 use Rattle.rpm_change.specs.Steps.{Course, idle, joined, in_turn, apply_all}
-use Rattle.rpm_change.proofs.Courses.{apply_all-append}
+use Rattle.rpm_change.proofs.Courses.{apply_all-append, turn_next}
 use Rattle.rpm_change.proofs.Filed.{bytes, nothing, path_next}
 use Rattle.rpm_change.proofs.Stored.{stores_behind, full_behind, unspent_more, spent_within}
 
@@ -119,3 +120,13 @@ path_limits each paths k s t v w x below g h turned =
     let u = apply_all turn.changes t in
     limited_stop (in_turn each s 0 (map bytes paths)) (in_turn each t k (map bytes (drop k paths))) turn
     (in_turn each u (k + 1) (map bytes (drop (k + 1) paths))) s t v w x (path_next each paths k t u below refl) g h turned
+
+-- and so was the number at a place
+pub number_limits : (xs : List ℕ) (k : ℕ) (s t : State) (v w x : Store) → k < length xs
+    → Limited (erase s xs) (in_turn erase_one t k (drop k xs)) s t v w → (h : Halt) → LimitsTurn t w x (erase_one t k (get_or xs k 0)).changes (Err h)
+    → LimitsTurn s v x (erase s xs).changes (Err h)
+number_limits xs k s t v w x below g h turned =
+    let turn = erase_one t k (get_or xs k 0) in
+    let u = apply_all turn.changes t in
+    limited_stop (erase s xs) (in_turn erase_one t k (drop k xs)) turn (in_turn erase_one u (k + 1) (drop (k + 1) xs)) s t v w x
+    (turn_next erase_one xs k 0 t u below refl) g h turned

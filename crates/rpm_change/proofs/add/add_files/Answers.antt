@@ -65,10 +65,9 @@ loop-path-preserved g c =
       limited = λ told shelf_told.
           let ended = subst (λ (qs : Paths). Done (add_file c.args.now qs t k path) t u c.in-Ok.tally (outputs true [] g.E.Sink.tells e')
           (outputs true [] g.E.Sink.tells e'')) (inv.paths shelf_told) (done.ended told shelf_told k true []) in
-          limited_more (in_turn each s 0 (map bytes xs)) (in_turn each t k (map bytes (drop k xs))) turn rest s t c.args.db.now.store c.loop-path.db.store
-          c.put_file.new.db.store (path_next each xs k t u (omega arith) ended.state_is) (inv.limited told shelf_told) u c.in-Ok.tally ended.state_is
-          (subst (λ (qs : Paths). LimitsTurn t c.loop-path.db.store c.put_file.new.db.store (add_file c.args.now qs t k path).changes (Ok c.in-Ok.tally))
-          (inv.paths shelf_told) (done.limits told shelf_told k));
+          limited_more _ _ turn rest _ _ _ _ _ (path_next each xs k t u (omega arith) ended.state_is) (inv.limited told shelf_told) u c.in-Ok.tally
+          ended.state_is (subst (λ (qs : Paths). LimitsTurn t c.loop-path.db.store c.put_file.new.db.store (add_file c.args.now qs t k path).changes
+          (Ok c.in-Ok.tally)) (inv.paths shelf_told) (done.limits told shelf_told k));
       few = omega (arith, inv.few, done.one);
       carried = record {
         going = done.carried.going;
@@ -133,44 +132,32 @@ returns-in-Err-clause-room g c = λ told shelf_told rows.
 pub returns-in-Err-clause-numbers : goal.returns-in-Err-clause-numbers
 returns-in-Err-clause-numbers g c = λ told shelf_told.
     let k = c.loop-path.path-index in
-    let ps = g.S.Shelf.paths c.args.shelf.now in
     let path = bytes (get_or c.args.paths.now k nothing) in
-    let s = state (g.D.Disk.files c.args.disk.now).pkg c.args.db.now.store in
     let t = state (g.D.Disk.files c.loop-path.disk).pkg c.loop-path.db.store in
-    let w = c.loop-path.db.store in
-    let x = c.put_file.new.db.store in
-    (path_limits (add_file c.args.now ps) c.args.paths.now k s t c.args.db.now.store w x (omega arith) (c.loop-path.invariant.limited told shelf_told)
-    c.in-Err.halt
-    (subst (λ (qs : Paths). LimitsTurn t w x (add_file c.args.now qs t k path).changes (Err c.in-Err.halt)) (c.loop-path.invariant.paths shelf_told)
-    (c.in-Err.ensures.limits told shelf_told k))).numbers
+    (path_limits (add_file c.args.now (g.S.Shelf.paths c.args.shelf.now)) c.args.paths.now k _ _ _ _ _ (omega arith)
+    (c.loop-path.invariant.limited told shelf_told) c.in-Err.halt
+    (subst (λ (qs : Paths). LimitsTurn t c.loop-path.db.store c.put_file.new.db.store (add_file c.args.now qs t k path).changes (Err c.in-Err.halt))
+    (c.loop-path.invariant.paths shelf_told) (c.in-Err.ensures.limits told shelf_told k))).numbers
 
 pub returns-in-Err-clause-generation : goal.returns-in-Err-clause-generation
 returns-in-Err-clause-generation g c = λ told shelf_told.
     let k = c.loop-path.path-index in
-    let ps = g.S.Shelf.paths c.args.shelf.now in
     let path = bytes (get_or c.args.paths.now k nothing) in
-    let s = state (g.D.Disk.files c.args.disk.now).pkg c.args.db.now.store in
     let t = state (g.D.Disk.files c.loop-path.disk).pkg c.loop-path.db.store in
-    let w = c.loop-path.db.store in
-    let x = c.put_file.new.db.store in
-    (path_limits (add_file c.args.now ps) c.args.paths.now k s t c.args.db.now.store w x (omega arith) (c.loop-path.invariant.limited told shelf_told)
-    c.in-Err.halt
-    (subst (λ (qs : Paths). LimitsTurn t w x (add_file c.args.now qs t k path).changes (Err c.in-Err.halt)) (c.loop-path.invariant.paths shelf_told)
-    (c.in-Err.ensures.limits told shelf_told k))).generation
+    (path_limits (add_file c.args.now (g.S.Shelf.paths c.args.shelf.now)) c.args.paths.now k _ _ _ _ _ (omega arith)
+    (c.loop-path.invariant.limited told shelf_told) c.in-Err.halt
+    (subst (λ (qs : Paths). LimitsTurn t c.loop-path.db.store c.put_file.new.db.store (add_file c.args.now qs t k path).changes (Err c.in-Err.halt))
+    (c.loop-path.invariant.paths shelf_told) (c.in-Err.ensures.limits told shelf_told k))).generation
 
 pub returns-in-Err-clause-store_room : goal.returns-in-Err-clause-store_room
 returns-in-Err-clause-store_room g c = λ told shelf_told.
     let k = c.loop-path.path-index in
-    let ps = g.S.Shelf.paths c.args.shelf.now in
     let path = bytes (get_or c.args.paths.now k nothing) in
-    let s = state (g.D.Disk.files c.args.disk.now).pkg c.args.db.now.store in
     let t = state (g.D.Disk.files c.loop-path.disk).pkg c.loop-path.db.store in
-    let w = c.loop-path.db.store in
-    let x = c.put_file.new.db.store in
-    (path_limits (add_file c.args.now ps) c.args.paths.now k s t c.args.db.now.store w x (omega arith) (c.loop-path.invariant.limited told shelf_told)
-    c.in-Err.halt
-    (subst (λ (qs : Paths). LimitsTurn t w x (add_file c.args.now qs t k path).changes (Err c.in-Err.halt)) (c.loop-path.invariant.paths shelf_told)
-    (c.in-Err.ensures.limits told shelf_told k))).store_room
+    (path_limits (add_file c.args.now (g.S.Shelf.paths c.args.shelf.now)) c.args.paths.now k _ _ _ _ _ (omega arith)
+    (c.loop-path.invariant.limited told shelf_told) c.in-Err.halt
+    (subst (λ (qs : Paths). LimitsTurn t c.loop-path.db.store c.put_file.new.db.store (add_file c.args.now qs t k path).changes (Err c.in-Err.halt))
+    (c.loop-path.invariant.paths shelf_told) (c.in-Err.ensures.limits told shelf_told k))).store_room
 
 pub returns-in-Err-clause-runs : goal.returns-in-Err-clause-runs
 returns-in-Err-clause-runs g c =
@@ -204,33 +191,18 @@ returns-clause-room g c = λ told shelf_told rows.
 
 pub returns-clause-numbers : goal.returns-clause-numbers
 returns-clause-numbers g c = λ told shelf_told.
-    let k = c.loop-path.path-index in
-    let xs = c.args.paths.now in
-    let each = add_file c.args.now (g.S.Shelf.paths c.args.shelf.now) in
-    let s = state (g.D.Disk.files c.args.disk.now).pkg c.args.db.now.store in
-    let t = state (g.D.Disk.files c.loop-path.disk).pkg c.loop-path.db.store in
-    (limited_end (in_turn each s 0 (map bytes xs)) (in_turn each t k (map bytes (drop k xs))) s t c.args.db.now.store c.loop-path.db.store
-    (record { failed = c.loop-path.failed; changes = c.loop-path.changes }) (path_none each xs k t (omega arith))
+    (limited_end _ _ _ _ _ _ (record { failed = c.loop-path.failed; changes = c.loop-path.changes })
+    (path_none (add_file c.args.now (g.S.Shelf.paths c.args.shelf.now)) c.args.paths.now c.loop-path.path-index _ (omega arith))
     (c.loop-path.invariant.limited told shelf_told)).numbers
 
 pub returns-clause-generation : goal.returns-clause-generation
 returns-clause-generation g c = λ told shelf_told.
-    let k = c.loop-path.path-index in
-    let xs = c.args.paths.now in
-    let each = add_file c.args.now (g.S.Shelf.paths c.args.shelf.now) in
-    let s = state (g.D.Disk.files c.args.disk.now).pkg c.args.db.now.store in
-    let t = state (g.D.Disk.files c.loop-path.disk).pkg c.loop-path.db.store in
-    (limited_end (in_turn each s 0 (map bytes xs)) (in_turn each t k (map bytes (drop k xs))) s t c.args.db.now.store c.loop-path.db.store
-    (record { failed = c.loop-path.failed; changes = c.loop-path.changes }) (path_none each xs k t (omega arith))
+    (limited_end _ _ _ _ _ _ (record { failed = c.loop-path.failed; changes = c.loop-path.changes })
+    (path_none (add_file c.args.now (g.S.Shelf.paths c.args.shelf.now)) c.args.paths.now c.loop-path.path-index _ (omega arith))
     (c.loop-path.invariant.limited told shelf_told)).generation
 
 pub returns-clause-store_room : goal.returns-clause-store_room
 returns-clause-store_room g c = λ told shelf_told.
-    let k = c.loop-path.path-index in
-    let xs = c.args.paths.now in
-    let each = add_file c.args.now (g.S.Shelf.paths c.args.shelf.now) in
-    let s = state (g.D.Disk.files c.args.disk.now).pkg c.args.db.now.store in
-    let t = state (g.D.Disk.files c.loop-path.disk).pkg c.loop-path.db.store in
-    (limited_end (in_turn each s 0 (map bytes xs)) (in_turn each t k (map bytes (drop k xs))) s t c.args.db.now.store c.loop-path.db.store
-    (record { failed = c.loop-path.failed; changes = c.loop-path.changes }) (path_none each xs k t (omega arith))
+    (limited_end _ _ _ _ _ _ (record { failed = c.loop-path.failed; changes = c.loop-path.changes })
+    (path_none (add_file c.args.now (g.S.Shelf.paths c.args.shelf.now)) c.args.paths.now c.loop-path.path-index _ (omega arith))
     (c.loop-path.invariant.limited told shelf_told)).store_room

@@ -7,7 +7,7 @@ use Rattle.rpm_db.specs.inner.Writes.{SameLog}
 use Rattle.rpm_change.specs.Steps.{in_turn, apply_all}
 use Rattle.rpm_change.specs.Erasing.{erase_one, erase}
 use Rattle.rpm_change.proofs.Courses.{halfway_start, halfway_more, halfway_stop, halfway_turn, halfway_end, halfway_room, turn_next, turn_none}
-use Rattle.rpm_change.proofs.Limits.{limited_start, limited_more, limited_stop, limited_end}
+use Rattle.rpm_change.proofs.Limits.{limited_start, limited_more, limited_end, number_limits}
 use Rattle.rpm_change.proofs.erase.erase_numbers.Goals as goal
 
 pub loop-number-init : goal.loop-number-init
@@ -48,11 +48,9 @@ loop-number-preserved g c =
           (g.E.Sink.taken (inner c.erase_one.new.err)) (turn_next erase_one xs k 0 t u (omega arith) ended.state_is) (inv.goes told out_tells out)
           c.in-Ok.tally ended (λ rows. done.room told (inv.carried.index told rows) k);
       limited = λ told.
-          let turn = erase_one t k (get_or xs k 0) in
           let after = (done.ended told k true []).state_is in
-          limited_more (erase s xs) (in_turn erase_one t k (drop k xs)) turn (in_turn erase_one u (k + 1) (drop (k + 1) xs)) s t c.args.db.now.store
-          c.loop-number.db.store c.erase_one.new.db.store (turn_next erase_one xs k 0 t u (omega arith) after) (inv.limited told) u c.in-Ok.tally after
-          (done.limits told k);
+          limited_more _ _ _ (in_turn erase_one u (k + 1) (drop (k + 1) xs)) _ _ _ _ _ (turn_next erase_one xs k 0 t u (omega arith) after)
+          (inv.limited told) u c.in-Ok.tally after (done.limits told k);
       few = omega (arith, inv.few, done.one);
       carried = record {
         going = done.carried.going;
@@ -106,27 +104,13 @@ returns-in-Err-clause-room g c = λ told rows.
 
 pub returns-in-Err-clause-generation : goal.returns-in-Err-clause-generation
 returns-in-Err-clause-generation g c = λ told.
-    let k = c.loop-number.number-index in
-    let xs = c.args.numbers.now in
-    let s = state (g.D.Disk.files c.args.disk.now).pkg c.args.db.now.store in
-    let t = state (g.D.Disk.files c.loop-number.disk).pkg c.loop-number.db.store in
-    let turn = erase_one t k (get_or xs k 0) in
-    let v = apply_all turn.changes t in
-    (limited_stop (erase s xs) (in_turn erase_one t k (drop k xs)) turn (in_turn erase_one v (k + 1) (drop (k + 1) xs)) s t c.args.db.now.store
-    c.loop-number.db.store c.erase_one.new.db.store (turn_next erase_one xs k 0 t v (omega arith) refl) (c.loop-number.invariant.limited told) c.in-Err.halt
-    (c.in-Err.ensures.limits told k)).generation
+    (number_limits c.args.numbers.now c.loop-number.number-index _ _ _ _ _ (omega arith) (c.loop-number.invariant.limited told) c.in-Err.halt
+    (c.in-Err.ensures.limits told c.loop-number.number-index)).generation
 
 pub returns-in-Err-clause-store_room : goal.returns-in-Err-clause-store_room
 returns-in-Err-clause-store_room g c = λ told.
-    let k = c.loop-number.number-index in
-    let xs = c.args.numbers.now in
-    let s = state (g.D.Disk.files c.args.disk.now).pkg c.args.db.now.store in
-    let t = state (g.D.Disk.files c.loop-number.disk).pkg c.loop-number.db.store in
-    let turn = erase_one t k (get_or xs k 0) in
-    let v = apply_all turn.changes t in
-    (limited_stop (erase s xs) (in_turn erase_one t k (drop k xs)) turn (in_turn erase_one v (k + 1) (drop (k + 1) xs)) s t c.args.db.now.store
-    c.loop-number.db.store c.erase_one.new.db.store (turn_next erase_one xs k 0 t v (omega arith) refl) (c.loop-number.invariant.limited told) c.in-Err.halt
-    (c.in-Err.ensures.limits told k)).store_room
+    (number_limits c.args.numbers.now c.loop-number.number-index _ _ _ _ _ (omega arith) (c.loop-number.invariant.limited told) c.in-Err.halt
+    (c.in-Err.ensures.limits told c.loop-number.number-index)).store_room
 
 pub returns-in-Err-clause-runs : goal.returns-in-Err-clause-runs
 returns-in-Err-clause-runs g c =
@@ -158,20 +142,10 @@ returns-clause-room g c = λ told rows.
 
 pub returns-clause-generation : goal.returns-clause-generation
 returns-clause-generation g c = λ told.
-    let k = c.loop-number.number-index in
-    let xs = c.args.numbers.now in
-    let s = state (g.D.Disk.files c.args.disk.now).pkg c.args.db.now.store in
-    let t = state (g.D.Disk.files c.loop-number.disk).pkg c.loop-number.db.store in
-    (limited_end (erase s xs) (in_turn erase_one t k (drop k xs)) s t c.args.db.now.store c.loop-number.db.store
-    (record { failed = c.loop-number.failed; changes = c.loop-number.changes }) (turn_none erase_one xs k t (omega arith))
-    (c.loop-number.invariant.limited told)).generation
+    (limited_end _ _ _ _ _ _ (record { failed = c.loop-number.failed; changes = c.loop-number.changes })
+    (turn_none erase_one c.args.numbers.now c.loop-number.number-index _ (omega arith)) (c.loop-number.invariant.limited told)).generation
 
 pub returns-clause-store_room : goal.returns-clause-store_room
 returns-clause-store_room g c = λ told.
-    let k = c.loop-number.number-index in
-    let xs = c.args.numbers.now in
-    let s = state (g.D.Disk.files c.args.disk.now).pkg c.args.db.now.store in
-    let t = state (g.D.Disk.files c.loop-number.disk).pkg c.loop-number.db.store in
-    (limited_end (erase s xs) (in_turn erase_one t k (drop k xs)) s t c.args.db.now.store c.loop-number.db.store
-    (record { failed = c.loop-number.failed; changes = c.loop-number.changes }) (turn_none erase_one xs k t (omega arith))
-    (c.loop-number.invariant.limited told)).store_room
+    (limited_end _ _ _ _ _ _ (record { failed = c.loop-number.failed; changes = c.loop-number.changes })
+    (turn_none erase_one c.args.numbers.now c.loop-number.number-index _ (omega arith)) (c.loop-number.invariant.limited told)).store_room
