@@ -36,7 +36,8 @@ loop-picked-preserved g c =
       goes = λ told serves.
           let same = inv.runs.reads_as told in
           let next = rw c.in-Ok-Some.field-0-is at (done.told told (served sel db c.loop-picked.picker c.args.picker.now mid start inv.same same serves)) in
-          let here = subst (λ (f : Files). (rest : List (ℕ × Package)) × (above n (picks (packages f.pkg db.store) sel) ≡ entry_in c.in-Ok-Some.picked ∷ rest)) same next in
+          let here =
+          subst (λ (f : Files). (rest : List (ℕ × Package)) × (above n (picks (packages f.pkg db.store) sel) ≡ entry_in c.in-Ok-Some.picked ∷ rest)) same next in
           rw c.number_of-number.ensures (count_more (packages start.pkg db.store) sel n c.in-Ok-Some.picked here.0 here.1 c.loop-picked.count
           (length (above 0 (picks (packages start.pkg db.store) sel))) (inv.goes told serves));
       runs = runs_then g.D.Disk.tells g.D.Disk.files g.D.Disk.left_since g.D.Disk.moment g.D.Disk.bytes_read g.D.Disk.follows g.met.D.Disk.follows_trans
@@ -63,7 +64,8 @@ loop-picked-preserved-in-Ok-Some g c =
       goes = λ told serves.
           let same = inv.runs.reads_as told in
           let next = rw c.in-Ok-Some.field-0-is at (done.told told (served sel db c.loop-picked.picker c.args.picker.now mid start inv.same same serves)) in
-          let here = subst (λ (f : Files). (rest : List (ℕ × Package)) × (above n (picks (packages f.pkg db.store) sel) ≡ entry_in c.in-Ok-Some.picked ∷ rest)) same next in
+          let here =
+          subst (λ (f : Files). (rest : List (ℕ × Package)) × (above n (picks (packages f.pkg db.store) sel) ≡ entry_in c.in-Ok-Some.picked ∷ rest)) same next in
           rw c.number_of-number.ensures (count_more (packages start.pkg db.store) sel n c.in-Ok-Some.picked here.0 here.1 c.loop-picked.count
           (length (above 0 (picks (packages start.pkg db.store) sel))) (inv.goes told serves));
       runs = runs_then g.D.Disk.tells g.D.Disk.files g.D.Disk.left_since g.D.Disk.moment g.D.Disk.bytes_read g.D.Disk.follows g.met.D.Disk.follows_trans
@@ -83,7 +85,8 @@ returns-in-Ok-None-clause-told g c = λ told serves.
     let start = g.D.Disk.files c.args.disk.now in
     let mid = g.D.Disk.files c.loop-picked.disk in
     let same = inv.runs.reads_as told in
-    let none = rw c.in-Ok-None.field-0-is at (c.in-Ok-None.ensures.told told (served sel db c.loop-picked.picker c.args.picker.now mid start inv.same same serves)) in
+    let none = rw c.in-Ok-None.field-0-is at
+    (c.in-Ok-None.ensures.told told (served sel db c.loop-picked.picker c.args.picker.now mid start inv.same same serves)) in
     let here = subst (λ (f : Files). above n (picks (packages f.pkg db.store) sel) ≡ []) same none in
     omega (arith, inv.goes told serves, ap length here)
 

@@ -39,7 +39,8 @@ loop-picked-preserved g c =
       goes = λ told serves.
           let same = inv.runs.reads_as told in
           let next = rw c.in-Ok-Some.field-0-is at (done.told told (served sel db c.loop-picked.picker c.args.picker.now mid start inv.same same serves)) in
-          let here = subst (λ (f : Files). (rest : List (ℕ × Package)) × (above n (picks (packages f.pkg db.store) sel) ≡ entry_in c.in-Ok-Some.picked ∷ rest)) same next in
+          let here =
+          subst (λ (f : Files). (rest : List (ℕ × Package)) × (above n (picks (packages f.pkg db.store) sel) ≡ entry_in c.in-Ok-Some.picked ∷ rest)) same next in
           let fed = inv.goes told serves in (
             fed.0 ++ exported (entry_in c.in-Ok-Some.picked),
             (
@@ -71,7 +72,8 @@ loop-picked-preserved-in-Ok-Some g c =
       goes = λ told serves.
           let same = inv.runs.reads_as told in
           let next = rw c.in-Ok-Some.field-0-is at (done.told told (served sel db c.loop-picked.picker c.args.picker.now mid start inv.same same serves)) in
-          let here = subst (λ (f : Files). (rest : List (ℕ × Package)) × (above n (picks (packages f.pkg db.store) sel) ≡ entry_in c.in-Ok-Some.picked ∷ rest)) same next in
+          let here =
+          subst (λ (f : Files). (rest : List (ℕ × Package)) × (above n (picks (packages f.pkg db.store) sel) ≡ entry_in c.in-Ok-Some.picked ∷ rest)) same next in
           let fed = inv.goes told serves in (
             fed.0 ++ exported (entry_in c.in-Ok-Some.picked),
             (
@@ -97,7 +99,8 @@ returns-in-Ok-None-clause-told g c = λ told serves.
     let start = g.D.Disk.files c.args.disk.now in
     let mid = g.D.Disk.files c.loop-picked.disk in
     let same = inv.runs.reads_as told in
-    let none = rw c.in-Ok-None.field-0-is at (c.in-Ok-None.ensures.told told (served sel db c.loop-picked.picker c.args.picker.now mid start inv.same same serves)) in
+    let none = rw c.in-Ok-None.field-0-is at
+    (c.in-Ok-None.ensures.told told (served sel db c.loop-picked.picker c.args.picker.now mid start inv.same same serves)) in
     let here = subst (λ (f : Files). above n (picks (packages f.pkg db.store) sel) ≡ []) same none in
     let fed = inv.goes told serves in
     c.finalize.ensures fed.0 fed.1.0

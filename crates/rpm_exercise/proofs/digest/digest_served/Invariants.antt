@@ -17,7 +17,8 @@ invariant-loop-picked g l = record {
   keeps : IsTrue g.D.Disk.tells → Keeps (g.D.Disk.files l.disk).pkg l.db;
   same : l.picker ≡ l.initial.picker;
   goes : IsTrue g.D.Disk.tells → Serves l.initial.picker (packages (g.D.Disk.files l.initial.disk).pkg l.db.store) question.All
-      → (fed : List ℕ) × (Holds256 l.hasher fed × (fed ++ flat_map exported (above l.number (picks (packages (g.D.Disk.files l.initial.disk).pkg l.db.store) question.All))
+      → (fed : List ℕ) × (Holds256 l.hasher fed
+      × (fed ++ flat_map exported (above l.number (picks (packages (g.D.Disk.files l.initial.disk).pkg l.db.store) question.All))
       ≡ flat_map exported (above 0 (picks (packages (g.D.Disk.files l.initial.disk).pkg l.db.store) question.All))));
   runs : Runs g.D.Disk.tells g.D.Disk.files g.D.Disk.left_since g.D.Disk.moment g.D.Disk.bytes_read g.D.Disk.follows SameFiles l.initial.disk l.disk;
   disk : g.D.Disk.faults l.initial.disk ≤ g.D.Disk.faults l.disk;
