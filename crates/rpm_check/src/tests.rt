@@ -61,34 +61,6 @@ fn push_blocks(bytes: &mut Vec<u8>, number: u32, blob: &[u8]) -> Result<(), Allo
     bytes.extend_from_slice(b"BlbE")
 }
 
-// A Packages.db of one page with these blobs, from number 1 on.
-fn store_of(alloc: Global, packages: &[&[u8]]) -> Result<Vec<u8>, AllocError> {
-    let mut bytes = Vec::new(alloc);
-    let mut blobs = Vec::new(alloc);
-    push_unit(&mut bytes, b"RpmP", [0, 1, 1])?;
-    push_unit(&mut bytes, &[0xff, 0xff, 0, 0], [0; 3])?;
-    let mut number = 0;
-    for blob in packages {
-        number = u32::wrapping_add(number, 1);
-        let before = u32::try_from(blobs.len() / 16).unwrap_or(0);
-        push_blocks(&mut blobs, number, blob)?;
-        let after = u32::try_from(blobs.len() / 16).unwrap_or(0);
-        let first = before.wrapping_add(256);
-        push_unit(
-            &mut bytes,
-            b"Slot",
-            [number, first, after.wrapping_sub(before)],
-        )?;
-    }
-    for _ in 0..256 {
-        if bytes.len() % 4096 != 0 {
-            push_unit(&mut bytes, b"Slot", [0; 3])?;
-        }
-    }
-    bytes.extend_from_slice(&blobs)?;
-    Ok(bytes)
-}
-
 // A package that provides a name in one version, behind its first.
 fn library(alloc: Global, version: &[u8]) -> Result<Vec<u8>, AllocError> {
     laid(
@@ -121,7 +93,11 @@ fn bash(alloc: Global) -> Result<Vec<u8>, AllocError> {
 }
 
 // A package that provides a capability in the version 1, and requires another.
-fn generated(alloc: Global, provided: &[u8], required: &[u8]) -> Result<Vec<u8>, AllocError> {
+fn generated<'x>(
+    alloc: Global,
+    provided: &'x [u8],
+    required: &'x [u8],
+) -> Result<Vec<u8>, AllocError> {
     laid(
         alloc,
         &[
@@ -151,6 +127,49 @@ fn needy(alloc: Global) -> Result<Vec<u8>, AllocError> {
             (1050, TEXTS, 11, versions),
         ],
     )
+}
+
+// A package by its letter; what is no header for every other.
+fn package(alloc: Global, letter: u8) -> Result<Vec<u8>, AllocError> {
+    match letter {
+        b'e' => library(alloc, b"1.0~rc1\0"),
+        b'l' => library(alloc, b"1.0^git1\0"),
+        b'b' => bash(alloc),
+        b'n' => needy(alloc),
+        b'1' => generated(alloc, b"cap1\0", b"cap2\0"),
+        b'2' => generated(alloc, b"cap2\0", b"cap3\0"),
+        b'3' => generated(alloc, b"cap3\0", b"cap4\0"),
+        _ => Vec::from_slice(alloc, b"no header"),
+    }
+}
+
+// A Packages.db of one page with the packages of these letters, from number 1 on.
+fn store_of(alloc: Global, letters: &[u8]) -> Result<Vec<u8>, AllocError> {
+    let mut bytes = Vec::new(alloc);
+    let mut blobs = Vec::new(alloc);
+    push_unit(&mut bytes, b"RpmP", [0, 1, 1])?;
+    push_unit(&mut bytes, &[0xff, 0xff, 0, 0], [0; 3])?;
+    let mut number = 0;
+    for letter in letters {
+        number = u32::wrapping_add(number, 1);
+        let blob = package(alloc, *letter)?;
+        let before = u32::try_from(blobs.len() / 16).unwrap_or(0);
+        push_blocks(&mut blobs, number, &blob)?;
+        let after = u32::try_from(blobs.len() / 16).unwrap_or(0);
+        let first = before.wrapping_add(256);
+        push_unit(
+            &mut bytes,
+            b"Slot",
+            [number, first, after.wrapping_sub(before)],
+        )?;
+    }
+    for _ in 0..256 {
+        if bytes.len() % 4096 != 0 {
+            push_unit(&mut bytes, b"Slot", [0; 3])?;
+        }
+    }
+    bytes.extend_from_slice(&blobs)?;
+    Ok(bytes)
 }
 
 // Opens a database, with its index or without.
@@ -195,27 +214,19 @@ fn are_unmet(
 
 #[test]
 fn requirements_are_unmet(rt: HostRuntime) -> Result<(), AllocError> {
-    let alloc = rt.alloc();
-    let early = library(alloc, b"1.0~rc1\0")?;
-    let late = library(alloc, b"1.0^git1\0")?;
-    let shell = bash(alloc)?;
-    let many = needy(alloc)?;
-    let first = generated(alloc, b"cap1\0", b"cap2\0")?;
-    let second = generated(alloc, b"cap2\0", b"cap3\0")?;
-    let third = generated(alloc, b"cap3\0", b"cap4\0")?;
-    let table: [(&[&[u8]], &[(u32, u32)]); 6] = [
-        (&[], &[]),
-        (&[&early, &shell, &late], &[(2, 0), (2, 1)]),
-        (&[&first, &second, &third], &[(3, 0)]),
-        (&[&first, &second, b"no header"], &[(2, 0)]),
-        // a path under another directory, a path with a range, a version below, a name in capitals
+    let table: [(&[u8], &[(u32, u32)]); 6] = [
+        (b"", &[]),
+        (b"ebl", &[(2, 0), (2, 1)]),
+        (b"123", &[(3, 0)]),
+        (b"12x", &[(2, 0)]),
+        // a path in another directory, a path with a range, a version below, a name in capitals
         (
-            &[&shell, &many, &early, &late],
+            b"bnel",
             &[(1, 0), (1, 1), (2, 3), (2, 4), (2, 7), (2, 9), (2, 10)],
         ),
-        // without the libraries, and the second time by what is remembered
+        // without the libraries, some of them twice
         (
-            &[&many, &shell],
+            b"nb",
             &[
                 (1, 3),
                 (1, 4),
@@ -229,12 +240,11 @@ fn requirements_are_unmet(rt: HostRuntime) -> Result<(), AllocError> {
             ],
         ),
     ];
-    for (packages, expected) in table {
-        let file = store_of(alloc, packages)?;
-        for is_indexed in [false, true] {
-            let same = are_unmet(alloc, &file, expected, is_indexed)?;
-            assert!(rt; same, "{expected:?}");
-        }
+    for (letters, expected) in table {
+        let file = store_of(rt.alloc(), letters)?;
+        let unindexed = are_unmet(rt.alloc(), &file, expected, false)?;
+        let indexed = are_unmet(rt.alloc(), &file, expected, true)?;
+        assert!(rt; unindexed && indexed, "{letters:?}");
     }
     Ok(())
 }
