@@ -1,5 +1,5 @@
 -- Faults of an index.
-use Rattle.std.proofs.Common.{◌≡◌, ℕ, List, [], ◌∷◌, inl, inr}
+use Rattle.std.proofs.Common.{ℕ, List, [], ◌∷◌, inl, inr}
 use Rattle.rpm_outside.specs.Files.{Units}
 use Rattle.rpm_tags.specs.declared.kind.Kind.{Kind}
 use Rattle.rpm_select.specs.declared.picker.PickFault.{PickFault}

@@ -1,6 +1,5 @@
 -- Runs of calls that read packages and an index.
-use Rattle.std.proofs.Common.{◌≡◌, ℕ, Bool, refl, ap, ◌∙◌, sym, subst, arith}
-use Rattle.std.specs.Prelude.{IsTrue}
+use Rattle.std.proofs.Common.{ℕ, Bool, refl, ◌∙◌, arith}
 use Rattle.rpm_outside.specs.declared.disk.File.{File}
 use Rattle.rpm_outside.specs.declared.disk.File.TheVariants.{Pkg, Idx}
 use Rattle.rpm_outside.specs.Files.{Files}

@@ -1,7 +1,6 @@
 -- A requirement is met where its capability is provided.
-use Rattle.std.proofs.Common.{◌≡◌, ℕ, List, Bool, ◌==◌, ◌||◌, Ok, Err, refl, ap, ◌∙◌}
+use Rattle.std.proofs.Common.{◌≡◌, ℕ, List, ◌==◌, ◌||◌, Ok, Err, refl, ◌∙◌}
 use Rattle.std.specs.Prelude.{◌&&◌, Result, slice_index}
-use Rattle.std.specs.List.{list_any}
 use Rattle.std.specs.Ordering.{nat_cmp}
 use Rattle.std.specs.Str.{bytes_eq}
 use Rattle.std.specs.FinMap.{FinMap, entries}

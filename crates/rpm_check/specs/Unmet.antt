@@ -1,12 +1,11 @@
 -- Which requirements no package meets.
-use Rattle.std.specs.Prelude.{ℕ, List, [], ◌∷◌, map, filter, length, codes, Bool, false, not, ◌&&◌, ◌||◌, ◌==◌, nat_eq, slice_index, Result, Ok, Err}
+use Rattle.std.specs.Prelude.{ℕ, List, [], map, filter, length, codes, Bool, false, not, ◌&&◌, ◌||◌, ◌==◌, nat_eq, slice_index, Result, Ok, Err}
 use Rattle.std.specs.List.{list_any, flat_map, zip, range_with_len, starts_with}
 use Rattle.std.specs.Ordering.{nat_cmp}
 use Rattle.std.specs.Str.{bytes_eq}
 use Rattle.std.specs.FinMap.{FinMap, entries}
 use Rattle.rpm_header.specs.declared.form.HeaderFault.{HeaderFault}
 use Rattle.rpm_header.specs.Header.{Header, header}
-use Rattle.rpm_tags.specs.declared.needed.Tags.{Tags}
 use Rattle.rpm_tags.specs.Numbers.{PROVIDENAME, PROVIDEFLAGS, PROVIDEVERSION, REQUIRENAME, REQUIREFLAGS, REQUIREVERSION}
 use Rattle.rpm_tags.specs.Wanted.{Needed, has_file, dependencies}
 use Rattle.rpm_version.specs.Range.{is_open, overlaps}

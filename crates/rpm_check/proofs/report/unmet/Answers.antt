@@ -5,7 +5,7 @@ use Rattle.rpm_outside.specs.Files.{Files}
 use Rattle.rpm_db.specs.State.{packages}
 use Rattle.rpm_select.specs.Reach.{HasIndexRows}
 use Rattle.rpm_check.specs.declared.list.Unmet.{Unmet}
-use Rattle.rpm_check.specs.Unmet.{is_met, lacks, unmet}
+use Rattle.rpm_check.specs.Unmet.{is_met, lacks}
 use Rattle.rpm_check.specs.inner.Memos.{Remembers}
 use Rattle.rpm_check.specs.inner.Rounds.{unmet_at}
 use Rattle.rpm_check.proofs.Glancing.{glances_none, glances_then}
