@@ -1,28 +1,23 @@
 -- What was gathered of all packages is what the definitions say.
-use Rattle.std.proofs.Common.{◌≡◌, ℕ, ◌<◌, Bool, true, false, ◌==◌, ◌||◌, cond, List, [], ◌∷◌, ◌++◌, map, Option, Some, None, is_some, Result, Ok, Err, refl, sym, ap, ◌∙◌, subst, arith, append_assoc, append-nil, Less, Equal, Greater}
+use Rattle.std.proofs.Common.{◌≡◌, ℕ, ◌<◌, Bool, true, false, ◌==◌, cond, List, [], ◌∷◌, map, Option, Some, None, Result, Ok, Err, refl, sym, ap, ◌∙◌, subst, arith, Less, Equal, Greater}
 use Rattle.std.specs.Prelude.{T, nat_lt}
-use Rattle.std.specs.List.{flat_map, list_any}
-use Rattle.std.specs.Option.{option_and_then}
-use Rattle.std.specs.Ordering.{nat_cmp, is_lt, is_eq, eq_by_cmp}
-use Rattle.std.specs.Str.{bytes_eq}
-use Rattle.std.specs.Cmp.{unsigned_tied}
+use Rattle.std.specs.Ordering.{nat_cmp, is_lt}
 use Rattle.std.specs.Cmp.Lexicographic.{nat_list_cmp_total}
 use Rattle.std.specs.FinMap as finite
-use Rattle.std.specs.FinMap.{find, put, is_sorted}
-use Rattle.std.specs.FinMap.Entries.{below_all, find-put, same_entries}
-use Rattle.std.proofs.lemmas.Cmp.{nat_cmp_total}
-use Rattle.std.proofs.lemmas.Map.Text.{is_eq-slice_cmp}
+use Rattle.std.specs.FinMap.{find, is_sorted}
+use Rattle.std.specs.FinMap.Entries.{below_all, same_entries}
 use Rattle.std.proofs.lemmas.Bool.Decides.{nat_tests}
 use Rattle.rpm_header.specs.declared.form.HeaderFault.{HeaderFault}
 use Rattle.rpm_header.specs.Header.{Header, header}
 use Rattle.rpm_db.specs.State.{Package, Good, Bad}
-use Rattle.rpm_db.specs.inner.Above.{both_true, none_below}
-use Rattle.rpm_filecheck.specs.Conflicts.{path_order, files_read, files_of, as_owner, owner_of, owners, own_paths, all_paths, owned}
-use Rattle.rpm_filecheck.specs.Files.{Facts, OwnFile, files, said_of}
+use Rattle.rpm_db.specs.inner.Above.{both_true}
+use Rattle.rpm_filecheck.specs.Conflicts.{path_order, files_read, files_of, as_owner, owner_of, owners, all_paths, owned}
+use Rattle.rpm_filecheck.specs.Files.{Facts, files, said_of}
 use Rattle.rpm_filecheck.specs.Owners.{Owner}
-use Rattle.rpm_filecheck.specs.inner.Gathered.{Paths, Found, nothing, last_from, with_files, with_read, with_package, with_packages}
+use Rattle.rpm_filecheck.specs.inner.Gathered.{Found, nothing, last_from, with_read, with_package, with_packages}
 use Rattle.rpm_filecheck.proofs.Joining.{last_from-append}
-use Rattle.rpm_filecheck.proofs.Folding.{path_order-same, same_path, is_sorted-with_files, grown, grown-append, IsNew, find-package}
+use Rattle.rpm_filecheck.proofs.Folding.{path_order-same, is_sorted-with_files, grown, grown-append, IsNew, find-package}
+use Rattle.rpm_filecheck.proofs.Owning.{has-owners, find-paths, grown-none}
 
 is_lt-nat_cmp : (a b : ℕ) → is_lt (nat_cmp a b) ≡ nat_lt a b
 is_lt-nat_cmp a b = elim (nat_lt a b) as (λ t. is_lt (cond t Less (cond (a == b) Equal Greater)) ≡ t) [
@@ -47,7 +42,8 @@ IsBefore (Some os) es = T (below_all nat_cmp (last_from 0 os) es)
 is_new : (o : Option (List Owner)) (n : ℕ) (p : Package) (es : List (ℕ × Package)) → IsBefore o ((n, p) ∷ es) → IsNew n o
 is_new None n p es before = tt
 is_new (Some os) n p es before =
-    let lt : last_from 0 os < n = is_below (last_from 0 os) n (both_true (is_lt (nat_cmp (last_from 0 os) n)) (below_all nat_cmp (last_from 0 os) es) before).0 in
+    let first = both_true (is_lt (nat_cmp (last_from 0 os) n)) (below_all nat_cmp (last_from 0 os) es) before in
+    let lt : last_from 0 os < n = is_below (last_from 0 os) n first.0 in
     grind (arith, nat_tests)
 
 before_rest : (o : Option (List Owner)) (n : ℕ) (p : Package) (es : List (ℕ × Package)) → IsBefore o ((n, p) ∷ es) → IsBefore o es
@@ -95,54 +91,6 @@ is_sorted-package n Bad f t = t
 is_sorted-all : (es : List (ℕ × Package)) (f : Found) → T (is_sorted path_order f.paths) → T (is_sorted path_order (with_packages es f).paths)
 is_sorted-all [] f t = t
 is_sorted-all (e ∷ es) f t = is_sorted-all es (with_package e.0 e.1 f) (is_sorted-package e.0 e.1 f t)
-
--- ---- which paths have owners
-
-abbrev is_some_owner : List Owner → Bool
-is_some_owner [] = false
-is_some_owner (o ∷ os) = true
-
-some-append : (xs ys : List Owner) → is_some_owner (xs ++ ys) ≡ (is_some_owner xs || is_some_owner ys)
-some-append [] ys = refl
-some-append (x ∷ xs) ys = refl
-
-abbrev has : List ℕ → List (List ℕ) → Bool
-has q ps = list_any (bytes_eq q) ps
-
-has-append : (q : List ℕ) (ps qs : List (List ℕ)) → has q (ps ++ qs) ≡ (has q ps || has q qs)
-has-append q [] qs = refl
-has-append q (p ∷ ps) qs = elim (bytes_eq q p) as (λ b. (b || has q (ps ++ qs)) ≡ ((b || has q ps) || has q qs)) [ true ↦ refl | false ↦ has-append q ps qs ]
-
-has-files : (q : List ℕ) (n : ℕ) (fs : List OwnFile) → is_some_owner (as_owner n (said_of q fs)) ≡ has q (map (λ f. f.path) fs)
-has-files q n [] = refl
-has-files q n (f ∷ fs) =
-    elim (bytes_eq q f.path) as (λ b. is_some_owner (as_owner n (cond b (Some f.facts) (said_of q fs))) ≡ (b || has q (map (λ f. f.path) fs))) [
-      | true ↦ refl
-      | false ↦ has-files q n fs
-    ]
-
-has-owners : (q : List ℕ) (es : List (ℕ × Package)) → is_some_owner (owners q es) ≡ has q (all_paths es)
-has-owners q [] = refl
-has-owners q ((n, p) ∷ es) =
-    some-append (owner_of q (n, p)) (owners q es)
-    ∙ ap (λ (b : Bool). b || is_some_owner (owners q es)) (has-files q n (files_of p))
-    ∙ ap (λ (b : Bool). has q (own_paths (n, p)) || b) (has-owners q es)
-    ∙ sym (has-append q (own_paths (n, p)) (all_paths es))
-
-find_first : (q p : List ℕ) (g : List ℕ → List Owner) (rest : Option (List Owner)) (more : Bool) → rest ≡ cond more (Some (g q)) None
-    → (b : Bool) → bytes_eq q p ≡ b → cond b (Some (g p)) rest ≡ cond (b || more) (Some (g q)) None
-find_first q p g rest more is true t = ap (λ (x : List ℕ). Some (g x)) (sym (same_path q p t))
-find_first q p g rest more is false t = is
-
-find-paths : (q : List ℕ) (g : List ℕ → List Owner) (ps : List (List ℕ)) → find path_order q (map (λ path. (path, g path)) ps) ≡ cond (has q ps) (Some (g q)) None
-find-paths q g [] = refl
-find-paths q g (p ∷ ps) =
-    ap (λ (b : Bool). cond b (Some (g p)) (find path_order q (map (λ path. (path, g path)) ps))) (is_eq-slice_cmp q p)
-    ∙ find_first q p g (find path_order q (map (λ path. (path, g path)) ps)) (has q ps) (find-paths q g ps) (bytes_eq q p) refl
-
-grown-none : (os : List Owner) → grown None os ≡ cond (is_some_owner os) (Some os) None
-grown-none [] = refl
-grown-none (o ∷ os) = refl
 
 module _ (packages : finite.FinMap nat_cmp Package) where
   find-owned : (q : List ℕ) → find path_order q (finite.entries (owned packages)) ≡ grown None (owners q (finite.entries packages))

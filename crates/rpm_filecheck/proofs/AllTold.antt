@@ -6,7 +6,7 @@ use Rattle.std.specs.Option.{option_and_then}
 use Rattle.std.specs.Ordering.{nat_cmp, eq_by_cmp}
 use Rattle.std.specs.Cmp.{unsigned_tied}
 use Rattle.std.specs.FinMap as finite
-use Rattle.std.specs.FinMap.{find, put, is_sorted}
+use Rattle.std.specs.FinMap.{find, is_sorted}
 use Rattle.std.specs.FinMap.Entries.{below_all, find-put}
 use Rattle.std.proofs.lemmas.Cmp.{nat_cmp_total}
 use Rattle.std.proofs.lemmas.Bool.{cases_Bool}
@@ -15,10 +15,10 @@ use Rattle.rpm_header.specs.declared.form.HeaderFault.{HeaderFault}
 use Rattle.rpm_header.specs.Header.{Header, header}
 use Rattle.rpm_db.specs.State.{Package, Good, Bad}
 use Rattle.rpm_db.specs.inner.Above.{both_true, none_below}
-use Rattle.rpm_filecheck.specs.Conflicts.{bad_of, bad, label, label_read, label_of, label_at, owned, conflicts, IsReport}
-use Rattle.rpm_filecheck.specs.Owners.{Owner, Conflict, conflicts_on}
+use Rattle.rpm_filecheck.specs.Conflicts.{bad_of, bad, label, label_read, label_of, label_at, conflicts, IsReport}
+use Rattle.rpm_filecheck.specs.Owners.{Conflict, conflicts_on}
 use Rattle.rpm_filecheck.proofs.AllOwned.{paths-owned}
-use Rattle.rpm_filecheck.specs.inner.Gathered.{Labels, Paths, Found, nothing, with_read, with_package, with_packages}
+use Rattle.rpm_filecheck.specs.inner.Gathered.{Paths, Found, nothing, with_read, with_package, with_packages}
 
 -- ---- the numbers that can't be read
 

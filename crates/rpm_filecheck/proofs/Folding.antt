@@ -1,11 +1,11 @@
 -- What the files of a package add to the owners of one path.
-use Rattle.std.proofs.Common.{◌≡◌, ℕ, ◌<◌, Bool, true, false, ◌==◌, cond, List, [], ◌∷◌, ◌++◌, Option, Some, None, refl, sym, ap, ◌∙◌, subst, arith, append_assoc, append-nil, Less, Equal, Greater}
-use Rattle.std.specs.Prelude.{T, nat_lt}
+use Rattle.std.proofs.Common.{◌≡◌, ℕ, Bool, true, false, ◌==◌, cond, List, [], ◌∷◌, ◌++◌, Option, Some, None, refl, sym, ap, ◌∙◌, arith, append_assoc, append-nil, Less, Equal, Greater}
+use Rattle.std.specs.Prelude.{T}
 use Rattle.std.specs.declared.cmp.Ordering.{Ordering}
-use Rattle.std.specs.Ordering.{nat_cmp, is_lt, is_eq, eq_by_cmp}
+use Rattle.std.specs.Ordering.{is_eq}
 use Rattle.std.specs.Str.{bytes_eq}
 use Rattle.std.specs.Cmp.Lexicographic.{nat_list_cmp_total}
-use Rattle.std.specs.FinMap.{find, put, is_sorted, nat_cmp-IsAntisymmetric, slice_cmp-IsAntisymmetric}
+use Rattle.std.specs.FinMap.{find, is_sorted, nat_cmp-IsAntisymmetric, slice_cmp-IsAntisymmetric}
 use Rattle.std.specs.FinMap.Entries.{find-put, is_sorted-put}
 use Rattle.std.proofs.lemmas.Map.Text.{is_eq-slice_cmp}
 use Rattle.std.proofs.lemmas.Bool.Decides.{nat_tests}
@@ -93,7 +93,8 @@ unfolding steps step
 steps-same n q [] os is = refl
 steps-same n q (f ∷ fs) os is =
     let test : (last_from 0 os == n) ≡ true = ap (λ (m : ℕ). m == n) is ∙ same_number n in
-    let kept : joined os (record { number = n; facts = f.facts }) ≡ os = ap (λ (b : Bool). cond b os (os ++ record { number = n; facts = f.facts } ∷ [])) test in
+    let kept : joined os (record { number = n; facts = f.facts }) ≡ os =
+    ap (λ (b : Bool). cond b os (os ++ record { number = n; facts = f.facts } ∷ [])) test in
     elim (bytes_eq q f.path) as (λ b. steps n q fs (cond b (Some (joined os (record { number = n; facts = f.facts }))) (Some os)) ≡ Some os) [
       | true ↦ ap (λ (ws : List Owner). steps n q fs (Some ws)) kept ∙ steps-same n q fs os is
       | false ↦ steps-same n q fs os is

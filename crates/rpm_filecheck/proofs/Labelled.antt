@@ -1,5 +1,5 @@
 -- The map of labels, and what is read of a blob.
-use Rattle.std.proofs.Common.{◌≡◌, ℕ, List, [], Option, Ok, unwrap_or, Some, sym, ap, ◌∙◌}
+use Rattle.std.proofs.Common.{◌≡◌, ℕ, List, [], Option, Ok, unwrap_or, Some, ap, ◌∙◌}
 use Rattle.std.specs.Prelude.{Vec, Result}
 use Rattle.std.specs.declared.alloc.Global.{Global}
 use Rattle.std.specs.Option.{option_map}

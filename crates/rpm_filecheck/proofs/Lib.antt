@@ -4,5 +4,6 @@ pub mod Folding
 pub mod Going
 pub mod Joining
 pub mod Labelled
+pub mod Owning
 pub mod Placed
 pub mod Placing

@@ -255,7 +255,13 @@ fn each_two_owners_are_compared(rt: HostRuntime) -> Result<(), Fail> {
     )?;
     // the outer two alone differ; the last from both others
     assert!(rt; shows(alloc, &[&plain, &shared, &other], b"/f: 1 3 digest\n")?);
-    assert!(rt; shows(alloc, &[&plain, &plain, &other], b"/f: 1 3 digest\n/f: 2 3 digest\n")?);
+    assert!(rt;
+        shows(
+            alloc,
+            &[&plain, &plain, &other],
+            b"/f: 1 3 digest\n/f: 2 3 digest\n"
+        )?
+    );
     // two directories, and one with a file
     assert!(rt; shows(alloc, &[&folder, &closed], b"")?);
     assert!(rt; shows(alloc, &[&folder, &plain], b"/f: 1 2 mode\n")?);
@@ -292,6 +298,12 @@ fn the_first_place_of_a_path_counts(rt: HostRuntime) -> Result<(), Fail> {
     assert!(rt; shows(alloc, &[&bare, &text], b"")?);
     assert!(rt; shows(alloc, &[&short, &digests], b"")?);
     assert!(rt; shows(alloc, &[&bare, &short], b"/f: 1 2 digest\n/g: 1 2 digest\n")?);
-    assert!(rt; shows(alloc, &[&single(alloc, PLAIN)?, &digests], b"/f: 1 2 mode\n")?);
+    assert!(rt;
+        shows(
+            alloc,
+            &[&single(alloc, PLAIN)?, &digests],
+            b"/f: 1 2 mode\n"
+        )?
+    );
     Ok(())
 }

@@ -1,4 +1,4 @@
-use Rattle.std.proofs.Common.{◌≡◌, ◌++◌, List, ℕ, arith, sym, ap, refl}
+use Rattle.std.proofs.Common.{◌++◌, List, ℕ, arith, sym, ap}
 use Rattle.std.specs.List.{concat}
 use Rattle.rpm_filecheck.proofs.Placed.{within, concat_more, concat_end}
 use Rattle.rpm_filecheck.proofs.paths.bytes_of.Goals as goal
@@ -13,7 +13,8 @@ pub loop-part-smaller : goal.loop-part-smaller
 loop-part-smaller c = omega (arith, within c.args.text.now c.loop-part.k _ (sym c.in-Some.ensures.value))
 
 pub loop-part-preserved : goal.loop-part-preserved
-loop-part-preserved c = concat_more c.args.text.now c.loop-part.k c.in-Some.part.now _ c.loop-part.bytes.items (sym c.in-Some.ensures.value) c.loop-part.invariant
+loop-part-preserved c =
+    concat_more c.args.text.now c.loop-part.k c.in-Some.part.now _ c.loop-part.bytes.items (sym c.in-Some.ensures.value) c.loop-part.invariant
     c.extend_from_slice.new.self.items c.in_ok-extend_from_slice.ensures.items
 
 pub returns : goal.returns

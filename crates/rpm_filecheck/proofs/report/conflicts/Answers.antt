@@ -1,4 +1,4 @@
-use Rattle.std.proofs.Common.{◌≡◌, ◌∙◌}
+use Rattle.std.proofs.Common.{◌∙◌}
 use Rattle.rpm_db.specs.State.{packages}
 use Rattle.rpm_filecheck.proofs.AllTold.{is_report}
 use Rattle.rpm_filecheck.proofs.report.conflicts.Goals as goal

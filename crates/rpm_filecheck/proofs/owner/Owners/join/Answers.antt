@@ -1,4 +1,4 @@
-use Rattle.std.proofs.Common.{◌≡◌, ℕ, List, sym, ap, ◌∙◌}
+use Rattle.std.proofs.Common.{sym, ap, ◌∙◌}
 use Rattle.rpm_filecheck.specs.Owners.{Owner}
 use Rattle.rpm_filecheck.specs.inner.Gathered.{last_from}
 use Rattle.rpm_filecheck.proofs.Joining.{last_from-append}
@@ -7,4 +7,5 @@ use Rattle.rpm_filecheck.proofs.owner.Owners.join.Goals as goal
 pub invariant_of-self-2 : goal.invariant_of-self-2
 invariant_of-self-2 c =
     ap (λ (o : Owner). o.number) c.owner.view_is
-    ∙ sym (ap (last_from c.self.inside.first.number) c.in_ok-push.ensures.items ∙ last_from-append c.self.inside.first.number c.self.inside.others.items c.args.owner)
+    ∙ sym (ap (last_from c.self.inside.first.number) c.in_ok-push.ensures.items
+    ∙ last_from-append c.self.inside.first.number c.self.inside.others.items c.args.owner)
