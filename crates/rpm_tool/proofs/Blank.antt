@@ -12,7 +12,7 @@ use Rattle.rpm_pkgdb.specs.Slots.{is_used, free}
 use Rattle.rpm_pkgdb.specs.Store.{Store, store, made_store, made_or_damaged, unless, blank_store, is_blank, in_file}
 use Rattle.rpm_pkgdb.specs.Words.{word, begins}
 use Rattle.rpm_pkgdb.specs.Written.{made_new}
-use Rattle.rpm_db.specs.State.{State, packages, state}
+use Rattle.rpm_db.specs.State.{packages, state}
 
 -- a store of no pages is a blank one
 passed : {X E : Type 0} (o : Option E) (x y : X) → unless o x ≡ Ok y → x ≡ y

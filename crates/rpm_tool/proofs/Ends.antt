@@ -5,7 +5,7 @@ use Rattle.rpm_outside.specs.declared.disk.File.{File}
 use Rattle.rpm_outside.specs.declared.disk.File.TheVariants.{Log}
 use Rattle.rpm_outside.specs.Changes.{AreSettled}
 use Rattle.rpm_outside.specs.Crash.{LeavesOnly}
-use Rattle.rpm_outside.specs.Files.{Units, Files}
+use Rattle.rpm_outside.specs.Files.{Files}
 use Rattle.rpm_outside.specs.Logs.{Closed, log_state, reopened, unlogged}
 use Rattle.rpm_outside.specs.Looks.{LooksAt}
 use Rattle.rpm_outside.specs.inner.Moments.{started}
@@ -22,7 +22,7 @@ use Rattle.rpm_tool.specs.declared.answer.Why.TheVariants as why
 use Rattle.rpm_tool.specs.Answers.{unless_starved, is_of_words}
 use Rattle.rpm_tool.specs.Keyed.{is_done}
 use Rattle.rpm_tool.specs.Changing.{is_done_or_fault}
-use Rattle.rpm_tool.specs.Working.{CommittedAs, EndsAs, EndsGroup, IsUncommitted, is_halt, is_of_commit, is_of_streams, done_why}
+use Rattle.rpm_tool.specs.Working.{CommittedAs, EndsGroup, IsUncommitted, is_halt, is_of_commit, is_of_streams}
 use Rattle.rpm_tool.proofs.Outcomes.{fault_done_why}
 use Rattle.rpm_tool.proofs.Grouped.{shut_stands}
 

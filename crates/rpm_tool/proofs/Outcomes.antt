@@ -1,18 +1,15 @@
 -- The endings of a command that changes packages, one by one.
-use Rattle.std.proofs.Common.{◌≡◌, ◌⊎◌, ℕ, ◌^◌, ◌<◌, ◌≤◌, Bool, true, false, List, [], ◌==◌, if◌then◌else◌, refl, sym, ap, ◌∙◌, subst, inl, inr, length, append-nil, arith}
+use Rattle.std.proofs.Common.{◌≡◌, ◌⊎◌, ℕ, ◌<◌, Bool, true, [], ◌==◌, if◌then◌else◌, sym, ap, ◌∙◌, subst, inl, inr, append-nil, arith}
 use Rattle.std.proofs.lemmas.Bool.{cases_Bool, eqb-true}
 use Rattle.std.proofs.lemmas.Bool.Decides.{nat_tests}
-use Rattle.rpm_outside.specs.Files.{Files}
 use Rattle.rpm_pkgdb.specs.declared.slot.Damage.{Damage}
-use Rattle.rpm_db.specs.Changes.{Change}
-use Rattle.rpm_db.specs.State.{State}
 use Rattle.rpm_change.specs.Steps.{Course}
-use Rattle.rpm_change.specs.Endings.{Outputs, Through, ThroughSome, AllHaveRoom}
+use Rattle.rpm_change.specs.Endings.{Outputs, Through, ThroughSome}
 use Rattle.rpm_tool.specs.declared.answer.Why.{Why}
 use Rattle.rpm_tool.specs.declared.answer.Why.TheVariants as why
 use Rattle.rpm_tool.specs.Answers.{Refused}
 use Rattle.rpm_tool.specs.Keyed.{is_done}
-use Rattle.rpm_tool.specs.Changing.{Did, LeavesState, HasState, FullTurn, after, is_done_or_fault, is_of_lawful}
+use Rattle.rpm_tool.specs.Changing.{Did, is_done_or_fault}
 use Rattle.rpm_tool.specs.Working.{Stopped, IsUncommitted, done_why}
 
 -- ---- one ending

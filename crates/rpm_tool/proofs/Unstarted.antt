@@ -1,5 +1,5 @@
 -- A command that changes packages and didn't begin, for want of memory: nothing was changed.
-use Rattle.std.proofs.Common.{◌≡◌, ℕ, Bool, true, false, not, Result, Ok, Err, refl, ap, inl, arith}
+use Rattle.std.proofs.Common.{◌≡◌, ℕ, Bool, true, not, Result, Ok, Err, refl, inl, arith}
 use Rattle.std.proofs.lemmas.Bool.{and_parts}
 use Rattle.rpm_outside.specs.Crash.{LeavesOnly}
 use Rattle.rpm_outside.specs.Files.{Files}

@@ -1,4 +1,4 @@
-use Rattle.std.proofs.Common.{◌≡◌, ℕ, List, map, true, refl, sym, ap, ◌∙◌, subst}
+use Rattle.std.proofs.Common.{ℕ, List, map, ap, subst}
 use Rattle.std.specs.Prelude.{IsTrue}
 use Rattle.rpm_outside.specs.Buffered.{inner}
 use Rattle.rpm_change.specs.Adding.{add_files}

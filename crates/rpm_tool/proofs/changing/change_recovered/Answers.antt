@@ -1,14 +1,11 @@
-use Rattle.std.proofs.Common.{◌≡◌, ◌≤◌, true, false, [], Result, Err, refl, sym, ap, ◌∙◌, subst, arith}
+use Rattle.std.proofs.Common.{subst, arith}
 use Rattle.rpm_outside.specs.Buffered.{inner}
-use Rattle.rpm_outside.specs.declared.disk.File.TheVariants.{Log}
-use Rattle.rpm_outside.specs.Files.{Files, with_file}
-use Rattle.rpm_outside.specs.Logs.{log_state, reopened, unlogged}
+use Rattle.rpm_outside.specs.Files.{Files}
 use Rattle.rpm_group.specs.Layers.{laid_files}
 use Rattle.rpm_group.specs.Overlay.{overlay_below, overlay_held, overlay_read}
 use Rattle.rpm_db.specs.State.{State}
 use Rattle.rpm_change.specs.Steps.{Course}
 use Rattle.rpm_change.specs.Endings.{outputs}
-use Rattle.rpm_tool.specs.Answers.{why_of_load}
 use Rattle.rpm_tool.specs.Tasks.{task_parts, task_course, is_anew}
 use Rattle.rpm_tool.specs.Working.{WorkedWith}
 use Rattle.rpm_tool.proofs.Grouped.{group_did, group_changes}

@@ -1,4 +1,4 @@
-use Rattle.std.proofs.Common.{refl, []}
+use Rattle.std.proofs.Common.{refl}
 use Rattle.rpm_change.specs.Endings.{outputs}
 use Rattle.rpm_change.specs.Steps.{idle}
 use Rattle.rpm_tool.proofs.Unmade.{through_none}
