@@ -1,0 +1,14 @@
+pub mod Bridge
+pub mod Closing
+pub mod Ends
+pub mod Entering
+pub mod Fronts
+pub mod Gathering
+pub mod Joining
+pub mod Laws
+pub mod Orderly
+pub mod Pushes
+pub mod Rowing
+pub mod Steps
+pub mod Unseen
+pub mod Walks

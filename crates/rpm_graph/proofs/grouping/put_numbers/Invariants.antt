@@ -1,0 +1,6 @@
+use Rattle.rpm_graph.specs.Rows.{HaveMembers}
+use Rattle.rpm_graph.specs.Searches.{rows_of}
+use Rattle.rpm_graph.proofs.grouping.put_numbers.Given as goal
+
+abbrev pub invariant-loop-place : goal.invariant-loop-place
+invariant-loop-place l = HaveMembers l.numbers l.classes l.place (rows_of l.members)

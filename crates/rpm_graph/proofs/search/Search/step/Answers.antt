@@ -1,0 +1,177 @@
+use Rattle.std.proofs.Common.{◌≡◌, ℕ, ◌+◌, ◌-◌, ◌*◌, ◌++◌, ◌∷◌, [], ◌<◌, ◌≤◌, ◌⊎◌, ◌^◌, List, Vec, length, get_or, set, drop, map, inl, inr, refl, sym, ap, subst, ◌∙◌, arith}
+use Rattle.std.proofs.lemmas.List.{length-map, get_or-map, get_or_default, length_push}
+use Rattle.rpm_graph.specs.declared.search.Link.{Link}
+use Rattle.rpm_graph.specs.declared.search.Search.{Search}
+use Rattle.rpm_graph.specs.Searches.{IsSearch, IsOpen, IsLast, IsCut, Searches, Goes, NoneWaits, rows_of, link, link_at, work, work_left}
+use Rattle.rpm_graph.proofs.Entering.{entered, entered_work}
+use Rattle.rpm_graph.proofs.Joining.{joined, joined_work}
+use Rattle.rpm_graph.proofs.Closing.{closed_then, closed_work, closed_keeps}
+use Rattle.rpm_graph.proofs.Steps.{row_read, set_keeps, from_open, goes, path_leads, roots_below, none_waits, last_root}
+use Rattle.rpm_graph.proofs.Fronts.{front-push}
+use Rattle.rpm_graph.proofs.search.Search.step.Goals as goal
+
+pub close-requires-clause-rooted : goal.close-requires-clause-rooted
+close-requires-clause-rooted c = c.requires.searched.rooted c.args.root (last_root c.args.self.now.roots.items c.args.root c.requires.last)
+
+pub returns-in-None-clause-searched : goal.returns-in-None-clause-searched
+returns-in-None-clause-searched c =
+    let s = c.args.self.now in
+    let e = c.close.ensures in
+    let h = c.in-None.ensures in
+    let none : NoneWaits s.ranks.items s.pending.items c.args.root = subst (λ l. NoneWaits l s.pending.items c.args.root) c.deref.ensures.value h.none.0 in
+    let done = none_waits (rows_of c.args.rows.now) s.ranks.items s.path.items s.roots.items s.pending.items s.closed c.requires.searched c.args.root
+    c.requires.last none in
+    rw (e.path, e.roots, e.pending, h.none.1, e.closed) (closed_then (rows_of c.args.rows.now) s.ranks.items s.path.items s.roots.items s.pending.items
+    s.closed c.requires.searched c.requires.within c.args.root c.requires.last done c.close.new.self.ranks.items e.ranks)
+
+pub returns-in-None-clause-smaller : goal.returns-in-None-clause-smaller
+returns-in-None-clause-smaller c =
+    let s = c.args.self.now in
+    let e = c.close.ensures in
+    let h = c.in-None.ensures in
+    let none : NoneWaits s.ranks.items s.pending.items c.args.root = subst (λ l. NoneWaits l s.pending.items c.args.root) c.deref.ensures.value h.none.0 in
+    let done = none_waits (rows_of c.args.rows.now) s.ranks.items s.path.items s.roots.items s.pending.items s.closed c.requires.searched c.args.root
+    c.requires.last none in
+    rw (e.roots, e.pending, h.none.1) (closed_work (rows_of c.args.rows.now) s.ranks.items s.path.items s.roots.items s.pending.items
+    s.closed c.requires.searched c.requires.within c.args.root c.requires.last done c.close.new.self.ranks.items e.ranks
+    (λ v. length (get_or (rows_of c.args.rows.now) v []) + 2))
+
+-- what is known of the edge that was taken, by the ranks as the call was lent them
+module _ (rows : List (List ℕ)) (s : Search) (searched : Searches rows s) (root : ℕ) (is_last : IsLast s.roots.items root) (lent : List ℕ)
+    (same : lent ≡ s.ranks.items) (kept : List Link) (l : Link) (taken : (s.pending.items ≡ kept ++ l ∷ []) × (root < get_or lent l.from 0)) where
+  over : root < get_or s.ranks.items l.from 0
+  over = subst (λ r. root < get_or r l.from 0) same taken.1
+
+  there : Goes rows l.from l.to
+  there = goes rows s.ranks.items s.path.items s.roots.items s.pending.items s.closed searched root is_last kept l.from l.to taken.0 over
+
+  fewer : length kept < length s.pending.items
+  fewer = omega (arith, ap length taken.0, length_push kept l)
+
+  -- the search with the place that it ends at
+  search_entered : l.to < length rows → get_or s.ranks.items l.to 0 ≡ 0 → IsSearch rows (set s.ranks.items l.to (length s.path.items + 1))
+      (s.path.items ++ l.to ∷ []) (s.roots.items ++ length s.path.items ∷ []) (kept ++ map (λ to. link l.to to) (get_or rows l.to [])) s.closed
+  search_entered lt new = entered rows s.ranks.items s.path.items s.roots.items s.pending.items kept s.closed searched l.to lt new
+      (front-push s.pending.items kept l taken.0)
+      (path_leads rows s.ranks.items s.path.items s.roots.items s.pending.items s.closed searched root is_last kept l.from l.to taken.0 over)
+
+  work_entered : l.to < length rows → get_or s.ranks.items l.to 0 ≡ 0
+      → work_left rows (set s.ranks.items l.to (length s.path.items + 1)) (s.roots.items ++ length s.path.items ∷ [])
+      (kept ++ map (λ to. link l.to to) (get_or rows l.to [])) < work rows s
+  work_entered lt new = entered_work rows s.ranks.items s.path.items s.roots.items s.pending.items kept s.closed searched l.to lt new
+      (front-push s.pending.items kept l taken.0)
+      (path_leads rows s.ranks.items s.path.items s.roots.items s.pending.items s.closed searched root is_last kept l.from l.to taken.0 over) fewer
+
+  -- the search with fewer levels
+  search_joined : l.to < length rows → 1 ≤ get_or s.ranks.items l.to 0 → (roots : List ℕ) → IsCut s.roots.items (get_or s.ranks.items l.to 0) roots
+      → (0 < length roots → get_or roots (length roots - 1) 0 < get_or s.ranks.items l.to 0)
+      → IsSearch rows s.ranks.items s.path.items roots kept s.closed
+  search_joined lt some roots cut last = joined rows s.ranks.items s.path.items s.roots.items s.pending.items kept s.closed searched l.from l.to
+      (from_open rows s.ranks.items s.path.items s.roots.items s.pending.items s.closed searched root is_last kept l.from l.to taken.0 over) there lt some
+      (roots_below rows s.ranks.items s.path.items s.roots.items s.pending.items s.closed searched root is_last kept l.from l.to taken.0 over)
+      (front-push s.pending.items kept l taken.0) roots cut last
+
+pub index-rank-requires : goal.index-rank-requires
+index-rank-requires c =
+    let rows = rows_of c.args.rows.now in
+    let l = c.in-Some.link in
+    let e = c.in-Some.ensures in
+    let lt = c.requires.within l.from l.to (there rows c.args.self.now c.requires.searched c.args.root c.requires.last c.deref.result.now c.deref.ensures.value
+    c.take_waiting.new.pending.items l e.some) in
+    omega (arith, lt, c.requires.searched.sized)
+
+pub bounds-rows-link : goal.bounds-rows-link
+bounds-rows-link c =
+    let rows = rows_of c.args.rows.now in
+    let l = c.in-Some.link in
+    let e = c.in-Some.ensures in
+    let lt = c.requires.within l.from l.to (there rows c.args.self.now c.requires.searched c.args.root c.requires.last c.deref.result.now c.deref.ensures.value
+    c.take_waiting.new.pending.items l e.some) in
+    omega (arith, lt, length-map c.args.rows.now (λ row. row.items))
+
+pub offset_bounds-rows-link : goal.offset_bounds-rows-link
+offset_bounds-rows-link c =
+    let rows = rows_of c.args.rows.now in
+    let l = c.in-Some.link in
+    let e = c.in-Some.ensures in
+    let lt = c.requires.within l.from l.to (there rows c.args.self.now c.requires.searched c.args.root c.requires.last c.deref.result.now c.deref.ensures.value
+    c.take_waiting.new.pending.items l e.some) in
+    let inside : l.to < length c.args.rows.now = omega (arith, lt, length-map c.args.rows.now (λ row. row.items)) in
+    omega (arith, inside, c.requires.small)
+
+pub enter-requires : goal.enter-requires
+enter-requires c =
+    let rows = rows_of c.args.rows.now in
+    let l = c.in-Some.link in
+    let e = c.in-Some.ensures in
+    let lt = c.requires.within l.from l.to (there rows c.args.self.now c.requires.searched c.args.root c.requires.last c.deref.result.now c.deref.ensures.value
+    c.take_waiting.new.pending.items l e.some) in
+    omega (arith, lt, c.requires.searched.sized)
+
+pub returns-in_ok-enter-in-Some-clause-searched : goal.returns-in_ok-enter-in-Some-clause-searched
+returns-in_ok-enter-in-Some-clause-searched c =
+    let s = c.args.self.now in
+    let rows = rows_of c.args.rows.now in
+    let l = c.in-Some.link in
+    let e = c.in-Some.ensures in
+    let lt = c.requires.within l.from l.to (there rows s c.requires.searched c.args.root c.requires.last c.deref.result.now c.deref.ensures.value
+    c.take_waiting.new.pending.items l e.some) in
+    let lt_ranks : l.to < length s.ranks.items = omega (arith, lt, c.requires.searched.sized) in
+    let lt_rows : l.to < length c.args.rows.now = omega (arith, lt, length-map c.args.rows.now (λ row. row.items)) in
+    let new : get_or s.ranks.items l.to 0 ≡ 0
+    = get_or_default s.ranks.items l.to 0 c.index-rank.result.now lt_ranks ∙ sym c.index-rank.ensures ∙ c.if-rank-eq0.true in
+    let row : c.deref-then-rank-eq0.result.now ≡ get_or rows l.to [] = c.deref-then-rank-eq0.ensures.value
+    ∙ row_read c.args.rows.now l.to c.index-rows-link.result lt_rows c.index-rows-link.is in
+    let t = c.in_ok-enter-in-Some.ensures in
+    rw (t.ranks, t.path, t.roots, t.pending, t.closed, row) (search_entered rows s c.requires.searched c.args.root c.requires.last c.deref.result.now
+    c.deref.ensures.value c.take_waiting.new.pending.items l e.some lt new)
+
+pub returns-in_ok-enter-in-Some-clause-smaller : goal.returns-in_ok-enter-in-Some-clause-smaller
+returns-in_ok-enter-in-Some-clause-smaller c =
+    let s = c.args.self.now in
+    let rows = rows_of c.args.rows.now in
+    let l = c.in-Some.link in
+    let e = c.in-Some.ensures in
+    let lt = c.requires.within l.from l.to (there rows s c.requires.searched c.args.root c.requires.last c.deref.result.now c.deref.ensures.value
+    c.take_waiting.new.pending.items l e.some) in
+    let lt_ranks : l.to < length s.ranks.items = omega (arith, lt, c.requires.searched.sized) in
+    let lt_rows : l.to < length c.args.rows.now = omega (arith, lt, length-map c.args.rows.now (λ row. row.items)) in
+    let new : get_or s.ranks.items l.to 0 ≡ 0
+    = get_or_default s.ranks.items l.to 0 c.index-rank.result.now lt_ranks ∙ sym c.index-rank.ensures ∙ c.if-rank-eq0.true in
+    let row : c.deref-then-rank-eq0.result.now ≡ get_or rows l.to [] = c.deref-then-rank-eq0.ensures.value
+    ∙ row_read c.args.rows.now l.to c.index-rows-link.result lt_rows c.index-rows-link.is in
+    let t = c.in_ok-enter-in-Some.ensures in
+    rw (t.ranks, t.roots, t.pending, row) (work_entered rows s c.requires.searched c.args.root c.requires.last c.deref.result.now
+    c.deref.ensures.value c.take_waiting.new.pending.items l e.some lt new)
+
+pub returns-else-rank-eq0-clause-searched : goal.returns-else-rank-eq0-clause-searched
+returns-else-rank-eq0-clause-searched c =
+    let s = c.args.self.now in
+    let rows = rows_of c.args.rows.now in
+    let l = c.in-Some.link in
+    let e = c.in-Some.ensures in
+    let lt = c.requires.within l.from l.to (there rows s c.requires.searched c.args.root c.requires.last c.deref.result.now c.deref.ensures.value
+    c.take_waiting.new.pending.items l e.some) in
+    let lt_ranks : l.to < length s.ranks.items = omega (arith, lt, c.requires.searched.sized) in
+    let rank : c.index-rank.result.now ≡ get_or s.ranks.items l.to 0
+    = c.index-rank.ensures ∙ get_or_default s.ranks.items l.to c.index-rank.result.now 0 lt_ranks in
+    let some : 1 ≤ get_or s.ranks.items l.to 0 = omega (arith, rank, c.if-rank-eq0.false) in
+    search_joined rows s c.requires.searched c.args.root c.requires.last c.deref.result.now c.deref.ensures.value c.take_waiting.new.pending.items l e.some
+    lt some c.join.new.roots.items (rw (sym rank) c.join.ensures.cut) (rw (sym rank) c.join.ensures.last)
+
+pub returns-in-None-clause-keeps : goal.returns-in-None-clause-keeps
+returns-in-None-clause-keeps c =
+    let s = c.args.self.now in
+    let e = c.close.ensures in
+    let h = c.in-None.ensures in
+    let none : NoneWaits s.ranks.items s.pending.items c.args.root = subst (λ l. NoneWaits l s.pending.items c.args.root) c.deref.ensures.value h.none.0 in
+    let done = none_waits (rows_of c.args.rows.now) s.ranks.items s.path.items s.roots.items s.pending.items s.closed c.requires.searched c.args.root
+    c.requires.last none in
+    closed_keeps (rows_of c.args.rows.now) s.ranks.items s.path.items s.roots.items s.pending.items
+    s.closed c.requires.searched c.requires.within c.args.root c.requires.last done c.close.new.self.ranks.items e.ranks
+
+pub returns-in_ok-enter-in-Some-clause-keeps : goal.returns-in_ok-enter-in-Some-clause-keeps
+returns-in_ok-enter-in-Some-clause-keeps c =
+    let ranks = c.args.self.now.ranks.items in
+    let t = c.in_ok-enter-in-Some.ensures in
+    rw t.ranks (set_keeps ranks c.in-Some.link.to (length c.args.self.now.path.items + 1) (omega arith))

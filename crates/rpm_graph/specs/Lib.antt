@@ -1,0 +1,4 @@
+pub mod Networks
+pub mod Orders
+pub mod Rows
+pub mod Searches
