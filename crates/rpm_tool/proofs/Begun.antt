@@ -52,6 +52,7 @@ unforeign (why.IndexFull u) is = refl
 unforeign why.NumbersSpent is = refl
 unforeign why.GenerationSpent is = refl
 unforeign why.StoreFull is = refl
+unforeign (why.NotEmpty held) is = refl
 unforeign (why.LogFull u) is = refl
 unforeign why.DiskFault is = refl
 unforeign why.ShelfFault is = refl

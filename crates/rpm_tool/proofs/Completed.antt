@@ -48,6 +48,7 @@ left course making needed (why.IndexFull u) old new reads_to own opened went ful
 left course making needed why.NumbersSpent old new reads_to own opened went full room = absurd went
 left course making needed why.GenerationSpent old new reads_to own opened went full room = absurd went
 left course making needed why.StoreFull old new reads_to own opened went full room = absurd went
+left course making needed (why.NotEmpty held) old new reads_to own opened went full room = absurd went
 left course making needed (why.LogFull u) old new reads_to own opened went full room = absurd went
 left course making needed why.DiskFault old new reads_to own opened went full room = refl
 left course making needed why.ShelfFault old new reads_to own opened went full room = absurd cc

@@ -122,6 +122,7 @@ module _ (old new : Files) (db : Database) (opened : IsOpened old new (Ok db)) (
     bad_opened why.NumbersSpent went chain = tt
     bad_opened why.GenerationSpent went chain = tt
     bad_opened why.StoreFull went chain = tt
+    bad_opened (why.NotEmpty held) went chain = tt
     bad_opened (why.LogFull u) went chain = tt
     bad_opened why.DiskFault went chain = tt
     bad_opened why.ShelfFault went chain = tt

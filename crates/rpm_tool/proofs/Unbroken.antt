@@ -101,6 +101,7 @@ chains_none chosen texts idx (why.IndexFull u) never = tt
 chains_none chosen texts idx why.NumbersSpent never = tt
 chains_none chosen texts idx why.GenerationSpent never = tt
 chains_none chosen texts idx why.StoreFull never = tt
+chains_none chosen texts idx (why.NotEmpty held) never = tt
 chains_none chosen texts idx (why.LogFull u) never = tt
 chains_none chosen texts idx why.DiskFault never = tt
 chains_none chosen texts idx why.ShelfFault never = tt

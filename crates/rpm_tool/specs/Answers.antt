@@ -198,6 +198,7 @@ Went course (why.IndexFull needed) old new reads_to = ⊥
 Went course why.NumbersSpent old new reads_to = ⊥
 Went course why.GenerationSpent old new reads_to = ⊥
 Went course why.StoreFull old new reads_to = ⊥
+Went course (why.NotEmpty held) old new reads_to = ⊥
 Went course (why.LogFull needed) old new reads_to = ⊥
 Went course why.DiskFault old new reads_to = ThroughSome course.steps old new
 Went course why.ShelfFault old new reads_to = ThroughSome course.steps old new

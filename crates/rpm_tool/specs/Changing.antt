@@ -27,6 +27,7 @@ Did course (why.NotBuilt what) old new = ⊥
 Did course (why.BadFormat fault) old new = ⊥
 Did course (why.BadLog unit) old new = ⊥
 Did course (why.Damaged damage) old new = ⊥
+Did course (why.NotEmpty held) old new = Through [] old new
 Did course why.OutFault old new = StoppedWithin course.steps true old new
 Did course why.ErrFault old new = StoppedWithin course.steps false old new
 Did course others old new = ThroughSome course.steps old new

@@ -25,6 +25,7 @@ status_of (why.Damaged damage) = 252
 status_of why.NumbersSpent = 252
 status_of why.GenerationSpent = 252
 status_of why.StoreFull = 252
+status_of (why.NotEmpty held) = 252
 status_of (why.BadIndex unit) = 252
 status_of (why.IndexFull needed) = 252
 status_of (why.LogFull needed) = 252
@@ -54,6 +55,10 @@ log_line unit = concat (codes "rpm: Hlog.db is damaged at byte " ∷ decimal (16
 
 unfoldable pub index_line : ℕ → List ℕ
 index_line unit = concat (codes "rpm: Hindex.db is damaged at byte " ∷ decimal (16 * unit) ∷ codes "\n" ∷ [])
+
+-- the database has this package
+unfoldable pub held_line : ℕ → List ℕ
+held_line n = concat (codes "rpm: the database is not empty: package " ∷ decimal n ∷ codes "\n" ∷ [])
 
 -- what is told of the rule that the words break
 unfoldable pub rule_text : WordsKind → List ℕ
@@ -114,6 +119,7 @@ closing words (why.Damaged damage) = damage_line damage
 closing words why.NumbersSpent = codes "rpm: no package number is left\n"
 closing words why.GenerationSpent = codes "rpm: no generation is left\n"
 closing words why.StoreFull = codes "rpm: Packages.db is full\n"
+closing words (why.NotEmpty held) = held_line held
 closing words (why.BadIndex unit) = index_line unit
 closing words (why.IndexFull needed) = codes "rpm: Hindex.db is full\n"
 closing words (why.LogFull needed) = codes "rpm: Hlog.db is full\n"

@@ -37,6 +37,8 @@ pub enum Why {
     GenerationSpent,
     /// There is no room in `Packages.db`.
     StoreFull,
+    /// The exercise asks for a database without packages, and there are some: the least number.
+    NotEmpty(u32),
     /// `Hindex.db` is malformed at this unit: in the chain of a key that was asked, or of one that changes.
     BadIndex { unit: u64 },
     /// An index of the packages needs so many units, more than `Hindex.db` may have.
@@ -76,7 +78,7 @@ pub fn status_of(why: Why) -> u8
         Why::Usage(_) => 251,
         Why::BadFormat(_) => 251,
         Why::NotBuilt(_) | Why::BadLog { .. } | Why::Damaged(_) | Why::DiskFault => 252,
-        Why::NumbersSpent | Why::GenerationSpent | Why::StoreFull => 252,
+        Why::NumbersSpent | Why::GenerationSpent | Why::StoreFull | Why::NotEmpty(_) => 252,
         Why::BadIndex { .. } | Why::IndexFull { .. } | Why::LogFull { .. } => 252,
         Why::ShelfFault | Why::OutFault | Why::ErrFault => 253,
         Why::NoMemory => 254,

@@ -3,7 +3,7 @@
 ghost use Rattle.std.specs.Prelude.{◌≡◌, []};
 ghost use Rattle.rpm_outside.specs.Buffered.{inner, holds};
 ghost use Rattle.rpm_outside.specs.Sinks.{Writes};
-ghost use Rattle.rpm_tool.specs.Closing.{reason_text, damage_line, log_line, index_line, rule_text, word_told, usage_line, fault_text, format_line, closing};
+ghost use Rattle.rpm_tool.specs.Closing.{reason_text, damage_line, log_line, index_line, held_line, rule_text, word_told, usage_line, fault_text, format_line, closing};
 ghost use Rattle.rpm_words.specs.Words.{text_at};
 
 use crate::answer::Why;
@@ -67,6 +67,19 @@ fn put_index<E: Sink>(err: &mut E, unit: u64) -> Result<(), Failed>
     let mut digits = Buffer::new();
     let offset = digits.format(16 * unit as u128).as_bytes();
     put_pieces(err, &[b"rpm: Hindex.db is damaged at byte ", offset, b"\n"])
+}
+
+/// Writes that the database has a package, where there was to be none.
+#[tactic(auto, unfolding(crate::specs::Closing::held_line))]
+fn put_held<E: Sink>(err: &mut E, held: u32) -> Result<(), Failed>
+    ensures { Writes E.tells E.taken E.faults E.follows err.old err.new (held_line held) result }
+{
+    let mut digits = Buffer::new();
+    let number = digits.format(held).as_bytes();
+    put_pieces(
+        err,
+        &[b"rpm: the database is not empty: package ", number, b"\n"],
+    )
 }
 
 /// What is told of a rule that the words break.
@@ -162,6 +175,7 @@ fn put_line<E: Sink>(err: &mut E, words: &Words, why: Why) -> Result<(), Failed>
         Why::NumbersSpent => put_all(err, b"rpm: no package number is left\n"),
         Why::GenerationSpent => put_all(err, b"rpm: no generation is left\n"),
         Why::StoreFull => put_all(err, b"rpm: Packages.db is full\n"),
+        Why::NotEmpty(held) => put_held(err, held),
         Why::IndexFull { .. } => put_all(err, b"rpm: Hindex.db is full\n"),
         Why::LogFull { .. } => put_all(err, b"rpm: Hlog.db is full\n"),
         Why::DiskFault => put_all(err, b"rpm: the database could not be read or written\n"),

@@ -87,3 +87,9 @@ unfolding closing
 returns-in-LogFull g c =
     subst (λ (w : Why). Writes g.E.Sink.tells g.E.Sink.taken g.E.Sink.faults g.E.Sink.follows c.args.err.now c.put_all-in-LogFull.new.sink
     (closing c.args.words.now w) c.put_all-in-LogFull.result) (sym c.in-LogFull.is) c.put_all-in-LogFull.ensures
+
+pub returns-in-NotEmpty : goal.returns-in-NotEmpty
+unfolding closing
+returns-in-NotEmpty g c =
+    subst (λ (w : Why). Writes g.E.Sink.tells g.E.Sink.taken g.E.Sink.faults g.E.Sink.follows c.args.err.now c.put_held.new.err
+    (closing c.args.words.now w) c.put_held.result) (sym c.in-NotEmpty.is) c.put_held.ensures
