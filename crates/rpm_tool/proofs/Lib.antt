@@ -10,6 +10,7 @@ mod Defaults
 mod Ended
 mod Endings
 mod Ends
+mod Exercised
 mod Filed
 mod Fixtures
 mod Grouped

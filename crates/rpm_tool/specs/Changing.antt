@@ -1,5 +1,8 @@
 -- Commands that change packages: what each answers and leaves. A command is the course that it takes from the state that it finds.
-use Rattle.std.specs.Prelude.{◌≡◌, ◌⊎◌, ℕ, ◌^◌, ◌<◌, ◌≤◌, List, [], length, Bool, true, false, Result, Ok, Err, IfOk}
+use Rattle.std.specs.Prelude.{◌≡◌, ◌⊎◌, ℕ, ◌^◌, ◌<◌, ◌≤◌, List, [], length, Bool, true, false, Option, Some, None, is_some, Result, Ok, Err, IfOk}
+use Rattle.std.specs.Ordering.{nat_cmp}
+use Rattle.std.specs.FinMap as finite
+use Rattle.std.specs.FinMap.{FinMap}
 use Rattle.rpm_outside.specs.Crash.{LeavesOnly}
 use Rattle.rpm_outside.specs.Files.{Units, Files}
 use Rattle.rpm_outside.specs.Logs.{LogState, Closed, Malformed, Open, log_state, reopened}
@@ -8,7 +11,8 @@ use Rattle.rpm_pkgdb.specs.Store.{Store, store}
 use Rattle.rpm_db.specs.Changes.{Change, Says}
 use Rattle.rpm_db.specs.Lawful.{HasRows, is_current_at}
 use Rattle.rpm_db.specs.Openings.{must_make, units_needed}
-use Rattle.rpm_db.specs.State.{State, state, packages}
+use Rattle.rpm_db.specs.Database.{IsNext}
+use Rattle.rpm_db.specs.State.{State, Package, state, packages}
 use Rattle.rpm_change.specs.Steps.{Course, apply_all}
 use Rattle.rpm_change.specs.Endings.{Outputs, Through, ThroughSome, StoppedWithin, AllHaveRoom, IsFullAt}
 use Rattle.rpm_tool.specs.declared.answer.Why.{Why}
@@ -115,6 +119,21 @@ FullBy anew course files given = IfOk (store files.pkg) (λ value. FullTurn (mak
 
 abbrev pub FullOn : (State → Course) → Files → Why → Type 0
 FullOn course files given = FullBy false course files given
+
+-- a command that asks for no packages finds none, or is refused with the least number
+abbrev pub EmptyIs : FinMap nat_cmp Package → Why → Type 0
+EmptyIs packages (why.NotEmpty held) = IsNext (λ n. is_some (finite.get packages n)) 0 (Some held)
+EmptyIs packages why.Done = IsNext (λ n. is_some (finite.get packages n)) 0 None
+EmptyIs packages (why.Failed n) = IsNext (λ n. is_some (finite.get packages n)) 0 None
+EmptyIs packages (why.LogFull units) = IsNext (λ n. is_some (finite.get packages n)) 0 None
+EmptyIs packages why.NumbersSpent = IsNext (λ n. is_some (finite.get packages n)) 0 None
+EmptyIs packages why.GenerationSpent = IsNext (λ n. is_some (finite.get packages n)) 0 None
+EmptyIs packages why.StoreFull = IsNext (λ n. is_some (finite.get packages n)) 0 None
+EmptyIs packages others = Unit {0}
+
+-- of files whose Packages.db isn't damaged
+abbrev pub EmptyOn : Files → Why → Type 0
+EmptyOn files given = IfOk (store files.pkg) (λ value. EmptyIs (packages files.pkg value) given)
 
 -- an ending that a lawful database may have: done, a limit, a fault of the outside, or want of memory
 abbrev pub is_of_lawful : Why → Bool

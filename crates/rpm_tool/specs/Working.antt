@@ -21,6 +21,8 @@ use Rattle.rpm_change.specs.declared.tally.Halt.TheVariants as halt
 use Rattle.rpm_change.specs.declared.tally.Tally.{Tally}
 use Rattle.rpm_change.specs.Steps.{Course}
 use Rattle.rpm_change.specs.Endings.{Outputs, Through, Done}
+use Rattle.rpm_exercise.specs.declared.running.ExerciseFault.{ExerciseFault}
+use Rattle.rpm_exercise.specs.declared.running.ExerciseFault.TheVariants.{NotEmpty, Halted}
 use Rattle.rpm_tool.specs.declared.answer.Why.{Why}
 use Rattle.rpm_tool.specs.declared.answer.Why.TheVariants as why
 use Rattle.rpm_tool.specs.Answers.{Refused}
@@ -60,6 +62,10 @@ why_of_halt halt.ShelfFault = why.ShelfFault
 why_of_halt halt.OutFault = why.OutFault
 why_of_halt halt.ErrFault = why.ErrFault
 why_of_halt halt.NoMemory = why.NoMemory
+
+abbrev pub why_of_exercise : ExerciseFault → Why
+why_of_exercise (NotEmpty held) = why.NotEmpty held
+why_of_exercise (Halted halt) = why_of_halt halt
 
 -- a fault of the disk, or want of memory
 abbrev pub IsOutside : Why → Type 0

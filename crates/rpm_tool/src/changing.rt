@@ -7,6 +7,7 @@ ghost use Rattle.rpm_outside.specs.Changes.{AreSettled, IsSettled};
 ghost use Rattle.rpm_outside.specs.Logs.{Closed, log_state, unlogged};
 ghost use Rattle.rpm_pkgdb.specs.Store.{store};
 ghost use Rattle.rpm_db.specs.Changes.{IsServing};
+ghost use Rattle.rpm_db.specs.Database as database;
 ghost use Rattle.rpm_db.specs.Database.{IsIndexed, is_blank, is_indexed};
 ghost use Rattle.rpm_db.specs.Lawful.{IsLawful};
 ghost use Rattle.rpm_db.specs.Runs.{Runs};
@@ -113,6 +114,7 @@ pub(crate) fn open_to_change<D: Disk>(alloc: Global, disk: &mut D) -> Result<Db,
     ensures opened { IsTrue D.tells → OpensBy (D.files disk.old) (store (D.files disk.old).pkg) (D.files disk.new) result }
     ensures indexed { IfOk result (λ db. is_indexed db ≡ true) }
     ensures going { IfOk result (λ db. db.stopped ≡ false) }
+    ensures from_one { IfOk result (λ db. IsTrue D.tells → database.holds 0 db ≡ false) }
     ensures serving { IfOk result (λ db. IsTrue D.tells → IsServing (D.files disk.new) (D.left_since disk.new (D.moment disk.new)) db) }
     ensures rows { IfOk result (λ db. IsTrue D.tells → IsLawful (D.files disk.old).pkg (D.files disk.old).idx
         → IsIndexed (D.files disk.new).pkg (D.files disk.new).idx db) }

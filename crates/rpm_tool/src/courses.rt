@@ -1,6 +1,6 @@
 //! What each command does on the disk over which its changes are held: it opens the database, and changes it.
 
-ghost use Rattle.std.specs.Prelude.{◌≡◌, ◌≢◌, ℕ, ◌^◌, ◌<◌, Bool, List, [], codes, length, map, true, IsTrue, Err, IfErr};
+ghost use Rattle.std.specs.Prelude.{◌≡◌, ◌≢◌, ℕ, ◌^◌, ◌<◌, ◌≤◌, Bool, List, [], codes, length, map, true, IsTrue, Err, IfErr};
 ghost use Rattle.rpm_outside.specs.Buffered.{inner, holds, HandsOn};
 ghost use Rattle.rpm_outside.specs.Causes.{HasCauseAt};
 ghost use Rattle.rpm_outside.specs.Shelves.{bytes_at};
@@ -10,11 +10,14 @@ ghost use Rattle.rpm_change.specs.Adding as adding;
 ghost use Rattle.rpm_change.specs.Endings.{outputs};
 ghost use Rattle.rpm_change.specs.Importing as importing;
 ghost use Rattle.rpm_change.specs.Rebuilding as rebuilding;
-ghost use Rattle.rpm_tool.specs.Working.{Worked, WorkedWith, is_halt};
+ghost use Rattle.rpm_exercise.specs.Exercised as exercised;
+ghost use Rattle.rpm_tool.specs.Changing.{EmptyOn};
+ghost use Rattle.rpm_tool.specs.Working.{Worked, WorkedWith, is_halt, why_of, why_of_exercise};
 
 use crate::answer::Why;
 use crate::changing::{open_to_change, why_of_halt};
-use rpm_change::{Tally, add_files, import_list, rebuild, replace_package};
+use rpm_change::{Halt, Tally, add_files, import_list, rebuild, replace_package};
+use rpm_exercise::{ExerciseFault, exercise};
 use rpm_outside::{Buffered, Disk, Shelf, Sink};
 use std::alloc::Global;
 
@@ -142,5 +145,49 @@ pub(crate) fn rebuild_on<D: Disk, O: Sink + Drop>(
     match rebuild(alloc, &mut db, disk, out) {
         Ok(tally) => Ok(tally),
         Err(halt) => Err(why_of_halt(halt)),
+    }
+}
+
+/// The ending of an exercise that wasn't done.
+fn why_of_exercise(fault: ExerciseFault) -> Why
+    ensures says { result ≡ why_of_exercise fault }
+    ensures halts { is_halt result ≡ true }
+    ensures disk { result ≡ Why.DiskFault → fault ≡ ExerciseFault.Halted Halt.DiskFault }
+    ensures out { result ≡ Why.OutFault → fault ≡ ExerciseFault.Halted Halt.OutFault }
+{
+    match fault {
+        ExerciseFault::NotEmpty { number } => Why::NotEmpty(number),
+        ExerciseFault::Halted(halt) => why_of_halt(halt),
+    }
+}
+
+/// Opens the database, and makes the exercise of so many headers on it, where it has no packages.
+pub(crate) fn exercise_on<D: Disk, O: Sink + Drop>(
+    alloc: Global,
+    disk: &mut D,
+    headers: u32,
+    out: &mut Buffered<O>,
+) -> Result<Tally, Why>
+    requires few { headers ≤ 100000 }
+    requires out_empty { holds out.old ≡ [] }
+    ensures worked { IsTrue D.tells → (err_tells : Bool) (err : List ℕ)
+        → WorkedWith true (λ s. exercised.exercise headers s) (D.files disk.old) (D.files disk.new) result
+        (outputs O.tells (O.taken (inner out.old)) err_tells err) (outputs O.tells (O.taken (inner out.new)) err_tells err) }
+    ensures empty { IsTrue D.tells → EmptyOn (D.files disk.old) (why_of result) }
+    ensures runs { Runs D.tells D.files D.left_since D.moment D.bytes_read D.follows SameLog disk.old disk.new }
+    ensures halted { IfErr result (λ given. is_halt given ≡ true) }
+    ensures shelf { result ≢ Err Why.ShelfFault }
+    ensures err { result ≢ Err Why.ErrFault }
+    ensures disk { HasCauseAt (result ≡ Err Why.DiskFault) (D.faults disk.old) (D.faults disk.new) }
+    ensures out { HasCauseAt (result ≡ Err Why.OutFault) (O.faults (inner out.old)) (O.faults (inner out.new)) }
+    ensures out_rest { HandsOn O.follows out.old out.new }
+{
+    let mut db = match open_to_change(alloc, disk) {
+        Ok(db) => db,
+        Err(why) => return Err(why),
+    };
+    match exercise(alloc, &mut db, disk, headers, out) {
+        Ok(tally) => Ok(tally),
+        Err(fault) => Err(why_of_exercise(fault)),
     }
 }

@@ -1,4 +1,7 @@
-use Rattle.std.proofs.Common.{refl, ◌∙◌}
+use Rattle.std.proofs.Common.{is_some, refl, sym, ap, ◌∙◌}
+use Rattle.std.specs.FinMap as finite
+use Rattle.rpm_db.specs.inner.Laws.{is_there}
+use Rattle.rpm_db.specs.State.{State}
 use Rattle.rpm_db.specs.inner.Running.{runs_none, runs_then}
 use Rattle.rpm_db.specs.inner.Writes.{SameLog}
 use Rattle.rpm_db.specs.Lawful.{Remade}
@@ -45,3 +48,9 @@ returns-in-Err-make_blank-clause-runs g c =
     runs_then g.D.Disk.tells g.D.Disk.files g.D.Disk.left_since g.D.Disk.moment g.D.Disk.bytes_read g.D.Disk.follows g.met.D.Disk.follows_trans
     Remade SameLog SameLog c.args.disk.now c.open.new.disk c.make_blank.new.disk (λ x y made. made.log) (λ x y z made same. same ∙ made.log)
     c.in-Ok.ensures.runs c.make_blank.ensures.runs
+
+pub returns-in-Ok-make_blank-clause-from_one : goal.returns-in-Ok-make_blank-clause-from_one
+returns-in-Ok-make_blank-clause-from_one g c = λ told.
+    sym (is_there (g.D.Disk.files c.make_blank.new.disk).pkg c.make_blank.new.db 0)
+    ∙ ap (λ (s : State). is_some (finite.get s.packages 0)) (c.in-Ok-make_blank.ensures.state told)
+    ∙ is_there (g.D.Disk.files c.open.new.disk).pkg c.in-Ok.db 0 ∙ c.in-Ok.ensures.from_one

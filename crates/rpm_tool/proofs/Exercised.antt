@@ -1,0 +1,157 @@
+-- The exercise, from the opening to its end.
+use Rattle.std.proofs.Common.{◌≡◌, ℕ, ◌^◌, ◌≤◌, true, false, List, [], Option, Some, None, is_some, Result, Ok, Err, refl, sym, ap, ◌∙◌, subst, inl, inr, arith}
+use Rattle.std.specs.Ordering.{nat_cmp}
+use Rattle.std.specs.FinMap as finite
+use Rattle.rpm_outside.specs.Files.{Units, Files}
+use Rattle.rpm_hindex.specs.Rows.{Row}
+use Rattle.rpm_hindex.specs.Sizes as sizes
+use Rattle.rpm_hindex.specs.Sizes.{units_for}
+use Rattle.rpm_pkgdb.specs.declared.slot.Damage.{Damage}
+use Rattle.rpm_pkgdb.specs.Store.{Store, store, in_file}
+use Rattle.rpm_db.specs.Changes.{Change}
+use Rattle.rpm_db.specs.Database.{Database, IsIndexed, IsNext, holds}
+use Rattle.rpm_db.specs.Openings.{must_make, units_needed}
+use Rattle.rpm_db.specs.Rows.{rows, rows_in}
+use Rattle.rpm_db.specs.State.{State, Package, state, packages}
+use Rattle.rpm_db.specs.inner.Laws.{is_there}
+use Rattle.rpm_change.specs.declared.tally.Halt.{Halt}
+use Rattle.rpm_change.specs.declared.tally.Halt.TheVariants as halt
+use Rattle.rpm_change.specs.declared.tally.Tally.{Tally}
+use Rattle.rpm_change.specs.Endings.{Outputs, Through, Done, Ended, IndexTurn}
+use Rattle.rpm_change.specs.Rebuilding.{RebuildTurn}
+use Rattle.rpm_exercise.specs.declared.running.ExerciseFault.{ExerciseFault}
+use Rattle.rpm_exercise.specs.declared.running.ExerciseFault.TheVariants.{NotEmpty, Halted}
+use Rattle.rpm_exercise.specs.Endings.{OnceBegun, IsRefused}
+use Rattle.rpm_exercise.specs.Exercised.{exercise}
+use Rattle.rpm_tool.specs.declared.answer.Why.{Why}
+use Rattle.rpm_tool.specs.declared.answer.Why.TheVariants as why
+use Rattle.rpm_tool.specs.Changing.{EmptyIs, EmptyOn}
+use Rattle.rpm_tool.specs.Working.{OpensIn, OpensBy, WorkedBy, WorkedWith, done_why, why_of_halt, why_of_exercise}
+use Rattle.rpm_tool.proofs.Anew.{halted_anew, done_anew}
+use Rattle.rpm_tool.proofs.Grouped.{if_ok}
+use Rattle.rpm_tool.proofs.Outcomes.{done_is}
+use Rattle.rpm_tool.proofs.Verified.{no_entry, from_one}
+
+-- ---- no packages
+
+-- an index of no packages has room
+no_rows : (map : finite.FinMap nat_cmp Package) → finite.entries map ≡ [] → units_for (rows map) ≤ 2 ^ 28
+unfolding rows sizes.bucket_count sizes.live_of
+no_rows map none =
+    let same : rows map ≡ [] = ap rows_in none in
+    let is : units_for [] ≡ 18 = refl in
+    subst (λ (all : List Row). units_for all ≤ 2 ^ 28) (sym same) (omega (arith, is))
+
+room_of_none : (file : Units) (db : Database) → holds 0 db ≡ false → IsNext (λ m. holds m db) 0 None → units_for (rows (packages file db.store)) ≤ 2 ^ 28
+room_of_none file db zero none =
+    no_rows (packages file db.store)
+    (sym (from_one file db zero) ∙ no_entry (packages file db.store) 0 (λ k above. is_there file db k ∙ none k above))
+
+-- so the index is full at the turn of a change alone
+renewed : (s : State) (changes : List Change) (r : Result Tally Halt) → units_for (rows s.packages) ≤ 2 ^ 28 → IndexTurn s changes r → RebuildTurn s changes r
+renewed s changes (Ok tally) room turn = (room, turn)
+renewed s changes (Err halt.NumbersSpent) room turn = tt
+renewed s changes (Err halt.GenerationSpent) room turn = tt
+renewed s changes (Err halt.StoreFull) room turn = tt
+renewed s changes (Err (halt.IndexFull told)) room turn = inr (room, turn)
+renewed s changes (Err (halt.BadIndex unit)) room turn = turn
+renewed s changes (Err halt.DiskFault) room turn = tt
+renewed s changes (Err halt.ShelfFault) room turn = tt
+renewed s changes (Err halt.OutFault) room turn = tt
+renewed s changes (Err halt.ErrFault) room turn = tt
+renewed s changes (Err halt.NoMemory) room turn = tt
+
+-- ---- what was worked
+
+module _ (n : ℕ) (old mid new : Files) (db last : Database) (before now : Outputs) (opens : OpensBy old (store old.pkg) mid (Ok db))
+    (zero : holds 0 db ≡ false) where
+  abbrev found : State
+  found = state mid.pkg db.store
+
+  unbegun : (sr : Result Store Damage) (held : ℕ) → OpensBy old sr mid (Ok db) → Through [] before now
+      → WorkedBy (λ s. exercise n s) old.pkg sr new (Err (why.NotEmpty held)) before now
+  unbegun (Ok s) held opened none = none
+  unbegun (Err d) held opened none = absurd opened
+
+  pub stopped_exercise : (fault : ExerciseFault) (t : State) → IsRefused (IsNext (λ m. holds m db) 0) (Err fault)
+      → OnceBegun (λ r. Ended (exercise n found) found t r before now) (Err fault)
+      → OnceBegun (λ r. IndexTurn found (exercise n found).changes r) (Err fault) → ((held : ℕ) → fault ≡ NotEmpty held → Through [] before now)
+      → WorkedWith true (λ s. exercise n s) old new (Err (why_of_exercise fault)) before now
+  stopped_exercise (NotEmpty held) t refused ended turn nothing = record {
+    went = unbegun (store old.pkg) held opens (nothing held refl);
+    full = λ _. if_ok (store old.pkg) (λ s is. tt);
+    index = λ _. tt;
+  }
+  stopped_exercise (Halted h) t refused ended turn nothing =
+      halted_anew (λ s. exercise n s) old mid new db last before now h t opens ended
+      (renewed found (exercise n found).changes (Err h) (room_of_none mid.pkg db zero refused) turn)
+
+  pub done_exercise : (tally : Tally) → IsNext (λ m. holds m db) 0 None → store new.pkg ≡ Ok (in_file last.store)
+      → Done (exercise n found) found (state new.pkg last.store) tally before now → IndexTurn found (exercise n found).changes (Ok tally)
+      → IsIndexed new.pkg new.idx last → WorkedWith true (λ s. exercise n s) old new (Ok tally) before now
+  done_exercise tally none keeps done turn indexed =
+      done_anew (λ s. exercise n s) old mid new db last before now tally opens keeps done
+      (renewed found (exercise n found).changes (Ok tally) (room_of_none mid.pkg db zero none) turn) indexed
+
+-- ---- whether there were packages
+
+empty_in : (packages : finite.FinMap nat_cmp Package) (making : _) (needed : ℕ) (s : State) (new : Files) (w : Why) → OpensIn making needed s new (Err w)
+    → EmptyIs packages w
+empty_in packages making needed s new why.Done opens = absurd opens
+empty_in packages making needed s new (why.Failed n) opens = absurd opens
+empty_in packages making needed s new (why.Usage f) opens = absurd opens
+empty_in packages making needed s new (why.NotBuilt x) opens = absurd opens
+empty_in packages making needed s new (why.BadFormat f) opens = absurd opens
+empty_in packages making needed s new (why.BadLog u) opens = absurd opens
+empty_in packages making needed s new (why.Damaged d) opens = absurd opens
+empty_in packages making needed s new why.NumbersSpent opens = absurd opens
+empty_in packages making needed s new why.GenerationSpent opens = absurd opens
+empty_in packages making needed s new why.StoreFull opens = absurd opens
+empty_in packages making needed s new (why.NotEmpty held) opens = absurd opens
+empty_in packages making needed s new (why.BadIndex u) opens = absurd opens
+empty_in packages making needed s new (why.IndexFull u) opens = tt
+empty_in packages making needed s new (why.LogFull u) opens = absurd opens
+empty_in packages making needed s new why.DiskFault opens = tt
+empty_in packages making needed s new why.ShelfFault opens = absurd opens
+empty_in packages making needed s new why.OutFault opens = absurd opens
+empty_in packages making needed s new why.ErrFault opens = absurd opens
+empty_in packages making needed s new why.NoMemory opens = tt
+
+pub empty_unopened : (old new : Files) (w : Why) → OpensBy old (store old.pkg) new (Err w) → EmptyOn old w
+empty_unopened old new w opens = if_ok (store old.pkg)
+    (λ s is. empty_in (packages old.pkg s) (must_make old.idx (Ok s)) (units_needed old.pkg (Ok s)) (state old.pkg s) new w
+    (subst (λ (sr : Result Store Damage). OpensBy old sr new (Err w)) is opens))
+
+-- a database that was opened says it as its packages do
+next_there : (file : Units) (db : Database) (o : Option ℕ) → IsNext (λ m. holds m db) 0 o → IsNext (λ n. is_some (finite.get (packages file db.store) n)) 0 o
+next_there file db None none = λ k above. is_there file db k ∙ none k above
+next_there file db (Some m) next = (next.0, is_there file db m ∙ next.1, λ k above below. is_there file db k ∙ next.2 k above below)
+
+empty_halt : (packages : finite.FinMap nat_cmp Package) (h : Halt) → IsNext (λ n. is_some (finite.get packages n)) 0 None → EmptyIs packages (why_of_halt h)
+empty_halt packages halt.NumbersSpent none = none
+empty_halt packages halt.GenerationSpent none = none
+empty_halt packages halt.StoreFull none = none
+empty_halt packages (halt.IndexFull u) none = tt
+empty_halt packages (halt.BadIndex u) none = tt
+empty_halt packages halt.DiskFault none = tt
+empty_halt packages halt.ShelfFault none = tt
+empty_halt packages halt.OutFault none = tt
+empty_halt packages halt.ErrFault none = tt
+empty_halt packages halt.NoMemory none = tt
+
+module _ (old mid : Files) (db : Database) (opens : OpensBy old (store old.pkg) mid (Ok db)) where
+  empty_at : (w : Why) → EmptyIs (packages mid.pkg db.store) w → EmptyOn old w
+  empty_at w empty = if_ok (store old.pkg) (λ s is. subst (λ (x : State). EmptyIs x.packages w)
+      (subst (λ (sr : Result Store Damage). OpensBy old sr mid (Ok db)) is opens).0 empty)
+
+  pub empty_stopped : (fault : ExerciseFault) → IsRefused (IsNext (λ m. holds m db) 0) (Err fault) → EmptyOn old (why_of_exercise fault)
+  empty_stopped (NotEmpty held) next = empty_at (why.NotEmpty held) (next_there mid.pkg db (Some held) next)
+  empty_stopped (Halted h) none = empty_at (why_of_halt h) (empty_halt (packages mid.pkg db.store) h (next_there mid.pkg db None none))
+
+  pub empty_done : (k : ℕ) → IsNext (λ m. holds m db) 0 None → EmptyOn old (done_why k)
+  empty_done k none =
+      let there = next_there mid.pkg db None none in
+      empty_at (done_why k) (elim (done_is k) [
+        | inl zero ↦ subst (λ (w : Why). EmptyIs (packages mid.pkg db.store) w) (sym zero.1) there
+        | inr some ↦ subst (λ (w : Why). EmptyIs (packages mid.pkg db.store) w) (sym some.1) there
+      ])

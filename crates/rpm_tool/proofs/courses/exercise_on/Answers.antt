@@ -1,0 +1,65 @@
+use Rattle.std.proofs.Common.{true, [], Err, sym, ap, ◌∙◌, subst}
+use Rattle.rpm_outside.specs.Buffered.{inner}
+use Rattle.rpm_db.specs.State.{state}
+use Rattle.rpm_db.specs.inner.Running.{runs_then}
+use Rattle.rpm_db.specs.inner.Writes.{SameLog}
+use Rattle.rpm_change.specs.Endings.{Outputs, Through, outputs}
+use Rattle.rpm_exercise.specs.Exercised.{exercise}
+use Rattle.rpm_tool.specs.Changing.{EmptyOn}
+use Rattle.rpm_tool.proofs.Exercised.{stopped_exercise, done_exercise, empty_unopened, empty_stopped, empty_done}
+use Rattle.rpm_tool.proofs.Unmade.{through_none}
+use Rattle.rpm_tool.proofs.Works.{open_with}
+use Rattle.rpm_tool.proofs.courses.exercise_on.Goals as goal
+
+pub returns-in-Err-clause-worked : goal.returns-in-Err-clause-worked
+returns-in-Err-clause-worked g c = λ told err_tells err.
+    let now = outputs g.O.Sink.tells (g.O.Sink.taken (inner c.args.out.now)) err_tells err in
+    open_with true (λ s. exercise c.args.headers s) (g.D.Disk.files c.args.disk.now) (g.D.Disk.files c.open_to_change.new.disk) c.in-Err.why now now
+    (c.in-Err.ensures.opened told) (through_none now)
+
+pub returns-in-Err-clause-empty : goal.returns-in-Err-clause-empty
+returns-in-Err-clause-empty g c = λ told.
+    empty_unopened (g.D.Disk.files c.args.disk.now) (g.D.Disk.files c.open_to_change.new.disk) c.in-Err.why (c.in-Err.ensures.opened told)
+
+pub returns-in-Ok-exercise-clause-worked : goal.returns-in-Ok-exercise-clause-worked
+returns-in-Ok-exercise-clause-worked g c = λ told err_tells err.
+    let said = c.in-Ok-exercise.ensures in
+    let before = outputs g.O.Sink.tells (g.O.Sink.taken (inner c.args.out.now)) err_tells err in
+    let now = outputs g.O.Sink.tells (g.O.Sink.taken (inner c.exercise.new.out)) err_tells err in
+    done_exercise c.args.headers (g.D.Disk.files c.args.disk.now) (g.D.Disk.files c.open_to_change.new.disk) (g.D.Disk.files c.exercise.new.disk)
+    c.in-Ok.db c.exercise.new.db before now (c.in-Ok.ensures.opened told) (c.in-Ok.ensures.from_one told) c.in-Ok-exercise.tally said.empty
+    (said.serving told).keeps (said.ended told err_tells err) (said.room told) (said.index told)
+
+pub returns-in-Ok-exercise-clause-empty : goal.returns-in-Ok-exercise-clause-empty
+returns-in-Ok-exercise-clause-empty g c = λ told.
+    empty_done (g.D.Disk.files c.args.disk.now) (g.D.Disk.files c.open_to_change.new.disk) c.in-Ok.db (c.in-Ok.ensures.opened told)
+    c.in-Ok-exercise.tally.failed c.in-Ok-exercise.ensures.empty
+
+pub returns-in-Ok-exercise-clause-runs : goal.returns-in-Ok-exercise-clause-runs
+returns-in-Ok-exercise-clause-runs g c =
+    runs_then g.D.Disk.tells g.D.Disk.files g.D.Disk.left_since g.D.Disk.moment g.D.Disk.bytes_read g.D.Disk.follows g.met.D.Disk.follows_trans
+    SameLog SameLog SameLog c.args.disk.now c.open_to_change.new.disk c.exercise.new.disk (λ x y log. log) (λ x y z first second. second ∙ first)
+    c.in-Ok.ensures.runs c.exercise.ensures.runs
+
+pub returns-clause-worked : goal.returns-clause-worked
+returns-clause-worked g c = λ told err_tells err.
+    let said = c.in-Err-exercise.ensures in
+    let before = outputs g.O.Sink.tells (g.O.Sink.taken (inner c.args.out.now)) err_tells err in
+    let now = outputs g.O.Sink.tells (g.O.Sink.taken (inner c.exercise.new.out)) err_tells err in
+    rw c.why_of_exercise.ensures.says (stopped_exercise c.args.headers (g.D.Disk.files c.args.disk.now) (g.D.Disk.files c.open_to_change.new.disk)
+    (g.D.Disk.files c.exercise.new.disk) c.in-Ok.db c.exercise.new.db before now (c.in-Ok.ensures.opened told) (c.in-Ok.ensures.from_one told)
+    c.in-Err-exercise.fault (state (g.D.Disk.files c.exercise.new.disk).pkg c.exercise.new.db.store) said.empty (said.ended told err_tells err)
+    (said.room told) (λ held is. subst (λ (x : Outputs). Through [] before x)
+    (ap (λ o. outputs g.O.Sink.tells (g.O.Sink.taken (inner o)) err_tells err)
+    (sym (c.exercise.ensures.refused held (c.in-Err-exercise.is ∙ ap Err is)).2)) (through_none before)))
+
+pub returns-clause-empty : goal.returns-clause-empty
+returns-clause-empty g c = λ told.
+    rw c.why_of_exercise.ensures.says (empty_stopped (g.D.Disk.files c.args.disk.now) (g.D.Disk.files c.open_to_change.new.disk) c.in-Ok.db
+    (c.in-Ok.ensures.opened told) c.in-Err-exercise.fault c.in-Err-exercise.ensures.empty)
+
+pub returns-clause-runs : goal.returns-clause-runs
+returns-clause-runs g c =
+    runs_then g.D.Disk.tells g.D.Disk.files g.D.Disk.left_since g.D.Disk.moment g.D.Disk.bytes_read g.D.Disk.follows g.met.D.Disk.follows_trans
+    SameLog SameLog SameLog c.args.disk.now c.open_to_change.new.disk c.exercise.new.disk (λ x y log. log) (λ x y z first second. second ∙ first)
+    c.in-Ok.ensures.runs c.exercise.ensures.runs
