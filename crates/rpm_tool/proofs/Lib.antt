@@ -31,6 +31,7 @@ mod Reaching
 mod Recovered
 mod Regrouped
 mod Rising
+mod Spent
 mod Stopping
 mod Sums
 mod Turns

@@ -11,7 +11,7 @@ ghost use Rattle.rpm_change.specs.Endings.{outputs};
 ghost use Rattle.rpm_change.specs.Importing as importing;
 ghost use Rattle.rpm_change.specs.Rebuilding as rebuilding;
 ghost use Rattle.rpm_exercise.specs.Exercised as exercised;
-ghost use Rattle.rpm_tool.specs.Changing.{EmptyOn};
+ghost use Rattle.rpm_tool.specs.Changing.{EmptyOn, NumbersOn};
 ghost use Rattle.rpm_tool.specs.Working.{Worked, WorkedWith, is_halt, why_of, why_of_exercise};
 
 use crate::answer::Why;
@@ -35,6 +35,8 @@ pub(crate) fn add_on<D: Disk, S: Shelf, E: Sink + Drop>(
     ensures worked { IsTrue D.tells → IsTrue S.tells → (out_tells : Bool) (out : List ℕ)
         → Worked (λ s. adding.add_files (S.paths shelf.old) now s (map (λ path. path.now) paths.now)) (D.files disk.old) (D.files disk.new) result
         (outputs out_tells out E.tells (E.taken (inner err.old))) (outputs out_tells out E.tells (E.taken (inner err.new))) }
+    ensures numbers { IsTrue D.tells → IsTrue S.tells
+        → NumbersOn (λ s. adding.add_files (S.paths shelf.old) now s (map (λ path. path.now) paths.now)) (D.files disk.old) (why_of result) }
     ensures runs { Runs D.tells D.files D.left_since D.moment D.bytes_read D.follows SameLog disk.old disk.new }
     ensures halted { IfErr result (λ given. is_halt given ≡ true) }
     ensures out { result ≢ Err Why.OutFault }

@@ -7,6 +7,7 @@ use Rattle.rpm_change.specs.Steps.{Course}
 use Rattle.rpm_change.specs.Endings.{outputs}
 use Rattle.rpm_change.specs.Adding.{add_files}
 use Rattle.rpm_tool.proofs.Unmade.{through_none}
+use Rattle.rpm_tool.proofs.Spent.{spent_unopened, spent_halted, spent_worked}
 use Rattle.rpm_tool.proofs.Works.{open_worked, done_worked, halted_worked}
 use Rattle.rpm_tool.proofs.courses.add_on.Goals as goal
 
@@ -50,3 +51,20 @@ returns-clause-runs g c =
     runs_then g.D.Disk.tells g.D.Disk.files g.D.Disk.left_since g.D.Disk.moment g.D.Disk.bytes_read g.D.Disk.follows g.met.D.Disk.follows_trans
     SameLog SameLog SameLog c.args.disk.now c.open_to_change.new.disk c.add_files.new.disk (λ x y log. log) (λ x y z first second. second ∙ first)
     c.in-Ok.ensures.runs c.add_files.ensures.runs
+
+pub returns-in-Err-clause-numbers : goal.returns-in-Err-clause-numbers
+returns-in-Err-clause-numbers g c = λ told telling.
+    let course : State → Course = λ s. add_files (g.S.Shelf.paths c.args.shelf.now) c.args.now s (map (λ path. path.now) c.args.paths.now) in
+    spent_unopened course (g.D.Disk.files c.args.disk.now) (g.D.Disk.files c.open_to_change.new.disk) c.in-Err.why (c.in-Err.ensures.opened told)
+
+pub returns-in-Ok-add_files-clause-numbers : goal.returns-in-Ok-add_files-clause-numbers
+returns-in-Ok-add_files-clause-numbers g c = λ told telling.
+    let course : State → Course = λ s. add_files (g.S.Shelf.paths c.args.shelf.now) c.args.now s (map (λ path. path.now) c.args.paths.now) in
+    spent_worked course (g.D.Disk.files c.args.disk.now) (g.D.Disk.files c.open_to_change.new.disk) c.in-Ok.db (c.in-Ok.ensures.opened told)
+    c.in-Ok-add_files.tally (c.in-Ok-add_files.ensures.numbers told telling)
+
+pub returns-clause-numbers : goal.returns-clause-numbers
+returns-clause-numbers g c = λ told telling.
+    let course : State → Course = λ s. add_files (g.S.Shelf.paths c.args.shelf.now) c.args.now s (map (λ path. path.now) c.args.paths.now) in
+    rw c.why_of_halt.ensures (spent_halted course (g.D.Disk.files c.args.disk.now) (g.D.Disk.files c.open_to_change.new.disk) c.in-Ok.db
+    (c.in-Ok.ensures.opened told) c.in-Err-add_files.halt (c.in-Err-add_files.ensures.numbers told telling))
