@@ -1,5 +1,5 @@
 -- When the numbers are spent, from the opening to the last change.
-use Rattle.std.proofs.Common.{◌≡◌, ℕ, Bool, List, Result, Ok, Err, sym, subst, inl, inr}
+use Rattle.std.proofs.Common.{ℕ, Bool, List, Result, Ok, Err, sym, subst, inl, inr}
 use Rattle.rpm_outside.specs.Files.{Files}
 use Rattle.rpm_pkgdb.specs.declared.slot.Damage.{Damage}
 use Rattle.rpm_pkgdb.specs.Store.{Store, store}

@@ -5,7 +5,6 @@ use Rattle.rpm_db.specs.inner.Running.{runs_then}
 use Rattle.rpm_db.specs.inner.Writes.{SameLog}
 use Rattle.rpm_change.specs.Endings.{Outputs, Through, outputs}
 use Rattle.rpm_exercise.specs.Exercised.{exercise}
-use Rattle.rpm_tool.specs.Changing.{EmptyOn}
 use Rattle.rpm_tool.proofs.Exercised.{stopped_exercise, done_exercise, empty_unopened, empty_stopped, empty_done}
 use Rattle.rpm_tool.proofs.Unmade.{through_none}
 use Rattle.rpm_tool.proofs.Works.{open_with}
