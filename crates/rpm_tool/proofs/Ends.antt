@@ -1,5 +1,5 @@
 -- How a group ends: it is committed, or let go.
-use Rattle.std.proofs.Common.{◌≡◌, ◌⊎◌, ℕ, ◌^◌, Bool, true, false, Result, Ok, Err, refl, sym, ap, ◌∙◌, subst, inl, inr, ⊎_elim}
+use Rattle.std.proofs.Common.{◌≡◌, ◌⊎◌, ℕ, ◌^◌, Bool, true, false, Result, Ok, Err, refl, sym, ap, ◌∙◌, subst, inl, inr, ⊎_elim, arith}
 use Rattle.std.specs.Prelude.{IsTrue, OnOk}
 use Rattle.rpm_outside.specs.declared.disk.File.{File}
 use Rattle.rpm_outside.specs.declared.disk.File.TheVariants.{Log}
@@ -8,12 +8,12 @@ use Rattle.rpm_outside.specs.Crash.{LeavesOnly}
 use Rattle.rpm_outside.specs.Files.{Files}
 use Rattle.rpm_outside.specs.Logs.{Closed, log_state, reopened, unlogged}
 use Rattle.rpm_outside.specs.Looks.{LooksAt}
-use Rattle.rpm_outside.specs.inner.Moments.{started}
+use Rattle.rpm_outside.specs.inner.Moments.{started, leaves_weaker}
 use Rattle.rpm_group.specs.declared.commit.CommitFault.{CommitFault}
 use Rattle.rpm_group.specs.declared.commit.CommitFault.TheVariants as commit
 use Rattle.rpm_group.specs.Below.{KeepsBelow}
 use Rattle.rpm_group.specs.Commits.{IsFull, CommitSays}
-use Rattle.rpm_group.specs.Groups.{BeforeOrAfter}
+use Rattle.rpm_group.specs.Groups.{BeforeOrAfter, Unwritten}
 use Rattle.rpm_group.specs.Loads.{IsSound}
 use Rattle.rpm_group.specs.Settled.{ReopensAs}
 use Rattle.rpm_change.specs.declared.tally.Tally.{Tally}
@@ -201,47 +201,68 @@ starved_fault true why.OutFault is = absurd cc
 starved_fault true why.ErrFault is = absurd cc
 starved_fault true why.NoMemory is = absurd cc
 
-module _ {D : Type 0} (files : D → Files) (left_since : D → ℕ → Files → Type 0) (moment : D → ℕ) (after : Files) (old new : D) where
+module _ {D : Type 0} (files : D → Files) (left_since : D → ℕ → Files → Type 0) (moment : D → ℕ) (bytes_read : D → File → ℕ) (after : Files) (old new : D)
+    (settled : AreSettled (files old) (left_since old (moment old))) (closed : log_state (files old).log ≡ Closed) where
+  -- each image at the start is the files before
+  as_before : (image : Files) → left_since old (moment old) image → ReopensAs (unlogged (files old)) image
+  as_before image is = record {
+    same = ap reopened (settled image is) ∙ shut_stands (files old) closed;
+    sound = subst IsSound (sym (ap (λ (f : Files). log_state f.log) (settled image is) ∙ closed)) tt;
+  }
+
+  abbrev Still : D → Type 0
+  Still d = LeavesOnly moment left_since old d (ReopensAs (unlogged (files old)))
+
+  unwritten_still : (tells : Bool) → IsTrue tells → Unwritten tells files left_since moment bytes_read old new → Still new
+  unwritten_still tells told stays = record {
+    later = omega (arith, stays.moment_stays);
+    each = λ image left. as_before image ((stays.untouched told).images (moment old) image left);
+    before = λ t image le left. inl ((stays.untouched told).images t image left);
+  }
+
   pub commit_ends : (tells : Bool) → IsTrue tells → (tally : Tally) (answer : Result (Unit {0}) CommitFault) (w : Why) (n units : ℕ)
       → CommittedAs tally answer w n → OnOk answer (IsTrue tells → unlogged (files new) ≡ after)
       → OnOk answer (IsTrue tells → log_state (files new).log ≡ Closed)
       → OnOk answer (IsTrue tells → AreSettled (files new) (left_since new (moment new)))
-      → CommitSays (2 ^ 28) units answer → (IsFull units answer → files new ≡ files old)
+      → CommitSays (2 ^ 28) units answer → (IsFull units answer → Unwritten tells files left_since moment bytes_read old new)
       → LeavesOnly moment left_since old new (BeforeOrAfter (unlogged (files old)) after)
       → EndsGroup files left_since moment (Ok tally) w n after old new
-  commit_ends tells told tally (Ok done) w n units ends same closed settled says full images = record {
+  commit_ends tells told tally (Ok done) w n units ends same shut still says full images = record {
     says = inl ends;
-    done = λ is. record { same = same told; closed = closed told; settled = settled told };
+    done = λ is. record { same = same told; closed = shut told; settled = still told };
     stays = λ no. absurd (let wrong : true ≡ false = sym (fault_done_why tally.failed) ∙ subst (λ (x : Why). is_done_or_fault x ≡ false) ends.0 no in cc);
     images = images;
+    unmade = λ no. absurd (let wrong : true ≡ false = sym (fault_done_why tally.failed) ∙ subst (λ (x : Why). is_done_or_fault x ≡ false) ends.0 no in cc);
   }
-  commit_ends tells told tally (Err (commit.LogFull needed)) w n units ends same closed settled says full images = record {
-    says = inr (ends.1, subst IsUncommitted (sym ends.0) tt);
-    done = λ is. absurd (let wrong : false ≡ true = subst (λ (x : Why). is_done x ≡ true) ends.0 is in cc);
-    stays = λ no. full (ap (λ (k : ℕ). Err (commit.LogFull k)) says.0);
-    images = images;
-  }
-  commit_ends tells told tally (Err commit.DiskFault) w n units ends same closed settled says full images = record {
+  commit_ends tells told tally (Err (commit.LogFull needed)) w n units ends same shut still says full images =
+      let stays = full (ap (λ (k : ℕ). Err (commit.LogFull k)) says.0) in
+      record {
+        says = inr (ends.1, subst IsUncommitted (sym ends.0) tt);
+        done = λ is. absurd (let wrong : false ≡ true = subst (λ (x : Why). is_done x ≡ true) ends.0 is in cc);
+        stays = λ no. (stays.untouched told).same;
+        images = images;
+        unmade = λ no. unwritten_still tells told stays;
+      }
+  commit_ends tells told tally (Err commit.DiskFault) w n units ends same shut still says full images = record {
     says = inr (ends.1, subst IsUncommitted (sym ends.0) tt);
     done = λ is. absurd (let wrong : false ≡ true = subst (λ (x : Why). is_done x ≡ true) ends.0 is in cc);
     stays = λ no. absurd (let wrong : true ≡ false = subst (λ (x : Why). is_done_or_fault x ≡ false) ends.0 no in cc);
     images = images;
+    unmade = λ no. absurd (let wrong : true ≡ false = subst (λ (x : Why). is_done_or_fault x ≡ false) ends.0 no in cc);
   }
 
-  module _ (same : new ≡ old) (settled : AreSettled (files old) (left_since old (moment old))) (closed : log_state (files old).log ≡ Closed) where
-    as_before : (image : Files) → left_since old (moment old) image → ReopensAs (unlogged (files old)) image
-    as_before image is = record {
-      same = ap reopened (settled image is) ∙ shut_stands (files old) closed;
-      sound = subst IsSound (sym (ap (λ (f : Files). log_state f.log) (settled image is) ∙ closed)) tt;
-    }
+  module _ (same : new ≡ old) where
+    released : Still new
+    released = subst Still (sym same) (started moment left_since old (ReopensAs (unlogged (files old))) as_before)
 
     pub starved_ends : (tally : Tally) → EndsGroup files left_since moment (Ok tally) why.NoMemory 0 after old new
     starved_ends tally = record {
       says = inr (refl, tt);
       done = λ is. absurd cc;
       stays = λ no. ap files same;
-      images = subst (λ (d : D). LeavesOnly moment left_since old d (BeforeOrAfter (unlogged (files old)) after)) (sym same)
-          (started moment left_since old (BeforeOrAfter (unlogged (files old)) after) (λ image is. inl (as_before image is)));
+      images = leaves_weaker moment left_since old new (ReopensAs (unlogged (files old))) (BeforeOrAfter (unlogged (files old)) after)
+          (λ image is. inl is) released;
+      unmade = λ no. released;
     }
 
     pub release_ends : (starved : Bool) (was : Why) → is_halt was ≡ true
@@ -251,8 +272,8 @@ module _ {D : Type 0} (files : D → Files) (left_since : D → ℕ → Files �
       done = λ is. absurd (⊎_elim (λ kept. halt_undone was halts (subst (λ (x : Why). is_done x ≡ true) kept is))
           (λ both. (let wrong : false ≡ true = subst (λ (x : Why). is_done x ≡ true) both.1 is in cc)) (starved_is starved was));
       stays = λ no. ap files same;
-      images = subst (λ (d : D). LeavesOnly moment left_since old d (ReopensAs (unlogged (files old)))) (sym same)
-          (started moment left_since old (ReopensAs (unlogged (files old))) as_before);
+      images = released;
+      unmade = λ no. released;
     }
 
 -- ---- the disk below an overlay

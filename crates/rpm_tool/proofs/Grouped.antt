@@ -19,7 +19,7 @@ use Rattle.rpm_change.specs.Steps.{Course}
 use Rattle.rpm_change.specs.Endings.{Outputs}
 use Rattle.rpm_tool.specs.declared.answer.Why.{Why}
 use Rattle.rpm_tool.specs.Keyed.{IsLawfulGroup, AreLawfulGroups, StandsStill, is_done}
-use Rattle.rpm_tool.specs.Changing.{DidOpened, DidLoaded, DidOn, HasState, HasCurrent, IsSealed, StandsStillOr, LeavesState, FullBy, ChangesWith, MayBegin, after, is_of_lawful}
+use Rattle.rpm_tool.specs.Changing.{DidOpened, DidLoaded, DidOn, HasState, HasCurrent, IsSealed, StandsStillOr, LeavesState, FullBy, ChangesWith, MayBegin, after, is_of_lawful, is_done_or_fault}
 use Rattle.rpm_tool.specs.Working.{WorkedWith, WorkedOn, WorkedBy, EndsGroup, GroupLeaves}
 use Rattle.rpm_tool.proofs.Ended.{did_opened, done_ok, counted_ended, full_ended, leaves_ended, same_state, worked_state}
 use Rattle.rpm_tool.proofs.Leavings.{leaves_after, lawful_ending}
@@ -155,18 +155,26 @@ module _ {D : Type 0} {anew : Bool} (files : D → Files) (left_since : D → �
           same_state (after course (s0 s)) (reopened image) new (ap (λ (f : Files). f.pkg) left.same) (worked_state course (s0 s) new tally before now done),
         )
 
+    still_first : AreLawfulGroups images → LeavesOnly moment left_since first last (StandsStill images)
+    still_first lawful = record {
+      later = omega (arith, moment_same);
+      each = λ image left. still_here lawful image (back (moment first) image left);
+      before = λ t image le left. inl (back t image left);
+    }
+
     stops_at : AreLawfulGroups images → (s : Store) → store r.pkg ≡ Ok s
         → LeavesOnly moment left_since first final (StandsStillOr images (after course (s0 s)))
     stops_at lawful s is =
         let P : Files → Type 0 = StandsStillOr images (after course (s0 s)) in
         leaves_then moment left_since first last final P
-        (record {
-          later = omega (arith, moment_same);
-          each = λ image left. inl (still_here lawful image (back (moment first) image left));
-          before = λ t image le left. inl (back t image left);
-        })
+        (leaves_weaker moment left_since first last (StandsStill images) P (λ image is. inl is) (still_first lawful))
         (leaves_weaker moment left_since last final (GroupLeaves ended (unlogged (files last)) (unlogged new)) P
         (group_still (lawful (files first) here) s is ended refl) ends.images)
+
+    unmade_at : is_done_or_fault given ≡ false → AreLawfulGroups images → LeavesOnly moment left_since first final (StandsStill images)
+    unmade_at undone lawful = leaves_then moment left_since first last final (StandsStill images) (still_first lawful)
+        (leaves_weaker moment left_since last final (ReopensAs (unlogged (files last))) (StandsStill images)
+        (still_start (lawful (files first) here)) (ends.unmade undone))
 
     pub group_changes : ChangesWith anew files left_since moment course given n first final
     group_changes = record {
@@ -177,6 +185,7 @@ module _ {D : Type 0} {anew : Bool} (files : D → Files) (left_since : D → �
       full = full_at;
       complete = group_complete;
       stops = λ lawful. if_ok (store r.pkg) (stops_at lawful);
+      unmade = unmade_at;
       held = λ done. if_ok (store r.pkg) (λ s is image left.
           (let as_final : image ≡ files final = (ends.done done).settled image left in
           subst (λ (f : Files). HasState (after course (s0 s)) f) (sym as_final) (leaves_after course (s0 s) given n (files final) done (leaves_at s is))));

@@ -14,8 +14,11 @@ mod Exercised
 mod Filed
 mod Fixtures
 mod Grouped
+mod Histories
 mod Joins
+mod Leading
 mod Leavings
+mod Lined
 mod Loading
 mod Looked
 mod Nexts

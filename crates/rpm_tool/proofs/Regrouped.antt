@@ -1,5 +1,5 @@
 -- The same of a disk that isn't recovered yet.
-use Rattle.std.proofs.Common.{◌≡◌, ℕ, Bool, sym, ap, ◌∙◌, subst, inl, inr}
+use Rattle.std.proofs.Common.{◌≡◌, ℕ, Bool, false, sym, ap, ◌∙◌, subst, inl, inr}
 use Rattle.std.specs.Prelude.{IfOk}
 use Rattle.rpm_outside.specs.Changes.{AreSettled}
 use Rattle.rpm_outside.specs.Crash.{LeavesOnly}
@@ -14,11 +14,11 @@ use Rattle.rpm_db.specs.State.{State, state}
 use Rattle.rpm_change.specs.Steps.{Course}
 use Rattle.rpm_tool.specs.declared.answer.Why.{Why}
 use Rattle.rpm_tool.specs.Keyed.{IsLawfulGroup, AreLawfulGroups, StandsStill}
-use Rattle.rpm_tool.specs.Changing.{HasState, StandsStillOr, LeavesState, FullBy, ChangesWith, after}
+use Rattle.rpm_tool.specs.Changing.{HasState, StandsStillOr, LeavesState, FullBy, ChangesWith, after, is_done_or_fault}
 use Rattle.rpm_tool.proofs.Grouped.{if_ok, if_ok_at, may_begin}
 
 -- an image stands still that stands for what one of these stands for
-recovered_still : (images : Files → Type 0) → AreLawfulGroups images → (image : Files) → ReopensAsOneOf images image → StandsStill images image
+pub recovered_still : (images : Files → Type 0) → AreLawfulGroups images → (image : Files) → ReopensAsOneOf images image → StandsStill images image
 recovered_still images lawful image (from, was, stands) = record {
   from = from;
   was = was;
@@ -47,27 +47,37 @@ module _ {D : Type 0} (files : D → Files) (left_since : D → ℕ → Files �
       lawful = subst (λ (f : Files). IsLawful f.pkg f.idx) (sym stands) lawful.lawful;
     }
 
-    still_past : (s : State) (image : Files) → StandsStillOr (left_since mid (moment mid)) s image → StandsStillOr past s image
-    still_past s image (inl still) = inl (record {
+    still_of : (image : Files) → StandsStill (left_since mid (moment mid)) image → StandsStill past image
+    still_of image still = record {
       from = files old;
       was = here;
       pkg = still.pkg ∙ ap (λ (f : Files). (reopened f).pkg) (settled still.from still.was) ∙ ap (λ (f : Files). f.pkg) stands;
       lawful = still.lawful;
-    })
+    }
+
+    still_past : (s : State) (image : Files) → StandsStillOr (left_since mid (moment mid)) s image → StandsStillOr past s image
+    still_past s image (inl still) = inl (still_of image still)
     still_past s image (inr after) = inr after
 
     abbrev StopsBy : Files → Type 0
     StopsBy f = IfOk (store f.pkg) (λ s. LeavesOnly moment left_since old new (StandsStillOr past (after course (state f.pkg s))))
 
+    lawful_all : AreLawfulGroups past → AreLawfulGroups (left_since mid (moment mid))
+    lawful_all lawful image is = subst IsLawfulGroup (sym (settled image is)) (lawful_mid (lawful (files old) here))
+
+    unmade_past : is_done_or_fault given ≡ false → AreLawfulGroups past → LeavesOnly moment left_since old new (StandsStill past)
+    unmade_past undone lawful = leaves_then moment left_since old mid new (StandsStill past)
+        (leaves_weaker moment left_since old mid (ReopensAsOneOf past) (StandsStill past) (recovered_still past lawful) run)
+        (leaves_weaker moment left_since mid new (StandsStill (left_since mid (moment mid))) (StandsStill past) still_of
+        (rest.unmade undone (lawful_all lawful)))
+
     stops_past : AreLawfulGroups past → StopsBy (reopened (files mid))
     stops_past lawful =
-        let m : IsLawfulGroup (files mid) = lawful_mid (lawful (files old) here) in
-        let all : AreLawfulGroups (left_since mid (moment mid)) = λ image is. subst IsLawfulGroup (sym (settled image is)) m in
         if_ok (store (reopened (files mid)).pkg) (λ s is.
         (let t : State = after course (state (reopened (files mid)).pkg s) in
         leaves_then moment left_since old mid new (StandsStillOr past t) (recovering lawful t)
         (leaves_weaker moment left_since mid new (StandsStillOr (left_since mid (moment mid)) t) (StandsStillOr past t) (still_past t)
-        (if_ok_at _ (store (reopened (files mid)).pkg) s is (rest.stops all)))))
+        (if_ok_at _ (store (reopened (files mid)).pkg) s is (rest.stops (lawful_all lawful))))))
 
     pub recovered_changes : ChangesWith anew files left_since moment course given n old new
     recovered_changes = record {
@@ -78,6 +88,7 @@ module _ {D : Type 0} (files : D → Files) (left_since : D → ℕ → Files �
       full = λ may. subst (λ (f : Files). FullBy anew course f given) stands (rest.full (may_begin anew lawful_mid may));
       complete = λ lawful. rest.complete (lawful_mid lawful);
       stops = λ lawful. subst StopsBy stands (stops_past lawful);
+      unmade = unmade_past;
       held = λ done. subst (λ (f : Files). IfOk (store f.pkg) (λ s. (image : Files) → left_since new (moment new) image
           → HasState (after course (state f.pkg s)) image)) stands (rest.held done);
     }

@@ -41,8 +41,8 @@ module _ {D : Type 0} (tells : Bool) (files : D → Files) (left_since : D → �
       settled image (subst (λ (t : ℕ). left_since first t image) looks.moment_stays ((looks.untouched told).images (moment last) image left)) ∙ sym same
 
   ends : EndsGroup files left_since moment (Err given) given 0 (unlogged over) last last
-  ends = release_ends files left_since moment (unlogged over) last last refl still (ap (λ (f : Files). log_state f.log) same ∙ closed) false given
-      (load_halts fault)
+  ends = release_ends files left_since moment bytes_read (unlogged over) last last still (ap (λ (f : Files). log_state f.log) same ∙ closed) refl false
+      given (load_halts fault)
 
   pub unloaded_did : DidOn course (files first) given x x
   unloaded_did = group_did files left_since moment course (Err given) given 0 first last last over x x closed (worked false) ends

@@ -3,6 +3,7 @@ use Rattle.std.proofs.Common.{◌≡◌, ℕ, Bool, true, false, [], Result, Ok,
 use Rattle.rpm_outside.specs.Crash.{LeavesOnly}
 use Rattle.rpm_outside.specs.Files.{Units, Files}
 use Rattle.rpm_outside.specs.Logs.{LogState, Closed, Malformed, Open, log_state, reopened}
+use Rattle.rpm_outside.specs.inner.Moments.{leaves_weaker}
 use Rattle.rpm_group.specs.declared.load.LoadFault.{LoadFault}
 use Rattle.rpm_group.specs.declared.load.LoadFault.TheVariants as load
 use Rattle.rpm_group.specs.declared.recovery.RecoverFault.{RecoverFault}
@@ -17,11 +18,11 @@ use Rattle.rpm_change.specs.Endings.{Outputs, Through, ThroughSome}
 use Rattle.rpm_tool.specs.declared.answer.Why.{Why}
 use Rattle.rpm_tool.specs.declared.answer.Why.TheVariants as why
 use Rattle.rpm_tool.specs.Answers.{why_of_load}
-use Rattle.rpm_tool.specs.Keyed.{why_of_recover}
+use Rattle.rpm_tool.specs.Keyed.{StandsStill, why_of_recover}
 use Rattle.rpm_tool.specs.Changing.{DidOpened, DidLoaded, DidOn, ChangesWith, after}
 use Rattle.rpm_tool.specs.Working.{WorkedWith, WorkedBy, IsOutside, is_halt}
 use Rattle.rpm_tool.proofs.Grouped.{if_ok}
-use Rattle.rpm_tool.proofs.Regrouped.{recovering}
+use Rattle.rpm_tool.proofs.Regrouped.{recovering, recovered_still}
 
 -- nothing was written
 pub through_none : (x : Outputs) → Through [] x x
@@ -134,6 +135,7 @@ module _ {D : Type 0} (files : D → Files) (left_since : D → ℕ → Files �
     complete = λ lawful. absurd (unlawful_log (log_state (files old).log) unit says lawful.sound);
     stops = λ lawful. if_ok (store r.pkg) (λ s is.
         recovering files left_since moment course (why.BadLog unit) 0 old new new here stands run lawful (after course (state r.pkg s)));
+    unmade = λ no lawful. leaves_weaker moment left_since old new (ReopensAsOneOf past) (StandsStill past) (recovered_still past lawful) run;
     held = λ done. absurd cc;
   }
   unrecovered_changes recover.DiskFault says = record {
@@ -153,5 +155,6 @@ module _ {D : Type 0} (files : D → Files) (left_since : D → ℕ → Files �
     complete = λ lawful. refl;
     stops = λ lawful. if_ok (store r.pkg) (λ s is.
         recovering files left_since moment course why.DiskFault 0 old new new here stands run lawful (after course (state r.pkg s)));
+    unmade = λ no lawful. absurd cc;
     held = λ done. absurd cc;
   }

@@ -51,6 +51,11 @@ module _ {D : Type 0} (files : D → Files) (left_since : D → ℕ → Files �
     full = λ lawful. if_ok (store (reopened (files disk)).pkg) (λ s is. tt);
     complete = λ lawful. refl;
     stops = λ lawful. if_ok (store (reopened (files disk)).pkg) (λ s is. still lawful (after course (state (reopened (files disk)).pkg s)));
+    unmade = λ no lawful. record {
+      later = omega arith;
+      each = λ image left. record { from = image; was = left; pkg = refl; lawful = lawful image left };
+      before = λ t image le left. inl left;
+    };
     held = λ done. absurd cc;
   }
 

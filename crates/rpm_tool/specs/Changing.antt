@@ -177,6 +177,8 @@ pub record ChangesWith {D : Type 0} (anew : Bool) (files : D → Files) (left_si
   pub complete : IsLawfulGroup (files old) → is_of_lawful given ≡ true
   pub stops : AreLawfulGroups (left_since old (moment old)) → IfOk (store (reopened (files old)).pkg)
       (λ s. LeavesOnly moment left_since old new (StandsStillOr (left_since old (moment old)) (after course (state (reopened (files old)).pkg s))))
+  pub unmade : is_done_or_fault given ≡ false → AreLawfulGroups (left_since old (moment old))
+      → LeavesOnly moment left_since old new (StandsStill (left_since old (moment old)))
   pub held : is_done given ≡ true → IfOk (store (reopened (files old)).pkg)
       (λ s. (image : Files) → left_since new (moment new) image → HasState (after course (state (reopened (files old)).pkg s)) image)
 

@@ -180,3 +180,4 @@ pub record EndsGroup {D : Type 0} (files : D → Files) (left_since : D → ℕ 
   pub done : is_done given ≡ true → IsCommitted after (files new) (left_since new (moment new))
   pub stays : is_done_or_fault given ≡ false → files new ≡ files old
   pub images : LeavesOnly moment left_since old new (GroupLeaves ended (unlogged (files old)) after)
+  pub unmade : is_done_or_fault given ≡ false → LeavesOnly moment left_since old new (ReopensAs (unlogged (files old)))

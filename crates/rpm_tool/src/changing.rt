@@ -202,6 +202,7 @@ fn change_on<D: Disk, S: Shelf, O: Sink + Drop, E: Sink + Drop>(
     ensures runs { Runs D.tells D.files D.left_since D.moment D.bytes_read D.follows SameLog disk.old disk.new }
     ensures halted { IfErr result (λ given. is_halt given ≡ true) }
     ensures shelf_unread { reads_shelf (task_parts task.now) ≡ false → shelf.new ≡ shelf.old }
+    ensures paths { IsTrue S.tells → S.paths shelf.new ≡ S.paths shelf.old }
     ensures disk { HasCauseAt (result ≡ Err Why.DiskFault) (D.faults disk.old) (D.faults disk.new) }
     ensures shelf { HasCauseAt (result ≡ Err Why.ShelfFault) (S.faults shelf.old) (S.faults shelf.new) }
     ensures out { HasCauseAt (result ≡ Err Why.OutFault) (O.faults (inner out.old)) (O.faults (inner out.new)) }
@@ -307,6 +308,7 @@ fn change_recovered<D: Disk, S: Shelf, O: Sink + Drop, E: Sink + Drop>(
         result.0.why result.0.changes disk result.1 }
     ensures counted { is_done result.0.why ≡ false → result.0.changes ≡ 0 }
     ensures shelf_unread { reads_shelf (task_parts task.now) ≡ false → shelf.new ≡ shelf.old }
+    ensures paths { IsTrue S.tells → S.paths shelf.new ≡ S.paths shelf.old }
     ensures of_words { is_of_words result.0.why ≡ false }
     ensures goes_on { D.follows disk result.1 }
     ensures disk { HasCauseAt (result.0.why ≡ Why.DiskFault) (D.faults disk) (D.faults result.1) }
@@ -360,6 +362,7 @@ fn change<D: Disk, S: Shelf, O: Sink + Drop, E: Sink + Drop>(
         result.0.why result.0.changes disk result.1 }
     ensures counted { is_done result.0.why ≡ false → result.0.changes ≡ 0 }
     ensures shelf_unread { reads_shelf (task_parts task.now) ≡ false → shelf.new ≡ shelf.old }
+    ensures paths { IsTrue S.tells → S.paths shelf.new ≡ S.paths shelf.old }
     ensures of_words { is_of_words result.0.why ≡ false }
     ensures goes_on { D.follows disk result.1 }
     ensures disk { HasCauseAt (result.0.why ≡ Why.DiskFault) (D.faults disk) (D.faults result.1) }
@@ -398,6 +401,7 @@ pub fn change_asked<D: Disk, S: Shelf, O: Sink + Drop, E: Sink + Drop>(
         result.0.why result.0.changes disk result.1 }
     ensures counted { is_done result.0.why ≡ false → result.0.changes ≡ 0 }
     ensures shelf_unread { reads_shelf (asked_task words.now ask.now) ≡ false → shelf.new ≡ shelf.old }
+    ensures paths { IsTrue S.tells → S.paths shelf.new ≡ S.paths shelf.old }
     ensures of_words { is_of_words result.0.why ≡ false }
     ensures goes_on { D.follows disk result.1 }
     ensures disk { HasCauseAt (result.0.why ≡ Why.DiskFault) (D.faults disk) (D.faults result.1) }

@@ -66,6 +66,7 @@ fn begin<D: Disk, S: Shelf, O: Sink + Drop, E: Sink + Drop>(
         (E.taken (inner err.new))) Anywhere }
     ensures disk_unread { of_files ask.now ≡ true → result.1 ≡ disk }
     ensures shelf_unread { of_files ask.now ≡ false → reads_shelf (asked_task words.now ask.now) ≡ false → shelf.new ≡ shelf.old }
+    ensures paths { IsTrue S.tells → S.paths shelf.new ≡ S.paths shelf.old }
     ensures done { is_of_words result.0.why ≡ false }
     ensures looks { by_key ask.now ≡ false → is_changing ask.now ≡ false → Leaves D.tells D.files D.left_since D.moment D.bytes_read D.follows disk result.1 }
     ensures keyed { by_key ask.now ≡ true → IsTrue D.tells
@@ -128,6 +129,7 @@ fn command<D: Disk, S: Shelf, O: Sink + Drop, E: Sink + Drop>(
     ensures disk_unread { (a : AskParts) (tree : Tree) → asks words.now ≡ Some (a, tree) → of_files a ≡ true → result.1 ≡ disk }
     ensures shelf_unread { (a : AskParts) (tree : Tree) → asks words.now ≡ Some (a, tree) → of_files a ≡ false
         → reads_shelf (asked_task words.now a) ≡ false → shelf.new ≡ shelf.old }
+    ensures paths { IsTrue S.tells → S.paths shelf.new ≡ S.paths shelf.old }
     ensures shelf { HasCauseAt (result.0.why ≡ Why.ShelfFault) (S.faults shelf.old) (S.faults shelf.new) }
     ensures went { (a : AskParts) (tree : Tree) → asks words.now ≡ Some (a, tree) → of_files a ≡ false → by_key a ≡ false
         → is_changing a ≡ false → IsTrue D.tells
@@ -246,6 +248,7 @@ pub fn run<D: Disk, S: Shelf, O: Sink, E: Sink>(
     ensures disk_unread { (a : AskParts) (tree : Tree) → asks words.now ≡ Some (a, tree) → of_files a ≡ true → result.1 ≡ disk }
     ensures shelf_unread { (a : AskParts) (tree : Tree) → asks words.now ≡ Some (a, tree) → of_files a ≡ false
         → reads_shelf (asked_task words.now a) ≡ false → shelf.new ≡ shelf.old }
+    ensures paths { IsTrue S.tells → S.paths shelf.new ≡ S.paths shelf.old }
     ensures files_after { (tree : Tree) (paths : Paths) (n : ℕ) (a : AskParts)
         → query_files tree paths words.now (passing n a) ≡ query_files tree paths words.now a }
 

@@ -17,6 +17,7 @@ mod package_files;
 mod picked;
 mod pieces;
 mod query;
+mod several;
 mod step;
 mod task;
 #[cfg(test)]
@@ -29,3 +30,4 @@ pub use command::run;
 pub use rpm_pkgdb::{Damage, Reason};
 pub use rpm_qfparse::{FormatFault, FormatKind};
 pub use rpm_words::{WordsFault, WordsKind};
+pub use several::run_each;

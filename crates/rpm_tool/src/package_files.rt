@@ -203,6 +203,7 @@ pub fn print_files<S: Shelf, O: Sink + Drop, E: Sink + Drop>(
         (E.taken (inner err.new))) Anywhere }
     ensures done { is_of_words result ≡ false }
     ensures no_disk { result ≢ Why.DiskFault }
+    ensures paths { IsTrue S.tells → S.paths shelf.new ≡ S.paths shelf.old }
     ensures shelf { HasCauseAt (result ≡ Why.ShelfFault) (S.faults shelf.old) (S.faults shelf.new) }
     ensures out { HasCauseAt (result ≡ Why.OutFault) (O.faults (inner out.old)) (O.faults (inner out.new)) }
     ensures err { HasCauseAt (result ≡ Why.ErrFault) (E.faults (inner err.old)) (E.faults (inner err.new)) }

@@ -9,14 +9,14 @@ pub returns-then-is_starved-clause-ends : goal.returns-then-is_starved-clause-en
 returns-then-is_starved-clause-ends g c = λ told.
     let below = overlay_below c.args.overlay in
     rw c.unchanged.ensures
-    (starved_ends g.D.Disk.files g.D.Disk.left_since g.D.Disk.moment (unlogged (laid_files (overlay_held c.args.overlay) (g.D.Disk.files below))) below
-    c.release.result c.release.ensures (c.requires.settled told) (c.requires.closed told) c.args.tally)
+    (starved_ends g.D.Disk.files g.D.Disk.left_since g.D.Disk.moment g.D.Disk.bytes_read (unlogged (laid_files (overlay_held c.args.overlay)
+    (g.D.Disk.files below))) below c.release.result (c.requires.settled told) (c.requires.closed told) c.release.ensures c.args.tally)
 
 pub returns-clause-ends : goal.returns-clause-ends
 returns-clause-ends g c = λ told.
     let below = overlay_below c.args.overlay in
     let done = c.commit-disk.ensures in
-    commit_ends g.D.Disk.files g.D.Disk.left_since g.D.Disk.moment (unlogged (laid_files (overlay_held c.args.overlay) (g.D.Disk.files below))) below
-    c.commit-disk.result.0 g.D.Disk.tells told c.args.tally c.commit-disk.result.1 c.committed.result.why c.committed.result.changes
+    commit_ends g.D.Disk.files g.D.Disk.left_since g.D.Disk.moment g.D.Disk.bytes_read (unlogged (laid_files (overlay_held c.args.overlay)
+    (g.D.Disk.files below))) below c.commit-disk.result.0 (c.requires.settled told) (c.requires.closed told) g.D.Disk.tells told c.args.tally c.commit-disk.result.1 c.committed.result.why c.committed.result.changes
     (needed (overlay_held c.args.overlay)) c.committed.ensures.says done.files done.closed done.settled done.says
-    (λ full. ((done.unwritten full).untouched told).same) (done.images told)
+    done.unwritten (done.images told)

@@ -14,5 +14,6 @@ returns-in-Err-clause-ends g c = λ told.
     let below = overlay_below c.args.overlay in
     let halts = subst (λ (e : Result Tally Why). IfErr e (λ w. is_halt w ≡ true)) c.in-Err.is c.requires.halted in
     rw (c.in-Err.is, c.unchanged.ensures, c.unless_starved-why.ensures)
-    (release_ends g.D.Disk.files g.D.Disk.left_since g.D.Disk.moment (unlogged (laid_files (overlay_held c.args.overlay) (g.D.Disk.files below))) below
-    c.release.result c.release.ensures (c.requires.settled told) (c.requires.closed told) c.is_starved.result c.in-Err.given halts)
+    (release_ends g.D.Disk.files g.D.Disk.left_since g.D.Disk.moment g.D.Disk.bytes_read (unlogged (laid_files (overlay_held c.args.overlay)
+    (g.D.Disk.files below))) below c.release.result (c.requires.settled told) (c.requires.closed told) c.release.ensures c.is_starved.result
+    c.in-Err.given halts)

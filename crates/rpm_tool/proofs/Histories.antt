@@ -1,0 +1,187 @@
+-- One command line more: what the database stands for behind it, given what it stood for before.
+use Rattle.std.proofs.Common.{◌≡◌, ◌⊎◌, ℕ, Bool, true, false, Ok, refl, sym, ap, ◌∙◌, subst, inl, inr, ⊎_elim}
+use Rattle.std.specs.Prelude.{IfOk}
+use Rattle.rpm_outside.specs.Crash.{LeavesOnly}
+use Rattle.rpm_outside.specs.Files.{Units, Files}
+use Rattle.rpm_outside.specs.Logs.{reopened}
+use Rattle.rpm_outside.specs.inner.Moments.{leaves_weaker}
+use Rattle.rpm_pkgdb.specs.Store.{Store, store}
+use Rattle.rpm_db.specs.Changes.{Says}
+use Rattle.rpm_db.specs.State.{State, state}
+use Rattle.rpm_change.specs.Steps.{Course}
+use Rattle.rpm_tool.specs.declared.answer.Why.{Why}
+use Rattle.rpm_tool.specs.declared.answer.Why.TheVariants as why
+use Rattle.rpm_tool.specs.Keyed.{IsLawfulGroup, AreLawfulGroups, StandsStill, is_done}
+use Rattle.rpm_tool.specs.Changing.{HasState, StandsStillOr, ChangesWith, after, is_done_or_fault}
+use Rattle.rpm_tool.specs.History.{Moves, StandsIn, AllStand}
+use Rattle.rpm_tool.proofs.Grouped.{if_ok_at}
+
+-- ---- endings
+
+pub by_bool : {X : Type 0} (b : Bool) → (b ≡ true → X) → (b ≡ false → X) → X
+by_bool true holds fails = holds refl
+by_bool false holds fails = fails refl
+
+moves_done : (w : Why) (s made : State) → is_done w ≡ true → Moves w made s made
+moves_done why.Done s made is = refl
+moves_done (why.Failed n) s made is = refl
+moves_done (why.Usage f) s made is = absurd cc
+moves_done (why.NotBuilt x) s made is = absurd cc
+moves_done (why.BadFormat f) s made is = absurd cc
+moves_done (why.BadLog u) s made is = absurd cc
+moves_done (why.Damaged d) s made is = absurd cc
+moves_done why.NumbersSpent s made is = absurd cc
+moves_done why.GenerationSpent s made is = absurd cc
+moves_done why.StoreFull s made is = absurd cc
+moves_done (why.BadIndex u) s made is = absurd cc
+moves_done (why.NotEmpty n) s made is = absurd cc
+moves_done (why.IndexFull u) s made is = absurd cc
+moves_done (why.LogFull u) s made is = absurd cc
+moves_done why.DiskFault s made is = absurd cc
+moves_done why.ShelfFault s made is = absurd cc
+moves_done why.OutFault s made is = absurd cc
+moves_done why.ErrFault s made is = absurd cc
+moves_done why.NoMemory s made is = absurd cc
+
+-- not done, it may have left all as it was
+moves_none : (w : Why) (s made : State) → is_done w ≡ false → Moves w made s s
+moves_none why.Done s made is = absurd cc
+moves_none (why.Failed n) s made is = absurd cc
+moves_none (why.Usage f) s made is = refl
+moves_none (why.NotBuilt x) s made is = refl
+moves_none (why.BadFormat f) s made is = refl
+moves_none (why.BadLog u) s made is = refl
+moves_none (why.Damaged d) s made is = refl
+moves_none why.NumbersSpent s made is = refl
+moves_none why.GenerationSpent s made is = refl
+moves_none why.StoreFull s made is = refl
+moves_none (why.BadIndex u) s made is = refl
+moves_none (why.NotEmpty n) s made is = refl
+moves_none (why.IndexFull u) s made is = refl
+moves_none (why.LogFull u) s made is = refl
+moves_none why.DiskFault s made is = inl refl
+moves_none why.ShelfFault s made is = refl
+moves_none why.OutFault s made is = refl
+moves_none why.ErrFault s made is = refl
+moves_none why.NoMemory s made is = refl
+
+moves_fault : (w : Why) (s made : State) → is_done_or_fault w ≡ true → Moves w made s made
+moves_fault why.Done s made is = refl
+moves_fault (why.Failed n) s made is = refl
+moves_fault (why.Usage f) s made is = absurd cc
+moves_fault (why.NotBuilt x) s made is = absurd cc
+moves_fault (why.BadFormat f) s made is = absurd cc
+moves_fault (why.BadLog u) s made is = absurd cc
+moves_fault (why.Damaged d) s made is = absurd cc
+moves_fault why.NumbersSpent s made is = absurd cc
+moves_fault why.GenerationSpent s made is = absurd cc
+moves_fault why.StoreFull s made is = absurd cc
+moves_fault (why.BadIndex u) s made is = absurd cc
+moves_fault (why.NotEmpty n) s made is = absurd cc
+moves_fault (why.IndexFull u) s made is = absurd cc
+moves_fault (why.LogFull u) s made is = absurd cc
+moves_fault why.DiskFault s made is = inr refl
+moves_fault why.ShelfFault s made is = absurd cc
+moves_fault why.OutFault s made is = absurd cc
+moves_fault why.ErrFault s made is = absurd cc
+moves_fault why.NoMemory s made is = absurd cc
+
+-- nothing to make
+pub moves_idle : (w : Why) (s : State) → Moves w s s s
+moves_idle w s = by_bool (is_done w) (moves_done w s s) (moves_none w s s)
+
+-- ---- what images stand for
+
+pub all_lawful : (P : State → Type 0) (images : Files → Type 0) → AllStand P images → AreLawfulGroups images
+all_lawful P images all image is = (all image is).lawful
+
+pub says_weaker : (P Q : State → Type 0) (pkg : Units) → ((s : State) → P s → Q s) → Says P pkg → Says Q pkg
+says_weaker P Q pkg weaker says = record { value = says.value; undamaged = says.undamaged; is = weaker (state pkg says.value) says.is }
+
+pub stands_weaker : (P Q : State → Type 0) (image : Files) → ((s : State) → P s → Q s) → StandsIn P image → StandsIn Q image
+stands_weaker P Q image weaker stands = record { lawful = stands.lawful; says = says_weaker P Q (reopened image).pkg weaker stands.says }
+
+-- an image that stands still stands for a state of before
+pub still_stands : (P : State → Type 0) (images : Files → Type 0) (image : Files) → AllStand P images → StandsStill images image → StandsIn P image
+still_stands P images image all still = record {
+  lawful = still.lawful;
+  says = subst (λ (pkg : Units). Says P pkg) (sym still.pkg) (all still.from still.was).says;
+}
+
+module _ {D : Type 0} (files : D → Files) (left_since : D → ℕ → Files → Type 0) (moment : D → ℕ) (given : Why) (old new : D) (P : State → Type 0)
+    (all : AllStand P (left_since old (moment old))) where
+  abbrev past : Files → Type 0
+  past = left_since old (moment old)
+
+  lawful : AreLawfulGroups past
+  lawful image is = (all image is).lawful
+
+  -- the states behind a call that makes this of each
+  abbrev Next : (State → State) → State → Type 0
+  Next made t = (m : State) × P m × Moves given (made m) m t
+
+  -- and those that a stop within it leaves
+  abbrev Cut : (State → State) → State → Type 0
+  Cut made t = (m : State) × P m × ((t ≡ m) ⊎ (t ≡ made m))
+
+  cut_still : (made : State → State) (image : Files) → StandsStill past image → StandsIn (Cut made) image
+  cut_still made image still = stands_weaker P (Cut made) image (λ t p. (t, p, inl refl)) (still_stands P past image all still)
+
+  -- ---- a command that leaves the packages as they are
+
+  module _ (stands : AreLawfulGroups past → LeavesOnly moment left_since old new (StandsStill past)) (made : State → State)
+      (nothing : (m : State) → made m ≡ m) where
+    pub still_next : (image : Files) → left_since new (moment old) image → StandsIn (Next made) image
+    still_next image since = stands_weaker P (Next made) image
+        (λ t p. (t, p, subst (λ (u : State). Moves given u t t) (sym (nothing t)) (moves_idle given t)))
+        (still_stands P past image all ((stands lawful).each image since))
+
+    pub still_cut : LeavesOnly moment left_since old new (StandsIn (Cut made))
+    still_cut = leaves_weaker moment left_since old new (StandsStill past) (StandsIn (Cut made)) (cut_still made) (stands lawful)
+
+  -- ---- a command that changes packages
+
+  module _ {anew : Bool} (course : State → Course) (n : ℕ) (here : past (files old)) (did : ChangesWith anew files left_since moment course given n old new)
+    where
+      first : Says P (reopened (files old)).pkg
+      first = (all (files old) here).says
+
+      abbrev s0 : State
+      s0 = state (reopened (files old)).pkg first.value
+
+      stops : LeavesOnly moment left_since old new (StandsStillOr past (after course s0))
+      stops = if_ok_at _ (store (reopened (files old)).pkg) first.value first.undamaged (did.stops lawful)
+
+      made_next : (image : Files) → HasState (after course s0) image → Moves given (after course s0) s0 (after course s0)
+          → Says (Next (after course)) (reopened image).pkg
+      made_next image has moves = record {
+        value = has.value;
+        undamaged = has.undamaged;
+        is = (s0, first.is, subst (λ (t : State). Moves given (after course s0) s0 t) (sym has.is) moves);
+      }
+
+      kept_next : (image : Files) → StandsStill past image → is_done given ≡ false → StandsIn (Next (after course)) image
+      kept_next image still undone = stands_weaker P (Next (after course)) image (λ t p. (t, p, moves_none given t (after course t) undone))
+          (still_stands P past image all still)
+
+      pub changed_next : (image : Files) → left_since new (moment old) image → left_since new (moment new) image → StandsIn (Next (after course)) image
+      changed_next image since left = by_bool (is_done given)
+          (λ done. record {
+            lawful = ⊎_elim (λ still. still.lawful) (λ both. both.0) (stops.each image since);
+            says = made_next image (if_ok_at _ (store (reopened (files old)).pkg) first.value first.undamaged (did.held done) image left)
+                (moves_done given s0 (after course s0) done);
+          })
+          (λ undone. by_bool (is_done_or_fault given)
+          (λ may. ⊎_elim (λ still. kept_next image still undone)
+          (λ both. record { lawful = both.0; says = made_next image both.1 (moves_fault given s0 (after course s0) may) })
+          (stops.each image since))
+          (λ refused. kept_next image ((did.unmade refused lawful).each image since) undone))
+
+      pub changed_cut : LeavesOnly moment left_since old new (StandsIn (Cut (after course)))
+      changed_cut = leaves_weaker moment left_since old new (StandsStillOr past (after course s0)) (StandsIn (Cut (after course)))
+          (λ image. ⊎_elim (cut_still (after course) image)
+          (λ both. record {
+            lawful = both.0;
+            says = record { value = both.1.value; undamaged = both.1.undamaged; is = (s0, first.is, inr both.1.is) };
+          }))
+          stops

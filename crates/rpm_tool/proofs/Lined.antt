@@ -1,0 +1,98 @@
+-- A command line more, by what `run` says of it.
+use Rattle.std.proofs.Common.{◌≡◌, ◌⊎◌, ℕ, Bool, true, false, List, [], ◌∷◌, ◌++◌, length, ◌<◌, get_or, refl, sym, ap, ◌∙◌, subst, inl, inr, arith}
+use Rattle.std.specs.Prelude.{Option, Some, None, IsTrue, if◌then◌else◌}
+use Rattle.rpm_outside.specs.declared.disk.File.{File}
+use Rattle.rpm_outside.specs.Crash.{LeavesOnly}
+use Rattle.rpm_outside.specs.Files.{Files}
+use Rattle.rpm_outside.specs.Shelves.{Paths}
+use Rattle.rpm_db.specs.State.{State}
+use Rattle.rpm_words.specs.Ask.{AskParts}
+use Rattle.rpm_qfparse.specs.Tree.{Tree}
+use Rattle.rpm_change.specs.Steps.{Course, idle, apply_all}
+use Rattle.rpm_tool.specs.declared.answer.Outcome.{Outcome}
+use Rattle.rpm_tool.specs.declared.answer.Why.{Why}
+use Rattle.rpm_tool.specs.Answers.{Leaves}
+use Rattle.rpm_tool.specs.Asked.{by_key, is_changing, asks}
+use Rattle.rpm_tool.specs.Changing.{ChangesWith, after}
+use Rattle.rpm_tool.specs.History.{Call, Moves, StandsIn, AllStand, course_of, made_by, calls_of}
+use Rattle.rpm_tool.specs.Keyed.{AreLawfulGroups, StandsStill}
+use Rattle.rpm_tool.specs.Tasks.{asked_task, asked_course, is_anew}
+use Rattle.rpm_tool.proofs.Histories.{by_bool, still_next, still_cut, changed_next, changed_cut}
+
+pub calls_more : (lines : List (List (List ℕ))) (outcomes : List Outcome) (outcome : Outcome) (d : List (List ℕ)) → length outcomes < length lines
+    → calls_of lines (outcomes ++ outcome ∷ []) ≡ calls_of lines outcomes ++ record { words = get_or lines (length outcomes) d; why = outcome.why } ∷ []
+calls_more [] [] outcome d less = absurd (omega (arith, less))
+calls_more [] (o ∷ os) outcome d less = absurd (omega (arith, less))
+calls_more (words ∷ lines) [] outcome d less = refl
+calls_more (words ∷ lines) (o ∷ os) outcome d less =
+    ap (λ (calls : List Call). record { words = words; why = o.why } ∷ calls) (calls_more lines os outcome d (omega (arith, less)))
+
+by_asked : {X : Type 0} (read : Option (AskParts × Tree)) → (read ≡ None → X) → ((a : AskParts) (tree : Tree) → read ≡ Some (a, tree) → X) → X
+by_asked None nothing command = nothing refl
+by_asked (Some asked) nothing command = command asked.0 asked.1 refl
+
+module _ {D : Type 0} (tells : Bool) (files : D → Files) (left_since : D → ℕ → Files → Type 0) (moment : D → ℕ) (bytes_read : D → File → ℕ)
+    (follows : D → D → Type 0) (told : IsTrue tells) (paths : Paths) (now : ℕ) (words : List (List ℕ)) (given : Why) (changes : ℕ) (old new : D)
+    (P : State → Type 0) (all : AllStand P (left_since old (moment old))) (here : left_since old (moment old) (files old))
+    (unread : asks words ≡ None → new ≡ old)
+    (looks : (a : AskParts) (tree : Tree) → asks words ≡ Some (a, tree) → by_key a ≡ false → is_changing a ≡ false
+    → Leaves tells files left_since moment bytes_read follows old new)
+    (stops : (a : AskParts) (tree : Tree) → asks words ≡ Some (a, tree) → by_key a ≡ true → AreLawfulGroups (left_since old (moment old))
+    → LeavesOnly moment left_since old new (StandsStill (left_since old (moment old))))
+    (changed : (a : AskParts) (tree : Tree) → asks words ≡ Some (a, tree) → is_changing a ≡ true
+    → ChangesWith (is_anew (asked_task words a)) files left_since moment (asked_course paths now words a) given changes old new) where
+  abbrev past : Files → Type 0
+  past = left_since old (moment old)
+
+  abbrev Next : (State → State) → State → Type 0
+  Next made t = (m : State) × P m × Moves given (made m) m t
+
+  abbrev Cut : (State → State) → State → Type 0
+  Cut made t = (m : State) × P m × ((t ≡ m) ⊎ (t ≡ made m))
+
+  -- by whether the command changes packages
+  abbrev made_if : AskParts → Bool → State → State
+  made_if a b m = apply_all (if b then asked_course paths now words a m else idle).changes m
+
+  abbrev Both : (State → State) → Type 0
+  Both made = ((image : Files) → left_since new (moment old) image → left_since new (moment new) image → StandsIn (Next made) image)
+      × LeavesOnly moment left_since old new (StandsIn (Cut made))
+
+  still_both : (AreLawfulGroups past → LeavesOnly moment left_since old new (StandsStill past)) → (made : State → State) → ((m : State) → made m ≡ m)
+      → Both made
+  still_both stands made nothing = (
+    λ image since left. still_next files left_since moment given old new P all stands made nothing image since,
+    still_cut files left_since moment given old new P all stands made nothing,
+  )
+
+  same_still : new ≡ old → AreLawfulGroups past → LeavesOnly moment left_since old new (StandsStill past)
+  same_still same lawful = subst (λ (d : D). LeavesOnly moment left_since old d (StandsStill past)) (sym same) (record {
+    later = omega arith;
+    each = λ image left. record { from = image; was = left; pkg = refl; lawful = lawful image left };
+    before = λ t image le left. inl left;
+  })
+
+  looked_still : Leaves tells files left_since moment bytes_read follows old new → AreLawfulGroups past
+      → LeavesOnly moment left_since old new (StandsStill past)
+  looked_still leaves lawful = record {
+    later = omega (arith, leaves.moment_stays);
+    each = λ image left. (let was = (leaves.untouched told).images (moment old) image left in
+        record { from = image; was = was; pkg = refl; lawful = lawful image was });
+    before = λ t image le left. inl ((leaves.untouched told).images t image left);
+  }
+
+  both_of : (a : AskParts) (tree : Tree) → asks words ≡ Some (a, tree) → Both (made_if a (is_changing a))
+  both_of a tree asked = by_bool (is_changing a)
+      (λ changes_any. subst (λ (b : Bool). Both (made_if a b)) (sym changes_any) (
+        changed_next files left_since moment given old new P all (asked_course paths now words a) changes here (changed a tree asked changes_any),
+        changed_cut files left_since moment given old new P all (asked_course paths now words a) changes here (changed a tree asked changes_any),
+      ))
+      (λ none. subst (λ (b : Bool). Both (made_if a b)) (sym none) (by_bool (by_key a)
+      (λ keyed. still_both (stops a tree asked keyed) (made_if a false) (λ m. refl))
+      (λ unkeyed. still_both (looked_still (looks a tree asked unkeyed none)) (made_if a false) (λ m. refl))))
+
+  pub line_both : Both (made_by paths now words)
+  line_both = by_asked (asks words)
+      (λ none. subst (λ (read : Option (AskParts × Tree)). Both (after (course_of paths now words read))) (sym none)
+      (still_both (same_still (unread none)) (after (course_of paths now words None)) (λ m. refl)))
+      (λ a tree asked. subst (λ (read : Option (AskParts × Tree)). Both (after (course_of paths now words read))) (sym asked) (both_of a tree asked))

@@ -1,0 +1,87 @@
+use Rattle.std.proofs.Common.{◌≡◌, ◌⊎◌, ℕ, List, [], ◌∷◌, ◌++◌, length, length-append, ◌+◌, get_or, refl, sym, ap, ◌∙◌, subst, arith}
+use Rattle.std.specs.Prelude.{IsTrue}
+use Rattle.rpm_outside.specs.Crash.{LeavesOnly}
+use Rattle.rpm_outside.specs.Files.{Files}
+use Rattle.rpm_outside.specs.Shelves.{Paths}
+use Rattle.rpm_outside.specs.inner.Moments.{started, leaves_then, leaves_weaker}
+use Rattle.rpm_db.specs.State.{State}
+use Rattle.rpm_tool.specs.Changing.{ChangesWith}
+use Rattle.rpm_tool.specs.Tasks.{asked_task, asked_course, is_anew}
+use Rattle.rpm_tool.specs.History.{Call, AllStand, StandsIn, Moves, Leads, Cuts, calls_of, made_by}
+use Rattle.rpm_tool.proofs.Histories.{stands_weaker}
+use Rattle.rpm_tool.proofs.Leading.{leads_more, cuts_still, cuts_more}
+use Rattle.rpm_tool.proofs.Lined.{calls_more, line_both}
+use Rattle.rpm_tool.proofs.several.run_each.Goals as goal
+
+pub loop-words-init : goal.loop-words-init
+loop-words-init g c =
+    let none = c.in-Ok.ensures.items in
+    let D = g.D.Disk in
+    record {
+      count = rw none refl;
+      as_many = c.in-Ok.ensures.len;
+      room = c.in-Ok.ensures.exact;
+      paths = λ told. refl;
+      leads = λ told shelf s start image left. rw none (start image left);
+      cuts = λ told shelf s start. rw none (started D.moment D.left_since c.args.disk (StandsIn (Cuts (g.S.Shelf.paths c.args.shelf.now) c.args.now [] s)) start);
+    }
+
+pub push_reserved-requires : goal.push_reserved-requires
+push_reserved-requires g c = omega (arith, c.loop-words.invariant.as_many, c.loop-words.invariant.room)
+
+pub loop-words-preserved : goal.loop-words-preserved
+loop-words-preserved g c =
+    let D = g.D.Disk in
+    let inv = c.loop-words.invariant in
+    let ran = c.run-left.ensures in
+    let lines = c.args.lines.now in
+    let paths = g.S.Shelf.paths c.args.shelf.now in
+    let now = c.args.now in
+    let mid = c.loop-words.disk in
+    let new = c.run-left.result.1 in
+    let words : List (List ℕ) = c.words-item.result in
+    let item : words ≡ get_or lines c.loop-words.words-index words = c.words-item.is in
+    let before : List Call = calls_of lines c.loop-words.outcomes.items in
+    let call : Call = record { words = words; why = c.run-left.result.0.why } in
+    let more : calls_of lines (c.loop-words.outcomes.items ++ c.run-left.result.0 ∷ []) ≡ before ++ call ∷ [] =
+    calls_more lines c.loop-words.outcomes.items c.run-left.result.0 words (omega (arith, inv.count))
+    ∙ ap (λ (w : List (List ℕ)). before ++ record { words = w; why = c.run-left.result.0.why } ∷ [])
+    (ap (λ (k : ℕ). get_or lines k words) inv.count ∙ sym item) in
+    let then_is : calls_of lines c.push_reserved.new.self.items ≡ before ++ call ∷ [] =
+    ap (calls_of lines) c.push_reserved.ensures.items ∙ more in
+    let both = λ (told : IsTrue D.tells) (shelf : IsTrue g.S.Shelf.tells) (s : State) (start : AllStand (λ t. t ≡ s) (D.left_since c.args.disk (D.moment c.args.disk))).
+    line_both D.tells D.files D.left_since D.moment D.bytes_read D.follows told paths now words c.run-left.result.0.why c.run-left.result.0.changes mid
+    new (Leads paths now before s) (inv.leads told shelf s start) (g.met.D.Disk.as_read mid told) (λ none. (ran.unread none).0) ran.looks
+    (λ a tree asked keyed. ran.stops a tree asked keyed told)
+    (λ a tree asked any. subst (λ (p : Paths). ChangesWith (is_anew (asked_task words a)) D.files D.left_since D.moment (asked_course p now words a)
+    c.run-left.result.0.why c.run-left.result.0.changes mid new) (inv.paths shelf) (ran.changed a tree asked any told (λ reads. shelf))) in
+    record {
+      count = ap length c.push_reserved.ensures.items ∙ length-append c.loop-words.outcomes.items (c.run-left.result.0 ∷ []) ∙ ap (λ (n : ℕ). n + 1) inv.count;
+      as_many = c.push_reserved.ensures.len ∙ ap (λ (n : ℕ). n + 1) inv.as_many;
+      room = c.push_reserved.ensures.capacity ∙ inv.room;
+      paths = λ shelf. ran.paths shelf ∙ inv.paths shelf;
+      leads = λ told shelf s start image left.
+          let made = both told shelf s start in
+          let since = g.met.D.Disk.earlier new (D.moment mid) (D.moment new) image told made.1.later (omega arith) left in
+          subst (λ (calls : List Call). StandsIn (Leads paths now calls s) image) (sym then_is)
+          (stands_weaker _ (Leads paths now (before ++ call ∷ []) s) image (λ t how. leads_more paths now before call s how.0 t how.1 how.2)
+          (made.0 image since left));
+      cuts = λ told shelf s start.
+          let made = both told shelf s start in
+          let Q : Files → Type 0 = StandsIn (Cuts paths now (before ++ call ∷ []) s) in
+          subst (λ (calls : List Call). LeavesOnly D.moment D.left_since c.args.disk new (StandsIn (Cuts paths now calls s))) (sym then_is)
+          (leaves_then D.moment D.left_since c.args.disk mid new Q
+          (leaves_weaker D.moment D.left_since c.args.disk mid (StandsIn (Cuts paths now before s)) Q
+          (λ image is. stands_weaker _ _ image (λ t how. cuts_still paths now before call s t how) is) (inv.cuts told shelf s start))
+          (leaves_weaker D.moment D.left_since mid new _ Q
+          (λ image is. stands_weaker _ _ image (λ t how. cuts_more paths now before call s how.0 t how.1 how.2) is) made.1));
+    }
+
+pub returns-clause-all : goal.returns-clause-all
+returns-clause-all g c = omega (arith, c.loop-words.invariant.count)
+
+pub returns-clause-leads : goal.returns-clause-leads
+returns-clause-leads g c = c.loop-words.invariant.leads
+
+pub returns-clause-cuts : goal.returns-clause-cuts
+returns-clause-cuts g c = c.loop-words.invariant.cuts

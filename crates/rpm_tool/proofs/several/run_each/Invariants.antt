@@ -1,0 +1,22 @@
+use Rattle.std.proofs.Common.{◌≡◌, ℕ, length}
+use Rattle.std.specs.Prelude.{IsTrue}
+use Rattle.std.specs.Vec.{vec_len, vec_capacity}
+use Rattle.rpm_outside.specs.Crash.{LeavesOnly}
+use Rattle.rpm_db.specs.State.{State}
+use Rattle.rpm_tool.specs.History.{AllStand, StandsIn, Leads, Cuts, calls_of}
+use Rattle.rpm_tool.proofs.several.run_each.Given as goal
+
+abbrev pub invariant-loop-words : goal.invariant-loop-words
+invariant-loop-words g l = record {
+  count : length l.outcomes.items ≡ l.words-index;
+  as_many : vec_len l.outcomes ≡ l.words-index;
+  room : vec_capacity l.outcomes ≡ length l.lines;
+  paths : IsTrue g.S.Shelf.tells → g.S.Shelf.paths l.shelf ≡ g.S.Shelf.paths l.initial.shelf;
+  leads : IsTrue g.D.Disk.tells → IsTrue g.S.Shelf.tells → (s : State)
+      → AllStand (λ t. t ≡ s) (g.D.Disk.left_since l.initial.disk (g.D.Disk.moment l.initial.disk))
+      → AllStand (Leads (g.S.Shelf.paths l.initial.shelf) l.now (calls_of l.lines l.outcomes.items) s) (g.D.Disk.left_since l.disk (g.D.Disk.moment l.disk));
+  cuts : IsTrue g.D.Disk.tells → IsTrue g.S.Shelf.tells → (s : State)
+      → AllStand (λ t. t ≡ s) (g.D.Disk.left_since l.initial.disk (g.D.Disk.moment l.initial.disk))
+      → LeavesOnly g.D.Disk.moment g.D.Disk.left_since l.initial.disk l.disk
+      (StandsIn (Cuts (g.S.Shelf.paths l.initial.shelf) l.now (calls_of l.lines l.outcomes.items) s));
+}

@@ -1,0 +1,68 @@
+-- Several command lines on one disk, one after the other: what the database stands for behind them, and behind a stop.
+use Rattle.std.specs.Prelude.{◌≡◌, ◌⊎◌, ℕ, List, [], ◌∷◌, Option, Some, None, if◌then◌else◌}
+use Rattle.rpm_outside.specs.Files.{Files}
+use Rattle.rpm_outside.specs.Logs.{reopened}
+use Rattle.rpm_outside.specs.Shelves.{Paths}
+use Rattle.rpm_db.specs.Changes.{Says}
+use Rattle.rpm_db.specs.State.{State}
+use Rattle.rpm_words.specs.Ask.{AskParts}
+use Rattle.rpm_qfparse.specs.Tree.{Tree}
+use Rattle.rpm_change.specs.Steps.{Course, idle}
+use Rattle.rpm_tool.specs.declared.answer.Outcome.{Outcome}
+use Rattle.rpm_tool.specs.declared.answer.Why.{Why}
+use Rattle.rpm_tool.specs.declared.answer.Why.TheVariants as why
+use Rattle.rpm_tool.specs.Asked.{is_changing, asks}
+use Rattle.rpm_tool.specs.Tasks.{asked_course}
+use Rattle.rpm_tool.specs.Keyed.{IsLawfulGroup}
+use Rattle.rpm_tool.specs.Changing.{after}
+
+-- ---- one command line
+
+-- what it changes: nothing, unless its command changes packages
+abbrev pub course_of : Paths → ℕ → List (List ℕ) → Option (AskParts × Tree) → State → Course
+course_of paths now words None s = idle
+course_of paths now words (Some asked) s = if is_changing asked.0 then asked_course paths now words asked.0 s else idle
+
+abbrev pub made_by : Paths → ℕ → List (List ℕ) → State → State
+made_by paths now words s = after (course_of paths now words (asks words)) s
+
+-- from this state: done, its changes are all made; behind a fault of the disk all are or none; else none
+abbrev pub Moves : Why → State → State → State → Type 0
+Moves why.Done made s t = t ≡ made
+Moves (why.Failed n) made s t = t ≡ made
+Moves why.DiskFault made s t = (t ≡ s) ⊎ (t ≡ made)
+Moves others made s t = t ≡ s
+
+-- ---- several
+
+-- a command line, and how it ended
+pub record Call : Type 0 where
+  pub words : List (List ℕ)
+  pub why : Why
+
+abbrev pub calls_of : List (List (List ℕ)) → List Outcome → List Call
+calls_of lines [] = []
+calls_of [] (outcome ∷ outcomes) = []
+calls_of (words ∷ lines) (outcome ∷ outcomes) = record { words = words; why = outcome.why } ∷ calls_of lines outcomes
+
+-- from state s to t: all changes of each line that was done, of none that was refused
+abbrev pub Leads : Paths → ℕ → List Call → State → State → Type 0
+Leads paths now [] s t = t ≡ s
+Leads paths now (call ∷ calls) s t = (mid : State) × Moves call.why (made_by paths now call.words s) s mid × Leads paths now calls mid t
+
+-- a stop within them or behind them: those before it, and of the line that it stops all changes or none
+abbrev pub Cuts : Paths → ℕ → List Call → State → State → Type 0
+Cuts paths now [] s t = t ≡ s
+Cuts paths now (call ∷ calls) s t = (t ≡ s) ⊎ ((t ≡ made_by paths now call.words s)
+    ⊎ ((mid : State) × Moves call.why (made_by paths now call.words s) s mid × Cuts paths now calls mid t))
+
+-- ---- images
+
+-- a lawful image that stands for such a state
+pub record StandsIn (P : State → Type 0) (image : Files) : Type 0 where
+  pub lawful : IsLawfulGroup image
+  pub says : Says P (reopened image).pkg
+
+-- each of these images does
+abbrev pub AllStand : (State → Type 0) → (Files → Type 0) → Type 0
+AllStand P images = (image : Files) → images image → StandsIn P image
