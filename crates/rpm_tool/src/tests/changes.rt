@@ -1,8 +1,8 @@
 //! Commands that change packages: what they leave, and what they say.
 
 use super::{NO_LIMITS, Ran, changed, run_line, run_on, small, store, three_small, words_of};
-use crate::{Outcome, Why};
-use rpm_outside::{File, MemDisk};
+use crate::{Outcome, Why, run, run_each};
+use rpm_outside::{File, MemDisk, MemShelf, MemSink};
 use std::alloc::{AllocError, Global};
 use std::test::Fail;
 
@@ -89,5 +89,36 @@ fn a_refused_command_changes_nothing(rt: HostRuntime) -> Result<(), Fail> {
     let disk = MemDisk::new(alloc, &file, &[], &[])?;
     let ran = run_on(alloc, &words, disk, [NO_LIMITS[0], 0])?;
     assert!(rt; has_changed(&ran, 253, Why::ErrFault, 0, "") && leaves(&ran, alloc, &file)?);
+    Ok(())
+}
+
+#[test]
+fn several_lines_are_done_in_a_row(rt: HostRuntime) -> Result<(), Fail> {
+    let alloc = rt.alloc();
+    let mut lines = Vec::new(alloc);
+    for line in ["rpm --erasepkg 2", "rpm --erasepkg 2 3", "rpm -q"] {
+        lines.push(words_of(alloc, line, "")?)?;
+    }
+    let disk = MemDisk::new(alloc, &three_small(alloc)?, &[], &[])?;
+    let mut shelf = MemShelf::new(alloc);
+    let mut out = MemSink::new(alloc);
+    let mut err = MemSink::new(alloc);
+    let (outcomes, disk) = run_each(alloc, &lines, disk, &mut shelf, &mut out, &mut err, 0);
+    let outcomes = outcomes?;
+    assert_eq!(rt; outcomes.len(), 3);
+    assert!(rt; outcomes[0].why == Why::Done && outcomes[0].changes == 1);
+    assert!(rt; outcomes[1].why == Why::Failed(1) && outcomes[1].changes == 1);
+    assert!(rt; outcomes[2].status == 251 && outcomes[2].changes == 0);
+    // What is left is the first package.
+    let left = run(
+        alloc,
+        &words_of(alloc, "rpm -qa --qf %{DBINSTANCE}", "")?,
+        disk,
+        &mut shelf,
+        &mut out,
+        &mut err,
+        0,
+    );
+    assert!(rt; left.0.why == Why::Done && out.bytes() == b"1".as_slice());
     Ok(())
 }
