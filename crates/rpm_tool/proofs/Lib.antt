@@ -7,6 +7,7 @@ mod Blank
 mod Closed
 mod Completed
 mod Defaults
+mod Emptied
 mod Ended
 mod Endings
 mod Ends

@@ -1,7 +1,7 @@
 -- Which command lines are built, and by which format they print.
 use Rattle.std.specs.Prelude.{ℕ, List, Option, Some, None, Result, Ok, Err, Bool, true, false, not, ◌&&◌, if◌then◌else◌, codes}
 use Rattle.rpm_words.specs.declared.ask.Mode.{Mode}
-use Rattle.rpm_words.specs.declared.ask.Mode.TheVariants.{Query, Addpkg, Replacepkg, Erasepkg, Initdb, Rebuilddb, Verifydb, Exportdb, Importdb}
+use Rattle.rpm_words.specs.declared.ask.Mode.TheVariants.{Query, Addpkg, Replacepkg, Erasepkg, Initdb, Rebuilddb, Verifydb, Exportdb, Importdb, Exercise}
 use Rattle.rpm_words.specs.declared.switch.Chosen.{Chosen}
 use Rattle.rpm_words.specs.declared.switch.Chosen.TheVariants.{All, Number, Package}
 use Rattle.rpm_words.specs.declared.words.Span.{Span}
@@ -37,6 +37,7 @@ is_built_in Erasepkg = true
 is_built_in Initdb = true
 is_built_in Rebuilddb = true
 is_built_in Importdb = true
+is_built_in (Exercise n) = true
 is_built_in others = false
 
 -- of those the ones that change packages, or make the database
@@ -47,6 +48,7 @@ is_changing_in Erasepkg = true
 is_changing_in Initdb = true
 is_changing_in Rebuilddb = true
 is_changing_in Importdb = true
+is_changing_in (Exercise n) = true
 is_changing_in others = false
 
 abbrev pub is_query : Mode → Bool

@@ -148,6 +148,16 @@ EmptyIs packages others = Unit {0}
 abbrev pub EmptyOn : Files → Why → Type 0
 EmptyOn files given = IfOk (store files.pkg) (λ value. EmptyIs (packages files.pkg value) given)
 
+-- packages were found where there were to be none
+abbrev pub is_held : Why → Bool
+is_held (why.NotEmpty held) = true
+is_held others = false
+
+-- of a command that asks for none; another is never refused so
+abbrev pub EmptyBy : Bool → Files → Why → Type 0
+EmptyBy true files given = EmptyOn files given
+EmptyBy false files given = is_held given ≡ false
+
 -- an ending that a lawful database may have: done, a limit, a fault of the outside, or want of memory
 abbrev pub is_of_lawful : Why → Bool
 is_of_lawful (why.Usage fault) = false

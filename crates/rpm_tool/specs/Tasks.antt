@@ -1,10 +1,10 @@
 -- What each command that changes packages does: the course that it takes from the state that it finds.
-use Rattle.std.specs.Prelude.{ℕ, ◌<◌, ◌^◌, List, [], ◌∷◌, length, map, codes, unwrap_or, Bool, true, false}
+use Rattle.std.specs.Prelude.{ℕ, ◌<◌, ◌≤◌, ◌^◌, List, [], ◌∷◌, length, map, codes, unwrap_or, Bool, true, false}
 use Rattle.std.specs.List.{filter_map}
 use Rattle.rpm_outside.specs.Shelves.{Paths, bytes_at}
 use Rattle.rpm_db.specs.State.{State}
 use Rattle.rpm_words.specs.declared.ask.Mode.{Mode}
-use Rattle.rpm_words.specs.declared.ask.Mode.TheVariants.{Addpkg, Replacepkg, Erasepkg, Importdb, Rebuilddb}
+use Rattle.rpm_words.specs.declared.ask.Mode.TheVariants.{Addpkg, Replacepkg, Erasepkg, Importdb, Rebuilddb, Exercise}
 use Rattle.rpm_words.specs.Ask.{AskParts}
 use Rattle.rpm_words.specs.Number.{number}
 use Rattle.rpm_words.specs.Words.{text_at}
@@ -13,11 +13,13 @@ use Rattle.rpm_change.specs.Adding.{add_files, replace}
 use Rattle.rpm_change.specs.Erasing.{erase}
 use Rattle.rpm_change.specs.Importing.{import_list, max_headers}
 use Rattle.rpm_change.specs.Rebuilding.{rebuild}
+use Rattle.rpm_exercise.specs.Exercised.{exercise}
 use Rattle.rpm_tool.specs.declared.task.Task.{Task}
 use Rattle.rpm_tool.specs.declared.task.Task.TheVariants as task
 
 -- what a command changes, with what it is asked: it makes a database where there is none, adds the package files under these paths, puts one
--- in place of a number's package, erases the packages of these numbers, imports a list, or rebuilds the database
+-- in place of a number's package, erases the packages of these numbers, imports a list, rebuilds the database, or makes the exercise of so
+-- many headers
 pub data TaskParts : Type 0 where
   Making : TaskParts
   Adding : List (List ℕ) → TaskParts
@@ -25,6 +27,7 @@ pub data TaskParts : Type 0 where
   Erasing : List ℕ → TaskParts
   Importing : TaskParts
   Rebuilding : TaskParts
+  Exercising : ℕ → TaskParts
 
 abbrev pub task_parts : Task → TaskParts
 task_parts task.Make = Making
@@ -33,6 +36,7 @@ task_parts (task.Replace number path) = Replacing number path.now
 task_parts (task.Erase numbers) = Erasing numbers.items
 task_parts task.Import = Importing
 task_parts task.Rebuild = Rebuilding
+task_parts (task.Exercise headers) = Exercising headers
 
 -- ---- what the words ask for
 
@@ -51,16 +55,18 @@ task_in Replacepkg words a = replacing words a.arguments
 task_in Erasepkg words a = Erasing (numbers_asked words a)
 task_in Importdb words a = Importing
 task_in Rebuilddb words a = Rebuilding
+task_in (Exercise n) words a = Exercising n
 task_in others words a = Making
 
 -- of a command that changes anything
 abbrev pub asked_task : List (List ℕ) → AskParts → TaskParts
 asked_task words a = task_in a.mode words a
 
--- no more arguments than words can have
+-- no more arguments than words can have, nor headers than an exercise
 abbrev pub IsCountable : TaskParts → Type 0
 IsCountable (Adding paths) = length paths < 2 ^ 32
 IsCountable (Erasing numbers) = length numbers < 2 ^ 32
+IsCountable (Exercising n) = n ≤ 100000
 IsCountable others = Unit {0}
 
 -- ---- what it does
@@ -73,6 +79,7 @@ task_course paths now (Replacing n path) s = replace paths now s n path
 task_course paths now (Erasing numbers) s = erase s numbers
 task_course paths now Importing s = import_list max_headers (bytes_at paths (codes "-"))
 task_course paths now Rebuilding s = rebuild s
+task_course paths now (Exercising n) s = exercise n s
 
 -- of a command, by its words
 abbrev pub asked_course : Paths → ℕ → List (List ℕ) → AskParts → State → Course
@@ -88,4 +95,10 @@ reads_shelf others = false
 -- it makes the index anew, whatever it is
 abbrev pub is_anew : TaskParts → Bool
 is_anew Rebuilding = true
+is_anew (Exercising n) = true
 is_anew others = false
+
+-- it asks for a database without packages
+abbrev pub needs_none : TaskParts → Bool
+needs_none (Exercising n) = true
+needs_none others = false

@@ -1,7 +1,7 @@
 //! The command that the words ask for, where it is built, and its format.
 
 ghost use Rattle.std.specs.Prelude.{◌≡◌, true, Some, Ok, IfOk, IfErr};
-ghost use Rattle.rpm_words.specs.Ask.{ask};
+ghost use Rattle.rpm_words.specs.Ask.{ask, IsSound};
 ghost use Rattle.rpm_tool.specs.Asked.{deed_of, of_files, by_key, needs_no_index, is_built_in, is_built, format_text, asks_format};
 ghost use Rattle.rpm_tool.specs.Answers.{Undone};
 
@@ -49,7 +49,7 @@ fn is_built_in(mode: Mode) -> bool
     match mode {
         Mode::Query | Mode::Verifydb | Mode::Exportdb => true,
         Mode::Addpkg | Mode::Replacepkg | Mode::Erasepkg => true,
-        Mode::Initdb | Mode::Rebuilddb | Mode::Importdb => true,
+        Mode::Initdb | Mode::Rebuilddb | Mode::Importdb | Mode::Exercise(_) => true,
         _ => false,
     }
 }
@@ -93,6 +93,7 @@ fn format_text<'a>(words: &'a Words, ask: &Ask) -> &'a [u8]
 /// Reads the words: their command, where it is built, or else how they end. Goes over them once.
 fn read_words(alloc: Global, words: &Words) -> Result<Ask, Why>
     ensures ok { IfOk result (λ a. (ask words.now ≡ Ok a) × (is_built a ≡ true)) }
+    ensures sound { IfOk result (λ a. IsSound words.now a) }
     ensures undone { IfErr result (λ why. Undone (ask words.now) (asks_format words.now) why) }
 {
     match read(alloc, words) {
@@ -107,6 +108,7 @@ fn read_words(alloc: Global, words: &Words) -> Result<Ask, Why>
 #[tactic(auto, unfolding(crate::specs::Asked::asks_format))]
 pub fn read_command(alloc: Global, words: &Words) -> Result<(Ask, Format), Why>
     ensures ok { IfOk result (λ c. (ask words.now ≡ Ok c.0) × (asks_format words.now ≡ Some (Ok c.1))) }
+    ensures sound { IfOk result (λ c. IsSound words.now c.0) }
     ensures undone { IfErr result (λ why. Undone (ask words.now) (asks_format words.now) why) }
 {
     let ask = read_words(alloc, words)?;

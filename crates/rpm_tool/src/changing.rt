@@ -4,7 +4,7 @@ ghost use Rattle.std.specs.Prelude.{◌≡◌, ◌≢◌, ◌⊎◌, ℕ, ◌^�
 ghost use Rattle.rpm_outside.specs.Buffered.{inner, holds, HandsOn};
 ghost use Rattle.rpm_outside.specs.Causes.{HasCauseAt, Rose};
 ghost use Rattle.rpm_outside.specs.Changes.{AreSettled, IsSettled};
-ghost use Rattle.rpm_outside.specs.Logs.{Closed, log_state, unlogged};
+ghost use Rattle.rpm_outside.specs.Logs.{Closed, log_state, reopened, unlogged};
 ghost use Rattle.rpm_pkgdb.specs.Store.{store};
 ghost use Rattle.rpm_db.specs.Changes.{IsServing};
 ghost use Rattle.rpm_db.specs.Database as database;
@@ -18,14 +18,15 @@ ghost use Rattle.rpm_group.specs.Overlay.{overlay_below, overlay_held, overlay_s
 ghost use Rattle.rpm_change.specs.Endings.{outputs};
 ghost use Rattle.rpm_change.specs.Erasing as erasing;
 ghost use Rattle.rpm_change.specs.Steps.{idle};
+ghost use Rattle.rpm_words.specs.Ask.{IsSound};
 ghost use Rattle.rpm_tool.specs.Answers.{why_of_load, unless_starved, is_of_words};
 ghost use Rattle.rpm_tool.specs.Keyed.{why_of_recover, is_done};
-ghost use Rattle.rpm_tool.specs.Changing.{DidOn, ChangesWith};
-ghost use Rattle.rpm_tool.specs.Tasks.{task_parts, task_course, asked_task, asked_course, reads_shelf, is_anew, IsCountable};
-ghost use Rattle.rpm_tool.specs.Working.{OpensBy, IsOutside, IsOfOpening, Worked, WorkedWith, CommittedAs, EndsGroup, is_halt, is_of_commit, is_of_streams, done_why, why_of_open, why_of_halt};
+ghost use Rattle.rpm_tool.specs.Changing.{DidOn, ChangesWith, EmptyBy, is_held};
+ghost use Rattle.rpm_tool.specs.Tasks.{task_parts, task_course, asked_task, asked_course, reads_shelf, is_anew, needs_none, IsCountable};
+ghost use Rattle.rpm_tool.specs.Working.{OpensBy, IsOutside, IsOfOpening, Worked, WorkedWith, CommittedAs, EndsGroup, is_halt, is_of_commit, is_of_streams, done_why, why_of, why_of_open, why_of_halt};
 
 use crate::answer::Why;
-use crate::courses::{add_on, import_on, rebuild_on, replace_on};
+use crate::courses::{add_on, exercise_on, import_on, rebuild_on, replace_on};
 use crate::keyed::why_of_recover;
 use crate::loaded::{unless_starved, why_of_load};
 use crate::task::{Task, task_of};
@@ -139,6 +140,7 @@ fn make_on<D: Disk>(alloc: Global, disk: &mut D) -> Result<Tally, Why>
         (outputs out_tells out err_tells err) (outputs out_tells out err_tells err) }
     ensures runs { Runs D.tells D.files D.left_since D.moment D.bytes_read D.follows SameLog disk.old disk.new }
     ensures halted { IfErr result (λ given. is_halt given ≡ true) }
+    ensures held { IfErr result (λ given. is_held given ≡ false) }
     ensures streams { IfErr result (λ given. is_of_streams given ≡ false) }
     ensures disk { HasCauseAt (result ≡ Err Why.DiskFault) (D.faults disk.old) (D.faults disk.new) }
 {
@@ -166,6 +168,7 @@ fn erase_on<D: Disk, E: Sink + Drop>(
         (outputs out_tells out E.tells (E.taken (inner err.old))) (outputs out_tells out E.tells (E.taken (inner err.new))) }
     ensures runs { Runs D.tells D.files D.left_since D.moment D.bytes_read D.follows SameLog disk.old disk.new }
     ensures halted { IfErr result (λ given. is_halt given ≡ true) }
+    ensures held { IfErr result (λ given. is_held given ≡ false) }
     ensures shelf { result ≢ Err Why.ShelfFault }
     ensures out { result ≢ Err Why.OutFault }
     ensures disk { HasCauseAt (result ≡ Err Why.DiskFault) (D.faults disk.old) (D.faults disk.new) }
@@ -201,6 +204,7 @@ fn change_on<D: Disk, S: Shelf, O: Sink + Drop, E: Sink + Drop>(
         (outputs O.tells (O.taken (inner out.new)) E.tells (E.taken (inner err.new))) }
     ensures runs { Runs D.tells D.files D.left_since D.moment D.bytes_read D.follows SameLog disk.old disk.new }
     ensures halted { IfErr result (λ given. is_halt given ≡ true) }
+    ensures empty { IsTrue D.tells → EmptyBy (needs_none (task_parts task.now)) (D.files disk.old) (why_of result) }
     ensures shelf_unread { reads_shelf (task_parts task.now) ≡ false → shelf.new ≡ shelf.old }
     ensures paths { IsTrue S.tells → S.paths shelf.new ≡ S.paths shelf.old }
     ensures disk { HasCauseAt (result ≡ Err Why.DiskFault) (D.faults disk.old) (D.faults disk.new) }
@@ -217,6 +221,7 @@ fn change_on<D: Disk, S: Shelf, O: Sink + Drop, E: Sink + Drop>(
         Task::Erase(numbers) => erase_on(alloc, disk, numbers.as_slice(), err),
         Task::Import => import_on(alloc, disk, shelf, err),
         Task::Rebuild => rebuild_on(alloc, disk, out),
+        Task::Exercise(headers) => exercise_on(alloc, disk, *headers, out),
     }
 }
 
@@ -306,6 +311,7 @@ fn change_recovered<D: Disk, S: Shelf, O: Sink + Drop, E: Sink + Drop>(
     ensures changed { IsTrue D.tells → (reads_shelf (task_parts task.now) ≡ true → IsTrue S.tells)
         → ChangesWith (is_anew (task_parts task.now)) D.files D.left_since D.moment (task_course (S.paths shelf.old) now (task_parts task.now))
         result.0.why result.0.changes disk result.1 }
+    ensures empty { IsTrue D.tells → EmptyBy (needs_none (task_parts task.now)) (reopened (D.files disk)) result.0.why }
     ensures counted { is_done result.0.why ≡ false → result.0.changes ≡ 0 }
     ensures shelf_unread { reads_shelf (task_parts task.now) ≡ false → shelf.new ≡ shelf.old }
     ensures paths { IsTrue S.tells → S.paths shelf.new ≡ S.paths shelf.old }
@@ -334,7 +340,7 @@ fn change_recovered<D: Disk, S: Shelf, O: Sink + Drop, E: Sink + Drop>(
 /// The changes are held in memory, over the disk, and committed behind the last one: a stop at any moment leaves all of them or none.
 /// The ending is `Done`, or `Failed` with how many arguments failed; only then are changes counted, and the index is current. Any other
 /// ending leaves what the files stand for as it was, `DiskFault` aside, behind which all changes or none are made: `BadLog` and `Damaged`,
-/// with the place; `NumbersSpent`, `GenerationSpent` and `StoreFull`; `IndexFull` exactly where the index must be made, or is changed, and
+/// with the place; `NotEmpty` exactly of an exercise where there are packages; `NumbersSpent`, `GenerationSpent` and `StoreFull`; `IndexFull` exactly where the index must be made, or is changed, and
 /// needs too many units; `LogFull` where the log does; `BadIndex` never where the database is lawful; `DiskFault`, `ShelfFault`, `OutFault`
 /// and `ErrFault` only where that object's count of faults rose; and `NoMemory`. That a command line is one change is this project's own rule.
 ///
@@ -360,6 +366,7 @@ fn change<D: Disk, S: Shelf, O: Sink + Drop, E: Sink + Drop>(
     ensures changed { IsTrue D.tells → (reads_shelf (task_parts task.now) ≡ true → IsTrue S.tells)
         → ChangesWith (is_anew (task_parts task.now)) D.files D.left_since D.moment (task_course (S.paths shelf.old) now (task_parts task.now))
         result.0.why result.0.changes disk result.1 }
+    ensures empty { IsTrue D.tells → EmptyBy (needs_none (task_parts task.now)) (reopened (D.files disk)) result.0.why }
     ensures counted { is_done result.0.why ≡ false → result.0.changes ≡ 0 }
     ensures shelf_unread { reads_shelf (task_parts task.now) ≡ false → shelf.new ≡ shelf.old }
     ensures paths { IsTrue S.tells → S.paths shelf.new ≡ S.paths shelf.old }
@@ -390,6 +397,7 @@ pub fn change_asked<D: Disk, S: Shelf, O: Sink + Drop, E: Sink + Drop>(
     err: &mut Buffered<E>,
     now: u32,
 ) -> (Ending, D)
+    requires sound { IsSound words.now ask.now }
     requires out_empty { holds out.old ≡ [] }
     requires err_empty { holds err.old ≡ [] }
     ensures did { IsTrue D.tells → (reads_shelf (asked_task words.now ask.now) ≡ true → IsTrue S.tells)
@@ -399,6 +407,7 @@ pub fn change_asked<D: Disk, S: Shelf, O: Sink + Drop, E: Sink + Drop>(
     ensures changed { IsTrue D.tells → (reads_shelf (asked_task words.now ask.now) ≡ true → IsTrue S.tells)
         → ChangesWith (is_anew (asked_task words.now ask.now)) D.files D.left_since D.moment (asked_course (S.paths shelf.old) now words.now ask.now)
         result.0.why result.0.changes disk result.1 }
+    ensures empty { IsTrue D.tells → EmptyBy (needs_none (asked_task words.now ask.now)) (reopened (D.files disk)) result.0.why }
     ensures counted { is_done result.0.why ≡ false → result.0.changes ≡ 0 }
     ensures shelf_unread { reads_shelf (asked_task words.now ask.now) ≡ false → shelf.new ≡ shelf.old }
     ensures paths { IsTrue S.tells → S.paths shelf.new ≡ S.paths shelf.old }

@@ -14,16 +14,16 @@ ghost use Rattle.rpm_words.specs.declared.switch.Chosen.{Chosen};
 ghost use Rattle.rpm_words.specs.declared.switch.Chosen.TheVariants as by;
 ghost use Rattle.rpm_words.specs.declared.ask.Mode.TheVariants as mode;
 ghost use Rattle.rpm_words.specs.Words.{text_at};
-ghost use Rattle.rpm_words.specs.Ask.{AskParts, ask};
+ghost use Rattle.rpm_words.specs.Ask.{AskParts, ask, IsSound};
 ghost use Rattle.rpm_qfparse.specs.Tree.{Tree};
 ghost use Rattle.rpm_tool.specs.Asked.{of_files, by_key, is_changing, asks_change, asks_unbuilt, asks_format, asks};
-ghost use Rattle.rpm_tool.specs.Changing.{DidOn, ChangesWith};
+ghost use Rattle.rpm_tool.specs.Changing.{DidOn, ChangesWith, EmptyBy};
 ghost use Rattle.rpm_tool.specs.Closing.{status_of, closing};
 ghost use Rattle.rpm_tool.specs.Steps.{numbers, Rises};
 ghost use Rattle.rpm_tool.specs.Queries.{is_question, picked, argument_part};
 ghost use Rattle.rpm_tool.specs.Keyed.{AreLawfulGroups, IsLawfulGroup, StandsStill, IsReady, KeyedIs, AnswersByKey, FullIs, BadIs, HasRoom};
 ghost use Rattle.rpm_tool.specs.Keyed.{is_done, is_done_or_outside, keyed_cost};
-ghost use Rattle.rpm_tool.specs.Tasks.{asked_task, asked_course, reads_shelf, is_anew};
+ghost use Rattle.rpm_tool.specs.Tasks.{asked_task, asked_course, reads_shelf, is_anew, needs_none};
 ghost use Rattle.rpm_tool.specs.PackageFiles.{passing, query_files};
 ghost use Rattle.rpm_change.specs.Endings.{outputs};
 ghost use Rattle.rpm_tool.specs.Answers.{is_of_words, ComesWhere, Queried, Anywhere, Went, Closes, Ends, AtMost, Leaves, query_cost};
@@ -53,6 +53,7 @@ fn begin<D: Disk, S: Shelf, O: Sink + Drop, E: Sink + Drop>(
     err: &mut Buffered<E>,
     now: u32,
 ) -> (Ending, D)
+    requires sound { IsSound words.now ask.now }
     requires out_empty { holds out.old ≡ [] }
     requires err_empty { holds err.old ≡ [] }
     ensures went { of_files ask.now ≡ false → by_key ask.now ≡ false → is_changing ask.now ≡ false → IsTrue D.tells
@@ -81,6 +82,8 @@ fn begin<D: Disk, S: Shelf, O: Sink + Drop, E: Sink + Drop>(
         → ChangesWith (is_anew (asked_task words.now ask.now)) D.files D.left_since D.moment (asked_course (S.paths shelf.old) now words.now ask.now)
         result.0.why result.0.changes disk result.1 }
     ensures changes { is_changing ask.now ≡ false → result.0.changes ≡ 0 }
+    ensures empty { is_changing ask.now ≡ true → IsTrue D.tells
+        → EmptyBy (needs_none (asked_task words.now ask.now)) (reopened (D.files disk)) result.0.why }
     ensures counted { is_done result.0.why ≡ false → result.0.changes ≡ 0 }
     ensures goes_on { D.follows disk result.1 }
     ensures disk { HasCauseAt (result.0.why ≡ Why.DiskFault) (D.faults disk) (D.faults result.1) }
@@ -156,6 +159,8 @@ fn command<D: Disk, S: Shelf, O: Sink + Drop, E: Sink + Drop>(
         → ChangesWith (is_anew (asked_task words.now a)) D.files D.left_since D.moment (asked_course (S.paths shelf.old) now words.now a)
         result.0.why result.0.changes disk result.1 }
     ensures changes { asks_change words.now ≡ false → result.0.changes ≡ 0 }
+    ensures empty { (a : AskParts) (tree : Tree) → asks words.now ≡ Some (a, tree) → is_changing a ≡ true → IsTrue D.tells
+        → EmptyBy (needs_none (asked_task words.now a)) (reopened (D.files disk)) result.0.why }
     ensures counted { is_done result.0.why ≡ false → result.0.changes ≡ 0 }
     ensures goes_on { D.follows disk result.1 }
     ensures disk { HasCauseAt (result.0.why ≡ Why.DiskFault) (D.faults disk) (D.faults result.1) }
@@ -174,7 +179,7 @@ fn command<D: Disk, S: Shelf, O: Sink + Drop, E: Sink + Drop>(
 ///
 /// The disk is handed back beside every outcome. Queries leave what its files stand for, the index aside, and so do `--exportdb` and
 /// `--verifydb`. The words are read first, by the rules of [`read`](rpm_words::read). Where they break one, the answer is `Usage` with the
-/// first that is broken. `--exercise` and the three reports aren't built: they are answered `NotBuilt`. Then the format is read, by the rules
+/// first that is broken. The three reports aren't built: they are answered `NotBuilt`. Then the format is read, by the rules
 /// of [`parse`](rpm_qfparse::parse): F, the list of files, or `%{NVRA}\n`. Where it has a fault, the answer is `BadFormat` with the first one.
 /// With these three answers no call is made on the disk, the shelf or `out`.
 ///
@@ -191,11 +196,13 @@ fn command<D: Disk, S: Shelf, O: Sink + Drop, E: Sink + Drop>(
 /// the files, and makes the index from the packages where it isn't current. On a database that can't be written it answers `DiskFault`
 /// where the index must be made: then `--noindex` answers.
 ///
-/// `--initdb`, `--addpkg`, `--replacepkg`, `--erasepkg`, `--importdb` and `--rebuilddb` change the database; where there is none, they make
-/// one. All changes of a command are one: they are held in memory, and committed behind the last argument; a command that is stopped
+/// `--initdb`, `--addpkg`, `--replacepkg`, `--erasepkg`, `--importdb`, `--rebuilddb` and `--exercise` change the database; where there is none,
+/// they make one. All changes of a command are one: they are held in memory, and committed behind the last argument; a command that is stopped
 /// before that changes nothing. An argument that fails has its line on `err`, and the others go on. `now` is the moment that
 /// `INSTALLTIME` and `INSTALLTID` of a package file get, in seconds since 1970. `--rebuilddb` makes the index anew, and drops the packages
-/// that can't be read, each with a line on `out`. The outcome counts the changes, where the command was done.
+/// that can't be read, each with a line on `out`. `--exercise` makes the index anew, adds, replaces and erases that many headers that it
+/// generates, and tells on `out` what they leave; where there are packages, it is answered `NotEmpty` with the least number. The outcome counts
+/// the changes, where the command was done.
 ///
 /// A query reads the slot pages of `Packages.db` and the blocks of packages: for each argument those of each package once,
 /// for one that is a number that package's alone, and by key those of the packages that have one of its keys. None is read before what is
@@ -300,6 +307,9 @@ pub fn run<D: Disk, S: Shelf, O: Sink, E: Sink>(
         → (reads_shelf (asked_task words.now a) ≡ true → IsTrue S.tells)
         → ChangesWith (is_anew (asked_task words.now a)) D.files D.left_since D.moment (asked_course (S.paths shelf.old) now words.now a)
         result.0.why result.0.changes disk result.1 }
+    // An exercise is refused with the least number exactly where it finds packages; no other command is.
+    ensures empty { (a : AskParts) (tree : Tree) → asks words.now ≡ Some (a, tree) → is_changing a ≡ true → IsTrue D.tells
+        → EmptyBy (needs_none (asked_task words.now a)) (reopened (D.files disk)) result.0.why }
     ensures goes_on { D.follows disk result.1 }
 
     // The packages that an argument's steps are for: those that it picks above `--after`, each once and rising.

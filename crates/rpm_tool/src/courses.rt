@@ -1,6 +1,6 @@
 //! What each command does on the disk over which its changes are held: it opens the database, and changes it.
 
-ghost use Rattle.std.specs.Prelude.{◌≡◌, ◌≢◌, ℕ, ◌^◌, ◌<◌, ◌≤◌, Bool, List, [], codes, length, map, true, IsTrue, Err, IfErr};
+ghost use Rattle.std.specs.Prelude.{◌≡◌, ◌≢◌, ℕ, ◌^◌, ◌<◌, ◌≤◌, Bool, List, [], codes, length, map, true, false, IsTrue, Err, IfErr};
 ghost use Rattle.rpm_outside.specs.Buffered.{inner, holds, HandsOn};
 ghost use Rattle.rpm_outside.specs.Causes.{HasCauseAt};
 ghost use Rattle.rpm_outside.specs.Shelves.{bytes_at};
@@ -11,7 +11,7 @@ ghost use Rattle.rpm_change.specs.Endings.{outputs};
 ghost use Rattle.rpm_change.specs.Importing as importing;
 ghost use Rattle.rpm_change.specs.Rebuilding as rebuilding;
 ghost use Rattle.rpm_exercise.specs.Exercised as exercised;
-ghost use Rattle.rpm_tool.specs.Changing.{EmptyOn, NumbersOn};
+ghost use Rattle.rpm_tool.specs.Changing.{EmptyOn, NumbersOn, is_held};
 ghost use Rattle.rpm_tool.specs.Working.{Worked, WorkedWith, is_halt, why_of, why_of_exercise};
 
 use crate::answer::Why;
@@ -39,6 +39,7 @@ pub(crate) fn add_on<D: Disk, S: Shelf, E: Sink + Drop>(
         → NumbersOn (λ s. adding.add_files (S.paths shelf.old) now s (map (λ path. path.now) paths.now)) (D.files disk.old) (why_of result) }
     ensures runs { Runs D.tells D.files D.left_since D.moment D.bytes_read D.follows SameLog disk.old disk.new }
     ensures halted { IfErr result (λ given. is_halt given ≡ true) }
+    ensures held { IfErr result (λ given. is_held given ≡ false) }
     ensures out { result ≢ Err Why.OutFault }
     ensures paths { IsTrue S.tells → S.paths shelf.new ≡ S.paths shelf.old }
     ensures disk { HasCauseAt (result ≡ Err Why.DiskFault) (D.faults disk.old) (D.faults disk.new) }
@@ -72,6 +73,7 @@ pub(crate) fn replace_on<D: Disk, S: Shelf, E: Sink + Drop>(
         (outputs out_tells out E.tells (E.taken (inner err.old))) (outputs out_tells out E.tells (E.taken (inner err.new))) }
     ensures runs { Runs D.tells D.files D.left_since D.moment D.bytes_read D.follows SameLog disk.old disk.new }
     ensures halted { IfErr result (λ given. is_halt given ≡ true) }
+    ensures held { IfErr result (λ given. is_held given ≡ false) }
     ensures numbers { result ≢ Err Why.NumbersSpent }
     ensures out { result ≢ Err Why.OutFault }
     ensures paths { IsTrue S.tells → S.paths shelf.new ≡ S.paths shelf.old }
@@ -103,6 +105,7 @@ pub(crate) fn import_on<D: Disk, S: Shelf, E: Sink + Drop>(
         (outputs out_tells out E.tells (E.taken (inner err.old))) (outputs out_tells out E.tells (E.taken (inner err.new))) }
     ensures runs { Runs D.tells D.files D.left_since D.moment D.bytes_read D.follows SameLog disk.old disk.new }
     ensures halted { IfErr result (λ given. is_halt given ≡ true) }
+    ensures held { IfErr result (λ given. is_held given ≡ false) }
     ensures out { result ≢ Err Why.OutFault }
     ensures paths { IsTrue S.tells → S.paths shelf.new ≡ S.paths shelf.old }
     ensures disk { HasCauseAt (result ≡ Err Why.DiskFault) (D.faults disk.old) (D.faults disk.new) }
@@ -132,6 +135,7 @@ pub(crate) fn rebuild_on<D: Disk, O: Sink + Drop>(
         (outputs O.tells (O.taken (inner out.old)) err_tells err) (outputs O.tells (O.taken (inner out.new)) err_tells err) }
     ensures runs { Runs D.tells D.files D.left_since D.moment D.bytes_read D.follows SameLog disk.old disk.new }
     ensures halted { IfErr result (λ given. is_halt given ≡ true) }
+    ensures held { IfErr result (λ given. is_held given ≡ false) }
     ensures numbers { result ≢ Err Why.NumbersSpent }
     ensures store { result ≢ Err Why.StoreFull }
     ensures shelf { result ≢ Err Why.ShelfFault }

@@ -3,6 +3,7 @@
 ghost use Rattle.std.specs.Prelude.{◌≡◌, ℕ, ◌+◌, ◌<◌, ◌≤◌, ◌^◌, [], ◌∷◌, ◌++◌, length, map, IfOk, OnOk};
 ghost use Rattle.std.specs.List.{filter_map};
 ghost use Rattle.rpm_words.specs.Number.{number};
+ghost use Rattle.rpm_words.specs.Ask.{IsSound};
 ghost use Rattle.rpm_words.specs.Words.{text_at};
 ghost use Rattle.rpm_tool.specs.Asked.{is_changing, is_changing_in};
 ghost use Rattle.rpm_tool.specs.Tasks.{TaskParts, task_parts, numbers_asked, replacing, asked_task, IsCountable};
@@ -25,6 +26,8 @@ pub enum Task<'a> {
     Import,
     /// It makes the index anew, and drops the packages that can't be read.
     Rebuild,
+    /// It makes the exercise of so many headers, where there are no packages.
+    Exercise(u32),
 }
 
 /// Whether a command of this mode changes packages, or makes the database.
@@ -33,7 +36,7 @@ fn is_changing_in(mode: Mode) -> bool
 {
     match mode {
         Mode::Addpkg | Mode::Replacepkg | Mode::Erasepkg => true,
-        Mode::Initdb | Mode::Rebuilddb | Mode::Importdb => true,
+        Mode::Initdb | Mode::Rebuilddb | Mode::Importdb | Mode::Exercise(_) => true,
         _ => false,
     }
 }
@@ -100,6 +103,7 @@ fn replacing_of<'a>(words: &'a Words, ask: &Ask) -> Task<'a>
 
 /// What a command changes that changes anything.
 pub fn task_of<'a>(alloc: Global, words: &'a Words, ask: &Ask) -> Result<Task<'a>, AllocError>
+    requires sound { IsSound words.now ask.now }
     ensures asked { IfOk result (λ task. task_parts task ≡ asked_task words.now ask.now) }
     ensures countable { IfOk result (λ task. IsCountable (task_parts task)) }
 {
@@ -115,6 +119,7 @@ pub fn task_of<'a>(alloc: Global, words: &'a Words, ask: &Ask) -> Result<Task<'a
         },
         Mode::Importdb => Ok(Task::Import),
         Mode::Rebuilddb => Ok(Task::Rebuild),
+        Mode::Exercise(headers) => Ok(Task::Exercise(headers)),
         _ => Ok(Task::Make),
     }
 }

@@ -1,5 +1,6 @@
 mod changes;
 mod damage;
+mod exercise;
 mod files;
 mod formats;
 mod keyed;

@@ -75,7 +75,7 @@ fn words_that_break_a_rule_are_told(rt: HostRuntime) -> Result<(), Fail> {
 
 #[test]
 fn other_commands_are_not_built(rt: HostRuntime) -> Result<(), Fail> {
-    for line in ["rpmdb --exercise 1", "rpm -Va --nofiles"] {
+    for line in ["rpmdb --order", "rpm -Va --nofiles"] {
         let why = Why::NotBuilt(Unbuilt::Words);
         let told = "rpm: not built yet\n";
         assert!(rt; is_refused(rt.alloc(), line, "", why, 252, told)?, "{line}");

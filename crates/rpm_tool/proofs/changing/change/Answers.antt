@@ -1,6 +1,11 @@
+use Rattle.std.proofs.Common.{subst}
 use Rattle.rpm_outside.specs.Buffered.{inner}
+use Rattle.rpm_outside.specs.Files.{Files}
+use Rattle.rpm_outside.specs.Logs.{reopened}
 use Rattle.rpm_change.specs.Endings.{outputs}
-use Rattle.rpm_tool.specs.Tasks.{task_parts, task_course}
+use Rattle.rpm_tool.specs.Changing.{EmptyBy}
+use Rattle.rpm_tool.specs.Tasks.{task_parts, task_course, needs_none}
+use Rattle.rpm_tool.proofs.Emptied.{recover_empty}
 use Rattle.rpm_tool.proofs.Regrouped.{recovered_changes}
 use Rattle.rpm_tool.proofs.Unmade.{through_none, recovered_did, unrecovered_did, unrecovered_changes}
 use Rattle.rpm_tool.proofs.changing.change.Goals as goal
@@ -35,3 +40,13 @@ returns-in-Err-clause-changed g c = λ told shelf.
     rw (c.unchanged.ensures, c.why_of_recover.ensures)
     (unrecovered_changes D.files D.left_since D.moment (task_course (g.S.Shelf.paths c.args.shelf.now) c.args.now (task_parts c.args.task.now)) c.args.disk c.recover.new.disk
     (g.met.D.Disk.as_read c.args.disk told) (first.stands told) (first.images told) c.in-Err.fault (first.says told))
+
+pub returns-in-Ok-clause-empty : goal.returns-in-Ok-clause-empty
+returns-in-Ok-clause-empty g c = λ told.
+    subst (λ (f : Files). EmptyBy (needs_none (task_parts c.args.task.now)) f c.change_recovered.result.0.why) (c.in-Ok.ensures.stands told)
+    (c.change_recovered.ensures.empty told)
+
+pub returns-in-Err-clause-empty : goal.returns-in-Err-clause-empty
+returns-in-Err-clause-empty g c = λ told.
+    rw (c.unchanged.ensures, c.why_of_recover.ensures)
+    (recover_empty (needs_none (task_parts c.args.task.now)) (reopened (g.D.Disk.files c.args.disk)) c.in-Err.fault)

@@ -1,8 +1,10 @@
 use Rattle.std.proofs.Common.{sym, ap, ◌∙◌, subst}
 use Rattle.rpm_outside.specs.Buffered.{inner}
+use Rattle.rpm_outside.specs.Logs.{reopened}
 use Rattle.rpm_change.specs.Endings.{outputs}
-use Rattle.rpm_tool.specs.Changing.{DidOn, ChangesWith}
-use Rattle.rpm_tool.specs.Tasks.{TaskParts, asked_course, task_course, reads_shelf, is_anew}
+use Rattle.rpm_tool.specs.Changing.{DidOn, ChangesWith, EmptyBy}
+use Rattle.rpm_tool.specs.Tasks.{TaskParts, asked_task, asked_course, task_course, reads_shelf, is_anew, needs_none}
+use Rattle.rpm_tool.proofs.Emptied.{memory_empty}
 use Rattle.rpm_tool.proofs.Unstarted.{unstarted_did, unstarted_changes}
 use Rattle.rpm_tool.proofs.changing.change_asked.Goals as goal
 
@@ -34,3 +36,12 @@ pub returns-in-Err-clause-changed : goal.returns-in-Err-clause-changed
 returns-in-Err-clause-changed g c = λ told shelf.
     rw c.unchanged.ensures (unstarted_changes g.D.Disk.files g.D.Disk.left_since g.D.Disk.moment
     (asked_course (g.S.Shelf.paths c.args.shelf.now) c.args.now c.args.words.now c.args.ask.now) c.args.disk)
+
+pub returns-in-Ok-clause-empty : goal.returns-in-Ok-clause-empty
+returns-in-Ok-clause-empty g c = λ told.
+    subst (λ (t : TaskParts). EmptyBy (needs_none t) (reopened (g.D.Disk.files c.args.disk)) c.change.result.0.why) c.in-Ok.ensures.asked
+    (c.change.ensures.empty told)
+
+pub returns-in-Err-clause-empty : goal.returns-in-Err-clause-empty
+returns-in-Err-clause-empty g c = λ told.
+    rw c.unchanged.ensures (memory_empty (needs_none (asked_task c.args.words.now c.args.ask.now)) (reopened (g.D.Disk.files c.args.disk)))

@@ -6,6 +6,7 @@ use Rattle.rpm_change.specs.Endings.{outputs}
 use Rattle.rpm_change.specs.Erasing.{erase}
 use Rattle.rpm_tool.specs.Tasks.{task_parts, reads_shelf}
 use Rattle.rpm_tool.specs.Working.{Worked}
+use Rattle.rpm_tool.proofs.Emptied.{unheld}
 use Rattle.rpm_tool.proofs.changing.change_on.Goals as goal
 
 pub returns-in-Make-clause-worked : goal.returns-in-Make-clause-worked
@@ -46,3 +47,28 @@ returns-in-Import-clause-worked g c = λ told shelf.
 pub returns-in-Rebuild-clause-worked : goal.returns-in-Rebuild-clause-worked
 returns-in-Rebuild-clause-worked g c = λ told shelf.
     rw c.in-Rebuild.is (c.rebuild_on.ensures.worked told g.E.Sink.tells (g.E.Sink.taken (inner c.args.err.now)))
+
+pub returns-in-Exercise-clause-worked : goal.returns-in-Exercise-clause-worked
+returns-in-Exercise-clause-worked g c = λ told shelf.
+    rw c.in-Exercise.is (c.exercise_on.ensures.worked told g.E.Sink.tells (g.E.Sink.taken (inner c.args.err.now)))
+
+pub returns-in-Exercise-clause-empty : goal.returns-in-Exercise-clause-empty
+returns-in-Exercise-clause-empty g c = λ told. rw c.in-Exercise.is (c.exercise_on.ensures.empty told)
+
+pub returns-in-Make-clause-empty : goal.returns-in-Make-clause-empty
+returns-in-Make-clause-empty g c = λ told. rw c.in-Make.is (unheld (g.D.Disk.files c.args.disk.now) c.make_on.result c.make_on.ensures.held)
+
+pub returns-in-Add-clause-empty : goal.returns-in-Add-clause-empty
+returns-in-Add-clause-empty g c = λ told. rw c.in-Add.is (unheld (g.D.Disk.files c.args.disk.now) c.add_on.result c.add_on.ensures.held)
+
+pub returns-in-Replace-clause-empty : goal.returns-in-Replace-clause-empty
+returns-in-Replace-clause-empty g c = λ told. rw c.in-Replace.is (unheld (g.D.Disk.files c.args.disk.now) c.replace_on.result c.replace_on.ensures.held)
+
+pub returns-in-Erase-clause-empty : goal.returns-in-Erase-clause-empty
+returns-in-Erase-clause-empty g c = λ told. rw c.in-Erase.is (unheld (g.D.Disk.files c.args.disk.now) c.erase_on.result c.erase_on.ensures.held)
+
+pub returns-in-Import-clause-empty : goal.returns-in-Import-clause-empty
+returns-in-Import-clause-empty g c = λ told. rw c.in-Import.is (unheld (g.D.Disk.files c.args.disk.now) c.import_on.result c.import_on.ensures.held)
+
+pub returns-in-Rebuild-clause-empty : goal.returns-in-Rebuild-clause-empty
+returns-in-Rebuild-clause-empty g c = λ told. rw c.in-Rebuild.is (unheld (g.D.Disk.files c.args.disk.now) c.rebuild_on.result c.rebuild_on.ensures.held)

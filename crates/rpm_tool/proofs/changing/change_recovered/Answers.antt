@@ -1,13 +1,15 @@
-use Rattle.std.proofs.Common.{subst, arith}
+use Rattle.std.proofs.Common.{ap, subst, arith}
 use Rattle.rpm_outside.specs.Buffered.{inner}
 use Rattle.rpm_outside.specs.Files.{Files}
+use Rattle.rpm_outside.specs.Logs.{reopened}
 use Rattle.rpm_group.specs.Layers.{laid_files}
 use Rattle.rpm_group.specs.Overlay.{overlay_below, overlay_held, overlay_read}
 use Rattle.rpm_db.specs.State.{State}
 use Rattle.rpm_change.specs.Steps.{Course}
 use Rattle.rpm_change.specs.Endings.{outputs}
-use Rattle.rpm_tool.specs.Tasks.{task_parts, task_course, is_anew}
-use Rattle.rpm_tool.specs.Working.{WorkedWith}
+use Rattle.rpm_tool.specs.Tasks.{task_parts, task_course, is_anew, needs_none}
+use Rattle.rpm_tool.specs.Working.{WorkedWith, why_of}
+use Rattle.rpm_tool.proofs.Emptied.{load_empty, group_empty, same_empty}
 use Rattle.rpm_tool.proofs.Grouped.{group_did, group_changes}
 use Rattle.rpm_tool.proofs.Ends.{below_same, below_back, below_moment, below_settled, below_closed}
 use Rattle.rpm_tool.proofs.Unloaded.{unloaded_did, unloaded_changes}
@@ -87,3 +89,16 @@ returns-in-Err-clause-changed g c = λ told shelf.
     c.in-Err.ensures.looks told (c.requires.closed told) (c.requires.settled told) c.in-Err.refused.why (c.in-Err.ensures.says told)
     (outputs g.O.Sink.tells (g.O.Sink.taken (inner c.args.out.now)) g.E.Sink.tells (g.E.Sink.taken (inner c.args.err.now))) (g.met.D.Disk.as_read c.args.disk told)
     (g.met.D.Disk.as_read c.in-Err.refused.disk told))
+
+pub returns-in-Ok-clause-empty : goal.returns-in-Ok-clause-empty
+returns-in-Ok-clause-empty g c = λ told.
+    let needs = needs_none (task_parts c.args.task.now) in
+    let ended = c.change_on-ended.result in
+    group_empty needs (reopened (g.D.Disk.files c.args.disk)) ended c.end_group.result.0.why c.end_group.result.0.changes (c.end_group.ensures.ends told).says
+    (same_empty needs _ (reopened (g.D.Disk.files c.args.disk)) (why_of ended) (ap (λ (f : Files). f.pkg) (c.in-Ok.ensures.files told))
+    (c.change_on-ended.ensures.empty told))
+
+pub returns-in-Err-clause-empty : goal.returns-in-Err-clause-empty
+returns-in-Err-clause-empty g c = λ told.
+    rw (c.unchanged.ensures, c.why_of_load.ensures)
+    (load_empty (needs_none (task_parts c.args.task.now)) (reopened (g.D.Disk.files c.args.disk)) c.in-Err.refused.why)

@@ -1,15 +1,17 @@
 use Rattle.std.proofs.Common.{sym, ap, refl, ◌∙◌, []}
 use Rattle.rpm_outside.specs.Buffered.{inner}
+use Rattle.rpm_outside.specs.Logs.{reopened}
 use Rattle.rpm_outside.specs.declared.disk.File.TheVariants.{Pkg}
 use Rattle.rpm_words.specs.Ask.{AskParts, ask}
 use Rattle.rpm_tool.specs.Asked.{of_files, by_key, is_changing, changes_in, asks_change, asks_format, asks, asks_unbuilt}
 use Rattle.rpm_change.specs.Endings.{outputs}
 use Rattle.rpm_tool.specs.PackageFiles.{query_files}
-use Rattle.rpm_tool.specs.Tasks.{asked_task, asked_course, reads_shelf}
+use Rattle.rpm_tool.specs.Tasks.{asked_task, asked_course, reads_shelf, needs_none}
 use Rattle.rpm_tool.proofs.Reaching.{through_none}
 use Rattle.rpm_tool.proofs.Recovered.{unbegun}
 use Rattle.rpm_tool.proofs.Undone.{usage_of_undone, usage_of_done, unbuilt_of_undone, unbuilt_of_done, format_of_undone, format_of_done, starved, none_asked, same_command}
 use Rattle.rpm_tool.proofs.Begun.{not_begun}
+use Rattle.rpm_tool.proofs.Emptied.{memory_empty}
 use Rattle.rpm_tool.proofs.Unstarted.{unstarted_did, unstarted_changes}
 use Rattle.rpm_tool.proofs.command.command.Goals as goal
 
@@ -153,3 +155,16 @@ returns-in-Err-clause-changed g c = λ a tree asked is told shelf.
     let none = starved c.args.words.now (ask c.args.words.now) c.in-Err.why c.in-Err.ensures.undone a tree asked in
     rw none (unstarted_changes g.D.Disk.files g.D.Disk.left_since g.D.Disk.moment
     (asked_course (g.S.Shelf.paths c.args.shelf.now) c.args.now c.args.words.now a) c.args.disk)
+
+pub returns-in-Ok-clause-empty : goal.returns-in-Ok-clause-empty
+unfolding asks
+returns-in-Ok-clause-empty g c = λ a tree asked is told.
+    let same = same_command (ask c.args.words.now) (asks_format c.args.words.now) c.in-Ok.ask a c.in-Ok.format tree c.in-Ok.ensures.ok.0
+    c.in-Ok.ensures.ok.1 asked in
+    rw (← same.0) (c.begin.ensures.empty (ap is_changing same.0 ∙ is) told)
+
+pub returns-in-Err-clause-empty : goal.returns-in-Err-clause-empty
+unfolding asks_format asks
+returns-in-Err-clause-empty g c = λ a tree asked is told.
+    let none = starved c.args.words.now (ask c.args.words.now) c.in-Err.why c.in-Err.ensures.undone a tree asked in
+    rw none (memory_empty (needs_none (asked_task c.args.words.now a)) (reopened (g.D.Disk.files c.args.disk)))

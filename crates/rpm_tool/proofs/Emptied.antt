@@ -1,0 +1,95 @@
+-- Whether a command found packages where it asks for none, up to its ending.
+use Rattle.std.proofs.Common.{◌≡◌, ℕ, Bool, true, false, Result, Ok, Err, refl, sym, ap, subst, inl, inr}
+use Rattle.std.specs.Prelude.{IfOk, IfErr}
+use Rattle.std.specs.Ordering.{nat_cmp}
+use Rattle.std.specs.FinMap.{FinMap}
+use Rattle.rpm_outside.specs.Files.{Units, Files}
+use Rattle.rpm_group.specs.declared.load.LoadFault.{LoadFault}
+use Rattle.rpm_group.specs.declared.load.LoadFault.TheVariants as load
+use Rattle.rpm_group.specs.declared.recovery.RecoverFault.{RecoverFault}
+use Rattle.rpm_group.specs.declared.recovery.RecoverFault.TheVariants as recover
+use Rattle.rpm_pkgdb.specs.Store.{Store, store}
+use Rattle.rpm_db.specs.State.{Package, packages}
+use Rattle.rpm_change.specs.declared.tally.Tally.{Tally}
+use Rattle.rpm_tool.specs.declared.answer.Why.{Why}
+use Rattle.rpm_tool.specs.declared.answer.Why.TheVariants as why
+use Rattle.rpm_tool.specs.Answers.{why_of_load}
+use Rattle.rpm_tool.specs.Keyed.{why_of_recover}
+use Rattle.rpm_tool.specs.Changing.{EmptyIs, EmptyBy, is_held}
+use Rattle.rpm_tool.specs.Working.{EndsAs, IsUncommitted, done_why, why_of}
+use Rattle.rpm_tool.proofs.Grouped.{if_ok, if_ok_at}
+use Rattle.rpm_tool.proofs.Outcomes.{done_is}
+
+-- a command that was done isn't refused so
+done_unheld : (k : ℕ) → is_held (done_why k) ≡ false
+done_unheld k = elim (done_is k) [
+  | inl zero ↦ ap is_held zero.1
+  | inr some ↦ ap is_held some.1
+]
+
+pub unheld : (files : Files) (r : Result Tally Why) → IfErr r (λ w. is_held w ≡ false) → EmptyBy false files (why_of r)
+unheld files (Ok tally) is = done_unheld tally.failed
+unheld files (Err w) is = is
+
+-- files with the same packages
+pub same_empty : (asks : Bool) (f g : Files) (w : Why) → f.pkg ≡ g.pkg → EmptyBy asks f w → EmptyBy asks g w
+same_empty true f g w same empty = subst (λ (u : Units). IfOk (store u) (λ value. EmptyIs (packages u value) w)) same empty
+same_empty false f g w same empty = empty
+
+-- ---- a command that didn't begin
+
+outside_empty : (files : Files) (w : Why) → ((value : Store) → EmptyIs (packages files.pkg value) w) → is_held w ≡ false → (asks : Bool)
+    → EmptyBy asks files w
+outside_empty files w each other true = if_ok (store files.pkg) (λ value is. each value)
+outside_empty files w each other false = other
+
+pub memory_empty : (asks : Bool) (files : Files) → EmptyBy asks files why.NoMemory
+memory_empty asks files = outside_empty files why.NoMemory (λ value. tt) refl asks
+
+pub load_empty : (asks : Bool) (files : Files) (fault : LoadFault) → EmptyBy asks files (why_of_load fault)
+load_empty asks files (load.BadLog unit) = outside_empty files (why.BadLog unit) (λ value. tt) refl asks
+load_empty asks files load.DiskFault = outside_empty files why.DiskFault (λ value. tt) refl asks
+load_empty asks files load.NoMemory = memory_empty asks files
+
+pub recover_empty : (asks : Bool) (files : Files) (fault : RecoverFault) → EmptyBy asks files (why_of_recover fault)
+recover_empty asks files (recover.BadLog unit) = outside_empty files (why.BadLog unit) (λ value. tt) refl asks
+recover_empty asks files recover.DiskFault = outside_empty files why.DiskFault (λ value. tt) refl asks
+
+-- ---- how the group ends
+
+-- a log that is full is told of one that was done
+full_empty : (map : FinMap nat_cmp Package) (k : ℕ) (units : ℕ) → EmptyIs map (done_why k) → EmptyIs map (why.LogFull units)
+full_empty map k units done = elim (done_is k) [
+  | inl zero ↦ subst (λ (w : Why). EmptyIs map w) zero.1 done
+  | inr some ↦ subst (λ (w : Why). EmptyIs map w) some.1 done
+]
+
+uncommitted_empty : (asks : Bool) (files : Files) (k : ℕ) (w : Why) → IsUncommitted w → EmptyBy asks files (done_why k) → EmptyBy asks files w
+uncommitted_empty asks files k why.Done un done = absurd un
+uncommitted_empty asks files k (why.Failed n) un done = absurd un
+uncommitted_empty asks files k (why.Usage f) un done = absurd un
+uncommitted_empty asks files k (why.NotBuilt x) un done = absurd un
+uncommitted_empty asks files k (why.BadFormat f) un done = absurd un
+uncommitted_empty asks files k (why.BadLog u) un done = absurd un
+uncommitted_empty asks files k (why.Damaged d) un done = absurd un
+uncommitted_empty asks files k why.NumbersSpent un done = absurd un
+uncommitted_empty asks files k why.GenerationSpent un done = absurd un
+uncommitted_empty asks files k why.StoreFull un done = absurd un
+uncommitted_empty asks files k (why.NotEmpty held) un done = absurd un
+uncommitted_empty asks files k (why.BadIndex u) un done = absurd un
+uncommitted_empty asks files k (why.IndexFull u) un done = absurd un
+uncommitted_empty true files k (why.LogFull u) un done =
+    if_ok (store files.pkg) (λ value is. full_empty (packages files.pkg value) k u (if_ok_at _ (store files.pkg) value is done))
+uncommitted_empty false files k (why.LogFull u) un done = refl
+uncommitted_empty asks files k why.DiskFault un done = outside_empty files why.DiskFault (λ value. tt) refl asks
+uncommitted_empty asks files k why.ShelfFault un done = absurd un
+uncommitted_empty asks files k why.OutFault un done = absurd un
+uncommitted_empty asks files k why.ErrFault un done = absurd un
+uncommitted_empty asks files k why.NoMemory un done = memory_empty asks files
+
+pub group_empty : (asks : Bool) (files : Files) (ended : Result Tally Why) (given : Why) (n : ℕ) → EndsAs ended given n → EmptyBy asks files (why_of ended)
+    → EmptyBy asks files given
+group_empty asks files (Ok tally) given n (inl both) empty = subst (λ (w : Why). EmptyBy asks files w) (sym both.0) empty
+group_empty asks files (Ok tally) given n (inr both) empty = uncommitted_empty asks files tally.failed given both.1 empty
+group_empty asks files (Err was) given n (none, inl same) empty = subst (λ (w : Why). EmptyBy asks files w) (sym same) empty
+group_empty asks files (Err was) given n (none, inr both) empty = subst (λ (w : Why). EmptyBy asks files w) (sym both.1) (memory_empty asks files)
