@@ -1,9 +1,10 @@
 #!/usr/bin/env python3
-"""Writes a Packages.db with N packages, to measure with: bench/make_database.py N FOLDER [LIST]
+"""Writes a Packages.db with N packages, to measure with: bench/make_database.py [--states] N FOLDER [LIST]
 
 The file is laid out by docs/FORMATS.md and owes nothing to the program. Each package has a header of some 40 entries with 20 files,
 about 3 kB, which is the size of a small package of a distribution. Where a LIST is named, the same headers are written there, each
-behind its magic, as rpmdb --importdb reads them.
+behind its magic, as rpmdb --importdb reads them. With --states each header also tells that its files are there, which rpm wants of the
+packages beside one that it erases.
 """
 import struct
 import sys
@@ -53,9 +54,10 @@ def store(packages, next_number, pages=None, generation=1):
     return head + slots + blobs
 
 
-def package(i):
+def package(i, states=False):
     files = [f"file{k}.so" for k in range(20)]
-    return header([
+    there = [(1029, CHAR, [""] * 20)] if states else []
+    return header(sorted(there + [
         (1000, TEXT, [f"package{i}"]), (1001, TEXT, [f"1.{i % 10}"]), (1002, TEXT, ["1.fc40"]), (1004, I18N, ["A package"]),
         (1005, I18N, ["A package that is there to be measured, with a few lines of text.\n" * 4]), (1006, INT32, [1700000000 + i]),
         (1007, TEXT, ["builder.example.org"]), (1009, INT32, [123456]), (1010, TEXT, ["A distribution"]), (1011, TEXT, ["A vendor"]),
@@ -68,14 +70,16 @@ def package(i):
         (1095, INT32, [1] * 20), (1096, INT32, list(range(20))), (1097, TEXTS, [""] * 20), (1112, INT32, [8, 0]),
         (1113, TEXTS, [f"1.{i % 10}-1.fc40", ""]), (1116, INT32, [0] * 20), (1117, TEXTS, files), (1118, TEXTS, ["/usr/lib64/"]),
         (1124, TEXT, ["cpio"]), (1125, TEXT, ["zstd"]), (1126, TEXT, ["19"]),
-    ])
+    ]))
 
 
 if __name__ == "__main__":
-    count, folder = int(sys.argv[1]), sys.argv[2]
-    packages = [(i, package(i)) for i in range(1, count + 1)]
+    with_states = sys.argv[1] == "--states"
+    words = sys.argv[2:] if with_states else sys.argv[1:]
+    count, folder = int(words[0]), words[1]
+    packages = [(i, package(i, with_states)) for i in range(1, count + 1)]
     with open(f"{folder}/Packages.db", "wb") as file:
         file.write(store(packages, count + 1))
-    for name in sys.argv[3:]:
+    for name in words[2:]:
         with open(name, "wb") as file:
             file.writelines(MAGIC + blob for _, blob in packages)
