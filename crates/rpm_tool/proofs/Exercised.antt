@@ -132,11 +132,11 @@ empty_halt packages halt.NumbersSpent none = none
 empty_halt packages halt.GenerationSpent none = none
 empty_halt packages halt.StoreFull none = none
 empty_halt packages (halt.IndexFull u) none = tt
-empty_halt packages (halt.BadIndex u) none = tt
+empty_halt packages (halt.BadIndex u) none = none
 empty_halt packages halt.DiskFault none = tt
-empty_halt packages halt.ShelfFault none = tt
-empty_halt packages halt.OutFault none = tt
-empty_halt packages halt.ErrFault none = tt
+empty_halt packages halt.ShelfFault none = none
+empty_halt packages halt.OutFault none = none
+empty_halt packages halt.ErrFault none = none
 empty_halt packages halt.NoMemory none = tt
 
 module _ (old mid : Files) (db : Database) (opens : OpensBy old (store old.pkg) mid (Ok db)) where

@@ -133,16 +133,15 @@ NumbersIs s changes others = Unit {0}
 abbrev pub NumbersOn : (State → Course) → Files → Why → Type 0
 NumbersOn course files given = IfOk (store files.pkg) (λ value. NumbersIs (state files.pkg value) (course (state files.pkg value)).changes given)
 
--- a command that asks for no packages finds none, or is refused with the least number
+-- a command that asks for no packages finds none, or is refused with the least number; what stops it before it looks comes either way
 abbrev pub EmptyIs : FinMap nat_cmp Package → Why → Type 0
 EmptyIs packages (why.NotEmpty held) = IsNext (λ n. is_some (finite.get packages n)) 0 (Some held)
-EmptyIs packages why.Done = IsNext (λ n. is_some (finite.get packages n)) 0 None
-EmptyIs packages (why.Failed n) = IsNext (λ n. is_some (finite.get packages n)) 0 None
-EmptyIs packages (why.LogFull units) = IsNext (λ n. is_some (finite.get packages n)) 0 None
-EmptyIs packages why.NumbersSpent = IsNext (λ n. is_some (finite.get packages n)) 0 None
-EmptyIs packages why.GenerationSpent = IsNext (λ n. is_some (finite.get packages n)) 0 None
-EmptyIs packages why.StoreFull = IsNext (λ n. is_some (finite.get packages n)) 0 None
-EmptyIs packages others = Unit {0}
+EmptyIs packages (why.BadLog unit) = Unit {0}
+EmptyIs packages (why.Damaged damage) = Unit {0}
+EmptyIs packages (why.IndexFull needed) = Unit {0}
+EmptyIs packages why.DiskFault = Unit {0}
+EmptyIs packages why.NoMemory = Unit {0}
+EmptyIs packages others = IsNext (λ n. is_some (finite.get packages n)) 0 None
 
 -- of files whose Packages.db isn't damaged
 abbrev pub EmptyOn : Files → Why → Type 0

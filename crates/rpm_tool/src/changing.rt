@@ -340,8 +340,9 @@ fn change_recovered<D: Disk, S: Shelf, O: Sink + Drop, E: Sink + Drop>(
 /// The changes are held in memory, over the disk, and committed behind the last one: a stop at any moment leaves all of them or none.
 /// The ending is `Done`, or `Failed` with how many arguments failed; only then are changes counted, and the index is current. Any other
 /// ending leaves what the files stand for as it was, `DiskFault` aside, behind which all changes or none are made: `BadLog` and `Damaged`,
-/// with the place; `NotEmpty` exactly of an exercise where there are packages; `NumbersSpent`, `GenerationSpent` and `StoreFull`; `IndexFull` exactly where the index must be made, or is changed, and
-/// needs too many units; `LogFull` where the log does; `BadIndex` never where the database is lawful; `DiskFault`, `ShelfFault`, `OutFault`
+/// with the place; `NotEmpty` exactly of an exercise where there are packages; `NumbersSpent`, `GenerationSpent` and `StoreFull`;
+/// `IndexFull` exactly where the index must be made, or is changed, and needs too many units; `LogFull` where the log does; `BadIndex`
+/// never where the database is lawful; `DiskFault`, `ShelfFault`, `OutFault`
 /// and `ErrFault` only where that object's count of faults rose; and `NoMemory`. That a command line is one change is this project's own rule.
 ///
 /// Of `Packages.db` it reads the slot pages, the blocks of all packages where the index must be made, and those of each package that is
