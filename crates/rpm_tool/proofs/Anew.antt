@@ -17,10 +17,9 @@ use Rattle.rpm_change.specs.Endings.{Outputs, Done, Ended}
 use Rattle.rpm_change.specs.Rebuilding.{RebuildTurn}
 use Rattle.rpm_tool.specs.Changing.{FullTurn}
 use Rattle.rpm_tool.specs.Working.{OpensBy, WorkedWith, why_of_halt}
-use Rattle.rpm_tool.proofs.Blank.{state-in_file}
 use Rattle.rpm_tool.proofs.Grouped.{if_ok}
 use Rattle.rpm_tool.proofs.Leavings.{full_done}
-use Rattle.rpm_tool.proofs.Works.{halted_by, done_by}
+use Rattle.rpm_tool.proofs.Works.{state-in_file, halted_by, done_by}
 
 -- the index is full where that of the packages as they are is, or at the turn of a change
 rebuilt_full : (s : State) (changes : List Change) (h : Halt) → RebuildTurn s changes (Err h)

@@ -3,7 +3,6 @@ mod Answering
 mod Arguments
 mod Asking
 mod Begun
-mod Blank
 mod Closed
 mod Completed
 mod Defaults
@@ -20,6 +19,7 @@ mod Joins
 mod Leading
 mod Leavings
 mod Lined
+mod Limited
 mod Loading
 mod Looked
 mod Nexts
@@ -35,7 +35,6 @@ mod Reaching
 mod Recovered
 mod Regrouped
 mod Rising
-mod Spent
 mod Stopping
 mod Sums
 mod Turns
@@ -43,6 +42,7 @@ mod Unbroken
 mod Undone
 mod Unloaded
 mod Unmade
+mod Unnumbered
 mod Unrecovered
 mod Unstarted
 mod Verified

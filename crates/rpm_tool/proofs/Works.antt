@@ -9,7 +9,8 @@ use Rattle.rpm_db.specs.Changes.{Change}
 use Rattle.rpm_db.specs.Database.{Database, IsIndexed}
 use Rattle.rpm_db.specs.Lawful.{IsLawful, HasRows}
 use Rattle.rpm_db.specs.Openings.{IsOpened, OpensAs, FullOpenIs, must_make, units_needed}
-use Rattle.rpm_db.specs.State.{State, state}
+use Rattle.rpm_pkgdb.specs.Blobs.{blobs}
+use Rattle.rpm_db.specs.State.{State, state, packages}
 use Rattle.rpm_change.specs.declared.tally.Halt.{Halt}
 use Rattle.rpm_change.specs.declared.tally.Halt.TheVariants as halt
 use Rattle.rpm_change.specs.declared.tally.Tally.{Tally}
@@ -21,7 +22,11 @@ use Rattle.rpm_tool.specs.Changing.{FullTurn, makes}
 use Rattle.rpm_tool.specs.Working.{OpensIn, OpensBy, IsOutside, IsOfOpening, Stopped, WorkedBy, WorkedWith, Worked, why_of_open, why_of_halt}
 use Rattle.rpm_tool.proofs.Leavings.{full_done}
 use Rattle.rpm_tool.proofs.Grouped.{if_ok}
-use Rattle.rpm_tool.proofs.Blank.{state-in_file}
+
+-- a store says the same as what its file says of it
+pub state-in_file : (file : Units) (value : Store) → state file (in_file value) ≡ state file value
+unfolding packages blobs
+state-in_file file value = refl
 
 -- ---- opening
 

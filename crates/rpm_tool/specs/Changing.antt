@@ -14,7 +14,6 @@ use Rattle.rpm_db.specs.Openings.{must_make, units_needed}
 use Rattle.rpm_db.specs.Database.{IsNext}
 use Rattle.rpm_db.specs.State.{State, Package, state, packages}
 use Rattle.rpm_change.specs.Steps.{Course, apply_all}
-use Rattle.rpm_change.specs.Numbers.{AllHaveNumbers, AreSpent}
 use Rattle.rpm_change.specs.Endings.{Outputs, Through, ThroughSome, StoppedWithin, AllHaveRoom, IsFullAt}
 use Rattle.rpm_tool.specs.declared.answer.Why.{Why}
 use Rattle.rpm_tool.specs.declared.answer.Why.TheVariants as why
@@ -120,18 +119,6 @@ FullBy anew course files given = IfOk (store files.pkg) (λ value. FullTurn (mak
 
 abbrev pub FullOn : (State → Course) → Files → Why → Type 0
 FullOn course files given = FullBy false course files given
-
--- the numbers are spent exactly at the turn of a change for which none is left
-abbrev pub NumbersIs : State → List Change → Why → Type 0
-NumbersIs s changes why.NumbersSpent = AreSpent s changes
-NumbersIs s changes why.Done = AllHaveNumbers s changes
-NumbersIs s changes (why.Failed n) = AllHaveNumbers s changes
-NumbersIs s changes (why.LogFull units) = AllHaveNumbers s changes
-NumbersIs s changes others = Unit {0}
-
--- of files whose Packages.db isn't damaged
-abbrev pub NumbersOn : (State → Course) → Files → Why → Type 0
-NumbersOn course files given = IfOk (store files.pkg) (λ value. NumbersIs (state files.pkg value) (course (state files.pkg value)).changes given)
 
 -- a command that asks for no packages finds none, or is refused with the least number; what stops it before it looks comes either way
 abbrev pub EmptyIs : FinMap nat_cmp Package → Why → Type 0

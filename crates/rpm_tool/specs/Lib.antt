@@ -4,6 +4,7 @@ pub mod Changing
 pub mod Closing
 pub mod History
 pub mod Keyed
+pub mod Limits
 pub mod PackageFiles
 pub mod Queries
 pub mod Reads

@@ -22,7 +22,8 @@ ghost use Rattle.rpm_words.specs.Ask.{IsSound};
 ghost use Rattle.rpm_tool.specs.Answers.{why_of_load, unless_starved, is_of_words};
 ghost use Rattle.rpm_tool.specs.Keyed.{why_of_recover, is_done};
 ghost use Rattle.rpm_tool.specs.Changing.{DidOn, ChangesWith, EmptyBy, is_held};
-ghost use Rattle.rpm_tool.specs.Tasks.{task_parts, task_course, asked_task, asked_course, reads_shelf, is_anew, needs_none, IsCountable};
+ghost use Rattle.rpm_tool.specs.Tasks.{task_parts, task_course, asked_task, asked_course, reads_shelf, is_anew, needs_none, IsCountable, has_turns};
+ghost use Rattle.rpm_tool.specs.Limits.{LimitsBy, LimitsOn, begun};
 ghost use Rattle.rpm_tool.specs.Working.{OpensBy, IsOutside, IsOfOpening, Worked, WorkedWith, CommittedAs, EndsGroup, is_halt, is_of_commit, is_of_streams, done_why, why_of, why_of_open, why_of_halt};
 
 use crate::answer::Why;
@@ -96,6 +97,7 @@ fn make_blank<D: Disk>(alloc: Global, db: &mut Db, disk: &mut D) -> Result<(), W
     ensures going { OnOk result (db.new.stopped ≡ false) }
     ensures serving { OnOk result (IsTrue D.tells → IsServing (D.files disk.new) (D.left_since disk.new (D.moment disk.new)) db.new) }
     ensures state { OnOk result (IsTrue D.tells → state (D.files disk.new).pkg db.new.store ≡ state (D.files disk.old).pkg db.old.store) }
+    ensures begun { OnOk result (db.new.store ≡ begun db.old.store) }
     ensures rows { OnOk result (IsTrue D.tells → (is_blank db.old ≡ false → IsIndexed (D.files disk.old).pkg (D.files disk.old).idx db.old)
         → IsIndexed (D.files disk.new).pkg (D.files disk.new).idx db.new) }
     ensures fault { IfErr result IsOutside }
@@ -119,6 +121,7 @@ pub(crate) fn open_to_change<D: Disk>(alloc: Global, disk: &mut D) -> Result<Db,
     ensures serving { IfOk result (λ db. IsTrue D.tells → IsServing (D.files disk.new) (D.left_since disk.new (D.moment disk.new)) db) }
     ensures rows { IfOk result (λ db. IsTrue D.tells → IsLawful (D.files disk.old).pkg (D.files disk.old).idx
         → IsIndexed (D.files disk.new).pkg (D.files disk.new).idx db) }
+    ensures begun { IfOk result (λ db. IsTrue D.tells → IfOk (store (D.files disk.old).pkg) (λ value. db.store ≡ begun value)) }
     ensures fault { IfErr result IsOfOpening }
     ensures runs { Runs D.tells D.files D.left_since D.moment D.bytes_read D.follows SameLog disk.old disk.new }
     ensures disk { HasCauseAt (result ≡ Err Why.DiskFault) (D.faults disk.old) (D.faults disk.new) }
@@ -138,6 +141,7 @@ fn make_on<D: Disk>(alloc: Global, disk: &mut D) -> Result<Tally, Why>
     ensures worked { IsTrue D.tells → (out_tells err_tells : Bool) (out err : List ℕ)
         → Worked (λ s. idle) (D.files disk.old) (D.files disk.new) result
         (outputs out_tells out err_tells err) (outputs out_tells out err_tells err) }
+    ensures limits { IsTrue D.tells → LimitsOn (λ s. idle) (D.files disk.old) (why_of result) }
     ensures runs { Runs D.tells D.files D.left_since D.moment D.bytes_read D.follows SameLog disk.old disk.new }
     ensures halted { IfErr result (λ given. is_halt given ≡ true) }
     ensures held { IfErr result (λ given. is_held given ≡ false) }
@@ -166,6 +170,7 @@ fn erase_on<D: Disk, E: Sink + Drop>(
     ensures worked { IsTrue D.tells → (out_tells : Bool) (out : List ℕ)
         → Worked (λ s. erasing.erase s numbers.now) (D.files disk.old) (D.files disk.new) result
         (outputs out_tells out E.tells (E.taken (inner err.old))) (outputs out_tells out E.tells (E.taken (inner err.new))) }
+    ensures limits { IsTrue D.tells → LimitsOn (λ s. erasing.erase s numbers.now) (D.files disk.old) (why_of result) }
     ensures runs { Runs D.tells D.files D.left_since D.moment D.bytes_read D.follows SameLog disk.old disk.new }
     ensures halted { IfErr result (λ given. is_halt given ≡ true) }
     ensures held { IfErr result (λ given. is_held given ≡ false) }
@@ -202,6 +207,8 @@ fn change_on<D: Disk, S: Shelf, O: Sink + Drop, E: Sink + Drop>(
         → WorkedWith (is_anew (task_parts task.now)) (task_course (S.paths shelf.old) now (task_parts task.now)) (D.files disk.old) (D.files disk.new) result
         (outputs O.tells (O.taken (inner out.old)) E.tells (E.taken (inner err.old)))
         (outputs O.tells (O.taken (inner out.new)) E.tells (E.taken (inner err.new))) }
+    ensures limits { IsTrue D.tells → (reads_shelf (task_parts task.now) ≡ true → IsTrue S.tells)
+        → LimitsBy (has_turns (task_parts task.now)) (task_course (S.paths shelf.old) now (task_parts task.now)) (D.files disk.old) (why_of result) }
     ensures runs { Runs D.tells D.files D.left_since D.moment D.bytes_read D.follows SameLog disk.old disk.new }
     ensures halted { IfErr result (λ given. is_halt given ≡ true) }
     ensures empty { IsTrue D.tells → EmptyBy (needs_none (task_parts task.now)) (D.files disk.old) (why_of result) }
@@ -312,6 +319,8 @@ fn change_recovered<D: Disk, S: Shelf, O: Sink + Drop, E: Sink + Drop>(
         → ChangesWith (is_anew (task_parts task.now)) D.files D.left_since D.moment (task_course (S.paths shelf.old) now (task_parts task.now))
         result.0.why result.0.changes disk result.1 }
     ensures empty { IsTrue D.tells → EmptyBy (needs_none (task_parts task.now)) (reopened (D.files disk)) result.0.why }
+    ensures limits { IsTrue D.tells → (reads_shelf (task_parts task.now) ≡ true → IsTrue S.tells)
+        → LimitsBy (has_turns (task_parts task.now)) (task_course (S.paths shelf.old) now (task_parts task.now)) (reopened (D.files disk)) result.0.why }
     ensures counted { is_done result.0.why ≡ false → result.0.changes ≡ 0 }
     ensures shelf_unread { reads_shelf (task_parts task.now) ≡ false → shelf.new ≡ shelf.old }
     ensures paths { IsTrue S.tells → S.paths shelf.new ≡ S.paths shelf.old }
@@ -340,10 +349,10 @@ fn change_recovered<D: Disk, S: Shelf, O: Sink + Drop, E: Sink + Drop>(
 /// The changes are held in memory, over the disk, and committed behind the last one: a stop at any moment leaves all of them or none.
 /// The ending is `Done`, or `Failed` with how many arguments failed; only then are changes counted, and the index is current. Any other
 /// ending leaves what the files stand for as it was, `DiskFault` aside, behind which all changes or none are made: `BadLog` and `Damaged`,
-/// with the place; `NotEmpty` exactly of an exercise where there are packages; `NumbersSpent`, `GenerationSpent` and `StoreFull`;
-/// `IndexFull` exactly where the index must be made, or is changed, and needs too many units; `LogFull` where the log does; `BadIndex`
-/// never where the database is lawful; `DiskFault`, `ShelfFault`, `OutFault`
-/// and `ErrFault` only where that object's count of faults rose; and `NoMemory`. That a command line is one change is this project's own rule.
+/// with the place; `NotEmpty` exactly of an exercise where there are packages; `NumbersSpent`, `GenerationSpent` and `StoreFull` exactly
+/// at the turn of a change for which none is left; `IndexFull` exactly where the index must be made, or is changed, and needs too many
+/// units; `LogFull` where the log does; `BadIndex` never where the database is lawful; `DiskFault`, `ShelfFault`, `OutFault` and `ErrFault`
+/// only where that object's count of faults rose; and `NoMemory`. That a command line is one change is this project's own rule.
 ///
 /// Of `Packages.db` it reads the slot pages, the blocks of all packages where the index must be made, and those of each package that is
 /// replaced or erased. It syncs three times before the changes and five times for them, and keeps a page of 4 KiB in memory for each 4 KiB
@@ -368,6 +377,8 @@ fn change<D: Disk, S: Shelf, O: Sink + Drop, E: Sink + Drop>(
         → ChangesWith (is_anew (task_parts task.now)) D.files D.left_since D.moment (task_course (S.paths shelf.old) now (task_parts task.now))
         result.0.why result.0.changes disk result.1 }
     ensures empty { IsTrue D.tells → EmptyBy (needs_none (task_parts task.now)) (reopened (D.files disk)) result.0.why }
+    ensures limits { IsTrue D.tells → (reads_shelf (task_parts task.now) ≡ true → IsTrue S.tells)
+        → LimitsBy (has_turns (task_parts task.now)) (task_course (S.paths shelf.old) now (task_parts task.now)) (reopened (D.files disk)) result.0.why }
     ensures counted { is_done result.0.why ≡ false → result.0.changes ≡ 0 }
     ensures shelf_unread { reads_shelf (task_parts task.now) ≡ false → shelf.new ≡ shelf.old }
     ensures paths { IsTrue S.tells → S.paths shelf.new ≡ S.paths shelf.old }
@@ -409,6 +420,9 @@ pub fn change_asked<D: Disk, S: Shelf, O: Sink + Drop, E: Sink + Drop>(
         → ChangesWith (is_anew (asked_task words.now ask.now)) D.files D.left_since D.moment (asked_course (S.paths shelf.old) now words.now ask.now)
         result.0.why result.0.changes disk result.1 }
     ensures empty { IsTrue D.tells → EmptyBy (needs_none (asked_task words.now ask.now)) (reopened (D.files disk)) result.0.why }
+    ensures limits { IsTrue D.tells → (reads_shelf (asked_task words.now ask.now) ≡ true → IsTrue S.tells)
+        → LimitsBy (has_turns (asked_task words.now ask.now)) (asked_course (S.paths shelf.old) now words.now ask.now) (reopened (D.files disk))
+        result.0.why }
     ensures counted { is_done result.0.why ≡ false → result.0.changes ≡ 0 }
     ensures shelf_unread { reads_shelf (asked_task words.now ask.now) ≡ false → shelf.new ≡ shelf.old }
     ensures paths { IsTrue S.tells → S.paths shelf.new ≡ S.paths shelf.old }

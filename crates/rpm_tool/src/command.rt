@@ -23,7 +23,8 @@ ghost use Rattle.rpm_tool.specs.Steps.{numbers, Rises};
 ghost use Rattle.rpm_tool.specs.Queries.{is_question, picked, argument_part};
 ghost use Rattle.rpm_tool.specs.Keyed.{AreLawfulGroups, IsLawfulGroup, StandsStill, IsReady, KeyedIs, AnswersByKey, FullIs, BadIs, HasRoom};
 ghost use Rattle.rpm_tool.specs.Keyed.{is_done, is_done_or_outside, keyed_cost};
-ghost use Rattle.rpm_tool.specs.Tasks.{asked_task, asked_course, reads_shelf, is_anew, needs_none};
+ghost use Rattle.rpm_tool.specs.Tasks.{asked_task, asked_course, reads_shelf, is_anew, needs_none, has_turns};
+ghost use Rattle.rpm_tool.specs.Limits.{LimitsBy};
 ghost use Rattle.rpm_tool.specs.PackageFiles.{passing, query_files};
 ghost use Rattle.rpm_change.specs.Endings.{outputs};
 ghost use Rattle.rpm_tool.specs.Answers.{is_of_words, ComesWhere, Queried, Anywhere, Went, Closes, Ends, AtMost, Leaves, query_cost};
@@ -81,6 +82,9 @@ fn begin<D: Disk, S: Shelf, O: Sink + Drop, E: Sink + Drop>(
     ensures changed { is_changing ask.now ≡ true → IsTrue D.tells → (reads_shelf (asked_task words.now ask.now) ≡ true → IsTrue S.tells)
         → ChangesWith (is_anew (asked_task words.now ask.now)) D.files D.left_since D.moment (asked_course (S.paths shelf.old) now words.now ask.now)
         result.0.why result.0.changes disk result.1 }
+    ensures limits { is_changing ask.now ≡ true → IsTrue D.tells → (reads_shelf (asked_task words.now ask.now) ≡ true → IsTrue S.tells)
+        → LimitsBy (has_turns (asked_task words.now ask.now)) (asked_course (S.paths shelf.old) now words.now ask.now) (reopened (D.files disk))
+        result.0.why }
     ensures changes { is_changing ask.now ≡ false → result.0.changes ≡ 0 }
     ensures empty { is_changing ask.now ≡ true → IsTrue D.tells
         → EmptyBy (needs_none (asked_task words.now ask.now)) (reopened (D.files disk)) result.0.why }
@@ -158,6 +162,9 @@ fn command<D: Disk, S: Shelf, O: Sink + Drop, E: Sink + Drop>(
         → (reads_shelf (asked_task words.now a) ≡ true → IsTrue S.tells)
         → ChangesWith (is_anew (asked_task words.now a)) D.files D.left_since D.moment (asked_course (S.paths shelf.old) now words.now a)
         result.0.why result.0.changes disk result.1 }
+    ensures limits { (a : AskParts) (tree : Tree) → asks words.now ≡ Some (a, tree) → is_changing a ≡ true → IsTrue D.tells
+        → (reads_shelf (asked_task words.now a) ≡ true → IsTrue S.tells)
+        → LimitsBy (has_turns (asked_task words.now a)) (asked_course (S.paths shelf.old) now words.now a) (reopened (D.files disk)) result.0.why }
     ensures changes { asks_change words.now ≡ false → result.0.changes ≡ 0 }
     ensures empty { (a : AskParts) (tree : Tree) → asks words.now ≡ Some (a, tree) → is_changing a ≡ true → IsTrue D.tells
         → EmptyBy (needs_none (asked_task words.now a)) (reopened (D.files disk)) result.0.why }
@@ -297,7 +304,8 @@ pub fn run<D: Disk, S: Shelf, O: Sink, E: Sink>(
 
     // A command that changes packages goes through its course, from the state that the database stands for, to its end or to where it is
     // stopped, and closes with its line. Its changes are one: where it was done they are all made and counted, else none is, a fault of the
-    // disk aside, which may come before that or behind it. What goes with each ending is the record `ChangesWith`.
+    // disk aside, which may come before that or behind it. What goes with each ending is the record `ChangesWith`; numbers,
+    // generations and places are spent exactly at the turn of a change for which none is left.
     ensures did { (a : AskParts) (tree : Tree) → asks words.now ≡ Some (a, tree) → is_changing a ≡ true → IsTrue D.tells
         → (reads_shelf (asked_task words.now a) ≡ true → IsTrue S.tells)
         → Ends (λ mid. DidOn (asked_course (S.paths shelf.old) now words.now a) (D.files disk) result.0.why
@@ -310,6 +318,9 @@ pub fn run<D: Disk, S: Shelf, O: Sink, E: Sink>(
     // An exercise is refused with the least number exactly where it finds packages; no other command is.
     ensures empty { (a : AskParts) (tree : Tree) → asks words.now ≡ Some (a, tree) → is_changing a ≡ true → IsTrue D.tells
         → EmptyBy (needs_none (asked_task words.now a)) (reopened (D.files disk)) result.0.why }
+    ensures limits { (a : AskParts) (tree : Tree) → asks words.now ≡ Some (a, tree) → is_changing a ≡ true → IsTrue D.tells
+        → (reads_shelf (asked_task words.now a) ≡ true → IsTrue S.tells)
+        → LimitsBy (has_turns (asked_task words.now a)) (asked_course (S.paths shelf.old) now words.now a) (reopened (D.files disk)) result.0.why }
     ensures goes_on { D.follows disk result.1 }
 
     // The packages that an argument's steps are for: those that it picks above `--after`, each once and rising.

@@ -11,7 +11,8 @@ ghost use Rattle.rpm_change.specs.Endings.{outputs};
 ghost use Rattle.rpm_change.specs.Importing as importing;
 ghost use Rattle.rpm_change.specs.Rebuilding as rebuilding;
 ghost use Rattle.rpm_exercise.specs.Exercised as exercised;
-ghost use Rattle.rpm_tool.specs.Changing.{EmptyOn, NumbersOn, is_held};
+ghost use Rattle.rpm_tool.specs.Changing.{EmptyOn, is_held};
+ghost use Rattle.rpm_tool.specs.Limits.{LimitsOn};
 ghost use Rattle.rpm_tool.specs.Working.{Worked, WorkedWith, is_halt, why_of, why_of_exercise};
 
 use crate::answer::Why;
@@ -35,8 +36,8 @@ pub(crate) fn add_on<D: Disk, S: Shelf, E: Sink + Drop>(
     ensures worked { IsTrue D.tells → IsTrue S.tells → (out_tells : Bool) (out : List ℕ)
         → Worked (λ s. adding.add_files (S.paths shelf.old) now s (map (λ path. path.now) paths.now)) (D.files disk.old) (D.files disk.new) result
         (outputs out_tells out E.tells (E.taken (inner err.old))) (outputs out_tells out E.tells (E.taken (inner err.new))) }
-    ensures numbers { IsTrue D.tells → IsTrue S.tells
-        → NumbersOn (λ s. adding.add_files (S.paths shelf.old) now s (map (λ path. path.now) paths.now)) (D.files disk.old) (why_of result) }
+    ensures limits { IsTrue D.tells → IsTrue S.tells
+        → LimitsOn (λ s. adding.add_files (S.paths shelf.old) now s (map (λ path. path.now) paths.now)) (D.files disk.old) (why_of result) }
     ensures runs { Runs D.tells D.files D.left_since D.moment D.bytes_read D.follows SameLog disk.old disk.new }
     ensures halted { IfErr result (λ given. is_halt given ≡ true) }
     ensures held { IfErr result (λ given. is_held given ≡ false) }
@@ -71,6 +72,8 @@ pub(crate) fn replace_on<D: Disk, S: Shelf, E: Sink + Drop>(
     ensures worked { IsTrue D.tells → IsTrue S.tells → (out_tells : Bool) (out : List ℕ)
         → Worked (λ s. adding.replace (S.paths shelf.old) now s number path.now) (D.files disk.old) (D.files disk.new) result
         (outputs out_tells out E.tells (E.taken (inner err.old))) (outputs out_tells out E.tells (E.taken (inner err.new))) }
+    ensures limits { IsTrue D.tells → IsTrue S.tells
+        → LimitsOn (λ s. adding.replace (S.paths shelf.old) now s number path.now) (D.files disk.old) (why_of result) }
     ensures runs { Runs D.tells D.files D.left_since D.moment D.bytes_read D.follows SameLog disk.old disk.new }
     ensures halted { IfErr result (λ given. is_halt given ≡ true) }
     ensures held { IfErr result (λ given. is_held given ≡ false) }
@@ -103,6 +106,8 @@ pub(crate) fn import_on<D: Disk, S: Shelf, E: Sink + Drop>(
     ensures worked { IsTrue D.tells → IsTrue S.tells → (out_tells : Bool) (out : List ℕ)
         → Worked (λ s. importing.import_list importing.max_headers (bytes_at (S.paths shelf.old) (codes "-"))) (D.files disk.old) (D.files disk.new) result
         (outputs out_tells out E.tells (E.taken (inner err.old))) (outputs out_tells out E.tells (E.taken (inner err.new))) }
+    ensures limits { IsTrue D.tells → IsTrue S.tells
+        → LimitsOn (λ s. importing.import_list importing.max_headers (bytes_at (S.paths shelf.old) (codes "-"))) (D.files disk.old) (why_of result) }
     ensures runs { Runs D.tells D.files D.left_since D.moment D.bytes_read D.follows SameLog disk.old disk.new }
     ensures halted { IfErr result (λ given. is_halt given ≡ true) }
     ensures held { IfErr result (λ given. is_held given ≡ false) }
@@ -133,6 +138,7 @@ pub(crate) fn rebuild_on<D: Disk, O: Sink + Drop>(
     ensures worked { IsTrue D.tells → (err_tells : Bool) (err : List ℕ)
         → WorkedWith true (λ s. rebuilding.rebuild s) (D.files disk.old) (D.files disk.new) result
         (outputs O.tells (O.taken (inner out.old)) err_tells err) (outputs O.tells (O.taken (inner out.new)) err_tells err) }
+    ensures limits { IsTrue D.tells → LimitsOn (λ s. rebuilding.rebuild s) (D.files disk.old) (why_of result) }
     ensures runs { Runs D.tells D.files D.left_since D.moment D.bytes_read D.follows SameLog disk.old disk.new }
     ensures halted { IfErr result (λ given. is_halt given ≡ true) }
     ensures held { IfErr result (λ given. is_held given ≡ false) }

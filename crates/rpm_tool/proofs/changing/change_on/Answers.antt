@@ -5,8 +5,9 @@ use Rattle.rpm_change.specs.Adding.{add_files}
 use Rattle.rpm_change.specs.Endings.{outputs}
 use Rattle.rpm_change.specs.Erasing.{erase}
 use Rattle.rpm_tool.specs.Tasks.{task_parts, reads_shelf}
-use Rattle.rpm_tool.specs.Working.{Worked}
+use Rattle.rpm_tool.specs.Working.{Worked, why_of}
 use Rattle.rpm_tool.proofs.Emptied.{unheld}
+use Rattle.rpm_tool.specs.Limits.{LimitsOn}
 use Rattle.rpm_tool.proofs.changing.change_on.Goals as goal
 
 pub returns-in-Make-clause-worked : goal.returns-in-Make-clause-worked
@@ -72,3 +73,34 @@ returns-in-Import-clause-empty g c = λ told. rw c.in-Import.is (unheld (g.D.Dis
 
 pub returns-in-Rebuild-clause-empty : goal.returns-in-Rebuild-clause-empty
 returns-in-Rebuild-clause-empty g c = λ told. rw c.in-Rebuild.is (unheld (g.D.Disk.files c.args.disk.now) c.rebuild_on.result c.rebuild_on.ensures.held)
+
+pub returns-in-Make-clause-limits : goal.returns-in-Make-clause-limits
+returns-in-Make-clause-limits g c = λ told shelf. rw c.in-Make.is (c.make_on.ensures.limits told)
+
+pub returns-in-Add-clause-limits : goal.returns-in-Add-clause-limits
+returns-in-Add-clause-limits g c = λ told shelf.
+    let shelf_told : IsTrue g.S.Shelf.tells = shelf (ap (λ (t : _). reads_shelf (task_parts t)) c.in-Add.is) in
+    rw c.in-Add.is (subst (λ (files : List (List ℕ)). LimitsOn (λ s. add_files (g.S.Shelf.paths c.args.shelf.now) c.args.now s files)
+    (g.D.Disk.files c.args.disk.now) (why_of c.add_on.result)) (ap (map (λ path. path.now)) c.as_slice.ensures.value)
+    (c.add_on.ensures.limits told shelf_told))
+
+pub returns-in-Replace-clause-limits : goal.returns-in-Replace-clause-limits
+returns-in-Replace-clause-limits g c = λ told shelf.
+    let shelf_told : IsTrue g.S.Shelf.tells = shelf (ap (λ (t : _). reads_shelf (task_parts t)) c.in-Replace.is) in
+    rw c.in-Replace.is (c.replace_on.ensures.limits told shelf_told)
+
+pub returns-in-Erase-clause-limits : goal.returns-in-Erase-clause-limits
+returns-in-Erase-clause-limits g c = λ told shelf.
+    rw c.in-Erase.is (subst (λ (ns : List ℕ). LimitsOn (λ s. erase s ns) (g.D.Disk.files c.args.disk.now) (why_of c.erase_on.result))
+    c.as_slice-in-Erase.ensures.value (c.erase_on.ensures.limits told))
+
+pub returns-in-Import-clause-limits : goal.returns-in-Import-clause-limits
+returns-in-Import-clause-limits g c = λ told shelf.
+    let shelf_told : IsTrue g.S.Shelf.tells = shelf (ap (λ (t : _). reads_shelf (task_parts t)) c.in-Import.is) in
+    rw c.in-Import.is (c.import_on.ensures.limits told shelf_told)
+
+pub returns-in-Rebuild-clause-limits : goal.returns-in-Rebuild-clause-limits
+returns-in-Rebuild-clause-limits g c = λ told shelf. rw c.in-Rebuild.is (c.rebuild_on.ensures.limits told)
+
+pub returns-in-Exercise-clause-limits : goal.returns-in-Exercise-clause-limits
+returns-in-Exercise-clause-limits g c = λ told shelf. rw c.in-Exercise.is tt

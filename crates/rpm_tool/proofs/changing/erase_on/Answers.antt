@@ -1,10 +1,12 @@
-use Rattle.std.proofs.Common.{◌∙◌}
+use Rattle.std.proofs.Common.{◌∙◌, subst}
 use Rattle.rpm_outside.specs.Buffered.{inner}
 use Rattle.rpm_db.specs.State.{state}
 use Rattle.rpm_db.specs.inner.Running.{runs_then}
 use Rattle.rpm_db.specs.inner.Writes.{SameLog}
-use Rattle.rpm_change.specs.Endings.{outputs}
+use Rattle.rpm_change.specs.Endings.{outputs, IsOfErasing}
 use Rattle.rpm_change.specs.Erasing.{erase}
+use Rattle.rpm_tool.proofs.Limited.{limits_unopened, limits_halted, limits_worked}
+use Rattle.rpm_tool.proofs.Unnumbered.{erase_has, none_spent}
 use Rattle.rpm_tool.proofs.Unmade.{through_none}
 use Rattle.rpm_tool.proofs.Works.{open_worked, done_worked, halted_worked}
 use Rattle.rpm_tool.proofs.changing.erase_on.Goals as goal
@@ -46,3 +48,29 @@ returns-clause-runs g c =
     runs_then g.D.Disk.tells g.D.Disk.files g.D.Disk.left_since g.D.Disk.moment g.D.Disk.bytes_read g.D.Disk.follows g.met.D.Disk.follows_trans
     SameLog SameLog SameLog c.args.disk.now c.open_to_change.new.disk c.erase_numbers.new.disk (λ x y log. log) (λ x y z first second. second ∙ first)
     c.in-Ok.ensures.runs c.erase_numbers.ensures.runs
+
+pub returns-in-Err-clause-limits : goal.returns-in-Err-clause-limits
+returns-in-Err-clause-limits g c = λ told.
+    limits_unopened (λ s. erase s c.args.numbers.now)
+    (g.D.Disk.files c.args.disk.now) (g.D.Disk.files c.open_to_change.new.disk) c.in-Err.why (c.in-Err.ensures.opened told)
+
+pub returns-in-Ok-erase_numbers-clause-limits : goal.returns-in-Ok-erase_numbers-clause-limits
+returns-in-Ok-erase_numbers-clause-limits g c = λ told.
+    let said = c.in-Ok-erase_numbers.ensures in
+    limits_worked (λ s. erase s c.args.numbers.now)
+    (g.D.Disk.files c.args.disk.now) (g.D.Disk.files c.open_to_change.new.disk) c.in-Ok.db c.erase_numbers.new.db
+    (c.in-Ok.ensures.opened told) (c.in-Ok.ensures.begun told) c.in-Ok-erase_numbers.tally
+    (erase_has (state (g.D.Disk.files c.open_to_change.new.disk).pkg c.in-Ok.db.store) c.args.numbers.now)
+    (said.generation told)
+    (said.store_room told)
+
+pub returns-clause-limits : goal.returns-clause-limits
+returns-clause-limits g c = λ told.
+    let said = c.in-Err-erase_numbers.ensures in
+    let changes = (erase (state (g.D.Disk.files c.open_to_change.new.disk).pkg c.in-Ok.db.store) c.args.numbers.now).changes in
+    rw c.why_of_halt.ensures (limits_halted (λ s. erase s c.args.numbers.now)
+    (g.D.Disk.files c.args.disk.now) (g.D.Disk.files c.open_to_change.new.disk) c.in-Ok.db c.erase_numbers.new.db
+    (c.in-Ok.ensures.opened told) (c.in-Ok.ensures.begun told) c.in-Err-erase_numbers.halt
+    (none_spent (state (g.D.Disk.files c.open_to_change.new.disk).pkg c.in-Ok.db.store) changes c.in-Err-erase_numbers.halt
+    (λ is. subst IsOfErasing is said.kinds))
+    (said.generation told) (said.store_room told))

@@ -1,6 +1,7 @@
-use Rattle.std.proofs.Common.{refl}
+use Rattle.std.proofs.Common.{refl, arith}
 use Rattle.rpm_change.specs.Endings.{outputs}
 use Rattle.rpm_change.specs.Steps.{idle}
+use Rattle.rpm_tool.proofs.Limited.{limits_unopened, limits_worked}
 use Rattle.rpm_tool.proofs.Unmade.{through_none}
 use Rattle.rpm_tool.proofs.Works.{open_worked, done_worked}
 use Rattle.rpm_tool.proofs.changing.make_on.Goals as goal
@@ -18,3 +19,13 @@ returns-in-Err-clause-worked g c = λ told out_tells err_tells out err.
     let x = outputs out_tells out err_tells err in
     open_worked (λ s. idle) (g.D.Disk.files c.args.disk.now) (g.D.Disk.files c.open_to_change.new.disk) c.in-Err.why x x
     (c.in-Err.ensures.opened told) (through_none x)
+
+pub returns-clause-limits : goal.returns-clause-limits
+returns-clause-limits g c = λ told.
+    limits_worked (λ s. idle) (g.D.Disk.files c.args.disk.now) (g.D.Disk.files c.open_to_change.new.disk) c.in-Ok.db c.in-Ok.db
+    (c.in-Ok.ensures.opened told)
+    (c.in-Ok.ensures.begun told) (record { failed = 0; changes = 0 }) tt (λ k none. absurd (omega (arith, none))) refl
+
+pub returns-in-Err-clause-limits : goal.returns-in-Err-clause-limits
+returns-in-Err-clause-limits g c = λ told.
+    limits_unopened (λ s. idle) (g.D.Disk.files c.args.disk.now) (g.D.Disk.files c.open_to_change.new.disk) c.in-Err.why (c.in-Err.ensures.opened told)

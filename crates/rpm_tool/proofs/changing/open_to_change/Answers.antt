@@ -5,6 +5,10 @@ use Rattle.rpm_db.specs.State.{State}
 use Rattle.rpm_db.specs.inner.Running.{runs_none, runs_then}
 use Rattle.rpm_db.specs.inner.Writes.{SameLog}
 use Rattle.rpm_db.specs.Lawful.{Remade}
+use Rattle.rpm_pkgdb.specs.Store.{store}
+use Rattle.rpm_tool.specs.Limits.{begun}
+use Rattle.rpm_tool.proofs.Grouped.{if_ok}
+use Rattle.rpm_tool.proofs.Limited.{stored_one}
 use Rattle.rpm_tool.proofs.Works.{open_refused, open_made, open_unmade, open_kinds}
 use Rattle.rpm_tool.proofs.changing.open_to_change.Goals as goal
 
@@ -54,3 +58,8 @@ returns-in-Ok-make_blank-clause-from_one g c = λ told.
     sym (is_there (g.D.Disk.files c.make_blank.new.disk).pkg c.make_blank.new.db 0)
     ∙ ap (λ (s : State). is_some (finite.get s.packages 0)) (c.in-Ok-make_blank.ensures.state told)
     ∙ is_there (g.D.Disk.files c.open.new.disk).pkg c.in-Ok.db 0 ∙ c.in-Ok.ensures.from_one
+
+pub returns-in-Ok-make_blank-clause-begun : goal.returns-in-Ok-make_blank-clause-begun
+returns-in-Ok-make_blank-clause-begun g c = λ told.
+    if_ok (store (g.D.Disk.files c.args.disk.now).pkg) (λ value is.
+    c.in-Ok-make_blank.ensures.begun ∙ ap begun (stored_one _ value c.in-Ok.db.store is (c.in-Ok.ensures.opened told).store_is))

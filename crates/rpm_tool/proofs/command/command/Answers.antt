@@ -6,7 +6,8 @@ use Rattle.rpm_words.specs.Ask.{AskParts, ask}
 use Rattle.rpm_tool.specs.Asked.{of_files, by_key, is_changing, changes_in, asks_change, asks_format, asks, asks_unbuilt}
 use Rattle.rpm_change.specs.Endings.{outputs}
 use Rattle.rpm_tool.specs.PackageFiles.{query_files}
-use Rattle.rpm_tool.specs.Tasks.{asked_task, asked_course, reads_shelf, needs_none}
+use Rattle.rpm_tool.specs.Tasks.{asked_task, asked_course, reads_shelf, needs_none, has_turns}
+use Rattle.rpm_tool.proofs.Limited.{limits_starved}
 use Rattle.rpm_tool.proofs.Reaching.{through_none}
 use Rattle.rpm_tool.proofs.Recovered.{unbegun}
 use Rattle.rpm_tool.proofs.Undone.{usage_of_undone, usage_of_done, unbuilt_of_undone, unbuilt_of_done, format_of_undone, format_of_done, starved, none_asked, same_command}
@@ -168,3 +169,18 @@ unfolding asks_format asks
 returns-in-Err-clause-empty g c = λ a tree asked is told.
     let none = starved c.args.words.now (ask c.args.words.now) c.in-Err.why c.in-Err.ensures.undone a tree asked in
     rw none (memory_empty (needs_none (asked_task c.args.words.now a)) (reopened (g.D.Disk.files c.args.disk)))
+
+pub returns-in-Ok-clause-limits : goal.returns-in-Ok-clause-limits
+unfolding asks
+returns-in-Ok-clause-limits g c = λ a tree asked is told shelf.
+    let same = same_command (ask c.args.words.now) (asks_format c.args.words.now) c.in-Ok.ask a c.in-Ok.format tree c.in-Ok.ensures.ok.0
+    c.in-Ok.ensures.ok.1 asked in
+    rw (← same.0) (c.begin.ensures.limits (ap is_changing same.0 ∙ is) told
+    (λ reads. shelf (sym (ap (λ (x : AskParts). reads_shelf (asked_task c.args.words.now x)) same.0) ∙ reads)))
+
+pub returns-in-Err-clause-limits : goal.returns-in-Err-clause-limits
+unfolding asks_format asks
+returns-in-Err-clause-limits g c = λ a tree asked is told shelf.
+    let none = starved c.args.words.now (ask c.args.words.now) c.in-Err.why c.in-Err.ensures.undone a tree asked in
+    rw none (limits_starved (has_turns (asked_task c.args.words.now a)) (asked_course (g.S.Shelf.paths c.args.shelf.now) c.args.now c.args.words.now a)
+    (reopened (g.D.Disk.files c.args.disk)))

@@ -6,8 +6,8 @@ use Rattle.rpm_db.specs.inner.Writes.{SameLog}
 use Rattle.rpm_change.specs.Steps.{Course}
 use Rattle.rpm_change.specs.Endings.{outputs}
 use Rattle.rpm_change.specs.Adding.{add_files}
+use Rattle.rpm_tool.proofs.Limited.{limits_unopened, limits_halted, limits_worked}
 use Rattle.rpm_tool.proofs.Unmade.{through_none}
-use Rattle.rpm_tool.proofs.Spent.{spent_unopened, spent_halted, spent_worked}
 use Rattle.rpm_tool.proofs.Works.{open_worked, done_worked, halted_worked}
 use Rattle.rpm_tool.proofs.courses.add_on.Goals as goal
 
@@ -52,19 +52,23 @@ returns-clause-runs g c =
     SameLog SameLog SameLog c.args.disk.now c.open_to_change.new.disk c.add_files.new.disk (λ x y log. log) (λ x y z first second. second ∙ first)
     c.in-Ok.ensures.runs c.add_files.ensures.runs
 
-pub returns-in-Err-clause-numbers : goal.returns-in-Err-clause-numbers
-returns-in-Err-clause-numbers g c = λ told telling.
-    let course : State → Course = λ s. add_files (g.S.Shelf.paths c.args.shelf.now) c.args.now s (map (λ path. path.now) c.args.paths.now) in
-    spent_unopened course (g.D.Disk.files c.args.disk.now) (g.D.Disk.files c.open_to_change.new.disk) c.in-Err.why (c.in-Err.ensures.opened told)
+pub returns-in-Err-clause-limits : goal.returns-in-Err-clause-limits
+returns-in-Err-clause-limits g c = λ told telling.
+    limits_unopened (λ s. add_files (g.S.Shelf.paths c.args.shelf.now) c.args.now s (map (λ path. path.now) c.args.paths.now))
+    (g.D.Disk.files c.args.disk.now) (g.D.Disk.files c.open_to_change.new.disk) c.in-Err.why (c.in-Err.ensures.opened told)
 
-pub returns-in-Ok-add_files-clause-numbers : goal.returns-in-Ok-add_files-clause-numbers
-returns-in-Ok-add_files-clause-numbers g c = λ told telling.
-    let course : State → Course = λ s. add_files (g.S.Shelf.paths c.args.shelf.now) c.args.now s (map (λ path. path.now) c.args.paths.now) in
-    spent_worked course (g.D.Disk.files c.args.disk.now) (g.D.Disk.files c.open_to_change.new.disk) c.in-Ok.db (c.in-Ok.ensures.opened told)
-    c.in-Ok-add_files.tally (c.in-Ok-add_files.ensures.numbers told telling)
+pub returns-in-Ok-add_files-clause-limits : goal.returns-in-Ok-add_files-clause-limits
+returns-in-Ok-add_files-clause-limits g c = λ told telling.
+    let said = c.in-Ok-add_files.ensures in
+    limits_worked (λ s. add_files (g.S.Shelf.paths c.args.shelf.now) c.args.now s (map (λ path. path.now) c.args.paths.now))
+    (g.D.Disk.files c.args.disk.now) (g.D.Disk.files c.open_to_change.new.disk) c.in-Ok.db c.add_files.new.db
+    (c.in-Ok.ensures.opened told) (c.in-Ok.ensures.begun told) c.in-Ok-add_files.tally (said.numbers told telling) (said.generation told telling)
+    (said.store_room told telling)
 
-pub returns-clause-numbers : goal.returns-clause-numbers
-returns-clause-numbers g c = λ told telling.
-    let course : State → Course = λ s. add_files (g.S.Shelf.paths c.args.shelf.now) c.args.now s (map (λ path. path.now) c.args.paths.now) in
-    rw c.why_of_halt.ensures (spent_halted course (g.D.Disk.files c.args.disk.now) (g.D.Disk.files c.open_to_change.new.disk) c.in-Ok.db
-    (c.in-Ok.ensures.opened told) c.in-Err-add_files.halt (c.in-Err-add_files.ensures.numbers told telling))
+pub returns-clause-limits : goal.returns-clause-limits
+returns-clause-limits g c = λ told telling.
+    let said = c.in-Err-add_files.ensures in
+    rw c.why_of_halt.ensures (limits_halted (λ s. add_files (g.S.Shelf.paths c.args.shelf.now) c.args.now s (map (λ path. path.now) c.args.paths.now))
+    (g.D.Disk.files c.args.disk.now) (g.D.Disk.files c.open_to_change.new.disk) c.in-Ok.db c.add_files.new.db
+    (c.in-Ok.ensures.opened told) (c.in-Ok.ensures.begun told) c.in-Err-add_files.halt (said.numbers told telling)
+    (said.generation told telling) (said.store_room told telling))

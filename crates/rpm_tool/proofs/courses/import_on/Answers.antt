@@ -7,6 +7,7 @@ use Rattle.rpm_change.specs.Steps.{Course}
 use Rattle.rpm_change.specs.Endings.{outputs}
 use Rattle.rpm_outside.specs.Shelves.{bytes_at}
 use Rattle.rpm_change.specs.Importing.{import_list, max_headers}
+use Rattle.rpm_tool.proofs.Limited.{limits_unopened, limits_halted, limits_worked}
 use Rattle.rpm_tool.proofs.Unmade.{through_none}
 use Rattle.rpm_tool.proofs.Works.{open_worked, done_worked, halted_worked}
 use Rattle.rpm_tool.proofs.courses.import_on.Goals as goal
@@ -51,3 +52,24 @@ returns-clause-runs g c =
     runs_then g.D.Disk.tells g.D.Disk.files g.D.Disk.left_since g.D.Disk.moment g.D.Disk.bytes_read g.D.Disk.follows g.met.D.Disk.follows_trans
     SameLog SameLog SameLog c.args.disk.now c.open_to_change.new.disk c.import_list.new.disk (λ x y log. log) (λ x y z first second. second ∙ first)
     c.in-Ok.ensures.runs c.import_list.ensures.runs
+
+pub returns-in-Err-clause-limits : goal.returns-in-Err-clause-limits
+returns-in-Err-clause-limits g c = λ told telling.
+    limits_unopened (λ s. import_list max_headers (bytes_at (g.S.Shelf.paths c.args.shelf.now) (codes "-")))
+    (g.D.Disk.files c.args.disk.now) (g.D.Disk.files c.open_to_change.new.disk) c.in-Err.why (c.in-Err.ensures.opened told)
+
+pub returns-in-Ok-import_list-clause-limits : goal.returns-in-Ok-import_list-clause-limits
+returns-in-Ok-import_list-clause-limits g c = λ told telling.
+    let said = c.in-Ok-import_list.ensures in
+    limits_worked (λ s. import_list max_headers (bytes_at (g.S.Shelf.paths c.args.shelf.now) (codes "-")))
+    (g.D.Disk.files c.args.disk.now) (g.D.Disk.files c.open_to_change.new.disk) c.in-Ok.db c.import_list.new.db
+    (c.in-Ok.ensures.opened told) (c.in-Ok.ensures.begun told) c.in-Ok-import_list.tally (said.numbers told telling) (said.generation told telling)
+    (said.store_room told telling)
+
+pub returns-clause-limits : goal.returns-clause-limits
+returns-clause-limits g c = λ told telling.
+    let said = c.in-Err-import_list.ensures in
+    rw c.why_of_halt.ensures (limits_halted (λ s. import_list max_headers (bytes_at (g.S.Shelf.paths c.args.shelf.now) (codes "-")))
+    (g.D.Disk.files c.args.disk.now) (g.D.Disk.files c.open_to_change.new.disk) c.in-Ok.db c.import_list.new.db
+    (c.in-Ok.ensures.opened told) (c.in-Ok.ensures.begun told) c.in-Err-import_list.halt (said.numbers told telling)
+    (said.generation told telling) (said.store_room told telling))

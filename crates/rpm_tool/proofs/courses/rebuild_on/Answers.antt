@@ -1,11 +1,13 @@
-use Rattle.std.proofs.Common.{true, ◌∙◌}
+use Rattle.std.proofs.Common.{true, ◌∙◌, subst}
 use Rattle.rpm_outside.specs.Buffered.{inner}
 use Rattle.rpm_db.specs.State.{state}
 use Rattle.rpm_db.specs.inner.Running.{runs_then}
 use Rattle.rpm_db.specs.inner.Writes.{SameLog}
 use Rattle.rpm_change.specs.Endings.{outputs}
-use Rattle.rpm_change.specs.Rebuilding.{rebuild}
+use Rattle.rpm_change.specs.Rebuilding.{rebuild, IsOfRebuilding}
 use Rattle.rpm_tool.proofs.Anew.{done_anew, halted_anew}
+use Rattle.rpm_tool.proofs.Limited.{limits_unopened, limits_halted, limits_worked}
+use Rattle.rpm_tool.proofs.Unnumbered.{rebuild_has, none_spent}
 use Rattle.rpm_tool.proofs.Unmade.{through_none}
 use Rattle.rpm_tool.proofs.Works.{open_with}
 use Rattle.rpm_tool.proofs.courses.rebuild_on.Goals as goal
@@ -45,3 +47,28 @@ returns-clause-runs g c =
     runs_then g.D.Disk.tells g.D.Disk.files g.D.Disk.left_since g.D.Disk.moment g.D.Disk.bytes_read g.D.Disk.follows g.met.D.Disk.follows_trans
     SameLog SameLog SameLog c.args.disk.now c.open_to_change.new.disk c.rebuild.new.disk (λ x y log. log) (λ x y z first second. second ∙ first)
     c.in-Ok.ensures.runs c.rebuild.ensures.runs
+
+pub returns-in-Err-clause-limits : goal.returns-in-Err-clause-limits
+returns-in-Err-clause-limits g c = λ told.
+    limits_unopened (λ s. rebuild s)
+    (g.D.Disk.files c.args.disk.now) (g.D.Disk.files c.open_to_change.new.disk) c.in-Err.why (c.in-Err.ensures.opened told)
+
+pub returns-in-Ok-rebuild-clause-limits : goal.returns-in-Ok-rebuild-clause-limits
+returns-in-Ok-rebuild-clause-limits g c = λ told.
+    let said = c.in-Ok-rebuild.ensures in
+    limits_worked (λ s. rebuild s) (g.D.Disk.files c.args.disk.now) (g.D.Disk.files c.open_to_change.new.disk) c.in-Ok.db c.rebuild.new.db
+    (c.in-Ok.ensures.opened told) (c.in-Ok.ensures.begun told) c.in-Ok-rebuild.tally
+    (rebuild_has (state (g.D.Disk.files c.open_to_change.new.disk).pkg c.in-Ok.db.store))
+    (said.generation told)
+    (said.store_room told)
+
+pub returns-clause-limits : goal.returns-clause-limits
+returns-clause-limits g c = λ told.
+    let said = c.in-Err-rebuild.ensures in
+    let changes = (rebuild (state (g.D.Disk.files c.open_to_change.new.disk).pkg c.in-Ok.db.store)).changes in
+    rw c.why_of_halt.ensures (limits_halted (λ s. rebuild s)
+    (g.D.Disk.files c.args.disk.now) (g.D.Disk.files c.open_to_change.new.disk) c.in-Ok.db c.rebuild.new.db
+    (c.in-Ok.ensures.opened told) (c.in-Ok.ensures.begun told) c.in-Err-rebuild.halt
+    (none_spent (state (g.D.Disk.files c.open_to_change.new.disk).pkg c.in-Ok.db.store) changes c.in-Err-rebuild.halt
+    (λ is. subst IsOfRebuilding is said.kinds))
+    (said.generation told) (said.store_room told))

@@ -1,11 +1,13 @@
-use Rattle.std.proofs.Common.{◌∙◌}
+use Rattle.std.proofs.Common.{◌∙◌, Some, subst}
 use Rattle.rpm_outside.specs.Buffered.{inner}
 use Rattle.rpm_db.specs.State.{State, state}
 use Rattle.rpm_db.specs.inner.Running.{runs_then}
 use Rattle.rpm_db.specs.inner.Writes.{SameLog}
 use Rattle.rpm_change.specs.Steps.{Course}
 use Rattle.rpm_change.specs.Endings.{outputs}
-use Rattle.rpm_change.specs.Adding.{replace}
+use Rattle.rpm_change.specs.Adding.{replace, IsOfPutting}
+use Rattle.rpm_tool.proofs.Limited.{limits_unopened, limits_halted, limits_worked}
+use Rattle.rpm_tool.proofs.Unnumbered.{replace_has, none_spent}
 use Rattle.rpm_tool.proofs.Unmade.{through_none}
 use Rattle.rpm_tool.proofs.Works.{open_worked, done_worked, halted_worked}
 use Rattle.rpm_tool.proofs.courses.replace_on.Goals as goal
@@ -50,3 +52,31 @@ returns-clause-runs g c =
     runs_then g.D.Disk.tells g.D.Disk.files g.D.Disk.left_since g.D.Disk.moment g.D.Disk.bytes_read g.D.Disk.follows g.met.D.Disk.follows_trans
     SameLog SameLog SameLog c.args.disk.now c.open_to_change.new.disk c.replace_package.new.disk (λ x y log. log) (λ x y z first second. second ∙ first)
     c.in-Ok.ensures.runs c.replace_package.ensures.runs
+
+pub returns-in-Err-clause-limits : goal.returns-in-Err-clause-limits
+returns-in-Err-clause-limits g c = λ told telling.
+    limits_unopened (λ s. replace (g.S.Shelf.paths c.args.shelf.now) c.args.now s c.args.number c.args.path.now)
+    (g.D.Disk.files c.args.disk.now) (g.D.Disk.files c.open_to_change.new.disk) c.in-Err.why (c.in-Err.ensures.opened told)
+
+pub returns-in-Ok-replace_package-clause-limits : goal.returns-in-Ok-replace_package-clause-limits
+returns-in-Ok-replace_package-clause-limits g c = λ told telling.
+    let said = c.in-Ok-replace_package.ensures in
+    limits_worked (λ s. replace (g.S.Shelf.paths c.args.shelf.now) c.args.now s c.args.number c.args.path.now)
+    (g.D.Disk.files c.args.disk.now) (g.D.Disk.files c.open_to_change.new.disk) c.in-Ok.db c.replace_package.new.db
+    (c.in-Ok.ensures.opened told) (c.in-Ok.ensures.begun told) c.in-Ok-replace_package.tally
+    (replace_has (g.S.Shelf.paths c.args.shelf.now) c.args.now (state (g.D.Disk.files c.open_to_change.new.disk).pkg c.in-Ok.db.store)
+    c.args.number c.args.path.now)
+    (said.generation told telling)
+    (said.store_room told telling)
+
+pub returns-clause-limits : goal.returns-clause-limits
+returns-clause-limits g c = λ told telling.
+    let said = c.in-Err-replace_package.ensures in
+    let changes = (replace (g.S.Shelf.paths c.args.shelf.now) c.args.now (state (g.D.Disk.files c.open_to_change.new.disk).pkg c.in-Ok.db.store)
+    c.args.number c.args.path.now).changes in
+    rw c.why_of_halt.ensures (limits_halted (λ s. replace (g.S.Shelf.paths c.args.shelf.now) c.args.now s c.args.number c.args.path.now)
+    (g.D.Disk.files c.args.disk.now) (g.D.Disk.files c.open_to_change.new.disk) c.in-Ok.db c.replace_package.new.db
+    (c.in-Ok.ensures.opened told) (c.in-Ok.ensures.begun told) c.in-Err-replace_package.halt
+    (none_spent (state (g.D.Disk.files c.open_to_change.new.disk).pkg c.in-Ok.db.store) changes c.in-Err-replace_package.halt
+    (λ is. subst (IsOfPutting (Some c.args.number)) is said.kinds))
+    (said.generation told telling) (said.store_room told telling))
