@@ -21,6 +21,7 @@ mod Leavings
 mod Lined
 mod Limited
 mod Loading
+mod Logged
 mod Looked
 mod Nexts
 mod Numbered

@@ -1,15 +1,17 @@
 -- The limits of a command that changes packages: numbers, generations and places are spent exactly at the turn of a change for which none is left.
-use Rattle.std.specs.Prelude.{◌≡◌, ◌≢◌, ℕ, ◌+◌, ◌<◌, ◌==◌, if◌then◌else◌, List, length, Bool, true, false, None, IsSome, IfOk}
+use Rattle.std.specs.Prelude.{◌≡◌, ◌≢◌, ℕ, ◌+◌, ◌^◌, ◌<◌, ◌≤◌, ◌==◌, if◌then◌else◌, List, length, Bool, true, false, None, IsSome, IfOk}
 use Rattle.rpm_outside.specs.Files.{Files}
 use Rattle.rpm_pkgdb.specs.Store.{Store, store}
 use Rattle.rpm_pkgdb.specs.Written.{made_new}
-use Rattle.rpm_db.specs.Changes.{Change}
+use Rattle.rpm_group.specs.Groups.{longest_log}
+use Rattle.rpm_db.specs.Changes.{Change, Says}
 use Rattle.rpm_db.specs.State.{State, state}
 use Rattle.rpm_change.specs.Limits.{next_stores}
 use Rattle.rpm_change.specs.Numbers.{AllHaveNumbers, AreSpent}
 use Rattle.rpm_change.specs.Steps.{Course}
 use Rattle.rpm_tool.specs.declared.answer.Why.{Why}
 use Rattle.rpm_tool.specs.declared.answer.Why.TheVariants as why
+use Rattle.rpm_tool.specs.Changing.{after}
 
 -- the store that the first change finds: where there is no database, one is made
 abbrev pub begun : Store → Store
@@ -52,6 +54,24 @@ pub record LimitsAre (s : State) (value : Store) (changes : List Change) (given 
 -- of a course, on files whose Packages.db isn't damaged
 abbrev pub LimitsOn : (State → Course) → Files → Why → Type 0
 LimitsOn course files given = IfOk (store files.pkg) (λ value. LimitsAre (state files.pkg value) (begun value) (course (state files.pkg value)).changes given)
+
+-- ---- the log
+
+-- a log of so many units is refused, which no log of a group that leaves these files is longer than
+abbrev pub LogIs : Files → Why → Type 0
+LogIs made (why.LogFull needed) = (2 ^ 28 < needed) × (needed ≤ longest_log made)
+LogIs made others = Unit {0}
+
+-- of a group that leaves this state
+abbrev pub IsTooLong : ℕ → State → Type 0
+IsTooLong needed s = (made : Files) × Says (λ t. t ≡ s) made.pkg × (2 ^ 28 < needed) × (needed ≤ longest_log made)
+
+-- of a course, on files whose Packages.db isn't damaged
+abbrev pub LogOn : (State → Course) → Files → Why → Type 0
+LogOn course files (why.LogFull needed) = IfOk (store files.pkg) (λ value. IsTooLong needed (after course (state files.pkg value)))
+LogOn course files others = Unit {0}
+
+-- ---- by its task
 
 -- of a command whose limits are told by their turns
 abbrev pub LimitsBy : Bool → (State → Course) → Files → Why → Type 0

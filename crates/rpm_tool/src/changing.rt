@@ -23,7 +23,7 @@ ghost use Rattle.rpm_tool.specs.Answers.{why_of_load, unless_starved, is_of_word
 ghost use Rattle.rpm_tool.specs.Keyed.{why_of_recover, is_done};
 ghost use Rattle.rpm_tool.specs.Changing.{DidOn, ChangesWith, EmptyBy, is_held};
 ghost use Rattle.rpm_tool.specs.Tasks.{task_parts, task_course, asked_task, asked_course, reads_shelf, is_anew, needs_none, IsCountable, has_turns};
-ghost use Rattle.rpm_tool.specs.Limits.{LimitsBy, LimitsOn, begun};
+ghost use Rattle.rpm_tool.specs.Limits.{LimitsBy, LimitsOn, begun, LogIs, LogOn};
 ghost use Rattle.rpm_tool.specs.Working.{OpensBy, IsOutside, IsOfOpening, Worked, WorkedWith, CommittedAs, EndsGroup, is_halt, is_of_commit, is_of_streams, done_why, why_of, why_of_open, why_of_halt};
 
 use crate::answer::Why;
@@ -260,6 +260,7 @@ fn commit_all<D: Disk>(overlay: Overlay<D>, tally: Tally) -> (Ending, D)
     requires closed { IsTrue D.tells → log_state (D.files (overlay_below overlay)).log ≡ Closed }
     ensures ends { IsTrue D.tells → EndsGroup D.files D.left_since D.moment (Ok tally) result.0.why result.0.changes
         (unlogged (laid_files (overlay_held overlay) (D.files (overlay_below overlay)))) (overlay_below overlay) result.1 }
+    ensures log { IsTrue D.tells → LogIs (laid_files (overlay_held overlay) (D.files (overlay_below overlay))) result.0.why }
     ensures kinds { is_of_commit result.0.why ≡ true }
     ensures counted { is_done result.0.why ≡ false → result.0.changes ≡ 0 }
     ensures goes_on { D.follows (overlay_below overlay) result.1 }
@@ -279,6 +280,7 @@ fn end_group<D: Disk>(overlay: Overlay<D>, ended: Result<Tally, Why>) -> (Ending
     requires closed { IsTrue D.tells → log_state (D.files (overlay_below overlay)).log ≡ Closed }
     ensures ends { IsTrue D.tells → EndsGroup D.files D.left_since D.moment ended result.0.why result.0.changes
         (unlogged (laid_files (overlay_held overlay) (D.files (overlay_below overlay)))) (overlay_below overlay) result.1 }
+    ensures log { IsTrue D.tells → LogIs (laid_files (overlay_held overlay) (D.files (overlay_below overlay))) result.0.why }
     ensures counted { is_done result.0.why ≡ false → result.0.changes ≡ 0 }
     ensures of_words { is_of_words result.0.why ≡ false }
     ensures kept { is_of_streams result.0.why ≡ true → ended ≡ Err result.0.why }
@@ -321,6 +323,8 @@ fn change_recovered<D: Disk, S: Shelf, O: Sink + Drop, E: Sink + Drop>(
     ensures empty { IsTrue D.tells → EmptyBy (needs_none (task_parts task.now)) (reopened (D.files disk)) result.0.why }
     ensures limits { IsTrue D.tells → (reads_shelf (task_parts task.now) ≡ true → IsTrue S.tells)
         → LimitsBy (has_turns (task_parts task.now)) (task_course (S.paths shelf.old) now (task_parts task.now)) (reopened (D.files disk)) result.0.why }
+    ensures log { IsTrue D.tells → (reads_shelf (task_parts task.now) ≡ true → IsTrue S.tells)
+        → LogOn (task_course (S.paths shelf.old) now (task_parts task.now)) (reopened (D.files disk)) result.0.why }
     ensures counted { is_done result.0.why ≡ false → result.0.changes ≡ 0 }
     ensures shelf_unread { reads_shelf (task_parts task.now) ≡ false → shelf.new ≡ shelf.old }
     ensures paths { IsTrue S.tells → S.paths shelf.new ≡ S.paths shelf.old }
@@ -379,6 +383,8 @@ fn change<D: Disk, S: Shelf, O: Sink + Drop, E: Sink + Drop>(
     ensures empty { IsTrue D.tells → EmptyBy (needs_none (task_parts task.now)) (reopened (D.files disk)) result.0.why }
     ensures limits { IsTrue D.tells → (reads_shelf (task_parts task.now) ≡ true → IsTrue S.tells)
         → LimitsBy (has_turns (task_parts task.now)) (task_course (S.paths shelf.old) now (task_parts task.now)) (reopened (D.files disk)) result.0.why }
+    ensures log { IsTrue D.tells → (reads_shelf (task_parts task.now) ≡ true → IsTrue S.tells)
+        → LogOn (task_course (S.paths shelf.old) now (task_parts task.now)) (reopened (D.files disk)) result.0.why }
     ensures counted { is_done result.0.why ≡ false → result.0.changes ≡ 0 }
     ensures shelf_unread { reads_shelf (task_parts task.now) ≡ false → shelf.new ≡ shelf.old }
     ensures paths { IsTrue S.tells → S.paths shelf.new ≡ S.paths shelf.old }
@@ -423,6 +429,8 @@ pub fn change_asked<D: Disk, S: Shelf, O: Sink + Drop, E: Sink + Drop>(
     ensures limits { IsTrue D.tells → (reads_shelf (asked_task words.now ask.now) ≡ true → IsTrue S.tells)
         → LimitsBy (has_turns (asked_task words.now ask.now)) (asked_course (S.paths shelf.old) now words.now ask.now) (reopened (D.files disk))
         result.0.why }
+    ensures log { IsTrue D.tells → (reads_shelf (asked_task words.now ask.now) ≡ true → IsTrue S.tells)
+        → LogOn (asked_course (S.paths shelf.old) now words.now ask.now) (reopened (D.files disk)) result.0.why }
     ensures counted { is_done result.0.why ≡ false → result.0.changes ≡ 0 }
     ensures shelf_unread { reads_shelf (asked_task words.now ask.now) ≡ false → shelf.new ≡ shelf.old }
     ensures paths { IsTrue S.tells → S.paths shelf.new ≡ S.paths shelf.old }

@@ -6,8 +6,9 @@ use Rattle.rpm_change.specs.Endings.{outputs}
 use Rattle.rpm_tool.specs.Changing.{EmptyBy}
 use Rattle.rpm_tool.specs.Tasks.{task_parts, task_course, needs_none, has_turns}
 use Rattle.rpm_tool.proofs.Emptied.{recover_empty}
-use Rattle.rpm_tool.specs.Limits.{LimitsBy}
+use Rattle.rpm_tool.specs.Limits.{LimitsBy, LogOn}
 use Rattle.rpm_tool.proofs.Limited.{limits_unrecovered}
+use Rattle.rpm_tool.proofs.Logged.{log_unrecovered}
 use Rattle.rpm_tool.proofs.Regrouped.{recovered_changes}
 use Rattle.rpm_tool.proofs.Unmade.{through_none, recovered_did, unrecovered_did, unrecovered_changes}
 use Rattle.rpm_tool.proofs.changing.change.Goals as goal
@@ -65,3 +66,14 @@ returns-in-Err-clause-limits g c = λ told shelf.
     rw (c.unchanged.ensures, c.why_of_recover.ensures)
     (limits_unrecovered (has_turns t) (task_course (g.S.Shelf.paths c.args.shelf.now) c.args.now t)
     (reopened (g.D.Disk.files c.args.disk)) c.in-Err.fault)
+
+pub returns-in-Ok-clause-log : goal.returns-in-Ok-clause-log
+returns-in-Ok-clause-log g c = λ told shelf.
+    subst (λ (f : Files). LogOn (task_course (g.S.Shelf.paths c.args.shelf.now) c.args.now (task_parts c.args.task.now)) f c.change_recovered.result.0.why)
+    (c.in-Ok.ensures.stands told) (c.change_recovered.ensures.log told shelf)
+
+pub returns-in-Err-clause-log : goal.returns-in-Err-clause-log
+returns-in-Err-clause-log g c = λ told shelf.
+    rw (c.unchanged.ensures, c.why_of_recover.ensures)
+    (log_unrecovered (task_course (g.S.Shelf.paths c.args.shelf.now) c.args.now (task_parts c.args.task.now)) (reopened (g.D.Disk.files c.args.disk))
+    c.in-Err.fault)

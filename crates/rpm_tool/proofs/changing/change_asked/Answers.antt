@@ -5,7 +5,7 @@ use Rattle.rpm_change.specs.Endings.{outputs}
 use Rattle.rpm_tool.specs.Changing.{DidOn, ChangesWith, EmptyBy}
 use Rattle.rpm_tool.specs.Tasks.{TaskParts, asked_task, asked_course, task_course, reads_shelf, is_anew, needs_none, has_turns}
 use Rattle.rpm_tool.proofs.Emptied.{memory_empty}
-use Rattle.rpm_tool.specs.Limits.{LimitsBy}
+use Rattle.rpm_tool.specs.Limits.{LimitsBy, LogOn}
 use Rattle.rpm_tool.proofs.Limited.{limits_starved}
 use Rattle.rpm_tool.proofs.Unstarted.{unstarted_did, unstarted_changes}
 use Rattle.rpm_tool.proofs.changing.change_asked.Goals as goal
@@ -58,3 +58,12 @@ pub returns-in-Err-clause-limits : goal.returns-in-Err-clause-limits
 returns-in-Err-clause-limits g c = λ told shelf.
     rw c.unchanged.ensures (limits_starved (has_turns (asked_task c.args.words.now c.args.ask.now))
     (asked_course (g.S.Shelf.paths c.args.shelf.now) c.args.now c.args.words.now c.args.ask.now) (reopened (g.D.Disk.files c.args.disk)))
+
+pub returns-in-Ok-clause-log : goal.returns-in-Ok-clause-log
+returns-in-Ok-clause-log g c = λ told shelf.
+    let same = c.in-Ok.ensures.asked in
+    subst (λ (t : TaskParts). LogOn (task_course (g.S.Shelf.paths c.args.shelf.now) c.args.now t) (reopened (g.D.Disk.files c.args.disk))
+    c.change.result.0.why) same (c.change.ensures.log told (λ reads. shelf (sym (ap reads_shelf same) ∙ reads)))
+
+pub returns-in-Err-clause-log : goal.returns-in-Err-clause-log
+returns-in-Err-clause-log g c = λ told shelf. rw c.unchanged.ensures tt

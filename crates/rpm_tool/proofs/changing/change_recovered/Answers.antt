@@ -1,6 +1,10 @@
-use Rattle.std.proofs.Common.{ap, subst, arith}
+use Rattle.std.proofs.Common.{ap, subst, arith, ◌≡◌, true, Result}
+use Rattle.std.specs.Prelude.{IfErr}
+use Rattle.rpm_change.specs.declared.tally.Tally.{Tally}
+use Rattle.rpm_tool.specs.declared.answer.Why.{Why}
 use Rattle.rpm_outside.specs.Buffered.{inner}
-use Rattle.rpm_outside.specs.Files.{Files}
+use Rattle.rpm_outside.specs.declared.disk.File.TheVariants.{Log}
+use Rattle.rpm_outside.specs.Files.{Files, with_file}
 use Rattle.rpm_outside.specs.Logs.{reopened}
 use Rattle.rpm_group.specs.Layers.{laid_files}
 use Rattle.rpm_group.specs.Overlay.{overlay_below, overlay_held, overlay_read}
@@ -8,12 +12,13 @@ use Rattle.rpm_db.specs.State.{State}
 use Rattle.rpm_change.specs.Steps.{Course}
 use Rattle.rpm_change.specs.Endings.{outputs}
 use Rattle.rpm_tool.specs.Tasks.{task_parts, task_course, is_anew, needs_none, has_turns}
-use Rattle.rpm_tool.specs.Working.{WorkedWith, why_of}
+use Rattle.rpm_tool.specs.Working.{WorkedWith, why_of, is_halt}
 use Rattle.rpm_tool.proofs.Emptied.{load_empty, group_empty, same_empty}
 use Rattle.rpm_tool.specs.Limits.{LimitsBy}
 use Rattle.rpm_tool.proofs.Grouped.{group_did, group_changes}
 use Rattle.rpm_tool.proofs.Ends.{below_same, below_back, below_moment, below_settled, below_closed}
 use Rattle.rpm_tool.proofs.Limited.{limits_grouped, limits_same, limits_unloaded}
+use Rattle.rpm_tool.proofs.Logged.{log_grouped, log_unloaded}
 use Rattle.rpm_tool.proofs.Unloaded.{unloaded_did, unloaded_changes}
 use Rattle.rpm_tool.proofs.changing.change_recovered.Goals as goal
 
@@ -121,3 +126,26 @@ returns-in-Err-clause-limits g c = λ told shelf.
     rw (c.unchanged.ensures, c.why_of_load.ensures)
     (limits_unloaded (has_turns t) (task_course (g.S.Shelf.paths c.args.shelf.now) c.args.now t)
     (reopened (g.D.Disk.files c.args.disk)) c.in-Err.refused.why)
+
+pub returns-in-Ok-clause-log : goal.returns-in-Ok-clause-log
+returns-in-Ok-clause-log g c = λ told shelf.
+    let D = g.D.Disk in
+    let end = c.change_on-ended.new.disk in
+    let new = laid_files (overlay_held end) (D.files (overlay_below end)) in
+    let t = task_parts c.args.task.now in
+    let ended = c.change_on-ended.result in
+    let course : State → Course = task_course (g.S.Shelf.paths c.args.shelf.now) c.args.now t in
+    let before = outputs g.O.Sink.tells (g.O.Sink.taken (inner c.args.out.now)) g.E.Sink.tells (g.E.Sink.taken (inner c.args.err.now)) in
+    let now = outputs g.O.Sink.tells (g.O.Sink.taken (inner c.change_on-ended.new.out)) g.E.Sink.tells (g.E.Sink.taken (inner c.change_on-ended.new.err)) in
+    let worked : WorkedWith (is_anew t) course (with_file Log (D.files c.args.disk).log (reopened (D.files c.args.disk))) new ended before now =
+    subst (λ (f : Files). WorkedWith (is_anew t) course f new ended before now) (c.in-Ok.ensures.files told) (c.change_on-ended.ensures.worked told shelf) in
+    log_grouped course (reopened (D.files c.args.disk)) new before now ended c.end_group.result.0.why c.end_group.result.0.changes
+    (c.end_group.ensures.ends told).says
+    (λ w is. subst (λ (e : Result Tally Why). IfErr e (λ w. is_halt w ≡ true)) is c.change_on-ended.ensures.halted) worked.went
+    (c.end_group.ensures.log told)
+
+pub returns-in-Err-clause-log : goal.returns-in-Err-clause-log
+returns-in-Err-clause-log g c = λ told shelf.
+    rw (c.unchanged.ensures, c.why_of_load.ensures)
+    (log_unloaded (task_course (g.S.Shelf.paths c.args.shelf.now) c.args.now (task_parts c.args.task.now)) (reopened (g.D.Disk.files c.args.disk))
+    c.in-Err.refused.why)

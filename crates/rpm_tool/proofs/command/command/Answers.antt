@@ -184,3 +184,16 @@ returns-in-Err-clause-limits g c = λ a tree asked is told shelf.
     let none = starved c.args.words.now (ask c.args.words.now) c.in-Err.why c.in-Err.ensures.undone a tree asked in
     rw none (limits_starved (has_turns (asked_task c.args.words.now a)) (asked_course (g.S.Shelf.paths c.args.shelf.now) c.args.now c.args.words.now a)
     (reopened (g.D.Disk.files c.args.disk)))
+
+pub returns-in-Ok-clause-log : goal.returns-in-Ok-clause-log
+unfolding asks
+returns-in-Ok-clause-log g c = λ a tree asked is told shelf.
+    let same = same_command (ask c.args.words.now) (asks_format c.args.words.now) c.in-Ok.ask a c.in-Ok.format tree c.in-Ok.ensures.ok.0
+    c.in-Ok.ensures.ok.1 asked in
+    rw (← same.0) (c.begin.ensures.log (ap is_changing same.0 ∙ is) told
+    (λ reads. shelf (sym (ap (λ (x : AskParts). reads_shelf (asked_task c.args.words.now x)) same.0) ∙ reads)))
+
+pub returns-in-Err-clause-log : goal.returns-in-Err-clause-log
+unfolding asks_format asks
+returns-in-Err-clause-log g c = λ a tree asked is told shelf.
+    let none = starved c.args.words.now (ask c.args.words.now) c.in-Err.why c.in-Err.ensures.undone a tree asked in rw none tt
