@@ -1,17 +1,16 @@
 -- One command line more: what the database stands for behind it, given what it stood for before.
-use Rattle.std.proofs.Common.{◌≡◌, ◌⊎◌, ℕ, Bool, true, false, Ok, refl, sym, ap, ◌∙◌, subst, inl, inr, ⊎_elim}
-use Rattle.std.specs.Prelude.{IfOk}
+use Rattle.std.proofs.Common.{◌≡◌, ◌⊎◌, ℕ, Bool, true, false, refl, sym, subst, inl, inr, ⊎_elim}
 use Rattle.rpm_outside.specs.Crash.{LeavesOnly}
 use Rattle.rpm_outside.specs.Files.{Units, Files}
 use Rattle.rpm_outside.specs.Logs.{reopened}
 use Rattle.rpm_outside.specs.inner.Moments.{leaves_weaker}
-use Rattle.rpm_pkgdb.specs.Store.{Store, store}
+use Rattle.rpm_pkgdb.specs.Store.{store}
 use Rattle.rpm_db.specs.Changes.{Says}
 use Rattle.rpm_db.specs.State.{State, state}
 use Rattle.rpm_change.specs.Steps.{Course}
 use Rattle.rpm_tool.specs.declared.answer.Why.{Why}
 use Rattle.rpm_tool.specs.declared.answer.Why.TheVariants as why
-use Rattle.rpm_tool.specs.Keyed.{IsLawfulGroup, AreLawfulGroups, StandsStill, is_done}
+use Rattle.rpm_tool.specs.Keyed.{AreLawfulGroups, StandsStill, is_done}
 use Rattle.rpm_tool.specs.Changing.{HasState, StandsStillOr, ChangesWith, after, is_done_or_fault}
 use Rattle.rpm_tool.specs.History.{Moves, StandsIn, AllStand}
 use Rattle.rpm_tool.proofs.Grouped.{if_ok_at}

@@ -1,5 +1,5 @@
 -- Command lines, and one more behind them.
-use Rattle.std.proofs.Common.{◌≡◌, ◌⊎◌, ℕ, List, [], ◌∷◌, ◌++◌, refl, sym, ap, ◌∙◌, subst, inl, inr, ⊎_elim}
+use Rattle.std.proofs.Common.{◌≡◌, ◌⊎◌, ℕ, List, [], ◌∷◌, ◌++◌, refl, ap, ◌∙◌, subst, inl, inr}
 use Rattle.rpm_outside.specs.Shelves.{Paths}
 use Rattle.rpm_db.specs.State.{State}
 use Rattle.rpm_tool.specs.History.{Call, Moves, Leads, Cuts, made_by}

@@ -1,5 +1,5 @@
 -- A command line more, by what `run` says of it.
-use Rattle.std.proofs.Common.{◌≡◌, ◌⊎◌, ℕ, Bool, true, false, List, [], ◌∷◌, ◌++◌, length, ◌<◌, get_or, refl, sym, ap, ◌∙◌, subst, inl, inr, arith}
+use Rattle.std.proofs.Common.{◌≡◌, ◌⊎◌, ℕ, Bool, true, false, List, [], ◌∷◌, ◌++◌, length, ◌<◌, get_or, refl, sym, ap, subst, inl, arith}
 use Rattle.std.specs.Prelude.{Option, Some, None, IsTrue, if◌then◌else◌}
 use Rattle.rpm_outside.specs.declared.disk.File.{File}
 use Rattle.rpm_outside.specs.Crash.{LeavesOnly}
@@ -8,7 +8,7 @@ use Rattle.rpm_outside.specs.Shelves.{Paths}
 use Rattle.rpm_db.specs.State.{State}
 use Rattle.rpm_words.specs.Ask.{AskParts}
 use Rattle.rpm_qfparse.specs.Tree.{Tree}
-use Rattle.rpm_change.specs.Steps.{Course, idle, apply_all}
+use Rattle.rpm_change.specs.Steps.{idle, apply_all}
 use Rattle.rpm_tool.specs.declared.answer.Outcome.{Outcome}
 use Rattle.rpm_tool.specs.declared.answer.Why.{Why}
 use Rattle.rpm_tool.specs.Answers.{Leaves}

@@ -14,7 +14,6 @@ use Rattle.rpm_change.specs.Endings.{outputs}
 use Rattle.rpm_tool.specs.Tasks.{task_parts, task_course, is_anew, needs_none, has_turns}
 use Rattle.rpm_tool.specs.Working.{WorkedWith, why_of, is_halt}
 use Rattle.rpm_tool.proofs.Emptied.{load_empty, group_empty, same_empty}
-use Rattle.rpm_tool.specs.Limits.{LimitsBy}
 use Rattle.rpm_tool.proofs.Grouped.{group_did, group_changes}
 use Rattle.rpm_tool.proofs.Ends.{below_same, below_back, below_moment, below_settled, below_closed}
 use Rattle.rpm_tool.proofs.Limited.{limits_grouped, limits_same, limits_unloaded}

@@ -1,4 +1,4 @@
-use Rattle.std.proofs.Common.{◌≡◌, ◌⊎◌, ℕ, List, [], ◌∷◌, ◌++◌, length, length-append, ◌+◌, get_or, refl, sym, ap, ◌∙◌, subst, arith}
+use Rattle.std.proofs.Common.{◌≡◌, ℕ, List, [], ◌∷◌, ◌++◌, length, length-append, ◌+◌, get_or, refl, sym, ap, ◌∙◌, subst, arith}
 use Rattle.std.specs.Prelude.{IsTrue}
 use Rattle.rpm_outside.specs.Crash.{LeavesOnly}
 use Rattle.rpm_outside.specs.Files.{Files}
@@ -7,7 +7,7 @@ use Rattle.rpm_outside.specs.inner.Moments.{started, leaves_then, leaves_weaker}
 use Rattle.rpm_db.specs.State.{State}
 use Rattle.rpm_tool.specs.Changing.{ChangesWith}
 use Rattle.rpm_tool.specs.Tasks.{asked_task, asked_course, is_anew}
-use Rattle.rpm_tool.specs.History.{Call, AllStand, StandsIn, Moves, Leads, Cuts, calls_of, made_by}
+use Rattle.rpm_tool.specs.History.{Call, AllStand, StandsIn, Leads, Cuts, calls_of}
 use Rattle.rpm_tool.proofs.Histories.{stands_weaker}
 use Rattle.rpm_tool.proofs.Leading.{leads_more, cuts_still, cuts_more}
 use Rattle.rpm_tool.proofs.Lined.{calls_more, line_both}
