@@ -320,7 +320,8 @@ pub fn run<D: Disk, S: Shelf, O: Sink, E: Sink>(
         → (reads_shelf (asked_task words.now a) ≡ true → IsTrue S.tells)
         → ChangesWith (is_anew (asked_task words.now a)) D.files D.left_since D.moment (asked_course (S.paths shelf.old) now words.now a)
         result.0.why result.0.changes disk result.1 }
-    // An exercise is refused with the least number exactly where it finds packages; no other command is.
+    // An exercise is refused with the least number exactly where it finds packages, and no other command is; only what keeps the database from
+    // being opened, a fault of the disk and want of memory come either way.
     ensures empty { (a : AskParts) (tree : Tree) → asks words.now ≡ Some (a, tree) → is_changing a ≡ true → IsTrue D.tells
         → EmptyBy (needs_none (asked_task words.now a)) (reopened (D.files disk)) result.0.why }
     ensures limits { (a : AskParts) (tree : Tree) → asks words.now ≡ Some (a, tree) → is_changing a ≡ true → IsTrue D.tells
