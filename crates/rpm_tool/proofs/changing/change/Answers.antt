@@ -17,16 +17,19 @@ pub returns-in-Ok-clause-went : goal.returns-in-Ok-clause-went
 returns-in-Ok-clause-went g c = λ told shelf.
     let D = g.D.Disk in
     let first = c.in-Ok.ensures in
-    recovered_did (task_course (g.S.Shelf.paths c.args.shelf.now) c.args.now (task_parts c.args.task.now)) (D.files c.args.disk) (D.files c.recover.new.disk) _ c.change_recovered.result.0.why
+    recovered_did (task_course (g.S.Shelf.paths c.args.shelf.now) c.args.now (task_parts c.args.task.now)) (D.files c.args.disk) (D.files c.recover.new.disk)
+    _ c.change_recovered.result.0.why
     (outputs g.O.Sink.tells (g.O.Sink.taken (inner c.args.out.now)) g.E.Sink.tells (g.E.Sink.taken (inner c.args.err.now)))
-    (outputs g.O.Sink.tells (g.O.Sink.taken (inner c.change_recovered.new.out)) g.E.Sink.tells (g.E.Sink.taken (inner c.change_recovered.new.err))) (first.says told) (first.closed told) (first.stands told)
+    (outputs g.O.Sink.tells (g.O.Sink.taken (inner c.change_recovered.new.out)) g.E.Sink.tells (g.E.Sink.taken (inner c.change_recovered.new.err)))
+    (first.says told) (first.closed told) (first.stands told)
     (c.change_recovered.ensures.went told shelf)
 
 pub returns-in-Ok-clause-changed : goal.returns-in-Ok-clause-changed
 returns-in-Ok-clause-changed g c = λ told shelf.
     let D = g.D.Disk in
     let first = c.in-Ok.ensures in
-    recovered_changes D.files D.left_since D.moment (task_course (g.S.Shelf.paths c.args.shelf.now) c.args.now (task_parts c.args.task.now)) c.change_recovered.result.0.why
+    recovered_changes D.files D.left_since D.moment (task_course (g.S.Shelf.paths c.args.shelf.now) c.args.now (task_parts c.args.task.now))
+    c.change_recovered.result.0.why
     c.change_recovered.result.0.changes c.args.disk c.recover.new.disk c.change_recovered.result.1 (g.met.D.Disk.as_read c.args.disk told) (first.stands told)
     (first.images told) (first.closed told) (first.settled told) (c.change_recovered.ensures.changed told shelf)
 
@@ -34,14 +37,16 @@ pub returns-in-Err-clause-went : goal.returns-in-Err-clause-went
 returns-in-Err-clause-went g c = λ told shelf.
     let x = outputs g.O.Sink.tells (g.O.Sink.taken (inner c.args.out.now)) g.E.Sink.tells (g.E.Sink.taken (inner c.args.err.now)) in
     rw (c.unchanged.ensures, c.why_of_recover.ensures)
-    (unrecovered_did (task_course (g.S.Shelf.paths c.args.shelf.now) c.args.now (task_parts c.args.task.now)) (g.D.Disk.files c.args.disk) c.in-Err.fault x x (c.in-Err.ensures.says told) (through_none x))
+    (unrecovered_did (task_course (g.S.Shelf.paths c.args.shelf.now) c.args.now (task_parts c.args.task.now)) (g.D.Disk.files c.args.disk) c.in-Err.fault x x
+    (c.in-Err.ensures.says told) (through_none x))
 
 pub returns-in-Err-clause-changed : goal.returns-in-Err-clause-changed
 returns-in-Err-clause-changed g c = λ told shelf.
     let D = g.D.Disk in
     let first = c.in-Err.ensures in
     rw (c.unchanged.ensures, c.why_of_recover.ensures)
-    (unrecovered_changes D.files D.left_since D.moment (task_course (g.S.Shelf.paths c.args.shelf.now) c.args.now (task_parts c.args.task.now)) c.args.disk c.recover.new.disk
+    (unrecovered_changes D.files D.left_since D.moment (task_course (g.S.Shelf.paths c.args.shelf.now) c.args.now (task_parts c.args.task.now)) c.args.disk
+    c.recover.new.disk
     (g.met.D.Disk.as_read c.args.disk told) (first.stands told) (first.images told) c.in-Err.fault (first.says told))
 
 pub returns-in-Ok-clause-empty : goal.returns-in-Ok-clause-empty

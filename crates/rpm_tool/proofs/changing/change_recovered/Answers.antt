@@ -47,7 +47,8 @@ returns-in-Ok-clause-went g c = λ told shelf.
     let now = outputs g.O.Sink.tells (g.O.Sink.taken (inner c.change_on-ended.new.out)) g.E.Sink.tells (g.E.Sink.taken (inner c.change_on-ended.new.err)) in
     group_did D.files D.left_since D.moment course ended c.end_group.result.0.why c.end_group.result.0.changes first last c.end_group.result.1 new before now
     (c.requires.closed told)
-    (subst (λ (f : Files). WorkedWith (is_anew (task_parts c.args.task.now)) course f new ended before now) (c.in-Ok.ensures.files told) (c.change_on-ended.ensures.worked told shelf))
+    (subst (λ (f : Files). WorkedWith (is_anew (task_parts c.args.task.now)) course f new ended before now) (c.in-Ok.ensures.files told)
+    (c.change_on-ended.ensures.worked told shelf))
     (c.end_group.ensures.ends told)
 
 pub returns-in-Ok-clause-changed : goal.returns-in-Ok-clause-changed
@@ -71,7 +72,8 @@ returns-in-Ok-clause-changed g c = λ told shelf.
     let ends = c.end_group.ensures.ends told in
     group_changes D.files D.left_since D.moment course ended c.end_group.result.0.why c.end_group.result.0.changes first last final new before now
     (c.requires.closed told)
-    (subst (λ (f : Files). WorkedWith (is_anew (task_parts c.args.task.now)) course f new ended before now) (c.in-Ok.ensures.files told) (c.change_on-ended.ensures.worked told shelf))
+    (subst (λ (f : Files). WorkedWith (is_anew (task_parts c.args.task.now)) course f new ended before now) (c.in-Ok.ensures.files told)
+    (c.change_on-ended.ensures.worked told shelf))
     ends
     (below_same D.tells D.files D.left_since D.moment D.bytes_read D.follows D.faults first mid last ro rn looks keeps told)
     (g.met.D.Disk.as_read first told) (c.requires.settled told)
@@ -83,7 +85,8 @@ pub returns-in-Err-clause-went : goal.returns-in-Err-clause-went
 returns-in-Err-clause-went g c = λ told shelf.
     let D = g.D.Disk in
     rw (c.unchanged.ensures, c.why_of_load.ensures)
-    (unloaded_did D.tells D.files D.left_since D.moment D.bytes_read D.follows (task_course (g.S.Shelf.paths c.args.shelf.now) c.args.now (task_parts c.args.task.now)) c.args.disk c.in-Err.refused.disk
+    (unloaded_did D.tells D.files D.left_since D.moment D.bytes_read D.follows (task_course (g.S.Shelf.paths c.args.shelf.now) c.args.now (task_parts
+    c.args.task.now)) c.args.disk c.in-Err.refused.disk
     c.in-Err.ensures.looks told (c.requires.closed told) (c.requires.settled told) c.in-Err.refused.why (c.in-Err.ensures.says told)
     (outputs g.O.Sink.tells (g.O.Sink.taken (inner c.args.out.now)) g.E.Sink.tells (g.E.Sink.taken (inner c.args.err.now))))
 
@@ -91,9 +94,11 @@ pub returns-in-Err-clause-changed : goal.returns-in-Err-clause-changed
 returns-in-Err-clause-changed g c = λ told shelf.
     let D = g.D.Disk in
     rw (c.unchanged.ensures, c.why_of_load.ensures)
-    (unloaded_changes D.tells D.files D.left_since D.moment D.bytes_read D.follows (task_course (g.S.Shelf.paths c.args.shelf.now) c.args.now (task_parts c.args.task.now)) c.args.disk c.in-Err.refused.disk
+    (unloaded_changes D.tells D.files D.left_since D.moment D.bytes_read D.follows (task_course (g.S.Shelf.paths c.args.shelf.now) c.args.now (task_parts
+    c.args.task.now)) c.args.disk c.in-Err.refused.disk
     c.in-Err.ensures.looks told (c.requires.closed told) (c.requires.settled told) c.in-Err.refused.why (c.in-Err.ensures.says told)
-    (outputs g.O.Sink.tells (g.O.Sink.taken (inner c.args.out.now)) g.E.Sink.tells (g.E.Sink.taken (inner c.args.err.now))) (g.met.D.Disk.as_read c.args.disk told)
+    (outputs g.O.Sink.tells (g.O.Sink.taken (inner c.args.out.now)) g.E.Sink.tells (g.E.Sink.taken (inner c.args.err.now))) (g.met.D.Disk.as_read c.args.disk
+    told)
     (g.met.D.Disk.as_read c.in-Err.refused.disk told))
 
 pub returns-in-Ok-clause-empty : goal.returns-in-Ok-clause-empty

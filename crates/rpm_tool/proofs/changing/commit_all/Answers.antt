@@ -18,7 +18,8 @@ returns-clause-ends g c = λ told.
     let below = overlay_below c.args.overlay in
     let done = c.commit-disk.ensures in
     commit_ends g.D.Disk.files g.D.Disk.left_since g.D.Disk.moment g.D.Disk.bytes_read (unlogged (laid_files (overlay_held c.args.overlay)
-    (g.D.Disk.files below))) below c.commit-disk.result.0 (c.requires.settled told) (c.requires.closed told) g.D.Disk.tells told c.args.tally c.commit-disk.result.1 c.committed.result.why c.committed.result.changes
+    (g.D.Disk.files below))) below c.commit-disk.result.0 (c.requires.settled told) (c.requires.closed told) g.D.Disk.tells told c.args.tally
+    c.commit-disk.result.1 c.committed.result.why c.committed.result.changes
     (needed (overlay_held c.args.overlay)) c.committed.ensures.says done.files done.closed done.settled done.says
     done.unwritten (done.images told)
 

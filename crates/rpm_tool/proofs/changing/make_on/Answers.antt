@@ -11,7 +11,8 @@ returns-clause-worked g c = λ told out_tells err_tells out err.
     let x = outputs out_tells out err_tells err in
     let old = g.D.Disk.files c.args.disk.now in
     let new = g.D.Disk.files c.open_to_change.new.disk in
-    done_worked (λ s. idle) old new new c.in-Ok.db c.in-Ok.db x x (record { failed = 0; changes = 0 }) (c.in-Ok.ensures.opened told) (c.in-Ok.ensures.serving told).keeps
+    done_worked (λ s. idle) old new new c.in-Ok.db c.in-Ok.db x x (record { failed = 0; changes = 0 }) (c.in-Ok.ensures.opened told) (c.in-Ok.ensures.serving
+    told).keeps
     (record { steps = through_none x; failed = refl; changes = refl; state_is = refl }) (λ lawful. tt) (c.in-Ok.ensures.rows told)
 
 pub returns-in-Err-clause-worked : goal.returns-in-Err-clause-worked

@@ -23,7 +23,8 @@ loop-words-init g c =
       room = c.in-Ok.ensures.exact;
       paths = λ told. refl;
       leads = λ told shelf s start image left. rw none (start image left);
-      cuts = λ told shelf s start. rw none (started D.moment D.left_since c.args.disk (StandsIn (Cuts (g.S.Shelf.paths c.args.shelf.now) c.args.now [] s)) start);
+      cuts = λ told shelf s start. rw none (started D.moment D.left_since c.args.disk (StandsIn (Cuts (g.S.Shelf.paths c.args.shelf.now) c.args.now [] s))
+          start);
     }
 
 pub push_reserved-requires : goal.push_reserved-requires
@@ -49,7 +50,8 @@ loop-words-preserved g c =
     (ap (λ (k : ℕ). get_or lines k words) inv.count ∙ sym item) in
     let then_is : calls_of lines c.push_reserved.new.self.items ≡ before ++ call ∷ [] =
     ap (calls_of lines) c.push_reserved.ensures.items ∙ more in
-    let both = λ (told : IsTrue D.tells) (shelf : IsTrue g.S.Shelf.tells) (s : State) (start : AllStand (λ t. t ≡ s) (D.left_since c.args.disk (D.moment c.args.disk))).
+    let both = λ (told : IsTrue D.tells) (shelf : IsTrue g.S.Shelf.tells) (s : State) (start : AllStand (λ t. t ≡ s) (D.left_since c.args.disk (D.moment
+    c.args.disk))).
     line_both D.tells D.files D.left_since D.moment D.bytes_read D.follows told paths now words c.run-left.result.0.why c.run-left.result.0.changes mid
     new (Leads paths now before s) (inv.leads told shelf s start) (g.met.D.Disk.as_read mid told) (λ none. (ran.unread none).0) ran.looks
     (λ a tree asked keyed. ran.stops a tree asked keyed told)
