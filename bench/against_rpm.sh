@@ -1,7 +1,7 @@
 #!/bin/sh
 # Instructions of this program and of the distribution's own rpm, on the same commands over the same packages.
 #
-#   bench/against_rpm.sh PROGRAM [COUNT..]     COUNT packages, 1000 and 10000 where none is given
+#   bench/against_rpm.sh PROGRAM [COUNT..]     COUNT packages, 500 at least; 1000 and 10000 where none is given
 #
 # PROGRAM is crates/rpm_prog/out/rpm_prog (made by `rt run` there). Wants rpm, valgrind and python3 (Debian: apt-get install rpm valgrind).
 # One list of headers is made and imported into both databases. Questions by key are asked of an index that is there. The package that is
@@ -20,47 +20,57 @@ quietly='--nodeps --noscripts --notriggers'
 folder=$(mktemp -d)
 trap 'rm -rf "$folder"' EXIT
 
-# Instructions of a command, as callgrind counts them.
-instructions() {
-    valgrind --tool=callgrind --callgrind-out-file=/dev/null "$@" 2>&1 > /dev/null | awk '/Collected/ { print $4 }'
+# Instructions of a command, as callgrind counts them, and its seconds, on a copy of the database that it is then run on: FOLDER WORDS..
+input=/dev/null
+measured() {
+    base=$1
+    shift
+    cp -r "$base" "$folder/copy"
+    begin=$(date +%s%N)
+    "$@" --dbpath "$folder/copy" < $input > /dev/null 2>&1
+    end=$(date +%s%N)
+    rm -rf "$folder/copy"
+    counted=$(valgrind --tool=callgrind --callgrind-out-file=/dev/null "$@" --dbpath "$base" < $input 2>&1 > /dev/null | awk '/Collected/ { print $4 }')
+    echo "$counted $((end - begin))"
 }
 
-# A line of the table: what is done, and the instructions of rpm and ours.
+# A line of the table: what is done, and what was measured of rpm and of this program.
 line() {
-    awk -v name="$1" -v count="$packages" -v theirs="$2" -v ours="$3" \
-        'BEGIN { printf "| %s | %d | %.1f | %.1f | %.2f |\n", name, count, theirs / 1e6, ours / 1e6, ours / theirs }'
+    echo "$2 $3" | awk -v name="$1" -v count="$packages" '{
+        printf "| %s | %d | %.1f | %.1f | %.3f | %.3f | %.3f |\n", name, count, $1 / 1e6, $3 / 1e6, $3 / $1, $2 / 1e9, $4 / 1e9 }'
 }
 
-# A line of a question that both are asked in the same words.
+# A line of what both are asked in the same words.
 row() {
-    line "$1" "$(instructions $2 --dbpath "$folder/theirs")" "$(instructions "$program" $2 --dbpath "$folder/ours")"
+    line "$1" "$(measured "$folder/theirs" $2)" "$(measured "$folder/ours" "$program" $2)"
 }
 
 rpm --version
-echo '| Command | Packages | rpm, million instructions | ours | ours / rpm |'
-echo '|---|---|---|---|---|'
+echo '| Command | Packages | rpm, million instructions | ours | ours / rpm | rpm, seconds | ours |'
+echo '|---|---|---|---|---|---|---|'
 for packages in "$@"; do
     mkdir "$folder/theirs" "$folder/ours"
     python3 "$here/make_database.py" --states "$packages" "$folder/ours" "$folder/list"
     rm "$folder/ours/Packages.db"
     rpmdb --dbpath "$folder/theirs" --initdb
     "$program" rpmdb --dbpath "$folder/ours" --initdb
-    line import "$(instructions rpmdb --dbpath "$folder/theirs" --importdb < "$folder/list")" \
-        "$(instructions "$program" rpmdb --dbpath "$folder/ours" --importdb < "$folder/list")"
+    input=$folder/list
+    row import 'rpmdb --importdb'
+    input=/dev/null
     row '`-qa`' 'rpm -qa'
     row '`-qa` by a pattern' 'rpm -qa package50*'
     row 'all files' 'rpm -qa --qf [%{FILENAMES}\n]'
-    row 'by number' 'rpm -q --querybynumber 500'
-    row 'by label' 'rpm -q package500'
-    row 'by capability' 'rpm -q --whatprovides lib500.so.1'
-    row 'by a file that each has' 'rpm -q --whatprovides /usr/lib64/file3.so'
-    row 'export' 'rpmdb --exportdb'
-    row 'verify' 'rpmdb --verifydb'
+    row '`-q --querybynumber`' 'rpm -q --querybynumber 500'
+    row '`-q NAME`' 'rpm -q package500'
+    row '`-q --whatprovides`' 'rpm -q --whatprovides lib500.so.1'
+    row '`-qf`, a file of each' 'rpm -qf /usr/lib64/file3.so'
+    row export 'rpmdb --exportdb'
+    row verify 'rpmdb --verifydb'
     python3 "$here/make_package.py" 1000000 "$folder/added.rpm"
-    line 'one added' "$(instructions rpm --dbpath "$folder/theirs" -i --justdb $quietly --nodigest --nosignature "$folder/added.rpm")" \
-        "$(instructions "$program" rpm --dbpath "$folder/ours" --addpkg "$folder/added.rpm")"
-    line 'one erased' "$(instructions rpm --dbpath "$folder/theirs" -e --justdb $quietly package1000000)" \
-        "$(instructions "$program" rpm --dbpath "$folder/ours" --erasepkg $((packages + 1)))"
-    line rebuild "$(instructions rpmdb --dbpath "$folder/theirs" --rebuilddb)" "$(instructions "$program" rpmdb --dbpath "$folder/ours" --rebuilddb)"
+    line 'one added' "$(measured "$folder/theirs" rpm -i --justdb $quietly --nodigest --nosignature "$folder/added.rpm")" \
+        "$(measured "$folder/ours" "$program" rpm --addpkg "$folder/added.rpm")"
+    line 'one erased' "$(measured "$folder/theirs" rpm -e --justdb $quietly package1000000)" \
+        "$(measured "$folder/ours" "$program" rpm --erasepkg $((packages + 1)))"
+    row rebuild 'rpmdb --rebuilddb'
     rm -rf "$folder/theirs" "$folder/ours"
 done
