@@ -1,17 +1,17 @@
 -- Keys of a memo that the order doesn't tell apart are one requirement.
-use Rattle.std.proofs.Common.{◌≡◌, Bool, true, cond, Some, refl, sym, ap, ◌∙◌, subst, inl, inr}
+use Rattle.std.proofs.Common.{◌≡◌, Bool, true, cond, Some, None, Bor, refl, sym, ap, ◌∙◌, subst, inl, inr}
 use Rattle.std.specs.Prelude.{Option, IfSome}
 use Rattle.std.specs.declared.cmp.Ordering.{Ordering}
 use Rattle.std.specs.declared.cmp.Ordering.TheVariants.{Less, Equal, Greater}
-use Rattle.std.specs.BTreeMap.{get, is_at, Updates}
+use Rattle.std.specs.BTreeMap.{BTreeMap, get, is_at, Updates}
+use Rattle.std.specs.Option.{option_copied}
 use Rattle.std.specs.Ordering.{ordering_then, is_eq, nat_cmp}
 use Rattle.std.specs.Cmp.Lexicographic.{slice_cmp}
 use Rattle.std.proofs.lemmas.Bool.{cases_Bool}
 use Rattle.std.proofs.lemmas.Map.Lookups.{exact_bytes, exact_unsigned}
 use Rattle.rpm_tags.specs.Wanted.{Needed}
 use Rattle.rpm_check.specs.declared.memo.Requirement.{Requirement}
-use Rattle.rpm_check.specs.declared.memo.Memo.{Memo}
-use Rattle.rpm_check.specs.inner.Memos.{need_of, key_order, Remembers}
+use Rattle.rpm_check.specs.inner.Memos.{need_of, key_order}
 
 equal_if : (o : Ordering) → is_eq o ≡ true → o ≡ Equal
 equal_if Less is = absurd cc
@@ -34,14 +34,21 @@ same_need a b is =
       version = exact_bytes a.version.items b.version.items second.1 i;
     }
 
--- what is noted is remembered, and the rest stays
-pub remembers_more : (so : Needed → Bool) (m n : Memo) (key : Requirement) (b : Bool) → Updates key_order m.answers n.answers key (Some b)
-    → b ≡ so (need_of key) → Remembers so m → Remembers so n
-remembers_more so m n key b updates is old = λ q.
-    let P : Option Bool → Type 0 = λ o. IfSome o (λ known. known ≡ so (need_of q)) in
+-- what is noted of a key is known of it, and the rest stays
+pub known_more : {X Y : Type 0} (see : X → Y) (so : Needed → Y) (m n : BTreeMap Requirement X) (key : Requirement) (x : X)
+    → Updates key_order m n key (Some x) → see x ≡ so (need_of key)
+    → ((q : Requirement) → IfSome (get key_order m q) (λ known. see known ≡ so (need_of q)))
+    → (q : Requirement) → IfSome (get key_order n q) (λ known. see known ≡ so (need_of q))
+known_more {X} see so m n key x updates is old q =
+    let P : Option X → Type 0 = λ o. IfSome o (λ known. see known ≡ so (need_of q)) in
     elim (cases_Bool (is_at (key_order key) q)) [
       | inl same ↦
-          (let found : get key_order n.answers q ≡ Some b = updates.0 q ∙ ap (λ (t : Bool). cond t (Some b) (get key_order m.answers q)) same in
+          (let found : get key_order n q ≡ Some x = updates.0 q ∙ ap (λ (t : Bool). cond t (Some x) (get key_order m q)) same in
           subst P (sym found) (is ∙ ap so (same_need key q (equal_if (key_order key q) same))))
       | inr other ↦ subst P (sym (updates.2 q other)) (old q)
     ]
+
+-- what is known of a copy
+pub from_copied : {X : Type 0} (P : X → Type 0) (o : Option (Bor X)) (m : Option X) → option_copied o ≡ m → IfSome m P → IfSome o (λ b. P b.now)
+from_copied P None m is known = tt
+from_copied {X} P (Some b) m is known = subst (λ (x : Option X). IfSome x P) (sym is) known

@@ -1,7 +1,15 @@
+pub mod Above
+pub mod Ending
 pub mod Faulting
+pub mod Gaining
 pub mod Glancing
+pub mod Joining
 pub mod Keys
+pub mod Members
+pub mod Needing
+pub mod Numbering
 pub mod Picking
 pub mod Placing
 pub mod Providing
 pub mod Rounding
+pub mod Turning

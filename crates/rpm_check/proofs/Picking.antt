@@ -1,5 +1,5 @@
 -- Whether a selection picks a package.
-use Rattle.std.proofs.Common.{◌≡◌, ℕ, List, [], ◌∷◌, Bool, false, ◌||◌, Option, Some, None, is_some, Ok, refl, sym, ap, ◌∙◌, nat_lt, inl, inr}
+use Rattle.std.proofs.Common.{◌≡◌, ℕ, List, [], ◌∷◌, Bool, false, cond, ◌||◌, Option, Some, None, is_some, Ok, refl, sym, ap, ◌∙◌, nat_lt, inl, inr}
 use Rattle.std.specs.List.{filter, list_any}
 use Rattle.std.specs.FinMap as finite
 use Rattle.std.proofs.lemmas.Bool.{cases_Bool}
@@ -57,3 +57,7 @@ is_some_of-filter p (x ∷ xs) = elim (cases_Bool (p x)) [
 pub list_any_same : {X : Type 0} (p q : X → Bool) → ((x : X) → p x ≡ q x) → (xs : List X) → list_any p xs ≡ list_any q xs
 list_any_same p q same [] = refl
 list_any_same p q same (x ∷ xs) = λ i. same x i || list_any_same p q same xs i
+
+pub filter_same : {X : Type 0} (p q : X → Bool) → ((x : X) → p x ≡ q x) → (xs : List X) → filter p xs ≡ filter q xs
+filter_same p q same [] = refl
+filter_same p q same (x ∷ xs) = λ i. cond (same x i) (x ∷ filter_same p q same xs i) (filter_same p q same xs i)

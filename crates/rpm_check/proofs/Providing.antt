@@ -1,5 +1,5 @@
 -- A requirement is met where its capability is provided.
-use Rattle.std.proofs.Common.{◌≡◌, ℕ, List, ◌==◌, ◌||◌, Ok, Err, refl, ◌∙◌}
+use Rattle.std.proofs.Common.{◌≡◌, ℕ, List, map, ◌==◌, ◌||◌, Ok, Err, refl, ap, ◌∙◌}
 use Rattle.std.specs.Prelude.{◌&&◌, Result, slice_index}
 use Rattle.std.specs.Ordering.{nat_cmp}
 use Rattle.std.specs.Str.{bytes_eq}
@@ -13,9 +13,10 @@ use Rattle.rpm_db.specs.State.{Package, Good, Bad}
 use Rattle.rpm_select.specs.declared.selection.Selection.TheVariants.{Provides}
 use Rattle.rpm_select.specs.Selections as select
 use Rattle.rpm_select.specs.Selections.{is_picked, takes_header, takes_read, picks}
+use Rattle.rpm_check.specs.Edges.{givers}
 use Rattle.rpm_check.specs.Unmet.{answers, is_file_of, provided, gives, read_gives, meets, is_met}
 use Rattle.rpm_check.specs.inner.Picking.{is_some_of}
-use Rattle.rpm_check.proofs.Picking.{is_some_of-filter, list_any_same}
+use Rattle.rpm_check.proofs.Picking.{is_some_of-filter, list_any_same, filter_same}
 
 -- a capability stands for a requirement
 pub record StandsFor (c : CapabilityParts) (need : Needed) : Type 0 where
@@ -47,3 +48,8 @@ module _ (c : CapabilityParts) (need : Needed) (stands : StandsFor c need) where
   met_is packages =
       is_some_of-filter (is_picked (Provides c)) (entries packages)
       ∙ list_any_same (is_picked (Provides c)) (meets need) same_package (entries packages)
+
+  -- and of the packages that meet it
+  pub givers_are : (packages : FinMap nat_cmp Package) → map (λ e. e.0) (picks packages (Provides c)) ≡ givers packages need
+  unfolding picks givers
+  givers_are packages = ap (map (λ e. e.0)) (filter_same (is_picked (Provides c)) (meets need) same_package (entries packages))

@@ -1,5 +1,7 @@
 -- What the crate's own calls say to each other: nothing that a reader of its public calls has to believe.
+pub mod Ends
 pub mod Faults
+pub mod GiverMemos
 pub mod Memos
 pub mod Needs
 pub mod Picking

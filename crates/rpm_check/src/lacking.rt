@@ -20,7 +20,7 @@ use rpm_outside::Disk;
 use rpm_tags::{Dependency, Tags, dependencies, numbers, texts_in};
 use std::alloc::Global;
 
-const REQUIRES: Tags = Tags {
+pub const REQUIRES: Tags = Tags {
     names: numbers::REQUIRENAME,
     flags: numbers::REQUIREFLAGS,
     versions: numbers::REQUIREVERSION,

@@ -1,16 +1,23 @@
-//! Which requirements of the packages no package meets.
+//! Which requirements of the packages no package meets, and which packages require which.
 #![tactic(auto)]
 
+mod edges;
+mod ends;
 mod faults;
+mod giver_memo;
+mod giving;
 mod lacking;
 mod list;
 mod meeting;
 mod memo;
+mod reading;
 mod report;
 #[cfg(test)]
 mod tests;
 
 pub use faults::CheckFault;
+pub use giving::givers;
 pub use list::{Unmet, UnmetList};
 pub use meeting::is_met;
+pub use reading::read_graph;
 pub use report::unmet;

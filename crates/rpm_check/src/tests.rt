@@ -1,7 +1,7 @@
 ghost use Rattle.std.specs.Prelude.{◌≡◌, IsTrue, IfSome, false};
 ghost use Rattle.rpm_db.specs.Database.{Keeps, KeepsIndex, holds};
 
-use crate::unmet;
+use crate::{read_graph, unmet};
 use rpm_db::Db;
 use rpm_outside::{Disk, MemDisk};
 use std::alloc::{AllocError, Global};
@@ -253,5 +253,50 @@ fn requirements_are_unmet(rt: HostRuntime) -> Result<(), AllocError> {
 fn a_blank_database_lacks_nothing(rt: HostRuntime) -> Result<(), AllocError> {
     let none = are_unmet(rt.alloc(), &[], &[], true)?;
     assert!(rt; none);
+    Ok(())
+}
+
+// Whether the graph of a file has exactly these numbers and edges.
+fn is_graph(
+    alloc: Global,
+    file: &[u8],
+    numbers: &[u32],
+    edges: &[(u32, u32)],
+    is_indexed: bool,
+) -> Result<bool, AllocError> {
+    let mut disk = MemDisk::new(alloc, file, &[], &[])?;
+    let Some(db) = opened(alloc, &mut disk, is_indexed) else {
+        return Err(AllocError);
+    };
+    let Ok(graph) = read_graph(alloc, &db, &mut disk) else {
+        return Err(AllocError);
+    };
+    let found = graph.edges();
+    if graph.numbers() != numbers || found.len() != edges.len() {
+        return Ok(false);
+    }
+    for (one, (from, to)) in found.iter().zip(edges) {
+        if one.from != *from || one.to != *to {
+            return Ok(false);
+        }
+    }
+    Ok(true)
+}
+
+#[test]
+fn packages_require_each_other(rt: HostRuntime) -> Result<(), AllocError> {
+    let table: [(&[u8], &[u32], &[(u32, u32)]); 4] = [
+        (b"", &[], &[]),
+        (b"321", &[1, 2, 3], &[(2, 1), (3, 2)]),
+        (b"1x2", &[1, 3], &[(1, 3)]),
+        // a path, a range that one of two has, a name that both have, its own
+        (b"bnel", &[1, 2, 3, 4], &[(2, 1), (2, 3), (2, 4)]),
+    ];
+    for (letters, numbers, edges) in table {
+        let file = store_of(rt.alloc(), letters)?;
+        let unindexed = is_graph(rt.alloc(), &file, numbers, edges, false)?;
+        let indexed = is_graph(rt.alloc(), &file, numbers, edges, true)?;
+        assert!(rt; unindexed && indexed, "{letters:?}");
+    }
     Ok(())
 }

@@ -1,10 +1,10 @@
 -- From places and their classes to the classes of a graph's numbers.
-use Rattle.std.proofs.Common.{◌≡◌, ℕ, ◌+◌, ◌≤◌, ◌<◌, ◌⊎◌, List, [], ◌∷◌, length, get_or, map, inl, inr, refl, sym, ap, subst, ◌∙◌, arith}
+use Rattle.std.proofs.Common.{◌≡◌, ℕ, ◌≤◌, ◌<◌, List, [], ◌∷◌, length, get_or, map, inl, inr, sym, ap, subst, ◌∙◌, arith}
 use Rattle.std.specs.List.{Contains}
 use Rattle.std.proofs.lemmas.Bool.{cases_lt}
 use Rattle.std.proofs.lemmas.List.{get_or_default}
 use Rattle.rpm_graph.specs.declared.graph.Edge.{Edge}
-use Rattle.rpm_graph.specs.Networks.{Network, IsNetwork, HasEdge, IsWalk, Leads, AreTogether, edge, edge_at}
+use Rattle.rpm_graph.specs.Networks.{Network, IsNetwork, HasEdge, IsWalk, AreTogether, edge, edge_at}
 use Rattle.rpm_graph.specs.Orders.{IsClass}
 use Rattle.rpm_graph.specs.Rows.{HaveEdges, HaveMembers}
 use Rattle.rpm_graph.specs.Searches.{Goes, IsSplit}
@@ -14,7 +14,7 @@ module _ (g : Network) (net : IsNetwork g) (rows : List (List ℕ)) (have : Have
   abbrev number : ℕ → ℕ
   number v = get_or g.numbers v 0
 
-  same_place : (v w : ℕ) → v < length g.numbers → w < length g.numbers → number v ≡ number w → v ≡ w
+  pub same_place : (v w : ℕ) → v < length g.numbers → w < length g.numbers → number v ≡ number w → v ≡ w
   same_place v w v_in w_in is = elim (cases_lt v w) [
     | inl less ↦ absurd (omega (arith, net.numbers v w less w_in, is))
     | inr behind ↦ elim (cases_lt w v) [
@@ -23,16 +23,21 @@ module _ (g : Network) (net : IsNetwork g) (rows : List (List ℕ)) (have : Have
     ]
   ]
 
-  -- an edge ends at a place, whose class is no higher
-  edge_falls : (v m : ℕ) → v < length g.numbers → HasEdge g (number v) m
-      → (w : ℕ) × (w < length g.numbers) × (number w ≡ m) × (get_or classes w 0 ≤ get_or classes v 0)
-  edge_falls v m v_in (k, lt, is) =
+  -- an edge ends at a place that the row of its number has
+  pub edge_row : (v m : ℕ) → v < length g.numbers → HasEdge g (number v) m → (w : ℕ) × (w < length g.numbers) × (number w ≡ m) × Goes rows v w
+  edge_row v m v_in (k, lt, is) =
       let at : edge_at g.edges k ≡ edge (number v) m = get_or_default g.edges k (edge 0 0) (edge (number v) m) lt ∙ is in
       let found = have.there k lt in
       let begins : found.0 ≡ v = same_place found.0 v found.2 v_in (found.3 ∙ ap (λ (e : Edge). e.from) at) in
       let inside : found.1 < length g.numbers = omega (arith, have.within found.0 found.1 found.5, have.sized) in
-      let falls = split.falls found.0 found.1 (omega (arith, found.2, have.sized)) found.5 in
-      (found.1, inside, found.4 ∙ ap (λ (e : Edge). e.to) at, omega (arith, falls, ap (λ x. get_or classes x 0) begins))
+      (found.1, inside, found.4 ∙ ap (λ (e : Edge). e.to) at, subst (λ x. Goes rows x found.1) begins found.5)
+
+  -- its class is no higher
+  edge_falls : (v m : ℕ) → v < length g.numbers → HasEdge g (number v) m
+      → (w : ℕ) × (w < length g.numbers) × (number w ≡ m) × (get_or classes w 0 ≤ get_or classes v 0)
+  edge_falls v m v_in edge =
+      let at = edge_row v m v_in edge in
+      (at.0, at.1, at.2, split.falls v at.0 (omega (arith, v_in, have.sized)) at.3)
 
   walk_falls : (v w : ℕ) (walk : List ℕ) → v < length g.numbers → w < length g.numbers → IsWalk (HasEdge g) (number v) walk (number w)
       → get_or classes w 0 ≤ get_or classes v 0

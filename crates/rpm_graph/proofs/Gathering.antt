@@ -1,8 +1,8 @@
 -- One more number in the list of its class, and one more end in the row of a class.
-use Rattle.std.proofs.Common.{◌≡◌, ℕ, ◌+◌, ◌≤◌, ◌<◌, ◌++◌, ◌⊎◌, List, [], ◌∷◌, length, get_or, set, inl, inr, refl, sym, ap, subst, ◌∙◌, arith}
-use Rattle.std.specs.List.{Contains, All}
+use Rattle.std.proofs.Common.{◌≡◌, ℕ, ◌+◌, ◌<◌, ◌++◌, ◌⊎◌, List, [], ◌∷◌, length, get_or, inl, inr, refl, sym, ap, subst, ◌∙◌, arith}
+use Rattle.std.specs.List.{Contains}
 use Rattle.std.proofs.lemmas.Bool.{cases_lt, cases_eq}
-use Rattle.std.proofs.lemmas.List.{length-set, get_or_default}
+use Rattle.std.proofs.lemmas.List.{length-set}
 use Rattle.std.proofs.lemmas.List.Elements.{Contains-get_or}
 use Rattle.rpm_graph.specs.Networks.{IsRising}
 use Rattle.rpm_graph.specs.Rows.{HaveMembers, GainEnds, with_link}
@@ -12,7 +12,8 @@ use Rattle.rpm_graph.proofs.Rowing.{goes_new, goes_kept, goes_only, row_here, ro
 
 module _ (numbers classes : List ℕ) (rises : IsRising numbers) (k : ℕ) (members : List (List ℕ)) (have : HaveMembers numbers classes k members)
     (k_in : k < length numbers) (class_in : get_or classes k 0 < length members) where
-  there_then : (v : ℕ) → v < k + 1 → Contains (get_or (with_link members (get_or classes k 0) (get_or numbers k 0)) (get_or classes v 0) []) (get_or numbers v 0)
+  there_then : (v : ℕ) → v < k + 1
+      → Contains (get_or (with_link members (get_or classes k 0) (get_or numbers k 0)) (get_or classes v 0) []) (get_or numbers v 0)
   there_then v lt = elim (cases_lt v k) [
     | inl less ↦ goes_kept members (get_or classes k 0) (get_or numbers k 0) class_in (get_or classes v 0) (get_or numbers v 0) (have.there v less)
     | inr end ↦ let here : k ≡ v = omega arith in

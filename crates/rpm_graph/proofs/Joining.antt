@@ -1,11 +1,11 @@
 -- The search with fewer levels, where an edge of the last one goes back to the path or to a closed class.
-use Rattle.std.proofs.Common.{◌≡◌, ℕ, ◌+◌, ◌-◌, ◌≤◌, ◌<◌, ◌⊎◌, List, [], length, get_or, take, inl, inr, refl, sym, ap, subst, ◌∙◌, arith}
+use Rattle.std.proofs.Common.{◌≡◌, ℕ, ◌+◌, ◌-◌, ◌≤◌, ◌<◌, ◌⊎◌, List, length, get_or, inl, inr, sym, ap, subst, ◌∙◌, arith}
 use Rattle.std.specs.List.{Contains}
 use Rattle.std.proofs.lemmas.Bool.{cases_lt}
 use Rattle.std.proofs.lemmas.List.{get_or-take, get_or_default}
 use Rattle.rpm_graph.specs.declared.search.Link.{Link}
 use Rattle.rpm_graph.specs.Networks.{Leads}
-use Rattle.rpm_graph.specs.Searches.{IsSearch, IsOpen, IsNoHigher, IsCut, Follows, Goes, link, link_at}
+use Rattle.rpm_graph.specs.Searches.{IsSearch, IsOpen, IsNoHigher, IsCut, Follows, Goes, link}
 use Rattle.rpm_graph.proofs.Fronts.{IsFront, kept_or_lost, waits_open}
 use Rattle.rpm_graph.proofs.Walks.{leads_on, leads_edge}
 

@@ -1,9 +1,9 @@
 -- What follows of a list from its being the order.
-use Rattle.std.proofs.Common.{◌≡◌, ℕ, ◌≤◌, ◌<◌, ◌⊎◌, List, [], length, get_or, take, inl, inr, sym, subst, arith}
+use Rattle.std.proofs.Common.{◌≡◌, ℕ, ◌<◌, List, [], get_or, take, inl, inr, sym, subst, arith}
 use Rattle.std.specs.List.{Contains}
 use Rattle.std.proofs.lemmas.Bool.{cases_lt}
 use Rattle.std.proofs.lemmas.List.{get_or-take, length-take-le}
-use Rattle.rpm_graph.specs.Networks.{Network, HasEdge}
+use Rattle.rpm_graph.specs.Networks.{Network}
 use Rattle.rpm_graph.specs.Orders.{IsOrder, Lists, StandsAt, StandOnce, EdgesGoBack}
 
 module _ (g : Network) (classes : List (List ℕ)) (order : IsOrder g classes) where

@@ -1,4 +1,6 @@
+pub mod Beginning
 pub mod Bridge
+pub mod Classing
 pub mod Closing
 pub mod Ends
 pub mod Entering
@@ -6,9 +8,14 @@ pub mod Fronts
 pub mod Gathering
 pub mod Joining
 pub mod Laws
+pub mod Marking
 pub mod Orderly
+pub mod Ordering
+pub mod Popping
 pub mod Pushes
 pub mod Rowing
+pub mod Sets
+pub mod Settling
 pub mod Steps
 pub mod Unseen
 pub mod Walks

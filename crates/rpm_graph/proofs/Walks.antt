@@ -1,5 +1,5 @@
 -- Walks one after the other.
-use Rattle.std.proofs.Common.{◌≡◌, ℕ, ◌++◌, List, [], ◌∷◌, sym, subst}
+use Rattle.std.proofs.Common.{ℕ, ◌++◌, List, [], ◌∷◌, sym, subst}
 use Rattle.rpm_graph.specs.Networks.{IsWalk, Leads}
 
 module _ (E : ℕ → ℕ → Type 0) where

@@ -1,3 +1,4 @@
+pub mod Listings
 pub mod Networks
 pub mod Orders
 pub mod Rows

@@ -1,6 +1,7 @@
 -- Rows of places, as they are made from a graph.
-use Rattle.std.specs.Prelude.{◌≡◌, ℕ, ◌<◌, ◌≤◌, ◌++◌, ◌⊎◌, List, [], ◌∷◌, Contains, length, slice_index, slice_index_or, slice_set}
-use Rattle.rpm_graph.specs.Networks.{Network, HasEdge, IsRising, edge, edge_at}
+use Rattle.std.specs.Prelude.{◌≡◌, ℕ, ◌<◌, ◌++◌, ◌⊎◌, List, [], ◌∷◌, Contains, length, slice_index, slice_index_or, slice_set}
+use Rattle.rpm_graph.specs.Networks.{Network, HasEdge, IsRising, edge_at}
+use Rattle.rpm_graph.specs.Orders.{least}
 use Rattle.rpm_graph.specs.Searches.{Goes, AreWithin}
 
 -- the rows with one more edge
@@ -29,3 +30,14 @@ pub record GainEnds (classes : List ℕ) (class : ℕ) (row : List ℕ) (count :
   pub there : (i : ℕ) → i < count → (slice_index classes (slice_index row i) ≡ class) ⊎ Goes after class (slice_index classes (slice_index row i))
   pub only : (c d : ℕ) → Goes after c d → Goes before c d
       ⊎ ((c ≡ class) × ((i : ℕ) × (i < count) × (slice_index classes (slice_index row i) ≡ d)) × (d ≡ class → ⊥))
+
+-- the rows have the classes in which the edges of the first so many places end, each in the row of the class in which they begin, but for edges within a class
+pub record HaveEnds (rows : List (List ℕ)) (classes : List ℕ) (count : ℕ) (ends : List (List ℕ)) : Type 0 where
+  pub there : (v w : ℕ) → v < count → Goes rows v w
+      → (slice_index classes w ≡ slice_index classes v) ⊎ Goes ends (slice_index classes v) (slice_index classes w)
+  pub back : (c d : ℕ) → Goes ends c d
+      → (v : ℕ) × (w : ℕ) × (v < count) × Goes rows v w × (slice_index classes v ≡ c) × (slice_index classes w ≡ d) × (d ≡ c → ⊥)
+
+-- the numbers are the least ones of the first so many lists
+abbrev pub AreLeastNumbers : List (List ℕ) → ℕ → List ℕ → Type 0
+AreLeastNumbers lists count leasts = (c : ℕ) → c < count → slice_index leasts c ≡ least (slice_index_or lists c [])

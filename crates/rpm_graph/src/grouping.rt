@@ -1,11 +1,12 @@
 //! What stands together in a class: its numbers, and the classes that its edges end in.
 
-ghost use Rattle.std.specs.Prelude.{◌≡◌, ℕ, ◌<◌, ◌≤◌, IfOk, OnOk, length, slice_index, []};
+ghost use Rattle.std.specs.Prelude.{◌≡◌, ℕ, ◌<◌, ◌≤◌, IfOk, OnOk, length, replicate, slice_index, slice_index_or, []};
 ghost use Rattle.rpm_graph.specs.Networks.{IsRising};
-ghost use Rattle.rpm_graph.specs.Rows.{HaveMembers, GainEnds, with_link};
-ghost use Rattle.rpm_graph.specs.Searches.{rows_of};
+ghost use Rattle.rpm_graph.specs.Rows.{HaveMembers, HaveEnds, AreLeastNumbers, GainEnds, with_link};
+ghost use Rattle.rpm_graph.specs.Searches.{AreWithin, IsSplit, rows_of};
 
-use crate::rows::push_link;
+use crate::rows::{empty_rows, push_link};
+use crate::search::Split;
 use std::alloc::{AllocError, Global};
 
 // Puts one more number at the end of a list.
@@ -52,4 +53,64 @@ pub fn put_ends(
         }
     }
     Ok(())
+}
+
+// So many empty lists.
+fn empty_lists(alloc: Global, count: usize) -> Result<Vec<Vec<u32>>, AllocError>
+    ensures { IfOk result (λ lists. rows_of lists.items ≡ replicate count []) }
+{
+    let mut lists = Vec::with_capacity(alloc, count)?;
+    for _ in 0..count {
+        lists.push(Vec::new(alloc))?;
+    }
+    Ok(lists)
+}
+
+// The numbers of each class, rising.
+pub fn members(alloc: Global, numbers: &[u32], split: &Split) -> Result<Vec<Vec<u32>>, AllocError>
+    requires rises { IsRising numbers.now }
+    requires sized { length split.now.classes.items ≡ length numbers.now }
+    requires bounded { (v : ℕ) → v < length numbers.now → slice_index split.now.classes.items v < split.now.count }
+    ensures sized { IfOk result (λ members. length (rows_of members.items) ≡ split.now.count) }
+    ensures members { IfOk result (λ members. HaveMembers numbers.now split.now.classes.items (length numbers.now) (rows_of members.items)) }
+{
+    let mut members = empty_lists(alloc, split.count)?;
+    put_numbers(&mut members, numbers, &split.classes)?;
+    Ok(members)
+}
+
+// For each class the other classes that its edges end in.
+pub fn class_rows(
+    alloc: Global,
+    rows: &[Vec<usize>],
+    split: &Split,
+) -> Result<Vec<Vec<usize>>, AllocError>
+    requires within { AreWithin (rows_of rows.now) }
+    requires split { IsSplit (rows_of rows.now) split.now.classes.items split.now.count }
+    ensures sized { IfOk result (λ ends. length ends.items ≡ split.now.count) }
+    ensures ends { IfOk result (λ ends. HaveEnds (rows_of rows.now) split.now.classes.items (length rows.now) (rows_of ends.items)) }
+{
+    let mut ends = empty_rows(alloc, split.count)?;
+    for place in 0..rows.len() {
+        put_ends(
+            &mut ends,
+            split.classes[place],
+            &split.classes,
+            &rows[place],
+        )?;
+    }
+    Ok(ends)
+}
+
+// The least number of each class.
+pub fn least_numbers(alloc: Global, members: &[Vec<u32>]) -> Result<Vec<u32>, AllocError>
+    requires { (c : ℕ) → c < length members.now → 0 < length (slice_index_or (rows_of members.now) c []) }
+    ensures sized { IfOk result (λ leasts. length leasts.items ≡ length members.now) }
+    ensures leasts { IfOk result (λ leasts. AreLeastNumbers (rows_of members.now) (length members.now) leasts.items) }
+{
+    let mut leasts = Vec::with_capacity(alloc, members.len())?;
+    for class in members {
+        leasts.push(class[0])?;
+    }
+    Ok(leasts)
 }

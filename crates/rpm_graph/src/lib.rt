@@ -1,9 +1,14 @@
-//! The classes of a graph of numbers, numbered so that no edge goes to a higher one.
+//! The classes of a graph of numbers, and the order in which they are listed: each class behind those that its edges end in.
 #![tactic(auto)]
 
+mod class_list;
 mod graph;
 mod grouping;
+mod listing;
 mod rows;
 mod search;
+#[cfg(test)]
+mod tests;
 
+pub use class_list::{ClassList, order};
 pub use graph::{Edge, Graph};

@@ -1,7 +1,6 @@
-use Rattle.std.proofs.Common.{◌≡◌, ◌+◌, ◌<◌, ℕ, List, length, get_or, drop, sym, ap, subst, ◌∙◌, arith}
-use Rattle.std.proofs.lemmas.List.{take_at, get_or_default}
-use Rattle.rpm_graph.specs.declared.graph.Edge.{Edge}
-use Rattle.rpm_graph.specs.Networks.{edge, edge_at}
+use Rattle.std.proofs.Common.{◌≡◌, ◌<◌, length, get_or, drop, sym, ap, ◌∙◌, arith}
+use Rattle.std.proofs.lemmas.List.{take_at}
+use Rattle.rpm_graph.specs.Networks.{edge_at}
 use Rattle.rpm_graph.specs.Rows.{with_link}
 use Rattle.rpm_graph.specs.Searches.{rows_of}
 use Rattle.rpm_graph.proofs.Rowing.{have_more}

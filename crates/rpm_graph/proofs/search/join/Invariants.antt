@@ -1,4 +1,4 @@
-use Rattle.std.proofs.Common.{◌≡◌, ℕ, ◌≤◌, ◌<◌, take, length, get_or, vec_len}
+use Rattle.std.proofs.Common.{vec_len}
 use Rattle.rpm_graph.specs.Searches.{IsCut}
 use Rattle.rpm_graph.proofs.search.join.Given as goal
 

@@ -1,10 +1,10 @@
-use Rattle.std.proofs.Common.{◌≡◌, ℕ, ◌+◌, ◌-◌, ◌*◌, ◌++◌, ◌∷◌, [], ◌<◌, ◌≤◌, ◌⊎◌, ◌^◌, List, Vec, length, get_or, set, drop, map, inl, inr, refl, sym, ap, subst, ◌∙◌, arith}
-use Rattle.std.proofs.lemmas.List.{length-map, get_or-map, get_or_default, length_push}
+use Rattle.std.proofs.Common.{◌≡◌, ℕ, ◌+◌, ◌-◌, ◌++◌, ◌∷◌, [], ◌<◌, ◌≤◌, List, length, get_or, set, map, sym, ap, subst, ◌∙◌, arith}
+use Rattle.std.proofs.lemmas.List.{length-map, get_or_default, length_push}
 use Rattle.rpm_graph.specs.declared.search.Link.{Link}
 use Rattle.rpm_graph.specs.declared.search.Search.{Search}
-use Rattle.rpm_graph.specs.Searches.{IsSearch, IsOpen, IsLast, IsCut, Searches, Goes, NoneWaits, rows_of, link, link_at, work, work_left}
+use Rattle.rpm_graph.specs.Searches.{IsSearch, IsLast, IsCut, Searches, Goes, NoneWaits, rows_of, link, work, work_left}
 use Rattle.rpm_graph.proofs.Entering.{entered, entered_work}
-use Rattle.rpm_graph.proofs.Joining.{joined, joined_work}
+use Rattle.rpm_graph.proofs.Joining.{joined}
 use Rattle.rpm_graph.proofs.Closing.{closed_then, closed_work, closed_keeps}
 use Rattle.rpm_graph.proofs.Steps.{row_read, set_keeps, from_open, goes, path_leads, roots_below, none_waits, last_root}
 use Rattle.rpm_graph.proofs.Fronts.{front-push}

@@ -1,0 +1,56 @@
+-- What the packages give, one after the other.
+use Rattle.std.proofs.Common.{◌≡◌, ℕ, ◌<◌, List, [], ◌∷◌, ◌++◌, map, Bool, true, false, Option, Some, None, is_some, refl, ap, ◌∙◌}
+use Rattle.std.specs.List.{filter, flat_map}
+use Rattle.std.specs.Ordering.{nat_cmp}
+use Rattle.std.specs.FinMap as finite
+use Rattle.rpm_outside.specs.Files.{Units}
+use Rattle.rpm_db.specs.Database.{Database, IsNext, holds}
+use Rattle.rpm_db.specs.State.{Package, Good, Bad, packages, above}
+use Rattle.rpm_db.specs.inner.Above.{next_above, nothing_above, all_above_zero}
+use Rattle.rpm_db.specs.inner.Laws.{is_there}
+use Rattle.rpm_check.specs.Edges.{all_edges, edges_from, is_good, good_numbers}
+use Rattle.rpm_check.specs.inner.Ends.{good_of}
+use Rattle.rpm_check.proofs.Picking.{none_is}
+
+module _ {X : Type 0} (all : finite.FinMap nat_cmp Package) (f : ℕ × Package → List X) where
+  -- what those above a number give
+  abbrev pub turns_above : ℕ → List X
+  turns_above k = flat_map f (above k (finite.entries all))
+
+  first_above : (k m : ℕ) (o : Option Package) → finite.get all m ≡ o → k < m → is_some o ≡ true
+      → ((q : ℕ) → k < q → q < m → is_some (finite.get all q) ≡ false)
+      → (p : Package) × (finite.get all m ≡ Some p) × (turns_above k ≡ f (m, p) ++ turns_above m)
+  first_above k m None there lt some none = absurd cc
+  first_above k m (Some p) there lt some none =
+      (p, there, ap (flat_map f) (next_above all k m p lt there (λ q a b. none_is (finite.get all q) (none q a b))))
+
+  pub one_turn : (k m : ℕ) → IsNext (λ q. is_some (finite.get all q)) k (Some m)
+      → (p : Package) × (finite.get all m ≡ Some p) × (turns_above k ≡ f (m, p) ++ turns_above m)
+  one_turn k m next = first_above k m (finite.get all m) refl next.0 next.1 next.2
+
+  pub no_turn : (k : ℕ) → IsNext (λ q. is_some (finite.get all q)) k None → turns_above k ≡ []
+  no_turn k next = ap (flat_map f) (nothing_above all k (λ q lt. none_is (finite.get all q) (next q lt)))
+
+-- no package has the number 0
+pub all_turns : {X : Type 0} (file : Units) (db : Database) (f : ℕ × Package → List X) → holds 0 db ≡ false
+    → turns_above (packages file db.store) f 0 ≡ flat_map f (finite.entries (packages file db.store))
+all_turns file db f none =
+    let all = packages file db.store in
+    ap (flat_map f) (all_above_zero all (none_is (finite.get all 0) (is_there file db 0 ∙ none)))
+
+-- ---- those that can be read
+
+goods : (es : List (ℕ × Package)) → flat_map good_of es ≡ map (λ e. e.0) (filter (λ e. is_good e.1) es)
+goods [] = refl
+goods ((n, Good bytes) ∷ es) = ap (λ (ns : List ℕ). n ∷ ns) (goods es)
+goods ((n, Bad) ∷ es) = goods es
+
+pub goods_are : (all : finite.FinMap nat_cmp Package) → flat_map good_of (finite.entries all) ≡ good_numbers all
+unfolding good_numbers
+goods_are all = goods (finite.entries all)
+
+-- ---- the edges from each
+
+pub edges_are_all : (all : finite.FinMap nat_cmp Package) → flat_map (λ e. edges_from all e.0) (finite.entries all) ≡ all_edges all
+unfolding all_edges
+edges_are_all all = refl

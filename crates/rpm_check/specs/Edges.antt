@@ -1,0 +1,56 @@
+-- Which packages require which.
+use Rattle.std.specs.Prelude.{ℕ, List, [], map, filter, Bool, true, false, not, ◌&&◌, ◌==◌, Option, Some, None, Result, Ok, Err}
+use Rattle.std.specs.List.{list_any, flat_map}
+use Rattle.std.specs.Ordering.{nat_cmp}
+use Rattle.std.specs.FinMap.{FinMap, entries, get}
+use Rattle.rpm_header.specs.declared.form.HeaderFault.{HeaderFault}
+use Rattle.rpm_header.specs.Header.{Header, header}
+use Rattle.rpm_tags.specs.Wanted.{Needed}
+use Rattle.rpm_db.specs.State.{Package, Good, Bad}
+use Rattle.rpm_graph.specs.declared.graph.Edge.{Edge}
+use Rattle.rpm_graph.specs.Networks.{Network, edge}
+use Rattle.rpm_check.specs.Unmet.{required, meets}
+
+-- the numbers of the packages that meet a requirement, rising
+unfoldable pub givers : FinMap nat_cmp Package → Needed → List ℕ
+givers packages need = map (λ e. e.0) (filter (meets need) (entries packages))
+
+-- ---- one edge
+
+abbrev pub needs_read : Result Header HeaderFault → List Needed
+needs_read (Ok h) = required h
+needs_read (Err fault) = []
+
+abbrev pub needs_of : Package → List Needed
+needs_of (Good bytes) = needs_read (header bytes)
+needs_of Bad = []
+
+-- a requirement of one package is met by another alone
+abbrev pub is_edge_between : ℕ → Option Package → ℕ → Option Package → Bool
+is_edge_between n (Some p) m (Some q) = not (n == m) && list_any (λ need. meets need (m, q)) (needs_of p)
+is_edge_between n p m q = false
+
+-- n requires what m gives, and they are different
+unfoldable pub is_edge : FinMap nat_cmp Package → ℕ → ℕ → Bool
+is_edge packages n m = is_edge_between n (get packages n) m (get packages m)
+
+-- ---- all of them
+
+abbrev pub is_good : Package → Bool
+is_good (Good bytes) = true
+is_good Bad = false
+
+-- the numbers of the packages that can be read, rising
+unfoldable pub good_numbers : FinMap nat_cmp Package → List ℕ
+good_numbers packages = map (λ e. e.0) (filter (λ e. is_good e.1) (entries packages))
+
+-- those from n, by rising end
+abbrev pub edges_from : FinMap nat_cmp Package → ℕ → List Edge
+edges_from packages n = map (edge n) (filter (is_edge packages n) (good_numbers packages))
+
+-- by rising beginning, and then by rising end
+unfoldable pub all_edges : FinMap nat_cmp Package → List Edge
+all_edges packages = flat_map (λ e. edges_from packages e.0) (entries packages)
+
+abbrev pub graph_of : FinMap nat_cmp Package → Network
+graph_of packages = record { numbers = good_numbers packages; edges = all_edges packages }

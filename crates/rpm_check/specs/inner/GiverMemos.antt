@@ -1,0 +1,11 @@
+-- What a memo of packages remembers.
+use Rattle.std.specs.Prelude.{◌≡◌, ℕ, List, IfSome}
+use Rattle.std.specs.BTreeMap.{get}
+use Rattle.rpm_tags.specs.Wanted.{Needed}
+use Rattle.rpm_check.specs.declared.memo.Requirement.{Requirement}
+use Rattle.rpm_check.specs.declared.giver_memo.GiverMemo.{GiverMemo}
+use Rattle.rpm_check.specs.inner.Memos.{need_of, key_order}
+
+-- the numbers that are known of a requirement are its own
+abbrev pub RemembersGivers : (Needed → List ℕ) → GiverMemo → Type 0
+RemembersGivers of memo = (key : Requirement) → IfSome (get key_order memo.numbers key) (λ known. known.items ≡ of (need_of key))

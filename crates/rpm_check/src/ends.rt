@@ -1,0 +1,200 @@
+//! Where the edges from one package end.
+
+ghost use Rattle.std.specs.Prelude.{◌≡◌, ◌++◌, ℕ, IsTrue, false, Err, IfOk, IfErr, OnOk, OnErr};
+ghost use Rattle.std.specs.List.{flat_map};
+ghost use Rattle.std.specs.List.Sorted.{IsStrictlyIncreasing};
+ghost use Rattle.std.specs.FinMap as finite;
+ghost use Rattle.rpm_outside.specs.Causes.{HasCauseAt};
+ghost use Rattle.rpm_db.specs.Database.{Keeps, KeepsIndex, holds};
+ghost use Rattle.rpm_db.specs.State.{packages};
+ghost use Rattle.rpm_select.specs.Reach.{HasIndexRows, is_in};
+ghost use Rattle.rpm_check.specs.Answers.{Glances, IsBroken, is_broken};
+ghost use Rattle.rpm_check.specs.Edges.{givers};
+ghost use Rattle.rpm_check.specs.Unmet.{required};
+ghost use Rattle.rpm_check.specs.inner.Ends.{needs_at};
+ghost use Rattle.rpm_check.specs.inner.GiverMemos.{RemembersGivers};
+ghost use Rattle.rpm_check.specs.inner.Needs.{needed_in};
+
+use crate::faults::CheckFault;
+use crate::giver_memo::GiverMemo;
+use crate::giving::givers;
+use crate::lacking::REQUIRES;
+use crate::memo::Requirement;
+use rpm_db::{Db, GetFault};
+use rpm_header::View;
+use rpm_outside::Disk;
+use rpm_tags::{Dependency, dependencies};
+use std::alloc::Global;
+
+/// Adds numbers behind those that are there.
+fn push_all(ends: &mut Vec<u32>, numbers: &[u32]) -> Result<(), CheckFault>
+    ensures told { OnOk result (ends.new.items ≡ ends.old.items ++ numbers.now) }
+    ensures refused { OnErr result (result ≡ Err CheckFault.NoMemory) }
+{
+    match ends.extend_from_slice(numbers) {
+        Ok(()) => Ok(()),
+        Err(_) => Err(CheckFault::NoMemory),
+    }
+}
+
+/// Adds the numbers of the packages that meet a requirement, which are looked up once.
+fn push_givers<D: Disk>(
+    alloc: Global,
+    db: &Db,
+    disk: &mut D,
+    memo: &mut GiverMemo,
+    needed: &Dependency<'_>,
+    ends: &mut Vec<u32>,
+) -> Result<(), CheckFault>
+    requires keeps { IsTrue D.tells → Keeps (D.files disk.old).pkg db.now }
+    requires keeps_index { IsTrue D.tells → KeepsIndex (D.files disk.old).idx db.now }
+    requires runs { db.now.stopped ≡ false }
+    requires from_one { holds 0 db.now ≡ false }
+    requires remembers { IsTrue D.tells → HasIndexRows db.now (D.files disk.old).pkg (D.files disk.old).idx
+        → RemembersGivers (givers (packages (D.files disk.old).pkg db.now.store)) memo.old }
+    ensures kept { IsTrue D.tells → Keeps (D.files disk.new).pkg db.now }
+    ensures kept_index { IsTrue D.tells → KeepsIndex (D.files disk.new).idx db.now }
+    ensures told { OnOk result (IsTrue D.tells → HasIndexRows db.now (D.files disk.old).pkg (D.files disk.old).idx → ends.new.items
+        ≡ ends.old.items ++ givers (packages (D.files disk.old).pkg db.now.store) (needed_in needed.now)) }
+    ensures remembered { IsTrue D.tells → HasIndexRows db.now (D.files disk.old).pkg (D.files disk.old).idx
+        → RemembersGivers (givers (packages (D.files disk.old).pkg db.now.store)) memo.new }
+    ensures broken { IsTrue D.tells → IfErr result (IsBroken (D.files disk.old).idx) }
+    ensures lawful { IsTrue D.tells → HasIndexRows db.now (D.files disk.old).pkg (D.files disk.old).idx → is_broken result ≡ false }
+    ensures looks { Glances D.tells D.files D.left_since D.moment D.bytes_read D.follows disk.old disk.new }
+    ensures cause { HasCauseAt (result ≡ Err CheckFault.DiskFault) (D.faults disk.old) (D.faults disk.new) }
+{
+    let Ok(key) = Requirement::of(alloc, needed) else {
+        return Err(CheckFault::NoMemory);
+    };
+    if let Some(known) = memo.get(&key) {
+        return push_all(ends, known);
+    }
+    let found = match givers(alloc, db, disk, needed) {
+        Ok(found) => found,
+        Err(fault) => return Err(fault),
+    };
+    if push_all(ends, &found).is_err() {
+        return Err(CheckFault::NoMemory);
+    }
+    match memo.put(key, found) {
+        Ok(()) => Ok(()),
+        Err(_) => Err(CheckFault::NoMemory),
+    }
+}
+
+/// Adds the numbers of the packages that meet a requirement of a package.
+fn push_ends<D: Disk>(
+    alloc: Global,
+    db: &Db,
+    disk: &mut D,
+    memo: &mut GiverMemo,
+    view: &View<'_>,
+    ends: &mut Vec<u32>,
+) -> Result<(), CheckFault>
+    requires keeps { IsTrue D.tells → Keeps (D.files disk.old).pkg db.now }
+    requires keeps_index { IsTrue D.tells → KeepsIndex (D.files disk.old).idx db.now }
+    requires runs { db.now.stopped ≡ false }
+    requires from_one { holds 0 db.now ≡ false }
+    requires remembers { IsTrue D.tells → HasIndexRows db.now (D.files disk.old).pkg (D.files disk.old).idx
+        → RemembersGivers (givers (packages (D.files disk.old).pkg db.now.store)) memo.old }
+    ensures kept { IsTrue D.tells → Keeps (D.files disk.new).pkg db.now }
+    ensures kept_index { IsTrue D.tells → KeepsIndex (D.files disk.new).idx db.now }
+    ensures told { OnOk result (IsTrue D.tells → HasIndexRows db.now (D.files disk.old).pkg (D.files disk.old).idx → ends.new.items
+        ≡ ends.old.items ++ flat_map (givers (packages (D.files disk.old).pkg db.now.store)) (required view.now)) }
+    ensures remembered { IsTrue D.tells → HasIndexRows db.now (D.files disk.old).pkg (D.files disk.old).idx
+        → RemembersGivers (givers (packages (D.files disk.old).pkg db.now.store)) memo.new }
+    ensures broken { IsTrue D.tells → IfErr result (IsBroken (D.files disk.old).idx) }
+    ensures lawful { IsTrue D.tells → HasIndexRows db.now (D.files disk.old).pkg (D.files disk.old).idx → is_broken result ≡ false }
+    ensures looks { Glances D.tells D.files D.left_since D.moment D.bytes_read D.follows disk.old disk.new }
+    ensures cause { HasCauseAt (result ≡ Err CheckFault.DiskFault) (D.faults disk.old) (D.faults disk.new) }
+{
+    let mut left = dependencies(view, REQUIRES);
+    while let Some(needed) = left.next() {
+        match push_givers(alloc, db, disk, memo, &needed, ends) {
+            Ok(()) => {}
+            Err(fault) => return Err(fault),
+        }
+    }
+    Ok(())
+}
+
+/// Adds the numbers of the packages that meet a requirement of a number's package.
+fn push_ends_of<D: Disk>(
+    alloc: Global,
+    db: &Db,
+    disk: &mut D,
+    memo: &mut GiverMemo,
+    number: u32,
+    ends: &mut Vec<u32>,
+) -> Result<(), CheckFault>
+    requires keeps { IsTrue D.tells → Keeps (D.files disk.old).pkg db.now }
+    requires keeps_index { IsTrue D.tells → KeepsIndex (D.files disk.old).idx db.now }
+    requires runs { db.now.stopped ≡ false }
+    requires from_one { holds 0 db.now ≡ false }
+    requires remembers { IsTrue D.tells → HasIndexRows db.now (D.files disk.old).pkg (D.files disk.old).idx
+        → RemembersGivers (givers (packages (D.files disk.old).pkg db.now.store)) memo.old }
+    ensures kept { IsTrue D.tells → Keeps (D.files disk.new).pkg db.now }
+    ensures kept_index { IsTrue D.tells → KeepsIndex (D.files disk.new).idx db.now }
+    ensures told { OnOk result (IsTrue D.tells → HasIndexRows db.now (D.files disk.old).pkg (D.files disk.old).idx → ends.new.items
+        ≡ ends.old.items ++ flat_map (givers (packages (D.files disk.old).pkg db.now.store)) (needs_at (finite.get (packages (D.files disk.old).pkg db.now.store) number))) }
+    ensures remembered { IsTrue D.tells → HasIndexRows db.now (D.files disk.old).pkg (D.files disk.old).idx
+        → RemembersGivers (givers (packages (D.files disk.old).pkg db.now.store)) memo.new }
+    ensures broken { IsTrue D.tells → IfErr result (IsBroken (D.files disk.old).idx) }
+    ensures lawful { IsTrue D.tells → HasIndexRows db.now (D.files disk.old).pkg (D.files disk.old).idx → is_broken result ≡ false }
+    ensures looks { Glances D.tells D.files D.left_since D.moment D.bytes_read D.follows disk.old disk.new }
+    ensures cause { HasCauseAt (result ≡ Err CheckFault.DiskFault) (D.faults disk.old) (D.faults disk.new) }
+{
+    match db.read(alloc, disk, number) {
+        Ok(blob) => match View::parse(&blob) {
+            Ok(view) => push_ends(alloc, db, disk, memo, &view, ends),
+            Err(_) => Ok(()),
+        },
+        Err(GetFault::NoSuch | GetFault::Bad) => Ok(()),
+        Err(GetFault::DiskFault) => Err(CheckFault::DiskFault),
+        Err(GetFault::NoMemory) => Err(CheckFault::NoMemory),
+    }
+}
+
+/// Puts numbers in order, each once.
+fn each_once(numbers: Vec<u32>) -> Vec<u32>
+    ensures rising { IsStrictlyIncreasing result.items }
+    ensures same { (n : ℕ) → is_in n result.items ≡ is_in n numbers.items }
+{
+    let mut numbers = numbers;
+    numbers.sort_unstable();
+    numbers.dedup();
+    numbers
+}
+
+/// The numbers of the packages that meet a requirement of a number's package, rising, each once.
+pub fn ends_of<D: Disk>(
+    alloc: Global,
+    db: &Db,
+    disk: &mut D,
+    memo: &mut GiverMemo,
+    number: u32,
+) -> Result<Vec<u32>, CheckFault>
+    requires keeps { IsTrue D.tells → Keeps (D.files disk.old).pkg db.now }
+    requires keeps_index { IsTrue D.tells → KeepsIndex (D.files disk.old).idx db.now }
+    requires runs { db.now.stopped ≡ false }
+    requires from_one { holds 0 db.now ≡ false }
+    requires remembers { IsTrue D.tells → HasIndexRows db.now (D.files disk.old).pkg (D.files disk.old).idx
+        → RemembersGivers (givers (packages (D.files disk.old).pkg db.now.store)) memo.old }
+    ensures kept { IsTrue D.tells → Keeps (D.files disk.new).pkg db.now }
+    ensures kept_index { IsTrue D.tells → KeepsIndex (D.files disk.new).idx db.now }
+    ensures rising { IfOk result (λ ends. IsStrictlyIncreasing ends.items) }
+    ensures told { IfOk result (λ ends. IsTrue D.tells → HasIndexRows db.now (D.files disk.old).pkg (D.files disk.old).idx → (m : ℕ)
+        → is_in m ends.items ≡ is_in m (flat_map (givers (packages (D.files disk.old).pkg db.now.store)) (needs_at (finite.get (packages (D.files disk.old).pkg db.now.store) number)))) }
+    ensures remembered { IsTrue D.tells → HasIndexRows db.now (D.files disk.old).pkg (D.files disk.old).idx
+        → RemembersGivers (givers (packages (D.files disk.old).pkg db.now.store)) memo.new }
+    ensures broken { IsTrue D.tells → IfErr result (IsBroken (D.files disk.old).idx) }
+    ensures lawful { IsTrue D.tells → HasIndexRows db.now (D.files disk.old).pkg (D.files disk.old).idx → is_broken result ≡ false }
+    ensures looks { Glances D.tells D.files D.left_since D.moment D.bytes_read D.follows disk.old disk.new }
+    ensures cause { HasCauseAt (result ≡ Err CheckFault.DiskFault) (D.faults disk.old) (D.faults disk.new) }
+{
+    let mut ends = Vec::new(alloc);
+    match push_ends_of(alloc, db, disk, memo, number, &mut ends) {
+        Ok(()) => Ok(each_once(ends)),
+        Err(fault) => Err(fault),
+    }
+}

@@ -1,0 +1,17 @@
+use Rattle.std.proofs.Common.{◌≡◌, ℕ, true, length}
+use Rattle.std.specs.List.{Contains}
+use Rattle.rpm_graph.specs.Listings.{AreLeast, IsUnderway, ArePlaced, listed_at, unlisted_count}
+use Rattle.rpm_graph.specs.Searches.{rows_of}
+use Rattle.rpm_graph.proofs.listing.list_classes.Given as goal
+
+abbrev pub invariant-loop-first : goal.invariant-loop-first
+invariant-loop-first l = record {
+  underway : IsUnderway (rows_of l.ends) l.leasts l.listing;
+  placed : ArePlaced (length l.ends) l.leasts l.listing;
+  there : (c : ℕ) → Contains l.order.items c → listed_at l.listing.listed.items c ≡ true;
+  back : (c : ℕ) → listed_at l.listing.listed.items c ≡ true → Contains l.order.items c;
+  each : AreLeast (rows_of l.ends) l.leasts l.order.items;
+}
+
+abbrev pub decreases-loop-first : goal.decreases-loop-first
+decreases-loop-first l = unlisted_count l.listing.listed.items
