@@ -26,6 +26,7 @@ measured() {
     base=$1
     shift
     cp -r "$base" "$folder/copy"
+    sync
     begin=$(date +%s%N)
     "$@" --dbpath "$folder/copy" < $input > /dev/null 2>&1
     end=$(date +%s%N)
