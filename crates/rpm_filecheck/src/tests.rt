@@ -13,9 +13,9 @@ const TEXT: u32 = 6;
 const TEXTS: u32 = 8;
 
 // An entry of a header: its tag, its type, how many elements it has, and these.
-type Part<'a> = (u32, u32, u32, &'a [u8]);
+type Element<'a> = (u32, u32, u32, &'a [u8]);
 
-fn push_part(index: &mut Vec<u8>, data: &mut Vec<u8>, part: &Part<'_>) -> Result<(), AllocError> {
+fn push_part(index: &mut Vec<u8>, data: &mut Vec<u8>, part: &Element<'_>) -> Result<(), AllocError> {
     let (tag, kind, count, elements) = part;
     for _ in 0..3 {
         if *kind != TEXT && *kind != TEXTS && data.len() % 4 != 0 {
@@ -30,7 +30,7 @@ fn push_part(index: &mut Vec<u8>, data: &mut Vec<u8>, part: &Part<'_>) -> Result
 }
 
 // The header of a package `NAME-5.1-2.x86_64`, with these entries behind its label.
-fn package(alloc: Global, name: &[u8], parts: &[Part<'_>]) -> Result<Vec<u8>, AllocError> {
+fn package(alloc: Global, name: &[u8], parts: &[Element<'_>]) -> Result<Vec<u8>, AllocError> {
     let mut index = Vec::new(alloc);
     let mut data = Vec::new(alloc);
     push_part(&mut index, &mut data, &(1000, TEXT, 1, name))?;
@@ -272,7 +272,7 @@ fn each_two_owners_are_compared(rt: HostRuntime) -> Result<(), Fail> {
 #[test]
 fn the_first_place_of_a_path_counts(rt: HostRuntime) -> Result<(), Fail> {
     let alloc = rt.alloc();
-    let files: [Part<'_>; 3] = [
+    let files: [Element<'_>; 3] = [
         (1117, TEXTS, 3, b"g\0f\0f\0"),
         (1116, INT32, 3, b"\0\0\0\0\0\0\0\0\0\0\0\0"),
         (1118, TEXTS, 1, b"/\0"),

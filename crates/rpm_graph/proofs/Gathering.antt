@@ -43,8 +43,8 @@ module _ (numbers classes : List ℕ) (rises : IsRising numbers) (k : ℕ) (memb
     rises = rises_then;
   }
 
-pub ends_none : (classes : List ℕ) (class : ℕ) (row : List ℕ) (rows : List (List ℕ)) → GainEnds classes class row 0 rows rows
-ends_none classes class row rows = record {
+pub ends_none : (classes : List ℕ) (class : ℕ) (ends : List ℕ) (rows : List (List ℕ)) → GainEnds classes class ends 0 rows rows
+ends_none classes class ends rows = record {
   sized = refl;
   keeps = λ c d goes. goes;
   there = λ i lt. absurd (omega (arith, lt));

@@ -14,7 +14,7 @@ use Rattle.rpm_tool.specs.declared.step.Stop.TheVariants as stop
 use Rattle.std.proofs.Math.Seq.{drop-nil}
 use Rattle.rpm_tool.specs.declared.answer.Why.TheVariants as why
 use Rattle.rpm_change.specs.Steps.{Bearer, whole, Course, idle}
-use Rattle.rpm_tool.specs.Steps.{Part, before, in_turn}
+use Rattle.rpm_tool.specs.Steps.{Portion, before, in_turn}
 use Rattle.rpm_tool.specs.Reads.{reaches_by}
 use Rattle.rpm_tool.specs.Queries.{step_of, packages_part, missing_part, answered, argument_part, query_of}
 use Rattle.rpm_change.specs.Endings.{Outputs, outputs, Through}
@@ -22,7 +22,7 @@ use Rattle.rpm_tool.specs.Answers.{Reached, PartIs, Went, why_of, is_some_of}
 use Rattle.rpm_tool.proofs.Reaching.{Goes, goes_end}
 use Rattle.rpm_tool.proofs.Stopping.{reached_reads, reached_empty, reached_later}
 
-pub part_reads : (part : Part) (r : Result Bool Stop) (old new : Outputs) (P Q : Bearer → Type 0) → ((b : Bearer) → P b → Q b) → PartIs part r old new P
+pub part_reads : (part : Portion) (r : Result Bool Stop) (old new : Outputs) (P Q : Bearer → Type 0) → ((b : Bearer) → P b → Q b) → PartIs part r old new P
     → PartIs part r old new Q
 part_reads part r old new P Q so p = record { steps = reached_reads {T = Bool} part.steps r old new P Q so p.steps; fails = p.fails }
 
@@ -104,7 +104,7 @@ none_left (x ∷ xs) (suc n) le = none_left xs n (omega (arith, le))
 abbrev pub counted : Bool → ℕ
 counted b = if b then 1 else 0
 
-module _ (each : ℕ → List ℕ → Part) (f : ℕ → List ℕ) (args : List ℕ) where
+module _ (each : ℕ → List ℕ → Portion) (f : ℕ → List ℕ) (args : List ℕ) where
   abbrev pub rest_of : ℕ → Course
   rest_of k = in_turn each k (map f (drop k args))
 
@@ -129,7 +129,7 @@ module _ (each : ℕ → List ℕ → Part) (f : ℕ → List ℕ) (args : List 
   turn_none k le = ap (λ (ws : List ℕ). (in_turn each k (map f ws)).failed) (none_left args k le)
 
 -- all of them were gone through
-module _ (each : ℕ → List ℕ → Part) (f : ℕ → List ℕ) (args : List ℕ) (k failed : ℕ) (past : length args ≤ k) (ot et : Bool) (o o' e e' : List ℕ)
+module _ (each : ℕ → List ℕ → Portion) (f : ℕ → List ℕ) (args : List ℕ) (k failed : ℕ) (past : length args ≤ k) (ot et : Bool) (o o' e e' : List ℕ)
     (reads_to : Bearer → Type 0) (goes : Goes ot et (rest_of each f args 0).steps (rest_of each f args k).steps o e o' e')
     (count : (rest_of each f args 0).failed ≡ failed + (rest_of each f args k).failed) where
   through : Through (rest_of each f args 0).steps (outputs ot o et e) (outputs ot o' et e')

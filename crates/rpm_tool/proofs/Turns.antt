@@ -9,7 +9,7 @@ use Rattle.rpm_select.specs.Reach.{Reach, HasIndexRows, reach_all}
 use Rattle.rpm_words.specs.declared.switch.Chosen.{Chosen}
 use Rattle.rpm_tool.specs.declared.step.Stop.{Stop}
 use Rattle.rpm_change.specs.Steps.{Bearer}
-use Rattle.rpm_tool.specs.Steps.{Part}
+use Rattle.rpm_tool.specs.Steps.{Portion}
 use Rattle.rpm_tool.specs.Queries.{argument_part}
 use Rattle.rpm_tool.specs.Reads.{ReadsOf, argument_reach, reach_sum, reach_before, reached_by}
 use Rattle.rpm_change.specs.Endings.{Outputs, outputs}
@@ -56,7 +56,7 @@ module _ (over : List ℕ → Reach) (f : ℕ → List ℕ) (args : List ℕ) (d
     read_by b read = reads_by all db k (over (f word)) before between now b there first read
 
 -- what was gone through of it, and of those before
-module _ (each : ℕ → List ℕ → Part) (f : ℕ → List ℕ) (args : List ℕ) (k word : ℕ) (here : slice_get args k ≡ Some word) (ot et : Bool)
+module _ (each : ℕ → List ℕ → Portion) (f : ℕ → List ℕ) (args : List ℕ) (k word : ℕ) (here : slice_get args k ≡ Some word) (ot et : Bool)
     (o o' o'' e e' e'' : List ℕ) (P : Bearer → Type 0)
     (goes : Goes ot et (rest_of each f args 0).steps (rest_of each f args k).steps o e o' e') where
   pub goes_turn : (fails : Bool) → PartIs (each k (f word)) (Ok fails) (outputs ot o' et e') (outputs ot o'' et e'') P

@@ -16,7 +16,7 @@ use Rattle.rpm_tool.specs.declared.step.Stop.TheVariants as stop
 use Rattle.rpm_tool.specs.declared.answer.Why.{Why}
 use Rattle.rpm_tool.specs.declared.answer.Why.TheVariants as why
 use Rattle.rpm_change.specs.Steps.{Bearer, Step}
-use Rattle.rpm_tool.specs.Steps.{Part}
+use Rattle.rpm_tool.specs.Steps.{Portion}
 use Rattle.rpm_change.specs.Endings.{Outputs}
 use Rattle.rpm_tool.specs.Answers.{OneIs, StepIs, PartIs, Reached, stop_of, why_of, is_of_sink}
 
@@ -51,7 +51,7 @@ reached_unbroken all (Err stop.OutFault) old new reads_to one unit is = cc
 reached_unbroken all (Err stop.ErrFault) old new reads_to one unit is = cc
 reached_unbroken all (Err stop.NoMemory) old new reads_to one unit is = cc
 
-pub part_unbroken : (part : Part) (r : Result Bool Stop) (old new : Outputs) (reads_to : Bearer → Type 0) → PartIs part r old new reads_to → (unit : ℕ)
+pub part_unbroken : (part : Portion) (r : Result Bool Stop) (old new : Outputs) (reads_to : Bearer → Type 0) → PartIs part r old new reads_to → (unit : ℕ)
     → r ≡ Err (stop.BadIndex unit) → ⊥
 part_unbroken part r old new reads_to p unit is = reached_unbroken part.steps r old new reads_to p.steps unit is
 

@@ -14,7 +14,7 @@ use Rattle.rpm_tool.specs.declared.step.Stop.{Stop}
 use Rattle.rpm_tool.specs.declared.step.Stop.TheVariants as stop
 use Rattle.rpm_tool.specs.declared.answer.Why.TheVariants as why
 use Rattle.rpm_change.specs.Steps.{Bearer, Step, idle}
-use Rattle.rpm_tool.specs.Steps.{Part, before}
+use Rattle.rpm_tool.specs.Steps.{Portion, before}
 use Rattle.rpm_change.specs.Endings.{Outputs, Through}
 use Rattle.rpm_tool.specs.Answers.{PartIs, Went, why_of}
 
@@ -61,7 +61,7 @@ not_of_err stop.ErrFault other is = other refl
 not_of_err stop.NoMemory other is = cc
 
 -- a command of one part that went through
-module _ (p : Part) (old new : Outputs) (reads_to : Bearer → Type 0) where
+module _ (p : Portion) (old new : Outputs) (reads_to : Bearer → Type 0) where
   pub went_failing : PartIs p (Ok true) old new reads_to → Went (before p idle) (why.Failed 1) old new reads_to
   went_failing part = (
     subst (λ (ss : List Step). Through ss old new) (sym (append-nil p.steps)) part.steps,

@@ -39,7 +39,7 @@ use Rattle.rpm_tool.specs.Reads.{argument_reach, reaches_by, reach_sum, reached_
 use Rattle.rpm_tool.specs.Reports.{unindexed, course}
 use Rattle.rpm_change.specs.Endings.{Outputs, Through}
 use Rattle.rpm_change.specs.Steps.{Bearer, Step, Course, is_out, cut}
-use Rattle.rpm_tool.specs.Steps.{Part, bearer_of}
+use Rattle.rpm_tool.specs.Steps.{Portion, bearer_of}
 
 -- some of the steps were gone through
 abbrev pub ThroughSome : List Step → Outputs → Outputs → Type 0
@@ -75,7 +75,7 @@ StepIs step (Err stop.ErrFault) old new = (is_out step ≡ false) × ((bytes : �
 StepIs step (Err stop.NoMemory) old new = Through [] old new
 
 -- the same of a part, with the answer whether the argument fails for it
-pub record PartIs (part : Part) (result : Result Bool Stop) (old new : Outputs) (reads_to : Bearer → Type 0) : Type 0 where
+pub record PartIs (part : Portion) (result : Result Bool Stop) (old new : Outputs) (reads_to : Bearer → Type 0) : Type 0 where
   pub steps : Reached part.steps result old new reads_to
   pub fails : IfOk result (λ fails. part.fails ≡ fails)
 

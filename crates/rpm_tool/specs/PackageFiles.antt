@@ -9,20 +9,20 @@ use Rattle.rpm_qfparse.specs.Tree.{Tree}
 use Rattle.rpm_qfeval.specs.Meaning.{meaning}
 use Rattle.rpm_change.specs.Texts.{refused_line, absent_line}
 use Rattle.rpm_change.specs.Steps.{bearer, whole, ToErr, Course}
-use Rattle.rpm_tool.specs.Steps.{Part, fails, told, in_turn}
+use Rattle.rpm_tool.specs.Steps.{Portion, fails, told, in_turn}
 use Rattle.rpm_tool.specs.Queries.{printed}
 
 -- its header is printed with the number 0, or it has a line, for which the argument fails
-abbrev pub read_part : Tree → ℕ → List ℕ → Result Headed FileFault → Part
+abbrev pub read_part : Tree → ℕ → List ℕ → Result Headed FileFault → Portion
 read_part tree j path (Ok found) = told (printed (bearer j 0) (meaning found.header 0 tree) ∷ [])
 read_part tree j path (Err fault) = fails (ToErr (whole j) (refused_line path fault))
 
-abbrev pub found_part : Tree → ℕ → List ℕ → Option (List ℕ) → Part
+abbrev pub found_part : Tree → ℕ → List ℕ → Option (List ℕ) → Portion
 found_part tree j path None = fails (ToErr (whole j) (absent_line path))
 found_part tree j path (Some bytes) = read_part tree j path (package_header bytes)
 
 -- the file under a path
-abbrev pub file_part : Tree → Paths → ℕ → List ℕ → Part
+abbrev pub file_part : Tree → Paths → ℕ → List ℕ → Portion
 file_part tree paths j path = found_part tree j path (bytes_at paths path)
 
 -- each argument is a path, and `-` the standard input; no number is passed over

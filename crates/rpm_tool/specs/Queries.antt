@@ -21,7 +21,7 @@ use Rattle.rpm_select.specs.declared.selection.Selection.{Selection}
 use Rattle.rpm_select.specs.declared.selection.Selection.TheVariants as question
 use Rattle.rpm_select.specs.Selections.{picks}
 use Rattle.rpm_change.specs.Steps.{Bearer, bearer, whole, Step, ToOut, ToErr, Course, idle}
-use Rattle.rpm_tool.specs.Steps.{Part, nothing, fails, told, before, in_turn}
+use Rattle.rpm_tool.specs.Steps.{Portion, nothing, fails, told, before, in_turn}
 
 -- ---- a package
 
@@ -51,7 +51,7 @@ step_of tree j (n, Good bytes) = header_step tree j n (header bytes)
 step_of tree j (n, Bad) = bad_step j n
 
 -- of the numbers above `after`, one after the other
-abbrev pub packages_part : (ℕ × Package → Step) → ℕ → List (ℕ × Package) → Part
+abbrev pub packages_part : (ℕ × Package → Step) → ℕ → List (ℕ × Package) → Portion
 packages_part step after packages = told (map step (above after packages))
 
 -- ---- an argument
@@ -93,14 +93,14 @@ picked_by packages (Some sel) = picks packages sel
 unfoldable pub picked : FinMap nat_cmp Package → Chosen → List ℕ → List (ℕ × Package)
 picked packages chosen text = picked_by packages (question_of chosen (lent text))
 
-abbrev pub missing : ℕ → List ℕ → List ℕ → List ℕ → Part
+abbrev pub missing : ℕ → List ℕ → List ℕ → List ℕ → Portion
 missing j front text back = fails (ToOut (whole j) (concat (front ∷ text ∷ back ∷ [])))
 
-abbrev pub missing_record : ℕ → List ℕ → Part
+abbrev pub missing_record : ℕ → List ℕ → Portion
 missing_record j text = fails (ToErr (whole j) (concat (codes "error: record " ∷ text ∷ codes " could not be read\n" ∷ [])))
 
 -- the line of an argument that picks nothing, whatever was passed over; all packages and patterns have none
-unfoldable pub missing_part : Chosen → ℕ → List ℕ → Part
+unfoldable pub missing_part : Chosen → ℕ → List ℕ → Portion
 missing_part by.Label j x = missing j (codes "package ") x (codes " is not installed\n")
 missing_part by.All j x = nothing
 missing_part by.Path j x = missing j (codes "file ") x (codes " is not owned by any package\n")
@@ -117,11 +117,11 @@ missing_part by.Tid j x = missing j (codes "no package has transaction ") x (cod
 missing_part by.Recommends j x = missing j (codes "no package recommends ") x (codes "\n")
 
 -- given what it picks
-abbrev pub answered : Tree → Chosen → ℕ → ℕ → List ℕ → List (ℕ × Package) → Part
+abbrev pub answered : Tree → Chosen → ℕ → ℕ → List ℕ → List (ℕ × Package) → Portion
 answered tree chosen after j text [] = missing_part chosen j text
 answered tree chosen after j text (e ∷ es) = packages_part (step_of tree j) after (e ∷ es)
 
-abbrev pub argument_part : Tree → FinMap nat_cmp Package → Chosen → ℕ → ℕ → List ℕ → Part
+abbrev pub argument_part : Tree → FinMap nat_cmp Package → Chosen → ℕ → ℕ → List ℕ → Portion
 argument_part tree packages chosen after j text = answered tree chosen after j text (picked packages chosen text)
 
 -- ---- a query of the database

@@ -21,7 +21,7 @@ use Rattle.rpm_tool.specs.declared.asked.Deed.{Deed}
 use Rattle.rpm_tool.specs.declared.asked.Deed.TheVariants as deed
 use Rattle.rpm_tool.specs.Asked.{deed_of}
 use Rattle.rpm_change.specs.Steps.{bearer, Step, ToOut, Course, idle}
-use Rattle.rpm_tool.specs.Steps.{Part, nothing, fails, together, before}
+use Rattle.rpm_tool.specs.Steps.{Portion, nothing, fails, together, before}
 use Rattle.rpm_tool.specs.Queries.{bad_step, step_of, packages_part, query}
 
 -- a header goes out behind the magic
@@ -41,11 +41,11 @@ export packages = before (packages_part (exported 0) 0 (picks packages question.
 unfoldable pub verdict_line : ℕ → List ℕ → List ℕ
 verdict_line n text = concat (codes "package " ∷ decimal n ∷ codes ": " ∷ text ∷ codes "\n" ∷ [])
 
-abbrev pub unsound : ℕ → List ℕ → Part
+abbrev pub unsound : ℕ → List ℕ → Portion
 unsound n text = fails (ToOut (bearer 0 n) (verdict_line n text))
 
 -- a package that isn't sound has a line, for which the one argument fails
-abbrev pub verdict_part : ℕ → Option Verdict → Part
+abbrev pub verdict_part : ℕ → Option Verdict → Portion
 verdict_part n None = nothing
 verdict_part n (Some Sound) = nothing
 verdict_part n (Some BadHeader) = unsound n (codes "header cannot be read")
@@ -57,7 +57,7 @@ abbrev pub unindexed : Store → Database
 unindexed store = record { store = store; index = None; stopped = false }
 
 -- of the number of an entry
-abbrev pub entry_verdict : Units → Store → ℕ × Package → Part
+abbrev pub entry_verdict : Units → Store → ℕ × Package → Portion
 entry_verdict file store e = verdict_part e.0 (verdict file (unindexed store) e.0)
 
 -- the verdicts of all packages, by rising number

@@ -27,33 +27,33 @@ Rises n [] = Unit {0}
 Rises n (m ∷ ms) = (n < m) × Rises m ms
 
 -- what an argument does, or one of its packages: steps, and whether the argument fails for it
-pub record Part : Type 0 where
+pub record Portion : Type 0 where
   pub steps : List Step
   pub fails : Bool
 
-abbrev pub nothing : Part
+abbrev pub nothing : Portion
 nothing = record { steps = []; fails = false }
 
 -- a line for which the argument fails
-abbrev pub fails : Step → Part
+abbrev pub fails : Step → Portion
 fails s = record { steps = s ∷ []; fails = true }
 
 abbrev pub is_bad : Step → Bool
 is_bad s = not (is_out s)
 
 -- the steps of an argument's packages: it fails once, however many messages there are on err
-abbrev pub told : List Step → Part
+abbrev pub told : List Step → Portion
 told steps = record { steps = steps; fails = list_any is_bad steps }
 
 -- several parts as one, which fails where one of them does
-abbrev pub together : List Part → Part
+abbrev pub together : List Portion → Portion
 together parts = record { steps = flat_map (λ p. p.steps) parts; fails = list_any (λ p. p.fails) parts }
 
 -- an argument before the others
-abbrev pub before : Part → Course → Course
+abbrev pub before : Portion → Course → Course
 before p c = record { steps = p.steps ++ c.steps; failed = (if p.fails then 1 else 0) + c.failed; changes = c.changes }
 
 -- each argument in turn, by its place and its text
-abbrev pub in_turn : (ℕ → List ℕ → Part) → ℕ → List (List ℕ) → Course
+abbrev pub in_turn : (ℕ → List ℕ → Portion) → ℕ → List (List ℕ) → Course
 in_turn each j [] = idle
 in_turn each j (x ∷ xs) = before (each j x) (in_turn each (j + 1) xs)

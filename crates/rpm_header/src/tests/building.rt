@@ -7,6 +7,7 @@ ghost use Rattle.rpm_header.specs.Build.{IsText};
 use super::{INSTALLED, PLAIN, REGION, unhex};
 use crate::{BuildFault, Builder, Form, TextList, View, immutable_digest, with_dribbles};
 use std::alloc::{AllocError, Global};
+use std::process::Abort;
 use std::test::Fail;
 
 // A package of two files, with what it provides and requires.
@@ -178,6 +179,11 @@ fn aligned(alloc: Global) -> Result<Builder, AllocError> {
     builder.push_numbers(2003, Form::Int32, &[0xffff_ffff])?;
     builder.push_bin(2004, &[0xde, 0xad, 0])?;
     builder.push_numbers(2005, Form::Int64, &[u64::MAX, 2])?;
+    push_aligned_texts(alloc, &mut builder)?;
+    Ok(builder)
+}
+
+fn push_aligned_texts(alloc: Global, builder: &mut Builder) -> Result<(), AllocError> {
     builder.push_text(2006, b"x")?;
     builder.push_texts(2007, Form::I18n, &pair(alloc, b"a", b"bc")?)?;
     builder.push_numbers(2008, Form::Int32, &[5, 6])?;
@@ -186,28 +192,44 @@ fn aligned(alloc: Global) -> Result<Builder, AllocError> {
     builder.push_texts(2009, Form::Texts, &texts)?;
     builder.push_numbers(2010, Form::Int64, &[1])?;
     builder.push_numbers(2011, Form::Char, &[0xff])?;
-    builder.push_numbers(2012, Form::Int64, &[0])?;
-    Ok(builder)
+    builder.push_numbers(2012, Form::Int64, &[0])
+}
+
+/// Compares what is built with these bytes, and how many entries are read of it.
+fn compare(
+    rt: &(impl Abort + AllocGlobal),
+    builder: &Builder,
+    has_region: bool,
+    hex: &str,
+    entries: u32,
+) -> Result<(), Fail> {
+    let blob = builder.finish(rt.alloc(), has_region)?;
+    assert_eq!(rt;
+        blob.as_slice(),
+        unhex(rt.alloc(), hex)?.as_slice(),
+        "{hex}"
+    );
+    let view = View::parse(&blob).map_err(|_| "fault")?;
+    assert_eq!(rt; view.entries(), entries, "{hex}");
+    Ok(())
 }
 
 #[test]
 fn entries_are_laid_out_and_read_again(rt: HostRuntime) -> Result<(), Fail> {
     let alloc = rt.alloc();
-    for (builder, region, hex, entries) in [
-        (plain(alloc)?, false, PLAIN, 4),
-        (plain(alloc)?, true, REGION, 5),
-        (shell(alloc)?, false, SHELL, 15),
-        (library(alloc, b"1.0~rc1", true)?, false, LIBRARY, 8),
-        (library(alloc, b"1.0^git1", false)?, false, SNAPSHOT, 7),
-        (aligned(alloc)?, false, ALIGNED, 13),
-        (Builder::new(alloc), false, "00000000 00000000", 0),
-    ] {
-        let blob = builder.finish(alloc, region)?;
-        assert_eq!(rt; blob.as_slice(), unhex(alloc, hex)?.as_slice(), "{hex}");
-        let view = View::parse(&blob).map_err(|_| "fault")?;
-        assert_eq!(rt; view.entries(), entries, "{hex}");
-    }
-    Ok(())
+    compare(&rt, &plain(alloc)?, false, PLAIN, 4)?;
+    compare(&rt, &plain(alloc)?, true, REGION, 5)?;
+    compare(&rt, &shell(alloc)?, false, SHELL, 15)?;
+    compare(&rt, &library(alloc, b"1.0~rc1", true)?, false, LIBRARY, 8)?;
+    compare(
+        &rt,
+        &library(alloc, b"1.0^git1", false)?,
+        false,
+        SNAPSHOT,
+        7,
+    )?;
+    compare(&rt, &aligned(alloc)?, false, ALIGNED, 13)?;
+    compare(&rt, &Builder::new(alloc), false, "00000000 00000000", 0)
 }
 
 #[test]
@@ -255,53 +277,63 @@ fn installed_long(alloc: Global) -> Result<Builder, AllocError> {
     Ok(builder)
 }
 
+/// Compares what a header becomes with these entries behind it.
+fn compare_dribbled(
+    rt: &(impl Abort + AllocGlobal),
+    hex: &str,
+    extra: &Builder,
+    want: &str,
+) -> Result<(), Fail> {
+    let blob = unhex(rt.alloc(), hex)?;
+    let view = View::parse(&blob).map_err(|_| "fault")?;
+    let whole = with_dribbles(rt.alloc(), &view, extra)?;
+    assert_eq!(rt;
+        whole.as_slice(),
+        unhex(rt.alloc(), want)?.as_slice(),
+        "{want}"
+    );
+    Ok(())
+}
+
 #[test]
 fn dribbles_stand_behind_the_entries(rt: HostRuntime) -> Result<(), Fail> {
     let alloc = rt.alloc();
-    for (hex, extra, want) in [
-        (PLAIN, installed(alloc, 5)?, INSTALLED),
-        (REGION, installed(alloc, 5)?, REGION_INSTALLED),
-        (SNAPSHOT, installed_long(alloc)?, SNAPSHOT_INSTALLED),
-        (SNAPSHOT, Builder::new(alloc), SNAPSHOT),
-    ] {
-        let blob = unhex(alloc, hex)?;
-        let view = View::parse(&blob).map_err(|_| "fault")?;
-        let whole = with_dribbles(alloc, &view, &extra)?;
-        assert_eq!(rt; whole.as_slice(), unhex(alloc, want)?.as_slice(), "{want}");
-    }
+    compare_dribbled(&rt, PLAIN, &installed(alloc, 5)?, INSTALLED)?;
+    compare_dribbled(&rt, REGION, &installed(alloc, 5)?, REGION_INSTALLED)?;
+    compare_dribbled(&rt, SNAPSHOT, &installed_long(alloc)?, SNAPSHOT_INSTALLED)?;
+    compare_dribbled(&rt, SNAPSHOT, &Builder::new(alloc), SNAPSHOT)
+}
+
+/// Compares the length of a header at a limit with two entries behind it, and the fault of three.
+fn compare_at_limit(
+    rt: &(impl Abort + AllocGlobal),
+    most: &Builder,
+    len: usize,
+    fault: BuildFault,
+) -> Result<(), Fail> {
+    let alloc = rt.alloc();
+    let blob = most.finish(alloc, false)?;
+    let view = View::parse(&blob).map_err(|_| "fault")?;
+    let whole = with_dribbles(alloc, &view, &installed(alloc, 5)?)?;
+    assert_eq!(rt; whole.len(), len);
+    let refused = with_dribbles(alloc, &view, &installed_long(alloc)?).err();
+    assert_eq!(rt; refused, Some(fault));
     Ok(())
 }
 
 #[test]
 fn dribbles_keep_the_limits(rt: HostRuntime) -> Result<(), Fail> {
     let alloc = rt.alloc();
-    let mut most = Builder::new(alloc);
+    let mut many = Builder::new(alloc);
     for _ in 0..65_533u32 {
-        most.push_text(1000, b"")?;
+        many.push_text(1000, b"")?;
     }
-    let blob = most.finish(alloc, false)?;
-    let view = View::parse(&blob).map_err(|_| "fault")?;
-    assert_eq!(rt;
-        with_dribbles(alloc, &view, &installed(alloc, 5)?)?.len(),
-        8 + 17 * 65_533 + 3 + 2 * 20
-    );
-    assert_eq!(rt;
-        with_dribbles(alloc, &view, &installed_long(alloc)?).err(),
-        Some(BuildFault::TooManyEntries)
-    );
-    let mut most = Builder::new(alloc);
-    most.push_bin(1000, &Vec::from_elem(alloc, 0, 67_108_856)?)?;
-    let blob = most.finish(alloc, false)?;
-    let view = View::parse(&blob).map_err(|_| "fault")?;
-    assert_eq!(rt;
-        with_dribbles(alloc, &view, &installed(alloc, 5)?)?.len(),
-        8 + 16 * 3 + 67_108_864
-    );
-    assert_eq!(rt;
-        with_dribbles(alloc, &view, &installed_long(alloc)?).err(),
-        Some(BuildFault::TooMuchData)
-    );
-    Ok(())
+    let len = 8 + 17 * 65_533 + 3 + 2 * 20;
+    compare_at_limit(&rt, &many, len, BuildFault::TooManyEntries)?;
+    let mut much = Builder::new(alloc);
+    much.push_bin(1000, &Vec::from_elem(alloc, 0, 67_108_856)?)?;
+    let len = 8 + 16 * 3 + 67_108_864;
+    compare_at_limit(&rt, &much, len, BuildFault::TooMuchData)
 }
 
 // Headers with the SHA-256 of their region as `sha256sum` of coreutils gives it.

@@ -10,7 +10,7 @@ use Rattle.rpm_select.specs.Reach.{Reach, reach_all}
 use Rattle.rpm_select.specs.inner.Unindexed.{not_asked}
 use Rattle.rpm_tool.specs.declared.step.Stop.{Stop}
 use Rattle.rpm_change.specs.Steps.{Bearer, whole}
-use Rattle.rpm_tool.specs.Steps.{Part}
+use Rattle.rpm_tool.specs.Steps.{Portion}
 use Rattle.rpm_tool.specs.Queries.{lent, question_of, picked_by, missing_part, answered}
 use Rattle.rpm_change.specs.Endings.{outputs}
 use Rattle.rpm_tool.specs.Answers.{PartIs}
@@ -34,7 +34,7 @@ returns-in-Ok-clause-went g c = λ told rows j.
     let before = g.D.Disk.bytes_read c.args.disk.now Pkg in
     let between = g.D.Disk.bytes_read c.new.new.disk Pkg in
     let now = g.D.Disk.bytes_read c.answer_question.new.disk Pkg in
-    let part : List (ℕ × Package) → Part = answered c.args.format.now c.args.chosen c.args.after j c.args.text.now in
+    let part : List (ℕ × Package) → Portion = answered c.args.format.now c.args.chosen c.args.after j c.args.text.now in
     let asked = sym c.question_of.ensures ∙ c.in-Some.is in
     let goes = argument_reach (is_indexed db) map c.args.chosen c.args.text.now in
     let p = c.in-Ok.picker in

@@ -1,7 +1,7 @@
 use Rattle.std.proofs.Common.{ℕ, List, Option, sym, subst}
 use Rattle.rpm_outside.specs.Buffered.{inner}
 use Rattle.rpm_outside.specs.Shelves.{bytes_at}
-use Rattle.rpm_tool.specs.Steps.{Part}
+use Rattle.rpm_tool.specs.Steps.{Portion}
 use Rattle.rpm_tool.specs.PackageFiles.{found_part}
 use Rattle.rpm_change.specs.Endings.{outputs}
 use Rattle.rpm_tool.specs.Answers.{Anywhere, PartIs}
@@ -12,7 +12,7 @@ pub returns-in-Ok-clause-went : goal.returns-in-Ok-clause-went
 returns-in-Ok-clause-went g c = λ told j.
     let opened = c.in-Ok.ensures.opened told in
     let found = bytes_at (g.S.Shelf.paths c.args.shelf.now) c.args.path.now in
-    subst (λ (p : Part). PartIs p c.print_opened.result
+    subst (λ (p : Portion). PartIs p c.print_opened.result
     (outputs g.O.Sink.tells (g.O.Sink.taken (inner c.args.out.now)) g.E.Sink.tells (g.E.Sink.taken (inner c.args.err.now)))
     (outputs g.O.Sink.tells (g.O.Sink.taken (inner c.print_opened.new.out)) g.E.Sink.tells (g.E.Sink.taken (inner c.print_opened.new.err))) Anywhere)
     (sym (found_open c.args.format.now j c.args.path.now found (g.S.Shelf.rest c.open.new.self) opened.0 opened.1))

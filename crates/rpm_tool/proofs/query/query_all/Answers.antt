@@ -8,7 +8,7 @@ use Rattle.rpm_select.specs.declared.selection.Selection.TheVariants as question
 use Rattle.rpm_select.specs.Selections.{picks}
 use Rattle.rpm_tool.specs.declared.answer.Why.{Why}
 use Rattle.rpm_change.specs.Steps.{Bearer, Step, idle}
-use Rattle.rpm_tool.specs.Steps.{Part, before}
+use Rattle.rpm_tool.specs.Steps.{Portion, before}
 use Rattle.rpm_tool.specs.Queries.{packages_part}
 use Rattle.rpm_tool.specs.Reports.{step_by}
 use Rattle.rpm_change.specs.Endings.{outputs}
@@ -30,7 +30,7 @@ returns-clause-went g c = λ told rows.
     let start = g.D.Disk.bytes_read c.args.disk.now Pkg in
     let between = g.D.Disk.bytes_read c.begin_unasked-picker.new.disk Pkg in
     let now = g.D.Disk.bytes_read c.print_above.new.disk Pkg in
-    let part_of : Files → Part = λ f. packages_part (step_by c.args.way.now 0) c.args.after (picks (packages f.pkg s) question.All) in
+    let part_of : Files → Portion = λ f. packages_part (step_by c.args.way.now 0) c.args.after (picks (packages f.pkg s) question.All) in
     let part = part_of (g.D.Disk.files c.args.disk.now) in
     let reads : Bearer → Type 0 = λ for. now ≤ start + reached_by (Everything ∷ []) db for in
     let what = c.in-Err.stop in

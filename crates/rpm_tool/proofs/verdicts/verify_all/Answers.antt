@@ -8,7 +8,7 @@ use Rattle.rpm_db.specs.Database.{cost, cost_to, cost_all}
 use Rattle.rpm_db.specs.inner.Laws.{cost_more, cost_some}
 use Rattle.rpm_select.specs.Reach.{Everything}
 use Rattle.rpm_change.specs.Steps.{Bearer, bearer}
-use Rattle.rpm_tool.specs.Steps.{Part, together}
+use Rattle.rpm_tool.specs.Steps.{Portion, together}
 use Rattle.rpm_tool.specs.Reports.{entry_verdict}
 use Rattle.rpm_tool.specs.Reads.{reached_by}
 use Rattle.rpm_change.specs.Endings.{outputs, Through}
@@ -48,7 +48,7 @@ loop-next-preserved g c =
     let start = g.D.Disk.files c.args.disk.now in
     let file = start.pkg in
     let es = entries (packages file db.store) in
-    let each : ℕ × Package → Part = entry_verdict file db.store in
+    let each : ℕ × Package → Portion = entry_verdict file db.store in
     let next = next_entry (packages file db.store) k m (c.in-Some.ensures.told file) in
     let o' = g.O.Sink.taken (inner c.loop-next.out) in
     let o'' = g.O.Sink.taken (inner c.verify_one.new.out) in
@@ -85,7 +85,7 @@ returns-in-Err-clause-went g c = λ told et e.
     let inv = c.loop-next.invariant in
     let file = (g.D.Disk.files c.args.disk.now).pkg in
     let es = entries (packages file db.store) in
-    let each : ℕ × Package → Part = entry_verdict file db.store in
+    let each : ℕ × Package → Portion = entry_verdict file db.store in
     let next = next_entry (packages file db.store) k m (c.in-Some.ensures.told file) in
     let ot = g.O.Sink.tells in
     let o = g.O.Sink.taken (inner c.args.out.now) in
@@ -128,7 +128,7 @@ returns-clause-went g c = λ told et e.
     let inv = c.loop-next.invariant in
     let file = (g.D.Disk.files c.args.disk.now).pkg in
     let es = entries (packages file db.store) in
-    let each : ℕ × Package → Part = entry_verdict file db.store in
+    let each : ℕ × Package → Portion = entry_verdict file db.store in
     let none = no_entry (packages file db.store) k (c.in_default.ensures.told file) in
     let first = from_one file db c.requires.from_one in
     let ot = g.O.Sink.tells in
