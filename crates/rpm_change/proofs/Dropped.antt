@@ -18,7 +18,7 @@ use Rattle.rpm_db.specs.Database.{Database, IsNext, Keeps, KeepsIndex}
 use Rattle.rpm_db.specs.Lawful.{Remade}
 use Rattle.rpm_db.specs.Rows.{rows}
 use Rattle.rpm_db.specs.State.{State, Package, Good, Bad, state, above}
-use Rattle.rpm_db.specs.inner.Above.{next_above, nothing_above}
+use Rattle.rpm_db.specs.inner.Above.{none_is, next_above, nothing_above}
 use Rattle.rpm_change.specs.declared.tally.Tally.{Tally}
 use Rattle.rpm_change.specs.declared.tally.Halt.{Halt}
 use Rattle.rpm_change.specs.declared.tally.Halt.TheVariants as halt
@@ -31,10 +31,6 @@ use Rattle.rpm_change.specs.Rebuilding.{dropped, drop_each, RebuildTurn}
 some_is : (o : Option Package) → is_some o ≡ true → (p : Package) × (o ≡ Some p)
 some_is None some = absurd cc
 some_is (Some p) some = (p, refl)
-
-none_is : (o : Option Package) → is_some o ≡ false → o ≡ None
-none_is None none = refl
-none_is (Some p) none = absurd cc
 
 -- above this number both have the same packages
 abbrev pub SameAbove : ℕ → finite.FinMap nat_cmp Package → finite.FinMap nat_cmp Package → Type 0

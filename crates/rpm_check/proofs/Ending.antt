@@ -13,7 +13,8 @@ use Rattle.rpm_select.specs.Reach.{is_in}
 use Rattle.rpm_check.specs.Unmet.{meets}
 use Rattle.rpm_check.specs.Edges.{givers, is_edge, is_edge_between, is_good, good_numbers, edges_from}
 use Rattle.rpm_check.specs.inner.Ends.{needs_at, is_end, is_good_at}
-use Rattle.rpm_check.proofs.Members.{Rises, rises, same_members, in_filter, rises_filter}
+use Rattle.rpm_select.specs.inner.Rising.{Rises, rises, same_members}
+use Rattle.rpm_check.proofs.Members.{in_filter, rises_filter}
 use Rattle.rpm_check.proofs.Numbering.{holds_at, in_numbers, numbers_rise}
 use Rattle.rpm_check.proofs.Picking.{list_any_same}
 

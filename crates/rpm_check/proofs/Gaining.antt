@@ -10,7 +10,7 @@ use Rattle.rpm_select.specs.declared.selection.Selection.{Selection}
 use Rattle.rpm_select.specs.Picks.{NextIs, entry_in, number_in}
 use Rattle.rpm_select.specs.Selections.{picks}
 use Rattle.rpm_check.proofs.Above.{named, next_picked, numbers_above}
-use Rattle.rpm_check.proofs.Picking.{picks_from_one}
+use Rattle.rpm_select.specs.inner.Rising.{picks_from_one}
 
 -- one more
 pub more_picked : (all : finite.FinMap nat_cmp Package) (sel : Selection) (n : ℕ) (picked : Picked) (rest : List (ℕ × Package)) (ns whole : List ℕ)

@@ -8,23 +8,10 @@ use Rattle.std.specs.FinMap.Entries.{below_all}
 use Rattle.std.proofs.lemmas.Bool.{cases_Bool, eqb-true, eq-eqb}
 use Rattle.std.proofs.lemmas.Bool.Decides.{nat_tests}
 use Rattle.rpm_db.specs.State.{Package}
-use Rattle.rpm_db.specs.inner.Above.{both_true, none_below}
+use Rattle.rpm_db.specs.inner.Above.{both_true, is_below, none_below}
 use Rattle.rpm_select.specs.Reach.{is_in}
 use Rattle.rpm_select.specs.inner.Keyed.{or_cases}
-use Rattle.rpm_check.proofs.Members.{AreAbove, Rises}
-
-is_lt-nat_cmp : (a b : ℕ) → is_lt (nat_cmp a b) ≡ nat_lt a b
-is_lt-nat_cmp a b = elim (nat_lt a b) as (λ t. is_lt (cond t Less (cond (a == b) Equal Greater)) ≡ t) [
-  | true ↦ refl
-  | false ↦ elim (a == b) as (λ t. is_lt (cond t Equal Greater) ≡ false) [ true ↦ refl | false ↦ refl ]
-]
-
-is_below : (a b : ℕ) → T (is_lt (nat_cmp a b)) → a < b
-is_below a b t = below_of (nat_lt a b) refl (subst T (is_lt-nat_cmp a b) t)
-  where
-    below_of : (r : Bool) → nat_lt a b ≡ r → T r → a < b
-    below_of true e u = grind (arith, nat_tests)
-    below_of false e u = absurd u
+use Rattle.rpm_select.specs.inner.Rising.{AreAbove, Rises}
 
 abbrev pub numbers : List (ℕ × Package) → List ℕ
 numbers es = map (λ e. e.0) es

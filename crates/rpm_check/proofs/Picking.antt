@@ -3,11 +3,7 @@ use Rattle.std.proofs.Common.{◌≡◌, ℕ, List, [], ◌∷◌, Bool, false, 
 use Rattle.std.specs.List.{filter, list_any}
 use Rattle.std.specs.FinMap as finite
 use Rattle.std.proofs.lemmas.Bool.{cases_Bool}
-use Rattle.rpm_outside.specs.Files.{Units}
-use Rattle.rpm_db.specs.Database.{Database, holds}
 use Rattle.rpm_db.specs.State.{Package, packages, above}
-use Rattle.rpm_db.specs.inner.Above.{all_above_zero}
-use Rattle.rpm_db.specs.inner.Laws.{is_there}
 use Rattle.rpm_select.specs.declared.picker.Picked.{Picked}
 use Rattle.rpm_select.specs.declared.selection.Selection.{Selection}
 use Rattle.rpm_select.specs.Picks.{NextIs}
@@ -18,32 +14,6 @@ use Rattle.rpm_check.specs.inner.Picking.{is_some_of}
 pub is_some_next : (left : List (ℕ × Package)) (o : Option Picked) → NextIs left (Ok o) → is_some o ≡ is_some_of left
 is_some_next left None none = ap is_some_of (sym none)
 is_some_next left (Some picked) some = ap is_some_of (sym some.1)
-
-commute : {X : Type 0} (p q : X → Bool) (xs : List X) → filter p (filter q xs) ≡ filter q (filter p xs)
-commute p q [] = refl
-commute p q (x ∷ xs) = elim (cases_Bool (p x)) [
-  | inl first ↦ elim (cases_Bool (q x)) [
-    | inl second ↦ simp (first, second) (ap (λ ys. x ∷ ys) (commute p q xs))
-    | inr second ↦ simp (first, second) (commute p q xs)
-  ]
-  | inr first ↦ elim (cases_Bool (q x)) [
-    | inl second ↦ simp (first, second) (commute p q xs)
-    | inr second ↦ simp (first, second) (commute p q xs)
-  ]
-]
-
-pub none_is : {X : Type 0} (o : Option X) → is_some o ≡ false → o ≡ None
-none_is None none = refl
-none_is (Some p) none = absurd cc
-
--- no package has the number 0
-pub picks_from_one : (file : Units) (db : Database) (sel : Selection) → holds 0 db ≡ false → above 0 (picks (packages file db.store) sel)
-    ≡ picks (packages file db.store) sel
-unfolding picks
-picks_from_one file db sel none =
-    let map = packages file db.store in
-    commute (λ e. nat_lt 0 e.0) (is_picked sel) (finite.entries map)
-    ∙ ap (filter (is_picked sel)) (all_above_zero map (none_is (finite.get map 0) (is_there file db 0 ∙ none)))
 
 -- ---- a filter of a list
 

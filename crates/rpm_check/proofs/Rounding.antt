@@ -9,13 +9,12 @@ use Rattle.rpm_tags.specs.Wanted.{Needed}
 use Rattle.rpm_outside.specs.Files.{Units}
 use Rattle.rpm_db.specs.Database.{Database, IsNext, holds}
 use Rattle.rpm_db.specs.State.{Package, packages, package_of, read_as, above}
-use Rattle.rpm_db.specs.inner.Above.{next_above, nothing_above, all_above_zero}
+use Rattle.rpm_db.specs.inner.Above.{none_is, next_above, nothing_above, all_above_zero}
 use Rattle.rpm_db.specs.inner.Laws.{is_there}
 use Rattle.rpm_db.specs.inner.Own.{header-own}
 use Rattle.rpm_check.specs.declared.list.Unmet.{Unmet}
 use Rattle.rpm_check.specs.Unmet.{required, unmet_in, unmet_read, unmet_of, lacks, unmet}
 use Rattle.rpm_check.specs.inner.Rounds.{unmet_at}
-use Rattle.rpm_check.proofs.Picking.{none_is}
 
 -- ---- one package
 

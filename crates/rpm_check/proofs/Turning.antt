@@ -6,11 +6,10 @@ use Rattle.std.specs.FinMap as finite
 use Rattle.rpm_outside.specs.Files.{Units}
 use Rattle.rpm_db.specs.Database.{Database, IsNext, holds}
 use Rattle.rpm_db.specs.State.{Package, Good, Bad, packages, above}
-use Rattle.rpm_db.specs.inner.Above.{next_above, nothing_above, all_above_zero}
+use Rattle.rpm_db.specs.inner.Above.{none_is, next_above, nothing_above, all_above_zero}
 use Rattle.rpm_db.specs.inner.Laws.{is_there}
 use Rattle.rpm_check.specs.Edges.{all_edges, edges_from, is_good, good_numbers}
 use Rattle.rpm_check.specs.inner.Ends.{good_of}
-use Rattle.rpm_check.proofs.Picking.{none_is}
 
 module _ {X : Type 0} (all : finite.FinMap nat_cmp Package) (f : ℕ × Package → List X) where
   -- what those above a number give

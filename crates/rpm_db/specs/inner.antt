@@ -1,5 +1,6 @@
 -- Laws on the definitions, for the crates above.
 pub mod Above
+pub mod Kept
 pub mod Laws
 pub mod LawfulLaws
 pub mod Own

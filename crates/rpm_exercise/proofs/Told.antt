@@ -5,6 +5,7 @@ use Rattle.std.specs.FinMap as finite
 use Rattle.rpm_outside.specs.Files.{Units, Files}
 use Rattle.rpm_outside.specs.Sinks.{Gained, GainedPart}
 use Rattle.rpm_outside.specs.inner.Taken.{gained_none}
+use Rattle.rpm_db.specs.inner.Above.{none_is}
 use Rattle.rpm_db.specs.Database.{Database, holds}
 use Rattle.rpm_db.specs.Lawful.{Remade}
 use Rattle.rpm_pkgdb.specs.Store.{Store}
@@ -39,10 +40,6 @@ state_remade old new before after made store =
     ap (λ (u : Units). state u after.store) made.pkg ∙ ap (λ (v : Store). state old.pkg v) store
 
 -- ---- no package has the number 0
-
-none_is : (o : Option Package) → is_some o ≡ false → o ≡ None
-none_is None none = refl
-none_is (Some p) none = absurd cc
 
 pub from_one_after : (f g : Units) (a b : Database) → (finite.get (packages f a.store) 0 ≡ None → finite.get (packages g b.store) 0 ≡ None)
     → holds 0 a ≡ false → holds 0 b ≡ false

@@ -15,7 +15,7 @@ use Rattle.rpm_select.specs.Reach.{Reach, Serves}
 use Rattle.rpm_select.specs.Selections.{picks}
 use Rattle.rpm_exercise.specs.Exercised.{exported}
 use Rattle.rpm_exercise.proofs.Parts.{each_next, each_none}
-use Rattle.rpm_exercise.proofs.Rising.{next_picked}
+use Rattle.rpm_select.specs.inner.Rising.{next_picked}
 
 -- what serves the packages that were there serves them where nothing changes
 pub served : (sel : Selection) (db : Database) (p q : Reach) (f f' : Files) → p ≡ q → f ≡ f' → Serves q (packages f'.pkg db.store) sel

@@ -10,7 +10,7 @@ use Rattle.std.proofs.lemmas.Bool.Decides.{nat_tests}
 use Rattle.rpm_header.specs.declared.form.HeaderFault.{HeaderFault}
 use Rattle.rpm_header.specs.Header.{Header, header}
 use Rattle.rpm_db.specs.State.{Package, Good, Bad}
-use Rattle.rpm_db.specs.inner.Above.{both_true}
+use Rattle.rpm_db.specs.inner.Above.{both_true, is_below}
 use Rattle.rpm_filecheck.specs.Conflicts.{path_order, files_read, files_of, as_owner, owner_of, owners, all_paths, owned}
 use Rattle.rpm_filecheck.specs.Files.{Facts, files, said_of}
 use Rattle.rpm_filecheck.specs.Owners.{Owner}
@@ -18,19 +18,6 @@ use Rattle.rpm_filecheck.specs.inner.Gathered.{Found, nothing, last_from, with_r
 use Rattle.rpm_filecheck.proofs.Joining.{last_from-append}
 use Rattle.rpm_filecheck.proofs.Folding.{path_order-same, is_sorted-with_files, grown, grown-append, IsNew, find-package}
 use Rattle.rpm_filecheck.proofs.Owning.{has-owners, find-paths, grown-none}
-
-is_lt-nat_cmp : (a b : ℕ) → is_lt (nat_cmp a b) ≡ nat_lt a b
-is_lt-nat_cmp a b = elim (nat_lt a b) as (λ t. is_lt (cond t Less (cond (a == b) Equal Greater)) ≡ t) [
-  | true ↦ refl
-  | false ↦ elim (a == b) as (λ t. is_lt (cond t Equal Greater) ≡ false) [ true ↦ refl | false ↦ refl ]
-]
-
-is_below : (a b : ℕ) → T (is_lt (nat_cmp a b)) → a < b
-is_below a b t = below_of (nat_lt a b) refl (subst T (is_lt-nat_cmp a b) t)
-  where
-    below_of : (r : Bool) → nat_lt a b ≡ r → T r → a < b
-    below_of true e u = grind (arith, nat_tests)
-    below_of false e u = absurd u
 
 -- ---- one package
 

@@ -5,17 +5,13 @@ use Rattle.std.specs.FinMap as finite
 use Rattle.rpm_outside.specs.Files.{Units}
 use Rattle.rpm_db.specs.State.{Package, packages, above}
 use Rattle.rpm_db.specs.Database.{Database, IsNext, holds}
-use Rattle.rpm_db.specs.inner.Above.{next_above, nothing_above, all_above_zero}
+use Rattle.rpm_db.specs.inner.Above.{none_is, next_above, nothing_above, all_above_zero}
 use Rattle.rpm_db.specs.inner.Laws.{is_there}
 use Rattle.rpm_filecheck.specs.inner.Gathered.{Found, with_some, with_packages}
 
 some_is : (o : Option Package) → is_some o ≡ true → (p : Package) × (o ≡ Some p)
 some_is None some = absurd cc
 some_is (Some p) some = (p, refl)
-
-none_is : (o : Option Package) → is_some o ≡ false → o ≡ None
-none_is None none = refl
-none_is (Some p) none = absurd cc
 
 -- one package more
 pub next_found : (map : finite.FinMap nat_cmp Package) (n m : ℕ) (old new all : Found) → IsNext (λ k. is_some (finite.get map k)) n (Some m)

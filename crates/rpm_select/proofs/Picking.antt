@@ -9,19 +9,7 @@ use Rattle.std.proofs.lemmas.Bool.Decides.{nat_tests}
 use Rattle.rpm_db.specs.State.{Package, above}
 use Rattle.rpm_select.specs.declared.selection.Selection.{Selection}
 use Rattle.rpm_select.specs.Selections.{is_picked, picks}
-
-commute : {X : Type 0} (p q : X → Bool) (xs : List X) → filter p (filter q xs) ≡ filter q (filter p xs)
-commute p q [] = refl
-commute p q (x ∷ xs) = elim (cases_Bool (p x)) [
-  | inl first ↦ elim (cases_Bool (q x)) [
-    | inl second ↦ simp (first, second) (ap (λ ys. x ∷ ys) (commute p q xs))
-    | inr second ↦ simp (first, second) (commute p q xs)
-  ]
-  | inr first ↦ elim (cases_Bool (q x)) [
-    | inl second ↦ simp (first, second) (commute p q xs)
-    | inr second ↦ simp (first, second) (commute p q xs)
-  ]
-]
+use Rattle.rpm_select.specs.inner.Rising.{commute}
 
 -- those that are picked among those above a number
 abbrev pub left : finite.FinMap nat_cmp Package → Selection → ℕ → List (ℕ × Package)

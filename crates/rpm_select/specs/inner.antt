@@ -7,6 +7,7 @@ pub mod Members
 pub mod Needs
 pub mod Pieces
 pub mod Reaching
+pub mod Rising
 pub mod Single
 pub mod Steps
 pub mod Unclosed

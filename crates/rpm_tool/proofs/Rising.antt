@@ -1,4 +1,4 @@
--- The packages that are picked, by rising number.
+-- The numbers of packages that are picked rise.
 use Rattle.std.proofs.Common.{◌≡◌, ℕ, ◌<◌, ◌≤◌, Bool, true, false, ◌&&◌, ◌==◌, cond, List, [], ◌∷◌, map, Option, Some, None, is_some, refl, sym, ap, ◌∙◌, subst, inl, inr, arith, nat_lt, Less, Equal, Greater}
 use Rattle.std.specs.Prelude.{T, nat_le}
 use Rattle.std.specs.Ordering.{nat_cmp, is_lt}
@@ -7,72 +7,13 @@ use Rattle.std.specs.FinMap as finite
 use Rattle.std.specs.FinMap.Entries.{below_all}
 use Rattle.std.proofs.lemmas.Bool.{cases_Bool}
 use Rattle.std.proofs.lemmas.Bool.Decides.{nat_tests}
-use Rattle.rpm_outside.specs.Files.{Units}
-use Rattle.rpm_db.specs.State.{Package, packages, above}
-use Rattle.rpm_db.specs.Database.{Database, holds}
-use Rattle.rpm_db.specs.inner.Above.{all_above_zero}
-use Rattle.rpm_db.specs.inner.Laws.{is_there}
-use Rattle.rpm_select.specs.declared.selection.Selection.{Selection}
-use Rattle.rpm_select.specs.Selections.{is_picked, picks}
+use Rattle.rpm_db.specs.State.{Package, above}
+use Rattle.rpm_db.specs.inner.Above.{both_true}
+use Rattle.rpm_db.specs.inner.Kept.{kept_above}
 use Rattle.rpm_tool.specs.Steps.{Rises}
 use Rattle.rpm_tool.specs.Answers.{is_some_of}
 
-both_true : (a b : Bool) → T (a && b) → T a × T b
-both_true true b t = (tt, t)
-both_true false b t = absurd t
-
-is_lt-nat_cmp : (a b : ℕ) → is_lt (nat_cmp a b) ≡ nat_lt a b
-is_lt-nat_cmp a b = elim (nat_lt a b) as (λ t. is_lt (cond t Less (cond (a == b) Equal Greater)) ≡ t) [
-  | true ↦ refl
-  | false ↦ elim (a == b) as (λ t. is_lt (cond t Equal Greater) ≡ false) [ true ↦ refl | false ↦ refl ]
-]
-
-is_below : (a b : ℕ) → T (is_lt (nat_cmp a b)) → a < b
-is_below a b t = below_of (nat_lt a b) refl (subst T (is_lt-nat_cmp a b) t)
-  where
-    below_of : (r : Bool) → nat_lt a b ≡ r → T r → a < b
-    below_of true e u = grind (arith, nat_tests)
-    below_of false e u = absurd u
-
 module _ {X : Type 0} (p : ℕ × X → Bool) where
-  kept_above : (k x : ℕ) (es : List (ℕ × X)) → T (below_all nat_cmp x es) → k ≤ x → above k (filter p es) ≡ filter p es
-  kept_above k x [] t le = refl
-  kept_above k x (e ∷ es) t le =
-      let s = both_true (is_lt (nat_cmp x e.0)) (below_all nat_cmp x es) t in
-      let lt : x < e.0 = is_below x e.0 s.0 in
-      let test : nat_lt k e.0 ≡ true = grind (arith, nat_tests) in
-      elim (cases_Bool (p e)) [
-        | inl takes ↦ simp (takes, test) (ap (λ ys. e ∷ ys) (kept_above k x es s.1 le))
-        | inr other ↦ rw other (kept_above k x es s.1 le)
-      ]
-
-  pub split_above : (n : ℕ) (es : List (ℕ × X)) → T (finite.is_sorted nat_cmp es) → (e : ℕ × X) (rest : List (ℕ × X))
-      → above n (filter p es) ≡ e ∷ rest → (n < e.0) × (rest ≡ above e.0 (filter p es))
-  split_above n [] t e rest is = absurd cc
-  split_above n (x ∷ xs) t e rest is =
-      let s = both_true (below_all nat_cmp x.0 xs) (finite.is_sorted nat_cmp xs) t in
-      elim (cases_Bool (p x)) [
-        | inr other ↦ (let r = split_above n xs s.1 e rest (rw other at is) in rw other r)
-        | inl takes ↦ elim (cases_Bool (nat_lt n x.0)) [
-          | inl over ↦
-              (let eq : x ∷ above n (filter p xs) ≡ e ∷ rest = rw over at (rw takes at is) in
-              let same : x ≡ e = cc in
-              let others : above n (filter p xs) ≡ rest = cc in
-              let lt : n < x.0 = grind (arith, nat_tests) in
-              let past : nat_lt x.0 x.0 ≡ false = grind (arith, nat_tests) in
-              let kept = kept_above n x.0 xs s.0 (omega arith) in
-              let again = kept_above x.0 x.0 xs s.0 (omega arith) in
-              let whole : rest ≡ above x.0 (filter p (x ∷ xs)) = simp (takes, past) (sym others ∙ kept ∙ sym again) in
-              (subst (λ (y : ℕ × X). n < y.0) same lt, subst (λ (y : ℕ × X). rest ≡ above y.0 (filter p (x ∷ xs))) same whole))
-          | inr under ↦
-              (let r = split_above n xs s.1 e rest (rw under at (rw takes at is)) in
-              let le : x.0 ≤ n = grind (arith, nat_tests) in
-              let lt : n < e.0 = r.0 in
-              let past : nat_lt e.0 x.0 ≡ false = grind (arith, nat_tests) in
-              (r.0, simp (takes, past) r.1))
-        ]
-      ]
-
   -- those above a number rise
   pub rises_above : (n : ℕ) (es : List (ℕ × X)) → T (finite.is_sorted nat_cmp es) → Rises n (map (λ e. e.0) (above n (filter p es)))
   rises_above n [] t = tt
@@ -91,40 +32,6 @@ module _ {X : Type 0} (p : ℕ × X → Bool) where
               simp (takes, over) (lt, later))
         ]
       ]
-
--- what follows the first that is picked above a number are those above its own
-pub next_picked : (map : finite.FinMap nat_cmp Package) (sel : Selection) (n : ℕ) (e : ℕ × Package) (rest : List (ℕ × Package))
-    → above n (picks map sel) ≡ e ∷ rest → above n (picks map sel) ≡ e ∷ above e.0 (picks map sel)
-unfolding picks
-next_picked map sel n e rest is =
-    let s = split_above (is_picked sel) n (finite.entries map) (finite.entries_sorted map) e rest is in
-    is ∙ ap (λ (r : List (ℕ × Package)). e ∷ r) s.1
-
-commute : {X : Type 0} (p q : X → Bool) (xs : List X) → filter p (filter q xs) ≡ filter q (filter p xs)
-commute p q [] = refl
-commute p q (x ∷ xs) = elim (cases_Bool (p x)) [
-  | inl first ↦ elim (cases_Bool (q x)) [
-    | inl second ↦ simp (first, second) (ap (λ ys. x ∷ ys) (commute p q xs))
-    | inr second ↦ simp (first, second) (commute p q xs)
-  ]
-  | inr first ↦ elim (cases_Bool (q x)) [
-    | inl second ↦ simp (first, second) (commute p q xs)
-    | inr second ↦ simp (first, second) (commute p q xs)
-  ]
-]
-
-none_is : (o : Option Package) → is_some o ≡ false → o ≡ None
-none_is None none = refl
-none_is (Some p) none = absurd cc
-
--- no package has the number 0
-pub picks_from_one : (file : Units) (db : Database) (sel : Selection) → holds 0 db ≡ false → above 0 (picks (packages file db.store) sel)
-    ≡ picks (packages file db.store) sel
-unfolding picks
-picks_from_one file db sel none =
-    let map = packages file db.store in
-    commute (λ e. nat_lt 0 e.0) (is_picked sel) (finite.entries map)
-    ∙ ap (filter (is_picked sel)) (all_above_zero map (none_is (finite.get map 0) (is_there file db 0 ∙ none)))
 
 -- where none is above a number, one that is there is at most that number
 pub any_passed : (n : ℕ) (es : List (ℕ × Package)) → above n es ≡ [] → above 0 es ≡ es → list_any (λ e. nat_le e.0 n) (above 0 es) ≡ is_some_of es

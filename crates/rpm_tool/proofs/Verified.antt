@@ -6,7 +6,7 @@ use Rattle.std.specs.FinMap as finite
 use Rattle.rpm_outside.specs.Files.{Units, Files}
 use Rattle.rpm_db.specs.State.{Package, packages, above}
 use Rattle.rpm_db.specs.Database.{Database, IsNext, holds}
-use Rattle.rpm_db.specs.inner.Above.{next_above, nothing_above, all_above_zero}
+use Rattle.rpm_db.specs.inner.Above.{none_is, next_above, nothing_above, all_above_zero}
 use Rattle.rpm_db.specs.inner.Laws.{is_there}
 use Rattle.rpm_db.specs.Verdicts.{verdict}
 use Rattle.rpm_tool.specs.Reports.{verdict_part}
@@ -21,10 +21,6 @@ use Rattle.rpm_tool.specs.Answers.{PartIs, Went, why_of}
 some_is : (o : Option Package) → is_some o ≡ true → (p : Package) × (o ≡ Some p)
 some_is None some = absurd cc
 some_is (Some p) some = (p, refl)
-
-none_is : (o : Option Package) → is_some o ≡ false → o ≡ None
-none_is None none = refl
-none_is (Some p) none = absurd cc
 
 -- the next of the packages above a number
 pub next_entry : (map : finite.FinMap nat_cmp Package) (n m : ℕ) → IsNext (λ k. is_some (finite.get map k)) n (Some m)

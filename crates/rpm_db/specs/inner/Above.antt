@@ -1,5 +1,5 @@
 -- The packages above a number.
-use Rattle.std.proofs.Common.{◌≡◌, ℕ, ◌<◌, ◌≤◌, Bool, true, false, ◌&&◌, ◌==◌, cond, List, [], ◌∷◌, Some, None, refl, sym, ap, ◌∙◌, subst, inl, inr, arith, nat_lt, Less, Equal, Greater}
+use Rattle.std.proofs.Common.{◌≡◌, ℕ, ◌<◌, ◌≤◌, Bool, true, false, ◌&&◌, ◌==◌, cond, List, [], ◌∷◌, Option, Some, None, is_some, refl, sym, ap, ◌∙◌, subst, inl, inr, arith, nat_lt, Less, Equal, Greater}
 use Rattle.std.specs.Prelude.{T}
 use Rattle.std.specs.Ordering.{nat_cmp, eq_by_cmp, is_lt}
 use Rattle.std.specs.Cmp.{unsigned_tied}
@@ -13,13 +13,17 @@ pub both_true : (a b : Bool) → T (a && b) → T a × T b
 both_true true b t = (tt, t)
 both_true false b t = absurd t
 
-is_lt-nat_cmp : (a b : ℕ) → is_lt (nat_cmp a b) ≡ nat_lt a b
+pub none_is : {X : Type 0} (o : Option X) → is_some o ≡ false → o ≡ None
+none_is None none = refl
+none_is (Some x) none = absurd cc
+
+pub is_lt-nat_cmp : (a b : ℕ) → is_lt (nat_cmp a b) ≡ nat_lt a b
 is_lt-nat_cmp a b = elim (nat_lt a b) as (λ t. is_lt (cond t Less (cond (a == b) Equal Greater)) ≡ t) [
   | true ↦ refl
   | false ↦ elim (a == b) as (λ t. is_lt (cond t Equal Greater) ≡ false) [ true ↦ refl | false ↦ refl ]
 ]
 
-is_below : (a b : ℕ) → T (is_lt (nat_cmp a b)) → a < b
+pub is_below : (a b : ℕ) → T (is_lt (nat_cmp a b)) → a < b
 is_below a b t = below_of (nat_lt a b) refl (subst T (is_lt-nat_cmp a b) t)
   where
     below_of : (r : Bool) → nat_lt a b ≡ r → T r → a < b

@@ -7,7 +7,7 @@ use Rattle.rpm_graph.specs.declared.graph.Edge.{Edge}
 use Rattle.rpm_select.specs.Reach.{is_in}
 use Rattle.rpm_check.specs.inner.Ends.{BeginsBelow, BeginsUpTo, is_end}
 use Rattle.rpm_check.proofs.Joining.{IsBehind, behind_all, behind_first, behind_more, low_more, told_more, next_drop}
-use Rattle.rpm_check.proofs.Members.{Rises, rises}
+use Rattle.rpm_select.specs.inner.Rising.{Rises, rises}
 use Rattle.rpm_check.proofs.edges.push_edges.Goals as goal
 
 pub loop-to-init : goal.loop-to-init

@@ -6,7 +6,7 @@ use Rattle.rpm_db.specs.State.{packages}
 use Rattle.rpm_db.specs.inner.Running.{runs_looks, runs_then}
 use Rattle.rpm_db.specs.inner.Writes.{SameFiles}
 use Rattle.rpm_select.specs.Selections.{picks}
-use Rattle.rpm_exercise.proofs.Rising.{picks_from_one}
+use Rattle.rpm_select.specs.inner.Rising.{picks_from_one}
 use Rattle.rpm_exercise.proofs.Halts.{reading_kind, asking_kind, all_asking}
 use Rattle.rpm_exercise.proofs.Walked.{served}
 use Rattle.rpm_exercise.proofs.counts.count_picked.Goals as goal

@@ -2,7 +2,8 @@ use Rattle.std.proofs.Common.{◌≡◌, ℕ, [], ap, sym, ◌∙◌, subst}
 use Rattle.rpm_db.specs.State.{packages, above}
 use Rattle.rpm_select.specs.Selections.{picks}
 use Rattle.rpm_tool.specs.Answers.{is_some_of}
-use Rattle.rpm_tool.proofs.Rising.{picks_from_one, any_passed}
+use Rattle.rpm_select.specs.inner.Rising.{picks_from_one}
+use Rattle.rpm_tool.proofs.Rising.{any_passed}
 use Rattle.rpm_tool.proofs.argument.is_any_passed.Goals as goal
 
 pub returns-then-after-eq0-clause-told : goal.returns-then-after-eq0-clause-told

@@ -11,7 +11,7 @@ use Rattle.rpm_tool.specs.Reports.{step_by}
 use Rattle.rpm_tool.specs.Reads.{ReadsIn}
 use Rattle.rpm_change.specs.Endings.{outputs}
 use Rattle.rpm_tool.specs.Answers.{cost_until}
-use Rattle.rpm_tool.proofs.Rising.{next_picked}
+use Rattle.rpm_select.specs.inner.Rising.{next_picked}
 use Rattle.rpm_tool.proofs.Printed.{bearer-step_by, one_next, cost_one}
 use Rattle.rpm_tool.proofs.Reached.{entry_reach, reach_one}
 use Rattle.rpm_tool.proofs.picked.print_next.Goals as goal
