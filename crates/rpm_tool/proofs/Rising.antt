@@ -25,8 +25,8 @@ module _ {X : Type 0} (p : ℕ × X → Bool) where
           | inr under ↦ simp (takes, under) (rises_above n xs s.1)
           | inl over ↦
               (let lt : n < x.0 = grind (arith, nat_tests) in
-              let same : above n (filter p xs) ≡ above x.0 (filter p xs) = kept_above n x.0 xs s.0 (omega (arith, lt))
-              ∙ sym (kept_above x.0 x.0 xs s.0 (omega arith)) in
+              let same : above n (filter p xs) ≡ above x.0 (filter p xs) = kept_above p n x.0 xs s.0 (omega (arith, lt))
+              ∙ sym (kept_above p x.0 x.0 xs s.0 (omega arith)) in
               let later : Rises x.0 (map (λ e. e.0) (above n (filter p xs))) =
               subst (λ (ys : List (ℕ × X)). Rises x.0 (map (λ e. e.0) ys)) (sym same) (rises_above x.0 xs s.1) in
               simp (takes, over) (lt, later))

@@ -9,7 +9,8 @@ use Rattle.rpm_check.specs.declared.faults.CheckFault.{CheckFault}
 use Rattle.rpm_check.specs.Answers.{IsBroken}
 use Rattle.rpm_check.specs.inner.Picking.{is_some_of}
 use Rattle.rpm_check.proofs.Faulting.{broken_from}
-use Rattle.rpm_check.proofs.Picking.{is_some_next, picks_from_one}
+use Rattle.rpm_select.specs.inner.Rising.{picks_from_one}
+use Rattle.rpm_check.proofs.Picking.{is_some_next}
 use Rattle.rpm_check.proofs.meeting.picks_any.Goals as goal
 
 pub returns-in-Err-clause-broken : goal.returns-in-Err-clause-broken

@@ -36,8 +36,9 @@ loop-picked-preserved g c =
       goes = λ told serves.
           let same = inv.runs.reads_as told in
           let next = rw c.in-Ok-Some.field-0-is at (done.told told (served sel db c.loop-picked.picker c.args.picker.now mid start inv.same same serves)) in
+          let left : Files → List (ℕ × Package) = λ f. above n (picks (packages f.pkg db.store) sel) in
           let here =
-          subst (λ (f : Files). (rest : List (ℕ × Package)) × (above n (picks (packages f.pkg db.store) sel) ≡ entry_in c.in-Ok-Some.picked ∷ rest)) same next in
+          subst (λ (f : Files). (rest : List (ℕ × Package)) × (left f ≡ entry_in c.in-Ok-Some.picked ∷ rest)) same next in
           rw c.number_of-number.ensures (count_more (packages start.pkg db.store) sel n c.in-Ok-Some.picked here.0 here.1 c.loop-picked.count
           (length (above 0 (picks (packages start.pkg db.store) sel))) (inv.goes told serves));
       runs = runs_then g.D.Disk.tells g.D.Disk.files g.D.Disk.left_since g.D.Disk.moment g.D.Disk.bytes_read g.D.Disk.follows g.met.D.Disk.follows_trans
@@ -64,8 +65,9 @@ loop-picked-preserved-in-Ok-Some g c =
       goes = λ told serves.
           let same = inv.runs.reads_as told in
           let next = rw c.in-Ok-Some.field-0-is at (done.told told (served sel db c.loop-picked.picker c.args.picker.now mid start inv.same same serves)) in
+          let left : Files → List (ℕ × Package) = λ f. above n (picks (packages f.pkg db.store) sel) in
           let here =
-          subst (λ (f : Files). (rest : List (ℕ × Package)) × (above n (picks (packages f.pkg db.store) sel) ≡ entry_in c.in-Ok-Some.picked ∷ rest)) same next in
+          subst (λ (f : Files). (rest : List (ℕ × Package)) × (left f ≡ entry_in c.in-Ok-Some.picked ∷ rest)) same next in
           rw c.number_of-number.ensures (count_more (packages start.pkg db.store) sel n c.in-Ok-Some.picked here.0 here.1 c.loop-picked.count
           (length (above 0 (picks (packages start.pkg db.store) sel))) (inv.goes told serves));
       runs = runs_then g.D.Disk.tells g.D.Disk.files g.D.Disk.left_since g.D.Disk.moment g.D.Disk.bytes_read g.D.Disk.follows g.met.D.Disk.follows_trans

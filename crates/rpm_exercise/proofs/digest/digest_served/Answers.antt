@@ -39,8 +39,9 @@ loop-picked-preserved g c =
       goes = λ told serves.
           let same = inv.runs.reads_as told in
           let next = rw c.in-Ok-Some.field-0-is at (done.told told (served sel db c.loop-picked.picker c.args.picker.now mid start inv.same same serves)) in
+          let left : Files → List (ℕ × Package) = λ f. above n (picks (packages f.pkg db.store) sel) in
           let here =
-          subst (λ (f : Files). (rest : List (ℕ × Package)) × (above n (picks (packages f.pkg db.store) sel) ≡ entry_in c.in-Ok-Some.picked ∷ rest)) same next in
+          subst (λ (f : Files). (rest : List (ℕ × Package)) × (left f ≡ entry_in c.in-Ok-Some.picked ∷ rest)) same next in
           let fed = inv.goes told serves in (
             fed.0 ++ exported (entry_in c.in-Ok-Some.picked),
             (
@@ -72,8 +73,9 @@ loop-picked-preserved-in-Ok-Some g c =
       goes = λ told serves.
           let same = inv.runs.reads_as told in
           let next = rw c.in-Ok-Some.field-0-is at (done.told told (served sel db c.loop-picked.picker c.args.picker.now mid start inv.same same serves)) in
+          let left : Files → List (ℕ × Package) = λ f. above n (picks (packages f.pkg db.store) sel) in
           let here =
-          subst (λ (f : Files). (rest : List (ℕ × Package)) × (above n (picks (packages f.pkg db.store) sel) ≡ entry_in c.in-Ok-Some.picked ∷ rest)) same next in
+          subst (λ (f : Files). (rest : List (ℕ × Package)) × (left f ≡ entry_in c.in-Ok-Some.picked ∷ rest)) same next in
           let fed = inv.goes told serves in (
             fed.0 ++ exported (entry_in c.in-Ok-Some.picked),
             (
