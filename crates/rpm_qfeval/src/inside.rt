@@ -1,17 +1,17 @@
 //! A bracket is put over the columns of its tags, round by round.
 
-ghost use Rattle.std.specs.Prelude.{◌≡◌, ℕ, ◌∷◌, [], true, IfSome, slice_get};
+ghost use Rattle.std.specs.Prelude.{◌≡◌, ◌<◌, ◌∷◌, [], true, length, IfSome, slice_get};
 ghost use Rattle.rpm_qfeval.specs.Columns.{AreTold};
 ghost use Rattle.rpm_outside.specs.Sinks.{Writes};
 ghost use Rattle.rpm_qfeval.specs.Meaning.{bytes, part_bytes, rounds, counts};
 ghost use Rattle.rpm_qfeval.specs.Proper.{AreProper, PartIsProper};
-ghost use Rattle.rpm_qfeval.specs.Ready.{AreReady, IsReady};
+ghost use Rattle.rpm_qfparse.specs.Shape.{parts_of};
+ghost use Rattle.rpm_qfeval.specs.Ready.{AreReady, IsReady, PutsFrom};
 
 use crate::columns::Column;
 use crate::lookup::{is_present, put_tag};
-use crate::ready::{Ready, put_number};
+use crate::ready::{ROOM, Ready, write_numbers};
 use crate::sizes::count_rounds;
-use itoa::Buffer as Decimal;
 use rpm_header::View;
 use rpm_outside::{Failed, Sink, put_all};
 use rpm_qfparse::{Part, Parts};
@@ -80,7 +80,6 @@ fn put_part_at<O: Sink>(
     columns: &mut [Option<Column<'_, '_>>],
     ready: &mut [Ready<'_>],
     next: &mut usize,
-    digits: &mut Decimal,
     round: u32,
 ) -> Result<(), Failed>
     requires told { AreTold view.now number columns.old }
@@ -91,18 +90,69 @@ fn put_part_at<O: Sink>(
     ensures ready { ready.new ≡ ready.old }
 {
     if i < ready.len() {
-        match &mut ready[i] {
-            Ready::Other => {}
-            Ready::Texts(texts) => return texts.put(sink, round),
-            Ready::Numbers(numbers) => return put_number(sink, digits, numbers, round),
+        if let Ready::Texts(texts) = &mut ready[i] {
+            return texts.put(sink, round);
         }
     }
     put_inner_part(sink, part, view, number, columns, next, round)
 }
 
-/// The parts of a bracket in a round.
+/// Whether what stands ready at a place are numbers.
+#[inline(always)]
+fn is_number(ready: &[Ready<'_>], i: usize) -> bool
+    ensures { result ≡ true → i < length ready.now }
+{
+    i < ready.len() && matches!(&ready[i], Ready::Numbers(_))
+}
+
+/// The numbers of a bracket that stand side by side from a place on, in a round, or the part there. Gives
+/// the place behind them.
 #[inline(always)]
 #[tactic(auto, using(crate::proofs::ProperParts::part_is_proper))]
+fn put_next<O: Sink>(
+    sink: &mut O,
+    inner: &Parts,
+    i: usize,
+    view: &View<'_>,
+    number: u32,
+    columns: &mut [Option<Column<'_, '_>>],
+    ready: &mut [Ready<'_>],
+    next: &mut usize,
+    room: &mut [u8; ROOM],
+    round: u32,
+) -> Result<usize, Failed>
+    requires below { i < length (parts_of inner.now) }
+    requires told { AreTold view.now number columns.old }
+    requires ready { AreReady view.now number inner.now ready.old }
+    requires proper { AreProper true inner.now }
+    ensures goes { PutsFrom O.tells O.taken O.faults O.follows view.now number round inner.now i sink.old sink.new result }
+    ensures columns { columns.new ≡ columns.old }
+    ensures ready { ready.new ≡ ready.old }
+{
+    let left = inner.len() - i;
+    if is_number(ready, i) {
+        let (start, count) = write_numbers(room, ready, i, round, 0);
+        if count > 0 && count <= left {
+            put_all(sink, &room[start..])?;
+            return Ok(i + count);
+        }
+    }
+    put_part_at(
+        sink,
+        inner.at(i),
+        i,
+        view,
+        number,
+        columns,
+        ready,
+        next,
+        round,
+    )?;
+    Ok(i + 1)
+}
+
+/// The parts of a bracket in a round.
+#[inline(always)]
 fn put_round<O: Sink>(
     sink: &mut O,
     inner: &Parts,
@@ -111,7 +161,7 @@ fn put_round<O: Sink>(
     columns: &mut [Option<Column<'_, '_>>],
     ready: &mut [Ready<'_>],
     next: &mut usize,
-    digits: &mut Decimal,
+    room: &mut [u8; ROOM],
     round: u32,
 ) -> Result<(), Failed>
     requires told { AreTold view.now number columns.old }
@@ -121,10 +171,10 @@ fn put_round<O: Sink>(
     ensures columns { columns.new ≡ columns.old }
     ensures ready { ready.new ≡ ready.old }
 {
-    for i in 0..inner.len() {
-        let part = inner.at(i);
-        put_part_at(
-            sink, part, i, view, number, columns, ready, next, digits, round,
+    let mut i = 0;
+    while i < inner.len() {
+        i = put_next(
+            sink, inner, i, view, number, columns, ready, next, room, round,
         )?;
     }
     Ok(())
@@ -146,18 +196,10 @@ fn put_rounds<O: Sink>(
     ensures { Writes O.tells O.taken O.faults O.follows sink.old sink.new (rounds (count ∷ []) (λ i. bytes view.now number i inner.now)) result }
 {
     let mut next = 0;
-    let mut digits = Decimal::new();
+    let mut room = [0; ROOM];
     for round in 0..count {
         put_round(
-            sink,
-            inner,
-            view,
-            number,
-            columns,
-            ready,
-            &mut next,
-            &mut digits,
-            round,
+            sink, inner, view, number, columns, ready, &mut next, &mut room, round,
         )?;
     }
     Ok(())

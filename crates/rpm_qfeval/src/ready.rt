@@ -1,34 +1,15 @@
 //! The parts of a bracket that print texts or numbers of the header as they are.
 
-ghost use Rattle.std.specs.Prelude.{◌≡◌, [], slice_get, map, decimal};
-ghost use Rattle.rpm_outside.specs.Sinks.{Writes};
+ghost use Rattle.std.specs.Prelude.{◌≡◌, ◌+◌, ◌*◌, ◌≤◌, [], drop};
 ghost use Rattle.rpm_qfparse.specs.declared.tree.Part.TheVariants as part;
-ghost use Rattle.rpm_qfeval.specs.Formatters.{or_none};
-ghost use Rattle.rpm_qfeval.specs.Ready.{IsReady, AreReady};
+ghost use Rattle.rpm_qfeval.specs.Ready.{AreDigits, IsReady, AreReady};
 
 use crate::plain_texts::PlainTexts;
 use arrayvec::ArrayVec;
-use itoa::Buffer as Decimal;
+use itoa::write_digits;
 use rpm_header::View;
-use rpm_outside::{Failed, Sink, put_all};
 use rpm_qfparse::{Part, Parts, Role, Show, TagPart};
 use rpm_tags::{Numbers, Tag, numbers_in, texts_in};
-
-/// Puts the number of a round.
-#[inline(always)]
-pub fn put_number<O: Sink>(
-    sink: &mut O,
-    digits: &mut Decimal,
-    numbers: &Numbers<'_>,
-    round: u32,
-) -> Result<(), Failed>
-    ensures { Writes O.tells O.taken O.faults O.follows sink.old sink.new (or_none (slice_get (map decimal numbers.now) round)) result }
-{
-    if round >= numbers.count() {
-        return put_all(sink, b"(none)");
-    }
-    put_all(sink, digits.format(numbers.number(round)).as_bytes())
-}
 
 /// What stands ready of a part of a bracket: what it prints as it is, of which each round has the one
 /// at its place; nothing of any other part.
@@ -38,6 +19,36 @@ pub enum Ready<'a> {
     Other,
     Texts(PlainTexts<'a>),
     Numbers(Numbers<'a>),
+}
+
+/// Room for the digits of 16 numbers.
+pub const ROOM: usize = 320;
+
+/// Writes the numbers of a round that stand side by side from a place on, 16 at most with so many before
+/// them. The last one is written first, at the end of the room. Gives where the first one begins, and how
+/// many they are.
+pub fn write_numbers(
+    room: &mut [u8; ROOM],
+    ready: &[Ready<'_>],
+    place: usize,
+    round: u32,
+    before: usize,
+) -> (usize, usize)
+    requires { before ≤ 16 }
+    ensures most { before + result.1 ≤ 16 }
+    ensures room { 20 * before ≤ result.0 }
+    ensures within { result.0 ≤ 320 }
+    ensures digits { AreDigits (drop place ready.now) round result.1 (drop result.0 room.new) }
+{
+    if before == 16 || place >= ready.len() {
+        return (ROOM, 0);
+    }
+    let number = match &ready[place] {
+        Ready::Numbers(numbers) if round < numbers.count() => numbers.number(round),
+        _ => return (ROOM, 0),
+    };
+    let (end, count) = write_numbers(room, ready, place + 1, round, before + 1);
+    (write_digits(number, room, end), count + 1)
 }
 
 /// What stands ready of a tag.
