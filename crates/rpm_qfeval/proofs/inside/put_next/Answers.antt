@@ -48,9 +48,9 @@ returns-in_err-put_all-clause-goes g c =
     let n = c.write_numbers-start.result.1 in
     let room : List ℕ = c.write_numbers-start.new.room in
     let end : take (320 - c.write_numbers-start.result.0) (drop c.write_numbers-start.result.0 room) ≡ drop c.write_numbers-start.result.0 room =
-        to_end room c.write_numbers-start.result.0 (search rules) in
+    to_end room c.write_numbers-start.result.0 (search rules) in
     let digits : AreDigits (drop c.args.i c.args.ready.now) c.args.round n (take (320 - c.write_numbers-start.result.0)
-        (drop c.write_numbers-start.result.0 room)) = rw end c.write_numbers-start.ensures.digits in
+    (drop c.write_numbers-start.result.0 room)) = rw end c.write_numbers-start.ensures.digits in
     let le : c.args.i + n ≤ length (parts_of c.args.inner.now) = omega (arith, c.requires.below, c.len.ensures, c.if-count-left.true) in
     failed (c.args.i + n) _ c.from_residual.result c.from_residual.ensures.0 (omega (arith, c.if-count-gt0.true))
     (digits_are c.args.view.now c.args.number c.args.round c.args.inner.now c.args.ready.now c.requires.ready c.args.i n _ le digits) c.in_err-put_all.ensures
@@ -60,9 +60,9 @@ returns-then-count-left-clause-goes g c =
     let n = c.write_numbers-start.result.1 in
     let room : List ℕ = c.write_numbers-start.new.room in
     let end : take (320 - c.write_numbers-start.result.0) (drop c.write_numbers-start.result.0 room) ≡ drop c.write_numbers-start.result.0 room =
-        to_end room c.write_numbers-start.result.0 (search rules) in
+    to_end room c.write_numbers-start.result.0 (search rules) in
     let digits : AreDigits (drop c.args.i c.args.ready.now) c.args.round n (take (320 - c.write_numbers-start.result.0)
-        (drop c.write_numbers-start.result.0 room)) = rw end c.write_numbers-start.ensures.digits in
+    (drop c.write_numbers-start.result.0 room)) = rw end c.write_numbers-start.ensures.digits in
     let le : c.args.i + n ≤ length (parts_of c.args.inner.now) = omega (arith, c.requires.below, c.len.ensures, c.if-count-left.true) in
     went_on (omega (arith, c.if-count-gt0.true)) (digits_are c.args.view.now c.args.number c.args.round c.args.inner.now c.args.ready.now
     c.requires.ready c.args.i n _ le digits) c.in_ok-put_all.ensures

@@ -1,4 +1,4 @@
-use Rattle.std.proofs.Common.{◌≡◌, ◌≤◌, ◌<◌, ◌^◌, [], length, drop, decimal, arith, rules}
+use Rattle.std.proofs.Common.{◌≤◌, length, decimal, arith, rules}
 use Rattle.std.proofs.lemmas.Fmt.{length-decimal-le}
 use Rattle.rpm_qfeval.proofs.Steps.{drop_all}
 use Rattle.rpm_qfeval.proofs.ready.+write_numbers.Goals as goal
