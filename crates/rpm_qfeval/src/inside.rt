@@ -94,14 +94,17 @@ fn put_part_at<O: Sink>(
             return texts.put(sink, round);
         }
     }
+    // Most parts between tags are texts, which are put without a call.
+    if let Part::Text(text) = part {
+        return put_all(sink, text.as_slice());
+    }
     put_inner_part(sink, part, view, number, columns, next, round)
 }
 
-/// Whether what stands ready at a place are numbers.
+/// Whether numbers stand ready at a place. That spares other parts a call, and either answer prints the
+/// same.
 #[inline(always)]
-fn is_number(ready: &[Ready<'_>], i: usize) -> bool
-    ensures { result ≡ true → i < length ready.now }
-{
+fn is_number(ready: &[Ready<'_>], i: usize) -> bool {
     i < ready.len() && matches!(&ready[i], Ready::Numbers(_))
 }
 
