@@ -74,8 +74,12 @@ fn is_tail(size: u32, rest: &[u8]) -> bool
     word(tail, 1) == size && word(tail, 2) == TAIL
 }
 
-/// The two sums of Adler-32, carried on.
-pub fn sums(a: u32, b: u32, bytes: &[u8]) -> (u32, u32)
+/// How many bytes are summed up before a remainder is taken: the second sum, at most 65520 + 3840 * (65520 + 3840 * 255), fits a `u32`.
+const RUN: usize = 3840;
+
+/// The two sums over few bytes, with one remainder at the end.
+fn short_sums(a: u32, b: u32, bytes: &[u8]) -> (u32, u32)
+    requires few { length bytes.now ≤ 3840 }
     requires a { a < 65521 }
     requires b { b < 65521 }
     ensures sums { result ≡ sums a b bytes.now }
@@ -85,8 +89,27 @@ pub fn sums(a: u32, b: u32, bytes: &[u8]) -> (u32, u32)
     let mut low = a;
     let mut high = b;
     for x in bytes {
-        low = (low + *x as u32) % 65_521;
-        high = (high + low) % 65_521;
+        low += *x as u32;
+        high += low;
+    }
+    (low % 65_521, high % 65_521)
+}
+
+/// The two sums of Adler-32, carried on. Takes some four instructions a byte.
+pub fn sums(a: u32, b: u32, bytes: &[u8]) -> (u32, u32)
+    requires a { a < 65521 }
+    requires b { b < 65521 }
+    ensures sums { result ≡ sums a b bytes.now }
+    ensures first { result.0 < 65521 }
+    ensures second { result.1 < 65521 }
+{
+    let mut low = a;
+    let mut high = b;
+    let mut rest = bytes;
+    while !rest.is_empty() {
+        let (run, more) = rest.split_at(rest.len().min(RUN));
+        (low, high) = short_sums(low, high, run);
+        rest = more;
     }
     (low, high)
 }
