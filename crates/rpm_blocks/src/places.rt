@@ -7,12 +7,15 @@ ghost use Rattle.rpm_blocks.specs.Places.{IsPlace};
 
 use super::Range;
 
-/// How many ranges begin below the block. A binary search.
+/// How many ranges begin below the block: all, if the last does, and else a binary search finds it.
 pub fn place(ranges: &[Range], block: u32) -> usize
     requires { AreApart 0 ranges.now }
     ensures { IsPlace ranges.now block result }
 {
-    ranges.partition_point(|range| range.start < block)
+    match ranges.last() {
+        Some(last) if last.start < block => ranges.len(),
+        _ => ranges.partition_point(|range| range.start < block),
+    }
 }
 
 /// Puts a range in at a place, where there is room for it.

@@ -1,6 +1,6 @@
 //! Runs: ranges that do not touch each other.
 
-ghost use Rattle.std.specs.Prelude.{◌≡◌, ℕ, ◌+◌, ◌<◌, ◌≤◌, ◌↔◌, ◌∷◌, vec_len, vec_capacity, IsTrue};
+ghost use Rattle.std.specs.Prelude.{◌≡◌, ℕ, ◌+◌, ◌<◌, ◌≤◌, ◌↔◌, ◌∷◌, vec_len, vec_capacity, IsTrue, false};
 ghost use Rattle.rpm_blocks.specs.declared.Range.{Range};
 ghost use Rattle.rpm_blocks.specs.Blocks.{end_of, block_limit, Has, IsUnused, IsFree, IsRange, AreApart, IsLeastFit};
 ghost use Rattle.rpm_blocks.specs.Places.{IsGap, HaveSameBlocks};
@@ -22,10 +22,47 @@ pub fn join(runs: &mut Vec<Range>, range: Range)
     ensures len { vec_len runs.new ≤ vec_len runs.old + 1 }
     ensures capacity { vec_capacity runs.new ≡ vec_capacity runs.old }
 {
+    if !extend_last(runs, range) {
+        join_between(runs, range);
+    }
+}
+
+// Adds them where they lie, to the runs that they touch.
+fn join_between(runs: &mut Vec<Range>, range: Range)
+    requires apart { AreApart 1 runs.old.items }
+    requires range { IsRange range }
+    requires free { IsFree runs.old.items range }
+    requires room { vec_len runs.old < vec_capacity runs.old }
+    ensures apart { AreApart 1 runs.new.items }
+    ensures same { HaveSameBlocks (range ∷ runs.old.items) runs.new.items }
+    ensures len { vec_len runs.new ≤ vec_len runs.old + 1 }
+    ensures capacity { vec_capacity runs.new ≡ vec_capacity runs.old }
+{
     let at = place(runs, range.start);
     let (at, joined) = join_below(runs, at, range);
     let whole = join_above(runs, at, joined);
     put(runs, at, whole);
+}
+
+// Adds a range to the last run, if it begins where that ends, as in a file without gaps. Says whether it did.
+fn extend_last(runs: &mut Vec<Range>, range: Range) -> bool
+    requires apart { AreApart 1 runs.old.items }
+    requires range { IsRange range }
+    ensures apart { AreApart 1 runs.new.items }
+    ensures same { IsTrue result → HaveSameBlocks (range ∷ runs.old.items) runs.new.items }
+    ensures not { result ≡ false → runs.new.items ≡ runs.old.items }
+    ensures len { vec_len runs.new ≡ vec_len runs.old }
+    ensures capacity { vec_capacity runs.new ≡ vec_capacity runs.old }
+{
+    if runs.is_empty() {
+        return false;
+    }
+    let last = runs.len() - 1;
+    if runs[last].end() != range.start {
+        return false;
+    }
+    runs[last].count += range.count;
+    true
 }
 
 // Takes out the run that ends where the range begins, and answers both as one range, with its place.
