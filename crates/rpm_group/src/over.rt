@@ -54,31 +54,8 @@ fn read_below<D: Disk>(
     read_some(below, file, unit, &mut into[..16 * there])
 }
 
-/// Reads units below, unless all of them are held.
-fn read_unheld<D: Disk>(
-    pages: &Pages,
-    below: &mut D,
-    file: File,
-    unit: u64,
-    end: u64,
-    into: &mut [u8],
-) -> Result<(), Failed>
-    requires whole { length into.old % 16 ≡ 0 }
-    requires room { unit + length into.old / 16 < 2 ^ 64 }
-    requires end { IsTrue D.tells → end ≡ length (file_of file (D.files below.old)) }
-    ensures units { OnOk result (IsTrue D.tells → (k : ℕ) → k < length into.old / 16 → is_held pages.now.table.items (unit + k) ≡ false
-        → unit_in into.new k ≡ unit_at (file_of file (D.files below.old)) (unit + k)) }
-    ensures looks { Looks D.tells D.files D.left_since D.moment D.bytes_read D.follows file (length into.old) below.old below.new }
-    ensures cause { HasCause (D.faults below.old) (D.faults below.new) result }
-{
-    if pages.covers(unit as usize, into.len() / 16) {
-        return Ok(());
-    }
-    read_below(below, file, unit, end, into)
-}
-
-/// Reads units over those below.
-pub fn read_over<D: Disk>(
+/// Reads units of which some aren't held, over those below.
+fn read_partly<D: Disk>(
     layers: &Layers,
     below: &mut D,
     file: File,
@@ -103,7 +80,30 @@ pub fn read_over<D: Disk>(
     if unit > whole || into.len() as u64 / 16 > whole - unit {
         return below.read_at(file, unit, into);
     }
-    read_unheld(pages, below, file, unit, end, into)?;
+    read_below(below, file, unit, end, into)?;
     pages.lay(unit as usize, into);
     Ok(())
+}
+
+/// Reads units over those below, of which nothing is asked where all of these units are held.
+pub fn read_over<D: Disk>(
+    layers: &Layers,
+    below: &mut D,
+    file: File,
+    unit: u64,
+    into: &mut [u8],
+) -> Result<(), Failed>
+    requires whole { length into.old % 16 ≡ 0 }
+    requires within { IsTrue D.tells → unit + length into.old / 16 ≤ length (file_of file (laid_files layers.now (D.files below.old))) }
+    ensures units { OnOk result (IsTrue D.tells
+        → units_of into.new ≡ take (length into.old / 16) (drop unit (file_of file (laid_files layers.now (D.files below.old))))) }
+    ensures looks { Looks D.tells D.files D.left_since D.moment D.bytes_read D.follows file (length into.old) below.old below.new }
+    ensures cause { HasCause (D.faults below.old) (D.faults below.new) result }
+{
+    let pages = layers.file(file);
+    if pages.covers(unit, into.len() as u64 / 16) {
+        pages.lay(unit as usize, into);
+        return Ok(());
+    }
+    read_partly(layers, below, file, unit, into)
 }

@@ -60,12 +60,15 @@ impl Pages {
     }
 
     /// Whether all of so many units from this one on are held.
-    pub fn covers(&self, unit: usize, count: usize) -> bool
-        requires room { unit + count < 2 ^ 64 }
-        ensures { IsTrue result → AreHeld self.now.table.items unit (unit + count) }
+    pub fn covers(&self, unit: u64, count: u64) -> bool
+        ensures within { IsTrue result → unit + count ≤ self.now.end }
+        ensures held { IsTrue result → AreHeld self.now.table.items unit (unit + count) }
     {
-        let end = unit + count;
-        end as u64 <= self.end && next_unit(&self.table, unit, end, false) == end
+        if unit > self.end || count > self.end - unit {
+            return false;
+        }
+        let end = (unit + count) as usize;
+        next_unit(&self.table, unit as usize, end, false) == end
     }
 
     /// How long the file is, where it is so long below.

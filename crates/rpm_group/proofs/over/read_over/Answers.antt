@@ -1,82 +1,24 @@
-use Rattle.std.proofs.Common.{◌≡◌, ℕ, ◌+◌, ◌/◌, ◌≤◌, max, length, take, drop, sym, ap, ◌∙◌, subst, arith}
-use Rattle.rpm_outside.specs.declared.disk.File.{File}
-use Rattle.rpm_outside.specs.Files.{Units, Files, file_of, unit_at}
-use Rattle.rpm_group.specs.declared.layers.Layers.{Layers}
+use Rattle.std.proofs.Common.{◌≡◌, ℕ, ◌+◌, ◌/◌, true, false, length, take, drop, refl, sym, ap, ◌∙◌, arith}
+use Rattle.rpm_outside.specs.Files.{Units, Files, file_of}
 use Rattle.rpm_group.specs.declared.pages.Pages.{Pages}
-use Rattle.rpm_group.specs.Held.{laid, EndsAt}
-use Rattle.rpm_group.specs.Layers.{pages_of, laid_file, laid_files, file_of-laid}
-use Rattle.rpm_group.proofs.Laids.{length-laid, laid_none}
-use Rattle.rpm_group.proofs.Readouts.{on_ok_map, read_laid}
+use Rattle.rpm_group.specs.Layers.{laid_file, file_of-laid}
+use Rattle.rpm_group.specs.inner.HeldUnits.{AreHeld}
+use Rattle.rpm_group.proofs.Laids.{length-laid}
+use Rattle.rpm_group.proofs.Readouts.{read_laid}
 use Rattle.rpm_group.proofs.over.read_over.Goals as goal
-use Rattle.rpm_group.proofs.over.read_over.Goals.{then-unit-whole-via-then-unit-whole, then-unit-whole-via-else-unit-whole+then-into-whole}
 
--- how long a file is under what is held
-length_over : (file : File) (layers : Layers) (files : Files) → length (file_of file (laid_files layers files)) ≡ max (length (file_of file files))
-    (pages_of file layers).end
-length_over file layers files = ap length (file_of-laid file layers files) ∙ length-laid (pages_of file layers).table.items (pages_of file layers).end
-    (file_of file files)
-
--- a file of which nothing is held reads as below
-alone : (file : File) (layers : Layers) (files : Files) (pages : Pages) → pages ≡ pages_of file layers → pages.end ≡ 0
-    → file_of file (laid_files layers files) ≡ file_of file files
-alone file layers files pages is none =
-    file_of-laid file layers files
-    ∙ ap (λ (p : Pages). laid_file p (file_of file files)) (sym is)
-    ∙ ap (λ (e : ℕ). laid pages.table.items e (file_of file files)) none
-    ∙ laid_none pages.table.items (file_of file files) (subst (EndsAt pages.table.items) none pages.past)
-
-never : (unit n below whole : ℕ) (file : File) (layers : Layers) (files : Files) (pages : Pages) → below ≡ length (file_of file files)
-    → pages ≡ pages_of file layers → whole ≡ max below pages.end → unit + n ≤ length (file_of file (laid_files layers files)) → unit + n ≤ whole
-never unit n below whole file layers files pages long is max_is within =
-    omega (arith, within, length_over file layers files, long, max_is, ap (λ (p : Pages). p.end) is)
-
-pub read_at-requires-clause-within : goal.read_at-requires-clause-within
-read_at-requires-clause-within g c = λ told.
-    let same = alone c.args.file c.args.layers.now (g.D.Disk.files c.args.below.now) c.file-pages.result.now c.file-pages.ensures c.if-pages-eq0.true in
-    subst (λ (us : Units). c.args.unit + length c.args.into.now / 16 ≤ length us) same (c.requires.within told)
-
-pub returns-then-pages-eq0-clause-units : goal.returns-then-pages-eq0-clause-units
-returns-then-pages-eq0-clause-units g c =
-    let same = alone c.args.file c.args.layers.now (g.D.Disk.files c.args.below.now) c.file-pages.result.now c.file-pages.ensures c.if-pages-eq0.true in
-    on_ok_map c.read_at.result c.read_at.ensures.units
-    (λ read told. read told ∙ ap (λ (us : Units). take (length c.args.into.now / 16) (drop c.args.unit us)) (sym same))
-
-pub read_at-requires-then-unit-whole-clause-within : goal.read_at-requires-then-unit-whole-clause-within
-read_at-requires-then-unit-whole-clause-within g c = λ told.
-    let fits = never c.args.unit (length c.args.into.now / 16) c.in_ok-end.end c.length-whole.result c.args.file c.args.layers.now
-    (g.D.Disk.files c.args.below.now) c.file-pages.result.now (c.in_ok-end.ensures.length told) c.file-pages.ensures c.length-whole.ensures
-    (c.requires.within told) in
-    elim c.then-unit-whole.branch [
-      | then-unit-whole-via-then-unit-whole w ↦ absurd (omega (arith, fits, w.if-unit-whole.true))
-      | then-unit-whole-via-else-unit-whole+then-into-whole w ↦ absurd (omega (arith, fits, w.if-unit-whole.false, w.if-into-whole.true))
-    ]
-
-pub returns-then-unit-whole-clause-units : goal.returns-then-unit-whole-clause-units
-returns-then-unit-whole-clause-units g c =
-    on_ok_map c.read_at-then-unit-whole.result c.read_at-then-unit-whole.ensures.units
-    (λ read told.
-    let fits = never c.args.unit (length c.args.into.now / 16) c.in_ok-end.end c.length-whole.result c.args.file c.args.layers.now
-    (g.D.Disk.files c.args.below.now) c.file-pages.result.now (c.in_ok-end.ensures.length told) c.file-pages.ensures c.length-whole.ensures
-    (c.requires.within told) in
-    elim c.then-unit-whole.branch [
-      | then-unit-whole-via-then-unit-whole w ↦ absurd (omega (arith, fits, w.if-unit-whole.true))
-      | then-unit-whole-via-else-unit-whole+then-into-whole w ↦ absurd (omega (arith, fits, w.if-unit-whole.false, w.if-into-whole.true))
-    ])
-
-pub returns-clause-units : goal.returns-clause-units
-returns-clause-units g c = λ told.
-    let D = g.D.Disk in
-    let files : Files = D.files c.args.below.now in
+pub returns-then-covers-clause-units : goal.returns-then-covers-clause-units
+returns-then-covers-clause-units g c = λ told.
+    let files : Files = g.D.Disk.files c.args.below.now in
+    let unit = c.args.unit in
     let n = length c.args.into.now / 16 in
     let pages = c.file-pages.result.now in
     let file : Units = file_of c.args.file files in
-    let fits = never c.args.unit n c.in_ok-end.end c.length-whole.result c.args.file c.args.layers.now files pages (c.in_ok-end.ensures.length told)
-    c.file-pages.ensures c.length-whole.ensures (c.requires.within told) in
-    let same = (c.in_ok-end.ensures.untouched told).same in
-    read_laid pages.table.items pages.end file c.args.unit n c.read_unheld.new.into c.lay.new.into pages.past
-    (omega (arith, c.lay.auto.into, c.read_unheld.auto.into)) (sym c.lay.auto.into)
-    (omega (arith, fits, length-laid pages.table.items pages.end file, c.length-whole.ensures, c.in_ok-end.ensures.length told))
-    (λ k below unheld. c.in_ok-read_unheld.ensures.units told k below unheld ∙ ap (λ (f : Files). unit_at (file_of c.args.file f) (c.args.unit + k)) same)
+    let held : AreHeld pages.table.items unit (unit + n) = c.if-covers.ensures.held refl in
+    read_laid pages.table.items pages.end file unit n c.args.into.now c.lay.new.into pages.past
+    (omega (arith, c.lay.auto.into)) (sym c.lay.auto.into)
+    (omega (arith, length-laid pages.table.items pages.end file, c.if-covers.ensures.within refl))
+    (λ k below unheld. absurd (let e : true ≡ false = sym (held (unit + k) (omega arith) (omega arith)) ∙ unheld in cc))
     c.lay.ensures
-    ∙ ap (λ (p : Pages). take n (drop c.args.unit (laid_file p file))) c.file-pages.ensures
-    ∙ ap (λ (us : Units). take n (drop c.args.unit us)) (sym (file_of-laid c.args.file c.args.layers.now files))
+    ∙ ap (λ (p : Pages). take n (drop unit (laid_file p file))) c.file-pages.ensures
+    ∙ ap (λ (us : Units). take n (drop unit us)) (sym (file_of-laid c.args.file c.args.layers.now files))
