@@ -116,7 +116,7 @@ impl Used {
     /// Adds a range, which meets no other. Takes no memory.
     ///
     /// Asks for room, for a block at least, for an end at or below the limit, and that no block of it is used.
-    /// Two binary searches, and the ranges and runs above it move: none, where it is behind the last.
+    /// Two binary searches, and the ranges and runs above it move: neither, where it is behind the last.
     pub fn insert(&mut self, start: u32, count: u32)
         requires room { 1 ≤ self.old.spare }
         requires filled { 1 ≤ count }

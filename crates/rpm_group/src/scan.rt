@@ -54,8 +54,8 @@ fn next_in(table: &Table, q: usize, from: usize, end: usize, held: bool) -> usiz
     }
 }
 
-/// The first unit from this one on that is held or isn't, or the end.
-pub fn next_unit(table: &Table, from: usize, end: usize, held: bool) -> usize
+/// The first unit from this one on that is held or isn't, or the end, page by page.
+fn next_from(table: &Table, from: usize, end: usize, held: bool) -> usize
     requires ordered { from ≤ end }
     requires small { end ≤ 2 ^ 28 }
     ensures from { from ≤ result }
@@ -74,6 +74,38 @@ pub fn next_unit(table: &Table, from: usize, end: usize, held: bool) -> usize
         at = 256 * q + stop;
     }
     end
+}
+
+/// The first of these units whose page is there, or the end. Of a large file few pages are.
+fn skip_absent(table: &Table, from: usize, end: usize) -> usize
+    requires ordered { from ≤ end }
+    requires small { end ≤ 2 ^ 28 }
+    ensures from { from ≤ result }
+    ensures end { result ≤ end }
+    ensures between { (i : ℕ) → from ≤ i → i < result → is_held table.now.items i ≡ false }
+{
+    for q in from / 256..(end + 255) / 256 {
+        match page_of(table, q) {
+            Some(_) => return (256 * q).max(from),
+            None => {}
+        }
+    }
+    end
+}
+
+/// The first unit from this one on that is held or isn't, or the end.
+pub fn next_unit(table: &Table, from: usize, end: usize, held: bool) -> usize
+    requires ordered { from ≤ end }
+    requires small { end ≤ 2 ^ 28 }
+    ensures from { from ≤ result }
+    ensures end { result ≤ end }
+    ensures between { (i : ℕ) → from ≤ i → i < result → is_held table.now.items i ≡ not held }
+    ensures found { result < end → is_held table.now.items result ≡ held }
+{
+    if held {
+        return next_from(table, skip_absent(table, from, end), end, true);
+    }
+    next_from(table, from, end, false)
 }
 
 /// How many runs of held units there are, and how many units.
