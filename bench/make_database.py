@@ -1,10 +1,11 @@
 #!/usr/bin/env python3
-"""Writes a Packages.db with N packages, to measure with: bench/make_database.py [--states] N FOLDER [LIST]
+"""Writes a Packages.db with N packages, to measure with: bench/make_database.py [--states] [--own] N FOLDER [LIST]
 
 The file is laid out by docs/FORMATS.md and owes nothing to the program. Each package has a header of some 40 entries with 20 files,
 about 3 kB, which is the size of a small package of a distribution. Where a LIST is named, the same headers are written there, each
 behind its magic, as rpmdb --importdb reads them. With --states each header also tells that its files are there, which rpm wants of the
-packages beside one that it erases.
+packages beside one that it erases. All packages share their files and requirements; with --own, as in a distribution, each has 20 files
+in two directories and 5 provides that no other has, and 20 requirements of which each is shared by five packages.
 """
 import struct
 import sys
@@ -54,8 +55,21 @@ def store(packages, next_number, pages=None, generation=1):
     return head + slots + blobs
 
 
-def package(i, states=False):
-    files = [f"file{k}.so" for k in range(20)]
+def common(i):
+    """What a package shares with all others: its provides, requirements, directories, and the names of its files."""
+    return [f"package{i}", f"lib{i}.so.1"], [f"lib{k}.so.1" for k in range(5)], ["/usr/lib64/"], [f"file{k}.so" for k in range(20)]
+
+
+def own(i):
+    """The same, as a package of a distribution has it."""
+    provides = [f"package{i}", f"package{i}(x86-64)", f"lib{i}.so.1()(64bit)", f"lib{i}-tools", f"pkgconfig(package{i})"]
+    needs = [f"lib{i // 5 * 20 + k}.so.1()(64bit)" for k in range(20)]
+    return provides, needs, [f"/usr/lib64/package{i}/", f"/usr/share/package{i}/"], [f"file{i}-{k}.so" for k in range(20)]
+
+
+def package(i, states=False, parts=common):
+    provides, needs, directories, files = parts(i)
+    version = f"1.{i % 10}-1.fc40"
     there = [(1029, CHAR, [""] * 20)] if states else []
     return header(sorted(there + [
         (1000, TEXT, [f"package{i}"]), (1001, TEXT, [f"1.{i % 10}"]), (1002, TEXT, ["1.fc40"]), (1004, I18N, ["A package"]),
@@ -65,19 +79,19 @@ def package(i, states=False):
         (1021, TEXT, ["linux"]), (1022, TEXT, ["x86_64"]), (1028, INT32, [1000] * 20), (1030, INT16, [33188] * 20),
         (1033, INT16, [0] * 20), (1034, INT32, [1700000000] * 20), (1035, TEXTS, ["0123456789abcdef" * 4] * 20),
         (1036, TEXTS, [""] * 20), (1037, INT32, [0] * 20), (1039, TEXTS, ["root"] * 20), (1040, TEXTS, ["root"] * 20),
-        (1044, TEXT, [f"package{i}-1.{i % 10}-1.fc40.src.rpm"]), (1047, TEXTS, [f"package{i}", f"lib{i}.so.1"]),
-        (1048, INT32, [12] * 5), (1049, TEXTS, [f"lib{k}.so.1" for k in range(5)]), (1050, TEXTS, [""] * 5), (1064, TEXT, ["4.19"]),
-        (1095, INT32, [1] * 20), (1096, INT32, list(range(20))), (1097, TEXTS, [""] * 20), (1112, INT32, [8, 0]),
-        (1113, TEXTS, [f"1.{i % 10}-1.fc40", ""]), (1116, INT32, [0] * 20), (1117, TEXTS, files), (1118, TEXTS, ["/usr/lib64/"]),
+        (1044, TEXT, [f"package{i}-{version}.src.rpm"]), (1047, TEXTS, provides), (1048, INT32, [12] * len(needs)), (1049, TEXTS, needs),
+        (1050, TEXTS, [""] * len(needs)), (1064, TEXT, ["4.19"]), (1095, INT32, [1] * 20), (1096, INT32, list(range(20))),
+        (1097, TEXTS, [""] * 20), (1112, INT32, [8] + [0] * (len(provides) - 1)), (1113, TEXTS, [version] + [""] * (len(provides) - 1)),
+        (1116, INT32, [k % len(directories) for k in range(20)]), (1117, TEXTS, files), (1118, TEXTS, directories),
         (1124, TEXT, ["cpio"]), (1125, TEXT, ["zstd"]), (1126, TEXT, ["19"]),
     ]))
 
 
 if __name__ == "__main__":
-    with_states = sys.argv[1] == "--states"
-    words = sys.argv[2:] if with_states else sys.argv[1:]
+    words = [word for word in sys.argv[1:] if not word.startswith("--")]
     count, folder = int(words[0]), words[1]
-    packages = [(i, package(i, with_states)) for i in range(1, count + 1)]
+    states, parts = "--states" in sys.argv, own if "--own" in sys.argv else common
+    packages = [(i, package(i, states, parts)) for i in range(1, count + 1)]
     with open(f"{folder}/Packages.db", "wb") as file:
         file.write(store(packages, count + 1))
     for name in words[2:]:

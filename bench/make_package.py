@@ -1,12 +1,13 @@
 #!/usr/bin/env python3
-"""Writes a package file that can be added to a database, to measure with: bench/make_package.py N FILE
+"""Writes a package file that can be added to a database, to measure with: bench/make_package.py [--own] N FILE
 
-It has the header of package N of make_database.py behind a lead and a signature header that tells its size alone, and no payload.
+It has the header of package N of make_database.py, with --own as there, behind a lead and a signature header that tells its size alone,
+and no payload.
 """
 import struct
 import sys
 
-from make_database import INT32, MAGIC, header, package
+from make_database import INT32, MAGIC, common, header, own, package
 
 
 def lead(name):
@@ -20,7 +21,8 @@ def signature(blob):
 
 
 if __name__ == "__main__":
-    number, path = int(sys.argv[1]), sys.argv[2]
-    blob = package(number)
+    words = [word for word in sys.argv[1:] if word != "--own"]
+    number, path = int(words[0]), words[1]
+    blob = package(number, parts=own if "--own" in sys.argv else common)
     with open(path, "wb") as file:
         file.write(lead(f"package{number}") + signature(blob) + MAGIC + blob)
