@@ -11,7 +11,7 @@ use Rattle.rpm_hindex.specs.Costs.{chain_bytes, chains_bytes}
 use Rattle.rpm_hindex.proofs.Takes.{next_rows}
 use Rattle.rpm_hindex.proofs.Wholes.{ok_places}
 
-chain_are : (x : Index) (b : ℕ) → IsOk (chain x b) → chain x b ≡ Ok (places_of x b)
+pub chain_are : (x : Index) (b : ℕ) → IsOk (chain x b) → chain x b ≡ Ok (places_of x b)
 unfolding places_of
 chain_are x b ok = ok_places (chain x b) ok
 

@@ -1,21 +1,20 @@
 -- A record is cut out of its chain.
 use Rattle.std.proofs.Common.{◌≡◌, ℕ, zero, suc, ◌+◌, ◌-◌, ◌/◌, ◌%◌, ◌^◌, ◌<◌, ◌≤◌, List, [], ◌∷◌, ◌++◌, take, map, Bool, true, ◌&&◌, slice_index_or, cond, refl, sym, ap, ◌∙◌, arith, subst}
-use Rattle.std.specs.Prelude.{Option}
 use Rattle.std.specs.List.{Contains, filter, sum_by, flat_map, range_with_len}
 use Rattle.rpm_outside.specs.Files.{Units, bytes_of}
-use Rattle.rpm_hindex.specs.declared.links.Link.{Link}
 use Rattle.rpm_hindex.specs.Words.{word}
 use Rattle.rpm_hindex.specs.Rows.{Row, times, same_row as same_rows}
 use Rattle.rpm_hindex.specs.Sizes.{key_units}
 use Rattle.rpm_hindex.specs.Index.{Index, is_link, next_at, units_at, row_at, key_at, length_at, run, places_of, all_places, rows_of}
 use Rattle.rpm_hindex.specs.Whole.{IsWhole}
-use Rattle.rpm_hindex.specs.inner.Changes.{AreLinks, IsLink, SetsNext, UnlinksIn, Stays, first_at, kept_of}
+use Rattle.rpm_hindex.specs.inner.Changes.{Stays, kept_of}
 use Rattle.rpm_hindex.proofs.Runs.{run_same}
 use Rattle.rpm_hindex.proofs.FollowedLinks.{IsChain}
 use Rattle.rpm_hindex.proofs.Wholes.{HasChains, chains_ok, all_are, in_all, all_in}
 use Rattle.rpm_hindex.proofs.Drops.{SameBut, has_with, sum_less, sum_without}
 use Rattle.rpm_hindex.proofs.Kept.{kept_less, is_other}
 use Rattle.rpm_hindex.proofs.Dropping.{filter_in}
+use Rattle.rpm_hindex.proofs.Ways.{first_of}
 use Rattle.rpm_hindex.proofs.Keeping.{times_flat}
 use Rattle.rpm_hindex.proofs.Tallies.{tally, times_map, times_rows, sum_flat, sum_same, sum_each, length_sum}
 
@@ -58,59 +57,10 @@ stays_then u v w q some same s =
 
 -- ---- where a chain is cut
 
--- the link before it, its place, and those behind
-pub record CutIn (u : ℕ → List ℕ) (old new : ℕ → Option (List ℕ)) (qs : List ℕ) (l : Link) : Type 0 where
-  pub pre : List ℕ
-  pub from : ℕ
-  pub at : ℕ
-  pub post : List ℕ
-  pub before : Link
-  pub rest : List Link
-  pub are : qs ≡ pre ++ from ∷ at ∷ post
-  pub gone : l.at ≡ at
-  pub link : IsLink u from before
-  pub behind : AreLinks u post rest
-  pub sets : SetsNext old new before (first_at rest)
-
-pub cut_in : (u : ℕ → List ℕ) (old new : ℕ → Option (List ℕ)) (qs : List ℕ) (ls : List Link) (q k : ℕ) (d l : Link) → IsLink u q d → AreLinks u qs ls
-    → UnlinksIn old new d ls k → l ≡ slice_index_or ls k l → CutIn u old new (q ∷ qs) l
-cut_in u old new [] [] q k d l link are sets is = absurd sets
-cut_in u old new [] (m ∷ ms) q k d l link are sets is = absurd are
-cut_in u old new (p ∷ ps) [] q k d l link are sets is = absurd are
-cut_in u old new (p ∷ ps) (m ∷ ms) q zero d l link are sets is = record {
-  pre = [];
-  from = q;
-  at = p;
-  post = ps;
-  before = d;
-  rest = ms;
-  are = refl;
-  gone = ap (λ (n : Link). n.at) is ∙ are.0.place;
-  link = link;
-  behind = are.1;
-  sets = sets;
-}
-cut_in u old new (p ∷ ps) (m ∷ ms) q (suc k) d l link are sets is =
-    let r = cut_in u old new ps ms p k m l are.0 are.1 sets is in
-    record {
-      pre = q ∷ r.pre;
-      from = r.from;
-      at = r.at;
-      post = r.post;
-      before = r.before;
-      rest = r.rest;
-      are = ap (λ (rs : List ℕ). q ∷ rs) r.are;
-      gone = r.gone;
-      link = r.link;
-      behind = r.behind;
-      sets = r.sets;
-    }
-
-pub first_is : (x : Index) (u : ℕ → List ℕ) (b n : ℕ) (ps : List ℕ) (ls : List Link) → IsChain x b n ps → AreLinks u ps ls → n ≡ first_at ls
-first_is x u b n [] [] is are = is
-first_is x u b n [] (l ∷ ls) is are = absurd are
-first_is x u b n (p ∷ ps) [] is are = absurd are
-first_is x u b n (p ∷ ps) (l ∷ ls) is are = is.0 ∙ sym are.0.place
+-- the first of a chain
+pub first_is : (x : Index) (b n : ℕ) (ps : List ℕ) → IsChain x b n ps → n ≡ first_of ps
+first_is x b n [] is = is
+first_is x b n (p ∷ ps) is = is.0
 
 pub chain_rest : (x : Index) (b at : ℕ) (pre : List ℕ) (p : ℕ) (post : List ℕ) → IsChain x b at (pre ++ p ∷ post) → IsChain x b (next_at x.unit p) post
 chain_rest x b at [] p post (is, some, sound, rest) = rest

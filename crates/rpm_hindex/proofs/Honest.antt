@@ -1,32 +1,35 @@
 -- What a fault of a change says of the index.
-use Rattle.std.proofs.Common.{◌≡◌, ℕ, zero, suc, ◌+◌, ◌-◌, ◌/◌, ◌%◌, ◌<◌, ◌≤◌, List, [], ◌∷◌, length, slice_index_or, Bool, true, false, not, cond, BTreeMap, Vec, Global, Result, Ok, Err, refl, sym, ap, ◌∙◌, arith, subst, inl, inr}
-use Rattle.std.specs.Prelude.{Option, None, unwrap_or, is_some, ◌⊎◌}
+use Rattle.std.proofs.Common.{◌≡◌, ℕ, zero, suc, ◌+◌, ◌-◌, ◌/◌, ◌%◌, ◌<◌, ◌≤◌, List, [], ◌∷◌, ◌++◌, length, Bool, true, false, not, cond, BTreeMap, Vec, Global, Result, Ok, Err, refl, sym, ap, ◌∙◌, arith, subst, inl, inr}
+use Rattle.std.specs.Prelude.{Option, None, Some, unwrap_or, is_some, is_ok, IsOk, ◌⊎◌}
 use Rattle.std.specs.Ordering.{nat_cmp}
 use Rattle.std.specs.BTreeMap.{get}
 use Rattle.std.specs.List.{Contains, filter, sum_by}
+use Rattle.std.proofs.lemmas.List.Elements.{Contains-append_right}
 use Rattle.std.proofs.lemmas.List.Sums.{sum_by-cons}
 use Rattle.std.proofs.lemmas.Bool.{cases_eq, cases_Bool, cond-true, cond-false, false≢true}
 use Rattle.rpm_outside.specs.Files.{Units, unit_at}
 use Rattle.rpm_hindex.specs.declared.faults.PrepareFault.{PrepareFault}
 use Rattle.rpm_hindex.specs.declared.faults.PrepareFault.TheVariants.{IndexFull, BadIndex, DiskFault, NoMemory}
-use Rattle.rpm_hindex.specs.declared.links.Link.{Link}
 use Rattle.rpm_hindex.specs.declared.change.Change.{Change}
+use Rattle.rpm_hindex.specs.declared.spots.Head.{Head}
+use Rattle.rpm_hindex.specs.declared.spots.Spot.{Spot}
 use Rattle.rpm_hindex.specs.Words.{word}
 use Rattle.rpm_hindex.specs.Rows.{Row}
 use Rattle.rpm_hindex.specs.Answers.{HitsAre}
 use Rattle.rpm_hindex.specs.Sizes.{first_record, record_units}
 use Rattle.rpm_hindex.specs.inner.Records.{IsOpen}
-use Rattle.rpm_hindex.specs.Index.{Index, index_in, is_link, chain, units_at, length_at, bucket_unit, places_of, places_in, all_places}
-use Rattle.rpm_hindex.specs.inner.Changes.{AreLinks, CanGo, CanRelink, IsOfRow, row_of, Puts, HasWord, SetsBucket, Unlinks, UnlinksIn, changing, unit_after, is_kept, first_at, IsWithout, IsChainFault, IsHonest, if_kept}
+use Rattle.rpm_hindex.specs.Index.{Index, index_in, is_link, chain, next_at, units_at, bucket_unit, places_of, all_places}
+use Rattle.rpm_hindex.specs.Whole.{IsWellFormed}
+use Rattle.rpm_hindex.specs.inner.Changes.{CanGo, Puts, HasWord, SetsBucket, Unlinks, changing, unit_after, is_kept, IsWithout, IsChainFault, HasNoFault, IsHonest, IsBadSoFar, if_kept}
+use Rattle.rpm_hindex.specs.inner.Spots.{IsLast, IsSpot}
 use Rattle.rpm_hindex.specs.Refusals.{HoldsMore, IsBad}
-use Rattle.rpm_hindex.proofs.Chains.{chain_bad}
-use Rattle.rpm_hindex.proofs.FollowedLinks.{link_at, within, behind_front, chain_ok}
-use Rattle.rpm_hindex.proofs.Extends.{Stands, stands_in}
+use Rattle.rpm_hindex.proofs.Chains.{chain_bad, sound_parts}
+use Rattle.rpm_hindex.proofs.Costing.{chain_are}
+use Rattle.rpm_hindex.proofs.FollowedLinks.{link_at, within, behind_front}
 use Rattle.rpm_hindex.proofs.Wholes.{flat_in}
 use Rattle.rpm_hindex.proofs.Tallies.{length_sum}
-use Rattle.rpm_hindex.proofs.Dropping.{filter_in, place_for}
-use Rattle.rpm_hindex.proofs.Overlay.{relink_at}
-use Rattle.rpm_hindex.proofs.Keeping.{same_is}
+use Rattle.rpm_hindex.proofs.Dropping.{filter_in, spot_in, spot_units}
+use Rattle.rpm_hindex.proofs.Ways.{path_link, path_stands}
 
 pub bad_without : (buckets : ℕ) (file : Units) (e : PrepareFault) → IsWithout e → IsBad buckets file e
 bad_without buckets file (BadIndex unit) is = absurd is
@@ -39,6 +42,13 @@ bad_chain buckets file (BadIndex unit) b lt is = inl (b, lt, is)
 bad_chain buckets file (IndexFull needed) b lt is = tt
 bad_chain buckets file DiskFault b lt is = tt
 bad_chain buckets file NoMemory b lt is = tt
+
+pub fault_so_far : (buckets : ℕ) (file : Units) (e : PrepareFault) (b : ℕ) → b < buckets → IsChainFault (chain (index_in buckets file) b) e
+    → IsBadSoFar buckets file e
+fault_so_far buckets file (BadIndex unit) b lt is = inl (b, lt, is)
+fault_so_far buckets file (IndexFull needed) b lt is = tt
+fault_so_far buckets file DiskFault b lt is = tt
+fault_so_far buckets file NoMemory b lt is = tt
 
 -- ---- sums that fall
 
@@ -79,47 +89,50 @@ kept_least kept f p ps c stays =
 
 -- ---- a row is dropped
 
-pub hits_ok : {H : Type 0} (P : List ℕ → H → Type 0) (said : Result (List ℕ) ℕ) (hits : H) → HitsAre P said hits → said ≡ Ok (places_in said)
+pub hits_ok : {H : Type 0} (P : List ℕ → H → Type 0) (said : Result (List ℕ) ℕ) (hits : H) → HitsAre P said hits → IsOk said
 hits_ok P (Ok places) hits h = refl
 hits_ok P (Err unit) hits h = absurd h
-
-nth_link : (ls : List Link) (k : ℕ) → k < length ls → (l : Link) × (l ≡ slice_index_or ls k l)
-nth_link [] k lt = absurd (omega arith)
-nth_link (l ∷ ls) zero lt = (l, refl)
-nth_link (l ∷ ls) (suc k) lt = nth_link ls k (omega arith)
 
 in_places : (x : Index) (b q : ℕ) → b < x.buckets → Contains (places_of x b) q → Contains (all_places x) q
 unfolding all_places
 in_places x b q lt c = flat_in (places_of x) 0 x.buckets q b (omega arith) (omega arith) c
 
-abbrev AllFront : ℕ → ℕ → List Link → Type 0
-AllFront front used [] = Unit {0}
-AllFront front used (l ∷ ls) = (front ≤ l.at) × (l.at < used) × AllFront front used ls
+-- whether unit 1 counts too little is known where no chain has a fault
+pub bad_so_far : (buckets : ℕ) (file : Units) (e : PrepareFault) → HasNoFault (index_in buckets file) → IsBadSoFar buckets file e → IsBad buckets file e
+bad_so_far buckets file (BadIndex unit) none (inl fault) = inl fault
+bad_so_far buckets file (BadIndex unit) none (inr (one, more)) = inr (one, more none)
+bad_so_far buckets file (IndexFull needed) none is = tt
+bad_so_far buckets file DiskFault none is = tt
+bad_so_far buckets file NoMemory none is = tt
 
-front_links : (front used : ℕ) (u : ℕ → List ℕ) (qs : List ℕ) (ls : List Link) → AreLinks u qs ls → ((q : ℕ) → Contains qs q → (front ≤ q)
-    × (q < used)) → AllFront front used ls
-front_links front used u [] [] are all = tt
-front_links front used u [] (l ∷ ls) are all = absurd are
-front_links front used u (q ∷ qs) [] are all = absurd are
-front_links front used u (q ∷ qs) (l ∷ ls) are all =
-    let a = all q (0, omega arith, refl) in
-    let place = are.0.place in
-    (omega (arith, place, a.0), omega (arith, place, a.1), front_links front used u qs ls are.1 (λ r (k, lt, e). all r (suc k, omega arith, e)))
+-- or the fault isn't that
+pub bad_other : (buckets : ℕ) (file : Units) (e : PrepareFault) → (e ≡ BadIndex 1 → ⊥) → IsBadSoFar buckets file e → IsBad buckets file e
+bad_other buckets file (BadIndex unit) other (inl fault) = inl fault
+bad_other buckets file (BadIndex unit) other (inr (one, more)) = absurd (other (ap BadIndex one))
+bad_other buckets file (IndexFull needed) other is = tt
+bad_other buckets file DiskFault other is = tt
+bad_other buckets file NoMemory other is = tt
 
-abbrev PutsFrom : ℕ → (ℕ → Option (List ℕ)) → (ℕ → Option (List ℕ)) → Type 0
-PutsFrom front old new = (key : ℕ) × (w : List ℕ) × (front ≤ key) × Puts old new key w
+-- a well formed index has neither
+pub not_bad : (buckets : ℕ) (file : Units) → IsWellFormed buckets file → IsBadSoFar buckets file (BadIndex 1) → ⊥
+not_bad buckets file whole (inl (b, lt, e)) = false≢true (ap is_ok (sym e) ∙ whole.chains b lt)
+not_bad buckets file whole (inr (one, more)) = elim (more whole.chains) [
+  | inl few ↦ absurd (omega (arith, few, whole.records))
+  | inr few ↦ absurd (omega (arith, few, whole.live))
+]
 
-unlinked : (front used : ℕ) (old new : ℕ → Option (List ℕ)) (ls : List Link) (d : Link) (k : ℕ) → front ≤ d.at → AllFront front used ls
-    → UnlinksIn old new d ls k → PutsFrom front old new
-unlinked front used old new [] d k le all sets = absurd sets
-unlinked front used old new (l ∷ ls) d zero le all sets = (d.at, sets.words, le, sets.put)
-unlinked front used old new (l ∷ ls) d (suc k) le all sets = unlinked front used old new ls l k all.0 all.2 sets
+link_more : (y z : Index) (at : ℕ) → z.buckets ≡ y.buckets → y.used ≤ z.used → is_link y at ≡ true → is_link z at ≡ true
+link_more y z at same more link = elim (cases_eq at 0) [
+  | inl zeros ↦ ap (is_link z) zeros
+  | inr other ↦
+      let some : 0 < at = omega (arith, other) in
+      link_at z at (subst (λ (n : ℕ). first_record n ≤ at) (sym same) (behind_front y at link some)) (omega (arith, within y at link some, more))
+]
 
-module _ (c : Change) (file : Units) (go : CanGo c) (opens : IsOpen c.extent file) (b : ℕ) (below : b < c.extent.buckets)
-    (said : chain (index_in c.extent.buckets file) b ≡ Ok (places_of (index_in c.extent.buckets file) b))
-    (links : List Link) (are : AreLinks (unit_at file) (filter (is_kept (λ p. get nat_cmp c.dropped p)) (places_of (index_in c.extent.buckets file)
-    b)) links) (can : CanRelink c.extent.used links)
-    (at : ℕ) (lt : at < length links) (honest : IsHonest c file) where
+module _ (c : Change) (file : Units) (go : CanGo c) (opens : IsOpen c.extent file) (b : ℕ) (below : b < c.extent.buckets) (row : Row) (s : Spot)
+    (link : is_link (index_in c.extent.buckets file) ((index_in c.extent.buckets file).head b) ≡ true)
+    (is : IsSpot (index_in c.extent.buckets file) b ((index_in c.extent.buckets file).head b) (is_kept (λ p. get nat_cmp c.dropped p)) row s)
+    (honest : IsHonest c file) where
   abbrev x : Index
   x = index_in c.extent.buckets file
 
@@ -129,41 +142,31 @@ module _ (c : Change) (file : Units) (go : CanGo c) (opens : IsOpen c.extent fil
   abbrev kept : ℕ → Bool
   kept = is_kept (λ p. get nat_cmp c.dropped p)
 
-  stands : (q : ℕ) → Contains (filter kept (places_of x b)) q → Stands x b q
-  stands q m = let h = chain_ok x b (places_of x b) said in stands_in x b (x.head b) (places_of x b) h.0 h.1 q ((filter_in kept (places_of x b) q m).0)
+  behind_link : is_link y s.behind ≡ true
+  behind_link =
+      let next = (sound_parts x b s.at is.sound).link in
+      link_more x y s.behind refl (omega (arith, opens.used)) (path_link x b (next_at x.unit s.at) s.behind is.rest.dropped next is.rest.path)
 
-  fronts : AllFront (first_record c.extent.buckets) c.extent.used links
-  fronts = front_links _ _ x.unit (filter kept (places_of x b)) links are (λ q m. let s = stands q m in (s.front, omega (arith, s.sound.ends, opens.used)))
+  -- the record before it stands among the records
+  before_front : (h : Head) → IsLast x.unit (filter kept is.front) (Some h) → first_record c.extent.buckets ≤ h.at
+  before_front h (head, (front, are)) =
+      let in' : Contains (filter kept is.front) h.at = subst (λ (ps : List ℕ). Contains ps h.at) (sym are)
+      (Contains-append_right front (h.at ∷ []) h.at (0, omega arith, refl)) in
+      (path_stands x b (x.head b) s.at is.front link is.path h.at ((filter_in kept is.front h.at in').0)).front
 
-  first_link : (ls : List Link) → AllFront (first_record c.extent.buckets) c.extent.used ls → is_link y (first_at ls) ≡ true
-  first_link [] all = refl
-  first_link (l ∷ ls) all = link_at y l.at all.0 (omega (arith, all.1))
+  units_are : (n : ℕ) → n ≡ record_units (length row.key) → n ≡ units_at x.unit s.at
+  units_are n long = spot_units x b (x.head b) kept row s is n long
 
-  size : (l : Link) → l ≡ slice_index_or links at l → record_units (length l.«record».key.items) ≡ units_at x.unit l.at
-  size l is =
-      let p = place_for x.unit (filter kept (places_of x b)) links are at l lt is in
-      let r = relink_at c.extent.used links at l lt can is in
-      let long : length l.«record».key.items ≡ length_at x.unit l.at = omega (arith, p.0.packed, r.3) in
-      ap record_units long
-
-  mine : (l : Link) → l ≡ slice_index_or links at l → Contains (all_places x) l.at × (kept l.at ≡ true)
-  mine l is =
-      let p = place_for x.unit (filter kept (places_of x b)) links are at l lt is in
-      let q = filter_in kept (places_of x b) l.at p.1 in
-      (in_places x b l.at below q.0, q.1)
+  mine : HasNoFault x → Contains (all_places x) s.at
+  mine none = in_places x b s.at below (spot_in x b kept row s link (chain_are x b (none b below)) is)
 
   -- unit 1 counts too little
-  pub drops_more : (row : Row) (n : ℕ) → IsOfRow row links at → n ≡ record_units (length row.key) → (c.records ≡ 0) ⊎ (c.live < n)
-      → HoldsMore c.extent.buckets file
-  drops_more row n found is why =
-      let nth = nth_link links at lt in
-      let l = nth.0 in
-      let m = mine l nth.1 in
-      let keys = ap (λ (r : Row). record_units (length r.key)) (same_is row (row_of l.«record») (found l lt nth.1)) in
-      let units : n ≡ units_at x.unit l.at = is ∙ keys ∙ size l nth.1 in
+  pub drops_more : (n : ℕ) → n ≡ record_units (length row.key) → (c.records ≡ 0) ⊎ (c.live < n) → HasNoFault x → HoldsMore c.extent.buckets file
+  drops_more n long why none =
+      let m = mine none in
       elim why [
-        | inl none ↦ inl (omega (arith, none, honest.records, kept_least kept (λ p. 1) l.at (all_places x) m.0 m.1))
-        | inr less ↦ inr (omega (arith, less, units, honest.live, kept_least kept (units_at x.unit) l.at (all_places x) m.0 m.1))
+        | inl zeros ↦ inl (omega (arith, zeros, honest.records none, kept_least kept (λ p. 1) s.at (all_places x) m is.stays))
+        | inr less ↦ inr (omega (arith, less, units_are n long, honest.live none, kept_least kept (units_at x.unit) s.at (all_places x) m is.stays))
       ]
 
   module _ (units : BTreeMap ℕ (List ℕ)) (dropped : BTreeMap ℕ ℕ) (n : ℕ) where
@@ -176,27 +179,21 @@ module _ (c : Change) (file : Units) (go : CanGo c) (opens : IsOpen c.extent fil
     abbrev later : ℕ → Bool
     later = is_kept (λ p. get nat_cmp dropped p)
 
-    abbrev Head : ℕ → Type 0
-    Head a = (is_link z (z.head a) ≡ true) ⊎ (z.head a ≡ x.head a)
+    abbrev Head' : ℕ → Type 0
+    Head' a = (is_link z (z.head a) ≡ true) ⊎ (z.head a ≡ x.head a)
 
-    as_was : (a : ℕ) → a < c.extent.buckets → z.head a ≡ y.head a → Head a
+    as_was : (a : ℕ) → a < c.extent.buckets → z.head a ≡ y.head a → Head' a
     as_was a in' same = elim (honest.heads a in') [
-      | inl link ↦ inl (ap (is_link z) same ∙ link)
-      | inr is ↦ inr (same ∙ is)
+      | inl link' ↦ inl (ap (is_link z) same ∙ link')
+      | inr is' ↦ inr (same ∙ is')
     ]
 
-    behind : PutsFrom (first_record c.extent.buckets) (λ q. get nat_cmp c.units q) (λ q. get nat_cmp units q) → (a : ℕ) → a < c.extent.buckets → Head a
-    behind (key, w, le, put) a in' =
-        as_was a in' (ap (λ (o : Option (List ℕ)). word (a % 4) (unwrap_or o (unit_at file (bucket_unit a))))
-        (put.others (bucket_unit a) (λ e. absurd (omega (arith, e, le, in', go.fours)))))
-
-    first : (ls : List Link) → AllFront (first_record c.extent.buckets) c.extent.used ls → SetsBucket file (λ q. get nat_cmp c.units q)
-        (λ q. get nat_cmp units q) b (first_at ls) → (a : ℕ) → a < c.extent.buckets → Head a
-    first ls all sets a in' =
+    first : SetsBucket file (λ q. get nat_cmp c.units q) (λ q. get nat_cmp units q) b s.behind → (a : ℕ) → a < c.extent.buckets → Head' a
+    first sets a in' =
         let key = bucket_unit b in
         let words : unit_after (λ q. get nat_cmp units q) file key ≡ sets.words = ap (λ (o : Option (List ℕ)). unwrap_or o (unit_at file key)) sets.put.here in
         elim (cases_eq a b) [
-          | inl same ↦ inl (ap (λ (k : ℕ). is_link z (z.head k)) same ∙ ap (is_link z) (ap (word (b % 4)) words ∙ sets.word'.here) ∙ first_link ls all)
+          | inl same ↦ inl (ap (λ (k : ℕ). is_link z (z.head k)) same ∙ ap (is_link z) (ap (word (b % 4)) words ∙ sets.word'.here) ∙ behind_link)
           | inr other ↦ as_was a in' (elim (cases_eq (bucket_unit a) key) [
             | inl same ↦
                 ap (λ (u : ℕ). word (a % 4) (unit_after (λ q. get nat_cmp units q) file u)) same
@@ -207,35 +204,27 @@ module _ (c : Change) (file : Units) (go : CanGo c) (opens : IsOpen c.extent fil
           ])
         ]
 
-    heads : (ls : List Link) (k : ℕ) → AllFront (first_record c.extent.buckets) c.extent.used ls → Unlinks file (λ q. get nat_cmp c.units q)
-        (λ q. get nat_cmp units q) b ls k → (a : ℕ) → a < c.extent.buckets → Head a
-    heads [] k all sets = absurd sets
-    heads (l ∷ ls) zero all sets = first ls all.2 sets
-    heads (l ∷ ls) (suc k) all sets = behind (unlinked _ c.extent.used _ _ ls l k all.0 all.2 sets)
+    heads : (o : Option Head) → IsLast x.unit (filter kept is.front) o → Unlinks file (λ q. get nat_cmp c.units q) (λ q. get nat_cmp units q) b o s.behind
+        → (a : ℕ) → a < c.extent.buckets → Head' a
+    heads None last sets a in' = first sets a in'
+    heads (Some h) last sets a in' =
+        as_was a in' (ap (λ (o : Option (List ℕ)). word (a % 4) (unwrap_or o (unit_at file (bucket_unit a))))
+        (sets.put.others (bucket_unit a) (λ e. absurd (omega (arith, e, before_front h last, in', go.fours)))))
 
-    pub drops_honest : (l : Link) → l ≡ slice_index_or links at l → Unlinks file (λ q. get nat_cmp c.units q) (λ q. get nat_cmp units q) b links at
-        → n ≡ record_units (length l.«record».key.items)
-        → Puts (λ q. get nat_cmp c.dropped q) (λ q. get nat_cmp dropped q) l.at l.at → 0 < c.records → n ≤ c.live → IsHonest d file
-    drops_honest l is sets long put some enough =
-        let m = mine l is in
-        let units_are : n ≡ units_at x.unit l.at = long ∙ size l is in
-        let gone : later l.at ≡ false = ap (λ (o : Option ℕ). not (is_some o)) put.here in
-        let others : (q : ℕ) → (q ≡ l.at → ⊥) → later q ≡ kept q = λ q other. ap (λ (o : Option ℕ). not (is_some o)) (put.others q other) in
+    pub drops_honest : Unlinks file (λ q. get nat_cmp c.units q) (λ q. get nat_cmp units q) b s.before s.behind → n ≡ record_units (length row.key)
+        → Puts (λ q. get nat_cmp c.dropped q) (λ q. get nat_cmp dropped q) s.at s.at → 0 < c.records → n ≤ c.live → IsHonest d file
+    drops_honest sets long put some enough =
+        let same = units_are n long in
+        let gone : later s.at ≡ false = ap (λ (o : Option ℕ). not (is_some o)) put.here in
+        let others : (q : ℕ) → (q ≡ s.at → ⊥) → later q ≡ kept q = λ q other. ap (λ (o : Option ℕ). not (is_some o)) (put.others q other) in
         record {
-          heads = heads links at fronts sets;
-          records = omega (arith, some, honest.records, kept_falls kept later (λ p. 1) l.at (all_places x) m.0 m.1 gone others);
-          live = omega (arith, enough, units_are, honest.live, kept_falls kept later (units_at x.unit) l.at (all_places x) m.0 m.1 gone others);
+          heads = heads s.before is.last sets;
+          records = λ none. omega (arith, some, honest.records none, kept_falls kept later (λ p. 1) s.at (all_places x) (mine none) is.stays gone others);
+          live = λ none. omega (arith, enough, same, honest.live none, kept_falls kept later (units_at x.unit) s.at (all_places x) (mine none)
+              is.stays gone others);
         }
 
 -- ---- a row is added
-
-link_more : (y z : Index) (at : ℕ) → z.buckets ≡ y.buckets → y.used ≤ z.used → is_link y at ≡ true → is_link z at ≡ true
-link_more y z at same more link = elim (cases_eq at 0) [
-  | inl zeros ↦ ap (is_link z) zeros
-  | inr other ↦
-      let some : 0 < at = omega (arith, other) in
-      link_at z at (subst (λ (n : ℕ). first_record n ≤ at) (sym same) (behind_front y at link some)) (omega (arith, within y at link some, more))
-]
 
 -- a bucket's word that is no link is as it was
 pub bad_head : (c : Change) (file : Units) → IsOpen c.extent file → IsHonest c file → (b next : ℕ) → b < c.extent.buckets → next
@@ -285,8 +274,8 @@ module _ (c : Change) (file : Units) (go : CanGo c) (b : ℕ) (below : b < c.ext
             | inr apart ↦ ap (λ (o : Option (List ℕ)). word (a % 4) (unwrap_or o (unit_at file (bucket_unit a)))) (put.others (bucket_unit a) apart)
           ])
         ];
-        records = omega (arith, honest.records);
-        live = omega (arith, honest.live);
+        records = λ none. omega (arith, honest.records none);
+        live = λ none. omega (arith, honest.live none);
       }
 
 -- ---- nothing is worked out yet
@@ -304,8 +293,8 @@ starts_honest c file empty records_are live_is =
     let kept : ℕ → Bool = is_kept (λ p. get nat_cmp c.dropped p) in
     record {
       heads = λ b lt. inr (ap (λ (o : Option (List ℕ)). word (b % 4) (unwrap_or o (unit_at file (bucket_unit b)))) (empty (bucket_unit b)));
-      records = omega (arith, records_are, kept_most kept (λ p. 1) ps, length_sum ps);
-      live = omega (arith, live_is, kept_most kept (units_at (unit_at file)) ps);
+      records = λ none. omega (arith, records_are, kept_most kept (λ p. 1) ps, length_sum ps);
+      live = λ none. omega (arith, live_is, kept_most kept (units_at (unit_at file)) ps);
     }
 
 pub bad_memory : (buckets : ℕ) (file : Units) (e : PrepareFault) → e ≡ NoMemory → IsBad buckets file e

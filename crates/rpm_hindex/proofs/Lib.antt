@@ -1,5 +1,6 @@
 mod FollowedLinks
 pub mod Runs
+pub mod AsRead
 pub mod Chains
 pub mod Packing
 pub mod Counts
@@ -39,3 +40,4 @@ pub mod Cuts
 pub mod Honest
 pub mod Linking
 pub mod Results
+pub mod Ways

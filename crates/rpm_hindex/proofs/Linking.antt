@@ -76,3 +76,10 @@ pub relink_read : (used : ℕ) (ls : List Link) → CanRelink used ls → (i : �
 relink_read used [] can i l lt e = absurd (omega arith)
 relink_read used (m ∷ ls) can zero l lt e = subst (Relink used) (sym e) (record { below = can.0; some = can.1; kind = can.2; short = can.3 })
 relink_read used (m ∷ ls) can (suc i) l lt e = relink_read used ls can.4 i l (omega arith) e
+
+pub relink_at : (used : ℕ) (ls : List Link) (k : ℕ) (d : Link) → k < length ls → CanRelink used ls → d ≡ get_or ls k d
+    → (d.at < used) × (0 < d.at) × (d.«record».kind < 16) × (length d.«record».key.items < 2 ^ 28)
+relink_at used [] k d lt can is = absurd (omega arith)
+relink_at used (l ∷ ls) zero d lt (a, b, e, f, rest) is =
+    subst (λ (m : Link). (m.at < used) × (0 < m.at) × (m.«record».kind < 16) × (length m.«record».key.items < 2 ^ 28)) (sym is) (a, b, e, f)
+relink_at used (l ∷ ls) (suc k) d lt (a, b, e, f, rest) is = relink_at used ls k d (omega arith) rest is

@@ -3,3 +3,4 @@ pub mod Changes
 pub mod Drafts
 pub mod Making
 pub mod Records
+pub mod Spots

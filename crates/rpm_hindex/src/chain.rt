@@ -59,7 +59,7 @@ pub fn is_link(extent: Extent, at: u32) -> bool
 }
 
 /// Whether a record with this first unit can be in a chain, its key aside.
-fn is_placed(extent: Extent, at: u32, head: &[u8]) -> bool
+pub fn is_placed(extent: Extent, at: u32, head: &[u8]) -> bool
     requires whole { length head.now ≡ 16 }
     requires few { extent.buckets ≤ 2 ^ 28 }
     ensures { (x : Index) → x.buckets ≡ extent.buckets → x.used ≡ extent.used → head.now ≡ x.unit at → result ≡ is_placed x at }

@@ -8,23 +8,23 @@ ghost use Rattle.rpm_outside.specs.Causes.{HasCauseAt};
 ghost use Rattle.rpm_outside.specs.declared.disk.File.TheVariants.{Idx};
 ghost use Rattle.rpm_outside.specs.Looks.{Looks, LooksAt};
 ghost use Rattle.rpm_hindex.specs.inner.Records.{IsOpen};
-ghost use Rattle.rpm_hindex.specs.Rows.{same_row, hash_of};
+ghost use Rattle.rpm_hindex.specs.Rows.{hash_of};
 ghost use Rattle.rpm_hindex.specs.Packed.{row_nth};
 ghost use Rattle.rpm_hindex.specs.Sizes.{record_units, first_record};
-ghost use Rattle.rpm_hindex.specs.inner.Changes.{CanGo, AddsRows, IsCut, IsHonest, IsChainFault, changing, IsOther, Puts, row_of, NoneBefore, IsOfRow, HasLess, kept_of, is_kept};
+ghost use Rattle.rpm_hindex.specs.inner.Changes.{CanGo, AddsRows, IsCut, IsHonest, IsChainFault, IsBadSoFar, changing, IsOther, Puts, HasLess, kept_of, is_kept};
 ghost use Rattle.rpm_hindex.specs.Refusals.{IsBad};
 ghost use Rattle.rpm_hindex.specs.Index.{index_in, chain, units_at};
 ghost use Rattle.rpm_hindex.specs.Answers.{IsFaultOf, ChainCosts};
 ghost use Rattle.rpm_hindex.specs.Whole.{IsWellFormed, IsWhole};
 
-use crate::chain::{Extent, Record, is_link};
+use crate::chain::{Extent, is_link};
 use crate::faults::{FindFault, PrepareFault};
 use crate::hashing::bucket_of;
-use crate::links::{Link, read_links};
 use crate::making::push_record;
 use crate::patching::{put_unit, unlink, with_word, words_of};
-use crate::rows::Rows;
+use crate::rows::{RowRef, Rows};
 use crate::sizes::record_units;
+use crate::spots::find_row;
 use crate::words::word;
 use rpm_outside::Disk;
 use std::alloc::Global;
@@ -39,39 +39,6 @@ pub struct Change {
     pub tail: Vec<u8>,
     pub records: u32,
     pub live: u32,
-}
-
-/// A row that is to be dropped or added.
-#[derive(Clone, Copy)]
-pub struct RowRef<'a> {
-    pub kind: u8,
-    pub key: &'a [u8],
-    pub number: u32,
-    pub place: u32,
-}
-
-/// Whether a record is of this row.
-fn is_row(found: &Record, row: RowRef<'_>) -> bool
-    ensures { result ≡ same_row (record { kind = row.entry.kind; key = row.entry.key.now; number = row.entry.number; place = row.entry.place })
-        (row_of found.now) }
-{
-    row.kind == found.kind
-        && (row.key == found.key.as_slice()
-            && (row.number == found.number && row.place == found.place))
-}
-
-/// The first link of this row, or how many links there are.
-fn position_of(links: &[Link], row: RowRef<'_>) -> usize
-    ensures bound { result ≤ length links.now }
-    ensures before { NoneBefore (record { kind = row.entry.kind; key = row.entry.key.now; number = row.entry.number; place = row.entry.place })
-        links.now result }
-    ensures found { IsOfRow (record { kind = row.entry.kind; key = row.entry.key.now; number = row.entry.number; place = row.entry.place }) links.now result }
-{
-    let mut at = 0;
-    while at < links.len() && !is_row(&links[at].record, row) {
-        at += 1;
-    }
-    at
 }
 
 /// The fault of a change that a fault of reading is.
@@ -147,7 +114,8 @@ impl Change {
         ensures cuts { OnOk result (IsTrue D.tells → IsWellFormed self.old.extent.buckets (D.files disk.old).idx → length self.old.tail.items ≡ 0
             → IsCut self.old (D.files disk.old).idx → IsCut self.new (D.files disk.old).idx) }
         ensures honest { OnOk result (IsTrue D.tells → IsHonest self.old (D.files disk.old).idx → IsHonest self.new (D.files disk.old).idx) }
-        ensures bad { IfErr result (λ e. IsTrue D.tells → IsHonest self.old (D.files disk.old).idx → IsBad self.old.extent.buckets (D.files disk.old).idx e) }
+        ensures bad { IfErr result (λ e. IsTrue D.tells → IsHonest self.old (D.files disk.old).idx → IsBadSoFar self.old.extent.buckets (D.files disk.old).idx
+            e) }
         ensures cost { IsTrue D.tells → ChainCosts (chain (index_in self.old.extent.buckets (D.files disk.old).idx)
             (hash_of row.entry.kind row.entry.key.now % self.old.extent.buckets)) (units_at (unit_at (D.files disk.old).idx))
             (D.bytes_read disk.old Idx + 16) (D.bytes_read disk.new Idx) }
@@ -155,32 +123,24 @@ impl Change {
         ensures cause { HasCauseAt (result ≡ Err PrepareFault.DiskFault) (D.faults disk.old) (D.faults disk.new) }
     {
         let bucket = bucket_of(row.kind, row.key, self.extent.buckets);
-        let chain = match read_links(alloc, disk, self.extent, bucket, &self.dropped) {
-            Ok(chain) => chain,
+        let found = match find_row(alloc, disk, self.extent, bucket, &self.dropped, row) {
+            Ok(found) => found,
             Err(fault) => return Err(prepare_fault(fault)),
         };
-        let links = chain.links;
-        let at = position_of(&links, row);
-        if at == links.len() {
-            return Ok(());
-        }
+        let spot = match found.spot {
+            Some(spot) => spot,
+            None => return Ok(()),
+        };
         let units = record_units(row.key.len() as u32);
         if self.records == 0 || self.live < units {
             return Err(PrepareFault::BadIndex { unit: 1 });
         }
-        if let Err(fault) = unlink(
-            &mut self.units,
-            &chain.words,
-            self.extent,
-            bucket,
-            &links,
-            at,
-        ) {
+        if let Err(fault) = unlink(&mut self.units, &found.words, self.extent, bucket, spot) {
             return Err(fault);
         }
         self.records -= 1;
         self.live -= units;
-        put_dropped(&mut self.dropped, links[at].at)
+        put_dropped(&mut self.dropped, spot.at)
     }
 
     /// The first unit behind all records, those that were added too.

@@ -24,6 +24,7 @@ mod reading;
 mod rewriting;
 mod rows;
 mod sizes;
+mod spots;
 #[cfg(test)]
 mod tests;
 mod words;

@@ -1,6 +1,6 @@
 //! Units that a change writes anew.
 
-ghost use Rattle.std.specs.Prelude.{◌≡◌, ℕ, ◌+◌, ◌*◌, ◌/◌, ◌%◌, ◌^◌, ◌≤◌, ◌<◌, IsTrue, true, List, length, drop, unwrap_or, if◌then◌else◌, ◌==◌, OnOk, IfOk, IfErr, Err};
+ghost use Rattle.std.specs.Prelude.{◌≡◌, ℕ, ◌+◌, ◌*◌, ◌/◌, ◌%◌, ◌^◌, ◌≤◌, ◌<◌, IsTrue, true, List, length, unwrap_or, if◌then◌else◌, ◌==◌, OnOk, IfOk, IfErr, Err};
 ghost use Rattle.std.specs.Ordering.{nat_cmp};
 ghost use Rattle.std.specs.BTreeMap.{get};
 ghost use Rattle.rpm_outside.specs.Files.{Units, unit_at};
@@ -9,12 +9,13 @@ ghost use Rattle.rpm_outside.specs.declared.disk.File.TheVariants.{Idx};
 ghost use Rattle.rpm_outside.specs.Looks.{Looks};
 ghost use Rattle.rpm_hindex.specs.Words.{word};
 ghost use Rattle.rpm_hindex.specs.Index.{bucket_unit};
-ghost use Rattle.rpm_hindex.specs.inner.Changes.{Puts, PutsOne, HasWord, SetsBucket, SetsNext, CanRelink, unit_after, PutsWithin, Unlinks, IsOther, IsWithout, first_at};
+ghost use Rattle.rpm_hindex.specs.inner.Changes.{Puts, PutsOne, HasWord, SetsBucket, SetsNext, unit_after, PutsWithin, Unlinks, IsOther, IsWithout};
+ghost use Rattle.rpm_hindex.specs.inner.Spots.{IsHeadWithin};
 
 use crate::chain::Extent;
 use crate::faults::PrepareFault;
-use crate::links::Link;
 use crate::reading::read_unit;
+use crate::spots::{Head, Spot};
 use crate::words::{unit_of_words, word};
 use rpm_outside::Disk;
 use std::collections::BTreeMap;
@@ -115,51 +116,31 @@ fn unit_of_four(a: u32, b: u32, c: u32, d: u32) -> [u8; 16]
 }
 
 /// Lets a record name this unit as its next.
-fn set_next(units: &mut BTreeMap<u32, [u8; 16]>, link: &Link, next: u32) -> Result<(), PrepareFault>
-    requires kind { link.now.record.kind < 16 }
-    requires short { length link.now.record.key.items < 2 ^ 28 }
-    ensures sets { OnOk result (SetsNext (λ q. get nat_cmp units.old q) (λ q. get nat_cmp units.new q) link.now next) }
+fn set_next(units: &mut BTreeMap<u32, [u8; 16]>, head: Head, next: u32) -> Result<(), PrepareFault>
+    ensures sets { OnOk result (SetsNext (λ q. get nat_cmp units.old q) (λ q. get nat_cmp units.new q) head next) }
     ensures memory { IfErr result (λ e. e ≡ PrepareFault.NoMemory) }
 {
-    let record = &link.record;
-    let size = record.kind as u32 * 268_435_456 + record.key.len() as u32;
-    let unit = unit_of_four(next, size, record.number, record.place);
-    put_unit(units, link.at, unit)
+    let unit = unit_of_four(next, head.size, head.number, head.place);
+    put_unit(units, head.at, unit)
 }
 
-/// The first unit of the link behind this one, or 0.
-fn place_behind(links: &[Link], at: usize) -> u32
-    requires { at < length links.now }
-    ensures { result ≡ first_at (drop (at + 1) links.now) }
-{
-    if at + 1 < links.len() {
-        links[at + 1].at
-    } else {
-        0
-    }
-}
-
-/// Takes the record at a place of a chain out of it: the record before it, or the bucket's word, names the one behind it.
+/// Takes a record out of its chain: the record before it, or the bucket's word, names the one behind it.
 pub fn unlink(
     units: &mut BTreeMap<u32, [u8; 16]>,
     words: &[u8; 16],
     extent: Extent,
     bucket: u32,
-    links: &[Link],
-    at: usize,
+    spot: Spot,
 ) -> Result<(), PrepareFault>
-    requires at { at < length links.now }
-    requires relink { CanRelink extent.used links.now }
+    requires within { IsHeadWithin extent.used spot.before }
     requires behind { bucket_unit bucket < extent.used }
     ensures puts { OnOk result (PutsWithin extent.used (λ q. get nat_cmp units.old q) (λ q. get nat_cmp units.new q)) }
     ensures sets { OnOk result ((file : Units) → words.now ≡ unit_at file (bucket_unit bucket) → Unlinks file (λ q. get nat_cmp units.old q)
-        (λ q. get nat_cmp units.new q) bucket links.now at) }
+        (λ q. get nat_cmp units.new q) bucket spot.before spot.behind) }
     ensures memory { IfErr result (λ e. e ≡ PrepareFault.NoMemory) }
 {
-    let next = place_behind(links, at);
-    if at == 0 {
-        set_bucket(units, words, bucket, next)
-    } else {
-        set_next(units, &links[at - 1], next)
+    match spot.before {
+        None => set_bucket(units, words, bucket, spot.behind),
+        Some(head) => set_next(units, head, spot.behind),
     }
 }

@@ -95,3 +95,56 @@ pub fn read_key<D: Disk>(
         }
     }
 }
+
+/// Reads so many bytes of units to the front of others.
+fn read_front<D: Disk>(disk: &mut D, unit: u64, long: usize, into: &mut [u8]) -> Result<(), Failed>
+    requires whole { long % 16 ≡ 0 }
+    requires room { long ≤ length into.old }
+    requires within { IsTrue D.tells → unit + long / 16 ≤ length (D.files disk.old).idx }
+    ensures bytes { OnOk result (IsTrue D.tells → take long into.new ≡ bytes_of (take (long / 16) (drop unit (D.files disk.old).idx))) }
+    ensures looks { Looks D.tells D.files D.left_since D.moment D.bytes_read D.follows Idx long disk.old disk.new }
+    ensures cause { HasCause (D.faults disk.old) (D.faults disk.new) result }
+{
+    read_units(disk, unit, &mut into[..long])
+}
+
+/// Makes a buffer as long as that, where it is shorter.
+fn lengthen(buffer: &mut Vec<u8>, long: usize) -> Result<(), FindFault>
+    ensures long { OnOk result (long ≤ length buffer.new.items) }
+    ensures memory { IfErr result (λ e. e ≡ FindFault.NoMemory) }
+{
+    if buffer.len() >= long {
+        return Ok(());
+    }
+    if buffer.resize(long, 0).is_err() {
+        return Err(FindFault::NoMemory);
+    }
+    Ok(())
+}
+
+/// Reads a key of so many bytes, which begins with this unit, and the zeros behind it to the front of a buffer, which grows where it is
+/// too short.
+pub fn read_key_into<D: Disk>(
+    disk: &mut D,
+    at: u64,
+    size: u32,
+    buffer: &mut Vec<u8>,
+) -> Result<(), FindFault>
+    requires short { size < 2 ^ 28 }
+    requires within { IsTrue D.tells → at + (size + 15) / 16 ≤ length (D.files disk.old).idx }
+    ensures long { OnOk result (size ≤ length buffer.new.items) }
+    ensures bytes { OnOk result (IsTrue D.tells → take size buffer.new.items
+        ≡ take size (bytes_of (run (unit_at (D.files disk.old).idx) at ((size + 15) / 16)))) }
+    ensures outside { IfErr result (λ e. IsOutside e) }
+    ensures looks { Looks D.tells D.files D.left_since D.moment D.bytes_read D.follows Idx (16 * ((size + 15) / 16)) disk.old disk.new }
+    ensures cause { HasCauseAt (result ≡ Err FindFault.DiskFault) (D.faults disk.old) (D.faults disk.new) }
+{
+    let long = 16 * ((size as usize + 15) / 16);
+    if let Err(fault) = lengthen(buffer, long) {
+        return Err(fault);
+    }
+    let Ok(()) = read_front(disk, at, long, buffer) else {
+        return Err(FindFault::DiskFault);
+    };
+    Ok(())
+}

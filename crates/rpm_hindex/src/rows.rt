@@ -19,6 +19,15 @@ pub struct RowHead {
     pub place: u32,
 }
 
+/// A row that is to be dropped or added.
+#[derive(Clone, Copy)]
+pub struct RowRef<'a> {
+    pub kind: u8,
+    pub key: &'a [u8],
+    pub number: u32,
+    pub place: u32,
+}
+
 /// Rows in the order in which they were pushed. Contracts see the list. A row takes 24 bytes of memory and its key.
 #[derive(Drop)]
 pub struct Rows {

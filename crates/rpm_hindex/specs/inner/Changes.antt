@@ -1,5 +1,5 @@
 -- A change that is being worked out, as the index that it would leave.
-use Rattle.std.specs.Prelude.{◌≡◌, ℕ, zero, suc, ◌+◌, ◌-◌, ◌*◌, ◌/◌, ◌%◌, ◌^◌, ◌<◌, ◌≤◌, ◌⊎◌, List, [], ◌∷◌, length, map, Bool, not, if◌then◌else◌, nat_lt, Option, Some, unwrap_or, is_some, slice_index_or, true, false, Err, Result}
+use Rattle.std.specs.Prelude.{◌≡◌, ℕ, zero, suc, ◌+◌, ◌-◌, ◌*◌, ◌/◌, ◌%◌, ◌^◌, ◌<◌, ◌≤◌, ◌⊎◌, List, [], ◌∷◌, length, map, Bool, not, if◌then◌else◌, nat_lt, Option, Some, None, unwrap_or, is_some, true, Err, Result, IsOk}
 use Rattle.std.specs.Ordering.{nat_cmp}
 use Rattle.std.specs.BTreeMap.{get}
 use Rattle.std.specs.List.{filter, Contains, flat_map, range_with_len, sum_by}
@@ -7,17 +7,21 @@ use Rattle.rpm_outside.specs.Files.{Units, units_of, unit_at}
 use Rattle.rpm_hindex.specs.declared.chain.Record.{Record}
 use Rattle.rpm_hindex.specs.declared.links.Link.{Link}
 use Rattle.rpm_hindex.specs.declared.change.Change.{Change}
+use Rattle.rpm_hindex.specs.declared.spots.Head.{Head}
 use Rattle.rpm_hindex.specs.declared.planning.Patch.{Patch}
 use Rattle.rpm_hindex.specs.declared.planning.Work.{Work}
 use Rattle.rpm_hindex.specs.declared.planning.Work.TheVariants.{InPlace, Scratch}
 use Rattle.rpm_hindex.specs.declared.faults.PrepareFault.{PrepareFault}
 use Rattle.rpm_hindex.specs.declared.faults.PrepareFault.TheVariants.{IndexFull, BadIndex, DiskFault, NoMemory}
 use Rattle.rpm_hindex.specs.Words.{word, unit_of_words}
-use Rattle.rpm_hindex.specs.Rows.{Row, times, same_row}
+use Rattle.rpm_hindex.specs.Rows.{Row, times}
 use Rattle.rpm_hindex.specs.Sizes.{first_record, bucket_count, units_for}
 use Rattle.rpm_hindex.specs.inner.Drafts.{IsImage}
-use Rattle.rpm_hindex.specs.Index.{Index, index_in, is_link, row_at, bucket_unit, all_places, places_of, rows_of, units_at}
+use Rattle.rpm_hindex.specs.Index.{Index, index_in, chain, is_link, row_at, bucket_unit, all_places, places_of, rows_of, units_at}
 use Rattle.rpm_hindex.specs.Whole.{IsWhole}
+use Rattle.rpm_hindex.specs.Refusals.{HoldsMore}
+use Rattle.rpm_hindex.specs.declared.faults.FindFault.{FindFault}
+use Rattle.rpm_hindex.specs.Answers.{IsFaultOf}
 
 -- ---- links
 
@@ -47,14 +51,6 @@ abbrev pub CanRelink : ℕ → List Link → Type 0
 CanRelink used [] = Unit {0}
 CanRelink used (l ∷ ls) = (l.at < used) × (0 < l.at) × (l.record.kind < 16) × (length l.record.key.items < 2 ^ 28) × CanRelink used ls
 
--- no link before this one is of a row
-abbrev pub NoneBefore : Row → List Link → ℕ → Type 0
-NoneBefore row links at = (k : ℕ) (l : Link) → k < at → l ≡ slice_index_or links k l → same_row row (row_of l.record) ≡ false
-
--- the link is
-abbrev pub IsOfRow : Row → List Link → ℕ → Type 0
-IsOfRow row links at = (l : Link) → at < length links → l ≡ slice_index_or links at l → same_row row (row_of l.record) ≡ true
-
 -- ---- units
 
 -- a map with a value at a key
@@ -82,34 +78,22 @@ pub record SetsBucket (file : Units) (old new : ℕ → Option (List ℕ)) (buck
   pub word' : HasWord (unit_after old file (bucket_unit bucket)) words (bucket % 4) n
 
 -- a record names another unit as its next
-pub record SetsNext (old new : ℕ → Option (List ℕ)) (l : Link) (n : ℕ) : Type 0 where
+pub record SetsNext (old new : ℕ → Option (List ℕ)) (h : Head) (n : ℕ) : Type 0 where
   pub words : List ℕ
-  pub put : Puts old new l.at words
+  pub put : Puts old new h.at words
   pub next : word 0 words ≡ n
-  pub packed : word 1 words ≡ l.record.kind * 2 ^ 28 + length l.record.key.items
-  pub number : word 2 words ≡ l.record.number
-  pub «in» : word 3 words ≡ l.record.place
+  pub packed : word 1 words ≡ h.size
+  pub number : word 2 words ≡ h.number
+  pub «in» : word 3 words ≡ h.place
 
 -- a unit behind unit 0 and before that one is put
 abbrev pub PutsWithin : {X : Type 0} → ℕ → (ℕ → Option X) → (ℕ → Option X) → Type 0
 PutsWithin {X} used old new = (key : ℕ) × (1 ≤ key) × (key < used) × PutsOne old new key
 
--- the first of these links, or none
-abbrev pub first_at : List Link → ℕ
-first_at [] = 0
-first_at (l ∷ ls) = l.at
-
--- the link before it names the link behind link number k of these
-abbrev pub UnlinksIn : (ℕ → Option (List ℕ)) → (ℕ → Option (List ℕ)) → Link → List Link → ℕ → Type 0
-UnlinksIn old new before [] k = ⊥
-UnlinksIn old new before (l ∷ ls) zero = SetsNext old new before (first_at ls)
-UnlinksIn old new before (l ∷ ls) (suc k) = UnlinksIn old new l ls k
-
--- the word of the bucket, or of the link before it, names the link behind link number k
-abbrev pub Unlinks : Units → (ℕ → Option (List ℕ)) → (ℕ → Option (List ℕ)) → ℕ → List Link → ℕ → Type 0
-Unlinks file old new bucket [] k = ⊥
-Unlinks file old new bucket (l ∷ ls) zero = SetsBucket file old new bucket (first_at ls)
-Unlinks file old new bucket (l ∷ ls) (suc k) = UnlinksIn old new l ls k
+-- this record, or the word of the bucket where there is none, names this unit
+abbrev pub Unlinks : Units → (ℕ → Option (List ℕ)) → (ℕ → Option (List ℕ)) → ℕ → Option Head → ℕ → Type 0
+Unlinks file old new bucket None n = SetsBucket file old new bucket n
+Unlinks file old new bucket (Some h) n = SetsNext old new h n
 
 -- ---- a change that can go on
 
@@ -230,11 +214,29 @@ IsChainFault said NoMemory = Unit {0}
 abbrev pub if_kept : (ℕ → Bool) → (ℕ → ℕ) → ℕ → ℕ
 if_kept kept f p = if kept p then f p else 0
 
--- each bucket's word is a link or as it was, and what unit 1 counts fell no faster than what the chains keep
+-- each chain is well formed
+abbrev pub HasNoFault : Index → Type 0
+HasNoFault x = (b : ℕ) → b < x.buckets → IsOk (chain x b)
+
+-- a fault that names a unit names that of some chain
+abbrev pub HasFault : Index → FindFault → Type 0
+HasFault x e = (b : ℕ) × (b < x.buckets) × IsFaultOf (chain x b) e
+
+-- each bucket's word is a link or as it was, and, where no chain has a fault, what unit 1 counts fell no faster than what the chains keep
 pub record IsHonest (c : Change) (file : Units) : Type 0 where
   pub heads : (b : ℕ) → b < c.extent.buckets → (is_link (changing c file) ((changing c file).head b) ≡ true)
       ⊎ ((changing c file).head b ≡ (index_in c.extent.buckets file).head b)
-  pub records : word 1 (unit_at file 1) + sum_by (if_kept (is_kept (λ p. get nat_cmp c.dropped p)) (λ p. 1))
+  pub records : HasNoFault (index_in c.extent.buckets file) → word 1 (unit_at file 1) + sum_by (if_kept (is_kept (λ p. get nat_cmp c.dropped p)) (λ p. 1))
       (all_places (index_in c.extent.buckets file)) ≤ c.records + length (all_places (index_in c.extent.buckets file))
-  pub live : word 2 (unit_at file 1) + sum_by (if_kept (is_kept (λ p. get nat_cmp c.dropped p)) (units_at (unit_at file)))
+  pub live : HasNoFault (index_in c.extent.buckets file)
+      → word 2 (unit_at file 1) + sum_by (if_kept (is_kept (λ p. get nat_cmp c.dropped p)) (units_at (unit_at file)))
       (all_places (index_in c.extent.buckets file)) ≤ c.live + sum_by (units_at (unit_at file)) (all_places (index_in c.extent.buckets file))
+
+-- a fault that names a unit names the fault of a bucket's chain, or unit 1, which counts too little unless there is one
+abbrev pub IsBadSoFar : ℕ → Units → PrepareFault → Type 0
+IsBadSoFar buckets file (BadIndex unit) =
+    ((b : ℕ) × (b < buckets) × (chain (index_in buckets file) b ≡ Err unit))
+    ⊎ ((unit ≡ 1) × (HasNoFault (index_in buckets file) → HoldsMore buckets file))
+IsBadSoFar buckets file (IndexFull needed) = Unit {0}
+IsBadSoFar buckets file DiskFault = Unit {0}
+IsBadSoFar buckets file NoMemory = Unit {0}

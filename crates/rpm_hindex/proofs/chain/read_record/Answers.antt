@@ -1,9 +1,10 @@
-use Rattle.std.proofs.Common.{◌≡◌, ℕ, ◌+◌, ◌/◌, ◌%◌, ◌^◌, List, length, take, ap, sym, ◌∙◌, refl, arith}
-use Rattle.rpm_outside.specs.Files.{Files, unit_at, bytes_of}
+use Rattle.std.proofs.Common.{◌≡◌, ℕ, ◌+◌, ◌/◌, ◌%◌, ◌^◌, List, length, ap, sym, ◌∙◌, refl, arith}
+use Rattle.rpm_outside.specs.Files.{Files}
 use Rattle.rpm_hindex.specs.Words.{word}
-use Rattle.rpm_hindex.specs.Rows.{hash_of, Row}
-use Rattle.rpm_hindex.specs.Index.{Index, index_in, key_at, row_at, run}
+use Rattle.rpm_hindex.specs.Rows.{hash_of}
+use Rattle.rpm_hindex.specs.Index.{Index, index_in, key_at}
 use Rattle.rpm_hindex.proofs.Chains.{follow_bad, unsound_place, unsound_bucket, sound_from, placed_parts}
+use Rattle.rpm_hindex.proofs.AsRead.{alone, key_read, row_read}
 use Rattle.rpm_hindex.proofs.chain.read_record.Goals as goal
 
 pub returns-then-not-is_placed-clause-fault : goal.returns-then-not-is_placed-clause-fault
@@ -23,29 +24,11 @@ read_key-requires-clause-within g c = λ told.
     let open' = c.requires.open told in
     omega (arith, placed.ends, open'.used, open'.within)
 
--- the key as it was read is that of the file
-key_read : (file later : Files) (at size : ℕ) (key : List ℕ) → later ≡ file → size ≡ word 1 (unit_at file.idx at) → key ≡ take (size % 2 ^ 28)
-    (bytes_of (run (unit_at later.idx) (at + 1) ((size % 2 ^ 28 + 15) / 16))) → key ≡ key_at (unit_at file.idx) at
-key_read file later at size key same is e =
-    e
-    ∙ ap (λ (f : Files). take (size % 2 ^ 28) (bytes_of (run (unit_at f.idx) (at + 1) ((size % 2 ^ 28 + 15) / 16)))) same
-    ∙ ap (λ (n : ℕ). take (n % 2 ^ 28) (bytes_of (run (unit_at file.idx) (at + 1) ((n % 2 ^ 28 + 15) / 16)))) is
-
 -- the bucket of what was read
 bucket_read : (unit : ℕ → List ℕ) (at buckets word1 result : ℕ) (key : List ℕ) → word1 ≡ word 1 (unit at) → key ≡ key_at unit at → result
     ≡ hash_of (word1 / 2 ^ 28) key % buckets → result ≡ hash_of (word 1 (unit at) / 2 ^ 28) (key_at unit at) % buckets
 bucket_read unit at buckets word1 result key w k e =
     e ∙ ap (λ (n : ℕ). hash_of (n / 2 ^ 28) key % buckets) w ∙ ap (λ (bs : List ℕ). hash_of (word 1 (unit at) / 2 ^ 28) bs % buckets) k
-
-row_read : (unit : ℕ → List ℕ) (at w1 w2 w3 : ℕ) (key : List ℕ) → w1 ≡ word 1 (unit at) → key ≡ key_at unit at → w2 ≡ word 2 (unit at) → w3
-    ≡ word 3 (unit at) → row_at unit at ≡ record { kind = w1 / 2 ^ 28; key = key; number = w2; place = w3 }
-unfolding row_at
-row_read unit at w1 w2 w3 key one keyed two three =
-    let f : ℕ → List ℕ → ℕ → ℕ → Row = λ a b c d. record { kind = a / 2 ^ 28; key = b; number = c; place = d } in
-    ap (λ (n : ℕ). f n (key_at unit at) (word 2 (unit at)) (word 3 (unit at))) (sym one)
-    ∙ ap (λ (bs : List ℕ). f w1 bs (word 2 (unit at)) (word 3 (unit at))) (sym keyed)
-    ∙ ap (λ (n : ℕ). f w1 key n (word 3 (unit at))) (sym two)
-    ∙ ap (λ (n : ℕ). f w1 key w2 n) (sym three)
 
 pub returns-then-bucket_of-bucket-clause-fault : goal.returns-then-bucket_of-bucket-clause-fault
 returns-then-bucket_of-bucket-clause-fault g c = λ told.
@@ -58,10 +41,6 @@ returns-then-bucket_of-bucket-clause-fault g c = λ told.
     (c.word.ensures ∙ ap (word 1) first) (c.deref.ensures.value ∙ key) c.bucket_of.ensures.bucket in
     follow_bad x c.args.bucket c.args.at c.args.at c.requires.some_at (omega arith) (unsound_bucket x c.args.bucket c.args.at
     (λ e. c.if-bucket_of-bucket.true (bucket ∙ e)))
-
--- an index that has this one unit alone
-abbrev alone : ℕ → ℕ → List ℕ → Index
-alone buckets used unit = record { buckets = buckets; used = used; head = λ b. 0; unit = λ i. unit }
 
 pub returns-clause-falls : goal.returns-clause-falls
 returns-clause-falls g c =

@@ -1,6 +1,6 @@
 use Rattle.std.proofs.Common.{length, ap, arith}
 use Rattle.rpm_hindex.specs.declared.links.Link.{Link}
-use Rattle.rpm_hindex.proofs.Overlay.{relink_at}
+use Rattle.rpm_hindex.proofs.Linking.{relink_at}
 use Rattle.rpm_hindex.proofs.planning.push_links.Goals as goal
 
 pub add-requires-clause-kind : goal.add-requires-clause-kind

@@ -164,19 +164,20 @@ cost_here drops file n buckets old new is whole cost = subst (λ (m : ℕ). IsWe
 
 pub returns-in-Err-clause-cost : goal.returns-in-Err-clause-cost
 returns-in-Err-clause-cost g c = λ told whole stays.
-    let dropped = cost_here c.args.drops.now (g.D.Disk.files c.args.disk.now).idx _ _ _ _ c.start-change.ensures.buckets whole (c.in-Err.ensures.cost told) in
+    let dropped = cost_here c.args.drops.now (g.D.Disk.files c.args.disk.now).idx _ _ _ _ c.start-change.ensures.buckets whole
+    (λ w. c.in-Err.ensures.cost told w (c.start-change.ensures.honest (g.D.Disk.files c.args.disk.now).idx (c.requires.keeps told))) in
     omega (arith, dropped)
 
 pub returns-in-Err-add_rows-clause-cost : goal.returns-in-Err-add_rows-clause-cost
 returns-in-Err-add_rows-clause-cost g c = λ told whole stays.
     let dropped = cost_here c.args.drops.now (g.D.Disk.files c.args.disk.now).idx _ _ _ _ c.start-change.ensures.buckets whole
-    (c.in_default.ensures.cost told) in
+    (λ w. c.in_default.ensures.cost told w (c.start-change.ensures.honest (g.D.Disk.files c.args.disk.now).idx (c.requires.keeps told))) in
     omega (arith, dropped, c.in-Err-add_rows.ensures.looks.reads.idx)
 
 pub returns-clause-cost : goal.returns-clause-cost
 returns-clause-cost g c = λ told whole stays.
     let dropped = cost_here c.args.drops.now (g.D.Disk.files c.args.disk.now).idx _ _ _ _ c.start-change.ensures.buckets whole
-    (c.in_default.ensures.cost told) in
+    (λ w. c.in_default.ensures.cost told w (c.start-change.ensures.honest (g.D.Disk.files c.args.disk.now).idx (c.requires.keeps told))) in
     omega (arith, dropped, c.in_default-add_rows.ensures.looks.reads.idx)
 
 pub returns-then-not-has_room-clause-cost : goal.returns-then-not-has_room-clause-cost

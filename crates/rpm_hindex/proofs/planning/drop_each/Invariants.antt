@@ -8,7 +8,7 @@ use Rattle.rpm_hindex.specs.Index.{index_in}
 use Rattle.rpm_hindex.specs.Costs.{chains_bytes}
 use Rattle.rpm_hindex.specs.Whole.{IsWellFormed}
 use Rattle.rpm_hindex.specs.inner.Changes.{CanGo, HasLess, IsCut, IsHonest, kept_of, is_kept}
-use Rattle.rpm_hindex.proofs.planning.drop_rows.Given as goal
+use Rattle.rpm_hindex.proofs.planning.drop_each.Given as goal
 
 abbrev pub invariant-loop-i : goal.invariant-loop-i
 invariant-loop-i g l = record {

@@ -1,0 +1,80 @@
+-- Where a row's record stands in its chain.
+use Rattle.std.specs.Prelude.{◌≡◌, ℕ, ◌+◌, ◌<◌, ◌⊎◌, List, [], ◌∷◌, ◌++◌, length, Bool, Option, Some, None, true, false, Ok}
+use Rattle.std.specs.List.{filter, Contains}
+use Rattle.rpm_hindex.specs.declared.spots.Head.{Head}
+use Rattle.rpm_hindex.specs.declared.spots.Met.{Met}
+use Rattle.rpm_hindex.specs.declared.spots.Spot.{Spot}
+use Rattle.rpm_hindex.specs.Words.{word}
+use Rattle.rpm_hindex.specs.Rows.{Row, same_row}
+use Rattle.rpm_hindex.specs.Index.{Index, is_link, is_sound, follow, next_at, length_at, row_at}
+
+-- what was read of a record's first unit is what stands there
+pub record IsHead (unit : ℕ → List ℕ) (h : Head) : Type 0 where
+  pub packed : word 1 (unit h.at) ≡ h.size
+  pub number : word 2 (unit h.at) ≡ h.number
+  pub «in» : word 3 (unit h.at) ≡ h.place
+
+-- what was read of a record, and whether it is of the row
+pub record IsMet (x : Index) (bucket at : ℕ) (row : Row) (m : Met) : Type 0 where
+  pub sound : is_sound x bucket at ≡ true
+  pub next : m.next ≡ next_at x.unit at
+  pub head : IsHead x.unit m.head
+  pub long : length (row_at x.unit at).key ≡ length_at x.unit at
+  pub same : m.is_row ≡ same_row row (row_at x.unit at)
+
+-- the records from a place to another, which is the next of the last
+abbrev pub IsPath : Index → ℕ → ℕ → List ℕ → ℕ → Type 0
+IsPath x bucket from [] to = from ≡ to
+IsPath x bucket from (p ∷ ps) to = (from ≡ p) × (0 < p) × (is_sound x bucket p ≡ true) × IsPath x bucket (next_at x.unit p) ps to
+
+-- a place that is reached over dropped ones alone, and is kept itself, or the end
+pub record SkipsTo (x : Index) (bucket : ℕ) (kept : ℕ → Bool) (from to : ℕ) : Type 0 where
+  pub dropped : List ℕ
+  pub path : IsPath x bucket from dropped to
+  pub none : filter kept dropped ≡ []
+  pub ends : (to ≡ 0) ⊎ (kept to ≡ true)
+
+-- the last of these places, or none where there are none
+abbrev pub IsLast : (ℕ → List ℕ) → List ℕ → Option Head → Type 0
+IsLast unit places None = places ≡ []
+IsLast unit places (Some h) = IsHead unit h × ((front : List ℕ) × (places ≡ front ++ h.at ∷ []))
+
+-- none of these places is kept and of the row
+abbrev pub HasNone : (ℕ → List ℕ) → (ℕ → Bool) → Row → List ℕ → Type 0
+HasNone unit kept row places = (q : ℕ) → Contains places q → kept q ≡ true → same_row row (row_at unit q) ≡ false
+
+-- a kept record of the row, with its neighbours among those that are kept
+pub record IsSpot (x : Index) (bucket from : ℕ) (kept : ℕ → Bool) (row : Row) (s : Spot) : Type 0 where
+  pub front : List ℕ
+  pub path : IsPath x bucket from front s.at
+  pub last : IsLast x.unit (filter kept front) s.before
+  pub some : 0 < s.at
+  pub sound : is_sound x bucket s.at ≡ true
+  pub stays : kept s.at ≡ true
+  pub same : same_row row (row_at x.unit s.at) ≡ true
+  pub long : length (row_at x.unit s.at).key ≡ length_at x.unit s.at
+  pub rest : SkipsTo x bucket kept (next_at x.unit s.at) s.behind
+
+-- a chain without a kept record of the row
+pub record IsMissing (x : Index) (bucket from : ℕ) (kept : ℕ → Bool) (row : Row) : Type 0 where
+  pub places : List ℕ
+  pub all : follow x bucket from from ≡ Ok places
+  pub none : HasNone x.unit kept row places
+
+abbrev pub IsFoundFrom : Index → ℕ → ℕ → (ℕ → Bool) → Row → Option Spot → Type 0
+IsFoundFrom x bucket from kept row (Some s) = IsSpot x bucket from kept row s
+IsFoundFrom x bucket from kept row None = IsMissing x bucket from kept row
+
+-- in a bucket's chain
+pub record IsFound (x : Index) (bucket : ℕ) (kept : ℕ → Bool) (row : Row) (o : Option Spot) : Type 0 where
+  pub link : is_link x (x.head bucket) ≡ true
+  pub found : IsFoundFrom x bucket (x.head bucket) kept row o
+
+abbrev pub IsHeadWithin : ℕ → Option Head → Type 0
+IsHeadWithin used None = Unit {0}
+IsHeadWithin used (Some h) = (0 < h.at) × (h.at < used)
+
+-- the record before it stands in front of this unit
+abbrev pub IsWithin : ℕ → Option Spot → Type 0
+IsWithin used None = Unit {0}
+IsWithin used (Some s) = IsHeadWithin used s.before
