@@ -9,17 +9,6 @@ use Rattle.rpm_hindex.specs.Index.{Index, follow, behind, is_sound, next_at}
 use Rattle.rpm_hindex.specs.Answers.{HitsAre, IsFaultOf}
 use Rattle.rpm_hindex.proofs.Chains.{behind_all, behind_more, behind_ok, behind_err, behind_all_is_ok, follow_is_ok, follow_step}
 
--- hits within something
-pub hits_in : {H G : Type 0} (P : List ℕ → H → Type 0) (part : G → H) (said : Result (List ℕ) ℕ) (whole : G) → HitsAre P said (part whole)
-    → HitsAre (λ places w. P places (part w)) said whole
-hits_in P part (Ok places) whole p = p
-hits_in P part (Err unit) whole p = p
-
-pub hits_of : {H G : Type 0} (P : List ℕ → H → Type 0) (part : G → H) (said : Result (List ℕ) ℕ) (whole : G) → HitsAre (λ places w. P places (part w))
-    said whole → HitsAre P said (part whole)
-hits_of P part (Ok places) whole p = p
-hits_of P part (Err unit) whole p = p
-
 module _ (x : Index) (b from : ℕ) (done : List ℕ) (at : ℕ) (so_far : follow x b from from ≡ behind_all done (follow x b at at)) where
   pub one_more : (next : ℕ) → 0 < at → is_sound x b at ≡ true → next ≡ next_at x.unit at → follow x b from from ≡ behind_all (done ++ at ∷ [])
       (follow x b next next)

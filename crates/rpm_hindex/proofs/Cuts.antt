@@ -210,12 +210,12 @@ module _ (c : Change) (file : Units) (go : CanGo c) (none : length c.tail.items 
   drop_cuts row s link is sets size put =
       let t = splits x b kept row s link (chain_are x b (well.chains b below)) is in
       by_before s.before t.before s.at s.behind t.after t.are t.next t.last sets size put where
-    by_before : (o : Option Head) (front : List ℕ) (at to : ℕ) (after : List ℕ) → ks b ≡ front ++ at ∷ after → first_of after ≡ to → IsLast x.unit front o
-        → Unlinks file old new b o to → n ≡ units_at x.unit at → Puts (λ q. get nat_cmp c.dropped q) (λ q. get nat_cmp dropped q) at at → IsCut d file
-    by_before None front at to after are next none sets size put =
-        first_cut at to after (are ∙ ap (λ (ps : List ℕ). ps ++ at ∷ after) none) next sets size put
-    by_before (Some h) front at to after are next (head, (pre, is)) sets size put =
-        later_cut pre after h at to (are ∙ ap (λ (ps : List ℕ). ps ++ at ∷ after) is ∙ append_assoc pre (h.at ∷ []) (at ∷ after)) next head sets size put
+        by_before : (o : Option Head) (front : List ℕ) (at to : ℕ) (after : List ℕ) → ks b ≡ front ++ at ∷ after → first_of after ≡ to → IsLast x.unit front o
+            → Unlinks file old new b o to → n ≡ units_at x.unit at → Puts (λ q. get nat_cmp c.dropped q) (λ q. get nat_cmp dropped q) at at → IsCut d file
+        by_before None front at to after are next none sets size put =
+            first_cut at to after (are ∙ ap (λ (ps : List ℕ). ps ++ at ∷ after) none) next sets size put
+        by_before (Some h) front at to after are next (head, (pre, is)) sets size put =
+            later_cut pre after h at to (are ∙ ap (λ (ps : List ℕ). ps ++ at ∷ after) is ∙ append_assoc pre (h.at ∷ []) (at ∷ after)) next head sets size put
 
 -- what is left of the rows
 pub rows_cut : (c : Change) (file : Units) → length c.tail.items ≡ 0 → IsOpen c.extent file → IsWellFormed c.extent.buckets file → IsCut c file

@@ -220,8 +220,14 @@ module _ (c : Change) (file : Units) (go : CanGo c) (opens : IsOpen c.extent fil
         record {
           heads = heads s.before is.last sets;
           records = λ none. omega (arith, some, honest.records none, kept_falls kept later (λ p. 1) s.at (all_places x) (mine none) is.stays gone others);
-          live = λ none. omega (arith, enough, same, honest.live none, kept_falls kept later (units_at x.unit) s.at (all_places x) (mine none)
-              is.stays gone others);
+          live = λ none. omega (
+            arith,
+            enough,
+            same,
+            honest.live none,
+            kept_falls kept later (units_at x.unit) s.at (all_places x) (mine none)
+                is.stays gone others,
+          );
         }
 
 -- ---- a row is added

@@ -1,4 +1,4 @@
-//! The records of a chain that a change keeps.
+//! The records of a chain that a change keeps, with their keys.
 
 ghost use Rattle.std.specs.Prelude.{◌≡◌, ℕ, ◌+◌, ◌*◌, ◌/◌, ◌%◌, ◌^◌, ◌≤◌, ◌<◌, ◌++◌, ◌∷◌, [], IsTrue, true, length, OnOk, IfOk, IfErr, Err, if◌then◌else◌};
 ghost use Rattle.std.specs.Ordering.{nat_cmp};
@@ -6,7 +6,7 @@ ghost use Rattle.std.specs.BTreeMap.{get};
 ghost use Rattle.std.specs.List.{filter};
 ghost use Rattle.rpm_outside.specs.Files.{unit_at};
 ghost use Rattle.rpm_outside.specs.Causes.{HasCauseAt};
-ghost use Rattle.rpm_hindex.specs.Index.{index_in, chain, follow, units_at, bucket_unit};
+ghost use Rattle.rpm_hindex.specs.Index.{index_in, chain, follow, units_at};
 ghost use Rattle.rpm_hindex.specs.inner.Records.{IsOpen};
 ghost use Rattle.rpm_outside.specs.declared.disk.File.TheVariants.{Idx};
 ghost use Rattle.rpm_outside.specs.Looks.{LooksAt};
@@ -24,13 +24,6 @@ use std::collections::BTreeMap;
 pub struct Link {
     pub at: u32,
     pub record: Record,
-}
-
-/// The unit of a bucket's word, and the links of its chain.
-#[derive(Drop)]
-pub struct Chain {
-    pub words: [u8; 16],
-    pub links: Vec<Link>,
 }
 
 /// Adds a link, where it isn't dropped.
@@ -59,26 +52,20 @@ pub fn read_links<D: Disk>(
     extent: Extent,
     bucket: u32,
     dropped: &BTreeMap<u32, u32>,
-) -> Result<Chain, FindFault>
+) -> Result<Vec<Link>, FindFault>
     requires few { extent.buckets ≤ 2 ^ 28 }
     requires bucket { bucket < extent.buckets }
     requires open { IsTrue D.tells → IsOpen extent (D.files disk.old).idx }
-    ensures words { IfOk result (λ c. IsTrue D.tells → c.words ≡ unit_at (D.files disk.old).idx (bucket_unit bucket)) }
-    ensures relink { IfOk result (λ c. CanRelink extent.used c.links.items) }
-    ensures told { IsTrue D.tells → FindIs (λ places c. AreLinks (unit_at (D.files disk.old).idx) (filter (is_kept (λ p. get nat_cmp dropped.now p))
-        places) c.links.items) (chain (index_in extent.buckets (D.files disk.old).idx) bucket) result }
+    ensures relink { IfOk result (λ v. CanRelink extent.used v.items) }
+    ensures told { IsTrue D.tells → FindIs (λ places v. AreLinks (unit_at (D.files disk.old).idx) (filter (is_kept (λ p. get nat_cmp dropped.now p))
+        places) v.items) (chain (index_in extent.buckets (D.files disk.old).idx) bucket) result }
     ensures cost { IsTrue D.tells → ChainCosts (chain (index_in extent.buckets (D.files disk.old).idx) bucket)
         (units_at (unit_at (D.files disk.old).idx)) (D.bytes_read disk.old Idx + 16) (D.bytes_read disk.new Idx) }
     ensures looks { LooksAt D.tells D.files D.left_since D.moment D.bytes_read D.follows Idx disk.old disk.new }
     ensures cause { HasCauseAt (result ≡ Err FindFault.DiskFault) (D.faults disk.old) (D.faults disk.new) }
 {
-    let found = match read_bucket(disk, extent, bucket) {
-        Ok(found) => found,
-        Err(fault) => return Err(fault),
-    };
-    let words = found.words;
-    match follow_links(alloc, disk, extent, bucket, found.at, dropped) {
-        Ok(links) => Ok(Chain { words, links }),
+    match read_bucket(disk, extent, bucket) {
+        Ok(found) => follow_links(alloc, disk, extent, bucket, found.at, dropped),
         Err(fault) => Err(fault),
     }
 }

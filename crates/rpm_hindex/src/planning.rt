@@ -290,11 +290,11 @@ fn kept_rows<D: Disk>(
 {
     let mut rows = Rows::new(alloc);
     for bucket in 0..extent.buckets {
-        let chain = match read_links(alloc, disk, extent, bucket, dropped) {
-            Ok(chain) => chain,
+        let links = match read_links(alloc, disk, extent, bucket, dropped) {
+            Ok(links) => links,
             Err(fault) => return Err(prepare_fault(fault)),
         };
-        let Ok(()) = push_links(&mut rows, &chain.links) else {
+        let Ok(()) = push_links(&mut rows, &links) else {
             return Err(PrepareFault::NoMemory);
         };
     }

@@ -71,8 +71,7 @@ fn is_row(kind: u8, key: &[u8], head: Head, row: RowRef<'_>) -> bool
     ensures { result ≡ same_row (record { kind = row.entry.kind; key = row.entry.key.now; number = row.entry.number; place = row.entry.place })
         (record { kind = kind; key = key.now; number = head.number; place = head.place }) }
 {
-    row.number == head.number
-        && (row.place == head.place && (row.kind == kind && row.key == key))
+    row.number == head.number && (row.place == head.place && (row.kind == kind && row.key == key))
 }
 
 /// Reads the record at a unit that a link names, whose key goes into a buffer.

@@ -246,12 +246,16 @@ fn rows_of(alloc: Global, keys: &[&[u8]]) -> Result<Rows, AllocError> {
 fn the_fault_of_a_chain_is_told_with_its_unit(rt: HostRuntime) -> Result<(), Fail> {
     let alloc = rt.alloc();
     let row = rows_of(alloc, &[b"a"])?;
+    let front = rows_of(alloc, &[b"ef"])?;
     for (at, byte, unit) in FAULTS {
         let mut disk = damaged(alloc, at, byte)?;
         let fault = find_fault(alloc, &mut disk);
         assert_eq!(rt; fault, Some(FindFault::BadIndex { unit }), "{at}");
         let fault = drop_fault(alloc, &mut disk, &row);
         assert_eq!(rt; fault, Some(Some(PrepareFault::BadIndex { unit })), "{at}");
+        // behind the first record, which is dropped, none is met
+        let met = drop_fault(alloc, &mut disk, &front) != Some(None);
+        assert_eq!(rt; met, unit == 7, "{at}");
     }
     Ok(())
 }

@@ -1,4 +1,4 @@
-use Rattle.std.proofs.Common.{ℕ, ◌<◌, List, arith, sym, subst, inl, inr}
+use Rattle.std.proofs.Common.{ℕ, ◌<◌, List, Vec, Global, arith, sym, subst, inl, inr}
 use Rattle.std.specs.Prelude.{IsOk}
 use Rattle.std.specs.Ordering.{nat_cmp}
 use Rattle.std.specs.BTreeMap.{get}
@@ -7,7 +7,7 @@ use Rattle.std.proofs.lemmas.Bool.{cases_eq}
 use Rattle.rpm_outside.specs.Files.{Files, unit_at}
 use Rattle.rpm_outside.specs.declared.disk.File.TheVariants.{Idx}
 use Rattle.rpm_outside.specs.inner.Looking.{looks_at_then}
-use Rattle.rpm_hindex.specs.declared.links.Chain.{Chain}
+use Rattle.rpm_hindex.specs.declared.links.Link.{Link}
 use Rattle.rpm_hindex.specs.Index.{index_in, chain}
 use Rattle.rpm_hindex.specs.Answers.{IsFaultOf}
 use Rattle.rpm_hindex.specs.inner.Changes.{AreLinks, is_kept}
@@ -22,8 +22,8 @@ loop-bucket-preserved g c =
           let B = c.args.extent.buckets in
           let file : Files = g.D.Disk.files c.args.disk.now in
           let later : Files = g.D.Disk.files l.disk in
-          let P : List ℕ → Chain → Type 0 = λ places d. AreLinks (unit_at later.idx) (filter (is_kept (λ p. get nat_cmp c.new-dropped.result p)) places)
-          d.links.items in
+          let P : List ℕ → Vec Link Global → Type 0 = λ places v. AreLinks (unit_at later.idx) (filter (is_kept (λ p. get nat_cmp c.new-dropped.result p)) places)
+          v.items in
           let here = subst (λ (f : Files). IsOk (chain (index_in B f.idx) l.bucket)) ((l.invariant.looks.untouched told).same)
           (hits_ok P (chain (index_in B later.idx) l.bucket) c.in_default.field-0 (c.in_default.ensures.told told)) in
           elim (cases_eq b l.bucket) [

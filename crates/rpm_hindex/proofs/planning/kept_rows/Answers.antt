@@ -4,7 +4,6 @@ use Rattle.std.specs.BTreeMap.{get}
 use Rattle.std.specs.List.{filter}
 use Rattle.rpm_outside.specs.Files.{Files, unit_at}
 use Rattle.rpm_hindex.specs.declared.links.Link.{Link}
-use Rattle.rpm_hindex.specs.declared.links.Chain.{Chain}
 use Rattle.rpm_hindex.specs.Index.{index_in, chain}
 use Rattle.rpm_hindex.specs.Answers.{HitsAre, IsFaultOf}
 use Rattle.rpm_hindex.proofs.Honest.{bad_chain}
@@ -12,7 +11,6 @@ use Rattle.rpm_hindex.specs.inner.Changes.{CanRelink, AreLinks, is_kept, row_of}
 use Rattle.rpm_outside.specs.declared.disk.File.TheVariants.{Idx}
 use Rattle.rpm_outside.specs.inner.Looking.{looks_at_then}
 use Rattle.rpm_hindex.proofs.Gathers.{kept_next}
-use Rattle.rpm_hindex.proofs.Collects.{hits_of}
 use Rattle.rpm_hindex.proofs.planning.kept_rows.Goals as goal
 
 pub push_links-requires : goal.push_links-requires
@@ -27,10 +25,8 @@ loop-bucket-preserved g c =
           let kept = is_kept (λ p. get nat_cmp c.args.dropped.now p) in
           let file : Files = g.D.Disk.files c.args.disk.now in
           let said = subst (λ (f : Files). HitsAre (λ (places : List ℕ) (v : Vec Link Global). AreLinks (unit_at f.idx) (filter kept places) v.items)
-          (chain (index_in B f.idx) l.bucket) c.in-Ok.chain.links) ((l.invariant.looks.untouched told).same)
-          (hits_of (λ (places : List ℕ) (v : Vec Link Global). AreLinks (unit_at (g.D.Disk.files l.disk).idx) (filter kept places) v.items)
-          (λ (d : Chain). d.links) (chain (index_in B (g.D.Disk.files l.disk).idx) l.bucket) c.in-Ok.chain (c.in-Ok.ensures.told told)) in
-          kept_next (index_in B file.idx) kept l.bucket c.in-Ok.chain.links l.rows c.push_links.new.rows said (l.invariant.so_far told)
+          (chain (index_in B f.idx) l.bucket) c.in-Ok.links) ((l.invariant.looks.untouched told).same) (c.in-Ok.ensures.told told) in
+          kept_next (index_in B file.idx) kept l.bucket c.in-Ok.links l.rows c.push_links.new.rows said (l.invariant.so_far told)
           (c.in-Ok-push_links.ensures ∙ ap (λ (ls : List Link). l.rows ++ map (λ (m : Link). row_of m.«record») ls) c.deref.ensures.value);
       looks = looks_at_then _ _ _ _ _ _ Idx g.met.D.Disk.follows_trans _ _ _ l.invariant.looks c.read_links.ensures.looks;
       faults = omega (arith, l.invariant.faults, c.read_links.ensures.cause.later);

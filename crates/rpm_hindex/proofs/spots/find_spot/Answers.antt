@@ -203,5 +203,9 @@ returns-clause-cost g c = λ told places e.
     let file : Files = g.D.Disk.files c.args.disk.now in
     let x : Index = index_in c.args.extent.buckets file.idx in
     let s = l.invariant.so_far told in
-    omega (arith, s.4, cost_all x c.args.bucket c.args.from s.0 l.at (path_follows x c.args.bucket c.args.from l.at s.0 s.1)
-    (units_at (unit_at file.idx)) places e)
+    omega (
+      arith,
+      s.4,
+      cost_all x c.args.bucket c.args.from s.0 l.at (path_follows x c.args.bucket c.args.from l.at s.0 s.1)
+          (units_at (unit_at file.idx)) places e,
+    )

@@ -45,8 +45,12 @@ returns-else-contains_key-clause-cost g c = λ told places e.
     let file : Files = g.D.Disk.files c.args.disk.now in
     let x : Index = index_in c.args.extent.buckets file.idx in
     let s = l.invariant.so_far told in
-    omega (arith, s.3, cost_all x c.args.bucket c.args.from s.0 l.at (path_follows x c.args.bucket c.args.from l.at s.0 s.1)
-    (units_at (unit_at file.idx)) places e)
+    omega (
+      arith,
+      s.3,
+      cost_all x c.args.bucket c.args.from s.0 l.at (path_follows x c.args.bucket c.args.from l.at s.0 s.1)
+          (units_at (unit_at file.idx)) places e,
+    )
 
 pub returns-after-loop-at-clause-cost : goal.returns-after-loop-at-clause-cost
 returns-after-loop-at-clause-cost g c = λ told places e.
@@ -54,8 +58,12 @@ returns-after-loop-at-clause-cost g c = λ told places e.
     let file : Files = g.D.Disk.files c.args.disk.now in
     let x : Index = index_in c.args.extent.buckets file.idx in
     let s = l.invariant.so_far told in
-    omega (arith, s.3, cost_all x c.args.bucket c.args.from s.0 l.at (path_follows x c.args.bucket c.args.from l.at s.0 s.1)
-    (units_at (unit_at file.idx)) places e)
+    omega (
+      arith,
+      s.3,
+      cost_all x c.args.bucket c.args.from s.0 l.at (path_follows x c.args.bucket c.args.from l.at s.0 s.1)
+          (units_at (unit_at file.idx)) places e,
+    )
 
 pub loop-at-preserved : goal.loop-at-preserved
 loop-at-preserved g c =
