@@ -1,5 +1,5 @@
 -- A change that cuts a record out of its chain.
-use Rattle.std.proofs.Common.{◌≡◌, ℕ, zero, suc, ◌-◌, ◌%◌, ◌<◌, ◌≤◌, List, [], ◌∷◌, ◌++◌, length, Bool, true, false, not, ◌&&◌, cond, ltb, slice_index_or, BTreeMap, refl, sym, ap, ◌∙◌, arith, subst, inl, inr}
+use Rattle.std.proofs.Common.{◌≡◌, ℕ, suc, ◌-◌, ◌%◌, ◌<◌, ◌≤◌, List, [], ◌∷◌, ◌++◌, length, Bool, true, false, not, ◌&&◌, cond, ltb, BTreeMap, refl, sym, ap, ◌∙◌, arith, subst, inl, inr}
 use Rattle.std.specs.Prelude.{Option, Some, None, unwrap_or, is_some}
 use Rattle.std.specs.Ordering.{nat_cmp}
 use Rattle.std.specs.BTreeMap.{get}
@@ -12,10 +12,10 @@ use Rattle.rpm_hindex.specs.declared.spots.Head.{Head}
 use Rattle.rpm_hindex.specs.declared.spots.Spot.{Spot}
 use Rattle.rpm_hindex.specs.declared.change.Change.{Change}
 use Rattle.rpm_hindex.specs.Words.{word}
-use Rattle.rpm_hindex.specs.Sizes.{first_record, record_units}
+use Rattle.rpm_hindex.specs.Sizes.{first_record}
 use Rattle.rpm_hindex.specs.Rows.{Row, times}
 use Rattle.rpm_hindex.specs.inner.Records.{IsOpen}
-use Rattle.rpm_hindex.specs.Index.{Index, index_in, is_link, next_at, units_at, length_at, row_at, bucket_of, bucket_unit, places_of, all_places, rows_of}
+use Rattle.rpm_hindex.specs.Index.{Index, index_in, is_link, next_at, units_at, row_at, bucket_of, bucket_unit, places_of, all_places, rows_of}
 use Rattle.rpm_hindex.specs.Whole.{IsWhole, IsWellFormed}
 use Rattle.rpm_hindex.specs.inner.Changes.{CanGo, Puts, SetsBucket, SetsNext, Unlinks, Stays, IsCut, changing, unit_after, is_kept, kept_of}
 use Rattle.rpm_hindex.specs.inner.Spots.{IsHead, IsLast, IsSpot}

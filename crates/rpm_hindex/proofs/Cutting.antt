@@ -1,5 +1,5 @@
 -- A record is cut out of its chain.
-use Rattle.std.proofs.Common.{◌≡◌, ℕ, zero, suc, ◌+◌, ◌-◌, ◌/◌, ◌%◌, ◌^◌, ◌<◌, ◌≤◌, List, [], ◌∷◌, ◌++◌, take, map, Bool, true, ◌&&◌, slice_index_or, cond, refl, sym, ap, ◌∙◌, arith, subst}
+use Rattle.std.proofs.Common.{◌≡◌, ℕ, ◌+◌, ◌-◌, ◌/◌, ◌%◌, ◌^◌, ◌<◌, ◌≤◌, List, [], ◌∷◌, ◌++◌, take, map, Bool, true, ◌&&◌, cond, refl, sym, ap, ◌∙◌, arith, subst}
 use Rattle.std.specs.List.{Contains, filter, sum_by, flat_map, range_with_len}
 use Rattle.rpm_outside.specs.Files.{Units, bytes_of}
 use Rattle.rpm_hindex.specs.Words.{word}

@@ -1,8 +1,7 @@
 -- Units that a change writes anew.
-use Rattle.std.proofs.Common.{◌≡◌, ℕ, zero, suc, ◌+◌, ◌-◌, ◌*◌, ◌^◌, ◌<◌, ◌≤◌, List, [], ◌∷◌, length, drop, slice_index_or, cond, eqb, refl, sym, ap, ◌∙◌, arith, subst}
+use Rattle.std.proofs.Common.{◌≡◌, ℕ, zero, suc, ◌^◌, ◌<◌, List, cond, eqb, refl, ◌∙◌, arith}
 use Rattle.std.specs.Prelude.{Option}
 use Rattle.std.proofs.lemmas.Bool.{cond-true, cond-false, eq-eqb, ne_eqb}
-use Rattle.rpm_outside.specs.Files.{Units, unit_at}
 use Rattle.rpm_hindex.specs.Index.{bucket_unit}
 use Rattle.rpm_hindex.specs.declared.spots.Head.{Head}
 use Rattle.rpm_hindex.specs.Words.{word, unit_of_words}

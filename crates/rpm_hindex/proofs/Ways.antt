@@ -1,6 +1,6 @@
 -- The way to a row's record.
 use Rattle.std.proofs.Common.{◌≡◌, ℕ, zero, suc, ◌+◌, ◌*◌, ◌<◌, ◌≤◌, List, [], ◌∷◌, ◌++◌, Bool, true, false, ◌&&◌, cond, Ok, refl, sym, ap, ◌∙◌, arith, subst, inl, inr}
-use Rattle.std.specs.Prelude.{Option, Some, None, ◌⊎◌}
+use Rattle.std.specs.Prelude.{Option, Some, ◌⊎◌}
 use Rattle.std.specs.List.{Contains, filter, sum_by}
 use Rattle.std.proofs.lemmas.List.{append_assoc, append-nil}
 use Rattle.std.proofs.lemmas.List.Elements.{filter-append, Contains-append_cases}
@@ -13,7 +13,7 @@ use Rattle.rpm_hindex.specs.Rows.{Row, same_row}
 use Rattle.rpm_outside.specs.Files.{Files, unit_at}
 use Rattle.rpm_hindex.specs.Answers.{IsFaultOf, ChainCosts}
 use Rattle.rpm_hindex.specs.Index.{Index, index_in, is_link, is_sound, follow, behind, next_at, units_at, row_at, chain, places_of}
-use Rattle.rpm_hindex.specs.inner.Spots.{IsHead, IsPath, SkipsTo, IsLast, HasNone, IsHeadWithin, IsSpot}
+use Rattle.rpm_hindex.specs.inner.Spots.{IsHead, IsPath, IsLast, HasNone, IsHeadWithin, IsSpot}
 use Rattle.rpm_hindex.proofs.Chains.{behind_all, behind_all_is_ok, sound_parts, follow_step, chain_from}
 use Rattle.rpm_hindex.proofs.Collects.{at_fault}
 use Rattle.rpm_hindex.proofs.Extends.{Stands}

@@ -1,5 +1,5 @@
 -- A change that is being worked out, as the index that it would leave.
-use Rattle.std.specs.Prelude.{◌≡◌, ℕ, zero, suc, ◌+◌, ◌-◌, ◌*◌, ◌/◌, ◌%◌, ◌^◌, ◌<◌, ◌≤◌, ◌⊎◌, List, [], ◌∷◌, length, map, Bool, not, if◌then◌else◌, nat_lt, Option, Some, None, unwrap_or, is_some, true, Err, Result, IsOk}
+use Rattle.std.specs.Prelude.{◌≡◌, ℕ, ◌+◌, ◌-◌, ◌*◌, ◌/◌, ◌%◌, ◌^◌, ◌<◌, ◌≤◌, ◌⊎◌, List, [], ◌∷◌, length, map, Bool, not, if◌then◌else◌, nat_lt, Option, Some, None, unwrap_or, is_some, true, Err, Result, IsOk}
 use Rattle.std.specs.Ordering.{nat_cmp}
 use Rattle.std.specs.BTreeMap.{get}
 use Rattle.std.specs.List.{filter, Contains, flat_map, range_with_len, sum_by}

@@ -1,4 +1,4 @@
-use Rattle.std.proofs.Common.{ℕ, ◌<◌, List, Vec, Global, arith, sym, subst, inl, inr}
+use Rattle.std.proofs.Common.{ℕ, List, Vec, Global, arith, sym, subst, inl, inr}
 use Rattle.std.specs.Prelude.{IsOk}
 use Rattle.std.specs.Ordering.{nat_cmp}
 use Rattle.std.specs.BTreeMap.{get}

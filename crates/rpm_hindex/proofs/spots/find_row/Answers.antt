@@ -1,7 +1,7 @@
-use Rattle.std.proofs.Common.{◌≡◌, ◌≤◌, ◌+◌, arith, ℕ, true, sym, ap, ◌∙◌, subst}
-use Rattle.rpm_outside.specs.Files.{Files, unit_at}
-use Rattle.rpm_hindex.specs.Index.{Index, index_in, follow, chain, is_link, units_at}
-use Rattle.rpm_hindex.specs.Answers.{IsFaultOf, ChainCosts}
+use Rattle.std.proofs.Common.{sym, subst}
+use Rattle.rpm_outside.specs.Files.{Files}
+use Rattle.rpm_hindex.specs.Index.{index_in, follow}
+use Rattle.rpm_hindex.specs.Answers.{IsFaultOf}
 use Rattle.rpm_hindex.proofs.Ways.{chain_is, chain_cost}
 use Rattle.rpm_hindex.proofs.spots.find_row.Goals as goal
 

@@ -1,4 +1,4 @@
-use Rattle.std.proofs.Common.{◌≡◌, ℕ, ◌+◌, ◌*◌, ◌<◌, ◌≤◌, List, ◌∷◌, [], ◌++◌, Bool, true, Ok, refl, sym, ap, ◌∙◌, arith, subst}
+use Rattle.std.proofs.Common.{◌≡◌, ℕ, ◌+◌, ◌*◌, ◌<◌, ◌≤◌, List, ◌∷◌, [], ◌++◌, Bool, Ok, sym, ap, ◌∙◌, arith, subst}
 use Rattle.std.proofs.lemmas.Bool.{and_parts}
 use Rattle.std.proofs.lemmas.List.{append-nil}
 use Rattle.std.proofs.lemmas.List.Sums.{sum_by_push}
@@ -9,7 +9,7 @@ use Rattle.rpm_outside.specs.Files.{Files, unit_at}
 use Rattle.rpm_outside.specs.declared.disk.File.TheVariants.{Idx}
 use Rattle.rpm_outside.specs.inner.Looking.{looks_at_then}
 use Rattle.rpm_hindex.specs.Rows.{Row, same_row}
-use Rattle.rpm_hindex.specs.Index.{Index, index_in, follow, next_at, row_at, units_at}
+use Rattle.rpm_hindex.specs.Index.{Index, index_in, follow, row_at, units_at}
 use Rattle.rpm_hindex.specs.Answers.{IsFaultOf, ChainCosts}
 use Rattle.rpm_hindex.specs.inner.Changes.{is_kept}
 use Rattle.rpm_hindex.specs.inner.Spots.{IsMet, IsPath, SkipsTo}

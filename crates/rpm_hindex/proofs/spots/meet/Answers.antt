@@ -1,9 +1,9 @@
-use Rattle.std.proofs.Common.{◌≡◌, ℕ, ◌+◌, ◌/◌, ◌%◌, ◌^◌, ◌≤◌, List, length, take, ap, sym, ◌∙◌, refl, arith}
+use Rattle.std.proofs.Common.{◌≡◌, ℕ, ◌/◌, ◌%◌, ◌^◌, ◌≤◌, List, length, take, ap, sym, ◌∙◌, refl, arith}
 use Rattle.std.proofs.lemmas.List.{length-take-le}
-use Rattle.rpm_outside.specs.Files.{Files, unit_at}
+use Rattle.rpm_outside.specs.Files.{Files}
 use Rattle.rpm_hindex.specs.Words.{word}
 use Rattle.rpm_hindex.specs.Rows.{hash_of, Row, same_row}
-use Rattle.rpm_hindex.specs.Index.{Index, index_in, key_at, row_at, length_at}
+use Rattle.rpm_hindex.specs.Index.{Index, index_in, key_at}
 use Rattle.rpm_hindex.proofs.Chains.{follow_bad, unsound_place, unsound_bucket, sound_from, placed_parts}
 use Rattle.rpm_hindex.proofs.AsRead.{alone, key_read, row_read}
 use Rattle.rpm_hindex.proofs.spots.meet.Goals as goal

@@ -1,5 +1,5 @@
-use Rattle.std.proofs.Common.{◌≡◌, ℕ, ◌-◌, refl, sym, ◌∙◌, arith, subst, inl, inr}
-use Rattle.std.specs.Prelude.{Some, None, Option}
+use Rattle.std.proofs.Common.{◌-◌, refl, ◌∙◌, arith, subst, inl, inr}
+use Rattle.std.specs.Prelude.{Option}
 use Rattle.std.specs.Ordering.{nat_cmp}
 use Rattle.std.specs.BTreeMap.{get}
 use Rattle.rpm_outside.specs.Files.{Files}
@@ -8,7 +8,7 @@ use Rattle.rpm_hindex.specs.declared.spots.Spot.{Spot}
 use Rattle.rpm_hindex.specs.Rows.{Row}
 use Rattle.rpm_hindex.specs.Index.{Index, index_in}
 use Rattle.rpm_hindex.specs.inner.Changes.{is_kept}
-use Rattle.rpm_hindex.specs.inner.Spots.{IsFound, IsWithin}
+use Rattle.rpm_hindex.specs.inner.Spots.{IsFound}
 use Rattle.rpm_hindex.proofs.Chains.{chain_from}
 use Rattle.rpm_hindex.proofs.Going.{go_on}
 use Rattle.rpm_hindex.proofs.Dropping.{drops_none, drops_one, spot_units}
