@@ -81,7 +81,8 @@ fn drop_each<D: Disk>(
     ensures cuts { OnOk result (IsTrue D.tells → IsWellFormed change.old.extent.buckets (D.files disk.old).idx → length change.old.tail.items ≡ 0
         → IsCut change.old (D.files disk.old).idx → IsCut change.new (D.files disk.old).idx) }
     ensures honest { OnOk result (IsTrue D.tells → IsHonest change.old (D.files disk.old).idx → IsHonest change.new (D.files disk.old).idx) }
-    ensures bad { IfErr result (λ e. IsTrue D.tells → IsHonest change.old (D.files disk.old).idx → IsBadSoFar change.old.extent.buckets (D.files disk.old).idx e) }
+    ensures bad { IfErr result (λ e. IsTrue D.tells → IsHonest change.old (D.files disk.old).idx
+        → IsBadSoFar change.old.extent.buckets (D.files disk.old).idx e) }
     ensures cost { IsTrue D.tells → IsWellFormed change.old.extent.buckets (D.files disk.old).idx → D.bytes_read disk.new Idx ≤ D.bytes_read disk.old
         Idx + chains_bytes (index_in change.old.extent.buckets (D.files disk.old).idx) rows.now }
     ensures looks { LooksAt D.tells D.files D.left_since D.moment D.bytes_read D.follows Idx disk.old disk.new }

@@ -22,7 +22,8 @@ loop-bucket-preserved g c =
           let B = c.args.extent.buckets in
           let file : Files = g.D.Disk.files c.args.disk.now in
           let later : Files = g.D.Disk.files l.disk in
-          let P : List ℕ → Vec Link Global → Type 0 = λ places v. AreLinks (unit_at later.idx) (filter (is_kept (λ p. get nat_cmp c.new-dropped.result p)) places)
+          let P : List ℕ → Vec Link Global → Type 0 = λ places v. AreLinks (unit_at later.idx) (filter (is_kept
+          (λ p. get nat_cmp c.new-dropped.result p)) places)
           v.items in
           let here = subst (λ (f : Files). IsOk (chain (index_in B f.idx) l.bucket)) ((l.invariant.looks.untouched told).same)
           (hits_ok P (chain (index_in B later.idx) l.bucket) c.in_default.field-0 (c.in_default.ensures.told told)) in
