@@ -20,8 +20,6 @@ mod query;
 mod several;
 mod step;
 mod task;
-#[cfg(test)]
-mod tests;
 mod unindexed;
 mod verdicts;
 

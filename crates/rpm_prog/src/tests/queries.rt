@@ -3,7 +3,7 @@
 use super::{
     Case, NO_LIMITS, changed, ends, log_of, push_unit, run_over, three, three_small, words_of,
 };
-use crate::Why;
+use rpm_tool::Why;
 use std::test::Fail;
 
 const BASH: &str = "bash-5.1-2.x86_64\n";

@@ -1,7 +1,7 @@
 //! Databases that are damaged.
 
 use super::{changed, one, run_line, three_small};
-use crate::{Damage, Outcome, Reason, Why};
+use rpm_tool::{Damage, Outcome, Reason, Why};
 use std::alloc::{AllocError, Global};
 use std::test::Fail;
 

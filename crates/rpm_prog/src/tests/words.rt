@@ -1,7 +1,7 @@
 //! The words of command lines: those that break a rule, and those of commands that aren't built.
 
 use super::is_refused;
-use crate::{Unbuilt, Why, WordsFault, WordsKind};
+use rpm_tool::{Unbuilt, Why, WordsFault, WordsKind};
 use std::test::Fail;
 
 #[test]

@@ -1,9 +1,9 @@
 //! Queries of package files.
 
 use super::small;
-use crate::{Why, run};
 use rpm_header::MAGIC;
 use rpm_outside::{MemDisk, MemShelf, MemSink};
+use rpm_tool::{Why, run};
 use rpm_words::Words;
 use std::alloc::{AllocError, Global};
 use std::test::Fail;

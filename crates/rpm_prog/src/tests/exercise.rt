@@ -1,7 +1,7 @@
 //! The exercise, twice on one disk.
 
 use super::{NO_LIMITS, run_line, run_on, words_of};
-use crate::{Outcome, Why};
+use rpm_tool::{Outcome, Why};
 use std::test::Fail;
 
 // The digest was made by a program of a few lines in Python, which makes the headers and goes through the changes.

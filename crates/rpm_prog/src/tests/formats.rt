@@ -1,7 +1,7 @@
 //! Queries by a format.
 
 use super::{Case, ends, is_refused, three};
-use crate::{FormatFault, FormatKind, Why};
+use rpm_tool::{FormatFault, FormatKind, Why};
 use std::alloc::{AllocError, Global};
 use std::test::Fail;
 

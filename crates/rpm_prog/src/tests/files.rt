@@ -2,9 +2,9 @@
 
 use super::packages::package;
 use super::{changed, small, three_small, words_of};
-use crate::{Outcome, Why, run};
 use rpm_header::MAGIC;
 use rpm_outside::{MemDisk, MemShelf, MemSink};
+use rpm_tool::{Outcome, Why, run};
 use std::alloc::{AllocError, Global};
 use std::test::Fail;
 

@@ -2,8 +2,8 @@
 
 use super::keyed::ask;
 use super::{NO_LIMITS, Ran, changed, log_of, one, push_unit, run_on, run_over, words_of};
-use crate::Why;
 use rpm_outside::{File, MemDisk, Pick};
+use rpm_tool::Why;
 use std::alloc::{AllocError, Global};
 use std::test::Fail;
 

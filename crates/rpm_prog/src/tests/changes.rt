@@ -1,8 +1,8 @@
 //! Commands that change packages: what they leave, and what they say.
 
 use super::{NO_LIMITS, Ran, changed, run_line, run_on, small, store, three_small, words_of};
-use crate::{Outcome, Why, run, run_each};
 use rpm_outside::{File, MemDisk, MemShelf, MemSink};
+use rpm_tool::{Outcome, Why, run, run_each};
 use std::alloc::{AllocError, Global};
 use std::test::Fail;
 

@@ -1,8 +1,8 @@
 //! The commands that go over all packages.
 
 use super::{changed, laid, one, run_line, run_over, small, store, words_of};
-use crate::Why;
 use rpm_header::MAGIC;
+use rpm_tool::Why;
 use std::alloc::{AllocError, Global};
 use std::test::Fail;
 

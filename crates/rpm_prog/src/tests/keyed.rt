@@ -1,8 +1,8 @@
 //! Questions by key: an index that is made, one that is current, one that is stale, one of version 1 and one that is broken.
 
 use super::{NO_LIMITS, Ran, changed, one, run_on, three, words_of};
-use crate::Why;
 use rpm_outside::{File, MemDisk};
+use rpm_tool::Why;
 use std::alloc::{AllocError, Global};
 use std::test::Fail;
 
