@@ -1,8 +1,10 @@
 mod changes;
 mod damage;
 mod exercise;
+mod faults;
 mod files;
 mod formats;
+mod groups;
 mod keyed;
 mod many;
 mod packages;
@@ -270,19 +272,33 @@ fn run_on(
     disk: MemDisk,
     limits: [u64; 2],
 ) -> Result<Ran, AllocError> {
-    let mut shelf = MemShelf::new(alloc);
     let mut out = MemSink::new(alloc);
     let mut err = MemSink::new(alloc);
     out.fail_after(limits[0]);
     err.fail_after(limits[1]);
-    let (outcome, disk) = run(alloc, words, disk, &mut shelf, &mut out, &mut err, 0);
-    Ok(Ran {
+    Ok(run_with(alloc, words, disk, MemShelf::new(alloc), [out, err], 0))
+}
+
+// The same on a disk, a shelf, and the two sinks, at a moment. No other test calls `run` on objects in memory: each call's proof goes
+// through its whole contract.
+fn run_with(
+    alloc: Global,
+    words: &Words,
+    disk: MemDisk,
+    shelf: MemShelf,
+    sinks: [MemSink; 2],
+    now: u32,
+) -> Ran {
+    let mut shelf = shelf;
+    let [mut out, mut err] = sinks;
+    let (outcome, disk) = run(alloc, words, disk, &mut shelf, &mut out, &mut err, now);
+    Ran {
         outcome,
         disk,
         shelf,
         out,
         err,
-    })
+    }
 }
 
 const NO_LIMITS: [u64; 2] = [u64::MAX, u64::MAX];

@@ -2,7 +2,7 @@
 
 use super::{NO_LIMITS, Ran, changed, run_line, run_on, small, store, three_small, words_of};
 use rpm_outside::{File, MemDisk, MemShelf, MemSink};
-use rpm_tool::{Outcome, Why, run, run_each};
+use rpm_tool::{Outcome, Why, run_each};
 use std::alloc::{AllocError, Global};
 use std::test::Fail;
 
@@ -110,15 +110,8 @@ fn several_lines_are_done_in_a_row(rt: HostRuntime) -> Result<(), Fail> {
     assert!(rt; outcomes[1].why == Why::Failed(1) && outcomes[1].changes == 1);
     assert!(rt; outcomes[2].status == 251 && outcomes[2].changes == 0);
     // What is left is the first package.
-    let left = run(
-        alloc,
-        &words_of(alloc, "rpm -qa --qf %{DBINSTANCE}", "")?,
-        disk,
-        &mut shelf,
-        &mut out,
-        &mut err,
-        0,
-    );
-    assert!(rt; left.0.why == Why::Done && out.bytes() == b"1".as_slice());
+    let words = words_of(alloc, "rpm -qa --qf %{DBINSTANCE}", "")?;
+    let left = run_on(alloc, &words, disk, NO_LIMITS)?;
+    assert!(rt; left.outcome.why == Why::Done && left.out.bytes() == b"1".as_slice());
     Ok(())
 }

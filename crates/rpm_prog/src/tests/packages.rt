@@ -1,9 +1,9 @@
 //! Queries of package files.
 
-use super::small;
+use super::{run_with, small};
 use rpm_header::MAGIC;
 use rpm_outside::{MemDisk, MemShelf, MemSink};
-use rpm_tool::{Why, run};
+use rpm_tool::Why;
 use rpm_words::Words;
 use std::alloc::{AllocError, Global};
 use std::test::Fail;
@@ -27,14 +27,8 @@ pub fn package(alloc: Global) -> Result<Vec<u8>, AllocError> {
 // How a query of package files ends: why, and the bytes on out and err.
 type End<'a> = (Why, &'a str, &'a str);
 
-// Whether it ends so, with a shelf that has a file under this path and under `-`, and fails at a read (0: at none). The disk fails.
-fn ends(
-    alloc: Global,
-    arguments: &[&str],
-    file: &[u8],
-    read: u64,
-    end: End<'_>,
-) -> Result<bool, AllocError> {
+// A line of a query of package files, and these arguments.
+fn words_with(alloc: Global, arguments: &[&str]) -> Result<Words, AllocError> {
     let mut line = Words::new(alloc);
     line.push("rpm")?;
     line.push("-qp")?;
@@ -44,6 +38,18 @@ fn ends(
             line.push(word)?;
         }
     }
+    Ok(line)
+}
+
+// Whether it ends so, with a shelf that has a file under this path and under `-`, and fails at a read (0: at none). The disk fails.
+fn ends(
+    alloc: Global,
+    arguments: &[&str],
+    file: &[u8],
+    read: u64,
+    is_cut: bool,
+    end: End<'_>,
+) -> Result<bool, AllocError> {
     let mut disk = MemDisk::new(alloc, &[0x51; 16], &[], &[])?;
     disk.fail_call(1)?;
     let mut shelf = MemShelf::new(alloc);
@@ -53,12 +59,18 @@ fn ends(
     shelf.fail_read(read);
     let mut out = MemSink::new(alloc);
     let mut err = MemSink::new(alloc);
-    let (outcome, disk) = run(alloc, &line, disk, &mut shelf, &mut out, &mut err, 0);
+    if is_cut {
+        shelf.at_most(1);
+        out.at_most(1);
+        err.at_most(1);
+    }
+    let words = words_with(alloc, arguments)?;
+    let ran = run_with(alloc, &words, disk, shelf, [out, err], 0);
     Ok(
-        outcome.why == end.0
-            && disk.faults() == 0
-            && out.bytes() == end.1.as_bytes()
-            && err.bytes() == end.2.as_bytes(),
+        ran.outcome.why == end.0
+            && ran.disk.faults() == 0
+            && ran.out.bytes() == end.1.as_bytes()
+            && ran.err.bytes() == end.2.as_bytes(),
     )
 }
 
@@ -90,7 +102,15 @@ fn package_files_are_printed_or_told(rt: HostRuntime) -> Result<(), Fail> {
         (&["-", "p1.rpm"], whole, 1, (Why::ShelfFault, "", unread)),
     ];
     for (arguments, bytes, read, end) in cases {
-        assert!(rt; ends(alloc, arguments, bytes, read, end)?, "{arguments:?}");
+        // Whole pieces, and pieces of one byte.
+        assert!(rt;
+            ends(alloc, arguments, bytes, read, false, end)?,
+            "{arguments:?}"
+        );
+        assert!(rt;
+            ends(alloc, arguments, bytes, read, true, end)?,
+            "{arguments:?}"
+        );
     }
     Ok(())
 }

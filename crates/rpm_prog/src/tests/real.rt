@@ -1,89 +1,123 @@
 //! The program's objects over real files.
 
+use super::files::shelf;
+use super::packages::package;
+use super::{one, run_with, small, words_of};
 use crate::real_disk::RealDisk;
 use crate::real_shelf::RealShelf;
 use crate::real_sink::RealSink;
-use rpm_outside::{Absent, Disk, Failed, File, MemSink, Shelf, Sink};
-use rpm_tool::{Why, run};
+use rpm_header::MAGIC;
+use rpm_outside::{Absent, Disk, Failed, File, MemDisk, MemSink, Shelf, Sink};
+use rpm_tool::{Outcome, Why, run};
 use rpm_words::Words;
+use std::alloc::{AllocError, Global};
 use std::fs;
 use std::test::Fail;
 
-// A Packages.db of one page with one package, which is named a, with version 1, release 2 and architecture x.
-const HEAD: [u8; 48] = [
-    0x52, 0x70, 0x6d, 0x50, 0, 0, 0, 0, 1, 0, 0, 0, 1, 0, 0, 0, //
-    2, 0, 0, 0, 0, 0, 0, 0, 0, 0, 0, 0, 0, 0, 0, 0, //
-    0x53, 0x6c, 0x6f, 0x74, 1, 0, 0, 0, 0, 1, 0, 0, 7, 0, 0, 0,
-];
+// What a command line gave.
+#[derive(Drop)]
+pub struct Told {
+    pub outcome: Outcome,
+    pub out: MemSink,
+    pub err: MemSink,
+}
 
-const FREE: [u8; 16] = [0x53, 0x6c, 0x6f, 0x74, 0, 0, 0, 0, 0, 0, 0, 0, 0, 0, 0, 0];
+// Runs a line on the files of a folder, at a moment.
+pub fn run_in(rt: &HostRuntime, folder: &str, words: &Words, now: u32) -> Result<Told, AllocError> {
+    let alloc = rt.alloc();
+    let disk = RealDisk::new(alloc, rt, folder)?;
+    let mut shelf = RealShelf::new(alloc, rt);
+    let mut out = MemSink::new(alloc);
+    let mut err = MemSink::new(alloc);
+    let (outcome, _) = run(alloc, words, disk, &mut shelf, &mut out, &mut err, now);
+    Ok(Told { outcome, out, err })
+}
 
-const BLOB: [u8; 112] = [
-    0x42, 0x6c, 0x62, 0x53, 1, 0, 0, 0, 1, 0, 0, 0, 0x50, 0, 0, 0, //
-    0, 0, 0, 4, 0, 0, 0, 8, //
-    0, 0, 3, 0xe8, 0, 0, 0, 6, 0, 0, 0, 0, 0, 0, 0, 1, //
-    0, 0, 3, 0xe9, 0, 0, 0, 6, 0, 0, 0, 2, 0, 0, 0, 1, //
-    0, 0, 3, 0xea, 0, 0, 0, 6, 0, 0, 0, 4, 0, 0, 0, 1, //
-    0, 0, 3, 0xfe, 0, 0, 0, 6, 0, 0, 0, 6, 0, 0, 0, 1, //
-    0x61, 0, 0x31, 0, 0x32, 0, 0x78, 0, //
-    0, 0, 0, 0, //
-    0, 0, 0, 0, 0x50, 0, 0, 0, 0x42, 0x6c, 0x62, 0x45,
-];
+// Whether a line, at the moment 5, is done on the files of a folder, with so many changes and these bytes on out.
+fn is_done(
+    rt: &HostRuntime,
+    folder: &str,
+    line: &str,
+    changes: u32,
+    out: &[u8],
+) -> Result<bool, AllocError> {
+    let told = run_in(rt, folder, &words_of(rt.alloc(), line, "")?, 5)?;
+    let outcome = Outcome {
+        status: 0,
+        why: Why::Done,
+        changes,
+    };
+    Ok(told.outcome == outcome && told.out.bytes() == out && told.err.bytes().is_empty())
+}
 
 #[test]
 fn the_program_lists_real_files(rt: HostRuntime) -> Result<(), Fail> {
     let alloc = rt.alloc();
-    let folder = "listed";
     let path = "listed/Packages.db";
-    fs::create_dir_all(&rt, folder)?;
-    let mut file = HEAD.to_vec(alloc)?;
-    for _ in 3..256 {
-        file.extend_from_slice(&FREE)?;
-    }
-    file.extend_from_slice(&BLOB)?;
+    fs::create_dir_all(&rt, "listed")?;
+    let file = one(alloc)?;
     fs::write(&rt, path, file.as_slice())?;
-
-    let mut words = Words::new(alloc);
-    words.push("rpm")?;
-    words.push("-qa")?;
-    let disk = RealDisk::new(alloc, &rt, folder)?;
-    let mut shelf = RealShelf::new(rt.alloc(), &rt);
-    let mut out = MemSink::new(alloc);
-    let mut err = MemSink::new(alloc);
-    let (outcome, _) = run(alloc, &words, disk, &mut shelf, &mut out, &mut err, 5);
-    assert!(rt; outcome.why == Why::Done && outcome.status == 0);
-    assert_eq!(rt; out.bytes(), b"a-1-2.x\n".as_slice());
+    assert!(rt; is_done(&rt, "listed", "rpm -qa", 0, b"a-1-2.x\n")?);
     assert!(rt; fs::read(&rt, path)?.as_slice() == file.as_slice());
-    fs::remove_dir_all(&rt, folder)?;
+    fs::remove_dir_all(&rt, "listed")?;
     Ok(())
 }
 
 #[test]
 fn the_program_reads_a_real_package_file(rt: HostRuntime) -> Result<(), Fail> {
     let alloc = rt.alloc();
-    // A lead, a signature header without entries, and the header of the package above.
+    // A lead, a signature header without entries, and the header of the package.
     let mut file = Vec::new(alloc);
     file.extend_from_slice(&[0xed, 0xab, 0xee, 0xdb])?;
     file.extend_from_slice(&[0; 75])?;
     file.extend_from_slice(&[5])?;
     file.extend_from_slice(&[0; 16])?;
-    file.extend_from_slice(&[0x8e, 0xad, 0xe8, 1, 0, 0, 0, 0, 0, 0, 0, 0, 0, 0, 0, 0])?;
-    file.extend_from_slice(&[0x8e, 0xad, 0xe8, 1, 0, 0, 0, 0])?;
-    file.extend_from_slice(&BLOB[16..96])?;
-    fs::write(&rt, "p1.rpm", file.as_slice())?;
+    file.extend_from_slice(&MAGIC)?;
+    file.extend_from_slice(&[0; 8])?;
+    file.extend_from_slice(&MAGIC)?;
+    file.extend_from_slice(&small(alloc, b"a\0")?)?;
+    fs::write(&rt, "bare.rpm", file.as_slice())?;
+    assert!(rt; is_done(&rt, "no such folder", "rpm -qp bare.rpm", 0, b"a-1-2.x\n")?);
+    fs::remove_file(&rt, "bare.rpm")?;
+    Ok(())
+}
 
-    let mut words = Words::new(alloc);
-    words.push("rpm")?;
-    words.push("-qp")?;
-    words.push("p1.rpm")?;
-    let disk = RealDisk::new(alloc, &rt, "no such folder")?;
-    let mut shelf = RealShelf::new(alloc, &rt);
-    let mut out = MemSink::new(alloc);
-    let mut err = MemSink::new(alloc);
-    let (outcome, _) = run(alloc, &words, disk, &mut shelf, &mut out, &mut err, 5);
-    assert!(rt; outcome.why == Why::Done && outcome.status == 0);
-    assert_eq!(rt; out.bytes(), b"a-1-2.x\n".as_slice());
+// The Packages.db that the same lines leave on a disk in memory.
+fn left_in_memory(alloc: Global, lines: &[&str]) -> Result<Vec<u8>, AllocError> {
+    let mut disk = MemDisk::new(alloc, &[], &[], &[])?;
+    for line in lines {
+        let words = words_of(alloc, line, "")?;
+        let sinks = [MemSink::new(alloc), MemSink::new(alloc)];
+        disk = run_with(alloc, &words, disk, shelf(alloc, &[])?, sinks, 5).disk;
+    }
+    disk.copy_file(alloc, File::Pkg)
+}
+
+#[test]
+fn packages_are_added_and_erased_in_a_real_folder(rt: HostRuntime) -> Result<(), Fail> {
+    let alloc = rt.alloc();
+    let line = b"a-1-2.x\n".as_slice();
+    fs::create_dir_all(&rt, "anew")?;
+    fs::write(&rt, "p1.rpm", package(alloc)?.as_slice())?;
+    let steps: [(&str, u32, &[u8]); 5] = [
+        ("rpm --addpkg p1.rpm", 1, b""),
+        ("rpm -qa", 0, line),
+        ("rpm -qp p1.rpm", 0, line),
+        ("rpm -q a", 0, line),
+        ("rpm --erasepkg 1", 1, b""),
+    ];
+    let lines = steps.map(|step| step.0);
+    for (k, (line, changes, out)) in steps.iter().enumerate() {
+        assert!(rt; is_done(&rt, "anew", line, *changes, out)?, "{line}");
+        let left = left_in_memory(alloc, &lines[..=k])?;
+        assert!(rt;
+            fs::read(&rt, "anew/Packages.db")?.as_slice() == left.as_slice(),
+            "{line}"
+        );
+    }
+    assert!(rt; is_done(&rt, "anew", "rpm -qa", 0, b"")?);
     fs::remove_file(&rt, "p1.rpm")?;
+    fs::remove_dir_all(&rt, "anew")?;
     Ok(())
 }
 
