@@ -82,10 +82,13 @@ fn the_program_reads_a_real_package_file(rt: HostRuntime) -> Result<(), Fail> {
     Ok(())
 }
 
-// The Packages.db that the same lines leave on a disk in memory.
-fn left_in_memory(alloc: Global, lines: &[&str]) -> Result<Vec<u8>, AllocError> {
+// A line, how many changes it makes, and what it prints.
+type Step<'a> = (&'a str, u32, &'a [u8]);
+
+// The Packages.db that the first of these lines leave on a disk in memory, up to this place.
+fn left_in_memory(alloc: Global, steps: &[Step<'_>], last: usize) -> Result<Vec<u8>, AllocError> {
     let mut disk = MemDisk::new(alloc, &[], &[], &[])?;
-    for line in lines {
+    for (line, _, _) in steps.iter().take(last.saturating_add(1)) {
         let words = words_of(alloc, line, "")?;
         let sinks = [MemSink::new(alloc), MemSink::new(alloc)];
         disk = run_with(alloc, &words, disk, shelf(alloc, &[])?, sinks, 5).disk;
@@ -99,17 +102,16 @@ fn packages_are_added_and_erased_in_a_real_folder(rt: HostRuntime) -> Result<(),
     let line = b"a-1-2.x\n".as_slice();
     fs::create_dir_all(&rt, "anew")?;
     fs::write(&rt, "p1.rpm", package(alloc)?.as_slice())?;
-    let steps: [(&str, u32, &[u8]); 5] = [
+    let steps: [Step<'_>; 5] = [
         ("rpm --addpkg p1.rpm", 1, b""),
         ("rpm -qa", 0, line),
         ("rpm -qp p1.rpm", 0, line),
         ("rpm -q a", 0, line),
         ("rpm --erasepkg 1", 1, b""),
     ];
-    let lines = steps.map(|step| step.0);
     for (k, (line, changes, out)) in steps.iter().enumerate() {
         assert!(rt; is_done(&rt, "anew", line, *changes, out)?, "{line}");
-        let left = left_in_memory(alloc, &lines[..=k])?;
+        let left = left_in_memory(alloc, &steps, k)?;
         assert!(rt;
             fs::read(&rt, "anew/Packages.db")?.as_slice() == left.as_slice(),
             "{line}"
