@@ -74,11 +74,12 @@ fn small(alloc: Global, name: &[u8]) -> Result<Vec<u8>, AllocError> {
     )
 }
 
-fn bash(alloc: Global) -> Result<Vec<u8>, AllocError> {
+// A shell under this name, with the modes of its two files.
+fn shell(alloc: Global, name: &[u8], modes: &[u8]) -> Result<Vec<u8>, AllocError> {
     laid(
         alloc,
         &[
-            (1000, TEXT, 1, b"bash\0"),
+            (1000, TEXT, 1, name),
             (1001, TEXT, 1, b"5.1\0"),
             (1002, TEXT, 1, b"2\0"),
             (1022, TEXT, 1, b"x86_64\0"),
@@ -92,9 +93,13 @@ fn bash(alloc: Global) -> Result<Vec<u8>, AllocError> {
             (1117, TEXTS, 2, b"bash\0sh\0"),
             (1116, INT32, 2, b"\0\0\0\0\0\0\0\0"),
             (1118, TEXTS, 1, b"/usr/bin/\0"),
-            (1030, INT16, 2, b"\x81\xed\xa1\xff"),
+            (1030, INT16, 2, modes),
         ],
     )
+}
+
+fn bash(alloc: Global) -> Result<Vec<u8>, AllocError> {
+    shell(alloc, b"bash\0", b"\x81\xed\xa1\xff")
 }
 
 // A library of epoch 1, before its release.

@@ -16,10 +16,12 @@ mod Fixtures
 mod Grouped
 mod Histories
 mod Joins
+mod Labels
 mod Leading
 mod Leavings
 mod Lined
 mod Limited
+mod Lines
 mod Loading
 mod Logged
 mod Looked

@@ -222,11 +222,12 @@ Refused damage _ = ⊥
 
 -- ---- a command that opens the database without its index, as it reads when an open log is gone through
 
--- what each argument goes over, where no index is asked; exports and verdicts go over all packages
+-- what each argument goes over, where no index is asked; exports, verdicts and the report on files go over all packages
 abbrev pub unkeyed_reaches : Deed → FinMap nat_cmp Package → List (List ℕ) → AskParts → List Reach
 unkeyed_reaches deed.Print packages words a = reaches_by (argument_reach false packages a.chosen) (map (text_at words) a.arguments)
 unkeyed_reaches deed.Export packages words a = Everything ∷ []
 unkeyed_reaches deed.Verify packages words a = Everything ∷ []
+unkeyed_reaches deed.CheckFiles packages words a = Everything ∷ []
 
 -- what is read of packages up to a step: what each argument before goes over, and of this one what it goes over up to its number
 abbrev pub reach_by : Deed → Units → List (List ℕ) → AskParts → Store → Bearer → ℕ

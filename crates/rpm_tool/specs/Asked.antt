@@ -1,7 +1,7 @@
 -- Which command lines are built, and by which format they print.
 use Rattle.std.specs.Prelude.{ℕ, List, Option, Some, None, Result, Ok, Err, Bool, true, false, not, ◌&&◌, if◌then◌else◌, codes}
 use Rattle.rpm_words.specs.declared.ask.Mode.{Mode}
-use Rattle.rpm_words.specs.declared.ask.Mode.TheVariants.{Query, Addpkg, Replacepkg, Erasepkg, Initdb, Rebuilddb, Verifydb, Exportdb, Importdb, Exercise}
+use Rattle.rpm_words.specs.declared.ask.Mode.TheVariants.{Query, Addpkg, Replacepkg, Erasepkg, Initdb, Rebuilddb, Verifydb, Exportdb, Importdb, Exercise, Checkfiles}
 use Rattle.rpm_words.specs.declared.switch.Chosen.{Chosen}
 use Rattle.rpm_words.specs.declared.switch.Chosen.TheVariants.{All, Number, Package}
 use Rattle.rpm_words.specs.declared.words.Span.{Span}
@@ -18,6 +18,7 @@ use Rattle.rpm_tool.specs.declared.asked.Deed.TheVariants as deed
 abbrev pub deed_of : Mode → Deed
 deed_of Exportdb = deed.Export
 deed_of Verifydb = deed.Verify
+deed_of Checkfiles = deed.CheckFiles
 deed_of others = deed.Print
 
 -- a query that asks no index: of package files, of all packages, of patterns and of numbers always, else where the words say so
@@ -31,6 +32,7 @@ abbrev pub is_built_in : Mode → Bool
 is_built_in Query = true
 is_built_in Verifydb = true
 is_built_in Exportdb = true
+is_built_in Checkfiles = true
 is_built_in Addpkg = true
 is_built_in Replacepkg = true
 is_built_in Erasepkg = true

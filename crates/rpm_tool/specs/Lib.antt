@@ -2,6 +2,7 @@ pub mod Answers
 pub mod Asked
 pub mod Changing
 pub mod Closing
+pub mod FileReport
 pub mod History
 pub mod Keyed
 pub mod Limits

@@ -23,6 +23,7 @@ use Rattle.rpm_tool.specs.Asked.{deed_of}
 use Rattle.rpm_change.specs.Steps.{bearer, Step, ToOut, Course, idle}
 use Rattle.rpm_tool.specs.Steps.{Portion, nothing, fails, together, before}
 use Rattle.rpm_tool.specs.Queries.{bad_step, step_of, packages_part, query}
+use Rattle.rpm_tool.specs.FileReport.{check_files}
 
 -- a header goes out behind the magic
 abbrev pub exported : ℕ → ℕ × Package → Step
@@ -70,6 +71,7 @@ abbrev pub course_by : Deed → Tree → Units → Store → List (List ℕ) →
 course_by deed.Print tree file store words a = query tree (packages file store) words a
 course_by deed.Export tree file store words a = export (packages file store)
 course_by deed.Verify tree file store words a = verify file store
+course_by deed.CheckFiles tree file store words a = check_files (packages file store)
 
 -- by the words; the tree is the format of a query
 abbrev pub course : Tree → Units → Store → List (List ℕ) → AskParts → Course

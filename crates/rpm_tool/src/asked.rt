@@ -29,6 +29,8 @@ pub enum Deed {
     Export,
     /// It tells the verdicts of all packages.
     Verify,
+    /// It tells the paths that several packages own and that differ.
+    CheckFiles,
 }
 
 /// What a command of this mode does.
@@ -38,6 +40,7 @@ pub fn deed_of(mode: Mode) -> Deed
     match mode {
         Mode::Exportdb => Deed::Export,
         Mode::Verifydb => Deed::Verify,
+        Mode::Checkfiles => Deed::CheckFiles,
         _ => Deed::Print,
     }
 }
@@ -47,7 +50,7 @@ fn is_built_in(mode: Mode) -> bool
     ensures { result ≡ is_built_in mode }
 {
     match mode {
-        Mode::Query | Mode::Verifydb | Mode::Exportdb => true,
+        Mode::Query | Mode::Verifydb | Mode::Exportdb | Mode::Checkfiles => true,
         Mode::Addpkg | Mode::Replacepkg | Mode::Erasepkg => true,
         Mode::Initdb | Mode::Rebuilddb | Mode::Importdb | Mode::Exercise(_) => true,
         _ => false,

@@ -189,15 +189,16 @@ fn command<D: Disk, S: Shelf, O: Sink + Drop, E: Sink + Drop>(
 
 /// Does what a command line asks for, to a database or with package files, and writes the line that closes it.
 ///
-/// The disk is handed back beside every outcome. Queries leave what its files stand for, the index aside, and so do `--exportdb` and
-/// `--verifydb`. The words are read first, by the rules of [`read`](rpm_words::read). Where they break one, the answer is `Usage` with the
-/// first that is broken. The three reports aren't built: they are answered `NotBuilt`. Then the format is read, by the rules
+/// The disk is handed back beside every outcome. Queries leave what its files stand for, the index aside, and so do `--exportdb`,
+/// `--verifydb` and `--checkfiles`. The words are read first, by the rules of [`read`](rpm_words::read). Where they break one, the answer is `Usage` with the
+/// first that is broken. The two reports on requirements aren't built: they are answered `NotBuilt`. Then the format is read, by the rules
 /// of [`parse`](rpm_qfparse::parse): F, the list of files, or `%{NVRA}\n`. Where it has a fault, the answer is `BadFormat` with the first one.
 /// With these three answers no call is made on the disk, the shelf or `out`.
 ///
 /// A query prints for each argument what the format means for each package that it picks, by rising number. A package that can't be
 /// read, and one for which a bracket's tags have different numbers of elements, has a message on `err` in its place; then the argument
 /// fails, once. `--exportdb` writes each header behind the magic, in one piece. `--verifydb` writes a line for each package that isn't sound.
+/// `--checkfiles` writes a line for each package that can't be read, and then one for each two packages that own a path and differ on it.
 ///
 /// With `-p` each argument is the path of a package file, `-` the standard input, and what is printed is of its header with the number 0:
 /// no call is made on the disk, and `--after` and `--noindex` change nothing. A path that can't be opened and a file that is refused have

@@ -10,6 +10,7 @@ mod changing;
 mod closing;
 mod command;
 mod courses;
+mod file_report;
 mod keyed;
 mod loaded;
 mod missing;

@@ -11,7 +11,7 @@ ghost use Rattle.rpm_select.specs.Picks.{entry_in};
 ghost use Rattle.rpm_change.specs.Endings.{outputs};
 ghost use Rattle.rpm_tool.specs.Answers.{StepIs};
 ghost use Rattle.rpm_change.specs.Steps.{Bearer, ToOut, ToErr, bearer};
-ghost use Rattle.rpm_tool.specs.Queries.{bad_line, sizes_line, printed, bad_step};
+ghost use Rattle.rpm_tool.specs.Queries.{bad_line, sizes_line, printed};
 ghost use Rattle.rpm_tool.specs.Reports.{step_by};
 
 use itoa::Buffer;
@@ -64,9 +64,13 @@ fn bad_line(alloc: Global, number: u32) -> Result<Vec<u8>, AllocError>
 }
 
 /// Writes to err that a package can't be read.
-fn put_bad<E: Sink + Drop>(alloc: Global, err: &mut Buffered<E>, number: u32) -> Result<bool, Stop>
+pub fn put_bad<E: Sink + Drop>(
+    alloc: Global,
+    err: &mut Buffered<E>,
+    number: u32,
+) -> Result<bool, Stop>
     requires err_empty { holds err.old ≡ [] }
-    ensures step { (j : ℕ) (out_tells : Bool) (out : List ℕ) → StepIs (bad_step j number) result
+    ensures step { (for : Bearer) (out_tells : Bool) (out : List ℕ) → StepIs (ToErr for (bad_line number)) result
         (outputs out_tells out E.tells (E.taken (inner err.old))) (outputs out_tells out E.tells (E.taken (inner err.new))) }
     ensures no_read { result ≢ Err Stop.ReadFault }
     ensures no_out { result ≢ Err Stop.OutFault }

@@ -15,6 +15,7 @@ ghost use Rattle.rpm_tool.specs.Answers.{is_foreign, Went, Opened, reach_by, rea
 
 use crate::answer::Why;
 use crate::asked::{Deed, deed_of};
+use crate::file_report::check_files;
 use crate::query::{query_all, query_opened};
 use crate::step::Way;
 use crate::verdicts::report;
@@ -59,12 +60,13 @@ fn answer_opened<D: Disk, O: Sink + Drop, E: Sink + Drop>(
         Deed::Print => query_opened(alloc, db, disk, words, ask, format, out, err),
         Deed::Export => query_all(alloc, db, disk, 0, &Way::Export, out, err),
         Deed::Verify => report(alloc, db, disk, out),
+        Deed::CheckFiles => check_files(alloc, db, disk, out, err),
     }
 }
 
 /// Opens the database, as it reads and without its index, and does what the words ask for. Besides the slot pages it reads the blocks of
 /// packages, one package after the other, each before it is printed: for each argument of those that it goes over, which are all or that
-/// of its number.
+/// of its number. The report on files reads all before its first line.
 pub fn answer_unindexed<D: Disk, O: Sink + Drop, E: Sink + Drop>(
     alloc: Global,
     disk: &mut D,

@@ -1,6 +1,6 @@
 //! The commands that go over all packages.
 
-use super::{changed, laid, one, run_line, run_over, small, store, words_of};
+use super::{bash, changed, laid, one, run_line, run_over, shell, small, store, words_of};
 use rpm_header::MAGIC;
 use rpm_tool::Why;
 use std::alloc::{AllocError, Global};
@@ -77,5 +77,30 @@ fn packages_that_are_not_sound_are_told(rt: HostRuntime) -> Result<(), Fail> {
     );
     let line = b"package 1: header digest differs\n";
     assert!(rt; reports(alloc, verify, &sealed, Why::Failed(1), line, "")?);
+    Ok(())
+}
+
+#[test]
+fn paths_that_packages_differ_on_are_told(rt: HostRuntime) -> Result<(), Fail> {
+    let alloc = rt.alloc();
+    let check = "rpmdb --checkfiles";
+    let mut packages = Vec::new(alloc);
+    packages.push((1, bash(alloc)?))?;
+    packages.push((3, bash(alloc)?))?;
+    assert!(rt; reports(alloc, check, &store(alloc, &packages)?, Why::Done, b"", "")?);
+    packages.truncate(1);
+    packages.push((3, shell(alloc, b"bash2\0", b"\x81\xed\x81\xed")?))?;
+    packages.push((2, small(alloc, b"a\0")?))?;
+    let file = store(alloc, &packages)?;
+    let line = b"/usr/bin/sh: bash-5.1-2.x86_64 bash2-5.1-2.x86_64: mode\n";
+    assert!(rt; reports(alloc, check, &file, Why::Failed(1), line, "")?);
+    // The blob of number 2 has another end.
+    let last = file.len().saturating_sub(1);
+    let broken = changed(file, last, b"F");
+    let message = "error: package 2: header cannot be read\n";
+    assert!(rt; reports(alloc, check, &broken, Why::Failed(1), line, message)?);
+    let words = words_of(alloc, check, "")?;
+    let cut = run_over(alloc, &words, &broken, &[], 0, [99, 5])?;
+    assert!(rt; cut.outcome.why == Why::ErrFault && cut.out.bytes().is_empty());
     Ok(())
 }

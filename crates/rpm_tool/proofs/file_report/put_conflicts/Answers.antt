@@ -1,0 +1,47 @@
+use Rattle.std.proofs.Common.{◌≡◌, ◌+◌, ◌∷◌, map, drop, refl, arith}
+use Rattle.rpm_outside.specs.Buffered.{inner}
+use Rattle.rpm_change.specs.Steps.{whole}
+use Rattle.rpm_tool.specs.FileReport.{conflict_step, label_told}
+use Rattle.rpm_tool.proofs.Answering.{drop_get}
+use Rattle.rpm_tool.proofs.Reaching.{goes_start}
+use Rattle.rpm_tool.proofs.Joins.{hands_then}
+use Rattle.rpm_tool.proofs.Lines.{line_more, line_stop, line_end}
+use Rattle.rpm_tool.proofs.file_report.put_conflicts.Goals as goal
+
+pub loop-i-init : goal.loop-i-init
+loop-i-init g c = record {
+  out = omega arith;
+  out_rest = (g.met.O.Sink.follows_refl (inner c.args.out.now), c.requires.out_empty);
+  goes = λ et e.
+      let all = map (conflict_step (label_told c.args.report.now)) c.args.report.now.conflicts in
+      goes_start g.O.Sink.tells et all all (g.O.Sink.taken (inner c.args.out.now)) e refl;
+}
+
+pub loop-i-preserved : goal.loop-i-preserved
+loop-i-preserved g c =
+    let i = c.loop-i.i in
+    let r = c.args.report.now in
+    let inv = c.loop-i.invariant in
+    let done = c.in-Ok.ensures in
+    let here : drop i r.conflicts ≡ c.at.result.now ∷ drop (i + 1) r.conflicts = drop_get r.conflicts i c.at.result.now c.at.ensures in
+    record {
+      out = omega (arith, inv.out, done.out.later);
+      out_rest = hands_then g.met.O.Sink.follows_trans c.args.out.now c.loop-i.out c.put_conflict.new.out inv.out_rest done.out_rest;
+      goes = λ et e. line_more (conflict_step (label_told r)) r.conflicts i c.at.result.now here g.O.Sink.tells et (g.O.Sink.taken (inner c.args.out.now))
+          (g.O.Sink.taken (inner c.loop-i.out)) (g.O.Sink.taken (inner c.put_conflict.new.out)) e e e (inv.goes et e) _ (done.step et e);
+    }
+
+pub returns-in-Err-clause-went : goal.returns-in-Err-clause-went
+returns-in-Err-clause-went g c = λ et e.
+    let i = c.loop-i.i in
+    let r = c.args.report.now in
+    let here : drop i r.conflicts ≡ c.at.result.now ∷ drop (i + 1) r.conflicts = drop_get r.conflicts i c.at.result.now c.at.ensures in
+    line_stop (conflict_step (label_told r)) r.conflicts i c.at.result.now here g.O.Sink.tells et (g.O.Sink.taken (inner c.args.out.now))
+    (g.O.Sink.taken (inner c.loop-i.out)) (g.O.Sink.taken (inner c.put_conflict.new.out)) e e e (c.loop-i.invariant.goes et e) Unit c.in-Err.stop
+    (λ for. for ≡ whole 0) refl (c.in-Err.ensures.step et e)
+
+pub returns-clause-went : goal.returns-clause-went
+returns-clause-went g c = λ et e.
+    let r = c.args.report.now in
+    line_end (conflict_step (label_told r)) r.conflicts c.loop-i.i g.O.Sink.tells et (g.O.Sink.taken (inner c.args.out.now))
+    (g.O.Sink.taken (inner c.loop-i.out)) e e (omega (arith, c.loop-i-test.false, c.len-i-end.ensures)) (c.loop-i.invariant.goes et e)

@@ -1,0 +1,66 @@
+-- What is told of the paths that several packages own and that differ.
+use Rattle.std.specs.Prelude.{ℕ, List, [], ◌∷◌, ◌++◌, map, codes, Bool, true, false, Option, Some, None, Result, Ok, Err, unwrap_or}
+use Rattle.std.specs.List.{concat}
+use Rattle.std.specs.Ordering.{nat_cmp}
+use Rattle.std.specs.FinMap.{FinMap, get}
+use Rattle.rpm_qfparse.specs.declared.fault.FormatFault.{FormatFault}
+use Rattle.rpm_qfparse.specs.Tree.{Tree, End}
+use Rattle.rpm_qfparse.specs.Format.{format}
+use Rattle.rpm_db.specs.State.{Package}
+use Rattle.rpm_filecheck.specs.Owners.{Conflict}
+use Rattle.rpm_filecheck.specs.Conflicts.{Report, conflicts, bad, told_label}
+use Rattle.rpm_change.specs.Steps.{whole, Step, ToOut, ToErr, out_bytes, Course, idle}
+use Rattle.rpm_tool.specs.Steps.{fails, together, before}
+use Rattle.rpm_tool.specs.Queries.{bad_line, step_of}
+
+-- ---- the label of a package
+
+abbrev pub tree_in : Result Tree FormatFault → Tree
+tree_in (Ok tree) = tree
+tree_in (Err fault) = End
+
+unfoldable pub label_tree : Tree
+label_tree = tree_in (format (codes "%{NVRA}"))
+
+abbrev pub label_in : ℕ → Option Package → List ℕ
+label_in n None = []
+label_in n (Some p) = out_bytes (step_of label_tree 0 (n, p))
+
+-- what a query by the format `%{NVRA}` prints of a number's package on out
+abbrev pub label : FinMap nat_cmp Package → ℕ → List ℕ
+label packages n = label_in n (get packages n)
+
+-- ---- its lines
+
+abbrev pub if_differs : Bool → List ℕ → List ℕ
+if_differs true word = word
+if_differs false word = []
+
+-- the path, the labels of its two packages, and the parts that differ
+unfoldable pub conflict_line : List ℕ → List ℕ → Conflict → List ℕ
+conflict_line first second c =
+    concat (c.path ∷ codes ": " ∷ first ∷ codes " " ∷ second ∷ codes ":" ∷ if_differs c.digest (codes " digest")
+    ∷ if_differs c.mode (codes " mode") ∷ if_differs c.link (codes " link") ∷ codes "\n" ∷ [])
+
+-- a line comes once all packages were read, and so it is the whole argument's
+abbrev pub unread_step : ℕ → Step
+unread_step n = ToErr (whole 0) (bad_line n)
+
+abbrev pub conflict_step : (ℕ → List ℕ) → Conflict → Step
+conflict_step labels c = ToOut (whole 0) (conflict_line (labels c.first) (labels c.second) c)
+
+-- first the packages that can't be read, by rising number, and then the conflicts
+abbrev pub report_steps : (ℕ → List ℕ) → List ℕ → List Conflict → List Step
+report_steps labels numbers found = map unread_step numbers ++ map (conflict_step labels) found
+
+-- for each line the one argument fails
+abbrev pub check_files : FinMap nat_cmp Package → Course
+check_files packages = before (together (map fails (report_steps (label packages) (bad packages) (conflicts packages)))) idle
+
+-- ---- the same of a report
+
+abbrev pub label_told : Report → ℕ → List ℕ
+label_told r n = unwrap_or (told_label r n) []
+
+abbrev pub told_steps : Report → List Step
+told_steps r = report_steps (label_told r) r.bad r.conflicts

@@ -1,0 +1,185 @@
+//! What is told of the paths that several packages own and that differ.
+
+ghost use Rattle.std.specs.Prelude.{◌≡◌, ◌≢◌, ◌+◌, ◌≤◌, ℕ, Bool, List, [], ◌∷◌, map, false, IsTrue, Err};
+ghost use Rattle.rpm_outside.specs.Buffered.{inner, holds, HandsOn};
+ghost use Rattle.rpm_outside.specs.Causes.{HasCauseAt};
+ghost use Rattle.rpm_outside.specs.declared.disk.File.TheVariants.{Pkg};
+ghost use Rattle.rpm_outside.specs.Looks.{Looks};
+ghost use Rattle.rpm_db.specs.State.{packages};
+ghost use Rattle.rpm_db.specs.Database as database;
+ghost use Rattle.rpm_db.specs.Database.{Keeps, cost_all};
+ghost use Rattle.rpm_select.specs.Reach.{Everything};
+ghost use Rattle.rpm_change.specs.Steps.{whole};
+ghost use Rattle.rpm_change.specs.Endings.{outputs};
+ghost use Rattle.rpm_tool.specs.Steps.{fails, together};
+ghost use Rattle.rpm_tool.specs.FileReport.{if_differs, conflict_line, unread_step, conflict_step, label_told, told_steps, check_files};
+ghost use Rattle.rpm_tool.specs.Reads.{reached_by};
+ghost use Rattle.rpm_tool.specs.Answers.{StepIs, Reached, PartIs, Went, is_foreign, is_some_of};
+
+use crate::answer::Why;
+use crate::pieces::put_line;
+use crate::query::why_of;
+use crate::step::{Stop, put_bad};
+use rpm_db::Db;
+use rpm_filecheck::{Conflict, ConflictList, FileCheckFault, conflicts};
+use rpm_outside::{Buffered, Disk, File, Sink};
+use std::alloc::Global;
+
+/// A word, where what it names differs.
+fn if_differs<'a>(differs: bool, word: &'a [u8]) -> &'a [u8]
+    ensures { result.now ≡ if_differs differs word.now }
+{
+    if differs { word } else { b"" }
+}
+
+/// Writes to err the lines of the packages that can't be read.
+fn put_unread<E: Sink + Drop>(
+    alloc: Global,
+    numbers: &[u32],
+    err: &mut Buffered<E>,
+) -> Result<(), Stop>
+    requires err_empty { holds err.old ≡ [] }
+    ensures went { (out_tells : Bool) (out : List ℕ) → Reached (map unread_step numbers.now) result
+        (outputs out_tells out E.tells (E.taken (inner err.old))) (outputs out_tells out E.tells (E.taken (inner err.new))) (λ for. for ≡ whole 0) }
+    ensures no_read { result ≢ Err Stop.ReadFault }
+    ensures no_out { result ≢ Err Stop.OutFault }
+    ensures err { HasCauseAt (result ≡ Err Stop.ErrFault) (E.faults (inner err.old)) (E.faults (inner err.new)) }
+    ensures err_rest { HandsOn E.follows err.old err.new }
+{
+    for number in numbers {
+        match put_bad(alloc, err, *number) {
+            Ok(_) => {}
+            Err(stop) => return Err(stop),
+        }
+    }
+    Ok(())
+}
+
+/// Writes to out the line of a conflict.
+#[tactic(auto, unfolding(crate::specs::FileReport::conflict_line))]
+fn put_conflict<'a, O: Sink + Drop>(
+    out: &mut Buffered<O>,
+    report: &'a ConflictList,
+    conflict: &'a Conflict,
+) -> Result<bool, Stop>
+    requires out_empty { holds out.old ≡ [] }
+    ensures step { (err_tells : Bool) (err : List ℕ) → StepIs (conflict_step (label_told report.now) conflict.now) result
+        (outputs O.tells (O.taken (inner out.old)) err_tells err) (outputs O.tells (O.taken (inner out.new)) err_tells err) }
+    ensures no_read { result ≢ Err Stop.ReadFault }
+    ensures no_err { result ≢ Err Stop.ErrFault }
+    ensures out { HasCauseAt (result ≡ Err Stop.OutFault) (O.faults (inner out.old)) (O.faults (inner out.new)) }
+    ensures out_rest { HandsOn O.follows out.old out.new }
+{
+    let first = report.label(conflict.first());
+    let second = report.label(conflict.second());
+    let digest = if_differs(conflict.digest(), b" digest");
+    let mode = if_differs(conflict.mode(), b" mode");
+    let link = if_differs(conflict.link(), b" link");
+    match put_line(
+        out,
+        &[
+            conflict.path(),
+            b": ",
+            first,
+            b" ",
+            second,
+            b":",
+            digest,
+            mode,
+            link,
+            b"\n",
+        ],
+    ) {
+        Ok(()) => Ok(true),
+        Err(_) => Err(Stop::OutFault),
+    }
+}
+
+/// Writes to out the lines of all conflicts.
+fn put_conflicts<O: Sink + Drop>(out: &mut Buffered<O>, report: &ConflictList) -> Result<(), Stop>
+    requires out_empty { holds out.old ≡ [] }
+    ensures went { (err_tells : Bool) (err : List ℕ) → Reached (map (conflict_step (label_told report.now)) report.now.conflicts) result
+        (outputs O.tells (O.taken (inner out.old)) err_tells err) (outputs O.tells (O.taken (inner out.new)) err_tells err) (λ for. for ≡ whole 0) }
+    ensures no_read { result ≢ Err Stop.ReadFault }
+    ensures no_err { result ≢ Err Stop.ErrFault }
+    ensures out { HasCauseAt (result ≡ Err Stop.OutFault) (O.faults (inner out.old)) (O.faults (inner out.new)) }
+    ensures out_rest { HandsOn O.follows out.old out.new }
+{
+    for i in 0..report.len() {
+        match put_conflict(out, report, report.at(i)) {
+            Ok(_) => {}
+            Err(stop) => return Err(stop),
+        }
+    }
+    Ok(())
+}
+
+/// Whether a report has a line.
+fn has_lines(report: &ConflictList) -> bool
+    ensures { result ≡ is_some_of (told_steps report.now) }
+{
+    !report.bad().is_empty() || report.len() != 0
+}
+
+/// Tells a report. Says whether the argument fails.
+fn tell_report<O: Sink + Drop, E: Sink + Drop>(
+    alloc: Global,
+    report: &ConflictList,
+    out: &mut Buffered<O>,
+    err: &mut Buffered<E>,
+) -> Result<bool, Stop>
+    requires out_empty { holds out.old ≡ [] }
+    requires err_empty { holds err.old ≡ [] }
+    ensures part { PartIs (together (map fails (told_steps report.now))) result (outputs O.tells (O.taken (inner out.old)) E.tells
+        (E.taken (inner err.old))) (outputs O.tells (O.taken (inner out.new)) E.tells (E.taken (inner err.new))) (λ for. for ≡ whole 0) }
+    ensures no_read { result ≢ Err Stop.ReadFault }
+    ensures out { HasCauseAt (result ≡ Err Stop.OutFault) (O.faults (inner out.old)) (O.faults (inner out.new)) }
+    ensures err { HasCauseAt (result ≡ Err Stop.ErrFault) (E.faults (inner err.old)) (E.faults (inner err.new)) }
+    ensures out_rest { HandsOn O.follows out.old out.new }
+    ensures err_rest { HandsOn E.follows err.old err.new }
+{
+    match put_unread(alloc, report.bad(), err) {
+        Ok(()) => match put_conflicts(out, report) {
+            Ok(()) => Ok(has_lines(report)),
+            Err(stop) => Err(stop),
+        },
+        Err(stop) => Err(stop),
+    }
+}
+
+/// Tells the packages that can't be read, and then the paths that several packages own and that differ. Reads all packages, each once, before
+/// the first line; what it keeps of them is what [`conflicts`](rpm_filecheck::conflicts) says.
+pub fn check_files<D: Disk, O: Sink + Drop, E: Sink + Drop>(
+    alloc: Global,
+    db: &Db,
+    disk: &mut D,
+    out: &mut Buffered<O>,
+    err: &mut Buffered<E>,
+) -> Why
+    requires out_empty { holds out.old ≡ [] }
+    requires err_empty { holds err.old ≡ [] }
+    requires keeps { IsTrue D.tells → Keeps (D.files disk.old).pkg db.now }
+    requires runs { db.now.stopped ≡ false }
+    requires from_one { database.holds 0 db.now ≡ false }
+    ensures went { IsTrue D.tells → Went (check_files (packages (D.files disk.old).pkg db.now.store)) result
+        (outputs O.tells (O.taken (inner out.old)) E.tells (E.taken (inner err.old))) (outputs O.tells (O.taken (inner out.new)) E.tells
+        (E.taken (inner err.new))) (λ for. D.bytes_read disk.new File.Pkg ≤ D.bytes_read disk.old File.Pkg + reached_by (Everything ∷ []) db.now for) }
+    ensures done { is_foreign result ≡ false }
+    ensures looks { Looks D.tells D.files D.left_since D.moment D.bytes_read D.follows Pkg (cost_all db.now) disk.old disk.new }
+    ensures disk { HasCauseAt (result ≡ Why.DiskFault) (D.faults disk.old) (D.faults disk.new) }
+    ensures out { HasCauseAt (result ≡ Why.OutFault) (O.faults (inner out.old)) (O.faults (inner out.new)) }
+    ensures err { HasCauseAt (result ≡ Why.ErrFault) (E.faults (inner err.old)) (E.faults (inner err.new)) }
+    ensures out_rest { HandsOn O.follows out.old out.new }
+    ensures err_rest { HandsOn E.follows err.old err.new }
+{
+    let report = match conflicts(alloc, db, disk) {
+        Ok(report) => report,
+        Err(FileCheckFault::DiskFault) => return Why::DiskFault,
+        Err(FileCheckFault::NoMemory) => return Why::NoMemory,
+    };
+    match tell_report(alloc, &report, out, err) {
+        Ok(true) => Why::Failed(1),
+        Ok(false) => Why::Done,
+        Err(stop) => why_of(stop),
+    }
+}
