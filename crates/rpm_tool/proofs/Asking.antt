@@ -1,5 +1,5 @@
 -- What a few words ask for, and the lines of a rule that they break and of a format's fault: computed, without the code.
-use Rattle.std.specs.Prelude.{◌≡◌, ℕ, false, List, [], ◌∷◌, Some, Err, codes, refl}
+use Rattle.std.specs.Prelude.{◌≡◌, ℕ, List, [], ◌∷◌, Some, Err, codes, refl}
 use Rattle.std.specs.Fmt.{digits}
 use Rattle.rpm_words.specs.declared.fault.WordsKind.TheVariants.{NoMode, UnknownOption}
 use Rattle.rpm_words.specs.Switch.{short_switch, long_switch, rpm_switch}
@@ -14,7 +14,7 @@ use Rattle.rpm_qfparse.specs.declared.fault.FormatKind.TheVariants.{MissingClose
 use Rattle.rpm_qfparse.specs.Tag.{tag_part, number_of, after_number}
 use Rattle.rpm_qfparse.specs.Moves.{move_of}
 use Rattle.rpm_qfparse.specs.Format.{format, reading}
-use Rattle.rpm_tool.specs.Asked.{is_built, asks_unbuilt, asks_format, list_format}
+use Rattle.rpm_tool.specs.Asked.{asks_format, list_format}
 use Rattle.rpm_tool.specs.Closing.{rule_text, usage_line, fault_text, format_line}
 
 -- the line names the word that breaks the rule, and none where something is missing
@@ -31,16 +31,10 @@ unfolding words ask asked_by program_of said said_behind purpose_behind own_purp
     bad_argument first_broken
 refused = refl
 
--- the query of one package is built
-built : asks_unbuilt (codes "rpm" ∷ codes "-q" ∷ codes "bash" ∷ []) ≡ false
-unfolding asks_unbuilt is_built ask asked_by program_of said said_behind purpose_behind own_purpose is_cluster short_switch seen arguments early_fault
-    misplaced bad_argument first_broken
-built = refl
-
 -- of `-l` and a format the last one counts, and a fault of the one that counts is told
 shown : (asks_format (codes "rpm" ∷ codes "-qa" ∷ codes "--qf" ∷ codes "%{NAME" ∷ []) ≡ Some (Err (record { kind = MissingClose; at = 6 })))
     × (asks_format (codes "rpm" ∷ codes "--qf=%{NAME" ∷ codes "-qal" ∷ []) ≡ Some (format list_format))
-unfolding asks_format is_built ask asked_by program_of said said_behind purpose_behind own_purpose is_cluster long_purpose long_switch rpm_switch
+unfolding asks_format ask asked_by program_of said said_behind purpose_behind own_purpose is_cluster long_purpose long_switch rpm_switch
     short_switch seen arguments early_fault misplaced bad_argument first_broken format reading move_of tag_part number_of after_number
 shown = (refl, refl)
 

@@ -43,7 +43,6 @@ pub unforeign : (w : Why) → is_foreign w ≡ false → is_of_words w ≡ false
 unforeign why.Done is = refl
 unforeign (why.Failed n) is = refl
 unforeign (why.Usage f) is = is
-unforeign (why.NotBuilt x) is = is
 unforeign (why.BadFormat f) is = is
 unforeign (why.BadLog u) is = refl
 unforeign (why.Damaged d) is = refl

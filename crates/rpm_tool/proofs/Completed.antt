@@ -39,7 +39,6 @@ left : (course : Course) (making : Bool) (needed : ℕ) (w : Why) (old new : Out
 left course making needed why.Done old new reads_to own opened went full room = refl
 left course making needed (why.Failed n) old new reads_to own opened went full room = refl
 left course making needed (why.Usage f) old new reads_to own opened went full room = absurd cc
-left course making needed (why.NotBuilt x) old new reads_to own opened went full room = absurd cc
 left course making needed (why.BadFormat f) old new reads_to own opened went full room = absurd cc
 left course making needed (why.BadLog u) old new reads_to own opened went full room = absurd cc
 left course making needed (why.Damaged d) old new reads_to own opened went full room = absurd cc

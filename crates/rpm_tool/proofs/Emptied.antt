@@ -68,7 +68,6 @@ uncommitted_empty : (asks : Bool) (files : Files) (k : ℕ) (w : Why) → IsUnco
 uncommitted_empty asks files k why.Done un done = absurd un
 uncommitted_empty asks files k (why.Failed n) un done = absurd un
 uncommitted_empty asks files k (why.Usage f) un done = absurd un
-uncommitted_empty asks files k (why.NotBuilt x) un done = absurd un
 uncommitted_empty asks files k (why.BadFormat f) un done = absurd un
 uncommitted_empty asks files k (why.BadLog u) un done = absurd un
 uncommitted_empty asks files k (why.Damaged d) un done = absurd un

@@ -17,7 +17,6 @@ went_by course (why.IndexFull needed) old new reads_to went = absurd went
 went_by course why.Done old new reads_to went = went
 went_by course (why.Failed n) old new reads_to went = went
 went_by course (why.Usage f) old new reads_to went = went
-went_by course (why.NotBuilt x) old new reads_to went = went
 went_by course (why.BadFormat f) old new reads_to went = went
 went_by course (why.BadLog u) old new reads_to went = went
 went_by course (why.Damaged d) old new reads_to went = went
@@ -37,7 +36,6 @@ pub unrefused : (w : Why) → is_of_opening w ≡ false → is_refusal w ≡ fal
 unrefused why.Done is = refl
 unrefused (why.Failed n) is = refl
 unrefused (why.Usage f) is = refl
-unrefused (why.NotBuilt x) is = refl
 unrefused (why.BadFormat f) is = refl
 unrefused (why.BadLog u) is = is
 unrefused (why.Damaged d) is = is
@@ -69,7 +67,6 @@ pub full_opened : (making : Bool) (needed : ℕ) (w : Why) → is_of_opening w �
 full_opened making needed why.Done is room = room
 full_opened making needed (why.Failed n) is room = room
 full_opened making needed (why.Usage f) is room = room
-full_opened making needed (why.NotBuilt x) is room = room
 full_opened making needed (why.BadFormat f) is room = room
 full_opened making needed (why.BadLog u) is room = tt
 full_opened making needed (why.Damaged d) is room = room

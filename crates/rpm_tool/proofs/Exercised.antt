@@ -100,7 +100,6 @@ empty_in : (packages : finite.FinMap nat_cmp Package) (making : _) (needed : ℕ
 empty_in packages making needed s new why.Done opens = absurd opens
 empty_in packages making needed s new (why.Failed n) opens = absurd opens
 empty_in packages making needed s new (why.Usage f) opens = absurd opens
-empty_in packages making needed s new (why.NotBuilt x) opens = absurd opens
 empty_in packages making needed s new (why.BadFormat f) opens = absurd opens
 empty_in packages making needed s new (why.BadLog u) opens = absurd opens
 empty_in packages making needed s new (why.Damaged d) opens = absurd opens

@@ -25,7 +25,6 @@ moves_done : (w : Why) (s made : State) → is_done w ≡ true → Moves w made 
 moves_done why.Done s made is = refl
 moves_done (why.Failed n) s made is = refl
 moves_done (why.Usage f) s made is = absurd cc
-moves_done (why.NotBuilt x) s made is = absurd cc
 moves_done (why.BadFormat f) s made is = absurd cc
 moves_done (why.BadLog u) s made is = absurd cc
 moves_done (why.Damaged d) s made is = absurd cc
@@ -47,7 +46,6 @@ moves_none : (w : Why) (s made : State) → is_done w ≡ false → Moves w made
 moves_none why.Done s made is = absurd cc
 moves_none (why.Failed n) s made is = absurd cc
 moves_none (why.Usage f) s made is = refl
-moves_none (why.NotBuilt x) s made is = refl
 moves_none (why.BadFormat f) s made is = refl
 moves_none (why.BadLog u) s made is = refl
 moves_none (why.Damaged d) s made is = refl
@@ -68,7 +66,6 @@ moves_fault : (w : Why) (s made : State) → is_done_or_fault w ≡ true → Mov
 moves_fault why.Done s made is = refl
 moves_fault (why.Failed n) s made is = refl
 moves_fault (why.Usage f) s made is = absurd cc
-moves_fault (why.NotBuilt x) s made is = absurd cc
 moves_fault (why.BadFormat f) s made is = absurd cc
 moves_fault (why.BadLog u) s made is = absurd cc
 moves_fault (why.Damaged d) s made is = absurd cc

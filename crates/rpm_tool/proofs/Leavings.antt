@@ -18,7 +18,6 @@ pub leaves_start : (course : State → Course) (s : State) (w : Why) (n : ℕ) (
 leaves_start course s why.Done m files undone none has = absurd (undone refl)
 leaves_start course s (why.Failed n) m files undone none has = absurd (undone refl)
 leaves_start course s (why.Usage f) m files undone none has = (none, has)
-leaves_start course s (why.NotBuilt x) m files undone none has = (none, has)
 leaves_start course s (why.BadFormat f) m files undone none has = (none, has)
 leaves_start course s (why.BadLog u) m files undone none has = (none, has)
 leaves_start course s (why.Damaged d) m files undone none has = (none, has)
@@ -40,7 +39,6 @@ pub uncommitted_leaves : (course : State → Course) (s : State) (w : Why) (n : 
 uncommitted_leaves course s why.Done m files un none either stays = absurd un
 uncommitted_leaves course s (why.Failed n) m files un none either stays = absurd un
 uncommitted_leaves course s (why.Usage f) m files un none either stays = absurd un
-uncommitted_leaves course s (why.NotBuilt x) m files un none either stays = absurd un
 uncommitted_leaves course s (why.BadFormat f) m files un none either stays = absurd un
 uncommitted_leaves course s (why.BadLog u) m files un none either stays = absurd un
 uncommitted_leaves course s (why.Damaged d) m files un none either stays = absurd un
@@ -69,7 +67,6 @@ pub leaves_after : (course : State → Course) (s : State) (w : Why) (n : ℕ) (
 leaves_after course s why.Done m files is leaves = leaves.1
 leaves_after course s (why.Failed n) m files is leaves = leaves.1
 leaves_after course s (why.Usage f) m files is leaves = absurd cc
-leaves_after course s (why.NotBuilt x) m files is leaves = absurd cc
 leaves_after course s (why.BadFormat f) m files is leaves = absurd cc
 leaves_after course s (why.BadLog u) m files is leaves = absurd cc
 leaves_after course s (why.Damaged d) m files is leaves = absurd cc
@@ -105,7 +102,6 @@ pub full_uncommitted : (making : Bool) (needed : ℕ) (s : State) (changes : Lis
 full_uncommitted making needed s changes k why.Done un full = absurd un
 full_uncommitted making needed s changes k (why.Failed n) un full = absurd un
 full_uncommitted making needed s changes k (why.Usage f) un full = absurd un
-full_uncommitted making needed s changes k (why.NotBuilt x) un full = absurd un
 full_uncommitted making needed s changes k (why.BadFormat f) un full = absurd un
 full_uncommitted making needed s changes k (why.BadLog u) un full = absurd un
 full_uncommitted making needed s changes k (why.Damaged d) un full = absurd un
@@ -127,7 +123,6 @@ pub lawful_ending : (c : Course) (making : Bool) (needed : ℕ) (s : State) (cha
 lawful_ending c making needed s changes why.Done old new did full = refl
 lawful_ending c making needed s changes (why.Failed n) old new did full = refl
 lawful_ending c making needed s changes (why.Usage f) old new did full = absurd did
-lawful_ending c making needed s changes (why.NotBuilt x) old new did full = absurd did
 lawful_ending c making needed s changes (why.BadFormat f) old new did full = absurd did
 lawful_ending c making needed s changes (why.BadLog u) old new did full = absurd did
 lawful_ending c making needed s changes (why.Damaged d) old new did full = absurd did

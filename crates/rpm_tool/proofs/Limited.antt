@@ -46,7 +46,6 @@ limits_in : (s : State) (v : Store) (changes : List Change) (making : Bool) (nee
 limits_in s v changes making needed t new why.Done opens = absurd opens
 limits_in s v changes making needed t new (why.Failed n) opens = absurd opens
 limits_in s v changes making needed t new (why.Usage f) opens = absurd opens
-limits_in s v changes making needed t new (why.NotBuilt x) opens = absurd opens
 limits_in s v changes making needed t new (why.BadFormat f) opens = absurd opens
 limits_in s v changes making needed t new (why.BadLog u) opens = absurd opens
 limits_in s v changes making needed t new (why.Damaged d) opens = absurd opens
@@ -136,7 +135,6 @@ limits_uncommitted : (s : State) (v : Store) (changes : List Change) (w : Why) â
 limits_uncommitted s v changes why.Done un all = absurd un
 limits_uncommitted s v changes (why.Failed n) un all = absurd un
 limits_uncommitted s v changes (why.Usage f) un all = absurd un
-limits_uncommitted s v changes (why.NotBuilt x) un all = absurd un
 limits_uncommitted s v changes (why.BadFormat f) un all = absurd un
 limits_uncommitted s v changes (why.BadLog u) un all = absurd un
 limits_uncommitted s v changes (why.Damaged d) un all = absurd un

@@ -46,7 +46,6 @@ pub log_halt : (made : Files) (w : Why) → is_halt w ≡ true → LogIs made w
 log_halt made why.Done is = tt
 log_halt made (why.Failed n) is = tt
 log_halt made (why.Usage f) is = tt
-log_halt made (why.NotBuilt x) is = tt
 log_halt made (why.BadFormat f) is = tt
 log_halt made (why.BadLog u) is = tt
 log_halt made (why.Damaged d) is = tt
@@ -68,7 +67,6 @@ log_memory : (made : Files) (w : Why) → is_halt w ≡ true → LogIs made (unl
 log_memory made why.Done is = tt
 log_memory made (why.Failed n) is = tt
 log_memory made (why.Usage f) is = tt
-log_memory made (why.NotBuilt x) is = tt
 log_memory made (why.BadFormat f) is = tt
 log_memory made (why.BadLog u) is = tt
 log_memory made (why.Damaged d) is = tt
@@ -98,7 +96,6 @@ module _ (course : State → Course) (files new : Files) (before now : Outputs) 
   log_of why.Done is worked = tt
   log_of (why.Failed n) is worked = tt
   log_of (why.Usage f) is worked = tt
-  log_of (why.NotBuilt x) is worked = tt
   log_of (why.BadFormat f) is worked = tt
   log_of (why.BadLog u) is worked = tt
   log_of (why.Damaged d) is worked = tt

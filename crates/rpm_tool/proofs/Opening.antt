@@ -114,7 +114,6 @@ module _ (old new : Files) (db : Database) (opened : IsOpened old new (Ok db)) (
     bad_opened why.Done went chain = tt
     bad_opened (why.Failed n) went chain = tt
     bad_opened (why.Usage f) went chain = tt
-    bad_opened (why.NotBuilt x) went chain = tt
     bad_opened (why.BadFormat f) went chain = tt
     bad_opened (why.BadLog u) went chain = tt
     bad_opened (why.Damaged d) went chain = tt

@@ -18,7 +18,6 @@ pub stopped_did : (c : Course) (w : Why) (old new : Outputs) → Stopped c w old
 stopped_did c why.Done old new s = absurd s
 stopped_did c (why.Failed n) old new s = absurd s
 stopped_did c (why.Usage f) old new s = s
-stopped_did c (why.NotBuilt x) old new s = s
 stopped_did c (why.BadFormat f) old new s = s
 stopped_did c (why.BadLog u) old new s = s
 stopped_did c (why.Damaged d) old new s = s
@@ -43,7 +42,6 @@ pub uncommitted_did : (c : Course) (w : Why) (old new : Outputs) → IsUncommitt
 uncommitted_did c why.Done old new un through = absurd un
 uncommitted_did c (why.Failed n) old new un through = absurd un
 uncommitted_did c (why.Usage f) old new un through = absurd un
-uncommitted_did c (why.NotBuilt x) old new un through = absurd un
 uncommitted_did c (why.BadFormat f) old new un through = absurd un
 uncommitted_did c (why.BadLog u) old new un through = absurd un
 uncommitted_did c (why.Damaged d) old new un through = absurd un
@@ -89,7 +87,6 @@ pub uncommitted_undone : (w : Why) → IsUncommitted w → is_done w ≡ true �
 uncommitted_undone why.Done un is = absurd un
 uncommitted_undone (why.Failed n) un is = absurd un
 uncommitted_undone (why.Usage f) un is = absurd un
-uncommitted_undone (why.NotBuilt x) un is = absurd un
 uncommitted_undone (why.BadFormat f) un is = absurd un
 uncommitted_undone (why.BadLog u) un is = absurd un
 uncommitted_undone (why.Damaged d) un is = absurd un
@@ -110,7 +107,6 @@ pub stopped_undone : (c : Course) (w : Why) (old new : Outputs) → Stopped c w 
 stopped_undone c why.Done old new s is = absurd s
 stopped_undone c (why.Failed n) old new s is = absurd s
 stopped_undone c (why.Usage f) old new s is = absurd cc
-stopped_undone c (why.NotBuilt x) old new s is = absurd cc
 stopped_undone c (why.BadFormat f) old new s is = absurd cc
 stopped_undone c (why.BadLog u) old new s is = absurd cc
 stopped_undone c (why.Damaged d) old new s is = absurd cc
@@ -131,7 +127,6 @@ pub refused_undone : (d : Damage) (w : Why) → Refused d w → is_done w ≡ tr
 refused_undone y why.Done r is = absurd r
 refused_undone y (why.Failed n) r is = absurd r
 refused_undone y (why.Usage f) r is = absurd r
-refused_undone y (why.NotBuilt x) r is = absurd r
 refused_undone y (why.BadFormat f) r is = absurd r
 refused_undone y (why.BadLog u) r is = absurd r
 refused_undone y (why.Damaged d) r is = absurd cc

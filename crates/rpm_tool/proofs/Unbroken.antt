@@ -93,7 +93,6 @@ chains_none chosen texts idx (why.BadIndex unit) never = absurd (never unit refl
 chains_none chosen texts idx why.Done never = tt
 chains_none chosen texts idx (why.Failed n) never = tt
 chains_none chosen texts idx (why.Usage f) never = tt
-chains_none chosen texts idx (why.NotBuilt x) never = tt
 chains_none chosen texts idx (why.BadFormat f) never = tt
 chains_none chosen texts idx (why.BadLog u) never = tt
 chains_none chosen texts idx (why.Damaged d) never = tt

@@ -1,14 +1,12 @@
 -- What the answers to words that aren't done say.
-use Rattle.std.proofs.Common.{◌≡◌, ◌∙◌, ℕ, true, false, not, if◌then◌else◌, List, Option, Some, None, Result, Ok, Err, refl, sym, ap, inl, inr}
+use Rattle.std.proofs.Common.{◌≡◌, ◌∙◌, ℕ, true, false, List, Option, Some, None, Result, Ok, Err, refl, sym, ap, inl, inr}
 use Rattle.rpm_words.specs.declared.fault.WordsFault.{WordsFault}
 use Rattle.rpm_words.specs.Ask.{AskParts}
 use Rattle.rpm_qfparse.specs.declared.fault.FormatFault.{FormatFault}
 use Rattle.rpm_qfparse.specs.Tree.{Tree}
-use Rattle.rpm_qfparse.specs.Format.{format}
-use Rattle.rpm_tool.specs.declared.answer.Unbuilt.TheVariants.{Words}
 use Rattle.rpm_tool.specs.declared.answer.Why.{Why}
 use Rattle.rpm_tool.specs.declared.answer.Why.TheVariants as why
-use Rattle.rpm_tool.specs.Asked.{is_built, is_unbuilt_in, format_text, format_in, command_in}
+use Rattle.rpm_tool.specs.Asked.{format_in, command_in}
 use Rattle.rpm_tool.specs.Answers.{ComesWhere, Undone, is_of_words}
 
 none_some : (p : AskParts × Tree) (o : Option (AskParts × Tree)) → o ≡ None → o ≡ Some p → ⊥
@@ -35,32 +33,16 @@ no_tree (Ok a) f = refl
 no_tree (Err g) f = refl
 
 module _ (words : List (List ℕ)) where
-  -- the format of a command that isn't built isn't read
-  unread : (asked : Result AskParts WordsFault) → is_unbuilt_in asked ≡ true → format_in words asked ≡ None
-  unread (Ok a) = elim (is_built a) as (λ b. not b ≡ true → (if b then Some (format (format_text words a)) else None) ≡ None)
-      [ true ↦ λ e. cc | false ↦ λ e. refl ]
-  unread (Err f) = λ e. refl
-
   pub usage_of_undone : (asked : Result AskParts WordsFault) (w : Why) → Undone asked (format_in words asked) w → (f : WordsFault) → ComesWhere
       (why.Usage f) w (asked ≡ Err f)
   usage_of_undone asked (why.Usage g) t f = (λ same. cc, λ e. inl cc)
-  usage_of_undone asked (why.NotBuilt what) t f = (λ same. cc, λ e. let both : false ≡ true = sym (ap is_unbuilt_in e) ∙ t in cc)
   usage_of_undone asked (why.BadFormat g) t f = (λ same. cc, λ e. let both : None ≡ Some (Err g) = sym (ap (format_in words) e) ∙ t.0 in cc)
   usage_of_undone asked why.NoMemory t f = (λ same. cc, λ e. inr refl)
   usage_of_undone asked _ t f = absurd t
 
-  pub unbuilt_of_undone : (asked : Result AskParts WordsFault) (w : Why) → Undone asked (format_in words asked) w → ComesWhere (why.NotBuilt Words) w
-      (is_unbuilt_in asked ≡ true)
-  unbuilt_of_undone asked (why.Usage g) t = (λ same. cc, λ e. let both : true ≡ false = sym e ∙ ap is_unbuilt_in t.0 in cc)
-  unbuilt_of_undone asked (why.NotBuilt Words) t = (λ same. t, λ e. inl refl)
-  unbuilt_of_undone asked (why.BadFormat g) t = (λ same. cc, λ e. let both : None ≡ Some (Err g) = sym (unread asked e) ∙ t.0 in cc)
-  unbuilt_of_undone asked why.NoMemory t = (λ same. cc, λ e. inr refl)
-  unbuilt_of_undone asked _ t = absurd t
-
   pub format_of_undone : (asked : Result AskParts WordsFault) (w : Why) → Undone asked (format_in words asked) w → (f : FormatFault) → ComesWhere
       (why.BadFormat f) w (format_in words asked ≡ Some (Err f))
   format_of_undone asked (why.Usage g) t f = (λ same. cc, λ e. let both : None ≡ Some (Err f) = sym (ap (format_in words) t.0) ∙ e in cc)
-  format_of_undone asked (why.NotBuilt what) t f = (λ same. cc, λ e. let both : None ≡ Some (Err f) = sym (unread asked t) ∙ e in cc)
   format_of_undone asked (why.BadFormat g) t f = (λ same. cc, λ e. inl cc)
   format_of_undone asked why.NoMemory t f = (λ same. cc, λ e. inr refl)
   format_of_undone asked _ t f = absurd t
@@ -74,13 +56,6 @@ module _ (words : List (List ℕ)) where
           (ap (format_in words) e) ∙ read in cc,
     )
 
-    pub unbuilt_of_done : ComesWhere (why.NotBuilt Words) w (is_unbuilt_in asked ≡ true)
-    unbuilt_of_done = (
-      λ same. let both : true ≡ false = sym (ap is_of_words same) ∙ done in cc,
-      λ e. let both : None ≡ Some (Ok tree) = sym
-          (unread asked e) ∙ read in cc,
-    )
-
     pub format_of_done : (f : FormatFault) → ComesWhere (why.BadFormat f) w (format_in words asked ≡ Some (Err f))
     format_of_done f = (
       λ same. let both : true ≡ false = sym (ap is_of_words same) ∙ done in cc,
@@ -88,14 +63,12 @@ module _ (words : List (List ℕ)) where
           e ∙ read in cc,
     )
 
-  -- words that ask for a command that is built are undone for want of memory alone
+  -- words that ask for a command are undone for want of memory alone
   pub starved : (asked : Result AskParts WordsFault) (w : Why) → Undone asked (format_in words asked) w → (a : AskParts) (tree : Tree)
       → command_in asked (format_in words asked) ≡ Some (a, tree) → w ≡ why.NoMemory
   starved asked (why.Usage f) t a tree read =
       absurd (none_some (a, tree) (command_in asked (format_in words asked))
       (ap (λ (r : Result AskParts WordsFault). command_in r (format_in words r)) t.0) read)
-  starved asked (why.NotBuilt what) t a tree read =
-      absurd (none_some (a, tree) (command_in asked (format_in words asked)) (ap (command_in asked) (unread asked t) ∙ no_command asked) read)
   starved asked (why.BadFormat f) t a tree read =
       absurd (none_some (a, tree) (command_in asked (format_in words asked)) (ap (command_in asked) t.0 ∙ no_tree asked f) read)
   starved asked why.NoMemory t a tree read = refl

@@ -76,7 +76,6 @@ outside_by old new (Err e) why.NoMemory is = tt
 outside_by old new sr why.Done is = absurd is
 outside_by old new sr (why.Failed n) is = absurd is
 outside_by old new sr (why.Usage f) is = absurd is
-outside_by old new sr (why.NotBuilt x) is = absurd is
 outside_by old new sr (why.BadFormat f) is = absurd is
 outside_by old new sr (why.BadLog u) is = absurd is
 outside_by old new sr (why.Damaged d) is = absurd is
@@ -104,7 +103,6 @@ stopped_open : (c : Course) (making : Bool) (needed : ℕ) (s : State) (new : Fi
 stopped_open c making needed s new why.Done before now opens none = absurd opens
 stopped_open c making needed s new (why.Failed n) before now opens none = absurd opens
 stopped_open c making needed s new (why.Usage f) before now opens none = absurd opens
-stopped_open c making needed s new (why.NotBuilt x) before now opens none = absurd opens
 stopped_open c making needed s new (why.BadFormat f) before now opens none = absurd opens
 stopped_open c making needed s new (why.BadLog u) before now opens none = absurd opens
 stopped_open c making needed s new (why.Damaged d) before now opens none = absurd opens
@@ -126,7 +124,6 @@ full_open : (making makes : Bool) (needed : ℕ) (s : State) (changes : List Cha
 full_open making makes needed s changes new why.Done more opens = absurd opens
 full_open making makes needed s changes new (why.Failed n) more opens = absurd opens
 full_open making makes needed s changes new (why.Usage f) more opens = absurd opens
-full_open making makes needed s changes new (why.NotBuilt x) more opens = absurd opens
 full_open making makes needed s changes new (why.BadFormat f) more opens = absurd opens
 full_open making makes needed s changes new (why.BadLog u) more opens = absurd opens
 full_open making makes needed s changes new (why.Damaged d) more opens = absurd opens

@@ -34,7 +34,7 @@ use Rattle.rpm_tool.specs.declared.answer.Why.{Why}
 use Rattle.rpm_tool.specs.declared.answer.Why.TheVariants as why
 use Rattle.rpm_tool.specs.declared.asked.Deed.{Deed}
 use Rattle.rpm_tool.specs.declared.asked.Deed.TheVariants as deed
-use Rattle.rpm_tool.specs.Asked.{deed_of, is_unbuilt_in}
+use Rattle.rpm_tool.specs.Asked.{deed_of}
 use Rattle.rpm_tool.specs.Reads.{argument_reach, reaches_by, reach_sum, reached_by}
 use Rattle.rpm_tool.specs.Reports.{unindexed, course}
 use Rattle.rpm_change.specs.Endings.{Outputs, Through}
@@ -155,7 +155,6 @@ ComesWhere answer given Holds = (given ≡ answer → Holds) × (Holds → (give
 -- what goes with each of them, given what the words and their format were read as
 abbrev pub Undone : Result AskParts WordsFault → Option (Result Tree FormatFault) → Why → Type 0
 Undone asked read (why.Usage fault) = (asked ≡ Err fault) × (fault.kind ≢ kind.NoMemory)
-Undone asked read (why.NotBuilt what) = is_unbuilt_in asked ≡ true
 Undone asked read (why.BadFormat fault) = (read ≡ Some (Err fault)) × (fault.kind ≢ wrong.NoMemory)
 Undone asked read why.NoMemory = Unit {0}
 Undone asked read _ = ⊥
@@ -163,14 +162,12 @@ Undone asked read _ = ⊥
 -- one of them, want of memory aside
 abbrev pub is_of_words : Why → Bool
 is_of_words (why.Usage fault) = true
-is_of_words (why.NotBuilt what) = true
 is_of_words (why.BadFormat fault) = true
 is_of_words others = false
 
 -- a command on a database doesn't end so
 abbrev pub is_foreign : Why → Bool
 is_foreign (why.Usage fault) = true
-is_foreign (why.NotBuilt what) = true
 is_foreign (why.BadFormat fault) = true
 is_foreign why.ShelfFault = true
 is_foreign others = false
@@ -189,7 +186,6 @@ abbrev pub Went : Course → Why → Outputs → Outputs → (Bearer → Type 0)
 Went course why.Done old new reads_to = Through course.steps old new × (course.failed ≡ 0)
 Went course (why.Failed n) old new reads_to = Through course.steps old new × (course.failed ≡ n) × (0 < n)
 Went course (why.Usage fault) old new reads_to = ⊥
-Went course (why.NotBuilt what) old new reads_to = ⊥
 Went course (why.BadFormat fault) old new reads_to = ⊥
 Went course (why.BadLog unit) old new reads_to = ⊥
 Went course (why.Damaged damage) old new reads_to = ⊥

@@ -1,4 +1,4 @@
--- Which command lines are built, and by which format they print.
+-- What command lines ask for, and by which format they print.
 use Rattle.std.specs.Prelude.{ℕ, List, Option, Some, None, Result, Ok, Err, Bool, true, false, not, ◌&&◌, if◌then◌else◌, codes}
 use Rattle.rpm_words.specs.declared.ask.Mode.{Mode}
 use Rattle.rpm_words.specs.declared.ask.Mode.TheVariants.{Query, Addpkg, Replacepkg, Erasepkg, Initdb, Rebuilddb, Verifydb, Exportdb, Importdb, Exercise, Checkfiles}
@@ -28,21 +28,7 @@ needs_no_index Number noindex = true
 needs_no_index Package noindex = true
 needs_no_index others noindex = noindex
 
-abbrev pub is_built_in : Mode → Bool
-is_built_in Query = true
-is_built_in Verifydb = true
-is_built_in Exportdb = true
-is_built_in Checkfiles = true
-is_built_in Addpkg = true
-is_built_in Replacepkg = true
-is_built_in Erasepkg = true
-is_built_in Initdb = true
-is_built_in Rebuilddb = true
-is_built_in Importdb = true
-is_built_in (Exercise n) = true
-is_built_in others = false
-
--- of those the ones that change packages, or make the database
+-- the modes that change packages, or make the database
 abbrev pub is_changing_in : Mode → Bool
 is_changing_in Addpkg = true
 is_changing_in Replacepkg = true
@@ -81,18 +67,6 @@ is_package others = false
 abbrev pub of_files : AskParts → Bool
 of_files a = is_query a.mode && is_package a.chosen
 
-unfoldable pub is_built : AskParts → Bool
-is_built a = is_built_in a.mode
-
--- a command was read, and it isn't built
-abbrev pub is_unbuilt_in : Result AskParts WordsFault → Bool
-is_unbuilt_in (Ok a) = not (is_built a)
-is_unbuilt_in (Err f) = false
-
--- the words break no rule, and ask for what isn't built yet
-unfoldable pub asks_unbuilt : List (List ℕ) → Bool
-asks_unbuilt words = is_unbuilt_in (ask words)
-
 -- ---- the format
 
 -- where none is given: the label
@@ -112,12 +86,12 @@ given_format words (Some span) = bytes_from words span
 abbrev pub format_text : List (List ℕ) → AskParts → List ℕ
 format_text words a = if a.lists then list_format else given_format words a.format
 
--- what the format is read as, where the command that was read is built
+-- what the format of a command that was read is read as
 abbrev pub format_in : List (List ℕ) → Result AskParts WordsFault → Option (Result Tree FormatFault)
-format_in words (Ok a) = if is_built a then Some (format (format_text words a)) else None
+format_in words (Ok a) = Some (format (format_text words a))
 format_in words (Err f) = None
 
--- the words ask for a command that is built, and their format is this tree or has this fault
+-- the words break no rule, and their format is this tree or has this fault
 unfoldable pub asks_format : List (List ℕ) → Option (Result Tree FormatFault)
 asks_format words = format_in words (ask words)
 
@@ -125,6 +99,6 @@ abbrev pub command_in : Result AskParts WordsFault → Option (Result Tree Forma
 command_in (Ok a) (Some (Ok tree)) = Some (a, tree)
 command_in asked read = None
 
--- the words ask for this command, which is built, by this format
+-- the words ask for this command, by this format
 unfoldable pub asks : List (List ℕ) → Option (AskParts × Tree)
 asks words = command_in (ask words) (asks_format words)

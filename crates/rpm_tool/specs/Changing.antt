@@ -27,7 +27,6 @@ abbrev pub Did : Course → Why → Outputs → Outputs → Type 0
 Did course why.Done old new = Through course.steps old new × (course.failed ≡ 0)
 Did course (why.Failed n) old new = Through course.steps old new × (course.failed ≡ n) × (0 < n)
 Did course (why.Usage fault) old new = ⊥
-Did course (why.NotBuilt what) old new = ⊥
 Did course (why.BadFormat fault) old new = ⊥
 Did course (why.BadLog unit) old new = ⊥
 Did course (why.Damaged damage) old new = ⊥
@@ -147,7 +146,6 @@ EmptyBy false files given = is_held given ≡ false
 -- an ending that a lawful database may have: done, a limit, a fault of the outside, or want of memory
 abbrev pub is_of_lawful : Why → Bool
 is_of_lawful (why.Usage fault) = false
-is_of_lawful (why.NotBuilt what) = false
 is_of_lawful (why.BadFormat fault) = false
 is_of_lawful (why.BadLog unit) = false
 is_of_lawful (why.Damaged damage) = false

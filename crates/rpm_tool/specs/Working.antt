@@ -86,7 +86,6 @@ abbrev pub is_halt : Why → Bool
 is_halt why.Done = false
 is_halt (why.Failed n) = false
 is_halt (why.Usage fault) = false
-is_halt (why.NotBuilt what) = false
 is_halt (why.BadFormat fault) = false
 is_halt (why.LogFull units) = false
 is_halt others = true

@@ -7,13 +7,6 @@ use rpm_pkgdb::Damage;
 use rpm_qfparse::FormatFault;
 use rpm_words::WordsFault;
 
-/// What isn't built yet.
-#[derive(Clone, Copy, Debug, PartialEq, Eq)]
-pub enum Unbuilt {
-    /// These words.
-    Words,
-}
-
 /// Why a command ended.
 #[derive(Clone, Copy, Debug, PartialEq, Eq)]
 pub enum Why {
@@ -23,8 +16,6 @@ pub enum Why {
     Failed(u32),
     /// The words break this rule. Nothing was done.
     Usage(WordsFault),
-    /// They ask for what isn't built yet. Nothing was done.
-    NotBuilt(Unbuilt),
     /// Their format has this fault. Nothing was done.
     BadFormat(FormatFault),
     /// `Hlog.db` is malformed at this unit.
@@ -61,7 +52,7 @@ pub enum Why {
 #[derive(Clone, Copy, Debug, PartialEq, Eq)]
 pub struct Outcome {
     /// The exit status: 0 where all was done, the number of failed arguments up to 250, 251 for words that break a rule and
-    /// for a format with a fault, 252 for the database and for what isn't built, 253 for output, 254 for want of memory.
+    /// for a format with a fault, 252 for the database, 253 for output, 254 for want of memory.
     pub status: u8,
     pub why: Why,
     /// How many packages were added, replaced or erased.
@@ -77,7 +68,7 @@ pub fn status_of(why: Why) -> u8
         Why::Failed(failed) => failed.min(250) as u8,
         Why::Usage(_) => 251,
         Why::BadFormat(_) => 251,
-        Why::NotBuilt(_) | Why::BadLog { .. } | Why::Damaged(_) | Why::DiskFault => 252,
+        Why::BadLog { .. } | Why::Damaged(_) | Why::DiskFault => 252,
         Why::NumbersSpent | Why::GenerationSpent | Why::StoreFull | Why::NotEmpty(_) => 252,
         Why::BadIndex { .. } | Why::IndexFull { .. } | Why::LogFull { .. } => 252,
         Why::ShelfFault | Why::OutFault | Why::ErrFault => 253,

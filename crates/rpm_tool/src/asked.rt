@@ -1,11 +1,11 @@
-//! The command that the words ask for, where it is built, and its format.
+//! The command that the words ask for, and its format.
 
 ghost use Rattle.std.specs.Prelude.{◌≡◌, true, Some, Ok, IfOk, IfErr};
 ghost use Rattle.rpm_words.specs.Ask.{ask, IsSound};
-ghost use Rattle.rpm_tool.specs.Asked.{deed_of, of_files, by_key, needs_no_index, is_built_in, is_built, format_text, asks_format};
+ghost use Rattle.rpm_tool.specs.Asked.{deed_of, of_files, by_key, needs_no_index, format_text, asks_format};
 ghost use Rattle.rpm_tool.specs.Answers.{Undone};
 
-use crate::answer::{Unbuilt, Why};
+use crate::answer::Why;
 use rpm_qfparse::{Format, FormatKind, parse};
 use rpm_words::{Ask, Chosen, Mode, Words, WordsKind, read};
 use std::alloc::Global;
@@ -45,18 +45,6 @@ pub fn deed_of(mode: Mode) -> Deed
     }
 }
 
-/// Whether a command of this mode is built.
-fn is_built_in(mode: Mode) -> bool
-    ensures { result ≡ is_built_in mode }
-{
-    match mode {
-        Mode::Query | Mode::Verifydb | Mode::Exportdb | Mode::Checkfiles => true,
-        Mode::Addpkg | Mode::Replacepkg | Mode::Erasepkg => true,
-        Mode::Initdb | Mode::Rebuilddb | Mode::Importdb | Mode::Exercise(_) => true,
-        _ => false,
-    }
-}
-
 /// Whether a command opens the database with its index.
 pub fn by_key(ask: &Ask) -> bool
     ensures { result ≡ by_key ask.now }
@@ -69,14 +57,6 @@ pub fn of_files(ask: &Ask) -> bool
     ensures { result ≡ of_files ask.now }
 {
     matches!(ask.mode(), Mode::Query) && matches!(ask.chosen(), Chosen::Package)
-}
-
-/// Whether a command is built.
-#[tactic(auto, unfolding(crate::specs::Asked::is_built))]
-fn is_built(ask: &Ask) -> bool
-    ensures { result ≡ is_built ask.now }
-{
-    is_built_in(ask.mode())
 }
 
 /// The text of the format: the one that is given, that of the list, or else that of labels.
@@ -93,15 +73,14 @@ fn format_text<'a>(words: &'a Words, ask: &Ask) -> &'a [u8]
     }
 }
 
-/// Reads the words: their command, where it is built, or else how they end. Goes over them once.
+/// Reads the words: their command, or else how they end. Goes over them once.
 fn read_words(alloc: Global, words: &Words) -> Result<Ask, Why>
-    ensures ok { IfOk result (λ a. (ask words.now ≡ Ok a) × (is_built a ≡ true)) }
+    ensures ok { IfOk result (λ a. ask words.now ≡ Ok a) }
     ensures sound { IfOk result (λ a. IsSound words.now a) }
     ensures undone { IfErr result (λ why. Undone (ask words.now) (asks_format words.now) why) }
 {
     match read(alloc, words) {
-        Ok(ask) if is_built(&ask) => Ok(ask),
-        Ok(_) => Err(Why::NotBuilt(Unbuilt::Words)),
+        Ok(ask) => Ok(ask),
         Err(fault) if fault.kind == WordsKind::NoMemory => Err(Why::NoMemory),
         Err(fault) => Err(Why::Usage(fault)),
     }

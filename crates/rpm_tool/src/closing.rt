@@ -168,7 +168,6 @@ fn put_line<E: Sink>(err: &mut E, words: &Words, why: Why) -> Result<(), Failed>
         Why::Done | Why::Failed(_) | Why::ErrFault => put_all(err, b""),
         Why::Usage(fault) => put_usage(err, words, fault),
         Why::BadFormat(fault) => put_fault(err, fault),
-        Why::NotBuilt(_) => put_all(err, b"rpm: not built yet\n"),
         Why::Damaged(damage) => put_damage(err, damage),
         Why::BadLog { unit } => put_log(err, unit),
         Why::BadIndex { unit } => put_index(err, unit),

@@ -16,7 +16,7 @@ ghost use Rattle.rpm_words.specs.declared.ask.Mode.TheVariants as mode;
 ghost use Rattle.rpm_words.specs.Words.{text_at};
 ghost use Rattle.rpm_words.specs.Ask.{AskParts, ask, IsSound};
 ghost use Rattle.rpm_qfparse.specs.Tree.{Tree};
-ghost use Rattle.rpm_tool.specs.Asked.{of_files, by_key, is_changing, asks_change, asks_unbuilt, asks_format, asks};
+ghost use Rattle.rpm_tool.specs.Asked.{of_files, by_key, is_changing, asks_change, asks_format, asks};
 ghost use Rattle.rpm_tool.specs.Changing.{DidOn, ChangesWith, EmptyBy};
 ghost use Rattle.rpm_tool.specs.Closing.{status_of, closing};
 ghost use Rattle.rpm_tool.specs.Steps.{numbers, Rises};
@@ -29,7 +29,7 @@ ghost use Rattle.rpm_tool.specs.PackageFiles.{passing, query_files};
 ghost use Rattle.rpm_change.specs.Endings.{outputs};
 ghost use Rattle.rpm_tool.specs.Answers.{is_of_words, ComesWhere, Queried, Anywhere, Went, Closes, Ends, AtMost, Leaves, query_cost};
 
-use crate::answer::{Outcome, Unbuilt, Why, status_of};
+use crate::answer::{Outcome, Why, status_of};
 use crate::asked::{by_key, of_files, read_command};
 use crate::changing::{Ending, change_asked};
 use crate::closing::put_closing;
@@ -127,7 +127,6 @@ fn command<D: Disk, S: Shelf, O: Sink + Drop, E: Sink + Drop>(
     requires err_empty { holds err.old ≡ [] }
     ensures usage { (f : WordsFault) → ComesWhere (Why.Usage f) result.0.why (ask words.now ≡ Err f) }
     ensures usage_kind { (f : WordsFault) → result.0.why ≡ Why.Usage f → f.kind ≢ WordsKind.NoMemory }
-    ensures unbuilt { ComesWhere (Why.NotBuilt Unbuilt.Words) result.0.why (asks_unbuilt words.now ≡ true) }
     ensures bad_format { (f : FormatFault) → ComesWhere (Why.BadFormat f) result.0.why (asks_format words.now ≡ Some (Err f)) }
     ensures bad_format_kind { (f : FormatFault) → result.0.why ≡ Why.BadFormat f → f.kind ≢ FormatKind.NoMemory }
     ensures unread { asks words.now ≡ None → (result.1 ≡ disk) × (shelf.new ≡ shelf.old) × (out.new ≡ out.old) × (err.new ≡ err.old) }
@@ -191,9 +190,8 @@ fn command<D: Disk, S: Shelf, O: Sink + Drop, E: Sink + Drop>(
 ///
 /// The disk is handed back beside every outcome. Queries leave what its files stand for, the index aside, and so do `--exportdb`,
 /// `--verifydb` and `--checkfiles`. The words are read first, by the rules of [`read`](rpm_words::read). Where they break one, the answer is `Usage` with the
-/// first that is broken. The two reports on requirements aren't built: they are answered `NotBuilt`. Then the format is read, by the rules
-/// of [`parse`](rpm_qfparse::parse): F, the list of files, or `%{NVRA}\n`. Where it has a fault, the answer is `BadFormat` with the first one.
-/// With these three answers no call is made on the disk, the shelf or `out`.
+/// first that is broken. Then the format is read, by the rules of [`parse`](rpm_qfparse::parse): F, the list of files, or `%{NVRA}\n`. Where it
+/// has a fault, the answer is `BadFormat` with the first one. With these two answers no call is made on the disk, the shelf or `out`.
 ///
 /// A query prints for each argument what the format means for each package that it picks, by rising number. A package that can't be
 /// read, and one for which a bracket's tags have different numbers of elements, has a message on `err` in its place; then the argument
@@ -240,14 +238,11 @@ pub fn run<D: Disk, S: Shelf, O: Sink, E: Sink>(
     ensures usage { (f : WordsFault) → ComesWhere (Why.Usage f) result.0.why (ask words.now ≡ Err f) }
     ensures usage_kind { (f : WordsFault) → result.0.why ≡ Why.Usage f → f.kind ≢ WordsKind.NoMemory }
 
-    // What isn't built is answered so, exactly there.
-    ensures unbuilt { ComesWhere (Why.NotBuilt Unbuilt.Words) result.0.why (asks_unbuilt words.now ≡ true) }
-
     // A format that has a fault is answered so, exactly there, with its first fault. Nothing is done for such words, nor for those above.
     ensures bad_format { (f : FormatFault) → ComesWhere (Why.BadFormat f) result.0.why (asks_format words.now ≡ Some (Err f)) }
     ensures bad_format_kind { (f : FormatFault) → result.0.why ≡ Why.BadFormat f → f.kind ≢ FormatKind.NoMemory }
     ensures unread { asks words.now ≡ None → (result.1 ≡ disk) × (shelf.new ≡ shelf.old) × (out.new ≡ out.old) }
-    ensures unbuilt_closes { asks words.now ≡ None → Closes (closing words.now result.0.why) (outputs O.tells (O.taken out.old) E.tells
+    ensures undone_closes { asks words.now ≡ None → Closes (closing words.now result.0.why) (outputs O.tells (O.taken out.old) E.tells
         (E.taken err.old)) (outputs O.tells (O.taken out.new) E.tells (E.taken err.new)) (E.faults err.old) (E.faults err.new) }
 
     // The theorem: the command of the words on the database as it reads when an open log is gone through, and the line that closes it. First

@@ -24,7 +24,7 @@ mod task;
 mod unindexed;
 mod verdicts;
 
-pub use answer::{Outcome, Unbuilt, Why};
+pub use answer::{Outcome, Why};
 pub use command::run;
 pub use rpm_pkgdb::{Damage, Reason};
 pub use rpm_qfparse::{FormatFault, FormatKind};

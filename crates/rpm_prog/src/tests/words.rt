@@ -1,7 +1,7 @@
-//! The words of command lines: those that break a rule, and those of commands that aren't built.
+//! The words of command lines that break a rule.
 
 use super::is_refused;
-use rpm_tool::{Unbuilt, Why, WordsFault, WordsKind};
+use rpm_tool::{Why, WordsFault, WordsKind};
 use std::test::Fail;
 
 #[test]
@@ -69,16 +69,6 @@ fn words_that_break_a_rule_are_told(rt: HostRuntime) -> Result<(), Fail> {
             is_refused(rt.alloc(), line, last, why, 251, told)?,
             "{line}"
         );
-    }
-    Ok(())
-}
-
-#[test]
-fn other_commands_are_not_built(rt: HostRuntime) -> Result<(), Fail> {
-    for line in ["rpmdb --order", "rpm -Va --nofiles"] {
-        let why = Why::NotBuilt(Unbuilt::Words);
-        let told = "rpm: not built yet\n";
-        assert!(rt; is_refused(rt.alloc(), line, "", why, 252, told)?, "{line}");
     }
     Ok(())
 }

@@ -4,12 +4,6 @@ use Rattle.rpm_tool.specs.declared.answer.Why.{Why}
 use Rattle.rpm_tool.specs.Closing.{closing}
 use Rattle.rpm_tool.proofs.closing.put_line.Goals as goal
 
-pub returns-in-NotBuilt : goal.returns-in-NotBuilt
-unfolding closing
-returns-in-NotBuilt g c =
-    subst (λ (w : Why). Writes g.E.Sink.tells g.E.Sink.taken g.E.Sink.faults g.E.Sink.follows c.args.err.now c.put_all-in-NotBuilt.new.sink
-    (closing c.args.words.now w) c.put_all-in-NotBuilt.result) (sym c.in-NotBuilt.is) c.put_all-in-NotBuilt.ensures
-
 pub returns-in-Usage : goal.returns-in-Usage
 unfolding closing
 returns-in-Usage g c =

@@ -3,14 +3,14 @@ use Rattle.rpm_outside.specs.Buffered.{inner}
 use Rattle.rpm_outside.specs.Logs.{reopened}
 use Rattle.rpm_outside.specs.declared.disk.File.TheVariants.{Pkg}
 use Rattle.rpm_words.specs.Ask.{AskParts, ask}
-use Rattle.rpm_tool.specs.Asked.{of_files, by_key, is_changing, changes_in, asks_change, asks_format, asks, asks_unbuilt}
+use Rattle.rpm_tool.specs.Asked.{of_files, by_key, is_changing, changes_in, asks_change, asks_format, asks}
 use Rattle.rpm_change.specs.Endings.{outputs}
 use Rattle.rpm_tool.specs.PackageFiles.{query_files}
 use Rattle.rpm_tool.specs.Tasks.{asked_task, asked_course, reads_shelf, needs_none, has_turns}
 use Rattle.rpm_tool.proofs.Limited.{limits_starved}
 use Rattle.rpm_tool.proofs.Reaching.{through_none}
 use Rattle.rpm_tool.proofs.Recovered.{unbegun}
-use Rattle.rpm_tool.proofs.Undone.{usage_of_undone, usage_of_done, unbuilt_of_undone, unbuilt_of_done, format_of_undone, format_of_done, starved, none_asked, same_command}
+use Rattle.rpm_tool.proofs.Undone.{usage_of_undone, usage_of_done, format_of_undone, format_of_done, starved, none_asked, same_command}
 use Rattle.rpm_tool.proofs.Begun.{not_begun}
 use Rattle.rpm_tool.proofs.Emptied.{memory_empty}
 use Rattle.rpm_tool.proofs.Unstarted.{unstarted_did, unstarted_changes}
@@ -19,11 +19,6 @@ use Rattle.rpm_tool.proofs.command.command.Goals as goal
 pub returns-in-Ok-clause-usage : goal.returns-in-Ok-clause-usage
 unfolding asks_format
 returns-in-Ok-clause-usage g c = usage_of_done c.args.words.now (ask c.args.words.now) c.in-Ok.format c.in-Ok.ensures.ok.1 c.begin.result.0.why
-    c.begin.ensures.done
-
-pub returns-in-Ok-clause-unbuilt : goal.returns-in-Ok-clause-unbuilt
-unfolding asks_format asks_unbuilt
-returns-in-Ok-clause-unbuilt g c = unbuilt_of_done c.args.words.now (ask c.args.words.now) c.in-Ok.format c.in-Ok.ensures.ok.1 c.begin.result.0.why
     c.begin.ensures.done
 
 pub returns-in-Ok-clause-bad_format : goal.returns-in-Ok-clause-bad_format
@@ -53,10 +48,6 @@ returns-in-Ok-clause-reads g c = λ a tree asked other unkeyed still told.
 pub returns-in-Err-clause-usage : goal.returns-in-Err-clause-usage
 unfolding asks_format
 returns-in-Err-clause-usage g c = usage_of_undone c.args.words.now (ask c.args.words.now) c.in-Err.why c.in-Err.ensures.undone
-
-pub returns-in-Err-clause-unbuilt : goal.returns-in-Err-clause-unbuilt
-unfolding asks_format asks_unbuilt
-returns-in-Err-clause-unbuilt g c = unbuilt_of_undone c.args.words.now (ask c.args.words.now) c.in-Err.why c.in-Err.ensures.undone
 
 pub returns-in-Err-clause-bad_format : goal.returns-in-Err-clause-bad_format
 unfolding asks_format

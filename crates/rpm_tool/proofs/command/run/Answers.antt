@@ -60,8 +60,8 @@ returns-clause-unread g c = λ none.
     let same = c.command-disk.ensures.unread none in
     (same.0, same.1, handed (ap (λ (lent : _). lent.now) (inner_same same.2 ∙ c.new-out.ensures.inner)) (search rules))
 
-pub returns-clause-unbuilt_closes : goal.returns-clause-unbuilt_closes
-returns-clause-unbuilt_closes g c = λ none.
+pub returns-clause-undone_closes : goal.returns-clause-undone_closes
+returns-clause-undone_closes g c = λ none.
     let same = c.command-disk.ensures.unread none in
     let out : (inner c.command-disk.new.out).now ≡ c.args.out.now = ap (λ (lent : _). lent.now) (inner_same same.2 ∙ c.new-out.ensures.inner) in
     let mid : (inner c.command-disk.new.err).now ≡ c.args.err.now = ap (λ (lent : _). lent.now) (inner_same same.3 ∙ c.new-err.ensures.inner) in
