@@ -5,10 +5,10 @@ use Rattle.rpm_db.specs.State.{State}
 use Rattle.rpm_tool.specs.History.{Call, Moves, Leads, Cuts, made_by}
 
 module _ (paths : Paths) (now : ℕ) where
-  pub leads_more : (calls : List Call) (call : Call) (s m t : State) → Leads paths now calls s m → Moves call.why (made_by paths now call.words m) m t
+  pub leads_more : (calls : List Call) (call : Call) (s m t : State) → Leads paths now calls s m → Moves call.outcome.why (made_by paths now call.words m) m t
       → Leads paths now (calls ++ call ∷ []) s t
   leads_more [] call s m t is moves =
-      (t, subst (λ (u : State). Moves call.why (made_by paths now call.words u) u t) is moves, refl)
+      (t, subst (λ (u : State). Moves call.outcome.why (made_by paths now call.words u) u t) is moves, refl)
   leads_more (c ∷ calls) call s m t (mid, first, rest) moves = (mid, first, leads_more calls call mid m t rest moves)
 
   pub cuts_still : (calls : List Call) (call : Call) (s t : State) → Cuts paths now calls s t → Cuts paths now (calls ++ call ∷ []) s t

@@ -1,8 +1,10 @@
+mod Ahead
 mod Anew
 mod Answering
 mod Arguments
 mod Asking
 mod Begun
+mod Chained
 mod Closed
 mod Completed
 mod Defaults
@@ -12,7 +14,9 @@ mod Endings
 mod Ends
 mod Exercised
 mod Filed
+mod Fitting
 mod Fixtures
+mod Greatest
 mod Grouped
 mod Histories
 mod Joins
@@ -25,8 +29,10 @@ mod Lines
 mod Loading
 mod Logged
 mod Looked
+mod Moved
 mod Nexts
 mod Numbered
+mod Numbering
 mod Opening
 mod Outcomes
 mod Peeking

@@ -20,14 +20,14 @@ use Rattle.rpm_tool.specs.Tasks.{asked_task, asked_course, is_anew}
 use Rattle.rpm_tool.proofs.Histories.{by_bool, still_next, still_cut, changed_next, changed_cut}
 
 pub calls_more : (lines : List (List (List ℕ))) (outcomes : List Outcome) (outcome : Outcome) (d : List (List ℕ)) → length outcomes < length lines
-    → calls_of lines (outcomes ++ outcome ∷ []) ≡ calls_of lines outcomes ++ record { words = get_or lines (length outcomes) d; why = outcome.why } ∷ []
+    → calls_of lines (outcomes ++ outcome ∷ []) ≡ calls_of lines outcomes ++ record { words = get_or lines (length outcomes) d; outcome = outcome } ∷ []
 calls_more [] [] outcome d less = absurd (omega (arith, less))
 calls_more [] (o ∷ os) outcome d less = absurd (omega (arith, less))
 calls_more (words ∷ lines) [] outcome d less = refl
 calls_more (words ∷ lines) (o ∷ os) outcome d less =
-    ap (λ (calls : List Call). record { words = words; why = o.why } ∷ calls) (calls_more lines os outcome d (omega (arith, less)))
+    ap (λ (calls : List Call). record { words = words; outcome = o } ∷ calls) (calls_more lines os outcome d (omega (arith, less)))
 
-by_asked : {X : Type 0} (read : Option (AskParts × Tree)) → (read ≡ None → X) → ((a : AskParts) (tree : Tree) → read ≡ Some (a, tree) → X) → X
+pub by_asked : {X : Type 0} (read : Option (AskParts × Tree)) → (read ≡ None → X) → ((a : AskParts) (tree : Tree) → read ≡ Some (a, tree) → X) → X
 by_asked None nothing command = nothing refl
 by_asked (Some asked) nothing command = command asked.0 asked.1 refl
 

@@ -3,9 +3,11 @@ pub mod Asked
 pub mod Changing
 pub mod Closing
 pub mod FileReport
+pub mod Given
 pub mod History
 pub mod Keyed
 pub mod Limits
+pub mod Lines
 pub mod PackageFiles
 pub mod Queries
 pub mod Reads

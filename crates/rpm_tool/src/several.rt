@@ -1,10 +1,15 @@
 //! Several command lines on one disk, one after the other.
 
-ghost use Rattle.std.specs.Prelude.{◌≡◌, ℕ, List, length, IsTrue, Ok, Err, IfOk, OnErr};
+ghost use Rattle.std.specs.Prelude.{◌≡◌, ℕ, List, [], length, IsTrue, Ok, Err, IfOk, OnErr};
 ghost use Rattle.rpm_outside.specs.Crash.{LeavesOnly};
 ghost use Rattle.rpm_outside.specs.Files.{Files};
+ghost use Rattle.rpm_db.specs.Changes.{next};
 ghost use Rattle.rpm_db.specs.State.{State};
+ghost use Rattle.rpm_change.specs.Endings.{outputs};
+ghost use Rattle.rpm_tool.specs.Changing.{HasState};
+ghost use Rattle.rpm_tool.specs.Given.{IsAhead, RiseWithin};
 ghost use Rattle.rpm_tool.specs.History.{AllStand, StandsIn, Leads, Cuts, calls_of};
+ghost use Rattle.rpm_tool.specs.Lines.{LineIs, InTurn, between};
 
 use crate::answer::Outcome;
 use crate::command::run;
@@ -18,6 +23,9 @@ use std::alloc::{AllocError, Global};
 /// each line that was done, and without those of each that was refused; those of one behind which the disk failed are all made, or none.
 /// A stop at any moment leaves a lawful disk that stands for the state before the line that it stops, or behind it, so with the changes of
 /// each line that was done by then.
+///
+/// Each line is answered as `run` answers it on what the lines before it left. The numbers that lines which were done gave to new packages
+/// rise, and so none is given twice: where the next number is at first that of the number field, as in a database that `--initdb` began.
 ///
 /// # Errors
 ///
@@ -33,10 +41,33 @@ pub fn run_each<D: Disk, S: Shelf, O: Sink, E: Sink>(
 ) -> (Result<Vec<Outcome>, AllocError>, D)
     ensures all { IfOk result.0 (λ outcomes. length outcomes.items ≡ length lines.now) }
     ensures none { OnErr result.0 (result.1 ≡ disk) }
-    ensures leads { IfOk result.0 (λ outcomes. IsTrue D.tells → IsTrue S.tells → (s : State) → AllStand (λ t. t ≡ s) (D.left_since disk (D.moment disk))
+    ensures leads { IfOk result.0 (λ outcomes. IsTrue D.tells → IsTrue S.tells → (s : State)
+        → AllStand (λ t. t ≡ s) (D.left_since disk (D.moment disk))
         → AllStand (Leads (S.paths shelf.old) now (calls_of lines.now outcomes.items) s) (D.left_since result.1 (D.moment result.1))) }
-    ensures cuts { IfOk result.0 (λ outcomes. IsTrue D.tells → IsTrue S.tells → (s : State) → AllStand (λ t. t ≡ s) (D.left_since disk (D.moment disk))
+    ensures cuts { IfOk result.0 (λ outcomes. IsTrue D.tells → IsTrue S.tells → (s : State)
+        → AllStand (λ t. t ≡ s) (D.left_since disk (D.moment disk))
         → LeavesOnly D.moment D.left_since disk result.1 (StandsIn (Cuts (S.paths shelf.old) now (calls_of lines.now outcomes.items) s))) }
+
+    // Each answer is that of `run` to its line, on what the lines before it left.
+    ensures ran { IfOk result.0 (λ outcomes. IsTrue D.tells → IsTrue S.tells → (given : List ℕ)
+        × InTurn (LineIs D.files D.left_since D.moment D.bytes_read D.follows D.faults (S.paths shelf.old) now) (calls_of lines.now outcomes.items)
+        (between disk [] (outputs O.tells (O.taken out.old) E.tells (E.taken err.old)) (S.faults shelf.old) (O.faults out.old) (E.faults err.old))
+        (between result.1 given (outputs O.tells (O.taken out.new) E.tells (E.taken err.new)) (S.faults shelf.new) (O.faults out.new)
+        (E.faults err.new))) }
+
+    // The files stand for a state to which the lines lead, also where they aren't lawful: it is for the next line to go on with.
+    ensures states { IfOk result.0 (λ outcomes. IsTrue D.tells → IsTrue S.tells → (s : State) → HasState s (D.files disk)
+        → (t : State) × HasState t (D.files result.1) × Leads (S.paths shelf.old) now (calls_of lines.now outcomes.items) s t) }
+
+    // The numbers that the lines which were done gave to new packages rise: none is given twice. Whatever a stop leaves behind the lines,
+    // the next number is above all of them.
+    ensures numbers { IfOk result.0 (λ outcomes. IsTrue D.tells → IsTrue S.tells → (s : State)
+        → AllStand (λ t. t ≡ s) (D.left_since disk (D.moment disk)) → IsAhead s → (given : List ℕ)
+        → InTurn (LineIs D.files D.left_since D.moment D.bytes_read D.follows D.faults (S.paths shelf.old) now) (calls_of lines.now outcomes.items)
+        (between disk [] (outputs O.tells (O.taken out.old) E.tells (E.taken err.old)) (S.faults shelf.old) (O.faults out.old) (E.faults err.old))
+        (between result.1 given (outputs O.tells (O.taken out.new) E.tells (E.taken err.new)) (S.faults shelf.new) (O.faults out.new)
+        (E.faults err.new))
+        → AllStand (λ t. IsAhead t × RiseWithin (next s) given (next t)) (D.left_since result.1 (D.moment result.1))) }
 {
     let Ok(outcomes) = Vec::with_capacity(alloc, lines.len()) else {
         return (Err(AllocError), disk);

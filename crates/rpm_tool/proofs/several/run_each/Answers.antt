@@ -7,7 +7,15 @@ use Rattle.rpm_outside.specs.inner.Moments.{started, leaves_then, leaves_weaker}
 use Rattle.rpm_db.specs.State.{State}
 use Rattle.rpm_tool.specs.Changing.{ChangesWith}
 use Rattle.rpm_tool.specs.Tasks.{asked_task, asked_course, is_anew}
-use Rattle.rpm_tool.specs.History.{Call, AllStand, StandsIn, Leads, Cuts, calls_of}
+use Rattle.rpm_db.specs.Changes.{next}
+use Rattle.rpm_change.specs.Endings.{outputs}
+use Rattle.rpm_tool.specs.Asked.{asks}
+use Rattle.rpm_tool.specs.Given.{given_on}
+use Rattle.rpm_tool.specs.History.{Call, AllStand, StandsIn, Leads, Cuts, calls_of, course_of}
+use Rattle.rpm_tool.specs.Lines.{Between, LineIs, InTurn, between}
+use Rattle.rpm_tool.proofs.Chained.{in_turn_more, lines_rise}
+use Rattle.rpm_tool.proofs.Moved.{lines_lead}
+use Rattle.rpm_tool.proofs.Numbering.{Numbered}
 use Rattle.rpm_tool.proofs.Histories.{stands_weaker}
 use Rattle.rpm_tool.proofs.Leading.{leads_more, cuts_still, cuts_more}
 use Rattle.rpm_tool.proofs.Lined.{calls_more, line_both}
@@ -25,6 +33,7 @@ loop-words-init g c =
       leads = λ told shelf s start image left. rw none (start image left);
       cuts = λ told shelf s start. rw none (started D.moment D.left_since c.args.disk (StandsIn (Cuts (g.S.Shelf.paths c.args.shelf.now) c.args.now [] s))
           start);
+      ran = λ told shelf. ([], rw none refl);
     }
 
 pub push_reserved-requires : goal.push_reserved-requires
@@ -43,15 +52,15 @@ loop-words-preserved g c =
     let words : List (List ℕ) = c.words-item.result in
     let item : words ≡ get_or lines c.loop-words.words-index words = c.words-item.is in
     let before : List Call = calls_of lines c.loop-words.outcomes.items in
-    let call : Call = record { words = words; why = c.run-left.result.0.why } in
+    let call : Call = record { words = words; outcome = c.run-left.result.0 } in
     let more : calls_of lines (c.loop-words.outcomes.items ++ c.run-left.result.0 ∷ []) ≡ before ++ call ∷ [] =
     calls_more lines c.loop-words.outcomes.items c.run-left.result.0 words (omega (arith, inv.count))
-    ∙ ap (λ (w : List (List ℕ)). before ++ record { words = w; why = c.run-left.result.0.why } ∷ [])
+    ∙ ap (λ (w : List (List ℕ)). before ++ record { words = w; outcome = c.run-left.result.0 } ∷ [])
     (ap (λ (k : ℕ). get_or lines k words) inv.count ∙ sym item) in
     let then_is : calls_of lines c.push_reserved.new.self.items ≡ before ++ call ∷ [] =
     ap (calls_of lines) c.push_reserved.ensures.items ∙ more in
-    let both = λ (told : IsTrue D.tells) (shelf : IsTrue g.S.Shelf.tells) (s : State) (start : AllStand (λ t. t ≡ s) (D.left_since c.args.disk (D.moment
-    c.args.disk))).
+    let both = λ (told : IsTrue D.tells) (shelf : IsTrue g.S.Shelf.tells) (s : State)
+    (start : AllStand (λ t. t ≡ s) (D.left_since c.args.disk (D.moment c.args.disk))).
     line_both D.tells D.files D.left_since D.moment D.bytes_read D.follows told paths now words c.run-left.result.0.why c.run-left.result.0.changes mid
     new (Leads paths now before s) (inv.leads told shelf s start) (g.met.D.Disk.as_read mid told) (λ none. (ran.unread none).0) ran.looks
     (λ a tree asked keyed. ran.stops a tree asked keyed told)
@@ -77,6 +86,59 @@ loop-words-preserved g c =
           (λ image is. stands_weaker _ _ image (λ t how. cuts_still paths now before call s t how) is) (inv.cuts told shelf s start))
           (leaves_weaker D.moment D.left_since mid new _ Q
           (λ image is. stands_weaker _ _ image (λ t how. cuts_more paths now before call s how.0 t how.1 how.2) is) made.1));
+      ran = λ told shelf.
+          let so_far = inv.ran told shelf in
+          let Each : Call → Between _ → Between _ → Type 0 = λ call old new.
+          LineIs D.files D.left_since D.moment D.bytes_read D.follows D.faults paths now call old new in
+          let start : Between _ = between c.args.disk [] (outputs g.O.Sink.tells (g.O.Sink.taken c.args.out.now) g.E.Sink.tells (g.E.Sink.taken
+          c.args.err.now)) (g.S.Shelf.faults c.args.shelf.now) (g.O.Sink.faults c.args.out.now) (g.E.Sink.faults c.args.err.now) in
+          let at : Paths = g.S.Shelf.paths c.loop-words.shelf in
+          let given = λ (p : Paths). so_far.0 ++ given_on (course_of p now words (asks words)) (D.files mid) call.outcome.why in
+          let before_it : Between _ = between mid so_far.0 (outputs g.O.Sink.tells (g.O.Sink.taken c.loop-words.out) g.E.Sink.tells (g.E.Sink.taken
+          c.loop-words.err)) (g.S.Shelf.faults c.loop-words.shelf) (g.O.Sink.faults c.loop-words.out) (g.E.Sink.faults c.loop-words.err) in
+          let behind_it = λ (p : Paths). between new (given p) (outputs g.O.Sink.tells (g.O.Sink.taken c.run-left.new.out) g.E.Sink.tells (g.E.Sink.taken
+          c.run-left.new.err)) (g.S.Shelf.faults c.run-left.new.shelf) (g.O.Sink.faults c.run-left.new.out) (g.E.Sink.faults c.run-left.new.err) in
+          let line_by = λ (p : Paths). LineIs D.files D.left_since D.moment D.bytes_read D.follows D.faults p now call before_it (behind_it p) in
+          let line : line_by at = record {
+            status = ran.status;
+            changes = ran.changes;
+            counted = ran.counted;
+            usage = ran.usage;
+            bad_format = ran.bad_format;
+            unread = λ none. (ran.unread none).0;
+            unbuilt_closes = ran.unbuilt_closes;
+            answers = λ a tree asked files keyed still. ran.answers a tree asked files keyed still told;
+            package_files = λ a tree asked files. ran.files a tree asked files shelf;
+            looks = λ a tree asked keyed still.
+                let looks = ran.looks a tree asked keyed still in
+                record {
+                  untouched = λ here. looks.untouched told;
+                  moment_stays = looks.moment_stays;
+                  index_unread = looks.index_unread;
+                  goes_on = looks.goes_on;
+                };
+            keyed = λ a tree asked keyed. ran.keyed a tree asked keyed told;
+            index_full = λ a tree asked keyed. ran.index_full a tree asked keyed told;
+            bad_index = λ a tree asked keyed. ran.bad_index a tree asked keyed told;
+            complete = λ a tree asked keyed. ran.complete a tree asked keyed told;
+            index = λ a tree asked keyed. ran.index a tree asked keyed told;
+            packages = λ a tree asked keyed. ran.packages a tree asked keyed told;
+            stops = λ a tree asked keyed. ran.stops a tree asked keyed told;
+            did = λ a tree asked any. ran.did a tree asked any told (λ reads. shelf);
+            changed = λ a tree asked any. ran.changed a tree asked any told (λ reads. shelf);
+            empty = λ a tree asked any. ran.empty a tree asked any told;
+            limits = λ a tree asked any. ran.limits a tree asked any told (λ reads. shelf);
+            log = λ a tree asked any. ran.log a tree asked any told (λ reads. shelf);
+            disk_fault = ran.disk_fault;
+            shelf_fault = ran.shelf_fault;
+            out_fault = ran.out_fault;
+            err_fault = ran.err_fault;
+            gives = refl;
+          } in (
+            given paths,
+            subst (λ (calls : List Call). InTurn Each calls start (behind_it paths)) (sym then_is)
+                (in_turn_more Each before call start before_it (behind_it paths) so_far.1 (subst line_by (inv.paths shelf) line)),
+          );
     }
 
 pub returns-clause-all : goal.returns-clause-all
@@ -87,3 +149,21 @@ returns-clause-leads g c = c.loop-words.invariant.leads
 
 pub returns-clause-cuts : goal.returns-clause-cuts
 returns-clause-cuts g c = c.loop-words.invariant.cuts
+
+pub returns-clause-ran : goal.returns-clause-ran
+returns-clause-ran g c = c.loop-words.invariant.ran
+
+pub returns-clause-states : goal.returns-clause-states
+returns-clause-states g c = λ told shelf s has.
+    let D = g.D.Disk in
+    lines_lead D.files D.left_since D.moment D.bytes_read D.follows D.faults (g.S.Shelf.paths c.args.shelf.now) c.args.now
+    (calls_of c.args.lines.now c.loop-words.outcomes.items) _ _ (c.loop-words.invariant.ran told shelf).1 s has
+
+pub returns-clause-numbers : goal.returns-clause-numbers
+returns-clause-numbers g c = λ told shelf s start ahead given went.
+    let D = g.D.Disk in
+    lines_rise D.files D.left_since D.moment D.bytes_read D.follows D.faults (g.S.Shelf.paths c.args.shelf.now) c.args.now
+    (λ d. g.met.D.Disk.as_read d told) (λ d a b image le lt left. g.met.D.Disk.earlier d a b image told le lt left)
+    (calls_of c.args.lines.now c.loop-words.outcomes.items) _ _ (next s) went
+    (λ image left. stands_weaker (λ t. t ≡ s) (Numbered (next s) []) image (λ t same. subst (λ (u : State). Numbered (next s) [] u) (sym same)
+    (ahead, omega arith)) (start image left))

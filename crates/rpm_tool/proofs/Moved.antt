@@ -1,0 +1,96 @@
+-- The state that the files stand for behind command lines, each as `run` does it.
+use Rattle.std.proofs.Common.{◌≡◌, ℕ, true, List, [], ◌∷◌, refl, sym, ap, subst, inl, inr, ⊎_elim}
+use Rattle.std.specs.Prelude.{Option, Some}
+use Rattle.rpm_outside.specs.declared.disk.File.{File}
+use Rattle.rpm_outside.specs.Files.{Units, Files}
+use Rattle.rpm_outside.specs.Logs.{reopened}
+use Rattle.rpm_outside.specs.Shelves.{Paths}
+use Rattle.rpm_pkgdb.specs.Store.{store}
+use Rattle.rpm_db.specs.Changes.{Says}
+use Rattle.rpm_db.specs.State.{State}
+use Rattle.rpm_words.specs.Ask.{AskParts}
+use Rattle.rpm_qfparse.specs.Tree.{Tree}
+use Rattle.rpm_change.specs.Steps.{Course}
+use Rattle.rpm_tool.specs.declared.answer.Why.{Why}
+use Rattle.rpm_tool.specs.declared.answer.Why.TheVariants as why
+use Rattle.rpm_tool.specs.Asked.{by_key, is_changing, asks}
+use Rattle.rpm_tool.specs.Changing.{HasState, LeavesState, after}
+use Rattle.rpm_tool.specs.History.{Call, Moves, Leads, course_of, made_by}
+use Rattle.rpm_tool.specs.Lines.{Between, LineIs, InTurn}
+use Rattle.rpm_tool.specs.Tasks.{asked_course}
+use Rattle.rpm_tool.proofs.Grouped.{if_ok_at}
+use Rattle.rpm_tool.proofs.Histories.{by_bool, moves_idle}
+use Rattle.rpm_tool.proofs.Lined.{by_asked}
+
+-- the files stand for a state to which the line moves
+abbrev pub Stands : Why → State → State → Files → Type 0
+Stands w made s files = (t : State) × HasState t files × Moves w made s t
+
+module _ (course : State → Course) (s : State) (n : ℕ) (files : Files) where
+  left_moves : (w : Why) → LeavesState course s w n files → Stands w (after course s) s files
+  left_moves why.Done left = (after course s, left.1, refl)
+  left_moves (why.Failed k) left = (after course s, left.1, refl)
+  left_moves why.DiskFault left = ⊎_elim (λ was. (s, was, inl refl)) (λ made. (after course s, made, inr refl)) left.1
+  left_moves (why.Usage f) left = (s, left.1, refl)
+  left_moves (why.NotBuilt x) left = (s, left.1, refl)
+  left_moves (why.BadFormat f) left = (s, left.1, refl)
+  left_moves (why.BadLog u) left = (s, left.1, refl)
+  left_moves (why.Damaged d) left = (s, left.1, refl)
+  left_moves why.NumbersSpent left = (s, left.1, refl)
+  left_moves why.GenerationSpent left = (s, left.1, refl)
+  left_moves why.StoreFull left = (s, left.1, refl)
+  left_moves (why.BadIndex u) left = (s, left.1, refl)
+  left_moves (why.NotEmpty k) left = (s, left.1, refl)
+  left_moves (why.IndexFull u) left = (s, left.1, refl)
+  left_moves (why.LogFull u) left = (s, left.1, refl)
+  left_moves why.ShelfFault left = (s, left.1, refl)
+  left_moves why.OutFault left = (s, left.1, refl)
+  left_moves why.ErrFault left = (s, left.1, refl)
+  left_moves why.NoMemory left = (s, left.1, refl)
+
+module _ {D : Type 0} (files : D → Files) (left_since : D → ℕ → Files → Type 0) (moment : D → ℕ) (bytes_read : D → File → ℕ)
+    (follows : D → D → Type 0) (faults : D → ℕ) (paths : Paths) (now : ℕ) where
+  abbrev Line : Call → Between D → Between D → Type 0
+  Line call old new = LineIs files left_since moment bytes_read follows faults paths now call old new
+
+  module _ (call : Call) (old new : Between D) (line : Line call old new) (s : State) (has : HasState s (files old.disk)) where
+    abbrev pkg_of : D → Units
+    pkg_of disk = (reopened (files disk)).pkg
+
+    abbrev Moved : Option (AskParts × Tree) → Type 0
+    Moved read = Stands call.outcome.why (after (course_of paths now call.words read) s) s (files new.disk)
+
+    -- the packages stay
+    kept : (made : State) → made ≡ s → pkg_of new.disk ≡ pkg_of old.disk → Stands call.outcome.why made s (files new.disk)
+    kept made nothing same = (
+      s,
+      subst (λ (pkg : Units). Says (λ t. t ≡ s) pkg) (sym same) has,
+      subst (λ (u : State). Moves call.outcome.why u s s) (sym nothing) (moves_idle call.outcome.why s),
+    )
+
+    changed : (a : AskParts) (tree : Tree) → asks call.words ≡ Some (a, tree) → is_changing a ≡ true
+        → Stands call.outcome.why (after (asked_course paths now call.words a) s) s (files new.disk)
+    changed a tree asked changing =
+        left_moves (asked_course paths now call.words a) s call.outcome.changes (files new.disk) call.outcome.why
+        (subst (λ (t : State). LeavesState (asked_course paths now call.words a) t call.outcome.why call.outcome.changes (files new.disk)) has.is
+        (if_ok_at _ (store (pkg_of old.disk)) has.value has.undamaged (line.changed a tree asked changing).leaves))
+
+    asked_moves : (a : AskParts) (tree : Tree) → asks call.words ≡ Some (a, tree) → Moved (Some (a, tree))
+    asked_moves a tree asked = by_bool (is_changing a)
+        (λ changing. rw changing (changed a tree asked changing))
+        (λ still. rw still (by_bool (by_key a)
+        (λ keyed. kept s refl (line.packages a tree asked keyed))
+        (λ unkeyed. kept s refl (ap (λ (f : Files). (reopened f).pkg) ((line.looks a tree asked unkeyed still).untouched refl).same))))
+
+    pub line_moves : Stands call.outcome.why (made_by paths now call.words s) s (files new.disk)
+    line_moves = by_asked (asks call.words)
+        (λ none. subst Moved (sym none) (kept s refl (ap pkg_of (line.unread none))))
+        (λ a tree asked. subst Moved (sym asked) (asked_moves a tree asked))
+
+  pub lines_lead : (calls : List Call) (old new : Between D) → InTurn Line calls old new → (s : State) → HasState s (files old.disk)
+      → (t : State) × HasState t (files new.disk) × Leads paths now calls s t
+  lines_lead [] old new same s has = (s, subst (λ (b : Between D). HasState s (files b.disk)) (sym same) has, refl)
+  lines_lead (call ∷ calls) old new (mid, line, rest) s has =
+      let first = line_moves call old mid line s has in
+      let later = lines_lead calls mid new rest first.0 first.1 in
+      (later.0, later.1, (first.0, first.2, later.2))

@@ -1,0 +1,80 @@
+-- The numbers that command lines give to new packages rise, and each image that a stop leaves has a next number above them.
+use Rattle.std.proofs.Common.{◌≡◌, ◌⊎◌, ℕ, Bool, true, false, List, [], ◌++◌, refl, sym, subst, inl, inr, ⊎_elim}
+use Rattle.std.specs.Prelude.{Result, Ok, Err, if◌then◌else◌}
+use Rattle.rpm_outside.specs.Files.{Files}
+use Rattle.rpm_outside.specs.Logs.{reopened}
+use Rattle.rpm_pkgdb.specs.declared.slot.Damage.{Damage}
+use Rattle.rpm_pkgdb.specs.Store.{Store, store}
+use Rattle.rpm_db.specs.Changes.{next}
+use Rattle.rpm_db.specs.State.{State, state}
+use Rattle.rpm_change.specs.Steps.{Course, idle}
+use Rattle.rpm_tool.specs.declared.answer.Why.{Why}
+use Rattle.rpm_tool.specs.declared.answer.Why.TheVariants as why
+use Rattle.rpm_tool.specs.Changing.{after}
+use Rattle.rpm_tool.specs.Given.{IsAhead, RiseWithin, numbers_given, given_in, given_on}
+use Rattle.rpm_tool.specs.History.{Moves}
+use Rattle.rpm_tool.specs.Keyed.{is_done}
+use Rattle.rpm_tool.proofs.Ahead.{Ahead, Fits, ahead_of, changes_rise, rise_least, rise_later, rise_then}
+
+-- ---- what is given
+
+-- nothing, by a command that changes nothing
+pub given_idle : (files : Files) (w : Why) → given_on (λ s. idle) files w ≡ []
+given_idle files w = by_done (is_done w) (store (reopened files).pkg)
+  where
+    by_done : (b : Bool) (r : Result Store Damage) → (if b then given_in (λ s. idle) (reopened files).pkg r else []) ≡ []
+    by_done true (Ok value) = refl
+    by_done true (Err damage) = refl
+    by_done false r = refl
+
+pub given_undone : (course : State → Course) (files : Files) (w : Why) → is_done w ≡ false → given_on course files w ≡ []
+given_undone course files w undone = rw undone refl
+
+pub given_done : (course : State → Course) (files : Files) (w : Why) (value : Store) → store (reopened files).pkg ≡ Ok value → is_done w ≡ true
+    → given_on course files w
+    ≡ numbers_given (course (state (reopened files).pkg value)).changes (state (reopened files).pkg value)
+given_done course files w value undamaged done = rw (done, undamaged) refl
+
+-- ---- to where a line moves
+
+moves_one : (w : Why) (made s t : State) → Moves w made s t → (t ≡ s) ⊎ (t ≡ made)
+moves_one why.Done made s t is = inr is
+moves_one (why.Failed n) made s t is = inr is
+moves_one why.DiskFault made s t is = is
+moves_one (why.Usage f) made s t is = inl is
+moves_one (why.NotBuilt x) made s t is = inl is
+moves_one (why.BadFormat f) made s t is = inl is
+moves_one (why.BadLog u) made s t is = inl is
+moves_one (why.Damaged d) made s t is = inl is
+moves_one why.NumbersSpent made s t is = inl is
+moves_one why.GenerationSpent made s t is = inl is
+moves_one why.StoreFull made s t is = inl is
+moves_one (why.BadIndex u) made s t is = inl is
+moves_one (why.NotEmpty n) made s t is = inl is
+moves_one (why.IndexFull u) made s t is = inl is
+moves_one (why.LogFull u) made s t is = inl is
+moves_one why.ShelfFault made s t is = inl is
+moves_one why.OutFault made s t is = inl is
+moves_one why.ErrFault made s t is = inl is
+moves_one why.NoMemory made s t is = inl is
+
+-- the numbers given so far rise from this one on to the next number of such a state, which is its field
+abbrev pub Numbered : ℕ → List ℕ → State → Type 0
+Numbered from given t = IsAhead t × RiseWithin from given (next t)
+
+module _ (course : State → Course) (fits : (s : State) → Ahead s → Fits (course s).changes s) (from : ℕ) (given : List ℕ) where
+  pub numbered_made : (s : State) → Numbered from given s → Numbered from (given ++ numbers_given (course s).changes s) (after course s)
+  numbered_made s is =
+      let rises = changes_rise (course s).changes s is.0 (fits s (ahead_of s is.0)) in
+      (rises.1, rise_then from (next s) (next (after course s)) given (numbers_given (course s).changes s) is.1 rises.0)
+
+  pub numbered_moved : (w : Why) (s t : State) → Numbered from given s → Moves w (after course s) s t → Numbered from given t
+  numbered_moved w s t is moves = ⊎_elim
+      (λ same. subst (λ (u : State). Numbered from given u) (sym same) is)
+      (λ made. subst (λ (u : State). Numbered from given u) (sym made) (
+      let rises = changes_rise (course s).changes s is.0 (fits s (ahead_of s is.0)) in (
+        rises.1,
+        rise_later from (next s) (next (after course s)) given (rise_least (next s) (next (after course s)) (numbers_given (course s).changes s)
+            rises.0) is.1,
+      )))
+      (moves_one w (after course s) s t moves)
