@@ -32,7 +32,6 @@ module _ (course : State → Course) (s : State) (n : ℕ) (files : Files) where
   left_moves (why.Failed k) left = (after course s, left.1, refl)
   left_moves why.DiskFault left = ⊎_elim (λ was. (s, was, inl refl)) (λ made. (after course s, made, inr refl)) left.1
   left_moves (why.Usage f) left = (s, left.1, refl)
-  left_moves (why.NotBuilt x) left = (s, left.1, refl)
   left_moves (why.BadFormat f) left = (s, left.1, refl)
   left_moves (why.BadLog u) left = (s, left.1, refl)
   left_moves (why.Damaged d) left = (s, left.1, refl)

@@ -42,7 +42,6 @@ moves_one why.Done made s t is = inr is
 moves_one (why.Failed n) made s t is = inr is
 moves_one why.DiskFault made s t is = is
 moves_one (why.Usage f) made s t is = inl is
-moves_one (why.NotBuilt x) made s t is = inl is
 moves_one (why.BadFormat f) made s t is = inl is
 moves_one (why.BadLog u) made s t is = inl is
 moves_one (why.Damaged d) made s t is = inl is

@@ -53,7 +53,7 @@ pub record LineIs {D : Type 0} (files : D → Files) (left_since : D → ℕ →
   pub usage : (f : WordsFault) → ComesWhere (why.Usage f) call.outcome.why (ask call.words ≡ Err f)
   pub bad_format : (f : FormatFault) → ComesWhere (why.BadFormat f) call.outcome.why (asks_format call.words ≡ Some (Err f))
   pub unread : asks call.words ≡ None → new.disk ≡ old.disk
-  pub unbuilt_closes : asks call.words ≡ None
+  pub undone_closes : asks call.words ≡ None
       → Closes (closing call.words call.outcome.why) old.taken new.taken old.err_faults new.err_faults
   -- commands that change nothing
   pub answers : Of call.words (λ a tree. of_files a ≡ false → by_key a ≡ false → is_changing a ≡ false
