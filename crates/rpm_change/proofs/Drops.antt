@@ -21,7 +21,7 @@ use Rattle.rpm_change.specs.Steps.{Course, ToOut, bearer}
 use Rattle.rpm_change.specs.Endings.{Outputs, outputs, Through, ThroughSome, Done, Ended, IsCarried, IndexTurn, needed, halt_of}
 use Rattle.rpm_change.specs.Limits.{LimitsTurn}
 use Rattle.rpm_change.specs.Rebuilding.{dropped_line, dropped, IsOfRebuilding}
-use Rattle.rpm_change.proofs.Single.{one_made, none_made}
+use Rattle.rpm_change.specs.inner.Single.{one_made, none_made}
 
 -- ---- the line of a package that is dropped
 

@@ -18,7 +18,7 @@ use Rattle.rpm_change.specs.Steps.{Course, changing}
 use Rattle.rpm_change.specs.Endings.{Outputs, Through, ThroughSome, Ended, IndexTurn, IsOfLines, IsOfErasing, needed, halt_of}
 use Rattle.rpm_change.specs.Erasing.{missing, erased, erase_one}
 use Rattle.rpm_change.specs.Limits.{LimitsTurn}
-use Rattle.rpm_change.proofs.Single.{one_refused, erase_fault}
+use Rattle.rpm_change.specs.inner.Single.{one_refused, erase_fault}
 
 some_erased : (o : Option Package) (j n : ℕ) → is_some o ≡ true → erased o j n ≡ changing (Erase n)
 some_erased None j n is = absurd cc

@@ -23,7 +23,7 @@ use Rattle.rpm_change.specs.Importing.{imported, once, import_listed, import_lis
 use Rattle.rpm_change.specs.Texts.{absent_line}
 use Rattle.rpm_change.specs.Limits.{LimitsTurn}
 use Rattle.rpm_change.specs.Turns.{counted_once, IsOfHeaders}
-use Rattle.rpm_change.proofs.Single.{one_refused, add_fault}
+use Rattle.rpm_change.specs.inner.Single.{one_refused, add_fault}
 
 -- ---- room in memory is nothing that a file says
 

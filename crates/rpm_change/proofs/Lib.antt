@@ -9,9 +9,8 @@ pub mod Limits
 pub mod Listed
 pub mod Placed
 pub mod Rebuilt
-pub mod Single
 pub mod Stops
-pub mod Stored
 pub mod Told
 pub mod Texts
 pub mod Turned
+pub mod Unchanged

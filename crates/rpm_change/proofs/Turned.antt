@@ -18,7 +18,7 @@ use Rattle.rpm_change.specs.Turns.{Leaves, StopIs, tally_of, IsOfHeaders, IsOfIm
 use Rattle.rpm_change.specs.Endings.{Outputs, Through, Ended, IndexTurn, IsOfLines}
 use Rattle.rpm_change.specs.Limits.{LimitsTurn}
 use Rattle.rpm_change.proofs.Drops.{none_gone}
-use Rattle.rpm_change.proofs.Single.{read_limits}
+use Rattle.rpm_change.proofs.Unchanged.{read_limits}
 
 ok_of : (r : Result Turn Halt) (P : Tally → Type 0) → IfOk (tally_of r) P → IfOk r (λ t. P t.tally)
 ok_of (Ok t) P p = p

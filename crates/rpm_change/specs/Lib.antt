@@ -10,3 +10,4 @@ pub mod Rebuilding
 pub mod Steps
 pub mod Texts
 pub mod Turns
+pub mod inner

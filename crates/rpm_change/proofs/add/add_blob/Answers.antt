@@ -8,7 +8,7 @@ use Rattle.rpm_change.specs.Steps.{changing}
 use Rattle.rpm_change.proofs.Courses.{through_none}
 use Rattle.rpm_change.proofs.Erased.{refused_ended}
 use Rattle.rpm_change.proofs.Placed.{one_turn, add_ends, add_kinds}
-use Rattle.rpm_change.proofs.Single.{one_made, one_refused, add_fault}
+use Rattle.rpm_change.specs.inner.Single.{one_made, one_refused, add_fault}
 use Rattle.rpm_change.proofs.add.add_blob.Goals as goal
 
 pub returns-in-Ok-clause-ended : goal.returns-in-Ok-clause-ended

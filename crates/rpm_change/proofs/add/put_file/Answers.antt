@@ -8,7 +8,7 @@ use Rattle.rpm_change.specs.Limits.{LimitsTurn}
 use Rattle.rpm_change.specs.Steps.{Course}
 use Rattle.rpm_change.proofs.Erased.{line_turn}
 use Rattle.rpm_change.proofs.Filed.{opened_is}
-use Rattle.rpm_change.proofs.Single.{line_limits}
+use Rattle.rpm_change.proofs.Unchanged.{line_limits}
 use Rattle.rpm_change.proofs.Stops.{lines_putting}
 use Rattle.rpm_change.proofs.add.put_file.Goals as goal
 

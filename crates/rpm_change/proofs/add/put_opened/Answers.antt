@@ -11,7 +11,7 @@ use Rattle.rpm_change.specs.Limits.{LimitsTurn}
 use Rattle.rpm_change.proofs.Courses.{through_none}
 use Rattle.rpm_change.proofs.Erased.{line_turn}
 use Rattle.rpm_change.proofs.Filed.{own_fault}
-use Rattle.rpm_change.proofs.Single.{line_limits, read_limits}
+use Rattle.rpm_change.proofs.Unchanged.{line_limits, read_limits}
 use Rattle.rpm_change.proofs.Stops.{stop_kind, stop_ended, stop_turn, placing_putting, lines_putting}
 use Rattle.rpm_change.proofs.add.put_opened.Goals as goal
 

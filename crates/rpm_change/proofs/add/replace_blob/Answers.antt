@@ -7,7 +7,7 @@ use Rattle.rpm_change.specs.Steps.{changing}
 use Rattle.rpm_change.proofs.Courses.{through_none}
 use Rattle.rpm_change.proofs.Erased.{refused_ended}
 use Rattle.rpm_change.proofs.Placed.{one_turn, put_ends, put_kinds}
-use Rattle.rpm_change.proofs.Single.{one_made, one_refused, put_fault}
+use Rattle.rpm_change.specs.inner.Single.{one_made, one_refused, put_fault}
 use Rattle.rpm_change.proofs.add.replace_blob.Goals as goal
 
 pub returns-in-Ok-clause-ended : goal.returns-in-Ok-clause-ended
@@ -51,7 +51,7 @@ returns-in-Err-clause-limits g c = λ told.
     let s = state (g.D.Disk.files c.args.disk.now).pkg c.args.db.now.store in
     rw c.halt_of.ensures
     (one_refused s (Put c.args.number c.args.blob.now) c.args.db.now.store c.put.new.self.store c.in-Err.fault
-    (put_fault _ c.args.db.now s c.args.number c.args.blob.now c.in-Err.fault c.in-Err.ensures.causes
+    (put_fault _ c.args.db.now s c.args.number c.args.blob.now c.args.blob.now c.in-Err.fault c.in-Err.ensures.causes
     (c.in-Err.ensures.placed (read_again c.args.blob.now) c.requires.own)))
 
 pub returns-in-Err-clause-kinds : goal.returns-in-Err-clause-kinds

@@ -9,7 +9,8 @@ use Rattle.rpm_change.specs.Erasing.{erase_one}
 use Rattle.rpm_change.specs.Limits.{LimitsTurn}
 use Rattle.rpm_change.proofs.Courses.{through_none}
 use Rattle.rpm_change.proofs.Erased.{erase_held, erase_missing, state_same, line_turn, refused_ended, erase_kinds, refused_turn, erase_limits}
-use Rattle.rpm_change.proofs.Single.{one_made, line_limits}
+use Rattle.rpm_change.specs.inner.Single.{one_made}
+use Rattle.rpm_change.proofs.Unchanged.{line_limits}
 use Rattle.rpm_change.proofs.erase.erase_one.Goals as goal
 
 pub returns-in-Ok-clause-ended : goal.returns-in-Ok-clause-ended

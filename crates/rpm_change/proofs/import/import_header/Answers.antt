@@ -12,7 +12,8 @@ use Rattle.rpm_change.specs.Limits.{LimitsTurn}
 use Rattle.rpm_change.proofs.Courses.{through_none}
 use Rattle.rpm_change.proofs.Erased.{line_turn, refused_ended}
 use Rattle.rpm_change.proofs.Imported.{imported_good, state_room, indexed_room, any_ok, add_turn, add_kinds, add_limits}
-use Rattle.rpm_change.proofs.Single.{one_made, line_limits}
+use Rattle.rpm_change.specs.inner.Single.{one_made}
+use Rattle.rpm_change.proofs.Unchanged.{line_limits}
 use Rattle.rpm_change.proofs.import.import_header.Goals as goal
 
 pub returns-in-Ok-clause-ended : goal.returns-in-Ok-clause-ended

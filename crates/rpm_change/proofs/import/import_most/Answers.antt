@@ -11,7 +11,7 @@ use Rattle.rpm_change.specs.Limits.{LimitsTurn}
 use Rattle.rpm_change.specs.Turns.{counted_once}
 use Rattle.rpm_change.proofs.Imported.{ended_once, turn_once, limits_once, opened_list, absent_list}
 use Rattle.rpm_change.proofs.Erased.{line_turn}
-use Rattle.rpm_change.proofs.Single.{line_limits}
+use Rattle.rpm_change.proofs.Unchanged.{line_limits}
 use Rattle.rpm_change.proofs.import.import_most.Goals as goal
 
 pub returns-in-Ok-clause-ended : goal.returns-in-Ok-clause-ended

@@ -14,7 +14,8 @@ use Rattle.rpm_change.specs.Turns.{turn, turn_found, Leaves}
 use Rattle.rpm_change.proofs.Courses.{through_none}
 use Rattle.rpm_change.proofs.Imported.{any_ok}
 use Rattle.rpm_change.proofs.Erased.{line_turn}
-use Rattle.rpm_change.proofs.Single.{none_made, line_limits}
+use Rattle.rpm_change.specs.inner.Single.{none_made}
+use Rattle.rpm_change.proofs.Unchanged.{line_limits}
 use Rattle.rpm_change.proofs.Turned.{turn_ok, turn_err, turn_kinds, turn_cause, no_shelf, turn_leaves, turn_last, at_most, line_most, line_kinds, lines_only, of_list, stop_ended, stop_turn, stop_limits, stop_kinds, stop_disk, stop_err, stop_read}
 use Rattle.rpm_change.proofs.import.import_next.Goals as goal
 

@@ -1,7 +1,7 @@
 use Rattle.std.proofs.Common.{◌≡◌, true, false, refl, arith, nat_lt}
 use Rattle.std.proofs.lemmas.Bool.Decides.{nat_tests}
 use Rattle.rpm_db.specs.State.{state}
-use Rattle.rpm_change.proofs.Single.{line_limits}
+use Rattle.rpm_change.proofs.Unchanged.{line_limits}
 use Rattle.rpm_change.proofs.import.import_within.Goals as goal
 
 pub returns-then-most-place-clause-ended : goal.returns-then-most-place-clause-ended

@@ -6,7 +6,7 @@ use Rattle.rpm_change.specs.Rebuilding.{dropped}
 use Rattle.rpm_change.proofs.Courses.{through_none}
 use Rattle.rpm_change.proofs.Erased.{refused_ended}
 use Rattle.rpm_change.proofs.Drops.{dropped_turn, dropped_limits, drop_turn, drop_kinds, none_gone}
-use Rattle.rpm_change.proofs.Single.{one_refused, erase_fault}
+use Rattle.rpm_change.specs.inner.Single.{one_refused, erase_fault}
 use Rattle.rpm_change.proofs.rebuilding.drop_bad.Goals as goal
 
 pub returns-in-Ok-erase-clause-ended : goal.returns-in-Ok-erase-clause-ended

@@ -9,7 +9,7 @@ use Rattle.rpm_change.specs.Limits.{SpentTurn, StoreTurn}
 use Rattle.rpm_change.specs.Steps.{Course}
 use Rattle.rpm_change.proofs.Erased.{line_turn}
 use Rattle.rpm_change.proofs.Filed.{replaced_none, replaced_some}
-use Rattle.rpm_change.proofs.Single.{line_limits}
+use Rattle.rpm_change.proofs.Unchanged.{line_limits}
 use Rattle.rpm_change.proofs.Stops.{lines_putting}
 use Rattle.rpm_change.proofs.replace.replace_package.Goals as goal
 

@@ -1,6 +1,5 @@
--- What one change is, or a line, or a stop: whether a number, a generation and a place are left for it.
-use Rattle.std.proofs.Common.{◌≡◌, ◌≢◌, ℕ, ◌+◌, List, [], ◌∷◌, Some, None, Result, Ok, Err, sym, ap, ◌∙◌, inl, arith}
-use Rattle.std.specs.Prelude.{IfErr}
+-- What one change is, or none: whether a number, a generation and a place are left for it.
+use Rattle.std.proofs.Common.{◌≡◌, ◌≢◌, ℕ, ◌+◌, List, [], ◌∷◌, Some, None, Ok, Err, sym, ap, ◌∙◌, inl, arith}
 use Rattle.std.specs.Option.{option_and_then}
 use Rattle.rpm_pkgdb.specs.Store.{Store}
 use Rattle.rpm_pkgdb.specs.Written.{with_spare}
@@ -12,12 +11,9 @@ use Rattle.rpm_db.specs.Refusals.{AddIs, PutIs, EraseCause}
 use Rattle.rpm_db.specs.Room.{RoomCause, next_store}
 use Rattle.rpm_db.specs.State.{State}
 use Rattle.rpm_change.specs.declared.tally.Tally.{Tally}
-use Rattle.rpm_change.specs.declared.tally.Halt.{Halt}
-use Rattle.rpm_change.specs.declared.tally.Halt.TheVariants as halt
-use Rattle.rpm_change.specs.Endings.{IsOfLines, halt_of}
+use Rattle.rpm_change.specs.Endings.{halt_of}
 use Rattle.rpm_change.specs.Limits.{next_stores, LimitsTurn}
 use Rattle.rpm_change.specs.Numbers.{HasNumber}
-use Rattle.rpm_change.proofs.Stops.{IsOfReading}
 
 -- ---- a change
 
@@ -62,18 +58,18 @@ add_fault A db s bytes blob (fault.BadHeader why) law cause room = tt
 add_fault A db s bytes blob fault.NoSuch law cause room = tt
 add_fault A db s bytes blob fault.Stopped law cause room = tt
 
-pub put_fault : (A : Type 0) (db : Database) (s : State) (n : ℕ) (bytes : List ℕ) (f : ChangeFault) → PutIs {A = A} db n bytes (Err f)
-    → RoomCause (next_store (Put n bytes) db.store) f → FaultIs s (Put n bytes) db.store f
-put_fault A db s n bytes fault.NumbersSpent cause room = absurd cause.1.later
-put_fault A db s n bytes fault.GenerationSpent cause room = cause.1.later
-put_fault A db s n bytes fault.StoreFull cause room = room
-put_fault A db s n bytes (fault.IndexFull told) cause room = tt
-put_fault A db s n bytes (fault.BadIndex unit) cause room = tt
-put_fault A db s n bytes fault.DiskFault cause room = tt
-put_fault A db s n bytes fault.NoMemory cause room = tt
-put_fault A db s n bytes (fault.BadHeader why) cause room = tt
-put_fault A db s n bytes fault.NoSuch cause room = tt
-put_fault A db s n bytes fault.Stopped cause room = tt
+pub put_fault : (A : Type 0) (db : Database) (s : State) (n : ℕ) (bytes blob : List ℕ) (f : ChangeFault) → PutIs {A = A} db n bytes (Err f)
+    → RoomCause (next_store (Put n blob) db.store) f → FaultIs s (Put n blob) db.store f
+put_fault A db s n bytes blob fault.NumbersSpent cause room = absurd cause.1.later
+put_fault A db s n bytes blob fault.GenerationSpent cause room = cause.1.later
+put_fault A db s n bytes blob fault.StoreFull cause room = room
+put_fault A db s n bytes blob (fault.IndexFull told) cause room = tt
+put_fault A db s n bytes blob (fault.BadIndex unit) cause room = tt
+put_fault A db s n bytes blob fault.DiskFault cause room = tt
+put_fault A db s n bytes blob fault.NoMemory cause room = tt
+put_fault A db s n bytes blob (fault.BadHeader why) cause room = tt
+put_fault A db s n bytes blob fault.NoSuch cause room = tt
+put_fault A db s n bytes blob fault.Stopped cause room = tt
 
 pub erase_fault : (db : Database) (s : State) (n : ℕ) (f : ChangeFault) → EraseCause db n f → FaultIs s (Erase n) db.store f
 erase_fault db s n fault.NumbersSpent cause = absurd cause.2
@@ -97,29 +93,3 @@ none_made s v w k tally same = record {
   store_room = ap (λ (u : Store). Some (with_spare v.spare u)) (sym same);
   raised = ap (λ (u : Store). u.generation) same ∙ omega arith;
 }
-
-pub line_limits : (s : State) (v w : Store) (k : ℕ) (r : Result Tally Halt) → w ≡ with_spare k v → IfErr r IsOfLines → LimitsTurn s v w [] r
-line_limits s v w k (Ok tally) same kinds = none_made s v w k tally same
-line_limits s v w k (Err halt.ErrFault) same kinds = record { numbers = tt; generation = tt; store_room = tt; raised = tt }
-line_limits s v w k (Err halt.NoMemory) same kinds = record { numbers = tt; generation = tt; store_room = tt; raised = tt }
-line_limits s v w k (Err halt.NumbersSpent) same kinds = absurd kinds
-line_limits s v w k (Err halt.GenerationSpent) same kinds = absurd kinds
-line_limits s v w k (Err halt.StoreFull) same kinds = absurd kinds
-line_limits s v w k (Err (halt.IndexFull told)) same kinds = absurd kinds
-line_limits s v w k (Err (halt.BadIndex unit)) same kinds = absurd kinds
-line_limits s v w k (Err halt.DiskFault) same kinds = absurd kinds
-line_limits s v w k (Err halt.ShelfFault) same kinds = absurd kinds
-line_limits s v w k (Err halt.OutFault) same kinds = absurd kinds
-
--- where a read stops the command, nothing is said of limits
-pub read_limits : (s : State) (v w : Store) (changes : List Change) (h : Halt) → IsOfReading h → LimitsTurn s v w changes (Err h)
-read_limits s v w changes halt.ShelfFault kind = record { numbers = tt; generation = tt; store_room = tt; raised = tt }
-read_limits s v w changes halt.NoMemory kind = record { numbers = tt; generation = tt; store_room = tt; raised = tt }
-read_limits s v w changes halt.NumbersSpent kind = absurd kind
-read_limits s v w changes halt.GenerationSpent kind = absurd kind
-read_limits s v w changes halt.StoreFull kind = absurd kind
-read_limits s v w changes (halt.IndexFull told) kind = absurd kind
-read_limits s v w changes (halt.BadIndex unit) kind = absurd kind
-read_limits s v w changes halt.DiskFault kind = absurd kind
-read_limits s v w changes halt.OutFault kind = absurd kind
-read_limits s v w changes halt.ErrFault kind = absurd kind

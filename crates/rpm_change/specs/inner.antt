@@ -1,0 +1,4 @@
+-- Laws on the definitions, for the crates above.
+pub mod LimitLaws
+pub mod Single
+pub mod Stores
