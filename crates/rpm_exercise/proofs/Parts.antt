@@ -12,7 +12,7 @@ use Rattle.rpm_change.specs.Endings.{AllHaveRoom, IsFullAt, IndexTurn}
 use Rattle.rpm_exercise.specs.declared.rounds.Round.TheVariants as round
 use Rattle.rpm_exercise.specs.Rounds.{Made, round_changes, changes_after, changes}
 
-apply_all-append : (xs ys : List Change) (s : State) → apply_all (xs ++ ys) s ≡ apply_all ys (apply_all xs s)
+pub apply_all-append : (xs ys : List Change) (s : State) → apply_all (xs ++ ys) s ≡ apply_all ys (apply_all xs s)
 apply_all-append [] ys s = refl
 apply_all-append (x ∷ xs) ys s = apply_all-append xs ys (apply x s)
 
@@ -106,7 +106,7 @@ each_all f n = let whole : n ≡ n - 0 = omega arith in ap (λ (m : ℕ). flat_m
 
 -- ---- the three rounds
 
-all_is : (n b : ℕ) (s : State) → b ≡ next s - 1 → changes n s ≡ changes_after b n
+pub all_is : (n b : ℕ) (s : State) → b ≡ next s - 1 → changes n s ≡ changes_after b n
 unfolding changes
 all_is n b s is = ap (λ (k : ℕ). changes_after k n) (sym is)
 

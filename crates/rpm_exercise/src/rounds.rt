@@ -8,6 +8,7 @@ ghost use Rattle.rpm_db.specs.Runs.{Runs};
 ghost use Rattle.rpm_db.specs.State.{state};
 ghost use Rattle.rpm_db.specs.inner.Writes.{SameLog};
 ghost use Rattle.rpm_change.specs.Endings.{IsCarried, IndexTurn, halt_of};
+ghost use Rattle.rpm_change.specs.Limits.{LimitsTurn};
 ghost use Rattle.rpm_exercise.specs.Rounds.{made, turn, round_changes, changes, Made, IsOfChanges, IsSpent};
 
 use rpm_change::{Halt, Tally, generated};
@@ -64,6 +65,7 @@ fn add_one<D: Disk>(alloc: Global, db: &mut Db, disk: &mut D, i: u32) -> Result<
         (state (D.files disk.new).pkg db.new.store) tally) }
     ensures room { IsTrue D.tells → IsIndexed (D.files disk.old).pkg (D.files disk.old).idx db.old
         → IndexTurn (state (D.files disk.old).pkg db.old.store) (Add (made i 1) ∷ []) result }
+    ensures limits { IsTrue D.tells → LimitsTurn (state (D.files disk.old).pkg db.old.store) db.old.store db.new.store (Add (made i 1) ∷ []) result }
     ensures few { IfOk result (λ tally. tally.changes ≤ 1) }
     ensures carried { IfOk result (λ _tally. IsCarried D.tells (D.files disk.old) (D.files disk.new) (D.left_since disk.new (D.moment disk.new))
         db.old db.new) }
@@ -110,6 +112,7 @@ fn replace_one<D: Disk>(
         (state (D.files disk.new).pkg db.new.store) tally) }
     ensures room { IsTrue D.tells → IsIndexed (D.files disk.old).pkg (D.files disk.old).idx db.old
         → IndexTurn (state (D.files disk.old).pkg db.old.store) (Put (b + i) (made i 2) ∷ []) result }
+    ensures limits { IsTrue D.tells → LimitsTurn (state (D.files disk.old).pkg db.old.store) db.old.store db.new.store (Put (b + i) (made i 2) ∷ []) result }
     ensures few { IfOk result (λ tally. tally.changes ≤ 1) }
     ensures carried { IfOk result (λ _tally. IsCarried D.tells (D.files disk.old) (D.files disk.new) (D.left_since disk.new (D.moment disk.new))
         db.old db.new) }
@@ -148,6 +151,7 @@ fn erase_one<D: Disk>(
         (state (D.files disk.new).pkg db.new.store) tally) }
     ensures room { IsTrue D.tells → IsIndexed (D.files disk.old).pkg (D.files disk.old).idx db.old
         → IndexTurn (state (D.files disk.old).pkg db.old.store) (Erase (b + i) ∷ []) result }
+    ensures limits { IsTrue D.tells → LimitsTurn (state (D.files disk.old).pkg db.old.store) db.old.store db.new.store (Erase (b + i) ∷ []) result }
     ensures few { IfOk result (λ tally. tally.changes ≤ 1) }
     ensures carried { IfOk result (λ _tally. IsCarried D.tells (D.files disk.old) (D.files disk.new) (D.left_since disk.new (D.moment disk.new))
         db.old db.new) }
@@ -185,6 +189,7 @@ fn take_turn<D: Disk>(
         (state (D.files disk.new).pkg db.new.store) tally) }
     ensures room { IsTrue D.tells → IsIndexed (D.files disk.old).pkg (D.files disk.old).idx db.old
         → IndexTurn (state (D.files disk.old).pkg db.old.store) (turn round b i) result }
+    ensures limits { IsTrue D.tells → LimitsTurn (state (D.files disk.old).pkg db.old.store) db.old.store db.new.store (turn round b i) result }
     ensures few { IfOk result (λ tally. tally.changes ≤ 1) }
     ensures carried { IfOk result (λ _tally. IsCarried D.tells (D.files disk.old) (D.files disk.new) (D.left_since disk.new (D.moment disk.new))
         db.old db.new) }
@@ -230,6 +235,7 @@ fn go_round<D: Disk>(
         (state (D.files disk.new).pkg db.new.store) tally) }
     ensures room { IsTrue D.tells → IsIndexed (D.files disk.old).pkg (D.files disk.old).idx db.old
         → IndexTurn (state (D.files disk.old).pkg db.old.store) (round_changes round b n) result }
+    ensures limits { IsTrue D.tells → LimitsTurn (state (D.files disk.old).pkg db.old.store) db.old.store db.new.store (round_changes round b n) result }
     ensures few { IfOk result (λ tally. tally.changes ≤ n) }
     ensures carried { IfOk result (λ _tally. IsCarried D.tells (D.files disk.old) (D.files disk.new) (D.left_since disk.new (D.moment disk.new))
         db.old db.new) }
@@ -259,9 +265,10 @@ fn go_round<D: Disk>(
 ///
 /// # Errors
 ///
-/// - `NumbersSpent` where a header is to be added while the next number is 4294967295.
-/// - `GenerationSpent` where a change is to be made while the generation is 4294967295.
-/// - `StoreFull` where a header fits nowhere below 4 GiB.
+/// - `NumbersSpent` exactly where, going through the changes in order, a header is to be added while the next number is 4294967295.
+/// - `GenerationSpent` exactly where, going through the changes in order, one is to be made while the generation is 4294967295.
+/// - `StoreFull` exactly where, going through the changes in order, a header, or a package in the way of its slot page, fits nowhere below
+///   4 GiB.
 /// - `IndexFull` exactly where, going through the changes in order, the rows after one of them need more than 268435456 units.
 /// - `BadIndex` only where a chain of the index isn't well formed, or unit 1 counts too little; never where the index holds the rows.
 /// - `DiskFault` only where the disk's count of faults rose.
@@ -276,6 +283,7 @@ pub fn change_all<D: Disk>(alloc: Global, db: &mut Db, disk: &mut D, n: u32) -> 
         (state (D.files disk.old).pkg db.old.store) (state (D.files disk.new).pkg db.new.store) tally) }
     ensures room { IsTrue D.tells → IsIndexed (D.files disk.old).pkg (D.files disk.old).idx db.old
         → IndexTurn (state (D.files disk.old).pkg db.old.store) (changes n (state (D.files disk.old).pkg db.old.store)) result }
+    ensures limits { IsTrue D.tells → LimitsTurn (state (D.files disk.old).pkg db.old.store) db.old.store db.new.store (changes n (state (D.files disk.old).pkg db.old.store)) result }
     ensures carried { IfOk result (λ _tally. IsCarried D.tells (D.files disk.old) (D.files disk.new) (D.left_since disk.new (D.moment disk.new))
         db.old db.new) }
     ensures indexed { is_indexed db.new ≡ true }

@@ -12,6 +12,8 @@ ghost use Rattle.rpm_db.specs.State.{state, packages};
 ghost use Rattle.rpm_db.specs.inner.Writes.{SameFiles, SameLog};
 ghost use Rattle.rpm_select.specs.Reach.{HasIndexRows};
 ghost use Rattle.rpm_change.specs.Endings.{outputs, Ended, IsCarried, IndexTurn};
+ghost use Rattle.rpm_change.specs.Limits.{LimitsTurn, SpentTurn, StoreTurn};
+ghost use Rattle.rpm_change.specs.Numbers.{NumbersTurn};
 ghost use Rattle.rpm_exercise.specs.Endings.{IsReadable, IsTold, IsUnbroken, IsOfReading, IsOfTelling, IsOfExercise, OnceBegun, IsRefused};
 ghost use Rattle.rpm_exercise.specs.Exercised.{summary, exercise};
 ghost use Rattle.rpm_exercise.specs.Rounds.{changes, IsSpent};
@@ -82,6 +84,7 @@ fn change_and_tell<D: Disk, O: Sink + Drop>(
         (outputs O.tells (O.taken (inner out.old)) err_tells err) (outputs O.tells (O.taken (inner out.new)) err_tells err) }
     ensures room { IsTrue D.tells → IsIndexed (D.files disk.old).pkg (D.files disk.old).idx db.old
         → IndexTurn (state (D.files disk.old).pkg db.old.store) (changes n (state (D.files disk.old).pkg db.old.store)) result }
+    ensures limits { IsTrue D.tells → LimitsTurn (state (D.files disk.old).pkg db.old.store) db.old.store db.new.store (changes n (state (D.files disk.old).pkg db.old.store)) result }
     ensures carried { IfOk result (λ _tally. IsCarried D.tells (D.files disk.old) (D.files disk.new) (D.left_since disk.new (D.moment disk.new))
         db.old db.new) }
     ensures indexed { is_indexed db.new ≡ true }
@@ -143,6 +146,7 @@ fn exercise_all<D: Disk, O: Sink + Drop>(
         (outputs O.tells (O.taken (inner out.old)) err_tells err) (outputs O.tells (O.taken (inner out.new)) err_tells err) }
     ensures room { IsTrue D.tells
         → IndexTurn (state (D.files disk.old).pkg db.old.store) (changes n (state (D.files disk.old).pkg db.old.store)) result }
+    ensures limits { IsTrue D.tells → LimitsTurn (state (D.files disk.old).pkg db.old.store) db.old.store db.new.store (changes n (state (D.files disk.old).pkg db.old.store)) result }
     ensures going { IfOk result (λ _tally. db.new.stopped ≡ false) }
     ensures serving { IfOk result (λ _tally. IsTrue D.tells → IsServing (D.files disk.new) (D.left_since disk.new (D.moment disk.new)) db.new) }
     ensures index { IfOk result (λ _tally. IsTrue D.tells → IsIndexed (D.files disk.new).pkg (D.files disk.new).idx db.new) }
@@ -175,9 +179,10 @@ fn exercise_all<D: Disk, O: Sink + Drop>(
 /// # Errors
 ///
 /// - `NotEmpty` exactly where there is a package: the least number. Nothing is done then.
-/// - `NumbersSpent` where a header is to be added while the next number is 4294967295.
-/// - `GenerationSpent` where a change is to be made while the generation is 4294967295.
-/// - `StoreFull` where a header fits nowhere below 4 GiB.
+/// - `NumbersSpent` exactly where, going through the changes in order, a header is to be added while the next number is 4294967295.
+/// - `GenerationSpent` exactly where, going through the changes in order, one is to be made while the generation is 4294967295.
+/// - `StoreFull` exactly where, going through the changes in order, a header, or a package in the way of its slot page, fits nowhere below
+///   4 GiB.
 /// - `IndexFull` exactly where, going through the changes in order, the rows after one of them need more than 268435456 units.
 /// - `BadIndex` never where the disk's contents are told: the index holds the rows.
 /// - `DiskFault` and `OutFault` only where that object's count of faults rose. Before `OutFault` the first bytes of the lines were written.
@@ -203,6 +208,12 @@ pub fn exercise<D: Disk, O: Sink + Drop>(
         (outputs O.tells (O.taken (inner out.old)) err_tells err) (outputs O.tells (O.taken (inner out.new)) err_tells err)) result }
     ensures room { IsTrue D.tells
         → OnceBegun (λ r. IndexTurn (state (D.files disk.old).pkg db.old.store) (changes n (state (D.files disk.old).pkg db.old.store)) r) result }
+    ensures numbers { IsTrue D.tells
+        → OnceBegun (λ r. NumbersTurn (state (D.files disk.old).pkg db.old.store) (changes n (state (D.files disk.old).pkg db.old.store)) r) result }
+    ensures generation { IsTrue D.tells
+        → OnceBegun (λ r. SpentTurn db.old.store.generation (changes n (state (D.files disk.old).pkg db.old.store)) r) result }
+    ensures store_room { IsTrue D.tells
+        → OnceBegun (λ r. StoreTurn (changes n (state (D.files disk.old).pkg db.old.store)) db.old.store db.new.store r) result }
     ensures going { IfOk result (λ _tally. db.new.stopped ≡ false) }
     ensures serving { IfOk result (λ _tally. IsTrue D.tells → IsServing (D.files disk.new) (D.left_since disk.new (D.moment disk.new)) db.new) }
     ensures index { IfOk result (λ _tally. IsTrue D.tells → IsIndexed (D.files disk.new).pkg (D.files disk.new).idx db.new) }

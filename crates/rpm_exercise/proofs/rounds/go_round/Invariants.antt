@@ -7,6 +7,7 @@ use Rattle.rpm_db.specs.State.{state}
 use Rattle.rpm_db.specs.inner.Writes.{SameLog}
 use Rattle.rpm_change.specs.Endings.{IsCarried}
 use Rattle.rpm_exercise.specs.Rounds.{turn, round_changes}
+use Rattle.rpm_exercise.proofs.Limited.{Limited}
 use Rattle.rpm_exercise.proofs.Parts.{Partly}
 use Rattle.rpm_exercise.proofs.rounds.go_round.Given as goal
 
@@ -15,6 +16,8 @@ invariant-loop-done g l = record {
   goes : IsTrue g.D.Disk.tells → Partly (IsIndexed (g.D.Disk.files l.initial.disk).pkg (g.D.Disk.files l.initial.disk).idx l.initial.db)
       (round_changes l.round l.b l.n) (flat_map (turn l.round l.b) (range_with_len (l.done + 1) (l.n - l.done)))
       (state (g.D.Disk.files l.initial.disk).pkg l.initial.db.store) (state (g.D.Disk.files l.disk).pkg l.db.store) l.changes;
+  limited : IsTrue g.D.Disk.tells → Limited (round_changes l.round l.b l.n) (flat_map (turn l.round l.b) (range_with_len (l.done + 1) (l.n - l.done)))
+      (state (g.D.Disk.files l.initial.disk).pkg l.initial.db.store) (state (g.D.Disk.files l.disk).pkg l.db.store) l.initial.db.store l.db.store;
   few : l.changes ≤ l.done;
   carried : IsCarried g.D.Disk.tells (g.D.Disk.files l.initial.disk) (g.D.Disk.files l.disk) (g.D.Disk.left_since l.disk (g.D.Disk.moment l.disk))
       l.initial.db l.db;

@@ -1,6 +1,8 @@
 use Rattle.std.proofs.Common.{◌+◌, arith}
 use Rattle.rpm_db.specs.State.{state}
+use Rattle.rpm_exercise.proofs.Limited.{memory_limits}
 use Rattle.rpm_exercise.proofs.Made.{put_one}
+use Rattle.rpm_exercise.proofs.Turned.{put_limits, put_refused}
 use Rattle.rpm_exercise.proofs.rounds.replace_one.Goals as goal
 
 pub returns-in-Ok-put-clause-made : goal.returns-in-Ok-put-clause-made
@@ -9,3 +11,21 @@ returns-in-Ok-put-clause-made g c = λ told.
     c.in-Ok-generated.ensures.again (state (g.D.Disk.files c.args.disk.now).pkg c.args.db.now.store)
     (state (g.D.Disk.files c.put.new.disk).pkg c.put.new.self.store) c.in-Ok.number (c.args.b + c.args.i) c.in-Ok.ensures.value
     (omega (arith, c.requires.some)) (c.in-Ok-put.ensures.state told)
+
+pub returns-in-Err-clause-limits : goal.returns-in-Err-clause-limits
+returns-in-Err-clause-limits g c = λ told.
+    rw c.in-Err.ensures.kinds (memory_limits (state (g.D.Disk.files c.args.disk.now).pkg c.args.db.now.store) c.args.db.now.store c.args.db.now.store _)
+
+pub returns-in-Ok-put-clause-limits : goal.returns-in-Ok-put-clause-limits
+returns-in-Ok-put-clause-limits g c = λ told.
+    let done = c.in-Ok-put.ensures in
+    put_limits c.args.i 2 c.in-Ok-generated.blob.items c.deref.result.now c.deref.ensures.value c.in-Ok-generated.ensures.laid
+    c.in-Ok-generated.ensures.again (state (g.D.Disk.files c.args.disk.now).pkg c.args.db.now.store) c.args.db.now c.put.new.self.store _ c.in-Ok.number
+    (c.args.b + c.args.i) c.in-Ok.ensures.value _ (record { failed = 0; changes = 1 }) done.causes done.placed done.generation
+
+pub returns-clause-limits : goal.returns-clause-limits
+returns-clause-limits g c = λ told.
+    rw c.halt_of.ensures
+    (put_refused c.args.i 2 c.in-Ok-generated.blob.items c.deref.result.now c.deref.ensures.value c.in-Ok-generated.ensures.laid
+    c.in-Ok-generated.ensures.again (state (g.D.Disk.files c.args.disk.now).pkg c.args.db.now.store) c.args.db.now c.put.new.self.store _ c.in-Ok.number
+    (c.args.b + c.args.i) c.in-Ok.ensures.value c.in-Err-put.fault c.in-Err-put.ensures.causes c.in-Err-put.ensures.placed)

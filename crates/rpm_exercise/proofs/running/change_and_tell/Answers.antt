@@ -4,6 +4,8 @@ use Rattle.rpm_outside.specs.Files.{Files}
 use Rattle.rpm_db.specs.State.{state}
 use Rattle.rpm_db.specs.inner.Running.{runs_then}
 use Rattle.rpm_db.specs.inner.Writes.{SameFiles, SameLog}
+use Rattle.rpm_exercise.specs.Rounds.{changes}
+use Rattle.rpm_exercise.proofs.Limited.{telling_limits}
 use Rattle.rpm_exercise.proofs.Told.{from_one_after, told_halted}
 use Rattle.rpm_exercise.proofs.running.change_and_tell.Goals as goal
 
@@ -28,3 +30,8 @@ returns-in-Err-tell-clause-runs g c =
     runs_then g.D.Disk.tells g.D.Disk.files g.D.Disk.left_since g.D.Disk.moment g.D.Disk.bytes_read g.D.Disk.follows g.met.D.Disk.follows_trans
     SameLog SameFiles SameLog c.args.disk.now c.change_all.new.disk c.tell.new.disk (λ x y log. log)
     (λ x y z log same. ap (λ (f : Files). f.log) same ∙ log) c.in-Ok.ensures.runs c.in-Err-tell.ensures.runs
+
+pub returns-in-Err-tell-clause-limits : goal.returns-in-Err-tell-clause-limits
+returns-in-Err-tell-clause-limits g c = λ told.
+    let s = state (g.D.Disk.files c.args.disk.now).pkg c.args.db.now.store in
+    telling_limits s c.args.db.now.store c.change_all.new.db.store (changes c.args.n s) c.in-Err-tell.halt c.in-Err-tell.ensures.kinds

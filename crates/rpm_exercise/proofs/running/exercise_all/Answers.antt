@@ -8,8 +8,10 @@ use Rattle.rpm_db.specs.State.{State, state}
 use Rattle.rpm_db.specs.inner.Running.{runs_none, runs_then}
 use Rattle.rpm_db.specs.inner.Writes.{SameLog}
 use Rattle.rpm_change.specs.Endings.{outputs, Ended, IndexTurn}
+use Rattle.rpm_change.specs.Limits.{LimitsTurn}
 use Rattle.rpm_exercise.specs.Exercised.{exercise}
 use Rattle.rpm_exercise.specs.Rounds.{changes}
+use Rattle.rpm_exercise.proofs.Limited.{reading_limits}
 use Rattle.rpm_exercise.proofs.Told.{state_remade}
 use Rattle.rpm_exercise.proofs.running.exercise_all.Goals as goal
 
@@ -62,3 +64,17 @@ returns-in-Err-clause-runs g c =
     runs_then g.D.Disk.tells g.D.Disk.files g.D.Disk.left_since g.D.Disk.moment g.D.Disk.bytes_read g.D.Disk.follows g.met.D.Disk.follows_trans
     Remade SameLog SameLog c.args.disk.now c.renew.new.disk c.renew.new.disk (λ x y made. made.log) (λ x y z made log. log ∙ made.log)
     c.in-Err.ensures.runs none
+
+pub returns-in-Ok-clause-limits : goal.returns-in-Ok-clause-limits
+returns-in-Ok-clause-limits g c = λ told.
+    let same = state_remade (g.D.Disk.files c.args.disk.now) (g.D.Disk.files c.renew.new.disk) c.args.db.now c.renew.new.db
+    (c.in-Ok.ensures.runs.reads_as told) c.in-Ok.ensures.store in
+    subst (λ (v : Store). LimitsTurn (state (g.D.Disk.files c.args.disk.now).pkg c.args.db.now.store) v c.change_and_tell.new.db.store
+    (changes c.args.n (state (g.D.Disk.files c.args.disk.now).pkg c.args.db.now.store)) c.change_and_tell.result) c.in-Ok.ensures.store
+    (subst (λ (s : State). LimitsTurn s c.renew.new.db.store c.change_and_tell.new.db.store (changes c.args.n s) c.change_and_tell.result) same
+    (c.change_and_tell.ensures.limits told))
+
+pub returns-in-Err-clause-limits : goal.returns-in-Err-clause-limits
+returns-in-Err-clause-limits g c = λ told.
+    let s = state (g.D.Disk.files c.args.disk.now).pkg c.args.db.now.store in
+    reading_limits s c.args.db.now.store c.renew.new.db.store (changes c.args.n s) c.in-Err.halt c.in-Err.ensures.kinds
