@@ -1,9 +1,9 @@
 -- The limits of one change, of a header that was generated.
-use Rattle.std.proofs.Common.{◌≡◌, ◌≢◌, ℕ, ◌+◌, List, [], ◌∷◌, Ok, Err, sym, ap, ◌∙◌, subst}
+use Rattle.std.proofs.Common.{◌≡◌, ℕ, ◌+◌, List, [], ◌∷◌, Ok, Err, sym, ap, ◌∙◌, subst}
 use Rattle.rpm_header.specs.Header.{Header, header}
 use Rattle.rpm_pkgdb.specs.Store.{Store}
 use Rattle.rpm_db.specs.declared.change.ChangeFault.{ChangeFault}
-use Rattle.rpm_db.specs.Changes.{Change, Add, Put, Erase, next}
+use Rattle.rpm_db.specs.Changes.{Add, Put, Erase, next}
 use Rattle.rpm_db.specs.Database.{Database, next_number}
 use Rattle.rpm_db.specs.Refusals.{AddIs, PutIs, EraseIs, EraseCause}
 use Rattle.rpm_db.specs.Room.{RoomIs, next_store}
