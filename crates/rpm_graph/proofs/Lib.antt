@@ -9,6 +9,7 @@ pub mod Gathering
 pub mod Joining
 pub mod Laws
 pub mod Marking
+pub mod Only
 pub mod Orderly
 pub mod Ordering
 pub mod Popping

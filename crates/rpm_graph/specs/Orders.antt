@@ -43,3 +43,7 @@ StandOnce g classes = (n : ℕ) → Contains g.numbers n → (k : ℕ) × Stands
 -- where an edge goes from n to m, the class of m stands before that of n, or both are one
 abbrev pub EdgesGoBack : Network → List (List ℕ) → Type 0
 EdgesGoBack g classes = (n m k j : ℕ) → HasEdge g n m → StandsAt classes n k → StandsAt classes m j → j ≤ k
+
+-- no other list is the order of the graph
+abbrev pub IsOnlyOrder : Network → List (List ℕ) → Type 0
+IsOnlyOrder g classes = (other : List (List ℕ)) → IsOrder g other → other ≡ classes

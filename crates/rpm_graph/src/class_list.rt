@@ -1,7 +1,7 @@
 //! The order of the classes: each behind those that its edges end in, and of those that may come next the one with the least number.
 
 ghost use Rattle.std.specs.Prelude.{◌≡◌, ℕ, ◌<◌, ◌≤◌, IfOk, length, slice_index_or, []};
-ghost use Rattle.rpm_graph.specs.Orders.{IsOrder, StandOnce, EdgesGoBack};
+ghost use Rattle.rpm_graph.specs.Orders.{IsOrder, IsOnlyOrder, StandOnce, EdgesGoBack};
 
 use crate::graph::Graph;
 use crate::grouping::{class_rows, least_numbers, members};
@@ -53,6 +53,7 @@ impl ClassList {
 /// of numbers and edges, with a logarithm for that set and for finding the numbers that edges join. `Err` where memory is refused.
 pub fn order(alloc: Global, graph: &Graph) -> Result<ClassList, AllocError>
     ensures order { IfOk result (IsOrder graph.now) }
+    ensures only { IfOk result (IsOnlyOrder graph.now) }
     ensures once { IfOk result (StandOnce graph.now) }
     ensures back { IfOk result (EdgesGoBack graph.now) }
 {

@@ -1,17 +1,93 @@
-//! A graph with the order that follows by hand.
-use crate::class_list::order;
+//! Graphs with the order that follows by hand.
+use crate::class_list::{ClassList, order};
 use crate::graph::Graph;
+use std::alloc::{AllocError, Global};
+
+// Three numbers, each with an edge to the next.
+fn chain(alloc: Global) -> Result<ClassList, AllocError> {
+    let mut graph = Graph::new(alloc);
+    graph.push_number(1)?;
+    graph.push_number(2)?;
+    graph.push_number(3)?;
+    graph.push_edge(1, 2)?;
+    graph.push_edge(2, 3)?;
+    order(alloc, &graph)
+}
+
+// Four numbers, of which the first has an edge to the last.
+fn mostly_free(alloc: Global) -> Result<ClassList, AllocError> {
+    let mut graph = Graph::new(alloc);
+    graph.push_number(1)?;
+    graph.push_number(2)?;
+    graph.push_number(3)?;
+    graph.push_number(4)?;
+    graph.push_edge(1, 4)?;
+    order(alloc, &graph)
+}
+
+// Two cycles that meet in 3.
+fn touching_cycles(alloc: Global) -> Result<ClassList, AllocError> {
+    let mut graph = Graph::new(alloc);
+    graph.push_number(1)?;
+    graph.push_number(3)?;
+    graph.push_number(5)?;
+    graph.push_edge(1, 3)?;
+    graph.push_edge(3, 1)?;
+    graph.push_edge(3, 5)?;
+    graph.push_edge(5, 3)?;
+    order(alloc, &graph)
+}
+
+// Two cycles without an edge between them, and a number between theirs.
+fn cycles_apart(alloc: Global) -> Result<ClassList, AllocError> {
+    let mut graph = Graph::new(alloc);
+    graph.push_number(1)?;
+    graph.push_number(2)?;
+    graph.push_number(3)?;
+    graph.push_number(4)?;
+    graph.push_number(5)?;
+    graph.push_edge(1, 5)?;
+    graph.push_edge(2, 4)?;
+    graph.push_edge(4, 2)?;
+    graph.push_edge(5, 1)?;
+    order(alloc, &graph)
+}
+
+// One cycle with an edge to another.
+fn cycle_behind_cycle(alloc: Global) -> Result<ClassList, AllocError> {
+    let mut graph = Graph::new(alloc);
+    graph.push_number(1)?;
+    graph.push_number(2)?;
+    graph.push_number(3)?;
+    graph.push_number(4)?;
+    graph.push_edge(1, 4)?;
+    graph.push_edge(2, 3)?;
+    graph.push_edge(3, 2)?;
+    graph.push_edge(4, 1)?;
+    graph.push_edge(4, 2)?;
+    order(alloc, &graph)
+}
+
+// Whether these are the classes of the list.
+fn is_list(list: &ClassList, classes: &[&[u32]]) -> bool {
+    if list.classes() != classes.len() {
+        return false;
+    }
+    for k in 0..list.classes() {
+        if list.class(k) != classes[k] {
+            return false;
+        }
+    }
+    true
+}
 
 #[test]
-fn a_class_stands_behind_where_its_edges_end(rt: HostRuntime) {
-    let mut graph = Graph::new(rt.alloc());
-    graph.push_number(1).expect(&rt, "memory");
-    graph.push_number(2).expect(&rt, "memory");
-    graph.push_number(3).expect(&rt, "memory");
-    graph.push_edge(1, 3).expect(&rt, "memory");
-    let list = order(rt.alloc(), &graph).expect(&rt, "memory");
-    assert!(&rt; list.classes() == 3);
-    assert!(&rt; list.class(0) == [2].as_slice());
-    assert!(&rt; list.class(1) == [3].as_slice());
-    assert!(&rt; list.class(2) == [1].as_slice());
+fn orders_are_those_by_hand(rt: HostRuntime) -> Result<(), AllocError> {
+    let chain = is_list(&chain(rt.alloc())?, &[&[3], &[2], &[1]]);
+    let free = is_list(&mostly_free(rt.alloc())?, &[&[2], &[3], &[4], &[1]]);
+    let touching = is_list(&touching_cycles(rt.alloc())?, &[&[1, 3, 5]]);
+    let apart = is_list(&cycles_apart(rt.alloc())?, &[&[1, 5], &[2, 4], &[3]]);
+    let behind = is_list(&cycle_behind_cycle(rt.alloc())?, &[&[2, 3], &[1, 4]]);
+    assert!(rt; chain && free && touching && apart && behind);
+    Ok(())
 }

@@ -8,6 +8,7 @@ use Rattle.rpm_graph.specs.Searches.{AreWithin, IsSplit, rows_of}
 use Rattle.rpm_graph.proofs.Bridge.{members_are_class}
 use Rattle.rpm_graph.proofs.Classing.{ends_fall}
 use Rattle.rpm_graph.proofs.Laws.{stand_once, edges_go_back}
+use Rattle.rpm_graph.proofs.Only.{only_order}
 use Rattle.rpm_graph.proofs.Ordering.{class_at, order_then}
 use Rattle.rpm_graph.proofs.class_list.order.Goals as goal
 
@@ -89,6 +90,7 @@ returns c =
     = order_then g net rows have classes count split members grouped ends sized ended leasts leasts_are order listing in
     record {
       order = found;
+      only = λ other is. only_order g (map (class_at members) order) other found is;
       once = stand_once g (map (class_at members) order) found;
       back = edges_go_back g (map (class_at members) order) found;
     }
