@@ -11,7 +11,7 @@ use Rattle.rpm_db.specs.State.{Package, Good, Bad}
 use Rattle.rpm_graph.specs.Networks.{edge}
 use Rattle.rpm_select.specs.Reach.{is_in}
 use Rattle.rpm_check.specs.Unmet.{meets}
-use Rattle.rpm_check.specs.Edges.{givers, is_edge, is_edge_between, is_good, good_numbers, edges_from}
+use Rattle.rpm_check.specs.Edges.{givers, is_edge, is_edge_between, is_good, good_numbers, edges_from, needs_of}
 use Rattle.rpm_check.specs.inner.Ends.{needs_at, is_end, is_good_at}
 use Rattle.rpm_select.specs.inner.Rising.{Rises, rises, same_members}
 use Rattle.rpm_check.proofs.Members.{in_filter, rises_filter}
@@ -51,6 +51,17 @@ no_edge n m None (Some p) bad = refl
 no_edge n m (Some (Good bytes)) p bad = absurd cc
 no_edge n m (Some Bad) None bad = refl
 no_edge n m (Some Bad) (Some p) bad = and_false (not (n == m))
+
+never : (needs : List Needed) → list_any (λ need. false) needs ≡ false
+never [] = refl
+never (need ∷ needs) = never needs
+
+no_end : (n m : ℕ) (o p : Option Package) → is_good_at p ≡ false → is_edge_between n o m p ≡ false
+no_end n m None None bad = refl
+no_end n m None (Some p) bad = refl
+no_end n m (Some o) None bad = refl
+no_end n m (Some o) (Some (Good bytes)) bad = absurd cc
+no_end n m (Some o) (Some Bad) bad = ap (λ (b : Bool). not (n == m) && b) (never (needs_of o)) ∙ and_false (not (n == m))
 
 good_at : (m : ℕ) (o : Option Package) → holds_at (λ e. is_good e.1) m o ≡ is_good_at o
 good_at m None = refl
@@ -107,9 +118,13 @@ module _ (all : finite.FinMap nat_cmp Package) where
       (rises_filter (is_end good n) ends (rises ends rising)) (rises_filter (is_edge all n) good goods_rise)
       (λ m. in_filter (is_end good n) m ends ∙ same_end n m ends (same m) ∙ sym (in_filter (is_edge all n) m good)))
 
-  edgeless : (n m : ℕ) → is_in n (good_numbers all) ≡ false → is_edge all n m ≡ false
+  pub edgeless : (n m : ℕ) → is_in n (good_numbers all) ≡ false → is_edge all n m ≡ false
   unfolding is_edge
   edgeless n m bad = no_edge n m (finite.get all n) (finite.get all m) (sym (good_in n) ∙ bad)
+
+  pub endless : (n m : ℕ) → is_in m (good_numbers all) ≡ false → is_edge all n m ≡ false
+  unfolding is_edge
+  endless n m bad = no_end n m (finite.get all n) (finite.get all m) (sym (good_in m) ∙ bad)
 
   -- none from a package that can't be read
   pub no_edges : (n : ℕ) (numbers : List ℕ) → numbers ≡ good_numbers all → is_in n numbers ≡ false → edges_from all n ≡ []

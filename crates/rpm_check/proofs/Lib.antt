@@ -1,4 +1,5 @@
 pub mod Above
+pub mod Between
 pub mod Ending
 pub mod Faulting
 pub mod Gaining

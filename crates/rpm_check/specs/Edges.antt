@@ -1,5 +1,5 @@
 -- Which packages require which.
-use Rattle.std.specs.Prelude.{ℕ, List, [], map, filter, Bool, true, false, not, ◌&&◌, ◌==◌, Option, Some, None, Result, Ok, Err}
+use Rattle.std.specs.Prelude.{◌≡◌, ◌↔◌, ℕ, List, [], map, filter, Bool, true, false, not, ◌&&◌, ◌==◌, Option, Some, None, Result, Ok, Err}
 use Rattle.std.specs.List.{list_any, flat_map}
 use Rattle.std.specs.Ordering.{nat_cmp}
 use Rattle.std.specs.FinMap.{FinMap, entries, get}
@@ -8,7 +8,7 @@ use Rattle.rpm_header.specs.Header.{Header, header}
 use Rattle.rpm_tags.specs.Wanted.{Needed}
 use Rattle.rpm_db.specs.State.{Package, Good, Bad}
 use Rattle.rpm_graph.specs.declared.graph.Edge.{Edge}
-use Rattle.rpm_graph.specs.Networks.{Network, edge}
+use Rattle.rpm_graph.specs.Networks.{Network, HasEdge, edge}
 use Rattle.rpm_check.specs.Unmet.{required, meets}
 
 -- the numbers of the packages that meet a requirement, rising
@@ -54,3 +54,7 @@ all_edges packages = flat_map (λ e. edges_from packages e.0) (entries packages)
 
 abbrev pub graph_of : FinMap nat_cmp Package → Network
 graph_of packages = record { numbers = good_numbers packages; edges = all_edges packages }
+
+-- the graph has an edge from n to m exactly where n requires what m gives
+abbrev pub HasEdgesOf : FinMap nat_cmp Package → Network → Type 0
+HasEdgesOf packages g = (n m : ℕ) → HasEdge g n m ↔ (is_edge packages n m ≡ true)

@@ -136,7 +136,8 @@ fn push_ends_of<D: Disk>(
     ensures kept { IsTrue D.tells → Keeps (D.files disk.new).pkg db.now }
     ensures kept_index { IsTrue D.tells → KeepsIndex (D.files disk.new).idx db.now }
     ensures told { OnOk result (IsTrue D.tells → HasIndexRows db.now (D.files disk.old).pkg (D.files disk.old).idx → ends.new.items
-        ≡ ends.old.items ++ flat_map (givers (packages (D.files disk.old).pkg db.now.store)) (needs_at (finite.get (packages (D.files disk.old).pkg db.now.store) number))) }
+        ≡ ends.old.items ++ flat_map (givers (packages (D.files disk.old).pkg db.now.store))
+        (needs_at (finite.get (packages (D.files disk.old).pkg db.now.store) number))) }
     ensures remembered { IsTrue D.tells → HasIndexRows db.now (D.files disk.old).pkg (D.files disk.old).idx
         → RemembersGivers (givers (packages (D.files disk.old).pkg db.now.store)) memo.new }
     ensures broken { IsTrue D.tells → IfErr result (IsBroken (D.files disk.old).idx) }
@@ -184,7 +185,8 @@ pub fn ends_of<D: Disk>(
     ensures kept_index { IsTrue D.tells → KeepsIndex (D.files disk.new).idx db.now }
     ensures rising { IfOk result (λ ends. IsStrictlyIncreasing ends.items) }
     ensures told { IfOk result (λ ends. IsTrue D.tells → HasIndexRows db.now (D.files disk.old).pkg (D.files disk.old).idx → (m : ℕ)
-        → is_in m ends.items ≡ is_in m (flat_map (givers (packages (D.files disk.old).pkg db.now.store)) (needs_at (finite.get (packages (D.files disk.old).pkg db.now.store) number)))) }
+        → is_in m ends.items ≡ is_in m (flat_map (givers (packages (D.files disk.old).pkg db.now.store))
+        (needs_at (finite.get (packages (D.files disk.old).pkg db.now.store) number)))) }
     ensures remembered { IsTrue D.tells → HasIndexRows db.now (D.files disk.old).pkg (D.files disk.old).idx
         → RemembersGivers (givers (packages (D.files disk.old).pkg db.now.store)) memo.new }
     ensures broken { IsTrue D.tells → IfErr result (IsBroken (D.files disk.old).idx) }

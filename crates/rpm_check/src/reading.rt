@@ -7,7 +7,7 @@ ghost use Rattle.rpm_db.specs.Database.{Keeps, KeepsIndex, holds};
 ghost use Rattle.rpm_db.specs.State.{packages};
 ghost use Rattle.rpm_select.specs.Reach.{HasIndexRows};
 ghost use Rattle.rpm_check.specs.Answers.{Glances, IsBroken, is_broken};
-ghost use Rattle.rpm_check.specs.Edges.{good_numbers, graph_of};
+ghost use Rattle.rpm_check.specs.Edges.{HasEdgesOf, good_numbers, graph_of};
 ghost use Rattle.rpm_check.specs.inner.Ends.{good_if, is_good_at};
 
 use crate::edges::push_all_edges;
@@ -137,6 +137,8 @@ pub fn read_graph<D: Disk>(alloc: Global, db: &Db, disk: &mut D) -> Result<Graph
     ensures kept_index { IsTrue D.tells → KeepsIndex (D.files disk.new).idx db.now }
     ensures told { IfOk result (λ g. IsTrue D.tells → HasIndexRows db.now (D.files disk.old).pkg (D.files disk.old).idx
         → g ≡ graph_of (packages (D.files disk.old).pkg db.now.store)) }
+    ensures edges { IfOk result (λ g. IsTrue D.tells → HasIndexRows db.now (D.files disk.old).pkg (D.files disk.old).idx
+        → HasEdgesOf (packages (D.files disk.old).pkg db.now.store) g) }
     ensures broken { IsTrue D.tells → IfErr result (IsBroken (D.files disk.old).idx) }
     ensures lawful { IsTrue D.tells → HasIndexRows db.now (D.files disk.old).pkg (D.files disk.old).idx → is_broken result ≡ false }
     ensures looks { Glances D.tells D.files D.left_since D.moment D.bytes_read D.follows disk.old disk.new }

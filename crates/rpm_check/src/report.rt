@@ -38,7 +38,8 @@ fn push_unmet<D: Disk>(
     ensures kept { IsTrue D.tells → Keeps (D.files disk.new).pkg db.now }
     ensures kept_index { IsTrue D.tells → KeepsIndex (D.files disk.new).idx db.now }
     ensures told { OnOk result (IsTrue D.tells → HasIndexRows db.now (D.files disk.old).pkg (D.files disk.old).idx → found.new.items
-        ≡ found.old.items ++ unmet_at (lacks (packages (D.files disk.old).pkg db.now.store)) number (finite.get (packages (D.files disk.old).pkg db.now.store) number)) }
+        ≡ found.old.items ++ unmet_at (lacks (packages (D.files disk.old).pkg db.now.store)) number
+        (finite.get (packages (D.files disk.old).pkg db.now.store) number)) }
     ensures remembered { IsTrue D.tells → HasIndexRows db.now (D.files disk.old).pkg (D.files disk.old).idx
         → Remembers (is_met (packages (D.files disk.old).pkg db.now.store)) memo.new }
     ensures broken { IsTrue D.tells → IfErr result (IsBroken (D.files disk.old).idx) }

@@ -22,7 +22,8 @@ invariant-loop-next g l = record {
   reached : All (BeginsUpTo l.passed) l.graph.edges;
   told : IsTrue g.D.Disk.tells → HasIndexRows l.db (g.D.Disk.files l.initial.disk).pkg (g.D.Disk.files l.initial.disk).idx
       → l.initial.graph.numbers ≡ good_numbers (packages (g.D.Disk.files l.initial.disk).pkg l.db.store)
-      → l.graph.edges ++ turns_above (packages (g.D.Disk.files l.initial.disk).pkg l.db.store) (λ e. edges_from (packages (g.D.Disk.files l.initial.disk).pkg l.db.store) e.0) l.passed
+      → l.graph.edges ++ turns_above (packages (g.D.Disk.files l.initial.disk).pkg l.db.store)
+      (λ e. edges_from (packages (g.D.Disk.files l.initial.disk).pkg l.db.store) e.0) l.passed
       ≡ all_edges (packages (g.D.Disk.files l.initial.disk).pkg l.db.store);
 }
 

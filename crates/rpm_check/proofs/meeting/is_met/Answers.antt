@@ -13,7 +13,8 @@ under (Err fault) A B x y same is = tt
 pub returns-clause-told : goal.returns-clause-told
 returns-clause-told g c =
     let wanted = c.of_range-wanted in
-    let stands : StandsFor wanted.result (needed_in c.args.needed.now) = record { name = wanted.ensures.name; plain = wanted.ensures.plain; same = wanted.ensures.same } in
+    let stands : StandsFor wanted.result (needed_in c.args.needed.now)
+    = record { name = wanted.ensures.name; plain = wanted.ensures.plain; same = wanted.ensures.same } in
     under c.picks_any.result _ _ _ _
     (met_is wanted.result (needed_in c.args.needed.now) stands (packages (g.D.Disk.files c.args.disk.now).pkg c.args.db.now.store))
     c.picks_any.ensures.told

@@ -5,4 +5,5 @@ use Rattle.rpm_check.proofs.giver_memo.GiverMemo.put.Goals as goal
 
 pub returns : goal.returns
 returns c = λ of remembers is.
-    known_more (λ (numbers : Vec ℕ Global). numbers.items) of c.args.self.now.numbers c.insert.new.self c.args.key c.args.numbers c.in_ok-insert.ensures.updates is remembers
+    known_more (λ (numbers : Vec ℕ Global). numbers.items) of c.args.self.now.numbers c.insert.new.self c.args.key c.args.numbers
+    c.in_ok-insert.ensures.updates is remembers
