@@ -1,13 +1,9 @@
-use Rattle.std.proofs.Common.{◌≡◌, ℕ, ◌+◌, ◌-◌, ◌++◌, ◌∷◌, [], ◌<◌, ◌≤◌, List, length, get_or, set, map, sym, ap, subst, ◌∙◌, arith}
-use Rattle.std.proofs.lemmas.List.{length-map, get_or_default, length_push}
-use Rattle.rpm_graph.specs.declared.search.Link.{Link}
-use Rattle.rpm_graph.specs.declared.search.Search.{Search}
-use Rattle.rpm_graph.specs.Searches.{IsSearch, IsLast, IsCut, Searches, Goes, NoneWaits, rows_of, link, work, work_left}
-use Rattle.rpm_graph.proofs.Entering.{entered, entered_work}
-use Rattle.rpm_graph.proofs.Joining.{joined}
+use Rattle.std.proofs.Common.{◌≡◌, ◌+◌, [], ◌<◌, ◌≤◌, length, get_or, sym, subst, ◌∙◌, arith}
+use Rattle.std.proofs.lemmas.List.{length-map, get_or_default}
+use Rattle.rpm_graph.specs.Searches.{NoneWaits, rows_of}
 use Rattle.rpm_graph.proofs.Closing.{closed_then, closed_work, closed_keeps}
-use Rattle.rpm_graph.proofs.Steps.{row_read, set_keeps, from_open, goes, path_leads, roots_below, none_waits, last_root}
-use Rattle.rpm_graph.proofs.Fronts.{front-push}
+use Rattle.rpm_graph.proofs.Steps.{row_read, set_keeps, none_waits, last_root}
+use Rattle.rpm_graph.proofs.Taken.{there, search_entered, work_entered, search_joined}
 use Rattle.rpm_graph.proofs.search.Search.step.Goals as goal
 
 pub close-requires-clause-rooted : goal.close-requires-clause-rooted
@@ -35,41 +31,6 @@ returns-in-None-clause-smaller c =
     rw (e.roots, e.pending, h.none.1) (closed_work (rows_of c.args.rows.now) s.ranks.items s.path.items s.roots.items s.pending.items
     s.closed c.requires.searched c.requires.within c.args.root c.requires.last done c.close.new.self.ranks.items e.ranks
     (λ v. length (get_or (rows_of c.args.rows.now) v []) + 2))
-
--- what is known of the edge that was taken, by the ranks as the call was lent them
-module _ (rows : List (List ℕ)) (s : Search) (searched : Searches rows s) (root : ℕ) (is_last : IsLast s.roots.items root) (lent : List ℕ)
-    (same : lent ≡ s.ranks.items) (kept : List Link) (l : Link) (taken : (s.pending.items ≡ kept ++ l ∷ []) × (root < get_or lent l.from 0)) where
-  over : root < get_or s.ranks.items l.from 0
-  over = subst (λ r. root < get_or r l.from 0) same taken.1
-
-  there : Goes rows l.from l.to
-  there = goes rows s.ranks.items s.path.items s.roots.items s.pending.items s.closed searched root is_last kept l.from l.to taken.0 over
-
-  fewer : length kept < length s.pending.items
-  fewer = omega (arith, ap length taken.0, length_push kept l)
-
-  -- the search with the place that it ends at
-  search_entered : l.to < length rows → get_or s.ranks.items l.to 0 ≡ 0 → IsSearch rows (set s.ranks.items l.to (length s.path.items + 1))
-      (s.path.items ++ l.to ∷ []) (s.roots.items ++ length s.path.items ∷ []) (kept ++ map (λ to. link l.to to) (get_or rows l.to [])) s.closed
-  search_entered lt new = entered rows s.ranks.items s.path.items s.roots.items s.pending.items kept s.closed searched l.to lt new
-      (front-push s.pending.items kept l taken.0)
-      (path_leads rows s.ranks.items s.path.items s.roots.items s.pending.items s.closed searched root is_last kept l.from l.to taken.0 over)
-
-  work_entered : l.to < length rows → get_or s.ranks.items l.to 0 ≡ 0
-      → work_left rows (set s.ranks.items l.to (length s.path.items + 1)) (s.roots.items ++ length s.path.items ∷ [])
-      (kept ++ map (λ to. link l.to to) (get_or rows l.to [])) < work rows s
-  work_entered lt new = entered_work rows s.ranks.items s.path.items s.roots.items s.pending.items kept s.closed searched l.to lt new
-      (front-push s.pending.items kept l taken.0)
-      (path_leads rows s.ranks.items s.path.items s.roots.items s.pending.items s.closed searched root is_last kept l.from l.to taken.0 over) fewer
-
-  -- the search with fewer levels
-  search_joined : l.to < length rows → 1 ≤ get_or s.ranks.items l.to 0 → (roots : List ℕ) → IsCut s.roots.items (get_or s.ranks.items l.to 0) roots
-      → (0 < length roots → get_or roots (length roots - 1) 0 < get_or s.ranks.items l.to 0)
-      → IsSearch rows s.ranks.items s.path.items roots kept s.closed
-  search_joined lt some roots cut last = joined rows s.ranks.items s.path.items s.roots.items s.pending.items kept s.closed searched l.from l.to
-      (from_open rows s.ranks.items s.path.items s.roots.items s.pending.items s.closed searched root is_last kept l.from l.to taken.0 over) there lt some
-      (roots_below rows s.ranks.items s.path.items s.roots.items s.pending.items s.closed searched root is_last kept l.from l.to taken.0 over)
-      (front-push s.pending.items kept l taken.0) roots cut last
 
 pub index-rank-requires : goal.index-rank-requires
 index-rank-requires c =
