@@ -1,3 +1,4 @@
+pub mod Alike
 pub mod AllOwned
 pub mod AllTold
 pub mod Folding

@@ -1,2 +1,3 @@
 -- What the code gathers on its way.
+pub mod Alike
 pub mod Gathered

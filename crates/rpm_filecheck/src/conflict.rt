@@ -1,7 +1,9 @@
 //! Two packages that conflict on a path.
 
 ghost use Rattle.std.specs.Prelude.{◌≡◌, ◌∷◌, ◌++◌, [], OnOk, drop};
+ghost use Rattle.std.specs.List.{list_all};
 ghost use Rattle.rpm_filecheck.specs.Owners.{conflict, conflicts_with, conflicts_on};
+ghost use Rattle.rpm_filecheck.specs.inner.Alike.{is_alike};
 
 use crate::columns::copy;
 use crate::owner::{Owner, Owners};
@@ -115,7 +117,24 @@ fn push_with(
     Ok(())
 }
 
-/// Adds the conflicts of each owner with those behind it.
+/// Whether two owners say the same of a path.
+fn is_alike(a: &Owner, b: &Owner) -> bool
+    ensures { result ≡ is_alike a.now b.now }
+{
+    a.mode == b.mode
+        && a.digest.as_slice() == b.digest.as_slice()
+        && a.link.as_slice() == b.link.as_slice()
+}
+
+/// Whether each of these says the same of a path as the first.
+fn are_alike(first: &Owner, others: &[Owner]) -> bool
+    ensures { result ≡ list_all (is_alike first.now) others.now }
+{
+    others.iter().all(|b| is_alike(first, b))
+}
+
+/// Adds the conflicts of each owner with those behind it. Where all say the same, as of a folder that many packages own, each is compared
+/// with the first alone.
 fn push_all(
     alloc: Global,
     conflicts: &mut Vec<Conflict>,
@@ -125,6 +144,9 @@ fn push_all(
 ) -> Result<(), AllocError>
     ensures { OnOk result (conflicts.new.items ≡ conflicts.old.items ++ conflicts_on path.now (first.now ∷ others.now)) }
 {
+    if are_alike(first, others) {
+        return Ok(());
+    }
     push_with(alloc, conflicts, path, first, others)?;
     for i in 0..others.len() {
         push_with(alloc, conflicts, path, &others[i], &others[i + 1..])?;

@@ -15,7 +15,11 @@ const TEXTS: u32 = 8;
 // An entry of a header: its tag, its type, how many elements it has, and these.
 type Element<'a> = (u32, u32, u32, &'a [u8]);
 
-fn push_part(index: &mut Vec<u8>, data: &mut Vec<u8>, part: &Element<'_>) -> Result<(), AllocError> {
+fn push_part(
+    index: &mut Vec<u8>,
+    data: &mut Vec<u8>,
+    part: &Element<'_>,
+) -> Result<(), AllocError> {
     let (tag, kind, count, elements) = part;
     for _ in 0..3 {
         if *kind != TEXT && *kind != TEXTS && data.len() % 4 != 0 {

@@ -1,0 +1,8 @@
+-- Owners that say the same of a path.
+use Rattle.std.specs.Prelude.{Bool, ◌&&◌, ◌==◌}
+use Rattle.std.specs.Str.{bytes_eq}
+use Rattle.rpm_filecheck.specs.Owners.{Owner}
+
+-- mode, digest and link are the same
+abbrev pub is_alike : Owner → Owner → Bool
+is_alike a b = (a.facts.mode == b.facts.mode) && (bytes_eq a.facts.digest b.facts.digest && bytes_eq a.facts.link b.facts.link)
