@@ -1,6 +1,6 @@
 -- Edges that are added to a graph.
 use Rattle.std.proofs.Common.{◌≡◌, ℕ, ◌<◌, ◌≤◌, ◌+◌, ◌==◌, List, [], ◌∷◌, ◌++◌, map, length, get_or, drop, add-one, drop-cons, Bool, true, false, not, Result, Ok, Err, refl, sym, ap, ◌∙◌, subst, inl, inr, arith, append_assoc, append-nil}
-use Rattle.std.specs.Prelude.{◌&&◌, filter, is_ok, OnOk, OnErr}
+use Rattle.std.specs.Prelude.{filter, is_ok, OnOk, OnErr}
 use Rattle.std.specs.List.{All}
 use Rattle.std.specs.List.Sorted.{IsBinarySearchResult}
 use Rattle.std.specs.Ordering.{nat_cmp}

@@ -1,13 +1,10 @@
 -- Whether a selection picks a package.
-use Rattle.std.proofs.Common.{◌≡◌, ℕ, List, [], ◌∷◌, Bool, false, cond, ◌||◌, Option, Some, None, is_some, Ok, refl, sym, ap, ◌∙◌, nat_lt, inl, inr}
+use Rattle.std.proofs.Common.{◌≡◌, ℕ, List, [], ◌∷◌, Bool, cond, ◌||◌, Option, Some, None, is_some, Ok, refl, sym, ap, inl, inr}
 use Rattle.std.specs.List.{filter, list_any}
-use Rattle.std.specs.FinMap as finite
 use Rattle.std.proofs.lemmas.Bool.{cases_Bool}
-use Rattle.rpm_db.specs.State.{Package, packages, above}
+use Rattle.rpm_db.specs.State.{Package}
 use Rattle.rpm_select.specs.declared.picker.Picked.{Picked}
-use Rattle.rpm_select.specs.declared.selection.Selection.{Selection}
 use Rattle.rpm_select.specs.Picks.{NextIs}
-use Rattle.rpm_select.specs.Selections.{is_picked, picks}
 use Rattle.rpm_check.specs.inner.Picking.{is_some_of}
 
 -- the first above a number is there where there is one

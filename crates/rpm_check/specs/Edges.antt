@@ -1,5 +1,5 @@
 -- Which packages require which.
-use Rattle.std.specs.Prelude.{◌≡◌, ◌↔◌, ℕ, List, [], map, filter, Bool, true, false, not, ◌&&◌, ◌==◌, Option, Some, None, Result, Ok, Err}
+use Rattle.std.specs.Prelude.{◌≡◌, ◌↔◌, ℕ, List, [], map, filter, Bool, true, false, not, ◌&&◌, ◌==◌, Option, Some, Result, Ok, Err}
 use Rattle.std.specs.List.{list_any, flat_map}
 use Rattle.std.specs.Ordering.{nat_cmp}
 use Rattle.std.specs.FinMap.{FinMap, entries, get}

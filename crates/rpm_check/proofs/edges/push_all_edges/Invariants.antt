@@ -5,7 +5,7 @@ use Rattle.rpm_db.specs.State.{packages}
 use Rattle.rpm_select.specs.Reach.{HasIndexRows}
 use Rattle.rpm_check.specs.Answers.{Glances}
 use Rattle.rpm_check.specs.Edges.{givers, good_numbers, edges_from, all_edges}
-use Rattle.rpm_check.specs.inner.Ends.{BeginsBelow, BeginsUpTo}
+use Rattle.rpm_check.specs.inner.Ends.{BeginsUpTo}
 use Rattle.rpm_check.specs.inner.GiverMemos.{RemembersGivers}
 use Rattle.rpm_check.proofs.Turning.{turns_above}
 use Rattle.rpm_check.proofs.edges.push_all_edges.Given as goal

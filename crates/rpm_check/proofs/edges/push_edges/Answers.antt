@@ -3,7 +3,6 @@ use Rattle.std.specs.Prelude.{All, filter}
 use Rattle.std.proofs.lemmas.List.{drop_all}
 use Rattle.std.proofs.lemmas.List.Elements.{All-same, All-weaker}
 use Rattle.rpm_graph.specs.Networks.{edge}
-use Rattle.rpm_graph.specs.declared.graph.Edge.{Edge}
 use Rattle.rpm_select.specs.Reach.{is_in}
 use Rattle.rpm_check.specs.inner.Ends.{BeginsBelow, BeginsUpTo, is_end}
 use Rattle.rpm_check.proofs.Joining.{IsBehind, behind_all, behind_first, behind_more, low_more, told_more, next_drop}

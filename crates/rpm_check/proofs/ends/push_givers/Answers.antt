@@ -1,11 +1,11 @@
-use Rattle.std.proofs.Common.{◌≡◌, ℕ, ◌++◌, List, Ok, Err, refl, sym, ap, ◌∙◌, subst, arith}
-use Rattle.std.specs.Prelude.{Result, OnOk, OnErr, IfErr, Bool, false}
+use Rattle.std.proofs.Common.{◌≡◌, ℕ, ◌++◌, List, Ok, Err, refl, ap, ◌∙◌, subst, arith}
+use Rattle.std.specs.Prelude.{Result, OnOk, OnErr, IfErr, false}
 use Rattle.rpm_outside.specs.Causes.{HasCauseAt}
 use Rattle.rpm_outside.specs.Files.{Units}
 use Rattle.rpm_db.specs.State.{packages}
 use Rattle.rpm_check.specs.declared.faults.CheckFault.{CheckFault}
 use Rattle.rpm_check.specs.declared.faults.CheckFault.TheVariants.{DiskFault, NoMemory}
-use Rattle.rpm_check.specs.Answers.{IsBroken, is_broken, is_of_index}
+use Rattle.rpm_check.specs.Answers.{IsBroken, is_broken}
 use Rattle.rpm_check.specs.Edges.{givers}
 use Rattle.rpm_check.proofs.ends.push_givers.Goals as goal
 

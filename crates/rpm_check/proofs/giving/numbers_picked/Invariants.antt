@@ -2,7 +2,7 @@ use Rattle.std.proofs.Common.{◌≡◌, ◌-◌, ◌^◌, ◌≤◌, ◌++◌}
 use Rattle.std.specs.Prelude.{IsTrue}
 use Rattle.rpm_db.specs.Database.{Keeps, KeepsIndex}
 use Rattle.rpm_db.specs.State.{packages}
-use Rattle.rpm_select.specs.Reach.{HasIndexRows, Serves}
+use Rattle.rpm_select.specs.Reach.{Serves}
 use Rattle.rpm_check.specs.Answers.{Glances}
 use Rattle.rpm_check.proofs.Above.{numbers_above}
 use Rattle.rpm_check.proofs.giving.numbers_picked.Given as goal

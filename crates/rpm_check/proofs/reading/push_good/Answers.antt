@@ -1,4 +1,4 @@
-use Rattle.std.proofs.Common.{◌<◌, ◌≤◌, ℕ, List, ◌++◌, Bool, ap, ◌∙◌, arith}
+use Rattle.std.proofs.Common.{◌<◌, ◌≤◌, ℕ, ◌++◌, Bool, ap, ◌∙◌, arith}
 use Rattle.std.proofs.lemmas.List.Elements.{All-weaker}
 use Rattle.rpm_check.specs.inner.Ends.{good_if}
 use Rattle.rpm_check.proofs.reading.push_good.Goals as goal
