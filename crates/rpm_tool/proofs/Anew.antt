@@ -1,5 +1,5 @@
 -- A command that makes the index anew, from the opening to its last change.
-use Rattle.std.proofs.Common.{◌≡◌, true, List, Result, Ok, Err, refl, sym, subst, inl, inr}
+use Rattle.std.proofs.Common.{◌≡◌, ◌≤◌, true, List, Result, Ok, Err, refl, sym, subst, inl, inr}
 use Rattle.rpm_outside.specs.Files.{Files}
 use Rattle.rpm_hindex.specs.Sizes.{units_for}
 use Rattle.rpm_pkgdb.specs.declared.slot.Damage.{Damage}
@@ -51,17 +51,19 @@ module _ (course : State → Course) (old mid new : Files) (db last : Database) 
     went = halted_by course old mid new db last before now (store old.pkg) h t opens ended;
     full = λ _. if_ok (store old.pkg) (λ s is. rebuilt_full (state old.pkg s) (course (state old.pkg s)).changes h
         (subst (λ (x : State). RebuildTurn x (course x).changes (Err h)) (same opens s is) turn));
+    made = tt;
     index = λ _. tt;
   }
 
   pub done_anew : (tally : Tally) → OpensBy old (store old.pkg) mid (Ok db) → store new.pkg ≡ Ok (in_file last.store)
       → Done (course found) found (state new.pkg last.store) tally before now → RebuildTurn found (course found).changes (Ok tally)
-      → IsIndexed new.pkg new.idx last → WorkedWith true course old new (Ok tally) before now
-  done_anew tally opens keeps done turn indexed = record {
+      → 1 ≤ last.store.pages → IsIndexed new.pkg new.idx last → WorkedWith true course old new (Ok tally) before now
+  done_anew tally opens keeps done turn paged indexed = record {
     went = done_by course old mid new db last before now (store old.pkg) tally opens keeps done;
     full = λ _. if_ok (store old.pkg) (λ s is.
         (let room = subst (λ (x : State). RebuildTurn x (course x).changes (Ok tally)) (same opens s is) turn in
         full_done true _ (state old.pkg s) (course (state old.pkg s)).changes tally.failed (λ _. room.0) room.1));
+    made = record { value = in_file last.store; undamaged = keeps; paged = paged };
     index = λ _. record {
       value = in_file last.store;
       undamaged = keeps;

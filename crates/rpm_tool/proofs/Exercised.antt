@@ -80,6 +80,7 @@ module _ (n : ℕ) (old mid new : Files) (db last : Database) (before now : Outp
   stopped_exercise (NotEmpty held) t refused ended turn nothing = record {
     went = unbegun (store old.pkg) held opens (nothing held refl);
     full = λ _. if_ok (store old.pkg) (λ s is. tt);
+    made = tt;
     index = λ _. tt;
   }
   stopped_exercise (Halted h) t refused ended turn nothing =
@@ -88,10 +89,10 @@ module _ (n : ℕ) (old mid new : Files) (db last : Database) (before now : Outp
 
   pub done_exercise : (tally : Tally) → IsNext (λ m. holds m db) 0 None → store new.pkg ≡ Ok (in_file last.store)
       → Done (exercise n found) found (state new.pkg last.store) tally before now → IndexTurn found (exercise n found).changes (Ok tally)
-      → IsIndexed new.pkg new.idx last → WorkedWith true (λ s. exercise n s) old new (Ok tally) before now
-  done_exercise tally none keeps done turn indexed =
+      → 1 ≤ last.store.pages → IsIndexed new.pkg new.idx last → WorkedWith true (λ s. exercise n s) old new (Ok tally) before now
+  done_exercise tally none keeps done turn paged indexed =
       done_anew (λ s. exercise n s) old mid new db last before now tally opens keeps done
-      (renewed found (exercise n found).changes (Ok tally) (room_of_none mid.pkg db zero none) turn) indexed
+      (renewed found (exercise n found).changes (Ok tally) (room_of_none mid.pkg db zero none) turn) paged indexed
 
 -- ---- whether there were packages
 

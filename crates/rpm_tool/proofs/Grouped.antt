@@ -19,7 +19,7 @@ use Rattle.rpm_change.specs.Steps.{Course}
 use Rattle.rpm_change.specs.Endings.{Outputs}
 use Rattle.rpm_tool.specs.declared.answer.Why.{Why}
 use Rattle.rpm_tool.specs.Keyed.{IsLawfulGroup, AreLawfulGroups, StandsStill, is_done}
-use Rattle.rpm_tool.specs.Changing.{DidOpened, DidLoaded, DidOn, HasState, HasCurrent, IsSealed, StandsStillOr, LeavesState, FullBy, ChangesWith, MayBegin, after, is_of_lawful, is_done_or_fault}
+use Rattle.rpm_tool.specs.Changing.{DidOpened, DidLoaded, DidOn, HasState, HasCurrent, IsMade, IsSealed, StandsStillOr, LeavesState, FullBy, ChangesWith, MayBegin, after, is_of_lawful, is_done_or_fault}
 use Rattle.rpm_tool.specs.Working.{WorkedWith, WorkedOn, WorkedBy, EndsGroup, GroupLeaves}
 use Rattle.rpm_tool.proofs.Ended.{did_opened, done_ok, counted_ended, full_ended, leaves_ended, same_state, worked_state}
 use Rattle.rpm_tool.proofs.Leavings.{leaves_after, lawful_ending}
@@ -116,6 +116,11 @@ module _ {D : Type 0} {anew : Bool} (files : D → Files) (left_since : D → �
           indexed = subst (λ (f : Files). HasCurrent f.pkg f.idx) (sym end.same) (lawful_new (may_begin anew (λ group. group.lawful) may) ok.0 ok.1);
         }
 
+    group_made : is_done given ≡ true → IsMade (reopened (files final)).pkg
+    group_made is =
+        let ok = done_ok course r.pkg (store r.pkg) new ended given n before now worked.went ends.says is in
+        subst (λ (f : Files). IsMade f.pkg) (sym (final_is is)) (if_ok_at _ ended ok.0 ok.1 worked.made)
+
     full_at : MayBegin anew (IsLawfulGroup (files first)) → FullBy anew course r given
     full_at may = if_ok (store r.pkg) (λ s is. full_ended _ _ (s0 s) (course (s0 s)).changes ended given n ends.says
         (if_ok_at _ (store r.pkg) s is (worked.full (may_begin anew (λ group. group.lawful) may))))
@@ -181,6 +186,7 @@ module _ {D : Type 0} {anew : Bool} (files : D → Files) (left_since : D → �
       counted = counted_ended ended given n ends.says;
       leaves = if_ok (store r.pkg) leaves_at;
       refused = λ no. final_stays (ends.stays no);
+      made = group_made;
       index = group_sealed;
       full = full_at;
       complete = group_complete;

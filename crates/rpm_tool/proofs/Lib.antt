@@ -34,6 +34,7 @@ mod Nexts
 mod Numbered
 mod Numbering
 mod Opening
+mod Paged
 mod Outcomes
 mod Peeking
 mod Printed

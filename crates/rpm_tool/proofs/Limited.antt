@@ -1,7 +1,7 @@
 -- The limits of a command that changes packages, from the opening to its end.
 use Rattle.std.proofs.Common.{◌≡◌, ℕ, ◌==◌, if◌then◌else◌, Bool, true, false, List, Result, Ok, Err, refl, sym, ap, subst, inl, inr}
 use Rattle.std.specs.Prelude.{IsSome, IfOk}
-use Rattle.rpm_outside.specs.Files.{Units, Files}
+use Rattle.rpm_outside.specs.Files.{Files}
 use Rattle.rpm_group.specs.declared.load.LoadFault.{LoadFault}
 use Rattle.rpm_group.specs.declared.load.LoadFault.TheVariants as load
 use Rattle.rpm_group.specs.declared.recovery.RecoverFault.{RecoverFault}
@@ -19,12 +19,15 @@ use Rattle.rpm_change.specs.declared.tally.Tally.{Tally}
 use Rattle.rpm_change.specs.Limits.{SpentTurn, StoreTurn, next_stores}
 use Rattle.rpm_change.specs.Numbers.{AllHaveNumbers, NumbersTurn}
 use Rattle.rpm_change.specs.Steps.{Course}
+use Rattle.rpm_exercise.specs.declared.running.ExerciseFault.{ExerciseFault}
+use Rattle.rpm_exercise.specs.declared.running.ExerciseFault.TheVariants.{NotEmpty, Halted}
+use Rattle.rpm_exercise.specs.Endings.{OnceBegun}
 use Rattle.rpm_tool.specs.declared.answer.Why.{Why}
 use Rattle.rpm_tool.specs.declared.answer.Why.TheVariants as why
 use Rattle.rpm_tool.specs.Answers.{why_of_load}
 use Rattle.rpm_tool.specs.Keyed.{why_of_recover}
-use Rattle.rpm_tool.specs.Limits.{begun, AreUnspent, LimitsAre, LimitsOn, LimitsBy}
-use Rattle.rpm_tool.specs.Working.{OpensIn, OpensBy, EndsAs, IsUncommitted, done_why, why_of, why_of_halt}
+use Rattle.rpm_tool.specs.Limits.{begun, AreUnspent, LimitsAre, LimitsOn}
+use Rattle.rpm_tool.specs.Working.{OpensIn, OpensBy, EndsAs, IsUncommitted, done_why, why_of, why_of_halt, why_of_exercise}
 use Rattle.rpm_tool.proofs.Grouped.{if_ok, if_ok_at}
 use Rattle.rpm_tool.proofs.Outcomes.{done_is}
 
@@ -129,6 +132,14 @@ module _ (course : State → Course) (old mid : Files) (db last : Database) (ope
       limits_at (done_why tally.failed) (limits_done found db.store (course found).changes tally.failed
       (record { numbered = numbers; unspent = generation; placed = subst IsSome (sym places) refl }))
 
+  -- an exercise that was refused meets no limit
+  pub limits_exercised : (fault : ExerciseFault) → OnceBegun (NumbersTurn found (course found).changes) (Err fault)
+      → OnceBegun (SpentTurn db.store.generation (course found).changes) (Err fault)
+      → OnceBegun (StoreTurn (course found).changes db.store last.store) (Err fault) → LimitsOn course old (why_of_exercise fault)
+  limits_exercised (NotEmpty held) numbers generation places =
+      limits_at (why.NotEmpty held) (record { numbers = tt; generations = tt; places = tt })
+  limits_exercised (Halted h) numbers generation places = limits_halted h numbers generation places
+
 -- ---- the ending
 
 limits_uncommitted : (s : State) (v : Store) (changes : List Change) (w : Why) → IsUncommitted w → Within s v changes → LimitsAre s v changes w
@@ -161,33 +172,21 @@ limits_ended s v changes (Err was) given n (none, inr both) all =
     subst (λ (w : Why). LimitsAre s v changes w) (sym both.1) (record { numbers = tt; generations = tt; places = tt })
 
 -- a group ends as its command was worked
-pub limits_grouped : (told : Bool) (course : State → Course) (files : Files) (ended : Result Tally Why) (given : Why) (n : ℕ) → EndsAs ended given n
-    → LimitsBy told course files (why_of ended) → LimitsBy told course files given
-limits_grouped true course files ended given n ends all = if_ok (store files.pkg) (λ s is.
+pub limits_grouped : (course : State → Course) (files : Files) (ended : Result Tally Why) (given : Why) (n : ℕ) → EndsAs ended given n
+    → LimitsOn course files (why_of ended) → LimitsOn course files given
+limits_grouped course files ended given n ends all = if_ok (store files.pkg) (λ s is.
     limits_ended (state files.pkg s) (begun s) (course (state files.pkg s)).changes ended given n ends (if_ok_at _ (store files.pkg) s is all))
-limits_grouped false course files ended given n ends all = tt
 
 -- ---- not begun
 
-pub limits_starved : (told : Bool) (course : State → Course) (files : Files) → LimitsBy told course files why.NoMemory
-limits_starved true course files = if_ok (store files.pkg) (λ s is. record { numbers = tt; generations = tt; places = tt })
-limits_starved false course files = tt
+pub limits_starved : (course : State → Course) (files : Files) → LimitsOn course files why.NoMemory
+limits_starved course files = if_ok (store files.pkg) (λ s is. record { numbers = tt; generations = tt; places = tt })
 
-pub limits_unloaded : (told : Bool) (course : State → Course) (files : Files) (fault : LoadFault) → LimitsBy told course files (why_of_load fault)
-limits_unloaded true course files (load.BadLog unit) = if_ok (store files.pkg) (λ s is. record { numbers = tt; generations = tt; places = tt })
-limits_unloaded true course files load.DiskFault = if_ok (store files.pkg) (λ s is. record { numbers = tt; generations = tt; places = tt })
-limits_unloaded true course files load.NoMemory = if_ok (store files.pkg) (λ s is. record { numbers = tt; generations = tt; places = tt })
-limits_unloaded false course files fault = tt
+pub limits_unloaded : (course : State → Course) (files : Files) (fault : LoadFault) → LimitsOn course files (why_of_load fault)
+limits_unloaded course files (load.BadLog unit) = if_ok (store files.pkg) (λ s is. record { numbers = tt; generations = tt; places = tt })
+limits_unloaded course files load.DiskFault = if_ok (store files.pkg) (λ s is. record { numbers = tt; generations = tt; places = tt })
+limits_unloaded course files load.NoMemory = if_ok (store files.pkg) (λ s is. record { numbers = tt; generations = tt; places = tt })
 
-pub limits_unrecovered : (told : Bool) (course : State → Course) (files : Files) (fault : RecoverFault)
-    → LimitsBy told course files (why_of_recover fault)
-limits_unrecovered true course files (recover.BadLog unit) = if_ok (store files.pkg) (λ s is. record { numbers = tt; generations = tt; places = tt })
-limits_unrecovered true course files recover.DiskFault = if_ok (store files.pkg) (λ s is. record { numbers = tt; generations = tt; places = tt })
-limits_unrecovered false course files fault = tt
-
--- the limits are those of Packages.db alone
-pub limits_same : (turns : Bool) (course : State → Course) (from to : Files) (given : Why) → from.pkg ≡ to.pkg → LimitsBy turns course from given
-    → LimitsBy turns course to given
-limits_same true course from to given same is =
-    subst (λ (pkg : Units). IfOk (store pkg) (λ value. LimitsAre (state pkg value) (begun value) (course (state pkg value)).changes given)) same is
-limits_same false course from to given same is = tt
+pub limits_unrecovered : (course : State → Course) (files : Files) (fault : RecoverFault) → LimitsOn course files (why_of_recover fault)
+limits_unrecovered course files (recover.BadLog unit) = if_ok (store files.pkg) (λ s is. record { numbers = tt; generations = tt; places = tt })
+limits_unrecovered course files recover.DiskFault = if_ok (store files.pkg) (λ s is. record { numbers = tt; generations = tt; places = tt })

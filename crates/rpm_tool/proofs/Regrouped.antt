@@ -84,6 +84,7 @@ module _ {D : Type 0} (files : D → Files) (left_since : D → ℕ → Files �
       counted = rest.counted;
       leaves = subst (λ (f : Files). IfOk (store f.pkg) (λ s. LeavesState course (state f.pkg s) given n (files new))) stands rest.leaves;
       refused = λ no. rest.refused no ∙ stands;
+      made = rest.made;
       index = λ may done. rest.index (may_begin anew lawful_mid may) done;
       full = λ may. subst (λ (f : Files). FullBy anew course f given) stands (rest.full (may_begin anew lawful_mid may));
       complete = λ lawful. rest.complete (lawful_mid lawful);

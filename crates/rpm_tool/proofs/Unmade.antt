@@ -61,11 +61,13 @@ worked_none course log (load.BadLog unit) old new before now closed says none = 
 worked_none course log load.DiskFault old new before now closed says none = record {
   went = worked_fault course old.pkg (store old.pkg) new before now none;
   full = λ lawful. if_ok (store old.pkg) (λ s is. tt);
+  made = tt;
   index = λ lawful. tt;
 }
 worked_none course log load.NoMemory old new before now closed says none = record {
   went = worked_memory course old.pkg (store old.pkg) new before now none;
   full = λ lawful. if_ok (store old.pkg) (λ s is. tt);
+  made = tt;
   index = λ lawful. tt;
 }
 
@@ -130,6 +132,7 @@ module _ {D : Type 0} (files : D → Files) (left_since : D → ℕ → Files �
       },
     ));
     refused = λ no. stands;
+    made = λ done. absurd cc;
     index = λ lawful done. absurd cc;
     full = λ lawful. if_ok (store r.pkg) (λ s is. tt);
     complete = λ lawful. absurd (unlawful_log (log_state (files old).log) unit says lawful.sound);
@@ -150,6 +153,7 @@ module _ {D : Type 0} (files : D → Files) (left_since : D → ℕ → Files �
       }),
     ));
     refused = λ no. stands;
+    made = λ done. absurd cc;
     index = λ lawful done. absurd cc;
     full = λ lawful. if_ok (store r.pkg) (λ s is. tt);
     complete = λ lawful. refl;

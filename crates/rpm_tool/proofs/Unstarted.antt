@@ -47,6 +47,7 @@ module _ {D : Type 0} (files : D → Files) (left_since : D → ℕ → Files �
     counted = λ no. refl;
     leaves = if_ok (store (reopened (files disk)).pkg) (λ s is. (refl, record { value = s; undamaged = is; is = refl }));
     refused = λ no. refl;
+    made = λ done. absurd cc;
     index = λ lawful done. absurd cc;
     full = λ lawful. if_ok (store (reopened (files disk)).pkg) (λ s is. tt);
     complete = λ lawful. refl;

@@ -157,6 +157,7 @@ open_with anew course old new w before now opens none = record {
   went = unopened course old new new (store old.pkg) w before now opens none;
   full = λ _. if_ok (store old.pkg) (λ s is. full_open (must_make old.idx (Ok s)) _ _ _ _ new w (more_makes anew old.idx s)
       (subst (λ (sr : Result Store Damage). OpensBy old sr new (Err w)) is opens));
+  made = tt;
   index = λ _. tt;
 }
 
@@ -210,6 +211,7 @@ module _ (course : State → Course) (old mid new : Files) (db last : Database) 
         (let opened = subst (λ (sr : Result Store Damage). OpensBy old sr mid (Ok db)) is opens in
         halt_full _ _ (state old.pkg s) (course (state old.pkg s)).changes h opened.1
         (subst (λ (x : State). IndexTurn x (course x).changes (Err h)) opened.0 (turn lawful))));
+    made = tt;
     index = λ lawful. tt;
   }
 
@@ -225,14 +227,15 @@ module _ (course : State → Course) (old mid new : Files) (db last : Database) 
 
   pub done_worked : (tally : Tally) → OpensBy old (store old.pkg) mid (Ok db) → store new.pkg ≡ Ok (in_file last.store)
       → Done (course found) found (state new.pkg last.store) tally before now
-      → (IsLawful old.pkg old.idx → IndexTurn found (course found).changes (Ok tally)) → (IsLawful old.pkg old.idx → IsIndexed new.pkg new.idx last)
-      → Worked course old new (Ok tally) before now
-  done_worked tally opens keeps done turn indexed = record {
+      → (IsLawful old.pkg old.idx → IndexTurn found (course found).changes (Ok tally)) → 1 ≤ last.store.pages
+      → (IsLawful old.pkg old.idx → IsIndexed new.pkg new.idx last) → Worked course old new (Ok tally) before now
+  done_worked tally opens keeps done turn paged indexed = record {
     went = done_by (store old.pkg) tally opens keeps done;
     full = λ lawful. if_ok (store old.pkg) (λ s is.
         (let opened = subst (λ (sr : Result Store Damage). OpensBy old sr mid (Ok db)) is opens in
         full_done _ _ (state old.pkg s) (course (state old.pkg s)).changes tally.failed opened.1
         (subst (λ (x : State). AllHaveRoom x (course x).changes) opened.0 (turn lawful))));
+    made = record { value = in_file last.store; undamaged = keeps; paged = paged };
     index = λ lawful. record {
       value = in_file last.store;
       undamaged = keeps;

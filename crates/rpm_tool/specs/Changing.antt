@@ -83,6 +83,12 @@ pub record HasCurrent (pkg idx : Units) : Type 0 where
   pub current : is_current_at value.generation idx ≡ true
   pub rows_are : HasRows (packages pkg value) idx
 
+-- a database was made: its Packages.db isn't damaged, and has a slot page, which a blank one hasn't
+pub record IsMade (pkg : Units) : Type 0 where
+  pub value : Store
+  pub undamaged : store pkg ≡ Ok value
+  pub paged : 1 ≤ value.pages
+
 -- and nothing is left of a change
 pub record IsSealed (files : Files) : Type 0 where
   pub closed : log_state files.log ≡ Closed
@@ -166,6 +172,7 @@ pub record ChangesWith {D : Type 0} (anew : Bool) (files : D → Files) (left_si
   pub leaves : IfOk (store (reopened (files old)).pkg)
       (λ s. LeavesState course (state (reopened (files old)).pkg s) given changes (files new))
   pub refused : is_done_or_fault given ≡ false → reopened (files new) ≡ reopened (files old)
+  pub made : is_done given ≡ true → IsMade (reopened (files new)).pkg
   pub index : MayBegin anew (IsLawfulGroup (files old)) → is_done given ≡ true → IsSealed (files new)
   pub full : MayBegin anew (IsLawfulGroup (files old)) → FullBy anew course (reopened (files old)) given
   pub complete : IsLawfulGroup (files old) → is_of_lawful given ≡ true

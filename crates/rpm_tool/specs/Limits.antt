@@ -1,5 +1,5 @@
 -- The limits of a command that changes packages: numbers, generations and places are spent exactly at the turn of a change for which none is left.
-use Rattle.std.specs.Prelude.{◌≡◌, ◌≢◌, ℕ, ◌+◌, ◌^◌, ◌<◌, ◌≤◌, ◌==◌, if◌then◌else◌, List, length, Bool, true, false, None, IsSome, IfOk}
+use Rattle.std.specs.Prelude.{◌≡◌, ◌≢◌, ℕ, ◌+◌, ◌^◌, ◌<◌, ◌≤◌, ◌==◌, if◌then◌else◌, List, length, None, IsSome, IfOk}
 use Rattle.rpm_outside.specs.Files.{Files}
 use Rattle.rpm_pkgdb.specs.Store.{Store, store}
 use Rattle.rpm_pkgdb.specs.Written.{made_new}
@@ -70,10 +70,3 @@ IsTooLong needed s = (made : Files) × Says (λ t. t ≡ s) made.pkg × (2 ^ 28 
 abbrev pub LogOn : (State → Course) → Files → Why → Type 0
 LogOn course files (why.LogFull needed) = IfOk (store files.pkg) (λ value. IsTooLong needed (after course (state files.pkg value)))
 LogOn course files others = Unit {0}
-
--- ---- by its task
-
--- of a command whose limits are told by their turns
-abbrev pub LimitsBy : Bool → (State → Course) → Files → Why → Type 0
-LimitsBy true course files given = LimitsOn course files given
-LimitsBy false course files given = Unit {0}

@@ -92,11 +92,6 @@ reads_shelf (Replacing n path) = true
 reads_shelf Importing = true
 reads_shelf others = false
 
--- its limits are told by the turns of its changes; those of the exercise aren't
-abbrev pub has_turns : TaskParts → Bool
-has_turns (Exercising n) = false
-has_turns others = true
-
 -- it makes the index anew, whatever it is
 abbrev pub is_anew : TaskParts → Bool
 is_anew Rebuilding = true

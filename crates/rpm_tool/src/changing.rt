@@ -22,8 +22,8 @@ ghost use Rattle.rpm_words.specs.Ask.{IsSound};
 ghost use Rattle.rpm_tool.specs.Answers.{why_of_load, unless_starved, is_of_words};
 ghost use Rattle.rpm_tool.specs.Keyed.{why_of_recover, is_done};
 ghost use Rattle.rpm_tool.specs.Changing.{DidOn, ChangesWith, EmptyBy, is_held};
-ghost use Rattle.rpm_tool.specs.Tasks.{task_parts, task_course, asked_task, asked_course, reads_shelf, is_anew, needs_none, IsCountable, has_turns};
-ghost use Rattle.rpm_tool.specs.Limits.{LimitsBy, LimitsOn, begun, LogIs, LogOn};
+ghost use Rattle.rpm_tool.specs.Tasks.{task_parts, task_course, asked_task, asked_course, reads_shelf, is_anew, needs_none, IsCountable};
+ghost use Rattle.rpm_tool.specs.Limits.{LimitsOn, begun, LogIs, LogOn};
 ghost use Rattle.rpm_tool.specs.Working.{OpensBy, IsOutside, IsOfOpening, Worked, WorkedWith, CommittedAs, EndsGroup, is_halt, is_of_commit, is_of_streams, done_why, why_of, why_of_open, why_of_halt};
 
 use crate::answer::Why;
@@ -98,6 +98,7 @@ fn make_blank<D: Disk>(alloc: Global, db: &mut Db, disk: &mut D) -> Result<(), W
     ensures serving { OnOk result (IsTrue D.tells → IsServing (D.files disk.new) (D.left_since disk.new (D.moment disk.new)) db.new) }
     ensures state { OnOk result (IsTrue D.tells → state (D.files disk.new).pkg db.new.store ≡ state (D.files disk.old).pkg db.old.store) }
     ensures begun { OnOk result (db.new.store ≡ begun db.old.store) }
+    ensures not_blank { OnOk result (is_blank db.new ≡ false) }
     ensures rows { OnOk result (IsTrue D.tells → (is_blank db.old ≡ false → IsIndexed (D.files disk.old).pkg (D.files disk.old).idx db.old)
         → IsIndexed (D.files disk.new).pkg (D.files disk.new).idx db.new) }
     ensures fault { IfErr result IsOutside }
@@ -122,6 +123,7 @@ pub(crate) fn open_to_change<D: Disk>(alloc: Global, disk: &mut D) -> Result<Db,
     ensures rows { IfOk result (λ db. IsTrue D.tells → IsLawful (D.files disk.old).pkg (D.files disk.old).idx
         → IsIndexed (D.files disk.new).pkg (D.files disk.new).idx db) }
     ensures begun { IfOk result (λ db. IsTrue D.tells → IfOk (store (D.files disk.old).pkg) (λ value. db.store ≡ begun value)) }
+    ensures not_blank { IfOk result (λ db. is_blank db ≡ false) }
     ensures fault { IfErr result IsOfOpening }
     ensures runs { Runs D.tells D.files D.left_since D.moment D.bytes_read D.follows SameLog disk.old disk.new }
     ensures disk { HasCauseAt (result ≡ Err Why.DiskFault) (D.faults disk.old) (D.faults disk.new) }
@@ -208,7 +210,7 @@ fn change_on<D: Disk, S: Shelf, O: Sink + Drop, E: Sink + Drop>(
         (outputs O.tells (O.taken (inner out.old)) E.tells (E.taken (inner err.old)))
         (outputs O.tells (O.taken (inner out.new)) E.tells (E.taken (inner err.new))) }
     ensures limits { IsTrue D.tells → (reads_shelf (task_parts task.now) ≡ true → IsTrue S.tells)
-        → LimitsBy (has_turns (task_parts task.now)) (task_course (S.paths shelf.old) now (task_parts task.now)) (D.files disk.old) (why_of result) }
+        → LimitsOn (task_course (S.paths shelf.old) now (task_parts task.now)) (D.files disk.old) (why_of result) }
     ensures runs { Runs D.tells D.files D.left_since D.moment D.bytes_read D.follows SameLog disk.old disk.new }
     ensures halted { IfErr result (λ given. is_halt given ≡ true) }
     ensures empty { IsTrue D.tells → EmptyBy (needs_none (task_parts task.now)) (D.files disk.old) (why_of result) }
@@ -322,7 +324,7 @@ fn change_recovered<D: Disk, S: Shelf, O: Sink + Drop, E: Sink + Drop>(
         result.0.why result.0.changes disk result.1 }
     ensures empty { IsTrue D.tells → EmptyBy (needs_none (task_parts task.now)) (reopened (D.files disk)) result.0.why }
     ensures limits { IsTrue D.tells → (reads_shelf (task_parts task.now) ≡ true → IsTrue S.tells)
-        → LimitsBy (has_turns (task_parts task.now)) (task_course (S.paths shelf.old) now (task_parts task.now)) (reopened (D.files disk)) result.0.why }
+        → LimitsOn (task_course (S.paths shelf.old) now (task_parts task.now)) (reopened (D.files disk)) result.0.why }
     ensures log { IsTrue D.tells → (reads_shelf (task_parts task.now) ≡ true → IsTrue S.tells)
         → LogOn (task_course (S.paths shelf.old) now (task_parts task.now)) (reopened (D.files disk)) result.0.why }
     ensures counted { is_done result.0.why ≡ false → result.0.changes ≡ 0 }
@@ -382,7 +384,7 @@ fn change<D: Disk, S: Shelf, O: Sink + Drop, E: Sink + Drop>(
         result.0.why result.0.changes disk result.1 }
     ensures empty { IsTrue D.tells → EmptyBy (needs_none (task_parts task.now)) (reopened (D.files disk)) result.0.why }
     ensures limits { IsTrue D.tells → (reads_shelf (task_parts task.now) ≡ true → IsTrue S.tells)
-        → LimitsBy (has_turns (task_parts task.now)) (task_course (S.paths shelf.old) now (task_parts task.now)) (reopened (D.files disk)) result.0.why }
+        → LimitsOn (task_course (S.paths shelf.old) now (task_parts task.now)) (reopened (D.files disk)) result.0.why }
     ensures log { IsTrue D.tells → (reads_shelf (task_parts task.now) ≡ true → IsTrue S.tells)
         → LogOn (task_course (S.paths shelf.old) now (task_parts task.now)) (reopened (D.files disk)) result.0.why }
     ensures counted { is_done result.0.why ≡ false → result.0.changes ≡ 0 }
@@ -427,7 +429,7 @@ pub fn change_asked<D: Disk, S: Shelf, O: Sink + Drop, E: Sink + Drop>(
         result.0.why result.0.changes disk result.1 }
     ensures empty { IsTrue D.tells → EmptyBy (needs_none (asked_task words.now ask.now)) (reopened (D.files disk)) result.0.why }
     ensures limits { IsTrue D.tells → (reads_shelf (asked_task words.now ask.now) ≡ true → IsTrue S.tells)
-        → LimitsBy (has_turns (asked_task words.now ask.now)) (asked_course (S.paths shelf.old) now words.now ask.now) (reopened (D.files disk))
+        → LimitsOn (asked_course (S.paths shelf.old) now words.now ask.now) (reopened (D.files disk))
         result.0.why }
     ensures log { IsTrue D.tells → (reads_shelf (asked_task words.now ask.now) ≡ true → IsTrue S.tells)
         → LogOn (asked_course (S.paths shelf.old) now words.now ask.now) (reopened (D.files disk)) result.0.why }

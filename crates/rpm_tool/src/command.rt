@@ -23,8 +23,8 @@ ghost use Rattle.rpm_tool.specs.Steps.{numbers, Rises};
 ghost use Rattle.rpm_tool.specs.Queries.{is_question, picked, argument_part};
 ghost use Rattle.rpm_tool.specs.Keyed.{AreLawfulGroups, IsLawfulGroup, StandsStill, IsReady, KeyedIs, AnswersByKey, FullIs, BadIs, HasRoom};
 ghost use Rattle.rpm_tool.specs.Keyed.{is_done, is_done_or_outside, keyed_cost};
-ghost use Rattle.rpm_tool.specs.Tasks.{asked_task, asked_course, reads_shelf, is_anew, needs_none, has_turns};
-ghost use Rattle.rpm_tool.specs.Limits.{LimitsBy, LogOn};
+ghost use Rattle.rpm_tool.specs.Tasks.{asked_task, asked_course, reads_shelf, is_anew, needs_none};
+ghost use Rattle.rpm_tool.specs.Limits.{LimitsOn, LogOn};
 ghost use Rattle.rpm_tool.specs.PackageFiles.{passing, query_files};
 ghost use Rattle.rpm_change.specs.Endings.{outputs};
 ghost use Rattle.rpm_tool.specs.Answers.{is_of_words, ComesWhere, Queried, Anywhere, Went, Closes, Ends, AtMost, Leaves, query_cost};
@@ -83,7 +83,7 @@ fn begin<D: Disk, S: Shelf, O: Sink + Drop, E: Sink + Drop>(
         → ChangesWith (is_anew (asked_task words.now ask.now)) D.files D.left_since D.moment (asked_course (S.paths shelf.old) now words.now ask.now)
         result.0.why result.0.changes disk result.1 }
     ensures limits { is_changing ask.now ≡ true → IsTrue D.tells → (reads_shelf (asked_task words.now ask.now) ≡ true → IsTrue S.tells)
-        → LimitsBy (has_turns (asked_task words.now ask.now)) (asked_course (S.paths shelf.old) now words.now ask.now) (reopened (D.files disk))
+        → LimitsOn (asked_course (S.paths shelf.old) now words.now ask.now) (reopened (D.files disk))
         result.0.why }
     ensures log { is_changing ask.now ≡ true → IsTrue D.tells → (reads_shelf (asked_task words.now ask.now) ≡ true → IsTrue S.tells)
         → LogOn (asked_course (S.paths shelf.old) now words.now ask.now) (reopened (D.files disk)) result.0.why }
@@ -165,7 +165,7 @@ fn command<D: Disk, S: Shelf, O: Sink + Drop, E: Sink + Drop>(
         result.0.why result.0.changes disk result.1 }
     ensures limits { (a : AskParts) (tree : Tree) → asks words.now ≡ Some (a, tree) → is_changing a ≡ true → IsTrue D.tells
         → (reads_shelf (asked_task words.now a) ≡ true → IsTrue S.tells)
-        → LimitsBy (has_turns (asked_task words.now a)) (asked_course (S.paths shelf.old) now words.now a) (reopened (D.files disk)) result.0.why }
+        → LimitsOn (asked_course (S.paths shelf.old) now words.now a) (reopened (D.files disk)) result.0.why }
     ensures log { (a : AskParts) (tree : Tree) → asks words.now ≡ Some (a, tree) → is_changing a ≡ true → IsTrue D.tells
         → (reads_shelf (asked_task words.now a) ≡ true → IsTrue S.tells)
         → LogOn (asked_course (S.paths shelf.old) now words.now a) (reopened (D.files disk)) result.0.why }
@@ -322,7 +322,7 @@ pub fn run<D: Disk, S: Shelf, O: Sink, E: Sink>(
         → EmptyBy (needs_none (asked_task words.now a)) (reopened (D.files disk)) result.0.why }
     ensures limits { (a : AskParts) (tree : Tree) → asks words.now ≡ Some (a, tree) → is_changing a ≡ true → IsTrue D.tells
         → (reads_shelf (asked_task words.now a) ≡ true → IsTrue S.tells)
-        → LimitsBy (has_turns (asked_task words.now a)) (asked_course (S.paths shelf.old) now words.now a) (reopened (D.files disk)) result.0.why }
+        → LimitsOn (asked_course (S.paths shelf.old) now words.now a) (reopened (D.files disk)) result.0.why }
     ensures log { (a : AskParts) (tree : Tree) → asks words.now ≡ Some (a, tree) → is_changing a ≡ true → IsTrue D.tells
         → (reads_shelf (asked_task words.now a) ≡ true → IsTrue S.tells)
         → LogOn (asked_course (S.paths shelf.old) now words.now a) (reopened (D.files disk)) result.0.why }

@@ -186,6 +186,7 @@ pub(crate) fn exercise_on<D: Disk, O: Sink + Drop>(
         → WorkedWith true (λ s. exercised.exercise headers s) (D.files disk.old) (D.files disk.new) result
         (outputs O.tells (O.taken (inner out.old)) err_tells err) (outputs O.tells (O.taken (inner out.new)) err_tells err) }
     ensures empty { IsTrue D.tells → EmptyOn (D.files disk.old) (why_of result) }
+    ensures limits { IsTrue D.tells → LimitsOn (λ s. exercised.exercise headers s) (D.files disk.old) (why_of result) }
     ensures runs { Runs D.tells D.files D.left_since D.moment D.bytes_read D.follows SameLog disk.old disk.new }
     ensures halted { IfErr result (λ given. is_halt given ≡ true) }
     ensures shelf { result ≢ Err Why.ShelfFault }

@@ -4,9 +4,9 @@ use Rattle.rpm_outside.specs.Files.{Files}
 use Rattle.rpm_outside.specs.Logs.{reopened}
 use Rattle.rpm_change.specs.Endings.{outputs}
 use Rattle.rpm_tool.specs.Changing.{EmptyBy}
-use Rattle.rpm_tool.specs.Tasks.{task_parts, task_course, needs_none, has_turns}
+use Rattle.rpm_tool.specs.Tasks.{task_parts, task_course, needs_none}
 use Rattle.rpm_tool.proofs.Emptied.{recover_empty}
-use Rattle.rpm_tool.specs.Limits.{LimitsBy, LogOn}
+use Rattle.rpm_tool.specs.Limits.{LimitsOn, LogOn}
 use Rattle.rpm_tool.proofs.Limited.{limits_unrecovered}
 use Rattle.rpm_tool.proofs.Logged.{log_unrecovered}
 use Rattle.rpm_tool.proofs.Regrouped.{recovered_changes}
@@ -62,14 +62,14 @@ returns-in-Err-clause-empty g c = λ told.
 pub returns-in-Ok-clause-limits : goal.returns-in-Ok-clause-limits
 returns-in-Ok-clause-limits g c = λ told shelf.
     let t = task_parts c.args.task.now in
-    subst (λ (f : Files). LimitsBy (has_turns t) (task_course (g.S.Shelf.paths c.args.shelf.now) c.args.now t) f c.change_recovered.result.0.why)
+    subst (λ (f : Files). LimitsOn (task_course (g.S.Shelf.paths c.args.shelf.now) c.args.now t) f c.change_recovered.result.0.why)
     (c.in-Ok.ensures.stands told) (c.change_recovered.ensures.limits told shelf)
 
 pub returns-in-Err-clause-limits : goal.returns-in-Err-clause-limits
 returns-in-Err-clause-limits g c = λ told shelf.
     let t = task_parts c.args.task.now in
     rw (c.unchanged.ensures, c.why_of_recover.ensures)
-    (limits_unrecovered (has_turns t) (task_course (g.S.Shelf.paths c.args.shelf.now) c.args.now t)
+    (limits_unrecovered (task_course (g.S.Shelf.paths c.args.shelf.now) c.args.now t)
     (reopened (g.D.Disk.files c.args.disk)) c.in-Err.fault)
 
 pub returns-in-Ok-clause-log : goal.returns-in-Ok-clause-log

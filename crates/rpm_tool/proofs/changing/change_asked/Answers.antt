@@ -3,9 +3,9 @@ use Rattle.rpm_outside.specs.Buffered.{inner}
 use Rattle.rpm_outside.specs.Logs.{reopened}
 use Rattle.rpm_change.specs.Endings.{outputs}
 use Rattle.rpm_tool.specs.Changing.{DidOn, ChangesWith, EmptyBy}
-use Rattle.rpm_tool.specs.Tasks.{TaskParts, asked_task, asked_course, task_course, reads_shelf, is_anew, needs_none, has_turns}
+use Rattle.rpm_tool.specs.Tasks.{TaskParts, asked_task, asked_course, task_course, reads_shelf, is_anew, needs_none}
 use Rattle.rpm_tool.proofs.Emptied.{memory_empty}
-use Rattle.rpm_tool.specs.Limits.{LimitsBy, LogOn}
+use Rattle.rpm_tool.specs.Limits.{LimitsOn, LogOn}
 use Rattle.rpm_tool.proofs.Limited.{limits_starved}
 use Rattle.rpm_tool.proofs.Unstarted.{unstarted_did, unstarted_changes}
 use Rattle.rpm_tool.proofs.changing.change_asked.Goals as goal
@@ -51,12 +51,12 @@ returns-in-Err-clause-empty g c = λ told.
 pub returns-in-Ok-clause-limits : goal.returns-in-Ok-clause-limits
 returns-in-Ok-clause-limits g c = λ told shelf.
     let same = c.in-Ok.ensures.asked in
-    subst (λ (t : TaskParts). LimitsBy (has_turns t) (task_course (g.S.Shelf.paths c.args.shelf.now) c.args.now t) (reopened (g.D.Disk.files c.args.disk))
+    subst (λ (t : TaskParts). LimitsOn (task_course (g.S.Shelf.paths c.args.shelf.now) c.args.now t) (reopened (g.D.Disk.files c.args.disk))
     c.change.result.0.why) same (c.change.ensures.limits told (λ reads. shelf (sym (ap reads_shelf same) ∙ reads)))
 
 pub returns-in-Err-clause-limits : goal.returns-in-Err-clause-limits
 returns-in-Err-clause-limits g c = λ told shelf.
-    rw c.unchanged.ensures (limits_starved (has_turns (asked_task c.args.words.now c.args.ask.now))
+    rw c.unchanged.ensures (limits_starved
     (asked_course (g.S.Shelf.paths c.args.shelf.now) c.args.now c.args.words.now c.args.ask.now) (reopened (g.D.Disk.files c.args.disk)))
 
 pub returns-in-Ok-clause-log : goal.returns-in-Ok-clause-log

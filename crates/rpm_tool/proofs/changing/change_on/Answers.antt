@@ -103,4 +103,4 @@ pub returns-in-Rebuild-clause-limits : goal.returns-in-Rebuild-clause-limits
 returns-in-Rebuild-clause-limits g c = λ told shelf. rw c.in-Rebuild.is (c.rebuild_on.ensures.limits told)
 
 pub returns-in-Exercise-clause-limits : goal.returns-in-Exercise-clause-limits
-returns-in-Exercise-clause-limits g c = λ told shelf. rw c.in-Exercise.is tt
+returns-in-Exercise-clause-limits g c = λ told shelf. rw c.in-Exercise.is (c.exercise_on.ensures.limits told)

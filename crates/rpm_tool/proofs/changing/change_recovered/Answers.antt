@@ -11,12 +11,13 @@ use Rattle.rpm_group.specs.Overlay.{overlay_below, overlay_held, overlay_read}
 use Rattle.rpm_db.specs.State.{State}
 use Rattle.rpm_change.specs.Steps.{Course}
 use Rattle.rpm_change.specs.Endings.{outputs}
-use Rattle.rpm_tool.specs.Tasks.{task_parts, task_course, is_anew, needs_none, has_turns}
+use Rattle.rpm_tool.specs.Tasks.{task_parts, task_course, is_anew, needs_none}
+use Rattle.rpm_tool.specs.Limits.{LimitsOn}
 use Rattle.rpm_tool.specs.Working.{WorkedWith, why_of, is_halt}
 use Rattle.rpm_tool.proofs.Emptied.{load_empty, group_empty, same_empty}
 use Rattle.rpm_tool.proofs.Grouped.{group_did, group_changes}
 use Rattle.rpm_tool.proofs.Ends.{below_same, below_back, below_moment, below_settled, below_closed}
-use Rattle.rpm_tool.proofs.Limited.{limits_grouped, limits_same, limits_unloaded}
+use Rattle.rpm_tool.proofs.Limited.{limits_grouped, limits_unloaded}
 use Rattle.rpm_tool.proofs.Logged.{log_grouped, log_unloaded}
 use Rattle.rpm_tool.proofs.Unloaded.{unloaded_did, unloaded_changes}
 use Rattle.rpm_tool.proofs.changing.change_recovered.Goals as goal
@@ -119,16 +120,15 @@ returns-in-Ok-clause-limits g c = λ told shelf.
     let t = task_parts c.args.task.now in
     let course : State → Course = task_course (g.S.Shelf.paths c.args.shelf.now) c.args.now t in
     let ended = c.change_on-ended.result in
-    limits_grouped (has_turns t) course (reopened (g.D.Disk.files c.args.disk)) ended c.end_group.result.0.why c.end_group.result.0.changes
+    limits_grouped course (reopened (g.D.Disk.files c.args.disk)) ended c.end_group.result.0.why c.end_group.result.0.changes
     (c.end_group.ensures.ends told).says
-    (limits_same (has_turns t) course _ (reopened (g.D.Disk.files c.args.disk)) (why_of ended) (ap (λ (f : Files). f.pkg) (c.in-Ok.ensures.files told))
-    (c.change_on-ended.ensures.limits told shelf))
+    (subst (λ (f : Files). LimitsOn course f (why_of ended)) (c.in-Ok.ensures.files told) (c.change_on-ended.ensures.limits told shelf))
 
 pub returns-in-Err-clause-limits : goal.returns-in-Err-clause-limits
 returns-in-Err-clause-limits g c = λ told shelf.
     let t = task_parts c.args.task.now in
     rw (c.unchanged.ensures, c.why_of_load.ensures)
-    (limits_unloaded (has_turns t) (task_course (g.S.Shelf.paths c.args.shelf.now) c.args.now t)
+    (limits_unloaded (task_course (g.S.Shelf.paths c.args.shelf.now) c.args.now t)
     (reopened (g.D.Disk.files c.args.disk)) c.in-Err.refused.why)
 
 pub returns-in-Ok-clause-log : goal.returns-in-Ok-clause-log

@@ -7,6 +7,7 @@ use Rattle.rpm_change.specs.Endings.{outputs, IsOfErasing}
 use Rattle.rpm_change.specs.Erasing.{erase}
 use Rattle.rpm_tool.proofs.Limited.{limits_unopened, limits_halted, limits_worked}
 use Rattle.rpm_tool.proofs.Unnumbered.{erase_has, none_spent}
+use Rattle.rpm_tool.proofs.Paged.{still_paged}
 use Rattle.rpm_tool.proofs.Unmade.{through_none}
 use Rattle.rpm_tool.proofs.Works.{open_worked, done_worked, halted_worked}
 use Rattle.rpm_tool.proofs.changing.erase_on.Goals as goal
@@ -25,6 +26,8 @@ returns-in-Ok-erase_numbers-clause-worked g c = λ told out_tells out.
     done_worked (λ s. erase s c.args.numbers.now) (g.D.Disk.files c.args.disk.now) (g.D.Disk.files c.open_to_change.new.disk)
     (g.D.Disk.files c.erase_numbers.new.disk) c.in-Ok.db c.erase_numbers.new.db before now c.in-Ok-erase_numbers.tally (c.in-Ok.ensures.opened told)
     (said.carried.serving told).keeps (said.ended told out_tells out) (λ lawful. said.room told (c.in-Ok.ensures.rows told lawful))
+    (still_paged (erase (state (g.D.Disk.files c.open_to_change.new.disk).pkg c.in-Ok.db.store) c.args.numbers.now).changes c.in-Ok.db
+    c.erase_numbers.new.db.store c.in-Ok.ensures.not_blank (said.store_room told))
     (λ lawful. said.carried.index told (c.in-Ok.ensures.rows told lawful))
 
 pub returns-in-Ok-erase_numbers-clause-runs : goal.returns-in-Ok-erase_numbers-clause-runs

@@ -2,6 +2,7 @@ use Rattle.std.proofs.Common.{refl, arith}
 use Rattle.rpm_change.specs.Endings.{outputs}
 use Rattle.rpm_change.specs.Steps.{idle}
 use Rattle.rpm_tool.proofs.Limited.{limits_unopened, limits_worked}
+use Rattle.rpm_tool.proofs.Paged.{made_paged}
 use Rattle.rpm_tool.proofs.Unmade.{through_none}
 use Rattle.rpm_tool.proofs.Works.{open_worked, done_worked}
 use Rattle.rpm_tool.proofs.changing.make_on.Goals as goal
@@ -13,7 +14,8 @@ returns-clause-worked g c = λ told out_tells err_tells out err.
     let new = g.D.Disk.files c.open_to_change.new.disk in
     done_worked (λ s. idle) old new new c.in-Ok.db c.in-Ok.db x x (record { failed = 0; changes = 0 }) (c.in-Ok.ensures.opened told) (c.in-Ok.ensures.serving
     told).keeps
-    (record { steps = through_none x; failed = refl; changes = refl; state_is = refl }) (λ lawful. tt) (c.in-Ok.ensures.rows told)
+    (record { steps = through_none x; failed = refl; changes = refl; state_is = refl }) (λ lawful. tt)
+    (made_paged c.in-Ok.db c.in-Ok.ensures.not_blank) (c.in-Ok.ensures.rows told)
 
 pub returns-in-Err-clause-worked : goal.returns-in-Err-clause-worked
 returns-in-Err-clause-worked g c = λ told out_tells err_tells out err.

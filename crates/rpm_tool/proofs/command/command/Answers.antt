@@ -6,7 +6,7 @@ use Rattle.rpm_words.specs.Ask.{AskParts, ask}
 use Rattle.rpm_tool.specs.Asked.{of_files, by_key, is_changing, changes_in, asks_change, asks_format, asks}
 use Rattle.rpm_change.specs.Endings.{outputs}
 use Rattle.rpm_tool.specs.PackageFiles.{query_files}
-use Rattle.rpm_tool.specs.Tasks.{asked_task, asked_course, reads_shelf, needs_none, has_turns}
+use Rattle.rpm_tool.specs.Tasks.{asked_task, asked_course, reads_shelf, needs_none}
 use Rattle.rpm_tool.proofs.Limited.{limits_starved}
 use Rattle.rpm_tool.proofs.Reaching.{through_none}
 use Rattle.rpm_tool.proofs.Recovered.{unbegun}
@@ -173,7 +173,7 @@ pub returns-in-Err-clause-limits : goal.returns-in-Err-clause-limits
 unfolding asks_format asks
 returns-in-Err-clause-limits g c = λ a tree asked is told shelf.
     let none = starved c.args.words.now (ask c.args.words.now) c.in-Err.why c.in-Err.ensures.undone a tree asked in
-    rw none (limits_starved (has_turns (asked_task c.args.words.now a)) (asked_course (g.S.Shelf.paths c.args.shelf.now) c.args.now c.args.words.now a)
+    rw none (limits_starved (asked_course (g.S.Shelf.paths c.args.shelf.now) c.args.now c.args.words.now a)
     (reopened (g.D.Disk.files c.args.disk)))
 
 pub returns-in-Ok-clause-log : goal.returns-in-Ok-clause-log

@@ -7,6 +7,7 @@ use Rattle.rpm_change.specs.Steps.{Course}
 use Rattle.rpm_change.specs.Endings.{outputs}
 use Rattle.rpm_change.specs.Adding.{add_files}
 use Rattle.rpm_tool.proofs.Limited.{limits_unopened, limits_halted, limits_worked}
+use Rattle.rpm_tool.proofs.Paged.{still_paged}
 use Rattle.rpm_tool.proofs.Unmade.{through_none}
 use Rattle.rpm_tool.proofs.Works.{open_worked, done_worked, halted_worked}
 use Rattle.rpm_tool.proofs.courses.add_on.Goals as goal
@@ -27,6 +28,8 @@ returns-in-Ok-add_files-clause-worked g c = λ told telling out_tells out.
     done_worked course (g.D.Disk.files c.args.disk.now) (g.D.Disk.files c.open_to_change.new.disk)
     (g.D.Disk.files c.add_files.new.disk) c.in-Ok.db c.add_files.new.db before now c.in-Ok-add_files.tally (c.in-Ok.ensures.opened told)
     (said.carried.serving told).keeps (said.ended told telling out_tells out) (λ lawful. said.room told telling (c.in-Ok.ensures.rows told lawful))
+    (still_paged (course (state (g.D.Disk.files c.open_to_change.new.disk).pkg c.in-Ok.db.store)).changes c.in-Ok.db c.add_files.new.db.store
+    c.in-Ok.ensures.not_blank (said.store_room told telling))
     (λ lawful. said.carried.index told (c.in-Ok.ensures.rows told lawful))
 
 pub returns-in-Ok-add_files-clause-runs : goal.returns-in-Ok-add_files-clause-runs

@@ -6,6 +6,8 @@ use Rattle.rpm_db.specs.inner.Writes.{SameLog}
 use Rattle.rpm_change.specs.Endings.{Outputs, Through, outputs}
 use Rattle.rpm_exercise.specs.Exercised.{exercise}
 use Rattle.rpm_tool.proofs.Exercised.{stopped_exercise, done_exercise, empty_unopened, empty_stopped, empty_done}
+use Rattle.rpm_tool.proofs.Limited.{limits_unopened, limits_exercised, limits_worked}
+use Rattle.rpm_tool.proofs.Paged.{still_paged}
 use Rattle.rpm_tool.proofs.Unmade.{through_none}
 use Rattle.rpm_tool.proofs.Works.{open_with}
 use Rattle.rpm_tool.proofs.courses.exercise_on.Goals as goal
@@ -27,7 +29,9 @@ returns-in-Ok-exercise-clause-worked g c = λ told err_tells err.
     let now = outputs g.O.Sink.tells (g.O.Sink.taken (inner c.exercise.new.out)) err_tells err in
     done_exercise c.args.headers (g.D.Disk.files c.args.disk.now) (g.D.Disk.files c.open_to_change.new.disk) (g.D.Disk.files c.exercise.new.disk)
     c.in-Ok.db c.exercise.new.db before now (c.in-Ok.ensures.opened told) (c.in-Ok.ensures.from_one told) c.in-Ok-exercise.tally said.empty
-    (said.serving told).keeps (said.ended told err_tells err) (said.room told) (said.index told)
+    (said.serving told).keeps (said.ended told err_tells err) (said.room told)
+    (still_paged (exercise c.args.headers (state (g.D.Disk.files c.open_to_change.new.disk).pkg c.in-Ok.db.store)).changes c.in-Ok.db c.exercise.new.db.store
+    c.in-Ok.ensures.not_blank (said.store_room told)) (said.index told)
 
 pub returns-in-Ok-exercise-clause-empty : goal.returns-in-Ok-exercise-clause-empty
 returns-in-Ok-exercise-clause-empty g c = λ told.
@@ -62,3 +66,22 @@ returns-clause-runs g c =
     runs_then g.D.Disk.tells g.D.Disk.files g.D.Disk.left_since g.D.Disk.moment g.D.Disk.bytes_read g.D.Disk.follows g.met.D.Disk.follows_trans
     SameLog SameLog SameLog c.args.disk.now c.open_to_change.new.disk c.exercise.new.disk (λ x y log. log) (λ x y z first second. second ∙ first)
     c.in-Ok.ensures.runs c.exercise.ensures.runs
+
+pub returns-in-Err-clause-limits : goal.returns-in-Err-clause-limits
+returns-in-Err-clause-limits g c = λ told.
+    limits_unopened (λ s. exercise c.args.headers s) (g.D.Disk.files c.args.disk.now) (g.D.Disk.files c.open_to_change.new.disk) c.in-Err.why
+    (c.in-Err.ensures.opened told)
+
+pub returns-in-Ok-exercise-clause-limits : goal.returns-in-Ok-exercise-clause-limits
+returns-in-Ok-exercise-clause-limits g c = λ told.
+    let said = c.in-Ok-exercise.ensures in
+    limits_worked (λ s. exercise c.args.headers s) (g.D.Disk.files c.args.disk.now) (g.D.Disk.files c.open_to_change.new.disk) c.in-Ok.db
+    c.exercise.new.db (c.in-Ok.ensures.opened told) (c.in-Ok.ensures.begun told) c.in-Ok-exercise.tally (said.numbers told) (said.generation told)
+    (said.store_room told)
+
+pub returns-clause-limits : goal.returns-clause-limits
+returns-clause-limits g c = λ told.
+    let said = c.in-Err-exercise.ensures in
+    rw c.why_of_exercise.ensures.says (limits_exercised (λ s. exercise c.args.headers s) (g.D.Disk.files c.args.disk.now)
+    (g.D.Disk.files c.open_to_change.new.disk) c.in-Ok.db c.exercise.new.db (c.in-Ok.ensures.opened told) (c.in-Ok.ensures.begun told)
+    c.in-Err-exercise.fault (said.numbers told) (said.generation told) (said.store_room told))

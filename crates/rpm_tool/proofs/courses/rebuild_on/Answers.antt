@@ -8,6 +8,7 @@ use Rattle.rpm_change.specs.Rebuilding.{rebuild, IsOfRebuilding}
 use Rattle.rpm_tool.proofs.Anew.{done_anew, halted_anew}
 use Rattle.rpm_tool.proofs.Limited.{limits_unopened, limits_halted, limits_worked}
 use Rattle.rpm_tool.proofs.Unnumbered.{rebuild_has, none_spent}
+use Rattle.rpm_tool.proofs.Paged.{still_paged}
 use Rattle.rpm_tool.proofs.Unmade.{through_none}
 use Rattle.rpm_tool.proofs.Works.{open_with}
 use Rattle.rpm_tool.proofs.courses.rebuild_on.Goals as goal
@@ -25,7 +26,9 @@ returns-in-Ok-rebuild-clause-worked g c = λ told err_tells err.
     let now = outputs g.O.Sink.tells (g.O.Sink.taken (inner c.rebuild.new.out)) err_tells err in
     done_anew (λ s. rebuild s) (g.D.Disk.files c.args.disk.now) (g.D.Disk.files c.open_to_change.new.disk) (g.D.Disk.files c.rebuild.new.disk)
     c.in-Ok.db c.rebuild.new.db before now c.in-Ok-rebuild.tally (c.in-Ok.ensures.opened told) (said.serving told).keeps
-    (said.ended told err_tells err) (said.room told) (said.index told)
+    (said.ended told err_tells err) (said.room told)
+    (still_paged (rebuild (state (g.D.Disk.files c.open_to_change.new.disk).pkg c.in-Ok.db.store)).changes c.in-Ok.db c.rebuild.new.db.store
+    c.in-Ok.ensures.not_blank (said.store_room told)) (said.index told)
 
 pub returns-in-Ok-rebuild-clause-runs : goal.returns-in-Ok-rebuild-clause-runs
 returns-in-Ok-rebuild-clause-runs g c =

@@ -8,6 +8,7 @@ use Rattle.rpm_change.specs.Endings.{outputs}
 use Rattle.rpm_change.specs.Adding.{replace, IsOfPutting}
 use Rattle.rpm_tool.proofs.Limited.{limits_unopened, limits_halted, limits_worked}
 use Rattle.rpm_tool.proofs.Unnumbered.{replace_has, none_spent}
+use Rattle.rpm_tool.proofs.Paged.{still_paged}
 use Rattle.rpm_tool.proofs.Unmade.{through_none}
 use Rattle.rpm_tool.proofs.Works.{open_worked, done_worked, halted_worked}
 use Rattle.rpm_tool.proofs.courses.replace_on.Goals as goal
@@ -28,6 +29,8 @@ returns-in-Ok-replace_package-clause-worked g c = λ told telling out_tells out.
     done_worked course (g.D.Disk.files c.args.disk.now) (g.D.Disk.files c.open_to_change.new.disk)
     (g.D.Disk.files c.replace_package.new.disk) c.in-Ok.db c.replace_package.new.db before now c.in-Ok-replace_package.tally (c.in-Ok.ensures.opened told)
     (said.carried.serving told).keeps (said.ended told telling out_tells out) (λ lawful. said.room told telling (c.in-Ok.ensures.rows told lawful))
+    (still_paged (course (state (g.D.Disk.files c.open_to_change.new.disk).pkg c.in-Ok.db.store)).changes c.in-Ok.db c.replace_package.new.db.store
+    c.in-Ok.ensures.not_blank (said.store_room told telling))
     (λ lawful. said.carried.index told (c.in-Ok.ensures.rows told lawful))
 
 pub returns-in-Ok-replace_package-clause-runs : goal.returns-in-Ok-replace_package-clause-runs
