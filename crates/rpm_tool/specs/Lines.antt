@@ -20,9 +20,9 @@ use Rattle.rpm_tool.specs.Closing.{status_of, closing}
 use Rattle.rpm_tool.specs.Given.{given_on}
 use Rattle.rpm_tool.specs.History.{Call, course_of}
 use Rattle.rpm_tool.specs.Keyed.{AreLawfulGroups, IsLawfulGroup, StandsStill, IsReady, KeyedIs, FullIs, BadIs, HasRoom, is_done, is_done_or_outside}
-use Rattle.rpm_tool.specs.Limits.{LimitsBy, LogOn}
+use Rattle.rpm_tool.specs.Limits.{LimitsOn, LogOn}
 use Rattle.rpm_tool.specs.PackageFiles.{query_files}
-use Rattle.rpm_tool.specs.Tasks.{asked_task, asked_course, is_anew, needs_none, has_turns}
+use Rattle.rpm_tool.specs.Tasks.{asked_task, asked_course, is_anew, needs_none}
 
 -- what one command line leaves to the next: the disk, the numbers that new packages were given by the lines that were done, what the sinks took,
 -- and how many faults the shelf and the sinks counted
@@ -86,7 +86,7 @@ pub record LineIs {D : Type 0} (files : D → Files) (left_since : D → ℕ →
   pub empty : Of call.words (λ a tree. is_changing a ≡ true
       → EmptyBy (needs_none (asked_task call.words a)) (reopened (files old.disk)) call.outcome.why)
   pub limits : Of call.words (λ a tree. is_changing a ≡ true
-      → LimitsBy (has_turns (asked_task call.words a)) (asked_course paths now call.words a) (reopened (files old.disk)) call.outcome.why)
+      → LimitsOn (asked_course paths now call.words a) (reopened (files old.disk)) call.outcome.why)
   pub log : Of call.words (λ a tree. is_changing a ≡ true
       → LogOn (asked_course paths now call.words a) (reopened (files old.disk)) call.outcome.why)
   -- faults
