@@ -1,5 +1,5 @@
 -- What the exercise leaves once its changes are made.
-use Rattle.std.proofs.Common.{◌≡◌, ℕ, Bool, false, List, [], ◌++◌, Option, Some, None, is_some, Err, take, refl, sym, ap, ◌∙◌, subst}
+use Rattle.std.proofs.Common.{◌≡◌, ℕ, Bool, false, List, [], ◌++◌, None, is_some, Err, take, refl, sym, ap, ◌∙◌, subst}
 use Rattle.std.proofs.lemmas.List.{append-nil}
 use Rattle.std.specs.FinMap as finite
 use Rattle.rpm_outside.specs.Files.{Units, Files}
@@ -9,7 +9,7 @@ use Rattle.rpm_db.specs.inner.Above.{none_is}
 use Rattle.rpm_db.specs.Database.{Database, holds}
 use Rattle.rpm_db.specs.Lawful.{Remade}
 use Rattle.rpm_pkgdb.specs.Store.{Store}
-use Rattle.rpm_db.specs.State.{State, Package, state, packages}
+use Rattle.rpm_db.specs.State.{State, state, packages}
 use Rattle.rpm_db.specs.inner.Laws.{is_there}
 use Rattle.rpm_select.specs.Reach.{HasIndexRows}
 use Rattle.rpm_change.specs.declared.tally.Tally.{Tally}
