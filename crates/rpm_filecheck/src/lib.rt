@@ -16,4 +16,5 @@ mod tests;
 
 pub use conflict::Conflict;
 pub use fault::FileCheckFault;
+pub use labels::label_of;
 pub use report::{ConflictList, conflicts};

@@ -11,6 +11,7 @@ mod packages;
 mod queries;
 mod real;
 mod reports;
+mod requirements;
 mod stops;
 mod unwritable;
 mod words;

@@ -3,6 +3,8 @@ use Rattle.std.proofs.Common.{◌≡◌, ◌∙◌, ℕ, Bool, true, false, not,
 use Rattle.std.proofs.lemmas.Bool.{and_parts}
 use Rattle.rpm_words.specs.declared.switch.Chosen.{Chosen}
 use Rattle.rpm_words.specs.declared.switch.Chosen.TheVariants as by
+use Rattle.rpm_words.specs.declared.ask.Mode.{Mode}
+use Rattle.rpm_words.specs.declared.ask.Mode.TheVariants as mode
 use Rattle.rpm_words.specs.Ask.{AskParts}
 use Rattle.rpm_qfparse.specs.Tree.{Tree}
 use Rattle.rpm_outside.specs.Files.{Files}
@@ -11,7 +13,7 @@ use Rattle.rpm_pkgdb.specs.declared.slot.Damage.{Damage}
 use Rattle.rpm_pkgdb.specs.Store.{Store, store}
 use Rattle.rpm_tool.specs.declared.answer.Why.{Why}
 use Rattle.rpm_tool.specs.declared.answer.Why.TheVariants as why
-use Rattle.rpm_tool.specs.Asked.{is_query, is_package, of_files, by_key, needs_no_index}
+use Rattle.rpm_tool.specs.Asked.{is_query, is_package, of_files, by_key, opens_index, needs_no_index}
 use Rattle.rpm_change.specs.Steps.{Bearer, Course}
 use Rattle.rpm_tool.specs.Reports.{course}
 use Rattle.rpm_change.specs.Endings.{outputs}
@@ -76,8 +78,24 @@ package_unindexed by.Directory noindex is = absurd cc
 package_unindexed by.Tid noindex is = absurd cc
 package_unindexed by.Recommends noindex is = absurd cc
 
+query_asks : (m : Mode) (asked : Bool) → is_query m ≡ true → opens_index m asked ≡ true → asked ≡ true
+query_asks mode.Query asked is opens = opens
+query_asks mode.Addpkg asked is opens = absurd cc
+query_asks mode.Replacepkg asked is opens = absurd cc
+query_asks mode.Erasepkg asked is opens = absurd cc
+query_asks mode.Verify asked is opens = absurd cc
+query_asks mode.Initdb asked is opens = absurd cc
+query_asks mode.Rebuilddb asked is opens = absurd cc
+query_asks mode.Verifydb asked is opens = absurd cc
+query_asks mode.Exportdb asked is opens = absurd cc
+query_asks mode.Importdb asked is opens = absurd cc
+query_asks (mode.Exercise n) asked is opens = absurd cc
+query_asks mode.Order asked is opens = absurd cc
+query_asks mode.Checkfiles asked is opens = absurd cc
+
 pub files_unkeyed : (a : AskParts) → of_files a ≡ true → by_key a ≡ true → ⊥
 files_unkeyed a files keyed =
-    let none = package_unindexed a.chosen a.noindex (and_parts (is_query a.mode) (is_package a.chosen) files).1 in
-    let some : not true ≡ true = ap not (sym none) ∙ (and_parts (is_query a.mode) (not (needs_no_index a.chosen a.noindex)) keyed).1 in
+    let parts = and_parts (is_query a.mode) (is_package a.chosen) files in
+    let none = package_unindexed a.chosen a.noindex parts.1 in
+    let some : not true ≡ true = ap not (sym none) ∙ query_asks a.mode (not (needs_no_index a.chosen a.noindex)) parts.0 keyed in
     absurd cc

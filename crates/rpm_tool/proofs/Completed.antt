@@ -11,49 +11,48 @@ use Rattle.rpm_qfparse.specs.Tree.{Tree}
 use Rattle.rpm_words.specs.Ask.{AskParts}
 use Rattle.rpm_tool.specs.declared.answer.Why.{Why}
 use Rattle.rpm_tool.specs.declared.answer.Why.TheVariants as why
-use Rattle.rpm_change.specs.Steps.{Bearer, Course}
-use Rattle.rpm_tool.specs.Queries.{query}
+use Rattle.rpm_tool.specs.Asked.{inquiry_of}
 use Rattle.rpm_change.specs.Endings.{Outputs}
 use Rattle.rpm_tool.specs.Answers.{is_foreign}
-use Rattle.rpm_tool.specs.Keyed.{IsLawfulGroup, WentBy, OpenedBy, LoadedBy, KeyedIs, FullBy, FullIs, HasRoom, is_refusal, is_done_or_outside, keyed_to}
+use Rattle.rpm_tool.specs.Keyed.{IsLawfulGroup, Deeds, WentBy, OpenedBy, LoadedBy, Does, KeyedIs, FullBy, FullIs, HasRoom, is_refusal, is_done_or_outside, keyed_to}
+use Rattle.rpm_tool.proofs.Deeds.{does_outside}
 
 -- a lawful database has a store
 store_of : (pkg idx : Units) → IsLawful pkg idx → (s : Store) × (store pkg ≡ Ok s)
 store_of pkg idx (inl blank) = (blank_store, blank)
 store_of pkg idx (inr value) = (value.0, value.1)
 
-module _ (Lawful : Type 0) (course : Store → Course) (s : Store) (reads_to : Store → Bearer → Type 0) (w : Why) (old new : Outputs) where
-  opened_in : (r : Result Store Damage) → r ≡ Ok s → OpenedBy Lawful course r w old new reads_to
-      → (is_refusal w ≡ false) × (Lawful → WentBy (course s) w old new (reads_to s))
-  opened_in r is opened = subst (λ (q : Result Store Damage). OpenedBy Lawful course q w old new reads_to) is opened
+module _ (Lawful : Type 0) (Do : Deeds) (s : Store) (w : Why) (old new : Outputs) where
+  opened_in : (r : Result Store Damage) → r ≡ Ok s → OpenedBy Lawful Do r w old new → (is_refusal w ≡ false) × (Lawful → WentBy (Do s) w old new)
+  opened_in r is opened = subst (λ (q : Result Store Damage). OpenedBy Lawful Do q w old new) is opened
 
-  loaded_in : (log : LogState) (r : Result Store Damage) → IsSound log → r ≡ Ok s → LoadedBy Lawful course r log w old new reads_to
-      → (is_refusal w ≡ false) × (Lawful → WentBy (course s) w old new (reads_to s))
+  loaded_in : (log : LogState) (r : Result Store Damage) → IsSound log → r ≡ Ok s → LoadedBy Lawful Do r log w old new
+      → (is_refusal w ≡ false) × (Lawful → WentBy (Do s) w old new)
   loaded_in Closed r sound is loaded = opened_in r is loaded
   loaded_in (Malformed unit) r sound is loaded = absurd sound
   loaded_in (Open entries) r sound is loaded = opened_in r is loaded
 
 -- the endings that are left
-left : (course : Course) (making : Bool) (needed : ℕ) (w : Why) (old new : Outputs) (reads_to : Bearer → Type 0) → is_foreign w ≡ false
-    → is_refusal w ≡ false → WentBy course w old new reads_to → FullBy making needed w → (making ≡ true → needed ≤ 2 ^ 28) → is_done_or_outside w ≡ true
-left course making needed why.Done old new reads_to own opened went full room = refl
-left course making needed (why.Failed n) old new reads_to own opened went full room = refl
-left course making needed (why.Usage f) old new reads_to own opened went full room = absurd cc
-left course making needed (why.BadFormat f) old new reads_to own opened went full room = absurd cc
-left course making needed (why.BadLog u) old new reads_to own opened went full room = absurd cc
-left course making needed (why.Damaged d) old new reads_to own opened went full room = absurd cc
-left course making needed (why.BadIndex u) old new reads_to own opened went full room = absurd went
-left course making needed (why.IndexFull u) old new reads_to own opened went full room = absurd (omega (arith, full.1, room full.0))
-left course making needed why.NumbersSpent old new reads_to own opened went full room = absurd went
-left course making needed why.GenerationSpent old new reads_to own opened went full room = absurd went
-left course making needed why.StoreFull old new reads_to own opened went full room = absurd went
-left course making needed (why.NotEmpty held) old new reads_to own opened went full room = absurd went
-left course making needed (why.LogFull u) old new reads_to own opened went full room = absurd went
-left course making needed why.DiskFault old new reads_to own opened went full room = refl
-left course making needed why.ShelfFault old new reads_to own opened went full room = absurd cc
-left course making needed why.OutFault old new reads_to own opened went full room = refl
-left course making needed why.ErrFault old new reads_to own opened went full room = refl
-left course making needed why.NoMemory old new reads_to own opened went full room = refl
+left : (Do : Why → Outputs → Outputs → Type 0) (making : Bool) (needed : ℕ) (w : Why) (old new : Outputs) → (Do w old new → is_done_or_outside w ≡ true)
+    → WentBy Do w old new → FullBy making needed w → (making ≡ true → needed ≤ 2 ^ 28) → is_done_or_outside w ≡ true
+left Do making needed why.Done old new outside went full room = outside went
+left Do making needed (why.Failed n) old new outside went full room = outside went
+left Do making needed (why.Usage f) old new outside went full room = outside went
+left Do making needed (why.BadFormat f) old new outside went full room = outside went
+left Do making needed (why.BadLog u) old new outside went full room = outside went
+left Do making needed (why.Damaged d) old new outside went full room = outside went
+left Do making needed (why.BadIndex u) old new outside went full room = outside went
+left Do making needed (why.IndexFull u) old new outside went full room = absurd (omega (arith, full.1, room full.0))
+left Do making needed why.NumbersSpent old new outside went full room = outside went
+left Do making needed why.GenerationSpent old new outside went full room = outside went
+left Do making needed why.StoreFull old new outside went full room = outside went
+left Do making needed (why.NotEmpty held) old new outside went full room = outside went
+left Do making needed (why.LogFull u) old new outside went full room = outside went
+left Do making needed why.DiskFault old new outside went full room = outside went
+left Do making needed why.ShelfFault old new outside went full room = outside went
+left Do making needed why.OutFault old new outside went full room = outside went
+left Do making needed why.ErrFault old new outside went full room = outside went
+left Do making needed why.NoMemory old new outside went full room = outside went
 
 pub completes : (tree : Tree) (words : List (List ℕ)) (a : AskParts) (files : Files) (w : Why) (old new : Outputs) (before now : ℕ) → is_foreign w ≡ false
     → KeyedIs tree words a files w old new before now → FullIs (reopened files) w → IsLawfulGroup files → HasRoom (reopened files)
@@ -61,6 +60,8 @@ pub completes : (tree : Tree) (words : List (List ℕ)) (a : AskParts) (files : 
 completes tree words a files w old new before now own went full lawful room =
     let r = reopened files in
     let s = store_of r.pkg r.idx lawful.lawful in
-    let is = loaded_in (IsLawful r.pkg r.idx) (λ t. query tree (packages r.pkg t) words a) s.0 (λ t for. now ≤ before + keyed_to r words a t for) w old new
-    (log_state files.log) (store r.pkg) lawful.sound s.1 went in
-    left (query tree (packages r.pkg s.0) words a) _ _ w old new (λ for. now ≤ before + keyed_to r words a s.0 for) own is.0 (is.1 lawful.lawful) full room
+    let Do = Does tree words a r before now in
+    let is = loaded_in (IsLawful r.pkg r.idx) Do s.0 w old new (log_state files.log) (store r.pkg) lawful.sound s.1 went in
+    left (Do s.0) _ _ w old new
+    (λ does. does_outside tree words a (packages r.pkg s.0) (λ for. now ≤ before + keyed_to r words a s.0 for) old new (inquiry_of a.mode) w own does)
+    (is.1 lawful.lawful) full room

@@ -4,33 +4,31 @@ use Rattle.rpm_pkgdb.specs.declared.slot.Damage.{Damage}
 use Rattle.rpm_pkgdb.specs.Store.{Store}
 use Rattle.rpm_tool.specs.declared.answer.Why.{Why}
 use Rattle.rpm_tool.specs.declared.answer.Why.TheVariants as why
-use Rattle.rpm_change.specs.Steps.{Bearer, Course}
-use Rattle.rpm_change.specs.Endings.{Outputs, outputs}
-use Rattle.rpm_tool.specs.Answers.{Went, is_of_opening}
-use Rattle.rpm_tool.specs.Keyed.{WentBy, OpenedBy, FullBy, is_refusal}
-use Rattle.rpm_tool.proofs.Reaching.{through_none}
+use Rattle.rpm_change.specs.Endings.{Outputs, Through}
+use Rattle.rpm_tool.specs.Answers.{is_of_opening}
+use Rattle.rpm_tool.specs.Keyed.{Deeds, WentBy, OpenedBy, FullBy, is_refusal}
 
--- what a query answers is what a question by key answers
-pub went_by : (course : Course) (given : Why) (old new : Outputs) (reads_to : Bearer → Type 0) → Went course given old new reads_to
-    → WentBy course given old new reads_to
-went_by course (why.IndexFull needed) old new reads_to went = absurd went
-went_by course why.Done old new reads_to went = went
-went_by course (why.Failed n) old new reads_to went = went
-went_by course (why.Usage f) old new reads_to went = went
-went_by course (why.BadFormat f) old new reads_to went = went
-went_by course (why.BadLog u) old new reads_to went = went
-went_by course (why.Damaged d) old new reads_to went = went
-went_by course (why.BadIndex u) old new reads_to went = went
-went_by course why.NumbersSpent old new reads_to went = went
-went_by course why.GenerationSpent old new reads_to went = went
-went_by course why.StoreFull old new reads_to went = went
-went_by course (why.NotEmpty held) old new reads_to went = went
-went_by course (why.LogFull u) old new reads_to went = went
-went_by course why.DiskFault old new reads_to went = went
-went_by course why.ShelfFault old new reads_to went = went
-went_by course why.OutFault old new reads_to went = went
-went_by course why.ErrFault old new reads_to went = went
-went_by course why.NoMemory old new reads_to went = went
+-- what is done with a database that was opened is what the command does
+pub went_by : (Do : Why → Outputs → Outputs → Type 0) (given : Why) (old new : Outputs) → is_of_opening given ≡ false → Do given old new
+    → WentBy Do given old new
+went_by Do (why.IndexFull needed) old new opened does = absurd cc
+went_by Do why.Done old new opened does = does
+went_by Do (why.Failed n) old new opened does = does
+went_by Do (why.Usage f) old new opened does = does
+went_by Do (why.BadFormat f) old new opened does = does
+went_by Do (why.BadLog u) old new opened does = does
+went_by Do (why.Damaged d) old new opened does = does
+went_by Do (why.BadIndex u) old new opened does = does
+went_by Do why.NumbersSpent old new opened does = does
+went_by Do why.GenerationSpent old new opened does = does
+went_by Do why.StoreFull old new opened does = does
+went_by Do (why.NotEmpty held) old new opened does = does
+went_by Do (why.LogFull u) old new opened does = does
+went_by Do why.DiskFault old new opened does = does
+went_by Do why.ShelfFault old new opened does = does
+went_by Do why.OutFault old new opened does = does
+went_by Do why.ErrFault old new opened does = does
+went_by Do why.NoMemory old new opened does = does
 
 pub unrefused : (w : Why) → is_of_opening w ≡ false → is_refusal w ≡ false
 unrefused why.Done is = refl
@@ -52,15 +50,15 @@ unrefused why.OutFault is = refl
 unrefused why.ErrFault is = refl
 unrefused why.NoMemory is = refl
 
-module _ (Lawful : Type 0) (course : Store → Course) (ot et : Bool) (o e : List ℕ) (reads_to : Store → Bearer → Type 0) where
+module _ (Lawful : Type 0) (Do : Deeds) (x : Outputs) (none : Through [] x x) where
   -- of a store that wasn't opened
-  pub by_fault : (s : Result Store Damage) → OpenedBy Lawful course s why.DiskFault (outputs ot o et e) (outputs ot o et e) reads_to
-  by_fault (Ok s) = (refl, λ lawful. ([], (course s).steps, refl, through_none {ot = ot} {et = et} o e))
-  by_fault (Err d) = (tt, through_none {ot = ot} {et = et} o e)
+  pub by_fault : ((s : Store) → Do s why.DiskFault x x) → (s : Result Store Damage) → OpenedBy Lawful Do s why.DiskFault x x
+  by_fault does (Ok s) = (refl, λ lawful. does s)
+  by_fault does (Err d) = (tt, none)
 
-  pub by_memory : (s : Result Store Damage) → OpenedBy Lawful course s why.NoMemory (outputs ot o et e) (outputs ot o et e) reads_to
-  by_memory (Ok s) = (refl, λ lawful. ([], (course s).steps, refl, through_none {ot = ot} {et = et} o e))
-  by_memory (Err d) = (tt, through_none {ot = ot} {et = et} o e)
+  pub by_memory : ((s : Store) → Do s why.NoMemory x x) → (s : Result Store Damage) → OpenedBy Lawful Do s why.NoMemory x x
+  by_memory does (Ok s) = (refl, λ lawful. does s)
+  by_memory does (Err d) = (tt, none)
 
 -- an index that was opened isn't full
 pub full_opened : (making : Bool) (needed : ℕ) (w : Why) → is_of_opening w ≡ false → (making ≡ true → needed ≤ 2 ^ 28) → FullBy making needed w

@@ -5,8 +5,10 @@ mod Arguments
 mod Asking
 mod Begun
 mod Chained
+mod Checked
 mod Closed
 mod Completed
+mod Deeds
 mod Defaults
 mod Emptied
 mod Ended
@@ -23,6 +25,7 @@ mod Joins
 mod Labels
 mod Leading
 mod Leavings
+mod Lettered
 mod Lined
 mod Limited
 mod Lines
@@ -47,6 +50,7 @@ mod Regrouped
 mod Rising
 mod Stopping
 mod Sums
+mod Telling
 mod Turns
 mod Unbroken
 mod Undone

@@ -18,11 +18,9 @@ use Rattle.rpm_words.specs.Words.{text_at}
 use Rattle.rpm_words.specs.Ask.{AskParts}
 use Rattle.rpm_tool.specs.declared.answer.Why.{Why}
 use Rattle.rpm_tool.specs.declared.answer.Why.TheVariants as why
-use Rattle.rpm_change.specs.Steps.{Bearer, Course}
-use Rattle.rpm_change.specs.Endings.{Outputs}
-use Rattle.rpm_tool.specs.Answers.{Went}
-use Rattle.rpm_tool.specs.Keyed.{HasIndex, BadIs, keyed_reaches}
-use Rattle.rpm_tool.specs.Reads.{Peeks, IsOfChains, argument_reach, reaches_by, reach_sum, reached_by}
+use Rattle.rpm_change.specs.Steps.{Bearer}
+use Rattle.rpm_tool.specs.Keyed.{HasIndex, CauseIs, BadIs, keyed_reaches}
+use Rattle.rpm_tool.specs.Reads.{Peeks, argument_reach, reaches_by, reach_sum, reached_by}
 use Rattle.rpm_tool.specs.Reports.{unindexed}
 use Rattle.rpm_tool.proofs.Sums.{store_by, store_sum}
 
@@ -91,40 +89,38 @@ module _ (old new : Files) (db : Database) (opened : IsOpened old new (Ok db)) (
   }
 
   -- where it was current, nothing changes; where it wasn't, it holds the rows
-  module _ (words : List (List ℕ)) (a : AskParts) (course : Course) (before now : Outputs) (reads_to : Bearer → Type 0) where
-    broken : (unit : ℕ) → (HasIndexRows db new.pkg new.idx → Went course (why.BadIndex unit) before now reads_to)
-        → IsOfChains a.chosen (map (text_at words) a.arguments) new.idx (why.BadIndex unit) → BadIs words a old (why.BadIndex unit)
-    broken unit went chain = elim (cases_Bool (is_blank db)) [
-      | inl blank ↦ absurd (went (no_index_rows db new.pkg new.idx (indexed ∙ ap not blank)))
+  module _ (words : List (List ℕ)) (a : AskParts) where
+    broken : (unit : ℕ) → (HasIndexRows db new.pkg new.idx → ⊥) → CauseIs words a new.idx (why.BadIndex unit) → BadIs words a old (why.BadIndex unit)
+    broken unit lawful cause = elim (cases_Bool (is_blank db)) [
+      | inl blank ↦ absurd (lawful (no_index_rows db new.pkg new.idx (indexed ∙ ap not blank)))
       | inr some ↦ elim (cases_Bool (must_make old.idx (store old.pkg))) [
-        | inl making ↦ absurd (went (λ is. (opened.made making).rows_are))
+        | inl making ↦ absurd (lawful (λ is. (opened.made making).rows_are))
         | inr kept ↦ (
           db.store,
           opened.store_is,
           current_of (is_blank db) (is_current_at db.store.generation old.idx) some
               (subst (λ (s : Result Store Damage). must_make old.idx s ≡ false) opened.store_is kept),
-          subst (λ (f : Files). IsOfChains a.chosen (map (text_at words) a.arguments) f.idx (why.BadIndex unit)) (opened.same kept) chain,
+          subst (λ (f : Files). CauseIs words a f.idx (why.BadIndex unit)) (opened.same kept) cause,
         )
       ]
     ]
 
-    pub bad_opened : (w : Why) → (HasIndexRows db new.pkg new.idx → Went course w before now reads_to)
-        → IsOfChains a.chosen (map (text_at words) a.arguments) new.idx w → BadIs words a old w
-    bad_opened (why.BadIndex unit) went chain = broken unit went chain
-    bad_opened why.Done went chain = tt
-    bad_opened (why.Failed n) went chain = tt
-    bad_opened (why.Usage f) went chain = tt
-    bad_opened (why.BadFormat f) went chain = tt
-    bad_opened (why.BadLog u) went chain = tt
-    bad_opened (why.Damaged d) went chain = tt
-    bad_opened (why.IndexFull u) went chain = tt
-    bad_opened why.NumbersSpent went chain = tt
-    bad_opened why.GenerationSpent went chain = tt
-    bad_opened why.StoreFull went chain = tt
-    bad_opened (why.NotEmpty held) went chain = tt
-    bad_opened (why.LogFull u) went chain = tt
-    bad_opened why.DiskFault went chain = tt
-    bad_opened why.ShelfFault went chain = tt
-    bad_opened why.OutFault went chain = tt
-    bad_opened why.ErrFault went chain = tt
-    bad_opened why.NoMemory went chain = tt
+    pub bad_opened : (w : Why) → ((unit : ℕ) → w ≡ why.BadIndex unit → HasIndexRows db new.pkg new.idx → ⊥) → CauseIs words a new.idx w → BadIs words a old w
+    bad_opened (why.BadIndex unit) lawful cause = broken unit (lawful unit refl) cause
+    bad_opened why.Done lawful cause = tt
+    bad_opened (why.Failed n) lawful cause = tt
+    bad_opened (why.Usage f) lawful cause = tt
+    bad_opened (why.BadFormat f) lawful cause = tt
+    bad_opened (why.BadLog u) lawful cause = tt
+    bad_opened (why.Damaged d) lawful cause = tt
+    bad_opened (why.IndexFull u) lawful cause = tt
+    bad_opened why.NumbersSpent lawful cause = tt
+    bad_opened why.GenerationSpent lawful cause = tt
+    bad_opened why.StoreFull lawful cause = tt
+    bad_opened (why.NotEmpty held) lawful cause = tt
+    bad_opened (why.LogFull u) lawful cause = tt
+    bad_opened why.DiskFault lawful cause = tt
+    bad_opened why.ShelfFault lawful cause = tt
+    bad_opened why.OutFault lawful cause = tt
+    bad_opened why.ErrFault lawful cause = tt
+    bad_opened why.NoMemory lawful cause = tt

@@ -1,5 +1,5 @@
 -- A database that is recovered, and then opened.
-use Rattle.std.proofs.Common.{◌≡◌, ℕ, ◌+◌, ◌≤◌, Bool, List, Ok, refl, sym, ap, ◌∙◌, subst, arith}
+use Rattle.std.proofs.Common.{◌≡◌, ℕ, ◌+◌, ◌≤◌, Bool, List, [], Ok, refl, sym, ap, ◌∙◌, subst, arith}
 use Rattle.rpm_outside.specs.declared.disk.File.{File}
 use Rattle.rpm_outside.specs.declared.disk.File.TheVariants.{Pkg}
 use Rattle.rpm_outside.specs.Changes.{AreSettled}
@@ -16,9 +16,11 @@ use Rattle.rpm_qfparse.specs.Tree.{Tree}
 use Rattle.rpm_words.specs.Ask.{AskParts}
 use Rattle.rpm_tool.specs.declared.answer.Why.{Why}
 use Rattle.rpm_tool.specs.declared.answer.Why.TheVariants as why
-use Rattle.rpm_tool.specs.Queries.{query}
-use Rattle.rpm_change.specs.Endings.{Outputs, outputs}
-use Rattle.rpm_tool.specs.Keyed.{IsLawfulGroup, AreLawfulGroups, StandsStill, OpenedBy, KeyedIs, AnswersByKey, keyed_to}
+use Rattle.rpm_tool.specs.Asked.{inquiry_of}
+use Rattle.rpm_change.specs.Endings.{Outputs, outputs, Through}
+use Rattle.rpm_tool.specs.Keyed.{IsLawfulGroup, AreLawfulGroups, StandsStill, OpenedBy, Does, KeyedIs, AnswersByKey, keyed_to}
+use Rattle.rpm_tool.proofs.Deeds.{does_memory}
+use Rattle.rpm_tool.proofs.Reaching.{through_none}
 use Rattle.rpm_tool.proofs.Unrecovered.{loaded_by, loaded_memory}
 
 -- ---- the log
@@ -31,16 +33,13 @@ closed_stands files closed = ap (λ (l : LogState). with_state l (unlogged files
 
 pub opened_keyed : (tree : Tree) (words : List (List ℕ)) (a : AskParts) (old mid : Files) (given : Why) (before after : Outputs) (first between now : ℕ)
     (finished : Bool) → unlogged mid ≡ reopened old → between ≡ first → RecoverSays (log_state old.log) (Ok finished)
-    → OpenedBy (IsLawful mid.pkg mid.idx) (λ s. query tree (packages mid.pkg s) words a) (store mid.pkg) given before after
-    (λ s for. now ≤ between + keyed_to mid words a s for) → KeyedIs tree words a old given before after first now
+    → OpenedBy (IsLawful mid.pkg mid.idx) (Does tree words a mid between now) (store mid.pkg) given before after
+    → KeyedIs tree words a old given before after first now
 opened_keyed tree words a old mid given before after first between now finished stand same says opened =
     let r = reopened old in
-    loaded_by (IsLawful r.pkg r.idx) (λ s. query tree (packages r.pkg s) words a) (store r.pkg) (λ s for. now ≤ first + keyed_to r words a s for)
-    (log_state old.log) finished given before after says
-    (subst (λ (n : ℕ). OpenedBy (IsLawful r.pkg r.idx) (λ s. query tree (packages r.pkg s) words a) (store r.pkg) given before after
-    (λ s for. now ≤ n + keyed_to r words a s for)) same
-    (subst (λ (f : Files). OpenedBy (IsLawful f.pkg f.idx) (λ s. query tree (packages f.pkg s) words a) (store f.pkg) given before after
-    (λ s for. now ≤ between + keyed_to f words a s for)) stand opened))
+    loaded_by (IsLawful r.pkg r.idx) (Does tree words a r first now) (store r.pkg) (log_state old.log) finished given before after says
+    (subst (λ (n : ℕ). OpenedBy (IsLawful r.pkg r.idx) (Does tree words a r n now) (store r.pkg) given before after) same
+    (subst (λ (f : Files). OpenedBy (IsLawful f.pkg f.idx) (Does tree words a f between now) (store f.pkg) given before after) stand opened))
 
 -- ---- what a stop leaves
 
@@ -105,9 +104,12 @@ pub unbegun : {D : Type 0} (files : D → Files) (left_since : D → ℕ → Fil
 unbegun files left_since moment bytes_read tree words a ot et o e disk = record {
   went =
       (let r = reopened (files disk) in
-      loaded_memory (IsLawful r.pkg r.idx) (λ s. query tree (packages r.pkg s) words a) (store r.pkg)
-      (λ s for. bytes_read disk Pkg ≤ bytes_read disk Pkg + keyed_to r words a s for) ot et o e (log_state (files disk).log));
-  reads = λ lawful. omega arith;
+      let n = bytes_read disk Pkg in
+      let x = outputs ot o et e in
+      let none : Through [] x x = through_none {ot = ot} {et = et} o e in
+      loaded_memory (IsLawful r.pkg r.idx) (Does tree words a r n n) (store r.pkg) x none
+      (λ s. does_memory tree words a (packages r.pkg s) (λ for. n ≤ n + keyed_to r words a s for) x none (inquiry_of a.mode)) (log_state (files disk).log));
+  reads = λ query lawful. omega arith;
   full = tt;
   bad = tt;
   complete = λ lawful room. refl;

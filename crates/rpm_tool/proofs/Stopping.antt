@@ -115,3 +115,12 @@ pub reached_later : (T : Type 0) (ot et : Bool) (all : List Step) (r : Result T 
 reached_later T ot et all (Ok t) o o' o'' e e' e'' reads_to none some = through_more {ot = ot} {et = et} [] all o o' o'' e e' e'' none some
 reached_later T ot et all (Err what) o o' o'' e e' e'' reads_to none some =
     goes_stop ot et all all all [] o o' o'' e e' e'' (sym (append-nil all)) (record { done = []; parts = refl; went = none }) T T what reads_to some
+
+-- a stop of one call is that of another
+pub reached_as : (T T' : Type 0) (all : List Step) (what : Stop) (old new : Outputs) (reads_to : Bearer → Type 0)
+    → Reached {T = T} all (Err what) old new reads_to → Reached {T = T'} all (Err what) old new reads_to
+reached_as T T' all stop.ReadFault old new reads_to r = r
+reached_as T T' all (stop.BadIndex unit) old new reads_to r = r
+reached_as T T' all stop.OutFault old new reads_to r = r
+reached_as T T' all stop.ErrFault old new reads_to r = r
+reached_as T T' all stop.NoMemory old new reads_to r = r

@@ -1,5 +1,5 @@
 -- What the log says of a database: it is gone through, or what is said where it can't be recovered.
-use Rattle.std.proofs.Common.{◌≡◌, ℕ, Bool, true, false, List, Result, Ok, Err, refl, sym, subst}
+use Rattle.std.proofs.Common.{◌≡◌, ℕ, Bool, true, false, List, [], Result, Ok, Err, refl, sym, subst}
 use Rattle.rpm_outside.specs.Files.{Files}
 use Rattle.rpm_outside.specs.Logs.{LogState, Closed, Malformed, Open}
 use Rattle.rpm_group.specs.declared.recovery.RecoverFault.{RecoverFault}
@@ -11,35 +11,32 @@ use Rattle.rpm_pkgdb.specs.Store.{Store}
 use Rattle.rpm_words.specs.Ask.{AskParts}
 use Rattle.rpm_tool.specs.declared.answer.Why.{Why}
 use Rattle.rpm_tool.specs.declared.answer.Why.TheVariants as why
-use Rattle.rpm_change.specs.Steps.{Bearer, Course}
-use Rattle.rpm_change.specs.Endings.{Outputs, outputs}
-use Rattle.rpm_tool.specs.Keyed.{OpenedBy, LoadedBy, FullIs, BadIs, is_done, is_done_or_outside, why_of_recover}
+use Rattle.rpm_change.specs.Endings.{Outputs, Through}
+use Rattle.rpm_tool.specs.Keyed.{Deeds, OpenedBy, LoadedBy, FullIs, BadIs, is_done, is_done_or_outside, why_of_recover}
 use Rattle.rpm_tool.proofs.Endings.{by_fault, by_memory}
-use Rattle.rpm_tool.proofs.Reaching.{through_none}
 
-module _ (Lawful : Type 0) (course : Store → Course) (s : Result Store Damage) (reads_to : Store → Bearer → Type 0) where
+module _ (Lawful : Type 0) (Do : Deeds) (s : Result Store Damage) where
   pub loaded_by : (log : LogState) (finished : Bool) (given : Why) (old new : Outputs) → RecoverSays log (Ok finished)
-      → OpenedBy Lawful course s given old new reads_to → LoadedBy Lawful course s log given old new reads_to
-  loaded_by log true given old new says opened = subst (λ (l : LogState). LoadedBy Lawful course s l given old new reads_to) (sym says) opened
-  loaded_by log false given old new says opened = subst (λ (l : LogState). LoadedBy Lawful course s l given old new reads_to) (sym says) opened
+      → OpenedBy Lawful Do s given old new → LoadedBy Lawful Do s log given old new
+  loaded_by log true given old new says opened = subst (λ (l : LogState). LoadedBy Lawful Do s l given old new) (sym says) opened
+  loaded_by log false given old new says opened = subst (λ (l : LogState). LoadedBy Lawful Do s l given old new) (sym says) opened
 
-  module _ (ot et : Bool) (o e : List ℕ) where
-    pub loaded_memory : (log : LogState) → LoadedBy Lawful course s log why.NoMemory (outputs ot o et e) (outputs ot o et e) reads_to
-    loaded_memory Closed = by_memory Lawful course ot et o e reads_to s
-    loaded_memory (Malformed unit) = (tt, through_none {ot = ot} {et = et} o e)
-    loaded_memory (Open entries) = by_memory Lawful course ot et o e reads_to s
+  module _ (x : Outputs) (none : Through [] x x) where
+    pub loaded_memory : ((t : Store) → Do t why.NoMemory x x) → (log : LogState) → LoadedBy Lawful Do s log why.NoMemory x x
+    loaded_memory does Closed = by_memory Lawful Do x none does s
+    loaded_memory does (Malformed unit) = (tt, none)
+    loaded_memory does (Open entries) = by_memory Lawful Do x none does s
 
-    loaded_fault : (log : LogState) → LoadedBy Lawful course s log why.DiskFault (outputs ot o et e) (outputs ot o et e) reads_to
-    loaded_fault Closed = by_fault Lawful course ot et o e reads_to s
-    loaded_fault (Malformed unit) = (tt, through_none {ot = ot} {et = et} o e)
-    loaded_fault (Open entries) = by_fault Lawful course ot et o e reads_to s
+    loaded_fault : ((t : Store) → Do t why.DiskFault x x) → (log : LogState) → LoadedBy Lawful Do s log why.DiskFault x x
+    loaded_fault does Closed = by_fault Lawful Do x none does s
+    loaded_fault does (Malformed unit) = (tt, none)
+    loaded_fault does (Open entries) = by_fault Lawful Do x none does s
 
-    pub unrecovered : (log : LogState) (fault : RecoverFault) → RecoverSays log (Err fault)
-        → LoadedBy Lawful course s log (why_of_recover fault) (outputs ot o et e) (outputs ot o et e) reads_to
-    unrecovered log (recover.BadLog unit) says =
-        subst (λ (l : LogState). LoadedBy Lawful course s l (why.BadLog unit) (outputs ot o et e) (outputs ot o et e) reads_to) (sym says)
-        (refl, through_none {ot = ot} {et = et} o e)
-    unrecovered log recover.DiskFault says = loaded_fault log
+    pub unrecovered : ((t : Store) → Do t why.DiskFault x x) → (log : LogState) (fault : RecoverFault) → RecoverSays log (Err fault)
+        → LoadedBy Lawful Do s log (why_of_recover fault) x x
+    unrecovered does log (recover.BadLog unit) says =
+        subst (λ (l : LogState). LoadedBy Lawful Do s l (why.BadLog unit) x x) (sym says) (refl, none)
+    unrecovered does log recover.DiskFault says = loaded_fault does log
 
 -- what else is said where it isn't recovered
 pub unrecovered_full : (files : Files) (fault : RecoverFault) → FullIs files (why_of_recover fault)

@@ -13,7 +13,7 @@ use Rattle.rpm_words.specs.Ask.{AskParts}
 use Rattle.rpm_change.specs.Steps.{Course}
 use Rattle.rpm_change.specs.Endings.{Outputs}
 use Rattle.rpm_tool.specs.declared.answer.Why.TheVariants as why
-use Rattle.rpm_tool.specs.Asked.{is_query, is_package, needs_no_index, is_changing_in, is_changing, of_files, by_key}
+use Rattle.rpm_tool.specs.Asked.{is_query, is_package, needs_no_index, opens_index, is_changing_in, is_changing, of_files, by_key}
 use Rattle.rpm_tool.specs.Changing.{DidOpened, DidLoaded, DidOn, ChangesWith, StandsStillOr, after}
 use Rattle.rpm_tool.specs.Keyed.{AreLawfulGroups}
 use Rattle.rpm_tool.proofs.Grouped.{if_ok}
@@ -80,5 +80,20 @@ query_changes mode.Checkfiles is changes = absurd cc
 pub files_unchanging : (a : AskParts) → of_files a ≡ true → is_changing a ≡ true → ⊥
 files_unchanging a files changes = query_changes a.mode (and_parts (is_query a.mode) (is_package a.chosen) files).0 changes
 
+opening_changes : (m : Mode) (asked : Bool) → opens_index m asked ≡ true → is_changing_in m ≡ true → ⊥
+opening_changes mode.Query asked opens changes = absurd cc
+opening_changes mode.Addpkg asked opens changes = absurd cc
+opening_changes mode.Replacepkg asked opens changes = absurd cc
+opening_changes mode.Erasepkg asked opens changes = absurd cc
+opening_changes mode.Verify asked opens changes = absurd cc
+opening_changes mode.Initdb asked opens changes = absurd cc
+opening_changes mode.Rebuilddb asked opens changes = absurd cc
+opening_changes mode.Verifydb asked opens changes = absurd cc
+opening_changes mode.Exportdb asked opens changes = absurd cc
+opening_changes mode.Importdb asked opens changes = absurd cc
+opening_changes (mode.Exercise n) asked opens changes = absurd cc
+opening_changes mode.Order asked opens changes = absurd cc
+opening_changes mode.Checkfiles asked opens changes = absurd cc
+
 pub keyed_unchanging : (a : AskParts) → by_key a ≡ true → is_changing a ≡ true → ⊥
-keyed_unchanging a keyed changes = query_changes a.mode (and_parts (is_query a.mode) (not (needs_no_index a.chosen a.noindex)) keyed).0 changes
+keyed_unchanging a keyed changes = opening_changes a.mode (not (needs_no_index a.chosen a.noindex)) keyed changes

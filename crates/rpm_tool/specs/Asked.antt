@@ -1,7 +1,7 @@
 -- What command lines ask for, and by which format they print.
 use Rattle.std.specs.Prelude.{ℕ, List, Option, Some, None, Result, Ok, Err, Bool, true, false, not, ◌&&◌, if◌then◌else◌, codes}
 use Rattle.rpm_words.specs.declared.ask.Mode.{Mode}
-use Rattle.rpm_words.specs.declared.ask.Mode.TheVariants.{Query, Addpkg, Replacepkg, Erasepkg, Initdb, Rebuilddb, Verifydb, Exportdb, Importdb, Exercise, Checkfiles}
+use Rattle.rpm_words.specs.declared.ask.Mode.TheVariants.{Query, Addpkg, Replacepkg, Erasepkg, Verify, Initdb, Rebuilddb, Verifydb, Exportdb, Importdb, Exercise, Order, Checkfiles}
 use Rattle.rpm_words.specs.declared.switch.Chosen.{Chosen}
 use Rattle.rpm_words.specs.declared.switch.Chosen.TheVariants.{All, Number, Package}
 use Rattle.rpm_words.specs.declared.words.Span.{Span}
@@ -13,6 +13,8 @@ use Rattle.rpm_qfparse.specs.Tree.{Tree}
 use Rattle.rpm_qfparse.specs.Format.{format}
 use Rattle.rpm_tool.specs.declared.asked.Deed.{Deed}
 use Rattle.rpm_tool.specs.declared.asked.Deed.TheVariants as deed
+use Rattle.rpm_tool.specs.declared.asked.Inquiry.{Inquiry}
+use Rattle.rpm_tool.specs.declared.asked.Inquiry.TheVariants as inquiry
 
 -- what a command does with the database that it opens
 abbrev pub deed_of : Mode → Deed
@@ -20,6 +22,12 @@ deed_of Exportdb = deed.Export
 deed_of Verifydb = deed.Verify
 deed_of Checkfiles = deed.CheckFiles
 deed_of others = deed.Print
+
+-- what a command asks of a database that it opens with its index
+abbrev pub inquiry_of : Mode → Inquiry
+inquiry_of Verify = inquiry.Unmet
+inquiry_of Order = inquiry.Order
+inquiry_of others = inquiry.Query
 
 -- a query that asks no index: of package files, of all packages, of patterns and of numbers always, else where the words say so
 abbrev pub needs_no_index : Chosen → Bool → Bool
@@ -43,9 +51,16 @@ abbrev pub is_query : Mode → Bool
 is_query Query = true
 is_query others = false
 
+-- a query opens the database with its index where it asks for it, and the reports on requirements always do
+abbrev pub opens_index : Mode → Bool → Bool
+opens_index Query asked = asked
+opens_index Verify asked = true
+opens_index Order asked = true
+opens_index others asked = false
+
 -- the command opens the database with its index
 abbrev pub by_key : AskParts → Bool
-by_key a = is_query a.mode && not (needs_no_index a.chosen a.noindex)
+by_key a = opens_index a.mode (not (needs_no_index a.chosen a.noindex))
 
 -- the command changes packages, or makes the database
 abbrev pub is_changing : AskParts → Bool

@@ -1,4 +1,4 @@
--- Questions by key: what they answer, and what they leave.
+-- The commands that open the database with its index, questions by key and the reports on requirements: what they answer, and what they leave.
 use Rattle.std.specs.Prelude.{◌≡◌, ◌⊎◌, ℕ, ◌+◌, ◌^◌, ◌<◌, ◌≤◌, List, [], map, Bool, true, false, not, ◌==◌, Result, Ok, Err}
 use Rattle.rpm_outside.specs.Crash.{LeavesOnly}
 use Rattle.rpm_outside.specs.declared.disk.File.{File}
@@ -11,21 +11,29 @@ use Rattle.rpm_group.specs.Loads.{IsSound}
 use Rattle.rpm_pkgdb.specs.declared.slot.Damage.{Damage}
 use Rattle.rpm_pkgdb.specs.Store.{Store, store}
 use Rattle.rpm_pkgdb.specs.Costs.{opening_cost}
-use Rattle.rpm_db.specs.State.{packages}
+use Rattle.std.specs.Ordering.{nat_cmp}
+use Rattle.std.specs.FinMap.{FinMap}
+use Rattle.rpm_db.specs.State.{Package, packages}
 use Rattle.rpm_db.specs.Lawful.{IsLawful, HasRows, is_current_at}
 use Rattle.rpm_db.specs.Openings.{must_make, units_needed, making_cost}
+use Rattle.rpm_check.specs.Edges.{graph_of}
+use Rattle.rpm_words.specs.declared.switch.Chosen.{Chosen}
 use Rattle.rpm_words.specs.Words.{text_at}
 use Rattle.rpm_words.specs.Ask.{AskParts}
 use Rattle.rpm_qfparse.specs.Tree.{Tree}
 use Rattle.rpm_select.specs.Reach.{Reach}
 use Rattle.rpm_tool.specs.declared.answer.Why.{Why}
 use Rattle.rpm_tool.specs.declared.answer.Why.TheVariants as why
+use Rattle.rpm_tool.specs.declared.asked.Inquiry.{Inquiry}
+use Rattle.rpm_tool.specs.declared.asked.Inquiry.TheVariants as inquiry
+use Rattle.rpm_tool.specs.Asked.{is_query, inquiry_of}
 use Rattle.rpm_change.specs.Steps.{Bearer, Course}
 use Rattle.rpm_tool.specs.Queries.{query}
 use Rattle.rpm_tool.specs.Reports.{unindexed}
+use Rattle.rpm_tool.specs.Requirements.{unsatisfied, ordering, IsListed, IsOfSome}
 use Rattle.rpm_tool.specs.Reads.{argument_reach, reaches_by, reach_sum, reached_by, IsOfChains}
 use Rattle.rpm_change.specs.Endings.{Outputs, Through}
-use Rattle.rpm_tool.specs.Answers.{Went, Misread, Refused}
+use Rattle.rpm_tool.specs.Answers.{Went, Misread, Refused, Anywhere}
 
 -- ---- lawful disks
 
@@ -64,21 +72,31 @@ is_refusal (why.BadLog unit) = true
 is_refusal (why.Damaged damage) = true
 is_refusal others = false
 
--- of a lawful database; its index may have to be made, and be too large, and then nothing is done
-abbrev pub WentBy : Course → Why → Outputs → Outputs → (Bearer → Type 0) → Type 0
-WentBy course (why.IndexFull needed) old new reads_to = Through [] old new
-WentBy course others old new reads_to = Went course others old new reads_to
+-- done, with or without arguments that failed
+abbrev pub is_done : Why → Bool
+is_done why.Done = true
+is_done (why.Failed n) = true
+is_done others = false
+
+-- what a command does with the store of a lawful database
+abbrev pub Deeds : Type 1
+Deeds = Store → Why → Outputs → Outputs → Type 0
+
+-- its index may have to be made, and be too large, and then nothing is done
+abbrev pub WentBy : (Why → Outputs → Outputs → Type 0) → Why → Outputs → Outputs → Type 0
+WentBy Does (why.IndexFull needed) old new = Through [] old new
+WentBy Does others old new = Does others old new
 
 -- of one that can be read, what was done where it is lawful; of one that can't, its first damage
-abbrev pub OpenedBy : Type 0 → (Store → Course) → Result Store Damage → Why → Outputs → Outputs → (Store → Bearer → Type 0) → Type 0
-OpenedBy Lawful course (Ok s) given old new reads_to = (is_refusal given ≡ false) × (Lawful → WentBy (course s) given old new (reads_to s))
-OpenedBy Lawful course (Err damage) given old new reads_to = Refused damage given × Through [] old new
+abbrev pub OpenedBy : Type 0 → Deeds → Result Store Damage → Why → Outputs → Outputs → Type 0
+OpenedBy Lawful Does (Ok s) given old new = (is_refusal given ≡ false) × (Lawful → WentBy (Does s) given old new)
+OpenedBy Lawful Does (Err damage) given old new = Refused damage given × Through [] old new
 
 -- the log is read first
-abbrev pub LoadedBy : Type 0 → (Store → Course) → Result Store Damage → LogState → Why → Outputs → Outputs → (Store → Bearer → Type 0) → Type 0
-LoadedBy Lawful course s Closed given old new reads_to = OpenedBy Lawful course s given old new reads_to
-LoadedBy Lawful course s (Malformed unit) given old new reads_to = Misread unit given × Through [] old new
-LoadedBy Lawful course s (Open entries) given old new reads_to = OpenedBy Lawful course s given old new reads_to
+abbrev pub LoadedBy : Type 0 → Deeds → Result Store Damage → LogState → Why → Outputs → Outputs → Type 0
+LoadedBy Lawful Does s Closed given old new = OpenedBy Lawful Does s given old new
+LoadedBy Lawful Does s (Malformed unit) given old new = Misread unit given × Through [] old new
+LoadedBy Lawful Does s (Open entries) given old new = OpenedBy Lawful Does s given old new
 
 -- what is said where an index must be made, or needn't, that needs so many units
 abbrev pub FullBy : Bool → ℕ → Why → Type 0
@@ -92,17 +110,20 @@ FullBy making needed others = making ≡ true → needed ≤ 2 ^ 28
 abbrev pub FullIs : Files → Why → Type 0
 FullIs files given = FullBy (must_make files.idx (store files.pkg)) (units_needed files.pkg (store files.pkg)) given
 
--- an index is told to be malformed only where it is current, with the fault of the chain of a key that is asked
+-- what a malformed index is told with: of a query the fault of the chain of a key that is asked, of a report that of some key
+abbrev pub CauseBy : Inquiry → Chosen → List (List ℕ) → Units → Why → Type 0
+CauseBy inquiry.Query chosen texts idx given = IsOfChains chosen texts idx given
+CauseBy inquiry.Unmet chosen texts idx given = IsOfSome idx given
+CauseBy inquiry.Order chosen texts idx given = IsOfSome idx given
+
+abbrev pub CauseIs : List (List ℕ) → AskParts → Units → Why → Type 0
+CauseIs words a idx given = CauseBy (inquiry_of a.mode) a.chosen (map (text_at words) a.arguments) idx given
+
+-- it is told only where it is current
 abbrev pub BadIs : List (List ℕ) → AskParts → Files → Why → Type 0
 BadIs words a files (why.BadIndex unit) = (s : Store) × (store files.pkg ≡ Ok s) × (is_current_at s.generation files.idx ≡ true)
-    × IsOfChains a.chosen (map (text_at words) a.arguments) files.idx (why.BadIndex unit)
+    × CauseIs words a files.idx (why.BadIndex unit)
 BadIs words a files others = Unit {0}
-
--- done, with or without arguments that failed
-abbrev pub is_done : Why → Bool
-is_done why.Done = true
-is_done (why.Failed n) = true
-is_done others = false
 
 -- an index that must be made has room
 abbrev pub HasRoom : Files → Type 0
@@ -137,20 +158,34 @@ asked_cost file (Err damage) words a = 0
 abbrev pub keyed_cost : Files → List (List ℕ) → AskParts → ℕ
 keyed_cost files words a = opening_cost files.pkg + making_cost files.idx (store files.pkg) + asked_cost files.pkg (store files.pkg) words a
 
--- ---- a question by key
+-- ---- what is answered
 
--- how far it went on these files, of whose Packages.db so many bytes were read before and then
+-- how far the order was told, by the order of the graph
+abbrev pub OrderIs : FinMap nat_cmp Package → Why → Outputs → Outputs → Type 0
+OrderIs packages given old new = (classes : List (List ℕ)) × IsListed (graph_of packages) (is_done given) classes
+    × Went (ordering packages classes) given old new Anywhere
+
+-- how far a command went on these packages; how much is read isn't said of a report
+abbrev pub DoesBy : Inquiry → Tree → List (List ℕ) → AskParts → FinMap nat_cmp Package → (Bearer → Type 0) → Why → Outputs → Outputs → Type 0
+DoesBy inquiry.Query tree words a packages reads_to given old new = Went (query tree packages words a) given old new reads_to
+DoesBy inquiry.Unmet tree words a packages reads_to given old new = Went (unsatisfied packages) given old new Anywhere
+DoesBy inquiry.Order tree words a packages reads_to given old new = OrderIs packages given old new
+
+-- on these files, of whose Packages.db so many bytes were read before and then
+abbrev pub Does : Tree → List (List ℕ) → AskParts → Files → ℕ → ℕ → Deeds
+Does tree words a r before now s given old new =
+    DoesBy (inquiry_of a.mode) tree words a (packages r.pkg s) (λ for. now ≤ before + keyed_to r words a s for) given old new
+
 abbrev pub KeyedIs : Tree → List (List ℕ) → AskParts → Files → Why → Outputs → Outputs → ℕ → ℕ → Type 0
 KeyedIs tree words a files given old new before now =
     let r = reopened files in
-    LoadedBy (IsLawful r.pkg r.idx) (λ s. query tree (packages r.pkg s) words a) (store r.pkg) (log_state files.log) given old new
-    (λ s for. now ≤ before + keyed_to r words a s for)
+    LoadedBy (IsLawful r.pkg r.idx) (Does tree words a r before now) (store r.pkg) (log_state files.log) given old new
 
 -- all that is said of it on a disk that tells its contents
 pub record AnswersByKey {D : Type 0} (files : D → Files) (left_since : D → ℕ → Files → Type 0) (moment : D → ℕ) (bytes_read : D → File → ℕ) (tree : Tree)
     (words : List (List ℕ)) (a : AskParts) (given : Why) (before now : Outputs) (old new : D) : Type 0 where
   pub went : KeyedIs tree words a (files old) given before now (bytes_read old Pkg) (bytes_read new Pkg)
-  pub reads : IsLawfulGroup (files old) → bytes_read new Pkg ≤ bytes_read old Pkg + keyed_cost (reopened (files old)) words a
+  pub reads : is_query a.mode ≡ true → IsLawfulGroup (files old) → bytes_read new Pkg ≤ bytes_read old Pkg + keyed_cost (reopened (files old)) words a
   pub full : FullIs (reopened (files old)) given
   pub bad : BadIs words a (reopened (files old)) given
   pub complete : IsLawfulGroup (files old) → HasRoom (reopened (files old)) → is_done_or_outside given ≡ true

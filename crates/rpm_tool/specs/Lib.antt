@@ -12,6 +12,7 @@ pub mod PackageFiles
 pub mod Queries
 pub mod Reads
 pub mod Reports
+pub mod Requirements
 pub mod Steps
 pub mod Tasks
 pub mod Working

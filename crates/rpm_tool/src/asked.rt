@@ -2,7 +2,7 @@
 
 ghost use Rattle.std.specs.Prelude.{◌≡◌, true, Some, Ok, IfOk, IfErr};
 ghost use Rattle.rpm_words.specs.Ask.{ask, IsSound};
-ghost use Rattle.rpm_tool.specs.Asked.{deed_of, of_files, by_key, needs_no_index, format_text, asks_format};
+ghost use Rattle.rpm_tool.specs.Asked.{deed_of, inquiry_of, of_files, by_key, needs_no_index, format_text, asks_format};
 ghost use Rattle.rpm_tool.specs.Answers.{Undone};
 
 use crate::answer::Why;
@@ -45,11 +45,37 @@ pub fn deed_of(mode: Mode) -> Deed
     }
 }
 
+/// What a command asks of a database that it opens with its index.
+#[derive(Clone, Copy, Debug, PartialEq, Eq)]
+pub enum Inquiry {
+    /// What its arguments pick.
+    Query,
+    /// Which requirements no package meets.
+    Unmet,
+    /// In which order the packages could be installed.
+    Order,
+}
+
+/// What a command of this mode asks.
+pub fn inquiry_of(mode: Mode) -> Inquiry
+    ensures { result ≡ inquiry_of mode }
+{
+    match mode {
+        Mode::Verify => Inquiry::Unmet,
+        Mode::Order => Inquiry::Order,
+        _ => Inquiry::Query,
+    }
+}
+
 /// Whether a command opens the database with its index.
 pub fn by_key(ask: &Ask) -> bool
     ensures { result ≡ by_key ask.now }
 {
-    matches!(ask.mode(), Mode::Query) && !needs_no_index(ask.chosen(), ask.noindex())
+    match ask.mode() {
+        Mode::Query => !needs_no_index(ask.chosen(), ask.noindex()),
+        Mode::Verify | Mode::Order => true,
+        _ => false,
+    }
 }
 
 /// Whether a command is a query of package files.

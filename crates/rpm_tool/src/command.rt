@@ -16,7 +16,7 @@ ghost use Rattle.rpm_words.specs.declared.ask.Mode.TheVariants as mode;
 ghost use Rattle.rpm_words.specs.Words.{text_at};
 ghost use Rattle.rpm_words.specs.Ask.{AskParts, ask, IsSound};
 ghost use Rattle.rpm_qfparse.specs.Tree.{Tree};
-ghost use Rattle.rpm_tool.specs.Asked.{of_files, by_key, is_changing, asks_change, asks_format, asks};
+ghost use Rattle.rpm_tool.specs.Asked.{is_query, of_files, by_key, is_changing, asks_change, asks_format, asks};
 ghost use Rattle.rpm_tool.specs.Changing.{DidOn, ChangesWith, EmptyBy};
 ghost use Rattle.rpm_tool.specs.Closing.{status_of, closing};
 ghost use Rattle.rpm_tool.specs.Steps.{numbers, Rises};
@@ -284,8 +284,8 @@ pub fn run<D: Disk, S: Shelf, O: Sink, E: Sink>(
         → Ends (λ mid. KeyedIs tree words.now a (D.files disk) result.0.why (outputs O.tells (O.taken out.old) E.tells (E.taken err.old)) mid
         (D.bytes_read disk File.Pkg) (D.bytes_read result.1 File.Pkg)) (closing words.now result.0.why)
         (outputs O.tells (O.taken out.new) E.tells (E.taken err.new)) (E.faults err.old) (E.faults err.new) }
-    ensures keyed_reads { (a : AskParts) (tree : Tree) → asks words.now ≡ Some (a, tree) → by_key a ≡ true → IsTrue D.tells → IsLawfulGroup (D.files disk)
-        → D.bytes_read result.1 File.Pkg ≤ D.bytes_read disk File.Pkg + keyed_cost (reopened (D.files disk)) words.now a }
+    ensures keyed_reads { (a : AskParts) (tree : Tree) → asks words.now ≡ Some (a, tree) → by_key a ≡ true → is_query a.mode ≡ true
+        → IsTrue D.tells → IsLawfulGroup (D.files disk) → D.bytes_read result.1 File.Pkg ≤ D.bytes_read disk File.Pkg + keyed_cost (reopened (D.files disk)) words.now a }
     // An index that must be made and is too large is told, exactly there; one that is malformed with the fault of a chain that was asked.
     ensures index_full { (a : AskParts) (tree : Tree) → asks words.now ≡ Some (a, tree) → by_key a ≡ true → IsTrue D.tells
         → FullIs (reopened (D.files disk)) result.0.why }

@@ -1,4 +1,4 @@
-//! Questions by key: the database is opened with its index.
+//! The commands that open the database with its index: questions by key, and the reports on requirements.
 
 ghost use Rattle.std.specs.Prelude.{◌≡◌, ◌+◌, ◌≤◌, [], false, true, IsTrue};
 ghost use Rattle.rpm_outside.specs.Buffered.{inner, holds, HandsOn};
@@ -7,16 +7,15 @@ ghost use Rattle.rpm_outside.specs.Changes.{IsSettled};
 ghost use Rattle.rpm_outside.specs.declared.disk.File.TheVariants.{Pkg, Idx};
 ghost use Rattle.rpm_outside.specs.Crash.{LeavesOnly};
 ghost use Rattle.rpm_pkgdb.specs.Store.{store};
-ghost use Rattle.rpm_db.specs.State.{packages};
 ghost use Rattle.rpm_db.specs.Lawful.{IsLawful, AreLawful, IsLawfulStill, Remade};
 ghost use Rattle.rpm_db.specs.Runs.{Runs};
-ghost use Rattle.rpm_tool.specs.Queries.{query};
-ghost use Rattle.rpm_tool.specs.Keyed.{HasIndex, OpenedBy, AnswersByKey, FullIs, BadIs, is_done, keyed_to, keyed_cost, why_of_recover};
+ghost use Rattle.rpm_tool.specs.Asked.{is_query};
+ghost use Rattle.rpm_tool.specs.Keyed.{HasIndex, OpenedBy, AnswersByKey, FullIs, BadIs, Does, is_done, keyed_cost, why_of_recover};
 ghost use Rattle.rpm_change.specs.Endings.{outputs};
 ghost use Rattle.rpm_tool.specs.Answers.{is_foreign};
 
 use crate::answer::Why;
-use crate::query::query_opened;
+use crate::inquiries::answer_inquiry;
 use rpm_db::{Db, DbOpenFault};
 use rpm_group::{RecoverFault, recover};
 use rpm_outside::{Buffered, Disk, File, Sink};
@@ -49,11 +48,10 @@ fn answer_indexed<D: Disk, O: Sink + Drop, E: Sink + Drop>(
     requires pkg { IsTrue D.tells → IsSettled Pkg (D.files disk.old) (D.left_since disk.old (D.moment disk.old)) }
     requires idx { IsTrue D.tells → IsSettled Idx (D.files disk.old) (D.left_since disk.old (D.moment disk.old)) }
     ensures went { IsTrue D.tells → OpenedBy (IsLawful (D.files disk.old).pkg (D.files disk.old).idx)
-        (λ s. query format.now (packages (D.files disk.old).pkg s) words.now ask.now) (store (D.files disk.old).pkg) result
-        (outputs O.tells (O.taken (inner out.old)) E.tells (E.taken (inner err.old))) (outputs O.tells (O.taken (inner out.new)) E.tells
-        (E.taken (inner err.new))) (λ s for. D.bytes_read disk.new File.Pkg ≤ D.bytes_read disk.old File.Pkg
-        + keyed_to (D.files disk.old) words.now ask.now s for) }
-    ensures reads { IsTrue D.tells → IsLawful (D.files disk.old).pkg (D.files disk.old).idx → D.bytes_read disk.new File.Pkg
+        (Does format.now words.now ask.now (D.files disk.old) (D.bytes_read disk.old File.Pkg) (D.bytes_read disk.new File.Pkg))
+        (store (D.files disk.old).pkg) result (outputs O.tells (O.taken (inner out.old)) E.tells (E.taken (inner err.old))) (outputs O.tells
+        (O.taken (inner out.new)) E.tells (E.taken (inner err.new))) }
+    ensures reads { is_query ask.now.mode ≡ true → IsTrue D.tells → IsLawful (D.files disk.old).pkg (D.files disk.old).idx → D.bytes_read disk.new File.Pkg
         ≤ D.bytes_read disk.old File.Pkg + keyed_cost (D.files disk.old) words.now ask.now }
     ensures index_full { IsTrue D.tells → FullIs (D.files disk.old) result }
     ensures bad_index { IsTrue D.tells → BadIs words.now ask.now (D.files disk.old) result }
@@ -70,7 +68,7 @@ fn answer_indexed<D: Disk, O: Sink + Drop, E: Sink + Drop>(
     ensures err_rest { HandsOn E.follows err.old err.new }
 {
     match Db::open_settled(alloc, disk) {
-        Ok(db) => query_opened(alloc, &db, disk, words, ask, format, out, err),
+        Ok(db) => answer_inquiry(alloc, &db, disk, words, ask, format, out, err),
         Err(DbOpenFault::Damaged(damage)) => Why::Damaged(damage),
         Err(DbOpenFault::IndexFull { needed }) => Why::IndexFull { needed },
         Err(DbOpenFault::DiskFault) => Why::DiskFault,
@@ -79,8 +77,8 @@ fn answer_indexed<D: Disk, O: Sink + Drop, E: Sink + Drop>(
 }
 
 /// Finishes what a stop left of a change, opens the database with its index, which is made from the packages where it isn't current, and
-/// answers. Of `Packages.db` it reads the slot pages, the blocks of all packages where the index must be made, and for each argument
-/// those of the packages that have one of its keys.
+/// answers. Of `Packages.db` it reads the slot pages, the blocks of all packages where the index must be made, and of a query for each
+/// argument those of the packages that have one of its keys; what a report reads, it says itself.
 pub fn answer_keyed<D: Disk, O: Sink + Drop, E: Sink + Drop>(
     alloc: Global,
     disk: D,

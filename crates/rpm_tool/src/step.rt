@@ -159,7 +159,7 @@ fn with_magic(alloc: Global, blob: &[u8]) -> Result<Vec<u8>, AllocError>
 }
 
 /// Writes a text to out.
-fn put_text<O: Sink + Drop>(out: &mut Buffered<O>, text: &[u8]) -> Result<bool, Stop>
+pub fn put_text<O: Sink + Drop>(out: &mut Buffered<O>, text: &[u8]) -> Result<bool, Stop>
     requires out_empty { holds out.old ≡ [] }
     ensures step { (for : Bearer) (err_tells : Bool) (err : List ℕ) → StepIs (ToOut for text.now) result
         (outputs O.tells (O.taken (inner out.old)) err_tells err) (outputs O.tells (O.taken (inner out.new)) err_tells err) }

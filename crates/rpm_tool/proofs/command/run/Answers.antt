@@ -35,7 +35,7 @@ returns-clause-keyed g c = λ a tree asked is told.
     (rw (out, err) at (c.command-disk.ensures.keyed a tree asked is told).went)
 
 pub returns-clause-keyed_reads : goal.returns-clause-keyed_reads
-returns-clause-keyed_reads g c = λ a tree asked is told. (c.command-disk.ensures.keyed a tree asked is told).reads
+returns-clause-keyed_reads g c = λ a tree asked is query told. (c.command-disk.ensures.keyed a tree asked is told).reads query
 
 pub returns-clause-index_full : goal.returns-clause-index_full
 returns-clause-index_full g c = λ a tree asked is told. (c.command-disk.ensures.keyed a tree asked is told).full

@@ -1,4 +1,4 @@
-use Rattle.std.proofs.Common.{◌≡◌, ◌+◌, ◌≤◌, sym, ap, ◌∙◌, subst, arith}
+use Rattle.std.proofs.Common.{◌≡◌, ◌+◌, ◌≤◌, [], sym, ap, ◌∙◌, subst, arith}
 use Rattle.rpm_outside.specs.Buffered.{inner}
 use Rattle.rpm_outside.specs.declared.disk.File.TheVariants.{Pkg}
 use Rattle.rpm_outside.specs.Files.{Files}
@@ -6,9 +6,11 @@ use Rattle.rpm_outside.specs.Logs.{log_state, reopened, unlogged}
 use Rattle.rpm_pkgdb.specs.Store.{store}
 use Rattle.rpm_db.specs.Lawful.{IsLawful}
 use Rattle.rpm_db.specs.State.{packages}
-use Rattle.rpm_tool.specs.Queries.{query}
-use Rattle.rpm_tool.specs.Keyed.{KeyedIs, FullIs, BadIs, keyed_to, keyed_cost}
-use Rattle.rpm_change.specs.Endings.{outputs}
+use Rattle.rpm_tool.specs.Asked.{inquiry_of}
+use Rattle.rpm_tool.specs.Keyed.{KeyedIs, FullIs, BadIs, Does, keyed_to, keyed_cost}
+use Rattle.rpm_change.specs.Endings.{outputs, Through}
+use Rattle.rpm_tool.proofs.Deeds.{does_fault}
+use Rattle.rpm_tool.proofs.Reaching.{through_none}
 use Rattle.rpm_tool.proofs.Recovered.{closed_stands, opened_keyed, opening_stops, recovering_stops}
 use Rattle.rpm_tool.proofs.Unrecovered.{unrecovered, unrecovered_full, unrecovered_bad, unrecovered_complete, unrecovered_undone}
 use Rattle.rpm_tool.proofs.Completed.{completes}
@@ -37,10 +39,10 @@ returns-in-Ok-clause-keyed g c = λ told.
     let full : FullIs (reopened files) given = subst (λ (f : Files). FullIs f given) stand (then.index_full told) in
     record {
       went = went;
-      reads = λ lawful.
+      reads = λ query lawful.
           (let here : IsLawful mid.pkg mid.idx = subst (λ (f : Files). IsLawful f.pkg f.idx) (sym stand) lawful.lawful in
           let read : now ≤ between + keyed_cost (reopened files) words a =
-          subst (λ (f : Files). now ≤ between + keyed_cost f words a) stand (then.reads told here) in
+          subst (λ (f : Files). now ≤ between + keyed_cost f words a) stand (then.reads query told here) in
           omega (arith, read, first.reads.pkg));
       full = full;
       complete = completes c.args.format.now words a files given old after start now then.done went full;
@@ -63,10 +65,18 @@ returns-in-Err-clause-keyed g c = λ told.
     let fault = c.in-Err.fault in
     let r = reopened files in
     let now = g.D.Disk.bytes_read c.recover.new.disk Pkg in
+    let start = g.D.Disk.bytes_read c.args.disk Pkg in
+    let ot = g.O.Sink.tells in
+    let et = g.E.Sink.tells in
+    let o = g.O.Sink.taken (inner c.args.out.now) in
+    let e = g.E.Sink.taken (inner c.args.err.now) in
+    let x = outputs ot o et e in
+    let none : Through [] x x = through_none {ot = ot} {et = et} o e in
     rw c.why_of_recover.ensures (record {
-      went = unrecovered (IsLawful r.pkg r.idx) (λ s. query c.args.format.now (packages r.pkg s) words a) (store r.pkg)
-          (λ s for. now ≤ g.D.Disk.bytes_read c.args.disk Pkg + keyed_to r words a s for) _ _ _ _ (log_state files.log) fault (first.says told);
-      reads = λ lawful. omega (arith, first.reads.pkg);
+      went = unrecovered (IsLawful r.pkg r.idx) (Does c.args.format.now words a r start now) (store r.pkg) x none
+          (λ s. does_fault c.args.format.now words a (packages r.pkg s) (λ for. now ≤ start + keyed_to r words a s for) x none (inquiry_of a.mode))
+          (log_state files.log) fault (first.says told);
+      reads = λ query lawful. omega (arith, first.reads.pkg);
       full = unrecovered_full r fault;
       bad = unrecovered_bad words a r fault;
       complete = λ lawful room. unrecovered_complete (log_state files.log) fault (first.says told) lawful.sound;

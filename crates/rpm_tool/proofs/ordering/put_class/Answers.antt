@@ -1,0 +1,48 @@
+use Rattle.std.proofs.Common.{◌≡◌, ℕ, true, false, Bool, List, [], ◌∷◌, map, length, Ok, Err, Result, refl, sym, ap, ◌∙◌, subst}
+use Rattle.std.specs.Prelude.{codes}
+use Rattle.rpm_outside.specs.Buffered.{inner}
+use Rattle.rpm_outside.specs.Files.{Files}
+use Rattle.rpm_db.specs.State.{packages}
+use Rattle.rpm_change.specs.Steps.{whole, Step, ToOut}
+use Rattle.rpm_change.specs.Endings.{outputs}
+use Rattle.rpm_tool.specs.declared.step.Stop.{Stop}
+use Rattle.rpm_tool.specs.Answers.{Reached, Anywhere}
+use Rattle.rpm_tool.specs.Requirements.{label_step, cycle_line, class_steps}
+use Rattle.rpm_tool.proofs.Telling.{one_class, more_classes, head_reached}
+use Rattle.rpm_tool.proofs.Stopping.{reached_first}
+use Rattle.rpm_tool.proofs.ordering.put_class.Goals as goal
+
+pub returns-then-count-eq1-clause-went : goal.returns-then-count-eq1-clause-went
+returns-then-count-eq1-clause-went g c = λ told et e.
+    let all = packages (g.D.Disk.files c.args.disk.now).pkg c.args.db.now.store in
+    let class = c.args.class.now in
+    let old = outputs g.O.Sink.tells (g.O.Sink.taken (inner c.args.out.now)) et e in
+    let new = outputs g.O.Sink.tells (g.O.Sink.taken (inner c.put_labels.new.out)) et e in
+    subst (λ (ss : List Step). Reached ss c.put_labels.result old new Anywhere)
+    (sym (one_class all class c.if-count-eq1.true)) (c.put_labels.ensures.went told et e)
+
+pub returns-in-Ok-clause-went : goal.returns-in-Ok-clause-went
+returns-in-Ok-clause-went g c = λ told et e.
+    let all = packages (g.D.Disk.files c.args.disk.now).pkg c.args.db.now.store in
+    let class = c.args.class.now in
+    let ot = g.O.Sink.tells in
+    let o = g.O.Sink.taken (inner c.args.out.now) in
+    let o' = g.O.Sink.taken (inner c.put_cycle.new.out) in
+    let o'' = g.O.Sink.taken (inner c.put_labels-in-Ok.new.out) in
+    let step = ToOut (whole 0) (cycle_line (length class)) in
+    let labels = map (label_step all (codes "  ")) class in
+    subst (λ (ss : List Step). Reached ss c.put_labels-in-Ok.result (outputs ot o et e) (outputs ot o'' et e) Anywhere)
+    (sym (more_classes all class c.if-count-eq1.false))
+    (head_reached ot et step labels c.put_labels-in-Ok.result o o' o'' e e e (c.in-Ok.ensures.step et e).1 (c.put_labels-in-Ok.ensures.went told et e))
+
+pub returns-in-Err-clause-went : goal.returns-in-Err-clause-went
+returns-in-Err-clause-went g c = λ told et e.
+    let all = packages (g.D.Disk.files c.args.disk.now).pkg c.args.db.now.store in
+    let class = c.args.class.now in
+    let old = outputs g.O.Sink.tells (g.O.Sink.taken (inner c.args.out.now)) et e in
+    let new = outputs g.O.Sink.tells (g.O.Sink.taken (inner c.put_cycle.new.out)) et e in
+    let what = c.in-Err.stop in
+    subst (λ (ss : List Step). Reached {T = Unit {0}} ss (Err what) old new Anywhere)
+    (sym (more_classes all class c.if-count-eq1.false))
+    (reached_first (Unit {0}) (ToOut (whole 0) (cycle_line (length class))) (map (label_step all (codes "  ")) class) what old new Anywhere tt
+    (c.in-Err.ensures.step et e))

@@ -1,0 +1,90 @@
+use Rattle.std.proofs.Common.{◌≡◌, ℕ, ◌+◌, ◌<◌, ◌≤◌, true, Bool, List, [], ◌∷◌, drop, length, Ok, Err, Result, refl, sym, ap, ◌∙◌, subst, arith}
+use Rattle.std.specs.Prelude.{slice_index_or}
+use Rattle.std.specs.List.{flat_map}
+use Rattle.std.proofs.lemmas.List.{drop_all}
+use Rattle.rpm_outside.specs.Buffered.{inner}
+use Rattle.rpm_outside.specs.Files.{Files}
+use Rattle.rpm_db.specs.State.{packages}
+use Rattle.rpm_change.specs.Endings.{outputs, Through}
+use Rattle.rpm_tool.specs.Answers.{Reached, Anywhere}
+use Rattle.rpm_tool.specs.Requirements.{class_steps}
+use Rattle.rpm_tool.proofs.Reaching.{goes_start, goes_more, goes_stop, goes_end}
+use Rattle.rpm_tool.proofs.Telling.{classes_at}
+use Rattle.rpm_tool.proofs.Peeking.{peeks_none, peeks_then}
+use Rattle.rpm_tool.proofs.Joins.{hands_then}
+use Rattle.rpm_tool.proofs.ordering.put_classes.Goals as goal
+
+pub loop-k-init : goal.loop-k-init
+loop-k-init g c =
+    let all = flat_map (class_steps (packages (g.D.Disk.files c.args.disk.now).pkg c.args.db.now.store)) c.args.list.now in
+    record {
+      keeps = c.requires.keeps;
+      looks = peeks_none g.D.Disk.tells g.D.Disk.files g.D.Disk.left_since g.D.Disk.moment g.D.Disk.bytes_read g.D.Disk.follows true g.met.D.Disk.follows_refl c.args.disk.now;
+      disk = omega arith;
+      out = omega arith;
+      out_rest = (g.met.O.Sink.follows_refl (inner c.args.out.now), c.requires.out_empty);
+      goes = λ told et e. goes_start g.O.Sink.tells et all all (g.O.Sink.taken (inner c.args.out.now)) e refl;
+    }
+
+pub loop-k-preserved : goal.loop-k-preserved
+loop-k-preserved g c =
+    let s = c.args.db.now.store in
+    let k = c.loop-k.k in
+    let inv = c.loop-k.invariant in
+    let done = c.in-Ok.ensures in
+    let all = packages (g.D.Disk.files c.args.disk.now).pkg s in
+    let list = c.args.list.now in
+    let class = slice_index_or list k [] in
+    let o = g.O.Sink.taken (inner c.args.out.now) in
+    let o' = g.O.Sink.taken (inner c.loop-k.out) in
+    let o'' = g.O.Sink.taken (inner c.put_class.new.out) in
+    let ot = g.O.Sink.tells in
+    record {
+      keeps = done.kept;
+      looks = peeks_then g.D.Disk.tells g.D.Disk.files g.D.Disk.left_since g.D.Disk.moment g.D.Disk.bytes_read g.D.Disk.follows true g.met.D.Disk.follows_trans c.args.disk.now c.loop-k.disk c.put_class.new.disk inv.looks done.looks;
+      disk = omega (arith, inv.disk, done.disk.later);
+      out = omega (arith, inv.out, done.out.later);
+      out_rest = hands_then g.met.O.Sink.follows_trans c.args.out.now c.loop-k.out c.put_class.new.out inv.out_rest done.out_rest;
+      goes = λ told et e.
+          let went : Through (class_steps all class) (outputs ot o' et e) (outputs ot o'' et e) =
+          subst (λ (f : Files). Through (class_steps (packages f.pkg s) class) (outputs ot o' et e) (outputs ot o'' et e)) (inv.looks.untouched told).same
+          (rw c.class.ensures at (done.went told et e)) in
+          goes_more ot et (flat_map (class_steps all) list) (flat_map (class_steps all) (drop k list)) (class_steps all class)
+          (flat_map (class_steps all) (drop (k + 1) list)) o o' o'' e e e (classes_at (class_steps all) list k (omega (arith, c.loop-k-test.true, c.classes-k-end.ensures)))
+          (inv.goes told et e) went;
+    }
+
+pub returns-in-Err-clause-went : goal.returns-in-Err-clause-went
+returns-in-Err-clause-went g c = λ told et e.
+    let s = c.args.db.now.store in
+    let k = c.loop-k.k in
+    let inv = c.loop-k.invariant in
+    let all = packages (g.D.Disk.files c.args.disk.now).pkg s in
+    let list = c.args.list.now in
+    let class = slice_index_or list k [] in
+    let o = g.O.Sink.taken (inner c.args.out.now) in
+    let o' = g.O.Sink.taken (inner c.loop-k.out) in
+    let o'' = g.O.Sink.taken (inner c.put_class.new.out) in
+    let ot = g.O.Sink.tells in
+    let what = c.in-Err.stop in
+    let went : Reached {T = Unit {0}} (class_steps all class) (Err what) (outputs ot o' et e) (outputs ot o'' et e) Anywhere =
+    subst (λ (f : Files). Reached {T = Unit {0}} (class_steps (packages f.pkg s) class) (Err what) (outputs ot o' et e) (outputs ot o'' et e) Anywhere)
+    (inv.looks.untouched told).same
+    (subst (λ (ns : List ℕ). Reached {T = Unit {0}} (class_steps (packages (g.D.Disk.files c.loop-k.disk).pkg s) ns) (Err what) (outputs ot o' et e)
+    (outputs ot o'' et e) Anywhere) c.class.ensures (c.in-Err.ensures.went told et e)) in
+    goes_stop ot et (flat_map (class_steps all) list) (flat_map (class_steps all) (drop k list)) (class_steps all class)
+    (flat_map (class_steps all) (drop (k + 1) list)) o o' o'' e e e (classes_at (class_steps all) list k (omega (arith, c.loop-k-test.true, c.classes-k-end.ensures)))
+    (inv.goes told et e) (Unit {0}) (Unit {0}) what Anywhere went
+
+pub returns-in-Err-clause-looks : goal.returns-in-Err-clause-looks
+returns-in-Err-clause-looks g c =
+    peeks_then g.D.Disk.tells g.D.Disk.files g.D.Disk.left_since g.D.Disk.moment g.D.Disk.bytes_read g.D.Disk.follows true g.met.D.Disk.follows_trans c.args.disk.now c.loop-k.disk c.put_class.new.disk c.loop-k.invariant.looks c.in-Err.ensures.looks
+
+pub returns-clause-went : goal.returns-clause-went
+returns-clause-went g c = λ told et e.
+    let all = packages (g.D.Disk.files c.args.disk.now).pkg c.args.db.now.store in
+    let list = c.args.list.now in
+    let k = c.loop-k.k in
+    let over : length list ≤ k = omega (arith, c.loop-k-test.false, c.classes-k-end.ensures) in
+    goes_end g.O.Sink.tells et (flat_map (class_steps all) list) (flat_map (class_steps all) (drop k list)) (g.O.Sink.taken (inner c.args.out.now))
+    (g.O.Sink.taken (inner c.loop-k.out)) e e (ap (flat_map (class_steps all)) (drop_all k list over)) (c.loop-k.invariant.goes told et e)

@@ -1,0 +1,127 @@
+use Rattle.std.proofs.Common.{◌≡◌, ℕ, ◌+◌, ◌≤◌, ◌||◌, true, Bool, List, [], ◌∷◌, map, Ok, Err, Option, Result, refl, sym, ap, ◌∙◌, subst, arith}
+use Rattle.std.specs.Prelude.{IsTrue}
+use Rattle.std.specs.FinMap as finite
+use Rattle.std.specs.FinMap.{entries}
+use Rattle.rpm_outside.specs.Buffered.{inner}
+use Rattle.rpm_outside.specs.Files.{Files}
+use Rattle.rpm_db.specs.State.{Package, packages, above}
+use Rattle.rpm_change.specs.Endings.{Outputs, outputs, Through}
+use Rattle.rpm_tool.specs.declared.step.Stop.{Stop}
+use Rattle.rpm_tool.specs.Steps.{Portion, together}
+use Rattle.rpm_tool.specs.Answers.{Reached, PartIs, Anywhere}
+use Rattle.rpm_tool.specs.Requirements.{bad_part, bad_at}
+use Rattle.rpm_tool.proofs.Reaching.{goes_start, goes_more, goes_stop, goes_end}
+use Rattle.rpm_tool.proofs.Printed.{none_more}
+use Rattle.rpm_tool.proofs.Verified.{no_entry, from_one, fails_later}
+use Rattle.rpm_tool.proofs.Telling.{next_package, bad_here}
+use Rattle.rpm_tool.proofs.Peeking.{peeks_none, peeks_then}
+use Rattle.rpm_tool.proofs.Joins.{hands_then}
+use Rattle.rpm_tool.proofs.unreadable.tell_each_bad.Goals as goal
+
+pub loop-next-init : goal.loop-next-init
+loop-next-init g c =
+    let db = c.args.db.now in
+    let file = (g.D.Disk.files c.args.disk.now).pkg in
+    let all = (together (map bad_part (above 0 (entries (packages file db.store))))).steps in
+    record {
+      keeps = c.requires.keeps;
+      looks = peeks_none g.D.Disk.tells g.D.Disk.files g.D.Disk.left_since g.D.Disk.moment g.D.Disk.bytes_read g.D.Disk.follows true
+          g.met.D.Disk.follows_refl c.args.disk.now;
+      disk = omega arith;
+      err = omega arith;
+      err_rest = (g.met.E.Sink.follows_refl (inner c.args.err.now), c.requires.err_empty);
+      goes = λ told ot o. goes_start ot g.E.Sink.tells all all o (g.E.Sink.taken (inner c.args.err.now)) refl;
+      bad = λ told. refl;
+    }
+
+pub loop-next-preserved : goal.loop-next-preserved
+loop-next-preserved g c =
+    let db = c.args.db.now in
+    let k = c.loop-next.number in
+    let m = c.in-Some.next in
+    let inv = c.loop-next.invariant in
+    let done = c.in-Ok.ensures in
+    let start = g.D.Disk.files c.args.disk.now in
+    let here = g.D.Disk.files c.loop-next.disk in
+    let all = packages start.pkg db.store in
+    let es = entries all in
+    let next = next_package all k m (c.in-Some.ensures.told start.pkg) in
+    let et = g.E.Sink.tells in
+    let e = g.E.Sink.taken (inner c.args.err.now) in
+    let e' = g.E.Sink.taken (inner c.loop-next.err) in
+    let e'' = g.E.Sink.taken (inner c.tell_bad.new.err) in
+    record {
+      keeps = done.kept;
+      looks = peeks_then g.D.Disk.tells g.D.Disk.files g.D.Disk.left_since g.D.Disk.moment g.D.Disk.bytes_read g.D.Disk.follows true
+          g.met.D.Disk.follows_trans c.args.disk.now c.loop-next.disk c.tell_bad.new.disk inv.looks done.looks;
+      disk = omega (arith, inv.disk, done.disk.later);
+      err = omega (arith, inv.err, done.err.later);
+      err_rest = hands_then g.met.E.Sink.follows_trans c.args.err.now c.loop-next.err c.tell_bad.new.err inv.err_rest done.err_rest;
+      goes = λ told ot o.
+          let part = bad_here here start db.store m next.0 (Ok c.in-Ok.bad) (outputs ot o et e') (outputs ot o et e'') (inv.looks.untouched told).same next.1
+          (done.went told ot o) in
+          goes_more ot et (together (map bad_part (above 0 es))).steps (together (map bad_part (above k es))).steps (bad_part (m, next.0)).steps
+          (together (map bad_part (above m es))).steps o o o e e' e''
+          (ap (λ (xs : List (ℕ × Package)). (together (map bad_part xs)).steps) next.2) (inv.goes told ot o) part.steps;
+      bad = λ told.
+          let part = bad_here here start db.store m next.0 (Ok c.in-Ok.bad) (outputs et e' et e') (outputs et e' et e'') (inv.looks.untouched told).same next.1
+          (done.went told et e') in
+          rw c.either-fails.ensures (fails_later c.loop-next.fails (bad_part (m, next.0)).fails c.in-Ok.bad (together (map bad_part (above m es))).fails
+          (together (map bad_part (above 0 es))).fails part.fails
+          (inv.bad told ∙ ap (λ (xs : List (ℕ × Package)). c.loop-next.fails || (together (map bad_part xs)).fails) next.2));
+    }
+
+pub returns-in-Err-clause-went : goal.returns-in-Err-clause-went
+returns-in-Err-clause-went g c = λ told ot o.
+    let db = c.args.db.now in
+    let k = c.loop-next.number in
+    let m = c.in-Some.next in
+    let inv = c.loop-next.invariant in
+    let start = g.D.Disk.files c.args.disk.now in
+    let here = g.D.Disk.files c.loop-next.disk in
+    let all = packages start.pkg db.store in
+    let es = entries all in
+    let next = next_package all k m (c.in-Some.ensures.told start.pkg) in
+    let et = g.E.Sink.tells in
+    let e = g.E.Sink.taken (inner c.args.err.now) in
+    let e' = g.E.Sink.taken (inner c.loop-next.err) in
+    let e'' = g.E.Sink.taken (inner c.tell_bad.new.err) in
+    let what = c.in-Err.stop in
+    let part = bad_here here start db.store m next.0 (Err what) (outputs ot o et e') (outputs ot o et e'') (inv.looks.untouched told).same next.1
+    (c.in-Err.ensures.went told ot o) in
+    let reached : Reached {T = Bool} (together (map bad_part (above 0 es))).steps (Err what) (outputs ot o et e) (outputs ot o et e'') Anywhere =
+    goes_stop ot et (together (map bad_part (above 0 es))).steps (together (map bad_part (above k es))).steps (bad_part (m, next.0)).steps
+    (together (map bad_part (above m es))).steps o o o e e' e'' (ap (λ (xs : List (ℕ × Package)). (together (map bad_part xs)).steps) next.2)
+    (inv.goes told ot o) Bool Bool what Anywhere part.steps in
+    record {
+      steps = subst (λ (xs : List (ℕ × Package)). Reached {T = Bool} (together (map bad_part xs)).steps (Err what) (outputs ot o et e) (outputs ot o et e'')
+          Anywhere) (from_one start.pkg db c.requires.from_one) reached;
+      fails = tt;
+    }
+
+pub returns-in-Err-clause-looks : goal.returns-in-Err-clause-looks
+returns-in-Err-clause-looks g c =
+    peeks_then g.D.Disk.tells g.D.Disk.files g.D.Disk.left_since g.D.Disk.moment g.D.Disk.bytes_read g.D.Disk.follows true
+    g.met.D.Disk.follows_trans c.args.disk.now c.loop-next.disk c.tell_bad.new.disk c.loop-next.invariant.looks c.in-Err.ensures.looks
+
+pub returns-clause-went : goal.returns-clause-went
+returns-clause-went g c = λ told ot o.
+    let db = c.args.db.now in
+    let k = c.loop-next.number in
+    let inv = c.loop-next.invariant in
+    let file = (g.D.Disk.files c.args.disk.now).pkg in
+    let es = entries (packages file db.store) in
+    let none = no_entry (packages file db.store) k (c.in_default.ensures.told file) in
+    let first = from_one file db c.requires.from_one in
+    let et = g.E.Sink.tells in
+    let e = g.E.Sink.taken (inner c.args.err.now) in
+    let e' = g.E.Sink.taken (inner c.loop-next.err) in
+    let all = (together (map bad_part (above 0 es))).fails in
+    record {
+      steps = subst (λ (xs : List (ℕ × Package)). Through (together (map bad_part xs)).steps (outputs ot o et e) (outputs ot o et e')) first
+          (goes_end ot et (together (map bad_part (above 0 es))).steps (together (map bad_part (above k es))).steps o o e e'
+          (ap (λ (xs : List (ℕ × Package)). (together (map bad_part xs)).steps) none) (inv.goes told ot o));
+      fails = ap (λ (xs : List (ℕ × Package)). (together (map bad_part xs)).fails) (sym first)
+          ∙ sym (none_more c.loop-next.fails all (inv.bad told
+          ∙ ap (λ (xs : List (ℕ × Package)). c.loop-next.fails || (together (map bad_part xs)).fails) none));
+    }

@@ -1,0 +1,101 @@
+use Rattle.std.proofs.Common.{◌≡◌, ℕ, ◌+◌, ◌<◌, ◌≤◌, true, Bool, List, [], ◌∷◌, map, drop, length, get_or, Ok, Err, Result, refl, sym, ap, ◌∙◌, subst, arith}
+use Rattle.std.proofs.lemmas.List.{drop_all}
+use Rattle.rpm_outside.specs.Buffered.{inner}
+use Rattle.rpm_outside.specs.Files.{Files}
+use Rattle.rpm_db.specs.State.{packages}
+use Rattle.rpm_check.specs.declared.list.Unmet.{Unmet}
+use Rattle.rpm_change.specs.Endings.{outputs}
+use Rattle.rpm_change.specs.Steps.{Step}
+use Rattle.rpm_tool.specs.Answers.{StepIs, Anywhere}
+use Rattle.rpm_tool.specs.Requirements.{unmet_step}
+use Rattle.rpm_tool.proofs.Reaching.{goes_start, goes_more, goes_stop, goes_end}
+use Rattle.rpm_tool.proofs.Telling.{steps_at, step_stops}
+use Rattle.rpm_tool.proofs.Peeking.{peeks_none, peeks_then}
+use Rattle.rpm_tool.proofs.Joins.{hands_then}
+use Rattle.rpm_tool.proofs.unsatisfied.put_each_unmet.Goals as goal
+
+abbrev no_unmet : Unmet
+no_unmet = record { number = 0; place = 0 }
+
+pub loop-unmet-init : goal.loop-unmet-init
+loop-unmet-init g c =
+    let db = c.args.db.now in
+    let start = g.D.Disk.files c.args.disk.now in
+    let all = map (unmet_step (packages start.pkg db.store)) c.args.list.now in
+    record {
+      keeps = c.requires.keeps;
+      looks = peeks_none g.D.Disk.tells g.D.Disk.files g.D.Disk.left_since g.D.Disk.moment g.D.Disk.bytes_read g.D.Disk.follows true
+          g.met.D.Disk.follows_refl c.args.disk.now;
+      disk = omega arith;
+      out = omega arith;
+      out_rest = (g.met.O.Sink.follows_refl (inner c.args.out.now), c.requires.out_empty);
+      goes = λ told et e. goes_start g.O.Sink.tells et all all (g.O.Sink.taken (inner c.args.out.now)) e refl;
+    }
+
+pub loop-unmet-preserved : goal.loop-unmet-preserved
+loop-unmet-preserved g c =
+    let db = c.args.db.now in
+    let i = c.loop-unmet.unmet-index in
+    let inv = c.loop-unmet.invariant in
+    let done = c.in-Ok.ensures in
+    let start = g.D.Disk.files c.args.disk.now in
+    let xs = c.args.list.now in
+    let x = get_or xs i no_unmet in
+    let step = unmet_step (packages start.pkg db.store) in
+    let lt : i < length xs = c.loop-unmet-test.true in
+    let o = g.O.Sink.taken (inner c.args.out.now) in
+    let o' = g.O.Sink.taken (inner c.loop-unmet.out) in
+    let o'' = g.O.Sink.taken (inner c.put_unmet.new.out) in
+    let ot = g.O.Sink.tells in
+    record {
+      keeps = done.kept;
+      looks = peeks_then g.D.Disk.tells g.D.Disk.files g.D.Disk.left_since g.D.Disk.moment g.D.Disk.bytes_read g.D.Disk.follows true
+          g.met.D.Disk.follows_trans c.args.disk.now c.loop-unmet.disk c.put_unmet.new.disk inv.looks done.looks;
+      disk = omega (arith, inv.disk, done.disk.later);
+      out = omega (arith, inv.out, done.out.later);
+      out_rest = hands_then g.met.O.Sink.follows_trans c.args.out.now c.loop-unmet.out c.put_unmet.new.out inv.out_rest done.out_rest;
+      goes = λ told et e.
+          let one : StepIs (step x) (Ok c.in-Ok.field-0) (outputs ot o' et e) (outputs ot o'' et e) =
+          subst (λ (f : Files). StepIs (unmet_step (packages f.pkg db.store) x) (Ok c.in-Ok.field-0) (outputs ot o' et e) (outputs ot o'' et e)) (inv.looks.untouched told).same
+          (done.step told et e) in
+          goes_more ot et (map step xs) (map step (drop i xs)) (step x ∷ []) (map step (drop (i + 1) xs)) o o' o'' e e e
+          (steps_at step xs i no_unmet lt) (inv.goes told et e) one.1;
+    }
+
+pub returns-in-Err-clause-went : goal.returns-in-Err-clause-went
+returns-in-Err-clause-went g c = λ told et e.
+    let db = c.args.db.now in
+    let i = c.loop-unmet.unmet-index in
+    let inv = c.loop-unmet.invariant in
+    let start = g.D.Disk.files c.args.disk.now in
+    let xs = c.args.list.now in
+    let x = get_or xs i no_unmet in
+    let step = unmet_step (packages start.pkg db.store) in
+    let lt : i < length xs = c.loop-unmet-test.true in
+    let o = g.O.Sink.taken (inner c.args.out.now) in
+    let o' = g.O.Sink.taken (inner c.loop-unmet.out) in
+    let o'' = g.O.Sink.taken (inner c.put_unmet.new.out) in
+    let ot = g.O.Sink.tells in
+    let what = c.in-Err.stop in
+    let one : StepIs (step x) (Err what) (outputs ot o' et e) (outputs ot o'' et e) =
+    subst (λ (f : Files). StepIs (unmet_step (packages f.pkg db.store) x) (Err what) (outputs ot o' et e) (outputs ot o'' et e)) (inv.looks.untouched told).same
+    (c.in-Err.ensures.step told et e) in
+    goes_stop ot et (map step xs) (map step (drop i xs)) (step x ∷ []) (map step (drop (i + 1) xs)) o o' o'' e e e
+    (steps_at step xs i no_unmet lt) (inv.goes told et e) Bool (Unit {0}) what Anywhere
+    (step_stops (step x) what (outputs ot o' et e) (outputs ot o'' et e) one)
+
+pub returns-in-Err-clause-looks : goal.returns-in-Err-clause-looks
+returns-in-Err-clause-looks g c =
+    peeks_then g.D.Disk.tells g.D.Disk.files g.D.Disk.left_since g.D.Disk.moment g.D.Disk.bytes_read g.D.Disk.follows true
+    g.met.D.Disk.follows_trans c.args.disk.now c.loop-unmet.disk c.put_unmet.new.disk c.loop-unmet.invariant.looks c.in-Err.ensures.looks
+
+pub returns-clause-went : goal.returns-clause-went
+returns-clause-went g c = λ told et e.
+    let db = c.args.db.now in
+    let start = g.D.Disk.files c.args.disk.now in
+    let xs = c.args.list.now in
+    let i = c.loop-unmet.unmet-index in
+    let step = unmet_step (packages start.pkg db.store) in
+    let over : length xs ≤ i = c.loop-unmet-test.false in
+    goes_end g.O.Sink.tells et (map step xs) (map step (drop i xs)) (g.O.Sink.taken (inner c.args.out.now)) (g.O.Sink.taken (inner c.loop-unmet.out)) e e
+    (ap (map step) (drop_all i xs over)) (c.loop-unmet.invariant.goes told et e)

@@ -1,0 +1,37 @@
+use Rattle.std.proofs.Common.{◌≡◌, true, List, [], ℕ, Err, ap, sym, ◌∙◌, subst}
+use Rattle.std.specs.FinMap as finite
+use Rattle.rpm_outside.specs.Buffered.{inner}
+use Rattle.rpm_outside.specs.declared.disk.File.TheVariants.{Pkg}
+use Rattle.rpm_header.specs.Header.{header}
+use Rattle.rpm_db.specs.State.{packages}
+use Rattle.rpm_change.specs.Steps.{bearer, whole, ToOut}
+use Rattle.rpm_change.specs.Endings.{outputs}
+use Rattle.rpm_tool.specs.Answers.{StepIs}
+use Rattle.rpm_tool.proofs.Reaching.{through_none}
+use Rattle.rpm_tool.proofs.Telling.{step_none, step_unbroken}
+use Rattle.rpm_tool.specs.Requirements.{unmet_step, read_text, package_text, unmet_text}
+use Rattle.rpm_tool.proofs.unsatisfied.put_unmet.Goals as goal
+
+pub returns-in-Ok-read_unmet_text-clause-step : goal.returns-in-Ok-read_unmet_text-clause-step
+returns-in-Ok-read_unmet_text-clause-step g c = λ told et e.
+    let all = packages (g.D.Disk.files c.args.disk.now).pkg c.args.db.now.store in
+    let text = package_text (unmet_text c.args.unmet.place) (finite.get all c.args.unmet.number) in
+    let old = outputs g.O.Sink.tells (g.O.Sink.taken (inner c.args.out.now)) et e in
+    let new = outputs g.O.Sink.tells (g.O.Sink.taken (inner c.put_text.new.out)) et e in
+    let is : c.in-Ok-read_unmet_text.line.items ≡ text =
+    c.in-Ok-read_unmet_text.ensures ∙ ap (λ (b : List ℕ). read_text (unmet_text c.args.unmet.place) (header b)) c.deref.ensures.value ∙ sym (c.in-Ok.ensures.told told (unmet_text c.args.unmet.place)) in
+    subst (λ (t : List ℕ). StepIs (ToOut (bearer 0 c.args.unmet.number) t) c.put_text.result old new) (ap (λ (t : List ℕ). t) c.deref-in-Ok-read_unmet_text.ensures.value ∙ is)
+    (c.put_text.ensures.step (bearer 0 c.args.unmet.number) et e)
+
+pub returns-in-Ok-read_unmet_text-clause-unbroken : goal.returns-in-Ok-read_unmet_text-clause-unbroken
+returns-in-Ok-read_unmet_text-clause-unbroken g c =
+    let old = outputs g.O.Sink.tells (g.O.Sink.taken (inner c.args.out.now)) true [] in
+    let new = outputs g.O.Sink.tells (g.O.Sink.taken (inner c.put_text.new.out)) true [] in
+    step_unbroken (ToOut (whole 0) c.deref-in-Ok-read_unmet_text.result.now) c.put_text.result old new (c.put_text.ensures.step (whole 0) true [])
+
+pub returns-in-Err-clause-step : goal.returns-in-Err-clause-step
+returns-in-Err-clause-step g c = λ told et e.
+    let all = packages (g.D.Disk.files c.args.disk.now).pkg c.args.db.now.store in
+    let o = g.O.Sink.taken (inner c.args.out.now) in
+    step_none (unmet_step all c.args.unmet) c.in-Err.stop (outputs g.O.Sink.tells o et e) (λ unit is. c.in-Err.ensures.unbroken unit (ap Err is))
+    (λ is. c.in-Err.ensures.no_out (ap Err is)) (λ is. c.in-Err.ensures.no_err (ap Err is)) (through_none {ot = g.O.Sink.tells} {et = et} o e)

@@ -1,0 +1,77 @@
+use Rattle.std.proofs.Common.{◌≡◌, true, Bool, ◌||◌, Ok, Err, Result, sym, ap, subst}
+use Rattle.rpm_outside.specs.Buffered.{inner}
+use Rattle.rpm_outside.specs.Files.{Units, Files}
+use Rattle.rpm_select.specs.Reach.{HasIndexRows}
+use Rattle.rpm_db.specs.Database.{KeepsIndex}
+use Rattle.rpm_db.specs.State.{packages}
+use Rattle.rpm_change.specs.Endings.{outputs}
+use Rattle.rpm_tool.specs.declared.step.Stop.{Stop}
+use Rattle.rpm_tool.specs.Answers.{PartIs, Anywhere}
+use Rattle.rpm_tool.specs.Requirements.{bad_parts, unmet_part, unsatisfied_part, StopsOfSome}
+use Rattle.rpm_tool.proofs.Telling.{behind_first, behind_both, behind_stop}
+use Rattle.rpm_tool.proofs.Checked.{unbroken_stops}
+use Rattle.rpm_tool.proofs.Peeking.{peeks_then}
+use Rattle.rpm_tool.proofs.unsatisfied.report_unmet.Goals as goal
+
+pub returns-in-Err-clause-went : goal.returns-in-Err-clause-went
+returns-in-Err-clause-went g c = λ told rows.
+    let all = packages (g.D.Disk.files c.args.disk.now).pkg c.args.db.now.store in
+    let ot = g.O.Sink.tells in
+    let o = g.O.Sink.taken (inner c.args.out.now) in
+    behind_first ot g.E.Sink.tells (bad_parts all) (unmet_part all) c.in-Err.stop o o (g.E.Sink.taken (inner c.args.err.now))
+    (g.E.Sink.taken (inner c.tell_each_bad.new.err)) (c.in-Err.ensures.went told ot o)
+
+pub returns-in-Err-clause-broken : goal.returns-in-Err-clause-broken
+returns-in-Err-clause-broken g c = λ told.
+    unbroken_stops (g.D.Disk.files c.args.disk.now).idx c.in-Err.stop (λ unit is. c.in-Err.ensures.unbroken unit (ap Err is))
+
+pub tell_unmet-requires-clause-keeps_index : goal.tell_unmet-requires-clause-keeps_index
+tell_unmet-requires-clause-keeps_index g c = λ told.
+    subst (λ (f : Files). KeepsIndex f.idx c.args.db.now) (sym (c.in-Ok.ensures.looks.untouched told).same) (c.requires.keeps_index told)
+
+pub returns-in-Ok-tell_unmet-clause-went : goal.returns-in-Ok-tell_unmet-clause-went
+returns-in-Ok-tell_unmet-clause-went g c = λ told rows.
+    let db = c.args.db.now in
+    let s = db.store in
+    let all = packages (g.D.Disk.files c.args.disk.now).pkg s in
+    let ot = g.O.Sink.tells in
+    let et = g.E.Sink.tells in
+    let o = g.O.Sink.taken (inner c.args.out.now) in
+    let o' = g.O.Sink.taken (inner c.tell_unmet.new.out) in
+    let e = g.E.Sink.taken (inner c.args.err.now) in
+    let e' = g.E.Sink.taken (inner c.tell_each_bad.new.err) in
+    let some = c.in-Ok-tell_unmet.some in
+    let second = subst (λ (f : Files). HasIndexRows db f.pkg f.idx → PartIs (unmet_part (packages f.pkg s)) (Ok some) (outputs ot o et e') (outputs ot o' et e')
+    Anywhere) (c.in-Ok.ensures.looks.untouched told).same (λ has. c.in-Ok-tell_unmet.ensures.went told has et e') rows in
+    rw c.either.ensures
+    (behind_both ot et (bad_parts all) (unmet_part all) c.in-Ok.bad o o o' e e' e' (c.in-Ok.ensures.went told ot o) some second)
+
+pub returns-in-Ok-tell_unmet-clause-looks : goal.returns-in-Ok-tell_unmet-clause-looks
+returns-in-Ok-tell_unmet-clause-looks g c =
+    peeks_then g.D.Disk.tells g.D.Disk.files g.D.Disk.left_since g.D.Disk.moment g.D.Disk.bytes_read g.D.Disk.follows true g.met.D.Disk.follows_trans c.args.disk.now c.tell_each_bad.new.disk c.tell_unmet.new.disk c.in-Ok.ensures.looks
+    c.in-Ok-tell_unmet.ensures.looks
+
+pub returns-in-Err-tell_unmet-clause-went : goal.returns-in-Err-tell_unmet-clause-went
+returns-in-Err-tell_unmet-clause-went g c = λ told rows.
+    let db = c.args.db.now in
+    let s = db.store in
+    let all = packages (g.D.Disk.files c.args.disk.now).pkg s in
+    let ot = g.O.Sink.tells in
+    let et = g.E.Sink.tells in
+    let o = g.O.Sink.taken (inner c.args.out.now) in
+    let o' = g.O.Sink.taken (inner c.tell_unmet.new.out) in
+    let e = g.E.Sink.taken (inner c.args.err.now) in
+    let e' = g.E.Sink.taken (inner c.tell_each_bad.new.err) in
+    let what = c.in-Err-tell_unmet.stop in
+    let second = subst (λ (f : Files). HasIndexRows db f.pkg f.idx → PartIs (unmet_part (packages f.pkg s)) (Err what) (outputs ot o et e') (outputs ot o' et e')
+    Anywhere) (c.in-Ok.ensures.looks.untouched told).same (λ has. c.in-Err-tell_unmet.ensures.went told has et e') rows in
+    behind_stop ot et (bad_parts all) (unmet_part all) c.in-Ok.bad o o o' e e' e' (c.in-Ok.ensures.went told ot o) what second
+
+pub returns-in-Err-tell_unmet-clause-broken : goal.returns-in-Err-tell_unmet-clause-broken
+returns-in-Err-tell_unmet-clause-broken g c = λ told.
+    subst (λ (f : Files). StopsOfSome f.idx c.in-Err-tell_unmet.stop) (c.in-Ok.ensures.looks.untouched told).same (c.in-Err-tell_unmet.ensures.broken told)
+
+pub returns-in-Err-tell_unmet-clause-looks : goal.returns-in-Err-tell_unmet-clause-looks
+returns-in-Err-tell_unmet-clause-looks g c =
+    peeks_then g.D.Disk.tells g.D.Disk.files g.D.Disk.left_since g.D.Disk.moment g.D.Disk.bytes_read g.D.Disk.follows true g.met.D.Disk.follows_trans c.args.disk.now c.tell_each_bad.new.disk c.tell_unmet.new.disk c.in-Ok.ensures.looks
+    c.in-Err-tell_unmet.ensures.looks

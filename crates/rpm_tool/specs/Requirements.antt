@@ -1,0 +1,159 @@
+-- What the reports on requirements tell: those that no package meets, and an order in which packages could be installed.
+use Rattle.std.specs.Prelude.{◌≡◌, ℕ, ◌<◌, ◌==◌, ◌||◌, List, [], ◌∷◌, ◌++◌, map, take, length, codes, decimal, slice_get, slice_index_or, Contains, Bool, true, false, if◌then◌else◌, Option, Some, None, Result, Ok, Err, is_ok}
+use Rattle.std.specs.List.{concat, flat_map}
+use Rattle.std.specs.Ordering.{nat_cmp}
+use Rattle.std.specs.FinMap.{FinMap, entries, get}
+use Rattle.rpm_outside.specs.Files.{Units}
+use Rattle.rpm_header.specs.declared.form.HeaderFault.{HeaderFault}
+use Rattle.rpm_header.specs.Header.{Header, header}
+use Rattle.rpm_tags.specs.Wanted.{Needed}
+use Rattle.rpm_version.specs.Range.{is_open}
+use Rattle.rpm_db.specs.State.{Package, Good, Bad}
+use Rattle.rpm_graph.specs.Networks.{Network}
+use Rattle.rpm_graph.specs.Orders.{IsNext, Lists}
+use Rattle.rpm_check.specs.declared.list.Unmet.{Unmet}
+use Rattle.rpm_check.specs.Unmet.{required, unmet}
+use Rattle.rpm_check.specs.Edges.{graph_of}
+use Rattle.rpm_check.specs.declared.faults.CheckFault.{CheckFault}
+use Rattle.rpm_check.specs.declared.faults.CheckFault.TheVariants as check
+use Rattle.rpm_check.specs.Answers.{IsFaultOfSome}
+use Rattle.rpm_filecheck.specs.Conflicts.{label}
+use Rattle.rpm_qfeval.specs.Numbers.{letters, depflags}
+use Rattle.rpm_tool.specs.declared.step.Stop.{Stop}
+use Rattle.rpm_tool.specs.declared.step.Stop.TheVariants as stop
+use Rattle.rpm_tool.specs.declared.answer.Why.{Why}
+use Rattle.rpm_tool.specs.declared.answer.Why.TheVariants as why
+use Rattle.rpm_change.specs.Endings.{Outputs}
+use Rattle.rpm_change.specs.Steps.{bearer, whole, Step, ToOut, Course, idle}
+use Rattle.rpm_tool.specs.Steps.{Portion, nothing, fails, together, before}
+use Rattle.rpm_tool.specs.Queries.{bad_step}
+use Rattle.rpm_tool.specs.Answers.{PartIs, Reached, Anywhere, is_some_of, why_of}
+
+-- ---- what is said of a package
+
+abbrev pub read_text : (Header → List ℕ) → Result Header HeaderFault → List ℕ
+read_text text (Ok h) = text h
+read_text text (Err fault) = []
+
+-- of its header; nothing where there is none
+abbrev pub package_text : (Header → List ℕ) → Option Package → List ℕ
+package_text text (Some (Good bytes)) = read_text text (header bytes)
+package_text text others = []
+
+-- one part behind another
+abbrev pub behind : Portion → Portion → Portion
+behind p q = record { steps = p.steps ++ q.steps; fails = p.fails || q.fails }
+
+-- ---- packages that can't be read
+
+-- its line, for which the argument fails
+abbrev pub bad_part : ℕ × Package → Portion
+bad_part (n, Good bytes) = nothing
+bad_part (n, Bad) = fails (bad_step 0 n)
+
+-- of a number, where there is such a package
+abbrev pub bad_at : ℕ → Option Package → Portion
+bad_at n None = nothing
+bad_at n (Some p) = bad_part (n, p)
+
+-- of all of them, by rising number
+abbrev pub bad_parts : FinMap nat_cmp Package → Portion
+bad_parts packages = together (map bad_part (entries packages))
+
+-- ---- requirements that no package meets
+
+-- the comparison and the version, where there are both
+abbrev pub range_text : ℕ → List ℕ → List ℕ
+range_text flags version = if is_open flags version then [] else concat (codes " " ∷ letters depflags flags ∷ codes " " ∷ version ∷ [])
+
+unfoldable pub unmet_line : List ℕ → Needed → List ℕ
+unmet_line label need = concat (label ∷ codes ": unsatisfied: " ∷ need.name ∷ range_text need.flags need.version ∷ codes "\n" ∷ [])
+
+abbrev pub line_of : List ℕ → Option Needed → List ℕ
+line_of label None = []
+line_of label (Some need) = unmet_line label need
+
+-- of the requirement at a place of a header
+abbrev pub unmet_text : ℕ → Header → List ℕ
+unmet_text place h = line_of (label h) (slice_get (required h) place)
+
+abbrev pub unmet_step : FinMap nat_cmp Package → Unmet → Step
+unmet_step packages u = ToOut (bearer 0 u.number) (package_text (unmet_text u.place) (get packages u.number))
+
+-- a line for each, and the argument fails where there is one
+abbrev pub unmet_part : FinMap nat_cmp Package → Portion
+unmet_part packages = record { steps = map (unmet_step packages) (unmet packages); fails = is_some_of (unmet packages) }
+
+-- the packages that can't be read stand first
+abbrev pub unsatisfied_part : FinMap nat_cmp Package → Portion
+unsatisfied_part packages = behind (bad_parts packages) (unmet_part packages)
+
+abbrev pub unsatisfied : FinMap nat_cmp Package → Course
+unsatisfied packages = before (unsatisfied_part packages) idle
+
+-- ---- an order of installation
+
+abbrev pub label_text : List ℕ → Header → List ℕ
+label_text indent h = concat (indent ∷ label h ∷ codes "\n" ∷ [])
+
+abbrev pub label_step : FinMap nat_cmp Package → List ℕ → ℕ → Step
+label_step packages indent n = ToOut (bearer 0 n) (package_text (label_text indent) (get packages n))
+
+-- packages that all lead to each other
+unfoldable pub cycle_line : ℕ → List ℕ
+cycle_line count = concat (codes "cycle: " ∷ decimal count ∷ codes "\n" ∷ [])
+
+-- one package alone has its label; several have how many they are, and then their labels
+abbrev pub class_steps : FinMap nat_cmp Package → List ℕ → List Step
+class_steps packages class =
+    if length class == 1 then map (label_step packages []) class
+    else ToOut (whole 0) (cycle_line (length class)) ∷ map (label_step packages (codes "  ")) class
+
+-- class by class; the argument doesn't fail for it
+abbrev pub classes_part : FinMap nat_cmp Package → List (List ℕ) → Portion
+classes_part packages classes = record { steps = flat_map (class_steps packages) classes; fails = false }
+
+abbrev pub order_part : FinMap nat_cmp Package → List (List ℕ) → Portion
+order_part packages classes = behind (bad_parts packages) (classes_part packages classes)
+
+abbrev pub ordering : FinMap nat_cmp Package → List (List ℕ) → Course
+ordering packages classes = before (order_part packages classes) idle
+
+-- each class is the next one behind those before it; where all are told, each number stands in one
+pub record IsListed (g : Network) (all_told : Bool) (classes : List (List ℕ)) : Type 0 where
+  pub each : (k : ℕ) → k < length classes → IsNext g (take k classes) (slice_index_or classes k [])
+  pub all : all_told ≡ true → (n : ℕ) → Contains g.numbers n → Lists classes n
+
+-- how far the classes were told
+abbrev pub ClassesAre : FinMap nat_cmp Package → Result (Unit {0}) Stop → Outputs → Outputs → Type 0
+ClassesAre packages result old new = (classes : List (List ℕ)) × IsListed (graph_of packages) (is_ok result) classes
+    × Reached (classes_part packages classes).steps result old new Anywhere
+
+-- and behind the packages that can't be read
+abbrev pub OrderPartIs : FinMap nat_cmp Package → Result Bool Stop → Outputs → Outputs → Type 0
+OrderPartIs packages result old new = (classes : List (List ℕ)) × IsListed (graph_of packages) (is_ok result) classes
+    × PartIs (order_part packages classes) result old new Anywhere
+
+-- ---- an index that is malformed
+
+-- it is told only with the fault of the chain of some key
+abbrev pub IsOfSome : Units → Why → Type 0
+IsOfSome idx (why.BadIndex unit) = IsFaultOfSome idx unit
+IsOfSome idx others = Unit {0}
+
+abbrev pub StopsOfSome : Units → Stop → Type 0
+StopsOfSome idx (stop.BadIndex unit) = IsFaultOfSome idx unit
+StopsOfSome idx others = Unit {0}
+
+-- ---- endings
+
+-- what stops a report
+abbrev pub stop_of_check : CheckFault → Stop
+stop_of_check (check.BadIndex unit) = stop.BadIndex unit
+stop_of_check check.DiskFault = stop.ReadFault
+stop_of_check check.NoMemory = stop.NoMemory
+
+-- of whether its one argument failed
+abbrev pub why_of_report : Result Bool Stop → Why
+why_of_report (Ok fails) = if fails then why.Failed 1 else why.Done
+why_of_report (Err what) = why_of what

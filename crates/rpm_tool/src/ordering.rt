@@ -1,0 +1,317 @@
+//! An order in which the packages could be installed.
+
+ghost use Rattle.std.specs.Prelude.{◌≡◌, ◌≢◌, ℕ, ◌<◌, Bool, List, [], map, length, true, false, IsTrue, Err, IfOk, IfErr};
+ghost use Rattle.std.specs.List.{flat_map};
+ghost use Rattle.rpm_outside.specs.Buffered.{inner, holds, HandsOn};
+ghost use Rattle.rpm_outside.specs.Causes.{HasCauseAt};
+ghost use Rattle.rpm_header.specs.Header.{header};
+ghost use Rattle.rpm_db.specs.State.{packages};
+ghost use Rattle.rpm_db.specs.Database as database;
+ghost use Rattle.rpm_db.specs.Database.{Keeps, KeepsIndex};
+ghost use Rattle.rpm_select.specs.Reach.{HasIndexRows};
+ghost use Rattle.rpm_check.specs.Edges.{graph_of};
+ghost use Rattle.rpm_change.specs.Endings.{outputs};
+ghost use Rattle.rpm_change.specs.Steps.{whole, ToOut};
+ghost use Rattle.rpm_graph.specs.Orders.{IsOrder};
+ghost use Rattle.rpm_tool.specs.Answers.{Anywhere, Reached, StepIs, PartIs, is_of_sink};
+ghost use Rattle.rpm_tool.specs.Reads.{Peeks};
+ghost use Rattle.rpm_tool.specs.Requirements.{read_text, label_text, label_step, cycle_line, class_steps, ClassesAre, OrderPartIs, StopsOfSome};
+
+use crate::step::{Stop, put_text};
+use crate::unreadable::{read_blob, tell_each_bad};
+use crate::unsatisfied::stop_of_check;
+use itoa::Buffer;
+use rpm_check::read_graph;
+use rpm_db::Db;
+use rpm_filecheck::label_of;
+use rpm_graph::{ClassList, order};
+use rpm_header::View;
+use rpm_outside::{Buffered, Disk, Sink};
+use std::alloc::{AllocError, Global};
+
+/// The line of a header's label, behind an indent.
+fn label_text(
+    alloc: Global,
+    view: &View<'_>,
+    number: u32,
+    indent: &[u8],
+) -> Result<Vec<u8>, AllocError>
+    ensures { IfOk result (λ line. line.items ≡ label_text indent.now view.now) }
+{
+    let label = label_of(alloc, view, number)?;
+    let mut line = Vec::new(alloc);
+    line.extend_from_slice(indent)?;
+    line.extend_from_slice(&label)?;
+    line.extend_from_slice(b"\n")?;
+    Ok(line)
+}
+
+/// The same of the header with which these bytes begin.
+fn read_label_text(
+    alloc: Global,
+    blob: &[u8],
+    number: u32,
+    indent: &[u8],
+) -> Result<Vec<u8>, AllocError>
+    ensures { IfOk result (λ line. line.items ≡ read_text (label_text indent.now) (header blob.now)) }
+{
+    match View::parse(blob) {
+        Ok(view) => label_text(alloc, &view, number, indent),
+        Err(_) => Ok(Vec::new(alloc)),
+    }
+}
+
+/// Writes the label of a package, which is read for it, behind an indent.
+fn put_label<D: Disk, O: Sink + Drop>(
+    alloc: Global,
+    db: &Db,
+    disk: &mut D,
+    number: u32,
+    indent: &[u8],
+    out: &mut Buffered<O>,
+) -> Result<bool, Stop>
+    requires out_empty { holds out.old ≡ [] }
+    requires keeps { IsTrue D.tells → Keeps (D.files disk.old).pkg db.now }
+    requires runs { db.now.stopped ≡ false }
+    ensures kept { IsTrue D.tells → Keeps (D.files disk.new).pkg db.now }
+    ensures step { IsTrue D.tells → (err_tells : Bool) (err : List ℕ)
+        → StepIs (label_step (packages (D.files disk.old).pkg db.now.store) indent.now number) result
+        (outputs O.tells (O.taken (inner out.old)) err_tells err) (outputs O.tells (O.taken (inner out.new)) err_tells err) }
+    ensures looks { Peeks D.tells D.files D.left_since D.moment D.bytes_read D.follows true disk.old disk.new }
+    ensures unbroken { (unit : ℕ) → result ≢ Err (Stop.BadIndex unit) }
+    ensures no_err { result ≢ Err Stop.ErrFault }
+    ensures disk { HasCauseAt (result ≡ Err Stop.ReadFault) (D.faults disk.old) (D.faults disk.new) }
+    ensures out { HasCauseAt (result ≡ Err Stop.OutFault) (O.faults (inner out.old)) (O.faults (inner out.new)) }
+    ensures out_rest { HandsOn O.follows out.old out.new }
+{
+    let blob = match read_blob(alloc, db, disk, number) {
+        Ok(blob) => blob,
+        Err(stop) => return Err(stop),
+    };
+    match read_label_text(alloc, &blob, number, indent) {
+        Ok(line) => put_text(out, &line),
+        Err(_) => Err(Stop::NoMemory),
+    }
+}
+
+/// Writes the labels of these packages, each behind an indent.
+fn put_labels<D: Disk, O: Sink + Drop>(
+    alloc: Global,
+    db: &Db,
+    disk: &mut D,
+    class: &[u32],
+    indent: &[u8],
+    out: &mut Buffered<O>,
+) -> Result<(), Stop>
+    requires out_empty { holds out.old ≡ [] }
+    requires keeps { IsTrue D.tells → Keeps (D.files disk.old).pkg db.now }
+    requires runs { db.now.stopped ≡ false }
+    ensures kept { IsTrue D.tells → Keeps (D.files disk.new).pkg db.now }
+    ensures went { IsTrue D.tells → (err_tells : Bool) (err : List ℕ)
+        → Reached (map (label_step (packages (D.files disk.old).pkg db.now.store) indent.now) class.now) result
+        (outputs O.tells (O.taken (inner out.old)) err_tells err) (outputs O.tells (O.taken (inner out.new)) err_tells err) Anywhere }
+    ensures looks { Peeks D.tells D.files D.left_since D.moment D.bytes_read D.follows true disk.old disk.new }
+    ensures unbroken { (unit : ℕ) → result ≢ Err (Stop.BadIndex unit) }
+    ensures no_err { result ≢ Err Stop.ErrFault }
+    ensures disk { HasCauseAt (result ≡ Err Stop.ReadFault) (D.faults disk.old) (D.faults disk.new) }
+    ensures out { HasCauseAt (result ≡ Err Stop.OutFault) (O.faults (inner out.old)) (O.faults (inner out.new)) }
+    ensures out_rest { HandsOn O.follows out.old out.new }
+{
+    for number in class {
+        match put_label(alloc, db, disk, *number, indent, out) {
+            Ok(_) => {}
+            Err(stop) => return Err(stop),
+        }
+    }
+    Ok(())
+}
+
+/// The line of several packages that all lead to each other.
+#[tactic(auto, unfolding(crate::specs::Requirements::cycle_line))]
+fn cycle_line(alloc: Global, count: usize) -> Result<Vec<u8>, AllocError>
+    ensures { IfOk result (λ line. line.items ≡ cycle_line count) }
+{
+    let mut digits = Buffer::new();
+    let mut line = Vec::new(alloc);
+    line.extend_from_slice(b"cycle: ")?;
+    line.extend_from_slice(digits.format(count).as_bytes())?;
+    line.extend_from_slice(b"\n")?;
+    Ok(line)
+}
+
+/// Writes how many packages all lead to each other.
+fn put_cycle<O: Sink + Drop>(
+    alloc: Global,
+    count: usize,
+    out: &mut Buffered<O>,
+) -> Result<bool, Stop>
+    requires out_empty { holds out.old ≡ [] }
+    ensures step { (err_tells : Bool) (err : List ℕ) → StepIs (ToOut (whole 0) (cycle_line count)) result
+        (outputs O.tells (O.taken (inner out.old)) err_tells err) (outputs O.tells (O.taken (inner out.new)) err_tells err) }
+    ensures no_read { result ≢ Err Stop.ReadFault }
+    ensures unbroken { (unit : ℕ) → result ≢ Err (Stop.BadIndex unit) }
+    ensures no_err { result ≢ Err Stop.ErrFault }
+    ensures out { HasCauseAt (result ≡ Err Stop.OutFault) (O.faults (inner out.old)) (O.faults (inner out.new)) }
+    ensures out_rest { HandsOn O.follows out.old out.new }
+{
+    match cycle_line(alloc, count) {
+        Ok(line) => put_text(out, &line),
+        Err(_) => Err(Stop::NoMemory),
+    }
+}
+
+/// Writes the packages of a class.
+fn put_class<D: Disk, O: Sink + Drop>(
+    alloc: Global,
+    db: &Db,
+    disk: &mut D,
+    class: &[u32],
+    out: &mut Buffered<O>,
+) -> Result<(), Stop>
+    requires out_empty { holds out.old ≡ [] }
+    requires keeps { IsTrue D.tells → Keeps (D.files disk.old).pkg db.now }
+    requires runs { db.now.stopped ≡ false }
+    ensures kept { IsTrue D.tells → Keeps (D.files disk.new).pkg db.now }
+    ensures went { IsTrue D.tells → (err_tells : Bool) (err : List ℕ)
+        → Reached (class_steps (packages (D.files disk.old).pkg db.now.store) class.now) result
+        (outputs O.tells (O.taken (inner out.old)) err_tells err) (outputs O.tells (O.taken (inner out.new)) err_tells err) Anywhere }
+    ensures looks { Peeks D.tells D.files D.left_since D.moment D.bytes_read D.follows true disk.old disk.new }
+    ensures unbroken { (unit : ℕ) → result ≢ Err (Stop.BadIndex unit) }
+    ensures no_err { result ≢ Err Stop.ErrFault }
+    ensures disk { HasCauseAt (result ≡ Err Stop.ReadFault) (D.faults disk.old) (D.faults disk.new) }
+    ensures out { HasCauseAt (result ≡ Err Stop.OutFault) (O.faults (inner out.old)) (O.faults (inner out.new)) }
+    ensures out_rest { HandsOn O.follows out.old out.new }
+{
+    let count = class.len();
+    if count == 1 {
+        return put_labels(alloc, db, disk, class, b"", out);
+    }
+    match put_cycle(alloc, count, out) {
+        Ok(_) => put_labels(alloc, db, disk, class, b"  ", out),
+        Err(stop) => Err(stop),
+    }
+}
+
+/// Writes the packages, class by class.
+fn put_classes<D: Disk, O: Sink + Drop>(
+    alloc: Global,
+    db: &Db,
+    disk: &mut D,
+    list: &ClassList,
+    out: &mut Buffered<O>,
+) -> Result<(), Stop>
+    requires out_empty { holds out.old ≡ [] }
+    requires keeps { IsTrue D.tells → Keeps (D.files disk.old).pkg db.now }
+    requires runs { db.now.stopped ≡ false }
+    ensures went { IsTrue D.tells → (err_tells : Bool) (err : List ℕ)
+        → Reached (flat_map (class_steps (packages (D.files disk.old).pkg db.now.store)) list.now) result
+        (outputs O.tells (O.taken (inner out.old)) err_tells err) (outputs O.tells (O.taken (inner out.new)) err_tells err) Anywhere }
+    ensures looks { Peeks D.tells D.files D.left_since D.moment D.bytes_read D.follows true disk.old disk.new }
+    ensures unbroken { (unit : ℕ) → result ≢ Err (Stop.BadIndex unit) }
+    ensures no_err { result ≢ Err Stop.ErrFault }
+    ensures disk { HasCauseAt (result ≡ Err Stop.ReadFault) (D.faults disk.old) (D.faults disk.new) }
+    ensures out { HasCauseAt (result ≡ Err Stop.OutFault) (O.faults (inner out.old)) (O.faults (inner out.new)) }
+    ensures out_rest { HandsOn O.follows out.old out.new }
+{
+    for k in 0..list.classes() {
+        match put_class(alloc, db, disk, list.class(k), out) {
+            Ok(()) => {}
+            Err(stop) => return Err(stop),
+        }
+    }
+    Ok(())
+}
+
+/// The packages in an order in which they could be installed.
+fn list_classes<D: Disk>(alloc: Global, db: &Db, disk: &mut D) -> Result<ClassList, Stop>
+    requires keeps { IsTrue D.tells → Keeps (D.files disk.old).pkg db.now }
+    requires keeps_index { IsTrue D.tells → KeepsIndex (D.files disk.old).idx db.now }
+    requires runs { db.now.stopped ≡ false }
+    requires from_one { database.holds 0 db.now ≡ false }
+    ensures kept { IsTrue D.tells → Keeps (D.files disk.new).pkg db.now }
+    ensures told { IfOk result (λ list. IsTrue D.tells → HasIndexRows db.now (D.files disk.old).pkg (D.files disk.old).idx
+        → IsOrder (graph_of (packages (D.files disk.old).pkg db.now.store)) list) }
+    ensures broken { IsTrue D.tells → IfErr result (StopsOfSome (D.files disk.old).idx) }
+    ensures lawful { IsTrue D.tells → HasIndexRows db.now (D.files disk.old).pkg (D.files disk.old).idx → IfErr result (λ stop. is_of_sink stop ≡ false) }
+    ensures no_out { result ≢ Err Stop.OutFault }
+    ensures no_err { result ≢ Err Stop.ErrFault }
+    ensures looks { Peeks D.tells D.files D.left_since D.moment D.bytes_read D.follows true disk.old disk.new }
+    ensures disk { HasCauseAt (result ≡ Err Stop.ReadFault) (D.faults disk.old) (D.faults disk.new) }
+{
+    let graph = match read_graph(alloc, db, disk) {
+        Ok(graph) => graph,
+        Err(fault) => return Err(stop_of_check(fault)),
+    };
+    match order(alloc, &graph) {
+        Ok(list) => Ok(list),
+        Err(_) => Err(Stop::NoMemory),
+    }
+}
+
+/// Tells the packages in an order in which they could be installed, with their labels on out.
+fn tell_order<D: Disk, O: Sink + Drop>(
+    alloc: Global,
+    db: &Db,
+    disk: &mut D,
+    out: &mut Buffered<O>,
+) -> Result<(), Stop>
+    requires out_empty { holds out.old ≡ [] }
+    requires keeps { IsTrue D.tells → Keeps (D.files disk.old).pkg db.now }
+    requires keeps_index { IsTrue D.tells → KeepsIndex (D.files disk.old).idx db.now }
+    requires runs { db.now.stopped ≡ false }
+    requires from_one { database.holds 0 db.now ≡ false }
+    ensures went { IsTrue D.tells → HasIndexRows db.now (D.files disk.old).pkg (D.files disk.old).idx → (err_tells : Bool) (err : List ℕ)
+        → ClassesAre (packages (D.files disk.old).pkg db.now.store) result
+        (outputs O.tells (O.taken (inner out.old)) err_tells err) (outputs O.tells (O.taken (inner out.new)) err_tells err) }
+    ensures broken { IsTrue D.tells → IfErr result (StopsOfSome (D.files disk.old).idx) }
+    ensures no_err { result ≢ Err Stop.ErrFault }
+    ensures looks { Peeks D.tells D.files D.left_since D.moment D.bytes_read D.follows true disk.old disk.new }
+    ensures disk { HasCauseAt (result ≡ Err Stop.ReadFault) (D.faults disk.old) (D.faults disk.new) }
+    ensures out { HasCauseAt (result ≡ Err Stop.OutFault) (O.faults (inner out.old)) (O.faults (inner out.new)) }
+    ensures out_rest { HandsOn O.follows out.old out.new }
+{
+    match list_classes(alloc, db, disk) {
+        Ok(list) => put_classes(alloc, db, disk, &list, out),
+        Err(stop) => Err(stop),
+    }
+}
+
+/// Tells first the packages that can't be read, with their lines on err, and then the others in an order in which they could be installed,
+/// with their labels on out: each class behind those that its packages require, and of those that may come next the one with the least
+/// number. Packages that all lead to each other are told as a cycle, by rising number. Says whether there is one that can't be read.
+///
+/// Beside what [`read_graph`] reads it reads the blocks of each package once, and those of each that can be read once again for its label.
+pub fn report_order<D: Disk, O: Sink + Drop, E: Sink + Drop>(
+    alloc: Global,
+    db: &Db,
+    disk: &mut D,
+    out: &mut Buffered<O>,
+    err: &mut Buffered<E>,
+) -> Result<bool, Stop>
+    requires out_empty { holds out.old ≡ [] }
+    requires err_empty { holds err.old ≡ [] }
+    requires keeps { IsTrue D.tells → Keeps (D.files disk.old).pkg db.now }
+    requires keeps_index { IsTrue D.tells → KeepsIndex (D.files disk.old).idx db.now }
+    requires runs { db.now.stopped ≡ false }
+    requires from_one { database.holds 0 db.now ≡ false }
+    ensures went { IsTrue D.tells → HasIndexRows db.now (D.files disk.old).pkg (D.files disk.old).idx
+        → OrderPartIs (packages (D.files disk.old).pkg db.now.store) result
+        (outputs O.tells (O.taken (inner out.old)) E.tells (E.taken (inner err.old))) (outputs O.tells (O.taken (inner out.new)) E.tells
+        (E.taken (inner err.new))) }
+    ensures broken { IsTrue D.tells → IfErr result (StopsOfSome (D.files disk.old).idx) }
+    ensures looks { Peeks D.tells D.files D.left_since D.moment D.bytes_read D.follows true disk.old disk.new }
+    ensures disk { HasCauseAt (result ≡ Err Stop.ReadFault) (D.faults disk.old) (D.faults disk.new) }
+    ensures out { HasCauseAt (result ≡ Err Stop.OutFault) (O.faults (inner out.old)) (O.faults (inner out.new)) }
+    ensures err { HasCauseAt (result ≡ Err Stop.ErrFault) (E.faults (inner err.old)) (E.faults (inner err.new)) }
+    ensures out_rest { HandsOn O.follows out.old out.new }
+    ensures err_rest { HandsOn E.follows err.old err.new }
+{
+    let bad = match tell_each_bad(alloc, db, disk, err) {
+        Ok(bad) => bad,
+        Err(stop) => return Err(stop),
+    };
+    match tell_order(alloc, db, disk, out) {
+        Ok(()) => Ok(bad),
+        Err(stop) => Err(stop),
+    }
+}
