@@ -1,5 +1,5 @@
 -- The endings of a database that is opened with its index, and then asked.
-use Rattle.std.proofs.Common.{◌≡◌, ℕ, ◌^◌, ◌≤◌, Bool, true, false, List, [], Result, Ok, Err, refl}
+use Rattle.std.proofs.Common.{◌≡◌, ℕ, ◌^◌, ◌≤◌, Bool, true, false, [], Result, Ok, Err, refl}
 use Rattle.rpm_pkgdb.specs.declared.slot.Damage.{Damage}
 use Rattle.rpm_pkgdb.specs.Store.{Store}
 use Rattle.rpm_tool.specs.declared.answer.Why.{Why}

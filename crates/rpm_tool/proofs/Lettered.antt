@@ -1,5 +1,5 @@
 -- The letters of a comparison.
-use Rattle.std.proofs.Common.{◌≡◌, ℕ, List, [], ◌++◌, Bool, true, false, if◌then◌else◌, refl, inl, inr}
+use Rattle.std.proofs.Common.{◌≡◌, ℕ, [], ◌++◌, if◌then◌else◌, refl, inl, inr}
 use Rattle.std.specs.Prelude.{codes}
 use Rattle.std.proofs.lemmas.Bool.{cases_Bool}
 use Rattle.rpm_qfeval.specs.Numbers.{has, letters, depflags}

@@ -9,13 +9,13 @@ use Rattle.rpm_header.specs.declared.form.HeaderFault.{HeaderFault}
 use Rattle.rpm_header.specs.Header.{Header, header}
 use Rattle.rpm_outside.specs.Files.{Files}
 use Rattle.rpm_pkgdb.specs.Store.{Store}
-use Rattle.rpm_db.specs.State.{Package, Good, packages, package_of, read_as, above}
+use Rattle.rpm_db.specs.State.{Package, packages, package_of, read_as, above}
 use Rattle.rpm_db.specs.Database.{IsNext}
 use Rattle.rpm_db.specs.inner.Above.{next_above}
 use Rattle.rpm_db.specs.inner.Own.{header-own}
 use Rattle.rpm_tool.specs.declared.step.Stop.{Stop}
 use Rattle.rpm_tool.specs.declared.step.Stop.TheVariants as stop
-use Rattle.rpm_change.specs.Steps.{Bearer, whole, Step, ToOut}
+use Rattle.rpm_change.specs.Steps.{whole, Step, ToOut}
 use Rattle.rpm_change.specs.Endings.{Outputs, outputs, Through}
 use Rattle.rpm_tool.specs.Steps.{Portion}
 use Rattle.rpm_tool.specs.Answers.{StepIs, Reached, PartIs, Anywhere}

@@ -27,7 +27,7 @@ use Rattle.rpm_tool.specs.declared.answer.Why.TheVariants as why
 use Rattle.rpm_tool.specs.declared.asked.Inquiry.{Inquiry}
 use Rattle.rpm_tool.specs.declared.asked.Inquiry.TheVariants as inquiry
 use Rattle.rpm_tool.specs.Asked.{is_query, inquiry_of}
-use Rattle.rpm_change.specs.Steps.{Bearer, Course}
+use Rattle.rpm_change.specs.Steps.{Bearer}
 use Rattle.rpm_tool.specs.Queries.{query}
 use Rattle.rpm_tool.specs.Reports.{unindexed}
 use Rattle.rpm_tool.specs.Requirements.{unsatisfied, ordering, IsListed, IsOfSome}

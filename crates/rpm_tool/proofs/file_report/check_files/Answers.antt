@@ -1,4 +1,4 @@
-use Rattle.std.proofs.Common.{◌≡◌, ℕ, ◌+◌, ◌≤◌, true, false, Bool, List, [], ◌∷◌, map, Result, Ok, Err, refl, sym, subst, arith}
+use Rattle.std.proofs.Common.{◌≡◌, ◌+◌, ◌≤◌, true, false, Bool, List, [], ◌∷◌, map, Result, Ok, Err, refl, sym, subst, arith}
 use Rattle.std.proofs.lemmas.List.{append-nil}
 use Rattle.std.specs.Ordering.{nat_cmp}
 use Rattle.std.specs.FinMap.{FinMap}
@@ -7,11 +7,11 @@ use Rattle.rpm_outside.specs.declared.disk.File.TheVariants.{Pkg}
 use Rattle.rpm_db.specs.State.{Package, packages}
 use Rattle.rpm_filecheck.specs.Conflicts.{Report, IsReport, bad, conflicts}
 use Rattle.rpm_select.specs.Reach.{Everything}
-use Rattle.rpm_change.specs.Steps.{Bearer, Step, whole, idle}
+use Rattle.rpm_change.specs.Steps.{Bearer, Step, whole}
 use Rattle.rpm_change.specs.Endings.{Outputs, outputs}
 use Rattle.rpm_tool.specs.declared.answer.Why.{Why}
 use Rattle.rpm_tool.specs.declared.step.Stop.{Stop}
-use Rattle.rpm_tool.specs.Steps.{Portion, before, fails, together}
+use Rattle.rpm_tool.specs.Steps.{Portion, fails, together}
 use Rattle.rpm_tool.specs.FileReport.{label, report_steps, told_steps, check_files}
 use Rattle.rpm_tool.specs.Reads.{reached_by}
 use Rattle.rpm_tool.specs.Answers.{Reached, PartIs, Went}

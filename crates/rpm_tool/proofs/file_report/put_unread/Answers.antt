@@ -1,4 +1,4 @@
-use Rattle.std.proofs.Common.{◌≡◌, ℕ, ◌+◌, List, ◌∷◌, get_or, map, drop, drop-cons, add-one, refl, sym, ap, ◌∙◌, arith}
+use Rattle.std.proofs.Common.{◌≡◌, ℕ, ◌+◌, ◌∷◌, get_or, map, drop, drop-cons, add-one, refl, sym, ap, ◌∙◌, arith}
 use Rattle.rpm_outside.specs.Buffered.{inner}
 use Rattle.rpm_change.specs.Steps.{whole}
 use Rattle.rpm_tool.specs.FileReport.{unread_step}

@@ -1,4 +1,4 @@
-use Rattle.std.proofs.Common.{◌≡◌, ℕ, List, map, Result, Ok, Err, subst}
+use Rattle.std.proofs.Common.{◌≡◌, ℕ, List, map, Err, subst}
 use Rattle.rpm_outside.specs.Buffered.{inner}
 use Rattle.rpm_change.specs.Steps.{Bearer, whole}
 use Rattle.rpm_change.specs.Endings.{outputs, Through}

@@ -1,12 +1,11 @@
-use Rattle.std.proofs.Common.{◌≡◌, true, Bool, Err, sym, ◌∙◌, subst}
+use Rattle.std.proofs.Common.{◌≡◌, true, sym, ◌∙◌, subst}
 use Rattle.rpm_outside.specs.Buffered.{inner}
 use Rattle.rpm_db.specs.State.{packages}
-use Rattle.rpm_check.specs.Edges.{graph_of}
 use Rattle.rpm_change.specs.Endings.{outputs}
 use Rattle.rpm_tool.specs.declared.answer.Why.{Why}
 use Rattle.rpm_tool.specs.declared.answer.Why.TheVariants as why
 use Rattle.rpm_tool.specs.Keyed.{is_done}
-use Rattle.rpm_tool.specs.Requirements.{unsatisfied_part, order_part, IsOfSome, IsListed}
+use Rattle.rpm_tool.specs.Requirements.{order_part, IsOfSome}
 use Rattle.rpm_tool.proofs.Checked.{report_some, report_read, report_out, report_err, report_done}
 use Rattle.rpm_tool.proofs.inquiries.answer_order.Goals as goal
 

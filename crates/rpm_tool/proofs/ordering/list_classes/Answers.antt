@@ -1,4 +1,4 @@
-use Rattle.std.proofs.Common.{◌≡◌, Bool, false, Err, sym, ap, ◌∙◌, subst}
+use Rattle.std.proofs.Common.{◌≡◌, false, Err, sym, ap, ◌∙◌, subst}
 use Rattle.rpm_graph.specs.Networks.{Network}
 use Rattle.rpm_graph.specs.Orders.{IsOrder}
 use Rattle.rpm_tool.specs.declared.step.Stop.{Stop}

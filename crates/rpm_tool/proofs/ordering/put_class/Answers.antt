@@ -1,13 +1,11 @@
-use Rattle.std.proofs.Common.{◌≡◌, ℕ, true, false, Bool, List, [], ◌∷◌, map, length, Ok, Err, Result, refl, sym, ap, ◌∙◌, subst}
+use Rattle.std.proofs.Common.{true, false, List, map, length, Err, sym, subst}
 use Rattle.std.specs.Prelude.{codes}
 use Rattle.rpm_outside.specs.Buffered.{inner}
-use Rattle.rpm_outside.specs.Files.{Files}
 use Rattle.rpm_db.specs.State.{packages}
 use Rattle.rpm_change.specs.Steps.{whole, Step, ToOut}
 use Rattle.rpm_change.specs.Endings.{outputs}
-use Rattle.rpm_tool.specs.declared.step.Stop.{Stop}
 use Rattle.rpm_tool.specs.Answers.{Reached, Anywhere}
-use Rattle.rpm_tool.specs.Requirements.{label_step, cycle_line, class_steps}
+use Rattle.rpm_tool.specs.Requirements.{label_step, cycle_line}
 use Rattle.rpm_tool.proofs.Telling.{one_class, more_classes, head_reached}
 use Rattle.rpm_tool.proofs.Stopping.{reached_first}
 use Rattle.rpm_tool.proofs.ordering.put_class.Goals as goal

@@ -1,4 +1,4 @@
-use Rattle.std.proofs.Common.{◌≡◌, ℕ, ◌≤◌, true, Bool, List, map, drop}
+use Rattle.std.proofs.Common.{ℕ, ◌≤◌, true, Bool, List, drop}
 use Rattle.std.specs.Prelude.{IsTrue}
 use Rattle.std.specs.List.{flat_map}
 use Rattle.rpm_outside.specs.Buffered.{inner, HandsOn}

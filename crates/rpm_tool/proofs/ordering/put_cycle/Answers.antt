@@ -1,8 +1,7 @@
-use Rattle.std.proofs.Common.{true, [], ℕ, List, subst, sym}
+use Rattle.std.proofs.Common.{true, []}
 use Rattle.rpm_outside.specs.Buffered.{inner}
 use Rattle.rpm_change.specs.Steps.{whole, ToOut}
 use Rattle.rpm_change.specs.Endings.{outputs}
-use Rattle.rpm_tool.specs.Answers.{StepIs}
 use Rattle.rpm_tool.proofs.Telling.{step_unbroken}
 use Rattle.rpm_tool.proofs.ordering.put_cycle.Goals as goal
 

@@ -1,7 +1,6 @@
 use Rattle.std.proofs.Common.{◌≡◌, true, List, [], ℕ, Err, ap, sym, ◌∙◌, subst}
 use Rattle.std.specs.FinMap as finite
 use Rattle.rpm_outside.specs.Buffered.{inner}
-use Rattle.rpm_outside.specs.declared.disk.File.TheVariants.{Pkg}
 use Rattle.rpm_header.specs.Header.{header}
 use Rattle.rpm_db.specs.State.{packages}
 use Rattle.rpm_change.specs.Steps.{bearer, whole, ToOut}

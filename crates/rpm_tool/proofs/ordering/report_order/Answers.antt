@@ -1,4 +1,4 @@
-use Rattle.std.proofs.Common.{◌≡◌, true, Bool, [], Ok, Err, refl, sym, ap, subst}
+use Rattle.std.proofs.Common.{true, Bool, [], Ok, Err, refl, sym, ap, subst}
 use Rattle.rpm_outside.specs.Buffered.{inner}
 use Rattle.rpm_outside.specs.Files.{Files}
 use Rattle.rpm_select.specs.Reach.{HasIndexRows}

@@ -1,13 +1,12 @@
-use Rattle.std.proofs.Common.{◌≡◌, true, false, Bool, List, [], Ok, Err, Result, refl, ap, subst}
+use Rattle.std.proofs.Common.{true, [], subst}
 use Rattle.std.specs.Prelude.{is_ok}
 use Rattle.rpm_outside.specs.Buffered.{inner}
 use Rattle.rpm_outside.specs.Files.{Files}
 use Rattle.rpm_db.specs.State.{packages}
 use Rattle.rpm_check.specs.Edges.{graph_of}
 use Rattle.rpm_change.specs.Endings.{outputs}
-use Rattle.rpm_tool.specs.declared.step.Stop.{Stop}
 use Rattle.rpm_tool.specs.Answers.{Reached, Anywhere}
-use Rattle.rpm_tool.specs.Requirements.{classes_part, StopsOfSome}
+use Rattle.rpm_tool.specs.Requirements.{classes_part}
 use Rattle.rpm_tool.proofs.Deeds.{none_listed, order_listed}
 use Rattle.rpm_tool.proofs.Reaching.{through_none}
 use Rattle.rpm_tool.proofs.Stopping.{reached_unsunk}

@@ -1,6 +1,5 @@
 use Rattle.std.proofs.Common.{true, [], Err, refl}
 use Rattle.rpm_outside.specs.Buffered.{inner}
-use Rattle.rpm_change.specs.Steps.{bearer}
 use Rattle.rpm_tool.specs.Queries.{bad_step}
 use Rattle.rpm_change.specs.Endings.{outputs}
 use Rattle.rpm_tool.proofs.Telling.{step_stops, step_unbroken}

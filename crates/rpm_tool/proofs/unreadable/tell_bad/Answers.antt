@@ -1,4 +1,4 @@
-use Rattle.std.proofs.Common.{◌≡◌, Bool, false, [], Option, Ok, Err, sym, refl, subst}
+use Rattle.std.proofs.Common.{false, [], Option, Ok, sym, refl, subst}
 use Rattle.std.specs.FinMap as finite
 use Rattle.rpm_outside.specs.Buffered.{inner}
 use Rattle.rpm_db.specs.State.{Package, packages}

@@ -1,15 +1,12 @@
-use Rattle.std.proofs.Common.{◌≡◌, ℕ, ◌+◌, ◌≤◌, ◌||◌, true, Bool, List, [], ◌∷◌, map, Ok, Err, Option, Result, refl, sym, ap, ◌∙◌, subst, arith}
-use Rattle.std.specs.Prelude.{IsTrue}
+use Rattle.std.proofs.Common.{ℕ, ◌||◌, true, Bool, List, map, Ok, Err, refl, sym, ap, ◌∙◌, subst, arith}
 use Rattle.std.specs.FinMap as finite
 use Rattle.std.specs.FinMap.{entries}
 use Rattle.rpm_outside.specs.Buffered.{inner}
-use Rattle.rpm_outside.specs.Files.{Files}
 use Rattle.rpm_db.specs.State.{Package, packages, above}
-use Rattle.rpm_change.specs.Endings.{Outputs, outputs, Through}
-use Rattle.rpm_tool.specs.declared.step.Stop.{Stop}
-use Rattle.rpm_tool.specs.Steps.{Portion, together}
-use Rattle.rpm_tool.specs.Answers.{Reached, PartIs, Anywhere}
-use Rattle.rpm_tool.specs.Requirements.{bad_part, bad_at}
+use Rattle.rpm_change.specs.Endings.{outputs, Through}
+use Rattle.rpm_tool.specs.Steps.{together}
+use Rattle.rpm_tool.specs.Answers.{Reached, Anywhere}
+use Rattle.rpm_tool.specs.Requirements.{bad_part}
 use Rattle.rpm_tool.proofs.Reaching.{goes_start, goes_more, goes_stop, goes_end}
 use Rattle.rpm_tool.proofs.Printed.{none_more}
 use Rattle.rpm_tool.proofs.Verified.{no_entry, from_one, fails_later}

@@ -1,11 +1,10 @@
-use Rattle.std.proofs.Common.{◌≡◌, ℕ, ◌+◌, ◌<◌, ◌≤◌, true, Bool, List, [], ◌∷◌, map, drop, length, get_or, Ok, Err, Result, refl, sym, ap, ◌∙◌, subst, arith}
+use Rattle.std.proofs.Common.{◌+◌, ◌<◌, ◌≤◌, true, Bool, [], ◌∷◌, map, drop, length, get_or, Ok, Err, refl, ap, subst, arith}
 use Rattle.std.proofs.lemmas.List.{drop_all}
 use Rattle.rpm_outside.specs.Buffered.{inner}
 use Rattle.rpm_outside.specs.Files.{Files}
 use Rattle.rpm_db.specs.State.{packages}
 use Rattle.rpm_check.specs.declared.list.Unmet.{Unmet}
 use Rattle.rpm_change.specs.Endings.{outputs}
-use Rattle.rpm_change.specs.Steps.{Step}
 use Rattle.rpm_tool.specs.Answers.{StepIs, Anywhere}
 use Rattle.rpm_tool.specs.Requirements.{unmet_step}
 use Rattle.rpm_tool.proofs.Reaching.{goes_start, goes_more, goes_stop, goes_end}

@@ -1,13 +1,12 @@
-use Rattle.std.proofs.Common.{◌≡◌, true, Bool, ◌||◌, Ok, Err, Result, sym, ap, subst}
+use Rattle.std.proofs.Common.{true, Ok, Err, sym, ap, subst}
 use Rattle.rpm_outside.specs.Buffered.{inner}
-use Rattle.rpm_outside.specs.Files.{Units, Files}
+use Rattle.rpm_outside.specs.Files.{Files}
 use Rattle.rpm_select.specs.Reach.{HasIndexRows}
 use Rattle.rpm_db.specs.Database.{KeepsIndex}
 use Rattle.rpm_db.specs.State.{packages}
 use Rattle.rpm_change.specs.Endings.{outputs}
-use Rattle.rpm_tool.specs.declared.step.Stop.{Stop}
 use Rattle.rpm_tool.specs.Answers.{PartIs, Anywhere}
-use Rattle.rpm_tool.specs.Requirements.{bad_parts, unmet_part, unsatisfied_part, StopsOfSome}
+use Rattle.rpm_tool.specs.Requirements.{bad_parts, unmet_part, StopsOfSome}
 use Rattle.rpm_tool.proofs.Telling.{behind_first, behind_both, behind_stop}
 use Rattle.rpm_tool.proofs.Checked.{unbroken_stops}
 use Rattle.rpm_tool.proofs.Peeking.{peeks_then}

@@ -1,4 +1,3 @@
-use Rattle.std.proofs.Common.{◌≡◌}
 use Rattle.std.proofs.lemmas.Iterator.Consumers.{nth_from_yields_List, YieldsList-from_first}
 use Rattle.rpm_check.specs.Unmet.{required}
 use Rattle.rpm_check.specs.inner.Needs.{needed_in}

@@ -1,15 +1,14 @@
-use Rattle.std.proofs.Common.{◌≡◌, ℕ, true, false, not, ◌==◌, Bool, List, [], ◌∷◌, map, length, Ok, Err, refl, sym, ap, ◌∙◌, subst, arith}
+use Rattle.std.proofs.Common.{◌≡◌, true, false, not, ◌==◌, Bool, List, [], ◌∷◌, map, length, refl, sym, ap, ◌∙◌, subst, arith}
 use Rattle.std.proofs.lemmas.Bool.Decides.{nat_tests}
 use Rattle.rpm_outside.specs.Buffered.{inner}
 use Rattle.rpm_outside.specs.Files.{Files}
 use Rattle.rpm_db.specs.State.{packages}
 use Rattle.rpm_check.specs.declared.list.Unmet.{Unmet}
 use Rattle.rpm_change.specs.Endings.{outputs, Through}
-use Rattle.rpm_tool.specs.Answers.{Reached, Anywhere, is_some_of}
+use Rattle.rpm_tool.specs.Answers.{Anywhere, is_some_of}
 use Rattle.rpm_tool.specs.Requirements.{unmet_step, unmet_part}
 use Rattle.rpm_tool.proofs.Reaching.{through_none}
-use Rattle.rpm_tool.proofs.Stopping.{reached_unsunk, reached_as}
-use Rattle.rpm_tool.proofs.Checked.{unbroken_stops}
+use Rattle.rpm_tool.proofs.Stopping.{reached_unsunk}
 use Rattle.rpm_tool.proofs.Peeking.{peeks_then}
 use Rattle.rpm_tool.proofs.unsatisfied.tell_unmet.Goals as goal
 
