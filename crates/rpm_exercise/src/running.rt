@@ -84,7 +84,8 @@ fn change_and_tell<D: Disk, O: Sink + Drop>(
         (outputs O.tells (O.taken (inner out.old)) err_tells err) (outputs O.tells (O.taken (inner out.new)) err_tells err) }
     ensures room { IsTrue D.tells → IsIndexed (D.files disk.old).pkg (D.files disk.old).idx db.old
         → IndexTurn (state (D.files disk.old).pkg db.old.store) (changes n (state (D.files disk.old).pkg db.old.store)) result }
-    ensures limits { IsTrue D.tells → LimitsTurn (state (D.files disk.old).pkg db.old.store) db.old.store db.new.store (changes n (state (D.files disk.old).pkg db.old.store)) result }
+    ensures limits { IsTrue D.tells → LimitsTurn (state (D.files disk.old).pkg db.old.store) db.old.store db.new.store
+        (changes n (state (D.files disk.old).pkg db.old.store)) result }
     ensures carried { IfOk result (λ _tally. IsCarried D.tells (D.files disk.old) (D.files disk.new) (D.left_since disk.new (D.moment disk.new))
         db.old db.new) }
     ensures indexed { is_indexed db.new ≡ true }
@@ -146,7 +147,8 @@ fn exercise_all<D: Disk, O: Sink + Drop>(
         (outputs O.tells (O.taken (inner out.old)) err_tells err) (outputs O.tells (O.taken (inner out.new)) err_tells err) }
     ensures room { IsTrue D.tells
         → IndexTurn (state (D.files disk.old).pkg db.old.store) (changes n (state (D.files disk.old).pkg db.old.store)) result }
-    ensures limits { IsTrue D.tells → LimitsTurn (state (D.files disk.old).pkg db.old.store) db.old.store db.new.store (changes n (state (D.files disk.old).pkg db.old.store)) result }
+    ensures limits { IsTrue D.tells → LimitsTurn (state (D.files disk.old).pkg db.old.store) db.old.store db.new.store
+        (changes n (state (D.files disk.old).pkg db.old.store)) result }
     ensures going { IfOk result (λ _tally. db.new.stopped ≡ false) }
     ensures serving { IfOk result (λ _tally. IsTrue D.tells → IsServing (D.files disk.new) (D.left_since disk.new (D.moment disk.new)) db.new) }
     ensures index { IfOk result (λ _tally. IsTrue D.tells → IsIndexed (D.files disk.new).pkg (D.files disk.new).idx db.new) }

@@ -9,11 +9,11 @@ pub letters_are : (n : ℕ) → letters depflags n
     ≡ (if has 2 n then codes "<" else []) ++ ((if has 4 n then codes ">" else []) ++ (if has 8 n then codes "=" else []))
 letters_are n = elim (cases_Bool (has 2 n)) [
   | inl a ↦ elim (cases_Bool (has 4 n)) [
-    | inl b ↦ elim (cases_Bool (has 8 n)) [ | inl c ↦ rw (a, b, c) refl | inr c ↦ rw (a, b, c) refl ]
-    | inr b ↦ elim (cases_Bool (has 8 n)) [ | inl c ↦ rw (a, b, c) refl | inr c ↦ rw (a, b, c) refl ]
+    | inl b ↦ elim (cases_Bool (has 8 n)) [ inl c ↦ rw (a, b, c) refl | inr c ↦ rw (a, b, c) refl ]
+    | inr b ↦ elim (cases_Bool (has 8 n)) [ inl c ↦ rw (a, b, c) refl | inr c ↦ rw (a, b, c) refl ]
   ]
   | inr a ↦ elim (cases_Bool (has 4 n)) [
-    | inl b ↦ elim (cases_Bool (has 8 n)) [ | inl c ↦ rw (a, b, c) refl | inr c ↦ rw (a, b, c) refl ]
-    | inr b ↦ elim (cases_Bool (has 8 n)) [ | inl c ↦ rw (a, b, c) refl | inr c ↦ rw (a, b, c) refl ]
+    | inl b ↦ elim (cases_Bool (has 8 n)) [ inl c ↦ rw (a, b, c) refl | inr c ↦ rw (a, b, c) refl ]
+    | inr b ↦ elim (cases_Bool (has 8 n)) [ inl c ↦ rw (a, b, c) refl | inr c ↦ rw (a, b, c) refl ]
   ]
 ]

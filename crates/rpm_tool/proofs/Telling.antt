@@ -66,7 +66,8 @@ bad_here f f' s m p r old new same there part =
 -- ---- a list
 
 -- the step of the element at a place, and those behind it
-pub steps_at : {X : Type 0} (f : X → Step) (xs : List X) (i : ℕ) (d : X) → i < length xs → map f (drop i xs) ≡ (f (get_or xs i d) ∷ []) ++ map f (drop (i + 1) xs)
+pub steps_at : {X : Type 0} (f : X → Step) (xs : List X) (i : ℕ) (d : X) → i < length xs → map f (drop i xs) ≡ (f (get_or xs i d) ∷ []) ++ map f
+    (drop (i + 1) xs)
 steps_at f xs i d lt =
     ap (map f) (drop-cons xs i d lt) ∙ ap (λ (k : ℕ). f (get_or xs i d) ∷ map f (drop k xs)) (sym (add-one i))
 

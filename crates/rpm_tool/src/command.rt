@@ -188,8 +188,8 @@ fn command<D: Disk, S: Shelf, O: Sink + Drop, E: Sink + Drop>(
 
 /// Does what a command line asks for, to a database or with package files, and writes the line that closes it.
 ///
-/// The disk is handed back beside every outcome. Queries leave what its files stand for, the index aside, and so do `--exportdb`,
-/// `--verifydb` and `--checkfiles`. The words are read first, by the rules of [`read`](rpm_words::read). Where they break one, the answer is `Usage` with the
+/// The disk is handed back beside every outcome. Queries leave what its files stand for, the index aside, and so do the reports, `--exportdb`
+/// and `--verifydb`. The words are read first, by the rules of [`read`](rpm_words::read). Where they break one, the answer is `Usage` with the
 /// first that is broken. Then the format is read, by the rules of [`parse`](rpm_qfparse::parse): F, the list of files, or `%{NVRA}\n`. Where it
 /// has a fault, the answer is `BadFormat` with the first one. With these two answers no call is made on the disk, the shelf or `out`.
 ///
@@ -206,6 +206,10 @@ fn command<D: Disk, S: Shelf, O: Sink + Drop, E: Sink + Drop>(
 /// A query without `-p`, `-a`, `--querybynumber` and `--noindex` is a question by key. It first finishes what a stop left of a change, syncs
 /// the files, and makes the index from the packages where it isn't current. On a database that can't be written it answers `DiskFault`
 /// where the index must be made: then `--noindex` answers.
+///
+/// `-Va --nofiles` and `--order` open the database in the same way. Both first have the message of each package that can't be read. Then the one
+/// writes a line for each requirement that no package meets, and fails where there is one; the other writes the labels of the packages in an
+/// order in which they could be installed, those that all lead to each other as a cycle.
 ///
 /// `--initdb`, `--addpkg`, `--replacepkg`, `--erasepkg`, `--importdb`, `--rebuilddb` and `--exercise` change the database; where there is none,
 /// they make one. All changes of a command are one: they are held in memory, and committed behind the last argument; a command that is stopped
@@ -276,16 +280,17 @@ pub fn run<D: Disk, S: Shelf, O: Sink, E: Sink>(
         → AtMost (D.bytes_read disk File.Pkg)
         (D.bytes_read result.1 File.Pkg) (query_cost words.now a (reopened (D.files disk)).pkg) }
 
-    // A question by key finishes what a stop left of a change, and has its index made where that isn't current. A malformed log is told
-    // exactly where there is one, and else a damage exactly where there is one. Where the database is lawful it answers the same as without
-    // an index, and of Packages.db no more is read than its pages and for each argument the packages that have one of its keys, and all
-    // where the index is made.
+    // A question by key, or a report on requirements, finishes what a stop left of a change, and has its index made where that isn't current.
+    // A malformed log is told exactly where there is one, and else a damage exactly where there is one. Where the database is lawful a question
+    // answers the same as without an index, and of Packages.db no more is read than its pages and for each argument the packages that have one of its keys, and all
+    // where the index is made. How much a report reads isn't said.
     ensures keyed { (a : AskParts) (tree : Tree) → asks words.now ≡ Some (a, tree) → by_key a ≡ true → IsTrue D.tells
         → Ends (λ mid. KeyedIs tree words.now a (D.files disk) result.0.why (outputs O.tells (O.taken out.old) E.tells (E.taken err.old)) mid
         (D.bytes_read disk File.Pkg) (D.bytes_read result.1 File.Pkg)) (closing words.now result.0.why)
         (outputs O.tells (O.taken out.new) E.tells (E.taken err.new)) (E.faults err.old) (E.faults err.new) }
     ensures keyed_reads { (a : AskParts) (tree : Tree) → asks words.now ≡ Some (a, tree) → by_key a ≡ true → is_query a.mode ≡ true
-        → IsTrue D.tells → IsLawfulGroup (D.files disk) → D.bytes_read result.1 File.Pkg ≤ D.bytes_read disk File.Pkg + keyed_cost (reopened (D.files disk)) words.now a }
+        → IsTrue D.tells → IsLawfulGroup (D.files disk)
+        → D.bytes_read result.1 File.Pkg ≤ D.bytes_read disk File.Pkg + keyed_cost (reopened (D.files disk)) words.now a }
     // An index that must be made and is too large is told, exactly there; one that is malformed with the fault of a chain that was asked.
     ensures index_full { (a : AskParts) (tree : Tree) → asks words.now ≡ Some (a, tree) → by_key a ≡ true → IsTrue D.tells
         → FullIs (reopened (D.files disk)) result.0.why }

@@ -49,7 +49,11 @@ pub fn read_blob<D: Disk>(
 }
 
 /// Writes to err that a package can't be read; then the argument fails.
-fn put_failing<E: Sink + Drop>(alloc: Global, err: &mut Buffered<E>, number: u32) -> Result<bool, Stop>
+fn put_failing<E: Sink + Drop>(
+    alloc: Global,
+    err: &mut Buffered<E>,
+    number: u32,
+) -> Result<bool, Stop>
     requires err_empty { holds err.old ≡ [] }
     ensures part { (out_tells : Bool) (out : List ℕ) → PartIs (fails (bad_step 0 number)) result
         (outputs out_tells out E.tells (E.taken (inner err.old))) (outputs out_tells out E.tells (E.taken (inner err.new))) Anywhere }

@@ -99,11 +99,7 @@ fn range_text(alloc: Global, flags: u64, version: &[u8]) -> Result<Vec<u8>, Allo
 
 /// The line of a requirement of the package with this label.
 #[tactic(auto, unfolding(crate::specs::Requirements::unmet_line))]
-fn unmet_line(
-    alloc: Global,
-    label: &[u8],
-    needed: &Dependency<'_>,
-) -> Result<Vec<u8>, AllocError>
+fn unmet_line(alloc: Global, label: &[u8], needed: &Dependency<'_>) -> Result<Vec<u8>, AllocError>
     ensures { IfOk result (λ line. line.items ≡ unmet_line label.now (needed_in needed.now)) }
 {
     let range = range_text(alloc, needed.flags, needed.version)?;

@@ -48,7 +48,8 @@ returns-in-Query-clause-went g c = λ told rows.
     subst (λ (i : Inquiry). DoesBy i c.args.format.now words a all reads_to c.query_opened.result old new) (sym is) (c.query_opened.ensures.went told rows)
 
 pub returns-in-Query-clause-looks : goal.returns-in-Query-clause-looks
-returns-in-Query-clause-looks g c = peeks_any g.D.Disk.tells g.D.Disk.files g.D.Disk.left_since g.D.Disk.moment g.D.Disk.bytes_read g.D.Disk.follows (is_indexed c.args.db.now) c.args.disk.now c.query_opened.new.disk c.query_opened.ensures.looks
+returns-in-Query-clause-looks g c = peeks_any g.D.Disk.tells g.D.Disk.files g.D.Disk.left_since g.D.Disk.moment g.D.Disk.bytes_read g.D.Disk.follows
+    (is_indexed c.args.db.now) c.args.disk.now c.query_opened.new.disk c.query_opened.ensures.looks
 
 pub returns-in-Query-clause-bad_index : goal.returns-in-Query-clause-bad_index
 returns-in-Query-clause-bad_index g c = λ told.

@@ -14,8 +14,7 @@ returns-clause-went g c = λ told rows.
     let all = packages (g.D.Disk.files c.args.disk.now).pkg c.args.db.now.store in
     let old = outputs g.O.Sink.tells (g.O.Sink.taken (inner c.args.out.now)) g.E.Sink.tells (g.E.Sink.taken (inner c.args.err.now)) in
     let new = outputs g.O.Sink.tells (g.O.Sink.taken (inner c.report_order.new.out)) g.E.Sink.tells (g.E.Sink.taken (inner c.report_order.new.err)) in
-    let part = c.report_order.ensures.went told rows in
-    (
+    let part = c.report_order.ensures.went told rows in (
       part.0,
       record {
         each = part.1.each;

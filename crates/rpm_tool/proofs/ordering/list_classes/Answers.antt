@@ -14,10 +14,12 @@ returns-in-Ok-order-clause-told g c = λ told rows.
     subst (λ (n : Network). IsOrder n c.in-Ok-order.list) (c.in-Ok.ensures.told told rows) c.in-Ok-order.ensures.order
 
 pub returns-in-Ok-order-clause-looks : goal.returns-in-Ok-order-clause-looks
-returns-in-Ok-order-clause-looks g c = peeks_glances g.D.Disk.tells g.D.Disk.files g.D.Disk.left_since g.D.Disk.moment g.D.Disk.bytes_read g.D.Disk.follows c.args.disk.now c.read_graph.new.disk c.in-Ok.ensures.looks
+returns-in-Ok-order-clause-looks g c = peeks_glances g.D.Disk.tells g.D.Disk.files g.D.Disk.left_since g.D.Disk.moment g.D.Disk.bytes_read
+    g.D.Disk.follows c.args.disk.now c.read_graph.new.disk c.in-Ok.ensures.looks
 
 pub returns-in-Err-clause-looks : goal.returns-in-Err-clause-looks
-returns-in-Err-clause-looks g c = peeks_glances g.D.Disk.tells g.D.Disk.files g.D.Disk.left_since g.D.Disk.moment g.D.Disk.bytes_read g.D.Disk.follows c.args.disk.now c.read_graph.new.disk c.in-Err.ensures.looks
+returns-in-Err-clause-looks g c = peeks_glances g.D.Disk.tells g.D.Disk.files g.D.Disk.left_since g.D.Disk.moment g.D.Disk.bytes_read g.D.Disk.follows
+    c.args.disk.now c.read_graph.new.disk c.in-Err.ensures.looks
 
 pub returns-in-Err-clause-broken : goal.returns-in-Err-clause-broken
 returns-in-Err-clause-broken g c = λ told.

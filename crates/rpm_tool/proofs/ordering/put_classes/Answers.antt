@@ -19,7 +19,8 @@ loop-k-init g c =
     let all = flat_map (class_steps (packages (g.D.Disk.files c.args.disk.now).pkg c.args.db.now.store)) c.args.list.now in
     record {
       keeps = c.requires.keeps;
-      looks = peeks_none g.D.Disk.tells g.D.Disk.files g.D.Disk.left_since g.D.Disk.moment g.D.Disk.bytes_read g.D.Disk.follows true g.met.D.Disk.follows_refl c.args.disk.now;
+      looks = peeks_none g.D.Disk.tells g.D.Disk.files g.D.Disk.left_since g.D.Disk.moment g.D.Disk.bytes_read g.D.Disk.follows true
+          g.met.D.Disk.follows_refl c.args.disk.now;
       disk = omega arith;
       out = omega arith;
       out_rest = (g.met.O.Sink.follows_refl (inner c.args.out.now), c.requires.out_empty);
@@ -41,7 +42,8 @@ loop-k-preserved g c =
     let ot = g.O.Sink.tells in
     record {
       keeps = done.kept;
-      looks = peeks_then g.D.Disk.tells g.D.Disk.files g.D.Disk.left_since g.D.Disk.moment g.D.Disk.bytes_read g.D.Disk.follows true g.met.D.Disk.follows_trans c.args.disk.now c.loop-k.disk c.put_class.new.disk inv.looks done.looks;
+      looks = peeks_then g.D.Disk.tells g.D.Disk.files g.D.Disk.left_since g.D.Disk.moment g.D.Disk.bytes_read g.D.Disk.follows true
+          g.met.D.Disk.follows_trans c.args.disk.now c.loop-k.disk c.put_class.new.disk inv.looks done.looks;
       disk = omega (arith, inv.disk, done.disk.later);
       out = omega (arith, inv.out, done.out.later);
       out_rest = hands_then g.met.O.Sink.follows_trans c.args.out.now c.loop-k.out c.put_class.new.out inv.out_rest done.out_rest;
@@ -50,7 +52,8 @@ loop-k-preserved g c =
           subst (λ (f : Files). Through (class_steps (packages f.pkg s) class) (outputs ot o' et e) (outputs ot o'' et e)) (inv.looks.untouched told).same
           (rw c.class.ensures at (done.went told et e)) in
           goes_more ot et (flat_map (class_steps all) list) (flat_map (class_steps all) (drop k list)) (class_steps all class)
-          (flat_map (class_steps all) (drop (k + 1) list)) o o' o'' e e e (classes_at (class_steps all) list k (omega (arith, c.loop-k-test.true, c.classes-k-end.ensures)))
+          (flat_map (class_steps all) (drop (k + 1) list)) o o' o'' e e e
+          (classes_at (class_steps all) list k (omega (arith, c.loop-k-test.true, c.classes-k-end.ensures)))
           (inv.goes told et e) went;
     }
 
@@ -73,12 +76,14 @@ returns-in-Err-clause-went g c = λ told et e.
     (subst (λ (ns : List ℕ). Reached {T = Unit {0}} (class_steps (packages (g.D.Disk.files c.loop-k.disk).pkg s) ns) (Err what) (outputs ot o' et e)
     (outputs ot o'' et e) Anywhere) c.class.ensures (c.in-Err.ensures.went told et e)) in
     goes_stop ot et (flat_map (class_steps all) list) (flat_map (class_steps all) (drop k list)) (class_steps all class)
-    (flat_map (class_steps all) (drop (k + 1) list)) o o' o'' e e e (classes_at (class_steps all) list k (omega (arith, c.loop-k-test.true, c.classes-k-end.ensures)))
+    (flat_map (class_steps all) (drop (k + 1) list)) o o' o'' e e e
+    (classes_at (class_steps all) list k (omega (arith, c.loop-k-test.true, c.classes-k-end.ensures)))
     (inv.goes told et e) (Unit {0}) (Unit {0}) what Anywhere went
 
 pub returns-in-Err-clause-looks : goal.returns-in-Err-clause-looks
 returns-in-Err-clause-looks g c =
-    peeks_then g.D.Disk.tells g.D.Disk.files g.D.Disk.left_since g.D.Disk.moment g.D.Disk.bytes_read g.D.Disk.follows true g.met.D.Disk.follows_trans c.args.disk.now c.loop-k.disk c.put_class.new.disk c.loop-k.invariant.looks c.in-Err.ensures.looks
+    peeks_then g.D.Disk.tells g.D.Disk.files g.D.Disk.left_since g.D.Disk.moment g.D.Disk.bytes_read g.D.Disk.follows true g.met.D.Disk.follows_trans
+    c.args.disk.now c.loop-k.disk c.put_class.new.disk c.loop-k.invariant.looks c.in-Err.ensures.looks
 
 pub returns-clause-went : goal.returns-clause-went
 returns-clause-went g c = λ told et e.

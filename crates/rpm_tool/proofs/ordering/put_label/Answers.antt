@@ -18,8 +18,10 @@ returns-in-Ok-read_label_text-clause-step g c = λ told et e.
     let old = outputs g.O.Sink.tells (g.O.Sink.taken (inner c.args.out.now)) et e in
     let new = outputs g.O.Sink.tells (g.O.Sink.taken (inner c.put_text.new.out)) et e in
     let is : c.in-Ok-read_label_text.line.items ≡ text =
-    c.in-Ok-read_label_text.ensures ∙ ap (λ (b : List ℕ). read_text (label_text c.args.indent.now) (header b)) c.deref.ensures.value ∙ sym (c.in-Ok.ensures.told told (label_text c.args.indent.now)) in
-    subst (λ (t : List ℕ). StepIs (ToOut (bearer 0 c.args.number) t) c.put_text.result old new) (ap (λ (t : List ℕ). t) c.deref-in-Ok-read_label_text.ensures.value ∙ is)
+    c.in-Ok-read_label_text.ensures ∙ ap (λ (b : List ℕ). read_text (label_text c.args.indent.now) (header b)) c.deref.ensures.value ∙ sym
+    (c.in-Ok.ensures.told told (label_text c.args.indent.now)) in
+    subst (λ (t : List ℕ). StepIs (ToOut (bearer 0 c.args.number) t) c.put_text.result old new)
+    (ap (λ (t : List ℕ). t) c.deref-in-Ok-read_label_text.ensures.value ∙ is)
     (c.put_text.ensures.step (bearer 0 c.args.number) et e)
 
 pub returns-in-Ok-read_label_text-clause-unbroken : goal.returns-in-Ok-read_label_text-clause-unbroken
@@ -32,5 +34,6 @@ pub returns-in-Err-clause-step : goal.returns-in-Err-clause-step
 returns-in-Err-clause-step g c = λ told et e.
     let all = packages (g.D.Disk.files c.args.disk.now).pkg c.args.db.now.store in
     let o = g.O.Sink.taken (inner c.args.out.now) in
-    step_none (label_step all c.args.indent.now c.args.number) c.in-Err.stop (outputs g.O.Sink.tells o et e) (λ unit is. c.in-Err.ensures.unbroken unit (ap Err is))
+    step_none (label_step all c.args.indent.now c.args.number) c.in-Err.stop (outputs g.O.Sink.tells o et e)
+    (λ unit is. c.in-Err.ensures.unbroken unit (ap Err is))
     (λ is. c.in-Err.ensures.no_out (ap Err is)) (λ is. c.in-Err.ensures.no_err (ap Err is)) (through_none {ot = g.O.Sink.tells} {et = et} o e)

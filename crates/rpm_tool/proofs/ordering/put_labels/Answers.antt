@@ -51,7 +51,8 @@ loop-number-preserved g c =
       out_rest = hands_then g.met.O.Sink.follows_trans c.args.out.now c.loop-number.out c.put_label.new.out inv.out_rest done.out_rest;
       goes = λ told et e.
           let one : StepIs (step x) (Ok c.in-Ok.field-0) (outputs ot o' et e) (outputs ot o'' et e) =
-          subst (λ (f : Files). StepIs (label_step (packages f.pkg db.store) c.args.indent.now x) (Ok c.in-Ok.field-0) (outputs ot o' et e) (outputs ot o'' et e)) (inv.looks.untouched told).same
+          subst (λ (f : Files). StepIs (label_step (packages f.pkg db.store) c.args.indent.now x) (Ok c.in-Ok.field-0) (outputs ot o' et e)
+          (outputs ot o'' et e)) (inv.looks.untouched told).same
           (done.step told et e) in
           goes_more ot et (map step xs) (map step (drop i xs)) (step x ∷ []) (map step (drop (i + 1) xs)) o o' o'' e e e
           (steps_at step xs i 0 lt) (inv.goes told et e) one.1;
@@ -73,7 +74,8 @@ returns-in-Err-clause-went g c = λ told et e.
     let ot = g.O.Sink.tells in
     let what = c.in-Err.stop in
     let one : StepIs (step x) (Err what) (outputs ot o' et e) (outputs ot o'' et e) =
-    subst (λ (f : Files). StepIs (label_step (packages f.pkg db.store) c.args.indent.now x) (Err what) (outputs ot o' et e) (outputs ot o'' et e)) (inv.looks.untouched told).same
+    subst (λ (f : Files). StepIs (label_step (packages f.pkg db.store) c.args.indent.now x) (Err what) (outputs ot o' et e) (outputs ot o'' et e))
+    (inv.looks.untouched told).same
     (c.in-Err.ensures.step told et e) in
     goes_stop ot et (map step xs) (map step (drop i xs)) (step x ∷ []) (map step (drop (i + 1) xs)) o o' o'' e e e
     (steps_at step xs i 0 lt) (inv.goes told et e) Bool (Unit {0}) what Anywhere

@@ -19,8 +19,7 @@ pub returns-in-Err-clause-went : goal.returns-in-Err-clause-went
 returns-in-Err-clause-went g c = λ told rows.
     let all = packages (g.D.Disk.files c.args.disk.now).pkg c.args.db.now.store in
     let ot = g.O.Sink.tells in
-    let o = g.O.Sink.taken (inner c.args.out.now) in
-    (
+    let o = g.O.Sink.taken (inner c.args.out.now) in (
       [],
       none_listed (graph_of all),
       behind_first ot g.E.Sink.tells (bad_parts all) (classes_part all []) c.in-Err.stop o o (g.E.Sink.taken (inner c.args.err.now))
@@ -47,8 +46,7 @@ returns-in-Ok-tell_order-clause-went g c = λ told rows.
     let e = g.E.Sink.taken (inner c.args.err.now) in
     let e' = g.E.Sink.taken (inner c.tell_each_bad.new.err) in
     let second = subst (λ (f : Files). HasIndexRows db f.pkg f.idx → ClassesAre (packages f.pkg s) (Ok tt) (outputs ot o et e') (outputs ot o' et e'))
-    (c.in-Ok.ensures.looks.untouched told).same (λ has. c.in-Ok-tell_order.ensures.went told has et e') rows in
-    (
+    (c.in-Ok.ensures.looks.untouched told).same (λ has. c.in-Ok-tell_order.ensures.went told has et e') rows in (
       second.0,
       second.1,
       behind_plain ot et (bad_parts all) (classes_part all second.0) c.in-Ok.bad o o o' e e' e' (c.in-Ok.ensures.went told ot o)
@@ -57,7 +55,8 @@ returns-in-Ok-tell_order-clause-went g c = λ told rows.
 
 pub returns-in-Ok-tell_order-clause-looks : goal.returns-in-Ok-tell_order-clause-looks
 returns-in-Ok-tell_order-clause-looks g c =
-    peeks_then g.D.Disk.tells g.D.Disk.files g.D.Disk.left_since g.D.Disk.moment g.D.Disk.bytes_read g.D.Disk.follows true g.met.D.Disk.follows_trans c.args.disk.now c.tell_each_bad.new.disk c.tell_order.new.disk c.in-Ok.ensures.looks
+    peeks_then g.D.Disk.tells g.D.Disk.files g.D.Disk.left_since g.D.Disk.moment g.D.Disk.bytes_read g.D.Disk.follows true g.met.D.Disk.follows_trans
+    c.args.disk.now c.tell_each_bad.new.disk c.tell_order.new.disk c.in-Ok.ensures.looks
     c.in-Ok-tell_order.ensures.looks
 
 pub returns-in-Err-tell_order-clause-went : goal.returns-in-Err-tell_order-clause-went
@@ -73,13 +72,14 @@ returns-in-Err-tell_order-clause-went g c = λ told rows.
     let e' = g.E.Sink.taken (inner c.tell_each_bad.new.err) in
     let what = c.in-Err-tell_order.stop in
     let second = subst (λ (f : Files). HasIndexRows db f.pkg f.idx → ClassesAre (packages f.pkg s) (Err what) (outputs ot o et e') (outputs ot o' et e'))
-    (c.in-Ok.ensures.looks.untouched told).same (λ has. c.in-Err-tell_order.ensures.went told has et e') rows in
-    (
+    (c.in-Ok.ensures.looks.untouched told).same (λ has. c.in-Err-tell_order.ensures.went told has et e') rows in (
       second.0,
       second.1,
       behind_stop ot et (bad_parts all) (classes_part all second.0) c.in-Ok.bad o o o' e e' e' (c.in-Ok.ensures.went told ot o) what
-          (record { steps = reached_as (Unit {0}) Bool (classes_part all second.0).steps what (outputs ot o et e') (outputs ot o' et e') Anywhere second.2;
-          fails = tt }),
+          (record {
+            steps = reached_as (Unit {0}) Bool (classes_part all second.0).steps what (outputs ot o et e') (outputs ot o' et e') Anywhere second.2;
+            fails = tt;
+          }),
     )
 
 pub returns-in-Err-tell_order-clause-broken : goal.returns-in-Err-tell_order-clause-broken
@@ -88,5 +88,6 @@ returns-in-Err-tell_order-clause-broken g c = λ told.
 
 pub returns-in-Err-tell_order-clause-looks : goal.returns-in-Err-tell_order-clause-looks
 returns-in-Err-tell_order-clause-looks g c =
-    peeks_then g.D.Disk.tells g.D.Disk.files g.D.Disk.left_since g.D.Disk.moment g.D.Disk.bytes_read g.D.Disk.follows true g.met.D.Disk.follows_trans c.args.disk.now c.tell_each_bad.new.disk c.tell_order.new.disk c.in-Ok.ensures.looks
+    peeks_then g.D.Disk.tells g.D.Disk.files g.D.Disk.left_since g.D.Disk.moment g.D.Disk.bytes_read g.D.Disk.follows true g.met.D.Disk.follows_trans
+    c.args.disk.now c.tell_each_bad.new.disk c.tell_order.new.disk c.in-Ok.ensures.looks
     c.in-Err-tell_order.ensures.looks

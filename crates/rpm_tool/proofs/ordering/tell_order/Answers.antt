@@ -18,8 +18,7 @@ pub returns-in-Err-clause-went : goal.returns-in-Err-clause-went
 returns-in-Err-clause-went g c = λ told rows et e.
     let all = packages (g.D.Disk.files c.args.disk.now).pkg c.args.db.now.store in
     let o = g.O.Sink.taken (inner c.args.out.now) in
-    let x = outputs g.O.Sink.tells o et e in
-    (
+    let x = outputs g.O.Sink.tells o et e in (
       [],
       none_listed (graph_of all),
       reached_unsunk (Unit {0}) [] c.in-Err.stop x x Anywhere (c.in-Err.ensures.lawful told rows) (through_none {ot = g.O.Sink.tells} {et = et} o e),
@@ -32,8 +31,7 @@ returns-in-Ok-clause-went g c = λ told rows et e.
     let old = outputs g.O.Sink.tells (g.O.Sink.taken (inner c.args.out.now)) et e in
     let new = outputs g.O.Sink.tells (g.O.Sink.taken (inner c.put_classes.new.out)) et e in
     let list = c.in-Ok.list in
-    let r = c.put_classes.result in
-    (
+    let r = c.put_classes.result in (
       list,
       order_listed (graph_of all) (is_ok r) list (c.in-Ok.ensures.told told rows),
       subst (λ (f : Files). Reached (classes_part (packages f.pkg s) list).steps r old new Anywhere) (c.in-Ok.ensures.looks.untouched told).same
@@ -45,5 +43,6 @@ returns-in-Ok-clause-broken g c = λ told. unbroken_result (g.D.Disk.files c.arg
 
 pub returns-in-Ok-clause-looks : goal.returns-in-Ok-clause-looks
 returns-in-Ok-clause-looks g c =
-    peeks_then g.D.Disk.tells g.D.Disk.files g.D.Disk.left_since g.D.Disk.moment g.D.Disk.bytes_read g.D.Disk.follows true g.met.D.Disk.follows_trans c.args.disk.now c.list_classes.new.disk c.put_classes.new.disk c.in-Ok.ensures.looks
+    peeks_then g.D.Disk.tells g.D.Disk.files g.D.Disk.left_since g.D.Disk.moment g.D.Disk.bytes_read g.D.Disk.follows true g.met.D.Disk.follows_trans
+    c.args.disk.now c.list_classes.new.disk c.put_classes.new.disk c.in-Ok.ensures.looks
     c.put_classes.ensures.looks

@@ -8,10 +8,12 @@ use Rattle.rpm_tool.proofs.Peeking.{peeks_glances}
 use Rattle.rpm_tool.proofs.unsatisfied.list_unmet.Goals as goal
 
 pub returns-in-Ok-clause-looks : goal.returns-in-Ok-clause-looks
-returns-in-Ok-clause-looks g c = peeks_glances g.D.Disk.tells g.D.Disk.files g.D.Disk.left_since g.D.Disk.moment g.D.Disk.bytes_read g.D.Disk.follows c.args.disk.now c.unmet.new.disk c.in-Ok.ensures.looks
+returns-in-Ok-clause-looks g c = peeks_glances g.D.Disk.tells g.D.Disk.files g.D.Disk.left_since g.D.Disk.moment g.D.Disk.bytes_read g.D.Disk.follows
+    c.args.disk.now c.unmet.new.disk c.in-Ok.ensures.looks
 
 pub returns-in-Err-clause-looks : goal.returns-in-Err-clause-looks
-returns-in-Err-clause-looks g c = peeks_glances g.D.Disk.tells g.D.Disk.files g.D.Disk.left_since g.D.Disk.moment g.D.Disk.bytes_read g.D.Disk.follows c.args.disk.now c.unmet.new.disk c.in-Err.ensures.looks
+returns-in-Err-clause-looks g c = peeks_glances g.D.Disk.tells g.D.Disk.files g.D.Disk.left_since g.D.Disk.moment g.D.Disk.bytes_read g.D.Disk.follows
+    c.args.disk.now c.unmet.new.disk c.in-Err.ensures.looks
 
 pub returns-in-Err-clause-broken : goal.returns-in-Err-clause-broken
 returns-in-Err-clause-broken g c = λ told.

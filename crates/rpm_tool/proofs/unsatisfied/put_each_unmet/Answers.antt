@@ -55,7 +55,8 @@ loop-unmet-preserved g c =
       out_rest = hands_then g.met.O.Sink.follows_trans c.args.out.now c.loop-unmet.out c.put_unmet.new.out inv.out_rest done.out_rest;
       goes = λ told et e.
           let one : StepIs (step x) (Ok c.in-Ok.field-0) (outputs ot o' et e) (outputs ot o'' et e) =
-          subst (λ (f : Files). StepIs (unmet_step (packages f.pkg db.store) x) (Ok c.in-Ok.field-0) (outputs ot o' et e) (outputs ot o'' et e)) (inv.looks.untouched told).same
+          subst (λ (f : Files). StepIs (unmet_step (packages f.pkg db.store) x) (Ok c.in-Ok.field-0) (outputs ot o' et e) (outputs ot o'' et e))
+          (inv.looks.untouched told).same
           (done.step told et e) in
           goes_more ot et (map step xs) (map step (drop i xs)) (step x ∷ []) (map step (drop (i + 1) xs)) o o' o'' e e e
           (steps_at step xs i no_unmet lt) (inv.goes told et e) one.1;

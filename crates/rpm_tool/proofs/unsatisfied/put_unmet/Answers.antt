@@ -18,8 +18,10 @@ returns-in-Ok-read_unmet_text-clause-step g c = λ told et e.
     let old = outputs g.O.Sink.tells (g.O.Sink.taken (inner c.args.out.now)) et e in
     let new = outputs g.O.Sink.tells (g.O.Sink.taken (inner c.put_text.new.out)) et e in
     let is : c.in-Ok-read_unmet_text.line.items ≡ text =
-    c.in-Ok-read_unmet_text.ensures ∙ ap (λ (b : List ℕ). read_text (unmet_text c.args.unmet.place) (header b)) c.deref.ensures.value ∙ sym (c.in-Ok.ensures.told told (unmet_text c.args.unmet.place)) in
-    subst (λ (t : List ℕ). StepIs (ToOut (bearer 0 c.args.unmet.number) t) c.put_text.result old new) (ap (λ (t : List ℕ). t) c.deref-in-Ok-read_unmet_text.ensures.value ∙ is)
+    c.in-Ok-read_unmet_text.ensures ∙ ap (λ (b : List ℕ). read_text (unmet_text c.args.unmet.place) (header b)) c.deref.ensures.value ∙ sym
+    (c.in-Ok.ensures.told told (unmet_text c.args.unmet.place)) in
+    subst (λ (t : List ℕ). StepIs (ToOut (bearer 0 c.args.unmet.number) t) c.put_text.result old new)
+    (ap (λ (t : List ℕ). t) c.deref-in-Ok-read_unmet_text.ensures.value ∙ is)
     (c.put_text.ensures.step (bearer 0 c.args.unmet.number) et e)
 
 pub returns-in-Ok-read_unmet_text-clause-unbroken : goal.returns-in-Ok-read_unmet_text-clause-unbroken

@@ -47,7 +47,8 @@ returns-in-Ok-tell_unmet-clause-went g c = λ told rows.
 
 pub returns-in-Ok-tell_unmet-clause-looks : goal.returns-in-Ok-tell_unmet-clause-looks
 returns-in-Ok-tell_unmet-clause-looks g c =
-    peeks_then g.D.Disk.tells g.D.Disk.files g.D.Disk.left_since g.D.Disk.moment g.D.Disk.bytes_read g.D.Disk.follows true g.met.D.Disk.follows_trans c.args.disk.now c.tell_each_bad.new.disk c.tell_unmet.new.disk c.in-Ok.ensures.looks
+    peeks_then g.D.Disk.tells g.D.Disk.files g.D.Disk.left_since g.D.Disk.moment g.D.Disk.bytes_read g.D.Disk.follows true g.met.D.Disk.follows_trans
+    c.args.disk.now c.tell_each_bad.new.disk c.tell_unmet.new.disk c.in-Ok.ensures.looks
     c.in-Ok-tell_unmet.ensures.looks
 
 pub returns-in-Err-tell_unmet-clause-went : goal.returns-in-Err-tell_unmet-clause-went
@@ -62,7 +63,8 @@ returns-in-Err-tell_unmet-clause-went g c = λ told rows.
     let e = g.E.Sink.taken (inner c.args.err.now) in
     let e' = g.E.Sink.taken (inner c.tell_each_bad.new.err) in
     let what = c.in-Err-tell_unmet.stop in
-    let second = subst (λ (f : Files). HasIndexRows db f.pkg f.idx → PartIs (unmet_part (packages f.pkg s)) (Err what) (outputs ot o et e') (outputs ot o' et e')
+    let second = subst (λ (f : Files). HasIndexRows db f.pkg f.idx → PartIs (unmet_part (packages f.pkg s)) (Err what) (outputs ot o et e')
+    (outputs ot o' et e')
     Anywhere) (c.in-Ok.ensures.looks.untouched told).same (λ has. c.in-Err-tell_unmet.ensures.went told has et e') rows in
     behind_stop ot et (bad_parts all) (unmet_part all) c.in-Ok.bad o o o' e e' e' (c.in-Ok.ensures.went told ot o) what second
 
@@ -72,5 +74,6 @@ returns-in-Err-tell_unmet-clause-broken g c = λ told.
 
 pub returns-in-Err-tell_unmet-clause-looks : goal.returns-in-Err-tell_unmet-clause-looks
 returns-in-Err-tell_unmet-clause-looks g c =
-    peeks_then g.D.Disk.tells g.D.Disk.files g.D.Disk.left_since g.D.Disk.moment g.D.Disk.bytes_read g.D.Disk.follows true g.met.D.Disk.follows_trans c.args.disk.now c.tell_each_bad.new.disk c.tell_unmet.new.disk c.in-Ok.ensures.looks
+    peeks_then g.D.Disk.tells g.D.Disk.files g.D.Disk.left_since g.D.Disk.moment g.D.Disk.bytes_read g.D.Disk.follows true g.met.D.Disk.follows_trans
+    c.args.disk.now c.tell_each_bad.new.disk c.tell_unmet.new.disk c.in-Ok.ensures.looks
     c.in-Err-tell_unmet.ensures.looks

@@ -47,5 +47,6 @@ returns-in-Ok-put_each_unmet-clause-went g c = λ told rows et e.
 
 pub returns-in-Ok-put_each_unmet-clause-looks : goal.returns-in-Ok-put_each_unmet-clause-looks
 returns-in-Ok-put_each_unmet-clause-looks g c =
-    peeks_then g.D.Disk.tells g.D.Disk.files g.D.Disk.left_since g.D.Disk.moment g.D.Disk.bytes_read g.D.Disk.follows true g.met.D.Disk.follows_trans c.args.disk.now c.list_unmet.new.disk c.put_each_unmet.new.disk c.in-Ok.ensures.looks
+    peeks_then g.D.Disk.tells g.D.Disk.files g.D.Disk.left_since g.D.Disk.moment g.D.Disk.bytes_read g.D.Disk.follows true g.met.D.Disk.follows_trans
+    c.args.disk.now c.list_unmet.new.disk c.put_each_unmet.new.disk c.in-Ok.ensures.looks
     c.in-Ok-put_each_unmet.ensures.looks
