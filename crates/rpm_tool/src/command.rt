@@ -282,8 +282,8 @@ pub fn run<D: Disk, S: Shelf, O: Sink, E: Sink>(
 
     // A question by key, or a report on requirements, finishes what a stop left of a change, and has its index made where that isn't current.
     // A malformed log is told exactly where there is one, and else a damage exactly where there is one. Where the database is lawful a question
-    // answers the same as without an index, and of Packages.db no more is read than its pages and for each argument the packages that have one of its keys, and all
-    // where the index is made. How much a report reads isn't said.
+    // answers the same as without an index, and of Packages.db no more is read than its pages and for each argument the packages that have one
+    // of its keys, and all where the index is made. How much a report reads isn't said.
     ensures keyed { (a : AskParts) (tree : Tree) → asks words.now ≡ Some (a, tree) → by_key a ≡ true → IsTrue D.tells
         → Ends (λ mid. KeyedIs tree words.now a (D.files disk) result.0.why (outputs O.tells (O.taken out.old) E.tells (E.taken err.old)) mid
         (D.bytes_read disk File.Pkg) (D.bytes_read result.1 File.Pkg)) (closing words.now result.0.why)
