@@ -76,7 +76,7 @@ fn small(alloc: Global, name: &[u8]) -> Result<Vec<u8>, AllocError> {
 }
 
 // A shell under this name, with the modes of its two files.
-fn shell(alloc: Global, name: &[u8], modes: &[u8]) -> Result<Vec<u8>, AllocError> {
+fn shell<'a>(alloc: Global, name: &'a [u8], modes: &'a [u8]) -> Result<Vec<u8>, AllocError> {
     laid(
         alloc,
         &[
