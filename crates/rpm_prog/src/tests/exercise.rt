@@ -12,16 +12,26 @@ const HUNDREDS: &str =
     "packages 240\ncap0 34\ncap1 34\ncap2 35\ncap3 34\ncap4 35\ncap5 34\ncap6 34\n\
     sha256 6089dac67c3a63bf79c33e1e30fd29b592b348166e14a745069e410ee07cea50\n";
 
+const THOUSANDS: &str =
+    "packages 1600\ncap0 228\ncap1 229\ncap2 229\ncap3 229\ncap4 229\ncap5 228\ncap6 228\n\
+    sha256 dba895dab42dd1bbc01359e366d1da7e49e34014e316ab0f018e8217a530f770\n";
+
 #[test]
-fn an_exercise_of_two_slot_pages_goes_through(rt: HostRuntime) -> Result<(), Fail> {
-    let ran = run_line(rt.alloc(), "rpmdb --exercise 300", "", &[])?;
-    let done = Outcome {
-        status: 0,
-        why: Why::Done,
-        changes: 460,
-    };
-    assert!(rt; ran.outcome == done && ran.err.bytes().is_empty());
-    assert_eq!(rt; ran.out.bytes(), HUNDREDS.as_bytes());
+fn exercises_of_several_slot_pages_go_through(rt: HostRuntime) -> Result<(), Fail> {
+    let cases = [
+        ("rpmdb --exercise 300", 460, HUNDREDS),
+        ("rpmdb --exercise 2000", 3066, THOUSANDS),
+    ];
+    for (line, changes, printed) in cases {
+        let ran = run_line(rt.alloc(), line, "", &[])?;
+        let done = Outcome {
+            status: 0,
+            why: Why::Done,
+            changes,
+        };
+        assert!(rt; ran.outcome == done && ran.err.bytes().is_empty());
+        assert_eq!(rt; ran.out.bytes(), printed.as_bytes());
+    }
     Ok(())
 }
 
