@@ -4,6 +4,7 @@ pub mod Copies
 pub mod Applied
 pub mod Closes
 pub mod ByteLaws
+pub mod Marks
 pub mod Tables
 pub mod Laids
 pub mod Readouts

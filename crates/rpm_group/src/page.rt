@@ -45,8 +45,22 @@ impl Page {
         mark(&mut self.marks, at, end);
     }
 
-    /// Copies the held ones of these units over others.
+    /// Copies the held ones of these units over others, in one piece where all of them are held.
     pub fn lay(&self, at: usize, into: &mut [u8])
+        requires whole { length into.old % 16 ≡ 0 }
+        requires within { at + length into.old / 16 ≤ 256 }
+        ensures { (k : ℕ) → k < length into.old / 16 → unit_in into.new k ≡ unwrap_or (in_page self.now (at + k)) (unit_in into.old k) }
+    {
+        let end = at + into.len() / 16;
+        if self.marks[at..end].contains(&false) {
+            self.lay_some(at, into);
+            return;
+        }
+        into.copy_from_slice(&self.bytes[16 * at..16 * end]);
+    }
+
+    /// Copies the held ones of these units over others, one by one.
+    fn lay_some(&self, at: usize, into: &mut [u8])
         requires whole { length into.old % 16 ≡ 0 }
         requires within { at + length into.old / 16 ≤ 256 }
         ensures { (k : ℕ) → k < length into.old / 16 → unit_in into.new k ≡ unwrap_or (in_page self.now (at + k)) (unit_in into.old k) }

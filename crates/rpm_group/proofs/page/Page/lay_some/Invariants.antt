@@ -1,7 +1,7 @@
 use Rattle.std.proofs.Common.{◌≡◌, ℕ, ◌+◌, ◌<◌, ◌≤◌}
 use Rattle.std.specs.Prelude.{unwrap_or}
 use Rattle.rpm_group.specs.Held.{unit_in, in_page}
-use Rattle.rpm_group.proofs.page.Page.lay.Given as goal
+use Rattle.rpm_group.proofs.page.Page.lay_some.Given as goal
 
 abbrev pub invariant-loop-k : goal.invariant-loop-k
 invariant-loop-k l = record {
