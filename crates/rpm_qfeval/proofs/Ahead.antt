@@ -4,7 +4,7 @@ use Rattle.std.specs.Prelude.{slice_get}
 use Rattle.std.specs.Option.{option_map}
 use Rattle.std.specs.Iterator.{YieldsFirstBy}
 use Rattle.rpm_tags.specs.Value.{Elements, text_list}
-use Rattle.rpm_qfeval.specs.Reached.{IsAt}
+use Rattle.rpm_qfeval.specs.inner.Reached.{IsReadTo}
 use Rattle.rpm_qfeval.proofs.Steps.{begins_with}
 
 pub get_none : {X : Type 0} (xs : List X) (i : ℕ) → drop i xs ≡ [] → slice_get xs i ≡ None
@@ -19,8 +19,8 @@ none_behind (x ∷ xs) zero e = absurd cc
 none_behind (x ∷ xs) (suc i) e = let step : suc i + 1 ≡ suc (i + 1) = omega arith in rw step (none_behind xs i e)
 
 module _ {A : Type 0} (view : A → List ℕ) where
-  pub one_ahead : (value : Elements) (before : Option (List ℕ)) (next : Option A) (old new : List (List ℕ)) (place : ℕ) → IsAt value before old place
-      → YieldsFirstBy {S = List (List ℕ)} {A = A} {B = List ℕ} view (λ s. s) old next new → IsAt value (option_map view next) new (place + 1)
+  pub one_ahead : (value : Elements) (before : Option (List ℕ)) (next : Option A) (old new : List (List ℕ)) (place : ℕ) → IsReadTo value before old place
+      → YieldsFirstBy {S = List (List ℕ)} {A = A} {B = List ℕ} view (λ s. s) old next new → IsReadTo value (option_map view next) new (place + 1)
   one_ahead value before None old new place is y =
       let none : drop (place + 1) (text_list value) ≡ [] = sym is.behind ∙ y.0 in
       record {

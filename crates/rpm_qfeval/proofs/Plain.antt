@@ -16,7 +16,7 @@ use Rattle.rpm_qfparse.specs.declared.tree.Part.TheVariants as part
 use Rattle.rpm_qfeval.specs.Formatters.{shown, or_none}
 use Rattle.rpm_qfeval.specs.Meaning.{text_or_none}
 use Rattle.rpm_qfeval.specs.Padded.{padded}
-use Rattle.rpm_qfeval.specs.Ready.{IsPlain}
+use Rattle.rpm_qfeval.specs.inner.Ready.{IsPlain}
 
 some_texts : (v : Option Elements) (ts : List (List ℕ)) → Some ts ≡ if_texts v → v ≡ Some (TextList ts)
 some_texts (Some (TextList us)) ts e = let same : ts ≡ us = cc in ap (λ x. Some (TextList x)) (sym same)

@@ -6,7 +6,7 @@ use Rattle.rpm_qfparse.specs.declared.tree.Part.TheVariants as part
 use Rattle.rpm_qfparse.specs.Tree.{Tree, End, Text, Tagged, Bracket, Condition}
 use Rattle.rpm_qfparse.specs.Shape.{parts_of}
 use Rattle.rpm_qfparse.specs.Law.{IsProper}
-use Rattle.rpm_qfeval.specs.Proper.{AreProper, PartIsProper}
+use Rattle.rpm_qfeval.specs.inner.Proper.{AreProper, PartIsProper}
 
 module _ (in_bracket : Bool) (depth : ℕ) where
   same : (p q : Part) → Some p ≡ Some q → PartIsProper in_bracket p → PartIsProper in_bracket q

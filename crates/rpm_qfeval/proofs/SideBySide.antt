@@ -8,7 +8,7 @@ use Rattle.rpm_qfeval.specs.declared.ready.Ready.{Ready}
 use Rattle.rpm_qfeval.specs.declared.ready.Ready.TheVariants as ready
 use Rattle.rpm_qfeval.specs.Formatters.{or_none}
 use Rattle.rpm_qfeval.specs.Meaning.{bytes, part_bytes}
-use Rattle.rpm_qfeval.specs.Ready.{AreReady, AreDigits}
+use Rattle.rpm_qfeval.specs.inner.Ready.{StandReady, AreDigits}
 use Rattle.rpm_qfeval.proofs.Plain.{get_map}
 use Rattle.rpm_qfeval.proofs.Steps.{begins_with}
 use Rattle.rpm_qfeval.proofs.Walked.{bytes_here}
@@ -21,7 +21,7 @@ there (x ∷ xs) (suc i) h = there xs i (omega arith)
 in_digits : (numbers : List ℕ) (round n : ℕ) → slice_get numbers round ≡ Some n → or_none (slice_get (map decimal numbers) round) ≡ decimal n
 in_digits numbers round n here = rw (get_map numbers round, here) refl
 
-module _ (h : Header) (number round : ℕ) (inner : Tree) (all : List Ready) (each : AreReady h number inner all) where
+module _ (h : Header) (number round : ℕ) (inner : Tree) (all : List Ready) (each : StandReady h number inner all) where
   from : ℕ → List ℕ
   from i = bytes h number round (tree_of (drop i (parts_of inner)))
 

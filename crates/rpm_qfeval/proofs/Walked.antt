@@ -8,7 +8,7 @@ use Rattle.rpm_qfparse.specs.declared.tree.Part.{Part}
 use Rattle.rpm_qfparse.specs.declared.tree.Part.TheVariants as part
 use Rattle.rpm_qfparse.specs.Tree.{Tree, End}
 use Rattle.rpm_qfparse.specs.Shape.{parts_of, tree_of}
-use Rattle.rpm_qfparse.specs.Falls.{whole_tree}
+use Rattle.rpm_qfparse.specs.inner.Falls.{whole_tree}
 use Rattle.rpm_qfeval.specs.Meaning.{bytes, part_bytes, sizes, part_sizes}
 use Rattle.rpm_qfeval.proofs.Steps.{drop_here, drop_all}
 

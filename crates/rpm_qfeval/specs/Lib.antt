@@ -1,12 +1,8 @@
-pub mod Columns
 pub mod Dates
 pub mod Formatters
 pub mod Meaning
 pub mod Numbers
 pub mod Padded
-pub mod Pieces
 pub mod Printed
-pub mod Proper
-pub mod Reached
-pub mod Ready
 pub mod Texts
+pub mod inner

@@ -3,7 +3,7 @@
 ghost use Rattle.std.specs.Prelude.{◌≡◌};
 ghost use Rattle.std.specs.Option.{option_map};
 ghost use Rattle.rpm_tags.specs.Value.{value, count_of};
-ghost use Rattle.rpm_qfeval.specs.Columns.{AreTold, IsTold, IsColumn};
+ghost use Rattle.rpm_qfeval.specs.inner.Columns.{AreValues, IsValue, IsColumn};
 ghost use Rattle.rpm_outside.specs.Sinks.{Writes};
 ghost use Rattle.rpm_qfeval.specs.Meaning.{text_or_none};
 ghost use Rattle.rpm_qfeval.specs.Padded.{padded};
@@ -54,7 +54,7 @@ pub struct Column<'v, 'a> {
 
 impl<'v, 'a> Model for Column<'v, 'a> {
     ghost use Rattle.rpm_qfeval.specs.declared.columns.Found.{Found};
-    ghost use Rattle.rpm_qfeval.specs.Columns.{IsColumn};
+    ghost use Rattle.rpm_qfeval.specs.inner.Columns.{IsColumn};
 
     ghost Value = { Found };
 
@@ -70,7 +70,7 @@ fn reading_of<'v, 'a>(
     number: u32,
     room: Option<&'v mut PlacesRoom>,
 ) -> Reading<'v, 'a>
-    requires { IsTold view.now number found.now }
+    requires { IsValue view.now number found.now }
     ensures { IsColumn found.now result }
 {
     let value = match &found.value {
@@ -112,7 +112,7 @@ impl<'v, 'a> Column<'v, 'a> {
         number: u32,
         room: Option<&'v mut PlacesRoom>,
     ) -> Column<'v, 'a>
-        requires { IsTold view.now number found.now }
+        requires { IsValue view.now number found.now }
         ensures { result ≡ found.now }
     {
         let reading = reading_of(found, view, number, room);
@@ -230,8 +230,8 @@ pub fn look_up<'a, const N: usize>(
     view: &View<'a>,
     number: u32,
 )
-    requires { AreTold view.now number found.old.items }
-    ensures { AreTold view.now number found.new.items }
+    requires { AreValues view.now number found.old.items }
+    ensures { AreValues view.now number found.new.items }
 {
     for asked in all {
         if let Some(asked) = asked {
@@ -264,9 +264,9 @@ pub fn add_columns<'v, 'a, const N: usize>(
     number: u32,
     room: Option<&'v mut PlacesRoom>,
 )
-    requires columns { AreTold view.now number columns.old.items }
-    requires found { AreTold view.now number found.now }
-    ensures { AreTold view.now number columns.new.items }
+    requires columns { AreValues view.now number columns.old.items }
+    requires found { AreValues view.now number found.now }
+    ensures { AreValues view.now number columns.new.items }
 {
     let mut room = room;
     for found in found {

@@ -29,13 +29,13 @@ impl<'v, 'a> Model for Cursor<'v, 'a> {
     ghost use Rattle.std.specs.List.{concat};
     ghost use Rattle.std.specs.Option.{option_map};
     ghost use Rattle.rpm_tags.specs.Value.{Elements};
-    ghost use Rattle.rpm_qfeval.specs.Reached.{IsAt};
+    ghost use Rattle.rpm_qfeval.specs.inner.Reached.{IsReadTo};
 
     ghost Value = { Elements };
 
     ghost view = { λ s. s.value.now };
 
-    ghost invariant = { λ s. IsAt s.value.now (option_map (λ p. concat p) s.present) s.texts s.place };
+    ghost invariant = { λ s. IsReadTo s.value.now (option_map (λ p. concat p) s.present) s.texts s.place };
 }
 
 impl<'v, 'a> Cursor<'v, 'a> {

@@ -1,12 +1,12 @@
 //! A bracket is put over the columns of its tags, round by round.
 
 ghost use Rattle.std.specs.Prelude.{◌≡◌, ◌<◌, ◌∷◌, [], true, length, IfSome, slice_get};
-ghost use Rattle.rpm_qfeval.specs.Columns.{AreTold};
+ghost use Rattle.rpm_qfeval.specs.inner.Columns.{AreValues};
 ghost use Rattle.rpm_outside.specs.Sinks.{Writes};
 ghost use Rattle.rpm_qfeval.specs.Meaning.{bytes, part_bytes, rounds, counts};
-ghost use Rattle.rpm_qfeval.specs.Proper.{AreProper, PartIsProper};
+ghost use Rattle.rpm_qfeval.specs.inner.Proper.{AreProper, PartIsProper};
 ghost use Rattle.rpm_qfparse.specs.Shape.{parts_of};
-ghost use Rattle.rpm_qfeval.specs.Ready.{AreReady, IsReady, PutsFrom};
+ghost use Rattle.rpm_qfeval.specs.inner.Ready.{StandReady, StandsReady, PutsFrom};
 
 use crate::columns::Column;
 use crate::lookup::{is_present, put_tag};
@@ -27,7 +27,7 @@ fn put_inner_part<O: Sink>(
     next: &mut usize,
     round: u32,
 ) -> Result<(), Failed>
-    requires told { AreTold view.now number columns.old }
+    requires told { AreValues view.now number columns.old }
     requires proper { PartIsProper true part.now }
     ensures puts { Writes O.tells O.taken O.faults O.follows sink.old sink.new (part_bytes view.now number round part.now) result }
     ensures same { columns.new ≡ columns.old }
@@ -58,7 +58,7 @@ fn put_inner_parts<O: Sink>(
     next: &mut usize,
     round: u32,
 ) -> Result<(), Failed>
-    requires told { AreTold view.now number columns.old }
+    requires told { AreValues view.now number columns.old }
     requires proper { AreProper true parts.now }
     ensures puts { Writes O.tells O.taken O.faults O.follows sink.old sink.new (bytes view.now number round parts.now) result }
     ensures same { columns.new ≡ columns.old }
@@ -82,8 +82,8 @@ fn put_part_at<O: Sink>(
     next: &mut usize,
     round: u32,
 ) -> Result<(), Failed>
-    requires told { AreTold view.now number columns.old }
-    requires plain { IfSome (slice_get ready.old i) (IsReady view.now number part.now) }
+    requires told { AreValues view.now number columns.old }
+    requires plain { IfSome (slice_get ready.old i) (StandsReady view.now number part.now) }
     requires proper { PartIsProper true part.now }
     ensures puts { Writes O.tells O.taken O.faults O.follows sink.old sink.new (part_bytes view.now number round part.now) result }
     ensures columns { columns.new ≡ columns.old }
@@ -125,8 +125,8 @@ fn put_next<O: Sink>(
     round: u32,
 ) -> Result<usize, Failed>
     requires below { i < length (parts_of inner.now) }
-    requires told { AreTold view.now number columns.old }
-    requires ready { AreReady view.now number inner.now ready.old }
+    requires told { AreValues view.now number columns.old }
+    requires ready { StandReady view.now number inner.now ready.old }
     requires proper { AreProper true inner.now }
     ensures goes { PutsFrom O.tells O.taken O.faults O.follows view.now number round inner.now i sink.old sink.new result }
     ensures columns { columns.new ≡ columns.old }
@@ -167,8 +167,8 @@ fn put_round<O: Sink>(
     room: &mut [u8; ROOM],
     round: u32,
 ) -> Result<(), Failed>
-    requires told { AreTold view.now number columns.old }
-    requires ready { AreReady view.now number inner.now ready.old }
+    requires told { AreValues view.now number columns.old }
+    requires ready { StandReady view.now number inner.now ready.old }
     requires proper { AreProper true inner.now }
     ensures puts { Writes O.tells O.taken O.faults O.follows sink.old sink.new (bytes view.now number round inner.now) result }
     ensures columns { columns.new ≡ columns.old }
@@ -193,8 +193,8 @@ fn put_rounds<O: Sink>(
     ready: &mut [Ready<'_>],
     count: u32,
 ) -> Result<(), Failed>
-    requires told { AreTold view.now number columns.old }
-    requires ready { AreReady view.now number inner.now ready.old }
+    requires told { AreValues view.now number columns.old }
+    requires ready { StandReady view.now number inner.now ready.old }
     requires proper { AreProper true inner.now }
     ensures { Writes O.tells O.taken O.faults O.follows sink.old sink.new (rounds (count ∷ []) (λ i. bytes view.now number i inner.now)) result }
 {
@@ -217,8 +217,8 @@ pub fn put_over<O: Sink>(
     columns: &mut [Option<Column<'_, '_>>],
     ready: &mut [Ready<'_>],
 ) -> Result<(), Failed>
-    requires told { AreTold view.now number columns.old }
-    requires ready { AreReady view.now number inner.now ready.old }
+    requires told { AreValues view.now number columns.old }
+    requires ready { StandReady view.now number inner.now ready.old }
     requires proper { AreProper true inner.now }
     ensures { Writes O.tells O.taken O.faults O.follows sink.old sink.new (rounds (counts view.now number inner.now)
         (λ i. bytes view.now number i inner.now)) result }

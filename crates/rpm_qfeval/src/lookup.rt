@@ -3,7 +3,7 @@
 ghost use Rattle.std.specs.Prelude.{◌≡◌, ◌<◌, length, true, IfSome};
 ghost use Rattle.std.specs.Option.{option_map};
 ghost use Rattle.rpm_tags.specs.Value.{value, count_of};
-ghost use Rattle.rpm_qfeval.specs.Columns.{AreTold, IsOf};
+ghost use Rattle.rpm_qfeval.specs.inner.Columns.{AreValues, IsOf};
 ghost use Rattle.rpm_outside.specs.Sinks.{Writes};
 ghost use Rattle.rpm_qfeval.specs.Meaning.{is_present, tag_text};
 
@@ -70,7 +70,7 @@ pub fn count(
     number: u32,
     tag: Tag,
 ) -> Option<u32>
-    requires { AreTold view.now number columns.now }
+    requires { AreValues view.now number columns.now }
     ensures { result ≡ option_map count_of (value view.now number tag) }
 {
     if let Some(k) = place_of(columns, next, Asked::of(tag)) {
@@ -92,7 +92,7 @@ pub fn is_present(
     number: u32,
     tag: Tag,
 ) -> bool
-    requires { AreTold view.now number columns.now }
+    requires { AreValues view.now number columns.now }
     ensures { result ≡ is_present view.now number tag }
 {
     count(columns, next, view, number, tag).is_some()
@@ -108,7 +108,7 @@ pub fn put_tag<O: Sink>(
     next: &mut usize,
     round: u32,
 ) -> Result<(), Failed>
-    requires { AreTold view.now number columns.old }
+    requires { AreValues view.now number columns.old }
     ensures puts { Writes O.tells O.taken O.faults O.follows sink.old sink.new (tag_text view.now number round part.now) result }
     ensures same { columns.new ≡ columns.old }
 {

@@ -3,7 +3,7 @@
 ghost use Rattle.std.specs.Prelude.{◌≡◌, ℕ, ◌-◌, length};
 ghost use Rattle.std.specs.List.{concat};
 ghost use Rattle.rpm_qfeval.specs.Texts.{escaped_text, hex_text, base64_text};
-ghost use Rattle.rpm_qfeval.specs.Pieces.{text_of};
+ghost use Rattle.rpm_qfeval.specs.inner.Pieces.{text_of};
 
 use crate::shown::Shown;
 use rpm_tags::Joined;

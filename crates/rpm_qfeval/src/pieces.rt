@@ -4,7 +4,7 @@ ghost use Rattle.std.specs.Prelude.{◌≡◌, ◌<◌, ◌≤◌, ◌==◌, ◌
 ghost use Rattle.std.specs.List.{concat, position};
 ghost use Rattle.rpm_outside.specs.Sinks.{Writes};
 ghost use Rattle.rpm_qfeval.specs.Texts.{escaped_text, quoted, in_quotes, hex_text};
-ghost use Rattle.rpm_qfeval.specs.Pieces.{text_of};
+ghost use Rattle.rpm_qfeval.specs.inner.Pieces.{text_of};
 ghost use Rattle.rpm_qfeval.specs.Padded.{padded};
 
 use crate::encoded::{put_base64, put_hex};

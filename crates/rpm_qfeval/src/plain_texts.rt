@@ -22,7 +22,7 @@ pub struct PlainTexts<'a> {
 
 impl<'a> Model for PlainTexts<'a> {
     ghost use Rattle.std.specs.Prelude.{List, ℕ};
-    ghost use Rattle.rpm_qfeval.specs.Reached.{IsReached};
+    ghost use Rattle.rpm_qfeval.specs.inner.Reached.{IsReached};
 
     ghost Value = { List (List ℕ) };
 

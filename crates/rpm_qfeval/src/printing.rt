@@ -4,7 +4,7 @@ ghost use Rattle.std.specs.Prelude.{◌≡◌, ℕ, [], Ok, false};
 ghost use Rattle.rpm_outside.specs.Sinks.{Writes};
 ghost use Rattle.rpm_qfeval.specs.Dates.{day_number, year_of, month_of, day_of};
 ghost use Rattle.rpm_qfeval.specs.Meaning.{bytes, meaning};
-ghost use Rattle.rpm_qfeval.specs.Proper.{AreProper};
+ghost use Rattle.rpm_qfeval.specs.inner.Proper.{AreProper};
 ghost use Rattle.rpm_qfeval.specs.Printed.{Prints, ending, eval_ending};
 
 use crate::sizes::sizes;

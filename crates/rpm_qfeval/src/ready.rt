@@ -2,7 +2,7 @@
 
 ghost use Rattle.std.specs.Prelude.{◌≡◌, ◌+◌, ◌*◌, ◌≤◌, [], drop};
 ghost use Rattle.rpm_qfparse.specs.declared.tree.Part.TheVariants as part;
-ghost use Rattle.rpm_qfeval.specs.Ready.{AreDigits, IsReady, AreReady};
+ghost use Rattle.rpm_qfeval.specs.inner.Ready.{AreDigits, StandsReady, StandReady};
 
 use crate::plain_texts::PlainTexts;
 use arrayvec::ArrayVec;
@@ -53,7 +53,7 @@ pub fn write_numbers(
 
 /// What stands ready of a tag.
 fn ready_tag<'a>(tag: &TagPart, view: &View<'a>, number: u32) -> Ready<'a>
-    ensures { IsReady view.now number (part.Tag tag.now) result }
+    ensures { StandsReady view.now number (part.Tag tag.now) result }
 {
     if tag.role != Role::Element || tag.show != Show::Plain || tag.width != 0 {
         return Ready::Other;
@@ -73,7 +73,7 @@ fn ready_tag<'a>(tag: &TagPart, view: &View<'a>, number: u32) -> Ready<'a>
 
 /// What stands ready of a part.
 fn ready_part<'a>(part: &Part, view: &View<'a>, number: u32) -> Ready<'a>
-    ensures { IsReady view.now number part.now result }
+    ensures { StandsReady view.now number part.now result }
 {
     match part {
         Part::Tag(tag) => ready_tag(tag, view, number),
@@ -89,7 +89,7 @@ pub fn make_ready<'a, const R: usize>(
     number: u32,
 )
     requires { ready.old.items ≡ [] }
-    ensures { AreReady view.now number inner.now ready.new.items }
+    ensures { StandReady view.now number inner.now ready.new.items }
 {
     for i in 0..inner.len().min(R) {
         ready.push(ready_part(inner.at(i), view, number));

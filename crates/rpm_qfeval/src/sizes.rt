@@ -1,7 +1,7 @@
 //! How many rounds a bracket has, and the first bracket whose tags disagree on it.
 
 ghost use Rattle.std.specs.Prelude.{◌≡◌, slice_get};
-ghost use Rattle.rpm_qfeval.specs.Columns.{AreTold};
+ghost use Rattle.rpm_qfeval.specs.inner.Columns.{AreValues};
 ghost use Rattle.rpm_qfeval.specs.Meaning.{direct, counts, different, sizes, part_sizes};
 
 use crate::columns::Column;
@@ -16,7 +16,7 @@ fn direct(
     view: &View<'_>,
     number: u32,
 ) -> Option<u32>
-    requires { AreTold view.now number columns.now }
+    requires { AreValues view.now number columns.now }
     ensures { result ≡ direct view.now number part.now }
 {
     match part {
@@ -35,7 +35,7 @@ pub fn count_rounds(
     view: &View<'_>,
     number: u32,
 ) -> Option<u32>
-    requires { AreTold view.now number columns.now }
+    requires { AreValues view.now number columns.now }
     ensures { result ≡ slice_get (counts view.now number inner.now) 0 }
 {
     for i in 0..inner.len() {

@@ -26,13 +26,13 @@ pub struct Stream<'v, 'a> {
 impl<'v, 'a> Model for Stream<'v, 'a> {
     ghost use Rattle.std.specs.Option.{option_copied};
     ghost use Rattle.rpm_tags.specs.Value.{Elements};
-    ghost use Rattle.rpm_qfeval.specs.Reached.{IsAt};
+    ghost use Rattle.rpm_qfeval.specs.inner.Reached.{IsReadTo};
 
     ghost Value = { Elements };
 
     ghost view = { λ s. s.value.now };
 
-    ghost invariant = { λ s. IsAt s.value.now (option_copied s.present) s.texts s.place };
+    ghost invariant = { λ s. IsReadTo s.value.now (option_copied s.present) s.texts s.place };
 }
 
 impl<'v, 'a> Stream<'v, 'a> {

@@ -3,7 +3,7 @@
 ghost use Rattle.std.specs.Prelude.{◌≤◌, true, false};
 ghost use Rattle.rpm_outside.specs.Sinks.{Writes};
 ghost use Rattle.rpm_qfeval.specs.Meaning.{bytes, part_bytes, rounds, counts};
-ghost use Rattle.rpm_qfeval.specs.Proper.{AreProper, PartIsProper};
+ghost use Rattle.rpm_qfeval.specs.inner.Proper.{AreProper, PartIsProper};
 
 use crate::columns::{Asked, Column, Found, MOST, add_columns, asked_in, look_up, need_room};
 use crate::elements::put_looked_up;

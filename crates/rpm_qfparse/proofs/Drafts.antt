@@ -6,7 +6,7 @@ use Rattle.rpm_qfparse.specs.Tree.{Tree, End, Text, Tagged, Bracket, Condition}
 use Rattle.rpm_qfparse.specs.Shape.{onto}
 use Rattle.rpm_qfparse.specs.Tag.{Reading}
 use Rattle.rpm_qfparse.specs.Format.{with_byte, behind}
-use Rattle.rpm_qfparse.specs.Draft.{with_text, IsNoText, in_front}
+use Rattle.rpm_qfparse.specs.inner.Draft.{with_text, IsNoText, in_front}
 use Rattle.rpm_qfparse.specs.Law.{BeginsApart}
 
 pub with_text_push : (text : List ℕ) (b : ℕ) (rest : Tree) → with_text (text ++ b ∷ []) rest ≡ with_text text (with_byte b rest)

@@ -3,12 +3,13 @@ use Rattle.std.proofs.Common.{◌≡◌, ℕ, List, Result, Err, sym, subst, Bor
 use Rattle.rpm_qfparse.specs.declared.fault.Stop.{Stop}
 use Rattle.rpm_qfparse.specs.declared.fault.Stop.TheVariants as stop
 use Rattle.rpm_qfparse.specs.Tag.{Faulty, Reading}
-use Rattle.rpm_qfparse.specs.Bare.{bare_fault}
-use Rattle.rpm_qfparse.specs.Draft.{Meets, Stops}
+use Rattle.rpm_qfparse.specs.inner.Bare.{bare_fault}
+use Rattle.rpm_qfparse.specs.inner.Draft.{Meets, StopsAs}
 
-pub stopped : {X : Type 0} (P : Reading X → Type 0) (r : Result (X × Bor (List ℕ)) Stop) (y e : Stop) → r ≡ Err y → y ≡ e → Stops P e → Meets P r
-stopped P r y e f g h = subst (Meets P) (sym f) (subst (Stops P) (sym g) h)
+pub stopped : {X : Type 0} (P : Reading X → Type 0) (r : Result (X × Bor (List ℕ)) Stop) (y e : Stop) → r ≡ Err y → y ≡ e → StopsAs P e → Meets P r
+stopped P r y e f g h = subst (Meets P) (sym f) (subst (StopsAs P) (sym g) h)
 
-pub passed_on : {X Y : Type 0} (P : Reading X → Type 0) (Q : Reading Y → Type 0) → ((x : Faulty) → P (Err x) → Q (Err x)) → (e : Stop) → Stops P e → Stops Q e
+pub passed_on : {X Y : Type 0} (P : Reading X → Type 0) (Q : Reading Y → Type 0) → ((x : Faulty) → P (Err x) → Q (Err x)) → (e : Stop)
+    → StopsAs P e → StopsAs Q e
 passed_on P Q f stop.Memory h = tt
 passed_on P Q f (stop.Fault x) h = f (bare_fault x) h

@@ -5,7 +5,7 @@ use Rattle.std.proofs.lemmas.List.{at_drop_more, at_drop_all}
 use Rattle.rpm_qfparse.specs.declared.tag.Row.{Row}
 use Rattle.rpm_qfparse.specs.declared.tree.Show.{Show}
 use Rattle.rpm_qfparse.specs.Tag.{show_in}
-use Rattle.rpm_qfparse.specs.Bare.{bare_rows}
+use Rattle.rpm_qfparse.specs.inner.Bare.{bare_rows}
 
 pub at_end : (rows : List Row) (name : List ℕ) (i : ℕ) → length rows ≤ i → show_in (bare_rows (drop i rows)) name ≡ None
 unfolding show_in

@@ -1,9 +1,7 @@
-pub mod Bare
-pub mod Draft
-pub mod Falls
 pub mod Format
 pub mod Law
 pub mod Moves
 pub mod Shape
 pub mod Tag
 pub mod Tree
+pub mod inner

@@ -3,7 +3,7 @@
 ghost use Rattle.std.specs.Prelude.{◌≡◌, OnOk, IfOk};
 ghost use Rattle.rpm_qfparse.specs.Tree.{Tree, End};
 ghost use Rattle.rpm_qfparse.specs.Format.{with_byte};
-ghost use Rattle.rpm_qfparse.specs.Draft.{after, in_front, IsNoText, Flushes};
+ghost use Rattle.rpm_qfparse.specs.inner.Draft.{after, in_front, IsNoText, IsFlushed};
 
 use crate::tree::{Bytes, Part, Parts};
 use std::alloc::{AllocError, Global};
@@ -37,7 +37,7 @@ impl Draft {
 
     /// Makes the literal bytes a part, where there are some.
     fn flush(&mut self) -> Result<(), AllocError>
-        ensures { OnOk result (Flushes self.old self.new) }
+        ensures { OnOk result (IsFlushed self.old self.new) }
     {
         if !self.text.is_empty() {
             let bytes = mem::replace(&mut self.text, Vec::new(self.alloc));

@@ -2,8 +2,8 @@
 
 ghost use Rattle.std.specs.Prelude.{◌≡◌, ℕ, ◌<◌, [], Bool, OnOk};
 ghost use Rattle.rpm_qfparse.specs.Moves.{condition, escape, escaped, at_end, percent, move_of, second_follows, close};
-ghost use Rattle.rpm_qfparse.specs.Draft.{HasRoom};
-ghost use Rattle.rpm_qfparse.specs.Bare.{bare_reading, bare_rest, bare_move};
+ghost use Rattle.rpm_qfparse.specs.inner.Draft.{MayOpen};
+ghost use Rattle.rpm_qfparse.specs.inner.Bare.{bare_reading, bare_rest, bare_move};
 
 use crate::fault::{Fault, FormatKind};
 use crate::tag::{begins, named, split_once, tag_part};
@@ -84,7 +84,7 @@ fn escape(byte: u8) -> u8
 fn at_end(context: Context, text: &[u8]) -> Move<'_>
     requires { text.now ≡ [] }
     ensures value { bare_move result ≡ at_end context }
-    ensures room { (in_bracket : Bool) (depth : ℕ) → HasRoom in_bracket depth result }
+    ensures room { (in_bracket : Bool) (depth : ℕ) → MayOpen in_bracket depth result }
 {
     match context {
         Context::Top => Move::Ends(text),
@@ -96,7 +96,7 @@ fn at_end(context: Context, text: &[u8]) -> Move<'_>
 /// What stands behind a backslash.
 fn escaped(text: &[u8]) -> Move<'_>
     ensures value { bare_move result ≡ escaped text.now }
-    ensures room { (in_bracket : Bool) (depth : ℕ) → HasRoom in_bracket depth result }
+    ensures room { (in_bracket : Bool) (depth : ℕ) → MayOpen in_bracket depth result }
 {
     match text {
         [] => Move::Literal(b'\\', text),
@@ -107,7 +107,7 @@ fn escaped(text: &[u8]) -> Move<'_>
 /// What stands behind a percent.
 fn percent<'a>(in_bracket: bool, depth: u32, here: &'a [u8], text: &'a [u8]) -> Move<'a>
     ensures value { bare_move result ≡ percent depth here.now text.now }
-    ensures room { HasRoom in_bracket depth result }
+    ensures room { MayOpen in_bracket depth result }
 {
     if begins(b'%', text) {
         Move::Literal(b'%', &text[1..])
@@ -128,7 +128,7 @@ fn percent<'a>(in_bracket: bool, depth: u32, here: &'a [u8], text: &'a [u8]) -> 
 #[tactic(auto, unfolding(crate::specs::Moves::move_of))]
 pub(crate) fn move_at(context: Context, in_bracket: bool, depth: u32, text: &[u8]) -> Move<'_>
     ensures value { bare_move result ≡ move_of context in_bracket depth text.now }
-    ensures room { HasRoom in_bracket depth result }
+    ensures room { MayOpen in_bracket depth result }
 {
     let [byte, rest @ ..] = text else {
         return at_end(context, text);

@@ -6,7 +6,7 @@ ghost use Rattle.rpm_qfparse.specs.declared.fault.FormatFault.{FormatFault};
 ghost use Rattle.rpm_qfparse.specs.declared.fault.FormatKind.TheVariants.{NoMemory};
 ghost use Rattle.rpm_qfparse.specs.Tree.{Tree};
 ghost use Rattle.rpm_qfparse.specs.Format.{Gives, Branches, format};
-ghost use Rattle.rpm_qfparse.specs.Draft.{Meets};
+ghost use Rattle.rpm_qfparse.specs.inner.Draft.{Meets};
 ghost use Rattle.rpm_qfparse.specs.Law.{IsFormat, IsProper, Reads};
 
 use crate::draft::Draft;

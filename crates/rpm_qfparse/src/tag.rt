@@ -5,7 +5,7 @@ ghost use Rattle.std.specs.List.{position};
 ghost use Rattle.std.specs.Cmp.Lexicographic.{pointwise};
 ghost use Rattle.std.specs.Option.{option_map, ForSome};
 ghost use Rattle.rpm_qfparse.specs.Tag.{width, begins, split_once, named, show_of, show_in, formatter, name_and_show, role, side, tag_inside, tag_part};
-ghost use Rattle.rpm_qfparse.specs.Bare.{bare_reading, bare_part, bare_name, bare_cut, bare_rows};
+ghost use Rattle.rpm_qfparse.specs.inner.Bare.{bare_reading, bare_part, bare_name, bare_cut, bare_rows};
 
 use crate::fault::{Fault, FormatKind};
 use crate::tree::{Role, Show, TagPart};

@@ -124,7 +124,7 @@ impl Model for Parts {
 
     ghost size = { weight };
 
-    ghost use Rattle.rpm_qfparse.specs.Falls.{tree_falls};
+    ghost use Rattle.rpm_qfparse.specs.inner.Falls.{tree_falls};
     ghost use Rattle.std.proofs.Common.{arith};
 
     ghost size_decreases = { λ a h. omega (arith, tree_falls a.items.items) };

@@ -1,5 +1,5 @@
-use Rattle.rpm_qfeval.specs.Columns.{AreTold}
+use Rattle.rpm_qfeval.specs.inner.Columns.{AreValues}
 use Rattle.rpm_qfeval.proofs.columns.add_columns.Given as goal
 
 abbrev pub invariant-loop-found : goal.invariant-loop-found
-invariant-loop-found g l = AreTold l.view l.number l.columns.items
+invariant-loop-found g l = AreValues l.view l.number l.columns.items

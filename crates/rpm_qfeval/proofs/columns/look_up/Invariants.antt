@@ -1,5 +1,5 @@
-use Rattle.rpm_qfeval.specs.Columns.{AreTold}
+use Rattle.rpm_qfeval.specs.inner.Columns.{AreValues}
 use Rattle.rpm_qfeval.proofs.columns.look_up.Given as goal
 
 abbrev pub invariant-loop-asked : goal.invariant-loop-asked
-invariant-loop-asked g l = AreTold l.view l.number l.found.items
+invariant-loop-asked g l = AreValues l.view l.number l.found.items

@@ -5,7 +5,7 @@ use Rattle.rpm_header.specs.Header.{Header}
 use Rattle.rpm_qfparse.specs.Tree.{Tree}
 use Rattle.rpm_qfparse.specs.Shape.{parts_of, tree_of}
 use Rattle.rpm_qfeval.specs.Meaning.{bytes}
-use Rattle.rpm_qfeval.specs.Ready.{AreDigits, PutsFrom}
+use Rattle.rpm_qfeval.specs.inner.Ready.{AreDigits, PutsFrom}
 use Rattle.rpm_qfeval.proofs.SideBySide.{digits_are}
 use Rattle.rpm_qfeval.proofs.Walked.{bytes_here}
 use Rattle.rpm_qfeval.proofs.inside.put_next.Goals as goal

@@ -5,18 +5,18 @@ use Rattle.rpm_qfparse.specs.Tree.{Tree}
 use Rattle.rpm_qfparse.specs.Shape.{parts_of}
 use Rattle.rpm_qfparse.specs.declared.tree.Part.{Part}
 use Rattle.rpm_qfeval.specs.declared.ready.Ready.{Ready}
-use Rattle.rpm_qfeval.specs.Ready.{IsReady, AreReady}
+use Rattle.rpm_qfeval.specs.inner.Ready.{StandsReady, StandReady}
 use Rattle.rpm_qfeval.proofs.Plain.{get_more}
 use Rattle.rpm_qfeval.proofs.ready.make_ready.Goals as goal
 
-one_more : (h : Header) (number : ℕ) (inner : Tree) (all more : List Ready) (p : Part) (one : Ready) → AreReady h number inner all
-    → more ≡ all ++ one ∷ [] → slice_get (parts_of inner) (length all) ≡ Some p → IsReady h number p one → AreReady h number inner more
+one_more : (h : Header) (number : ℕ) (inner : Tree) (all more : List Ready) (p : Part) (one : Ready) → StandReady h number inner all
+    → more ≡ all ++ one ∷ [] → slice_get (parts_of inner) (length all) ≡ Some p → StandsReady h number p one → StandReady h number inner more
 one_more h number inner all more p one each is at this = λ k part other here there. elim (get_more all one other k
     (ap (λ xs. slice_get xs k) (sym is) ∙ there)) [
       | inl before ↦ each k part other here before
       | inr last ↦
           let same : p ≡ part = let e : Some p ≡ Some part = sym at ∙ ap (λ i. slice_get (parts_of inner) i) (sym last.0) ∙ here in cc in
-          subst (λ q. IsReady h number q other) same (subst (λ (x : Ready). IsReady h number p x) last.1 this)
+          subst (λ q. StandsReady h number q other) same (subst (λ (x : Ready). StandsReady h number p x) last.1 this)
     ]
 
 pub loop-i-preserved : goal.loop-i-preserved

@@ -2,7 +2,7 @@ use Rattle.std.proofs.Common.{◌+◌, ◌*◌, ◌-◌, length, cond}
 use Rattle.rpm_qfparse.specs.Tree.{Tree}
 use Rattle.rpm_qfparse.specs.Tag.{Reading}
 use Rattle.rpm_qfparse.specs.Format.{Gives, behind}
-use Rattle.rpm_qfparse.specs.Draft.{after}
+use Rattle.rpm_qfparse.specs.inner.Draft.{after}
 use Rattle.rpm_qfparse.proofs.reader.+reading.Given as goal
 
 -- brackets don't nest, and conditions do so at most sixteen times

@@ -1,13 +1,13 @@
 use Rattle.std.proofs.Common.{◌-◌, ◌≡◌}
 use Rattle.std.specs.List.{concat}
 use Rattle.std.specs.Option.{option_map}
-use Rattle.rpm_qfeval.specs.Reached.{IsAt}
+use Rattle.rpm_qfeval.specs.inner.Reached.{IsReadTo}
 use Rattle.rpm_qfeval.proofs.cursor.Cursor.go_to.Given as goal
 
 abbrev pub invariant-loop-self : goal.invariant-loop-self
 invariant-loop-self l = record {
   same : l.self-inside.value.now ≡ l.initial.self-inside.value.now;
-  at : IsAt l.self-inside.value.now (option_map (λ p. concat p) l.self-inside.present) l.self-inside.texts l.self-inside.place;
+  at : IsReadTo l.self-inside.value.now (option_map (λ p. concat p) l.self-inside.present) l.self-inside.texts l.self-inside.place;
 }
 
 abbrev pub decreases-loop-self : goal.decreases-loop-self

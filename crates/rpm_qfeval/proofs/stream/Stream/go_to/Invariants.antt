@@ -1,10 +1,10 @@
 use Rattle.std.proofs.Common.{◌-◌, ◌≡◌}
 use Rattle.std.specs.Option.{option_copied}
-use Rattle.rpm_qfeval.specs.Reached.{IsAt}
+use Rattle.rpm_qfeval.specs.inner.Reached.{IsReadTo}
 use Rattle.rpm_qfeval.proofs.stream.Stream.go_to.Given as goal
 
 abbrev pub invariant-loop-self : goal.invariant-loop-self
-invariant-loop-self l = (l.self-inside.value.now ≡ l.initial.self-inside.value.now) × IsAt l.self-inside.value.now (option_copied l.self-inside.present)
+invariant-loop-self l = (l.self-inside.value.now ≡ l.initial.self-inside.value.now) × IsReadTo l.self-inside.value.now (option_copied l.self-inside.present)
     l.self-inside.texts l.self-inside.place
 
 abbrev pub decreases-loop-self : goal.decreases-loop-self

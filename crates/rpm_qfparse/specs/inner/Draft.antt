@@ -11,7 +11,7 @@ use Rattle.rpm_qfparse.specs.declared.draft.Draft.{Draft}
 use Rattle.rpm_qfparse.specs.Tree.{Tree}
 use Rattle.rpm_qfparse.specs.Shape.{onto}
 use Rattle.rpm_qfparse.specs.Tag.{Reading}
-use Rattle.rpm_qfparse.specs.Bare.{bare_fault}
+use Rattle.rpm_qfparse.specs.inner.Bare.{bare_fault}
 use Rattle.rpm_qfparse.specs.Format.{with_byte}
 use Rattle.rpm_qfparse.specs.Law.{BeginsApart}
 
@@ -32,21 +32,21 @@ IsNoText (part.Text b) = ⊥
 IsNoText _ = Unit {0}
 
 -- the same draft with no literal bytes behind its parts
-pub record Flushes (old new : Draft) : Type 0 where
+pub record IsFlushed (old new : Draft) : Type 0 where
   pub text : new.text.items ≡ []
   pub same : (rest : Tree) → BeginsApart rest → after new rest ≡ after old rest
 
 -- what a move allows
-abbrev pub HasRoom : Bool → ℕ → Move → Type 0
-HasRoom in_bracket depth (move.Opens t) = in_bracket ≡ false
-HasRoom in_bracket depth (move.Asks q t) = depth < 16
-HasRoom in_bracket depth _ = Unit {0}
+abbrev pub MayOpen : Bool → ℕ → Move → Type 0
+MayOpen in_bracket depth (move.Opens t) = in_bracket ≡ false
+MayOpen in_bracket depth (move.Asks q t) = depth < 16
+MayOpen in_bracket depth _ = Unit {0}
 
 -- what a function answers is as P says, unless memory ran out
-abbrev pub Stops : {X : Type 0} → (Reading X → Type 0) → Stop → Type 0
-Stops P stop.Memory = Unit {0}
-Stops P (stop.Fault f) = P (Err (bare_fault f))
+abbrev pub StopsAs : {X : Type 0} → (Reading X → Type 0) → Stop → Type 0
+StopsAs P stop.Memory = Unit {0}
+StopsAs P (stop.Fault f) = P (Err (bare_fault f))
 
 abbrev pub Meets : {X : Type 0} → (Reading X → Type 0) → Result (X × Bor (List ℕ)) Stop → Type 0
 Meets P (Ok x) = P (Ok (x.0, x.1.now))
-Meets P (Err e) = Stops P e
+Meets P (Err e) = StopsAs P e

@@ -4,7 +4,7 @@ use Rattle.rpm_tags.specs.declared.values.Class.TheVariants as class
 use Rattle.rpm_tags.specs.Value.{Elements, class_of, text_list}
 
 -- of a value of texts the one at a place, and those behind it
-pub record IsAt (all : Elements) (present : Option (List ℕ)) (texts : List (List ℕ)) (place : ℕ) : Type 0 where
+pub record IsReadTo (all : Elements) (present : Option (List ℕ)) (texts : List (List ℕ)) (place : ℕ) : Type 0 where
   pub are_texts : class_of all ≡ class.Text
   pub here : present ≡ slice_get (text_list all) place
   pub behind : texts ≡ drop (place + 1) (text_list all)

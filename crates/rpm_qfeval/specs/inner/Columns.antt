@@ -14,11 +14,11 @@ IsColumn found (reading.Stored value) = found.value ≡ Some value
 IsColumn found (reading.Joined value) = found.value ≡ Some value
 
 -- what is kept of a tag is its value
-abbrev pub IsTold : Header → ℕ → Found → Type 0
-IsTold header number found = found.value ≡ value header number found.asked.tag
+abbrev pub IsValue : Header → ℕ → Found → Type 0
+IsValue header number found = found.value ≡ value header number found.asked.tag
 
-abbrev pub AreTold : Header → ℕ → List (Option Found) → Type 0
-AreTold header number kept = All (λ o. IfSome o (IsTold header number)) kept
+abbrev pub AreValues : Header → ℕ → List (Option Found) → Type 0
+AreValues header number kept = All (λ o. IfSome o (IsValue header number)) kept
 
 -- what is kept at a place is of this tag
 abbrev pub IsOf : List (Option Found) → ℕ → Tag → Type 0

@@ -15,15 +15,15 @@ abbrev pub IsPlain : Header → ℕ → Part → List (List ℕ) → Type 0
 IsPlain header number part texts = (round : ℕ) → part_bytes header number round part ≡ or_none (slice_get texts round)
 
 -- what stands ready is what the part prints
-abbrev pub IsReady : Header → ℕ → Part → Ready → Type 0
-IsReady header number part ready.Other = Unit {0}
-IsReady header number part (ready.Texts texts) = IsPlain header number part texts
-IsReady header number part (ready.Numbers numbers) = IsPlain header number part (map decimal numbers)
+abbrev pub StandsReady : Header → ℕ → Part → Ready → Type 0
+StandsReady header number part ready.Other = Unit {0}
+StandsReady header number part (ready.Texts texts) = IsPlain header number part texts
+StandsReady header number part (ready.Numbers numbers) = IsPlain header number part (map decimal numbers)
 
 -- what stands ready at a place is what the part there prints
-abbrev pub AreReady : Header → ℕ → Tree → List Ready → Type 0
-AreReady header number inner all = (k : ℕ) (part : Part) (one : Ready) → slice_get (parts_of inner) k ≡ Some part → slice_get all k ≡ Some one
-    → IsReady header number part one
+abbrev pub StandReady : Header → ℕ → Tree → List Ready → Type 0
+StandReady header number inner all = (k : ℕ) (part : Part) (one : Ready) → slice_get (parts_of inner) k ≡ Some part → slice_get all k ≡ Some one
+    → StandsReady header number part one
 
 -- so many of what stands ready are numbers that have one for the round, and these are their digits
 abbrev pub AreDigits : List Ready → ℕ → ℕ → List ℕ → Type 0

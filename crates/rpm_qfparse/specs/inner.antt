@@ -1,0 +1,4 @@
+-- What the crate's own functions say of their steps, and lemmas on trees: nothing here is needed to read what `parse` answers.
+pub mod Bare
+pub mod Draft
+pub mod Falls
