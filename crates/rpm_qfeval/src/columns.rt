@@ -205,7 +205,7 @@ fn add_asked(all: &mut AllAsked, asked: Asked) {
     }
 }
 
-/// What the parts of a bracket ask for, each once, as much as there is room for.
+/// What the parts of a bracket ask for, as much as there is room for.
 pub fn asked_in(inner: &Parts) -> AllAsked {
     let mut all = ArrayVec::new();
     add_all_asked(&mut all, inner);

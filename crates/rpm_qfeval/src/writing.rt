@@ -16,7 +16,8 @@ use rpm_outside::{Failed, Sink, put_all};
 use rpm_qfparse::{Part, Parts};
 
 /// A bracket with so many columns, and room for so many parts that stand ready. It is kept apart for each
-/// number, so that the memory of more columns isn't paid for.
+/// number, so that the memory of more columns isn't paid for. Places of directories are kept where there is
+/// room for them.
 #[inline(never)]
 fn put_with<O: Sink, const N: usize, const R: usize>(
     sink: &mut O,
@@ -24,6 +25,7 @@ fn put_with<O: Sink, const N: usize, const R: usize>(
     view: &View<'_>,
     number: u32,
     asked: &[Option<Asked>],
+    room: Option<&mut PlacesRoom>,
 ) -> Result<(), Failed>
     requires room { N ≤ 4096 }
     requires places { R ≤ 4096 }
@@ -34,7 +36,7 @@ fn put_with<O: Sink, const N: usize, const R: usize>(
     let mut found: ArrayVec<Option<Found<'_>>, N> = ArrayVec::new();
     look_up(&mut found, asked, view, number);
     let mut columns: ArrayVec<Option<Column<'_, '_>>, N> = ArrayVec::new();
-    add_columns(&mut columns, found.as_slice(), view, number, None);
+    add_columns(&mut columns, found.as_slice(), view, number, room);
     let mut ready: ArrayVec<Ready<'_>, R> = ArrayVec::new();
     make_ready(&mut ready, inner, view, number);
     put_over(
@@ -61,27 +63,8 @@ fn put_far<O: Sink>(
     ensures { Writes O.tells O.taken O.faults O.follows sink.old sink.new (rounds (counts view.now number inner.now)
         (λ i. bytes view.now number i inner.now)) result }
 {
-    let mut found: ArrayVec<Option<Found<'_>>, MOST> = ArrayVec::new();
     let mut room = PlacesRoom::new();
-    look_up(&mut found, asked, view, number);
-    let mut columns: ArrayVec<Option<Column<'_, '_>>, MOST> = ArrayVec::new();
-    add_columns(
-        &mut columns,
-        found.as_slice(),
-        view,
-        number,
-        Some(&mut room),
-    );
-    let mut ready: ArrayVec<Ready<'_>, MOST> = ArrayVec::new();
-    make_ready(&mut ready, inner, view, number);
-    put_over(
-        sink,
-        inner,
-        view,
-        number,
-        columns.as_mut_slice(),
-        ready.as_mut_slice(),
-    )
+    put_with::<O, MOST, MOST>(sink, inner, view, number, asked, Some(&mut room))
 }
 
 /// A bracket. A call pays for the memory of its columns, so there are few where few serve.
@@ -101,10 +84,10 @@ fn put_bracket<O: Sink>(
         return put_far(sink, inner, view, number, asked);
     }
     match asked.len() {
-        0..=2 => put_with::<O, 2, 4>(sink, inner, view, number, asked),
-        3 | 4 => put_with::<O, 4, 8>(sink, inner, view, number, asked),
-        5..=16 => put_with::<O, 16, 32>(sink, inner, view, number, asked),
-        _ => put_with::<O, MOST, MOST>(sink, inner, view, number, asked),
+        0..=2 => put_with::<O, 2, 4>(sink, inner, view, number, asked, None),
+        3 | 4 => put_with::<O, 4, 8>(sink, inner, view, number, asked, None),
+        5..=16 => put_with::<O, 16, 32>(sink, inner, view, number, asked, None),
+        _ => put_with::<O, MOST, MOST>(sink, inner, view, number, asked, None),
     }
 }
 
