@@ -24,8 +24,8 @@ loop-first-init c =
       each = λ k lt. absurd (omega (arith, lt, ap length c.in_ok-order.ensures.items));
     }
 
-pub list-requires-clause-underway : goal.list-requires-clause-underway
-list-requires-clause-underway c =
+pub list-requires : goal.list-requires
+list-requires c =
     let ends = rows_of c.args.ends.now in
     let leasts = c.args.leasts.now in
     let s = c.loop-first.listing in
@@ -35,72 +35,17 @@ list-requires-clause-underway c =
     let class = c.in-Some.first.1 in
     let removed = c.in-Some.ensures.removal in
     let above = c.in-Some.ensures.all_above in
-    popped_underway ends leasts s t inv.underway n class refl refl refl removed above
-
-pub list-requires-clause-inside : goal.list-requires-clause-inside
-list-requires-clause-inside c =
-    let ends = rows_of c.args.ends.now in
-    let leasts = c.args.leasts.now in
-    let s = c.loop-first.listing in
-    let t : Listing = record { checked = s.checked; waiting = s.waiting; listed = s.listed; ready = c.pop_first.new.self } in
-    let inv = c.loop-first.invariant in
-    let n = c.in-Some.first.0 in
-    let class = c.in-Some.first.1 in
-    let removed = c.in-Some.ensures.removal in
-    let above = c.in-Some.ensures.all_above in
-    omega (arith, (popped_class ends leasts s t inv.underway n class refl refl refl removed above).0, length-map c.args.ends.now (λ r. r.items))
-
-pub list-requires-clause-unlisted : goal.list-requires-clause-unlisted
-list-requires-clause-unlisted c =
-    let ends = rows_of c.args.ends.now in
-    let leasts = c.args.leasts.now in
-    let s = c.loop-first.listing in
-    let t : Listing = record { checked = s.checked; waiting = s.waiting; listed = s.listed; ready = c.pop_first.new.self } in
-    let inv = c.loop-first.invariant in
-    let n = c.in-Some.first.0 in
-    let class = c.in-Some.first.1 in
-    let removed = c.in-Some.ensures.removal in
-    let above = c.in-Some.ensures.all_above in
-    (popped_class ends leasts s t inv.underway n class refl refl refl removed above).2
-
-pub list-requires-clause-ends_listed : goal.list-requires-clause-ends_listed
-list-requires-clause-ends_listed c =
-    let ends = rows_of c.args.ends.now in
-    let leasts = c.args.leasts.now in
-    let s = c.loop-first.listing in
-    let t : Listing = record { checked = s.checked; waiting = s.waiting; listed = s.listed; ready = c.pop_first.new.self } in
-    let inv = c.loop-first.invariant in
-    let n = c.in-Some.first.0 in
-    let class = c.in-Some.first.1 in
-    let removed = c.in-Some.ensures.removal in
-    let above = c.in-Some.ensures.all_above in
-    (popped_class ends leasts s t inv.underway n class refl refl refl removed above).3
-
-pub list-requires-clause-taken : goal.list-requires-clause-taken
-list-requires-clause-taken c =
-    let ends = rows_of c.args.ends.now in
-    let leasts = c.args.leasts.now in
-    let s = c.loop-first.listing in
-    let t : Listing = record { checked = s.checked; waiting = s.waiting; listed = s.listed; ready = c.pop_first.new.self } in
-    let inv = c.loop-first.invariant in
-    let n = c.in-Some.first.0 in
-    let class = c.in-Some.first.1 in
-    let removed = c.in-Some.ensures.removal in
-    let above = c.in-Some.ensures.all_above in
-    popped_taken ends leasts s t inv.underway n class refl refl refl removed above
-
-pub list-requires-clause-placed : goal.list-requires-clause-placed
-list-requires-clause-placed c =
-    let ends = rows_of c.args.ends.now in
-    let leasts = c.args.leasts.now in
-    let s = c.loop-first.listing in
-    let t : Listing = record { checked = s.checked; waiting = s.waiting; listed = s.listed; ready = c.pop_first.new.self } in
-    let inv = c.loop-first.invariant in
-    let n = c.in-Some.first.0 in
-    let class = c.in-Some.first.1 in
-    let removed = c.in-Some.ensures.removal in
-    let above = c.in-Some.ensures.all_above in
-    λ x lt free. popped_placed ends leasts s t inv.underway n class refl refl refl removed above x (inv.placed x lt free)
+    let class_is = popped_class ends leasts s t inv.underway n class refl refl refl removed above in
+    record {
+      underway = popped_underway ends leasts s t inv.underway n class refl refl refl removed above;
+      falls = c.requires.falls;
+      inside = omega (arith, class_is.0, length-map c.args.ends.now (λ r. r.items));
+      sized = c.requires.sized;
+      unlisted = class_is.2;
+      ends_listed = class_is.3;
+      taken = popped_taken ends leasts s t inv.underway n class refl refl refl removed above;
+      placed = λ x lt free. popped_placed ends leasts s t inv.underway n class refl refl refl removed above x (inv.placed x lt free);
+    }
 
 pub loop-first-smaller : goal.loop-first-smaller
 loop-first-smaller c =

@@ -58,8 +58,8 @@ push_link-requires c =
       length-map c.args.ends.now (λ r. r.items),
     )
 
-pub returns-in_ok-push_link-clause-underway : goal.returns-in_ok-push_link-clause-underway
-returns-in_ok-push_link-clause-underway c =
+pub returns-in_ok-push_link : goal.returns-in_ok-push_link
+returns-in_ok-push_link c =
     let ends = rows_of c.args.ends.now in
     let leasts = c.args.leasts.now in
     let s = c.args.self.now in
@@ -77,52 +77,15 @@ returns-in_ok-push_link-clause-underway c =
     ∙ c.in_ok-push_link.ensures ∙ ap (λ l. with_link (rows_of l) (get_or c.deref-row.result.now at 0) class) c.deref_mut.ensures.value
     ∙ ap (λ l. with_link (rows_of s.waiting.items) (get_or l at 0) class) row in
     let t : Listing = record { checked = with_item s.checked class at; waiting = with_items s.waiting next; listed = s.listed; ready = s.ready } in
-    waits_underway ends leasts c.requires.falls s u class inside c.requires.unlisted at first short t refl waiting refl refl
+    record {
+      underway = waits_underway ends leasts c.requires.falls s u class inside c.requires.unlisted at first short t refl waiting refl refl;
+      same = refl;
+      keeps = waits_keeps ends leasts c.requires.falls s u class inside c.requires.unlisted at first short t refl waiting refl refl;
+      placed = waits_placed ends leasts c.requires.falls s u class inside c.requires.unlisted at first short t refl waiting refl refl;
+    }
 
-pub returns-in_ok-push_link-clause-keeps : goal.returns-in_ok-push_link-clause-keeps
-returns-in_ok-push_link-clause-keeps c =
-    let ends = rows_of c.args.ends.now in
-    let leasts = c.args.leasts.now in
-    let s = c.args.self.now in
-    let u = c.requires.underway in
-    let class = c.args.class in
-    let at = c.first_unlisted-at.result in
-    let row : c.deref-row.result.now ≡ get_or ends class []
-    = c.deref-row.ensures.value ∙ row_read c.args.ends.now class c.index-ends-class.result c.requires.inside c.index-ends-class.is in
-    let inside : class < length ends = omega (arith, c.requires.inside, length-map c.args.ends.now (λ r. r.items)) in
-    let first = first_read (get_or ends class []) c.deref-row.result.now s.listed.items c.deref.result.now s.checked.items class c.index.result.now at
-    row c.deref.ensures.value (omega (arith, inside, u.checked_long)) c.index.ensures c.first_unlisted-at.ensures in
-    let short : at < length (get_or ends class []) = omega (arith, c.if-at-row.true, ap length row) in
-    let next = c.push_link.new.rows in
-    let waiting = ap rows_of (take_at next (drop (length next) s.waiting.items) s.waiting.len (c.push_link.auto.rows ∙ c.deref_mut.ensures.len))
-    ∙ c.in_ok-push_link.ensures ∙ ap (λ l. with_link (rows_of l) (get_or c.deref-row.result.now at 0) class) c.deref_mut.ensures.value
-    ∙ ap (λ l. with_link (rows_of s.waiting.items) (get_or l at 0) class) row in
-    let t : Listing = record { checked = with_item s.checked class at; waiting = with_items s.waiting next; listed = s.listed; ready = s.ready } in
-    waits_keeps ends leasts c.requires.falls s u class inside c.requires.unlisted at first short t refl waiting refl refl
-
-pub returns-in_ok-push_link-clause-placed : goal.returns-in_ok-push_link-clause-placed
-returns-in_ok-push_link-clause-placed c =
-    let ends = rows_of c.args.ends.now in
-    let leasts = c.args.leasts.now in
-    let s = c.args.self.now in
-    let u = c.requires.underway in
-    let class = c.args.class in
-    let at = c.first_unlisted-at.result in
-    let row : c.deref-row.result.now ≡ get_or ends class []
-    = c.deref-row.ensures.value ∙ row_read c.args.ends.now class c.index-ends-class.result c.requires.inside c.index-ends-class.is in
-    let inside : class < length ends = omega (arith, c.requires.inside, length-map c.args.ends.now (λ r. r.items)) in
-    let first = first_read (get_or ends class []) c.deref-row.result.now s.listed.items c.deref.result.now s.checked.items class c.index.result.now at
-    row c.deref.ensures.value (omega (arith, inside, u.checked_long)) c.index.ensures c.first_unlisted-at.ensures in
-    let short : at < length (get_or ends class []) = omega (arith, c.if-at-row.true, ap length row) in
-    let next = c.push_link.new.rows in
-    let waiting = ap rows_of (take_at next (drop (length next) s.waiting.items) s.waiting.len (c.push_link.auto.rows ∙ c.deref_mut.ensures.len))
-    ∙ c.in_ok-push_link.ensures ∙ ap (λ l. with_link (rows_of l) (get_or c.deref-row.result.now at 0) class) c.deref_mut.ensures.value
-    ∙ ap (λ l. with_link (rows_of s.waiting.items) (get_or l at 0) class) row in
-    let t : Listing = record { checked = with_item s.checked class at; waiting = with_items s.waiting next; listed = s.listed; ready = s.ready } in
-    waits_placed ends leasts c.requires.falls s u class inside c.requires.unlisted at first short t refl waiting refl refl
-
-pub returns-in_ok-insert-clause-underway : goal.returns-in_ok-insert-clause-underway
-returns-in_ok-insert-clause-underway c =
+pub returns-in_ok-insert : goal.returns-in_ok-insert
+returns-in_ok-insert c =
     let ends = rows_of c.args.ends.now in
     let leasts = c.args.leasts.now in
     let s = c.args.self.now in
@@ -138,51 +101,13 @@ returns-in_ok-insert-clause-underway c =
     let key : ℕ × ℕ = (get_or leasts class 0, class) in
     let more = c.insert.new.self in
     let up = c.in_ok-insert.ensures.updates in
+    let there = insert_there pair_total pair_exact s.ready more key up in
+    let kept = insert_kept pair_total pair_exact s.ready more key up in
+    let only = insert_only pair_total pair_exact s.ready more key up in
     let t : Listing = record { checked = with_item s.checked class at; waiting = s.waiting; listed = s.listed; ready = more } in
-    ready_underway ends leasts c.requires.falls s u class inside c.requires.unlisted at first long t refl refl refl
-    (insert_there pair_total pair_exact s.ready more key up) (insert_kept pair_total pair_exact s.ready more key up)
-    (insert_only pair_total pair_exact s.ready more key up)
-
-pub returns-in_ok-insert-clause-keeps : goal.returns-in_ok-insert-clause-keeps
-returns-in_ok-insert-clause-keeps c =
-    let ends = rows_of c.args.ends.now in
-    let leasts = c.args.leasts.now in
-    let s = c.args.self.now in
-    let u = c.requires.underway in
-    let class = c.args.class in
-    let at = c.first_unlisted-at.result in
-    let row : c.deref-row.result.now ≡ get_or ends class []
-    = c.deref-row.ensures.value ∙ row_read c.args.ends.now class c.index-ends-class.result c.requires.inside c.index-ends-class.is in
-    let inside : class < length ends = omega (arith, c.requires.inside, length-map c.args.ends.now (λ r. r.items)) in
-    let first = first_read (get_or ends class []) c.deref-row.result.now s.listed.items c.deref.result.now s.checked.items class c.index.result.now at
-    row c.deref.ensures.value (omega (arith, inside, u.checked_long)) c.index.ensures c.first_unlisted-at.ensures in
-    let long : length (get_or ends class []) ≤ at = omega (arith, c.if-at-row.false, ap length row) in
-    let key : ℕ × ℕ = (get_or leasts class 0, class) in
-    let more = c.insert.new.self in
-    let up = c.in_ok-insert.ensures.updates in
-    let t : Listing = record { checked = with_item s.checked class at; waiting = s.waiting; listed = s.listed; ready = more } in
-    ready_keeps ends leasts c.requires.falls s u class inside c.requires.unlisted at first long t refl refl refl
-    (insert_there pair_total pair_exact s.ready more key up) (insert_kept pair_total pair_exact s.ready more key up)
-    (insert_only pair_total pair_exact s.ready more key up)
-
-pub returns-in_ok-insert-clause-placed : goal.returns-in_ok-insert-clause-placed
-returns-in_ok-insert-clause-placed c =
-    let ends = rows_of c.args.ends.now in
-    let leasts = c.args.leasts.now in
-    let s = c.args.self.now in
-    let u = c.requires.underway in
-    let class = c.args.class in
-    let at = c.first_unlisted-at.result in
-    let row : c.deref-row.result.now ≡ get_or ends class []
-    = c.deref-row.ensures.value ∙ row_read c.args.ends.now class c.index-ends-class.result c.requires.inside c.index-ends-class.is in
-    let inside : class < length ends = omega (arith, c.requires.inside, length-map c.args.ends.now (λ r. r.items)) in
-    let first = first_read (get_or ends class []) c.deref-row.result.now s.listed.items c.deref.result.now s.checked.items class c.index.result.now at
-    row c.deref.ensures.value (omega (arith, inside, u.checked_long)) c.index.ensures c.first_unlisted-at.ensures in
-    let long : length (get_or ends class []) ≤ at = omega (arith, c.if-at-row.false, ap length row) in
-    let key : ℕ × ℕ = (get_or leasts class 0, class) in
-    let more = c.insert.new.self in
-    let up = c.in_ok-insert.ensures.updates in
-    let t : Listing = record { checked = with_item s.checked class at; waiting = s.waiting; listed = s.listed; ready = more } in
-    ready_placed ends leasts c.requires.falls s u class inside c.requires.unlisted at first long t refl refl refl
-    (insert_there pair_total pair_exact s.ready more key up) (insert_kept pair_total pair_exact s.ready more key up)
-    (insert_only pair_total pair_exact s.ready more key up)
+    record {
+      underway = ready_underway ends leasts c.requires.falls s u class inside c.requires.unlisted at first long t refl refl refl there kept only;
+      same = refl;
+      keeps = ready_keeps ends leasts c.requires.falls s u class inside c.requires.unlisted at first long t refl refl refl there kept only;
+      placed = ready_placed ends leasts c.requires.falls s u class inside c.requires.unlisted at first long t refl refl refl there kept only;
+    }
