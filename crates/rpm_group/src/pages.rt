@@ -63,6 +63,7 @@ impl Pages {
     pub fn covers(&self, unit: u64, count: u64) -> bool
         ensures within { IsTrue result → unit + count ≤ self.now.end }
         ensures held { IsTrue result → AreHeld self.now.table.items unit (unit + count) }
+        ensures all { unit + count ≤ self.now.end → AreHeld self.now.table.items unit (unit + count) → IsTrue result }
     {
         if unit > self.end || count > self.end - unit {
             return false;
