@@ -21,15 +21,14 @@ use Rattle.rpm_hindex.specs.inner.Records.{IsOpen}
 use Rattle.rpm_hindex.specs.Index.{Index, index_in, is_link, chain, next_at, units_at, bucket_unit, places_of, all_places}
 use Rattle.rpm_hindex.specs.Whole.{IsWellFormed}
 use Rattle.rpm_hindex.specs.inner.Changes.{CanGo, Puts, HasWord, SetsBucket, Unlinks, changing, unit_after, is_kept, IsWithout, IsChainFault, HasNoFault, IsHonest, IsBadSoFar, if_kept}
-use Rattle.rpm_hindex.specs.inner.Spots.{IsLast, IsSpot}
+use Rattle.rpm_hindex.specs.inner.Spots.{IsSpot, IsFront, IsLinked}
 use Rattle.rpm_hindex.specs.Refusals.{HoldsMore, IsBad}
-use Rattle.rpm_hindex.proofs.Chains.{chain_bad, sound_parts}
+use Rattle.rpm_hindex.proofs.Chains.{chain_bad}
 use Rattle.rpm_hindex.proofs.Costing.{chain_are}
 use Rattle.rpm_hindex.proofs.FollowedLinks.{link_at, within, behind_front}
 use Rattle.rpm_hindex.proofs.Wholes.{flat_in}
 use Rattle.rpm_hindex.proofs.Tallies.{length_sum}
-use Rattle.rpm_hindex.proofs.Dropping.{filter_in, spot_in, spot_units}
-use Rattle.rpm_hindex.proofs.Ways.{path_link, path_stands}
+use Rattle.rpm_hindex.proofs.Dropping.{spot_in, spot_units}
 
 pub bad_without : (buckets : ℕ) (file : Units) (e : PrepareFault) → IsWithout e → IsBad buckets file e
 bad_without buckets file (BadIndex unit) is = absurd is
@@ -131,8 +130,8 @@ link_more y z at same more link = elim (cases_eq at 0) [
 
 module _ (c : Change) (file : Units) (go : CanGo c) (opens : IsOpen c.extent file) (b : ℕ) (below : b < c.extent.buckets) (row : Row) (s : Spot)
     (link : is_link (index_in c.extent.buckets file) ((index_in c.extent.buckets file).head b) ≡ true)
-    (is : IsSpot (index_in c.extent.buckets file) b ((index_in c.extent.buckets file).head b) (is_kept (λ p. get nat_cmp c.dropped p)) row s)
-    (honest : IsHonest c file) where
+    (is : HasNoFault (index_in c.extent.buckets file) → IsSpot (index_in c.extent.buckets file) b ((index_in c.extent.buckets file).head b)
+    (is_kept (λ p. get nat_cmp c.dropped p)) row s) (linked : IsLinked c.extent.buckets c.extent.used (Some s)) (honest : IsHonest c file) where
   abbrev x : Index
   x = index_in c.extent.buckets file
 
@@ -143,30 +142,27 @@ module _ (c : Change) (file : Units) (go : CanGo c) (opens : IsOpen c.extent fil
   kept = is_kept (λ p. get nat_cmp c.dropped p)
 
   behind_link : is_link y s.behind ≡ true
-  behind_link =
-      let next = (sound_parts x b s.at is.sound).link in
-      link_more x y s.behind refl (omega (arith, opens.used)) (path_link x b (next_at x.unit s.at) s.behind is.rest.dropped next is.rest.path)
+  behind_link = elim (cases_eq s.behind 0) [
+    | inl zeros ↦ ap (is_link y) zeros
+    | inr other ↦
+        let at = linked.0 (omega (arith, other)) in
+        link_at y s.behind at.0 (omega (arith, at.1))
+  ]
 
-  -- the record before it stands among the records
-  before_front : (h : Head) → IsLast x.unit (filter kept is.front) (Some h) → first_record c.extent.buckets ≤ h.at
-  before_front h (head, (front, are)) =
-      let in' : Contains (filter kept is.front) h.at = subst (λ (ps : List ℕ). Contains ps h.at) (sym are)
-      (Contains-append_right front (h.at ∷ []) h.at (0, omega arith, refl)) in
-      (path_stands x b (x.head b) s.at is.front link is.path h.at ((filter_in kept is.front h.at in').0)).front
-
-  units_are : (n : ℕ) → n ≡ record_units (length row.key) → n ≡ units_at x.unit s.at
-  units_are n long = spot_units x b (x.head b) kept row s is n long
+  units_are : HasNoFault x → (n : ℕ) → n ≡ record_units (length row.key) → n ≡ units_at x.unit s.at
+  units_are none n long = spot_units x b (x.head b) kept row s (is none) n long
 
   mine : HasNoFault x → Contains (all_places x) s.at
-  mine none = in_places x b s.at below (spot_in x b kept row s link (chain_are x b (none b below)) is)
+  mine none = in_places x b s.at below (spot_in x b kept row s link (chain_are x b (none b below)) (is none))
 
   -- unit 1 counts too little
   pub drops_more : (n : ℕ) → n ≡ record_units (length row.key) → (c.records ≡ 0) ⊎ (c.live < n) → HasNoFault x → HoldsMore c.extent.buckets file
   drops_more n long why none =
       let m = mine none in
+      let stays = (is none).stays in
       elim why [
-        | inl zeros ↦ inl (omega (arith, zeros, honest.records none, kept_least kept (λ p. 1) s.at (all_places x) m is.stays))
-        | inr less ↦ inr (omega (arith, less, units_are n long, honest.live none, kept_least kept (units_at x.unit) s.at (all_places x) m is.stays))
+        | inl zeros ↦ inl (omega (arith, zeros, honest.records none, kept_least kept (λ p. 1) s.at (all_places x) m stays))
+        | inr less ↦ inr (omega (arith, less, units_are none n long, honest.live none, kept_least kept (units_at x.unit) s.at (all_places x) m stays))
       ]
 
   module _ (units : BTreeMap ℕ (List ℕ)) (dropped : BTreeMap ℕ ℕ) (n : ℕ) where
@@ -204,29 +200,35 @@ module _ (c : Change) (file : Units) (go : CanGo c) (opens : IsOpen c.extent fil
           ])
         ]
 
-    heads : (o : Option Head) → IsLast x.unit (filter kept is.front) o → Unlinks file (λ q. get nat_cmp c.units q) (λ q. get nat_cmp units q) b o s.behind
+    heads : (o : Option Head) → IsFront c.extent.buckets o → Unlinks file (λ q. get nat_cmp c.units q) (λ q. get nat_cmp units q) b o s.behind
         → (a : ℕ) → a < c.extent.buckets → Head' a
-    heads None last sets a in' = first sets a in'
-    heads (Some h) last sets a in' =
+    heads None front sets a in' = first sets a in'
+    heads (Some h) front sets a in' =
+        let low : first_record c.extent.buckets ≤ h.at = front in
         as_was a in' (ap (λ (o : Option (List ℕ)). word (a % 4) (unwrap_or o (unit_at file (bucket_unit a))))
-        (sets.put.others (bucket_unit a) (λ e. absurd (omega (arith, e, before_front h last, in', go.fours)))))
+        (sets.put.others (bucket_unit a) (λ e. absurd (omega (arith, e, low, in', go.fours)))))
 
     pub drops_honest : Unlinks file (λ q. get nat_cmp c.units q) (λ q. get nat_cmp units q) b s.before s.behind → n ≡ record_units (length row.key)
         → Puts (λ q. get nat_cmp c.dropped q) (λ q. get nat_cmp dropped q) s.at s.at → 0 < c.records → n ≤ c.live → IsHonest d file
     drops_honest sets long put some enough =
-        let same = units_are n long in
         let gone : later s.at ≡ false = ap (λ (o : Option ℕ). not (is_some o)) put.here in
         let others : (q : ℕ) → (q ≡ s.at → ⊥) → later q ≡ kept q = λ q other. ap (λ (o : Option ℕ). not (is_some o)) (put.others q other) in
         record {
-          heads = heads s.before is.last sets;
-          records = λ none. omega (arith, some, honest.records none, kept_falls kept later (λ p. 1) s.at (all_places x) (mine none) is.stays gone others);
+          heads = heads s.before linked.1 sets;
+          records = λ none. omega (
+            arith,
+            some,
+            honest.records none,
+            kept_falls kept later (λ p. 1) s.at (all_places x) (mine none)
+                (is none).stays gone others,
+          );
           live = λ none. omega (
             arith,
             enough,
-            same,
+            units_are none n long,
             honest.live none,
             kept_falls kept later (units_at x.unit) s.at (all_places x) (mine none)
-                is.stays gone others,
+                (is none).stays gone others,
           );
         }
 

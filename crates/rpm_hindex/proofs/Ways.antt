@@ -6,18 +6,15 @@ use Rattle.std.proofs.lemmas.List.{append_assoc, append-nil}
 use Rattle.std.proofs.lemmas.List.Elements.{filter-append, Contains-append_cases}
 use Rattle.std.proofs.lemmas.List.Sums.{sum_by-append}
 use Rattle.std.proofs.lemmas.Bool.{cases_Bool, cond-true, cond-false, false≢true}
-use Rattle.rpm_hindex.specs.declared.faults.FindFault.{FindFault}
 use Rattle.rpm_hindex.specs.declared.spots.Head.{Head}
 use Rattle.rpm_hindex.specs.declared.spots.Spot.{Spot}
 use Rattle.rpm_hindex.specs.Rows.{Row, same_row}
 use Rattle.rpm_outside.specs.Files.{Files, unit_at}
-use Rattle.rpm_hindex.specs.Answers.{IsFaultOf, ChainCosts}
+use Rattle.rpm_hindex.specs.Answers.{ChainCosts}
 use Rattle.rpm_hindex.specs.Index.{Index, index_in, is_link, is_sound, follow, behind, next_at, units_at, row_at, chain, places_of}
 use Rattle.rpm_hindex.specs.inner.Spots.{IsHead, IsPath, IsLast, HasNone, IsHeadWithin, IsSpot}
-use Rattle.rpm_hindex.proofs.Chains.{behind_all, behind_all_is_ok, sound_parts, follow_step, chain_from}
-use Rattle.rpm_hindex.proofs.Collects.{at_fault}
-use Rattle.rpm_hindex.proofs.Extends.{Stands}
-use Rattle.rpm_hindex.proofs.FollowedLinks.{IsChain, behind_front, chain_of_follow}
+use Rattle.rpm_hindex.proofs.Chains.{behind_all, behind_all_is_ok, follow_step, chain_from}
+use Rattle.rpm_hindex.proofs.FollowedLinks.{IsChain, chain_of_follow}
 
 module _ (x : Index) (b : ℕ) where
   -- one record more
@@ -38,23 +35,6 @@ module _ (x : Index) (b : ℕ) where
       ap (λ (n : ℕ). follow x b n n) is
       ∙ follow_step x b p p some (omega arith) sound
       ∙ ap (behind p) (path_follows (next_at x.unit p) to ps rest)
-
-  pub path_link : (from to : ℕ) (ps : List ℕ) → is_link x from ≡ true → IsPath x b from ps to → is_link x to ≡ true
-  path_link from to [] link is = ap (is_link x) (sym is) ∙ link
-  path_link from to (p ∷ ps) link (is, some, sound, rest) = path_link (next_at x.unit p) to ps (sound_parts x b p sound).link rest
-
-  -- where the records of a way stand
-  pub path_stands : (from to : ℕ) (ps : List ℕ) → is_link x from ≡ true → IsPath x b from ps to → (q : ℕ) → Contains ps q → Stands x b q
-  path_stands from to [] link is q (k, lt, e) = absurd (omega arith)
-  path_stands from to (p ∷ ps) link (is, some, sound, rest) q (zero, lt, e) =
-      let here : Stands x b p = record { front = behind_front x p (ap (is_link x) (sym is) ∙ link) some; sound = sound_parts x b p sound; true' = sound } in
-      subst (Stands x b) e here
-  path_stands from to (p ∷ ps) link (is, some, sound, rest) q (suc k, lt, e) =
-      path_stands (next_at x.unit p) to ps (sound_parts x b p sound).link rest q (k, omega arith, e)
-
-  pub path_fault : (from to : ℕ) (ps : List ℕ) (fault : FindFault) → IsPath x b from ps to → IsFaultOf (follow x b to to) fault
-      → IsFaultOf (follow x b from from) fault
-  path_fault from to ps fault path = at_fault x b from ps to (path_follows from to ps path) fault
 
   pub path_cost : (from to : ℕ) (ps : List ℕ) (units : ℕ → ℕ) (places : List ℕ) → IsPath x b from ps to → follow x b from from ≡ Ok places
       → (rest : List ℕ) × (follow x b to to ≡ Ok rest) × (places ≡ ps ++ rest) × (sum_by units places ≡ sum_by units ps + sum_by units rest)

@@ -1,22 +1,24 @@
 //! Where a row's record stands in its chain.
 
-ghost use Rattle.std.specs.Prelude.{◌≡◌, ℕ, ◌+◌, ◌*◌, ◌/◌, ◌%◌, ◌^◌, ◌≤◌, ◌<◌, ◌&&◌, IsTrue, true, false, length, IfOk, IfErr, Err, Some, if◌then◌else◌, Option};
+ghost use Rattle.std.specs.Prelude.{◌≡◌, ℕ, ◌+◌, ◌*◌, ◌/◌, ◌%◌, ◌^◌, ◌≤◌, ◌<◌, ◌&&◌, IsTrue, true, false, length, List, IfOk, IfErr, Ok, Err, Some, if◌then◌else◌, Option};
 ghost use Rattle.std.specs.Ordering.{nat_cmp};
 ghost use Rattle.std.specs.BTreeMap.{get};
 ghost use Rattle.rpm_outside.specs.Files.{unit_at};
 ghost use Rattle.rpm_outside.specs.Causes.{HasCauseAt};
-ghost use Rattle.rpm_outside.specs.Looks.{LooksAt};
+ghost use Rattle.rpm_outside.specs.Looks.{Looks, LooksAt};
 ghost use Rattle.rpm_outside.specs.declared.disk.File.TheVariants.{Idx};
 ghost use Rattle.rpm_hindex.specs.Rows.{same_row, hash_of};
-ghost use Rattle.rpm_hindex.specs.Index.{index_in, chain, follow, is_sound, units_at, bucket_unit};
-ghost use Rattle.rpm_hindex.specs.Answers.{IsFaultOf, ChainCosts};
+ghost use Rattle.rpm_hindex.specs.Index.{index_in, chain, follow, is_placed, is_sound, row_at, length_at, units_at, bucket_unit};
+ghost use Rattle.rpm_hindex.specs.Sizes.{first_record};
+ghost use Rattle.rpm_hindex.specs.Answers.{IsFaultOf, IsOutside, ChainCosts, has_key};
 ghost use Rattle.rpm_hindex.specs.inner.Records.{IsOpen};
 ghost use Rattle.rpm_hindex.specs.inner.Changes.{is_kept};
-ghost use Rattle.rpm_hindex.specs.inner.Spots.{IsMet, SkipsTo, IsWithin, IsFoundFrom, IsFound};
+ghost use Rattle.rpm_hindex.specs.inner.Spots.{IsHead, IsAhead, IsMet, IsNext, SkipsTo, IsWithin, IsLinked, IsFoundFrom, IsFound};
 
-use crate::chain::{Extent, is_placed, read_bucket, read_record};
+use crate::chain::{Extent, is_placed, read_bucket};
 use crate::faults::FindFault;
 use crate::hashing::bucket_of;
+use crate::links::read_links;
 use crate::reading::{read_key_into, read_unit};
 use crate::rows::RowRef;
 use crate::words::word;
@@ -31,6 +33,13 @@ pub struct Head {
     pub size: u32,
     pub number: u32,
     pub place: u32,
+}
+
+/// The first unit of a record, as it was read.
+#[derive(Clone, Copy)]
+pub struct Ahead {
+    pub next: u32,
+    pub head: Head,
 }
 
 /// A record on the way through a chain, and whether it is of the row that is looked for.
@@ -56,25 +65,110 @@ pub struct Found {
     pub spot: Option<Spot>,
 }
 
-/// Whether a key is of this bucket, which is the bucket of the row's key.
-fn is_of_bucket(kind: u8, key: &[u8], row: RowRef<'_>, buckets: u32, bucket: u32) -> bool
+/// Reads the first unit of the record at a unit that a link names.
+pub fn read_head<D: Disk>(disk: &mut D, extent: Extent, at: u32) -> Result<Ahead, FindFault>
+    requires few { extent.buckets ≤ 2 ^ 28 }
+    requires open { IsTrue D.tells → IsOpen extent (D.files disk.old).idx }
+    requires some_at { 0 < at }
+    requires within { at < extent.used }
+    ensures here { IfOk result (λ a. a.head.at ≡ at) }
+    ensures falls { IfOk result (λ a. a.next < at) }
+    ensures linked { IfOk result (λ a. IsNext extent.buckets extent.used a.next) }
+    ensures ahead { IfOk result (λ a. IsTrue D.tells → IsAhead (index_in extent.buckets (D.files disk.old).idx) at a) }
+    ensures fault { IfErr result (λ e. IsTrue D.tells → (b : ℕ) → IsFaultOf (follow (index_in extent.buckets (D.files disk.old).idx) b at at) e) }
+    ensures looks { Looks D.tells D.files D.left_since D.moment D.bytes_read D.follows Idx 16 disk.old disk.new }
+    ensures cause { HasCauseAt (result ≡ Err FindFault.DiskFault) (D.faults disk.old) (D.faults disk.new) }
+{
+    let Ok(unit) = read_unit(disk, at as u64) else {
+        return Err(FindFault::DiskFault);
+    };
+    if !is_placed(extent, at, &unit) {
+        return Err(FindFault::BadIndex { unit: at as u64 });
+    }
+    let head = Head {
+        at,
+        size: word(&unit, 1),
+        number: word(&unit, 2),
+        place: word(&unit, 3),
+    };
+    Ok(Ahead {
+        next: word(&unit, 0),
+        head,
+    })
+}
+
+/// Whether a key is of this bucket, which is the bucket of another key.
+fn is_of_bucket(
+    kind: u8,
+    key: &[u8],
+    other_kind: u8,
+    other: &[u8],
+    buckets: u32,
+    bucket: u32,
+) -> bool
     requires some { 0 < buckets }
-    requires bucket { hash_of row.kind row.key.now % buckets ≡ bucket }
+    requires bucket { hash_of other_kind other.now % buckets ≡ bucket }
     ensures yes { result ≡ true → hash_of kind key.now % buckets ≡ bucket }
     ensures no { result ≡ false → hash_of kind key.now % buckets ≡ bucket → ⊥ }
 {
-    kind == row.kind && key == row.key || bucket_of(kind, key, buckets) == bucket
+    key == other && kind == other_kind || bucket_of(kind, key, buckets) == bucket
 }
 
-/// Whether a record with this head and key is of the row.
-fn is_row(kind: u8, key: &[u8], head: Head, row: RowRef<'_>) -> bool
-    ensures { result ≡ same_row (record { kind = row.entry.kind; key = row.entry.key.now; number = row.entry.number; place = row.entry.place })
-        (record { kind = kind; key = key.now; number = head.number; place = head.place }) }
+/// Whether two kinds and two keys are the same.
+fn is_key(kind: u8, key: &[u8], other_kind: u8, other: &[u8]) -> bool
+    ensures { (number place : ℕ) → result ≡ has_key kind key.now (record { kind = other_kind; key = other.now; number = number; place = place }) }
 {
-    row.number == head.number && (row.place == head.place && (row.kind == kind && row.key == key))
+    kind == other_kind && key == other
 }
 
-/// Reads the record at a unit that a link names, whose key goes into a buffer.
+/// Reads the key of a record, whose first unit was read, into a buffer: whether it is this kind's key, which is of the bucket.
+pub fn meets_key<D: Disk>(
+    disk: &mut D,
+    extent: Extent,
+    bucket: u32,
+    head: Head,
+    kind: u8,
+    key: &[u8],
+    buffer: &mut Vec<u8>,
+) -> Result<bool, FindFault>
+    requires few { extent.buckets ≤ 2 ^ 28 }
+    requires some { 0 < extent.buckets }
+    requires open { IsTrue D.tells → IsOpen extent (D.files disk.old).idx }
+    requires some_at { 0 < head.at }
+    requires placed { IsTrue D.tells → is_placed (index_in extent.buckets (D.files disk.old).idx) head.at ≡ true }
+    requires head { IsTrue D.tells → IsHead (unit_at (D.files disk.old).idx) head }
+    requires bucket { hash_of kind key.now % extent.buckets ≡ bucket }
+    ensures same { IfOk result (λ is. IsTrue D.tells → is ≡ has_key kind key.now (row_at (unit_at (D.files disk.old).idx) head.at)) }
+    ensures sound { IfOk result (λ is. IsTrue D.tells → is_sound (index_in extent.buckets (D.files disk.old).idx) bucket head.at ≡ true) }
+    ensures long { IfOk result (λ is. IsTrue D.tells → length (row_at (unit_at (D.files disk.old).idx) head.at).key
+        ≡ length_at (unit_at (D.files disk.old).idx) head.at) }
+    ensures fault { IfErr result (λ e. IsTrue D.tells → IsFaultOf (follow (index_in extent.buckets (D.files disk.old).idx) bucket head.at head.at) e) }
+    ensures looks { Looks D.tells D.files D.left_since D.moment D.bytes_read D.follows Idx (16 * ((head.size % 2 ^ 28 + 15) / 16)) disk.old disk.new }
+    ensures cause { HasCauseAt (result ≡ Err FindFault.DiskFault) (D.faults disk.old) (D.faults disk.new) }
+{
+    let length = head.size % 268_435_456;
+    if let Err(fault) = read_key_into(disk, head.at as u64 + 1, length, buffer) {
+        return Err(fault);
+    }
+    let found_kind = (head.size / 268_435_456) as u8;
+    let found = &buffer[..length as usize];
+    if !is_of_bucket(found_kind, found, kind, key, extent.buckets, bucket) {
+        return Err(FindFault::BadIndex {
+            unit: head.at as u64,
+        });
+    }
+    Ok(is_key(kind, key, found_kind, found))
+}
+
+/// Whether a record has the row's number and place.
+fn may_be(head: Head, row: RowRef<'_>) -> bool
+    ensures yes { result ≡ true → (row.entry.number ≡ head.number) × (row.entry.place ≡ head.place) }
+    ensures no { result ≡ false → row.entry.number ≡ head.number → row.entry.place ≡ head.place → ⊥ }
+{
+    row.number == head.number && row.place == head.place
+}
+
+/// Reads the record at a unit that a link names, and its key only where the record has the row's number and place.
 fn meet<D: Disk>(
     disk: &mut D,
     extent: Extent,
@@ -91,8 +185,8 @@ fn meet<D: Disk>(
     requires bucket { hash_of row.kind row.key.now % extent.buckets ≡ bucket }
     ensures here { IfOk result (λ m. m.head.at ≡ at) }
     ensures falls { IfOk result (λ m. m.next < at) }
-    ensures linked { IfOk result (λ m. m.next < extent.used) }
-    ensures met { IfOk result (λ m. IsTrue D.tells → IsMet (index_in extent.buckets (D.files disk.old).idx) bucket at
+    ensures linked { IfOk result (λ m. IsNext extent.buckets extent.used m.next) }
+    ensures met { IfOk result (λ m. IsTrue D.tells → IsMet (index_in extent.buckets (D.files disk.old).idx) at
         (record { kind = row.entry.kind; key = row.entry.key.now; number = row.entry.number; place = row.entry.place }) m) }
     ensures fault { IfErr result (λ e. IsTrue D.tells → IsFaultOf (follow (index_in extent.buckets (D.files disk.old).idx) bucket at at) e) }
     ensures cost { IsTrue D.tells → is_sound (index_in extent.buckets (D.files disk.old).idx) bucket at ≡ true → D.bytes_read disk.new Idx
@@ -100,64 +194,51 @@ fn meet<D: Disk>(
     ensures looks { LooksAt D.tells D.files D.left_since D.moment D.bytes_read D.follows Idx disk.old disk.new }
     ensures cause { HasCauseAt (result ≡ Err FindFault.DiskFault) (D.faults disk.old) (D.faults disk.new) }
 {
-    let Ok(unit) = read_unit(disk, at as u64) else {
-        return Err(FindFault::DiskFault);
+    let Ahead { next, head } = match read_head(disk, extent, at) {
+        Ok(ahead) => ahead,
+        Err(fault) => return Err(fault),
     };
-    if !is_placed(extent, at, &unit) {
-        return Err(FindFault::BadIndex { unit: at as u64 });
+    if !may_be(head, row) {
+        return Ok(Met {
+            next,
+            head,
+            is_row: false,
+        });
     }
-    let size = word(&unit, 1);
-    let length = size % 268_435_456;
-    let kind = (size / 268_435_456) as u8;
-    if let Err(fault) = read_key_into(disk, at as u64 + 1, length, buffer) {
-        return Err(fault);
+    match meets_key(disk, extent, bucket, head, row.kind, row.key, buffer) {
+        Ok(is_row) => Ok(Met { next, head, is_row }),
+        Err(fault) => Err(fault),
     }
-    let key = &buffer[..length as usize];
-    if !is_of_bucket(kind, key, row, extent.buckets, bucket) {
-        return Err(FindFault::BadIndex { unit: at as u64 });
-    }
-    let head = Head {
-        at,
-        size,
-        number: word(&unit, 2),
-        place: word(&unit, 3),
-    };
-    let is_row = is_row(kind, key, head, row);
-    Ok(Met {
-        next: word(&unit, 0),
-        head,
-        is_row,
-    })
 }
 
-/// The first unit of the first record from this one on that isn't dropped, or 0.
+/// The first unit of the first record from this one on that isn't dropped, or 0. Reads no keys.
 fn skip_dropped<D: Disk>(
-    alloc: Global,
     disk: &mut D,
     extent: Extent,
-    bucket: u32,
     from: u32,
     dropped: &BTreeMap<u32, u32>,
 ) -> Result<u32, FindFault>
     requires few { extent.buckets ≤ 2 ^ 28 }
-    requires some { 0 < extent.buckets }
     requires open { IsTrue D.tells → IsOpen extent (D.files disk.old).idx }
-    requires within { 0 < from → from < extent.used }
-    ensures skips { IfOk result (λ to. IsTrue D.tells → SkipsTo (index_in extent.buckets (D.files disk.old).idx) bucket
-        (is_kept (λ p. get nat_cmp dropped.now p)) from to) }
-    ensures fault { IfErr result (λ e. IsTrue D.tells → IsFaultOf (follow (index_in extent.buckets (D.files disk.old).idx) bucket from from) e) }
-    ensures cost { IsTrue D.tells → ChainCosts (follow (index_in extent.buckets (D.files disk.old).idx) bucket from from)
+    requires linked { IsNext extent.buckets extent.used from }
+    ensures linked { IfOk result (IsNext extent.buckets extent.used) }
+    ensures skips { IfOk result (λ to. IsTrue D.tells → (b : ℕ) (places : List ℕ)
+        → follow (index_in extent.buckets (D.files disk.old).idx) b from from ≡ Ok places
+        → SkipsTo (index_in extent.buckets (D.files disk.old).idx) b (is_kept (λ p. get nat_cmp dropped.now p)) from to) }
+    ensures fault { IfErr result (λ e. IsTrue D.tells → (b : ℕ) (places : List ℕ)
+        → follow (index_in extent.buckets (D.files disk.old).idx) b from from ≡ Ok places → IsOutside e) }
+    ensures cost { IsTrue D.tells → (b : ℕ) → ChainCosts (follow (index_in extent.buckets (D.files disk.old).idx) b from from)
         (units_at (unit_at (D.files disk.old).idx)) (D.bytes_read disk.old Idx) (D.bytes_read disk.new Idx) }
     ensures looks { LooksAt D.tells D.files D.left_since D.moment D.bytes_read D.follows Idx disk.old disk.new }
     ensures cause { HasCauseAt (result ≡ Err FindFault.DiskFault) (D.faults disk.old) (D.faults disk.new) }
 {
     let mut at = from;
     while at != 0 && dropped.contains_key(&at) {
-        let record = match read_record(alloc, disk, extent, bucket, at) {
-            Ok(record) => record,
+        let ahead = match read_head(disk, extent, at) {
+            Ok(ahead) => ahead,
             Err(fault) => return Err(fault),
         };
-        at = record.next;
+        at = ahead.next;
     }
     Ok(at)
 }
@@ -180,7 +261,8 @@ fn last_kept(dropped: &BTreeMap<u32, u32>, before: Option<Head>, head: Head) -> 
     }
 }
 
-/// The spot of a row in its bucket's chain from this unit on. Reads the chain to the row's record and those behind it that are dropped.
+/// The spot of a row in its bucket's chain from this unit on. Reads the first units of the chain to the row's record and of those behind it
+/// that are dropped, and the keys of records that have the row's number and place. So a chain that isn't well formed may have a spot too.
 fn find_spot<D: Disk>(
     alloc: Global,
     disk: &mut D,
@@ -193,13 +275,16 @@ fn find_spot<D: Disk>(
     requires few { extent.buckets ≤ 2 ^ 28 }
     requires some { 0 < extent.buckets }
     requires open { IsTrue D.tells → IsOpen extent (D.files disk.old).idx }
-    requires within { 0 < from → from < extent.used }
+    requires linked { IsNext extent.buckets extent.used from }
     requires bucket { hash_of row.kind row.key.now % extent.buckets ≡ bucket }
     ensures within { IfOk result (IsWithin extent.used) }
-    ensures found { IfOk result (λ spot. IsTrue D.tells → IsFoundFrom (index_in extent.buckets (D.files disk.old).idx) bucket from
-        (is_kept (λ p. get nat_cmp dropped.now p))
+    ensures linked { IfOk result (IsLinked extent.buckets extent.used) }
+    ensures found { IfOk result (λ spot. IsTrue D.tells → (places : List ℕ)
+        → follow (index_in extent.buckets (D.files disk.old).idx) bucket from from ≡ Ok places
+        → IsFoundFrom (index_in extent.buckets (D.files disk.old).idx) bucket from (is_kept (λ p. get nat_cmp dropped.now p))
         (record { kind = row.entry.kind; key = row.entry.key.now; number = row.entry.number; place = row.entry.place }) spot) }
-    ensures fault { IfErr result (λ e. IsTrue D.tells → IsFaultOf (follow (index_in extent.buckets (D.files disk.old).idx) bucket from from) e) }
+    ensures fault { IfErr result (λ e. IsTrue D.tells → (places : List ℕ)
+        → follow (index_in extent.buckets (D.files disk.old).idx) bucket from from ≡ Ok places → IsOutside e) }
     ensures cost { IsTrue D.tells → ChainCosts (follow (index_in extent.buckets (D.files disk.old).idx) bucket from from)
         (units_at (unit_at (D.files disk.old).idx)) (D.bytes_read disk.old Idx) (D.bytes_read disk.new Idx) }
     ensures looks { LooksAt D.tells D.files D.left_since D.moment D.bytes_read D.follows Idx disk.old disk.new }
@@ -214,7 +299,7 @@ fn find_spot<D: Disk>(
             Err(fault) => return Err(fault),
         };
         if is_hit(dropped, met) {
-            let behind = match skip_dropped(alloc, disk, extent, bucket, met.next, dropped) {
+            let behind = match skip_dropped(disk, extent, met.next, dropped) {
                 Ok(behind) => behind,
                 Err(fault) => return Err(fault),
             };
@@ -226,7 +311,30 @@ fn find_spot<D: Disk>(
     Ok(None)
 }
 
-/// The spot of a row in its bucket's chain.
+/// The first fault of a bucket's chain, which isn't well formed, as this unit tells. Reads the whole chain.
+fn first_fault<D: Disk>(
+    alloc: Global,
+    disk: &mut D,
+    extent: Extent,
+    bucket: u32,
+    unit: u64,
+) -> FindFault
+    requires few { extent.buckets ≤ 2 ^ 28 }
+    requires bucket { bucket < extent.buckets }
+    requires open { IsTrue D.tells → IsOpen extent (D.files disk.old).idx }
+    requires bad { IsTrue D.tells → (places : List ℕ) → chain (index_in extent.buckets (D.files disk.old).idx) bucket ≡ Ok places → ⊥ }
+    ensures fault { IsTrue D.tells → IsFaultOf (chain (index_in extent.buckets (D.files disk.old).idx) bucket) result }
+    ensures looks { LooksAt D.tells D.files D.left_since D.moment D.bytes_read D.follows Idx disk.old disk.new }
+    ensures cause { HasCauseAt (result ≡ FindFault.DiskFault) (D.faults disk.old) (D.faults disk.new) }
+{
+    let dropped = BTreeMap::new(alloc);
+    match read_links(alloc, disk, extent, bucket, &dropped) {
+        Ok(_) => FindFault::BadIndex { unit },
+        Err(fault) => fault,
+    }
+}
+
+/// The spot of a row in its bucket's chain. A fault that is told is the first of the chain.
 pub fn find_row<D: Disk>(
     alloc: Global,
     disk: &mut D,
@@ -241,6 +349,7 @@ pub fn find_row<D: Disk>(
     requires mine { hash_of row.kind row.key.now % extent.buckets ≡ bucket }
     ensures words { IfOk result (λ f. IsTrue D.tells → f.words ≡ unit_at (D.files disk.old).idx (bucket_unit bucket)) }
     ensures within { IfOk result (λ f. IsWithin extent.used f.spot) }
+    ensures linked { IfOk result (λ f. IsLinked extent.buckets extent.used f.spot) }
     ensures found { IfOk result (λ f. IsTrue D.tells → IsFound (index_in extent.buckets (D.files disk.old).idx) bucket
         (is_kept (λ p. get nat_cmp dropped.now p))
         (record { kind = row.entry.kind; key = row.entry.key.now; number = row.entry.number; place = row.entry.place }) f.spot) }
@@ -257,6 +366,7 @@ pub fn find_row<D: Disk>(
     let words = head.words;
     match find_spot(alloc, disk, extent, bucket, head.at, dropped, row) {
         Ok(spot) => Ok(Found { words, spot }),
+        Err(FindFault::BadIndex { unit }) => { Err(first_fault(alloc, disk, extent, bucket, unit)) }
         Err(fault) => Err(fault),
     }
 }

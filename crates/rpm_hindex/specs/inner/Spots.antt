@@ -1,12 +1,16 @@
 -- Where a row's record stands in its chain.
-use Rattle.std.specs.Prelude.{◌≡◌, ℕ, ◌<◌, ◌⊎◌, List, [], ◌∷◌, ◌++◌, length, Bool, Option, Some, None, true, false, Ok}
+use Rattle.std.specs.Prelude.{◌≡◌, ℕ, ◌<◌, ◌≤◌, ◌⊎◌, List, [], ◌∷◌, ◌++◌, length, Bool, Option, Some, None, true, false, Ok}
 use Rattle.std.specs.List.{filter, Contains}
+use Rattle.rpm_hindex.specs.declared.chain.Seen.{Seen}
 use Rattle.rpm_hindex.specs.declared.spots.Head.{Head}
+use Rattle.rpm_hindex.specs.declared.spots.Ahead.{Ahead}
 use Rattle.rpm_hindex.specs.declared.spots.Met.{Met}
 use Rattle.rpm_hindex.specs.declared.spots.Spot.{Spot}
 use Rattle.rpm_hindex.specs.Words.{word}
 use Rattle.rpm_hindex.specs.Rows.{Row, same_row}
-use Rattle.rpm_hindex.specs.Index.{Index, is_link, is_sound, follow, next_at, length_at, row_at}
+use Rattle.rpm_hindex.specs.Answers.{has_key}
+use Rattle.rpm_hindex.specs.Sizes.{first_record}
+use Rattle.rpm_hindex.specs.Index.{Index, is_link, is_placed, is_sound, follow, chain, next_at, length_at, row_at}
 
 -- what was read of a record's first unit is what stands there
 pub record IsHead (unit : ℕ → List ℕ) (h : Head) : Type 0 where
@@ -14,13 +18,30 @@ pub record IsHead (unit : ℕ → List ℕ) (h : Head) : Type 0 where
   pub number : word 2 (unit h.at) ≡ h.number
   pub «in» : word 3 (unit h.at) ≡ h.place
 
+-- the first unit of a record that can stand there, as it was read
+pub record IsAhead (x : Index) (at : ℕ) (a : Ahead) : Type 0 where
+  pub placed : is_placed x at ≡ true
+  pub next : a.next ≡ next_at x.unit at
+  pub head : IsHead x.unit a.head
+
 -- what was read of a record, and whether it is of the row
-pub record IsMet (x : Index) (bucket at : ℕ) (row : Row) (m : Met) : Type 0 where
-  pub sound : is_sound x bucket at ≡ true
+pub record IsMet (x : Index) (at : ℕ) (row : Row) (m : Met) : Type 0 where
   pub next : m.next ≡ next_at x.unit at
   pub head : IsHead x.unit m.head
-  pub long : length (row_at x.unit at).key ≡ length_at x.unit at
+  pub long : m.is_row ≡ true → length (row_at x.unit at).key ≡ length_at x.unit at
   pub same : m.is_row ≡ same_row row (row_at x.unit at)
+
+-- what was read of a record of this bucket's chain, and whether it has this kind and key
+pub record IsSeen (x : Index) (bucket at kind : ℕ) (key : List ℕ) (s : Seen) : Type 0 where
+  pub sound : is_sound x bucket at ≡ true
+  pub next : s.next ≡ next_at x.unit at
+  pub same : s.has_key ≡ has_key kind key (row_at x.unit at)
+  pub number : (row_at x.unit at).number ≡ s.number
+  pub «in» : (row_at x.unit at).place ≡ s.place
+
+-- 0, or a unit among the records
+abbrev pub IsNext : ℕ → ℕ → ℕ → Type 0
+IsNext buckets used at = 0 < at → (first_record buckets ≤ at) × (at < used)
 
 -- the records from a place to another, which is the next of the last
 abbrev pub IsPath : Index → ℕ → ℕ → List ℕ → ℕ → Type 0
@@ -65,10 +86,10 @@ abbrev pub IsFoundFrom : Index → ℕ → ℕ → (ℕ → Bool) → Row → Op
 IsFoundFrom x bucket from kept row (Some s) = IsSpot x bucket from kept row s
 IsFoundFrom x bucket from kept row None = IsMissing x bucket from kept row
 
--- in a bucket's chain
+-- in a bucket's chain, where it is well formed
 pub record IsFound (x : Index) (bucket : ℕ) (kept : ℕ → Bool) (row : Row) (o : Option Spot) : Type 0 where
   pub link : is_link x (x.head bucket) ≡ true
-  pub found : IsFoundFrom x bucket (x.head bucket) kept row o
+  pub found : (places : List ℕ) → chain x bucket ≡ Ok places → IsFoundFrom x bucket (x.head bucket) kept row o
 
 abbrev pub IsHeadWithin : ℕ → Option Head → Type 0
 IsHeadWithin used None = Unit {0}
@@ -78,3 +99,12 @@ IsHeadWithin used (Some h) = (0 < h.at) × (h.at < used)
 abbrev pub IsWithin : ℕ → Option Spot → Type 0
 IsWithin used None = Unit {0}
 IsWithin used (Some s) = IsHeadWithin used s.before
+
+abbrev pub IsFront : ℕ → Option Head → Type 0
+IsFront buckets None = Unit {0}
+IsFront buckets (Some h) = first_record buckets ≤ h.at
+
+-- the records on both sides of it stand among the records
+abbrev pub IsLinked : ℕ → ℕ → Option Spot → Type 0
+IsLinked buckets used None = Unit {0}
+IsLinked buckets used (Some s) = IsNext buckets used s.behind × IsFront buckets s.before

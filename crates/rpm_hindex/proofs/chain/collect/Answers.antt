@@ -5,8 +5,8 @@ use Rattle.rpm_outside.specs.Files.{Files, unit_at}
 use Rattle.rpm_hindex.specs.declared.hits.Hit.{Hit}
 use Rattle.rpm_hindex.specs.Rows.{Row, hash_of}
 use Rattle.rpm_hindex.specs.Index.{index_in, follow, units_at, row_at, is_sound}
-use Rattle.rpm_hindex.specs.inner.Records.{IsRecord}
-use Rattle.rpm_hindex.specs.declared.chain.Record.{Record}
+use Rattle.rpm_hindex.specs.inner.Spots.{IsSeen}
+use Rattle.rpm_hindex.specs.declared.chain.Seen.{Seen}
 use Rattle.rpm_hindex.specs.Answers.{AsOften, AddsHit, IsFaultOf}
 use Rattle.rpm_outside.specs.declared.disk.File.TheVariants.{Idx}
 use Rattle.rpm_outside.specs.inner.Looking.{looks_at_none, looks_at_then}
@@ -67,10 +67,10 @@ returns-in-Err-push_hit-clause-cost g c = λ told places e.
     omega (arith, here, more.1, s.3)
 
 -- a record that was read, in the words of the first disk
-record_here : (B b k at : ℕ) (file later : Files) (r : Record) → later ≡ file → k ≡ b → IsRecord (index_in B later.idx) k at r
-    → IsRecord (index_in B file.idx) b at r
-record_here B b k at file later r same is here =
-    subst (λ (j : ℕ). IsRecord (index_in B file.idx) j at r) is (subst (λ (f : Files). IsRecord (index_in B f.idx) k at r) same here)
+seen_here : (B b k at kind : ℕ) (key : List ℕ) (file later : Files) (r : Seen) → later ≡ file → k ≡ b → IsSeen (index_in B later.idx) k at kind key r
+    → IsSeen (index_in B file.idx) b at kind key r
+seen_here B b k at kind key file later r same is here =
+    subst (λ (j : ℕ). IsSeen (index_in B file.idx) j at kind key r) is (subst (λ (f : Files). IsSeen (index_in B f.idx) k at kind key r) same here)
 
 often_here : (unit : ℕ → List ℕ) (kind : ℕ) (key : List ℕ) (done : List ℕ) (at : ℕ) (row : Row) (old new : List Hit) → AsOften kind key
     (map (row_at unit) done) old → row_at unit at ≡ row → AddsHit kind key row old new → AsOften kind key (map (row_at unit) (done ++ at ∷ [])) new
@@ -86,20 +86,21 @@ loop-at-preserved g c =
     let b = hash_of c.args.kind c.args.key.now % B in
     let file : Files = g.D.Disk.files c.args.disk.now in
     record {
-      within = λ some. c.in-Ok.ensures.linked;
-      looks = looks_at_then _ _ _ _ _ _ Idx g.met.D.Disk.follows_trans c.args.disk.now l.disk c.read_record.new.disk l.invariant.looks
-          c.read_record.ensures.looks;
-      faults = omega (arith, l.invariant.faults, c.read_record.ensures.cause.later);
+      within = λ some. (c.in-Ok.ensures.linked some).1;
+      looks = looks_at_then _ _ _ _ _ _ Idx g.met.D.Disk.follows_trans c.args.disk.now l.disk c.see.new.disk l.invariant.looks
+          c.see.ensures.looks;
+      faults = omega (arith, l.invariant.faults, c.see.ensures.cause.later);
       so_far = λ told.
           let same = (l.invariant.looks.untouched told).same in
           let s = l.invariant.so_far told in
-          let r = record_here B b c.bucket_of-bucket.result l.at file (g.D.Disk.files l.disk) c.in-Ok.record same c.bucket_of-bucket.ensures.bucket
-          (c.in-Ok.ensures.«record» told) in
+          let r = seen_here B b c.bucket_of-bucket.result l.at c.args.kind c.args.key.now file (g.D.Disk.files l.disk) c.in-Ok.seen same
+          c.bucket_of-bucket.ensures.bucket (c.in-Ok.ensures.seen told) in
           let here = cost_here B b c.bucket_of-bucket.result l.at file (g.D.Disk.files l.disk) _ _ same c.bucket_of-bucket.ensures.bucket
           (c.in-Ok.ensures.cost told) r.sound in (
             s.0 ++ l.at ∷ [],
-            often_here (unit_at file.idx) c.args.kind c.args.key.now s.0 l.at _ l.hits.items c.push_hit.new.hits.items s.1 r.row c.in_default.ensures.hits,
-            one_more (index_in B file.idx) b c.args.from s.0 l.at s.2 c.in-Ok.record.next (omega (arith, c.loop-at-test.true)) r.sound r.next,
+            often_here (unit_at file.idx) c.args.kind c.args.key.now s.0 l.at _ l.hits.items c.push_hit.new.hits.items s.1 refl
+                (c.in_default.ensures.hits c.args.kind c.args.key.now (row_at (unit_at file.idx) l.at) r.same r.number r.«in»),
+            one_more (index_in B file.idx) b c.args.from s.0 l.at s.2 c.in-Ok.seen.next (omega (arith, c.loop-at-test.true)) r.sound r.next,
             omega (arith, here, s.3, sum_by_push (units_at (unit_at file.idx)) s.0 l.at),
           );
     }

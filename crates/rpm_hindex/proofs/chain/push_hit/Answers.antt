@@ -1,10 +1,23 @@
-use Rattle.std.proofs.Common.{sym, ◌∙◌}
+use Rattle.std.proofs.Common.{◌≡◌, ℕ, List, ◌∷◌, [], ◌++◌, Bool, true, false, not, refl, ap, sym, ◌∙◌}
+use Rattle.rpm_hindex.specs.declared.hits.Hit.{Hit}
 use Rattle.rpm_hindex.proofs.Counts.{adds_none, adds_one}
 use Rattle.rpm_hindex.proofs.chain.push_hit.Goals as goal
 
-pub returns-then-not-has_key-clause-hits : goal.returns-then-not-has_key-clause-hits
-returns-then-not-has_key-clause-hits c = adds_none c.args.kind c.args.key.now _ (sym c.has_key.ensures ∙ c.if-not-has_key.true) c.args.hits.now.items
+is_false : (t : Bool) → not t ≡ true → t ≡ false
+is_false true e = sym e
+is_false false e = refl
+
+is_true : (t : Bool) → not t ≡ false → t ≡ true
+is_true true e = refl
+is_true false e = sym e
+
+pub returns-then-not-seen-clause-hits : goal.returns-then-not-seen-clause-hits
+returns-then-not-seen-clause-hits c = λ kind key row same number place.
+    adds_none kind key row (sym same ∙ is_false c.args.seen.has_key c.if-not-seen.true) c.args.hits.now.items
 
 pub returns-clause-hits : goal.returns-clause-hits
-returns-clause-hits c = adds_one c.args.kind c.args.key.now _ (sym c.has_key.ensures ∙ c.if-not-has_key.false) c.args.hits.now.items
-    c.push.new.self.items c.in-Ok.ensures.items
+returns-clause-hits c = λ kind key row same number place.
+    let old : List Hit = c.args.hits.now.items in
+    let first = ap (λ (n : ℕ). old ++ (record { number = n; place = c.args.seen.place }) ∷ []) (sym number) in
+    let second = ap (λ (n : ℕ). old ++ (record { number = row.number; place = n }) ∷ []) (sym place) in
+    adds_one kind key row (sym same ∙ is_true c.args.seen.has_key c.if-not-seen.false) old c.push.new.self.items (c.in-Ok.ensures.items ∙ first ∙ second)

@@ -2,7 +2,7 @@ use Rattle.std.proofs.Common.{◌%◌, ap, sym, ◌∙◌, refl, []}
 use Rattle.rpm_hindex.specs.Words.{word}
 use Rattle.rpm_hindex.specs.Index.{index_in, is_link, Index}
 use Rattle.rpm_hindex.proofs.Chains.{chain_bad}
-use Rattle.rpm_hindex.proofs.FollowedLinks.{within}
+use Rattle.rpm_hindex.proofs.FollowedLinks.{within, behind_front}
 use Rattle.rpm_hindex.proofs.chain.read_bucket.Goals as goal
 
 pub returns-then-not-is_link-clause-fault : goal.returns-then-not-is_link-clause-fault
@@ -21,3 +21,9 @@ pub returns-clause-within : goal.returns-clause-within
 returns-clause-within g c =
     let x : Index = record { buckets = c.args.extent.buckets; used = c.args.extent.used; head = λ b. 0; unit = λ i. [] } in
     within x c.word-at.result (sym (c.is_link.ensures x refl refl) ∙ c.if-not-is_link.false)
+
+pub returns-clause-linked : goal.returns-clause-linked
+returns-clause-linked g c = λ some.
+    let x : Index = record { buckets = c.args.extent.buckets; used = c.args.extent.used; head = λ b. 0; unit = λ i. [] } in
+    let link = sym (c.is_link.ensures x refl refl) ∙ c.if-not-is_link.false in
+    (behind_front x c.word-at.result link some, within x c.word-at.result link some)

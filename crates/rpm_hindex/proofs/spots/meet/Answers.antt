@@ -1,81 +1,85 @@
-use Rattle.std.proofs.Common.{◌≡◌, ℕ, ◌/◌, ◌%◌, ◌^◌, ◌≤◌, List, length, take, ap, sym, ◌∙◌, refl, arith}
-use Rattle.std.proofs.lemmas.List.{length-take-le}
-use Rattle.rpm_outside.specs.Files.{Files}
+use Rattle.std.proofs.Common.{◌≡◌, ℕ, ◌+◌, ◌*◌, ◌/◌, ◌%◌, ◌^◌, ◌≤◌, List, length, true, sym, ap, ◌∙◌, arith, subst}
+use Rattle.rpm_outside.specs.Files.{Files, unit_at}
+use Rattle.rpm_outside.specs.declared.disk.File.TheVariants.{Idx}
 use Rattle.rpm_hindex.specs.Words.{word}
-use Rattle.rpm_hindex.specs.Rows.{hash_of, Row, same_row}
-use Rattle.rpm_hindex.specs.Index.{Index, index_in, key_at}
-use Rattle.rpm_hindex.proofs.Chains.{follow_bad, unsound_place, unsound_bucket, sound_from, placed_parts}
-use Rattle.rpm_hindex.proofs.AsRead.{alone, key_read, row_read}
+use Rattle.rpm_hindex.specs.Rows.{Row}
+use Rattle.rpm_hindex.specs.Index.{index_in, follow, is_placed, row_at, length_at, units_at}
+use Rattle.rpm_hindex.specs.Answers.{IsFaultOf, has_key}
+use Rattle.rpm_hindex.specs.inner.Spots.{IsHead}
+use Rattle.rpm_hindex.proofs.Steps.{moved, units_read, other_row, same_by_key, number_at, place_at}
 use Rattle.rpm_hindex.proofs.spots.meet.Goals as goal
 
-pub returns-then-not-is_placed-clause-fault : goal.returns-then-not-is_placed-clause-fault
-returns-then-not-is_placed-clause-fault g c = λ told.
-    let x : Index = index_in c.args.extent.buckets (g.D.Disk.files c.args.disk.now).idx in
-    let bad = sym (c.is_placed.ensures x refl (c.requires.open told).used (c.in-Ok.ensures.unit told)) ∙ c.if-not-is_placed.true in
-    follow_bad x c.args.bucket c.args.at c.args.at c.requires.some_at (omega arith) (unsound_place x c.args.bucket c.args.at bad)
+pub returns-in-Err-clause-fault : goal.returns-in-Err-clause-fault
+returns-in-Err-clause-fault g c = λ told. c.in-Err.ensures.fault told c.args.bucket
 
-pub read_key_into-requires-clause-within : goal.read_key_into-requires-clause-within
-read_key_into-requires-clause-within g c = λ told.
-    let x : Index = index_in c.args.extent.buckets (g.D.Disk.files c.args.disk.now).idx in
-    let placed = placed_parts x c.args.at (sym (c.is_placed.ensures x refl (c.requires.open told).used (c.in-Ok.ensures.unit told))
-    ∙ c.if-not-is_placed.false) in
-    let same = ap (λ (f : Files). length f.idx) ((c.in-Ok.ensures.looks.untouched told).same) in
-    let size : c.word-size.result ≡ word 1 (x.unit c.args.at) = c.word-size.ensures ∙ ap (word 1) (c.in-Ok.ensures.unit told) in
-    let sized = ap (λ (n : ℕ). n % 2 ^ 28) size in
-    let open' = c.requires.open told in
-    omega (arith, placed.ends, open'.used, open'.within)
-
--- the bucket of what was read
-bucket_same : (unit : ℕ → List ℕ) (at buckets word1 : ℕ) (key : List ℕ) → word1 ≡ word 1 (unit at) → key ≡ key_at unit at
-    → hash_of (word1 / 2 ^ 28) key % buckets ≡ hash_of (word 1 (unit at) / 2 ^ 28) (key_at unit at) % buckets
-bucket_same unit at buckets word1 key w k =
-    ap (λ (n : ℕ). hash_of (n / 2 ^ 28) key % buckets) w ∙ ap (λ (bs : List ℕ). hash_of (word 1 (unit at) / 2 ^ 28) bs % buckets) k
-
-pub returns-then-not-is_of_bucket-clause-fault : goal.returns-then-not-is_of_bucket-clause-fault
-returns-then-not-is_of_bucket-clause-fault g c = λ told.
-    let file : Files = g.D.Disk.files c.args.disk.now in
-    let x : Index = index_in c.args.extent.buckets file.idx in
-    let size = c.word-size.ensures ∙ ap (word 1) (c.in-Ok.ensures.unit told) in
-    let length = c.word-size.result % 268435456 in
-    let key = key_read file (g.D.Disk.files c.read_unit.new.disk) c.args.at c.word-size.result (take length c.deref.result.now)
-    ((c.in-Ok.ensures.looks.untouched told).same) size (ap (take length) c.deref.ensures.value ∙ c.in_default-read_key_into.ensures.bytes told) in
-    let bucket = bucket_same x.unit c.args.at c.args.extent.buckets c.word-size.result (take length c.deref.result.now) size key in
-    follow_bad x c.args.bucket c.args.at c.args.at c.requires.some_at (omega arith) (unsound_bucket x c.args.bucket c.args.at
-    (λ e. c.is_of_bucket.ensures.no c.if-not-is_of_bucket.true (bucket ∙ e)))
-
-pub returns-clause-falls : goal.returns-clause-falls
-returns-clause-falls g c =
-    let x : Index = alone c.args.extent.buckets c.args.extent.used c.in-Ok.unit in
-    let placed = placed_parts x c.args.at (sym (c.is_placed.ensures x refl refl refl) ∙ c.if-not-is_placed.false) in
-    omega (arith, placed.falls, c.word-3.ensures)
-
-pub returns-clause-linked : goal.returns-clause-linked
-returns-clause-linked g c =
-    let x : Index = alone c.args.extent.buckets c.args.extent.used c.in-Ok.unit in
-    let placed = placed_parts x c.args.at (sym (c.is_placed.ensures x refl refl refl) ∙ c.if-not-is_placed.false) in
-    omega (arith, placed.falls, c.word-3.ensures, c.requires.within)
-
-pub returns-clause-met : goal.returns-clause-met
-returns-clause-met g c = λ told.
-    let file : Files = g.D.Disk.files c.args.disk.now in
-    let x : Index = index_in c.args.extent.buckets file.idx in
-    let first = c.in-Ok.ensures.unit told in
-    let placed = sym (c.is_placed.ensures x refl (c.requires.open told).used first) ∙ c.if-not-is_placed.false in
-    let size = c.word-size.ensures ∙ ap (word 1) first in
-    let long = c.word-size.result % 268435456 in
-    let bytes = take long c.deref.result.now in
-    let key = key_read file (g.D.Disk.files c.read_unit.new.disk) c.args.at c.word-size.result bytes
-    ((c.in-Ok.ensures.looks.untouched told).same) size (ap (take long) c.deref.ensures.value ∙ c.in_default-read_key_into.ensures.bytes told) in
-    let bucket = bucket_same x.unit c.args.at c.args.extent.buckets c.word-size.result bytes size key in
-    let number = c.word.ensures ∙ ap (word 2) first in
-    let place = c.word-2.ensures ∙ ap (word 3) first in
-    let row = row_read x.unit c.args.at c.word-size.result c.word.result c.word-2.result bytes size key number place in
-    let enough : long ≤ length c.deref.result.now = omega (arith, c.in_default-read_key_into.ensures.long, ap length c.deref.ensures.value) in
+pub returns-then-not-may_be-clause-met : goal.returns-then-not-may_be-clause-met
+returns-then-not-may_be-clause-met g c = λ told.
+    let a = c.in-Ok.ensures.ahead told in
+    let unit = unit_at (g.D.Disk.files c.args.disk.now).idx in
+    let at = c.args.at in
+    let row : Row = record { kind = c.args.row.kind; key = c.args.row.key.now; number = c.args.row.number; place = c.args.row.place } in
+    let here = c.in-Ok.ensures.here in
     record {
-      sound = sound_from x c.args.bucket c.args.at placed (sym bucket ∙ c.is_of_bucket.ensures.yes c.if-not-is_of_bucket.false);
-      next = c.word-3.ensures ∙ ap (word 0) first;
-      head = record { packed = sym size; number = sym number; «in» = sym place };
-      long = ap (λ (r : Row). length r.key) row ∙ length-take-le long c.deref.result.now enough ∙ ap (λ (n : ℕ). n % 2 ^ 28) size;
-      same = c.is_row-is_row.ensures
-          ∙ ap (same_row (record { kind = c.args.row.kind; key = c.args.row.key.now; number = c.args.row.number; place = c.args.row.place })) (sym row);
+      next = a.next;
+      head = a.head;
+      long = λ is. absurd (let wrong : ⊥ = cc in wrong);
+      same = sym (other_row row (row_at unit at) (λ n p. c.may_be.ensures.no c.if-not-may_be.true
+          (n ∙ number_at unit at ∙ ap (λ (q : ℕ). word 2 (unit q)) (sym here) ∙ a.head.number)
+          (p ∙ place_at unit at ∙ ap (λ (q : ℕ). word 3 (unit q)) (sym here) ∙ a.head.«in»)));
+    }
+
+pub meets_key-requires-clause-placed : goal.meets_key-requires-clause-placed
+meets_key-requires-clause-placed g c = λ told.
+    let B = c.args.extent.buckets in
+    let same = (c.in-Ok.ensures.looks.untouched told).same in
+    ap (λ (f : Files). is_placed (index_in B f.idx) c.in-Ok.ahead.head.at) same
+    ∙ ap (is_placed (index_in B (g.D.Disk.files c.args.disk.now).idx)) c.in-Ok.ensures.here
+    ∙ (c.in-Ok.ensures.ahead told).placed
+
+pub meets_key-requires-clause-head : goal.meets_key-requires-clause-head
+meets_key-requires-clause-head g c = λ told.
+    subst (λ (f : Files). IsHead (unit_at f.idx) c.in-Ok.ahead.head) (sym ((c.in-Ok.ensures.looks.untouched told).same)) (c.in-Ok.ensures.ahead told).head
+
+pub returns-in-Err-meets_key-clause-fault : goal.returns-in-Err-meets_key-clause-fault
+returns-in-Err-meets_key-clause-fault g c = λ told.
+    moved (λ (f : Files) (p : ℕ). IsFaultOf (follow (index_in c.args.extent.buckets f.idx) c.args.bucket p p) c.in-Err-meets_key.fault)
+    (g.D.Disk.files c.read_head.new.disk) (g.D.Disk.files c.args.disk.now) c.in-Ok.ahead.head.at c.args.at ((c.in-Ok.ensures.looks.untouched told).same)
+    c.in-Ok.ensures.here (c.in-Err-meets_key.ensures.fault told)
+
+pub returns-in-Err-meets_key-clause-cost : goal.returns-in-Err-meets_key-clause-cost
+returns-in-Err-meets_key-clause-cost g c = λ told sound.
+    let head = c.in-Ok.ahead.head in
+    let units = units_read (unit_at (g.D.Disk.files c.args.disk.now).idx) c.args.at head.at head.size c.in-Ok.ensures.here
+    (c.in-Ok.ensures.ahead told).head.packed in
+    omega (arith, c.in-Ok.ensures.looks.reads.idx, c.in-Err-meets_key.ensures.looks.reads.idx, units)
+
+pub returns-in-Ok-meets_key-clause-cost : goal.returns-in-Ok-meets_key-clause-cost
+returns-in-Ok-meets_key-clause-cost g c = λ told sound.
+    let head = c.in-Ok.ahead.head in
+    let units = units_read (unit_at (g.D.Disk.files c.args.disk.now).idx) c.args.at head.at head.size c.in-Ok.ensures.here
+    (c.in-Ok.ensures.ahead told).head.packed in
+    omega (arith, c.in-Ok.ensures.looks.reads.idx, c.in-Ok-meets_key.ensures.looks.reads.idx, units)
+
+pub returns-in-Ok-meets_key-clause-met : goal.returns-in-Ok-meets_key-clause-met
+returns-in-Ok-meets_key-clause-met g c = λ told.
+    let a = c.in-Ok.ensures.ahead told in
+    let file : Files = g.D.Disk.files c.args.disk.now in
+    let later : Files = g.D.Disk.files c.read_head.new.disk in
+    let unit = unit_at file.idx in
+    let at = c.args.at in
+    let row : Row = record { kind = c.args.row.kind; key = c.args.row.key.now; number = c.args.row.number; place = c.args.row.place } in
+    let here = c.in-Ok.ensures.here in
+    let same = (c.in-Ok.ensures.looks.untouched told).same in
+    let is_row = c.in-Ok-meets_key.is_row in
+    let yes = c.may_be.ensures.yes c.if-not-may_be.false in
+    record {
+      next = a.next;
+      head = a.head;
+      long = λ is. moved (λ (f : Files) (p : ℕ). length (row_at (unit_at f.idx) p).key ≡ length_at (unit_at f.idx) p) later file
+          c.in-Ok.ahead.head.at at same here (c.in-Ok-meets_key.ensures.long told);
+      same = moved (λ (f : Files) (p : ℕ). is_row ≡ has_key c.args.row.kind c.args.row.key.now (row_at (unit_at f.idx) p)) later file c.in-Ok.ahead.head.at at
+          same here (c.in-Ok-meets_key.ensures.same told)
+          ∙ same_by_key row (row_at unit at)
+          (yes.0 ∙ sym a.head.number ∙ ap (λ (q : ℕ). word 2 (unit q)) here ∙ sym (number_at unit at))
+          (yes.1 ∙ sym a.head.«in» ∙ ap (λ (q : ℕ). word 3 (unit q)) here ∙ sym (place_at unit at));
     }

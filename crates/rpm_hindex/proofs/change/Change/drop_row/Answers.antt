@@ -6,10 +6,11 @@ use Rattle.rpm_outside.specs.Files.{Files}
 use Rattle.rpm_hindex.specs.declared.change.Change.{Change}
 use Rattle.rpm_hindex.specs.declared.spots.Spot.{Spot}
 use Rattle.rpm_hindex.specs.Rows.{Row}
-use Rattle.rpm_hindex.specs.Index.{Index, index_in}
+use Rattle.rpm_hindex.specs.Index.{Index, index_in, places_of}
 use Rattle.rpm_hindex.specs.inner.Changes.{is_kept}
-use Rattle.rpm_hindex.specs.inner.Spots.{IsFound}
+use Rattle.rpm_hindex.specs.inner.Spots.{IsFound, IsLinked}
 use Rattle.rpm_hindex.proofs.Chains.{chain_from}
+use Rattle.rpm_hindex.proofs.Costing.{chain_are}
 use Rattle.rpm_hindex.proofs.Going.{go_on}
 use Rattle.rpm_hindex.proofs.Dropping.{drops_none, drops_one, spot_units}
 use Rattle.rpm_hindex.proofs.Cuts.{drop_cuts}
@@ -39,8 +40,9 @@ returns-in-None-clause-less g c = λ told whole.
     let b = c.bucket_of-bucket.result in
     let row : Row = record { kind = c.args.row.kind; key = c.args.row.key.now; number = c.args.row.number; place = c.args.row.place } in
     let f = subst (λ (o : Option Spot). IsFound x b (is_kept (λ p. get nat_cmp s.dropped p)) row o) c.in-None.is (c.in-Ok.ensures.found told) in
-    drops_none x _ _ whole row (λ p. get nat_cmp s.dropped p) b c.bucket_of-bucket.ensures.within c.bucket_of-bucket.ensures.bucket f.found.places
-    (chain_from x b f.link ∙ f.found.all) f.found.none
+    let found = f.found (places_of x b) (chain_are x b (whole.chains b c.bucket_of-bucket.ensures.within)) in
+    drops_none x _ _ whole row (λ p. get nat_cmp s.dropped p) b c.bucket_of-bucket.ensures.within c.bucket_of-bucket.ensures.bucket found.places
+    (chain_from x b f.link ∙ found.all) found.none
 
 pub returns-clause-less : goal.returns-clause-less
 returns-clause-less g c = on_ok c.put_dropped.result _ _ (λ put told whole.
@@ -50,7 +52,7 @@ returns-clause-less g c = on_ok c.put_dropped.result _ _ (λ put told whole.
     let row : Row = record { kind = c.args.row.kind; key = c.args.row.key.now; number = c.args.row.number; place = c.args.row.place } in
     let f = subst (λ (o : Option Spot). IsFound x b (is_kept (λ p. get nat_cmp s.dropped p)) row o) c.in-Some.is (c.in-Ok.ensures.found told) in
     drops_one x _ _ whole row (λ p. get nat_cmp s.dropped p) b c.bucket_of-bucket.ensures.within c.bucket_of-bucket.ensures.bucket c.in-Some.spot _
-    f.link f.found put) c.put_dropped.ensures.put
+    f.link (f.found (places_of x b) (chain_are x b (whole.chains b c.bucket_of-bucket.ensures.within))) put) c.put_dropped.ensures.put
 
 pub returns-clause-cuts : goal.returns-clause-cuts
 returns-clause-cuts g c = on_ok c.put_dropped.result _ _ (λ put told whole none cut.
@@ -60,9 +62,10 @@ returns-clause-cuts g c = on_ok c.put_dropped.result _ _ (λ put told whole none
     let b = c.bucket_of-bucket.result in
     let row : Row = record { kind = c.args.row.kind; key = c.args.row.key.now; number = c.args.row.number; place = c.args.row.place } in
     let f = subst (λ (o : Option Spot). IsFound x b (is_kept (λ p. get nat_cmp s.dropped p)) row o) c.in-Some.is (c.in-Ok.ensures.found told) in
+    let found = f.found (places_of x b) (chain_are x b (whole.chains b c.bucket_of-bucket.ensures.within)) in
     drop_cuts s file.idx c.requires.go none (c.requires.open told) whole cut c.unlink.new.units c.put_dropped.new.dropped c.record_units-units.result
-    b c.bucket_of-bucket.ensures.within row c.in-Some.spot f.link f.found (c.in_default.ensures.sets file.idx (c.in-Ok.ensures.words told))
-    (spot_units x b (x.head b) _ row c.in-Some.spot f.found c.record_units-units.result c.record_units-units.ensures) put) c.put_dropped.ensures.put
+    b c.bucket_of-bucket.ensures.within row c.in-Some.spot f.link found (c.in_default.ensures.sets file.idx (c.in-Ok.ensures.words told))
+    (spot_units x b (x.head b) _ row c.in-Some.spot found c.record_units-units.result c.record_units-units.ensures) put) c.put_dropped.ensures.put
 
 pub returns-in-Err-clause-bad : goal.returns-in-Err-clause-bad
 returns-in-Err-clause-bad g c = λ told honest.
@@ -79,9 +82,11 @@ returns-then-self-eq0-clause-bad g c = λ told honest.
     let b = c.bucket_of-bucket.result in
     let row : Row = record { kind = c.args.row.kind; key = c.args.row.key.now; number = c.args.row.number; place = c.args.row.place } in
     let f = subst (λ (o : Option Spot). IsFound x b (is_kept (λ p. get nat_cmp s.dropped p)) row o) c.in-Some.is (c.in-Ok.ensures.found told) in
+    let linked = subst (IsLinked s.extent.buckets s.extent.used) c.in-Some.is c.in-Ok.ensures.linked in
     inr (
       refl,
-      drops_more s file.idx c.requires.go (c.requires.open told) b c.bucket_of-bucket.ensures.within row c.in-Some.spot f.link f.found honest
+      drops_more s file.idx c.requires.go (c.requires.open told) b c.bucket_of-bucket.ensures.within row c.in-Some.spot f.link
+          (λ none. f.found (places_of x b) (chain_are x b (none b c.bucket_of-bucket.ensures.within))) linked honest
           c.record_units-units.result c.record_units-units.ensures
           (elim c.then-self-eq0.branch [
             | then-self-eq0-via-then-self-eq0 w ↦ inl (omega (arith, w.if-self-eq0))
@@ -97,6 +102,8 @@ returns-clause-honest g c = on_ok c.put_dropped.result _ _ (λ put told honest.
     let b = c.bucket_of-bucket.result in
     let row : Row = record { kind = c.args.row.kind; key = c.args.row.key.now; number = c.args.row.number; place = c.args.row.place } in
     let f = subst (λ (o : Option Spot). IsFound x b (is_kept (λ p. get nat_cmp s.dropped p)) row o) c.in-Some.is (c.in-Ok.ensures.found told) in
-    drops_honest s file.idx c.requires.go (c.requires.open told) b c.bucket_of-bucket.ensures.within row c.in-Some.spot f.link f.found honest
+    let linked = subst (IsLinked s.extent.buckets s.extent.used) c.in-Some.is c.in-Ok.ensures.linked in
+    drops_honest s file.idx c.requires.go (c.requires.open told) b c.bucket_of-bucket.ensures.within row c.in-Some.spot f.link
+    (λ none. f.found (places_of x b) (chain_are x b (none b c.bucket_of-bucket.ensures.within))) linked honest
     c.unlink.new.units c.put_dropped.new.dropped c.record_units-units.result (c.in_default.ensures.sets file.idx (c.in-Ok.ensures.words told))
     c.record_units-units.ensures put (omega (arith, c.if-self-eq0.false)) (omega (arith, c.if-self-units.false))) c.put_dropped.ensures.put

@@ -1,0 +1,93 @@
+-- One record of a chain, as it was read.
+use Rattle.std.proofs.Common.{◌≡◌, ℕ, ◌+◌, ◌*◌, ◌/◌, ◌%◌, ◌^◌, ◌<◌, ◌≤◌, List, [], ◌∷◌, ◌++◌, Bool, true, false, ◌&&◌, cond, eqb, Result, Ok, Err, refl, sym, ap, ◌∙◌, arith, subst, inl, inr}
+use Rattle.std.specs.Prelude.{Option, Some}
+use Rattle.std.specs.Str.{bytes_eq}
+use Rattle.std.specs.List.{sum_by}
+use Rattle.std.proofs.lemmas.List.Sums.{sum_by_push}
+use Rattle.std.proofs.lemmas.Bool.{cases_Bool, and_parts, eqb-true, eq-eqb, and_from}
+use Rattle.rpm_outside.specs.Files.{Files, unit_at}
+use Rattle.rpm_hindex.specs.declared.faults.FindFault.{FindFault}
+use Rattle.rpm_hindex.specs.declared.faults.FindFault.TheVariants.{BadIndex, DiskFault, NoMemory}
+use Rattle.rpm_hindex.specs.declared.spots.Head.{Head}
+use Rattle.rpm_hindex.specs.Words.{word}
+use Rattle.rpm_hindex.specs.Sizes.{first_record}
+use Rattle.rpm_hindex.specs.Rows.{Row, same_row}
+use Rattle.rpm_hindex.specs.Index.{Index, index_in, follow, is_sound, next_at, row_at, units_at}
+use Rattle.rpm_hindex.specs.Answers.{IsFaultOf, IsOutside, ChainCosts, has_key}
+use Rattle.rpm_hindex.specs.inner.Spots.{IsFront, IsPath}
+use Rattle.rpm_hindex.proofs.Collects.{cost_more}
+use Rattle.rpm_hindex.proofs.Ways.{path_more, path_follows, path_cost}
+
+pub number_at : (unit : ℕ → List ℕ) (at : ℕ) → (row_at unit at).number ≡ word 2 (unit at)
+unfolding row_at
+number_at unit at = refl
+
+pub place_at : (unit : ℕ → List ℕ) (at : ℕ) → (row_at unit at).place ≡ word 3 (unit at)
+unfolding row_at
+place_at unit at = refl
+
+-- a row with another number or place
+pub other_row : (row r : Row) → (row.number ≡ r.number → row.place ≡ r.place → ⊥) → same_row row r ≡ false
+other_row row r other = elim (cases_Bool (same_row row r)) [
+  | inl same ↦
+      let p = and_parts (eqb row.kind r.kind) _ same in
+      let q = and_parts (bytes_eq row.key r.key) _ p.1 in
+      let n = and_parts (eqb row.number r.number) (eqb row.place r.place) q.1 in
+      absurd (other (eqb-true _ _ n.0) (eqb-true _ _ n.1))
+  | inr apart ↦ apart
+]
+
+and_true : (t : Bool) → (t && true) ≡ t
+and_true true = refl
+and_true false = refl
+
+-- a row with this number and place is the same by its key
+pub same_by_key : (row r : Row) → row.number ≡ r.number → row.place ≡ r.place → has_key row.kind row.key r ≡ same_row row r
+same_by_key row r n p =
+    let both : (eqb row.number r.number && eqb row.place r.place) ≡ true = and_from (eqb row.number r.number) _ (eq-eqb _ _ n) (eq-eqb _ _ p) in
+    sym (ap (λ (t : Bool). eqb row.kind r.kind && (bytes_eq row.key r.key && t)) both
+    ∙ ap (λ (t : Bool). eqb row.kind r.kind && t) (and_true (bytes_eq row.key r.key)))
+
+-- a well formed chain has no fault
+pub outside : (said : Result (List ℕ) ℕ) (places : List ℕ) (e : FindFault) → said ≡ Ok places → IsFaultOf said e → IsOutside e
+outside said places (BadIndex unit) is fault =
+    let wrong : Err unit ≡ Ok places = sym fault ∙ is in
+    let no' : ⊥ = cc in no'
+outside said places DiskFault is fault = tt
+outside said places NoMemory is fault = tt
+
+-- the last record that is kept stands among the records
+pub front_last : (buckets : ℕ) (stays : Bool) (h : Head) (before now : Option Head) → now ≡ cond stays (Some h) before → IsFront buckets before
+    → first_record buckets ≤ h.at → IsFront buckets now
+front_last buckets true h before now is front below = subst (IsFront buckets) (sym is) below
+front_last buckets false h before now is front below = subst (IsFront buckets) (sym is) front
+
+-- what is so of a later disk is so of the first one
+pub moved : (P : Files → ℕ → Type 0) (later file : Files) (p at : ℕ) → later ≡ file → p ≡ at → P later p → P file at
+moved P later file p at same here is = subst (P file) here (subst (λ (f : Files). P f p) same is)
+
+-- what the record's head says of its units
+pub units_read : (unit : ℕ → List ℕ) (at p size : ℕ) → p ≡ at → word 1 (unit p) ≡ size → 16 + 16 * ((size % 2 ^ 28 + 15) / 16) ≡ 16 * units_at unit at
+units_read unit at p size here is =
+    let sized : word 1 (unit at) % 2 ^ 28 ≡ size % 2 ^ 28 = ap (λ (n : ℕ). n % 2 ^ 28) (ap (λ (q : ℕ). word 1 (unit q)) (sym here) ∙ is) in
+    omega (arith, sized)
+
+-- a record that is met on a well formed chain
+pub met_sound : (x : Index) (b from at next : ℕ) (done places : List ℕ) → IsPath x b from done at → follow x b from from ≡ Ok places → 0 < at
+    → next ≡ next_at x.unit at → (is_sound x b at ≡ true) × IsPath x b from (done ++ at ∷ []) next
+met_sound x b from at next done places path ok some is =
+    let more = cost_more x b from done at (path_follows x b from at done path) (λ (q : ℕ). 1) places some ok in
+    (more.0, path_more x b from at next done path some more.0 is)
+
+-- what the records behind cost, when one more was met
+pub rest_cost : (B b from at next : ℕ) (file mid_file : Files) (done places : List ℕ) (first old mid new : ℕ) → mid_file ≡ file
+    → IsPath (index_in B file.idx) b from (done ++ at ∷ []) next
+    → follow (index_in B file.idx) b from from ≡ Ok places
+    → old ≤ first + 16 * sum_by (units_at (unit_at file.idx)) done → mid ≤ old + 16 * units_at (unit_at file.idx) at
+    → ChainCosts (follow (index_in B mid_file.idx) b next next) (units_at (unit_at mid_file.idx)) mid new
+    → new ≤ first + 16 * sum_by (units_at (unit_at file.idx)) places
+rest_cost B b from at next file mid_file done places first old mid new same path ok first_cost one_cost costs =
+    let u = units_at (unit_at file.idx) in
+    let all = path_cost (index_in B file.idx) b from next (done ++ at ∷ []) u places path ok in
+    let here = subst (λ (f : Files). ChainCosts (follow (index_in B f.idx) b next next) (units_at (unit_at f.idx)) mid new) same costs all.0 all.1 in
+    omega (arith, here, one_cost, first_cost, sum_by_push u done at, all.3)
