@@ -18,7 +18,7 @@ pub fn place(ranges: &[Range], block: u32) -> usize
     }
 }
 
-/// Puts a range in at a place, where there is room for it.
+/// Puts a range in at a place, where there is room for it. None moves where the place is the end.
 pub fn put(ranges: &mut Vec<Range>, at: usize, range: Range)
     requires place { at ≤ vec_len ranges.old }
     requires room { vec_len ranges.old < vec_capacity ranges.old }
@@ -26,6 +26,10 @@ pub fn put(ranges: &mut Vec<Range>, at: usize, range: Range)
     ensures len { vec_len ranges.new ≡ vec_len ranges.old + 1 }
     ensures capacity { vec_capacity ranges.new ≡ vec_capacity ranges.old }
 {
+    if at == ranges.len() {
+        ranges.push_reserved(range);
+        return;
+    }
     match ranges.insert(at, range) {
         Ok(()) => {}
         Err(_) => unreachable!(),
