@@ -12,3 +12,4 @@ pub mod Puts
 pub mod RangeKeys
 pub mod Ready
 pub mod Pages
+pub mod Weights

@@ -8,9 +8,10 @@ ghost use Rattle.rpm_outside.specs.Looks.{Looks};
 ghost use Rattle.rpm_pkgdb.specs.Words.{word};
 ghost use Rattle.rpm_pkgdb.specs.Slots.{end_of};
 ghost use Rattle.rpm_pkgdb.specs.Blobs.{is_head, is_tail, is_framed, frame_of, blob_in};
-ghost use Rattle.rpm_pkgdb.specs.Checksums.{sums, checksum_holds};
+ghost use Rattle.rpm_pkgdb.specs.Checksums.{checksum_holds};
 ghost use Rattle.rpm_pkgdb.specs.Answers.{frame_in, IsFrame, IsOutside};
 
+use crate::checksum::sums;
 use crate::reading::{read_unit, read_units};
 use crate::slot::Slot;
 use crate::words::word;
@@ -72,46 +73,6 @@ fn is_tail(size: u32, rest: &[u8]) -> bool
 {
     let tail = &rest[rest.len() - 12..];
     word(tail, 1) == size && word(tail, 2) == TAIL
-}
-
-/// How many bytes are summed up before a remainder is taken: the second sum, at most 65520 + 3840 * (65520 + 3840 * 255), fits a `u32`.
-const RUN: usize = 3840;
-
-/// The two sums over few bytes, with one remainder at the end.
-fn short_sums(a: u32, b: u32, bytes: &[u8]) -> (u32, u32)
-    requires few { length bytes.now ≤ 3840 }
-    requires a { a < 65521 }
-    requires b { b < 65521 }
-    ensures sums { result ≡ sums a b bytes.now }
-    ensures first { result.0 < 65521 }
-    ensures second { result.1 < 65521 }
-{
-    let mut low = a;
-    let mut high = b;
-    for x in bytes {
-        low += *x as u32;
-        high += low;
-    }
-    (low % 65_521, high % 65_521)
-}
-
-/// The two sums of Adler-32, carried on. Takes some four instructions a byte.
-pub fn sums(a: u32, b: u32, bytes: &[u8]) -> (u32, u32)
-    requires a { a < 65521 }
-    requires b { b < 65521 }
-    ensures sums { result ≡ sums a b bytes.now }
-    ensures first { result.0 < 65521 }
-    ensures second { result.1 < 65521 }
-{
-    let mut low = a;
-    let mut high = b;
-    let mut rest = bytes;
-    while !rest.is_empty() {
-        let (run, more) = rest.split_at(rest.len().min(RUN));
-        (low, high) = short_sums(low, high, run);
-        rest = more;
-    }
-    (low, high)
 }
 
 /// Whether the stored checksum is that of head, bytes and padding.

@@ -10,7 +10,7 @@ ghost use Rattle.rpm_pkgdb.specs.Framing.{head_of, tail_of, padding, summed, fra
 ghost use Rattle.rpm_outside.specs.Changes.{Changes};
 ghost use Rattle.rpm_pkgdb.specs.inner.Clear.{SameOutside};
 
-use crate::blob::sums;
+use crate::checksum::sums;
 use crate::units::{blob_head, blob_tail};
 use crate::writing::write_units;
 use rpm_outside::{Disk, Failed};

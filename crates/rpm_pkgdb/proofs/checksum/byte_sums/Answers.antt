@@ -1,6 +1,6 @@
 use Rattle.std.proofs.Common.{◌%◌, sym, ◌∙◌, refl, arith}
 use Rattle.rpm_pkgdb.proofs.Sums.{sums_later, sums_end}
-use Rattle.rpm_pkgdb.proofs.blob.short_sums.Goals as goal
+use Rattle.rpm_pkgdb.proofs.checksum.byte_sums.Goals as goal
 
 pub loop-x-preserved : goal.loop-x-preserved
 loop-x-preserved c = record {
