@@ -50,6 +50,9 @@ pub fn write_zeros<D: Disk>(disk: &mut D, at: u32, count: u32) -> Result<(), Fai
     ensures changes { Changes D.tells D.files D.left_since D.moment D.bytes_read D.follows Pkg (SameOutside at count) 0 disk.old disk.new }
     ensures cause { HasCause (D.faults disk.old) (D.faults disk.new) result }
 {
+    if count == 0 {
+        return Ok(());
+    }
     let zeros = [0u8; 4096];
     let end = at + count;
     let mut next = at;
