@@ -197,8 +197,8 @@ impl PkgDb {
     ///
     /// The blob goes to the least free blocks behind the slot pages, a new number to the first free slot. Nothing is read and nothing
     /// written. The first plan of a value gathers the used ranges, n log n in the slots and linear where they lie in the order of the file, and
-    /// takes 32 bytes for each; a later one takes two binary searches, a step for each gap that is too narrow, and for a new number a step for
-    /// each used slot from the last one put on.
+    /// takes 24 bytes for each, or 32 where they don't; a later one takes two binary searches, a step for each gap that is too narrow, and for a
+    /// new number a step for each used slot from the last one put on.
     ///
     /// A new number for which no slot is free asks for a slot page more. The blobs in its way are planned to move behind it, by rising
     /// block, each to the least free place; then the new blob. This takes a step a slot to find them and a copy of the slots and of their
