@@ -1,12 +1,12 @@
--- Where all say the same of a path, no two of them conflict.
-use Rattle.std.proofs.Common.{◌≡◌, ℕ, ◌==◌, List, [], ◌∷◌, Bool, true, false, not, ◌||◌, refl, sym, ◌∙◌}
+-- Where all say the same of a path or all are directories, no two of them conflict.
+use Rattle.std.proofs.Common.{◌≡◌, ℕ, ◌/◌, ◌%◌, ◌==◌, List, [], ◌∷◌, Bool, true, false, not, ◌||◌, ◌⊎◌, inl, inr, refl, sym, ap, ◌∙◌}
 use Rattle.std.specs.Prelude.{◌&&◌}
 use Rattle.std.specs.List.{list_all}
 use Rattle.std.specs.Str.{bytes_eq}
 use Rattle.std.proofs.lemmas.Bool.{and_parts, eqb-true, eq-eqb}
 use Rattle.std.proofs.lemmas.Slice.Eq.{bytes_eq-Decides}
-use Rattle.rpm_filecheck.specs.Owners.{Owner, is_conflict, may_share, conflicts_with, conflicts_on}
-use Rattle.rpm_filecheck.specs.inner.Alike.{is_alike}
+use Rattle.rpm_filecheck.specs.Owners.{Owner, is_directory, is_ghost, is_conflict, may_share, conflicts_with, conflicts_on}
+use Rattle.rpm_filecheck.specs.inner.Alike.{is_alike, agrees}
 
 and_false : (x : Bool) → (x && false) ≡ false
 and_false true = refl
@@ -39,26 +39,69 @@ says_same a b alike =
 none_differs : (shared d m l : Bool) → d ≡ true → m ≡ true → l ≡ true → (shared && (not d || (not m || not l))) ≡ false
 none_differs shared d m l digest mode link = rw (digest, mode, link) (and_false shared)
 
+-- ---- one of these facts holds of an owner beside the first
+
+or_cases : (x y : Bool) → (x || y) ≡ true → (x ≡ true) ⊎ (y ≡ true)
+or_cases true y is = inl refl
+or_cases false y is = inr is
+
+record AreDirectories (a b : Owner) : Type 0 where
+  first : is_directory a.facts ≡ true
+  second : is_directory b.facts ≡ true
+
+agrees_by : (a b : Owner) → agrees a b ≡ true → SaysSame a b ⊎ AreDirectories a b
+agrees_by a b agree = elim (or_cases (is_alike a b) (is_directory a.facts && is_directory b.facts) agree) [
+  | inl alike ↦ inl (says_same a b alike)
+  | inr directories ↦
+      let parts = and_parts (is_directory a.facts) (is_directory b.facts) directories in
+      inr (record { first = parts.0; second = parts.1 })
+]
+
+agrees_itself : (a : Owner) → agrees a a ≡ true
+agrees_itself a = rw (alike_itself a) refl
+
+-- what says the same as a directory is one
+directory_too : (a b : Owner) → SaysSame a b → is_directory a.facts ≡ true → is_directory b.facts ≡ true
+directory_too a b same directory = ap (λ m. (m / 4096) % 16 == 4) (sym same.mode) ∙ directory
+
+shared : (first second ghost other : Bool) → first ≡ true → second ≡ true → (not ((first && second) || ghost) && other) ≡ false
+shared first second ghost other is then = rw (is, then) refl
+
+module _ (path : List ℕ) where
+  directories_share : (b c : Owner) → is_directory b.facts ≡ true → is_directory c.facts ≡ true → is_conflict path b c ≡ false
+  directories_share b c first second =
+      shared (is_directory b.facts) (is_directory c.facts) (is_ghost b.facts || is_ghost c.facts) _ first second
+
 module _ (path : List ℕ) (a : Owner) where
-  no_conflict : (b c : Owner) → is_alike a b ≡ true → is_alike a c ≡ true → is_conflict path b c ≡ false
-  no_conflict b c first second =
-      let of_b = says_same a b first in
-      let of_c = says_same a c second in
+  same_share : (b c : Owner) → SaysSame a b → SaysSame a c → is_conflict path b c ≡ false
+  same_share b c of_b of_c =
       none_differs (not (may_share b.facts c.facts)) (bytes_eq b.facts.digest c.facts.digest) (b.facts.mode == c.facts.mode)
       (bytes_eq b.facts.link c.facts.link) ((bytes_eq-Decides b.facts.digest c.facts.digest).1 (sym of_b.digest ∙ of_c.digest))
       (eq-eqb b.facts.mode c.facts.mode (sym of_b.mode ∙ of_c.mode)) ((bytes_eq-Decides b.facts.link c.facts.link).1 (sym of_b.link ∙ of_c.link))
 
-  none_with : (b : Owner) → is_alike a b ≡ true → (os : List Owner) → list_all (is_alike a) os ≡ true → conflicts_with path b os ≡ []
-  none_with b alike [] all = refl
-  none_with b alike (c ∷ os) all =
-      let parts = and_parts (is_alike a c) (list_all (is_alike a) os) all in
-      rw (no_conflict b c alike parts.0) (none_with b alike os parts.1)
+  no_conflict : (b c : Owner) → agrees a b ≡ true → agrees a c ≡ true → is_conflict path b c ≡ false
+  no_conflict b c first second = elim (agrees_by a b first) [
+    | inl of_b ↦ elim (agrees_by a c second) [
+      | inl of_c ↦ same_share b c of_b of_c
+      | inr of_c ↦ directories_share path b c (directory_too a b of_b of_c.first) of_c.second
+    ]
+    | inr of_b ↦ elim (agrees_by a c second) [
+      | inl of_c ↦ directories_share path b c of_b.second (directory_too a c of_c of_b.first)
+      | inr of_c ↦ directories_share path b c of_b.second of_c.second
+    ]
+  ]
 
-  none_among : (os : List Owner) → list_all (is_alike a) os ≡ true → conflicts_on path os ≡ []
+  none_with : (b : Owner) → agrees a b ≡ true → (os : List Owner) → list_all (agrees a) os ≡ true → conflicts_with path b os ≡ []
+  none_with b agree [] all = refl
+  none_with b agree (c ∷ os) all =
+      let parts = and_parts (agrees a c) (list_all (agrees a) os) all in
+      rw (no_conflict b c agree parts.0) (none_with b agree os parts.1)
+
+  none_among : (os : List Owner) → list_all (agrees a) os ≡ true → conflicts_on path os ≡ []
   none_among [] all = refl
   none_among (b ∷ os) all =
-      let parts = and_parts (is_alike a b) (list_all (is_alike a) os) all in
+      let parts = and_parts (agrees a b) (list_all (agrees a) os) all in
       rw (none_with b parts.0 os parts.1) (none_among os parts.1)
 
-  pub none_on : (os : List Owner) → list_all (is_alike a) os ≡ true → conflicts_on path (a ∷ os) ≡ []
-  none_on os all = rw (none_with a (alike_itself a) os all) (none_among os all)
+  pub none_on : (os : List Owner) → list_all (agrees a) os ≡ true → conflicts_on path (a ∷ os) ≡ []
+  none_on os all = rw (none_with a (agrees_itself a) os all) (none_among os all)

@@ -3,7 +3,7 @@
 ghost use Rattle.std.specs.Prelude.{◌≡◌, ◌∷◌, ◌++◌, [], OnOk, drop};
 ghost use Rattle.std.specs.List.{list_all};
 ghost use Rattle.rpm_filecheck.specs.Owners.{conflict, conflicts_with, conflicts_on};
-ghost use Rattle.rpm_filecheck.specs.inner.Alike.{is_alike};
+ghost use Rattle.rpm_filecheck.specs.inner.Alike.{is_alike, agrees};
 
 use crate::columns::copy;
 use crate::owner::{Owner, Owners};
@@ -126,15 +126,22 @@ fn is_alike(a: &Owner, b: &Owner) -> bool
         && a.link.as_slice() == b.link.as_slice()
 }
 
-/// Whether each of these says the same of a path as the first.
-fn are_alike(first: &Owner, others: &[Owner]) -> bool
-    ensures { result ≡ list_all (is_alike first.now) others.now }
+/// Whether two owners say the same of a path, or are directories.
+fn agrees(a: &Owner, b: &Owner) -> bool
+    ensures { result ≡ agrees a.now b.now }
 {
-    others.iter().all(|b| is_alike(first, b))
+    is_alike(a, b) || (a.is_directory() && b.is_directory())
 }
 
-/// Adds the conflicts of each owner with those behind it. Where all say the same, as of a folder that many packages own, each is compared
-/// with the first alone.
+/// Whether the first agrees with each of these. Then no two of them conflict.
+fn agrees_with_all(first: &Owner, others: &[Owner]) -> bool
+    ensures { result ≡ list_all (agrees first.now) others.now }
+{
+    others.iter().all(|b| agrees(first, b))
+}
+
+/// Adds the conflicts of each owner with those behind it. Where all say the same or all are directories, as of a path that many packages
+/// own, each is compared with the first alone; otherwise each with all behind it, since each two may be one of the list.
 fn push_all(
     alloc: Global,
     conflicts: &mut Vec<Conflict>,
@@ -144,7 +151,7 @@ fn push_all(
 ) -> Result<(), AllocError>
     ensures { OnOk result (conflicts.new.items ≡ conflicts.old.items ++ conflicts_on path.now (first.now ∷ others.now)) }
 {
-    if are_alike(first, others) {
+    if agrees_with_all(first, others) {
         return Ok(());
     }
     push_with(alloc, conflicts, path, first, others)?;

@@ -26,12 +26,14 @@ impl Model for Owner {
 }
 
 impl Owner {
-    fn is_directory(&self) -> bool
+    /// Whether the path is a directory.
+    pub fn is_directory(&self) -> bool
         ensures { result ≡ is_directory self.now.facts }
     {
         (self.mode / 4096) % 16 == 4
     }
 
+    // Whether the path is a ghost.
     fn is_ghost(&self) -> bool
         ensures { result ≡ is_ghost self.now.facts }
     {

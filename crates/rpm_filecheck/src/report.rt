@@ -71,7 +71,8 @@ impl ConflictList {
 /// path, and so may a ghost with any other. Of a path that a package has twice its first place counts.
 ///
 /// Reads the blocks of each package, once. Takes memory for each path once and for what each package says of it, and n log n steps in the
-/// files, besides one for every two owners of a path of which they don't all say the same.
+/// files, besides one for every two owners of a path of which they neither all say the same nor all are directories: each two may be one
+/// of the list. Paths with many owners are mostly directories.
 ///
 /// # Errors
 ///

@@ -269,6 +269,14 @@ fn each_two_owners_are_compared(rt: HostRuntime) -> Result<(), Fail> {
     // two directories, and one with a file
     assert!(rt; shows(alloc, &[&folder, &closed], b"")?);
     assert!(rt; shows(alloc, &[&folder, &plain], b"/f: 1 2 mode\n")?);
+    assert!(rt; shows(alloc, &[&folder, &closed, &folder], b"")?);
+    assert!(rt;
+        shows(
+            alloc,
+            &[&folder, &closed, &plain],
+            b"/f: 1 3 mode\n/f: 2 3 digest mode link\n"
+        )?
+    );
     assert!(rt; shows(alloc, &[&plain, &link], b"/f: 1 2 digest mode link\n")?);
     Ok(())
 }
