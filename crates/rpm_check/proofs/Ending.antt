@@ -83,7 +83,7 @@ module _ (all : finite.FinMap nat_cmp Package) where
   giver_in m need =
       in_numbers (meets need) m (finite.entries all) (finite.entries_sorted all) ∙ ap (holds_at (meets need) m) (sym (finite.get-entries all m))
 
-  good_in : (m : ℕ) → is_in m (good_numbers all) ≡ is_good_at (finite.get all m)
+  pub good_in : (m : ℕ) → is_in m (good_numbers all) ≡ is_good_at (finite.get all m)
   unfolding good_numbers
   good_in m =
       in_numbers (λ e. is_good e.1) m (finite.entries all) (finite.entries_sorted all)

@@ -5,7 +5,7 @@ use Rattle.std.specs.List.{All}
 use Rattle.std.specs.List.Sorted.{IsBinarySearchResult}
 use Rattle.std.specs.Ordering.{nat_cmp}
 use Rattle.std.proofs.lemmas.Bool.{and_parts, cases_Bool, cases_lt, eq-eqb}
-use Rattle.std.proofs.lemmas.List.Elements.{All-nil, All-cons, All-push, All-same, All-append, All-weaker}
+use Rattle.std.proofs.lemmas.List.Elements.{All-nil, All-cons, All-same, All-append, All-weaker}
 use Rattle.std.proofs.lemmas.List.Sorted.{searched}
 use Rattle.rpm_graph.specs.Networks.{Network, IsRising, IsBefore, Joins, edge}
 use Rattle.rpm_graph.specs.declared.graph.Edge.{Edge}
@@ -114,22 +114,3 @@ module _ {E : Type 0} (old new : Network) where
   pub edges_left : (r : Result (Unit {0}) E) → OnErr r (new ≡ old) → OnErr r (new.edges ≡ old.edges)
   edges_left (Ok done) same = tt
   edges_left (Err fault) same = ap (λ (g : Network). g.edges) same
-
-  pub edges_stay : (n : ℕ) (r : Result (Unit {0}) E) → OnOk r (new ≡ record old { numbers = old.numbers ++ n ∷ [] }) → OnErr r (new ≡ old)
-      → new.edges ≡ old.edges
-  edges_stay n (Ok done) is same = ap (λ (g : Network). g.edges) is
-  edges_stay n (Err fault) is same = ap (λ (g : Network). g.edges) same
-
-  pub number_told : (n : ℕ) (r : Result (Unit {0}) E) → OnOk r (new ≡ record old { numbers = old.numbers ++ n ∷ [] })
-      → OnOk r (new.numbers ≡ old.numbers ++ n ∷ [])
-  number_told n (Ok done) is = ap (λ (g : Network). g.numbers) is
-  number_told n (Err fault) is = tt
-
-  pub number_reached : (n : ℕ) (r : Result (Unit {0}) E) → OnOk r (new ≡ record old { numbers = old.numbers ++ n ∷ [] }) → OnErr r (new ≡ old)
-      → All (λ (m : ℕ). m < n) old.numbers → All (λ (m : ℕ). m ≤ n) new.numbers
-  number_reached n (Ok done) is same low =
-      All-same (λ (m : ℕ). m ≤ n) new.numbers (old.numbers ++ n ∷ []) (ap (λ (g : Network). g.numbers) is)
-      (All-push (λ (m : ℕ). m ≤ n) old.numbers n (All-weaker (λ (m : ℕ). m < n) (λ (m : ℕ). m ≤ n) (λ m lt. omega (arith, lt)) old.numbers low) (omega arith))
-  number_reached n (Err fault) is same low =
-      All-same (λ (m : ℕ). m ≤ n) new.numbers old.numbers (ap (λ (g : Network). g.numbers) same)
-      (All-weaker (λ (m : ℕ). m < n) (λ (m : ℕ). m ≤ n) (λ m lt. omega (arith, lt)) old.numbers low)

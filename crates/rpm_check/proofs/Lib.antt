@@ -3,6 +3,7 @@ pub mod Between
 pub mod Ending
 pub mod Faulting
 pub mod Gaining
+pub mod Gathering
 pub mod Glancing
 pub mod Joining
 pub mod Keys

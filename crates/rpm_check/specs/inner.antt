@@ -4,5 +4,6 @@ pub mod Faults
 pub mod GiverMemos
 pub mod Memos
 pub mod Needs
+pub mod Nodes
 pub mod Picking
 pub mod Rounds

@@ -1,6 +1,6 @@
 //! Where the edges from one package end.
 
-ghost use Rattle.std.specs.Prelude.{◌≡◌, ◌++◌, ℕ, IsTrue, false, Err, IfOk, IfErr, OnOk, OnErr};
+ghost use Rattle.std.specs.Prelude.{◌≡◌, ◌++◌, ℕ, IsTrue, is_some, false, Err, IfOk, IfErr, IfSome, OnOk, OnErr};
 ghost use Rattle.std.specs.List.{flat_map};
 ghost use Rattle.std.specs.List.Sorted.{IsStrictlyIncreasing};
 ghost use Rattle.std.specs.FinMap as finite;
@@ -11,7 +11,7 @@ ghost use Rattle.rpm_select.specs.Reach.{HasIndexRows, is_in};
 ghost use Rattle.rpm_check.specs.Answers.{Glances, IsBroken, is_broken};
 ghost use Rattle.rpm_check.specs.Edges.{givers};
 ghost use Rattle.rpm_check.specs.Unmet.{required};
-ghost use Rattle.rpm_check.specs.inner.Ends.{needs_at};
+ghost use Rattle.rpm_check.specs.inner.Ends.{needs_at, is_good_at};
 ghost use Rattle.rpm_check.specs.inner.GiverMemos.{RemembersGivers};
 ghost use Rattle.rpm_check.specs.inner.Needs.{needed_in};
 
@@ -118,7 +118,8 @@ fn push_ends<D: Disk>(
     Ok(())
 }
 
-/// Adds the numbers of the packages that meet a requirement of a number's package.
+/// Adds the numbers of the packages that meet a requirement of a number's package, and tells whether that package can be read. Reads its
+/// blocks once.
 fn push_ends_of<D: Disk>(
     alloc: Global,
     db: &Db,
@@ -126,7 +127,7 @@ fn push_ends_of<D: Disk>(
     memo: &mut GiverMemo,
     number: u32,
     ends: &mut Vec<u32>,
-) -> Result<(), CheckFault>
+) -> Result<bool, CheckFault>
     requires keeps { IsTrue D.tells → Keeps (D.files disk.old).pkg db.now }
     requires keeps_index { IsTrue D.tells → KeepsIndex (D.files disk.old).idx db.now }
     requires runs { db.now.stopped ≡ false }
@@ -135,6 +136,7 @@ fn push_ends_of<D: Disk>(
         → RemembersGivers (givers (packages (D.files disk.old).pkg db.now.store)) memo.old }
     ensures kept { IsTrue D.tells → Keeps (D.files disk.new).pkg db.now }
     ensures kept_index { IsTrue D.tells → KeepsIndex (D.files disk.new).idx db.now }
+    ensures good { IfOk result (λ good. IsTrue D.tells → good ≡ is_good_at (finite.get (packages (D.files disk.old).pkg db.now.store) number)) }
     ensures told { OnOk result (IsTrue D.tells → HasIndexRows db.now (D.files disk.old).pkg (D.files disk.old).idx → ends.new.items
         ≡ ends.old.items ++ flat_map (givers (packages (D.files disk.old).pkg db.now.store))
         (needs_at (finite.get (packages (D.files disk.old).pkg db.now.store) number))) }
@@ -147,10 +149,13 @@ fn push_ends_of<D: Disk>(
 {
     match db.read(alloc, disk, number) {
         Ok(blob) => match View::parse(&blob) {
-            Ok(view) => push_ends(alloc, db, disk, memo, &view, ends),
-            Err(_) => Ok(()),
+            Ok(view) => match push_ends(alloc, db, disk, memo, &view, ends) {
+                Ok(()) => Ok(true),
+                Err(fault) => Err(fault),
+            },
+            Err(_) => Ok(false),
         },
-        Err(GetFault::NoSuch | GetFault::Bad) => Ok(()),
+        Err(GetFault::NoSuch | GetFault::Bad) => Ok(false),
         Err(GetFault::DiskFault) => Err(CheckFault::DiskFault),
         Err(GetFault::NoMemory) => Err(CheckFault::NoMemory),
     }
@@ -167,14 +172,14 @@ fn each_once(numbers: Vec<u32>) -> Vec<u32>
     numbers
 }
 
-/// The numbers of the packages that meet a requirement of a number's package, rising, each once.
+/// The numbers of the packages that meet a requirement of a number's package, rising, each once; nothing where that package can't be read.
 pub fn ends_of<D: Disk>(
     alloc: Global,
     db: &Db,
     disk: &mut D,
     memo: &mut GiverMemo,
     number: u32,
-) -> Result<Vec<u32>, CheckFault>
+) -> Result<Option<Vec<u32>>, CheckFault>
     requires keeps { IsTrue D.tells → Keeps (D.files disk.old).pkg db.now }
     requires keeps_index { IsTrue D.tells → KeepsIndex (D.files disk.old).idx db.now }
     requires runs { db.now.stopped ≡ false }
@@ -183,10 +188,12 @@ pub fn ends_of<D: Disk>(
         → RemembersGivers (givers (packages (D.files disk.old).pkg db.now.store)) memo.old }
     ensures kept { IsTrue D.tells → Keeps (D.files disk.new).pkg db.now }
     ensures kept_index { IsTrue D.tells → KeepsIndex (D.files disk.new).idx db.now }
-    ensures rising { IfOk result (λ ends. IsStrictlyIncreasing ends.items) }
-    ensures told { IfOk result (λ ends. IsTrue D.tells → HasIndexRows db.now (D.files disk.old).pkg (D.files disk.old).idx → (m : ℕ)
-        → is_in m ends.items ≡ is_in m (flat_map (givers (packages (D.files disk.old).pkg db.now.store))
-        (needs_at (finite.get (packages (D.files disk.old).pkg db.now.store) number)))) }
+    ensures good { IfOk result (λ found. IsTrue D.tells
+        → is_some found ≡ is_good_at (finite.get (packages (D.files disk.old).pkg db.now.store) number)) }
+    ensures rising { IfOk result (λ found. IfSome found (λ ends. IsStrictlyIncreasing ends.items)) }
+    ensures told { IfOk result (λ found. IfSome found (λ ends. IsTrue D.tells → HasIndexRows db.now (D.files disk.old).pkg (D.files disk.old).idx
+        → (m : ℕ) → is_in m ends.items ≡ is_in m (flat_map (givers (packages (D.files disk.old).pkg db.now.store))
+        (needs_at (finite.get (packages (D.files disk.old).pkg db.now.store) number))))) }
     ensures remembered { IsTrue D.tells → HasIndexRows db.now (D.files disk.old).pkg (D.files disk.old).idx
         → RemembersGivers (givers (packages (D.files disk.old).pkg db.now.store)) memo.new }
     ensures broken { IsTrue D.tells → IfErr result (IsBroken (D.files disk.old).idx) }
@@ -195,8 +202,13 @@ pub fn ends_of<D: Disk>(
     ensures cause { HasCauseAt (result ≡ Err CheckFault.DiskFault) (D.faults disk.old) (D.faults disk.new) }
 {
     let mut ends = Vec::new(alloc);
-    match push_ends_of(alloc, db, disk, memo, number, &mut ends) {
-        Ok(()) => Ok(each_once(ends)),
-        Err(fault) => Err(fault),
+    let good = match push_ends_of(alloc, db, disk, memo, number, &mut ends) {
+        Ok(good) => good,
+        Err(fault) => return Err(fault),
+    };
+    if good {
+        Ok(Some(each_once(ends)))
+    } else {
+        Ok(None)
     }
 }

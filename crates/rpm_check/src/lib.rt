@@ -10,6 +10,7 @@ mod lacking;
 mod list;
 mod meeting;
 mod memo;
+mod nodes;
 mod reading;
 mod report;
 #[cfg(test)]

@@ -1,78 +1,78 @@
-use Rattle.std.proofs.Common.{◌≡◌, ℕ, ◌<◌, ◌++◌, [], List, refl, sym, ap, ◌∙◌, subst, arith, append_assoc, append-nil}
-use Rattle.std.proofs.lemmas.List.Elements.{All-nil, All-same, All-weaker}
-use Rattle.rpm_outside.specs.Files.{Files}
-use Rattle.rpm_db.specs.State.{Package, packages}
+use Rattle.std.proofs.Common.{◌≡◌, ℕ, ◌+◌, ◌<◌, ◌≤◌, ◌++◌, [], List, map, length, drop, refl, sym, ap, ◌∙◌, subst, arith, append-nil}
+use Rattle.std.specs.Prelude.{filter}
+use Rattle.std.specs.List.{flat_map}
+use Rattle.std.specs.List.Sorted.{IsStrictlyIncreasing}
+use Rattle.std.proofs.lemmas.List.{drop_all}
+use Rattle.std.proofs.lemmas.List.Elements.{All-nil, All-same}
 use Rattle.rpm_graph.specs.declared.graph.Edge.{Edge}
-use Rattle.rpm_select.specs.Reach.{HasIndexRows}
-use Rattle.rpm_check.specs.Edges.{givers, good_numbers, edges_from}
-use Rattle.rpm_check.specs.inner.Ends.{BeginsBelow, BeginsUpTo}
-use Rattle.rpm_check.specs.inner.GiverMemos.{RemembersGivers}
-use Rattle.rpm_check.proofs.Glancing.{glances_none, glances_then}
-use Rattle.rpm_check.proofs.Turning.{turns_above, one_turn, no_turn, all_turns, edges_are_all}
+use Rattle.rpm_graph.specs.Networks.{edge}
+use Rattle.rpm_select.specs.Reach.{is_in}
+use Rattle.rpm_check.specs.declared.nodes.Node.{Node}
+use Rattle.rpm_check.specs.inner.Ends.{is_end}
+use Rattle.rpm_check.specs.inner.Nodes.{edges_of}
+use Rattle.rpm_check.proofs.Gathering.{IsBelowFrom, number_in, ends_rise, edges_behind, edges_below, edges_told}
 use Rattle.rpm_check.proofs.edges.push_all_edges.Goals as goal
 
-pub loop-next-init : goal.loop-next-init
-loop-next-init g c = record {
-  keeps = c.requires.keeps;
-  keeps_index = c.requires.keeps_index;
-  looks =
-      glances_none g.D.Disk.tells g.D.Disk.files g.D.Disk.left_since g.D.Disk.moment g.D.Disk.bytes_read g.D.Disk.follows g.met.D.Disk.follows_refl
-      c.args.disk.now;
-  faults = omega arith;
-  remembers = λ told has. c.new-memo.ensures (givers (packages (g.D.Disk.files c.args.disk.now).pkg c.args.db.now.store));
-  numbers = refl;
-  reached = All-same (BeginsUpTo 0) c.args.graph.now.edges [] c.requires.none (All-nil (BeginsUpTo 0));
-  told = λ told has are.
-      let pkg = (g.D.Disk.files c.args.disk.now).pkg in
-      let all = packages pkg c.args.db.now.store in
-      let f = λ (e : ℕ × Package). edges_from all e.0 in
-      ap (λ (es : List Edge). es ++ turns_above all f 0) c.requires.none ∙ all_turns pkg c.args.db.now f c.requires.from_one ∙ edges_are_all all;
-}
-
-pub push_edges_of-requires-clause-behind : goal.push_edges_of-requires-clause-behind
-push_edges_of-requires-clause-behind g c =
-    let next = c.in-Some.next in
-    let lt : c.loop-next.passed < next = c.in-Some.ensures.next.0 in
-    All-weaker (BeginsUpTo c.loop-next.passed) (BeginsBelow next) (λ e le. omega (arith, le, lt)) c.loop-next.graph.edges
-    c.loop-next.invariant.reached
-
-pub loop-next-preserved : goal.loop-next-preserved
-loop-next-preserved g c =
-    let db = c.args.db.now in
-    let inv = c.loop-next.invariant in
-    let done = c.in-Ok.ensures in
-    let next = c.in-Some.next in
+pub loop-node-init : goal.loop-node-init
+loop-node-init c =
+    let nodes = c.args.nodes.now in
+    let P = λ (e : Edge). IsBelowFrom nodes 0 e.from in
     record {
-      keeps = done.kept;
-      keeps_index = done.kept_index;
-      looks =
-          glances_then g.D.Disk.tells g.D.Disk.files g.D.Disk.left_since g.D.Disk.moment g.D.Disk.bytes_read g.D.Disk.follows g.met.D.Disk.follows_trans
-          c.args.disk.now c.loop-next.disk c.push_edges_of.new.disk inv.looks done.looks;
-      faults = omega (arith, inv.faults, done.cause.later);
-      remembers = λ told has.
-          subst (λ (f : Files). HasIndexRows db f.pkg f.idx → RemembersGivers (givers (packages f.pkg db.store)) c.push_edges_of.new.memo)
-          (inv.looks.untouched told).same (done.remembered told) has;
+      numbers = refl;
+      below = All-same P c.args.graph.now.edges [] c.requires.none (All-nil P);
+      told = ap (λ (es : List Edge). es ++ flat_map (edges_of c.args.graph.now.numbers) nodes) c.requires.none;
+    }
+
+pub push_edges-requires-clause-begins : goal.push_edges-requires-clause-begins
+push_edges-requires-clause-begins c =
+    let nodes = c.args.nodes.now in
+    let k = c.loop-node.node-index in
+    let v = c.node-item.result in
+    let within : k < length nodes = omega arith in
+    ap (is_in v.number) (c.loop-node.invariant.numbers ∙ c.requires.numbers) ∙ number_in nodes c.requires.rising k v within c.node-item.is
+
+pub push_edges-requires-clause-rises : goal.push_edges-requires-clause-rises
+push_edges-requires-clause-rises c =
+    let nodes = c.args.nodes.now in
+    let k = c.loop-node.node-index in
+    let within : k < length nodes = omega arith in
+    subst IsStrictlyIncreasing (sym c.deref.ensures.value) (ends_rise nodes c.requires.rising k c.node-item.result within c.node-item.is)
+
+pub push_edges-requires-clause-behind : goal.push_edges-requires-clause-behind
+push_edges-requires-clause-behind c =
+    let nodes = c.args.nodes.now in
+    let k = c.loop-node.node-index in
+    let within : k < length nodes = omega arith in
+    edges_behind nodes c.requires.rising k c.node-item.result within c.node-item.is c.loop-node.graph.edges c.loop-node.invariant.below
+
+pub loop-node-preserved : goal.loop-node-preserved
+loop-node-preserved c =
+    let nodes = c.args.nodes.now in
+    let rising = c.requires.rising in
+    let numbers = c.args.graph.now.numbers in
+    let k = c.loop-node.node-index in
+    let v = c.node-item.result in
+    let within : k < length nodes = omega arith in
+    let inv = c.loop-node.invariant in
+    let done = c.in_ok-push_edges.ensures in
+    let old = c.loop-node.graph.edges in
+    let n = v.number in
+    let added : c.push_edges.new.graph.edges ≡ old ++ edges_of numbers v =
+    done.told ∙ ap (λ (ms : List ℕ). old ++ map (edge n) (filter (is_end c.loop-node.graph.numbers n) ms)) c.deref.ensures.value
+    ∙ ap (λ (ns : List ℕ). old ++ map (edge n) (filter (is_end ns n) v.ends.items)) inv.numbers in
+    record {
       numbers = done.numbers ∙ inv.numbers;
-      reached = done.reached;
-      told = λ told has are.
-          let pkg = (g.D.Disk.files c.args.disk.now).pkg in
-          let all = packages pkg db.store in
-          let f = λ (e : ℕ × Package). edges_from all e.0 in
-          let old = c.loop-next.graph.edges in
-          let numbers = c.loop-next.graph.numbers in
-          let added = subst (λ (f : Files). HasIndexRows db f.pkg f.idx → numbers ≡ good_numbers (packages f.pkg db.store)
-          → c.push_edges_of.new.graph.edges ≡ old ++ edges_from (packages f.pkg db.store) next) (inv.looks.untouched told).same
-          (done.told told) has (inv.numbers ∙ are) in
-          let turn = one_turn all f c.loop-next.passed next (c.in-Some.ensures.told pkg) in
-          ap (λ (es : List Edge). es ++ turns_above all f next) added ∙ append_assoc old (edges_from all next) (turns_above all f next)
-          ∙ ap (λ (es : List Edge). old ++ es) (sym turn.2) ∙ inv.told told has are;
+      below = edges_below nodes rising k v within c.node-item.is c.push_edges.new.graph.edges done.reached;
+      told =
+          ap (λ (es : List Edge). es ++ flat_map (edges_of numbers) (drop (k + 1) nodes)) added
+          ∙ edges_told nodes rising k v within c.node-item.is numbers old (flat_map (edges_of numbers) nodes) inv.told;
     }
 
 pub returns-clause-told : goal.returns-clause-told
-returns-clause-told g c = λ told has are.
-    let pkg = (g.D.Disk.files c.args.disk.now).pkg in
-    let all = packages pkg c.args.db.now.store in
-    let f = λ (e : ℕ × Package). edges_from all e.0 in
-    let old = c.loop-next.graph.edges in
-    sym (append-nil old) ∙ ap (λ (es : List Edge). old ++ es) (sym (no_turn all f c.loop-next.passed (c.in_default.ensures.told pkg)))
-    ∙ c.loop-next.invariant.told told has are
+returns-clause-told c =
+    let nodes = c.args.nodes.now in
+    let k = c.loop-node.node-index in
+    let old = c.loop-node.graph.edges in
+    let over : length nodes ≤ k = omega arith in
+    sym (append-nil old) ∙ ap (λ (vs : List Node). old ++ flat_map (edges_of c.args.graph.now.numbers) vs) (sym (drop_all k nodes over))
+    ∙ c.loop-node.invariant.told

@@ -1,31 +1,14 @@
-use Rattle.std.proofs.Common.{◌≡◌, ◌-◌, ◌^◌, ◌≤◌, ◌++◌}
-use Rattle.std.specs.Prelude.{All, IsTrue}
-use Rattle.rpm_db.specs.Database.{Keeps, KeepsIndex}
-use Rattle.rpm_db.specs.State.{packages}
-use Rattle.rpm_select.specs.Reach.{HasIndexRows}
-use Rattle.rpm_check.specs.Answers.{Glances}
-use Rattle.rpm_check.specs.Edges.{givers, good_numbers, edges_from, all_edges}
-use Rattle.rpm_check.specs.inner.Ends.{BeginsUpTo}
-use Rattle.rpm_check.specs.inner.GiverMemos.{RemembersGivers}
-use Rattle.rpm_check.proofs.Turning.{turns_above}
+use Rattle.std.proofs.Common.{◌≡◌, ◌++◌, drop}
+use Rattle.std.specs.Prelude.{All}
+use Rattle.std.specs.List.{flat_map}
+use Rattle.rpm_check.specs.inner.Nodes.{edges_of}
+use Rattle.rpm_check.proofs.Gathering.{IsBelowFrom}
 use Rattle.rpm_check.proofs.edges.push_all_edges.Given as goal
 
-abbrev pub invariant-loop-next : goal.invariant-loop-next
-invariant-loop-next g l = record {
-  keeps : IsTrue g.D.Disk.tells → Keeps (g.D.Disk.files l.disk).pkg l.db;
-  keeps_index : IsTrue g.D.Disk.tells → KeepsIndex (g.D.Disk.files l.disk).idx l.db;
-  looks : Glances g.D.Disk.tells g.D.Disk.files g.D.Disk.left_since g.D.Disk.moment g.D.Disk.bytes_read g.D.Disk.follows l.initial.disk l.disk;
-  faults : g.D.Disk.faults l.initial.disk ≤ g.D.Disk.faults l.disk;
-  remembers : IsTrue g.D.Disk.tells → HasIndexRows l.db (g.D.Disk.files l.initial.disk).pkg (g.D.Disk.files l.initial.disk).idx
-      → RemembersGivers (givers (packages (g.D.Disk.files l.initial.disk).pkg l.db.store)) l.memo;
+abbrev pub invariant-loop-node : goal.invariant-loop-node
+invariant-loop-node l = record {
   numbers : l.graph.numbers ≡ l.initial.graph.numbers;
-  reached : All (BeginsUpTo l.passed) l.graph.edges;
-  told : IsTrue g.D.Disk.tells → HasIndexRows l.db (g.D.Disk.files l.initial.disk).pkg (g.D.Disk.files l.initial.disk).idx
-      → l.initial.graph.numbers ≡ good_numbers (packages (g.D.Disk.files l.initial.disk).pkg l.db.store)
-      → l.graph.edges ++ turns_above (packages (g.D.Disk.files l.initial.disk).pkg l.db.store)
-      (λ e. edges_from (packages (g.D.Disk.files l.initial.disk).pkg l.db.store) e.0) l.passed
-      ≡ all_edges (packages (g.D.Disk.files l.initial.disk).pkg l.db.store);
+  below : All (λ e. IsBelowFrom l.nodes l.node-index e.from) l.graph.edges;
+  told : l.graph.edges ++ flat_map (edges_of l.initial.graph.numbers) (drop l.node-index l.nodes)
+      ≡ flat_map (edges_of l.initial.graph.numbers) l.nodes;
 }
-
-abbrev pub decreases-loop-next : goal.decreases-loop-next
-decreases-loop-next g l = 2 ^ 32 - l.passed

@@ -1,4 +1,4 @@
-use Rattle.std.proofs.Common.{◌++◌, ℕ, List, ap, ◌∙◌}
+use Rattle.std.proofs.Common.{◌++◌, ℕ, List, sym, ap, ◌∙◌}
 use Rattle.std.specs.List.{flat_map}
 use Rattle.std.specs.FinMap as finite
 use Rattle.rpm_db.specs.State.{packages}
@@ -7,9 +7,15 @@ use Rattle.rpm_check.specs.Edges.{givers}
 use Rattle.rpm_check.specs.inner.Ends.{needs_at}
 use Rattle.rpm_check.proofs.ends.ends_of.Goals as goal
 
-pub returns-in-Ok-clause-told : goal.returns-in-Ok-clause-told
-returns-in-Ok-clause-told g c = λ told has m.
+pub returns-then-good-clause-good : goal.returns-then-good-clause-good
+returns-then-good-clause-good g c = λ told. sym c.if-good.true ∙ c.in-Ok.ensures.good told
+
+pub returns-then-good-clause-told : goal.returns-then-good-clause-told
+returns-then-good-clause-told g c = λ told has m.
     let all = packages (g.D.Disk.files c.args.disk.now).pkg c.args.db.now.store in
     let given = flat_map (givers all) (needs_at (finite.get all c.args.number)) in
     c.each_once.ensures.same m
     ∙ ap (is_in m) (c.in-Ok.ensures.told told has ∙ ap (λ (ms : List ℕ). ms ++ given) c.new-ends.ensures.items)
+
+pub returns-else-good-clause-good : goal.returns-else-good-clause-good
+returns-else-good-clause-good g c = λ told. sym c.if-good.false ∙ c.in-Ok.ensures.good told

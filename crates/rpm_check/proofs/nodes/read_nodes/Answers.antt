@@ -1,0 +1,106 @@
+use Rattle.std.proofs.Common.{◌≡◌, ℕ, ◌<◌, ◌≤◌, ◌++◌, [], List, Option, Some, sym, ap, ◌∙◌, subst, arith, append_assoc, append-nil}
+use Rattle.std.specs.List.{flat_map}
+use Rattle.std.specs.FinMap as finite
+use Rattle.std.proofs.lemmas.List.Elements.{All-nil, All-same, All-weaker}
+use Rattle.rpm_outside.specs.Files.{Files}
+use Rattle.rpm_db.specs.State.{Package, packages}
+use Rattle.rpm_graph.specs.declared.graph.Edge.{Edge}
+use Rattle.rpm_select.specs.Reach.{HasIndexRows}
+use Rattle.rpm_check.specs.declared.nodes.Node.{Node}
+use Rattle.rpm_check.specs.Edges.{givers, good_numbers, edges_from}
+use Rattle.rpm_check.specs.inner.Ends.{good_if, good_of, is_good_at}
+use Rattle.rpm_check.specs.inner.GiverMemos.{RemembersGivers}
+use Rattle.rpm_check.specs.inner.Nodes.{AreRising, numbers_of, edges_of}
+use Rattle.rpm_check.proofs.Gathering.{none_rise}
+use Rattle.rpm_check.proofs.Glancing.{glances_none, glances_then}
+use Rattle.rpm_check.proofs.Turning.{turns_above, one_turn, no_turn, all_turns, goods_are, edges_are_all}
+use Rattle.rpm_check.proofs.nodes.read_nodes.Goals as goal
+
+pub loop-next-init : goal.loop-next-init
+loop-next-init g c =
+    let db = c.args.db.now in
+    let pkg = (g.D.Disk.files c.args.disk.now).pkg in
+    let all = packages pkg db.store in
+    let f = λ (e : ℕ × Package). edges_from all e.0 in
+    let none = c.new-nodes.ensures.items in
+    record {
+      keeps = c.requires.keeps;
+      keeps_index = c.requires.keeps_index;
+      looks =
+          glances_none g.D.Disk.tells g.D.Disk.files g.D.Disk.left_since g.D.Disk.moment g.D.Disk.bytes_read g.D.Disk.follows g.met.D.Disk.follows_refl
+          c.args.disk.now;
+      faults = omega arith;
+      remembers = λ told has. c.new-memo.ensures (givers all);
+      rising = subst AreRising (sym none) none_rise;
+      reached = All-same (λ (n : ℕ). n ≤ 0) (numbers_of c.new-nodes.result.items) [] (ap numbers_of none) (All-nil (λ (n : ℕ). n ≤ 0));
+      numbers = λ told.
+          ap (λ (vs : List Node). numbers_of vs ++ turns_above all good_of 0) none ∙ all_turns pkg db good_of c.requires.from_one ∙ goods_are all;
+      told = λ told has.
+          ap (λ (vs : List Node). flat_map (edges_of (good_numbers all)) vs ++ turns_above all f 0) none
+          ∙ all_turns pkg db f c.requires.from_one ∙ edges_are_all all;
+    }
+
+pub push_node-requires-clause-below : goal.push_node-requires-clause-below
+push_node-requires-clause-below g c =
+    let next = c.in-Some.next in
+    let lt : c.loop-next.passed < next = c.in-Some.ensures.next.0 in
+    All-weaker (λ (n : ℕ). n ≤ c.loop-next.passed) (λ (n : ℕ). n < next) (λ n le. omega (arith, le, lt)) (numbers_of c.loop-next.nodes.items)
+    c.loop-next.invariant.reached
+
+pub loop-next-preserved : goal.loop-next-preserved
+loop-next-preserved g c =
+    let db = c.args.db.now in
+    let inv = c.loop-next.invariant in
+    let done = c.in-Ok.ensures in
+    let next = c.in-Some.next in
+    let pkg = (g.D.Disk.files c.args.disk.now).pkg in
+    let all = packages pkg db.store in
+    let f = λ (e : ℕ × Package). edges_from all e.0 in
+    let nodes = c.loop-next.nodes.items in
+    let more = c.push_node.new.nodes.items in
+    record {
+      keeps = done.kept;
+      keeps_index = done.kept_index;
+      looks =
+          glances_then g.D.Disk.tells g.D.Disk.files g.D.Disk.left_since g.D.Disk.moment g.D.Disk.bytes_read g.D.Disk.follows g.met.D.Disk.follows_trans
+          c.args.disk.now c.loop-next.disk c.push_node.new.disk inv.looks done.looks;
+      faults = omega (arith, inv.faults, done.cause.later);
+      remembers = λ told has.
+          subst (λ (f : Files). HasIndexRows db f.pkg f.idx → RemembersGivers (givers (packages f.pkg db.store)) c.push_node.new.memo)
+          (inv.looks.untouched told).same (done.remembered told) has;
+      rising = done.rising;
+      reached = done.reached;
+      numbers = λ told.
+          let old = numbers_of nodes in
+          let added = subst (λ (f : Files). numbers_of more ≡ old ++ good_if (is_good_at (finite.get (packages f.pkg db.store) next)) next)
+          (inv.looks.untouched told).same (done.numbers told) in
+          let turn = one_turn all good_of c.loop-next.passed next (c.in-Some.ensures.told pkg) in
+          ap (λ (ns : List ℕ). ns ++ turns_above all good_of next) (added ∙ ap (λ (o : Option Package). old ++ good_if (is_good_at o) next) turn.1)
+          ∙ append_assoc old (good_if (is_good_at (Some turn.0)) next) (turns_above all good_of next)
+          ∙ ap (λ (ns : List ℕ). old ++ ns) (sym turn.2) ∙ inv.numbers told;
+      told = λ told has.
+          let old = flat_map (edges_of (good_numbers all)) nodes in
+          let added = subst (λ (f : Files). HasIndexRows db f.pkg f.idx → flat_map (edges_of (good_numbers (packages f.pkg db.store))) more
+          ≡ flat_map (edges_of (good_numbers (packages f.pkg db.store))) nodes ++ edges_from (packages f.pkg db.store) next)
+          (inv.looks.untouched told).same (done.told told) has in
+          let turn = one_turn all f c.loop-next.passed next (c.in-Some.ensures.told pkg) in
+          ap (λ (es : List Edge). es ++ turns_above all f next) added ∙ append_assoc old (edges_from all next) (turns_above all f next)
+          ∙ ap (λ (es : List Edge). old ++ es) (sym turn.2) ∙ inv.told told has;
+    }
+
+pub returns-clause-numbers : goal.returns-clause-numbers
+returns-clause-numbers g c = λ told.
+    let pkg = (g.D.Disk.files c.args.disk.now).pkg in
+    let all = packages pkg c.args.db.now.store in
+    let old = numbers_of c.loop-next.nodes.items in
+    sym (append-nil old) ∙ ap (λ (ns : List ℕ). old ++ ns) (sym (no_turn all good_of c.loop-next.passed (c.in_default.ensures.told pkg)))
+    ∙ c.loop-next.invariant.numbers told
+
+pub returns-clause-told : goal.returns-clause-told
+returns-clause-told g c = λ told has.
+    let pkg = (g.D.Disk.files c.args.disk.now).pkg in
+    let all = packages pkg c.args.db.now.store in
+    let f = λ (e : ℕ × Package). edges_from all e.0 in
+    let old = flat_map (edges_of (good_numbers all)) c.loop-next.nodes.items in
+    sym (append-nil old) ∙ ap (λ (es : List Edge). old ++ es) (sym (no_turn all f c.loop-next.passed (c.in_default.ensures.told pkg)))
+    ∙ c.loop-next.invariant.told told has
