@@ -1,4 +1,3 @@
-pub mod Appended
 pub mod Filled
 pub mod Fixtures
 pub mod Joined

@@ -1,6 +1,6 @@
 -- A header of a list, read in two pieces.
 use Rattle.std.proofs.Common.{◌≡◌, ℕ, zero, suc, get_or, ◌+◌, ◌-◌, ◌*◌, ◌≤◌, ◌<◌, List, [], ◌∷◌, ◌++◌, Option, Result, Ok, Err, length, take, drop, true, false, Bool, refl, sym, ap, ◌∙◌, arith, length-append, append_assoc, le-ltb, lt-ltb}
-use Rattle.std.specs.Prelude.{nat_lt, not, if◌then◌else◌, is_ok, nat_eq}
+use Rattle.std.specs.Prelude.{nat_lt, not, if◌then◌else◌, nat_eq}
 use Rattle.std.specs.Cmp.Lexicographic.{pointwise}
 use Rattle.std.specs.Int.{Width, w32, byte_len, byte_worth, sum_through, from_be_bytes}
 use Rattle.std.proofs.lemmas.List.{get_or_append_left, take-append-le, take_all, take_at, drop_at, drop-append-le, drop-drop, length-take, length-drop}
@@ -133,12 +133,9 @@ size_fault bytes e is same = no_read_fault (not (has_magic bytes)) (nat_lt 65535
 pub no_fault : {X : Type 0} (r : Result X ListFault) (e : ListFault) → r ≡ Err e → r ≡ Err fault.ReadFault → e ≡ fault.ReadFault
 no_fault r e is same = cc
 
--- the vector begins with what stands behind the magic
-pub begun : {T E : Type 0} (r : Result T E) (intro before now : List ℕ) → is_ok r ≡ true → before ≡ []
-    → now ≡ (if is_ok r then before ++ take (length intro - 8) (drop 8 intro) else before) → now ≡ drop 8 intro
-begun r intro before now ok none is =
-    let whole : take (length intro - 8) (drop 8 intro) ≡ drop 8 intro = take_all (length intro - 8) (drop 8 intro) (omega (arith, length-drop 8 intro)) in
-    is ∙ rw (ok, none, whole) refl
+-- the row begins with what stands behind the magic
+pub begun : (intro front : List ℕ) → length intro ≡ 16 → front ≡ take (length intro - 8) (drop 8 intro) → front ≡ drop 8 intro
+begun intro front long is = is ∙ take_all (length intro - 8) (drop 8 intro) (omega (arith, length-drop 8 intro))
 
 -- fewer than 16 bytes came
 pub short_fill : (old new : Option (List ℕ)) (count : ℕ) (into : List ℕ) → Fills old new count into → 0 < count → count < 16 → length into ≡ 16

@@ -1,5 +1,5 @@
 -- What a call answers that reads from a shelf. Only a failed read and want of memory come from elsewhere than the bytes.
-use Rattle.std.specs.Prelude.{◌≡◌, ℕ, List, Option, Some, None, Result, Ok, Err, Vec}
+use Rattle.std.specs.Prelude.{◌≡◌, ℕ, List, take, Option, Some, None, Result, Ok, Err, Vec}
 use Rattle.std.specs.declared.alloc.Global.{Global}
 use Rattle.rpm_header.specs.Header.{Header}
 use Rattle.rpm_file.specs.declared.fault.ListFault.{ListFault}
@@ -26,6 +26,12 @@ abbrev pub AnswersNext : Option (List ℕ) → Option (List ℕ) → Result (Opt
 AnswersNext old new (Ok None) = (list_head (left old) ≡ Ok None) × (new ≡ old)
 AnswersNext old new (Ok (Some blob)) = list_head (left old) ≡ Ok (Some (record { blob = blob.items; rest = left new }))
 AnswersNext old new (Err fault) = IsListFault (list_head (left old)) fault
+
+-- or into the front of a longer row
+abbrev pub AnswersNextIn : Option (List ℕ) → Option (List ℕ) → List ℕ → Result (Option ℕ) ListFault → Type 0
+AnswersNextIn old new room (Ok None) = (list_head (left old) ≡ Ok None) × (new ≡ old)
+AnswersNextIn old new room (Ok (Some size)) = list_head (left old) ≡ Ok (Some (record { blob = take size room; rest = left new }))
+AnswersNextIn old new room (Err fault) = IsListFault (list_head (left old)) fault
 
 -- what follows the main header is left
 abbrev pub AnswersBy : (List ℕ → Result Headed FileFault) → Option (List ℕ) → Option (List ℕ) → Result Header FileFault → Type 0

@@ -1,9 +1,9 @@
 //! Reads that go on until enough bytes have come.
 
-ghost use Rattle.std.specs.Prelude.{◌≡◌, ◌≤◌, ◌+◌, IsTrue, true, length, vec_len, Err, IfOk, IfErr};
+ghost use Rattle.std.specs.Prelude.{◌≡◌, ◌<◌, ◌≤◌, ◌+◌, ◌++◌, [], IsTrue, length, take, drop, vec_len, Err, IfOk, IfErr, OnOk};
 ghost use Rattle.rpm_outside.specs.Causes.{HasCause, HasCauseAt};
-ghost use Rattle.rpm_outside.specs.Browses.{Browses};
-ghost use Rattle.rpm_file.specs.inner.Filling.{Fills, Appends, IsOutside};
+ghost use Rattle.rpm_outside.specs.Browses.{left, Browses};
+ghost use Rattle.rpm_file.specs.inner.Filling.{Fills, Appends, Extends, IsOutside};
 
 use crate::fault::ListFault;
 use rpm_outside::{Failed, Shelf};
@@ -31,25 +31,59 @@ pub fn fill<S: Shelf>(shelf: &mut S, into: &mut [u8]) -> Result<usize, Failed>
     Ok(done)
 }
 
-/// Reads so many bytes more, and adds those that came. Says whether all came.
-fn append_some<S: Shelf>(shelf: &mut S, bytes: &mut Vec<u8>, more: usize) -> Result<bool, ListFault>
-    requires { vec_len bytes.old + more ≤ 68157440 }
-    ensures appends { IfOk result (λ all. IsTrue S.tells → Appends (S.rest shelf.old) (S.rest shelf.new) bytes.old.items (vec_len bytes.old + more)
-        all bytes.new.items) }
+/// Makes a vector so long, where it is shorter. What it held stays.
+fn make_room(room: &mut Vec<u8>, size: usize) -> Result<(), AllocError>
+    ensures long { OnOk result (size ≤ vec_len room.new) }
+    ensures kept { OnOk result (take (vec_len room.old) room.new.items ≡ room.old.items) }
+{
+    if room.len() < size {
+        room.resize(size, 0)?;
+    }
+    Ok(())
+}
+
+/// Puts these bytes in front of others, in place of as many.
+fn put_front(bytes: &mut [u8], front: &[u8])
+    requires { length front.now ≤ length bytes.old }
+    ensures { bytes.new ≡ front.now ++ drop (length front.now) bytes.old }
+{
+    bytes[..front.len()].copy_from_slice(front);
+}
+
+/// Puts these eight bytes in front of a vector, which grows where it is shorter.
+pub fn begin(room: &mut Vec<u8>, front: &[u8]) -> Result<(), AllocError>
+    requires { length front.now ≡ 8 }
+    ensures long { OnOk result (8 ≤ vec_len room.new) }
+    ensures front { OnOk result (take 8 room.new.items ≡ front.now) }
+{
+    make_room(room, 8)?;
+    put_front(room, front);
+    Ok(())
+}
+
+/// Reads up to so many bytes into a vector, behind its first `from`, and says how many came: fewer only at the end of the open item.
+fn fill_some<S: Shelf>(
+    shelf: &mut S,
+    room: &mut Vec<u8>,
+    from: usize,
+    more: usize,
+) -> Result<usize, ListFault>
+    requires start { from ≤ vec_len room.old }
+    requires few { from + more ≤ 68157440 }
+    ensures within { IfOk result (λ count. count ≤ more) }
+    ensures long { OnOk result (from + more ≤ vec_len room.new) }
+    ensures extends { IfOk result (λ count. IsTrue S.tells → Extends (S.rest shelf.old) (S.rest shelf.new) (take from room.old.items)
+        (take (from + count) room.new.items)) }
+    ensures ended { IfOk result (λ count. IsTrue S.tells → count < more → left (S.rest shelf.new) ≡ []) }
     ensures only { IfErr result IsOutside }
-    ensures full { IfOk result (λ all. all ≡ true → vec_len bytes.new ≡ vec_len bytes.old + more) }
     ensures browses { Browses S.tells S.paths S.rest S.absences S.faults shelf.old shelf.new }
     ensures cause { HasCauseAt (result ≡ Err ListFault.ReadFault) (S.faults shelf.old) (S.faults shelf.new) }
 {
-    let from = bytes.len();
-    if bytes.resize(from + more, 0).is_err() {
+    if make_room(room, from + more).is_err() {
         return Err(ListFault::NoMemory);
     }
-    match fill(shelf, &mut bytes[from..]) {
-        Ok(count) => {
-            bytes.truncate(from + count);
-            Ok(count == more)
-        }
+    match fill(shelf, &mut room[from..from + more]) {
+        Ok(count) => Ok(count),
         Err(Failed) => Err(ListFault::ReadFault),
     }
 }
@@ -57,30 +91,37 @@ fn append_some<S: Shelf>(shelf: &mut S, bytes: &mut Vec<u8>, more: usize) -> Res
 // The room for bytes that are still to come, at first.
 const FIRST: usize = 4096;
 
-/// Reads until there are so many bytes, or the open item is at its end. Says whether all came. Takes
-/// memory as the bytes come: 4,096 bytes, or as many more as came so far.
+/// Reads into a vector, behind its first `from` bytes, until there are so many or the open item is at its end. Says how many there
+/// are then. Where the vector is too short it grows as the bytes come: by 4,096 bytes, or by as many as came so far.
 ///
 /// # Errors
 ///
 /// `ReadFault` where a read failed, `NoMemory` where no memory was found.
-pub fn append_upto<S: Shelf>(
+pub fn fill_upto<S: Shelf>(
     shelf: &mut S,
-    bytes: &mut Vec<u8>,
+    room: &mut Vec<u8>,
+    from: usize,
     size: usize,
-) -> Result<bool, ListFault>
-    requires start { vec_len bytes.old ≤ size }
-    requires few { size ≤ 68157440 }
-    ensures appends { IfOk result (λ all. IsTrue S.tells → Appends (S.rest shelf.old) (S.rest shelf.new) bytes.old.items size all bytes.new.items) }
+) -> Result<usize, ListFault>
+    requires start { from ≤ vec_len room.old }
+    requires few { from ≤ size }
+    requires most { size ≤ 68157440 }
+    ensures within { IfOk result (λ done. done ≤ size) }
+    ensures long { IfOk result (λ done. done ≤ vec_len room.new) }
+    ensures appends { IfOk result (λ done. IsTrue S.tells → Appends (S.rest shelf.old) (S.rest shelf.new) (take from room.old.items) size
+        (take done room.new.items)) }
     ensures only { IfErr result IsOutside }
-    ensures full { IfOk result (λ all. all ≡ true → vec_len bytes.new ≡ size) }
     ensures browses { Browses S.tells S.paths S.rest S.absences S.faults shelf.old shelf.new }
     ensures cause { HasCauseAt (result ≡ Err ListFault.ReadFault) (S.faults shelf.old) (S.faults shelf.new) }
 {
-    while bytes.len() < size {
-        let more = (size - bytes.len()).min(bytes.len().max(FIRST));
-        if !append_some(shelf, bytes, more)? {
-            return Ok(false);
+    let mut done = from;
+    while done < size {
+        let more = (size - done).min(done.max(FIRST));
+        let count = fill_some(shelf, room, done, more)?;
+        done += count;
+        if count < more {
+            return Ok(done);
         }
     }
-    Ok(true)
+    Ok(done)
 }

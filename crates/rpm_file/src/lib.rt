@@ -17,5 +17,5 @@ mod package;
 mod tests;
 
 pub use fault::{FileFault, ListFault};
-pub use list::next_header;
+pub use list::{next_header, read_header};
 pub use package::{Package, read_package};

@@ -1,15 +1,15 @@
 //! The headers of a list, one at a time.
 
-ghost use Rattle.std.specs.Prelude.{◌≡◌, ℕ, ◌≤◌, IsTrue, length, Ok, Err, IfOk};
+ghost use Rattle.std.specs.Prelude.{◌≡◌, ℕ, ◌≤◌, IsTrue, length, vec_len, Ok, Err, IfOk, IfSome};
 ghost use Rattle.rpm_outside.specs.Causes.{HasCauseAt};
 ghost use Rattle.rpm_file.specs.List.{size_in};
 ghost use Rattle.rpm_outside.specs.Browses.{Browses};
-ghost use Rattle.rpm_file.specs.Answers.{AnswersNext};
+ghost use Rattle.rpm_file.specs.Answers.{AnswersNext, AnswersNextIn};
 ghost use Rattle.rpm_file.specs.inner.Parts.{AnswersBehind};
 
 use crate::bytes::u32_at;
 use crate::fault::ListFault;
-use crate::filling::{append_upto, fill};
+use crate::filling::{begin, fill, fill_upto};
 use rpm_header::MAGIC;
 use rpm_outside::{Failed, Shelf};
 use std::alloc::Global;
@@ -46,29 +46,37 @@ fn size_in(intro: &[u8]) -> Result<usize, ListFault>
     Ok(8 + 16 * entries as usize + data as usize)
 }
 
-/// Reads the rest of a header that begins with these 16 bytes, its magic in front.
-fn read_behind<S: Shelf>(alloc: Global, shelf: &mut S, intro: &[u8]) -> Result<Vec<u8>, ListFault>
+/// Reads the rest of a header that begins with these 16 bytes, its magic in front. Says how long it is without the magic.
+fn read_behind<S: Shelf>(
+    shelf: &mut S,
+    room: &mut Vec<u8>,
+    intro: &[u8],
+) -> Result<usize, ListFault>
     requires { length intro.now ≡ 16 }
-    ensures answers { IsTrue S.tells → AnswersBehind intro.now (S.rest shelf.old) (S.rest shelf.new) result }
+    ensures within { IfOk result (λ size. size ≤ vec_len room.new) }
+    ensures answers { IsTrue S.tells → AnswersBehind intro.now (S.rest shelf.old) (S.rest shelf.new) room.new.items result }
     ensures browses { Browses S.tells S.paths S.rest S.absences S.faults shelf.old shelf.new }
     ensures cause { HasCauseAt (result ≡ Err ListFault.ReadFault) (S.faults shelf.old) (S.faults shelf.new) }
 {
     let size = size_in(intro)?;
-    let mut blob = Vec::new(alloc);
-    if blob.extend_from_slice(&intro[8..]).is_err() {
+    if begin(room, &intro[8..]).is_err() {
         return Err(ListFault::NoMemory);
     }
-    if append_upto(shelf, &mut blob, size)? {
-        Ok(blob)
-    } else {
-        Err(ListFault::Short)
+    let done = fill_upto(shelf, room, 8, size)?;
+    if done < size {
+        return Err(ListFault::Short);
     }
+    Ok(size)
 }
 
-/// Reads the next header of the list that is open, without its magic and unparsed: of its bytes the magic and the two lengths in
-/// front were looked at. None exactly where the open item is at its end, or none is open. No byte behind the header is read.
+/// Reads the next header of the list that is open into the front of a vector, without its magic and unparsed, and says how long it is:
+/// of its bytes the magic and the two lengths in front were looked at. None exactly where the open item is at its end, or none is open.
+/// No byte behind the header is read.
 ///
-/// The body is read straight into the vector that is handed up, in as few reads as the shelf gives it, and memory is taken as
+/// The vector is made longer where it is too short, and never shorter: so one vector serves for all headers of a list, and is as long as
+/// the longest of them. What stands in it behind the header, and after a fault, is of no use.
+///
+/// The body is read straight into the vector, in as few reads as the shelf gives it, and memory is taken as
 /// bytes come: at first 4,096 bytes, then as many as came so far. So a short list never costs more than these or twice what it gave,
 /// whatever length it claims.
 ///
@@ -78,8 +86,9 @@ fn read_behind<S: Shelf>(alloc: Global, shelf: &mut S, intro: &[u8]) -> Result<V
 /// `TooManyEntries` and `TooMuchData` by its two lengths; `Short` where its body is cut. A fault says
 /// nothing of what follows it, so the list isn't to be read on. `ReadFault` only where a read failed, and `NoMemory` where no memory
 /// was found.
-pub fn next_header<S: Shelf>(alloc: Global, shelf: &mut S) -> Result<Option<Vec<u8>>, ListFault>
-    ensures answers { IsTrue S.tells → AnswersNext (S.rest shelf.old) (S.rest shelf.new) result }
+pub fn read_header<S: Shelf>(shelf: &mut S, room: &mut Vec<u8>) -> Result<Option<usize>, ListFault>
+    ensures within { IfOk result (λ found. IfSome found (λ size. size ≤ vec_len room.new)) }
+    ensures answers { IsTrue S.tells → AnswersNextIn (S.rest shelf.old) (S.rest shelf.new) room.new.items result }
     ensures browses { Browses S.tells S.paths S.rest S.absences S.faults shelf.old shelf.new }
     ensures cause { HasCauseAt (result ≡ Err ListFault.ReadFault) (S.faults shelf.old) (S.faults shelf.new) }
 {
@@ -94,6 +103,27 @@ pub fn next_header<S: Shelf>(alloc: Global, shelf: &mut S) -> Result<Option<Vec<
     if count < 16 {
         return Err(ListFault::Short);
     }
-    let blob = read_behind(alloc, shelf, &intro)?;
-    Ok(Some(blob))
+    let size = read_behind(shelf, room, &intro)?;
+    Ok(Some(size))
+}
+
+/// Reads the next header of the list that is open, as `read_header` does, into a vector of its own, which has exactly the header's bytes.
+///
+/// # Errors
+///
+/// Those of `read_header`.
+pub fn next_header<S: Shelf>(alloc: Global, shelf: &mut S) -> Result<Option<Vec<u8>>, ListFault>
+    ensures answers { IsTrue S.tells → AnswersNext (S.rest shelf.old) (S.rest shelf.new) result }
+    ensures browses { Browses S.tells S.paths S.rest S.absences S.faults shelf.old shelf.new }
+    ensures cause { HasCauseAt (result ≡ Err ListFault.ReadFault) (S.faults shelf.old) (S.faults shelf.new) }
+{
+    let mut blob = Vec::new(alloc);
+    match read_header(shelf, &mut blob) {
+        Ok(Some(size)) => {
+            blob.truncate(size);
+            Ok(Some(blob))
+        }
+        Ok(None) => Ok(None),
+        Err(fault) => Err(fault),
+    }
 }

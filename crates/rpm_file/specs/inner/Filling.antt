@@ -1,5 +1,5 @@
 -- Reads that go on until enough bytes have come.
-use Rattle.std.specs.Prelude.{◌≡◌, ℕ, ◌<◌, Bool, false, List, [], ◌++◌, length, take, Option}
+use Rattle.std.specs.Prelude.{◌≡◌, ℕ, ◌<◌, List, [], ◌++◌, length, take, Option}
 use Rattle.std.proofs.Common.{ap, ◌∙◌, append_assoc}
 use Rattle.rpm_file.specs.declared.fault.ListFault.{ListFault}
 use Rattle.rpm_file.specs.declared.fault.ListFault.TheVariants as fault
@@ -24,9 +24,9 @@ pub record Extends (old new : Option (List ℕ)) (before now : List ℕ) : Type 
   pub front : Takes old new more
 
 -- and fewer than so many in all came only where nothing is left
-pub record Appends (old new : Option (List ℕ)) (before : List ℕ) (size : ℕ) (all : Bool) (now : List ℕ) : Type 0 where
+pub record Appends (old new : Option (List ℕ)) (before : List ℕ) (size : ℕ) (now : List ℕ) : Type 0 where
   pub extends : Extends old new before now
-  pub ended : all ≡ false → (length now < size) × (left new ≡ [])
+  pub ended : length now < size → left new ≡ []
 
 pub extends_then : (a b c : Option (List ℕ)) (xs ys zs : List ℕ) → Extends a b xs ys → Extends b c ys zs → Extends a c xs zs
 extends_then a b c xs ys zs first second = record {

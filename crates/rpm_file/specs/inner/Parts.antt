@@ -1,5 +1,5 @@
 -- What the calls for one part answer.
-use Rattle.std.specs.Prelude.{◌≡◌, ℕ, ◌<◌, List, ◌++◌, length, Option, Result, Ok, Err, Vec}
+use Rattle.std.specs.Prelude.{◌≡◌, ℕ, ◌<◌, List, ◌++◌, length, take, Option, Result, Ok, Err, Vec}
 use Rattle.std.specs.declared.alloc.Global.{Global}
 use Rattle.rpm_header.specs.Header.{Header, header}
 use Rattle.rpm_file.specs.declared.fault.ListFault.{ListFault}
@@ -11,10 +11,10 @@ use Rattle.rpm_file.specs.List.{front_header}
 use Rattle.rpm_file.specs.Package.{headed, read_again}
 use Rattle.rpm_file.specs.Answers.{IsListFault, IsFileFault}
 
--- of a header whose first 16 bytes were taken before
-abbrev pub AnswersBehind : List ℕ → Option (List ℕ) → Option (List ℕ) → Result (Vec ℕ Global) ListFault → Type 0
-AnswersBehind intro old new (Ok blob) = front_header (intro ++ left old) ≡ Ok (record { blob = blob.items; rest = left new })
-AnswersBehind intro old new (Err fault) = IsListFault (front_header (intro ++ left old)) fault
+-- of a header whose first 16 bytes were taken before, and whose own bytes are put in front of a row
+abbrev pub AnswersBehind : List ℕ → Option (List ℕ) → Option (List ℕ) → List ℕ → Result ℕ ListFault → Type 0
+AnswersBehind intro old new room (Ok size) = front_header (intro ++ left old) ≡ Ok (record { blob = take size room; rest = left new })
+AnswersBehind intro old new room (Err fault) = IsListFault (front_header (intro ++ left old)) fault
 
 -- exactly these bytes are taken, where there are so many
 abbrev pub AnswersTake : {X : Type 0} → Option (List ℕ) → Option (List ℕ) → List ℕ → Result X FileFault → Type 0

@@ -1,7 +1,7 @@
 use Rattle.std.proofs.Common.{arith}
 use Rattle.rpm_outside.specs.inner.Browsing.{browses_then}
 use Rattle.rpm_file.proofs.Listed.{short_fill}
-use Rattle.rpm_file.proofs.list.next_header.Goals as goal
+use Rattle.rpm_file.proofs.list.read_header.Goals as goal
 
 pub returns-then-count-lt16-clause-answers : goal.returns-then-count-lt16-clause-answers
 returns-then-count-lt16-clause-answers g c = λ told.
@@ -9,8 +9,8 @@ returns-then-count-lt16-clause-answers g c = λ told.
     short_fill (g.S.Shelf.rest c.args.shelf.now) (g.S.Shelf.rest c.fill.new.shelf) c.in-Ok.count c.fill.new.into (c.in-Ok.ensures.fills told)
     (omega arith) c.if-count-lt16.true c.fill.auto.into
 
-pub returns-in_err-blob-clause-browses : goal.returns-in_err-blob-clause-browses
-returns-in_err-blob-clause-browses g c = browses_then g.S.Shelf.tells g.S.Shelf.paths g.S.Shelf.rest g.S.Shelf.absences g.S.Shelf.faults
+pub returns-in_err-size-clause-browses : goal.returns-in_err-size-clause-browses
+returns-in_err-size-clause-browses g c = browses_then g.S.Shelf.tells g.S.Shelf.paths g.S.Shelf.rest g.S.Shelf.absences g.S.Shelf.faults
     c.args.shelf.now c.fill.new.shelf c.read_behind.new.shelf c.fill.ensures.browses c.read_behind.ensures.browses
 
 pub returns-clause-browses : goal.returns-clause-browses

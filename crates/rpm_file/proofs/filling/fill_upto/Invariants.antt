@@ -1,0 +1,17 @@
+use Rattle.std.proofs.Common.{◌≡◌, ◌≤◌, ◌-◌, take, vec_len}
+use Rattle.std.specs.Prelude.{IsTrue}
+use Rattle.rpm_outside.specs.Browses.{Browses}
+use Rattle.rpm_file.specs.inner.Filling.{Extends}
+use Rattle.rpm_file.proofs.filling.fill_upto.Given as goal
+
+abbrev pub invariant-loop-done : goal.invariant-loop-done
+invariant-loop-done g l = record {
+  within : l.done ≤ l.size;
+  long : l.done ≤ vec_len l.room;
+  more : IsTrue g.S.Shelf.tells → Extends (g.S.Shelf.rest l.initial.shelf) (g.S.Shelf.rest l.shelf) (take l.from l.initial.room.items)
+      (take l.done l.room.items);
+  browses : Browses g.S.Shelf.tells g.S.Shelf.paths g.S.Shelf.rest g.S.Shelf.absences g.S.Shelf.faults l.initial.shelf l.shelf;
+}
+
+abbrev pub decreases-loop-done : goal.decreases-loop-done
+decreases-loop-done g l = l.size - l.done
