@@ -1,3 +1,4 @@
+pub mod Added
 pub mod Bounds
 pub mod Courses
 pub mod Dropped
@@ -10,6 +11,7 @@ pub mod Listed
 pub mod Placed
 pub mod Rebuilt
 pub mod Stops
+pub mod Taken
 pub mod Told
 pub mod Texts
 pub mod Turned

@@ -14,7 +14,7 @@ use Rattle.rpm_db.specs.Changes.{Change}
 use Rattle.rpm_db.specs.State.{State}
 use Rattle.rpm_pkgdb.specs.Store.{Store}
 use Rattle.rpm_change.specs.Steps.{Course}
-use Rattle.rpm_change.specs.Turns.{Leaves, StopIs, tally_of, IsOfHeaders, IsOfImporting}
+use Rattle.rpm_change.specs.Turns.{Leaves, StopIs, tally_of, IsOfHeaders, IsOfEnding, IsOfImporting}
 use Rattle.rpm_change.specs.Endings.{Outputs, Through, Ended, IndexTurn, IsOfLines}
 use Rattle.rpm_change.specs.Limits.{LimitsTurn}
 use Rattle.rpm_change.proofs.Drops.{none_gone}
@@ -37,17 +37,17 @@ headers_of (Err halt.ShelfFault) k = tt
 headers_of (Err halt.ErrFault) k = tt
 headers_of (Err halt.NoMemory) k = tt
 
--- a line is one of those that a header may have
-pub line_kinds : (w : Result Tally Halt) → IfErr w IsOfLines → IfErr w IsOfHeaders
+-- a line is one of the ends of a list
+pub line_kinds : (w : Result Tally Halt) → IfErr w IsOfLines → IfErr w IsOfEnding
 line_kinds (Ok t) k = tt
 line_kinds (Err halt.OutFault) k = k
-line_kinds (Err halt.NumbersSpent) k = tt
-line_kinds (Err halt.GenerationSpent) k = tt
-line_kinds (Err halt.StoreFull) k = tt
-line_kinds (Err (halt.IndexFull needed)) k = tt
-line_kinds (Err (halt.BadIndex unit)) k = tt
-line_kinds (Err halt.DiskFault) k = tt
-line_kinds (Err halt.ShelfFault) k = k
+line_kinds (Err halt.NumbersSpent) k = k
+line_kinds (Err halt.GenerationSpent) k = k
+line_kinds (Err halt.StoreFull) k = k
+line_kinds (Err (halt.IndexFull needed)) k = k
+line_kinds (Err (halt.BadIndex unit)) k = k
+line_kinds (Err halt.DiskFault) k = k
+line_kinds (Err halt.ShelfFault) k = tt
 line_kinds (Err halt.ErrFault) k = tt
 line_kinds (Err halt.NoMemory) k = tt
 
@@ -127,11 +127,8 @@ module _ (fault : ListFault) (h : Halt) (stop : StopIs fault (Some h)) where
     | inr e ↦ rw e (read_limits s v w changes halt.NoMemory tt)
   ]
 
-  pub stop_kinds : IsOfImporting h
+  pub stop_kinds : IsOfEnding h
   stop_kinds = elim (stop_is fault h stop) [ inl a ↦ (let e : h ≡ halt.ShelfFault = a.0 in rw e tt) | inr e ↦ rw e tt ]
-
-  pub stop_disk : h ≡ halt.DiskFault → ⊥
-  stop_disk is = elim (stop_is fault h stop) [ inl a ↦ (let e : h ≡ halt.ShelfFault = a.0 in cc) | inr e ↦ cc ]
 
   pub stop_err : h ≡ halt.ErrFault → ⊥
   stop_err is = elim (stop_is fault h stop) [ inl a ↦ (let e : h ≡ halt.ShelfFault = a.0 in cc) | inr e ↦ cc ]

@@ -51,6 +51,13 @@ IsOfHeaders halt.ShelfFault = ⊥
 IsOfHeaders halt.OutFault = ⊥
 IsOfHeaders others = Unit {0}
 
+-- what ends a list changes nothing
+abbrev pub IsOfEnding : Halt → Type 0
+IsOfEnding halt.ShelfFault = Unit {0}
+IsOfEnding halt.ErrFault = Unit {0}
+IsOfEnding halt.NoMemory = Unit {0}
+IsOfEnding others = ⊥
+
 -- importing writes no line to out
 abbrev pub IsOfImporting : Halt → Type 0
 IsOfImporting halt.OutFault = ⊥

@@ -1,28 +1,31 @@
 //! Importing a list of headers.
 
-ghost use Rattle.std.specs.Prelude.{◌≡◌, ℕ, ◌+◌, ◌^◌, ◌<◌, ◌≤◌, Bool, List, [], codes, true, false, IsTrue, Ok, Err, IfOk, IfErr, if◌then◌else◌, nat_lt};
+ghost use Rattle.std.specs.Prelude.{◌≡◌, ℕ, ◌+◌, ◌^◌, ◌<◌, ◌≤◌, Bool, List, [], codes, true, false, IsTrue, Option, Result, Ok, Err, IfOk, IfErr, OnOk, if◌then◌else◌, nat_lt};
 ghost use Rattle.rpm_header.specs.Header.{header};
 ghost use Rattle.rpm_outside.specs.Browses.{left, Browses};
 ghost use Rattle.rpm_outside.specs.Buffered.{inner, holds, HandsOn};
 ghost use Rattle.rpm_outside.specs.Causes.{HasCauseAt};
 ghost use Rattle.rpm_outside.specs.Shelves.{bytes_at};
-ghost use Rattle.rpm_file.specs.List.{list_head};
+ghost use Rattle.rpm_file.specs.declared.fault.ListFault.{ListFault};
+ghost use Rattle.rpm_file.specs.Answers.{IsListFault};
+ghost use Rattle.rpm_file.specs.List.{Found, list_head};
 ghost use Rattle.rpm_db.specs.Changes.{IsServing};
 ghost use Rattle.rpm_db.specs.Database.{IsIndexed, is_indexed};
 ghost use Rattle.rpm_db.specs.Runs.{Runs};
-ghost use Rattle.rpm_db.specs.State.{state};
+ghost use Rattle.rpm_db.specs.State.{State, state};
+ghost use Rattle.rpm_pkgdb.specs.Store.{Store};
 ghost use Rattle.rpm_db.specs.inner.Writes.{SameLog};
 ghost use Rattle.rpm_change.specs.Endings.{outputs, Ended, IsCarried, IndexTurn};
 ghost use Rattle.rpm_change.specs.Importing.{place_fails, imported, import_listed, import_list, listed, max_headers};
 ghost use Rattle.rpm_change.specs.Limits.{SpentTurn, StoreTurn, LimitsTurn};
 ghost use Rattle.rpm_change.specs.Numbers.{NumbersTurn};
-ghost use Rattle.rpm_change.specs.Turns.{turn, turn_found, Leaves, StopIs, tally_of, counted_once, IsOfHeaders, IsOfImporting};
+ghost use Rattle.rpm_change.specs.Turns.{turn, turn_found, Leaves, StopIs, tally_of, counted_once, IsOfHeaders, IsOfEnding, IsOfImporting};
 
 use crate::lines::put_failing;
 use crate::places::{list_text, put_bad_header, put_place};
 use crate::tally::{Halt, Tally, halt_of};
 use rpm_db::{ChangeFault, Db};
-use rpm_file::{ListFault, next_header};
+use rpm_file::{ListFault, read_header};
 use rpm_outside::{Absent, Buffered, Disk, Shelf, Sink};
 use std::alloc::Global;
 
@@ -140,12 +143,42 @@ fn import_within<D: Disk, E: Sink + Drop>(
     }
 }
 
-/// Takes what stands at a place of the list, and imports it, or writes to err what is wrong with it.
+/// What a fault of the list comes to: the command stops, or the list ends with a line on err.
+fn end_list<E: Sink + Drop>(
+    alloc: Global,
+    place: u32,
+    fault: ListFault,
+    err: &mut Buffered<E>,
+) -> Result<Tally, Halt>
+    requires err_empty { holds err.old ≡ [] }
+    ensures ended { (most : ℕ) (head : Result (Option Found) ListFault) → IsListFault head fault → (s : State) (out_tells : Bool) (out : List ℕ)
+        → Ended (turn most place head) s s result
+        (outputs out_tells out E.tells (E.taken (inner err.old))) (outputs out_tells out E.tells (E.taken (inner err.new))) }
+    ensures room { (most : ℕ) (head : Result (Option Found) ListFault) → IsListFault head fault → (s : State)
+        → IndexTurn s (turn most place head).changes result }
+    ensures limits { (most : ℕ) (head : Result (Option Found) ListFault) → IsListFault head fault → (s : State) (store : Store)
+        → LimitsTurn s store store (turn most place head).changes result }
+    ensures leaves { OnOk result ((most : ℕ) (head : Result (Option Found) ListFault) → IsListFault head fault → (bytes : List ℕ)
+        → Leaves most place head true bytes) }
+    ensures one { IfOk result (λ tally. tally.failed + tally.changes ≤ 1) }
+    ensures kinds { IfErr result IsOfEnding }
+    ensures shelf { result ≡ Err Halt.ShelfFault → fault ≡ ListFault.ReadFault }
+    ensures err { HasCauseAt (result ≡ Err Halt.ErrFault) (E.faults (inner err.old)) (E.faults (inner err.new)) }
+    ensures err_rest { HandsOn E.follows err.old err.new }
+{
+    match stop_of(fault) {
+        Some(halt) => Err(halt),
+        None => put_place(alloc, err, place, list_text(fault)),
+    }
+}
+
+/// Takes what stands at a place of the list, and imports it, or writes to err what is wrong with it. The header is read into `room`.
 fn import_next<D: Disk, S: Shelf, E: Sink + Drop>(
     alloc: Global,
     db: &mut Db,
     disk: &mut D,
     shelf: &mut S,
+    room: &mut Vec<u8>,
     most: u32,
     place: u32,
     err: &mut Buffered<E>,
@@ -176,9 +209,9 @@ fn import_next<D: Disk, S: Shelf, E: Sink + Drop>(
     ensures err { HasCauseAt (result ≡ Err Halt.ErrFault) (E.faults (inner err.old)) (E.faults (inner err.new)) }
     ensures err_rest { HandsOn E.follows err.old err.new }
 {
-    match next_header(alloc, shelf) {
-        Ok(Some(blob)) => {
-            let done = import_within(alloc, db, disk, most, place, &blob, err);
+    match read_header(shelf, room) {
+        Ok(Some(size)) => {
+            let done = import_within(alloc, db, disk, most, place, &room[..size], err);
             as_turn(done, most < place)
         }
         Ok(None) => Ok(Turn {
@@ -188,10 +221,7 @@ fn import_next<D: Disk, S: Shelf, E: Sink + Drop>(
             },
             is_last: true,
         }),
-        Err(fault) => match stop_of(fault) {
-            Some(halt) => Err(halt),
-            None => as_turn(put_place(alloc, err, place, list_text(fault)), true),
-        },
+        Err(fault) => as_turn(end_list(alloc, place, fault, err), true),
     }
 }
 
@@ -233,8 +263,9 @@ fn import_open<D: Disk, S: Shelf, E: Sink + Drop>(
     let mut changes = 0u32;
     let mut place = 1u32;
     let mut is_last = false;
+    let mut room = Vec::new(alloc);
     while !is_last {
-        match import_next(alloc, db, disk, shelf, most, place, err) {
+        match import_next(alloc, db, disk, shelf, &mut room, most, place, err) {
             Ok(turn) => {
                 failed += turn.tally.failed;
                 changes += turn.tally.changes;
@@ -301,9 +332,9 @@ pub(crate) fn import_most<D: Disk, S: Shelf, E: Sink + Drop>(
 }
 
 /// Imports the header list under the path `-`, the standard input: each of its headers is added as it is, one at a time, with nothing but
-/// the present one in memory. A header that is none has a line on `err` and is passed over. A fault of the list has a line and ends it, and
-/// so has one header too many: at most 16777215 are taken. An absent `-` has a line too. The command counts as one argument, which fails
-/// once, however many lines there are.
+/// the present one in memory, in a vector that is kept from one to the next and is as long as the longest so far. A header that is none has
+/// a line on `err` and is passed over. A fault of the list has a line and ends it, and so has one header too many: at most 16777215 are
+/// taken. An absent `-` has a line too. The command counts as one argument, which fails once, however many lines there are.
 ///
 /// The disk may be an overlay: then all changes can be committed as one. After an `Err` the database isn't to be used further.
 ///

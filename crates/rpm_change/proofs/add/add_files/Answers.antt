@@ -1,4 +1,4 @@
-use Rattle.std.proofs.Common.{◌+◌, true, [], map, get_or, drop, refl, ◌∙◌, subst, Ok, Err, arith}
+use Rattle.std.proofs.Common.{◌+◌, true, [], map, get_or, drop, refl, ◌∙◌, subst, Ok, arith}
 use Rattle.rpm_outside.specs.Buffered.{inner}
 use Rattle.rpm_outside.specs.Shelves.{Paths}
 use Rattle.rpm_db.specs.Database.{IsIndexed}
@@ -6,12 +6,13 @@ use Rattle.rpm_db.specs.State.{state}
 use Rattle.rpm_db.specs.inner.Running.{runs_none, runs_then}
 use Rattle.rpm_db.specs.inner.Writes.{SameLog}
 use Rattle.rpm_change.specs.Adding.{add_file, add_files}
-use Rattle.rpm_change.specs.Endings.{outputs, Done, Ended, AllHaveRoom, IndexTurn}
+use Rattle.rpm_change.specs.Endings.{outputs, Done, AllHaveRoom}
 use Rattle.rpm_change.specs.Limits.{LimitsTurn}
-use Rattle.rpm_change.specs.Steps.{in_turn, apply_all}
-use Rattle.rpm_change.proofs.Courses.{halfway_start, halfway_more, halfway_stop, halfway_turn, halfway_end, halfway_room}
+use Rattle.rpm_change.specs.Steps.{in_turn}
+use Rattle.rpm_change.proofs.Added.{files_stop, files_turn, files_limits, files_end, files_room}
+use Rattle.rpm_change.proofs.Courses.{halfway_start, halfway_more}
 use Rattle.rpm_change.proofs.Filed.{bytes, nothing, path_next, path_none}
-use Rattle.rpm_change.proofs.Limits.{limited_start, limited_more, path_limits, limited_end}
+use Rattle.rpm_change.proofs.Limits.{limited_start, limited_more, limited_end}
 use Rattle.rpm_change.proofs.add.add_files.Goals as goal
 
 pub loop-path-init : goal.loop-path-init
@@ -41,39 +42,34 @@ loop-path-preserved g c =
     let xs = c.args.paths.now in
     let inv = c.loop-path.invariant in
     let done = c.in-Ok.ensures in
+    let kept = done.carried in
     let ps = g.S.Shelf.paths c.args.shelf.now in
     let each = add_file c.args.now ps in
     let s = state (g.D.Disk.files c.args.disk.now).pkg c.args.db.now.store in
     let t = state (g.D.Disk.files c.loop-path.disk).pkg c.loop-path.db.store in
     let u = state (g.D.Disk.files c.put_file.new.disk).pkg c.put_file.new.db.store in
     let P = IsIndexed (g.D.Disk.files c.args.disk.now).pkg (g.D.Disk.files c.args.disk.now).idx c.args.db.now in
-    let e = g.E.Sink.taken (inner c.args.err.now) in
     let e' = g.E.Sink.taken (inner c.loop-path.err) in
     let e'' = g.E.Sink.taken (inner c.put_file.new.err) in
     let path = bytes (get_or xs k nothing) in
-    let turn = each t k path in
     let rest = in_turn each u (k + 1) (map bytes (drop (k + 1) xs)) in
     record {
       goes = λ told shelf_told out_tells out.
           let ended = subst (λ (qs : Paths). Done (add_file c.args.now qs t k path) t u c.in-Ok.tally (outputs out_tells out g.E.Sink.tells e')
           (outputs out_tells out g.E.Sink.tells e'')) (inv.paths shelf_told) (done.ended told shelf_told k out_tells out) in
-          halfway_more out_tells g.E.Sink.tells P (in_turn each s 0 (map bytes xs)) (in_turn each t k (map bytes (drop k xs))) turn rest s t u
-          c.loop-path.failed c.loop-path.changes out out out e e' e'' (path_next each xs k t u (omega arith) ended.state_is)
+          halfway_more out_tells g.E.Sink.tells P (in_turn each s 0 (map bytes xs)) (in_turn each t k (map bytes (drop k xs))) (each t k path) rest s t u
+          c.loop-path.failed c.loop-path.changes out out out _ e' e'' (path_next each xs k t u (omega arith) ended.state_is)
           (inv.goes told shelf_told out_tells out) c.in-Ok.tally ended
           (λ rows. subst (λ (qs : Paths). AllHaveRoom t (add_file c.args.now qs t k path).changes) (inv.paths shelf_told)
           (done.room told shelf_told (inv.carried.index told rows) k));
       limited = λ told shelf_told.
           let ended = subst (λ (qs : Paths). Done (add_file c.args.now qs t k path) t u c.in-Ok.tally (outputs true [] g.E.Sink.tells e')
           (outputs true [] g.E.Sink.tells e'')) (inv.paths shelf_told) (done.ended told shelf_told k true []) in
-          limited_more _ _ turn rest _ _ _ _ _ (path_next each xs k t u (omega arith) ended.state_is) (inv.limited told shelf_told) u c.in-Ok.tally
+          limited_more _ _ (each t k path) rest _ _ _ _ _ (path_next each xs k t u (omega arith) ended.state_is) (inv.limited told shelf_told) u c.in-Ok.tally
           ended.state_is (subst (λ (qs : Paths). LimitsTurn t c.loop-path.db.store c.put_file.new.db.store (add_file c.args.now qs t k path).changes
           (Ok c.in-Ok.tally)) (inv.paths shelf_told) (done.limits told shelf_told k));
       few = omega (arith, inv.few, done.one);
-      carried = record {
-        going = done.carried.going;
-        serving = done.carried.serving;
-        index = λ told rows. done.carried.index told (inv.carried.index told rows);
-      };
+      carried = record { going = kept.going; serving = kept.serving; index = λ told rows. kept.index told (inv.carried.index told rows) };
       indexed = c.put_file.ensures.indexed;
       runs = runs_then g.D.Disk.tells g.D.Disk.files g.D.Disk.left_since g.D.Disk.moment g.D.Disk.bytes_read g.D.Disk.follows g.met.D.Disk.follows_trans
           SameLog SameLog SameLog c.args.disk.now c.loop-path.disk c.put_file.new.disk (λ x y log. log) (λ x y z first second. second ∙ first)
@@ -90,74 +86,34 @@ loop-path-preserved g c =
 
 pub returns-in-Err-clause-ended : goal.returns-in-Err-clause-ended
 returns-in-Err-clause-ended g c = λ told shelf_told out_tells out.
-    let k = c.loop-path.path-index in
-    let xs = c.args.paths.now in
-    let inv = c.loop-path.invariant in
-    let each = add_file c.args.now (g.S.Shelf.paths c.args.shelf.now) in
-    let s = state (g.D.Disk.files c.args.disk.now).pkg c.args.db.now.store in
-    let t = state (g.D.Disk.files c.loop-path.disk).pkg c.loop-path.db.store in
-    let u = state (g.D.Disk.files c.put_file.new.disk).pkg c.put_file.new.db.store in
-    let P = IsIndexed (g.D.Disk.files c.args.disk.now).pkg (g.D.Disk.files c.args.disk.now).idx c.args.db.now in
-    let e' = g.E.Sink.taken (inner c.loop-path.err) in
-    let e'' = g.E.Sink.taken (inner c.put_file.new.err) in
-    let path = bytes (get_or xs k nothing) in
-    let turn = each t k path in
-    let v = apply_all turn.changes t in
-    halfway_stop out_tells g.E.Sink.tells P (in_turn each s 0 (map bytes xs)) (in_turn each t k (map bytes (drop k xs))) turn
-    (in_turn each v (k + 1) (map bytes (drop (k + 1) xs))) s t u c.loop-path.failed c.loop-path.changes out out out
-    (g.E.Sink.taken (inner c.args.err.now)) e' e'' (path_next each xs k t v (omega arith) refl) (inv.goes told shelf_told out_tells out) c.in-Err.halt
-    (subst (λ (qs : Paths). Ended (add_file c.args.now qs t k path) t u (Err c.in-Err.halt) (outputs out_tells out g.E.Sink.tells e')
-    (outputs out_tells out g.E.Sink.tells e'')) (inv.paths shelf_told) (c.in-Err.ensures.ended told shelf_told k out_tells out))
+    files_stop c.args.now _ _ c.args.paths.now c.loop-path.path-index _ _ (c.loop-path.invariant.paths shelf_told) out_tells g.E.Sink.tells
+    (IsIndexed (g.D.Disk.files c.args.disk.now).pkg (g.D.Disk.files c.args.disk.now).idx c.args.db.now)
+    (state (g.D.Disk.files c.put_file.new.disk).pkg c.put_file.new.db.store) _ _ out out out _ _ (g.E.Sink.taken (inner c.put_file.new.err)) (omega arith)
+    (c.loop-path.invariant.goes told shelf_told out_tells out) c.in-Err.halt
+    (c.in-Err.ensures.ended told shelf_told c.loop-path.path-index out_tells out)
 
 pub returns-in-Err-clause-room : goal.returns-in-Err-clause-room
 returns-in-Err-clause-room g c = λ told shelf_told rows.
-    let k = c.loop-path.path-index in
-    let xs = c.args.paths.now in
-    let inv = c.loop-path.invariant in
-    let each = add_file c.args.now (g.S.Shelf.paths c.args.shelf.now) in
-    let s = state (g.D.Disk.files c.args.disk.now).pkg c.args.db.now.store in
-    let t = state (g.D.Disk.files c.loop-path.disk).pkg c.loop-path.db.store in
-    let u = state (g.D.Disk.files c.put_file.new.disk).pkg c.put_file.new.db.store in
-    let P = IsIndexed (g.D.Disk.files c.args.disk.now).pkg (g.D.Disk.files c.args.disk.now).idx c.args.db.now in
-    let path = bytes (get_or xs k nothing) in
-    let turn = each t k path in
-    let v = apply_all turn.changes t in
-    halfway_turn true g.E.Sink.tells P (in_turn each s 0 (map bytes xs)) (in_turn each t k (map bytes (drop k xs))) turn
-    (in_turn each v (k + 1) (map bytes (drop (k + 1) xs))) s t u c.loop-path.failed c.loop-path.changes [] [] [] (g.E.Sink.taken (inner c.args.err.now))
-    (g.E.Sink.taken (inner c.loop-path.err)) (g.E.Sink.taken (inner c.put_file.new.err)) (path_next each xs k t v (omega arith) refl)
-    (inv.goes told shelf_told true []) c.in-Err.halt rows
-    (subst (λ (qs : Paths). IndexTurn t (add_file c.args.now qs t k path).changes (Err c.in-Err.halt)) (inv.paths shelf_told)
-    (c.in-Err.ensures.room told shelf_told (inv.carried.index told rows) k))
+    files_turn c.args.now _ _ c.args.paths.now c.loop-path.path-index _ _ (c.loop-path.invariant.paths shelf_told) true g.E.Sink.tells
+    (IsIndexed (g.D.Disk.files c.args.disk.now).pkg (g.D.Disk.files c.args.disk.now).idx c.args.db.now)
+    (state (g.D.Disk.files c.put_file.new.disk).pkg c.put_file.new.db.store) _ _ [] [] [] _ _ (g.E.Sink.taken (inner c.put_file.new.err)) (omega arith)
+    (c.loop-path.invariant.goes told shelf_told true []) c.in-Err.halt rows
+    (c.in-Err.ensures.room told shelf_told (c.loop-path.invariant.carried.index told rows) c.loop-path.path-index)
 
 pub returns-in-Err-clause-numbers : goal.returns-in-Err-clause-numbers
 returns-in-Err-clause-numbers g c = λ told shelf_told.
-    let k = c.loop-path.path-index in
-    let path = bytes (get_or c.args.paths.now k nothing) in
-    let t = state (g.D.Disk.files c.loop-path.disk).pkg c.loop-path.db.store in
-    (path_limits (add_file c.args.now (g.S.Shelf.paths c.args.shelf.now)) c.args.paths.now k _ _ _ _ _ (omega arith)
-    (c.loop-path.invariant.limited told shelf_told) c.in-Err.halt
-    (subst (λ (qs : Paths). LimitsTurn t c.loop-path.db.store c.put_file.new.db.store (add_file c.args.now qs t k path).changes (Err c.in-Err.halt))
-    (c.loop-path.invariant.paths shelf_told) (c.in-Err.ensures.limits told shelf_told k))).numbers
+    (files_limits c.args.now _ _ c.args.paths.now c.loop-path.path-index _ _ (c.loop-path.invariant.paths shelf_told) _ _ _ (omega arith)
+    (c.loop-path.invariant.limited told shelf_told) c.in-Err.halt (c.in-Err.ensures.limits told shelf_told c.loop-path.path-index)).numbers
 
 pub returns-in-Err-clause-generation : goal.returns-in-Err-clause-generation
 returns-in-Err-clause-generation g c = λ told shelf_told.
-    let k = c.loop-path.path-index in
-    let path = bytes (get_or c.args.paths.now k nothing) in
-    let t = state (g.D.Disk.files c.loop-path.disk).pkg c.loop-path.db.store in
-    (path_limits (add_file c.args.now (g.S.Shelf.paths c.args.shelf.now)) c.args.paths.now k _ _ _ _ _ (omega arith)
-    (c.loop-path.invariant.limited told shelf_told) c.in-Err.halt
-    (subst (λ (qs : Paths). LimitsTurn t c.loop-path.db.store c.put_file.new.db.store (add_file c.args.now qs t k path).changes (Err c.in-Err.halt))
-    (c.loop-path.invariant.paths shelf_told) (c.in-Err.ensures.limits told shelf_told k))).generation
+    (files_limits c.args.now _ _ c.args.paths.now c.loop-path.path-index _ _ (c.loop-path.invariant.paths shelf_told) _ _ _ (omega arith)
+    (c.loop-path.invariant.limited told shelf_told) c.in-Err.halt (c.in-Err.ensures.limits told shelf_told c.loop-path.path-index)).generation
 
 pub returns-in-Err-clause-store_room : goal.returns-in-Err-clause-store_room
 returns-in-Err-clause-store_room g c = λ told shelf_told.
-    let k = c.loop-path.path-index in
-    let path = bytes (get_or c.args.paths.now k nothing) in
-    let t = state (g.D.Disk.files c.loop-path.disk).pkg c.loop-path.db.store in
-    (path_limits (add_file c.args.now (g.S.Shelf.paths c.args.shelf.now)) c.args.paths.now k _ _ _ _ _ (omega arith)
-    (c.loop-path.invariant.limited told shelf_told) c.in-Err.halt
-    (subst (λ (qs : Paths). LimitsTurn t c.loop-path.db.store c.put_file.new.db.store (add_file c.args.now qs t k path).changes (Err c.in-Err.halt))
-    (c.loop-path.invariant.paths shelf_told) (c.in-Err.ensures.limits told shelf_told k))).store_room
+    (files_limits c.args.now _ _ c.args.paths.now c.loop-path.path-index _ _ (c.loop-path.invariant.paths shelf_told) _ _ _ (omega arith)
+    (c.loop-path.invariant.limited told shelf_told) c.in-Err.halt (c.in-Err.ensures.limits told shelf_told c.loop-path.path-index)).store_room
 
 pub returns-in-Err-clause-runs : goal.returns-in-Err-clause-runs
 returns-in-Err-clause-runs g c =
@@ -167,27 +123,13 @@ returns-in-Err-clause-runs g c =
 
 pub returns-clause-ended : goal.returns-clause-ended
 returns-clause-ended g c = λ told shelf_told out_tells out.
-    let k = c.loop-path.path-index in
-    let xs = c.args.paths.now in
-    let each = add_file c.args.now (g.S.Shelf.paths c.args.shelf.now) in
-    let s = state (g.D.Disk.files c.args.disk.now).pkg c.args.db.now.store in
-    let t = state (g.D.Disk.files c.loop-path.disk).pkg c.loop-path.db.store in
-    let P = IsIndexed (g.D.Disk.files c.args.disk.now).pkg (g.D.Disk.files c.args.disk.now).idx c.args.db.now in
-    halfway_end out_tells g.E.Sink.tells P (in_turn each s 0 (map bytes xs)) (in_turn each t k (map bytes (drop k xs))) s t c.loop-path.failed
-    c.loop-path.changes out out (g.E.Sink.taken (inner c.args.err.now)) (g.E.Sink.taken (inner c.loop-path.err)) (path_none each xs k t (omega arith))
-    (c.loop-path.invariant.goes told shelf_told out_tells out)
+    files_end out_tells g.E.Sink.tells (IsIndexed (g.D.Disk.files c.args.disk.now).pkg (g.D.Disk.files c.args.disk.now).idx c.args.db.now)
+    c.args.now _ c.args.paths.now c.loop-path.path-index _ _ _ _ out out _ _ (omega arith) (c.loop-path.invariant.goes told shelf_told out_tells out)
 
 pub returns-clause-room : goal.returns-clause-room
 returns-clause-room g c = λ told shelf_told rows.
-    let k = c.loop-path.path-index in
-    let xs = c.args.paths.now in
-    let each = add_file c.args.now (g.S.Shelf.paths c.args.shelf.now) in
-    let s = state (g.D.Disk.files c.args.disk.now).pkg c.args.db.now.store in
-    let t = state (g.D.Disk.files c.loop-path.disk).pkg c.loop-path.db.store in
-    let P = IsIndexed (g.D.Disk.files c.args.disk.now).pkg (g.D.Disk.files c.args.disk.now).idx c.args.db.now in
-    halfway_room true g.E.Sink.tells P (in_turn each s 0 (map bytes xs)) (in_turn each t k (map bytes (drop k xs))) s t c.loop-path.failed
-    c.loop-path.changes [] [] (g.E.Sink.taken (inner c.args.err.now)) (g.E.Sink.taken (inner c.loop-path.err)) (path_none each xs k t (omega arith))
-    (c.loop-path.invariant.goes told shelf_told true []) rows
+    files_room true g.E.Sink.tells (IsIndexed (g.D.Disk.files c.args.disk.now).pkg (g.D.Disk.files c.args.disk.now).idx c.args.db.now)
+    c.args.now _ c.args.paths.now c.loop-path.path-index _ _ _ _ [] [] _ _ (omega arith) (c.loop-path.invariant.goes told shelf_told true []) rows
 
 pub returns-clause-numbers : goal.returns-clause-numbers
 returns-clause-numbers g c = λ told shelf_told.
