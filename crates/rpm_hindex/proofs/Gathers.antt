@@ -1,8 +1,8 @@
 -- The rows that are kept, and what is written of them from scratch.
-use Rattle.std.proofs.Common.{◌≡◌, ℕ, zero, suc, ◌+◌, List, [], ◌∷◌, ◌++◌, map, Bool, Vec, Global, refl, sym, ap, ◌∙◌, arith, subst}
+use Rattle.std.proofs.Common.{◌≡◌, ℕ, zero, suc, ◌+◌, List, [], ◌∷◌, ◌++◌, map, Bool, cond, refl, sym, ap, ◌∙◌, arith, subst, inl, inr}
 use Rattle.std.specs.List.{filter, flat_map, range_with_len}
-use Rattle.std.proofs.lemmas.List.{append-nil, append_assoc}
-use Rattle.rpm_hindex.specs.declared.links.Link.{Link}
+use Rattle.std.proofs.lemmas.Bool.{cases_Bool, cond-true, cond-false}
+use Rattle.std.proofs.lemmas.List.{append-nil, append_assoc, map-append}
 use Rattle.rpm_hindex.specs.Rows.{Row, times}
 use Rattle.rpm_hindex.specs.Index.{Index, chain, row_at, places_of}
 use Rattle.rpm_hindex.specs.Answers.{HitsAre}
@@ -15,11 +15,12 @@ use Rattle.rpm_hindex.specs.Plans.{IsPlanFor}
 use Rattle.rpm_hindex.proofs.Seals.{image_held}
 use Rattle.rpm_hindex.proofs.Counts.{times-append}
 use Rattle.rpm_hindex.proofs.Same.{units_same_rows}
-use Rattle.rpm_hindex.specs.inner.Changes.{AreLinks, kept_below, row_of, IsScratchOf, HasLess, IsOther, IsTooLarge}
+use Rattle.rpm_hindex.specs.inner.Changes.{kept_below, IsScratchOf, HasLess, IsOther, IsTooLarge}
 use Rattle.rpm_hindex.specs.Refusals.{IsTooLargeFor}
 use Rattle.rpm_hindex.specs.declared.faults.PrepareFault.{PrepareFault}
 use Rattle.rpm_hindex.specs.declared.faults.PrepareFault.TheVariants.{IndexFull, BadIndex, DiskFault, NoMemory}
 use Rattle.rpm_hindex.proofs.Dropping.{of_places}
+use Rattle.rpm_hindex.proofs.Ways.{filter_last, filter_same}
 
 flat_more : (h : ℕ → List Row) (a n : ℕ) → flat_map h (range_with_len a (n + 1)) ≡ flat_map h (range_with_len a n) ++ h (a + n)
 flat_more h a zero = append-nil (h a) ∙ ap h (omega arith)
@@ -30,24 +31,33 @@ flat_more h a (suc n) =
     ∙ ap (λ (rs : List Row). h a ++ rs) (flat_more h (a + 1) n ∙ ap (λ (k : ℕ). flat_map h (range_with_len (a + 1) n) ++ h k) end)
     ∙ sym (append_assoc (h a) (flat_map h (range_with_len (a + 1) n)) (h (a + suc n)))
 
-links_rows : (u : ℕ → List ℕ) (qs : List ℕ) (ls : List Link) → AreLinks u qs ls → map (λ (l : Link). row_of l.«record») ls ≡ map (row_at u) qs
-links_rows u [] [] are = refl
-links_rows u [] (l ∷ ls) are = absurd are
-links_rows u (q ∷ qs) [] are = absurd are
-links_rows u (q ∷ qs) (l ∷ ls) are = ap (λ (r : Row). r ∷ map (λ (m : Link). row_of m.«record») ls) (sym are.0.row)
-    ∙ ap (λ (rs : List Row). row_at u q ∷ rs) (links_rows u qs ls are.1)
+-- one record more, kept or not
+pub kept_more : (row : ℕ → Row) (kept : ℕ → Bool) (done : List ℕ) (at : ℕ) (first old new : List Row) → old ≡ first ++ map row (filter kept done)
+    → new ≡ cond (kept at) (old ++ row at ∷ []) old → new ≡ first ++ map row (filter kept (done ++ at ∷ []))
+kept_more row kept done at first old new so_far is = elim (cases_Bool (kept at)) [
+  | inl stays ↦
+      is
+      ∙ cond-true (kept at) (old ++ row at ∷ []) old stays
+      ∙ ap (λ (rs : List Row). rs ++ row at ∷ []) so_far
+      ∙ append_assoc first (map row (filter kept done)) (row at ∷ [])
+      ∙ ap (λ (rs : List Row). first ++ rs) (sym (map-append row (filter kept done) (at ∷ [])))
+      ∙ ap (λ (ps : List ℕ). first ++ map row ps) (sym (filter_last kept done at stays))
+  | inr gone ↦
+      is
+      ∙ cond-false (kept at) (old ++ row at ∷ []) old gone
+      ∙ so_far
+      ∙ ap (λ (ps : List ℕ). first ++ map row ps) (sym (filter_same kept done at gone))
+]
 
 -- the rows of a bucket more
-pub kept_next : (x : Index) (kept : ℕ → Bool) (b : ℕ) (links : Vec Link Global) (old new : List Row)
-    → HitsAre (λ (places : List ℕ) (v : Vec Link Global). AreLinks x.unit (filter kept places) v.items) (chain x b) links
-    → old ≡ kept_below x kept b → new ≡ old ++ map (λ (l : Link). row_of l.«record») links.items → new ≡ kept_below x kept (b + 1)
-kept_next x kept b links old new said so_far is =
-    let P : List ℕ → Vec Link Global → Type 0 = λ places v. AreLinks x.unit (filter kept places) v.items in
+pub kept_next : (x : Index) (kept : ℕ → Bool) (b : ℕ) (old new : List Row)
+    → HitsAre (λ (places : List ℕ) (done : Unit {0}). new ≡ old ++ map (row_at x.unit) (filter kept places)) (chain x b) tt
+    → old ≡ kept_below x kept b → new ≡ kept_below x kept (b + 1)
+kept_next x kept b old new said so_far =
+    let P : List ℕ → Unit {0} → Type 0 = λ places done. new ≡ old ++ map (row_at x.unit) (filter kept places) in
     let zero_b : b ≡ 0 + b = omega arith in
-    let rows = links_rows x.unit (filter kept (places_of x b)) links.items (of_places P x b links said) in
-    is
-    ∙ ap (λ (rs : List Row). rs ++ map (λ (l : Link). row_of l.«record») links.items) so_far
-    ∙ ap (λ (rs : List Row). kept_below x kept b ++ rs) rows
+    of_places P x b tt said
+    ∙ ap (λ (rs : List Row). rs ++ map (row_at x.unit) (filter kept (places_of x b))) so_far
     ∙ ap (λ (c : ℕ). kept_below x kept b ++ map (row_at x.unit) (filter kept (places_of x c))) zero_b
     ∙ sym (flat_more (λ (c : ℕ). map (row_at x.unit) (filter kept (places_of x c))) 0 b)
 

@@ -3,8 +3,7 @@ use Rattle.std.proofs.Common.{◌≡◌, ℕ, zero, suc, ◌+◌, ◌-◌, ◌/�
 use Rattle.std.specs.Prelude.{Option, None, Some, unwrap_or, is_some, is_ok, IsOk, ◌⊎◌}
 use Rattle.std.specs.Ordering.{nat_cmp}
 use Rattle.std.specs.BTreeMap.{get}
-use Rattle.std.specs.List.{Contains, filter, sum_by}
-use Rattle.std.proofs.lemmas.List.Elements.{Contains-append_right}
+use Rattle.std.specs.List.{Contains, sum_by}
 use Rattle.std.proofs.lemmas.List.Sums.{sum_by-cons}
 use Rattle.std.proofs.lemmas.Bool.{cases_eq, cases_Bool, cond-true, cond-false, false≢true}
 use Rattle.rpm_outside.specs.Files.{Units, unit_at}
@@ -18,7 +17,7 @@ use Rattle.rpm_hindex.specs.Rows.{Row}
 use Rattle.rpm_hindex.specs.Answers.{HitsAre}
 use Rattle.rpm_hindex.specs.Sizes.{first_record, record_units}
 use Rattle.rpm_hindex.specs.inner.Records.{IsOpen}
-use Rattle.rpm_hindex.specs.Index.{Index, index_in, is_link, chain, next_at, units_at, bucket_unit, places_of, all_places}
+use Rattle.rpm_hindex.specs.Index.{Index, index_in, is_link, chain, units_at, bucket_unit, places_of, all_places}
 use Rattle.rpm_hindex.specs.Whole.{IsWellFormed}
 use Rattle.rpm_hindex.specs.inner.Changes.{CanGo, Puts, HasWord, SetsBucket, Unlinks, changing, unit_after, is_kept, IsWithout, IsChainFault, HasNoFault, IsHonest, IsBadSoFar, if_kept}
 use Rattle.rpm_hindex.specs.inner.Spots.{IsSpot, IsFront, IsLinked}

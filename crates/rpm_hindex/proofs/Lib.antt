@@ -38,7 +38,6 @@ pub mod Kept
 pub mod Cutting
 pub mod Cuts
 pub mod Honest
-pub mod Linking
 pub mod Results
 pub mod Ways
 pub mod Steps

@@ -44,7 +44,7 @@ module _ (x : Index) (b : ℕ) where
 
 -- ---- the last that is kept
 
-filter_last : (kept : ℕ → Bool) (ps : List ℕ) (p : ℕ) → kept p ≡ true → filter kept (ps ++ p ∷ []) ≡ filter kept ps ++ p ∷ []
+pub filter_last : (kept : ℕ → Bool) (ps : List ℕ) (p : ℕ) → kept p ≡ true → filter kept (ps ++ p ∷ []) ≡ filter kept ps ++ p ∷ []
 filter_last kept ps p stays = filter-append kept ps (p ∷ []) ∙ ap (λ (qs : List ℕ). filter kept ps ++ qs) (cond-true (kept p) (p ∷ []) [] stays)
 
 pub filter_same : (kept : ℕ → Bool) (ps : List ℕ) (p : ℕ) → kept p ≡ false → filter kept (ps ++ p ∷ []) ≡ filter kept ps

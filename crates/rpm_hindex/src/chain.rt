@@ -13,7 +13,7 @@ ghost use Rattle.rpm_hindex.specs.Whole.{IsWellFormed};
 ghost use Rattle.rpm_hindex.specs.State.{State, Keeps, is_in_order, buckets_of};
 ghost use Rattle.rpm_outside.specs.declared.disk.File.TheVariants.{Idx};
 ghost use Rattle.rpm_outside.specs.Looks.{Looks, LooksAt};
-ghost use Rattle.rpm_hindex.specs.inner.Records.{IsOpen, IsRecord};
+ghost use Rattle.rpm_hindex.specs.inner.Records.{IsOpen};
 ghost use Rattle.rpm_hindex.specs.inner.Spots.{IsNext, IsSeen};
 ghost use Rattle.rpm_hindex.specs.Answers.{AsOften, AreHits, FindIs, IsFaultOf, ChainCosts, AddsHit, has_key, IsRising, times_hit};
 
@@ -21,7 +21,7 @@ use crate::faults::FindFault;
 use crate::hashing::bucket_of;
 use crate::hits::{Hit, Hits};
 use crate::index::Hindex;
-use crate::reading::{read_key, read_unit};
+use crate::reading::read_unit;
 use crate::sizes::record_units;
 use crate::spots::{Ahead, meets_key, read_head};
 use crate::words::word;
@@ -40,16 +40,6 @@ pub struct Extent {
 pub struct Bucket {
     pub words: [u8; 16],
     pub at: u32,
-}
-
-/// A record of a chain.
-#[derive(Drop)]
-pub struct Record {
-    pub next: u32,
-    pub kind: u8,
-    pub key: Vec<u8>,
-    pub number: u32,
-    pub place: u32,
 }
 
 /// Whether a word is 0, or names a unit that can be a record's.
@@ -94,54 +84,6 @@ pub fn read_bucket<D: Disk>(disk: &mut D, extent: Extent, bucket: u32) -> Result
         return Err(FindFault::BadIndex { unit });
     }
     Ok(Bucket { words, at })
-}
-
-/// The record at a unit that a link names.
-pub fn read_record<D: Disk>(
-    alloc: Global,
-    disk: &mut D,
-    extent: Extent,
-    bucket: u32,
-    at: u32,
-) -> Result<Record, FindFault>
-    requires few { extent.buckets ≤ 2 ^ 28 }
-    requires some { 0 < extent.buckets }
-    requires open { IsTrue D.tells → IsOpen extent (D.files disk.old).idx }
-    requires some_at { 0 < at }
-    requires within { at < extent.used }
-    ensures falls { IfOk result (λ r. r.next < at) }
-    ensures linked { IfOk result (λ r. r.next < extent.used) }
-    ensures kind { IfOk result (λ r. r.kind < 16) }
-    ensures short { IfOk result (λ r. length r.key.items < 2 ^ 28) }
-    ensures record { IfOk result (λ r. IsTrue D.tells → IsRecord (index_in extent.buckets (D.files disk.old).idx) bucket at r) }
-    ensures fault { IfErr result (λ e. IsTrue D.tells → IsFaultOf (follow (index_in extent.buckets (D.files disk.old).idx) bucket at at) e) }
-    ensures cost { IsTrue D.tells → is_sound (index_in extent.buckets (D.files disk.old).idx) bucket at ≡ true → D.bytes_read disk.new File.Idx
-        ≤ D.bytes_read disk.old File.Idx + 16 * units_at (unit_at (D.files disk.old).idx) at }
-    ensures looks { LooksAt D.tells D.files D.left_since D.moment D.bytes_read D.follows Idx disk.old disk.new }
-    ensures cause { HasCauseAt (result ≡ Err FindFault.DiskFault) (D.faults disk.old) (D.faults disk.new) }
-{
-    let Ok(head) = read_unit(disk, at as u64) else {
-        return Err(FindFault::DiskFault);
-    };
-    if !is_placed(extent, at, &head) {
-        return Err(FindFault::BadIndex { unit: at as u64 });
-    }
-    let length = word(&head, 1) % 268_435_456;
-    let kind = (word(&head, 1) / 268_435_456) as u8;
-    let key = match read_key(alloc, disk, at as u64 + 1, length) {
-        Ok(key) => key,
-        Err(fault) => return Err(fault),
-    };
-    if bucket_of(kind, &key, extent.buckets) != bucket {
-        return Err(FindFault::BadIndex { unit: at as u64 });
-    }
-    Ok(Record {
-        next: word(&head, 0),
-        kind,
-        key,
-        number: word(&head, 2),
-        place: word(&head, 3),
-    })
 }
 
 /// A record on the way through a chain, and whether it has the key that is looked for.

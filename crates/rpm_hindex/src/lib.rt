@@ -15,7 +15,7 @@ mod hashing;
 mod hits;
 mod image;
 mod index;
-mod links;
+mod kept_rows;
 mod making;
 mod patching;
 mod planning;

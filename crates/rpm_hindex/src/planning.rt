@@ -1,7 +1,6 @@
 //! What a change of the index will write.
 
 ghost use Rattle.std.specs.Prelude.{◌≡◌, ℕ, ◌+◌, ◌*◌, ◌/◌, ◌%◌, ◌^◌, ◌≤◌, ◌<◌, IsTrue, true, false, length, map, ◌++◌, OnOk, IfOk, IfErr, Err};
-ghost use Rattle.rpm_hindex.specs.declared.links.Link.{Link};
 ghost use Rattle.std.specs.Ordering.{nat_cmp};
 ghost use Rattle.std.specs.BTreeMap.{get, keys};
 ghost use Rattle.std.specs.List.Sorted.{IsStrictlySortedBy};
@@ -12,7 +11,7 @@ ghost use Rattle.rpm_outside.specs.Looks.{Looks, LooksAt};
 ghost use Rattle.rpm_hindex.specs.inner.Records.{IsOpen};
 ghost use Rattle.rpm_hindex.specs.Sizes.{first_record, live_of};
 ghost use Rattle.rpm_hindex.specs.Plans.{LeavesOrder, CanWrite};
-ghost use Rattle.rpm_hindex.specs.inner.Changes.{CanGo, AddsRows, IsCut, IsHonest, IsBadSoFar, HasNoFault, HasFault, changing, IsOther, IsTooLarge, CanRelink, IsWorkOf, IsScratchOf, HasLess, kept_of, is_kept, patch_of, row_of};
+ghost use Rattle.rpm_hindex.specs.inner.Changes.{CanGo, AddsRows, IsCut, IsHonest, IsBadSoFar, HasNoFault, HasFault, changing, IsOther, IsTooLarge, IsWorkOf, IsScratchOf, HasLess, kept_of, is_kept, patch_of};
 ghost use Rattle.rpm_hindex.specs.Refusals.{IsBad};
 ghost use Rattle.rpm_hindex.specs.Index.{index_in, records};
 ghost use Rattle.rpm_hindex.specs.Costs.{chains_bytes};
@@ -23,7 +22,7 @@ use crate::change::{Change, prepare_fault, row_ref};
 use crate::faults::{FindFault, PrepareFault, RewriteFault};
 use crate::image::Image;
 use crate::index::Hindex;
-use crate::links::{Link, read_links};
+use crate::kept_rows::{check_chain, push_chain};
 use crate::rewriting::image_of;
 use crate::rows::Rows;
 use crate::words::{unit_of_words, word};
@@ -105,9 +104,9 @@ fn check_chains<D: Disk>(alloc: Global, disk: &mut D, extent: Extent) -> Result<
     ensures looks { LooksAt D.tells D.files D.left_since D.moment D.bytes_read D.follows Idx disk.old disk.new }
     ensures cause { HasCauseAt (result ≡ Err FindFault.DiskFault) (D.faults disk.old) (D.faults disk.new) }
 {
-    let dropped = BTreeMap::new(alloc);
+    let mut buffer = Vec::new(alloc);
     for bucket in 0..extent.buckets {
-        if let Err(fault) = read_links(alloc, disk, extent, bucket, &dropped) {
+        if let Err(fault) = check_chain(alloc, disk, extent, bucket, &mut buffer) {
             return Err(fault);
         }
     }
@@ -261,18 +260,6 @@ pub fn in_place(alloc: Global, change: Change) -> Result<IndexPlan, PrepareFault
     })
 }
 
-/// Adds the rows of these links.
-fn push_links(rows: &mut Rows, links: &[Link]) -> Result<(), AllocError>
-    requires { (used : ℕ) × CanRelink used links.now }
-    ensures { OnOk result (rows.new ≡ rows.old ++ map (λ (l : Link). row_of l.record) links.now) }
-{
-    for k in 0..links.len() {
-        let record = &links[k].record;
-        rows.add(record.kind, &record.key, record.number, record.place)?;
-    }
-    Ok(())
-}
-
 /// Adds all rows that the index keeps.
 fn kept_rows<D: Disk>(
     alloc: Global,
@@ -290,14 +277,11 @@ fn kept_rows<D: Disk>(
     ensures cause { HasCauseAt (result ≡ Err PrepareFault.DiskFault) (D.faults disk.old) (D.faults disk.new) }
 {
     let mut rows = Rows::new(alloc);
+    let mut buffer = Vec::new(alloc);
     for bucket in 0..extent.buckets {
-        let links = match read_links(alloc, disk, extent, bucket, dropped) {
-            Ok(links) => links,
-            Err(fault) => return Err(prepare_fault(fault)),
-        };
-        let Ok(()) = push_links(&mut rows, &links) else {
-            return Err(PrepareFault::NoMemory);
-        };
+        if let Err(fault) = push_chain(disk, extent, bucket, dropped, &mut rows, &mut buffer) {
+            return Err(prepare_fault(fault));
+        }
     }
     Ok(rows)
 }

@@ -49,53 +49,6 @@ pub fn unit_or_zeros<D: Disk>(disk: &mut D, units: u64, at: u64) -> Result<[u8; 
     read_unit(disk, at)
 }
 
-/// Reads so many units into a new vector.
-fn read_padded<D: Disk>(
-    alloc: Global,
-    disk: &mut D,
-    at: u64,
-    units: u32,
-) -> Result<Vec<u8>, FindFault>
-    requires { IsTrue D.tells → at + units ≤ length (D.files disk.old).idx }
-    ensures long { IfOk result (λ v. length v.items ≡ 16 * units) }
-    ensures bytes { IfOk result (λ v. IsTrue D.tells → v.items ≡ bytes_of (take units (drop at (D.files disk.old).idx))) }
-    ensures outside { IfErr result (λ e. IsOutside e) }
-    ensures looks { Looks D.tells D.files D.left_since D.moment D.bytes_read D.follows Idx (16 * units) disk.old disk.new }
-    ensures cause { HasCauseAt (result ≡ Err FindFault.DiskFault) (D.faults disk.old) (D.faults disk.new) }
-{
-    let Ok(mut bytes) = (vec![in alloc; 0u8; 16 * units as usize]) else {
-        return Err(FindFault::NoMemory);
-    };
-    let Ok(()) = read_units(disk, at, &mut bytes) else {
-        return Err(FindFault::DiskFault);
-    };
-    Ok(bytes)
-}
-
-/// Reads a key of so many bytes, which begins with this unit, into a new vector.
-pub fn read_key<D: Disk>(
-    alloc: Global,
-    disk: &mut D,
-    at: u64,
-    size: u32,
-) -> Result<Vec<u8>, FindFault>
-    requires short { size < 2 ^ 28 }
-    requires within { IsTrue D.tells → at + (size + 15) / 16 ≤ length (D.files disk.old).idx }
-    ensures long { IfOk result (λ v. length v.items ≡ size) }
-    ensures bytes { IfOk result (λ v. IsTrue D.tells → v.items ≡ take size (bytes_of (run (unit_at (D.files disk.old).idx) at ((size + 15) / 16)))) }
-    ensures outside { IfErr result (λ e. IsOutside e) }
-    ensures looks { Looks D.tells D.files D.left_since D.moment D.bytes_read D.follows Idx (16 * ((size + 15) / 16)) disk.old disk.new }
-    ensures cause { HasCauseAt (result ≡ Err FindFault.DiskFault) (D.faults disk.old) (D.faults disk.new) }
-{
-    match read_padded(alloc, disk, at, (size + 15) / 16) {
-        Err(fault) => Err(fault),
-        Ok(mut key) => {
-            key.truncate(size as usize);
-            Ok(key)
-        }
-    }
-}
-
 /// Reads so many bytes of units to the front of others.
 fn read_front<D: Disk>(disk: &mut D, unit: u64, long: usize, into: &mut [u8]) -> Result<(), Failed>
     requires whole { long % 16 ≡ 0 }

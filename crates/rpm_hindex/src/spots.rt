@@ -18,7 +18,7 @@ ghost use Rattle.rpm_hindex.specs.inner.Spots.{IsHead, IsAhead, IsMet, IsNext, S
 use crate::chain::{Extent, is_placed, read_bucket};
 use crate::faults::FindFault;
 use crate::hashing::bucket_of;
-use crate::links::read_links;
+use crate::kept_rows::check_chain;
 use crate::reading::{read_key_into, read_unit};
 use crate::rows::RowRef;
 use crate::words::word;
@@ -327,9 +327,9 @@ fn first_fault<D: Disk>(
     ensures looks { LooksAt D.tells D.files D.left_since D.moment D.bytes_read D.follows Idx disk.old disk.new }
     ensures cause { HasCauseAt (result ≡ FindFault.DiskFault) (D.faults disk.old) (D.faults disk.new) }
 {
-    let dropped = BTreeMap::new(alloc);
-    match read_links(alloc, disk, extent, bucket, &dropped) {
-        Ok(_) => FindFault::BadIndex { unit },
+    let mut buffer = Vec::new(alloc);
+    match check_chain(alloc, disk, extent, bucket, &mut buffer) {
+        Ok(()) => FindFault::BadIndex { unit },
         Err(fault) => fault,
     }
 }

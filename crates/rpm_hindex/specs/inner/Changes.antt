@@ -1,11 +1,9 @@
 -- A change that is being worked out, as the index that it would leave.
-use Rattle.std.specs.Prelude.{◌≡◌, ℕ, ◌+◌, ◌-◌, ◌*◌, ◌/◌, ◌%◌, ◌^◌, ◌<◌, ◌≤◌, ◌⊎◌, List, [], ◌∷◌, length, map, Bool, not, if◌then◌else◌, nat_lt, Option, Some, None, unwrap_or, is_some, true, Err, Result, IsOk}
+use Rattle.std.specs.Prelude.{◌≡◌, ℕ, ◌+◌, ◌-◌, ◌*◌, ◌/◌, ◌%◌, ◌^◌, ◌<◌, ◌≤◌, ◌⊎◌, List, length, map, Bool, not, if◌then◌else◌, nat_lt, Option, Some, None, unwrap_or, is_some, true, Err, Result, IsOk}
 use Rattle.std.specs.Ordering.{nat_cmp}
 use Rattle.std.specs.BTreeMap.{get}
 use Rattle.std.specs.List.{filter, Contains, flat_map, range_with_len, sum_by}
 use Rattle.rpm_outside.specs.Files.{Units, units_of, unit_at}
-use Rattle.rpm_hindex.specs.declared.chain.Record.{Record}
-use Rattle.rpm_hindex.specs.declared.links.Link.{Link}
 use Rattle.rpm_hindex.specs.declared.change.Change.{Change}
 use Rattle.rpm_hindex.specs.declared.spots.Head.{Head}
 use Rattle.rpm_hindex.specs.declared.planning.Patch.{Patch}
@@ -23,33 +21,10 @@ use Rattle.rpm_hindex.specs.Refusals.{HoldsMore}
 use Rattle.rpm_hindex.specs.declared.faults.FindFault.{FindFault}
 use Rattle.rpm_hindex.specs.Answers.{IsFaultOf}
 
--- ---- links
-
-abbrev pub row_of : Record → Row
-row_of r = record { kind = r.kind; key = r.key.items; number = r.number; place = r.place }
+-- ---- places
 
 abbrev pub is_kept : (ℕ → Option ℕ) → ℕ → Bool
 is_kept dropped place = not (is_some (dropped place))
-
--- what was read of a record is what stands there
-pub record IsLink (unit : ℕ → List ℕ) (at : ℕ) (l : Link) : Type 0 where
-  pub place : l.at ≡ at
-  pub row : row_at unit at ≡ row_of l.record
-  pub packed : word 1 (unit at) ≡ l.record.kind * 2 ^ 28 + length l.record.key.items
-  pub number : word 2 (unit at) ≡ l.record.number
-  pub «in» : word 3 (unit at) ≡ l.record.place
-
--- links of these places, in order
-abbrev pub AreLinks : (ℕ → List ℕ) → List ℕ → List Link → Type 0
-AreLinks unit [] [] = Unit {0}
-AreLinks unit [] (l ∷ ls) = ⊥
-AreLinks unit (p ∷ ps) [] = ⊥
-AreLinks unit (p ∷ ps) (l ∷ ls) = IsLink unit p l × AreLinks unit ps ls
-
--- links that can be written back
-abbrev pub CanRelink : ℕ → List Link → Type 0
-CanRelink used [] = Unit {0}
-CanRelink used (l ∷ ls) = (l.at < used) × (0 < l.at) × (l.record.kind < 16) × (length l.record.key.items < 2 ^ 28) × CanRelink used ls
 
 -- ---- units
 

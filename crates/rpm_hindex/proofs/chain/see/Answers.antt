@@ -1,7 +1,7 @@
-use Rattle.std.proofs.Common.{◌≡◌, ℕ, ◌+◌, ◌*◌, ◌/◌, ◌%◌, ◌^◌, ◌≤◌, List, true, sym, ap, ◌∙◌, arith, subst}
+use Rattle.std.proofs.Common.{◌≡◌, ℕ, true, sym, ap, ◌∙◌, arith, subst}
 use Rattle.rpm_outside.specs.Files.{Files, unit_at}
 use Rattle.rpm_hindex.specs.Words.{word}
-use Rattle.rpm_hindex.specs.Index.{index_in, follow, is_placed, is_sound, row_at, units_at}
+use Rattle.rpm_hindex.specs.Index.{index_in, follow, is_placed, is_sound, row_at}
 use Rattle.rpm_hindex.specs.Answers.{IsFaultOf, has_key}
 use Rattle.rpm_hindex.specs.inner.Spots.{IsHead}
 use Rattle.rpm_hindex.proofs.Steps.{moved, units_read, number_at, place_at}

@@ -1,17 +1,11 @@
-use Rattle.std.proofs.Common.{ℕ, List, Vec, Global, arith, sym, subst, inl, inr}
+use Rattle.std.proofs.Common.{ℕ, arith, sym, subst, inl, inr}
 use Rattle.std.specs.Prelude.{IsOk}
-use Rattle.std.specs.Ordering.{nat_cmp}
-use Rattle.std.specs.BTreeMap.{get}
-use Rattle.std.specs.List.{filter}
 use Rattle.std.proofs.lemmas.Bool.{cases_eq}
-use Rattle.rpm_outside.specs.Files.{Files, unit_at}
+use Rattle.rpm_outside.specs.Files.{Files}
 use Rattle.rpm_outside.specs.declared.disk.File.TheVariants.{Idx}
 use Rattle.rpm_outside.specs.inner.Looking.{looks_at_then}
-use Rattle.rpm_hindex.specs.declared.links.Link.{Link}
 use Rattle.rpm_hindex.specs.Index.{index_in, chain}
 use Rattle.rpm_hindex.specs.Answers.{IsFaultOf}
-use Rattle.rpm_hindex.specs.inner.Changes.{AreLinks, is_kept}
-use Rattle.rpm_hindex.proofs.Honest.{hits_ok}
 use Rattle.rpm_hindex.proofs.planning.check_chains.Goals as goal
 
 pub loop-bucket-preserved : goal.loop-bucket-preserved
@@ -21,18 +15,14 @@ loop-bucket-preserved g c =
       none = λ told b lt.
           let B = c.args.extent.buckets in
           let file : Files = g.D.Disk.files c.args.disk.now in
-          let later : Files = g.D.Disk.files l.disk in
-          let P : List ℕ → Vec Link Global → Type 0 = λ places v. AreLinks (unit_at later.idx) (filter (is_kept
-          (λ p. get nat_cmp c.new-dropped.result p)) places)
-          v.items in
           let here = subst (λ (f : Files). IsOk (chain (index_in B f.idx) l.bucket)) ((l.invariant.looks.untouched told).same)
-          (hits_ok P (chain (index_in B later.idx) l.bucket) c.in_default.field-0 (c.in_default.ensures.told told)) in
+          (c.in_default.ensures.none told) in
           elim (cases_eq b l.bucket) [
             | inl same ↦ subst (λ (k : ℕ). IsOk (chain (index_in B file.idx) k)) (sym same) here
             | inr other ↦ l.invariant.none told b (omega (arith, lt, other))
           ];
-      looks = looks_at_then _ _ _ _ _ _ Idx g.met.D.Disk.follows_trans _ _ _ l.invariant.looks c.read_links.ensures.looks;
-      faults = omega (arith, l.invariant.faults, c.read_links.ensures.cause.later);
+      looks = looks_at_then _ _ _ _ _ _ Idx g.met.D.Disk.follows_trans _ _ _ l.invariant.looks c.check_chain.ensures.looks;
+      faults = omega (arith, l.invariant.faults, c.check_chain.ensures.cause.later);
     }
 
 pub returns-in-Err-clause-fault : goal.returns-in-Err-clause-fault
@@ -42,7 +32,7 @@ returns-in-Err-clause-fault g c = λ told.
       l.bucket,
       omega (arith, c.loop-bucket-test.true),
       subst (λ (f : Files). IsFaultOf (chain (index_in B f.idx) l.bucket) c.in-Err.fault) ((l.invariant.looks.untouched told).same)
-          (c.in-Err.ensures.told told),
+          (c.in-Err.ensures.fault told),
     )
 
 pub returns-clause-none : goal.returns-clause-none

@@ -1,20 +1,16 @@
-use Rattle.std.proofs.Common.{ℕ, ◌++◌, List, Vec, Global, map, sym, ap, ◌∙◌, arith, subst}
+use Rattle.std.proofs.Common.{◌≡◌, ℕ, ◌++◌, List, map, arith, subst}
 use Rattle.std.specs.Ordering.{nat_cmp}
 use Rattle.std.specs.BTreeMap.{get}
 use Rattle.std.specs.List.{filter}
 use Rattle.rpm_outside.specs.Files.{Files, unit_at}
-use Rattle.rpm_hindex.specs.declared.links.Link.{Link}
-use Rattle.rpm_hindex.specs.Index.{index_in, chain}
-use Rattle.rpm_hindex.specs.Answers.{HitsAre, IsFaultOf}
-use Rattle.rpm_hindex.proofs.Honest.{bad_chain}
-use Rattle.rpm_hindex.specs.inner.Changes.{CanRelink, AreLinks, is_kept, row_of}
 use Rattle.rpm_outside.specs.declared.disk.File.TheVariants.{Idx}
 use Rattle.rpm_outside.specs.inner.Looking.{looks_at_then}
+use Rattle.rpm_hindex.specs.Index.{index_in, chain, row_at}
+use Rattle.rpm_hindex.specs.Answers.{HitsAre, IsFaultOf}
+use Rattle.rpm_hindex.specs.inner.Changes.{is_kept}
 use Rattle.rpm_hindex.proofs.Gathers.{kept_next}
+use Rattle.rpm_hindex.proofs.Honest.{bad_chain}
 use Rattle.rpm_hindex.proofs.planning.kept_rows.Goals as goal
-
-pub push_links-requires : goal.push_links-requires
-push_links-requires g c = (c.args.extent.used, subst (CanRelink c.args.extent.used) (sym c.deref.ensures.value) c.in-Ok.ensures.relink)
 
 pub loop-bucket-preserved : goal.loop-bucket-preserved
 loop-bucket-preserved g c =
@@ -24,12 +20,12 @@ loop-bucket-preserved g c =
           let B = c.args.extent.buckets in
           let kept = is_kept (λ p. get nat_cmp c.args.dropped.now p) in
           let file : Files = g.D.Disk.files c.args.disk.now in
-          let said = subst (λ (f : Files). HitsAre (λ (places : List ℕ) (v : Vec Link Global). AreLinks (unit_at f.idx) (filter kept places) v.items)
-          (chain (index_in B f.idx) l.bucket) c.in-Ok.links) ((l.invariant.looks.untouched told).same) (c.in-Ok.ensures.told told) in
-          kept_next (index_in B file.idx) kept l.bucket c.in-Ok.links l.rows c.push_links.new.rows said (l.invariant.so_far told)
-          (c.in-Ok-push_links.ensures ∙ ap (λ (ls : List Link). l.rows ++ map (λ (m : Link). row_of m.«record») ls) c.deref.ensures.value);
-      looks = looks_at_then _ _ _ _ _ _ Idx g.met.D.Disk.follows_trans _ _ _ l.invariant.looks c.read_links.ensures.looks;
-      faults = omega (arith, l.invariant.faults, c.read_links.ensures.cause.later);
+          let said = subst (λ (f : Files). HitsAre (λ (places : List ℕ) (done : Unit {0}). c.push_chain.new.rows
+          ≡ l.rows ++ map (row_at (unit_at f.idx)) (filter kept places)) (chain (index_in B f.idx) l.bucket) tt) ((l.invariant.looks.untouched told).same)
+          (c.in_default.ensures.told told) in
+          kept_next (index_in B file.idx) kept l.bucket l.rows c.push_chain.new.rows said (l.invariant.so_far told);
+      looks = looks_at_then _ _ _ _ _ _ Idx g.met.D.Disk.follows_trans _ _ _ l.invariant.looks c.push_chain.ensures.looks;
+      faults = omega (arith, l.invariant.faults, c.push_chain.ensures.cause.later);
     }
 
 pub returns-in-Err-clause-bad : goal.returns-in-Err-clause-bad

@@ -1,22 +1,21 @@
-use Rattle.std.proofs.Common.{◌≡◌, ℕ, ◌+◌, ◌*◌, ◌<◌, ◌≤◌, List, ◌∷◌, [], ◌++◌, Bool, true, Ok, sym, ap, ◌∙◌, arith, subst}
+use Rattle.std.proofs.Common.{◌≡◌, ℕ, ◌<◌, List, ◌∷◌, [], ◌++◌, Bool, Ok, sym, ap, ◌∙◌, arith, subst}
 use Rattle.std.proofs.lemmas.Bool.{and_parts}
 use Rattle.std.proofs.lemmas.List.{append-nil}
 use Rattle.std.proofs.lemmas.List.Sums.{sum_by_push}
 use Rattle.std.specs.Ordering.{nat_cmp}
 use Rattle.std.specs.BTreeMap.{get}
-use Rattle.std.specs.List.{sum_by}
 use Rattle.rpm_outside.specs.Files.{Files, unit_at}
 use Rattle.rpm_outside.specs.declared.disk.File.TheVariants.{Idx}
 use Rattle.rpm_outside.specs.inner.Looking.{looks_at_then}
 use Rattle.rpm_hindex.specs.Rows.{Row, same_row}
-use Rattle.rpm_hindex.specs.Index.{Index, index_in, follow, is_sound, next_at, row_at, units_at}
-use Rattle.rpm_hindex.specs.Answers.{IsFaultOf, IsOutside, ChainCosts}
+use Rattle.rpm_hindex.specs.Index.{Index, index_in, follow, row_at, units_at}
+use Rattle.rpm_hindex.specs.Answers.{IsFaultOf, IsOutside}
 use Rattle.rpm_hindex.specs.inner.Changes.{is_kept}
-use Rattle.rpm_hindex.specs.inner.Spots.{IsMet, IsPath, SkipsTo}
+use Rattle.rpm_hindex.specs.inner.Spots.{IsMet, SkipsTo}
 use Rattle.rpm_hindex.proofs.Chains.{behind_all, behind_ok}
 use Rattle.rpm_hindex.proofs.Collects.{cost_more, cost_all}
 use Rattle.rpm_hindex.proofs.Steps.{outside, front_last, met_sound, rest_cost}
-use Rattle.rpm_hindex.proofs.Ways.{path_more, path_follows, path_cost, last_more, none_more, no_hit, within_last, cost_here}
+use Rattle.rpm_hindex.proofs.Ways.{path_follows, path_cost, last_more, none_more, no_hit, within_last, cost_here}
 use Rattle.rpm_hindex.proofs.spots.find_spot.Goals as goal
 
 pub returns-in-Err-clause-fault : goal.returns-in-Err-clause-fault

@@ -1,9 +1,8 @@
-use Rattle.std.proofs.Common.{◌≡◌, ℕ, ◌+◌, ◌*◌, ◌/◌, ◌%◌, ◌^◌, ◌≤◌, List, length, true, sym, ap, ◌∙◌, arith, subst}
+use Rattle.std.proofs.Common.{◌≡◌, ℕ, length, sym, ap, ◌∙◌, arith, subst}
 use Rattle.rpm_outside.specs.Files.{Files, unit_at}
-use Rattle.rpm_outside.specs.declared.disk.File.TheVariants.{Idx}
 use Rattle.rpm_hindex.specs.Words.{word}
 use Rattle.rpm_hindex.specs.Rows.{Row}
-use Rattle.rpm_hindex.specs.Index.{index_in, follow, is_placed, row_at, length_at, units_at}
+use Rattle.rpm_hindex.specs.Index.{index_in, follow, is_placed, row_at, length_at}
 use Rattle.rpm_hindex.specs.Answers.{IsFaultOf, has_key}
 use Rattle.rpm_hindex.specs.inner.Spots.{IsHead}
 use Rattle.rpm_hindex.proofs.Steps.{moved, units_read, other_row, same_by_key, number_at, place_at}

@@ -1,0 +1,27 @@
+use Rattle.std.proofs.Common.{◌≡◌, ◌≤◌, ◌++◌, ℕ, List, map}
+use Rattle.std.specs.Prelude.{IsTrue}
+use Rattle.std.specs.Ordering.{nat_cmp}
+use Rattle.std.specs.BTreeMap.{get}
+use Rattle.std.specs.List.{filter}
+use Rattle.rpm_outside.specs.Files.{unit_at}
+use Rattle.rpm_outside.specs.Looks.{LooksAt}
+use Rattle.rpm_outside.specs.declared.disk.File.TheVariants.{Idx}
+use Rattle.rpm_hindex.specs.Index.{index_in, follow, row_at}
+use Rattle.rpm_hindex.specs.inner.Changes.{is_kept}
+use Rattle.rpm_hindex.specs.inner.Spots.{IsNext}
+use Rattle.rpm_hindex.proofs.Chains.{behind_all}
+use Rattle.rpm_hindex.proofs.kept_rows.push_from.Given as goal
+
+abbrev pub invariant-loop-at : goal.invariant-loop-at
+invariant-loop-at g l = record {
+  linked : IsNext l.extent.buckets l.extent.used l.at;
+  looks : LooksAt g.D.Disk.tells g.D.Disk.files g.D.Disk.left_since g.D.Disk.moment g.D.Disk.bytes_read g.D.Disk.follows Idx l.initial.disk l.disk;
+  faults : g.D.Disk.faults l.initial.disk ≤ g.D.Disk.faults l.disk;
+  so_far : IsTrue g.D.Disk.tells → (done : List ℕ)
+      × (l.rows ≡ l.initial.rows ++ map (row_at (unit_at (g.D.Disk.files l.initial.disk).idx)) (filter (is_kept (λ p. get nat_cmp l.dropped p)) done))
+      × (follow (index_in l.extent.buckets (g.D.Disk.files l.initial.disk).idx) l.bucket l.from l.from
+      ≡ behind_all done (follow (index_in l.extent.buckets (g.D.Disk.files l.initial.disk).idx) l.bucket l.at l.at));
+}
+
+abbrev pub decreases-loop-at : goal.decreases-loop-at
+decreases-loop-at g l = l.at

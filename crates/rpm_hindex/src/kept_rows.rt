@@ -1,0 +1,147 @@
+//! The rows of a chain that a change keeps.
+
+ghost use Rattle.std.specs.Prelude.{◌≡◌, ℕ, ◌+◌, ◌*◌, ◌/◌, ◌%◌, ◌^◌, ◌≤◌, ◌<◌, ◌++◌, ◌∷◌, [], IsTrue, true, map, length, IsOk, OnOk, IfErr, Err, if◌then◌else◌};
+ghost use Rattle.std.specs.Ordering.{nat_cmp};
+ghost use Rattle.std.specs.BTreeMap.{get};
+ghost use Rattle.std.specs.List.{filter};
+ghost use Rattle.rpm_outside.specs.Files.{unit_at};
+ghost use Rattle.rpm_outside.specs.Causes.{HasCauseAt};
+ghost use Rattle.rpm_outside.specs.Looks.{Looks, LooksAt};
+ghost use Rattle.rpm_outside.specs.declared.disk.File.TheVariants.{Idx};
+ghost use Rattle.rpm_hindex.specs.Index.{index_in, chain, follow, is_placed, is_sound, row_at};
+ghost use Rattle.rpm_hindex.specs.Answers.{FindIs, IsFaultOf};
+ghost use Rattle.rpm_hindex.specs.inner.Records.{IsOpen};
+ghost use Rattle.rpm_hindex.specs.inner.Changes.{is_kept};
+ghost use Rattle.rpm_hindex.specs.inner.Spots.{IsHead, IsNext};
+
+use crate::chain::{Extent, read_bucket};
+use crate::faults::FindFault;
+use crate::hashing::bucket_of;
+use crate::reading::read_key_into;
+use crate::rows::Rows;
+use crate::spots::{Ahead, Head, read_head};
+use rpm_outside::Disk;
+use std::alloc::Global;
+use std::collections::BTreeMap;
+
+/// Reads the key of a record, whose first unit was read, into a buffer, and adds the record's row, if it is kept.
+fn push_row<D: Disk>(
+    disk: &mut D,
+    extent: Extent,
+    bucket: u32,
+    head: Head,
+    is_kept: bool,
+    rows: &mut Rows,
+    buffer: &mut Vec<u8>,
+) -> Result<(), FindFault>
+    requires few { extent.buckets ≤ 2 ^ 28 }
+    requires some { 0 < extent.buckets }
+    requires open { IsTrue D.tells → IsOpen extent (D.files disk.old).idx }
+    requires some_at { 0 < head.at }
+    requires placed { IsTrue D.tells → is_placed (index_in extent.buckets (D.files disk.old).idx) head.at ≡ true }
+    requires head { IsTrue D.tells → IsHead (unit_at (D.files disk.old).idx) head }
+    ensures row { OnOk result (IsTrue D.tells → rows.new ≡ (if is_kept then rows.old ++ row_at (unit_at (D.files disk.old).idx) head.at ∷ []
+        else rows.old)) }
+    ensures sound { OnOk result (IsTrue D.tells → is_sound (index_in extent.buckets (D.files disk.old).idx) bucket head.at ≡ true) }
+    ensures fault { IfErr result (λ e. IsTrue D.tells → IsFaultOf (follow (index_in extent.buckets (D.files disk.old).idx) bucket head.at head.at) e) }
+    ensures looks { Looks D.tells D.files D.left_since D.moment D.bytes_read D.follows Idx (16 * ((head.size % 2 ^ 28 + 15) / 16)) disk.old disk.new }
+    ensures cause { HasCauseAt (result ≡ Err FindFault.DiskFault) (D.faults disk.old) (D.faults disk.new) }
+{
+    let length = head.size % 268_435_456;
+    if let Err(fault) = read_key_into(disk, head.at as u64 + 1, length, buffer) {
+        return Err(fault);
+    }
+    let kind = (head.size / 268_435_456) as u8;
+    let key = &buffer[..length as usize];
+    if bucket_of(kind, key, extent.buckets) != bucket {
+        return Err(FindFault::BadIndex {
+            unit: head.at as u64,
+        });
+    }
+    if !is_kept {
+        return Ok(());
+    }
+    let Ok(()) = rows.add(kind, key, head.number, head.place) else {
+        return Err(FindFault::NoMemory);
+    };
+    Ok(())
+}
+
+/// Adds the rows of a bucket's chain from this unit on, but for those whose records are dropped.
+fn push_from<D: Disk>(
+    disk: &mut D,
+    extent: Extent,
+    bucket: u32,
+    from: u32,
+    dropped: &BTreeMap<u32, u32>,
+    rows: &mut Rows,
+    buffer: &mut Vec<u8>,
+) -> Result<(), FindFault>
+    requires few { extent.buckets ≤ 2 ^ 28 }
+    requires some { 0 < extent.buckets }
+    requires open { IsTrue D.tells → IsOpen extent (D.files disk.old).idx }
+    requires linked { IsNext extent.buckets extent.used from }
+    ensures told { IsTrue D.tells → FindIs (λ places done. rows.new ≡ rows.old ++ map (row_at (unit_at (D.files disk.old).idx))
+        (filter (is_kept (λ p. get nat_cmp dropped.now p)) places)) (follow (index_in extent.buckets (D.files disk.old).idx) bucket from from) result }
+    ensures looks { LooksAt D.tells D.files D.left_since D.moment D.bytes_read D.follows Idx disk.old disk.new }
+    ensures cause { HasCauseAt (result ≡ Err FindFault.DiskFault) (D.faults disk.old) (D.faults disk.new) }
+{
+    let mut at = from;
+    while at != 0 {
+        let Ahead { next, head } = match read_head(disk, extent, at) {
+            Ok(ahead) => ahead,
+            Err(fault) => return Err(fault),
+        };
+        let is_kept = !dropped.contains_key(&at);
+        if let Err(fault) = push_row(disk, extent, bucket, head, is_kept, rows, buffer) {
+            return Err(fault);
+        }
+        at = next;
+    }
+    Ok(())
+}
+
+/// Adds the rows of a bucket's chain, in its order, but for those whose records are dropped. Each record is read once, its key into a buffer,
+/// which grows where it is too short.
+pub fn push_chain<D: Disk>(
+    disk: &mut D,
+    extent: Extent,
+    bucket: u32,
+    dropped: &BTreeMap<u32, u32>,
+    rows: &mut Rows,
+    buffer: &mut Vec<u8>,
+) -> Result<(), FindFault>
+    requires few { extent.buckets ≤ 2 ^ 28 }
+    requires bucket { bucket < extent.buckets }
+    requires open { IsTrue D.tells → IsOpen extent (D.files disk.old).idx }
+    ensures told { IsTrue D.tells → FindIs (λ places done. rows.new ≡ rows.old ++ map (row_at (unit_at (D.files disk.old).idx))
+        (filter (is_kept (λ p. get nat_cmp dropped.now p)) places)) (chain (index_in extent.buckets (D.files disk.old).idx) bucket) result }
+    ensures looks { LooksAt D.tells D.files D.left_since D.moment D.bytes_read D.follows Idx disk.old disk.new }
+    ensures cause { HasCauseAt (result ≡ Err FindFault.DiskFault) (D.faults disk.old) (D.faults disk.new) }
+{
+    match read_bucket(disk, extent, bucket) {
+        Ok(found) => push_from(disk, extent, bucket, found.at, dropped, rows, buffer),
+        Err(fault) => Err(fault),
+    }
+}
+
+/// Goes over a bucket's chain, and tells its first fault.
+pub fn check_chain<D: Disk>(
+    alloc: Global,
+    disk: &mut D,
+    extent: Extent,
+    bucket: u32,
+    buffer: &mut Vec<u8>,
+) -> Result<(), FindFault>
+    requires few { extent.buckets ≤ 2 ^ 28 }
+    requires bucket { bucket < extent.buckets }
+    requires open { IsTrue D.tells → IsOpen extent (D.files disk.old).idx }
+    ensures none { OnOk result (IsTrue D.tells → IsOk (chain (index_in extent.buckets (D.files disk.old).idx) bucket)) }
+    ensures fault { IfErr result (λ e. IsTrue D.tells → IsFaultOf (chain (index_in extent.buckets (D.files disk.old).idx) bucket) e) }
+    ensures looks { LooksAt D.tells D.files D.left_since D.moment D.bytes_read D.follows Idx disk.old disk.new }
+    ensures cause { HasCauseAt (result ≡ Err FindFault.DiskFault) (D.faults disk.old) (D.faults disk.new) }
+{
+    let dropped = BTreeMap::new(alloc);
+    let mut rows = Rows::new(alloc);
+    push_chain(disk, extent, bucket, &dropped, &mut rows, buffer)
+}
