@@ -1,6 +1,5 @@
 pub mod Back
 pub mod Bounds
-pub mod Costing
 pub mod Cutting
 pub mod Elsewhere
 pub mod Fixtures

@@ -8,7 +8,7 @@ use Rattle.rpm_db.specs.inner.Laws.{cost_more, cost_up}
 use Rattle.rpm_outside.specs.declared.disk.File.TheVariants.{Pkg}
 use Rattle.rpm_select.proofs.Owning.{own_then, own_all}
 use Rattle.rpm_select.specs.inner.Single.{OneOf}
-use Rattle.rpm_select.proofs.Costing.{reach_more, reach_up}
+use Rattle.rpm_select.specs.inner.Costing.{reach_more, reach_up}
 use Rattle.rpm_select.proofs.Passing.{found_one, passed_next, none_next, none_to, one_to}
 use Rattle.rpm_select.proofs.Picking.{any_to, above_picks}
 use Rattle.rpm_select.proofs.picker.Picker.any_to.Goals as goal

@@ -11,7 +11,7 @@ use Rattle.rpm_select.proofs.Owning.{own_then, own_all}
 use Rattle.rpm_select.specs.Picks.{number_in}
 use Rattle.rpm_select.specs.Reach.{reach_to}
 use Rattle.rpm_select.specs.inner.Single.{OneOf}
-use Rattle.rpm_select.proofs.Costing.{reach_more, reach_some}
+use Rattle.rpm_select.specs.inner.Costing.{reach_more, reach_some}
 use Rattle.rpm_select.proofs.Passing.{found_one, passed_next, picked_next, none_next}
 use Rattle.rpm_select.proofs.Picking.{left, above_picks}
 use Rattle.rpm_select.proofs.picker.Picker.next_after.Goals as goal
