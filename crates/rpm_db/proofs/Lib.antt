@@ -23,3 +23,7 @@ pub mod Rooms
 pub mod Puts
 pub mod Applied
 pub mod Served
+pub mod Shared
+pub mod Places
+pub mod Apart
+pub mod ByPlace

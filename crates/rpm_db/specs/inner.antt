@@ -4,6 +4,7 @@ pub mod Kept
 pub mod Laws
 pub mod LawfulLaws
 pub mod Own
+pub mod Places
 pub mod RoomLaws
 pub mod RowLaws
 pub mod Running

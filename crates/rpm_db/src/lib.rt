@@ -25,6 +25,7 @@ mod putting;
 mod reading;
 mod rebuilding;
 mod rows;
+mod sharing;
 mod starting;
 #[cfg(test)]
 mod tests;

@@ -17,10 +17,12 @@ ghost use Rattle.rpm_db.specs.Refusals.{FullIndexIs, BadIndexIs, IsOfIndex, IsOf
 ghost use Rattle.rpm_db.specs.Rows.{header_rows, rows_at, rows};
 ghost use Rattle.rpm_db.specs.Runs.{Runs};
 ghost use Rattle.rpm_db.specs.State.{Package, packages};
+ghost use Rattle.rpm_db.specs.inner.Places.{AreWithout};
 ghost use Rattle.rpm_db.specs.inner.Writes.{WritesRows, SameFiles, old_rows, cost_before};
 
 use crate::change::ChangeFault;
 use crate::rows::{push_header, push_package};
+use crate::sharing::{RowChange, without_shared};
 use rpm_header::View;
 use rpm_hindex::{Hindex, IndexPlan, PrepareFault, RewriteFault, Rows};
 use rpm_outside::Disk;
@@ -66,6 +68,39 @@ fn rows_behind(alloc: Global, number: u32, view: &View<'_>) -> Result<Rows, Allo
     }
 }
 
+/// The rows that a header under a number drops and adds: those that both headers have stay.
+fn rows_apart<D: Disk>(
+    alloc: Global,
+    disk: &mut D,
+    store: &PkgDb,
+    n: Option<u32>,
+    number: u32,
+    view: &View<'_>,
+) -> Result<RowChange, ChangeFault>
+    requires keeps { IsTrue D.tells → Keeps (D.files disk.old).pkg store.now }
+    ensures drops { IfOk result (λ change. IsTrue D.tells → AreWithout (header_rows number view.now)
+        (old_rows n (packages (D.files disk.old).pkg store.now)) change.drops) }
+    ensures adds { IfOk result (λ change. IsTrue D.tells → AreWithout (old_rows n (packages (D.files disk.old).pkg store.now))
+        (header_rows number view.now) change.adds) }
+    ensures kinds { IfErr result IsOfReading }
+    ensures reads { D.bytes_read disk.new Pkg ≤ D.bytes_read disk.old Pkg + cost_before n store.now }
+    ensures unread { D.bytes_read disk.new Idx ≤ D.bytes_read disk.old Idx }
+    ensures runs { Runs D.tells D.files D.left_since D.moment D.bytes_read D.follows SameFiles disk.old disk.new }
+    ensures cause { HasCauseAt (result ≡ Err ChangeFault.DiskFault) (D.faults disk.old) (D.faults disk.new) }
+{
+    let Ok(adds) = rows_behind(alloc, number, view) else {
+        return Err(ChangeFault::NoMemory);
+    };
+    let drops = match rows_before(alloc, disk, store, n) {
+        Ok(drops) => drops,
+        Err(fault) => return Err(fault),
+    };
+    match without_shared(alloc, drops, adds) {
+        Ok(change) => Ok(change),
+        Err(_) => Err(ChangeFault::NoMemory),
+    }
+}
+
 /// Works out the change of the index. Writes nothing, and takes all memory that the change needs.
 fn prepare_rows<D: Disk>(
     alloc: Global,
@@ -97,7 +132,7 @@ fn prepare_rows<D: Disk>(
     }
 }
 
-/// Works out what a header under a number makes of the index.
+/// Works out what a header under a number makes of the index. The rows that the old header has too stay as they are.
 pub fn prepare_put<D: Disk>(
     alloc: Global,
     disk: &mut D,
@@ -125,14 +160,11 @@ pub fn prepare_put<D: Disk>(
     ensures runs { Runs D.tells D.files D.left_since D.moment D.bytes_read D.follows SameFiles disk.old disk.new }
     ensures cause { HasCauseAt (result ≡ Err ChangeFault.DiskFault) (D.faults disk.old) (D.faults disk.new) }
 {
-    let Ok(adds) = rows_behind(alloc, number, view) else {
-        return Err(ChangeFault::NoMemory);
-    };
-    let drops = match rows_before(alloc, disk, store, n) {
-        Ok(drops) => drops,
+    let change = match rows_apart(alloc, disk, store, n, number, view) {
+        Ok(change) => change,
         Err(fault) => return Err(fault),
     };
-    match prepare_rows(alloc, disk, index, &drops, &adds) {
+    match prepare_rows(alloc, disk, index, &change.drops, &change.adds) {
         Ok(plan) => Ok(plan),
         Err(fault) => Err(fault),
     }

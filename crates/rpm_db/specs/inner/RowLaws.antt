@@ -26,11 +26,11 @@ pub times-append : (r : Row) (xs ys : List Row) → times r (xs ++ ys) ≡ times
 unfolding times
 times-append r xs ys = sum_by-append (λ (x : Row). cond (same_row r x) 1 0) xs ys
 
-times_none : (r : Row) → times r [] ≡ 0
+pub times_none : (r : Row) → times r [] ≡ 0
 unfolding times
 times_none r = refl
 
-times_one : (r s : Row) → times r (s ∷ []) ≡ cond (same_row r s) 1 0
+pub times_one : (r s : Row) → times r (s ∷ []) ≡ cond (same_row r s) 1 0
 unfolding times
 times_one r s = omega arith
 
@@ -112,7 +112,7 @@ times-rows row packages =
 
 -- ---- a map in which one number changes
 
-of_at : (n : ℕ) (o : Option Package) → AreOf n (rows_at n o)
+pub of_at : (n : ℕ) (o : Option Package) → AreOf n (rows_at n o)
 of_at n None = of_none n
 of_at n (Some p) = of_package n p
 

@@ -1,0 +1,60 @@
+-- A change of rows without those that are both dropped and added.
+use Rattle.std.proofs.Common.{◌≡◌, ℕ, ◌+◌, ◌≤◌, ◌<◌, ◌==◌, List, [], ◌∷◌, take, drop, length, cond, Option, Some, None, sym, ap, ◌∙◌, inl, inr, arith}
+use Rattle.std.specs.FinMap as finite
+use Rattle.std.specs.Ordering.{nat_cmp}
+use Rattle.std.proofs.lemmas.Bool.{cases_Bool}
+use Rattle.std.proofs.lemmas.Bool.Decides.{nat_tests}
+use Rattle.std.proofs.lemmas.List.Sums.{sum_by_more, sum_by-drop_more, sum_by-take-drop}
+use Rattle.rpm_hindex.specs.Packed.{row_nth, no_row}
+use Rattle.rpm_hindex.specs.Plans.{HasChanged}
+use Rattle.rpm_hindex.specs.Rows.{Row, times, same_row}
+use Rattle.rpm_db.specs.Rows.{rows, rows_at}
+use Rattle.rpm_db.specs.State.{Package}
+use Rattle.rpm_db.specs.inner.Places.{AreWithout}
+use Rattle.rpm_db.specs.inner.RowLaws.{times-rows, of_at, times_none, times_one}
+use Rattle.rpm_db.specs.inner.Writes.{old_rows}
+
+-- the next row of a list
+pub times_next : (row : Row) (xs : List Row) (i : ℕ) → i < length xs
+    → times row (take (i + 1) xs) ≡ times row (take i xs) + times row (row_nth xs i ∷ [])
+unfolding times
+times_next row xs i within =
+    let step : times row (take (i + 1) xs) ≡ times row (take i xs) + cond (same_row row (row_nth xs i)) 1 0 =
+    sum_by_more (λ (x : Row). cond (same_row row x) 1 0) xs i no_row within in
+    step ∙ ap (λ (n : ℕ). times row (take i xs) + n) (sym (times_one row (row_nth xs i)))
+
+pub times_from : (row : Row) (xs : List Row) (i : ℕ) → i < length xs
+    → times row (drop i xs) ≡ times row (row_nth xs i ∷ []) + times row (drop (i + 1) xs)
+unfolding times
+times_from row xs i within =
+    let step : times row (drop i xs) ≡ cond (same_row row (row_nth xs i)) 1 0 + times row (drop (i + 1) xs) =
+    sum_by-drop_more (λ (x : Row). cond (same_row row x) 1 0) xs i no_row within in
+    step ∙ ap (λ (n : ℕ). n + times row (drop (i + 1) xs)) (sym (times_one row (row_nth xs i)))
+
+pub times_rest : (row : Row) (xs : List Row) (i : ℕ) → times row (take i xs) + times row (drop i xs) ≡ times row xs
+unfolding times
+times_rest row xs i = sum_by-take-drop (λ (x : Row). cond (same_row row x) 1 0) xs i
+
+-- both changes make the same of rows that hold what is dropped
+changed_without : (drops adds gone new old after : List Row) → ((row : Row) → times row drops ≤ times row old) → AreWithout adds drops gone
+    → AreWithout drops adds new → HasChanged drops adds old after → HasChanged gone new old after
+changed_without drops adds gone new old after held gone_is new_is changed row =
+    omega (arith, held row, gone_is row, new_is row, changed row)
+
+-- the packages' rows hold those of a number
+pub rows_held : (n : Option ℕ) (packages : finite.FinMap nat_cmp Package) (row : Row) → times row (old_rows n packages) ≤ times row (rows packages)
+rows_held None packages row = omega (arith, times_none row)
+rows_held (Some n) packages row = elim (cases_Bool (row.number == n)) [
+  | inl same ↦
+      (let is : row.number ≡ n = grind (arith, nat_tests) in
+      let here = times-rows row packages ∙ ap (λ (q : ℕ). times row (rows_at q (finite.get packages q))) is in
+      omega (arith, here))
+  | inr other ↦ (let apart : row.number ≡ n → ⊥ = λ is. grind (arith, nat_tests) in omega (arith, of_at n (finite.get packages n) row apart))
+]
+
+-- so both make the same of the packages' rows
+pub changed_still : (n : Option ℕ) (packages : finite.FinMap nat_cmp Package) (adds gone new after : List Row)
+    → AreWithout adds (old_rows n packages) gone → AreWithout (old_rows n packages) adds new
+    → HasChanged (old_rows n packages) adds (rows packages) after → HasChanged gone new (rows packages) after
+changed_still n packages adds gone new after =
+    changed_without (old_rows n packages) adds gone new (rows packages) after (rows_held n packages)
