@@ -128,6 +128,23 @@ fn a_package_is_added_replaced_and_erased(rt: HostRuntime) -> Result<(), Fail> {
     Ok(())
 }
 
+#[test]
+fn rows_that_both_headers_have_stay(rt: HostRuntime) -> Result<(), Fail> {
+    let alloc = rt.alloc();
+    let mut disk = MemDisk::new(alloc, &store_of_one(alloc)?, &index_of_one(alloc)?, &[])?;
+    let mut newer = PLAIN;
+    newer[74] = 0x33;
+    assert!(rt; change(alloc, &mut disk, Step::Put(1, &newer)) == Some(Ok(1)));
+    // the first two units, which opening reads
+    assert_eq!(rt; disk.bytes_read(File::Idx), 32);
+    let mut sealed = index_of_one(alloc)?;
+    if sealed.len() > 8 {
+        sealed[8] = 3;
+    }
+    assert!(rt; disk.copy_file(alloc, File::Idx)? == sealed);
+    Ok(())
+}
+
 // What a change of the seven packages answers, and how many have the name `a` then, with the sum of their numbers. The number that
 // stands at this byte of the file is the last one.
 fn changed(
