@@ -15,6 +15,7 @@ pub mod Changed
 pub mod Both
 pub mod SameLogs
 pub mod Prepared
+pub mod Wholes
 pub mod Edited
 pub mod Unwritten
 pub mod Planning

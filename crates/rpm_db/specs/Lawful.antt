@@ -12,9 +12,13 @@ use Rattle.rpm_hindex.specs.Whole.{IsWellFormed}
 use Rattle.rpm_db.specs.State.{Package, packages}
 use Rattle.rpm_db.specs.Rows.{rows}
 
+-- an index that is well formed as a whole, whatever rows it holds
+abbrev pub IsWholeIndex : Units → Type 0
+IsWholeIndex idx = IsWellFormed (buckets_of (unit_at idx 0)) idx
+
 -- an index that is well formed and holds the rows of these packages, each as often
 pub record HasRows (packages : FinMap nat_cmp Package) (idx : Units) : Type 0 where
-  pub whole : IsWellFormed (buckets_of (unit_at idx 0)) idx
+  pub whole : IsWholeIndex idx
   pub same : SameRows (rows packages) (records (buckets_of (unit_at idx 0)) idx)
 
 -- an index is sealed at this generation, and its first two units are in order

@@ -9,6 +9,7 @@ use Rattle.rpm_hindex.specs.declared.faults.PrepareFault.TheVariants as prepare
 use Rattle.rpm_db.specs.declared.change.ChangeFault.{ChangeFault}
 use Rattle.rpm_db.specs.declared.change.ChangeFault.TheVariants.{BadHeader, NoSuch, NumbersSpent, GenerationSpent, StoreFull, IndexFull, BadIndex, Stopped, DiskFault, NoMemory}
 use Rattle.rpm_db.specs.Database.{Database, holds, next_number}
+use Rattle.rpm_db.specs.Lawful.{IsWholeIndex}
 
 -- behind the header and the number: the generation, and then the room in the store; the index comes last
 abbrev pub LaterCause : ℕ → Type 0 → ChangeFault → Type 0
@@ -81,6 +82,15 @@ BadCause idx _ = Unit {0}
 abbrev pub BadIndexIs : {A : Type 0} → Units → Result A ChangeFault → Type 0
 BadIndexIs idx (Ok done) = Unit {0}
 BadIndexIs idx (Err fault) = BadCause idx fault
+
+-- a change of an index that is well formed as a whole leaves one, and isn't refused for it
+abbrev pub WholeCause : ChangeFault → Type 0
+WholeCause (BadIndex unit) = ⊥
+WholeCause _ = Unit {0}
+
+abbrev pub StaysWhole : {A : Type 0} → Units → Result A ChangeFault → Type 0
+StaysWhole idx (Ok done) = IsWholeIndex idx
+StaysWhole idx (Err fault) = WholeCause fault
 
 -- the files stay
 abbrev pub IsRefusal : ChangeFault → Type 0

@@ -10,8 +10,8 @@ ghost use Rattle.rpm_pkgdb.specs.Planned.{IsFull};
 ghost use Rattle.rpm_hindex.specs.Sizes.{units_for};
 ghost use Rattle.rpm_db.specs.Changes.{Add, Put, Erase, apply, AllSay, IsChangedStill, IsServing, ReadsAtMost, with_room};
 ghost use Rattle.rpm_db.specs.Database.{IsIndexed, holds, is_blank, is_indexed, next_number, cost};
-ghost use Rattle.rpm_db.specs.Lawful.{AreLawful};
-ghost use Rattle.rpm_db.specs.Refusals.{LaterIs, AddIs, PutIs, EraseIs, FullIndexIs, BadIndexIs, IsRefusal, is_stopping};
+ghost use Rattle.rpm_db.specs.Lawful.{IsWholeIndex, AreLawful};
+ghost use Rattle.rpm_db.specs.Refusals.{LaterIs, AddIs, PutIs, EraseIs, FullIndexIs, BadIndexIs, StaysWhole, IsRefusal, is_stopping};
 ghost use Rattle.rpm_db.specs.Room.{RoomIs, next_store};
 ghost use Rattle.rpm_db.specs.Rows.{rows};
 ghost use Rattle.rpm_db.specs.Runs.{Runs};
@@ -61,6 +61,7 @@ impl Db {
             (D.files disk.new).idx self.new) }
         ensures full { IsTrue D.tells → IsIndexed (D.files disk.old).pkg (D.files disk.old).idx self.old → FullIndexIs (units_for (rows
             (apply (change_for n view.now.blob) (state (D.files disk.old).pkg self.old.store)).packages)) result }
+        ensures whole { IsTrue D.tells → IsWholeIndex (D.files disk.old).idx → StaysWhole (D.files disk.new).idx result }
         ensures bad { IsTrue D.tells → BadIndexIs (D.files disk.old).idx result }
         ensures serving { result ≢ Err ChangeFault.DiskFault → IsTrue D.tells → IsServing (D.files disk.new)
             (D.left_since disk.new (D.moment disk.new)) self.new }
@@ -129,6 +130,7 @@ impl Db {
             (D.files disk.new).idx self.new) }
         ensures full { IsTrue D.tells → self.old.stopped ≡ false → IsIndexed (D.files disk.old).pkg (D.files disk.old).idx self.old → (h : Header)
             → header blob.now ≡ Ok h → FullIndexIs (units_for (rows (apply (Add h.blob) (state (D.files disk.old).pkg self.old.store)).packages)) result }
+        ensures whole { IsTrue D.tells → IsWholeIndex (D.files disk.old).idx → StaysWhole (D.files disk.new).idx result }
         ensures bad { IsTrue D.tells → BadIndexIs (D.files disk.old).idx result }
         ensures serving { result ≢ Err ChangeFault.DiskFault → self.old.stopped ≡ false → IsTrue D.tells → IsServing (D.files disk.new)
             (D.left_since disk.new (D.moment disk.new)) self.new }
@@ -198,6 +200,7 @@ impl Db {
             (D.files disk.new).idx self.new) }
         ensures full { IsTrue D.tells → self.old.stopped ≡ false → IsIndexed (D.files disk.old).pkg (D.files disk.old).idx self.old → (h : Header)
             → header blob.now ≡ Ok h → FullIndexIs (units_for (rows (apply (Put n h.blob) (state (D.files disk.old).pkg self.old.store)).packages)) result }
+        ensures whole { IsTrue D.tells → IsWholeIndex (D.files disk.old).idx → StaysWhole (D.files disk.new).idx result }
         ensures bad { IsTrue D.tells → BadIndexIs (D.files disk.old).idx result }
         ensures serving { result ≢ Err ChangeFault.DiskFault → self.old.stopped ≡ false → IsTrue D.tells → IsServing (D.files disk.new)
             (D.left_since disk.new (D.moment disk.new)) self.new }
@@ -262,6 +265,7 @@ impl Db {
             (D.files disk.new).idx self.new) }
         ensures full { IsTrue D.tells → self.old.stopped ≡ false → IsIndexed (D.files disk.old).pkg (D.files disk.old).idx self.old
             → FullIndexIs (units_for (rows (apply (Erase n) (state (D.files disk.old).pkg self.old.store)).packages)) result }
+        ensures whole { IsTrue D.tells → IsWholeIndex (D.files disk.old).idx → StaysWhole (D.files disk.new).idx result }
         ensures bad { IsTrue D.tells → BadIndexIs (D.files disk.old).idx result }
         ensures serving { result ≢ Err ChangeFault.DiskFault → self.old.stopped ≡ false → IsTrue D.tells → IsServing (D.files disk.new)
             (D.left_since disk.new (D.moment disk.new)) self.new }

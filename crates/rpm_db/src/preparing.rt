@@ -11,14 +11,14 @@ ghost use Rattle.rpm_pkgdb.specs.Store.{Keeps};
 ghost use Rattle.rpm_hindex.specs.Plans.{CanWrite, LeavesOrder, HasChanged};
 ghost use Rattle.rpm_hindex.specs.Sizes.{units_for};
 ghost use Rattle.rpm_hindex.specs.State as hindex;
-ghost use Rattle.rpm_db.specs.Lawful.{HasRows};
+ghost use Rattle.rpm_db.specs.Lawful.{HasRows, IsWholeIndex};
 ghost use Rattle.rpm_db.specs.Openings.{IsOutside};
 ghost use Rattle.rpm_db.specs.Refusals.{FullIndexIs, BadIndexIs, IsOfIndex, IsOfReading};
 ghost use Rattle.rpm_db.specs.Rows.{header_rows, rows_at, rows};
 ghost use Rattle.rpm_db.specs.Runs.{Runs};
 ghost use Rattle.rpm_db.specs.State.{Package, packages};
 ghost use Rattle.rpm_db.specs.inner.Places.{AreWithout};
-ghost use Rattle.rpm_db.specs.inner.Writes.{WritesRows, SameFiles, old_rows, cost_before};
+ghost use Rattle.rpm_db.specs.inner.Writes.{WritesRows, WritesWhole, SameFiles, old_rows, cost_before};
 
 use crate::change::ChangeFault;
 use crate::rows::{push_header, push_package};
@@ -117,6 +117,7 @@ fn prepare_rows<D: Disk>(
         → HasChanged drops.now adds.now (rows before) (rows after) → WritesRows (rows after) plan.work (D.files disk.old).idx) }
     ensures full { IsTrue D.tells → (before after : finite.FinMap nat_cmp Package) → HasRows before (D.files disk.old).idx
         → HasChanged drops.now adds.now (rows before) (rows after) → FullIndexIs (units_for (rows after)) result }
+    ensures whole { IfOk result (λ plan. IsTrue D.tells → IsWholeIndex (D.files disk.old).idx → WritesWhole plan.work (D.files disk.old).idx) }
     ensures bad { IsTrue D.tells → BadIndexIs (D.files disk.old).idx result }
     ensures kinds { IfErr result IsOfIndex }
     ensures unread { D.bytes_read disk.new Pkg ≤ D.bytes_read disk.old Pkg }
@@ -154,6 +155,7 @@ pub fn prepare_put<D: Disk>(
     ensures full { IsTrue D.tells → (after : finite.FinMap nat_cmp Package) → HasRows (packages (D.files disk.old).pkg store.now) (D.files disk.old).idx
         → HasChanged (old_rows n (packages (D.files disk.old).pkg store.now)) (header_rows number view.now)
         (rows (packages (D.files disk.old).pkg store.now)) (rows after) → FullIndexIs (units_for (rows after)) result }
+    ensures whole { IfOk result (λ plan. IsTrue D.tells → IsWholeIndex (D.files disk.old).idx → WritesWhole plan.work (D.files disk.old).idx) }
     ensures bad { IsTrue D.tells → BadIndexIs (D.files disk.old).idx result }
     ensures kinds { IfErr result IsOfIndex }
     ensures reads { D.bytes_read disk.new Pkg ≤ D.bytes_read disk.old Pkg + cost_before n store.now }
@@ -190,6 +192,7 @@ pub fn prepare_erase<D: Disk>(
     ensures full { IsTrue D.tells → (after : finite.FinMap nat_cmp Package) → HasRows (packages (D.files disk.old).pkg store.now) (D.files disk.old).idx
         → HasChanged (rows_at n (finite.get (packages (D.files disk.old).pkg store.now) n)) []
         (rows (packages (D.files disk.old).pkg store.now)) (rows after) → FullIndexIs (units_for (rows after)) result }
+    ensures whole { IfOk result (λ plan. IsTrue D.tells → IsWholeIndex (D.files disk.old).idx → WritesWhole plan.work (D.files disk.old).idx) }
     ensures bad { IsTrue D.tells → BadIndexIs (D.files disk.old).idx result }
     ensures kinds { IfErr result IsOfIndex }
     ensures reads { D.bytes_read disk.new Pkg ≤ D.bytes_read disk.old Pkg + cost n store.now }

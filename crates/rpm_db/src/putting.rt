@@ -20,13 +20,13 @@ ghost use Rattle.rpm_hindex.specs.Plans.{CanWrite, LeavesOrder};
 ghost use Rattle.rpm_hindex.specs.Sizes.{units_for};
 ghost use Rattle.rpm_hindex.specs.State as hindex;
 ghost use Rattle.rpm_db.specs.Changes.{IsChangedStill, ReadsAtMost};
-ghost use Rattle.rpm_db.specs.Lawful.{HasRows, AreLawful};
+ghost use Rattle.rpm_db.specs.Lawful.{HasRows, IsWholeIndex, AreLawful};
 ghost use Rattle.rpm_db.specs.Refusals.{LaterIs, FullIndexIs, BadIndexIs, IsRefusal};
 ghost use Rattle.rpm_db.specs.Room.{RoomCause, RoomIs, raised};
 ghost use Rattle.rpm_db.specs.Rows.{rows};
 ghost use Rattle.rpm_db.specs.Runs.{Runs};
 ghost use Rattle.rpm_db.specs.State.{packages, state};
-ghost use Rattle.rpm_db.specs.inner.Writes.{SameLog, SameFiles, WritesRows, packages_of, state_of, number_for, field_for, cost_before};
+ghost use Rattle.rpm_db.specs.inner.Writes.{SameLog, SameFiles, WritesRows, WritesWhole, packages_of, state_of, number_for, field_for, cost_before};
 
 use crate::change::ChangeFault;
 use crate::changing::{write_erase, write_put};
@@ -77,6 +77,7 @@ fn plan_put<D: Disk>(
         (D.files disk.old).idx) }
     ensures full { IsTrue D.tells → HasRows (packages (D.files disk.old).pkg store.old) (D.files disk.old).idx → FullIndexIs
         (units_for (rows (packages_of (finite.insert (blobs (D.files disk.old).pkg store.old) (number_for n store.old) (Some view.now.blob))))) result }
+    ensures whole { IfOk result (λ planned. IsTrue D.tells → IsWholeIndex (D.files disk.old).idx → WritesWhole planned.1.work (D.files disk.old).idx) }
     ensures bad { IsTrue D.tells → BadIndexIs (D.files disk.old).idx result }
     ensures reads { D.bytes_read disk.new Pkg ≤ D.bytes_read disk.old Pkg + cost_before n store.old }
     ensures runs { Runs D.tells D.files D.left_since D.moment D.bytes_read D.follows SameFiles disk.old disk.new }
@@ -137,6 +138,7 @@ pub fn put_header<D: Disk>(
         → HasRows (packages (D.files disk.new).pkg store.new) (D.files disk.new).idx) }
     ensures full { IsTrue D.tells → HasRows (packages (D.files disk.old).pkg store.old) (D.files disk.old).idx → FullIndexIs
         (units_for (rows (packages_of (finite.insert (blobs (D.files disk.old).pkg store.old) (number_for n store.old) (Some view.now.blob))))) result }
+    ensures whole { OnOk result (IsTrue D.tells → IsWholeIndex (D.files disk.old).idx → IsWholeIndex (D.files disk.new).idx) }
     ensures bad { IsTrue D.tells → BadIndexIs (D.files disk.old).idx result }
     ensures refused { IfErr result (λ e. IsRefusal e → (store.new ≡ with_spare store.new.spare store.old) × (index.new ≡ index.old)) }
     ensures same { IfErr result (λ e. IsRefusal e → Runs D.tells D.files D.left_since D.moment D.bytes_read D.follows SameFiles disk.old disk.new) }
@@ -194,6 +196,7 @@ pub fn erase_number<D: Disk>(
         → HasRows (packages (D.files disk.new).pkg store.new) (D.files disk.new).idx) }
     ensures full { IsTrue D.tells → HasRows (packages (D.files disk.old).pkg store.old) (D.files disk.old).idx → FullIndexIs
         (units_for (rows (packages_of (finite.remove (blobs (D.files disk.old).pkg store.old) n)))) result }
+    ensures whole { OnOk result (IsTrue D.tells → IsWholeIndex (D.files disk.old).idx → IsWholeIndex (D.files disk.new).idx) }
     ensures bad { IsTrue D.tells → BadIndexIs (D.files disk.old).idx result }
     ensures refused { IfErr result (λ e. IsRefusal e → (store.new ≡ store.old) × (index.new ≡ index.old)) }
     ensures same { IfErr result (λ e. IsRefusal e → Runs D.tells D.files D.left_since D.moment D.bytes_read D.follows SameFiles disk.old disk.new) }

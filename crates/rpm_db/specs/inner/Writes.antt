@@ -49,9 +49,13 @@ abbrev pub IndexTo : ℕ → Work → Units → Units → Units → Type 0
 IndexTo generation work file from image =
     (unit_at image 0 ≡ blank) ⊎ ((unit_at image 0 ≡ unit_at from 0) ⊎ IsSealedAfter generation work file image)
 
+-- writing this to an index makes a well formed one
+abbrev pub WritesWhole : Work → Units → Type 0
+WritesWhole work file = IsWellFormed (buckets_after work) (after work file)
+
 -- writing this to an index makes a well formed one of these rows
 pub record WritesRows (rows : List Row) (work : Work) (file : Units) : Type 0 where
-  pub whole : IsWellFormed (buckets_after work) (after work file)
+  pub whole : WritesWhole work file
   pub same : SameRows rows (records (buckets_after work) (after work file))
 
 -- the log stays

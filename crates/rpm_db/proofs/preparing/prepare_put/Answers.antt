@@ -7,6 +7,7 @@ use Rattle.rpm_db.specs.State.{packages}
 use Rattle.rpm_db.specs.inner.Running.{runs_then}
 use Rattle.rpm_db.specs.inner.Writes.{WritesRows, SameFiles}
 use Rattle.rpm_db.proofs.Shared.{changed_still}
+use Rattle.rpm_db.proofs.Wholes.{whole_work}
 use Rattle.rpm_db.proofs.preparing.prepare_put.Goals as goal
 
 pub prepare_rows-requires-clause-keeps : goal.prepare_rows-requires-clause-keeps
@@ -23,6 +24,11 @@ returns-in-Ok-prepare_rows-clause-makes g c = λ told new has changed.
     (c.in-Ok.ensures.adds told) changed in
     subst (λ (f : Files). WritesRows (rows new) c.in-Ok-prepare_rows.plan.work f.idx) same
     (c.in-Ok-prepare_rows.ensures.makes told P new here still)
+
+pub returns-in-Ok-prepare_rows-clause-whole : goal.returns-in-Ok-prepare_rows-clause-whole
+returns-in-Ok-prepare_rows-clause-whole g c = λ told whole.
+    whole_work c.in-Ok-prepare_rows.plan.work (g.D.Disk.files c.args.disk.now) (g.D.Disk.files c.rows_apart.new.disk) (c.in-Ok.ensures.runs.reads_as told)
+    (c.in-Ok-prepare_rows.ensures.whole told) whole
 
 pub returns-in-Ok-prepare_rows-clause-full : goal.returns-in-Ok-prepare_rows-clause-full
 returns-in-Ok-prepare_rows-clause-full g c = λ told new has changed.

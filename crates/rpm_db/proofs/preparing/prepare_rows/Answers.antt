@@ -10,6 +10,7 @@ use Rattle.rpm_db.specs.Rows.{rows}
 use Rattle.rpm_db.specs.inner.Running.{runs_looks}
 use Rattle.rpm_db.specs.inner.Writes.{SameFiles}
 use Rattle.rpm_db.proofs.Prepared.{of_records, writes_rows, never_bad}
+use Rattle.rpm_db.proofs.Wholes.{whole_plan}
 use Rattle.rpm_db.proofs.preparing.prepare_rows.Goals as goal
 
 pub returns-in-Ok-clause-makes : goal.returns-in-Ok-clause-makes
@@ -21,6 +22,11 @@ returns-in-Ok-clause-makes g c = λ told old new has changed.
     let whole = subst (λ (u : List ℕ). IsWellFormed (buckets_of u) idx) (sym first) has.whole in
     writes_rows drops adds old new idx has changed c.in-Ok.plan.work
     (subst (λ (u : List ℕ). IsPlanFor drops adds (buckets_of u) idx c.in-Ok.plan.work) first (c.in-Ok.ensures.makes told whole))
+
+pub returns-in-Ok-clause-whole : goal.returns-in-Ok-clause-whole
+returns-in-Ok-clause-whole g c = λ told whole.
+    whole_plan c.args.drops.now c.args.adds.now c.args.index.now.first (g.D.Disk.files c.args.disk.now).idx c.in-Ok.plan.work
+    (c.requires.keeps told).first (c.in-Ok.ensures.makes told) whole
 
 pub returns-in-Ok-clause-full : goal.returns-in-Ok-clause-full
 returns-in-Ok-clause-full g c = λ told old new has changed.

@@ -10,6 +10,7 @@ use Rattle.rpm_db.proofs.Edited.{rows_erased}
 use Rattle.rpm_db.proofs.Found.{current_in_order}
 use Rattle.rpm_db.proofs.Planning.{stops_erase, state_written, rows_written}
 use Rattle.rpm_db.proofs.Unwritten.{quiet_same, settled_same, log_same, log_then, stops_refused}
+use Rattle.rpm_db.proofs.Wholes.{whole_sealed}
 use Rattle.rpm_db.proofs.putting.erase_number.Goals as goal
 
 -- ---- what the write asks for
@@ -109,6 +110,11 @@ returns-in-Ok-write_erase-clause-rows g c = λ told has.
     rows_written new.pkg new.idx old.idx (f c.prepare_erase.new.disk).idx after after.generation c.in-Ok.change.work goes_to
     (w.blobs told ∙ ap (λ (fs : Files). finite.remove (blobs fs.pkg st) c.args.n) same) (ap (λ (fs : Files). fs.idx) same)
     (e.makes told (packages_of goes_to) has (rows_erased old.pkg st c.args.n)) (w.sealed told)
+
+pub returns-in-Ok-write_erase-clause-whole : goal.returns-in-Ok-write_erase-clause-whole
+returns-in-Ok-write_erase-clause-whole g c = λ told whole.
+    let e = c.in-Ok.ensures in
+    whole_sealed _ c.in-Ok.change.work _ _ _ (e.runs.reads_as told) (e.whole told whole) (c.in-Ok-write_erase.ensures.sealed told)
 
 pub returns-in-Ok-write_erase-clause-runs : goal.returns-in-Ok-write_erase-clause-runs
 returns-in-Ok-write_erase-clause-runs g c =

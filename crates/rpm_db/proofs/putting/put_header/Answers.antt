@@ -9,6 +9,7 @@ use Rattle.rpm_db.proofs.Planning.{number_put, reads_of_put, state_put, rows_put
 use Rattle.rpm_db.proofs.Puts.{reads_planned}
 use Rattle.rpm_db.proofs.Rooms.{put_placed, room_put}
 use Rattle.rpm_db.proofs.Unwritten.{quiet_roomed, settled_same, log_same, log_then, stops_refused}
+use Rattle.rpm_db.proofs.Wholes.{whole_sealed}
 use Rattle.rpm_db.proofs.putting.put_header.Goals as goal
 
 -- ---- what the write asks for
@@ -101,9 +102,7 @@ returns-in-Ok-write_put-clause-going g c =
 
 pub returns-in-Ok-write_put-clause-placed : goal.returns-in-Ok-write_put-clause-placed
 returns-in-Ok-write_put-clause-placed g c =
-    let e = c.in-Ok.ensures in
-    put_placed c.args.n (length c.args.view.now.blob) c.args.store.now c.plan_put.new.store c.write_put.new.store c.in-Ok.planned.0 e.placed e.value
-    c.in-Ok-write_put.ensures.ok
+    put_placed _ _ _ _ _ c.in-Ok.planned.0 c.in-Ok.ensures.placed c.in-Ok.ensures.value c.in-Ok-write_put.ensures.ok
 
 pub returns-in-Err-clause-placed : goal.returns-in-Err-clause-placed
 returns-in-Err-clause-placed g c = room_put c.args.n (length c.args.view.now.blob) c.args.store.now c.in-Err.fault c.in-Err.ensures.nowhere
@@ -118,16 +117,18 @@ plan_put-requires-clause-order g c = current_in_order c.args.store.now.generatio
 pub returns-in-Ok-write_put-clause-state : goal.returns-in-Ok-write_put-clause-state
 returns-in-Ok-write_put-clause-state g c = λ told.
     let e = c.in-Ok.ensures in
-    let w = c.in-Ok-write_put.ensures in
     state_put _ _ _ _ _ _ _ _ c.write_put.new.disk told e.runs (record { room = e.value; plan_is = e.plan; asked = e.asked; own = c.blob.ensures.value })
-    c.write_put.new.store (w.blobs told) (ap (λ (v : Store). v.field) w.ok)
+    c.write_put.new.store (c.in-Ok-write_put.ensures.blobs told) (ap (λ (v : Store). v.field) c.in-Ok-write_put.ensures.ok)
 
 pub returns-in-Ok-write_put-clause-rows : goal.returns-in-Ok-write_put-clause-rows
 returns-in-Ok-write_put-clause-rows g c = λ told has.
     let e = c.in-Ok.ensures in
-    let w = c.in-Ok-write_put.ensures in
     rows_put _ _ _ _ _ _ _ _ c.write_put.new.disk told e.runs (record { room = e.value; plan_is = e.plan; asked = e.asked; own = c.blob.ensures.value })
-    c.write_put.new.store c.in-Ok.planned.1.work (w.blobs told) (e.makes told has) (w.sealed told)
+    c.write_put.new.store c.in-Ok.planned.1.work (c.in-Ok-write_put.ensures.blobs told) (e.makes told has) (c.in-Ok-write_put.ensures.sealed told)
+
+pub returns-in-Ok-write_put-clause-whole : goal.returns-in-Ok-write_put-clause-whole
+returns-in-Ok-write_put-clause-whole g c = λ told whole.
+    let e = c.in-Ok.ensures in whole_sealed _ c.in-Ok.planned.1.work _ _ _ (e.runs.reads_as told) (e.whole told whole) (c.in-Ok-write_put.ensures.sealed told)
 
 pub returns-in-Ok-write_put-clause-reads : goal.returns-in-Ok-write_put-clause-reads
 returns-in-Ok-write_put-clause-reads g c =

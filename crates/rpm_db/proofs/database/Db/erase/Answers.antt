@@ -17,6 +17,7 @@ use Rattle.rpm_db.proofs.Unwritten.{stops_told}
 use Rattle.rpm_db.proofs.Refused.{is_refusal, stopping_is, refusal_goes, erase_cause}
 use Rattle.rpm_db.proofs.Rooms.{room_erased}
 use Rattle.rpm_db.proofs.Served.{database_of, indexed_as, rows_of_disk, room_same, refused_same, serving_same, serving_inside}
+use Rattle.rpm_db.proofs.Wholes.{whole_cause}
 use Rattle.rpm_db.proofs.database.Db.erase.Goals as goal
 
 pub returns-in-Ok-clause-placed : goal.returns-in-Ok-clause-placed
@@ -91,6 +92,9 @@ returns-in-Err-clause-causes g c =
     ap (λ (v : Store). is_some (slot_with c.args.n v.slots)) (sym same) ∙ sym c.holds.ensures ∙ c.if-not-holds.false in
     erase_cause c.args.self.now c.args.n c.in-Err.fault told_going here
     (subst (λ (v : Store). LaterCause v.generation ⊥ c.in-Err.fault) same c.in-Err.ensures.later)
+
+pub returns-in-Err-clause-whole : goal.returns-in-Err-clause-whole
+returns-in-Err-clause-whole g c = λ told whole. whole_cause _ c.in-Err.fault whole (c.in-Err.ensures.bad told)
 
 pub returns-in-Err-clause-placed : goal.returns-in-Err-clause-placed
 returns-in-Err-clause-placed g c =

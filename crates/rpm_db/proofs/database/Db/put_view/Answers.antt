@@ -17,6 +17,7 @@ use Rattle.rpm_db.proofs.Unwritten.{stops_told}
 use Rattle.rpm_db.proofs.Refused.{is_refusal, stopping_is, refusal_goes}
 use Rattle.rpm_db.proofs.Rooms.{put_next}
 use Rattle.rpm_db.proofs.Served.{database_of, indexed_as, rows_of_disk, refused_room, serving_same, serving_inside}
+use Rattle.rpm_db.proofs.Wholes.{whole_cause}
 use Rattle.rpm_db.proofs.database.Db.put_view.Goals as goal
 
 pub returns-in-Ok-clause-later : goal.returns-in-Ok-clause-later
@@ -64,12 +65,11 @@ returns-in-Ok-clause-full g c = λ told was.
 
 pub returns-in-Err-clause-full : goal.returns-in-Err-clause-full
 returns-in-Err-clause-full g c = λ told was.
-    let st = c.self.inside.store in
     let old = g.D.Disk.files c.args.disk.now in
     let same : c.self.inside.store ≡ c.args.self.now.store = ap (λ (db : Database). db.store) c.self.view_is in
     let has = subst (λ (v : Store). HasRows (packages old.pkg v) old.idx) (sym same) was.rows_are in
     subst (λ (s : State). FullCause (units_for (rows s.packages)) c.in-Err.fault)
-    (put_goes old.pkg st c.args.self.now.store same c.args.n c.args.view.now c.requires.own) (c.in-Err.ensures.full told has)
+    (put_goes old.pkg c.self.inside.store c.args.self.now.store same c.args.n c.args.view.now c.requires.own) (c.in-Err.ensures.full told has)
 
 pub returns-in-Ok-clause-stops : goal.returns-in-Ok-clause-stops
 returns-in-Ok-clause-stops g c = λ told lawful.
@@ -94,6 +94,9 @@ returns-in-Err-clause-later g c =
     let same : c.self.inside.store ≡ c.args.self.now.store = ap (λ (db : Database). db.store) c.self.view_is in
     subst (λ (v : Store). LaterCause v.generation (IsFull v (is_none c.args.n) (length c.args.view.now.blob)) c.in-Err.fault) same
     c.in-Err.ensures.later
+
+pub returns-in-Err-clause-whole : goal.returns-in-Err-clause-whole
+returns-in-Err-clause-whole g c = λ told whole. whole_cause _ c.in-Err.fault whole (c.in-Err.ensures.bad told)
 
 pub returns-in-Err-clause-placed : goal.returns-in-Err-clause-placed
 returns-in-Err-clause-placed g c =

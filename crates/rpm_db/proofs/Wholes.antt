@@ -1,0 +1,46 @@
+-- An index that is well formed as a whole, while a change of it is worked out and written.
+use Rattle.std.proofs.Common.{◌≡◌, ℕ, List, sym, subst}
+use Rattle.rpm_outside.specs.Files.{Units, Files, unit_at}
+use Rattle.rpm_hindex.specs.declared.planning.Work.{Work}
+use Rattle.rpm_hindex.specs.Plans.{IsPlanFor}
+use Rattle.rpm_hindex.specs.Rows.{Row}
+use Rattle.rpm_hindex.specs.State.{buckets_of}
+use Rattle.rpm_hindex.specs.Whole.{IsWellFormed}
+use Rattle.rpm_db.specs.declared.change.ChangeFault.{ChangeFault}
+use Rattle.rpm_db.specs.declared.change.ChangeFault.TheVariants.{BadHeader, NoSuch, NumbersSpent, GenerationSpent, StoreFull, IndexFull, BadIndex, Stopped, DiskFault, NoMemory}
+use Rattle.rpm_db.specs.Lawful.{IsWholeIndex}
+use Rattle.rpm_db.specs.Refusals.{BadCause, WholeCause}
+use Rattle.rpm_db.specs.inner.Writes.{WritesWhole, IsSealedAfter}
+use Rattle.rpm_db.proofs.Prepared.{never_bad}
+
+-- a change is worked out, told by the first unit that a value keeps
+pub whole_plan : (drops adds : List Row) (first : List ℕ) (idx : Units) (work : Work) → first ≡ unit_at idx 0
+    → (IsWellFormed (buckets_of first) idx → IsPlanFor drops adds (buckets_of first) idx work) → IsWholeIndex idx → WritesWhole work idx
+unfolding IsPlanFor
+whole_plan drops adds first idx work same makes whole = (makes (subst (λ (u : List ℕ). IsWellFormed (buckets_of u) idx) (sym same) whole)).whole
+
+-- it is worked out on files that are the same
+pub whole_work : (work : Work) (from mid : Files) → mid ≡ from → (IsWholeIndex mid.idx → WritesWhole work mid.idx) → IsWholeIndex from.idx
+    → WritesWhole work from.idx
+whole_work work from mid same makes whole =
+    subst (λ (f : Files). WritesWhole work f.idx) same (makes (subst (λ (f : Files). IsWholeIndex f.idx) (sym same) whole))
+
+-- and written and sealed
+pub whole_sealed : (generation : ℕ) (work : Work) (from mid : Files) (idx : Units) → mid ≡ from → WritesWhole work from.idx
+    → IsSealedAfter generation work mid.idx idx → IsWholeIndex idx
+whole_sealed generation work from mid idx same writes sealed =
+    let is = (subst (λ (f : Files). IsSealedAfter generation work f.idx idx) same sealed).sealed writes in
+    subst (λ (buckets : ℕ). IsWellFormed buckets idx) (sym is.buckets_are) is.whole
+
+-- or refused, but not for the index
+pub whole_cause : (idx : Units) (fault : ChangeFault) → IsWholeIndex idx → BadCause idx fault → WholeCause fault
+whole_cause idx (BadHeader f) whole bad = tt
+whole_cause idx NoSuch whole bad = tt
+whole_cause idx NumbersSpent whole bad = tt
+whole_cause idx GenerationSpent whole bad = tt
+whole_cause idx StoreFull whole bad = tt
+whole_cause idx (IndexFull needed) whole bad = tt
+whole_cause idx (BadIndex unit) whole bad = never_bad (buckets_of (unit_at idx 0)) unit idx whole bad
+whole_cause idx Stopped whole bad = tt
+whole_cause idx DiskFault whole bad = tt
+whole_cause idx NoMemory whole bad = tt
