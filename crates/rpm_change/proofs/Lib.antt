@@ -16,3 +16,4 @@ pub mod Told
 pub mod Texts
 pub mod Turned
 pub mod Unchanged
+pub mod Wholes

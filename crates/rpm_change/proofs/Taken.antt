@@ -2,6 +2,7 @@
 use Rattle.std.proofs.Common.{◌≡◌, ℕ, Bool, true, List, Option, Some, None, Result, Ok, Err, sym, ap, subst, refl, ◌∙◌, arith}
 use Rattle.std.specs.Prelude.{IsTrue, IfOk, IfErr, OnOk}
 use Rattle.rpm_outside.specs.Causes.{HasCauseAt}
+use Rattle.rpm_outside.specs.Files.{Units}
 use Rattle.rpm_file.specs.declared.fault.ListFault.{ListFault}
 use Rattle.rpm_file.specs.declared.fault.ListFault.TheVariants as list
 use Rattle.rpm_file.specs.Answers.{IsListFault}
@@ -10,8 +11,9 @@ use Rattle.rpm_change.specs.declared.tally.Tally.{Tally}
 use Rattle.rpm_change.specs.declared.tally.Halt.{Halt}
 use Rattle.rpm_change.specs.declared.tally.Halt.TheVariants as halt
 use Rattle.rpm_change.specs.declared.import.Turn.{Turn}
+use Rattle.rpm_db.specs.Lawful.{IsWholeIndex}
 use Rattle.rpm_db.specs.State.{State}
-use Rattle.rpm_change.specs.Endings.{outputs, Done}
+use Rattle.rpm_change.specs.Endings.{outputs, Done, WholeTurn}
 use Rattle.rpm_change.specs.Steps.{Course, idle}
 use Rattle.rpm_change.specs.Turns.{turn, turn_found, Leaves, tally_of, IsOfEnding, IsOfImporting}
 use Rattle.rpm_change.proofs.Courses.{through_none}
@@ -72,6 +74,20 @@ module _ (r : Result Turn Halt) (w : Result Tally Halt) (value : tally_of r ≡ 
     later = cause.later;
     rose = λ e. cause.rose (is ∙ ap (λ (f : ListFault). Err f) (read (sym value ∙ ap tally_of e)));
   }
+
+-- an index that is well formed stays so
+pub ending_whole : (idx : Units) (w : Result Tally Halt) → IfErr w IsOfEnding → IsWholeIndex idx → WholeTurn idx w
+ending_whole idx (Ok t) k whole = whole
+ending_whole idx (Err halt.ShelfFault) k whole = tt
+ending_whole idx (Err halt.ErrFault) k whole = tt
+ending_whole idx (Err halt.NoMemory) k whole = tt
+ending_whole idx (Err halt.OutFault) k whole = absurd k
+ending_whole idx (Err halt.NumbersSpent) k whole = absurd k
+ending_whole idx (Err halt.GenerationSpent) k whole = absurd k
+ending_whole idx (Err halt.StoreFull) k whole = absurd k
+ending_whole idx (Err (halt.IndexFull needed)) k whole = absurd k
+ending_whole idx (Err (halt.BadIndex unit)) k whole = absurd k
+ending_whole idx (Err halt.DiskFault) k whole = absurd k
 
 -- nothing is left to do
 pub ending_leaves : (r : Result Turn Halt) (w : Result Tally Halt) → tally_of r ≡ w → IfOk r (λ t. t.is_last ≡ true)

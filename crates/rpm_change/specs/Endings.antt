@@ -2,10 +2,11 @@
 use Rattle.std.specs.Prelude.{◌≡◌, ◌⊎◌, ℕ, ◌^◌, ◌<◌, ◌≤◌, List, [], ◌∷◌, ◌++◌, length, Bool, true, false, IsTrue, Result, Ok, Err}
 use Rattle.std.specs.List.{flat_map}
 use Rattle.rpm_outside.specs.Sinks.{Gained}
-use Rattle.rpm_outside.specs.Files.{Files}
+use Rattle.rpm_outside.specs.Files.{Units, Files}
 use Rattle.rpm_hindex.specs.Sizes.{units_for}
 use Rattle.rpm_db.specs.Changes.{Change, apply, IsServing}
 use Rattle.rpm_db.specs.Database.{Database, IsIndexed}
+use Rattle.rpm_db.specs.Lawful.{IsWholeIndex}
 use Rattle.rpm_db.specs.Rows.{rows}
 use Rattle.rpm_db.specs.State.{State}
 use Rattle.rpm_db.specs.declared.change.ChangeFault.{ChangeFault}
@@ -93,6 +94,12 @@ IndexTurn s changes (Ok tally) = AllHaveRoom s changes
 IndexTurn s changes (Err (halt.IndexFull told)) = IsFullAt told s changes
 IndexTurn s changes (Err (halt.BadIndex unit)) = ⊥
 IndexTurn s changes (Err others) = Unit {0}
+
+-- a command that begins with an index that is well formed as a whole leaves one, and is never stopped for it
+abbrev pub WholeTurn : Units → Result Tally Halt → Type 0
+WholeTurn idx (Ok tally) = IsWholeIndex idx
+WholeTurn idx (Err (halt.BadIndex unit)) = ⊥
+WholeTurn idx (Err others) = Unit {0}
 
 -- ---- faults
 

@@ -8,11 +8,12 @@ ghost use Rattle.rpm_outside.specs.Causes.{HasCauseAt};
 ghost use Rattle.rpm_file.specs.Package.{read_again};
 ghost use Rattle.rpm_db.specs.Changes.{Add, Put, IsServing};
 ghost use Rattle.rpm_db.specs.Database.{IsIndexed, is_indexed, holds};
+ghost use Rattle.rpm_db.specs.Lawful.{IsWholeIndex};
 ghost use Rattle.rpm_db.specs.Runs.{Runs};
 ghost use Rattle.rpm_db.specs.State.{state};
 ghost use Rattle.rpm_db.specs.inner.Writes.{SameLog};
 ghost use Rattle.rpm_change.specs.Adding.{change_at, put_read, put_file, adding, add_files, stop_in, IsOfPlacing, IsOfPutting};
-ghost use Rattle.rpm_change.specs.Endings.{outputs, Ended, IsCarried, IndexTurn};
+ghost use Rattle.rpm_change.specs.Endings.{outputs, Ended, IsCarried, IndexTurn, WholeTurn};
 ghost use Rattle.rpm_change.specs.Limits.{SpentTurn, StoreTurn, LimitsTurn};
 ghost use Rattle.rpm_change.specs.Numbers.{NumbersTurn};
 ghost use Rattle.rpm_change.specs.Steps.{changing};
@@ -46,6 +47,7 @@ fn add_blob<D: Disk>(alloc: Global, db: &mut Db, disk: &mut D, blob: &[u8]) -> R
         → IndexTurn (state (D.files disk.old).pkg db.old.store) (Add blob.now ∷ []) result }
     ensures limits { IsTrue D.tells → LimitsTurn (state (D.files disk.old).pkg db.old.store) db.old.store db.new.store (Add blob.now ∷ []) result }
     ensures one { IfOk result (λ tally. tally.failed + tally.changes ≡ 1) }
+    ensures whole { IsTrue D.tells → IsWholeIndex (D.files disk.old).idx → WholeTurn (D.files disk.new).idx result }
     ensures carried { IfOk result (λ _tally. IsCarried D.tells (D.files disk.old) (D.files disk.new) (D.left_since disk.new (D.moment disk.new))
         db.old db.new) }
     ensures indexed { is_indexed db.new ≡ true }
@@ -82,6 +84,7 @@ fn replace_blob<D: Disk>(
         → IndexTurn (state (D.files disk.old).pkg db.old.store) (Put number blob.now ∷ []) result }
     ensures limits { IsTrue D.tells → LimitsTurn (state (D.files disk.old).pkg db.old.store) db.old.store db.new.store (Put number blob.now ∷ []) result }
     ensures one { IfOk result (λ tally. tally.failed + tally.changes ≡ 1) }
+    ensures whole { IsTrue D.tells → IsWholeIndex (D.files disk.old).idx → WholeTurn (D.files disk.new).idx result }
     ensures carried { IfOk result (λ _tally. IsCarried D.tells (D.files disk.old) (D.files disk.new) (D.left_since disk.new (D.moment disk.new))
         db.old db.new) }
     ensures indexed { is_indexed db.new ≡ true }
@@ -118,6 +121,7 @@ fn put_blob<D: Disk>(
         → IndexTurn (state (D.files disk.old).pkg db.old.store) (change_at number blob.now ∷ []) result }
     ensures limits { IsTrue D.tells → LimitsTurn (state (D.files disk.old).pkg db.old.store) db.old.store db.new.store (change_at number blob.now ∷ []) result }
     ensures one { IfOk result (λ tally. tally.failed + tally.changes ≡ 1) }
+    ensures whole { IsTrue D.tells → IsWholeIndex (D.files disk.old).idx → WholeTurn (D.files disk.new).idx result }
     ensures carried { IfOk result (λ _tally. IsCarried D.tells (D.files disk.old) (D.files disk.new) (D.left_since disk.new (D.moment disk.new))
         db.old db.new) }
     ensures indexed { is_indexed db.new ≡ true }
@@ -166,6 +170,7 @@ fn put_opened<D: Disk, S: Shelf, E: Sink + Drop>(
     ensures limits { IsTrue D.tells → IsTrue S.tells → (j : ℕ)
         → LimitsTurn (state (D.files disk.old).pkg db.old.store) db.old.store db.new.store (put_read how j path.now (left (S.rest shelf.old))).changes result }
     ensures one { IfOk result (λ tally. tally.failed + tally.changes ≡ 1) }
+    ensures whole { IsTrue D.tells → IsWholeIndex (D.files disk.old).idx → WholeTurn (D.files disk.new).idx result }
     ensures carried { IfOk result (λ _tally. IsCarried D.tells (D.files disk.old) (D.files disk.new) (D.left_since disk.new (D.moment disk.new))
         db.old db.new) }
     ensures indexed { is_indexed db.new ≡ true }
@@ -210,6 +215,7 @@ pub fn put_file<D: Disk, S: Shelf, E: Sink + Drop>(
     ensures limits { IsTrue D.tells → IsTrue S.tells → (j : ℕ)
         → LimitsTurn (state (D.files disk.old).pkg db.old.store) db.old.store db.new.store (put_file how (S.paths shelf.old) j path.now).changes result }
     ensures one { IfOk result (λ tally. tally.failed + tally.changes ≡ 1) }
+    ensures whole { IsTrue D.tells → IsWholeIndex (D.files disk.old).idx → WholeTurn (D.files disk.new).idx result }
     ensures carried { IfOk result (λ _tally. IsCarried D.tells (D.files disk.old) (D.files disk.new) (D.left_since disk.new (D.moment disk.new))
         db.old db.new) }
     ensures indexed { is_indexed db.new ≡ true }
@@ -241,7 +247,8 @@ pub fn put_file<D: Disk, S: Shelf, E: Sink + Drop>(
 /// - `StoreFull` exactly where, going through the files in order, the header of one, or a package in the way of its slot page, fits nowhere
 ///   below 4 GiB.
 /// - `IndexFull` exactly where, going through the files in order, the rows after one is added need more than 268435456 units.
-/// - `BadIndex` only where a chain of the index isn't well formed, or unit 1 counts too little; never where the index holds the rows.
+/// - `BadIndex` only where a chain of the index isn't well formed, or unit 1 counts too little; never where the index was well formed as a
+///   whole at the start.
 /// - `DiskFault`, `ShelfFault` and `ErrFault` only where that object's count of faults rose.
 /// - `NoMemory` where a file, a change or a line finds no memory. It answers nothing else.
 pub fn add_files<D: Disk, S: Shelf, E: Sink + Drop>(
@@ -267,6 +274,7 @@ pub fn add_files<D: Disk, S: Shelf, E: Sink + Drop>(
         (add_files (S.paths shelf.old) now (state (D.files disk.old).pkg db.old.store) (map (λ path. path.now) paths.now)).changes result }
     ensures numbers { IsTrue D.tells → IsTrue S.tells → NumbersTurn (state (D.files disk.old).pkg db.old.store)
         (add_files (S.paths shelf.old) now (state (D.files disk.old).pkg db.old.store) (map (λ path. path.now) paths.now)).changes result }
+    ensures whole { IsTrue D.tells → IsWholeIndex (D.files disk.old).idx → WholeTurn (D.files disk.new).idx result }
     ensures carried { IfOk result (λ _tally. IsCarried D.tells (D.files disk.old) (D.files disk.new) (D.left_since disk.new (D.moment disk.new))
         db.old db.new) }
     ensures indexed { is_indexed db.new ≡ true }

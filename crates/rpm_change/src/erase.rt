@@ -5,10 +5,11 @@ ghost use Rattle.rpm_outside.specs.Buffered.{inner, holds, HandsOn};
 ghost use Rattle.rpm_outside.specs.Causes.{HasCauseAt};
 ghost use Rattle.rpm_db.specs.Changes.{IsServing};
 ghost use Rattle.rpm_db.specs.Database.{IsIndexed, is_indexed};
+ghost use Rattle.rpm_db.specs.Lawful.{IsWholeIndex};
 ghost use Rattle.rpm_db.specs.Runs.{Runs};
 ghost use Rattle.rpm_db.specs.State.{state};
 ghost use Rattle.rpm_db.specs.inner.Writes.{SameLog};
-ghost use Rattle.rpm_change.specs.Endings.{outputs, Ended, IsCarried, IndexTurn, IsOfErasing};
+ghost use Rattle.rpm_change.specs.Endings.{outputs, Ended, IsCarried, IndexTurn, WholeTurn, IsOfErasing};
 ghost use Rattle.rpm_change.specs.Erasing.{erase_one, erase};
 ghost use Rattle.rpm_change.specs.Limits.{SpentTurn, StoreTurn, LimitsTurn};
 
@@ -37,6 +38,7 @@ fn erase_one<D: Disk, E: Sink + Drop>(
     ensures room { IsTrue D.tells → IsIndexed (D.files disk.old).pkg (D.files disk.old).idx db.old → (j : ℕ)
         → IndexTurn (state (D.files disk.old).pkg db.old.store) (erase_one (state (D.files disk.old).pkg db.old.store) j number).changes result }
     ensures one { IfOk result (λ tally. tally.failed + tally.changes ≡ 1) }
+    ensures whole { IsTrue D.tells → IsWholeIndex (D.files disk.old).idx → WholeTurn (D.files disk.new).idx result }
     ensures carried { IfOk result (λ _tally. IsCarried D.tells (D.files disk.old) (D.files disk.new) (D.left_since disk.new (D.moment disk.new))
         db.old db.new) }
     ensures indexed { is_indexed db.new ≡ true }
@@ -70,7 +72,8 @@ fn erase_one<D: Disk, E: Sink + Drop>(
 /// - `GenerationSpent` exactly where, going through the numbers in order, a package is to be erased while the generation is 4294967295; each
 ///   that is erased raises it by one.
 /// - `IndexFull` exactly where, going through the numbers in order, the rows after one is erased need more than 268435456 units.
-/// - `BadIndex` only where a chain of the index isn't well formed, or unit 1 counts too little; never where the index holds the rows.
+/// - `BadIndex` only where a chain of the index isn't well formed, or unit 1 counts too little; never where the index was well formed as a
+///   whole at the start.
 /// - `DiskFault` and `ErrFault` only where that object's count of faults rose.
 /// - `NoMemory` where a change or a line finds no memory. It answers nothing else.
 pub fn erase_numbers<D: Disk, E: Sink + Drop>(
@@ -91,6 +94,7 @@ pub fn erase_numbers<D: Disk, E: Sink + Drop>(
         (outputs out_tells out E.tells (E.taken (inner err.old))) (outputs out_tells out E.tells (E.taken (inner err.new))) }
     ensures room { IsTrue D.tells → IsIndexed (D.files disk.old).pkg (D.files disk.old).idx db.old
         → IndexTurn (state (D.files disk.old).pkg db.old.store) (erase (state (D.files disk.old).pkg db.old.store) numbers.now).changes result }
+    ensures whole { IsTrue D.tells → IsWholeIndex (D.files disk.old).idx → WholeTurn (D.files disk.new).idx result }
     ensures carried { IfOk result (λ _tally. IsCarried D.tells (D.files disk.old) (D.files disk.new) (D.left_since disk.new (D.moment disk.new))
         db.old db.new) }
     ensures indexed { is_indexed db.new ≡ true }

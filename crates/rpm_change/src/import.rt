@@ -11,11 +11,12 @@ ghost use Rattle.rpm_file.specs.Answers.{IsListFault};
 ghost use Rattle.rpm_file.specs.List.{Found, list_head};
 ghost use Rattle.rpm_db.specs.Changes.{IsServing};
 ghost use Rattle.rpm_db.specs.Database.{IsIndexed, is_indexed};
+ghost use Rattle.rpm_db.specs.Lawful.{IsWholeIndex};
 ghost use Rattle.rpm_db.specs.Runs.{Runs};
 ghost use Rattle.rpm_db.specs.State.{State, state};
 ghost use Rattle.rpm_pkgdb.specs.Store.{Store};
 ghost use Rattle.rpm_db.specs.inner.Writes.{SameLog};
-ghost use Rattle.rpm_change.specs.Endings.{outputs, Ended, IsCarried, IndexTurn};
+ghost use Rattle.rpm_change.specs.Endings.{outputs, Ended, IsCarried, IndexTurn, WholeTurn};
 ghost use Rattle.rpm_change.specs.Importing.{place_fails, imported, import_listed, import_list, listed, max_headers};
 ghost use Rattle.rpm_change.specs.Limits.{SpentTurn, StoreTurn, LimitsTurn};
 ghost use Rattle.rpm_change.specs.Numbers.{NumbersTurn};
@@ -83,6 +84,7 @@ fn import_header<D: Disk, E: Sink + Drop>(
     ensures room { IsTrue D.tells → IsIndexed (D.files disk.old).pkg (D.files disk.old).idx db.old
         → IndexTurn (state (D.files disk.old).pkg db.old.store) (imported place (header blob.now)).changes result }
     ensures one { IfOk result (λ tally. tally.failed + tally.changes ≡ 1) }
+    ensures whole { IsTrue D.tells → IsWholeIndex (D.files disk.old).idx → WholeTurn (D.files disk.new).idx result }
     ensures carried { IfOk result (λ _tally. IsCarried D.tells (D.files disk.old) (D.files disk.new) (D.left_since disk.new (D.moment disk.new))
         db.old db.new) }
     ensures indexed { is_indexed db.new ≡ true }
@@ -125,6 +127,7 @@ fn import_within<D: Disk, E: Sink + Drop>(
     ensures room { IsTrue D.tells → IsIndexed (D.files disk.old).pkg (D.files disk.old).idx db.old
         → IndexTurn (state (D.files disk.old).pkg db.old.store) (turn_found most place blob.now).changes result }
     ensures one { IfOk result (λ tally. tally.failed + tally.changes ≡ 1) }
+    ensures whole { IsTrue D.tells → IsWholeIndex (D.files disk.old).idx → WholeTurn (D.files disk.new).idx result }
     ensures carried { IfOk result (λ _tally. IsCarried D.tells (D.files disk.old) (D.files disk.new) (D.left_since disk.new (D.moment disk.new))
         db.old db.new) }
     ensures indexed { is_indexed db.new ≡ true }
@@ -196,6 +199,7 @@ fn import_next<D: Disk, S: Shelf, E: Sink + Drop>(
     ensures leaves { IfOk result (λ done. IsTrue S.tells → Leaves most place (list_head (left (S.rest shelf.old))) done.is_last (left (S.rest shelf.new))) }
     ensures last { IfOk result (λ done. most < place → done.is_last ≡ true) }
     ensures one { IfOk result (λ done. done.tally.failed + done.tally.changes ≤ 1) }
+    ensures whole { IsTrue D.tells → IsWholeIndex (D.files disk.old).idx → WholeTurn (D.files disk.new).idx (tally_of result) }
     ensures carried { IfOk result (λ _done. IsCarried D.tells (D.files disk.old) (D.files disk.new) (D.left_since disk.new (D.moment disk.new)) db.old db.new) }
     ensures indexed { is_indexed db.new ≡ true }
     ensures limits { IsTrue D.tells → IsTrue S.tells
@@ -245,6 +249,7 @@ fn import_open<D: Disk, S: Shelf, E: Sink + Drop>(
         (outputs out_tells out E.tells (E.taken (inner err.old))) (outputs out_tells out E.tells (E.taken (inner err.new))) }
     ensures room { IsTrue D.tells → IsTrue S.tells → IsIndexed (D.files disk.old).pkg (D.files disk.old).idx db.old
         → IndexTurn (state (D.files disk.old).pkg db.old.store) (import_listed most (listed (left (S.rest shelf.old)))).changes result }
+    ensures whole { IsTrue D.tells → IsWholeIndex (D.files disk.old).idx → WholeTurn (D.files disk.new).idx result }
     ensures carried { IfOk result (λ _tally. IsCarried D.tells (D.files disk.old) (D.files disk.new) (D.left_since disk.new (D.moment disk.new))
         db.old db.new) }
     ensures indexed { is_indexed db.new ≡ true }
@@ -311,6 +316,7 @@ pub(crate) fn import_most<D: Disk, S: Shelf, E: Sink + Drop>(
         (outputs out_tells out E.tells (E.taken (inner err.old))) (outputs out_tells out E.tells (E.taken (inner err.new))) }
     ensures room { IsTrue D.tells → IsTrue S.tells → IsIndexed (D.files disk.old).pkg (D.files disk.old).idx db.old
         → IndexTurn (state (D.files disk.old).pkg db.old.store) (import_list most (bytes_at (S.paths shelf.old) (codes "-"))).changes result }
+    ensures whole { IsTrue D.tells → IsWholeIndex (D.files disk.old).idx → WholeTurn (D.files disk.new).idx result }
     ensures carried { IfOk result (λ _tally. IsCarried D.tells (D.files disk.old) (D.files disk.new) (D.left_since disk.new (D.moment disk.new))
         db.old db.new) }
     ensures indexed { is_indexed db.new ≡ true }
@@ -345,7 +351,8 @@ pub(crate) fn import_most<D: Disk, S: Shelf, E: Sink + Drop>(
 ///   is added raises it by one.
 /// - `StoreFull` exactly where, going through the headers in order, one, or a package in the way of its slot page, fits nowhere below 4 GiB.
 /// - `IndexFull` exactly where, going through the headers in order, the rows after one is added need more than 268435456 units.
-/// - `BadIndex` only where a chain of the index isn't well formed, or unit 1 counts too little; never where the index holds the rows.
+/// - `BadIndex` only where a chain of the index isn't well formed, or unit 1 counts too little; never where the index was well formed as a
+///   whole at the start.
 /// - `DiskFault`, `ShelfFault` and `ErrFault` only where that object's count of faults rose.
 /// - `NoMemory` where a header, a change or a line finds no memory. It answers nothing else.
 pub fn import_list<D: Disk, S: Shelf, E: Sink + Drop>(
@@ -365,6 +372,7 @@ pub fn import_list<D: Disk, S: Shelf, E: Sink + Drop>(
         (outputs out_tells out E.tells (E.taken (inner err.old))) (outputs out_tells out E.tells (E.taken (inner err.new))) }
     ensures room { IsTrue D.tells → IsTrue S.tells → IsIndexed (D.files disk.old).pkg (D.files disk.old).idx db.old
         → IndexTurn (state (D.files disk.old).pkg db.old.store) (import_list max_headers (bytes_at (S.paths shelf.old) (codes "-"))).changes result }
+    ensures whole { IsTrue D.tells → IsWholeIndex (D.files disk.old).idx → WholeTurn (D.files disk.new).idx result }
     ensures carried { IfOk result (λ _tally. IsCarried D.tells (D.files disk.old) (D.files disk.new) (D.left_since disk.new (D.moment disk.new))
         db.old db.new) }
     ensures indexed { is_indexed db.new ≡ true }

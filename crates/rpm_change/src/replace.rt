@@ -5,11 +5,12 @@ ghost use Rattle.rpm_outside.specs.Buffered.{inner, holds as holds_bytes, HandsO
 ghost use Rattle.rpm_outside.specs.Causes.{HasCauseAt};
 ghost use Rattle.rpm_db.specs.Changes.{IsServing};
 ghost use Rattle.rpm_db.specs.Database.{IsIndexed, is_indexed, holds};
+ghost use Rattle.rpm_db.specs.Lawful.{IsWholeIndex};
 ghost use Rattle.rpm_db.specs.Runs.{Runs};
 ghost use Rattle.rpm_db.specs.State.{state};
 ghost use Rattle.rpm_db.specs.inner.Writes.{SameLog};
 ghost use Rattle.rpm_change.specs.Adding.{replace, IsOfPutting};
-ghost use Rattle.rpm_change.specs.Endings.{outputs, Ended, IsCarried, IndexTurn};
+ghost use Rattle.rpm_change.specs.Endings.{outputs, Ended, IsCarried, IndexTurn, WholeTurn};
 ghost use Rattle.rpm_change.specs.Limits.{SpentTurn, StoreTurn};
 
 use crate::add::{Placing, put_file};
@@ -30,7 +31,8 @@ use std::alloc::Global;
 /// - `GenerationSpent` exactly where a header is to be put while the generation is 4294967295.
 /// - `StoreFull` exactly where the header, as it replaces the old one, fits nowhere below 4 GiB.
 /// - `IndexFull` exactly where the rows after the change need more than 268435456 units.
-/// - `BadIndex` only where a chain of the index isn't well formed, or unit 1 counts too little; never where the index holds the rows.
+/// - `BadIndex` only where a chain of the index isn't well formed, or unit 1 counts too little; never where the index was well formed as a
+///   whole at the start.
 /// - `DiskFault`, `ShelfFault` and `ErrFault` only where that object's count of faults rose.
 /// - `NoMemory` where the file, the change or a line finds no memory. It answers nothing else.
 pub fn replace_package<D: Disk, S: Shelf, E: Sink + Drop>(
@@ -55,6 +57,7 @@ pub fn replace_package<D: Disk, S: Shelf, E: Sink + Drop>(
         → IndexTurn (state (D.files disk.old).pkg db.old.store)
         (replace (S.paths shelf.old) now (state (D.files disk.old).pkg db.old.store) number path.now).changes result }
     ensures one { IfOk result (λ tally. tally.failed + tally.changes ≡ 1) }
+    ensures whole { IsTrue D.tells → IsWholeIndex (D.files disk.old).idx → WholeTurn (D.files disk.new).idx result }
     ensures carried { IfOk result (λ _tally. IsCarried D.tells (D.files disk.old) (D.files disk.new) (D.left_since disk.new (D.moment disk.new))
         db.old db.new) }
     ensures indexed { is_indexed db.new ≡ true }

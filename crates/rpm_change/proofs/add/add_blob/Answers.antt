@@ -9,6 +9,7 @@ use Rattle.rpm_change.proofs.Courses.{through_none}
 use Rattle.rpm_change.proofs.Erased.{refused_ended}
 use Rattle.rpm_change.proofs.Placed.{one_turn, add_ends, add_kinds}
 use Rattle.rpm_change.specs.inner.Single.{one_made, one_refused, add_fault}
+use Rattle.rpm_change.proofs.Wholes.{whole_halt}
 use Rattle.rpm_change.proofs.add.add_blob.Goals as goal
 
 pub returns-in-Ok-clause-ended : goal.returns-in-Ok-clause-ended
@@ -46,6 +47,10 @@ returns-in-Err-clause-room g c = λ told rows.
     rw c.halt_of.ensures
     (one_turn (state (g.D.Disk.files c.args.disk.now).pkg c.args.db.now.store) (Add c.args.blob.now) c.in-Err.fault
     (c.in-Err.ensures.full told c.requires.going rows (read_again c.args.blob.now) c.requires.own))
+
+pub returns-in-Err-clause-whole : goal.returns-in-Err-clause-whole
+returns-in-Err-clause-whole g c = λ told whole.
+    rw c.halt_of.ensures (whole_halt (g.D.Disk.files c.add.new.disk).idx c.in-Err.fault (c.in-Err.ensures.whole told whole))
 
 pub returns-in-Err-clause-limits : goal.returns-in-Err-clause-limits
 returns-in-Err-clause-limits g c = λ told.

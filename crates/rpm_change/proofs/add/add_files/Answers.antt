@@ -25,6 +25,7 @@ loop-path-init g c =
           all s out (g.E.Sink.taken (inner c.args.err.now));
       limited = λ told shelf_told. limited_start all s c.args.db.now.store;
       few = refl;
+      whole = λ told whole. whole;
       carried = record { going = c.requires.going; serving = c.requires.serving; index = λ told rows. rows };
       indexed = c.requires.indexed;
       runs = runs_none g.D.Disk.tells g.D.Disk.files g.D.Disk.left_since g.D.Disk.moment g.D.Disk.bytes_read g.D.Disk.follows g.met.D.Disk.follows_refl SameLog
@@ -69,6 +70,7 @@ loop-path-preserved g c =
           ended.state_is (subst (λ (qs : Paths). LimitsTurn t c.loop-path.db.store c.put_file.new.db.store (add_file c.args.now qs t k path).changes
           (Ok c.in-Ok.tally)) (inv.paths shelf_told) (done.limits told shelf_told k));
       few = omega (arith, inv.few, done.one);
+      whole = λ told whole. done.whole told (inv.whole told whole);
       carried = record { going = kept.going; serving = kept.serving; index = λ told rows. kept.index told (inv.carried.index told rows) };
       indexed = c.put_file.ensures.indexed;
       runs = runs_then g.D.Disk.tells g.D.Disk.files g.D.Disk.left_since g.D.Disk.moment g.D.Disk.bytes_read g.D.Disk.follows g.met.D.Disk.follows_trans

@@ -2,6 +2,7 @@ use Rattle.std.proofs.Common.{◌≡◌, ℕ, ◌+◌, ◌≤◌, Bool, true, Li
 use Rattle.std.specs.Prelude.{IsTrue}
 use Rattle.rpm_outside.specs.Buffered.{inner, HandsOn}
 use Rattle.rpm_db.specs.Database.{IsIndexed, is_indexed}
+use Rattle.rpm_db.specs.Lawful.{IsWholeIndex}
 use Rattle.rpm_db.specs.Runs.{Runs}
 use Rattle.rpm_db.specs.State.{state}
 use Rattle.rpm_db.specs.inner.Writes.{SameLog}
@@ -28,6 +29,7 @@ invariant-loop-path g l = record {
       (map bytes (drop l.path-index l.paths)))
       (state (g.D.Disk.files l.initial.disk).pkg l.initial.db.store) (state (g.D.Disk.files l.disk).pkg l.db.store) l.initial.db.store l.db.store;
   few : l.failed + l.changes ≡ l.path-index;
+  whole : IsTrue g.D.Disk.tells → IsWholeIndex (g.D.Disk.files l.initial.disk).idx → IsWholeIndex (g.D.Disk.files l.disk).idx;
   carried : IsCarried g.D.Disk.tells (g.D.Disk.files l.initial.disk) (g.D.Disk.files l.disk) (g.D.Disk.left_since l.disk (g.D.Disk.moment l.disk))
       l.initial.db l.db;
   indexed : is_indexed l.db ≡ true;

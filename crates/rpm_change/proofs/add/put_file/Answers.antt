@@ -1,4 +1,4 @@
-use Rattle.std.proofs.Common.{ℕ, List, Option, refl, sym, subst}
+use Rattle.std.proofs.Common.{ℕ, List, Option, refl, sym, subst, []}
 use Rattle.rpm_outside.specs.Buffered.{inner}
 use Rattle.rpm_outside.specs.Shelves.{bytes_at}
 use Rattle.rpm_db.specs.State.{state}
@@ -10,6 +10,7 @@ use Rattle.rpm_change.proofs.Erased.{line_turn}
 use Rattle.rpm_change.proofs.Filed.{opened_is}
 use Rattle.rpm_change.proofs.Unchanged.{line_limits}
 use Rattle.rpm_change.proofs.Stops.{lines_putting}
+use Rattle.rpm_change.proofs.Wholes.{whole_turn}
 use Rattle.rpm_change.proofs.add.put_file.Goals as goal
 
 pub returns-in-Ok-clause-ended : goal.returns-in-Ok-clause-ended
@@ -55,6 +56,12 @@ returns-in-Err-clause-room g c = λ told shelf_told rows j.
     let s = state (g.D.Disk.files c.args.disk.now).pkg c.args.db.now.store in
     subst (λ (found : Option (List ℕ)). IndexTurn s (put_found c.args.how j c.args.path.now found).changes c.put_absent.result)
     (sym opened.1) (line_turn s c.put_absent.result c.put_absent.ensures.kinds)
+
+pub returns-in-Err-clause-whole : goal.returns-in-Err-clause-whole
+returns-in-Err-clause-whole g c = λ told whole.
+    let f = g.D.Disk.files c.args.disk.now in
+    let s = state f.pkg c.args.db.now.store in
+    whole_turn f f s [] c.put_absent.result refl whole (line_turn s c.put_absent.result c.put_absent.ensures.kinds)
 
 pub returns-in-Err-clause-limits : goal.returns-in-Err-clause-limits
 returns-in-Err-clause-limits g c = λ told shelf_told j.

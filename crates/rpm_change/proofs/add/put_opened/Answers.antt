@@ -1,4 +1,4 @@
-use Rattle.std.proofs.Common.{Result, refl, sym, subst}
+use Rattle.std.proofs.Common.{[], Result, Err, refl, sym, subst}
 use Rattle.rpm_header.specs.Header.{Header}
 use Rattle.rpm_outside.specs.Browses.{left}
 use Rattle.rpm_outside.specs.Buffered.{inner}
@@ -13,6 +13,7 @@ use Rattle.rpm_change.proofs.Erased.{line_turn}
 use Rattle.rpm_change.proofs.Filed.{own_fault}
 use Rattle.rpm_change.proofs.Unchanged.{line_limits, read_limits}
 use Rattle.rpm_change.proofs.Stops.{stop_kind, stop_ended, stop_turn, placing_putting, lines_putting}
+use Rattle.rpm_change.proofs.Wholes.{whole_turn}
 use Rattle.rpm_change.proofs.add.put_opened.Goals as goal
 
 pub returns-in-Ok-clause-ended : goal.returns-in-Ok-clause-ended
@@ -54,6 +55,12 @@ returns-in-Some-clause-room g c = λ told shelf_told rows j.
     (put_read c.args.how j c.args.path.now (left (g.S.Shelf.rest c.args.shelf.now))).changes c.in-Some.halt
     (stop_kind c.in-Err.fault c.in-Some.halt (sym c.in-Some.ensures))
 
+pub returns-in-Some-clause-whole : goal.returns-in-Some-clause-whole
+returns-in-Some-clause-whole g c = λ told whole.
+    let f = g.D.Disk.files c.args.disk.now in
+    let s = state f.pkg c.args.db.now.store in
+    whole_turn f f s [] (Err c.in-Some.halt) refl whole (stop_turn s [] c.in-Some.halt (stop_kind c.in-Err.fault c.in-Some.halt (sym c.in-Some.ensures)))
+
 pub returns-in-Some-clause-limits : goal.returns-in-Some-clause-limits
 returns-in-Some-clause-limits g c = λ told shelf_told j.
     read_limits (state (g.D.Disk.files c.args.disk.now).pkg c.args.db.now.store) c.args.db.now.store c.args.db.now.store
@@ -76,6 +83,12 @@ returns-in-None-clause-room g c = λ told shelf_told rows j.
     subst (λ (r : Result Header FileFault). IndexTurn s (put_installed c.args.how.number j c.args.path.now r).changes c.put_refused.result)
     (sym (own_fault said c.in-Err.fault (sym c.in-None.ensures) (c.in-Err.ensures.gives shelf_told)))
     (line_turn s c.put_refused.result c.put_refused.ensures.kinds)
+
+pub returns-in-None-clause-whole : goal.returns-in-None-clause-whole
+returns-in-None-clause-whole g c = λ told whole.
+    let f = g.D.Disk.files c.args.disk.now in
+    let s = state f.pkg c.args.db.now.store in
+    whole_turn f f s [] c.put_refused.result refl whole (line_turn s c.put_refused.result c.put_refused.ensures.kinds)
 
 pub returns-in-None-clause-limits : goal.returns-in-None-clause-limits
 returns-in-None-clause-limits g c = λ told shelf_told j.

@@ -20,6 +20,7 @@ loop-number-init g c = record {
       let s = state (g.D.Disk.files c.args.disk.now).pkg c.args.db.now.store in
       limited_start (erase s c.args.numbers.now) s c.args.db.now.store;
   few = refl;
+  whole = λ told whole. whole;
   carried = record { going = c.requires.going; serving = c.requires.serving; index = λ told rows. rows };
   indexed = c.requires.indexed;
   runs = runs_none g.D.Disk.tells g.D.Disk.files g.D.Disk.left_since g.D.Disk.moment g.D.Disk.bytes_read g.D.Disk.follows g.met.D.Disk.follows_refl SameLog
@@ -52,6 +53,7 @@ loop-number-preserved g c =
           limited_more _ _ _ (in_turn erase_one u (k + 1) (drop (k + 1) xs)) _ _ _ _ _ (turn_next erase_one xs k 0 t u (omega arith) after)
           (inv.limited told) u c.in-Ok.tally after (done.limits told k);
       few = omega (arith, inv.few, done.one);
+      whole = λ told whole. done.whole told (inv.whole told whole);
       carried = record {
         going = done.carried.going;
         serving = done.carried.serving;

@@ -1,4 +1,4 @@
-use Rattle.std.proofs.Common.{◌≡◌, Ok, refl, sym, ap, subst}
+use Rattle.std.proofs.Common.{◌≡◌, Ok, refl, sym, ap, subst, []}
 use Rattle.rpm_outside.specs.Buffered.{inner}
 use Rattle.rpm_db.specs.Changes.{Erase}
 use Rattle.rpm_db.specs.Database.{Database}
@@ -11,6 +11,7 @@ use Rattle.rpm_change.proofs.Courses.{through_none}
 use Rattle.rpm_change.proofs.Erased.{erase_held, erase_missing, state_same, line_turn, refused_ended, erase_kinds, refused_turn, erase_limits}
 use Rattle.rpm_change.specs.inner.Single.{one_made}
 use Rattle.rpm_change.proofs.Unchanged.{line_limits}
+use Rattle.rpm_change.proofs.Wholes.{whole_turn, whole_halt}
 use Rattle.rpm_change.proofs.erase.erase_one.Goals as goal
 
 pub returns-in-Ok-clause-ended : goal.returns-in-Ok-clause-ended
@@ -60,6 +61,13 @@ returns-in-Err-NoSuch-clause-room g c = λ told indexed j.
     subst (λ (x : Course). IndexTurn s x.changes c.put_missing.result) (sym (erase_missing file c.args.db.now j c.args.number said.causes.1))
     (line_turn s c.put_missing.result c.put_missing.ensures.kinds)
 
+pub returns-in-Err-NoSuch-clause-whole : goal.returns-in-Err-NoSuch-clause-whole
+returns-in-Err-NoSuch-clause-whole g c = λ told whole.
+    let s = state (g.D.Disk.files c.args.disk.now).pkg c.args.db.now.store in
+    let said = rw c.in-Err-NoSuch.field-0-is at c.in-Err-NoSuch.ensures in
+    whole_turn (g.D.Disk.files c.args.disk.now) (g.D.Disk.files c.erase.new.disk) s [] c.put_missing.result ((said.same tt).reads_as told) whole
+    (line_turn s c.put_missing.result c.put_missing.ensures.kinds)
+
 pub returns-in-Err-NoSuch-clause-limits : goal.returns-in-Err-NoSuch-clause-limits
 returns-in-Err-NoSuch-clause-limits g c = λ told j.
     let file = (g.D.Disk.files c.args.disk.now).pkg in
@@ -83,6 +91,10 @@ returns-in-Err-clause-room g c = λ told indexed j.
     rw c.halt_of.ensures
     (refused_turn (g.D.Disk.files c.args.disk.now).pkg c.args.db.now j c.args.number c.in-Err.fault c.in-Err.ensures.causes
     (c.in-Err.ensures.full told c.requires.going indexed))
+
+pub returns-in-Err-clause-whole : goal.returns-in-Err-clause-whole
+returns-in-Err-clause-whole g c = λ told whole.
+    rw c.halt_of.ensures (whole_halt (g.D.Disk.files c.erase.new.disk).idx c.in-Err.fault (c.in-Err.ensures.whole told whole))
 
 pub returns-in-Err-clause-limits : goal.returns-in-Err-clause-limits
 returns-in-Err-clause-limits g c = λ told j.

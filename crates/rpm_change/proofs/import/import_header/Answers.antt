@@ -1,4 +1,4 @@
-use Rattle.std.proofs.Common.{Ok, refl, sym, subst, ap, ◌∙◌}
+use Rattle.std.proofs.Common.{Ok, refl, sym, subst, ap, ◌∙◌, []}
 use Rattle.rpm_outside.specs.Buffered.{inner}
 use Rattle.rpm_header.specs.Header.{header}
 use Rattle.rpm_db.specs.Changes.{Add}
@@ -14,6 +14,7 @@ use Rattle.rpm_change.proofs.Erased.{line_turn, refused_ended}
 use Rattle.rpm_change.proofs.Imported.{imported_good, state_room, indexed_room, any_ok, add_turn, add_kinds, add_limits}
 use Rattle.rpm_change.specs.inner.Single.{one_made}
 use Rattle.rpm_change.proofs.Unchanged.{line_limits}
+use Rattle.rpm_change.proofs.Wholes.{whole_turn, whole_halt}
 use Rattle.rpm_change.proofs.import.import_header.Goals as goal
 
 pub returns-in-Ok-clause-ended : goal.returns-in-Ok-clause-ended
@@ -70,6 +71,13 @@ returns-in-Err-BadHeader-clause-room g c = λ told indexed.
     subst (λ (x : Course). IndexTurn s x.changes c.put_bad_header.result) (sym (ap (imported c.args.place) said.causes.1))
     (line_turn s c.put_bad_header.result c.put_bad_header.ensures.kinds)
 
+pub returns-in-Err-BadHeader-clause-whole : goal.returns-in-Err-BadHeader-clause-whole
+returns-in-Err-BadHeader-clause-whole g c = λ told whole.
+    let s = state (g.D.Disk.files c.args.disk.now).pkg c.args.db.now.store in
+    let said = rw c.in-Err-BadHeader.field-0-is at c.in-Err-BadHeader.ensures in
+    whole_turn (g.D.Disk.files c.args.disk.now) (g.D.Disk.files c.add.new.disk) s [] c.put_bad_header.result ((said.same tt).reads_as told) whole
+    (line_turn s c.put_bad_header.result c.put_bad_header.ensures.kinds)
+
 pub returns-in-Err-BadHeader-clause-limits : goal.returns-in-Err-BadHeader-clause-limits
 returns-in-Err-BadHeader-clause-limits g c = λ told.
     let s = state (g.D.Disk.files c.args.disk.now).pkg c.args.db.now.store in
@@ -106,6 +114,10 @@ returns-in-Err-clause-room g c = λ told indexed.
     let s = state (g.D.Disk.files c.args.disk.now).pkg c.args.db.now.store in
     rw c.halt_of.ensures
     (add_turn c.args.db.now s c.args.place c.args.blob.now c.in-Err.fault c.in-Err.ensures.causes (c.in-Err.ensures.full told c.requires.going indexed))
+
+pub returns-in-Err-clause-whole : goal.returns-in-Err-clause-whole
+returns-in-Err-clause-whole g c = λ told whole.
+    rw c.halt_of.ensures (whole_halt (g.D.Disk.files c.add.new.disk).idx c.in-Err.fault (c.in-Err.ensures.whole told whole))
 
 pub returns-in-Err-clause-limits : goal.returns-in-Err-clause-limits
 returns-in-Err-clause-limits g c = λ told.

@@ -1,4 +1,4 @@
-use Rattle.std.proofs.Common.{refl, sym, subst}
+use Rattle.std.proofs.Common.{refl, sym, subst, []}
 use Rattle.std.specs.Prelude.{codes}
 use Rattle.rpm_outside.specs.Browses.{left}
 use Rattle.rpm_outside.specs.Buffered.{inner}
@@ -12,6 +12,7 @@ use Rattle.rpm_change.specs.Turns.{counted_once}
 use Rattle.rpm_change.proofs.Imported.{ended_once, turn_once, limits_once, opened_list, absent_list}
 use Rattle.rpm_change.proofs.Erased.{line_turn}
 use Rattle.rpm_change.proofs.Unchanged.{line_limits}
+use Rattle.rpm_change.proofs.Wholes.{whole_turn, whole_once}
 use Rattle.rpm_change.proofs.import.import_most.Goals as goal
 
 pub returns-in-Ok-clause-ended : goal.returns-in-Ok-clause-ended
@@ -36,6 +37,11 @@ returns-in-Ok-clause-room g c = λ told heard rows.
     (subst (λ (x : Course). IndexTurn s x.changes (counted_once c.import_open.result))
     (sym (opened_list c.args.most found rest (c.in-Ok.ensures.opened heard).0 (c.in-Ok.ensures.opened heard).1))
     (turn_once (import_listed c.args.most (listed (left rest))) s c.import_open.result (c.import_open.ensures.room told heard rows)))
+
+pub returns-in-Ok-clause-whole : goal.returns-in-Ok-clause-whole
+returns-in-Ok-clause-whole g c = λ told whole.
+    rw c.counted_once.ensures
+    (whole_once (g.D.Disk.files c.import_open.new.disk).idx c.import_open.result (c.import_open.ensures.whole told whole))
 
 pub returns-in-Ok-clause-limits : goal.returns-in-Ok-clause-limits
 returns-in-Ok-clause-limits g c = λ told heard.
@@ -64,6 +70,12 @@ returns-in-Err-clause-room g c = λ told heard rows.
     let found = bytes_at (g.S.Shelf.paths c.args.shelf.now) (codes "-") in
     subst (λ (x : Course). IndexTurn s x.changes c.put_failing.result) (sym (absent_list c.args.most found (c.in-Err.ensures.opened heard).1))
     (line_turn s c.put_failing.result c.put_failing.ensures.kinds)
+
+pub returns-in-Err-clause-whole : goal.returns-in-Err-clause-whole
+returns-in-Err-clause-whole g c = λ told whole.
+    let f = g.D.Disk.files c.args.disk.now in
+    let s = state f.pkg c.args.db.now.store in
+    whole_turn f f s [] c.put_failing.result refl whole (line_turn s c.put_failing.result c.put_failing.ensures.kinds)
 
 pub returns-in-Err-clause-limits : goal.returns-in-Err-clause-limits
 returns-in-Err-clause-limits g c = λ told heard.

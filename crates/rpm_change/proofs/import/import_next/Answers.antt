@@ -12,7 +12,7 @@ use Rattle.rpm_change.specs.Limits.{LimitsTurn}
 use Rattle.rpm_change.specs.Steps.{Course}
 use Rattle.rpm_change.specs.Turns.{Leaves}
 use Rattle.rpm_change.specs.inner.Single.{none_made}
-use Rattle.rpm_change.proofs.Taken.{at_header, at_end, nothing_done, any_turn, ending_kinds, ending_disk, ending_shelf, ending_leaves}
+use Rattle.rpm_change.proofs.Taken.{at_header, at_end, nothing_done, any_turn, ending_kinds, ending_disk, ending_shelf, ending_leaves, ending_whole}
 use Rattle.rpm_change.proofs.Turned.{turn_ok, turn_kinds, turn_cause, no_shelf, turn_leaves, turn_last, at_most}
 use Rattle.rpm_change.proofs.import.import_next.Goals as goal
 
@@ -34,6 +34,9 @@ returns-in-Ok-Some-clause-room g c = λ told heard rows.
     rw c.as_turn.ensures.value
     (at_header (λ (course : Course). IndexTurn (state (g.D.Disk.files c.args.disk.now).pkg c.args.db.now.store) course.changes c.import_within-done.result)
     c.args.most c.args.place _ _ _ _ (said.answers heard) (ap (take c.in-Ok-Some.size) c.deref.ensures.value) (c.import_within-done.ensures.room told rows))
+
+pub returns-in-Ok-Some-clause-whole : goal.returns-in-Ok-Some-clause-whole
+returns-in-Ok-Some-clause-whole g c = λ told whole. rw c.as_turn.ensures.value (c.import_within-done.ensures.whole told whole)
 
 pub returns-in-Ok-Some-clause-limits : goal.returns-in-Ok-Some-clause-limits
 returns-in-Ok-Some-clause-limits g c = λ told heard.
@@ -128,6 +131,11 @@ returns-in-Err-clause-room g c = λ told heard rows.
     rw c.as_turn-in-Err.ensures.value
     (c.end_list.ensures.room c.args.most (list_head (left (g.S.Shelf.rest c.args.shelf.now))) (c.in-Err.ensures.answers heard)
     (state (g.D.Disk.files c.args.disk.now).pkg c.args.db.now.store))
+
+pub returns-in-Err-clause-whole : goal.returns-in-Err-clause-whole
+returns-in-Err-clause-whole g c = λ told whole.
+    rw c.as_turn-in-Err.ensures.value
+    (ending_whole (g.D.Disk.files c.args.disk.now).idx c.end_list.result c.end_list.ensures.kinds whole)
 
 pub returns-in-Err-clause-limits : goal.returns-in-Err-clause-limits
 returns-in-Err-clause-limits g c = λ told heard.

@@ -26,6 +26,7 @@ loop-is_last-init g c = record {
   few = omega arith;
   within = λ going. omega arith;
   below = omega arith;
+  whole = λ told whole. whole;
   carried = record { going = c.requires.going; serving = c.requires.serving; index = λ told rows. rows };
   indexed = c.requires.indexed;
   runs = runs_none g.D.Disk.tells g.D.Disk.files g.D.Disk.left_since g.D.Disk.moment g.D.Disk.bytes_read g.D.Disk.follows g.met.D.Disk.follows_refl SameLog
@@ -66,6 +67,7 @@ loop-is_last-preserved g c =
       few = omega (arith, inv.few, done.one);
       within = λ more. within_next most k said.is_last more done.last;
       below = omega (arith, inv.within going);
+      whole = λ told whole. done.whole told (inv.whole told whole);
       carried = record {
         going = done.carried.going;
         serving = done.carried.serving;

@@ -3,6 +3,7 @@ use Rattle.std.specs.Prelude.{IsTrue}
 use Rattle.rpm_outside.specs.Browses.{left, Browses}
 use Rattle.rpm_outside.specs.Buffered.{inner, HandsOn}
 use Rattle.rpm_db.specs.Database.{IsIndexed, is_indexed}
+use Rattle.rpm_db.specs.Lawful.{IsWholeIndex}
 use Rattle.rpm_db.specs.Runs.{Runs}
 use Rattle.rpm_db.specs.State.{state}
 use Rattle.rpm_db.specs.inner.Writes.{SameLog}
@@ -27,6 +28,7 @@ invariant-loop-is_last g l = record {
   few : l.failed + l.changes + 1 ≤ l.place;
   within : l.is_last ≡ false → l.place ≤ l.most + 1;
   below : l.place ≤ l.most + 2;
+  whole : IsTrue g.D.Disk.tells → IsWholeIndex (g.D.Disk.files l.initial.disk).idx → IsWholeIndex (g.D.Disk.files l.disk).idx;
   carried : IsCarried g.D.Disk.tells (g.D.Disk.files l.initial.disk) (g.D.Disk.files l.disk) (g.D.Disk.left_since l.disk (g.D.Disk.moment l.disk))
       l.initial.db l.db;
   indexed : is_indexed l.db ≡ true;

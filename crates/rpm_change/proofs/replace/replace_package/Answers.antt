@@ -1,4 +1,4 @@
-use Rattle.std.proofs.Common.{◌≡◌, true, false, Some, refl, sym, ◌∙◌, subst}
+use Rattle.std.proofs.Common.{◌≡◌, true, false, Some, refl, sym, ◌∙◌, subst, []}
 use Rattle.std.specs.FinMap as finite
 use Rattle.rpm_outside.specs.Buffered.{inner}
 use Rattle.rpm_db.specs.Database.{holds}
@@ -11,6 +11,7 @@ use Rattle.rpm_change.proofs.Erased.{line_turn}
 use Rattle.rpm_change.proofs.Filed.{replaced_none, replaced_some}
 use Rattle.rpm_change.proofs.Unchanged.{line_limits}
 use Rattle.rpm_change.proofs.Stops.{lines_putting}
+use Rattle.rpm_change.proofs.Wholes.{whole_turn}
 use Rattle.rpm_change.proofs.replace.replace_package.Goals as goal
 
 pub returns-then-holds-clause-ended : goal.returns-then-holds-clause-ended
@@ -73,6 +74,12 @@ returns-else-holds-clause-room g c = λ told shelf_told rows.
     subst (λ (x : Course). IndexTurn (state file db.store) x.changes c.put_missing.result)
     (sym (replaced_none (finite.get (packages file db.store) c.args.number) (g.S.Shelf.paths c.args.shelf.now) c.args.now c.args.number c.args.path.now
     (is_there file db c.args.number ∙ not))) (line_turn (state file db.store) c.put_missing.result c.put_missing.ensures.kinds)
+
+pub returns-else-holds-clause-whole : goal.returns-else-holds-clause-whole
+returns-else-holds-clause-whole g c = λ told whole.
+    let f = g.D.Disk.files c.args.disk.now in
+    let s = state f.pkg c.args.db.now.store in
+    whole_turn f f s [] c.put_missing.result refl whole (line_turn s c.put_missing.result c.put_missing.ensures.kinds)
 
 pub returns-else-holds-clause-generation : goal.returns-else-holds-clause-generation
 returns-else-holds-clause-generation g c = λ told shelf_told.
