@@ -57,11 +57,16 @@ fn rows_before<D: Disk>(
     }
 }
 
+// Room for the rows of most packages, so that they are seldom moved: how many, and the bytes of their keys.
+const USUAL_ROWS: usize = 64;
+
+const USUAL_KEYS: usize = 2048;
+
 /// The rows of a header under a number.
 fn rows_behind(alloc: Global, number: u32, view: &View<'_>) -> Result<Rows, AllocError>
     ensures { IfOk result (λ rows. rows ≡ header_rows number view.now) }
 {
-    let mut rows = Rows::new(alloc);
+    let mut rows = Rows::with_room(alloc, USUAL_ROWS, USUAL_KEYS)?;
     match push_header(&mut rows, view, number) {
         Ok(()) => Ok(rows),
         Err(fault) => Err(fault),

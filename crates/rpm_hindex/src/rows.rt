@@ -1,6 +1,6 @@
 //! Rows that an index is made of.
 
-ghost use Rattle.std.specs.Prelude.{◌≡◌, ℕ, ◌+◌, ◌≤◌, ◌<◌, ◌^◌, ◌++◌, ◌∷◌, [], length, take, drop, OnOk, OnErr, slice_index_or};
+ghost use Rattle.std.specs.Prelude.{◌≡◌, ℕ, ◌+◌, ◌≤◌, ◌<◌, ◌^◌, ◌++◌, ◌∷◌, [], length, take, drop, IfOk, OnOk, OnErr, slice_index_or};
 ghost use Rattle.rpm_hindex.specs.Rows.{Row};
 ghost use Rattle.rpm_hindex.specs.Sizes.{live_of};
 ghost use Rattle.rpm_hindex.specs.Packed.{row_in, row_nth};
@@ -61,6 +61,21 @@ impl Rows {
             keys: Vec::new(alloc),
             live: 0,
         }
+    }
+
+    /// No rows, with room for so many, whose keys have so many bytes together.
+    ///
+    /// # Errors
+    ///
+    /// `AllocError` where there is no memory.
+    pub fn with_room(alloc: Global, rows: usize, bytes: usize) -> Result<Rows, AllocError>
+        ensures { IfOk result (λ rows. rows ≡ []) }
+    {
+        Ok(Rows {
+            heads: Vec::with_capacity(alloc, rows)?,
+            keys: Vec::with_capacity(alloc, bytes)?,
+            live: 0,
+        })
     }
 
     /// Adds a row at the end. Copies the key.
