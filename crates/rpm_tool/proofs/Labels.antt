@@ -1,4 +1,4 @@
--- The labels in the report on files are what the format of labels means, and so its lines are those that it has to have.
+-- The labels that the reports tell are what the format of labels means.
 use Rattle.std.proofs.Common.{◌≡◌, ℕ, ◌-◌, ◌++◌, List, [], Option, Some, None, Result, Ok, Err, length, replicate, refl, sym, ap, ◌∙◌, arith}
 use Rattle.std.specs.Prelude.{false, unwrap_or}
 use Rattle.std.specs.Option.{option_and_then}
@@ -26,8 +26,9 @@ use Rattle.rpm_filecheck.specs.Conflicts as check
 use Rattle.rpm_filecheck.specs.Conflicts.{Report, IsReport}
 use Rattle.rpm_change.specs.Steps.{bearer, out_bytes}
 use Rattle.rpm_tool.specs.Queries.{printed, header_step}
-use Rattle.rpm_tool.specs.FileReport as report
-use Rattle.rpm_tool.specs.FileReport.{label_tree, label_in, label_told, report_steps, told_steps}
+use Rattle.rpm_tool.specs.Labels as report
+use Rattle.rpm_tool.specs.Labels.{label_tree, header_label, label_in}
+use Rattle.rpm_tool.specs.FileReport.{label_told, report_steps, told_steps}
 
 -- ---- a label is what the format means
 
@@ -51,8 +52,8 @@ shown_as : (parts : Option (List (List ℕ))) → check.printed (as_text parts) 
 shown_as None = refl
 shown_as (Some ps) = refl
 
-text_is : (h : Header) (n : ℕ) → check.printed (value h 0 Nvra) ≡ out_bytes (printed (bearer 0 n) (meaning h n label_tree))
-text_is h n =
+pub header_label_is : (h : Header) (n : ℕ) → check.label h ≡ header_label n h
+header_label_is h n =
     let text = text_or_none Element Plain 0 (value h n Nvra) in
     let same : out_bytes (printed (bearer 0 n) (meaning h n label_tree)) ≡ padded false 0 text ++ [] =
     ap (λ (t : Tree). out_bytes (printed (bearer 0 n) (meaning h n t))) tree_is
@@ -60,7 +61,7 @@ text_is h n =
     shown_as (label (first_text h NAME) None (first_text h VERSION) (first_text h RELEASE) (first_text h ARCH)) ∙ sym (unpadded text) ∙ sym same
 
 label_read_is : (n : ℕ) (r : Result Header HeaderFault) → unwrap_or (check.label_read r) [] ≡ out_bytes (header_step label_tree 0 n r)
-label_read_is n (Ok h) = text_is h n
+label_read_is n (Ok h) = header_label_is h n
 label_read_is n (Err fault) = refl
 
 label_in_is : (n : ℕ) (p : Option Package) → unwrap_or (option_and_then check.label_of p) [] ≡ label_in n p
@@ -71,7 +72,7 @@ label_in_is n (Some Bad) = refl
 label_is : (packages : FinMap nat_cmp Package) (n : ℕ) → unwrap_or (check.label_at packages n) [] ≡ report.label packages n
 label_is packages n = label_in_is n (get packages n)
 
--- ---- the steps of a report are those of the packages
+-- ---- the steps of the report on files are those of the packages
 
 labels_are : (packages : FinMap nat_cmp Package) (r : Report) → IsReport packages r → label_told r ≡ report.label packages
 labels_are packages r is = λ i n. (ap (λ (text : Option (List ℕ)). unwrap_or text []) (is.labels_are n) ∙ label_is packages n) i

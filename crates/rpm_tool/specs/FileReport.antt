@@ -1,34 +1,15 @@
 -- What is told of the paths that several packages own and that differ.
-use Rattle.std.specs.Prelude.{ℕ, List, [], ◌∷◌, ◌++◌, map, codes, Bool, true, false, Option, Some, None, Result, Ok, Err, unwrap_or}
+use Rattle.std.specs.Prelude.{ℕ, List, [], ◌∷◌, ◌++◌, map, codes, Bool, true, false, unwrap_or}
 use Rattle.std.specs.List.{concat}
 use Rattle.std.specs.Ordering.{nat_cmp}
-use Rattle.std.specs.FinMap.{FinMap, get}
-use Rattle.rpm_qfparse.specs.declared.fault.FormatFault.{FormatFault}
-use Rattle.rpm_qfparse.specs.Tree.{Tree, End}
-use Rattle.rpm_qfparse.specs.Format.{format}
+use Rattle.std.specs.FinMap.{FinMap}
 use Rattle.rpm_db.specs.State.{Package}
 use Rattle.rpm_filecheck.specs.Owners.{Conflict}
 use Rattle.rpm_filecheck.specs.Conflicts.{Report, conflicts, bad, told_label}
-use Rattle.rpm_change.specs.Steps.{whole, Step, ToOut, ToErr, out_bytes, Course, idle}
+use Rattle.rpm_change.specs.Steps.{whole, Step, ToOut, ToErr, Course, idle}
 use Rattle.rpm_tool.specs.Steps.{fails, together, before}
-use Rattle.rpm_tool.specs.Queries.{bad_line, step_of}
-
--- ---- the label of a package
-
-abbrev pub tree_in : Result Tree FormatFault → Tree
-tree_in (Ok tree) = tree
-tree_in (Err fault) = End
-
-unfoldable pub label_tree : Tree
-label_tree = tree_in (format (codes "%{NVRA}"))
-
-abbrev pub label_in : ℕ → Option Package → List ℕ
-label_in n None = []
-label_in n (Some p) = out_bytes (step_of label_tree 0 (n, p))
-
--- what a query by the format `%{NVRA}` prints of a number's package on out
-abbrev pub label : FinMap nat_cmp Package → ℕ → List ℕ
-label packages n = label_in n (get packages n)
+use Rattle.rpm_tool.specs.Queries.{bad_line}
+use Rattle.rpm_tool.specs.Labels.{label}
 
 -- ---- its lines
 

@@ -6,6 +6,7 @@ pub mod FileReport
 pub mod Given
 pub mod History
 pub mod Keyed
+pub mod Labels
 pub mod Limits
 pub mod Lines
 pub mod PackageFiles

@@ -17,7 +17,6 @@ use Rattle.rpm_check.specs.Edges.{graph_of}
 use Rattle.rpm_check.specs.declared.faults.CheckFault.{CheckFault}
 use Rattle.rpm_check.specs.declared.faults.CheckFault.TheVariants as check
 use Rattle.rpm_check.specs.Answers.{IsFaultOfSome}
-use Rattle.rpm_filecheck.specs.Conflicts.{label}
 use Rattle.rpm_qfeval.specs.Numbers.{letters, depflags}
 use Rattle.rpm_tool.specs.declared.step.Stop.{Stop}
 use Rattle.rpm_tool.specs.declared.step.Stop.TheVariants as stop
@@ -27,6 +26,7 @@ use Rattle.rpm_change.specs.Endings.{Outputs}
 use Rattle.rpm_change.specs.Steps.{bearer, whole, Step, ToOut, Course, idle}
 use Rattle.rpm_tool.specs.Steps.{Portion, nothing, fails, together, before}
 use Rattle.rpm_tool.specs.Queries.{bad_step}
+use Rattle.rpm_tool.specs.Labels.{header_label}
 use Rattle.rpm_tool.specs.Answers.{PartIs, Reached, Anywhere, is_some_of, why_of}
 
 -- ---- what is said of a package
@@ -73,12 +73,12 @@ abbrev pub line_of : List ℕ → Option Needed → List ℕ
 line_of label None = []
 line_of label (Some need) = unmet_line label need
 
--- of the requirement at a place of a header
-abbrev pub unmet_text : ℕ → Header → List ℕ
-unmet_text place h = line_of (label h) (slice_get (required h) place)
+-- of the requirement at a place of a number's header
+abbrev pub unmet_text : ℕ → ℕ → Header → List ℕ
+unmet_text place n h = line_of (header_label n h) (slice_get (required h) place)
 
 abbrev pub unmet_step : FinMap nat_cmp Package → Unmet → Step
-unmet_step packages u = ToOut (bearer 0 u.number) (package_text (unmet_text u.place) (get packages u.number))
+unmet_step packages u = ToOut (bearer 0 u.number) (package_text (unmet_text u.place u.number) (get packages u.number))
 
 -- a line for each, and the argument fails where there is one
 abbrev pub unmet_part : FinMap nat_cmp Package → Portion
@@ -93,11 +93,11 @@ unsatisfied packages = before (unsatisfied_part packages) idle
 
 -- ---- an order of installation
 
-abbrev pub label_text : List ℕ → Header → List ℕ
-label_text indent h = concat (indent ∷ label h ∷ codes "\n" ∷ [])
+abbrev pub label_text : List ℕ → ℕ → Header → List ℕ
+label_text indent n h = concat (indent ∷ header_label n h ∷ codes "\n" ∷ [])
 
 abbrev pub label_step : FinMap nat_cmp Package → List ℕ → ℕ → Step
-label_step packages indent n = ToOut (bearer 0 n) (package_text (label_text indent) (get packages n))
+label_step packages indent n = ToOut (bearer 0 n) (package_text (label_text indent n) (get packages n))
 
 -- packages that all lead to each other
 unfoldable pub cycle_line : ℕ → List ℕ

@@ -36,7 +36,7 @@ fn label_text(
     number: u32,
     indent: &[u8],
 ) -> Result<Vec<u8>, AllocError>
-    ensures { IfOk result (λ line. line.items ≡ label_text indent.now view.now) }
+    ensures { IfOk result (λ line. line.items ≡ label_text indent.now number view.now) }
 {
     let label = label_of(alloc, view, number)?;
     let mut line = Vec::new(alloc);
@@ -53,7 +53,7 @@ fn read_label_text(
     number: u32,
     indent: &[u8],
 ) -> Result<Vec<u8>, AllocError>
-    ensures { IfOk result (λ line. line.items ≡ read_text (label_text indent.now) (header blob.now)) }
+    ensures { IfOk result (λ line. line.items ≡ read_text (label_text indent.now number) (header blob.now)) }
 {
     match View::parse(blob) {
         Ok(view) => label_text(alloc, &view, number, indent),

@@ -127,7 +127,7 @@ fn unmet_text(
     number: u32,
     place: u32,
 ) -> Result<Vec<u8>, AllocError>
-    ensures { IfOk result (λ line. line.items ≡ unmet_text place view.now) }
+    ensures { IfOk result (λ line. line.items ≡ unmet_text place number view.now) }
 {
     match requirement(view, place) {
         Some(needed) => {
@@ -145,7 +145,7 @@ fn read_unmet_text(
     number: u32,
     place: u32,
 ) -> Result<Vec<u8>, AllocError>
-    ensures { IfOk result (λ line. line.items ≡ read_text (unmet_text place) (header blob.now)) }
+    ensures { IfOk result (λ line. line.items ≡ read_text (unmet_text place number) (header blob.now)) }
 {
     match View::parse(blob) {
         Ok(view) => unmet_text(alloc, &view, number, place),

@@ -12,7 +12,8 @@ use Rattle.rpm_change.specs.Endings.{Outputs, outputs}
 use Rattle.rpm_tool.specs.declared.answer.Why.{Why}
 use Rattle.rpm_tool.specs.declared.step.Stop.{Stop}
 use Rattle.rpm_tool.specs.Steps.{Portion, fails, together}
-use Rattle.rpm_tool.specs.FileReport.{label, report_steps, told_steps, check_files}
+use Rattle.rpm_tool.specs.Labels.{label}
+use Rattle.rpm_tool.specs.FileReport.{report_steps, told_steps, check_files}
 use Rattle.rpm_tool.specs.Reads.{reached_by}
 use Rattle.rpm_tool.specs.Answers.{Reached, PartIs, Went}
 use Rattle.rpm_tool.proofs.Answering.{part_reads, went_stop}

@@ -14,12 +14,12 @@ use Rattle.rpm_tool.proofs.ordering.put_label.Goals as goal
 pub returns-in-Ok-read_label_text-clause-step : goal.returns-in-Ok-read_label_text-clause-step
 returns-in-Ok-read_label_text-clause-step g c = λ told et e.
     let all = packages (g.D.Disk.files c.args.disk.now).pkg c.args.db.now.store in
-    let text = package_text (label_text c.args.indent.now) (finite.get all c.args.number) in
+    let text = package_text (label_text c.args.indent.now c.args.number) (finite.get all c.args.number) in
     let old = outputs g.O.Sink.tells (g.O.Sink.taken (inner c.args.out.now)) et e in
     let new = outputs g.O.Sink.tells (g.O.Sink.taken (inner c.put_text.new.out)) et e in
     let is : c.in-Ok-read_label_text.line.items ≡ text =
-    c.in-Ok-read_label_text.ensures ∙ ap (λ (b : List ℕ). read_text (label_text c.args.indent.now) (header b)) c.deref.ensures.value ∙ sym
-    (c.in-Ok.ensures.told told (label_text c.args.indent.now)) in
+    c.in-Ok-read_label_text.ensures ∙ ap (λ (b : List ℕ). read_text (label_text c.args.indent.now c.args.number) (header b)) c.deref.ensures.value ∙ sym
+    (c.in-Ok.ensures.told told (label_text c.args.indent.now c.args.number)) in
     subst (λ (t : List ℕ). StepIs (ToOut (bearer 0 c.args.number) t) c.put_text.result old new)
     (ap (λ (t : List ℕ). t) c.deref-in-Ok-read_label_text.ensures.value ∙ is)
     (c.put_text.ensures.step (bearer 0 c.args.number) et e)

@@ -14,12 +14,12 @@ use Rattle.rpm_tool.proofs.unsatisfied.put_unmet.Goals as goal
 pub returns-in-Ok-read_unmet_text-clause-step : goal.returns-in-Ok-read_unmet_text-clause-step
 returns-in-Ok-read_unmet_text-clause-step g c = λ told et e.
     let all = packages (g.D.Disk.files c.args.disk.now).pkg c.args.db.now.store in
-    let text = package_text (unmet_text c.args.unmet.place) (finite.get all c.args.unmet.number) in
+    let text = package_text (unmet_text c.args.unmet.place c.args.unmet.number) (finite.get all c.args.unmet.number) in
     let old = outputs g.O.Sink.tells (g.O.Sink.taken (inner c.args.out.now)) et e in
     let new = outputs g.O.Sink.tells (g.O.Sink.taken (inner c.put_text.new.out)) et e in
     let is : c.in-Ok-read_unmet_text.line.items ≡ text =
-    c.in-Ok-read_unmet_text.ensures ∙ ap (λ (b : List ℕ). read_text (unmet_text c.args.unmet.place) (header b)) c.deref.ensures.value ∙ sym
-    (c.in-Ok.ensures.told told (unmet_text c.args.unmet.place)) in
+    c.in-Ok-read_unmet_text.ensures ∙ ap (λ (b : List ℕ). read_text (unmet_text c.args.unmet.place c.args.unmet.number) (header b)) c.deref.ensures.value ∙ sym
+    (c.in-Ok.ensures.told told (unmet_text c.args.unmet.place c.args.unmet.number)) in
     subst (λ (t : List ℕ). StepIs (ToOut (bearer 0 c.args.unmet.number) t) c.put_text.result old new)
     (ap (λ (t : List ℕ). t) c.deref-in-Ok-read_unmet_text.ensures.value ∙ is)
     (c.put_text.ensures.step (bearer 0 c.args.unmet.number) et e)
