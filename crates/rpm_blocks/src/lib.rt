@@ -117,6 +117,7 @@ impl Used {
     ///
     /// Asks for room, for a block at least, for an end at or below the limit, and that no block of it is used.
     /// Two binary searches, and the ranges and runs above it move: neither, where it is behind the last.
+    #[inline]
     pub fn insert(&mut self, start: u32, count: u32)
         requires room { 1 ≤ self.old.spare }
         requires filled { 1 ≤ count }

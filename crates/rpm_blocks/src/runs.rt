@@ -12,6 +12,7 @@ use super::places::{place, put};
 const BLOCK_LIMIT: u32 = 268_435_456;
 
 /// Adds the blocks of a range that shares none with the runs.
+#[inline]
 pub fn join(runs: &mut Vec<Range>, range: Range)
     requires apart { AreApart 1 runs.old.items }
     requires range { IsRange range }
@@ -28,6 +29,7 @@ pub fn join(runs: &mut Vec<Range>, range: Range)
 }
 
 // Adds them where they lie, to the runs that they touch.
+#[inline(never)]
 fn join_between(runs: &mut Vec<Range>, range: Range)
     requires apart { AreApart 1 runs.old.items }
     requires range { IsRange range }
@@ -45,6 +47,7 @@ fn join_between(runs: &mut Vec<Range>, range: Range)
 }
 
 // Adds a range to the last run, if it begins where that ends, as in a file without gaps. Says whether it did.
+#[inline]
 fn extend_last(runs: &mut Vec<Range>, range: Range) -> bool
     requires apart { AreApart 1 runs.old.items }
     requires range { IsRange range }
