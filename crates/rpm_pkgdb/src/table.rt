@@ -46,7 +46,7 @@ fn own_slots(
         if own_reason(pages, units, unit).is_some() {
             return Ok(None);
         }
-        slots.push(slot_of(unit))?;
+        slots.push_reserved(slot_of(unit));
     }
     Ok(Some(slots))
 }

@@ -17,6 +17,7 @@ loop-k-init c = record {
   slots = c.in_ok-slots.ensures.items ∙ sym slots_in-none;
   own = λ k below. absurd (omega (arith, below));
   numbered = λ k below used. absurd (omega (arith, ap length c.in_ok-slots.ensures.items, below));
+  room = omega (arith, c.in_ok-slots.ensures.capacity, c.in_ok-slots.ensures.len);
 }
 
 pub loop-k-preserved : goal.loop-k-preserved
@@ -29,12 +30,13 @@ loop-k-preserved c =
     record {
       slots =
           slots_more c.args.pages c.args.units [] c.loop-k.slots.items us k c.unit_in-unit.result.now below c.loop-k.invariant.slots
-          c.unit_in-unit.ensures.unit c.push.new.self.items
-          (c.in_ok-push.ensures.items ∙ ap (λ (s : Slot). c.loop-k.slots.items ++ s ∷ []) c.slot_of.ensures);
+          c.unit_in-unit.ensures.unit c.push_reserved.new.self.items
+          (c.push_reserved.ensures.items ∙ ap (λ (s : Slot). c.loop-k.slots.items ++ s ∷ []) c.slot_of.ensures);
       own = own_more c.args.pages c.args.units us k c.unit_in-unit.result.now c.loop-k.invariant.own c.unit_in-unit.ensures.unit none;
-      numbered = subst AreNumbered (sym c.in_ok-push.ensures.items) (numbered_push c.loop-k.slots.items c.slot_of.result c.loop-k.invariant.numbered (λ used.
+      numbered = subst AreNumbered (sym c.push_reserved.ensures.items) (numbered_push c.loop-k.slots.items c.slot_of.result c.loop-k.invariant.numbered (λ used.
           let p = placed_slot c.args.pages c.args.units c.unit_in-unit.result.now c.slot_of.result none c.slot_of.ensures used in
           (p.number, omega (arith, p.few, c.slot_of.type_inv))));
+      room = omega (arith, c.loop-k.invariant.room, c.push_reserved.ensures.len, c.push_reserved.ensures.capacity);
     }
 
 pub returns-clause-slots : goal.returns-clause-slots
