@@ -4,6 +4,9 @@ ghost use Rattle.std.specs.Prelude.{◌≡◌, ◌⊎◌, ℕ, ◌+◌, ◌*◌,
 ghost use Rattle.rpm_group.specs.Held.{unit_in, in_page};
 ghost use Rattle.rpm_group.specs.inner.Holding.{PageWrote};
 
+// No more bytes than that are copied unit by unit.
+const FEW_BYTES: usize = 64;
+
 /// The units of a page, with a mark for each that is held. What isn't held means nothing.
 #[derive(Drop)]
 pub struct Page {
@@ -45,14 +48,14 @@ impl Page {
         mark(&mut self.marks, at, end);
     }
 
-    /// Copies the held ones of these units over others, in one piece where all of them are held.
+    /// Copies the held ones of these units over others, many of them in one piece where all of them are held.
     pub fn lay(&self, at: usize, into: &mut [u8])
         requires whole { length into.old % 16 ≡ 0 }
         requires within { at + length into.old / 16 ≤ 256 }
         ensures { (k : ℕ) → k < length into.old / 16 → unit_in into.new k ≡ unwrap_or (in_page self.now (at + k)) (unit_in into.old k) }
     {
         let end = at + into.len() / 16;
-        if self.marks[at..end].contains(&false) {
+        if into.len() <= FEW_BYTES || self.marks[at..end].contains(&false) {
             self.lay_some(at, into);
             return;
         }

@@ -7,7 +7,10 @@ ghost use Rattle.rpm_group.specs.Counts.{is_held, begins_run, count_below};
 use crate::page::Page;
 use crate::table::Table;
 
-/// The first of these marks that is so, or the end. That none is so is seen many marks at a time.
+// Of no more marks than that each is looked at by itself.
+const FEW: usize = 8;
+
+/// The first of these marks that is so, or the end. That none of many is so is seen many marks at a time.
 fn next_mark(marks: &[bool], from: usize, end: usize, held: bool) -> usize
     requires ordered { from ≤ end }
     requires within { end ≤ length marks.now }
@@ -16,7 +19,7 @@ fn next_mark(marks: &[bool], from: usize, end: usize, held: bool) -> usize
     ensures between { (k : ℕ) → from ≤ k → k < result → slice_index_or marks.now k false ≡ not held }
     ensures found { result < end → slice_index_or marks.now result false ≡ held }
 {
-    if !marks[from..end].contains(&held) {
+    if end - from > FEW && !marks[from..end].contains(&held) {
         return end;
     }
     for k in from..end {
