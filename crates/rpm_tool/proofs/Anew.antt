@@ -1,5 +1,5 @@
 -- A command that makes the index anew, from the opening to its last change.
-use Rattle.std.proofs.Common.{◌≡◌, ◌≤◌, true, List, Result, Ok, Err, refl, sym, subst, inl, inr}
+use Rattle.std.proofs.Common.{◌≡◌, ◌≤◌, true, false, List, Result, Ok, Err, refl, sym, subst, inl, inr}
 use Rattle.rpm_outside.specs.Files.{Files}
 use Rattle.rpm_hindex.specs.Sizes.{units_for}
 use Rattle.rpm_pkgdb.specs.declared.slot.Damage.{Damage}
@@ -15,8 +15,10 @@ use Rattle.rpm_change.specs.declared.tally.Tally.{Tally}
 use Rattle.rpm_change.specs.Steps.{Course}
 use Rattle.rpm_change.specs.Endings.{Outputs, Done, Ended}
 use Rattle.rpm_change.specs.Rebuilding.{RebuildTurn}
+use Rattle.rpm_tool.specs.declared.answer.Why.{Why}
 use Rattle.rpm_tool.specs.Changing.{FullTurn}
 use Rattle.rpm_tool.specs.Working.{OpensBy, WorkedWith, why_of_halt}
+use Rattle.rpm_tool.proofs.Brokens.{done_unbroken}
 use Rattle.rpm_tool.proofs.Grouped.{if_ok}
 use Rattle.rpm_tool.proofs.Leavings.{full_done}
 use Rattle.rpm_tool.proofs.Works.{state-in_file, halted_by, done_by}
@@ -46,23 +48,27 @@ module _ (course : State → Course) (old mid new : Files) (db last : Database) 
   same opens s is = (subst (λ (sr : Result Store Damage). OpensBy old sr mid (Ok db)) is opens).0
 
   pub halted_anew : (h : Halt) (t : State) → OpensBy old (store old.pkg) mid (Ok db) → Ended (course found) found t (Err h) before now
-      → RebuildTurn found (course found).changes (Err h) → WorkedWith true course old new (Err (why_of_halt h)) before now
+      → RebuildTurn found (course found).changes (Err h) → WorkedWith true false course old new (Err (why_of_halt h)) before now
   halted_anew h t opens ended turn = record {
     went = halted_by course old mid new db last before now (store old.pkg) h t opens ended;
     full = λ _. if_ok (store old.pkg) (λ s is. rebuilt_full (state old.pkg s) (course (state old.pkg s)).changes h
         (subst (λ (x : State). RebuildTurn x (course x).changes (Err h)) (same opens s is) turn));
+    bad = λ unit is.
+        absurd (subst (λ (w : Why). FullTurn true (units_for (rows found.packages)) found (course found).changes w) is
+        (rebuilt_full found (course found).changes h turn));
     made = tt;
     index = λ _. tt;
   }
 
   pub done_anew : (tally : Tally) → OpensBy old (store old.pkg) mid (Ok db) → store new.pkg ≡ Ok (in_file last.store)
       → Done (course found) found (state new.pkg last.store) tally before now → RebuildTurn found (course found).changes (Ok tally)
-      → 1 ≤ last.store.pages → IsIndexed new.pkg new.idx last → WorkedWith true course old new (Ok tally) before now
+      → 1 ≤ last.store.pages → IsIndexed new.pkg new.idx last → WorkedWith true false course old new (Ok tally) before now
   done_anew tally opens keeps done turn paged indexed = record {
     went = done_by course old mid new db last before now (store old.pkg) tally opens keeps done;
     full = λ _. if_ok (store old.pkg) (λ s is.
         (let room = subst (λ (x : State). RebuildTurn x (course x).changes (Ok tally)) (same opens s is) turn in
         full_done true _ (state old.pkg s) (course (state old.pkg s)).changes tally.failed (λ _. room.0) room.1));
+    bad = λ unit is. absurd (done_unbroken tally.failed unit is);
     made = record { value = in_file last.store; undamaged = keeps; paged = paged };
     index = λ _. record {
       value = in_file last.store;

@@ -21,7 +21,8 @@ use Rattle.rpm_tool.specs.Lines.{Between, LineIs, InTurn}
 use Rattle.rpm_tool.specs.Tasks.{asked_course}
 use Rattle.rpm_tool.proofs.Fitting.{course_fits}
 use Rattle.rpm_tool.proofs.Grouped.{if_ok_at}
-use Rattle.rpm_tool.proofs.Histories.{by_bool, stands_weaker}
+use Rattle.rpm_tool.proofs.Brokens.{by_bool}
+use Rattle.rpm_tool.proofs.Histories.{stands_weaker}
 use Rattle.rpm_tool.proofs.Lined.{by_asked, line_both}
 use Rattle.rpm_tool.proofs.Numbering.{Numbered, numbered_made, numbered_moved, given_idle, given_undone, given_done}
 

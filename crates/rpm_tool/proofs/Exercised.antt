@@ -76,10 +76,11 @@ module _ (n : ℕ) (old mid new : Files) (db last : Database) (before now : Outp
   pub stopped_exercise : (fault : ExerciseFault) (t : State) → IsRefused (IsNext (λ m. holds m db) 0) (Err fault)
       → OnceBegun (λ r. Ended (exercise n found) found t r before now) (Err fault)
       → OnceBegun (λ r. IndexTurn found (exercise n found).changes r) (Err fault) → ((held : ℕ) → fault ≡ NotEmpty held → Through [] before now)
-      → WorkedWith true (λ s. exercise n s) old new (Err (why_of_exercise fault)) before now
+      → WorkedWith true false (λ s. exercise n s) old new (Err (why_of_exercise fault)) before now
   stopped_exercise (NotEmpty held) t refused ended turn nothing = record {
     went = unbegun (store old.pkg) held opens (nothing held refl);
     full = λ _. if_ok (store old.pkg) (λ s is. tt);
+    bad = λ unit is. absurd cc;
     made = tt;
     index = λ _. tt;
   }
@@ -89,7 +90,7 @@ module _ (n : ℕ) (old mid new : Files) (db last : Database) (before now : Outp
 
   pub done_exercise : (tally : Tally) → IsNext (λ m. holds m db) 0 None → store new.pkg ≡ Ok (in_file last.store)
       → Done (exercise n found) found (state new.pkg last.store) tally before now → IndexTurn found (exercise n found).changes (Ok tally)
-      → 1 ≤ last.store.pages → IsIndexed new.pkg new.idx last → WorkedWith true (λ s. exercise n s) old new (Ok tally) before now
+      → 1 ≤ last.store.pages → IsIndexed new.pkg new.idx last → WorkedWith true false (λ s. exercise n s) old new (Ok tally) before now
   done_exercise tally none keeps done turn paged indexed =
       done_anew (λ s. exercise n s) old mid new db last before now tally opens keeps done
       (renewed found (exercise n found).changes (Ok tally) (room_of_none mid.pkg db zero none) turn) paged indexed

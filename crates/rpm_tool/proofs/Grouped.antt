@@ -21,6 +21,7 @@ use Rattle.rpm_tool.specs.declared.answer.Why.{Why}
 use Rattle.rpm_tool.specs.Keyed.{IsLawfulGroup, AreLawfulGroups, StandsStill, is_done}
 use Rattle.rpm_tool.specs.Changing.{DidOpened, DidLoaded, DidOn, HasState, HasCurrent, IsMade, IsSealed, StandsStillOr, LeavesState, FullBy, ChangesWith, MayBegin, after, is_of_lawful, is_done_or_fault}
 use Rattle.rpm_tool.specs.Working.{WorkedWith, WorkedOn, WorkedBy, EndsGroup, GroupLeaves}
+use Rattle.rpm_tool.proofs.Brokens.{bad_ended}
 use Rattle.rpm_tool.proofs.Ended.{did_opened, done_ok, counted_ended, full_ended, leaves_ended, same_state, worked_state}
 use Rattle.rpm_tool.proofs.Leavings.{leaves_after, lawful_ending}
 
@@ -70,10 +71,10 @@ stands_lawful files image stands lawful = record {
   lawful = subst (λ (f : Files). IsLawful f.pkg f.idx) (sym stands.same) lawful;
 }
 
-module _ {D : Type 0} {anew : Bool} (files : D → Files) (left_since : D → ℕ → Files → Type 0) (moment : D → ℕ) (course : State → Course)
+module _ {D : Type 0} {anew changing : Bool} (files : D → Files) (left_since : D → ℕ → Files → Type 0) (moment : D → ℕ) (course : State → Course)
     (ended : Result Tally Why) (given : Why) (n : ℕ) (first last final : D) (new : Files) (before now : Outputs)
     (closed : log_state (files first).log ≡ Closed)
-    (worked : WorkedWith anew course (with_file Log (files first).log (reopened (files first))) new ended before now)
+    (worked : WorkedWith anew changing course (with_file Log (files first).log (reopened (files first))) new ended before now)
     (ends : EndsGroup files left_since moment ended given n (unlogged new) last final) where
   abbrev r : Files
   r = reopened (files first)
@@ -181,7 +182,7 @@ module _ {D : Type 0} {anew : Bool} (files : D → Files) (left_since : D → �
         (leaves_weaker moment left_since last final (ReopensAs (unlogged (files last))) (StandsStill images)
         (still_start (lawful (files first) here)) (ends.unmade undone))
 
-    pub group_changes : ChangesWith anew files left_since moment course given n first final
+    pub group_changes : ChangesWith anew changing files left_since moment course given n first final
     group_changes = record {
       counted = counted_ended ended given n ends.says;
       leaves = if_ok (store r.pkg) leaves_at;
@@ -189,6 +190,7 @@ module _ {D : Type 0} {anew : Bool} (files : D → Files) (left_since : D → �
       made = group_made;
       index = group_sealed;
       full = full_at;
+      bad = bad_ended changing r.pkg r.idx ended given n ends.says worked.bad;
       complete = group_complete;
       stops = λ lawful. if_ok (store r.pkg) (stops_at lawful);
       unmade = unmade_at;

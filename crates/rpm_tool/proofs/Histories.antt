@@ -13,13 +13,10 @@ use Rattle.rpm_tool.specs.declared.answer.Why.TheVariants as why
 use Rattle.rpm_tool.specs.Keyed.{AreLawfulGroups, StandsStill, is_done}
 use Rattle.rpm_tool.specs.Changing.{HasState, StandsStillOr, ChangesWith, after, is_done_or_fault}
 use Rattle.rpm_tool.specs.History.{Moves, StandsIn, AllStand}
+use Rattle.rpm_tool.proofs.Brokens.{by_bool}
 use Rattle.rpm_tool.proofs.Grouped.{if_ok_at}
 
 -- ---- endings
-
-pub by_bool : {X : Type 0} (b : Bool) → (b ≡ true → X) → (b ≡ false → X) → X
-by_bool true holds fails = holds refl
-by_bool false holds fails = fails refl
 
 moves_done : (w : Why) (s made : State) → is_done w ≡ true → Moves w made s made
 moves_done why.Done s made is = refl
@@ -137,47 +134,47 @@ module _ {D : Type 0} (files : D → Files) (left_since : D → ℕ → Files �
 
   -- ---- a command that changes packages
 
-  module _ {anew : Bool} (course : State → Course) (n : ℕ) (here : past (files old)) (did : ChangesWith anew files left_since moment course given n old new)
-    where
-      first : Says P (reopened (files old)).pkg
-      first = (all (files old) here).says
+  module _ {anew changing : Bool} (course : State → Course) (n : ℕ) (here : past (files old))
+      (did : ChangesWith anew changing files left_since moment course given n old new) where
+    first : Says P (reopened (files old)).pkg
+    first = (all (files old) here).says
 
-      abbrev s0 : State
-      s0 = state (reopened (files old)).pkg first.value
+    abbrev s0 : State
+    s0 = state (reopened (files old)).pkg first.value
 
-      stops : LeavesOnly moment left_since old new (StandsStillOr past (after course s0))
-      stops = if_ok_at _ (store (reopened (files old)).pkg) first.value first.undamaged (did.stops lawful)
+    stops : LeavesOnly moment left_since old new (StandsStillOr past (after course s0))
+    stops = if_ok_at _ (store (reopened (files old)).pkg) first.value first.undamaged (did.stops lawful)
 
-      made_next : (image : Files) → HasState (after course s0) image → Moves given (after course s0) s0 (after course s0)
-          → Says (Next (after course)) (reopened image).pkg
-      made_next image has moves = record {
-        value = has.value;
-        undamaged = has.undamaged;
-        is = (s0, first.is, subst (λ (t : State). Moves given (after course s0) s0 t) (sym has.is) moves);
-      }
+    made_next : (image : Files) → HasState (after course s0) image → Moves given (after course s0) s0 (after course s0)
+        → Says (Next (after course)) (reopened image).pkg
+    made_next image has moves = record {
+      value = has.value;
+      undamaged = has.undamaged;
+      is = (s0, first.is, subst (λ (t : State). Moves given (after course s0) s0 t) (sym has.is) moves);
+    }
 
-      kept_next : (image : Files) → StandsStill past image → is_done given ≡ false → StandsIn (Next (after course)) image
-      kept_next image still undone = stands_weaker P (Next (after course)) image (λ t p. (t, p, moves_none given t (after course t) undone))
-          (still_stands P past image all still)
+    kept_next : (image : Files) → StandsStill past image → is_done given ≡ false → StandsIn (Next (after course)) image
+    kept_next image still undone = stands_weaker P (Next (after course)) image (λ t p. (t, p, moves_none given t (after course t) undone))
+        (still_stands P past image all still)
 
-      pub changed_next : (image : Files) → left_since new (moment old) image → left_since new (moment new) image → StandsIn (Next (after course)) image
-      changed_next image since left = by_bool (is_done given)
-          (λ done. record {
-            lawful = ⊎_elim (λ still. still.lawful) (λ both. both.0) (stops.each image since);
-            says = made_next image (if_ok_at _ (store (reopened (files old)).pkg) first.value first.undamaged (did.held done) image left)
-                (moves_done given s0 (after course s0) done);
-          })
-          (λ undone. by_bool (is_done_or_fault given)
-          (λ may. ⊎_elim (λ still. kept_next image still undone)
-          (λ both. record { lawful = both.0; says = made_next image both.1 (moves_fault given s0 (after course s0) may) })
-          (stops.each image since))
-          (λ refused. kept_next image ((did.unmade refused lawful).each image since) undone))
+    pub changed_next : (image : Files) → left_since new (moment old) image → left_since new (moment new) image → StandsIn (Next (after course)) image
+    changed_next image since left = by_bool (is_done given)
+        (λ done. record {
+          lawful = ⊎_elim (λ still. still.lawful) (λ both. both.0) (stops.each image since);
+          says = made_next image (if_ok_at _ (store (reopened (files old)).pkg) first.value first.undamaged (did.held done) image left)
+              (moves_done given s0 (after course s0) done);
+        })
+        (λ undone. by_bool (is_done_or_fault given)
+        (λ may. ⊎_elim (λ still. kept_next image still undone)
+        (λ both. record { lawful = both.0; says = made_next image both.1 (moves_fault given s0 (after course s0) may) })
+        (stops.each image since))
+        (λ refused. kept_next image ((did.unmade refused lawful).each image since) undone))
 
-      pub changed_cut : LeavesOnly moment left_since old new (StandsIn (Cut (after course)))
-      changed_cut = leaves_weaker moment left_since old new (StandsStillOr past (after course s0)) (StandsIn (Cut (after course)))
-          (λ image. ⊎_elim (cut_still (after course) image)
-          (λ both. record {
-            lawful = both.0;
-            says = record { value = both.1.value; undamaged = both.1.undamaged; is = (s0, first.is, inr both.1.is) };
-          }))
-          stops
+    pub changed_cut : LeavesOnly moment left_since old new (StandsIn (Cut (after course)))
+    changed_cut = leaves_weaker moment left_since old new (StandsStillOr past (after course s0)) (StandsIn (Cut (after course)))
+        (λ image. ⊎_elim (cut_still (after course) image)
+        (λ both. record {
+          lawful = both.0;
+          says = record { value = both.1.value; undamaged = both.1.undamaged; is = (s0, first.is, inr both.1.is) };
+        }))
+        stops

@@ -4,6 +4,7 @@ mod Answering
 mod Arguments
 mod Asking
 mod Begun
+mod Brokens
 mod Chained
 mod Checked
 mod Closed

@@ -16,8 +16,9 @@ use Rattle.rpm_tool.specs.Asked.{by_key, is_changing, asks}
 use Rattle.rpm_tool.specs.Changing.{ChangesWith, after}
 use Rattle.rpm_tool.specs.History.{Call, Moves, StandsIn, AllStand, course_of, made_by, calls_of}
 use Rattle.rpm_tool.specs.Keyed.{AreLawfulGroups, StandsStill}
-use Rattle.rpm_tool.specs.Tasks.{asked_task, asked_course, is_anew}
-use Rattle.rpm_tool.proofs.Histories.{by_bool, still_next, still_cut, changed_next, changed_cut}
+use Rattle.rpm_tool.specs.Tasks.{asked_task, asked_course, is_anew, changes_index}
+use Rattle.rpm_tool.proofs.Brokens.{by_bool}
+use Rattle.rpm_tool.proofs.Histories.{still_next, still_cut, changed_next, changed_cut}
 
 pub calls_more : (lines : List (List (List ℕ))) (outcomes : List Outcome) (outcome : Outcome) (d : List (List ℕ)) → length outcomes < length lines
     → calls_of lines (outcomes ++ outcome ∷ []) ≡ calls_of lines outcomes ++ record { words = get_or lines (length outcomes) d; outcome = outcome } ∷ []
@@ -40,7 +41,8 @@ module _ {D : Type 0} (tells : Bool) (files : D → Files) (left_since : D → �
     (stops : (a : AskParts) (tree : Tree) → asks words ≡ Some (a, tree) → by_key a ≡ true → AreLawfulGroups (left_since old (moment old))
     → LeavesOnly moment left_since old new (StandsStill (left_since old (moment old))))
     (changed : (a : AskParts) (tree : Tree) → asks words ≡ Some (a, tree) → is_changing a ≡ true
-    → ChangesWith (is_anew (asked_task words a)) files left_since moment (asked_course paths now words a) given changes old new) where
+    → ChangesWith (is_anew (asked_task words a)) (changes_index (asked_task words a)) files left_since moment (asked_course paths now words a) given changes
+    old new) where
   abbrev past : Files → Type 0
   past = left_since old (moment old)
 

@@ -14,7 +14,7 @@ use Rattle.rpm_db.specs.State.{State, state}
 use Rattle.rpm_change.specs.Steps.{Course}
 use Rattle.rpm_tool.specs.declared.answer.Why.{Why}
 use Rattle.rpm_tool.specs.Keyed.{IsLawfulGroup, AreLawfulGroups, StandsStill}
-use Rattle.rpm_tool.specs.Changing.{HasState, StandsStillOr, LeavesState, FullBy, ChangesWith, after, is_done_or_fault}
+use Rattle.rpm_tool.specs.Changing.{HasState, StandsStillOr, LeavesState, FullBy, BadBy, ChangesWith, after, is_done_or_fault}
 use Rattle.rpm_tool.proofs.Grouped.{if_ok, if_ok_at, may_begin}
 
 -- an image stands still that stands for what one of these stands for
@@ -39,8 +39,8 @@ module _ {D : Type 0} (files : D → Files) (left_since : D → ℕ → Files �
   recovering lawful s = leaves_weaker moment left_since old mid (ReopensAsOneOf past) (StandsStillOr past s)
       (λ image left. inl (recovered_still past lawful image left)) run
 
-  module _ {anew : Bool} (closed : log_state (files mid).log ≡ Closed) (settled : AreSettled (files mid) (left_since mid (moment mid)))
-      (rest : ChangesWith anew files left_since moment course given n mid new) where
+  module _ {anew changing : Bool} (closed : log_state (files mid).log ≡ Closed) (settled : AreSettled (files mid) (left_since mid (moment mid)))
+      (rest : ChangesWith anew changing files left_since moment course given n mid new) where
     lawful_mid : IsLawfulGroup (files old) → IsLawfulGroup (files mid)
     lawful_mid lawful = record {
       sound = subst IsSound (sym closed) tt;
@@ -79,7 +79,7 @@ module _ {D : Type 0} (files : D → Files) (left_since : D → ℕ → Files �
         (leaves_weaker moment left_since mid new (StandsStillOr (left_since mid (moment mid)) t) (StandsStillOr past t) (still_past t)
         (if_ok_at _ (store (reopened (files mid)).pkg) s is (rest.stops (lawful_all lawful))))))
 
-    pub recovered_changes : ChangesWith anew files left_since moment course given n old new
+    pub recovered_changes : ChangesWith anew changing files left_since moment course given n old new
     recovered_changes = record {
       counted = rest.counted;
       leaves = subst (λ (f : Files). IfOk (store f.pkg) (λ s. LeavesState course (state f.pkg s) given n (files new))) stands rest.leaves;
@@ -87,6 +87,7 @@ module _ {D : Type 0} (files : D → Files) (left_since : D → ℕ → Files �
       made = rest.made;
       index = λ may done. rest.index (may_begin anew lawful_mid may) done;
       full = λ may. subst (λ (f : Files). FullBy anew course f given) stands (rest.full (may_begin anew lawful_mid may));
+      bad = subst (λ (f : Files). BadBy changing f.pkg f.idx given) stands rest.bad;
       complete = λ lawful. rest.complete (lawful_mid lawful);
       stops = λ lawful. subst StopsBy stands (stops_past lawful);
       unmade = unmade_past;

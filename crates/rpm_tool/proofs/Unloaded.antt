@@ -33,8 +33,8 @@ module _ {D : Type 0} (tells : Bool) (files : D → Files) (left_since : D → �
   same : files last ≡ files first
   same = (looks.untouched told).same
 
-  worked : (anew : Bool) → WorkedWith anew course over over (Err given) x x
-  worked anew = worked_none course (log_state (files first).log) fault over over x x closed says (through_none x)
+  worked : (anew changing : Bool) → WorkedWith anew changing course over over (Err given) x x
+  worked anew changing = worked_none course (log_state (files first).log) fault over over x x closed says (through_none x)
 
   still : AreSettled (files last) (left_since last (moment last))
   still image left =
@@ -45,10 +45,11 @@ module _ {D : Type 0} (tells : Bool) (files : D → Files) (left_since : D → �
       given (load_halts fault)
 
   pub unloaded_did : DidOn course (files first) given x x
-  unloaded_did = group_did files left_since moment course (Err given) given 0 first last last over x x closed (worked false) ends
+  unloaded_did = group_did files left_since moment course (Err given) given 0 first last last over x x closed (worked false false) ends
 
-  pub unloaded_changes : {anew : Bool} → left_since first (moment first) (files first) → left_since last (moment last) (files last)
-      → ChangesWith anew files left_since moment course given 0 first last
-  unloaded_changes {anew} here there = group_changes files left_since moment course (Err given) given 0 first last last over x x closed (worked anew) ends
+  pub unloaded_changes : {anew changing : Bool} → left_since first (moment first) (files first) → left_since last (moment last) (files last)
+      → ChangesWith anew changing files left_since moment course given 0 first last
+  unloaded_changes {anew} {changing} here there = group_changes files left_since moment course (Err given) given 0 first last last over x x closed
+      (worked anew changing) ends
       same here settled
       (looks.untouched told).images looks.moment_stays there

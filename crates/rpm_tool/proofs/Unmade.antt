@@ -55,18 +55,20 @@ worked_memory course pkg (Ok s) new old now none = none_done (course (state pkg 
 worked_memory course pkg (Err d) new old now none = (tt, none)
 
 -- so nothing was done
-pub worked_none : {anew : Bool} (course : State → Course) (log : LogState) (fault : LoadFault) (old new : Files) (before now : Outputs) → log ≡ Closed
-    → LoadSays log (Err fault) → Through [] before now → WorkedWith anew course old new (Err (why_of_load fault)) before now
+pub worked_none : {anew changing : Bool} (course : State → Course) (log : LogState) (fault : LoadFault) (old new : Files) (before now : Outputs) → log ≡ Closed
+    → LoadSays log (Err fault) → Through [] before now → WorkedWith anew changing course old new (Err (why_of_load fault)) before now
 worked_none course log (load.BadLog unit) old new before now closed says none = absurd (let wrong : Closed ≡ Malformed unit = sym closed ∙ says in cc)
 worked_none course log load.DiskFault old new before now closed says none = record {
   went = worked_fault course old.pkg (store old.pkg) new before now none;
   full = λ lawful. if_ok (store old.pkg) (λ s is. tt);
+  bad = λ unit is. absurd cc;
   made = tt;
   index = λ lawful. tt;
 }
 worked_none course log load.NoMemory old new before now closed says none = record {
   went = worked_memory course old.pkg (store old.pkg) new before now none;
   full = λ lawful. if_ok (store old.pkg) (λ s is. tt);
+  bad = λ unit is. absurd cc;
   made = tt;
   index = λ lawful. tt;
 }
@@ -118,8 +120,8 @@ module _ {D : Type 0} (files : D → Files) (left_since : D → ℕ → Files �
   abbrev past : Files → Type 0
   past = left_since old (moment old)
 
-  pub unrecovered_changes : {anew : Bool} (fault : RecoverFault) → RecoverSays (log_state (files old).log) (Err fault)
-      → ChangesWith anew files left_since moment course (why_of_recover fault) 0 old new
+  pub unrecovered_changes : {anew changing : Bool} (fault : RecoverFault) → RecoverSays (log_state (files old).log) (Err fault)
+      → ChangesWith anew changing files left_since moment course (why_of_recover fault) 0 old new
   unrecovered_changes (recover.BadLog unit) says = record {
     counted = λ no. refl;
     leaves = if_ok (store r.pkg) (λ s is. (
@@ -135,6 +137,7 @@ module _ {D : Type 0} (files : D → Files) (left_since : D → ℕ → Files �
     made = λ done. absurd cc;
     index = λ lawful done. absurd cc;
     full = λ lawful. if_ok (store r.pkg) (λ s is. tt);
+    bad = λ unit is. absurd cc;
     complete = λ lawful. absurd (unlawful_log (log_state (files old).log) unit says lawful.sound);
     stops = λ lawful. if_ok (store r.pkg) (λ s is.
         recovering files left_since moment course (why.BadLog unit) 0 old new new here stands run lawful (after course (state r.pkg s)));
@@ -156,6 +159,7 @@ module _ {D : Type 0} (files : D → Files) (left_since : D → ℕ → Files �
     made = λ done. absurd cc;
     index = λ lawful done. absurd cc;
     full = λ lawful. if_ok (store r.pkg) (λ s is. tt);
+    bad = λ unit is. absurd cc;
     complete = λ lawful. refl;
     stops = λ lawful. if_ok (store r.pkg) (λ s is.
         recovering files left_since moment course why.DiskFault 0 old new new here stands run lawful (after course (state r.pkg s)));

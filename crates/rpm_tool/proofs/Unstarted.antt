@@ -42,7 +42,7 @@ module _ {D : Type 0} (files : D → Files) (left_since : D → ℕ → Files �
     before = λ t image le left. inl left;
   }
 
-  pub unstarted_changes : {anew : Bool} → ChangesWith anew files left_since moment course why.NoMemory 0 disk disk
+  pub unstarted_changes : {anew changing : Bool} → ChangesWith anew changing files left_since moment course why.NoMemory 0 disk disk
   unstarted_changes {anew} = record {
     counted = λ no. refl;
     leaves = if_ok (store (reopened (files disk)).pkg) (λ s is. (refl, record { value = s; undamaged = is; is = refl }));
@@ -50,6 +50,7 @@ module _ {D : Type 0} (files : D → Files) (left_since : D → ℕ → Files �
     made = λ done. absurd cc;
     index = λ lawful done. absurd cc;
     full = λ lawful. if_ok (store (reopened (files disk)).pkg) (λ s is. tt);
+    bad = λ unit is. absurd cc;
     complete = λ lawful. refl;
     stops = λ lawful. if_ok (store (reopened (files disk)).pkg) (λ s is. still lawful (after course (state (reopened (files disk)).pkg s)));
     unmade = λ no lawful. record {

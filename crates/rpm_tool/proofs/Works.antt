@@ -7,7 +7,7 @@ use Rattle.rpm_db.specs.declared.opening.DbOpenFault.{DbOpenFault}
 use Rattle.rpm_db.specs.declared.opening.DbOpenFault.TheVariants as opening
 use Rattle.rpm_db.specs.Changes.{Change}
 use Rattle.rpm_db.specs.Database.{Database, IsIndexed}
-use Rattle.rpm_db.specs.Lawful.{IsLawful, HasRows}
+use Rattle.rpm_db.specs.Lawful.{IsLawful, IsWholeIndex, HasRows}
 use Rattle.rpm_db.specs.Openings.{IsOpened, OpensAs, FullOpenIs, must_make, units_needed}
 use Rattle.rpm_pkgdb.specs.Blobs.{blobs}
 use Rattle.rpm_db.specs.State.{State, state, packages}
@@ -15,11 +15,12 @@ use Rattle.rpm_change.specs.declared.tally.Halt.{Halt}
 use Rattle.rpm_change.specs.declared.tally.Halt.TheVariants as halt
 use Rattle.rpm_change.specs.declared.tally.Tally.{Tally}
 use Rattle.rpm_change.specs.Steps.{Course}
-use Rattle.rpm_change.specs.Endings.{Outputs, Through, ThroughSome, Done, Ended, AllHaveRoom, IndexTurn}
+use Rattle.rpm_change.specs.Endings.{Outputs, Through, ThroughSome, Done, Ended, AllHaveRoom, IndexTurn, WholeTurn}
 use Rattle.rpm_tool.specs.declared.answer.Why.{Why}
 use Rattle.rpm_tool.specs.declared.answer.Why.TheVariants as why
-use Rattle.rpm_tool.specs.Changing.{FullTurn, makes}
+use Rattle.rpm_tool.specs.Changing.{FullTurn, IsBroken, makes}
 use Rattle.rpm_tool.specs.Working.{OpensIn, OpensBy, IsOutside, IsOfOpening, Stopped, WorkedBy, WorkedWith, Worked, why_of_open, why_of_halt}
+use Rattle.rpm_tool.proofs.Brokens.{done_unbroken, open_unbroken, halt_unbroken}
 use Rattle.rpm_tool.proofs.Leavings.{full_done}
 use Rattle.rpm_tool.proofs.Grouped.{if_ok}
 
@@ -151,19 +152,20 @@ more_makes : (anew : Bool) (idx : Units) (s : Store) → must_make idx (Ok s) �
 more_makes true idx s must = refl
 more_makes false idx s must = must
 
-pub open_with : (anew : Bool) (course : State → Course) (old new : Files) (w : Why) (before now : Outputs) → OpensBy old (store old.pkg) new (Err w)
-    → Through [] before now → WorkedWith anew course old new (Err w) before now
-open_with anew course old new w before now opens none = record {
+pub open_with : (anew changing : Bool) (course : State → Course) (old new : Files) (w : Why) (before now : Outputs) → OpensBy old (store old.pkg) new (Err w)
+    → Through [] before now → WorkedWith anew changing course old new (Err w) before now
+open_with anew changing course old new w before now opens none = record {
   went = unopened course old new new (store old.pkg) w before now opens none;
   full = λ _. if_ok (store old.pkg) (λ s is. full_open (must_make old.idx (Ok s)) _ _ _ _ new w (more_makes anew old.idx s)
       (subst (λ (sr : Result Store Damage). OpensBy old sr new (Err w)) is opens));
+  bad = λ unit is. absurd (open_unbroken old new (store old.pkg) w unit opens is);
   made = tt;
   index = λ _. tt;
 }
 
 pub open_worked : (course : State → Course) (old new : Files) (w : Why) (before now : Outputs) → OpensBy old (store old.pkg) new (Err w)
     → Through [] before now → Worked course old new (Err w) before now
-open_worked = open_with false
+open_worked = open_with false true
 
 -- ---- stopped later, or done
 
@@ -204,13 +206,15 @@ module _ (course : State → Course) (old mid new : Files) (db last : Database) 
   halted_by (Err d) h t opens ended = absurd opens
 
   pub halted_worked : (h : Halt) (t : State) → OpensBy old (store old.pkg) mid (Ok db) → Ended (course found) found t (Err h) before now
-      → (IsLawful old.pkg old.idx → IndexTurn found (course found).changes (Err h)) → Worked course old new (Err (why_of_halt h)) before now
-  halted_worked h t opens ended turn = record {
+      → (IsLawful old.pkg old.idx → IndexTurn found (course found).changes (Err h)) → (¬ IsWholeIndex mid.idx → IsBroken old.pkg old.idx)
+      → (IsWholeIndex mid.idx → WholeTurn new.idx (Err h)) → Worked course old new (Err (why_of_halt h)) before now
+  halted_worked h t opens ended turn broken whole = record {
     went = halted_by (store old.pkg) h t opens ended;
     full = λ lawful. if_ok (store old.pkg) (λ s is.
         (let opened = subst (λ (sr : Result Store Damage). OpensBy old sr mid (Ok db)) is opens in
         halt_full _ _ (state old.pkg s) (course (state old.pkg s)).changes h opened.1
         (subst (λ (x : State). IndexTurn x (course x).changes (Err h)) opened.0 (turn lawful))));
+    bad = λ unit is. (refl, broken (λ was. halt_unbroken new.idx h unit (whole was) is));
     made = tt;
     index = λ lawful. tt;
   }
@@ -225,16 +229,17 @@ module _ (course : State → Course) (old mid new : Files) (db last : Database) 
   )
   done_by (Err d) tally opens keeps done = absurd opens
 
-  pub done_worked : (tally : Tally) → OpensBy old (store old.pkg) mid (Ok db) → store new.pkg ≡ Ok (in_file last.store)
+  pub done_worked : {changing : Bool} (tally : Tally) → OpensBy old (store old.pkg) mid (Ok db) → store new.pkg ≡ Ok (in_file last.store)
       → Done (course found) found (state new.pkg last.store) tally before now
       → (IsLawful old.pkg old.idx → IndexTurn found (course found).changes (Ok tally)) → 1 ≤ last.store.pages
-      → (IsLawful old.pkg old.idx → IsIndexed new.pkg new.idx last) → Worked course old new (Ok tally) before now
+      → (IsLawful old.pkg old.idx → IsIndexed new.pkg new.idx last) → WorkedWith false changing course old new (Ok tally) before now
   done_worked tally opens keeps done turn paged indexed = record {
     went = done_by (store old.pkg) tally opens keeps done;
     full = λ lawful. if_ok (store old.pkg) (λ s is.
         (let opened = subst (λ (sr : Result Store Damage). OpensBy old sr mid (Ok db)) is opens in
         full_done _ _ (state old.pkg s) (course (state old.pkg s)).changes tally.failed opened.1
         (subst (λ (x : State). AllHaveRoom x (course x).changes) opened.0 (turn lawful))));
+    bad = λ unit is. absurd (done_unbroken tally.failed unit is);
     made = record { value = in_file last.store; undamaged = keeps; paged = paged };
     index = λ lawful. record {
       value = in_file last.store;

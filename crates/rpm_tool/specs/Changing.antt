@@ -9,7 +9,7 @@ use Rattle.rpm_outside.specs.Logs.{LogState, Closed, Malformed, Open, log_state,
 use Rattle.rpm_pkgdb.specs.declared.slot.Damage.{Damage}
 use Rattle.rpm_pkgdb.specs.Store.{Store, store}
 use Rattle.rpm_db.specs.Changes.{Change, Says}
-use Rattle.rpm_db.specs.Lawful.{HasRows, is_current_at}
+use Rattle.rpm_db.specs.Lawful.{HasRows, IsWholeIndex, is_current_at}
 use Rattle.rpm_db.specs.Openings.{must_make, units_needed}
 use Rattle.rpm_db.specs.Database.{IsNext}
 use Rattle.rpm_db.specs.State.{State, Package, state, packages}
@@ -158,6 +158,17 @@ is_of_lawful (why.Damaged damage) = false
 is_of_lawful (why.BadIndex unit) = false
 is_of_lawful others = true
 
+-- an index that is current, and isn't well formed as a whole
+pub record IsBroken (pkg idx : Units) : Type 0 where
+  pub value : Store
+  pub undamaged : store pkg ≡ Ok value
+  pub current : is_current_at value.generation idx ≡ true
+  pub broken : ¬ IsWholeIndex idx
+
+-- only a command that changes the index that it finds ever finds it bad, and only where it is broken
+abbrev pub BadBy : Bool → Units → Units → Why → Type 0
+BadBy changing pkg idx given = (unit : ℕ) → given ≡ why.BadIndex unit → (changing ≡ true) × IsBroken pkg idx
+
 -- ---- a command that changes packages
 
 -- a command that makes the index anew may begin with any index; another asks for a lawful database
@@ -166,8 +177,8 @@ MayBegin true Lawful = Unit {0}
 MayBegin false Lawful = Lawful
 
 -- all that is said, beside what it answers, on a disk that tells its contents
-pub record ChangesWith {D : Type 0} (anew : Bool) (files : D → Files) (left_since : D → ℕ → Files → Type 0) (moment : D → ℕ) (course : State → Course)
-    (given : Why) (changes : ℕ) (old new : D) : Type 0 where
+pub record ChangesWith {D : Type 0} (anew changing : Bool) (files : D → Files) (left_since : D → ℕ → Files → Type 0) (moment : D → ℕ)
+    (course : State → Course) (given : Why) (changes : ℕ) (old new : D) : Type 0 where
   pub counted : is_done given ≡ false → changes ≡ 0
   pub leaves : IfOk (store (reopened (files old)).pkg)
       (λ s. LeavesState course (state (reopened (files old)).pkg s) given changes (files new))
@@ -175,6 +186,7 @@ pub record ChangesWith {D : Type 0} (anew : Bool) (files : D → Files) (left_si
   pub made : is_done given ≡ true → IsMade (reopened (files new)).pkg
   pub index : MayBegin anew (IsLawfulGroup (files old)) → is_done given ≡ true → IsSealed (files new)
   pub full : MayBegin anew (IsLawfulGroup (files old)) → FullBy anew course (reopened (files old)) given
+  pub bad : BadBy changing (reopened (files old)).pkg (reopened (files old)).idx given
   pub complete : IsLawfulGroup (files old) → is_of_lawful given ≡ true
   pub stops : AreLawfulGroups (left_since old (moment old)) → IfOk (store (reopened (files old)).pkg)
       (λ s. LeavesOnly moment left_since old new (StandsStillOr (left_since old (moment old)) (after course (state (reopened (files old)).pkg s))))
@@ -182,7 +194,3 @@ pub record ChangesWith {D : Type 0} (anew : Bool) (files : D → Files) (left_si
       → LeavesOnly moment left_since old new (StandsStill (left_since old (moment old)))
   pub held : is_done given ≡ true → IfOk (store (reopened (files old)).pkg)
       (λ s. (image : Files) → left_since new (moment new) image → HasState (after course (state (reopened (files old)).pkg s)) image)
-
--- of a command that makes the index where it isn't current
-abbrev pub ChangesBy : {D : Type 0} → (D → Files) → (D → ℕ → Files → Type 0) → (D → ℕ) → (State → Course) → Why → ℕ → D → D → Type 0
-ChangesBy files left_since moment course given changes old new = ChangesWith false files left_since moment course given changes old new

@@ -22,7 +22,7 @@ use Rattle.rpm_tool.specs.History.{Call, course_of}
 use Rattle.rpm_tool.specs.Keyed.{AreLawfulGroups, IsLawfulGroup, StandsStill, IsReady, KeyedIs, FullIs, BadIs, HasRoom, is_done, is_done_or_outside}
 use Rattle.rpm_tool.specs.Limits.{LimitsOn, LogOn}
 use Rattle.rpm_tool.specs.PackageFiles.{query_files}
-use Rattle.rpm_tool.specs.Tasks.{asked_task, asked_course, is_anew, needs_none}
+use Rattle.rpm_tool.specs.Tasks.{asked_task, asked_course, is_anew, changes_index, needs_none}
 
 -- what one command line leaves to the next: the disk, the numbers that new packages were given by the lines that were done, what the sinks took,
 -- and how many faults the shelf and the sinks counted
@@ -81,8 +81,8 @@ pub record LineIs {D : Type 0} (files : D → Files) (left_since : D → ℕ →
       → Ends (λ mid. DidOn (asked_course paths now call.words a) (files old.disk) call.outcome.why old.taken mid)
       (closing call.words call.outcome.why) new.taken old.err_faults new.err_faults)
   pub changed : Of call.words (λ a tree. is_changing a ≡ true
-      → ChangesWith (is_anew (asked_task call.words a)) files left_since moment (asked_course paths now call.words a) call.outcome.why
-      call.outcome.changes old.disk new.disk)
+      → ChangesWith (is_anew (asked_task call.words a)) (changes_index (asked_task call.words a)) files left_since moment
+      (asked_course paths now call.words a) call.outcome.why call.outcome.changes old.disk new.disk)
   pub empty : Of call.words (λ a tree. is_changing a ≡ true
       → EmptyBy (needs_none (asked_task call.words a)) (reopened (files old.disk)) call.outcome.why)
   pub limits : Of call.words (λ a tree. is_changing a ≡ true

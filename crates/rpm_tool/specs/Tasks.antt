@@ -98,6 +98,13 @@ is_anew Rebuilding = true
 is_anew (Exercising n) = true
 is_anew others = false
 
+-- it changes the index that it finds; another makes it anew, or changes no package
+abbrev pub changes_index : TaskParts → Bool
+changes_index Making = false
+changes_index Rebuilding = false
+changes_index (Exercising n) = false
+changes_index others = true
+
 -- it asks for a database without packages
 abbrev pub needs_none : TaskParts → Bool
 needs_none (Exercising n) = true

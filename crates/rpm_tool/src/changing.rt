@@ -9,7 +9,7 @@ ghost use Rattle.rpm_pkgdb.specs.Store.{store};
 ghost use Rattle.rpm_db.specs.Changes.{IsServing};
 ghost use Rattle.rpm_db.specs.Database as database;
 ghost use Rattle.rpm_db.specs.Database.{IsIndexed, is_blank, is_indexed};
-ghost use Rattle.rpm_db.specs.Lawful.{IsLawful};
+ghost use Rattle.rpm_db.specs.Lawful.{IsLawful, IsWholeIndex};
 ghost use Rattle.rpm_db.specs.Runs.{Runs};
 ghost use Rattle.rpm_db.specs.State.{state};
 ghost use Rattle.rpm_db.specs.inner.Writes.{SameLog};
@@ -21,8 +21,8 @@ ghost use Rattle.rpm_change.specs.Steps.{idle};
 ghost use Rattle.rpm_words.specs.Ask.{IsSound};
 ghost use Rattle.rpm_tool.specs.Answers.{why_of_load, unless_starved, is_of_words};
 ghost use Rattle.rpm_tool.specs.Keyed.{why_of_recover, is_done};
-ghost use Rattle.rpm_tool.specs.Changing.{DidOn, ChangesWith, EmptyBy, is_held};
-ghost use Rattle.rpm_tool.specs.Tasks.{task_parts, task_course, asked_task, asked_course, reads_shelf, is_anew, needs_none, IsCountable};
+ghost use Rattle.rpm_tool.specs.Changing.{DidOn, ChangesWith, EmptyBy, IsBroken, is_held};
+ghost use Rattle.rpm_tool.specs.Tasks.{task_parts, task_course, asked_task, asked_course, reads_shelf, is_anew, changes_index, needs_none, IsCountable};
 ghost use Rattle.rpm_tool.specs.Limits.{LimitsOn, begun, LogIs, LogOn};
 ghost use Rattle.rpm_tool.specs.Working.{OpensBy, IsOutside, IsOfOpening, Worked, WorkedWith, CommittedAs, EndsGroup, is_halt, is_of_commit, is_of_streams, done_why, why_of, why_of_open, why_of_halt};
 
@@ -101,6 +101,7 @@ fn make_blank<D: Disk>(alloc: Global, db: &mut Db, disk: &mut D) -> Result<(), W
     ensures not_blank { OnOk result (is_blank db.new ≡ false) }
     ensures rows { OnOk result (IsTrue D.tells → (is_blank db.old ≡ false → IsIndexed (D.files disk.old).pkg (D.files disk.old).idx db.old)
         → IsIndexed (D.files disk.new).pkg (D.files disk.new).idx db.new) }
+    ensures whole { OnOk result (IsTrue D.tells → (is_blank db.old ≡ false → IsWholeIndex (D.files disk.old).idx) → IsWholeIndex (D.files disk.new).idx) }
     ensures fault { IfErr result IsOutside }
     ensures runs { Runs D.tells D.files D.left_since D.moment D.bytes_read D.follows SameLog disk.old disk.new }
     ensures disk { HasCauseAt (result ≡ Err Why.DiskFault) (D.faults disk.old) (D.faults disk.new) }
@@ -122,6 +123,7 @@ pub(crate) fn open_to_change<D: Disk>(alloc: Global, disk: &mut D) -> Result<Db,
     ensures serving { IfOk result (λ db. IsTrue D.tells → IsServing (D.files disk.new) (D.left_since disk.new (D.moment disk.new)) db) }
     ensures rows { IfOk result (λ db. IsTrue D.tells → IsLawful (D.files disk.old).pkg (D.files disk.old).idx
         → IsIndexed (D.files disk.new).pkg (D.files disk.new).idx db) }
+    ensures broken { IfOk result (λ _db. IsTrue D.tells → ¬ IsWholeIndex (D.files disk.new).idx → IsBroken (D.files disk.old).pkg (D.files disk.old).idx) }
     ensures begun { IfOk result (λ db. IsTrue D.tells → IfOk (store (D.files disk.old).pkg) (λ value. db.store ≡ begun value)) }
     ensures not_blank { IfOk result (λ db. is_blank db ≡ false) }
     ensures fault { IfErr result IsOfOpening }
@@ -141,7 +143,7 @@ pub(crate) fn open_to_change<D: Disk>(alloc: Global, disk: &mut D) -> Result<Db,
 /// Opens the database, and makes one where there is none.
 fn make_on<D: Disk>(alloc: Global, disk: &mut D) -> Result<Tally, Why>
     ensures worked { IsTrue D.tells → (out_tells err_tells : Bool) (out err : List ℕ)
-        → Worked (λ s. idle) (D.files disk.old) (D.files disk.new) result
+        → WorkedWith false false (λ s. idle) (D.files disk.old) (D.files disk.new) result
         (outputs out_tells out err_tells err) (outputs out_tells out err_tells err) }
     ensures limits { IsTrue D.tells → LimitsOn (λ s. idle) (D.files disk.old) (why_of result) }
     ensures runs { Runs D.tells D.files D.left_since D.moment D.bytes_read D.follows SameLog disk.old disk.new }
@@ -206,7 +208,8 @@ fn change_on<D: Disk, S: Shelf, O: Sink + Drop, E: Sink + Drop>(
     requires out_empty { holds out.old ≡ [] }
     requires err_empty { holds err.old ≡ [] }
     ensures worked { IsTrue D.tells → (reads_shelf (task_parts task.now) ≡ true → IsTrue S.tells)
-        → WorkedWith (is_anew (task_parts task.now)) (task_course (S.paths shelf.old) now (task_parts task.now)) (D.files disk.old) (D.files disk.new) result
+        → WorkedWith (is_anew (task_parts task.now)) (changes_index (task_parts task.now))
+        (task_course (S.paths shelf.old) now (task_parts task.now)) (D.files disk.old) (D.files disk.new) result
         (outputs O.tells (O.taken (inner out.old)) E.tells (E.taken (inner err.old)))
         (outputs O.tells (O.taken (inner out.new)) E.tells (E.taken (inner err.new))) }
     ensures limits { IsTrue D.tells → (reads_shelf (task_parts task.now) ≡ true → IsTrue S.tells)
@@ -320,7 +323,8 @@ fn change_recovered<D: Disk, S: Shelf, O: Sink + Drop, E: Sink + Drop>(
         (outputs O.tells (O.taken (inner out.old)) E.tells (E.taken (inner err.old)))
         (outputs O.tells (O.taken (inner out.new)) E.tells (E.taken (inner err.new))) }
     ensures changed { IsTrue D.tells → (reads_shelf (task_parts task.now) ≡ true → IsTrue S.tells)
-        → ChangesWith (is_anew (task_parts task.now)) D.files D.left_since D.moment (task_course (S.paths shelf.old) now (task_parts task.now))
+        → ChangesWith (is_anew (task_parts task.now)) (changes_index (task_parts task.now)) D.files D.left_since D.moment
+        (task_course (S.paths shelf.old) now (task_parts task.now))
         result.0.why result.0.changes disk result.1 }
     ensures empty { IsTrue D.tells → EmptyBy (needs_none (task_parts task.now)) (reopened (D.files disk)) result.0.why }
     ensures limits { IsTrue D.tells → (reads_shelf (task_parts task.now) ≡ true → IsTrue S.tells)
@@ -357,8 +361,9 @@ fn change_recovered<D: Disk, S: Shelf, O: Sink + Drop, E: Sink + Drop>(
 /// ending leaves what the files stand for as it was, `DiskFault` aside, behind which all changes or none are made: `BadLog` and `Damaged`,
 /// with the place; `NotEmpty` exactly of an exercise where there are packages; `NumbersSpent`, `GenerationSpent` and `StoreFull` exactly
 /// at the turn of a change for which none is left; `IndexFull` exactly where the index must be made, or is changed, and needs too many
-/// units; `LogFull` where the log does; `BadIndex` never where the database is lawful; `DiskFault`, `ShelfFault`, `OutFault` and `ErrFault`
-/// only where that object's count of faults rose; and `NoMemory`. That a command line is one change is this project's own rule.
+/// units; `LogFull` where the log does; `BadIndex` only where an index that was found current is changed, and isn't well formed as a whole;
+/// `DiskFault`, `ShelfFault`, `OutFault` and `ErrFault` only where that object's count of faults rose; and `NoMemory`. That a command line
+/// is one change is this project's own rule.
 ///
 /// Of `Packages.db` it reads the slot pages, the blocks of all packages where the index must be made, and those of each package that is
 /// replaced or erased. It syncs three times before the changes and five times for them, and keeps a page of 4 KiB in memory for each 4 KiB
@@ -380,7 +385,8 @@ fn change<D: Disk, S: Shelf, O: Sink + Drop, E: Sink + Drop>(
         (outputs O.tells (O.taken (inner out.old)) E.tells (E.taken (inner err.old)))
         (outputs O.tells (O.taken (inner out.new)) E.tells (E.taken (inner err.new))) }
     ensures changed { IsTrue D.tells → (reads_shelf (task_parts task.now) ≡ true → IsTrue S.tells)
-        → ChangesWith (is_anew (task_parts task.now)) D.files D.left_since D.moment (task_course (S.paths shelf.old) now (task_parts task.now))
+        → ChangesWith (is_anew (task_parts task.now)) (changes_index (task_parts task.now)) D.files D.left_since D.moment
+        (task_course (S.paths shelf.old) now (task_parts task.now))
         result.0.why result.0.changes disk result.1 }
     ensures empty { IsTrue D.tells → EmptyBy (needs_none (task_parts task.now)) (reopened (D.files disk)) result.0.why }
     ensures limits { IsTrue D.tells → (reads_shelf (task_parts task.now) ≡ true → IsTrue S.tells)
@@ -425,7 +431,8 @@ pub fn change_asked<D: Disk, S: Shelf, O: Sink + Drop, E: Sink + Drop>(
         (outputs O.tells (O.taken (inner out.old)) E.tells (E.taken (inner err.old)))
         (outputs O.tells (O.taken (inner out.new)) E.tells (E.taken (inner err.new))) }
     ensures changed { IsTrue D.tells → (reads_shelf (asked_task words.now ask.now) ≡ true → IsTrue S.tells)
-        → ChangesWith (is_anew (asked_task words.now ask.now)) D.files D.left_since D.moment (asked_course (S.paths shelf.old) now words.now ask.now)
+        → ChangesWith (is_anew (asked_task words.now ask.now)) (changes_index (asked_task words.now ask.now)) D.files D.left_since D.moment
+        (asked_course (S.paths shelf.old) now words.now ask.now)
         result.0.why result.0.changes disk result.1 }
     ensures empty { IsTrue D.tells → EmptyBy (needs_none (asked_task words.now ask.now)) (reopened (D.files disk)) result.0.why }
     ensures limits { IsTrue D.tells → (reads_shelf (asked_task words.now ask.now) ≡ true → IsTrue S.tells)

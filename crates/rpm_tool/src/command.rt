@@ -23,7 +23,7 @@ ghost use Rattle.rpm_tool.specs.Steps.{numbers, Rises};
 ghost use Rattle.rpm_tool.specs.Queries.{is_question, picked, argument_part};
 ghost use Rattle.rpm_tool.specs.Keyed.{AreLawfulGroups, IsLawfulGroup, StandsStill, IsReady, KeyedIs, AnswersByKey, FullIs, BadIs, HasRoom};
 ghost use Rattle.rpm_tool.specs.Keyed.{is_done, is_done_or_outside, keyed_cost};
-ghost use Rattle.rpm_tool.specs.Tasks.{asked_task, asked_course, reads_shelf, is_anew, needs_none};
+ghost use Rattle.rpm_tool.specs.Tasks.{asked_task, asked_course, reads_shelf, is_anew, changes_index, needs_none};
 ghost use Rattle.rpm_tool.specs.Limits.{LimitsOn, LogOn};
 ghost use Rattle.rpm_tool.specs.PackageFiles.{passing, query_files};
 ghost use Rattle.rpm_change.specs.Endings.{outputs};
@@ -80,7 +80,8 @@ fn begin<D: Disk, S: Shelf, O: Sink + Drop, E: Sink + Drop>(
         (outputs O.tells (O.taken (inner out.old)) E.tells (E.taken (inner err.old)))
         (outputs O.tells (O.taken (inner out.new)) E.tells (E.taken (inner err.new))) }
     ensures changed { is_changing ask.now ≡ true → IsTrue D.tells → (reads_shelf (asked_task words.now ask.now) ≡ true → IsTrue S.tells)
-        → ChangesWith (is_anew (asked_task words.now ask.now)) D.files D.left_since D.moment (asked_course (S.paths shelf.old) now words.now ask.now)
+        → ChangesWith (is_anew (asked_task words.now ask.now)) (changes_index (asked_task words.now ask.now)) D.files D.left_since D.moment
+        (asked_course (S.paths shelf.old) now words.now ask.now)
         result.0.why result.0.changes disk result.1 }
     ensures limits { is_changing ask.now ≡ true → IsTrue D.tells → (reads_shelf (asked_task words.now ask.now) ≡ true → IsTrue S.tells)
         → LimitsOn (asked_course (S.paths shelf.old) now words.now ask.now) (reopened (D.files disk))
@@ -161,7 +162,8 @@ fn command<D: Disk, S: Shelf, O: Sink + Drop, E: Sink + Drop>(
         (outputs O.tells (O.taken (inner out.new)) E.tells (E.taken (inner err.new))) }
     ensures changed { (a : AskParts) (tree : Tree) → asks words.now ≡ Some (a, tree) → is_changing a ≡ true → IsTrue D.tells
         → (reads_shelf (asked_task words.now a) ≡ true → IsTrue S.tells)
-        → ChangesWith (is_anew (asked_task words.now a)) D.files D.left_since D.moment (asked_course (S.paths shelf.old) now words.now a)
+        → ChangesWith (is_anew (asked_task words.now a)) (changes_index (asked_task words.now a)) D.files D.left_since D.moment
+        (asked_course (S.paths shelf.old) now words.now a)
         result.0.why result.0.changes disk result.1 }
     ensures limits { (a : AskParts) (tree : Tree) → asks words.now ≡ Some (a, tree) → is_changing a ≡ true → IsTrue D.tells
         → (reads_shelf (asked_task words.now a) ≡ true → IsTrue S.tells)
@@ -310,8 +312,9 @@ pub fn run<D: Disk, S: Shelf, O: Sink, E: Sink>(
 
     // A command that changes packages goes through its course, from the state that the database stands for, to its end or to where it is
     // stopped, and closes with its line. Its changes are one: where it was done they are all made and counted, else none is, a fault of the
-    // disk aside, which may come before that or behind it. What goes with each ending is the record `ChangesWith`; numbers,
-    // generations and places are spent exactly at the turn of a change for which none is left.
+    // disk aside, which may come before that or behind it. What goes with each ending is the record `ChangesWith`: so the index is bad only
+    // where one that was found current is changed, and isn't well formed as a whole. Numbers, generations and places are spent exactly at the
+    // turn of a change for which none is left.
     ensures did { (a : AskParts) (tree : Tree) → asks words.now ≡ Some (a, tree) → is_changing a ≡ true → IsTrue D.tells
         → (reads_shelf (asked_task words.now a) ≡ true → IsTrue S.tells)
         → Ends (λ mid. DidOn (asked_course (S.paths shelf.old) now words.now a) (D.files disk) result.0.why
@@ -319,7 +322,8 @@ pub fn run<D: Disk, S: Shelf, O: Sink, E: Sink>(
         (outputs O.tells (O.taken out.new) E.tells (E.taken err.new)) (E.faults err.old) (E.faults err.new) }
     ensures changed { (a : AskParts) (tree : Tree) → asks words.now ≡ Some (a, tree) → is_changing a ≡ true → IsTrue D.tells
         → (reads_shelf (asked_task words.now a) ≡ true → IsTrue S.tells)
-        → ChangesWith (is_anew (asked_task words.now a)) D.files D.left_since D.moment (asked_course (S.paths shelf.old) now words.now a)
+        → ChangesWith (is_anew (asked_task words.now a)) (changes_index (asked_task words.now a)) D.files D.left_since D.moment
+        (asked_course (S.paths shelf.old) now words.now a)
         result.0.why result.0.changes disk result.1 }
     // An exercise is refused with the least number exactly where it finds packages, and no other command is; only what keeps the database from
     // being opened, a fault of the disk and want of memory come either way.

@@ -136,7 +136,7 @@ pub(crate) fn rebuild_on<D: Disk, O: Sink + Drop>(
 ) -> Result<Tally, Why>
     requires out_empty { holds out.old ≡ [] }
     ensures worked { IsTrue D.tells → (err_tells : Bool) (err : List ℕ)
-        → WorkedWith true (λ s. rebuilding.rebuild s) (D.files disk.old) (D.files disk.new) result
+        → WorkedWith true false (λ s. rebuilding.rebuild s) (D.files disk.old) (D.files disk.new) result
         (outputs O.tells (O.taken (inner out.old)) err_tells err) (outputs O.tells (O.taken (inner out.new)) err_tells err) }
     ensures limits { IsTrue D.tells → LimitsOn (λ s. rebuilding.rebuild s) (D.files disk.old) (why_of result) }
     ensures runs { Runs D.tells D.files D.left_since D.moment D.bytes_read D.follows SameLog disk.old disk.new }
@@ -183,7 +183,7 @@ pub(crate) fn exercise_on<D: Disk, O: Sink + Drop>(
     requires few { headers ≤ 100000 }
     requires out_empty { holds out.old ≡ [] }
     ensures worked { IsTrue D.tells → (err_tells : Bool) (err : List ℕ)
-        → WorkedWith true (λ s. exercised.exercise headers s) (D.files disk.old) (D.files disk.new) result
+        → WorkedWith true false (λ s. exercised.exercise headers s) (D.files disk.old) (D.files disk.new) result
         (outputs O.tells (O.taken (inner out.old)) err_tells err) (outputs O.tells (O.taken (inner out.new)) err_tells err) }
     ensures empty { IsTrue D.tells → EmptyOn (D.files disk.old) (why_of result) }
     ensures limits { IsTrue D.tells → LimitsOn (λ s. exercised.exercise headers s) (D.files disk.old) (why_of result) }

@@ -3,7 +3,7 @@ use Rattle.rpm_outside.specs.Buffered.{inner}
 use Rattle.rpm_outside.specs.Logs.{reopened}
 use Rattle.rpm_change.specs.Endings.{outputs}
 use Rattle.rpm_tool.specs.Changing.{DidOn, ChangesWith, EmptyBy}
-use Rattle.rpm_tool.specs.Tasks.{TaskParts, asked_task, asked_course, task_course, reads_shelf, is_anew, needs_none}
+use Rattle.rpm_tool.specs.Tasks.{TaskParts, asked_task, asked_course, task_course, reads_shelf, is_anew, changes_index, needs_none}
 use Rattle.rpm_tool.proofs.Emptied.{memory_empty}
 use Rattle.rpm_tool.specs.Limits.{LimitsOn, LogOn}
 use Rattle.rpm_tool.proofs.Limited.{limits_starved}
@@ -21,7 +21,7 @@ returns-in-Ok-clause-did g c = λ told shelf.
 pub returns-in-Ok-clause-changed : goal.returns-in-Ok-clause-changed
 returns-in-Ok-clause-changed g c = λ told shelf.
     let same = c.in-Ok.ensures.asked in
-    subst (λ (t : TaskParts). ChangesWith (is_anew t) g.D.Disk.files g.D.Disk.left_since g.D.Disk.moment
+    subst (λ (t : TaskParts). ChangesWith (is_anew t) (changes_index t) g.D.Disk.files g.D.Disk.left_since g.D.Disk.moment
     (task_course (g.S.Shelf.paths c.args.shelf.now) c.args.now t) c.change.result.0.why c.change.result.0.changes c.args.disk c.change.result.1) same
     (c.change.ensures.changed told (λ reads. shelf (sym (ap reads_shelf same) ∙ reads)))
 

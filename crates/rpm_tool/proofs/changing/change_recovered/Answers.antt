@@ -11,7 +11,7 @@ use Rattle.rpm_group.specs.Overlay.{overlay_below, overlay_held, overlay_read}
 use Rattle.rpm_db.specs.State.{State}
 use Rattle.rpm_change.specs.Steps.{Course}
 use Rattle.rpm_change.specs.Endings.{outputs}
-use Rattle.rpm_tool.specs.Tasks.{task_parts, task_course, is_anew, needs_none}
+use Rattle.rpm_tool.specs.Tasks.{task_parts, task_course, is_anew, changes_index, needs_none}
 use Rattle.rpm_tool.specs.Limits.{LimitsOn}
 use Rattle.rpm_tool.specs.Working.{WorkedWith, why_of, is_halt}
 use Rattle.rpm_tool.proofs.Emptied.{load_empty, group_empty, same_empty}
@@ -48,7 +48,8 @@ returns-in-Ok-clause-went g c = λ told shelf.
     let now = outputs g.O.Sink.tells (g.O.Sink.taken (inner c.change_on-ended.new.out)) g.E.Sink.tells (g.E.Sink.taken (inner c.change_on-ended.new.err)) in
     group_did D.files D.left_since D.moment course ended c.end_group.result.0.why c.end_group.result.0.changes first last c.end_group.result.1 new before now
     (c.requires.closed told)
-    (subst (λ (f : Files). WorkedWith (is_anew (task_parts c.args.task.now)) course f new ended before now) (c.in-Ok.ensures.files told)
+    (subst (λ (f : Files). WorkedWith (is_anew (task_parts c.args.task.now)) (changes_index (task_parts c.args.task.now)) course f new ended before now)
+    (c.in-Ok.ensures.files told)
     (c.change_on-ended.ensures.worked told shelf))
     (c.end_group.ensures.ends told)
 
@@ -73,7 +74,8 @@ returns-in-Ok-clause-changed g c = λ told shelf.
     let ends = c.end_group.ensures.ends told in
     group_changes D.files D.left_since D.moment course ended c.end_group.result.0.why c.end_group.result.0.changes first last final new before now
     (c.requires.closed told)
-    (subst (λ (f : Files). WorkedWith (is_anew (task_parts c.args.task.now)) course f new ended before now) (c.in-Ok.ensures.files told)
+    (subst (λ (f : Files). WorkedWith (is_anew (task_parts c.args.task.now)) (changes_index (task_parts c.args.task.now)) course f new ended before now)
+    (c.in-Ok.ensures.files told)
     (c.change_on-ended.ensures.worked told shelf))
     ends
     (below_same D.tells D.files D.left_since D.moment D.bytes_read D.follows D.faults first mid last ro rn looks keeps told)
@@ -141,8 +143,10 @@ returns-in-Ok-clause-log g c = λ told shelf.
     let course : State → Course = task_course (g.S.Shelf.paths c.args.shelf.now) c.args.now t in
     let before = outputs g.O.Sink.tells (g.O.Sink.taken (inner c.args.out.now)) g.E.Sink.tells (g.E.Sink.taken (inner c.args.err.now)) in
     let now = outputs g.O.Sink.tells (g.O.Sink.taken (inner c.change_on-ended.new.out)) g.E.Sink.tells (g.E.Sink.taken (inner c.change_on-ended.new.err)) in
-    let worked : WorkedWith (is_anew t) course (with_file Log (D.files c.args.disk).log (reopened (D.files c.args.disk))) new ended before now =
-    subst (λ (f : Files). WorkedWith (is_anew t) course f new ended before now) (c.in-Ok.ensures.files told) (c.change_on-ended.ensures.worked told shelf) in
+    let worked : WorkedWith (is_anew t) (changes_index t) course (with_file Log (D.files c.args.disk).log (reopened (D.files c.args.disk))) new ended
+    before now =
+    subst (λ (f : Files). WorkedWith (is_anew t) (changes_index t) course f new ended before now) (c.in-Ok.ensures.files told)
+    (c.change_on-ended.ensures.worked told shelf) in
     log_grouped course (reopened (D.files c.args.disk)) new before now ended c.end_group.result.0.why c.end_group.result.0.changes
     (c.end_group.ensures.ends told).says
     (λ w is. subst (λ (e : Result Tally Why). IfErr e (λ w. is_halt w ≡ true)) is c.change_on-ended.ensures.halted) worked.went

@@ -44,7 +44,8 @@ returns-clause-worked g c = λ told out_tells out.
     rw c.why_of_halt.ensures (halted_worked (λ s. erase s c.args.numbers.now) (g.D.Disk.files c.args.disk.now) (g.D.Disk.files c.open_to_change.new.disk)
     (g.D.Disk.files c.erase_numbers.new.disk) c.in-Ok.db c.erase_numbers.new.db before now c.in-Err-erase_numbers.halt
     (state (g.D.Disk.files c.erase_numbers.new.disk).pkg c.erase_numbers.new.db.store) (c.in-Ok.ensures.opened told)
-    (said.ended told out_tells out) (λ lawful. said.room told (c.in-Ok.ensures.rows told lawful)))
+    (said.ended told out_tells out) (λ lawful. said.room told (c.in-Ok.ensures.rows told lawful))
+    (c.in-Ok.ensures.broken told) (said.whole told))
 
 pub returns-clause-runs : goal.returns-clause-runs
 returns-clause-runs g c =

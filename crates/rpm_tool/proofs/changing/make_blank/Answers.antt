@@ -1,5 +1,6 @@
-use Rattle.std.proofs.Common.{Ok, sym, ap, ◌∙◌}
+use Rattle.std.proofs.Common.{Ok, sym, ap, ◌∙◌, subst}
 use Rattle.rpm_db.specs.Database.{Database}
+use Rattle.rpm_db.specs.Lawful.{IsWholeIndex}
 use Rattle.rpm_tool.proofs.Limited.{begun_blank, begun_made}
 use Rattle.rpm_tool.proofs.changing.make_blank.Goals as goal
 
@@ -14,3 +15,12 @@ returns-in-Ok-false-clause-begun g c =
     let said = c.in-Ok-false.ensures in
     let no = c.in-Ok-false.field-0-test in
     ap (λ (db : Database). db.store) (said.same (ap Ok no)).0 ∙ begun_made c.args.db.now.store (sym said.made ∙ no)
+
+pub returns-in-Ok-true-clause-whole : goal.returns-in-Ok-true-clause-whole
+returns-in-Ok-true-clause-whole g c = λ told some. (c.in-Ok-true.ensures.index (ap Ok c.in-Ok-true.field-0-test) told).rows_are.whole
+
+pub returns-in-Ok-false-clause-whole : goal.returns-in-Ok-false-clause-whole
+returns-in-Ok-false-clause-whole g c = λ told some.
+    let said = c.in-Ok-false.ensures in
+    let no = c.in-Ok-false.field-0-test in
+    subst (λ (d : _). IsWholeIndex (g.D.Disk.files d).idx) (sym (said.same (ap Ok no)).1) (some (sym said.made ∙ no))

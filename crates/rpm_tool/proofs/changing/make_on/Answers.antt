@@ -1,10 +1,10 @@
-use Rattle.std.proofs.Common.{refl, arith}
+use Rattle.std.proofs.Common.{false, refl, arith}
 use Rattle.rpm_change.specs.Endings.{outputs}
 use Rattle.rpm_change.specs.Steps.{idle}
 use Rattle.rpm_tool.proofs.Limited.{limits_unopened, limits_worked}
 use Rattle.rpm_tool.proofs.Paged.{made_paged}
 use Rattle.rpm_tool.proofs.Unmade.{through_none}
-use Rattle.rpm_tool.proofs.Works.{open_worked, done_worked}
+use Rattle.rpm_tool.proofs.Works.{open_with, done_worked}
 use Rattle.rpm_tool.proofs.changing.make_on.Goals as goal
 
 pub returns-clause-worked : goal.returns-clause-worked
@@ -20,7 +20,7 @@ returns-clause-worked g c = λ told out_tells err_tells out err.
 pub returns-in-Err-clause-worked : goal.returns-in-Err-clause-worked
 returns-in-Err-clause-worked g c = λ told out_tells err_tells out err.
     let x = outputs out_tells out err_tells err in
-    open_worked (λ s. idle) (g.D.Disk.files c.args.disk.now) (g.D.Disk.files c.open_to_change.new.disk) c.in-Err.why x x
+    open_with false false (λ s. idle) (g.D.Disk.files c.args.disk.now) (g.D.Disk.files c.open_to_change.new.disk) c.in-Err.why x x
     (c.in-Err.ensures.opened told) (through_none x)
 
 pub returns-clause-limits : goal.returns-clause-limits

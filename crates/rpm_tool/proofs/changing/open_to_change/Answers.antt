@@ -7,6 +7,7 @@ use Rattle.rpm_db.specs.inner.Writes.{SameLog}
 use Rattle.rpm_db.specs.Lawful.{Remade}
 use Rattle.rpm_pkgdb.specs.Store.{store}
 use Rattle.rpm_tool.specs.Limits.{begun}
+use Rattle.rpm_tool.proofs.Brokens.{open_broken}
 use Rattle.rpm_tool.proofs.Grouped.{if_ok}
 use Rattle.rpm_tool.proofs.Limited.{stored_one}
 use Rattle.rpm_tool.proofs.Works.{open_refused, open_made, open_unmade, open_kinds}
@@ -36,6 +37,11 @@ returns-in-Ok-make_blank-clause-opened g c = λ told.
 pub returns-in-Ok-make_blank-clause-rows : goal.returns-in-Ok-make_blank-clause-rows
 returns-in-Ok-make_blank-clause-rows g c = λ told lawful.
     c.in-Ok-make_blank.ensures.rows told (λ some. (c.in-Ok.ensures.opened told).index some lawful)
+
+pub returns-in-Ok-make_blank-clause-broken : goal.returns-in-Ok-make_blank-clause-broken
+returns-in-Ok-make_blank-clause-broken g c = λ told.
+    open_broken (g.D.Disk.files c.args.disk.now) (g.D.Disk.files c.open.new.disk) (g.D.Disk.files c.make_blank.new.disk) c.in-Ok.db
+    (c.in-Ok.ensures.opened told) (c.in-Ok-make_blank.ensures.whole told)
 
 pub returns-in-Ok-make_blank-clause-runs : goal.returns-in-Ok-make_blank-clause-runs
 returns-in-Ok-make_blank-clause-runs g c =

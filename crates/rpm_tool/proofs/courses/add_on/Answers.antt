@@ -47,7 +47,8 @@ returns-clause-worked g c = λ told telling out_tells out.
     rw c.why_of_halt.ensures (halted_worked course (g.D.Disk.files c.args.disk.now) (g.D.Disk.files c.open_to_change.new.disk)
     (g.D.Disk.files c.add_files.new.disk) c.in-Ok.db c.add_files.new.db before now c.in-Err-add_files.halt
     (state (g.D.Disk.files c.add_files.new.disk).pkg c.add_files.new.db.store) (c.in-Ok.ensures.opened told)
-    (said.ended told telling out_tells out) (λ lawful. said.room told telling (c.in-Ok.ensures.rows told lawful)))
+    (said.ended told telling out_tells out) (λ lawful. said.room told telling (c.in-Ok.ensures.rows told lawful))
+    (c.in-Ok.ensures.broken told) (said.whole told))
 
 pub returns-clause-runs : goal.returns-clause-runs
 returns-clause-runs g c =

@@ -1,4 +1,4 @@
-use Rattle.std.proofs.Common.{true, [], Err, sym, ap, ◌∙◌, subst}
+use Rattle.std.proofs.Common.{true, false, [], Err, sym, ap, ◌∙◌, subst}
 use Rattle.rpm_outside.specs.Buffered.{inner}
 use Rattle.rpm_db.specs.State.{state}
 use Rattle.rpm_db.specs.inner.Running.{runs_then}
@@ -15,7 +15,7 @@ use Rattle.rpm_tool.proofs.courses.exercise_on.Goals as goal
 pub returns-in-Err-clause-worked : goal.returns-in-Err-clause-worked
 returns-in-Err-clause-worked g c = λ told err_tells err.
     let now = outputs g.O.Sink.tells (g.O.Sink.taken (inner c.args.out.now)) err_tells err in
-    open_with true (λ s. exercise c.args.headers s) (g.D.Disk.files c.args.disk.now) (g.D.Disk.files c.open_to_change.new.disk) c.in-Err.why now now
+    open_with true false (λ s. exercise c.args.headers s) (g.D.Disk.files c.args.disk.now) (g.D.Disk.files c.open_to_change.new.disk) c.in-Err.why now now
     (c.in-Err.ensures.opened told) (through_none now)
 
 pub returns-in-Err-clause-empty : goal.returns-in-Err-clause-empty

@@ -48,7 +48,8 @@ returns-clause-worked g c = λ told telling out_tells out.
     rw c.why_of_halt.ensures (halted_worked course (g.D.Disk.files c.args.disk.now) (g.D.Disk.files c.open_to_change.new.disk)
     (g.D.Disk.files c.replace_package.new.disk) c.in-Ok.db c.replace_package.new.db before now c.in-Err-replace_package.halt
     (state (g.D.Disk.files c.replace_package.new.disk).pkg c.replace_package.new.db.store) (c.in-Ok.ensures.opened told)
-    (said.ended told telling out_tells out) (λ lawful. said.room told telling (c.in-Ok.ensures.rows told lawful)))
+    (said.ended told telling out_tells out) (λ lawful. said.room told telling (c.in-Ok.ensures.rows told lawful))
+    (c.in-Ok.ensures.broken told) (said.whole told))
 
 pub returns-clause-runs : goal.returns-clause-runs
 returns-clause-runs g c =

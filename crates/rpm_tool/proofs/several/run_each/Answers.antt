@@ -6,7 +6,7 @@ use Rattle.rpm_outside.specs.Shelves.{Paths}
 use Rattle.rpm_outside.specs.inner.Moments.{started, leaves_then, leaves_weaker}
 use Rattle.rpm_db.specs.State.{State}
 use Rattle.rpm_tool.specs.Changing.{ChangesWith}
-use Rattle.rpm_tool.specs.Tasks.{asked_task, asked_course, is_anew}
+use Rattle.rpm_tool.specs.Tasks.{asked_task, asked_course, is_anew, changes_index}
 use Rattle.rpm_db.specs.Changes.{next}
 use Rattle.rpm_change.specs.Endings.{outputs}
 use Rattle.rpm_tool.specs.Asked.{asks}
@@ -64,7 +64,8 @@ loop-words-preserved g c =
     line_both D.tells D.files D.left_since D.moment D.bytes_read D.follows told paths now words c.run-left.result.0.why c.run-left.result.0.changes mid
     new (Leads paths now before s) (inv.leads told shelf s start) (g.met.D.Disk.as_read mid told) (λ none. (ran.unread none).0) ran.looks
     (λ a tree asked keyed. ran.stops a tree asked keyed told)
-    (λ a tree asked any. subst (λ (p : Paths). ChangesWith (is_anew (asked_task words a)) D.files D.left_since D.moment (asked_course p now words a)
+    (λ a tree asked any. subst (λ (p : Paths). ChangesWith (is_anew (asked_task words a)) (changes_index (asked_task words a)) D.files D.left_since
+    D.moment (asked_course p now words a)
     c.run-left.result.0.why c.run-left.result.0.changes mid new) (inv.paths shelf) (ran.changed a tree asked any told (λ reads. shelf))) in
     record {
       count = ap length c.push_reserved.ensures.items ∙ length-append c.loop-words.outcomes.items (c.run-left.result.0 ∷ []) ∙ ap (λ (n : ℕ). n + 1) inv.count;

@@ -1,0 +1,77 @@
+-- A command that finds the index bad: it was broken when the command found it.
+use Rattle.std.proofs.Common.{◌≡◌, ℕ, Bool, ◌&&◌, true, false, not, Result, Ok, Err, refl, sym, ◌∙◌, subst, inl, inr, ⊎_elim}
+use Rattle.rpm_outside.specs.Files.{Units, Files}
+use Rattle.rpm_pkgdb.specs.declared.slot.Damage.{Damage}
+use Rattle.rpm_pkgdb.specs.Store.{Store, store}
+use Rattle.rpm_db.specs.Database.{Database, is_blank}
+use Rattle.rpm_db.specs.Lawful.{IsWholeIndex, is_current_at}
+use Rattle.rpm_db.specs.Openings.{IsOpened, must_make}
+use Rattle.rpm_change.specs.declared.tally.Halt.{Halt}
+use Rattle.rpm_change.specs.declared.tally.Halt.TheVariants as halt
+use Rattle.rpm_change.specs.declared.tally.Tally.{Tally}
+use Rattle.rpm_change.specs.Endings.{WholeTurn}
+use Rattle.rpm_tool.specs.declared.answer.Why.{Why}
+use Rattle.rpm_tool.specs.declared.answer.Why.TheVariants as why
+use Rattle.rpm_tool.specs.Changing.{IsBroken, BadBy}
+use Rattle.rpm_tool.specs.Working.{OpensBy, IsUncommitted, EndsAs, done_why, why_of, why_of_halt}
+use Rattle.rpm_tool.proofs.Outcomes.{done_is}
+
+-- ---- it isn't bad
+
+pub done_unbroken : (n unit : ℕ) → done_why n ≡ why.BadIndex unit → ⊥
+done_unbroken n unit is =
+    ⊎_elim (λ none. (let wrong : why.Done ≡ why.BadIndex unit = sym none.1 ∙ is in cc))
+    (λ some. (let wrong : why.Failed n ≡ why.BadIndex unit = sym some.1 ∙ is in cc)) (done_is n)
+
+pub open_unbroken : (old new : Files) (sr : Result Store Damage) (w : Why) (unit : ℕ) → OpensBy old sr new (Err w) → w ≡ why.BadIndex unit → ⊥
+open_unbroken old new (Ok s) w unit opens is = subst (λ (v : Why). OpensBy old (Ok s) new (Err v)) is opens
+open_unbroken old new (Err d) w unit opens is = subst (λ (v : Why). OpensBy old (Err d) new (Err v)) is opens
+
+pub halt_unbroken : (idx : Units) (h : Halt) (unit : ℕ) → WholeTurn idx (Err h) → why_of_halt h ≡ why.BadIndex unit → ⊥
+halt_unbroken idx (halt.BadIndex u) unit turn is = turn
+halt_unbroken idx (halt.IndexFull n) unit turn is = cc
+halt_unbroken idx halt.NumbersSpent unit turn is = cc
+halt_unbroken idx halt.GenerationSpent unit turn is = cc
+halt_unbroken idx halt.StoreFull unit turn is = cc
+halt_unbroken idx halt.DiskFault unit turn is = cc
+halt_unbroken idx halt.ShelfFault unit turn is = cc
+halt_unbroken idx halt.OutFault unit turn is = cc
+halt_unbroken idx halt.ErrFault unit turn is = cc
+halt_unbroken idx halt.NoMemory unit turn is = cc
+
+-- ---- it ends as it was worked
+
+pub bad_ended : (changing : Bool) (pkg idx : Units) (ended : Result Tally Why) (given : Why) (n : ℕ) → EndsAs ended given n
+    → BadBy changing pkg idx (why_of ended) → BadBy changing pkg idx given
+bad_ended changing pkg idx (Ok tally) given n (inl both) bad = λ unit is. bad unit (sym both.0 ∙ is)
+bad_ended changing pkg idx (Ok tally) given n (inr both) bad = λ unit is. absurd (subst IsUncommitted is both.1)
+bad_ended changing pkg idx (Err was) given n (none, inl same) bad = λ unit is. bad unit (sym same ∙ is)
+bad_ended changing pkg idx (Err was) given n (none, inr both) bad = λ unit is.
+    absurd (let wrong : why.NoMemory ≡ why.BadIndex unit = sym both.1 ∙ is in cc)
+
+-- ---- what opening finds
+
+kept : (blank current : Bool) → (not blank && not current) ≡ false → blank ≡ false → current ≡ true
+kept true current must some = absurd cc
+kept false true must some = refl
+kept false false must some = absurd cc
+
+pub by_bool : {X : Type 0} (b : Bool) → (b ≡ true → X) → (b ≡ false → X) → X
+by_bool true holds fails = holds refl
+by_bool false holds fails = fails refl
+
+-- an index that isn't well formed behind the opening was neither made there nor at first
+pub open_broken : (old mid new : Files) (db : Database) → IsOpened old mid (Ok db) → ((is_blank db ≡ false → IsWholeIndex mid.idx) → IsWholeIndex new.idx)
+    → ¬ IsWholeIndex new.idx → IsBroken old.pkg old.idx
+open_broken old mid new db opened goes broken =
+    let says = opened.store_is in
+    let must = λ (x : Result Store Damage). must_make old.idx x in
+    by_bool (must (store old.pkg)) (λ making. absurd (broken (goes (λ some. (opened.made making).rows_are.whole))))
+    (λ making. by_bool (is_blank db) (λ blank. absurd (broken (goes (λ some. absurd (let wrong : true ≡ false = sym blank ∙ some in cc)))))
+    (λ some. record {
+      value = db.store;
+      undamaged = says;
+      current =
+          kept (is_blank db) (is_current_at db.store.generation old.idx) (subst (λ (x : Result Store Damage). must x ≡ false) says making) some;
+      broken = λ whole. broken (goes (λ _. subst (λ (f : Files). IsWholeIndex f.idx) (sym (opened.same making)) whole));
+    }))
