@@ -3,7 +3,6 @@ use Rattle.rpm_outside.specs.Buffered.{inner}
 use Rattle.rpm_db.specs.State.{packages}
 use Rattle.rpm_change.specs.Endings.{outputs}
 use Rattle.rpm_tool.specs.declared.answer.Why.{Why}
-use Rattle.rpm_tool.specs.declared.answer.Why.TheVariants as why
 use Rattle.rpm_tool.specs.Keyed.{is_done}
 use Rattle.rpm_tool.specs.Requirements.{order_part, IsOfSome}
 use Rattle.rpm_tool.proofs.Checked.{report_some, report_read, report_out, report_err, report_done}

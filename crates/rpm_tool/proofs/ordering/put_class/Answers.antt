@@ -1,4 +1,4 @@
-use Rattle.std.proofs.Common.{true, false, List, map, length, Err, sym, subst}
+use Rattle.std.proofs.Common.{List, map, length, Err, sym, subst}
 use Rattle.std.specs.Prelude.{codes}
 use Rattle.rpm_outside.specs.Buffered.{inner}
 use Rattle.rpm_db.specs.State.{packages}

@@ -1,5 +1,4 @@
 use Rattle.std.proofs.Common.{ℕ, ◌||◌, true, Bool, List, map, Ok, Err, refl, sym, ap, ◌∙◌, subst, arith}
-use Rattle.std.specs.FinMap as finite
 use Rattle.std.specs.FinMap.{entries}
 use Rattle.rpm_outside.specs.Buffered.{inner}
 use Rattle.rpm_db.specs.State.{Package, packages, above}
