@@ -20,9 +20,11 @@ loop-x-preserved c =
     let part : weight * get_or block i 0 ≤ 64 * 255 = mul-le weight (get_or block i 0) 64 255 (omega (arith, c.loop-x.invariant.weight)) (omega arith) in
     record {
       weight = omega (arith, c.loop-x.invariant.weight);
-      rest = step block i weight c.loop-x.weighted _ (omega (arith, c.told-block, c.loop-x.invariant.weight)) (omega (arith, c.told-block, c.loop-x-test.true)) refl c.loop-x.invariant.rest;
+      rest = step block i weight c.loop-x.weighted _ (omega (arith, c.told-block, c.loop-x.invariant.weight))
+          (omega (arith, c.told-block, c.loop-x-test.true)) refl c.loop-x.invariant.rest;
       few = omega (arith, part, c.loop-x.invariant.few);
     }
 
 pub returns-clause-weighted : goal.returns-clause-weighted
-returns-clause-weighted c = weights_none c.args.block.now c.loop-x.x-index c.loop-x.weighted (omega (arith, c.told-block, c.loop-x-test.false)) c.loop-x.invariant.rest
+returns-clause-weighted c =
+    weights_none c.args.block.now c.loop-x.x-index c.loop-x.weighted (omega (arith, c.told-block, c.loop-x-test.false)) c.loop-x.invariant.rest

@@ -13,8 +13,8 @@ returns-in_ok-label-in-Some c =
     let n = c.args.number in
     let need = needed_in c.in-Some.needed in
     subst (λ (o : Option Needed). IfOk c.unmet_line.result (λ line. line.items ≡ line_of (header_label n h) o)) c.in-Some.ensures
-    (subst (λ (t : List ℕ). IfOk c.unmet_line.result (λ line. line.items ≡ unmet_line t need)) (c.deref.ensures.value ∙ c.in_ok-label-in-Some.ensures ∙ header_label_is h n)
-    c.unmet_line.ensures)
+    (subst (λ (t : List ℕ). IfOk c.unmet_line.result (λ line. line.items ≡ unmet_line t need))
+    (c.deref.ensures.value ∙ c.in_ok-label-in-Some.ensures ∙ header_label_is h n) c.unmet_line.ensures)
 
 pub returns-in-None : goal.returns-in-None
 returns-in-None c = c.new.ensures.items ∙ ap (line_of (header_label c.args.number c.args.view.now)) c.in-None.ensures
