@@ -228,7 +228,7 @@ fn patches_of(alloc: Global, units: BTreeMap<u32, [u8; 16]>) -> Result<Vec<Patch
 {
     let _ = units.len();
     let pairs = collected(alloc, units)?;
-    let mut patches = Vec::new(alloc);
+    let mut patches = Vec::with_capacity(alloc, pairs.len())?;
     for k in 0..pairs.len() {
         let (unit, words) = pairs[k];
         patches.push(Patch { unit, words })?;
