@@ -9,8 +9,9 @@ ghost use Rattle.rpm_qfparse.specs.Shape.{parts_of};
 ghost use Rattle.rpm_qfeval.specs.inner.Ready.{StandReady, StandsReady, PutsFrom};
 
 use crate::columns::Column;
+use crate::decimals::ROOM;
 use crate::lookup::{is_present, put_tag};
-use crate::ready::{ROOM, Ready, write_numbers};
+use crate::ready::{Ready, write_numbers};
 use crate::sizes::count_rounds;
 use rpm_header::View;
 use rpm_outside::{Failed, Sink, put_all};
@@ -104,7 +105,9 @@ fn put_part_at<O: Sink>(
 /// Whether numbers stand ready at a place. That spares other parts a call, and either answer prints the
 /// same.
 #[inline(always)]
-fn is_number(ready: &[Ready<'_>], i: usize) -> bool {
+fn is_number(ready: &[Ready<'_>], i: usize) -> bool
+    ensures { result ≡ true → i < length ready.now }
+{
     i < ready.len() && matches!(&ready[i], Ready::Numbers(_))
 }
 
@@ -134,9 +137,9 @@ fn put_next<O: Sink>(
 {
     let left = inner.len() - i;
     if is_number(ready, i) {
-        let (start, count) = write_numbers(room, ready, i, round, 0);
+        let (end, count) = write_numbers(room, ready, i, round);
         if count > 0 && count <= left {
-            put_all(sink, &room[start..])?;
+            put_all(sink, &room[..end])?;
             return Ok(i + count);
         }
     }

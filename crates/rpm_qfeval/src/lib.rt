@@ -9,6 +9,7 @@
 mod columns;
 mod cursor;
 mod dates;
+mod decimals;
 mod digits;
 mod elements;
 mod encoded;

@@ -1,12 +1,12 @@
 //! The parts of a bracket that print texts or numbers of the header as they are.
 
-ghost use Rattle.std.specs.Prelude.{◌≡◌, ◌+◌, ◌*◌, ◌≤◌, [], drop};
+ghost use Rattle.std.specs.Prelude.{◌≡◌, ◌≤◌, [], length, take, drop, IfSome};
 ghost use Rattle.rpm_qfparse.specs.declared.tree.Part.TheVariants as part;
-ghost use Rattle.rpm_qfeval.specs.inner.Ready.{AreDigits, StandsReady, StandReady};
+ghost use Rattle.rpm_qfeval.specs.inner.Ready.{HasNumber, AreDigits, StandsReady, StandReady};
 
+use crate::decimals::{ROOM, SIDE_BY_SIDE, write_number};
 use crate::plain_texts::PlainTexts;
 use arrayvec::ArrayVec;
-use itoa::write_digits;
 use rpm_header::View;
 use rpm_qfparse::{Part, Parts, Role, Show, TagPart};
 use rpm_tags::{Numbers, Tag, numbers_in, texts_in};
@@ -21,34 +21,38 @@ pub enum Ready<'a> {
     Numbers(Numbers<'a>),
 }
 
-/// Room for the digits of 16 numbers.
-pub const ROOM: usize = 320;
+/// The number of a part in a round, where one stands ready.
+#[inline(always)]
+fn number_of(ready: &Ready<'_>, round: u32) -> Option<u64>
+    ensures { IfSome result (HasNumber ready.now round) }
+{
+    match ready {
+        Ready::Numbers(numbers) if round < numbers.count() => Some(numbers.number(round)),
+        _ => None,
+    }
+}
 
-/// Writes the numbers of a round that stand side by side from a place on, 16 at most with so many before
-/// them. The last one is written first, at the end of the room. Gives where the first one begins, and how
-/// many they are.
+/// Writes the numbers of a round that stand side by side from a place on, 16 at most. Gives the place behind their digits, and how many
+/// they are.
 pub fn write_numbers(
     room: &mut [u8; ROOM],
     ready: &[Ready<'_>],
     place: usize,
     round: u32,
-    before: usize,
 ) -> (usize, usize)
-    requires { before ≤ 16 }
-    ensures most { before + result.1 ≤ 16 }
-    ensures room { 20 * before ≤ result.0 }
-    ensures within { result.0 ≤ 320 }
-    ensures digits { AreDigits (drop place ready.now) round result.1 (drop result.0 room.new) }
+    requires { place ≤ length ready.now }
+    ensures room { result.0 ≤ 320 }
+    ensures digits { AreDigits (drop place ready.now) round result.1 (take result.0 room.new) }
 {
-    if before == 16 || place >= ready.len() {
-        return (ROOM, 0);
+    let most = (ready.len() - place).min(SIDE_BY_SIDE);
+    let mut end = 0;
+    for count in 0..most {
+        match number_of(&ready[place + count], round) {
+            None => return (end, count),
+            Some(number) => end = write_number(room, end, number),
+        }
     }
-    let number = match &ready[place] {
-        Ready::Numbers(numbers) if round < numbers.count() => numbers.number(round),
-        _ => return (ROOM, 0),
-    };
-    let (end, count) = write_numbers(room, ready, place + 1, round, before + 1);
-    (write_digits(number, room, end), count + 1)
+    (end, most)
 }
 
 /// What stands ready of a tag.

@@ -25,6 +25,12 @@ abbrev pub StandReady : Header → ℕ → Tree → List Ready → Type 0
 StandReady header number inner all = (k : ℕ) (part : Part) (one : Ready) → slice_get (parts_of inner) k ≡ Some part → slice_get all k ≡ Some one
     → StandsReady header number part one
 
+-- what stands ready has this number for the round
+abbrev pub HasNumber : Ready → ℕ → ℕ → Type 0
+HasNumber (ready.Numbers numbers) round n = slice_get numbers round ≡ Some n
+HasNumber ready.Other round n = ⊥
+HasNumber (ready.Texts texts) round n = ⊥
+
 -- so many of what stands ready are numbers that have one for the round, and these are their digits
 abbrev pub AreDigits : List Ready → ℕ → ℕ → List ℕ → Type 0
 AreDigits all round zero digits = digits ≡ []

@@ -1,11 +1,10 @@
-use Rattle.std.proofs.Common.{◌≡◌, ℕ, ◌+◌, ◌-◌, ◌<◌, ◌≤◌, Bool, List, ◌++◌, length, take, drop, length-drop, Result, Ok, Err, IsErr, arith, rules, refl}
-use Rattle.std.proofs.lemmas.List.{take_all}
+use Rattle.std.proofs.Common.{◌≡◌, ℕ, ◌+◌, ◌<◌, ◌≤◌, Bool, List, ◌++◌, length, drop, Result, Ok, Err, IsErr, arith, refl}
 use Rattle.rpm_outside.specs.Sinks.{Writes}
 use Rattle.rpm_header.specs.Header.{Header}
 use Rattle.rpm_qfparse.specs.Tree.{Tree}
 use Rattle.rpm_qfparse.specs.Shape.{parts_of, tree_of}
 use Rattle.rpm_qfeval.specs.Meaning.{bytes}
-use Rattle.rpm_qfeval.specs.inner.Ready.{AreDigits, PutsFrom}
+use Rattle.rpm_qfeval.specs.inner.Ready.{PutsFrom}
 use Rattle.rpm_qfeval.proofs.SideBySide.{digits_are}
 use Rattle.rpm_qfeval.proofs.Walked.{bytes_here}
 use Rattle.rpm_qfeval.proofs.inside.put_next.Goals as goal
@@ -40,32 +39,19 @@ module _ {S : Type 0} {tells : Bool} {taken : S → List ℕ} {faults : S → �
     gives = tt;
   }
 
-to_end : (xs : List ℕ) (start : ℕ) → length xs ≤ 320 → take (320 - start) (drop start xs) ≡ drop start xs
-to_end xs start le = take_all (320 - start) (drop start xs) (rw (length-drop start xs) (omega (arith, le)))
-
 pub returns-in_err-put_all-clause-goes : goal.returns-in_err-put_all-clause-goes
 returns-in_err-put_all-clause-goes g c =
-    let n = c.write_numbers-start.result.1 in
-    let room : List ℕ = c.write_numbers-start.new.room in
-    let end : take (320 - c.write_numbers-start.result.0) (drop c.write_numbers-start.result.0 room) ≡ drop c.write_numbers-start.result.0 room =
-    to_end room c.write_numbers-start.result.0 (search rules) in
-    let digits : AreDigits (drop c.args.i c.args.ready.now) c.args.round n (take (320 - c.write_numbers-start.result.0)
-    (drop c.write_numbers-start.result.0 room)) = rw end c.write_numbers-start.ensures.digits in
+    let n = c.write_numbers-end.result.1 in
     let le : c.args.i + n ≤ length (parts_of c.args.inner.now) = omega (arith, c.requires.below, c.len.ensures, c.if-count-left.true) in
     failed (c.args.i + n) _ c.from_residual.result c.from_residual.ensures.0 (omega (arith, c.if-count-gt0.true))
-    (digits_are c.args.view.now c.args.number c.args.round c.args.inner.now c.args.ready.now c.requires.ready c.args.i n _ le digits) c.in_err-put_all.ensures
+    (digits_are c.args.view.now c.args.number c.args.round c.args.inner.now c.args.ready.now c.requires.ready c.args.i n _ le c.write_numbers-end.ensures.digits) c.in_err-put_all.ensures
 
 pub returns-then-count-left-clause-goes : goal.returns-then-count-left-clause-goes
 returns-then-count-left-clause-goes g c =
-    let n = c.write_numbers-start.result.1 in
-    let room : List ℕ = c.write_numbers-start.new.room in
-    let end : take (320 - c.write_numbers-start.result.0) (drop c.write_numbers-start.result.0 room) ≡ drop c.write_numbers-start.result.0 room =
-    to_end room c.write_numbers-start.result.0 (search rules) in
-    let digits : AreDigits (drop c.args.i c.args.ready.now) c.args.round n (take (320 - c.write_numbers-start.result.0)
-    (drop c.write_numbers-start.result.0 room)) = rw end c.write_numbers-start.ensures.digits in
+    let n = c.write_numbers-end.result.1 in
     let le : c.args.i + n ≤ length (parts_of c.args.inner.now) = omega (arith, c.requires.below, c.len.ensures, c.if-count-left.true) in
     went_on (omega (arith, c.if-count-gt0.true)) (digits_are c.args.view.now c.args.number c.args.round c.args.inner.now c.args.ready.now
-    c.requires.ready c.args.i n _ le digits) c.in_ok-put_all.ensures
+    c.requires.ready c.args.i n _ le c.write_numbers-end.ensures.digits) c.in_ok-put_all.ensures
 
 pub returns-in_err-put_part_at-clause-goes : goal.returns-in_err-put_part_at-clause-goes
 returns-in_err-put_part_at-clause-goes g c =
