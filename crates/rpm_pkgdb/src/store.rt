@@ -122,10 +122,10 @@ impl PkgDb {
     /// before the first damage is looked for, and room for them is taken first: 20 bytes a slot for as long as the value lives, and
     /// while opening 16 more and two rows of at most 32 each.
     ///
-    /// Where the used slots rise both by number and by first block, as additions leave them until a slot page moves a package, one pass
-    /// shows that no two of them meet. Else two rows of them, by their numbers and by their first blocks, show it: linear in the slots where
-    /// both lie close, in any order, and else n log n whatever stands in them. Where the rows don't show it, two ordered maps find the first
-    /// damage, which takes about ten times as long.
+    /// Where the used slots rise by number, and by first block in two runs at most, two passes show that no two of them meet: so additions
+    /// leave them, and slot pages too, which move the first packages behind the others. Else two rows of them, by their numbers and by their
+    /// first blocks, show it: linear in the slots where both lie close, in any order, and else n log n whatever stands in them. Where the rows
+    /// don't show it, two ordered maps find the first damage, which takes about ten times as long.
     ///
     /// No package has the number 0.
     ///
