@@ -11,12 +11,11 @@ use Rattle.std.proofs.lemmas.Bool.Decides.{nat_tests}
 use Rattle.rpm_outside.specs.Files.{Units, unit_at, blank}
 use Rattle.rpm_pkgdb.specs.declared.slot.Slot.{Slot}
 use Rattle.rpm_pkgdb.specs.Slots.{slot_at, slot_with, is_used, end_of, has_number, free}
-use Rattle.rpm_pkgdb.specs.Maps.{IsPlaced}
 use Rattle.rpm_pkgdb.specs.Store.{Store}
 use Rattle.rpm_pkgdb.specs.Blobs.{Frame, blocks_at, frame_of, is_framed, blob_in, blobs}
 use Rattle.rpm_pkgdb.specs.BlobLaws.{get-blobs}
 use Rattle.rpm_pkgdb.proofs.Facts.{number_facts}
-use Rattle.rpm_pkgdb.specs.Undamaged.{AreSound}
+use Rattle.rpm_pkgdb.specs.Undamaged.{AreSound, IsPlaced}
 use Rattle.rpm_pkgdb.specs.Quiet.{SameBlocks}
 use Rattle.rpm_pkgdb.proofs.ClearLaws.{set_other, set_here}
 use Rattle.rpm_pkgdb.proofs.Places.{Search, Here, Nowhere, search_for, with_at, with_set_other, one_place}

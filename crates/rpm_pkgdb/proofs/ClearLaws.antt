@@ -7,10 +7,9 @@ use Rattle.rpm_outside.specs.inner.Puts.{length-put, put_before, put_inside, put
 use Rattle.rpm_outside.specs.inner.PutLaws.{same_units}
 use Rattle.rpm_pkgdb.specs.declared.slot.Slot.{Slot}
 use Rattle.rpm_pkgdb.specs.Slots.{slot_at, is_used, free}
-use Rattle.rpm_pkgdb.specs.Maps.{IsPlaced}
 use Rattle.rpm_pkgdb.specs.Store.{Store}
 use Rattle.rpm_pkgdb.specs.Words.{word}
-use Rattle.rpm_pkgdb.specs.Undamaged.{AreApart, AreSound, IsSlotUnit, IsLawful, IsHeadUnit, IsMade}
+use Rattle.rpm_pkgdb.specs.Undamaged.{AreApart, AreSound, IsSlotUnit, IsLawful, IsHeadUnit, IsMade, IsPlaced}
 use Rattle.rpm_pkgdb.proofs.Pairwise.{apart_swapped}
 use Rattle.rpm_pkgdb.specs.inner.Clear.{SameOutside, IsClear, IsPut}
 use Rattle.rpm_pkgdb.specs.Quiet.{SameBlocks}

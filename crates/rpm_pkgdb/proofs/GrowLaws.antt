@@ -10,11 +10,10 @@ use Rattle.rpm_pkgdb.specs.declared.slot.Slot.{Slot}
 use Rattle.rpm_pkgdb.specs.Words.{word}
 use Rattle.rpm_pkgdb.proofs.Facts.{cases_Bool, number_facts}
 use Rattle.rpm_pkgdb.specs.Slots.{slot_at, slot_with, is_used, end_of, has_number, free}
-use Rattle.rpm_pkgdb.specs.Maps.{IsPlaced}
 use Rattle.rpm_pkgdb.specs.Store.{Store, Keeps, in_file}
 use Rattle.rpm_pkgdb.specs.Blobs.{blobs}
 use Rattle.rpm_pkgdb.proofs.BlobMaps.{same_get}
-use Rattle.rpm_pkgdb.specs.Undamaged.{AreApart, AreSound, IsSlotUnit, IsHeadUnit, IsMade}
+use Rattle.rpm_pkgdb.specs.Undamaged.{AreApart, AreSound, IsSlotUnit, IsHeadUnit, IsMade, IsPlaced}
 use Rattle.rpm_pkgdb.proofs.Made.{made, from_made}
 use Rattle.rpm_pkgdb.proofs.Pairwise.{used_below}
 use Rattle.rpm_pkgdb.specs.inner.Clear.{SameOutside, IsClear}

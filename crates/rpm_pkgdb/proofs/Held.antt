@@ -2,10 +2,9 @@
 use Rattle.std.proofs.Common.{◌≡◌, ◌≢◌, inl, inr, ℕ, ◌+◌, ◌^◌, ◌<◌, ◌≤◌, List, length, true, Some, None, IsSome, min, sym, ap, ◌∙◌, subst, arith, set, length-set}
 use Rattle.std.proofs.lemmas.Bool.{cases_eq}
 use Rattle.rpm_pkgdb.specs.declared.slot.Slot.{Slot}
-use Rattle.rpm_pkgdb.specs.Slots.{slot_at, slot_with, is_used, has_number, end_of, free}
+use Rattle.rpm_pkgdb.specs.Slots.{slot_at, slot_with, is_used, has_number, end_of, free, IsPackageNumber}
 use Rattle.rpm_pkgdb.specs.Pairs.{Pairs, find_in, Drops}
 use Rattle.rpm_pkgdb.proofs.Facts.{number_facts}
-use Rattle.rpm_pkgdb.specs.Maps.{IsPackageNumber}
 use Rattle.rpm_pkgdb.specs.Store.{Store}
 use Rattle.rpm_pkgdb.proofs.ClearLaws.{free_sound, set_here, set_other}
 use Rattle.rpm_pkgdb.proofs.Pairwise.{used_below}

@@ -9,10 +9,10 @@ use Rattle.rpm_pkgdb.specs.declared.slot.Slot.{Slot}
 use Rattle.rpm_pkgdb.proofs.Facts.{number_facts}
 use Rattle.rpm_pkgdb.proofs.Known.{place_known}
 use Rattle.rpm_pkgdb.specs.Words.{word}
-use Rattle.rpm_pkgdb.specs.Slots.{is_used, has_number, slot_with, free, slot_at, greatest_number}
+use Rattle.rpm_pkgdb.specs.Slots.{is_used, has_number, slot_with, free, slot_at, greatest_number, IsPackageNumber}
 use Rattle.rpm_pkgdb.specs.Damages.{head_reason}
 use Rattle.rpm_pkgdb.specs.Pairs.{IsNext, IsGreatest}
-use Rattle.rpm_pkgdb.specs.Maps.{HasPlaces, IsPackageNumber}
+use Rattle.rpm_pkgdb.specs.inner.Maps.{HasPlaces}
 
 pub find_none : {X : Type 0} (p : X → Bool) (xs : List X) → list_any p xs ≡ false → find p xs ≡ None
 find_none p [] none = refl

@@ -9,9 +9,9 @@ use Rattle.rpm_blocks.specs.Laws.{with_range_here, with_range_keeps, with_range_
 use Rattle.rpm_pkgdb.specs.declared.slot.Slot.{Slot}
 use Rattle.rpm_pkgdb.specs.declared.plan.Target.{Target}
 use Rattle.rpm_pkgdb.proofs.Facts.{cases_Bool, number_facts, has_it_from}
-use Rattle.rpm_pkgdb.specs.Slots.{slot_at, is_used, has_number, free}
+use Rattle.rpm_pkgdb.specs.Slots.{slot_at, is_used, has_number, free, IsPackageNumber}
 use Rattle.rpm_pkgdb.specs.Pairs.{Pairs, find_in}
-use Rattle.rpm_pkgdb.specs.Maps.{Adds, IsPackageNumber}
+use Rattle.rpm_pkgdb.specs.inner.Maps.{Adds}
 use Rattle.rpm_pkgdb.specs.Store.{Store}
 use Rattle.rpm_pkgdb.specs.Blobs.{blocks_for}
 use Rattle.rpm_pkgdb.proofs.Pairwise.{used_below}

@@ -10,10 +10,9 @@ use Rattle.rpm_pkgdb.specs.declared.slot.Slot.{Slot}
 use Rattle.rpm_pkgdb.specs.Words.{begins}
 use Rattle.rpm_pkgdb.specs.Slots.{slot_of, slots_in, slot_at, is_used, end_of, free, has_number, meets}
 use Rattle.rpm_pkgdb.specs.Damages.{own_reason, used_reason, shared_reason, slot_fault, damage_at, first, fault_at, table_fault}
-use Rattle.rpm_pkgdb.specs.Maps.{IsPlaced}
 use Rattle.rpm_pkgdb.proofs.Facts.{cases_Bool, none_at, no_place, number_facts, has_it_from, meet_facts, meet_from}
 use Rattle.rpm_pkgdb.proofs.Sound.{placed, fresh_number, fresh_blocks, no_own, no_shared}
-use Rattle.rpm_pkgdb.specs.Undamaged.{AreApart, AreSound}
+use Rattle.rpm_pkgdb.specs.Undamaged.{AreApart, AreSound, IsPlaced}
 
 -- ---- the first of some faults
 

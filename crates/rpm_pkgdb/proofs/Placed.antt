@@ -16,7 +16,7 @@ use Rattle.rpm_pkgdb.specs.Store.{Store, store, blank_store, made_store, made_or
 use Rattle.rpm_pkgdb.specs.Damages.{head_reason, slot_fault, own_reason, table, table_fault}
 use Rattle.rpm_pkgdb.specs.Slots.{is_used, has_number, slot_with, slot_of, slots_in, free, slot_at}
 use Rattle.rpm_pkgdb.specs.inner.Runs.{run, table_is_run}
-use Rattle.rpm_pkgdb.specs.Maps.{IsPlaced}
+use Rattle.rpm_pkgdb.specs.Undamaged.{IsPlaced}
 
 both_none : {X : Type 0} (a b : Option X) → option_or a b ≡ None → (a ≡ None) × (b ≡ None)
 both_none None b e = (refl, e)

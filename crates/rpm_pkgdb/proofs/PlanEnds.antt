@@ -2,9 +2,8 @@
 use Rattle.std.proofs.Common.{◌≡◌, ℕ, ◌+◌, ◌*◌, ◌/◌, ◌<◌, ◌≤◌, List, length, true, false, Bool, Some, None, refl, sym, ap, ◌∙◌, subst, arith}
 use Rattle.rpm_pkgdb.specs.declared.slot.Slot.{Slot}
 use Rattle.rpm_pkgdb.specs.declared.page.Page.{Page}
-use Rattle.rpm_pkgdb.specs.Slots.{slot_at, is_used, has_number}
+use Rattle.rpm_pkgdb.specs.Slots.{slot_at, is_used, has_number, IsPackageNumber}
 use Rattle.rpm_pkgdb.specs.Pairs.{Pairs}
-use Rattle.rpm_pkgdb.specs.Maps.{IsPackageNumber}
 use Rattle.rpm_pkgdb.specs.Store.{Store, next_number}
 use Rattle.rpm_pkgdb.specs.Blobs.{blocks_for}
 use Rattle.rpm_pkgdb.specs.Plans.{IsFirstFree, IsLeast, FitsNowhere, AreAllUsed}

@@ -8,9 +8,8 @@ use Rattle.rpm_pkgdb.specs.declared.slot.Slot.{Slot}
 use Rattle.rpm_pkgdb.specs.Slots.{slot_of, slots_in, slot_at, is_used, free}
 use Rattle.rpm_pkgdb.specs.Damages.{slot_fault, shared_reason}
 use Rattle.rpm_pkgdb.specs.inner.Runs.{run}
-use Rattle.rpm_pkgdb.specs.Maps.{IsPlaced}
 use Rattle.rpm_pkgdb.proofs.Sound.{placed, no_own, no_shared}
-use Rattle.rpm_pkgdb.specs.Undamaged.{AreApart, AreSound}
+use Rattle.rpm_pkgdb.specs.Undamaged.{AreApart, AreSound, IsPlaced}
 use Rattle.rpm_pkgdb.proofs.Pairwise.{used_below, apart_from, apart_swapped}
 
 pub none_sound : (pages units : ℕ) → AreSound pages units []

@@ -5,9 +5,8 @@ use Rattle.rpm_outside.specs.Files.{Units, unit_at}
 use Rattle.rpm_pkgdb.specs.declared.slot.Slot.{Slot}
 use Rattle.rpm_pkgdb.specs.Slots.{slot_of, slots_in, slot_at, is_used}
 use Rattle.rpm_pkgdb.specs.Damages.{own_reason, table_fault}
-use Rattle.rpm_pkgdb.specs.Maps.{IsPlaced}
 use Rattle.rpm_pkgdb.proofs.Sound.{placed}
-use Rattle.rpm_pkgdb.specs.Undamaged.{AreSound}
+use Rattle.rpm_pkgdb.specs.Undamaged.{AreSound, IsPlaced}
 use Rattle.rpm_pkgdb.proofs.Pairwise.{begins_from, none_from, sound_from, slot_in, count_in, used_below}
 use Rattle.rpm_pkgdb.proofs.SoundRuns.{limit_placed}
 use Rattle.rpm_pkgdb.specs.inner.Rows.{AllApart}

@@ -2,8 +2,7 @@
 use Rattle.std.specs.Prelude.{◌≡◌, ◌⊎◌, ℕ, ◌+◌, ◌*◌, ◌^◌, ◌<◌, ◌≤◌, List, length, true, false}
 use Rattle.rpm_pkgdb.specs.declared.slot.Slot.{Slot}
 use Rattle.rpm_pkgdb.specs.declared.plan.Target.{Target}
-use Rattle.rpm_pkgdb.specs.Slots.{slot_at, is_used, end_of, has_number}
-use Rattle.rpm_pkgdb.specs.Maps.{IsPackageNumber}
+use Rattle.rpm_pkgdb.specs.Slots.{slot_at, is_used, end_of, has_number, IsPackageNumber}
 use Rattle.rpm_pkgdb.specs.Store.{Store, next_number}
 use Rattle.rpm_pkgdb.specs.Blobs.{blocks_for}
 

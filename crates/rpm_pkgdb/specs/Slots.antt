@@ -1,5 +1,5 @@
 -- The slots of a store.
-use Rattle.std.specs.Prelude.{ℕ, ◌+◌, List, [], ◌∷◌, map, Bool, not, ◌&&◌, ◌==◌, nat_lt, if◌then◌else◌, Option, max, slice_index_or}
+use Rattle.std.specs.Prelude.{ℕ, ◌+◌, ◌<◌, List, [], ◌∷◌, map, Bool, not, ◌&&◌, ◌==◌, nat_lt, if◌then◌else◌, Option, max, slice_index_or}
 use Rattle.std.specs.List.{find}
 use Rattle.rpm_outside.specs.Files.{Units}
 use Rattle.rpm_pkgdb.specs.declared.slot.Slot.{Slot}
@@ -42,3 +42,7 @@ slot_with n slots = find (has_number n) slots
 abbrev pub greatest_number : List Slot → ℕ
 greatest_number [] = 0
 greatest_number (s ∷ ss) = max (if is_used s then s.number else 0) (greatest_number ss)
+
+-- a number that a package can have
+abbrev pub IsPackageNumber : ℕ → Type 0
+IsPackageNumber n = (0 < n) × (n < 4294967295)

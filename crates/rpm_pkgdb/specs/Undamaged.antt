@@ -4,8 +4,16 @@ use Rattle.rpm_outside.specs.Files.{Units, unit_at}
 use Rattle.rpm_pkgdb.specs.declared.slot.Slot.{Slot}
 use Rattle.rpm_pkgdb.specs.Words.{word, begins}
 use Rattle.rpm_pkgdb.specs.Slots.{slot_of, slot_at, is_used, end_of}
-use Rattle.rpm_pkgdb.specs.Maps.{IsPlaced}
 use Rattle.rpm_pkgdb.specs.Store.{Store}
+
+-- the blocks of a used slot lie behind the pages and inside the file, and its number can be that of a package
+pub record IsPlaced (pages units : ℕ) (s : Slot) : Type 0 where
+  pub number : 0 < s.number
+  pub few : s.number ≢ 4294967295
+  pub behind : 256 * pages ≤ s.offset
+  pub some : 0 < s.count
+  pub inside : end_of s ≤ units
+  pub below : end_of s ≤ 2 ^ 28
 
 -- two slots that may both be used: their numbers differ, and no block is in both
 pub record AreApart (s t : Slot) : Type 0 where

@@ -1,8 +1,7 @@
 //! Where a blob is to go, decided before anything is written.
 
 ghost use Rattle.std.specs.Prelude.{◌≡◌, ◌≢◌, ◌↔◌, ℕ, ◌+◌, ◌*◌, ◌^◌, ◌≤◌, ◌<◌, true, false, None, Some, Err, length, MatchOption, IfSome, IsSome, OnOk, OnErr, IfOk, is_none};
-ghost use Rattle.rpm_pkgdb.specs.Slots.{slot_at, slot_with, has_number};
-ghost use Rattle.rpm_pkgdb.specs.Maps.{IsPackageNumber};
+ghost use Rattle.rpm_pkgdb.specs.Slots.{slot_at, slot_with, has_number, IsPackageNumber};
 ghost use Rattle.rpm_pkgdb.specs.Store.{next_number};
 ghost use Rattle.rpm_pkgdb.specs.Written.{with_spare, next_field, field_after};
 ghost use Rattle.rpm_pkgdb.specs.Plans.{slot_for, IsFirstFree, AreAllUsed, IsLeast, FitsNowhere};

@@ -12,7 +12,7 @@ ghost use Rattle.rpm_pkgdb.specs.Blobs.{blobs, blocks_for};
 ghost use Rattle.rpm_pkgdb.specs.Framing.{framed};
 ghost use Rattle.rpm_outside.specs.Changes.{Changes, Stops};
 ghost use Rattle.rpm_pkgdb.specs.Quiet.{IsQuiet, StandsFor, Anything};
-ghost use Rattle.rpm_pkgdb.specs.Maps.{Adds};
+ghost use Rattle.rpm_pkgdb.specs.inner.Maps.{Adds};
 ghost use Rattle.rpm_pkgdb.specs.Pairs.{find_in};
 ghost use Rattle.rpm_pkgdb.specs.Plans.{IsTarget};
 ghost use Rattle.rpm_pkgdb.specs.Growing.{grown, moving_cost};

@@ -8,7 +8,7 @@ ghost use Rattle.rpm_outside.specs.Looks.{Looks};
 ghost use Rattle.rpm_pkgdb.specs.Slots.{slots_in};
 ghost use Rattle.rpm_pkgdb.specs.Damages.{table, table_fault};
 ghost use Rattle.rpm_pkgdb.specs.Store.{Says, SaysHere};
-ghost use Rattle.rpm_pkgdb.specs.Maps.{IsKnown};
+ghost use Rattle.rpm_pkgdb.specs.inner.Maps.{IsKnown};
 ghost use Rattle.rpm_pkgdb.specs.inner.Runs.{run};
 ghost use Rattle.rpm_pkgdb.specs.Undamaged.{AreSound};
 

@@ -8,7 +8,7 @@ ghost use Rattle.rpm_outside.specs.Looks.{Looks};
 ghost use Rattle.rpm_pkgdb.specs.Slots.{slots_in};
 ghost use Rattle.rpm_pkgdb.specs.Damages.{table, table_fault};
 ghost use Rattle.rpm_pkgdb.specs.Store.{Says, SaysHere};
-ghost use Rattle.rpm_pkgdb.specs.Maps.{HasPlaces};
+ghost use Rattle.rpm_pkgdb.specs.inner.Maps.{HasPlaces};
 ghost use Rattle.rpm_pkgdb.specs.Pairs.{find_in};
 ghost use Rattle.rpm_pkgdb.specs.Undamaged.{AreSound};
 ghost use Rattle.rpm_pkgdb.specs.inner.Tables.{AreOwn, AreNumbered, IsTable, IsOutside};

@@ -4,8 +4,8 @@ use Rattle.rpm_pkgdb.specs.declared.slot.Slot.{Slot}
 use Rattle.rpm_pkgdb.specs.declared.store.PkgDb.TheInside.{Inside}
 use Rattle.rpm_pkgdb.specs.inner.Ranges.{HasUsed}
 use Rattle.rpm_pkgdb.specs.Pairs.{Pairs, find_in}
-use Rattle.rpm_pkgdb.specs.Slots.{slot_at, is_used}
-use Rattle.rpm_pkgdb.specs.Maps.{HasPlaces, IsPackageNumber}
+use Rattle.rpm_pkgdb.specs.Slots.{slot_at, is_used, IsPackageNumber}
+use Rattle.rpm_pkgdb.specs.inner.Maps.{HasPlaces}
 use Rattle.rpm_pkgdb.specs.Undamaged.{AreSound}
 
 -- what a value keeps of its slots, whether the disk tells or not

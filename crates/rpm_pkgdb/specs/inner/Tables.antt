@@ -4,9 +4,9 @@ use Rattle.rpm_outside.specs.Files.{Units, unit_at}
 use Rattle.rpm_pkgdb.specs.declared.slot.Slot.{Slot}
 use Rattle.rpm_pkgdb.specs.declared.slot.OpenFault.{OpenFault}
 use Rattle.rpm_pkgdb.specs.declared.slot.OpenFault.TheVariants.{Damaged, DiskFault, NoMemory}
-use Rattle.rpm_pkgdb.specs.Slots.{slots_in, slot_at, is_used}
+use Rattle.rpm_pkgdb.specs.Slots.{slots_in, slot_at, is_used, IsPackageNumber}
 use Rattle.rpm_pkgdb.specs.Damages.{own_reason, table_fault}
-use Rattle.rpm_pkgdb.specs.Maps.{HasPlaces, IsPackageNumber}
+use Rattle.rpm_pkgdb.specs.inner.Maps.{HasPlaces}
 use Rattle.rpm_pkgdb.specs.Pairs.{Pairs, find_in}
 
 -- each of the first so many units is a slot that is right by itself

@@ -1,6 +1,6 @@
 use Rattle.std.proofs.Common.{◌≡◌, ◌++◌, take, None}
 use Rattle.rpm_outside.specs.Files.{units_of}
-use Rattle.rpm_pkgdb.specs.Maps.{IsKnown}
+use Rattle.rpm_pkgdb.specs.inner.Maps.{IsKnown}
 use Rattle.rpm_pkgdb.specs.Slots.{slots_in}
 use Rattle.rpm_pkgdb.specs.inner.Runs.{run}
 use Rattle.rpm_pkgdb.proofs.reading.add_units.Given as goal

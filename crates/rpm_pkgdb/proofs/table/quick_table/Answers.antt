@@ -3,7 +3,7 @@ use Rattle.rpm_outside.specs.Files.{units_of}
 use Rattle.rpm_outside.specs.inner.Cuts.{length-cut_up}
 use Rattle.rpm_pkgdb.specs.declared.slot.Slot.{Slot}
 use Rattle.rpm_pkgdb.specs.Slots.{slots_in}
-use Rattle.rpm_pkgdb.specs.Maps.{HasPlaces}
+use Rattle.rpm_pkgdb.specs.inner.Maps.{HasPlaces}
 use Rattle.rpm_pkgdb.specs.Pairs.{Index, find_in}
 use Rattle.rpm_pkgdb.specs.inner.Rows.{AllApart}
 use Rattle.rpm_pkgdb.specs.inner.Tables.{AreOwn, AreNumbered}
