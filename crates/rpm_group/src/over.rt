@@ -34,7 +34,8 @@ fn available(unit: u64, length: u64, count: usize) -> usize
     length.saturating_sub(unit).min(count as u64) as usize
 }
 
-/// Reads units below, which are zeros past the end.
+/// Reads units below, which are zeros past the end. A function of its own, so that a read of a file of which nothing is held stays short.
+#[inline(never)]
 fn read_below<D: Disk>(
     below: &mut D,
     file: File,

@@ -99,7 +99,8 @@ fn skip_absent(table: &Table, from: usize, end: usize) -> usize
     end
 }
 
-/// The first unit from this one on that is held or isn't, or the end.
+/// The first unit from this one on that is held or isn't, or the end. A function of its own, so that a read past all that is held stays short.
+#[inline(never)]
 pub fn next_unit(table: &Table, from: usize, end: usize, held: bool) -> usize
     requires ordered { from ≤ end }
     requires small { end ≤ 2 ^ 28 }

@@ -103,7 +103,8 @@ fn lay_in(table: &Table, q: usize, at: usize, into: &mut [u8])
     }
 }
 
-/// Copies the held ones of the units from this one on over others.
+/// Copies the held ones of the units from this one on over others. A function of its own, so that a read of what isn't held stays short.
+#[inline(never)]
 pub fn lay(table: &Table, unit: usize, into: &mut [u8])
     requires whole { length into.old % 16 ≡ 0 }
     requires room { unit + length into.old / 16 < 2 ^ 64 }

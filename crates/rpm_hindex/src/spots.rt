@@ -121,7 +121,9 @@ fn is_key(kind: u8, key: &[u8], other_kind: u8, other: &[u8]) -> bool
     kind == other_kind && key == other
 }
 
-/// Reads the key of a record, whose first unit was read, into a buffer: whether it is this kind's key, which is of the bucket.
+/// Reads the key of a record, whose first unit was read, into a buffer: whether it is this kind's key, which is of the bucket. A function
+/// of its own, so that passing a record stays short.
+#[inline(never)]
 pub fn meets_key<D: Disk>(
     disk: &mut D,
     extent: Extent,
@@ -211,7 +213,8 @@ fn meet<D: Disk>(
     }
 }
 
-/// The first unit of the first record from this one on that isn't dropped, or 0. Reads no keys.
+/// The first unit of the first record from this one on that isn't dropped, or 0. Reads no keys. A function of its own, as `meets_key` is.
+#[inline(never)]
 fn skip_dropped<D: Disk>(
     disk: &mut D,
     extent: Extent,
@@ -250,11 +253,27 @@ fn is_hit(dropped: &BTreeMap<u32, u32>, met: Met) -> bool
     met.is_row && !dropped.contains_key(&met.head.at)
 }
 
-/// The last record that isn't dropped, when one more was met.
-fn last_kept(dropped: &BTreeMap<u32, u32>, before: Option<Head>, head: Head) -> Option<Head>
+/// The greatest place that is dropped, or 0.
+fn last_dropped(dropped: &BTreeMap<u32, u32>) -> u32
+    ensures { (p : ℕ) → result < p → is_kept (λ q. get nat_cmp dropped.now q) p ≡ true }
+{
+    match dropped.last_key_value() {
+        Some((last, _)) => *last,
+        None => 0,
+    }
+}
+
+/// The last record that isn't dropped, when one more was met. Most stand behind all that are dropped, and aren't looked up.
+fn last_kept(
+    dropped: &BTreeMap<u32, u32>,
+    last: u32,
+    before: Option<Head>,
+    head: Head,
+) -> Option<Head>
+    requires { (p : ℕ) → last < p → is_kept (λ q. get nat_cmp dropped.now q) p ≡ true }
     ensures { result ≡ (if is_kept (λ p. get nat_cmp dropped.now p) head.at then Some head else before) }
 {
-    if dropped.contains_key(&head.at) {
+    if head.at <= last && dropped.contains_key(&head.at) {
         before
     } else {
         Some(head)
@@ -291,6 +310,7 @@ fn find_spot<D: Disk>(
     ensures cause { HasCauseAt (result ≡ Err FindFault.DiskFault) (D.faults disk.old) (D.faults disk.new) }
 {
     let mut buffer = Vec::new(alloc);
+    let last = last_dropped(dropped);
     let mut before = None;
     let mut at = from;
     while at != 0 {
@@ -305,7 +325,7 @@ fn find_spot<D: Disk>(
             };
             return Ok(Some(Spot { before, at, behind }));
         }
-        before = last_kept(dropped, before, met.head);
+        before = last_kept(dropped, last, before, met.head);
         at = met.next;
     }
     Ok(None)
