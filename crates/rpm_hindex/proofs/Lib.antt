@@ -41,3 +41,4 @@ pub mod Honest
 pub mod Results
 pub mod Ways
 pub mod Steps
+pub mod Meets

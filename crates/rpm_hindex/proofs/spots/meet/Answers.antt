@@ -1,11 +1,11 @@
-use Rattle.std.proofs.Common.{◌≡◌, ℕ, length, sym, ap, ◌∙◌, arith, subst}
+use Rattle.std.proofs.Common.{◌≡◌, ℕ, length, sym, ap, ◌∙◌}
 use Rattle.rpm_outside.specs.Files.{Files, unit_at}
 use Rattle.rpm_hindex.specs.Words.{word}
 use Rattle.rpm_hindex.specs.Rows.{Row}
-use Rattle.rpm_hindex.specs.Index.{index_in, follow, is_placed, row_at, length_at}
-use Rattle.rpm_hindex.specs.Answers.{IsFaultOf, has_key}
-use Rattle.rpm_hindex.specs.inner.Spots.{IsHead}
-use Rattle.rpm_hindex.proofs.Steps.{moved, units_read, other_row, same_by_key, number_at, place_at}
+use Rattle.rpm_hindex.specs.Index.{row_at, length_at}
+use Rattle.rpm_hindex.specs.Answers.{has_key}
+use Rattle.rpm_hindex.proofs.Steps.{moved, other_row, same_by_key, number_at, place_at}
+use Rattle.rpm_hindex.proofs.Meets.{placed_still, head_still, fault_from, both_read}
 use Rattle.rpm_hindex.proofs.spots.meet.Goals as goal
 
 pub returns-in-Err-clause-fault : goal.returns-in-Err-clause-fault
@@ -29,35 +29,30 @@ returns-then-not-may_be-clause-met g c = λ told.
 
 pub meets_key-requires-clause-placed : goal.meets_key-requires-clause-placed
 meets_key-requires-clause-placed g c = λ told.
-    let B = c.args.extent.buckets in
-    let same = (c.in-Ok.ensures.looks.untouched told).same in
-    ap (λ (f : Files). is_placed (index_in B f.idx) c.in-Ok.ahead.head.at) same
-    ∙ ap (is_placed (index_in B (g.D.Disk.files c.args.disk.now).idx)) c.in-Ok.ensures.here
-    ∙ (c.in-Ok.ensures.ahead told).placed
+    placed_still c.args.extent.buckets c.args.at (g.D.Disk.files c.args.disk.now) (g.D.Disk.files c.read_head.new.disk) c.in-Ok.ahead
+    ((c.in-Ok.ensures.looks.untouched told).same) c.in-Ok.ensures.here (c.in-Ok.ensures.ahead told)
 
 pub meets_key-requires-clause-head : goal.meets_key-requires-clause-head
 meets_key-requires-clause-head g c = λ told.
-    subst (λ (f : Files). IsHead (unit_at f.idx) c.in-Ok.ahead.head) (sym ((c.in-Ok.ensures.looks.untouched told).same)) (c.in-Ok.ensures.ahead told).head
+    head_still c.args.extent.buckets c.args.at (g.D.Disk.files c.args.disk.now) (g.D.Disk.files c.read_head.new.disk) c.in-Ok.ahead
+    ((c.in-Ok.ensures.looks.untouched told).same) c.in-Ok.ensures.here (c.in-Ok.ensures.ahead told)
 
 pub returns-in-Err-meets_key-clause-fault : goal.returns-in-Err-meets_key-clause-fault
 returns-in-Err-meets_key-clause-fault g c = λ told.
-    moved (λ (f : Files) (p : ℕ). IsFaultOf (follow (index_in c.args.extent.buckets f.idx) c.args.bucket p p) c.in-Err-meets_key.fault)
-    (g.D.Disk.files c.read_head.new.disk) (g.D.Disk.files c.args.disk.now) c.in-Ok.ahead.head.at c.args.at ((c.in-Ok.ensures.looks.untouched told).same)
-    c.in-Ok.ensures.here (c.in-Err-meets_key.ensures.fault told)
+    fault_from c.args.extent.buckets c.args.at (g.D.Disk.files c.args.disk.now) (g.D.Disk.files c.read_head.new.disk) c.in-Ok.ahead
+    ((c.in-Ok.ensures.looks.untouched told).same) c.in-Ok.ensures.here c.args.bucket c.in-Err-meets_key.fault (c.in-Err-meets_key.ensures.fault told)
 
 pub returns-in-Err-meets_key-clause-cost : goal.returns-in-Err-meets_key-clause-cost
 returns-in-Err-meets_key-clause-cost g c = λ told sound.
-    let head = c.in-Ok.ahead.head in
-    let units = units_read (unit_at (g.D.Disk.files c.args.disk.now).idx) c.args.at head.at head.size c.in-Ok.ensures.here
-    (c.in-Ok.ensures.ahead told).head.packed in
-    omega (arith, c.in-Ok.ensures.looks.reads.idx, c.in-Err-meets_key.ensures.looks.reads.idx, units)
+    both_read c.args.extent.buckets c.args.at (g.D.Disk.files c.args.disk.now) (g.D.Disk.files c.read_head.new.disk) c.in-Ok.ahead
+    ((c.in-Ok.ensures.looks.untouched told).same) c.in-Ok.ensures.here _ _ _ (c.in-Ok.ensures.ahead told) c.in-Ok.ensures.looks.reads.idx
+    c.in-Err-meets_key.ensures.looks.reads.idx
 
 pub returns-in-Ok-meets_key-clause-cost : goal.returns-in-Ok-meets_key-clause-cost
 returns-in-Ok-meets_key-clause-cost g c = λ told sound.
-    let head = c.in-Ok.ahead.head in
-    let units = units_read (unit_at (g.D.Disk.files c.args.disk.now).idx) c.args.at head.at head.size c.in-Ok.ensures.here
-    (c.in-Ok.ensures.ahead told).head.packed in
-    omega (arith, c.in-Ok.ensures.looks.reads.idx, c.in-Ok-meets_key.ensures.looks.reads.idx, units)
+    both_read c.args.extent.buckets c.args.at (g.D.Disk.files c.args.disk.now) (g.D.Disk.files c.read_head.new.disk) c.in-Ok.ahead
+    ((c.in-Ok.ensures.looks.untouched told).same) c.in-Ok.ensures.here _ _ _ (c.in-Ok.ensures.ahead told) c.in-Ok.ensures.looks.reads.idx
+    c.in-Ok-meets_key.ensures.looks.reads.idx
 
 pub returns-in-Ok-meets_key-clause-met : goal.returns-in-Ok-meets_key-clause-met
 returns-in-Ok-meets_key-clause-met g c = λ told.
