@@ -42,3 +42,5 @@ pub mod Results
 pub mod Ways
 pub mod Steps
 pub mod Meets
+pub mod Passing
+pub mod RowsLeft

@@ -1,25 +1,20 @@
-use Rattle.std.proofs.Common.{◌≡◌, ℕ, arith, ◌-◌, List, ◌++◌, sym, ap, ◌∙◌, subst, ◌+◌, ◌*◌, ◌/◌, ◌≤◌, true, false, length, Vec, Global}
-use Rattle.std.specs.Ordering.{nat_cmp}
-use Rattle.std.specs.BTreeMap.{get}
-use Rattle.rpm_outside.specs.Files.{Files, Units}
+use Rattle.std.proofs.Common.{◌≡◌, ℕ, arith, ◌-◌, ◌++◌, sym, ap, ◌∙◌, subst, ◌+◌, ◌*◌, ◌/◌, ◌≤◌, true, false, length}
+use Rattle.rpm_outside.specs.Files.{Files}
 use Rattle.rpm_hindex.specs.declared.chain.Extent.{Extent}
 use Rattle.rpm_hindex.specs.declared.change.Change.{Change}
-use Rattle.rpm_hindex.specs.Rows.{Row, times}
-use Rattle.rpm_hindex.specs.Index.{index_in, records, rows_of}
+use Rattle.rpm_hindex.specs.Rows.{times}
+use Rattle.rpm_hindex.specs.Index.{records, rows_of}
 use Rattle.rpm_hindex.specs.State.{buckets_of}
-use Rattle.rpm_hindex.specs.Whole.{IsWellFormed, IsWhole}
-use Rattle.rpm_hindex.specs.inner.Changes.{IsHonest, AddsRows, changing, HasLess, IsTooLarge, IsScratchOf, kept_of, is_kept}
+use Rattle.rpm_hindex.specs.Whole.{IsWhole}
+use Rattle.rpm_hindex.specs.inner.Changes.{IsHonest, AddsRows, changing, HasLess, IsTooLarge, IsScratchOf}
 use Rattle.rpm_hindex.specs.Refusals.{IsBad}
-use Rattle.rpm_hindex.proofs.Keeping.{kept_all}
 use Rattle.rpm_hindex.proofs.Gathers.{scratch_plan, large_for}
 use Rattle.rpm_hindex.specs.Plans.{IsPlanFor}
 use Rattle.rpm_hindex.specs.Sizes.{first_record, is_bucket_count}
 use Rattle.rpm_hindex.proofs.Placing.{place_order, place_plan}
-use Rattle.rpm_hindex.specs.inner.Records.{IsOpen}
-use Rattle.rpm_hindex.proofs.Cuts.{rows_cut}
 use Rattle.rpm_hindex.proofs.Honest.{bad_memory}
 use Rattle.rpm_hindex.proofs.Fitting.{plan_fits, changed_least}
-use Rattle.rpm_hindex.specs.Costs.{chains_bytes}
+use Rattle.rpm_hindex.proofs.RowsLeft.{rows_kept_by, rows_less, has_dropped, drops_cost}
 use Rattle.rpm_hindex.proofs.Results.{if_ok, if_err, if_ok_three}
 use Rattle.rpm_hindex.proofs.index.Hindex.prepare_within.Goals as goal
 
@@ -31,36 +26,28 @@ returns-then-not-has_room-clause-makes g c = if_ok c.from_scratch.result _ _ (λ
     let B = buckets_of c.args.self.now.first in
     let file : Files = g.D.Disk.files c.args.disk.now in
     let drops = c.args.drops.now in
-    let of : Files → ℕ → Change → List Row = λ f n d. kept_of (index_in n f.idx) (is_kept (λ p. get nat_cmp d.dropped p)) in
     let first : Change = c.start-change.result in
     let new : Change = c.drop_rows.new.change in
     let same = ap (λ (e : Extent). e.buckets) c.in_default.ensures.extent ∙ c.start-change.ensures.buckets in
-    let less = subst (λ (n : ℕ). IsWellFormed n file.idx → HasLess drops (of file n first) (of file n new)) c.start-change.ensures.buckets
-    (c.in_default.ensures.less told) whole in
-    let all : HasLess drops (records B file.idx) (of file B new) = λ r. less r ∙ ap (λ (n : ℕ). n - times r drops)
-    (kept_all (index_in B file.idx) (is_kept (λ p. get nat_cmp first.dropped p)) r c.start-change.ensures.dropped) in
-    let at_file = subst (λ (f : Files). IsScratchOf (of f new.extent.buckets new ++ c.args.adds.now) plan.work)
+    let all = rows_less B file.idx drops first new c.start-change.ensures.buckets c.start-change.ensures.dropped (c.in_default.ensures.less told) whole in
+    let at_file = subst (λ (f : Files). IsScratchOf (rows_kept_by new.extent.buckets f.idx new ++ c.args.adds.now) plan.work)
     ((c.drop_rows.ensures.looks.untouched told).same) (made told) in
-    scratch_plan drops c.args.adds.now (of file B new) B file.idx plan.work
-    (subst (λ (n : ℕ). IsScratchOf (of file n new ++ c.args.adds.now) plan.work) same at_file) all) c.from_scratch.ensures.made
+    scratch_plan drops c.args.adds.now (rows_kept_by B file.idx new) B file.idx plan.work
+    (subst (λ (n : ℕ). IsScratchOf (rows_kept_by n file.idx new ++ c.args.adds.now) plan.work) same at_file) all) c.from_scratch.ensures.made
 
 pub returns-then-not-has_room-clause-full : goal.returns-then-not-has_room-clause-full
 returns-then-not-has_room-clause-full g c = if_err c.from_scratch.result _ _ (λ e large told whole.
     let B = buckets_of c.args.self.now.first in
     let file : Files = g.D.Disk.files c.args.disk.now in
     let drops = c.args.drops.now in
-    let of : Files → ℕ → Change → List Row = λ f n d. kept_of (index_in n f.idx) (is_kept (λ p. get nat_cmp d.dropped p)) in
     let first : Change = c.start-change.result in
     let new : Change = c.drop_rows.new.change in
     let same = ap (λ (e : Extent). e.buckets) c.in_default.ensures.extent ∙ c.start-change.ensures.buckets in
-    let less = subst (λ (n : ℕ). IsWellFormed n file.idx → HasLess drops (of file n first) (of file n new)) c.start-change.ensures.buckets
-    (c.in_default.ensures.less told) whole in
-    let all : HasLess drops (records B file.idx) (of file B new) = λ r. less r ∙ ap (λ (n : ℕ). n - times r drops)
-    (kept_all (index_in B file.idx) (is_kept (λ p. get nat_cmp first.dropped p)) r c.start-change.ensures.dropped) in
-    let at_file = subst (λ (f : Files). IsTooLarge (of f new.extent.buckets new ++ c.args.adds.now) e)
+    let all = rows_less B file.idx drops first new c.start-change.ensures.buckets c.start-change.ensures.dropped (c.in_default.ensures.less told) whole in
+    let at_file = subst (λ (f : Files). IsTooLarge (rows_kept_by new.extent.buckets f.idx new ++ c.args.adds.now) e)
     ((c.drop_rows.ensures.looks.untouched told).same) (large told) in
-    large_for drops c.args.adds.now (of file B new) (records B file.idx) e all (subst (λ (n : ℕ). IsTooLarge (of file n new ++ c.args.adds.now) e)
-    same at_file)) c.from_scratch.ensures.full
+    large_for drops c.args.adds.now (rows_kept_by B file.idx new) (records B file.idx) e all
+    (subst (λ (n : ℕ). IsTooLarge (rows_kept_by n file.idx new ++ c.args.adds.now) e) same at_file)) c.from_scratch.ensures.full
 
 pub returns-clause-makes : goal.returns-clause-makes
 returns-clause-makes g c = if_ok c.in_place.result _ _ (λ plan made told whole.
@@ -68,30 +55,19 @@ returns-clause-makes g c = if_ok c.in_place.result _ _ (λ plan made told whole.
     let file : Files = g.D.Disk.files c.args.disk.now in
     let drops = c.args.drops.now in
     let adds = c.args.adds.now in
-    let of : Files → ℕ → Change → List Row = λ f n d. kept_of (index_in n f.idx) (is_kept (λ p. get nat_cmp d.dropped p)) in
-    let first : Change = c.start-change.result in
+    let first = c.start-change.ensures in
     let mid : Change = c.drop_rows.new.change in
     let last : Change = c.add_rows.new.change in
-    let first_is : first.extent.buckets ≡ B = c.start-change.ensures.buckets in
-    let mid_is : mid.extent.buckets ≡ B = ap (λ (e : Extent). e.buckets) c.in_default.ensures.extent ∙ first_is in
-    let last_is : last.extent.buckets ≡ B = ap (λ (e : Extent). e.buckets) c.in_default-add_rows.ensures.extent ∙ mid_is in
-    let begin = c.start-change.ensures.whole file.idx (c.requires.keeps told) whole in
-    let whole_first : IsWellFormed first.extent.buckets file.idx = subst (λ (n : ℕ). IsWellFormed n file.idx) (sym first_is) whole in
-    let whole_mid : IsWellFormed mid.extent.buckets file.idx = subst (λ (n : ℕ). IsWellFormed n file.idx) (sym mid_is) whole in
-    let cut = c.in_default.ensures.cuts told whole_first c.start-change.ensures.tail begin.cut in
-    let opens = subst (λ (e : Extent). IsOpen e file.idx) (sym c.in_default.ensures.extent) (c.start-change.ensures.open file.idx (c.requires.keeps told)) in
-    let none = ap (λ (t : Vec ℕ Global). length t.items) c.in_default.ensures.tail ∙ c.start-change.ensures.tail in
-    let kept : (r : Row) → times r (rows_of (changing mid file.idx)) ≡ times r (of file mid.extent.buckets mid) = rows_cut mid file.idx none opens
-    whole_mid cut in
-    let less = subst (λ (n : ℕ). IsWellFormed n file.idx → HasLess drops (of file n first) (of file n mid)) first_is (c.in_default.ensures.less told) whole in
+    let less = rows_less B file.idx drops c.start-change.result mid first.buckets first.dropped (c.in_default.ensures.less told) whole in
+    let left = has_dropped B file.idx drops c.start-change.result mid first.buckets c.in_default.ensures.extent c.in_default.ensures.tail first.tail
+    (first.«open» file.idx (c.requires.keeps told)) (first.whole file.idx (c.requires.keeps told) whole).cut (c.in_default.ensures.cuts told) less whole in
+    let last_is : last.extent.buckets ≡ B = ap (λ (e : Extent). e.buckets) c.in_default-add_rows.ensures.extent ∙ left.buckets in
     let all : HasLess drops (records last.extent.buckets file.idx) (rows_of (changing mid file.idx)) = λ r.
-    kept r ∙ ap (λ (n : ℕ). times r (of file n mid)) mid_is ∙ less r
-    ∙ ap (λ (n : ℕ). n - times r drops) (kept_all (index_in B file.idx) (is_kept (λ p. get nat_cmp first.dropped p)) r c.start-change.ensures.dropped)
-    ∙ ap (λ (n : ℕ). times r (records n file.idx) - times r drops) (sym last_is) in
+    left.rows' r ∙ ap (λ (n : ℕ). times r (records n file.idx) - times r drops) (sym last_is) in
     let more = subst (λ (f : Files). IsWhole mid.records mid.live (changing mid f.idx) → AddsRows mid last f.idx adds)
     ((c.drop_rows.ensures.looks.untouched told).same) (c.in_default-add_rows.ensures.adds told) in
     let go = c.in_default-add_rows.ensures.go in
-    let plan_is = place_plan mid last drops adds file.idx plan.work go c.in_place.ensures.ordered made (more cut.whole) all
+    let plan_is = place_plan mid last drops adds file.idx plan.work go c.in_place.ensures.ordered made (more left.cut.whole) all
     (omega (arith, go.records, go.few)) (omega (arith, go.live, go.room)) in
     subst (λ (n : ℕ). IsPlanFor drops adds n file.idx plan.work) last_is plan_is) c.in_place.ensures.made
 
@@ -102,14 +78,8 @@ returns-clause-ordered g c = if_ok c.in_place.result _ _ (λ plan made.
     let extent = add.extent in
     let buckets = ap (λ (e : Extent). e.buckets) extent in
     let first_is = ap (λ (e : Extent). is_bucket_count e.buckets) (extent ∙ c.in_default.ensures.extent) ∙ c.start-change.ensures.count in
-    let half : last.extent.used + length last.tail.items / 16 ≤ first_record last.extent.buckets + 2 * last.live = omega (
-      arith,
-      add.tail,
-      add.live,
-      buckets,
-      ap (λ (e : Extent). e.used) extent,
-      c.has_room.ensures.half c.if-not-has_room.false,
-    ) in
+    let half : last.extent.used + length last.tail.items / 16 ≤ first_record last.extent.buckets + 2 * last.live =
+    omega (arith, add.tail, add.live, buckets, ap (λ (e : Extent). e.used) extent, c.has_room.ensures.half c.if-not-has_room.false) in
     place_order last plan.work add.go first_is made half (omega (arith, add.go.records, add.go.few)) (omega (arith, add.go.live, add.go.room)))
     c.in_place.ensures.made
 
@@ -156,27 +126,21 @@ returns-clause-room g c = if_ok_three c.in_place.result _ _ _ _ (λ plan can ord
     (can used (omega arith)) order (makes told whole))
     c.in_place.ensures.can (returns-clause-ordered g c) (returns-clause-makes g c)
 
--- what dropping cost, in the words of the value
-cost_here : (drops : List Row) (file : Units) (n buckets old new : ℕ) → n ≡ buckets → IsWellFormed buckets file
-    → (IsWellFormed n file → new ≤ old + chains_bytes (index_in n file) drops)
-    → new ≤ old + chains_bytes (index_in buckets file) drops
-cost_here drops file n buckets old new is whole cost = subst (λ (m : ℕ). IsWellFormed m file → new ≤ old + chains_bytes (index_in m file) drops) is cost whole
-
 pub returns-in-Err-clause-cost : goal.returns-in-Err-clause-cost
 returns-in-Err-clause-cost g c = λ told whole stays.
-    let dropped = cost_here c.args.drops.now (g.D.Disk.files c.args.disk.now).idx _ _ _ _ c.start-change.ensures.buckets whole
+    let dropped = drops_cost c.args.drops.now (g.D.Disk.files c.args.disk.now).idx _ _ _ _ c.start-change.ensures.buckets whole
     (λ w. c.in-Err.ensures.cost told w (c.start-change.ensures.honest (g.D.Disk.files c.args.disk.now).idx (c.requires.keeps told))) in
     omega (arith, dropped)
 
 pub returns-in-Err-add_rows-clause-cost : goal.returns-in-Err-add_rows-clause-cost
 returns-in-Err-add_rows-clause-cost g c = λ told whole stays.
-    let dropped = cost_here c.args.drops.now (g.D.Disk.files c.args.disk.now).idx _ _ _ _ c.start-change.ensures.buckets whole
+    let dropped = drops_cost c.args.drops.now (g.D.Disk.files c.args.disk.now).idx _ _ _ _ c.start-change.ensures.buckets whole
     (λ w. c.in_default.ensures.cost told w (c.start-change.ensures.honest (g.D.Disk.files c.args.disk.now).idx (c.requires.keeps told))) in
     omega (arith, dropped, c.in-Err-add_rows.ensures.looks.reads.idx)
 
 pub returns-clause-cost : goal.returns-clause-cost
 returns-clause-cost g c = λ told whole stays.
-    let dropped = cost_here c.args.drops.now (g.D.Disk.files c.args.disk.now).idx _ _ _ _ c.start-change.ensures.buckets whole
+    let dropped = drops_cost c.args.drops.now (g.D.Disk.files c.args.disk.now).idx _ _ _ _ c.start-change.ensures.buckets whole
     (λ w. c.in_default.ensures.cost told w (c.start-change.ensures.honest (g.D.Disk.files c.args.disk.now).idx (c.requires.keeps told))) in
     omega (arith, dropped, c.in_default-add_rows.ensures.looks.reads.idx)
 
@@ -185,25 +149,14 @@ returns-then-not-has_room-clause-cost g c = λ told whole stays.
     let B = buckets_of c.args.self.now.first in
     let file : Files = g.D.Disk.files c.args.disk.now in
     let drops = c.args.drops.now in
-    let of : Files → ℕ → Change → List Row = λ f n d. kept_of (index_in n f.idx) (is_kept (λ p. get nat_cmp d.dropped p)) in
-    let first : Change = c.start-change.result in
+    let first = c.start-change.ensures in
     let mid : Change = c.drop_rows.new.change in
-    let first_is : first.extent.buckets ≡ B = c.start-change.ensures.buckets in
-    let mid_is : mid.extent.buckets ≡ B = ap (λ (e : Extent). e.buckets) c.in_default.ensures.extent ∙ first_is in
-    let begin = c.start-change.ensures.whole file.idx (c.requires.keeps told) whole in
-    let whole_first : IsWellFormed first.extent.buckets file.idx = subst (λ (n : ℕ). IsWellFormed n file.idx) (sym first_is) whole in
-    let whole_mid : IsWellFormed mid.extent.buckets file.idx = subst (λ (n : ℕ). IsWellFormed n file.idx) (sym mid_is) whole in
-    let cut = c.in_default.ensures.cuts told whole_first c.start-change.ensures.tail begin.cut in
-    let opens = subst (λ (e : Extent). IsOpen e file.idx) (sym c.in_default.ensures.extent) (c.start-change.ensures.open file.idx (c.requires.keeps told)) in
-    let none = ap (λ (t : Vec ℕ Global). length t.items) c.in_default.ensures.tail ∙ c.start-change.ensures.tail in
-    let kept : (r : Row) → times r (rows_of (changing mid file.idx)) ≡ times r (of file mid.extent.buckets mid) = rows_cut mid file.idx none opens
-    whole_mid cut in
-    let less = subst (λ (n : ℕ). IsWellFormed n file.idx → HasLess drops (of file n first) (of file n mid)) first_is (c.in_default.ensures.less told) whole in
-    let all : HasLess drops (records B file.idx) (rows_of (changing mid file.idx)) = λ r.
-    kept r ∙ ap (λ (n : ℕ). times r (of file n mid)) mid_is ∙ less r
-    ∙ ap (λ (n : ℕ). n - times r drops) (kept_all (index_in B file.idx) (is_kept (λ p. get nat_cmp first.dropped p)) r c.start-change.ensures.dropped) in
-    let most = changed_least (changing mid file.idx) mid.records mid.live drops c.args.adds.now (records B file.idx) stays.rows cut.whole all stays.changed in
-    let room : c.has_room.result ≡ true = c.has_room.ensures.least (omega (arith, most.0, stays.few, mid_is)) (omega (arith, opens.used, stays.room))
-    (omega (arith, opens.used, stays.half, most.1, mid_is)) in
+    let less = rows_less B file.idx drops c.start-change.result mid first.buckets first.dropped (c.in_default.ensures.less told) whole in
+    let left = has_dropped B file.idx drops c.start-change.result mid first.buckets c.in_default.ensures.extent c.in_default.ensures.tail first.tail
+    (first.«open» file.idx (c.requires.keeps told)) (first.whole file.idx (c.requires.keeps told) whole).cut (c.in_default.ensures.cuts told) less whole in
+    let most = changed_least (changing mid file.idx) mid.records mid.live drops c.args.adds.now (records B file.idx) stays.rows left.cut.whole left.rows'
+    stays.changed in
+    let room : c.has_room.result ≡ true = c.has_room.ensures.least (omega (arith, most.0, stays.few, left.buckets))
+    (omega (arith, left.open'.used, stays.room)) (omega (arith, left.open'.used, stays.half, most.1, left.buckets)) in
     let no' : true ≡ false = sym room ∙ c.if-not-has_room.true in
     absurd (let wrong : ⊥ = cc in wrong)

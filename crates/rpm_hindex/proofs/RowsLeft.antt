@@ -1,0 +1,59 @@
+-- What is left when a change has dropped its rows, and what that cost.
+use Rattle.std.proofs.Common.{◌≡◌, ℕ, ◌+◌, ◌-◌, ◌≤◌, List, length, true, sym, ap, ◌∙◌, subst, Vec, Global}
+use Rattle.std.specs.Ordering.{nat_cmp}
+use Rattle.std.specs.BTreeMap.{get}
+use Rattle.rpm_outside.specs.Files.{Units}
+use Rattle.rpm_hindex.specs.declared.chain.Extent.{Extent}
+use Rattle.rpm_hindex.specs.declared.change.Change.{Change}
+use Rattle.rpm_hindex.specs.Rows.{Row, times}
+use Rattle.rpm_hindex.specs.Index.{index_in, records, rows_of}
+use Rattle.rpm_hindex.specs.Whole.{IsWellFormed}
+use Rattle.rpm_hindex.specs.Costs.{chains_bytes}
+use Rattle.rpm_hindex.specs.inner.Changes.{IsCut, changing, HasLess, kept_of, is_kept}
+use Rattle.rpm_hindex.specs.inner.Records.{IsOpen}
+use Rattle.rpm_hindex.proofs.Cuts.{rows_cut}
+use Rattle.rpm_hindex.proofs.Keeping.{kept_all}
+
+-- the rows of the records that a change hasn't dropped
+abbrev pub rows_kept_by : ℕ → Units → Change → List Row
+rows_kept_by buckets file change = kept_of (index_in buckets file) (is_kept (λ p. get nat_cmp change.dropped p))
+
+-- those that it hasn't dropped are the file's but for these
+pub rows_less : (B : ℕ) (file : Units) (drops : List Row) (first mid : Change) → first.extent.buckets ≡ B
+    → ((p : ℕ) → is_kept (λ q. get nat_cmp first.dropped q) p ≡ true)
+    → (IsWellFormed first.extent.buckets file → HasLess drops (rows_kept_by first.extent.buckets file first) (rows_kept_by first.extent.buckets file mid))
+    → IsWellFormed B file → HasLess drops (records B file) (rows_kept_by B file mid)
+rows_less B file drops first mid first_is all_kept less whole r =
+    subst (λ (n : ℕ). IsWellFormed n file → HasLess drops (rows_kept_by n file first) (rows_kept_by n file mid)) first_is less whole r
+    ∙ ap (λ (n : ℕ). n - times r drops) (kept_all (index_in B file) (is_kept (λ p. get nat_cmp first.dropped p)) r all_kept)
+
+-- a change that has dropped its rows and added none yet
+pub record HasDropped (B : ℕ) (file : Units) (drops : List Row) (mid : Change) : Type 0 where
+  pub buckets : mid.extent.buckets ≡ B
+  pub open' : IsOpen mid.extent file
+  pub cut : IsCut mid file
+  pub rows' : HasLess drops (records B file) (rows_of (changing mid file))
+
+pub has_dropped : (B : ℕ) (file : Units) (drops : List Row) (first mid : Change) → first.extent.buckets ≡ B → mid.extent ≡ first.extent
+    → mid.tail ≡ first.tail → length first.tail.items ≡ 0 → IsOpen first.extent file → IsCut first file
+    → (IsWellFormed first.extent.buckets file → length first.tail.items ≡ 0 → IsCut first file → IsCut mid file)
+    → HasLess drops (records B file) (rows_kept_by B file mid) → IsWellFormed B file → HasDropped B file drops mid
+has_dropped B file drops first mid first_is extent_is tail_is empty opens begin cuts less whole =
+    let mid_is = ap (λ (e : Extent). e.buckets) extent_is ∙ first_is in
+    let open_mid = subst (λ (e : Extent). IsOpen e file) (sym extent_is) opens in
+    let cut = cuts (subst (λ (n : ℕ). IsWellFormed n file) (sym first_is) whole) empty begin in
+    let none = ap (λ (t : Vec ℕ Global). length t.items) tail_is ∙ empty in
+    record {
+      buckets = mid_is;
+      open' = open_mid;
+      cut = cut;
+      rows' = λ r. rows_cut mid file none open_mid (subst (λ (n : ℕ). IsWellFormed n file) (sym mid_is) whole) cut r
+          ∙ ap (λ (n : ℕ). times r (rows_kept_by n file mid)) mid_is
+          ∙ less r;
+    }
+
+-- what dropping cost, in the words of the value
+pub drops_cost : (drops : List Row) (file : Units) (n buckets old new : ℕ) → n ≡ buckets → IsWellFormed buckets file
+    → (IsWellFormed n file → new ≤ old + chains_bytes (index_in n file) drops)
+    → new ≤ old + chains_bytes (index_in buckets file) drops
+drops_cost drops file n buckets old new is whole cost = subst (λ (m : ℕ). IsWellFormed m file → new ≤ old + chains_bytes (index_in m file) drops) is cost whole
