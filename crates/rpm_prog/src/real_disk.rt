@@ -6,8 +6,8 @@ ghost use Rattle.rpm_outside.specs.Causes.{HasCause};
 use crate::real_file::RealFile;
 use rpm_outside::{Disk, Failed, File};
 use std::alloc::{AllocError, Global};
+use std::fs;
 use std::rt::Files;
-use std::{fs, io};
 
 /// The files `Packages.db`, `Hindex.db` and `Hlog.db` of a folder. What they hold isn't told.
 #[derive(Drop)]
@@ -41,16 +41,13 @@ impl<'a, R: Files<File = fs::File>> RealDisk<'a, R> {
 }
 
 /// Counts a failure.
-fn counted<T: Drop>(faults: &mut u64, answer: io::Result<T>) -> Result<T, Failed>
+fn counted<T: Copy>(faults: &mut u64, answer: Result<T, Failed>) -> Result<T, Failed>
     ensures { HasCause faults.old faults.new result }
 {
-    match answer {
-        Ok(value) => Ok(value),
-        Err(_) => {
-            *faults = faults.saturating_add(1);
-            Err(Failed)
-        }
+    if answer.is_err() {
+        *faults = faults.saturating_add(1);
     }
+    answer
 }
 
 impl<'a, R: Files<File = fs::File>> Disk for RealDisk<'a, R> {

@@ -2,12 +2,13 @@
 
 ghost use Rattle.std.specs.Prelude.{◌≡◌, ◌≤◌, ◌+◌, ◌-◌, ◌^◌, min, length};
 
+use rpm_outside::Failed;
 use std::alloc::{AllocError, Global};
+use std::fs;
 use std::fs::{OpenFile, OpenOptions};
 use std::io::{ErrorKind, Seek, SeekFrom};
 use std::os::unix::fs::FileExt;
 use std::rt::Files;
-use std::{fs, io};
 
 /// A file that is opened when it is first used, and made only by a write.
 #[derive(Drop)]
@@ -17,16 +18,39 @@ pub struct RealFile {
     can_write: bool,
     // It was looked for, and wasn't there.
     is_absent: bool,
+    // How many whole units it has, where that was asked and nothing was written since.
+    units: Option<u64>,
     // It was made, and its folder wasn't synced since.
     is_new: bool,
     pub read: u64,
 }
 
-/// Where a unit begins, in bytes.
-fn offset_of(unit: u64) -> io::Result<u64> {
-    match unit.checked_mul(16) {
-        Some(offset) if offset < 1 << 62 => Ok(offset),
-        _ => Err(io::Error::from(ErrorKind::InvalidInput)),
+// No file has more units than that: the place of each in bytes is one that the system knows.
+const UNITS: u64 = 1 << 58;
+
+/// Fills `into` from a byte on, where one read didn't.
+#[cold]
+#[inline(never)]
+fn fill_again(file: &fs::File, offset: u64, into: &mut [u8]) -> Result<(), Failed> {
+    match file.read_exact_at(into, offset) {
+        Ok(()) => Ok(()),
+        Err(_) => Err(Failed),
+    }
+}
+
+/// Fills `into` from a byte on. One read does, unless a signal or the file's end cuts it short.
+fn fill(file: &fs::File, offset: u64, into: &mut [u8]) -> Result<(), Failed> {
+    match file.read_at(into, offset) {
+        Ok(count) if count == into.len() => Ok(()),
+        _ => fill_again(file, offset, into),
+    }
+}
+
+/// Makes the names of a folder last.
+fn sync_folder<R: Files<File = fs::File>>(rt: &R, folder: &str) -> Result<(), Failed> {
+    match fs::open(rt, folder) {
+        Ok(opened) if opened.sync_all().is_ok() => Ok(()),
+        _ => Err(Failed),
     }
 }
 
@@ -37,60 +61,83 @@ impl RealFile {
             file: None,
             can_write: false,
             is_absent: false,
+            units: None,
             is_new: false,
             read: 0,
         })
     }
 
-    /// Opens the file for reading, and says whether it is there. One that isn't there is looked for once.
-    fn open_to_read<R: Files<File = fs::File>>(&mut self, rt: &R) -> io::Result<bool>
+    /// Looks for the file, which isn't open, and opens it for reading, if it is there. One that isn't there is looked for once.
+    #[cold]
+    #[inline(never)]
+    fn look<R: Files<File = fs::File>>(&mut self, rt: &R) -> Result<(), Failed>
         ensures { self.new.read ≡ self.old.read }
     {
-        if self.file.is_some() {
-            return Ok(true);
-        }
         if self.is_absent {
-            return Ok(false);
+            return Ok(());
         }
         match fs::open(rt, self.path.as_str()) {
             Ok(file) => {
                 self.file = Some(file);
-                Ok(true)
+                Ok(())
             }
             Err(error) if error.kind() == ErrorKind::NotFound => {
                 self.is_absent = true;
-                Ok(false)
+                Ok(())
             }
-            Err(error) => Err(error),
+            Err(_) => Err(Failed),
         }
     }
 
+    /// Opens the file for reading, if it is there.
+    fn open_to_read<R: Files<File = fs::File>>(&mut self, rt: &R) -> Result<(), Failed>
+        ensures { self.new.read ≡ self.old.read }
+    {
+        if self.file.is_some() {
+            return Ok(());
+        }
+        self.look(rt)
+    }
+
     /// Opens the file for reading and writing, and makes it where it isn't there.
-    fn open_to_write<R: Files<File = fs::File>>(&mut self, rt: &R) -> io::Result<()>
+    fn open_to_write<R: Files<File = fs::File>>(&mut self, rt: &R) -> Result<(), Failed>
         ensures { self.new.read ≡ self.old.read }
     {
         if self.can_write {
             return Ok(());
         }
-        let is_there = self.open_to_read(rt)?;
+        self.open_to_read(rt)?;
+        let is_new = self.file.is_none();
         let mut how = OpenOptions::new();
         how.read(true).write(true).create(true);
-        self.file = Some(how.open(rt, self.path.as_str())?);
+        let Ok(file) = how.open(rt, self.path.as_str()) else {
+            return Err(Failed);
+        };
+        self.file = Some(file);
         self.can_write = true;
         self.is_absent = false;
-        self.is_new = !is_there;
+        self.is_new = is_new;
         Ok(())
     }
 
-    /// The number of its whole units: none where it isn't there.
-    pub fn units<R: Files<File = fs::File>>(&mut self, rt: &R) -> io::Result<u64>
+    /// The number of its whole units: none where it isn't there. The system is asked once between two writes.
+    pub fn units<R: Files<File = fs::File>>(&mut self, rt: &R) -> Result<u64, Failed>
         ensures { self.new.read ≡ self.old.read }
     {
+        if let Some(units) = self.units {
+            return Ok(units);
+        }
         self.open_to_read(rt)?;
         match &mut self.file {
             None => Ok(0),
             // Where the end is costs less to ask than all that is known of the file. Each read and write says its own place.
-            Some(file) => Ok(file.seek(SeekFrom::End(0))? / 16),
+            Some(file) => match file.seek(SeekFrom::End(0)) {
+                Ok(end) => {
+                    self.units = Some(end / 16);
+                    Ok(end / 16)
+                }
+                Err(_) => Err(Failed),
+            },
         }
     }
 
@@ -100,16 +147,15 @@ impl RealFile {
         rt: &R,
         unit: u64,
         into: &mut [u8],
-    ) -> io::Result<()>
+    ) -> Result<(), Failed>
         ensures read { self.new.read ≡ min (self.old.read + length into.old) (2 ^ 64 - 1) }
         ensures later { self.old.read ≤ self.new.read }
     {
         self.read = self.read.saturating_add(into.len() as u64);
-        let offset = offset_of(unit)?;
         self.open_to_read(rt)?;
         match &self.file {
-            None => Err(io::Error::from(ErrorKind::UnexpectedEof)),
-            Some(file) => file.read_exact_at(into, offset),
+            Some(file) if unit < UNITS => fill(file, 16 * unit, into),
+            _ => Err(Failed),
         }
     }
 
@@ -119,27 +165,32 @@ impl RealFile {
         rt: &R,
         unit: u64,
         bytes: &[u8],
-    ) -> io::Result<()>
+    ) -> Result<(), Failed>
         ensures { self.new.read ≡ self.old.read }
     {
-        let offset = offset_of(unit)?;
+        if unit >= UNITS {
+            return Err(Failed);
+        }
         self.open_to_write(rt)?;
+        self.units = None;
         match &self.file {
-            None => Err(io::Error::from(ErrorKind::NotFound)),
-            Some(file) => file.write_all_at(bytes, offset),
+            Some(file) if file.write_all_at(bytes, 16 * unit).is_ok() => Ok(()),
+            _ => Err(Failed),
         }
     }
 
     /// Makes what was written last, and the file's name with it where the file is new.
-    pub fn sync<R: Files<File = fs::File>>(&mut self, rt: &R, folder: &str) -> io::Result<()>
+    pub fn sync<R: Files<File = fs::File>>(&mut self, rt: &R, folder: &str) -> Result<(), Failed>
         ensures { self.new.read ≡ self.old.read }
     {
         self.open_to_read(rt)?;
-        if let Some(file) = &self.file {
-            file.sync_all()?;
+        if let Some(file) = &self.file
+            && file.sync_all().is_err()
+        {
+            return Err(Failed);
         }
         if self.is_new {
-            fs::open(rt, folder)?.sync_all()?;
+            sync_folder(rt, folder)?;
             self.is_new = false;
         }
         Ok(())
