@@ -1,7 +1,7 @@
 -- How a glob is gone through: only the last star is tried again.
-use Rattle.std.proofs.Common.{◌≡◌, ◌≢◌, ℕ, zero, suc, ◌-◌, ◌<◌, List, [], ◌∷◌, length, drop, get_or, Bool, true, false, ◌&&◌, ◌||◌, Option, Some, None, refl, sym, ap, ◌∙◌, inl, inr, arith}
+use Rattle.std.proofs.Common.{◌≡◌, ◌≢◌, ℕ, List, [], ◌∷◌, Bool, true, false, ◌&&◌, ◌||◌, Option, Some, None, refl, sym, ap, ◌∙◌, inl, inr}
 use Rattle.std.proofs.lemmas.Bool.{cases_Bool}
-use Rattle.rpm_select.specs.Glob.{Piece, Star, Question, Byte, Set, takes, stands_for, pieces, pieces_behind, piece_at, Written}
+use Rattle.rpm_select.specs.Glob.{Piece, Star, Question, Byte, Set, takes, stands_for}
 
 -- ---- what a star stands for
 
@@ -136,26 +136,3 @@ short r all p ps whole back other is cut goes =
       | inl more ↦ absurd (none_at_end p ps other (rw (is, cut) at (goes.enough more)))
       | inr none ↦ none
     ]) goes
-
--- ---- the pieces, one by one
-
-behind_is : (n : ℕ) (xs : List ℕ) → pieces_behind n xs ≡ pieces_behind 0 (drop n xs)
-unfolding pieces_behind
-behind_is zero xs = refl
-behind_is (suc n) [] = refl
-behind_is (suc n) (x ∷ xs) = behind_is n xs
-
-pub none_cut : (xs : List ℕ) → length xs ≡ 0 → pieces xs ≡ []
-unfolding pieces_behind
-none_cut [] none = refl
-none_cut (x ∷ xs) none = absurd (omega arith)
-
-pub one_cut : (xs : List ℕ) (w : Written) (d : ℕ) → 0 < length xs → w ≡ piece_at (get_or xs 0 d) (drop 1 xs) → 0 < w.size
-    → pieces xs ≡ w.piece ∷ pieces (drop w.size xs)
-unfolding pieces_behind
-one_cut [] w d some is more = absurd (omega arith)
-one_cut (x ∷ xs) w d some is more =
-    let step : suc (w.size - 1) ≡ w.size = omega arith in
-    let rest : pieces_behind (w.size - 1) xs ≡ pieces_behind 0 (drop w.size (x ∷ xs)) =
-    behind_is (w.size - 1) xs ∙ ap (λ (n : ℕ). pieces_behind 0 (drop n (x ∷ xs))) step in
-    ap (λ (v : Written). v.piece ∷ pieces_behind (v.size - 1) xs) (sym is) ∙ ap (λ (ps : List Piece). w.piece ∷ ps) rest

@@ -5,12 +5,15 @@ pub mod Elsewhere
 pub mod Fixtures
 pub mod Going
 pub mod Having
+pub mod Hits
 pub mod Members
 pub mod Numbering
 pub mod Owning
 pub mod Passing
 pub mod Picking
+pub mod Pieces
 pub mod Rising
 pub mod Searching
 pub mod Serving
 pub mod Unclosed
+pub mod Unpicked

@@ -1,5 +1,5 @@
 -- The packages that are picked above a number.
-use Rattle.std.proofs.Common.{◌≡◌, ℕ, ◌≤◌, ◌==◌, nat_lt, ◌||◌, List, [], ◌∷◌, Bool, false, Some, drop, zero, suc, ◌+◌, refl, ap, inl, inr, arith}
+use Rattle.std.proofs.Common.{◌≡◌, ℕ, ◌≤◌, ◌==◌, nat_lt, ◌||◌, List, [], ◌∷◌, Bool, false, Some, drop, zero, suc, ◌+◌, refl, inl, inr, arith}
 use Rattle.std.specs.Prelude.{slice_get, nat_le}
 use Rattle.std.specs.Ordering.{nat_cmp}
 use Rattle.std.specs.FinMap as finite

@@ -67,6 +67,28 @@ pub enum Picked {
     Bad { number: u32 },
 }
 
+impl Picked {
+    /// The number of the package.
+    pub fn number(&self) -> u32
+        ensures { result ≡ number_in self.now }
+    {
+        match self {
+            Picked::Good { number, .. } => *number,
+            Picked::Bad { number } => *number,
+        }
+    }
+
+    /// The number of the package, which is let go.
+    pub fn into_number(self) -> u32
+        ensures { result ≡ number_in self }
+    {
+        match self {
+            Picked::Good { number, .. } => number,
+            Picked::Bad { number } => number,
+        }
+    }
+}
+
 /// Why nothing is picked.
 #[derive(Clone, Copy, Debug, PartialEq, Eq, Error)]
 pub enum PickFault {

@@ -1,3 +1,4 @@
+mod Reading
 use Rattle.std.proofs.Common.{None, Ok, refl, sym, ap, subst, ◌∙◌, arith}
 use Rattle.std.specs.FinMap as finite
 use Rattle.rpm_outside.specs.Files.{Files}
@@ -6,11 +7,12 @@ use Rattle.rpm_db.specs.State.{packages}
 use Rattle.rpm_db.specs.Database.{cost, cost_to}
 use Rattle.rpm_db.specs.inner.Laws.{cost_more, cost_up}
 use Rattle.rpm_outside.specs.declared.disk.File.TheVariants.{Pkg}
-use Rattle.rpm_select.proofs.Owning.{own_then, own_all}
+use Rattle.rpm_select.proofs.Owning.{own_then}
 use Rattle.rpm_select.specs.inner.Single.{OneOf}
-use Rattle.rpm_select.specs.inner.Costing.{reach_more, reach_up}
+use Rattle.rpm_select.specs.inner.Costing.{reach_more}
 use Rattle.rpm_select.proofs.Passing.{found_one, passed_next, none_next, none_to, one_to}
 use Rattle.rpm_select.proofs.Picking.{any_to, above_picks}
+use Rattle.rpm_select.proofs.picker.Picker.any_to.Answers.Reading as reading
 use Rattle.rpm_select.proofs.picker.Picker.any_to.Goals as goal
 
 pub loop-next-init : goal.loop-next-init
@@ -55,26 +57,10 @@ returns-in-Ok-Some-clause-told g c = λ told serves.
     ∙ one_to c.args.self.now file db sel serves n k m _ c.in-Some.ensures found c.if-next-n.false)
 
 pub returns-in-Ok-Some-clause-looks : goal.returns-in-Ok-Some-clause-looks
-returns-in-Ok-Some-clause-looks g c =
-    let db = c.args.db.now in
-    let k = c.loop-next.passed in
-    let m = c.in-Some.next in
-    let more = cost_more db k m c.in-Some.ensures.0 in
-    let up = cost_up db m c.args.n c.if-next-n.false in
-    looks_then g.D.Disk.tells g.D.Disk.files g.D.Disk.left_since g.D.Disk.moment g.D.Disk.bytes_read g.D.Disk.follows Pkg g.met.D.Disk.follows_trans
-    (cost_to k db) (cost m db) (cost_to c.args.n db) c.args.disk.now c.loop-next.disk c.pick.new.disk
-    (omega (arith, more, up)) c.loop-next.invariant.looks c.in-Ok-Some.ensures.looks
+returns-in-Ok-Some-clause-looks = reading.returns-in-Ok-Some-clause-looks
 
 pub returns-in-Err-clause-looks : goal.returns-in-Err-clause-looks
-returns-in-Err-clause-looks g c =
-    let db = c.args.db.now in
-    let k = c.loop-next.passed in
-    let m = c.in-Some.next in
-    let more = cost_more db k m c.in-Some.ensures.0 in
-    let up = cost_up db m c.args.n c.if-next-n.false in
-    looks_then g.D.Disk.tells g.D.Disk.files g.D.Disk.left_since g.D.Disk.moment g.D.Disk.bytes_read g.D.Disk.follows Pkg g.met.D.Disk.follows_trans
-    (cost_to k db) (cost m db) (cost_to c.args.n db) c.args.disk.now c.loop-next.disk c.pick.new.disk
-    (omega (arith, more, up)) c.loop-next.invariant.looks c.in-Err.ensures.looks
+returns-in-Err-clause-looks = reading.returns-in-Err-clause-looks
 
 pub loop-next-preserved-in-Ok-None-3 : goal.loop-next-preserved-in-Ok-None-3
 loop-next-preserved-in-Ok-None-3 g c =
@@ -113,61 +99,25 @@ returns-clause-told g c = λ told serves.
     ∙ none_next c.args.self.now file db c.args.selection.now serves c.loop-next.passed c.in_default.ensures))
 
 pub returns-clause-reads : goal.returns-clause-reads
-returns-clause-reads g c =
-    omega (arith, c.loop-next.invariant.reads, reach_up c.args.self.now c.args.db.now c.loop-next.passed c.args.n c.loop-next.invariant.below)
+returns-clause-reads = reading.returns-clause-reads
 
 pub returns-then-next-n-clause-reads : goal.returns-then-next-n-clause-reads
-returns-then-next-n-clause-reads g c =
-    omega (arith, c.loop-next.invariant.reads, reach_up c.args.self.now c.args.db.now c.loop-next.passed c.args.n c.loop-next.invariant.below)
+returns-then-next-n-clause-reads = reading.returns-then-next-n-clause-reads
 
 pub returns-in-Err-clause-reads : goal.returns-in-Err-clause-reads
-returns-in-Err-clause-reads g c =
-    let r = c.args.self.now in
-    let db = c.args.db.now in
-    let m = c.in-Some.next in
-    omega (
-      arith,
-      c.loop-next.invariant.reads,
-      c.in-Err.ensures.looks.reads.pkg,
-      reach_more r db c.loop-next.passed m c.in-Some.ensures,
-      reach_up r db m c.args.n c.if-next-n.false,
-    )
+returns-in-Err-clause-reads = reading.returns-in-Err-clause-reads
 
 pub returns-in-Ok-Some-clause-reads : goal.returns-in-Ok-Some-clause-reads
-returns-in-Ok-Some-clause-reads g c =
-    let r = c.args.self.now in
-    let db = c.args.db.now in
-    let m = c.in-Some.next in
-    omega (
-      arith,
-      c.loop-next.invariant.reads,
-      c.in-Ok-Some.ensures.looks.reads.pkg,
-      reach_more r db c.loop-next.passed m c.in-Some.ensures,
-      reach_up r db m c.args.n c.if-next-n.false,
-    )
+returns-in-Ok-Some-clause-reads = reading.returns-in-Ok-Some-clause-reads
 
 pub returns-in-Ok-Some-clause-own : goal.returns-in-Ok-Some-clause-own
-returns-in-Ok-Some-clause-own g c =
-    let done = c.in-Ok-Some.ensures in
-    own_all c.args.selection.now c.args.db.now c.in-Some.next (g.D.Disk.bytes_read c.args.disk.now Pkg) (g.D.Disk.bytes_read c.pick.new.disk Pkg)
-    (own_then c.args.selection.now c.args.db.now c.loop-next.passed c.in-Some.next (g.D.Disk.bytes_read c.args.disk.now Pkg)
-    (g.D.Disk.bytes_read c.loop-next.disk Pkg) (g.D.Disk.bytes_read c.pick.new.disk Pkg)
-    c.in-Some.ensures.0 c.loop-next.invariant.own done.looks.reads.pkg done.unread)
+returns-in-Ok-Some-clause-own = reading.returns-in-Ok-Some-clause-own
 
 pub returns-in-Err-clause-own : goal.returns-in-Err-clause-own
-returns-in-Err-clause-own g c =
-    let done = c.in-Err.ensures in
-    own_all c.args.selection.now c.args.db.now c.in-Some.next (g.D.Disk.bytes_read c.args.disk.now Pkg) (g.D.Disk.bytes_read c.pick.new.disk Pkg)
-    (own_then c.args.selection.now c.args.db.now c.loop-next.passed c.in-Some.next (g.D.Disk.bytes_read c.args.disk.now Pkg)
-    (g.D.Disk.bytes_read c.loop-next.disk Pkg) (g.D.Disk.bytes_read c.pick.new.disk Pkg)
-    c.in-Some.ensures.0 c.loop-next.invariant.own done.looks.reads.pkg done.unread)
+returns-in-Err-clause-own = reading.returns-in-Err-clause-own
 
 pub returns-clause-own : goal.returns-clause-own
-returns-clause-own g c =
-    own_all c.args.selection.now c.args.db.now c.loop-next.passed (g.D.Disk.bytes_read c.args.disk.now Pkg)
-    (g.D.Disk.bytes_read c.loop-next.disk Pkg) c.loop-next.invariant.own
+returns-clause-own = reading.returns-clause-own
 
 pub returns-then-next-n-clause-own : goal.returns-then-next-n-clause-own
-returns-then-next-n-clause-own g c =
-    own_all c.args.selection.now c.args.db.now c.loop-next.passed (g.D.Disk.bytes_read c.args.disk.now Pkg)
-    (g.D.Disk.bytes_read c.loop-next.disk Pkg) c.loop-next.invariant.own
+returns-then-next-n-clause-own = reading.returns-then-next-n-clause-own

@@ -1,0 +1,103 @@
+-- What going to the next one reads.
+use Rattle.std.proofs.Common.{◌≡◌, ℕ, ◌-◌, sym, ap, subst, arith}
+use Rattle.rpm_outside.specs.Looks.{Looks}
+use Rattle.rpm_outside.specs.inner.Looking.{looks_then, looks_more}
+use Rattle.rpm_db.specs.Database.{cost, cost_to, cost_all}
+use Rattle.rpm_db.specs.inner.Laws.{cost_more, cost_some}
+use Rattle.rpm_outside.specs.declared.disk.File.TheVariants.{Pkg}
+use Rattle.rpm_select.proofs.Owning.{own_then, own_all}
+use Rattle.rpm_select.specs.Picks.{number_in}
+use Rattle.rpm_select.specs.Reach.{reach_to}
+use Rattle.rpm_select.specs.inner.Costing.{reach_more, reach_some}
+use Rattle.rpm_select.proofs.picker.Picker.next_after.Goals as goal
+
+pub returns-in-Ok-Some-clause-looks : goal.returns-in-Ok-Some-clause-looks
+returns-in-Ok-Some-clause-looks g c =
+    let db = c.args.db.now in
+    let n = c.args.n in
+    let k = c.loop-next.passed in
+    let m = c.in-Some.next in
+    let inv = c.loop-next.invariant in
+    let more = cost_more db k m c.in-Some.ensures.0 in
+    let number = rw c.in-Ok-Some.field-0-is at c.in-Ok-Some.ensures.numbered in
+    subst (λ (i : ℕ). Looks g.D.Disk.tells g.D.Disk.files g.D.Disk.left_since g.D.Disk.moment g.D.Disk.bytes_read g.D.Disk.follows Pkg
+    (cost_to i db - cost_to n db) c.args.disk.now c.pick.new.disk) (sym number)
+    (looks_then g.D.Disk.tells g.D.Disk.files g.D.Disk.left_since g.D.Disk.moment g.D.Disk.bytes_read g.D.Disk.follows Pkg g.met.D.Disk.follows_trans
+    (cost_to k db - cost_to n db) (cost m db) (cost_to m db - cost_to n db) c.args.disk.now c.loop-next.disk c.pick.new.disk
+    (omega (arith, more, inv.more)) inv.looks c.in-Ok-Some.ensures.looks)
+
+pub returns-in-Err-clause-looks : goal.returns-in-Err-clause-looks
+returns-in-Err-clause-looks g c =
+    let db = c.args.db.now in
+    let n = c.args.n in
+    let k = c.loop-next.passed in
+    let m = c.in-Some.next in
+    let inv = c.loop-next.invariant in
+    let more = cost_more db k m c.in-Some.ensures.0 in
+    let all = cost_some db m in
+    looks_then g.D.Disk.tells g.D.Disk.files g.D.Disk.left_since g.D.Disk.moment g.D.Disk.bytes_read g.D.Disk.follows Pkg g.met.D.Disk.follows_trans
+    (cost_to k db - cost_to n db) (cost m db) (cost_all db - cost_to n db) c.args.disk.now c.loop-next.disk c.pick.new.disk
+    (omega (arith, more, all, inv.more)) inv.looks c.in-Err.ensures.looks
+
+pub returns-clause-reads : goal.returns-clause-reads
+returns-clause-reads g c =
+    omega (arith, c.loop-next.invariant.reads, reach_some c.args.self.now c.args.db.now c.loop-next.passed)
+
+pub returns-in-Err-clause-reads : goal.returns-in-Err-clause-reads
+returns-in-Err-clause-reads g c =
+    let r = c.args.self.now in
+    let db = c.args.db.now in
+    let m = c.in-Some.next in
+    omega (
+      arith,
+      c.loop-next.invariant.reads,
+      c.loop-next.invariant.up,
+      c.in-Err.ensures.looks.reads.pkg,
+      reach_more r db c.loop-next.passed m c.in-Some.ensures,
+      reach_some r db m,
+    )
+
+pub returns-in-Ok-Some-clause-reads : goal.returns-in-Ok-Some-clause-reads
+returns-in-Ok-Some-clause-reads g c =
+    let r = c.args.self.now in
+    let db = c.args.db.now in
+    let m = c.in-Some.next in
+    let number = rw c.in-Ok-Some.field-0-is at c.in-Ok-Some.ensures.numbered in
+    let same : reach_to (number_in c.in-Ok-Some.picked) r db ≡ reach_to m r db = ap (λ (i : ℕ). reach_to i r db) number in
+    omega (
+      arith,
+      same,
+      c.loop-next.invariant.reads,
+      c.loop-next.invariant.up,
+      c.in-Ok-Some.ensures.looks.reads.pkg,
+      reach_more r db c.loop-next.passed m c.in-Some.ensures,
+    )
+
+pub returns-clause-looks : goal.returns-clause-looks
+returns-clause-looks g c =
+    let db = c.args.db.now in
+    let all = cost_some db c.loop-next.passed in
+    looks_more g.D.Disk.tells g.D.Disk.files g.D.Disk.left_since g.D.Disk.moment g.D.Disk.bytes_read g.D.Disk.follows Pkg
+    (cost_to c.loop-next.passed db - cost_to c.args.n db) (cost_all db - cost_to c.args.n db) c.args.disk.now c.loop-next.disk
+    (omega (arith, all)) c.loop-next.invariant.looks
+
+pub returns-in-Ok-Some-clause-own : goal.returns-in-Ok-Some-clause-own
+returns-in-Ok-Some-clause-own g c =
+    let done = c.in-Ok-Some.ensures in
+    own_all c.args.selection.now c.args.db.now c.in-Some.next (g.D.Disk.bytes_read c.args.disk.now Pkg) (g.D.Disk.bytes_read c.pick.new.disk Pkg)
+    (own_then c.args.selection.now c.args.db.now c.loop-next.passed c.in-Some.next (g.D.Disk.bytes_read c.args.disk.now Pkg)
+    (g.D.Disk.bytes_read c.loop-next.disk Pkg) (g.D.Disk.bytes_read c.pick.new.disk Pkg)
+    c.in-Some.ensures.0 c.loop-next.invariant.own done.looks.reads.pkg done.unread)
+
+pub returns-in-Err-clause-own : goal.returns-in-Err-clause-own
+returns-in-Err-clause-own g c =
+    let done = c.in-Err.ensures in
+    own_all c.args.selection.now c.args.db.now c.in-Some.next (g.D.Disk.bytes_read c.args.disk.now Pkg) (g.D.Disk.bytes_read c.pick.new.disk Pkg)
+    (own_then c.args.selection.now c.args.db.now c.loop-next.passed c.in-Some.next (g.D.Disk.bytes_read c.args.disk.now Pkg)
+    (g.D.Disk.bytes_read c.loop-next.disk Pkg) (g.D.Disk.bytes_read c.pick.new.disk Pkg)
+    c.in-Some.ensures.0 c.loop-next.invariant.own done.looks.reads.pkg done.unread)
+
+pub returns-clause-own : goal.returns-clause-own
+returns-clause-own g c =
+    own_all c.args.selection.now c.args.db.now c.loop-next.passed (g.D.Disk.bytes_read c.args.disk.now Pkg)
+    (g.D.Disk.bytes_read c.loop-next.disk Pkg) c.loop-next.invariant.own
