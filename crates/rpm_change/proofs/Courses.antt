@@ -1,17 +1,16 @@
 -- Courses one after the other, and how far they went.
-use Rattle.std.proofs.Common.{◌≡◌, ℕ, ◌+◌, ◌<◌, ◌≤◌, Bool, true, false, List, [], ◌∷◌, ◌++◌, Err, length, drop, get_or, add-one, refl, sym, ap, ◌∙◌, subst, append_assoc, length-append, arith, inl, inr}
-use Rattle.std.proofs.lemmas.List.{append-nil, drop_all}
-use Rattle.std.proofs.Math.Seq.{drop-cons}
+use Rattle.std.proofs.Common.{◌≡◌, ℕ, ◌+◌, Bool, true, false, List, [], ◌∷◌, ◌++◌, Err, length, refl, sym, ap, ◌∙◌, subst, append_assoc, length-append, arith}
+use Rattle.std.proofs.lemmas.List.{append-nil}
 use Rattle.std.specs.List.{flat_map}
 use Rattle.std.proofs.lemmas.Grind.{flat_map-append}
 use Rattle.rpm_outside.specs.inner.Taken.{gained_none, gained_more}
-use Rattle.rpm_db.specs.Changes.{Change, apply}
 use Rattle.rpm_db.specs.State.{State}
 use Rattle.rpm_change.specs.declared.tally.Tally.{Tally}
 use Rattle.rpm_change.specs.declared.tally.Halt.{Halt}
 use Rattle.rpm_change.specs.declared.tally.Halt.TheVariants as halt
-use Rattle.rpm_change.specs.Steps.{Step, Course, out_bytes, err_bytes, cut, idle, joined, apply_all, in_turn}
-use Rattle.rpm_change.specs.Endings.{outputs, Through, ThroughSome, StoppedWithin, Done, Ended, AllHaveRoom, IsFullAt, IndexTurn}
+use Rattle.rpm_change.specs.Steps.{Step, Course, out_bytes, err_bytes, cut, idle, joined, apply_all}
+use Rattle.rpm_change.specs.Endings.{outputs, Through, ThroughSome, StoppedWithin, Done, Ended, AllHaveRoom, IndexTurn}
+use Rattle.rpm_change.proofs.Rooms.{apply_all-append, room_more, turn_first, turn_later}
 
 -- ---- steps
 
@@ -25,49 +24,6 @@ module _ {ot et : Bool} where
     out = rw flat_map-append (gained_more ot o o' o'' (flat_map out_bytes done) (flat_map out_bytes more) p.out q.out);
     err = rw flat_map-append (gained_more et e e' e'' (flat_map err_bytes done) (flat_map err_bytes more) p.err q.err);
   }
-
--- ---- changes
-
-pub apply_all-append : (xs ys : List Change) (s : State) → apply_all (xs ++ ys) s ≡ apply_all ys (apply_all xs s)
-apply_all-append [] ys s = refl
-apply_all-append (x ∷ xs) ys s = apply_all-append xs ys (apply x s)
-
-room_more : (xs ys : List Change) (s : State) → AllHaveRoom s xs → AllHaveRoom (apply_all xs s) ys → AllHaveRoom s (xs ++ ys)
-room_more [] ys s p q = q
-room_more (x ∷ xs) ys s p q = (p.0, room_more xs ys (apply x s) p.1 q)
-
-full_later : (told : ℕ) (xs ys : List Change) (s : State) → AllHaveRoom s xs → IsFullAt told (apply_all xs s) ys → IsFullAt told s (xs ++ ys)
-full_later told [] ys s p q = q
-full_later told (x ∷ xs) ys s p q = inr (p.0, full_later told xs ys (apply x s) p.1 q)
-
-full_first : (told : ℕ) (xs ys : List Change) (s : State) → IsFullAt told s xs → IsFullAt told s (xs ++ ys)
-full_first told [] ys s q = absurd q
-full_first told (x ∷ xs) ys s (inl here) = inl here
-full_first told (x ∷ xs) ys s (inr later) = inr (later.0, full_first told xs ys (apply x s) later.1)
-
-turn_later : (xs ys : List Change) (s : State) (h : Halt) → AllHaveRoom s xs → IndexTurn (apply_all xs s) ys (Err h) → IndexTurn s (xs ++ ys) (Err h)
-turn_later xs ys s (halt.IndexFull told) p q = full_later told xs ys s p q
-turn_later xs ys s (halt.BadIndex unit) p q = q
-turn_later xs ys s halt.NumbersSpent p q = tt
-turn_later xs ys s halt.GenerationSpent p q = tt
-turn_later xs ys s halt.StoreFull p q = tt
-turn_later xs ys s halt.DiskFault p q = tt
-turn_later xs ys s halt.ShelfFault p q = tt
-turn_later xs ys s halt.OutFault p q = tt
-turn_later xs ys s halt.ErrFault p q = tt
-turn_later xs ys s halt.NoMemory p q = tt
-
-turn_first : (xs ys : List Change) (s : State) (h : Halt) → IndexTurn s xs (Err h) → IndexTurn s (xs ++ ys) (Err h)
-turn_first xs ys s (halt.IndexFull told) q = full_first told xs ys s q
-turn_first xs ys s (halt.BadIndex unit) q = q
-turn_first xs ys s halt.NumbersSpent q = tt
-turn_first xs ys s halt.GenerationSpent q = tt
-turn_first xs ys s halt.StoreFull q = tt
-turn_first xs ys s halt.DiskFault q = tt
-turn_first xs ys s halt.ShelfFault q = tt
-turn_first xs ys s halt.OutFault q = tt
-turn_first xs ys s halt.ErrFault q = tt
-turn_first xs ys s halt.NoMemory q = tt
 
 -- ---- courses
 
@@ -183,15 +139,3 @@ module _ (ot et : Bool) (P : Type 0) (all left : Course) (s t : State) (failed c
 
   pub halfway_room : P → AllHaveRoom s all.changes
   halfway_room p = subst (λ (c : Course). AllHaveRoom s c.changes) same (g.rooms p)
-
--- ---- arguments
-
--- the argument at a place and those behind it
-pub turn_next : {X : Type 0} (each : State → ℕ → X → Course) (xs : List X) (k : ℕ) (d : X) (t u : State) → k < length xs
-    → u ≡ apply_all (each t k (get_or xs k d)).changes t
-    → in_turn each t k (drop k xs) ≡ joined (each t k (get_or xs k d)) (in_turn each u (k + 1) (drop (k + 1) xs))
-turn_next each xs k d t u below is =
-    ap (in_turn each t k) (drop-cons xs k d below) ∙ rw (← is, add-one k) refl
-
-pub turn_none : {X : Type 0} (each : State → ℕ → X → Course) (xs : List X) (k : ℕ) (t : State) → length xs ≤ k → in_turn each t k (drop k xs) ≡ idle
-turn_none each xs k t past = ap (in_turn each t k) (drop_all k xs past)

@@ -1,4 +1,5 @@
 pub mod Added
+pub mod Arguments
 pub mod Bounds
 pub mod Courses
 pub mod Dropped
@@ -10,6 +11,7 @@ pub mod Limits
 pub mod Listed
 pub mod Placed
 pub mod Rebuilt
+pub mod Rooms
 pub mod Stops
 pub mod Taken
 pub mod Told

@@ -10,7 +10,8 @@ use Rattle.rpm_change.specs.Erasing.{erase_one, erase}
 use Rattle.rpm_change.specs.Limits.{LimitsTurn}
 use Rattle.rpm_change.specs.Steps.{Course, idle, joined, in_turn, apply_all}
 use Rattle.rpm_change.specs.inner.LimitLaws.{limits_none, limits_more, limits_stop, limits_counted}
-use Rattle.rpm_change.proofs.Courses.{apply_all-append, turn_next}
+use Rattle.rpm_change.proofs.Arguments.{turn_next}
+use Rattle.rpm_change.proofs.Rooms.{apply_all-append}
 use Rattle.rpm_change.proofs.Filed.{bytes, nothing, path_next}
 
 -- ---- a command

@@ -1,3 +1,4 @@
+mod Stopped
 use Rattle.std.proofs.Common.{◌+◌, true, [], map, get_or, drop, refl, ◌∙◌, subst, Ok, arith}
 use Rattle.rpm_outside.specs.Buffered.{inner}
 use Rattle.rpm_outside.specs.Shelves.{Paths}
@@ -9,10 +10,11 @@ use Rattle.rpm_change.specs.Adding.{add_file, add_files}
 use Rattle.rpm_change.specs.Endings.{outputs, Done, AllHaveRoom}
 use Rattle.rpm_change.specs.Limits.{LimitsTurn}
 use Rattle.rpm_change.specs.Steps.{in_turn}
-use Rattle.rpm_change.proofs.Added.{files_stop, files_turn, files_limits, files_end, files_room}
+use Rattle.rpm_change.proofs.Added.{files_end, files_room}
 use Rattle.rpm_change.proofs.Courses.{halfway_start, halfway_more}
 use Rattle.rpm_change.proofs.Filed.{bytes, nothing, path_next, path_none}
 use Rattle.rpm_change.proofs.Limits.{limited_start, limited_more, limited_end}
+use Rattle.rpm_change.proofs.add.add_files.Answers.Stopped as stopped
 use Rattle.rpm_change.proofs.add.add_files.Goals as goal
 
 pub loop-path-init : goal.loop-path-init
@@ -87,41 +89,22 @@ loop-path-preserved g c =
     }
 
 pub returns-in-Err-clause-ended : goal.returns-in-Err-clause-ended
-returns-in-Err-clause-ended g c = λ told shelf_told out_tells out.
-    files_stop c.args.now _ _ c.args.paths.now c.loop-path.path-index _ _ (c.loop-path.invariant.paths shelf_told) out_tells g.E.Sink.tells
-    (IsIndexed (g.D.Disk.files c.args.disk.now).pkg (g.D.Disk.files c.args.disk.now).idx c.args.db.now)
-    (state (g.D.Disk.files c.put_file.new.disk).pkg c.put_file.new.db.store) _ _ out out out _ _ (g.E.Sink.taken (inner c.put_file.new.err)) (omega arith)
-    (c.loop-path.invariant.goes told shelf_told out_tells out) c.in-Err.halt
-    (c.in-Err.ensures.ended told shelf_told c.loop-path.path-index out_tells out)
+returns-in-Err-clause-ended = stopped.returns-in-Err-clause-ended
 
 pub returns-in-Err-clause-room : goal.returns-in-Err-clause-room
-returns-in-Err-clause-room g c = λ told shelf_told rows.
-    files_turn c.args.now _ _ c.args.paths.now c.loop-path.path-index _ _ (c.loop-path.invariant.paths shelf_told) true g.E.Sink.tells
-    (IsIndexed (g.D.Disk.files c.args.disk.now).pkg (g.D.Disk.files c.args.disk.now).idx c.args.db.now)
-    (state (g.D.Disk.files c.put_file.new.disk).pkg c.put_file.new.db.store) _ _ [] [] [] _ _ (g.E.Sink.taken (inner c.put_file.new.err)) (omega arith)
-    (c.loop-path.invariant.goes told shelf_told true []) c.in-Err.halt rows
-    (c.in-Err.ensures.room told shelf_told (c.loop-path.invariant.carried.index told rows) c.loop-path.path-index)
+returns-in-Err-clause-room = stopped.returns-in-Err-clause-room
 
 pub returns-in-Err-clause-numbers : goal.returns-in-Err-clause-numbers
-returns-in-Err-clause-numbers g c = λ told shelf_told.
-    (files_limits c.args.now _ _ c.args.paths.now c.loop-path.path-index _ _ (c.loop-path.invariant.paths shelf_told) _ _ _ (omega arith)
-    (c.loop-path.invariant.limited told shelf_told) c.in-Err.halt (c.in-Err.ensures.limits told shelf_told c.loop-path.path-index)).numbers
+returns-in-Err-clause-numbers = stopped.returns-in-Err-clause-numbers
 
 pub returns-in-Err-clause-generation : goal.returns-in-Err-clause-generation
-returns-in-Err-clause-generation g c = λ told shelf_told.
-    (files_limits c.args.now _ _ c.args.paths.now c.loop-path.path-index _ _ (c.loop-path.invariant.paths shelf_told) _ _ _ (omega arith)
-    (c.loop-path.invariant.limited told shelf_told) c.in-Err.halt (c.in-Err.ensures.limits told shelf_told c.loop-path.path-index)).generation
+returns-in-Err-clause-generation = stopped.returns-in-Err-clause-generation
 
 pub returns-in-Err-clause-store_room : goal.returns-in-Err-clause-store_room
-returns-in-Err-clause-store_room g c = λ told shelf_told.
-    (files_limits c.args.now _ _ c.args.paths.now c.loop-path.path-index _ _ (c.loop-path.invariant.paths shelf_told) _ _ _ (omega arith)
-    (c.loop-path.invariant.limited told shelf_told) c.in-Err.halt (c.in-Err.ensures.limits told shelf_told c.loop-path.path-index)).store_room
+returns-in-Err-clause-store_room = stopped.returns-in-Err-clause-store_room
 
 pub returns-in-Err-clause-runs : goal.returns-in-Err-clause-runs
-returns-in-Err-clause-runs g c =
-    runs_then g.D.Disk.tells g.D.Disk.files g.D.Disk.left_since g.D.Disk.moment g.D.Disk.bytes_read g.D.Disk.follows g.met.D.Disk.follows_trans
-    SameLog SameLog SameLog c.args.disk.now c.loop-path.disk c.put_file.new.disk (λ x y log. log) (λ x y z first second. second ∙ first)
-    c.loop-path.invariant.runs c.in-Err.ensures.runs
+returns-in-Err-clause-runs = stopped.returns-in-Err-clause-runs
 
 pub returns-clause-ended : goal.returns-clause-ended
 returns-clause-ended g c = λ told shelf_told out_tells out.

@@ -1,3 +1,4 @@
+mod Stopped
 use Rattle.std.proofs.Common.{true, [], refl, ◌∙◌, arith}
 use Rattle.std.specs.FinMap as finite
 use Rattle.rpm_outside.specs.Buffered.{inner}
@@ -6,9 +7,10 @@ use Rattle.rpm_db.specs.State.{state, above}
 use Rattle.rpm_db.specs.inner.Running.{runs_none, runs_then}
 use Rattle.rpm_db.specs.inner.Writes.{SameLog}
 use Rattle.rpm_change.specs.Rebuilding.{dropped, drop_each, rebuild}
-use Rattle.rpm_change.proofs.Courses.{halfway_start, halfway_more, halfway_stop, halfway_turn, halfway_end, halfway_room}
+use Rattle.rpm_change.proofs.Courses.{halfway_start, halfway_more, halfway_end, halfway_room}
 use Rattle.rpm_change.proofs.Dropped.{drop_next, drop_none, same_dropped}
-use Rattle.rpm_change.proofs.Limits.{limited_start, limited_more, limited_stop, limited_end}
+use Rattle.rpm_change.proofs.Limits.{limited_start, limited_more, limited_end}
+use Rattle.rpm_change.proofs.rebuilding.drop_each.Answers.Stopped as stopped
 use Rattle.rpm_change.proofs.rebuilding.drop_each.Goals as goal
 
 pub loop-next-init : goal.loop-next-init
@@ -83,57 +85,16 @@ loop-next-preserved g c =
     }
 
 pub returns-in-Err-clause-ended : goal.returns-in-Err-clause-ended
-returns-in-Err-clause-ended g c = λ told et e.
-    let n = c.loop-next.number in
-    let m = c.in-Some.next in
-    let inv = c.loop-next.invariant in
-    let mid = (g.D.Disk.files c.loop-next.disk).pkg in
-    let s = state (g.D.Disk.files c.args.disk.now).pkg c.args.db.now.store in
-    let t = state mid c.loop-next.db.store in
-    let u = state (g.D.Disk.files c.drop_one.new.disk).pkg c.drop_one.new.db.store in
-    let P = IsIndexed (g.D.Disk.files c.args.disk.now).pkg (g.D.Disk.files c.args.disk.now).idx c.args.db.now in
-    let es = finite.entries s.packages in
-    let next = drop_next s.packages t.packages n m (inv.same told) (c.in-Some.ensures.told mid) in
-    halfway_stop g.O.Sink.tells et P (rebuild s) (drop_each (above n es)) (dropped m next.0) (drop_each (above m es)) s t u
-    c.loop-next.failed c.loop-next.changes (g.O.Sink.taken (inner c.args.out.now)) (g.O.Sink.taken (inner c.loop-next.out))
-    (g.O.Sink.taken (inner c.drop_one.new.out)) e e e next.1.1 (inv.goes told et e) c.in-Err.halt
-    (c.in-Err.ensures.ended told next.0 next.1.0 et e)
+returns-in-Err-clause-ended = stopped.returns-in-Err-clause-ended
 
 pub returns-in-Err-clause-room : goal.returns-in-Err-clause-room
-returns-in-Err-clause-room g c = λ told rows.
-    let n = c.loop-next.number in
-    let m = c.in-Some.next in
-    let inv = c.loop-next.invariant in
-    let mid = (g.D.Disk.files c.loop-next.disk).pkg in
-    let s = state (g.D.Disk.files c.args.disk.now).pkg c.args.db.now.store in
-    let t = state mid c.loop-next.db.store in
-    let u = state (g.D.Disk.files c.drop_one.new.disk).pkg c.drop_one.new.db.store in
-    let P = IsIndexed (g.D.Disk.files c.args.disk.now).pkg (g.D.Disk.files c.args.disk.now).idx c.args.db.now in
-    let es = finite.entries s.packages in
-    let next = drop_next s.packages t.packages n m (inv.same told) (c.in-Some.ensures.told mid) in
-    halfway_turn g.O.Sink.tells true P (rebuild s) (drop_each (above n es)) (dropped m next.0) (drop_each (above m es)) s t u
-    c.loop-next.failed c.loop-next.changes (g.O.Sink.taken (inner c.args.out.now)) (g.O.Sink.taken (inner c.loop-next.out))
-    (g.O.Sink.taken (inner c.drop_one.new.out)) [] [] [] next.1.1 (inv.goes told true []) c.in-Err.halt rows
-    (c.in-Err.ensures.room told (inv.carried.index told rows) next.0 next.1.0)
+returns-in-Err-clause-room = stopped.returns-in-Err-clause-room
 
 pub returns-in-Err-clause-limits : goal.returns-in-Err-clause-limits
-returns-in-Err-clause-limits g c = λ told.
-    let n = c.loop-next.number in
-    let m = c.in-Some.next in
-    let inv = c.loop-next.invariant in
-    let mid = (g.D.Disk.files c.loop-next.disk).pkg in
-    let s = state (g.D.Disk.files c.args.disk.now).pkg c.args.db.now.store in
-    let t = state mid c.loop-next.db.store in
-    let es = finite.entries s.packages in
-    let next = drop_next s.packages t.packages n m (inv.same told) (c.in-Some.ensures.told mid) in
-    limited_stop (rebuild s) (drop_each (above n es)) (dropped m next.0) (drop_each (above m es)) s t c.args.db.now.store c.loop-next.db.store
-    c.drop_one.new.db.store next.1.1 (inv.limited told) c.in-Err.halt (c.in-Err.ensures.limits told next.0 next.1.0)
+returns-in-Err-clause-limits = stopped.returns-in-Err-clause-limits
 
 pub returns-in-Err-clause-runs : goal.returns-in-Err-clause-runs
-returns-in-Err-clause-runs g c =
-    runs_then g.D.Disk.tells g.D.Disk.files g.D.Disk.left_since g.D.Disk.moment g.D.Disk.bytes_read g.D.Disk.follows g.met.D.Disk.follows_trans
-    SameLog SameLog SameLog c.args.disk.now c.loop-next.disk c.drop_one.new.disk (λ x y log. log) (λ x y z first second. second ∙ first)
-    c.loop-next.invariant.runs c.in-Err.ensures.runs
+returns-in-Err-clause-runs = stopped.returns-in-Err-clause-runs
 
 pub returns-clause-ended : goal.returns-clause-ended
 returns-clause-ended g c = λ told et e.

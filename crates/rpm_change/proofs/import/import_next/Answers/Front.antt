@@ -1,0 +1,62 @@
+-- A header stands in front.
+use Rattle.std.proofs.Common.{◌+◌, ◌≤◌, take, refl, sym, subst, Result, Option, nat_lt, ap}
+use Rattle.rpm_outside.specs.Browses.{left}
+use Rattle.rpm_outside.specs.Buffered.{inner}
+use Rattle.rpm_file.specs.declared.fault.ListFault.{ListFault}
+use Rattle.rpm_file.specs.List.{Found, list_head}
+use Rattle.rpm_db.specs.State.{state}
+use Rattle.rpm_change.specs.declared.tally.Tally.{Tally}
+use Rattle.rpm_change.specs.Endings.{outputs, Ended, IsCarried, IndexTurn}
+use Rattle.rpm_change.specs.Limits.{LimitsTurn}
+use Rattle.rpm_change.specs.Steps.{Course}
+use Rattle.rpm_change.specs.Turns.{Leaves}
+use Rattle.rpm_change.proofs.Taken.{at_header}
+use Rattle.rpm_change.proofs.Turned.{turn_ok, turn_leaves, at_most}
+use Rattle.rpm_change.proofs.import.import_next.Goals as goal
+
+pub returns-in-Ok-Some-clause-ended : goal.returns-in-Ok-Some-clause-ended
+returns-in-Ok-Some-clause-ended g c = λ told heard ot o.
+    let said = rw c.in-Ok-Some.field-0-is at c.in-Ok-Some.ensures in
+    let t = state (g.D.Disk.files c.import_within-done.new.disk).pkg c.import_within-done.new.db.store in
+    let old = outputs ot o g.E.Sink.tells (g.E.Sink.taken (inner c.args.err.now)) in
+    let new = outputs ot o g.E.Sink.tells (g.E.Sink.taken (inner c.import_within-done.new.err)) in
+    rw c.as_turn.ensures.value
+    (at_header (λ (course : Course). Ended course (state (g.D.Disk.files c.args.disk.now).pkg c.args.db.now.store) t c.import_within-done.result old new)
+    c.args.most c.args.place _ _ _ _ (said.answers heard) (ap (take c.in-Ok-Some.size) c.deref.ensures.value) (c.import_within-done.ensures.ended told ot o))
+
+pub returns-in-Ok-Some-clause-room : goal.returns-in-Ok-Some-clause-room
+returns-in-Ok-Some-clause-room g c = λ told heard rows.
+    let said = rw c.in-Ok-Some.field-0-is at c.in-Ok-Some.ensures in
+    rw c.as_turn.ensures.value
+    (at_header (λ (course : Course). IndexTurn (state (g.D.Disk.files c.args.disk.now).pkg c.args.db.now.store) course.changes c.import_within-done.result)
+    c.args.most c.args.place _ _ _ _ (said.answers heard) (ap (take c.in-Ok-Some.size) c.deref.ensures.value) (c.import_within-done.ensures.room told rows))
+
+pub returns-in-Ok-Some-clause-limits : goal.returns-in-Ok-Some-clause-limits
+returns-in-Ok-Some-clause-limits g c = λ told heard.
+    let said = rw c.in-Ok-Some.field-0-is at c.in-Ok-Some.ensures in
+    rw c.as_turn.ensures.value
+    (at_header (λ (course : Course). LimitsTurn (state (g.D.Disk.files c.args.disk.now).pkg c.args.db.now.store) c.args.db.now.store
+    c.import_within-done.new.db.store course.changes c.import_within-done.result) c.args.most c.args.place _ _ _ _ (said.answers heard)
+    (ap (take c.in-Ok-Some.size) c.deref.ensures.value) (c.import_within-done.ensures.limits told))
+
+pub returns-in-Ok-Some-clause-leaves : goal.returns-in-Ok-Some-clause-leaves
+returns-in-Ok-Some-clause-leaves g c =
+    let past = nat_lt c.args.most c.args.place in
+    let behind = left (g.S.Shelf.rest c.read_header.new.shelf) in
+    turn_leaves c.as_turn.result past g.S.Shelf.tells c.args.most c.args.place
+    (list_head (left (g.S.Shelf.rest c.args.shelf.now))) behind c.as_turn.ensures.last
+    (λ heard.
+    let said = rw c.in-Ok-Some.field-0-is at c.in-Ok-Some.ensures in
+    subst (λ (r : Result (Option Found) ListFault). Leaves c.args.most c.args.place r past behind) (sym (said.answers heard)) (refl, refl))
+
+pub returns-in-Ok-Some-clause-one : goal.returns-in-Ok-Some-clause-one
+returns-in-Ok-Some-clause-one g c =
+    turn_ok c.as_turn.result c.import_within-done.result c.as_turn.ensures.value (λ (tally : Tally). tally.failed + tally.changes ≤ 1)
+    (at_most c.import_within-done.result c.import_within-done.ensures.one)
+
+pub returns-in-Ok-Some-clause-carried : goal.returns-in-Ok-Some-clause-carried
+returns-in-Ok-Some-clause-carried g c =
+    turn_ok c.as_turn.result c.import_within-done.result c.as_turn.ensures.value
+    (λ (tally : Tally). IsCarried g.D.Disk.tells (g.D.Disk.files c.args.disk.now) (g.D.Disk.files c.import_within-done.new.disk)
+    (g.D.Disk.left_since c.import_within-done.new.disk (g.D.Disk.moment c.import_within-done.new.disk)) c.args.db.now c.import_within-done.new.db)
+    c.import_within-done.ensures.carried

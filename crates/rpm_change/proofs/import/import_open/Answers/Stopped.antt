@@ -1,0 +1,80 @@
+-- An import that was stopped.
+use Rattle.std.proofs.Common.{◌≡◌, ◌+◌, true, false, [], ◌∙◌}
+use Rattle.rpm_outside.specs.Browses.{left}
+use Rattle.rpm_outside.specs.Buffered.{inner}
+use Rattle.rpm_outside.specs.inner.Browsing.{browses_then}
+use Rattle.rpm_file.specs.List.{list_head}
+use Rattle.rpm_db.specs.Database.{IsIndexed}
+use Rattle.rpm_db.specs.State.{state}
+use Rattle.rpm_db.specs.inner.Running.{runs_then}
+use Rattle.rpm_db.specs.inner.Writes.{SameLog}
+use Rattle.rpm_change.specs.Importing.{import_listed, listed}
+use Rattle.rpm_change.specs.Turns.{turn, from_place}
+use Rattle.rpm_change.proofs.Courses.{halfway_stop, halfway_turn}
+use Rattle.rpm_change.proofs.Limits.{limited_stop}
+use Rattle.rpm_change.proofs.Listed.{turn_splits, turn_ahead}
+use Rattle.rpm_change.proofs.import.import_open.Goals as goal
+
+pub returns-in-Err-clause-ended : goal.returns-in-Err-clause-ended
+returns-in-Err-clause-ended g c = λ told heard out_tells out.
+    let most = c.args.most in
+    let k = c.loop-is_last.place in
+    let inv = c.loop-is_last.invariant in
+    let going : c.loop-is_last.is_last ≡ false = cc in
+    let s = state (g.D.Disk.files c.args.disk.now).pkg c.args.db.now.store in
+    let t = state (g.D.Disk.files c.loop-is_last.disk).pkg c.loop-is_last.db.store in
+    let u = state (g.D.Disk.files c.import_next.new.disk).pkg c.import_next.new.db.store in
+    let P = IsIndexed (g.D.Disk.files c.args.disk.now).pkg (g.D.Disk.files c.args.disk.now).idx c.args.db.now in
+    let bytes = left (g.S.Shelf.rest c.loop-is_last.shelf) in
+    let all = import_listed most (listed (left (g.S.Shelf.rest c.args.shelf.now))) in
+    let split = turn_ahead most k (list_head bytes) in
+    halfway_stop out_tells g.E.Sink.tells P all (from_place false most k (listed bytes)) (turn most k (list_head bytes))
+    (from_place split.0 most (k + 1) (listed split.1.0)) s t u c.loop-is_last.failed c.loop-is_last.changes out out out
+    (g.E.Sink.taken (inner c.args.err.now)) (g.E.Sink.taken (inner c.loop-is_last.err)) (g.E.Sink.taken (inner c.import_next.new.err))
+    (turn_splits most k bytes split.0 split.1.0 split.1.1) (rw going at (inv.goes told heard out_tells out)) c.in-Err.halt
+    (c.in-Err.ensures.ended told heard out_tells out)
+
+pub returns-in-Err-clause-room : goal.returns-in-Err-clause-room
+returns-in-Err-clause-room g c = λ told heard rows.
+    let most = c.args.most in
+    let k = c.loop-is_last.place in
+    let inv = c.loop-is_last.invariant in
+    let going : c.loop-is_last.is_last ≡ false = cc in
+    let s = state (g.D.Disk.files c.args.disk.now).pkg c.args.db.now.store in
+    let t = state (g.D.Disk.files c.loop-is_last.disk).pkg c.loop-is_last.db.store in
+    let u = state (g.D.Disk.files c.import_next.new.disk).pkg c.import_next.new.db.store in
+    let P = IsIndexed (g.D.Disk.files c.args.disk.now).pkg (g.D.Disk.files c.args.disk.now).idx c.args.db.now in
+    let bytes = left (g.S.Shelf.rest c.loop-is_last.shelf) in
+    let all = import_listed most (listed (left (g.S.Shelf.rest c.args.shelf.now))) in
+    let split = turn_ahead most k (list_head bytes) in
+    halfway_turn true g.E.Sink.tells P all (from_place false most k (listed bytes)) (turn most k (list_head bytes))
+    (from_place split.0 most (k + 1) (listed split.1.0)) s t u c.loop-is_last.failed c.loop-is_last.changes [] [] []
+    (g.E.Sink.taken (inner c.args.err.now)) (g.E.Sink.taken (inner c.loop-is_last.err)) (g.E.Sink.taken (inner c.import_next.new.err))
+    (turn_splits most k bytes split.0 split.1.0 split.1.1) (rw going at (inv.goes told heard true [])) c.in-Err.halt rows
+    (c.in-Err.ensures.room told heard (inv.carried.index told rows))
+
+pub returns-in-Err-clause-limits : goal.returns-in-Err-clause-limits
+returns-in-Err-clause-limits g c = λ told heard.
+    let most = c.args.most in
+    let k = c.loop-is_last.place in
+    let inv = c.loop-is_last.invariant in
+    let going : c.loop-is_last.is_last ≡ false = cc in
+    let s = state (g.D.Disk.files c.args.disk.now).pkg c.args.db.now.store in
+    let t = state (g.D.Disk.files c.loop-is_last.disk).pkg c.loop-is_last.db.store in
+    let bytes = left (g.S.Shelf.rest c.loop-is_last.shelf) in
+    let all = import_listed most (listed (left (g.S.Shelf.rest c.args.shelf.now))) in
+    let split = turn_ahead most k (list_head bytes) in
+    limited_stop all (from_place false most k (listed bytes)) (turn most k (list_head bytes)) (from_place split.0 most (k + 1) (listed split.1.0)) s t
+    c.args.db.now.store c.loop-is_last.db.store c.import_next.new.db.store (turn_splits most k bytes split.0 split.1.0 split.1.1)
+    (rw going at (inv.limited told heard)) c.in-Err.halt (c.in-Err.ensures.limits told heard)
+
+pub returns-in-Err-clause-runs : goal.returns-in-Err-clause-runs
+returns-in-Err-clause-runs g c =
+    runs_then g.D.Disk.tells g.D.Disk.files g.D.Disk.left_since g.D.Disk.moment g.D.Disk.bytes_read g.D.Disk.follows g.met.D.Disk.follows_trans
+    SameLog SameLog SameLog c.args.disk.now c.loop-is_last.disk c.import_next.new.disk (λ x y log. log) (λ x y z first second. second ∙ first)
+    c.loop-is_last.invariant.runs c.in-Err.ensures.runs
+
+pub returns-in-Err-clause-browses : goal.returns-in-Err-clause-browses
+returns-in-Err-clause-browses g c =
+    browses_then g.S.Shelf.tells g.S.Shelf.paths g.S.Shelf.rest g.S.Shelf.absences g.S.Shelf.faults c.args.shelf.now c.loop-is_last.shelf
+    c.import_next.new.shelf c.loop-is_last.invariant.browses c.in-Err.ensures.browses
