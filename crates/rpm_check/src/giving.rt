@@ -4,7 +4,6 @@ ghost use Rattle.std.specs.Prelude.{◌≡◌, map, IsTrue, false, Err, IfOk, If
 ghost use Rattle.rpm_outside.specs.Causes.{HasCauseAt};
 ghost use Rattle.rpm_db.specs.Database.{Keeps, KeepsIndex, holds};
 ghost use Rattle.rpm_db.specs.State.{packages};
-ghost use Rattle.rpm_select.specs.Picks.{number_in};
 ghost use Rattle.rpm_select.specs.Reach.{HasIndexRows};
 ghost use Rattle.rpm_select.specs.Selections.{picks};
 ghost use Rattle.rpm_check.specs.Answers.{Glances, IsBroken, is_broken};
@@ -14,20 +13,10 @@ ghost use Rattle.rpm_check.specs.inner.Needs.{needed_in};
 use crate::faults::{CheckFault, fault_of};
 use rpm_db::Db;
 use rpm_outside::Disk;
-use rpm_select::{Picked, Picker, Selection};
+use rpm_select::{Picker, Selection};
 use rpm_tags::Dependency;
 use rpm_version::Capability;
 use std::alloc::Global;
-
-/// The number of a package that was picked.
-fn number_of(picked: &Picked) -> u32
-    ensures { result ≡ number_in picked.now }
-{
-    match picked {
-        Picked::Good { number, .. } => *number,
-        Picked::Bad { number } => *number,
-    }
-}
 
 /// The numbers of the packages that a selection picks, rising.
 #[tactic(auto, using(crate::proofs::Gaining::all_picked))]
@@ -60,7 +49,7 @@ fn numbers_picked<D: Disk>(
         match picker.next_after(alloc, db, disk, selection, passed) {
             Ok(None) => return Ok(numbers),
             Ok(Some(picked)) => {
-                passed = number_of(&picked);
+                passed = picked.into_number();
                 if numbers.push(passed).is_err() {
                     return Err(CheckFault::NoMemory);
                 }

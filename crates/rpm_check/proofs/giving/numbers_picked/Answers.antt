@@ -28,7 +28,7 @@ loop-numbers-preserved g c =
     let done = c.in-Ok-Some.ensures in
     let n = c.loop-numbers.passed in
     let is : c.in-Ok-Some.field-0 ≡ Some c.in-Ok-Some.picked = cc in
-    let added : c.push.new.self.items ≡ c.loop-numbers.numbers.items ++ c.number_of-passed.result ∷ [] = search rules in
+    let added : c.push.new.self.items ≡ c.loop-numbers.numbers.items ++ c.into_number-passed.result ∷ [] = search rules in
     record {
       keeps = done.kept;
       keeps_index = λ told. subst (λ (f : Files). KeepsIndex f.idx db) (sym (done.looks.untouched told).same) (inv.keeps_index told);
@@ -45,35 +45,6 @@ loop-numbers-preserved g c =
           let before : Serves c.loop-numbers.picker all sel = subst (λ (r : Reach). Serves r all sel) done.same serves in
           let next = subst (λ (f : Files). Serves c.loop-numbers.picker (packages f.pkg db.store) sel
           → NextIs (above n (picks (packages f.pkg db.store) sel)) (Ok c.in-Ok-Some.field-0)) (inv.looks.untouched told).same (done.told told) before in
-          gained all sel n c.in-Ok-Some.field-0 c.in-Ok-Some.picked c.number_of-passed.result c.loop-numbers.numbers.items c.push.new.self.items
-          (numbers_above all sel 0) next is added c.number_of-passed.ensures (inv.told told before);
-    }
-
-pub loop-numbers-preserved-else-is_err : goal.loop-numbers-preserved-else-is_err
-loop-numbers-preserved-else-is_err g c =
-    let db = c.args.db.now in
-    let sel = c.args.selection.now in
-    let inv = c.loop-numbers.invariant in
-    let done = c.in-Ok-Some.ensures in
-    let n = c.loop-numbers.passed in
-    let is : c.in-Ok-Some.field-0 ≡ Some c.in-Ok-Some.picked = cc in
-    let added : c.push.new.self.items ≡ c.loop-numbers.numbers.items ++ c.number_of-passed.result ∷ [] = search rules in
-    record {
-      keeps = done.kept;
-      keeps_index = λ told. subst (λ (f : Files). KeepsIndex f.idx db) (sym (done.looks.untouched told).same) (inv.keeps_index told);
-      looks =
-          glances_then g.D.Disk.tells g.D.Disk.files g.D.Disk.left_since g.D.Disk.moment g.D.Disk.bytes_read g.D.Disk.follows g.met.D.Disk.follows_trans
-          c.new.new.disk c.loop-numbers.disk c.next_after.new.disk inv.looks
-          (glances_packages g.D.Disk.tells g.D.Disk.files g.D.Disk.left_since g.D.Disk.moment g.D.Disk.bytes_read g.D.Disk.follows _
-          c.loop-numbers.disk c.next_after.new.disk done.looks);
-      faults = omega (arith, inv.faults, done.cause.later);
-      same = done.same ∙ inv.same;
-      told = λ told serves.
-          let pkg = (g.D.Disk.files c.new.new.disk).pkg in
-          let all = packages pkg db.store in
-          let before : Serves c.loop-numbers.picker all sel = subst (λ (r : Reach). Serves r all sel) done.same serves in
-          let next = subst (λ (f : Files). Serves c.loop-numbers.picker (packages f.pkg db.store) sel
-          → NextIs (above n (picks (packages f.pkg db.store) sel)) (Ok c.in-Ok-Some.field-0)) (inv.looks.untouched told).same (done.told told) before in
-          gained all sel n c.in-Ok-Some.field-0 c.in-Ok-Some.picked c.number_of-passed.result c.loop-numbers.numbers.items c.push.new.self.items
-          (numbers_above all sel 0) next is added c.number_of-passed.ensures (inv.told told before);
+          gained all sel n c.in-Ok-Some.field-0 c.in-Ok-Some.picked c.into_number-passed.result c.loop-numbers.numbers.items c.push.new.self.items
+          (numbers_above all sel 0) next is added c.into_number-passed.ensures (inv.told told before);
     }
