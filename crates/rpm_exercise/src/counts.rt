@@ -8,7 +8,6 @@ ghost use Rattle.rpm_db.specs.Database.{Keeps, holds};
 ghost use Rattle.rpm_db.specs.Runs.{Runs};
 ghost use Rattle.rpm_db.specs.inner.Writes.{SameFiles};
 ghost use Rattle.rpm_select.specs.declared.selection.Selection.TheVariants as question;
-ghost use Rattle.rpm_select.specs.Picks.{number_in};
 ghost use Rattle.rpm_select.specs.Reach.{Serves, HasIndexRows};
 ghost use Rattle.rpm_select.specs.Selections.{picks};
 ghost use Rattle.rpm_exercise.specs.Endings.{IsReadable, IsOfAsking, IsOfReading, pick_halt};
@@ -17,7 +16,7 @@ ghost use Rattle.rpm_exercise.specs.Exercised.{picked, capability_named};
 use rpm_change::Halt;
 use rpm_db::Db;
 use rpm_outside::Disk;
-use rpm_select::{PickFault, Picked, Picker, Selection};
+use rpm_select::{PickFault, Picker, Selection};
 use rpm_version::Capability;
 use std::alloc::Global;
 
@@ -29,16 +28,6 @@ pub fn halt_of(fault: PickFault) -> Halt
         PickFault::BadIndex { unit } => Halt::BadIndex { unit },
         PickFault::DiskFault => Halt::DiskFault,
         PickFault::NoMemory => Halt::NoMemory,
-    }
-}
-
-/// The number of a package that was picked.
-pub fn number_of(picked: &Picked) -> u32
-    ensures { result ≡ number_in picked.now }
-{
-    match picked {
-        Picked::Good { number, .. } => *number,
-        Picked::Bad { number } => *number,
     }
 }
 
@@ -63,7 +52,7 @@ fn count_served<D: Disk>(
     loop {
         match picker.next_after(alloc, db, disk, selection, number) {
             Ok(Some(picked)) => {
-                number = number_of(&picked);
+                number = picked.into_number();
                 count += 1;
             }
             Ok(None) => return Ok(count),

@@ -16,7 +16,7 @@ ghost use Rattle.rpm_select.specs.Selections.{picks};
 ghost use Rattle.rpm_exercise.specs.Endings.{IsReadable, IsOfAsking, IsOfReading};
 ghost use Rattle.rpm_exercise.specs.Exercised.{exported, export_bytes};
 
-use crate::counts::{halt_of, number_of};
+use crate::counts::halt_of;
 use rpm_change::Halt;
 use rpm_db::Db;
 use rpm_header::MAGIC;
@@ -58,8 +58,8 @@ fn digest_served<D: Disk>(
     loop {
         match picker.next_after(alloc, db, disk, &Selection::All, number) {
             Ok(Some(picked)) => {
-                number = number_of(&picked);
                 feed(&mut hasher, &picked);
+                number = picked.into_number();
             }
             Ok(None) => return Ok(hasher.finalize()),
             Err(fault) => return Err(halt_of(fault)),

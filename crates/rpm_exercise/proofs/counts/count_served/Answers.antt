@@ -32,43 +32,14 @@ loop-picked-preserved g c =
     record {
       keeps = done.kept;
       same = done.same ∙ inv.same;
-      few = omega (arith, inv.few, c.number_of-number.ensures, rw c.in-Ok-Some.field-0-is at done.rises);
+      few = omega (arith, inv.few, c.into_number-number.ensures, rw c.in-Ok-Some.field-0-is at done.rises);
       goes = λ told serves.
           let same = inv.runs.reads_as told in
           let next = rw c.in-Ok-Some.field-0-is at (done.told told (served sel db c.loop-picked.picker c.args.picker.now mid start inv.same same serves)) in
           let left : Files → List (ℕ × Package) = λ f. above n (picks (packages f.pkg db.store) sel) in
           let here =
           subst (λ (f : Files). (rest : List (ℕ × Package)) × (left f ≡ entry_in c.in-Ok-Some.picked ∷ rest)) same next in
-          rw c.number_of-number.ensures (count_more (packages start.pkg db.store) sel n c.in-Ok-Some.picked here.0 here.1 c.loop-picked.count
-          (length (above 0 (picks (packages start.pkg db.store) sel))) (inv.goes told serves));
-      runs = runs_then g.D.Disk.tells g.D.Disk.files g.D.Disk.left_since g.D.Disk.moment g.D.Disk.bytes_read g.D.Disk.follows g.met.D.Disk.follows_trans
-          SameFiles SameFiles SameFiles c.args.disk.now c.loop-picked.disk c.next_after.new.disk (λ x y same. same) (λ x y z first second. second ∙ first)
-          inv.runs
-          (runs_looks g.D.Disk.tells g.D.Disk.files g.D.Disk.left_since g.D.Disk.moment g.D.Disk.bytes_read g.D.Disk.follows SameFiles (λ f. refl) Pkg _
-          c.loop-picked.disk c.next_after.new.disk refl done.looks);
-      disk = omega (arith, inv.disk, done.cause.later);
-    }
-
-pub loop-picked-preserved-in-Ok-Some : goal.loop-picked-preserved-in-Ok-Some
-loop-picked-preserved-in-Ok-Some g c =
-    let db = c.args.db.now in
-    let sel = c.args.selection.now in
-    let n = c.loop-picked.number in
-    let inv = c.loop-picked.invariant in
-    let done = c.in-Ok-Some.ensures in
-    let start = g.D.Disk.files c.args.disk.now in
-    let mid = g.D.Disk.files c.loop-picked.disk in
-    record {
-      keeps = done.kept;
-      same = done.same ∙ inv.same;
-      few = omega (arith, inv.few, c.number_of-number.ensures, rw c.in-Ok-Some.field-0-is at done.rises);
-      goes = λ told serves.
-          let same = inv.runs.reads_as told in
-          let next = rw c.in-Ok-Some.field-0-is at (done.told told (served sel db c.loop-picked.picker c.args.picker.now mid start inv.same same serves)) in
-          let left : Files → List (ℕ × Package) = λ f. above n (picks (packages f.pkg db.store) sel) in
-          let here =
-          subst (λ (f : Files). (rest : List (ℕ × Package)) × (left f ≡ entry_in c.in-Ok-Some.picked ∷ rest)) same next in
-          rw c.number_of-number.ensures (count_more (packages start.pkg db.store) sel n c.in-Ok-Some.picked here.0 here.1 c.loop-picked.count
+          rw c.into_number-number.ensures (count_more (packages start.pkg db.store) sel n c.in-Ok-Some.picked here.0 here.1 c.loop-picked.count
           (length (above 0 (picks (packages start.pkg db.store) sel))) (inv.goes told serves));
       runs = runs_then g.D.Disk.tells g.D.Disk.files g.D.Disk.left_since g.D.Disk.moment g.D.Disk.bytes_read g.D.Disk.follows g.met.D.Disk.follows_trans
           SameFiles SameFiles SameFiles c.args.disk.now c.loop-picked.disk c.next_after.new.disk (λ x y same. same) (λ x y z first second. second ∙ first)

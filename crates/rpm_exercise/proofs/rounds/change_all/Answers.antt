@@ -1,3 +1,4 @@
+mod Limited
 use Rattle.std.proofs.Common.{◌≡◌, ℕ, ◌+◌, ◌-◌, [], ◌++◌, refl, sym, ap, ◌∙◌}
 use Rattle.std.proofs.lemmas.List.{append-nil}
 use Rattle.rpm_db.specs.Changes.{next}
@@ -7,8 +8,8 @@ use Rattle.rpm_db.specs.inner.Running.{runs_then}
 use Rattle.rpm_db.specs.inner.Writes.{SameLog}
 use Rattle.rpm_exercise.specs.declared.rounds.Round.TheVariants as round
 use Rattle.rpm_exercise.specs.Rounds.{round_changes, changes}
-use Rattle.rpm_exercise.proofs.Limited.{adding_stop, replacing_stop, erasing_stop, all_limits}
 use Rattle.rpm_exercise.proofs.Parts.{partly_turn, begun, after_adding, after_replacing, all_made, all_room}
+use Rattle.rpm_exercise.proofs.rounds.change_all.Answers.Limited as limited
 use Rattle.rpm_exercise.proofs.rounds.change_all.Goals as goal
 
 pub returns-in-Err-clause-room : goal.returns-in-Err-clause-room
@@ -111,47 +112,13 @@ returns-in-Ok-go_round-2-clause-runs g c =
     first c.in-Ok-go_round-2.ensures.runs
 
 pub returns-in-Err-clause-limits : goal.returns-in-Err-clause-limits
-returns-in-Err-clause-limits g c = λ told.
-    let s = state (g.D.Disk.files c.args.disk.now).pkg c.args.db.now.store in
-    let b = c.saturating_sub-b.result in
-    let is : b ≡ next s - 1 = c.saturating_sub-b.ensures ∙ ap (λ (k : ℕ). k - 1) (c.next_number.ensures.told (g.D.Disk.files c.args.disk.now).pkg) in
-    adding_stop c.args.n b s c.args.db.now.store is c.go_round.new.db.store c.in-Err.halt (c.in-Err.ensures.limits told)
+returns-in-Err-clause-limits = limited.returns-in-Err-clause-limits
 
 pub returns-in-Err-go_round-clause-limits : goal.returns-in-Err-go_round-clause-limits
-returns-in-Err-go_round-clause-limits g c = λ told.
-    let s = state (g.D.Disk.files c.args.disk.now).pkg c.args.db.now.store in
-    let b = c.saturating_sub-b.result in
-    let is : b ≡ next s - 1 = c.saturating_sub-b.ensures ∙ ap (λ (k : ℕ). k - 1) (c.next_number.ensures.told (g.D.Disk.files c.args.disk.now).pkg) in
-    let t = state (g.D.Disk.files c.go_round.new.disk).pkg c.go_round.new.db.store in
-    let one = c.in-Ok.ensures in
-    replacing_stop c.args.n b s c.args.db.now.store is t c.go_round.new.db.store c.in-Ok.tally (one.made told).state_is (one.limits told)
-    c.go_round-2.new.db.store c.in-Err-go_round.halt (c.in-Err-go_round.ensures.limits told)
+returns-in-Err-go_round-clause-limits = limited.returns-in-Err-go_round-clause-limits
 
 pub returns-in-Err-go_round-2-clause-limits : goal.returns-in-Err-go_round-2-clause-limits
-returns-in-Err-go_round-2-clause-limits g c = λ told.
-    let s = state (g.D.Disk.files c.args.disk.now).pkg c.args.db.now.store in
-    let b = c.saturating_sub-b.result in
-    let is : b ≡ next s - 1 = c.saturating_sub-b.ensures ∙ ap (λ (k : ℕ). k - 1) (c.next_number.ensures.told (g.D.Disk.files c.args.disk.now).pkg) in
-    let t = state (g.D.Disk.files c.go_round.new.disk).pkg c.go_round.new.db.store in
-    let one = c.in-Ok.ensures in
-    let u = state (g.D.Disk.files c.go_round-2.new.disk).pkg c.go_round-2.new.db.store in
-    let two = c.in-Ok-go_round.ensures in
-    erasing_stop c.args.n b s c.args.db.now.store is t c.go_round.new.db.store c.in-Ok.tally (one.made told).state_is (one.limits told)
-    u c.go_round-2.new.db.store c.in-Ok-go_round.tally (two.made told).state_is (two.limits told) c.go_round-3.new.db.store
-    c.in-Err-go_round-2.halt (c.in-Err-go_round-2.ensures.limits told)
+returns-in-Err-go_round-2-clause-limits = limited.returns-in-Err-go_round-2-clause-limits
 
 pub returns-in-Ok-go_round-2-clause-limits : goal.returns-in-Ok-go_round-2-clause-limits
-returns-in-Ok-go_round-2-clause-limits g c = λ told.
-    let s = state (g.D.Disk.files c.args.disk.now).pkg c.args.db.now.store in
-    let b = c.saturating_sub-b.result in
-    let is : b ≡ next s - 1 = c.saturating_sub-b.ensures ∙ ap (λ (k : ℕ). k - 1) (c.next_number.ensures.told (g.D.Disk.files c.args.disk.now).pkg) in
-    let t = state (g.D.Disk.files c.go_round.new.disk).pkg c.go_round.new.db.store in
-    let one = c.in-Ok.ensures in
-    let u = state (g.D.Disk.files c.go_round-2.new.disk).pkg c.go_round-2.new.db.store in
-    let two = c.in-Ok-go_round.ensures in
-    let v = state (g.D.Disk.files c.go_round-3.new.disk).pkg c.go_round-3.new.db.store in
-    let three = c.in-Ok-go_round-2.ensures in
-    all_limits c.args.n b s c.args.db.now.store is t c.go_round.new.db.store c.in-Ok.tally (one.made told).state_is (one.limits told)
-    u c.go_round-2.new.db.store c.in-Ok-go_round.tally (two.made told).state_is (two.limits told) v c.go_round-3.new.db.store
-    c.in-Ok-go_round-2.erased (record { failed = 0; changes = c.in-Ok.tally.changes + c.in-Ok-go_round.tally.changes + c.in-Ok-go_round-2.erased.changes })
-    (three.made told).state_is (three.limits told)
+returns-in-Ok-go_round-2-clause-limits = limited.returns-in-Ok-go_round-2-clause-limits
