@@ -14,7 +14,7 @@ use Rattle.rpm_header.proofs.Cut.{number_in_front}
 use Rattle.rpm_header.proofs.Each.{tag-entries}
 use Rattle.rpm_header.proofs.Region.{counted, not_counted}
 use Rattle.rpm_header.proofs.Opened.{IsOpened}
-use Rattle.rpm_header.proofs.Dribbled.{fault_is, none_of, number_behind, is_region, trailer_room}
+use Rattle.rpm_header.proofs.RegionLonger.{fault_is, none_of, number_behind, is_region, trailer_room}
 
 pub message : (a b d i s : List ℕ) (n size : ℕ) → a ≡ magic → b ≡ to_be_bytes w32 n → d ≡ to_be_bytes w32 size
     → [] ++ a ++ b ++ d ++ i ++ s ≡ in_file n size i s

@@ -18,7 +18,7 @@ use Rattle.rpm_header.specs.inner.Longer.{number_longer}
 use Rattle.rpm_header.proofs.Opened.{IsOpened}
 use Rattle.rpm_header.proofs.Hashed.{region_fits}
 use Rattle.rpm_header.proofs.Dribbled.{own_sixteen, new_index, new_data, dribbled_written}
-use Rattle.rpm_header.proofs.Laws.{IsWithin}
+use Rattle.rpm_header.proofs.LaidParts.{IsWithin}
 
 -- ---- what is hashed, told by the index and the data
 

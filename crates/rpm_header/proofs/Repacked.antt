@@ -7,7 +7,8 @@ use Rattle.rpm_header.specs.Header.{Item, Values, Nothing, Numbers, Texts, Bytes
 use Rattle.rpm_header.specs.Build.{is_text_list, retagged}
 use Rattle.rpm_header.specs.Laid.{bytes_in}
 use Rattle.rpm_header.specs.inner.Packed.{IsPacked, ReadsBack, IsStored}
-use Rattle.rpm_header.proofs.Packing.{item_of, numbers_packed, numbers_read_back, texts_packed, texts_read_back, text_read_back, bin_packed, bin_read_back, list_has_texts}
+use Rattle.rpm_header.proofs.Packing.{item_of, numbers_packed, numbers_read_back, bin_packed, bin_read_back}
+use Rattle.rpm_header.proofs.PackedTexts.{texts_packed, texts_read_back, text_read_back, list_has_texts}
 
 -- the packed bytes say the same, and so they do in a header
 pub record Repacks (tag : ℕ) (e : Item) (bytes : List ℕ) : Type 0 where

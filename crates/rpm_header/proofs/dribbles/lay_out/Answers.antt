@@ -3,7 +3,7 @@ use Rattle.rpm_header.specs.Header.{Item}
 use Rattle.rpm_header.specs.Laid.{data_from, index_from}
 use Rattle.rpm_header.specs.Dribbles.{dribbled_data}
 use Rattle.rpm_header.specs.Parts.{own_data}
-use Rattle.rpm_header.proofs.Laws.{is_within}
+use Rattle.rpm_header.proofs.LaidParts.{is_within}
 use Rattle.rpm_header.proofs.Opened.{opened}
 use Rattle.rpm_header.proofs.Dribbled.{dribbled_parts, dribbled_written}
 use Rattle.rpm_header.proofs.Kept.{digest_written}

@@ -1,7 +1,7 @@
 use Rattle.std.proofs.Common.{◌∙◌, ◌++◌, ap, List, length}
 use Rattle.rpm_header.specs.Header.{Item}
 use Rattle.rpm_header.specs.Laid.{data_from, index_from, data_of, with_region}
-use Rattle.rpm_header.proofs.Laws.{is_within, room_for_trailer, laid_parts, written}
+use Rattle.rpm_header.proofs.LaidParts.{is_within, room_for_trailer, laid_parts, written}
 use Rattle.rpm_header.proofs.builder.Builder.lay_out.Goals as goal
 
 pub append_region_entry-requires : goal.append_region_entry-requires

@@ -1,7 +1,7 @@
 use Rattle.std.proofs.Common.{◌∙◌, ap, List, length, ◌+◌}
 use Rattle.rpm_header.specs.Header.{Item}
 use Rattle.rpm_header.specs.Laid.{data_from, lengths_of}
-use Rattle.rpm_header.proofs.Laws.{region_lengths}
+use Rattle.rpm_header.proofs.LaidParts.{region_lengths}
 use Rattle.rpm_header.proofs.builder.Builder.lengths.Goals as goal
 
 pub returns-then-region : goal.returns-then-region

@@ -1,7 +1,8 @@
 use Rattle.std.proofs.Common.{ap, sym, subst, ◌∙◌, ℕ}
 use Rattle.rpm_header.specs.Header.{Values, Texts}
 use Rattle.rpm_header.specs.inner.Packed.{ReadsBack}
-use Rattle.rpm_header.proofs.Packing.{texts_packed, texts_read_back, item_of, list_has_texts}
+use Rattle.rpm_header.proofs.Packing.{item_of}
+use Rattle.rpm_header.proofs.PackedTexts.{texts_packed, texts_read_back, list_has_texts}
 use Rattle.rpm_header.proofs.packed.PackedEntry.texts.Goals as goal
 
 pub invariant_of-result : goal.invariant_of-result
