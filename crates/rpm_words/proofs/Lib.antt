@@ -1,3 +1,4 @@
+pub mod AnyRule
 pub mod Counts
 pub mod Fits
 pub mod Folders

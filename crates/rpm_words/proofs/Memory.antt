@@ -1,8 +1,8 @@
 -- No rule of a command line is about memory.
-use Rattle.std.proofs.Common.{◌≡◌, ℕ, List, [], ◌∷◌, Option, Some, None, Bool, true, false, cond, ◌||◌, nat_lt, length, is_none, unwrap_or}
-use Rattle.std.specs.Option.{option_map, option_map_or}
+use Rattle.std.proofs.Common.{◌≡◌, ℕ, List, [], ◌∷◌, Option, Some, None, false, ◌||◌, nat_lt, length, is_none, unwrap_or}
+use Rattle.std.specs.Option.{option_map_or}
 use Rattle.std.specs.Result.{is_err}
-use Rattle.std.specs.List.{filter_map, cons_option, best_of, slice_get}
+use Rattle.std.specs.List.{filter_map, slice_get}
 use Rattle.rpm_version.specs.Capability.{capability}
 use Rattle.rpm_words.specs.declared.switch.Command.{Command}
 use Rattle.rpm_words.specs.declared.switch.Command.TheVariants.{Query}
@@ -13,59 +13,20 @@ use Rattle.rpm_words.specs.declared.token.Said.{Said}
 use Rattle.rpm_words.specs.declared.token.Said.TheVariants.{Refused, Sets, Gives, Argument}
 use Rattle.rpm_words.specs.declared.seen.Seen.{Seen}
 use Rattle.rpm_words.specs.declared.fault.WordsFault.{WordsFault}
-use Rattle.rpm_words.specs.declared.fault.WordsKind.{WordsKind}
 use Rattle.rpm_words.specs.declared.fault.WordsKind.TheVariants.{NoMode, Misplaced, MissingArgument, ExtraArgument, NoMemory}
 use Rattle.rpm_words.specs.declared.takes.Expected.{Expected}
 use Rattle.rpm_words.specs.declared.takes.Expected.TheVariants.{Text, Number, Capability}
 use Rattle.rpm_words.specs.Words.{text_at}
 use Rattle.rpm_words.specs.Number.{number}
-use Rattle.rpm_words.specs.Command.{head, is_other}
-use Rattle.rpm_words.specs.Fault.{fault, is_before, earliest, first_told}
+use Rattle.rpm_words.specs.Command.{is_other}
+use Rattle.rpm_words.specs.Fault.{fault, first_told}
 use Rattle.rpm_words.specs.Takes.{takes, fewest, most, expected, checked}
 use Rattle.rpm_words.specs.Broken.{is_refused, is_bad_number, token_fault, early_fault, no_value, no_mode, is_misplaced, misplaced_said, misplaced_in, misplaced, lacks_option, too_few, too_many, argument_fault, bad_argument, first_broken, is_awaiting}
-
-abbrev IsRule : WordsFault → Type 0
-IsRule f = f.kind ≡ NoMemory → ⊥
-
-abbrev AreRules : Option WordsFault → Type 0
-AreRules None = Unit {0}
-AreRules (Some f) = IsRule f
-
-test : (b : Bool) (f : WordsFault) (o : Option WordsFault) → IsRule f → AreRules o → AreRules (cond b (Some f) o)
-test true f o h k = h
-test false f o h k = k
-
-mapped : (kind : WordsKind) (o : Option ℕ) → (kind ≡ NoMemory → ⊥) → AreRules (option_map (fault kind) o)
-mapped kind None h = tt
-mapped kind (Some word) h = h
+use Rattle.rpm_words.proofs.AnyRule.{AllRules, AreRules, earliest_rule, head_rule, mapped, rules_cons, test}
 
 token_rule : (words : List (List ℕ)) (command : Option Command) (chosen : Option Chosen) (token : Token) → AreRules (token_fault words command chosen token)
 token_rule words command chosen token =
     test (is_refused token.said) _ _ (λ e. cc) (test (is_other command chosen token) _ _ (λ e. cc) (test (is_bad_number words token) _ _ (λ e. cc) tt))
-
-better : (b : Bool) (f g : WordsFault) → IsRule f → IsRule g → IsRule (cond b g f)
-better true f g h k = k
-better false f g h k = h
-
-abbrev AllRules : List WordsFault → Type 0
-AllRules [] = Unit {0}
-AllRules (f ∷ fs) = IsRule f × AllRules fs
-
-rules_cons : (o : Option WordsFault) (fs : List WordsFault) → AreRules o → AllRules fs → AllRules (cons_option o fs)
-rules_cons None fs h k = k
-rules_cons (Some f) fs h k = (h, k)
-
-best_rule : (f : WordsFault) (fs : List WordsFault) → IsRule f → AllRules fs → IsRule (best_of is_before f fs)
-best_rule f [] h k = h
-best_rule f (g ∷ fs) h k = best_rule (cond (is_before g f) g f) fs (better (is_before g f) f g h k.0) k.1
-
-earliest_rule : (fs : List WordsFault) → AllRules fs → AreRules (earliest fs)
-earliest_rule [] k = tt
-earliest_rule (f ∷ fs) k = best_rule f fs k.0 k.1
-
-head_rule : (fs : List WordsFault) → AllRules fs → AreRules (head fs)
-head_rule [] k = tt
-head_rule (f ∷ fs) k = k.0
 
 token_rules : (words : List (List ℕ)) (command : Option Command) (chosen : Option Chosen) (tokens : List Token) →
     AllRules (filter_map (token_fault words command chosen) tokens)
