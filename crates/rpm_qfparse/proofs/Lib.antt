@@ -3,8 +3,11 @@ pub mod Exits
 mod Fixtures
 pub mod Law
 pub mod Proper
+pub mod ProperTags
 pub mod Rows
 pub mod Shrinks
+pub mod Smaller
 pub mod Top
 pub mod Unique
 pub mod Widths
+pub mod Within

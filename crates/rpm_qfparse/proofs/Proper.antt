@@ -1,100 +1,17 @@
 -- What each tree that is read has, and that no fault is want of memory.
-use Rattle.std.proofs.Common.{◌≡◌, ◌≢◌, ℕ, ◌+◌, ◌<◌, ◌≤◌, List, [], ◌∷◌, length, drop, Bool, true, false, cond, Option, Some, None, Result, Ok, Err, refl, arith, subst, nat_lt, nat_le, ltb-false, leb-false, ◌==◌, if◌then◌else◌}
+use Rattle.std.proofs.Common.{◌≡◌, ℕ, ◌+◌, ◌<◌, ◌≤◌, List, [], ◌∷◌, drop, Bool, true, false, cond, Result, Ok, Err, refl, arith, subst, nat_le, leb-false, ◌==◌, if◌then◌else◌}
 use Rattle.rpm_tags.specs.declared.tag.Tag.{Tag}
-use Rattle.rpm_tags.specs.Table.{tag_of}
-use Rattle.rpm_qfparse.specs.declared.fault.FormatKind.TheVariants.{MissingOpen, MissingClose, UnknownTag, UnknownFormatter, WidthTooLarge, UnexpectedBracket, UnexpectedBrace, NestedBracket, QuestionExpected, BraceExpected, BarExpected, TooDeep, NoMemory}
+use Rattle.rpm_qfparse.specs.declared.fault.FormatKind.TheVariants.{UnexpectedBracket, UnexpectedBrace, NestedBracket, TooDeep}
 use Rattle.rpm_qfparse.specs.declared.moves.Context.{Context}
 use Rattle.rpm_qfparse.specs.declared.moves.Context.TheVariants as context
-use Rattle.rpm_qfparse.specs.declared.tree.Role.{Role}
 use Rattle.rpm_qfparse.specs.declared.tree.TagPart.{TagPart}
 use Rattle.rpm_qfparse.specs.Tree.{Tree, End, Text, Tagged, Bracket, Condition}
-use Rattle.rpm_qfparse.specs.Tag.{Faulty, Reading, ◌>>=◌, or_fault, begins, split_once, side, number_of, after_number, width, role, named, show_of, name_and_show, formatter, tag_inside, tag_part}
+use Rattle.rpm_qfparse.specs.Tag.{Faulty, Reading, begins, tag_part}
 use Rattle.rpm_qfparse.specs.Moves.{Move, Ends, Stops, Literal, Shows, Opens, Asks, asked, second_follows, close, escaped, shows, asks, percent, at_end, is_bracket, is_branch, move_of}
 use Rattle.rpm_qfparse.specs.Moves as moves
 use Rattle.rpm_qfparse.specs.Format.{Gives, Branches, ends, stops, literal, tag, bracket, in_bracket, condition, in_condition, one, two, in_first, between, in_second, behind_second, behind, with_byte}
 use Rattle.rpm_qfparse.specs.Law.{IsProper}
-
--- ---- results whose value is so, and whose fault is one of the text
-
-abbrev pub IsOwn : Faulty → Type 0
-IsOwn e = e.0 ≢ NoMemory
-
-abbrev pub Keeps : {X : Type 0} → (X → Type 0) → Result X Faulty → Type 0
-Keeps P (Ok x) = P x
-Keeps P (Err e) = IsOwn e
-
-abbrev Any : {X : Type 0} → X → Type 0
-Any x = Unit {0}
-
-bind_keeps : {A B : Type 0} (P : A → Type 0) (Q : B → Type 0) (x : Result A Faulty) (f : A → Result B Faulty) → Keeps P x
-    → ((a : A) → P a → Keeps Q (f a)) → Keeps Q (x >>= f)
-bind_keeps P Q (Ok a) f h g = g a h
-bind_keeps P Q (Err e) f h g = h
-
-if_keeps : {X : Type 0} (P : X → Type 0) (v : Bool) (x y : Result X Faulty) → Keeps P x → Keeps P y → Keeps P (cond v x y)
-if_keeps P true x y h g = h
-if_keeps P false x y h g = g
-
-or_keeps : {X : Type 0} (o : Option X) (e : Faulty) → IsOwn e → Keeps Any (or_fault o e)
-or_keeps None e h = h
-or_keeps (Some x) e h = tt
-
--- ---- tags
-
-abbrev IsNarrow : ℕ × List ℕ → Type 0
-IsNarrow x = x.0 ≤ 4096
-
-width_by : (s : List ℕ) (v : Bool) → nat_lt 4096 (number_of s) ≡ v → Keeps IsNarrow (cond v (Err (WidthTooLarge, s)) (Ok (number_of s, after_number s)))
-width_by s true e = λ p. absurd (cc)
-width_by s false e = ltb-false _ _ e
-
-named_keeps : (name place : List ℕ) → Keeps Any (named name place)
-named_keeps name place = if_keeps Any (length name == 0) _ _ (λ p. absurd (cc)) (or_keeps (tag_of name) (UnknownTag, place) (λ p. absurd (cc)))
-
-formatter_keeps : (name : Option (List ℕ)) (far : ℕ) (place : List ℕ) → Keeps Any (formatter name far place)
-formatter_keeps None far place = tt
-formatter_keeps (Some name) far place = or_keeps (show_of name) (UnknownFormatter, drop far place) (λ p. absurd (cc))
-
-abbrev IsNarrowTag : TagPart → Type 0
-IsNarrowTag p = p.width ≤ 4096
-
-inside_keeps : (left : Bool) (size : ℕ) (r : Role) (inside place : List ℕ) → size ≤ 4096 → Keeps IsNarrowTag (tag_inside left size r inside place)
-inside_keeps left size r inside place le =
-    bind_keeps Any IsNarrowTag (named (name_and_show inside).0 place) _ (named_keeps (name_and_show inside).0 place) (λ t _.
-    bind_keeps Any IsNarrowTag (formatter (name_and_show inside).1 (length (name_and_show inside).0 + 1) place) _
-    (formatter_keeps (name_and_show inside).1 _ place) (λ f _. le))
-
-abbrev IsNarrowPart : TagPart × List ℕ → Type 0
-IsNarrowPart x = x.0.width ≤ 4096
-
-tag_part_keeps : (s : List ℕ) → Keeps IsNarrowPart (tag_part s)
-unfolding tag_part
-tag_part_keeps s =
-    bind_keeps IsNarrow IsNarrowPart (width (side s).1) _ (width_by (side s).1 _ refl) (λ size le.
-    let x : Reading Role = cond (begins 123 size.1) (Ok (role (drop 1 size.1))) (Err (MissingOpen, size.1)) in
-    bind_keeps Any IsNarrowPart x _ (if_keeps Any (begins 123 size.1) (Ok (role (drop 1 size.1))) (Err (MissingOpen, size.1)) tt (λ p. absurd (cc))) (λ inner _.
-    bind_keeps Any IsNarrowPart (or_fault (split_once 125 inner.1) (MissingClose, [])) _ (or_keeps (split_once 125 inner.1) (MissingClose, [])
-    (λ p. absurd (cc))) (λ cut _.
-    bind_keeps IsNarrowTag IsNarrowPart (tag_inside (side s).0 size.0 inner.0 cut.0 inner.1) _ (inside_keeps (side s).0 size.0 inner.0 cut.0 inner.1
-    le) (λ part h. h))))
-
--- ---- conditions
-
-asked_keeps : (s : List ℕ) → Keeps Any (asked s)
-asked_keeps s =
-    bind_keeps Any Any (or_fault (split_once 63 s) (QuestionExpected, [])) _ (or_keeps (split_once 63 s) (QuestionExpected, []) (λ p. absurd (cc))) (λ cut _.
-    bind_keeps Any Any (named cut.0 s) _ (named_keeps cut.0 s) (λ t _. if_keeps Any (begins 123 cut.1) (Ok (t, drop 1 cut.1))
-    (Err (BraceExpected, cut.1)) tt (λ p. absurd (cc))))
-
-second_keeps : (s : List ℕ) → Keeps Any (second_follows s)
-second_keeps s =
-    if_keeps Any (begins 124 s) (Ok (false, drop 1 s)) _ tt
-    (if_keeps Any (begins 58 s) (if begins 123 (drop 1 s) then Ok (true, drop 1 (drop 1 s)) else Err (BraceExpected, drop 1 s)) (Err (BarExpected, s))
-    (if_keeps Any (begins 123 (drop 1 s)) (Ok (true, drop 1 (drop 1 s))) (Err (BraceExpected, drop 1 s)) tt (λ p. absurd (cc)))
-    (λ p. absurd (cc)))
-
-close_keeps : (s : List ℕ) → Keeps Any (close s)
-close_keeps s = if_keeps Any (begins 124 s) (Ok (drop 1 s)) (Err (BarExpected, s)) tt (λ p. absurd (cc))
+use Rattle.rpm_qfparse.proofs.ProperTags.{Any, IsNarrowPart, IsOwn, Keeps, asked_keeps, close_keeps, second_keeps, tag_part_keeps}
 
 -- ---- moves
 

@@ -6,7 +6,9 @@ use Rattle.rpm_qfparse.specs.Tree.{Tree, Tagged, Bracket, Condition}
 use Rattle.rpm_qfparse.specs.Tag.{Faulty, Reading, ◌>>=◌}
 use Rattle.rpm_qfparse.specs.Moves.{Move, Ends, Stops, Literal, Shows, Opens, Asks, move_of, second_follows, close}
 use Rattle.rpm_qfparse.specs.Format.{Gives, Branches, ends, stops, literal, tag, bracket, in_bracket, condition, in_condition, one, two, in_first, between, in_second, behind_second, behind, with_byte, branches_by, step, reading}
-use Rattle.rpm_qfparse.proofs.Shrinks.{Within, RestWithin, Smaller, move_smaller, second_within, close_within, wider}
+use Rattle.rpm_qfparse.proofs.Shrinks.{second_within, close_within}
+use Rattle.rpm_qfparse.proofs.Within.{Within, RestWithin, wider}
+use Rattle.rpm_qfparse.proofs.Smaller.{Smaller, move_smaller}
 
 pub moved : (c : Context) (ib : Bool) (d : ℕ) (s : List ℕ) (m : Move) → move_of c ib d s ≡ m → Smaller (length s) m
 moved c ib d s m e = let P : Move → Type 0 = Smaller (length s) in subst P e (move_smaller c ib d s)

@@ -1,0 +1,69 @@
+-- What a move leaves is no longer than the text.
+use Rattle.std.proofs.Common.{◌≡◌, ℕ, ◌<◌, ◌≤◌, List, [], ◌∷◌, length, drop, Bool, true, false, cond, Ok, Err, refl, arith, ◌==◌, nat_le, if◌then◌else◌}
+use Rattle.rpm_qfparse.specs.declared.tree.TagPart.{TagPart}
+use Rattle.rpm_qfparse.specs.declared.fault.FormatKind.TheVariants.{TooDeep, NestedBracket, UnexpectedBracket, UnexpectedBrace}
+use Rattle.rpm_tags.specs.declared.tag.Tag.{Tag}
+use Rattle.rpm_qfparse.specs.declared.moves.Context.{Context}
+use Rattle.rpm_qfparse.specs.declared.moves.Context.TheVariants as context
+use Rattle.rpm_qfparse.specs.Tag.{Reading, begins, tag_part}
+use Rattle.rpm_qfparse.specs.Moves.{asked, condition, Move, Ends, Stops, Literal, Shows, Opens, Asks, shows, asks, at_end, escaped, percent, is_bracket, is_branch, move_of}
+use Rattle.rpm_qfparse.proofs.Shrinks.{asked_within, tag_part_within}
+use Rattle.rpm_qfparse.proofs.Within.{Within, drop_within}
+
+-- what a move leaves is no longer than the text, and shorter where the context goes on
+abbrev pub Smaller : ℕ → Move → Type 0
+Smaller n (Ends r) = length r ≤ n
+Smaller n (Stops e) = length e.1 ≤ n
+Smaller n (Literal b t) = length t < n
+Smaller n (Shows p t) = length t < n
+Smaller n (Opens t) = length t < n
+Smaller n (Asks q t) = length t < n
+
+pub smaller_if : (n : ℕ) (v : Bool) (x y : Move) → (v ≡ true → Smaller n x) → Smaller n y → Smaller n (cond v x y)
+smaller_if n true x y h g = h refl
+smaller_if n false x y h g = g
+
+shows_smaller : (m n : ℕ) (x : Reading TagPart) → m < n → Within m x → Smaller n (shows x)
+shows_smaller m n (Ok a) lt h = omega arith
+shows_smaller m n (Err e) lt h = omega arith
+
+asks_smaller : (m n : ℕ) (x : Reading Tag) → m < n → Within m x → Smaller n (asks x)
+asks_smaller m n (Ok a) lt h = omega arith
+asks_smaller m n (Err e) lt h = omega arith
+
+pub condition_smaller : (depth : ℕ) (here s : List ℕ) → length s < length here → Smaller (length here) (asks (condition depth here s))
+unfolding condition
+condition_smaller depth here s lt =
+    elim (nat_le 16 depth) as (λ v. Smaller (length here) (asks (cond v (Err (TooDeep, here)) (asked s))))
+    [ true ↦ omega arith | false ↦ asks_smaller (length s) (length here) (asked s) lt (asked_within s) ]
+
+percent_smaller : (depth : ℕ) (here s : List ℕ) → length s < length here → Smaller (length here) (percent depth here s)
+percent_smaller depth here s lt =
+    smaller_if (length here) (begins 37 s) (Literal 37 (drop 1 s)) _ (λ _. omega (arith, drop_within 1 s))
+    (smaller_if (length here) (begins 124 s) (asks (condition depth here (drop 1 s))) _
+    (λ _. condition_smaller depth here (drop 1 s) (omega (arith, drop_within 1 s)))
+    (shows_smaller (length s) (length here) (tag_part s) lt (tag_part_within s)))
+
+end_smaller : (c : Context) → Smaller 0 (at_end c)
+end_smaller context.Top = omega arith
+end_smaller context.Bracket = omega arith
+end_smaller context.Branch = omega arith
+
+escaped_smaller : (b : ℕ) (s : List ℕ) → Smaller (length (b ∷ s)) (escaped s)
+escaped_smaller b [] = omega arith
+escaped_smaller b (x ∷ s) = omega arith
+
+pub move_smaller : (c : Context) (ib : Bool) (d : ℕ) (s : List ℕ) → Smaller (length s) (move_of c ib d s)
+unfolding move_of
+move_smaller c ib d [] = end_smaller c
+move_smaller c ib d (b ∷ s) =
+    let n : ℕ = length (b ∷ s) in
+    smaller_if (length (b ∷ s)) (b == 92) (escaped s) _ (λ _. escaped_smaller b s)
+    (smaller_if (length (b ∷ s)) (b == 91) (if ib then Stops (NestedBracket, b ∷ s) else Opens s) _
+    (λ _. smaller_if (length (b ∷ s)) ib (Stops (NestedBracket, b ∷ s)) (Opens s) (λ _. omega arith) (omega arith))
+    (smaller_if (length (b ∷ s)) (b == 93) (if is_bracket c then Ends s else Stops (UnexpectedBracket, b ∷ s)) _
+    (λ _. smaller_if (length (b ∷ s)) (is_bracket c) (Ends s) (Stops (UnexpectedBracket, b ∷ s)) (λ _. omega arith) (omega arith))
+    (smaller_if (length (b ∷ s)) (b == 125) (if is_branch c then Ends s else Stops (UnexpectedBrace, b ∷ s)) _
+    (λ _. smaller_if (length (b ∷ s)) (is_branch c) (Ends s) (Stops (UnexpectedBrace, b ∷ s)) (λ _. omega arith) (omega arith))
+    (smaller_if (length (b ∷ s)) (b == 37) (percent d (b ∷ s) s) (Literal b s)
+    (λ _. percent_smaller d (b ∷ s) s (omega arith)) (omega arith)))))
