@@ -4,3 +4,4 @@ pub mod Joined
 pub mod Listed
 pub mod Merged
 pub mod Packaged
+pub mod Tagged

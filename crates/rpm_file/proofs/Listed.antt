@@ -1,11 +1,10 @@
 -- A header of a list, read in two pieces.
-use Rattle.std.proofs.Common.{◌≡◌, ℕ, zero, suc, get_or, ◌+◌, ◌-◌, ◌*◌, ◌≤◌, ◌<◌, List, [], ◌∷◌, ◌++◌, Option, Result, Ok, Err, length, take, drop, true, false, Bool, refl, sym, ap, ◌∙◌, arith, length-append, append_assoc, le-ltb, lt-ltb}
+use Rattle.std.proofs.Common.{◌≡◌, ℕ, ◌+◌, ◌-◌, ◌*◌, ◌≤◌, ◌<◌, List, [], ◌∷◌, ◌++◌, Option, Result, Ok, Err, length, take, drop, true, false, Bool, refl, sym, ap, ◌∙◌, arith, length-append, append_assoc, le-ltb, lt-ltb}
 use Rattle.std.specs.Prelude.{nat_lt, not, if◌then◌else◌, nat_eq}
 use Rattle.std.specs.Cmp.Lexicographic.{pointwise}
-use Rattle.std.specs.Int.{Width, w32, byte_len, byte_worth, sum_through, from_be_bytes}
-use Rattle.std.proofs.lemmas.List.{get_or_append_left, take-append-le, take_all, take_at, drop_at, drop-append-le, drop-drop, length-take, length-drop}
+use Rattle.std.specs.Int.{w32}
+use Rattle.std.proofs.lemmas.List.{take-append-le, take_all, take_at, drop_at, drop-append-le, drop-drop, length-take, length-drop}
 use Rattle.rpm_header.specs.inner.Longer.{number_longer}
-use Rattle.rpm_header.specs.Bytes.{number_at}
 use Rattle.rpm_header.specs.Digest.{magic}
 use Rattle.rpm_file.specs.declared.fault.ListFault.{ListFault}
 use Rattle.rpm_file.specs.declared.fault.ListFault.TheVariants as fault

@@ -1,4 +1,4 @@
-use Rattle.std.proofs.Common.{◌≡◌, ◌≤◌, ◌-◌, take, vec_len}
+use Rattle.std.proofs.Common.{◌≤◌, ◌-◌, take, vec_len}
 use Rattle.std.specs.Prelude.{IsTrue}
 use Rattle.rpm_outside.specs.Browses.{Browses}
 use Rattle.rpm_file.specs.inner.Filling.{Extends}
