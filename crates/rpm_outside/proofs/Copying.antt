@@ -1,7 +1,7 @@
 -- Copies of settled moments stay what they are, and one is as good a start as moment 0.
-use Rattle.std.proofs.Common.{◌≡◌, inl, inr, ⊎_elim, ℕ, zero, suc, ◌≤◌, Bool, true, false, List, [], ◌∷◌, ◌++◌, take, length, refl, sym, ◌∙◌, ap, subst, arith}
-use Rattle.std.specs.Prelude.{Some, slice_get, ◌⊎◌}
-use Rattle.std.proofs.lemmas.List.{take_all, take-append-le, length_push}
+use Rattle.std.proofs.Common.{◌≡◌, inl, inr, ⊎_elim, ℕ, true, false, List, [], ◌∷◌, ◌++◌, take, length, sym, ◌∙◌, ap, subst, arith}
+use Rattle.std.specs.Prelude.{Some, slice_get}
+use Rattle.std.proofs.lemmas.List.{take_all}
 use Rattle.rpm_outside.specs.declared.disk.File.{File}
 use Rattle.rpm_outside.specs.declared.disk.File.TheVariants.{Pkg, Idx, Log}
 use Rattle.rpm_outside.specs.declared.copies.Copy.{Copy}
@@ -10,73 +10,13 @@ use Rattle.rpm_outside.specs.declared.steps.Pick.{Pick}
 use Rattle.rpm_outside.specs.declared.steps.Step.{Step}
 use Rattle.rpm_outside.specs.declared.steps.Step.TheVariants.{Wrote, Synced}
 use Rattle.rpm_outside.specs.Files.{Units, Files, file_of, with_file, put, cases_file}
-use Rattle.rpm_outside.specs.Past.{after_steps, Images, WroteOnce, WroteAny}
+use Rattle.rpm_outside.specs.Past.{after_steps, WroteOnce, WroteAny}
 use Rattle.rpm_outside.specs.Picks.{picked, picked_image}
 use Rattle.rpm_outside.specs.inner.FileLaws.{file_of-with, other_file, same_files}
-use Rattle.rpm_outside.specs.inner.History.{after_steps-push, as_read_now, now_images}
-use Rattle.rpm_outside.specs.inner.Copies.{is_loose, loosened, tightened, AddsCopy, NoneLoose, SettlesFile, StartsFrom, IsCopy, HoldCopies}
+use Rattle.rpm_outside.specs.inner.History.{after_steps-push}
+use Rattle.rpm_outside.specs.inner.Copies.{is_loose, loosened, AddsCopy, NoneLoose, SettlesFile, IsCopy, HoldCopies}
 use Rattle.rpm_outside.proofs.Picking.{picked_image-push}
-
-loosened_same : (file : File) (loose : Bool) → loosened file file loose ≡ true
-loosened_same Pkg loose = refl
-loosened_same Idx loose = refl
-loosened_same Log loose = refl
-
-loosened_other : (file other : File) (loose : Bool) → (other ≡ file → ⊥) → loosened file other loose ≡ loose
-loosened_other Pkg Pkg loose differ = absurd (differ refl)
-loosened_other Pkg Idx loose differ = refl
-loosened_other Pkg Log loose differ = refl
-loosened_other Idx Pkg loose differ = refl
-loosened_other Idx Idx loose differ = absurd (differ refl)
-loosened_other Idx Log loose differ = refl
-loosened_other Log Pkg loose differ = refl
-loosened_other Log Idx loose differ = refl
-loosened_other Log Log loose differ = absurd (differ refl)
-
-tightened_other : (file other : File) (loose : Bool) → (other ≡ file → ⊥) → tightened file other loose ≡ loose
-tightened_other Pkg Pkg loose differ = absurd (differ refl)
-tightened_other Pkg Idx loose differ = refl
-tightened_other Pkg Log loose differ = refl
-tightened_other Idx Pkg loose differ = refl
-tightened_other Idx Idx loose differ = absurd (differ refl)
-tightened_other Idx Log loose differ = refl
-tightened_other Log Pkg loose differ = refl
-tightened_other Log Idx loose differ = refl
-tightened_other Log Log loose differ = absurd (differ refl)
-
--- the flags of a file after a write
-pub record Loosens (old new : Copies) (file : File) : Type 0 where
-  pub kept : new.kept.items ≡ old.kept.items
-  pub pkg : new.loose_pkg ≡ loosened file Pkg old.loose_pkg
-  pub idx : new.loose_idx ≡ loosened file Idx old.loose_idx
-  pub log : new.loose_log ≡ loosened file Log old.loose_log
-
-loosens_each : (old new : Copies) (file : File) → Loosens old new file → (f : File) → is_loose new f ≡ loosened file f (is_loose old f)
-loosens_each old new file l Pkg = l.pkg
-loosens_each old new file l Idx = l.idx
-loosens_each old new file l Log = l.log
-
-settles_each : (old new : Copies) (file : File) (at : ℕ) (files : Files) → SettlesFile old new file at files → (f : File) → is_loose new f
-    ≡ tightened file f (is_loose old f)
-settles_each old new file at files s Pkg = s.pkg
-settles_each old new file at files s Idx = s.idx
-settles_each old new file at files s Log = s.log
-
-copy_longer : (past : List Step) (step : Step) (first : Files) (copy : Copy) → IsCopy past first copy → IsCopy (past ++ step ∷ []) first copy
-copy_longer past step first copy is =
-    let same : take copy.at (past ++ step ∷ []) ≡ take copy.at past = take-append-le copy.at past (step ∷ []) is.within in
-    record {
-      within = omega (arith, is.within, length_push past step);
-      read = is.read ∙ ap (λ (s : List Step). after_steps s first) (sym same);
-      picked = λ pick. ap (λ (s : List Step). picked_image pick s first first) same ∙ is.picked pick;
-    }
-
--- an element of a list that is one longer
-pushed_get : (copies : List Copy) (last copy : Copy) (k : ℕ) → slice_get (copies ++ last ∷ []) k ≡ Some copy → (slice_get copies k ≡ Some copy) ⊎ (copy ≡ last)
-pushed_get [] last copy zero is = inr (let same : Some last ≡ Some copy = is in cc)
-pushed_get [] last copy (suc k) is = inl is
-pushed_get (c ∷ copies) last copy zero is = inl is
-pushed_get (c ∷ copies) last copy (suc k) is = pushed_get copies last copy k is
+use Rattle.rpm_outside.proofs.Loosening.{Loosens, copy_longer, loosened_other, loosened_same, loosens_each, pushed_get, settles_each, tightened_other}
 
 module _ (old new : Copies) (past : List Step) (first files : Files) (hold : HoldCopies old past first files) where
   -- nothing was written
@@ -181,32 +121,3 @@ module _ (old new : Copies) (past : List Step) (first files : Files) (hold : Hol
                 ∙ same_files (picked_image pick steps first first) files (λ f. settled f (tight_each none f) pick)
                 ∙ sym adds.files_are;
           }
-
--- what a replay from a copy begins with
-pub record Begun (steps : List Step) (first : Files) (pick : Pick) (at : ℕ) (files : Files) : Type 0 where
-  pub now : files ≡ after_steps (take at steps) first
-  pub picked_is : files ≡ picked_image pick (take at steps) first first
-  pub image : Images (take at steps) first files
-
-module _ (copies : Copies) (steps : List Step) (first now : Files) (hold : HoldCopies copies steps first now) where
-  read_begun : (pick : Pick) (at : ℕ) (files : Files) → files ≡ after_steps (take at steps) first → files ≡ picked_image pick (take at steps) first first
-      → Begun steps first pick at files
-  read_begun pick at files read is = record {
-    now = read;
-    picked_is = is;
-    image = now_images (take at steps) first files (as_read_now (take at steps) first files read);
-  }
-
-  pub begun : (pick : Pick) (moment at : ℕ) (files : Files) → StartsFrom copies.kept.items first moment at files → Begun steps first pick at files
-  begun pick moment at files (inl (zeros, is)) = read_begun pick at files
-      (is ∙ ap (λ (n : ℕ). after_steps (take n steps) first) (sym zeros))
-      (is ∙ ap (λ (n : ℕ). picked_image pick (take n steps) first first) (sym zeros))
-  begun pick moment at files (inr from) =
-      let copy = hold.each from.has.k from.copy from.has.there in
-      read_begun pick at files
-      (from.files_are ∙ copy.read ∙ ap (λ (n : ℕ). after_steps (take n steps) first) (sym from.at_is))
-      (from.files_are ∙ sym (copy.picked pick) ∙ ap (λ (n : ℕ). picked_image pick (take n steps) first first) (sym from.at_is))
-
-  pub begun_before : (moment at : ℕ) (files : Files) → StartsFrom copies.kept.items first moment at files → at ≤ moment
-  begun_before moment at files (inl (zeros, is)) = omega (arith, zeros)
-  begun_before moment at files (inr from) = omega (arith, from.at_is, from.has.before)

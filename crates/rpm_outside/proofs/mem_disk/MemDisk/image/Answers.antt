@@ -7,7 +7,7 @@ use Rattle.rpm_outside.specs.Past.{held_files, after_step, after_steps, Images, 
 use Rattle.rpm_outside.specs.inner.History.{after_steps-push}
 use Rattle.rpm_outside.specs.inner.ImageLaws.{images_are}
 use Rattle.rpm_outside.specs.Picks.{picked_step, picked_image}
-use Rattle.rpm_outside.proofs.Copying.{begun, begun_before}
+use Rattle.rpm_outside.proofs.Replaying.{begun, begun_before}
 use Rattle.rpm_outside.proofs.Mixes.{image_step}
 use Rattle.rpm_outside.proofs.Picking.{picked_step_to, picked_image-push}
 use Rattle.rpm_outside.proofs.mem_disk.MemDisk.image.Goals as goal

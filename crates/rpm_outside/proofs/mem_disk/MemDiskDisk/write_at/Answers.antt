@@ -10,7 +10,8 @@ use Rattle.rpm_outside.specs.declared.disk.File.{File}
 use Rattle.rpm_outside.specs.declared.mem_disk.MemDisk.{MemDisk}
 use Rattle.rpm_outside.specs.declared.steps.Step.{Step}
 use Rattle.rpm_outside.specs.inner.Copies.{HoldCopies}
-use Rattle.rpm_outside.proofs.Copying.{Loosens, any_held}
+use Rattle.rpm_outside.proofs.Copying.{any_held}
+use Rattle.rpm_outside.proofs.Loosening.{Loosens}
 use Rattle.rpm_outside.proofs.Named.{named_fails, other_passes}
 use Rattle.rpm_outside.proofs.Replays.{nothing_left, part_left, whole_rose}
 use Rattle.rpm_outside.proofs.mem_disk.MemDiskDisk.write_at.Goals as goal
