@@ -1,58 +1,10 @@
 -- Counting what is held, run by run.
 use Rattle.std.proofs.Common.{◌≡◌, inl, inr, ℕ, zero, suc, ◌+◌, ◌-◌, ◌<◌, ◌≤◌, refl, sym, ap, ◌∙◌, arith, true, false}
-use Rattle.std.specs.Prelude.{Bool, ◌&&◌, not, if◌then◌else◌}
-use Rattle.std.proofs.lemmas.Bool.{cases_lt, and_left, and_right, and_from, cases_Bool}
+use Rattle.std.specs.Prelude.{Bool, ◌&&◌, not}
+use Rattle.std.proofs.lemmas.Bool.{cases_lt, and_left, and_right, and_from}
 use Rattle.rpm_group.specs.Held.{Table}
 use Rattle.rpm_group.specs.Counts.{count_below, is_held, begins_run, log_units}
-
-pub step : (test : ℕ → Bool) (n : ℕ) → test n ≡ false → count_below test (suc n) ≡ count_below test n
-unfolding count_below
-step test n none = ap (λ (b : Bool). count_below test n + (if b then 1 else 0)) none ∙ omega arith
-
-pub step_one : (test : ℕ → Bool) (n : ℕ) → test n ≡ true → count_below test (suc n) ≡ count_below test n + 1
-unfolding count_below
-step_one test n one = ap (λ (b : Bool). count_below test n + (if b then 1 else 0)) one
-
-pub count_none : (test : ℕ → Bool) (from n : ℕ) → ((i : ℕ) → from ≤ i → i < from + n → test i ≡ false) → count_below test (from + n) ≡ count_below test from
-count_none test from zero none = ap (λ (k : ℕ). count_below test k) (omega arith)
-count_none test from (suc n) none = ap (λ (k : ℕ). count_below test k) (next from n)
-    ∙ step test (from + n) (none (from + n) (omega arith) (omega arith)) ∙ count_none test from n (λ i low high. none i low (omega arith))
-  where
-    next : (a b : ℕ) → a + suc b ≡ suc (a + b)
-    next a b = omega arith
-
-pub count_all : (test : ℕ → Bool) (from n : ℕ) → ((i : ℕ) → from ≤ i → i < from + n → test i ≡ true) → count_below test (from + n) ≡ count_below test from + n
-count_all test from zero all = ap (λ (k : ℕ). count_below test k) (same from) ∙ more (count_below test from)
-  where
-    same : (a : ℕ) → a + 0 ≡ a
-    same a = omega arith
-
-    more : (a : ℕ) → a ≡ a + 0
-    more a = omega arith
-count_all test from (suc n) all =
-    ap (λ (k : ℕ). count_below test k) (next from n)
-    ∙ step_one test (from + n) (all (from + n) (omega arith) (omega arith))
-    ∙ ap (λ (k : ℕ). k + 1) (count_all test from n (λ i low high. all i low (omega arith)))
-    ∙ last (count_below test from) n
-  where
-    next : (a b : ℕ) → a + suc b ≡ suc (a + b)
-    next a b = omega arith
-
-    last : (a b : ℕ) → a + b + 1 ≡ a + suc b
-    last a b = omega arith
-
-pub count_later : (test : ℕ → Bool) (from n : ℕ) → count_below test from ≤ count_below test (from + n)
-count_later test from zero = omega (arith, ap (λ (k : ℕ). count_below test k) (same from))
-  where
-    same : (a : ℕ) → a ≡ a + 0
-    same a = omega arith
-count_later test from (suc n) = elim (cases_Bool (test (from + n))) [
-  | inl one ↦ omega (arith, count_later test from n, step_one test (from + n) one, ap (λ (k : ℕ). count_below test k) (next from n))
-  | inr none ↦ omega (arith, count_later test from n, step test (from + n) none, ap (λ (k : ℕ). count_below test k) (next from n))
-]
-  where
-    next : (a b : ℕ) → a + suc b ≡ suc (a + b)
-    next a b = omega arith
+use Rattle.rpm_group.proofs.Counts.{count_all, count_later, count_none, none_pass, step_one}
 
 pub log_units_later : (table : Table) (from end : ℕ) → from ≤ end → log_units table from ≤ log_units table end
 log_units_later table from end le =
@@ -149,22 +101,6 @@ module _ (table : Table) (at first : ℕ) (from : at ≤ first) (before : (i : �
     -- it costs its head and its units
     pub run_counted : log_units table stop ≡ log_units table at + 1 + (stop - first)
     run_counted = omega (arith, run_begins, run_units)
-
--- where no run begins nothing is held
-step_parts : (test : ℕ → Bool) (n : ℕ) → count_below test (suc n) ≡ 0 → (count_below test n ≡ 0) × (test n ≡ false)
-step_parts test n none = elim (cases_Bool (test n)) [
-  | inl one ↦ absurd (omega (arith, none, step_one test n one))
-  | inr no_one ↦ (sym (step test n no_one) ∙ none, no_one)
-]
-
-pub none_pass : (test : ℕ → Bool) (n : ℕ) → count_below test n ≡ 0 → (i : ℕ) → i < n → test i ≡ false
-none_pass test zero none i below = absurd (omega (arith, below))
-none_pass test (suc n) none i below = elim (cases_lt i n) [
-  | inl before ↦ none_pass test n (step_parts test n none).0 i before
-  | inr last ↦
-      let same : n ≡ i = omega arith in
-      ap test (sym same) ∙ (step_parts test n none).1
-]
 
 unbegun : (table : Table) (n : ℕ) → ((i : ℕ) → i < n → begins_run table i ≡ false) → (i : ℕ) → i < n → is_held table i ≡ false
 unfolding begins_run

@@ -1,10 +1,16 @@
+pub mod Counts
 mod Fixtures
+pub mod GateOpens
 pub mod Gates
 pub mod Copies
 pub mod Applied
 pub mod Closes
 pub mod ByteLaws
+pub mod Gathered
+pub mod LaidRuns
 pub mod Marks
+pub mod OneRun
+pub mod Stages
 pub mod Tables
 pub mod Laids
 pub mod Readouts

@@ -8,7 +8,7 @@ use Rattle.rpm_group.specs.declared.pages.Pages.{Pages}
 use Rattle.rpm_group.specs.Counts.{count_below, is_held, begins_run}
 use Rattle.rpm_group.specs.Layers.{laid_file, laid_files}
 use Rattle.rpm_group.specs.Groups.{units_of_log, needed, longest_log}
-use Rattle.rpm_group.proofs.Countings.{step, step_one}
+use Rattle.rpm_group.proofs.Counts.{step, step_one}
 use Rattle.rpm_group.proofs.Laids.{length-laid}
 
 count_most : (test : ℕ → Bool) (n : ℕ) → count_below test n ≤ n

@@ -5,7 +5,7 @@ use Rattle.rpm_outside.specs.inner.Leaves.{sync_leaves}
 use Rattle.rpm_outside.specs.Logs.{unlogged, with_entries}
 use Rattle.rpm_group.specs.Groups.{BeforeOrAfter}
 use Rattle.rpm_group.proofs.Orders.{gate_keeps}
-use Rattle.rpm_group.proofs.Committing.{opens, gate_leaves, gate_opened}
+use Rattle.rpm_group.proofs.GateOpens.{opens, gate_leaves, gate_opened}
 use Rattle.rpm_group.proofs.commit.open_log.Goals as goal
 
 pub returns-in_err-write_at-clause-images : goal.returns-in_err-write_at-clause-images

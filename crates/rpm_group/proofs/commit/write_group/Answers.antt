@@ -10,7 +10,7 @@ use Rattle.rpm_group.specs.inner.Behind.{KeepsBehind}
 use Rattle.rpm_group.proofs.Orders.{keeps_then, group_logged}
 use Rattle.rpm_group.proofs.Countings.{no_runs}
 use Rattle.rpm_group.proofs.Closes.{applied_settled, mid_open, mid_done}
-use Rattle.rpm_group.proofs.Committing.{still_closed, unlogged_changed, stage_one, stage_two, stage_three, stage_four}
+use Rattle.rpm_group.proofs.Stages.{still_closed, unlogged_changed, stage_one, stage_two, stage_three, stage_four}
 use Rattle.rpm_group.proofs.commit.write_group.Goals as goal
 
 pub returns-in_err-tail-clause-images : goal.returns-in_err-tail-clause-images

@@ -8,7 +8,8 @@ use Rattle.rpm_group.specs.inner.Logged.{Logged, run_entry}
 use Rattle.rpm_group.specs.inner.Leavings.{WasWithin}
 use Rattle.rpm_group.proofs.Applied.{within_more, with_entries-append}
 use Rattle.rpm_group.proofs.Countings.{none_begun, gap_begins, run_begins}
-use Rattle.rpm_group.proofs.LoggedLaws.{logged_none, logged_gap, logged_more, logged_laid}
+use Rattle.rpm_group.proofs.LoggedLaws.{logged_none, logged_gap, logged_more}
+use Rattle.rpm_group.proofs.LaidRuns.{logged_laid}
 use Rattle.rpm_group.proofs.group.apply_runs.Goals as goal
 
 pub loop-at-init : goal.loop-at-init

@@ -1,17 +1,18 @@
-use Rattle.std.proofs.Common.{◌≡◌, ℕ, ◌+◌, ◌-◌, ◌<◌, ◌≤◌, ◌^◌, ◌++◌, ◌∷◌, [], length, refl, sym, ap, subst, arith}
+mod Places
+use Rattle.std.proofs.Common.{◌≡◌, ℕ, ◌+◌, ◌-◌, ◌<◌, ◌^◌, ◌++◌, ◌∷◌, [], length, refl, sym, ap, subst, arith}
 use Rattle.rpm_outside.specs.declared.disk.File.TheVariants.{Log}
 use Rattle.rpm_outside.specs.Files.{Files}
-use Rattle.rpm_outside.specs.Changed.{LeavesChanged}
-use Rattle.rpm_outside.specs.inner.ChangedLaws.{leaves_none, changed_none, changed_then, changed_leaves_then, changed_leaves_more}
-use Rattle.rpm_group.specs.Held.{Table}
+use Rattle.rpm_outside.specs.inner.ChangedLaws.{leaves_none, changed_none, changed_then}
 use Rattle.rpm_group.specs.Counts.{begins_run, count_below, log_units}
 use Rattle.rpm_group.specs.LogReads.{nothing_none, nothing_then}
 use Rattle.rpm_group.specs.inner.Logged.{Logged, run_entry}
 use Rattle.rpm_group.specs.inner.Words.{IsHeadOf}
 use Rattle.rpm_group.proofs.Runs.{length-units_held}
-use Rattle.rpm_group.proofs.Countings.{none_begun, log_units_none, gap_begins, gap_counted, run_begins, run_counted, log_units_later}
+use Rattle.rpm_group.proofs.Countings.{none_begun, log_units_none, gap_begins, gap_counted, run_begins, run_counted}
 use Rattle.rpm_group.proofs.Entering.{entered_more, put_changed}
+use Rattle.rpm_group.proofs.OneRun.{room_here, run_leaves}
 use Rattle.rpm_group.proofs.LoggedLaws.{logged_none, logged_gap, logged_more}
+use Rattle.rpm_group.proofs.group.log_runs.Answers.Places as places
 use Rattle.rpm_group.proofs.group.log_runs.Goals as goal
 
 pub loop-at-init : goal.loop-at-init
@@ -31,57 +32,17 @@ loop-at-init g c =
       faults = omega arith;
     }
 
--- there is room for one more run
-room_here : (table : Table) (place tail at first stop end : ℕ) → place ≡ tail + log_units table at → log_units table stop ≡ log_units table at + 1
-    + (stop - first) → stop ≤ end → tail + log_units table end ≤ 2 ^ 28 → place + 1 + (stop - first) ≤ 2 ^ 28
-room_here table place tail at first stop end is counted below room = omega (arith, is, counted, log_units_later table stop end below, room)
-
 pub log_run-requires-clause-room : goal.log_run-requires-clause-room
-log_run-requires-clause-room g c =
-    let inv = c.loop-at.invariant in
-    let table = c.args.pages.now.table.items in
-    let first = c.next_unit-first in
-    let stop = c.next_unit-stop in
-    room_here table c.loop-at.next.at c.args.tail.at c.loop-at.at first.result stop.result c.args.pages.now.end inv.place
-    (run_counted table c.loop-at.at first.result first.ensures.from first.ensures.between stop.result c.if-first-stop.true stop.ensures.between
-    (λ some. inv.starts some c.loop-at-test.true)) stop.ensures.end c.requires.room
+log_run-requires-clause-room = places.log_run-requires-clause-room
 
 pub overflow_add-next : goal.overflow_add-next
-overflow_add-next g c =
-    let inv = c.loop-at.invariant in
-    let table = c.args.pages.now.table.items in
-    let first = c.next_unit-first in
-    let stop = c.next_unit-stop in
-    let room = room_here table c.loop-at.next.at c.args.tail.at c.loop-at.at first.result stop.result c.args.pages.now.end inv.place
-    (run_counted table c.loop-at.at first.result first.ensures.from first.ensures.between stop.result c.if-first-stop.true stop.ensures.between
-    (λ some. inv.starts some c.loop-at-test.true)) stop.ensures.end c.requires.room in
-    omega arith
+overflow_add-next = places.overflow_add-next
 
 pub overflow_add-next-then-first-stop : goal.overflow_add-next-then-first-stop
-overflow_add-next-then-first-stop g c =
-    let inv = c.loop-at.invariant in
-    let table = c.args.pages.now.table.items in
-    let first = c.next_unit-first in
-    let stop = c.next_unit-stop in
-    let room = room_here table c.loop-at.next.at c.args.tail.at c.loop-at.at first.result stop.result c.args.pages.now.end inv.place
-    (run_counted table c.loop-at.at first.result first.ensures.from first.ensures.between stop.result c.if-first-stop.true stop.ensures.between
-    (λ some. inv.starts some c.loop-at-test.true)) stop.ensures.end c.requires.room in
-    omega arith
+overflow_add-next-then-first-stop = places.overflow_add-next-then-first-stop
 
 pub overflow_add-next-then-first-stop-2 : goal.overflow_add-next-then-first-stop-2
-overflow_add-next-then-first-stop-2 g c =
-    let inv = c.loop-at.invariant in
-    let table = c.args.pages.now.table.items in
-    omega (arith, inv.count, c.requires.few, c.requires.room, log_units_later table c.loop-at.at c.args.pages.now.end inv.end)
-
--- what a stop leaves of one run more
-run_leaves : {D : Type 0} (moment : D → ℕ) (left_since : D → ℕ → Files → Type 0) (start place end : ℕ) (old mid new : D) → start ≤ place → end ≤ 2 ^ 28
-    → ((image : Files) → left_since mid (moment mid) image → left_since mid (moment old) image)
-    → LeavesChanged moment left_since Log start (2 ^ 28) old mid → LeavesChanged moment left_since Log place end mid new
-    → LeavesChanged moment left_since Log start (2 ^ 28) old new
-run_leaves moment left_since start place end old mid new low high earlier one two =
-    changed_leaves_then moment left_since Log start (2 ^ 28) old mid new earlier one
-    (changed_leaves_more moment left_since Log place end start (2 ^ 28) mid new low high two)
+overflow_add-next-then-first-stop-2 = places.overflow_add-next-then-first-stop-2
 
 pub returns-in_err-log_run-clause-images : goal.returns-in_err-log_run-clause-images
 returns-in_err-log_run-clause-images g c = λ told.

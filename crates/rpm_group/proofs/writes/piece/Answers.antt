@@ -1,6 +1,6 @@
 use Rattle.std.proofs.Common.{◌≡◌, ◌+◌, ◌-◌, ◌*◌, ◌/◌, length, arith}
 use Rattle.rpm_group.specs.inner.HeldUnits.{AreHeld}
-use Rattle.rpm_group.proofs.Runs.{piece_units}
+use Rattle.rpm_group.proofs.Gathered.{piece_units}
 use Rattle.rpm_group.proofs.writes.piece.Goals as goal
 
 pub returns-clause-units : goal.returns-clause-units

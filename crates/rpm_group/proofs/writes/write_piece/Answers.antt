@@ -2,7 +2,7 @@ use Rattle.std.proofs.Common.{◌≡◌, ℕ, ◌+◌, ◌/◌, List, length, ap
 use Rattle.rpm_outside.specs.Files.{Units, Files, file_of, with_file, units_of, put}
 use Rattle.rpm_outside.specs.inner.Cuts.{length-cut_up}
 use Rattle.rpm_outside.specs.inner.ChangedLaws.{write_leaves}
-use Rattle.rpm_group.proofs.Runs.{gathered_units}
+use Rattle.rpm_group.proofs.Gathered.{gathered_units}
 use Rattle.rpm_group.proofs.writes.write_piece.Goals as goal
 
 long : (at n : ℕ) (bytes : List ℕ) → length bytes ≡ n → at + length (units_of bytes) ≡ at + n / 16

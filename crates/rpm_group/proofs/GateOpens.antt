@@ -1,0 +1,56 @@
+-- A gate that opens a log.
+use Rattle.std.proofs.Common.{◌≡◌, ℕ, ◌+◌, ◌-◌, ◌<◌, List, [], ◌∷◌, length, sym, ap, subst, ◌∙◌, arith}
+use Rattle.rpm_outside.specs.declared.disk.File.TheVariants.{Log}
+use Rattle.rpm_outside.specs.Files.{Units, Files, with_file, put}
+use Rattle.rpm_outside.specs.Crash.{LeavesOnly, TornFile, Elapses, OnlyAfter}
+use Rattle.rpm_outside.specs.Logs.{Entry, Closed, Open, log_state, unlogged, with_entries}
+use Rattle.rpm_outside.specs.LogWrites.{EntriesIn, IsGate}
+use Rattle.rpm_outside.specs.inner.LogWriting.{entries_long, word_full, opened_is}
+use Rattle.rpm_group.specs.inner.Words.{IsUnitOf}
+use Rattle.rpm_group.specs.declared.group.Tail.{Tail}
+use Rattle.rpm_group.specs.Groups.{BeforeOrAfter}
+use Rattle.rpm_group.specs.inner.Grouped.{IsTail}
+use Rattle.rpm_group.proofs.Committing.{opening_leaves}
+
+-- a gate that opens a log
+pub record Opens (gate : List ℕ) (entries : List Entry) (tail : Tail) (log : Units) : Type 0 where
+  pub is_gate : IsGate gate (length entries) (tail.at - 1)
+  pub some : 0 < length entries
+  pub below : tail.at - 1 < length log
+  pub placed : EntriesIn entries 1 (tail.at - 1 + 1) log
+
+pub opens : (gate : List ℕ) (entries : List Entry) (tail : Tail) (log : Units) → IsUnitOf 0x4c6d_7052 1 tail.entries (tail.at - 1) gate
+    → IsTail entries tail log → 0 < tail.entries → 1 < tail.at → Opens gate entries tail log
+opens gate entries tail log unit is some place =
+    let same : tail.at ≡ tail.at - 1 + 1 = omega arith in
+    let any : 0 < length entries = omega (arith, is.count) in
+    record {
+      is_gate = record {
+        magic = unit.one;
+        version = unit.two;
+        count = unit.three ∙ sym is.count;
+        end = unit.four;
+        full =
+            word_full gate (λ zero. absurd (omega (arith, zero, unit.one)));
+      };
+      some = any;
+      below = omega (arith, entries_long entries 1 tail.at log any is.placed);
+      placed = subst (λ (i : ℕ). EntriesIn entries 1 i log) same is.placed;
+    }
+
+module _ {D : Type 0} (moment : D → ℕ) (left_since : D → ℕ → Files → Type 0) where
+  pub gate_leaves : (old new : D) (files : Files) (gate : List ℕ) (units : Units) (entries : List Entry) (tail : Tail) → units ≡ gate ∷ []
+      → Opens gate entries tail files.log → log_state files.log ≡ Closed
+      → ((image : Files) → left_since old (moment old) image → image ≡ files)
+      → OnlyAfter (TornFile Log 0 units) (left_since old (moment old)) (left_since new (moment new))
+      → Elapses (moment old) (moment new) (left_since old) (left_since new)
+      → LeavesOnly moment left_since old new (BeforeOrAfter (unlogged files) (with_entries entries (unlogged files)))
+  gate_leaves old new files gate units entries tail is o closed settled images time =
+      opening_leaves moment left_since old new files gate entries (tail.at - 1) o.is_gate o.some o.below o.placed closed settled
+      (subst (λ (us : Units). OnlyAfter (TornFile Log 0 us) (left_since old (moment old)) (left_since new (moment new))) is images) time
+
+pub gate_opened : (files mid new : Files) (gate : List ℕ) (units : Units) (entries : List Entry) (tail : Tail) → units ≡ gate ∷ []
+    → Opens gate entries tail files.log → mid ≡ with_file Log (put 0 units files.log) files → new ≡ mid → log_state new.log ≡ Open entries
+gate_opened files mid new gate units entries tail is o written same =
+    ap (λ (f : Files). log_state f.log) (same ∙ written ∙ ap (λ (us : Units). with_file Log (put 0 us files.log) files) is)
+    ∙ opened_is gate entries (tail.at - 1) files.log o.is_gate o.some o.below o.placed

@@ -1,0 +1,23 @@
+-- One run more in the log: its room, and what a stop leaves of it.
+use Rattle.std.proofs.Common.{◌≡◌, ℕ, ◌+◌, ◌-◌, ◌≤◌, ◌^◌, arith}
+use Rattle.rpm_outside.specs.declared.disk.File.TheVariants.{Log}
+use Rattle.rpm_outside.specs.Files.{Files}
+use Rattle.rpm_outside.specs.Changed.{LeavesChanged}
+use Rattle.rpm_outside.specs.inner.ChangedLaws.{changed_leaves_then, changed_leaves_more}
+use Rattle.rpm_group.specs.Held.{Table}
+use Rattle.rpm_group.specs.Counts.{log_units}
+use Rattle.rpm_group.proofs.Countings.{log_units_later}
+
+-- there is room for one more run
+pub room_here : (table : Table) (place tail at first stop end : ℕ) → place ≡ tail + log_units table at → log_units table stop ≡ log_units table at + 1
+    + (stop - first) → stop ≤ end → tail + log_units table end ≤ 2 ^ 28 → place + 1 + (stop - first) ≤ 2 ^ 28
+room_here table place tail at first stop end is counted below room = omega (arith, is, counted, log_units_later table stop end below, room)
+
+-- what a stop leaves of one run more
+pub run_leaves : {D : Type 0} (moment : D → ℕ) (left_since : D → ℕ → Files → Type 0) (start place end : ℕ) (old mid new : D) → start ≤ place → end ≤ 2 ^ 28
+    → ((image : Files) → left_since mid (moment mid) image → left_since mid (moment old) image)
+    → LeavesChanged moment left_since Log start (2 ^ 28) old mid → LeavesChanged moment left_since Log place end mid new
+    → LeavesChanged moment left_since Log start (2 ^ 28) old new
+run_leaves moment left_since start place end old mid new low high earlier one two =
+    changed_leaves_then moment left_since Log start (2 ^ 28) old mid new earlier one
+    (changed_leaves_more moment left_since Log place end start (2 ^ 28) mid new low high two)
