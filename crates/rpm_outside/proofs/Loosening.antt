@@ -67,7 +67,8 @@ copy_longer past step first copy is =
     }
 
 -- an element of a list that is one longer
-pub pushed_get : (copies : List Copy) (last copy : Copy) (k : ℕ) → slice_get (copies ++ last ∷ []) k ≡ Some copy → (slice_get copies k ≡ Some copy) ⊎ (copy ≡ last)
+pub pushed_get : (copies : List Copy) (last copy : Copy) (k : ℕ) → slice_get (copies ++ last ∷ []) k ≡ Some copy
+    → (slice_get copies k ≡ Some copy) ⊎ (copy ≡ last)
 pushed_get [] last copy zero is = inr (let same : Some last ≡ Some copy = is in cc)
 pushed_get [] last copy (suc k) is = inl is
 pushed_get (c ∷ copies) last copy zero is = inl is
