@@ -19,7 +19,7 @@ use Rattle.rpm_tool.specs.declared.answer.Why.{Why}
 use Rattle.rpm_tool.specs.Changing.{FullTurn}
 use Rattle.rpm_tool.specs.Working.{OpensBy, WorkedWith, why_of_halt}
 use Rattle.rpm_tool.proofs.Brokens.{done_unbroken}
-use Rattle.rpm_tool.proofs.Grouped.{if_ok}
+use Rattle.rpm_tool.proofs.Standing.{if_ok}
 use Rattle.rpm_tool.proofs.Leavings.{full_done}
 use Rattle.rpm_tool.proofs.Works.{state-in_file, halted_by, done_by}
 

@@ -20,7 +20,7 @@ use Rattle.rpm_tool.specs.Keyed.{is_done}
 use Rattle.rpm_tool.specs.Lines.{Between, LineIs, InTurn}
 use Rattle.rpm_tool.specs.Tasks.{asked_course}
 use Rattle.rpm_tool.proofs.Fitting.{course_fits}
-use Rattle.rpm_tool.proofs.Grouped.{if_ok_at}
+use Rattle.rpm_tool.proofs.Standing.{if_ok_at}
 use Rattle.rpm_tool.proofs.Brokens.{by_bool}
 use Rattle.rpm_tool.proofs.Histories.{stands_weaker}
 use Rattle.rpm_tool.proofs.Lined.{by_asked, line_both}

@@ -17,7 +17,7 @@ use Rattle.rpm_tool.specs.Answers.{why_of_load}
 use Rattle.rpm_tool.specs.Keyed.{why_of_recover}
 use Rattle.rpm_tool.specs.Changing.{EmptyIs, EmptyBy, is_held}
 use Rattle.rpm_tool.specs.Working.{EndsAs, IsUncommitted, done_why, why_of}
-use Rattle.rpm_tool.proofs.Grouped.{if_ok, if_ok_at}
+use Rattle.rpm_tool.proofs.Standing.{if_ok, if_ok_at}
 use Rattle.rpm_tool.proofs.Outcomes.{done_is}
 
 -- a command that was done isn't refused so

@@ -1,7 +1,6 @@
 -- What each command puts goes under a number that the field has passed, or a new one.
-use Rattle.std.proofs.Common.{◌≡◌, ℕ, ◌+◌, ◌-◌, ◌≤◌, ◌<◌, Bool, true, false, ◌==◌, ◌%◌, zero, suc, List, [], ◌∷◌, ◌++◌, refl, arith, nat_lt}
+use Rattle.std.proofs.Common.{◌≡◌, ℕ, ◌+◌, ◌<◌, Bool, true, false, List, [], ◌∷◌, refl, arith, nat_lt}
 use Rattle.std.specs.Prelude.{Option, Some, None, Result, Ok, Err, codes, is_some, if◌then◌else◌}
-use Rattle.std.specs.List.{flat_map, range_with_len}
 use Rattle.std.specs.FinMap as finite
 use Rattle.rpm_outside.specs.Shelves.{Paths, bytes_at}
 use Rattle.rpm_header.specs.declared.form.HeaderFault.{HeaderFault}
@@ -9,7 +8,6 @@ use Rattle.rpm_header.specs.Header.{Header, header}
 use Rattle.rpm_file.specs.declared.fault.FileFault.{FileFault}
 use Rattle.rpm_file.specs.declared.fault.ListFault.{ListFault}
 use Rattle.rpm_file.specs.Package.{package_header}
-use Rattle.rpm_db.specs.Changes.{Change, Add, Put, Erase, apply, next}
 use Rattle.rpm_db.specs.State.{State, Package, Good, Bad, above}
 use Rattle.rpm_words.specs.Ask.{AskParts}
 use Rattle.rpm_qfparse.specs.Tree.{Tree}
@@ -19,12 +17,11 @@ use Rattle.rpm_change.specs.Adding.{as_installed, put_installed, put_found, add_
 use Rattle.rpm_change.specs.Erasing.{erase_one, erased}
 use Rattle.rpm_change.specs.Importing.{imported, import_end, place_fails, import_from, import_list, max_headers, listed}
 use Rattle.rpm_change.specs.Rebuilding.{drop_each}
-use Rattle.rpm_exercise.specs.declared.rounds.Round.TheVariants as round
-use Rattle.rpm_exercise.specs.Rounds.{made, turn, round_changes, changes}
 use Rattle.rpm_tool.specs.Asked.{is_changing}
 use Rattle.rpm_tool.specs.History.{course_of}
 use Rattle.rpm_tool.specs.Tasks.{TaskParts, Making, Adding, Replacing, Erasing, Importing, Rebuilding, Exercising, task_course, asked_task}
-use Rattle.rpm_tool.proofs.Ahead.{Ahead, Fits, PutsUnder, is_ahead, fits_then, under_then, under_fits}
+use Rattle.rpm_tool.proofs.Ahead.{Ahead, Fits, PutsUnder, under_then, under_fits}
+use Rattle.rpm_tool.proofs.ExerciseFits.{exercise_fits}
 
 -- ---- files
 
@@ -90,51 +87,6 @@ drop_under : (f : ℕ) (es : List (ℕ × Package)) → PutsUnder f (drop_each e
 drop_under f [] = tt
 drop_under f ((n, Good bytes) ∷ es) = drop_under f es
 drop_under f ((n, Bad) ∷ es) = drop_under f es
-
--- ---- the exercise
-
-if_under : (f : ℕ) (changes : List Change) (some : Bool) → PutsUnder f changes → PutsUnder f (if some then changes else [])
-if_under f changes true under = under
-if_under f changes false under = tt
-
-module _ (f b : ℕ) where
-  added_under : (k len : ℕ) → PutsUnder f (flat_map (turn round.Adding b) (range_with_len k len))
-  added_under k zero = tt
-  added_under k (suc len) = added_under (k + 1) len
-
-  put_under : (k len : ℕ) → b + k + len ≤ f → PutsUnder f (flat_map (turn round.Replacing b) (range_with_len k len))
-  put_under k zero le = tt
-  put_under k (suc len) le =
-      under_then f (turn round.Replacing b k) (flat_map (turn round.Replacing b) (range_with_len (k + 1) len))
-      (if_under f (Put (b + k) (made k 2) ∷ []) (k % 3 == 0) (omega (arith, le), tt)) (put_under (k + 1) len (omega (arith, le)))
-
-  erased_each : (k len : ℕ) → PutsUnder f (flat_map (turn round.Erasing b) (range_with_len k len))
-  erased_each k zero = tt
-  erased_each k (suc len) =
-      under_then f (turn round.Erasing b k) (flat_map (turn round.Erasing b) (range_with_len (k + 1) len))
-      (if_under f (Erase (b + k) ∷ []) (k % 5 == 0) tt) (erased_each (k + 1) len)
-
-added_field : (b k len : ℕ) (s : State) → s.field + len ≤ (apply_all (flat_map (turn round.Adding b) (range_with_len k len)) s).field
-added_field b k zero s = omega arith
-added_field b k (suc len) s =
-    let rest = added_field b (k + 1) len (apply (Add (made k 1)) s) in
-    let more : s.field + 1 ≤ (apply (Add (made k 1)) s).field = omega arith in
-    omega (arith, rest, more)
-
-exercise_fits : (n : ℕ) (s : State) → Ahead s → Fits (changes n s) s
-unfolding changes
-exercise_fits n s ahead =
-    let b = next s - 1 in
-    let adds = round_changes round.Adding b n in
-    let t = apply_all adds s in
-    let is : next s ≡ s.field = is_ahead s ahead in
-    let high : s.field + n ≤ t.field = added_field b 1 n s in
-    let some : 1 ≤ s.field = ahead.some in
-    fits_then adds (round_changes round.Replacing b n ++ round_changes round.Erasing b n) s
-    (under_fits 0 adds s (omega arith) (added_under 0 b 1 n))
-    (under_fits t.field (round_changes round.Replacing b n ++ round_changes round.Erasing b n) t (omega arith)
-    (under_then t.field (round_changes round.Replacing b n) (round_changes round.Erasing b n)
-    (put_under t.field b 1 n (omega (arith, is, high, some))) (erased_each t.field b 1 n)))
 
 -- ---- each command
 

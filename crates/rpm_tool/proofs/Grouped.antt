@@ -1,17 +1,14 @@
 -- The changes of a command as one group: what they leave of a disk that was recovered.
-use Rattle.std.proofs.Common.{◌≡◌, ℕ, Bool, true, false, eqb, Result, Ok, Err, refl, sym, ap, ◌∙◌, subst, inl, inr, arith}
-use Rattle.std.specs.Prelude.{IfOk}
-use Rattle.std.proofs.lemmas.Bool.{and_parts, eqb-true}
+use Rattle.std.proofs.Common.{◌≡◌, ℕ, Bool, true, false, Result, Ok, Err, refl, sym, ap, ◌∙◌, subst, inl, inr, arith}
 use Rattle.rpm_outside.specs.declared.disk.File.TheVariants.{Log}
 use Rattle.rpm_outside.specs.Changes.{AreSettled}
 use Rattle.rpm_outside.specs.Crash.{LeavesOnly}
-use Rattle.rpm_outside.specs.Files.{Units, Files, unit_at, with_file}
-use Rattle.rpm_outside.specs.Logs.{LogState, Closed, log_state, reopened, unlogged, with_state}
+use Rattle.rpm_outside.specs.Files.{Files, with_file}
+use Rattle.rpm_outside.specs.Logs.{LogState, Closed, log_state, reopened, unlogged}
 use Rattle.rpm_outside.specs.inner.Moments.{leaves_then, leaves_weaker}
-use Rattle.rpm_hindex.specs.State.{state_of, sealed, is_in_order, is_current}
 use Rattle.rpm_group.specs.Settled.{ReopensAs}
 use Rattle.rpm_pkgdb.specs.declared.slot.Damage.{Damage}
-use Rattle.rpm_pkgdb.specs.Store.{Store, store, blank_store}
+use Rattle.rpm_pkgdb.specs.Store.{Store, store}
 use Rattle.rpm_db.specs.Lawful.{IsLawful}
 use Rattle.rpm_db.specs.State.{State, state}
 use Rattle.rpm_change.specs.declared.tally.Tally.{Tally}
@@ -24,52 +21,7 @@ use Rattle.rpm_tool.specs.Working.{WorkedWith, WorkedOn, WorkedBy, EndsGroup, Gr
 use Rattle.rpm_tool.proofs.Brokens.{bad_ended}
 use Rattle.rpm_tool.proofs.Ended.{did_opened, done_ok, counted_ended, full_ended, leaves_ended, same_state, worked_state}
 use Rattle.rpm_tool.proofs.Leavings.{leaves_after, lawful_ending}
-
-pub if_ok : {T E : Type 0} {P : T → Type 0} (x : Result T E) → ((t : T) → x ≡ Ok t → P t) → IfOk x P
-if_ok (Ok t) each = each t refl
-if_ok (Err e) each = tt
-
-pub if_ok_at : {T E : Type 0} (P : T → Type 0) (x : Result T E) (t : T) → x ≡ Ok t → IfOk x P → P t
-if_ok_at P x t is each = subst (λ (y : _). IfOk y P) is each
-
--- what is asked of the files at the start, and of a part of them
-pub begins : {Lawful : Type 0} (anew : Bool) → Lawful → MayBegin anew Lawful
-begins true lawful = tt
-begins false lawful = lawful
-
-pub may_begin : {A B : Type 0} (anew : Bool) → (A → B) → MayBegin anew A → MayBegin anew B
-may_begin true f may = tt
-may_begin false f may = f may
-
--- files with a closed log stand for themselves
-pub shut_stands : (files : Files) → log_state files.log ≡ Closed → reopened files ≡ unlogged files
-shut_stands files closed = ap (λ (l : LogState). with_state l (unlogged files)) closed
-
--- files with a current index are lawful
-current_lawful : (pkg idx : Units) → HasCurrent pkg idx → IsLawful pkg idx
-unfolding is_current
-current_lawful pkg idx has = inr (
-  has.value,
-  has.undamaged,
-  record {
-    rows_are = λ current. has.rows_are;
-    no_later =
-        (let same = eqb-true (sealed (unit_at idx 0)) has.value.generation
-        (and_parts (eqb (sealed (unit_at idx 0)) has.value.generation) (is_in_order (state_of idx)) has.current).0 in
-        omega (arith, same));
-  },
-)
-
-lawful_store : (pkg idx : Units) → IsLawful pkg idx → (s : Store) × (store pkg ≡ Ok s)
-lawful_store pkg idx (inl blank) = (blank_store, blank)
-lawful_store pkg idx (inr made) = (made.0, made.1)
-
--- an image that stands for lawful files
-stands_lawful : (files image : Files) → ReopensAs files image → IsLawful files.pkg files.idx → IsLawfulGroup image
-stands_lawful files image stands lawful = record {
-  sound = stands.sound;
-  lawful = subst (λ (f : Files). IsLawful f.pkg f.idx) (sym stands.same) lawful;
-}
+use Rattle.rpm_tool.proofs.Standing.{begins, current_lawful, if_ok, if_ok_at, lawful_store, may_begin, shut_stands, stands_lawful}
 
 module _ {D : Type 0} {anew changing : Bool} (files : D → Files) (left_since : D → ℕ → Files → Type 0) (moment : D → ℕ) (course : State → Course)
     (ended : Result Tally Why) (given : Why) (n : ℕ) (first last final : D) (new : Files) (before now : Outputs)
@@ -137,9 +89,6 @@ module _ {D : Type 0} {anew changing : Bool} (files : D → Files) (left_since :
     abbrev images : Files → Type 0
     images = left_since first (moment first)
 
-    still_here : AreLawfulGroups images → (image : Files) → images image → StandsStill images image
-    still_here lawful image is = record { from = image; was = is; pkg = refl; lawful = lawful image is }
-
     still_start : IsLawfulGroup (files first) → (image : Files) → ReopensAs (unlogged (files last)) image → StandsStill images image
     still_start lawful image stands = record {
       from = files first;
@@ -164,7 +113,7 @@ module _ {D : Type 0} {anew changing : Bool} (files : D → Files) (left_since :
     still_first : AreLawfulGroups images → LeavesOnly moment left_since first last (StandsStill images)
     still_first lawful = record {
       later = omega (arith, moment_same);
-      each = λ image left. still_here lawful image (back (moment first) image left);
+      each = λ image left. (let was = back (moment first) image left in record { from = image; was = was; pkg = refl; lawful = lawful image was });
       before = λ t image le left. inl (back t image left);
     }
 

@@ -4,6 +4,7 @@ mod Answering
 mod Arguments
 mod Asking
 mod Begun
+mod Behind
 mod Brokens
 mod Chained
 mod Checked
@@ -14,7 +15,10 @@ mod Defaults
 mod Emptied
 mod Ended
 mod Endings
+mod EndingKinds
 mod Ends
+mod ExerciseEmpty
+mod ExerciseFits
 mod Exercised
 mod Filed
 mod Fitting
@@ -27,6 +31,7 @@ mod Labels
 mod Leading
 mod Leavings
 mod Lettered
+mod LimitEnds
 mod Lined
 mod Limited
 mod Lines
@@ -34,9 +39,11 @@ mod Loading
 mod Logged
 mod Looked
 mod Moved
+mod MovesTo
 mod Nexts
 mod Numbered
 mod Numbering
+mod Opened
 mod Opening
 mod Paged
 mod Outcomes
@@ -49,6 +56,8 @@ mod Reaching
 mod Recovered
 mod Regrouped
 mod Rising
+mod Standing
+mod Starved
 mod Stopping
 mod Sums
 mod Telling
@@ -58,7 +67,10 @@ mod Undone
 mod Unloaded
 mod Unmade
 mod Unnumbered
+mod Unopened
 mod Unrecovered
 mod Unstarted
+mod Unworked
 mod Verified
+mod Wanting
 mod Works

@@ -2,10 +2,6 @@
 use Rattle.std.proofs.Common.{◌≡◌, ℕ, ◌==◌, if◌then◌else◌, Bool, true, false, List, Result, Ok, Err, refl, sym, ap, subst, inl, inr}
 use Rattle.std.specs.Prelude.{IsSome, IfOk}
 use Rattle.rpm_outside.specs.Files.{Files}
-use Rattle.rpm_group.specs.declared.load.LoadFault.{LoadFault}
-use Rattle.rpm_group.specs.declared.load.LoadFault.TheVariants as load
-use Rattle.rpm_group.specs.declared.recovery.RecoverFault.{RecoverFault}
-use Rattle.rpm_group.specs.declared.recovery.RecoverFault.TheVariants as recover
 use Rattle.rpm_pkgdb.specs.declared.slot.Damage.{Damage}
 use Rattle.rpm_pkgdb.specs.Store.{Store, store}
 use Rattle.rpm_pkgdb.specs.Written.{made_new}
@@ -24,11 +20,9 @@ use Rattle.rpm_exercise.specs.declared.running.ExerciseFault.TheVariants.{NotEmp
 use Rattle.rpm_exercise.specs.Endings.{OnceBegun}
 use Rattle.rpm_tool.specs.declared.answer.Why.{Why}
 use Rattle.rpm_tool.specs.declared.answer.Why.TheVariants as why
-use Rattle.rpm_tool.specs.Answers.{why_of_load}
-use Rattle.rpm_tool.specs.Keyed.{why_of_recover}
 use Rattle.rpm_tool.specs.Limits.{begun, AreUnspent, LimitsAre, LimitsOn}
-use Rattle.rpm_tool.specs.Working.{OpensIn, OpensBy, EndsAs, IsUncommitted, done_why, why_of, why_of_halt, why_of_exercise}
-use Rattle.rpm_tool.proofs.Grouped.{if_ok, if_ok_at}
+use Rattle.rpm_tool.specs.Working.{OpensIn, OpensBy, done_why, why_of_halt, why_of_exercise}
+use Rattle.rpm_tool.proofs.Standing.{if_ok, if_ok_at}
 use Rattle.rpm_tool.proofs.Outcomes.{done_is}
 
 -- a blank database is made, and any other stays
@@ -86,10 +80,10 @@ limits_halt s v x changes halt.ErrFault a b c = record { numbers = tt; generatio
 limits_halt s v x changes halt.NoMemory a b c = record { numbers = tt; generations = tt; places = tt }
 
 -- none is met
-record Within (s : State) (v : Store) (changes : List Change) : Type 0 where
-  numbered : AllHaveNumbers s changes
-  unspent : AreUnspent v.generation changes
-  placed : IsSome (next_stores changes v)
+pub record Within (s : State) (v : Store) (changes : List Change) : Type 0 where
+  pub numbered : AllHaveNumbers s changes
+  pub unspent : AreUnspent v.generation changes
+  pub placed : IsSome (next_stores changes v)
 
 limits_done : (s : State) (v : Store) (changes : List Change) (k : ℕ) → Within s v changes → LimitsAre s v changes (done_why k)
 limits_done s v changes k all =
@@ -100,7 +94,7 @@ limits_done s v changes k all =
       | inr some ↦ subst (λ (w : Why). LimitsAre s v changes w) (sym some.1) of
     ]
 
-within_done : (s : State) (v : Store) (changes : List Change) (k : ℕ) → LimitsAre s v changes (done_why k) → Within s v changes
+pub within_done : (s : State) (v : Store) (changes : List Change) (k : ℕ) → LimitsAre s v changes (done_why k) → Within s v changes
 within_done s v changes k all = elim (done_is k) [
   | inl zero ↦ (let is = subst (λ (w : Why). LimitsAre s v changes w) zero.1 all in
       record { numbered = is.numbers; unspent = is.generations; placed = is.places })
@@ -139,54 +133,3 @@ module _ (course : State → Course) (old mid : Files) (db last : Database) (ope
   limits_exercised (NotEmpty held) numbers generation places =
       limits_at (why.NotEmpty held) (record { numbers = tt; generations = tt; places = tt })
   limits_exercised (Halted h) numbers generation places = limits_halted h numbers generation places
-
--- ---- the ending
-
-limits_uncommitted : (s : State) (v : Store) (changes : List Change) (w : Why) → IsUncommitted w → Within s v changes → LimitsAre s v changes w
-limits_uncommitted s v changes why.Done un all = absurd un
-limits_uncommitted s v changes (why.Failed n) un all = absurd un
-limits_uncommitted s v changes (why.Usage f) un all = absurd un
-limits_uncommitted s v changes (why.BadFormat f) un all = absurd un
-limits_uncommitted s v changes (why.BadLog u) un all = absurd un
-limits_uncommitted s v changes (why.Damaged d) un all = absurd un
-limits_uncommitted s v changes why.NumbersSpent un all = absurd un
-limits_uncommitted s v changes why.GenerationSpent un all = absurd un
-limits_uncommitted s v changes why.StoreFull un all = absurd un
-limits_uncommitted s v changes (why.NotEmpty held) un all = absurd un
-limits_uncommitted s v changes (why.BadIndex u) un all = absurd un
-limits_uncommitted s v changes (why.IndexFull u) un all = absurd un
-limits_uncommitted s v changes (why.LogFull u) un all = record { numbers = all.numbered; generations = all.unspent; places = all.placed }
-limits_uncommitted s v changes why.DiskFault un all = record { numbers = tt; generations = tt; places = tt }
-limits_uncommitted s v changes why.ShelfFault un all = absurd un
-limits_uncommitted s v changes why.OutFault un all = absurd un
-limits_uncommitted s v changes why.ErrFault un all = absurd un
-limits_uncommitted s v changes why.NoMemory un all = record { numbers = tt; generations = tt; places = tt }
-
-limits_ended : (s : State) (v : Store) (changes : List Change) (ended : Result Tally Why) (given : Why) (n : ℕ) → EndsAs ended given n
-    → LimitsAre s v changes (why_of ended) → LimitsAre s v changes given
-limits_ended s v changes (Ok tally) given n (inl both) all = subst (λ (w : Why). LimitsAre s v changes w) (sym both.0) all
-limits_ended s v changes (Ok tally) given n (inr both) all =
-    limits_uncommitted s v changes given both.1 (within_done s v changes tally.failed all)
-limits_ended s v changes (Err was) given n (none, inl same) all = subst (λ (w : Why). LimitsAre s v changes w) (sym same) all
-limits_ended s v changes (Err was) given n (none, inr both) all =
-    subst (λ (w : Why). LimitsAre s v changes w) (sym both.1) (record { numbers = tt; generations = tt; places = tt })
-
--- a group ends as its command was worked
-pub limits_grouped : (course : State → Course) (files : Files) (ended : Result Tally Why) (given : Why) (n : ℕ) → EndsAs ended given n
-    → LimitsOn course files (why_of ended) → LimitsOn course files given
-limits_grouped course files ended given n ends all = if_ok (store files.pkg) (λ s is.
-    limits_ended (state files.pkg s) (begun s) (course (state files.pkg s)).changes ended given n ends (if_ok_at _ (store files.pkg) s is all))
-
--- ---- not begun
-
-pub limits_starved : (course : State → Course) (files : Files) → LimitsOn course files why.NoMemory
-limits_starved course files = if_ok (store files.pkg) (λ s is. record { numbers = tt; generations = tt; places = tt })
-
-pub limits_unloaded : (course : State → Course) (files : Files) (fault : LoadFault) → LimitsOn course files (why_of_load fault)
-limits_unloaded course files (load.BadLog unit) = if_ok (store files.pkg) (λ s is. record { numbers = tt; generations = tt; places = tt })
-limits_unloaded course files load.DiskFault = if_ok (store files.pkg) (λ s is. record { numbers = tt; generations = tt; places = tt })
-limits_unloaded course files load.NoMemory = if_ok (store files.pkg) (λ s is. record { numbers = tt; generations = tt; places = tt })
-
-pub limits_unrecovered : (course : State → Course) (files : Files) (fault : RecoverFault) → LimitsOn course files (why_of_recover fault)
-limits_unrecovered course files (recover.BadLog unit) = if_ok (store files.pkg) (λ s is. record { numbers = tt; generations = tt; places = tt })
-limits_unrecovered course files recover.DiskFault = if_ok (store files.pkg) (λ s is. record { numbers = tt; generations = tt; places = tt })

@@ -22,7 +22,7 @@ use Rattle.rpm_tool.specs.Keyed.{why_of_recover}
 use Rattle.rpm_tool.specs.Limits.{LogIs, LogOn}
 use Rattle.rpm_tool.specs.Working.{CommittedAs, WorkedBy, EndsAs, is_halt, done_why}
 use Rattle.rpm_tool.proofs.Ended.{worked_state}
-use Rattle.rpm_tool.proofs.Grouped.{if_ok}
+use Rattle.rpm_tool.proofs.Standing.{if_ok}
 use Rattle.rpm_tool.proofs.Outcomes.{done_is}
 
 -- ---- the commit

@@ -18,9 +18,9 @@ use Rattle.rpm_tool.specs.Changing.{HasState, LeavesState, after}
 use Rattle.rpm_tool.specs.History.{Call, Moves, Leads, course_of, made_by}
 use Rattle.rpm_tool.specs.Lines.{Between, LineIs, InTurn}
 use Rattle.rpm_tool.specs.Tasks.{asked_course}
-use Rattle.rpm_tool.proofs.Grouped.{if_ok_at}
+use Rattle.rpm_tool.proofs.Standing.{if_ok_at}
 use Rattle.rpm_tool.proofs.Brokens.{by_bool}
-use Rattle.rpm_tool.proofs.Histories.{moves_idle}
+use Rattle.rpm_tool.proofs.MovesTo.{moves_idle}
 use Rattle.rpm_tool.proofs.Lined.{by_asked}
 
 -- the files stand for a state to which the line moves

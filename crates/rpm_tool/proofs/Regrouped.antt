@@ -15,7 +15,7 @@ use Rattle.rpm_change.specs.Steps.{Course}
 use Rattle.rpm_tool.specs.declared.answer.Why.{Why}
 use Rattle.rpm_tool.specs.Keyed.{IsLawfulGroup, AreLawfulGroups, StandsStill}
 use Rattle.rpm_tool.specs.Changing.{HasState, StandsStillOr, LeavesState, FullBy, BadBy, ChangesWith, after, is_done_or_fault}
-use Rattle.rpm_tool.proofs.Grouped.{if_ok, if_ok_at, may_begin}
+use Rattle.rpm_tool.proofs.Standing.{if_ok, if_ok_at, may_begin}
 
 -- an image stands still that stands for what one of these stands for
 pub recovered_still : (images : Files → Type 0) → AreLawfulGroups images → (image : Files) → ReopensAsOneOf images image → StandsStill images image

@@ -1,5 +1,5 @@
 -- What the reports tell, one thing after the other.
-use Rattle.std.proofs.Common.{◌≡◌, ℕ, ◌+◌, ◌<◌, Bool, true, false, ◌||◌, ◌==◌, List, [], ◌∷◌, ◌++◌, map, drop, length, get_or, Option, Some, None, Result, Ok, Err, is_some, refl, sym, ap, ◌∙◌, subst, add-one, drop-cons, arith}
+use Rattle.std.proofs.Common.{◌≡◌, ℕ, ◌+◌, ◌<◌, Bool, true, false, ◌==◌, List, [], ◌∷◌, ◌++◌, map, drop, length, get_or, Option, Some, None, Result, Ok, Err, is_some, refl, sym, ap, ◌∙◌, subst, add-one, drop-cons, arith}
 use Rattle.std.specs.Prelude.{codes, slice_index_or}
 use Rattle.std.specs.List.{flat_map}
 use Rattle.std.specs.Ordering.{nat_cmp}
@@ -16,12 +16,9 @@ use Rattle.rpm_db.specs.inner.Own.{header-own}
 use Rattle.rpm_tool.specs.declared.step.Stop.{Stop}
 use Rattle.rpm_tool.specs.declared.step.Stop.TheVariants as stop
 use Rattle.rpm_change.specs.Steps.{whole, Step, ToOut}
-use Rattle.rpm_change.specs.Endings.{Outputs, outputs, Through}
-use Rattle.rpm_tool.specs.Steps.{Portion}
+use Rattle.rpm_change.specs.Endings.{Outputs, Through}
 use Rattle.rpm_tool.specs.Answers.{StepIs, Reached, PartIs, Anywhere}
-use Rattle.rpm_tool.specs.Requirements.{read_text, package_text, bad_at, bad_part, behind, label_step, cycle_line, class_steps}
-use Rattle.std.proofs.lemmas.List.{append-nil}
-use Rattle.rpm_tool.proofs.Reaching.{through_more, goes_start, goes_more, goes_stop}
+use Rattle.rpm_tool.specs.Requirements.{read_text, package_text, bad_at, bad_part, label_step, cycle_line, class_steps}
 use Rattle.rpm_tool.proofs.Stopping.{reached_first}
 
 -- ---- a package
@@ -93,55 +90,6 @@ step_none s stop.NoMemory x index out err none = none
 pub step_unbroken : (s : Step) (r : Result Bool Stop) (old new : Outputs) → StepIs s r old new → (unit : ℕ) → r ≡ Err (stop.BadIndex unit) → ⊥
 step_unbroken s r old new step unit is = subst (λ (q : Result Bool Stop). StepIs s q old new) is step
 
--- ---- one part behind another
-
--- what isn't told of the second is told of both
-module _ (ot et : Bool) (p q : List Step) (o o' o'' e e' e'' : List ℕ) (first : Through p (outputs ot o et e) (outputs ot o' et e')) where
-  pub both_through : Through q (outputs ot o' et e') (outputs ot o'' et e'') → Through (p ++ q) (outputs ot o et e) (outputs ot o'' et e'')
-  both_through second = through_more {ot = ot} {et = et} p q o o' o'' e e' e'' first second
-
-  pub both_stop : (T T' : Type 0) (what : Stop) → Reached {T = T} q (Err what) (outputs ot o' et e') (outputs ot o'' et e'') Anywhere
-      → Reached {T = T'} (p ++ q) (Err what) (outputs ot o et e) (outputs ot o'' et e'') Anywhere
-  both_stop T T' what second =
-      goes_stop ot et (p ++ q) q q [] o o' o'' e e' e'' (sym (append-nil q))
-      (goes_more ot et (p ++ q) (p ++ q) p q o o o' e e e' refl (goes_start ot et (p ++ q) (p ++ q) o e refl) first) T T' what Anywhere second
-
--- where the first stops, so do both
-pub first_stops : (ot et : Bool) (p q : List Step) (T T' : Type 0) (what : Stop) (o o' e e' : List ℕ)
-    → Reached {T = T} p (Err what) (outputs ot o et e) (outputs ot o' et e') Anywhere
-    → Reached {T = T'} (p ++ q) (Err what) (outputs ot o et e) (outputs ot o' et e') Anywhere
-first_stops ot et p q T T' what o o' e e' first =
-    goes_stop ot et (p ++ q) (p ++ q) p q o o o' e e e' refl (goes_start ot et (p ++ q) (p ++ q) o e refl) T T' what Anywhere first
-
-module _ (ot et : Bool) (p q : Portion) where
-  pub behind_first : (what : Stop) (o o' e e' : List ℕ) → PartIs p (Err what) (outputs ot o et e) (outputs ot o' et e') Anywhere
-      → PartIs (behind p q) (Err what) (outputs ot o et e) (outputs ot o' et e') Anywhere
-  behind_first what o o' e e' first = record { steps = first_stops ot et p.steps q.steps Bool Bool what o o' e e' first.steps; fails = tt }
-
-  module _ (a : Bool) (o o' o'' e e' e'' : List ℕ) (first : PartIs p (Ok a) (outputs ot o et e) (outputs ot o' et e') Anywhere) where
-    pub behind_both : (b : Bool) → PartIs q (Ok b) (outputs ot o' et e') (outputs ot o'' et e'') Anywhere
-        → PartIs (behind p q) (Ok (a || b)) (outputs ot o et e) (outputs ot o'' et e'') Anywhere
-    behind_both b second = record {
-      steps = both_through ot et p.steps q.steps o o' o'' e e' e'' first.steps second.steps;
-      fails = ap (λ (x : Bool). x || q.fails) first.fails ∙ ap (λ (x : Bool). a || x) second.fails;
-    }
-
-    pub behind_stop : (what : Stop) → PartIs q (Err what) (outputs ot o' et e') (outputs ot o'' et e'') Anywhere
-        → PartIs (behind p q) (Err what) (outputs ot o et e) (outputs ot o'' et e'') Anywhere
-    behind_stop what second = record { steps = both_stop ot et p.steps q.steps o o' o'' e e' e'' first.steps Bool Bool what second.steps; fails = tt }
-
-    or_false : (b : Bool) → (b || false) ≡ b
-    or_false true = refl
-    or_false false = refl
-
-    -- where the second doesn't fail
-    pub behind_plain : PartIs q (Ok false) (outputs ot o' et e') (outputs ot o'' et e'') Anywhere
-        → PartIs (behind p q) (Ok a) (outputs ot o et e) (outputs ot o'' et e'') Anywhere
-    behind_plain second = record {
-      steps = both_through ot et p.steps q.steps o o' o'' e e' e'' first.steps second.steps;
-      fails = ap (λ (x : Bool). x || q.fails) first.fails ∙ ap (λ (x : Bool). a || x) second.fails ∙ or_false a;
-    }
-
 -- ---- a class
 
 module _ (packages : finite.FinMap nat_cmp Package) (class : List ℕ) where
@@ -155,11 +103,3 @@ module _ (packages : finite.FinMap nat_cmp Package) (class : List ℕ) where
   more_classes not =
       let test : (length class == 1) ≡ false = grind (arith, nat_tests) in
       rw test refl
-
--- behind a step that was gone through
-pub head_reached : (ot et : Bool) (s : Step) (rest : List Step) (r : Result (Unit {0}) Stop) (o o' o'' e e' e'' : List ℕ)
-    → Through (s ∷ []) (outputs ot o et e) (outputs ot o' et e') → Reached rest r (outputs ot o' et e') (outputs ot o'' et e'') Anywhere
-    → Reached (s ∷ rest) r (outputs ot o et e) (outputs ot o'' et e'') Anywhere
-head_reached ot et s rest (Ok done) o o' o'' e e' e'' first second = both_through ot et (s ∷ []) rest o o' o'' e e' e'' first second
-head_reached ot et s rest (Err what) o o' o'' e e' e'' first second =
-    both_stop ot et (s ∷ []) rest o o' o'' e e' e'' first (Unit {0}) (Unit {0}) what second

@@ -18,7 +18,8 @@ use Rattle.rpm_tool.specs.Changing.{DidOn, ChangesWith}
 use Rattle.rpm_tool.specs.Working.{WorkedWith, EndsGroup}
 use Rattle.rpm_tool.proofs.Grouped.{group_did, group_changes}
 use Rattle.rpm_tool.proofs.Ends.{release_ends}
-use Rattle.rpm_tool.proofs.Unmade.{through_none, worked_none, load_halts}
+use Rattle.rpm_tool.proofs.Unmade.{through_none}
+use Rattle.rpm_tool.proofs.Unworked.{worked_none, load_halts}
 
 module _ {D : Type 0} (tells : Bool) (files : D → Files) (left_since : D → ℕ → Files → Type 0) (moment : D → ℕ) (bytes_read : D → File → ℕ)
     (follows : D → D → Type 0) (course : State → Course) (first last : D) (looks : LooksAt tells files left_since moment bytes_read follows Log first last)

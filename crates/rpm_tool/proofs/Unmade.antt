@@ -1,14 +1,12 @@
 -- A command whose database isn't recovered, or isn't loaded: nothing was changed.
 use Rattle.std.proofs.Common.{◌≡◌, ℕ, Bool, true, false, [], Result, Ok, Err, refl, sym, ap, ◌∙◌, subst, inl, append-nil}
 use Rattle.rpm_outside.specs.Crash.{LeavesOnly}
-use Rattle.rpm_outside.specs.Files.{Units, Files}
+use Rattle.rpm_outside.specs.Files.{Files}
 use Rattle.rpm_outside.specs.Logs.{LogState, Closed, Malformed, Open, log_state, reopened}
 use Rattle.rpm_outside.specs.inner.Moments.{leaves_weaker}
-use Rattle.rpm_group.specs.declared.load.LoadFault.{LoadFault}
-use Rattle.rpm_group.specs.declared.load.LoadFault.TheVariants as load
 use Rattle.rpm_group.specs.declared.recovery.RecoverFault.{RecoverFault}
 use Rattle.rpm_group.specs.declared.recovery.RecoverFault.TheVariants as recover
-use Rattle.rpm_group.specs.Loads.{IsSound, LoadSays}
+use Rattle.rpm_group.specs.Loads.{IsSound}
 use Rattle.rpm_group.specs.Settled.{ReopensAsOneOf, RecoverSays}
 use Rattle.rpm_pkgdb.specs.declared.slot.Damage.{Damage}
 use Rattle.rpm_pkgdb.specs.Store.{Store, store}
@@ -17,11 +15,9 @@ use Rattle.rpm_change.specs.Steps.{Course}
 use Rattle.rpm_change.specs.Endings.{Outputs, Through, ThroughSome}
 use Rattle.rpm_tool.specs.declared.answer.Why.{Why}
 use Rattle.rpm_tool.specs.declared.answer.Why.TheVariants as why
-use Rattle.rpm_tool.specs.Answers.{why_of_load}
 use Rattle.rpm_tool.specs.Keyed.{StandsStill, why_of_recover}
 use Rattle.rpm_tool.specs.Changing.{DidOpened, DidLoaded, DidOn, ChangesWith, after}
-use Rattle.rpm_tool.specs.Working.{WorkedWith, WorkedBy, IsOutside, is_halt}
-use Rattle.rpm_tool.proofs.Grouped.{if_ok}
+use Rattle.rpm_tool.proofs.Standing.{if_ok}
 use Rattle.rpm_tool.proofs.Regrouped.{recovering, recovered_still}
 
 -- nothing was written
@@ -30,48 +26,6 @@ through_none x = record { out = λ told. sym (append-nil x.out); err = λ told. 
 
 pub none_done : (c : Course) (old new : Outputs) → Through [] old new → ThroughSome c.steps old new
 none_done c old new none = record { done = []; rest = c.steps; all_is = refl; through = none }
-
--- ---- a log that is closed and isn't loaded
-
--- a fault of the disk, or want of memory
-pub closed_load : (log : LogState) (fault : LoadFault) → log ≡ Closed → LoadSays log (Err fault) → IsOutside (why_of_load fault)
-closed_load log (load.BadLog unit) closed says = absurd (let wrong : Closed ≡ Malformed unit = sym closed ∙ says in cc)
-closed_load log load.DiskFault closed says = tt
-closed_load log load.NoMemory closed says = tt
-
-pub load_halts : (fault : LoadFault) → is_halt (why_of_load fault) ≡ true
-load_halts (load.BadLog unit) = refl
-load_halts load.DiskFault = refl
-load_halts load.NoMemory = refl
-
-worked_fault : (course : State → Course) (pkg : Units) (sr : Result Store Damage) (new : Files) (old now : Outputs) → Through [] old now
-    → WorkedBy course pkg sr new (Err why.DiskFault) old now
-worked_fault course pkg (Ok s) new old now none = none_done (course (state pkg s)) old now none
-worked_fault course pkg (Err d) new old now none = (tt, none)
-
-worked_memory : (course : State → Course) (pkg : Units) (sr : Result Store Damage) (new : Files) (old now : Outputs) → Through [] old now
-    → WorkedBy course pkg sr new (Err why.NoMemory) old now
-worked_memory course pkg (Ok s) new old now none = none_done (course (state pkg s)) old now none
-worked_memory course pkg (Err d) new old now none = (tt, none)
-
--- so nothing was done
-pub worked_none : {anew changing : Bool} (course : State → Course) (log : LogState) (fault : LoadFault) (old new : Files) (before now : Outputs) → log ≡ Closed
-    → LoadSays log (Err fault) → Through [] before now → WorkedWith anew changing course old new (Err (why_of_load fault)) before now
-worked_none course log (load.BadLog unit) old new before now closed says none = absurd (let wrong : Closed ≡ Malformed unit = sym closed ∙ says in cc)
-worked_none course log load.DiskFault old new before now closed says none = record {
-  went = worked_fault course old.pkg (store old.pkg) new before now none;
-  full = λ lawful. if_ok (store old.pkg) (λ s is. tt);
-  bad = λ unit is. absurd cc;
-  made = tt;
-  index = λ lawful. tt;
-}
-worked_none course log load.NoMemory old new before now closed says none = record {
-  went = worked_memory course old.pkg (store old.pkg) new before now none;
-  full = λ lawful. if_ok (store old.pkg) (λ s is. tt);
-  bad = λ unit is. absurd cc;
-  made = tt;
-  index = λ lawful. tt;
-}
 
 -- ---- a database that isn't recovered
 

@@ -16,7 +16,11 @@ use Rattle.rpm_tool.specs.declared.answer.Why.TheVariants as why
 use Rattle.rpm_tool.specs.Asked.{is_query, is_package, needs_no_index, opens_index, is_changing_in, is_changing, of_files, by_key}
 use Rattle.rpm_tool.specs.Changing.{DidOpened, DidLoaded, DidOn, ChangesWith, StandsStillOr, after}
 use Rattle.rpm_tool.specs.Keyed.{AreLawfulGroups}
-use Rattle.rpm_tool.proofs.Grouped.{if_ok}
+use Rattle.rpm_tool.proofs.Standing.{if_ok}
+use Rattle.rpm_outside.specs.Shelves.{Paths}
+use Rattle.rpm_tool.specs.Tasks.{TaskParts, task_course}
+use Rattle.rpm_tool.specs.inner.OneChange.{OneChange}
+use Rattle.rpm_tool.proofs.LimitEnds.{limits_starved}
 use Rattle.rpm_tool.proofs.Unmade.{through_none, none_done}
 
 opened_memory : (course : Store → Course) (sr : Result Store Damage) (x : Outputs) → DidOpened course sr why.NoMemory x x
@@ -28,7 +32,7 @@ loaded_memory course sr Closed x = opened_memory course sr x
 loaded_memory course sr (Malformed unit) x = (tt, through_none x)
 loaded_memory course sr (Open entries) x = opened_memory course sr x
 
-pub unstarted_did : (course : State → Course) (files : Files) (x : Outputs) → DidOn course files why.NoMemory x x
+unstarted_did : (course : State → Course) (files : Files) (x : Outputs) → DidOn course files why.NoMemory x x
 unstarted_did course files x = loaded_memory (λ s. course (state (reopened files).pkg s)) (store (reopened files).pkg) (log_state files.log) x
 
 module _ {D : Type 0} (files : D → Files) (left_since : D → ℕ → Files → Type 0) (moment : D → ℕ) (course : State → Course) (disk : D) where
@@ -60,6 +64,17 @@ module _ {D : Type 0} (files : D → Files) (left_since : D → ℕ → Files �
     };
     held = λ done. absurd cc;
   }
+
+pub unstarted_one : {D : Type 0} (files : D → Files) (left_since : D → ℕ → Files → Type 0) (moment : D → ℕ) (paths : Paths) (now : ℕ) (task : TaskParts)
+    (disk : D) (x : Outputs) → OneChange files left_since moment paths now task why.NoMemory 0 disk disk x x
+unstarted_one files left_since moment paths now task disk x =
+    let course : State → Course = task_course paths now task in
+    record {
+      did = unstarted_did course (files disk) x;
+      changed = unstarted_changes files left_since moment course disk;
+      limits = limits_starved course (reopened (files disk));
+      log = tt;
+    }
 
 -- ---- a query changes nothing
 

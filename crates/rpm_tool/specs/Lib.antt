@@ -17,3 +17,4 @@ pub mod Requirements
 pub mod Steps
 pub mod Tasks
 pub mod Working
+pub mod inner

@@ -21,10 +21,11 @@ ghost use Rattle.rpm_change.specs.Steps.{idle};
 ghost use Rattle.rpm_words.specs.Ask.{IsSound};
 ghost use Rattle.rpm_tool.specs.Answers.{why_of_load, unless_starved, is_of_words};
 ghost use Rattle.rpm_tool.specs.Keyed.{why_of_recover, is_done};
-ghost use Rattle.rpm_tool.specs.Changing.{DidOn, ChangesWith, EmptyBy, IsBroken, is_held};
-ghost use Rattle.rpm_tool.specs.Tasks.{task_parts, task_course, asked_task, asked_course, reads_shelf, is_anew, changes_index, needs_none, IsCountable};
-ghost use Rattle.rpm_tool.specs.Limits.{LimitsOn, begun, LogIs, LogOn};
+ghost use Rattle.rpm_tool.specs.Changing.{EmptyBy, IsBroken, is_held};
+ghost use Rattle.rpm_tool.specs.Tasks.{task_parts, task_course, asked_task, reads_shelf, is_anew, changes_index, needs_none, IsCountable};
+ghost use Rattle.rpm_tool.specs.Limits.{LimitsOn, begun, LogIs};
 ghost use Rattle.rpm_tool.specs.Working.{OpensBy, IsOutside, IsOfOpening, Worked, WorkedWith, CommittedAs, EndsGroup, is_halt, is_of_commit, is_of_streams, done_why, why_of, why_of_open, why_of_halt};
+ghost use Rattle.rpm_tool.specs.inner.OneChange.{OneChange};
 
 use crate::answer::Why;
 use crate::courses::{add_on, exercise_on, import_on, rebuild_on, replace_on};
@@ -318,19 +319,11 @@ fn change_recovered<D: Disk, S: Shelf, O: Sink + Drop, E: Sink + Drop>(
     requires err_empty { holds err.old ≡ [] }
     requires settled { IsTrue D.tells → AreSettled (D.files disk) (D.left_since disk (D.moment disk)) }
     requires closed { IsTrue D.tells → log_state (D.files disk).log ≡ Closed }
-    ensures went { IsTrue D.tells → (reads_shelf (task_parts task.now) ≡ true → IsTrue S.tells)
-        → DidOn (task_course (S.paths shelf.old) now (task_parts task.now)) (D.files disk) result.0.why
+    ensures one { IsTrue D.tells → (reads_shelf (task_parts task.now) ≡ true → IsTrue S.tells)
+        → OneChange D.files D.left_since D.moment (S.paths shelf.old) now (task_parts task.now) result.0.why result.0.changes disk result.1
         (outputs O.tells (O.taken (inner out.old)) E.tells (E.taken (inner err.old)))
         (outputs O.tells (O.taken (inner out.new)) E.tells (E.taken (inner err.new))) }
-    ensures changed { IsTrue D.tells → (reads_shelf (task_parts task.now) ≡ true → IsTrue S.tells)
-        → ChangesWith (is_anew (task_parts task.now)) (changes_index (task_parts task.now)) D.files D.left_since D.moment
-        (task_course (S.paths shelf.old) now (task_parts task.now))
-        result.0.why result.0.changes disk result.1 }
     ensures empty { IsTrue D.tells → EmptyBy (needs_none (task_parts task.now)) (reopened (D.files disk)) result.0.why }
-    ensures limits { IsTrue D.tells → (reads_shelf (task_parts task.now) ≡ true → IsTrue S.tells)
-        → LimitsOn (task_course (S.paths shelf.old) now (task_parts task.now)) (reopened (D.files disk)) result.0.why }
-    ensures log { IsTrue D.tells → (reads_shelf (task_parts task.now) ≡ true → IsTrue S.tells)
-        → LogOn (task_course (S.paths shelf.old) now (task_parts task.now)) (reopened (D.files disk)) result.0.why }
     ensures counted { is_done result.0.why ≡ false → result.0.changes ≡ 0 }
     ensures shelf_unread { reads_shelf (task_parts task.now) ≡ false → shelf.new ≡ shelf.old }
     ensures paths { IsTrue S.tells → S.paths shelf.new ≡ S.paths shelf.old }
@@ -380,19 +373,11 @@ fn change<D: Disk, S: Shelf, O: Sink + Drop, E: Sink + Drop>(
     requires countable { IsCountable (task_parts task.now) }
     requires out_empty { holds out.old ≡ [] }
     requires err_empty { holds err.old ≡ [] }
-    ensures went { IsTrue D.tells → (reads_shelf (task_parts task.now) ≡ true → IsTrue S.tells)
-        → DidOn (task_course (S.paths shelf.old) now (task_parts task.now)) (D.files disk) result.0.why
+    ensures one { IsTrue D.tells → (reads_shelf (task_parts task.now) ≡ true → IsTrue S.tells)
+        → OneChange D.files D.left_since D.moment (S.paths shelf.old) now (task_parts task.now) result.0.why result.0.changes disk result.1
         (outputs O.tells (O.taken (inner out.old)) E.tells (E.taken (inner err.old)))
         (outputs O.tells (O.taken (inner out.new)) E.tells (E.taken (inner err.new))) }
-    ensures changed { IsTrue D.tells → (reads_shelf (task_parts task.now) ≡ true → IsTrue S.tells)
-        → ChangesWith (is_anew (task_parts task.now)) (changes_index (task_parts task.now)) D.files D.left_since D.moment
-        (task_course (S.paths shelf.old) now (task_parts task.now))
-        result.0.why result.0.changes disk result.1 }
     ensures empty { IsTrue D.tells → EmptyBy (needs_none (task_parts task.now)) (reopened (D.files disk)) result.0.why }
-    ensures limits { IsTrue D.tells → (reads_shelf (task_parts task.now) ≡ true → IsTrue S.tells)
-        → LimitsOn (task_course (S.paths shelf.old) now (task_parts task.now)) (reopened (D.files disk)) result.0.why }
-    ensures log { IsTrue D.tells → (reads_shelf (task_parts task.now) ≡ true → IsTrue S.tells)
-        → LogOn (task_course (S.paths shelf.old) now (task_parts task.now)) (reopened (D.files disk)) result.0.why }
     ensures counted { is_done result.0.why ≡ false → result.0.changes ≡ 0 }
     ensures shelf_unread { reads_shelf (task_parts task.now) ≡ false → shelf.new ≡ shelf.old }
     ensures paths { IsTrue S.tells → S.paths shelf.new ≡ S.paths shelf.old }
@@ -426,20 +411,11 @@ pub fn change_asked<D: Disk, S: Shelf, O: Sink + Drop, E: Sink + Drop>(
     requires sound { IsSound words.now ask.now }
     requires out_empty { holds out.old ≡ [] }
     requires err_empty { holds err.old ≡ [] }
-    ensures did { IsTrue D.tells → (reads_shelf (asked_task words.now ask.now) ≡ true → IsTrue S.tells)
-        → DidOn (asked_course (S.paths shelf.old) now words.now ask.now) (D.files disk) result.0.why
+    ensures one { IsTrue D.tells → (reads_shelf (asked_task words.now ask.now) ≡ true → IsTrue S.tells)
+        → OneChange D.files D.left_since D.moment (S.paths shelf.old) now (asked_task words.now ask.now) result.0.why result.0.changes disk result.1
         (outputs O.tells (O.taken (inner out.old)) E.tells (E.taken (inner err.old)))
         (outputs O.tells (O.taken (inner out.new)) E.tells (E.taken (inner err.new))) }
-    ensures changed { IsTrue D.tells → (reads_shelf (asked_task words.now ask.now) ≡ true → IsTrue S.tells)
-        → ChangesWith (is_anew (asked_task words.now ask.now)) (changes_index (asked_task words.now ask.now)) D.files D.left_since D.moment
-        (asked_course (S.paths shelf.old) now words.now ask.now)
-        result.0.why result.0.changes disk result.1 }
     ensures empty { IsTrue D.tells → EmptyBy (needs_none (asked_task words.now ask.now)) (reopened (D.files disk)) result.0.why }
-    ensures limits { IsTrue D.tells → (reads_shelf (asked_task words.now ask.now) ≡ true → IsTrue S.tells)
-        → LimitsOn (asked_course (S.paths shelf.old) now words.now ask.now) (reopened (D.files disk))
-        result.0.why }
-    ensures log { IsTrue D.tells → (reads_shelf (asked_task words.now ask.now) ≡ true → IsTrue S.tells)
-        → LogOn (asked_course (S.paths shelf.old) now words.now ask.now) (reopened (D.files disk)) result.0.why }
     ensures counted { is_done result.0.why ≡ false → result.0.changes ≡ 0 }
     ensures shelf_unread { reads_shelf (asked_task words.now ask.now) ≡ false → shelf.new ≡ shelf.old }
     ensures paths { IsTrue S.tells → S.paths shelf.new ≡ S.paths shelf.old }

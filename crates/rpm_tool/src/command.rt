@@ -25,6 +25,7 @@ ghost use Rattle.rpm_tool.specs.Keyed.{AreLawfulGroups, IsLawfulGroup, StandsSti
 ghost use Rattle.rpm_tool.specs.Keyed.{is_done, is_done_or_outside, keyed_cost};
 ghost use Rattle.rpm_tool.specs.Tasks.{asked_task, asked_course, reads_shelf, is_anew, changes_index, needs_none};
 ghost use Rattle.rpm_tool.specs.Limits.{LimitsOn, LogOn};
+ghost use Rattle.rpm_tool.specs.inner.OneChange.{OneChange};
 ghost use Rattle.rpm_tool.specs.PackageFiles.{passing, query_files};
 ghost use Rattle.rpm_change.specs.Endings.{outputs};
 ghost use Rattle.rpm_tool.specs.Answers.{is_of_words, ComesWhere, Queried, Anywhere, Went, Closes, Ends, AtMost, Leaves, query_cost};
@@ -75,19 +76,10 @@ fn begin<D: Disk, S: Shelf, O: Sink + Drop, E: Sink + Drop>(
         → AnswersByKey D.files D.left_since D.moment D.bytes_read format.now words.now ask.now result.0.why
         (outputs O.tells (O.taken (inner out.old)) E.tells (E.taken (inner err.old))) (outputs O.tells (O.taken (inner out.new)) E.tells
         (E.taken (inner err.new))) disk result.1 }
-    ensures did { is_changing ask.now ≡ true → IsTrue D.tells → (reads_shelf (asked_task words.now ask.now) ≡ true → IsTrue S.tells)
-        → DidOn (asked_course (S.paths shelf.old) now words.now ask.now) (D.files disk) result.0.why
+    ensures one { is_changing ask.now ≡ true → IsTrue D.tells → (reads_shelf (asked_task words.now ask.now) ≡ true → IsTrue S.tells)
+        → OneChange D.files D.left_since D.moment (S.paths shelf.old) now (asked_task words.now ask.now) result.0.why result.0.changes disk result.1
         (outputs O.tells (O.taken (inner out.old)) E.tells (E.taken (inner err.old)))
         (outputs O.tells (O.taken (inner out.new)) E.tells (E.taken (inner err.new))) }
-    ensures changed { is_changing ask.now ≡ true → IsTrue D.tells → (reads_shelf (asked_task words.now ask.now) ≡ true → IsTrue S.tells)
-        → ChangesWith (is_anew (asked_task words.now ask.now)) (changes_index (asked_task words.now ask.now)) D.files D.left_since D.moment
-        (asked_course (S.paths shelf.old) now words.now ask.now)
-        result.0.why result.0.changes disk result.1 }
-    ensures limits { is_changing ask.now ≡ true → IsTrue D.tells → (reads_shelf (asked_task words.now ask.now) ≡ true → IsTrue S.tells)
-        → LimitsOn (asked_course (S.paths shelf.old) now words.now ask.now) (reopened (D.files disk))
-        result.0.why }
-    ensures log { is_changing ask.now ≡ true → IsTrue D.tells → (reads_shelf (asked_task words.now ask.now) ≡ true → IsTrue S.tells)
-        → LogOn (asked_course (S.paths shelf.old) now words.now ask.now) (reopened (D.files disk)) result.0.why }
     ensures changes { is_changing ask.now ≡ false → result.0.changes ≡ 0 }
     ensures empty { is_changing ask.now ≡ true → IsTrue D.tells
         → EmptyBy (needs_none (asked_task words.now ask.now)) (reopened (D.files disk)) result.0.why }
@@ -155,22 +147,11 @@ fn command<D: Disk, S: Shelf, O: Sink + Drop, E: Sink + Drop>(
         → AnswersByKey D.files D.left_since D.moment D.bytes_read tree words.now a result.0.why
         (outputs O.tells (O.taken (inner out.old)) E.tells (E.taken (inner err.old))) (outputs O.tells (O.taken (inner out.new)) E.tells
         (E.taken (inner err.new))) disk result.1 }
-    ensures did { (a : AskParts) (tree : Tree) → asks words.now ≡ Some (a, tree) → is_changing a ≡ true → IsTrue D.tells
+    ensures one { (a : AskParts) (tree : Tree) → asks words.now ≡ Some (a, tree) → is_changing a ≡ true → IsTrue D.tells
         → (reads_shelf (asked_task words.now a) ≡ true → IsTrue S.tells)
-        → DidOn (asked_course (S.paths shelf.old) now words.now a) (D.files disk) result.0.why
+        → OneChange D.files D.left_since D.moment (S.paths shelf.old) now (asked_task words.now a) result.0.why result.0.changes disk result.1
         (outputs O.tells (O.taken (inner out.old)) E.tells (E.taken (inner err.old)))
         (outputs O.tells (O.taken (inner out.new)) E.tells (E.taken (inner err.new))) }
-    ensures changed { (a : AskParts) (tree : Tree) → asks words.now ≡ Some (a, tree) → is_changing a ≡ true → IsTrue D.tells
-        → (reads_shelf (asked_task words.now a) ≡ true → IsTrue S.tells)
-        → ChangesWith (is_anew (asked_task words.now a)) (changes_index (asked_task words.now a)) D.files D.left_since D.moment
-        (asked_course (S.paths shelf.old) now words.now a)
-        result.0.why result.0.changes disk result.1 }
-    ensures limits { (a : AskParts) (tree : Tree) → asks words.now ≡ Some (a, tree) → is_changing a ≡ true → IsTrue D.tells
-        → (reads_shelf (asked_task words.now a) ≡ true → IsTrue S.tells)
-        → LimitsOn (asked_course (S.paths shelf.old) now words.now a) (reopened (D.files disk)) result.0.why }
-    ensures log { (a : AskParts) (tree : Tree) → asks words.now ≡ Some (a, tree) → is_changing a ≡ true → IsTrue D.tells
-        → (reads_shelf (asked_task words.now a) ≡ true → IsTrue S.tells)
-        → LogOn (asked_course (S.paths shelf.old) now words.now a) (reopened (D.files disk)) result.0.why }
     ensures changes { asks_change words.now ≡ false → result.0.changes ≡ 0 }
     ensures empty { (a : AskParts) (tree : Tree) → asks words.now ≡ Some (a, tree) → is_changing a ≡ true → IsTrue D.tells
         → EmptyBy (needs_none (asked_task words.now a)) (reopened (D.files disk)) result.0.why }

@@ -64,16 +64,6 @@ pub fn begin_unasked<D: Disk>(
     }
 }
 
-/// The number of a package that was picked.
-fn number_of(picked: &Picked) -> u32
-    ensures { result ≡ number_in picked.now }
-{
-    match picked {
-        Picked::Good { number, .. } => *number,
-        Picked::Bad { number } => *number,
-    }
-}
-
 /// Prints a package that was picked, and says its number, and whether it went to out (true), or a message to err (false).
 fn print_one<O: Sink + Drop, E: Sink + Drop>(
     alloc: Global,
@@ -95,7 +85,7 @@ fn print_one<O: Sink + Drop, E: Sink + Drop>(
     ensures err_rest { HandsOn E.follows err.old err.new }
 {
     match print_picked(alloc, way, picked, out, err) {
-        Ok(to_out) => Ok(Some((number_of(picked), to_out))),
+        Ok(to_out) => Ok(Some((picked.number(), to_out))),
         Err(stop) => Err(stop),
     }
 }

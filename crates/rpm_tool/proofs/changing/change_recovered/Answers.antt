@@ -17,7 +17,7 @@ use Rattle.rpm_tool.specs.Working.{WorkedWith, why_of, is_halt}
 use Rattle.rpm_tool.proofs.Emptied.{load_empty, group_empty, same_empty}
 use Rattle.rpm_tool.proofs.Grouped.{group_did, group_changes}
 use Rattle.rpm_tool.proofs.Ends.{below_same, below_back, below_moment, below_settled, below_closed}
-use Rattle.rpm_tool.proofs.Limited.{limits_grouped, limits_unloaded}
+use Rattle.rpm_tool.proofs.LimitEnds.{limits_grouped, limits_unloaded}
 use Rattle.rpm_tool.proofs.Logged.{log_grouped, log_unloaded}
 use Rattle.rpm_tool.proofs.Unloaded.{unloaded_did, unloaded_changes}
 use Rattle.rpm_tool.proofs.changing.change_recovered.Goals as goal
@@ -34,75 +34,45 @@ end_group-requires-clause-closed g c = λ told.
     (overlay_below c.in-Ok.overlay) (overlay_below c.change_on-ended.new.disk) (overlay_read c.in-Ok.overlay) (overlay_read c.change_on-ended.new.disk)
     c.in-Ok.ensures.looks c.change_on-ended.ensures.runs.goes_on told (c.requires.closed told)
 
-pub returns-in-Ok-clause-went : goal.returns-in-Ok-clause-went
-returns-in-Ok-clause-went g c = λ told shelf.
+pub returns-in-Ok-clause-one : goal.returns-in-Ok-clause-one
+returns-in-Ok-clause-one g c = λ told shelf.
     let D = g.D.Disk in
     let first = c.args.disk in
-    let ov = c.in-Ok.overlay in
+    let r = reopened (D.files first) in
     let end = c.change_on-ended.new.disk in
+    let mid = overlay_below c.in-Ok.overlay in
     let last = overlay_below end in
-    let new = laid_files (overlay_held end) (D.files last) in
-    let ended = c.change_on-ended.result in
-    let course : State → Course = task_course (g.S.Shelf.paths c.args.shelf.now) c.args.now (task_parts c.args.task.now) in
-    let before = outputs g.O.Sink.tells (g.O.Sink.taken (inner c.args.out.now)) g.E.Sink.tells (g.E.Sink.taken (inner c.args.err.now)) in
-    let now = outputs g.O.Sink.tells (g.O.Sink.taken (inner c.change_on-ended.new.out)) g.E.Sink.tells (g.E.Sink.taken (inner c.change_on-ended.new.err)) in
-    group_did D.files D.left_since D.moment course ended c.end_group.result.0.why c.end_group.result.0.changes first last c.end_group.result.1 new before now
-    (c.requires.closed told)
-    (subst (λ (f : Files). WorkedWith (is_anew (task_parts c.args.task.now)) (changes_index (task_parts c.args.task.now)) course f new ended before now)
-    (c.in-Ok.ensures.files told)
-    (c.change_on-ended.ensures.worked told shelf))
-    (c.end_group.ensures.ends told)
-
-pub returns-in-Ok-clause-changed : goal.returns-in-Ok-clause-changed
-returns-in-Ok-clause-changed g c = λ told shelf.
-    let D = g.D.Disk in
-    let first = c.args.disk in
-    let ov = c.in-Ok.overlay in
-    let end = c.change_on-ended.new.disk in
-    let last = overlay_below end in
-    let new = laid_files (overlay_held end) (D.files last) in
-    let ended = c.change_on-ended.result in
-    let course : State → Course = task_course (g.S.Shelf.paths c.args.shelf.now) c.args.now (task_parts c.args.task.now) in
     let final = c.end_group.result.1 in
+    let new = laid_files (overlay_held end) (D.files last) in
+    let t = task_parts c.args.task.now in
+    let course : State → Course = task_course (g.S.Shelf.paths c.args.shelf.now) c.args.now t in
+    let ended = c.change_on-ended.result in
+    let given = c.end_group.result.0.why in
+    let n = c.end_group.result.0.changes in
+    let ends = c.end_group.ensures.ends told in
     let looks = c.in-Ok.ensures.looks in
     let keeps = c.change_on-ended.ensures.runs.goes_on in
-    let mid = overlay_below ov in
-    let ro = overlay_read ov in
+    let ro = overlay_read c.in-Ok.overlay in
     let rn = overlay_read end in
     let before = outputs g.O.Sink.tells (g.O.Sink.taken (inner c.args.out.now)) g.E.Sink.tells (g.E.Sink.taken (inner c.args.err.now)) in
     let now = outputs g.O.Sink.tells (g.O.Sink.taken (inner c.change_on-ended.new.out)) g.E.Sink.tells (g.E.Sink.taken (inner c.change_on-ended.new.err)) in
-    let ends = c.end_group.ensures.ends told in
-    group_changes D.files D.left_since D.moment course ended c.end_group.result.0.why c.end_group.result.0.changes first last final new before now
-    (c.requires.closed told)
-    (subst (λ (f : Files). WorkedWith (is_anew (task_parts c.args.task.now)) (changes_index (task_parts c.args.task.now)) course f new ended before now)
-    (c.in-Ok.ensures.files told)
-    (c.change_on-ended.ensures.worked told shelf))
-    ends
-    (below_same D.tells D.files D.left_since D.moment D.bytes_read D.follows D.faults first mid last ro rn looks keeps told)
-    (g.met.D.Disk.as_read first told) (c.requires.settled told)
-    (below_back D.tells D.files D.left_since D.moment D.bytes_read D.follows D.faults first mid last ro rn looks keeps told)
-    (below_moment D.tells D.files D.left_since D.moment D.bytes_read D.follows D.faults first mid last ro rn looks keeps told)
-    (g.met.D.Disk.earlier final (D.moment last) (D.moment final) (D.files final) told ends.images.later (omega arith) (g.met.D.Disk.as_read final told))
-
-pub returns-in-Err-clause-went : goal.returns-in-Err-clause-went
-returns-in-Err-clause-went g c = λ told shelf.
-    let D = g.D.Disk in
-    rw (c.unchanged.ensures, c.why_of_load.ensures)
-    (unloaded_did D.tells D.files D.left_since D.moment D.bytes_read D.follows (task_course (g.S.Shelf.paths c.args.shelf.now) c.args.now (task_parts
-    c.args.task.now)) c.args.disk c.in-Err.refused.disk
-    c.in-Err.ensures.looks told (c.requires.closed told) (c.requires.settled told) c.in-Err.refused.why (c.in-Err.ensures.says told)
-    (outputs g.O.Sink.tells (g.O.Sink.taken (inner c.args.out.now)) g.E.Sink.tells (g.E.Sink.taken (inner c.args.err.now))))
-
-pub returns-in-Err-clause-changed : goal.returns-in-Err-clause-changed
-returns-in-Err-clause-changed g c = λ told shelf.
-    let D = g.D.Disk in
-    rw (c.unchanged.ensures, c.why_of_load.ensures)
-    (unloaded_changes D.tells D.files D.left_since D.moment D.bytes_read D.follows (task_course (g.S.Shelf.paths c.args.shelf.now) c.args.now (task_parts
-    c.args.task.now)) c.args.disk c.in-Err.refused.disk
-    c.in-Err.ensures.looks told (c.requires.closed told) (c.requires.settled told) c.in-Err.refused.why (c.in-Err.ensures.says told)
-    (outputs g.O.Sink.tells (g.O.Sink.taken (inner c.args.out.now)) g.E.Sink.tells (g.E.Sink.taken (inner c.args.err.now))) (g.met.D.Disk.as_read c.args.disk
-    told)
-    (g.met.D.Disk.as_read c.in-Err.refused.disk told))
+    let worked : WorkedWith (is_anew t) (changes_index t) course (with_file Log (D.files first).log r) new ended before now =
+    subst (λ (f : Files). WorkedWith (is_anew t) (changes_index t) course f new ended before now) (c.in-Ok.ensures.files told)
+    (c.change_on-ended.ensures.worked told shelf) in
+    record {
+      did = group_did D.files D.left_since D.moment course ended given n first last final new before now (c.requires.closed told) worked ends;
+      changed = group_changes D.files D.left_since D.moment course ended given n first last final new before now (c.requires.closed told) worked ends
+          (below_same D.tells D.files D.left_since D.moment D.bytes_read D.follows D.faults first mid last ro rn looks keeps told)
+          (g.met.D.Disk.as_read first told) (c.requires.settled told)
+          (below_back D.tells D.files D.left_since D.moment D.bytes_read D.follows D.faults first mid last ro rn looks keeps told)
+          (below_moment D.tells D.files D.left_since D.moment D.bytes_read D.follows D.faults first mid last ro rn looks keeps told)
+          (g.met.D.Disk.earlier final (D.moment last) (D.moment final) (D.files final) told ends.images.later (omega arith) (g.met.D.Disk.as_read final told));
+      limits = limits_grouped course r ended given n ends.says
+          (subst (λ (f : Files). LimitsOn course f (why_of ended)) (c.in-Ok.ensures.files told) (c.change_on-ended.ensures.limits told shelf));
+      log = log_grouped course r new before now ended given n ends.says
+          (λ w is. subst (λ (e : Result Tally Why). IfErr e (λ w. is_halt w ≡ true)) is c.change_on-ended.ensures.halted) worked.went
+          (c.end_group.ensures.log told);
+    }
 
 pub returns-in-Ok-clause-empty : goal.returns-in-Ok-clause-empty
 returns-in-Ok-clause-empty g c = λ told.
@@ -112,48 +82,26 @@ returns-in-Ok-clause-empty g c = λ told.
     (same_empty needs _ (reopened (g.D.Disk.files c.args.disk)) (why_of ended) (ap (λ (f : Files). f.pkg) (c.in-Ok.ensures.files told))
     (c.change_on-ended.ensures.empty told))
 
+pub returns-in-Err-clause-one : goal.returns-in-Err-clause-one
+returns-in-Err-clause-one g c = λ told shelf.
+    let D = g.D.Disk in
+    let old = c.args.disk in
+    let back = c.in-Err.refused.disk in
+    let r = reopened (D.files old) in
+    let fault = c.in-Err.refused.why in
+    let course : State → Course = task_course (g.S.Shelf.paths c.args.shelf.now) c.args.now (task_parts c.args.task.now) in
+    let x = outputs g.O.Sink.tells (g.O.Sink.taken (inner c.args.out.now)) g.E.Sink.tells (g.E.Sink.taken (inner c.args.err.now)) in
+    rw (c.unchanged.ensures, c.why_of_load.ensures) (record {
+      did = unloaded_did D.tells D.files D.left_since D.moment D.bytes_read D.follows course old back c.in-Err.ensures.looks told (c.requires.closed told)
+          (c.requires.settled told) fault (c.in-Err.ensures.says told) x;
+      changed = unloaded_changes D.tells D.files D.left_since D.moment D.bytes_read D.follows course old back c.in-Err.ensures.looks told
+          (c.requires.closed told) (c.requires.settled told) fault (c.in-Err.ensures.says told) x (g.met.D.Disk.as_read old told)
+          (g.met.D.Disk.as_read back told);
+      limits = limits_unloaded course r fault;
+      log = log_unloaded course r fault;
+    })
+
 pub returns-in-Err-clause-empty : goal.returns-in-Err-clause-empty
 returns-in-Err-clause-empty g c = λ told.
     rw (c.unchanged.ensures, c.why_of_load.ensures)
     (load_empty (needs_none (task_parts c.args.task.now)) (reopened (g.D.Disk.files c.args.disk)) c.in-Err.refused.why)
-
-pub returns-in-Ok-clause-limits : goal.returns-in-Ok-clause-limits
-returns-in-Ok-clause-limits g c = λ told shelf.
-    let t = task_parts c.args.task.now in
-    let course : State → Course = task_course (g.S.Shelf.paths c.args.shelf.now) c.args.now t in
-    let ended = c.change_on-ended.result in
-    limits_grouped course (reopened (g.D.Disk.files c.args.disk)) ended c.end_group.result.0.why c.end_group.result.0.changes
-    (c.end_group.ensures.ends told).says
-    (subst (λ (f : Files). LimitsOn course f (why_of ended)) (c.in-Ok.ensures.files told) (c.change_on-ended.ensures.limits told shelf))
-
-pub returns-in-Err-clause-limits : goal.returns-in-Err-clause-limits
-returns-in-Err-clause-limits g c = λ told shelf.
-    let t = task_parts c.args.task.now in
-    rw (c.unchanged.ensures, c.why_of_load.ensures)
-    (limits_unloaded (task_course (g.S.Shelf.paths c.args.shelf.now) c.args.now t)
-    (reopened (g.D.Disk.files c.args.disk)) c.in-Err.refused.why)
-
-pub returns-in-Ok-clause-log : goal.returns-in-Ok-clause-log
-returns-in-Ok-clause-log g c = λ told shelf.
-    let D = g.D.Disk in
-    let end = c.change_on-ended.new.disk in
-    let new = laid_files (overlay_held end) (D.files (overlay_below end)) in
-    let t = task_parts c.args.task.now in
-    let ended = c.change_on-ended.result in
-    let course : State → Course = task_course (g.S.Shelf.paths c.args.shelf.now) c.args.now t in
-    let before = outputs g.O.Sink.tells (g.O.Sink.taken (inner c.args.out.now)) g.E.Sink.tells (g.E.Sink.taken (inner c.args.err.now)) in
-    let now = outputs g.O.Sink.tells (g.O.Sink.taken (inner c.change_on-ended.new.out)) g.E.Sink.tells (g.E.Sink.taken (inner c.change_on-ended.new.err)) in
-    let worked : WorkedWith (is_anew t) (changes_index t) course (with_file Log (D.files c.args.disk).log (reopened (D.files c.args.disk))) new ended
-    before now =
-    subst (λ (f : Files). WorkedWith (is_anew t) (changes_index t) course f new ended before now) (c.in-Ok.ensures.files told)
-    (c.change_on-ended.ensures.worked told shelf) in
-    log_grouped course (reopened (D.files c.args.disk)) new before now ended c.end_group.result.0.why c.end_group.result.0.changes
-    (c.end_group.ensures.ends told).says
-    (λ w is. subst (λ (e : Result Tally Why). IfErr e (λ w. is_halt w ≡ true)) is c.change_on-ended.ensures.halted) worked.went
-    (c.end_group.ensures.log told)
-
-pub returns-in-Err-clause-log : goal.returns-in-Err-clause-log
-returns-in-Err-clause-log g c = λ told shelf.
-    rw (c.unchanged.ensures, c.why_of_load.ensures)
-    (log_unloaded (task_course (g.S.Shelf.paths c.args.shelf.now) c.args.now (task_parts c.args.task.now)) (reopened (g.D.Disk.files c.args.disk))
-    c.in-Err.refused.why)

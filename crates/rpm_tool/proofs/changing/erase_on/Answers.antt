@@ -9,7 +9,8 @@ use Rattle.rpm_tool.proofs.Limited.{limits_unopened, limits_halted, limits_worke
 use Rattle.rpm_tool.proofs.Unnumbered.{erase_has, none_spent}
 use Rattle.rpm_tool.proofs.Paged.{still_paged}
 use Rattle.rpm_tool.proofs.Unmade.{through_none}
-use Rattle.rpm_tool.proofs.Works.{open_worked, done_worked, halted_worked}
+use Rattle.rpm_tool.proofs.Works.{done_worked, halted_worked}
+use Rattle.rpm_tool.proofs.Unopened.{open_worked}
 use Rattle.rpm_tool.proofs.changing.erase_on.Goals as goal
 
 pub returns-in-Err-clause-worked : goal.returns-in-Err-clause-worked

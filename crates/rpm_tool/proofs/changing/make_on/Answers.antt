@@ -4,7 +4,8 @@ use Rattle.rpm_change.specs.Steps.{idle}
 use Rattle.rpm_tool.proofs.Limited.{limits_unopened, limits_worked}
 use Rattle.rpm_tool.proofs.Paged.{made_paged}
 use Rattle.rpm_tool.proofs.Unmade.{through_none}
-use Rattle.rpm_tool.proofs.Works.{open_with, done_worked}
+use Rattle.rpm_tool.proofs.Works.{done_worked}
+use Rattle.rpm_tool.proofs.Unopened.{open_with}
 use Rattle.rpm_tool.proofs.changing.make_on.Goals as goal
 
 pub returns-clause-worked : goal.returns-clause-worked

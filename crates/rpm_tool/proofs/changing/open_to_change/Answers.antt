@@ -8,9 +8,9 @@ use Rattle.rpm_db.specs.Lawful.{Remade}
 use Rattle.rpm_pkgdb.specs.Store.{store}
 use Rattle.rpm_tool.specs.Limits.{begun}
 use Rattle.rpm_tool.proofs.Brokens.{open_broken}
-use Rattle.rpm_tool.proofs.Grouped.{if_ok}
+use Rattle.rpm_tool.proofs.Standing.{if_ok}
 use Rattle.rpm_tool.proofs.Limited.{stored_one}
-use Rattle.rpm_tool.proofs.Works.{open_refused, open_made, open_unmade, open_kinds}
+use Rattle.rpm_tool.proofs.Opened.{open_refused, open_made, open_unmade, open_kinds}
 use Rattle.rpm_tool.proofs.changing.open_to_change.Goals as goal
 
 pub returns-in-Err-clause-opened : goal.returns-in-Err-clause-opened

@@ -6,14 +6,13 @@ use Rattle.rpm_words.specs.Ask.{AskParts, ask}
 use Rattle.rpm_tool.specs.Asked.{of_files, by_key, is_changing, changes_in, asks_change, asks_format, asks}
 use Rattle.rpm_change.specs.Endings.{outputs}
 use Rattle.rpm_tool.specs.PackageFiles.{query_files}
-use Rattle.rpm_tool.specs.Tasks.{asked_task, asked_course, reads_shelf, needs_none}
-use Rattle.rpm_tool.proofs.Limited.{limits_starved}
+use Rattle.rpm_tool.specs.Tasks.{asked_task, reads_shelf, needs_none}
 use Rattle.rpm_tool.proofs.Reaching.{through_none}
 use Rattle.rpm_tool.proofs.Recovered.{unbegun}
 use Rattle.rpm_tool.proofs.Undone.{usage_of_undone, usage_of_done, format_of_undone, format_of_done, starved, none_asked, same_command}
 use Rattle.rpm_tool.proofs.Begun.{not_begun}
 use Rattle.rpm_tool.proofs.Emptied.{memory_empty}
-use Rattle.rpm_tool.proofs.Unstarted.{unstarted_did, unstarted_changes}
+use Rattle.rpm_tool.proofs.Unstarted.{unstarted_one}
 use Rattle.rpm_tool.proofs.command.command.Goals as goal
 
 pub returns-in-Ok-clause-usage : goal.returns-in-Ok-clause-usage
@@ -114,39 +113,25 @@ returns-in-Err-clause-keyed g c = λ a tree asked is told.
     rw none (unbegun g.D.Disk.files g.D.Disk.left_since g.D.Disk.moment g.D.Disk.bytes_read tree c.args.words.now a g.O.Sink.tells g.E.Sink.tells
     (g.O.Sink.taken (inner c.args.out.now)) (g.E.Sink.taken (inner c.args.err.now)) c.args.disk)
 
-pub returns-in-Ok-clause-did : goal.returns-in-Ok-clause-did
+pub returns-in-Ok-clause-one : goal.returns-in-Ok-clause-one
 unfolding asks
-returns-in-Ok-clause-did g c = λ a tree asked is told shelf.
+returns-in-Ok-clause-one g c = λ a tree asked is told shelf.
     let same = same_command (ask c.args.words.now) (asks_format c.args.words.now) c.in-Ok.ask a c.in-Ok.format tree c.in-Ok.ensures.ok.0
     c.in-Ok.ensures.ok.1 asked in
-    rw (← same.0) (c.begin.ensures.did (ap is_changing same.0 ∙ is) told
-    (λ reads. shelf (sym (ap (λ (x : AskParts). reads_shelf (asked_task c.args.words.now x)) same.0) ∙ reads)))
-
-pub returns-in-Ok-clause-changed : goal.returns-in-Ok-clause-changed
-unfolding asks
-returns-in-Ok-clause-changed g c = λ a tree asked is told shelf.
-    let same = same_command (ask c.args.words.now) (asks_format c.args.words.now) c.in-Ok.ask a c.in-Ok.format tree c.in-Ok.ensures.ok.0
-    c.in-Ok.ensures.ok.1 asked in
-    rw (← same.0) (c.begin.ensures.changed (ap is_changing same.0 ∙ is) told
+    rw (← same.0) (c.begin.ensures.one (ap is_changing same.0 ∙ is) told
     (λ reads. shelf (sym (ap (λ (x : AskParts). reads_shelf (asked_task c.args.words.now x)) same.0) ∙ reads)))
 
 pub returns-in-Ok-clause-changes : goal.returns-in-Ok-clause-changes
 unfolding asks_change
 returns-in-Ok-clause-changes g c = λ still. c.begin.ensures.changes (sym (ap changes_in c.in-Ok.ensures.ok.0) ∙ still)
 
-pub returns-in-Err-clause-did : goal.returns-in-Err-clause-did
+pub returns-in-Err-clause-one : goal.returns-in-Err-clause-one
 unfolding asks_format asks
-returns-in-Err-clause-did g c = λ a tree asked is told shelf.
+returns-in-Err-clause-one g c = λ a tree asked is told shelf.
     let none = starved c.args.words.now (ask c.args.words.now) c.in-Err.why c.in-Err.ensures.undone a tree asked in
-    rw none (unstarted_did (asked_course (g.S.Shelf.paths c.args.shelf.now) c.args.now c.args.words.now a) (g.D.Disk.files c.args.disk)
+    rw none (unstarted_one g.D.Disk.files g.D.Disk.left_since g.D.Disk.moment (g.S.Shelf.paths c.args.shelf.now) c.args.now
+    (asked_task c.args.words.now a) c.args.disk
     (outputs g.O.Sink.tells (g.O.Sink.taken (inner c.args.out.now)) g.E.Sink.tells (g.E.Sink.taken (inner c.args.err.now))))
-
-pub returns-in-Err-clause-changed : goal.returns-in-Err-clause-changed
-unfolding asks_format asks
-returns-in-Err-clause-changed g c = λ a tree asked is told shelf.
-    let none = starved c.args.words.now (ask c.args.words.now) c.in-Err.why c.in-Err.ensures.undone a tree asked in
-    rw none (unstarted_changes g.D.Disk.files g.D.Disk.left_since g.D.Disk.moment
-    (asked_course (g.S.Shelf.paths c.args.shelf.now) c.args.now c.args.words.now a) c.args.disk)
 
 pub returns-in-Ok-clause-empty : goal.returns-in-Ok-clause-empty
 unfolding asks
@@ -160,31 +145,3 @@ unfolding asks_format asks
 returns-in-Err-clause-empty g c = λ a tree asked is told.
     let none = starved c.args.words.now (ask c.args.words.now) c.in-Err.why c.in-Err.ensures.undone a tree asked in
     rw none (memory_empty (needs_none (asked_task c.args.words.now a)) (reopened (g.D.Disk.files c.args.disk)))
-
-pub returns-in-Ok-clause-limits : goal.returns-in-Ok-clause-limits
-unfolding asks
-returns-in-Ok-clause-limits g c = λ a tree asked is told shelf.
-    let same = same_command (ask c.args.words.now) (asks_format c.args.words.now) c.in-Ok.ask a c.in-Ok.format tree c.in-Ok.ensures.ok.0
-    c.in-Ok.ensures.ok.1 asked in
-    rw (← same.0) (c.begin.ensures.limits (ap is_changing same.0 ∙ is) told
-    (λ reads. shelf (sym (ap (λ (x : AskParts). reads_shelf (asked_task c.args.words.now x)) same.0) ∙ reads)))
-
-pub returns-in-Err-clause-limits : goal.returns-in-Err-clause-limits
-unfolding asks_format asks
-returns-in-Err-clause-limits g c = λ a tree asked is told shelf.
-    let none = starved c.args.words.now (ask c.args.words.now) c.in-Err.why c.in-Err.ensures.undone a tree asked in
-    rw none (limits_starved (asked_course (g.S.Shelf.paths c.args.shelf.now) c.args.now c.args.words.now a)
-    (reopened (g.D.Disk.files c.args.disk)))
-
-pub returns-in-Ok-clause-log : goal.returns-in-Ok-clause-log
-unfolding asks
-returns-in-Ok-clause-log g c = λ a tree asked is told shelf.
-    let same = same_command (ask c.args.words.now) (asks_format c.args.words.now) c.in-Ok.ask a c.in-Ok.format tree c.in-Ok.ensures.ok.0
-    c.in-Ok.ensures.ok.1 asked in
-    rw (← same.0) (c.begin.ensures.log (ap is_changing same.0 ∙ is) told
-    (λ reads. shelf (sym (ap (λ (x : AskParts). reads_shelf (asked_task c.args.words.now x)) same.0) ∙ reads)))
-
-pub returns-in-Err-clause-log : goal.returns-in-Err-clause-log
-unfolding asks_format asks
-returns-in-Err-clause-log g c = λ a tree asked is told shelf.
-    let none = starved c.args.words.now (ask c.args.words.now) c.in-Err.why c.in-Err.ensures.undone a tree asked in rw none tt

@@ -94,4 +94,13 @@ returns-clause-did g c = λ a tree asked is told shelf.
     ended g.O.Sink.tells g.E.Sink.tells g.O.Sink.taken g.E.Sink.taken g.E.Sink.faults (λ lent. lent.now) (closing c.args.words.now c.command-disk.result.0.why)
     c.put_closing.result (inner c.command-disk.new.out).now _ (inner c.new-err.result) (inner c.command-disk.new.err) (inner c.put_closing.new.err)
     c.args.err.now _ err c.command-disk.ensures.err.later c.put_closing.ensures (search rules) (search rules) _
-    (rw (out, err) at (c.command-disk.ensures.did a tree asked is told shelf))
+    (rw (out, err) at (c.command-disk.ensures.one a tree asked is told shelf).did)
+
+pub returns-clause-changed : goal.returns-clause-changed
+returns-clause-changed g c = λ a tree asked is told shelf. (c.command-disk.ensures.one a tree asked is told shelf).changed
+
+pub returns-clause-limits : goal.returns-clause-limits
+returns-clause-limits g c = λ a tree asked is told shelf. (c.command-disk.ensures.one a tree asked is told shelf).limits
+
+pub returns-clause-log : goal.returns-clause-log
+returns-clause-log g c = λ a tree asked is told shelf. (c.command-disk.ensures.one a tree asked is told shelf).log

@@ -5,11 +5,12 @@ use Rattle.rpm_db.specs.inner.Running.{runs_then}
 use Rattle.rpm_db.specs.inner.Writes.{SameLog}
 use Rattle.rpm_change.specs.Endings.{Outputs, Through, outputs}
 use Rattle.rpm_exercise.specs.Exercised.{exercise}
-use Rattle.rpm_tool.proofs.Exercised.{stopped_exercise, done_exercise, empty_unopened, empty_stopped, empty_done}
+use Rattle.rpm_tool.proofs.Exercised.{stopped_exercise, done_exercise}
+use Rattle.rpm_tool.proofs.ExerciseEmpty.{empty_unopened, empty_stopped, empty_done}
 use Rattle.rpm_tool.proofs.Limited.{limits_unopened, limits_exercised, limits_worked}
 use Rattle.rpm_tool.proofs.Paged.{still_paged}
 use Rattle.rpm_tool.proofs.Unmade.{through_none}
-use Rattle.rpm_tool.proofs.Works.{open_with}
+use Rattle.rpm_tool.proofs.Unopened.{open_with}
 use Rattle.rpm_tool.proofs.courses.exercise_on.Goals as goal
 
 pub returns-in-Err-clause-worked : goal.returns-in-Err-clause-worked

@@ -10,7 +10,8 @@ use Rattle.rpm_change.specs.Importing.{import_list, max_headers}
 use Rattle.rpm_tool.proofs.Limited.{limits_unopened, limits_halted, limits_worked}
 use Rattle.rpm_tool.proofs.Paged.{still_paged}
 use Rattle.rpm_tool.proofs.Unmade.{through_none}
-use Rattle.rpm_tool.proofs.Works.{open_worked, done_worked, halted_worked}
+use Rattle.rpm_tool.proofs.Works.{done_worked, halted_worked}
+use Rattle.rpm_tool.proofs.Unopened.{open_worked}
 use Rattle.rpm_tool.proofs.courses.import_on.Goals as goal
 
 pub returns-in-Err-clause-worked : goal.returns-in-Err-clause-worked

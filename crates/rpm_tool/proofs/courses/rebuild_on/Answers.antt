@@ -10,7 +10,7 @@ use Rattle.rpm_tool.proofs.Limited.{limits_unopened, limits_halted, limits_worke
 use Rattle.rpm_tool.proofs.Unnumbered.{rebuild_has, none_spent}
 use Rattle.rpm_tool.proofs.Paged.{still_paged}
 use Rattle.rpm_tool.proofs.Unmade.{through_none}
-use Rattle.rpm_tool.proofs.Works.{open_with}
+use Rattle.rpm_tool.proofs.Unopened.{open_with}
 use Rattle.rpm_tool.proofs.courses.rebuild_on.Goals as goal
 
 pub returns-in-Err-clause-worked : goal.returns-in-Err-clause-worked

@@ -9,7 +9,8 @@ use Rattle.rpm_change.specs.Steps.{Bearer, Course}
 use Rattle.rpm_tool.specs.Reports.{course}
 use Rattle.rpm_change.specs.Endings.{outputs}
 use Rattle.rpm_tool.specs.Answers.{Opened, ReadsTo, unless_starved, read_to, query_cost}
-use Rattle.rpm_tool.proofs.Loading.{opened_unless, opened_reads, loaded_sound, below_reads, fault_below}
+use Rattle.rpm_tool.proofs.Loading.{opened_reads, loaded_sound, below_reads}
+use Rattle.rpm_tool.proofs.Wanting.{opened_unless, fault_below}
 use Rattle.rpm_tool.proofs.loaded.answer_loaded.Goals as goal
 
 pub returns-in-Ok-clause-went : goal.returns-in-Ok-clause-went

@@ -6,7 +6,8 @@ use Rattle.rpm_change.specs.Steps.{whole, Step, ToOut}
 use Rattle.rpm_change.specs.Endings.{outputs}
 use Rattle.rpm_tool.specs.Answers.{Reached, Anywhere}
 use Rattle.rpm_tool.specs.Requirements.{label_step, cycle_line}
-use Rattle.rpm_tool.proofs.Telling.{one_class, more_classes, head_reached}
+use Rattle.rpm_tool.proofs.Telling.{one_class, more_classes}
+use Rattle.rpm_tool.proofs.Behind.{head_reached}
 use Rattle.rpm_tool.proofs.Stopping.{reached_first}
 use Rattle.rpm_tool.proofs.ordering.put_class.Goals as goal
 

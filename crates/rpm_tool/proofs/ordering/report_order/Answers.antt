@@ -8,7 +8,7 @@ use Rattle.rpm_check.specs.Edges.{graph_of}
 use Rattle.rpm_change.specs.Endings.{outputs}
 use Rattle.rpm_tool.specs.Answers.{Anywhere}
 use Rattle.rpm_tool.specs.Requirements.{bad_parts, classes_part, ClassesAre, StopsOfSome}
-use Rattle.rpm_tool.proofs.Telling.{behind_first, behind_plain, behind_stop}
+use Rattle.rpm_tool.proofs.Behind.{behind_first, behind_plain, behind_stop}
 use Rattle.rpm_tool.proofs.Deeds.{none_listed}
 use Rattle.rpm_tool.proofs.Stopping.{reached_as}
 use Rattle.rpm_tool.proofs.Checked.{unbroken_stops}

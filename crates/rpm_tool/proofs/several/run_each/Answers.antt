@@ -1,40 +1,29 @@
+mod Begun
+mod Along
 use Rattle.std.proofs.Common.{◌≡◌, ℕ, List, [], ◌∷◌, ◌++◌, length, length-append, ◌+◌, get_or, refl, sym, ap, ◌∙◌, subst, arith}
 use Rattle.std.specs.Prelude.{IsTrue}
 use Rattle.rpm_outside.specs.Crash.{LeavesOnly}
 use Rattle.rpm_outside.specs.Files.{Files}
 use Rattle.rpm_outside.specs.Shelves.{Paths}
-use Rattle.rpm_outside.specs.inner.Moments.{started, leaves_then, leaves_weaker}
+use Rattle.rpm_outside.specs.inner.Moments.{leaves_then, leaves_weaker}
 use Rattle.rpm_db.specs.State.{State}
 use Rattle.rpm_tool.specs.Changing.{ChangesWith}
 use Rattle.rpm_tool.specs.Tasks.{asked_task, asked_course, is_anew, changes_index}
-use Rattle.rpm_db.specs.Changes.{next}
 use Rattle.rpm_change.specs.Endings.{outputs}
 use Rattle.rpm_tool.specs.Asked.{asks}
 use Rattle.rpm_tool.specs.Given.{given_on}
 use Rattle.rpm_tool.specs.History.{Call, AllStand, StandsIn, Leads, Cuts, calls_of, course_of}
 use Rattle.rpm_tool.specs.Lines.{Between, LineIs, InTurn, between}
-use Rattle.rpm_tool.proofs.Chained.{in_turn_more, lines_rise}
-use Rattle.rpm_tool.proofs.Moved.{lines_lead}
-use Rattle.rpm_tool.proofs.Numbering.{Numbered}
+use Rattle.rpm_tool.proofs.Chained.{in_turn_more}
 use Rattle.rpm_tool.proofs.Histories.{stands_weaker}
 use Rattle.rpm_tool.proofs.Leading.{leads_more, cuts_still, cuts_more}
 use Rattle.rpm_tool.proofs.Lined.{calls_more, line_both}
+use Rattle.rpm_tool.proofs.several.run_each.Answers.Begun as begun
+use Rattle.rpm_tool.proofs.several.run_each.Answers.Along as along
 use Rattle.rpm_tool.proofs.several.run_each.Goals as goal
 
 pub loop-words-init : goal.loop-words-init
-loop-words-init g c =
-    let none = c.in-Ok.ensures.items in
-    let D = g.D.Disk in
-    record {
-      count = rw none refl;
-      as_many = c.in-Ok.ensures.len;
-      room = c.in-Ok.ensures.exact;
-      paths = λ told. refl;
-      leads = λ told shelf s start image left. rw none (start image left);
-      cuts = λ told shelf s start. rw none (started D.moment D.left_since c.args.disk (StandsIn (Cuts (g.S.Shelf.paths c.args.shelf.now) c.args.now [] s))
-          start);
-      ran = λ told shelf. ([], rw none refl);
-    }
+loop-words-init = begun.loop-words-init
 
 pub push_reserved-requires : goal.push_reserved-requires
 push_reserved-requires g c = omega (arith, c.loop-words.invariant.as_many, c.loop-words.invariant.room)
@@ -155,16 +144,7 @@ pub returns-clause-ran : goal.returns-clause-ran
 returns-clause-ran g c = c.loop-words.invariant.ran
 
 pub returns-clause-states : goal.returns-clause-states
-returns-clause-states g c = λ told shelf s has.
-    let D = g.D.Disk in
-    lines_lead D.files D.left_since D.moment D.bytes_read D.follows D.faults (g.S.Shelf.paths c.args.shelf.now) c.args.now
-    (calls_of c.args.lines.now c.loop-words.outcomes.items) _ _ (c.loop-words.invariant.ran told shelf).1 s has
+returns-clause-states = along.returns-clause-states
 
 pub returns-clause-numbers : goal.returns-clause-numbers
-returns-clause-numbers g c = λ told shelf s start ahead given went.
-    let D = g.D.Disk in
-    lines_rise D.files D.left_since D.moment D.bytes_read D.follows D.faults (g.S.Shelf.paths c.args.shelf.now) c.args.now
-    (λ d. g.met.D.Disk.as_read d told) (λ d a b image le lt left. g.met.D.Disk.earlier d a b image told le lt left)
-    (calls_of c.args.lines.now c.loop-words.outcomes.items) _ _ (next s) went
-    (λ image left. stands_weaker (λ t. t ≡ s) (Numbered (next s) []) image (λ t same. subst (λ (u : State). Numbered (next s) [] u) (sym same)
-    (ahead, omega arith)) (start image left))
+returns-clause-numbers = along.returns-clause-numbers

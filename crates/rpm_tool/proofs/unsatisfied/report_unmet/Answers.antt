@@ -7,7 +7,7 @@ use Rattle.rpm_db.specs.State.{packages}
 use Rattle.rpm_change.specs.Endings.{outputs}
 use Rattle.rpm_tool.specs.Answers.{PartIs, Anywhere}
 use Rattle.rpm_tool.specs.Requirements.{bad_parts, unmet_part, StopsOfSome}
-use Rattle.rpm_tool.proofs.Telling.{behind_first, behind_both, behind_stop}
+use Rattle.rpm_tool.proofs.Behind.{behind_first, behind_both, behind_stop}
 use Rattle.rpm_tool.proofs.Checked.{unbroken_stops}
 use Rattle.rpm_tool.proofs.Peeking.{peeks_then}
 use Rattle.rpm_tool.proofs.unsatisfied.report_unmet.Goals as goal
