@@ -3,7 +3,7 @@ use Rattle.std.proofs.Common.{◌≡◌, ℕ, ◌+◌, ◌-◌, ◌<◌, ◌≤�
 use Rattle.std.proofs.lemmas.Bool.{cases_lt}
 use Rattle.rpm_blocks.specs.declared.Range.{Range}
 use Rattle.rpm_blocks.specs.Blocks.{Has, IsUnused, IsFree, IsRange, AreApart, range, range_at, end_of}
-use Rattle.rpm_blocks.specs.Places.{IsPlace, IsGap, HaveSameBlocks}
+use Rattle.rpm_blocks.specs.inner.Places.{IsPlace, IsGap, HaveSameBlocks}
 use Rattle.rpm_blocks.proofs.Same.{same_sym, same_trans, same_cons, same_swap, same_joined, unused_cons}
 
 -- a range that has a place of its own meets no other

@@ -5,7 +5,7 @@ use Rattle.std.proofs.lemmas.Bool.{cases_lt}
 use Rattle.std.proofs.lemmas.List.Edits.{length-insert, get_or-insert_below, get_or-insert_at, get_or-insert_above, length-remove, get_or-remove_below, get_or-remove_above}
 use Rattle.rpm_blocks.specs.declared.Range.{Range}
 use Rattle.rpm_blocks.specs.Blocks.{IsFree, IsRange, AreApart, range, range_at, end_of}
-use Rattle.rpm_blocks.specs.Places.{IsPlace, IsGap}
+use Rattle.rpm_blocks.specs.inner.Places.{IsPlace, IsGap}
 
 module _ (gap : ℕ) (l : List Range) (apart : AreApart gap l) where
   module _ (i : ℕ) (lt : i < length l) where

@@ -4,7 +4,7 @@ use Rattle.std.proofs.lemmas.List.{get_or-drop}
 use Rattle.std.proofs.lemmas.Bool.{cases_lt}
 use Rattle.rpm_blocks.specs.declared.Range.{Range}
 use Rattle.rpm_blocks.specs.Blocks.{Has, IsUnused, AreApart, Fits, IsLeastFit, block_limit, range, range_at, end_of}
-use Rattle.rpm_blocks.specs.Places.{IsPlace, HaveSameBlocks}
+use Rattle.rpm_blocks.specs.inner.Places.{IsPlace, HaveSameBlocks}
 
 -- the walk has passed the first k runs: none of them reaches past the block, and nothing fits below it
 pub record HasPassed (l : List Range) (count from k block : ℕ) : Type 0 where

@@ -6,7 +6,7 @@ use Rattle.std.proofs.lemmas.Bool.{cases_lt}
 use Rattle.std.proofs.lemmas.Bool.Decides.{nat_tests}
 use Rattle.rpm_blocks.specs.declared.Range.{Range}
 use Rattle.rpm_blocks.specs.Blocks.{IsFree, IsRange, AreApart, range_at, with_range, without}
-use Rattle.rpm_blocks.specs.Places.{IsPlace, IsGap}
+use Rattle.rpm_blocks.specs.inner.Places.{IsPlace, IsGap}
 use Rattle.rpm_blocks.proofs.Cuts.{free_of_gap}
 use Rattle.rpm_blocks.proofs.Edits.{gap_of_place, gap_removed, apart_insert}
 

@@ -9,7 +9,7 @@ use Rattle.std.proofs.lemmas.List.{get_or_default}
 use Rattle.std.proofs.lemmas.List.Edits.{length-remove, get_or-remove_below, get_or-remove_above}
 use Rattle.rpm_blocks.specs.declared.Range.{Range}
 use Rattle.rpm_blocks.specs.Blocks.{AreApart, IsRange, range, range_at, end_of, block_limit}
-use Rattle.rpm_blocks.specs.Places.{IsPlace, IsGap, HaveSameBlocks}
+use Rattle.rpm_blocks.specs.inner.Places.{IsPlace, IsGap, HaveSameBlocks}
 use Rattle.rpm_blocks.proofs.Same.{same_trans, same_cons, same_swap, same_joined, same_remove, same_insert}
 use Rattle.rpm_blocks.proofs.Edits.{apart_remove, apart_insert}
 

@@ -1,4 +1,3 @@
 pub mod Blocks
 pub mod Laws
-pub mod Places
-pub mod Sound
+pub mod inner

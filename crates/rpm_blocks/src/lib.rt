@@ -53,7 +53,7 @@ impl Model for Used {
 
     ghost Value = { Blocks };
 
-    ghost use Rattle.rpm_blocks.specs.Sound.{IsSound};
+    ghost use Rattle.rpm_blocks.specs.inner.Sound.{IsSound};
 
     ghost view = { λ u. record { ranges = u.ranges.items; spare = u.spare } };
 

@@ -3,7 +3,7 @@
 ghost use Rattle.std.specs.Prelude.{◌≡◌, ◌+◌, ◌<◌, ◌≤◌, vec_len, vec_capacity};
 ghost use Rattle.std.specs.List.{insert};
 ghost use Rattle.rpm_blocks.specs.Blocks.{AreApart};
-ghost use Rattle.rpm_blocks.specs.Places.{IsPlace};
+ghost use Rattle.rpm_blocks.specs.inner.Places.{IsPlace};
 
 use super::Range;
 

@@ -3,7 +3,7 @@
 ghost use Rattle.std.specs.Prelude.{◌≡◌, ℕ, ◌+◌, ◌<◌, ◌≤◌, ◌↔◌, ◌∷◌, vec_len, vec_capacity, IsTrue, false};
 ghost use Rattle.rpm_blocks.specs.declared.Range.{Range};
 ghost use Rattle.rpm_blocks.specs.Blocks.{end_of, block_limit, Has, IsUnused, IsFree, IsRange, AreApart, IsLeastFit};
-ghost use Rattle.rpm_blocks.specs.Places.{IsGap, HaveSameBlocks};
+ghost use Rattle.rpm_blocks.specs.inner.Places.{IsGap, HaveSameBlocks};
 
 use super::Range;
 use super::places::{place, put};

@@ -3,8 +3,7 @@ use Rattle.std.proofs.Common.{◌≡◌, ◌⊎◌, ℕ, ◌+◌, ◌≤◌, ◌
 use Rattle.std.specs.Prelude.{min}
 use Rattle.std.proofs.lemmas.Bool.{cases_Bool}
 use Rattle.std.proofs.lemmas.List.{drop_all}
-use Rattle.rpm_hindex.specs.Packed.{row_nth}
-use Rattle.rpm_hindex.specs.Rows.{Row, times, same_row}
+use Rattle.rpm_hindex.specs.Rows.{Row, times, same_row, row_nth}
 use Rattle.rpm_db.specs.inner.Places.{StandsBefore, StandsNotBehind, AreByPlace, AreWithout}
 use Rattle.rpm_db.specs.inner.RowLaws.{times-append, times_none, times_one}
 use Rattle.rpm_db.proofs.Places.{same_is, not_same, not_behind, none_from}

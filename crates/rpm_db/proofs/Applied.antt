@@ -11,7 +11,7 @@ use Rattle.rpm_db.specs.Changes.{apply, Erase, Says}
 use Rattle.rpm_db.specs.State.{State, Package, Good, packages, state}
 use Rattle.rpm_db.specs.inner.Writes.{state_with, state_of, number_for, field_for, change_for}
 use Rattle.rpm_db.proofs.Edited.{put_packages, erased_packages}
-use Rattle.rpm_db.proofs.States.{next-state, state-blobs}
+use Rattle.rpm_db.specs.inner.States.{next-state, state-blobs}
 
 -- a header under a number that is there, or a new one
 pub put_state : (file : Units) (value : Store) (n : Option ℕ) (h : Header) → header h.blob ≡ Ok h

@@ -19,7 +19,7 @@ use Rattle.rpm_db.specs.State.{Package, packages, state}
 use Rattle.rpm_db.specs.inner.LawfulLaws.{void_agrees}
 use Rattle.rpm_db.specs.inner.Writes as writes
 use Rattle.rpm_db.specs.inner.Writes.{BlobsTo, IndexTo, IsSealedAfter, WritesRows, packages_of, state_with}
-use Rattle.rpm_db.proofs.States.{packages-blobs}
+use Rattle.rpm_db.specs.inner.States.{packages-blobs}
 
 -- the packages of an image, and its state
 image_packages : (g f : ℕ) (B : BlobMap) (image : Units) (s : StandsFor g f B image) → packages image s.value ≡ packages_of B

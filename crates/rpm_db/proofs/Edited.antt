@@ -18,7 +18,7 @@ use Rattle.rpm_db.specs.State.{Package, Good, packages}
 use Rattle.rpm_db.specs.inner.RowLaws.{rows-insert, rows-remove}
 use Rattle.rpm_db.specs.inner.Writes.{packages_of, old_rows, number_for, field_for}
 use Rattle.rpm_db.proofs.Rowing.{none_at}
-use Rattle.rpm_db.proofs.States.{packages-blobs, packages-insert, packages-remove, package-own, next_is_free}
+use Rattle.rpm_db.specs.inner.States.{packages-blobs, packages-insert, packages-remove, package-own, next_is_free}
 
 -- ---- the rows that change
 

@@ -7,7 +7,6 @@ pub mod Rebuilt
 pub mod Emptied
 pub mod EmptyStops
 pub mod Results
-pub mod States
 pub mod Stays
 pub mod Raised
 pub mod SealedRows

@@ -4,8 +4,7 @@ use Rattle.std.specs.Str.{bytes_eq}
 use Rattle.std.proofs.lemmas.Bool.{cases_Bool, and_parts}
 use Rattle.std.proofs.lemmas.Bool.Decides.{nat_tests}
 use Rattle.std.proofs.lemmas.Slice.Eq.{bytes_eq-Decides}
-use Rattle.rpm_hindex.specs.Packed.{row_nth}
-use Rattle.rpm_hindex.specs.Rows.{Row, times, same_row}
+use Rattle.rpm_hindex.specs.Rows.{Row, times, same_row, row_nth}
 use Rattle.rpm_db.specs.inner.Places.{StandsBefore, StandsNotBehind, StandsBeforeAll, AreByPlace}
 use Rattle.rpm_db.specs.inner.RowLaws.{times-append, times_none, times_one}
 use Rattle.rpm_db.proofs.Shared.{times_from}

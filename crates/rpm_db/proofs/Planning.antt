@@ -23,7 +23,7 @@ use Rattle.rpm_db.specs.inner.Writes.{SameFiles, WritesRows, IsSealedAfter, pack
 use Rattle.rpm_db.proofs.Changed.{rows_sealed}
 use Rattle.rpm_db.proofs.Edited.{number_is}
 use Rattle.rpm_db.proofs.Puts.{blobs_planned, map_planned, field_planned, reads_put}
-use Rattle.rpm_db.proofs.States.{state-blobs, packages-blobs}
+use Rattle.rpm_db.specs.inner.States.{state-blobs, packages-blobs}
 use Rattle.rpm_db.proofs.Unwritten.{stops_written, stops_told}
 
 -- the state of these blobs and this number field

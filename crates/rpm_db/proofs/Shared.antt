@@ -5,9 +5,8 @@ use Rattle.std.specs.Ordering.{nat_cmp}
 use Rattle.std.proofs.lemmas.Bool.{cases_Bool}
 use Rattle.std.proofs.lemmas.Bool.Decides.{nat_tests}
 use Rattle.std.proofs.lemmas.List.Sums.{sum_by_more, sum_by-drop_more, sum_by-take-drop}
-use Rattle.rpm_hindex.specs.Packed.{row_nth, no_row}
 use Rattle.rpm_hindex.specs.Plans.{HasChanged}
-use Rattle.rpm_hindex.specs.Rows.{Row, times, same_row}
+use Rattle.rpm_hindex.specs.Rows.{Row, times, same_row, row_nth, no_row}
 use Rattle.rpm_db.specs.Rows.{rows, rows_at}
 use Rattle.rpm_db.specs.State.{Package}
 use Rattle.rpm_db.specs.inner.Places.{AreWithout}

@@ -9,3 +9,4 @@ pub mod RoomLaws
 pub mod RowLaws
 pub mod Running
 pub mod Writes
+pub mod States

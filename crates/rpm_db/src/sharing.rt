@@ -1,8 +1,7 @@
 //! Rows that a package has before a change and behind it: they stay as they are.
 
 ghost use Rattle.std.specs.Prelude.{◌≡◌, ◌<◌, ◌++◌, ◌∷◌, [], true, false, length, drop, OnOk, IfOk};
-ghost use Rattle.rpm_hindex.specs.Packed.{row_nth};
-ghost use Rattle.rpm_hindex.specs.Rows.{same_row};
+ghost use Rattle.rpm_hindex.specs.Rows.{same_row, row_nth};
 ghost use Rattle.rpm_db.specs.inner.Places.{StandsBefore, StandsNotBehind, AreByPlace, AreWithout};
 
 use rpm_hindex::Rows;

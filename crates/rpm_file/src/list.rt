@@ -2,6 +2,7 @@
 
 ghost use Rattle.std.specs.Prelude.{◌≡◌, ℕ, ◌≤◌, IsTrue, length, vec_len, Ok, Err, IfOk, IfSome};
 ghost use Rattle.rpm_outside.specs.Causes.{HasCauseAt};
+ghost use Rattle.rpm_header.specs.Header.{max_blob};
 ghost use Rattle.rpm_file.specs.List.{size_in};
 ghost use Rattle.rpm_outside.specs.Browses.{Browses};
 ghost use Rattle.rpm_file.specs.Answers.{AnswersNext, AnswersNextIn};
@@ -30,7 +31,7 @@ fn size_in(intro: &[u8]) -> Result<usize, ListFault>
     requires { length intro.now ≡ 16 }
     ensures value { result ≡ size_in intro.now }
     ensures some { IfOk result (λ size. 8 ≤ size) }
-    ensures few { IfOk result (λ size. size ≤ 68157432) }
+    ensures few { IfOk result (λ size. size ≤ max_blob) }
 {
     if !intro.starts_with(&MAGIC) {
         return Err(ListFault::BadMagic);

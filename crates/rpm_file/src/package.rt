@@ -1,7 +1,7 @@
 //! The main header of a package file.
 
 ghost use Rattle.std.specs.Prelude.{◌≡◌, ◌≤◌, IsTrue, length, Ok, Err};
-ghost use Rattle.rpm_header.specs.Header.{header};
+ghost use Rattle.rpm_header.specs.Header.{header, max_blob};
 ghost use Rattle.rpm_outside.specs.Causes.{HasCauseAt};
 ghost use Rattle.rpm_outside.specs.Browses.{Browses};
 ghost use Rattle.rpm_file.specs.Package.{is_lead, behind_lead, fault_in, early_fault, behind_padding, behind_signature, package_header};
@@ -92,7 +92,7 @@ fn skip_lead<S: Shelf>(shelf: &mut S) -> Result<(), FileFault>
 
 /// Skips what fills a header of this length up to a multiple of 8.
 fn skip_padding<S: Shelf>(shelf: &mut S, blob: &[u8]) -> Result<(), FileFault>
-    requires { length blob.now ≤ 68157432 }
+    requires { length blob.now ≤ max_blob }
     ensures answers { IsTrue S.tells → AnswersSkip (behind_padding blob.now) (S.rest shelf.old) (S.rest shelf.new) result }
     ensures browses { Browses S.tells S.paths S.rest S.absences S.faults shelf.old shelf.new }
     ensures cause { HasCauseAt (result ≡ Err FileFault.ReadFault) (S.faults shelf.old) (S.faults shelf.new) }

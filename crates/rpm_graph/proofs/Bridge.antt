@@ -6,8 +6,8 @@ use Rattle.std.proofs.lemmas.List.{get_or_default}
 use Rattle.rpm_graph.specs.declared.graph.Edge.{Edge}
 use Rattle.rpm_graph.specs.Networks.{Network, IsNetwork, HasEdge, IsWalk, AreTogether, edge, edge_at}
 use Rattle.rpm_graph.specs.Orders.{IsClass}
-use Rattle.rpm_graph.specs.Rows.{HaveEdges, HaveMembers}
-use Rattle.rpm_graph.specs.Searches.{Goes, IsSplit}
+use Rattle.rpm_graph.specs.inner.Rows.{HaveEdges, HaveMembers}
+use Rattle.rpm_graph.specs.inner.Searches.{Goes, IsSplit}
 
 module _ (g : Network) (net : IsNetwork g) (rows : List (List ℕ)) (have : HaveEdges g (length g.edges) rows) (classes : List ℕ) (count : ℕ)
     (split : IsSplit rows classes count) where

@@ -4,7 +4,7 @@ use Rattle.std.specs.List.{Contains}
 use Rattle.std.proofs.lemmas.List.{get_or-take}
 use Rattle.rpm_graph.specs.declared.search.Link.{Link}
 use Rattle.rpm_graph.specs.Networks.{Leads}
-use Rattle.rpm_graph.specs.Searches.{IsSearch, IsOpen, IsNoHigher, IsMarked, IsLast, AreWithin, Goes, KeepsSeen, link_at, unseen, unseen_count}
+use Rattle.rpm_graph.specs.inner.Searches.{IsSearch, IsOpen, IsNoHigher, IsMarked, IsLast, AreWithin, Goes, KeepsSeen, link_at, unseen, unseen_count}
 use Rattle.rpm_graph.proofs.Unseen.{unseen-same}
 use Rattle.rpm_graph.proofs.Level as last_level
 use Rattle.rpm_graph.proofs.Following as following

@@ -4,7 +4,7 @@ use Rattle.std.specs.List.{Contains}
 use Rattle.std.proofs.lemmas.Bool.{cases_lt}
 use Rattle.std.proofs.lemmas.List.{length-replicate}
 use Rattle.rpm_graph.specs.declared.search.Link.{Link}
-use Rattle.rpm_graph.specs.Searches.{IsSearch, IsOpen, IsSplit, AreWithin, Goes, unseen_count}
+use Rattle.rpm_graph.specs.inner.Searches.{IsSearch, IsOpen, IsSplit, AreWithin, Goes, unseen_count}
 use Rattle.rpm_graph.proofs.Fronts.{waits_open}
 
 all_unseen : (n : ℕ) → unseen_count (replicate n 0) ≡ n

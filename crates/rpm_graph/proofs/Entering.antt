@@ -6,7 +6,7 @@ use Rattle.std.proofs.lemmas.List.{length_push, length-append, length-map, lengt
 use Rattle.std.proofs.lemmas.List.Elements.{Contains-append_left, Contains-append_right, Contains-push, Contains-push_cases}
 use Rattle.rpm_graph.specs.declared.search.Link.{Link}
 use Rattle.rpm_graph.specs.Networks.{Leads}
-use Rattle.rpm_graph.specs.Searches.{IsSearch, IsOpen, IsNoHigher, Follows, Goes, link, unseen, unseen_count}
+use Rattle.rpm_graph.specs.inner.Searches.{IsSearch, IsOpen, IsNoHigher, Follows, Goes, link, unseen, unseen_count}
 use Rattle.rpm_graph.proofs.Fronts.{IsFront, kept_or_lost, open_rank, waits_open}
 use Rattle.rpm_graph.proofs.Unseen.{unseen-set}
 use Rattle.rpm_graph.proofs.Standing as standing

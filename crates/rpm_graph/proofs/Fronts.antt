@@ -4,7 +4,7 @@ use Rattle.std.specs.List.{Contains}
 use Rattle.std.proofs.lemmas.Bool.{cases_lt}
 use Rattle.std.proofs.lemmas.List.{get_or_append_left, get_or_push, get_or_default, length_push}
 use Rattle.rpm_graph.specs.declared.search.Link.{Link}
-use Rattle.rpm_graph.specs.Searches.{IsSearch, IsOpen, link, link_at}
+use Rattle.rpm_graph.specs.inner.Searches.{IsSearch, IsOpen, link, link_at}
 
 -- kept is a front of the links, and those behind it end at the place
 pub record IsFront (links kept : List Link) (place : ℕ) : Type 0 where

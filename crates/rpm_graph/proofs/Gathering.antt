@@ -5,8 +5,8 @@ use Rattle.std.proofs.lemmas.Bool.{cases_lt, cases_eq}
 use Rattle.std.proofs.lemmas.List.{length-set}
 use Rattle.std.proofs.lemmas.List.Elements.{Contains-get_or}
 use Rattle.rpm_graph.specs.Networks.{IsRising}
-use Rattle.rpm_graph.specs.Rows.{HaveMembers, GainEnds, with_link}
-use Rattle.rpm_graph.specs.Searches.{Goes}
+use Rattle.rpm_graph.specs.inner.Rows.{HaveMembers, GainEnds, with_link}
+use Rattle.rpm_graph.specs.inner.Searches.{Goes}
 use Rattle.rpm_graph.proofs.Pushes.{IsRising-push}
 use Rattle.rpm_graph.proofs.Rowing.{goes_new, goes_kept, goes_only, row_here, row_other}
 

@@ -5,7 +5,7 @@ use Rattle.std.proofs.lemmas.Bool.{cases_lt}
 use Rattle.std.proofs.lemmas.List.{get_or-take, get_or_default}
 use Rattle.rpm_graph.specs.declared.search.Link.{Link}
 use Rattle.rpm_graph.specs.Networks.{Leads}
-use Rattle.rpm_graph.specs.Searches.{IsSearch, IsOpen, IsNoHigher, IsCut, Follows, Goes, link}
+use Rattle.rpm_graph.specs.inner.Searches.{IsSearch, IsOpen, IsNoHigher, IsCut, Follows, Goes, link}
 use Rattle.rpm_graph.proofs.Fronts.{IsFront, kept_or_lost, waits_open}
 use Rattle.rpm_graph.proofs.Walks.{leads_on, leads_edge}
 

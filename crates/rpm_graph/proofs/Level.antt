@@ -4,7 +4,7 @@ use Rattle.std.specs.List.{Contains}
 use Rattle.std.proofs.lemmas.Bool.{cases_lt}
 use Rattle.std.proofs.lemmas.List.{get_or-take, get_or-drop, length-take-le, length-drop, get_or_default}
 use Rattle.rpm_graph.specs.declared.search.Link.{Link}
-use Rattle.rpm_graph.specs.Searches.{IsSearch, IsOpen, IsMarked, IsLast, unseen_count}
+use Rattle.rpm_graph.specs.inner.Searches.{IsSearch, IsOpen, IsMarked, IsLast, unseen_count}
 use Rattle.rpm_graph.proofs.Unseen.{unseen-same}
 
 module _ (rows : List (List ℕ)) (ranks path roots : List ℕ) (pending : List Link) (closed : ℕ) (s : IsSearch rows ranks path roots pending closed)

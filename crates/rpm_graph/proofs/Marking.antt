@@ -5,8 +5,8 @@ use Rattle.std.proofs.lemmas.Bool.{cases_lt, cases_eq}
 use Rattle.std.proofs.lemmas.List.{length-set, length-map, get_or-set_same, get_or-set_other, get_or_past}
 use Rattle.std.proofs.lemmas.List.Sums.{sum_by-set}
 use Rattle.rpm_graph.specs.declared.listing.Listing.{Listing}
-use Rattle.rpm_graph.specs.Listings.{IsUnderway, IsPlaced, IsListedNow, listed_at, unlisted_count}
-use Rattle.rpm_graph.specs.Searches.{Goes, rows_of}
+use Rattle.rpm_graph.specs.inner.Listings.{IsUnderway, IsPlaced, IsListedNow, listed_at, unlisted_count}
+use Rattle.rpm_graph.specs.inner.Searches.{Goes, rows_of}
 
 none : (x : ℕ) → Contains [] x → ⊥
 none x has = omega (arith, has.1)

@@ -2,11 +2,11 @@
 use Rattle.std.proofs.Common.{◌≡◌, ℕ, ◌≤◌, ◌<◌, ◌⊎◌, List, [], length, get_or, map, take, inl, inr, sym, ap, subst, ◌∙◌, arith}
 use Rattle.std.specs.List.{Contains}
 use Rattle.std.proofs.lemmas.List.{get_or_default, get_or-map, length-map, take-map}
-use Rattle.rpm_graph.specs.Listings.{IsReady, IsLeastReady, IsListing}
+use Rattle.rpm_graph.specs.inner.Listings.{IsReady, IsLeastReady, IsListing}
 use Rattle.rpm_graph.specs.Networks.{Network, IsNetwork, HasEdge}
 use Rattle.rpm_graph.specs.Orders.{IsAvailable, IsNext, IsOrder, Lists, least}
-use Rattle.rpm_graph.specs.Rows.{HaveEdges, HaveEnds, HaveMembers}
-use Rattle.rpm_graph.specs.Searches.{Goes, IsSplit}
+use Rattle.rpm_graph.specs.inner.Rows.{HaveEdges, HaveEnds, HaveMembers}
+use Rattle.rpm_graph.specs.inner.Searches.{Goes, IsSplit}
 use Rattle.rpm_graph.proofs.Bridge.{same_place, edge_row, together_of, class_of, members_are_class}
 use Rattle.rpm_graph.proofs.Orderly.{le_of_rising}
 

@@ -4,9 +4,9 @@ use Rattle.std.specs.List.{Contains}
 use Rattle.std.proofs.lemmas.Bool.{cases_lt, cases_eq}
 use Rattle.std.proofs.lemmas.List.{length-set, length-map, get_or-set_same, get_or-set_other, get_or_default}
 use Rattle.rpm_graph.specs.declared.listing.Listing.{Listing}
-use Rattle.rpm_graph.specs.Listings.{AreFalling, IsUnderway, IsPlaced, IsFirstUnlisted, listed_at}
-use Rattle.rpm_graph.specs.Rows.{with_link}
-use Rattle.rpm_graph.specs.Searches.{Goes, rows_of}
+use Rattle.rpm_graph.specs.inner.Listings.{AreFalling, IsUnderway, IsPlaced, IsFirstUnlisted, listed_at}
+use Rattle.rpm_graph.specs.inner.Rows.{with_link}
+use Rattle.rpm_graph.specs.inner.Searches.{Goes, rows_of}
 use Rattle.rpm_graph.proofs.Rowing.{goes_new, goes_kept, goes_only}
 
 module _ (ends : List (List ℕ)) (leasts : List ℕ) (falls : AreFalling ends) (s : Listing) (u : IsUnderway ends leasts s) (class : ℕ)

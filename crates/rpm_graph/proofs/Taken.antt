@@ -3,7 +3,7 @@ use Rattle.std.proofs.Common.{◌≡◌, ℕ, ◌+◌, ◌-◌, ◌++◌, ◌∷
 use Rattle.std.proofs.lemmas.List.{length_push}
 use Rattle.rpm_graph.specs.declared.search.Link.{Link}
 use Rattle.rpm_graph.specs.declared.search.Search.{Search}
-use Rattle.rpm_graph.specs.Searches.{IsSearch, IsLast, IsCut, Searches, Goes, link, work, work_left}
+use Rattle.rpm_graph.specs.inner.Searches.{IsSearch, IsLast, IsCut, Searches, Goes, link, work, work_left}
 use Rattle.rpm_graph.proofs.Entering.{entered, entered_work}
 use Rattle.rpm_graph.proofs.Joining.{joined}
 use Rattle.rpm_graph.proofs.Steps.{from_open, goes, path_leads, roots_below}

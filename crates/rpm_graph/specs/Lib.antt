@@ -1,5 +1,3 @@
-pub mod Listings
 pub mod Networks
 pub mod Orders
-pub mod Rows
-pub mod Searches
+pub mod inner

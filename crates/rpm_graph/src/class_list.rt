@@ -20,7 +20,7 @@ pub struct ClassList {
 
 impl Model for ClassList {
     ghost use Rattle.std.specs.Prelude.{ℕ, ◌<◌, List, [], All, map, length, slice_index_or};
-    ghost use Rattle.rpm_graph.specs.Searches.{rows_of};
+    ghost use Rattle.rpm_graph.specs.inner.Searches.{rows_of};
 
     ghost Value = { List (List ℕ) };
 

@@ -2,8 +2,8 @@
 
 ghost use Rattle.std.specs.Prelude.{◌≡◌, ℕ, ◌<◌, ◌≤◌, IfOk, OnOk, length, replicate, slice_index, slice_index_or, []};
 ghost use Rattle.rpm_graph.specs.Networks.{IsRising};
-ghost use Rattle.rpm_graph.specs.Rows.{HaveMembers, HaveEnds, AreLeastNumbers, GainEnds, with_link};
-ghost use Rattle.rpm_graph.specs.Searches.{AreWithin, IsSplit, rows_of};
+ghost use Rattle.rpm_graph.specs.inner.Rows.{HaveMembers, HaveEnds, AreLeastNumbers, GainEnds, with_link};
+ghost use Rattle.rpm_graph.specs.inner.Searches.{AreWithin, IsSplit, rows_of};
 
 use crate::rows::{empty_rows, push_link};
 use crate::search::Split;

@@ -1,8 +1,8 @@
 //! The order of the classes, each known by its number.
 
 ghost use Rattle.std.specs.Prelude.{◌≡◌, ℕ, ◌<◌, ◌≤◌, IfOk, OnOk, Contains, true, false, [], length, replicate, slice_index, slice_index_or, slice_set};
-ghost use Rattle.rpm_graph.specs.Searches.{Goes, rows_of};
-ghost use Rattle.rpm_graph.specs.Listings.{AreFalling, IsListing, IsUnderway, IsPlaced, ArePlaced, AreOthersPlaced, IsBegun, IsListedNow, IsFirstUnlisted, listed_at};
+ghost use Rattle.rpm_graph.specs.inner.Searches.{Goes, rows_of};
+ghost use Rattle.rpm_graph.specs.inner.Listings.{AreFalling, IsListing, IsUnderway, IsPlaced, ArePlaced, AreOthersPlaced, IsBegun, IsListedNow, IsFirstUnlisted, listed_at};
 
 use crate::rows::{empty_rows, push_link};
 use std::alloc::{AllocError, Global};

@@ -2,8 +2,8 @@
 
 ghost use Rattle.std.specs.Prelude.{◌≡◌, ℕ, ◌<◌, ◌≤◌, ◌+◌, IfOk, OnOk, Contains, length, slice_index, [], replicate};
 ghost use Rattle.rpm_graph.specs.Networks.{IsRising};
-ghost use Rattle.rpm_graph.specs.Rows.{HaveEdges, with_link};
-ghost use Rattle.rpm_graph.specs.Searches.{rows_of};
+ghost use Rattle.rpm_graph.specs.inner.Rows.{HaveEdges, with_link};
+ghost use Rattle.rpm_graph.specs.inner.Searches.{rows_of};
 
 use crate::graph::Graph;
 use std::alloc::{AllocError, Global};

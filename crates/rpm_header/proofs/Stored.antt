@@ -11,7 +11,8 @@ use Rattle.rpm_header.specs.declared.form.Form.TheVariants as form
 use Rattle.rpm_header.specs.inner.Checked.{IsInside}
 use Rattle.rpm_header.specs.Header.{alignment, has_texts}
 use Rattle.rpm_header.specs.inner.Packed.{item_at, IsStored}
-use Rattle.rpm_header.specs.Bytes.{is_zero, texts, Splits}
+use Rattle.rpm_header.specs.Bytes.{is_zero, texts}
+use Rattle.rpm_header.specs.inner.Splits.{Splits}
 use Rattle.rpm_header.specs.Build.{IsText}
 use Rattle.rpm_header.specs.Laid.{joined, bytes_in}
 use Rattle.rpm_header.proofs.Texts.{texts_next, texts_none}

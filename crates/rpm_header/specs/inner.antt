@@ -3,4 +3,5 @@ pub mod Checked
 pub mod Longer
 pub mod Packed
 pub mod Placed
+pub mod Splits
 pub mod Zeros

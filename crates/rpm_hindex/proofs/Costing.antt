@@ -2,8 +2,7 @@
 use Rattle.std.proofs.Common.{◌≡◌, ℕ, ◌+◌, ◌%◌, ◌<◌, ◌≤◌, List, length, take, Ok, IsOk, ap, ◌∙◌, arith}
 use Rattle.std.proofs.lemmas.List.Sums.{sum_by_push, sum_by-take-le}
 use Rattle.rpm_outside.specs.Files.{Units, unit_at}
-use Rattle.rpm_hindex.specs.Rows.{Row, hash_of}
-use Rattle.rpm_hindex.specs.Packed.{row_nth}
+use Rattle.rpm_hindex.specs.Rows.{Row, hash_of, row_nth}
 use Rattle.rpm_hindex.specs.Index.{Index, index_in, chain, places_of, units_at, bucket_of}
 use Rattle.rpm_hindex.specs.Whole.{IsWellFormed}
 use Rattle.rpm_hindex.specs.Answers.{ChainCosts}

@@ -6,7 +6,7 @@ use Rattle.std.proofs.lemmas.Bool.{cases_lt}
 use Rattle.rpm_hindex.specs.declared.rows.RowHead.{RowHead}
 use Rattle.rpm_hindex.specs.Rows.{Row}
 use Rattle.rpm_hindex.specs.Sizes.{live_of, record_units}
-use Rattle.rpm_hindex.specs.Packed.{IsPacked, rows_in, row_in, no_head}
+use Rattle.rpm_hindex.specs.inner.Packed.{IsPacked, rows_in, row_in, no_head}
 
 pub packed_none : IsPacked [] [] 0
 unfolding live_of

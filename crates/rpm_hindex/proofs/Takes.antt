@@ -2,9 +2,8 @@
 use Rattle.std.proofs.Common.{◌≡◌, ℕ, ◌+◌, ◌<◌, ◌≤◌, ◌++◌, ◌∷◌, [], List, length, take, ap, ◌∙◌, refl}
 use Rattle.std.proofs.lemmas.List.{take_more}
 use Rattle.std.proofs.lemmas.List.Sums.{sum_by-take-le}
-use Rattle.rpm_hindex.specs.Rows.{Row}
+use Rattle.rpm_hindex.specs.Rows.{Row, row_nth, no_row}
 use Rattle.rpm_hindex.specs.Sizes.{live_of, record_units}
-use Rattle.rpm_hindex.specs.Packed.{row_nth, no_row}
 use Rattle.rpm_hindex.proofs.Drafting.{live_push}
 
 pub live_take : (rows : List Row) (i : ℕ) → live_of (take i rows) ≤ live_of rows

@@ -1,7 +1,6 @@
 pub mod Words
 pub mod Rows
 pub mod Sizes
-pub mod Packed
 pub mod Index
 pub mod Whole
 pub mod Rewrites

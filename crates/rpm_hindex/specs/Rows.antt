@@ -1,5 +1,5 @@
 -- Rows: what an index records, and how often.
-use Rattle.std.specs.Prelude.{◌≡◌, ℕ, ◌*◌, ◌%◌, ◌^◌, List, [], ◌∷◌, Bool, ◌&&◌, ◌==◌, bit_xor}
+use Rattle.std.specs.Prelude.{◌≡◌, ℕ, ◌*◌, ◌%◌, ◌^◌, List, [], ◌∷◌, Bool, ◌&&◌, ◌==◌, bit_xor, slice_index_or}
 use Rattle.std.specs.List.{count_by}
 use Rattle.std.specs.Str.{bytes_eq}
 
@@ -9,6 +9,13 @@ pub record Row : Type 0 where
   pub key : List ℕ
   pub number : ℕ
   pub place : ℕ
+
+abbrev pub no_row : Row
+no_row = record { kind = 0; key = []; number = 0; place = 0 }
+
+-- row i of these
+abbrev pub row_nth : List Row → ℕ → Row
+row_nth rows i = slice_index_or rows i no_row
 
 abbrev pub same_row : Row → Row → Bool
 same_row a b = (a.kind == b.kind) && (bytes_eq a.key b.key && ((a.number == b.number) && (a.place == b.place)))

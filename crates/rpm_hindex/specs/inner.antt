@@ -2,5 +2,6 @@
 pub mod Changes
 pub mod Drafts
 pub mod Making
+pub mod Packed
 pub mod Records
 pub mod Spots

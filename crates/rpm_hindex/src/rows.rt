@@ -1,9 +1,9 @@
 //! Rows that an index is made of.
 
 ghost use Rattle.std.specs.Prelude.{◌≡◌, ℕ, ◌+◌, ◌≤◌, ◌<◌, ◌^◌, ◌++◌, ◌∷◌, [], length, take, drop, IfOk, OnOk, OnErr, slice_index_or};
-ghost use Rattle.rpm_hindex.specs.Rows.{Row};
+ghost use Rattle.rpm_hindex.specs.Rows.{Row, row_nth};
 ghost use Rattle.rpm_hindex.specs.Sizes.{live_of};
-ghost use Rattle.rpm_hindex.specs.Packed.{row_in, row_nth};
+ghost use Rattle.rpm_hindex.specs.inner.Packed.{row_in};
 
 use crate::sizes::record_units;
 use std::alloc::{AllocError, Global};
@@ -42,7 +42,7 @@ impl Model for Rows {
 
     ghost Value = { List Row };
 
-    ghost use Rattle.rpm_hindex.specs.Packed.{rows_in, IsPacked};
+    ghost use Rattle.rpm_hindex.specs.inner.Packed.{rows_in, IsPacked};
 
     ghost view = { λ s. rows_in s.keys.items s.heads.items };
 

@@ -2,11 +2,11 @@
 use Rattle.std.proofs.Common.{◌≡◌, ◌+◌, ◌-◌, ◌^◌, min, true, false, refl, inl, arith}
 use Rattle.rpm_outside.specs.declared.mem_disk.MemDisk.{MemDisk}
 use Rattle.rpm_outside.specs.Calls.{Call}
-use Rattle.rpm_outside.specs.MemDisk.{mem_first, mem_calls, mem_failing, mem_starved, Did, is_named, FailsWhereNamed}
+use Rattle.rpm_outside.specs.MemDisk.{mem_first, mem_calls, mem_failing, mem_starved, DiskDid, is_named, FailsWhereNamed}
 
 module _ (old new : MemDisk) (call : Call) (counted : mem_calls new ≡ min (mem_calls old + 1) (2 ^ 64 - 1)) (failing : mem_failing new ≡ mem_failing
     old) (first : mem_first new ≡ mem_first old) (starved : mem_starved new ≡ mem_starved old) where
-  pub named_fails : is_named new ≡ true → Did true call old new → FailsWhereNamed old call true new
+  pub named_fails : is_named new ≡ true → DiskDid true call old new → FailsWhereNamed old call true new
   named_fails named did = record {
     counted = counted;
     failing = failing;
@@ -19,7 +19,7 @@ module _ (old new : MemDisk) (call : Call) (counted : mem_calls new ≡ min (mem
     cause = λ fails other. cc;
   }
 
-  pub other_passes : is_named new ≡ false → Did false call old new → FailsWhereNamed old call false new
+  pub other_passes : is_named new ≡ false → DiskDid false call old new → FailsWhereNamed old call false new
   other_passes other did = record {
     counted = counted;
     failing = failing;

@@ -65,13 +65,13 @@ abbrev pub is_named : MemDisk → Bool
 is_named disk = list_any (λ call. call == mem_calls disk) (mem_failing disk)
 
 -- what a call does: of a write the first half of its units, rounded down, or all of them; of any other call nothing, or all
-abbrev pub Does : Bool → Call → Files → Files → List Step → List Step → Type 0
-Does half (Write file unit bytes) old new past steps = WroteAny old new past steps file unit (part_of half (units_of bytes))
-Does false (Sync file) old new past steps = SettledOnce old new past steps file
-Does half call old new past steps = DidNothing old new past steps
+abbrev pub DiskDoes : Bool → Call → Files → Files → List Step → List Step → Type 0
+DiskDoes half (Write file unit bytes) old new past steps = WroteAny old new past steps file unit (part_of half (units_of bytes))
+DiskDoes false (Sync file) old new past steps = SettledOnce old new past steps file
+DiskDoes half call old new past steps = DidNothing old new past steps
 
-abbrev pub Did : Bool → Call → MemDisk → MemDisk → Type 0
-Did half call old new = Does half call (mem_files old) (mem_files new) (mem_steps old) (mem_steps new)
+abbrev pub DiskDid : Bool → Call → MemDisk → MemDisk → Type 0
+DiskDid half call old new = DiskDoes half call (mem_files old) (mem_files new) (mem_steps old) (mem_steps new)
 
 -- memory was wanting, and nothing was done
 pub record Starves (old new : MemDisk) : Type 0 where
@@ -85,7 +85,7 @@ pub record FailsWhereNamed (old : MemDisk) (call : Call) (failed : Bool) (new : 
   pub first : mem_first new ≡ mem_first old
   pub later : mem_starved old ≤ mem_starved new
   pub named : is_named new ≡ true → failed ≡ true
-  pub half : is_named new ≡ true → Did true call old new ⊎ Starves old new
-  pub whole : failed ≡ false → Did false call old new
+  pub half : is_named new ≡ true → DiskDid true call old new ⊎ Starves old new
+  pub whole : failed ≡ false → DiskDid false call old new
   pub starved : mem_starved old < mem_starved new → (failed ≡ true) × Starves old new
   pub cause : failed ≡ true → is_named new ≡ false → Starves old new

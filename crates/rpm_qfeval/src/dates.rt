@@ -75,7 +75,7 @@ fn four(number: u16) -> [u8; 4]
 
 /// The parts of a date and of a time of day, of the years 1970 to 2106.
 #[derive(Drop)]
-struct Parts {
+struct DateParts {
     weekday: [u8; 3],
     month: [u8; 3],
     day: u8,
@@ -96,7 +96,7 @@ fn datetime(second: u32) -> DateTime
 }
 
 /// So many seconds since 1970 in UTC, by the calendar of `jiff`.
-fn moment(second: u32) -> Parts
+fn moment(second: u32) -> DateParts
     ensures weekday { result.weekday ≡ weekday_name (second / 86400) }
     ensures month { result.month ≡ month_name (month_of (second / 86400)) }
     ensures day { result.day ≡ day_of (second / 86400) }
@@ -110,7 +110,7 @@ fn moment(second: u32) -> Parts
     let datetime = datetime(second);
     let date = datetime.date();
     let time = datetime.time();
-    Parts {
+    DateParts {
         weekday: weekday_name(date.weekday()),
         month: month_name(date.month() as u8),
         day: date.day() as u8,

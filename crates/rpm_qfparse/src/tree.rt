@@ -111,7 +111,8 @@ pub struct Parts {
 }
 
 impl Model for Parts {
-    ghost use Rattle.rpm_qfparse.specs.Tree.{Tree, tree_code};
+    ghost use Rattle.rpm_qfparse.specs.Tree.{Tree};
+    ghost use Rattle.rpm_qfparse.specs.inner.Coding.{tree_code};
 
     ghost Value = { Tree };
 
@@ -166,7 +167,8 @@ pub struct Format {
 
 impl Model for Format {
     ghost use Rattle.std.specs.Prelude.{false};
-    ghost use Rattle.rpm_qfparse.specs.Tree.{Tree, tree_code};
+    ghost use Rattle.rpm_qfparse.specs.Tree.{Tree};
+    ghost use Rattle.rpm_qfparse.specs.inner.Coding.{tree_code};
     ghost use Rattle.rpm_qfparse.specs.Law.{IsProper};
 
     ghost Value = { Tree };

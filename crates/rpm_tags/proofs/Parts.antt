@@ -7,7 +7,7 @@ use Rattle.std.proofs.lemmas.List.Elements.{All-set}
 use Rattle.std.proofs.lemmas.List.Folds.{concat-append}
 use Rattle.std.proofs.lemmas.Option.{slice_get-get_or}
 use Rattle.rpm_tags.specs.declared.joined.TextPart.{TextPart}
-use Rattle.rpm_tags.specs.inner.Parts.{bytes_of, parts_of, IsJoined, IsPart}
+use Rattle.rpm_tags.specs.inner.Parts.{bytes_of, parts_of, IsInParts, IsPart}
 
 pub length_parts : (count : ℕ) (parts : List TextPart) → length parts ≡ 9 → count ≤ 9 → length (parts_of count parts) ≡ count
 length_parts count parts nine room = length-take-le count (map bytes_of parts) (omega (arith, length-map parts bytes_of))
@@ -31,7 +31,7 @@ pushed_length : (ps : List (List ℕ)) (text : List ℕ) (len : ℕ) → len ≡
 pushed_length ps text len e = rw (concat-append ps (text ∷ []), length-append (concat ps) (concat (text ∷ [])), concat_one text, e)
 
 pub is_pushed : (count len : ℕ) (parts : List TextPart) (p : TextPart) (text : List ℕ) → length parts ≡ 9 → count < 9 → bytes_of p ≡ text → IsPart p
-    → length text ≤ 67108864 → IsJoined count len parts → IsJoined (count + 1) (len + length text) (set parts count p)
+    → length text ≤ 67108864 → IsInParts count len parts → IsInParts (count + 1) (len + length text) (set parts count p)
 is_pushed count len parts p text nine room is part short joined = record {
   nine = length-set parts count p ∙ nine;
   fit = All-set IsPart parts count p part joined.fit;
@@ -40,5 +40,5 @@ is_pushed count len parts p text nine room is part short joined = record {
   short = omega (arith, joined.short);
 }
 
-pub has_room : (count len : ℕ) (parts : List TextPart) (v : List (List ℕ)) → parts_of count parts ≡ v → IsJoined count len parts → length v < 9 → count < 9
+pub has_room : (count len : ℕ) (parts : List TextPart) (v : List (List ℕ)) → parts_of count parts ≡ v → IsInParts count len parts → length v < 9 → count < 9
 has_room count len parts v view joined room = omega (arith, length_parts count parts joined.nine joined.room, ap length view)

@@ -1,7 +1,6 @@
 -- The names of the tags.
-use Rattle.std.specs.Prelude.{ℕ, ◌+◌, List, [], ◌∷◌, ◌++◌, codes, Option, Some, None, Bool, true, false, ◌==◌, drop, take, map, if◌then◌else◌}
+use Rattle.std.specs.Prelude.{ℕ, ◌+◌, List, [], ◌∷◌, ◌++◌, codes, Option, Some, None, Bool, true, false, ◌==◌, drop, take, if◌then◌else◌}
 use Rattle.std.specs.Str.{str_eq_ignore_ascii_case}
-use Rattle.rpm_tags.specs.declared.tag.Row.{Row}
 use Rattle.rpm_tags.specs.declared.tag.Tag.{Tag}
 use Rattle.rpm_tags.specs.declared.tag.Tag.TheVariants.{Stored, Nvra, Nevra, Evr, Nvr, Epochnum, Filenames, Dbinstance}
 
@@ -76,8 +75,3 @@ name_in (row ∷ rows) tag = if is_tag row.0 tag then Some row.1 else name_in ro
 
 abbrev pub name_of : Tag → Option (List ℕ)
 name_of tag = name_in table tag
-
--- ---- the rows of the code
-
-abbrev pub seen : List Row → List (Tag × List ℕ)
-seen rows = map (λ (r : Row). (r.0, r.1.now)) rows

@@ -1,5 +1,5 @@
 -- What a question asks of a header: whether a file counts for a path, and what is needed or given at a place.
-use Rattle.std.specs.Prelude.{ℕ, ◌+◌, ◌^◌, ◌<◌, Bool, false, ◌&&◌, ◌==◌, List, [], ◌∷◌, length, drop, Option, Some, None}
+use Rattle.std.specs.Prelude.{ℕ, Bool, false, ◌&&◌, ◌==◌, List, [], ◌∷◌, drop, Option, Some, None}
 use Rattle.std.specs.List.{list_any, zip, after_last}
 use Rattle.std.specs.Str.{bytes_eq}
 use Rattle.rpm_header.specs.Header.{Header}
@@ -55,7 +55,3 @@ beside (name ∷ names) flags versions =
 -- arrays that are missing or of another class are empty
 unfoldable pub dependencies : Tags → Header → List Needed
 dependencies tags h = beside (listed (texts_in h tags.names)) (listed (numbers_in h tags.flags)) (listed (texts_in h tags.versions))
-
--- a place for each name that is left
-abbrev pub HasPlaces : Option (List (List ℕ)) → ℕ → Type 0
-HasPlaces names place = place + length (listed names) < 2 ^ 32

@@ -26,13 +26,13 @@ pub struct Joined<'a> {
 
 impl<'a> Model for Joined<'a> {
     ghost use Rattle.std.specs.Prelude.{List, ℕ};
-    ghost use Rattle.rpm_tags.specs.inner.Parts.{parts_of, IsJoined};
+    ghost use Rattle.rpm_tags.specs.inner.Parts.{parts_of, IsInParts};
 
     ghost Value = { List (List ℕ) };
 
     ghost view = { λ s. parts_of s.count s.parts };
 
-    ghost invariant = { λ s. IsJoined s.count s.len s.parts };
+    ghost invariant = { λ s. IsInParts s.count s.len s.parts };
 }
 
 impl<'a> Joined<'a> {

@@ -4,7 +4,7 @@ ghost use Rattle.std.specs.Prelude.{◌≡◌, ℕ, ◌+◌, ◌^◌, ◌<◌, �
 ghost use Rattle.std.specs.Iterator.{YieldsFirstBy, item_count};
 ghost use Rattle.rpm_tags.specs.Wanted.{listed};
 ghost use Rattle.rpm_tags.specs.Keys.{keys, key_list, number_key, tag_of_kind};
-ghost use Rattle.rpm_tags.specs.inner.KeysLeft.{keys_left, HasPlaces};
+ghost use Rattle.rpm_tags.specs.inner.KeysLeft.{keys_left, KeysHavePlaces};
 
 use crate::kind::Kind;
 use crate::numbers;
@@ -71,7 +71,7 @@ enum KeySource<'a> {
 impl<'a> KeySource<'a> {
     fn texts(texts: Option<Texts<'a>>) -> KeySource<'a>
         ensures value { keys_left result ≡ listed texts.entry }
-        ensures few { HasPlaces result 0 }
+        ensures few { KeysHavePlaces result 0 }
     {
         match texts {
             None => KeySource::Nothing,
@@ -84,7 +84,7 @@ impl<'a> KeySource<'a> {
 
     fn numbers(numbers: Option<Numbers<'a>>) -> KeySource<'a>
         ensures value { keys_left result ≡ map number_key (listed numbers.entry) }
-        ensures few { HasPlaces result 0 }
+        ensures few { KeysHavePlaces result 0 }
     {
         match numbers {
             None => KeySource::Nothing,
@@ -98,7 +98,7 @@ impl<'a> KeySource<'a> {
     /// The elements of the kind's tag, where it is of the class that the kind has.
     fn of(kind: Kind, view: &View<'a>) -> KeySource<'a>
         ensures value { keys_left result ≡ key_list kind view.now }
-        ensures few { HasPlaces result 0 }
+        ensures few { KeysHavePlaces result 0 }
     {
         let tag = tag_of_kind(kind);
         match kind {
@@ -137,13 +137,13 @@ pub struct KeyIter<'a> {
 impl<'a> Model for KeyIter<'a> {
     ghost use Rattle.std.specs.Prelude.{List, ℕ};
     ghost use Rattle.rpm_tags.specs.Keys.{placed};
-    ghost use Rattle.rpm_tags.specs.inner.KeysLeft.{keys_left, HasPlaces};
+    ghost use Rattle.rpm_tags.specs.inner.KeysLeft.{keys_left, KeysHavePlaces};
 
     ghost Value = { List (List ℕ × ℕ) };
 
     ghost view = { λ s. placed (keys_left s.source) s.place };
 
-    ghost invariant = { λ s. HasPlaces s.source s.place };
+    ghost invariant = { λ s. KeysHavePlaces s.source s.place };
 }
 
 impl<'a> Iterator for KeyIter<'a> {

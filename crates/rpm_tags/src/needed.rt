@@ -36,13 +36,14 @@ pub struct DependencyIter<'a> {
 
 impl<'a> Model for DependencyIter<'a> {
     ghost use Rattle.std.specs.Prelude.{List, drop};
-    ghost use Rattle.rpm_tags.specs.Wanted.{Needed, HasPlaces, listed, beside};
+    ghost use Rattle.rpm_tags.specs.Wanted.{Needed, listed, beside};
+    ghost use Rattle.rpm_tags.specs.inner.NamesLeft.{NamesHavePlaces};
 
     ghost Value = { List Needed };
 
     ghost view = { λ s. beside (listed s.names) (drop s.place (listed s.flags)) (listed s.versions) };
 
-    ghost invariant = { λ s. HasPlaces s.names s.place };
+    ghost invariant = { λ s. NamesHavePlaces s.names s.place };
 }
 
 /// The next of some texts, where there are texts.

@@ -20,13 +20,13 @@ pub struct Numbers<'a> {
 impl<'a> Model for Numbers<'a> {
     ghost use Rattle.std.specs.Prelude.{List, ℕ};
     ghost use Rattle.rpm_header.specs.Header.{numbers_of};
-    ghost use Rattle.rpm_tags.specs.inner.Rows.{HasNumbers};
+    ghost use Rattle.rpm_tags.specs.inner.Rows.{KeepsNumbers};
 
     ghost Value = { List ℕ };
 
     ghost view = { λ s. numbers_of s.entry.values };
 
-    ghost invariant = { λ s. HasNumbers s.entry };
+    ghost invariant = { λ s. KeepsNumbers s.entry };
 }
 
 impl<'a> Numbers<'a> {
@@ -102,13 +102,13 @@ pub struct Texts<'a> {
 impl<'a> Model for Texts<'a> {
     ghost use Rattle.std.specs.Prelude.{List, ℕ, take};
     ghost use Rattle.rpm_header.specs.Header.{texts_of};
-    ghost use Rattle.rpm_tags.specs.inner.Rows.{HasTexts};
+    ghost use Rattle.rpm_tags.specs.inner.Rows.{KeepsTexts};
 
     ghost Value = { List (List ℕ) };
 
     ghost view = { λ s. take s.count (texts_of s.entry.values) };
 
-    ghost invariant = { λ s. HasTexts s.count s.entry };
+    ghost invariant = { λ s. KeepsTexts s.count s.entry };
 }
 
 impl<'a> Texts<'a> {

@@ -3,7 +3,8 @@
 ghost use Rattle.std.specs.Prelude.{◌≡◌, Some, IfSome};
 ghost use Rattle.std.specs.Option.{option_copied};
 ghost use Rattle.std.specs.Str.{str_eq_ignore_ascii_case};
-ghost use Rattle.rpm_tags.specs.Table.{tag_of, tag_in, name_of, name_in, is_tag, plain, seen};
+ghost use Rattle.rpm_tags.specs.Table.{tag_of, tag_in, name_of, name_in, is_tag, plain};
+ghost use Rattle.rpm_tags.specs.inner.TagRows.{as_table};
 
 /// What a value of a header is asked for by: a number that entries of the header bear, or one of
 /// rpm's computed tags, whose values are put together from several entries.
@@ -147,7 +148,7 @@ fn has_name(row: &Row, name: &[u8]) -> bool
 }
 
 fn tag_in(rows: &[Row], name: &[u8]) -> Option<Tag>
-    ensures { result ≡ tag_in (seen rows.now) name.now }
+    ensures { result ≡ tag_in (as_table rows.now) name.now }
 {
     for row in rows {
         if has_name(row, name) {
@@ -164,7 +165,7 @@ fn is_tag(a: Tag, b: Tag) -> bool
 }
 
 fn name_in(rows: &[Row], tag: Tag) -> Option<&'static str>
-    ensures { option_copied result ≡ name_in (seen rows.now) tag }
+    ensures { option_copied result ≡ name_in (as_table rows.now) tag }
 {
     for row in rows {
         if is_tag(row.0, tag) {

@@ -15,7 +15,7 @@ use Rattle.rpm_change.specs.Steps.{Course, apply_all}
 use Rattle.rpm_tool.specs.Asked.{is_changing, asks}
 use Rattle.rpm_tool.specs.Changing.{HasState, after}
 use Rattle.rpm_tool.specs.Given.{numbers_given, given_on}
-use Rattle.rpm_tool.specs.History.{Call, Moves, StandsIn, AllStand, course_of}
+use Rattle.rpm_tool.specs.History.{RunCall, Moves, StandsIn, AllStand, course_of}
 use Rattle.rpm_tool.specs.Keyed.{is_done}
 use Rattle.rpm_tool.specs.Lines.{Between, LineIs, InTurn}
 use Rattle.rpm_tool.specs.Tasks.{asked_course}
@@ -27,7 +27,7 @@ use Rattle.rpm_tool.proofs.Lined.{by_asked, line_both}
 use Rattle.rpm_tool.proofs.Numbering.{Numbered, numbered_made, numbered_moved, given_idle, given_undone, given_done}
 
 -- one more
-pub in_turn_more : {X : Type 0} (Each : Call → X → X → Type 0) (calls : List Call) (call : Call) (old mid new : X) → InTurn Each calls old mid
+pub in_turn_more : {X : Type 0} (Each : RunCall → X → X → Type 0) (calls : List RunCall) (call : RunCall) (old mid new : X) → InTurn Each calls old mid
     → Each call mid new → InTurn Each (calls ++ call ∷ []) old new
 in_turn_more Each [] call old mid new same last = (new, subst (λ x. Each call x new) same last, refl)
 in_turn_more Each (c ∷ calls) call old mid new (x, first, rest) last = (x, first, in_turn_more Each calls call x mid new rest last)
@@ -36,13 +36,13 @@ module _ {D : Type 0} (files : D → Files) (left_since : D → ℕ → Files �
     (follows : D → D → Type 0) (faults : D → ℕ) (paths : Paths) (now : ℕ)
     (as_read : (disk : D) → left_since disk (moment disk) (files disk))
     (earlier : (disk : D) (s t : ℕ) (image : Files) → s ≤ t → t ≤ moment disk → left_since disk t image → left_since disk s image) where
-  abbrev Line : Call → Between D → Between D → Type 0
+  abbrev Line : RunCall → Between D → Between D → Type 0
   Line call old new = LineIs files left_since moment bytes_read follows faults paths now call old new
 
   abbrev Images : D → Files → Type 0
   Images disk image = left_since disk (moment disk) image
 
-  module _ (call : Call) (old new : Between D) (line : Line call old new) (from : ℕ) (all : AllStand (Numbered from old.given) (Images old.disk)) where
+  module _ (call : RunCall) (old new : Between D) (line : Line call old new) (from : ℕ) (all : AllStand (Numbered from old.given) (Images old.disk)) where
     abbrev course : State → Course
     course s = course_of paths now call.words (asks call.words) s
 
@@ -118,7 +118,7 @@ module _ {D : Type 0} (files : D → Files) (left_since : D → ℕ → Files �
         (λ still. kept (gave_idle (Some (a, tree)) asked (idle_some a tree still)))))
         (λ undone. kept (gave_none (given_undone course (files old.disk) call.outcome.why undone)))
 
-  pub lines_rise : (calls : List Call) (old new : Between D) (from : ℕ) → InTurn Line calls old new
+  pub lines_rise : (calls : List RunCall) (old new : Between D) (from : ℕ) → InTurn Line calls old new
       → AllStand (Numbered from old.given) (Images old.disk) → AllStand (Numbered from new.given) (Images new.disk)
   lines_rise [] old new from same all = subst (λ (b : Between D). AllStand (Numbered from b.given) (Images b.disk)) (sym same) all
   lines_rise (call ∷ calls) old new from (mid, line, rest) all = lines_rise calls mid new from rest (line_rises call old mid line from all)

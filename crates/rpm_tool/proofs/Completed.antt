@@ -14,7 +14,7 @@ use Rattle.rpm_tool.specs.declared.answer.Why.TheVariants as why
 use Rattle.rpm_tool.specs.Asked.{inquiry_of}
 use Rattle.rpm_change.specs.Endings.{Outputs}
 use Rattle.rpm_tool.specs.Answers.{is_foreign}
-use Rattle.rpm_tool.specs.Keyed.{IsLawfulGroup, Deeds, WentBy, OpenedBy, LoadedBy, Does, KeyedIs, FullBy, FullIs, HasRoom, is_refusal, is_done_or_outside, keyed_to}
+use Rattle.rpm_tool.specs.Keyed.{IsLawfulGroup, Deeds, WentBy, OpenedBy, LoadedBy, Does, KeyedIs, FullByUnits, FullIs, HasRoom, is_refusal, is_done_or_outside, keyed_to}
 use Rattle.rpm_tool.proofs.Deeds.{does_outside}
 
 -- a lawful database has a store
@@ -34,7 +34,7 @@ module _ (Lawful : Type 0) (Do : Deeds) (s : Store) (w : Why) (old new : Outputs
 
 -- the endings that are left
 left : (Do : Why → Outputs → Outputs → Type 0) (making : Bool) (needed : ℕ) (w : Why) (old new : Outputs) → (Do w old new → is_done_or_outside w ≡ true)
-    → WentBy Do w old new → FullBy making needed w → (making ≡ true → needed ≤ 2 ^ 28) → is_done_or_outside w ≡ true
+    → WentBy Do w old new → FullByUnits making needed w → (making ≡ true → needed ≤ 2 ^ 28) → is_done_or_outside w ≡ true
 left Do making needed why.Done old new outside went full room = outside went
 left Do making needed (why.Failed n) old new outside went full room = outside went
 left Do making needed (why.Usage f) old new outside went full room = outside went

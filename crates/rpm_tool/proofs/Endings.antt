@@ -6,7 +6,7 @@ use Rattle.rpm_tool.specs.declared.answer.Why.{Why}
 use Rattle.rpm_tool.specs.declared.answer.Why.TheVariants as why
 use Rattle.rpm_change.specs.Endings.{Outputs, Through}
 use Rattle.rpm_tool.specs.Answers.{is_of_opening}
-use Rattle.rpm_tool.specs.Keyed.{Deeds, WentBy, OpenedBy, FullBy, is_refusal}
+use Rattle.rpm_tool.specs.Keyed.{Deeds, WentBy, OpenedBy, FullByUnits, is_refusal}
 
 -- what is done with a database that was opened is what the command does
 pub went_by : (Do : Why → Outputs → Outputs → Type 0) (given : Why) (old new : Outputs) → is_of_opening given ≡ false → Do given old new
@@ -61,7 +61,7 @@ module _ (Lawful : Type 0) (Do : Deeds) (x : Outputs) (none : Through [] x x) wh
   by_memory does (Err d) = (tt, none)
 
 -- an index that was opened isn't full
-pub full_opened : (making : Bool) (needed : ℕ) (w : Why) → is_of_opening w ≡ false → (making ≡ true → needed ≤ 2 ^ 28) → FullBy making needed w
+pub full_opened : (making : Bool) (needed : ℕ) (w : Why) → is_of_opening w ≡ false → (making ≡ true → needed ≤ 2 ^ 28) → FullByUnits making needed w
 full_opened making needed why.Done is room = room
 full_opened making needed (why.Failed n) is room = room
 full_opened making needed (why.Usage f) is room = room

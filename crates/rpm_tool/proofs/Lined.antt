@@ -14,7 +14,7 @@ use Rattle.rpm_tool.specs.declared.answer.Why.{Why}
 use Rattle.rpm_tool.specs.Answers.{Leaves}
 use Rattle.rpm_tool.specs.Asked.{by_key, is_changing, asks}
 use Rattle.rpm_tool.specs.Changing.{ChangesWith, after}
-use Rattle.rpm_tool.specs.History.{Call, Moves, StandsIn, AllStand, course_of, made_by, calls_of}
+use Rattle.rpm_tool.specs.History.{RunCall, Moves, StandsIn, AllStand, course_of, made_by, calls_of}
 use Rattle.rpm_tool.specs.Keyed.{AreLawfulGroups, StandsStill}
 use Rattle.rpm_tool.specs.Tasks.{asked_task, asked_course, is_anew, changes_index}
 use Rattle.rpm_tool.proofs.Brokens.{by_bool}
@@ -26,7 +26,7 @@ calls_more [] [] outcome d less = absurd (omega (arith, less))
 calls_more [] (o ∷ os) outcome d less = absurd (omega (arith, less))
 calls_more (words ∷ lines) [] outcome d less = refl
 calls_more (words ∷ lines) (o ∷ os) outcome d less =
-    ap (λ (calls : List Call). record { words = words; outcome = o } ∷ calls) (calls_more lines os outcome d (omega (arith, less)))
+    ap (λ (calls : List RunCall). record { words = words; outcome = o } ∷ calls) (calls_more lines os outcome d (omega (arith, less)))
 
 pub by_asked : {X : Type 0} (read : Option (AskParts × Tree)) → (read ≡ None → X) → ((a : AskParts) (tree : Tree) → read ≡ Some (a, tree) → X) → X
 by_asked None nothing command = nothing refl

@@ -11,7 +11,8 @@ use Rattle.rpm_select.specs.Reach.{Reach, reach_to, reach_all}
 use Rattle.rpm_change.specs.Steps.{Bearer}
 use Rattle.rpm_tool.specs.Reads.{ReadsIn, reached}
 use Rattle.rpm_tool.proofs.Printed.{reads_more}
-use Rattle.rpm_tool.proofs.Reached.{reach_up, reach_both, reach_rest}
+use Rattle.rpm_tool.proofs.Reached.{reach_both, reach_rest}
+use Rattle.rpm_select.specs.inner.Costing.{reach_up}
 
 module _ {D : Type 0} (tells : Bool) (files : D → Files) (left_since : D → ℕ → Files → Type 0) (moment : D → ℕ) (bytes_read : D → File → ℕ)
     (follows : D → D → Type 0) (trans : (a b c : D) → follows a b → follows b c → follows a c) (db : Database) (n : ℕ) (a b c : D) where

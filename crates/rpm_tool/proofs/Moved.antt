@@ -15,7 +15,7 @@ use Rattle.rpm_tool.specs.declared.answer.Why.{Why}
 use Rattle.rpm_tool.specs.declared.answer.Why.TheVariants as why
 use Rattle.rpm_tool.specs.Asked.{by_key, is_changing, asks}
 use Rattle.rpm_tool.specs.Changing.{HasState, LeavesState, after}
-use Rattle.rpm_tool.specs.History.{Call, Moves, Leads, course_of, made_by}
+use Rattle.rpm_tool.specs.History.{RunCall, Moves, Leads, course_of, made_by}
 use Rattle.rpm_tool.specs.Lines.{Between, LineIs, InTurn}
 use Rattle.rpm_tool.specs.Tasks.{asked_course}
 use Rattle.rpm_tool.proofs.Standing.{if_ok_at}
@@ -50,10 +50,10 @@ module _ (course : State → Course) (s : State) (n : ℕ) (files : Files) where
 
 module _ {D : Type 0} (files : D → Files) (left_since : D → ℕ → Files → Type 0) (moment : D → ℕ) (bytes_read : D → File → ℕ)
     (follows : D → D → Type 0) (faults : D → ℕ) (paths : Paths) (now : ℕ) where
-  abbrev Line : Call → Between D → Between D → Type 0
+  abbrev Line : RunCall → Between D → Between D → Type 0
   Line call old new = LineIs files left_since moment bytes_read follows faults paths now call old new
 
-  module _ (call : Call) (old new : Between D) (line : Line call old new) (s : State) (has : HasState s (files old.disk)) where
+  module _ (call : RunCall) (old new : Between D) (line : Line call old new) (s : State) (has : HasState s (files old.disk)) where
     abbrev pkg_of : D → Units
     pkg_of disk = (reopened (files disk)).pkg
 
@@ -87,7 +87,7 @@ module _ {D : Type 0} (files : D → Files) (left_since : D → ℕ → Files �
         (λ none. subst Moved (sym none) (kept s refl (ap pkg_of (line.unread none))))
         (λ a tree asked. subst Moved (sym asked) (asked_moves a tree asked))
 
-  pub lines_lead : (calls : List Call) (old new : Between D) → InTurn Line calls old new → (s : State) → HasState s (files old.disk)
+  pub lines_lead : (calls : List RunCall) (old new : Between D) → InTurn Line calls old new → (s : State) → HasState s (files old.disk)
       → (t : State) × HasState t (files new.disk) × Leads paths now calls s t
   lines_lead [] old new same s has = (s, subst (λ (b : Between D). HasState s (files b.disk)) (sym same) has, refl)
   lines_lead (call ∷ calls) old new (mid, line, rest) s has =

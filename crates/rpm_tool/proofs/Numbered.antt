@@ -9,7 +9,7 @@ use Rattle.rpm_db.specs.State.{Package, above}
 use Rattle.rpm_select.specs.declared.selection.Selection.{Selection}
 use Rattle.rpm_select.specs.Selections.{is_picked, picks}
 use Rattle.rpm_change.specs.Steps.{Bearer}
-use Rattle.rpm_tool.specs.Steps.{with_number, numbers, Rises}
+use Rattle.rpm_tool.specs.Steps.{with_number, numbers, RisesFrom}
 use Rattle.rpm_tool.specs.Queries.{step_of, lent, question_of, picked_by, picked, missing_part, answered, argument_part}
 use Rattle.rpm_tool.proofs.Printed.{bearer-step_of}
 use Rattle.rpm_tool.proofs.Rising.{rises_above}
@@ -48,13 +48,13 @@ pub argument_numbers : (tree : Tree) (packages : finite.FinMap nat_cmp Package) 
 argument_numbers tree packages chosen after j text = answered_numbers tree chosen after j text (picked packages chosen text)
 
 by_rises : (packages : finite.FinMap nat_cmp Package) (question : Option Selection) (after : ℕ)
-    → Rises after (map (λ e. e.0) (above after (picked_by packages question)))
+    → RisesFrom after (map (λ e. e.0) (above after (picked_by packages question)))
 unfolding picks
 by_rises packages None after = tt
 by_rises packages (Some sel) after = rises_above (is_picked sel) after (finite.entries packages) (finite.entries_sorted packages)
 
 -- each once and rising
 pub picked_rises : (packages : finite.FinMap nat_cmp Package) (chosen : Chosen) (text : List ℕ) (after : ℕ)
-    → Rises after (map (λ e. e.0) (above after (picked packages chosen text)))
+    → RisesFrom after (map (λ e. e.0) (above after (picked packages chosen text)))
 unfolding picked
 picked_rises packages chosen text after = by_rises packages (question_of chosen (lent text)) after

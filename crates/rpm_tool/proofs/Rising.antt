@@ -10,12 +10,12 @@ use Rattle.std.proofs.lemmas.Bool.Decides.{nat_tests}
 use Rattle.rpm_db.specs.State.{Package, above}
 use Rattle.rpm_db.specs.inner.Above.{both_true}
 use Rattle.rpm_db.specs.inner.Kept.{kept_above}
-use Rattle.rpm_tool.specs.Steps.{Rises}
+use Rattle.rpm_tool.specs.Steps.{RisesFrom}
 use Rattle.rpm_tool.specs.Answers.{is_some_of}
 
 module _ {X : Type 0} (p : ℕ × X → Bool) where
   -- those above a number rise
-  pub rises_above : (n : ℕ) (es : List (ℕ × X)) → T (finite.is_sorted nat_cmp es) → Rises n (map (λ e. e.0) (above n (filter p es)))
+  pub rises_above : (n : ℕ) (es : List (ℕ × X)) → T (finite.is_sorted nat_cmp es) → RisesFrom n (map (λ e. e.0) (above n (filter p es)))
   rises_above n [] t = tt
   rises_above n (x ∷ xs) t =
       let s = both_true (below_all nat_cmp x.0 xs) (finite.is_sorted nat_cmp xs) t in
@@ -27,8 +27,8 @@ module _ {X : Type 0} (p : ℕ × X → Bool) where
               (let lt : n < x.0 = grind (arith, nat_tests) in
               let same : above n (filter p xs) ≡ above x.0 (filter p xs) = kept_above p n x.0 xs s.0 (omega (arith, lt))
               ∙ sym (kept_above p x.0 x.0 xs s.0 (omega arith)) in
-              let later : Rises x.0 (map (λ e. e.0) (above n (filter p xs))) =
-              subst (λ (ys : List (ℕ × X)). Rises x.0 (map (λ e. e.0) ys)) (sym same) (rises_above x.0 xs s.1) in
+              let later : RisesFrom x.0 (map (λ e. e.0) (above n (filter p xs))) =
+              subst (λ (ys : List (ℕ × X)). RisesFrom x.0 (map (λ e. e.0) ys)) (sym same) (rises_above x.0 xs s.1) in
               simp (takes, over) (lt, later))
         ]
       ]

@@ -29,7 +29,7 @@ use Rattle.rpm_select.specs.declared.picker.PickFault.{PickFault}
 use Rattle.rpm_select.specs.declared.picker.PickFault.TheVariants as pick
 use Rattle.rpm_tool.specs.declared.step.Stop.{Stop}
 use Rattle.rpm_tool.specs.declared.step.Stop.TheVariants as stop
-use Rattle.rpm_tool.specs.declared.picked.Printed.{Printed}
+use Rattle.rpm_tool.specs.declared.picked.PrintedPackages.{PrintedPackages}
 use Rattle.rpm_tool.specs.declared.answer.Why.{Why}
 use Rattle.rpm_tool.specs.declared.answer.Why.TheVariants as why
 use Rattle.rpm_tool.specs.declared.asked.Deed.{Deed}
@@ -98,7 +98,7 @@ cost_until n s (Ok (Some e)) = cost_to e.0 s - cost_to n s
 cost_until n s others = cost_all s - cost_to n s
 
 -- whether the argument fails, of what was printed of its packages
-abbrev pub fails_in : Result Printed Stop → Result Bool Stop
+abbrev pub fails_in : Result PrintedPackages Stop → Result Bool Stop
 fails_in (Ok p) = Ok p.fails
 fails_in (Err stop) = Err stop
 

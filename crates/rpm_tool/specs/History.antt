@@ -36,22 +36,22 @@ Moves others made s t = t ≡ s
 -- ---- several
 
 -- a command line, and how it ended
-pub record Call : Type 0 where
+pub record RunCall : Type 0 where
   pub words : List (List ℕ)
   pub outcome : Outcome
 
-abbrev pub calls_of : List (List (List ℕ)) → List Outcome → List Call
+abbrev pub calls_of : List (List (List ℕ)) → List Outcome → List RunCall
 calls_of lines [] = []
 calls_of [] (outcome ∷ outcomes) = []
 calls_of (words ∷ lines) (outcome ∷ outcomes) = record { words = words; outcome = outcome } ∷ calls_of lines outcomes
 
 -- from state s to t: all changes of each line that was done, of none that was refused
-abbrev pub Leads : Paths → ℕ → List Call → State → State → Type 0
+abbrev pub Leads : Paths → ℕ → List RunCall → State → State → Type 0
 Leads paths now [] s t = t ≡ s
 Leads paths now (call ∷ calls) s t = (mid : State) × Moves call.outcome.why (made_by paths now call.words s) s mid × Leads paths now calls mid t
 
 -- a stop within them or behind them: those before it, and of the line that it stops all changes or none
-abbrev pub Cuts : Paths → ℕ → List Call → State → State → Type 0
+abbrev pub Cuts : Paths → ℕ → List RunCall → State → State → Type 0
 Cuts paths now [] s t = t ≡ s
 Cuts paths now (call ∷ calls) s t = (t ≡ s) ⊎ ((t ≡ made_by paths now call.words s)
     ⊎ ((mid : State) × Moves call.outcome.why (made_by paths now call.words s) s mid × Cuts paths now calls mid t))

@@ -99,16 +99,16 @@ LoadedBy Lawful Does s (Malformed unit) given old new = Misread unit given × Th
 LoadedBy Lawful Does s (Open entries) given old new = OpenedBy Lawful Does s given old new
 
 -- what is said where an index must be made, or needn't, that needs so many units
-abbrev pub FullBy : Bool → ℕ → Why → Type 0
-FullBy making needed (why.IndexFull said) = (making ≡ true) × (2 ^ 28 < needed) × (said ≡ needed)
-FullBy making needed why.DiskFault = Unit {0}
-FullBy making needed why.NoMemory = Unit {0}
-FullBy making needed (why.BadLog unit) = Unit {0}
-FullBy making needed others = making ≡ true → needed ≤ 2 ^ 28
+abbrev pub FullByUnits : Bool → ℕ → Why → Type 0
+FullByUnits making needed (why.IndexFull said) = (making ≡ true) × (2 ^ 28 < needed) × (said ≡ needed)
+FullByUnits making needed why.DiskFault = Unit {0}
+FullByUnits making needed why.NoMemory = Unit {0}
+FullByUnits making needed (why.BadLog unit) = Unit {0}
+FullByUnits making needed others = making ≡ true → needed ≤ 2 ^ 28
 
 -- the index is full exactly where it must be made and needs too many units; a malformed log, a fault of the disk or want of memory may come before
 abbrev pub FullIs : Files → Why → Type 0
-FullIs files given = FullBy (must_make files.idx (store files.pkg)) (units_needed files.pkg (store files.pkg)) given
+FullIs files given = FullByUnits (must_make files.idx (store files.pkg)) (units_needed files.pkg (store files.pkg)) given
 
 -- what a malformed index is told with: of a query the fault of the chain of a key that is asked, of a report that of some key
 abbrev pub CauseBy : Inquiry → Chosen → List (List ℕ) → Units → Why → Type 0

@@ -18,7 +18,7 @@ use Rattle.rpm_tool.specs.Asked.{of_files, by_key, is_changing, asks_change, ask
 use Rattle.rpm_tool.specs.Changing.{DidOn, ChangesWith, EmptyBy}
 use Rattle.rpm_tool.specs.Closing.{status_of, closing}
 use Rattle.rpm_tool.specs.Given.{given_on}
-use Rattle.rpm_tool.specs.History.{Call, course_of}
+use Rattle.rpm_tool.specs.History.{RunCall, course_of}
 use Rattle.rpm_tool.specs.Keyed.{AreLawfulGroups, IsLawfulGroup, StandsStill, IsReady, KeyedIs, FullIs, BadIs, HasRoom, is_done, is_done_or_outside}
 use Rattle.rpm_tool.specs.Limits.{LimitsOn, LogOn}
 use Rattle.rpm_tool.specs.PackageFiles.{query_files}
@@ -45,7 +45,7 @@ Of words Said = (a : AskParts) (tree : Tree) → asks words ≡ Some (a, tree) �
 -- how a command line ended, and what it left, where disk and shelf tell what they hold: each field but the last is the clause of `run` of that
 -- name (`package_files` is its clause `files`)
 pub record LineIs {D : Type 0} (files : D → Files) (left_since : D → ℕ → Files → Type 0) (moment : D → ℕ) (bytes_read : D → File → ℕ)
-    (follows : D → D → Type 0) (faults : D → ℕ) (paths : Paths) (now : ℕ) (call : Call) (old new : Between D) : Type 0 where
+    (follows : D → D → Type 0) (faults : D → ℕ) (paths : Paths) (now : ℕ) (call : RunCall) (old new : Between D) : Type 0 where
   pub status : call.outcome.status ≡ status_of call.outcome.why
   pub changes : asks_change call.words ≡ false → call.outcome.changes ≡ 0
   pub counted : is_done call.outcome.why ≡ false → call.outcome.changes ≡ 0
@@ -98,6 +98,6 @@ pub record LineIs {D : Type 0} (files : D → Files) (left_since : D → ℕ →
   pub gives : new.given ≡ old.given ++ given_on (course_of paths now call.words (asks call.words)) (files old.disk) call.outcome.why
 
 -- each line begins with what the line before it leaves
-abbrev pub InTurn : {X : Type 0} → (Call → X → X → Type 0) → List Call → X → X → Type 0
+abbrev pub InTurn : {X : Type 0} → (RunCall → X → X → Type 0) → List RunCall → X → X → Type 0
 InTurn Each [] old new = new ≡ old
 InTurn {X} Each (call ∷ calls) old new = (mid : X) × Each call old mid × InTurn Each calls mid new

@@ -22,9 +22,9 @@ numbers [] = []
 numbers (s ∷ steps) = with_number (bearer_of s).number (numbers steps)
 
 -- above n, and each greater than the one before it
-abbrev pub Rises : ℕ → List ℕ → Type 0
-Rises n [] = Unit {0}
-Rises n (m ∷ ms) = (n < m) × Rises m ms
+abbrev pub RisesFrom : ℕ → List ℕ → Type 0
+RisesFrom n [] = Unit {0}
+RisesFrom n (m ∷ ms) = (n < m) × RisesFrom m ms
 
 -- what an argument does, or one of its packages: steps, and whether the argument fails for it
 pub record Portion : Type 0 where

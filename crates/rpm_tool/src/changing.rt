@@ -41,7 +41,7 @@ use std::alloc::{AllocError, Global};
 
 /// How a command that changes packages ended, and how many of its changes were made.
 #[derive(Clone, Copy, Debug, PartialEq, Eq)]
-pub struct Ending {
+pub struct CommandEnding {
     pub why: Why,
     pub changes: u32,
 }
@@ -239,19 +239,19 @@ fn change_on<D: Disk, S: Shelf, O: Sink + Drop, E: Sink + Drop>(
 }
 
 /// An ending that leaves everything as it was.
-fn unchanged(why: Why) -> Ending
+fn unchanged(why: Why) -> CommandEnding
     ensures { result ≡ record { why = why; changes = 0 } }
 {
-    Ending { why, changes: 0 }
+    CommandEnding { why, changes: 0 }
 }
 
 /// The ending of a command whose changes were to be committed: they count where they were.
-fn committed(tally: Tally, answer: Result<(), CommitFault>) -> Ending
+fn committed(tally: Tally, answer: Result<(), CommitFault>) -> CommandEnding
     ensures says { CommittedAs tally answer result.why result.changes }
     ensures counted { is_done result.why ≡ false → result.changes ≡ 0 }
 {
     match answer {
-        Ok(()) => Ending {
+        Ok(()) => CommandEnding {
             why: done_why(tally.failed),
             changes: tally.changes,
         },
@@ -261,7 +261,7 @@ fn committed(tally: Tally, answer: Result<(), CommitFault>) -> Ending
 }
 
 /// Commits the changes of a command that was done, which count where that succeeds.
-fn commit_all<D: Disk>(overlay: Overlay<D>, tally: Tally) -> (Ending, D)
+fn commit_all<D: Disk>(overlay: Overlay<D>, tally: Tally) -> (CommandEnding, D)
     requires settled { IsTrue D.tells → AreSettled (D.files (overlay_below overlay)) (D.left_since (overlay_below overlay) (D.moment (overlay_below overlay))) }
     requires closed { IsTrue D.tells → log_state (D.files (overlay_below overlay)).log ≡ Closed }
     ensures ends { IsTrue D.tells → EndsGroup D.files D.left_since D.moment (Ok tally) result.0.why result.0.changes
@@ -280,7 +280,7 @@ fn commit_all<D: Disk>(overlay: Overlay<D>, tally: Tally) -> (Ending, D)
 }
 
 /// Ends a command on an overlay: its changes are committed where it was done, and else let go.
-fn end_group<D: Disk>(overlay: Overlay<D>, ended: Result<Tally, Why>) -> (Ending, D)
+fn end_group<D: Disk>(overlay: Overlay<D>, ended: Result<Tally, Why>) -> (CommandEnding, D)
     requires halted { IfErr ended (λ given. is_halt given ≡ true) }
     requires settled { IsTrue D.tells → AreSettled (D.files (overlay_below overlay)) (D.left_since (overlay_below overlay) (D.moment (overlay_below overlay))) }
     requires closed { IsTrue D.tells → log_state (D.files (overlay_below overlay)).log ≡ Closed }
@@ -313,7 +313,7 @@ fn change_recovered<D: Disk, S: Shelf, O: Sink + Drop, E: Sink + Drop>(
     now: u32,
     out: &mut Buffered<O>,
     err: &mut Buffered<E>,
-) -> (Ending, D)
+) -> (CommandEnding, D)
     requires countable { IsCountable (task_parts task.now) }
     requires out_empty { holds out.old ≡ [] }
     requires err_empty { holds err.old ≡ [] }
@@ -369,7 +369,7 @@ fn change<D: Disk, S: Shelf, O: Sink + Drop, E: Sink + Drop>(
     now: u32,
     out: &mut Buffered<O>,
     err: &mut Buffered<E>,
-) -> (Ending, D)
+) -> (CommandEnding, D)
     requires countable { IsCountable (task_parts task.now) }
     requires out_empty { holds out.old ≡ [] }
     requires err_empty { holds err.old ≡ [] }
@@ -407,7 +407,7 @@ pub fn change_asked<D: Disk, S: Shelf, O: Sink + Drop, E: Sink + Drop>(
     out: &mut Buffered<O>,
     err: &mut Buffered<E>,
     now: u32,
-) -> (Ending, D)
+) -> (CommandEnding, D)
     requires sound { IsSound words.now ask.now }
     requires out_empty { holds out.old ≡ [] }
     requires err_empty { holds err.old ≡ [] }

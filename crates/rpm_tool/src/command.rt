@@ -19,7 +19,7 @@ ghost use Rattle.rpm_qfparse.specs.Tree.{Tree};
 ghost use Rattle.rpm_tool.specs.Asked.{is_query, of_files, by_key, is_changing, asks_change, asks_format, asks};
 ghost use Rattle.rpm_tool.specs.Changing.{DidOn, ChangesWith, EmptyBy};
 ghost use Rattle.rpm_tool.specs.Closing.{status_of, closing};
-ghost use Rattle.rpm_tool.specs.Steps.{numbers, Rises};
+ghost use Rattle.rpm_tool.specs.Steps.{numbers, RisesFrom};
 ghost use Rattle.rpm_tool.specs.Queries.{is_question, picked, argument_part};
 ghost use Rattle.rpm_tool.specs.Keyed.{AreLawfulGroups, IsLawfulGroup, StandsStill, IsReady, KeyedIs, AnswersByKey, FullIs, BadIs, HasRoom};
 ghost use Rattle.rpm_tool.specs.Keyed.{is_done, is_done_or_outside, keyed_cost};
@@ -32,7 +32,7 @@ ghost use Rattle.rpm_tool.specs.Answers.{is_of_words, ComesWhere, Queried, Anywh
 
 use crate::answer::{Outcome, Why, status_of};
 use crate::asked::{by_key, of_files, read_command};
-use crate::changing::{Ending, change_asked};
+use crate::changing::{CommandEnding, change_asked};
 use crate::closing::put_closing;
 use crate::keyed::answer_keyed;
 use crate::loaded::answer_loaded;
@@ -54,7 +54,7 @@ fn begin<D: Disk, S: Shelf, O: Sink + Drop, E: Sink + Drop>(
     out: &mut Buffered<O>,
     err: &mut Buffered<E>,
     now: u32,
-) -> (Ending, D)
+) -> (CommandEnding, D)
     requires sound { IsSound words.now ask.now }
     requires out_empty { holds out.old ≡ [] }
     requires err_empty { holds err.old ≡ [] }
@@ -96,13 +96,13 @@ fn begin<D: Disk, S: Shelf, O: Sink + Drop, E: Sink + Drop>(
         change_asked(alloc, words, ask, disk, shelf, out, err, now)
     } else if of_files(ask) {
         let why = print_files(alloc, shelf, words, ask, format, out, err);
-        (Ending { why, changes: 0 }, disk)
+        (CommandEnding { why, changes: 0 }, disk)
     } else if by_key(ask) {
         let (why, disk) = answer_keyed(alloc, disk, words, ask, format, out, err);
-        (Ending { why, changes: 0 }, disk)
+        (CommandEnding { why, changes: 0 }, disk)
     } else {
         let (why, disk) = answer_loaded(alloc, disk, words, ask, format, out, err);
-        (Ending { why, changes: 0 }, disk)
+        (CommandEnding { why, changes: 0 }, disk)
     }
 }
 
@@ -115,7 +115,7 @@ fn command<D: Disk, S: Shelf, O: Sink + Drop, E: Sink + Drop>(
     out: &mut Buffered<O>,
     err: &mut Buffered<E>,
     now: u32,
-) -> (Ending, D)
+) -> (CommandEnding, D)
     requires out_empty { holds out.old ≡ [] }
     requires err_empty { holds err.old ≡ [] }
     ensures usage { (f : WordsFault) → ComesWhere (Why.Usage f) result.0.why (ask words.now ≡ Err f) }
@@ -165,7 +165,7 @@ fn command<D: Disk, S: Shelf, O: Sink + Drop, E: Sink + Drop>(
 {
     match read_command(alloc, words) {
         Ok((ask, format)) => begin(alloc, words, &ask, &format, disk, shelf, out, err, now),
-        Err(why) => (Ending { why, changes: 0 }, disk),
+        Err(why) => (CommandEnding { why, changes: 0 }, disk),
     }
 }
 
@@ -321,7 +321,7 @@ pub fn run<D: Disk, S: Shelf, O: Sink, E: Sink>(
     // The packages that an argument's steps are for: those that it picks above `--after`, each once and rising.
     ensures numbers { (tree : Tree) (packages : FinMap nat_cmp Package) (chosen : Chosen) (after j : ℕ) (text : List ℕ)
         → (numbers (argument_part tree packages chosen after j text).steps ≡ map (λ e. e.0) (above after (picked packages chosen text)))
-        × Rises after (map (λ e. e.0) (above after (picked packages chosen text))) }
+        × RisesFrom after (map (λ e. e.0) (above after (picked packages chosen text))) }
 
     // Words that break no rule give questions alone: none of their arguments goes unasked.
     ensures questions { (a : AskParts) → ask words.now ≡ Ok a → a.mode ≡ mode.Query → a.chosen ≢ by.Package

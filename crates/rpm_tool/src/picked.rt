@@ -24,7 +24,7 @@ use std::alloc::Global;
 
 /// What became of the packages of an argument: whether there were some, and whether the argument fails for them.
 #[derive(Clone, Copy)]
-pub struct Printed {
+pub struct PrintedPackages {
     pub some: bool,
     pub fails: bool,
 }
@@ -147,7 +147,7 @@ pub fn print_above<D: Disk, O: Sink + Drop, E: Sink + Drop>(
     way: &Way<'_>,
     out: &mut Buffered<O>,
     err: &mut Buffered<E>,
-) -> Result<Printed, Stop>
+) -> Result<PrintedPackages, Stop>
     requires out_empty { holds out.old ≡ [] }
     requires err_empty { holds err.old ≡ [] }
     requires keeps { IsTrue D.tells → Keeps (D.files disk.old).pkg db.now }
@@ -179,7 +179,7 @@ pub fn print_above<D: Disk, O: Sink + Drop, E: Sink + Drop>(
                 some = true;
                 fails = either(fails, !to_out);
             }
-            Ok(None) => return Ok(Printed { some, fails }),
+            Ok(None) => return Ok(PrintedPackages { some, fails }),
             Err(stop) => return Err(stop),
         }
     }

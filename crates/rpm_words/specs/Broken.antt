@@ -18,7 +18,7 @@ use Rattle.rpm_words.specs.declared.fault.WordsFault.{WordsFault}
 use Rattle.rpm_words.specs.declared.fault.WordsKind.TheVariants.{NoMode, TwoModes, UnknownOption, Misplaced, MissingArgument, ExtraArgument, BadNumber, BadCapability}
 use Rattle.rpm_words.specs.declared.takes.Expected.{Expected}
 use Rattle.rpm_words.specs.declared.takes.Expected.TheVariants.{Text, Number, Capability}
-use Rattle.rpm_words.specs.declared.takes.Takes.{Takes}
+use Rattle.rpm_words.specs.declared.takes.ArgumentRule.{ArgumentRule}
 use Rattle.rpm_words.specs.Words.{text_at}
 use Rattle.rpm_words.specs.Number.{number, exercise_number}
 use Rattle.rpm_words.specs.Purpose.{takes_value}
@@ -106,12 +106,12 @@ abbrev pub lacks_option : Command → Seen → Bool
 lacks_option Verify seen = not (is_all seen.chosen && seen.nofiles)
 lacks_option others seen = false
 
-abbrev pub too_few : List (List ℕ) → Command → Seen → Takes → List ℕ → Option WordsFault
+abbrev pub too_few : List (List ℕ) → Command → Seen → ArgumentRule → List ℕ → Option WordsFault
 too_few words command seen taken arguments =
     if lacks_option command seen || nat_lt (length arguments) (fewest taken) then Some (fault MissingArgument (length words)) else None
 
 -- the first argument behind the most that there may be
-abbrev pub too_many : Takes → List ℕ → Option WordsFault
+abbrev pub too_many : ArgumentRule → List ℕ → Option WordsFault
 too_many taken arguments = option_map (fault ExtraArgument) (option_map_or (slice_get arguments) (most taken) None)
 
 -- what is wrong with the argument at a word
@@ -126,7 +126,7 @@ argument_fault words Capability word =
 unfoldable pub bad_argument : List (List ℕ) → Expected → List ℕ → Option WordsFault
 bad_argument words kind arguments = head (filter_map (argument_fault words kind) arguments)
 
-abbrev pub broken_by : List (List ℕ) → List Token → Seen → List ℕ → Command → Takes → Option WordsFault
+abbrev pub broken_by : List (List ℕ) → List Token → Seen → List ℕ → Command → ArgumentRule → Option WordsFault
 broken_by words tokens seen arguments command taken = first_told (
     early_fault words seen.command seen.chosen tokens
     ∷ no_value words seen.last

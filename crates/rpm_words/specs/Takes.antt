@@ -6,11 +6,11 @@ use Rattle.rpm_words.specs.declared.switch.Chosen.{Chosen}
 use Rattle.rpm_words.specs.declared.switch.Chosen.TheVariants as chosen
 use Rattle.rpm_words.specs.declared.takes.Expected.{Expected}
 use Rattle.rpm_words.specs.declared.takes.Expected.TheVariants.{Text, Number, Capability}
-use Rattle.rpm_words.specs.declared.takes.Takes.{Takes}
-use Rattle.rpm_words.specs.declared.takes.Takes.TheVariants.{Nothing, Any, Several, NumberAndText}
+use Rattle.rpm_words.specs.declared.takes.ArgumentRule.{ArgumentRule}
+use Rattle.rpm_words.specs.declared.takes.ArgumentRule.TheVariants.{Nothing, Any, Several, NumberAndText}
 
 -- what a query takes, by what it picks packages by
-abbrev pub query_takes : Chosen → Takes
+abbrev pub query_takes : Chosen → ArgumentRule
 query_takes chosen.Label = Several Text
 query_takes chosen.All = Any Text
 query_takes chosen.Path = Several Text
@@ -27,7 +27,7 @@ query_takes chosen.Tid = Several Number
 query_takes chosen.Recommends = Several Capability
 
 -- what a command takes
-abbrev pub takes : Command → Chosen → Takes
+abbrev pub takes : Command → Chosen → ArgumentRule
 takes command.Query by = query_takes by
 takes command.Addpkg by = Several Text
 takes command.Replacepkg by = NumberAndText
@@ -43,28 +43,28 @@ takes command.Order by = Nothing
 takes command.Checkfiles by = Nothing
 
 -- how many there have to be
-abbrev pub fewest : Takes → ℕ
+abbrev pub fewest : ArgumentRule → ℕ
 fewest Nothing = 0
 fewest (Any kind) = 0
 fewest (Several kind) = 1
 fewest NumberAndText = 2
 
 -- how many there may be
-abbrev pub most : Takes → Option ℕ
+abbrev pub most : ArgumentRule → Option ℕ
 most Nothing = Some 0
 most (Any kind) = None
 most (Several kind) = None
 most NumberAndText = Some 2
 
 -- what they have to be
-abbrev pub expected : Takes → Expected
+abbrev pub expected : ArgumentRule → Expected
 expected Nothing = Text
 expected (Any kind) = kind
 expected (Several kind) = kind
 expected NumberAndText = Number
 
 -- those that have to be so: of a number and a text the first alone
-abbrev pub checked : Takes → List ℕ → List ℕ
+abbrev pub checked : ArgumentRule → List ℕ → List ℕ
 checked Nothing arguments = arguments
 checked (Any kind) arguments = arguments
 checked (Several kind) arguments = arguments

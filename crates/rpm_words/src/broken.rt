@@ -8,7 +8,7 @@ use crate::fault::{WordsFault, WordsKind, earlier};
 use crate::number::{exercise_number, number_in, number_of};
 use crate::seen::Seen;
 use crate::switch::{Chosen, Command, Switch};
-use crate::takes::{Expected, Takes};
+use crate::takes::{ArgumentRule, Expected};
 use crate::token::{Said, Token};
 use crate::words::Words;
 use rpm_version::Capability;
@@ -192,7 +192,7 @@ fn too_few(
     words: &Words,
     command: Command,
     seen: &Seen,
-    takes: Takes,
+    takes: ArgumentRule,
     arguments: &[u32],
 ) -> Option<WordsFault>
     ensures { result ≡ too_few words.now command seen.now takes arguments.now }
@@ -208,7 +208,7 @@ fn too_few(
 }
 
 /// The first argument too many.
-fn too_many(takes: Takes, arguments: &[u32]) -> Option<WordsFault>
+fn too_many(takes: ArgumentRule, arguments: &[u32]) -> Option<WordsFault>
     ensures { result ≡ too_many takes arguments.now }
 {
     match takes.most() {

@@ -15,7 +15,7 @@ pub(crate) enum Expected {
 
 /// The arguments that a command takes.
 #[derive(Debug, Clone, Copy)]
-pub(crate) enum Takes {
+pub(crate) enum ArgumentRule {
     /// None.
     Nothing,
     /// As many as are given, be it none, each of them this.
@@ -28,37 +28,37 @@ pub(crate) enum Takes {
 
 impl Chosen {
     /// The arguments that a query takes which picks packages by this.
-    fn takes(self) -> Takes
+    fn takes(self) -> ArgumentRule
         ensures { result ≡ query_takes self }
     {
         match self {
-            Chosen::All => Takes::Any(Expected::Text),
+            Chosen::All => ArgumentRule::Any(Expected::Text),
             Chosen::Label
             | Chosen::Path
             | Chosen::Group
             | Chosen::Package
             | Chosen::Trigger
-            | Chosen::Directory => Takes::Several(Expected::Text),
-            Chosen::Number | Chosen::Tid => Takes::Several(Expected::Number),
+            | Chosen::Directory => ArgumentRule::Several(Expected::Text),
+            Chosen::Number | Chosen::Tid => ArgumentRule::Several(Expected::Number),
             Chosen::Provides
             | Chosen::Requires
             | Chosen::Conflicts
             | Chosen::Obsoletes
-            | Chosen::Recommends => Takes::Several(Expected::Capability),
+            | Chosen::Recommends => ArgumentRule::Several(Expected::Capability),
         }
     }
 }
 
 impl Command {
     /// The arguments that a command takes, where a query picks packages by `chosen`.
-    pub(crate) fn takes(self, chosen: Chosen) -> Takes
+    pub(crate) fn takes(self, chosen: Chosen) -> ArgumentRule
         ensures { result ≡ takes self chosen }
     {
         match self {
             Command::Query => chosen.takes(),
-            Command::Addpkg => Takes::Several(Expected::Text),
-            Command::Replacepkg => Takes::NumberAndText,
-            Command::Erasepkg => Takes::Several(Expected::Number),
+            Command::Addpkg => ArgumentRule::Several(Expected::Text),
+            Command::Replacepkg => ArgumentRule::NumberAndText,
+            Command::Erasepkg => ArgumentRule::Several(Expected::Number),
             Command::Verify
             | Command::Initdb
             | Command::Rebuilddb
@@ -67,20 +67,20 @@ impl Command {
             | Command::Importdb
             | Command::Exercise
             | Command::Order
-            | Command::Checkfiles => Takes::Nothing,
+            | Command::Checkfiles => ArgumentRule::Nothing,
         }
     }
 }
 
-impl Takes {
+impl ArgumentRule {
     /// How many arguments there have to be.
     pub(crate) fn fewest(self) -> usize
         ensures { result ≡ fewest self }
     {
         match self {
-            Takes::Nothing | Takes::Any(_) => 0,
-            Takes::Several(_) => 1,
-            Takes::NumberAndText => 2,
+            ArgumentRule::Nothing | ArgumentRule::Any(_) => 0,
+            ArgumentRule::Several(_) => 1,
+            ArgumentRule::NumberAndText => 2,
         }
     }
 
@@ -89,9 +89,9 @@ impl Takes {
         ensures { result ≡ most self }
     {
         match self {
-            Takes::Nothing => Some(0),
-            Takes::Any(_) | Takes::Several(_) => None,
-            Takes::NumberAndText => Some(2),
+            ArgumentRule::Nothing => Some(0),
+            ArgumentRule::Any(_) | ArgumentRule::Several(_) => None,
+            ArgumentRule::NumberAndText => Some(2),
         }
     }
 
@@ -100,9 +100,9 @@ impl Takes {
         ensures { result ≡ expected self }
     {
         match self {
-            Takes::Nothing => Expected::Text,
-            Takes::Any(expected) | Takes::Several(expected) => expected,
-            Takes::NumberAndText => Expected::Number,
+            ArgumentRule::Nothing => Expected::Text,
+            ArgumentRule::Any(expected) | ArgumentRule::Several(expected) => expected,
+            ArgumentRule::NumberAndText => Expected::Number,
         }
     }
 
@@ -111,7 +111,7 @@ impl Takes {
         ensures { result.now ≡ checked self arguments.now }
     {
         match self {
-            Takes::NumberAndText if !arguments.is_empty() => &arguments[..1],
+            ArgumentRule::NumberAndText if !arguments.is_empty() => &arguments[..1],
             _ => arguments,
         }
     }

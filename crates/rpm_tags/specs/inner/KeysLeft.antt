@@ -17,5 +17,5 @@ keys_left (source.Texts texts) = texts
 keys_left (source.Numbers numbers) = map number_key numbers
 
 -- a place for each of them
-abbrev pub HasPlaces : KeySource → ℕ → Type 0
-HasPlaces left n = n + length (keys_left left) < 2 ^ 32
+abbrev pub KeysHavePlaces : KeySource → ℕ → Type 0
+KeysHavePlaces left n = n + length (keys_left left) < 2 ^ 32

@@ -22,7 +22,7 @@ IsPart (part.Number digits) = digits.start ≤ 20
 abbrev pub parts_of : ℕ → List TextPart → List (List ℕ)
 parts_of count parts = take count (map bytes_of parts)
 
-pub record IsJoined (count len : ℕ) (parts : List TextPart) : Type 0 where
+pub record IsInParts (count len : ℕ) (parts : List TextPart) : Type 0 where
   pub nine : length parts ≡ 9
   pub fit : All IsPart parts
   pub room : count ≤ 9

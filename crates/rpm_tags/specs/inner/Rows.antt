@@ -3,12 +3,12 @@ use Rattle.std.specs.Prelude.{◌≡◌, ℕ, ◌+◌, ◌^◌, ◌≤◌, ◌<�
 use Rattle.rpm_tags.specs.Value.{are_matched, file_names}
 use Rattle.rpm_header.specs.Header.{max_data, Item, has_numbers, has_texts, IsWhole}
 
-pub record HasNumbers (e : Item) : Type 0 where
+pub record KeepsNumbers (e : Item) : Type 0 where
   pub form : has_numbers e.form ≡ true
   pub whole : IsWhole e
   pub some : 0 < e.count
 
-pub record HasTexts (count : ℕ) (e : Item) : Type 0 where
+pub record KeepsTexts (count : ℕ) (e : Item) : Type 0 where
   pub form : has_texts e.form ≡ true
   pub whole : IsWhole e
   pub some : 0 < count

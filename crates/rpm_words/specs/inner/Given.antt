@@ -12,7 +12,7 @@ use Rattle.rpm_words.specs.declared.token.Token.{Token}
 use Rattle.rpm_words.specs.declared.seen.Seen.{Seen}
 use Rattle.rpm_words.specs.declared.fault.WordsFault.{WordsFault}
 use Rattle.rpm_words.specs.declared.fault.WordsKind.TheVariants.{NoMode, MissingArgument}
-use Rattle.rpm_words.specs.declared.takes.Takes.{Takes}
+use Rattle.rpm_words.specs.declared.takes.ArgumentRule.{ArgumentRule}
 use Rattle.rpm_words.specs.declared.ask.Mode.{Mode}
 use Rattle.rpm_words.specs.declared.ask.Mode.TheVariants as mode
 use Rattle.rpm_words.specs.Command.{head}
@@ -46,7 +46,7 @@ each_none f [] is = tt
 each_none f (x ∷ xs) is = each_by f x xs (f x) refl (each_none f xs) is
 
 -- arguments break none of the rules on what a command takes
-pub record Keeps (words : List (List ℕ)) (args : List ℕ) (taken : Takes) : Type 0 where
+pub record Keeps (words : List (List ℕ)) (args : List ℕ) (taken : ArgumentRule) : Type 0 where
   pub enough : nat_lt (length args) (fewest taken) ≡ false
   pub no_more : too_many taken args ≡ None
   pub good : AllByRecursion (λ w. argument_fault words (expected taken) w ≡ None) (checked taken args)
@@ -56,7 +56,7 @@ neither false false f is = refl
 neither false true f is = absurd cc
 neither true b f is = absurd cc
 
-kept_by : (words : List (List ℕ)) (tokens : List Token) (s : Seen) (args : List ℕ) (c : Command) (taken : Takes)
+kept_by : (words : List (List ℕ)) (tokens : List Token) (s : Seen) (args : List ℕ) (c : Command) (taken : ArgumentRule)
     → broken_by words tokens s args c taken ≡ None → Keeps words args taken
 unfolding bad_argument
 kept_by words tokens s args c taken is =

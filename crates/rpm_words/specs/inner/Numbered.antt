@@ -7,7 +7,7 @@ use Rattle.rpm_words.specs.declared.switch.Program.{Program}
 use Rattle.rpm_words.specs.declared.fault.WordsFault.{WordsFault}
 use Rattle.rpm_words.specs.declared.fault.WordsKind.TheVariants.{NoMode, BadNumber}
 use Rattle.rpm_words.specs.declared.takes.Expected.TheVariants.{Number}
-use Rattle.rpm_words.specs.declared.takes.Takes.TheVariants.{Several, NumberAndText}
+use Rattle.rpm_words.specs.declared.takes.ArgumentRule.TheVariants.{Several, NumberAndText}
 use Rattle.rpm_words.specs.declared.ask.Mode.{Mode}
 use Rattle.rpm_words.specs.declared.ask.Mode.TheVariants as mode
 use Rattle.rpm_words.specs.Words.{text_at}

@@ -1,7 +1,7 @@
 use Rattle.std.proofs.Common.{refl, sym, ◌∙◌}
 use Rattle.rpm_db.specs.Changes.{Add}
 use Rattle.rpm_db.specs.State.{state}
-use Rattle.rpm_db.proofs.States.{next-state}
+use Rattle.rpm_db.specs.inner.States.{next-state}
 use Rattle.rpm_file.specs.Package.{read_again}
 use Rattle.rpm_change.specs.Endings.{outputs}
 use Rattle.rpm_change.specs.Steps.{changing}

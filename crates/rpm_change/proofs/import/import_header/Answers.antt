@@ -4,7 +4,7 @@ use Rattle.rpm_header.specs.Header.{header}
 use Rattle.rpm_db.specs.Changes.{Add}
 use Rattle.rpm_db.specs.Database.{Database}
 use Rattle.rpm_db.specs.State.{State, state}
-use Rattle.rpm_db.proofs.States.{next-state}
+use Rattle.rpm_db.specs.inner.States.{next-state}
 use Rattle.rpm_change.specs.Steps.{Course}
 use Rattle.rpm_change.specs.Endings.{outputs, Done, Ended, IsCarried, IndexTurn}
 use Rattle.rpm_change.specs.Importing.{imported}

@@ -1,5 +1,5 @@
 use Rattle.rpm_db.specs.State.{state}
-use Rattle.rpm_db.proofs.States.{next-state}
+use Rattle.rpm_db.specs.inner.States.{next-state}
 use Rattle.rpm_exercise.proofs.Made.{added_one}
 use Rattle.rpm_exercise.proofs.Turned.{added_limits, add_refused}
 use Rattle.rpm_exercise.proofs.rounds.add_one.Goals as goal

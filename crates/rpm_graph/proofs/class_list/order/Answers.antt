@@ -1,10 +1,10 @@
 use Rattle.std.proofs.Common.{◌≡◌, ℕ, ◌<◌, [], length, get_or, map, sym, ap, subst, ◌∙◌, arith}
 use Rattle.std.proofs.lemmas.List.{length-map, get_or_default}
-use Rattle.rpm_graph.specs.Listings.{AreFalling, IsListing}
+use Rattle.rpm_graph.specs.inner.Listings.{AreFalling, IsListing}
 use Rattle.rpm_graph.specs.Networks.{IsNetwork}
 use Rattle.rpm_graph.specs.Orders.{IsOrder, least}
-use Rattle.rpm_graph.specs.Rows.{AreLeastNumbers, HaveEnds, HaveMembers}
-use Rattle.rpm_graph.specs.Searches.{AreWithin, IsSplit, rows_of}
+use Rattle.rpm_graph.specs.inner.Rows.{AreLeastNumbers, HaveEnds, HaveMembers}
+use Rattle.rpm_graph.specs.inner.Searches.{AreWithin, IsSplit, rows_of}
 use Rattle.rpm_graph.proofs.Bridge.{members_are_class}
 use Rattle.rpm_graph.proofs.Classing.{ends_fall}
 use Rattle.rpm_graph.proofs.Laws.{stand_once, edges_go_back}

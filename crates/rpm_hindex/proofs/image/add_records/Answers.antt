@@ -1,7 +1,6 @@
 use Rattle.std.proofs.Common.{◌≡◌, ℕ, ◌+◌, ◌<◌, ◌++◌, ◌∷◌, [], List, length, take, ap, ◌∙◌, arith, refl, sym, subst}
-use Rattle.rpm_hindex.specs.Rows.{Row}
+use Rattle.rpm_hindex.specs.Rows.{Row, row_nth}
 use Rattle.rpm_hindex.specs.Sizes.{record_units}
-use Rattle.rpm_hindex.specs.Packed.{row_nth}
 use Rattle.rpm_hindex.specs.inner.Drafts.{IsDraft}
 use Rattle.rpm_hindex.proofs.Takes.{live_take, live_none, next_rows, live_next, row_from, row_of_parts}
 use Rattle.rpm_hindex.proofs.image.add_records.Goals as goal

@@ -1,7 +1,6 @@
 use Rattle.std.proofs.Common.{◌+◌, ◌*◌, ◌<◌, length, take, ap, ◌∙◌, arith, refl, sym, subst, ◌∷◌, []}
 use Rattle.rpm_hindex.specs.Sizes.{record_units}
-use Rattle.rpm_hindex.specs.Packed.{row_nth}
-use Rattle.rpm_hindex.specs.Rows.{Row}
+use Rattle.rpm_hindex.specs.Rows.{Row, row_nth}
 use Rattle.rpm_hindex.specs.declared.chain.Extent.{Extent}
 use Rattle.rpm_outside.specs.declared.disk.File.TheVariants.{Idx}
 use Rattle.rpm_outside.specs.inner.Looking.{looks_none, looks_then, looks_more}

@@ -4,8 +4,7 @@ use Rattle.std.specs.BTreeMap.{get}
 use Rattle.rpm_outside.specs.Files.{Files, unit_at}
 use Rattle.rpm_hindex.specs.declared.chain.Extent.{Extent}
 use Rattle.rpm_hindex.specs.declared.change.Change.{Change}
-use Rattle.rpm_hindex.specs.Rows.{Row, hash_of}
-use Rattle.rpm_hindex.specs.Packed.{row_nth}
+use Rattle.rpm_hindex.specs.Rows.{Row, hash_of, row_nth}
 use Rattle.rpm_hindex.specs.Index.{index_in, chain, units_at}
 use Rattle.rpm_hindex.specs.Whole.{IsWellFormed}
 use Rattle.rpm_hindex.specs.inner.Changes.{HasLess, IsCut, IsHonest, IsBadSoFar, kept_of, is_kept}

@@ -12,7 +12,7 @@ use Rattle.rpm_tool.specs.Tasks.{asked_task, asked_course, is_anew, changes_inde
 use Rattle.rpm_change.specs.Endings.{outputs}
 use Rattle.rpm_tool.specs.Asked.{asks}
 use Rattle.rpm_tool.specs.Given.{given_on}
-use Rattle.rpm_tool.specs.History.{Call, AllStand, StandsIn, Leads, Cuts, calls_of, course_of}
+use Rattle.rpm_tool.specs.History.{RunCall, AllStand, StandsIn, Leads, Cuts, calls_of, course_of}
 use Rattle.rpm_tool.specs.Lines.{Between, LineIs, InTurn, between}
 use Rattle.rpm_tool.proofs.Chained.{in_turn_more}
 use Rattle.rpm_tool.proofs.Histories.{stands_weaker}
@@ -40,8 +40,8 @@ loop-words-preserved g c =
     let new = c.run-left.result.1 in
     let words : List (List ℕ) = c.words-item.result in
     let item : words ≡ get_or lines c.loop-words.words-index words = c.words-item.is in
-    let before : List Call = calls_of lines c.loop-words.outcomes.items in
-    let call : Call = record { words = words; outcome = c.run-left.result.0 } in
+    let before : List RunCall = calls_of lines c.loop-words.outcomes.items in
+    let call : RunCall = record { words = words; outcome = c.run-left.result.0 } in
     let more : calls_of lines (c.loop-words.outcomes.items ++ c.run-left.result.0 ∷ []) ≡ before ++ call ∷ [] =
     calls_more lines c.loop-words.outcomes.items c.run-left.result.0 words (omega (arith, inv.count))
     ∙ ap (λ (w : List (List ℕ)). before ++ record { words = w; outcome = c.run-left.result.0 } ∷ [])
@@ -64,13 +64,13 @@ loop-words-preserved g c =
       leads = λ told shelf s start image left.
           let made = both told shelf s start in
           let since = g.met.D.Disk.earlier new (D.moment mid) (D.moment new) image told made.1.later (omega arith) left in
-          subst (λ (calls : List Call). StandsIn (Leads paths now calls s) image) (sym then_is)
+          subst (λ (calls : List RunCall). StandsIn (Leads paths now calls s) image) (sym then_is)
           (stands_weaker _ (Leads paths now (before ++ call ∷ []) s) image (λ t how. leads_more paths now before call s how.0 t how.1 how.2)
           (made.0 image since left));
       cuts = λ told shelf s start.
           let made = both told shelf s start in
           let Q : Files → Type 0 = StandsIn (Cuts paths now (before ++ call ∷ []) s) in
-          subst (λ (calls : List Call). LeavesOnly D.moment D.left_since c.args.disk new (StandsIn (Cuts paths now calls s))) (sym then_is)
+          subst (λ (calls : List RunCall). LeavesOnly D.moment D.left_since c.args.disk new (StandsIn (Cuts paths now calls s))) (sym then_is)
           (leaves_then D.moment D.left_since c.args.disk mid new Q
           (leaves_weaker D.moment D.left_since c.args.disk mid (StandsIn (Cuts paths now before s)) Q
           (λ image is. stands_weaker _ _ image (λ t how. cuts_still paths now before call s t how) is) (inv.cuts told shelf s start))
@@ -78,7 +78,7 @@ loop-words-preserved g c =
           (λ image is. stands_weaker _ _ image (λ t how. cuts_more paths now before call s how.0 t how.1 how.2) is) made.1));
       ran = λ told shelf.
           let so_far = inv.ran told shelf in
-          let Each : Call → Between _ → Between _ → Type 0 = λ call old new.
+          let Each : RunCall → Between _ → Between _ → Type 0 = λ call old new.
           LineIs D.files D.left_since D.moment D.bytes_read D.follows D.faults paths now call old new in
           let start : Between _ = between c.args.disk [] (outputs g.O.Sink.tells (g.O.Sink.taken c.args.out.now) g.E.Sink.tells (g.E.Sink.taken
           c.args.err.now)) (g.S.Shelf.faults c.args.shelf.now) (g.O.Sink.faults c.args.out.now) (g.E.Sink.faults c.args.err.now) in
@@ -126,7 +126,7 @@ loop-words-preserved g c =
             gives = refl;
           } in (
             given paths,
-            subst (λ (calls : List Call). InTurn Each calls start (behind_it paths)) (sym then_is)
+            subst (λ (calls : List RunCall). InTurn Each calls start (behind_it paths)) (sym then_is)
                 (in_turn_more Each before call start before_it (behind_it paths) so_far.1 (subst line_by (inv.paths shelf) line)),
           );
     }

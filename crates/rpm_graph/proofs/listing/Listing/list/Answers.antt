@@ -2,8 +2,8 @@ use Rattle.std.proofs.Common.{◌≡◌, ℕ, ◌≤◌, ◌<◌, false, [], len
 use Rattle.std.specs.List.{Contains}
 use Rattle.std.proofs.lemmas.Bool.{cases_lt}
 use Rattle.std.proofs.lemmas.List.{length-map, get_or_default}
-use Rattle.rpm_graph.specs.Listings.{IsPlaced, listed_at}
-use Rattle.rpm_graph.specs.Searches.{rows_of}
+use Rattle.rpm_graph.specs.inner.Listings.{IsPlaced, listed_at}
+use Rattle.rpm_graph.specs.inner.Searches.{rows_of}
 use Rattle.rpm_graph.proofs.Marking.{marked_underway, marked_placed, marked_only, waited}
 use Rattle.rpm_graph.proofs.listing.Listing.list.Goals as goal
 

@@ -2,8 +2,8 @@ use Rattle.std.proofs.Common.{◌≡◌, ℕ, ◌≤◌, ◌<◌, [], length, ge
 use Rattle.std.specs.Vec.{with_item, with_items}
 use Rattle.std.proofs.lemmas.List.{length-map, take_at, get_or_default}
 use Rattle.rpm_graph.specs.declared.listing.Listing.{Listing}
-use Rattle.rpm_graph.specs.Rows.{with_link}
-use Rattle.rpm_graph.specs.Searches.{rows_of}
+use Rattle.rpm_graph.specs.inner.Rows.{with_link}
+use Rattle.rpm_graph.specs.inner.Searches.{rows_of}
 use Rattle.rpm_graph.proofs.Sets.{insert_kept, insert_only, insert_there, pair_total, pair_exact}
 use Rattle.rpm_graph.proofs.Settling.{row_below, first_read, waits_underway, waits_keeps, waits_placed, ready_underway, ready_keeps, ready_placed}
 use Rattle.rpm_graph.proofs.Steps.{row_read}

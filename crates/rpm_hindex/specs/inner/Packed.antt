@@ -1,5 +1,5 @@
 -- Rows whose keys stand one behind the other.
-use Rattle.std.specs.Prelude.{◌≡◌, ℕ, ◌+◌, ◌≤◌, ◌<◌, ◌^◌, List, [], take, drop, map, length, slice_index_or}
+use Rattle.std.specs.Prelude.{◌≡◌, ℕ, ◌+◌, ◌≤◌, ◌<◌, ◌^◌, List, take, drop, map, length, slice_index_or}
 use Rattle.rpm_hindex.specs.declared.rows.RowHead.{RowHead}
 use Rattle.rpm_hindex.specs.Rows.{Row}
 use Rattle.rpm_hindex.specs.Sizes.{live_of}
@@ -9,12 +9,6 @@ row_in keys head = record { kind = head.kind; key = take head.length (drop head.
 
 abbrev pub rows_in : List ℕ → List RowHead → List Row
 rows_in keys heads = map (row_in keys) heads
-
-abbrev pub no_row : Row
-no_row = record { kind = 0; key = []; number = 0; place = 0 }
-
-abbrev pub row_nth : List Row → ℕ → Row
-row_nth rows i = slice_index_or rows i no_row
 
 abbrev pub no_head : RowHead
 no_head = record { kind = 0; start = 0; length = 0; number = 0; place = 0 }

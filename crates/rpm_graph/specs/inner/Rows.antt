@@ -2,7 +2,7 @@
 use Rattle.std.specs.Prelude.{◌≡◌, ℕ, ◌<◌, ◌++◌, ◌⊎◌, List, [], ◌∷◌, Contains, length, slice_index, slice_index_or, slice_set}
 use Rattle.rpm_graph.specs.Networks.{Network, HasEdge, IsRising, edge_at}
 use Rattle.rpm_graph.specs.Orders.{least}
-use Rattle.rpm_graph.specs.Searches.{Goes, AreWithin}
+use Rattle.rpm_graph.specs.inner.Searches.{Goes, AreWithin}
 
 -- the rows with one more edge
 abbrev pub with_link : List (List ℕ) → ℕ → ℕ → List (List ℕ)

@@ -2,7 +2,7 @@
 use Rattle.std.specs.Prelude.{◌+◌, ◌*◌, ◌≤◌, vec_len, vec_capacity}
 use Rattle.rpm_blocks.specs.declared.Used.TheInside.{Inside}
 use Rattle.rpm_blocks.specs.Blocks.{AreApart}
-use Rattle.rpm_blocks.specs.Places.{HaveSameBlocks}
+use Rattle.rpm_blocks.specs.inner.Places.{HaveSameBlocks}
 
 -- Each insert takes a place in both vectors at most, and each removal one more among the runs, where it splits one.
 pub record IsSound (u : Inside) : Type 0 where

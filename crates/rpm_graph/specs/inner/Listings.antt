@@ -1,7 +1,7 @@
 -- The order of the classes, each known by its number, and what is true at each step of making it.
 use Rattle.std.specs.Prelude.{◌≡◌, ℕ, ◌<◌, ◌≤◌, ◌⊎◌, Bool, true, false, List, [], take, replicate, slice_set, sum_by, cond, Contains, length, slice_index, slice_index_or}
 use Rattle.rpm_graph.specs.declared.listing.Listing.{Listing}
-use Rattle.rpm_graph.specs.Searches.{Goes, rows_of}
+use Rattle.rpm_graph.specs.inner.Searches.{Goes, rows_of}
 
 -- each end of a class is lower than it
 abbrev pub AreFalling : List (List ℕ) → Type 0

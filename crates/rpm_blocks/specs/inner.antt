@@ -1,0 +1,3 @@
+-- What the fields of a set keep, and what the crate's own calls say to each other.
+pub mod Places
+pub mod Sound
