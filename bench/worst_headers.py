@@ -30,7 +30,7 @@ NAMES = "NAME VERSION RELEASE SUMMARY DESCRIPTION BUILDHOST DISTRIBUTION VENDOR 
 
 
 # The zeros of so many strides are counted.
-STRIDES = 131072
+STRIDES = 262144
 
 
 def header(entries, data):

@@ -12,13 +12,13 @@ use crate::zeros::{between, has_end_near, look_for_ends, pass_blocks, pass_parts
 use std::marker::Model;
 
 /// So many numbers of zeros are kept at most.
-const SUMS: usize = 131072;
+const SUMS: usize = 262144;
 
-/// Room for the numbers that a `TextPlaces` keeps, 512 KiB: a frame that has it pays for as many
+/// Room for the numbers that a `TextPlaces` keeps, 1 MiB: a frame that has it pays for as many
 /// zeros. Contracts say nothing of it.
 #[derive(Drop)]
 pub struct PlacesRoom {
-    sums: Option<[u32; 131072]>,
+    sums: Option<[u32; 262144]>,
 }
 
 impl PlacesRoom {
@@ -28,7 +28,7 @@ impl PlacesRoom {
 
     /// So many zeros.
     fn zeroed(&mut self, n: usize) -> &mut [u32]
-        requires { n ≤ 131072 }
+        requires { n ≤ 262144 }
         ensures { length result.now ≡ n }
     {
         &mut self.sums.insert([0; SUMS])[..n]
@@ -45,9 +45,9 @@ enum Kept {
 }
 
 /// The texts of an entry, to be read in any order. Contracts see it as the list of them. Of fewer
-/// than 131,072 texts it keeps where each begins. Of more it keeps how many zero bytes stand in front
-/// of each of at most 131,071 strides, so that what is read to find where a text begins is at most
-/// one stride, 513 bytes; the same for where it ends.
+/// than 262,144 texts it keeps where each begins. Of more it keeps how many zero bytes stand in front
+/// of each of at most 262,143 strides, so that what is read to find where a text begins is at most
+/// one stride, 257 bytes; the same for where it ends.
 #[derive(Drop)]
 pub struct TextPlaces<'p, 'a> {
     count: u32,
@@ -68,11 +68,11 @@ impl<'p, 'a> Model for TextPlaces<'p, 'a> {
     ghost invariant = { λ s. IsPlaced s.count s.bytes.now s.kept s.numbers.now };
 }
 
-/// A stride of which fewer than 131,071 reach the end of so many bytes.
+/// A stride of which fewer than 262,143 reach the end of so many bytes.
 fn stride_for(len: usize) -> usize
     requires { len ≤ max_data }
-    ensures wide { len < 131071 * result }
-    ensures small { result ≤ 513 }
+    ensures wide { len < 262143 * result }
+    ensures small { result ≤ 257 }
 {
     (len / (SUMS - 1) + 1).max(64)
 }
@@ -174,7 +174,7 @@ impl<'p, 'a> TextPlaces<'p, 'a> {
     fn listed(count: u32, bytes: &'a [u8], room: &'p mut PlacesRoom) -> TextPlaces<'p, 'a>
         requires ended { are_ended count bytes.now ≡ true }
         requires few { length bytes.now ≤ max_data }
-        requires room { count < 131072 }
+        requires room { count < 262144 }
         ensures { result ≡ texts count bytes.now }
     {
         let begins = room.zeroed(count as usize + 1);

@@ -49,7 +49,7 @@ fn put_with<O: Sink, const N: usize, const R: usize>(
     )
 }
 
-/// A bracket with room for the places of directories, which costs 512 KiB of zeros.
+/// A bracket with room for the places of directories, which costs 1 MiB of zeros.
 #[cold]
 #[inline(never)]
 fn put_far<O: Sink>(

@@ -143,7 +143,7 @@ impl<'v, 'a> Directories<'v, 'a> {
     }
 
     /// The directory of an index. Reads nothing where it is among the 16 that are kept; else the
-    /// directories from the furthest one on that was read, or, where it is in front of that, 513 bytes
+    /// directories from the furthest one on that was read, or, where it is in front of that, 257 bytes
     /// at most to find where it begins and as many for where it ends, and the first time all of them
     /// twice at most. Without room it reads all of them up to its own.
     pub fn dir(&mut self, index: u64) -> &'a [u8]

@@ -119,8 +119,8 @@ impl<'a> TagValue<'a> {
     /// text once. Of FILENAMES it reads each name once, and each directory once where files ask for
     /// new directories in order and for earlier ones not long after: the furthest one and 16 others
     /// are kept. For any other directory it looks in the room where it begins and ends. Of fewer than
-    /// 131,072 directories, up to the last that a file asks for, the room has that; of more it has it
-    /// nearly, and 513 bytes at most are read for each of both, however long the directory is. The
+    /// 262,144 directories, up to the last that a file asks for, the room has that; of more it has it
+    /// nearly, and 257 bytes at most are read for each of both, however long the directory is. The
     /// first time all of them are read twice at most.
     ///
     /// How many files a header of 64 MiB can have that each ask for a directory far from the others:
