@@ -31,7 +31,8 @@ get_behind (x ∷ xs) (suc place) k = let e : suc place + k ≡ suc (place + k) 
 pub digits_more : (all : List Ready) (round count n : ℕ) (digits : List ℕ) (one : Ready) → AreDigits all round count digits → slice_get all count ≡ Some one
     → HasNumber one round n → AreDigits all round (suc count) (digits ++ decimal n)
 digits_more [] round count n digits one d here has = absurd cc
-digits_more (ready.Other ∷ rest) round zero n digits one d here has = let same : one ≡ ready.Other = cc in absurd (subst (λ (x : Ready). HasNumber x round n) same has)
+digits_more (ready.Other ∷ rest) round zero n digits one d here has =
+    let same : one ≡ ready.Other = cc in absurd (subst (λ (x : Ready). HasNumber x round n) same has)
 digits_more (ready.Texts texts ∷ rest) round zero n digits one d here has =
     let same : one ≡ ready.Texts texts = cc in absurd (subst (λ (x : Ready). HasNumber x round n) same has)
 digits_more (ready.Numbers numbers ∷ rest) round zero n digits one d here has =
@@ -40,7 +41,9 @@ digits_more (ready.Numbers numbers ∷ rest) round zero n digits one d here has 
 digits_more (ready.Other ∷ rest) round (suc count) n digits one d here has = absurd d
 digits_more (ready.Texts texts ∷ rest) round (suc count) n digits one d here has = absurd d
 digits_more (ready.Numbers numbers ∷ rest) round (suc count) n digits one d here has =
-    (d.0, d.1 ++ decimal n, d.2, ap (λ (x : List ℕ). x ++ decimal n) d.3 ∙ append_assoc (decimal d.0) d.1 (decimal n), digits_more rest round count n d.1 one d.4 here has)
+    let joined : digits ++ decimal n ≡ decimal d.0 ++ (d.1 ++ decimal n) =
+    ap (λ (x : List ℕ). x ++ decimal n) d.3 ∙ append_assoc (decimal d.0) d.1 (decimal n) in
+    (d.0, d.1 ++ decimal n, d.2, joined, digits_more rest round count n d.1 one d.4 here has)
 
 -- three digits written, of which those in front of the number are written over
 one_written : (room : List ℕ) (at n x y : ℕ) → n < 10 → at < length room
@@ -58,7 +61,8 @@ two_written room at n x least short le =
     let two : List ℕ = set one at (48 + n / 10 % 10) in
     let long : at + 1 < length two = rw (length-set one at (48 + n / 10 % 10), length-set room at x) le in
     let first : at < length one = rw (length-set room at x) (omega (arith, le)) in
-    take_more_set two (at + 1) (48 + n % 10) long ∙ rw (take_more_set one at (48 + n / 10 % 10) first, take-set room at x, two_digits n least short, append_assoc) refl
+    take_more_set two (at + 1) (48 + n % 10) long ∙ rw (take_more_set one at (48 + n / 10 % 10) first, take-set room at x,
+    two_digits n least short, append_assoc) refl
 
 three_written : (room : List ℕ) (at n : ℕ) → 100 ≤ n → n < 1000 → at + 2 < length room
     → take (at + 1 + 1 + 1) (set (set (set room at (48 + n / 100)) (at + 1) (48 + n / 10 % 10)) (at + 1 + 1) (48 + n % 10)) ≡ take at room ++ decimal n

@@ -44,7 +44,8 @@ returns-in_err-put_all-clause-goes g c =
     let n = c.write_numbers-end.result.1 in
     let le : c.args.i + n ≤ length (parts_of c.args.inner.now) = omega (arith, c.requires.below, c.len.ensures, c.if-count-left.true) in
     failed (c.args.i + n) _ c.from_residual.result c.from_residual.ensures.0 (omega (arith, c.if-count-gt0.true))
-    (digits_are c.args.view.now c.args.number c.args.round c.args.inner.now c.args.ready.now c.requires.ready c.args.i n _ le c.write_numbers-end.ensures.digits) c.in_err-put_all.ensures
+    (digits_are c.args.view.now c.args.number c.args.round c.args.inner.now c.args.ready.now c.requires.ready c.args.i n _ le
+    c.write_numbers-end.ensures.digits) c.in_err-put_all.ensures
 
 pub returns-then-count-left-clause-goes : goal.returns-then-count-left-clause-goes
 returns-then-count-left-clause-goes g c =
