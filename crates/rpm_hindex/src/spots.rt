@@ -1,6 +1,6 @@
 //! Where a row's record stands in its chain.
 
-ghost use Rattle.std.specs.Prelude.{◌≡◌, ℕ, ◌+◌, ◌*◌, ◌/◌, ◌%◌, ◌^◌, ◌≤◌, ◌<◌, ◌&&◌, IsTrue, true, false, length, List, IfOk, IfErr, Ok, Err, Some, if◌then◌else◌, Option};
+ghost use Rattle.std.specs.Prelude.{◌≡◌, ℕ, ◌+◌, ◌*◌, ◌/◌, ◌%◌, ◌^◌, ◌≤◌, ◌<◌, ◌&&◌, IsTrue, true, false, length, List, IfOk, IfErr, Ok, Err, None, Some, if◌then◌else◌, Option};
 ghost use Rattle.std.specs.Ordering.{nat_cmp};
 ghost use Rattle.std.specs.BTreeMap.{get};
 ghost use Rattle.rpm_outside.specs.Files.{unit_at};
@@ -253,24 +253,41 @@ fn is_hit(dropped: &BTreeMap<u32, u32>, met: Met) -> bool
     met.is_row && !dropped.contains_key(&met.head.at)
 }
 
-/// The greatest place that is dropped, or 0.
-fn last_dropped(dropped: &BTreeMap<u32, u32>) -> u32
-    ensures { (p : ℕ) → result < p → is_kept (λ q. get nat_cmp dropped.now q) p ≡ true }
+/// The last place that is dropped of those below a unit, or 0.
+#[inline(never)]
+fn last_dropped(dropped: &BTreeMap<u32, u32>, end: u32) -> u32
+    ensures { (p : ℕ) → result < p → p < end → get nat_cmp dropped.now p ≡ None }
 {
-    match dropped.last_key_value() {
+    match dropped.range(0..end).next_back() {
         Some((last, _)) => *last,
         None => 0,
     }
 }
 
-/// The last record that isn't dropped, when one more was met. Most stand behind all that are dropped, and aren't looked up.
+/// The last place that is dropped as far as the next record on the way, where the one as far as this record is known. Records on the way
+/// have ever lower places, so few of them have it looked for anew.
+#[inline(always)]
+fn dropped_to(dropped: &BTreeMap<u32, u32>, last: u32, at: u32, next: u32) -> u32
+    requires falls { next < at }
+    requires last { (p : ℕ) → last < p → p ≤ at → get nat_cmp dropped.now p ≡ None }
+    ensures { (p : ℕ) → result < p → p ≤ next → get nat_cmp dropped.now p ≡ None }
+{
+    if next < last {
+        last_dropped(dropped, next + 1)
+    } else {
+        last
+    }
+}
+
+/// The last record that isn't dropped, when one more was met. Of most a comparison tells that they aren't dropped.
+#[inline(always)]
 fn last_kept(
     dropped: &BTreeMap<u32, u32>,
     last: u32,
     before: Option<Head>,
     head: Head,
 ) -> Option<Head>
-    requires { (p : ℕ) → last < p → is_kept (λ q. get nat_cmp dropped.now q) p ≡ true }
+    requires { last < head.at → get nat_cmp dropped.now head.at ≡ None }
     ensures { result ≡ (if is_kept (λ p. get nat_cmp dropped.now p) head.at then Some head else before) }
 {
     if head.at <= last && dropped.contains_key(&head.at) {
@@ -310,9 +327,9 @@ fn find_spot<D: Disk>(
     ensures cause { HasCauseAt (result ≡ Err FindFault.DiskFault) (D.faults disk.old) (D.faults disk.new) }
 {
     let mut buffer = Vec::new(alloc);
-    let last = last_dropped(dropped);
     let mut before = None;
     let mut at = from;
+    let mut last = u32::MAX;
     while at != 0 {
         let met = match meet(disk, extent, bucket, at, row, &mut buffer) {
             Ok(met) => met,
@@ -326,6 +343,7 @@ fn find_spot<D: Disk>(
             return Ok(Some(Spot { before, at, behind }));
         }
         before = last_kept(dropped, last, before, met.head);
+        last = dropped_to(dropped, last, at, met.next);
         at = met.next;
     }
     Ok(None)

@@ -106,6 +106,7 @@ loop-at-preserved g c =
           (omega (arith, some, here)) (omega (arith, (l.invariant.linked some).1, here));
       front = front_last B (kept met.head.at) met.head l.before kept_now.result kept_now.ensures l.invariant.front
           (omega (arith, (l.invariant.linked some).0, here));
+      dropped = c.dropped_to-last.ensures;
       looks = looks_at_then _ _ _ _ _ _ Idx g.met.D.Disk.follows_trans c.args.disk.now l.disk c.meet.new.disk l.invariant.looks c.meet.ensures.looks;
       faults = omega (arith, l.invariant.faults, c.meet.ensures.cause.later);
       so_far = λ told places e.
