@@ -6,7 +6,7 @@ ghost use Rattle.rpm_group.specs.Held.{held_at, EndsAt, laid};
 ghost use Rattle.rpm_group.specs.inner.Holding.{Holds, SameHeld, LaysOver};
 ghost use Rattle.rpm_group.specs.inner.HeldUnits.{AreHeld};
 
-use crate::scan::next_unit;
+use crate::scan::next_absent;
 use crate::table::{Table, add_pages, hold, lay};
 use std::alloc::{AllocError, Global};
 
@@ -69,7 +69,7 @@ impl Pages {
             return false;
         }
         let end = (unit + count) as usize;
-        next_unit(&self.table, unit as usize, end, false) == end
+        next_absent(&self.table, unit as usize, end) == end
     }
 
     /// How long the file is, where it is so long below.

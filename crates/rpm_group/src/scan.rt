@@ -99,8 +99,7 @@ fn skip_absent(table: &Table, from: usize, end: usize) -> usize
     end
 }
 
-/// The first unit from this one on that is held or isn't, or the end. A function of its own, so that a read past all that is held stays short.
-#[inline(never)]
+/// The first unit from this one on that is held or isn't, or the end.
 pub fn next_unit(table: &Table, from: usize, end: usize, held: bool) -> usize
     requires ordered { from ≤ end }
     requires small { end ≤ 2 ^ 28 }
@@ -113,6 +112,19 @@ pub fn next_unit(table: &Table, from: usize, end: usize, held: bool) -> usize
         return next_from(table, skip_absent(table, from, end), end, true);
     }
     next_from(table, from, end, false)
+}
+
+/// The first unit from this one on that isn't held, or the end. A function of its own, so that a read past all that is held stays short.
+#[inline(never)]
+pub fn next_absent(table: &Table, from: usize, end: usize) -> usize
+    requires ordered { from ≤ end }
+    requires small { end ≤ 2 ^ 28 }
+    ensures from { from ≤ result }
+    ensures end { result ≤ end }
+    ensures between { (i : ℕ) → from ≤ i → i < result → is_held table.now.items i ≡ true }
+    ensures found { result < end → is_held table.now.items result ≡ false }
+{
+    next_unit(table, from, end, false)
 }
 
 /// How many runs of held units there are, and how many units.
