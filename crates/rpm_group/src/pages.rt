@@ -6,7 +6,7 @@ ghost use Rattle.rpm_group.specs.Held.{held_at, EndsAt, laid};
 ghost use Rattle.rpm_group.specs.inner.Holding.{Holds, SameHeld, LaysOver};
 ghost use Rattle.rpm_group.specs.inner.HeldUnits.{AreHeld};
 
-use crate::scan::next_absent;
+use crate::scan::{is_unit_held, next_absent};
 use crate::table::{Table, add_pages, hold, lay};
 use std::alloc::{AllocError, Global};
 
@@ -67,6 +67,10 @@ impl Pages {
     {
         if unit > self.end || count > self.end - unit {
             return false;
+        }
+        // Most reads are of one unit.
+        if count == 1 {
+            return is_unit_held(&self.table, unit as usize);
         }
         let end = (unit + count) as usize;
         next_absent(&self.table, unit as usize, end) == end

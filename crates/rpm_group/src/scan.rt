@@ -44,6 +44,17 @@ pub fn page_of(table: &Table, q: usize) -> Option<&Page>
     }
 }
 
+/// Whether a unit is held.
+#[inline(always)]
+pub fn is_unit_held(table: &Table, unit: usize) -> bool
+    ensures { result ≡ is_held table.now.items unit }
+{
+    match page_of(table, unit / 256) {
+        Some(page) => page.marks[unit % 256],
+        None => false,
+    }
+}
+
 /// The first of these units of one page that is held or isn't, or the end.
 fn next_in(table: &Table, q: usize, from: usize, end: usize, held: bool) -> usize
     requires ordered { from ≤ end }
