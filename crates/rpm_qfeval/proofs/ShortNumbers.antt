@@ -61,8 +61,12 @@ two_written room at n x least short le =
     let two : List ℕ = set one at (48 + n / 10 % 10) in
     let long : at + 1 < length two = rw (length-set one at (48 + n / 10 % 10), length-set room at x) le in
     let first : at < length one = rw (length-set room at x) (omega (arith, le)) in
-    take_more_set two (at + 1) (48 + n % 10) long ∙ rw (take_more_set one at (48 + n / 10 % 10) first, take-set room at x,
-    two_digits n least short, append_assoc) refl
+    take_more_set two (at + 1) (48 + n % 10) long ∙ rw (
+      take_more_set one at (48 + n / 10 % 10) first,
+      take-set room at x,
+      two_digits n least short,
+      append_assoc,
+    ) refl
 
 three_written : (room : List ℕ) (at n : ℕ) → 100 ≤ n → n < 1000 → at + 2 < length room
     → take (at + 1 + 1 + 1) (set (set (set room at (48 + n / 100)) (at + 1) (48 + n / 10 % 10)) (at + 1 + 1) (48 + n % 10)) ≡ take at room ++ decimal n
