@@ -9,8 +9,8 @@ use Rattle.rpm_change.specs.declared.tally.Tally.{Tally}
 use Rattle.rpm_change.specs.declared.tally.Halt.{Halt}
 use Rattle.rpm_change.specs.declared.tally.Halt.TheVariants as halt
 use Rattle.rpm_change.specs.Steps.{Step, Course, out_bytes, err_bytes, cut, idle, joined, apply_all}
-use Rattle.rpm_change.specs.Endings.{outputs, Through, ThroughSome, StoppedWithin, Done, Ended, AllHaveRoom, IndexTurn}
-use Rattle.rpm_change.proofs.Rooms.{apply_all-append, room_more, turn_first, turn_later}
+use Rattle.rpm_change.specs.Endings.{outputs, Through, ThroughSome, StoppedWithin, Done, Ended}
+use Rattle.rpm_change.proofs.Rooms.{apply_all-append}
 
 -- ---- steps
 
@@ -38,42 +38,36 @@ joined_assoc a b c =
     rw (append_assoc a.steps b.steps c.steps, append_assoc a.changes b.changes c.changes)
     (ap (λ (n : ℕ). record { steps = a.steps ++ (b.steps ++ c.steps); failed = n; changes = a.changes ++ (b.changes ++ c.changes) }) (omega arith))
 
--- a part of a command was gone through, and the rest is left; where P holds its changes had room
-pub record Halfway (ot et : Bool) (P : Type 0) (all left : Course) (s t : State) (failed changes : ℕ) (o o' e e' : List ℕ) : Type 0 where
+-- a part of a command was gone through, and the rest is left
+pub record Halfway (ot et : Bool) (all left : Course) (s t : State) (failed changes : ℕ) (o o' e e' : List ℕ) : Type 0 where
   pub done : Course
   pub all_is : all ≡ joined done left
   pub through : Through done.steps (outputs ot o et e) (outputs ot o' et e')
   pub failed_is : done.failed ≡ failed
   pub changes_are : length done.changes ≡ changes
   pub state_is : t ≡ apply_all done.changes s
-  pub rooms : P → AllHaveRoom s done.changes
 
-pub halfway_start : (ot et : Bool) (P : Type 0) (all : Course) (s : State) (o e : List ℕ) → Halfway ot et P all all s s 0 0 o o e e
-halfway_start ot et P all s o e = record {
+pub halfway_start : (ot et : Bool) (all : Course) (s : State) (o e : List ℕ) → Halfway ot et all all s s 0 0 o o e e
+halfway_start ot et all s o e = record {
   done = idle;
   all_is = sym (idle_joined all);
   through = through_none {ot = ot} {et = et} o e;
   failed_is = refl;
   changes_are = refl;
   state_is = refl;
-  rooms = λ p. tt;
 }
 
-module _ (ot et : Bool) (P : Type 0) (all left turn rest : Course) (s t u : State) (failed changes : ℕ) (o o' o'' e e' e'' : List ℕ)
-    (is : left ≡ joined turn rest) (g : Halfway ot et P all left s t failed changes o o' e e') where
-  pub halfway_more : (more : Tally) → Done turn t u more (outputs ot o' et e') (outputs ot o'' et e'') → (P → AllHaveRoom t turn.changes)
-      → Halfway ot et P all rest s u (failed + more.failed) (changes + more.changes) o o'' e e''
-  halfway_more more d room = record {
+module _ (ot et : Bool) (all left turn rest : Course) (s t u : State) (failed changes : ℕ) (o o' o'' e e' e'' : List ℕ)
+    (is : left ≡ joined turn rest) (g : Halfway ot et all left s t failed changes o o' e e') where
+  pub halfway_more : (more : Tally) → Done turn t u more (outputs ot o' et e') (outputs ot o'' et e'')
+      → Halfway ot et all rest s u (failed + more.failed) (changes + more.changes) o o'' e e''
+  halfway_more more d = record {
     done = joined g.done turn;
     all_is = g.all_is ∙ ap (joined g.done) is ∙ sym (joined_assoc g.done turn rest);
     through = through_more {ot = ot} {et = et} g.done.steps turn.steps o o' o'' e e' e'' g.through d.steps;
     failed_is = omega (arith, g.failed_is, d.failed);
     changes_are = length-append g.done.changes turn.changes ∙ omega (arith, g.changes_are, d.changes);
     state_is = d.state_is ∙ ap (apply_all turn.changes) g.state_is ∙ sym (apply_all-append g.done.changes turn.changes s);
-    rooms = λ p.
-        let here : AllHaveRoom (apply_all g.done.changes s) turn.changes =
-        subst (λ (v : State). AllHaveRoom v turn.changes) g.state_is (room p) in
-        room_more g.done.changes turn.changes s (g.rooms p) here;
   }
 
   split : all ≡ joined g.done (joined turn rest)
@@ -118,17 +112,9 @@ module _ (ot et : Bool) (P : Type 0) (all left turn rest : Course) (s t u : Stat
   halfway_stop halt.ErrFault p = within_more false p
   halfway_stop halt.NoMemory p = some_more p
 
-  pub halfway_turn : (h : Halt) → P → IndexTurn t turn.changes (Err h) → IndexTurn s all.changes (Err h)
-  halfway_turn h p turned =
-      let here : IndexTurn (apply_all g.done.changes s) turn.changes (Err h) = subst (λ (v : State). IndexTurn v turn.changes (Err h)) g.state_is turned in
-      let whole : IndexTurn s (g.done.changes ++ (turn.changes ++ rest.changes)) (Err h) =
-      turn_later g.done.changes (turn.changes ++ rest.changes) s h (g.rooms p)
-      (turn_first turn.changes rest.changes (apply_all g.done.changes s) h here) in
-      subst (λ (c : Course). IndexTurn s c.changes (Err h)) (sym split) whole
-
 -- nothing is left
-module _ (ot et : Bool) (P : Type 0) (all left : Course) (s t : State) (failed changes : ℕ) (o o' e e' : List ℕ) (none : left ≡ idle)
-    (g : Halfway ot et P all left s t failed changes o o' e e') where
+module _ (ot et : Bool) (all left : Course) (s t : State) (failed changes : ℕ) (o o' e e' : List ℕ) (none : left ≡ idle)
+    (g : Halfway ot et all left s t failed changes o o' e e') where
   same : g.done ≡ all
   same = sym (g.all_is ∙ ap (joined g.done) none ∙ joined_idle g.done)
 
@@ -136,6 +122,3 @@ module _ (ot et : Bool) (P : Type 0) (all left : Course) (s t : State) (failed c
   halfway_end =
       subst (λ (c : Course). Done c s t (record { failed = failed; changes = changes }) (outputs ot o et e) (outputs ot o' et e')) same
       (record { steps = g.through; failed = g.failed_is; changes = g.changes_are; state_is = g.state_is })
-
-  pub halfway_room : P → AllHaveRoom s all.changes
-  halfway_room p = subst (λ (c : Course). AllHaveRoom s c.changes) same (g.rooms p)

@@ -23,8 +23,7 @@ use Rattle.rpm_change.specs.declared.tally.Tally.{Tally}
 use Rattle.rpm_change.specs.declared.tally.Halt.{Halt}
 use Rattle.rpm_change.specs.declared.tally.Halt.TheVariants as halt
 use Rattle.rpm_change.specs.Steps.{joined, idle, apply_all}
-use Rattle.rpm_change.specs.Endings.{IndexTurn}
-use Rattle.rpm_change.specs.Rebuilding.{dropped, drop_each, RebuildTurn}
+use Rattle.rpm_change.specs.Rebuilding.{dropped, drop_each}
 
 -- ---- the next number
 
@@ -61,22 +60,6 @@ pub same_dropped : (p : Package) (n m : ℕ) (s t u : State) → SameAbove n s.p
 same_dropped (Good bytes) n m s t u same lt is k over = ap (λ (v : State). finite.get v.packages k) is ∙ same k (omega arith)
 same_dropped Bad n m s t u same lt is k over =
     ap (λ (v : State). finite.get v.packages k) is ∙ removed_above m k t.packages over ∙ same k (omega arith)
-
--- ---- limits
-
-pub rebuild_turn : (s : State) (changes : List Change) (r : Result Tally Halt) → units_for (rows s.packages) ≤ 2 ^ 28 → IndexTurn s changes r
-    → RebuildTurn s changes r
-rebuild_turn s changes (Ok tally) fits p = (fits, p)
-rebuild_turn s changes (Err (halt.IndexFull told)) fits p = inr (fits, p)
-rebuild_turn s changes (Err (halt.BadIndex unit)) fits p = p
-rebuild_turn s changes (Err halt.NumbersSpent) fits p = tt
-rebuild_turn s changes (Err halt.GenerationSpent) fits p = tt
-rebuild_turn s changes (Err halt.StoreFull) fits p = tt
-rebuild_turn s changes (Err halt.DiskFault) fits p = tt
-rebuild_turn s changes (Err halt.ShelfFault) fits p = tt
-rebuild_turn s changes (Err halt.OutFault) fits p = tt
-rebuild_turn s changes (Err halt.ErrFault) fits p = tt
-rebuild_turn s changes (Err halt.NoMemory) fits p = tt
 
 -- ---- what a value keeps
 

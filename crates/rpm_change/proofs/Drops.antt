@@ -1,5 +1,5 @@
 -- What dropping one package is: its change, and its line.
-use Rattle.std.proofs.Common.{◌≡◌, ◌≢◌, ℕ, ◌+◌, ◌^◌, ◌≤◌, Bool, List, [], ◌++◌, take, Option, Some, Result, Ok, Err, refl, sym, ap, ◌∙◌, subst, inl}
+use Rattle.std.proofs.Common.{◌≡◌, ◌≢◌, ℕ, ◌+◌, ◌^◌, ◌≤◌, Bool, List, [], ◌++◌, take, Option, Some, Result, Ok, Err, refl, sym, ap, ◌∙◌, subst, true}
 use Rattle.std.specs.Prelude.{IsTrue, IfOk, IfErr}
 use Rattle.std.proofs.lemmas.List.{append-nil}
 use Rattle.rpm_outside.specs.Files.{Files}
@@ -9,7 +9,7 @@ use Rattle.rpm_db.specs.declared.change.ChangeFault.{ChangeFault}
 use Rattle.rpm_db.specs.declared.change.ChangeFault.TheVariants as fault
 use Rattle.rpm_db.specs.Changes.{Erase, apply}
 use Rattle.rpm_db.specs.Database.{Database, IsIndexed}
-use Rattle.rpm_db.specs.Refusals.{EraseCause, FullCause}
+use Rattle.rpm_db.specs.Refusals.{EraseCause}
 use Rattle.rpm_db.specs.Room.{next_store}
 use Rattle.rpm_db.specs.State.{State, Package, Good, Bad}
 use Rattle.rpm_pkgdb.specs.Store.{Store}
@@ -18,10 +18,10 @@ use Rattle.rpm_change.specs.declared.tally.Tally.{Tally}
 use Rattle.rpm_change.specs.declared.tally.Halt.{Halt}
 use Rattle.rpm_change.specs.declared.tally.Halt.TheVariants as halt
 use Rattle.rpm_change.specs.Steps.{Course, ToOut, bearer}
-use Rattle.rpm_change.specs.Endings.{Outputs, outputs, Through, ThroughSome, Done, Ended, IsCarried, IndexTurn, needed, halt_of}
-use Rattle.rpm_change.specs.Limits.{LimitsTurn}
+use Rattle.rpm_change.specs.Endings.{Outputs, outputs, Through, ThroughSome, Done, Ended, IsCarried, halt_of}
+use Rattle.rpm_change.specs.Limits.{needed, LimitsTurn}
 use Rattle.rpm_change.specs.Rebuilding.{dropped_line, dropped, IsOfRebuilding}
-use Rattle.rpm_change.specs.inner.Single.{one_made, none_made}
+use Rattle.rpm_change.specs.inner.Single.{one_made, none_made, other_stop}
 
 -- ---- the line of a package that is dropped
 
@@ -49,29 +49,12 @@ dropped_cut ot et o o' e line n s t same p = record {
   };
 }
 
--- the change had room, and the line may not be written
-pub dropped_turn : (s : State) (n : ℕ) (r : Result Tally Halt) → needed s (Erase n) ≤ 2 ^ 28 → IfErr r (λ h. h ≡ halt.OutFault)
-    → IndexTurn s (dropped n Bad).changes r
-dropped_turn s n (Ok tally) fits kinds = (fits, tt)
-dropped_turn s n (Err h) fits kinds = rw kinds tt
-
-pub dropped_limits : (s : State) (n : ℕ) (v w : Store) (r : Result Tally Halt) → v.generation ≢ 4294967295
-    → next_store (Erase n) v ≡ Some (with_spare v.spare w) → w.generation ≡ v.generation + 1 → IfErr r (λ h. h ≡ halt.OutFault)
-    → LimitsTurn s v w (dropped n Bad).changes r
-dropped_limits s n v w (Ok tally) unspent placed raised kinds = one_made s (Erase n) v w tally tt unspent placed raised
-dropped_limits s n v w (Err h) unspent placed raised kinds = rw kinds (record { numbers = tt; generation = tt; store_room = tt; raised = tt })
-
-pub drop_turn : (s : State) (n : ℕ) (f : ChangeFault) → FullCause (needed s (Erase n)) f → IndexTurn s (dropped n Bad).changes (Err (halt_of f))
-drop_turn s n fault.NumbersSpent full = tt
-drop_turn s n fault.GenerationSpent full = tt
-drop_turn s n fault.StoreFull full = tt
-drop_turn s n (fault.IndexFull told) full = inl (full.0, full.1)
-drop_turn s n (fault.BadIndex unit) full = absurd full
-drop_turn s n fault.DiskFault full = tt
-drop_turn s n fault.NoMemory full = tt
-drop_turn s n (fault.BadHeader why) full = tt
-drop_turn s n fault.NoSuch full = tt
-drop_turn s n fault.Stopped full = tt
+-- the change was made, and the line may not be written
+pub dropped_limits : (i : Bool) (s : State) (n : ℕ) (v w : Store) (r : Result Tally Halt) → v.generation ≢ 4294967295
+    → next_store (Erase n) v ≡ Some (with_spare v.spare w) → w.generation ≡ v.generation + 1 → (i ≡ true → needed s (Erase n) ≤ 2 ^ 28)
+    → IfErr r (λ h. h ≡ halt.OutFault) → LimitsTurn i s v w (dropped n Bad).changes r
+dropped_limits i s n v w (Ok tally) unspent placed raised fits kinds = one_made i s (Erase n) v w tally tt unspent placed raised fits
+dropped_limits i s n v w (Err h) unspent placed raised fits kinds = rw kinds (other_stop i s v w (dropped n Bad).changes halt.OutFault refl)
 
 pub drop_kinds : (db : Database) (n : ℕ) (f : ChangeFault) → EraseCause db n f → IsOfRebuilding (halt_of f)
 drop_kinds db n fault.NumbersSpent cause = absurd cause.2
@@ -106,14 +89,10 @@ module _ (n : ℕ) (p : Package) (o : Option Package) (bytes : List ℕ) (s : St
       (sym (good_is o p bytes good is))
       (record { steps = record { out = gained_none ot out; err = gained_none et err }; failed = refl; changes = refl; state_is = same })
 
-  pub kept_turn : IndexTurn s (dropped n p).changes (Ok (record { failed = 0; changes = 0 }))
-  kept_turn =
-      subst (λ (q : Package). IndexTurn s (dropped n q).changes (Ok (record { failed = 0; changes = 0 }))) (sym (good_is o p bytes good is)) tt
-
-  pub kept_limits : (v : Store) → LimitsTurn s v v (dropped n p).changes (Ok (record { failed = 0; changes = 0 }))
-  kept_limits v =
-      subst (λ (q : Package). LimitsTurn s v v (dropped n q).changes (Ok (record { failed = 0; changes = 0 }))) (sym (good_is o p bytes good is))
-      (none_made s v v v.spare (record { failed = 0; changes = 0 }) refl)
+  pub kept_limits : (i : Bool) (v : Store) → LimitsTurn i s v v (dropped n p).changes (Ok (record { failed = 0; changes = 0 }))
+  kept_limits i v =
+      subst (λ (q : Package). LimitsTurn i s v v (dropped n q).changes (Ok (record { failed = 0; changes = 0 }))) (sym (good_is o p bytes good is))
+      (none_made i s v v v.spare (record { failed = 0; changes = 0 }) refl)
 
 -- what is carried from files that are as they were
 pub carried_from : (tells : Bool) (old mid new : Files) (images : Files → Type 0) (before after : Database) → (IsTrue tells → mid ≡ old)

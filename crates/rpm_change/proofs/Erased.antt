@@ -1,5 +1,5 @@
 -- What erasing one number is.
-use Rattle.std.proofs.Common.{◌≡◌, ℕ, true, false, [], Option, Some, None, is_some, Result, Ok, Err, refl, sym, ◌∙◌, subst, inl}
+use Rattle.std.proofs.Common.{◌≡◌, ℕ, Bool, true, false, [], Option, Some, None, is_some, Result, Ok, Err, refl, sym, ◌∙◌, subst, inl}
 use Rattle.std.specs.Prelude.{IfErr}
 use Rattle.std.specs.FinMap as finite
 use Rattle.rpm_outside.specs.Files.{Units, Files}
@@ -15,10 +15,10 @@ use Rattle.rpm_change.specs.declared.tally.Tally.{Tally}
 use Rattle.rpm_change.specs.declared.tally.Halt.{Halt}
 use Rattle.rpm_change.specs.declared.tally.Halt.TheVariants as halt
 use Rattle.rpm_change.specs.Steps.{Course, changing}
-use Rattle.rpm_change.specs.Endings.{Outputs, Through, ThroughSome, Ended, IndexTurn, IsOfLines, IsOfErasing, needed, halt_of}
+use Rattle.rpm_change.specs.Endings.{Outputs, Through, ThroughSome, Ended, IsOfErasing, halt_of}
 use Rattle.rpm_change.specs.Erasing.{missing, erased, erase_one}
-use Rattle.rpm_change.specs.Limits.{LimitsTurn}
-use Rattle.rpm_change.specs.inner.Single.{one_refused, erase_fault}
+use Rattle.rpm_change.specs.Limits.{needed, is_limit, LimitsTurn}
+use Rattle.rpm_change.specs.inner.Single.{one_refused, other_stop, erase_fault}
 
 some_erased : (o : Option Package) (j n : ℕ) → is_some o ≡ true → erased o j n ≡ changing (Erase n)
 some_erased None j n is = absurd cc
@@ -37,20 +37,6 @@ erase_missing file db j n not = none_missing (finite.get (packages file db.store
 -- nothing changed
 pub state_same : (f g : Files) (a b : Database) → g ≡ f → b ≡ a → state g.pkg b.store ≡ state f.pkg a.store
 state_same f g a b files same = rw (files, same) refl
-
--- a line changes nothing
-pub line_turn : (s : State) (r : Result Tally Halt) → IfErr r IsOfLines → IndexTurn s [] r
-line_turn s (Ok tally) kinds = tt
-line_turn s (Err (halt.IndexFull told)) kinds = absurd kinds
-line_turn s (Err (halt.BadIndex unit)) kinds = absurd kinds
-line_turn s (Err halt.NumbersSpent) kinds = tt
-line_turn s (Err halt.GenerationSpent) kinds = tt
-line_turn s (Err halt.StoreFull) kinds = tt
-line_turn s (Err halt.DiskFault) kinds = tt
-line_turn s (Err halt.ShelfFault) kinds = tt
-line_turn s (Err halt.OutFault) kinds = tt
-line_turn s (Err halt.ErrFault) kinds = tt
-line_turn s (Err halt.NoMemory) kinds = tt
 
 -- ---- a change that is refused
 
@@ -81,43 +67,28 @@ erase_kinds db n (fault.BadHeader why) cause = tt
 erase_kinds db n fault.NoSuch cause = tt
 erase_kinds db n fault.Stopped cause = tt
 
-module _ (file : Units) (db : Database) (j n : ℕ) where
-  full_turn : (told : ℕ) → holds n db ≡ true → FullCause (needed (state file db.store) (Erase n)) (fault.IndexFull told)
-      → IndexTurn (state file db.store) (erase_one (state file db.store) j n).changes (Err (halt.IndexFull told))
-  full_turn told held full =
-      subst (λ (x : Course). IndexTurn (state file db.store) x.changes (Err (halt.IndexFull told))) (sym (erase_held file db j n held)) (inl (full.0, full.1))
+module _ (i : Bool) (file : Units) (db : Database) (j n : ℕ) (w : Store) where
+  held_limits : (f : ChangeFault) → holds n db ≡ true → EraseCause db n f → (i ≡ true → FullCause (needed (state file db.store) (Erase n)) f)
+      → LimitsTurn i (state file db.store) db.store w (erase_one (state file db.store) j n).changes (Err (halt_of f))
+  held_limits f held cause full =
+      subst (λ (x : Course). LimitsTurn i (state file db.store) db.store w x.changes (Err (halt_of f))) (sym (erase_held file db j n held))
+      (one_refused i (state file db.store) (Erase n) db.store w f (erase_fault i db (state file db.store) n f cause full))
 
-  pub refused_turn : (f : ChangeFault) → EraseCause db n f → FullCause (needed (state file db.store) (Erase n)) f
-      → IndexTurn (state file db.store) (erase_one (state file db.store) j n).changes (Err (halt_of f))
-  refused_turn fault.NumbersSpent cause full = tt
-  refused_turn fault.GenerationSpent cause full = tt
-  refused_turn fault.StoreFull cause full = tt
-  refused_turn (fault.IndexFull told) cause full = full_turn told cause.1 full
-  refused_turn (fault.BadIndex unit) cause full = absurd full
-  refused_turn fault.DiskFault cause full = tt
-  refused_turn fault.NoMemory cause full = tt
-  refused_turn (fault.BadHeader why) cause full = tt
-  refused_turn fault.NoSuch cause full = tt
-  refused_turn fault.Stopped cause full = tt
+  none_met : (h : Halt) → is_limit i h ≡ false → LimitsTurn i (state file db.store) db.store w (erase_one (state file db.store) j n).changes (Err h)
+  none_met h other = other_stop i (state file db.store) db.store w (erase_one (state file db.store) j n).changes h other
 
-  held_limits : (w : Store) (f : ChangeFault) → holds n db ≡ true → EraseCause db n f
-      → LimitsTurn (state file db.store) db.store w (erase_one (state file db.store) j n).changes (Err (halt_of f))
-  held_limits w f held cause =
-      subst (λ (x : Course). LimitsTurn (state file db.store) db.store w x.changes (Err (halt_of f))) (sym (erase_held file db j n held))
-      (one_refused (state file db.store) (Erase n) db.store w f (erase_fault db (state file db.store) n f cause))
-
-  pub erase_limits : (w : Store) (f : ChangeFault) → EraseCause db n f
-      → LimitsTurn (state file db.store) db.store w (erase_one (state file db.store) j n).changes (Err (halt_of f))
-  erase_limits w fault.NumbersSpent cause = absurd cause.2
-  erase_limits w fault.GenerationSpent cause = held_limits w fault.GenerationSpent cause.1 cause
-  erase_limits w fault.StoreFull cause = absurd cause.2.1
-  erase_limits w (fault.IndexFull told) cause = record { numbers = tt; generation = tt; store_room = tt; raised = tt }
-  erase_limits w (fault.BadIndex unit) cause = record { numbers = tt; generation = tt; store_room = tt; raised = tt }
-  erase_limits w fault.DiskFault cause = record { numbers = tt; generation = tt; store_room = tt; raised = tt }
-  erase_limits w fault.NoMemory cause = record { numbers = tt; generation = tt; store_room = tt; raised = tt }
-  erase_limits w (fault.BadHeader why) cause = record { numbers = tt; generation = tt; store_room = tt; raised = tt }
-  erase_limits w fault.NoSuch cause = record { numbers = tt; generation = tt; store_room = tt; raised = tt }
-  erase_limits w fault.Stopped cause = record { numbers = tt; generation = tt; store_room = tt; raised = tt }
+  pub erase_limits : (f : ChangeFault) → EraseCause db n f → (i ≡ true → FullCause (needed (state file db.store) (Erase n)) f)
+      → LimitsTurn i (state file db.store) db.store w (erase_one (state file db.store) j n).changes (Err (halt_of f))
+  erase_limits fault.NumbersSpent cause full = absurd cause.2
+  erase_limits fault.GenerationSpent cause full = held_limits fault.GenerationSpent cause.1 cause full
+  erase_limits fault.StoreFull cause full = absurd cause.2.1
+  erase_limits (fault.IndexFull told) cause full = held_limits (fault.IndexFull told) cause.1 cause full
+  erase_limits (fault.BadIndex unit) cause full = held_limits (fault.BadIndex unit) cause.1 cause full
+  erase_limits fault.DiskFault cause full = none_met halt.DiskFault refl
+  erase_limits fault.NoMemory cause full = none_met halt.NoMemory refl
+  erase_limits (fault.BadHeader why) cause full = none_met halt.NoMemory refl
+  erase_limits fault.NoSuch cause full = none_met halt.NoMemory refl
+  erase_limits fault.Stopped cause full = none_met halt.NoMemory refl
 
 pub of_disk : (f : ChangeFault) → halt_of f ≡ halt.DiskFault → f ≡ fault.DiskFault
 of_disk fault.NumbersSpent is = absurd cc

@@ -1,5 +1,5 @@
 -- What adding one header of a list is.
-use Rattle.std.proofs.Common.{◌≡◌, ℕ, List, Option, Some, None, Result, Ok, Err, refl, sym, ap, ◌∙◌, subst, inl, min, codes}
+use Rattle.std.proofs.Common.{◌≡◌, ℕ, Bool, true, List, Option, Some, None, Result, Ok, Err, refl, sym, ap, ◌∙◌, subst, inl, min, codes}
 use Rattle.std.specs.Prelude.{IfOk}
 use Rattle.rpm_header.specs.Header.{Header, header}
 use Rattle.rpm_outside.specs.Files.{Units, Files}
@@ -18,12 +18,12 @@ use Rattle.rpm_change.specs.declared.tally.Tally.{Tally}
 use Rattle.rpm_change.specs.declared.tally.Halt.{Halt}
 use Rattle.rpm_change.specs.declared.tally.Halt.TheVariants as halt
 use Rattle.rpm_change.specs.Steps.{Course, ToErr, whole, changing, failing}
-use Rattle.rpm_change.specs.Endings.{Outputs, Ended, IndexTurn, needed, halt_of}
+use Rattle.rpm_change.specs.Endings.{Outputs, Ended, halt_of}
 use Rattle.rpm_change.specs.Importing.{imported, once, import_listed, import_list, listed}
 use Rattle.rpm_change.specs.Texts.{absent_line}
-use Rattle.rpm_change.specs.Limits.{LimitsTurn}
+use Rattle.rpm_change.specs.Limits.{needed, LimitsTurn}
 use Rattle.rpm_change.specs.Turns.{counted_once, IsOfHeaders}
-use Rattle.rpm_change.specs.inner.Single.{one_refused, add_fault}
+use Rattle.rpm_change.specs.inner.Single.{one_refused, other_stop, add_fault}
 
 -- ---- room in memory is nothing that a file says
 
@@ -49,21 +49,6 @@ indexed_room f g a b files same i =
 pub imported_good : (k : ℕ) (bytes : List ℕ) (h : Header) → header bytes ≡ Ok h → imported k (header bytes) ≡ changing (Add h.blob)
 imported_good k bytes h is = ap (imported k) is
 
-pub add_turn : (db : Database) (s : State) (k : ℕ) (bytes : List ℕ) (f : ChangeFault) → AddIs {A = ℕ} db bytes (Err f)
-    → ((h : Header) → header bytes ≡ Ok h → FullCause (needed s (Add h.blob)) f) → IndexTurn s (imported k (header bytes)).changes (Err (halt_of f))
-add_turn db s k bytes fault.NumbersSpent cause full = tt
-add_turn db s k bytes fault.GenerationSpent cause full = tt
-add_turn db s k bytes fault.StoreFull cause full = tt
-add_turn db s k bytes (fault.IndexFull told) cause full =
-    let said = full cause.1.own cause.1.read in
-    subst (λ (x : Course). IndexTurn s x.changes (Err (halt.IndexFull told))) (sym (imported_good k bytes cause.1.own cause.1.read)) (inl (said.0, said.1))
-add_turn db s k bytes (fault.BadIndex unit) cause full = absurd (full cause.1.own cause.1.read)
-add_turn db s k bytes fault.DiskFault cause full = tt
-add_turn db s k bytes fault.NoMemory cause full = tt
-add_turn db s k bytes (fault.BadHeader why) cause full = tt
-add_turn db s k bytes fault.NoSuch cause full = tt
-add_turn db s k bytes fault.Stopped cause full = tt
-
 pub add_kinds : (f : ChangeFault) → IsOfHeaders (halt_of f)
 add_kinds fault.NumbersSpent = tt
 add_kinds fault.GenerationSpent = tt
@@ -76,26 +61,30 @@ add_kinds (fault.BadHeader why) = tt
 add_kinds fault.NoSuch = tt
 add_kinds fault.Stopped = tt
 
-module _ (db : Database) (s : State) (w : Store) (k : ℕ) (bytes : List ℕ) (law : next s ≡ next_number db) where
+module _ (i : Bool) (db : Database) (s : State) (w : Store) (k : ℕ) (bytes : List ℕ) (law : next s ≡ next_number db) where
   read_limits : (f : ChangeFault) (h : Header) → header bytes ≡ Ok h → AddIs {A = ℕ} db bytes (Err f) → RoomCause (next_store (Add h.blob) db.store) f
-      → LimitsTurn s db.store w (imported k (header bytes)).changes (Err (halt_of f))
-  read_limits f h read cause room =
-      subst (λ (x : Course). LimitsTurn s db.store w x.changes (Err (halt_of f))) (sym (imported_good k bytes h read))
-      (one_refused s (Add h.blob) db.store w f (add_fault ℕ db s bytes h.blob f law cause room))
+      → (i ≡ true → FullCause (needed s (Add h.blob)) f) → LimitsTurn i s db.store w (imported k (header bytes)).changes (Err (halt_of f))
+  read_limits f h read cause room full =
+      subst (λ (x : Course). LimitsTurn i s db.store w x.changes (Err (halt_of f))) (sym (imported_good k bytes h read))
+      (one_refused i s (Add h.blob) db.store w f (add_fault i ℕ db s bytes h.blob f law cause room full))
 
   pub add_limits : (f : ChangeFault) → AddIs {A = ℕ} db bytes (Err f)
       → ((h : Header) → header bytes ≡ Ok h → RoomCause (next_store (Add h.blob) db.store) f)
-      → LimitsTurn s db.store w (imported k (header bytes)).changes (Err (halt_of f))
-  add_limits fault.NumbersSpent cause room = read_limits fault.NumbersSpent cause.0.own cause.0.read cause tt
-  add_limits fault.GenerationSpent cause room = read_limits fault.GenerationSpent cause.1.own cause.1.read cause tt
-  add_limits fault.StoreFull cause room = read_limits fault.StoreFull cause.1.own cause.1.read cause (room cause.1.own cause.1.read)
-  add_limits (fault.IndexFull told) cause room = record { numbers = tt; generation = tt; store_room = tt; raised = tt }
-  add_limits (fault.BadIndex unit) cause room = record { numbers = tt; generation = tt; store_room = tt; raised = tt }
-  add_limits fault.DiskFault cause room = record { numbers = tt; generation = tt; store_room = tt; raised = tt }
-  add_limits fault.NoMemory cause room = record { numbers = tt; generation = tt; store_room = tt; raised = tt }
-  add_limits (fault.BadHeader why) cause room = record { numbers = tt; generation = tt; store_room = tt; raised = tt }
-  add_limits fault.NoSuch cause room = record { numbers = tt; generation = tt; store_room = tt; raised = tt }
-  add_limits fault.Stopped cause room = record { numbers = tt; generation = tt; store_room = tt; raised = tt }
+      → (i ≡ true → (h : Header) → header bytes ≡ Ok h → FullCause (needed s (Add h.blob)) f)
+      → LimitsTurn i s db.store w (imported k (header bytes)).changes (Err (halt_of f))
+  add_limits fault.NumbersSpent cause room full = read_limits fault.NumbersSpent cause.0.own cause.0.read cause tt (λ is. tt)
+  add_limits fault.GenerationSpent cause room full = read_limits fault.GenerationSpent cause.1.own cause.1.read cause tt (λ is. tt)
+  add_limits fault.StoreFull cause room full =
+      read_limits fault.StoreFull cause.1.own cause.1.read cause (room cause.1.own cause.1.read) (λ is. tt)
+  add_limits (fault.IndexFull told) cause room full =
+      read_limits (fault.IndexFull told) cause.1.own cause.1.read cause (room cause.1.own cause.1.read) (λ is. full is cause.1.own cause.1.read)
+  add_limits (fault.BadIndex unit) cause room full =
+      read_limits (fault.BadIndex unit) cause.1.own cause.1.read cause (room cause.1.own cause.1.read) (λ is. full is cause.1.own cause.1.read)
+  add_limits fault.DiskFault cause room full = other_stop i s db.store w (imported k (header bytes)).changes halt.DiskFault refl
+  add_limits fault.NoMemory cause room full = other_stop i s db.store w (imported k (header bytes)).changes halt.NoMemory refl
+  add_limits (fault.BadHeader why) cause room full = other_stop i s db.store w (imported k (header bytes)).changes halt.NoMemory refl
+  add_limits fault.NoSuch cause room full = other_stop i s db.store w (imported k (header bytes)).changes halt.NoMemory refl
+  add_limits fault.Stopped cause room full = other_stop i s db.store w (imported k (header bytes)).changes halt.NoMemory refl
 
 -- what holds anyway holds after an Ok
 pub any_ok : (r : Result Tally Halt) (C : Type 0) → C → IfOk r (λ _tally. C)
@@ -121,14 +110,10 @@ module _ (c : Course) (s t : State) (old new : Outputs) where
   ended_once (Ok tally) d = record { steps = d.steps; failed = ap (min 1) d.failed; changes = d.changes; state_is = d.state_is }
   ended_once (Err h) p = stop_once h p
 
-pub turn_once : (c : Course) (s : State) (r : Result Tally Halt) → IndexTurn s c.changes r → IndexTurn s (once c).changes (counted_once r)
-turn_once c s (Ok tally) p = p
-turn_once c s (Err h) p = p
-
-pub limits_once : (changes : List Change) (s : State) (v w : Store) (r : Result Tally Halt) → LimitsTurn s v w changes r
-    → LimitsTurn s v w changes (counted_once r)
-limits_once changes s v w (Ok tally) p = record { numbers = p.numbers; generation = p.generation; store_room = p.store_room; raised = p.raised }
-limits_once changes s v w (Err h) p = p
+pub limits_once : (i : Bool) (changes : List Change) (s : State) (v w : Store) (r : Result Tally Halt) → LimitsTurn i s v w changes r
+    → LimitsTurn i s v w changes (counted_once r)
+limits_once i changes s v w (Ok tally) p = record { first = p.first; stores = p.stores; raised = p.raised }
+limits_once i changes s v w (Err h) p = p
 
 -- ---- the path that is opened
 

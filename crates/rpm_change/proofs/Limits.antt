@@ -1,5 +1,5 @@
 -- The numbers, generations and places that are left, along a command.
-use Rattle.std.proofs.Common.{◌≡◌, ℕ, ◌+◌, ◌<◌, Bor, List, [], ◌++◌, length, map, drop, get_or, Ok, Err, refl, sym, ap, ◌∙◌, subst, append_assoc}
+use Rattle.std.proofs.Common.{◌≡◌, Bool, ℕ, ◌+◌, ◌<◌, Bor, List, [], ◌++◌, length, map, drop, get_or, Ok, Err, refl, sym, ap, ◌∙◌, subst, append_assoc}
 use Rattle.std.proofs.lemmas.List.{append-nil}
 use Rattle.rpm_pkgdb.specs.Store.{Store}
 use Rattle.rpm_db.specs.Changes.{Change}
@@ -20,57 +20,57 @@ abbrev uncounted : Tally
 uncounted = record { failed = 0; changes = 0 }
 
 -- a part of a command's changes was made, and each had a number, a generation and a place; the rest is left
-pub record Limited (all left : Course) (s t : State) (v w : Store) : Type 0 where
+pub record Limited (i : Bool) (all left : Course) (s t : State) (v w : Store) : Type 0 where
   pub done : List Change
   pub all_is : all.changes ≡ done ++ left.changes
   pub state_is : t ≡ apply_all done s
-  pub within : LimitsTurn s v w done (Ok uncounted)
+  pub within : LimitsTurn i s v w done (Ok uncounted)
 
-pub limited_start : (all : Course) (s : State) (v : Store) → Limited all all s s v v
-limited_start all s v = record { done = []; all_is = refl; state_is = refl; within = limits_none s v uncounted }
+pub limited_start : (i : Bool) (all : Course) (s : State) (v : Store) → Limited i all all s s v v
+limited_start i all s v = record { done = []; all_is = refl; state_is = refl; within = limits_none i s v uncounted }
 
-module _ (all left turn rest : Course) (s t : State) (v w x : Store) (is : left ≡ joined turn rest) (g : Limited all left s t v w) where
+module _ (i : Bool) (all left turn rest : Course) (s t : State) (v w x : Store) (is : left ≡ joined turn rest) (g : Limited i all left s t v w) where
   split : all.changes ≡ g.done ++ (turn.changes ++ rest.changes)
   split = g.all_is ∙ ap (λ (c : Course). g.done ++ c.changes) is
 
-  pub limited_more : (u : State) (tally : Tally) → u ≡ apply_all turn.changes t → LimitsTurn t w x turn.changes (Ok tally) → Limited all rest s u v x
+  pub limited_more : (u : State) (tally : Tally) → u ≡ apply_all turn.changes t → LimitsTurn i t w x turn.changes (Ok tally) → Limited i all rest s u v x
   limited_more u tally after turned = record {
     done = g.done ++ turn.changes;
     all_is = split ∙ sym (append_assoc g.done turn.changes rest.changes);
     state_is = after ∙ ap (apply_all turn.changes) g.state_is ∙ sym (apply_all-append g.done turn.changes s);
-    within = limits_more g.done turn.changes s t v w x uncounted g.state_is g.within tally uncounted turned;
+    within = limits_more i g.done turn.changes s t v w x uncounted g.state_is g.within tally uncounted turned;
   }
 
   -- the next part was stopped
-  pub limited_stop : (h : Halt) → LimitsTurn t w x turn.changes (Err h) → LimitsTurn s v x all.changes (Err h)
-  limited_stop h turned = subst (λ (cs : List Change). LimitsTurn s v x cs (Err h)) (sym split)
-      (limits_stop g.done turn.changes s t v w x uncounted g.state_is g.within rest.changes h turned)
+  pub limited_stop : (h : Halt) → LimitsTurn i t w x turn.changes (Err h) → LimitsTurn i s v x all.changes (Err h)
+  limited_stop h turned = subst (λ (cs : List Change). LimitsTurn i s v x cs (Err h)) (sym split)
+      (limits_stop i g.done turn.changes s t v w x uncounted g.state_is g.within rest.changes h turned)
 
 -- nothing is left
-pub limited_end : (all left : Course) (s t : State) (v w : Store) (tally : Tally) → left ≡ idle → Limited all left s t v w
-    → LimitsTurn s v w all.changes (Ok tally)
-limited_end all left s t v w tally none g =
-    subst (λ (cs : List Change). LimitsTurn s v w cs (Ok tally))
+pub limited_end : (i : Bool) (all left : Course) (s t : State) (v w : Store) (tally : Tally) → left ≡ idle → Limited i all left s t v w
+    → LimitsTurn i s v w all.changes (Ok tally)
+limited_end i all left s t v w tally none g =
+    subst (λ (cs : List Change). LimitsTurn i s v w cs (Ok tally))
     (sym (g.all_is ∙ ap (λ (c : Course). g.done ++ c.changes) none ∙ append-nil g.done))
-    (limits_counted s v w g.done uncounted tally g.within)
+    (limits_counted i s v w g.done uncounted tally g.within)
 
 -- the file at a place was refused
-pub path_limits : (each : State → ℕ → List ℕ → Course) (paths : List (Bor (List ℕ))) (k : ℕ) (s t : State) (v w x : Store) → k < length paths
-    → Limited (in_turn each s 0 (map bytes paths)) (in_turn each t k (map bytes (drop k paths))) s t v w → (h : Halt)
-    → LimitsTurn t w x (each t k (bytes (get_or paths k nothing))).changes (Err h)
-    → LimitsTurn s v x (in_turn each s 0 (map bytes paths)).changes (Err h)
-path_limits each paths k s t v w x below g h turned =
+pub path_limits : (i : Bool) (each : State → ℕ → List ℕ → Course) (paths : List (Bor (List ℕ))) (k : ℕ) (s t : State) (v w x : Store) → k < length paths
+    → Limited i (in_turn each s 0 (map bytes paths)) (in_turn each t k (map bytes (drop k paths))) s t v w → (h : Halt)
+    → LimitsTurn i t w x (each t k (bytes (get_or paths k nothing))).changes (Err h)
+    → LimitsTurn i s v x (in_turn each s 0 (map bytes paths)).changes (Err h)
+path_limits i each paths k s t v w x below g h turned =
     let turn = each t k (bytes (get_or paths k nothing)) in
     let u = apply_all turn.changes t in
-    limited_stop (in_turn each s 0 (map bytes paths)) (in_turn each t k (map bytes (drop k paths))) turn
+    limited_stop i (in_turn each s 0 (map bytes paths)) (in_turn each t k (map bytes (drop k paths))) turn
     (in_turn each u (k + 1) (map bytes (drop (k + 1) paths))) s t v w x (path_next each paths k t u below refl) g h turned
 
 -- and so was the number at a place
-pub number_limits : (xs : List ℕ) (k : ℕ) (s t : State) (v w x : Store) → k < length xs
-    → Limited (erase s xs) (in_turn erase_one t k (drop k xs)) s t v w → (h : Halt) → LimitsTurn t w x (erase_one t k (get_or xs k 0)).changes (Err h)
-    → LimitsTurn s v x (erase s xs).changes (Err h)
-number_limits xs k s t v w x below g h turned =
+pub number_limits : (i : Bool) (xs : List ℕ) (k : ℕ) (s t : State) (v w x : Store) → k < length xs
+    → Limited i (erase s xs) (in_turn erase_one t k (drop k xs)) s t v w → (h : Halt) → LimitsTurn i t w x (erase_one t k (get_or xs k 0)).changes (Err h)
+    → LimitsTurn i s v x (erase s xs).changes (Err h)
+number_limits i xs k s t v w x below g h turned =
     let turn = erase_one t k (get_or xs k 0) in
     let u = apply_all turn.changes t in
-    limited_stop (erase s xs) (in_turn erase_one t k (drop k xs)) turn (in_turn erase_one u (k + 1) (drop (k + 1) xs)) s t v w x
+    limited_stop i (erase s xs) (in_turn erase_one t k (drop k xs)) turn (in_turn erase_one u (k + 1) (drop (k + 1) xs)) s t v w x
     (turn_next erase_one xs k 0 t u below refl) g h turned

@@ -6,22 +6,10 @@ use Rattle.rpm_db.specs.declared.change.ChangeFault.{ChangeFault}
 use Rattle.rpm_db.specs.declared.change.ChangeFault.TheVariants as fault
 use Rattle.rpm_db.specs.Changes.{Change}
 use Rattle.rpm_db.specs.Database.{Database, holds}
-use Rattle.rpm_db.specs.Refusals.{AddIs, PutIs, FullCause}
+use Rattle.rpm_db.specs.Refusals.{AddIs, PutIs}
 use Rattle.rpm_db.specs.State.{State}
 use Rattle.rpm_change.specs.Adding.{IsOfPlacing}
-use Rattle.rpm_change.specs.Endings.{IndexTurn, needed, ends_command, halt_of}
-
-pub one_turn : (s : State) (c : Change) (f : ChangeFault) → FullCause (needed s c) f → IndexTurn s (c ∷ []) (Err (halt_of f))
-one_turn s c fault.NumbersSpent full = tt
-one_turn s c fault.GenerationSpent full = tt
-one_turn s c fault.StoreFull full = tt
-one_turn s c (fault.IndexFull told) full = inl (full.0, full.1)
-one_turn s c (fault.BadIndex unit) full = absurd full
-one_turn s c fault.DiskFault full = tt
-one_turn s c fault.NoMemory full = tt
-one_turn s c (fault.BadHeader why) full = tt
-one_turn s c fault.NoSuch full = tt
-one_turn s c fault.Stopped full = tt
+use Rattle.rpm_change.specs.Endings.{ends_command, halt_of}
 
 -- ---- adding
 

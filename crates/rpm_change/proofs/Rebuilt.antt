@@ -1,5 +1,6 @@
 -- What making the index anew answers.
-use Rattle.std.proofs.Common.{◌≡◌, ℕ, ◌^◌, ◌<◌, Bool, true, false, List, Result, Err, refl, ◌∙◌, subst, inl}
+use Rattle.std.proofs.Common.{◌≡◌, ℕ, ◌^◌, ◌<◌, Bool, true, false, List, Some, Result, Ok, Err, refl, ◌∙◌, subst}
+use Rattle.std.specs.Prelude.{OnOk}
 use Rattle.rpm_outside.specs.Files.{Files}
 use Rattle.rpm_outside.specs.declared.disk.File.{File}
 use Rattle.rpm_db.specs.declared.change.ChangeFault.{ChangeFault}
@@ -11,13 +12,15 @@ use Rattle.rpm_db.specs.Rebuilds.{IsRebuilt, RebuildIs}
 use Rattle.rpm_db.specs.Runs.{Runs}
 use Rattle.rpm_db.specs.State.{State, state}
 use Rattle.rpm_pkgdb.specs.Store.{Store}
+use Rattle.rpm_pkgdb.specs.Written.{with_spare}
 use Rattle.rpm_db.specs.inner.Running.{runs_none, runs_then}
 use Rattle.rpm_db.specs.inner.Writes.{SameLog}
 use Rattle.rpm_change.specs.declared.tally.Tally.{Tally}
 use Rattle.rpm_change.specs.declared.tally.Halt.{Halt}
 use Rattle.rpm_change.specs.Endings.{halt_of, ends_command}
-use Rattle.rpm_change.specs.Limits.{LimitsTurn}
-use Rattle.rpm_change.specs.Rebuilding.{rebuild, RebuildTurn, IsOfRebuilding}
+use Rattle.rpm_change.specs.Limits.{first_limit, next_stores, StopsAt, LimitsTurn}
+use Rattle.rpm_change.specs.inner.LimitLaws.{makes_large}
+use Rattle.rpm_change.specs.Rebuilding.{rebuild, IsOfRebuilding}
 
 pub rebuild_kinds : (db : Database) (f : ChangeFault) → RebuildIs db (Err f) → IsOfRebuilding (halt_of f)
 rebuild_kinds db fault.NumbersSpent is = absurd is
@@ -43,39 +46,33 @@ rebuild_ends db (fault.BadHeader why) going is = absurd is
 rebuild_ends db fault.NoSuch going is = absurd is
 rebuild_ends db fault.Stopped going is = let stopped : db.stopped ≡ true = is in absurd cc
 
--- no limit but the index's stops it
-pub unbuilt_limits : (db : Database) (s : State) (v w : Store) (changes : List Change) (f : ChangeFault) → RebuildIs db (Err f)
-    → LimitsTurn s v w changes (Err (halt_of f))
-unbuilt_limits db s v w changes fault.NumbersSpent is = absurd is
-unbuilt_limits db s v w changes fault.GenerationSpent is = absurd is
-unbuilt_limits db s v w changes fault.StoreFull is = absurd is
-unbuilt_limits db s v w changes (fault.IndexFull needed) is = record { numbers = tt; generation = tt; store_room = tt; raised = tt }
-unbuilt_limits db s v w changes (fault.BadIndex unit) is = absurd is
-unbuilt_limits db s v w changes fault.DiskFault is = record { numbers = tt; generation = tt; store_room = tt; raised = tt }
-unbuilt_limits db s v w changes fault.NoMemory is = record { numbers = tt; generation = tt; store_room = tt; raised = tt }
-unbuilt_limits db s v w changes (fault.BadHeader why) is = absurd is
-unbuilt_limits db s v w changes fault.NoSuch is = absurd is
-unbuilt_limits db s v w changes fault.Stopped is = record { numbers = tt; generation = tt; store_room = tt; raised = tt }
+-- its index is full by the rows of the packages as they are
+pub unbuilt_limits : (old new : Files) (before after : Database) (changes : List Change) (f : ChangeFault) → IsRebuilt old new before after (Err f)
+    → StopsAt true (first_limit true (state old.pkg before.store) before.store changes) (Err (halt_of f))
+unbuilt_limits old new before after changes fault.NumbersSpent is = absurd is
+unbuilt_limits old new before after changes fault.GenerationSpent is = absurd is
+unbuilt_limits old new before after changes fault.StoreFull is = absurd is
+unbuilt_limits old new before after changes (fault.IndexFull needed) is = λ limit.
+    makes_large (state old.pkg before.store) before.store changes needed is.2 is.3
+unbuilt_limits old new before after changes (fault.BadIndex unit) is = absurd is
+unbuilt_limits old new before after changes fault.DiskFault is = λ limit. absurd cc
+unbuilt_limits old new before after changes fault.NoMemory is = λ limit. absurd cc
+unbuilt_limits old new before after changes (fault.BadHeader why) is = absurd is
+unbuilt_limits old new before after changes fault.NoSuch is = absurd is
+unbuilt_limits old new before after changes fault.Stopped is = λ limit. absurd cc
 
 -- of the store as it was
-pub remade_limits : {v w : Store} {t : State} (s : State) (x : Store) (r : Result Tally Halt) → w ≡ v → t ≡ s → LimitsTurn t w x (rebuild t).changes r
-    → LimitsTurn s v x (rebuild s).changes r
+pub remade_limits : {v w : Store} {t : State} (s : State) (x : Store) (r : Result Tally Halt) → w ≡ v → t ≡ s
+    → LimitsTurn true t w x (rebuild t).changes r → LimitsTurn true s v x (rebuild s).changes r
 remade_limits {v = v} {w = w} {t = t} s x r store same p =
-    subst (λ (u : Store). LimitsTurn s u x (rebuild s).changes r) store (subst (λ (y : State). LimitsTurn y w x (rebuild y).changes r) same p)
+    subst (λ (u : Store). LimitsTurn true s u x (rebuild s).changes r) store
+    (subst (λ (y : State). LimitsTurn true y w x (rebuild y).changes r) same p)
 
--- its index is full by the rows of the packages as they are
-pub unbuilt_turn : (old new : Files) (before after : Database) (changes : List Change) (f : ChangeFault) → IsRebuilt old new before after (Err f)
-    → RebuildTurn (state old.pkg before.store) changes (Err (halt_of f))
-unbuilt_turn old new before after changes fault.NumbersSpent is = absurd is
-unbuilt_turn old new before after changes fault.GenerationSpent is = absurd is
-unbuilt_turn old new before after changes fault.StoreFull is = absurd is
-unbuilt_turn old new before after changes (fault.IndexFull needed) is = inl (subst (λ (n : ℕ). 2 ^ 28 < n) is.3 is.2, is.3)
-unbuilt_turn old new before after changes (fault.BadIndex unit) is = absurd is
-unbuilt_turn old new before after changes fault.DiskFault is = tt
-unbuilt_turn old new before after changes fault.NoMemory is = tt
-unbuilt_turn old new before after changes (fault.BadHeader why) is = absurd is
-unbuilt_turn old new before after changes fault.NoSuch is = absurd is
-unbuilt_turn old new before after changes fault.Stopped is = tt
+-- and the store after the changes
+pub remade_stores : (s : State) (v x : Store) (r : Result Tally Halt) (Told : Type 0) → (Told → LimitsTurn true s v x (rebuild s).changes r)
+    → OnOk r (Told → next_stores (rebuild s).changes v ≡ Some (with_spare v.spare x))
+remade_stores s v x (Ok tally) Told limits = λ told. (limits told).stores
+remade_stores s v x (Err h) Told limits = tt
 
 -- it leaves the log
 module _ {D : Type 0} (tells : Bool) (files : D → Files) (left_since : D → ℕ → Files → Type 0) (moment : D → ℕ)

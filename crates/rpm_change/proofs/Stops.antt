@@ -1,15 +1,14 @@
 -- A command that a read, a line or a change stops.
-use Rattle.std.proofs.Common.{◌≡◌, ℕ, List, [], Option, Some, None, Result, Ok, Err, refl, subst}
+use Rattle.std.proofs.Common.{◌≡◌, ℕ, [], Option, Some, None, Result, Ok, Err, refl, subst}
 use Rattle.std.specs.Prelude.{IfErr}
 use Rattle.rpm_file.specs.declared.fault.FileFault.{FileFault}
 use Rattle.rpm_file.specs.declared.fault.FileFault.TheVariants as file
-use Rattle.rpm_db.specs.Changes.{Change}
 use Rattle.rpm_db.specs.State.{State}
 use Rattle.rpm_change.specs.declared.tally.Tally.{Tally}
 use Rattle.rpm_change.specs.declared.tally.Halt.{Halt}
 use Rattle.rpm_change.specs.declared.tally.Halt.TheVariants as halt
 use Rattle.rpm_change.specs.Adding.{stop_in, IsOfPlacing, IsOfPutting}
-use Rattle.rpm_change.specs.Endings.{Outputs, Through, Ended, IndexTurn, IsOfLines}
+use Rattle.rpm_change.specs.Endings.{Outputs, Through, Ended, IsOfLines}
 use Rattle.rpm_change.specs.Steps.{Course}
 
 -- a stop of reading: nothing was done
@@ -40,19 +39,6 @@ stop_ended course s (halt.BadIndex unit) old new kind none = absurd kind
 stop_ended course s halt.DiskFault old new kind none = absurd kind
 stop_ended course s halt.OutFault old new kind none = absurd kind
 stop_ended course s halt.ErrFault old new kind none = absurd kind
-
--- so nothing is said of limits
-pub stop_turn : (s : State) (changes : List Change) (h : Halt) → IsOfReading h → IndexTurn s changes (Err h)
-stop_turn s changes halt.ShelfFault kind = tt
-stop_turn s changes halt.NoMemory kind = tt
-stop_turn s changes halt.NumbersSpent kind = absurd kind
-stop_turn s changes halt.GenerationSpent kind = absurd kind
-stop_turn s changes halt.StoreFull kind = absurd kind
-stop_turn s changes (halt.IndexFull told) kind = absurd kind
-stop_turn s changes (halt.BadIndex unit) kind = absurd kind
-stop_turn s changes halt.DiskFault kind = absurd kind
-stop_turn s changes halt.OutFault kind = absurd kind
-stop_turn s changes halt.ErrFault kind = absurd kind
 
 -- ---- of a line
 

@@ -15,10 +15,11 @@ use Rattle.rpm_db.specs.State.{State}
 use Rattle.rpm_pkgdb.specs.Store.{Store}
 use Rattle.rpm_change.specs.Steps.{Course}
 use Rattle.rpm_change.specs.Turns.{Leaves, StopIs, tally_of, IsOfHeaders, IsOfEnding, IsOfImporting}
-use Rattle.rpm_change.specs.Endings.{Outputs, Through, Ended, IndexTurn, IsOfLines}
+use Rattle.rpm_change.specs.Endings.{Outputs, Through, Ended, IsOfLines}
 use Rattle.rpm_change.specs.Limits.{LimitsTurn}
 use Rattle.rpm_change.proofs.Drops.{none_gone}
 use Rattle.rpm_change.proofs.Unchanged.{read_limits}
+use Rattle.rpm_change.proofs.Wholes.{IsUnbroken}
 
 ok_of : (r : Result Turn Halt) (P : Tally → Type 0) → IfOk (tally_of r) P → IfOk r (λ t. P t.tally)
 ok_of (Ok t) P p = p
@@ -118,14 +119,14 @@ module _ (fault : ListFault) (h : Halt) (stop : StopIs fault (Some h)) where
     | inr e ↦ rw e (none_gone course old new none)
   ]
 
-  pub stop_turn : (s : State) (changes : List Change) → IndexTurn s changes (Err h)
-  stop_turn s changes = elim (stop_is fault h stop) [ inl a ↦ (let e : h ≡ halt.ShelfFault = a.0 in rw e tt) | inr e ↦ rw e tt ]
-
-  pub stop_limits : (s : State) (v w : Store) (changes : List Change) → LimitsTurn s v w changes (Err h)
-  stop_limits s v w changes = elim (stop_is fault h stop) [
-    | inl a ↦ (let e : h ≡ halt.ShelfFault = a.0 in rw e (read_limits s v w changes halt.ShelfFault tt))
-    | inr e ↦ rw e (read_limits s v w changes halt.NoMemory tt)
+  pub stop_limits : (i : Bool) (s : State) (v w : Store) (changes : List Change) → LimitsTurn i s v w changes (Err h)
+  stop_limits i s v w changes = elim (stop_is fault h stop) [
+    | inl a ↦ (let e : h ≡ halt.ShelfFault = a.0 in rw e (read_limits i s v w changes halt.ShelfFault tt))
+    | inr e ↦ rw e (read_limits i s v w changes halt.NoMemory tt)
   ]
+
+  pub stop_unbroken : IsUnbroken h
+  stop_unbroken = elim (stop_is fault h stop) [ inl a ↦ (let e : h ≡ halt.ShelfFault = a.0 in rw e tt) | inr e ↦ rw e tt ]
 
   pub stop_kinds : IsOfEnding h
   stop_kinds = elim (stop_is fault h stop) [ inl a ↦ (let e : h ≡ halt.ShelfFault = a.0 in rw e tt) | inr e ↦ rw e tt ]

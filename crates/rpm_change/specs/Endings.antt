@@ -1,13 +1,11 @@
 -- How far a command went, and why it was stopped.
-use Rattle.std.specs.Prelude.{◌≡◌, ◌⊎◌, ℕ, ◌^◌, ◌<◌, ◌≤◌, List, [], ◌∷◌, ◌++◌, length, Bool, true, false, IsTrue, Result, Ok, Err}
+use Rattle.std.specs.Prelude.{◌≡◌, ℕ, List, [], ◌∷◌, ◌++◌, length, Bool, true, false, IsTrue, Result, Ok, Err}
 use Rattle.std.specs.List.{flat_map}
 use Rattle.rpm_outside.specs.Sinks.{Gained}
 use Rattle.rpm_outside.specs.Files.{Units, Files}
-use Rattle.rpm_hindex.specs.Sizes.{units_for}
-use Rattle.rpm_db.specs.Changes.{Change, apply, IsServing}
+use Rattle.rpm_db.specs.Changes.{IsServing}
 use Rattle.rpm_db.specs.Database.{Database, IsIndexed}
 use Rattle.rpm_db.specs.Lawful.{IsWholeIndex}
-use Rattle.rpm_db.specs.Rows.{rows}
 use Rattle.rpm_db.specs.State.{State}
 use Rattle.rpm_db.specs.declared.change.ChangeFault.{ChangeFault}
 use Rattle.rpm_db.specs.declared.change.ChangeFault.TheVariants as fault
@@ -68,32 +66,7 @@ Ended course s t (Err halt.OutFault) old new = StoppedWithin course.steps true o
 Ended course s t (Err halt.ErrFault) old new = StoppedWithin course.steps false old new
 Ended course s t (Err others) old new = ThroughSome course.steps old new
 
--- ---- limits
-
--- a change has room in the index
-abbrev pub needed : State → Change → ℕ
-needed s change = units_for (rows (apply change s).packages)
-
-abbrev pub HasRoom : State → Change → Type 0
-HasRoom s change = needed s change ≤ 2 ^ 28
-
--- and so has each change at its turn
-abbrev pub AllHaveRoom : State → List Change → Type 0
-AllHaveRoom s [] = Unit {0}
-AllHaveRoom s (change ∷ changes) = HasRoom s change × AllHaveRoom (apply change s) changes
-
--- going through the changes in order, the first that has none needs so many units
-abbrev pub IsFullAt : ℕ → State → List Change → Type 0
-IsFullAt told s [] = ⊥
-IsFullAt told s (change ∷ changes) =
-    ((2 ^ 28 < needed s change) × (told ≡ needed s change)) ⊎ (HasRoom s change × IsFullAt told (apply change s) changes)
-
--- the index is full exactly at the turn of a change that has no room in it, and never bad
-abbrev pub IndexTurn : State → List Change → Result Tally Halt → Type 0
-IndexTurn s changes (Ok tally) = AllHaveRoom s changes
-IndexTurn s changes (Err (halt.IndexFull told)) = IsFullAt told s changes
-IndexTurn s changes (Err (halt.BadIndex unit)) = ⊥
-IndexTurn s changes (Err others) = Unit {0}
+-- ---- an index that is broken
 
 -- a command that begins with an index that is well formed as a whole leaves one, and is never stopped for it
 abbrev pub WholeTurn : Units → Result Tally Halt → Type 0

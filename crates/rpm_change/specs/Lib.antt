@@ -5,7 +5,6 @@ pub mod Exercise
 pub mod Importing
 pub mod Installs
 pub mod Limits
-pub mod Numbers
 pub mod Rebuilding
 pub mod Steps
 pub mod Texts

@@ -1,36 +1,78 @@
--- The generations and the places that changes take, along a command.
-use Rattle.std.specs.Prelude.{◌≡◌, ◌≢◌, ℕ, ◌+◌, ◌<◌, List, [], ◌∷◌, length, Option, Some, None, Result, Ok, Err, OnOk}
-use Rattle.std.specs.Option.{option_and_then}
+-- The limits that the changes of a command meet: going through them in order, the first that is refused decides.
+use Rattle.std.specs.Prelude.{◌≡◌, ℕ, ◌+◌, ◌^◌, ◌==◌, ◌&&◌, nat_lt, if◌then◌else◌, List, [], ◌∷◌, length, Bool, true, false, Option, Some, None, is_none, unwrap_or, Result, Ok, Err, OnOk}
+use Rattle.std.specs.Option.{option_or, option_and_then}
+use Rattle.rpm_hindex.specs.Sizes.{units_for}
 use Rattle.rpm_pkgdb.specs.Store.{Store}
 use Rattle.rpm_pkgdb.specs.Written.{with_spare}
-use Rattle.rpm_db.specs.Changes.{Change}
+use Rattle.rpm_db.specs.Changes.{Change, Add, apply, next}
 use Rattle.rpm_db.specs.Room.{next_store}
+use Rattle.rpm_db.specs.Rows.{rows}
 use Rattle.rpm_db.specs.State.{State}
 use Rattle.rpm_change.specs.declared.tally.Tally.{Tally}
 use Rattle.rpm_change.specs.declared.tally.Halt.{Halt}
 use Rattle.rpm_change.specs.declared.tally.Halt.TheVariants as halt
-use Rattle.rpm_change.specs.Numbers.{NumbersTurn}
 
--- from this generation on each change raises it by one: it is spent exactly at the turn of a change that finds the last one
-abbrev pub SpentTurn : ℕ → List Change → Result Tally Halt → Type 0
-SpentTurn g changes (Ok tally) = (k : ℕ) → k < length changes → g + k ≢ 4294967295
-SpentTurn g changes (Err halt.GenerationSpent) = (k : ℕ) × (k < length changes) × (g + k ≡ 4294967295)
-SpentTurn g changes (Err others) = Unit {0}
+-- ---- one change
 
--- the store after several changes, one after the other, and None where one of them finds no place
+-- it needs a new number, and none is left
+abbrev pub is_spent : State → Change → Bool
+is_spent s (Add bytes) = next s == 4294967295
+is_spent s others = false
+
+-- the units of an index of the packages after it
+abbrev pub needed : State → Change → ℕ
+needed s change = units_for (rows (apply change s).packages)
+
+-- the index that it leaves is too large
+abbrev pub is_large : State → Change → Bool
+is_large s change = nat_lt (2 ^ 28) (needed s change)
+
+-- what refuses it in this state and this store, the first that does: numbers, generations, places, and units, where the index is asked
+abbrev pub refusal : Bool → State → Store → Change → Option Halt
+refusal indexed s value change =
+    if is_spent s change then Some halt.NumbersSpent
+    else if value.generation == 4294967295 then Some halt.GenerationSpent
+    else if is_none (next_store change value) then Some halt.StoreFull
+    else if indexed && is_large s change then Some (halt.IndexFull (needed s change))
+    else None
+
+-- ---- several changes, one after the other
+
+-- what refuses the first of them that is refused; each finds what those before it leave
+abbrev pub first_refusal : Bool → State → Store → List Change → Option Halt
+first_refusal indexed s value [] = None
+first_refusal indexed s value (change ∷ changes) =
+    option_or (refusal indexed s value change) (first_refusal indexed (apply change s) (unwrap_or (next_store change value) value) changes)
+
+-- and where the index is made before them, it has to hold the rows of the packages as they are
+abbrev pub first_limit : Bool → State → Store → List Change → Option Halt
+first_limit makes s value changes =
+    if makes && nat_lt (2 ^ 28) (units_for (rows s.packages)) then Some (halt.IndexFull (units_for (rows s.packages)))
+    else first_refusal true s value changes
+
+-- the store after them, and None where one of them finds no place
 abbrev pub next_stores : List Change → Store → Option Store
 next_stores [] value = Some value
 next_stores (change ∷ changes) value = option_and_then (next_stores changes) (next_store change value)
 
--- the store is full exactly where one of the changes finds no place at its turn; after all of them it is that one, up to room in memory
-abbrev pub StoreTurn : List Change → Store → Store → Result Tally Halt → Type 0
-StoreTurn changes old new (Ok tally) = next_stores changes old ≡ Some (with_spare old.spare new)
-StoreTurn changes old new (Err halt.StoreFull) = next_stores changes old ≡ None
-StoreTurn changes old new (Err others) = Unit {0}
+-- ---- a command
 
--- each limit has its turn, and the generation rises by the changes
-pub record LimitsTurn (s : State) (old new : Store) (changes : List Change) (r : Result Tally Halt) : Type 0 where
-  pub numbers : NumbersTurn s changes r
-  pub generation : SpentTurn old.generation changes r
-  pub store_room : StoreTurn changes old new r
+-- a stop for one of these limits, or for the index, where it is asked: for a bad one nothing is ever refused then
+abbrev pub is_limit : Bool → Halt → Bool
+is_limit indexed halt.NumbersSpent = true
+is_limit indexed halt.GenerationSpent = true
+is_limit indexed halt.StoreFull = true
+is_limit indexed (halt.IndexFull told) = indexed
+is_limit indexed (halt.BadIndex unit) = indexed
+is_limit indexed others = false
+
+-- where it was done nothing refuses a change, and where a limit stopped it that one is the first
+abbrev pub StopsAt : Bool → Option Halt → Result Tally Halt → Type 0
+StopsAt indexed first (Ok tally) = first ≡ None
+StopsAt indexed first (Err h) = is_limit indexed h ≡ true → first ≡ Some h
+
+-- so of these changes; once all are made the store is that after them, up to room in memory, and the generation rose by each
+pub record LimitsTurn (indexed : Bool) (s : State) (old new : Store) (changes : List Change) (r : Result Tally Halt) : Type 0 where
+  pub first : StopsAt indexed (first_refusal indexed s old changes) r
+  pub stores : OnOk r (next_stores changes old ≡ Some (with_spare old.spare new))
   pub raised : OnOk r (new.generation ≡ old.generation + length changes)

@@ -13,9 +13,8 @@ ghost use Rattle.rpm_db.specs.Runs.{Runs};
 ghost use Rattle.rpm_db.specs.State.{state};
 ghost use Rattle.rpm_db.specs.inner.Writes.{SameLog};
 ghost use Rattle.rpm_change.specs.Adding.{change_at, put_read, put_file, adding, add_files, stop_in, IsOfPlacing, IsOfPutting};
-ghost use Rattle.rpm_change.specs.Endings.{outputs, Ended, IsCarried, IndexTurn, WholeTurn};
-ghost use Rattle.rpm_change.specs.Limits.{SpentTurn, StoreTurn, LimitsTurn};
-ghost use Rattle.rpm_change.specs.Numbers.{NumbersTurn};
+ghost use Rattle.rpm_change.specs.Endings.{outputs, Ended, IsCarried, WholeTurn};
+ghost use Rattle.rpm_change.specs.Limits.{LimitsTurn};
 ghost use Rattle.rpm_change.specs.Steps.{changing};
 
 use crate::faults::{put_absent, put_refused};
@@ -43,9 +42,8 @@ fn add_blob<D: Disk>(alloc: Global, db: &mut Db, disk: &mut D, blob: &[u8]) -> R
     ensures ended { IsTrue D.tells → (out_tells err_tells : Bool) (out err : List ℕ) → Ended (changing (Add blob.now))
         (state (D.files disk.old).pkg db.old.store) (state (D.files disk.new).pkg db.new.store) result
         (outputs out_tells out err_tells err) (outputs out_tells out err_tells err) }
-    ensures room { IsTrue D.tells → IsIndexed (D.files disk.old).pkg (D.files disk.old).idx db.old
-        → IndexTurn (state (D.files disk.old).pkg db.old.store) (Add blob.now ∷ []) result }
-    ensures limits { IsTrue D.tells → LimitsTurn (state (D.files disk.old).pkg db.old.store) db.old.store db.new.store (Add blob.now ∷ []) result }
+    ensures limits { IsTrue D.tells → (indexed : Bool) → (indexed ≡ true → IsIndexed (D.files disk.old).pkg (D.files disk.old).idx db.old)
+        → LimitsTurn indexed (state (D.files disk.old).pkg db.old.store) db.old.store db.new.store (Add blob.now ∷ []) result }
     ensures one { IfOk result (λ tally. tally.failed + tally.changes ≡ 1) }
     ensures whole { IsTrue D.tells → IsWholeIndex (D.files disk.old).idx → WholeTurn (D.files disk.new).idx result }
     ensures carried { IfOk result (λ _tally. IsCarried D.tells (D.files disk.old) (D.files disk.new) (D.left_since disk.new (D.moment disk.new))
@@ -80,9 +78,8 @@ fn replace_blob<D: Disk>(
     ensures ended { IsTrue D.tells → (out_tells err_tells : Bool) (out err : List ℕ) → Ended (changing (Put number blob.now))
         (state (D.files disk.old).pkg db.old.store) (state (D.files disk.new).pkg db.new.store) result
         (outputs out_tells out err_tells err) (outputs out_tells out err_tells err) }
-    ensures room { IsTrue D.tells → IsIndexed (D.files disk.old).pkg (D.files disk.old).idx db.old
-        → IndexTurn (state (D.files disk.old).pkg db.old.store) (Put number blob.now ∷ []) result }
-    ensures limits { IsTrue D.tells → LimitsTurn (state (D.files disk.old).pkg db.old.store) db.old.store db.new.store (Put number blob.now ∷ []) result }
+    ensures limits { IsTrue D.tells → (indexed : Bool) → (indexed ≡ true → IsIndexed (D.files disk.old).pkg (D.files disk.old).idx db.old)
+        → LimitsTurn indexed (state (D.files disk.old).pkg db.old.store) db.old.store db.new.store (Put number blob.now ∷ []) result }
     ensures one { IfOk result (λ tally. tally.failed + tally.changes ≡ 1) }
     ensures whole { IsTrue D.tells → IsWholeIndex (D.files disk.old).idx → WholeTurn (D.files disk.new).idx result }
     ensures carried { IfOk result (λ _tally. IsCarried D.tells (D.files disk.old) (D.files disk.new) (D.left_since disk.new (D.moment disk.new))
@@ -117,9 +114,8 @@ fn put_blob<D: Disk>(
     ensures ended { IsTrue D.tells → (out_tells err_tells : Bool) (out err : List ℕ) → Ended (changing (change_at number blob.now))
         (state (D.files disk.old).pkg db.old.store) (state (D.files disk.new).pkg db.new.store) result
         (outputs out_tells out err_tells err) (outputs out_tells out err_tells err) }
-    ensures room { IsTrue D.tells → IsIndexed (D.files disk.old).pkg (D.files disk.old).idx db.old
-        → IndexTurn (state (D.files disk.old).pkg db.old.store) (change_at number blob.now ∷ []) result }
-    ensures limits { IsTrue D.tells → LimitsTurn (state (D.files disk.old).pkg db.old.store) db.old.store db.new.store (change_at number blob.now ∷ []) result }
+    ensures limits { IsTrue D.tells → (indexed : Bool) → (indexed ≡ true → IsIndexed (D.files disk.old).pkg (D.files disk.old).idx db.old)
+        → LimitsTurn indexed (state (D.files disk.old).pkg db.old.store) db.old.store db.new.store (change_at number blob.now ∷ []) result }
     ensures one { IfOk result (λ tally. tally.failed + tally.changes ≡ 1) }
     ensures whole { IsTrue D.tells → IsWholeIndex (D.files disk.old).idx → WholeTurn (D.files disk.new).idx result }
     ensures carried { IfOk result (λ _tally. IsCarried D.tells (D.files disk.old) (D.files disk.new) (D.left_since disk.new (D.moment disk.new))
@@ -165,10 +161,9 @@ fn put_opened<D: Disk, S: Shelf, E: Sink + Drop>(
         → Ended (put_read how j path.now (left (S.rest shelf.old))) (state (D.files disk.old).pkg db.old.store)
         (state (D.files disk.new).pkg db.new.store) result
         (outputs out_tells out E.tells (E.taken (inner err.old))) (outputs out_tells out E.tells (E.taken (inner err.new))) }
-    ensures room { IsTrue D.tells → IsTrue S.tells → IsIndexed (D.files disk.old).pkg (D.files disk.old).idx db.old → (j : ℕ)
-        → IndexTurn (state (D.files disk.old).pkg db.old.store) (put_read how j path.now (left (S.rest shelf.old))).changes result }
     ensures limits { IsTrue D.tells → IsTrue S.tells → (j : ℕ)
-        → LimitsTurn (state (D.files disk.old).pkg db.old.store) db.old.store db.new.store (put_read how j path.now (left (S.rest shelf.old))).changes result }
+        → (indexed : Bool) → (indexed ≡ true → IsIndexed (D.files disk.old).pkg (D.files disk.old).idx db.old)
+        → LimitsTurn indexed (state (D.files disk.old).pkg db.old.store) db.old.store db.new.store (put_read how j path.now (left (S.rest shelf.old))).changes result }
     ensures one { IfOk result (λ tally. tally.failed + tally.changes ≡ 1) }
     ensures whole { IsTrue D.tells → IsWholeIndex (D.files disk.old).idx → WholeTurn (D.files disk.new).idx result }
     ensures carried { IfOk result (λ _tally. IsCarried D.tells (D.files disk.old) (D.files disk.new) (D.left_since disk.new (D.moment disk.new))
@@ -210,10 +205,9 @@ pub fn put_file<D: Disk, S: Shelf, E: Sink + Drop>(
         → Ended (put_file how (S.paths shelf.old) j path.now) (state (D.files disk.old).pkg db.old.store)
         (state (D.files disk.new).pkg db.new.store) result
         (outputs out_tells out E.tells (E.taken (inner err.old))) (outputs out_tells out E.tells (E.taken (inner err.new))) }
-    ensures room { IsTrue D.tells → IsTrue S.tells → IsIndexed (D.files disk.old).pkg (D.files disk.old).idx db.old → (j : ℕ)
-        → IndexTurn (state (D.files disk.old).pkg db.old.store) (put_file how (S.paths shelf.old) j path.now).changes result }
     ensures limits { IsTrue D.tells → IsTrue S.tells → (j : ℕ)
-        → LimitsTurn (state (D.files disk.old).pkg db.old.store) db.old.store db.new.store (put_file how (S.paths shelf.old) j path.now).changes result }
+        → (indexed : Bool) → (indexed ≡ true → IsIndexed (D.files disk.old).pkg (D.files disk.old).idx db.old)
+        → LimitsTurn indexed (state (D.files disk.old).pkg db.old.store) db.old.store db.new.store (put_file how (S.paths shelf.old) j path.now).changes result }
     ensures one { IfOk result (λ tally. tally.failed + tally.changes ≡ 1) }
     ensures whole { IsTrue D.tells → IsWholeIndex (D.files disk.old).idx → WholeTurn (D.files disk.new).idx result }
     ensures carried { IfOk result (λ _tally. IsCarried D.tells (D.files disk.old) (D.files disk.new) (D.left_since disk.new (D.moment disk.new))
@@ -269,20 +263,13 @@ pub fn add_files<D: Disk, S: Shelf, E: Sink + Drop>(
         → Ended (add_files (S.paths shelf.old) now (state (D.files disk.old).pkg db.old.store) (map (λ path. path.now) paths.now))
         (state (D.files disk.old).pkg db.old.store) (state (D.files disk.new).pkg db.new.store) result
         (outputs out_tells out E.tells (E.taken (inner err.old))) (outputs out_tells out E.tells (E.taken (inner err.new))) }
-    ensures room { IsTrue D.tells → IsTrue S.tells → IsIndexed (D.files disk.old).pkg (D.files disk.old).idx db.old
-        → IndexTurn (state (D.files disk.old).pkg db.old.store)
-        (add_files (S.paths shelf.old) now (state (D.files disk.old).pkg db.old.store) (map (λ path. path.now) paths.now)).changes result }
-    ensures numbers { IsTrue D.tells → IsTrue S.tells → NumbersTurn (state (D.files disk.old).pkg db.old.store)
-        (add_files (S.paths shelf.old) now (state (D.files disk.old).pkg db.old.store) (map (λ path. path.now) paths.now)).changes result }
     ensures whole { IsTrue D.tells → IsWholeIndex (D.files disk.old).idx → WholeTurn (D.files disk.new).idx result }
     ensures carried { IfOk result (λ _tally. IsCarried D.tells (D.files disk.old) (D.files disk.new) (D.left_since disk.new (D.moment disk.new))
         db.old db.new) }
     ensures indexed { is_indexed db.new ≡ true }
-    ensures generation { IsTrue D.tells → IsTrue S.tells → SpentTurn db.old.store.generation
+    ensures limits { IsTrue D.tells → IsTrue S.tells → (indexed : Bool) → (indexed ≡ true → IsIndexed (D.files disk.old).pkg (D.files disk.old).idx db.old)
+        → LimitsTurn indexed (state (D.files disk.old).pkg db.old.store) db.old.store db.new.store
         (add_files (S.paths shelf.old) now (state (D.files disk.old).pkg db.old.store) (map (λ path. path.now) paths.now)).changes result }
-    ensures store_room { IsTrue D.tells → IsTrue S.tells → StoreTurn
-        (add_files (S.paths shelf.old) now (state (D.files disk.old).pkg db.old.store) (map (λ path. path.now) paths.now)).changes db.old.store db.new.store
-        result }
     ensures kinds { IfErr result (IsOfPutting None) }
     ensures runs { Runs D.tells D.files D.left_since D.moment D.bytes_read D.follows SameLog disk.old disk.new }
     ensures paths { IsTrue S.tells → S.paths shelf.new ≡ S.paths shelf.old }

@@ -9,9 +9,9 @@ ghost use Rattle.rpm_db.specs.Lawful.{IsWholeIndex};
 ghost use Rattle.rpm_db.specs.Runs.{Runs};
 ghost use Rattle.rpm_db.specs.State.{state};
 ghost use Rattle.rpm_db.specs.inner.Writes.{SameLog};
-ghost use Rattle.rpm_change.specs.Endings.{outputs, Ended, IsCarried, IndexTurn, WholeTurn, IsOfErasing};
+ghost use Rattle.rpm_change.specs.Endings.{outputs, Ended, IsCarried, WholeTurn, IsOfErasing};
 ghost use Rattle.rpm_change.specs.Erasing.{erase_one, erase};
-ghost use Rattle.rpm_change.specs.Limits.{SpentTurn, StoreTurn, LimitsTurn};
+ghost use Rattle.rpm_change.specs.Limits.{LimitsTurn};
 
 use crate::lines::put_missing;
 use crate::tally::{Halt, Tally, halt_of};
@@ -35,15 +35,14 @@ fn erase_one<D: Disk, E: Sink + Drop>(
         → Ended (erase_one (state (D.files disk.old).pkg db.old.store) j number) (state (D.files disk.old).pkg db.old.store)
         (state (D.files disk.new).pkg db.new.store) result
         (outputs out_tells out E.tells (E.taken (inner err.old))) (outputs out_tells out E.tells (E.taken (inner err.new))) }
-    ensures room { IsTrue D.tells → IsIndexed (D.files disk.old).pkg (D.files disk.old).idx db.old → (j : ℕ)
-        → IndexTurn (state (D.files disk.old).pkg db.old.store) (erase_one (state (D.files disk.old).pkg db.old.store) j number).changes result }
     ensures one { IfOk result (λ tally. tally.failed + tally.changes ≡ 1) }
     ensures whole { IsTrue D.tells → IsWholeIndex (D.files disk.old).idx → WholeTurn (D.files disk.new).idx result }
     ensures carried { IfOk result (λ _tally. IsCarried D.tells (D.files disk.old) (D.files disk.new) (D.left_since disk.new (D.moment disk.new))
         db.old db.new) }
     ensures indexed { is_indexed db.new ≡ true }
     ensures limits { IsTrue D.tells → (j : ℕ)
-        → LimitsTurn (state (D.files disk.old).pkg db.old.store) db.old.store db.new.store
+        → (indexed : Bool) → (indexed ≡ true → IsIndexed (D.files disk.old).pkg (D.files disk.old).idx db.old)
+        → LimitsTurn indexed (state (D.files disk.old).pkg db.old.store) db.old.store db.new.store
         (erase_one (state (D.files disk.old).pkg db.old.store) j number).changes result }
     ensures kinds { IfErr result IsOfErasing }
     ensures runs { Runs D.tells D.files D.left_since D.moment D.bytes_read D.follows SameLog disk.old disk.new }
@@ -92,14 +91,13 @@ pub fn erase_numbers<D: Disk, E: Sink + Drop>(
         → Ended (erase (state (D.files disk.old).pkg db.old.store) numbers.now) (state (D.files disk.old).pkg db.old.store)
         (state (D.files disk.new).pkg db.new.store) result
         (outputs out_tells out E.tells (E.taken (inner err.old))) (outputs out_tells out E.tells (E.taken (inner err.new))) }
-    ensures room { IsTrue D.tells → IsIndexed (D.files disk.old).pkg (D.files disk.old).idx db.old
-        → IndexTurn (state (D.files disk.old).pkg db.old.store) (erase (state (D.files disk.old).pkg db.old.store) numbers.now).changes result }
     ensures whole { IsTrue D.tells → IsWholeIndex (D.files disk.old).idx → WholeTurn (D.files disk.new).idx result }
     ensures carried { IfOk result (λ _tally. IsCarried D.tells (D.files disk.old) (D.files disk.new) (D.left_since disk.new (D.moment disk.new))
         db.old db.new) }
     ensures indexed { is_indexed db.new ≡ true }
-    ensures generation { IsTrue D.tells → SpentTurn db.old.store.generation (erase (state (D.files disk.old).pkg db.old.store) numbers.now).changes result }
-    ensures store_room { IsTrue D.tells → StoreTurn (erase (state (D.files disk.old).pkg db.old.store) numbers.now).changes db.old.store db.new.store result }
+    ensures limits { IsTrue D.tells → (indexed : Bool) → (indexed ≡ true → IsIndexed (D.files disk.old).pkg (D.files disk.old).idx db.old)
+        → LimitsTurn indexed (state (D.files disk.old).pkg db.old.store) db.old.store db.new.store
+        (erase (state (D.files disk.old).pkg db.old.store) numbers.now).changes result }
     ensures kinds { IfErr result IsOfErasing }
     ensures runs { Runs D.tells D.files D.left_since D.moment D.bytes_read D.follows SameLog disk.old disk.new }
     ensures disk { HasCauseAt (result ≡ Err Halt.DiskFault) (D.faults disk.old) (D.faults disk.new) }

@@ -16,10 +16,9 @@ ghost use Rattle.rpm_db.specs.Runs.{Runs};
 ghost use Rattle.rpm_db.specs.State.{State, state};
 ghost use Rattle.rpm_pkgdb.specs.Store.{Store};
 ghost use Rattle.rpm_db.specs.inner.Writes.{SameLog};
-ghost use Rattle.rpm_change.specs.Endings.{outputs, Ended, IsCarried, IndexTurn, WholeTurn};
+ghost use Rattle.rpm_change.specs.Endings.{outputs, Ended, IsCarried, WholeTurn};
 ghost use Rattle.rpm_change.specs.Importing.{place_fails, imported, import_listed, import_list, listed, max_headers};
-ghost use Rattle.rpm_change.specs.Limits.{SpentTurn, StoreTurn, LimitsTurn};
-ghost use Rattle.rpm_change.specs.Numbers.{NumbersTurn};
+ghost use Rattle.rpm_change.specs.Limits.{LimitsTurn};
 ghost use Rattle.rpm_change.specs.Turns.{turn, turn_found, Leaves, StopIs, tally_of, counted_once, IsOfHeaders, IsOfEnding, IsOfImporting};
 
 use crate::lines::put_failing;
@@ -81,15 +80,14 @@ fn import_header<D: Disk, E: Sink + Drop>(
     ensures ended { IsTrue D.tells → (out_tells : Bool) (out : List ℕ)
         → Ended (imported place (header blob.now)) (state (D.files disk.old).pkg db.old.store) (state (D.files disk.new).pkg db.new.store) result
         (outputs out_tells out E.tells (E.taken (inner err.old))) (outputs out_tells out E.tells (E.taken (inner err.new))) }
-    ensures room { IsTrue D.tells → IsIndexed (D.files disk.old).pkg (D.files disk.old).idx db.old
-        → IndexTurn (state (D.files disk.old).pkg db.old.store) (imported place (header blob.now)).changes result }
     ensures one { IfOk result (λ tally. tally.failed + tally.changes ≡ 1) }
     ensures whole { IsTrue D.tells → IsWholeIndex (D.files disk.old).idx → WholeTurn (D.files disk.new).idx result }
     ensures carried { IfOk result (λ _tally. IsCarried D.tells (D.files disk.old) (D.files disk.new) (D.left_since disk.new (D.moment disk.new))
         db.old db.new) }
     ensures indexed { is_indexed db.new ≡ true }
     ensures limits { IsTrue D.tells
-        → LimitsTurn (state (D.files disk.old).pkg db.old.store) db.old.store db.new.store (imported place (header blob.now)).changes result }
+        → (indexed : Bool) → (indexed ≡ true → IsIndexed (D.files disk.old).pkg (D.files disk.old).idx db.old)
+        → LimitsTurn indexed (state (D.files disk.old).pkg db.old.store) db.old.store db.new.store (imported place (header blob.now)).changes result }
     ensures kinds { IfErr result IsOfHeaders }
     ensures runs { Runs D.tells D.files D.left_since D.moment D.bytes_read D.follows SameLog disk.old disk.new }
     ensures disk { HasCauseAt (result ≡ Err Halt.DiskFault) (D.faults disk.old) (D.faults disk.new) }
@@ -124,15 +122,14 @@ fn import_within<D: Disk, E: Sink + Drop>(
         → Ended (turn_found most place blob.now) (state (D.files disk.old).pkg db.old.store)
         (state (D.files disk.new).pkg db.new.store) result
         (outputs out_tells out E.tells (E.taken (inner err.old))) (outputs out_tells out E.tells (E.taken (inner err.new))) }
-    ensures room { IsTrue D.tells → IsIndexed (D.files disk.old).pkg (D.files disk.old).idx db.old
-        → IndexTurn (state (D.files disk.old).pkg db.old.store) (turn_found most place blob.now).changes result }
     ensures one { IfOk result (λ tally. tally.failed + tally.changes ≡ 1) }
     ensures whole { IsTrue D.tells → IsWholeIndex (D.files disk.old).idx → WholeTurn (D.files disk.new).idx result }
     ensures carried { IfOk result (λ _tally. IsCarried D.tells (D.files disk.old) (D.files disk.new) (D.left_since disk.new (D.moment disk.new))
         db.old db.new) }
     ensures indexed { is_indexed db.new ≡ true }
     ensures limits { IsTrue D.tells
-        → LimitsTurn (state (D.files disk.old).pkg db.old.store) db.old.store db.new.store (turn_found most place blob.now).changes result }
+        → (indexed : Bool) → (indexed ≡ true → IsIndexed (D.files disk.old).pkg (D.files disk.old).idx db.old)
+        → LimitsTurn indexed (state (D.files disk.old).pkg db.old.store) db.old.store db.new.store (turn_found most place blob.now).changes result }
     ensures kinds { IfErr result IsOfHeaders }
     ensures runs { Runs D.tells D.files D.left_since D.moment D.bytes_read D.follows SameLog disk.old disk.new }
     ensures disk { HasCauseAt (result ≡ Err Halt.DiskFault) (D.faults disk.old) (D.faults disk.new) }
@@ -157,10 +154,8 @@ fn end_list<E: Sink + Drop>(
     ensures ended { (most : ℕ) (head : Result (Option Found) ListFault) → IsListFault head fault → (s : State) (out_tells : Bool) (out : List ℕ)
         → Ended (turn most place head) s s result
         (outputs out_tells out E.tells (E.taken (inner err.old))) (outputs out_tells out E.tells (E.taken (inner err.new))) }
-    ensures room { (most : ℕ) (head : Result (Option Found) ListFault) → IsListFault head fault → (s : State)
-        → IndexTurn s (turn most place head).changes result }
-    ensures limits { (most : ℕ) (head : Result (Option Found) ListFault) → IsListFault head fault → (s : State) (store : Store)
-        → LimitsTurn s store store (turn most place head).changes result }
+    ensures limits { (most : ℕ) (head : Result (Option Found) ListFault) → IsListFault head fault → (s : State) (store : Store) (indexed : Bool)
+        → LimitsTurn indexed s store store (turn most place head).changes result }
     ensures leaves { OnOk result ((most : ℕ) (head : Result (Option Found) ListFault) → IsListFault head fault → (bytes : List ℕ)
         → Leaves most place head true bytes) }
     ensures one { IfOk result (λ tally. tally.failed + tally.changes ≤ 1) }
@@ -194,8 +189,6 @@ fn import_next<D: Disk, S: Shelf, E: Sink + Drop>(
         → Ended (turn most place (list_head (left (S.rest shelf.old)))) (state (D.files disk.old).pkg db.old.store)
         (state (D.files disk.new).pkg db.new.store) (tally_of result)
         (outputs out_tells out E.tells (E.taken (inner err.old))) (outputs out_tells out E.tells (E.taken (inner err.new))) }
-    ensures room { IsTrue D.tells → IsTrue S.tells → IsIndexed (D.files disk.old).pkg (D.files disk.old).idx db.old
-        → IndexTurn (state (D.files disk.old).pkg db.old.store) (turn most place (list_head (left (S.rest shelf.old)))).changes (tally_of result) }
     ensures leaves { IfOk result (λ done. IsTrue S.tells → Leaves most place (list_head (left (S.rest shelf.old))) done.is_last (left (S.rest shelf.new))) }
     ensures last { IfOk result (λ done. most < place → done.is_last ≡ true) }
     ensures one { IfOk result (λ done. done.tally.failed + done.tally.changes ≤ 1) }
@@ -203,7 +196,8 @@ fn import_next<D: Disk, S: Shelf, E: Sink + Drop>(
     ensures carried { IfOk result (λ _done. IsCarried D.tells (D.files disk.old) (D.files disk.new) (D.left_since disk.new (D.moment disk.new)) db.old db.new) }
     ensures indexed { is_indexed db.new ≡ true }
     ensures limits { IsTrue D.tells → IsTrue S.tells
-        → LimitsTurn (state (D.files disk.old).pkg db.old.store) db.old.store db.new.store
+        → (indexed : Bool) → (indexed ≡ true → IsIndexed (D.files disk.old).pkg (D.files disk.old).idx db.old)
+        → LimitsTurn indexed (state (D.files disk.old).pkg db.old.store) db.old.store db.new.store
         (turn most place (list_head (left (S.rest shelf.old)))).changes (tally_of result) }
     ensures kinds { IfErr result IsOfImporting }
     ensures runs { Runs D.tells D.files D.left_since D.moment D.bytes_read D.follows SameLog disk.old disk.new }
@@ -247,14 +241,13 @@ fn import_open<D: Disk, S: Shelf, E: Sink + Drop>(
         → Ended (import_listed most (listed (left (S.rest shelf.old)))) (state (D.files disk.old).pkg db.old.store)
         (state (D.files disk.new).pkg db.new.store) result
         (outputs out_tells out E.tells (E.taken (inner err.old))) (outputs out_tells out E.tells (E.taken (inner err.new))) }
-    ensures room { IsTrue D.tells → IsTrue S.tells → IsIndexed (D.files disk.old).pkg (D.files disk.old).idx db.old
-        → IndexTurn (state (D.files disk.old).pkg db.old.store) (import_listed most (listed (left (S.rest shelf.old)))).changes result }
     ensures whole { IsTrue D.tells → IsWholeIndex (D.files disk.old).idx → WholeTurn (D.files disk.new).idx result }
     ensures carried { IfOk result (λ _tally. IsCarried D.tells (D.files disk.old) (D.files disk.new) (D.left_since disk.new (D.moment disk.new))
         db.old db.new) }
     ensures indexed { is_indexed db.new ≡ true }
     ensures limits { IsTrue D.tells → IsTrue S.tells
-        → LimitsTurn (state (D.files disk.old).pkg db.old.store) db.old.store db.new.store
+        → (indexed : Bool) → (indexed ≡ true → IsIndexed (D.files disk.old).pkg (D.files disk.old).idx db.old)
+        → LimitsTurn indexed (state (D.files disk.old).pkg db.old.store) db.old.store db.new.store
         (import_listed most (listed (left (S.rest shelf.old)))).changes result }
     ensures kinds { IfErr result IsOfImporting }
     ensures runs { Runs D.tells D.files D.left_since D.moment D.bytes_read D.follows SameLog disk.old disk.new }
@@ -314,14 +307,13 @@ pub(crate) fn import_most<D: Disk, S: Shelf, E: Sink + Drop>(
         → Ended (import_list most (bytes_at (S.paths shelf.old) (codes "-"))) (state (D.files disk.old).pkg db.old.store)
         (state (D.files disk.new).pkg db.new.store) result
         (outputs out_tells out E.tells (E.taken (inner err.old))) (outputs out_tells out E.tells (E.taken (inner err.new))) }
-    ensures room { IsTrue D.tells → IsTrue S.tells → IsIndexed (D.files disk.old).pkg (D.files disk.old).idx db.old
-        → IndexTurn (state (D.files disk.old).pkg db.old.store) (import_list most (bytes_at (S.paths shelf.old) (codes "-"))).changes result }
     ensures whole { IsTrue D.tells → IsWholeIndex (D.files disk.old).idx → WholeTurn (D.files disk.new).idx result }
     ensures carried { IfOk result (λ _tally. IsCarried D.tells (D.files disk.old) (D.files disk.new) (D.left_since disk.new (D.moment disk.new))
         db.old db.new) }
     ensures indexed { is_indexed db.new ≡ true }
     ensures limits { IsTrue D.tells → IsTrue S.tells
-        → LimitsTurn (state (D.files disk.old).pkg db.old.store) db.old.store db.new.store
+        → (indexed : Bool) → (indexed ≡ true → IsIndexed (D.files disk.old).pkg (D.files disk.old).idx db.old)
+        → LimitsTurn indexed (state (D.files disk.old).pkg db.old.store) db.old.store db.new.store
         (import_list most (bytes_at (S.paths shelf.old) (codes "-"))).changes result }
     ensures kinds { IfErr result IsOfImporting }
     ensures runs { Runs D.tells D.files D.left_since D.moment D.bytes_read D.follows SameLog disk.old disk.new }
@@ -370,18 +362,13 @@ pub fn import_list<D: Disk, S: Shelf, E: Sink + Drop>(
         → Ended (import_list max_headers (bytes_at (S.paths shelf.old) (codes "-"))) (state (D.files disk.old).pkg db.old.store)
         (state (D.files disk.new).pkg db.new.store) result
         (outputs out_tells out E.tells (E.taken (inner err.old))) (outputs out_tells out E.tells (E.taken (inner err.new))) }
-    ensures room { IsTrue D.tells → IsTrue S.tells → IsIndexed (D.files disk.old).pkg (D.files disk.old).idx db.old
-        → IndexTurn (state (D.files disk.old).pkg db.old.store) (import_list max_headers (bytes_at (S.paths shelf.old) (codes "-"))).changes result }
     ensures whole { IsTrue D.tells → IsWholeIndex (D.files disk.old).idx → WholeTurn (D.files disk.new).idx result }
     ensures carried { IfOk result (λ _tally. IsCarried D.tells (D.files disk.old) (D.files disk.new) (D.left_since disk.new (D.moment disk.new))
         db.old db.new) }
     ensures indexed { is_indexed db.new ≡ true }
-    ensures numbers { IsTrue D.tells → IsTrue S.tells → NumbersTurn (state (D.files disk.old).pkg db.old.store)
+    ensures limits { IsTrue D.tells → IsTrue S.tells → (indexed : Bool) → (indexed ≡ true → IsIndexed (D.files disk.old).pkg (D.files disk.old).idx db.old)
+        → LimitsTurn indexed (state (D.files disk.old).pkg db.old.store) db.old.store db.new.store
         (import_list max_headers (bytes_at (S.paths shelf.old) (codes "-"))).changes result }
-    ensures generation { IsTrue D.tells → IsTrue S.tells → SpentTurn db.old.store.generation
-        (import_list max_headers (bytes_at (S.paths shelf.old) (codes "-"))).changes result }
-    ensures store_room { IsTrue D.tells → IsTrue S.tells → StoreTurn
-        (import_list max_headers (bytes_at (S.paths shelf.old) (codes "-"))).changes db.old.store db.new.store result }
     ensures kinds { IfErr result IsOfImporting }
     ensures runs { Runs D.tells D.files D.left_since D.moment D.bytes_read D.follows SameLog disk.old disk.new }
     ensures paths { IsTrue S.tells → S.paths shelf.new ≡ S.paths shelf.old }

@@ -1,18 +1,19 @@
 //! Making the index anew, and dropping the packages that can't be read.
 
-ghost use Rattle.std.specs.Prelude.{◌≡◌, ℕ, ◌+◌, ◌≤◌, Bool, List, [], ◌∷◌, true, false, IsTrue, Some, Err, IfOk, IfErr};
+ghost use Rattle.std.specs.Prelude.{◌≡◌, ℕ, ◌+◌, ◌≤◌, Bool, List, [], ◌∷◌, true, false, IsTrue, Some, Err, IfOk, IfErr, OnOk};
 ghost use Rattle.std.specs.FinMap as finite;
 ghost use Rattle.rpm_outside.specs.Buffered.{inner, holds, HandsOn};
 ghost use Rattle.rpm_outside.specs.Causes.{HasCauseAt};
+ghost use Rattle.rpm_pkgdb.specs.Written.{with_spare};
 ghost use Rattle.rpm_db.specs.Changes.{Erase, apply, IsServing};
 ghost use Rattle.rpm_db.specs.Database as database;
 ghost use Rattle.rpm_db.specs.Database.{IsIndexed, is_indexed};
 ghost use Rattle.rpm_db.specs.Runs.{Runs};
 ghost use Rattle.rpm_db.specs.State.{State, Package, Bad, state};
 ghost use Rattle.rpm_db.specs.inner.Writes.{SameLog};
-ghost use Rattle.rpm_change.specs.Endings.{outputs, Ended, IsCarried, IndexTurn};
-ghost use Rattle.rpm_change.specs.Limits.{SpentTurn, StoreTurn, LimitsTurn};
-ghost use Rattle.rpm_change.specs.Rebuilding.{dropped_line, dropped, rebuild, RebuildTurn, IsOfRebuilding};
+ghost use Rattle.rpm_change.specs.Endings.{outputs, Ended, IsCarried};
+ghost use Rattle.rpm_change.specs.Limits.{first_limit, next_stores, StopsAt, LimitsTurn};
+ghost use Rattle.rpm_change.specs.Rebuilding.{dropped_line, dropped, rebuild, IsOfRebuilding};
 
 use crate::tally::{Halt, Tally, halt_of};
 use itoa::Buffer;
@@ -73,14 +74,13 @@ fn drop_bad<D: Disk, O: Sink + Drop>(
     ensures ended { IsTrue D.tells → (err_tells : Bool) (err : List ℕ)
         → Ended (dropped number Bad) (state (D.files disk.old).pkg db.old.store) (state (D.files disk.new).pkg db.new.store) result
         (outputs O.tells (O.taken (inner out.old)) err_tells err) (outputs O.tells (O.taken (inner out.new)) err_tells err) }
-    ensures room { IsTrue D.tells → IsIndexed (D.files disk.old).pkg (D.files disk.old).idx db.old
-        → IndexTurn (state (D.files disk.old).pkg db.old.store) (dropped number Bad).changes result }
     ensures one { IfOk result (λ tally. tally ≡ record { failed = 0; changes = 1 }) }
     ensures carried { IfOk result (λ _tally. IsCarried D.tells (D.files disk.old) (D.files disk.new) (D.left_since disk.new (D.moment disk.new))
         db.old db.new) }
     ensures indexed { is_indexed db.new ≡ true }
     ensures limits { IsTrue D.tells
-        → LimitsTurn (state (D.files disk.old).pkg db.old.store) db.old.store db.new.store (dropped number Bad).changes result }
+        → (indexed : Bool) → (indexed ≡ true → IsIndexed (D.files disk.old).pkg (D.files disk.old).idx db.old)
+        → LimitsTurn indexed (state (D.files disk.old).pkg db.old.store) db.old.store db.new.store (dropped number Bad).changes result }
     ensures kinds { IfErr result IsOfRebuilding }
     ensures runs { Runs D.tells D.files D.left_since D.moment D.bytes_read D.follows SameLog disk.old disk.new }
     ensures disk { HasCauseAt (result ≡ Err Halt.DiskFault) (D.faults disk.old) (D.faults disk.new) }
@@ -113,15 +113,13 @@ fn drop_one<D: Disk, O: Sink + Drop>(
         → (err_tells : Bool) (err : List ℕ)
         → Ended (dropped number p) (state (D.files disk.old).pkg db.old.store) (state (D.files disk.new).pkg db.new.store) result
         (outputs O.tells (O.taken (inner out.old)) err_tells err) (outputs O.tells (O.taken (inner out.new)) err_tells err) }
-    ensures room { IsTrue D.tells → IsIndexed (D.files disk.old).pkg (D.files disk.old).idx db.old → (p : Package)
-        → finite.get (state (D.files disk.old).pkg db.old.store).packages number ≡ Some p
-        → IndexTurn (state (D.files disk.old).pkg db.old.store) (dropped number p).changes result }
     ensures one { IfOk result (λ tally. tally.failed + tally.changes ≤ 1) }
     ensures carried { IfOk result (λ _tally. IsCarried D.tells (D.files disk.old) (D.files disk.new) (D.left_since disk.new (D.moment disk.new))
         db.old db.new) }
     ensures indexed { is_indexed db.new ≡ true }
     ensures limits { IsTrue D.tells → (p : Package) → finite.get (state (D.files disk.old).pkg db.old.store).packages number ≡ Some p
-        → LimitsTurn (state (D.files disk.old).pkg db.old.store) db.old.store db.new.store (dropped number p).changes result }
+        → (indexed : Bool) → (indexed ≡ true → IsIndexed (D.files disk.old).pkg (D.files disk.old).idx db.old)
+        → LimitsTurn indexed (state (D.files disk.old).pkg db.old.store) db.old.store db.new.store (dropped number p).changes result }
     ensures kinds { IfErr result IsOfRebuilding }
     ensures runs { Runs D.tells D.files D.left_since D.moment D.bytes_read D.follows SameLog disk.old disk.new }
     ensures disk { HasCauseAt (result ≡ Err Halt.DiskFault) (D.faults disk.old) (D.faults disk.new) }
@@ -155,13 +153,12 @@ fn drop_each<D: Disk, O: Sink + Drop>(
         → Ended (rebuild (state (D.files disk.old).pkg db.old.store)) (state (D.files disk.old).pkg db.old.store)
         (state (D.files disk.new).pkg db.new.store) result
         (outputs O.tells (O.taken (inner out.old)) err_tells err) (outputs O.tells (O.taken (inner out.new)) err_tells err) }
-    ensures room { IsTrue D.tells → IsIndexed (D.files disk.old).pkg (D.files disk.old).idx db.old
-        → IndexTurn (state (D.files disk.old).pkg db.old.store) (rebuild (state (D.files disk.old).pkg db.old.store)).changes result }
     ensures carried { IfOk result (λ _tally. IsCarried D.tells (D.files disk.old) (D.files disk.new) (D.left_since disk.new (D.moment disk.new))
         db.old db.new) }
     ensures indexed { is_indexed db.new ≡ true }
     ensures limits { IsTrue D.tells
-        → LimitsTurn (state (D.files disk.old).pkg db.old.store) db.old.store db.new.store
+        → (indexed : Bool) → (indexed ≡ true → IsIndexed (D.files disk.old).pkg (D.files disk.old).idx db.old)
+        → LimitsTurn indexed (state (D.files disk.old).pkg db.old.store) db.old.store db.new.store
         (rebuild (state (D.files disk.old).pkg db.old.store)).changes result }
     ensures kinds { IfErr result IsOfRebuilding }
     ensures runs { Runs D.tells D.files D.left_since D.moment D.bytes_read D.follows SameLog disk.old disk.new }
@@ -213,14 +210,14 @@ pub fn rebuild<D: Disk, O: Sink + Drop>(
         → Ended (rebuild (state (D.files disk.old).pkg db.old.store)) (state (D.files disk.old).pkg db.old.store)
         (state (D.files disk.new).pkg db.new.store) result
         (outputs O.tells (O.taken (inner out.old)) err_tells err) (outputs O.tells (O.taken (inner out.new)) err_tells err) }
-    ensures room { IsTrue D.tells
-        → RebuildTurn (state (D.files disk.old).pkg db.old.store) (rebuild (state (D.files disk.old).pkg db.old.store)).changes result }
+    ensures limits { IsTrue D.tells → StopsAt true (first_limit true (state (D.files disk.old).pkg db.old.store) db.old.store
+        (rebuild (state (D.files disk.old).pkg db.old.store)).changes) result }
     ensures going { IfOk result (λ _tally. db.new.stopped ≡ false) }
     ensures serving { IfOk result (λ _tally. IsTrue D.tells → IsServing (D.files disk.new) (D.left_since disk.new (D.moment disk.new)) db.new) }
     ensures index { IfOk result (λ _tally. IsTrue D.tells → IsIndexed (D.files disk.new).pkg (D.files disk.new).idx db.new) }
     ensures indexed { is_indexed db.new ≡ true }
-    ensures generation { IsTrue D.tells → SpentTurn db.old.store.generation (rebuild (state (D.files disk.old).pkg db.old.store)).changes result }
-    ensures store_room { IsTrue D.tells → StoreTurn (rebuild (state (D.files disk.old).pkg db.old.store)).changes db.old.store db.new.store result }
+    ensures stores { OnOk result (IsTrue D.tells → next_stores (rebuild (state (D.files disk.old).pkg db.old.store)).changes db.old.store
+        ≡ Some (with_spare db.old.store.spare db.new.store)) }
     ensures kinds { IfErr result IsOfRebuilding }
     ensures runs { Runs D.tells D.files D.left_since D.moment D.bytes_read D.follows SameLog disk.old disk.new }
     ensures disk { HasCauseAt (result ≡ Err Halt.DiskFault) (D.faults disk.old) (D.faults disk.new) }

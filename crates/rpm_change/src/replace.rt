@@ -10,8 +10,8 @@ ghost use Rattle.rpm_db.specs.Runs.{Runs};
 ghost use Rattle.rpm_db.specs.State.{state};
 ghost use Rattle.rpm_db.specs.inner.Writes.{SameLog};
 ghost use Rattle.rpm_change.specs.Adding.{replace, IsOfPutting};
-ghost use Rattle.rpm_change.specs.Endings.{outputs, Ended, IsCarried, IndexTurn, WholeTurn};
-ghost use Rattle.rpm_change.specs.Limits.{SpentTurn, StoreTurn};
+ghost use Rattle.rpm_change.specs.Endings.{outputs, Ended, IsCarried, WholeTurn};
+ghost use Rattle.rpm_change.specs.Limits.{LimitsTurn};
 
 use crate::add::{Placing, put_file};
 use crate::lines::put_missing;
@@ -53,18 +53,14 @@ pub fn replace_package<D: Disk, S: Shelf, E: Sink + Drop>(
         → Ended (replace (S.paths shelf.old) now (state (D.files disk.old).pkg db.old.store) number path.now)
         (state (D.files disk.old).pkg db.old.store) (state (D.files disk.new).pkg db.new.store) result
         (outputs out_tells out E.tells (E.taken (inner err.old))) (outputs out_tells out E.tells (E.taken (inner err.new))) }
-    ensures room { IsTrue D.tells → IsTrue S.tells → IsIndexed (D.files disk.old).pkg (D.files disk.old).idx db.old
-        → IndexTurn (state (D.files disk.old).pkg db.old.store)
-        (replace (S.paths shelf.old) now (state (D.files disk.old).pkg db.old.store) number path.now).changes result }
     ensures one { IfOk result (λ tally. tally.failed + tally.changes ≡ 1) }
     ensures whole { IsTrue D.tells → IsWholeIndex (D.files disk.old).idx → WholeTurn (D.files disk.new).idx result }
     ensures carried { IfOk result (λ _tally. IsCarried D.tells (D.files disk.old) (D.files disk.new) (D.left_since disk.new (D.moment disk.new))
         db.old db.new) }
     ensures indexed { is_indexed db.new ≡ true }
-    ensures generation { IsTrue D.tells → IsTrue S.tells → SpentTurn db.old.store.generation
+    ensures limits { IsTrue D.tells → IsTrue S.tells → (indexed : Bool) → (indexed ≡ true → IsIndexed (D.files disk.old).pkg (D.files disk.old).idx db.old)
+        → LimitsTurn indexed (state (D.files disk.old).pkg db.old.store) db.old.store db.new.store
         (replace (S.paths shelf.old) now (state (D.files disk.old).pkg db.old.store) number path.now).changes result }
-    ensures store_room { IsTrue D.tells → IsTrue S.tells → StoreTurn
-        (replace (S.paths shelf.old) now (state (D.files disk.old).pkg db.old.store) number path.now).changes db.old.store db.new.store result }
     ensures kinds { IfErr result (IsOfPutting (Some number)) }
     ensures runs { Runs D.tells D.files D.left_since D.moment D.bytes_read D.follows SameLog disk.old disk.new }
     ensures untried { holds number db.old ≡ false → shelf.new ≡ shelf.old }

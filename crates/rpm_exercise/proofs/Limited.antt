@@ -1,5 +1,5 @@
 -- The numbers, generations and places that the changes of the exercise take, one change after the other.
-use Rattle.std.proofs.Common.{◌≡◌, ℕ, ◌-◌, List, [], ◌++◌, Ok, Err, refl, sym, ap, ◌∙◌, subst, append_assoc}
+use Rattle.std.proofs.Common.{◌≡◌, Bool, true, ℕ, ◌-◌, List, [], ◌++◌, Ok, Err, refl, sym, ap, ◌∙◌, subst, append_assoc}
 use Rattle.std.proofs.lemmas.List.{append-nil}
 use Rattle.rpm_pkgdb.specs.Store.{Store}
 use Rattle.rpm_db.specs.Changes.{Change, next}
@@ -10,8 +10,9 @@ use Rattle.rpm_change.specs.declared.tally.Halt.TheVariants as halt
 use Rattle.rpm_change.specs.Limits.{LimitsTurn}
 use Rattle.rpm_change.specs.Steps.{apply_all}
 use Rattle.rpm_change.specs.inner.LimitLaws.{limits_none, limits_more, limits_stop, limits_counted}
+use Rattle.rpm_change.specs.inner.Single.{other_stop}
 use Rattle.rpm_exercise.specs.declared.rounds.Round.TheVariants as round
-use Rattle.rpm_exercise.specs.Endings.{IsOfReading, IsOfTelling}
+use Rattle.rpm_exercise.specs.Endings.{IsOfReading, IsOfTelling, IsUnbroken}
 use Rattle.rpm_exercise.specs.Rounds.{round_changes, changes}
 use Rattle.rpm_exercise.proofs.Halts.{reading_cases, telling_cases}
 use Rattle.rpm_exercise.proofs.Parts.{apply_all-append, all_is}
@@ -20,58 +21,59 @@ abbrev uncounted : Tally
 uncounted = record { failed = 0; changes = 0 }
 
 -- the first of several changes were made, and each had a number, a generation and a place
-pub record Limited (all left : List Change) (s t : State) (v w : Store) : Type 0 where
+pub record Limited (i : Bool) (all left : List Change) (s t : State) (v w : Store) : Type 0 where
   pub done : List Change
   pub whole : all ≡ done ++ left
   pub state_is : t ≡ apply_all done s
-  pub within : LimitsTurn s v w done (Ok uncounted)
+  pub within : LimitsTurn i s v w done (Ok uncounted)
 
-pub limited_start : (all left : List Change) (s : State) (v : Store) → all ≡ left → Limited all left s s v v
-limited_start all left s v is = record { done = []; whole = is; state_is = refl; within = limits_none s v uncounted }
+pub limited_start : (i : Bool) (all left : List Change) (s : State) (v : Store) → all ≡ left → Limited i all left s s v v
+limited_start i all left s v is = record { done = []; whole = is; state_is = refl; within = limits_none i s v uncounted }
 
-module _ (all left turn rest : List Change) (s t : State) (v w x : Store) (is : left ≡ turn ++ rest) (g : Limited all left s t v w) where
+module _ (i : Bool) (all left turn rest : List Change) (s t : State) (v w x : Store) (is : left ≡ turn ++ rest) (g : Limited i all left s t v w) where
   split : all ≡ g.done ++ (turn ++ rest)
   split = g.whole ∙ ap (λ (l : List Change). g.done ++ l) is
 
-  pub limited_more : (u : State) (tally : Tally) → u ≡ apply_all turn t → LimitsTurn t w x turn (Ok tally) → Limited all rest s u v x
+  pub limited_more : (u : State) (tally : Tally) → u ≡ apply_all turn t → LimitsTurn i t w x turn (Ok tally) → Limited i all rest s u v x
   limited_more u tally after turned = record {
     done = g.done ++ turn;
     whole = split ∙ sym (append_assoc g.done turn rest);
     state_is = after ∙ ap (apply_all turn) g.state_is ∙ sym (apply_all-append g.done turn s);
-    within = limits_more g.done turn s t v w x uncounted g.state_is g.within tally uncounted turned;
+    within = limits_more i g.done turn s t v w x uncounted g.state_is g.within tally uncounted turned;
   }
 
   -- the next ones were stopped
-  pub limited_stop : (h : Halt) → LimitsTurn t w x turn (Err h) → LimitsTurn s v x all (Err h)
-  limited_stop h turned = subst (λ (l : List Change). LimitsTurn s v x l (Err h)) (sym split)
-      (limits_stop g.done turn s t v w x uncounted g.state_is g.within rest h turned)
+  pub limited_stop : (h : Halt) → LimitsTurn i t w x turn (Err h) → LimitsTurn i s v x all (Err h)
+  limited_stop h turned = subst (λ (l : List Change). LimitsTurn i s v x l (Err h)) (sym split)
+      (limits_stop i g.done turn s t v w x uncounted g.state_is g.within rest h turned)
 
 -- nothing is left
-pub limited_end : (all left : List Change) (s t : State) (v w : Store) (tally : Tally) → left ≡ [] → Limited all left s t v w
-    → LimitsTurn s v w all (Ok tally)
-limited_end all left s t v w tally none g =
-    subst (λ (l : List Change). LimitsTurn s v w l (Ok tally)) (sym (g.whole ∙ ap (λ (l : List Change). g.done ++ l) none ∙ append-nil g.done))
-    (limits_counted s v w g.done uncounted tally g.within)
+pub limited_end : (i : Bool) (all left : List Change) (s t : State) (v w : Store) (tally : Tally) → left ≡ [] → Limited i all left s t v w
+    → LimitsTurn i s v w all (Ok tally)
+limited_end i all left s t v w tally none g =
+    subst (λ (l : List Change). LimitsTurn i s v w l (Ok tally)) (sym (g.whole ∙ ap (λ (l : List Change). g.done ++ l) none ∙ append-nil g.done))
+    (limits_counted i s v w g.done uncounted tally g.within)
 
 -- ---- stops that no limit is the cause of
 
-pub memory_limits : (s : State) (v w : Store) (changes : List Change) → LimitsTurn s v w changes (Err halt.NoMemory)
-memory_limits s v w changes = record { numbers = tt; generation = tt; store_room = tt; raised = tt }
+pub memory_limits : (i : Bool) (s : State) (v w : Store) (changes : List Change) → LimitsTurn i s v w changes (Err halt.NoMemory)
+memory_limits i s v w changes = other_stop i s v w changes halt.NoMemory refl
 
-pub reading_limits : (s : State) (v w : Store) (changes : List Change) (h : Halt) → IsOfReading h → LimitsTurn s v w changes (Err h)
-reading_limits s v w changes =
-    reading_cases (λ (h : Halt). LimitsTurn s v w changes (Err h)) (record { numbers = tt; generation = tt; store_room = tt; raised = tt })
-    (memory_limits s v w changes)
+pub reading_limits : (i : Bool) (s : State) (v w : Store) (changes : List Change) (h : Halt) → IsOfReading h → LimitsTurn i s v w changes (Err h)
+reading_limits i s v w changes =
+    reading_cases (λ (h : Halt). LimitsTurn i s v w changes (Err h)) (other_stop i s v w changes halt.DiskFault refl) (memory_limits i s v w changes)
 
-pub telling_limits : (s : State) (v w : Store) (changes : List Change) (h : Halt) → IsOfTelling h → LimitsTurn s v w changes (Err h)
-telling_limits s v w changes =
-    telling_cases (λ (h : Halt). LimitsTurn s v w changes (Err h)) (λ unit. record { numbers = tt; generation = tt; store_room = tt; raised = tt })
-    (record { numbers = tt; generation = tt; store_room = tt; raised = tt }) (record { numbers = tt; generation = tt; store_room = tt; raised = tt })
-    (memory_limits s v w changes)
+pub telling_limits : (i : Bool) (s : State) (v w : Store) (changes : List Change) (h : Halt) → IsOfTelling h → (i ≡ true → IsUnbroken h)
+    → LimitsTurn i s v w changes (Err h)
+telling_limits i s v w changes =
+    telling_cases (λ (h : Halt). (i ≡ true → IsUnbroken h) → LimitsTurn i s v w changes (Err h))
+    (λ unit unbroken. record { first = λ limit. absurd (unbroken limit); stores = tt; raised = tt })
+    (λ unbroken. other_stop i s v w changes halt.DiskFault refl) (λ unbroken. other_stop i s v w changes halt.OutFault refl)
+    (λ unbroken. memory_limits i s v w changes)
 
 -- ---- the three rounds
 
-module _ (n b : ℕ) (s : State) (v : Store) (is : b ≡ next s - 1) where
+module _ (i : Bool) (n b : ℕ) (s : State) (v : Store) (is : b ≡ next s - 1) where
   abbrev A : List Change
   A = round_changes round.Adding b n
 
@@ -81,27 +83,27 @@ module _ (n b : ℕ) (s : State) (v : Store) (is : b ≡ next s - 1) where
   abbrev E : List Change
   E = round_changes round.Erasing b n
 
-  begun : Limited (changes n s) (A ++ (R ++ E)) s s v v
-  begun = limited_start (changes n s) (A ++ (R ++ E)) s v (all_is n b s is)
+  begun : Limited i (changes n s) (A ++ (R ++ E)) s s v v
+  begun = limited_start i (changes n s) (A ++ (R ++ E)) s v (all_is n b s is)
 
-  pub adding_stop : (w : Store) (h : Halt) → LimitsTurn s v w A (Err h) → LimitsTurn s v w (changes n s) (Err h)
-  adding_stop w h = limited_stop (changes n s) (A ++ (R ++ E)) A (R ++ E) s s v v w refl begun h
+  pub adding_stop : (w : Store) (h : Halt) → LimitsTurn i s v w A (Err h) → LimitsTurn i s v w (changes n s) (Err h)
+  adding_stop w h = limited_stop i (changes n s) (A ++ (R ++ E)) A (R ++ E) s s v v w refl begun h
 
-  module _ (t : State) (w : Store) (a : Tally) (added : t ≡ apply_all A s) (first : LimitsTurn s v w A (Ok a)) where
-    after_adding : Limited (changes n s) (R ++ E) s t v w
-    after_adding = limited_more (changes n s) (A ++ (R ++ E)) A (R ++ E) s s v v w refl begun t a added first
+  module _ (t : State) (w : Store) (a : Tally) (added : t ≡ apply_all A s) (first : LimitsTurn i s v w A (Ok a)) where
+    after_adding : Limited i (changes n s) (R ++ E) s t v w
+    after_adding = limited_more i (changes n s) (A ++ (R ++ E)) A (R ++ E) s s v v w refl begun t a added first
 
-    pub replacing_stop : (x : Store) (h : Halt) → LimitsTurn t w x R (Err h) → LimitsTurn s v x (changes n s) (Err h)
-    replacing_stop x h = limited_stop (changes n s) (R ++ E) R E s t v w x refl after_adding h
+    pub replacing_stop : (x : Store) (h : Halt) → LimitsTurn i t w x R (Err h) → LimitsTurn i s v x (changes n s) (Err h)
+    replacing_stop x h = limited_stop i (changes n s) (R ++ E) R E s t v w x refl after_adding h
 
-    module _ (u : State) (x : Store) (r : Tally) (replaced : u ≡ apply_all R t) (second : LimitsTurn t w x R (Ok r)) where
-      after_replacing : Limited (changes n s) E s u v x
-      after_replacing = limited_more (changes n s) (R ++ E) R E s t v w x refl after_adding u r replaced second
+    module _ (u : State) (x : Store) (r : Tally) (replaced : u ≡ apply_all R t) (second : LimitsTurn i t w x R (Ok r)) where
+      after_replacing : Limited i (changes n s) E s u v x
+      after_replacing = limited_more i (changes n s) (R ++ E) R E s t v w x refl after_adding u r replaced second
 
-      pub erasing_stop : (y : Store) (h : Halt) → LimitsTurn u x y E (Err h) → LimitsTurn s v y (changes n s) (Err h)
-      erasing_stop y h = limited_stop (changes n s) E E [] s u v x y (sym (append-nil E)) after_replacing h
+      pub erasing_stop : (y : Store) (h : Halt) → LimitsTurn i u x y E (Err h) → LimitsTurn i s v y (changes n s) (Err h)
+      erasing_stop y h = limited_stop i (changes n s) E E [] s u v x y (sym (append-nil E)) after_replacing h
 
-      pub all_limits : (z : State) (y : Store) (e all : Tally) → z ≡ apply_all E u → LimitsTurn u x y E (Ok e) → LimitsTurn s v y (changes n s) (Ok all)
+      pub all_limits : (z : State) (y : Store) (e all : Tally) → z ≡ apply_all E u → LimitsTurn i u x y E (Ok e) → LimitsTurn i s v y (changes n s) (Ok all)
       all_limits z y e all erased third =
-          limited_end (changes n s) [] s z v y all refl
-          (limited_more (changes n s) E E [] s u v x y (sym (append-nil E)) after_replacing z e erased third)
+          limited_end i (changes n s) [] s z v y all refl
+          (limited_more i (changes n s) E E [] s u v x y (sym (append-nil E)) after_replacing z e erased third)

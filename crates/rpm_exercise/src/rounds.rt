@@ -1,13 +1,13 @@
 //! The changes of the exercise, round by round.
 
-ghost use Rattle.std.specs.Prelude.{◌≡◌, ◌+◌, ◌-◌, ◌<◌, ◌≤◌, [], ◌∷◌, false, true, IsTrue, Err, IfOk, IfErr};
+ghost use Rattle.std.specs.Prelude.{◌≡◌, ◌+◌, ◌-◌, ◌<◌, ◌≤◌, Bool, [], ◌∷◌, false, true, IsTrue, Err, IfOk, IfErr};
 ghost use Rattle.rpm_outside.specs.Causes.{HasCauseAt};
 ghost use Rattle.rpm_db.specs.Changes.{Add, Put, Erase, IsServing};
 ghost use Rattle.rpm_db.specs.Database.{IsIndexed, is_indexed};
 ghost use Rattle.rpm_db.specs.Runs.{Runs};
 ghost use Rattle.rpm_db.specs.State.{state};
 ghost use Rattle.rpm_db.specs.inner.Writes.{SameLog};
-ghost use Rattle.rpm_change.specs.Endings.{IsCarried, IndexTurn, halt_of};
+ghost use Rattle.rpm_change.specs.Endings.{IsCarried, halt_of};
 ghost use Rattle.rpm_change.specs.Limits.{LimitsTurn};
 ghost use Rattle.rpm_exercise.specs.Rounds.{made, turn, round_changes, changes, Made, IsOfChanges, IsSpent};
 
@@ -63,9 +63,8 @@ fn add_one<D: Disk>(alloc: Global, db: &mut Db, disk: &mut D, i: u32) -> Result<
     requires serving { IsTrue D.tells → IsServing (D.files disk.old) (D.left_since disk.old (D.moment disk.old)) db.old }
     ensures made { IsTrue D.tells → IfOk result (λ tally. Made (Add (made i 1) ∷ []) (state (D.files disk.old).pkg db.old.store)
         (state (D.files disk.new).pkg db.new.store) tally) }
-    ensures room { IsTrue D.tells → IsIndexed (D.files disk.old).pkg (D.files disk.old).idx db.old
-        → IndexTurn (state (D.files disk.old).pkg db.old.store) (Add (made i 1) ∷ []) result }
-    ensures limits { IsTrue D.tells → LimitsTurn (state (D.files disk.old).pkg db.old.store) db.old.store db.new.store (Add (made i 1) ∷ []) result }
+    ensures limits { IsTrue D.tells → (indexed : Bool) → (indexed ≡ true → IsIndexed (D.files disk.old).pkg (D.files disk.old).idx db.old)
+        → LimitsTurn indexed (state (D.files disk.old).pkg db.old.store) db.old.store db.new.store (Add (made i 1) ∷ []) result }
     ensures few { IfOk result (λ tally. tally.changes ≤ 1) }
     ensures carried { IfOk result (λ _tally. IsCarried D.tells (D.files disk.old) (D.files disk.new) (D.left_since disk.new (D.moment disk.new))
         db.old db.new) }
@@ -110,9 +109,8 @@ fn replace_one<D: Disk>(
     requires serving { IsTrue D.tells → IsServing (D.files disk.old) (D.left_since disk.old (D.moment disk.old)) db.old }
     ensures made { IsTrue D.tells → IfOk result (λ tally. Made (Put (b + i) (made i 2) ∷ []) (state (D.files disk.old).pkg db.old.store)
         (state (D.files disk.new).pkg db.new.store) tally) }
-    ensures room { IsTrue D.tells → IsIndexed (D.files disk.old).pkg (D.files disk.old).idx db.old
-        → IndexTurn (state (D.files disk.old).pkg db.old.store) (Put (b + i) (made i 2) ∷ []) result }
-    ensures limits { IsTrue D.tells → LimitsTurn (state (D.files disk.old).pkg db.old.store) db.old.store db.new.store (Put (b + i) (made i 2) ∷ []) result }
+    ensures limits { IsTrue D.tells → (indexed : Bool) → (indexed ≡ true → IsIndexed (D.files disk.old).pkg (D.files disk.old).idx db.old)
+        → LimitsTurn indexed (state (D.files disk.old).pkg db.old.store) db.old.store db.new.store (Put (b + i) (made i 2) ∷ []) result }
     ensures few { IfOk result (λ tally. tally.changes ≤ 1) }
     ensures carried { IfOk result (λ _tally. IsCarried D.tells (D.files disk.old) (D.files disk.new) (D.left_since disk.new (D.moment disk.new))
         db.old db.new) }
@@ -149,9 +147,8 @@ fn erase_one<D: Disk>(
     requires serving { IsTrue D.tells → IsServing (D.files disk.old) (D.left_since disk.old (D.moment disk.old)) db.old }
     ensures made { IsTrue D.tells → IfOk result (λ tally. Made (Erase (b + i) ∷ []) (state (D.files disk.old).pkg db.old.store)
         (state (D.files disk.new).pkg db.new.store) tally) }
-    ensures room { IsTrue D.tells → IsIndexed (D.files disk.old).pkg (D.files disk.old).idx db.old
-        → IndexTurn (state (D.files disk.old).pkg db.old.store) (Erase (b + i) ∷ []) result }
-    ensures limits { IsTrue D.tells → LimitsTurn (state (D.files disk.old).pkg db.old.store) db.old.store db.new.store (Erase (b + i) ∷ []) result }
+    ensures limits { IsTrue D.tells → (indexed : Bool) → (indexed ≡ true → IsIndexed (D.files disk.old).pkg (D.files disk.old).idx db.old)
+        → LimitsTurn indexed (state (D.files disk.old).pkg db.old.store) db.old.store db.new.store (Erase (b + i) ∷ []) result }
     ensures few { IfOk result (λ tally. tally.changes ≤ 1) }
     ensures carried { IfOk result (λ _tally. IsCarried D.tells (D.files disk.old) (D.files disk.new) (D.left_since disk.new (D.moment disk.new))
         db.old db.new) }
@@ -187,9 +184,8 @@ fn take_turn<D: Disk>(
     requires serving { IsTrue D.tells → IsServing (D.files disk.old) (D.left_since disk.old (D.moment disk.old)) db.old }
     ensures made { IsTrue D.tells → IfOk result (λ tally. Made (turn round b i) (state (D.files disk.old).pkg db.old.store)
         (state (D.files disk.new).pkg db.new.store) tally) }
-    ensures room { IsTrue D.tells → IsIndexed (D.files disk.old).pkg (D.files disk.old).idx db.old
-        → IndexTurn (state (D.files disk.old).pkg db.old.store) (turn round b i) result }
-    ensures limits { IsTrue D.tells → LimitsTurn (state (D.files disk.old).pkg db.old.store) db.old.store db.new.store (turn round b i) result }
+    ensures limits { IsTrue D.tells → (indexed : Bool) → (indexed ≡ true → IsIndexed (D.files disk.old).pkg (D.files disk.old).idx db.old)
+        → LimitsTurn indexed (state (D.files disk.old).pkg db.old.store) db.old.store db.new.store (turn round b i) result }
     ensures few { IfOk result (λ tally. tally.changes ≤ 1) }
     ensures carried { IfOk result (λ _tally. IsCarried D.tells (D.files disk.old) (D.files disk.new) (D.left_since disk.new (D.moment disk.new))
         db.old db.new) }
@@ -233,9 +229,8 @@ fn go_round<D: Disk>(
     requires serving { IsTrue D.tells → IsServing (D.files disk.old) (D.left_since disk.old (D.moment disk.old)) db.old }
     ensures made { IsTrue D.tells → IfOk result (λ tally. Made (round_changes round b n) (state (D.files disk.old).pkg db.old.store)
         (state (D.files disk.new).pkg db.new.store) tally) }
-    ensures room { IsTrue D.tells → IsIndexed (D.files disk.old).pkg (D.files disk.old).idx db.old
-        → IndexTurn (state (D.files disk.old).pkg db.old.store) (round_changes round b n) result }
-    ensures limits { IsTrue D.tells → LimitsTurn (state (D.files disk.old).pkg db.old.store) db.old.store db.new.store (round_changes round b n) result }
+    ensures limits { IsTrue D.tells → (indexed : Bool) → (indexed ≡ true → IsIndexed (D.files disk.old).pkg (D.files disk.old).idx db.old)
+        → LimitsTurn indexed (state (D.files disk.old).pkg db.old.store) db.old.store db.new.store (round_changes round b n) result }
     ensures few { IfOk result (λ tally. tally.changes ≤ n) }
     ensures carried { IfOk result (λ _tally. IsCarried D.tells (D.files disk.old) (D.files disk.new) (D.left_since disk.new (D.moment disk.new))
         db.old db.new) }
@@ -281,9 +276,8 @@ pub fn change_all<D: Disk>(alloc: Global, db: &mut Db, disk: &mut D, n: u32) -> 
     requires serving { IsTrue D.tells → IsServing (D.files disk.old) (D.left_since disk.old (D.moment disk.old)) db.old }
     ensures made { IsTrue D.tells → IfOk result (λ tally. Made (changes n (state (D.files disk.old).pkg db.old.store))
         (state (D.files disk.old).pkg db.old.store) (state (D.files disk.new).pkg db.new.store) tally) }
-    ensures room { IsTrue D.tells → IsIndexed (D.files disk.old).pkg (D.files disk.old).idx db.old
-        → IndexTurn (state (D.files disk.old).pkg db.old.store) (changes n (state (D.files disk.old).pkg db.old.store)) result }
-    ensures limits { IsTrue D.tells → LimitsTurn (state (D.files disk.old).pkg db.old.store) db.old.store db.new.store
+    ensures limits { IsTrue D.tells → (indexed : Bool) → (indexed ≡ true → IsIndexed (D.files disk.old).pkg (D.files disk.old).idx db.old)
+        → LimitsTurn indexed (state (D.files disk.old).pkg db.old.store) db.old.store db.new.store
         (changes n (state (D.files disk.old).pkg db.old.store)) result }
     ensures carried { IfOk result (λ _tally. IsCarried D.tells (D.files disk.old) (D.files disk.new) (D.left_since disk.new (D.moment disk.new))
         db.old db.new) }

@@ -11,9 +11,8 @@ ghost use Rattle.rpm_db.specs.Runs.{Runs};
 ghost use Rattle.rpm_db.specs.State.{state, packages};
 ghost use Rattle.rpm_db.specs.inner.Writes.{SameFiles, SameLog};
 ghost use Rattle.rpm_select.specs.Reach.{HasIndexRows};
-ghost use Rattle.rpm_change.specs.Endings.{outputs, Ended, IsCarried, IndexTurn};
-ghost use Rattle.rpm_change.specs.Limits.{LimitsTurn, SpentTurn, StoreTurn};
-ghost use Rattle.rpm_change.specs.Numbers.{NumbersTurn};
+ghost use Rattle.rpm_change.specs.Endings.{outputs, Ended, IsCarried};
+ghost use Rattle.rpm_change.specs.Limits.{LimitsTurn};
 ghost use Rattle.rpm_exercise.specs.Endings.{IsReadable, IsTold, IsUnbroken, IsOfReading, IsOfTelling, IsOfExercise, OnceBegun, IsRefused};
 ghost use Rattle.rpm_exercise.specs.Exercised.{summary, exercise};
 ghost use Rattle.rpm_exercise.specs.Rounds.{changes, IsSpent};
@@ -82,9 +81,8 @@ fn change_and_tell<D: Disk, O: Sink + Drop>(
         → Ended (exercise n (state (D.files disk.old).pkg db.old.store)) (state (D.files disk.old).pkg db.old.store)
         (state (D.files disk.new).pkg db.new.store) result
         (outputs O.tells (O.taken (inner out.old)) err_tells err) (outputs O.tells (O.taken (inner out.new)) err_tells err) }
-    ensures room { IsTrue D.tells → IsIndexed (D.files disk.old).pkg (D.files disk.old).idx db.old
-        → IndexTurn (state (D.files disk.old).pkg db.old.store) (changes n (state (D.files disk.old).pkg db.old.store)) result }
-    ensures limits { IsTrue D.tells → LimitsTurn (state (D.files disk.old).pkg db.old.store) db.old.store db.new.store
+    ensures limits { IsTrue D.tells → (indexed : Bool) → (indexed ≡ true → IsIndexed (D.files disk.old).pkg (D.files disk.old).idx db.old)
+        → LimitsTurn indexed (state (D.files disk.old).pkg db.old.store) db.old.store db.new.store
         (changes n (state (D.files disk.old).pkg db.old.store)) result }
     ensures carried { IfOk result (λ _tally. IsCarried D.tells (D.files disk.old) (D.files disk.new) (D.left_since disk.new (D.moment disk.new))
         db.old db.new) }
@@ -145,9 +143,7 @@ fn exercise_all<D: Disk, O: Sink + Drop>(
         → Ended (exercise n (state (D.files disk.old).pkg db.old.store)) (state (D.files disk.old).pkg db.old.store)
         (state (D.files disk.new).pkg db.new.store) result
         (outputs O.tells (O.taken (inner out.old)) err_tells err) (outputs O.tells (O.taken (inner out.new)) err_tells err) }
-    ensures room { IsTrue D.tells
-        → IndexTurn (state (D.files disk.old).pkg db.old.store) (changes n (state (D.files disk.old).pkg db.old.store)) result }
-    ensures limits { IsTrue D.tells → LimitsTurn (state (D.files disk.old).pkg db.old.store) db.old.store db.new.store
+    ensures limits { IsTrue D.tells → LimitsTurn true (state (D.files disk.old).pkg db.old.store) db.old.store db.new.store
         (changes n (state (D.files disk.old).pkg db.old.store)) result }
     ensures going { IfOk result (λ _tally. db.new.stopped ≡ false) }
     ensures serving { IfOk result (λ _tally. IsTrue D.tells → IsServing (D.files disk.new) (D.left_since disk.new (D.moment disk.new)) db.new) }
@@ -208,14 +204,8 @@ pub fn exercise<D: Disk, O: Sink + Drop>(
     ensures ended { IsTrue D.tells → (err_tells : Bool) (err : List ℕ) → OnceBegun (λ r. Ended (exercise n (state (D.files disk.old).pkg db.old.store))
         (state (D.files disk.old).pkg db.old.store) (state (D.files disk.new).pkg db.new.store) r
         (outputs O.tells (O.taken (inner out.old)) err_tells err) (outputs O.tells (O.taken (inner out.new)) err_tells err)) result }
-    ensures room { IsTrue D.tells
-        → OnceBegun (λ r. IndexTurn (state (D.files disk.old).pkg db.old.store) (changes n (state (D.files disk.old).pkg db.old.store)) r) result }
-    ensures numbers { IsTrue D.tells
-        → OnceBegun (λ r. NumbersTurn (state (D.files disk.old).pkg db.old.store) (changes n (state (D.files disk.old).pkg db.old.store)) r) result }
-    ensures generation { IsTrue D.tells
-        → OnceBegun (λ r. SpentTurn db.old.store.generation (changes n (state (D.files disk.old).pkg db.old.store)) r) result }
-    ensures store_room { IsTrue D.tells
-        → OnceBegun (λ r. StoreTurn (changes n (state (D.files disk.old).pkg db.old.store)) db.old.store db.new.store r) result }
+    ensures limits { IsTrue D.tells → OnceBegun (λ r. LimitsTurn true (state (D.files disk.old).pkg db.old.store) db.old.store db.new.store
+        (changes n (state (D.files disk.old).pkg db.old.store)) r) result }
     ensures going { IfOk result (λ _tally. db.new.stopped ≡ false) }
     ensures serving { IfOk result (λ _tally. IsTrue D.tells → IsServing (D.files disk.new) (D.left_since disk.new (D.moment disk.new)) db.new) }
     ensures index { IfOk result (λ _tally. IsTrue D.tells → IsIndexed (D.files disk.new).pkg (D.files disk.new).idx db.new) }

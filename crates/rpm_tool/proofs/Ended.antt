@@ -1,10 +1,10 @@
 -- How a command that changes packages ends, once it was worked out.
-use Rattle.std.proofs.Common.{◌≡◌, ℕ, Bool, true, false, List, [], Result, Ok, Err, refl, sym, ap, ◌∙◌, subst, inl, inr, ⊎_elim}
+use Rattle.std.proofs.Common.{◌≡◌, ℕ, true, false, [], Result, Ok, Err, refl, sym, ap, ◌∙◌, subst, inl, inr, ⊎_elim}
 use Rattle.rpm_outside.specs.Files.{Units, Files}
 use Rattle.rpm_outside.specs.Logs.{reopened, unlogged}
 use Rattle.rpm_pkgdb.specs.declared.slot.Damage.{Damage}
 use Rattle.rpm_pkgdb.specs.Store.{Store}
-use Rattle.rpm_db.specs.Changes.{Change, Says}
+use Rattle.rpm_db.specs.Changes.{Says}
 use Rattle.rpm_db.specs.State.{State, state}
 use Rattle.rpm_change.specs.declared.tally.Tally.{Tally}
 use Rattle.rpm_change.specs.Steps.{Course}
@@ -13,9 +13,9 @@ use Rattle.rpm_tool.specs.declared.answer.Why.{Why}
 use Rattle.rpm_tool.specs.declared.answer.Why.TheVariants as why
 use Rattle.rpm_tool.specs.Answers.{Refused}
 use Rattle.rpm_tool.specs.Keyed.{is_done}
-use Rattle.rpm_tool.specs.Changing.{Did, DidOpened, LeavesState, HasState, FullTurn, after, is_done_or_fault}
+use Rattle.rpm_tool.specs.Changing.{Did, DidOpened, LeavesState, HasState, after, is_done_or_fault}
 use Rattle.rpm_tool.specs.Working.{Stopped, WorkedOn, WorkedBy, EndsAs, GroupLeaves, why_of}
-use Rattle.rpm_tool.proofs.Leavings.{leaves_start, uncommitted_leaves, leaves_done, full_uncommitted}
+use Rattle.rpm_tool.proofs.Leavings.{leaves_start, uncommitted_leaves, leaves_done}
 use Rattle.rpm_tool.proofs.Outcomes.{stopped_did, uncommitted_did, done_did, is_done_why, stopped_undone, refused_undone}
 
 pub did_ended : (c : Course) (s : State) (new : Files) (ended : Result Tally Why) (given : Why) (n : ℕ) (before now : Outputs)
@@ -58,13 +58,6 @@ counted_ended (Ok tally) given n (inl both) not =
     absurd (let wrong : true ≡ false = sym (is_done_why tally.failed) ∙ subst (λ (w : Why). is_done w ≡ false) both.0 not in cc)
 counted_ended (Ok tally) given n (inr both) not = both.0
 counted_ended (Err was) given n (none, how) not = none
-
-pub full_ended : (making : Bool) (needed : ℕ) (s : State) (changes : List Change) (ended : Result Tally Why) (given : Why) (n : ℕ) → EndsAs ended given n
-    → FullTurn making needed s changes (why_of ended) → FullTurn making needed s changes given
-full_ended making needed s changes (Ok tally) given n (inl both) full = subst (λ (w : Why). FullTurn making needed s changes w) (sym both.0) full
-full_ended making needed s changes (Ok tally) given n (inr both) full = full_uncommitted making needed s changes tally.failed given both.1 full
-full_ended making needed s changes (Err was) given n (none, inl same) full = subst (λ (w : Why). FullTurn making needed s changes w) (sym same) full
-full_ended making needed s changes (Err was) given n (none, inr both) full = subst (λ (w : Why). FullTurn making needed s changes w) (sym both.1) tt
 
 -- ---- the state that is left
 

@@ -1,7 +1,8 @@
 -- The exercise, from the opening to its end.
-use Rattle.std.proofs.Common.{◌≡◌, ℕ, ◌^◌, ◌≤◌, true, false, List, [], None, Result, Ok, Err, refl, sym, ap, ◌∙◌, subst, inr, arith}
+use Rattle.std.proofs.Common.{◌≡◌, Bool, ℕ, ◌^◌, ◌≤◌, true, false, List, [], Option, None, Result, Ok, Err, refl, sym, ap, ◌∙◌, subst, arith}
 use Rattle.std.specs.Ordering.{nat_cmp}
 use Rattle.std.specs.FinMap as finite
+use Rattle.std.specs.Prelude.{IfOk}
 use Rattle.rpm_outside.specs.Files.{Units, Files}
 use Rattle.rpm_hindex.specs.Rows.{Row}
 use Rattle.rpm_hindex.specs.Sizes as sizes
@@ -14,18 +15,19 @@ use Rattle.rpm_db.specs.Rows.{rows, rows_in}
 use Rattle.rpm_db.specs.State.{State, Package, state, packages}
 use Rattle.rpm_db.specs.inner.Laws.{is_there}
 use Rattle.rpm_change.specs.declared.tally.Halt.{Halt}
-use Rattle.rpm_change.specs.declared.tally.Halt.TheVariants as halt
 use Rattle.rpm_change.specs.declared.tally.Tally.{Tally}
-use Rattle.rpm_change.specs.Endings.{Outputs, Through, Done, Ended, IndexTurn}
-use Rattle.rpm_change.specs.Rebuilding.{RebuildTurn}
+use Rattle.rpm_change.specs.Endings.{Outputs, Through, Done, Ended}
+use Rattle.rpm_change.specs.Limits.{first_refusal, first_limit, StopsAt, LimitsTurn}
+use Rattle.rpm_change.specs.inner.LimitLaws.{makes_small}
 use Rattle.rpm_exercise.specs.declared.running.ExerciseFault.{ExerciseFault}
 use Rattle.rpm_exercise.specs.declared.running.ExerciseFault.TheVariants.{NotEmpty, Halted}
 use Rattle.rpm_exercise.specs.Endings.{OnceBegun, IsRefused}
 use Rattle.rpm_exercise.specs.Exercised.{exercise}
 use Rattle.rpm_tool.specs.declared.answer.Why.TheVariants as why
+use Rattle.rpm_tool.specs.Limits.{begun, command_limit, LimitsOn}
 use Rattle.rpm_tool.specs.Working.{OpensBy, WorkedBy, WorkedWith, why_of_exercise}
 use Rattle.rpm_tool.proofs.Anew.{halted_anew, done_anew}
-use Rattle.rpm_tool.proofs.Standing.{if_ok}
+use Rattle.rpm_tool.proofs.Limited.{made_stops, limits_halted, limits_refused}
 use Rattle.rpm_tool.proofs.Verified.{no_entry, from_one}
 
 -- ---- no packages
@@ -43,19 +45,12 @@ room_of_none file db zero none =
     no_rows (packages file db.store)
     (sym (from_one file db zero) ∙ no_entry (packages file db.store) 0 (λ k above. is_there file db k ∙ none k above))
 
--- so the index is full at the turn of a change alone
-renewed : (s : State) (changes : List Change) (r : Result Tally Halt) → units_for (rows s.packages) ≤ 2 ^ 28 → IndexTurn s changes r → RebuildTurn s changes r
-renewed s changes (Ok tally) room turn = (room, turn)
-renewed s changes (Err halt.NumbersSpent) room turn = tt
-renewed s changes (Err halt.GenerationSpent) room turn = tt
-renewed s changes (Err halt.StoreFull) room turn = tt
-renewed s changes (Err (halt.IndexFull told)) room turn = inr (room, turn)
-renewed s changes (Err (halt.BadIndex unit)) room turn = turn
-renewed s changes (Err halt.DiskFault) room turn = tt
-renewed s changes (Err halt.ShelfFault) room turn = tt
-renewed s changes (Err halt.OutFault) room turn = tt
-renewed s changes (Err halt.ErrFault) room turn = tt
-renewed s changes (Err halt.NoMemory) room turn = tt
+-- so what refuses the first change that is refused comes first
+pub renewed : (file : Units) (db : Database) (changes : List Change) (r : Result Tally Halt) → holds 0 db ≡ false → IsNext (λ m. holds m db) 0 None
+    → StopsAt true (first_refusal true (state file db.store) db.store changes) r
+    → StopsAt true (first_limit true (state file db.store) db.store changes) r
+renewed file db changes r zero none stops = subst (λ (first : Option Halt). StopsAt true first r)
+    (sym (makes_small true (state file db.store) db.store changes (λ made. room_of_none file db zero none))) stops
 
 -- ---- what was worked
 
@@ -71,22 +66,39 @@ module _ (n : ℕ) (old mid new : Files) (db last : Database) (before now : Outp
 
   pub stopped_exercise : (fault : ExerciseFault) (t : State) → IsRefused (IsNext (λ m. holds m db) 0) (Err fault)
       → OnceBegun (λ r. Ended (exercise n found) found t r before now) (Err fault)
-      → OnceBegun (λ r. IndexTurn found (exercise n found).changes r) (Err fault) → ((held : ℕ) → fault ≡ NotEmpty held → Through [] before now)
+      → OnceBegun (λ r. LimitsTurn true found db.store last.store (exercise n found).changes r) (Err fault) → ((held : ℕ) → fault ≡ NotEmpty held → Through [] before now)
       → WorkedWith true false (λ s. exercise n s) old new (Err (why_of_exercise fault)) before now
   stopped_exercise (NotEmpty held) t refused ended turn nothing = record {
     went = unbegun (store old.pkg) held opens (nothing held refl);
-    full = λ _. if_ok (store old.pkg) (λ s is. tt);
     bad = λ unit is. absurd cc;
     made = tt;
     index = λ _. tt;
   }
   stopped_exercise (Halted h) t refused ended turn nothing =
       halted_anew (λ s. exercise n s) old mid new db last before now h t opens ended
-      (renewed found (exercise n found).changes (Err h) (room_of_none mid.pkg db zero refused) turn)
+      (renewed mid.pkg db (exercise n found).changes (Err h) zero refused turn.first)
 
   pub done_exercise : (tally : Tally) → IsNext (λ m. holds m db) 0 None → store new.pkg ≡ Ok (in_file last.store)
-      → Done (exercise n found) found (state new.pkg last.store) tally before now → IndexTurn found (exercise n found).changes (Ok tally)
-      → 1 ≤ last.store.pages → IsIndexed new.pkg new.idx last → WorkedWith true false (λ s. exercise n s) old new (Ok tally) before now
-  done_exercise tally none keeps done turn paged indexed =
-      done_anew (λ s. exercise n s) old mid new db last before now tally opens keeps done
-      (renewed found (exercise n found).changes (Ok tally) (room_of_none mid.pkg db zero none) turn) paged indexed
+      → Done (exercise n found) found (state new.pkg last.store) tally before now → 1 ≤ last.store.pages → IsIndexed new.pkg new.idx last → WorkedWith true false (λ s. exercise n s) old new (Ok tally) before now
+  done_exercise tally none keeps done paged indexed =
+      done_anew (λ s. exercise n s) old mid new db last before now tally opens keeps done paged indexed
+
+-- ---- its limits
+
+pub exercise_stops : (indexed : Bool) (n : ℕ) (mid : Files) (db last : Database) (r : Result Tally Halt) → holds 0 db ≡ false
+    → IsNext (λ m. holds m db) 0 None
+    → LimitsTurn true (state mid.pkg db.store) db.store last.store (exercise n (state mid.pkg db.store)).changes r
+    → StopsAt indexed (command_limit indexed true (state mid.pkg db.store) db.store (exercise n (state mid.pkg db.store)).changes) r
+exercise_stops indexed n mid db last r zero none turn =
+    made_stops indexed true (state mid.pkg db.store) db.store (exercise n (state mid.pkg db.store)).changes r
+    (renewed mid.pkg db (exercise n (state mid.pkg db.store)).changes r zero none turn.first)
+
+pub limits_exercised : (indexed : Bool) (n : ℕ) (old mid : Files) (db last : Database) (opens : OpensBy old (store old.pkg) mid (Ok db))
+    → IfOk (store old.pkg) (λ value. db.store ≡ begun value) → holds 0 db ≡ false → (fault : ExerciseFault)
+    → IsRefused (IsNext (λ m. holds m db) 0) (Err fault)
+    → OnceBegun (λ r. LimitsTurn true (state mid.pkg db.store) db.store last.store (exercise n (state mid.pkg db.store)).changes r) (Err fault)
+    → LimitsOn indexed true (λ s. exercise n s) old (why_of_exercise fault)
+limits_exercised indexed n old mid db last opens begins zero (NotEmpty held) refused turn =
+    limits_refused indexed true (λ s. exercise n s) old mid db opens begins held
+limits_exercised indexed n old mid db last opens begins zero (Halted h) refused turn =
+    limits_halted indexed true (λ s. exercise n s) old mid db opens begins h (λ s stored. exercise_stops indexed n mid db last (Err h) zero refused turn)

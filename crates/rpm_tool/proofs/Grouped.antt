@@ -6,6 +6,7 @@ use Rattle.rpm_outside.specs.Crash.{LeavesOnly}
 use Rattle.rpm_outside.specs.Files.{Files, with_file}
 use Rattle.rpm_outside.specs.Logs.{LogState, Closed, log_state, reopened, unlogged}
 use Rattle.rpm_outside.specs.inner.Moments.{leaves_then, leaves_weaker}
+use Rattle.rpm_group.specs.Loads.{IsSound}
 use Rattle.rpm_group.specs.Settled.{ReopensAs}
 use Rattle.rpm_pkgdb.specs.declared.slot.Damage.{Damage}
 use Rattle.rpm_pkgdb.specs.Store.{Store, store}
@@ -16,10 +17,11 @@ use Rattle.rpm_change.specs.Steps.{Course}
 use Rattle.rpm_change.specs.Endings.{Outputs}
 use Rattle.rpm_tool.specs.declared.answer.Why.{Why}
 use Rattle.rpm_tool.specs.Keyed.{IsLawfulGroup, AreLawfulGroups, StandsStill, is_done}
-use Rattle.rpm_tool.specs.Changing.{DidOpened, DidLoaded, DidOn, HasState, HasCurrent, IsMade, IsSealed, StandsStillOr, LeavesState, FullBy, ChangesWith, MayBegin, after, is_of_lawful, is_done_or_fault}
+use Rattle.rpm_tool.specs.Changing.{DidOpened, DidLoaded, DidOn, HasState, HasCurrent, IsMade, IsSealed, StandsStillOr, LeavesState, ChangesWith, MayBegin, after, is_of_lawful, is_done_or_fault}
+use Rattle.rpm_tool.specs.Limits.{LimitsBy}
 use Rattle.rpm_tool.specs.Working.{WorkedWith, WorkedOn, WorkedBy, EndsGroup, GroupLeaves}
 use Rattle.rpm_tool.proofs.Brokens.{bad_ended}
-use Rattle.rpm_tool.proofs.Ended.{did_opened, done_ok, counted_ended, full_ended, leaves_ended, same_state, worked_state}
+use Rattle.rpm_tool.proofs.Ended.{did_opened, done_ok, counted_ended, leaves_ended, same_state, worked_state}
 use Rattle.rpm_tool.proofs.Leavings.{leaves_after, lawful_ending}
 use Rattle.rpm_tool.proofs.Standing.{begins, current_lawful, if_ok, if_ok_at, lawful_store, may_begin, shut_stands, stands_lawful}
 
@@ -69,22 +71,28 @@ module _ {D : Type 0} {anew changing : Bool} (files : D → Files) (left_since :
           indexed = subst (λ (f : Files). HasCurrent f.pkg f.idx) (sym end.same) (lawful_new (may_begin anew (λ group. group.lawful) may) ok.0 ok.1);
         }
 
+    -- what is sealed is lawful, and no image is another
+    sealed_lawful : IsSealed (files final) → IsLawfulGroup (files final)
+    sealed_lawful all = record {
+      sound = subst IsSound (sym all.closed) tt;
+      lawful = subst (λ (f : Files). IsLawful f.pkg f.idx) (sym (shut_stands (files final) all.closed))
+          (current_lawful (files final).pkg (files final).idx all.indexed);
+    }
+
+    group_lawful : MayBegin anew (IsLawfulGroup (files first)) → is_done given ≡ true → AreLawfulGroups (left_since final (moment final))
+    group_lawful may is image left = subst IsLawfulGroup (sym ((ends.done is).settled image left)) (sealed_lawful (group_sealed may is))
+
     group_made : is_done given ≡ true → IsMade (reopened (files final)).pkg
     group_made is =
         let ok = done_ok course r.pkg (store r.pkg) new ended given n before now worked.went ends.says is in
         subst (λ (f : Files). IsMade f.pkg) (sym (final_is is)) (if_ok_at _ ended ok.0 ok.1 worked.made)
 
-    full_at : MayBegin anew (IsLawfulGroup (files first)) → FullBy anew course r given
-    full_at may = if_ok (store r.pkg) (λ s is. full_ended _ _ (s0 s) (course (s0 s)).changes ended given n ends.says
-        (if_ok_at _ (store r.pkg) s is (worked.full (may_begin anew (λ group. group.lawful) may))))
-
-    group_complete : IsLawfulGroup (files first) → is_of_lawful given ≡ true
-    group_complete lawful =
+    group_complete : LimitsBy anew (IsLawfulGroup (files first)) course r given → IsLawfulGroup (files first) → is_of_lawful given ≡ true
+    group_complete limits lawful =
         let is = lawful_store r.pkg r.idx lawful.lawful in
         let did = subst (λ (sr : Result Store Damage). DidOpened (λ s. course (state r.pkg s)) sr given before now) is.1
         (did_opened course r.pkg (store r.pkg) new ended given n before now worked.went ends.says) in
-        lawful_ending (course (s0 is.0)) _ _ (s0 is.0) (course (s0 is.0)).changes given before now did
-        (if_ok_at _ (store r.pkg) is.0 is.1 (full_at (begins anew lawful)))
+        lawful_ending (course (s0 is.0)) _ given before now did (if_ok_at _ (store r.pkg) is.0 is.1 (limits true (λ asked. begins anew lawful)))
 
     abbrev images : Files → Type 0
     images = left_since first (moment first)
@@ -131,16 +139,18 @@ module _ {D : Type 0} {anew changing : Bool} (files : D → Files) (left_since :
         (leaves_weaker moment left_since last final (ReopensAs (unlogged (files last))) (StandsStill images)
         (still_start (lawful (files first) here)) (ends.unmade undone))
 
-    pub group_changes : ChangesWith anew changing files left_since moment course given n first final
-    group_changes = record {
+    pub group_changes : LimitsBy anew (IsLawfulGroup (files first)) course r given
+        → ChangesWith anew changing files left_since moment course given n first final
+    group_changes limits = record {
       counted = counted_ended ended given n ends.says;
       leaves = if_ok (store r.pkg) leaves_at;
       refused = λ no. final_stays (ends.stays no);
       made = group_made;
       index = group_sealed;
-      full = full_at;
+      settled = λ done. (ends.done done).settled;
+      lawful = group_lawful;
       bad = bad_ended changing r.pkg r.idx ended given n ends.says worked.bad;
-      complete = group_complete;
+      complete = group_complete limits;
       stops = λ lawful. if_ok (store r.pkg) (stops_at lawful);
       unmade = unmade_at;
       held = λ done. if_ok (store r.pkg) (λ s is image left.

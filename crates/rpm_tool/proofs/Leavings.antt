@@ -1,14 +1,15 @@
 -- What the endings of a command that changes packages leave.
-use Rattle.std.proofs.Common.{◌≡◌, ◌⊎◌, ℕ, ◌^◌, ◌≤◌, Bool, true, false, List, refl, sym, subst, inl, inr, length}
+use Rattle.std.proofs.Common.{◌≡◌, ◌⊎◌, ℕ, true, false, Option, refl, sym, subst, inl, inr, length}
 use Rattle.rpm_outside.specs.Files.{Files}
-use Rattle.rpm_db.specs.Changes.{Change}
 use Rattle.rpm_db.specs.State.{State}
+use Rattle.rpm_change.specs.declared.tally.Halt.{Halt}
 use Rattle.rpm_change.specs.Steps.{Course}
-use Rattle.rpm_change.specs.Endings.{Outputs, AllHaveRoom}
+use Rattle.rpm_change.specs.Endings.{Outputs}
 use Rattle.rpm_tool.specs.declared.answer.Why.{Why}
 use Rattle.rpm_tool.specs.declared.answer.Why.TheVariants as why
 use Rattle.rpm_tool.specs.Keyed.{is_done}
-use Rattle.rpm_tool.specs.Changing.{Did, LeavesState, HasState, FullTurn, after, is_done_or_fault, is_of_lawful}
+use Rattle.rpm_tool.specs.Changing.{Did, LeavesState, HasState, after, is_done_or_fault, is_of_lawful}
+use Rattle.rpm_tool.specs.Limits.{MeetsFirst}
 use Rattle.rpm_tool.specs.Working.{IsUncommitted, done_why}
 use Rattle.rpm_tool.proofs.Outcomes.{done_is}
 
@@ -83,58 +84,22 @@ leaves_after course s why.OutFault m files is leaves = absurd cc
 leaves_after course s why.ErrFault m files is leaves = absurd cc
 leaves_after course s why.NoMemory m files is leaves = absurd cc
 
-full_of_done : (making : Bool) (needed : ℕ) (s : State) (changes : List Change) (k : ℕ) → FullTurn making needed s changes (done_why k)
-    → (making ≡ true → needed ≤ 2 ^ 28) × AllHaveRoom s changes
-full_of_done making needed s changes k full = elim (done_is k) [
-  | inl none ↦ subst (λ (w : Why). FullTurn making needed s changes w) none.1 full
-  | inr some ↦ subst (λ (w : Why). FullTurn making needed s changes w) some.1 full
-]
-
-pub full_done : (making : Bool) (needed : ℕ) (s : State) (changes : List Change) (k : ℕ) → (making ≡ true → needed ≤ 2 ^ 28) → AllHaveRoom s changes
-    → FullTurn making needed s changes (done_why k)
-full_done making needed s changes k room all = elim (done_is k) [
-  | inl none ↦ subst (λ (w : Why). FullTurn making needed s changes w) (sym none.1) (room, all)
-  | inr some ↦ subst (λ (w : Why). FullTurn making needed s changes w) (sym some.1) (room, all)
-]
-
-pub full_uncommitted : (making : Bool) (needed : ℕ) (s : State) (changes : List Change) (k : ℕ) (w : Why) → IsUncommitted w
-    → FullTurn making needed s changes (done_why k) → FullTurn making needed s changes w
-full_uncommitted making needed s changes k why.Done un full = absurd un
-full_uncommitted making needed s changes k (why.Failed n) un full = absurd un
-full_uncommitted making needed s changes k (why.Usage f) un full = absurd un
-full_uncommitted making needed s changes k (why.BadFormat f) un full = absurd un
-full_uncommitted making needed s changes k (why.BadLog u) un full = absurd un
-full_uncommitted making needed s changes k (why.Damaged d) un full = absurd un
-full_uncommitted making needed s changes k why.NumbersSpent un full = absurd un
-full_uncommitted making needed s changes k why.GenerationSpent un full = absurd un
-full_uncommitted making needed s changes k why.StoreFull un full = absurd un
-full_uncommitted making needed s changes k (why.NotEmpty held) un full = absurd un
-full_uncommitted making needed s changes k (why.BadIndex u) un full = absurd un
-full_uncommitted making needed s changes k (why.IndexFull u) un full = absurd un
-full_uncommitted making needed s changes k (why.LogFull u) un full = full_of_done making needed s changes k full
-full_uncommitted making needed s changes k why.DiskFault un full = tt
-full_uncommitted making needed s changes k why.ShelfFault un full = absurd un
-full_uncommitted making needed s changes k why.OutFault un full = absurd un
-full_uncommitted making needed s changes k why.ErrFault un full = absurd un
-full_uncommitted making needed s changes k why.NoMemory un full = tt
-
-pub lawful_ending : (c : Course) (making : Bool) (needed : ℕ) (s : State) (changes : List Change) (w : Why) (old new : Outputs) → Did c w old new
-    → FullTurn making needed s changes w → is_of_lawful w ≡ true
-lawful_ending c making needed s changes why.Done old new did full = refl
-lawful_ending c making needed s changes (why.Failed n) old new did full = refl
-lawful_ending c making needed s changes (why.Usage f) old new did full = absurd did
-lawful_ending c making needed s changes (why.BadFormat f) old new did full = absurd did
-lawful_ending c making needed s changes (why.BadLog u) old new did full = absurd did
-lawful_ending c making needed s changes (why.Damaged d) old new did full = absurd did
-lawful_ending c making needed s changes why.NumbersSpent old new did full = refl
-lawful_ending c making needed s changes why.GenerationSpent old new did full = refl
-lawful_ending c making needed s changes why.StoreFull old new did full = refl
-lawful_ending c making needed s changes (why.NotEmpty held) old new did full = refl
-lawful_ending c making needed s changes (why.BadIndex u) old new did full = absurd full
-lawful_ending c making needed s changes (why.IndexFull u) old new did full = refl
-lawful_ending c making needed s changes (why.LogFull u) old new did full = refl
-lawful_ending c making needed s changes why.DiskFault old new did full = refl
-lawful_ending c making needed s changes why.ShelfFault old new did full = refl
-lawful_ending c making needed s changes why.OutFault old new did full = refl
-lawful_ending c making needed s changes why.ErrFault old new did full = refl
-lawful_ending c making needed s changes why.NoMemory old new did full = refl
+pub lawful_ending : (c : Course) (first : Option Halt) (w : Why) (old new : Outputs) → Did c w old new → MeetsFirst true first w → is_of_lawful w ≡ true
+lawful_ending c first why.Done old new did meets = refl
+lawful_ending c first (why.Failed n) old new did meets = refl
+lawful_ending c first (why.Usage f) old new did meets = absurd did
+lawful_ending c first (why.BadFormat f) old new did meets = absurd did
+lawful_ending c first (why.BadLog u) old new did meets = absurd did
+lawful_ending c first (why.Damaged d) old new did meets = absurd did
+lawful_ending c first why.NumbersSpent old new did meets = refl
+lawful_ending c first why.GenerationSpent old new did meets = refl
+lawful_ending c first why.StoreFull old new did meets = refl
+lawful_ending c first (why.NotEmpty held) old new did meets = refl
+lawful_ending c first (why.BadIndex u) old new did meets = absurd cc
+lawful_ending c first (why.IndexFull u) old new did meets = refl
+lawful_ending c first (why.LogFull u) old new did meets = refl
+lawful_ending c first why.DiskFault old new did meets = refl
+lawful_ending c first why.ShelfFault old new did meets = refl
+lawful_ending c first why.OutFault old new did meets = refl
+lawful_ending c first why.ErrFault old new did meets = refl
+lawful_ending c first why.NoMemory old new did meets = refl

@@ -45,6 +45,7 @@ mod Numbered
 mod Numbering
 mod Opened
 mod Opening
+mod Page
 mod Paged
 mod Outcomes
 mod Peeking
@@ -66,7 +67,6 @@ mod Unbroken
 mod Undone
 mod Unloaded
 mod Unmade
-mod Unnumbered
 mod Unopened
 mod Unrecovered
 mod Unstarted

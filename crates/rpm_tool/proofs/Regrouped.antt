@@ -14,7 +14,8 @@ use Rattle.rpm_db.specs.State.{State, state}
 use Rattle.rpm_change.specs.Steps.{Course}
 use Rattle.rpm_tool.specs.declared.answer.Why.{Why}
 use Rattle.rpm_tool.specs.Keyed.{IsLawfulGroup, AreLawfulGroups, StandsStill}
-use Rattle.rpm_tool.specs.Changing.{HasState, StandsStillOr, LeavesState, FullBy, BadBy, ChangesWith, after, is_done_or_fault}
+use Rattle.rpm_tool.specs.Changing.{HasState, StandsStillOr, LeavesState, BadBy, ChangesWith, after, is_done_or_fault}
+use Rattle.rpm_tool.specs.Limits.{LimitsOn, LimitsBy}
 use Rattle.rpm_tool.proofs.Standing.{if_ok, if_ok_at, may_begin}
 
 -- an image stands still that stands for what one of these stands for
@@ -86,7 +87,8 @@ module _ {D : Type 0} (files : D → Files) (left_since : D → ℕ → Files �
       refused = λ no. rest.refused no ∙ stands;
       made = rest.made;
       index = λ may done. rest.index (may_begin anew lawful_mid may) done;
-      full = λ may. subst (λ (f : Files). FullBy anew course f given) stands (rest.full (may_begin anew lawful_mid may));
+      settled = rest.settled;
+      lawful = λ may done. rest.lawful (may_begin anew lawful_mid may) done;
       bad = subst (λ (f : Files). BadBy changing f.pkg f.idx given) stands rest.bad;
       complete = λ lawful. rest.complete (lawful_mid lawful);
       stops = λ lawful. subst StopsBy stands (stops_past lawful);
@@ -94,3 +96,9 @@ module _ {D : Type 0} (files : D → Files) (left_since : D → ℕ → Files �
       held = λ done. subst (λ (f : Files). IfOk (store f.pkg) (λ s. (image : Files) → left_since new (moment new) image
           → HasState (after course (state f.pkg s)) image)) stands (rest.held done);
     }
+
+    -- and its limits are met first as on the files that were recovered
+    pub recovered_limits : LimitsBy anew (IsLawfulGroup (files mid)) course (reopened (files mid)) given
+        → LimitsBy anew (IsLawfulGroup (files old)) course (reopened (files old)) given
+    recovered_limits limits = λ indexed may. subst (λ (f : Files). LimitsOn indexed anew course f given) stands
+        (limits indexed (λ asked. may_begin anew lawful_mid (may asked)))

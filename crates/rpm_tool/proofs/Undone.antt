@@ -1,6 +1,9 @@
 -- What the answers to words that aren't done say.
-use Rattle.std.proofs.Common.{◌≡◌, ◌∙◌, ℕ, true, false, List, Option, Some, None, Result, Ok, Err, refl, sym, ap, inl, inr}
+use Rattle.std.proofs.Common.{◌≡◌, ◌∙◌, ℕ, true, false, List, Option, Some, None, Result, Ok, Err, refl, sym, ap, subst, inl, inr}
+use Rattle.std.specs.Prelude.{◌≢◌}
 use Rattle.rpm_words.specs.declared.fault.WordsFault.{WordsFault}
+use Rattle.rpm_words.specs.declared.fault.WordsKind.TheVariants as kind
+use Rattle.rpm_qfparse.specs.declared.fault.FormatKind.TheVariants as wrong
 use Rattle.rpm_words.specs.Ask.{AskParts}
 use Rattle.rpm_qfparse.specs.declared.fault.FormatFault.{FormatFault}
 use Rattle.rpm_qfparse.specs.Tree.{Tree}
@@ -46,6 +49,25 @@ module _ (words : List (List ℕ)) where
   format_of_undone asked (why.BadFormat g) t f = (λ same. cc, λ e. inl cc)
   format_of_undone asked why.NoMemory t f = (λ same. cc, λ e. inr refl)
   format_of_undone asked _ t f = absurd t
+
+  -- neither is told of want of memory
+  pub kind_of_usage : (asked : Result AskParts WordsFault) (w : Why) → Undone asked (format_in words asked) w → (f : WordsFault) → w ≡ why.Usage f
+      → f.kind ≢ kind.NoMemory
+  kind_of_usage asked (why.Usage g) t f same =
+      let one : g ≡ f = cc in
+      subst (λ (x : WordsFault). x.kind ≢ kind.NoMemory) one t.1
+  kind_of_usage asked (why.BadFormat g) t f same = absurd cc
+  kind_of_usage asked why.NoMemory t f same = absurd cc
+  kind_of_usage asked _ t f same = absurd t
+
+  pub kind_of_format : (asked : Result AskParts WordsFault) (w : Why) → Undone asked (format_in words asked) w → (f : FormatFault) → w ≡ why.BadFormat f
+      → f.kind ≢ wrong.NoMemory
+  kind_of_format asked (why.BadFormat g) t f same =
+      let one : g ≡ f = cc in
+      subst (λ (x : FormatFault). x.kind ≢ wrong.NoMemory) one t.1
+  kind_of_format asked (why.Usage g) t f same = absurd cc
+  kind_of_format asked why.NoMemory t f same = absurd cc
+  kind_of_format asked _ t f same = absurd t
 
   -- none of them comes where the format was read
   module _ (asked : Result AskParts WordsFault) (tree : Tree) (read : format_in words asked ≡ Some (Ok tree)) (w : Why) (done : is_of_words w ≡ false) where

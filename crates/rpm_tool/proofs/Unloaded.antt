@@ -18,6 +18,7 @@ use Rattle.rpm_tool.specs.Changing.{DidOn, ChangesWith}
 use Rattle.rpm_tool.specs.Working.{WorkedWith, EndsGroup}
 use Rattle.rpm_tool.proofs.Grouped.{group_did, group_changes}
 use Rattle.rpm_tool.proofs.Ends.{release_ends}
+use Rattle.rpm_tool.proofs.LimitEnds.{limits_unloaded}
 use Rattle.rpm_tool.proofs.Unmade.{through_none}
 use Rattle.rpm_tool.proofs.Unworked.{worked_none, load_halts}
 
@@ -53,4 +54,4 @@ module _ {D : Type 0} (tells : Bool) (files : D → Files) (left_since : D → �
   unloaded_changes {anew} {changing} here there = group_changes files left_since moment course (Err given) given 0 first last last over x x closed
       (worked anew changing) ends
       same here settled
-      (looks.untouched told).images looks.moment_stays there
+      (looks.untouched told).images looks.moment_stays there (λ indexed may. limits_unloaded indexed anew course (reopened (files first)) fault)

@@ -90,7 +90,8 @@ module _ {D : Type 0} (files : D → Files) (left_since : D → ℕ → Files �
     refused = λ no. stands;
     made = λ done. absurd cc;
     index = λ lawful done. absurd cc;
-    full = λ lawful. if_ok (store r.pkg) (λ s is. tt);
+    settled = λ done. absurd cc;
+    lawful = λ may done. absurd cc;
     bad = λ unit is. absurd cc;
     complete = λ lawful. absurd (unlawful_log (log_state (files old).log) unit says lawful.sound);
     stops = λ lawful. if_ok (store r.pkg) (λ s is.
@@ -112,7 +113,8 @@ module _ {D : Type 0} (files : D → Files) (left_since : D → ℕ → Files �
     refused = λ no. stands;
     made = λ done. absurd cc;
     index = λ lawful done. absurd cc;
-    full = λ lawful. if_ok (store r.pkg) (λ s is. tt);
+    settled = λ done. absurd cc;
+    lawful = λ may done. absurd cc;
     bad = λ unit is. absurd cc;
     complete = λ lawful. refl;
     stops = λ lawful. if_ok (store r.pkg) (λ s is.

@@ -1,19 +1,16 @@
 -- A command that was stopped before its first change.
-use Rattle.std.proofs.Common.{◌≡◌, ℕ, Bool, true, false, List, [], Result, Ok, Err, refl, subst, inl}
+use Rattle.std.proofs.Common.{◌≡◌, ℕ, Bool, true, false, [], Result, Ok, Err, refl}
 use Rattle.rpm_outside.specs.Files.{Units, Files}
 use Rattle.rpm_pkgdb.specs.declared.slot.Damage.{Damage}
 use Rattle.rpm_pkgdb.specs.Store.{Store, store}
-use Rattle.rpm_db.specs.Changes.{Change}
 use Rattle.rpm_db.specs.Openings.{must_make, units_needed}
 use Rattle.rpm_db.specs.State.{State, state}
 use Rattle.rpm_change.specs.Steps.{Course}
 use Rattle.rpm_change.specs.Endings.{Outputs, Through, ThroughSome}
 use Rattle.rpm_tool.specs.declared.answer.Why.{Why}
 use Rattle.rpm_tool.specs.declared.answer.Why.TheVariants as why
-use Rattle.rpm_tool.specs.Changing.{FullTurn, makes}
 use Rattle.rpm_tool.specs.Working.{OpensIn, OpensBy, Stopped, WorkedBy, WorkedWith, Worked}
 use Rattle.rpm_tool.proofs.Brokens.{open_unbroken}
-use Rattle.rpm_tool.proofs.Standing.{if_ok}
 
 none_done : (c : Course) (old new : Outputs) → Through [] old new → ThroughSome c.steps old new
 none_done c old new none = record { done = []; rest = c.steps; all_is = refl; through = none }
@@ -39,44 +36,16 @@ stopped_open c making needed s new why.OutFault before now opens none = absurd o
 stopped_open c making needed s new why.ErrFault before now opens none = absurd opens
 stopped_open c making needed s new why.NoMemory before now opens none = none_done c before now none
 
-full_open : (making makes : Bool) (needed : ℕ) (s : State) (changes : List Change) (new : Files) (w : Why) → (making ≡ true → makes ≡ true)
-    → OpensIn making needed s new (Err w) → FullTurn makes needed s changes w
-full_open making makes needed s changes new why.Done more opens = absurd opens
-full_open making makes needed s changes new (why.Failed n) more opens = absurd opens
-full_open making makes needed s changes new (why.Usage f) more opens = absurd opens
-full_open making makes needed s changes new (why.BadFormat f) more opens = absurd opens
-full_open making makes needed s changes new (why.BadLog u) more opens = absurd opens
-full_open making makes needed s changes new (why.Damaged d) more opens = absurd opens
-full_open making makes needed s changes new why.NumbersSpent more opens = absurd opens
-full_open making makes needed s changes new why.GenerationSpent more opens = absurd opens
-full_open making makes needed s changes new why.StoreFull more opens = absurd opens
-full_open making makes needed s changes new (why.NotEmpty held) more opens = absurd opens
-full_open making makes needed s changes new (why.BadIndex u) more opens = absurd opens
-full_open making makes needed s changes new (why.IndexFull u) more opens = inl (more opens.0, opens.1, opens.2)
-full_open making makes needed s changes new (why.LogFull u) more opens = absurd opens
-full_open making makes needed s changes new why.DiskFault more opens = tt
-full_open making makes needed s changes new why.ShelfFault more opens = absurd opens
-full_open making makes needed s changes new why.OutFault more opens = absurd opens
-full_open making makes needed s changes new why.ErrFault more opens = absurd opens
-full_open making makes needed s changes new why.NoMemory more opens = tt
-
 unopened : (course : State → Course) (old new last : Files) (sr : Result Store Damage) (w : Why) (before now : Outputs) → OpensBy old sr new (Err w)
     → Through [] before now → WorkedBy course old.pkg sr last (Err w) before now
 unopened course old new last (Ok s) w before now opens none =
     stopped_open (course (state old.pkg s)) (must_make old.idx (Ok s)) (units_needed old.pkg (Ok s)) (state old.pkg s) new w before now opens none
 unopened course old new last (Err d) w before now opens none = (opens, none)
 
--- an index that must be made is made
-more_makes : (anew : Bool) (idx : Units) (s : Store) → must_make idx (Ok s) ≡ true → makes anew idx s ≡ true
-more_makes true idx s must = refl
-more_makes false idx s must = must
-
 pub open_with : (anew changing : Bool) (course : State → Course) (old new : Files) (w : Why) (before now : Outputs) → OpensBy old (store old.pkg) new (Err w)
     → Through [] before now → WorkedWith anew changing course old new (Err w) before now
 open_with anew changing course old new w before now opens none = record {
   went = unopened course old new new (store old.pkg) w before now opens none;
-  full = λ _. if_ok (store old.pkg) (λ s is. full_open (must_make old.idx (Ok s)) _ _ _ _ new w (more_makes anew old.idx s)
-      (subst (λ (sr : Result Store Damage). OpensBy old sr new (Err w)) is opens));
   bad = λ unit is. absurd (open_unbroken old new (store old.pkg) w unit opens is);
   made = tt;
   index = λ _. tt;

@@ -18,7 +18,7 @@ use Rattle.rpm_tool.specs.Changing.{DidOpened, DidLoaded, DidOn, ChangesWith, St
 use Rattle.rpm_tool.specs.Keyed.{AreLawfulGroups}
 use Rattle.rpm_tool.proofs.Standing.{if_ok}
 use Rattle.rpm_outside.specs.Shelves.{Paths}
-use Rattle.rpm_tool.specs.Tasks.{TaskParts, task_course}
+use Rattle.rpm_tool.specs.Tasks.{TaskParts, task_course, is_anew}
 use Rattle.rpm_tool.specs.inner.OneChange.{OneChange}
 use Rattle.rpm_tool.proofs.LimitEnds.{limits_starved}
 use Rattle.rpm_tool.proofs.Unmade.{through_none, none_done}
@@ -53,7 +53,8 @@ module _ {D : Type 0} (files : D → Files) (left_since : D → ℕ → Files �
     refused = λ no. refl;
     made = λ done. absurd cc;
     index = λ lawful done. absurd cc;
-    full = λ lawful. if_ok (store (reopened (files disk)).pkg) (λ s is. tt);
+    settled = λ done. absurd cc;
+    lawful = λ may done. absurd cc;
     bad = λ unit is. absurd cc;
     complete = λ lawful. refl;
     stops = λ lawful. if_ok (store (reopened (files disk)).pkg) (λ s is. still lawful (after course (state (reopened (files disk)).pkg s)));
@@ -72,7 +73,7 @@ unstarted_one files left_since moment paths now task disk x =
     record {
       did = unstarted_did course (files disk) x;
       changed = unstarted_changes files left_since moment course disk;
-      limits = limits_starved course (reopened (files disk));
+      limits = λ indexed may. limits_starved indexed (is_anew task) course (reopened (files disk));
       log = tt;
     }
 

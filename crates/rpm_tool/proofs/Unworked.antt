@@ -13,7 +13,6 @@ use Rattle.rpm_change.specs.Endings.{Outputs, Through}
 use Rattle.rpm_tool.specs.declared.answer.Why.TheVariants as why
 use Rattle.rpm_tool.specs.Answers.{why_of_load}
 use Rattle.rpm_tool.specs.Working.{WorkedWith, WorkedBy, IsOutside, is_halt}
-use Rattle.rpm_tool.proofs.Standing.{if_ok}
 use Rattle.rpm_tool.proofs.Unmade.{none_done}
 
 -- a fault of the disk, or want of memory
@@ -43,14 +42,12 @@ pub worked_none : {anew changing : Bool} (course : State → Course) (log : LogS
 worked_none course log (load.BadLog unit) old new before now closed says none = absurd (let wrong : Closed ≡ Malformed unit = sym closed ∙ says in cc)
 worked_none course log load.DiskFault old new before now closed says none = record {
   went = worked_fault course old.pkg (store old.pkg) new before now none;
-  full = λ lawful. if_ok (store old.pkg) (λ s is. tt);
   bad = λ unit is. absurd cc;
   made = tt;
   index = λ lawful. tt;
 }
 worked_none course log load.NoMemory old new before now closed says none = record {
   went = worked_memory course old.pkg (store old.pkg) new before now none;
-  full = λ lawful. if_ok (store old.pkg) (λ s is. tt);
   bad = λ unit is. absurd cc;
   made = tt;
   index = λ lawful. tt;

@@ -1,9 +1,8 @@
 -- From the opening of a database to the last change of a command.
-use Rattle.std.proofs.Common.{◌≡◌, ℕ, ◌^◌, ◌≤◌, Bool, true, false, List, Result, Ok, Err, refl, sym, subst, inr}
+use Rattle.std.proofs.Common.{◌≡◌, ◌≤◌, Bool, false, Result, Ok, Err, refl, sym, subst}
 use Rattle.rpm_outside.specs.Files.{Units, Files}
 use Rattle.rpm_pkgdb.specs.declared.slot.Damage.{Damage}
 use Rattle.rpm_pkgdb.specs.Store.{Store, store, in_file}
-use Rattle.rpm_db.specs.Changes.{Change}
 use Rattle.rpm_db.specs.Database.{Database, IsIndexed}
 use Rattle.rpm_db.specs.Lawful.{IsLawful, IsWholeIndex, HasRows}
 use Rattle.rpm_pkgdb.specs.Blobs.{blobs}
@@ -12,12 +11,10 @@ use Rattle.rpm_change.specs.declared.tally.Halt.{Halt}
 use Rattle.rpm_change.specs.declared.tally.Halt.TheVariants as halt
 use Rattle.rpm_change.specs.declared.tally.Tally.{Tally}
 use Rattle.rpm_change.specs.Steps.{Course}
-use Rattle.rpm_change.specs.Endings.{Outputs, Done, Ended, AllHaveRoom, IndexTurn, WholeTurn}
-use Rattle.rpm_tool.specs.Changing.{FullTurn, IsBroken}
+use Rattle.rpm_change.specs.Endings.{Outputs, Done, Ended, WholeTurn}
+use Rattle.rpm_tool.specs.Changing.{IsBroken}
 use Rattle.rpm_tool.specs.Working.{OpensBy, Stopped, WorkedBy, WorkedWith, Worked, why_of_halt}
 use Rattle.rpm_tool.proofs.Brokens.{done_unbroken, halt_unbroken}
-use Rattle.rpm_tool.proofs.Leavings.{full_done}
-use Rattle.rpm_tool.proofs.Standing.{if_ok}
 
 -- a store says the same as what its file says of it
 pub state-in_file : (file : Units) (value : Store) → state file (in_file value) ≡ state file value
@@ -38,19 +35,6 @@ halt_stopped c s t halt.OutFault before now ended = ended
 halt_stopped c s t halt.ErrFault before now ended = ended
 halt_stopped c s t halt.NoMemory before now ended = ended
 
-halt_full : (making : Bool) (needed : ℕ) (s : State) (changes : List Change) (h : Halt) → (making ≡ true → needed ≤ 2 ^ 28)
-    → IndexTurn s changes (Err h) → FullTurn making needed s changes (why_of_halt h)
-halt_full making needed s changes halt.NumbersSpent room turn = tt
-halt_full making needed s changes halt.GenerationSpent room turn = tt
-halt_full making needed s changes halt.StoreFull room turn = tt
-halt_full making needed s changes (halt.IndexFull n) room turn = inr (room, turn)
-halt_full making needed s changes (halt.BadIndex u) room turn = turn
-halt_full making needed s changes halt.DiskFault room turn = tt
-halt_full making needed s changes halt.ShelfFault room turn = tt
-halt_full making needed s changes halt.OutFault room turn = tt
-halt_full making needed s changes halt.ErrFault room turn = tt
-halt_full making needed s changes halt.NoMemory room turn = tt
-
 module _ (course : State → Course) (old mid new : Files) (db last : Database) (before now : Outputs) where
   -- the state that was found
   abbrev found : State
@@ -63,14 +47,10 @@ module _ (course : State → Course) (old mid new : Files) (db last : Database) 
   halted_by (Err d) h t opens ended = absurd opens
 
   pub halted_worked : (h : Halt) (t : State) → OpensBy old (store old.pkg) mid (Ok db) → Ended (course found) found t (Err h) before now
-      → (IsLawful old.pkg old.idx → IndexTurn found (course found).changes (Err h)) → (¬ IsWholeIndex mid.idx → IsBroken old.pkg old.idx)
+      → (¬ IsWholeIndex mid.idx → IsBroken old.pkg old.idx)
       → (IsWholeIndex mid.idx → WholeTurn new.idx (Err h)) → Worked course old new (Err (why_of_halt h)) before now
-  halted_worked h t opens ended turn broken whole = record {
+  halted_worked h t opens ended broken whole = record {
     went = halted_by (store old.pkg) h t opens ended;
-    full = λ lawful. if_ok (store old.pkg) (λ s is.
-        (let opened = subst (λ (sr : Result Store Damage). OpensBy old sr mid (Ok db)) is opens in
-        halt_full _ _ (state old.pkg s) (course (state old.pkg s)).changes h opened.1
-        (subst (λ (x : State). IndexTurn x (course x).changes (Err h)) opened.0 (turn lawful))));
     bad = λ unit is. (refl, broken (λ was. halt_unbroken new.idx h unit (whole was) is));
     made = tt;
     index = λ lawful. tt;
@@ -88,14 +68,9 @@ module _ (course : State → Course) (old mid new : Files) (db last : Database) 
 
   pub done_worked : {changing : Bool} (tally : Tally) → OpensBy old (store old.pkg) mid (Ok db) → store new.pkg ≡ Ok (in_file last.store)
       → Done (course found) found (state new.pkg last.store) tally before now
-      → (IsLawful old.pkg old.idx → IndexTurn found (course found).changes (Ok tally)) → 1 ≤ last.store.pages
-      → (IsLawful old.pkg old.idx → IsIndexed new.pkg new.idx last) → WorkedWith false changing course old new (Ok tally) before now
-  done_worked tally opens keeps done turn paged indexed = record {
+      → 1 ≤ last.store.pages → (IsLawful old.pkg old.idx → IsIndexed new.pkg new.idx last) → WorkedWith false changing course old new (Ok tally) before now
+  done_worked tally opens keeps done paged indexed = record {
     went = done_by (store old.pkg) tally opens keeps done;
-    full = λ lawful. if_ok (store old.pkg) (λ s is.
-        (let opened = subst (λ (sr : Result Store Damage). OpensBy old sr mid (Ok db)) is opens in
-        full_done _ _ (state old.pkg s) (course (state old.pkg s)).changes tally.failed opened.1
-        (subst (λ (x : State). AllHaveRoom x (course x).changes) opened.0 (turn lawful))));
     bad = λ unit is. absurd (done_unbroken tally.failed unit is);
     made = record { value = in_file last.store; undamaged = keeps; paged = paged };
     index = λ lawful. record {

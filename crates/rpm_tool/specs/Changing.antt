@@ -1,20 +1,21 @@
 -- Commands that change packages: what each answers and leaves. A command is the course that it takes from the state that it finds.
-use Rattle.std.specs.Prelude.{◌≡◌, ◌⊎◌, ℕ, ◌^◌, ◌<◌, ◌≤◌, List, [], length, Bool, true, false, Some, None, is_some, Result, Ok, Err, IfOk}
+use Rattle.std.specs.Prelude.{◌≡◌, ◌⊎◌, ℕ, ◌<◌, ◌≤◌, List, [], length, Bool, true, false, Some, None, is_some, Result, Ok, Err, IfOk}
 use Rattle.std.specs.Ordering.{nat_cmp}
 use Rattle.std.specs.FinMap as finite
 use Rattle.std.specs.FinMap.{FinMap}
+use Rattle.rpm_outside.specs.Changes.{AreSettled}
 use Rattle.rpm_outside.specs.Crash.{LeavesOnly}
 use Rattle.rpm_outside.specs.Files.{Units, Files}
 use Rattle.rpm_outside.specs.Logs.{LogState, Closed, Malformed, Open, log_state, reopened}
 use Rattle.rpm_pkgdb.specs.declared.slot.Damage.{Damage}
 use Rattle.rpm_pkgdb.specs.Store.{Store, store}
-use Rattle.rpm_db.specs.Changes.{Change, Says}
+use Rattle.rpm_db.specs.Changes.{Says}
 use Rattle.rpm_db.specs.Lawful.{HasRows, IsWholeIndex, is_current_at}
-use Rattle.rpm_db.specs.Openings.{must_make, units_needed}
+use Rattle.rpm_db.specs.Openings.{must_make}
 use Rattle.rpm_db.specs.Database.{IsNext}
 use Rattle.rpm_db.specs.State.{State, Package, state, packages}
 use Rattle.rpm_change.specs.Steps.{Course, apply_all}
-use Rattle.rpm_change.specs.Endings.{Outputs, Through, ThroughSome, StoppedWithin, AllHaveRoom, IsFullAt}
+use Rattle.rpm_change.specs.Endings.{Outputs, Through, ThroughSome, StoppedWithin}
 use Rattle.rpm_tool.specs.declared.answer.Why.{Why}
 use Rattle.rpm_tool.specs.declared.answer.Why.TheVariants as why
 use Rattle.rpm_tool.specs.Answers.{Misread, Refused}
@@ -102,28 +103,10 @@ StandsStillOr images s image = StandsStill images image ⊎ (IsLawfulGroup image
 
 -- ---- limits
 
--- the index is full exactly where it must be made and has no room, or at the turn of a change that has none; and never bad
-abbrev pub FullTurn : Bool → ℕ → State → List Change → Why → Type 0
-FullTurn making needed s changes (why.IndexFull told) =
-    ((making ≡ true) × (2 ^ 28 < needed) × (told ≡ needed)) ⊎ ((making ≡ true → needed ≤ 2 ^ 28) × IsFullAt told s changes)
-FullTurn making needed s changes (why.BadIndex unit) = ⊥
-FullTurn making needed s changes why.Done = (making ≡ true → needed ≤ 2 ^ 28) × AllHaveRoom s changes
-FullTurn making needed s changes (why.Failed n) = (making ≡ true → needed ≤ 2 ^ 28) × AllHaveRoom s changes
-FullTurn making needed s changes (why.LogFull units) = (making ≡ true → needed ≤ 2 ^ 28) × AllHaveRoom s changes
-FullTurn making needed s changes others = Unit {0}
-
 -- the index is made where it isn't current; anew, whatever it is
 abbrev pub makes : Bool → Units → Store → Bool
 makes true idx value = true
 makes false idx value = must_make idx (Ok value)
-
--- of files whose Packages.db isn't damaged, and of a command that makes the index anew or doesn't
-abbrev pub FullBy : Bool → (State → Course) → Files → Why → Type 0
-FullBy anew course files given = IfOk (store files.pkg) (λ value. FullTurn (makes anew files.idx value) (units_needed files.pkg (Ok value))
-    (state files.pkg value) (course (state files.pkg value)).changes given)
-
-abbrev pub FullOn : (State → Course) → Files → Why → Type 0
-FullOn course files given = FullBy false course files given
 
 -- a command that asks for no packages finds none, or is refused with the least number; what stops it before it looks comes either way
 abbrev pub EmptyIs : FinMap nat_cmp Package → Why → Type 0
@@ -185,7 +168,8 @@ pub record ChangesWith {D : Type 0} (anew changing : Bool) (files : D → Files)
   pub refused : is_done_or_fault given ≡ false → reopened (files new) ≡ reopened (files old)
   pub made : is_done given ≡ true → IsMade (reopened (files new)).pkg
   pub index : MayBegin anew (IsLawfulGroup (files old)) → is_done given ≡ true → IsSealed (files new)
-  pub full : MayBegin anew (IsLawfulGroup (files old)) → FullBy anew course (reopened (files old)) given
+  pub settled : is_done given ≡ true → AreSettled (files new) (left_since new (moment new))
+  pub lawful : MayBegin anew (IsLawfulGroup (files old)) → is_done given ≡ true → AreLawfulGroups (left_since new (moment new))
   pub bad : BadBy changing (reopened (files old)).pkg (reopened (files old)).idx given
   pub complete : IsLawfulGroup (files old) → is_of_lawful given ≡ true
   pub stops : AreLawfulGroups (left_since old (moment old)) → IfOk (store (reopened (files old)).pkg)

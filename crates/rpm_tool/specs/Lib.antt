@@ -3,6 +3,7 @@ pub mod Asked
 pub mod Changing
 pub mod Closing
 pub mod FileReport
+pub mod Frame
 pub mod Given
 pub mod History
 pub mod Keyed
@@ -16,5 +17,6 @@ pub mod Reports
 pub mod Requirements
 pub mod Steps
 pub mod Tasks
+pub mod Theorem
 pub mod Working
 pub mod inner

@@ -1,59 +1,49 @@
--- The limits of a command that changes packages: numbers, generations and places are spent exactly at the turn of a change for which none is left.
-use Rattle.std.specs.Prelude.{◌≡◌, ◌≢◌, ℕ, ◌+◌, ◌^◌, ◌<◌, ◌≤◌, ◌==◌, if◌then◌else◌, List, length, None, IsSome, IfOk}
+-- The limits of a command that changes packages: the first that it meets is the one that it is answered.
+use Rattle.std.specs.Prelude.{◌≡◌, ℕ, ◌+◌, ◌^◌, ◌<◌, ◌≤◌, ◌==◌, if◌then◌else◌, List, Bool, true, false, Option, Some, None, IfOk}
 use Rattle.rpm_outside.specs.Files.{Files}
 use Rattle.rpm_pkgdb.specs.Store.{Store, store}
 use Rattle.rpm_pkgdb.specs.Written.{made_new}
 use Rattle.rpm_group.specs.Groups.{longest_log}
 use Rattle.rpm_db.specs.Changes.{Change, Says}
 use Rattle.rpm_db.specs.State.{State, state}
-use Rattle.rpm_change.specs.Limits.{next_stores}
-use Rattle.rpm_change.specs.Numbers.{AllHaveNumbers, AreSpent}
+use Rattle.rpm_change.specs.declared.tally.Halt.{Halt}
+use Rattle.rpm_change.specs.declared.tally.Halt.TheVariants as halt
+use Rattle.rpm_change.specs.Limits.{first_refusal, first_limit}
 use Rattle.rpm_change.specs.Steps.{Course}
 use Rattle.rpm_tool.specs.declared.answer.Why.{Why}
 use Rattle.rpm_tool.specs.declared.answer.Why.TheVariants as why
-use Rattle.rpm_tool.specs.Changing.{after}
+use Rattle.rpm_tool.specs.Changing.{MayBegin, makes, after}
 
 -- the store that the first change finds: where there is no database, one is made
 abbrev pub begun : Store → Store
 begun value = if value.pages == 0 then made_new value else value
 
--- the numbers are spent exactly where a change needs a new one and none is left for it
-abbrev pub NumbersIs : State → List Change → Why → Type 0
-NumbersIs s changes why.NumbersSpent = AreSpent s changes
-NumbersIs s changes why.Done = AllHaveNumbers s changes
-NumbersIs s changes (why.Failed n) = AllHaveNumbers s changes
-NumbersIs s changes (why.LogFull units) = AllHaveNumbers s changes
-NumbersIs s changes others = Unit {0}
+-- what a command is refused for first: an index that has no room, where one is made before the changes, and then what refuses the first change
+-- that is refused; where the index isn't asked, only what comes before it in a change
+abbrev pub command_limit : Bool → Bool → State → Store → List Change → Option Halt
+command_limit true made s value changes = first_limit made s value changes
+command_limit false made s value changes = first_refusal false s value changes
 
--- each change raises the generation by one, and none of them finds the last one
-abbrev pub AreUnspent : ℕ → List Change → Type 0
-AreUnspent g changes = (k : ℕ) → k < length changes → g + k ≢ 4294967295
+-- a command that was done met no limit, nor one whose log is too long; one that a limit stopped met that one first, and its index isn't bad
+abbrev pub MeetsFirst : Bool → Option Halt → Why → Type 0
+MeetsFirst indexed first why.Done = first ≡ None
+MeetsFirst indexed first (why.Failed n) = first ≡ None
+MeetsFirst indexed first (why.LogFull units) = first ≡ None
+MeetsFirst indexed first why.NumbersSpent = first ≡ Some halt.NumbersSpent
+MeetsFirst indexed first why.GenerationSpent = first ≡ Some halt.GenerationSpent
+MeetsFirst indexed first why.StoreFull = first ≡ Some halt.StoreFull
+MeetsFirst indexed first (why.IndexFull told) = indexed ≡ true → first ≡ Some (halt.IndexFull told)
+MeetsFirst indexed first (why.BadIndex unit) = indexed ≡ false
+MeetsFirst indexed first others = Unit {0}
 
--- the generations are spent exactly where a change finds the last one
-abbrev pub GenerationsIs : ℕ → List Change → Why → Type 0
-GenerationsIs g changes why.GenerationSpent = (k : ℕ) × (k < length changes) × (g + k ≡ 4294967295)
-GenerationsIs g changes why.Done = AreUnspent g changes
-GenerationsIs g changes (why.Failed n) = AreUnspent g changes
-GenerationsIs g changes (why.LogFull units) = AreUnspent g changes
-GenerationsIs g changes others = Unit {0}
+-- of a course, on files whose Packages.db isn't damaged, and of a command that makes the index anew or doesn't
+abbrev pub LimitsOn : Bool → Bool → (State → Course) → Files → Why → Type 0
+LimitsOn indexed anew course files given = IfOk (store files.pkg) (λ value. MeetsFirst indexed
+    (command_limit indexed (makes anew files.idx value) (state files.pkg value) (begun value) (course (state files.pkg value)).changes) given)
 
--- the store is full exactly where a change finds no place in it
-abbrev pub PlacesIs : List Change → Store → Why → Type 0
-PlacesIs changes value why.StoreFull = next_stores changes value ≡ None
-PlacesIs changes value why.Done = IsSome (next_stores changes value)
-PlacesIs changes value (why.Failed n) = IsSome (next_stores changes value)
-PlacesIs changes value (why.LogFull units) = IsSome (next_stores changes value)
-PlacesIs changes value others = Unit {0}
-
--- so each of these limits is met exactly at its turn among these changes of a state and a store
-pub record LimitsAre (s : State) (value : Store) (changes : List Change) (given : Why) : Type 0 where
-  pub numbers : NumbersIs s changes given
-  pub generations : GenerationsIs value.generation changes given
-  pub places : PlacesIs changes value given
-
--- of a course, on files whose Packages.db isn't damaged
-abbrev pub LimitsOn : (State → Course) → Files → Why → Type 0
-LimitsOn course files given = IfOk (store files.pkg) (λ value. LimitsAre (state files.pkg value) (begun value) (course (state files.pkg value)).changes given)
+-- the index is asked where it is made anew, and where the database is lawful
+abbrev pub LimitsBy : Bool → Type 0 → (State → Course) → Files → Why → Type 0
+LimitsBy anew Lawful course files given = (indexed : Bool) → (indexed ≡ true → MayBegin anew Lawful) → LimitsOn indexed anew course files given
 
 -- ---- the log
 

@@ -20,7 +20,7 @@ use Rattle.rpm_tool.specs.Closing.{status_of, closing}
 use Rattle.rpm_tool.specs.Given.{given_on}
 use Rattle.rpm_tool.specs.History.{RunCall, course_of}
 use Rattle.rpm_tool.specs.Keyed.{AreLawfulGroups, IsLawfulGroup, StandsStill, IsReady, KeyedIs, FullIs, BadIs, HasRoom, is_done, is_done_or_outside}
-use Rattle.rpm_tool.specs.Limits.{LimitsOn, LogOn}
+use Rattle.rpm_tool.specs.Limits.{LimitsBy, LogOn}
 use Rattle.rpm_tool.specs.PackageFiles.{query_files}
 use Rattle.rpm_tool.specs.Tasks.{asked_task, asked_course, is_anew, changes_index, needs_none}
 
@@ -86,7 +86,8 @@ pub record LineIs {D : Type 0} (files : D → Files) (left_since : D → ℕ →
   pub empty : Of call.words (λ a tree. is_changing a ≡ true
       → EmptyBy (needs_none (asked_task call.words a)) (reopened (files old.disk)) call.outcome.why)
   pub limits : Of call.words (λ a tree. is_changing a ≡ true
-      → LimitsOn (asked_course paths now call.words a) (reopened (files old.disk)) call.outcome.why)
+      → LimitsBy (is_anew (asked_task call.words a)) (IsLawfulGroup (files old.disk)) (asked_course paths now call.words a) (reopened (files old.disk))
+      call.outcome.why)
   pub log : Of call.words (λ a tree. is_changing a ≡ true
       → LogOn (asked_course paths now call.words a) (reopened (files old.disk)) call.outcome.why)
   -- faults

@@ -26,7 +26,7 @@ use Rattle.rpm_exercise.specs.declared.running.ExerciseFault.TheVariants.{NotEmp
 use Rattle.rpm_tool.specs.declared.answer.Why.{Why}
 use Rattle.rpm_tool.specs.declared.answer.Why.TheVariants as why
 use Rattle.rpm_tool.specs.Answers.{Refused}
-use Rattle.rpm_tool.specs.Changing.{Did, FullBy, BadBy, MayBegin, HasCurrent, IsMade, is_done_or_fault}
+use Rattle.rpm_tool.specs.Changing.{Did, BadBy, MayBegin, HasCurrent, IsMade, is_done_or_fault}
 use Rattle.rpm_tool.specs.Keyed.{is_done}
 
 -- ---- opening
@@ -118,7 +118,6 @@ why_of (Err given) = given
 -- from these files to those, of a command that makes the index anew or doesn't, and that changes the one that it finds or doesn't
 pub record WorkedWith (anew changing : Bool) (course : State → Course) (old new : Files) (ended : Result Tally Why) (before now : Outputs) : Type 0 where
   pub went : WorkedBy course old.pkg (store old.pkg) new ended before now
-  pub full : MayBegin anew (IsLawful old.pkg old.idx) → FullBy anew course old (why_of ended)
   pub bad : BadBy changing old.pkg old.idx (why_of ended)
   pub made : IfOk ended (λ tally. IsMade new.pkg)
   pub index : MayBegin anew (IsLawful old.pkg old.idx) → IfOk ended (λ tally. HasCurrent new.pkg new.idx)

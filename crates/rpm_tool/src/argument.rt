@@ -1,19 +1,17 @@
 //! One argument of a query.
 
-ghost use Rattle.std.specs.Prelude.{◌≡◌, ◌≢◌, ◌+◌, ◌≤◌, ℕ, [], false, IsTrue, Some, Err, IfOk, IfErr};
-ghost use Rattle.rpm_outside.specs.Buffered.{inner, holds, HandsOn};
-ghost use Rattle.rpm_outside.specs.Causes.{HasCauseAt};
+ghost use Rattle.std.specs.Prelude.{◌≡◌, ◌≢◌, ◌+◌, ◌≤◌, ℕ, [], false, IsTrue, Err, IfOk, IfErr};
+ghost use Rattle.rpm_outside.specs.Buffered.{holds, HandsOn};
 ghost use Rattle.rpm_outside.specs.declared.disk.File.TheVariants.{Pkg};
-ghost use Rattle.rpm_outside.specs.Looks.{Looks};
-ghost use Rattle.rpm_db.specs.State.{packages, above};
+ghost use Rattle.rpm_db.specs.State.{above};
 ghost use Rattle.rpm_db.specs.Database as database;
-ghost use Rattle.rpm_db.specs.Database.{Keeps, KeepsIndex, is_indexed, cost_to, cost_all};
+ghost use Rattle.rpm_db.specs.Database.{is_indexed, cost_to, cost_all};
 ghost use Rattle.rpm_select.specs.Selections.{picks};
-ghost use Rattle.rpm_select.specs.Reach.{Serves, HasIndexRows, reach_to, reach_all};
+ghost use Rattle.rpm_select.specs.Reach.{Serves, reach_to, reach_all};
 ghost use Rattle.rpm_tool.specs.Queries.{lent, question_of, answered, argument_part};
-ghost use Rattle.rpm_tool.specs.Reads.{ReadsOf, argument_reach, Peeks, IsOfChain};
-ghost use Rattle.rpm_change.specs.Endings.{outputs};
+ghost use Rattle.rpm_tool.specs.Reads.{ReadsOf, argument_reach, IsOfChain};
 ghost use Rattle.rpm_tool.specs.Answers.{PartIs, is_some_of, is_of_sink};
+ghost use Rattle.rpm_tool.specs.Frame.{Looks, Peeks, shown, DiskFault, SinkFault, Kept, KeptIndex, HasRows, packages_in, pkg_read};
 
 use crate::missing::put_missing_part;
 use crate::picked::{print_above, stop_of};
@@ -78,16 +76,15 @@ fn is_any_passed<D: Disk>(
     selection: &Selection<'_>,
     after: u32,
 ) -> Result<bool, Stop>
-    requires keeps { IsTrue D.tells → Keeps (D.files disk.old).pkg db.now }
+    requires keeps { Kept D.Disk disk.old db.now }
     requires runs { db.now.stopped ≡ false }
     requires from_one { database.holds 0 db.now ≡ false }
-    ensures kept { IsTrue D.tells → Keeps (D.files disk.new).pkg db.now }
-    ensures told { IsTrue D.tells → Serves picker.old (packages (D.files disk.old).pkg db.now.store) selection.now
-        → above after (picks (packages (D.files disk.old).pkg db.now.store) selection.now) ≡ []
-        → IfOk result (λ any. any ≡ is_some_of (picks (packages (D.files disk.old).pkg db.now.store) selection.now)) }
-    ensures reads { D.bytes_read disk.new File.Pkg ≤ D.bytes_read disk.old File.Pkg + reach_to after picker.old db.now }
-    ensures looks { Looks D.tells D.files D.left_since D.moment D.bytes_read D.follows Pkg (cost_to after db.now) disk.old disk.new }
-    ensures disk { HasCauseAt (result ≡ Err Stop.ReadFault) (D.faults disk.old) (D.faults disk.new) }
+    ensures kept { Kept D.Disk disk.new db.now }
+    ensures told { IsTrue D.tells → Serves picker.old (packages_in D.Disk disk.old db.now) selection.now → above after (picks (packages_in D.Disk disk.old
+        db.now) selection.now) ≡ [] → IfOk result (λ any. any ≡ is_some_of (picks (packages_in D.Disk disk.old db.now) selection.now)) }
+    ensures reads { pkg_read D.Disk disk.new ≤ pkg_read D.Disk disk.old + reach_to after picker.old db.now }
+    ensures looks { Looks D.Disk Pkg (cost_to after db.now) disk.old disk.new }
+    ensures disk { DiskFault D.Disk (result ≡ Err Stop.ReadFault) disk.old disk.new }
     ensures no_sink { IfErr result (λ stop. is_of_sink stop ≡ false) }
 {
     if after == 0 {
@@ -115,20 +112,19 @@ fn answer_question<D: Disk, O: Sink + Drop, E: Sink + Drop>(
 ) -> Result<bool, Stop>
     requires out_empty { holds out.old ≡ [] }
     requires err_empty { holds err.old ≡ [] }
-    requires keeps { IsTrue D.tells → Keeps (D.files disk.old).pkg db.now }
+    requires keeps { Kept D.Disk disk.old db.now }
     requires runs { db.now.stopped ≡ false }
     requires from_one { database.holds 0 db.now ≡ false }
-    ensures kept { IsTrue D.tells → Keeps (D.files disk.new).pkg db.now }
-    ensures went { IsTrue D.tells → Serves picker.old (packages (D.files disk.old).pkg db.now.store) selection.now → (j : ℕ) → PartIs
-        (answered format.now chosen after j text.now (picks (packages (D.files disk.old).pkg db.now.store) selection.now)) result
-        (outputs O.tells (O.taken (inner out.old)) E.tells (E.taken (inner err.old))) (outputs O.tells (O.taken (inner out.new)) E.tells
-        (E.taken (inner err.new))) (ReadsOf j picker.old db.now (D.bytes_read disk.old File.Pkg) (D.bytes_read disk.new File.Pkg)) }
-    ensures reads { D.bytes_read disk.new File.Pkg ≤ D.bytes_read disk.old File.Pkg + reach_all picker.old db.now }
-    ensures looks { Looks D.tells D.files D.left_since D.moment D.bytes_read D.follows Pkg (cost_all db.now) disk.old disk.new }
-    ensures disk { HasCauseAt (result ≡ Err Stop.ReadFault) (D.faults disk.old) (D.faults disk.new) }
+    ensures kept { Kept D.Disk disk.new db.now }
+    ensures went { IsTrue D.tells → Serves picker.old (packages_in D.Disk disk.old db.now) selection.now → (j : ℕ) → PartIs (answered format.now chosen after
+        j text.now (picks (packages_in D.Disk disk.old db.now) selection.now)) result (shown O.Sink E.Sink out.old err.old) (shown O.Sink E.Sink out.new
+        err.new) (ReadsOf j picker.old db.now (pkg_read D.Disk disk.old) (pkg_read D.Disk disk.new)) }
+    ensures reads { pkg_read D.Disk disk.new ≤ pkg_read D.Disk disk.old + reach_all picker.old db.now }
+    ensures looks { Looks D.Disk Pkg (cost_all db.now) disk.old disk.new }
+    ensures disk { DiskFault D.Disk (result ≡ Err Stop.ReadFault) disk.old disk.new }
     ensures unbroken { (unit : ℕ) → result ≢ Err (Stop.BadIndex unit) }
-    ensures out { HasCauseAt (result ≡ Err Stop.OutFault) (O.faults (inner out.old)) (O.faults (inner out.new)) }
-    ensures err { HasCauseAt (result ≡ Err Stop.ErrFault) (E.faults (inner err.old)) (E.faults (inner err.new)) }
+    ensures out { SinkFault O.Sink (result ≡ Err Stop.OutFault) out.old out.new }
+    ensures err { SinkFault E.Sink (result ≡ Err Stop.ErrFault) err.old err.new }
     ensures out_rest { HandsOn O.follows out.old out.new }
     ensures err_rest { HandsOn E.follows err.old err.new }
 {
@@ -163,25 +159,22 @@ pub fn answer<D: Disk, O: Sink + Drop, E: Sink + Drop>(
 ) -> Result<bool, Stop>
     requires out_empty { holds out.old ≡ [] }
     requires err_empty { holds err.old ≡ [] }
-    requires keeps { IsTrue D.tells → Keeps (D.files disk.old).pkg db.now }
-    requires keeps_index { IsTrue D.tells → KeepsIndex (D.files disk.old).idx db.now }
+    requires keeps { Kept D.Disk disk.old db.now }
+    requires keeps_index { KeptIndex D.Disk disk.old db.now }
     requires runs { db.now.stopped ≡ false }
     requires from_one { database.holds 0 db.now ≡ false }
-    ensures kept { IsTrue D.tells → Keeps (D.files disk.new).pkg db.now }
-    ensures kept_index { IsTrue D.tells → KeepsIndex (D.files disk.new).idx db.now }
-    ensures went { IsTrue D.tells → HasIndexRows db.now (D.files disk.old).pkg (D.files disk.old).idx → (j : ℕ) → PartIs
-        (argument_part format.now (packages (D.files disk.old).pkg db.now.store) chosen after j text.now) result
-        (outputs O.tells (O.taken (inner out.old)) E.tells (E.taken (inner err.old))) (outputs O.tells (O.taken (inner out.new)) E.tells
-        (E.taken (inner err.new))) (ReadsOf j (argument_reach (is_indexed db.now) (packages (D.files disk.old).pkg db.now.store) chosen text.now) db.now
-        (D.bytes_read disk.old File.Pkg) (D.bytes_read disk.new File.Pkg)) }
-    ensures reads { IsTrue D.tells → HasIndexRows db.now (D.files disk.old).pkg (D.files disk.old).idx → D.bytes_read disk.new File.Pkg
-        ≤ D.bytes_read disk.old File.Pkg + reach_all (argument_reach (is_indexed db.now) (packages (D.files disk.old).pkg db.now.store) chosen
-        text.now) db.now }
+    ensures kept { Kept D.Disk disk.new db.now }
+    ensures kept_index { KeptIndex D.Disk disk.new db.now }
+    ensures went { IsTrue D.tells → HasRows D.Disk disk.old db.now → (j : ℕ) → PartIs (argument_part format.now (packages_in D.Disk disk.old db.now) chosen
+        after j text.now) result (shown O.Sink E.Sink out.old err.old) (shown O.Sink E.Sink out.new err.new) (ReadsOf j (argument_reach (is_indexed db.now)
+        (packages_in D.Disk disk.old db.now) chosen text.now) db.now (pkg_read D.Disk disk.old) (pkg_read D.Disk disk.new)) }
+    ensures reads { IsTrue D.tells → HasRows D.Disk disk.old db.now → pkg_read D.Disk disk.new ≤ pkg_read D.Disk disk.old + reach_all (argument_reach
+        (is_indexed db.now) (packages_in D.Disk disk.old db.now) chosen text.now) db.now }
     ensures bad_index { IsTrue D.tells → IfErr result (IsOfChain (question_of chosen (lent text.now)) (D.files disk.old).idx) }
-    ensures looks { Peeks D.tells D.files D.left_since D.moment D.bytes_read D.follows (is_indexed db.now) disk.old disk.new }
-    ensures disk { HasCauseAt (result ≡ Err Stop.ReadFault) (D.faults disk.old) (D.faults disk.new) }
-    ensures out { HasCauseAt (result ≡ Err Stop.OutFault) (O.faults (inner out.old)) (O.faults (inner out.new)) }
-    ensures err { HasCauseAt (result ≡ Err Stop.ErrFault) (E.faults (inner err.old)) (E.faults (inner err.new)) }
+    ensures looks { Peeks D.Disk (is_indexed db.now) disk.old disk.new }
+    ensures disk { DiskFault D.Disk (result ≡ Err Stop.ReadFault) disk.old disk.new }
+    ensures out { SinkFault O.Sink (result ≡ Err Stop.OutFault) out.old out.new }
+    ensures err { SinkFault E.Sink (result ≡ Err Stop.ErrFault) err.old err.new }
     ensures out_rest { HandsOn O.follows out.old out.new }
     ensures err_rest { HandsOn E.follows err.old err.new }
 {

@@ -6,11 +6,9 @@ ghost use Rattle.rpm_outside.specs.Causes.{HasCauseAt, Rose};
 ghost use Rattle.rpm_outside.specs.Changes.{AreSettled, IsSettled};
 ghost use Rattle.rpm_outside.specs.Logs.{Closed, log_state, reopened, unlogged};
 ghost use Rattle.rpm_pkgdb.specs.Store.{store};
-ghost use Rattle.rpm_db.specs.Changes.{IsServing};
 ghost use Rattle.rpm_db.specs.Database as database;
-ghost use Rattle.rpm_db.specs.Database.{IsIndexed, is_blank, is_indexed};
+ghost use Rattle.rpm_db.specs.Database.{is_blank, is_indexed};
 ghost use Rattle.rpm_db.specs.Lawful.{IsLawful, IsWholeIndex};
-ghost use Rattle.rpm_db.specs.Runs.{Runs};
 ghost use Rattle.rpm_db.specs.State.{state};
 ghost use Rattle.rpm_db.specs.inner.Writes.{SameLog};
 ghost use Rattle.rpm_group.specs.Layers.{laid_files};
@@ -19,13 +17,14 @@ ghost use Rattle.rpm_change.specs.Endings.{outputs};
 ghost use Rattle.rpm_change.specs.Erasing as erasing;
 ghost use Rattle.rpm_change.specs.Steps.{idle};
 ghost use Rattle.rpm_words.specs.Ask.{IsSound};
-ghost use Rattle.rpm_tool.specs.Answers.{why_of_load, unless_starved, is_of_words};
-ghost use Rattle.rpm_tool.specs.Keyed.{why_of_recover, is_done};
+ghost use Rattle.rpm_tool.specs.Answers.{is_of_words};
+ghost use Rattle.rpm_tool.specs.Keyed.{is_done};
 ghost use Rattle.rpm_tool.specs.Changing.{EmptyBy, IsBroken, is_held};
 ghost use Rattle.rpm_tool.specs.Tasks.{task_parts, task_course, asked_task, reads_shelf, is_anew, changes_index, needs_none, IsCountable};
-ghost use Rattle.rpm_tool.specs.Limits.{LimitsOn, begun, LogIs};
+ghost use Rattle.rpm_tool.specs.Limits.{LimitsBy, begun, LogIs};
 ghost use Rattle.rpm_tool.specs.Working.{OpensBy, IsOutside, IsOfOpening, Worked, WorkedWith, CommittedAs, EndsGroup, is_halt, is_of_commit, is_of_streams, done_why, why_of, why_of_open, why_of_halt};
 ghost use Rattle.rpm_tool.specs.inner.OneChange.{OneChange};
+ghost use Rattle.rpm_tool.specs.Frame.{Runs, shown, DiskFault, SinkFault, ShelfFault, images, Serving, Indexed, state_in};
 
 use crate::answer::Why;
 use crate::courses::{add_on, exercise_on, import_on, rebuild_on, replace_on};
@@ -92,20 +91,19 @@ fn done_why(failed: u32) -> Why
 fn make_blank<D: Disk>(alloc: Global, db: &mut Db, disk: &mut D) -> Result<(), Why>
     requires going { db.old.stopped ≡ false }
     requires indexed { is_indexed db.old ≡ not (is_blank db.old) }
-    requires serving { IsTrue D.tells → IsServing (D.files disk.old) (D.left_since disk.old (D.moment disk.old)) db.old }
-    requires pkg { IsTrue D.tells → IsSettled File.Pkg (D.files disk.old) (D.left_since disk.old (D.moment disk.old)) }
+    requires serving { Serving D.Disk disk.old db.old }
+    requires pkg { IsTrue D.tells → IsSettled File.Pkg (D.files disk.old) (images D.Disk disk.old) }
     ensures indexed { OnOk result (is_indexed db.new ≡ true) }
     ensures going { OnOk result (db.new.stopped ≡ false) }
-    ensures serving { OnOk result (IsTrue D.tells → IsServing (D.files disk.new) (D.left_since disk.new (D.moment disk.new)) db.new) }
-    ensures state { OnOk result (IsTrue D.tells → state (D.files disk.new).pkg db.new.store ≡ state (D.files disk.old).pkg db.old.store) }
+    ensures serving { OnOk result (Serving D.Disk disk.new db.new) }
+    ensures state { OnOk result (IsTrue D.tells → state_in D.Disk disk.new db.new ≡ state_in D.Disk disk.old db.old) }
     ensures begun { OnOk result (db.new.store ≡ begun db.old.store) }
     ensures not_blank { OnOk result (is_blank db.new ≡ false) }
-    ensures rows { OnOk result (IsTrue D.tells → (is_blank db.old ≡ false → IsIndexed (D.files disk.old).pkg (D.files disk.old).idx db.old)
-        → IsIndexed (D.files disk.new).pkg (D.files disk.new).idx db.new) }
+    ensures rows { OnOk result (IsTrue D.tells → (is_blank db.old ≡ false → Indexed D.Disk disk.old db.old) → Indexed D.Disk disk.new db.new) }
     ensures whole { OnOk result (IsTrue D.tells → (is_blank db.old ≡ false → IsWholeIndex (D.files disk.old).idx) → IsWholeIndex (D.files disk.new).idx) }
     ensures fault { IfErr result IsOutside }
-    ensures runs { Runs D.tells D.files D.left_since D.moment D.bytes_read D.follows SameLog disk.old disk.new }
-    ensures disk { HasCauseAt (result ≡ Err Why.DiskFault) (D.faults disk.old) (D.faults disk.new) }
+    ensures runs { Runs D.Disk SameLog disk.old disk.new }
+    ensures disk { DiskFault D.Disk (result ≡ Err Why.DiskFault) disk.old disk.new }
 {
     match db.init(alloc, disk) {
         Ok(true) => Ok(()),
@@ -121,15 +119,14 @@ pub(crate) fn open_to_change<D: Disk>(alloc: Global, disk: &mut D) -> Result<Db,
     ensures indexed { IfOk result (λ db. is_indexed db ≡ true) }
     ensures going { IfOk result (λ db. db.stopped ≡ false) }
     ensures from_one { IfOk result (λ db. IsTrue D.tells → database.holds 0 db ≡ false) }
-    ensures serving { IfOk result (λ db. IsTrue D.tells → IsServing (D.files disk.new) (D.left_since disk.new (D.moment disk.new)) db) }
-    ensures rows { IfOk result (λ db. IsTrue D.tells → IsLawful (D.files disk.old).pkg (D.files disk.old).idx
-        → IsIndexed (D.files disk.new).pkg (D.files disk.new).idx db) }
+    ensures serving { IfOk result (λ db. Serving D.Disk disk.new db) }
+    ensures rows { IfOk result (λ db. IsTrue D.tells → IsLawful (D.files disk.old).pkg (D.files disk.old).idx → Indexed D.Disk disk.new db) }
     ensures broken { IfOk result (λ _db. IsTrue D.tells → ¬ IsWholeIndex (D.files disk.new).idx → IsBroken (D.files disk.old).pkg (D.files disk.old).idx) }
     ensures begun { IfOk result (λ db. IsTrue D.tells → IfOk (store (D.files disk.old).pkg) (λ value. db.store ≡ begun value)) }
     ensures not_blank { IfOk result (λ db. is_blank db ≡ false) }
     ensures fault { IfErr result IsOfOpening }
-    ensures runs { Runs D.tells D.files D.left_since D.moment D.bytes_read D.follows SameLog disk.old disk.new }
-    ensures disk { HasCauseAt (result ≡ Err Why.DiskFault) (D.faults disk.old) (D.faults disk.new) }
+    ensures runs { Runs D.Disk SameLog disk.old disk.new }
+    ensures disk { DiskFault D.Disk (result ≡ Err Why.DiskFault) disk.old disk.new }
 {
     let mut db = match Db::open(alloc, disk) {
         Ok(db) => db,
@@ -146,12 +143,12 @@ fn make_on<D: Disk>(alloc: Global, disk: &mut D) -> Result<Tally, Why>
     ensures worked { IsTrue D.tells → (out_tells err_tells : Bool) (out err : List ℕ)
         → WorkedWith false false (λ s. idle) (D.files disk.old) (D.files disk.new) result
         (outputs out_tells out err_tells err) (outputs out_tells out err_tells err) }
-    ensures limits { IsTrue D.tells → LimitsOn (λ s. idle) (D.files disk.old) (why_of result) }
-    ensures runs { Runs D.tells D.files D.left_since D.moment D.bytes_read D.follows SameLog disk.old disk.new }
+    ensures limits { IsTrue D.tells → LimitsBy false (IsLawful (D.files disk.old).pkg (D.files disk.old).idx) (λ s. idle) (D.files disk.old) (why_of result) }
+    ensures runs { Runs D.Disk SameLog disk.old disk.new }
     ensures halted { IfErr result (λ given. is_halt given ≡ true) }
     ensures held { IfErr result (λ given. is_held given ≡ false) }
     ensures streams { IfErr result (λ given. is_of_streams given ≡ false) }
-    ensures disk { HasCauseAt (result ≡ Err Why.DiskFault) (D.faults disk.old) (D.faults disk.new) }
+    ensures disk { DiskFault D.Disk (result ≡ Err Why.DiskFault) disk.old disk.new }
 {
     let _db = match open_to_change(alloc, disk) {
         Ok(db) => db,
@@ -175,14 +172,14 @@ fn erase_on<D: Disk, E: Sink + Drop>(
     ensures worked { IsTrue D.tells → (out_tells : Bool) (out : List ℕ)
         → Worked (λ s. erasing.erase s numbers.now) (D.files disk.old) (D.files disk.new) result
         (outputs out_tells out E.tells (E.taken (inner err.old))) (outputs out_tells out E.tells (E.taken (inner err.new))) }
-    ensures limits { IsTrue D.tells → LimitsOn (λ s. erasing.erase s numbers.now) (D.files disk.old) (why_of result) }
-    ensures runs { Runs D.tells D.files D.left_since D.moment D.bytes_read D.follows SameLog disk.old disk.new }
+    ensures limits { IsTrue D.tells → LimitsBy false (IsLawful (D.files disk.old).pkg (D.files disk.old).idx) (λ s. erasing.erase s numbers.now) (D.files disk.old) (why_of result) }
+    ensures runs { Runs D.Disk SameLog disk.old disk.new }
     ensures halted { IfErr result (λ given. is_halt given ≡ true) }
     ensures held { IfErr result (λ given. is_held given ≡ false) }
     ensures shelf { result ≢ Err Why.ShelfFault }
     ensures out { result ≢ Err Why.OutFault }
-    ensures disk { HasCauseAt (result ≡ Err Why.DiskFault) (D.faults disk.old) (D.faults disk.new) }
-    ensures err { HasCauseAt (result ≡ Err Why.ErrFault) (E.faults (inner err.old)) (E.faults (inner err.new)) }
+    ensures disk { DiskFault D.Disk (result ≡ Err Why.DiskFault) disk.old disk.new }
+    ensures err { SinkFault E.Sink (result ≡ Err Why.ErrFault) err.old err.new }
     ensures err_rest { HandsOn E.follows err.old err.new }
 {
     let mut db = match open_to_change(alloc, disk) {
@@ -208,22 +205,21 @@ fn change_on<D: Disk, S: Shelf, O: Sink + Drop, E: Sink + Drop>(
     requires countable { IsCountable (task_parts task.now) }
     requires out_empty { holds out.old ≡ [] }
     requires err_empty { holds err.old ≡ [] }
-    ensures worked { IsTrue D.tells → (reads_shelf (task_parts task.now) ≡ true → IsTrue S.tells)
-        → WorkedWith (is_anew (task_parts task.now)) (changes_index (task_parts task.now))
-        (task_course (S.paths shelf.old) now (task_parts task.now)) (D.files disk.old) (D.files disk.new) result
-        (outputs O.tells (O.taken (inner out.old)) E.tells (E.taken (inner err.old)))
-        (outputs O.tells (O.taken (inner out.new)) E.tells (E.taken (inner err.new))) }
+    ensures worked { IsTrue D.tells → (reads_shelf (task_parts task.now) ≡ true → IsTrue S.tells) → WorkedWith (is_anew (task_parts task.now)) (changes_index
+        (task_parts task.now)) (task_course (S.paths shelf.old) now (task_parts task.now)) (D.files disk.old) (D.files disk.new) result (shown O.Sink E.Sink
+        out.old err.old) (shown O.Sink E.Sink out.new err.new) }
     ensures limits { IsTrue D.tells → (reads_shelf (task_parts task.now) ≡ true → IsTrue S.tells)
-        → LimitsOn (task_course (S.paths shelf.old) now (task_parts task.now)) (D.files disk.old) (why_of result) }
-    ensures runs { Runs D.tells D.files D.left_since D.moment D.bytes_read D.follows SameLog disk.old disk.new }
+        → LimitsBy (is_anew (task_parts task.now)) (IsLawful (D.files disk.old).pkg (D.files disk.old).idx)
+        (task_course (S.paths shelf.old) now (task_parts task.now)) (D.files disk.old) (why_of result) }
+    ensures runs { Runs D.Disk SameLog disk.old disk.new }
     ensures halted { IfErr result (λ given. is_halt given ≡ true) }
     ensures empty { IsTrue D.tells → EmptyBy (needs_none (task_parts task.now)) (D.files disk.old) (why_of result) }
     ensures shelf_unread { reads_shelf (task_parts task.now) ≡ false → shelf.new ≡ shelf.old }
     ensures paths { IsTrue S.tells → S.paths shelf.new ≡ S.paths shelf.old }
-    ensures disk { HasCauseAt (result ≡ Err Why.DiskFault) (D.faults disk.old) (D.faults disk.new) }
-    ensures shelf { HasCauseAt (result ≡ Err Why.ShelfFault) (S.faults shelf.old) (S.faults shelf.new) }
-    ensures out { HasCauseAt (result ≡ Err Why.OutFault) (O.faults (inner out.old)) (O.faults (inner out.new)) }
-    ensures err { HasCauseAt (result ≡ Err Why.ErrFault) (E.faults (inner err.old)) (E.faults (inner err.new)) }
+    ensures disk { DiskFault D.Disk (result ≡ Err Why.DiskFault) disk.old disk.new }
+    ensures shelf { ShelfFault S.Shelf (result ≡ Err Why.ShelfFault) shelf.old shelf.new }
+    ensures out { SinkFault O.Sink (result ≡ Err Why.OutFault) out.old out.new }
+    ensures err { SinkFault E.Sink (result ≡ Err Why.ErrFault) err.old err.new }
     ensures out_rest { HandsOn O.follows out.old out.new }
     ensures err_rest { HandsOn E.follows err.old err.new }
 {
@@ -317,22 +313,20 @@ fn change_recovered<D: Disk, S: Shelf, O: Sink + Drop, E: Sink + Drop>(
     requires countable { IsCountable (task_parts task.now) }
     requires out_empty { holds out.old ≡ [] }
     requires err_empty { holds err.old ≡ [] }
-    requires settled { IsTrue D.tells → AreSettled (D.files disk) (D.left_since disk (D.moment disk)) }
+    requires settled { IsTrue D.tells → AreSettled (D.files disk) (images D.Disk disk) }
     requires closed { IsTrue D.tells → log_state (D.files disk).log ≡ Closed }
-    ensures one { IsTrue D.tells → (reads_shelf (task_parts task.now) ≡ true → IsTrue S.tells)
-        → OneChange D.files D.left_since D.moment (S.paths shelf.old) now (task_parts task.now) result.0.why result.0.changes disk result.1
-        (outputs O.tells (O.taken (inner out.old)) E.tells (E.taken (inner err.old)))
-        (outputs O.tells (O.taken (inner out.new)) E.tells (E.taken (inner err.new))) }
+    ensures one { IsTrue D.tells → (reads_shelf (task_parts task.now) ≡ true → IsTrue S.tells) → OneChange D.files D.left_since D.moment (S.paths shelf.old)
+        now (task_parts task.now) result.0.why result.0.changes disk result.1 (shown O.Sink E.Sink out.old err.old) (shown O.Sink E.Sink out.new err.new) }
     ensures empty { IsTrue D.tells → EmptyBy (needs_none (task_parts task.now)) (reopened (D.files disk)) result.0.why }
     ensures counted { is_done result.0.why ≡ false → result.0.changes ≡ 0 }
     ensures shelf_unread { reads_shelf (task_parts task.now) ≡ false → shelf.new ≡ shelf.old }
     ensures paths { IsTrue S.tells → S.paths shelf.new ≡ S.paths shelf.old }
     ensures of_words { is_of_words result.0.why ≡ false }
     ensures goes_on { D.follows disk result.1 }
-    ensures disk { HasCauseAt (result.0.why ≡ Why.DiskFault) (D.faults disk) (D.faults result.1) }
-    ensures shelf { HasCauseAt (result.0.why ≡ Why.ShelfFault) (S.faults shelf.old) (S.faults shelf.new) }
-    ensures out { HasCauseAt (result.0.why ≡ Why.OutFault) (O.faults (inner out.old)) (O.faults (inner out.new)) }
-    ensures err { HasCauseAt (result.0.why ≡ Why.ErrFault) (E.faults (inner err.old)) (E.faults (inner err.new)) }
+    ensures disk { DiskFault D.Disk (result.0.why ≡ Why.DiskFault) disk result.1 }
+    ensures shelf { ShelfFault S.Shelf (result.0.why ≡ Why.ShelfFault) shelf.old shelf.new }
+    ensures out { SinkFault O.Sink (result.0.why ≡ Why.OutFault) out.old out.new }
+    ensures err { SinkFault E.Sink (result.0.why ≡ Why.ErrFault) err.old err.new }
     ensures out_rest { HandsOn O.follows out.old out.new }
     ensures err_rest { HandsOn E.follows err.old err.new }
 {
@@ -373,20 +367,18 @@ fn change<D: Disk, S: Shelf, O: Sink + Drop, E: Sink + Drop>(
     requires countable { IsCountable (task_parts task.now) }
     requires out_empty { holds out.old ≡ [] }
     requires err_empty { holds err.old ≡ [] }
-    ensures one { IsTrue D.tells → (reads_shelf (task_parts task.now) ≡ true → IsTrue S.tells)
-        → OneChange D.files D.left_since D.moment (S.paths shelf.old) now (task_parts task.now) result.0.why result.0.changes disk result.1
-        (outputs O.tells (O.taken (inner out.old)) E.tells (E.taken (inner err.old)))
-        (outputs O.tells (O.taken (inner out.new)) E.tells (E.taken (inner err.new))) }
+    ensures one { IsTrue D.tells → (reads_shelf (task_parts task.now) ≡ true → IsTrue S.tells) → OneChange D.files D.left_since D.moment (S.paths shelf.old)
+        now (task_parts task.now) result.0.why result.0.changes disk result.1 (shown O.Sink E.Sink out.old err.old) (shown O.Sink E.Sink out.new err.new) }
     ensures empty { IsTrue D.tells → EmptyBy (needs_none (task_parts task.now)) (reopened (D.files disk)) result.0.why }
     ensures counted { is_done result.0.why ≡ false → result.0.changes ≡ 0 }
     ensures shelf_unread { reads_shelf (task_parts task.now) ≡ false → shelf.new ≡ shelf.old }
     ensures paths { IsTrue S.tells → S.paths shelf.new ≡ S.paths shelf.old }
     ensures of_words { is_of_words result.0.why ≡ false }
     ensures goes_on { D.follows disk result.1 }
-    ensures disk { HasCauseAt (result.0.why ≡ Why.DiskFault) (D.faults disk) (D.faults result.1) }
-    ensures shelf { HasCauseAt (result.0.why ≡ Why.ShelfFault) (S.faults shelf.old) (S.faults shelf.new) }
-    ensures out { HasCauseAt (result.0.why ≡ Why.OutFault) (O.faults (inner out.old)) (O.faults (inner out.new)) }
-    ensures err { HasCauseAt (result.0.why ≡ Why.ErrFault) (E.faults (inner err.old)) (E.faults (inner err.new)) }
+    ensures disk { DiskFault D.Disk (result.0.why ≡ Why.DiskFault) disk result.1 }
+    ensures shelf { ShelfFault S.Shelf (result.0.why ≡ Why.ShelfFault) shelf.old shelf.new }
+    ensures out { SinkFault O.Sink (result.0.why ≡ Why.OutFault) out.old out.new }
+    ensures err { SinkFault E.Sink (result.0.why ≡ Why.ErrFault) err.old err.new }
     ensures out_rest { HandsOn O.follows out.old out.new }
     ensures err_rest { HandsOn E.follows err.old err.new }
 {
@@ -411,20 +403,19 @@ pub fn change_asked<D: Disk, S: Shelf, O: Sink + Drop, E: Sink + Drop>(
     requires sound { IsSound words.now ask.now }
     requires out_empty { holds out.old ≡ [] }
     requires err_empty { holds err.old ≡ [] }
-    ensures one { IsTrue D.tells → (reads_shelf (asked_task words.now ask.now) ≡ true → IsTrue S.tells)
-        → OneChange D.files D.left_since D.moment (S.paths shelf.old) now (asked_task words.now ask.now) result.0.why result.0.changes disk result.1
-        (outputs O.tells (O.taken (inner out.old)) E.tells (E.taken (inner err.old)))
-        (outputs O.tells (O.taken (inner out.new)) E.tells (E.taken (inner err.new))) }
+    ensures one { IsTrue D.tells → (reads_shelf (asked_task words.now ask.now) ≡ true → IsTrue S.tells) → OneChange D.files D.left_since D.moment (S.paths
+        shelf.old) now (asked_task words.now ask.now) result.0.why result.0.changes disk result.1 (shown O.Sink E.Sink out.old err.old) (shown O.Sink E.Sink
+        out.new err.new) }
     ensures empty { IsTrue D.tells → EmptyBy (needs_none (asked_task words.now ask.now)) (reopened (D.files disk)) result.0.why }
     ensures counted { is_done result.0.why ≡ false → result.0.changes ≡ 0 }
     ensures shelf_unread { reads_shelf (asked_task words.now ask.now) ≡ false → shelf.new ≡ shelf.old }
     ensures paths { IsTrue S.tells → S.paths shelf.new ≡ S.paths shelf.old }
     ensures of_words { is_of_words result.0.why ≡ false }
     ensures goes_on { D.follows disk result.1 }
-    ensures disk { HasCauseAt (result.0.why ≡ Why.DiskFault) (D.faults disk) (D.faults result.1) }
-    ensures shelf { HasCauseAt (result.0.why ≡ Why.ShelfFault) (S.faults shelf.old) (S.faults shelf.new) }
-    ensures out { HasCauseAt (result.0.why ≡ Why.OutFault) (O.faults (inner out.old)) (O.faults (inner out.new)) }
-    ensures err { HasCauseAt (result.0.why ≡ Why.ErrFault) (E.faults (inner err.old)) (E.faults (inner err.new)) }
+    ensures disk { DiskFault D.Disk (result.0.why ≡ Why.DiskFault) disk result.1 }
+    ensures shelf { ShelfFault S.Shelf (result.0.why ≡ Why.ShelfFault) shelf.old shelf.new }
+    ensures out { SinkFault O.Sink (result.0.why ≡ Why.OutFault) out.old out.new }
+    ensures err { SinkFault E.Sink (result.0.why ≡ Why.ErrFault) err.old err.new }
     ensures out_rest { HandsOn O.follows out.old out.new }
     ensures err_rest { HandsOn E.follows err.old err.new }
 {

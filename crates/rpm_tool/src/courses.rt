@@ -2,9 +2,7 @@
 
 ghost use Rattle.std.specs.Prelude.{◌≡◌, ◌≢◌, ℕ, ◌^◌, ◌<◌, ◌≤◌, Bool, List, [], codes, length, map, true, false, IsTrue, Err, IfErr};
 ghost use Rattle.rpm_outside.specs.Buffered.{inner, holds, HandsOn};
-ghost use Rattle.rpm_outside.specs.Causes.{HasCauseAt};
 ghost use Rattle.rpm_outside.specs.Shelves.{bytes_at};
-ghost use Rattle.rpm_db.specs.Runs.{Runs};
 ghost use Rattle.rpm_db.specs.inner.Writes.{SameLog};
 ghost use Rattle.rpm_change.specs.Adding as adding;
 ghost use Rattle.rpm_change.specs.Endings.{outputs};
@@ -12,8 +10,10 @@ ghost use Rattle.rpm_change.specs.Importing as importing;
 ghost use Rattle.rpm_change.specs.Rebuilding as rebuilding;
 ghost use Rattle.rpm_exercise.specs.Exercised as exercised;
 ghost use Rattle.rpm_tool.specs.Changing.{EmptyOn, is_held};
-ghost use Rattle.rpm_tool.specs.Limits.{LimitsOn};
+ghost use Rattle.rpm_db.specs.Lawful.{IsLawful};
+ghost use Rattle.rpm_tool.specs.Limits.{LimitsBy};
 ghost use Rattle.rpm_tool.specs.Working.{Worked, WorkedWith, is_halt, why_of, why_of_exercise};
+ghost use Rattle.rpm_tool.specs.Frame.{Runs, DiskFault, SinkFault, ShelfFault};
 
 use crate::answer::Why;
 use crate::changing::{open_to_change, why_of_halt};
@@ -37,15 +37,15 @@ pub(crate) fn add_on<D: Disk, S: Shelf, E: Sink + Drop>(
         → Worked (λ s. adding.add_files (S.paths shelf.old) now s (map (λ path. path.now) paths.now)) (D.files disk.old) (D.files disk.new) result
         (outputs out_tells out E.tells (E.taken (inner err.old))) (outputs out_tells out E.tells (E.taken (inner err.new))) }
     ensures limits { IsTrue D.tells → IsTrue S.tells
-        → LimitsOn (λ s. adding.add_files (S.paths shelf.old) now s (map (λ path. path.now) paths.now)) (D.files disk.old) (why_of result) }
-    ensures runs { Runs D.tells D.files D.left_since D.moment D.bytes_read D.follows SameLog disk.old disk.new }
+        → LimitsBy false (IsLawful (D.files disk.old).pkg (D.files disk.old).idx) (λ s. adding.add_files (S.paths shelf.old) now s (map (λ path. path.now) paths.now)) (D.files disk.old) (why_of result) }
+    ensures runs { Runs D.Disk SameLog disk.old disk.new }
     ensures halted { IfErr result (λ given. is_halt given ≡ true) }
     ensures held { IfErr result (λ given. is_held given ≡ false) }
     ensures out { result ≢ Err Why.OutFault }
     ensures paths { IsTrue S.tells → S.paths shelf.new ≡ S.paths shelf.old }
-    ensures disk { HasCauseAt (result ≡ Err Why.DiskFault) (D.faults disk.old) (D.faults disk.new) }
-    ensures shelf { HasCauseAt (result ≡ Err Why.ShelfFault) (S.faults shelf.old) (S.faults shelf.new) }
-    ensures err { HasCauseAt (result ≡ Err Why.ErrFault) (E.faults (inner err.old)) (E.faults (inner err.new)) }
+    ensures disk { DiskFault D.Disk (result ≡ Err Why.DiskFault) disk.old disk.new }
+    ensures shelf { ShelfFault S.Shelf (result ≡ Err Why.ShelfFault) shelf.old shelf.new }
+    ensures err { SinkFault E.Sink (result ≡ Err Why.ErrFault) err.old err.new }
     ensures err_rest { HandsOn E.follows err.old err.new }
 {
     let mut db = match open_to_change(alloc, disk) {
@@ -73,16 +73,16 @@ pub(crate) fn replace_on<D: Disk, S: Shelf, E: Sink + Drop>(
         → Worked (λ s. adding.replace (S.paths shelf.old) now s number path.now) (D.files disk.old) (D.files disk.new) result
         (outputs out_tells out E.tells (E.taken (inner err.old))) (outputs out_tells out E.tells (E.taken (inner err.new))) }
     ensures limits { IsTrue D.tells → IsTrue S.tells
-        → LimitsOn (λ s. adding.replace (S.paths shelf.old) now s number path.now) (D.files disk.old) (why_of result) }
-    ensures runs { Runs D.tells D.files D.left_since D.moment D.bytes_read D.follows SameLog disk.old disk.new }
+        → LimitsBy false (IsLawful (D.files disk.old).pkg (D.files disk.old).idx) (λ s. adding.replace (S.paths shelf.old) now s number path.now) (D.files disk.old) (why_of result) }
+    ensures runs { Runs D.Disk SameLog disk.old disk.new }
     ensures halted { IfErr result (λ given. is_halt given ≡ true) }
     ensures held { IfErr result (λ given. is_held given ≡ false) }
     ensures numbers { result ≢ Err Why.NumbersSpent }
     ensures out { result ≢ Err Why.OutFault }
     ensures paths { IsTrue S.tells → S.paths shelf.new ≡ S.paths shelf.old }
-    ensures disk { HasCauseAt (result ≡ Err Why.DiskFault) (D.faults disk.old) (D.faults disk.new) }
-    ensures shelf { HasCauseAt (result ≡ Err Why.ShelfFault) (S.faults shelf.old) (S.faults shelf.new) }
-    ensures err { HasCauseAt (result ≡ Err Why.ErrFault) (E.faults (inner err.old)) (E.faults (inner err.new)) }
+    ensures disk { DiskFault D.Disk (result ≡ Err Why.DiskFault) disk.old disk.new }
+    ensures shelf { ShelfFault S.Shelf (result ≡ Err Why.ShelfFault) shelf.old shelf.new }
+    ensures err { SinkFault E.Sink (result ≡ Err Why.ErrFault) err.old err.new }
     ensures err_rest { HandsOn E.follows err.old err.new }
 {
     let mut db = match open_to_change(alloc, disk) {
@@ -107,15 +107,15 @@ pub(crate) fn import_on<D: Disk, S: Shelf, E: Sink + Drop>(
         → Worked (λ s. importing.import_list importing.max_headers (bytes_at (S.paths shelf.old) (codes "-"))) (D.files disk.old) (D.files disk.new) result
         (outputs out_tells out E.tells (E.taken (inner err.old))) (outputs out_tells out E.tells (E.taken (inner err.new))) }
     ensures limits { IsTrue D.tells → IsTrue S.tells
-        → LimitsOn (λ s. importing.import_list importing.max_headers (bytes_at (S.paths shelf.old) (codes "-"))) (D.files disk.old) (why_of result) }
-    ensures runs { Runs D.tells D.files D.left_since D.moment D.bytes_read D.follows SameLog disk.old disk.new }
+        → LimitsBy false (IsLawful (D.files disk.old).pkg (D.files disk.old).idx) (λ s. importing.import_list importing.max_headers (bytes_at (S.paths shelf.old) (codes "-"))) (D.files disk.old) (why_of result) }
+    ensures runs { Runs D.Disk SameLog disk.old disk.new }
     ensures halted { IfErr result (λ given. is_halt given ≡ true) }
     ensures held { IfErr result (λ given. is_held given ≡ false) }
     ensures out { result ≢ Err Why.OutFault }
     ensures paths { IsTrue S.tells → S.paths shelf.new ≡ S.paths shelf.old }
-    ensures disk { HasCauseAt (result ≡ Err Why.DiskFault) (D.faults disk.old) (D.faults disk.new) }
-    ensures shelf { HasCauseAt (result ≡ Err Why.ShelfFault) (S.faults shelf.old) (S.faults shelf.new) }
-    ensures err { HasCauseAt (result ≡ Err Why.ErrFault) (E.faults (inner err.old)) (E.faults (inner err.new)) }
+    ensures disk { DiskFault D.Disk (result ≡ Err Why.DiskFault) disk.old disk.new }
+    ensures shelf { ShelfFault S.Shelf (result ≡ Err Why.ShelfFault) shelf.old shelf.new }
+    ensures err { SinkFault E.Sink (result ≡ Err Why.ErrFault) err.old err.new }
     ensures err_rest { HandsOn E.follows err.old err.new }
 {
     let mut db = match open_to_change(alloc, disk) {
@@ -138,16 +138,16 @@ pub(crate) fn rebuild_on<D: Disk, O: Sink + Drop>(
     ensures worked { IsTrue D.tells → (err_tells : Bool) (err : List ℕ)
         → WorkedWith true false (λ s. rebuilding.rebuild s) (D.files disk.old) (D.files disk.new) result
         (outputs O.tells (O.taken (inner out.old)) err_tells err) (outputs O.tells (O.taken (inner out.new)) err_tells err) }
-    ensures limits { IsTrue D.tells → LimitsOn (λ s. rebuilding.rebuild s) (D.files disk.old) (why_of result) }
-    ensures runs { Runs D.tells D.files D.left_since D.moment D.bytes_read D.follows SameLog disk.old disk.new }
+    ensures limits { IsTrue D.tells → LimitsBy true (IsLawful (D.files disk.old).pkg (D.files disk.old).idx) (λ s. rebuilding.rebuild s) (D.files disk.old) (why_of result) }
+    ensures runs { Runs D.Disk SameLog disk.old disk.new }
     ensures halted { IfErr result (λ given. is_halt given ≡ true) }
     ensures held { IfErr result (λ given. is_held given ≡ false) }
     ensures numbers { result ≢ Err Why.NumbersSpent }
     ensures store { result ≢ Err Why.StoreFull }
     ensures shelf { result ≢ Err Why.ShelfFault }
     ensures err { result ≢ Err Why.ErrFault }
-    ensures disk { HasCauseAt (result ≡ Err Why.DiskFault) (D.faults disk.old) (D.faults disk.new) }
-    ensures out { HasCauseAt (result ≡ Err Why.OutFault) (O.faults (inner out.old)) (O.faults (inner out.new)) }
+    ensures disk { DiskFault D.Disk (result ≡ Err Why.DiskFault) disk.old disk.new }
+    ensures out { SinkFault O.Sink (result ≡ Err Why.OutFault) out.old out.new }
     ensures out_rest { HandsOn O.follows out.old out.new }
 {
     let mut db = match open_to_change(alloc, disk) {
@@ -186,13 +186,13 @@ pub(crate) fn exercise_on<D: Disk, O: Sink + Drop>(
         → WorkedWith true false (λ s. exercised.exercise headers s) (D.files disk.old) (D.files disk.new) result
         (outputs O.tells (O.taken (inner out.old)) err_tells err) (outputs O.tells (O.taken (inner out.new)) err_tells err) }
     ensures empty { IsTrue D.tells → EmptyOn (D.files disk.old) (why_of result) }
-    ensures limits { IsTrue D.tells → LimitsOn (λ s. exercised.exercise headers s) (D.files disk.old) (why_of result) }
-    ensures runs { Runs D.tells D.files D.left_since D.moment D.bytes_read D.follows SameLog disk.old disk.new }
+    ensures limits { IsTrue D.tells → LimitsBy true (IsLawful (D.files disk.old).pkg (D.files disk.old).idx) (λ s. exercised.exercise headers s) (D.files disk.old) (why_of result) }
+    ensures runs { Runs D.Disk SameLog disk.old disk.new }
     ensures halted { IfErr result (λ given. is_halt given ≡ true) }
     ensures shelf { result ≢ Err Why.ShelfFault }
     ensures err { result ≢ Err Why.ErrFault }
-    ensures disk { HasCauseAt (result ≡ Err Why.DiskFault) (D.faults disk.old) (D.faults disk.new) }
-    ensures out { HasCauseAt (result ≡ Err Why.OutFault) (O.faults (inner out.old)) (O.faults (inner out.new)) }
+    ensures disk { DiskFault D.Disk (result ≡ Err Why.DiskFault) disk.old disk.new }
+    ensures out { SinkFault O.Sink (result ≡ Err Why.OutFault) out.old out.new }
     ensures out_rest { HandsOn O.follows out.old out.new }
 {
     let mut db = match open_to_change(alloc, disk) {

@@ -2,19 +2,17 @@
 
 ghost use Rattle.std.specs.Prelude.{◌≡◌, ◌≢◌, ◌+◌, ◌≤◌, ℕ, Bool, List, [], ◌∷◌, map, false, IsTrue, Err};
 ghost use Rattle.rpm_outside.specs.Buffered.{inner, holds, HandsOn};
-ghost use Rattle.rpm_outside.specs.Causes.{HasCauseAt};
 ghost use Rattle.rpm_outside.specs.declared.disk.File.TheVariants.{Pkg};
-ghost use Rattle.rpm_outside.specs.Looks.{Looks};
-ghost use Rattle.rpm_db.specs.State.{packages};
 ghost use Rattle.rpm_db.specs.Database as database;
-ghost use Rattle.rpm_db.specs.Database.{Keeps, cost_all};
+ghost use Rattle.rpm_db.specs.Database.{cost_all};
 ghost use Rattle.rpm_select.specs.Reach.{Everything};
 ghost use Rattle.rpm_change.specs.Steps.{whole};
 ghost use Rattle.rpm_change.specs.Endings.{outputs};
 ghost use Rattle.rpm_tool.specs.Steps.{fails, together};
-ghost use Rattle.rpm_tool.specs.FileReport.{if_differs, conflict_line, unread_step, conflict_step, label_told, told_steps, check_files};
+ghost use Rattle.rpm_tool.specs.FileReport.{if_differs, unread_step, conflict_step, label_told, told_steps, check_files};
 ghost use Rattle.rpm_tool.specs.Reads.{reached_by};
 ghost use Rattle.rpm_tool.specs.Answers.{StepIs, Reached, PartIs, Went, is_foreign, is_some_of};
+ghost use Rattle.rpm_tool.specs.Frame.{Looks, shown, DiskFault, SinkFault, Kept, packages_in, pkg_read};
 
 use crate::answer::Why;
 use crate::pieces::put_line;
@@ -43,7 +41,7 @@ fn put_unread<E: Sink + Drop>(
         (outputs out_tells out E.tells (E.taken (inner err.old))) (outputs out_tells out E.tells (E.taken (inner err.new))) (λ for. for ≡ whole 0) }
     ensures no_read { result ≢ Err Stop.ReadFault }
     ensures no_out { result ≢ Err Stop.OutFault }
-    ensures err { HasCauseAt (result ≡ Err Stop.ErrFault) (E.faults (inner err.old)) (E.faults (inner err.new)) }
+    ensures err { SinkFault E.Sink (result ≡ Err Stop.ErrFault) err.old err.new }
     ensures err_rest { HandsOn E.follows err.old err.new }
 {
     for number in numbers {
@@ -67,7 +65,7 @@ fn put_conflict<'a, O: Sink + Drop>(
         (outputs O.tells (O.taken (inner out.old)) err_tells err) (outputs O.tells (O.taken (inner out.new)) err_tells err) }
     ensures no_read { result ≢ Err Stop.ReadFault }
     ensures no_err { result ≢ Err Stop.ErrFault }
-    ensures out { HasCauseAt (result ≡ Err Stop.OutFault) (O.faults (inner out.old)) (O.faults (inner out.new)) }
+    ensures out { SinkFault O.Sink (result ≡ Err Stop.OutFault) out.old out.new }
     ensures out_rest { HandsOn O.follows out.old out.new }
 {
     let first = report.label(conflict.first());
@@ -102,7 +100,7 @@ fn put_conflicts<O: Sink + Drop>(out: &mut Buffered<O>, report: &ConflictList) -
         (outputs O.tells (O.taken (inner out.old)) err_tells err) (outputs O.tells (O.taken (inner out.new)) err_tells err) (λ for. for ≡ whole 0) }
     ensures no_read { result ≢ Err Stop.ReadFault }
     ensures no_err { result ≢ Err Stop.ErrFault }
-    ensures out { HasCauseAt (result ≡ Err Stop.OutFault) (O.faults (inner out.old)) (O.faults (inner out.new)) }
+    ensures out { SinkFault O.Sink (result ≡ Err Stop.OutFault) out.old out.new }
     ensures out_rest { HandsOn O.follows out.old out.new }
 {
     for i in 0..report.len() {
@@ -130,11 +128,11 @@ fn tell_report<O: Sink + Drop, E: Sink + Drop>(
 ) -> Result<bool, Stop>
     requires out_empty { holds out.old ≡ [] }
     requires err_empty { holds err.old ≡ [] }
-    ensures part { PartIs (together (map fails (told_steps report.now))) result (outputs O.tells (O.taken (inner out.old)) E.tells
-        (E.taken (inner err.old))) (outputs O.tells (O.taken (inner out.new)) E.tells (E.taken (inner err.new))) (λ for. for ≡ whole 0) }
+    ensures part { PartIs (together (map fails (told_steps report.now))) result (shown O.Sink E.Sink out.old err.old) (shown O.Sink E.Sink out.new err.new) (λ
+        for. for ≡ whole 0) }
     ensures no_read { result ≢ Err Stop.ReadFault }
-    ensures out { HasCauseAt (result ≡ Err Stop.OutFault) (O.faults (inner out.old)) (O.faults (inner out.new)) }
-    ensures err { HasCauseAt (result ≡ Err Stop.ErrFault) (E.faults (inner err.old)) (E.faults (inner err.new)) }
+    ensures out { SinkFault O.Sink (result ≡ Err Stop.OutFault) out.old out.new }
+    ensures err { SinkFault E.Sink (result ≡ Err Stop.ErrFault) err.old err.new }
     ensures out_rest { HandsOn O.follows out.old out.new }
     ensures err_rest { HandsOn E.follows err.old err.new }
 {
@@ -158,17 +156,16 @@ pub fn check_files<D: Disk, O: Sink + Drop, E: Sink + Drop>(
 ) -> Why
     requires out_empty { holds out.old ≡ [] }
     requires err_empty { holds err.old ≡ [] }
-    requires keeps { IsTrue D.tells → Keeps (D.files disk.old).pkg db.now }
+    requires keeps { Kept D.Disk disk.old db.now }
     requires runs { db.now.stopped ≡ false }
     requires from_one { database.holds 0 db.now ≡ false }
-    ensures went { IsTrue D.tells → Went (check_files (packages (D.files disk.old).pkg db.now.store)) result
-        (outputs O.tells (O.taken (inner out.old)) E.tells (E.taken (inner err.old))) (outputs O.tells (O.taken (inner out.new)) E.tells
-        (E.taken (inner err.new))) (λ for. D.bytes_read disk.new File.Pkg ≤ D.bytes_read disk.old File.Pkg + reached_by (Everything ∷ []) db.now for) }
+    ensures went { IsTrue D.tells → Went (check_files (packages_in D.Disk disk.old db.now)) result (shown O.Sink E.Sink out.old err.old) (shown O.Sink E.Sink
+        out.new err.new) (λ for. pkg_read D.Disk disk.new ≤ pkg_read D.Disk disk.old + reached_by (Everything ∷ []) db.now for) }
     ensures done { is_foreign result ≡ false }
-    ensures looks { Looks D.tells D.files D.left_since D.moment D.bytes_read D.follows Pkg (cost_all db.now) disk.old disk.new }
-    ensures disk { HasCauseAt (result ≡ Why.DiskFault) (D.faults disk.old) (D.faults disk.new) }
-    ensures out { HasCauseAt (result ≡ Why.OutFault) (O.faults (inner out.old)) (O.faults (inner out.new)) }
-    ensures err { HasCauseAt (result ≡ Why.ErrFault) (E.faults (inner err.old)) (E.faults (inner err.new)) }
+    ensures looks { Looks D.Disk Pkg (cost_all db.now) disk.old disk.new }
+    ensures disk { DiskFault D.Disk (result ≡ Why.DiskFault) disk.old disk.new }
+    ensures out { SinkFault O.Sink (result ≡ Why.OutFault) out.old out.new }
+    ensures err { SinkFault E.Sink (result ≡ Why.ErrFault) err.old err.new }
     ensures out_rest { HandsOn O.follows out.old out.new }
     ensures err_rest { HandsOn E.follows err.old err.new }
 {

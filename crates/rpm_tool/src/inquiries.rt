@@ -1,22 +1,19 @@
 //! What is asked of a database that was opened with its index.
 
 ghost use Rattle.std.specs.Prelude.{◌≡◌, ◌+◌, ◌≤◌, [], map, true, false, IsTrue};
-ghost use Rattle.rpm_outside.specs.Buffered.{inner, holds, HandsOn};
-ghost use Rattle.rpm_outside.specs.Causes.{HasCauseAt};
-ghost use Rattle.rpm_outside.specs.declared.disk.File.TheVariants.{Pkg};
-ghost use Rattle.rpm_db.specs.State.{packages};
+ghost use Rattle.rpm_outside.specs.Buffered.{holds, HandsOn};
 ghost use Rattle.rpm_db.specs.Database as database;
-ghost use Rattle.rpm_db.specs.Database.{Keeps, KeepsIndex, is_indexed};
-ghost use Rattle.rpm_select.specs.Reach.{HasIndexRows};
+ghost use Rattle.rpm_db.specs.Database.{is_indexed};
 ghost use Rattle.rpm_words.specs.Words.{text_at};
-ghost use Rattle.rpm_change.specs.Endings.{Outputs, outputs};
+ghost use Rattle.rpm_change.specs.Endings.{Outputs};
 ghost use Rattle.rpm_change.specs.Steps.{idle};
 ghost use Rattle.rpm_tool.specs.Steps.{Portion, before};
 ghost use Rattle.rpm_tool.specs.Answers.{Anywhere, PartIs, Went, is_foreign, is_of_opening};
 ghost use Rattle.rpm_tool.specs.Asked.{is_query, inquiry_of};
-ghost use Rattle.rpm_tool.specs.Reads.{Peeks, argument_reach, reaches_by, reach_sum, reached_by};
+ghost use Rattle.rpm_tool.specs.Reads.{argument_reach, reaches_by, reach_sum, reached_by};
 ghost use Rattle.rpm_tool.specs.Requirements.{unsatisfied, why_of_report, IsOfSome};
 ghost use Rattle.rpm_tool.specs.Keyed.{DoesBy, CauseIs, OrderIs};
+ghost use Rattle.rpm_tool.specs.Frame.{Peeks, shown, DiskFault, SinkFault, Kept, KeptIndex, HasRows, packages_in, pkg_read};
 
 use crate::answer::Why;
 use crate::asked::{Inquiry, inquiry_of};
@@ -54,21 +51,19 @@ fn answer_unmet<D: Disk, O: Sink + Drop, E: Sink + Drop>(
 ) -> Why
     requires out_empty { holds out.old ≡ [] }
     requires err_empty { holds err.old ≡ [] }
-    requires keeps { IsTrue D.tells → Keeps (D.files disk.old).pkg db.now }
+    requires keeps { Kept D.Disk disk.old db.now }
     requires runs { db.now.stopped ≡ false }
-    requires keeps_index { IsTrue D.tells → KeepsIndex (D.files disk.old).idx db.now }
+    requires keeps_index { KeptIndex D.Disk disk.old db.now }
     requires from_one { database.holds 0 db.now ≡ false }
-    ensures went { IsTrue D.tells → HasIndexRows db.now (D.files disk.old).pkg (D.files disk.old).idx
-        → Went (unsatisfied (packages (D.files disk.old).pkg db.now.store)) result
-        (outputs O.tells (O.taken (inner out.old)) E.tells (E.taken (inner err.old))) (outputs O.tells (O.taken (inner out.new)) E.tells
-        (E.taken (inner err.new))) Anywhere }
+    ensures went { IsTrue D.tells → HasRows D.Disk disk.old db.now → Went (unsatisfied (packages_in D.Disk disk.old db.now)) result (shown O.Sink E.Sink
+        out.old err.old) (shown O.Sink E.Sink out.new err.new) Anywhere }
     ensures done { is_foreign result ≡ false }
     ensures opened { is_of_opening result ≡ false }
     ensures bad_index { IsTrue D.tells → IsOfSome (D.files disk.old).idx result }
-    ensures looks { Peeks D.tells D.files D.left_since D.moment D.bytes_read D.follows true disk.old disk.new }
-    ensures disk { HasCauseAt (result ≡ Why.DiskFault) (D.faults disk.old) (D.faults disk.new) }
-    ensures out { HasCauseAt (result ≡ Why.OutFault) (O.faults (inner out.old)) (O.faults (inner out.new)) }
-    ensures err { HasCauseAt (result ≡ Why.ErrFault) (E.faults (inner err.old)) (E.faults (inner err.new)) }
+    ensures looks { Peeks D.Disk true disk.old disk.new }
+    ensures disk { DiskFault D.Disk (result ≡ Why.DiskFault) disk.old disk.new }
+    ensures out { SinkFault O.Sink (result ≡ Why.OutFault) out.old out.new }
+    ensures err { SinkFault E.Sink (result ≡ Why.ErrFault) err.old err.new }
     ensures out_rest { HandsOn O.follows out.old out.new }
     ensures err_rest { HandsOn E.follows err.old err.new }
 {
@@ -85,21 +80,19 @@ fn answer_order<D: Disk, O: Sink + Drop, E: Sink + Drop>(
 ) -> Why
     requires out_empty { holds out.old ≡ [] }
     requires err_empty { holds err.old ≡ [] }
-    requires keeps { IsTrue D.tells → Keeps (D.files disk.old).pkg db.now }
+    requires keeps { Kept D.Disk disk.old db.now }
     requires runs { db.now.stopped ≡ false }
-    requires keeps_index { IsTrue D.tells → KeepsIndex (D.files disk.old).idx db.now }
+    requires keeps_index { KeptIndex D.Disk disk.old db.now }
     requires from_one { database.holds 0 db.now ≡ false }
-    ensures went { IsTrue D.tells → HasIndexRows db.now (D.files disk.old).pkg (D.files disk.old).idx
-        → OrderIs (packages (D.files disk.old).pkg db.now.store) result
-        (outputs O.tells (O.taken (inner out.old)) E.tells (E.taken (inner err.old))) (outputs O.tells (O.taken (inner out.new)) E.tells
-        (E.taken (inner err.new))) }
+    ensures went { IsTrue D.tells → HasRows D.Disk disk.old db.now → OrderIs (packages_in D.Disk disk.old db.now) result (shown O.Sink E.Sink out.old err.old)
+        (shown O.Sink E.Sink out.new err.new) }
     ensures done { is_foreign result ≡ false }
     ensures opened { is_of_opening result ≡ false }
     ensures bad_index { IsTrue D.tells → IsOfSome (D.files disk.old).idx result }
-    ensures looks { Peeks D.tells D.files D.left_since D.moment D.bytes_read D.follows true disk.old disk.new }
-    ensures disk { HasCauseAt (result ≡ Why.DiskFault) (D.faults disk.old) (D.faults disk.new) }
-    ensures out { HasCauseAt (result ≡ Why.OutFault) (O.faults (inner out.old)) (O.faults (inner out.new)) }
-    ensures err { HasCauseAt (result ≡ Why.ErrFault) (E.faults (inner err.old)) (E.faults (inner err.new)) }
+    ensures looks { Peeks D.Disk true disk.old disk.new }
+    ensures disk { DiskFault D.Disk (result ≡ Why.DiskFault) disk.old disk.new }
+    ensures out { SinkFault O.Sink (result ≡ Why.OutFault) out.old out.new }
+    ensures err { SinkFault E.Sink (result ≡ Why.ErrFault) err.old err.new }
     ensures out_rest { HandsOn O.follows out.old out.new }
     ensures err_rest { HandsOn E.follows err.old err.new }
 {
@@ -119,28 +112,24 @@ pub fn answer_inquiry<D: Disk, O: Sink + Drop, E: Sink + Drop>(
 ) -> Why
     requires out_empty { holds out.old ≡ [] }
     requires err_empty { holds err.old ≡ [] }
-    requires keeps { IsTrue D.tells → Keeps (D.files disk.old).pkg db.now }
+    requires keeps { Kept D.Disk disk.old db.now }
     requires runs { db.now.stopped ≡ false }
-    requires keeps_index { IsTrue D.tells → KeepsIndex (D.files disk.old).idx db.now }
+    requires keeps_index { KeptIndex D.Disk disk.old db.now }
     requires from_one { database.holds 0 db.now ≡ false }
-    ensures went { IsTrue D.tells → HasIndexRows db.now (D.files disk.old).pkg (D.files disk.old).idx
-        → DoesBy (inquiry_of ask.now.mode) format.now words.now ask.now (packages (D.files disk.old).pkg db.now.store)
-        (λ for. D.bytes_read disk.new File.Pkg ≤ D.bytes_read disk.old File.Pkg
-        + reached_by (reaches_by (argument_reach (is_indexed db.now) (packages (D.files disk.old).pkg db.now.store) ask.now.chosen) (map (text_at
-        words.now) ask.now.arguments)) db.now for) result
-        (outputs O.tells (O.taken (inner out.old)) E.tells (E.taken (inner err.old))) (outputs O.tells (O.taken (inner out.new)) E.tells
-        (E.taken (inner err.new))) }
+    ensures went { IsTrue D.tells → HasRows D.Disk disk.old db.now → DoesBy (inquiry_of ask.now.mode) format.now words.now ask.now (packages_in D.Disk
+        disk.old db.now) (λ for. pkg_read D.Disk disk.new ≤ pkg_read D.Disk disk.old + reached_by (reaches_by (argument_reach (is_indexed db.now) (packages_in
+        D.Disk disk.old db.now) ask.now.chosen) (map (text_at words.now) ask.now.arguments)) db.now for) result (shown O.Sink E.Sink out.old err.old) (shown
+        O.Sink E.Sink out.new err.new) }
     ensures done { is_foreign result ≡ false }
     ensures opened { is_of_opening result ≡ false }
-    ensures reads { is_query ask.now.mode ≡ true → IsTrue D.tells → HasIndexRows db.now (D.files disk.old).pkg (D.files disk.old).idx
-        → D.bytes_read disk.new File.Pkg ≤ D.bytes_read disk.old File.Pkg
-        + reach_sum (reaches_by (argument_reach (is_indexed db.now) (packages (D.files disk.old).pkg db.now.store) ask.now.chosen) (map (text_at
-        words.now) ask.now.arguments)) db.now }
+    ensures reads { is_query ask.now.mode ≡ true → IsTrue D.tells → HasRows D.Disk disk.old db.now → pkg_read D.Disk disk.new ≤ pkg_read D.Disk disk.old +
+        reach_sum (reaches_by (argument_reach (is_indexed db.now) (packages_in D.Disk disk.old db.now) ask.now.chosen) (map (text_at words.now)
+        ask.now.arguments)) db.now }
     ensures bad_index { IsTrue D.tells → CauseIs words.now ask.now (D.files disk.old).idx result }
-    ensures looks { Peeks D.tells D.files D.left_since D.moment D.bytes_read D.follows true disk.old disk.new }
-    ensures disk { HasCauseAt (result ≡ Why.DiskFault) (D.faults disk.old) (D.faults disk.new) }
-    ensures out { HasCauseAt (result ≡ Why.OutFault) (O.faults (inner out.old)) (O.faults (inner out.new)) }
-    ensures err { HasCauseAt (result ≡ Why.ErrFault) (E.faults (inner err.old)) (E.faults (inner err.new)) }
+    ensures looks { Peeks D.Disk true disk.old disk.new }
+    ensures disk { DiskFault D.Disk (result ≡ Why.DiskFault) disk.old disk.new }
+    ensures out { SinkFault O.Sink (result ≡ Why.OutFault) out.old out.new }
+    ensures err { SinkFault E.Sink (result ≡ Why.ErrFault) err.old err.new }
     ensures out_rest { HandsOn O.follows out.old out.new }
     ensures err_rest { HandsOn E.follows err.old err.new }
 {

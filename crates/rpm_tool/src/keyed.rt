@@ -1,18 +1,15 @@
 //! The commands that open the database with its index: questions by key, and the reports on requirements.
 
 ghost use Rattle.std.specs.Prelude.{◌≡◌, ◌+◌, ◌≤◌, [], false, true, IsTrue};
-ghost use Rattle.rpm_outside.specs.Buffered.{inner, holds, HandsOn};
-ghost use Rattle.rpm_outside.specs.Causes.{HasCauseAt};
+ghost use Rattle.rpm_outside.specs.Buffered.{holds, HandsOn};
 ghost use Rattle.rpm_outside.specs.Changes.{IsSettled};
 ghost use Rattle.rpm_outside.specs.declared.disk.File.TheVariants.{Pkg, Idx};
-ghost use Rattle.rpm_outside.specs.Crash.{LeavesOnly};
 ghost use Rattle.rpm_pkgdb.specs.Store.{store};
 ghost use Rattle.rpm_db.specs.Lawful.{IsLawful, AreLawful, IsLawfulStill, Remade};
-ghost use Rattle.rpm_db.specs.Runs.{Runs};
 ghost use Rattle.rpm_tool.specs.Asked.{is_query};
 ghost use Rattle.rpm_tool.specs.Keyed.{HasIndex, OpenedBy, AnswersByKey, FullIs, BadIs, Does, is_done, keyed_cost, why_of_recover};
-ghost use Rattle.rpm_change.specs.Endings.{outputs};
 ghost use Rattle.rpm_tool.specs.Answers.{is_foreign};
+ghost use Rattle.rpm_tool.specs.Frame.{Runs, shown, DiskFault, SinkFault, images, LeavesIn, pkg_read};
 
 use crate::answer::Why;
 use crate::inquiries::answer_inquiry;
@@ -45,25 +42,23 @@ fn answer_indexed<D: Disk, O: Sink + Drop, E: Sink + Drop>(
 ) -> Why
     requires out_empty { holds out.old ≡ [] }
     requires err_empty { holds err.old ≡ [] }
-    requires pkg { IsTrue D.tells → IsSettled Pkg (D.files disk.old) (D.left_since disk.old (D.moment disk.old)) }
-    requires idx { IsTrue D.tells → IsSettled Idx (D.files disk.old) (D.left_since disk.old (D.moment disk.old)) }
-    ensures went { IsTrue D.tells → OpenedBy (IsLawful (D.files disk.old).pkg (D.files disk.old).idx)
-        (Does format.now words.now ask.now (D.files disk.old) (D.bytes_read disk.old File.Pkg) (D.bytes_read disk.new File.Pkg))
-        (store (D.files disk.old).pkg) result (outputs O.tells (O.taken (inner out.old)) E.tells (E.taken (inner err.old))) (outputs O.tells
-        (O.taken (inner out.new)) E.tells (E.taken (inner err.new))) }
-    ensures reads { is_query ask.now.mode ≡ true → IsTrue D.tells → IsLawful (D.files disk.old).pkg (D.files disk.old).idx → D.bytes_read disk.new File.Pkg
-        ≤ D.bytes_read disk.old File.Pkg + keyed_cost (D.files disk.old) words.now ask.now }
+    requires pkg { IsTrue D.tells → IsSettled Pkg (D.files disk.old) (images D.Disk disk.old) }
+    requires idx { IsTrue D.tells → IsSettled Idx (D.files disk.old) (images D.Disk disk.old) }
+    ensures went { IsTrue D.tells → OpenedBy (IsLawful (D.files disk.old).pkg (D.files disk.old).idx) (Does format.now words.now ask.now (D.files disk.old)
+        (pkg_read D.Disk disk.old) (pkg_read D.Disk disk.new)) (store (D.files disk.old).pkg) result (shown O.Sink E.Sink out.old err.old) (shown O.Sink
+        E.Sink out.new err.new) }
+    ensures reads { is_query ask.now.mode ≡ true → IsTrue D.tells → IsLawful (D.files disk.old).pkg (D.files disk.old).idx → pkg_read D.Disk disk.new ≤
+        pkg_read D.Disk disk.old + keyed_cost (D.files disk.old) words.now ask.now }
     ensures index_full { IsTrue D.tells → FullIs (D.files disk.old) result }
     ensures bad_index { IsTrue D.tells → BadIs words.now ask.now (D.files disk.old) result }
     ensures index { IsTrue D.tells → IsLawful (D.files disk.old).pkg (D.files disk.old).idx → is_done result ≡ true
         → HasIndex (D.files disk.new).pkg (D.files disk.new).idx }
-    ensures stops { IsTrue D.tells → AreLawful (D.left_since disk.old (D.moment disk.old)) → LeavesOnly D.moment D.left_since disk.old disk.new
-        (IsLawfulStill (D.left_since disk.old (D.moment disk.old))) }
-    ensures runs { Runs D.tells D.files D.left_since D.moment D.bytes_read D.follows Remade disk.old disk.new }
+    ensures stops { IsTrue D.tells → AreLawful (images D.Disk disk.old) → LeavesIn D.Disk disk.old disk.new (IsLawfulStill (images D.Disk disk.old)) }
+    ensures runs { Runs D.Disk Remade disk.old disk.new }
     ensures done { is_foreign result ≡ false }
-    ensures disk { HasCauseAt (result ≡ Why.DiskFault) (D.faults disk.old) (D.faults disk.new) }
-    ensures out { HasCauseAt (result ≡ Why.OutFault) (O.faults (inner out.old)) (O.faults (inner out.new)) }
-    ensures err { HasCauseAt (result ≡ Why.ErrFault) (E.faults (inner err.old)) (E.faults (inner err.new)) }
+    ensures disk { DiskFault D.Disk (result ≡ Why.DiskFault) disk.old disk.new }
+    ensures out { SinkFault O.Sink (result ≡ Why.OutFault) out.old out.new }
+    ensures err { SinkFault E.Sink (result ≡ Why.ErrFault) err.old err.new }
     ensures out_rest { HandsOn O.follows out.old out.new }
     ensures err_rest { HandsOn E.follows err.old err.new }
 {
@@ -90,14 +85,13 @@ pub fn answer_keyed<D: Disk, O: Sink + Drop, E: Sink + Drop>(
 ) -> (Why, D)
     requires out_empty { holds out.old ≡ [] }
     requires err_empty { holds err.old ≡ [] }
-    ensures keyed { IsTrue D.tells → AnswersByKey D.files D.left_since D.moment D.bytes_read format.now words.now ask.now result.0
-        (outputs O.tells (O.taken (inner out.old)) E.tells (E.taken (inner err.old))) (outputs O.tells (O.taken (inner out.new)) E.tells
-        (E.taken (inner err.new))) disk result.1 }
+    ensures keyed { IsTrue D.tells → AnswersByKey D.files D.left_since D.moment D.bytes_read format.now words.now ask.now result.0 (shown O.Sink E.Sink
+        out.old err.old) (shown O.Sink E.Sink out.new err.new) disk result.1 }
     ensures goes_on { D.follows disk result.1 }
     ensures done { is_foreign result.0 ≡ false }
-    ensures disk { HasCauseAt (result.0 ≡ Why.DiskFault) (D.faults disk) (D.faults result.1) }
-    ensures out { HasCauseAt (result.0 ≡ Why.OutFault) (O.faults (inner out.old)) (O.faults (inner out.new)) }
-    ensures err { HasCauseAt (result.0 ≡ Why.ErrFault) (E.faults (inner err.old)) (E.faults (inner err.new)) }
+    ensures disk { DiskFault D.Disk (result.0 ≡ Why.DiskFault) disk result.1 }
+    ensures out { SinkFault O.Sink (result.0 ≡ Why.OutFault) out.old out.new }
+    ensures err { SinkFault E.Sink (result.0 ≡ Why.ErrFault) err.old err.new }
     ensures out_rest { HandsOn O.follows out.old out.new }
     ensures err_rest { HandsOn E.follows err.old err.new }
 {

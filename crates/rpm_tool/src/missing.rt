@@ -2,11 +2,11 @@
 
 ghost use Rattle.std.specs.Prelude.{◌≡◌, ◌≢◌, ℕ, Bool, List, [], Err};
 ghost use Rattle.rpm_outside.specs.Buffered.{inner, holds, HandsOn};
-ghost use Rattle.rpm_outside.specs.Causes.{HasCauseAt};
 ghost use Rattle.rpm_change.specs.Steps.{whole};
 ghost use Rattle.rpm_tool.specs.Queries.{missing, missing_record, missing_part};
 ghost use Rattle.rpm_change.specs.Endings.{outputs};
 ghost use Rattle.rpm_tool.specs.Answers.{PartIs};
+ghost use Rattle.rpm_tool.specs.Frame.{shown, SinkFault};
 
 use crate::pieces::put_line;
 use crate::step::Stop;
@@ -25,7 +25,7 @@ fn put_missing<O: Sink + Drop>(
         (outputs O.tells (O.taken (inner out.old)) err_tells err) (outputs O.tells (O.taken (inner out.new)) err_tells err) (λ for. for ≡ whole j) }
     ensures no_read { result ≢ Err Stop.ReadFault }
     ensures no_err { result ≢ Err Stop.ErrFault }
-    ensures out { HasCauseAt (result ≡ Err Stop.OutFault) (O.faults (inner out.old)) (O.faults (inner out.new)) }
+    ensures out { SinkFault O.Sink (result ≡ Err Stop.OutFault) out.old out.new }
     ensures out_rest { HandsOn O.follows out.old out.new }
 {
     match put_line(out, &[front, text, back]) {
@@ -41,7 +41,7 @@ fn put_no_record<E: Sink + Drop>(err: &mut Buffered<E>, text: &[u8]) -> Result<b
         (outputs out_tells out E.tells (E.taken (inner err.old))) (outputs out_tells out E.tells (E.taken (inner err.new))) (λ for. for ≡ whole j) }
     ensures no_read { result ≢ Err Stop.ReadFault }
     ensures no_out { result ≢ Err Stop.OutFault }
-    ensures err { HasCauseAt (result ≡ Err Stop.ErrFault) (E.faults (inner err.old)) (E.faults (inner err.new)) }
+    ensures err { SinkFault E.Sink (result ≡ Err Stop.ErrFault) err.old err.new }
     ensures err_rest { HandsOn E.follows err.old err.new }
 {
     match put_line(err, &[b"error: record ", text, b" could not be read\n"]) {
@@ -60,11 +60,11 @@ pub fn put_missing_part<O: Sink + Drop, E: Sink + Drop>(
 ) -> Result<bool, Stop>
     requires out_empty { holds out.old ≡ [] }
     requires err_empty { holds err.old ≡ [] }
-    ensures part { (j : ℕ) → PartIs (missing_part chosen j text.now) result (outputs O.tells (O.taken (inner out.old)) E.tells
-        (E.taken (inner err.old))) (outputs O.tells (O.taken (inner out.new)) E.tells (E.taken (inner err.new))) (λ for. for ≡ whole j) }
+    ensures part { (j : ℕ) → PartIs (missing_part chosen j text.now) result (shown O.Sink E.Sink out.old err.old) (shown O.Sink E.Sink out.new err.new) (λ
+        for. for ≡ whole j) }
     ensures no_read { result ≢ Err Stop.ReadFault }
-    ensures out { HasCauseAt (result ≡ Err Stop.OutFault) (O.faults (inner out.old)) (O.faults (inner out.new)) }
-    ensures err { HasCauseAt (result ≡ Err Stop.ErrFault) (E.faults (inner err.old)) (E.faults (inner err.new)) }
+    ensures out { SinkFault O.Sink (result ≡ Err Stop.OutFault) out.old out.new }
+    ensures err { SinkFault E.Sink (result ≡ Err Stop.ErrFault) err.old err.new }
     ensures out_rest { HandsOn O.follows out.old out.new }
     ensures err_rest { HandsOn E.follows err.old err.new }
 {

@@ -1,21 +1,17 @@
 //! An order in which the packages could be installed.
 
-ghost use Rattle.std.specs.Prelude.{◌≡◌, ◌≢◌, ℕ, ◌<◌, Bool, List, [], map, length, true, false, IsTrue, Err, IfOk, IfErr};
+ghost use Rattle.std.specs.Prelude.{◌≡◌, ◌≢◌, ℕ, ◌<◌, Bool, List, [], map, true, false, IsTrue, Err, IfOk, IfErr};
 ghost use Rattle.std.specs.List.{flat_map};
 ghost use Rattle.rpm_outside.specs.Buffered.{inner, holds, HandsOn};
-ghost use Rattle.rpm_outside.specs.Causes.{HasCauseAt};
 ghost use Rattle.rpm_header.specs.Header.{header};
-ghost use Rattle.rpm_db.specs.State.{packages};
 ghost use Rattle.rpm_db.specs.Database as database;
-ghost use Rattle.rpm_db.specs.Database.{Keeps, KeepsIndex};
-ghost use Rattle.rpm_select.specs.Reach.{HasIndexRows};
 ghost use Rattle.rpm_check.specs.Edges.{graph_of};
 ghost use Rattle.rpm_change.specs.Endings.{outputs};
 ghost use Rattle.rpm_change.specs.Steps.{whole, ToOut};
 ghost use Rattle.rpm_graph.specs.Orders.{IsOrder};
-ghost use Rattle.rpm_tool.specs.Answers.{Anywhere, Reached, StepIs, PartIs, is_of_sink};
-ghost use Rattle.rpm_tool.specs.Reads.{Peeks};
+ghost use Rattle.rpm_tool.specs.Answers.{Anywhere, Reached, StepIs, is_of_sink};
 ghost use Rattle.rpm_tool.specs.Requirements.{read_text, label_text, label_step, cycle_line, class_steps, ClassesAre, OrderPartIs, StopsOfSome};
+ghost use Rattle.rpm_tool.specs.Frame.{Peeks, shown, DiskFault, SinkFault, Kept, KeptIndex, HasRows, packages_in};
 
 use crate::step::{Stop, put_text};
 use crate::unreadable::{read_blob, tell_each_bad};
@@ -71,17 +67,16 @@ fn put_label<D: Disk, O: Sink + Drop>(
     out: &mut Buffered<O>,
 ) -> Result<bool, Stop>
     requires out_empty { holds out.old ≡ [] }
-    requires keeps { IsTrue D.tells → Keeps (D.files disk.old).pkg db.now }
+    requires keeps { Kept D.Disk disk.old db.now }
     requires runs { db.now.stopped ≡ false }
-    ensures kept { IsTrue D.tells → Keeps (D.files disk.new).pkg db.now }
-    ensures step { IsTrue D.tells → (err_tells : Bool) (err : List ℕ)
-        → StepIs (label_step (packages (D.files disk.old).pkg db.now.store) indent.now number) result
+    ensures kept { Kept D.Disk disk.new db.now }
+    ensures step { IsTrue D.tells → (err_tells : Bool) (err : List ℕ) → StepIs (label_step (packages_in D.Disk disk.old db.now) indent.now number) result
         (outputs O.tells (O.taken (inner out.old)) err_tells err) (outputs O.tells (O.taken (inner out.new)) err_tells err) }
-    ensures looks { Peeks D.tells D.files D.left_since D.moment D.bytes_read D.follows true disk.old disk.new }
+    ensures looks { Peeks D.Disk true disk.old disk.new }
     ensures unbroken { (unit : ℕ) → result ≢ Err (Stop.BadIndex unit) }
     ensures no_err { result ≢ Err Stop.ErrFault }
-    ensures disk { HasCauseAt (result ≡ Err Stop.ReadFault) (D.faults disk.old) (D.faults disk.new) }
-    ensures out { HasCauseAt (result ≡ Err Stop.OutFault) (O.faults (inner out.old)) (O.faults (inner out.new)) }
+    ensures disk { DiskFault D.Disk (result ≡ Err Stop.ReadFault) disk.old disk.new }
+    ensures out { SinkFault O.Sink (result ≡ Err Stop.OutFault) out.old out.new }
     ensures out_rest { HandsOn O.follows out.old out.new }
 {
     let blob = match read_blob(alloc, db, disk, number) {
@@ -104,17 +99,16 @@ fn put_labels<D: Disk, O: Sink + Drop>(
     out: &mut Buffered<O>,
 ) -> Result<(), Stop>
     requires out_empty { holds out.old ≡ [] }
-    requires keeps { IsTrue D.tells → Keeps (D.files disk.old).pkg db.now }
+    requires keeps { Kept D.Disk disk.old db.now }
     requires runs { db.now.stopped ≡ false }
-    ensures kept { IsTrue D.tells → Keeps (D.files disk.new).pkg db.now }
-    ensures went { IsTrue D.tells → (err_tells : Bool) (err : List ℕ)
-        → Reached (map (label_step (packages (D.files disk.old).pkg db.now.store) indent.now) class.now) result
-        (outputs O.tells (O.taken (inner out.old)) err_tells err) (outputs O.tells (O.taken (inner out.new)) err_tells err) Anywhere }
-    ensures looks { Peeks D.tells D.files D.left_since D.moment D.bytes_read D.follows true disk.old disk.new }
+    ensures kept { Kept D.Disk disk.new db.now }
+    ensures went { IsTrue D.tells → (err_tells : Bool) (err : List ℕ) → Reached (map (label_step (packages_in D.Disk disk.old db.now) indent.now) class.now)
+        result (outputs O.tells (O.taken (inner out.old)) err_tells err) (outputs O.tells (O.taken (inner out.new)) err_tells err) Anywhere }
+    ensures looks { Peeks D.Disk true disk.old disk.new }
     ensures unbroken { (unit : ℕ) → result ≢ Err (Stop.BadIndex unit) }
     ensures no_err { result ≢ Err Stop.ErrFault }
-    ensures disk { HasCauseAt (result ≡ Err Stop.ReadFault) (D.faults disk.old) (D.faults disk.new) }
-    ensures out { HasCauseAt (result ≡ Err Stop.OutFault) (O.faults (inner out.old)) (O.faults (inner out.new)) }
+    ensures disk { DiskFault D.Disk (result ≡ Err Stop.ReadFault) disk.old disk.new }
+    ensures out { SinkFault O.Sink (result ≡ Err Stop.OutFault) out.old out.new }
     ensures out_rest { HandsOn O.follows out.old out.new }
 {
     for number in class {
@@ -151,7 +145,7 @@ fn put_cycle<O: Sink + Drop>(
     ensures no_read { result ≢ Err Stop.ReadFault }
     ensures unbroken { (unit : ℕ) → result ≢ Err (Stop.BadIndex unit) }
     ensures no_err { result ≢ Err Stop.ErrFault }
-    ensures out { HasCauseAt (result ≡ Err Stop.OutFault) (O.faults (inner out.old)) (O.faults (inner out.new)) }
+    ensures out { SinkFault O.Sink (result ≡ Err Stop.OutFault) out.old out.new }
     ensures out_rest { HandsOn O.follows out.old out.new }
 {
     match cycle_line(alloc, count) {
@@ -169,17 +163,16 @@ fn put_class<D: Disk, O: Sink + Drop>(
     out: &mut Buffered<O>,
 ) -> Result<(), Stop>
     requires out_empty { holds out.old ≡ [] }
-    requires keeps { IsTrue D.tells → Keeps (D.files disk.old).pkg db.now }
+    requires keeps { Kept D.Disk disk.old db.now }
     requires runs { db.now.stopped ≡ false }
-    ensures kept { IsTrue D.tells → Keeps (D.files disk.new).pkg db.now }
-    ensures went { IsTrue D.tells → (err_tells : Bool) (err : List ℕ)
-        → Reached (class_steps (packages (D.files disk.old).pkg db.now.store) class.now) result
-        (outputs O.tells (O.taken (inner out.old)) err_tells err) (outputs O.tells (O.taken (inner out.new)) err_tells err) Anywhere }
-    ensures looks { Peeks D.tells D.files D.left_since D.moment D.bytes_read D.follows true disk.old disk.new }
+    ensures kept { Kept D.Disk disk.new db.now }
+    ensures went { IsTrue D.tells → (err_tells : Bool) (err : List ℕ) → Reached (class_steps (packages_in D.Disk disk.old db.now) class.now) result (outputs
+        O.tells (O.taken (inner out.old)) err_tells err) (outputs O.tells (O.taken (inner out.new)) err_tells err) Anywhere }
+    ensures looks { Peeks D.Disk true disk.old disk.new }
     ensures unbroken { (unit : ℕ) → result ≢ Err (Stop.BadIndex unit) }
     ensures no_err { result ≢ Err Stop.ErrFault }
-    ensures disk { HasCauseAt (result ≡ Err Stop.ReadFault) (D.faults disk.old) (D.faults disk.new) }
-    ensures out { HasCauseAt (result ≡ Err Stop.OutFault) (O.faults (inner out.old)) (O.faults (inner out.new)) }
+    ensures disk { DiskFault D.Disk (result ≡ Err Stop.ReadFault) disk.old disk.new }
+    ensures out { SinkFault O.Sink (result ≡ Err Stop.OutFault) out.old out.new }
     ensures out_rest { HandsOn O.follows out.old out.new }
 {
     let count = class.len();
@@ -201,16 +194,15 @@ fn put_classes<D: Disk, O: Sink + Drop>(
     out: &mut Buffered<O>,
 ) -> Result<(), Stop>
     requires out_empty { holds out.old ≡ [] }
-    requires keeps { IsTrue D.tells → Keeps (D.files disk.old).pkg db.now }
+    requires keeps { Kept D.Disk disk.old db.now }
     requires runs { db.now.stopped ≡ false }
-    ensures went { IsTrue D.tells → (err_tells : Bool) (err : List ℕ)
-        → Reached (flat_map (class_steps (packages (D.files disk.old).pkg db.now.store)) list.now) result
+    ensures went { IsTrue D.tells → (err_tells : Bool) (err : List ℕ) → Reached (flat_map (class_steps (packages_in D.Disk disk.old db.now)) list.now) result
         (outputs O.tells (O.taken (inner out.old)) err_tells err) (outputs O.tells (O.taken (inner out.new)) err_tells err) Anywhere }
-    ensures looks { Peeks D.tells D.files D.left_since D.moment D.bytes_read D.follows true disk.old disk.new }
+    ensures looks { Peeks D.Disk true disk.old disk.new }
     ensures unbroken { (unit : ℕ) → result ≢ Err (Stop.BadIndex unit) }
     ensures no_err { result ≢ Err Stop.ErrFault }
-    ensures disk { HasCauseAt (result ≡ Err Stop.ReadFault) (D.faults disk.old) (D.faults disk.new) }
-    ensures out { HasCauseAt (result ≡ Err Stop.OutFault) (O.faults (inner out.old)) (O.faults (inner out.new)) }
+    ensures disk { DiskFault D.Disk (result ≡ Err Stop.ReadFault) disk.old disk.new }
+    ensures out { SinkFault O.Sink (result ≡ Err Stop.OutFault) out.old out.new }
     ensures out_rest { HandsOn O.follows out.old out.new }
 {
     for k in 0..list.classes() {
@@ -224,19 +216,18 @@ fn put_classes<D: Disk, O: Sink + Drop>(
 
 /// The packages in an order in which they could be installed.
 fn list_classes<D: Disk>(alloc: Global, db: &Db, disk: &mut D) -> Result<ClassList, Stop>
-    requires keeps { IsTrue D.tells → Keeps (D.files disk.old).pkg db.now }
-    requires keeps_index { IsTrue D.tells → KeepsIndex (D.files disk.old).idx db.now }
+    requires keeps { Kept D.Disk disk.old db.now }
+    requires keeps_index { KeptIndex D.Disk disk.old db.now }
     requires runs { db.now.stopped ≡ false }
     requires from_one { database.holds 0 db.now ≡ false }
-    ensures kept { IsTrue D.tells → Keeps (D.files disk.new).pkg db.now }
-    ensures told { IfOk result (λ list. IsTrue D.tells → HasIndexRows db.now (D.files disk.old).pkg (D.files disk.old).idx
-        → IsOrder (graph_of (packages (D.files disk.old).pkg db.now.store)) list) }
+    ensures kept { Kept D.Disk disk.new db.now }
+    ensures told { IfOk result (λ list. IsTrue D.tells → HasRows D.Disk disk.old db.now → IsOrder (graph_of (packages_in D.Disk disk.old db.now)) list) }
     ensures broken { IsTrue D.tells → IfErr result (StopsOfSome (D.files disk.old).idx) }
-    ensures lawful { IsTrue D.tells → HasIndexRows db.now (D.files disk.old).pkg (D.files disk.old).idx → IfErr result (λ stop. is_of_sink stop ≡ false) }
+    ensures lawful { IsTrue D.tells → HasRows D.Disk disk.old db.now → IfErr result (λ stop. is_of_sink stop ≡ false) }
     ensures no_out { result ≢ Err Stop.OutFault }
     ensures no_err { result ≢ Err Stop.ErrFault }
-    ensures looks { Peeks D.tells D.files D.left_since D.moment D.bytes_read D.follows true disk.old disk.new }
-    ensures disk { HasCauseAt (result ≡ Err Stop.ReadFault) (D.faults disk.old) (D.faults disk.new) }
+    ensures looks { Peeks D.Disk true disk.old disk.new }
+    ensures disk { DiskFault D.Disk (result ≡ Err Stop.ReadFault) disk.old disk.new }
 {
     let graph = match read_graph(alloc, db, disk) {
         Ok(graph) => graph,
@@ -256,18 +247,17 @@ fn tell_order<D: Disk, O: Sink + Drop>(
     out: &mut Buffered<O>,
 ) -> Result<(), Stop>
     requires out_empty { holds out.old ≡ [] }
-    requires keeps { IsTrue D.tells → Keeps (D.files disk.old).pkg db.now }
-    requires keeps_index { IsTrue D.tells → KeepsIndex (D.files disk.old).idx db.now }
+    requires keeps { Kept D.Disk disk.old db.now }
+    requires keeps_index { KeptIndex D.Disk disk.old db.now }
     requires runs { db.now.stopped ≡ false }
     requires from_one { database.holds 0 db.now ≡ false }
-    ensures went { IsTrue D.tells → HasIndexRows db.now (D.files disk.old).pkg (D.files disk.old).idx → (err_tells : Bool) (err : List ℕ)
-        → ClassesAre (packages (D.files disk.old).pkg db.now.store) result
-        (outputs O.tells (O.taken (inner out.old)) err_tells err) (outputs O.tells (O.taken (inner out.new)) err_tells err) }
+    ensures went { IsTrue D.tells → HasRows D.Disk disk.old db.now → (err_tells : Bool) (err : List ℕ) → ClassesAre (packages_in D.Disk disk.old db.now)
+        result (outputs O.tells (O.taken (inner out.old)) err_tells err) (outputs O.tells (O.taken (inner out.new)) err_tells err) }
     ensures broken { IsTrue D.tells → IfErr result (StopsOfSome (D.files disk.old).idx) }
     ensures no_err { result ≢ Err Stop.ErrFault }
-    ensures looks { Peeks D.tells D.files D.left_since D.moment D.bytes_read D.follows true disk.old disk.new }
-    ensures disk { HasCauseAt (result ≡ Err Stop.ReadFault) (D.faults disk.old) (D.faults disk.new) }
-    ensures out { HasCauseAt (result ≡ Err Stop.OutFault) (O.faults (inner out.old)) (O.faults (inner out.new)) }
+    ensures looks { Peeks D.Disk true disk.old disk.new }
+    ensures disk { DiskFault D.Disk (result ≡ Err Stop.ReadFault) disk.old disk.new }
+    ensures out { SinkFault O.Sink (result ≡ Err Stop.OutFault) out.old out.new }
     ensures out_rest { HandsOn O.follows out.old out.new }
 {
     match list_classes(alloc, db, disk) {
@@ -290,19 +280,17 @@ pub fn report_order<D: Disk, O: Sink + Drop, E: Sink + Drop>(
 ) -> Result<bool, Stop>
     requires out_empty { holds out.old ≡ [] }
     requires err_empty { holds err.old ≡ [] }
-    requires keeps { IsTrue D.tells → Keeps (D.files disk.old).pkg db.now }
-    requires keeps_index { IsTrue D.tells → KeepsIndex (D.files disk.old).idx db.now }
+    requires keeps { Kept D.Disk disk.old db.now }
+    requires keeps_index { KeptIndex D.Disk disk.old db.now }
     requires runs { db.now.stopped ≡ false }
     requires from_one { database.holds 0 db.now ≡ false }
-    ensures went { IsTrue D.tells → HasIndexRows db.now (D.files disk.old).pkg (D.files disk.old).idx
-        → OrderPartIs (packages (D.files disk.old).pkg db.now.store) result
-        (outputs O.tells (O.taken (inner out.old)) E.tells (E.taken (inner err.old))) (outputs O.tells (O.taken (inner out.new)) E.tells
-        (E.taken (inner err.new))) }
+    ensures went { IsTrue D.tells → HasRows D.Disk disk.old db.now → OrderPartIs (packages_in D.Disk disk.old db.now) result (shown O.Sink E.Sink out.old
+        err.old) (shown O.Sink E.Sink out.new err.new) }
     ensures broken { IsTrue D.tells → IfErr result (StopsOfSome (D.files disk.old).idx) }
-    ensures looks { Peeks D.tells D.files D.left_since D.moment D.bytes_read D.follows true disk.old disk.new }
-    ensures disk { HasCauseAt (result ≡ Err Stop.ReadFault) (D.faults disk.old) (D.faults disk.new) }
-    ensures out { HasCauseAt (result ≡ Err Stop.OutFault) (O.faults (inner out.old)) (O.faults (inner out.new)) }
-    ensures err { HasCauseAt (result ≡ Err Stop.ErrFault) (E.faults (inner err.old)) (E.faults (inner err.new)) }
+    ensures looks { Peeks D.Disk true disk.old disk.new }
+    ensures disk { DiskFault D.Disk (result ≡ Err Stop.ReadFault) disk.old disk.new }
+    ensures out { SinkFault O.Sink (result ≡ Err Stop.OutFault) out.old out.new }
+    ensures err { SinkFault E.Sink (result ≡ Err Stop.ErrFault) err.old err.new }
     ensures out_rest { HandsOn O.follows out.old out.new }
     ensures err_rest { HandsOn E.follows err.old err.new }
 {

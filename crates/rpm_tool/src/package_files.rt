@@ -1,11 +1,9 @@
 //! A query of package files.
 
-ghost use Rattle.std.specs.Prelude.{◌≡◌, ◌≢◌, ◌++◌, ℕ, Bool, List, [], ◌∷◌, map, false, IsTrue, Some, Ok, Err, IfOk};
+ghost use Rattle.std.specs.Prelude.{◌≡◌, ◌≢◌, ◌++◌, ℕ, Bool, List, [], ◌∷◌, map, false, IsTrue, Err};
 ghost use Rattle.std.specs.List.{concat};
 ghost use Rattle.rpm_outside.specs.Buffered.{inner, holds, HandsOn};
-ghost use Rattle.rpm_outside.specs.Causes.{HasCauseAt};
 ghost use Rattle.rpm_qfeval.specs.Meaning.{meaning};
-ghost use Rattle.rpm_words.specs.Words.{text_at};
 ghost use Rattle.rpm_outside.specs.Browses.{left};
 ghost use Rattle.rpm_file.specs.Package.{package_header};
 ghost use Rattle.rpm_change.specs.Steps.{bearer, whole, ToErr};
@@ -15,6 +13,7 @@ ghost use Rattle.rpm_change.specs.Texts.{refused_line, absent_line};
 ghost use Rattle.rpm_tool.specs.PackageFiles.{read_part, file_part, query_files};
 ghost use Rattle.rpm_change.specs.Endings.{outputs};
 ghost use Rattle.rpm_tool.specs.Answers.{stop_in, why_of_files, PartIs, Anywhere, Went, is_of_words};
+ghost use Rattle.rpm_tool.specs.Frame.{shown, SinkFault, ShelfFault};
 
 use crate::answer::Why;
 use crate::pieces::put_line;
@@ -36,7 +35,7 @@ fn put_failing<E: Sink + Drop>(err: &mut Buffered<E>, pieces: &[&[u8]]) -> Resul
         (outputs out_tells out E.tells (E.taken (inner err.old))) (outputs out_tells out E.tells (E.taken (inner err.new))) Anywhere }
     ensures no_read { result ≢ Err Stop.ReadFault }
     ensures no_out { result ≢ Err Stop.OutFault }
-    ensures err { HasCauseAt (result ≡ Err Stop.ErrFault) (E.faults (inner err.old)) (E.faults (inner err.new)) }
+    ensures err { SinkFault E.Sink (result ≡ Err Stop.ErrFault) err.old err.new }
     ensures err_rest { HandsOn E.follows err.old err.new }
 {
     match put_line(err, pieces) {
@@ -57,7 +56,7 @@ fn put_refused<E: Sink + Drop>(
         (outputs out_tells out E.tells (E.taken (inner err.old))) (outputs out_tells out E.tells (E.taken (inner err.new))) Anywhere }
     ensures no_read { result ≢ Err Stop.ReadFault }
     ensures no_out { result ≢ Err Stop.OutFault }
-    ensures err { HasCauseAt (result ≡ Err Stop.ErrFault) (E.faults (inner err.old)) (E.faults (inner err.new)) }
+    ensures err { SinkFault E.Sink (result ≡ Err Stop.ErrFault) err.old err.new }
     ensures err_rest { HandsOn E.follows err.old err.new }
 {
     match refused_line(alloc, path, fault) {
@@ -73,7 +72,7 @@ fn put_absent<E: Sink + Drop>(err: &mut Buffered<E>, path: &[u8]) -> Result<bool
         (outputs out_tells out E.tells (E.taken (inner err.old))) (outputs out_tells out E.tells (E.taken (inner err.new))) Anywhere }
     ensures no_read { result ≢ Err Stop.ReadFault }
     ensures no_out { result ≢ Err Stop.OutFault }
-    ensures err { HasCauseAt (result ≡ Err Stop.ErrFault) (E.faults (inner err.old)) (E.faults (inner err.new)) }
+    ensures err { SinkFault E.Sink (result ≡ Err Stop.ErrFault) err.old err.new }
     ensures err_rest { HandsOn E.follows err.old err.new }
 {
     put_failing(err, &[b"error: open of ", path, b" failed\n"])
@@ -88,12 +87,11 @@ fn print_package<O: Sink + Drop, E: Sink + Drop>(
 ) -> Result<bool, Stop>
     requires out_empty { holds out.old ≡ [] }
     requires err_empty { holds err.old ≡ [] }
-    ensures part { (j : ℕ) → PartIs (told (printed (bearer j 0) (meaning found.now 0 format.now) ∷ [])) result
-        (outputs O.tells (O.taken (inner out.old)) E.tells (E.taken (inner err.old))) (outputs O.tells (O.taken (inner out.new)) E.tells
-        (E.taken (inner err.new))) Anywhere }
+    ensures part { (j : ℕ) → PartIs (told (printed (bearer j 0) (meaning found.now 0 format.now) ∷ [])) result (shown O.Sink E.Sink out.old err.old) (shown
+        O.Sink E.Sink out.new err.new) Anywhere }
     ensures no_read { result ≢ Err Stop.ReadFault }
-    ensures out { HasCauseAt (result ≡ Err Stop.OutFault) (O.faults (inner out.old)) (O.faults (inner out.new)) }
-    ensures err { HasCauseAt (result ≡ Err Stop.ErrFault) (E.faults (inner err.old)) (E.faults (inner err.new)) }
+    ensures out { SinkFault O.Sink (result ≡ Err Stop.OutFault) out.old out.new }
+    ensures err { SinkFault E.Sink (result ≡ Err Stop.ErrFault) err.old err.new }
     ensures out_rest { HandsOn O.follows out.old out.new }
     ensures err_rest { HandsOn E.follows err.old err.new }
 {
@@ -126,13 +124,12 @@ fn print_opened<S: Shelf, O: Sink + Drop, E: Sink + Drop>(
 ) -> Result<bool, Stop>
     requires out_empty { holds out.old ≡ [] }
     requires err_empty { holds err.old ≡ [] }
-    ensures went { IsTrue S.tells → (j : ℕ) → PartIs (read_part format.now j path.now (package_header (left (S.rest shelf.old)))) result
-        (outputs O.tells (O.taken (inner out.old)) E.tells (E.taken (inner err.old))) (outputs O.tells (O.taken (inner out.new)) E.tells
-        (E.taken (inner err.new))) Anywhere }
+    ensures went { IsTrue S.tells → (j : ℕ) → PartIs (read_part format.now j path.now (package_header (left (S.rest shelf.old)))) result (shown O.Sink E.Sink
+        out.old err.old) (shown O.Sink E.Sink out.new err.new) Anywhere }
     ensures paths { IsTrue S.tells → S.paths shelf.new ≡ S.paths shelf.old }
-    ensures shelf { HasCauseAt (result ≡ Err Stop.ReadFault) (S.faults shelf.old) (S.faults shelf.new) }
-    ensures out { HasCauseAt (result ≡ Err Stop.OutFault) (O.faults (inner out.old)) (O.faults (inner out.new)) }
-    ensures err { HasCauseAt (result ≡ Err Stop.ErrFault) (E.faults (inner err.old)) (E.faults (inner err.new)) }
+    ensures shelf { ShelfFault S.Shelf (result ≡ Err Stop.ReadFault) shelf.old shelf.new }
+    ensures out { SinkFault O.Sink (result ≡ Err Stop.OutFault) out.old out.new }
+    ensures err { SinkFault E.Sink (result ≡ Err Stop.ErrFault) err.old err.new }
     ensures out_rest { HandsOn O.follows out.old out.new }
     ensures err_rest { HandsOn E.follows err.old err.new }
 {
@@ -156,13 +153,12 @@ fn print_file<S: Shelf, O: Sink + Drop, E: Sink + Drop>(
 ) -> Result<bool, Stop>
     requires out_empty { holds out.old ≡ [] }
     requires err_empty { holds err.old ≡ [] }
-    ensures went { IsTrue S.tells → (j : ℕ) → PartIs (file_part format.now (S.paths shelf.old) j path.now) result
-        (outputs O.tells (O.taken (inner out.old)) E.tells (E.taken (inner err.old))) (outputs O.tells (O.taken (inner out.new)) E.tells
-        (E.taken (inner err.new))) Anywhere }
+    ensures went { IsTrue S.tells → (j : ℕ) → PartIs (file_part format.now (S.paths shelf.old) j path.now) result (shown O.Sink E.Sink out.old err.old) (shown
+        O.Sink E.Sink out.new err.new) Anywhere }
     ensures paths { IsTrue S.tells → S.paths shelf.new ≡ S.paths shelf.old }
-    ensures shelf { HasCauseAt (result ≡ Err Stop.ReadFault) (S.faults shelf.old) (S.faults shelf.new) }
-    ensures out { HasCauseAt (result ≡ Err Stop.OutFault) (O.faults (inner out.old)) (O.faults (inner out.new)) }
-    ensures err { HasCauseAt (result ≡ Err Stop.ErrFault) (E.faults (inner err.old)) (E.faults (inner err.new)) }
+    ensures shelf { ShelfFault S.Shelf (result ≡ Err Stop.ReadFault) shelf.old shelf.new }
+    ensures out { SinkFault O.Sink (result ≡ Err Stop.OutFault) out.old out.new }
+    ensures err { SinkFault E.Sink (result ≡ Err Stop.ErrFault) err.old err.new }
     ensures out_rest { HandsOn O.follows out.old out.new }
     ensures err_rest { HandsOn E.follows err.old err.new }
 {
@@ -198,15 +194,14 @@ pub fn print_files<S: Shelf, O: Sink + Drop, E: Sink + Drop>(
 ) -> Why
     requires out_empty { holds out.old ≡ [] }
     requires err_empty { holds err.old ≡ [] }
-    ensures went { IsTrue S.tells → Went (query_files format.now (S.paths shelf.old) words.now ask.now) result
-        (outputs O.tells (O.taken (inner out.old)) E.tells (E.taken (inner err.old))) (outputs O.tells (O.taken (inner out.new)) E.tells
-        (E.taken (inner err.new))) Anywhere }
+    ensures went { IsTrue S.tells → Went (query_files format.now (S.paths shelf.old) words.now ask.now) result (shown O.Sink E.Sink out.old err.old) (shown
+        O.Sink E.Sink out.new err.new) Anywhere }
     ensures done { is_of_words result ≡ false }
     ensures no_disk { result ≢ Why.DiskFault }
     ensures paths { IsTrue S.tells → S.paths shelf.new ≡ S.paths shelf.old }
-    ensures shelf { HasCauseAt (result ≡ Why.ShelfFault) (S.faults shelf.old) (S.faults shelf.new) }
-    ensures out { HasCauseAt (result ≡ Why.OutFault) (O.faults (inner out.old)) (O.faults (inner out.new)) }
-    ensures err { HasCauseAt (result ≡ Why.ErrFault) (E.faults (inner err.old)) (E.faults (inner err.new)) }
+    ensures shelf { ShelfFault S.Shelf (result ≡ Why.ShelfFault) shelf.old shelf.new }
+    ensures out { SinkFault O.Sink (result ≡ Why.OutFault) out.old out.new }
+    ensures err { SinkFault E.Sink (result ≡ Why.ErrFault) err.old err.new }
     ensures out_rest { HandsOn O.follows out.old out.new }
     ensures err_rest { HandsOn E.follows err.old err.new }
 {

@@ -1,20 +1,18 @@
 //! The packages that a question picks, printed one after the other.
 
 ghost use Rattle.std.specs.Prelude.{◌≡◌, ◌≢◌, ℕ, ◌+◌, ◌-◌, ◌<◌, ◌≤◌, ◌||◌, [], false, IsTrue, Err, IfOk, IfSome};
-ghost use Rattle.rpm_outside.specs.Buffered.{inner, holds, HandsOn};
-ghost use Rattle.rpm_outside.specs.Causes.{HasCauseAt};
+ghost use Rattle.rpm_outside.specs.Buffered.{holds, HandsOn};
 ghost use Rattle.rpm_outside.specs.declared.disk.File.TheVariants.{Pkg};
-ghost use Rattle.rpm_outside.specs.Looks.{Looks};
-ghost use Rattle.rpm_db.specs.State.{packages, above};
-ghost use Rattle.rpm_db.specs.Database.{Keeps, KeepsIndex, cost_to, cost_all};
+ghost use Rattle.rpm_db.specs.State.{above};
+ghost use Rattle.rpm_db.specs.Database.{cost_to, cost_all};
 ghost use Rattle.rpm_select.specs.Selections.{picks};
-ghost use Rattle.rpm_select.specs.Reach.{Serves, HasIndexRows, asks, unasked, reach_to, reach_all};
+ghost use Rattle.rpm_select.specs.Reach.{Serves, asks, unasked, reach_to, reach_all};
 ghost use Rattle.rpm_select.specs.Picks.{entry_in, number_in};
 ghost use Rattle.rpm_tool.specs.Queries.{packages_part};
 ghost use Rattle.rpm_tool.specs.Reports.{step_by};
 ghost use Rattle.rpm_tool.specs.Reads.{ReadsIn, reach_until};
-ghost use Rattle.rpm_change.specs.Endings.{outputs};
 ghost use Rattle.rpm_tool.specs.Answers.{stop_of, OneIs, NextIs, PartIs, cost_until, fails_in, is_some_of};
+ghost use Rattle.rpm_tool.specs.Frame.{Looks, shown, DiskFault, SinkFault, Kept, KeptIndex, HasRows, packages_in, pkg_read};
 
 use crate::step::{Stop, Way, print_picked};
 use rpm_db::Db;
@@ -47,15 +45,14 @@ pub fn begin_unasked<D: Disk>(
     disk: &mut D,
     selection: &Selection<'_>,
 ) -> Picker
-    requires keeps { IsTrue D.tells → Keeps (D.files disk.old).pkg db.now }
-    requires keeps_index { IsTrue D.tells → KeepsIndex (D.files disk.old).idx db.now }
+    requires keeps { Kept D.Disk disk.old db.now }
+    requires keeps_index { KeptIndex D.Disk disk.old db.now }
     requires runs { db.now.stopped ≡ false }
     requires unasked { asks db.now selection.now ≡ false }
-    ensures kept { IsTrue D.tells → Keeps (D.files disk.new).pkg db.now }
-    ensures reach { IsTrue D.tells → HasIndexRows db.now (D.files disk.old).pkg (D.files disk.old).idx → result ≡ unasked selection.now }
-    ensures serves { IsTrue D.tells → HasIndexRows db.now (D.files disk.old).pkg (D.files disk.old).idx
-        → Serves result (packages (D.files disk.new).pkg db.now.store) selection.now }
-    ensures looks { Looks D.tells D.files D.left_since D.moment D.bytes_read D.follows Pkg 0 disk.old disk.new }
+    ensures kept { Kept D.Disk disk.new db.now }
+    ensures reach { IsTrue D.tells → HasRows D.Disk disk.old db.now → result ≡ unasked selection.now }
+    ensures serves { IsTrue D.tells → HasRows D.Disk disk.old db.now → Serves result (packages_in D.Disk disk.new db.now) selection.now }
+    ensures looks { Looks D.Disk Pkg 0 disk.old disk.new }
     ensures faults { D.faults disk.old ≤ D.faults disk.new }
 {
     match Picker::new(alloc, db, disk, selection) {
@@ -74,13 +71,12 @@ fn print_one<O: Sink + Drop, E: Sink + Drop>(
 ) -> Result<Option<(u32, bool)>, Stop>
     requires out_empty { holds out.old ≡ [] }
     requires err_empty { holds err.old ≡ [] }
-    ensures one { (j : ℕ) → OneIs (step_by way.now j (entry_in picked.now)) result (outputs O.tells (O.taken (inner out.old)) E.tells
-        (E.taken (inner err.old))) (outputs O.tells (O.taken (inner out.new)) E.tells (E.taken (inner err.new))) }
+    ensures one { (j : ℕ) → OneIs (step_by way.now j (entry_in picked.now)) result (shown O.Sink E.Sink out.old err.old) (shown O.Sink E.Sink out.new err.new) }
     ensures numbered { IfOk result (λ o. IfSome o (λ e. e.0 ≡ number_in picked.now)) }
     ensures no_read { result ≢ Err Stop.ReadFault }
     ensures unbroken { (unit : ℕ) → result ≢ Err (Stop.BadIndex unit) }
-    ensures out { HasCauseAt (result ≡ Err Stop.OutFault) (O.faults (inner out.old)) (O.faults (inner out.new)) }
-    ensures err { HasCauseAt (result ≡ Err Stop.ErrFault) (E.faults (inner err.old)) (E.faults (inner err.new)) }
+    ensures out { SinkFault O.Sink (result ≡ Err Stop.OutFault) out.old out.new }
+    ensures err { SinkFault E.Sink (result ≡ Err Stop.ErrFault) err.old err.new }
     ensures out_rest { HandsOn O.follows out.old out.new }
     ensures err_rest { HandsOn E.follows err.old err.new }
 {
@@ -104,21 +100,20 @@ fn print_next<D: Disk, O: Sink + Drop, E: Sink + Drop>(
 ) -> Result<Option<(u32, bool)>, Stop>
     requires out_empty { holds out.old ≡ [] }
     requires err_empty { holds err.old ≡ [] }
-    requires keeps { IsTrue D.tells → Keeps (D.files disk.old).pkg db.now }
+    requires keeps { Kept D.Disk disk.old db.now }
     requires runs { db.now.stopped ≡ false }
     ensures same { picker.new ≡ picker.old }
-    ensures kept { IsTrue D.tells → Keeps (D.files disk.new).pkg db.now }
-    ensures went { IsTrue D.tells → Serves picker.old (packages (D.files disk.old).pkg db.now.store) selection.now → (j : ℕ)
-        → NextIs (step_by way.now j) number (picks (packages (D.files disk.old).pkg db.now.store) selection.now) result
-        (outputs O.tells (O.taken (inner out.old)) E.tells (E.taken (inner err.old))) (outputs O.tells (O.taken (inner out.new)) E.tells
-        (E.taken (inner err.new))) (ReadsIn j number picker.old db.now (D.bytes_read disk.old File.Pkg) (D.bytes_read disk.new File.Pkg)) }
+    ensures kept { Kept D.Disk disk.new db.now }
+    ensures went { IsTrue D.tells → Serves picker.old (packages_in D.Disk disk.old db.now) selection.now → (j : ℕ) → NextIs (step_by way.now j) number (picks
+        (packages_in D.Disk disk.old db.now) selection.now) result (shown O.Sink E.Sink out.old err.old) (shown O.Sink E.Sink out.new err.new) (ReadsIn j
+        number picker.old db.now (pkg_read D.Disk disk.old) (pkg_read D.Disk disk.new)) }
     ensures rises { IfOk result (λ o. IfSome o (λ e. number < e.0)) }
-    ensures reads { D.bytes_read disk.new File.Pkg ≤ D.bytes_read disk.old File.Pkg + reach_until number picker.old db.now result }
-    ensures looks { Looks D.tells D.files D.left_since D.moment D.bytes_read D.follows Pkg (cost_until number db.now.store result) disk.old disk.new }
-    ensures disk { HasCauseAt (result ≡ Err Stop.ReadFault) (D.faults disk.old) (D.faults disk.new) }
+    ensures reads { pkg_read D.Disk disk.new ≤ pkg_read D.Disk disk.old + reach_until number picker.old db.now result }
+    ensures looks { Looks D.Disk Pkg (cost_until number db.now.store result) disk.old disk.new }
+    ensures disk { DiskFault D.Disk (result ≡ Err Stop.ReadFault) disk.old disk.new }
     ensures unbroken { (unit : ℕ) → result ≢ Err (Stop.BadIndex unit) }
-    ensures out { HasCauseAt (result ≡ Err Stop.OutFault) (O.faults (inner out.old)) (O.faults (inner out.new)) }
-    ensures err { HasCauseAt (result ≡ Err Stop.ErrFault) (E.faults (inner err.old)) (E.faults (inner err.new)) }
+    ensures out { SinkFault O.Sink (result ≡ Err Stop.OutFault) out.old out.new }
+    ensures err { SinkFault E.Sink (result ≡ Err Stop.ErrFault) err.old err.new }
     ensures out_rest { HandsOn O.follows out.old out.new }
     ensures err_rest { HandsOn E.follows err.old err.new }
 {
@@ -150,22 +145,21 @@ pub fn print_above<D: Disk, O: Sink + Drop, E: Sink + Drop>(
 ) -> Result<PrintedPackages, Stop>
     requires out_empty { holds out.old ≡ [] }
     requires err_empty { holds err.old ≡ [] }
-    requires keeps { IsTrue D.tells → Keeps (D.files disk.old).pkg db.now }
+    requires keeps { Kept D.Disk disk.old db.now }
     requires runs { db.now.stopped ≡ false }
     ensures same { picker.new ≡ picker.old }
-    ensures kept { IsTrue D.tells → Keeps (D.files disk.new).pkg db.now }
-    ensures went { IsTrue D.tells → Serves picker.old (packages (D.files disk.old).pkg db.now.store) selection.now → (j : ℕ) → PartIs
-        (packages_part (step_by way.now j) after (picks (packages (D.files disk.old).pkg db.now.store) selection.now)) (fails_in result)
-        (outputs O.tells (O.taken (inner out.old)) E.tells (E.taken (inner err.old))) (outputs O.tells (O.taken (inner out.new)) E.tells
-        (E.taken (inner err.new))) (ReadsIn j after picker.old db.now (D.bytes_read disk.old File.Pkg) (D.bytes_read disk.new File.Pkg)) }
-    ensures some { IsTrue D.tells → Serves picker.old (packages (D.files disk.old).pkg db.now.store) selection.now → IfOk result (λ p. p.some
-        ≡ is_some_of (above after (picks (packages (D.files disk.old).pkg db.now.store) selection.now))) }
-    ensures reads { D.bytes_read disk.new File.Pkg + reach_to after picker.old db.now ≤ D.bytes_read disk.old File.Pkg + reach_all picker.old db.now }
-    ensures looks { Looks D.tells D.files D.left_since D.moment D.bytes_read D.follows Pkg (cost_all db.now - cost_to after db.now) disk.old disk.new }
-    ensures disk { HasCauseAt (result ≡ Err Stop.ReadFault) (D.faults disk.old) (D.faults disk.new) }
+    ensures kept { Kept D.Disk disk.new db.now }
+    ensures went { IsTrue D.tells → Serves picker.old (packages_in D.Disk disk.old db.now) selection.now → (j : ℕ) → PartIs (packages_part (step_by way.now j)
+        after (picks (packages_in D.Disk disk.old db.now) selection.now)) (fails_in result) (shown O.Sink E.Sink out.old err.old) (shown O.Sink E.Sink out.new
+        err.new) (ReadsIn j after picker.old db.now (pkg_read D.Disk disk.old) (pkg_read D.Disk disk.new)) }
+    ensures some { IsTrue D.tells → Serves picker.old (packages_in D.Disk disk.old db.now) selection.now → IfOk result (λ p. p.some ≡ is_some_of (above after
+        (picks (packages_in D.Disk disk.old db.now) selection.now))) }
+    ensures reads { pkg_read D.Disk disk.new + reach_to after picker.old db.now ≤ pkg_read D.Disk disk.old + reach_all picker.old db.now }
+    ensures looks { Looks D.Disk Pkg (cost_all db.now - cost_to after db.now) disk.old disk.new }
+    ensures disk { DiskFault D.Disk (result ≡ Err Stop.ReadFault) disk.old disk.new }
     ensures unbroken { (unit : ℕ) → result ≢ Err (Stop.BadIndex unit) }
-    ensures out { HasCauseAt (result ≡ Err Stop.OutFault) (O.faults (inner out.old)) (O.faults (inner out.new)) }
-    ensures err { HasCauseAt (result ≡ Err Stop.ErrFault) (E.faults (inner err.old)) (E.faults (inner err.new)) }
+    ensures out { SinkFault O.Sink (result ≡ Err Stop.OutFault) out.old out.new }
+    ensures err { SinkFault E.Sink (result ≡ Err Stop.ErrFault) err.old err.new }
     ensures out_rest { HandsOn O.follows out.old out.new }
     ensures err_rest { HandsOn E.follows err.old err.new }
 {

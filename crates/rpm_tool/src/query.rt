@@ -1,24 +1,21 @@
 //! The queries of an opened database.
 
 ghost use Rattle.std.specs.Prelude.{◌≡◌, ◌≢◌, ◌+◌, ◌<◌, ◌≤◌, ℕ, [], ◌∷◌, if◌then◌else◌, false, map, IsTrue};
-ghost use Rattle.rpm_outside.specs.Buffered.{inner, holds, HandsOn};
-ghost use Rattle.rpm_outside.specs.Causes.{HasCauseAt};
+ghost use Rattle.rpm_outside.specs.Buffered.{holds, HandsOn};
 ghost use Rattle.rpm_outside.specs.declared.disk.File.TheVariants.{Pkg};
-ghost use Rattle.rpm_outside.specs.Looks.{Looks};
-ghost use Rattle.rpm_db.specs.State.{packages};
 ghost use Rattle.rpm_db.specs.Database as database;
-ghost use Rattle.rpm_db.specs.Database.{Keeps, KeepsIndex, is_indexed, cost_all};
+ghost use Rattle.rpm_db.specs.Database.{is_indexed, cost_all};
 ghost use Rattle.rpm_select.specs.Selections.{picks};
-ghost use Rattle.rpm_select.specs.Reach.{Everything, HasIndexRows};
+ghost use Rattle.rpm_select.specs.Reach.{Everything};
 ghost use Rattle.rpm_select.specs.declared.selection.Selection.TheVariants as question;
 ghost use Rattle.rpm_words.specs.Words.{text_at};
 ghost use Rattle.rpm_change.specs.Steps.{idle};
 ghost use Rattle.rpm_tool.specs.Steps.{before, in_turn};
 ghost use Rattle.rpm_tool.specs.Queries.{packages_part, argument_part, query};
 ghost use Rattle.rpm_tool.specs.Reports.{step_by};
-ghost use Rattle.rpm_tool.specs.Reads.{argument_reach, reaches_by, reach_sum, reached_by, Peeks, IsOfChains};
-ghost use Rattle.rpm_change.specs.Endings.{outputs};
+ghost use Rattle.rpm_tool.specs.Reads.{argument_reach, reaches_by, reach_sum, reached_by, IsOfChains};
 ghost use Rattle.rpm_tool.specs.Answers.{why_of, is_foreign, is_of_opening, Went};
+ghost use Rattle.rpm_tool.specs.Frame.{Looks, Peeks, shown, DiskFault, SinkFault, Kept, KeptIndex, HasRows, packages_in, pkg_read};
 
 use crate::answer::Why;
 use crate::argument::answer;
@@ -58,20 +55,19 @@ pub fn query_all<D: Disk, O: Sink + Drop, E: Sink + Drop>(
 ) -> Why
     requires out_empty { holds out.old ≡ [] }
     requires err_empty { holds err.old ≡ [] }
-    requires keeps { IsTrue D.tells → Keeps (D.files disk.old).pkg db.now }
+    requires keeps { Kept D.Disk disk.old db.now }
     requires runs { db.now.stopped ≡ false }
-    requires keeps_index { IsTrue D.tells → KeepsIndex (D.files disk.old).idx db.now }
-    ensures went { IsTrue D.tells → HasIndexRows db.now (D.files disk.old).pkg (D.files disk.old).idx → Went
-        (before (packages_part (step_by way.now 0) after (picks (packages (D.files disk.old).pkg db.now.store) question.All)) idle) result
-        (outputs O.tells (O.taken (inner out.old)) E.tells (E.taken (inner err.old))) (outputs O.tells (O.taken (inner out.new)) E.tells
-        (E.taken (inner err.new))) (λ for. D.bytes_read disk.new File.Pkg ≤ D.bytes_read disk.old File.Pkg + reached_by (Everything ∷ []) db.now for) }
+    requires keeps_index { KeptIndex D.Disk disk.old db.now }
+    ensures went { IsTrue D.tells → HasRows D.Disk disk.old db.now → Went (before (packages_part (step_by way.now 0) after (picks (packages_in D.Disk disk.old
+        db.now) question.All)) idle) result (shown O.Sink E.Sink out.old err.old) (shown O.Sink E.Sink out.new err.new) (λ for. pkg_read D.Disk disk.new ≤
+        pkg_read D.Disk disk.old + reached_by (Everything ∷ []) db.now for) }
     ensures done { is_foreign result ≡ false }
     ensures opened { is_of_opening result ≡ false }
-    ensures looks { Looks D.tells D.files D.left_since D.moment D.bytes_read D.follows Pkg (cost_all db.now) disk.old disk.new }
-    ensures disk { HasCauseAt (result ≡ Why.DiskFault) (D.faults disk.old) (D.faults disk.new) }
+    ensures looks { Looks D.Disk Pkg (cost_all db.now) disk.old disk.new }
+    ensures disk { DiskFault D.Disk (result ≡ Why.DiskFault) disk.old disk.new }
     ensures unbroken { (unit : ℕ) → result ≢ Why.BadIndex unit }
-    ensures out { HasCauseAt (result ≡ Why.OutFault) (O.faults (inner out.old)) (O.faults (inner out.new)) }
-    ensures err { HasCauseAt (result ≡ Why.ErrFault) (E.faults (inner err.old)) (E.faults (inner err.new)) }
+    ensures out { SinkFault O.Sink (result ≡ Why.OutFault) out.old out.new }
+    ensures err { SinkFault E.Sink (result ≡ Why.ErrFault) err.old err.new }
     ensures out_rest { HandsOn O.follows out.old out.new }
     ensures err_rest { HandsOn E.follows err.old err.new }
 {
@@ -114,29 +110,23 @@ fn query_each<D: Disk, O: Sink + Drop, E: Sink + Drop>(
 ) -> Why
     requires out_empty { holds out.old ≡ [] }
     requires err_empty { holds err.old ≡ [] }
-    requires keeps { IsTrue D.tells → Keeps (D.files disk.old).pkg db.now }
+    requires keeps { Kept D.Disk disk.old db.now }
     requires runs { db.now.stopped ≡ false }
-    requires keeps_index { IsTrue D.tells → KeepsIndex (D.files disk.old).idx db.now }
+    requires keeps_index { KeptIndex D.Disk disk.old db.now }
     requires from_one { database.holds 0 db.now ≡ false }
-    ensures went { IsTrue D.tells → HasIndexRows db.now (D.files disk.old).pkg (D.files disk.old).idx
-        → Went (in_turn (argument_part format.now (packages (D.files disk.old).pkg db.now.store) ask.now.chosen ask.now.after) 0
-        (map (text_at words.now) ask.now.arguments)) result
-        (outputs O.tells (O.taken (inner out.old)) E.tells (E.taken (inner err.old))) (outputs O.tells (O.taken (inner out.new)) E.tells
-        (E.taken (inner err.new))) (λ for. D.bytes_read disk.new File.Pkg ≤ D.bytes_read disk.old File.Pkg
-        + reached_by (map (argument_reach (is_indexed db.now) (packages (D.files disk.old).pkg db.now.store) ask.now.chosen) (map (text_at words.now)
-        ask.now.arguments))
-        db.now for) }
+    ensures went { IsTrue D.tells → HasRows D.Disk disk.old db.now → Went (in_turn (argument_part format.now (packages_in D.Disk disk.old db.now)
+        ask.now.chosen ask.now.after) 0 (map (text_at words.now) ask.now.arguments)) result (shown O.Sink E.Sink out.old err.old) (shown O.Sink E.Sink out.new
+        err.new) (λ for. pkg_read D.Disk disk.new ≤ pkg_read D.Disk disk.old + reached_by (map (argument_reach (is_indexed db.now) (packages_in D.Disk
+        disk.old db.now) ask.now.chosen) (map (text_at words.now) ask.now.arguments)) db.now for) }
     ensures done { is_foreign result ≡ false }
     ensures opened { is_of_opening result ≡ false }
-    ensures reads { IsTrue D.tells → HasIndexRows db.now (D.files disk.old).pkg (D.files disk.old).idx → D.bytes_read disk.new File.Pkg
-        ≤ D.bytes_read disk.old File.Pkg
-        + reach_sum (map (argument_reach (is_indexed db.now) (packages (D.files disk.old).pkg db.now.store) ask.now.chosen) (map (text_at words.now)
-        ask.now.arguments)) db.now }
+    ensures reads { IsTrue D.tells → HasRows D.Disk disk.old db.now → pkg_read D.Disk disk.new ≤ pkg_read D.Disk disk.old + reach_sum (map (argument_reach
+        (is_indexed db.now) (packages_in D.Disk disk.old db.now) ask.now.chosen) (map (text_at words.now) ask.now.arguments)) db.now }
     ensures bad_index { IsTrue D.tells → IsOfChains ask.now.chosen (map (text_at words.now) ask.now.arguments) (D.files disk.old).idx result }
-    ensures looks { Peeks D.tells D.files D.left_since D.moment D.bytes_read D.follows (is_indexed db.now) disk.old disk.new }
-    ensures disk { HasCauseAt (result ≡ Why.DiskFault) (D.faults disk.old) (D.faults disk.new) }
-    ensures out { HasCauseAt (result ≡ Why.OutFault) (O.faults (inner out.old)) (O.faults (inner out.new)) }
-    ensures err { HasCauseAt (result ≡ Why.ErrFault) (E.faults (inner err.old)) (E.faults (inner err.new)) }
+    ensures looks { Peeks D.Disk (is_indexed db.now) disk.old disk.new }
+    ensures disk { DiskFault D.Disk (result ≡ Why.DiskFault) disk.old disk.new }
+    ensures out { SinkFault O.Sink (result ≡ Why.OutFault) out.old out.new }
+    ensures err { SinkFault E.Sink (result ≡ Why.ErrFault) err.old err.new }
     ensures out_rest { HandsOn O.follows out.old out.new }
     ensures err_rest { HandsOn E.follows err.old err.new }
 {
@@ -178,28 +168,23 @@ pub fn query_opened<D: Disk, O: Sink + Drop, E: Sink + Drop>(
 ) -> Why
     requires out_empty { holds out.old ≡ [] }
     requires err_empty { holds err.old ≡ [] }
-    requires keeps { IsTrue D.tells → Keeps (D.files disk.old).pkg db.now }
+    requires keeps { Kept D.Disk disk.old db.now }
     requires runs { db.now.stopped ≡ false }
-    requires keeps_index { IsTrue D.tells → KeepsIndex (D.files disk.old).idx db.now }
+    requires keeps_index { KeptIndex D.Disk disk.old db.now }
     requires from_one { database.holds 0 db.now ≡ false }
-    ensures went { IsTrue D.tells → HasIndexRows db.now (D.files disk.old).pkg (D.files disk.old).idx
-        → Went (query format.now (packages (D.files disk.old).pkg db.now.store) words.now ask.now) result
-        (outputs O.tells (O.taken (inner out.old)) E.tells (E.taken (inner err.old))) (outputs O.tells (O.taken (inner out.new)) E.tells
-        (E.taken (inner err.new))) (λ for. D.bytes_read disk.new File.Pkg ≤ D.bytes_read disk.old File.Pkg
-        + reached_by (reaches_by (argument_reach (is_indexed db.now) (packages (D.files disk.old).pkg db.now.store) ask.now.chosen) (map (text_at
-        words.now) ask.now.arguments))
+    ensures went { IsTrue D.tells → HasRows D.Disk disk.old db.now → Went (query format.now (packages_in D.Disk disk.old db.now) words.now ask.now) result
+        (shown O.Sink E.Sink out.old err.old) (shown O.Sink E.Sink out.new err.new) (λ for. pkg_read D.Disk disk.new ≤ pkg_read D.Disk disk.old + reached_by
+        (reaches_by (argument_reach (is_indexed db.now) (packages_in D.Disk disk.old db.now) ask.now.chosen) (map (text_at words.now) ask.now.arguments))
         db.now for) }
     ensures done { is_foreign result ≡ false }
     ensures opened { is_of_opening result ≡ false }
-    ensures reads { IsTrue D.tells → HasIndexRows db.now (D.files disk.old).pkg (D.files disk.old).idx → D.bytes_read disk.new File.Pkg
-        ≤ D.bytes_read disk.old File.Pkg
-        + reach_sum (reaches_by (argument_reach (is_indexed db.now) (packages (D.files disk.old).pkg db.now.store) ask.now.chosen) (map (text_at
-        words.now) ask.now.arguments)) db.now }
+    ensures reads { IsTrue D.tells → HasRows D.Disk disk.old db.now → pkg_read D.Disk disk.new ≤ pkg_read D.Disk disk.old + reach_sum (reaches_by
+        (argument_reach (is_indexed db.now) (packages_in D.Disk disk.old db.now) ask.now.chosen) (map (text_at words.now) ask.now.arguments)) db.now }
     ensures bad_index { IsTrue D.tells → IsOfChains ask.now.chosen (map (text_at words.now) ask.now.arguments) (D.files disk.old).idx result }
-    ensures looks { Peeks D.tells D.files D.left_since D.moment D.bytes_read D.follows (is_indexed db.now) disk.old disk.new }
-    ensures disk { HasCauseAt (result ≡ Why.DiskFault) (D.faults disk.old) (D.faults disk.new) }
-    ensures out { HasCauseAt (result ≡ Why.OutFault) (O.faults (inner out.old)) (O.faults (inner out.new)) }
-    ensures err { HasCauseAt (result ≡ Why.ErrFault) (E.faults (inner err.old)) (E.faults (inner err.new)) }
+    ensures looks { Peeks D.Disk (is_indexed db.now) disk.old disk.new }
+    ensures disk { DiskFault D.Disk (result ≡ Why.DiskFault) disk.old disk.new }
+    ensures out { SinkFault O.Sink (result ≡ Why.OutFault) out.old out.new }
+    ensures err { SinkFault E.Sink (result ≡ Why.ErrFault) err.old err.new }
     ensures out_rest { HandsOn O.follows out.old out.new }
     ensures err_rest { HandsOn E.follows err.old err.new }
 {

@@ -1,8 +1,6 @@
 //! Several command lines on one disk, one after the other.
 
-ghost use Rattle.std.specs.Prelude.{◌≡◌, ℕ, List, [], length, IsTrue, Ok, Err, IfOk, OnErr};
-ghost use Rattle.rpm_outside.specs.Crash.{LeavesOnly};
-ghost use Rattle.rpm_outside.specs.Files.{Files};
+ghost use Rattle.std.specs.Prelude.{◌≡◌, ℕ, List, [], length, IsTrue, IfOk, OnErr};
 ghost use Rattle.rpm_db.specs.Changes.{next};
 ghost use Rattle.rpm_db.specs.State.{State};
 ghost use Rattle.rpm_change.specs.Endings.{outputs};
@@ -10,6 +8,7 @@ ghost use Rattle.rpm_tool.specs.Changing.{HasState};
 ghost use Rattle.rpm_tool.specs.Given.{IsAhead, RiseWithin};
 ghost use Rattle.rpm_tool.specs.History.{AllStand, StandsIn, Leads, Cuts, calls_of};
 ghost use Rattle.rpm_tool.specs.Lines.{LineIs, InTurn, between};
+ghost use Rattle.rpm_tool.specs.Frame.{images, LeavesIn};
 
 use crate::answer::Outcome;
 use crate::command::run;
@@ -41,12 +40,10 @@ pub fn run_each<D: Disk, S: Shelf, O: Sink, E: Sink>(
 ) -> (Result<Vec<Outcome>, AllocError>, D)
     ensures all { IfOk result.0 (λ outcomes. length outcomes.items ≡ length lines.now) }
     ensures none { OnErr result.0 (result.1 ≡ disk) }
-    ensures leads { IfOk result.0 (λ outcomes. IsTrue D.tells → IsTrue S.tells → (s : State)
-        → AllStand (λ t. t ≡ s) (D.left_since disk (D.moment disk))
-        → AllStand (Leads (S.paths shelf.old) now (calls_of lines.now outcomes.items) s) (D.left_since result.1 (D.moment result.1))) }
-    ensures cuts { IfOk result.0 (λ outcomes. IsTrue D.tells → IsTrue S.tells → (s : State)
-        → AllStand (λ t. t ≡ s) (D.left_since disk (D.moment disk))
-        → LeavesOnly D.moment D.left_since disk result.1 (StandsIn (Cuts (S.paths shelf.old) now (calls_of lines.now outcomes.items) s))) }
+    ensures leads { IfOk result.0 (λ outcomes. IsTrue D.tells → IsTrue S.tells → (s : State) → AllStand (λ t. t ≡ s) (images D.Disk disk) → AllStand (Leads
+        (S.paths shelf.old) now (calls_of lines.now outcomes.items) s) (images D.Disk result.1)) }
+    ensures cuts { IfOk result.0 (λ outcomes. IsTrue D.tells → IsTrue S.tells → (s : State) → AllStand (λ t. t ≡ s) (images D.Disk disk) → LeavesIn D.Disk
+        disk result.1 (StandsIn (Cuts (S.paths shelf.old) now (calls_of lines.now outcomes.items) s))) }
 
     // Each answer is that of `run` to its line, on what the lines before it left.
     ensures ran { IfOk result.0 (λ outcomes. IsTrue D.tells → IsTrue S.tells → (given : List ℕ)
@@ -61,13 +58,11 @@ pub fn run_each<D: Disk, S: Shelf, O: Sink, E: Sink>(
 
     // The numbers that the lines which were done gave to new packages rise: none is given twice. Whatever a stop leaves behind the lines,
     // the next number is above all of them.
-    ensures numbers { IfOk result.0 (λ outcomes. IsTrue D.tells → IsTrue S.tells → (s : State)
-        → AllStand (λ t. t ≡ s) (D.left_since disk (D.moment disk)) → IsAhead s → (given : List ℕ)
-        → InTurn (LineIs D.files D.left_since D.moment D.bytes_read D.follows D.faults (S.paths shelf.old) now) (calls_of lines.now outcomes.items)
-        (between disk [] (outputs O.tells (O.taken out.old) E.tells (E.taken err.old)) (S.faults shelf.old) (O.faults out.old) (E.faults err.old))
-        (between result.1 given (outputs O.tells (O.taken out.new) E.tells (E.taken err.new)) (S.faults shelf.new) (O.faults out.new)
-        (E.faults err.new))
-        → AllStand (λ t. IsAhead t × RiseWithin (next s) given (next t)) (D.left_since result.1 (D.moment result.1))) }
+    ensures numbers { IfOk result.0 (λ outcomes. IsTrue D.tells → IsTrue S.tells → (s : State) → AllStand (λ t. t ≡ s) (images D.Disk disk) → IsAhead s →
+        (given : List ℕ) → InTurn (LineIs D.files D.left_since D.moment D.bytes_read D.follows D.faults (S.paths shelf.old) now) (calls_of lines.now
+        outcomes.items) (between disk [] (outputs O.tells (O.taken out.old) E.tells (E.taken err.old)) (S.faults shelf.old) (O.faults out.old) (E.faults
+        err.old)) (between result.1 given (outputs O.tells (O.taken out.new) E.tells (E.taken err.new)) (S.faults shelf.new) (O.faults out.new) (E.faults
+        err.new)) → AllStand (λ t. IsAhead t × RiseWithin (next s) given (next t)) (images D.Disk result.1)) }
 {
     let Ok(outcomes) = Vec::with_capacity(alloc, lines.len()) else {
         return (Err(AllocError), disk);

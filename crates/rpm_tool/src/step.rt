@@ -2,7 +2,6 @@
 
 ghost use Rattle.std.specs.Prelude.{◌≡◌, ◌≢◌, ℕ, Bool, List, [], ◌++◌, Err, IfOk};
 ghost use Rattle.rpm_outside.specs.Buffered.{inner, holds, HandsOn};
-ghost use Rattle.rpm_outside.specs.Causes.{HasCauseAt};
 ghost use Rattle.rpm_header.specs.Digest.{magic};
 ghost use Rattle.rpm_db.specs.State.{Good};
 ghost use Rattle.rpm_qfeval.specs.Meaning.{meaning};
@@ -11,8 +10,9 @@ ghost use Rattle.rpm_select.specs.Picks.{entry_in};
 ghost use Rattle.rpm_change.specs.Endings.{outputs};
 ghost use Rattle.rpm_tool.specs.Answers.{StepIs};
 ghost use Rattle.rpm_change.specs.Steps.{Bearer, ToOut, ToErr, bearer};
-ghost use Rattle.rpm_tool.specs.Queries.{bad_line, sizes_line, printed};
+ghost use Rattle.rpm_tool.specs.Queries.{bad_line, printed};
 ghost use Rattle.rpm_tool.specs.Reports.{step_by};
+ghost use Rattle.rpm_tool.specs.Frame.{shown, SinkFault};
 
 use itoa::Buffer;
 use rpm_header::{MAGIC, View};
@@ -41,7 +41,7 @@ fn put_message<E: Sink + Drop>(err: &mut Buffered<E>, message: &[u8]) -> Result<
         (outputs out_tells out E.tells (E.taken (inner err.old))) (outputs out_tells out E.tells (E.taken (inner err.new))) }
     ensures no_read { result ≢ Err Stop.ReadFault }
     ensures no_out { result ≢ Err Stop.OutFault }
-    ensures err { HasCauseAt (result ≡ Err Stop.ErrFault) (E.faults (inner err.old)) (E.faults (inner err.new)) }
+    ensures err { SinkFault E.Sink (result ≡ Err Stop.ErrFault) err.old err.new }
     ensures err_rest { HandsOn E.follows err.old err.new }
 {
     match put_and_flush(err, message) {
@@ -74,7 +74,7 @@ pub fn put_bad<E: Sink + Drop>(
         (outputs out_tells out E.tells (E.taken (inner err.old))) (outputs out_tells out E.tells (E.taken (inner err.new))) }
     ensures no_read { result ≢ Err Stop.ReadFault }
     ensures no_out { result ≢ Err Stop.OutFault }
-    ensures err { HasCauseAt (result ≡ Err Stop.ErrFault) (E.faults (inner err.old)) (E.faults (inner err.new)) }
+    ensures err { SinkFault E.Sink (result ≡ Err Stop.ErrFault) err.old err.new }
     ensures err_rest { HandsOn E.follows err.old err.new }
 {
     match bad_line(alloc, number) {
@@ -130,11 +130,11 @@ pub fn print_header<O: Sink + Drop, E: Sink + Drop>(
 ) -> Result<bool, Stop>
     requires out_empty { holds out.old ≡ [] }
     requires err_empty { holds err.old ≡ [] }
-    ensures step { (j : ℕ) → StepIs (printed (bearer j number) (meaning view.now number format.now)) result (outputs O.tells (O.taken (inner out.old)) E.tells
-        (E.taken (inner err.old))) (outputs O.tells (O.taken (inner out.new)) E.tells (E.taken (inner err.new))) }
+    ensures step { (j : ℕ) → StepIs (printed (bearer j number) (meaning view.now number format.now)) result (shown O.Sink E.Sink out.old err.old) (shown
+        O.Sink E.Sink out.new err.new) }
     ensures no_read { result ≢ Err Stop.ReadFault }
-    ensures out { HasCauseAt (result ≡ Err Stop.OutFault) (O.faults (inner out.old)) (O.faults (inner out.new)) }
-    ensures err { HasCauseAt (result ≡ Err Stop.ErrFault) (E.faults (inner err.old)) (E.faults (inner err.new)) }
+    ensures out { SinkFault O.Sink (result ≡ Err Stop.OutFault) out.old out.new }
+    ensures err { SinkFault E.Sink (result ≡ Err Stop.ErrFault) err.old err.new }
     ensures out_rest { HandsOn O.follows out.old out.new }
     ensures err_rest { HandsOn E.follows err.old err.new }
 {
@@ -165,7 +165,7 @@ pub fn put_text<O: Sink + Drop>(out: &mut Buffered<O>, text: &[u8]) -> Result<bo
         (outputs O.tells (O.taken (inner out.old)) err_tells err) (outputs O.tells (O.taken (inner out.new)) err_tells err) }
     ensures no_read { result ≢ Err Stop.ReadFault }
     ensures no_err { result ≢ Err Stop.ErrFault }
-    ensures out { HasCauseAt (result ≡ Err Stop.OutFault) (O.faults (inner out.old)) (O.faults (inner out.new)) }
+    ensures out { SinkFault O.Sink (result ≡ Err Stop.OutFault) out.old out.new }
     ensures out_rest { HandsOn O.follows out.old out.new }
 {
     match put_and_flush(out, text) {
@@ -185,7 +185,7 @@ fn put_export<O: Sink + Drop>(
         (outputs O.tells (O.taken (inner out.old)) err_tells err) (outputs O.tells (O.taken (inner out.new)) err_tells err) }
     ensures no_read { result ≢ Err Stop.ReadFault }
     ensures no_err { result ≢ Err Stop.ErrFault }
-    ensures out { HasCauseAt (result ≡ Err Stop.OutFault) (O.faults (inner out.old)) (O.faults (inner out.new)) }
+    ensures out { SinkFault O.Sink (result ≡ Err Stop.OutFault) out.old out.new }
     ensures out_rest { HandsOn O.follows out.old out.new }
 {
     match with_magic(alloc, blob) {
@@ -214,11 +214,11 @@ fn print_good<O: Sink + Drop, E: Sink + Drop>(
 ) -> Result<bool, Stop>
     requires out_empty { holds out.old ≡ [] }
     requires err_empty { holds err.old ≡ [] }
-    ensures step { (j : ℕ) → StepIs (step_by way.now j (number, Good blob.now)) result (outputs O.tells (O.taken (inner out.old)) E.tells
-        (E.taken (inner err.old))) (outputs O.tells (O.taken (inner out.new)) E.tells (E.taken (inner err.new))) }
+    ensures step { (j : ℕ) → StepIs (step_by way.now j (number, Good blob.now)) result (shown O.Sink E.Sink out.old err.old) (shown O.Sink E.Sink out.new
+        err.new) }
     ensures no_read { result ≢ Err Stop.ReadFault }
-    ensures out { HasCauseAt (result ≡ Err Stop.OutFault) (O.faults (inner out.old)) (O.faults (inner out.new)) }
-    ensures err { HasCauseAt (result ≡ Err Stop.ErrFault) (E.faults (inner err.old)) (E.faults (inner err.new)) }
+    ensures out { SinkFault O.Sink (result ≡ Err Stop.OutFault) out.old out.new }
+    ensures err { SinkFault E.Sink (result ≡ Err Stop.ErrFault) err.old err.new }
     ensures out_rest { HandsOn O.follows out.old out.new }
     ensures err_rest { HandsOn E.follows err.old err.new }
 {
@@ -241,11 +241,11 @@ pub fn print_picked<O: Sink + Drop, E: Sink + Drop>(
 ) -> Result<bool, Stop>
     requires out_empty { holds out.old ≡ [] }
     requires err_empty { holds err.old ≡ [] }
-    ensures step { (j : ℕ) → StepIs (step_by way.now j (entry_in picked.now)) result (outputs O.tells (O.taken (inner out.old)) E.tells
-        (E.taken (inner err.old))) (outputs O.tells (O.taken (inner out.new)) E.tells (E.taken (inner err.new))) }
+    ensures step { (j : ℕ) → StepIs (step_by way.now j (entry_in picked.now)) result (shown O.Sink E.Sink out.old err.old) (shown O.Sink E.Sink out.new
+        err.new) }
     ensures no_read { result ≢ Err Stop.ReadFault }
-    ensures out { HasCauseAt (result ≡ Err Stop.OutFault) (O.faults (inner out.old)) (O.faults (inner out.new)) }
-    ensures err { HasCauseAt (result ≡ Err Stop.ErrFault) (E.faults (inner err.old)) (E.faults (inner err.new)) }
+    ensures out { SinkFault O.Sink (result ≡ Err Stop.OutFault) out.old out.new }
+    ensures err { SinkFault E.Sink (result ≡ Err Stop.ErrFault) err.old err.new }
     ensures out_rest { HandsOn O.follows out.old out.new }
     ensures err_rest { HandsOn E.follows err.old err.new }
 {

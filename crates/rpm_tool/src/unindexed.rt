@@ -1,17 +1,15 @@
 //! The commands that open the database without its index.
 
 ghost use Rattle.std.specs.Prelude.{◌≡◌, ◌+◌, ◌≤◌, ℕ, [], false, IsTrue};
-ghost use Rattle.rpm_outside.specs.Buffered.{inner, holds, HandsOn};
-ghost use Rattle.rpm_outside.specs.Causes.{HasCauseAt};
+ghost use Rattle.rpm_outside.specs.Buffered.{holds, HandsOn};
 ghost use Rattle.rpm_outside.specs.declared.disk.File.TheVariants.{Pkg};
-ghost use Rattle.rpm_outside.specs.Looks.{Looks, LooksAt};
 ghost use Rattle.rpm_pkgdb.specs.Store.{store};
 ghost use Rattle.rpm_db.specs.Database as database;
-ghost use Rattle.rpm_db.specs.Database.{Keeps, is_indexed};
+ghost use Rattle.rpm_db.specs.Database.{is_indexed};
 ghost use Rattle.rpm_tool.specs.Asked.{deed_of};
 ghost use Rattle.rpm_tool.specs.Reports.{course};
-ghost use Rattle.rpm_change.specs.Endings.{outputs};
 ghost use Rattle.rpm_tool.specs.Answers.{is_foreign, Went, Opened, reach_by, reach_cost, read_to, query_cost};
+ghost use Rattle.rpm_tool.specs.Frame.{Looks, LooksAt, shown, DiskFault, SinkFault, Kept, pkg_read};
 
 use crate::answer::Why;
 use crate::asked::{Deed, deed_of};
@@ -38,21 +36,20 @@ fn answer_opened<D: Disk, O: Sink + Drop, E: Sink + Drop>(
 ) -> Why
     requires out_empty { holds out.old ≡ [] }
     requires err_empty { holds err.old ≡ [] }
-    requires keeps { IsTrue D.tells → Keeps (D.files disk.old).pkg db.now }
+    requires keeps { Kept D.Disk disk.old db.now }
     requires runs { db.now.stopped ≡ false }
     requires no_index { is_indexed db.now ≡ false }
     requires from_one { database.holds 0 db.now ≡ false }
-    ensures went { IsTrue D.tells → Went (course format.now (D.files disk.old).pkg db.now.store words.now ask.now) result
-        (outputs O.tells (O.taken (inner out.old)) E.tells (E.taken (inner err.old))) (outputs O.tells (O.taken (inner out.new)) E.tells
-        (E.taken (inner err.new))) (λ for. D.bytes_read disk.new File.Pkg
-        ≤ D.bytes_read disk.old File.Pkg + reach_by (deed_of ask.now.mode) (D.files disk.old).pkg words.now ask.now db.now.store for) }
+    ensures went { IsTrue D.tells → Went (course format.now (D.files disk.old).pkg db.now.store words.now ask.now) result (shown O.Sink E.Sink out.old
+        err.old) (shown O.Sink E.Sink out.new err.new) (λ for. pkg_read D.Disk disk.new ≤ pkg_read D.Disk disk.old + reach_by (deed_of ask.now.mode) (D.files
+        disk.old).pkg words.now ask.now db.now.store for) }
     ensures done { is_foreign result ≡ false }
-    ensures reads { IsTrue D.tells → D.bytes_read disk.new File.Pkg ≤ D.bytes_read disk.old File.Pkg
-        + reach_cost (deed_of ask.now.mode) (D.files disk.old).pkg words.now ask.now db.now.store }
-    ensures looks { LooksAt D.tells D.files D.left_since D.moment D.bytes_read D.follows Pkg disk.old disk.new }
-    ensures disk { HasCauseAt (result ≡ Why.DiskFault) (D.faults disk.old) (D.faults disk.new) }
-    ensures out { HasCauseAt (result ≡ Why.OutFault) (O.faults (inner out.old)) (O.faults (inner out.new)) }
-    ensures err { HasCauseAt (result ≡ Why.ErrFault) (E.faults (inner err.old)) (E.faults (inner err.new)) }
+    ensures reads { IsTrue D.tells → pkg_read D.Disk disk.new ≤ pkg_read D.Disk disk.old + reach_cost (deed_of ask.now.mode) (D.files disk.old).pkg words.now
+        ask.now db.now.store }
+    ensures looks { LooksAt D.Disk Pkg disk.old disk.new }
+    ensures disk { DiskFault D.Disk (result ≡ Why.DiskFault) disk.old disk.new }
+    ensures out { SinkFault O.Sink (result ≡ Why.OutFault) out.old out.new }
+    ensures err { SinkFault E.Sink (result ≡ Why.ErrFault) err.old err.new }
     ensures out_rest { HandsOn O.follows out.old out.new }
     ensures err_rest { HandsOn E.follows err.old err.new }
 {
@@ -78,17 +75,15 @@ pub fn answer_unindexed<D: Disk, O: Sink + Drop, E: Sink + Drop>(
 ) -> Why
     requires out_empty { holds out.old ≡ [] }
     requires err_empty { holds err.old ≡ [] }
-    ensures went { IsTrue D.tells → Opened (λ s. course format.now (D.files disk.old).pkg s words.now ask.now)
-        (store (D.files disk.old).pkg) result
-        (outputs O.tells (O.taken (inner out.old)) E.tells (E.taken (inner err.old))) (outputs O.tells (O.taken (inner out.new)) E.tells
-        (E.taken (inner err.new))) (λ s for. D.bytes_read disk.new File.Pkg ≤ D.bytes_read disk.old File.Pkg
-        + read_to (D.files disk.old).pkg words.now ask.now s for) }
-    ensures reads { IsTrue D.tells → D.bytes_read disk.new File.Pkg ≤ D.bytes_read disk.old File.Pkg + query_cost words.now ask.now (D.files disk.old).pkg }
+    ensures went { IsTrue D.tells → Opened (λ s. course format.now (D.files disk.old).pkg s words.now ask.now) (store (D.files disk.old).pkg) result (shown
+        O.Sink E.Sink out.old err.old) (shown O.Sink E.Sink out.new err.new) (λ s for. pkg_read D.Disk disk.new ≤ pkg_read D.Disk disk.old + read_to (D.files
+        disk.old).pkg words.now ask.now s for) }
+    ensures reads { IsTrue D.tells → pkg_read D.Disk disk.new ≤ pkg_read D.Disk disk.old + query_cost words.now ask.now (D.files disk.old).pkg }
     ensures done { is_foreign result ≡ false }
-    ensures looks { (most : ℕ) × Looks D.tells D.files D.left_since D.moment D.bytes_read D.follows Pkg most disk.old disk.new }
-    ensures disk { HasCauseAt (result ≡ Why.DiskFault) (D.faults disk.old) (D.faults disk.new) }
-    ensures out { HasCauseAt (result ≡ Why.OutFault) (O.faults (inner out.old)) (O.faults (inner out.new)) }
-    ensures err { HasCauseAt (result ≡ Why.ErrFault) (E.faults (inner err.old)) (E.faults (inner err.new)) }
+    ensures looks { (most : ℕ) × Looks D.Disk Pkg most disk.old disk.new }
+    ensures disk { DiskFault D.Disk (result ≡ Why.DiskFault) disk.old disk.new }
+    ensures out { SinkFault O.Sink (result ≡ Why.OutFault) out.old out.new }
+    ensures err { SinkFault E.Sink (result ≡ Why.ErrFault) err.old err.new }
     ensures out_rest { HandsOn O.follows out.old out.new }
     ensures err_rest { HandsOn E.follows err.old err.new }
 {

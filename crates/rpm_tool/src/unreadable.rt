@@ -3,17 +3,14 @@
 ghost use Rattle.std.specs.Prelude.{◌≡◌, ◌≢◌, ℕ, Bool, List, [], true, false, IsTrue, Err, IfOk};
 ghost use Rattle.std.specs.FinMap as finite;
 ghost use Rattle.rpm_outside.specs.Buffered.{inner, holds, HandsOn};
-ghost use Rattle.rpm_outside.specs.Causes.{HasCauseAt};
 ghost use Rattle.rpm_header.specs.Header.{Header, header};
-ghost use Rattle.rpm_db.specs.State.{packages};
 ghost use Rattle.rpm_db.specs.Database as database;
-ghost use Rattle.rpm_db.specs.Database.{Keeps};
 ghost use Rattle.rpm_change.specs.Endings.{outputs};
 ghost use Rattle.rpm_tool.specs.Answers.{Anywhere, PartIs};
-ghost use Rattle.rpm_tool.specs.Reads.{Peeks};
 ghost use Rattle.rpm_tool.specs.Requirements.{read_text, package_text, bad_at, bad_parts};
 ghost use Rattle.rpm_tool.specs.Steps.{fails};
 ghost use Rattle.rpm_tool.specs.Queries.{bad_step};
+ghost use Rattle.rpm_tool.specs.Frame.{Peeks, DiskFault, SinkFault, Kept, packages_in};
 
 use crate::picked::either;
 use crate::step::{Stop, put_bad};
@@ -28,16 +25,16 @@ pub fn read_blob<D: Disk>(
     disk: &mut D,
     number: u32,
 ) -> Result<Vec<u8>, Stop>
-    requires keeps { IsTrue D.tells → Keeps (D.files disk.old).pkg db.now }
+    requires keeps { Kept D.Disk disk.old db.now }
     requires runs { db.now.stopped ≡ false }
-    ensures kept { IsTrue D.tells → Keeps (D.files disk.new).pkg db.now }
-    ensures told { IfOk result (λ blob. IsTrue D.tells → (text : Header → List ℕ)
-        → package_text text (finite.get (packages (D.files disk.old).pkg db.now.store) number) ≡ read_text text (header blob.items)) }
-    ensures looks { Peeks D.tells D.files D.left_since D.moment D.bytes_read D.follows true disk.old disk.new }
+    ensures kept { Kept D.Disk disk.new db.now }
+    ensures told { IfOk result (λ blob. IsTrue D.tells → (text : Header → List ℕ) → package_text text (finite.get (packages_in D.Disk disk.old db.now) number)
+        ≡ read_text text (header blob.items)) }
+    ensures looks { Peeks D.Disk true disk.old disk.new }
     ensures unbroken { (unit : ℕ) → result ≢ Err (Stop.BadIndex unit) }
     ensures no_out { result ≢ Err Stop.OutFault }
     ensures no_err { result ≢ Err Stop.ErrFault }
-    ensures disk { HasCauseAt (result ≡ Err Stop.ReadFault) (D.faults disk.old) (D.faults disk.new) }
+    ensures disk { DiskFault D.Disk (result ≡ Err Stop.ReadFault) disk.old disk.new }
 {
     match db.read(alloc, disk, number) {
         Ok(blob) => Ok(blob),
@@ -60,7 +57,7 @@ fn put_failing<E: Sink + Drop>(
     ensures no_read { result ≢ Err Stop.ReadFault }
     ensures no_out { result ≢ Err Stop.OutFault }
     ensures unbroken { (unit : ℕ) → result ≢ Err (Stop.BadIndex unit) }
-    ensures err { HasCauseAt (result ≡ Err Stop.ErrFault) (E.faults (inner err.old)) (E.faults (inner err.new)) }
+    ensures err { SinkFault E.Sink (result ≡ Err Stop.ErrFault) err.old err.new }
     ensures err_rest { HandsOn E.follows err.old err.new }
 {
     match put_bad(alloc, err, number) {
@@ -78,17 +75,16 @@ fn tell_bad<D: Disk, E: Sink + Drop>(
     err: &mut Buffered<E>,
 ) -> Result<bool, Stop>
     requires err_empty { holds err.old ≡ [] }
-    requires keeps { IsTrue D.tells → Keeps (D.files disk.old).pkg db.now }
+    requires keeps { Kept D.Disk disk.old db.now }
     requires runs { db.now.stopped ≡ false }
-    ensures kept { IsTrue D.tells → Keeps (D.files disk.new).pkg db.now }
-    ensures went { IsTrue D.tells → (out_tells : Bool) (out : List ℕ)
-        → PartIs (bad_at number (finite.get (packages (D.files disk.old).pkg db.now.store) number)) result
+    ensures kept { Kept D.Disk disk.new db.now }
+    ensures went { IsTrue D.tells → (out_tells : Bool) (out : List ℕ) → PartIs (bad_at number (finite.get (packages_in D.Disk disk.old db.now) number)) result
         (outputs out_tells out E.tells (E.taken (inner err.old))) (outputs out_tells out E.tells (E.taken (inner err.new))) Anywhere }
-    ensures looks { Peeks D.tells D.files D.left_since D.moment D.bytes_read D.follows true disk.old disk.new }
+    ensures looks { Peeks D.Disk true disk.old disk.new }
     ensures no_out { result ≢ Err Stop.OutFault }
     ensures unbroken { (unit : ℕ) → result ≢ Err (Stop.BadIndex unit) }
-    ensures disk { HasCauseAt (result ≡ Err Stop.ReadFault) (D.faults disk.old) (D.faults disk.new) }
-    ensures err { HasCauseAt (result ≡ Err Stop.ErrFault) (E.faults (inner err.old)) (E.faults (inner err.new)) }
+    ensures disk { DiskFault D.Disk (result ≡ Err Stop.ReadFault) disk.old disk.new }
+    ensures err { SinkFault E.Sink (result ≡ Err Stop.ErrFault) err.old err.new }
     ensures err_rest { HandsOn E.follows err.old err.new }
 {
     match db.get(alloc, disk, number) {
@@ -108,17 +104,17 @@ pub fn tell_each_bad<D: Disk, E: Sink + Drop>(
     err: &mut Buffered<E>,
 ) -> Result<bool, Stop>
     requires err_empty { holds err.old ≡ [] }
-    requires keeps { IsTrue D.tells → Keeps (D.files disk.old).pkg db.now }
+    requires keeps { Kept D.Disk disk.old db.now }
     requires runs { db.now.stopped ≡ false }
     requires from_one { database.holds 0 db.now ≡ false }
-    ensures kept { IsTrue D.tells → Keeps (D.files disk.new).pkg db.now }
-    ensures went { IsTrue D.tells → (out_tells : Bool) (out : List ℕ) → PartIs (bad_parts (packages (D.files disk.old).pkg db.now.store)) result
-        (outputs out_tells out E.tells (E.taken (inner err.old))) (outputs out_tells out E.tells (E.taken (inner err.new))) Anywhere }
-    ensures looks { Peeks D.tells D.files D.left_since D.moment D.bytes_read D.follows true disk.old disk.new }
+    ensures kept { Kept D.Disk disk.new db.now }
+    ensures went { IsTrue D.tells → (out_tells : Bool) (out : List ℕ) → PartIs (bad_parts (packages_in D.Disk disk.old db.now)) result (outputs out_tells out
+        E.tells (E.taken (inner err.old))) (outputs out_tells out E.tells (E.taken (inner err.new))) Anywhere }
+    ensures looks { Peeks D.Disk true disk.old disk.new }
     ensures no_out { result ≢ Err Stop.OutFault }
     ensures unbroken { (unit : ℕ) → result ≢ Err (Stop.BadIndex unit) }
-    ensures disk { HasCauseAt (result ≡ Err Stop.ReadFault) (D.faults disk.old) (D.faults disk.new) }
-    ensures err { HasCauseAt (result ≡ Err Stop.ErrFault) (E.faults (inner err.old)) (E.faults (inner err.new)) }
+    ensures disk { DiskFault D.Disk (result ≡ Err Stop.ReadFault) disk.old disk.new }
+    ensures err { SinkFault E.Sink (result ≡ Err Stop.ErrFault) err.old err.new }
     ensures err_rest { HandsOn E.follows err.old err.new }
 {
     let mut number = 0;

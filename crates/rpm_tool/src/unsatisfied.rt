@@ -3,12 +3,8 @@
 ghost use Rattle.std.specs.Prelude.{◌≡◌, ◌≢◌, ℕ, Bool, List, [], map, if◌then◌else◌, true, false, IsTrue, Err, IfOk, IfErr, slice_get};
 ghost use Rattle.std.specs.Option.{option_map};
 ghost use Rattle.rpm_outside.specs.Buffered.{inner, holds, HandsOn};
-ghost use Rattle.rpm_outside.specs.Causes.{HasCauseAt};
 ghost use Rattle.rpm_header.specs.Header.{header};
-ghost use Rattle.rpm_db.specs.State.{packages};
 ghost use Rattle.rpm_db.specs.Database as database;
-ghost use Rattle.rpm_db.specs.Database.{Keeps, KeepsIndex};
-ghost use Rattle.rpm_select.specs.Reach.{HasIndexRows};
 ghost use Rattle.rpm_check.specs.inner.Needs.{needed_in};
 ghost use Rattle.rpm_check.specs.Unmet as lacking;
 ghost use Rattle.rpm_check.specs.Unmet.{required};
@@ -16,8 +12,8 @@ ghost use Rattle.rpm_version.specs.Range.{is_open};
 ghost use Rattle.rpm_qfeval.specs.Numbers.{has, letters, depflags};
 ghost use Rattle.rpm_change.specs.Endings.{outputs};
 ghost use Rattle.rpm_tool.specs.Answers.{Anywhere, Reached, StepIs, PartIs, is_of_sink};
-ghost use Rattle.rpm_tool.specs.Reads.{Peeks};
 ghost use Rattle.rpm_tool.specs.Requirements.{read_text, range_text, unmet_line, unmet_text, unmet_step, unmet_part, unsatisfied_part, stop_of_check, StopsOfSome};
+ghost use Rattle.rpm_tool.specs.Frame.{Peeks, shown, DiskFault, SinkFault, Kept, KeptIndex, HasRows, packages_in};
 
 use crate::picked::either;
 use crate::step::{Stop, put_text};
@@ -162,16 +158,16 @@ fn put_unmet<D: Disk, O: Sink + Drop>(
     out: &mut Buffered<O>,
 ) -> Result<bool, Stop>
     requires out_empty { holds out.old ≡ [] }
-    requires keeps { IsTrue D.tells → Keeps (D.files disk.old).pkg db.now }
+    requires keeps { Kept D.Disk disk.old db.now }
     requires runs { db.now.stopped ≡ false }
-    ensures kept { IsTrue D.tells → Keeps (D.files disk.new).pkg db.now }
-    ensures step { IsTrue D.tells → (err_tells : Bool) (err : List ℕ) → StepIs (unmet_step (packages (D.files disk.old).pkg db.now.store) unmet) result
-        (outputs O.tells (O.taken (inner out.old)) err_tells err) (outputs O.tells (O.taken (inner out.new)) err_tells err) }
-    ensures looks { Peeks D.tells D.files D.left_since D.moment D.bytes_read D.follows true disk.old disk.new }
+    ensures kept { Kept D.Disk disk.new db.now }
+    ensures step { IsTrue D.tells → (err_tells : Bool) (err : List ℕ) → StepIs (unmet_step (packages_in D.Disk disk.old db.now) unmet) result (outputs O.tells
+        (O.taken (inner out.old)) err_tells err) (outputs O.tells (O.taken (inner out.new)) err_tells err) }
+    ensures looks { Peeks D.Disk true disk.old disk.new }
     ensures unbroken { (unit : ℕ) → result ≢ Err (Stop.BadIndex unit) }
     ensures no_err { result ≢ Err Stop.ErrFault }
-    ensures disk { HasCauseAt (result ≡ Err Stop.ReadFault) (D.faults disk.old) (D.faults disk.new) }
-    ensures out { HasCauseAt (result ≡ Err Stop.OutFault) (O.faults (inner out.old)) (O.faults (inner out.new)) }
+    ensures disk { DiskFault D.Disk (result ≡ Err Stop.ReadFault) disk.old disk.new }
+    ensures out { SinkFault O.Sink (result ≡ Err Stop.OutFault) out.old out.new }
     ensures out_rest { HandsOn O.follows out.old out.new }
 {
     let blob = match read_blob(alloc, db, disk, unmet.number) {
@@ -193,16 +189,15 @@ fn put_each_unmet<D: Disk, O: Sink + Drop>(
     out: &mut Buffered<O>,
 ) -> Result<(), Stop>
     requires out_empty { holds out.old ≡ [] }
-    requires keeps { IsTrue D.tells → Keeps (D.files disk.old).pkg db.now }
+    requires keeps { Kept D.Disk disk.old db.now }
     requires runs { db.now.stopped ≡ false }
-    ensures went { IsTrue D.tells → (err_tells : Bool) (err : List ℕ)
-        → Reached (map (unmet_step (packages (D.files disk.old).pkg db.now.store)) list.now) result
+    ensures went { IsTrue D.tells → (err_tells : Bool) (err : List ℕ) → Reached (map (unmet_step (packages_in D.Disk disk.old db.now)) list.now) result
         (outputs O.tells (O.taken (inner out.old)) err_tells err) (outputs O.tells (O.taken (inner out.new)) err_tells err) Anywhere }
-    ensures looks { Peeks D.tells D.files D.left_since D.moment D.bytes_read D.follows true disk.old disk.new }
+    ensures looks { Peeks D.Disk true disk.old disk.new }
     ensures unbroken { (unit : ℕ) → result ≢ Err (Stop.BadIndex unit) }
     ensures no_err { result ≢ Err Stop.ErrFault }
-    ensures disk { HasCauseAt (result ≡ Err Stop.ReadFault) (D.faults disk.old) (D.faults disk.new) }
-    ensures out { HasCauseAt (result ≡ Err Stop.OutFault) (O.faults (inner out.old)) (O.faults (inner out.new)) }
+    ensures disk { DiskFault D.Disk (result ≡ Err Stop.ReadFault) disk.old disk.new }
+    ensures out { SinkFault O.Sink (result ≡ Err Stop.OutFault) out.old out.new }
     ensures out_rest { HandsOn O.follows out.old out.new }
 {
     for unmet in list {
@@ -216,19 +211,18 @@ fn put_each_unmet<D: Disk, O: Sink + Drop>(
 
 /// The requirements that no package meets.
 fn list_unmet<D: Disk>(alloc: Global, db: &Db, disk: &mut D) -> Result<UnmetList, Stop>
-    requires keeps { IsTrue D.tells → Keeps (D.files disk.old).pkg db.now }
-    requires keeps_index { IsTrue D.tells → KeepsIndex (D.files disk.old).idx db.now }
+    requires keeps { Kept D.Disk disk.old db.now }
+    requires keeps_index { KeptIndex D.Disk disk.old db.now }
     requires runs { db.now.stopped ≡ false }
     requires from_one { database.holds 0 db.now ≡ false }
-    ensures kept { IsTrue D.tells → Keeps (D.files disk.new).pkg db.now }
-    ensures told { IfOk result (λ list. IsTrue D.tells → HasIndexRows db.now (D.files disk.old).pkg (D.files disk.old).idx
-        → list ≡ lacking.unmet (packages (D.files disk.old).pkg db.now.store)) }
+    ensures kept { Kept D.Disk disk.new db.now }
+    ensures told { IfOk result (λ list. IsTrue D.tells → HasRows D.Disk disk.old db.now → list ≡ lacking.unmet (packages_in D.Disk disk.old db.now)) }
     ensures broken { IsTrue D.tells → IfErr result (StopsOfSome (D.files disk.old).idx) }
-    ensures lawful { IsTrue D.tells → HasIndexRows db.now (D.files disk.old).pkg (D.files disk.old).idx → IfErr result (λ stop. is_of_sink stop ≡ false) }
+    ensures lawful { IsTrue D.tells → HasRows D.Disk disk.old db.now → IfErr result (λ stop. is_of_sink stop ≡ false) }
     ensures no_out { result ≢ Err Stop.OutFault }
     ensures no_err { result ≢ Err Stop.ErrFault }
-    ensures looks { Peeks D.tells D.files D.left_since D.moment D.bytes_read D.follows true disk.old disk.new }
-    ensures disk { HasCauseAt (result ≡ Err Stop.ReadFault) (D.faults disk.old) (D.faults disk.new) }
+    ensures looks { Peeks D.Disk true disk.old disk.new }
+    ensures disk { DiskFault D.Disk (result ≡ Err Stop.ReadFault) disk.old disk.new }
 {
     match unmet(alloc, db, disk) {
         Ok(list) => Ok(list),
@@ -244,18 +238,17 @@ fn tell_unmet<D: Disk, O: Sink + Drop>(
     out: &mut Buffered<O>,
 ) -> Result<bool, Stop>
     requires out_empty { holds out.old ≡ [] }
-    requires keeps { IsTrue D.tells → Keeps (D.files disk.old).pkg db.now }
-    requires keeps_index { IsTrue D.tells → KeepsIndex (D.files disk.old).idx db.now }
+    requires keeps { Kept D.Disk disk.old db.now }
+    requires keeps_index { KeptIndex D.Disk disk.old db.now }
     requires runs { db.now.stopped ≡ false }
     requires from_one { database.holds 0 db.now ≡ false }
-    ensures went { IsTrue D.tells → HasIndexRows db.now (D.files disk.old).pkg (D.files disk.old).idx → (err_tells : Bool) (err : List ℕ)
-        → PartIs (unmet_part (packages (D.files disk.old).pkg db.now.store)) result
-        (outputs O.tells (O.taken (inner out.old)) err_tells err) (outputs O.tells (O.taken (inner out.new)) err_tells err) Anywhere }
+    ensures went { IsTrue D.tells → HasRows D.Disk disk.old db.now → (err_tells : Bool) (err : List ℕ) → PartIs (unmet_part (packages_in D.Disk disk.old
+        db.now)) result (outputs O.tells (O.taken (inner out.old)) err_tells err) (outputs O.tells (O.taken (inner out.new)) err_tells err) Anywhere }
     ensures broken { IsTrue D.tells → IfErr result (StopsOfSome (D.files disk.old).idx) }
     ensures no_err { result ≢ Err Stop.ErrFault }
-    ensures looks { Peeks D.tells D.files D.left_since D.moment D.bytes_read D.follows true disk.old disk.new }
-    ensures disk { HasCauseAt (result ≡ Err Stop.ReadFault) (D.faults disk.old) (D.faults disk.new) }
-    ensures out { HasCauseAt (result ≡ Err Stop.OutFault) (O.faults (inner out.old)) (O.faults (inner out.new)) }
+    ensures looks { Peeks D.Disk true disk.old disk.new }
+    ensures disk { DiskFault D.Disk (result ≡ Err Stop.ReadFault) disk.old disk.new }
+    ensures out { SinkFault O.Sink (result ≡ Err Stop.OutFault) out.old out.new }
     ensures out_rest { HandsOn O.follows out.old out.new }
 {
     let list = match list_unmet(alloc, db, disk) {
@@ -282,19 +275,17 @@ pub fn report_unmet<D: Disk, O: Sink + Drop, E: Sink + Drop>(
 ) -> Result<bool, Stop>
     requires out_empty { holds out.old ≡ [] }
     requires err_empty { holds err.old ≡ [] }
-    requires keeps { IsTrue D.tells → Keeps (D.files disk.old).pkg db.now }
-    requires keeps_index { IsTrue D.tells → KeepsIndex (D.files disk.old).idx db.now }
+    requires keeps { Kept D.Disk disk.old db.now }
+    requires keeps_index { KeptIndex D.Disk disk.old db.now }
     requires runs { db.now.stopped ≡ false }
     requires from_one { database.holds 0 db.now ≡ false }
-    ensures went { IsTrue D.tells → HasIndexRows db.now (D.files disk.old).pkg (D.files disk.old).idx
-        → PartIs (unsatisfied_part (packages (D.files disk.old).pkg db.now.store)) result
-        (outputs O.tells (O.taken (inner out.old)) E.tells (E.taken (inner err.old))) (outputs O.tells (O.taken (inner out.new)) E.tells
-        (E.taken (inner err.new))) Anywhere }
+    ensures went { IsTrue D.tells → HasRows D.Disk disk.old db.now → PartIs (unsatisfied_part (packages_in D.Disk disk.old db.now)) result (shown O.Sink
+        E.Sink out.old err.old) (shown O.Sink E.Sink out.new err.new) Anywhere }
     ensures broken { IsTrue D.tells → IfErr result (StopsOfSome (D.files disk.old).idx) }
-    ensures looks { Peeks D.tells D.files D.left_since D.moment D.bytes_read D.follows true disk.old disk.new }
-    ensures disk { HasCauseAt (result ≡ Err Stop.ReadFault) (D.faults disk.old) (D.faults disk.new) }
-    ensures out { HasCauseAt (result ≡ Err Stop.OutFault) (O.faults (inner out.old)) (O.faults (inner out.new)) }
-    ensures err { HasCauseAt (result ≡ Err Stop.ErrFault) (E.faults (inner err.old)) (E.faults (inner err.new)) }
+    ensures looks { Peeks D.Disk true disk.old disk.new }
+    ensures disk { DiskFault D.Disk (result ≡ Err Stop.ReadFault) disk.old disk.new }
+    ensures out { SinkFault O.Sink (result ≡ Err Stop.OutFault) out.old out.new }
+    ensures err { SinkFault E.Sink (result ≡ Err Stop.ErrFault) err.old err.new }
     ensures out_rest { HandsOn O.follows out.old out.new }
     ensures err_rest { HandsOn E.follows err.old err.new }
 {

@@ -3,13 +3,10 @@
 ghost use Rattle.std.specs.Prelude.{◌≡◌, ◌≢◌, ◌+◌, ◌*◌, ◌≤◌, ℕ, Bool, List, [], ◌∷◌, map, true, false, IsTrue, Some, Err};
 ghost use Rattle.std.specs.FinMap.{entries};
 ghost use Rattle.rpm_outside.specs.Buffered.{inner, holds, HandsOn};
-ghost use Rattle.rpm_outside.specs.Causes.{HasCauseAt};
 ghost use Rattle.rpm_outside.specs.Sinks.{Writes};
 ghost use Rattle.rpm_outside.specs.declared.disk.File.TheVariants.{Pkg};
-ghost use Rattle.rpm_outside.specs.Looks.{Looks};
-ghost use Rattle.rpm_db.specs.State.{packages};
 ghost use Rattle.rpm_db.specs.Database as database;
-ghost use Rattle.rpm_db.specs.Database.{Keeps, cost, cost_all};
+ghost use Rattle.rpm_db.specs.Database.{cost, cost_all};
 ghost use Rattle.rpm_db.specs.Verdicts.{verdict};
 ghost use Rattle.rpm_select.specs.Reach.{Everything};
 ghost use Rattle.rpm_change.specs.Steps.{bearer};
@@ -18,6 +15,7 @@ ghost use Rattle.rpm_tool.specs.Reports.{verdict_line, unsound, verdict_part, en
 ghost use Rattle.rpm_tool.specs.Reads.{reached_by};
 ghost use Rattle.rpm_change.specs.Endings.{outputs};
 ghost use Rattle.rpm_tool.specs.Answers.{PartIs, Went, is_foreign};
+ghost use Rattle.rpm_tool.specs.Frame.{Looks, DiskFault, SinkFault, Kept, packages_in, pkg_read};
 
 use crate::answer::Why;
 use crate::picked::either;
@@ -56,7 +54,7 @@ fn put_unsound<O: Sink + Drop>(
         (outputs O.tells (O.taken (inner out.new)) err_tells err) (λ for. for ≡ bearer 0 number) }
     ensures no_read { result ≢ Err Stop.ReadFault }
     ensures no_err { result ≢ Err Stop.ErrFault }
-    ensures out { HasCauseAt (result ≡ Err Stop.OutFault) (O.faults (inner out.old)) (O.faults (inner out.new)) }
+    ensures out { SinkFault O.Sink (result ≡ Err Stop.OutFault) out.old out.new }
     ensures out_rest { HandsOn O.follows out.old out.new }
 {
     match put_verdict(out, number, text) {
@@ -76,7 +74,7 @@ fn tell_verdict<O: Sink + Drop>(
         (outputs O.tells (O.taken (inner out.old)) err_tells err) (outputs O.tells (O.taken (inner out.new)) err_tells err) (λ for. for ≡ bearer 0 number) }
     ensures no_read { result ≢ Err Stop.ReadFault }
     ensures no_err { result ≢ Err Stop.ErrFault }
-    ensures out { HasCauseAt (result ≡ Err Stop.OutFault) (O.faults (inner out.old)) (O.faults (inner out.new)) }
+    ensures out { SinkFault O.Sink (result ≡ Err Stop.OutFault) out.old out.new }
     ensures out_rest { HandsOn O.follows out.old out.new }
 {
     match said {
@@ -96,16 +94,16 @@ fn verify_one<D: Disk, O: Sink + Drop>(
     out: &mut Buffered<O>,
 ) -> Result<bool, Stop>
     requires out_empty { holds out.old ≡ [] }
-    requires keeps { IsTrue D.tells → Keeps (D.files disk.old).pkg db.now }
+    requires keeps { Kept D.Disk disk.old db.now }
     requires runs { db.now.stopped ≡ false }
     requires there { database.holds number db.now ≡ true }
-    ensures kept { IsTrue D.tells → Keeps (D.files disk.new).pkg db.now }
+    ensures kept { Kept D.Disk disk.new db.now }
     ensures went { IsTrue D.tells → (err_tells : Bool) (err : List ℕ) → PartIs (verdict_part number (verdict (D.files disk.old).pkg db.now number)) result
         (outputs O.tells (O.taken (inner out.old)) err_tells err) (outputs O.tells (O.taken (inner out.new)) err_tells err) (λ for. for ≡ bearer 0 number) }
-    ensures looks { Looks D.tells D.files D.left_since D.moment D.bytes_read D.follows Pkg (cost number db.now) disk.old disk.new }
+    ensures looks { Looks D.Disk Pkg (cost number db.now) disk.old disk.new }
     ensures no_err { result ≢ Err Stop.ErrFault }
-    ensures disk { HasCauseAt (result ≡ Err Stop.ReadFault) (D.faults disk.old) (D.faults disk.new) }
-    ensures out { HasCauseAt (result ≡ Err Stop.OutFault) (O.faults (inner out.old)) (O.faults (inner out.new)) }
+    ensures disk { DiskFault D.Disk (result ≡ Err Stop.ReadFault) disk.old disk.new }
+    ensures out { SinkFault O.Sink (result ≡ Err Stop.OutFault) out.old out.new }
     ensures out_rest { HandsOn O.follows out.old out.new }
 {
     match db.verify(alloc, disk, number) {
@@ -126,17 +124,16 @@ fn verify_all<D: Disk, O: Sink + Drop>(
     out: &mut Buffered<O>,
 ) -> Result<bool, Stop>
     requires out_empty { holds out.old ≡ [] }
-    requires keeps { IsTrue D.tells → Keeps (D.files disk.old).pkg db.now }
+    requires keeps { Kept D.Disk disk.old db.now }
     requires runs { db.now.stopped ≡ false }
     requires from_one { database.holds 0 db.now ≡ false }
-    ensures went { IsTrue D.tells → (err_tells : Bool) (err : List ℕ) → PartIs
-        (together (map (entry_verdict (D.files disk.old).pkg db.now.store) (entries (packages (D.files disk.old).pkg db.now.store)))) result
-        (outputs O.tells (O.taken (inner out.old)) err_tells err) (outputs O.tells (O.taken (inner out.new)) err_tells err)
-        (λ for. D.bytes_read disk.new File.Pkg ≤ D.bytes_read disk.old File.Pkg + reached_by (Everything ∷ []) db.now for) }
-    ensures looks { Looks D.tells D.files D.left_since D.moment D.bytes_read D.follows Pkg (cost_all db.now) disk.old disk.new }
+    ensures went { IsTrue D.tells → (err_tells : Bool) (err : List ℕ) → PartIs (together (map (entry_verdict (D.files disk.old).pkg db.now.store) (entries
+        (packages_in D.Disk disk.old db.now)))) result (outputs O.tells (O.taken (inner out.old)) err_tells err) (outputs O.tells (O.taken (inner out.new))
+        err_tells err) (λ for. pkg_read D.Disk disk.new ≤ pkg_read D.Disk disk.old + reached_by (Everything ∷ []) db.now for) }
+    ensures looks { Looks D.Disk Pkg (cost_all db.now) disk.old disk.new }
     ensures no_err { result ≢ Err Stop.ErrFault }
-    ensures disk { HasCauseAt (result ≡ Err Stop.ReadFault) (D.faults disk.old) (D.faults disk.new) }
-    ensures out { HasCauseAt (result ≡ Err Stop.OutFault) (O.faults (inner out.old)) (O.faults (inner out.new)) }
+    ensures disk { DiskFault D.Disk (result ≡ Err Stop.ReadFault) disk.old disk.new }
+    ensures out { SinkFault O.Sink (result ≡ Err Stop.OutFault) out.old out.new }
     ensures out_rest { HandsOn O.follows out.old out.new }
 {
     let mut number = 0;
@@ -161,17 +158,17 @@ pub fn report<D: Disk, O: Sink + Drop>(
     out: &mut Buffered<O>,
 ) -> Why
     requires out_empty { holds out.old ≡ [] }
-    requires keeps { IsTrue D.tells → Keeps (D.files disk.old).pkg db.now }
+    requires keeps { Kept D.Disk disk.old db.now }
     requires runs { db.now.stopped ≡ false }
     requires from_one { database.holds 0 db.now ≡ false }
-    ensures went { IsTrue D.tells → (err_tells : Bool) (err : List ℕ) → Went (verify (D.files disk.old).pkg db.now.store) result
-        (outputs O.tells (O.taken (inner out.old)) err_tells err) (outputs O.tells (O.taken (inner out.new)) err_tells err)
-        (λ for. D.bytes_read disk.new File.Pkg ≤ D.bytes_read disk.old File.Pkg + reached_by (Everything ∷ []) db.now for) }
+    ensures went { IsTrue D.tells → (err_tells : Bool) (err : List ℕ) → Went (verify (D.files disk.old).pkg db.now.store) result (outputs O.tells (O.taken
+        (inner out.old)) err_tells err) (outputs O.tells (O.taken (inner out.new)) err_tells err) (λ for. pkg_read D.Disk disk.new ≤ pkg_read D.Disk disk.old
+        + reached_by (Everything ∷ []) db.now for) }
     ensures done { is_foreign result ≡ false }
-    ensures looks { Looks D.tells D.files D.left_since D.moment D.bytes_read D.follows Pkg (cost_all db.now) disk.old disk.new }
+    ensures looks { Looks D.Disk Pkg (cost_all db.now) disk.old disk.new }
     ensures no_err { result ≢ Why.ErrFault }
-    ensures disk { HasCauseAt (result ≡ Why.DiskFault) (D.faults disk.old) (D.faults disk.new) }
-    ensures out { HasCauseAt (result ≡ Why.OutFault) (O.faults (inner out.old)) (O.faults (inner out.new)) }
+    ensures disk { DiskFault D.Disk (result ≡ Why.DiskFault) disk.old disk.new }
+    ensures out { SinkFault O.Sink (result ≡ Why.OutFault) out.old out.new }
     ensures out_rest { HandsOn O.follows out.old out.new }
 {
     match verify_all(alloc, db, disk, out) {

@@ -1,95 +1,167 @@
--- What one change is, or none: whether a number, a generation and a place are left for it.
-use Rattle.std.proofs.Common.{◌≡◌, ◌≢◌, ℕ, ◌+◌, List, [], ◌∷◌, Some, None, Ok, Err, sym, ap, ◌∙◌, inl, arith}
-use Rattle.std.specs.Option.{option_and_then}
+-- What one change is, or none: what refuses it.
+use Rattle.std.proofs.Common.{◌≡◌, ◌≢◌, ℕ, ◌+◌, ◌^◌, ◌<◌, ◌≤◌, Bool, true, false, List, [], ◌∷◌, Option, Some, None, Ok, Err, refl, sym, ap, ◌∙◌, arith}
+use Rattle.std.specs.Prelude.{IsSome, is_none, nat_lt, ◌==◌, ◌&&◌, if◌then◌else◌}
+use Rattle.std.specs.Option.{option_and_then, option_or}
+use Rattle.std.proofs.lemmas.Bool.Decides.{nat_tests}
 use Rattle.rpm_pkgdb.specs.Store.{Store}
 use Rattle.rpm_pkgdb.specs.Written.{with_spare}
 use Rattle.rpm_db.specs.declared.change.ChangeFault.{ChangeFault}
 use Rattle.rpm_db.specs.declared.change.ChangeFault.TheVariants as fault
 use Rattle.rpm_db.specs.Changes.{Change, Add, Put, Erase, next}
 use Rattle.rpm_db.specs.Database.{Database, next_number}
-use Rattle.rpm_db.specs.Refusals.{AddIs, PutIs, EraseCause}
+use Rattle.rpm_db.specs.Refusals.{AddIs, PutIs, EraseCause, FullCause}
 use Rattle.rpm_db.specs.Room.{RoomCause, next_store}
 use Rattle.rpm_db.specs.State.{State}
 use Rattle.rpm_change.specs.declared.tally.Tally.{Tally}
+use Rattle.rpm_change.specs.declared.tally.Halt.{Halt}
+use Rattle.rpm_change.specs.declared.tally.Halt.TheVariants as halt
 use Rattle.rpm_change.specs.Endings.{halt_of}
-use Rattle.rpm_change.specs.Limits.{next_stores, LimitsTurn}
-use Rattle.rpm_change.specs.Numbers.{HasNumber}
+use Rattle.rpm_change.specs.Limits.{is_spent, is_large, needed, refusal, first_refusal, next_stores, is_limit, LimitsTurn}
 
--- ---- a change
+-- a number is left for a change that needs a new one
+abbrev pub HasNumber : State → Change → Type 0
+HasNumber s (Add bytes) = next s ≢ 4294967295
+HasNumber s others = Unit {0}
 
-pub one_made : (s : State) (c : Change) (v w : Store) (tally : Tally) → HasNumber s c → v.generation ≢ 4294967295
-    → next_store c v ≡ Some (with_spare v.spare w) → w.generation ≡ v.generation + 1 → LimitsTurn s v w (c ∷ []) (Ok tally)
-one_made s c v w tally number unspent placed raised = record {
-  numbers = (number, tt);
-  generation = λ k first is. unspent (omega arith);
-  store_room = ap (option_and_then (next_stores [])) placed;
-  raised = raised;
-}
+-- ---- what refuses a change
 
--- what a fault says of it
-abbrev pub FaultIs : State → Change → Store → ChangeFault → Type 0
-FaultIs s c v fault.NumbersSpent = ¬ HasNumber s c
-FaultIs s c v fault.GenerationSpent = v.generation ≡ 4294967295
-FaultIs s c v fault.StoreFull = next_store c v ≡ None
-FaultIs s c v others = Unit {0}
+not_last : (n : ℕ) → n ≢ 4294967295 → (n == 4294967295) ≡ false
+not_last n other = grind (arith, nat_tests, other)
 
-pub one_refused : (s : State) (c : Change) (v w : Store) (f : ChangeFault) → FaultIs s c v f → LimitsTurn s v w (c ∷ []) (Err (halt_of f))
-one_refused s c v w fault.NumbersSpent is = record { numbers = inl is; generation = tt; store_room = tt; raised = tt }
-one_refused s c v w fault.GenerationSpent is = record { numbers = tt; generation = (0, omega arith, omega arith); store_room = tt; raised = tt }
-one_refused s c v w fault.StoreFull is = record { numbers = tt; generation = tt; store_room = ap (option_and_then (next_stores [])) is; raised = tt }
-one_refused s c v w (fault.IndexFull told) is = record { numbers = tt; generation = tt; store_room = tt; raised = tt }
-one_refused s c v w (fault.BadIndex unit) is = record { numbers = tt; generation = tt; store_room = tt; raised = tt }
-one_refused s c v w fault.DiskFault is = record { numbers = tt; generation = tt; store_room = tt; raised = tt }
-one_refused s c v w fault.NoMemory is = record { numbers = tt; generation = tt; store_room = tt; raised = tt }
-one_refused s c v w (fault.BadHeader why) is = record { numbers = tt; generation = tt; store_room = tt; raised = tt }
-one_refused s c v w fault.NoSuch is = record { numbers = tt; generation = tt; store_room = tt; raised = tt }
-one_refused s c v w fault.Stopped is = record { numbers = tt; generation = tt; store_room = tt; raised = tt }
+is_last : (n : ℕ) → n ≡ 4294967295 → (n == 4294967295) ≡ true
+is_last n same = grind (arith, nat_tests, same)
 
-pub add_fault : (A : Type 0) (db : Database) (s : State) (bytes blob : List ℕ) (f : ChangeFault) → next s ≡ next_number db → AddIs {A = A} db bytes (Err f)
-    → RoomCause (next_store (Add blob) db.store) f → FaultIs s (Add blob) db.store f
-add_fault A db s bytes blob fault.NumbersSpent law cause room = λ left. left (law ∙ cause.1)
-add_fault A db s bytes blob fault.GenerationSpent law cause room = cause.1.later
-add_fault A db s bytes blob fault.StoreFull law cause room = room
-add_fault A db s bytes blob (fault.IndexFull told) law cause room = tt
-add_fault A db s bytes blob (fault.BadIndex unit) law cause room = tt
-add_fault A db s bytes blob fault.DiskFault law cause room = tt
-add_fault A db s bytes blob fault.NoMemory law cause room = tt
-add_fault A db s bytes blob (fault.BadHeader why) law cause room = tt
-add_fault A db s bytes blob fault.NoSuch law cause room = tt
-add_fault A db s bytes blob fault.Stopped law cause room = tt
+is_left : (s : State) (c : Change) → HasNumber s c → is_spent s c ≡ false
+is_left s (Add bytes) number = not_last (next s) number
+is_left s (Put n bytes) number = refl
+is_left s (Erase n) number = refl
 
-pub put_fault : (A : Type 0) (db : Database) (s : State) (n : ℕ) (bytes blob : List ℕ) (f : ChangeFault) → PutIs {A = A} db n bytes (Err f)
-    → RoomCause (next_store (Put n blob) db.store) f → FaultIs s (Put n blob) db.store f
-put_fault A db s n bytes blob fault.NumbersSpent cause room = absurd cause.1.later
-put_fault A db s n bytes blob fault.GenerationSpent cause room = cause.1.later
-put_fault A db s n bytes blob fault.StoreFull cause room = room
-put_fault A db s n bytes blob (fault.IndexFull told) cause room = tt
-put_fault A db s n bytes blob (fault.BadIndex unit) cause room = tt
-put_fault A db s n bytes blob fault.DiskFault cause room = tt
-put_fault A db s n bytes blob fault.NoMemory cause room = tt
-put_fault A db s n bytes blob (fault.BadHeader why) cause room = tt
-put_fault A db s n bytes blob fault.NoSuch cause room = tt
-put_fault A db s n bytes blob fault.Stopped cause room = tt
+some_place : (o : Option Store) → IsSome o → is_none o ≡ false
+some_place None some = absurd cc
+some_place (Some w) some = refl
 
-pub erase_fault : (db : Database) (s : State) (n : ℕ) (f : ChangeFault) → EraseCause db n f → FaultIs s (Erase n) db.store f
-erase_fault db s n fault.NumbersSpent cause = absurd cause.2
-erase_fault db s n fault.GenerationSpent cause = cause.2
-erase_fault db s n fault.StoreFull cause = absurd cause.2.1
-erase_fault db s n (fault.IndexFull told) cause = tt
-erase_fault db s n (fault.BadIndex unit) cause = tt
-erase_fault db s n fault.DiskFault cause = tt
-erase_fault db s n fault.NoMemory cause = tt
-erase_fault db s n (fault.BadHeader why) cause = tt
-erase_fault db s n fault.NoSuch cause = tt
-erase_fault db s n fault.Stopped cause = tt
+-- by what each of them says, one after the other
+abbrev chosen : Bool → Bool → Bool → Bool → ℕ → Option Halt
+chosen spent last nowhere large units =
+    if spent then Some halt.NumbersSpent
+    else if last then Some halt.GenerationSpent
+    else if nowhere then Some halt.StoreFull
+    else if large then Some (halt.IndexFull units)
+    else None
+
+same_chosen : (a b c d a' b' c' d' : Bool) (n : ℕ) → a ≡ a' → b ≡ b' → c ≡ c' → d ≡ d' → chosen a b c d n ≡ chosen a' b' c' d' n
+same_chosen a b c d a' b' c' d' n p q r t = rw (p, q, r, t) refl
+
+fits_index : (i : Bool) (n : ℕ) → (i ≡ true → n ≤ 2 ^ 28) → (i && nat_lt (2 ^ 28) n) ≡ false
+fits_index false n fits = refl
+fits_index true n fits = let most = fits refl in grind (arith, nat_tests, most)
+
+module _ (i : Bool) (s : State) (c : Change) (v : Store) where
+  pub none_refuses : (w : Store) → HasNumber s c → v.generation ≢ 4294967295 → next_store c v ≡ Some w → (i ≡ true → needed s c ≤ 2 ^ 28)
+      → refusal i s v c ≡ None
+  none_refuses w number unspent placed fits =
+      same_chosen (is_spent s c) (v.generation == 4294967295) (is_none (next_store c v)) (i && is_large s c) false false false false (needed s c)
+      (is_left s c number) (not_last v.generation unspent) (ap is_none placed) (fits_index i (needed s c) fits)
+
+  -- what a fault says of it
+  abbrev pub FaultIs : ChangeFault → Type 0
+  FaultIs fault.NumbersSpent = is_spent s c ≡ true
+  FaultIs fault.GenerationSpent = HasNumber s c × (v.generation ≡ 4294967295)
+  FaultIs fault.StoreFull = HasNumber s c × (v.generation ≢ 4294967295) × (next_store c v ≡ None)
+  FaultIs (fault.IndexFull told) =
+      HasNumber s c × (v.generation ≢ 4294967295) × IsSome (next_store c v) × (i ≡ true → FullCause (needed s c) (fault.IndexFull told))
+  FaultIs (fault.BadIndex unit) = i ≡ true → ⊥
+  FaultIs others = Unit {0}
+
+  fault_refuses : (f : ChangeFault) → FaultIs f → is_limit i (halt_of f) ≡ true → refusal i s v c ≡ Some (halt_of f)
+  fault_refuses fault.NumbersSpent is limit =
+      same_chosen (is_spent s c) (v.generation == 4294967295) (is_none (next_store c v)) (i && is_large s c) true _ _ _ (needed s c) is refl refl refl
+  fault_refuses fault.GenerationSpent is limit =
+      same_chosen (is_spent s c) (v.generation == 4294967295) (is_none (next_store c v)) (i && is_large s c) false true _ _ (needed s c)
+      (is_left s c is.0) (is_last v.generation is.1) refl refl
+  fault_refuses fault.StoreFull is limit =
+      same_chosen (is_spent s c) (v.generation == 4294967295) (is_none (next_store c v)) (i && is_large s c) false false true _ (needed s c)
+      (is_left s c is.0) (not_last v.generation is.1) (ap is_none is.2) refl
+  fault_refuses (fault.IndexFull told) is limit =
+      let full = is.3 limit in
+      let large : is_large s c ≡ true = (let more = full.0 in grind (arith, nat_tests, more)) in
+      same_chosen (is_spent s c) (v.generation == 4294967295) (is_none (next_store c v)) (i && is_large s c) false false false true (needed s c)
+      (is_left s c is.0) (not_last v.generation is.1) (some_place (next_store c v) is.2) (rw (limit, large) refl)
+      ∙ ap (λ (n : ℕ). Some (halt.IndexFull n)) (sym full.1)
+  fault_refuses (fault.BadIndex unit) is limit = absurd (is limit)
+  fault_refuses fault.DiskFault is limit = absurd cc
+  fault_refuses fault.NoMemory is limit = absurd cc
+  fault_refuses (fault.BadHeader why) is limit = absurd cc
+  fault_refuses fault.NoSuch is limit = absurd cc
+  fault_refuses fault.Stopped is limit = absurd cc
+
+  -- ---- a change
+
+  pub one_made : (w : Store) (tally : Tally) → HasNumber s c → v.generation ≢ 4294967295 → next_store c v ≡ Some (with_spare v.spare w)
+      → w.generation ≡ v.generation + 1 → (i ≡ true → needed s c ≤ 2 ^ 28) → LimitsTurn i s v w (c ∷ []) (Ok tally)
+  one_made w tally number unspent placed raised fits = record {
+    first = ap (λ (o : Option Halt). option_or o None) (none_refuses (with_spare v.spare w) number unspent placed fits);
+    stores = ap (option_and_then (next_stores [])) placed;
+    raised = raised;
+  }
+
+  pub one_refused : (w : Store) (f : ChangeFault) → FaultIs f → LimitsTurn i s v w (c ∷ []) (Err (halt_of f))
+  one_refused w f is = record {
+    first = λ limit. ap (λ (o : Option Halt). option_or o None) (fault_refuses f is limit);
+    stores = tt;
+    raised = tt;
+  }
+
+-- a stop for none of these limits
+pub other_stop : (i : Bool) (s : State) (v w : Store) (changes : List Change) (h : Halt) → is_limit i h ≡ false → LimitsTurn i s v w changes (Err h)
+other_stop i s v w changes h other = record { first = λ limit. absurd cc; stores = tt; raised = tt }
+
+pub add_fault : (i : Bool) (A : Type 0) (db : Database) (s : State) (bytes blob : List ℕ) (f : ChangeFault) → next s ≡ next_number db
+    → AddIs {A = A} db bytes (Err f) → RoomCause (next_store (Add blob) db.store) f → (i ≡ true → FullCause (needed s (Add blob)) f)
+    → FaultIs i s (Add blob) db.store f
+add_fault i A db s bytes blob fault.NumbersSpent law cause room full = is_last (next s) (law ∙ cause.1)
+add_fault i A db s bytes blob fault.GenerationSpent law cause room full = (λ is. cause.0 (sym law ∙ is), cause.1.later)
+add_fault i A db s bytes blob fault.StoreFull law cause room full = (λ is. cause.0 (sym law ∙ is), cause.1.later.0, room)
+add_fault i A db s bytes blob (fault.IndexFull told) law cause room full = (λ is. cause.0 (sym law ∙ is), cause.1.later.0, room, full)
+add_fault i A db s bytes blob (fault.BadIndex unit) law cause room full = full
+add_fault i A db s bytes blob fault.DiskFault law cause room full = tt
+add_fault i A db s bytes blob fault.NoMemory law cause room full = tt
+add_fault i A db s bytes blob (fault.BadHeader why) law cause room full = tt
+add_fault i A db s bytes blob fault.NoSuch law cause room full = tt
+add_fault i A db s bytes blob fault.Stopped law cause room full = tt
+
+pub put_fault : (i : Bool) (A : Type 0) (db : Database) (s : State) (n : ℕ) (bytes blob : List ℕ) (f : ChangeFault) → PutIs {A = A} db n bytes (Err f)
+    → RoomCause (next_store (Put n blob) db.store) f → (i ≡ true → FullCause (needed s (Put n blob)) f) → FaultIs i s (Put n blob) db.store f
+put_fault i A db s n bytes blob fault.NumbersSpent cause room full = absurd cause.1.later
+put_fault i A db s n bytes blob fault.GenerationSpent cause room full = (tt, cause.1.later)
+put_fault i A db s n bytes blob fault.StoreFull cause room full = (tt, cause.1.later.0, room)
+put_fault i A db s n bytes blob (fault.IndexFull told) cause room full = (tt, cause.1.later.0, room, full)
+put_fault i A db s n bytes blob (fault.BadIndex unit) cause room full = full
+put_fault i A db s n bytes blob fault.DiskFault cause room full = tt
+put_fault i A db s n bytes blob fault.NoMemory cause room full = tt
+put_fault i A db s n bytes blob (fault.BadHeader why) cause room full = tt
+put_fault i A db s n bytes blob fault.NoSuch cause room full = tt
+put_fault i A db s n bytes blob fault.Stopped cause room full = tt
+
+pub erase_fault : (i : Bool) (db : Database) (s : State) (n : ℕ) (f : ChangeFault) → EraseCause db n f → (i ≡ true → FullCause (needed s (Erase n)) f)
+    → FaultIs i s (Erase n) db.store f
+erase_fault i db s n fault.NumbersSpent cause full = absurd cause.2
+erase_fault i db s n fault.GenerationSpent cause full = (tt, cause.2)
+erase_fault i db s n fault.StoreFull cause full = absurd cause.2.1
+erase_fault i db s n (fault.IndexFull told) cause full = (tt, cause.2.0, refl, full)
+erase_fault i db s n (fault.BadIndex unit) cause full = full
+erase_fault i db s n fault.DiskFault cause full = tt
+erase_fault i db s n fault.NoMemory cause full = tt
+erase_fault i db s n (fault.BadHeader why) cause full = tt
+erase_fault i db s n fault.NoSuch cause full = tt
+erase_fault i db s n fault.Stopped cause full = tt
 
 -- ---- no change
 
 -- the store stays, up to room in memory
-pub none_made : (s : State) (v w : Store) (k : ℕ) (tally : Tally) → w ≡ with_spare k v → LimitsTurn s v w [] (Ok tally)
-none_made s v w k tally same = record {
-  numbers = tt;
-  generation = λ i none. absurd (omega arith);
-  store_room = ap (λ (u : Store). Some (with_spare v.spare u)) (sym same);
+pub none_made : (i : Bool) (s : State) (v w : Store) (k : ℕ) (tally : Tally) → w ≡ with_spare k v → LimitsTurn i s v w [] (Ok tally)
+none_made i s v w k tally same = record {
+  first = refl;
+  stores = ap (λ (u : Store). Some (with_spare v.spare u)) (sym same);
   raised = ap (λ (u : Store). u.generation) same ∙ omega arith;
 }

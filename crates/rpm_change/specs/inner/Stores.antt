@@ -1,7 +1,6 @@
 -- Several changes of a store, some of them and then the others.
 use Rattle.std.proofs.Common.{◌≡◌, ◌≢◌, ℕ, ◌+◌, ◌-◌, ◌<◌, ◌≤◌, List, [], ◌∷◌, ◌++◌, length, Option, Some, None, Err, refl, ap, ◌∙◌, subst, length-append, inl, inr, arith}
 use Rattle.std.specs.Option.{option_map, option_and_then}
-use Rattle.std.proofs.lemmas.Bool.{cases_lt}
 use Rattle.rpm_pkgdb.specs.declared.moving.Move.{Move}
 use Rattle.rpm_pkgdb.specs.Growing.{pages_after}
 use Rattle.rpm_pkgdb.specs.Placing.{Placement, placed, with_placed}
@@ -10,8 +9,7 @@ use Rattle.rpm_pkgdb.specs.Written.{with_spare, erased}
 use Rattle.rpm_db.specs.Changes.{Change, Add, Put, Erase}
 use Rattle.rpm_db.specs.Room.{next_store, raised}
 use Rattle.rpm_db.specs.inner.RoomLaws.{next_spare}
-use Rattle.rpm_change.specs.declared.tally.Halt.TheVariants as halt
-use Rattle.rpm_change.specs.Limits.{next_stores, SpentTurn}
+use Rattle.rpm_change.specs.Limits.{next_stores}
 
 -- ---- places
 
@@ -39,12 +37,6 @@ next_stores-spare (x ∷ xs) k v =
 pub stores_behind : (xs ys : List Change) (k : ℕ) (v w : Store) → next_stores xs v ≡ Some (with_spare k w)
     → next_stores (xs ++ ys) v ≡ option_map (with_spare k) (next_stores ys w)
 stores_behind xs ys k v w is = next_stores-append xs ys v ∙ ap (option_and_then (next_stores ys)) is ∙ next_stores-spare ys k w
-
-pub full_behind : (xs ys zs : List Change) (k : ℕ) (v w : Store) → next_stores xs v ≡ Some (with_spare k w) → next_stores ys w ≡ None
-    → next_stores (xs ++ (ys ++ zs)) v ≡ None
-full_behind xs ys zs k v w is full =
-    stores_behind xs (ys ++ zs) k v w is
-    ∙ ap (option_map (with_spare k)) (next_stores-append ys zs w ∙ ap (option_and_then (next_stores zs)) full)
 
 -- ---- pages
 
@@ -74,17 +66,3 @@ pages_behind changes v w more (Some u) first is = let a = first u refl in let b 
 pub stores_pages : (changes : List Change) (v w : Store) → next_stores changes v ≡ Some w → v.pages ≤ w.pages
 stores_pages [] v w is = let same : v ≡ w = cc in subst (λ (u : Store). v.pages ≤ u.pages) same (omega arith)
 stores_pages (x ∷ xs) v w is = pages_behind xs v w (λ u. stores_pages xs u w) (next_store x v) (next_pages x v) is
-
--- ---- generations
-
-pub unspent_more : (xs ys : List Change) (g h : ℕ) → h ≡ g + length xs → ((k : ℕ) → k < length xs → g + k ≢ 4294967295)
-    → ((k : ℕ) → k < length ys → h + k ≢ 4294967295) → (k : ℕ) → k < length (xs ++ ys) → g + k ≢ 4294967295
-unspent_more xs ys g h raised first more k within = elim (cases_lt k (length xs)) [
-  | inl below ↦ first k below
-  | inr above ↦ λ is. more (k - length xs) (omega (arith, length-append xs ys)) (omega arith)
-]
-
-pub spent_within : (xs ys zs : List Change) (g h k : ℕ) → h ≡ g + length xs → k < length ys → h + k ≡ 4294967295
-    → SpentTurn g (xs ++ (ys ++ zs)) (Err halt.GenerationSpent)
-spent_within xs ys zs g h k raised below is =
-    (length xs + k, omega (arith, length-append xs (ys ++ zs), length-append ys zs), omega arith)

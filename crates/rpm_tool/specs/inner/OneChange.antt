@@ -6,7 +6,8 @@ use Rattle.rpm_outside.specs.Shelves.{Paths}
 use Rattle.rpm_change.specs.Endings.{Outputs}
 use Rattle.rpm_tool.specs.declared.answer.Why.{Why}
 use Rattle.rpm_tool.specs.Changing.{DidOn, ChangesWith}
-use Rattle.rpm_tool.specs.Limits.{LimitsOn, LogOn}
+use Rattle.rpm_tool.specs.Keyed.{IsLawfulGroup}
+use Rattle.rpm_tool.specs.Limits.{LimitsBy, LogOn}
 use Rattle.rpm_tool.specs.Tasks.{TaskParts, task_course, is_anew, changes_index}
 
 -- what it answers, what it leaves, and that its limits are met exactly at their turn
@@ -14,5 +15,5 @@ pub record OneChange {D : Type 0} (files : D → Files) (left_since : D → ℕ 
     (task : TaskParts) (given : Why) (changes : ℕ) (old new : D) (before behind : Outputs) : Type 0 where
   pub did : DidOn (task_course paths now task) (files old) given before behind
   pub changed : ChangesWith (is_anew task) (changes_index task) files left_since moment (task_course paths now task) given changes old new
-  pub limits : LimitsOn (task_course paths now task) (reopened (files old)) given
+  pub limits : LimitsBy (is_anew task) (IsLawfulGroup (files old)) (task_course paths now task) (reopened (files old)) given
   pub log : LogOn (task_course paths now task) (reopened (files old)) given

@@ -2,15 +2,14 @@ mod Stopped
 use Rattle.std.proofs.Common.{◌+◌, true, [], map, get_or, drop, refl, ◌∙◌, subst, Ok, arith}
 use Rattle.rpm_outside.specs.Buffered.{inner}
 use Rattle.rpm_outside.specs.Shelves.{Paths}
-use Rattle.rpm_db.specs.Database.{IsIndexed}
 use Rattle.rpm_db.specs.State.{state}
 use Rattle.rpm_db.specs.inner.Running.{runs_none, runs_then}
 use Rattle.rpm_db.specs.inner.Writes.{SameLog}
 use Rattle.rpm_change.specs.Adding.{add_file, add_files}
-use Rattle.rpm_change.specs.Endings.{outputs, Done, AllHaveRoom}
+use Rattle.rpm_change.specs.Endings.{outputs, Done}
 use Rattle.rpm_change.specs.Limits.{LimitsTurn}
 use Rattle.rpm_change.specs.Steps.{in_turn}
-use Rattle.rpm_change.proofs.Added.{files_end, files_room}
+use Rattle.rpm_change.proofs.Added.{files_end}
 use Rattle.rpm_change.proofs.Courses.{halfway_start, halfway_more}
 use Rattle.rpm_change.proofs.Filed.{bytes, nothing, path_next, path_none}
 use Rattle.rpm_change.proofs.Limits.{limited_start, limited_more, limited_end}
@@ -23,9 +22,8 @@ loop-path-init g c =
     let all = add_files (g.S.Shelf.paths c.args.shelf.now) c.args.now s (map bytes c.args.paths.now) in
     record {
       goes = λ told shelf_told out_tells out.
-          halfway_start out_tells g.E.Sink.tells (IsIndexed (g.D.Disk.files c.args.disk.now).pkg (g.D.Disk.files c.args.disk.now).idx c.args.db.now)
-          all s out (g.E.Sink.taken (inner c.args.err.now));
-      limited = λ told shelf_told. limited_start all s c.args.db.now.store;
+          halfway_start out_tells g.E.Sink.tells all s out (g.E.Sink.taken (inner c.args.err.now));
+      limited = λ told shelf_told i rows. limited_start i all s c.args.db.now.store;
       few = refl;
       whole = λ told whole. whole;
       carried = record { going = c.requires.going; serving = c.requires.serving; index = λ told rows. rows };
@@ -51,7 +49,6 @@ loop-path-preserved g c =
     let s = state (g.D.Disk.files c.args.disk.now).pkg c.args.db.now.store in
     let t = state (g.D.Disk.files c.loop-path.disk).pkg c.loop-path.db.store in
     let u = state (g.D.Disk.files c.put_file.new.disk).pkg c.put_file.new.db.store in
-    let P = IsIndexed (g.D.Disk.files c.args.disk.now).pkg (g.D.Disk.files c.args.disk.now).idx c.args.db.now in
     let e' = g.E.Sink.taken (inner c.loop-path.err) in
     let e'' = g.E.Sink.taken (inner c.put_file.new.err) in
     let path = bytes (get_or xs k nothing) in
@@ -60,17 +57,15 @@ loop-path-preserved g c =
       goes = λ told shelf_told out_tells out.
           let ended = subst (λ (qs : Paths). Done (add_file c.args.now qs t k path) t u c.in-Ok.tally (outputs out_tells out g.E.Sink.tells e')
           (outputs out_tells out g.E.Sink.tells e'')) (inv.paths shelf_told) (done.ended told shelf_told k out_tells out) in
-          halfway_more out_tells g.E.Sink.tells P (in_turn each s 0 (map bytes xs)) (in_turn each t k (map bytes (drop k xs))) (each t k path) rest s t u
+          halfway_more out_tells g.E.Sink.tells (in_turn each s 0 (map bytes xs)) (in_turn each t k (map bytes (drop k xs))) (each t k path) rest s t u
           c.loop-path.failed c.loop-path.changes out out out _ e' e'' (path_next each xs k t u (omega arith) ended.state_is)
-          (inv.goes told shelf_told out_tells out) c.in-Ok.tally ended
-          (λ rows. subst (λ (qs : Paths). AllHaveRoom t (add_file c.args.now qs t k path).changes) (inv.paths shelf_told)
-          (done.room told shelf_told (inv.carried.index told rows) k));
-      limited = λ told shelf_told.
+          (inv.goes told shelf_told out_tells out) c.in-Ok.tally ended;
+      limited = λ told shelf_told i rows.
           let ended = subst (λ (qs : Paths). Done (add_file c.args.now qs t k path) t u c.in-Ok.tally (outputs true [] g.E.Sink.tells e')
           (outputs true [] g.E.Sink.tells e'')) (inv.paths shelf_told) (done.ended told shelf_told k true []) in
-          limited_more _ _ (each t k path) rest _ _ _ _ _ (path_next each xs k t u (omega arith) ended.state_is) (inv.limited told shelf_told) u c.in-Ok.tally
-          ended.state_is (subst (λ (qs : Paths). LimitsTurn t c.loop-path.db.store c.put_file.new.db.store (add_file c.args.now qs t k path).changes
-          (Ok c.in-Ok.tally)) (inv.paths shelf_told) (done.limits told shelf_told k));
+          limited_more i _ _ (each t k path) rest _ _ _ _ _ (path_next each xs k t u (omega arith) ended.state_is) (inv.limited told shelf_told i rows) u c.in-Ok.tally
+          ended.state_is (subst (λ (qs : Paths). LimitsTurn i t c.loop-path.db.store c.put_file.new.db.store (add_file c.args.now qs t k path).changes
+          (Ok c.in-Ok.tally)) (inv.paths shelf_told) (done.limits told shelf_told k i (λ is. inv.carried.index told (rows is))));
       few = omega (arith, inv.few, done.one);
       whole = λ told whole. done.whole told (inv.whole told whole);
       carried = record { going = kept.going; serving = kept.serving; index = λ told rows. kept.index told (inv.carried.index told rows) };
@@ -91,45 +86,18 @@ loop-path-preserved g c =
 pub returns-in-Err-clause-ended : goal.returns-in-Err-clause-ended
 returns-in-Err-clause-ended = stopped.returns-in-Err-clause-ended
 
-pub returns-in-Err-clause-room : goal.returns-in-Err-clause-room
-returns-in-Err-clause-room = stopped.returns-in-Err-clause-room
-
-pub returns-in-Err-clause-numbers : goal.returns-in-Err-clause-numbers
-returns-in-Err-clause-numbers = stopped.returns-in-Err-clause-numbers
-
-pub returns-in-Err-clause-generation : goal.returns-in-Err-clause-generation
-returns-in-Err-clause-generation = stopped.returns-in-Err-clause-generation
-
-pub returns-in-Err-clause-store_room : goal.returns-in-Err-clause-store_room
-returns-in-Err-clause-store_room = stopped.returns-in-Err-clause-store_room
+pub returns-in-Err-clause-limits : goal.returns-in-Err-clause-limits
+returns-in-Err-clause-limits = stopped.returns-in-Err-clause-limits
 
 pub returns-in-Err-clause-runs : goal.returns-in-Err-clause-runs
 returns-in-Err-clause-runs = stopped.returns-in-Err-clause-runs
 
 pub returns-clause-ended : goal.returns-clause-ended
 returns-clause-ended g c = λ told shelf_told out_tells out.
-    files_end out_tells g.E.Sink.tells (IsIndexed (g.D.Disk.files c.args.disk.now).pkg (g.D.Disk.files c.args.disk.now).idx c.args.db.now)
-    c.args.now _ c.args.paths.now c.loop-path.path-index _ _ _ _ out out _ _ (omega arith) (c.loop-path.invariant.goes told shelf_told out_tells out)
+    files_end out_tells g.E.Sink.tells c.args.now _ c.args.paths.now c.loop-path.path-index _ _ _ _ out out _ _ (omega arith) (c.loop-path.invariant.goes told shelf_told out_tells out)
 
-pub returns-clause-room : goal.returns-clause-room
-returns-clause-room g c = λ told shelf_told rows.
-    files_room true g.E.Sink.tells (IsIndexed (g.D.Disk.files c.args.disk.now).pkg (g.D.Disk.files c.args.disk.now).idx c.args.db.now)
-    c.args.now _ c.args.paths.now c.loop-path.path-index _ _ _ _ [] [] _ _ (omega arith) (c.loop-path.invariant.goes told shelf_told true []) rows
-
-pub returns-clause-numbers : goal.returns-clause-numbers
-returns-clause-numbers g c = λ told shelf_told.
-    (limited_end _ _ _ _ _ _ (record { failed = c.loop-path.failed; changes = c.loop-path.changes })
+pub returns-clause-limits : goal.returns-clause-limits
+returns-clause-limits g c = λ told shelf_told i rows.
+    limited_end i _ _ _ _ _ _ (record { failed = c.loop-path.failed; changes = c.loop-path.changes })
     (path_none (add_file c.args.now (g.S.Shelf.paths c.args.shelf.now)) c.args.paths.now c.loop-path.path-index _ (omega arith))
-    (c.loop-path.invariant.limited told shelf_told)).numbers
-
-pub returns-clause-generation : goal.returns-clause-generation
-returns-clause-generation g c = λ told shelf_told.
-    (limited_end _ _ _ _ _ _ (record { failed = c.loop-path.failed; changes = c.loop-path.changes })
-    (path_none (add_file c.args.now (g.S.Shelf.paths c.args.shelf.now)) c.args.paths.now c.loop-path.path-index _ (omega arith))
-    (c.loop-path.invariant.limited told shelf_told)).generation
-
-pub returns-clause-store_room : goal.returns-clause-store_room
-returns-clause-store_room g c = λ told shelf_told.
-    (limited_end _ _ _ _ _ _ (record { failed = c.loop-path.failed; changes = c.loop-path.changes })
-    (path_none (add_file c.args.now (g.S.Shelf.paths c.args.shelf.now)) c.args.paths.now c.loop-path.path-index _ (omega arith))
-    (c.loop-path.invariant.limited told shelf_told)).store_room
+    (c.loop-path.invariant.limited told shelf_told i rows)

@@ -17,13 +17,13 @@ use Rattle.rpm_change.proofs.add.add_files.Given as goal
 abbrev pub invariant-loop-path : goal.invariant-loop-path
 invariant-loop-path g l = record {
   goes : IsTrue g.D.Disk.tells → IsTrue g.S.Shelf.tells → (out_tells : Bool) (out : List ℕ) → Halfway out_tells g.E.Sink.tells
-      (IsIndexed (g.D.Disk.files l.initial.disk).pkg (g.D.Disk.files l.initial.disk).idx l.initial.db)
       (add_files (g.S.Shelf.paths l.initial.shelf) l.fn.now (state (g.D.Disk.files l.initial.disk).pkg l.initial.db.store) (map bytes l.paths))
       (in_turn (add_file l.fn.now (g.S.Shelf.paths l.initial.shelf)) (state (g.D.Disk.files l.disk).pkg l.db.store) l.path-index
       (map bytes (drop l.path-index l.paths)))
       (state (g.D.Disk.files l.initial.disk).pkg l.initial.db.store) (state (g.D.Disk.files l.disk).pkg l.db.store) l.failed l.changes out out
       (g.E.Sink.taken (inner l.initial.err)) (g.E.Sink.taken (inner l.err));
-  limited : IsTrue g.D.Disk.tells → IsTrue g.S.Shelf.tells → Limited
+  limited : IsTrue g.D.Disk.tells → IsTrue g.S.Shelf.tells → (indexed : Bool)
+      → (indexed ≡ true → IsIndexed (g.D.Disk.files l.initial.disk).pkg (g.D.Disk.files l.initial.disk).idx l.initial.db) → Limited indexed
       (add_files (g.S.Shelf.paths l.initial.shelf) l.fn.now (state (g.D.Disk.files l.initial.disk).pkg l.initial.db.store) (map bytes l.paths))
       (in_turn (add_file l.fn.now (g.S.Shelf.paths l.initial.shelf)) (state (g.D.Disk.files l.disk).pkg l.db.store) l.path-index
       (map bytes (drop l.path-index l.paths)))

@@ -1,16 +1,15 @@
-use Rattle.std.proofs.Common.{ℕ, List, Option, refl, sym, subst, []}
+use Rattle.std.proofs.Common.{ℕ, List, Option, refl, sym, subst}
 use Rattle.rpm_outside.specs.Buffered.{inner}
 use Rattle.rpm_outside.specs.Shelves.{bytes_at}
 use Rattle.rpm_db.specs.State.{state}
 use Rattle.rpm_change.specs.Adding.{put_found}
-use Rattle.rpm_change.specs.Endings.{outputs, Ended, IndexTurn}
+use Rattle.rpm_change.specs.Endings.{outputs, Ended}
 use Rattle.rpm_change.specs.Limits.{LimitsTurn}
 use Rattle.rpm_change.specs.Steps.{Course}
-use Rattle.rpm_change.proofs.Erased.{line_turn}
 use Rattle.rpm_change.proofs.Filed.{opened_is}
 use Rattle.rpm_change.proofs.Unchanged.{line_limits}
 use Rattle.rpm_change.proofs.Stops.{lines_putting}
-use Rattle.rpm_change.proofs.Wholes.{whole_turn}
+use Rattle.rpm_change.proofs.Wholes.{whole_turn, line_unbroken}
 use Rattle.rpm_change.proofs.add.put_file.Goals as goal
 
 pub returns-in-Ok-clause-ended : goal.returns-in-Ok-clause-ended
@@ -24,22 +23,14 @@ returns-in-Ok-clause-ended g c = λ told shelf_told j out_tells out.
     (sym (opened_is c.args.how j c.args.path.now found (g.S.Shelf.rest c.open.new.self) opened.0 opened.1))
     (rw c.as_bytes.ensures.value at (c.put_opened.ensures.ended told shelf_told j out_tells out))
 
-pub returns-in-Ok-clause-room : goal.returns-in-Ok-clause-room
-returns-in-Ok-clause-room g c = λ told shelf_told rows j.
-    let opened = c.in-Ok.ensures.opened shelf_told in
-    let found = bytes_at (g.S.Shelf.paths c.args.shelf.now) c.args.path.now in
-    subst (λ (x : Course). IndexTurn (state (g.D.Disk.files c.args.disk.now).pkg c.args.db.now.store) x.changes c.put_opened.result)
-    (sym (opened_is c.args.how j c.args.path.now found (g.S.Shelf.rest c.open.new.self) opened.0 opened.1))
-    (rw c.as_bytes.ensures.value at (c.put_opened.ensures.room told shelf_told rows j))
-
 pub returns-in-Ok-clause-limits : goal.returns-in-Ok-clause-limits
-returns-in-Ok-clause-limits g c = λ told shelf_told j.
+returns-in-Ok-clause-limits g c = λ told shelf_told j i rows.
     let opened = c.in-Ok.ensures.opened shelf_told in
     let found = bytes_at (g.S.Shelf.paths c.args.shelf.now) c.args.path.now in
-    subst (λ (x : Course). LimitsTurn (state (g.D.Disk.files c.args.disk.now).pkg c.args.db.now.store) c.args.db.now.store c.put_opened.new.db.store x.changes
+    subst (λ (x : Course). LimitsTurn i (state (g.D.Disk.files c.args.disk.now).pkg c.args.db.now.store) c.args.db.now.store c.put_opened.new.db.store x.changes
     c.put_opened.result)
     (sym (opened_is c.args.how j c.args.path.now found (g.S.Shelf.rest c.open.new.self) opened.0 opened.1))
-    (rw c.as_bytes.ensures.value at (c.put_opened.ensures.limits told shelf_told j))
+    (rw c.as_bytes.ensures.value at (c.put_opened.ensures.limits told shelf_told j i rows))
 
 pub returns-in-Err-clause-ended : goal.returns-in-Err-clause-ended
 returns-in-Err-clause-ended g c = λ told shelf_told j out_tells out.
@@ -50,26 +41,18 @@ returns-in-Err-clause-ended g c = λ told shelf_told j out_tells out.
     (outputs out_tells out g.E.Sink.tells (g.E.Sink.taken (inner c.put_absent.new.err))))
     (sym opened.1) (rw c.as_bytes-in-Err.ensures.value at (c.put_absent.ensures.ended j s out_tells out))
 
-pub returns-in-Err-clause-room : goal.returns-in-Err-clause-room
-returns-in-Err-clause-room g c = λ told shelf_told rows j.
-    let opened = c.in-Err.ensures.opened shelf_told in
-    let s = state (g.D.Disk.files c.args.disk.now).pkg c.args.db.now.store in
-    subst (λ (found : Option (List ℕ)). IndexTurn s (put_found c.args.how j c.args.path.now found).changes c.put_absent.result)
-    (sym opened.1) (line_turn s c.put_absent.result c.put_absent.ensures.kinds)
-
 pub returns-in-Err-clause-whole : goal.returns-in-Err-clause-whole
 returns-in-Err-clause-whole g c = λ told whole.
     let f = g.D.Disk.files c.args.disk.now in
-    let s = state f.pkg c.args.db.now.store in
-    whole_turn f f s [] c.put_absent.result refl whole (line_turn s c.put_absent.result c.put_absent.ensures.kinds)
+    whole_turn f f c.put_absent.result refl whole (line_unbroken c.put_absent.result c.put_absent.ensures.kinds)
 
 pub returns-in-Err-clause-limits : goal.returns-in-Err-clause-limits
-returns-in-Err-clause-limits g c = λ told shelf_told j.
+returns-in-Err-clause-limits g c = λ told shelf_told j i rows.
     let opened = c.in-Err.ensures.opened shelf_told in
     let s = state (g.D.Disk.files c.args.disk.now).pkg c.args.db.now.store in
-    subst (λ (found : Option (List ℕ)). LimitsTurn s c.args.db.now.store c.args.db.now.store (put_found c.args.how j c.args.path.now found).changes
+    subst (λ (found : Option (List ℕ)). LimitsTurn i s c.args.db.now.store c.args.db.now.store (put_found c.args.how j c.args.path.now found).changes
     c.put_absent.result) (sym opened.1)
-    (line_limits s c.args.db.now.store c.args.db.now.store c.args.db.now.store.spare c.put_absent.result refl c.put_absent.ensures.kinds)
+    (line_limits i s c.args.db.now.store c.args.db.now.store c.args.db.now.store.spare c.put_absent.result refl c.put_absent.ensures.kinds)
 
 pub returns-in-Err-clause-kinds : goal.returns-in-Err-clause-kinds
 returns-in-Err-clause-kinds g c = lines_putting c.args.how.number c.put_absent.result c.put_absent.ensures.kinds

@@ -1,4 +1,4 @@
-use Rattle.std.proofs.Common.{[], Result, Err, refl, sym, subst}
+use Rattle.std.proofs.Common.{Result, Err, refl, sym, subst}
 use Rattle.rpm_header.specs.Header.{Header}
 use Rattle.rpm_outside.specs.Browses.{left}
 use Rattle.rpm_outside.specs.Buffered.{inner}
@@ -6,14 +6,13 @@ use Rattle.rpm_file.specs.declared.fault.FileFault.{FileFault}
 use Rattle.rpm_file.specs.Package.{package_header}
 use Rattle.rpm_db.specs.State.{state}
 use Rattle.rpm_change.specs.Adding.{put_installed, put_read, as_installed}
-use Rattle.rpm_change.specs.Endings.{outputs, Ended, IndexTurn}
+use Rattle.rpm_change.specs.Endings.{outputs, Ended}
 use Rattle.rpm_change.specs.Limits.{LimitsTurn}
 use Rattle.rpm_change.proofs.Courses.{through_none}
-use Rattle.rpm_change.proofs.Erased.{line_turn}
 use Rattle.rpm_change.proofs.Filed.{own_fault}
 use Rattle.rpm_change.proofs.Unchanged.{line_limits, read_limits}
-use Rattle.rpm_change.proofs.Stops.{stop_kind, stop_ended, stop_turn, placing_putting, lines_putting}
-use Rattle.rpm_change.proofs.Wholes.{whole_turn}
+use Rattle.rpm_change.proofs.Stops.{stop_kind, stop_ended, placing_putting, lines_putting}
+use Rattle.rpm_change.proofs.Wholes.{whole_turn, line_unbroken, read_unbroken}
 use Rattle.rpm_change.proofs.add.put_opened.Goals as goal
 
 pub returns-in-Ok-clause-ended : goal.returns-in-Ok-clause-ended
@@ -25,18 +24,12 @@ returns-in-Ok-clause-ended g c = λ told shelf_told j out_tells out.
     subst (λ (r : Result Header FileFault). Ended (put_installed c.args.how.number j c.args.path.now r) s t c.put_blob.result same same)
     (sym (c.in-Ok.ensures.gives shelf_told)) (rw c.deref.ensures.value at (c.put_blob.ensures.ended told out_tells g.E.Sink.tells out e))
 
-pub returns-in-Ok-clause-room : goal.returns-in-Ok-clause-room
-returns-in-Ok-clause-room g c = λ told shelf_told rows j.
-    let s = state (g.D.Disk.files c.args.disk.now).pkg c.args.db.now.store in
-    subst (λ (r : Result Header FileFault). IndexTurn s (put_installed c.args.how.number j c.args.path.now r).changes c.put_blob.result)
-    (sym (c.in-Ok.ensures.gives shelf_told)) (rw c.deref.ensures.value at (c.put_blob.ensures.room told rows))
-
 pub returns-in-Ok-clause-limits : goal.returns-in-Ok-clause-limits
-returns-in-Ok-clause-limits g c = λ told shelf_told j.
+returns-in-Ok-clause-limits g c = λ told shelf_told j i rows.
     let s = state (g.D.Disk.files c.args.disk.now).pkg c.args.db.now.store in
-    subst (λ (r : Result Header FileFault). LimitsTurn s c.args.db.now.store c.put_blob.new.db.store
+    subst (λ (r : Result Header FileFault). LimitsTurn i s c.args.db.now.store c.put_blob.new.db.store
     (put_installed c.args.how.number j c.args.path.now r).changes c.put_blob.result)
-    (sym (c.in-Ok.ensures.gives shelf_told)) (rw c.deref.ensures.value at (c.put_blob.ensures.limits told))
+    (sym (c.in-Ok.ensures.gives shelf_told)) (rw c.deref.ensures.value at (c.put_blob.ensures.limits told i rows))
 
 pub returns-in-Ok-clause-kinds : goal.returns-in-Ok-clause-kinds
 returns-in-Ok-clause-kinds g c = placing_putting c.args.how.number c.put_blob.result c.put_blob.ensures.kinds
@@ -49,21 +42,14 @@ returns-in-Some-clause-ended g c = λ told shelf_told j out_tells out.
     stop_ended (put_read c.args.how j c.args.path.now (left (g.S.Shelf.rest c.args.shelf.now))) s c.in-Some.halt same same
     (stop_kind c.in-Err.fault c.in-Some.halt (sym c.in-Some.ensures)) (through_none {ot = out_tells} {et = g.E.Sink.tells} out e)
 
-pub returns-in-Some-clause-room : goal.returns-in-Some-clause-room
-returns-in-Some-clause-room g c = λ told shelf_told rows j.
-    stop_turn (state (g.D.Disk.files c.args.disk.now).pkg c.args.db.now.store)
-    (put_read c.args.how j c.args.path.now (left (g.S.Shelf.rest c.args.shelf.now))).changes c.in-Some.halt
-    (stop_kind c.in-Err.fault c.in-Some.halt (sym c.in-Some.ensures))
-
 pub returns-in-Some-clause-whole : goal.returns-in-Some-clause-whole
 returns-in-Some-clause-whole g c = λ told whole.
     let f = g.D.Disk.files c.args.disk.now in
-    let s = state f.pkg c.args.db.now.store in
-    whole_turn f f s [] (Err c.in-Some.halt) refl whole (stop_turn s [] c.in-Some.halt (stop_kind c.in-Err.fault c.in-Some.halt (sym c.in-Some.ensures)))
+    whole_turn f f (Err c.in-Some.halt) refl whole (read_unbroken c.in-Some.halt (stop_kind c.in-Err.fault c.in-Some.halt (sym c.in-Some.ensures)))
 
 pub returns-in-Some-clause-limits : goal.returns-in-Some-clause-limits
-returns-in-Some-clause-limits g c = λ told shelf_told j.
-    read_limits (state (g.D.Disk.files c.args.disk.now).pkg c.args.db.now.store) c.args.db.now.store c.args.db.now.store
+returns-in-Some-clause-limits g c = λ told shelf_told j i rows.
+    read_limits i (state (g.D.Disk.files c.args.disk.now).pkg c.args.db.now.store) c.args.db.now.store c.args.db.now.store
     (put_read c.args.how j c.args.path.now (left (g.S.Shelf.rest c.args.shelf.now))).changes c.in-Some.halt
     (stop_kind c.in-Err.fault c.in-Some.halt (sym c.in-Some.ensures))
 
@@ -76,28 +62,19 @@ returns-in-None-clause-ended g c = λ told shelf_told j out_tells out.
     (outputs out_tells out g.E.Sink.tells (g.E.Sink.taken (inner c.put_refused.new.err))))
     (sym (own_fault said c.in-Err.fault (sym c.in-None.ensures) (c.in-Err.ensures.gives shelf_told))) (c.put_refused.ensures.ended j s out_tells out)
 
-pub returns-in-None-clause-room : goal.returns-in-None-clause-room
-returns-in-None-clause-room g c = λ told shelf_told rows j.
-    let said = as_installed c.args.how.moment (package_header (left (g.S.Shelf.rest c.args.shelf.now))) in
-    let s = state (g.D.Disk.files c.args.disk.now).pkg c.args.db.now.store in
-    subst (λ (r : Result Header FileFault). IndexTurn s (put_installed c.args.how.number j c.args.path.now r).changes c.put_refused.result)
-    (sym (own_fault said c.in-Err.fault (sym c.in-None.ensures) (c.in-Err.ensures.gives shelf_told)))
-    (line_turn s c.put_refused.result c.put_refused.ensures.kinds)
-
 pub returns-in-None-clause-whole : goal.returns-in-None-clause-whole
 returns-in-None-clause-whole g c = λ told whole.
     let f = g.D.Disk.files c.args.disk.now in
-    let s = state f.pkg c.args.db.now.store in
-    whole_turn f f s [] c.put_refused.result refl whole (line_turn s c.put_refused.result c.put_refused.ensures.kinds)
+    whole_turn f f c.put_refused.result refl whole (line_unbroken c.put_refused.result c.put_refused.ensures.kinds)
 
 pub returns-in-None-clause-limits : goal.returns-in-None-clause-limits
-returns-in-None-clause-limits g c = λ told shelf_told j.
+returns-in-None-clause-limits g c = λ told shelf_told j i rows.
     let said = as_installed c.args.how.moment (package_header (left (g.S.Shelf.rest c.args.shelf.now))) in
     let s = state (g.D.Disk.files c.args.disk.now).pkg c.args.db.now.store in
-    subst (λ (r : Result Header FileFault). LimitsTurn s c.args.db.now.store c.args.db.now.store
+    subst (λ (r : Result Header FileFault). LimitsTurn i s c.args.db.now.store c.args.db.now.store
     (put_installed c.args.how.number j c.args.path.now r).changes c.put_refused.result)
     (sym (own_fault said c.in-Err.fault (sym c.in-None.ensures) (c.in-Err.ensures.gives shelf_told)))
-    (line_limits s c.args.db.now.store c.args.db.now.store c.args.db.now.store.spare c.put_refused.result refl c.put_refused.ensures.kinds)
+    (line_limits i s c.args.db.now.store c.args.db.now.store c.args.db.now.store.spare c.put_refused.result refl c.put_refused.ensures.kinds)
 
 pub returns-in-None-clause-kinds : goal.returns-in-None-clause-kinds
 returns-in-None-clause-kinds g c = lines_putting c.args.how.number c.put_refused.result c.put_refused.ensures.kinds

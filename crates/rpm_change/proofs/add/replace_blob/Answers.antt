@@ -6,7 +6,7 @@ use Rattle.rpm_change.specs.Endings.{outputs}
 use Rattle.rpm_change.specs.Steps.{changing}
 use Rattle.rpm_change.proofs.Courses.{through_none}
 use Rattle.rpm_change.proofs.Erased.{refused_ended}
-use Rattle.rpm_change.proofs.Placed.{one_turn, put_ends, put_kinds}
+use Rattle.rpm_change.proofs.Placed.{put_ends, put_kinds}
 use Rattle.rpm_change.specs.inner.Single.{one_made, one_refused, put_fault}
 use Rattle.rpm_change.proofs.Wholes.{whole_halt}
 use Rattle.rpm_change.proofs.add.replace_blob.Goals as goal
@@ -20,14 +20,12 @@ returns-in-Ok-clause-ended g c = λ told out_tells err_tells out err.
       state_is = c.in-Ok.ensures.state told (read_again c.args.blob.now) c.requires.own;
     }
 
-pub returns-in-Ok-clause-room : goal.returns-in-Ok-clause-room
-returns-in-Ok-clause-room g c = λ told rows. (c.in-Ok.ensures.full told c.requires.going rows (read_again c.args.blob.now) c.requires.own, tt)
-
 pub returns-in-Ok-clause-limits : goal.returns-in-Ok-clause-limits
-returns-in-Ok-clause-limits g c = λ told.
+returns-in-Ok-clause-limits g c = λ told i rows.
     let done = c.in-Ok.ensures in
-    one_made (state (g.D.Disk.files c.args.disk.now).pkg c.args.db.now.store) (Put c.args.number c.args.blob.now) c.args.db.now.store c.put.new.self.store
+    one_made i (state (g.D.Disk.files c.args.disk.now).pkg c.args.db.now.store) (Put c.args.number c.args.blob.now) c.args.db.now.store c.put.new.self.store
     (record { failed = 0; changes = 1 }) tt done.causes.1.later.0 (done.placed (read_again c.args.blob.now) c.requires.own) done.generation
+    (λ is. done.full told c.requires.going (rows is) (read_again c.args.blob.now) c.requires.own)
 
 pub halt_of-requires : goal.halt_of-requires
 halt_of-requires g c = put_ends _ c.args.db.now c.args.number c.args.blob.now c.in-Err.fault c.requires.going c.requires.own c.requires.held
@@ -41,23 +39,18 @@ returns-in-Err-clause-ended g c = λ told out_tells err_tells out err.
     rw c.halt_of.ensures (refused_ended (changing (Put c.args.number c.args.blob.now)) s t c.in-Err.fault now now
     (through_none {ot = out_tells} {et = err_tells} out err))
 
-pub returns-in-Err-clause-room : goal.returns-in-Err-clause-room
-returns-in-Err-clause-room g c = λ told rows.
-    rw c.halt_of.ensures
-    (one_turn (state (g.D.Disk.files c.args.disk.now).pkg c.args.db.now.store) (Put c.args.number c.args.blob.now) c.in-Err.fault
-    (c.in-Err.ensures.full told c.requires.going rows (read_again c.args.blob.now) c.requires.own))
-
 pub returns-in-Err-clause-whole : goal.returns-in-Err-clause-whole
 returns-in-Err-clause-whole g c = λ told whole.
     rw c.halt_of.ensures (whole_halt (g.D.Disk.files c.put.new.disk).idx c.in-Err.fault (c.in-Err.ensures.whole told whole))
 
 pub returns-in-Err-clause-limits : goal.returns-in-Err-clause-limits
-returns-in-Err-clause-limits g c = λ told.
+returns-in-Err-clause-limits g c = λ told i rows.
     let s = state (g.D.Disk.files c.args.disk.now).pkg c.args.db.now.store in
     rw c.halt_of.ensures
-    (one_refused s (Put c.args.number c.args.blob.now) c.args.db.now.store c.put.new.self.store c.in-Err.fault
-    (put_fault _ c.args.db.now s c.args.number c.args.blob.now c.args.blob.now c.in-Err.fault c.in-Err.ensures.causes
-    (c.in-Err.ensures.placed (read_again c.args.blob.now) c.requires.own)))
+    (one_refused i s (Put c.args.number c.args.blob.now) c.args.db.now.store c.put.new.self.store c.in-Err.fault
+    (put_fault i _ c.args.db.now s c.args.number c.args.blob.now c.args.blob.now c.in-Err.fault c.in-Err.ensures.causes
+    (c.in-Err.ensures.placed (read_again c.args.blob.now) c.requires.own)
+    (λ is. c.in-Err.ensures.full told c.requires.going (rows is) (read_again c.args.blob.now) c.requires.own)))
 
 pub returns-in-Err-clause-kinds : goal.returns-in-Err-clause-kinds
 returns-in-Err-clause-kinds g c = rw c.halt_of.ensures (put_kinds _ c.args.db.now c.args.number c.args.blob.now c.in-Err.fault c.in-Err.ensures.causes)

@@ -1,13 +1,12 @@
 mod Stopped
 use Rattle.std.proofs.Common.{◌+◌, true, [], get_or, drop, refl, ◌∙◌, arith}
 use Rattle.rpm_outside.specs.Buffered.{inner}
-use Rattle.rpm_db.specs.Database.{IsIndexed}
 use Rattle.rpm_db.specs.State.{state}
 use Rattle.rpm_db.specs.inner.Running.{runs_none, runs_then}
 use Rattle.rpm_db.specs.inner.Writes.{SameLog}
 use Rattle.rpm_change.specs.Steps.{in_turn}
 use Rattle.rpm_change.specs.Erasing.{erase_one, erase}
-use Rattle.rpm_change.proofs.Courses.{halfway_start, halfway_more, halfway_end, halfway_room}
+use Rattle.rpm_change.proofs.Courses.{halfway_start, halfway_more, halfway_end}
 use Rattle.rpm_change.proofs.Arguments.{turn_next, turn_none}
 use Rattle.rpm_change.proofs.Limits.{limited_start, limited_more, limited_end}
 use Rattle.rpm_change.proofs.erase.erase_numbers.Answers.Stopped as stopped
@@ -17,11 +16,10 @@ pub loop-number-init : goal.loop-number-init
 loop-number-init g c = record {
   goes = λ told out_tells out.
       let s = state (g.D.Disk.files c.args.disk.now).pkg c.args.db.now.store in
-      halfway_start out_tells g.E.Sink.tells (IsIndexed (g.D.Disk.files c.args.disk.now).pkg (g.D.Disk.files c.args.disk.now).idx c.args.db.now)
-      (erase s c.args.numbers.now) s out (g.E.Sink.taken (inner c.args.err.now));
-  limited = λ told.
+      halfway_start out_tells g.E.Sink.tells (erase s c.args.numbers.now) s out (g.E.Sink.taken (inner c.args.err.now));
+  limited = λ told i rows.
       let s = state (g.D.Disk.files c.args.disk.now).pkg c.args.db.now.store in
-      limited_start (erase s c.args.numbers.now) s c.args.db.now.store;
+      limited_start i (erase s c.args.numbers.now) s c.args.db.now.store;
   few = refl;
   whole = λ told whole. whole;
   carried = record { going = c.requires.going; serving = c.requires.serving; index = λ told rows. rows };
@@ -42,19 +40,18 @@ loop-number-preserved g c =
     let s = state (g.D.Disk.files c.args.disk.now).pkg c.args.db.now.store in
     let t = state (g.D.Disk.files c.loop-number.disk).pkg c.loop-number.db.store in
     let u = state (g.D.Disk.files c.erase_one.new.disk).pkg c.erase_one.new.db.store in
-    let P = IsIndexed (g.D.Disk.files c.args.disk.now).pkg (g.D.Disk.files c.args.disk.now).idx c.args.db.now in
     record {
       goes = λ told out_tells out.
           let turn = erase_one t k (get_or xs k 0) in
           let ended = done.ended told k out_tells out in
-          halfway_more out_tells g.E.Sink.tells P (erase s xs) (in_turn erase_one t k (drop k xs)) turn (in_turn erase_one u (k + 1) (drop (k + 1) xs)) s t u
+          halfway_more out_tells g.E.Sink.tells (erase s xs) (in_turn erase_one t k (drop k xs)) turn (in_turn erase_one u (k + 1) (drop (k + 1) xs)) s t u
           c.loop-number.failed c.loop-number.changes out out out (g.E.Sink.taken (inner c.args.err.now)) (g.E.Sink.taken (inner c.loop-number.err))
           (g.E.Sink.taken (inner c.erase_one.new.err)) (turn_next erase_one xs k 0 t u (omega arith) ended.state_is) (inv.goes told out_tells out)
-          c.in-Ok.tally ended (λ rows. done.room told (inv.carried.index told rows) k);
-      limited = λ told.
+          c.in-Ok.tally ended;
+      limited = λ told i rows.
           let after = (done.ended told k true []).state_is in
-          limited_more _ _ _ (in_turn erase_one u (k + 1) (drop (k + 1) xs)) _ _ _ _ _ (turn_next erase_one xs k 0 t u (omega arith) after)
-          (inv.limited told) u c.in-Ok.tally after (done.limits told k);
+          limited_more i _ _ _ (in_turn erase_one u (k + 1) (drop (k + 1) xs)) _ _ _ _ _ (turn_next erase_one xs k 0 t u (omega arith) after)
+          (inv.limited told i rows) u c.in-Ok.tally after (done.limits told k i (λ is. inv.carried.index told (rows is)));
       few = omega (arith, inv.few, done.one);
       whole = λ told whole. done.whole told (inv.whole told whole);
       carried = record {
@@ -77,14 +74,8 @@ loop-number-preserved g c =
 pub returns-in-Err-clause-ended : goal.returns-in-Err-clause-ended
 returns-in-Err-clause-ended = stopped.returns-in-Err-clause-ended
 
-pub returns-in-Err-clause-room : goal.returns-in-Err-clause-room
-returns-in-Err-clause-room = stopped.returns-in-Err-clause-room
-
-pub returns-in-Err-clause-generation : goal.returns-in-Err-clause-generation
-returns-in-Err-clause-generation = stopped.returns-in-Err-clause-generation
-
-pub returns-in-Err-clause-store_room : goal.returns-in-Err-clause-store_room
-returns-in-Err-clause-store_room = stopped.returns-in-Err-clause-store_room
+pub returns-in-Err-clause-limits : goal.returns-in-Err-clause-limits
+returns-in-Err-clause-limits = stopped.returns-in-Err-clause-limits
 
 pub returns-in-Err-clause-runs : goal.returns-in-Err-clause-runs
 returns-in-Err-clause-runs = stopped.returns-in-Err-clause-runs
@@ -95,28 +86,11 @@ returns-clause-ended g c = λ told out_tells out.
     let xs = c.args.numbers.now in
     let s = state (g.D.Disk.files c.args.disk.now).pkg c.args.db.now.store in
     let t = state (g.D.Disk.files c.loop-number.disk).pkg c.loop-number.db.store in
-    let P = IsIndexed (g.D.Disk.files c.args.disk.now).pkg (g.D.Disk.files c.args.disk.now).idx c.args.db.now in
-    halfway_end out_tells g.E.Sink.tells P (erase s xs) (in_turn erase_one t k (drop k xs)) s t c.loop-number.failed c.loop-number.changes out out
+    halfway_end out_tells g.E.Sink.tells (erase s xs) (in_turn erase_one t k (drop k xs)) s t c.loop-number.failed c.loop-number.changes out out
     (g.E.Sink.taken (inner c.args.err.now)) (g.E.Sink.taken (inner c.loop-number.err)) (turn_none erase_one xs k t (omega arith))
     (c.loop-number.invariant.goes told out_tells out)
 
-pub returns-clause-room : goal.returns-clause-room
-returns-clause-room g c = λ told rows.
-    let k = c.loop-number.number-index in
-    let xs = c.args.numbers.now in
-    let s = state (g.D.Disk.files c.args.disk.now).pkg c.args.db.now.store in
-    let t = state (g.D.Disk.files c.loop-number.disk).pkg c.loop-number.db.store in
-    let P = IsIndexed (g.D.Disk.files c.args.disk.now).pkg (g.D.Disk.files c.args.disk.now).idx c.args.db.now in
-    halfway_room true g.E.Sink.tells P (erase s xs) (in_turn erase_one t k (drop k xs)) s t c.loop-number.failed c.loop-number.changes [] []
-    (g.E.Sink.taken (inner c.args.err.now)) (g.E.Sink.taken (inner c.loop-number.err)) (turn_none erase_one xs k t (omega arith))
-    (c.loop-number.invariant.goes told true []) rows
-
-pub returns-clause-generation : goal.returns-clause-generation
-returns-clause-generation g c = λ told.
-    (limited_end _ _ _ _ _ _ (record { failed = c.loop-number.failed; changes = c.loop-number.changes })
-    (turn_none erase_one c.args.numbers.now c.loop-number.number-index _ (omega arith)) (c.loop-number.invariant.limited told)).generation
-
-pub returns-clause-store_room : goal.returns-clause-store_room
-returns-clause-store_room g c = λ told.
-    (limited_end _ _ _ _ _ _ (record { failed = c.loop-number.failed; changes = c.loop-number.changes })
-    (turn_none erase_one c.args.numbers.now c.loop-number.number-index _ (omega arith)) (c.loop-number.invariant.limited told)).store_room
+pub returns-clause-limits : goal.returns-clause-limits
+returns-clause-limits g c = λ told i rows.
+    limited_end i _ _ _ _ _ _ (record { failed = c.loop-number.failed; changes = c.loop-number.changes })
+    (turn_none erase_one c.args.numbers.now c.loop-number.number-index _ (omega arith)) (c.loop-number.invariant.limited told i rows)

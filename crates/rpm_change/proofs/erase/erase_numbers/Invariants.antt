@@ -16,12 +16,12 @@ use Rattle.rpm_change.proofs.erase.erase_numbers.Given as goal
 abbrev pub invariant-loop-number : goal.invariant-loop-number
 invariant-loop-number g l = record {
   goes : IsTrue g.D.Disk.tells → (out_tells : Bool) (out : List ℕ) → Halfway out_tells g.E.Sink.tells
-      (IsIndexed (g.D.Disk.files l.initial.disk).pkg (g.D.Disk.files l.initial.disk).idx l.initial.db)
       (erase (state (g.D.Disk.files l.initial.disk).pkg l.initial.db.store) l.numbers)
       (in_turn erase_one (state (g.D.Disk.files l.disk).pkg l.db.store) l.number-index (drop l.number-index l.numbers))
       (state (g.D.Disk.files l.initial.disk).pkg l.initial.db.store) (state (g.D.Disk.files l.disk).pkg l.db.store) l.failed l.changes out out
       (g.E.Sink.taken (inner l.initial.err)) (g.E.Sink.taken (inner l.err));
-  limited : IsTrue g.D.Disk.tells → Limited (erase (state (g.D.Disk.files l.initial.disk).pkg l.initial.db.store) l.numbers)
+  limited : IsTrue g.D.Disk.tells → (indexed : Bool)
+      → (indexed ≡ true → IsIndexed (g.D.Disk.files l.initial.disk).pkg (g.D.Disk.files l.initial.disk).idx l.initial.db) → Limited indexed (erase (state (g.D.Disk.files l.initial.disk).pkg l.initial.db.store) l.numbers)
       (in_turn erase_one (state (g.D.Disk.files l.disk).pkg l.db.store) l.number-index (drop l.number-index l.numbers))
       (state (g.D.Disk.files l.initial.disk).pkg l.initial.db.store) (state (g.D.Disk.files l.disk).pkg l.db.store) l.initial.db.store l.db.store;
   few : l.failed + l.changes ≡ l.number-index;

@@ -4,14 +4,14 @@ use Rattle.rpm_db.specs.Changes.{Erase}
 use Rattle.rpm_db.specs.Database.{Database}
 use Rattle.rpm_db.specs.State.{State, state}
 use Rattle.rpm_change.specs.Steps.{Course}
-use Rattle.rpm_change.specs.Endings.{outputs, Done, Ended, IndexTurn}
+use Rattle.rpm_change.specs.Endings.{outputs, Done, Ended}
 use Rattle.rpm_change.specs.Erasing.{erase_one}
 use Rattle.rpm_change.specs.Limits.{LimitsTurn}
 use Rattle.rpm_change.proofs.Courses.{through_none}
-use Rattle.rpm_change.proofs.Erased.{erase_held, erase_missing, state_same, line_turn, refused_ended, erase_kinds, refused_turn, erase_limits}
+use Rattle.rpm_change.proofs.Erased.{erase_held, erase_missing, state_same, refused_ended, erase_kinds, erase_limits}
 use Rattle.rpm_change.specs.inner.Single.{one_made}
 use Rattle.rpm_change.proofs.Unchanged.{line_limits}
-use Rattle.rpm_change.proofs.Wholes.{whole_turn, whole_halt}
+use Rattle.rpm_change.proofs.Wholes.{whole_turn, whole_halt, line_unbroken}
 use Rattle.rpm_change.proofs.erase.erase_one.Goals as goal
 
 pub returns-in-Ok-clause-ended : goal.returns-in-Ok-clause-ended
@@ -30,14 +30,14 @@ returns-in-Ok-clause-ended g c = λ told j out_tells out.
     })
 
 pub returns-in-Ok-clause-limits : goal.returns-in-Ok-clause-limits
-returns-in-Ok-clause-limits g c = λ told j.
+returns-in-Ok-clause-limits g c = λ told j i rows.
     let file = (g.D.Disk.files c.args.disk.now).pkg in
     let s = state file c.args.db.now.store in
     let done = c.in-Ok.ensures in
-    subst (λ (x : Course). LimitsTurn s c.args.db.now.store c.erase.new.self.store x.changes (Ok (record { failed = 0; changes = 1 })))
+    subst (λ (x : Course). LimitsTurn i s c.args.db.now.store c.erase.new.self.store x.changes (Ok (record { failed = 0; changes = 1 })))
     (sym (erase_held file c.args.db.now j c.args.number done.causes.1))
-    (one_made s (Erase c.args.number) c.args.db.now.store c.erase.new.self.store (record { failed = 0; changes = 1 }) tt done.causes.2.0 done.placed
-    done.generation)
+    (one_made i s (Erase c.args.number) c.args.db.now.store c.erase.new.self.store (record { failed = 0; changes = 1 }) tt done.causes.2.0 done.placed
+    done.generation (λ is. done.full told c.requires.going (rows is)))
 
 pub returns-in-Err-NoSuch-clause-ended : goal.returns-in-Err-NoSuch-clause-ended
 returns-in-Err-NoSuch-clause-ended g c = λ told j out_tells out.
@@ -53,29 +53,20 @@ returns-in-Err-NoSuch-clause-ended g c = λ told j out_tells out.
     subst (λ (t : State). Ended (erase_one s j c.args.number) s t c.put_missing.result old new) (sym stays)
     (subst (λ (x : Course). Ended x s s c.put_missing.result old new) (sym (erase_missing file c.args.db.now j c.args.number said.causes.1)) line)
 
-pub returns-in-Err-NoSuch-clause-room : goal.returns-in-Err-NoSuch-clause-room
-returns-in-Err-NoSuch-clause-room g c = λ told indexed j.
-    let file = (g.D.Disk.files c.args.disk.now).pkg in
-    let s = state file c.args.db.now.store in
-    let said = rw c.in-Err-NoSuch.field-0-is at c.in-Err-NoSuch.ensures in
-    subst (λ (x : Course). IndexTurn s x.changes c.put_missing.result) (sym (erase_missing file c.args.db.now j c.args.number said.causes.1))
-    (line_turn s c.put_missing.result c.put_missing.ensures.kinds)
-
 pub returns-in-Err-NoSuch-clause-whole : goal.returns-in-Err-NoSuch-clause-whole
 returns-in-Err-NoSuch-clause-whole g c = λ told whole.
-    let s = state (g.D.Disk.files c.args.disk.now).pkg c.args.db.now.store in
     let said = rw c.in-Err-NoSuch.field-0-is at c.in-Err-NoSuch.ensures in
-    whole_turn (g.D.Disk.files c.args.disk.now) (g.D.Disk.files c.erase.new.disk) s [] c.put_missing.result ((said.same tt).reads_as told) whole
-    (line_turn s c.put_missing.result c.put_missing.ensures.kinds)
+    whole_turn (g.D.Disk.files c.args.disk.now) (g.D.Disk.files c.erase.new.disk) c.put_missing.result ((said.same tt).reads_as told) whole
+    (line_unbroken c.put_missing.result c.put_missing.ensures.kinds)
 
 pub returns-in-Err-NoSuch-clause-limits : goal.returns-in-Err-NoSuch-clause-limits
-returns-in-Err-NoSuch-clause-limits g c = λ told j.
+returns-in-Err-NoSuch-clause-limits g c = λ told j i rows.
     let file = (g.D.Disk.files c.args.disk.now).pkg in
     let s = state file c.args.db.now.store in
     let said = rw c.in-Err-NoSuch.field-0-is at c.in-Err-NoSuch.ensures in
-    subst (λ (x : Course). LimitsTurn s c.args.db.now.store c.erase.new.self.store x.changes c.put_missing.result)
+    subst (λ (x : Course). LimitsTurn i s c.args.db.now.store c.erase.new.self.store x.changes c.put_missing.result)
     (sym (erase_missing file c.args.db.now j c.args.number said.causes.1))
-    (line_limits s c.args.db.now.store c.erase.new.self.store c.args.db.now.store.spare c.put_missing.result
+    (line_limits i s c.args.db.now.store c.erase.new.self.store c.args.db.now.store.spare c.put_missing.result
     (ap (λ (db : Database). db.store) (said.refused tt)) c.put_missing.ensures.kinds)
 
 pub returns-in-Err-clause-ended : goal.returns-in-Err-clause-ended
@@ -86,20 +77,15 @@ returns-in-Err-clause-ended g c = λ told j out_tells out.
     (refused_ended (erase_one s j c.args.number) s s c.in-Err.fault now now
     (through_none {ot = out_tells} {et = g.E.Sink.tells} out (g.E.Sink.taken (inner c.args.err.now))))
 
-pub returns-in-Err-clause-room : goal.returns-in-Err-clause-room
-returns-in-Err-clause-room g c = λ told indexed j.
-    rw c.halt_of.ensures
-    (refused_turn (g.D.Disk.files c.args.disk.now).pkg c.args.db.now j c.args.number c.in-Err.fault c.in-Err.ensures.causes
-    (c.in-Err.ensures.full told c.requires.going indexed))
-
 pub returns-in-Err-clause-whole : goal.returns-in-Err-clause-whole
 returns-in-Err-clause-whole g c = λ told whole.
     rw c.halt_of.ensures (whole_halt (g.D.Disk.files c.erase.new.disk).idx c.in-Err.fault (c.in-Err.ensures.whole told whole))
 
 pub returns-in-Err-clause-limits : goal.returns-in-Err-clause-limits
-returns-in-Err-clause-limits g c = λ told j.
+returns-in-Err-clause-limits g c = λ told j i rows.
     rw c.halt_of.ensures
-    (erase_limits (g.D.Disk.files c.args.disk.now).pkg c.args.db.now j c.args.number c.erase.new.self.store c.in-Err.fault c.in-Err.ensures.causes)
+    (erase_limits i (g.D.Disk.files c.args.disk.now).pkg c.args.db.now j c.args.number c.erase.new.self.store c.in-Err.fault c.in-Err.ensures.causes
+    (λ is. c.in-Err.ensures.full told c.requires.going (rows is)))
 
 pub returns-in-Err-clause-kinds : goal.returns-in-Err-clause-kinds
 returns-in-Err-clause-kinds g c = rw c.halt_of.ensures (erase_kinds c.args.db.now c.args.number c.in-Err.fault c.in-Err.ensures.causes)

@@ -4,14 +4,13 @@ use Rattle.rpm_file.specs.declared.fault.ListFault.{ListFault}
 use Rattle.rpm_file.specs.Answers.{IsListFault}
 use Rattle.rpm_file.specs.List.{Found}
 use Rattle.rpm_change.specs.declared.tally.Halt.TheVariants as halt
-use Rattle.rpm_change.specs.Endings.{outputs, Ended, IndexTurn}
+use Rattle.rpm_change.specs.Endings.{outputs, Ended}
 use Rattle.rpm_change.specs.Importing.{place_fails}
 use Rattle.rpm_change.specs.Limits.{LimitsTurn}
 use Rattle.rpm_change.specs.Turns.{turn, Leaves}
 use Rattle.rpm_change.proofs.Courses.{through_none}
-use Rattle.rpm_change.proofs.Erased.{line_turn}
 use Rattle.rpm_change.proofs.Unchanged.{line_limits}
-use Rattle.rpm_change.proofs.Turned.{line_most, line_kinds, lines_only, of_list, stop_ended, stop_turn, stop_limits, stop_kinds, stop_err, stop_read}
+use Rattle.rpm_change.proofs.Turned.{line_most, line_kinds, lines_only, of_list, stop_ended, stop_limits, stop_kinds, stop_err, stop_read}
 use Rattle.rpm_change.proofs.Imported.{any_ok}
 use Rattle.rpm_change.proofs.import.end_list.Goals as goal
 
@@ -23,12 +22,9 @@ returns-in-Some-clause-ended g c = λ most head is s ot o.
     stop_ended c.args.fault c.in-Some.halt c.in-Some.ensures (turn most c.args.place head) s s now now
     (through_none {ot = ot} {et = g.E.Sink.tells} o (g.E.Sink.taken (inner c.args.err.now)))
 
-pub returns-in-Some-clause-room : goal.returns-in-Some-clause-room
-returns-in-Some-clause-room g c = λ most head is s. stop_turn c.args.fault c.in-Some.halt c.in-Some.ensures s (turn most c.args.place head).changes
-
 pub returns-in-Some-clause-limits : goal.returns-in-Some-clause-limits
-returns-in-Some-clause-limits g c = λ most head is s v.
-    stop_limits c.args.fault c.in-Some.halt c.in-Some.ensures s v v (turn most c.args.place head).changes
+returns-in-Some-clause-limits g c = λ most head is s v i.
+    stop_limits c.args.fault c.in-Some.halt c.in-Some.ensures i s v v (turn most c.args.place head).changes
 
 pub returns-in-Some-clause-kinds : goal.returns-in-Some-clause-kinds
 returns-in-Some-clause-kinds g c = stop_kinds c.args.fault c.in-Some.halt c.in-Some.ensures
@@ -53,15 +49,10 @@ returns-in-None-clause-ended g c = λ most head is s ot o.
     (subst (λ (text : List ℕ). Ended (place_fails c.args.place text) s s c.put_place.result old new) c.list_text.ensures
     (c.put_place.ensures.ended s ot o))
 
-pub returns-in-None-clause-room : goal.returns-in-None-clause-room
-returns-in-None-clause-room g c = λ most head is s.
-    subst (λ (r : Result (Option Found) ListFault). IndexTurn s (turn most c.args.place r).changes c.put_place.result)
-    (sym (of_list head c.args.fault c.in-None.ensures is)) (line_turn s c.put_place.result c.put_place.ensures.kinds)
-
 pub returns-in-None-clause-limits : goal.returns-in-None-clause-limits
-returns-in-None-clause-limits g c = λ most head is s v.
-    subst (λ (r : Result (Option Found) ListFault). LimitsTurn s v v (turn most c.args.place r).changes c.put_place.result)
-    (sym (of_list head c.args.fault c.in-None.ensures is)) (line_limits s v v v.spare c.put_place.result refl c.put_place.ensures.kinds)
+returns-in-None-clause-limits g c = λ most head is s v i.
+    subst (λ (r : Result (Option Found) ListFault). LimitsTurn i s v v (turn most c.args.place r).changes c.put_place.result)
+    (sym (of_list head c.args.fault c.in-None.ensures is)) (line_limits i s v v v.spare c.put_place.result refl c.put_place.ensures.kinds)
 
 pub returns-in-None-clause-leaves : goal.returns-in-None-clause-leaves
 returns-in-None-clause-leaves g c =

@@ -1,4 +1,4 @@
-use Rattle.std.proofs.Common.{Ok, refl, sym, subst, ap, ◌∙◌, []}
+use Rattle.std.proofs.Common.{Ok, refl, sym, subst, ap, ◌∙◌}
 use Rattle.rpm_outside.specs.Buffered.{inner}
 use Rattle.rpm_header.specs.Header.{header}
 use Rattle.rpm_db.specs.Changes.{Add}
@@ -6,15 +6,15 @@ use Rattle.rpm_db.specs.Database.{Database}
 use Rattle.rpm_db.specs.State.{State, state}
 use Rattle.rpm_db.specs.inner.States.{next-state}
 use Rattle.rpm_change.specs.Steps.{Course}
-use Rattle.rpm_change.specs.Endings.{outputs, Done, Ended, IsCarried, IndexTurn}
+use Rattle.rpm_change.specs.Endings.{outputs, Done, Ended, IsCarried}
 use Rattle.rpm_change.specs.Importing.{imported}
 use Rattle.rpm_change.specs.Limits.{LimitsTurn}
 use Rattle.rpm_change.proofs.Courses.{through_none}
-use Rattle.rpm_change.proofs.Erased.{line_turn, refused_ended}
-use Rattle.rpm_change.proofs.Imported.{imported_good, state_room, indexed_room, any_ok, add_turn, add_kinds, add_limits}
+use Rattle.rpm_change.proofs.Erased.{refused_ended}
+use Rattle.rpm_change.proofs.Imported.{imported_good, state_room, indexed_room, any_ok, add_kinds, add_limits}
 use Rattle.rpm_change.specs.inner.Single.{one_made}
 use Rattle.rpm_change.proofs.Unchanged.{line_limits}
-use Rattle.rpm_change.proofs.Wholes.{whole_turn, whole_halt}
+use Rattle.rpm_change.proofs.Wholes.{whole_turn, whole_halt, line_unbroken}
 use Rattle.rpm_change.proofs.import.import_header.Goals as goal
 
 pub returns-in-Ok-clause-ended : goal.returns-in-Ok-clause-ended
@@ -32,25 +32,17 @@ returns-in-Ok-clause-ended g c = λ told out_tells out.
       state_is = c.in-Ok.ensures.state told put.own put.read;
     })
 
-pub returns-in-Ok-clause-room : goal.returns-in-Ok-clause-room
-returns-in-Ok-clause-room g c = λ told indexed.
-    let s = state (g.D.Disk.files c.args.disk.now).pkg c.args.db.now.store in
-    let put = c.in-Ok.ensures.causes.1 in
-    subst (λ (x : Course). IndexTurn s x.changes (Ok (record { failed = 0; changes = 1 })))
-    (sym (imported_good c.args.place c.args.blob.now put.own put.read))
-    (c.in-Ok.ensures.full told c.requires.going indexed put.own put.read, tt)
-
 pub returns-in-Ok-clause-limits : goal.returns-in-Ok-clause-limits
-returns-in-Ok-clause-limits g c = λ told.
+returns-in-Ok-clause-limits g c = λ told i rows.
     let file = (g.D.Disk.files c.args.disk.now).pkg in
     let s = state file c.args.db.now.store in
     let done = c.in-Ok.ensures in
     let put = done.causes.1 in
-    subst (λ (x : Course). LimitsTurn s c.args.db.now.store c.add.new.self.store x.changes (Ok (record { failed = 0; changes = 1 })))
+    subst (λ (x : Course). LimitsTurn i s c.args.db.now.store c.add.new.self.store x.changes (Ok (record { failed = 0; changes = 1 })))
     (sym (imported_good c.args.place c.args.blob.now put.own put.read))
-    (one_made s (Add put.own.blob) c.args.db.now.store c.add.new.self.store (record { failed = 0; changes = 1 })
+    (one_made i s (Add put.own.blob) c.args.db.now.store c.add.new.self.store (record { failed = 0; changes = 1 })
     (λ is. done.causes.0 (sym (next-state file c.args.db.now.store) ∙ is)) put.later.0 (done.placed put.own put.read)
-    done.generation)
+    done.generation (λ is. done.full told c.requires.going (rows is) put.own put.read))
 
 pub returns-in-Err-BadHeader-clause-ended : goal.returns-in-Err-BadHeader-clause-ended
 returns-in-Err-BadHeader-clause-ended g c = λ told out_tells out.
@@ -64,27 +56,19 @@ returns-in-Err-BadHeader-clause-ended g c = λ told out_tells out.
     subst (λ (t : State). Ended (imported c.args.place (header c.args.blob.now)) s t c.put_bad_header.result old new) (sym stays)
     (subst (λ (x : Course). Ended x s s c.put_bad_header.result old new) (sym (ap (imported c.args.place) said.causes.1)) line)
 
-pub returns-in-Err-BadHeader-clause-room : goal.returns-in-Err-BadHeader-clause-room
-returns-in-Err-BadHeader-clause-room g c = λ told indexed.
-    let s = state (g.D.Disk.files c.args.disk.now).pkg c.args.db.now.store in
-    let said = rw c.in-Err-BadHeader.field-0-is at c.in-Err-BadHeader.ensures in
-    subst (λ (x : Course). IndexTurn s x.changes c.put_bad_header.result) (sym (ap (imported c.args.place) said.causes.1))
-    (line_turn s c.put_bad_header.result c.put_bad_header.ensures.kinds)
-
 pub returns-in-Err-BadHeader-clause-whole : goal.returns-in-Err-BadHeader-clause-whole
 returns-in-Err-BadHeader-clause-whole g c = λ told whole.
-    let s = state (g.D.Disk.files c.args.disk.now).pkg c.args.db.now.store in
     let said = rw c.in-Err-BadHeader.field-0-is at c.in-Err-BadHeader.ensures in
-    whole_turn (g.D.Disk.files c.args.disk.now) (g.D.Disk.files c.add.new.disk) s [] c.put_bad_header.result ((said.same tt).reads_as told) whole
-    (line_turn s c.put_bad_header.result c.put_bad_header.ensures.kinds)
+    whole_turn (g.D.Disk.files c.args.disk.now) (g.D.Disk.files c.add.new.disk) c.put_bad_header.result ((said.same tt).reads_as told) whole
+    (line_unbroken c.put_bad_header.result c.put_bad_header.ensures.kinds)
 
 pub returns-in-Err-BadHeader-clause-limits : goal.returns-in-Err-BadHeader-clause-limits
-returns-in-Err-BadHeader-clause-limits g c = λ told.
+returns-in-Err-BadHeader-clause-limits g c = λ told i rows.
     let s = state (g.D.Disk.files c.args.disk.now).pkg c.args.db.now.store in
     let said = rw c.in-Err-BadHeader.field-0-is at c.in-Err-BadHeader.ensures in
-    subst (λ (x : Course). LimitsTurn s c.args.db.now.store c.add.new.self.store x.changes c.put_bad_header.result)
+    subst (λ (x : Course). LimitsTurn i s c.args.db.now.store c.add.new.self.store x.changes c.put_bad_header.result)
     (sym (ap (imported c.args.place) said.causes.1))
-    (line_limits s c.args.db.now.store c.add.new.self.store c.add.new.self.store.spare c.put_bad_header.result
+    (line_limits i s c.args.db.now.store c.add.new.self.store c.add.new.self.store.spare c.put_bad_header.result
     (ap (λ (db : Database). db.store) (said.refused tt)) c.put_bad_header.ensures.kinds)
 
 pub returns-in-Err-BadHeader-clause-carried : goal.returns-in-Err-BadHeader-clause-carried
@@ -109,22 +93,17 @@ returns-in-Err-clause-ended g c = λ told out_tells out.
     (refused_ended (imported c.args.place (header c.args.blob.now)) s t c.in-Err.fault now now
     (through_none {ot = out_tells} {et = g.E.Sink.tells} out (g.E.Sink.taken (inner c.args.err.now))))
 
-pub returns-in-Err-clause-room : goal.returns-in-Err-clause-room
-returns-in-Err-clause-room g c = λ told indexed.
-    let s = state (g.D.Disk.files c.args.disk.now).pkg c.args.db.now.store in
-    rw c.halt_of.ensures
-    (add_turn c.args.db.now s c.args.place c.args.blob.now c.in-Err.fault c.in-Err.ensures.causes (c.in-Err.ensures.full told c.requires.going indexed))
-
 pub returns-in-Err-clause-whole : goal.returns-in-Err-clause-whole
 returns-in-Err-clause-whole g c = λ told whole.
     rw c.halt_of.ensures (whole_halt (g.D.Disk.files c.add.new.disk).idx c.in-Err.fault (c.in-Err.ensures.whole told whole))
 
 pub returns-in-Err-clause-limits : goal.returns-in-Err-clause-limits
-returns-in-Err-clause-limits g c = λ told.
+returns-in-Err-clause-limits g c = λ told i rows.
     let file = (g.D.Disk.files c.args.disk.now).pkg in
     rw c.halt_of.ensures
-    (add_limits c.args.db.now (state file c.args.db.now.store) c.add.new.self.store c.args.place c.args.blob.now
-    (next-state file c.args.db.now.store) c.in-Err.fault c.in-Err.ensures.causes c.in-Err.ensures.placed)
+    (add_limits i c.args.db.now (state file c.args.db.now.store) c.add.new.self.store c.args.place c.args.blob.now
+    (next-state file c.args.db.now.store) c.in-Err.fault c.in-Err.ensures.causes c.in-Err.ensures.placed
+    (λ is. c.in-Err.ensures.full told c.requires.going (rows is)))
 
 pub returns-in-Err-clause-kinds : goal.returns-in-Err-clause-kinds
 returns-in-Err-clause-kinds g c = rw c.halt_of.ensures (add_kinds c.in-Err.fault)

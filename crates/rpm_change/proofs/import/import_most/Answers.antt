@@ -5,14 +5,13 @@ use Rattle.rpm_outside.specs.Buffered.{inner}
 use Rattle.rpm_outside.specs.Shelves.{bytes_at}
 use Rattle.rpm_db.specs.State.{state}
 use Rattle.rpm_change.specs.Steps.{Course, whole}
-use Rattle.rpm_change.specs.Endings.{outputs, Ended, IndexTurn}
+use Rattle.rpm_change.specs.Endings.{outputs, Ended}
 use Rattle.rpm_change.specs.Importing.{import_listed, listed}
 use Rattle.rpm_change.specs.Limits.{LimitsTurn}
 use Rattle.rpm_change.specs.Turns.{counted_once}
-use Rattle.rpm_change.proofs.Imported.{ended_once, turn_once, limits_once, opened_list, absent_list}
-use Rattle.rpm_change.proofs.Erased.{line_turn}
+use Rattle.rpm_change.proofs.Imported.{ended_once, limits_once, opened_list, absent_list}
 use Rattle.rpm_change.proofs.Unchanged.{line_limits}
-use Rattle.rpm_change.proofs.Wholes.{whole_turn, whole_once}
+use Rattle.rpm_change.proofs.Wholes.{whole_turn, whole_once, line_unbroken}
 use Rattle.rpm_change.proofs.import.import_most.Goals as goal
 
 pub returns-in-Ok-clause-ended : goal.returns-in-Ok-clause-ended
@@ -28,32 +27,22 @@ returns-in-Ok-clause-ended g c = λ told heard ot o.
     (sym (opened_list c.args.most found rest (c.in-Ok.ensures.opened heard).0 (c.in-Ok.ensures.opened heard).1))
     (ended_once (import_listed c.args.most (listed (left rest))) s t old new c.import_open.result (c.import_open.ensures.ended told heard ot o)))
 
-pub returns-in-Ok-clause-room : goal.returns-in-Ok-clause-room
-returns-in-Ok-clause-room g c = λ told heard rows.
-    let s = state (g.D.Disk.files c.args.disk.now).pkg c.args.db.now.store in
-    let found = bytes_at (g.S.Shelf.paths c.args.shelf.now) (codes "-") in
-    let rest = g.S.Shelf.rest c.open.new.self in
-    rw c.counted_once.ensures
-    (subst (λ (x : Course). IndexTurn s x.changes (counted_once c.import_open.result))
-    (sym (opened_list c.args.most found rest (c.in-Ok.ensures.opened heard).0 (c.in-Ok.ensures.opened heard).1))
-    (turn_once (import_listed c.args.most (listed (left rest))) s c.import_open.result (c.import_open.ensures.room told heard rows)))
-
 pub returns-in-Ok-clause-whole : goal.returns-in-Ok-clause-whole
 returns-in-Ok-clause-whole g c = λ told whole.
     rw c.counted_once.ensures
     (whole_once (g.D.Disk.files c.import_open.new.disk).idx c.import_open.result (c.import_open.ensures.whole told whole))
 
 pub returns-in-Ok-clause-limits : goal.returns-in-Ok-clause-limits
-returns-in-Ok-clause-limits g c = λ told heard.
+returns-in-Ok-clause-limits g c = λ told heard i rows.
     let s = state (g.D.Disk.files c.args.disk.now).pkg c.args.db.now.store in
     let v = c.args.db.now.store in
     let w = c.import_open.new.db.store in
     let found = bytes_at (g.S.Shelf.paths c.args.shelf.now) (codes "-") in
     let rest = g.S.Shelf.rest c.open.new.self in
     rw c.counted_once.ensures
-    (subst (λ (x : Course). LimitsTurn s v w x.changes (counted_once c.import_open.result))
+    (subst (λ (x : Course). LimitsTurn i s v w x.changes (counted_once c.import_open.result))
     (sym (opened_list c.args.most found rest (c.in-Ok.ensures.opened heard).0 (c.in-Ok.ensures.opened heard).1))
-    (limits_once (import_listed c.args.most (listed (left rest))).changes s v w c.import_open.result (c.import_open.ensures.limits told heard)))
+    (limits_once i (import_listed c.args.most (listed (left rest))).changes s v w c.import_open.result (c.import_open.ensures.limits told heard i rows)))
 
 pub returns-in-Err-clause-ended : goal.returns-in-Err-clause-ended
 returns-in-Err-clause-ended g c = λ told heard ot o.
@@ -64,23 +53,15 @@ returns-in-Err-clause-ended g c = λ told heard ot o.
     subst (λ (x : Course). Ended x s s c.put_failing.result old new) (sym (absent_list c.args.most found (c.in-Err.ensures.opened heard).1))
     (c.put_failing.ensures.ended (whole 0) s ot o)
 
-pub returns-in-Err-clause-room : goal.returns-in-Err-clause-room
-returns-in-Err-clause-room g c = λ told heard rows.
-    let s = state (g.D.Disk.files c.args.disk.now).pkg c.args.db.now.store in
-    let found = bytes_at (g.S.Shelf.paths c.args.shelf.now) (codes "-") in
-    subst (λ (x : Course). IndexTurn s x.changes c.put_failing.result) (sym (absent_list c.args.most found (c.in-Err.ensures.opened heard).1))
-    (line_turn s c.put_failing.result c.put_failing.ensures.kinds)
-
 pub returns-in-Err-clause-whole : goal.returns-in-Err-clause-whole
 returns-in-Err-clause-whole g c = λ told whole.
     let f = g.D.Disk.files c.args.disk.now in
-    let s = state f.pkg c.args.db.now.store in
-    whole_turn f f s [] c.put_failing.result refl whole (line_turn s c.put_failing.result c.put_failing.ensures.kinds)
+    whole_turn f f c.put_failing.result refl whole (line_unbroken c.put_failing.result c.put_failing.ensures.kinds)
 
 pub returns-in-Err-clause-limits : goal.returns-in-Err-clause-limits
-returns-in-Err-clause-limits g c = λ told heard.
+returns-in-Err-clause-limits g c = λ told heard i rows.
     let s = state (g.D.Disk.files c.args.disk.now).pkg c.args.db.now.store in
     let v = c.args.db.now.store in
     let found = bytes_at (g.S.Shelf.paths c.args.shelf.now) (codes "-") in
-    subst (λ (x : Course). LimitsTurn s v v x.changes c.put_failing.result) (sym (absent_list c.args.most found (c.in-Err.ensures.opened heard).1))
-    (line_limits s v v v.spare c.put_failing.result refl c.put_failing.ensures.kinds)
+    subst (λ (x : Course). LimitsTurn i s v v x.changes c.put_failing.result) (sym (absent_list c.args.most found (c.in-Err.ensures.opened heard).1))
+    (line_limits i s v v v.spare c.put_failing.result refl c.put_failing.ensures.kinds)

@@ -8,7 +8,6 @@ use Rattle.rpm_file.specs.declared.fault.ListFault.{ListFault}
 use Rattle.rpm_file.specs.List.{Found}
 use Rattle.rpm_db.specs.State.{state}
 use Rattle.rpm_change.specs.declared.tally.Halt.TheVariants as halt
-use Rattle.rpm_change.specs.Endings.{IndexTurn}
 use Rattle.rpm_change.specs.Limits.{LimitsTurn}
 use Rattle.rpm_change.specs.Steps.{Course}
 use Rattle.rpm_change.specs.Turns.{Leaves}
@@ -23,9 +22,6 @@ use Rattle.rpm_change.proofs.import.import_next.Goals as goal
 
 pub returns-in-Ok-Some-clause-ended : goal.returns-in-Ok-Some-clause-ended
 returns-in-Ok-Some-clause-ended = front.returns-in-Ok-Some-clause-ended
-
-pub returns-in-Ok-Some-clause-room : goal.returns-in-Ok-Some-clause-room
-returns-in-Ok-Some-clause-room = front.returns-in-Ok-Some-clause-room
 
 pub returns-in-Ok-Some-clause-whole : goal.returns-in-Ok-Some-clause-whole
 returns-in-Ok-Some-clause-whole g c = λ told whole. rw c.as_turn.ensures.value (c.import_within-done.ensures.whole told whole)
@@ -69,19 +65,13 @@ returns-in-Ok-None-clause-ended g c = λ told heard ot o.
     nothing_done c.args.most c.args.place _ (said.answers heard).0 (state (g.D.Disk.files c.args.disk.now).pkg c.args.db.now.store) ot g.E.Sink.tells o
     (g.E.Sink.taken (inner c.args.err.now))
 
-pub returns-in-Ok-None-clause-room : goal.returns-in-Ok-None-clause-room
-returns-in-Ok-None-clause-room g c = λ told heard rows.
-    let said = rw c.in-Ok-None.field-0-is at c.in-Ok-None.ensures in
-    at_end (λ (course : Course). IndexTurn (state (g.D.Disk.files c.args.disk.now).pkg c.args.db.now.store) course.changes
-    (Ok (record { failed = 0; changes = 0 }))) c.args.most c.args.place _ (said.answers heard).0 tt
-
 pub returns-in-Ok-None-clause-limits : goal.returns-in-Ok-None-clause-limits
-returns-in-Ok-None-clause-limits g c = λ told heard.
+returns-in-Ok-None-clause-limits g c = λ told heard i rows.
     let s = state (g.D.Disk.files c.args.disk.now).pkg c.args.db.now.store in
     let v = c.args.db.now.store in
     let said = rw c.in-Ok-None.field-0-is at c.in-Ok-None.ensures in
-    at_end (λ (course : Course). LimitsTurn s v v course.changes (Ok (record { failed = 0; changes = 0 }))) c.args.most c.args.place _ (said.answers heard).0
-    (none_made s v v v.spare (record { failed = 0; changes = 0 }) refl)
+    at_end (λ (course : Course). LimitsTurn i s v v course.changes (Ok (record { failed = 0; changes = 0 }))) c.args.most c.args.place _ (said.answers heard).0
+    (none_made i s v v v.spare (record { failed = 0; changes = 0 }) refl)
 
 pub returns-in-Ok-None-clause-leaves : goal.returns-in-Ok-None-clause-leaves
 returns-in-Ok-None-clause-leaves g c = λ heard.
@@ -96,9 +86,6 @@ returns-in-Ok-None-clause-carried g c = record { going = c.requires.going; servi
 
 pub returns-in-Err-clause-ended : goal.returns-in-Err-clause-ended
 returns-in-Err-clause-ended = fault.returns-in-Err-clause-ended
-
-pub returns-in-Err-clause-room : goal.returns-in-Err-clause-room
-returns-in-Err-clause-room = fault.returns-in-Err-clause-room
 
 pub returns-in-Err-clause-whole : goal.returns-in-Err-clause-whole
 returns-in-Err-clause-whole = fault.returns-in-Err-clause-whole

@@ -4,13 +4,12 @@ use Rattle.rpm_outside.specs.Browses.{left}
 use Rattle.rpm_outside.specs.Buffered.{inner}
 use Rattle.rpm_outside.specs.inner.Browsing.{browses_none, browses_then}
 use Rattle.rpm_file.specs.List.{list_head}
-use Rattle.rpm_db.specs.Database.{IsIndexed}
 use Rattle.rpm_db.specs.State.{state}
 use Rattle.rpm_db.specs.inner.Running.{runs_none, runs_then}
 use Rattle.rpm_db.specs.inner.Writes.{SameLog}
 use Rattle.rpm_change.specs.Importing.{import_listed, listed}
 use Rattle.rpm_change.specs.Turns.{turn, from_place}
-use Rattle.rpm_change.proofs.Courses.{halfway_start, halfway_more, halfway_end, halfway_room}
+use Rattle.rpm_change.proofs.Courses.{halfway_start, halfway_more, halfway_end}
 use Rattle.rpm_change.proofs.Limits.{limited_start, limited_more, limited_end}
 use Rattle.rpm_change.proofs.Listed.{turn_splits, within_next}
 use Rattle.rpm_change.proofs.import.import_open.Answers.Stopped as stopped
@@ -20,10 +19,9 @@ pub loop-is_last-init : goal.loop-is_last-init
 loop-is_last-init g c = record {
   goes = λ told heard out_tells out.
       let s = state (g.D.Disk.files c.args.disk.now).pkg c.args.db.now.store in
-      halfway_start out_tells g.E.Sink.tells (IsIndexed (g.D.Disk.files c.args.disk.now).pkg (g.D.Disk.files c.args.disk.now).idx c.args.db.now)
-      (import_listed c.args.most (listed (left (g.S.Shelf.rest c.args.shelf.now)))) s out (g.E.Sink.taken (inner c.args.err.now));
-  limited = λ told heard.
-      limited_start (import_listed c.args.most (listed (left (g.S.Shelf.rest c.args.shelf.now))))
+      halfway_start out_tells g.E.Sink.tells (import_listed c.args.most (listed (left (g.S.Shelf.rest c.args.shelf.now)))) s out (g.E.Sink.taken (inner c.args.err.now));
+  limited = λ told heard i rows.
+      limited_start i (import_listed c.args.most (listed (left (g.S.Shelf.rest c.args.shelf.now))))
       (state (g.D.Disk.files c.args.disk.now).pkg c.args.db.now.store) c.args.db.now.store;
   few = omega arith;
   within = λ going. omega arith;
@@ -49,7 +47,6 @@ loop-is_last-preserved g c =
     let s = state (g.D.Disk.files c.args.disk.now).pkg c.args.db.now.store in
     let t = state (g.D.Disk.files c.loop-is_last.disk).pkg c.loop-is_last.db.store in
     let u = state (g.D.Disk.files c.import_next.new.disk).pkg c.import_next.new.db.store in
-    let P = IsIndexed (g.D.Disk.files c.args.disk.now).pkg (g.D.Disk.files c.args.disk.now).idx c.args.db.now in
     let bytes = left (g.S.Shelf.rest c.loop-is_last.shelf) in
     let behind = left (g.S.Shelf.rest c.import_next.new.shelf) in
     let all = import_listed most (listed (left (g.S.Shelf.rest c.args.shelf.now))) in
@@ -57,15 +54,16 @@ loop-is_last-preserved g c =
     record {
       goes = λ told heard out_tells out.
           let ended = done.ended told heard out_tells out in
-          halfway_more out_tells g.E.Sink.tells P all (from_place false most k (listed bytes)) (turn most k (list_head bytes))
+          halfway_more out_tells g.E.Sink.tells all (from_place false most k (listed bytes)) (turn most k (list_head bytes))
           (from_place said.is_last most (k + 1) (listed behind)) s t u c.loop-is_last.failed c.loop-is_last.changes out out out
           (g.E.Sink.taken (inner c.args.err.now)) (g.E.Sink.taken (inner c.loop-is_last.err)) (g.E.Sink.taken (inner c.import_next.new.err))
           (turn_splits most k bytes said.is_last behind (done.leaves heard)) (rw going at (inv.goes told heard out_tells out))
-          said.tally ended (λ rows. done.room told heard (inv.carried.index told rows));
-      limited = λ told heard.
-          limited_more all (from_place false most k (listed bytes)) (turn most k (list_head bytes)) (from_place said.is_last most (k + 1) (listed behind)) s t
+          said.tally ended;
+      limited = λ told heard i rows.
+          limited_more i all (from_place false most k (listed bytes)) (turn most k (list_head bytes)) (from_place said.is_last most (k + 1) (listed behind)) s t
           c.args.db.now.store c.loop-is_last.db.store c.import_next.new.db.store (turn_splits most k bytes said.is_last behind (done.leaves heard))
-          (rw going at (inv.limited told heard)) u said.tally (done.ended told heard true []).state_is (done.limits told heard);
+          (rw going at (inv.limited told heard i rows)) u said.tally (done.ended told heard true []).state_is
+          (done.limits told heard i (λ is. inv.carried.index told (rows is)));
       few = omega (arith, inv.few, done.one);
       within = λ more. within_next most k said.is_last more done.last;
       below = omega (arith, inv.within going);
@@ -92,9 +90,6 @@ loop-is_last-preserved g c =
 pub returns-in-Err-clause-ended : goal.returns-in-Err-clause-ended
 returns-in-Err-clause-ended = stopped.returns-in-Err-clause-ended
 
-pub returns-in-Err-clause-room : goal.returns-in-Err-clause-room
-returns-in-Err-clause-room = stopped.returns-in-Err-clause-room
-
 pub returns-in-Err-clause-limits : goal.returns-in-Err-clause-limits
 returns-in-Err-clause-limits = stopped.returns-in-Err-clause-limits
 
@@ -111,31 +106,17 @@ returns-clause-ended g c = λ told heard out_tells out.
     let past : c.loop-is_last.is_last ≡ true = cc in
     let s = state (g.D.Disk.files c.args.disk.now).pkg c.args.db.now.store in
     let t = state (g.D.Disk.files c.loop-is_last.disk).pkg c.loop-is_last.db.store in
-    let P = IsIndexed (g.D.Disk.files c.args.disk.now).pkg (g.D.Disk.files c.args.disk.now).idx c.args.db.now in
     let bytes = left (g.S.Shelf.rest c.loop-is_last.shelf) in
-    halfway_end out_tells g.E.Sink.tells P (import_listed most (listed (left (g.S.Shelf.rest c.args.shelf.now)))) (from_place true most k (listed bytes)) s t
+    halfway_end out_tells g.E.Sink.tells (import_listed most (listed (left (g.S.Shelf.rest c.args.shelf.now)))) (from_place true most k (listed bytes)) s t
     c.loop-is_last.failed c.loop-is_last.changes out out (g.E.Sink.taken (inner c.args.err.now)) (g.E.Sink.taken (inner c.loop-is_last.err)) refl
     (rw past at (c.loop-is_last.invariant.goes told heard out_tells out))
 
-pub returns-clause-room : goal.returns-clause-room
-returns-clause-room g c = λ told heard rows.
-    let most = c.args.most in
-    let k = c.loop-is_last.place in
-    let past : c.loop-is_last.is_last ≡ true = cc in
-    let s = state (g.D.Disk.files c.args.disk.now).pkg c.args.db.now.store in
-    let t = state (g.D.Disk.files c.loop-is_last.disk).pkg c.loop-is_last.db.store in
-    let P = IsIndexed (g.D.Disk.files c.args.disk.now).pkg (g.D.Disk.files c.args.disk.now).idx c.args.db.now in
-    let bytes = left (g.S.Shelf.rest c.loop-is_last.shelf) in
-    halfway_room true g.E.Sink.tells P (import_listed most (listed (left (g.S.Shelf.rest c.args.shelf.now)))) (from_place true most k (listed bytes)) s t
-    c.loop-is_last.failed c.loop-is_last.changes [] [] (g.E.Sink.taken (inner c.args.err.now)) (g.E.Sink.taken (inner c.loop-is_last.err)) refl
-    (rw past at (c.loop-is_last.invariant.goes told heard true [])) rows
-
 pub returns-clause-limits : goal.returns-clause-limits
-returns-clause-limits g c = λ told heard.
+returns-clause-limits g c = λ told heard i rows.
     let past : c.loop-is_last.is_last ≡ true = cc in
     let s = state (g.D.Disk.files c.args.disk.now).pkg c.args.db.now.store in
     let t = state (g.D.Disk.files c.loop-is_last.disk).pkg c.loop-is_last.db.store in
     let bytes = left (g.S.Shelf.rest c.loop-is_last.shelf) in
-    limited_end (import_listed c.args.most (listed (left (g.S.Shelf.rest c.args.shelf.now))))
+    limited_end i (import_listed c.args.most (listed (left (g.S.Shelf.rest c.args.shelf.now))))
     (from_place true c.args.most c.loop-is_last.place (listed bytes)) s t c.args.db.now.store c.loop-is_last.db.store
-    (record { failed = c.loop-is_last.failed; changes = c.loop-is_last.changes }) refl (rw past at (c.loop-is_last.invariant.limited told heard))
+    (record { failed = c.loop-is_last.failed; changes = c.loop-is_last.changes }) refl (rw past at (c.loop-is_last.invariant.limited told heard i rows))

@@ -17,12 +17,12 @@ use Rattle.rpm_change.proofs.import.import_open.Given as goal
 abbrev pub invariant-loop-is_last : goal.invariant-loop-is_last
 invariant-loop-is_last g l = record {
   goes : IsTrue g.D.Disk.tells → IsTrue g.S.Shelf.tells → (out_tells : Bool) (out : List ℕ) → Halfway out_tells g.E.Sink.tells
-      (IsIndexed (g.D.Disk.files l.initial.disk).pkg (g.D.Disk.files l.initial.disk).idx l.initial.db)
       (import_listed l.most (listed (left (g.S.Shelf.rest l.initial.shelf))))
       (from_place l.is_last l.most l.place (listed (left (g.S.Shelf.rest l.shelf))))
       (state (g.D.Disk.files l.initial.disk).pkg l.initial.db.store) (state (g.D.Disk.files l.disk).pkg l.db.store) l.failed l.changes out out
       (g.E.Sink.taken (inner l.initial.err)) (g.E.Sink.taken (inner l.err));
-  limited : IsTrue g.D.Disk.tells → IsTrue g.S.Shelf.tells → Limited (import_listed l.most (listed (left (g.S.Shelf.rest l.initial.shelf))))
+  limited : IsTrue g.D.Disk.tells → IsTrue g.S.Shelf.tells → (indexed : Bool)
+      → (indexed ≡ true → IsIndexed (g.D.Disk.files l.initial.disk).pkg (g.D.Disk.files l.initial.disk).idx l.initial.db) → Limited indexed (import_listed l.most (listed (left (g.S.Shelf.rest l.initial.shelf))))
       (from_place l.is_last l.most l.place (listed (left (g.S.Shelf.rest l.shelf)))) (state (g.D.Disk.files l.initial.disk).pkg l.initial.db.store)
       (state (g.D.Disk.files l.disk).pkg l.db.store) l.initial.db.store l.db.store;
   few : l.failed + l.changes + 1 ≤ l.place;

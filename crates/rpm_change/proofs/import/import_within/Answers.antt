@@ -1,9 +1,8 @@
 use Rattle.std.proofs.Common.{◌≡◌, true, false, refl, arith, nat_lt, []}
 use Rattle.std.proofs.lemmas.Bool.Decides.{nat_tests}
 use Rattle.rpm_db.specs.State.{state}
-use Rattle.rpm_change.proofs.Erased.{line_turn}
 use Rattle.rpm_change.proofs.Unchanged.{line_limits}
-use Rattle.rpm_change.proofs.Wholes.{whole_turn}
+use Rattle.rpm_change.proofs.Wholes.{whole_turn, line_unbroken}
 use Rattle.rpm_change.proofs.import.import_within.Goals as goal
 
 pub returns-then-most-place-clause-ended : goal.returns-then-most-place-clause-ended
@@ -12,19 +11,18 @@ returns-then-most-place-clause-ended g c = λ told out_tells out.
     rw past (c.put_place.ensures.ended (state (g.D.Disk.files c.args.disk.now).pkg c.args.db.now.store) out_tells out)
 
 pub returns-then-most-place-clause-limits : goal.returns-then-most-place-clause-limits
-returns-then-most-place-clause-limits g c = λ told.
+returns-then-most-place-clause-limits g c = λ told i rows.
     let past : nat_lt c.args.most c.args.place ≡ true = grind (arith, nat_tests) in
     rw past
-    (line_limits (state (g.D.Disk.files c.args.disk.now).pkg c.args.db.now.store) c.args.db.now.store c.args.db.now.store c.args.db.now.store.spare
+    (line_limits i (state (g.D.Disk.files c.args.disk.now).pkg c.args.db.now.store) c.args.db.now.store c.args.db.now.store c.args.db.now.store.spare
     c.put_place.result refl c.put_place.ensures.kinds)
 
 pub returns-then-most-place-clause-whole : goal.returns-then-most-place-clause-whole
 returns-then-most-place-clause-whole g c = λ told whole.
     let f = g.D.Disk.files c.args.disk.now in
-    let s = state f.pkg c.args.db.now.store in
-    whole_turn f f s [] c.put_place.result refl whole (line_turn s c.put_place.result c.put_place.ensures.kinds)
+    whole_turn f f c.put_place.result refl whole (line_unbroken c.put_place.result c.put_place.ensures.kinds)
 
 pub returns-else-most-place-clause-limits : goal.returns-else-most-place-clause-limits
-returns-else-most-place-clause-limits g c = λ told.
+returns-else-most-place-clause-limits g c = λ told i rows.
     let within : nat_lt c.args.most c.args.place ≡ false = grind (arith, nat_tests) in
-    rw within (c.import_header.ensures.limits told)
+    rw within (c.import_header.ensures.limits told i rows)

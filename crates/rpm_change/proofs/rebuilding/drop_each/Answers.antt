@@ -2,12 +2,11 @@ mod Stopped
 use Rattle.std.proofs.Common.{true, [], refl, ◌∙◌, arith}
 use Rattle.std.specs.FinMap as finite
 use Rattle.rpm_outside.specs.Buffered.{inner}
-use Rattle.rpm_db.specs.Database.{IsIndexed}
 use Rattle.rpm_db.specs.State.{state, above}
 use Rattle.rpm_db.specs.inner.Running.{runs_none, runs_then}
 use Rattle.rpm_db.specs.inner.Writes.{SameLog}
 use Rattle.rpm_change.specs.Rebuilding.{dropped, drop_each, rebuild}
-use Rattle.rpm_change.proofs.Courses.{halfway_start, halfway_more, halfway_end, halfway_room}
+use Rattle.rpm_change.proofs.Courses.{halfway_start, halfway_more, halfway_end}
 use Rattle.rpm_change.proofs.Dropped.{drop_next, drop_none, same_dropped}
 use Rattle.rpm_change.proofs.Limits.{limited_start, limited_more, limited_end}
 use Rattle.rpm_change.proofs.rebuilding.drop_each.Answers.Stopped as stopped
@@ -16,14 +15,12 @@ use Rattle.rpm_change.proofs.rebuilding.drop_each.Goals as goal
 pub loop-next-init : goal.loop-next-init
 loop-next-init g c = record {
   goes = λ told err_tells err.
-      let file = (g.D.Disk.files c.args.disk.now).pkg in
-      let s = state file c.args.db.now.store in
-      let P = IsIndexed file (g.D.Disk.files c.args.disk.now).idx c.args.db.now in
-      let o = g.O.Sink.taken (inner c.args.out.now) in
-      halfway_start g.O.Sink.tells err_tells P (rebuild s) s o err;
-  limited = λ told.
       let s = state (g.D.Disk.files c.args.disk.now).pkg c.args.db.now.store in
-      limited_start (rebuild s) s c.args.db.now.store;
+      let o = g.O.Sink.taken (inner c.args.out.now) in
+      halfway_start g.O.Sink.tells err_tells (rebuild s) s o err;
+  limited = λ told i rows.
+      let s = state (g.D.Disk.files c.args.disk.now).pkg c.args.db.now.store in
+      limited_start i (rebuild s) s c.args.db.now.store;
   same = λ told k over. refl;
   few = omega arith;
   carried = record { going = c.requires.going; serving = c.requires.serving; index = λ told rows. rows };
@@ -41,12 +38,10 @@ loop-next-preserved g c =
     let m = c.in-Some.next in
     let inv = c.loop-next.invariant in
     let done = c.in-Ok.ensures in
-    let old = (g.D.Disk.files c.args.disk.now).pkg in
     let mid = (g.D.Disk.files c.loop-next.disk).pkg in
-    let s = state old c.args.db.now.store in
+    let s = state (g.D.Disk.files c.args.disk.now).pkg c.args.db.now.store in
     let t = state mid c.loop-next.db.store in
     let u = state (g.D.Disk.files c.drop_one.new.disk).pkg c.drop_one.new.db.store in
-    let P = IsIndexed old (g.D.Disk.files c.args.disk.now).idx c.args.db.now in
     let es = finite.entries s.packages in
     let o = g.O.Sink.taken (inner c.args.out.now) in
     let o' = g.O.Sink.taken (inner c.loop-next.out) in
@@ -55,14 +50,14 @@ loop-next-preserved g c =
       goes = λ told et e.
           let next = drop_next s.packages t.packages n m (inv.same told) (c.in-Some.ensures.told mid) in
           let ended = done.ended told next.0 next.1.0 et e in
-          halfway_more g.O.Sink.tells et P (rebuild s) (drop_each (above n es)) (dropped m next.0) (drop_each (above m es)) s t u
+          halfway_more g.O.Sink.tells et (rebuild s) (drop_each (above n es)) (dropped m next.0) (drop_each (above m es)) s t u
           c.loop-next.failed c.loop-next.changes o o' o'' e e e next.1.1 (inv.goes told et e)
-          c.in-Ok.tally ended (λ rows. done.room told (inv.carried.index told rows) next.0 next.1.0);
-      limited = λ told.
+          c.in-Ok.tally ended;
+      limited = λ told i rows.
           let next = drop_next s.packages t.packages n m (inv.same told) (c.in-Some.ensures.told mid) in
-          limited_more (rebuild s) (drop_each (above n es)) (dropped m next.0) (drop_each (above m es)) s t c.args.db.now.store c.loop-next.db.store
-          c.drop_one.new.db.store next.1.1 (inv.limited told) u c.in-Ok.tally (done.ended told next.0 next.1.0 true []).state_is
-          (done.limits told next.0 next.1.0);
+          limited_more i (rebuild s) (drop_each (above n es)) (dropped m next.0) (drop_each (above m es)) s t c.args.db.now.store c.loop-next.db.store
+          c.drop_one.new.db.store next.1.1 (inv.limited told i rows) u c.in-Ok.tally (done.ended told next.0 next.1.0 true []).state_is
+          (done.limits told next.0 next.1.0 i (λ is. inv.carried.index told (rows is)));
       same = λ told.
           let next = drop_next s.packages t.packages n m (inv.same told) (c.in-Some.ensures.told mid) in
           same_dropped next.0 n m s t u (inv.same told) c.in-Some.ensures.next.0 (done.ended told next.0 next.1.0 true []).state_is;
@@ -87,9 +82,6 @@ loop-next-preserved g c =
 pub returns-in-Err-clause-ended : goal.returns-in-Err-clause-ended
 returns-in-Err-clause-ended = stopped.returns-in-Err-clause-ended
 
-pub returns-in-Err-clause-room : goal.returns-in-Err-clause-room
-returns-in-Err-clause-room = stopped.returns-in-Err-clause-room
-
 pub returns-in-Err-clause-limits : goal.returns-in-Err-clause-limits
 returns-in-Err-clause-limits = stopped.returns-in-Err-clause-limits
 
@@ -103,30 +95,17 @@ returns-clause-ended g c = λ told et e.
     let mid = (g.D.Disk.files c.loop-next.disk).pkg in
     let s = state (g.D.Disk.files c.args.disk.now).pkg c.args.db.now.store in
     let t = state mid c.loop-next.db.store in
-    let P = IsIndexed (g.D.Disk.files c.args.disk.now).pkg (g.D.Disk.files c.args.disk.now).idx c.args.db.now in
-    halfway_end g.O.Sink.tells et P (rebuild s) (drop_each (above n (finite.entries s.packages))) s t c.loop-next.failed c.loop-next.changes
+    halfway_end g.O.Sink.tells et (rebuild s) (drop_each (above n (finite.entries s.packages))) s t c.loop-next.failed c.loop-next.changes
     (g.O.Sink.taken (inner c.args.out.now)) (g.O.Sink.taken (inner c.loop-next.out)) e e
     (drop_none s.packages t.packages n (inv.same told) (c.in_default.ensures.told mid)) (inv.goes told et e)
 
-pub returns-clause-room : goal.returns-clause-room
-returns-clause-room g c = λ told rows.
-    let n = c.loop-next.number in
-    let inv = c.loop-next.invariant in
-    let mid = (g.D.Disk.files c.loop-next.disk).pkg in
-    let s = state (g.D.Disk.files c.args.disk.now).pkg c.args.db.now.store in
-    let t = state mid c.loop-next.db.store in
-    let P = IsIndexed (g.D.Disk.files c.args.disk.now).pkg (g.D.Disk.files c.args.disk.now).idx c.args.db.now in
-    halfway_room g.O.Sink.tells true P (rebuild s) (drop_each (above n (finite.entries s.packages))) s t c.loop-next.failed c.loop-next.changes
-    (g.O.Sink.taken (inner c.args.out.now)) (g.O.Sink.taken (inner c.loop-next.out)) [] []
-    (drop_none s.packages t.packages n (inv.same told) (c.in_default.ensures.told mid)) (inv.goes told true []) rows
-
 pub returns-clause-limits : goal.returns-clause-limits
-returns-clause-limits g c = λ told.
+returns-clause-limits g c = λ told i rows.
     let n = c.loop-next.number in
     let inv = c.loop-next.invariant in
     let mid = (g.D.Disk.files c.loop-next.disk).pkg in
     let s = state (g.D.Disk.files c.args.disk.now).pkg c.args.db.now.store in
     let t = state mid c.loop-next.db.store in
-    limited_end (rebuild s) (drop_each (above n (finite.entries s.packages))) s t c.args.db.now.store c.loop-next.db.store
+    limited_end i (rebuild s) (drop_each (above n (finite.entries s.packages))) s t c.args.db.now.store c.loop-next.db.store
     (record { failed = c.loop-next.failed; changes = c.loop-next.changes })
-    (drop_none s.packages t.packages n (inv.same told) (c.in_default.ensures.told mid)) (inv.limited told)
+    (drop_none s.packages t.packages n (inv.same told) (c.in_default.ensures.told mid)) (inv.limited told i rows)

@@ -16,12 +16,12 @@ use Rattle.rpm_change.proofs.rebuilding.drop_each.Given as goal
 abbrev pub invariant-loop-next : goal.invariant-loop-next
 invariant-loop-next g l = record {
   goes : IsTrue g.D.Disk.tells → (err_tells : Bool) (err : List ℕ) → Halfway g.O.Sink.tells err_tells
-      (IsIndexed (g.D.Disk.files l.initial.disk).pkg (g.D.Disk.files l.initial.disk).idx l.initial.db)
       (rebuild (state (g.D.Disk.files l.initial.disk).pkg l.initial.db.store))
       (drop_each (above l.number (finite.entries (packages (g.D.Disk.files l.initial.disk).pkg l.initial.db.store))))
       (state (g.D.Disk.files l.initial.disk).pkg l.initial.db.store) (state (g.D.Disk.files l.disk).pkg l.db.store) l.failed l.changes
       (g.O.Sink.taken (inner l.initial.out)) (g.O.Sink.taken (inner l.out)) err err;
-  limited : IsTrue g.D.Disk.tells → Limited (rebuild (state (g.D.Disk.files l.initial.disk).pkg l.initial.db.store))
+  limited : IsTrue g.D.Disk.tells → (indexed : Bool)
+      → (indexed ≡ true → IsIndexed (g.D.Disk.files l.initial.disk).pkg (g.D.Disk.files l.initial.disk).idx l.initial.db) → Limited indexed (rebuild (state (g.D.Disk.files l.initial.disk).pkg l.initial.db.store))
       (drop_each (above l.number (finite.entries (packages (g.D.Disk.files l.initial.disk).pkg l.initial.db.store))))
       (state (g.D.Disk.files l.initial.disk).pkg l.initial.db.store) (state (g.D.Disk.files l.disk).pkg l.db.store) l.initial.db.store l.db.store;
   same : IsTrue g.D.Disk.tells → SameAbove l.number (packages (g.D.Disk.files l.initial.disk).pkg l.initial.db.store)

@@ -7,12 +7,14 @@ use Rattle.rpm_db.specs.Database.{IsIndexed, cost}
 use Rattle.rpm_db.specs.State.{Package, Bad, state}
 use Rattle.rpm_db.specs.inner.Running.{runs_looks, runs_then}
 use Rattle.rpm_db.specs.inner.Writes.{SameLog}
-use Rattle.rpm_change.specs.Endings.{outputs, Ended, IndexTurn}
+use Rattle.rpm_change.specs.Endings.{outputs, Ended}
 use Rattle.rpm_change.specs.Limits.{LimitsTurn}
+use Rattle.rpm_change.specs.inner.Single.{other_stop}
+use Rattle.rpm_change.specs.declared.tally.Halt.TheVariants as halt
 use Rattle.rpm_change.specs.Rebuilding.{dropped}
 use Rattle.rpm_change.proofs.Courses.{through_none}
 use Rattle.rpm_change.proofs.Dropped.{serving_looked}
-use Rattle.rpm_change.proofs.Drops.{carried_from, bad_is, none_gone, kept_done, kept_turn, kept_limits}
+use Rattle.rpm_change.proofs.Drops.{carried_from, bad_is, none_gone, kept_done, kept_limits}
 use Rattle.rpm_change.proofs.rebuilding.drop_one.Goals as goal
 
 pub returns-in-Ok-clause-ended : goal.returns-in-Ok-clause-ended
@@ -24,15 +26,10 @@ returns-in-Ok-clause-ended g c = λ told p is et e.
     (g.O.Sink.taken (inner c.args.out.now)) e (state (g.D.Disk.files c.get.new.disk).pkg c.args.db.now.store)
     (ap (λ (f : Files). state f.pkg c.args.db.now.store) same)
 
-pub returns-in-Ok-clause-room : goal.returns-in-Ok-clause-room
-returns-in-Ok-clause-room g c = λ told indexed p is.
-    let s = state (g.D.Disk.files c.args.disk.now).pkg c.args.db.now.store in
-    kept_turn c.args.number p (finite.get s.packages c.args.number) c.in-Ok._good.items s (c.in-Ok.ensures.told told) is
-
 pub returns-in-Ok-clause-limits : goal.returns-in-Ok-clause-limits
-returns-in-Ok-clause-limits g c = λ told p is.
+returns-in-Ok-clause-limits g c = λ told p is i rows.
     let s = state (g.D.Disk.files c.args.disk.now).pkg c.args.db.now.store in
-    kept_limits c.args.number p (finite.get s.packages c.args.number) c.in-Ok._good.items s (c.in-Ok.ensures.told told) is c.args.db.now.store
+    kept_limits c.args.number p (finite.get s.packages c.args.number) c.in-Ok._good.items s (c.in-Ok.ensures.told told) is i c.args.db.now.store
 
 pub returns-in-Ok-clause-carried : goal.returns-in-Ok-clause-carried
 returns-in-Ok-clause-carried g c =
@@ -71,27 +68,16 @@ returns-in-Err-Bad-clause-ended g c = λ told p is et e.
     (subst (λ (f : Files). Ended (dropped n Bad) (state f.pkg db.store) t c.drop_bad.result old new) (c.get.ensures.looks.untouched told).same
     (c.drop_bad.ensures.ended told et e))
 
-pub returns-in-Err-Bad-clause-room : goal.returns-in-Err-Bad-clause-room
-returns-in-Err-Bad-clause-room g c = λ told indexed p is.
-    let n = c.args.number in
-    let db = c.args.db.now in
-    let same = (c.get.ensures.looks.untouched told).same in
-    let said = rw c.in-Err-Bad.field-0-is at c.in-Err-Bad.ensures in
-    let bad = bad_is (finite.get (state (g.D.Disk.files c.args.disk.now).pkg db.store).packages n) p (said.told told) is in
-    subst (λ (q : Package). IndexTurn (state (g.D.Disk.files c.args.disk.now).pkg db.store) (dropped n q).changes c.drop_bad.result) (sym bad)
-    (subst (λ (f : Files). IndexTurn (state f.pkg db.store) (dropped n Bad).changes c.drop_bad.result) same
-    (c.drop_bad.ensures.room told (subst (λ (f : Files). IsIndexed f.pkg f.idx db) (sym same) indexed)))
-
 pub returns-in-Err-Bad-clause-limits : goal.returns-in-Err-Bad-clause-limits
-returns-in-Err-Bad-clause-limits g c = λ told p is.
+returns-in-Err-Bad-clause-limits g c = λ told p is i rows.
     let n = c.args.number in
     let db = c.args.db.now in
     let w = c.drop_bad.new.db.store in
     let said = rw c.in-Err-Bad.field-0-is at c.in-Err-Bad.ensures in
     let bad = bad_is (finite.get (state (g.D.Disk.files c.args.disk.now).pkg db.store).packages n) p (said.told told) is in
-    subst (λ (q : Package). LimitsTurn (state (g.D.Disk.files c.args.disk.now).pkg db.store) db.store w (dropped n q).changes c.drop_bad.result) (sym bad)
-    (subst (λ (f : Files). LimitsTurn (state f.pkg db.store) db.store w (dropped n Bad).changes c.drop_bad.result) (c.get.ensures.looks.untouched told).same
-    (c.drop_bad.ensures.limits told))
+    subst (λ (q : Package). LimitsTurn i (state (g.D.Disk.files c.args.disk.now).pkg db.store) db.store w (dropped n q).changes c.drop_bad.result) (sym bad)
+    (subst (λ (f : Files). LimitsTurn i (state f.pkg db.store) db.store w (dropped n Bad).changes c.drop_bad.result) (c.get.ensures.looks.untouched told).same
+    (c.drop_bad.ensures.limits told i (λ yes. subst (λ (f : Files). IsIndexed f.pkg f.idx db) (sym (c.get.ensures.looks.untouched told).same) (rows yes))))
 
 pub returns-in-Err-Bad-clause-carried : goal.returns-in-Err-Bad-clause-carried
 returns-in-Err-Bad-clause-carried g c =
@@ -113,7 +99,7 @@ returns-in-Err-DiskFault-clause-ended g c = λ told p is et e.
     none_gone (dropped c.args.number p) now now (through_none {ot = g.O.Sink.tells} {et = et} (g.O.Sink.taken (inner c.args.out.now)) e)
 
 pub returns-in-Err-DiskFault-clause-limits : goal.returns-in-Err-DiskFault-clause-limits
-returns-in-Err-DiskFault-clause-limits g c = λ told p is. record { numbers = tt; generation = tt; store_room = tt; raised = tt }
+returns-in-Err-DiskFault-clause-limits g c = λ told p is i rows. other_stop i _ _ _ _ halt.DiskFault refl
 
 pub returns-in-Err-DiskFault-clause-runs : goal.returns-in-Err-DiskFault-clause-runs
 returns-in-Err-DiskFault-clause-runs g c =
@@ -126,7 +112,7 @@ returns-in-Err-NoMemory-clause-ended g c = λ told p is et e.
     none_gone (dropped c.args.number p) now now (through_none {ot = g.O.Sink.tells} {et = et} (g.O.Sink.taken (inner c.args.out.now)) e)
 
 pub returns-in-Err-NoMemory-clause-limits : goal.returns-in-Err-NoMemory-clause-limits
-returns-in-Err-NoMemory-clause-limits g c = λ told p is. record { numbers = tt; generation = tt; store_room = tt; raised = tt }
+returns-in-Err-NoMemory-clause-limits g c = λ told p is i rows. other_stop i _ _ _ _ halt.NoMemory refl
 
 pub returns-in-Err-NoMemory-clause-runs : goal.returns-in-Err-NoMemory-clause-runs
 returns-in-Err-NoMemory-clause-runs g c =

@@ -1,15 +1,19 @@
-use Rattle.std.proofs.Common.{subst, ◌∙◌}
+use Rattle.std.proofs.Common.{Option, true, sym, subst, ◌∙◌}
+use Rattle.std.specs.Prelude.{IsTrue}
 use Rattle.rpm_outside.specs.Buffered.{inner}
 use Rattle.rpm_db.specs.State.{State, state}
 use Rattle.rpm_db.specs.inner.Running.{runs_then}
 use Rattle.rpm_db.specs.inner.Writes.{SameLog}
 use Rattle.rpm_db.specs.Lawful.{Remade}
-use Rattle.rpm_change.specs.Endings.{outputs, Ended, IndexTurn}
+use Rattle.rpm_change.specs.declared.tally.Halt.{Halt}
+use Rattle.rpm_change.specs.Limits.{StopsAt}
+use Rattle.rpm_change.specs.inner.LimitLaws.{makes_small}
+use Rattle.rpm_change.specs.Endings.{outputs, Ended}
 use Rattle.rpm_change.specs.Rebuilding.{rebuild}
 use Rattle.rpm_change.proofs.Courses.{through_none}
 use Rattle.rpm_change.proofs.Erased.{refused_ended}
-use Rattle.rpm_change.proofs.Dropped.{serving_remade, state_remade, rebuild_turn}
-use Rattle.rpm_change.proofs.Rebuilt.{rebuild_kinds, unbuilt_turn, unbuilt_limits, remade_limits, runs_weaker}
+use Rattle.rpm_change.proofs.Dropped.{serving_remade, state_remade}
+use Rattle.rpm_change.proofs.Rebuilt.{rebuild_kinds, unbuilt_limits, remade_limits, remade_stores, runs_weaker}
 use Rattle.rpm_change.proofs.rebuilding.rebuild.Goals as goal
 
 pub drop_each-requires-clause-serving : goal.drop_each-requires-clause-serving
@@ -30,32 +34,25 @@ returns-in-Ok-clause-ended g c = λ told et e.
     (c.in-Ok.ensures.runs.reads_as told) c.in-Ok.ensures.store in
     subst (λ (s : State). Ended (rebuild s) s t c.drop_each.result old new) same (c.drop_each.ensures.ended told et e)
 
-pub returns-in-Ok-clause-room : goal.returns-in-Ok-clause-room
-returns-in-Ok-clause-room g c = λ told.
-    let said = c.in-Ok.ensures.rebuilt told in
-    let s = state (g.D.Disk.files c.args.disk.now).pkg c.args.db.now.store in
-    let same = state_remade (g.D.Disk.files c.args.disk.now) (g.D.Disk.files c.rebuild.new.disk) c.args.db.now c.rebuild.new.self
-    (c.in-Ok.ensures.runs.reads_as told) c.in-Ok.ensures.store in
-    rebuild_turn s (rebuild s).changes c.drop_each.result said.0
-    (subst (λ (s : State). IndexTurn s (rebuild s).changes c.drop_each.result) same (c.drop_each.ensures.room told said.3))
-
-pub returns-in-Ok-clause-generation : goal.returns-in-Ok-clause-generation
-returns-in-Ok-clause-generation g c = λ told.
+pub returns-in-Ok-clause-limits : goal.returns-in-Ok-clause-limits
+returns-in-Ok-clause-limits g c = λ told.
     let s = state (g.D.Disk.files c.args.disk.now).pkg c.args.db.now.store in
     let x = c.drop_each.new.db.store in
     let said = c.in-Ok.ensures in
     let same = state_remade (g.D.Disk.files c.args.disk.now) (g.D.Disk.files c.rebuild.new.disk) c.args.db.now c.rebuild.new.self (said.runs.reads_as told)
     said.store in
-    (remade_limits s x c.drop_each.result said.store same (c.drop_each.ensures.limits told)).generation
+    subst (λ (o : Option Halt). StopsAt true o c.drop_each.result)
+    (sym (makes_small true s c.args.db.now.store (rebuild s).changes (λ is. (said.rebuilt told).0)))
+    (remade_limits s x c.drop_each.result said.store same (c.drop_each.ensures.limits told true (λ is. (said.rebuilt told).3))).first
 
-pub returns-in-Ok-clause-store_room : goal.returns-in-Ok-clause-store_room
-returns-in-Ok-clause-store_room g c = λ told.
+pub returns-in-Ok-clause-stores : goal.returns-in-Ok-clause-stores
+returns-in-Ok-clause-stores g c =
     let s = state (g.D.Disk.files c.args.disk.now).pkg c.args.db.now.store in
-    let x = c.drop_each.new.db.store in
     let said = c.in-Ok.ensures in
-    let same = state_remade (g.D.Disk.files c.args.disk.now) (g.D.Disk.files c.rebuild.new.disk) c.args.db.now c.rebuild.new.self (said.runs.reads_as told)
-    said.store in
-    (remade_limits s x c.drop_each.result said.store same (c.drop_each.ensures.limits told)).store_room
+    remade_stores s c.args.db.now.store c.drop_each.new.db.store c.drop_each.result (IsTrue g.D.Disk.tells) (λ told.
+    remade_limits s c.drop_each.new.db.store c.drop_each.result said.store
+    (state_remade (g.D.Disk.files c.args.disk.now) (g.D.Disk.files c.rebuild.new.disk) c.args.db.now c.rebuild.new.self (said.runs.reads_as told)
+    said.store) (c.drop_each.ensures.limits told true (λ is. (said.rebuilt told).3)))
 
 pub returns-in-Ok-clause-runs : goal.returns-in-Ok-clause-runs
 returns-in-Ok-clause-runs g c =
@@ -71,24 +68,12 @@ returns-in-Err-clause-ended g c = λ told et e.
     rw c.halt_of.ensures
     (refused_ended (rebuild s) s t c.in-Err.fault now now (through_none {ot = g.O.Sink.tells} {et = et} (g.O.Sink.taken (inner c.args.out.now)) e))
 
-pub returns-in-Err-clause-room : goal.returns-in-Err-clause-room
-returns-in-Err-clause-room g c = λ told.
+pub returns-in-Err-clause-limits : goal.returns-in-Err-clause-limits
+returns-in-Err-clause-limits g c = λ told.
     let s = state (g.D.Disk.files c.args.disk.now).pkg c.args.db.now.store in
     rw c.halt_of.ensures
-    (unbuilt_turn (g.D.Disk.files c.args.disk.now) (g.D.Disk.files c.rebuild.new.disk) c.args.db.now c.rebuild.new.self (rebuild s).changes c.in-Err.fault
+    (unbuilt_limits (g.D.Disk.files c.args.disk.now) (g.D.Disk.files c.rebuild.new.disk) c.args.db.now c.rebuild.new.self (rebuild s).changes c.in-Err.fault
     (c.in-Err.ensures.rebuilt told))
-
-pub returns-in-Err-clause-generation : goal.returns-in-Err-clause-generation
-returns-in-Err-clause-generation g c = λ told.
-    let s = state (g.D.Disk.files c.args.disk.now).pkg c.args.db.now.store in
-    rw c.halt_of.ensures
-    (unbuilt_limits c.args.db.now s c.args.db.now.store c.rebuild.new.self.store (rebuild s).changes c.in-Err.fault c.in-Err.ensures.causes).generation
-
-pub returns-in-Err-clause-store_room : goal.returns-in-Err-clause-store_room
-returns-in-Err-clause-store_room g c = λ told.
-    let s = state (g.D.Disk.files c.args.disk.now).pkg c.args.db.now.store in
-    rw c.halt_of.ensures
-    (unbuilt_limits c.args.db.now s c.args.db.now.store c.rebuild.new.self.store (rebuild s).changes c.in-Err.fault c.in-Err.ensures.causes).store_room
 
 pub returns-in-Err-clause-kinds : goal.returns-in-Err-clause-kinds
 returns-in-Err-clause-kinds g c = rw c.halt_of.ensures (rebuild_kinds c.args.db.now c.in-Err.fault c.in-Err.ensures.causes)

@@ -1,17 +1,16 @@
-use Rattle.std.proofs.Common.{◌≡◌, true, false, Some, refl, sym, ◌∙◌, subst, []}
+use Rattle.std.proofs.Common.{◌≡◌, true, false, Some, refl, sym, ◌∙◌, subst}
 use Rattle.std.specs.FinMap as finite
 use Rattle.rpm_outside.specs.Buffered.{inner}
 use Rattle.rpm_db.specs.Database.{holds}
 use Rattle.rpm_db.specs.State.{state, packages}
 use Rattle.rpm_db.specs.inner.Laws.{is_there}
-use Rattle.rpm_change.specs.Endings.{outputs, Ended, IndexTurn}
-use Rattle.rpm_change.specs.Limits.{SpentTurn, StoreTurn}
+use Rattle.rpm_change.specs.Endings.{outputs, Ended}
+use Rattle.rpm_change.specs.Limits.{LimitsTurn}
 use Rattle.rpm_change.specs.Steps.{Course}
-use Rattle.rpm_change.proofs.Erased.{line_turn}
 use Rattle.rpm_change.proofs.Filed.{replaced_none, replaced_some}
 use Rattle.rpm_change.proofs.Unchanged.{line_limits}
 use Rattle.rpm_change.proofs.Stops.{lines_putting}
-use Rattle.rpm_change.proofs.Wholes.{whole_turn}
+use Rattle.rpm_change.proofs.Wholes.{whole_turn, line_unbroken}
 use Rattle.rpm_change.proofs.replace.replace_package.Goals as goal
 
 pub returns-then-holds-clause-ended : goal.returns-then-holds-clause-ended
@@ -25,32 +24,14 @@ returns-then-holds-clause-ended g c = λ told shelf_told out_tells out.
     (sym (replaced_some (finite.get (packages file db.store) c.args.number) (g.S.Shelf.paths c.args.shelf.now) c.args.now c.args.number c.args.path.now
     (is_there file db c.args.number ∙ held))) (c.put_file.ensures.ended told shelf_told 0 out_tells out)
 
-pub returns-then-holds-clause-room : goal.returns-then-holds-clause-room
-returns-then-holds-clause-room g c = λ told shelf_told rows.
+pub returns-then-holds-clause-limits : goal.returns-then-holds-clause-limits
+returns-then-holds-clause-limits g c = λ told shelf_told i rows.
     let file = (g.D.Disk.files c.args.disk.now).pkg in
     let db = c.args.db.now in
     let held : holds c.args.number db ≡ true = sym c.holds.ensures.held ∙ c.if-holds.true in
-    subst (λ (x : Course). IndexTurn (state file db.store) x.changes c.put_file.result)
+    subst (λ (x : Course). LimitsTurn i (state file db.store) db.store c.put_file.new.db.store x.changes c.put_file.result)
     (sym (replaced_some (finite.get (packages file db.store) c.args.number) (g.S.Shelf.paths c.args.shelf.now) c.args.now c.args.number c.args.path.now
-    (is_there file db c.args.number ∙ held))) (c.put_file.ensures.room told shelf_told rows 0)
-
-pub returns-then-holds-clause-generation : goal.returns-then-holds-clause-generation
-returns-then-holds-clause-generation g c = λ told shelf_told.
-    let file = (g.D.Disk.files c.args.disk.now).pkg in
-    let db = c.args.db.now in
-    let held : holds c.args.number db ≡ true = sym c.holds.ensures.held ∙ c.if-holds.true in
-    subst (λ (x : Course). SpentTurn db.store.generation x.changes c.put_file.result)
-    (sym (replaced_some (finite.get (packages file db.store) c.args.number) (g.S.Shelf.paths c.args.shelf.now) c.args.now c.args.number c.args.path.now
-    (is_there file db c.args.number ∙ held))) (c.put_file.ensures.limits told shelf_told 0).generation
-
-pub returns-then-holds-clause-store_room : goal.returns-then-holds-clause-store_room
-returns-then-holds-clause-store_room g c = λ told shelf_told.
-    let file = (g.D.Disk.files c.args.disk.now).pkg in
-    let db = c.args.db.now in
-    let held : holds c.args.number db ≡ true = sym c.holds.ensures.held ∙ c.if-holds.true in
-    subst (λ (x : Course). StoreTurn x.changes db.store c.put_file.new.db.store c.put_file.result)
-    (sym (replaced_some (finite.get (packages file db.store) c.args.number) (g.S.Shelf.paths c.args.shelf.now) c.args.now c.args.number c.args.path.now
-    (is_there file db c.args.number ∙ held))) (c.put_file.ensures.limits told shelf_told 0).store_room
+    (is_there file db c.args.number ∙ held))) (c.put_file.ensures.limits told shelf_told 0 i rows)
 
 pub returns-then-holds-clause-untried : goal.returns-then-holds-clause-untried
 returns-then-holds-clause-untried g c = λ not. (let held : holds c.args.number c.args.db.now ≡ true = sym c.holds.ensures.held ∙ c.if-holds.true in absurd cc)
@@ -66,40 +47,20 @@ returns-else-holds-clause-ended g c = λ told shelf_told out_tells out.
     (sym (replaced_none (finite.get (packages file db.store) c.args.number) (g.S.Shelf.paths c.args.shelf.now) c.args.now c.args.number c.args.path.now
     (is_there file db c.args.number ∙ not))) (c.put_missing.ensures.ended 0 s out_tells out)
 
-pub returns-else-holds-clause-room : goal.returns-else-holds-clause-room
-returns-else-holds-clause-room g c = λ told shelf_told rows.
-    let file = (g.D.Disk.files c.args.disk.now).pkg in
-    let db = c.args.db.now in
-    let not : holds c.args.number db ≡ false = sym c.holds.ensures.held ∙ c.if-holds.false in
-    subst (λ (x : Course). IndexTurn (state file db.store) x.changes c.put_missing.result)
-    (sym (replaced_none (finite.get (packages file db.store) c.args.number) (g.S.Shelf.paths c.args.shelf.now) c.args.now c.args.number c.args.path.now
-    (is_there file db c.args.number ∙ not))) (line_turn (state file db.store) c.put_missing.result c.put_missing.ensures.kinds)
-
 pub returns-else-holds-clause-whole : goal.returns-else-holds-clause-whole
 returns-else-holds-clause-whole g c = λ told whole.
     let f = g.D.Disk.files c.args.disk.now in
-    let s = state f.pkg c.args.db.now.store in
-    whole_turn f f s [] c.put_missing.result refl whole (line_turn s c.put_missing.result c.put_missing.ensures.kinds)
+    whole_turn f f c.put_missing.result refl whole (line_unbroken c.put_missing.result c.put_missing.ensures.kinds)
 
-pub returns-else-holds-clause-generation : goal.returns-else-holds-clause-generation
-returns-else-holds-clause-generation g c = λ told shelf_told.
+pub returns-else-holds-clause-limits : goal.returns-else-holds-clause-limits
+returns-else-holds-clause-limits g c = λ told shelf_told i rows.
     let file = (g.D.Disk.files c.args.disk.now).pkg in
     let db = c.args.db.now in
     let not : holds c.args.number db ≡ false = sym c.holds.ensures.held ∙ c.if-holds.false in
-    subst (λ (x : Course). SpentTurn db.store.generation x.changes c.put_missing.result)
+    subst (λ (x : Course). LimitsTurn i (state file db.store) db.store db.store x.changes c.put_missing.result)
     (sym (replaced_none (finite.get (packages file db.store) c.args.number) (g.S.Shelf.paths c.args.shelf.now) c.args.now c.args.number c.args.path.now
     (is_there file db c.args.number ∙ not)))
-    (line_limits (state file db.store) db.store db.store db.store.spare c.put_missing.result refl c.put_missing.ensures.kinds).generation
-
-pub returns-else-holds-clause-store_room : goal.returns-else-holds-clause-store_room
-returns-else-holds-clause-store_room g c = λ told shelf_told.
-    let file = (g.D.Disk.files c.args.disk.now).pkg in
-    let db = c.args.db.now in
-    let not : holds c.args.number db ≡ false = sym c.holds.ensures.held ∙ c.if-holds.false in
-    subst (λ (x : Course). StoreTurn x.changes db.store db.store c.put_missing.result)
-    (sym (replaced_none (finite.get (packages file db.store) c.args.number) (g.S.Shelf.paths c.args.shelf.now) c.args.now c.args.number c.args.path.now
-    (is_there file db c.args.number ∙ not)))
-    (line_limits (state file db.store) db.store db.store db.store.spare c.put_missing.result refl c.put_missing.ensures.kinds).store_room
+    (line_limits i (state file db.store) db.store db.store db.store.spare c.put_missing.result refl c.put_missing.ensures.kinds)
 
 pub returns-else-holds-clause-kinds : goal.returns-else-holds-clause-kinds
 returns-else-holds-clause-kinds g c = lines_putting (Some c.args.number) c.put_missing.result c.put_missing.ensures.kinds

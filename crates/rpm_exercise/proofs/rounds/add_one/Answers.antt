@@ -11,17 +11,17 @@ returns-in-Ok-add-clause-made g c = λ told.
     (c.in-Ok-add.ensures.state told)
 
 pub returns-in-Ok-add-clause-limits : goal.returns-in-Ok-add-clause-limits
-returns-in-Ok-add-clause-limits g c = λ told.
+returns-in-Ok-add-clause-limits g c = λ told j rows.
     let file = (g.D.Disk.files c.args.disk.now).pkg in
     let done = c.in-Ok-add.ensures in
-    added_limits c.args.i 1 c.in-Ok.blob.items c.deref.result.now c.deref.ensures.value c.in-Ok.ensures.laid c.in-Ok.ensures.again
+    added_limits j c.args.i 1 c.in-Ok.blob.items c.deref.result.now c.deref.ensures.value c.in-Ok.ensures.laid c.in-Ok.ensures.again
     (state file c.args.db.now.store) c.args.db.now c.add.new.self.store _ (next-state file c.args.db.now.store) _ (record { failed = 0; changes = 1 })
-    done.causes done.placed done.generation
+    done.causes done.placed done.generation (λ yes. done.full told c.requires.going (rows yes))
 
 pub returns-clause-limits : goal.returns-clause-limits
-returns-clause-limits g c = λ told.
+returns-clause-limits g c = λ told j rows.
     let file = (g.D.Disk.files c.args.disk.now).pkg in
     rw c.halt_of.ensures
-    (add_refused c.args.i 1 c.in-Ok.blob.items c.deref.result.now c.deref.ensures.value c.in-Ok.ensures.laid c.in-Ok.ensures.again
+    (add_refused j c.args.i 1 c.in-Ok.blob.items c.deref.result.now c.deref.ensures.value c.in-Ok.ensures.laid c.in-Ok.ensures.again
     (state file c.args.db.now.store) c.args.db.now c.add.new.self.store _ (next-state file c.args.db.now.store) c.in-Err.fault c.in-Err.ensures.causes
-    c.in-Err.ensures.placed)
+    c.in-Err.ensures.placed (λ yes. c.in-Err.ensures.full told c.requires.going (rows yes)))

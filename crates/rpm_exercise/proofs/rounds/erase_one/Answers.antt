@@ -12,17 +12,18 @@ returns-in-Ok-erase-clause-made g c = λ told.
     (c.in-Ok-erase.ensures.state told)
 
 pub returns-in-Err-clause-limits : goal.returns-in-Err-clause-limits
-returns-in-Err-clause-limits g c = λ told.
-    rw c.in-Err.ensures.kinds (memory_limits (state (g.D.Disk.files c.args.disk.now).pkg c.args.db.now.store) c.args.db.now.store c.args.db.now.store _)
+returns-in-Err-clause-limits g c = λ told j rows.
+    rw c.in-Err.ensures.kinds (memory_limits j (state (g.D.Disk.files c.args.disk.now).pkg c.args.db.now.store) c.args.db.now.store c.args.db.now.store _)
 
 pub returns-in-Ok-erase-clause-limits : goal.returns-in-Ok-erase-clause-limits
-returns-in-Ok-erase-clause-limits g c = λ told.
+returns-in-Ok-erase-clause-limits g c = λ told j rows.
     let done = c.in-Ok-erase.ensures in
-    erased_limits (state (g.D.Disk.files c.args.disk.now).pkg c.args.db.now.store) c.args.db.now c.erase.new.self.store c.in-Ok.number
-    (c.args.b + c.args.i) c.in-Ok.ensures.value (record { failed = 0; changes = 1 }) done.causes done.placed done.generation
+    erased_limits j (state (g.D.Disk.files c.args.disk.now).pkg c.args.db.now.store) c.args.db.now c.erase.new.self.store c.in-Ok.number
+    (c.args.b + c.args.i) c.in-Ok.ensures.value (record { failed = 0; changes = 1 }) done.causes done.placed done.generation (λ yes. done.full told c.requires.going (rows yes))
 
 pub returns-in-Err-erase-clause-limits : goal.returns-in-Err-erase-clause-limits
-returns-in-Err-erase-clause-limits g c = λ told.
+returns-in-Err-erase-clause-limits g c = λ told j rows.
     rw c.halt_of.ensures
-    (erase_refused (state (g.D.Disk.files c.args.disk.now).pkg c.args.db.now.store) c.args.db.now c.erase.new.self.store c.in-Ok.number
-    (c.args.b + c.args.i) c.in-Ok.ensures.value c.in-Err-erase.fault c.in-Err-erase.ensures.causes)
+    (erase_refused j (state (g.D.Disk.files c.args.disk.now).pkg c.args.db.now.store) c.args.db.now c.erase.new.self.store c.in-Ok.number
+    (c.args.b + c.args.i) c.in-Ok.ensures.value c.in-Err-erase.fault c.in-Err-erase.ensures.causes
+    (λ yes. c.in-Err-erase.ensures.full told c.requires.going (rows yes)))

@@ -1,22 +1,20 @@
 use Rattle.std.proofs.Common.{◌+◌, ◌-◌, refl, ◌∙◌, arith}
 use Rattle.std.specs.List.{flat_map, range_with_len}
-use Rattle.rpm_db.specs.Database.{IsIndexed}
 use Rattle.rpm_db.specs.State.{state}
 use Rattle.rpm_db.specs.inner.Running.{runs_none, runs_then}
 use Rattle.rpm_db.specs.inner.Writes.{SameLog}
 use Rattle.rpm_exercise.specs.Rounds.{turn, round_changes}
 use Rattle.rpm_exercise.proofs.Limited.{limited_start, limited_more, limited_stop, limited_end}
-use Rattle.rpm_exercise.proofs.Parts.{partly_start, partly_more, partly_turn, partly_end, partly_room, each_next, each_none, each_all}
+use Rattle.rpm_exercise.proofs.Parts.{partly_start, partly_more, partly_end, each_next, each_none, each_all}
 use Rattle.rpm_exercise.proofs.rounds.go_round.Goals as goal
 
 pub loop-done-init : goal.loop-done-init
 loop-done-init g c = record {
   goes = λ told.
-      partly_start (IsIndexed (g.D.Disk.files c.args.disk.now).pkg (g.D.Disk.files c.args.disk.now).idx c.args.db.now)
-      (round_changes c.args.round c.args.b c.args.n) (flat_map (turn c.args.round c.args.b) (range_with_len 1 (c.args.n - 0)))
+      partly_start (round_changes c.args.round c.args.b c.args.n) (flat_map (turn c.args.round c.args.b) (range_with_len 1 (c.args.n - 0)))
       (state (g.D.Disk.files c.args.disk.now).pkg c.args.db.now.store) (each_all (turn c.args.round c.args.b) c.args.n);
-  limited = λ told.
-      limited_start (round_changes c.args.round c.args.b c.args.n) (flat_map (turn c.args.round c.args.b) (range_with_len 1 (c.args.n - 0)))
+  limited = λ told j rows.
+      limited_start j (round_changes c.args.round c.args.b c.args.n) (flat_map (turn c.args.round c.args.b) (range_with_len 1 (c.args.n - 0)))
       (state (g.D.Disk.files c.args.disk.now).pkg c.args.db.now.store) c.args.db.now.store (each_all (turn c.args.round c.args.b) c.args.n);
   few = omega arith;
   carried = record { going = c.requires.going; serving = c.requires.serving; index = λ told rows. rows };
@@ -36,16 +34,15 @@ loop-done-preserved g c =
     let s = state (g.D.Disk.files c.args.disk.now).pkg c.args.db.now.store in
     let t = state (g.D.Disk.files c.loop-done.disk).pkg c.loop-done.db.store in
     let u = state (g.D.Disk.files c.take_turn.new.disk).pkg c.take_turn.new.db.store in
-    let P = IsIndexed (g.D.Disk.files c.args.disk.now).pkg (g.D.Disk.files c.args.disk.now).idx c.args.db.now in
     record {
       goes = λ told.
-          partly_more P (round_changes c.args.round c.args.b n) (flat_map f (range_with_len (k + 1) (n - k))) (f (k + 1))
+          partly_more (round_changes c.args.round c.args.b n) (flat_map f (range_with_len (k + 1) (n - k))) (f (k + 1))
           (flat_map f (range_with_len (k + 1 + 1) (n - (k + 1)))) s t c.loop-done.changes (each_next f (k + 1) n k (omega arith)) (inv.goes told) u
-          c.in-Ok.tally (one.made told) (λ rows. one.room told (inv.carried.index told rows));
-      limited = λ told.
-          limited_more (round_changes c.args.round c.args.b n) (flat_map f (range_with_len (k + 1) (n - k))) (f (k + 1))
+          c.in-Ok.tally (one.made told);
+      limited = λ told j rows.
+          limited_more j (round_changes c.args.round c.args.b n) (flat_map f (range_with_len (k + 1) (n - k))) (f (k + 1))
           (flat_map f (range_with_len (k + 1 + 1) (n - (k + 1)))) s t c.args.db.now.store c.loop-done.db.store c.take_turn.new.db.store
-          (each_next f (k + 1) n k (omega arith)) (inv.limited told) u c.in-Ok.tally (one.made told).state_is (one.limits told);
+          (each_next f (k + 1) n k (omega arith)) (inv.limited told j rows) u c.in-Ok.tally (one.made told).state_is (one.limits told j (λ yes. inv.carried.index told (rows yes)));
       few = omega (arith, inv.few, one.few);
       carried = record {
         going = one.carried.going;
@@ -58,19 +55,6 @@ loop-done-preserved g c =
           inv.runs one.runs;
       disk = omega (arith, inv.disk, one.disk.later);
     }
-
-pub returns-in-Err-clause-room : goal.returns-in-Err-clause-room
-returns-in-Err-clause-room g c = λ told rows.
-    let k = c.loop-done.done in
-    let n = c.args.n in
-    let f = turn c.args.round c.args.b in
-    let inv = c.loop-done.invariant in
-    let s = state (g.D.Disk.files c.args.disk.now).pkg c.args.db.now.store in
-    let t = state (g.D.Disk.files c.loop-done.disk).pkg c.loop-done.db.store in
-    let P = IsIndexed (g.D.Disk.files c.args.disk.now).pkg (g.D.Disk.files c.args.disk.now).idx c.args.db.now in
-    partly_turn P (round_changes c.args.round c.args.b n) (flat_map f (range_with_len (k + 1) (n - k))) (f (k + 1))
-    (flat_map f (range_with_len (k + 1 + 1) (n - (k + 1)))) s t c.loop-done.changes (each_next f (k + 1) n k (omega arith)) (inv.goes told) c.in-Err.halt rows
-    (c.in-Err.ensures.room told (inv.carried.index told rows))
 
 pub returns-in-Err-clause-runs : goal.returns-in-Err-clause-runs
 returns-in-Err-clause-runs g c =
@@ -85,37 +69,26 @@ returns-clause-made g c = λ told.
     let f = turn c.args.round c.args.b in
     let s = state (g.D.Disk.files c.args.disk.now).pkg c.args.db.now.store in
     let t = state (g.D.Disk.files c.loop-done.disk).pkg c.loop-done.db.store in
-    let P = IsIndexed (g.D.Disk.files c.args.disk.now).pkg (g.D.Disk.files c.args.disk.now).idx c.args.db.now in
-    partly_end P (round_changes c.args.round c.args.b n) (flat_map f (range_with_len (k + 1) (n - k))) s t c.loop-done.changes
+    partly_end (round_changes c.args.round c.args.b n) (flat_map f (range_with_len (k + 1) (n - k))) s t c.loop-done.changes
     (each_none f (k + 1) n k (omega arith)) (c.loop-done.invariant.goes told)
 
-pub returns-clause-room : goal.returns-clause-room
-returns-clause-room g c = λ told rows.
-    let k = c.loop-done.done in
-    let n = c.args.n in
-    let f = turn c.args.round c.args.b in
-    let s = state (g.D.Disk.files c.args.disk.now).pkg c.args.db.now.store in
-    let t = state (g.D.Disk.files c.loop-done.disk).pkg c.loop-done.db.store in
-    let P = IsIndexed (g.D.Disk.files c.args.disk.now).pkg (g.D.Disk.files c.args.disk.now).idx c.args.db.now in
-    partly_room P (round_changes c.args.round c.args.b n) (flat_map f (range_with_len (k + 1) (n - k))) s t c.loop-done.changes
-    (each_none f (k + 1) n k (omega arith)) (c.loop-done.invariant.goes told) rows
-
 pub returns-in-Err-clause-limits : goal.returns-in-Err-clause-limits
-returns-in-Err-clause-limits g c = λ told.
+returns-in-Err-clause-limits g c = λ told j rows.
     let k = c.loop-done.done in
     let n = c.args.n in
     let f = turn c.args.round c.args.b in
-    limited_stop (round_changes c.args.round c.args.b n) (flat_map f (range_with_len (k + 1) (n - k))) (f (k + 1))
+    limited_stop j (round_changes c.args.round c.args.b n) (flat_map f (range_with_len (k + 1) (n - k))) (f (k + 1))
     (flat_map f (range_with_len (k + 1 + 1) (n - (k + 1)))) (state (g.D.Disk.files c.args.disk.now).pkg c.args.db.now.store)
     (state (g.D.Disk.files c.loop-done.disk).pkg c.loop-done.db.store) c.args.db.now.store c.loop-done.db.store c.take_turn.new.db.store
-    (each_next f (k + 1) n k (omega arith)) (c.loop-done.invariant.limited told) c.in-Err.halt (c.in-Err.ensures.limits told)
+    (each_next f (k + 1) n k (omega arith)) (c.loop-done.invariant.limited told j rows) c.in-Err.halt
+    (c.in-Err.ensures.limits told j (λ yes. c.loop-done.invariant.carried.index told (rows yes)))
 
 pub returns-clause-limits : goal.returns-clause-limits
-returns-clause-limits g c = λ told.
+returns-clause-limits g c = λ told j rows.
     let k = c.loop-done.done in
     let n = c.args.n in
     let f = turn c.args.round c.args.b in
-    limited_end (round_changes c.args.round c.args.b n) (flat_map f (range_with_len (k + 1) (n - k)))
+    limited_end j (round_changes c.args.round c.args.b n) (flat_map f (range_with_len (k + 1) (n - k)))
     (state (g.D.Disk.files c.args.disk.now).pkg c.args.db.now.store) (state (g.D.Disk.files c.loop-done.disk).pkg c.loop-done.db.store)
     c.args.db.now.store c.loop-done.db.store (record { failed = 0; changes = c.loop-done.changes }) (each_none f (k + 1) n k (omega arith))
-    (c.loop-done.invariant.limited told)
+    (c.loop-done.invariant.limited told j rows)

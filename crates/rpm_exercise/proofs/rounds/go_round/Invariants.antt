@@ -1,4 +1,4 @@
-use Rattle.std.proofs.Common.{◌≡◌, ◌+◌, ◌-◌, ◌≤◌, true}
+use Rattle.std.proofs.Common.{◌≡◌, ◌+◌, ◌-◌, ◌≤◌, Bool, true}
 use Rattle.std.specs.Prelude.{IsTrue}
 use Rattle.std.specs.List.{flat_map, range_with_len}
 use Rattle.rpm_db.specs.Database.{IsIndexed, is_indexed}
@@ -13,10 +13,10 @@ use Rattle.rpm_exercise.proofs.rounds.go_round.Given as goal
 
 abbrev pub invariant-loop-done : goal.invariant-loop-done
 invariant-loop-done g l = record {
-  goes : IsTrue g.D.Disk.tells → Partly (IsIndexed (g.D.Disk.files l.initial.disk).pkg (g.D.Disk.files l.initial.disk).idx l.initial.db)
-      (round_changes l.round l.b l.n) (flat_map (turn l.round l.b) (range_with_len (l.done + 1) (l.n - l.done)))
+  goes : IsTrue g.D.Disk.tells → Partly (round_changes l.round l.b l.n) (flat_map (turn l.round l.b) (range_with_len (l.done + 1) (l.n - l.done)))
       (state (g.D.Disk.files l.initial.disk).pkg l.initial.db.store) (state (g.D.Disk.files l.disk).pkg l.db.store) l.changes;
-  limited : IsTrue g.D.Disk.tells → Limited (round_changes l.round l.b l.n) (flat_map (turn l.round l.b) (range_with_len (l.done + 1) (l.n - l.done)))
+  limited : IsTrue g.D.Disk.tells → (indexed : Bool)
+      → (indexed ≡ true → IsIndexed (g.D.Disk.files l.initial.disk).pkg (g.D.Disk.files l.initial.disk).idx l.initial.db) → Limited indexed (round_changes l.round l.b l.n) (flat_map (turn l.round l.b) (range_with_len (l.done + 1) (l.n - l.done)))
       (state (g.D.Disk.files l.initial.disk).pkg l.initial.db.store) (state (g.D.Disk.files l.disk).pkg l.db.store) l.initial.db.store l.db.store;
   few : l.changes ≤ l.done;
   carried : IsCarried g.D.Disk.tells (g.D.Disk.files l.initial.disk) (g.D.Disk.files l.disk) (g.D.Disk.left_since l.disk (g.D.Disk.moment l.disk))

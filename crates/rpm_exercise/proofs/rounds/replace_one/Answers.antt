@@ -13,19 +13,20 @@ returns-in-Ok-put-clause-made g c = λ told.
     (omega (arith, c.requires.some)) (c.in-Ok-put.ensures.state told)
 
 pub returns-in-Err-clause-limits : goal.returns-in-Err-clause-limits
-returns-in-Err-clause-limits g c = λ told.
-    rw c.in-Err.ensures.kinds (memory_limits (state (g.D.Disk.files c.args.disk.now).pkg c.args.db.now.store) c.args.db.now.store c.args.db.now.store _)
+returns-in-Err-clause-limits g c = λ told j rows.
+    rw c.in-Err.ensures.kinds (memory_limits j (state (g.D.Disk.files c.args.disk.now).pkg c.args.db.now.store) c.args.db.now.store c.args.db.now.store _)
 
 pub returns-in-Ok-put-clause-limits : goal.returns-in-Ok-put-clause-limits
-returns-in-Ok-put-clause-limits g c = λ told.
+returns-in-Ok-put-clause-limits g c = λ told j rows.
     let done = c.in-Ok-put.ensures in
-    put_limits c.args.i 2 c.in-Ok-generated.blob.items c.deref.result.now c.deref.ensures.value c.in-Ok-generated.ensures.laid
+    put_limits j c.args.i 2 c.in-Ok-generated.blob.items c.deref.result.now c.deref.ensures.value c.in-Ok-generated.ensures.laid
     c.in-Ok-generated.ensures.again (state (g.D.Disk.files c.args.disk.now).pkg c.args.db.now.store) c.args.db.now c.put.new.self.store _ c.in-Ok.number
-    (c.args.b + c.args.i) c.in-Ok.ensures.value _ (record { failed = 0; changes = 1 }) done.causes done.placed done.generation
+    (c.args.b + c.args.i) c.in-Ok.ensures.value _ (record { failed = 0; changes = 1 }) done.causes done.placed done.generation (λ yes. done.full told c.requires.going (rows yes))
 
 pub returns-clause-limits : goal.returns-clause-limits
-returns-clause-limits g c = λ told.
+returns-clause-limits g c = λ told j rows.
     rw c.halt_of.ensures
-    (put_refused c.args.i 2 c.in-Ok-generated.blob.items c.deref.result.now c.deref.ensures.value c.in-Ok-generated.ensures.laid
+    (put_refused j c.args.i 2 c.in-Ok-generated.blob.items c.deref.result.now c.deref.ensures.value c.in-Ok-generated.ensures.laid
     c.in-Ok-generated.ensures.again (state (g.D.Disk.files c.args.disk.now).pkg c.args.db.now.store) c.args.db.now c.put.new.self.store _ c.in-Ok.number
-    (c.args.b + c.args.i) c.in-Ok.ensures.value c.in-Err-put.fault c.in-Err-put.ensures.causes c.in-Err-put.ensures.placed)
+    (c.args.b + c.args.i) c.in-Ok.ensures.value c.in-Err-put.fault c.in-Err-put.ensures.causes c.in-Err-put.ensures.placed
+    (λ yes. c.in-Err-put.ensures.full told c.requires.going (rows yes)))

@@ -32,6 +32,7 @@ returns-in-Err-tell-clause-runs g c =
     (λ x y z log same. ap (λ (f : Files). f.log) same ∙ log) c.in-Ok.ensures.runs c.in-Err-tell.ensures.runs
 
 pub returns-in-Err-tell-clause-limits : goal.returns-in-Err-tell-clause-limits
-returns-in-Err-tell-clause-limits g c = λ told.
+returns-in-Err-tell-clause-limits g c = λ told j rows.
     let s = state (g.D.Disk.files c.args.disk.now).pkg c.args.db.now.store in
-    telling_limits s c.args.db.now.store c.change_all.new.db.store (changes c.args.n s) c.in-Err-tell.halt c.in-Err-tell.ensures.kinds
+    telling_limits j s c.args.db.now.store c.change_all.new.db.store (changes c.args.n s) c.in-Err-tell.halt c.in-Err-tell.ensures.kinds
+    (λ yes. c.in-Err-tell.ensures.lawful told (λ is. (c.in-Ok.ensures.carried.index told (rows yes)).rows_are))

@@ -1,4 +1,4 @@
-use Rattle.std.proofs.Common.{Result, Ok, Err, is_some, refl, ap, ◌∙◌, subst}
+use Rattle.std.proofs.Common.{Result, Ok, Err, true, is_some, refl, ap, ◌∙◌, subst}
 use Rattle.std.specs.Prelude.{IfOk}
 use Rattle.rpm_outside.specs.Buffered.{inner}
 use Rattle.rpm_pkgdb.specs.Slots.{slot_with}
@@ -7,7 +7,7 @@ use Rattle.rpm_db.specs.Lawful.{Remade}
 use Rattle.rpm_db.specs.State.{State, state}
 use Rattle.rpm_db.specs.inner.Running.{runs_none, runs_then}
 use Rattle.rpm_db.specs.inner.Writes.{SameLog}
-use Rattle.rpm_change.specs.Endings.{outputs, Ended, IndexTurn}
+use Rattle.rpm_change.specs.Endings.{outputs, Ended}
 use Rattle.rpm_change.specs.Limits.{LimitsTurn}
 use Rattle.rpm_exercise.specs.Exercised.{exercise}
 use Rattle.rpm_exercise.specs.Rounds.{changes}
@@ -32,13 +32,6 @@ returns-in-Ok-clause-ended g c = λ told et e.
     (c.in-Ok.ensures.runs.reads_as told) c.in-Ok.ensures.store in
     subst (λ (s : State). Ended (exercise c.args.n s) s u c.change_and_tell.result old new) same
     (c.change_and_tell.ensures.ended told (c.in-Ok.ensures.index told) et e)
-
-pub returns-in-Ok-clause-room : goal.returns-in-Ok-clause-room
-returns-in-Ok-clause-room g c = λ told.
-    let same = state_remade (g.D.Disk.files c.args.disk.now) (g.D.Disk.files c.renew.new.disk) c.args.db.now c.renew.new.db
-    (c.in-Ok.ensures.runs.reads_as told) c.in-Ok.ensures.store in
-    subst (λ (s : State). IndexTurn s (changes c.args.n s) c.change_and_tell.result) same
-    (c.change_and_tell.ensures.room told (c.in-Ok.ensures.index told))
 
 pub returns-in-Ok-clause-going : goal.returns-in-Ok-clause-going
 returns-in-Ok-clause-going g c = if_ok _ _ c.change_and_tell.result (λ carried. carried.going) c.change_and_tell.ensures.carried
@@ -69,12 +62,12 @@ pub returns-in-Ok-clause-limits : goal.returns-in-Ok-clause-limits
 returns-in-Ok-clause-limits g c = λ told.
     let same = state_remade (g.D.Disk.files c.args.disk.now) (g.D.Disk.files c.renew.new.disk) c.args.db.now c.renew.new.db
     (c.in-Ok.ensures.runs.reads_as told) c.in-Ok.ensures.store in
-    subst (λ (v : Store). LimitsTurn (state (g.D.Disk.files c.args.disk.now).pkg c.args.db.now.store) v c.change_and_tell.new.db.store
+    subst (λ (v : Store). LimitsTurn true (state (g.D.Disk.files c.args.disk.now).pkg c.args.db.now.store) v c.change_and_tell.new.db.store
     (changes c.args.n (state (g.D.Disk.files c.args.disk.now).pkg c.args.db.now.store)) c.change_and_tell.result) c.in-Ok.ensures.store
-    (subst (λ (s : State). LimitsTurn s c.renew.new.db.store c.change_and_tell.new.db.store (changes c.args.n s) c.change_and_tell.result) same
-    (c.change_and_tell.ensures.limits told))
+    (subst (λ (s : State). LimitsTurn true s c.renew.new.db.store c.change_and_tell.new.db.store (changes c.args.n s) c.change_and_tell.result) same
+    (c.change_and_tell.ensures.limits told true (λ yes. c.in-Ok.ensures.index told)))
 
 pub returns-in-Err-clause-limits : goal.returns-in-Err-clause-limits
 returns-in-Err-clause-limits g c = λ told.
     let s = state (g.D.Disk.files c.args.disk.now).pkg c.args.db.now.store in
-    reading_limits s c.args.db.now.store c.renew.new.db.store (changes c.args.n s) c.in-Err.halt c.in-Err.ensures.kinds
+    reading_limits true s c.args.db.now.store c.renew.new.db.store (changes c.args.n s) c.in-Err.halt c.in-Err.ensures.kinds

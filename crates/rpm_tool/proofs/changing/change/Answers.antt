@@ -4,12 +4,12 @@ use Rattle.rpm_outside.specs.Files.{Files}
 use Rattle.rpm_outside.specs.Logs.{reopened}
 use Rattle.rpm_change.specs.Endings.{outputs}
 use Rattle.rpm_tool.specs.Changing.{EmptyBy}
-use Rattle.rpm_tool.specs.Tasks.{task_parts, task_course, needs_none}
+use Rattle.rpm_tool.specs.Tasks.{task_parts, task_course, is_anew, needs_none}
 use Rattle.rpm_tool.proofs.Emptied.{recover_empty}
-use Rattle.rpm_tool.specs.Limits.{LimitsOn, LogOn}
+use Rattle.rpm_tool.specs.Limits.{LogOn}
 use Rattle.rpm_tool.proofs.LimitEnds.{limits_unrecovered}
 use Rattle.rpm_tool.proofs.Logged.{log_unrecovered}
-use Rattle.rpm_tool.proofs.Regrouped.{recovered_changes}
+use Rattle.rpm_tool.proofs.Regrouped.{recovered_changes, recovered_limits}
 use Rattle.rpm_tool.proofs.Unmade.{through_none, recovered_did, unrecovered_did, unrecovered_changes}
 use Rattle.rpm_db.specs.State.{State}
 use Rattle.rpm_change.specs.Steps.{Course}
@@ -31,7 +31,8 @@ returns-in-Ok-clause-one g c = λ told shelf.
           (g.E.Sink.taken (inner c.change_recovered.new.err))) (first.says told) (first.closed told) (first.stands told) one.did;
       changed = recovered_changes D.files D.left_since D.moment course given c.change_recovered.result.0.changes old mid c.change_recovered.result.1
           (g.met.D.Disk.as_read old told) (first.stands told) (first.images told) (first.closed told) (first.settled told) one.changed;
-      limits = subst (λ (f : Files). LimitsOn course f given) (first.stands told) one.limits;
+      limits = recovered_limits D.files D.left_since D.moment course given c.change_recovered.result.0.changes old mid c.change_recovered.result.1
+          (g.met.D.Disk.as_read old told) (first.stands told) (first.images told) (first.closed told) (first.settled told) one.changed one.limits;
       log = subst (λ (f : Files). LogOn course f given) (first.stands told) one.log;
     }
 
@@ -51,7 +52,7 @@ returns-in-Err-clause-one g c = λ told shelf.
       did = unrecovered_did course (D.files old) c.in-Err.fault x x (first.says told) (through_none x);
       changed = unrecovered_changes D.files D.left_since D.moment course old c.recover.new.disk (g.met.D.Disk.as_read old told) (first.stands told)
           (first.images told) c.in-Err.fault (first.says told);
-      limits = limits_unrecovered course (reopened (D.files old)) c.in-Err.fault;
+      limits = λ indexed may. limits_unrecovered indexed (is_anew (task_parts c.args.task.now)) course (reopened (D.files old)) c.in-Err.fault;
       log = log_unrecovered course (reopened (D.files old)) c.in-Err.fault;
     })
 

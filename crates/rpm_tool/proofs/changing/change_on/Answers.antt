@@ -1,13 +1,14 @@
-use Rattle.std.proofs.Common.{ℕ, List, map, ap, subst}
+use Rattle.std.proofs.Common.{ℕ, List, map, false, ap, subst}
 use Rattle.std.specs.Prelude.{IsTrue}
 use Rattle.rpm_outside.specs.Buffered.{inner}
+use Rattle.rpm_db.specs.Lawful.{IsLawful}
 use Rattle.rpm_change.specs.Adding.{add_files}
 use Rattle.rpm_change.specs.Endings.{outputs}
 use Rattle.rpm_change.specs.Erasing.{erase}
 use Rattle.rpm_tool.specs.Tasks.{task_parts, reads_shelf}
 use Rattle.rpm_tool.specs.Working.{Worked, why_of}
 use Rattle.rpm_tool.proofs.Emptied.{unheld}
-use Rattle.rpm_tool.specs.Limits.{LimitsOn}
+use Rattle.rpm_tool.specs.Limits.{LimitsBy}
 use Rattle.rpm_tool.proofs.changing.change_on.Goals as goal
 
 pub returns-in-Make-clause-worked : goal.returns-in-Make-clause-worked
@@ -80,7 +81,7 @@ returns-in-Make-clause-limits g c = λ told shelf. rw c.in-Make.is (c.make_on.en
 pub returns-in-Add-clause-limits : goal.returns-in-Add-clause-limits
 returns-in-Add-clause-limits g c = λ told shelf.
     let shelf_told : IsTrue g.S.Shelf.tells = shelf (ap (λ (t : _). reads_shelf (task_parts t)) c.in-Add.is) in
-    rw c.in-Add.is (subst (λ (files : List (List ℕ)). LimitsOn (λ s. add_files (g.S.Shelf.paths c.args.shelf.now) c.args.now s files)
+    rw c.in-Add.is (subst (λ (files : List (List ℕ)). LimitsBy false (IsLawful (g.D.Disk.files c.args.disk.now).pkg (g.D.Disk.files c.args.disk.now).idx) (λ s. add_files (g.S.Shelf.paths c.args.shelf.now) c.args.now s files)
     (g.D.Disk.files c.args.disk.now) (why_of c.add_on.result)) (ap (map (λ path. path.now)) c.as_slice.ensures.value)
     (c.add_on.ensures.limits told shelf_told))
 
@@ -91,7 +92,7 @@ returns-in-Replace-clause-limits g c = λ told shelf.
 
 pub returns-in-Erase-clause-limits : goal.returns-in-Erase-clause-limits
 returns-in-Erase-clause-limits g c = λ told shelf.
-    rw c.in-Erase.is (subst (λ (ns : List ℕ). LimitsOn (λ s. erase s ns) (g.D.Disk.files c.args.disk.now) (why_of c.erase_on.result))
+    rw c.in-Erase.is (subst (λ (ns : List ℕ). LimitsBy false (IsLawful (g.D.Disk.files c.args.disk.now).pkg (g.D.Disk.files c.args.disk.now).idx) (λ s. erase s ns) (g.D.Disk.files c.args.disk.now) (why_of c.erase_on.result))
     c.as_slice-in-Erase.ensures.value (c.erase_on.ensures.limits told))
 
 pub returns-in-Import-clause-limits : goal.returns-in-Import-clause-limits

@@ -8,17 +8,20 @@ use Rattle.rpm_outside.specs.Files.{Files, with_file}
 use Rattle.rpm_outside.specs.Logs.{reopened}
 use Rattle.rpm_group.specs.Layers.{laid_files}
 use Rattle.rpm_group.specs.Overlay.{overlay_below, overlay_held, overlay_read}
+use Rattle.rpm_db.specs.Lawful.{IsLawful}
 use Rattle.rpm_db.specs.State.{State}
 use Rattle.rpm_change.specs.Steps.{Course}
 use Rattle.rpm_change.specs.Endings.{outputs}
+use Rattle.rpm_tool.specs.Keyed.{IsLawfulGroup}
 use Rattle.rpm_tool.specs.Tasks.{task_parts, task_course, is_anew, changes_index, needs_none}
-use Rattle.rpm_tool.specs.Limits.{LimitsOn}
+use Rattle.rpm_tool.specs.Limits.{LimitsBy}
 use Rattle.rpm_tool.specs.Working.{WorkedWith, why_of, is_halt}
 use Rattle.rpm_tool.proofs.Emptied.{load_empty, group_empty, same_empty}
 use Rattle.rpm_tool.proofs.Grouped.{group_did, group_changes}
 use Rattle.rpm_tool.proofs.Ends.{below_same, below_back, below_moment, below_settled, below_closed}
 use Rattle.rpm_tool.proofs.LimitEnds.{limits_grouped, limits_unloaded}
 use Rattle.rpm_tool.proofs.Logged.{log_grouped, log_unloaded}
+use Rattle.rpm_tool.proofs.Standing.{may_begin}
 use Rattle.rpm_tool.proofs.Unloaded.{unloaded_did, unloaded_changes}
 use Rattle.rpm_tool.proofs.changing.change_recovered.Goals as goal
 
@@ -59,6 +62,12 @@ returns-in-Ok-clause-one g c = λ told shelf.
     let worked : WorkedWith (is_anew t) (changes_index t) course (with_file Log (D.files first).log r) new ended before now =
     subst (λ (f : Files). WorkedWith (is_anew t) (changes_index t) course f new ended before now) (c.in-Ok.ensures.files told)
     (c.change_on-ended.ensures.worked told shelf) in
+    let met : LimitsBy (is_anew t) (IsLawful r.pkg r.idx) course (with_file Log (D.files first).log r) (why_of ended) =
+    subst (λ (f : Files). LimitsBy (is_anew t) (IsLawful f.pkg f.idx) course f (why_of ended)) (c.in-Ok.ensures.files told)
+    (c.change_on-ended.ensures.limits told shelf) in
+    let limits : LimitsBy (is_anew t) (IsLawfulGroup (D.files first)) course r given =
+    λ indexed may. limits_grouped indexed (is_anew t) course r ended given n ends.says
+    (met indexed (λ asked. may_begin (is_anew t) (λ group. group.lawful) (may asked))) in
     record {
       did = group_did D.files D.left_since D.moment course ended given n first last final new before now (c.requires.closed told) worked ends;
       changed = group_changes D.files D.left_since D.moment course ended given n first last final new before now (c.requires.closed told) worked ends
@@ -66,9 +75,9 @@ returns-in-Ok-clause-one g c = λ told shelf.
           (g.met.D.Disk.as_read first told) (c.requires.settled told)
           (below_back D.tells D.files D.left_since D.moment D.bytes_read D.follows D.faults first mid last ro rn looks keeps told)
           (below_moment D.tells D.files D.left_since D.moment D.bytes_read D.follows D.faults first mid last ro rn looks keeps told)
-          (g.met.D.Disk.earlier final (D.moment last) (D.moment final) (D.files final) told ends.images.later (omega arith) (g.met.D.Disk.as_read final told));
-      limits = limits_grouped course r ended given n ends.says
-          (subst (λ (f : Files). LimitsOn course f (why_of ended)) (c.in-Ok.ensures.files told) (c.change_on-ended.ensures.limits told shelf));
+          (g.met.D.Disk.earlier final (D.moment last) (D.moment final) (D.files final) told ends.images.later (omega arith) (g.met.D.Disk.as_read final told))
+          limits;
+      limits = limits;
       log = log_grouped course r new before now ended given n ends.says
           (λ w is. subst (λ (e : Result Tally Why). IfErr e (λ w. is_halt w ≡ true)) is c.change_on-ended.ensures.halted) worked.went
           (c.end_group.ensures.log told);
@@ -97,7 +106,7 @@ returns-in-Err-clause-one g c = λ told shelf.
       changed = unloaded_changes D.tells D.files D.left_since D.moment D.bytes_read D.follows course old back c.in-Err.ensures.looks told
           (c.requires.closed told) (c.requires.settled told) fault (c.in-Err.ensures.says told) x (g.met.D.Disk.as_read old told)
           (g.met.D.Disk.as_read back told);
-      limits = limits_unloaded course r fault;
+      limits = λ indexed may. limits_unloaded indexed (is_anew (task_parts c.args.task.now)) course r fault;
       log = log_unloaded course r fault;
     })
 

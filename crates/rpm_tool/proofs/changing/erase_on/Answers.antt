@@ -1,12 +1,11 @@
-use Rattle.std.proofs.Common.{◌∙◌, subst}
+use Rattle.std.proofs.Common.{◌∙◌, false, Ok, Err}
 use Rattle.rpm_outside.specs.Buffered.{inner}
 use Rattle.rpm_db.specs.State.{state}
 use Rattle.rpm_db.specs.inner.Running.{runs_then}
 use Rattle.rpm_db.specs.inner.Writes.{SameLog}
-use Rattle.rpm_change.specs.Endings.{outputs, IsOfErasing}
+use Rattle.rpm_change.specs.Endings.{outputs}
 use Rattle.rpm_change.specs.Erasing.{erase}
-use Rattle.rpm_tool.proofs.Limited.{limits_unopened, limits_halted, limits_worked}
-use Rattle.rpm_tool.proofs.Unnumbered.{erase_has, none_spent}
+use Rattle.rpm_tool.proofs.Limited.{limits_unopened, limits_halted, limits_worked, plain_stops}
 use Rattle.rpm_tool.proofs.Paged.{still_paged}
 use Rattle.rpm_tool.proofs.Unmade.{through_none}
 use Rattle.rpm_tool.proofs.Works.{done_worked, halted_worked}
@@ -26,9 +25,9 @@ returns-in-Ok-erase_numbers-clause-worked g c = λ told out_tells out.
     let now = outputs out_tells out g.E.Sink.tells (g.E.Sink.taken (inner c.erase_numbers.new.err)) in
     done_worked (λ s. erase s c.args.numbers.now) (g.D.Disk.files c.args.disk.now) (g.D.Disk.files c.open_to_change.new.disk)
     (g.D.Disk.files c.erase_numbers.new.disk) c.in-Ok.db c.erase_numbers.new.db before now c.in-Ok-erase_numbers.tally (c.in-Ok.ensures.opened told)
-    (said.carried.serving told).keeps (said.ended told out_tells out) (λ lawful. said.room told (c.in-Ok.ensures.rows told lawful))
+    (said.carried.serving told).keeps (said.ended told out_tells out)
     (still_paged (erase (state (g.D.Disk.files c.open_to_change.new.disk).pkg c.in-Ok.db.store) c.args.numbers.now).changes c.in-Ok.db
-    c.erase_numbers.new.db.store c.in-Ok.ensures.not_blank (said.store_room told))
+    c.erase_numbers.new.db.store c.in-Ok.ensures.not_blank (said.limits told false (λ asked. absurd cc)).stores)
     (λ lawful. said.carried.index told (c.in-Ok.ensures.rows told lawful))
 
 pub returns-in-Ok-erase_numbers-clause-runs : goal.returns-in-Ok-erase_numbers-clause-runs
@@ -45,7 +44,7 @@ returns-clause-worked g c = λ told out_tells out.
     rw c.why_of_halt.ensures (halted_worked (λ s. erase s c.args.numbers.now) (g.D.Disk.files c.args.disk.now) (g.D.Disk.files c.open_to_change.new.disk)
     (g.D.Disk.files c.erase_numbers.new.disk) c.in-Ok.db c.erase_numbers.new.db before now c.in-Err-erase_numbers.halt
     (state (g.D.Disk.files c.erase_numbers.new.disk).pkg c.erase_numbers.new.db.store) (c.in-Ok.ensures.opened told)
-    (said.ended told out_tells out) (λ lawful. said.room told (c.in-Ok.ensures.rows told lawful))
+    (said.ended told out_tells out)
     (c.in-Ok.ensures.broken told) (said.whole told))
 
 pub returns-clause-runs : goal.returns-clause-runs
@@ -55,27 +54,26 @@ returns-clause-runs g c =
     c.in-Ok.ensures.runs c.erase_numbers.ensures.runs
 
 pub returns-in-Err-clause-limits : goal.returns-in-Err-clause-limits
-returns-in-Err-clause-limits g c = λ told.
-    limits_unopened (λ s. erase s c.args.numbers.now)
+returns-in-Err-clause-limits g c = λ told indexed may.
+    limits_unopened indexed false (λ s. erase s c.args.numbers.now)
     (g.D.Disk.files c.args.disk.now) (g.D.Disk.files c.open_to_change.new.disk) c.in-Err.why (c.in-Err.ensures.opened told)
 
 pub returns-in-Ok-erase_numbers-clause-limits : goal.returns-in-Ok-erase_numbers-clause-limits
-returns-in-Ok-erase_numbers-clause-limits g c = λ told.
-    let said = c.in-Ok-erase_numbers.ensures in
-    limits_worked (λ s. erase s c.args.numbers.now)
-    (g.D.Disk.files c.args.disk.now) (g.D.Disk.files c.open_to_change.new.disk) c.in-Ok.db c.erase_numbers.new.db
+returns-in-Ok-erase_numbers-clause-limits g c = λ told indexed may.
+    let old = g.D.Disk.files c.args.disk.now in
+    let mid = g.D.Disk.files c.open_to_change.new.disk in
+    limits_worked indexed false (λ s. erase s c.args.numbers.now) old mid c.in-Ok.db
     (c.in-Ok.ensures.opened told) (c.in-Ok.ensures.begun told) c.in-Ok-erase_numbers.tally
-    (erase_has (state (g.D.Disk.files c.open_to_change.new.disk).pkg c.in-Ok.db.store) c.args.numbers.now)
-    (said.generation told)
-    (said.store_room told)
+    (plain_stops indexed (λ s. erase s c.args.numbers.now) old mid c.in-Ok.db
+    (c.in-Ok.ensures.opened told) (Ok c.in-Ok-erase_numbers.tally)
+    (c.in-Ok-erase_numbers.ensures.limits told indexed (λ asked. c.in-Ok.ensures.rows told (may asked))).first)
 
 pub returns-clause-limits : goal.returns-clause-limits
-returns-clause-limits g c = λ told.
-    let said = c.in-Err-erase_numbers.ensures in
-    let changes = (erase (state (g.D.Disk.files c.open_to_change.new.disk).pkg c.in-Ok.db.store) c.args.numbers.now).changes in
-    rw c.why_of_halt.ensures (limits_halted (λ s. erase s c.args.numbers.now)
-    (g.D.Disk.files c.args.disk.now) (g.D.Disk.files c.open_to_change.new.disk) c.in-Ok.db c.erase_numbers.new.db
+returns-clause-limits g c = λ told indexed may.
+    let old = g.D.Disk.files c.args.disk.now in
+    let mid = g.D.Disk.files c.open_to_change.new.disk in
+    rw c.why_of_halt.ensures (limits_halted indexed false (λ s. erase s c.args.numbers.now) old mid c.in-Ok.db
     (c.in-Ok.ensures.opened told) (c.in-Ok.ensures.begun told) c.in-Err-erase_numbers.halt
-    (none_spent (state (g.D.Disk.files c.open_to_change.new.disk).pkg c.in-Ok.db.store) changes c.in-Err-erase_numbers.halt
-    (λ is. subst IsOfErasing is said.kinds))
-    (said.generation told) (said.store_room told))
+    (plain_stops indexed (λ s. erase s c.args.numbers.now) old mid c.in-Ok.db
+    (c.in-Ok.ensures.opened told) (Err c.in-Err-erase_numbers.halt)
+    (c.in-Err-erase_numbers.ensures.limits told indexed (λ asked. c.in-Ok.ensures.rows told (may asked))).first))

@@ -1,4 +1,4 @@
-use Rattle.std.proofs.Common.{map, ◌∙◌}
+use Rattle.std.proofs.Common.{map, ◌∙◌, false, Ok, Err}
 use Rattle.rpm_outside.specs.Buffered.{inner}
 use Rattle.rpm_db.specs.State.{State, state}
 use Rattle.rpm_db.specs.inner.Running.{runs_then}
@@ -6,7 +6,7 @@ use Rattle.rpm_db.specs.inner.Writes.{SameLog}
 use Rattle.rpm_change.specs.Steps.{Course}
 use Rattle.rpm_change.specs.Endings.{outputs}
 use Rattle.rpm_change.specs.Adding.{add_files}
-use Rattle.rpm_tool.proofs.Limited.{limits_unopened, limits_halted, limits_worked}
+use Rattle.rpm_tool.proofs.Limited.{limits_unopened, limits_halted, limits_worked, plain_stops}
 use Rattle.rpm_tool.proofs.Paged.{still_paged}
 use Rattle.rpm_tool.proofs.Unmade.{through_none}
 use Rattle.rpm_tool.proofs.Works.{done_worked, halted_worked}
@@ -28,9 +28,9 @@ returns-in-Ok-add_files-clause-worked g c = λ told telling out_tells out.
     let now = outputs out_tells out g.E.Sink.tells (g.E.Sink.taken (inner c.add_files.new.err)) in
     done_worked course (g.D.Disk.files c.args.disk.now) (g.D.Disk.files c.open_to_change.new.disk)
     (g.D.Disk.files c.add_files.new.disk) c.in-Ok.db c.add_files.new.db before now c.in-Ok-add_files.tally (c.in-Ok.ensures.opened told)
-    (said.carried.serving told).keeps (said.ended told telling out_tells out) (λ lawful. said.room told telling (c.in-Ok.ensures.rows told lawful))
+    (said.carried.serving told).keeps (said.ended told telling out_tells out)
     (still_paged (course (state (g.D.Disk.files c.open_to_change.new.disk).pkg c.in-Ok.db.store)).changes c.in-Ok.db c.add_files.new.db.store
-    c.in-Ok.ensures.not_blank (said.store_room told telling))
+    c.in-Ok.ensures.not_blank (said.limits told telling false (λ asked. absurd cc)).stores)
     (λ lawful. said.carried.index told (c.in-Ok.ensures.rows told lawful))
 
 pub returns-in-Ok-add_files-clause-runs : goal.returns-in-Ok-add_files-clause-runs
@@ -48,7 +48,7 @@ returns-clause-worked g c = λ told telling out_tells out.
     rw c.why_of_halt.ensures (halted_worked course (g.D.Disk.files c.args.disk.now) (g.D.Disk.files c.open_to_change.new.disk)
     (g.D.Disk.files c.add_files.new.disk) c.in-Ok.db c.add_files.new.db before now c.in-Err-add_files.halt
     (state (g.D.Disk.files c.add_files.new.disk).pkg c.add_files.new.db.store) (c.in-Ok.ensures.opened told)
-    (said.ended told telling out_tells out) (λ lawful. said.room told telling (c.in-Ok.ensures.rows told lawful))
+    (said.ended told telling out_tells out)
     (c.in-Ok.ensures.broken told) (said.whole told))
 
 pub returns-clause-runs : goal.returns-clause-runs
@@ -58,22 +58,26 @@ returns-clause-runs g c =
     c.in-Ok.ensures.runs c.add_files.ensures.runs
 
 pub returns-in-Err-clause-limits : goal.returns-in-Err-clause-limits
-returns-in-Err-clause-limits g c = λ told telling.
-    limits_unopened (λ s. add_files (g.S.Shelf.paths c.args.shelf.now) c.args.now s (map (λ path. path.now) c.args.paths.now))
+returns-in-Err-clause-limits g c = λ told telling indexed may.
+    limits_unopened indexed false (λ s. add_files (g.S.Shelf.paths c.args.shelf.now) c.args.now s (map (λ path. path.now) c.args.paths.now))
     (g.D.Disk.files c.args.disk.now) (g.D.Disk.files c.open_to_change.new.disk) c.in-Err.why (c.in-Err.ensures.opened told)
 
 pub returns-in-Ok-add_files-clause-limits : goal.returns-in-Ok-add_files-clause-limits
-returns-in-Ok-add_files-clause-limits g c = λ told telling.
-    let said = c.in-Ok-add_files.ensures in
-    limits_worked (λ s. add_files (g.S.Shelf.paths c.args.shelf.now) c.args.now s (map (λ path. path.now) c.args.paths.now))
-    (g.D.Disk.files c.args.disk.now) (g.D.Disk.files c.open_to_change.new.disk) c.in-Ok.db c.add_files.new.db
-    (c.in-Ok.ensures.opened told) (c.in-Ok.ensures.begun told) c.in-Ok-add_files.tally (said.numbers told telling) (said.generation told telling)
-    (said.store_room told telling)
+returns-in-Ok-add_files-clause-limits g c = λ told telling indexed may.
+    let old = g.D.Disk.files c.args.disk.now in
+    let mid = g.D.Disk.files c.open_to_change.new.disk in
+    limits_worked indexed false (λ s. add_files (g.S.Shelf.paths c.args.shelf.now) c.args.now s (map (λ path. path.now) c.args.paths.now)) old mid c.in-Ok.db
+    (c.in-Ok.ensures.opened told) (c.in-Ok.ensures.begun told) c.in-Ok-add_files.tally
+    (plain_stops indexed (λ s. add_files (g.S.Shelf.paths c.args.shelf.now) c.args.now s (map (λ path. path.now) c.args.paths.now)) old mid c.in-Ok.db
+    (c.in-Ok.ensures.opened told) (Ok c.in-Ok-add_files.tally)
+    (c.in-Ok-add_files.ensures.limits told telling indexed (λ asked. c.in-Ok.ensures.rows told (may asked))).first)
 
 pub returns-clause-limits : goal.returns-clause-limits
-returns-clause-limits g c = λ told telling.
-    let said = c.in-Err-add_files.ensures in
-    rw c.why_of_halt.ensures (limits_halted (λ s. add_files (g.S.Shelf.paths c.args.shelf.now) c.args.now s (map (λ path. path.now) c.args.paths.now))
-    (g.D.Disk.files c.args.disk.now) (g.D.Disk.files c.open_to_change.new.disk) c.in-Ok.db c.add_files.new.db
-    (c.in-Ok.ensures.opened told) (c.in-Ok.ensures.begun told) c.in-Err-add_files.halt (said.numbers told telling)
-    (said.generation told telling) (said.store_room told telling))
+returns-clause-limits g c = λ told telling indexed may.
+    let old = g.D.Disk.files c.args.disk.now in
+    let mid = g.D.Disk.files c.open_to_change.new.disk in
+    rw c.why_of_halt.ensures (limits_halted indexed false (λ s. add_files (g.S.Shelf.paths c.args.shelf.now) c.args.now s (map (λ path. path.now) c.args.paths.now)) old mid c.in-Ok.db
+    (c.in-Ok.ensures.opened told) (c.in-Ok.ensures.begun told) c.in-Err-add_files.halt
+    (plain_stops indexed (λ s. add_files (g.S.Shelf.paths c.args.shelf.now) c.args.now s (map (λ path. path.now) c.args.paths.now)) old mid c.in-Ok.db
+    (c.in-Ok.ensures.opened told) (Err c.in-Err-add_files.halt)
+    (c.in-Err-add_files.ensures.limits told telling indexed (λ asked. c.in-Ok.ensures.rows told (may asked))).first))

@@ -1,13 +1,13 @@
-use Rattle.std.proofs.Common.{true, false, [], Err, sym, ap, ◌∙◌, subst}
+use Rattle.std.proofs.Common.{true, false, [], Ok, Err, sym, ap, ◌∙◌, subst}
 use Rattle.rpm_outside.specs.Buffered.{inner}
 use Rattle.rpm_db.specs.State.{state}
 use Rattle.rpm_db.specs.inner.Running.{runs_then}
 use Rattle.rpm_db.specs.inner.Writes.{SameLog}
 use Rattle.rpm_change.specs.Endings.{Outputs, Through, outputs}
 use Rattle.rpm_exercise.specs.Exercised.{exercise}
-use Rattle.rpm_tool.proofs.Exercised.{stopped_exercise, done_exercise}
+use Rattle.rpm_tool.proofs.Exercised.{stopped_exercise, done_exercise, exercise_stops, limits_exercised}
 use Rattle.rpm_tool.proofs.ExerciseEmpty.{empty_unopened, empty_stopped, empty_done}
-use Rattle.rpm_tool.proofs.Limited.{limits_unopened, limits_exercised, limits_worked}
+use Rattle.rpm_tool.proofs.Limited.{limits_unopened, limits_worked}
 use Rattle.rpm_tool.proofs.Paged.{still_paged}
 use Rattle.rpm_tool.proofs.Unmade.{through_none}
 use Rattle.rpm_tool.proofs.Unopened.{open_with}
@@ -30,9 +30,9 @@ returns-in-Ok-exercise-clause-worked g c = λ told err_tells err.
     let now = outputs g.O.Sink.tells (g.O.Sink.taken (inner c.exercise.new.out)) err_tells err in
     done_exercise c.args.headers (g.D.Disk.files c.args.disk.now) (g.D.Disk.files c.open_to_change.new.disk) (g.D.Disk.files c.exercise.new.disk)
     c.in-Ok.db c.exercise.new.db before now (c.in-Ok.ensures.opened told) (c.in-Ok.ensures.from_one told) c.in-Ok-exercise.tally said.empty
-    (said.serving told).keeps (said.ended told err_tells err) (said.room told)
+    (said.serving told).keeps (said.ended told err_tells err)
     (still_paged (exercise c.args.headers (state (g.D.Disk.files c.open_to_change.new.disk).pkg c.in-Ok.db.store)).changes c.in-Ok.db c.exercise.new.db.store
-    c.in-Ok.ensures.not_blank (said.store_room told)) (said.index told)
+    c.in-Ok.ensures.not_blank (said.limits told).stores) (said.index told)
 
 pub returns-in-Ok-exercise-clause-empty : goal.returns-in-Ok-exercise-clause-empty
 returns-in-Ok-exercise-clause-empty g c = λ told.
@@ -53,7 +53,7 @@ returns-clause-worked g c = λ told err_tells err.
     rw c.why_of_exercise.ensures.says (stopped_exercise c.args.headers (g.D.Disk.files c.args.disk.now) (g.D.Disk.files c.open_to_change.new.disk)
     (g.D.Disk.files c.exercise.new.disk) c.in-Ok.db c.exercise.new.db before now (c.in-Ok.ensures.opened told) (c.in-Ok.ensures.from_one told)
     c.in-Err-exercise.fault (state (g.D.Disk.files c.exercise.new.disk).pkg c.exercise.new.db.store) said.empty (said.ended told err_tells err)
-    (said.room told) (λ held is. subst (λ (x : Outputs). Through [] before x)
+    (said.limits told) (λ held is. subst (λ (x : Outputs). Through [] before x)
     (ap (λ o. outputs g.O.Sink.tells (g.O.Sink.taken (inner o)) err_tells err)
     (sym (c.exercise.ensures.refused held (c.in-Err-exercise.is ∙ ap Err is)).2)) (through_none before)))
 
@@ -69,20 +69,19 @@ returns-clause-runs g c =
     c.in-Ok.ensures.runs c.exercise.ensures.runs
 
 pub returns-in-Err-clause-limits : goal.returns-in-Err-clause-limits
-returns-in-Err-clause-limits g c = λ told.
-    limits_unopened (λ s. exercise c.args.headers s) (g.D.Disk.files c.args.disk.now) (g.D.Disk.files c.open_to_change.new.disk) c.in-Err.why
+returns-in-Err-clause-limits g c = λ told indexed may.
+    limits_unopened indexed true (λ s. exercise c.args.headers s) (g.D.Disk.files c.args.disk.now) (g.D.Disk.files c.open_to_change.new.disk) c.in-Err.why
     (c.in-Err.ensures.opened told)
 
 pub returns-in-Ok-exercise-clause-limits : goal.returns-in-Ok-exercise-clause-limits
-returns-in-Ok-exercise-clause-limits g c = λ told.
-    let said = c.in-Ok-exercise.ensures in
-    limits_worked (λ s. exercise c.args.headers s) (g.D.Disk.files c.args.disk.now) (g.D.Disk.files c.open_to_change.new.disk) c.in-Ok.db
-    c.exercise.new.db (c.in-Ok.ensures.opened told) (c.in-Ok.ensures.begun told) c.in-Ok-exercise.tally (said.numbers told) (said.generation told)
-    (said.store_room told)
+returns-in-Ok-exercise-clause-limits g c = λ told indexed may.
+    limits_worked indexed true (λ s. exercise c.args.headers s) (g.D.Disk.files c.args.disk.now) (g.D.Disk.files c.open_to_change.new.disk) c.in-Ok.db
+    (c.in-Ok.ensures.opened told) (c.in-Ok.ensures.begun told) c.in-Ok-exercise.tally
+    (λ s stored. exercise_stops indexed c.args.headers (g.D.Disk.files c.open_to_change.new.disk) c.in-Ok.db c.exercise.new.db (Ok c.in-Ok-exercise.tally)
+    (c.in-Ok.ensures.from_one told) c.in-Ok-exercise.ensures.empty (c.in-Ok-exercise.ensures.limits told))
 
 pub returns-clause-limits : goal.returns-clause-limits
-returns-clause-limits g c = λ told.
-    let said = c.in-Err-exercise.ensures in
-    rw c.why_of_exercise.ensures.says (limits_exercised (λ s. exercise c.args.headers s) (g.D.Disk.files c.args.disk.now)
+returns-clause-limits g c = λ told indexed may.
+    rw c.why_of_exercise.ensures.says (limits_exercised indexed c.args.headers (g.D.Disk.files c.args.disk.now)
     (g.D.Disk.files c.open_to_change.new.disk) c.in-Ok.db c.exercise.new.db (c.in-Ok.ensures.opened told) (c.in-Ok.ensures.begun told)
-    c.in-Err-exercise.fault (said.numbers told) (said.generation told) (said.store_room told))
+    (c.in-Ok.ensures.from_one told) c.in-Err-exercise.fault c.in-Err-exercise.ensures.empty (c.in-Err-exercise.ensures.limits told))

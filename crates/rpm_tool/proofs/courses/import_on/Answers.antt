@@ -1,4 +1,4 @@
-use Rattle.std.proofs.Common.{codes, ◌∙◌}
+use Rattle.std.proofs.Common.{codes, ◌∙◌, false, Ok, Err}
 use Rattle.rpm_outside.specs.Buffered.{inner}
 use Rattle.rpm_db.specs.State.{State, state}
 use Rattle.rpm_db.specs.inner.Running.{runs_then}
@@ -7,7 +7,7 @@ use Rattle.rpm_change.specs.Steps.{Course}
 use Rattle.rpm_change.specs.Endings.{outputs}
 use Rattle.rpm_outside.specs.Shelves.{bytes_at}
 use Rattle.rpm_change.specs.Importing.{import_list, max_headers}
-use Rattle.rpm_tool.proofs.Limited.{limits_unopened, limits_halted, limits_worked}
+use Rattle.rpm_tool.proofs.Limited.{limits_unopened, limits_halted, limits_worked, plain_stops}
 use Rattle.rpm_tool.proofs.Paged.{still_paged}
 use Rattle.rpm_tool.proofs.Unmade.{through_none}
 use Rattle.rpm_tool.proofs.Works.{done_worked, halted_worked}
@@ -29,9 +29,9 @@ returns-in-Ok-import_list-clause-worked g c = λ told telling out_tells out.
     let now = outputs out_tells out g.E.Sink.tells (g.E.Sink.taken (inner c.import_list.new.err)) in
     done_worked course (g.D.Disk.files c.args.disk.now) (g.D.Disk.files c.open_to_change.new.disk)
     (g.D.Disk.files c.import_list.new.disk) c.in-Ok.db c.import_list.new.db before now c.in-Ok-import_list.tally (c.in-Ok.ensures.opened told)
-    (said.carried.serving told).keeps (said.ended told telling out_tells out) (λ lawful. said.room told telling (c.in-Ok.ensures.rows told lawful))
+    (said.carried.serving told).keeps (said.ended told telling out_tells out)
     (still_paged (course (state (g.D.Disk.files c.open_to_change.new.disk).pkg c.in-Ok.db.store)).changes c.in-Ok.db c.import_list.new.db.store
-    c.in-Ok.ensures.not_blank (said.store_room told telling))
+    c.in-Ok.ensures.not_blank (said.limits told telling false (λ asked. absurd cc)).stores)
     (λ lawful. said.carried.index told (c.in-Ok.ensures.rows told lawful))
 
 pub returns-in-Ok-import_list-clause-runs : goal.returns-in-Ok-import_list-clause-runs
@@ -49,7 +49,7 @@ returns-clause-worked g c = λ told telling out_tells out.
     rw c.why_of_halt.ensures (halted_worked course (g.D.Disk.files c.args.disk.now) (g.D.Disk.files c.open_to_change.new.disk)
     (g.D.Disk.files c.import_list.new.disk) c.in-Ok.db c.import_list.new.db before now c.in-Err-import_list.halt
     (state (g.D.Disk.files c.import_list.new.disk).pkg c.import_list.new.db.store) (c.in-Ok.ensures.opened told)
-    (said.ended told telling out_tells out) (λ lawful. said.room told telling (c.in-Ok.ensures.rows told lawful))
+    (said.ended told telling out_tells out)
     (c.in-Ok.ensures.broken told) (said.whole told))
 
 pub returns-clause-runs : goal.returns-clause-runs
@@ -59,22 +59,26 @@ returns-clause-runs g c =
     c.in-Ok.ensures.runs c.import_list.ensures.runs
 
 pub returns-in-Err-clause-limits : goal.returns-in-Err-clause-limits
-returns-in-Err-clause-limits g c = λ told telling.
-    limits_unopened (λ s. import_list max_headers (bytes_at (g.S.Shelf.paths c.args.shelf.now) (codes "-")))
+returns-in-Err-clause-limits g c = λ told telling indexed may.
+    limits_unopened indexed false (λ s. import_list max_headers (bytes_at (g.S.Shelf.paths c.args.shelf.now) (codes "-")))
     (g.D.Disk.files c.args.disk.now) (g.D.Disk.files c.open_to_change.new.disk) c.in-Err.why (c.in-Err.ensures.opened told)
 
 pub returns-in-Ok-import_list-clause-limits : goal.returns-in-Ok-import_list-clause-limits
-returns-in-Ok-import_list-clause-limits g c = λ told telling.
-    let said = c.in-Ok-import_list.ensures in
-    limits_worked (λ s. import_list max_headers (bytes_at (g.S.Shelf.paths c.args.shelf.now) (codes "-")))
-    (g.D.Disk.files c.args.disk.now) (g.D.Disk.files c.open_to_change.new.disk) c.in-Ok.db c.import_list.new.db
-    (c.in-Ok.ensures.opened told) (c.in-Ok.ensures.begun told) c.in-Ok-import_list.tally (said.numbers told telling) (said.generation told telling)
-    (said.store_room told telling)
+returns-in-Ok-import_list-clause-limits g c = λ told telling indexed may.
+    let old = g.D.Disk.files c.args.disk.now in
+    let mid = g.D.Disk.files c.open_to_change.new.disk in
+    limits_worked indexed false (λ s. import_list max_headers (bytes_at (g.S.Shelf.paths c.args.shelf.now) (codes "-"))) old mid c.in-Ok.db
+    (c.in-Ok.ensures.opened told) (c.in-Ok.ensures.begun told) c.in-Ok-import_list.tally
+    (plain_stops indexed (λ s. import_list max_headers (bytes_at (g.S.Shelf.paths c.args.shelf.now) (codes "-"))) old mid c.in-Ok.db
+    (c.in-Ok.ensures.opened told) (Ok c.in-Ok-import_list.tally)
+    (c.in-Ok-import_list.ensures.limits told telling indexed (λ asked. c.in-Ok.ensures.rows told (may asked))).first)
 
 pub returns-clause-limits : goal.returns-clause-limits
-returns-clause-limits g c = λ told telling.
-    let said = c.in-Err-import_list.ensures in
-    rw c.why_of_halt.ensures (limits_halted (λ s. import_list max_headers (bytes_at (g.S.Shelf.paths c.args.shelf.now) (codes "-")))
-    (g.D.Disk.files c.args.disk.now) (g.D.Disk.files c.open_to_change.new.disk) c.in-Ok.db c.import_list.new.db
-    (c.in-Ok.ensures.opened told) (c.in-Ok.ensures.begun told) c.in-Err-import_list.halt (said.numbers told telling)
-    (said.generation told telling) (said.store_room told telling))
+returns-clause-limits g c = λ told telling indexed may.
+    let old = g.D.Disk.files c.args.disk.now in
+    let mid = g.D.Disk.files c.open_to_change.new.disk in
+    rw c.why_of_halt.ensures (limits_halted indexed false (λ s. import_list max_headers (bytes_at (g.S.Shelf.paths c.args.shelf.now) (codes "-"))) old mid c.in-Ok.db
+    (c.in-Ok.ensures.opened told) (c.in-Ok.ensures.begun told) c.in-Err-import_list.halt
+    (plain_stops indexed (λ s. import_list max_headers (bytes_at (g.S.Shelf.paths c.args.shelf.now) (codes "-"))) old mid c.in-Ok.db
+    (c.in-Ok.ensures.opened told) (Err c.in-Err-import_list.halt)
+    (c.in-Err-import_list.ensures.limits told telling indexed (λ asked. c.in-Ok.ensures.rows told (may asked))).first))

@@ -1,13 +1,12 @@
-use Rattle.std.proofs.Common.{true, false, ◌∙◌, subst}
+use Rattle.std.proofs.Common.{true, false, Ok, Err, ◌∙◌}
 use Rattle.rpm_outside.specs.Buffered.{inner}
 use Rattle.rpm_db.specs.State.{state}
 use Rattle.rpm_db.specs.inner.Running.{runs_then}
 use Rattle.rpm_db.specs.inner.Writes.{SameLog}
 use Rattle.rpm_change.specs.Endings.{outputs}
-use Rattle.rpm_change.specs.Rebuilding.{rebuild, IsOfRebuilding}
+use Rattle.rpm_change.specs.Rebuilding.{rebuild}
 use Rattle.rpm_tool.proofs.Anew.{done_anew, halted_anew}
-use Rattle.rpm_tool.proofs.Limited.{limits_unopened, limits_halted, limits_worked}
-use Rattle.rpm_tool.proofs.Unnumbered.{rebuild_has, none_spent}
+use Rattle.rpm_tool.proofs.Limited.{limits_unopened, limits_halted, limits_worked, made_stops}
 use Rattle.rpm_tool.proofs.Paged.{still_paged}
 use Rattle.rpm_tool.proofs.Unmade.{through_none}
 use Rattle.rpm_tool.proofs.Unopened.{open_with}
@@ -26,9 +25,9 @@ returns-in-Ok-rebuild-clause-worked g c = λ told err_tells err.
     let now = outputs g.O.Sink.tells (g.O.Sink.taken (inner c.rebuild.new.out)) err_tells err in
     done_anew (λ s. rebuild s) (g.D.Disk.files c.args.disk.now) (g.D.Disk.files c.open_to_change.new.disk) (g.D.Disk.files c.rebuild.new.disk)
     c.in-Ok.db c.rebuild.new.db before now c.in-Ok-rebuild.tally (c.in-Ok.ensures.opened told) (said.serving told).keeps
-    (said.ended told err_tells err) (said.room told)
+    (said.ended told err_tells err)
     (still_paged (rebuild (state (g.D.Disk.files c.open_to_change.new.disk).pkg c.in-Ok.db.store)).changes c.in-Ok.db c.rebuild.new.db.store
-    c.in-Ok.ensures.not_blank (said.store_room told)) (said.index told)
+    c.in-Ok.ensures.not_blank (said.stores told)) (said.index told)
 
 pub returns-in-Ok-rebuild-clause-runs : goal.returns-in-Ok-rebuild-clause-runs
 returns-in-Ok-rebuild-clause-runs g c =
@@ -43,7 +42,7 @@ returns-clause-worked g c = λ told err_tells err.
     let now = outputs g.O.Sink.tells (g.O.Sink.taken (inner c.rebuild.new.out)) err_tells err in
     rw c.why_of_halt.ensures (halted_anew (λ s. rebuild s) (g.D.Disk.files c.args.disk.now) (g.D.Disk.files c.open_to_change.new.disk)
     (g.D.Disk.files c.rebuild.new.disk) c.in-Ok.db c.rebuild.new.db before now c.in-Err-rebuild.halt
-    (state (g.D.Disk.files c.rebuild.new.disk).pkg c.rebuild.new.db.store) (c.in-Ok.ensures.opened told) (said.ended told err_tells err) (said.room told))
+    (state (g.D.Disk.files c.rebuild.new.disk).pkg c.rebuild.new.db.store) (c.in-Ok.ensures.opened told) (said.ended told err_tells err) (said.limits told))
 
 pub returns-clause-runs : goal.returns-clause-runs
 returns-clause-runs g c =
@@ -52,26 +51,22 @@ returns-clause-runs g c =
     c.in-Ok.ensures.runs c.rebuild.ensures.runs
 
 pub returns-in-Err-clause-limits : goal.returns-in-Err-clause-limits
-returns-in-Err-clause-limits g c = λ told.
-    limits_unopened (λ s. rebuild s)
+returns-in-Err-clause-limits g c = λ told indexed may.
+    limits_unopened indexed true (λ s. rebuild s)
     (g.D.Disk.files c.args.disk.now) (g.D.Disk.files c.open_to_change.new.disk) c.in-Err.why (c.in-Err.ensures.opened told)
 
 pub returns-in-Ok-rebuild-clause-limits : goal.returns-in-Ok-rebuild-clause-limits
-returns-in-Ok-rebuild-clause-limits g c = λ told.
-    let said = c.in-Ok-rebuild.ensures in
-    limits_worked (λ s. rebuild s) (g.D.Disk.files c.args.disk.now) (g.D.Disk.files c.open_to_change.new.disk) c.in-Ok.db c.rebuild.new.db
+returns-in-Ok-rebuild-clause-limits g c = λ told indexed may.
+    let mid = g.D.Disk.files c.open_to_change.new.disk in
+    let s = state mid.pkg c.in-Ok.db.store in
+    limits_worked indexed true (λ s. rebuild s) (g.D.Disk.files c.args.disk.now) mid c.in-Ok.db
     (c.in-Ok.ensures.opened told) (c.in-Ok.ensures.begun told) c.in-Ok-rebuild.tally
-    (rebuild_has (state (g.D.Disk.files c.open_to_change.new.disk).pkg c.in-Ok.db.store))
-    (said.generation told)
-    (said.store_room told)
+    (λ v stored. made_stops indexed true s c.in-Ok.db.store (rebuild s).changes (Ok c.in-Ok-rebuild.tally) (c.in-Ok-rebuild.ensures.limits told))
 
 pub returns-clause-limits : goal.returns-clause-limits
-returns-clause-limits g c = λ told.
-    let said = c.in-Err-rebuild.ensures in
-    let changes = (rebuild (state (g.D.Disk.files c.open_to_change.new.disk).pkg c.in-Ok.db.store)).changes in
-    rw c.why_of_halt.ensures (limits_halted (λ s. rebuild s)
-    (g.D.Disk.files c.args.disk.now) (g.D.Disk.files c.open_to_change.new.disk) c.in-Ok.db c.rebuild.new.db
+returns-clause-limits g c = λ told indexed may.
+    let mid = g.D.Disk.files c.open_to_change.new.disk in
+    let s = state mid.pkg c.in-Ok.db.store in
+    rw c.why_of_halt.ensures (limits_halted indexed true (λ s. rebuild s) (g.D.Disk.files c.args.disk.now) mid c.in-Ok.db
     (c.in-Ok.ensures.opened told) (c.in-Ok.ensures.begun told) c.in-Err-rebuild.halt
-    (none_spent (state (g.D.Disk.files c.open_to_change.new.disk).pkg c.in-Ok.db.store) changes c.in-Err-rebuild.halt
-    (λ is. subst IsOfRebuilding is said.kinds))
-    (said.generation told) (said.store_room told))
+    (λ v stored. made_stops indexed true s c.in-Ok.db.store (rebuild s).changes (Err c.in-Err-rebuild.halt) (c.in-Err-rebuild.ensures.limits told)))

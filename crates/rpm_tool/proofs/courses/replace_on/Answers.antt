@@ -1,13 +1,12 @@
-use Rattle.std.proofs.Common.{◌∙◌, Some, subst}
+use Rattle.std.proofs.Common.{◌∙◌, false, Ok, Err}
 use Rattle.rpm_outside.specs.Buffered.{inner}
 use Rattle.rpm_db.specs.State.{State, state}
 use Rattle.rpm_db.specs.inner.Running.{runs_then}
 use Rattle.rpm_db.specs.inner.Writes.{SameLog}
 use Rattle.rpm_change.specs.Steps.{Course}
 use Rattle.rpm_change.specs.Endings.{outputs}
-use Rattle.rpm_change.specs.Adding.{replace, IsOfPutting}
-use Rattle.rpm_tool.proofs.Limited.{limits_unopened, limits_halted, limits_worked}
-use Rattle.rpm_tool.proofs.Unnumbered.{replace_has, none_spent}
+use Rattle.rpm_change.specs.Adding.{replace}
+use Rattle.rpm_tool.proofs.Limited.{limits_unopened, limits_halted, limits_worked, plain_stops}
 use Rattle.rpm_tool.proofs.Paged.{still_paged}
 use Rattle.rpm_tool.proofs.Unmade.{through_none}
 use Rattle.rpm_tool.proofs.Works.{done_worked, halted_worked}
@@ -29,9 +28,9 @@ returns-in-Ok-replace_package-clause-worked g c = λ told telling out_tells out.
     let now = outputs out_tells out g.E.Sink.tells (g.E.Sink.taken (inner c.replace_package.new.err)) in
     done_worked course (g.D.Disk.files c.args.disk.now) (g.D.Disk.files c.open_to_change.new.disk)
     (g.D.Disk.files c.replace_package.new.disk) c.in-Ok.db c.replace_package.new.db before now c.in-Ok-replace_package.tally (c.in-Ok.ensures.opened told)
-    (said.carried.serving told).keeps (said.ended told telling out_tells out) (λ lawful. said.room told telling (c.in-Ok.ensures.rows told lawful))
+    (said.carried.serving told).keeps (said.ended told telling out_tells out)
     (still_paged (course (state (g.D.Disk.files c.open_to_change.new.disk).pkg c.in-Ok.db.store)).changes c.in-Ok.db c.replace_package.new.db.store
-    c.in-Ok.ensures.not_blank (said.store_room told telling))
+    c.in-Ok.ensures.not_blank (said.limits told telling false (λ asked. absurd cc)).stores)
     (λ lawful. said.carried.index told (c.in-Ok.ensures.rows told lawful))
 
 pub returns-in-Ok-replace_package-clause-runs : goal.returns-in-Ok-replace_package-clause-runs
@@ -49,7 +48,7 @@ returns-clause-worked g c = λ told telling out_tells out.
     rw c.why_of_halt.ensures (halted_worked course (g.D.Disk.files c.args.disk.now) (g.D.Disk.files c.open_to_change.new.disk)
     (g.D.Disk.files c.replace_package.new.disk) c.in-Ok.db c.replace_package.new.db before now c.in-Err-replace_package.halt
     (state (g.D.Disk.files c.replace_package.new.disk).pkg c.replace_package.new.db.store) (c.in-Ok.ensures.opened told)
-    (said.ended told telling out_tells out) (λ lawful. said.room told telling (c.in-Ok.ensures.rows told lawful))
+    (said.ended told telling out_tells out)
     (c.in-Ok.ensures.broken told) (said.whole told))
 
 pub returns-clause-runs : goal.returns-clause-runs
@@ -59,29 +58,26 @@ returns-clause-runs g c =
     c.in-Ok.ensures.runs c.replace_package.ensures.runs
 
 pub returns-in-Err-clause-limits : goal.returns-in-Err-clause-limits
-returns-in-Err-clause-limits g c = λ told telling.
-    limits_unopened (λ s. replace (g.S.Shelf.paths c.args.shelf.now) c.args.now s c.args.number c.args.path.now)
+returns-in-Err-clause-limits g c = λ told telling indexed may.
+    limits_unopened indexed false (λ s. replace (g.S.Shelf.paths c.args.shelf.now) c.args.now s c.args.number c.args.path.now)
     (g.D.Disk.files c.args.disk.now) (g.D.Disk.files c.open_to_change.new.disk) c.in-Err.why (c.in-Err.ensures.opened told)
 
 pub returns-in-Ok-replace_package-clause-limits : goal.returns-in-Ok-replace_package-clause-limits
-returns-in-Ok-replace_package-clause-limits g c = λ told telling.
-    let said = c.in-Ok-replace_package.ensures in
-    limits_worked (λ s. replace (g.S.Shelf.paths c.args.shelf.now) c.args.now s c.args.number c.args.path.now)
-    (g.D.Disk.files c.args.disk.now) (g.D.Disk.files c.open_to_change.new.disk) c.in-Ok.db c.replace_package.new.db
+returns-in-Ok-replace_package-clause-limits g c = λ told telling indexed may.
+    let old = g.D.Disk.files c.args.disk.now in
+    let mid = g.D.Disk.files c.open_to_change.new.disk in
+    limits_worked indexed false (λ s. replace (g.S.Shelf.paths c.args.shelf.now) c.args.now s c.args.number c.args.path.now) old mid c.in-Ok.db
     (c.in-Ok.ensures.opened told) (c.in-Ok.ensures.begun told) c.in-Ok-replace_package.tally
-    (replace_has (g.S.Shelf.paths c.args.shelf.now) c.args.now (state (g.D.Disk.files c.open_to_change.new.disk).pkg c.in-Ok.db.store)
-    c.args.number c.args.path.now)
-    (said.generation told telling)
-    (said.store_room told telling)
+    (plain_stops indexed (λ s. replace (g.S.Shelf.paths c.args.shelf.now) c.args.now s c.args.number c.args.path.now) old mid c.in-Ok.db
+    (c.in-Ok.ensures.opened told) (Ok c.in-Ok-replace_package.tally)
+    (c.in-Ok-replace_package.ensures.limits told telling indexed (λ asked. c.in-Ok.ensures.rows told (may asked))).first)
 
 pub returns-clause-limits : goal.returns-clause-limits
-returns-clause-limits g c = λ told telling.
-    let said = c.in-Err-replace_package.ensures in
-    let changes = (replace (g.S.Shelf.paths c.args.shelf.now) c.args.now (state (g.D.Disk.files c.open_to_change.new.disk).pkg c.in-Ok.db.store)
-    c.args.number c.args.path.now).changes in
-    rw c.why_of_halt.ensures (limits_halted (λ s. replace (g.S.Shelf.paths c.args.shelf.now) c.args.now s c.args.number c.args.path.now)
-    (g.D.Disk.files c.args.disk.now) (g.D.Disk.files c.open_to_change.new.disk) c.in-Ok.db c.replace_package.new.db
+returns-clause-limits g c = λ told telling indexed may.
+    let old = g.D.Disk.files c.args.disk.now in
+    let mid = g.D.Disk.files c.open_to_change.new.disk in
+    rw c.why_of_halt.ensures (limits_halted indexed false (λ s. replace (g.S.Shelf.paths c.args.shelf.now) c.args.now s c.args.number c.args.path.now) old mid c.in-Ok.db
     (c.in-Ok.ensures.opened told) (c.in-Ok.ensures.begun told) c.in-Err-replace_package.halt
-    (none_spent (state (g.D.Disk.files c.open_to_change.new.disk).pkg c.in-Ok.db.store) changes c.in-Err-replace_package.halt
-    (λ is. subst (IsOfPutting (Some c.args.number)) is said.kinds))
-    (said.generation told telling) (said.store_room told telling))
+    (plain_stops indexed (λ s. replace (g.S.Shelf.paths c.args.shelf.now) c.args.now s c.args.number c.args.path.now) old mid c.in-Ok.db
+    (c.in-Ok.ensures.opened told) (Err c.in-Err-replace_package.halt)
+    (c.in-Err-replace_package.ensures.limits told telling indexed (λ asked. c.in-Ok.ensures.rows told (may asked))).first))

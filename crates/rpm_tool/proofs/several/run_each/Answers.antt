@@ -1,7 +1,9 @@
 mod Begun
 mod Along
 use Rattle.std.proofs.Common.{◌≡◌, ℕ, List, [], ◌∷◌, ◌++◌, length, length-append, ◌+◌, get_or, refl, sym, ap, ◌∙◌, subst, arith}
-use Rattle.std.specs.Prelude.{IsTrue}
+use Rattle.std.specs.Prelude.{IsTrue, Some}
+use Rattle.rpm_words.specs.Ask.{AskParts}
+use Rattle.rpm_qfparse.specs.Tree.{Tree}
 use Rattle.rpm_outside.specs.Crash.{LeavesOnly}
 use Rattle.rpm_outside.specs.Files.{Files}
 use Rattle.rpm_outside.specs.Shelves.{Paths}
@@ -9,7 +11,9 @@ use Rattle.rpm_outside.specs.inner.Moments.{leaves_then, leaves_weaker}
 use Rattle.rpm_db.specs.State.{State}
 use Rattle.rpm_tool.specs.Changing.{ChangesWith}
 use Rattle.rpm_tool.specs.Tasks.{asked_task, asked_course, is_anew, changes_index}
-use Rattle.rpm_change.specs.Endings.{outputs}
+use Rattle.rpm_change.specs.Endings.{Outputs, outputs}
+use Rattle.rpm_tool.specs.Answers.{Closes}
+use Rattle.rpm_tool.specs.Closing.{closing}
 use Rattle.rpm_tool.specs.Asked.{asks}
 use Rattle.rpm_tool.specs.Given.{given_on}
 use Rattle.rpm_tool.specs.History.{RunCall, AllStand, StandsIn, Leads, Cuts, calls_of, course_of}
@@ -33,6 +37,8 @@ loop-words-preserved g c =
     let D = g.D.Disk in
     let inv = c.loop-words.invariant in
     let ran = c.run-left.ensures in
+    let all = ran.answers.did in
+    let does = λ (a : AskParts) (tree : Tree) (asked : asks c.words-item.result ≡ Some (a, tree)). all.asked a tree asked in
     let lines = c.args.lines.now in
     let paths = g.S.Shelf.paths c.args.shelf.now in
     let now = c.args.now in
@@ -51,16 +57,16 @@ loop-words-preserved g c =
     let both = λ (told : IsTrue D.tells) (shelf : IsTrue g.S.Shelf.tells) (s : State)
     (start : AllStand (λ t. t ≡ s) (D.left_since c.args.disk (D.moment c.args.disk))).
     line_both D.tells D.files D.left_since D.moment D.bytes_read D.follows told paths now words c.run-left.result.0.why c.run-left.result.0.changes mid
-    new (Leads paths now before s) (inv.leads told shelf s start) (g.met.D.Disk.as_read mid told) (λ none. (ran.unread none).0) ran.looks
-    (λ a tree asked keyed. ran.stops a tree asked keyed told)
+    new (Leads paths now before s) (inv.leads told shelf s start) (g.met.D.Disk.as_read mid told) (λ none. (ran.unread none).0)
+    (λ a tree asked keyed still. (does a tree asked).looks keyed still) (λ a tree asked keyed. ((does a tree asked).keyed keyed told).stops)
     (λ a tree asked any. subst (λ (p : Paths). ChangesWith (is_anew (asked_task words a)) (changes_index (asked_task words a)) D.files D.left_since
     D.moment (asked_course p now words a)
-    c.run-left.result.0.why c.run-left.result.0.changes mid new) (inv.paths shelf) (ran.changed a tree asked any told (λ reads. shelf))) in
+    c.run-left.result.0.why c.run-left.result.0.changes mid new) (inv.paths shelf) ((does a tree asked).changes any told (λ reads. shelf)).changed) in
     record {
       count = ap length c.push_reserved.ensures.items ∙ length-append c.loop-words.outcomes.items (c.run-left.result.0 ∷ []) ∙ ap (λ (n : ℕ). n + 1) inv.count;
       as_many = c.push_reserved.ensures.len ∙ ap (λ (n : ℕ). n + 1) inv.as_many;
       room = c.push_reserved.ensures.capacity ∙ inv.room;
-      paths = λ shelf. ran.paths shelf ∙ inv.paths shelf;
+      paths = λ shelf. all.paths shelf ∙ inv.paths shelf;
       leads = λ told shelf s start image left.
           let made = both told shelf s start in
           let since = g.met.D.Disk.earlier new (D.moment mid) (D.moment new) image told made.1.later (omega arith) left in
@@ -91,38 +97,57 @@ loop-words-preserved g c =
           let line_by = λ (p : Paths). LineIs D.files D.left_since D.moment D.bytes_read D.follows D.faults p now call before_it (behind_it p) in
           let line : line_by at = record {
             status = ran.status;
-            changes = ran.changes;
-            counted = ran.counted;
-            usage = ran.usage;
-            bad_format = ran.bad_format;
+            changes = all.idle;
+            counted = all.counted;
+            usage = ran.words.usage;
+            bad_format = ran.words.bad_format;
             unread = λ none. (ran.unread none).0;
-            undone_closes = ran.undone_closes;
-            answers = λ a tree asked files keyed still. ran.answers a tree asked files keyed still told;
-            package_files = λ a tree asked files. ran.files a tree asked files shelf;
+            undone_closes = λ none.
+                subst (λ (o : Outputs). Closes (closing words c.run-left.result.0.why) o (outputs g.O.Sink.tells (g.O.Sink.taken c.run-left.new.out)
+                g.E.Sink.tells (g.E.Sink.taken c.run-left.new.err)) (g.E.Sink.faults c.loop-words.err) (g.E.Sink.faults c.run-left.new.err))
+                (all.unasked none) ran.answers.closes;
+            answers = λ a tree asked files keyed still. record {
+              mid = ran.answers.mid;
+              did = ((does a tree asked).plain files keyed still told).went;
+              closes = ran.answers.closes;
+            };
+            package_files = λ a tree asked files. record {
+              mid = ran.answers.mid;
+              did = ((does a tree asked).files files).went shelf;
+              closes = ran.answers.closes;
+            };
             looks = λ a tree asked keyed still.
-                let looks = ran.looks a tree asked keyed still in
+                let looks = (does a tree asked).looks keyed still in
                 record {
                   untouched = λ here. looks.untouched told;
                   moment_stays = looks.moment_stays;
                   index_unread = looks.index_unread;
                   goes_on = looks.goes_on;
                 };
-            keyed = λ a tree asked keyed. ran.keyed a tree asked keyed told;
-            index_full = λ a tree asked keyed. ran.index_full a tree asked keyed told;
-            bad_index = λ a tree asked keyed. ran.bad_index a tree asked keyed told;
-            complete = λ a tree asked keyed. ran.complete a tree asked keyed told;
-            index = λ a tree asked keyed. ran.index a tree asked keyed told;
-            packages = λ a tree asked keyed. ran.packages a tree asked keyed told;
-            stops = λ a tree asked keyed. ran.stops a tree asked keyed told;
-            did = λ a tree asked any. ran.did a tree asked any told (λ reads. shelf);
-            changed = λ a tree asked any. ran.changed a tree asked any told (λ reads. shelf);
-            empty = λ a tree asked any. ran.empty a tree asked any told;
-            limits = λ a tree asked any. ran.limits a tree asked any told (λ reads. shelf);
-            log = λ a tree asked any. ran.log a tree asked any told (λ reads. shelf);
-            disk_fault = ran.disk_fault;
-            shelf_fault = ran.shelf_fault;
-            out_fault = ran.out_fault;
-            err_fault = ran.err_fault;
+            keyed = λ a tree asked keyed. record {
+              mid = ran.answers.mid;
+              did = ((does a tree asked).keyed keyed told).went;
+              closes = ran.answers.closes;
+            };
+            index_full = λ a tree asked keyed. ((does a tree asked).keyed keyed told).full;
+            bad_index = λ a tree asked keyed. ((does a tree asked).keyed keyed told).bad;
+            complete = λ a tree asked keyed. ((does a tree asked).keyed keyed told).complete;
+            index = λ a tree asked keyed. ((does a tree asked).keyed keyed told).index;
+            packages = λ a tree asked keyed. ((does a tree asked).keyed keyed told).packages;
+            stops = λ a tree asked keyed. ((does a tree asked).keyed keyed told).stops;
+            did = λ a tree asked any. record {
+              mid = ran.answers.mid;
+              did = ((does a tree asked).changes any told (λ reads. shelf)).did;
+              closes = ran.answers.closes;
+            };
+            changed = λ a tree asked any. ((does a tree asked).changes any told (λ reads. shelf)).changed;
+            empty = λ a tree asked any. (does a tree asked).empty any told;
+            limits = λ a tree asked any. ((does a tree asked).changes any told (λ reads. shelf)).limits;
+            log = λ a tree asked any. ((does a tree asked).changes any told (λ reads. shelf)).log;
+            disk_fault = ran.causes.disk;
+            shelf_fault = ran.causes.shelf;
+            out_fault = ran.causes.out;
+            err_fault = ran.causes.err;
             gives = refl;
           } in (
             given paths,

@@ -1,13 +1,12 @@
 -- Erasing that was stopped.
-use Rattle.std.proofs.Common.{◌+◌, true, [], get_or, drop, refl, ◌∙◌, arith}
+use Rattle.std.proofs.Common.{◌+◌, get_or, drop, refl, ◌∙◌, arith}
 use Rattle.rpm_outside.specs.Buffered.{inner}
-use Rattle.rpm_db.specs.Database.{IsIndexed}
 use Rattle.rpm_db.specs.State.{state}
 use Rattle.rpm_db.specs.inner.Running.{runs_then}
 use Rattle.rpm_db.specs.inner.Writes.{SameLog}
 use Rattle.rpm_change.specs.Steps.{in_turn, apply_all}
 use Rattle.rpm_change.specs.Erasing.{erase_one, erase}
-use Rattle.rpm_change.proofs.Courses.{halfway_stop, halfway_turn}
+use Rattle.rpm_change.proofs.Courses.{halfway_stop}
 use Rattle.rpm_change.proofs.Arguments.{turn_next}
 use Rattle.rpm_change.proofs.Limits.{number_limits}
 use Rattle.rpm_change.proofs.erase.erase_numbers.Goals as goal
@@ -20,40 +19,17 @@ returns-in-Err-clause-ended g c = λ told out_tells out.
     let s = state (g.D.Disk.files c.args.disk.now).pkg c.args.db.now.store in
     let t = state (g.D.Disk.files c.loop-number.disk).pkg c.loop-number.db.store in
     let u = state (g.D.Disk.files c.erase_one.new.disk).pkg c.erase_one.new.db.store in
-    let P = IsIndexed (g.D.Disk.files c.args.disk.now).pkg (g.D.Disk.files c.args.disk.now).idx c.args.db.now in
     let turn = erase_one t k (get_or xs k 0) in
     let v = apply_all turn.changes t in
-    halfway_stop out_tells g.E.Sink.tells P (erase s xs) (in_turn erase_one t k (drop k xs)) turn (in_turn erase_one v (k + 1) (drop (k + 1) xs)) s t u
+    halfway_stop out_tells g.E.Sink.tells (erase s xs) (in_turn erase_one t k (drop k xs)) turn (in_turn erase_one v (k + 1) (drop (k + 1) xs)) s t u
     c.loop-number.failed c.loop-number.changes out out out (g.E.Sink.taken (inner c.args.err.now)) (g.E.Sink.taken (inner c.loop-number.err))
     (g.E.Sink.taken (inner c.erase_one.new.err)) (turn_next erase_one xs k 0 t v (omega arith) refl) (inv.goes told out_tells out) c.in-Err.halt
     (c.in-Err.ensures.ended told k out_tells out)
 
-pub returns-in-Err-clause-room : goal.returns-in-Err-clause-room
-returns-in-Err-clause-room g c = λ told rows.
-    let k = c.loop-number.number-index in
-    let xs = c.args.numbers.now in
-    let inv = c.loop-number.invariant in
-    let s = state (g.D.Disk.files c.args.disk.now).pkg c.args.db.now.store in
-    let t = state (g.D.Disk.files c.loop-number.disk).pkg c.loop-number.db.store in
-    let u = state (g.D.Disk.files c.erase_one.new.disk).pkg c.erase_one.new.db.store in
-    let P = IsIndexed (g.D.Disk.files c.args.disk.now).pkg (g.D.Disk.files c.args.disk.now).idx c.args.db.now in
-    let e = g.E.Sink.taken (inner c.args.err.now) in
-    let turn = erase_one t k (get_or xs k 0) in
-    let v = apply_all turn.changes t in
-    halfway_turn true g.E.Sink.tells P (erase s xs) (in_turn erase_one t k (drop k xs)) turn (in_turn erase_one v (k + 1) (drop (k + 1) xs)) s t u
-    c.loop-number.failed c.loop-number.changes [] [] [] e (g.E.Sink.taken (inner c.loop-number.err)) (g.E.Sink.taken (inner c.erase_one.new.err))
-    (turn_next erase_one xs k 0 t v (omega arith) refl) (inv.goes told true []) c.in-Err.halt rows
-    (c.in-Err.ensures.room told (inv.carried.index told rows) k)
-
-pub returns-in-Err-clause-generation : goal.returns-in-Err-clause-generation
-returns-in-Err-clause-generation g c = λ told.
-    (number_limits c.args.numbers.now c.loop-number.number-index _ _ _ _ _ (omega arith) (c.loop-number.invariant.limited told) c.in-Err.halt
-    (c.in-Err.ensures.limits told c.loop-number.number-index)).generation
-
-pub returns-in-Err-clause-store_room : goal.returns-in-Err-clause-store_room
-returns-in-Err-clause-store_room g c = λ told.
-    (number_limits c.args.numbers.now c.loop-number.number-index _ _ _ _ _ (omega arith) (c.loop-number.invariant.limited told) c.in-Err.halt
-    (c.in-Err.ensures.limits told c.loop-number.number-index)).store_room
+pub returns-in-Err-clause-limits : goal.returns-in-Err-clause-limits
+returns-in-Err-clause-limits g c = λ told i rows.
+    number_limits i c.args.numbers.now c.loop-number.number-index _ _ _ _ _ (omega arith) (c.loop-number.invariant.limited told i rows) c.in-Err.halt
+    (c.in-Err.ensures.limits told c.loop-number.number-index i (λ is. c.loop-number.invariant.carried.index told (rows is)))
 
 pub returns-in-Err-clause-runs : goal.returns-in-Err-clause-runs
 returns-in-Err-clause-runs g c =

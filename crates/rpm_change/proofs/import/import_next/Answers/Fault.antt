@@ -15,22 +15,16 @@ returns-in-Err-clause-ended g c = λ told heard ot o.
     (c.end_list.ensures.ended c.args.most (list_head (left (g.S.Shelf.rest c.args.shelf.now))) (c.in-Err.ensures.answers heard)
     (state (g.D.Disk.files c.args.disk.now).pkg c.args.db.now.store) ot o)
 
-pub returns-in-Err-clause-room : goal.returns-in-Err-clause-room
-returns-in-Err-clause-room g c = λ told heard rows.
-    rw c.as_turn-in-Err.ensures.value
-    (c.end_list.ensures.room c.args.most (list_head (left (g.S.Shelf.rest c.args.shelf.now))) (c.in-Err.ensures.answers heard)
-    (state (g.D.Disk.files c.args.disk.now).pkg c.args.db.now.store))
-
 pub returns-in-Err-clause-whole : goal.returns-in-Err-clause-whole
 returns-in-Err-clause-whole g c = λ told whole.
     rw c.as_turn-in-Err.ensures.value
     (ending_whole (g.D.Disk.files c.args.disk.now).idx c.end_list.result c.end_list.ensures.kinds whole)
 
 pub returns-in-Err-clause-limits : goal.returns-in-Err-clause-limits
-returns-in-Err-clause-limits g c = λ told heard.
+returns-in-Err-clause-limits g c = λ told heard i rows.
     rw c.as_turn-in-Err.ensures.value
     (c.end_list.ensures.limits c.args.most (list_head (left (g.S.Shelf.rest c.args.shelf.now))) (c.in-Err.ensures.answers heard)
-    (state (g.D.Disk.files c.args.disk.now).pkg c.args.db.now.store) c.args.db.now.store)
+    (state (g.D.Disk.files c.args.disk.now).pkg c.args.db.now.store) c.args.db.now.store i)
 
 pub returns-in-Err-clause-leaves : goal.returns-in-Err-clause-leaves
 returns-in-Err-clause-leaves g c =

@@ -6,7 +6,7 @@ use Rattle.rpm_file.specs.declared.fault.ListFault.{ListFault}
 use Rattle.rpm_file.specs.List.{Found, list_head}
 use Rattle.rpm_db.specs.State.{state}
 use Rattle.rpm_change.specs.declared.tally.Tally.{Tally}
-use Rattle.rpm_change.specs.Endings.{outputs, Ended, IsCarried, IndexTurn}
+use Rattle.rpm_change.specs.Endings.{outputs, Ended, IsCarried}
 use Rattle.rpm_change.specs.Limits.{LimitsTurn}
 use Rattle.rpm_change.specs.Steps.{Course}
 use Rattle.rpm_change.specs.Turns.{Leaves}
@@ -24,20 +24,13 @@ returns-in-Ok-Some-clause-ended g c = λ told heard ot o.
     (at_header (λ (course : Course). Ended course (state (g.D.Disk.files c.args.disk.now).pkg c.args.db.now.store) t c.import_within-done.result old new)
     c.args.most c.args.place _ _ _ _ (said.answers heard) (ap (take c.in-Ok-Some.size) c.deref.ensures.value) (c.import_within-done.ensures.ended told ot o))
 
-pub returns-in-Ok-Some-clause-room : goal.returns-in-Ok-Some-clause-room
-returns-in-Ok-Some-clause-room g c = λ told heard rows.
-    let said = rw c.in-Ok-Some.field-0-is at c.in-Ok-Some.ensures in
-    rw c.as_turn.ensures.value
-    (at_header (λ (course : Course). IndexTurn (state (g.D.Disk.files c.args.disk.now).pkg c.args.db.now.store) course.changes c.import_within-done.result)
-    c.args.most c.args.place _ _ _ _ (said.answers heard) (ap (take c.in-Ok-Some.size) c.deref.ensures.value) (c.import_within-done.ensures.room told rows))
-
 pub returns-in-Ok-Some-clause-limits : goal.returns-in-Ok-Some-clause-limits
-returns-in-Ok-Some-clause-limits g c = λ told heard.
+returns-in-Ok-Some-clause-limits g c = λ told heard i rows.
     let said = rw c.in-Ok-Some.field-0-is at c.in-Ok-Some.ensures in
     rw c.as_turn.ensures.value
-    (at_header (λ (course : Course). LimitsTurn (state (g.D.Disk.files c.args.disk.now).pkg c.args.db.now.store) c.args.db.now.store
+    (at_header (λ (course : Course). LimitsTurn i (state (g.D.Disk.files c.args.disk.now).pkg c.args.db.now.store) c.args.db.now.store
     c.import_within-done.new.db.store course.changes c.import_within-done.result) c.args.most c.args.place _ _ _ _ (said.answers heard)
-    (ap (take c.in-Ok-Some.size) c.deref.ensures.value) (c.import_within-done.ensures.limits told))
+    (ap (take c.in-Ok-Some.size) c.deref.ensures.value) (c.import_within-done.ensures.limits told i rows))
 
 pub returns-in-Ok-Some-clause-leaves : goal.returns-in-Ok-Some-clause-leaves
 returns-in-Ok-Some-clause-leaves g c =

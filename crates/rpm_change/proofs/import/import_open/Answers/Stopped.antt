@@ -1,16 +1,15 @@
 -- An import that was stopped.
-use Rattle.std.proofs.Common.{◌≡◌, ◌+◌, true, false, [], ◌∙◌}
+use Rattle.std.proofs.Common.{◌≡◌, ◌+◌, false, ◌∙◌}
 use Rattle.rpm_outside.specs.Browses.{left}
 use Rattle.rpm_outside.specs.Buffered.{inner}
 use Rattle.rpm_outside.specs.inner.Browsing.{browses_then}
 use Rattle.rpm_file.specs.List.{list_head}
-use Rattle.rpm_db.specs.Database.{IsIndexed}
 use Rattle.rpm_db.specs.State.{state}
 use Rattle.rpm_db.specs.inner.Running.{runs_then}
 use Rattle.rpm_db.specs.inner.Writes.{SameLog}
 use Rattle.rpm_change.specs.Importing.{import_listed, listed}
 use Rattle.rpm_change.specs.Turns.{turn, from_place}
-use Rattle.rpm_change.proofs.Courses.{halfway_stop, halfway_turn}
+use Rattle.rpm_change.proofs.Courses.{halfway_stop}
 use Rattle.rpm_change.proofs.Limits.{limited_stop}
 use Rattle.rpm_change.proofs.Listed.{turn_splits, turn_ahead}
 use Rattle.rpm_change.proofs.import.import_open.Goals as goal
@@ -24,37 +23,17 @@ returns-in-Err-clause-ended g c = λ told heard out_tells out.
     let s = state (g.D.Disk.files c.args.disk.now).pkg c.args.db.now.store in
     let t = state (g.D.Disk.files c.loop-is_last.disk).pkg c.loop-is_last.db.store in
     let u = state (g.D.Disk.files c.import_next.new.disk).pkg c.import_next.new.db.store in
-    let P = IsIndexed (g.D.Disk.files c.args.disk.now).pkg (g.D.Disk.files c.args.disk.now).idx c.args.db.now in
     let bytes = left (g.S.Shelf.rest c.loop-is_last.shelf) in
     let all = import_listed most (listed (left (g.S.Shelf.rest c.args.shelf.now))) in
     let split = turn_ahead most k (list_head bytes) in
-    halfway_stop out_tells g.E.Sink.tells P all (from_place false most k (listed bytes)) (turn most k (list_head bytes))
+    halfway_stop out_tells g.E.Sink.tells all (from_place false most k (listed bytes)) (turn most k (list_head bytes))
     (from_place split.0 most (k + 1) (listed split.1.0)) s t u c.loop-is_last.failed c.loop-is_last.changes out out out
     (g.E.Sink.taken (inner c.args.err.now)) (g.E.Sink.taken (inner c.loop-is_last.err)) (g.E.Sink.taken (inner c.import_next.new.err))
     (turn_splits most k bytes split.0 split.1.0 split.1.1) (rw going at (inv.goes told heard out_tells out)) c.in-Err.halt
     (c.in-Err.ensures.ended told heard out_tells out)
 
-pub returns-in-Err-clause-room : goal.returns-in-Err-clause-room
-returns-in-Err-clause-room g c = λ told heard rows.
-    let most = c.args.most in
-    let k = c.loop-is_last.place in
-    let inv = c.loop-is_last.invariant in
-    let going : c.loop-is_last.is_last ≡ false = cc in
-    let s = state (g.D.Disk.files c.args.disk.now).pkg c.args.db.now.store in
-    let t = state (g.D.Disk.files c.loop-is_last.disk).pkg c.loop-is_last.db.store in
-    let u = state (g.D.Disk.files c.import_next.new.disk).pkg c.import_next.new.db.store in
-    let P = IsIndexed (g.D.Disk.files c.args.disk.now).pkg (g.D.Disk.files c.args.disk.now).idx c.args.db.now in
-    let bytes = left (g.S.Shelf.rest c.loop-is_last.shelf) in
-    let all = import_listed most (listed (left (g.S.Shelf.rest c.args.shelf.now))) in
-    let split = turn_ahead most k (list_head bytes) in
-    halfway_turn true g.E.Sink.tells P all (from_place false most k (listed bytes)) (turn most k (list_head bytes))
-    (from_place split.0 most (k + 1) (listed split.1.0)) s t u c.loop-is_last.failed c.loop-is_last.changes [] [] []
-    (g.E.Sink.taken (inner c.args.err.now)) (g.E.Sink.taken (inner c.loop-is_last.err)) (g.E.Sink.taken (inner c.import_next.new.err))
-    (turn_splits most k bytes split.0 split.1.0 split.1.1) (rw going at (inv.goes told heard true [])) c.in-Err.halt rows
-    (c.in-Err.ensures.room told heard (inv.carried.index told rows))
-
 pub returns-in-Err-clause-limits : goal.returns-in-Err-clause-limits
-returns-in-Err-clause-limits g c = λ told heard.
+returns-in-Err-clause-limits g c = λ told heard i rows.
     let most = c.args.most in
     let k = c.loop-is_last.place in
     let inv = c.loop-is_last.invariant in
@@ -64,9 +43,10 @@ returns-in-Err-clause-limits g c = λ told heard.
     let bytes = left (g.S.Shelf.rest c.loop-is_last.shelf) in
     let all = import_listed most (listed (left (g.S.Shelf.rest c.args.shelf.now))) in
     let split = turn_ahead most k (list_head bytes) in
-    limited_stop all (from_place false most k (listed bytes)) (turn most k (list_head bytes)) (from_place split.0 most (k + 1) (listed split.1.0)) s t
+    limited_stop i all (from_place false most k (listed bytes)) (turn most k (list_head bytes)) (from_place split.0 most (k + 1) (listed split.1.0)) s t
     c.args.db.now.store c.loop-is_last.db.store c.import_next.new.db.store (turn_splits most k bytes split.0 split.1.0 split.1.1)
-    (rw going at (inv.limited told heard)) c.in-Err.halt (c.in-Err.ensures.limits told heard)
+    (rw going at (inv.limited told heard i rows)) c.in-Err.halt
+    (c.in-Err.ensures.limits told heard i (λ is. inv.carried.index told (rows is)))
 
 pub returns-in-Err-clause-runs : goal.returns-in-Err-clause-runs
 returns-in-Err-clause-runs g c =

@@ -1,13 +1,12 @@
 -- Dropping that was stopped.
-use Rattle.std.proofs.Common.{true, [], ◌∙◌}
+use Rattle.std.proofs.Common.{◌∙◌}
 use Rattle.std.specs.FinMap as finite
 use Rattle.rpm_outside.specs.Buffered.{inner}
-use Rattle.rpm_db.specs.Database.{IsIndexed}
 use Rattle.rpm_db.specs.State.{state, above}
 use Rattle.rpm_db.specs.inner.Running.{runs_then}
 use Rattle.rpm_db.specs.inner.Writes.{SameLog}
 use Rattle.rpm_change.specs.Rebuilding.{dropped, drop_each, rebuild}
-use Rattle.rpm_change.proofs.Courses.{halfway_stop, halfway_turn}
+use Rattle.rpm_change.proofs.Courses.{halfway_stop}
 use Rattle.rpm_change.proofs.Dropped.{drop_next}
 use Rattle.rpm_change.proofs.Limits.{limited_stop}
 use Rattle.rpm_change.proofs.rebuilding.drop_each.Goals as goal
@@ -21,33 +20,15 @@ returns-in-Err-clause-ended g c = λ told et e.
     let s = state (g.D.Disk.files c.args.disk.now).pkg c.args.db.now.store in
     let t = state mid c.loop-next.db.store in
     let u = state (g.D.Disk.files c.drop_one.new.disk).pkg c.drop_one.new.db.store in
-    let P = IsIndexed (g.D.Disk.files c.args.disk.now).pkg (g.D.Disk.files c.args.disk.now).idx c.args.db.now in
     let es = finite.entries s.packages in
     let next = drop_next s.packages t.packages n m (inv.same told) (c.in-Some.ensures.told mid) in
-    halfway_stop g.O.Sink.tells et P (rebuild s) (drop_each (above n es)) (dropped m next.0) (drop_each (above m es)) s t u
+    halfway_stop g.O.Sink.tells et (rebuild s) (drop_each (above n es)) (dropped m next.0) (drop_each (above m es)) s t u
     c.loop-next.failed c.loop-next.changes (g.O.Sink.taken (inner c.args.out.now)) (g.O.Sink.taken (inner c.loop-next.out))
     (g.O.Sink.taken (inner c.drop_one.new.out)) e e e next.1.1 (inv.goes told et e) c.in-Err.halt
     (c.in-Err.ensures.ended told next.0 next.1.0 et e)
 
-pub returns-in-Err-clause-room : goal.returns-in-Err-clause-room
-returns-in-Err-clause-room g c = λ told rows.
-    let n = c.loop-next.number in
-    let m = c.in-Some.next in
-    let inv = c.loop-next.invariant in
-    let mid = (g.D.Disk.files c.loop-next.disk).pkg in
-    let s = state (g.D.Disk.files c.args.disk.now).pkg c.args.db.now.store in
-    let t = state mid c.loop-next.db.store in
-    let u = state (g.D.Disk.files c.drop_one.new.disk).pkg c.drop_one.new.db.store in
-    let P = IsIndexed (g.D.Disk.files c.args.disk.now).pkg (g.D.Disk.files c.args.disk.now).idx c.args.db.now in
-    let es = finite.entries s.packages in
-    let next = drop_next s.packages t.packages n m (inv.same told) (c.in-Some.ensures.told mid) in
-    halfway_turn g.O.Sink.tells true P (rebuild s) (drop_each (above n es)) (dropped m next.0) (drop_each (above m es)) s t u
-    c.loop-next.failed c.loop-next.changes (g.O.Sink.taken (inner c.args.out.now)) (g.O.Sink.taken (inner c.loop-next.out))
-    (g.O.Sink.taken (inner c.drop_one.new.out)) [] [] [] next.1.1 (inv.goes told true []) c.in-Err.halt rows
-    (c.in-Err.ensures.room told (inv.carried.index told rows) next.0 next.1.0)
-
 pub returns-in-Err-clause-limits : goal.returns-in-Err-clause-limits
-returns-in-Err-clause-limits g c = λ told.
+returns-in-Err-clause-limits g c = λ told i rows.
     let n = c.loop-next.number in
     let m = c.in-Some.next in
     let inv = c.loop-next.invariant in
@@ -56,8 +37,9 @@ returns-in-Err-clause-limits g c = λ told.
     let t = state mid c.loop-next.db.store in
     let es = finite.entries s.packages in
     let next = drop_next s.packages t.packages n m (inv.same told) (c.in-Some.ensures.told mid) in
-    limited_stop (rebuild s) (drop_each (above n es)) (dropped m next.0) (drop_each (above m es)) s t c.args.db.now.store c.loop-next.db.store
-    c.drop_one.new.db.store next.1.1 (inv.limited told) c.in-Err.halt (c.in-Err.ensures.limits told next.0 next.1.0)
+    limited_stop i (rebuild s) (drop_each (above n es)) (dropped m next.0) (drop_each (above m es)) s t c.args.db.now.store c.loop-next.db.store
+    c.drop_one.new.db.store next.1.1 (inv.limited told i rows) c.in-Err.halt
+    (c.in-Err.ensures.limits told next.0 next.1.0 i (λ is. inv.carried.index told (rows is)))
 
 pub returns-in-Err-clause-runs : goal.returns-in-Err-clause-runs
 returns-in-Err-clause-runs g c =

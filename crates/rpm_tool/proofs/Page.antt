@@ -1,0 +1,122 @@
+-- The records of the theorem's page, from what each kind of command says.
+use Rattle.std.proofs.Common.{◌≡◌, ◌∙◌, ℕ, List, [], Bool, true, false, refl, sym, inl, arith}
+use Rattle.std.specs.Prelude.{IsTrue}
+use Rattle.rpm_outside.specs.declared.disk.Disk as disk
+use Rattle.rpm_outside.specs.declared.shelf.Shelf as shelf
+use Rattle.rpm_outside.specs.declared.disk.File.TheVariants.{Pkg}
+use Rattle.rpm_outside.specs.Logs.{reopened}
+use Rattle.rpm_words.specs.Ask.{AskParts}
+use Rattle.rpm_qfparse.specs.Tree.{Tree}
+use Rattle.rpm_change.specs.Endings.{Outputs, outputs}
+use Rattle.rpm_tool.specs.declared.answer.Why.TheVariants as why
+use Rattle.rpm_tool.specs.Asked.{of_files, by_key, is_changing}
+use Rattle.rpm_tool.specs.Changing.{EmptyBy}
+use Rattle.rpm_tool.specs.Frame.{Leaves}
+use Rattle.rpm_tool.specs.Keyed.{AnswersByKey}
+use Rattle.rpm_tool.specs.PackageFiles.{query_files}
+use Rattle.rpm_tool.specs.Tasks.{asked_task, asked_course, reads_shelf, needs_none}
+use Rattle.rpm_tool.specs.Theorem.{Run, ran, AnswersPlain, AnswersOfFiles, AnswersKeyed, AnswersChange, Does}
+use Rattle.rpm_tool.specs.inner.OneChange.{OneChange}
+use Rattle.rpm_tool.proofs.Begun.{files_unkeyed, not_begun}
+use Rattle.rpm_tool.proofs.Emptied.{memory_empty}
+use Rattle.rpm_tool.proofs.Reaching.{through_none}
+use Rattle.rpm_tool.proofs.Recovered.{unbegun}
+use Rattle.rpm_tool.proofs.Unstarted.{files_unchanging, keyed_unchanging, unstarted_one}
+
+clash : {P : Type 0} {b : _} → b ≡ true → b ≡ false → P
+clash is not = let both : true ≡ false = sym is ∙ not in absurd cc
+
+module _ {D S : Type 0} {d : disk.Ghosts D} {s : shelf.Ghosts S} (r : Run d s) (a : AskParts) (tree : Tree) (mid : Outputs) where
+  keyed_of : AnswersByKey d.files d.left_since d.moment d.bytes_read tree r.words a r.why r.before mid r.found r.left → AnswersKeyed r a tree mid
+  keyed_of k = record {
+    went = k.went;
+    reads = k.reads;
+    full = k.full;
+    bad = k.bad;
+    complete = k.complete;
+    index = k.index;
+    packages = k.packages;
+    stops = k.stops;
+  }
+
+  change_of : OneChange d.files d.left_since d.moment (s.paths r.shelf_found) r.moment (asked_task r.words a) r.why r.changes r.found r.left r.before mid
+      → AnswersChange r a (asked_course (s.paths r.shelf_found) r.moment r.words a) mid
+  change_of one = record { did = one.did; changed = one.changed; limits = one.limits; log = one.log }
+
+  pub does_plain : of_files a ≡ false → by_key a ≡ false → is_changing a ≡ false → (IsTrue d.tells → AnswersPlain r a tree mid)
+      → Leaves d r.found r.left → r.shelf_left ≡ r.shelf_found → Does r a tree mid
+  does_plain files keyed changing went looks shelf = record {
+    plain = λ _f _k _c told. went told;
+    files = λ is. clash is files;
+    keyed = λ is told. clash is keyed;
+    changes = λ is told reads. clash is changing;
+    empty = λ is told. clash is changing;
+    looks = λ _k _c. looks;
+    shelf_unread = λ _f _r. shelf;
+  }
+
+  pub does_files : of_files a ≡ true → AnswersOfFiles r a tree mid → Leaves d r.found r.left → Does r a tree mid
+  does_files files went looks = record {
+    plain = λ other _k _c told. clash files other;
+    files = λ is. went;
+    keyed = λ is told. absurd (files_unkeyed a files is);
+    changes = λ is told reads. absurd (files_unchanging a files is);
+    empty = λ is told. absurd (files_unchanging a files is);
+    looks = λ _k _c. looks;
+    shelf_unread = λ other _r. clash files other;
+  }
+
+  pub does_keyed : by_key a ≡ true
+      → (IsTrue d.tells → AnswersByKey d.files d.left_since d.moment d.bytes_read tree r.words a r.why r.before mid r.found r.left)
+      → r.shelf_left ≡ r.shelf_found → Does r a tree mid
+  does_keyed keyed went shelf = record {
+    plain = λ _f other _c told. clash keyed other;
+    files = λ is. absurd (files_unkeyed a is keyed);
+    keyed = λ is told. keyed_of (went told);
+    changes = λ is told reads. absurd (keyed_unchanging a keyed is);
+    empty = λ is told. absurd (keyed_unchanging a keyed is);
+    looks = λ other _c. clash keyed other;
+    shelf_unread = λ _f _r. shelf;
+  }
+
+  pub does_change : is_changing a ≡ true
+      → (IsTrue d.tells → (reads_shelf (asked_task r.words a) ≡ true → IsTrue s.tells)
+      → OneChange d.files d.left_since d.moment (s.paths r.shelf_found) r.moment (asked_task r.words a) r.why r.changes r.found r.left r.before mid)
+      → (IsTrue d.tells → EmptyBy (needs_none (asked_task r.words a)) (reopened (d.files r.found)) r.why)
+      → (reads_shelf (asked_task r.words a) ≡ false → r.shelf_left ≡ r.shelf_found) → Does r a tree mid
+  does_change changing went empty shelf = record {
+    plain = λ _f _k other told. clash changing other;
+    files = λ is. absurd (files_unchanging a is changing);
+    keyed = λ is told. absurd (keyed_unchanging a is changing);
+    changes = λ is told reads. change_of (went told reads);
+    empty = λ is told. empty told;
+    looks = λ _k other. clash changing other;
+    shelf_unread = λ _f reads. shelf reads;
+  }
+
+-- a command for which memory is wanting does nothing, whatever is asked
+module _ {D S : Type 0} {d : disk.Ghosts D} {s : shelf.Ghosts S} (words : List (List ℕ)) (now : ℕ) (it : D) (at : S) (ot et : Bool) (o e : List ℕ)
+    (refl_follows : d.follows it it) where
+  pub does_nothing : (a : AskParts) (tree : Tree) → Does (ran d s words now why.NoMemory 0 (it, at) (outputs ot o et e) (it, at)) a tree (outputs ot o et e)
+  does_nothing a tree = record {
+    plain = λ _f _k _c told. record {
+      went = not_begun tree words a (d.files it) ot et o e (d.bytes_read it Pkg);
+      reads = inl (omega arith);
+    };
+    files = λ is. record {
+      went = λ told. ([], (query_files tree (s.paths at) words a).steps, refl, through_none {ot = ot} {et = et} o e);
+      disk_unread = refl;
+    };
+    keyed = λ is told. keyed_of (ran d s words now why.NoMemory 0 (it, at) (outputs ot o et e) (it, at)) a tree (outputs ot o et e)
+        (unbegun d.files d.left_since d.moment d.bytes_read tree words a ot et o e it);
+    changes = λ is told reads. change_of (ran d s words now why.NoMemory 0 (it, at) (outputs ot o et e) (it, at)) a tree (outputs ot o et e)
+        (unstarted_one d.files d.left_since d.moment (s.paths at) now (asked_task words a) it (outputs ot o et e));
+    empty = λ is told. memory_empty (needs_none (asked_task words a)) (reopened (d.files it));
+    looks = λ _k _c. record {
+      untouched = λ told. record { same = refl; images = λ t image is. is; kept = λ t image is. is };
+      moment_stays = refl;
+      index_unread = omega arith;
+      goes_on = refl_follows;
+    };
+    shelf_unread = λ _f _r. refl;
+  }

@@ -1,0 +1,118 @@
+-- What stands around a call: a disk, a shelf, two sinks and a database, each by the ghost members of its kind, which a clause names `D.Disk`,
+-- `S.Shelf`, `O.Sink`.
+use Rattle.std.specs.Prelude.{ℕ, Bool, IsTrue, Result, IfOk}
+use Rattle.std.specs.Ordering.{nat_cmp}
+use Rattle.std.specs.FinMap.{FinMap}
+use Rattle.rpm_outside.specs.declared.disk.Disk as disk
+use Rattle.rpm_outside.specs.declared.disk.File.{File}
+use Rattle.rpm_outside.specs.declared.disk.File.TheVariants.{Pkg}
+use Rattle.rpm_outside.specs.declared.shelf.Shelf as shelf
+use Rattle.rpm_outside.specs.declared.sink.Sink as sink
+use Rattle.rpm_outside.specs.declared.buffered.Buffered.{Buffered}
+use Rattle.rpm_outside.specs.Buffered.{inner, HandsOn}
+use Rattle.rpm_outside.specs.Causes as causes
+use Rattle.rpm_outside.specs.Changes as outside
+use Rattle.rpm_outside.specs.Crash as crash
+use Rattle.rpm_outside.specs.Files.{Units, Files}
+use Rattle.rpm_outside.specs.Looks as looks
+use Rattle.rpm_db.specs.Changes.{IsServing}
+use Rattle.rpm_db.specs.Database as database
+use Rattle.rpm_db.specs.Database.{Database}
+use Rattle.rpm_db.specs.Runs as runs
+use Rattle.rpm_db.specs.State.{State, Package, state, packages}
+use Rattle.rpm_select.specs.Reach.{HasIndexRows}
+use Rattle.rpm_check.specs.Answers as check
+use Rattle.rpm_change.specs.Endings.{Outputs, outputs, IsCarried}
+use Rattle.rpm_tool.specs.Answers as tool
+use Rattle.rpm_tool.specs.Reads as reads
+
+-- ---- a disk
+
+module _ {D : Type 0} (d : disk.Ghosts D) where
+  -- the images that a stop from now on may leave
+  abbrev pub images : D → Files → Type 0
+  images it = d.left_since it (d.moment it)
+
+  -- the bytes of Packages.db that were read
+  abbrev pub pkg_read : D → ℕ
+  pkg_read it = d.bytes_read it Pkg
+
+  abbrev pub Looks : File → ℕ → D → D → Type 0
+  Looks = looks.Looks d.tells d.files d.left_since d.moment d.bytes_read d.follows
+
+  abbrev pub LooksAt : File → D → D → Type 0
+  LooksAt = looks.LooksAt d.tells d.files d.left_since d.moment d.bytes_read d.follows
+
+  abbrev pub Peeks : Bool → D → D → Type 0
+  Peeks = reads.Peeks d.tells d.files d.left_since d.moment d.bytes_read d.follows
+
+  abbrev pub Glances : D → D → Type 0
+  Glances = check.Glances d.tells d.files d.left_since d.moment d.bytes_read d.follows
+
+  abbrev pub Leaves : D → D → Type 0
+  Leaves = tool.Leaves d.tells d.files d.left_since d.moment d.bytes_read d.follows
+
+  abbrev pub Runs : (Files → Files → Type 0) → D → D → Type 0
+  Runs = runs.Runs d.tells d.files d.left_since d.moment d.bytes_read d.follows
+
+  abbrev pub Changes : File → (Units → Units → Type 0) → ℕ → D → D → Type 0
+  Changes = outside.Changes d.tells d.files d.left_since d.moment d.bytes_read d.follows
+
+  abbrev pub LeavesIn : D → D → (Files → Type 0) → Type 0
+  LeavesIn = crash.LeavesOnly d.moment d.left_since
+
+  -- an answer that comes only where the disk counted a fault
+  abbrev pub DiskFault : Type 0 → D → D → Type 0
+  DiskFault what old new = causes.HasCauseAt what (d.faults old) (d.faults new)
+
+  abbrev pub DiskCause : {T E : Type 0} → Result T E → D → D → Type 0
+  DiskCause result old new = causes.HasCause (d.faults old) (d.faults new) result
+
+  -- ---- a database on it
+
+  abbrev pub Kept : D → Database → Type 0
+  Kept it db = IsTrue d.tells → database.Keeps (d.files it).pkg db
+
+  abbrev pub KeptIndex : D → Database → Type 0
+  KeptIndex it db = IsTrue d.tells → database.KeepsIndex (d.files it).idx db
+
+  abbrev pub Serving : D → Database → Type 0
+  Serving it db = IsTrue d.tells → IsServing (d.files it) (images it) db
+
+  abbrev pub Indexed : D → Database → Type 0
+  Indexed it db = database.IsIndexed (d.files it).pkg (d.files it).idx db
+
+  abbrev pub HasRows : D → Database → Type 0
+  HasRows it db = HasIndexRows db (d.files it).pkg (d.files it).idx
+
+  abbrev pub Carried : {T E : Type 0} → Result T E → D → D → Database → Database → Type 0
+  Carried result old new before after = IfOk result (λ _tally. IsCarried d.tells (d.files old) (d.files new) (images new) before after)
+
+  abbrev pub state_in : D → Database → State
+  state_in it db = state (d.files it).pkg db.store
+
+  abbrev pub packages_in : D → Database → FinMap nat_cmp Package
+  packages_in it db = packages (d.files it).pkg db.store
+
+-- ---- a shelf and the sinks
+
+abbrev pub ShelfFault : {S : Type 0} → shelf.Ghosts S → Type 0 → S → S → Type 0
+ShelfFault s what old new = causes.HasCauseAt what (s.faults old) (s.faults new)
+
+abbrev pub SinkFault : {O : Type 0} → sink.Ghosts O → Type 0 → Buffered O → Buffered O → Type 0
+SinkFault o what old new = causes.HasCauseAt what (o.faults (inner old)) (o.faults (inner new))
+
+abbrev pub outs : {O E : Type 0} → sink.Ghosts O → sink.Ghosts E → O → E → Outputs
+outs o e out err = outputs o.tells (o.taken out) e.tells (e.taken err)
+
+-- what they took behind their buffers
+abbrev pub shown : {O E : Type 0} → sink.Ghosts O → sink.Ghosts E → Buffered O → Buffered E → Outputs
+shown o e out err = outs o e (inner out) (inner err)
+
+-- what a call keeps of both: nothing is held in the end, and an answer that tells of a fault comes only where that sink counted one
+pub record Hands {O E : Type 0} (o : sink.Ghosts O) (e : sink.Ghosts E) (out_fails err_fails : Type 0) (out_old : Buffered O) (err_old : Buffered E)
+    (out_new : Buffered O) (err_new : Buffered E) : Type 0 where
+  pub out : SinkFault o out_fails out_old out_new
+  pub err : SinkFault e err_fails err_old err_new
+  pub out_rest : HandsOn o.follows out_old out_new
+  pub err_rest : HandsOn e.follows err_old err_new
