@@ -1,8 +1,12 @@
 #!/bin/sh
-# Builds the program and puts it where a shell finds it.
+# Puts the program where a shell finds it.
 #
 #   ./install.sh [--prefix DIR]               install below DIR (/usr/local where none is given)
+#   ./install.sh [--prefix DIR] --prove       the same with a program that is proved and built here
 #   ./install.sh [--prefix DIR] --uninstall   take away what an installation put there
+#
+# The program is release/'s, where that is of these sources: their digest stands beside it, and the merge gate refuses a release/ that isn't
+# what it built from them. Elsewhere, and with --prove, all crates are proved first and the program is built, which takes an hour or more.
 #
 # Below DIR stand afterwards: libexec/juzkarg/rpm_prog (the program), bin/rpm and bin/rpmdb (two lines each, which pass their own name
 # as the first word), the pages of man/ under share/man, and libexec/juzkarg/installed, the list of these files. A file that isn't in that
@@ -24,6 +28,10 @@ while [ $# -gt 0 ]; do
             [ $# -ge 2 ] || fail "--prefix wants a folder"
             prefix=$2
             shift 2
+            ;;
+        --prove)
+            deed=prove
+            shift
             ;;
         --uninstall)
             deed=uninstall
@@ -73,6 +81,41 @@ targets() {
     return 0
 }
 
+# The rest of the line of release/MANIFEST that begins with this word.
+told() {
+    sed -n "s/^$1 //p" "$here/release/MANIFEST" 2> /dev/null || true
+}
+
+# Unpacks release/'s program into this file, where there is one and it is the one that MANIFEST names.
+unpack() {
+    [ -f "$here/release/MANIFEST" ] && [ -f "$here/release/rpm_prog.gz" ] || return 1
+    gzip -d -c "$here/release/rpm_prog.gz" > "$1" 2> /dev/null || return 1
+    [ "$(sha256sum < "$1" | cut -d ' ' -f 1)" = "$(told program)" ]
+}
+
+# Proves all crates and copies the program that is built into this file.
+prove() {
+    command -v rt > /dev/null || fail "there is no rt, which proves and builds ($(told toolchain))"
+    echo "proving all crates, then building the program: an hour or more, 4 GB of memory and 10 GB of disk"
+    (cd "$here/crates/rpm_prog" && rt run -- rpm --dbpath "$here/example" -qa > /dev/null) || fail "rt built no program"
+    cp -- "$here/crates/rpm_prog/out/rpm_prog" "$1"
+}
+
+# Puts the program into this file, and says where it is from.
+get_program() {
+    if [ "$deed" = install ] && unpack "$1" && [ "$(told sources)" = "$("$here/release/digest.sh")" ]; then
+        echo "taking the program of release/, which is of these sources ($(told sources))"
+        return
+    fi
+    [ "$deed" = prove ] || echo "release/ has no program of these sources"
+    prove "$1"
+    if unpack "$1.released" && cmp -s "$1" "$1.released"; then
+        echo "the program that was built is the one of release/, byte for byte"
+    else
+        echo "the program that was built is another one than release/'s"
+    fi
+}
+
 put_wrapper() {
     printf '#!/bin/sh\nexec %s %s "$@"\n' "$(quoted "$home/rpm_prog")" "$1" > "$prefix/bin/$1"
     chmod 755 "$prefix/bin/$1"
@@ -88,12 +131,13 @@ install_all() {
             fail "$file is there already, and no installation of this program put it there"
         fi
     done
-    (cd "$here/crates/rpm_prog" && rt run -- rpm --version > /dev/null 2>&1) || true
-    program=$here/crates/rpm_prog/out/rpm_prog
-    [ -x "$program" ] || fail "rt built no program; 'cd crates/rpm_prog && rt check' says why"
+    room=$(mktemp -d)
+    trap 'rm -rf "$room"' EXIT
+    get_program "$room/rpm_prog"
     mkdir -p "$home" "$prefix/bin" "$prefix/share/man/man8"
     targets > "$list"
-    cp -- "$program" "$home/rpm_prog"
+    cp -- "$room/rpm_prog" "$home/rpm_prog"
+    chmod 755 "$home/rpm_prog"
     put_wrapper rpm
     put_wrapper rpmdb
     for page in "$here"/man/*.8; do
