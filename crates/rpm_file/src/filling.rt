@@ -91,6 +91,15 @@ fn fill_some<S: Shelf>(
 // The room for bytes that are still to come, at first.
 const FIRST: usize = 4096;
 
+/// How many bytes to ask for next, where so many of `size` have come: 4,096, or as many as came so far.
+fn next_piece(done: usize, size: usize) -> usize
+    requires { done < size }
+    ensures some { 0 < result }
+    ensures within { done + result ≤ size }
+{
+    (size - done).min(done.max(FIRST))
+}
+
 /// Reads into a vector, behind its first `from` bytes, until there are so many or the open item is at its end. Says how many there
 /// are then. Where the vector is too short it grows as the bytes come: by 4,096 bytes, or by as many as came so far.
 ///
@@ -116,7 +125,7 @@ pub fn fill_upto<S: Shelf>(
 {
     let mut done = from;
     while done < size {
-        let more = (size - done).min(done.max(FIRST));
+        let more = next_piece(done, size);
         let count = fill_some(shelf, room, done, more)?;
         done += count;
         if count < more {

@@ -37,10 +37,8 @@ pub fn settle<D: Disk>(disk: &mut D) -> Result<(), Failed>
     ensures reads { ReadsLog D.moment D.bytes_read D.follows disk.old disk.new }
     ensures cause { HasCause (D.faults disk.old) (D.faults disk.new) result }
 {
-    disk.sync(File::Pkg)?;
-    disk.sync(File::Idx)?;
-    disk.sync(File::Log)?;
-    Ok(())
+    settle_files(disk)?;
+    disk.sync(File::Log)
 }
 
 /// Settles the two files that the log is for.
