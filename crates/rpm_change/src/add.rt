@@ -235,14 +235,16 @@ pub fn put_file<D: Disk, S: Shelf, E: Sink + Drop>(
 ///
 /// # Errors
 ///
-/// - `NumbersSpent` exactly where, going through the files in order, one is to be added while the next number is 4294967295.
-/// - `GenerationSpent` exactly where, going through the files in order, one is to be added while the generation is 4294967295; each that is
-///   added raises it by one.
-/// - `StoreFull` exactly where, going through the files in order, the header of one, or a package in the way of its slot page, fits nowhere
-///   below 4 GiB.
-/// - `IndexFull` exactly where, going through the files in order, the rows after one is added need more than 268435456 units.
-/// - `BadIndex` only where a chain of the index isn't well formed, or unit 1 counts too little; never where the index was well formed as a
-///   whole at the start.
+/// Going through the files in order, the first whose header is refused decides, and of it the first of these four limits that it meets:
+///
+/// - `NumbersSpent` where the next number is 4294967295.
+/// - `GenerationSpent` where the generation is 4294967295; each file that is added raises it by one.
+/// - `StoreFull` where the header, or a package in the way of its slot page, fits nowhere below 4 GiB.
+/// - `IndexFull` where the rows after it need more than 268435456 units, with that number: so where the index held the rows at the start.
+///
+/// And besides:
+///
+/// - `BadIndex` never where the index held the rows of the packages at the start, or was well formed as a whole.
 /// - `DiskFault`, `ShelfFault` and `ErrFault` only where that object's count of faults rose.
 /// - `NoMemory` where a file, a change or a line finds no memory. It answers nothing else.
 pub fn add_files<D: Disk, S: Shelf, E: Sink + Drop>(

@@ -68,11 +68,14 @@ fn erase_one<D: Disk, E: Sink + Drop>(
 ///
 /// # Errors
 ///
-/// - `GenerationSpent` exactly where, going through the numbers in order, a package is to be erased while the generation is 4294967295; each
-///   that is erased raises it by one.
-/// - `IndexFull` exactly where, going through the numbers in order, the rows after one is erased need more than 268435456 units.
-/// - `BadIndex` only where a chain of the index isn't well formed, or unit 1 counts too little; never where the index was well formed as a
-///   whole at the start.
+/// Going through the numbers in order, the first whose package is refused decides, and of it the first of these two limits that it meets:
+///
+/// - `GenerationSpent` where the generation is 4294967295; each package that is erased raises it by one.
+/// - `IndexFull` where the rows after it need more than 268435456 units, with that number: so where the index held the rows at the start.
+///
+/// And besides:
+///
+/// - `BadIndex` never where the index held the rows of the packages at the start, or was well formed as a whole.
 /// - `DiskFault` and `ErrFault` only where that object's count of faults rose.
 /// - `NoMemory` where a change or a line finds no memory. It answers nothing else.
 pub fn erase_numbers<D: Disk, E: Sink + Drop>(

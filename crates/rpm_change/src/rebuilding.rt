@@ -190,10 +190,15 @@ fn drop_each<D: Disk, O: Sink + Drop>(
 ///
 /// # Errors
 ///
-/// - `GenerationSpent` exactly where, going through the packages that are Bad by rising number, one is to be erased while the generation is
-///   4294967295; each that is erased raises it by one.
-/// - `IndexFull` exactly where the rows of the packages as they are, or after one is erased, need more than 268435456 units.
-/// - `BadIndex` only where a chain of the index isn't well formed, or unit 1 counts too little; never where the disk's contents are told.
+/// `IndexFull` comes before all else where the rows of the packages as they are need more than 268435456 units, with that number. Then, going
+/// through the packages that are Bad by rising number, the first that is refused decides, and of it the first of these two limits:
+///
+/// - `GenerationSpent` where the generation is 4294967295; each package that is erased raises it by one.
+/// - `IndexFull` where the rows after it need more than 268435456 units, with that number.
+///
+/// And besides:
+///
+/// - `BadIndex` never where the disk's contents are told.
 /// - `DiskFault` and `OutFault` only where that object's count of faults rose.
 /// - `NoMemory` where a package, the rows, a change or a line finds no memory. It answers nothing else.
 pub fn rebuild<D: Disk, O: Sink + Drop>(

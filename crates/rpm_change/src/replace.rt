@@ -28,11 +28,15 @@ use std::alloc::Global;
 ///
 /// # Errors
 ///
-/// - `GenerationSpent` exactly where a header is to be put while the generation is 4294967295.
-/// - `StoreFull` exactly where the header, as it replaces the old one, fits nowhere below 4 GiB.
-/// - `IndexFull` exactly where the rows after the change need more than 268435456 units.
-/// - `BadIndex` only where a chain of the index isn't well formed, or unit 1 counts too little; never where the index was well formed as a
-///   whole at the start.
+/// Where a header is to be put, the first of these three limits that it meets is answered:
+///
+/// - `GenerationSpent` where the generation is 4294967295.
+/// - `StoreFull` where the header, as it replaces the old one, fits nowhere below 4 GiB.
+/// - `IndexFull` where the rows after it need more than 268435456 units, with that number: so where the index held the rows at the start.
+///
+/// And besides:
+///
+/// - `BadIndex` never where the index held the rows of the packages at the start, or was well formed as a whole.
 /// - `DiskFault`, `ShelfFault` and `ErrFault` only where that object's count of faults rose.
 /// - `NoMemory` where the file, the change or a line finds no memory. It answers nothing else.
 pub fn replace_package<D: Disk, S: Shelf, E: Sink + Drop>(

@@ -260,12 +260,16 @@ fn go_round<D: Disk>(
 ///
 /// # Errors
 ///
-/// - `NumbersSpent` exactly where, going through the changes in order, a header is to be added while the next number is 4294967295.
-/// - `GenerationSpent` exactly where, going through the changes in order, one is to be made while the generation is 4294967295.
-/// - `StoreFull` exactly where, going through the changes in order, a header, or a package in the way of its slot page, fits nowhere below
-///   4 GiB.
-/// - `IndexFull` exactly where, going through the changes in order, the rows after one of them need more than 268435456 units.
-/// - `BadIndex` only where a chain of the index isn't well formed, or unit 1 counts too little; never where the index holds the rows.
+/// Going through the changes in order, the first that is refused decides, and of it the first of these four limits that it meets:
+///
+/// - `NumbersSpent` where a header is to be added and the next number is 4294967295.
+/// - `GenerationSpent` where the generation is 4294967295; each change raises it by one.
+/// - `StoreFull` where a header, or a package in the way of its slot page, fits nowhere below 4 GiB.
+/// - `IndexFull` where the rows after it need more than 268435456 units, with that number: so where the index held the rows at the start.
+///
+/// And besides:
+///
+/// - `BadIndex` never where the index held the rows of the packages at the start.
 /// - `DiskFault` only where the disk's count of faults rose.
 /// - `NoMemory` where a header or a change finds no memory; also where a number that was given isn't there or is too great, which takes a
 ///   disk that doesn't keep what it is given. It answers nothing else.

@@ -176,12 +176,16 @@ fn exercise_all<D: Disk, O: Sink + Drop>(
 ///
 /// # Errors
 ///
-/// - `NotEmpty` exactly where there is a package: the least number. Nothing is done then.
-/// - `NumbersSpent` exactly where, going through the changes in order, a header is to be added while the next number is 4294967295.
-/// - `GenerationSpent` exactly where, going through the changes in order, one is to be made while the generation is 4294967295.
-/// - `StoreFull` exactly where, going through the changes in order, a header, or a package in the way of its slot page, fits nowhere below
-///   4 GiB.
-/// - `IndexFull` exactly where, going through the changes in order, the rows after one of them need more than 268435456 units.
+/// `NotEmpty` comes exactly where there is a package, with the least number; nothing is done then. Else, going through the changes in order,
+/// the first that is refused decides, and of it the first of these four limits that it meets:
+///
+/// - `NumbersSpent` where a header is to be added and the next number is 4294967295.
+/// - `GenerationSpent` where the generation is 4294967295; each change raises it by one.
+/// - `StoreFull` where a header, or a package in the way of its slot page, fits nowhere below 4 GiB.
+/// - `IndexFull` where the rows after it need more than 268435456 units, with that number.
+///
+/// And besides:
+///
 /// - `BadIndex` never where the disk's contents are told: the index holds the rows.
 /// - `DiskFault` and `OutFault` only where that object's count of faults rose. Before `OutFault` the first bytes of the lines were written.
 /// - `NoMemory` where a header, a change, a question or the lines find no memory; also where a number that was given isn't there or is too

@@ -344,13 +344,18 @@ fn change_recovered<D: Disk, S: Shelf, O: Sink + Drop, E: Sink + Drop>(
 /// fails has its line, and the others go on. Where there is no database, one is made.
 ///
 /// The changes are held in memory, over the disk, and committed behind the last one: a stop at any moment leaves all of them or none.
-/// The ending is `Done`, or `Failed` with how many arguments failed; only then are changes counted, and the index is current. Any other
-/// ending leaves what the files stand for as it was, `DiskFault` aside, behind which all changes or none are made: `BadLog` and `Damaged`,
-/// with the place; `NotEmpty` exactly of an exercise where there are packages; `NumbersSpent`, `GenerationSpent` and `StoreFull` exactly
-/// at the turn of a change for which none is left; `IndexFull` exactly where the index must be made, or is changed, and needs too many
-/// units; `LogFull` where the log does; `BadIndex` only where an index that was found current is changed, and isn't well formed as a whole;
-/// `DiskFault`, `ShelfFault`, `OutFault` and `ErrFault` only where that object's count of faults rose; and `NoMemory`. That a command line
-/// is one change is this project's own rule.
+/// The ending is `Done`, or `Failed` with how many arguments failed; only then are changes counted, and on a lawful database the index is
+/// current then, and the disk lawful. Any other ending leaves what the files stand for as it was, `DiskFault` aside, behind which all changes
+/// or none are made. That a command line is one change is this project's own rule.
+///
+/// - `BadLog` comes exactly where the log is malformed, and else `Damaged` where `Packages.db` is damaged, with the place.
+/// - `NotEmpty` comes exactly of an exercise where there are packages, with the least number.
+/// - `IndexFull` comes first where the index must be made before the changes and needs more than 268435456 units. Then, going through the
+///   changes in order, the first that is refused decides, and of it the first limit that it meets: `NumbersSpent`, `GenerationSpent`,
+///   `StoreFull`, `IndexFull`. Of `IndexFull` that is said on a lawful database, and on any of a command that makes the index anew.
+/// - `LogFull` tells how many units the log would have, more than 268435456.
+/// - `BadIndex` comes only where an index that was found current is changed, and isn't well formed as a whole.
+/// - `DiskFault`, `ShelfFault`, `OutFault` and `ErrFault` come only where that object's count of faults rose; `NoMemory` comes freely.
 ///
 /// Of `Packages.db` it reads the slot pages, the blocks of all packages where the index must be made, and those of each package that is
 /// replaced or erased. It syncs three times before the changes and five times for them, and keeps a page of 4 KiB in memory for each 4 KiB

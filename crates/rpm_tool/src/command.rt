@@ -125,10 +125,10 @@ fn command<D: Disk, S: Shelf, O: Sink + Drop, E: Sink + Drop>(
 /// generates, and tells on `out` what they leave; where there are packages, it is answered `NotEmpty` with the least number. The outcome counts
 /// the changes, where the command was done.
 ///
-/// A query reads the slot pages of `Packages.db` and the blocks of packages: for each argument those of each package once,
-/// for one that is a number that package's alone, and by key those of the packages that have one of its keys. None is read before what is
-/// printed of those with lesser numbers is written. Each header is parsed once. What is printed of a package goes out in few pieces, and no
-/// piece is of two packages.
+/// Of `Packages.db` a query reads no more bytes than those of the slot pages and for each argument of the blocks of each package once: for a
+/// number of that package alone, and by key of the packages that have one of its keys, and of all once more where the index must be made.
+/// Where a sink fails, of the blocks no more than those up to the package whose step was cut off. Each header is parsed once. What is printed
+/// of a package goes out in few pieces, and no piece is of two packages.
 pub fn run<D: Disk, S: Shelf, O: Sink, E: Sink>(
     alloc: Global,
     words: &Words,

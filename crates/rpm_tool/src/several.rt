@@ -18,13 +18,14 @@ use std::alloc::{AllocError, Global};
 
 /// Does several command lines, one after the other, as [`run`] does each, all at the moment `now`.
 ///
-/// Where the disk is at first what one state of packages is, behind them it stands for the state to which the lines lead: with the changes of
-/// each line that was done, and without those of each that was refused; those of one behind which the disk failed are all made, or none.
-/// A stop at any moment leaves a lawful disk that stands for the state before the line that it stops, or behind it, so with the changes of
-/// each line that was done by then.
+/// Where each image of the disk is lawful at first and stands for one state of packages, behind the lines each is lawful and stands for a state
+/// to which they lead: with the changes of each line that was done, and without those of each that was refused; those of one behind which
+/// the disk failed are all made, or none. A stop at any moment leaves a lawful image that stands for the state before the line that it stops,
+/// or behind it, so with the changes of each line that was done by then.
 ///
 /// Each line is answered as `run` answers it on what the lines before it left. The numbers that lines which were done gave to new packages
-/// rise, and so none is given twice: where the next number is at first that of the number field, as in a database that `--initdb` began.
+/// rise, and so no such number is given twice: where the next number is at first that of the number field, as in a database that `--initdb`
+/// began.
 ///
 /// # Errors
 ///
