@@ -1,4 +1,5 @@
--- How far a command went, and what it answers.
+-- How far a command went, and what it answers. On it rest `plain` and `files` of the page (Theorem.antt), and `Ends`, by which `run` puts the
+-- closing line behind all of it.
 use Rattle.std.specs.Prelude.{◌≡◌, ◌≢◌, ◌⊎◌, ℕ, ◌+◌, ◌-◌, ◌^◌, ◌<◌, ◌≤◌, List, [], ◌∷◌, ◌++◌, map, Bool, true, false, Option, Some, None, Result, Ok, Err, IfOk, IsTrue}
 use Rattle.std.specs.Ordering.{nat_cmp}
 use Rattle.std.specs.FinMap.{FinMap}

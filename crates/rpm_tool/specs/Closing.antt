@@ -1,4 +1,4 @@
--- The status of an ending, and the line that closes it.
+-- The status of an ending, and the line that closes it: `status` of `run`, and the line of its `answers`.
 use Rattle.std.specs.Prelude.{ℕ, ◌*◌, min, List, [], ◌∷◌, codes, decimal}
 use Rattle.std.specs.List.{concat}
 use Rattle.rpm_words.specs.declared.fault.WordsKind.{WordsKind}

@@ -1,4 +1,4 @@
--- What is told of the paths that several packages own and that differ.
+-- What is told of the paths that several packages own and that differ: for `--checkfiles` the course of `plain` on the page (Theorem.antt).
 use Rattle.std.specs.Prelude.{ℕ, List, [], ◌∷◌, ◌++◌, map, codes, Bool, true, false, unwrap_or}
 use Rattle.std.specs.List.{concat}
 use Rattle.std.specs.Ordering.{nat_cmp}

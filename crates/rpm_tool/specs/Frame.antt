@@ -1,5 +1,5 @@
 -- What stands around a call: a disk, a shelf, two sinks and a database, each by the ghost members of its kind, which a clause names `D.Disk`,
--- `S.Shelf`, `O.Sink`.
+-- `S.Shelf`, `O.Sink`. Short words for all clauses; of them `images`, `pkg_read` and `Leaves` stand on the page (Theorem.antt).
 use Rattle.std.specs.Prelude.{ℕ, Bool, IsTrue, Result, IfOk}
 use Rattle.std.specs.Ordering.{nat_cmp}
 use Rattle.std.specs.FinMap.{FinMap}

@@ -1,4 +1,4 @@
--- The numbers that changes give to new packages.
+-- The numbers that changes give to new packages: `numbers` of `run_each` rests on it.
 use Rattle.std.specs.Prelude.{◌≡◌, ℕ, ◌+◌, ◌≤◌, List, [], ◌∷◌, if◌then◌else◌, Result, Ok, Err}
 use Rattle.rpm_outside.specs.Files.{Units, Files}
 use Rattle.rpm_outside.specs.Logs.{reopened}

@@ -1,4 +1,5 @@
--- Several command lines on one disk, one after the other: what the database stands for behind them, and behind a stop.
+-- Several command lines on one disk, one after the other: what the database stands for behind them, and behind a stop. On it rest `leads`,
+-- `cuts` and `states` of `run_each`.
 use Rattle.std.specs.Prelude.{◌≡◌, ◌⊎◌, ℕ, List, [], ◌∷◌, Option, Some, None, if◌then◌else◌}
 use Rattle.rpm_outside.specs.Files.{Files}
 use Rattle.rpm_outside.specs.Logs.{reopened}

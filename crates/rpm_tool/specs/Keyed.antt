@@ -1,4 +1,5 @@
 -- The commands that open the database with its index, questions by key and the reports on requirements: what they answer, and what they leave.
+-- On it rests `keyed` of the page (Theorem.antt), and what all of it calls done and lawful.
 use Rattle.std.specs.Prelude.{◌≡◌, ◌⊎◌, ℕ, ◌+◌, ◌^◌, ◌<◌, ◌≤◌, List, [], map, Bool, true, false, not, ◌==◌, Result, Ok, Err}
 use Rattle.rpm_outside.specs.Crash.{LeavesOnly}
 use Rattle.rpm_outside.specs.declared.disk.File.{File}

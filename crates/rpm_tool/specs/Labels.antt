@@ -1,4 +1,5 @@
--- The label of a package in a report: what a query by the format `%{NVRA}` prints of it on out.
+-- The label of a package in a report: what a query by the format `%{NVRA}` prints of it on out. On it rest the courses of the reports, under
+-- `plain` and `keyed` of the page (Theorem.antt).
 use Rattle.std.specs.Prelude.{ℕ, List, [], codes, Option, Some, None, Result, Ok, Err}
 use Rattle.std.specs.Ordering.{nat_cmp}
 use Rattle.std.specs.FinMap.{FinMap, get}

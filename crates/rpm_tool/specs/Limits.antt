@@ -1,4 +1,5 @@
--- The limits of a command that changes packages: the first that it meets is the one that it is answered.
+-- The limits of a command that changes packages: the first that it meets is the one that it is answered. On it rest `limits` and `log` of
+-- `changes` on the page (Theorem.antt).
 use Rattle.std.specs.Prelude.{◌≡◌, ℕ, ◌+◌, ◌^◌, ◌<◌, ◌≤◌, ◌==◌, if◌then◌else◌, List, Bool, true, false, Option, Some, None, IfOk}
 use Rattle.rpm_outside.specs.Files.{Files}
 use Rattle.rpm_pkgdb.specs.Store.{Store, store}

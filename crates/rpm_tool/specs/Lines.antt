@@ -1,4 +1,4 @@
--- Several command lines on one disk: what each answers, and what it leaves to the next.
+-- Several command lines on one disk: what each answers, and what it leaves to the next. On it rest `ran` and `numbers` of `run_each`.
 use Rattle.std.specs.Prelude.{◌≡◌, ℕ, ◌++◌, List, [], ◌∷◌, true, false, Some, None, Err}
 use Rattle.rpm_outside.specs.Causes.{HasCauseAt}
 use Rattle.rpm_outside.specs.Crash.{LeavesOnly}
@@ -42,8 +42,10 @@ between disk given taken shelf_faults out_faults err_faults =
 abbrev pub Of : List (List ℕ) → (AskParts → Tree → Type 0) → Type 0
 Of words Said = (a : AskParts) (tree : Tree) → asks words ≡ Some (a, tree) → Said a tree
 
--- how a command line ended, and what it left, where disk and shelf tell what they hold: each field but the last is the clause of `run` of that
--- name (`package_files` is its clause `files`)
+-- how a command line ended, and what it left, where disk and shelf tell what they hold: each field but the last is what `run` says of it, by its
+-- clauses `status` and `unread` and by the page (Theorem.antt). There `changes` is `idle`, `undone_closes` is `unasked` with the closing line,
+-- `answers`, `package_files` and `keyed` are the fields `went` of `plain`, `files` and `keyed` with the closing line, `index_full` and `bad_index`
+-- are `full` and `bad` of `keyed`, and `disk_fault` and the like are `Causes`
 pub record LineIs {D : Type 0} (files : D → Files) (left_since : D → ℕ → Files → Type 0) (moment : D → ℕ) (bytes_read : D → File → ℕ)
     (follows : D → D → Type 0) (faults : D → ℕ) (paths : Paths) (now : ℕ) (call : RunCall) (old new : Between D) : Type 0 where
   pub status : call.outcome.status ≡ status_of call.outcome.why

@@ -1,4 +1,4 @@
--- What a query of package files does.
+-- What a query of package files does: `files` of the page (Theorem.antt), and its law `files_after`.
 use Rattle.std.specs.Prelude.{ℕ, List, [], ◌∷◌, map, Option, Some, None, Result, Ok, Err}
 use Rattle.rpm_outside.specs.Shelves.{Paths, bytes_at}
 use Rattle.rpm_file.specs.declared.fault.FileFault.{FileFault}

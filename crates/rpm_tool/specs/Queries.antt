@@ -1,4 +1,5 @@
--- What a query does: what is printed of each package that it picks.
+-- What a query does: what is printed of each package that it picks. On it rest the courses under `plain` and `keyed` of the page (Theorem.antt),
+-- and its laws `numbers` and `questions`.
 use Rattle.std.specs.Prelude.{ℕ, List, [], ◌∷◌, ◌++◌, map, codes, decimal, Bool, Option, Some, None, is_some, Result, Ok, Err}
 use Rattle.std.specs.Borrow.{Bor}
 use Rattle.std.specs.Option.{option_map}

@@ -1,4 +1,5 @@
--- What the commands do that go over all packages of the database, and what each command does.
+-- What the commands do that go over all packages of the database, and what each command does that asks no index: the courses of `plain` on the
+-- page (Theorem.antt).
 use Rattle.std.specs.Prelude.{ℕ, List, [], ◌∷◌, ◌++◌, map, false, codes, decimal, Option, Some, None}
 use Rattle.std.specs.List.{concat}
 use Rattle.std.specs.Ordering.{nat_cmp}

@@ -1,4 +1,5 @@
--- What the reports on requirements tell: those that no package meets, and an order in which packages could be installed.
+-- What the reports on requirements tell: those that no package meets, and an order in which packages could be installed. These are courses under
+-- `keyed` of the page (Theorem.antt).
 use Rattle.std.specs.Prelude.{◌≡◌, ℕ, ◌<◌, ◌==◌, ◌||◌, List, [], ◌∷◌, ◌++◌, map, take, length, codes, decimal, slice_get, slice_index_or, Contains, Bool, true, false, if◌then◌else◌, Option, Some, None, Result, Ok, Err, is_ok}
 use Rattle.std.specs.List.{concat, flat_map}
 use Rattle.std.specs.Ordering.{nat_cmp}

@@ -1,4 +1,5 @@
--- What a command that changes nothing does, argument by argument.
+-- What a command that changes nothing does, argument by argument: the parts of the courses under `plain`, `files` and `keyed` of the page
+-- (Theorem.antt), and the law `numbers`.
 use Rattle.std.specs.Prelude.{ℕ, ◌+◌, ◌<◌, List, [], ◌∷◌, ◌++◌, Bool, true, false, not, if◌then◌else◌, Option, Some, None}
 use Rattle.std.specs.List.{list_any, flat_map}
 use Rattle.rpm_change.specs.Steps.{Bearer, Step, ToOut, ToErr, is_out, Course, idle}

@@ -1,4 +1,5 @@
--- What each command that changes packages does: the course that it takes from the state that it finds.
+-- What each command that changes packages does: the course that it takes from the state that it finds. On it rest `changes`, `empty` and
+-- `shelf_unread` of the page (Theorem.antt).
 use Rattle.std.specs.Prelude.{ℕ, ◌<◌, ◌≤◌, ◌^◌, List, [], ◌∷◌, length, map, codes, unwrap_or, Bool, true, false}
 use Rattle.std.specs.List.{filter_map}
 use Rattle.rpm_outside.specs.Shelves.{Paths, bytes_at}

@@ -1,5 +1,7 @@
--- The theorem, on one page. `run` (src/command.rt) is proved to have what stands here: each record is a clause of it, or a field of one, and each
--- field says one thing. `run` requires nothing. What a disk or a shelf holds is said only where its kind tells it (`tells`).
+-- The theorem, on one page. `run` (src/command.rt) is proved to have what stands here: each record is a clause
+-- of it or a field of one, and each field says one thing. `run` requires nothing. What a disk or a shelf holds
+-- is said only where its kind tells it (`tells`). A database is lawful that isn't damaged, and whose index,
+-- where it is of this generation, holds the rows of the packages.
 use Rattle.std.specs.Prelude.{◌≡◌, ◌≢◌, ℕ, ◌+◌, ◌≤◌, List, map, true, false, IsTrue, Option, Some, None, Err, Ok}
 use Rattle.std.specs.List.{AllByRecursion}
 use Rattle.std.specs.Ordering.{nat_cmp}
@@ -30,15 +32,14 @@ use Rattle.rpm_tool.specs.Answers.{ComesWhere, Queried, Anywhere, Went, AtMost, 
 use Rattle.rpm_tool.specs.Asked.{is_query, of_files, by_key, is_changing, asks_change, asks_format, asks}
 use Rattle.rpm_tool.specs.Changing.{DidOn, ChangesWith, EmptyBy}
 use Rattle.rpm_tool.specs.Frame.{images, pkg_read, Leaves}
-use Rattle.rpm_tool.specs.Keyed.{AreLawfulGroups, IsLawfulGroup, StandsStill, IsReady, KeyedIs, FullIs, BadIs, HasRoom}
-use Rattle.rpm_tool.specs.Keyed.{is_done, is_done_or_outside, keyed_cost}
+use Rattle.rpm_tool.specs.Keyed.{AreLawfulGroups, IsLawfulGroup, StandsStill, IsReady, KeyedIs, FullIs, BadIs, HasRoom, is_done, is_done_or_outside, keyed_cost}
 use Rattle.rpm_tool.specs.Limits.{LimitsBy, LogOn}
 use Rattle.rpm_tool.specs.PackageFiles.{passing, query_files}
 use Rattle.rpm_tool.specs.Queries.{is_question, picked, argument_part}
 use Rattle.rpm_tool.specs.Steps.{numbers, RisesFrom}
 use Rattle.rpm_tool.specs.Tasks.{asked_task, asked_course, reads_shelf, is_anew, changes_index, needs_none}
 
--- one run: its words and its moment, how it ended, what it found and left of the disk and the shelf, and what out and err had taken before it
+-- One run: its words and its moment, how it ended, what it found and left, what out and err had taken before.
 pub record Run {D S : Type 0} (d : disk.Ghosts D) (s : shelf.Ghosts S) : Type 0 where
   pub words : List (List ℕ)
   pub moment : ℕ
@@ -50,20 +51,12 @@ pub record Run {D S : Type 0} (d : disk.Ghosts D) (s : shelf.Ghosts S) : Type 0 
   pub shelf_left : S
   pub before : Outputs
 
-abbrev pub ran : {D S : Type 0} (d : disk.Ghosts D) (s : shelf.Ghosts S) → List (List ℕ) → ℕ → Why → ℕ → D × S → Outputs → D × S → Run d s
-ran d s words moment why changes found before left = record {
-  words = words;
-  moment = moment;
-  why = why;
-  changes = changes;
-  found = found.0;
-  left = left.0;
-  shelf_found = found.1;
-  shelf_left = left.1;
-  before = before;
-}
+abbrev pub ran : {D S : Type 0} (d : disk.Ghosts D) (s : shelf.Ghosts S)
+    → List (List ℕ) → ℕ → Why → ℕ → D × S → Outputs → D × S → Run d s
+ran d s words now why changes old before new =
+    record { words = words; moment = now; why = why; changes = changes; found = old.0; left = new.0; shelf_found = old.1; shelf_left = new.1; before = before }
 
--- 1. WORDS. Those that break a rule, and a format that has a fault, are answered so, exactly there, and with the first.
+-- 1. WORDS that break a rule, and a format that has a fault, are answered so, exactly there, with the first.
 pub record AnswersWords (words : List (List ℕ)) (given : Why) : Type 0 where
   pub usage : (f : WordsFault) → ComesWhere (why.Usage f) given (ask words ≡ Err f)
   pub usage_kind : (f : WordsFault) → given ≡ why.Usage f → f.kind ≢ kind.NoMemory
@@ -71,48 +64,60 @@ pub record AnswersWords (words : List (List ℕ)) (given : Why) : Type 0 where
   pub bad_format_kind : (f : FormatFault) → given ≡ why.BadFormat f → f.kind ≢ wrong.NoMemory
 
 module _ {D S : Type 0} {d : disk.Ghosts D} {s : shelf.Ghosts S} where
-  -- 2. PLAIN QUESTIONS ask no index. `mid` is what out and err took by the end of the command, before the closing line.
+  -- 2. PLAIN QUESTIONS ask no index. `mid` is what out and err took by the end, before the closing line.
   pub record AnswersPlain (r : Run d s) (a : AskParts) (tree : Tree) (mid : Outputs) : Type 0 where
-    pub went : Queried tree r.words a (d.files r.found) r.why r.before mid (pkg_read d r.found) (pkg_read d r.left)
-    pub reads : AtMost (pkg_read d r.found) (pkg_read d r.left) (query_cost r.words a (reopened (d.files r.found)).pkg)
+    pub went : Queried tree r.words a (d.files r.found) r.why r.before mid
+        (pkg_read d r.found) (pkg_read d r.left)
+    pub reads : AtMost (pkg_read d r.found) (pkg_read d r.left)
+        (query_cost r.words a (reopened (d.files r.found)).pkg)
 
   -- 3. PACKAGE FILES are queried with no call on the disk.
   pub record AnswersOfFiles (r : Run d s) (a : AskParts) (tree : Tree) (mid : Outputs) : Type 0 where
-    pub went : IsTrue s.tells → Went (query_files tree (s.paths r.shelf_found) r.words a) r.why r.before mid Anywhere
+    pub went : IsTrue s.tells
+        → Went (query_files tree (s.paths r.shelf_found) r.words a) r.why r.before mid Anywhere
     pub disk_unread : r.left ≡ r.found
 
-  -- 4. QUESTIONS BY KEY, and the reports on requirements, finish what a stop left of a change, and make the index where it isn't current.
+  -- 4. QUESTIONS BY KEY, and reports on requirements, finish what a crash left, and make a stale index anew.
   pub record AnswersKeyed (r : Run d s) (a : AskParts) (tree : Tree) (mid : Outputs) : Type 0 where
-    pub went : KeyedIs tree r.words a (d.files r.found) r.why r.before mid (pkg_read d r.found) (pkg_read d r.left)
+    pub went : KeyedIs tree r.words a (d.files r.found) r.why r.before mid
+        (pkg_read d r.found) (pkg_read d r.left)
     pub reads : is_query a.mode ≡ true → IsLawfulGroup (d.files r.found)
         → pkg_read d r.left ≤ pkg_read d r.found + keyed_cost (reopened (d.files r.found)) r.words a
     pub full : FullIs (reopened (d.files r.found)) r.why
     pub bad : BadIs r.words a (reopened (d.files r.found)) r.why
-    pub complete : IsLawfulGroup (d.files r.found) → HasRoom (reopened (d.files r.found)) → is_done_or_outside r.why ≡ true
+    pub complete : IsLawfulGroup (d.files r.found) → HasRoom (reopened (d.files r.found))
+        → is_done_or_outside r.why ≡ true
     pub index : IsLawfulGroup (d.files r.found) → is_done r.why ≡ true → IsReady (d.files r.left)
     pub packages : (reopened (d.files r.left)).pkg ≡ (reopened (d.files r.found)).pkg
-    pub stops : AreLawfulGroups (images d r.found) → LeavesOnly d.moment d.left_since r.found r.left (StandsStill (images d r.found))
+    pub stops : AreLawfulGroups (images d r.found)
+        → LeavesOnly d.moment d.left_since r.found r.left (StandsStill (images d r.found))
 
-  -- 5. CHANGES of one command are one: all are made and counted, or none. What each ending leaves is `ChangesWith`.
-  pub record AnswersChange (r : Run d s) (a : AskParts) (course : State → Course) (mid : Outputs) : Type 0 where
+  -- 5. CHANGES of a command are one group: all are made and counted, or none; each ending leaves `ChangesWith`.
+  pub record AnswersChange (r : Run d s) (a : AskParts) (course : State → Course)
+      (mid : Outputs) : Type 0 where
     pub did : DidOn course (d.files r.found) r.why r.before mid
-    pub changed : ChangesWith (is_anew (asked_task r.words a)) (changes_index (asked_task r.words a)) d.files d.left_since d.moment course r.why r.changes
-        r.found r.left
-    pub limits : LimitsBy (is_anew (asked_task r.words a)) (IsLawfulGroup (d.files r.found)) course (reopened (d.files r.found)) r.why
+    pub changed : ChangesWith (is_anew (asked_task r.words a)) (changes_index (asked_task r.words a)) d.files
+        d.left_since d.moment course r.why r.changes r.found r.left
+    pub limits : LimitsBy (is_anew (asked_task r.words a)) (IsLawfulGroup (d.files r.found)) course
+        (reopened (d.files r.found)) r.why
     pub log : LogOn course (reopened (d.files r.found)) r.why
 
-  -- what is done for a command that was read, by its kind
+  -- What is done for a command that was read, by its kind.
   pub record Does (r : Run d s) (a : AskParts) (tree : Tree) (mid : Outputs) : Type 0 where
-    pub plain : of_files a ≡ false → by_key a ≡ false → is_changing a ≡ false → IsTrue d.tells → AnswersPlain r a tree mid
+    pub plain : of_files a ≡ false → by_key a ≡ false → is_changing a ≡ false → IsTrue d.tells
+        → AnswersPlain r a tree mid
     pub files : of_files a ≡ true → AnswersOfFiles r a tree mid
     pub keyed : by_key a ≡ true → IsTrue d.tells → AnswersKeyed r a tree mid
-    pub changes : is_changing a ≡ true → IsTrue d.tells → (reads_shelf (asked_task r.words a) ≡ true → IsTrue s.tells)
+    pub changes : is_changing a ≡ true → IsTrue d.tells
+        → (reads_shelf (asked_task r.words a) ≡ true → IsTrue s.tells)
         → AnswersChange r a (asked_course (s.paths r.shelf_found) r.moment r.words a) mid
-    pub empty : is_changing a ≡ true → IsTrue d.tells → EmptyBy (needs_none (asked_task r.words a)) (reopened (d.files r.found)) r.why
+    pub empty : is_changing a ≡ true → IsTrue d.tells
+        → EmptyBy (needs_none (asked_task r.words a)) (reopened (d.files r.found)) r.why
     pub looks : by_key a ≡ false → is_changing a ≡ false → Leaves d r.found r.left
-    pub shelf_unread : of_files a ≡ false → reads_shelf (asked_task r.words a) ≡ false → r.shelf_left ≡ r.shelf_found
+    pub shelf_unread : of_files a ≡ false → reads_shelf (asked_task r.words a) ≡ false
+        → r.shelf_left ≡ r.shelf_found
 
-  -- and for all words
+  -- And for all words.
   pub record Answers (r : Run d s) (mid : Outputs) : Type 0 where
     pub asked : (a : AskParts) (tree : Tree) → asks r.words ≡ Some (a, tree) → Does r a tree mid
     pub unasked : asks r.words ≡ None → mid ≡ r.before
@@ -122,8 +127,8 @@ module _ {D S : Type 0} {d : disk.Ghosts D} {s : shelf.Ghosts S} where
     pub goes_on : d.follows r.found r.left
 
 -- 6. CAUSES. A fault is answered only where its object counted one.
-pub record Causes {D S O E : Type 0} (d : disk.Ghosts D) (s : shelf.Ghosts S) (o : sink.Ghosts O) (e : sink.Ghosts E) (given : Why)
-    (old new : D × S × O × E) : Type 0 where
+pub record Causes {D S O E : Type 0} (d : disk.Ghosts D) (s : shelf.Ghosts S) (o : sink.Ghosts O)
+    (e : sink.Ghosts E) (given : Why) (old new : D × S × O × E) : Type 0 where
   pub disk : HasCauseAt (given ≡ why.DiskFault) (d.faults old.0) (d.faults new.0)
   pub shelf : HasCauseAt (given ≡ why.ShelfFault) (s.faults old.1) (s.faults new.1)
   pub out : HasCauseAt (given ≡ why.OutFault) (o.faults old.2) (o.faults new.2)
@@ -132,10 +137,13 @@ pub record Causes {D S O E : Type 0} (d : disk.Ghosts D) (s : shelf.Ghosts S) (o
 -- 7. LAWS of the words and of what is picked.
 pub record Laws (words : List (List ℕ)) : Type 0 where
   -- with package files no number is passed over
-  pub files_after : (tree : Tree) (paths : Paths) (n : ℕ) (a : AskParts) → query_files tree paths words (passing n a) ≡ query_files tree paths words a
+  pub files_after : (tree : Tree) (paths : Paths) (n : ℕ) (a : AskParts)
+      → query_files tree paths words (passing n a) ≡ query_files tree paths words a
   -- an argument's packages are those that it picks above `--after`, each once and rising
-  pub numbers : (tree : Tree) (packages : FinMap nat_cmp Package) (chosen : Chosen) (after j : ℕ) (text : List ℕ)
-      → (numbers (argument_part tree packages chosen after j text).steps ≡ map (λ e. e.0) (above after (picked packages chosen text)))
+  pub numbers : (tree : Tree) (packages : FinMap nat_cmp Package) (chosen : Chosen) (after j : ℕ)
+      (text : List ℕ)
+      → (numbers (argument_part tree packages chosen after j text).steps
+      ≡ map (λ e. e.0) (above after (picked packages chosen text)))
       × RisesFrom after (map (λ e. e.0) (above after (picked packages chosen text)))
   -- no argument of a query goes unasked
   pub questions : (a : AskParts) → ask words ≡ Ok a → a.mode ≡ mode.Query → a.chosen ≢ by.Package

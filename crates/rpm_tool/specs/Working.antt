@@ -1,4 +1,5 @@
--- What a changing command does on the disk over which its changes are held, and how the group ends.
+-- What a changing command does on the disk over which its changes are held, and how the group ends. No field of the page (Theorem.antt) rests on
+-- it: so the functions below `run` say to each other what becomes `changes` there.
 use Rattle.std.specs.Prelude.{◌≡◌, ◌⊎◌, ℕ, ◌^◌, ◌<◌, ◌≤◌, ◌==◌, if◌then◌else◌, [], Bool, true, false, Result, Ok, Err, IfOk}
 use Rattle.rpm_outside.specs.Changes.{AreSettled}
 use Rattle.rpm_outside.specs.Crash.{LeavesOnly}

@@ -1,4 +1,4 @@
--- A command that changes packages, as each function on the way to it says it.
+-- A command that changes packages, as each function on the way to it says it: what becomes `changes` of the page (Theorem.antt) in `run`.
 use Rattle.std.specs.Prelude.{ℕ}
 use Rattle.rpm_outside.specs.Files.{Files}
 use Rattle.rpm_outside.specs.Logs.{reopened}
@@ -10,7 +10,7 @@ use Rattle.rpm_tool.specs.Keyed.{IsLawfulGroup}
 use Rattle.rpm_tool.specs.Limits.{LimitsBy, LogOn}
 use Rattle.rpm_tool.specs.Tasks.{TaskParts, task_course, is_anew, changes_index}
 
--- what it answers, what it leaves, and that its limits are met exactly at their turn
+-- what it answers, what it leaves, which limit it is answered, and how long its log is where that is refused
 pub record OneChange {D : Type 0} (files : D → Files) (left_since : D → ℕ → Files → Type 0) (moment : D → ℕ) (paths : Paths) (now : ℕ)
     (task : TaskParts) (given : Why) (changes : ℕ) (old new : D) (before behind : Outputs) : Type 0 where
   pub did : DidOn (task_course paths now task) (files old) given before behind
