@@ -1,6 +1,6 @@
 #!/usr/bin/env python3
 """What the contracts of two trees say: bench/clauses.py [--all] [--words FILE] [--crate NAME ..] OLD NEW
-How much one tree's contracts say:      bench/clauses.py [--all] --count TREE
+How much one tree's contracts say:      bench/clauses.py [--all] [--many N] --count TREE
 
 A tree is a checkout, as a folder. Of each public function, of each trait and of each type with ghost fields the clauses are compared by kind,
 name and text, however they are laid out; so is each definition of specs/. `-` stands before what only OLD says, `+` before what only NEW
@@ -8,7 +8,8 @@ says; of a clause that differs both texts are printed, and of a definition the l
 name of the same function is `=`. The exit status is 1 where anything differs.
 
 --all compares or lists private functions too. --words FILE rewrites OLD's clauses first: each line of FILE is a regular expression, a tab and
-what replaces it. --crate NAME keeps to crates of these names. Tests are left out. What is read is the layout that `rt fmt` gives.
+what replaces it. --crate NAME keeps to crates of these names. --many N lists the functions with N clauses or more, 15 where it isn't given.
+Tests are left out. What is read is the layout that `rt fmt` gives.
 """
 import argparse
 import collections
@@ -19,7 +20,6 @@ import sys
 from pathlib import Path
 
 WIDE = 120
-MANY = 15
 
 OWNER = re.compile(r"^( *)(?:pub(?:\([^)]*\))? )?(?:unsafe )?(impl|trait|struct|enum|mod)\b(.*)\{$")
 FUNCTION = re.compile(r"^( *)(pub(?:\([^)]*\))? )?(?:const |unsafe )*fn (\w+)")
@@ -111,10 +111,9 @@ def read_source(lines, where):
         if owner:
             indent, name, shown = owner.group(1), *owner_name(owner.group(2), owner.group(3))
             owners.append((indent, name, shown))
-            ghosts, _ = read_clauses(lines, i + 1, indent, lambda line, _: line == indent + "}")
-            ghosts = {key: clause for key, clause in ghosts.items() if key.startswith("ghost ")}
-            if ghosts:
-                items["::".join(path + [name])] = Item(True, ghosts)
+            clauses, _ = read_clauses(lines, i + 1, indent, lambda line, _: line == indent + "}")
+            if any(key.startswith("ghost ") for key in clauses):
+                items["::".join(path + [name])] = Item(True, {key: clause for key, clause in clauses.items() if key.startswith("ghost ")})
         elif owners and lines[i] == owners[-1][0] + "}":
             owners.pop()
         i += 1
@@ -186,14 +185,15 @@ def compared_clauses(old, new, rules):
 
 def differences(options):
     """The name of each function, type and definition that the two trees say otherwise, and the lines that say in what."""
-    rules = options.words.read_text(encoding="utf-8").splitlines() if options.words else []
-    rules = [line.split("\t") for line in rules if "\t" in line]
+    rules = [line.split("\t") for line in options.words.read_text(encoding="utf-8").splitlines()] if options.words else []
     old, new = (read_tree(tree, options.crate, "src", ".rt", read_source) for tree in options.trees)
     for name in sorted(old.keys() | new.keys()):
         before, after = old.get(name, Item(False, {})), new.get(name, Item(False, {}))
         if options.all or before.public or after.public:
+            lines = list(compared_clauses(before.clauses, after.clauses, rules))
             side = "" if name in old and name in new else f" (only in {'OLD' if name in old else 'NEW'})"
-            yield name + side, list(compared_clauses(before.clauses, after.clauses, rules))
+            if side or lines:
+                yield name + side, lines
     old, new = (read_tree(tree, options.crate, "specs", ".antt", read_definitions) for tree in options.trees)
     for name in sorted(old.keys() | new.keys()):
         before, after = old.get(name, []), new.get(name, [])
@@ -203,9 +203,8 @@ def differences(options):
 
 def compared(options):
     """Prints what two trees say otherwise, and answers 1 where that is anything."""
-    told = [[name] + lines for name, lines in differences(options) if lines]
-    for lines in told:
-        print("\n".join(lines))
+    told = [line for name, lines in differences(options) for line in [name] + lines]
+    print("\n".join(told) or "the same")
     return int(bool(told))
 
 
@@ -216,7 +215,7 @@ def counted(options):
         asked = [clause for key, clause in item.clauses.items() if not key.startswith("ghost")]
         columns = sum(len(clause.text) for clause in asked)
         table[name.split("/")[0]].update(clauses=len(asked), lines=sum(clause.lines for clause in asked), columns=columns)
-        if (item.public or options.all) and len(asked) >= MANY:
+        if (item.public or options.all) and len(asked) >= options.many:
             most.append((len(asked), columns, name))
     for crate, path in source_files(tree, "src", ".rt", options.crate, tests=True):
         lines = path.read_text(encoding="utf-8").splitlines()
@@ -226,7 +225,7 @@ def counted(options):
     for crate, row in sorted(table.items()) + [("all", sum(table.values(), collections.Counter()))]:
         print(f"{crate:14}" + "".join(f"{row[key]:10}" for key in keys))
     print(f"lines: of clauses; columns: of clauses as one line each; wide: lines of src past {WIDE} columns, imports aside\n")
-    print(f"{len(most)} {'' if options.all else 'public '}functions with {MANY} clauses or more (clauses, columns)")
+    print(f"{len(most)} {'' if options.all else 'public '}functions with {options.many} clauses or more (clauses, columns)")
     for count, columns, name in sorted(most, reverse=True):
         print(f"{count:4}{columns:7}  {name}")
 
@@ -237,6 +236,7 @@ def main():
     parser.add_argument("--count", action="store_true")
     parser.add_argument("--words", type=Path)
     parser.add_argument("--crate", action="append")
+    parser.add_argument("--many", type=int, default=15)
     parser.add_argument("trees", nargs="+", metavar="TREE")
     options = parser.parse_args()
     if len(options.trees) != (1 if options.count else 2):
