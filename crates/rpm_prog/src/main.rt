@@ -1,21 +1,13 @@
-//! The program: the real disk, shelf, sinks and clock, and the one call of the tool.
+//! The program: its words, the one call of the tool over the real objects, and the status to end with.
 #![tactic(auto)]
 
-mod real_disk;
-mod real_file;
-mod real_shelf;
-mod real_sink;
-#[cfg(test)]
-mod tests;
 
-use real_disk::RealDisk;
-use real_shelf::RealShelf;
-use real_sink::RealSink;
+use rpm_real::{RealDisk, RealShelf, RealSink, moment_of};
 use rpm_tool::run;
 use rpm_words::{Words, place_of};
 use std::env;
 use std::process::ExitCode;
-use std::rt::{Clock, Env};
+use std::rt::Env;
 
 const NO_MEMORY: u8 = 254;
 
@@ -35,14 +27,6 @@ fn words_of(rt: &(impl Env + AllocGlobal)) -> Result<Words, u8> {
         }
     }
     Ok(words)
-}
-
-/// The seconds since 1970, as far as 32 bits go. A clock before that says 0.
-fn moment_of(clock: &impl Clock) -> u32 {
-    match clock.since_1970() {
-        Ok(time) => time.as_secs().min(u32::MAX as u64) as u32,
-        Err(_) => 0,
-    }
 }
 
 /// Runs the command line, and gives the status to end with.

@@ -51,7 +51,7 @@ fn counted<T: Copy>(faults: &mut u64, answer: Result<T, Failed>) -> Result<T, Fa
 }
 
 impl<'a, R: Files<File = fs::File>> Disk for RealDisk<'a, R> {
-    ghost use Rattle.rpm_prog.specs.RealDisk.{count_of};
+    ghost use Rattle.rpm_real.specs.RealDisk.{count_of};
 
     ghost tells = { false };
 

@@ -1,0 +1,13 @@
+//! The program's objects: a disk, a shelf, sinks and a clock over the files, streams and clock of the system.
+#![tactic(auto)]
+
+mod moment;
+mod real_disk;
+mod real_file;
+mod real_shelf;
+mod real_sink;
+
+pub use moment::moment_of;
+pub use real_disk::RealDisk;
+pub use real_shelf::RealShelf;
+pub use real_sink::RealSink;
