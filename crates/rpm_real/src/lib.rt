@@ -1,6 +1,7 @@
 //! The program's objects: a disk, a shelf, sinks and a clock over the files, streams and clock of the system.
 #![tactic(auto)]
 
+mod folder;
 mod moment;
 mod real_disk;
 mod real_file;

@@ -3,6 +3,7 @@
 ghost use Rattle.std.specs.Prelude.{false, []};
 ghost use Rattle.rpm_outside.specs.Causes.{HasCause};
 
+use crate::folder::Folder;
 use crate::real_file::RealFile;
 use rpm_outside::{Disk, Failed, File};
 use std::alloc::{AllocError, Global};
@@ -13,7 +14,7 @@ use std::rt::Files;
 #[derive(Drop)]
 pub struct RealDisk<'a, R: Files<File = fs::File>> {
     rt: &'a R,
-    folder: String,
+    folder: Folder,
     pkg: RealFile,
     idx: RealFile,
     log: RealFile,
@@ -22,7 +23,8 @@ pub struct RealDisk<'a, R: Files<File = fs::File>> {
 }
 
 impl<'a, R: Files<File = fs::File>> RealDisk<'a, R> {
-    /// The disk of a folder. No file is opened yet.
+    /// The disk of a folder, of which no file is opened yet. It needs not be there: the first write makes it. Where its name is empty, each
+    /// call fails.
     ///
     /// # Errors
     ///
@@ -30,7 +32,7 @@ impl<'a, R: Files<File = fs::File>> RealDisk<'a, R> {
     pub fn new(alloc: Global, rt: &'a R, folder: &str) -> Result<RealDisk<'a, R>, AllocError> {
         Ok(RealDisk {
             rt,
-            folder: String::from_str(alloc, folder)?,
+            folder: Folder::new(alloc, folder)?,
             pkg: RealFile::new(alloc, folder, "Packages.db")?,
             idx: RealFile::new(alloc, folder, "Hindex.db")?,
             log: RealFile::new(alloc, folder, "Hlog.db")?,
@@ -96,20 +98,19 @@ impl<'a, R: Files<File = fs::File>> Disk for RealDisk<'a, R> {
     fn write_at(&mut self, file: File, unit: u64, bytes: &[u8]) -> Result<(), Failed> {
         self.moment = self.moment.saturating_add(1);
         let answer = match file {
-            File::Pkg => self.pkg.write_at(self.rt, unit, bytes),
-            File::Idx => self.idx.write_at(self.rt, unit, bytes),
-            File::Log => self.log.write_at(self.rt, unit, bytes),
+            File::Pkg => self.pkg.write_at(self.rt, &mut self.folder, unit, bytes),
+            File::Idx => self.idx.write_at(self.rt, &mut self.folder, unit, bytes),
+            File::Log => self.log.write_at(self.rt, &mut self.folder, unit, bytes),
         };
         counted(&mut self.faults, answer)
     }
 
     fn sync(&mut self, file: File) -> Result<(), Failed> {
         self.moment = self.moment.saturating_add(1);
-        let folder = self.folder.as_str();
         let answer = match file {
-            File::Pkg => self.pkg.sync(self.rt, folder),
-            File::Idx => self.idx.sync(self.rt, folder),
-            File::Log => self.log.sync(self.rt, folder),
+            File::Pkg => self.pkg.sync(self.rt, &mut self.folder),
+            File::Idx => self.idx.sync(self.rt, &mut self.folder),
+            File::Log => self.log.sync(self.rt, &mut self.folder),
         };
         counted(&mut self.faults, answer)
     }

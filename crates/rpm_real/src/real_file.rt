@@ -1,7 +1,8 @@
 //! One file of the database's folder.
 
-ghost use Rattle.std.specs.Prelude.{◌≡◌, ◌≤◌, ◌+◌, ◌-◌, ◌^◌, min, length};
+ghost use Rattle.std.specs.Prelude.{◌≡◌, ◌<◌, ◌≤◌, ◌+◌, ◌-◌, ◌^◌, min, length};
 
+use crate::folder::Folder;
 use rpm_outside::Failed;
 use std::alloc::{AllocError, Global};
 use std::fs;
@@ -13,6 +14,7 @@ use std::rt::Files;
 /// A file that is opened when it is first used, and made only by a write.
 #[derive(Drop)]
 pub struct RealFile {
+    // Of a folder without a name it is empty, and no file is looked for.
     path: String,
     file: Option<fs::File>,
     can_write: bool,
@@ -20,8 +22,10 @@ pub struct RealFile {
     is_absent: bool,
     // How many whole units it has, where that was asked and nothing was written since.
     units: Option<u64>,
-    // It was made, and its folder wasn't synced since.
-    is_new: bool,
+    // It was seen to end with a whole unit, and no write of it failed since.
+    is_whole: bool,
+    // Its name was made to last.
+    is_named: bool,
     pub read: u64,
 }
 
@@ -46,23 +50,36 @@ fn fill(file: &fs::File, offset: u64, into: &mut [u8]) -> Result<(), Failed> {
     }
 }
 
-/// Makes the names of a folder last.
-fn sync_folder<R: Files<File = fs::File>>(rt: &R, folder: &str) -> Result<(), Failed> {
-    match fs::open(rt, folder) {
-        Ok(opened) if opened.sync_all().is_ok() => Ok(()),
-        _ => Err(Failed),
+/// Cuts off the bytes behind the last whole unit. Nobody sees them; a write behind them would show them in place of zeros. The cut lasts
+/// before anything is written, since a stop could keep the write and lose the cut.
+fn cut_tail(file: &mut fs::File) -> Result<(), Failed> {
+    let Ok(end) = file.seek(SeekFrom::End(0)) else {
+        return Err(Failed);
+    };
+    if end % 16 == 0 {
+        return Ok(());
     }
+    if file.set_len(end - end % 16).is_err() || file.sync_all().is_err() {
+        return Err(Failed);
+    }
+    Ok(())
 }
 
 impl RealFile {
     pub fn new(alloc: Global, folder: &str, name: &str) -> Result<RealFile, AllocError> {
+        let path = if folder.is_empty() {
+            String::new(alloc)
+        } else {
+            format!(in alloc; "{folder}/{name}")?
+        };
         Ok(RealFile {
-            path: format!(in alloc; "{folder}/{name}")?,
+            path,
             file: None,
             can_write: false,
             is_absent: false,
             units: None,
-            is_new: false,
+            is_whole: false,
+            is_named: false,
             read: 0,
         })
     }
@@ -75,6 +92,9 @@ impl RealFile {
     {
         if self.is_absent {
             return Ok(());
+        }
+        if self.path.is_empty() {
+            return Err(Failed);
         }
         match fs::open(rt, self.path.as_str()) {
             Ok(file) => {
@@ -99,15 +119,21 @@ impl RealFile {
         self.look(rt)
     }
 
-    /// Opens the file for reading and writing, and makes it where it isn't there.
-    fn open_to_write<R: Files<File = fs::File>>(&mut self, rt: &R) -> Result<(), Failed>
+    /// Opens the file for reading and writing. Where it isn't there, it is made, with its folder.
+    fn open_to_write<R: Files<File = fs::File>>(
+        &mut self,
+        rt: &R,
+        folder: &mut Folder,
+    ) -> Result<(), Failed>
         ensures { self.new.read ≡ self.old.read }
     {
         if self.can_write {
             return Ok(());
         }
         self.open_to_read(rt)?;
-        let is_new = self.file.is_none();
+        if self.file.is_none() {
+            folder.make(rt)?;
+        }
         let mut how = OpenOptions::new();
         how.read(true).write(true).create(true);
         let Ok(file) = how.open(rt, self.path.as_str()) else {
@@ -116,7 +142,6 @@ impl RealFile {
         self.file = Some(file);
         self.can_write = true;
         self.is_absent = false;
-        self.is_new = is_new;
         Ok(())
     }
 
@@ -159,10 +184,29 @@ impl RealFile {
         }
     }
 
-    /// Writes from a unit on.
+    /// Writes to the file, which is open for writing, from a unit on.
+    fn put(&mut self, unit: u64, bytes: &[u8]) -> Result<(), Failed>
+        requires { unit < 2 ^ 58 }
+        ensures { self.new.read ≡ self.old.read }
+    {
+        let Some(file) = &mut self.file else {
+            return Err(Failed);
+        };
+        if !self.is_whole {
+            cut_tail(file)?;
+        }
+        self.is_whole = file.write_all_at(bytes, 16 * unit).is_ok();
+        if !self.is_whole {
+            return Err(Failed);
+        }
+        Ok(())
+    }
+
+    /// Writes from a unit on. Units between the file's end and the first one are zeros.
     pub fn write_at<R: Files<File = fs::File>>(
         &mut self,
         rt: &R,
+        folder: &mut Folder,
         unit: u64,
         bytes: &[u8],
     ) -> Result<(), Failed>
@@ -171,27 +215,30 @@ impl RealFile {
         if unit >= UNITS {
             return Err(Failed);
         }
-        self.open_to_write(rt)?;
+        self.open_to_write(rt, folder)?;
         self.units = None;
-        match &self.file {
-            Some(file) if file.write_all_at(bytes, 16 * unit).is_ok() => Ok(()),
-            _ => Err(Failed),
-        }
+        self.put(unit, bytes)
     }
 
-    /// Makes what was written last, and the file's name with it where the file is new.
-    pub fn sync<R: Files<File = fs::File>>(&mut self, rt: &R, folder: &str) -> Result<(), Failed>
+    /// Makes what was written last, and the name of the file: also of one that was there, since who made it may have been stopped before.
+    pub fn sync<R: Files<File = fs::File>>(
+        &mut self,
+        rt: &R,
+        folder: &mut Folder,
+    ) -> Result<(), Failed>
         ensures { self.new.read ≡ self.old.read }
     {
         self.open_to_read(rt)?;
-        if let Some(file) = &self.file
-            && file.sync_all().is_err()
-        {
+        let Some(file) = &self.file else {
+            return Ok(());
+        };
+        if file.sync_all().is_err() {
             return Err(Failed);
         }
-        if self.is_new {
-            sync_folder(rt, folder)?;
-            self.is_new = false;
+        folder.settle(rt)?;
+        if !self.is_named {
+            folder.settle_target(rt, self.path.as_str())?;
+            self.is_named = true;
         }
         Ok(())
     }

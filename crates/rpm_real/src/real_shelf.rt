@@ -2,10 +2,11 @@
 
 ghost use Rattle.std.specs.Prelude.{false, None};
 ghost use Rattle.std.specs.FinMap.{empty};
+ghost use Rattle.std.specs.Io.{ReadsAtMost};
 
 use rpm_outside::{Absent, Failed, Shelf};
 use std::alloc::Global;
-use std::io::{BufReader, Input, Read};
+use std::io::{BufReader, ErrorKind, Input, Read};
 use std::rt::Files;
 use std::{fs, io};
 
@@ -28,6 +29,19 @@ pub struct RealShelf<'a, R: Files + Input> {
     item: Item<R::File, R::Reader>,
     absences: u64,
     faults: u64,
+}
+
+/// Reads, and again where a signal came first.
+fn read_on(from: &mut impl Read, into: &mut [u8]) -> io::Result<usize>
+    ensures { ReadsAtMost result into.new }
+{
+    for _ in 0..u64::MAX {
+        match from.read(into) {
+            Err(error) if error.kind() == ErrorKind::Interrupted => {}
+            answer => return answer,
+        }
+    }
+    Err(io::Error::from(ErrorKind::Interrupted))
 }
 
 impl<'a, R: Files + Input> RealShelf<'a, R> {
@@ -82,8 +96,8 @@ impl<'a, R: Files + Input> Shelf for RealShelf<'a, R> {
     fn read(&mut self, into: &mut [u8]) -> Result<usize, Failed> {
         let got = match &mut self.item {
             Item::Nothing => return Ok(0),
-            Item::File(file) => file.read(into),
-            Item::Input(input) => input.read(into),
+            Item::File(file) => read_on(file, into),
+            Item::Input(input) => read_on(input, into),
         };
         match got {
             Ok(count) => Ok(count),

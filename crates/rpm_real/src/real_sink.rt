@@ -1,15 +1,30 @@
 //! A sink over standard output or standard error.
 
 ghost use Rattle.std.specs.Prelude.{false, [], refl};
+ghost use Rattle.std.specs.Io.{WritesAtMost};
 
 use rpm_outside::{Failed, Sink};
-use std::io::Print;
+use std::io;
+use std::io::{ErrorKind, Print};
 
 /// A sink that writes at once, and tells nothing of what it wrote.
 #[derive(Drop)]
 pub struct RealSink<P: Print + Drop> {
     to: P,
     faults: u64,
+}
+
+/// Writes, and again where a signal came first.
+fn write_on(to: &impl Print, bytes: &[u8]) -> io::Result<usize>
+    ensures { WritesAtMost result bytes.now }
+{
+    for _ in 0..u64::MAX {
+        match to.write_some(bytes) {
+            Err(error) if error.kind() == ErrorKind::Interrupted => {}
+            answer => return answer,
+        }
+    }
+    Err(io::Error::from(ErrorKind::Interrupted))
 }
 
 impl<P: Print + Drop> RealSink<P> {
@@ -35,7 +50,7 @@ impl<P: Print + Drop> Sink for RealSink<P> {
     ghost follows_grows = { λ a b f told. ([], refl) };
 
     fn write(&mut self, bytes: &[u8]) -> Result<usize, Failed> {
-        match self.to.write_some(bytes) {
+        match write_on(&self.to, bytes) {
             Ok(0) | Err(_) => {
                 self.faults = self.faults.saturating_add(1);
                 Err(Failed)
