@@ -290,7 +290,7 @@ fn counted_once(done: Result<Tally, Halt>) -> Result<Tally, Halt>
 }
 
 /// Imports the list under the path `-`, of at most so many headers.
-pub(crate) fn import_most<D: Disk, S: Shelf, E: Sink + Drop>(
+pub fn import_most<D: Disk, S: Shelf, E: Sink + Drop>(
     alloc: Global,
     db: &mut Db,
     disk: &mut D,

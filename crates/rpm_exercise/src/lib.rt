@@ -9,10 +9,6 @@ mod digest;
 mod lines;
 mod rounds;
 mod running;
-#[cfg(test)]
-mod running_tests;
 mod summary;
-#[cfg(test)]
-mod tests;
 
 pub use running::{ExerciseFault, exercise};

@@ -1,6 +1,7 @@
 //! Headers of the exercise, and of packages that are installed.
 
-use crate::{generated, installed};
+use crate::fixtures::HEADER;
+use rpm_change::{generated, installed};
 use rpm_header::View;
 use std::test::Fail;
 
@@ -26,21 +27,22 @@ const LAST: &str =
     00000050000000010000045e000000080000005400000001706b6731303030303000312e300031006e6f6172636800706b673130303030300063617035000000\
     0000000800000008312e302d31003100636170360000000000000000006631303030303000000000000000002f6f70742f00";
 
+// A package, the leading number of its version, and its header.
+const GENERATED: &[(u32, u32, &str)] = &[(1, 1, FIRST), (15, 2, REPLACED), (100000, 1, LAST)];
+
 #[test]
 fn headers_are_generated(rt: HostRuntime) -> Result<(), Fail> {
-    for (i, m, want) in [(1, 1, FIRST), (15, 2, REPLACED), (100000, 1, LAST)] {
+    let mut are_right = true;
+    for &(i, m, header) in GENERATED {
         let blob = generated(rt.alloc(), i, m)?;
         let text = hex::encode(rt.alloc(), blob.as_slice())?;
-        assert_eq!(rt; text.as_str(), want, "package {i}");
+        are_right = are_right && text.as_str() == header;
     }
+    assert!(rt; are_right);
     Ok(())
 }
 
-// A header of four texts, and the same with the time and the transaction of its installation.
-const PLAIN: &str =
-    "0000000400000008000003e8000000060000000000000001000003e9000000060000000200000001\
-    000003ea000000060000000400000001000003fe0000000600000006000000016100310032007800";
-
+// The header of four texts with the time and the transaction of its installation.
 const INSTALLED: &str =
     "0000000600000010000003e8000000060000000000000001000003e9000000060000000200000001\
     000003ea000000060000000400000001000003fe000000060000000600000001000003f0000000040000000800000001\
@@ -48,10 +50,9 @@ const INSTALLED: &str =
 
 #[test]
 fn installed_headers_have_the_moment(rt: HostRuntime) -> Result<(), Fail> {
-    let blob = hex::decode(rt.alloc(), PLAIN.as_bytes()).map_err(|_| "hex")?;
-    let view = View::parse(&blob).map_err(|_| "fault")?;
+    let view = View::parse(HEADER).map_err(|_| "fault")?;
     let installed = installed(rt.alloc(), &view, 5).map_err(|_| "too large")?;
     let text = hex::encode(rt.alloc(), installed.as_slice())?;
-    assert_eq!(rt; text.as_str(), INSTALLED);
+    assert!(rt; text.as_str() == INSTALLED);
     Ok(())
 }

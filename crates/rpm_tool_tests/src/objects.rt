@@ -1,0 +1,174 @@
+//! The disk, the shelf and the sinks over the files and streams of the system.
+
+use crate::watched::{CutOutput, Watched};
+use rpm_outside::{Absent, Disk, Failed, File, Shelf, Sink};
+use rpm_real::{RealDisk, RealShelf, RealSink};
+use std::fs;
+use std::os::unix::fs::symlink;
+use std::test::Fail;
+
+#[test]
+fn a_disk_makes_its_files_by_writing_only(rt: HostRuntime) -> Result<(), Fail> {
+    fs::create_dir_all(&rt, "written")?;
+    let mut disk = RealDisk::new(rt.alloc(), &rt, "written")?;
+    let mut unit = [0u8; 16];
+    let before = (disk.len(File::Idx), disk.read_at(File::Idx, 0, &mut unit));
+    let was_made = fs::exists(&rt, "written/Hindex.db")?;
+    let written = (disk.write_at(File::Idx, 2, &[7; 16]), disk.sync(File::Idx));
+    let behind = (disk.len(File::Idx), disk.read_at(File::Idx, 2, &mut unit));
+    let bytes = unit;
+    let past = disk.read_at(File::Idx, 3, &mut unit);
+    fs::remove_dir_all(&rt, "written")?;
+    assert!(rt;
+        before == (Ok(0), Err(Failed))
+            && !was_made
+            && written == (Ok(()), Ok(()))
+            && behind == (Ok(3), Ok(()))
+            && bytes == [7; 16]
+            && past == Err(Failed)
+    );
+    Ok(())
+}
+
+// The bytes of a file, how many units it has, the unit that is written, and the bytes then.
+type Tail<'a> = (&'a [u8], u64, u64, &'a [u8]);
+
+const TAILS: &[Tail<'static>] = &[
+    (b"abcde", 0, 0, b"written, 16 byte"),
+    (
+        b"abcde",
+        0,
+        2,
+        b"\0\0\0\0\0\0\0\0\0\0\0\0\0\0\0\0\0\0\0\0\0\0\0\0\0\0\0\0\0\0\0\0written, 16 byte",
+    ),
+    (
+        b"abcdefghijklmno",
+        0,
+        1,
+        b"\0\0\0\0\0\0\0\0\0\0\0\0\0\0\0\0written, 16 byte",
+    ),
+    (
+        b"0123456789abcdef",
+        1,
+        2,
+        b"0123456789abcdef\0\0\0\0\0\0\0\0\0\0\0\0\0\0\0\0written, 16 byte",
+    ),
+    (b"0123456789abcdef+", 1, 0, b"written, 16 byte"),
+    (
+        b"0123456789abcdef+",
+        1,
+        1,
+        b"0123456789abcdefwritten, 16 byte",
+    ),
+    (
+        b"0123456789abcdef+",
+        1,
+        2,
+        b"0123456789abcdef\0\0\0\0\0\0\0\0\0\0\0\0\0\0\0\0written, 16 byte",
+    ),
+];
+
+#[test]
+fn a_write_behind_a_partial_unit_leaves_zeros(rt: HostRuntime) -> Result<(), Fail> {
+    fs::create_dir_all(&rt, "partial")?;
+    let mut are_right = true;
+    for &(before, units, unit, after) in TAILS {
+        fs::write(&rt, "partial/Packages.db", before)?;
+        let mut disk = RealDisk::new(rt.alloc(), &rt, "partial")?;
+        let length = disk.len(File::Pkg);
+        let written = disk.write_at(File::Pkg, unit, b"written, 16 byte");
+        let left = fs::read(&rt, "partial/Packages.db")?;
+        let is_right = length == Ok(units) && written == Ok(()) && left.as_slice() == after;
+        are_right = are_right && is_right;
+    }
+    fs::remove_dir_all(&rt, "partial")?;
+    assert!(rt; are_right);
+    Ok(())
+}
+
+#[test]
+fn the_names_of_files_last_with_the_first_sync(rt: HostRuntime) -> Result<(), Fail> {
+    fs::create_dir_all(&rt, "named")?;
+    fs::create_dir_all(&rt, "elsewhere")?;
+    // Another process made these two, of which one lies behind a symbolic link.
+    fs::write(&rt, "named/Packages.db", &[0u8; 16])?;
+    fs::write(&rt, "elsewhere/log", &[0u8; 16])?;
+    symlink(&rt, "../elsewhere/log", "named/Hlog.db")?;
+    let watched = Watched::new(&rt);
+    let mut disk = RealDisk::new(rt.alloc(), &watched, "named")?;
+    let mut opened = [0u32; 6];
+    let mut are_done = disk.sync(File::Pkg) == Ok(());
+    opened[0] = watched.folders();
+    are_done = are_done && disk.sync(File::Pkg) == Ok(());
+    opened[1] = watched.folders();
+    // The folder behind the link.
+    are_done = are_done && disk.sync(File::Log) == Ok(());
+    opened[2] = watched.folders();
+    // A file that isn't there has no name; one that is made has.
+    are_done = are_done && disk.sync(File::Idx) == Ok(());
+    opened[3] = watched.folders();
+    are_done = are_done && disk.write_at(File::Idx, 0, &[1; 16]) == Ok(());
+    opened[4] = watched.folders();
+    are_done = are_done && disk.sync(File::Idx) == Ok(());
+    opened[5] = watched.folders();
+    fs::remove_dir_all(&rt, "named")?;
+    fs::remove_dir_all(&rt, "elsewhere")?;
+    // Where a file is made, the folder above is synced too.
+    assert!(rt; are_done && opened == [1, 1, 2, 2, 3, 4], "{opened:?}");
+    Ok(())
+}
+
+#[test]
+fn a_folder_without_a_name_has_no_files(rt: HostRuntime) -> Result<(), Fail> {
+    let mut disk = RealDisk::new(rt.alloc(), &rt, "")?;
+    let mut unit = [0u8; 16];
+    let length = disk.len(File::Pkg);
+    let read = disk.read_at(File::Idx, 0, &mut unit);
+    let written = disk.write_at(File::Log, 0, &unit);
+    let synced = disk.sync(File::Pkg);
+    let is_there = fs::exists(&rt, "/Hlog.db")?;
+    assert!(rt;
+        length == Err(Failed)
+            && read == Err(Failed)
+            && written == Err(Failed)
+            && synced == Err(Failed)
+            && !is_there
+    );
+    Ok(())
+}
+
+#[test]
+fn a_shelf_reads_files_and_sinks_write(rt: HostRuntime) -> Result<(), Fail> {
+    fs::write(&rt, "item", "abc")?;
+    let mut shelf = RealShelf::new(rt.alloc(), &rt);
+    let mut into = [0u8; 8];
+    let absent = (shelf.open("no such item"), shelf.read(&mut into));
+    let opened = (shelf.open("item"), shelf.read(&mut into));
+    let bytes = into;
+    let end = (shelf.read(&mut into), shelf.open("-"));
+    fs::remove_file(&rt, "item")?;
+    let written = [
+        RealSink::new(rt.stdout()).write(b"\n"),
+        RealSink::new(rt.stderr()).write(b"\n"),
+    ];
+    assert!(rt;
+        absent == (Err(Absent), Ok(0))
+            && opened == (Ok(()), Ok(3))
+            && bytes == *b"abc\0\0\0\0\0"
+            && end == (Ok(0), Ok(()))
+            && written == [Ok(1), Ok(1)]
+    );
+    Ok(())
+}
+
+#[test]
+fn what_a_signal_cuts_is_done_again(rt: HostRuntime) -> Result<(), Fail> {
+    let watched = Watched::new(&rt);
+    let mut shelf = RealShelf::new(rt.alloc(), &watched);
+    let mut into = [0u8; 8];
+    let opened = shelf.open("-");
+    let read = [shelf.read(&mut into), shelf.read(&mut into)];
+    let written = RealSink::new(CutOutput::new()).write(b"ab");
+    assert!(rt; opened == Ok(()) && read == [Ok(1), Ok(0)] && into[0] == b'a' && written == Ok(1));
+    Ok(())
+}
