@@ -1,7 +1,8 @@
 //! A disk over the files of a folder.
 
-ghost use Rattle.std.specs.Prelude.{false, []};
+ghost use Rattle.std.specs.Prelude.{false, [], is_err};
 ghost use Rattle.rpm_outside.specs.Causes.{HasCause};
+ghost use Rattle.rpm_real.specs.Counts.{Counted};
 
 use crate::folder::Folder;
 use crate::real_file::RealFile;
@@ -44,7 +45,8 @@ impl<'a, R: Files<File = fs::File>> RealDisk<'a, R> {
 
 /// Counts a failure.
 fn counted<T: Copy>(faults: &mut u64, answer: Result<T, Failed>) -> Result<T, Failed>
-    ensures { HasCause faults.old faults.new result }
+    ensures cause { HasCause faults.old faults.new result }
+    ensures once { Counted (is_err result) faults.old faults.new }
 {
     if answer.is_err() {
         *faults = faults.saturating_add(1);
@@ -53,7 +55,7 @@ fn counted<T: Copy>(faults: &mut u64, answer: Result<T, Failed>) -> Result<T, Fa
 }
 
 impl<'a, R: Files<File = fs::File>> Disk for RealDisk<'a, R> {
-    ghost use Rattle.rpm_real.specs.RealDisk.{count_of};
+    ghost use Rattle.rpm_real.specs.Counts.{count_of};
 
     ghost tells = { false };
 
@@ -68,6 +70,8 @@ impl<'a, R: Files<File = fs::File>> Disk for RealDisk<'a, R> {
     ghost faults = { λ disk. disk.faults };
 
     ghost follows = { λ old new. Unit {0} };
+
+    ghost outcome = { λ old call failed new. Counted failed old.faults new.faults };
 
     ghost as_read = { λ disk told. tt };
 

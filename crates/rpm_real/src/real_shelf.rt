@@ -3,6 +3,7 @@
 ghost use Rattle.std.specs.Prelude.{false, None};
 ghost use Rattle.std.specs.FinMap.{empty};
 ghost use Rattle.std.specs.Io.{ReadsAtMost};
+ghost use Rattle.rpm_real.specs.Counts.{ShelfCounted};
 
 use rpm_outside::{Absent, Failed, Shelf};
 use std::alloc::Global;
@@ -78,6 +79,8 @@ impl<'a, R: Files + Input> Shelf for RealShelf<'a, R> {
     ghost absences = { λ shelf. shelf.absences };
 
     ghost faults = { λ shelf. shelf.faults };
+
+    ghost outcome = { λ old call failed new. ShelfCounted call failed old.absences old.faults new.absences new.faults };
 
     fn open(&mut self, path: &str) -> Result<(), Absent> {
         match self.item_of(path) {

@@ -2,6 +2,7 @@
 
 ghost use Rattle.std.specs.Prelude.{false, [], refl};
 ghost use Rattle.std.specs.Io.{WritesAtMost};
+ghost use Rattle.rpm_real.specs.Counts.{Counted};
 
 use rpm_outside::{Failed, Sink};
 use std::io;
@@ -42,6 +43,8 @@ impl<P: Print + Drop> Sink for RealSink<P> {
     ghost faults = { λ sink. sink.faults };
 
     ghost follows = { λ old new. Unit {0} };
+
+    ghost outcome = { λ old failed new. Counted failed old.faults new.faults };
 
     ghost follows_refl = { λ sink. tt };
 
