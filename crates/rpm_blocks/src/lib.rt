@@ -12,8 +12,6 @@ ghost use Rattle.rpm_blocks.specs.Blocks.{Blocks, range, range_at, end_of, block
 
 mod places;
 mod runs;
-#[cfg(test)]
-mod tests;
 
 use places::{place, put};
 use runs::{cut, join, least_fit};

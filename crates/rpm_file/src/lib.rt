@@ -13,8 +13,6 @@ mod filling;
 mod list;
 mod merging;
 mod package;
-#[cfg(test)]
-mod tests;
 
 pub use fault::{FileFault, ListFault};
 pub use list::{next_header, read_header};

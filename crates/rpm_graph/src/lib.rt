@@ -7,8 +7,6 @@ mod grouping;
 mod listing;
 mod rows;
 mod search;
-#[cfg(test)]
-mod tests;
 
 pub use class_list::{ClassList, order};
 pub use graph::{Edge, Graph};

@@ -4,7 +4,7 @@ use thiserror::Error;
 
 /// What the elements of an entry are. A header stores it as the entry's type, a number: the forms
 /// stand here in the order of these numbers, from 0 to 9.
-#[derive(Clone, Copy, Debug, PartialEq, Eq)]
+#[derive(Clone, Copy, PartialEq, Eq)]
 pub enum Form {
     /// None: the entry's offset and count mean nothing.
     Null,

@@ -26,8 +26,6 @@ mod laying;
 mod packed;
 mod parts;
 mod places;
-#[cfg(test)]
-mod tests;
 mod text_list;
 mod view;
 mod zeros;

@@ -25,8 +25,6 @@ mod ready;
 mod shown;
 mod sizes;
 mod stream;
-#[cfg(test)]
-mod tests;
 mod writing;
 
 pub use printing::{DirectFault, EvalFault, print, print_direct};

@@ -11,8 +11,6 @@ mod fault;
 mod moves;
 mod reader;
 mod tag;
-#[cfg(test)]
-mod tests;
 mod tree;
 
 pub use fault::{FormatFault, FormatKind};

@@ -14,7 +14,7 @@ use rpm_tags::Tag;
 const MAX_DEPTH: u32 = 16;
 
 /// What is being read: the whole, what stands in a bracket, or a branch of a condition.
-#[derive(Clone, Copy, Debug, PartialEq, Eq)]
+#[derive(Clone, Copy, PartialEq, Eq)]
 pub(crate) enum Context {
     Top,
     Bracket,

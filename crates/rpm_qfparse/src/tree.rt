@@ -10,7 +10,7 @@ use std::alloc::Global;
 use std::marker::Model;
 
 /// Which of a value's elements a tag prints.
-#[derive(Clone, Copy, Debug, PartialEq, Eq)]
+#[derive(Clone, Copy, PartialEq, Eq)]
 pub enum Role {
     /// The first element; in a bracket that of the present round.
     Element,
@@ -21,7 +21,7 @@ pub enum Role {
 }
 
 /// How a tag prints an element. The names are rpm's; the first holds where none is given.
-#[derive(Clone, Copy, Debug, PartialEq, Eq)]
+#[derive(Clone, Copy, PartialEq, Eq)]
 pub enum Show {
     /// `string`: as it is.
     Plain,
@@ -50,7 +50,7 @@ pub enum Show {
 }
 
 /// A tag of a format.
-#[derive(Clone, Copy, Debug, PartialEq, Eq)]
+#[derive(Clone, Copy, PartialEq, Eq)]
 pub struct TagPart {
     /// Whose value is printed.
     pub tag: Tag,

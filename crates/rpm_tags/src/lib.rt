@@ -16,11 +16,7 @@ mod needed;
 pub mod numbers;
 mod stored;
 mod tag;
-#[cfg(test)]
-mod tests;
 mod texts;
-#[cfg(test)]
-mod value_tests;
 mod values;
 mod wanted;
 

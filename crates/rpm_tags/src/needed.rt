@@ -10,7 +10,7 @@ use rpm_header::View;
 use std::marker::Model;
 
 /// The tags of what is needed or given.
-#[derive(Clone, Copy, Debug, PartialEq, Eq)]
+#[derive(Clone, Copy)]
 pub struct Tags {
     pub names: u32,
     pub flags: u32,
@@ -18,7 +18,7 @@ pub struct Tags {
 }
 
 /// A name with the flags and the version at its place.
-#[derive(Clone, Copy, Debug, PartialEq, Eq)]
+#[derive(Clone, Copy)]
 pub struct Dependency<'a> {
     pub name: &'a [u8],
     pub flags: u64,

@@ -8,7 +8,7 @@ ghost use Rattle.rpm_tags.specs.inner.TagRows.{as_table};
 
 /// What a value of a header is asked for by: a number that entries of the header bear, or one of
 /// rpm's computed tags, whose values are put together from several entries.
-#[derive(Clone, Copy, Debug, PartialEq, Eq)]
+#[derive(Clone, Copy, PartialEq, Eq)]
 pub enum Tag {
     /// The tag of this number, which need not have a name.
     Stored(u32),

@@ -15,7 +15,7 @@ use rpm_header::{PlacesRoom, View};
 use std::marker::Model;
 
 /// What the elements of a value are.
-#[derive(Clone, Copy, Debug, PartialEq, Eq)]
+#[derive(Clone, Copy, PartialEq, Eq)]
 pub enum Class {
     /// Numbers, unsigned.
     Number,

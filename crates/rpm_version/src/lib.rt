@@ -10,8 +10,6 @@ mod evr;
 mod order;
 mod range;
 mod segment;
-#[cfg(test)]
-mod tests;
 
 pub use capability::{BadCapability, Capability};
 pub use evr::{Evr, compare_evr};

@@ -14,8 +14,6 @@ mod purpose;
 mod seen;
 mod switch;
 mod takes;
-#[cfg(test)]
-mod tests;
 mod token;
 mod words;
 

@@ -10,7 +10,7 @@ ghost use Rattle.rpm_words.specs.declared.purpose.Purpose.TheVariants.{Unknown};
 use crate::switch::{Command, Program, Switch, long_switch, short_switch};
 
 /// What a word is there for.
-#[derive(Debug, Clone, Copy)]
+#[derive(Clone, Copy)]
 pub(crate) enum Purpose {
     /// The program's name.
     Name,

@@ -11,7 +11,7 @@ use crate::token::{Said, Token};
 use crate::words::{Span, Words};
 
 /// What a query prints.
-#[derive(Debug, Clone, Copy)]
+#[derive(Clone, Copy)]
 pub(crate) enum Printed {
     /// The files of each package.
     Files,
@@ -20,7 +20,7 @@ pub(crate) enum Printed {
 }
 
 /// What the options come to.
-#[derive(Debug, Clone, Copy)]
+#[derive(Clone, Copy)]
 pub(crate) struct Seen {
     /// The first mode.
     pub(crate) command: Option<Command>,

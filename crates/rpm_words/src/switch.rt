@@ -4,14 +4,14 @@ ghost use Rattle.std.specs.Prelude.{◌≡◌, ◌≤◌, IsSome, length};
 ghost use Rattle.rpm_words.specs.Switch.{long_switch, rpm_switch, rpmdb_switch, short_switch};
 
 /// The program that a command line calls.
-#[derive(Debug, Clone, Copy, PartialEq, Eq)]
+#[derive(Clone, Copy, PartialEq, Eq)]
 pub(crate) enum Program {
     Rpm,
     Rpmdb,
 }
 
 /// A mode, its number aside.
-#[derive(Debug, Clone, Copy, PartialEq, Eq)]
+#[derive(Clone, Copy, PartialEq, Eq)]
 pub(crate) enum Command {
     Query,
     Addpkg,
@@ -29,7 +29,7 @@ pub(crate) enum Command {
 }
 
 /// What a query picks packages by.
-#[derive(Debug, Clone, Copy, PartialEq, Eq)]
+#[derive(Clone, Copy, PartialEq, Eq)]
 pub enum Chosen {
     /// The labels of packages.
     Label,
@@ -62,7 +62,7 @@ pub enum Chosen {
 }
 
 /// An option.
-#[derive(Debug, Clone, Copy)]
+#[derive(Clone, Copy)]
 pub(crate) enum Switch {
     Mode(Command),
     Choose(Chosen),

@@ -6,7 +6,7 @@ ghost use Rattle.rpm_words.specs.Takes.{query_takes, takes, fewest, most, expect
 use crate::switch::{Chosen, Command};
 
 /// What an argument has to be.
-#[derive(Debug, Clone, Copy)]
+#[derive(Clone, Copy)]
 pub(crate) enum Expected {
     Text,
     Number,
@@ -14,7 +14,7 @@ pub(crate) enum Expected {
 }
 
 /// The arguments that a command takes.
-#[derive(Debug, Clone, Copy)]
+#[derive(Clone, Copy)]
 pub(crate) enum ArgumentRule {
     /// None.
     Nothing,

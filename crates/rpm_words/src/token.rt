@@ -9,7 +9,7 @@ use crate::words::Words;
 use std::alloc::{AllocError, Global};
 
 /// What a token says.
-#[derive(Debug, Clone, Copy)]
+#[derive(Clone, Copy)]
 pub(crate) enum Said {
     /// The word is no option.
     Refused,
@@ -23,7 +23,7 @@ pub(crate) enum Said {
 
 /// The least that means something: a word, a letter of a cluster, an option or a value that share
 /// a word.
-#[derive(Debug, Clone, Copy)]
+#[derive(Clone, Copy)]
 pub(crate) struct Token {
     /// The word that it stands in.
     pub(crate) word: u32,

@@ -1,6 +1,6 @@
 //! Graphs with the order that follows by hand.
-use crate::class_list::{ClassList, order};
-use crate::graph::Graph;
+
+use rpm_graph::{ClassList, Graph, order};
 use std::alloc::{AllocError, Global};
 
 // Three numbers, each with an edge to the next.
@@ -83,11 +83,15 @@ fn is_list(list: &ClassList, classes: &[&[u32]]) -> bool {
 
 #[test]
 fn orders_are_those_by_hand(rt: HostRuntime) -> Result<(), AllocError> {
-    let chain = is_list(&chain(rt.alloc())?, &[&[3], &[2], &[1]]);
-    let free = is_list(&mostly_free(rt.alloc())?, &[&[2], &[3], &[4], &[1]]);
-    let touching = is_list(&touching_cycles(rt.alloc())?, &[&[1, 3, 5]]);
-    let apart = is_list(&cycles_apart(rt.alloc())?, &[&[1, 5], &[2, 4], &[3]]);
-    let behind = is_list(&cycle_behind_cycle(rt.alloc())?, &[&[2, 3], &[1, 4]]);
-    assert!(rt; chain && free && touching && apart && behind);
+    let alloc = rt.alloc();
+    let chain = is_list(&chain(alloc)?, &[&[3], &[2], &[1]]);
+    let free = is_list(&mostly_free(alloc)?, &[&[2], &[3], &[4], &[1]]);
+    let touching = is_list(&touching_cycles(alloc)?, &[&[1, 3, 5]]);
+    let apart = is_list(&cycles_apart(alloc)?, &[&[1, 5], &[2, 4], &[3]]);
+    let behind = is_list(&cycle_behind_cycle(alloc)?, &[&[2, 3], &[1, 4]]);
+    assert!(rt;
+        chain && free && touching && apart && behind,
+        "{chain} {free} {touching} {apart} {behind}"
+    );
     Ok(())
 }

@@ -1,0 +1,283 @@
+//! Command lines that are read. The words of a line are parted by bars.
+
+use rpm_words::{Ask, Chosen, Mode, Span, Words, number_of, place_of, read};
+use std::alloc::{AllocError, Global};
+
+/// The words of a line; none of an empty one.
+pub fn line(alloc: Global, text: &str) -> Result<Words, AllocError> {
+    let mut words = Words::new(alloc);
+    if text.is_empty() {
+        return Ok(words);
+    }
+    for word in text.split('|') {
+        if words.len() < u32::MAX {
+            words.push(word)?;
+        }
+    }
+    Ok(words)
+}
+
+// Lines with their mode, their selection, whether files are listed, the word and the byte at which a format begins, and the words that
+// are arguments.
+const COMMANDS: &[(&str, Mode, Chosen, bool, Option<(u32, u32)>, &[u32])] = &[
+    ("rpm|-qa", Mode::Query, Chosen::All, false, None, &[]),
+    (
+        "rpm|-qa|--|-f|--",
+        Mode::Query,
+        Chosen::All,
+        false,
+        None,
+        &[3, 4],
+    ),
+    (
+        "rpm|--query|-q|-|| ",
+        Mode::Query,
+        Chosen::Label,
+        false,
+        None,
+        &[3, 4, 5],
+    ),
+    ("rpm|a|-qf|-f", Mode::Query, Chosen::Path, false, None, &[1]),
+    (
+        "rpm|--qf|-z|-lq|a",
+        Mode::Query,
+        Chosen::Label,
+        true,
+        None,
+        &[4],
+    ),
+    (
+        "rpm|-qal|--qf=b|--qf|--",
+        Mode::Query,
+        Chosen::All,
+        false,
+        Some((4, 0)),
+        &[],
+    ),
+    (
+        "rpm|--queryformat=x|-q|--whatprovides|a = 1",
+        Mode::Query,
+        Chosen::Provides,
+        false,
+        Some((1, 14)),
+        &[4],
+    ),
+    (
+        "rpm|--replacepkg|1|a",
+        Mode::Replacepkg,
+        Chosen::Label,
+        false,
+        None,
+        &[2, 3],
+    ),
+    (
+        "rpmdb|--exercise|1|--exercise=100000",
+        Mode::Exercise(100_000),
+        Chosen::Label,
+        false,
+        None,
+        &[],
+    ),
+    (
+        "rpm|-q|--whatdir|/usr/bin/",
+        Mode::Query,
+        Chosen::Directory,
+        false,
+        None,
+        &[3],
+    ),
+    (
+        "rpm|--tid|6|-q",
+        Mode::Query,
+        Chosen::Tid,
+        false,
+        None,
+        &[2],
+    ),
+    (
+        "rpm|-q|--whatrecommends|a = 1",
+        Mode::Query,
+        Chosen::Recommends,
+        false,
+        None,
+        &[3],
+    ),
+    (
+        "rpm|-Va|--nofiles",
+        Mode::Verify,
+        Chosen::All,
+        false,
+        None,
+        &[],
+    ),
+    (
+        "rpm|--verify|--nofiles|--all",
+        Mode::Verify,
+        Chosen::All,
+        false,
+        None,
+        &[],
+    ),
+    (
+        "rpmdb|--order",
+        Mode::Order,
+        Chosen::Label,
+        false,
+        None,
+        &[],
+    ),
+    (
+        "rpmdb|--checkfiles",
+        Mode::Checkfiles,
+        Chosen::Label,
+        false,
+        None,
+        &[],
+    ),
+    (
+        "rpmdb|--importdb",
+        Mode::Importdb,
+        Chosen::Label,
+        false,
+        None,
+        &[],
+    ),
+];
+
+fn has_arguments(ask: &Ask, arguments: &[u32]) -> bool {
+    if ask.arguments() as usize != arguments.len() {
+        return false;
+    }
+    for k in 0..ask.arguments() {
+        if arguments.get(k as usize).copied() != Some(ask.argument(k)) {
+            return false;
+        }
+    }
+    true
+}
+
+fn is_at(format: Option<Span>, at: Option<(u32, u32)>) -> bool {
+    match (format, at) {
+        (Some(span), Some((word, from))) => span.word == word && span.from == from,
+        (format, at) => format.is_none() && at.is_none(),
+    }
+}
+
+#[test]
+fn commands_are_read(rt: HostRuntime) -> Result<(), AllocError> {
+    let mut differing = None;
+    for &(text, mode, chosen, lists, format, arguments) in COMMANDS {
+        let is_same = match read(rt.alloc(), &line(rt.alloc(), text)?) {
+            Ok(ask) => {
+                ask.mode() == mode
+                    && ask.chosen() == chosen
+                    && ask.lists() == lists
+                    && is_at(ask.format(), format)
+                    && has_arguments(&ask, arguments)
+            }
+            Err(_) => false,
+        };
+        if !is_same {
+            differing = Some(text);
+        }
+    }
+    assert!(rt; differing.is_none(), "{differing:?}");
+    Ok(())
+}
+
+// Lines with the number that packages come after, and whether the index is left alone.
+const AFTER: &[(&str, u32, bool)] = &[
+    ("rpm|-q|a", 0, false),
+    ("rpm|-q|--after=5|a", 5, false),
+    ("rpm|-q|--after|05|a|--noindex", 5, true),
+    (
+        "rpm|-q|--after|7|--after|4294967295|a",
+        4_294_967_295,
+        false,
+    ),
+    ("rpm|--noindex|--noindex|-qa|--after=1|--after=0", 0, true),
+];
+
+#[test]
+fn the_last_number_counts(rt: HostRuntime) -> Result<(), AllocError> {
+    let mut differing = None;
+    for &(text, after, noindex) in AFTER {
+        let is_same = match read(rt.alloc(), &line(rt.alloc(), text)?) {
+            Ok(ask) => ask.after() == after && ask.noindex() == noindex,
+            Err(_) => false,
+        };
+        if !is_same {
+            differing = Some(text);
+        }
+    }
+    assert!(rt; differing.is_none(), "{differing:?}");
+    Ok(())
+}
+
+const NUMBERS: &[(&str, Option<u32>)] = &[
+    ("0", Some(0)),
+    ("05", Some(5)),
+    ("0000000005", Some(5)),
+    ("00000000005", None),
+    ("4294967295", Some(4_294_967_295)),
+    ("4294967296", None),
+    ("9999999999", None),
+    ("", None),
+    ("+5", None),
+    ("-5", None),
+    ("5 ", None),
+    ("5a", None),
+];
+
+#[test]
+fn numbers_have_one_to_ten_digits(rt: HostRuntime) {
+    let mut differing = None;
+    for &(text, number) in NUMBERS {
+        if number_of(text) != number {
+            differing = Some(text);
+        }
+    }
+    assert!(rt; differing.is_none(), "{differing:?}");
+}
+
+const FOLDERS: &[(&str, &str)] = &[
+    ("", "/var/lib/rpm"),
+    ("rpm|-qa", "/var/lib/rpm"),
+    ("rpmx|--dbpath|d", "/var/lib/rpm"),
+    ("rpm|--dbpath|d|-qa", "d"),
+    ("rpmdb|--dbpath=e=f", "e=f"),
+    ("rpm|--dbpath=", ""),
+    ("rpm|--dbpath|d|--dbpath|--dbpath", "--dbpath"),
+    ("rpm|--dbpath|d|--dbpath", "/var/lib/rpm"),
+    ("rpm|--qf|--dbpath|d", "/var/lib/rpm"),
+    ("rpm|--|--dbpath|d", "/var/lib/rpm"),
+    ("rpm|-z|--dbpath|d|--after|x", "d"),
+    ("rpm|--list=x|--dbpath|d", "d"),
+    ("rpmdb|--after|--dbpath|d", "d"),
+];
+
+#[test]
+fn the_last_folder_counts(rt: HostRuntime) -> Result<(), AllocError> {
+    let mut differing = None;
+    for &(text, folder) in FOLDERS {
+        if place_of(&line(rt.alloc(), text)?) != folder {
+            differing = Some(text);
+        }
+    }
+    assert!(rt; differing.is_none(), "{differing:?}");
+    Ok(())
+}
+
+const ENDS: &[(u32, u32, &[u8])] = &[(1, 1, b"qa"), (1, 3, b""), (1, 4, b""), (2, 0, b"")];
+
+#[test]
+fn words_are_held(rt: HostRuntime) -> Result<(), AllocError> {
+    let words = line(rt.alloc(), "rpm|-qa")?;
+    let mut is_same = words.len() == 2 && words.word(1) == "-qa";
+    is_same = is_same && words.text_at(0) == "rpm" && words.text_at(2).is_empty();
+    for &(word, from, bytes) in ENDS {
+        is_same = is_same && words.bytes_from(Span { word, from }) == bytes;
+    }
+    assert!(rt; is_same);
+    Ok(())
+}

@@ -1,0 +1,202 @@
+//! Headers that are read.
+
+use crate::entries::has_text;
+use crate::fixtures::{INSTALLED, PLAIN, REGION, bytes_of};
+use rpm_header::{HeaderFault, View};
+use std::alloc::{AllocError, Global};
+
+fn has_names(view: &View<'_>) -> bool {
+    has_text(view, 1000, b"a")
+        && has_text(view, 1001, b"1")
+        && has_text(view, 1002, b"2")
+        && has_text(view, 1022, b"x")
+        && view.find(1003).is_none()
+}
+
+// Headers, how many entries each has, and how many bytes.
+const LAYOUTS: &[(&str, u32, usize)] = &[(PLAIN, 4, 80), (REGION, 5, 112), (INSTALLED, 6, 120)];
+
+#[test]
+fn names_are_found_in_each_layout(rt: HostRuntime) -> Result<(), AllocError> {
+    let mut differing = None;
+    for &(hex, entries, length) in LAYOUTS {
+        let mut blob = bytes_of(rt.alloc(), hex)?;
+        blob.push(0xff)?;
+        let is_same = match View::parse(&blob) {
+            Ok(view) => {
+                view.entries() == entries && view.blob().len() == length && has_names(&view)
+            }
+            Err(_) => false,
+        };
+        if !is_same {
+            differing = Some(hex);
+        }
+    }
+    assert!(rt; differing.is_none(), "{differing:?}");
+    Ok(())
+}
+
+// The blobs that have each answer. Where one has two faults, the answer is the one that is looked
+// for first.
+const FAULTS: &[(Option<HeaderFault>, &[&str])] = &[
+    (
+        None,
+        &[
+            "00000000 00000000",
+            // A Null's offset and count mean nothing.
+            "00000001 00000000 000003e8 00000000 ffffffff ffffffff",
+            // Of a trailer the third number alone is looked at.
+            "00000001 00000010 0000003f 00000007 00000000 00000010 0000003f 00000007 fffffff0 00000010",
+            "00000001 00000010 0000003e 00000007 00000000 00000010 00000000 00000000 fffffff0 00000000",
+            "00000002 00000010 0000003f 00000007 00000000 00000010 000003e8 00000000 00000000 00000000
+             0000003f 00000007 ffffffe0 00000010",
+            // No entry but the first is a region.
+            "00000002 00000000 000003e8 00000000 00000000 00000000 0000003f 00000000 00000000 00000000",
+        ],
+    ),
+    (
+        Some(HeaderFault::Short),
+        &[
+            "",
+            "00000000 000000",
+            "00000001 00000000",
+            "0000ffff 04000000",
+            "00000001 00000001 000003e8 00000006 00000000 00000001",
+        ],
+    ),
+    (
+        Some(HeaderFault::TooManyEntries),
+        &["00010000 00000000", "00010000 04000001"],
+    ),
+    (Some(HeaderFault::TooMuchData), &["00000000 04000001"]),
+    (
+        Some(HeaderFault::BadType(0)),
+        &[
+            "00000001 00000000 000003e8 0000000a 00000000 00000001",
+            "00000001 00000000 0000003f 0000000a 00000001 00000000",
+        ],
+    ),
+    (
+        Some(HeaderFault::BadOffset(0)),
+        &[
+            "00000001 00000004 000003e8 00000004 00000002 00000001 00000000",
+            "00000001 00000004 000003e8 00000003 00000001 00000001 00000000",
+            "00000001 0000000c 000003e8 00000005 00000004 00000001 00000000 00000000 00000000",
+            "00000001 00000004 000003e8 00000007 00000005 00000001 00000000",
+            "00000001 00000000 000003e8 00000004 00000001 00000000",
+        ],
+    ),
+    (
+        Some(HeaderFault::BadCount(0)),
+        &[
+            "00000001 00000001 000003e8 00000001 00000000 00000000 00",
+            "00000001 00000001 000003e8 00000002 00000000 00000002 00",
+            "00000001 00000004 000003e8 00000003 00000000 00000003 00000000",
+            "00000001 00000004 000003e8 00000004 00000000 00000002 00000000",
+            "00000001 00000008 000003e8 00000005 00000000 20000001 00000000 00000000",
+            "00000001 00000001 000003e8 00000006 00000000 00000000 00",
+            "00000001 00000001 000003e8 00000006 00000000 00000002 00",
+            "00000001 00000001 000003e8 00000006 00000000 00000002 61",
+            "00000001 00000004 000003e8 00000007 00000000 00000005 00000000",
+            "00000001 00000004 000003e8 00000007 00000004 00000001 00000000",
+            "00000001 00000001 000003e8 00000008 00000000 00000000 00",
+            "00000001 00000001 000003e8 00000009 00000000 00000000 00",
+            "00000001 0000000f 0000003f 00000007 00000000 00000010 0000003f 00000007 fffffff0 000000",
+        ],
+    ),
+    (
+        Some(HeaderFault::NoEnd(0)),
+        &[
+            "00000001 00000000 000003e8 00000006 00000000 00000001",
+            "00000001 00000001 000003e8 00000006 00000000 00000001 61",
+            "00000001 00000003 000003e8 00000008 00000000 00000002 610062",
+            "00000001 00000003 000003e8 00000009 00000001 00000002 610062",
+            "00000001 00000001 0000003f 00000006 00000000 00000001 61",
+            "00000002 00000001 000003e8 00000006 00000000 00000001 000003e9 0000000a 00000000 00000001 61",
+        ],
+    ),
+    (
+        Some(HeaderFault::BadRegion),
+        &[
+            // The third number as signed: -32 of one entry, 0, 16, and -8.
+            "00000001 00000010 0000003f 00000007 00000000 00000010 0000003f 00000007 ffffffe0 00000010",
+            "00000001 00000010 0000003e 00000007 00000000 00000010 0000003e 00000007 ffffffe0 00000010",
+            "00000001 00000010 0000003f 00000007 00000000 00000010 0000003f 00000007 00000000 00000010",
+            "00000001 00000010 0000003f 00000007 00000000 00000010 0000003f 00000007 00000010 00000010",
+            "00000001 00000010 0000003f 00000007 00000000 00000010 0000003f 00000007 fffffff8 00000010",
+            // The wrong count, the wrong type, and nothing at all.
+            "00000001 00000010 0000003f 00000007 00000000 0000000f 0000003f 00000007 fffffff0 00000010",
+            "00000001 00000010 0000003f 00000004 00000000 00000004 0000003f 00000007 fffffff0 00000010",
+            "00000001 00000000 0000003f 00000000 00000000 00000000",
+            "00000002 00000000 0000003f 00000000 00000000 00000000 000003e9 0000000a 00000000 00000001",
+        ],
+    ),
+    (
+        Some(HeaderFault::BadType(1)),
+        &[
+            "00000002 00000000 000003e8 00000000 00000000 00000000 0000003f 0000000a 00000000 00000000",
+        ],
+    ),
+    (
+        Some(HeaderFault::BadOffset(1)),
+        &[
+            "00000002 00000002 000003e8 00000006 00000000 00000001 000003e9 00000003 00000001 00000001 0000",
+        ],
+    ),
+    (
+        Some(HeaderFault::BadCount(1)),
+        &[
+            "00000002 00000001 000003e8 00000006 00000000 00000001 000003e9 00000006 00000000 00000003 00",
+        ],
+    ),
+    (
+        Some(HeaderFault::NoEnd(1)),
+        &[
+            "00000002 00000002 000003e8 00000006 00000000 00000001 000003e9 00000006 00000001 00000001 0061",
+        ],
+    ),
+    (
+        Some(HeaderFault::NoEnd(2)),
+        &[
+            "00000003 00000001 000003e8 00000000 00000000 00000000 000003e8 00000000 00000000 00000000
+           000003e9 00000006 00000000 00000001 61",
+        ],
+    ),
+];
+
+#[test]
+fn the_first_fault_is_told(rt: HostRuntime) -> Result<(), AllocError> {
+    let mut differing = None;
+    for &(fault, blobs) in FAULTS {
+        for &hex in blobs {
+            let blob = bytes_of(rt.alloc(), hex)?;
+            if View::parse(&blob).err() != fault {
+                differing = Some(hex);
+            }
+        }
+    }
+    assert!(rt; differing.is_none(), "{differing:?}");
+    Ok(())
+}
+
+/// A header of ten entries, which share 128 texts; the last is said to have so many.
+fn sharing(alloc: Global, last: u32) -> Result<Vec<u8>, AllocError> {
+    let mut bytes = bytes_of(alloc, "0000000a 00000100")?;
+    for _ in 0..9u32 {
+        bytes.extend_from_slice(&bytes_of(alloc, "00000417 00000008 00000000 00000080")?)?;
+    }
+    bytes.extend_from_slice(&bytes_of(alloc, "00000417 00000008 00000000")?)?;
+    bytes.extend_from_slice(&last.to_be_bytes())?;
+    for _ in 0..128u32 {
+        bytes.extend_from_slice(b"a\0")?;
+    }
+    Ok(bytes)
+}
+
+#[test]
+fn texts_that_entries_share_are_counted(rt: HostRuntime) -> Result<(), AllocError> {
+    let sound = View::parse(&sharing(rt.alloc(), 128)?).err();
+    let unended = View::parse(&sharing(rt.alloc(), 129)?).err();
+    assert!(rt; sound.is_none() && unended == Some(HeaderFault::NoEnd(9)));
+    Ok(())
+}
