@@ -1,0 +1,117 @@
+//! The records of an index, read from its bytes as docs/FORMATS.md has them.
+
+use crate::fault::Fault;
+use crate::row::Named;
+use std::alloc::{AllocError, Global};
+
+const KINDS: &[(&[u8], u32)] = &[
+    (b"name", 1),
+    (b"basenames", 2),
+    (b"group", 3),
+    (b"providename", 4),
+    (b"requirename", 5),
+    (b"conflictname", 6),
+    (b"obsoletename", 7),
+    (b"triggername", 8),
+    (b"dirnames", 9),
+    (b"installtid", 10),
+    (b"recommendname", 11),
+];
+
+/// The number of a kind.
+pub fn kind_of(word: &[u8]) -> Result<u32, Fault> {
+    for &(text, kind) in KINDS {
+        if text == word {
+            return Ok(kind);
+        }
+    }
+    Err(Fault::UnknownWord)
+}
+
+/// A record.
+#[derive(Clone, Copy, PartialEq, Eq, PartialOrd, Ord)]
+pub struct Record<'a> {
+    pub number: u32,
+    pub kind: u32,
+    pub key: &'a [u8],
+    pub place: u32,
+}
+
+impl Record<'_> {
+    /// Whether it is the one that was named.
+    pub fn is_named(&self, named: &Named) -> bool {
+        self.number == named.number
+            && self.kind == named.kind
+            && self.place == named.place
+            && self.key == named.key.as_slice()
+    }
+}
+
+/// A malformed index.
+#[derive(Clone, Copy, Debug, PartialEq, Eq)]
+pub struct Malformed;
+
+/// Four bytes of a unit as a number, the lowest first. Past the end there are none.
+fn number_at(index: &[u8], unit: u32, field: usize) -> Option<u32> {
+    let at = 16 * unit as usize + 4 * field.min(3);
+    let (bytes, _) = index.get(at..)?.split_first_chunk::<4>()?;
+    Some(u32::from_le_bytes(*bytes))
+}
+
+/// The record that begins at a unit, and the unit of the next one in its chain.
+fn record_at(index: &[u8], unit: u32) -> Option<(Record<'_>, u32)> {
+    let next = number_at(index, unit, 0)?;
+    let word = number_at(index, unit, 1)?;
+    let behind = 16 * (unit as usize + 1);
+    let length = (word & 0x0fff_ffff) as usize;
+    let record = Record {
+        number: number_at(index, unit, 2)?,
+        kind: word >> 28,
+        key: index.get(behind..)?.get(..length)?,
+        place: number_at(index, unit, 3)?,
+    };
+    Some((record, next))
+}
+
+/// Adds the records of a chain, at most so many in all.
+fn push_chain<'a>(
+    index: &'a [u8],
+    first: u32,
+    most: u32,
+    records: &mut Vec<Record<'a>>,
+) -> Result<Result<(), Malformed>, AllocError> {
+    let mut unit = first;
+    for _ in 0..most {
+        if unit == 0 {
+            return Ok(Ok(()));
+        }
+        let Some((record, next)) = record_at(index, unit) else {
+            return Ok(Err(Malformed));
+        };
+        records.push(record)?;
+        unit = next;
+    }
+    Ok(if unit == 0 { Ok(()) } else { Err(Malformed) })
+}
+
+/// All records of an index, in an order that is the same for two indexes with the same records, each as often. None where a chain is malformed,
+/// or the counts of units and records aren't those of the chains. An index without bytes has no records.
+pub fn records_of(alloc: Global, index: &[u8]) -> Result<Option<Vec<Record<'_>>>, AllocError> {
+    let mut records = Vec::new(alloc);
+    let buckets = number_at(index, 0, 3).unwrap_or(0);
+    let count = number_at(index, 1, 1).unwrap_or(0);
+    for bucket in 0..buckets {
+        let field = (bucket % 4) as usize;
+        let Some(first) = number_at(index, 2 + bucket / 4, field) else {
+            return Ok(None);
+        };
+        if push_chain(index, first, count, &mut records)?.is_err() {
+            return Ok(None);
+        }
+    }
+    if records.len() as u64 != u64::from(count) {
+        return Ok(None);
+    }
+    records.sort_unstable();
+    Ok(Some(records))
+}
