@@ -1,12 +1,14 @@
 //! What stands in front of a command line and is about it.
 
 use crate::fault::Fault;
+use crate::fixtures::Fixtures;
 use crate::keyword::{Keyword, Side};
 use crate::row::{Fails, Line, NOTHING_FAILS, Output, Shown, Taken};
 use crate::statement::first_word;
 use crate::token::{Token, number_of, short_number_of, tokens_of};
 use rpm_words::Words;
 use std::alloc::Global;
+use std::str::from_utf8;
 
 /// What is to hold for the next command line.
 #[derive(Drop)]
@@ -20,9 +22,19 @@ pub struct Ahead {
     is_given: bool,
 }
 
+/// The bytes of a word: those that it names, where it begins with `@`.
+fn word_bytes<'a>(fixtures: &'a Fixtures, token: &'a Token) -> Result<&'a [u8], Fault> {
+    match token.bytes.strip_prefix(b"@") {
+        Some(name) if !token.is_text => fixtures.get(name),
+        _ => Ok(&token.bytes),
+    }
+}
+
 /// Appends a word as often as it is to stand.
-fn push_word(words: &mut Words, token: &Token) -> Result<(), Fault> {
-    let text = token.as_text()?;
+fn push_word(words: &mut Words, fixtures: &Fixtures, token: &Token) -> Result<(), Fault> {
+    let Ok(text) = from_utf8(word_bytes(fixtures, token)?) else {
+        return Err(Fault::NotText);
+    };
     for _ in 0..token.count {
         if words.len() == u32::MAX {
             return Err(Fault::WordCount);
@@ -33,11 +45,11 @@ fn push_word(words: &mut Words, token: &Token) -> Result<(), Fault> {
 }
 
 /// The words of a command line.
-fn words_of(alloc: Global, text: &[u8]) -> Result<Words, Fault> {
+fn words_of(alloc: Global, fixtures: &Fixtures, text: &[u8]) -> Result<Words, Fault> {
     let mut words = Words::new(alloc);
     let tokens = tokens_of(alloc, text)?;
     for token in tokens.iter() {
-        push_word(&mut words, token)?;
+        push_word(&mut words, fixtures, token)?;
     }
     Ok(words)
 }
@@ -138,8 +150,13 @@ impl Ahead {
     }
 
     /// The command line of these words, with all that was given for it.
-    pub fn command(&mut self, line: usize, text: &[u8]) -> Result<Line, Fault> {
-        let words = words_of(self.alloc, text)?;
+    pub fn command(
+        &mut self,
+        fixtures: &Fixtures,
+        line: usize,
+        text: &[u8],
+    ) -> Result<Line, Fault> {
+        let words = words_of(self.alloc, fixtures, text)?;
         let times = self.times;
         let fails = self.fails;
         self.times = 1;

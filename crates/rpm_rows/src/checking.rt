@@ -75,7 +75,7 @@ fn run_line(alloc: Global, start: &Start, line: &Line, files: Files) -> Result<F
 /// That a row's lines do what is expected.
 pub fn check_row(alloc: Global, row: &Row) -> Result<(), Stop> {
     if let Some(found) = &row.wrong {
-        return Err(wrong(alloc, found.line, &found.fault));
+        return Err(wrong(alloc, found.line, found.fault));
     }
     let mut files = row.start.files.copy(alloc)?;
     for line in row.lines.iter() {

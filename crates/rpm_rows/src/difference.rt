@@ -1,6 +1,7 @@
 //! What differs from what a row expects.
 
 use crate::fault::Fault;
+use hex::encode;
 use std::alloc::{AllocError, AllocFailed, Global};
 use std::fmt::Write;
 
@@ -39,8 +40,8 @@ pub fn differs(line: usize, text: Result<String, AllocError>) -> Stop {
 }
 
 /// A statement that can't be taken, or is missing.
-pub fn wrong(alloc: Global, line: usize, fault: &Fault) -> Stop {
-    differs(line, fault.to_string(alloc))
+pub fn wrong(alloc: Global, line: usize, fault: Fault) -> Stop {
+    differs(line, String::from_str(alloc, fault.text()))
 }
 
 /// How many bytes are shown of a text.
@@ -114,6 +115,45 @@ pub fn same_bytes(
         return Ok(());
     }
     Err(differs(line, both_shown(alloc, what, expected, came)))
+}
+
+/// The unit of 16 bytes that begins at a place, or what there is of it, as hex digits.
+fn unit_shown(alloc: Global, bytes: &[u8], at: usize) -> Result<String, AllocError> {
+    let rest = bytes.get(at..).unwrap_or(&[]);
+    let unit = rest.get(..16).unwrap_or(rest);
+    encode(alloc, unit)
+}
+
+/// How long two files are, and the first unit in which they differ.
+fn files_shown(
+    alloc: Global,
+    what: &str,
+    expected: &[u8],
+    came: &[u8],
+) -> Result<String, AllocError> {
+    let pairs = expected.iter().zip(came.iter());
+    let at = pairs.take_while(|(left, right)| left == right).count() / 16 * 16;
+    let expected_unit = unit_shown(alloc, expected, at)?;
+    let came_unit = unit_shown(alloc, came, at)?;
+    let expected = expected.len();
+    let came = came.len();
+    format!(in alloc;
+        "{what}: expected {expected} bytes, came {came}; at byte {at} expected {expected_unit}, came {came_unit}"
+    )
+}
+
+/// That a file holds the bytes that are expected.
+pub fn same_file(
+    alloc: Global,
+    line: usize,
+    what: &str,
+    expected: &[u8],
+    came: &[u8],
+) -> Result<(), Stop> {
+    if expected == came {
+        return Ok(());
+    }
+    Err(differs(line, files_shown(alloc, what, expected, came)))
 }
 
 /// That two numbers are the same.

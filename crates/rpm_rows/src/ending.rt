@@ -1,7 +1,6 @@
 //! How a command line ended, as rows write it.
 
-use rpm_pkgdb::Damage;
-use rpm_tool::{FormatFault, Outcome, Why, WordsFault};
+use rpm_tool::{Damage, FormatFault, Outcome, Why, WordsFault};
 use std::alloc::{AllocError, Global};
 
 /// A reason, as rows write it: its name, and what it tells in brackets.

@@ -1,45 +1,66 @@
 //! What is wrong with a statement.
 
-use std::alloc::AllocError;
-use thiserror::Error;
+use std::alloc::{AllocError, AllocFailed};
 
 /// Why a statement can't be taken.
-#[derive(Debug, Drop, Error)]
+#[derive(Clone, Copy)]
 pub enum Fault {
-    #[error("out of memory")]
-    NoMemory(#[from(alloc)] AllocError),
-    #[error("unknown statement")]
+    NoMemory,
     UnknownStatement,
-    #[error("unknown name")]
     UnknownName,
-    #[error("this name was given before")]
     SameName,
-    #[error("a number is expected")]
     BadNumber,
-    #[error("no piece: hex digits, a \"text\", @NAME, a group or generated N")]
     BadPiece,
-    #[error("unknown escape in a text")]
     BadEscape,
-    #[error("a text has no end")]
     OpenText,
-    #[error("a group has no end")]
     OpenGroup,
-    #[error("no group was begun")]
     NoGroup,
-    #[error("a word is no UTF-8")]
     NotText,
-    #[error("a word is missing, or one too many")]
     WordCount,
-    #[error("unknown word")]
     UnknownWord,
-    #[error("it goes past the bytes")]
     PastEnd,
-    #[error("this can't stand here")]
     OutOfPlace,
-    #[error("this was given before")]
     GivenTwice,
-    #[error("the row has no command line")]
     NoLine,
-    #[error("the command line has no `ends`")]
+    NotFollowed,
     NoEnding,
+}
+
+impl From<AllocError> for Fault {
+    fn from(_error: AllocError) -> Fault {
+        Fault::NoMemory
+    }
+}
+
+impl<T: Drop> From<AllocFailed<T>> for Fault {
+    fn from(_error: AllocFailed<T>) -> Fault {
+        Fault::NoMemory
+    }
+}
+
+impl Fault {
+    /// What is told of it.
+    pub fn text(self) -> &'static str {
+        match self {
+            Fault::NoMemory => "out of memory",
+            Fault::UnknownStatement => "unknown statement",
+            Fault::UnknownName => "unknown name",
+            Fault::SameName => "this name was given before",
+            Fault::BadNumber => "a number is expected",
+            Fault::BadPiece => "expected hex digits, a \"text\", @NAME, a group or generated N",
+            Fault::BadEscape => "unknown escape in a text",
+            Fault::OpenText => "a text has no end",
+            Fault::OpenGroup => "a group has no end",
+            Fault::NoGroup => "no group was begun",
+            Fault::NotText => "a word isn't UTF-8",
+            Fault::WordCount => "a word is missing, or one too many",
+            Fault::UnknownWord => "unknown word",
+            Fault::PastEnd => "it goes past the bytes",
+            Fault::OutOfPlace => "this can't stand here",
+            Fault::GivenTwice => "this was given before",
+            Fault::NoLine => "the row has no command line",
+            Fault::NotFollowed => "no command line follows",
+            Fault::NoEnding => "the command line has no `ends`",
+        }
+    }
 }

@@ -1,6 +1,6 @@
 //! What a row's lines left.
 
-use crate::difference::{Stop, differs, same_bytes, same_numbers};
+use crate::difference::{Stop, differs, same_bytes, same_file, same_numbers};
 use crate::records::{Record, records_of};
 use crate::row::{Files, Left, LeftAt, NOTHING_FAILS, Named, Row, Start};
 use crate::tool::{run_once, words_of};
@@ -130,7 +130,7 @@ pub fn check_left(alloc: Global, row: &Row, files: &Files) -> Result<(), Stop> {
     for at in row.left.iter() {
         match &at.left {
             Left::Bytes(file, bytes) => {
-                same_bytes(alloc, at.line, file_name(*file), bytes, files.bytes(*file))?;
+                same_file(alloc, at.line, file_name(*file), bytes, files.bytes(*file))?;
             }
             Left::Digest(file, digest) => {
                 check_digest(alloc, at.line, *file, digest, files.bytes(*file))?;

@@ -101,12 +101,18 @@ impl Reader {
     }
 
     /// Takes a statement about the next command line.
-    fn take_ahead(&mut self, line: usize, keyword: Keyword, text: &[u8]) -> Result<(), Fault> {
+    fn take_ahead(
+        &mut self,
+        fixtures: &Fixtures,
+        line: usize,
+        keyword: Keyword,
+        text: &[u8],
+    ) -> Result<(), Fault> {
         if self.row.line == 0 || !self.row.left.is_empty() {
             return Err(Fault::OutOfPlace);
         }
         if keyword == Keyword::Command {
-            let command = self.ahead.command(line, text)?;
+            let command = self.ahead.command(fixtures, line, text)?;
             self.row.lines.push(command)?;
             return Ok(());
         }
@@ -163,9 +169,9 @@ impl Reader {
                 self.take_start(fixtures, keyword, text)
             }
             Keyword::Now | Keyword::Fails | Keyword::Times | Keyword::Every => {
-                self.take_ahead(line, keyword, text)
+                self.take_ahead(fixtures, line, keyword, text)
             }
-            Keyword::Shows(_) | Keyword::Command => self.take_ahead(line, keyword, text),
+            Keyword::Shows(_) | Keyword::Command => self.take_ahead(fixtures, line, keyword, text),
             Keyword::Left | Keyword::Record | Keyword::Of => {
                 self.take_left(fixtures, line, keyword, text)
             }
@@ -204,11 +210,16 @@ impl Reader {
         if row.line == 0 {
             return None;
         }
-        if row.lines.is_empty() || self.ahead.is_given() {
-            return Some(Wrong {
-                line: row.line,
-                fault: Fault::NoLine,
-            });
+        let fault = if self.ahead.is_given() {
+            Some(Fault::NotFollowed)
+        } else if row.lines.is_empty() {
+            Some(Fault::NoLine)
+        } else {
+            None
+        };
+        if let Some(fault) = fault {
+            let line = row.line;
+            return Some(Wrong { line, fault });
         }
         for line in row.lines.iter() {
             if line.ends.is_none() {

@@ -47,10 +47,6 @@ impl Record<'_> {
     }
 }
 
-/// A malformed index.
-#[derive(Clone, Copy, Debug, PartialEq, Eq)]
-pub struct Malformed;
-
 /// Four bytes of a unit as a number, the lowest first. Past the end there are none.
 fn number_at(index: &[u8], unit: u32, field: usize) -> Option<u32> {
     let at = 16 * unit as usize + 4 * field.min(3);
@@ -73,25 +69,28 @@ fn record_at(index: &[u8], unit: u32) -> Option<(Record<'_>, u32)> {
     Some((record, next))
 }
 
-/// Adds the records of a chain, at most so many in all.
+/// Adds the records of a chain, up to so many in all. Whether the chain is well formed, and there was room for them.
 fn push_chain<'a>(
     index: &'a [u8],
     first: u32,
     most: u32,
     records: &mut Vec<Record<'a>>,
-) -> Result<Result<(), Malformed>, AllocError> {
+) -> Result<bool, AllocError> {
     let mut unit = first;
-    for _ in 0..most {
+    for _ in 0..=most {
         if unit == 0 {
-            return Ok(Ok(()));
+            return Ok(true);
         }
         let Some((record, next)) = record_at(index, unit) else {
-            return Ok(Err(Malformed));
+            return Ok(false);
         };
+        if records.len() >= most as usize {
+            return Ok(false);
+        }
         records.push(record)?;
         unit = next;
     }
-    Ok(if unit == 0 { Ok(()) } else { Err(Malformed) })
+    Ok(false)
 }
 
 /// All records of an index, in an order that is the same for two indexes with the same records, each as often. None where a chain is malformed,
@@ -105,7 +104,7 @@ pub fn records_of(alloc: Global, index: &[u8]) -> Result<Option<Vec<Record<'_>>>
         let Some(first) = number_at(index, 2 + bucket / 4, field) else {
             return Ok(None);
         };
-        if push_chain(index, first, count, &mut records)?.is_err() {
+        if !push_chain(index, first, count, &mut records)? {
             return Ok(None);
         }
     }

@@ -88,7 +88,7 @@ impl Start {
 }
 
 /// What fails while a command line runs.
-#[derive(Clone, Copy, Debug, PartialEq, Eq)]
+#[derive(Clone, Copy)]
 pub struct Fails {
     /// The disk's call of this number, from 1 on; 0 for none.
     pub disk: u64,
@@ -186,7 +186,7 @@ pub struct LeftAt {
 }
 
 /// A statement that can't be taken, and its line.
-#[derive(Drop)]
+#[derive(Clone, Copy)]
 pub struct Wrong {
     pub line: usize,
     pub fault: Fault,
