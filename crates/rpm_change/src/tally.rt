@@ -6,14 +6,14 @@ ghost use Rattle.rpm_change.specs.Endings.{ends_command, halt_of};
 use rpm_db::ChangeFault;
 
 /// How many arguments of a command failed, and how many changes it made.
-#[derive(Clone, Copy, Debug, PartialEq, Eq)]
+#[derive(Clone, Copy, PartialEq, Eq)]
 pub struct Tally {
     pub failed: u32,
     pub changes: u32,
 }
 
 /// Why a command was stopped before its end.
-#[derive(Clone, Copy, Debug, PartialEq, Eq)]
+#[derive(Clone, Copy, PartialEq, Eq)]
 pub enum Halt {
     /// No package number is left.
     NumbersSpent,

@@ -25,7 +25,7 @@ use rpm_outside::{Buffered, Disk, Sink, put_and_flush};
 use std::alloc::Global;
 
 /// Why the exercise isn't done.
-#[derive(Clone, Copy, Debug, PartialEq, Eq)]
+#[derive(Clone, Copy, PartialEq, Eq)]
 pub enum ExerciseFault {
     /// The database has packages: the least number.
     NotEmpty { number: u32 },
