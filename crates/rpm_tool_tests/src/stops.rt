@@ -208,6 +208,34 @@ fn images_of_three(alloc: Global, disk: &MemDisk, moment: u64) -> Result<Option<
     Ok(Some(found))
 }
 
+// Whether the files of a moment's newest image, but an index that was removed, are a database of one package or of three once it was
+// rebuilt: a question by key then prints what the query of all does.
+fn is_rebuilt(alloc: Global, disk: &MemDisk, moment: u64) -> Result<bool, AllocError> {
+    if moment > disk.now() {
+        return Ok(false);
+    }
+    let image = disk.image(alloc, moment, Pick::New)?;
+    let packages = image.copy_file(alloc, File::Pkg)?;
+    let log = image.copy_file(alloc, File::Log)?;
+    let bare = MemDisk::new(alloc, &packages, &[], &log)?;
+    let rebuilt = run_on(alloc, "rpmdb --rebuilddb", bare)?;
+    let is_done = rebuilt.outcome == outcome(0, Why::Done, 0);
+    Ok(is_done && has_three(alloc, rebuilt.disk)?.is_some())
+}
+
+#[test]
+fn an_index_that_was_removed_is_rebuilt(rt: HostRuntime) -> Result<(), Fail> {
+    let alloc = rt.alloc();
+    let disk = MemDisk::new(alloc, &database(alloc)?, &[], &[])?;
+    let ran = run_on(alloc, "rpm --addpkg p1.rpm p1.rpm", disk)?;
+    let mut are_rebuilt = ran.outcome == outcome(0, Why::Done, 2);
+    for moment in 0..=ran.disk.now() {
+        are_rebuilt = are_rebuilt && is_rebuilt(alloc, &ran.disk, moment)?;
+    }
+    assert!(rt; are_rebuilt);
+    Ok(())
+}
+
 #[test]
 fn a_stop_leaves_both_packages_or_neither(rt: HostRuntime) -> Result<(), Fail> {
     let alloc = rt.alloc();
