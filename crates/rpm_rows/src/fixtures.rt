@@ -21,13 +21,12 @@ pub struct Fixtures {
 
 /// Writes bytes over others from a place on.
 fn write_over(bytes: &mut [u8], at: usize, new: &[u8]) -> Result<(), Fault> {
-    match bytes.get_mut(at..) {
-        Some(rest) if new.len() <= rest.len() => {
-            rest[..new.len()].copy_from_slice(new);
-            Ok(())
-        }
-        _ => Err(Fault::PastEnd),
+    let length = bytes.len();
+    if at > length || new.len() > length - at {
+        return Err(Fault::PastEnd);
     }
+    bytes[at..at + new.len()].copy_from_slice(new);
+    Ok(())
 }
 
 /// The place that an offset names among so many bytes: one below zero counts from their end.
