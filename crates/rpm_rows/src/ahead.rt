@@ -5,7 +5,7 @@ use crate::fixtures::Fixtures;
 use crate::keyword::{Keyword, Side};
 use crate::row::{Fails, Line, NOTHING_FAILS, Output, Shown, Taken};
 use crate::statement::first_word;
-use crate::token::{Token, number_of, short_number_of, tokens_of};
+use crate::token::{Token, number_of, short_number_of, some_number_of, tokens_of};
 use rpm_words::Words;
 use std::alloc::Global;
 use std::str::from_utf8;
@@ -91,12 +91,12 @@ impl Ahead {
     /// Takes `fails WHAT N`.
     fn set_fails(&mut self, text: &[u8]) -> Result<(), Fault> {
         let (what, number) = first_word(text);
-        let number = number_of(number.trim_ascii())?;
+        let number = number.trim_ascii();
         match what {
-            b"disk" => self.fails.disk = number,
-            b"out" => self.fails.out = number,
-            b"err" => self.fails.err = number,
-            b"read" => self.fails.read = number,
+            b"disk" => self.fails.disk = u64::from(some_number_of(number)?),
+            b"out" => self.fails.out = number_of(number)?,
+            b"err" => self.fails.err = number_of(number)?,
+            b"read" => self.fails.read = u64::from(some_number_of(number)?),
             _ => return Err(Fault::UnknownWord),
         }
         Ok(())
@@ -140,7 +140,7 @@ impl Ahead {
         match keyword {
             Keyword::Fails => self.set_fails(text.trim_ascii()),
             Keyword::Times => {
-                self.times = short_number_of(text.trim_ascii())?;
+                self.times = some_number_of(text.trim_ascii())?;
                 Ok(())
             }
             Keyword::Every => self.set_every_call(line, text),

@@ -8,7 +8,7 @@ use crate::leaving::{left_of, record_of};
 use crate::pieces::{bytes_of, join};
 use crate::row::{Left, LeftAt, Row, Shelved, Wrong};
 use crate::statement::{Statement, first_word};
-use crate::token::{short_number_of, tokens_of};
+use crate::token::{short_number_of, some_number_of, tokens_of};
 use rpm_outside::File;
 use std::alloc::{AllocError, Global};
 use std::mem;
@@ -94,7 +94,7 @@ impl Reader {
                 Ok(())
             }
             _ => {
-                self.row.start.pieces = short_number_of(text.trim_ascii())?;
+                self.row.start.pieces = some_number_of(text.trim_ascii())?;
                 Ok(())
             }
         }

@@ -49,6 +49,14 @@ pub fn short_number_of(digits: &[u8]) -> Result<u32, Fault> {
     }
 }
 
+/// The same of a number that isn't 0.
+pub fn some_number_of(digits: &[u8]) -> Result<u32, Fault> {
+    match short_number_of(digits)? {
+        0 => Err(Fault::BadNumber),
+        number => Ok(number),
+    }
+}
+
 /// The value of a hex digit.
 fn digit_of(byte: u8) -> Option<u8> {
     match byte {
