@@ -134,24 +134,31 @@ fn is_mended(rt: &HostRuntime, case: Partial<'_>) -> Result<bool, Fail> {
     Ok(told.outcome.why == Why::Done && is_listed)
 }
 
+// The first bytes of a Packages.db: fewer than a unit.
+const START: &[u8; 15] = b"RpmP\0\0\0\0\x01\0\0\0\x01\0\0";
+
+// A log of one entry: of Packages.db the unit 1, of zeros.
+const ZEROS: &[u8] = b"RpmL\x01\0\0\0\x01\0\0\0\x02\0\0\0\
+    \x01\0\0\0\x01\0\0\0\x01\0\0\0\0\0\0\0\
+    \0\0\0\0\0\0\0\0\0\0\0\0\0\0\0\0";
+
 #[test]
 fn a_group_is_finished_over_a_partial_unit(rt: HostRuntime) -> Result<(), Fail> {
     let alloc = rt.alloc();
     let pending = log(alloc)?;
     let whole = database(alloc)?;
     fs::write(&rt, "p2.rpm", package(alloc)?.as_slice())?;
+    let one = b"a-1-2.x\n".as_slice();
+    let two = b"a-1-2.x\na-1-2.x\n".as_slice();
     let mut are_mended = true;
-    for length in 0..16 {
-        let torn = &b"\x51\x51\x51\x51\x51\x51\x51\x51\x51\x51\x51\x51\x51\x51\x51"[..length.min(
-            15,
-        )];
-        let one = b"a-1-2.x\n".as_slice();
-        let two = b"a-1-2.x\na-1-2.x\n".as_slice();
-        let behind = joined(alloc, &[&whole, torn])?;
+    for length in 0..16usize {
+        let torn = &START[..length];
+        let longer = joined(alloc, &[&whole, torn])?;
         are_mended = are_mended
+            && is_mended(&rt, (torn, ZEROS, "rpmdb --initdb", b""))?
             && is_mended(&rt, (torn, &pending, "rpm -q a", one))?
             && is_mended(&rt, (&whole, torn, "rpm --addpkg p2.rpm", two))?
-            && is_mended(&rt, (&behind, torn, "rpm --addpkg p2.rpm", two))?;
+            && is_mended(&rt, (&longer, torn, "rpm --addpkg p2.rpm", two))?;
     }
     fs::remove_file(&rt, "p2.rpm")?;
     assert!(rt; are_mended);
