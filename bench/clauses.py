@@ -43,7 +43,7 @@ def source_files(tree, folder, suffix, crates, tests=False):
         if crates and crate.name not in crates:
             continue
         for path in sorted((crate / folder).rglob("*" + suffix)):
-            if tests or not (path.stem == "tests" or path.stem.endswith("_tests")):
+            if tests or not any(re.search(r"(^|_)tests$", part) for part in path.relative_to(crate.parent).with_suffix("").parts):
                 yield crate.name, path
 
 
@@ -52,9 +52,9 @@ def source_files(tree, folder, suffix, crates, tests=False):
 def owner_name(kind, rest):
     """`Overlay<D> as Disk` of an impl of a trait, else the name of the type, the trait or the module; and whether all its functions are public."""
     if kind == "impl":
-        rest = re.sub(r"^<[^>]*>", "", rest)
-        trait, _, owner = rest.rpartition(" for ")
-        return (f"{owner.strip()} as {trait.strip()}", True) if trait else (rest.strip(), False)
+        ends = [i + 1 for i in range(len(rest)) if rest[:i + 1].count("<") == rest[:i + 1].count(">")]
+        trait, _, owner = (rest[ends[0]:] if rest.startswith("<") else rest).rpartition(" for ")
+        return (f"{owner.strip()} as {trait.strip()}", True) if trait else (owner.strip(), False)
     return re.match(r"\w*", rest.strip()).group(0), kind == "trait"
 
 
