@@ -13,8 +13,6 @@ mod memo;
 mod nodes;
 mod reading;
 mod report;
-#[cfg(test)]
-mod tests;
 
 pub use faults::CheckFault;
 pub use giving::givers;

@@ -6,19 +6,11 @@
 #![tactic(auto)]
 
 mod change;
-#[cfg(test)]
-mod change_tests;
 mod changing;
 mod database;
 mod editing;
 mod finding;
-#[cfg(test)]
-mod index_tests;
 mod indexing;
-#[cfg(test)]
-mod limit_tests;
-#[cfg(test)]
-mod many_tests;
 mod opening;
 mod preparing;
 mod putting;
@@ -27,8 +19,6 @@ mod rebuilding;
 mod rows;
 mod sharing;
 mod starting;
-#[cfg(test)]
-mod tests;
 mod verify;
 mod writing;
 

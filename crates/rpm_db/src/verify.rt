@@ -21,7 +21,7 @@ use rpm_tags::first_text;
 use std::alloc::Global;
 
 /// What verifying a package says: the first that holds.
-#[derive(Clone, Copy, Debug, PartialEq, Eq)]
+#[derive(Clone, Copy, PartialEq, Eq)]
 pub enum Verdict {
     /// None of the others.
     Sound,

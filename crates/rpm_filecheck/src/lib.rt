@@ -11,8 +11,6 @@ mod owned;
 mod owner;
 mod paths;
 mod report;
-#[cfg(test)]
-mod tests;
 
 pub use conflict::Conflict;
 pub use fault::FileCheckFault;

@@ -7,4 +7,3 @@ pub mod Behind
 pub mod Words
 pub mod Logged
 pub mod Grouped
-pub mod Wholes

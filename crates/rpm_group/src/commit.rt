@@ -111,7 +111,7 @@ fn write_group<D: Disk>(disk: &mut D, held: &Layers) -> Result<(), Failed>
 }
 
 /// Why a commit didn't go through.
-#[derive(Clone, Copy, Debug, PartialEq, Eq)]
+#[derive(Clone, Copy, PartialEq, Eq)]
 pub enum CommitFault {
     /// The log would have this many units, which is more than it can have.
     LogFull { needed: u64 },

@@ -17,10 +17,6 @@ mod pages;
 mod recovery;
 mod scan;
 mod table;
-#[cfg(test)]
-mod tests;
-#[cfg(test)]
-mod whole;
 mod words;
 mod writes;
 

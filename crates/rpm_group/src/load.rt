@@ -18,7 +18,7 @@ use rpm_outside::{Disk, File};
 use std::alloc::Global;
 
 /// Why an overlay can't be loaded.
-#[derive(Clone, Copy, Debug, PartialEq, Eq)]
+#[derive(Clone, Copy, PartialEq, Eq)]
 pub enum LoadFault {
     /// The log is wrong at this unit.
     BadLog { unit: u64 },

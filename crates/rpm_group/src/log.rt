@@ -12,14 +12,14 @@ use crate::words::{is_blank, word};
 use rpm_outside::{Disk, Failed, File};
 
 /// The gate of a log: how many entries there are, and the last unit of the last.
-#[derive(Clone, Copy, Debug, PartialEq, Eq)]
+#[derive(Clone, Copy, PartialEq, Eq)]
 pub struct Gate {
     pub entries: u32,
     pub last: u32,
 }
 
 /// The head of an entry: so many units for a file, from its first unit on.
-#[derive(Clone, Copy, Debug, PartialEq, Eq)]
+#[derive(Clone, Copy, PartialEq, Eq)]
 pub struct Head {
     pub file: File,
     pub first: u32,
@@ -27,7 +27,7 @@ pub struct Head {
 }
 
 /// What was read of a log: that it is closed, or wrong at a unit, or its gate.
-#[derive(Clone, Copy, Debug, PartialEq, Eq)]
+#[derive(Clone, Copy, PartialEq, Eq)]
 pub enum Reading {
     Shut,
     Bad(u64),

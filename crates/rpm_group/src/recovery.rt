@@ -21,7 +21,7 @@ use crate::log::{Gate, Reading, read_head, read_log};
 use rpm_outside::{Disk, Failed, File};
 
 /// Why a database can't be recovered.
-#[derive(Clone, Copy, Debug, PartialEq, Eq)]
+#[derive(Clone, Copy, PartialEq, Eq)]
 pub enum RecoverFault {
     /// The log is wrong at this unit.
     BadLog { unit: u64 },

@@ -139,7 +139,7 @@ pub fn next_absent(table: &Table, from: usize, end: usize) -> usize
 }
 
 /// How many runs of held units there are, and how many units.
-#[derive(Clone, Copy, Debug, PartialEq, Eq)]
+#[derive(Clone, Copy, PartialEq, Eq)]
 pub struct Held {
     pub runs: u64,
     pub units: u64,

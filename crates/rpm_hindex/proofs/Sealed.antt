@@ -1,19 +1,14 @@
 -- An index that is sealed.
-use Rattle.std.proofs.Common.{◌≡◌, true, ℕ, ◌<◌, ◌^◌, ◌∷◌, [], refl, ap, ◌∙◌, arith, eqb}
-use Rattle.std.proofs.lemmas.Bool.{and_parts, cond-true}
+use Rattle.std.proofs.Common.{◌≡◌, ℕ, ◌<◌, ◌^◌, ◌∷◌, [], refl, ap, ◌∙◌, arith}
+use Rattle.std.proofs.lemmas.Bool.{cond-true}
 use Rattle.rpm_outside.specs.Files.{Units, unit_at, put}
 use Rattle.rpm_outside.specs.inner.Puts.{put_inside}
 use Rattle.rpm_hindex.specs.Words.{word}
-use Rattle.rpm_hindex.specs.State.{State, sealed, is_headed, is_in_order, is_current, buckets_of, seal_unit, magic}
+use Rattle.rpm_hindex.specs.State.{sealed, is_headed, buckets_of, seal_unit, magic}
 use Rattle.rpm_hindex.specs.Whole.{IsWellFormed}
 use Rattle.rpm_hindex.specs.Images.{IsSealed}
 use Rattle.rpm_hindex.proofs.UnitWords.{headed, word_2, word_3}
 use Rattle.rpm_hindex.proofs.Seals.{front_behind, whole_behind, records_behind}
-
--- one that is current at a generation is in order
-pub current_in_order : (generation : ℕ) (s : State) → is_current generation s ≡ true → is_in_order s ≡ true
-unfolding is_current
-current_in_order generation s p = (and_parts (eqb (sealed s.first) generation) (is_in_order s) p).1
 
 -- a file that gets the unit of a seal in front
 pub sealed_file : (g buckets : ℕ) (old : Units) → g < 2 ^ 32 → buckets < 2 ^ 32 → IsWellFormed buckets old

@@ -1,7 +1,7 @@
 //! Why a call can't answer.
 
 /// Why the hits of a key can't be given.
-#[derive(Clone, Copy, Debug, PartialEq, Eq)]
+#[derive(Clone, Copy, PartialEq, Eq)]
 pub enum FindFault {
     /// The chain of the key's bucket isn't well formed: the unit of its first fault.
     BadIndex { unit: u64 },
@@ -12,7 +12,7 @@ pub enum FindFault {
 }
 
 /// Why a change can't be worked out.
-#[derive(Clone, Copy, Debug, PartialEq, Eq)]
+#[derive(Clone, Copy, PartialEq, Eq)]
 pub enum PrepareFault {
     /// The rows after the change, made from scratch, need so many units, which is more than 268435456.
     IndexFull { needed: u64 },
@@ -25,7 +25,7 @@ pub enum PrepareFault {
 }
 
 /// Why an index can't be made from scratch.
-#[derive(Clone, Copy, Debug, PartialEq, Eq)]
+#[derive(Clone, Copy, PartialEq, Eq)]
 pub enum RewriteFault {
     /// The rows need so many units, which is more than 268435456.
     IndexFull { needed: u64 },
@@ -36,5 +36,5 @@ pub enum RewriteFault {
 }
 
 /// A call of the disk failed.
-#[derive(Clone, Copy, Debug, PartialEq, Eq)]
+#[derive(Clone, Copy, PartialEq, Eq)]
 pub struct IndexDiskFault;

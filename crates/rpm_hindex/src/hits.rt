@@ -6,7 +6,7 @@ ghost use Rattle.rpm_hindex.specs.Answers.{hit_at};
 use std::marker::Model;
 
 /// A package that has the key, and the key's place in the package's list of that kind.
-#[derive(Clone, Copy, Debug, PartialEq, Eq, PartialOrd, Ord)]
+#[derive(Clone, Copy, PartialEq, Eq, PartialOrd, Ord)]
 pub struct Hit {
     pub number: u32,
     pub place: u32,

@@ -25,8 +25,6 @@ mod rewriting;
 mod rows;
 mod sizes;
 mod spots;
-#[cfg(test)]
-mod tests;
 mod words;
 mod writing;
 

@@ -11,8 +11,6 @@ mod mem_sink;
 mod shelf;
 mod sink;
 mod steps;
-#[cfg(test)]
-mod tests;
 
 pub use buffered::{Buffered, put_and_flush};
 pub use disk::{Disk, File};

@@ -7,7 +7,7 @@ ghost use Rattle.rpm_outside.specs.Shelves.{Paths, bytes_at, Opens, TakesFront, 
 use crate::Failed;
 
 /// A path that can't be opened, for whatever reason.
-#[derive(Clone, Copy, Debug, PartialEq, Eq)]
+#[derive(Clone, Copy, PartialEq, Eq)]
 pub struct Absent;
 
 /// Files under paths, of which one at a time is open and is read from front to back.

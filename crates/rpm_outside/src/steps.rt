@@ -212,7 +212,7 @@ pub fn keep_sync(steps: &mut Vec<Step>, file: File) -> Result<(), AllocError>
 }
 
 /// Which image of a moment: the oldest contents, the newest, or for each unit by a bit of a number.
-#[derive(Clone, Copy, Debug, PartialEq, Eq)]
+#[derive(Clone, Copy, PartialEq, Eq)]
 pub enum Pick {
     Old,
     New,

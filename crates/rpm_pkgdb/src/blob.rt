@@ -19,7 +19,7 @@ use rpm_outside::Disk;
 use std::alloc::Global;
 
 /// Why a number has no blob to give.
-#[derive(Clone, Copy, Debug, PartialEq, Eq)]
+#[derive(Clone, Copy, PartialEq, Eq)]
 pub enum GetFault {
     /// No slot has the number.
     NoSuch,

@@ -40,7 +40,7 @@ pub struct Plan {
 }
 
 /// Why a blob can't be put.
-#[derive(Clone, Copy, Debug, PartialEq, Eq)]
+#[derive(Clone, Copy, PartialEq, Eq)]
 pub enum PlanFault {
     /// The next number is 4294967295, which no package can have.
     NumbersSpent,

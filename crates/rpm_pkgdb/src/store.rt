@@ -31,7 +31,7 @@ use std::alloc::Global;
 use std::marker::Model;
 
 /// A call of the disk failed in a writing call.
-#[derive(Clone, Copy, Debug, PartialEq, Eq)]
+#[derive(Clone, Copy, PartialEq, Eq)]
 pub struct DiskFault;
 
 /// The head and the slots of a `Packages.db`, read once.

@@ -3,8 +3,6 @@
 
 mod asked;
 mod asking;
-#[cfg(test)]
-mod index_tests;
 mod labels;
 mod matching;
 mod picker;
@@ -12,8 +10,6 @@ mod piece;
 mod reach;
 mod rows;
 mod selection;
-#[cfg(test)]
-mod tests;
 
 pub use matching::glob;
 pub use picker::{Blob, PickFault, Picked, Picker};

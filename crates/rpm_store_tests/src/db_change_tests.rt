@@ -1,0 +1,296 @@
+//! The database: what changes answer and leave, also where one is stopped or fails.
+
+use crate::db_tests::{Tally, header_of, named, seven};
+use crate::fixtures::{Draft, NEWER, PLAIN, change, one_package};
+use crate::index_tests::sealed_file;
+use crate::plain_disk::PlainDisk;
+use rpm_db::{ChangeFault, Db};
+use rpm_header::HeaderFault;
+use rpm_outside::{Disk, File, MemDisk, Pick};
+use std::alloc::{AllocError, Global};
+
+/// Makes a database, and answers whether there was none.
+pub fn init<D: Disk>(alloc: Global, disk: &mut D) -> Option<bool> {
+    let Ok(mut db) = Db::open(alloc, disk) else {
+        return None;
+    };
+    db.init(alloc, disk).ok()
+}
+
+/// Adds a header. None where the database isn't opened, or blank.
+pub fn add<D: Disk>(alloc: Global, disk: &mut D, blob: &[u8]) -> Option<Result<u32, ChangeFault>> {
+    let Ok(mut db) = Db::open(alloc, disk) else {
+        return None;
+    };
+    if !db.is_indexed() {
+        return None;
+    }
+    Some(db.add(alloc, disk, blob))
+}
+
+fn put<D: Disk>(
+    alloc: Global,
+    disk: &mut D,
+    n: u32,
+    blob: &[u8],
+) -> Option<Result<(), ChangeFault>> {
+    let Ok(mut db) = Db::open(alloc, disk) else {
+        return None;
+    };
+    if !db.is_indexed() {
+        return None;
+    }
+    Some(db.put(alloc, disk, n, blob))
+}
+
+fn erase<D: Disk>(alloc: Global, disk: &mut D, n: u32) -> Option<Result<(), ChangeFault>> {
+    let Ok(mut db) = Db::open(alloc, disk) else {
+        return None;
+    };
+    if !db.is_indexed() {
+        return None;
+    }
+    Some(db.erase(alloc, disk, n))
+}
+
+// One change of a database.
+#[derive(Clone, Copy)]
+enum Step {
+    Add(&'static [u8]),
+    Put(u32, &'static [u8]),
+    Erase(u32),
+}
+
+// Changes the database of this disk, and answers the number that was changed.
+fn apply(alloc: Global, disk: &mut PlainDisk, step: Step) -> Option<Result<u32, ChangeFault>> {
+    match step {
+        Step::Add(blob) => add(alloc, disk, blob),
+        Step::Put(n, blob) => Some(put(alloc, disk, n, blob)?.map(|_| n)),
+        Step::Erase(n) => Some(erase(alloc, disk, n)?.map(|_| n)),
+    }
+}
+
+// A disk with a database that was made, and has no packages.
+fn made(alloc: Global) -> Result<MemDisk, AllocError> {
+    let mut disk = MemDisk::new(alloc, &[], &[], &[])?;
+    match init(alloc, &mut disk) {
+        Some(true) => Ok(disk),
+        _ => Err(AllocError),
+    }
+}
+
+#[test]
+fn a_database_is_made_once(rt: HostRuntime) -> Result<(), AllocError> {
+    let mut disk = PlainDisk::with_index(Vec::new(rt.alloc()), sealed_file(rt.alloc(), 320)?);
+    let made = (init(rt.alloc(), &mut disk), init(rt.alloc(), &mut disk));
+    assert_eq!(rt; made, (Some(true), Some(false)));
+    Ok(())
+}
+
+// A store of one page whose only package is this one as number 1, behind so many blocks that nobody has.
+fn store(
+    alloc: Global,
+    generation: u32,
+    gap: u32,
+    package: Option<(&[u8], u32)>,
+) -> Result<Vec<u8>, AllocError> {
+    let mut draft = Draft::new(alloc, 1, generation);
+    draft.push_gap(gap)?;
+    if let Some((blob, sum)) = package {
+        draft.push(1, blob, sum)?;
+    }
+    draft.finish(alloc, 2)
+}
+
+#[test]
+fn a_package_is_added_replaced_and_erased(rt: HostRuntime) -> Result<(), AllocError> {
+    let alloc = rt.alloc();
+    let mut disk = made(alloc)?;
+    let number = add(alloc, &mut disk, &PLAIN);
+    let added = disk.copy_file(alloc, File::Pkg)? == one_package(alloc)?
+        && disk.copy_file(alloc, File::Idx)? == sealed_file(alloc, 320)?;
+    let put = put(alloc, &mut disk, 1, &NEWER);
+    let replaced = disk.copy_file(alloc, File::Pkg)? == store(alloc, 3, 7, Some((&NEWER, 0x7141_06ef)))?;
+    let erase = erase(alloc, &mut disk, 1);
+    let erased = disk.copy_file(alloc, File::Pkg)? == store(alloc, 4, 14, None)?
+        && named(alloc, &mut disk) == Some((0, 0, 0));
+    assert_eq!(rt;
+        (number, added, put, replaced, erase, erased),
+        (Some(Ok(1)), true, Some(Ok(())), true, Some(Ok(())), true)
+    );
+    Ok(())
+}
+
+#[test]
+fn rows_that_both_headers_have_stay(rt: HostRuntime) -> Result<(), AllocError> {
+    let alloc = rt.alloc();
+    let mut sealed = sealed_file(alloc, 320)?;
+    let mut disk = MemDisk::new(alloc, &one_package(alloc)?, &sealed, &[])?;
+    let put = put(alloc, &mut disk, 1, &NEWER);
+    // the first two units, which opening reads
+    let read = disk.bytes_read(File::Idx);
+    change(&mut sealed, 8, &[3]);
+    let is_same = disk.copy_file(alloc, File::Idx)? == sealed;
+    assert_eq!(rt; (put, read, is_same), (Some(Ok(())), 32, true));
+    Ok(())
+}
+
+const BAD: ChangeFault = ChangeFault::BadHeader(HeaderFault::TooManyEntries);
+
+const TEXT: &[u8] = b"no header";
+
+// The place of a number that is the last one, a change of the seven packages, what it answers, and the tally of the name `a` then.
+const STEPS: &[(Option<usize>, Step, Result<u32, ChangeFault>, Tally)] = &[
+    (None, Step::Add(&PLAIN), Ok(8), (6, 29, 0)),
+    (None, Step::Add(TEXT), Err(BAD), (5, 21, 0)),
+    // the rows of the old header go
+    (None, Step::Put(1, &PLAIN), Ok(1), (5, 21, 0)),
+    // over a Bad one
+    (None, Step::Put(3, &PLAIN), Ok(3), (6, 24, 0)),
+    (None, Step::Put(9, &PLAIN), Err(ChangeFault::NoSuch), (5, 21, 0)),
+    (None, Step::Put(9, TEXT), Err(BAD), (5, 21, 0)),
+    (None, Step::Erase(1), Ok(1), (4, 20, 0)),
+    // a Bad one has no rows
+    (None, Step::Erase(4), Ok(4), (5, 21, 0)),
+    (None, Step::Erase(9), Err(ChangeFault::NoSuch), (5, 21, 0)),
+    (Some(16), Step::Add(&PLAIN), Err(ChangeFault::NumbersSpent), (5, 21, 0)),
+    (Some(8), Step::Add(&PLAIN), Err(ChangeFault::GenerationSpent), (5, 21, 0)),
+    (Some(8), Step::Put(1, &PLAIN), Err(ChangeFault::GenerationSpent), (5, 21, 0)),
+    (Some(8), Step::Erase(1), Err(ChangeFault::GenerationSpent), (5, 21, 0)),
+];
+
+// The first step that answers or leaves otherwise.
+fn other_step(alloc: Global) -> Result<Option<usize>, AllocError> {
+    for (row, &(spent, step, answer, found)) in STEPS.iter().enumerate() {
+        let mut disk = PlainDisk::new(alloc, seven(alloc)?);
+        if let Some(at) = spent {
+            change(&mut disk.pkg, at, &[0xff; 4]);
+        }
+        let answered = apply(alloc, &mut disk, step);
+        if answered != Some(answer) || named(alloc, &mut disk) != Some(found) {
+            return Ok(Some(row));
+        }
+    }
+    Ok(None)
+}
+
+#[test]
+fn changes_answer_by_the_first_cause(rt: HostRuntime) -> Result<(), AllocError> {
+    let other = other_step(rt.alloc())?;
+    assert_eq!(rt; other, None);
+    Ok(())
+}
+
+// Whether opening the database of one package reads its blocks exactly where the generations of the files differ: for the index.
+fn is_remade_where_due(alloc: Global, disk: &mut MemDisk) -> Result<bool, AllocError> {
+    let packages = disk.copy_file(alloc, File::Pkg)?;
+    let index = disk.copy_file(alloc, File::Idx)?;
+    let is_current = packages.get(8..12) == index.get(8..12);
+    let is_found = named(alloc, disk) == Some((1, 1, 0));
+    Ok(is_found && (disk.bytes_read(File::Pkg) == 4096) == is_current)
+}
+
+// Whether each image of a moment has one of these headers as its package.
+fn images_have(
+    alloc: Global,
+    disk: &MemDisk,
+    moment: u64,
+    either: [&[u8]; 2],
+) -> Result<bool, AllocError> {
+    for pick in [Pick::Old, Pick::New, Pick::Mixed(1)] {
+        if moment > disk.now() {
+            return Ok(false);
+        }
+        let mut image = disk.image(alloc, moment, pick)?;
+        let is_remade = is_remade_where_due(alloc, &mut image)?;
+        let is_old = header_of(alloc, &mut image, 1, either[0]).1;
+        let is_new = header_of(alloc, &mut image, 1, either[1]).1;
+        if !is_remade || !(is_old || is_new) {
+            return Ok(false);
+        }
+    }
+    Ok(true)
+}
+
+// The first moment of replacing the plain header at which neither it nor the newer one is there; the last moment has the newer one.
+fn other_moment(alloc: Global) -> Result<Option<u64>, AllocError> {
+    let mut disk = MemDisk::new(alloc, &one_package(alloc)?, &sealed_file(alloc, 320)?, &[])?;
+    let goes = put(alloc, &mut disk, 1, &NEWER) == Some(Ok(()));
+    for moment in 0..=disk.now() {
+        let old = if moment < disk.now() { PLAIN } else { NEWER };
+        if !goes || !images_have(alloc, &disk, moment, [&old, &NEWER])? {
+            return Ok(Some(moment));
+        }
+    }
+    Ok(None)
+}
+
+#[test]
+fn a_stop_leaves_the_old_header_or_the_new_one(rt: HostRuntime) -> Result<(), AllocError> {
+    let other = other_moment(rt.alloc())?;
+    assert_eq!(rt; other, None);
+    Ok(())
+}
+
+// What putting a header answers on a disk whose call of this number fails, and what erasing answers then. None where it isn't opened.
+fn failing(
+    alloc: Global,
+    call: u64,
+) -> Result<Option<(Result<(), ChangeFault>, Result<(), ChangeFault>)>, AllocError> {
+    let mut disk = MemDisk::new(alloc, &one_package(alloc)?, &sealed_file(alloc, 320)?, &[])?;
+    disk.fail_call(call)?;
+    let Ok(mut db) = Db::open(alloc, &mut disk) else {
+        return Ok(None);
+    };
+    if !db.is_indexed() {
+        return Ok(None);
+    }
+    match db.put(alloc, &mut disk, 1, &PLAIN) {
+        Err(ChangeFault::DiskFault) => Ok(Some((
+            Err(ChangeFault::DiskFault),
+            db.erase(alloc, &mut disk, 1),
+        ))),
+        answer => Ok(Some((answer, Ok(())))),
+    }
+}
+
+// How many of sixty failing calls stop the value, and how many it doesn't meet. None where one ends otherwise.
+fn stopped(alloc: Global) -> Result<Option<(u32, u32)>, AllocError> {
+    let (mut stopped, mut whole) = (0u32, 0u32);
+    for call in 1..=60u64 {
+        match failing(alloc, call)? {
+            None => {}
+            Some((Ok(()), Ok(()))) => whole = whole.saturating_add(1),
+            Some((Err(_), Err(ChangeFault::Stopped))) => stopped = stopped.saturating_add(1),
+            Some(_) => return Ok(None),
+        }
+    }
+    Ok(Some((stopped, whole)))
+}
+
+#[test]
+fn a_value_that_failed_is_stopped(rt: HostRuntime) -> Result<(), AllocError> {
+    let counts = stopped(rt.alloc())?;
+    let are_some = counts.is_some_and(|(stopped, whole)| stopped > 0 && whole > 0);
+    assert!(rt; are_some, "{counts:?}");
+    Ok(())
+}
+
+// A store in a file as long as one can be, in which number 1 has all blocks but the last six, and cannot be read.
+fn almost_full(alloc: Global) -> Result<PlainDisk, AllocError> {
+    let mut file = Draft::new(alloc, 1, 1).finish(alloc, 2)?;
+    change(&mut file, 36, &[1, 0, 0, 0, 0, 1, 0, 0, 0xfa, 0xfe, 0xff, 0x0f]);
+    let mut disk = PlainDisk::new(alloc, file);
+    disk.long = Some(File::Pkg);
+    Ok(disk)
+}
+
+#[test]
+fn a_store_without_room_is_full(rt: HostRuntime) -> Result<(), AllocError> {
+    let mut disk = almost_full(rt.alloc())?;
+    let added = add(rt.alloc(), &mut disk, &PLAIN);
+    let put = put(rt.alloc(), &mut disk, 1, &PLAIN);
+    let full = ChangeFault::StoreFull;
+    assert_eq!(rt; (added, put), (Some(Err(full)), Some(Err(full))));
+    Ok(())
+}
