@@ -1,7 +1,6 @@
 //! The program: its words, the one call of the tool over the real objects, and the status to end with.
 #![tactic(auto)]
 
-
 use rpm_real::{RealDisk, RealShelf, RealSink, moment_of};
 use rpm_tool::run;
 use rpm_words::{Words, place_of};
