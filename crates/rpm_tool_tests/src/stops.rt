@@ -220,7 +220,8 @@ fn is_rebuilt(alloc: Global, disk: &MemDisk, moment: u64) -> Result<bool, AllocE
     let bare = MemDisk::new(alloc, &packages, &[], &log)?;
     let rebuilt = run_on(alloc, "rpmdb --rebuilddb", bare)?;
     let is_done = rebuilt.outcome == outcome(0, Why::Done, 0);
-    Ok(is_done && has_three(alloc, rebuilt.disk)?.is_some())
+    let settled = rebuilt.disk.image(alloc, rebuilt.disk.now(), Pick::New)?;
+    Ok(is_done && has_three(alloc, settled)?.is_some())
 }
 
 #[test]
