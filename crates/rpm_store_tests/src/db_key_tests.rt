@@ -29,7 +29,7 @@ const OF_MANY: &[(Kind, &[u8], Tally)] = &[
     (Kind::Obsoletename, b"cap3", (55, 16_500, 0)),
     (Kind::Triggername, b"cap3", (55, 16_500, 0)),
     (Kind::Dirnames, b"/opt/", (600, 180_300, 0)),
-    (Kind::Installtid, b"\0\0\0\x03", (55, 16_500, 0)),
+    (Kind::Installtid, b"\0\0\0\0\0\0\0\x03", (55, 16_500, 0)),
     (Kind::Recommendname, b"cap3", (55, 16_500, 0)),
     (Kind::Recommendname, b"cap11", (0, 0, 0)),
     (Kind::Name, b"pkg601", (0, 0, 0)),

@@ -13,9 +13,11 @@ fn broken(alloc: Global, at: usize, word: u32) -> Result<PlainDisk, AllocError> 
     let mut draft = Draft::new(alloc, 1, 1);
     draft.push(1, &header(alloc, &[(1000, TEXT, 1, b"a\0")])?, 0)?;
     let mut disk = PlainDisk::new(alloc, draft.finish(alloc, 2)?);
-    let is_made = open(alloc, &mut disk, true).is_some();
+    let Some(_made) = open(alloc, &mut disk, true) else {
+        return Err(AllocError);
+    };
     change(&mut disk.idx, at, &word.to_le_bytes());
-    if is_made { Ok(disk) } else { Err(AllocError) }
+    Ok(disk)
 }
 
 // What beginning to pick answers.
