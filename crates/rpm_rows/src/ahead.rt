@@ -132,7 +132,7 @@ impl Ahead {
 
     /// Takes a statement about the next command line.
     pub fn take(&mut self, line: usize, keyword: Keyword, text: &[u8]) -> Result<(), Fault> {
-        if keyword == Keyword::Now {
+        if matches!(keyword, Keyword::Now) {
             self.now = short_number_of(text.trim_ascii())?;
             return Ok(());
         }

@@ -3,21 +3,21 @@
 use rpm_outside::File;
 
 /// One of the two sinks.
-#[derive(Clone, Copy, PartialEq, Eq)]
+#[derive(Clone, Copy)]
 pub enum Stream {
     Out,
     Err,
 }
 
 /// A database that a stop may leave: that before the change, or that behind it.
-#[derive(Clone, Copy, PartialEq, Eq)]
+#[derive(Clone, Copy)]
 pub enum Side {
     Before,
     After,
 }
 
 /// What a statement is, by its first word.
-#[derive(Clone, Copy, PartialEq, Eq)]
+#[derive(Clone, Copy)]
 pub enum Keyword {
     Bytes,
     At,

@@ -3,8 +3,8 @@
 use crate::fault::Fault;
 use crate::fixtures::Fixtures;
 use crate::pieces::join;
-use crate::records::kind_of;
-use crate::row::{Left, Named};
+use crate::records::{Record, kind_of};
+use crate::row::Left;
 use crate::token::{Token, number_of, short_number_of, tokens_of};
 use rpm_outside::File;
 use std::alloc::Global;
@@ -71,7 +71,7 @@ pub fn left_of(alloc: Global, fixtures: &Fixtures, text: &[u8]) -> Result<Left, 
 pub fn record_of(alloc: Global, fixtures: &Fixtures, text: &[u8]) -> Result<Left, Fault> {
     let tokens = tokens_of(alloc, text)?;
     match tokens.as_slice() {
-        [kind, key @ .., number, place] => Ok(Left::Record(Named {
+        [kind, key @ .., number, place] => Ok(Left::Record(Record {
             kind: kind_of(&kind.bytes)?,
             key: join(alloc, fixtures, key)?,
             number: short_number_of(&number.bytes)?,

@@ -2,7 +2,7 @@
 
 use crate::difference::{Stop, differs, same_bytes, same_file, same_numbers};
 use crate::records::{Record, records_of};
-use crate::row::{Files, Left, LeftAt, NOTHING_FAILS, Named, Row, Start};
+use crate::row::{Files, Left, LeftAt, NOTHING_FAILS, Row, Start};
 use crate::tool::{run_once, words_of};
 use hex::encode;
 use rpm_outside::File;
@@ -41,10 +41,10 @@ fn check_digest(
 fn check_record(
     alloc: Global,
     line: usize,
-    named: &Named,
-    records: &[Record<'_>],
+    expected: &Record,
+    records: &[Record],
 ) -> Result<(), Stop> {
-    if records.iter().any(|record| record.is_named(named)) {
+    if records.contains(expected) {
         return Ok(());
     }
     let text = String::from_str(alloc, "record: expected this one, came an index without it");
@@ -70,7 +70,7 @@ fn check_all_of(
     line: usize,
     number: u32,
     row: &Row,
-    records: &[Record<'_>],
+    records: &[Record],
 ) -> Result<(), Stop> {
     let came = records
         .iter()
@@ -92,7 +92,7 @@ fn check_rebuilt(
     alloc: Global,
     line: usize,
     files: &Files,
-    records: &[Record<'_>],
+    records: &[Record],
 ) -> Result<(), Stop> {
     let index = rebuilt(alloc, files)?;
     let expected = records_of(alloc, &index)?;
@@ -119,7 +119,7 @@ fn check_records(alloc: Global, at: &LeftAt, row: &Row, files: &Files) -> Result
         Left::Records(count) => {
             same_numbers(alloc, line, "records", *count, records.len() as u64)
         }
-        Left::Record(named) => check_record(alloc, line, named, &records),
+        Left::Record(expected) => check_record(alloc, line, expected, &records),
         Left::AllOf(number) => check_all_of(alloc, line, *number, row, &records),
         _ => check_rebuilt(alloc, line, files, &records),
     }

@@ -111,7 +111,7 @@ impl Reader {
         if self.row.line == 0 || !self.row.left.is_empty() {
             return Err(Fault::OutOfPlace);
         }
-        if keyword == Keyword::Command {
+        if matches!(keyword, Keyword::Command) {
             let command = self.ahead.command(fixtures, line, text)?;
             self.row.lines.push(command)?;
             return Ok(());

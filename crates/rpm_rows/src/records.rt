@@ -1,7 +1,6 @@
 //! The records of an index, read from its bytes as docs/FORMATS.md has them.
 
 use crate::fault::Fault;
-use crate::row::Named;
 use std::alloc::{AllocError, Global};
 
 const KINDS: &[(&[u8], u32)] = &[
@@ -28,23 +27,14 @@ pub fn kind_of(word: &[u8]) -> Result<u32, Fault> {
     Err(Fault::UnknownWord)
 }
 
-/// A record.
-#[derive(Clone, Copy, PartialEq, Eq, PartialOrd, Ord)]
-pub struct Record<'a> {
+/// A record: a key of a kind that a package has at a place.
+#[derive(PartialEq, Eq, PartialOrd, Ord, Drop)]
+pub struct Record {
+    /// The number of the package.
     pub number: u32,
     pub kind: u32,
-    pub key: &'a [u8],
+    pub key: Vec<u8>,
     pub place: u32,
-}
-
-impl Record<'_> {
-    /// Whether it is the one that was named.
-    pub fn is_named(&self, named: &Named) -> bool {
-        self.number == named.number
-            && self.kind == named.kind
-            && self.place == named.place
-            && self.key == named.key.as_slice()
-    }
 }
 
 /// Four bytes of a unit as a number, the lowest first. Past the end there are none.
@@ -54,48 +44,72 @@ fn number_at(index: &[u8], unit: u32, field: usize) -> Option<u32> {
     Some(u32::from_le_bytes(*bytes))
 }
 
-/// The record that begins at a unit, and the unit of the next one in its chain.
-fn record_at(index: &[u8], unit: u32) -> Option<(Record<'_>, u32)> {
-    let next = number_at(index, unit, 0)?;
-    let word = number_at(index, unit, 1)?;
+/// The bytes of the key whose record begins at a unit.
+fn key_at(index: &[u8], unit: u32, word: u32) -> Option<&[u8]> {
     let behind = 16 * (unit as usize + 1);
     let length = (word & 0x0fff_ffff) as usize;
-    let record = Record {
-        number: number_at(index, unit, 2)?,
-        kind: word >> 28,
-        key: index.get(behind..)?.get(..length)?,
-        place: number_at(index, unit, 3)?,
+    index.get(behind..)?.get(..length)
+}
+
+/// The numbers of the record that begins at a unit: next, word, number and place.
+fn head_at(index: &[u8], unit: u32) -> Option<[u32; 4]> {
+    Some([
+        number_at(index, unit, 0)?,
+        number_at(index, unit, 1)?,
+        number_at(index, unit, 2)?,
+        number_at(index, unit, 3)?,
+    ])
+}
+
+/// Adds the record that begins at a unit, and gives the unit of the next one in its chain. None where the record is cut off.
+fn push_record(
+    alloc: Global,
+    index: &[u8],
+    unit: u32,
+    records: &mut Vec<Record>,
+) -> Result<Option<u32>, AllocError> {
+    let Some([next, word, number, place]) = head_at(index, unit) else {
+        return Ok(None);
     };
-    Some((record, next))
+    let Some(key) = key_at(index, unit, word) else {
+        return Ok(None);
+    };
+    records.push(Record {
+        number,
+        kind: word >> 28,
+        key: key.to_vec(alloc)?,
+        place,
+    })?;
+    Ok(Some(next))
 }
 
 /// Adds the records of a chain, up to so many in all. Whether the chain is well formed, and there was room for them.
-fn push_chain<'a>(
-    index: &'a [u8],
+fn push_chain(
+    alloc: Global,
+    index: &[u8],
     first: u32,
     most: u32,
-    records: &mut Vec<Record<'a>>,
+    records: &mut Vec<Record>,
 ) -> Result<bool, AllocError> {
     let mut unit = first;
     for _ in 0..=most {
         if unit == 0 {
             return Ok(true);
         }
-        let Some((record, next)) = record_at(index, unit) else {
-            return Ok(false);
-        };
         if records.len() >= most as usize {
             return Ok(false);
         }
-        records.push(record)?;
-        unit = next;
+        match push_record(alloc, index, unit, records)? {
+            Some(next) => unit = next,
+            None => return Ok(false),
+        }
     }
     Ok(false)
 }
 
 /// All records of an index, in an order that is the same for two indexes with the same records, each as often. None where a chain is malformed,
 /// or the counts of units and records aren't those of the chains. An index without bytes has no records.
-pub fn records_of(alloc: Global, index: &[u8]) -> Result<Option<Vec<Record<'_>>>, AllocError> {
+pub fn records_of(alloc: Global, index: &[u8]) -> Result<Option<Vec<Record>>, AllocError> {
     let mut records = Vec::new(alloc);
     let buckets = number_at(index, 0, 3).unwrap_or(0);
     let count = number_at(index, 1, 1).unwrap_or(0);
@@ -104,7 +118,7 @@ pub fn records_of(alloc: Global, index: &[u8]) -> Result<Option<Vec<Record<'_>>>
         let Some(first) = number_at(index, 2 + bucket / 4, field) else {
             return Ok(None);
         };
-        if !push_chain(index, first, count, &mut records)? {
+        if !push_chain(alloc, index, first, count, &mut records)? {
             return Ok(None);
         }
     }

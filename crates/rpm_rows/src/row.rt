@@ -1,6 +1,7 @@
 //! A worked row: its start, its command lines with what is expected of each, and what is left behind them.
 
 use crate::fault::Fault;
+use crate::records::Record;
 use rpm_outside::{File, MemDisk};
 use rpm_words::Words;
 use std::alloc::{AllocError, Global};
@@ -156,22 +157,13 @@ pub struct Line {
     pub is_untouched: bool,
 }
 
-/// A record of the index.
-#[derive(Drop)]
-pub struct Named {
-    pub kind: u32,
-    pub key: Vec<u8>,
-    pub number: u32,
-    pub place: u32,
-}
-
 /// What is expected of the files behind all lines.
 #[derive(Drop)]
 pub enum Left {
     Bytes(File, Vec<u8>),
     Digest(File, [u8; 32]),
     Records(u64),
-    Record(Named),
+    Record(Record),
     /// The named records of this number are all that it has.
     AllOf(u32),
     /// The records are those of an index made from scratch.
