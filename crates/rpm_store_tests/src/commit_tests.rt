@@ -72,7 +72,11 @@ fn other_moment(
     done: bool,
 ) -> Result<Option<u64>, AllocError> {
     for moment in 0..=disk.now() {
-        let before = if done && moment == disk.now() { new } else { old };
+        let before = if done && moment == disk.now() {
+            new
+        } else {
+            old
+        };
         if !images_have(alloc, disk, moment, before, new)? {
             return Ok(Some(moment));
         }
@@ -83,7 +87,11 @@ fn other_moment(
 // Units of one change, the files that it makes of two units, and how many calls it makes.
 const GROUPS: &[(&[(File, u16, u8)], Both, u64)] = &[
     (&[(File::Pkg, 0, 7)], (&[7, 2], &[]), 15),
-    (&[(File::Idx, 1, 9), (File::Pkg, 0, 7)], (&[7, 2], &[0, 9]), 18),
+    (
+        &[(File::Idx, 1, 9), (File::Pkg, 0, 7)],
+        (&[7, 2], &[0, 9]),
+        18,
+    ),
 ];
 
 // The first failing call, and the first moment, at which a change is neither whole nor absent. 0 is no call.
@@ -158,10 +166,7 @@ const LOGGED: [u8; 128] = [
 ];
 
 // Writes units on an empty disk as one change. Gives whether that went, the moment then, and the disk.
-fn written(
-    alloc: Global,
-    units: &[(File, u16, u8)],
-) -> Result<(bool, u64, MemDisk), AllocError> {
+fn written(alloc: Global, units: &[(File, u16, u8)]) -> Result<(bool, u64, MemDisk), AllocError> {
     let (disk, done) = write_units(alloc, MemDisk::new(alloc, &[], &[], &[])?, units);
     Ok((done, disk.now(), disk))
 }
@@ -191,6 +196,9 @@ fn ten_thousand_runs_are_one_change(rt: HostRuntime) -> Result<(), AllocError> {
     }
     let (done, moments, disk) = written(rt.alloc(), &units)?;
     let length = disk.copy_file(rt.alloc(), File::Pkg)?.len();
-    assert_eq!(rt; (done, moments, length), (true, 3 + 3 * 10_000 + 2 + 5, 16 * 19_999));
+    assert_eq!(rt;
+        (done, moments, length),
+        (true, 3 + 3 * 10_000 + 2 + 5, 16 * 19_999)
+    );
     Ok(())
 }

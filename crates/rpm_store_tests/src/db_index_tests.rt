@@ -59,7 +59,10 @@ fn an_index_is_made_where_it_is_not_current(rt: HostRuntime) -> Result<(), Alloc
     let mut disk = PlainDisk::new(alloc, seven(alloc)?);
     let found = (named(alloc, &mut disk), disk.read);
     let is_made = made.len() == 448 && made.starts_with(&SEAL);
-    assert_eq!(rt; (other, is_made, found), (None, true, (Some((5, 21, 0)), 4096 + 1168)));
+    assert_eq!(rt;
+        (other, is_made, found),
+        (None, true, (Some((5, 21, 0)), 4096 + 1168))
+    );
     Ok(())
 }
 

@@ -51,11 +51,7 @@ const OF_THREE: &[(Kind, &[u8], Tally)] = &[
 ];
 
 // The first row whose key is found otherwise.
-fn other_key(
-    alloc: Global,
-    disk: &mut PlainDisk,
-    rows: &[(Kind, &[u8], Tally)],
-) -> Option<usize> {
+fn other_key(alloc: Global, disk: &mut PlainDisk, rows: &[(Kind, &[u8], Tally)]) -> Option<usize> {
     for (row, &(kind, key, found)) in rows.iter().enumerate() {
         if find(alloc, disk, kind, key) != Ok(found) {
             return Some(row);

@@ -118,12 +118,7 @@ pub fn header_of<D: Disk>(
 }
 
 // The same of the bytes that a header is read from.
-fn whole_of(
-    alloc: Global,
-    disk: &mut PlainDisk,
-    n: u32,
-    bytes: &[u8],
-) -> (Option<GetFault>, bool) {
+fn whole_of(alloc: Global, disk: &mut PlainDisk, n: u32, bytes: &[u8]) -> (Option<GetFault>, bool) {
     let Ok(db) = Db::open_unindexed(alloc, disk) else {
         return (None, false);
     };
@@ -170,7 +165,13 @@ fn said(
 ) -> Result<(bool, u32, Option<u32>, Option<u32>, u64), DbOpenFault> {
     let db = Db::open_unindexed(alloc, disk)?;
     let numbers = (db.next_above(2), db.next_above(7));
-    Ok((db.is_blank(), db.next_number(), numbers.0, numbers.1, disk.read))
+    Ok((
+        db.is_blank(),
+        db.next_number(),
+        numbers.0,
+        numbers.1,
+        disk.read,
+    ))
 }
 
 /// A database with its index, or without.
@@ -215,19 +216,33 @@ fn a_database_is_blank_or_damaged(rt: HostRuntime) -> Result<(), AllocError> {
     let mut none = PlainDisk::new(alloc, Vec::new(alloc));
     let mut zeros = PlainDisk::new(alloc, Vec::from_slice(alloc, &[0; 32])?);
     let mut ones = PlainDisk::new(alloc, Vec::from_slice(alloc, &[1; 16])?);
-    let blank = (said(alloc, &mut none), kept(alloc, &mut none, true), said(alloc, &mut zeros));
+    let blank = (
+        said(alloc, &mut none),
+        kept(alloc, &mut none, true),
+        said(alloc, &mut zeros),
+    );
     let mut failing = MemDisk::new(alloc, &[0; 32], &[], &[])?;
     failing.fail_call(1)?;
     let damage = Damage {
         reason: Reason::BadMagic,
         offset: 0,
     };
-    let faults = (said(alloc, &mut ones).err(), Db::open_unindexed(alloc, &mut failing).err());
+    let faults = (
+        said(alloc, &mut ones).err(),
+        Db::open_unindexed(alloc, &mut failing).err(),
+    );
     assert_eq!(rt;
         (blank, faults),
         (
-            (Ok((true, 1, None, None, 0)), Some((false, false)), Ok((true, 1, None, None, 16))),
-            (Some(DbOpenFault::Damaged(damage)), Some(DbOpenFault::DiskFault))
+            (
+                Ok((true, 1, None, None, 0)),
+                Some((false, false)),
+                Ok((true, 1, None, None, 16))
+            ),
+            (
+                Some(DbOpenFault::Damaged(damage)),
+                Some(DbOpenFault::DiskFault)
+            )
         )
     );
     Ok(())

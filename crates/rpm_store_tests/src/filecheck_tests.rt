@@ -49,7 +49,10 @@ const CONFLICTS: &[(&[u8], &[Row])] = &[
     (b"pgq", &[(b"/f", 1, 3, true, false, false)]),
     (
         b"ppq",
-        &[(b"/f", 1, 3, true, false, false), (b"/f", 2, 3, true, false, false)],
+        &[
+            (b"/f", 1, 3, true, false, false),
+            (b"/f", 2, 3, true, false, false),
+        ],
     ),
     // two directories, and one with a file
     (b"fc", &[]),
@@ -57,7 +60,10 @@ const CONFLICTS: &[(&[u8], &[Row])] = &[
     (b"fcf", &[]),
     (
         b"fcp",
-        &[(b"/f", 1, 3, false, true, false), (b"/f", 2, 3, true, true, true)],
+        &[
+            (b"/f", 1, 3, false, true, false),
+            (b"/f", 2, 3, true, true, true),
+        ],
     ),
     (b"pk", &[(b"/f", 1, 2, true, true, true)]),
     // the first place of a path counts; no digest at all, one too few, a mode of another class
@@ -65,7 +71,10 @@ const CONFLICTS: &[(&[u8], &[Row])] = &[
     (b"vd", &[]),
     (
         b"wv",
-        &[(b"/f", 1, 2, true, false, false), (b"/g", 1, 2, true, false, false)],
+        &[
+            (b"/f", 1, 2, true, false, false),
+            (b"/g", 1, 2, true, false, false),
+        ],
     ),
     (b"pd", &[(b"/f", 1, 2, false, true, false)]),
 ];

@@ -75,7 +75,10 @@ pub fn header(alloc: Global, entries: &[Entry<'_>]) -> Result<Vec<u8>, AllocErro
     for entry in entries {
         push_entry(&mut blob, &mut data, entry)?;
     }
-    let counts = [(entries.len() & 0xffff) as u16, (data.len() & 0xffff) as u16];
+    let counts = [
+        (entries.len() & 0xffff) as u16,
+        (data.len() & 0xffff) as u16,
+    ];
     change(&mut blob, 2, &counts[0].to_be_bytes());
     change(&mut blob, 6, &counts[1].to_be_bytes());
     blob.extend_from_slice(&data)?;
@@ -114,7 +117,11 @@ pub fn generated(alloc: Global, i: u32) -> Result<Vec<u8>, AllocError> {
 }
 
 /// Adds a unit of four bytes and three numbers.
-pub fn push_unit(bytes: &mut Vec<u8>, front: &[u8; 4], numbers: [u32; 3]) -> Result<(), AllocError> {
+pub fn push_unit(
+    bytes: &mut Vec<u8>,
+    front: &[u8; 4],
+    numbers: [u32; 3],
+) -> Result<(), AllocError> {
     bytes.extend_from_slice(front)?;
     for number in numbers {
         bytes.extend_from_slice(&number.to_le_bytes())?;

@@ -34,8 +34,10 @@ pub type Both = (&'static [u8], &'static [u8]);
 
 /// Whether a disk has these.
 pub fn has_both(alloc: Global, disk: &MemDisk, (pkg, idx): Both) -> Result<bool, AllocError> {
-    Ok(is_units(&disk.copy_file(alloc, File::Pkg)?, pkg)
-        && is_units(&disk.copy_file(alloc, File::Idx)?, idx))
+    Ok(
+        is_units(&disk.copy_file(alloc, File::Pkg)?, pkg)
+            && is_units(&disk.copy_file(alloc, File::Idx)?, idx),
+    )
 }
 
 // How many units an overlay over a disk holds, and the disk.
@@ -114,9 +116,11 @@ fn is_wrong_at(alloc: Global, disk: MemDisk, unit: u64, files: Both) -> Result<b
     let mut disk = disk;
     let recovered = recover(&mut disk);
     let (loaded, disk) = load(alloc, disk);
-    Ok(recovered == Err(RecoverFault::BadLog { unit })
-        && loaded == Err(LoadFault::BadLog { unit })
-        && has_both(alloc, &disk, files)?)
+    Ok(
+        recovered == Err(RecoverFault::BadLog { unit })
+            && loaded == Err(LoadFault::BadLog { unit })
+            && has_both(alloc, &disk, files)?,
+    )
 }
 
 // The first row whose log is told otherwise.

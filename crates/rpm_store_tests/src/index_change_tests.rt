@@ -16,10 +16,16 @@ fn void<D: Disk>(disk: &mut D) -> bool {
 
 // Makes the index of each generation up to this one: of `a`, then of `b` in place, then of nothing from scratch, which is voided.
 fn written(alloc: Global, disk: &mut MemDisk, last: u32) -> Result<bool, AllocError> {
-    let (a, b, none) = (rows_of(alloc, &[b"a"])?, rows_of(alloc, &[b"b"])?, Rows::new(alloc));
-    Ok(rewrite(alloc, disk, &a, 1)
-        && (last < 2 || change_rows(alloc, disk, &a, &b, 2))
-        && (last < 3 || (change_rows(alloc, disk, &b, &none, 3) && void(disk))))
+    let (a, b, none) = (
+        rows_of(alloc, &[b"a"])?,
+        rows_of(alloc, &[b"b"])?,
+        Rows::new(alloc),
+    );
+    Ok(
+        rewrite(alloc, disk, &a, 1)
+            && (last < 2 || change_rows(alloc, disk, &a, &b, 2))
+            && (last < 3 || (change_rows(alloc, disk, &b, &none, 3) && void(disk))),
+    )
 }
 
 // How often the index has the keys `a` and `b` at each generation.
@@ -51,12 +57,7 @@ const PICKS: &[Pick] = &[
 ];
 
 // Whether each image of a moment agrees with this generation.
-fn images_agree(
-    alloc: Global,
-    disk: &MemDisk,
-    moment: u64,
-    last: u32,
-) -> Result<bool, AllocError> {
+fn images_agree(alloc: Global, disk: &MemDisk, moment: u64, last: u32) -> Result<bool, AllocError> {
     for pick in PICKS {
         if moment > disk.now() {
             return Ok(false);
@@ -110,11 +111,7 @@ fn key_of(k: u32) -> (u8, [u8; 4]) {
 }
 
 // The rows of these places, all of one number.
-fn numbered(
-    alloc: Global,
-    (from, to): (u32, u32),
-    number: u32,
-) -> Result<Rows, AllocError> {
+fn numbered(alloc: Global, (from, to): (u32, u32), number: u32) -> Result<Rows, AllocError> {
     let mut rows = Rows::new(alloc);
     for k in from..to {
         let (kind, key) = key_of(k);

@@ -79,7 +79,11 @@ fn other_fault(alloc: Global) -> Result<Option<(usize, u8)>, AllocError> {
         let fault = Some(PrepareFault::BadIndex { unit });
         let front = if is_met { fault } else { None };
         if (found, dropped, passed)
-            != (Err(Some(FindFault::BadIndex { unit })), Some(fault), Some(front))
+            != (
+                Err(Some(FindFault::BadIndex { unit })),
+                Some(fault),
+                Some(front),
+            )
         {
             return Ok(Some((at, byte)));
         }

@@ -7,7 +7,12 @@ use std::alloc::{AllocError, Global};
 
 // The index of one package with the one key `a` of kind 1, sealed at 2: its units that aren't zeros, each with its place.
 const SEALED: &[(usize, [u8; 16])] = &[
-    (0, [0x52, 0x70, 0x6d, 0x48, 2, 0, 0, 0, 2, 0, 0, 0, 0x40, 0, 0, 0]),
+    (
+        0,
+        [
+            0x52, 0x70, 0x6d, 0x48, 2, 0, 0, 0, 2, 0, 0, 0, 0x40, 0, 0, 0,
+        ],
+    ),
     (16, [0x14, 0, 0, 0, 1, 0, 0, 0, 2, 0, 0, 0, 0, 0, 0, 0]),
     (112, [0, 0, 0, 0, 0, 0, 0, 0, 0, 0, 0, 0, 0x12, 0, 0, 0]),
     (288, [0, 0, 0, 0, 1, 0, 0, 0x10, 1, 0, 0, 0, 0, 0, 0, 0]),
@@ -118,8 +123,15 @@ fn the_index_of_one_key_has_these_bytes(rt: HostRuntime) -> Result<(), AllocErro
     let before = count(alloc, &mut disk, 0, b"a");
     let goes = rewrite(alloc, &mut disk, &rows_of(alloc, &[b"a"])?, 2);
     let is_right = disk.copy_file(alloc, File::Idx)? == sealed_file(alloc, 320)?;
-    let found = (count(alloc, &mut disk, 2, b"a"), count(alloc, &mut disk, 1, b"a"));
-    let sizes = (index_units(0, 0), index_units(128, 256), index_units(129, 258));
+    let found = (
+        count(alloc, &mut disk, 2, b"a"),
+        count(alloc, &mut disk, 1, b"a"),
+    );
+    let sizes = (
+        index_units(0, 0),
+        index_units(128, 256),
+        index_units(129, 258),
+    );
     assert!(rt;
         (before, goes, is_right, found, sizes)
             == (Err(None), true, true, (Ok(1), Err(None)), (18, 274, 292))

@@ -12,6 +12,8 @@ mod db_index_tests;
 #[cfg(test)]
 mod db_key_tests;
 #[cfg(test)]
+mod db_stop_tests;
+#[cfg(test)]
 mod db_tests;
 #[cfg(test)]
 mod filecheck_tests;

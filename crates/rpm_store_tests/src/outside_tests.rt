@@ -54,7 +54,12 @@ fn other_image(alloc: Global, disk: &MemDisk) -> Result<Option<usize>, AllocErro
 fn a_stop_leaves_old_or_new_units(rt: HostRuntime) -> Result<(), AllocError> {
     let disk = written(rt.alloc())?;
     let other = other_image(rt.alloc(), &disk)?;
-    let counts = (disk.now(), disk.faults(), disk.starved(), disk.bytes_read(File::Pkg));
+    let counts = (
+        disk.now(),
+        disk.faults(),
+        disk.starved(),
+        disk.bytes_read(File::Pkg),
+    );
     assert_eq!(rt; (other, counts), (None, (3, 0, 0, 0)));
     Ok(())
 }
@@ -70,7 +75,12 @@ fn a_named_call_fails_and_writes_the_first_half(rt: HostRuntime) -> Result<(), A
     let read = disk.read_at(File::Idx, 0, &mut unit);
     let none = disk.write_at(File::Idx, 9, &unit);
     let left = disk.copy_file(rt.alloc(), File::Idx)?;
-    let counts = (disk.now(), disk.faults(), disk.bytes_read(File::Idx), disk.bytes_read(File::Log));
+    let counts = (
+        disk.now(),
+        disk.faults(),
+        disk.bytes_read(File::Idx),
+        disk.bytes_read(File::Log),
+    );
     let bytes = unit == [2; 16] && is_units(&left, &[2, 1]);
     assert_eq!(rt;
         (units, half, read, none, bytes, counts),

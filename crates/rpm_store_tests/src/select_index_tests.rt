@@ -65,7 +65,11 @@ fn other_broken(alloc: Global) -> Result<Option<usize>, AllocError> {
         let Some(selection) = selection(letter, text) else {
             return Ok(Some(row));
         };
-        let told = if unit == 0 { Ok(()) } else { Err(PickFault::BadIndex { unit }) };
+        let told = if unit == 0 {
+            Ok(())
+        } else {
+            Err(PickFault::BadIndex { unit })
+        };
         let is_right = begun(alloc, &mut disk, &selection, true) == Some(told)
             && begun(alloc, &mut disk, &selection, false) == Some(Ok(()));
         if !is_right {

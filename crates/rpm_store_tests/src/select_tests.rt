@@ -110,13 +110,7 @@ fn picks_of(numbers: &[u32]) -> Picks {
 }
 
 // Whether a question picks these numbers, without an index and with one.
-fn is_right(
-    alloc: Global,
-    disk: &mut PlainDisk,
-    letter: u8,
-    text: &str,
-    numbers: &[u32],
-) -> bool {
+fn is_right(alloc: Global, disk: &mut PlainDisk, letter: u8, text: &str, numbers: &[u32]) -> bool {
     let Some(selection) = selection(letter, text) else {
         return false;
     };

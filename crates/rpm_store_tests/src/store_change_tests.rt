@@ -116,7 +116,9 @@ const TAKEN_AGAIN: &[(usize, [u32; 4])] = &[
 fn a_freed_slot_and_freed_blocks_are_taken_again(rt: HostRuntime) -> Result<(), AllocError> {
     let alloc = rt.alloc();
     let mut disk = filled(alloc, 3)?;
-    let goes = raise(alloc, &mut disk) && erase(alloc, &mut disk, 2) && add(alloc, &mut disk, &PLAIN);
+    let goes = raise(alloc, &mut disk)
+        && erase(alloc, &mut disk, 2)
+        && add(alloc, &mut disk, &PLAIN);
     let left = left(alloc, &disk, TAKEN_AGAIN)?;
     assert_eq!(rt; (goes, left), (true, (None, 256 + 3 * 7)));
     Ok(())
@@ -245,7 +247,11 @@ fn put_at_the_end(
     length: usize,
 ) -> Result<(Option<Result<u32, PlanFault>>, u64), AllocError> {
     let mut file = Draft::new(alloc, 1, 2).finish(alloc, next)?;
-    change(&mut file, 36, &[2, 0, 0, 0, 0, 1, 0, 0, 0xf2, 0xfe, 0xff, 0x0f]);
+    change(
+        &mut file,
+        36,
+        &[2, 0, 0, 0, 0, 1, 0, 0, 0xf2, 0xfe, 0xff, 0x0f],
+    );
     change(&mut file, 52, &[1, 0, 0, 0, 0xf2, 0xff, 0xff, 0x0f, 7]);
     let mut disk = PlainDisk::new(alloc, file);
     disk.long = Some(File::Pkg);

@@ -52,7 +52,12 @@ const DAMAGES: &[(Patch<'static>, Patch<'static>, Reason, u64)] = &[
     ((40, &[0xff, 0]), NOTHING, Reason::BadRange, 40),
     ((44, ZERO), NOTHING, Reason::BadRange, 40),
     ((44, NINE), NOTHING, Reason::BadRange, 40),
-    ((44, &[6]), (52, &[1, 0, 0, 0, 6, 1, 0, 0, 1]), Reason::SameNumber, 52),
+    (
+        (44, &[6]),
+        (52, &[1, 0, 0, 0, 6, 1, 0, 0, 1]),
+        Reason::SameNumber,
+        52,
+    ),
     ((52, LAST), NOTHING, Reason::Overlap, 56),
     // in unit 0, then the slots
     ((0, ZERO), (4, NINE), Reason::BadMagic, 0),

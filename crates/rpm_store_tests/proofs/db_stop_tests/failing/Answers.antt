@@ -1,4 +1,4 @@
-use Rattle.rpm_store_tests.proofs.db_change_tests.failing.Goals as goal
+use Rattle.rpm_store_tests.proofs.db_stop_tests.failing.Goals as goal
 
 pub put-requires-clause-serving : goal.put-requires-clause-serving
 put-requires-clause-serving c = λ going told.
