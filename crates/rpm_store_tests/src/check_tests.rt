@@ -3,7 +3,8 @@
 use crate::db_tests::open;
 use crate::packages::store_from_one;
 use crate::plain_disk::PlainDisk;
-use rpm_check::{read_graph, unmet};
+use rpm_check::{givers, is_met, read_graph, unmet};
+use rpm_tags::Dependency;
 use std::alloc::{AllocError, Global};
 
 // Whether exactly these requirements, each a number and a place, are unmet.
@@ -120,6 +121,50 @@ fn other_graph(alloc: Global) -> Result<Option<usize>, AllocError> {
 #[test]
 fn packages_require_each_other(rt: HostRuntime) -> Result<(), AllocError> {
     let other = other_graph(rt.alloc())?;
+    assert_eq!(rt; other, None);
+    Ok(())
+}
+
+// Whether a requirement is met, and whether exactly these numbers meet it.
+fn is_given(
+    alloc: Global,
+    disk: &mut PlainDisk,
+    needed: &Dependency<'_>,
+    numbers: &[u32],
+) -> Option<(bool, bool)> {
+    let db = open(alloc, disk, true)?;
+    let is_met = is_met(alloc, &db, disk, needed).ok()?;
+    let givers = givers(alloc, &db, disk, needed).ok()?;
+    Some((is_met, givers.as_slice() == numbers))
+}
+
+// A requirement's name, flags and version, and who of `bnel` meets it.
+const GIVEN: &[(&[u8], u64, &[u8], &[u32])] = &[
+    (b"libx", 0, b"", &[3, 4]),
+    (b"libx", 12, b"1.0", &[4]),
+    (b"/usr/bin/sh", 0, b"", &[1]),
+    (b"nosuch", 0, b"", &[]),
+];
+
+// The first requirement that is met otherwise.
+fn other_given(alloc: Global, disk: &mut PlainDisk) -> Option<usize> {
+    for (row, &(name, flags, version, numbers)) in GIVEN.iter().enumerate() {
+        let needed = Dependency {
+            name,
+            flags,
+            version,
+        };
+        if is_given(alloc, disk, &needed, numbers) != Some((!numbers.is_empty(), true)) {
+            return Some(row);
+        }
+    }
+    None
+}
+
+#[test]
+fn a_requirement_is_met(rt: HostRuntime) -> Result<(), AllocError> {
+    let mut disk = PlainDisk::new(rt.alloc(), store_from_one(rt.alloc(), b"bnel")?);
+    let other = other_given(rt.alloc(), &mut disk);
     assert_eq!(rt; other, None);
     Ok(())
 }

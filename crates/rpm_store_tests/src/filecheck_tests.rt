@@ -1,9 +1,10 @@
 //! The paths that several packages own and that differ.
 
 use crate::db_tests::open;
-use crate::packages::store_from_one;
+use crate::packages::{package, store_from_one};
 use crate::plain_disk::PlainDisk;
-use rpm_filecheck::{Conflict, ConflictList, conflicts};
+use rpm_filecheck::{Conflict, ConflictList, conflicts, label_of};
+use rpm_header::View;
 use std::alloc::{AllocError, Global};
 
 // What is reported of these packages, and how many bytes were read for it.
@@ -96,16 +97,25 @@ fn each_two_owners_are_compared(rt: HostRuntime) -> Result<(), AllocError> {
     Ok(())
 }
 
+// Whether a header has this label.
+fn is_label(alloc: Global, header: &[u8], label: &[u8]) -> Result<bool, AllocError> {
+    match View::parse(header) {
+        Ok(view) => Ok(label_of(alloc, &view, 1)?.as_slice() == label),
+        Err(_) => Ok(false),
+    }
+}
+
 #[test]
 fn a_report_names_what_cannot_be_read(rt: HostRuntime) -> Result<(), AllocError> {
     let (report, read) = reported(rt.alloc(), b"bxs")?;
     let labels = report.label(1) == b"bash-5.1-2.x86_64".as_slice()
         && report.label(3) == b"bash2-5.1-2.x86_64".as_slice();
     let is_bad = report.bad() == [2].as_slice();
+    let is_own = is_label(rt.alloc(), &package(rt.alloc(), b'b')?, b"bash-5.1-2.x86_64")?;
     // the slot page, and 25, 3 and 14 blocks
     assert_eq!(rt;
-        (report.len(), is_bad, labels, read),
-        (1, true, true, 4096 + 42 * 16)
+        (report.len(), is_bad, labels, is_own, read),
+        (1, true, true, true, 4096 + 42 * 16)
     );
     Ok(())
 }

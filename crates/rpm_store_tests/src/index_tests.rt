@@ -107,7 +107,7 @@ pub fn count<D: Disk>(
 
 /// A row of each of these keys, which are of kind 1.
 pub fn rows_of(alloc: Global, keys: &[&[u8]]) -> Result<Rows, AllocError> {
-    let mut rows = Rows::new(alloc);
+    let mut rows = Rows::with_room(alloc, keys.len(), 100)?;
     for key in keys {
         if key.len() < 100 {
             rows.push(1, key, 1, 0)?;
@@ -154,7 +154,7 @@ const KEYS: &[(&[u8], [usize; 4])] = &[
 fn push_times(rows: &mut Rows, key: &[u8], times: usize) -> Result<(), AllocError> {
     if key.len() < 100 {
         for _ in 0..times {
-            rows.push(1, key, 3, 4)?;
+            rows.add(1, key, 3, 4)?;
         }
     }
     Ok(())
