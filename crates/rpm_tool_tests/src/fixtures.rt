@@ -60,14 +60,11 @@ pub fn database(alloc: Global) -> Result<Vec<u8>, AllocError> {
 
 /// A log of one entry, which is that Packages.db from its first unit on: 263 of them.
 pub fn log(alloc: Global) -> Result<Vec<u8>, AllocError> {
-    joined(
-        alloc,
-        &[
-            b"RpmL\x01\0\0\0\x01\0\0\0\x08\x01\0\0",
-            b"\x01\0\0\0\0\0\0\0\x07\x01\0\0\0\0\0\0",
-            &database(alloc)?,
-        ],
-    )
+    let mut log = Vec::new(alloc);
+    log.extend_from_slice(b"RpmL\x01\0\0\0\x01\0\0\0\x08\x01\0\0")?;
+    log.extend_from_slice(b"\x01\0\0\0\0\0\0\0\x07\x01\0\0\0\0\0\0")?;
+    log.extend_from_slice(&database(alloc)?)?;
+    Ok(log)
 }
 
 /// The same bytes but these, from a place on.

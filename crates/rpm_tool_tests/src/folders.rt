@@ -153,7 +153,8 @@ fn a_group_is_finished_over_a_partial_unit(rt: HostRuntime) -> Result<(), Fail> 
     let mut are_mended = true;
     for length in 0..16usize {
         let torn = &START[..length];
-        let longer = joined(alloc, &[&whole, torn])?;
+        let mut longer = whole.as_slice().to_vec(alloc)?;
+        longer.extend_from_slice(torn)?;
         are_mended = are_mended
             && is_mended(&rt, (torn, ZEROS, "rpmdb --initdb", b""))?
             && is_mended(&rt, (torn, &pending, "rpm -q a", one))?
