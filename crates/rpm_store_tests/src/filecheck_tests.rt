@@ -111,7 +111,11 @@ fn a_report_names_what_cannot_be_read(rt: HostRuntime) -> Result<(), AllocError>
     let labels = report.label(1) == b"bash-5.1-2.x86_64".as_slice()
         && report.label(3) == b"bash2-5.1-2.x86_64".as_slice();
     let is_bad = report.bad() == [2].as_slice();
-    let is_own = is_label(rt.alloc(), &package(rt.alloc(), b'b')?, b"bash-5.1-2.x86_64")?;
+    let is_own = is_label(
+        rt.alloc(),
+        &package(rt.alloc(), b'b')?,
+        b"bash-5.1-2.x86_64",
+    )?;
     // the slot page, and 25, 3 and 14 blocks
     assert_eq!(rt;
         (report.len(), is_bad, labels, is_own, read),

@@ -1,5 +1,7 @@
 //! The index: what a stop and a fault leave of it, and where it is changed in place or made from scratch.
 
+ghost use Rattle.std.specs.Prelude.{◌≤◌};
+
 use crate::fixtures::change;
 use crate::index_tests::{change_rows, count, find, rewrite, rows_of, sealed_file};
 use crate::plain_disk::PlainDisk;
@@ -106,7 +108,9 @@ fn each_call_stops_and_fails_in_turn(rt: HostRuntime) -> Result<(), AllocError> 
 }
 
 // The kind and the key of row k.
-fn key_of(k: u32) -> (u8, [u8; 4]) {
+fn key_of(k: u32) -> (u8, [u8; 4])
+    ensures { (1 ≤ result.0) × (result.0 ≤ 3) }
+{
     (1 + (k % 3) as u8, (k / 2).to_be_bytes())
 }
 
