@@ -108,35 +108,56 @@ fn check_rebuilt(
     Err(differs(line, text))
 }
 
-/// That the records are as is expected.
-fn check_records(alloc: Global, at: &LeftAt, row: &Row, files: &Files) -> Result<(), Stop> {
+/// That a file is as is expected, where this is said of one.
+fn check_file(alloc: Global, at: &LeftAt, files: &Files) -> Result<(), Stop> {
+    match &at.left {
+        Left::Bytes(file, bytes) => {
+            same_file(alloc, at.line, file_name(*file), bytes, files.bytes(*file))
+        }
+        Left::Digest(file, digest) => {
+            check_digest(alloc, at.line, *file, digest, files.bytes(*file))
+        }
+        _ => Ok(()),
+    }
+}
+
+/// That the records are as is expected, where this is said of them.
+fn check_records(
+    alloc: Global,
+    at: &LeftAt,
+    row: &Row,
+    files: &Files,
+    records: &[Record],
+) -> Result<(), Stop> {
     let line = at.line;
+    match &at.left {
+        Left::Bytes(..) | Left::Digest(..) => Ok(()),
+        Left::Records(count) => same_numbers(alloc, line, "records", *count, records.len() as u64),
+        Left::Record(expected) => check_record(alloc, line, expected, records),
+        Left::AllOf(number) => check_all_of(alloc, line, *number, row, records),
+        Left::AsRebuilt => check_rebuilt(alloc, line, files, records),
+    }
+}
+
+/// That the index is well formed, and its records as is expected.
+fn check_index(alloc: Global, row: &Row, files: &Files) -> Result<(), Stop> {
     let Some(records) = records_of(alloc, &files.index)? else {
         let text = String::from_str(alloc, "index: expected records, came a malformed index");
-        return Err(differs(line, text));
+        return Err(differs(row.line, text));
     };
-    match &at.left {
-        Left::Records(count) => {
-            same_numbers(alloc, line, "records", *count, records.len() as u64)
-        }
-        Left::Record(expected) => check_record(alloc, line, expected, &records),
-        Left::AllOf(number) => check_all_of(alloc, line, *number, row, &records),
-        _ => check_rebuilt(alloc, line, files, &records),
+    for at in row.left.iter() {
+        check_records(alloc, at, row, files, &records)?;
     }
+    Ok(())
 }
 
 /// That all is left as is expected.
 pub fn check_left(alloc: Global, row: &Row, files: &Files) -> Result<(), Stop> {
     for at in row.left.iter() {
-        match &at.left {
-            Left::Bytes(file, bytes) => {
-                same_file(alloc, at.line, file_name(*file), bytes, files.bytes(*file))?;
-            }
-            Left::Digest(file, digest) => {
-                check_digest(alloc, at.line, *file, digest, files.bytes(*file))?;
-            }
-            _ => check_records(alloc, at, row, files)?,
-        }
+        check_file(alloc, at, files)?;
+    }
+    if row.left.iter().any(|at| at.left.is_of_records()) {
+        return check_index(alloc, row, files);
     }
     Ok(())
 }

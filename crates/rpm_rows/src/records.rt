@@ -51,14 +51,33 @@ fn key_at(index: &[u8], unit: u32, word: u32) -> Option<&[u8]> {
     index.get(behind..)?.get(..length)
 }
 
-/// The numbers of the record that begins at a unit: next, word, number and place.
-fn head_at(index: &[u8], unit: u32) -> Option<[u32; 4]> {
-    Some([
-        number_at(index, unit, 0)?,
-        number_at(index, unit, 1)?,
-        number_at(index, unit, 2)?,
-        number_at(index, unit, 3)?,
-    ])
+/// The first unit of a record.
+#[derive(Clone, Copy)]
+struct Head {
+    next: u32,
+    word: u32,
+    number: u32,
+    place: u32,
+}
+
+/// The first unit of the record that begins there.
+fn head_at(index: &[u8], unit: u32) -> Option<Head> {
+    Some(Head {
+        next: number_at(index, unit, 0)?,
+        word: number_at(index, unit, 1)?,
+        number: number_at(index, unit, 2)?,
+        place: number_at(index, unit, 3)?,
+    })
+}
+
+/// The record of a head and a key.
+fn record_of(alloc: Global, head: Head, key: &[u8]) -> Result<Record, AllocError> {
+    Ok(Record {
+        number: head.number,
+        kind: head.word >> 28,
+        key: key.to_vec(alloc)?,
+        place: head.place,
+    })
 }
 
 /// Adds the record that begins at a unit, and gives the unit of the next one in its chain. None where the record is cut off.
@@ -68,19 +87,15 @@ fn push_record(
     unit: u32,
     records: &mut Vec<Record>,
 ) -> Result<Option<u32>, AllocError> {
-    let Some([next, word, number, place]) = head_at(index, unit) else {
+    let Some(head) = head_at(index, unit) else {
         return Ok(None);
     };
-    let Some(key) = key_at(index, unit, word) else {
+    let Some(key) = key_at(index, unit, head.word) else {
         return Ok(None);
     };
-    records.push(Record {
-        number,
-        kind: word >> 28,
-        key: key.to_vec(alloc)?,
-        place,
-    })?;
-    Ok(Some(next))
+    let record = record_of(alloc, head, key)?;
+    records.push(record)?;
+    Ok(Some(head.next))
 }
 
 /// Adds the records of a chain, up to so many in all. Whether the chain is well formed, and there was room for them.

@@ -170,6 +170,13 @@ pub enum Left {
     AsRebuilt,
 }
 
+impl Left {
+    /// Whether it is said of the records of the index.
+    pub fn is_of_records(&self) -> bool {
+        !matches!(self, Left::Bytes(..) | Left::Digest(..))
+    }
+}
+
 /// An expectation of that kind, and the line that says it.
 #[derive(Drop)]
 pub struct LeftAt {
