@@ -30,6 +30,14 @@ fn used_with(alloc: Global, ranges: &[(u32, u32)]) -> Result<Option<Used>, Alloc
     Ok(Some(used))
 }
 
+/// The least place in a set that was made.
+fn fit(used: &Option<Used>, count: u32, from: u32) -> Option<Option<u32>> {
+    match used {
+        Some(used) if count > 0 => Some(used.first_fit(count, from)),
+        _ => None,
+    }
+}
+
 // Two ranges that touch, a gap of four blocks, a range, a gap of six, a range.
 const GAPS: &[(u32, u32)] = &[(256, 10), (274, 6), (286, 14), (266, 4)];
 
@@ -68,11 +76,8 @@ const PLACES: &[(&[(u32, u32)], u32, u32, Option<u32>)] = &[
 fn least_places_are_found(rt: HostRuntime) -> Result<(), AllocError> {
     let mut differing = None;
     for &(ranges, count, from, place) in PLACES {
-        let found = match used_with(rt.alloc(), ranges)? {
-            Some(used) if count > 0 => Some(used.first_fit(count, from)),
-            _ => None,
-        };
-        if found != Some(place) {
+        let used = used_with(rt.alloc(), ranges)?;
+        if fit(&used, count, from) != Some(place) {
             differing = Some((count, from));
         }
     }
@@ -118,11 +123,8 @@ const REMOVALS: &[(&[(u32, u32)], u32, u32, u32, u32)] = &[
 fn what_is_removed_is_free(rt: HostRuntime) -> Result<(), AllocError> {
     let mut differing = None;
     for &(ranges, start, length, count, place) in REMOVALS {
-        let found = match used_without(rt.alloc(), ranges, start, length)? {
-            Some(used) if count > 0 => used.first_fit(count, 256),
-            _ => None,
-        };
-        if found != Some(place) {
+        let used = used_without(rt.alloc(), ranges, start, length)?;
+        if fit(&used, count, 256) != Some(Some(place)) {
             differing = Some((start, count));
         }
     }
@@ -140,9 +142,11 @@ fn an_import_takes_place_after_place(rt: HostRuntime) -> Result<(), AllocError> 
             differing = Some(number);
         }
     }
+    let copy = used.copy_with_room(rt.alloc(), 1)?;
+    let behind = (used.first_fit(1, 256), copy.first_fit(1, 256));
     assert!(rt;
-        differing.is_none() && used.first_fit(1, 256) == Some(800_256),
-        "{differing:?}"
+        differing.is_none() && behind == (Some(800_256), Some(800_256)),
+        "{differing:?} {behind:?}"
     );
     Ok(())
 }

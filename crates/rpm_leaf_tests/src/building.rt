@@ -4,8 +4,10 @@
 ghost use Rattle.std.specs.Prelude.{◌≡◌, ◌∷◌, [], IfOk};
 ghost use Rattle.rpm_header.specs.Build.{IsText};
 
-use crate::fixtures::{INSTALLED, LIBRARY, PLAIN, REGION, SHELL, SNAPSHOT, bytes_of};
-use rpm_header::{BuildFault, Builder, Form, TextList, View, immutable_digest, with_dribbles};
+use crate::fixtures::{
+    INSTALLED, LIBRARY, PLAIN, REGION, REGION_INSTALLED, SHELL, SNAPSHOT, bytes_of,
+};
+use rpm_header::{BuildFault, Builder, Form, TextList, View, with_dribbles};
 use std::alloc::{AllocError, Global};
 
 // An entry of each form, of lengths such that zeros stand before each number that has a width.
@@ -119,17 +121,6 @@ fn entries_are_laid_out(rt: HostRuntime) -> Result<(), AllocError> {
     assert!(rt; differing.is_none(), "{differing:?}");
     Ok(())
 }
-
-// The region with the time and the transaction of its installation behind it.
-const REGION_INSTALLED: &str = "00000007 00000020
-    0000003f 00000007 00000008 00000010
-    000003e8 00000006 00000000 00000001
-    000003e9 00000006 00000002 00000001
-    000003ea 00000006 00000004 00000001
-    000003fe 00000006 00000006 00000001
-    000003f0 00000004 00000018 00000001
-    00000468 00000004 0000001c 00000001
-    61003100 32007800 0000003f 00000007 ffffffb0 00000010 00000005 00000005";
 
 // The library's snapshot with a number, a text and a number of eight bytes behind it.
 const SNAPSHOT_INSTALLED: &str = "0000000a 00000040
@@ -254,49 +245,5 @@ fn bytes_are_refused_exactly_past_their_limit(rt: HostRuntime) -> Result<(), All
     let most = has_length(much.finish(alloc, false), 8 + 16 * 2 + 67_108_864);
     let region = much.finish(alloc, true).err() == Some(BuildFault::TooMuchData);
     assert!(rt; few && most && region, "{few} {most} {region}");
-    Ok(())
-}
-
-// Headers with the SHA-256 of their region as `sha256sum` of coreutils gives it.
-const DIGESTS: &[(&str, &str)] = &[
-    (
-        REGION,
-        "3d0d85fe20030bf49852a9bd894c16eaef3594996b7685ce400298d8bbab7e0d",
-    ),
-    (
-        REGION_INSTALLED,
-        "3d0d85fe20030bf49852a9bd894c16eaef3594996b7685ce400298d8bbab7e0d",
-    ),
-    (
-        "00000002 00000010 0000003f 00000007 00000000 00000010 000003e8 00000000 00000000 00000000
-         0000003f 00000007 fffffff0 00000010",
-        "a751567a298d70b9699c88f6c8948911cd7a41893fb9efea86326eb4888dd14a",
-    ),
-    (PLAIN, ""),
-    (
-        "00000001 00000010 0000003e 00000007 00000000 00000010 0000003e 00000007 fffffff0 00000010",
-        "",
-    ),
-    ("00000000 00000000", ""),
-];
-
-#[test]
-fn regions_are_digested(rt: HostRuntime) -> Result<(), AllocError> {
-    let mut differing = None;
-    for &(hex, want) in DIGESTS {
-        let blob = bytes_of(rt.alloc(), hex)?;
-        let digest = bytes_of(rt.alloc(), want)?;
-        let is_same = match View::parse(&blob) {
-            Ok(view) => match immutable_digest(&view) {
-                Some(bytes) => bytes.as_slice() == digest.as_slice(),
-                None => want.is_empty(),
-            },
-            Err(_) => false,
-        };
-        if !is_same {
-            differing = Some(hex);
-        }
-    }
-    assert!(rt; differing.is_none(), "{differing:?}");
     Ok(())
 }

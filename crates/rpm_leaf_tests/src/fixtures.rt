@@ -30,6 +30,17 @@ pub const INSTALLED: &str = "00000006 00000010
     00000468 00000004 0000000c 00000001
     61003100 32007800 00000005 00000005";
 
+// The region with the time and the transaction of its installation behind it.
+pub const REGION_INSTALLED: &str = "00000007 00000020
+    0000003f 00000007 00000008 00000010
+    000003e8 00000006 00000000 00000001
+    000003e9 00000006 00000002 00000001
+    000003ea 00000006 00000004 00000001
+    000003fe 00000006 00000006 00000001
+    000003f0 00000004 00000018 00000001
+    00000468 00000004 0000001c 00000001
+    61003100 32007800 0000003f 00000007 ffffffb0 00000010 00000005 00000005";
+
 // A package of two files, with what it provides and requires, and a group in one language. The layouts of this one and the next two
 // were made by a program of a few lines in Python, which packs an entry's numbers after filling up with zeros.
 pub const SHELL: &str = "0000000f 00000072

@@ -1,8 +1,8 @@
 //! Headers that are read.
 
 use crate::entries::has_text;
-use crate::fixtures::{INSTALLED, PLAIN, REGION, bytes_of};
-use rpm_header::{HeaderFault, View};
+use crate::fixtures::{INSTALLED, PLAIN, REGION, REGION_INSTALLED, bytes_of};
+use rpm_header::{HeaderFault, View, immutable_digest};
 use std::alloc::{AllocError, Global};
 
 fn has_names(view: &View<'_>) -> bool {
@@ -198,5 +198,49 @@ fn texts_that_entries_share_are_counted(rt: HostRuntime) -> Result<(), AllocErro
     let sound = View::parse(&sharing(rt.alloc(), 128)?).err();
     let unended = View::parse(&sharing(rt.alloc(), 129)?).err();
     assert!(rt; sound.is_none() && unended == Some(HeaderFault::NoEnd(9)));
+    Ok(())
+}
+
+// Headers with the SHA-256 of their region as `sha256sum` of coreutils gives it.
+const DIGESTS: &[(&str, &str)] = &[
+    (
+        REGION,
+        "3d0d85fe20030bf49852a9bd894c16eaef3594996b7685ce400298d8bbab7e0d",
+    ),
+    (
+        REGION_INSTALLED,
+        "3d0d85fe20030bf49852a9bd894c16eaef3594996b7685ce400298d8bbab7e0d",
+    ),
+    (
+        "00000002 00000010 0000003f 00000007 00000000 00000010 000003e8 00000000 00000000 00000000
+         0000003f 00000007 fffffff0 00000010",
+        "a751567a298d70b9699c88f6c8948911cd7a41893fb9efea86326eb4888dd14a",
+    ),
+    (PLAIN, ""),
+    (
+        "00000001 00000010 0000003e 00000007 00000000 00000010 0000003e 00000007 fffffff0 00000010",
+        "",
+    ),
+    ("00000000 00000000", ""),
+];
+
+#[test]
+fn regions_are_digested(rt: HostRuntime) -> Result<(), AllocError> {
+    let mut differing = None;
+    for &(hex, want) in DIGESTS {
+        let blob = bytes_of(rt.alloc(), hex)?;
+        let digest = bytes_of(rt.alloc(), want)?;
+        let is_same = match View::parse(&blob) {
+            Ok(view) => match immutable_digest(&view) {
+                Some(bytes) => bytes.as_slice() == digest.as_slice(),
+                None => want.is_empty(),
+            },
+            Err(_) => false,
+        };
+        if !is_same {
+            differing = Some(hex);
+        }
+    }
+    assert!(rt; differing.is_none(), "{differing:?}");
     Ok(())
 }
