@@ -55,7 +55,8 @@ fn tagged(alloc: Global, parts: &[&str], places: &[(usize, u16)]) -> Result<Vec<
     let mut bytes = joined(alloc, parts)?;
     for &(at, tag) in places {
         let [high, low] = tag.to_be_bytes();
-        if at + 1 < bytes.len() {
+        let length = bytes.len();
+        if length >= 2 && at <= length - 2 {
             bytes[at] = high;
             bytes[at + 1] = low;
         }
