@@ -2,16 +2,19 @@
 use Rattle.std.proofs.Common.{◌≡◌, ◌+◌, ◌-◌, ◌^◌, min, true, false, refl, inl, arith}
 use Rattle.rpm_outside.specs.declared.mem_disk.MemDisk.{MemDisk}
 use Rattle.rpm_outside.specs.Calls.{Call}
-use Rattle.rpm_outside.specs.MemDisk.{mem_first, mem_calls, mem_failing, mem_starved, DiskDid, is_named, FailsWhereNamed}
+use Rattle.rpm_outside.specs.MemDisk.{mem_first, mem_calls, mem_failing, mem_faults, mem_starved, DiskDid, is_named, FailsWhereNamed}
 
 module _ (old new : MemDisk) (call : Call) (counted : mem_calls new ≡ min (mem_calls old + 1) (2 ^ 64 - 1)) (failing : mem_failing new ≡ mem_failing
     old) (first : mem_first new ≡ mem_first old) (starved : mem_starved new ≡ mem_starved old) where
-  pub named_fails : is_named new ≡ true → DiskDid true call old new → FailsWhereNamed old call true new
-  named_fails named did = record {
+  pub named_fails : is_named new ≡ true → mem_faults new ≡ min (mem_faults old + 1) (2 ^ 64 - 1) → DiskDid true call old new
+      → FailsWhereNamed old call true new
+  named_fails named faults did = record {
     counted = counted;
     failing = failing;
     first = first;
+    faults = faults;
     later = omega (arith, starved);
+    by_one = omega (arith, starved);
     named = λ is. refl;
     half = λ is. inl did;
     whole = λ passes. cc;
@@ -19,12 +22,14 @@ module _ (old new : MemDisk) (call : Call) (counted : mem_calls new ≡ min (mem
     cause = λ fails other. cc;
   }
 
-  pub other_passes : is_named new ≡ false → DiskDid false call old new → FailsWhereNamed old call false new
-  other_passes other did = record {
+  pub other_passes : is_named new ≡ false → mem_faults new ≡ mem_faults old → DiskDid false call old new → FailsWhereNamed old call false new
+  other_passes other faults did = record {
     counted = counted;
     failing = failing;
     first = first;
+    faults = faults;
     later = omega (arith, starved);
+    by_one = omega (arith, starved);
     named = λ is. cc;
     half = λ is. cc;
     whole = λ passes. did;

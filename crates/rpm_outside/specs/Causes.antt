@@ -1,9 +1,14 @@
 -- When a count rises, and what may come only where it did.
-use Rattle.std.specs.Prelude.{ℕ, ◌+◌, ◌-◌, ◌^◌, ◌≤◌, min, OnErr, Result}
+use Rattle.std.specs.Prelude.{◌≡◌, ℕ, ◌+◌, ◌-◌, ◌^◌, ◌≤◌, min, Bool, true, false, OnErr, Result}
 
 -- a count that rose, or stands at the last value of its type
 abbrev pub Rose : ℕ → ℕ → Type 0
 Rose before now = min (before + 1) (2 ^ 64 - 1) ≤ now
+
+-- a count of failed calls: it rises by one where a call fails, up to the last value of its type, and nowhere else
+abbrev pub CountsFailures : Bool → ℕ → ℕ → Type 0
+CountsFailures false before now = now ≡ before
+CountsFailures true before now = now ≡ min (before + 1) (2 ^ 64 - 1)
 
 -- a count that rose by a number, or stands at the last value of its type
 pub record RoseBy (before by now : ℕ) : Type 0 where

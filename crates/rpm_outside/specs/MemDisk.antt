@@ -5,7 +5,7 @@ use Rattle.rpm_outside.specs.declared.steps.Step.{Step}
 use Rattle.rpm_outside.specs.declared.mem_disk.MemDisk.{MemDisk}
 use Rattle.rpm_outside.specs.declared.disk.File.{File}
 use Rattle.rpm_outside.specs.declared.disk.File.TheVariants.{Pkg, Idx, Log}
-use Rattle.rpm_outside.specs.Causes.{Rose}
+use Rattle.rpm_outside.specs.Causes.{Rose, CountsFailures}
 use Rattle.rpm_outside.specs.Files.{Files, units_of}
 use Rattle.rpm_outside.specs.Calls.{Call, Write, Sync}
 use Rattle.rpm_outside.specs.Past.{held_files, part_of, DidNothing, WroteAny, SettledOnce}
@@ -83,7 +83,9 @@ pub record FailsWhereNamed (old : MemDisk) (call : Call) (failed : Bool) (new : 
   pub counted : mem_calls new ≡ min (mem_calls old + 1) (2 ^ 64 - 1)
   pub failing : mem_failing new ≡ mem_failing old
   pub first : mem_first new ≡ mem_first old
+  pub faults : CountsFailures failed (mem_faults old) (mem_faults new)
   pub later : mem_starved old ≤ mem_starved new
+  pub by_one : mem_starved new ≤ mem_starved old + 1
   pub named : is_named new ≡ true → failed ≡ true
   pub half : is_named new ≡ true → DiskDid true call old new ⊎ Starves old new
   pub whole : failed ≡ false → DiskDid false call old new

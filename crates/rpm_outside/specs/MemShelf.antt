@@ -5,6 +5,7 @@ use Rattle.std.specs.FinMap.{from_entries}
 use Rattle.rpm_outside.specs.declared.mem_shelf.Item.{Item}
 use Rattle.rpm_outside.specs.declared.mem_shelf.Opened.{Opened}
 use Rattle.rpm_outside.specs.declared.mem_shelf.MemShelf.{MemShelf}
+use Rattle.rpm_outside.specs.Causes.{CountsFailures}
 use Rattle.rpm_outside.specs.Shelves.{Paths, ShelfCall, Open, Take}
 
 abbrev pub entry_of : Item → List ℕ × List ℕ
@@ -60,16 +61,18 @@ length_left (Some bytes) = length bytes
 pub record FailsAsNamed (old : MemShelf) (failed : Bool) (new : MemShelf) : Type 0 where
   pub counted : shelf_reads new ≡ min (shelf_reads old + 1) (2 ^ 64 - 1)
   pub named : failed ≡ option_map_or (λ read. read == shelf_reads new) (shelf_failing old) false
+  pub faults : CountsFailures failed (shelf_faults old) (shelf_faults new)
   pub failing : shelf_failing new ≡ shelf_failing old
   pub most : shelf_most new ≡ shelf_most old
   pub few : length_left (shelf_rest old) ≤ length_left (shelf_rest new) + shelf_most old
 
--- what an open leaves for the reads after it
-pub record SameRule (old new : MemShelf) : Type 0 where
+-- what an open leaves for the reads after it; the count of absences rises where it fails
+pub record OpensAsTold (old : MemShelf) (failed : Bool) (new : MemShelf) : Type 0 where
+  pub absences : CountsFailures failed (shelf_absences old) (shelf_absences new)
   pub reads : shelf_reads new ≡ shelf_reads old
   pub failing : shelf_failing new ≡ shelf_failing old
   pub most : shelf_most new ≡ shelf_most old
 
 abbrev pub ShelfDoes : MemShelf → ShelfCall → Bool → MemShelf → Type 0
-ShelfDoes old (Open path) failed new = SameRule old new
+ShelfDoes old (Open path) failed new = OpensAsTold old failed new
 ShelfDoes old (Take room) failed new = FailsAsNamed old failed new

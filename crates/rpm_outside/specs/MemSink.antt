@@ -1,7 +1,7 @@
 -- What the sink in memory holds, and when it fails.
 use Rattle.std.specs.Prelude.{◌≡◌, ◌⊎◌, ℕ, ◌+◌, ◌<◌, ◌≤◌, max, Bool, true, List, length, Option, IfSome, IsSomeAnd}
 use Rattle.rpm_outside.specs.declared.mem_sink.MemSink.{MemSink}
-use Rattle.rpm_outside.specs.Causes.{Rose}
+use Rattle.rpm_outside.specs.Causes.{Rose, CountsFailures}
 
 abbrev pub sink_bytes : MemSink → List ℕ
 sink_bytes sink = sink.bytes.items
@@ -30,7 +30,9 @@ HoldsNoMore old new = IfSome (sink_limit old) (λ most. length (sink_bytes new) 
 -- a write fails where the sink is full, or where memory was wanting, and nowhere else; none takes more than so many bytes
 pub record FailsWhereFull (old : MemSink) (failed : Bool) (new : MemSink) : Type 0 where
   pub full : IsFull old → failed ≡ true
+  pub faults : CountsFailures failed (sink_faults old) (sink_faults new)
   pub later : sink_starved old ≤ sink_starved new
+  pub by_one : sink_starved new ≤ sink_starved old + 1
   pub starved : sink_starved old < sink_starved new → failed ≡ true
   pub cause : failed ≡ true → IsFull old ⊎ Rose (sink_starved old) (sink_starved new)
   pub limit : sink_limit new ≡ sink_limit old

@@ -9,4 +9,4 @@ pub returns-then-call_fails-clause-outcome : goal.returns-then-call_fails-clause
 returns-then-call_fails-clause-outcome c =
     named_fails c.args.self.now _ (Len c.args.file) c.call_fails.ensures.counted refl refl refl
     (ap (λ (xs : List ℕ). list_any (λ call. call == c.call_fails.new.calls) xs) (sym c.deref.ensures.value) ∙ sym c.call_fails.ensures.named
-    ∙ c.if-call_fails.true) (record { files = refl; none = refl })
+    ∙ c.if-call_fails.true) c.saturating_add-self.ensures (record { files = refl; none = refl })

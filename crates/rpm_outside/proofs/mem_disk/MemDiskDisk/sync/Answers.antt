@@ -37,10 +37,10 @@ pub returns-then-call_fails-clause-outcome : goal.returns-then-call_fails-clause
 returns-then-call_fails-clause-outcome c =
     named_fails c.args.self.now _ (Sync c.args.file) c.call_fails.ensures.counted refl refl refl
     (ap (λ (xs : List ℕ). list_any (λ call. call == c.call_fails.new.calls) xs) (sym c.deref.ensures.value) ∙ sym c.call_fails.ensures.named
-    ∙ c.if-call_fails.true) (record { files = refl; none = refl })
+    ∙ c.if-call_fails.true) c.saturating_add-self.ensures (record { files = refl; none = refl })
 
 pub returns-clause-outcome : goal.returns-clause-outcome
 returns-clause-outcome c =
     other_passes c.args.self.now _ (Sync c.args.file) c.call_fails.ensures.counted refl refl refl
     (ap (λ (xs : List ℕ). list_any (λ call. call == c.call_fails.new.calls) xs) (sym c.deref.ensures.value) ∙ sym c.call_fails.ensures.named
-    ∙ c.if-call_fails.false) (record { files = refl; step = c.in-Ok.ensures.ok })
+    ∙ c.if-call_fails.false) refl (record { files = refl; step = c.in-Ok.ensures.ok })

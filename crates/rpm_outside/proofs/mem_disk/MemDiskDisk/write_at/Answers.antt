@@ -104,7 +104,7 @@ pub returns-then-fails-clause-outcome : goal.returns-then-fails-clause-outcome
 returns-then-fails-clause-outcome c =
     named_fails c.args.self.now _ (Write c.args.file c.args.unit c.args.bytes.now) c.call_fails-fails.ensures.counted refl refl refl
     (ap (λ (xs : List ℕ). list_any (λ call. call == c.call_fails-fails.new.calls) xs) (sym c.deref.ensures.value)
-    ∙ sym c.call_fails-fails.ensures.named ∙ c.if-fails.true)
+    ∙ sym c.call_fails-fails.ensures.named ∙ c.if-fails.true) c.saturating_add-self-then-fails.ensures
     (subst (λ (half : Bool). WroteAny (held_files c.args.self.now.held) (held_files c.write_units.new.now) c.args.self.now.steps.items
     c.write_units.new.steps.items c.args.file c.args.unit (part_of half (units_of c.args.bytes.now))) c.if-fails.true c.in-Ok.ensures.ok)
 
@@ -121,6 +121,6 @@ pub returns-clause-outcome : goal.returns-clause-outcome
 returns-clause-outcome c =
     other_passes c.args.self.now _ (Write c.args.file c.args.unit c.args.bytes.now) c.call_fails-fails.ensures.counted refl refl refl
     (ap (λ (xs : List ℕ). list_any (λ call. call == c.call_fails-fails.new.calls) xs) (sym c.deref.ensures.value)
-    ∙ sym c.call_fails-fails.ensures.named ∙ c.if-fails.false)
+    ∙ sym c.call_fails-fails.ensures.named ∙ c.if-fails.false) refl
     (subst (λ (half : Bool). WroteAny (held_files c.args.self.now.held) (held_files c.write_units.new.now) c.args.self.now.steps.items
     c.write_units.new.steps.items c.args.file c.args.unit (part_of half (units_of c.args.bytes.now))) c.if-fails.false c.in-Ok.ensures.ok)
