@@ -1,5 +1,9 @@
 -- The rows that are kept, and what is written of them from scratch.
-use Rattle.std.proofs.Common.{◌≡◌, ℕ, zero, suc, ◌+◌, List, [], ◌∷◌, ◌++◌, map, Bool, cond, refl, sym, ap, ◌∙◌, arith, subst, inl, inr}
+use Rattle.std.proofs.Common.{◌≡◌, ℕ, zero, suc, ◌+◌, ◌/◌, ◌≤◌, length, List, [], ◌∷◌, ◌++◌, map, Bool, cond, refl, sym, ap, ◌∙◌, arith, subst, inl, inr}
+use Rattle.std.specs.Prelude.{Vec}
+use Rattle.std.specs.declared.alloc.Global.{Global}
+use Rattle.rpm_hindex.specs.declared.change.Change.{Change}
+use Rattle.rpm_hindex.specs.Sizes.{units_for}
 use Rattle.std.specs.List.{filter, flat_map, range_with_len}
 use Rattle.std.proofs.lemmas.Bool.{cases_Bool, cond-true, cond-false}
 use Rattle.std.proofs.lemmas.List.{append-nil, append_assoc, map-append}
@@ -11,11 +15,11 @@ use Rattle.rpm_hindex.specs.declared.planning.Work.{Work}
 use Rattle.rpm_hindex.specs.declared.planning.Work.TheVariants.{InPlace, Scratch}
 use Rattle.rpm_hindex.specs.Index.{records}
 use Rattle.rpm_hindex.specs.inner.Drafts.{Holds, IsMade}
-use Rattle.rpm_hindex.specs.Plans.{IsPlanFor}
+use Rattle.rpm_hindex.specs.Plans.{IsPlanFor, ReachesFor, units_after}
 use Rattle.rpm_hindex.proofs.Seals.{image_held}
 use Rattle.rpm_hindex.proofs.Counts.{times-append}
 use Rattle.rpm_hindex.proofs.Same.{units_same_rows}
-use Rattle.rpm_hindex.specs.inner.Changes.{kept_below, IsScratchOf, HasLess, IsOther, IsTooLarge}
+use Rattle.rpm_hindex.specs.inner.Changes.{kept_below, IsScratchOf, IsWorkOf, HasLess, IsOther, IsTooLarge}
 use Rattle.rpm_hindex.specs.Refusals.{IsTooLargeFor}
 use Rattle.rpm_hindex.specs.declared.faults.PrepareFault.{PrepareFault}
 use Rattle.rpm_hindex.specs.declared.faults.PrepareFault.TheVariants.{IndexFull, BadIndex, DiskFault, NoMemory}
@@ -96,3 +100,19 @@ large_for drops adds kept old (IndexFull needed) less is = (
 )
 large_for drops adds kept old DiskFault less is = tt
 large_for drops adds kept old NoMemory less is = tt
+
+-- ---- how far a plan reaches
+
+pub place_reach : (c : Change) (work : Work) → IsWorkOf c work → units_after work ≡ c.extent.used + length c.tail.items / 16
+place_reach c (InPlace p) is =
+    ap (λ (u : ℕ). u + length p.tail.items / 16) is.2 ∙ ap (λ (n : ℕ). c.extent.used + n / 16) (ap (λ (v : Vec ℕ Global). length v.items) is.1)
+place_reach c (Scratch image) is = absurd is
+
+pub scratch_reach : (drops adds kept old : List Row) (units : ℕ) (work : Work) → HasLess drops old kept → IsScratchOf (kept ++ adds) work
+    → ReachesFor drops adds old units work
+scratch_reach drops adds kept old units (InPlace p) less made = absurd made
+scratch_reach drops adds kept old units (Scratch image) less made = λ new changed.
+    let same : units_for (kept ++ adds) ≡ units_for new =
+    units_same_rows new (kept ++ adds) (λ r. times-append r kept adds ∙ ap (λ (n : ℕ). n + times r adds) (less r) ∙ sym (changed r)) in
+    let long = made.1.long in
+    omega (arith, same, long)

@@ -1,5 +1,5 @@
 -- What a change writes, and what it leaves.
-use Rattle.std.specs.Prelude.{◌≡◌, true, ℕ, ◌+◌, ◌-◌, ◌/◌, ◌%◌, ◌^◌, ◌<◌, ◌≤◌, List, [], ◌∷◌, length, take, if◌then◌else◌, ◌==◌, slice_index_or}
+use Rattle.std.specs.Prelude.{◌≡◌, true, ℕ, ◌+◌, ◌-◌, ◌/◌, ◌%◌, ◌^◌, ◌<◌, ◌≤◌, List, [], ◌∷◌, length, take, if◌then◌else◌, ◌==◌, slice_index_or, max}
 use Rattle.rpm_outside.specs.Files.{Units, units_of, put, blank}
 use Rattle.rpm_hindex.specs.declared.planning.Patch.{Patch}
 use Rattle.rpm_hindex.specs.declared.planning.Patches.{Patches}
@@ -7,6 +7,7 @@ use Rattle.rpm_hindex.specs.declared.planning.Work.{Work}
 use Rattle.rpm_hindex.specs.declared.planning.Work.TheVariants.{InPlace, Scratch}
 use Rattle.rpm_hindex.specs.Rows.{Row, times}
 use Rattle.rpm_hindex.specs.Index.{records}
+use Rattle.rpm_hindex.specs.Sizes.{live_of, units_for}
 use Rattle.rpm_hindex.specs.Whole.{IsWellFormed}
 use Rattle.rpm_hindex.specs.State.{is_ordered}
 
@@ -71,3 +72,8 @@ pub record IsChanged (drops adds old : List Row) (buckets : ℕ) (new : Units) :
 -- writing this makes the change of this file, which has so many buckets
 unfoldable pub IsPlanFor : List Row → List Row → ℕ → Units → Work → Type 0
 IsPlanFor drops adds buckets file work = IsChanged drops adds (records buckets file) (buckets_after work) (after work file)
+
+-- writing this makes a file of so many units no longer than its units with the added rows' records behind them, or an index of the rows after the
+-- change that is made from scratch
+abbrev pub ReachesFor : List Row → List Row → List Row → ℕ → Work → Type 0
+ReachesFor drops adds old units work = (new : List Row) → HasChanged drops adds old new → units_after work ≤ max (units + live_of adds) (units_for new)

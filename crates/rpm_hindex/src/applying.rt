@@ -103,6 +103,7 @@ impl Hindex {
         ensures pending { OnOk result (self.new.pending ≡ patches.now.buckets) }
         ensures second { OnOk result (self.new.second ≡ patches.now.second) }
         ensures units { OnOk result (patches.now.used + length patches.now.tail.items / 16 ≤ self.new.units) }
+        ensures grows { OnOk result (self.new.units ≤ max self.old.units (patches.now.used + length patches.now.tail.items / 16)) }
         ensures kept { OnOk result (IsTrue D.tells → Keeps (D.files disk.new).idx self.new) }
         ensures written { OnOk result (IsTrue D.tells → (D.files disk.new).idx ≡ put 1 (patches.now.second ∷ [])
             (after_tail patches.now.used patches.now.tail.items (after_units patches.now.units.items (D.files disk.old).idx))) }
@@ -137,6 +138,7 @@ impl Hindex {
         ensures pending { OnOk result (self.new.pending ≡ buckets_after plan.work) }
         ensures second { OnOk result (self.new.second ≡ second_after plan.work) }
         ensures units { OnOk result (units_after plan.work ≤ self.new.units) }
+        ensures grows { OnOk result (self.new.units ≤ max self.old.units (units_after plan.work)) }
         ensures ordered { OnOk result (LeavesOrder plan.work → is_ordered self.new.pending self.new.second self.new.units ≡ true) }
         ensures kept { OnOk result (IsTrue D.tells → Keeps (D.files disk.new).idx self.new) }
         ensures written { OnOk result (IsTrue D.tells → (D.files disk.new).idx ≡ after plan.work (D.files disk.old).idx) }

@@ -10,7 +10,7 @@ ghost use Rattle.rpm_outside.specs.declared.disk.File.TheVariants.{Idx};
 ghost use Rattle.rpm_outside.specs.Looks.{LooksAt};
 ghost use Rattle.rpm_hindex.specs.inner.Records.{IsOpen};
 ghost use Rattle.rpm_hindex.specs.State.{Keeps, is_in_order, buckets_of};
-ghost use Rattle.rpm_hindex.specs.Plans.{LeavesOrder, CanWrite, IsPlanFor};
+ghost use Rattle.rpm_hindex.specs.Plans.{LeavesOrder, CanWrite, IsPlanFor, ReachesFor};
 ghost use Rattle.rpm_hindex.specs.inner.Changes.{CanGo, IsStarted, IsHonest, is_kept};
 ghost use Rattle.rpm_hindex.specs.Refusals.{IsBad, IsTooLargeFor, HasRoomFor};
 ghost use Rattle.rpm_hindex.specs.Index.{index_in, records};
@@ -64,6 +64,8 @@ impl Hindex {
             adds.now (records (buckets_of self.now.first) (D.files disk.old).idx) e) }
         ensures room { IfOk result (λ plan. IsTrue D.tells → IsWellFormed (buckets_of self.now.first) (D.files disk.old).idx → HasRoomFor drops.now
             adds.now (records (buckets_of self.now.first) (D.files disk.old).idx)) }
+        ensures reach { IfOk result (λ plan. IsTrue D.tells → IsWellFormed (buckets_of self.now.first) (D.files disk.old).idx → ReachesFor drops.now
+            adds.now (records (buckets_of self.now.first) (D.files disk.old).idx) self.now.units plan.work) }
         ensures bad { IfErr result (λ e. IsTrue D.tells → IsBad (buckets_of self.now.first) (D.files disk.old).idx e) }
         ensures makes { IfOk result (λ plan. IsTrue D.tells → IsWellFormed (buckets_of self.now.first) (D.files disk.old).idx → IsPlanFor drops.now
             adds.now (buckets_of self.now.first) (D.files disk.old).idx plan.work) }
@@ -116,6 +118,8 @@ impl Hindex {
             adds.now (records (buckets_of self.now.first) (D.files disk.old).idx) e) }
         ensures room { IfOk result (λ plan. IsTrue D.tells → IsWellFormed (buckets_of self.now.first) (D.files disk.old).idx → HasRoomFor drops.now
             adds.now (records (buckets_of self.now.first) (D.files disk.old).idx)) }
+        ensures reach { IfOk result (λ plan. IsTrue D.tells → IsWellFormed (buckets_of self.now.first) (D.files disk.old).idx → ReachesFor drops.now
+            adds.now (records (buckets_of self.now.first) (D.files disk.old).idx) self.now.units plan.work) }
         ensures bad { IfErr result (λ e. IsTrue D.tells → IsBad (buckets_of self.now.first) (D.files disk.old).idx e) }
         ensures makes { IfOk result (λ plan. IsTrue D.tells → IsWellFormed (buckets_of self.now.first) (D.files disk.old).idx → IsPlanFor drops.now
             adds.now (buckets_of self.now.first) (D.files disk.old).idx plan.work) }

@@ -66,6 +66,7 @@ impl Hindex {
         ensures pending { OnOk result (self.new.pending ≡ bucket_count (length rows.now)) }
         ensures voided { OnOk result (self.new.first ≡ blank) }
         ensures size { OnOk result (word 0 self.new.second ≡ units_for rows.now) }
+        ensures grows { OnOk result (self.new.units ≤ max self.old.units (units_for rows.now)) }
         ensures ordered { OnOk result (is_ordered self.new.pending self.new.second self.new.units ≡ true) }
         ensures kept { OnOk result (IsTrue D.tells → Keeps (D.files disk.new).idx self.new) }
         ensures whole { OnOk result (IsTrue D.tells → IsWellFormed self.new.pending (D.files disk.new).idx) }
@@ -95,6 +96,7 @@ impl Hindex {
         ensures voided { OnOk result (self.new.first ≡ blank) }
         ensures second { OnOk result (self.new.second ≡ take 16 image.now.bytes.items) }
         ensures units { OnOk result (1 + length image.now.bytes.items / 16 ≤ self.new.units) }
+        ensures grows { OnOk result (self.new.units ≤ max self.old.units (1 + length image.now.bytes.items / 16)) }
         ensures kept { OnOk result (IsTrue D.tells → Keeps (D.files disk.new).idx self.new) }
         ensures written { OnOk result (IsTrue D.tells → (D.files disk.new).idx ≡ put 1 (units_of image.now.bytes.items)
             (put 0 (blank ∷ []) (D.files disk.old).idx)) }

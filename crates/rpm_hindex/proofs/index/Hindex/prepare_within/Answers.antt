@@ -8,7 +8,7 @@ use Rattle.rpm_hindex.specs.State.{buckets_of}
 use Rattle.rpm_hindex.specs.Whole.{IsWhole}
 use Rattle.rpm_hindex.specs.inner.Changes.{IsHonest, AddsRows, changing, HasLess, IsTooLarge, IsScratchOf}
 use Rattle.rpm_hindex.specs.Refusals.{IsBad}
-use Rattle.rpm_hindex.proofs.Gathers.{scratch_plan, large_for}
+use Rattle.rpm_hindex.proofs.Gathers.{scratch_plan, large_for, scratch_reach, place_reach}
 use Rattle.rpm_hindex.specs.Plans.{IsPlanFor}
 use Rattle.rpm_hindex.specs.Sizes.{first_record, is_bucket_count}
 use Rattle.rpm_hindex.proofs.Placing.{place_order, place_plan}
@@ -160,3 +160,26 @@ returns-then-not-has_room-clause-cost g c = λ told whole stays.
     (omega (arith, left.open'.used, stays.room)) (omega (arith, left.open'.used, stays.half, most.1, left.buckets)) in
     let no' : true ≡ false = sym room ∙ c.if-not-has_room.true in
     absurd (let wrong : ⊥ = cc in wrong)
+
+pub returns-then-not-has_room-clause-reach : goal.returns-then-not-has_room-clause-reach
+returns-then-not-has_room-clause-reach g c = if_ok c.from_scratch.result _ _ (λ plan made told whole.
+    let B = buckets_of c.args.self.now.first in
+    let file : Files = g.D.Disk.files c.args.disk.now in
+    let drops = c.args.drops.now in
+    let first : Change = c.start-change.result in
+    let new : Change = c.drop_rows.new.change in
+    let same = ap (λ (e : Extent). e.buckets) c.in_default.ensures.extent ∙ c.start-change.ensures.buckets in
+    let all = rows_less B file.idx drops first new c.start-change.ensures.buckets c.start-change.ensures.dropped (c.in_default.ensures.less told) whole in
+    let at_file = subst (λ (f : Files). IsScratchOf (rows_kept_by new.extent.buckets f.idx new ++ c.args.adds.now) plan.work)
+    ((c.drop_rows.ensures.looks.untouched told).same) (made told) in
+    scratch_reach drops c.args.adds.now (rows_kept_by B file.idx new) (records B file.idx) c.args.self.now.units plan.work all
+    (subst (λ (n : ℕ). IsScratchOf (rows_kept_by n file.idx new ++ c.args.adds.now) plan.work) same at_file)) c.from_scratch.ensures.made
+
+pub returns-clause-reach : goal.returns-clause-reach
+returns-clause-reach g c = if_ok c.in_place.result _ _ (λ plan made told whole new changed.
+    let last : Change = c.add_rows.new.change in
+    let add = c.in_default-add_rows.ensures in
+    let reach = place_reach last plan.work made in
+    let used = ap (λ (e : Extent). e.used) add.extent in
+    let was = ap (λ (e : Extent). e.used) c.in_default.ensures.extent in
+    omega (arith, reach, used, was, add.tail, c.start-change.ensures.fits)) c.in_place.ensures.made
