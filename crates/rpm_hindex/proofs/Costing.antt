@@ -1,13 +1,12 @@
 -- What rows cost whose chains are read.
-use Rattle.std.proofs.Common.{◌≡◌, ℕ, ◌+◌, ◌%◌, ◌<◌, ◌≤◌, List, length, take, Ok, IsOk, ap, ◌∙◌, arith}
-use Rattle.std.proofs.lemmas.List.Sums.{sum_by_push, sum_by-take-le}
+use Rattle.std.proofs.Common.{◌≡◌, ℕ, ◌+◌, ◌%◌, ◌<◌, ◌≤◌, List, length, drop, Ok, IsOk, ap, arith}
+use Rattle.std.proofs.lemmas.List.Sums.{sum_by-drop_more, sum_by-take-drop}
 use Rattle.rpm_outside.specs.Files.{Units, unit_at}
-use Rattle.rpm_hindex.specs.Rows.{Row, hash_of, row_nth}
+use Rattle.rpm_hindex.specs.Rows.{Row, hash_of, row_nth, no_row}
 use Rattle.rpm_hindex.specs.Index.{Index, index_in, chain, places_of, units_at, bucket_of}
 use Rattle.rpm_hindex.specs.Whole.{IsWellFormed}
 use Rattle.rpm_hindex.specs.Answers.{ChainCosts}
 use Rattle.rpm_hindex.specs.Costs.{chain_bytes, chains_bytes}
-use Rattle.rpm_hindex.proofs.Takes.{next_rows}
 use Rattle.rpm_hindex.proofs.Wholes.{ok_places}
 
 pub chain_are : (x : Index) (b : ℕ) → IsOk (chain x b) → chain x b ≡ Ok (places_of x b)
@@ -16,17 +15,17 @@ chain_are x b ok = ok_places (chain x b) ok
 
 module _ (buckets : ℕ) (file : Units) (whole : IsWellFormed buckets file) (some : 0 < buckets) where
   -- one chain more was read
-  pub chain_more : (rows : List Row) (i old mid new : ℕ) → i < length rows → mid ≤ old + chains_bytes (index_in buckets file) (take i rows)
+  pub chain_more : (rows : List Row) (i next old mid new : ℕ) → i < length rows → next ≡ i + 1
+      → mid ≤ old + chains_bytes (index_in buckets file) (drop next rows)
       → ChainCosts (chain (index_in buckets file) (hash_of (row_nth rows i).kind (row_nth rows i).key % buckets)) (units_at (unit_at file)) (mid + 16) new
-      → new ≤ old + chains_bytes (index_in buckets file) (take (i + 1) rows)
-  chain_more rows i old mid new lt so_far costs =
+      → new ≤ old + chains_bytes (index_in buckets file) (drop i rows)
+  chain_more rows i next old mid new lt is so_far costs =
       let x : Index = index_in buckets file in
       let row = row_nth rows i in
       let b = bucket_of buckets row in
       let here = costs (places_of x b) (chain_are x b (whole.chains b (omega arith))) in
-      let sum : chains_bytes x (take (i + 1) rows) ≡ chains_bytes x (take i rows) + chain_bytes x b =
-      ap (chains_bytes x) (next_rows rows i lt) ∙ sum_by_push (λ (r : Row). chain_bytes x (bucket_of buckets r)) (take i rows) row in
-      omega (arith, here, so_far, sum)
+      let sum = sum_by-drop_more (λ (r : Row). chain_bytes x (bucket_of buckets r)) rows i no_row lt in
+      omega (arith, here, so_far, sum, ap (λ (n : ℕ). chains_bytes x (drop n rows)) is)
 
-  pub chains_take : (rows : List Row) (i : ℕ) → chains_bytes (index_in buckets file) (take i rows) ≤ chains_bytes (index_in buckets file) rows
-  chains_take rows i = sum_by-take-le (λ (r : Row). chain_bytes (index_in buckets file) (bucket_of buckets r)) rows i
+  pub chains_drop : (rows : List Row) (i : ℕ) → chains_bytes (index_in buckets file) (drop i rows) ≤ chains_bytes (index_in buckets file) rows
+  chains_drop rows i = omega (arith, sum_by-take-drop (λ (r : Row). chain_bytes (index_in buckets file) (bucket_of buckets r)) rows i)

@@ -205,7 +205,7 @@ module _ (c : Change) (file : Units) (go : CanGo c) (none : length c.tail.items 
       (λ a lt other. heads a lt)
       (λ a q lt other m. ap (word 0) (others q (λ e. absurd (elsewhere from mine a q lt other m e))))
 
-  pub drop_cuts : (row : Row) (s : Spot) → is_link x (x.head b) ≡ true → IsSpot x b (x.head b) kept row s → Unlinks file old new b s.before s.behind
+  pub drop_cuts : (row : Row) (s : Spot) → is_link x (x.head b) ≡ true → IsSpot x b (x.head b) 0 kept row s → Unlinks file old new b s.before s.behind
       → n ≡ units_at x.unit s.at → Puts (λ q. get nat_cmp c.dropped q) (λ q. get nat_cmp dropped q) s.at s.at → IsCut d file
   drop_cuts row s link is sets size put =
       let t = splits x b kept row s link (chain_are x b (well.chains b below)) is in

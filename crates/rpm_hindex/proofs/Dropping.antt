@@ -35,7 +35,7 @@ filter_in kept (p ∷ ps) q c = elim (cases_Bool (kept p)) [
 
 -- the place of a spot
 pub spot_in : (x : Index) (b : ℕ) (kept : ℕ → Bool) (row : Row) (s : Spot) → is_link x (x.head b) ≡ true → chain x b ≡ Ok (places_of x b)
-    → IsSpot x b (x.head b) kept row s → Contains (places_of x b) s.at
+    → IsSpot x b (x.head b) 0 kept row s → Contains (places_of x b) s.at
 spot_in x b kept row s link said is =
     let t = splits x b kept row s link said is in
     let c : Contains (filter kept (places_of x b)) s.at = subst (λ (ps : List ℕ). Contains ps s.at) (sym t.are)
@@ -43,7 +43,7 @@ spot_in x b kept row s link said is =
     (filter_in kept (places_of x b) s.at c).0
 
 -- its units are those of the row's record
-pub spot_units : (x : Index) (b from : ℕ) (kept : ℕ → Bool) (row : Row) (s : Spot) → IsSpot x b from kept row s → (n : ℕ)
+pub spot_units : (x : Index) (b from : ℕ) (kept : ℕ → Bool) (row : Row) (s : Spot) → IsSpot x b from 0 kept row s → (n : ℕ)
     → n ≡ record_units (length row.key) → n ≡ units_at x.unit s.at
 spot_units x b from kept row s is n long =
     long ∙ ap (λ (r : Row). record_units (length r.key)) (same_is row (row_at x.unit s.at) is.same) ∙ ap record_units is.long
@@ -66,7 +66,7 @@ module _ (x : Index) (count live : ℕ) (whole : IsWhole count live x) (row : Ro
       none q (subst (λ (ps : List ℕ). Contains ps q) same (subst (λ (n : ℕ). Contains (places_of x n) q) (sym mine) c)) stays))
 
   -- there is one
-  pub drops_one : (s : Spot) (new : ℕ → Option ℕ) → is_link x (x.head b) ≡ true → IsSpot x b (x.head b) (is_kept dropped) row s → Puts dropped new s.at s.at
+  pub drops_one : (s : Spot) (new : ℕ → Option ℕ) → is_link x (x.head b) ≡ true → IsSpot x b (x.head b) 0 (is_kept dropped) row s → Puts dropped new s.at s.at
       → HasLess (row ∷ []) (kept_of x (is_kept dropped)) (kept_of x (is_kept new))
   drops_one s new link is put =
       let q = spot_in x b (is_kept dropped) row s link said is in

@@ -129,7 +129,7 @@ link_more y z at same more link = elim (cases_eq at 0) [
 
 module _ (c : Change) (file : Units) (go : CanGo c) (opens : IsOpen c.extent file) (b : ℕ) (below : b < c.extent.buckets) (row : Row) (s : Spot)
     (link : is_link (index_in c.extent.buckets file) ((index_in c.extent.buckets file).head b) ≡ true)
-    (is : HasNoFault (index_in c.extent.buckets file) → IsSpot (index_in c.extent.buckets file) b ((index_in c.extent.buckets file).head b)
+    (is : HasNoFault (index_in c.extent.buckets file) → IsSpot (index_in c.extent.buckets file) b ((index_in c.extent.buckets file).head b) 0
     (is_kept (λ p. get nat_cmp c.dropped p)) row s) (linked : IsLinked c.extent.buckets c.extent.used (Some s)) (honest : IsHonest c file) where
   abbrev x : Index
   x = index_in c.extent.buckets file

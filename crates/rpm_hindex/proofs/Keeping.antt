@@ -1,8 +1,9 @@
 -- The rows of the places that are kept.
-use Rattle.std.proofs.Common.{◌≡◌, ℕ, zero, suc, ◌+◌, ◌<◌, ◌≤◌, List, [], ◌∷◌, ◌++◌, map, Bool, true, false, cond, eqb, sym, ap, ◌∙◌, arith, subst, inl, inr}
+use Rattle.std.proofs.Common.{◌≡◌, ℕ, zero, suc, ◌+◌, ◌<◌, ◌≤◌, List, [], ◌∷◌, ◌++◌, map, reverse, Bool, true, false, cond, eqb, sym, ap, ◌∙◌, arith, subst, inl, inr}
 use Rattle.std.specs.List.{Contains, filter, sum_by, flat_map, range_with_len}
 use Rattle.std.specs.Str.{bytes_eq}
 use Rattle.std.proofs.lemmas.List.Sums.{sum_by-cons}
+use Rattle.std.proofs.lemmas.List.Sorted.{sum_by-IsPermutation, IsPermutation-reverse}
 use Rattle.std.proofs.lemmas.Bool.{cases_Bool, cond-true, cond-false, and_parts, eqb-true}
 use Rattle.std.proofs.lemmas.Slice.Eq.{bytes_eq-Decides}
 use Rattle.rpm_hindex.specs.Rows.{Row, times, same_row as same_rows}
@@ -155,5 +156,16 @@ module _ (x : Index) (has : HasChains x (places_of x)) (row : Row) (kept : ℕ �
 pub less_then : (row : Row) (drops old mid new : List Row) → HasLess drops old mid → HasLess (row ∷ []) mid new → HasLess (drops ++ row ∷ []) old new
 less_then row drops old mid new first second r = omega (arith, first r, second r, times-append r drops (row ∷ []))
 
+pub less_before : (row : Row) (drops old mid new : List Row) → HasLess drops old mid → HasLess (row ∷ []) mid new → HasLess (row ∷ drops) old new
+less_before row drops old mid new first second r = omega (arith, first r, second r, times-append r (row ∷ []) drops)
+
 pub less_start : (old new : List Row) → ((r : Row) → times r new ≡ times r old) → HasLess [] old new
 less_start old new same r = omega (arith, same r, times_none r)
+
+-- rows are as often in a list that is turned round
+times-reverse : (r : Row) (rows : List Row) → times r (reverse rows) ≡ times r rows
+unfolding times
+times-reverse r rows = sum_by-IsPermutation (λ (x : Row). cond (same_rows r x) 1 0) rows (reverse rows) (IsPermutation-reverse rows)
+
+pub less_reversed : (drops old new : List Row) → HasLess drops old new → HasLess drops old (reverse new)
+less_reversed drops old new less r = times-reverse r new ∙ less r

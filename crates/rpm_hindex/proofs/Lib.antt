@@ -43,4 +43,6 @@ pub mod Ways
 pub mod Steps
 pub mod Meets
 pub mod Passing
+pub mod Paths
+pub mod Starts
 pub mod RowsLeft

@@ -1,6 +1,8 @@
 -- One row more.
-use Rattle.std.proofs.Common.{◌≡◌, ℕ, suc, ◌+◌, ◌^◌, ◌<◌, ◌≤◌, List, [], ◌∷◌, ◌++◌, take, drop, length, get_or, refl, sym, ap, ◌∙◌, arith, subst, inl, inr, length-append, length-drop}
-use Rattle.std.proofs.lemmas.List.{map-append, drop-append-le, take-append-le, drop_at, take_all, length_push, get_or_append_left, get_or_push}
+use Rattle.std.proofs.Common.{◌≡◌, ℕ, suc, ◌+◌, ◌-◌, ◌^◌, ◌<◌, ◌≤◌, List, [], ◌∷◌, ◌++◌, take, drop, reverse, length, get_or, refl, sym, ap, ◌∙◌, arith, subst, inl, inr, length-append, length-drop}
+use Rattle.std.proofs.lemmas.List.{map-append, drop-append-le, take-append-le, drop_at, take_all, length_push, get_or_append_left, get_or_push, length-reverse, get_or-reverse}
+use Rattle.std.proofs.lemmas.Grind.{reverse_onto}
+use Rattle.std.proofs.lemmas.List.Sorted.{sum_by-IsPermutation, IsPermutation-reverse}
 use Rattle.std.proofs.lemmas.List.Sums.{sum_by_push}
 use Rattle.std.proofs.lemmas.Bool.{cases_lt}
 use Rattle.rpm_hindex.specs.declared.rows.RowHead.{RowHead}
@@ -77,3 +79,33 @@ module _ (heads : List RowHead) (keys key : List ℕ) (live : ℕ) (h : RowHead)
     most = most;
     count = omega (arith, length_push heads h, packed.count);
   }
+
+-- ---- the rows turned round
+
+pub rows_reversed : (keys : List ℕ) (heads : List RowHead) → rows_in keys (reverse heads) ≡ reverse (rows_in keys heads)
+rows_reversed keys [] = refl
+rows_reversed keys (h ∷ hs) =
+    ap (rows_in keys) (reverse_onto hs h [])
+    ∙ map-append (row_in keys) (reverse hs) (h ∷ [])
+    ∙ ap (λ (rs : List Row). rs ++ row_in keys h ∷ []) (rows_reversed keys hs)
+    ∙ sym (reverse_onto (rows_in keys hs) (row_in keys h) [])
+
+each_reversed : (P : RowHead → Type 0) (heads : List RowHead) → ((i : ℕ) → i < length heads → P (get_or heads i no_head)) → (i : ℕ)
+    → i < length (reverse heads) → P (get_or (reverse heads) i no_head)
+each_reversed P heads old i lt =
+    let below : i < length heads = omega (arith, length-reverse heads, lt) in
+    subst P (sym (get_or-reverse heads i no_head below)) (old (length heads - 1 - i) (omega (arith, below)))
+
+pub packed_reversed : (heads : List RowHead) (keys : List ℕ) (live : ℕ) → IsPacked heads keys live → IsPacked (reverse heads) keys live
+unfolding live_of
+packed_reversed heads keys live packed = record {
+  within = each_reversed (λ (g : RowHead). g.start + g.length ≤ length keys) heads packed.within;
+  short = each_reversed (λ (g : RowHead). g.length < 2 ^ 28) heads packed.short;
+  kinds = each_reversed (λ (g : RowHead). g.kind < 16) heads packed.kinds;
+  units =
+      let rows = rows_in keys heads in
+      let same = sum_by-IsPermutation (λ (r : Row). record_units (length r.key)) rows (reverse rows) (IsPermutation-reverse rows) in
+      packed.units ∙ sym same ∙ sym (ap live_of (rows_reversed keys heads));
+  most = packed.most;
+  count = omega (arith, length-reverse heads, packed.count);
+}

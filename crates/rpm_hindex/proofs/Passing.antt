@@ -1,69 +1,80 @@
 -- One record on the way to a row's.
-use Rattle.std.proofs.Common.{◌≡◌, ℕ, ◌+◌, ◌*◌, ◌<◌, ◌≤◌, List, [], ◌∷◌, ◌++◌, Bool, true, false, ◌&&◌, Ok, sym, ap, ◌∙◌, arith, subst}
+use Rattle.std.proofs.Common.{◌≡◌, ℕ, ◌+◌, ◌*◌, ◌<◌, ◌≤◌, List, [], ◌∷◌, ◌++◌, Bool, true, false, ◌&&◌, refl, sym, ap, ◌∙◌, arith, subst}
 use Rattle.std.specs.Prelude.{Option}
 use Rattle.std.specs.List.{filter, sum_by}
 use Rattle.std.proofs.lemmas.Bool.{and_parts}
-use Rattle.std.proofs.lemmas.List.Sums.{sum_by_push}
+use Rattle.std.proofs.lemmas.List.{append_assoc}
+use Rattle.std.proofs.lemmas.List.Sums.{sum_by_push, sum_by-append, sum_by-cons}
 use Rattle.rpm_outside.specs.Files.{Files, unit_at}
 use Rattle.rpm_hindex.specs.declared.faults.FindFault.{FindFault}
 use Rattle.rpm_hindex.specs.declared.spots.Head.{Head}
 use Rattle.rpm_hindex.specs.declared.spots.Met.{Met}
 use Rattle.rpm_hindex.specs.Rows.{Row, same_row}
-use Rattle.rpm_hindex.specs.Index.{Index, index_in, follow, is_sound, row_at, units_at}
-use Rattle.rpm_hindex.specs.Answers.{IsFaultOf, IsOutside, ChainCosts}
-use Rattle.rpm_hindex.specs.inner.Spots.{IsMet, IsPath, IsLast, HasNone, IsSpot, SkipsTo}
-use Rattle.rpm_hindex.proofs.Collects.{cost_more}
-use Rattle.rpm_hindex.proofs.Steps.{outside, met_sound, rest_cost}
-use Rattle.rpm_hindex.proofs.Ways.{path_follows, path_cost, none_more, no_hit, cost_here}
+use Rattle.rpm_hindex.specs.Index.{Index, index_in, follow, is_sound, next_at, row_at, units_at}
+use Rattle.rpm_hindex.specs.Answers.{IsFaultOf, IsOutside}
+use Rattle.rpm_hindex.specs.inner.Spots.{IsMet, IsPath, OnWay, PathCosts, IsLast, HasNone, IsSpot, SkipsTo}
+use Rattle.rpm_hindex.proofs.Steps.{outside}
+use Rattle.rpm_hindex.proofs.Paths.{path_next, path_follow}
+use Rattle.rpm_hindex.proofs.Ways.{path_more, path_then, none_more, no_hit, cost_here}
 
--- a well formed chain was gone along as far as a place
-module _ (B b from at : ℕ) (file before : Files) (done places : List ℕ) (same : before ≡ file) (path : IsPath (index_in B file.idx) b from done at)
-    (ok : follow (index_in B file.idx) b from from ≡ Ok places) where
+-- a chain was gone along as far as a place, from which it goes on to another
+module _ (B b from at end : ℕ) (file before : Files) (done left : List ℕ) (same : before ≡ file) (path : IsPath (index_in B file.idx) b from done at)
+    (way : IsPath (index_in B file.idx) b at left end) (below : end < at) where
+  abbrev x : Index
+  x = index_in B file.idx
+
+  abbrev units : ℕ → ℕ
+  units = units_at (unit_at file.idx)
+
+  pub next_left : (qs : List ℕ) × (left ≡ at ∷ qs) × (is_sound x b at ≡ true) × IsPath x b (next_at x.unit at) qs end
+  next_left = path_next x b at end left way below
+
+  all_units : sum_by units (done ++ left) ≡ sum_by units done + (units at + sum_by units next_left.0)
+  all_units =
+      sum_by-append units done left
+      ∙ ap (λ (n : ℕ). sum_by units done + n) (ap (sum_by units) next_left.1 ∙ sum_by-cons units at next_left.0)
+
   -- a fault of the chain from there on comes from outside
-  pub fault_outside : (e : FindFault) → IsFaultOf (follow (index_in B before.idx) b at at) e → IsOutside e
-  fault_outside e fault =
-      let rest = path_cost (index_in B file.idx) b from at done (λ (q : ℕ). 1) places path ok in
-      outside (follow (index_in B file.idx) b at at) rest.0 e rest.1 (subst (λ (f : Files). IsFaultOf (follow (index_in B f.idx) b at at) e) same fault)
+  pub fault_outside : (rest : List ℕ) → IsPath x b end rest 0 → (e : FindFault) → IsFaultOf (follow (index_in B before.idx) b at at) e → IsOutside e
+  fault_outside rest more e fault =
+      outside (follow x b at at) (left ++ rest) e (path_follow x b at (left ++ rest) (path_then x b at end 0 left rest way more))
+      (subst (λ (f : Files). IsFaultOf (follow (index_in B f.idx) b at at) e) same fault)
 
-  -- with the record that stands there no more was read than the whole chain costs
-  pub cost_within : (first old new : ℕ) → 0 < at → old ≤ first + 16 * sum_by (units_at (unit_at file.idx)) done
-      → (is_sound (index_in B before.idx) b at ≡ true → new ≤ old + 16 * units_at (unit_at before.idx) at)
-      → new ≤ first + 16 * sum_by (units_at (unit_at file.idx)) places
-  cost_within first old new some so_far cost =
-      let follows = path_follows (index_in B file.idx) b from at done path in
-      let more = cost_more (index_in B file.idx) b from done at follows (units_at (unit_at file.idx)) places some ok in
-      omega (arith, cost_here B b at file before old new same cost more.0, more.1, so_far)
+  -- with the record that stands there no more was read than the whole way costs
+  pub cost_within : (first old new : ℕ) → old ≤ first + 16 * sum_by units done
+      → (is_sound (index_in B before.idx) b at ≡ true → new ≤ old + 16 * units_at (unit_at before.idx) at) → new ≤ first + 16 * sum_by units (done ++ left)
+  cost_within first old new so_far cost = omega (arith, cost_here B b at file before old new same cost next_left.2, all_units, so_far)
 
   -- the record that stands there was met
-  module _ (row : Row) (met : Met) (some : 0 < at) (is : IsMet (index_in B before.idx) at row met) where
-    pub met_first : IsMet (index_in B file.idx) at row met
+  module _ (row : Row) (met : Met) (is : IsMet (index_in B before.idx) at row met) where
+    pub met_first : IsMet x at row met
     met_first = subst (λ (f : Files). IsMet (index_in B f.idx) at row met) same is
 
-    pub met_path : (is_sound (index_in B file.idx) b at ≡ true) × IsPath (index_in B file.idx) b from (done ++ at ∷ []) met.next
-    met_path = met_sound (index_in B file.idx) b from at met.next done places path ok some met_first.next
+    pub met_path : IsPath x b from (done ++ at ∷ []) met.next
+    met_path = path_more x b from at met.next done path (omega (arith, below)) next_left.2 met_first.next
 
-    -- what is so behind it where the chain from there on is well formed
-    pub behind : (P : Index → Type 0) (after : Files) → after ≡ file
-        → ((qs : List ℕ) → follow (index_in B after.idx) b met.next met.next ≡ Ok qs → P (index_in B after.idx)) → P (index_in B file.idx)
+    pub met_left : IsPath x b met.next next_left.0 end
+    met_left = subst (λ (n : ℕ). IsPath x b n next_left.0 end) (sym met_first.next) next_left.3
+
+    -- what is so behind it
+    pub behind : (P : Index → List ℕ → Type 0) (after : Files) → after ≡ file
+        → ((qs : List ℕ) → IsPath (index_in B after.idx) b met.next qs end → P (index_in B after.idx) qs) → P x next_left.0
     behind P after stays said =
-        let rest = path_cost (index_in B file.idx) b from met.next (done ++ at ∷ []) (λ (q : ℕ). 1) places met_path.1 ok in
-        subst (λ (f : Files). (qs : List ℕ) → follow (index_in B f.idx) b met.next met.next ≡ Ok qs → P (index_in B f.idx)) stays said rest.0 rest.1
+        subst (λ (f : Files). (qs : List ℕ) → IsPath (index_in B f.idx) b met.next qs end → P (index_in B f.idx) qs) stays said next_left.0 met_left
 
     -- what was read with those behind it
-    pub cost_behind : (after : Files) (first old mid new : ℕ) → after ≡ file → old ≤ first + 16 * sum_by (units_at (unit_at file.idx)) done
+    pub cost_behind : (after : Files) (first old mid new : ℕ) → after ≡ file → old ≤ first + 16 * sum_by units done
         → (is_sound (index_in B before.idx) b at ≡ true → mid ≤ old + 16 * units_at (unit_at before.idx) at)
-        → ChainCosts (follow (index_in B after.idx) b met.next met.next) (units_at (unit_at after.idx)) mid new
-        → new ≤ first + 16 * sum_by (units_at (unit_at file.idx)) places
+        → PathCosts (index_in B after.idx) b met.next end mid new → new ≤ first + 16 * sum_by units (done ++ left)
     cost_behind after first old mid new stays so_far cost costs =
-        rest_cost B b from at met.next file after done places first old mid new stays met_path.1 ok so_far
-        (cost_here B b at file before old mid same cost met_path.0) costs
+        let rest = behind (λ (y : Index) (qs : List ℕ). new ≤ mid + 16 * sum_by (units_at y.unit) qs) after stays costs in
+        omega (arith, rest, cost_here B b at file before old mid same cost next_left.2, all_units, so_far)
 
     -- what was read with it
-    pub cost_passed : (first old mid : ℕ) → old ≤ first + 16 * sum_by (units_at (unit_at file.idx)) done
+    pub cost_passed : (first old mid : ℕ) → old ≤ first + 16 * sum_by units done
         → (is_sound (index_in B before.idx) b at ≡ true → mid ≤ old + 16 * units_at (unit_at before.idx) at)
-        → mid ≤ first + 16 * sum_by (units_at (unit_at file.idx)) (done ++ at ∷ [])
-    cost_passed first old mid so_far cost =
-        omega (arith, cost_here B b at file before old mid same cost met_path.0, so_far, sum_by_push (units_at (unit_at file.idx)) done at)
+        → mid ≤ first + 16 * sum_by units (done ++ at ∷ [])
+    cost_passed first old mid so_far cost = omega (arith, cost_here B b at file before old mid same cost next_left.2, so_far, sum_by_push units done at)
 
     -- it isn't the row's, or is dropped
     pub none_passed : (kept : ℕ → Bool) → met.head.at ≡ at → HasNone (unit_at file.idx) kept row done → (met.is_row && kept met.head.at) ≡ false
@@ -75,19 +86,23 @@ module _ (B b from at : ℕ) (file before : Files) (done places : List ℕ) (sam
     -- it is the row's and kept, and the dropped ones behind it were skipped
     pub spot_met : (kept : ℕ → Bool) (last : Option Head) (to : ℕ) (after : Files) → met.head.at ≡ at
         → IsLast (unit_at file.idx) (filter kept done) last → (met.is_row && kept met.head.at) ≡ true → after ≡ file
-        → ((qs : List ℕ) → follow (index_in B after.idx) b met.next met.next ≡ Ok qs → SkipsTo (index_in B after.idx) b kept met.next to)
-        → IsSpot (index_in B file.idx) b from kept row (record { before = last; at = at; behind = to })
+        → ((qs : List ℕ) → IsPath (index_in B after.idx) b met.next qs end → SkipsTo (index_in B after.idx) b end kept met.next to)
+        → IsSpot x b from end kept row (record { before = last; at = at; behind = to })
     spot_met kept last to after here is_last hit stays skips =
         let parts = and_parts met.is_row (kept met.head.at) hit in
         record {
           front = done;
           path = path;
           last = is_last;
-          some = some;
-          sound = met_path.0;
+          some = omega (arith, below);
+          sound = next_left.2;
           stays = ap kept (sym here) ∙ parts.1;
           same = sym met_first.same ∙ parts.0;
           long = met_first.long parts.0;
-          rest = subst (λ (n : ℕ). SkipsTo (index_in B file.idx) b kept n to) met_first.next
-              (behind (λ (x : Index). SkipsTo x b kept met.next to) after stays skips);
+          rest = subst (λ (n : ℕ). SkipsTo x b end kept n to) met_first.next
+              (behind (λ (y : Index) (qs : List ℕ). SkipsTo y b end kept met.next to) after stays skips);
         }
+
+-- the way behind one record more
+pub left_more : (front done left qs : List ℕ) (at : ℕ) → front ≡ done ++ left → left ≡ at ∷ qs → front ≡ (done ++ at ∷ []) ++ qs
+left_more front done left qs at is first = is ∙ ap (λ (ps : List ℕ). done ++ ps) first ∙ sym (append_assoc done (at ∷ []) qs)

@@ -71,23 +71,3 @@ pub units_read : (unit : ℕ → List ℕ) (at p size : ℕ) → p ≡ at → wo
 units_read unit at p size here is =
     let sized : word 1 (unit at) % 2 ^ 28 ≡ size % 2 ^ 28 = ap (λ (n : ℕ). n % 2 ^ 28) (ap (λ (q : ℕ). word 1 (unit q)) (sym here) ∙ is) in
     omega (arith, sized)
-
--- a record that is met on a well formed chain
-pub met_sound : (x : Index) (b from at next : ℕ) (done places : List ℕ) → IsPath x b from done at → follow x b from from ≡ Ok places → 0 < at
-    → next ≡ next_at x.unit at → (is_sound x b at ≡ true) × IsPath x b from (done ++ at ∷ []) next
-met_sound x b from at next done places path ok some is =
-    let more = cost_more x b from done at (path_follows x b from at done path) (λ (q : ℕ). 1) places some ok in
-    (more.0, path_more x b from at next done path some more.0 is)
-
--- what the records behind cost, when one more was met
-pub rest_cost : (B b from at next : ℕ) (file mid_file : Files) (done places : List ℕ) (first old mid new : ℕ) → mid_file ≡ file
-    → IsPath (index_in B file.idx) b from (done ++ at ∷ []) next
-    → follow (index_in B file.idx) b from from ≡ Ok places
-    → old ≤ first + 16 * sum_by (units_at (unit_at file.idx)) done → mid ≤ old + 16 * units_at (unit_at file.idx) at
-    → ChainCosts (follow (index_in B mid_file.idx) b next next) (units_at (unit_at mid_file.idx)) mid new
-    → new ≤ first + 16 * sum_by (units_at (unit_at file.idx)) places
-rest_cost B b from at next file mid_file done places first old mid new same path ok first_cost one_cost costs =
-    let u = units_at (unit_at file.idx) in
-    let all = path_cost (index_in B file.idx) b from next (done ++ at ∷ []) u places path ok in
-    let here = subst (λ (f : Files). ChainCosts (follow (index_in B f.idx) b next next) (units_at (unit_at f.idx)) mid new) same costs all.0 all.1 in
-    omega (arith, here, one_cost, first_cost, sum_by_push u done at, all.3)

@@ -10,7 +10,6 @@ use Rattle.rpm_hindex.specs.declared.spots.Head.{Head}
 use Rattle.rpm_hindex.specs.declared.spots.Spot.{Spot}
 use Rattle.rpm_hindex.specs.Rows.{Row, same_row}
 use Rattle.rpm_outside.specs.Files.{Files, unit_at}
-use Rattle.rpm_hindex.specs.Answers.{ChainCosts}
 use Rattle.rpm_hindex.specs.Index.{Index, index_in, is_link, is_sound, follow, behind, next_at, units_at, row_at, chain, places_of}
 use Rattle.rpm_hindex.specs.inner.Spots.{IsHead, IsPath, IsLast, HasNone, IsHeadWithin, IsSpot}
 use Rattle.rpm_hindex.proofs.Chains.{behind_all, behind_all_is_ok, follow_step, chain_from}
@@ -96,15 +95,6 @@ within_last used false h before now is within some below = subst (IsHeadWithin u
 pub chain_is : (x : Index) (b at : ℕ) → at ≡ x.head b → is_link x at ≡ true → chain x b ≡ follow x b at at
 chain_is x b at word link = chain_from x b (ap (is_link x) (sym word) ∙ link) ∙ ap (λ (n : ℕ). follow x b n n) (sym word)
 
--- what a chain costs, in the words of the first disk
-pub chain_cost : (B b at : ℕ) (file later : Files) (old mid new : ℕ) → later ≡ file → chain (index_in B file.idx) b ≡ follow (index_in B file.idx) b at at
-    → mid ≤ old + 16
-    → ChainCosts (follow (index_in B later.idx) b at at) (units_at (unit_at later.idx)) mid new → ChainCosts (chain (index_in B file.idx) b)
-    (units_at (unit_at file.idx)) (old + 16) new
-chain_cost B b at file later old mid new same is le costs = λ places e.
-    let here = subst (λ (f : Files). ChainCosts (follow (index_in B f.idx) b at at) (units_at (unit_at f.idx)) mid new) same costs places (sym is ∙ e) in
-    omega (arith, here, le)
-
 -- ---- a spot among the kept places
 
 abbrev pub first_of : List ℕ → ℕ
@@ -127,7 +117,7 @@ first_kept x b kept at (p ∷ ps) (is, some, sound, rest) (inr stays) =
     ap first_of (cond-true (kept p) (p ∷ filter kept ps) (filter kept ps) (ap kept (sym is) ∙ stays)) ∙ sym is
 
 pub splits : (x : Index) (b : ℕ) (kept : ℕ → Bool) (row : Row) (s : Spot) → is_link x (x.head b) ≡ true → chain x b ≡ Ok (places_of x b)
-    → IsSpot x b (x.head b) kept row s → Splits x b kept s
+    → IsSpot x b (x.head b) 0 kept row s → Splits x b kept s
 splits x b kept row s link said is =
     let head = x.head b in
     let here : IsPath x b s.at (s.at ∷ is.rest.dropped) s.behind = (refl, is.some, is.sound, is.rest.path) in

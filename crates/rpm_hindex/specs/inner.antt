@@ -5,3 +5,4 @@ pub mod Making
 pub mod Packed
 pub mod Records
 pub mod Spots
+pub mod Starts

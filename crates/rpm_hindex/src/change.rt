@@ -11,6 +11,7 @@ ghost use Rattle.rpm_hindex.specs.inner.Records.{IsOpen};
 ghost use Rattle.rpm_hindex.specs.Rows.{hash_of, row_nth};
 ghost use Rattle.rpm_hindex.specs.Sizes.{record_units, first_record};
 ghost use Rattle.rpm_hindex.specs.inner.Changes.{CanGo, AddsRows, IsCut, IsHonest, IsChainFault, IsBadSoFar, changing, IsOther, Puts, HasLess, kept_of, is_kept};
+ghost use Rattle.rpm_hindex.specs.inner.Starts.{AreStarts, StandWithin};
 ghost use Rattle.rpm_hindex.specs.Refusals.{IsBad};
 ghost use Rattle.rpm_hindex.specs.Index.{index_in, chain, units_at};
 ghost use Rattle.rpm_hindex.specs.Answers.{IsFaultOf, ChainCosts};
@@ -18,12 +19,13 @@ ghost use Rattle.rpm_hindex.specs.Whole.{IsWellFormed, IsWhole};
 
 use crate::chain::{Extent, is_link};
 use crate::faults::{FindFault, PrepareFault};
+use crate::finding::{Start, find_row};
 use crate::hashing::bucket_of;
 use crate::making::push_record;
 use crate::patching::{put_unit, unlink, with_word, words_of};
 use crate::rows::{RowRef, Rows};
 use crate::sizes::record_units;
-use crate::spots::find_row;
+use crate::spots::Spot;
 use crate::words::word;
 use rpm_outside::Disk;
 use std::alloc::Global;
@@ -64,6 +66,21 @@ fn put_dropped(dropped: &mut BTreeMap<u32, u32>, at: u32) -> Result<(), PrepareF
     Ok(())
 }
 
+/// Lets a bucket's next row be looked for behind this spot's record.
+fn put_start(starts: &mut BTreeMap<u32, Start>, bucket: u32, spot: Spot) -> Result<(), PrepareFault>
+    ensures put { OnOk result (Puts (λ b. get nat_cmp starts.old b) (λ b. get nat_cmp starts.new b) bucket (record { before = spot.before; at = spot.behind })) }
+    ensures memory { IfErr result (λ e. e ≡ PrepareFault.NoMemory) }
+{
+    let start = Start {
+        before: spot.before,
+        at: spot.behind,
+    };
+    let Ok(_) = starts.insert(bucket, start) else {
+        return Err(PrepareFault::NoMemory);
+    };
+    Ok(())
+}
+
 impl Change {
     /// Nothing changes yet.
     pub fn new(alloc: Global, extent: Extent, records: u32, live: u32) -> Change
@@ -97,15 +114,22 @@ impl Change {
         &mut self,
         alloc: Global,
         disk: &mut D,
+        starts: &mut BTreeMap<u32, Start>,
         row: RowRef<'_>,
     ) -> Result<(), PrepareFault>
         requires go { CanGo self.old }
         requires short { length row.key.now < 2 ^ 28 }
         requires open { IsTrue D.tells → IsOpen self.old.extent (D.files disk.old).idx }
+        requires stand { StandWithin self.old.extent.buckets self.old.extent.used (λ b. get nat_cmp starts.old b) }
+        requires starts { IsTrue D.tells → AreStarts (index_in self.old.extent.buckets (D.files disk.old).idx)
+            (is_kept (λ p. get nat_cmp self.old.dropped p)) (λ b. get nat_cmp starts.old b) }
         ensures go { OnOk result (CanGo self.new) }
         ensures other { IfErr result (λ e. IsOther e) }
         ensures extent { OnOk result (self.new.extent ≡ self.old.extent) }
         ensures tail { OnOk result (self.new.tail ≡ self.old.tail) }
+        ensures stand { OnOk result (StandWithin self.old.extent.buckets self.old.extent.used (λ b. get nat_cmp starts.new b)) }
+        ensures starts { OnOk result (IsTrue D.tells → AreStarts (index_in self.old.extent.buckets (D.files disk.old).idx)
+            (is_kept (λ p. get nat_cmp self.new.dropped p)) (λ b. get nat_cmp starts.new b)) }
         ensures less { OnOk result (IsTrue D.tells → IsWellFormed self.old.extent.buckets (D.files disk.old).idx
             → HasLess ((record { kind = row.entry.kind; key = row.entry.key.now; number = row.entry.number; place = row.entry.place }) ∷ [])
             (kept_of (index_in self.old.extent.buckets (D.files disk.old).idx) (is_kept (λ p. get nat_cmp self.old.dropped p)))
@@ -122,7 +146,7 @@ impl Change {
         ensures cause { HasCauseAt (result ≡ Err PrepareFault.DiskFault) (D.faults disk.old) (D.faults disk.new) }
     {
         let bucket = bucket_of(row.kind, row.key, self.extent.buckets);
-        let found = match find_row(alloc, disk, self.extent, bucket, &self.dropped, row) {
+        let found = match find_row(alloc, disk, self.extent, bucket, &self.dropped, starts, row) {
             Ok(found) => found,
             Err(fault) => return Err(prepare_fault(fault)),
         };
@@ -135,6 +159,9 @@ impl Change {
             return Err(PrepareFault::BadIndex { unit: 1 });
         }
         if let Err(fault) = unlink(&mut self.units, &found.words, self.extent, bucket, spot) {
+            return Err(fault);
+        }
+        if let Err(fault) = put_start(starts, bucket, spot) {
             return Err(fault);
         }
         self.records -= 1;

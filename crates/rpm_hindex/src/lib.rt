@@ -11,6 +11,7 @@ mod applying;
 mod chain;
 mod change;
 mod faults;
+mod finding;
 mod hashing;
 mod hits;
 mod image;

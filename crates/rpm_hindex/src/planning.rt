@@ -1,6 +1,6 @@
 //! What a change of the index will write.
 
-ghost use Rattle.std.specs.Prelude.{◌≡◌, ℕ, ◌+◌, ◌*◌, ◌/◌, ◌%◌, ◌^◌, ◌≤◌, ◌<◌, IsTrue, true, false, length, map, ◌++◌, OnOk, IfOk, IfErr, Err};
+ghost use Rattle.std.specs.Prelude.{◌≡◌, ℕ, ◌+◌, ◌*◌, ◌/◌, ◌%◌, ◌^◌, ◌≤◌, ◌<◌, IsTrue, true, false, length, map, reverse, ◌++◌, OnOk, IfOk, IfErr, Err};
 ghost use Rattle.std.specs.Ordering.{nat_cmp};
 ghost use Rattle.std.specs.BTreeMap.{get, keys};
 ghost use Rattle.std.specs.List.Sorted.{IsStrictlySortedBy};
@@ -60,7 +60,8 @@ pub struct IndexPlan {
     pub work: Work,
 }
 
-/// Drops a record of each of these rows, where there is one.
+/// Drops a record of each of these rows, where there is one. The last row first: a package's rows stand in their chains newest first, so that
+/// each is met at once behind the one that was dropped before it.
 fn drop_each<D: Disk>(
     alloc: Global,
     disk: &mut D,
@@ -87,8 +88,11 @@ fn drop_each<D: Disk>(
     ensures looks { LooksAt D.tells D.files D.left_since D.moment D.bytes_read D.follows Idx disk.old disk.new }
     ensures cause { HasCauseAt (result ≡ Err PrepareFault.DiskFault) (D.faults disk.old) (D.faults disk.new) }
 {
-    for i in 0..rows.len() {
-        if let Err(fault) = change.drop_row(alloc, disk, row_ref(rows, i)) {
+    let mut starts = BTreeMap::new(alloc);
+    let mut left = rows.len();
+    while left > 0 {
+        left -= 1;
+        if let Err(fault) = change.drop_row(alloc, disk, &mut starts, row_ref(rows, left)) {
             return Err(fault);
         }
     }
@@ -297,7 +301,7 @@ fn append_rows(rows: &mut Rows, others: &Rows) -> Result<(), AllocError>
     Ok(())
 }
 
-/// What is written from scratch.
+/// What is written from scratch. The kept rows are added from the last to the first, so that those of a chain stand in it as they did.
 pub fn from_scratch<D: Disk>(
     alloc: Global,
     disk: &mut D,
@@ -308,10 +312,10 @@ pub fn from_scratch<D: Disk>(
     requires open { IsTrue D.tells → IsOpen change.now.extent (D.files disk.old).idx }
     ensures can { IfOk result (λ plan. (units : ℕ) → CanWrite units plan.work) }
     ensures ordered { IfOk result (λ plan. LeavesOrder plan.work) }
-    ensures full { IfErr result (λ e. IsTrue D.tells → IsTooLarge (kept_of (index_in change.now.extent.buckets (D.files disk.old).idx)
-        (is_kept (λ p. get nat_cmp change.now.dropped p)) ++ adds.now) e) }
-    ensures made { IfOk result (λ plan. IsTrue D.tells → IsScratchOf (kept_of (index_in change.now.extent.buckets (D.files disk.old).idx)
-        (is_kept (λ p. get nat_cmp change.now.dropped p)) ++ adds.now) plan.work) }
+    ensures full { IfErr result (λ e. IsTrue D.tells → IsTooLarge (reverse (kept_of (index_in change.now.extent.buckets
+        (D.files disk.old).idx) (is_kept (λ p. get nat_cmp change.now.dropped p))) ++ adds.now) e) }
+    ensures made { IfOk result (λ plan. IsTrue D.tells → IsScratchOf (reverse (kept_of (index_in change.now.extent.buckets
+        (D.files disk.old).idx) (is_kept (λ p. get nat_cmp change.now.dropped p))) ++ adds.now) plan.work) }
     ensures bad { IfErr result (λ e. IsTrue D.tells → IsBad change.now.extent.buckets (D.files disk.old).idx e) }
     ensures looks { LooksAt D.tells D.files D.left_since D.moment D.bytes_read D.follows Idx disk.old disk.new }
     ensures cause { HasCauseAt (result ≡ Err PrepareFault.DiskFault) (D.faults disk.old) (D.faults disk.new) }
@@ -320,6 +324,7 @@ pub fn from_scratch<D: Disk>(
         Ok(rows) => rows,
         Err(fault) => return Err(fault),
     };
+    rows.reverse();
     let Ok(()) = append_rows(&mut rows, adds) else {
         return Err(PrepareFault::NoMemory);
     };

@@ -1,6 +1,6 @@
 //! Rows that an index is made of.
 
-ghost use Rattle.std.specs.Prelude.{◌≡◌, ℕ, ◌+◌, ◌≤◌, ◌<◌, ◌^◌, ◌++◌, ◌∷◌, [], length, take, drop, IfOk, OnOk, OnErr, slice_index_or};
+ghost use Rattle.std.specs.Prelude.{◌≡◌, ℕ, ◌+◌, ◌≤◌, ◌<◌, ◌^◌, ◌++◌, ◌∷◌, [], length, take, drop, reverse, IfOk, OnOk, OnErr, slice_index_or};
 ghost use Rattle.rpm_hindex.specs.Rows.{Row, row_nth};
 ghost use Rattle.rpm_hindex.specs.Sizes.{live_of};
 ghost use Rattle.rpm_hindex.specs.inner.Packed.{row_in};
@@ -117,6 +117,13 @@ impl Rows {
         })?;
         self.live += units;
         Ok(())
+    }
+
+    /// Turns the rows round: the last is the first then.
+    pub(crate) fn reverse(&mut self)
+        ensures { self.new ≡ reverse self.old }
+    {
+        self.heads.reverse();
     }
 
     pub fn len(&self) -> usize

@@ -8,17 +8,16 @@ ghost use Rattle.rpm_outside.specs.Causes.{HasCauseAt};
 ghost use Rattle.rpm_outside.specs.Looks.{Looks, LooksAt};
 ghost use Rattle.rpm_outside.specs.declared.disk.File.TheVariants.{Idx};
 ghost use Rattle.rpm_hindex.specs.Rows.{same_row, hash_of};
-ghost use Rattle.rpm_hindex.specs.Index.{index_in, chain, follow, is_placed, is_sound, row_at, length_at, units_at, bucket_unit};
+ghost use Rattle.rpm_hindex.specs.Index.{index_in, follow, is_placed, is_sound, row_at, length_at, units_at};
 ghost use Rattle.rpm_hindex.specs.Sizes.{first_record};
-ghost use Rattle.rpm_hindex.specs.Answers.{IsFaultOf, IsOutside, ChainCosts, has_key};
+ghost use Rattle.rpm_hindex.specs.Answers.{IsFaultOf, IsOutside, has_key};
 ghost use Rattle.rpm_hindex.specs.inner.Records.{IsOpen};
 ghost use Rattle.rpm_hindex.specs.inner.Changes.{is_kept};
-ghost use Rattle.rpm_hindex.specs.inner.Spots.{IsHead, IsAhead, IsMet, IsNext, SkipsTo, IsWithin, IsLinked, IsFoundFrom, IsFound};
+ghost use Rattle.rpm_hindex.specs.inner.Spots.{IsHead, IsAhead, IsMet, IsNext, IsPath, OnWay, PathCosts, SkipsTo, IsWithin, IsLinked, IsSoundSpot, IsFoundFrom};
 
-use crate::chain::{Extent, is_placed, read_bucket};
+use crate::chain::{Extent, is_placed};
 use crate::faults::FindFault;
 use crate::hashing::bucket_of;
-use crate::kept_rows::check_chain;
 use crate::reading::{read_key_into, read_unit};
 use crate::rows::RowRef;
 use crate::words::word;
@@ -56,13 +55,6 @@ pub struct Spot {
     pub before: Option<Head>,
     pub at: u32,
     pub behind: u32,
-}
-
-/// The unit of a bucket's word, and the spot of a row in the bucket's chain, where it is there.
-#[derive(Clone, Copy)]
-pub struct Found {
-    pub words: [u8; 16],
-    pub spot: Option<Spot>,
 }
 
 /// Reads the first unit of the record at a unit that a link names.
@@ -190,6 +182,7 @@ fn meet<D: Disk>(
     ensures linked { IfOk result (λ m. IsNext extent.buckets extent.used m.next) }
     ensures met { IfOk result (λ m. IsTrue D.tells → IsMet (index_in extent.buckets (D.files disk.old).idx) at
         (record { kind = row.entry.kind; key = row.entry.key.now; number = row.entry.number; place = row.entry.place }) m) }
+    ensures sound { IfOk result (λ m. IsTrue D.tells → m.is_row ≡ true → is_sound (index_in extent.buckets (D.files disk.old).idx) bucket at ≡ true) }
     ensures fault { IfErr result (λ e. IsTrue D.tells → IsFaultOf (follow (index_in extent.buckets (D.files disk.old).idx) bucket at at) e) }
     ensures cost { IsTrue D.tells → is_sound (index_in extent.buckets (D.files disk.old).idx) bucket at ≡ true → D.bytes_read disk.new Idx
         ≤ D.bytes_read disk.old Idx + 16 * units_at (unit_at (D.files disk.old).idx) at }
@@ -213,30 +206,31 @@ fn meet<D: Disk>(
     }
 }
 
-/// The first unit of the first record from this one on that isn't dropped, or 0. Reads no keys. A function of its own, as `meets_key` is.
+/// The first unit of the first record from this one on that isn't dropped, or the unit as far as which it looks. Reads no keys. A function
+/// of its own, as `meets_key` is.
 #[inline(never)]
 fn skip_dropped<D: Disk>(
     disk: &mut D,
     extent: Extent,
     from: u32,
+    end: u32,
     dropped: &BTreeMap<u32, u32>,
 ) -> Result<u32, FindFault>
     requires few { extent.buckets ≤ 2 ^ 28 }
     requires open { IsTrue D.tells → IsOpen extent (D.files disk.old).idx }
     requires linked { IsNext extent.buckets extent.used from }
     ensures linked { IfOk result (IsNext extent.buckets extent.used) }
-    ensures skips { IfOk result (λ to. IsTrue D.tells → (b : ℕ) (places : List ℕ)
-        → follow (index_in extent.buckets (D.files disk.old).idx) b from from ≡ Ok places
-        → SkipsTo (index_in extent.buckets (D.files disk.old).idx) b (is_kept (λ p. get nat_cmp dropped.now p)) from to) }
-    ensures fault { IfErr result (λ e. IsTrue D.tells → (b : ℕ) (places : List ℕ)
-        → follow (index_in extent.buckets (D.files disk.old).idx) b from from ≡ Ok places → IsOutside e) }
-    ensures cost { IsTrue D.tells → (b : ℕ) → ChainCosts (follow (index_in extent.buckets (D.files disk.old).idx) b from from)
-        (units_at (unit_at (D.files disk.old).idx)) (D.bytes_read disk.old Idx) (D.bytes_read disk.new Idx) }
+    ensures skips { IfOk result (λ to. IsTrue D.tells → (b : ℕ) (front : List ℕ)
+        → IsPath (index_in extent.buckets (D.files disk.old).idx) b from front end
+        → SkipsTo (index_in extent.buckets (D.files disk.old).idx) b end (is_kept (λ p. get nat_cmp dropped.now p)) from to) }
+    ensures fault { IfErr result (λ e. IsTrue D.tells → (b : ℕ) → OnWay (index_in extent.buckets (D.files disk.old).idx) b from end (IsOutside e)) }
+    ensures cost { IsTrue D.tells → (b : ℕ) → PathCosts (index_in extent.buckets (D.files disk.old).idx) b from end
+        (D.bytes_read disk.old Idx) (D.bytes_read disk.new Idx) }
     ensures looks { LooksAt D.tells D.files D.left_since D.moment D.bytes_read D.follows Idx disk.old disk.new }
     ensures cause { HasCauseAt (result ≡ Err FindFault.DiskFault) (D.faults disk.old) (D.faults disk.new) }
 {
     let mut at = from;
-    while at != 0 && dropped.contains_key(&at) {
+    while at > end && dropped.contains_key(&at) {
         let ahead = match read_head(disk, extent, at) {
             Ok(ahead) => ahead,
             Err(fault) => return Err(fault),
@@ -297,14 +291,16 @@ fn last_kept(
     }
 }
 
-/// The spot of a row in its bucket's chain from this unit on. Reads the first units of the chain to the row's record and of those behind it
-/// that are dropped, and the keys of records that have the row's number and place. So a chain that isn't well formed may have a spot too.
-fn find_spot<D: Disk>(
+/// The spot of a row in its bucket's chain from this unit on, as far as another. Reads the first units of the chain to the row's record and
+/// of those behind it that are dropped, and the keys of records that have the row's number and place. So a chain that isn't well formed may
+/// have a spot too.
+pub fn find_spot<D: Disk>(
     alloc: Global,
     disk: &mut D,
     extent: Extent,
     bucket: u32,
     from: u32,
+    end: u32,
     dropped: &BTreeMap<u32, u32>,
     row: RowRef<'_>,
 ) -> Result<Option<Spot>, FindFault>
@@ -315,14 +311,14 @@ fn find_spot<D: Disk>(
     requires bucket { hash_of row.kind row.key.now % extent.buckets ≡ bucket }
     ensures within { IfOk result (IsWithin extent.used) }
     ensures linked { IfOk result (IsLinked extent.buckets extent.used) }
-    ensures found { IfOk result (λ spot. IsTrue D.tells → (places : List ℕ)
-        → follow (index_in extent.buckets (D.files disk.old).idx) bucket from from ≡ Ok places
-        → IsFoundFrom (index_in extent.buckets (D.files disk.old).idx) bucket from (is_kept (λ p. get nat_cmp dropped.now p))
+    ensures sound { IfOk result (λ spot. IsTrue D.tells → IsSoundSpot (index_in extent.buckets (D.files disk.old).idx) bucket spot) }
+    ensures found { IfOk result (λ spot. IsTrue D.tells → (front : List ℕ)
+        → IsPath (index_in extent.buckets (D.files disk.old).idx) bucket from front end
+        → IsFoundFrom (index_in extent.buckets (D.files disk.old).idx) bucket from end (is_kept (λ p. get nat_cmp dropped.now p))
         (record { kind = row.entry.kind; key = row.entry.key.now; number = row.entry.number; place = row.entry.place }) spot) }
-    ensures fault { IfErr result (λ e. IsTrue D.tells → (places : List ℕ)
-        → follow (index_in extent.buckets (D.files disk.old).idx) bucket from from ≡ Ok places → IsOutside e) }
-    ensures cost { IsTrue D.tells → ChainCosts (follow (index_in extent.buckets (D.files disk.old).idx) bucket from from)
-        (units_at (unit_at (D.files disk.old).idx)) (D.bytes_read disk.old Idx) (D.bytes_read disk.new Idx) }
+    ensures fault { IfErr result (λ e. IsTrue D.tells → OnWay (index_in extent.buckets (D.files disk.old).idx) bucket from end (IsOutside e)) }
+    ensures cost { IsTrue D.tells → PathCosts (index_in extent.buckets (D.files disk.old).idx) bucket from end (D.bytes_read disk.old Idx)
+        (D.bytes_read disk.new Idx) }
     ensures looks { LooksAt D.tells D.files D.left_since D.moment D.bytes_read D.follows Idx disk.old disk.new }
     ensures cause { HasCauseAt (result ≡ Err FindFault.DiskFault) (D.faults disk.old) (D.faults disk.new) }
 {
@@ -330,13 +326,13 @@ fn find_spot<D: Disk>(
     let mut before = None;
     let mut at = from;
     let mut last = u32::MAX;
-    while at != 0 {
+    while at > end {
         let met = match meet(disk, extent, bucket, at, row, &mut buffer) {
             Ok(met) => met,
             Err(fault) => return Err(fault),
         };
         if is_hit(dropped, met) {
-            let behind = match skip_dropped(disk, extent, met.next, dropped) {
+            let behind = match skip_dropped(disk, extent, met.next, end, dropped) {
                 Ok(behind) => behind,
                 Err(fault) => return Err(fault),
             };
@@ -347,64 +343,4 @@ fn find_spot<D: Disk>(
         at = met.next;
     }
     Ok(None)
-}
-
-/// The first fault of a bucket's chain, which isn't well formed, as this unit tells. Reads the whole chain.
-fn first_fault<D: Disk>(
-    alloc: Global,
-    disk: &mut D,
-    extent: Extent,
-    bucket: u32,
-    unit: u64,
-) -> FindFault
-    requires few { extent.buckets ≤ 2 ^ 28 }
-    requires bucket { bucket < extent.buckets }
-    requires open { IsTrue D.tells → IsOpen extent (D.files disk.old).idx }
-    requires bad { IsTrue D.tells → (places : List ℕ) → chain (index_in extent.buckets (D.files disk.old).idx) bucket ≡ Ok places → ⊥ }
-    ensures fault { IsTrue D.tells → IsFaultOf (chain (index_in extent.buckets (D.files disk.old).idx) bucket) result }
-    ensures looks { LooksAt D.tells D.files D.left_since D.moment D.bytes_read D.follows Idx disk.old disk.new }
-    ensures cause { HasCauseAt (result ≡ FindFault.DiskFault) (D.faults disk.old) (D.faults disk.new) }
-{
-    let mut buffer = Vec::new(alloc);
-    match check_chain(alloc, disk, extent, bucket, &mut buffer) {
-        Ok(()) => FindFault::BadIndex { unit },
-        Err(fault) => fault,
-    }
-}
-
-/// The spot of a row in its bucket's chain. A fault that is told is the first of the chain.
-pub fn find_row<D: Disk>(
-    alloc: Global,
-    disk: &mut D,
-    extent: Extent,
-    bucket: u32,
-    dropped: &BTreeMap<u32, u32>,
-    row: RowRef<'_>,
-) -> Result<Found, FindFault>
-    requires few { extent.buckets ≤ 2 ^ 28 }
-    requires bucket { bucket < extent.buckets }
-    requires open { IsTrue D.tells → IsOpen extent (D.files disk.old).idx }
-    requires mine { hash_of row.kind row.key.now % extent.buckets ≡ bucket }
-    ensures words { IfOk result (λ f. IsTrue D.tells → f.words ≡ unit_at (D.files disk.old).idx (bucket_unit bucket)) }
-    ensures within { IfOk result (λ f. IsWithin extent.used f.spot) }
-    ensures linked { IfOk result (λ f. IsLinked extent.buckets extent.used f.spot) }
-    ensures found { IfOk result (λ f. IsTrue D.tells → IsFound (index_in extent.buckets (D.files disk.old).idx) bucket
-        (is_kept (λ p. get nat_cmp dropped.now p))
-        (record { kind = row.entry.kind; key = row.entry.key.now; number = row.entry.number; place = row.entry.place }) f.spot) }
-    ensures fault { IfErr result (λ e. IsTrue D.tells → IsFaultOf (chain (index_in extent.buckets (D.files disk.old).idx) bucket) e) }
-    ensures cost { IsTrue D.tells → ChainCosts (chain (index_in extent.buckets (D.files disk.old).idx) bucket)
-        (units_at (unit_at (D.files disk.old).idx)) (D.bytes_read disk.old Idx + 16) (D.bytes_read disk.new Idx) }
-    ensures looks { LooksAt D.tells D.files D.left_since D.moment D.bytes_read D.follows Idx disk.old disk.new }
-    ensures cause { HasCauseAt (result ≡ Err FindFault.DiskFault) (D.faults disk.old) (D.faults disk.new) }
-{
-    let head = match read_bucket(disk, extent, bucket) {
-        Ok(head) => head,
-        Err(fault) => return Err(fault),
-    };
-    let words = head.words;
-    match find_spot(alloc, disk, extent, bucket, head.at, dropped, row) {
-        Ok(spot) => Ok(Found { words, spot }),
-        Err(FindFault::BadIndex { unit }) => { Err(first_fault(alloc, disk, extent, bucket, unit)) }
-        Err(fault) => Err(fault),
-    }
 }

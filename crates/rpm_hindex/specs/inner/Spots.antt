@@ -1,6 +1,6 @@
 -- Where a row's record stands in its chain.
-use Rattle.std.specs.Prelude.{◌≡◌, ℕ, ◌<◌, ◌≤◌, ◌⊎◌, List, [], ◌∷◌, ◌++◌, length, Bool, Option, Some, None, true, false, Ok}
-use Rattle.std.specs.List.{filter, Contains}
+use Rattle.std.specs.Prelude.{◌≡◌, ℕ, ◌+◌, ◌*◌, ◌<◌, ◌≤◌, ◌⊎◌, List, [], ◌∷◌, ◌++◌, length, Bool, Option, Some, None, true, false, Ok}
+use Rattle.std.specs.List.{filter, Contains, sum_by}
 use Rattle.rpm_hindex.specs.declared.chain.Seen.{Seen}
 use Rattle.rpm_hindex.specs.declared.spots.Head.{Head}
 use Rattle.rpm_hindex.specs.declared.spots.Ahead.{Ahead}
@@ -10,7 +10,7 @@ use Rattle.rpm_hindex.specs.Words.{word}
 use Rattle.rpm_hindex.specs.Rows.{Row, same_row}
 use Rattle.rpm_hindex.specs.Answers.{has_key}
 use Rattle.rpm_hindex.specs.Sizes.{first_record}
-use Rattle.rpm_hindex.specs.Index.{Index, is_link, is_placed, is_sound, follow, chain, next_at, length_at, row_at}
+use Rattle.rpm_hindex.specs.Index.{Index, is_link, is_placed, is_sound, chain, next_at, length_at, units_at, row_at}
 
 -- what was read of a record's first unit is what stands there
 pub record IsHead (unit : ℕ → List ℕ) (h : Head) : Type 0 where
@@ -48,12 +48,20 @@ abbrev pub IsPath : Index → ℕ → ℕ → List ℕ → ℕ → Type 0
 IsPath x bucket from [] to = from ≡ to
 IsPath x bucket from (p ∷ ps) to = (from ≡ p) × (0 < p) × (is_sound x bucket p ≡ true) × IsPath x bucket (next_at x.unit p) ps to
 
+-- what is so where the chain from a place on is well formed, and comes to another
+abbrev pub OnWay : Index → ℕ → ℕ → ℕ → Type 0 → Type 0
+OnWay x bucket from to P = (front rest : List ℕ) → IsPath x bucket from front to → IsPath x bucket to rest 0 → P
+
+-- a count rises by at most 16 for each unit of the records from a place to another
+abbrev pub PathCosts : Index → ℕ → ℕ → ℕ → ℕ → ℕ → Type 0
+PathCosts x bucket from to old new = (places : List ℕ) → IsPath x bucket from places to → new ≤ old + 16 * sum_by (units_at x.unit) places
+
 -- a place that is reached over dropped ones alone, and is kept itself, or the end
-pub record SkipsTo (x : Index) (bucket : ℕ) (kept : ℕ → Bool) (from to : ℕ) : Type 0 where
+pub record SkipsTo (x : Index) (bucket end : ℕ) (kept : ℕ → Bool) (from to : ℕ) : Type 0 where
   pub dropped : List ℕ
   pub path : IsPath x bucket from dropped to
   pub none : filter kept dropped ≡ []
-  pub ends : (to ≡ 0) ⊎ (kept to ≡ true)
+  pub ends : (to ≡ end) ⊎ (kept to ≡ true)
 
 -- the last of these places, or none where there are none
 abbrev pub IsLast : (ℕ → List ℕ) → List ℕ → Option Head → Type 0
@@ -64,8 +72,8 @@ IsLast unit places (Some h) = IsHead unit h × ((front : List ℕ) × (places �
 abbrev pub HasNone : (ℕ → List ℕ) → (ℕ → Bool) → Row → List ℕ → Type 0
 HasNone unit kept row places = (q : ℕ) → Contains places q → kept q ≡ true → same_row row (row_at unit q) ≡ false
 
--- a kept record of the row, with its neighbours among those that are kept
-pub record IsSpot (x : Index) (bucket from : ℕ) (kept : ℕ → Bool) (row : Row) (s : Spot) : Type 0 where
+-- a kept record of the row, with its neighbours among those from a place to another that are kept
+pub record IsSpot (x : Index) (bucket from end : ℕ) (kept : ℕ → Bool) (row : Row) (s : Spot) : Type 0 where
   pub front : List ℕ
   pub path : IsPath x bucket from front s.at
   pub last : IsLast x.unit (filter kept front) s.before
@@ -74,22 +82,27 @@ pub record IsSpot (x : Index) (bucket from : ℕ) (kept : ℕ → Bool) (row : R
   pub stays : kept s.at ≡ true
   pub same : same_row row (row_at x.unit s.at) ≡ true
   pub long : length (row_at x.unit s.at).key ≡ length_at x.unit s.at
-  pub rest : SkipsTo x bucket kept (next_at x.unit s.at) s.behind
+  pub rest : SkipsTo x bucket end kept (next_at x.unit s.at) s.behind
 
--- a chain without a kept record of the row
-pub record IsMissing (x : Index) (bucket from : ℕ) (kept : ℕ → Bool) (row : Row) : Type 0 where
+-- none of the records from a place to another is kept and of the row
+pub record IsMissing (x : Index) (bucket from end : ℕ) (kept : ℕ → Bool) (row : Row) : Type 0 where
   pub places : List ℕ
-  pub all : follow x bucket from from ≡ Ok places
+  pub path : IsPath x bucket from places end
   pub none : HasNone x.unit kept row places
 
-abbrev pub IsFoundFrom : Index → ℕ → ℕ → (ℕ → Bool) → Row → Option Spot → Type 0
-IsFoundFrom x bucket from kept row (Some s) = IsSpot x bucket from kept row s
-IsFoundFrom x bucket from kept row None = IsMissing x bucket from kept row
+abbrev pub IsFoundFrom : Index → ℕ → ℕ → ℕ → (ℕ → Bool) → Row → Option Spot → Type 0
+IsFoundFrom x bucket from end kept row (Some s) = IsSpot x bucket from end kept row s
+IsFoundFrom x bucket from end kept row None = IsMissing x bucket from end kept row
+
+-- the record of a spot can be in the chain of this bucket, by its key too
+abbrev pub IsSoundSpot : Index → ℕ → Option Spot → Type 0
+IsSoundSpot x bucket None = Unit {0}
+IsSoundSpot x bucket (Some s) = is_sound x bucket s.at ≡ true
 
 -- in a bucket's chain, where it is well formed
 pub record IsFound (x : Index) (bucket : ℕ) (kept : ℕ → Bool) (row : Row) (o : Option Spot) : Type 0 where
   pub link : is_link x (x.head bucket) ≡ true
-  pub found : (places : List ℕ) → chain x bucket ≡ Ok places → IsFoundFrom x bucket (x.head bucket) kept row o
+  pub found : (places : List ℕ) → chain x bucket ≡ Ok places → IsFoundFrom x bucket (x.head bucket) 0 kept row o
 
 abbrev pub IsHeadWithin : ℕ → Option Head → Type 0
 IsHeadWithin used None = Unit {0}

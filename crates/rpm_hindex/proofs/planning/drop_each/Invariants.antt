@@ -1,4 +1,4 @@
-use Rattle.std.proofs.Common.{◌≡◌, ◌+◌, ◌≤◌, length, take}
+use Rattle.std.proofs.Common.{◌≡◌, ◌+◌, ◌≤◌, length, drop}
 use Rattle.std.specs.Prelude.{IsTrue}
 use Rattle.std.specs.Ordering.{nat_cmp}
 use Rattle.std.specs.BTreeMap.{get}
@@ -8,15 +8,20 @@ use Rattle.rpm_hindex.specs.Index.{index_in}
 use Rattle.rpm_hindex.specs.Costs.{chains_bytes}
 use Rattle.rpm_hindex.specs.Whole.{IsWellFormed}
 use Rattle.rpm_hindex.specs.inner.Changes.{CanGo, HasLess, IsCut, IsHonest, kept_of, is_kept}
+use Rattle.rpm_hindex.specs.inner.Starts.{AreStarts, StandWithin}
 use Rattle.rpm_hindex.proofs.planning.drop_each.Given as goal
 
-abbrev pub invariant-loop-i : goal.invariant-loop-i
-invariant-loop-i g l = record {
+abbrev pub invariant-loop-left : goal.invariant-loop-left
+invariant-loop-left g l = record {
   go : CanGo l.change;
   extent : l.change.extent ≡ l.initial.change.extent;
   tail : l.change.tail ≡ l.initial.change.tail;
-  none : l.i ≡ 0 → l.change ≡ l.initial.change;
-  less : IsTrue g.D.Disk.tells → IsWellFormed l.initial.change.extent.buckets (g.D.Disk.files l.initial.disk).idx → HasLess (take l.i l.rows)
+  few : l.left ≤ length l.rows;
+  none : l.left ≡ length l.rows → l.change ≡ l.initial.change;
+  stand : StandWithin l.initial.change.extent.buckets l.initial.change.extent.used (λ b. get nat_cmp l.starts b);
+  starts : IsTrue g.D.Disk.tells → AreStarts (index_in l.initial.change.extent.buckets (g.D.Disk.files l.initial.disk).idx)
+      (is_kept (λ p. get nat_cmp l.change.dropped p)) (λ b. get nat_cmp l.starts b);
+  less : IsTrue g.D.Disk.tells → IsWellFormed l.initial.change.extent.buckets (g.D.Disk.files l.initial.disk).idx → HasLess (drop l.left l.rows)
       (kept_of (index_in l.initial.change.extent.buckets (g.D.Disk.files l.initial.disk).idx) (is_kept (λ p. get nat_cmp l.initial.change.dropped p)))
       (kept_of (index_in l.initial.change.extent.buckets (g.D.Disk.files l.initial.disk).idx) (is_kept (λ p. get nat_cmp l.change.dropped p)));
   cuts : IsTrue g.D.Disk.tells → IsWellFormed l.initial.change.extent.buckets (g.D.Disk.files l.initial.disk).idx → length l.initial.change.tail.items
@@ -24,7 +29,10 @@ invariant-loop-i g l = record {
   honest : IsTrue g.D.Disk.tells → IsHonest l.initial.change (g.D.Disk.files l.initial.disk).idx → IsHonest l.change (g.D.Disk.files l.initial.disk).idx;
   cost : IsTrue g.D.Disk.tells → IsWellFormed l.initial.change.extent.buckets (g.D.Disk.files l.initial.disk).idx
       → g.D.Disk.bytes_read l.disk Idx ≤ g.D.Disk.bytes_read l.initial.disk Idx + chains_bytes (index_in l.initial.change.extent.buckets
-      (g.D.Disk.files l.initial.disk).idx) (take l.i l.rows);
+      (g.D.Disk.files l.initial.disk).idx) (drop l.left l.rows);
   looks : LooksAt g.D.Disk.tells g.D.Disk.files g.D.Disk.left_since g.D.Disk.moment g.D.Disk.bytes_read g.D.Disk.follows Idx l.initial.disk l.disk;
   faults : g.D.Disk.faults l.initial.disk ≤ g.D.Disk.faults l.disk;
 }
+
+abbrev pub decreases-loop-left : goal.decreases-loop-left
+decreases-loop-left g l = l.left

@@ -1,34 +1,49 @@
-use Rattle.std.proofs.Common.{ℕ, ◌<◌, ◌∷◌, [], ◌++◌, Bool, Ok, sym, ap, ◌∙◌, arith}
-use Rattle.std.proofs.lemmas.List.{append-nil}
+use Rattle.std.proofs.Common.{ℕ, ◌<◌, ◌≡◌, ◌∷◌, [], ◌++◌, List, Bool, true, refl, sym, ap, ◌∙◌, arith, subst}
+use Rattle.std.specs.List.{sum_by}
+use Rattle.std.proofs.lemmas.Bool.{and_parts}
+use Rattle.std.proofs.lemmas.List.Sums.{sum_by-append}
 use Rattle.std.specs.Ordering.{nat_cmp}
 use Rattle.std.specs.BTreeMap.{get}
 use Rattle.rpm_outside.specs.Files.{Files, unit_at}
 use Rattle.rpm_outside.specs.declared.disk.File.TheVariants.{Idx}
-use Rattle.rpm_outside.specs.inner.Looking.{looks_at_then}
+use Rattle.rpm_outside.specs.inner.Looking.{looks_at_none, looks_at_then}
 use Rattle.rpm_hindex.specs.Rows.{Row}
-use Rattle.rpm_hindex.specs.Index.{Index, index_in, follow, units_at}
+use Rattle.rpm_hindex.specs.Index.{Index, index_in, is_sound, units_at}
 use Rattle.rpm_hindex.specs.Answers.{IsOutside}
 use Rattle.rpm_hindex.specs.inner.Changes.{is_kept}
-use Rattle.rpm_hindex.proofs.Chains.{behind_all, behind_ok}
-use Rattle.rpm_hindex.proofs.Collects.{cost_all}
-use Rattle.rpm_hindex.proofs.Passing.{fault_outside, cost_within, met_first, met_path, behind, cost_behind, cost_passed, none_passed, spot_met}
+use Rattle.rpm_hindex.specs.inner.Spots.{IsPath}
+use Rattle.rpm_hindex.proofs.Passing.{fault_outside, cost_within, next_left, left_more, met_first, met_path, met_left, behind, cost_behind, cost_passed, none_passed, spot_met}
+use Rattle.rpm_hindex.proofs.Paths.{path_ends}
 use Rattle.rpm_hindex.proofs.Steps.{front_last}
-use Rattle.rpm_hindex.proofs.Ways.{path_follows, last_more, within_last}
+use Rattle.rpm_hindex.proofs.Ways.{last_more, within_last}
 use Rattle.rpm_hindex.proofs.spots.find_spot.Goals as goal
 
+pub loop-at-init : goal.loop-at-init
+loop-at-init g c = record {
+  linked = c.requires.linked;
+  before = tt;
+  front = tt;
+  looks = looks_at_none _ _ _ _ _ _ Idx g.met.D.Disk.follows_refl c.args.disk.now;
+  dropped = λ p above below. absurd (omega arith);
+  faults = omega arith;
+  so_far = λ told front path. ([], front, refl, refl, path, refl, λ q (k, lt, e) stays. absurd (omega arith), omega arith);
+}
+
 pub returns-in-Err-clause-fault : goal.returns-in-Err-clause-fault
-returns-in-Err-clause-fault g c = λ told places e.
+returns-in-Err-clause-fault g c = λ told front rest path more.
     let l = c.loop-at in
-    let s = l.invariant.so_far told places e in
-    fault_outside c.args.extent.buckets c.args.bucket c.args.from l.at (g.D.Disk.files c.args.disk.now) (g.D.Disk.files l.disk) s.0 places
-    ((l.invariant.looks.untouched told).same) s.1 e c.in-Err.fault (c.in-Err.ensures.fault told)
+    let s = l.invariant.so_far told front path in
+    fault_outside c.args.extent.buckets c.args.bucket c.args.from l.at c.args.end (g.D.Disk.files c.args.disk.now) (g.D.Disk.files l.disk) s.0 s.1
+    ((l.invariant.looks.untouched told).same) s.3 s.4 (omega (arith, c.loop-at-test.true)) rest more c.in-Err.fault (c.in-Err.ensures.fault told)
 
 pub returns-in-Err-clause-cost : goal.returns-in-Err-clause-cost
-returns-in-Err-clause-cost g c = λ told places e.
+returns-in-Err-clause-cost g c = λ told front path.
     let l = c.loop-at in
-    let s = l.invariant.so_far told places e in
-    cost_within c.args.extent.buckets c.args.bucket c.args.from l.at (g.D.Disk.files c.args.disk.now) (g.D.Disk.files l.disk) s.0 places
-    ((l.invariant.looks.untouched told).same) s.1 e _ _ _ (omega (arith, c.loop-at-test.true)) s.4 (c.in-Err.ensures.cost told)
+    let file : Files = g.D.Disk.files c.args.disk.now in
+    let s = l.invariant.so_far told front path in
+    let within = cost_within c.args.extent.buckets c.args.bucket c.args.from l.at c.args.end file (g.D.Disk.files l.disk) s.0 s.1
+    ((l.invariant.looks.untouched told).same) s.3 s.4 (omega (arith, c.loop-at-test.true)) _ _ _ s.7 (c.in-Err.ensures.cost told) in
+    omega (arith, within, ap (sum_by (units_at (unit_at file.idx))) s.2)
 
 pub returns-in-Err-skip_dropped-clause-looks : goal.returns-in-Err-skip_dropped-clause-looks
 returns-in-Err-skip_dropped-clause-looks g c =
@@ -37,26 +52,28 @@ returns-in-Err-skip_dropped-clause-looks g c =
     looks_at_then _ _ _ _ _ _ Idx g.met.D.Disk.follows_trans c.args.disk.now c.meet.new.disk c.skip_dropped.new.disk looks c.skip_dropped.ensures.looks
 
 pub returns-in-Err-skip_dropped-clause-fault : goal.returns-in-Err-skip_dropped-clause-fault
-returns-in-Err-skip_dropped-clause-fault g c = λ told places e.
+returns-in-Err-skip_dropped-clause-fault g c = λ told front rest path more.
     let l = c.loop-at in
+    let file : Files = g.D.Disk.files c.args.disk.now in
     let row : Row = record { kind = c.args.row.kind; key = c.args.row.key.now; number = c.args.row.number; place = c.args.row.place } in
-    let s = l.invariant.so_far told places e in
+    let s = l.invariant.so_far told front path in
     let looks = looks_at_then _ _ _ _ _ _ Idx g.met.D.Disk.follows_trans c.args.disk.now l.disk c.meet.new.disk l.invariant.looks c.meet.ensures.looks in
-    behind c.args.extent.buckets c.args.bucket c.args.from l.at (g.D.Disk.files c.args.disk.now) (g.D.Disk.files l.disk) s.0 places
-    ((l.invariant.looks.untouched told).same) s.1 e row c.in-Ok.met (omega (arith, c.loop-at-test.true)) (c.in-Ok.ensures.met told)
-    (λ (x : Index). IsOutside c.in-Err-skip_dropped.fault) (g.D.Disk.files c.meet.new.disk) ((looks.untouched told).same)
-    (c.in-Err-skip_dropped.ensures.fault told c.args.bucket)
+    behind c.args.extent.buckets c.args.bucket c.args.from l.at c.args.end file (g.D.Disk.files l.disk) s.0 s.1
+    ((l.invariant.looks.untouched told).same) s.3 s.4 (omega (arith, c.loop-at-test.true)) row c.in-Ok.met (c.in-Ok.ensures.met told)
+    (λ (x : Index) (qs : List ℕ). IsPath x c.args.bucket c.args.end rest 0 → IsOutside c.in-Err-skip_dropped.fault) (g.D.Disk.files c.meet.new.disk)
+    ((looks.untouched told).same) (λ qs way. λ later. c.in-Err-skip_dropped.ensures.fault told c.args.bucket qs rest way later) more
 
 pub returns-in-Err-skip_dropped-clause-cost : goal.returns-in-Err-skip_dropped-clause-cost
-returns-in-Err-skip_dropped-clause-cost g c = λ told places e.
+returns-in-Err-skip_dropped-clause-cost g c = λ told front path.
     let l = c.loop-at in
+    let file : Files = g.D.Disk.files c.args.disk.now in
     let row : Row = record { kind = c.args.row.kind; key = c.args.row.key.now; number = c.args.row.number; place = c.args.row.place } in
-    let s = l.invariant.so_far told places e in
+    let s = l.invariant.so_far told front path in
     let looks = looks_at_then _ _ _ _ _ _ Idx g.met.D.Disk.follows_trans c.args.disk.now l.disk c.meet.new.disk l.invariant.looks c.meet.ensures.looks in
-    cost_behind c.args.extent.buckets c.args.bucket c.args.from l.at (g.D.Disk.files c.args.disk.now) (g.D.Disk.files l.disk) s.0 places
-    ((l.invariant.looks.untouched told).same) s.1 e row c.in-Ok.met (omega (arith, c.loop-at-test.true)) (c.in-Ok.ensures.met told)
-    (g.D.Disk.files c.meet.new.disk) _ _ _ _ ((looks.untouched told).same) s.4 (c.in-Ok.ensures.cost told)
-    (c.in-Err-skip_dropped.ensures.cost told c.args.bucket)
+    let all = cost_behind c.args.extent.buckets c.args.bucket c.args.from l.at c.args.end file (g.D.Disk.files l.disk) s.0 s.1
+    ((l.invariant.looks.untouched told).same) s.3 s.4 (omega (arith, c.loop-at-test.true)) row c.in-Ok.met (c.in-Ok.ensures.met told)
+    (g.D.Disk.files c.meet.new.disk) _ _ _ _ ((looks.untouched told).same) s.7 (c.in-Ok.ensures.cost told) (c.in-Err-skip_dropped.ensures.cost told c.args.bucket) in
+    omega (arith, all, ap (sum_by (units_at (unit_at file.idx))) s.2)
 
 pub returns-then-is_hit-clause-looks : goal.returns-then-is_hit-clause-looks
 returns-then-is_hit-clause-looks g c =
@@ -65,28 +82,37 @@ returns-then-is_hit-clause-looks g c =
     looks_at_then _ _ _ _ _ _ Idx g.met.D.Disk.follows_trans c.args.disk.now c.meet.new.disk c.skip_dropped.new.disk looks c.skip_dropped.ensures.looks
 
 pub returns-then-is_hit-clause-cost : goal.returns-then-is_hit-clause-cost
-returns-then-is_hit-clause-cost g c = λ told places e.
+returns-then-is_hit-clause-cost g c = λ told front path.
     let l = c.loop-at in
+    let file : Files = g.D.Disk.files c.args.disk.now in
     let row : Row = record { kind = c.args.row.kind; key = c.args.row.key.now; number = c.args.row.number; place = c.args.row.place } in
-    let s = l.invariant.so_far told places e in
+    let s = l.invariant.so_far told front path in
     let looks = looks_at_then _ _ _ _ _ _ Idx g.met.D.Disk.follows_trans c.args.disk.now l.disk c.meet.new.disk l.invariant.looks c.meet.ensures.looks in
-    cost_behind c.args.extent.buckets c.args.bucket c.args.from l.at (g.D.Disk.files c.args.disk.now) (g.D.Disk.files l.disk) s.0 places
-    ((l.invariant.looks.untouched told).same) s.1 e row c.in-Ok.met (omega (arith, c.loop-at-test.true)) (c.in-Ok.ensures.met told)
-    (g.D.Disk.files c.meet.new.disk) _ _ _ _ ((looks.untouched told).same) s.4 (c.in-Ok.ensures.cost told)
-    (c.in-Ok-skip_dropped.ensures.cost told c.args.bucket)
+    let all = cost_behind c.args.extent.buckets c.args.bucket c.args.from l.at c.args.end file (g.D.Disk.files l.disk) s.0 s.1
+    ((l.invariant.looks.untouched told).same) s.3 s.4 (omega (arith, c.loop-at-test.true)) row c.in-Ok.met (c.in-Ok.ensures.met told)
+    (g.D.Disk.files c.meet.new.disk) _ _ _ _ ((looks.untouched told).same) s.7 (c.in-Ok.ensures.cost told) (c.in-Ok-skip_dropped.ensures.cost told c.args.bucket) in
+    omega (arith, all, ap (sum_by (units_at (unit_at file.idx))) s.2)
 
 pub returns-then-is_hit-clause-linked : goal.returns-then-is_hit-clause-linked
 returns-then-is_hit-clause-linked g c = (c.in-Ok-skip_dropped.ensures.linked, c.loop-at.invariant.front)
 
-pub returns-then-is_hit-clause-found : goal.returns-then-is_hit-clause-found
-returns-then-is_hit-clause-found g c = λ told places e.
+pub returns-then-is_hit-clause-sound : goal.returns-then-is_hit-clause-sound
+returns-then-is_hit-clause-sound g c = λ told.
     let l = c.loop-at in
+    let parts = and_parts c.in-Ok.met.is_row _ (sym c.is_hit.ensures ∙ c.if-is_hit.true) in
+    subst (λ (f : Files). is_sound (index_in c.args.extent.buckets f.idx) c.args.bucket l.at ≡ true) ((l.invariant.looks.untouched told).same)
+    (c.in-Ok.ensures.sound told parts.0)
+
+pub returns-then-is_hit-clause-found : goal.returns-then-is_hit-clause-found
+returns-then-is_hit-clause-found g c = λ told front path.
+    let l = c.loop-at in
+    let file : Files = g.D.Disk.files c.args.disk.now in
     let row : Row = record { kind = c.args.row.kind; key = c.args.row.key.now; number = c.args.row.number; place = c.args.row.place } in
-    let s = l.invariant.so_far told places e in
+    let s = l.invariant.so_far told front path in
     let looks = looks_at_then _ _ _ _ _ _ Idx g.met.D.Disk.follows_trans c.args.disk.now l.disk c.meet.new.disk l.invariant.looks c.meet.ensures.looks in
-    spot_met c.args.extent.buckets c.args.bucket c.args.from l.at (g.D.Disk.files c.args.disk.now) (g.D.Disk.files l.disk) s.0 places
-    ((l.invariant.looks.untouched told).same) s.1 e row c.in-Ok.met (omega (arith, c.loop-at-test.true)) (c.in-Ok.ensures.met told)
-    (is_kept (λ p. get nat_cmp c.args.dropped.now p)) l.before c.in-Ok-skip_dropped.behind (g.D.Disk.files c.meet.new.disk) c.in-Ok.ensures.here s.2
+    spot_met c.args.extent.buckets c.args.bucket c.args.from l.at c.args.end file (g.D.Disk.files l.disk) s.0 s.1
+    ((l.invariant.looks.untouched told).same) s.3 s.4 (omega (arith, c.loop-at-test.true)) row c.in-Ok.met (c.in-Ok.ensures.met told)
+    (is_kept (λ p. get nat_cmp c.args.dropped.now p)) l.before c.in-Ok-skip_dropped.behind (g.D.Disk.files c.meet.new.disk) c.in-Ok.ensures.here s.5
     (sym c.is_hit.ensures ∙ c.if-is_hit.true) ((looks.untouched told).same) (c.in-Ok-skip_dropped.ensures.skips told c.args.bucket)
 
 pub loop-at-preserved : goal.loop-at-preserved
@@ -96,6 +122,7 @@ loop-at-preserved g c =
     let b = c.args.bucket in
     let file : Files = g.D.Disk.files c.args.disk.now in
     let kept : ℕ → Bool = is_kept (λ p. get nat_cmp c.args.dropped.now p) in
+    let below : c.args.end < l.at = omega (arith, c.loop-at-test.true) in
     let some : 0 < l.at = omega (arith, c.loop-at-test.true) in
     let met = c.in-Ok.met in
     let here = c.in-Ok.ensures.here in
@@ -109,41 +136,37 @@ loop-at-preserved g c =
       dropped = c.dropped_to-last.ensures;
       looks = looks_at_then _ _ _ _ _ _ Idx g.met.D.Disk.follows_trans c.args.disk.now l.disk c.meet.new.disk l.invariant.looks c.meet.ensures.looks;
       faults = omega (arith, l.invariant.faults, c.meet.ensures.cause.later);
-      so_far = λ told places e.
-          let s = l.invariant.so_far told places e in
+      so_far = λ told front path.
+          let s = l.invariant.so_far told front path in
           let before : Files = g.D.Disk.files l.disk in
           let row : Row = record { kind = c.args.row.kind; key = c.args.row.key.now; number = c.args.row.number; place = c.args.row.place } in
           let same = (l.invariant.looks.untouched told).same in
           let is = c.in-Ok.ensures.met told in
-          let m = met_first B b c.args.from l.at file before s.0 places same s.1 e row met some is in (
+          let from = c.args.from in
+          let end = c.args.end in
+          let next = next_left B b from l.at end file before s.0 s.1 same s.3 s.4 below in
+          let m = met_first B b from l.at end file before s.0 s.1 same s.3 s.4 below row met is in (
             s.0 ++ l.at ∷ [],
-            (met_path B b c.args.from l.at file before s.0 places same s.1 e row met some is).1,
-            last_more (unit_at file.idx) kept s.0 l.at l.before kept_now.result met.head s.2 m.head here kept_now.ensures,
-            none_passed B b c.args.from l.at file before s.0 places same s.1 e row met some is kept here s.3 (sym c.is_hit.ensures ∙ c.if-is_hit.false),
-            cost_passed B b c.args.from l.at file before s.0 places same s.1 e row met some is _ _ _ s.4 (c.in-Ok.ensures.cost told),
+            next.0,
+            left_more front s.0 s.1 next.0 l.at s.2 next.1,
+            met_path B b from l.at end file before s.0 s.1 same s.3 s.4 below row met is,
+            met_left B b from l.at end file before s.0 s.1 same s.3 s.4 below row met is,
+            last_more (unit_at file.idx) kept s.0 l.at l.before kept_now.result met.head s.5 m.head here kept_now.ensures,
+            none_passed B b from l.at end file before s.0 s.1 same s.3 s.4 below row met is kept here s.6 (sym c.is_hit.ensures ∙ c.if-is_hit.false),
+            cost_passed B b from l.at end file before s.0 s.1 same s.3 s.4 below row met is _ _ _ s.7 (c.in-Ok.ensures.cost told),
           );
     }
 
 pub returns-clause-found : goal.returns-clause-found
-returns-clause-found g c = λ told places e.
+returns-clause-found g c = λ told front path.
     let l = c.loop-at in
-    let b = c.args.bucket in
     let x : Index = index_in c.args.extent.buckets (g.D.Disk.files c.args.disk.now).idx in
-    let s = l.invariant.so_far told places e in
-    record {
-      places = s.0;
-      all = path_follows x b c.args.from l.at s.0 s.1
-          ∙ ap (λ (n : ℕ). behind_all s.0 (follow x b n n)) c.loop-at-test.false
-          ∙ behind_ok s.0 []
-          ∙ ap Ok (append-nil s.0);
-      none = s.3;
-    }
+    let s = l.invariant.so_far told front path in
+    let ends = path_ends x c.args.bucket l.at c.args.end s.1 s.4 (omega (arith, c.loop-at-test.false)) in
+    record { places = s.0; path = subst (IsPath x c.args.bucket c.args.from s.0) ends.1 s.3; none = s.6 }
 
 pub returns-clause-cost : goal.returns-clause-cost
-returns-clause-cost g c = λ told places e.
-    let l = c.loop-at in
-    let file : Files = g.D.Disk.files c.args.disk.now in
-    let x : Index = index_in c.args.extent.buckets file.idx in
-    let s = l.invariant.so_far told places e in
-    let follows = path_follows x c.args.bucket c.args.from l.at s.0 s.1 in
-    omega (arith, s.4, cost_all x c.args.bucket c.args.from s.0 l.at follows (units_at (unit_at file.idx)) places e)
+returns-clause-cost g c = λ told front path.
+    let s = c.loop-at.invariant.so_far told front path in
+    let units = units_at (unit_at (g.D.Disk.files c.args.disk.now).idx) in
+    omega (arith, s.7, ap (sum_by units) s.2, sum_by-append units s.0 s.1)

@@ -1,4 +1,4 @@
-use Rattle.std.proofs.Common.{ℕ, ◌+◌, ◌*◌, ◌<◌, ◌≤◌, ◌≡◌, List, Ok, None}
+use Rattle.std.proofs.Common.{ℕ, ◌+◌, ◌*◌, ◌<◌, ◌≤◌, ◌≡◌, ◌++◌, List, None}
 use Rattle.std.specs.Prelude.{IsTrue}
 use Rattle.std.specs.Ordering.{nat_cmp}
 use Rattle.std.specs.BTreeMap.{get}
@@ -6,7 +6,7 @@ use Rattle.std.specs.List.{filter, sum_by}
 use Rattle.rpm_outside.specs.Files.{unit_at}
 use Rattle.rpm_outside.specs.Looks.{LooksAt}
 use Rattle.rpm_outside.specs.declared.disk.File.TheVariants.{Idx}
-use Rattle.rpm_hindex.specs.Index.{index_in, follow, units_at}
+use Rattle.rpm_hindex.specs.Index.{index_in, units_at}
 use Rattle.rpm_hindex.specs.inner.Changes.{is_kept}
 use Rattle.rpm_hindex.specs.inner.Spots.{IsPath, IsLast, IsNext, IsFront, HasNone, IsHeadWithin}
 use Rattle.rpm_hindex.proofs.spots.find_spot.Given as goal
@@ -19,9 +19,11 @@ invariant-loop-at g l = record {
   looks : LooksAt g.D.Disk.tells g.D.Disk.files g.D.Disk.left_since g.D.Disk.moment g.D.Disk.bytes_read g.D.Disk.follows Idx l.initial.disk l.disk;
   dropped : (p : ℕ) → l.last < p → p ≤ l.at → get nat_cmp l.dropped p ≡ None;
   faults : g.D.Disk.faults l.initial.disk ≤ g.D.Disk.faults l.disk;
-  so_far : IsTrue g.D.Disk.tells → (places : List ℕ)
-      → follow (index_in l.extent.buckets (g.D.Disk.files l.initial.disk).idx) l.bucket l.from l.from ≡ Ok places → (done : List ℕ)
+  so_far : IsTrue g.D.Disk.tells → (front : List ℕ)
+      → IsPath (index_in l.extent.buckets (g.D.Disk.files l.initial.disk).idx) l.bucket l.from front l.end → (done : List ℕ) × (left : List ℕ)
+      × (front ≡ done ++ left)
       × IsPath (index_in l.extent.buckets (g.D.Disk.files l.initial.disk).idx) l.bucket l.from done l.at
+      × IsPath (index_in l.extent.buckets (g.D.Disk.files l.initial.disk).idx) l.bucket l.at left l.end
       × IsLast (unit_at (g.D.Disk.files l.initial.disk).idx) (filter (is_kept (λ p. get nat_cmp l.dropped p)) done) l.before
       × HasNone (unit_at (g.D.Disk.files l.initial.disk).idx) (is_kept (λ p. get nat_cmp l.dropped p))
       (record { kind = l.row.kind; key = l.row.key.now; number = l.row.number; place = l.row.place }) done

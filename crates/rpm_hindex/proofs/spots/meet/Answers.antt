@@ -1,8 +1,8 @@
-use Rattle.std.proofs.Common.{◌≡◌, ℕ, length, sym, ap, ◌∙◌}
+use Rattle.std.proofs.Common.{◌≡◌, ℕ, true, length, sym, ap, ◌∙◌}
 use Rattle.rpm_outside.specs.Files.{Files, unit_at}
 use Rattle.rpm_hindex.specs.Words.{word}
 use Rattle.rpm_hindex.specs.Rows.{Row}
-use Rattle.rpm_hindex.specs.Index.{row_at, length_at}
+use Rattle.rpm_hindex.specs.Index.{index_in, is_sound, row_at, length_at}
 use Rattle.rpm_hindex.specs.Answers.{has_key}
 use Rattle.rpm_hindex.proofs.Steps.{moved, other_row, same_by_key, number_at, place_at}
 use Rattle.rpm_hindex.proofs.Meets.{placed_still, head_still, fault_from, both_read}
@@ -77,3 +77,12 @@ returns-in-Ok-meets_key-clause-met g c = λ told.
           (yes.0 ∙ sym a.head.number ∙ ap (λ (q : ℕ). word 2 (unit q)) here ∙ sym (number_at unit at))
           (yes.1 ∙ sym a.head.«in» ∙ ap (λ (q : ℕ). word 3 (unit q)) here ∙ sym (place_at unit at));
     }
+
+pub returns-then-not-may_be-clause-sound : goal.returns-then-not-may_be-clause-sound
+returns-then-not-may_be-clause-sound g c = λ told is. absurd (let wrong : ⊥ = cc in wrong)
+
+pub returns-in-Ok-meets_key-clause-sound : goal.returns-in-Ok-meets_key-clause-sound
+returns-in-Ok-meets_key-clause-sound g c = λ told is.
+    moved (λ (f : Files) (p : ℕ). is_sound (index_in c.args.extent.buckets f.idx) c.args.bucket p ≡ true) (g.D.Disk.files c.read_head.new.disk)
+    (g.D.Disk.files c.args.disk.now) c.in-Ok.ahead.head.at c.args.at ((c.in-Ok.ensures.looks.untouched told).same) c.in-Ok.ensures.here
+    (c.in-Ok-meets_key.ensures.sound told)

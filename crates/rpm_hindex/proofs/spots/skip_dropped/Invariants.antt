@@ -1,4 +1,4 @@
-use Rattle.std.proofs.Common.{◌≡◌, ℕ, ◌+◌, ◌*◌, ◌≤◌, List, [], Ok}
+use Rattle.std.proofs.Common.{◌≡◌, ℕ, ◌+◌, ◌*◌, ◌≤◌, List, [], ◌++◌}
 use Rattle.std.specs.Prelude.{IsTrue}
 use Rattle.std.specs.Ordering.{nat_cmp}
 use Rattle.std.specs.BTreeMap.{get}
@@ -6,7 +6,7 @@ use Rattle.std.specs.List.{filter, sum_by}
 use Rattle.rpm_outside.specs.Files.{unit_at}
 use Rattle.rpm_outside.specs.Looks.{LooksAt}
 use Rattle.rpm_outside.specs.declared.disk.File.TheVariants.{Idx}
-use Rattle.rpm_hindex.specs.Index.{index_in, follow, units_at}
+use Rattle.rpm_hindex.specs.Index.{index_in, units_at}
 use Rattle.rpm_hindex.specs.inner.Changes.{is_kept}
 use Rattle.rpm_hindex.specs.inner.Spots.{IsPath, IsNext}
 use Rattle.rpm_hindex.proofs.spots.skip_dropped.Given as goal
@@ -16,9 +16,11 @@ invariant-loop-at g l = record {
   linked : IsNext l.extent.buckets l.extent.used l.at;
   looks : LooksAt g.D.Disk.tells g.D.Disk.files g.D.Disk.left_since g.D.Disk.moment g.D.Disk.bytes_read g.D.Disk.follows Idx l.initial.disk l.disk;
   faults : g.D.Disk.faults l.initial.disk ≤ g.D.Disk.faults l.disk;
-  so_far : IsTrue g.D.Disk.tells → (b : ℕ) (places : List ℕ)
-      → follow (index_in l.extent.buckets (g.D.Disk.files l.initial.disk).idx) b l.from l.from ≡ Ok places → (done : List ℕ)
+  so_far : IsTrue g.D.Disk.tells → (b : ℕ) (front : List ℕ)
+      → IsPath (index_in l.extent.buckets (g.D.Disk.files l.initial.disk).idx) b l.from front l.end → (done : List ℕ) × (left : List ℕ)
+      × (front ≡ done ++ left)
       × IsPath (index_in l.extent.buckets (g.D.Disk.files l.initial.disk).idx) b l.from done l.at
+      × IsPath (index_in l.extent.buckets (g.D.Disk.files l.initial.disk).idx) b l.at left l.end
       × (filter (is_kept (λ p. get nat_cmp l.dropped p)) done ≡ [])
       × (g.D.Disk.bytes_read l.disk Idx ≤ g.D.Disk.bytes_read l.initial.disk Idx + 16 * sum_by (units_at (unit_at (g.D.Disk.files l.initial.disk).idx)) done);
 }

@@ -1,4 +1,4 @@
-use Rattle.std.proofs.Common.{◌-◌, refl, ◌∙◌, arith, subst, inl, inr}
+use Rattle.std.proofs.Common.{ℕ, ◌-◌, refl, ◌∙◌, arith, subst, inl, inr}
 use Rattle.std.specs.Prelude.{Option}
 use Rattle.std.specs.Ordering.{nat_cmp}
 use Rattle.std.specs.BTreeMap.{get}
@@ -8,7 +8,11 @@ use Rattle.rpm_hindex.specs.declared.spots.Spot.{Spot}
 use Rattle.rpm_hindex.specs.Rows.{Row}
 use Rattle.rpm_hindex.specs.Index.{Index, index_in, places_of}
 use Rattle.rpm_hindex.specs.inner.Changes.{is_kept}
-use Rattle.rpm_hindex.specs.inner.Spots.{IsFound, IsLinked}
+use Rattle.rpm_hindex.specs.inner.Spots.{IsFound, IsLinked, IsWithin, IsSoundSpot}
+use Rattle.rpm_hindex.specs.inner.Starts.{StandsWithin}
+use Rattle.rpm_hindex.specs.declared.finding.Start.{Start}
+use Rattle.rpm_hindex.proofs.Paths.{path_follow}
+use Rattle.rpm_hindex.proofs.Starts.{puts_each, loses, starts_next}
 use Rattle.rpm_hindex.proofs.Chains.{chain_from}
 use Rattle.rpm_hindex.proofs.Costing.{chain_are}
 use Rattle.rpm_hindex.proofs.Going.{go_on}
@@ -42,7 +46,7 @@ returns-in-None-clause-less g c = λ told whole.
     let f = subst (λ (o : Option Spot). IsFound x b (is_kept (λ p. get nat_cmp s.dropped p)) row o) c.in-None.is (c.in-Ok.ensures.found told) in
     let found = f.found (places_of x b) (chain_are x b (whole.chains b c.bucket_of-bucket.ensures.within)) in
     drops_none x _ _ whole row (λ p. get nat_cmp s.dropped p) b c.bucket_of-bucket.ensures.within c.bucket_of-bucket.ensures.bucket found.places
-    (chain_from x b f.link ∙ found.all) found.none
+    (chain_from x b f.link ∙ path_follow x b (x.head b) found.places found.path) found.none
 
 pub returns-clause-less : goal.returns-clause-less
 returns-clause-less g c = on_ok c.put_dropped.result _ _ (λ put told whole.
@@ -107,3 +111,26 @@ returns-clause-honest g c = on_ok c.put_dropped.result _ _ (λ put told honest.
     (λ none. f.found (places_of x b) (chain_are x b (none b c.bucket_of-bucket.ensures.within))) linked honest
     c.unlink.new.units c.put_dropped.new.dropped c.record_units-units.result (c.in_default.ensures.sets file.idx (c.in-Ok.ensures.words told))
     c.record_units-units.ensures put (omega (arith, c.if-self-eq0.false)) (omega (arith, c.if-self-units.false))) c.put_dropped.ensures.put
+
+pub returns-clause-stand : goal.returns-clause-stand
+returns-clause-stand g c = ok_of c.put_dropped.result _ (
+    let s = c.args.self.now in
+    let linked = subst (IsLinked s.extent.buckets s.extent.used) c.in-Some.is c.in-Ok.ensures.linked in
+    let within = subst (IsWithin s.extent.used) c.in-Some.is c.in-Ok.ensures.within in
+    puts_each (λ (b : ℕ) (t : Start). StandsWithin s.extent.buckets s.extent.used t) (λ b. get nat_cmp c.args.starts.now b)
+    (λ b. get nat_cmp c.put_start.new.starts b) c.bucket_of-bucket.result (record { before = c.in-Some.spot.before; at = c.in-Some.spot.behind })
+    c.in_default-put_start.ensures.put (record { linked = linked.0; within = within; front = linked.1 }) (λ b t other is. c.requires.stand b t is)
+    )
+
+pub returns-clause-starts : goal.returns-clause-starts
+returns-clause-starts g c = on_ok c.put_dropped.result _ _ (λ put told.
+    let s = c.args.self.now in
+    let x : Index = index_in s.extent.buckets (g.D.Disk.files c.args.disk.now).idx in
+    let b = c.bucket_of-bucket.result in
+    let row : Row = record { kind = c.args.row.kind; key = c.args.row.key.now; number = c.args.row.number; place = c.args.row.place } in
+    let f = subst (λ (o : Option Spot). IsFound x b (is_kept (λ p. get nat_cmp s.dropped p)) row o) c.in-Some.is (c.in-Ok.ensures.found told) in
+    starts_next x b (is_kept (λ p. get nat_cmp s.dropped p)) (is_kept (λ p. get nat_cmp c.put_dropped.new.dropped p)) row c.in-Some.spot
+    (λ a. get nat_cmp c.args.starts.now a) (λ a. get nat_cmp c.put_start.new.starts a)
+    (loses (λ p. get nat_cmp s.dropped p) (λ p. get nat_cmp c.put_dropped.new.dropped p) c.in-Some.spot.at put)
+    (subst (IsSoundSpot x b) c.in-Some.is (c.in-Ok.ensures.sound told)) f.found c.in_default-put_start.ensures.put (c.requires.starts told))
+    c.put_dropped.ensures.put

@@ -1,4 +1,4 @@
-use Rattle.std.proofs.Common.{◌≡◌, ℕ, arith, ◌-◌, ◌++◌, sym, ap, ◌∙◌, subst, ◌+◌, ◌*◌, ◌/◌, ◌≤◌, true, false, length}
+use Rattle.std.proofs.Common.{◌≡◌, ℕ, arith, ◌-◌, ◌++◌, sym, ap, ◌∙◌, subst, ◌+◌, ◌*◌, ◌/◌, ◌≤◌, true, false, length, reverse}
 use Rattle.rpm_outside.specs.Files.{Files}
 use Rattle.rpm_hindex.specs.declared.chain.Extent.{Extent}
 use Rattle.rpm_hindex.specs.declared.change.Change.{Change}
@@ -15,6 +15,7 @@ use Rattle.rpm_hindex.proofs.Placing.{place_order, place_plan}
 use Rattle.rpm_hindex.proofs.Honest.{bad_memory}
 use Rattle.rpm_hindex.proofs.Fitting.{plan_fits, changed_least}
 use Rattle.rpm_hindex.proofs.RowsLeft.{rows_kept_by, rows_less, has_dropped, drops_cost}
+use Rattle.rpm_hindex.proofs.Keeping.{less_reversed}
 use Rattle.rpm_hindex.proofs.Results.{if_ok, if_err, if_ok_three}
 use Rattle.rpm_hindex.proofs.index.Hindex.prepare_within.Goals as goal
 
@@ -29,11 +30,12 @@ returns-then-not-has_room-clause-makes g c = if_ok c.from_scratch.result _ _ (λ
     let first : Change = c.start-change.result in
     let new : Change = c.drop_rows.new.change in
     let same = ap (λ (e : Extent). e.buckets) c.in_default.ensures.extent ∙ c.start-change.ensures.buckets in
-    let all = rows_less B file.idx drops first new c.start-change.ensures.buckets c.start-change.ensures.dropped (c.in_default.ensures.less told) whole in
-    let at_file = subst (λ (f : Files). IsScratchOf (rows_kept_by new.extent.buckets f.idx new ++ c.args.adds.now) plan.work)
+    let all = less_reversed drops (records B file.idx) (rows_kept_by B file.idx new)
+    (rows_less B file.idx drops first new c.start-change.ensures.buckets c.start-change.ensures.dropped (c.in_default.ensures.less told) whole) in
+    let at_file = subst (λ (f : Files). IsScratchOf (reverse (rows_kept_by new.extent.buckets f.idx new) ++ c.args.adds.now) plan.work)
     ((c.drop_rows.ensures.looks.untouched told).same) (made told) in
-    scratch_plan drops c.args.adds.now (rows_kept_by B file.idx new) B file.idx plan.work
-    (subst (λ (n : ℕ). IsScratchOf (rows_kept_by n file.idx new ++ c.args.adds.now) plan.work) same at_file) all) c.from_scratch.ensures.made
+    scratch_plan drops c.args.adds.now (reverse (rows_kept_by B file.idx new)) B file.idx plan.work
+    (subst (λ (n : ℕ). IsScratchOf (reverse (rows_kept_by n file.idx new) ++ c.args.adds.now) plan.work) same at_file) all) c.from_scratch.ensures.made
 
 pub returns-then-not-has_room-clause-full : goal.returns-then-not-has_room-clause-full
 returns-then-not-has_room-clause-full g c = if_err c.from_scratch.result _ _ (λ e large told whole.
@@ -43,11 +45,12 @@ returns-then-not-has_room-clause-full g c = if_err c.from_scratch.result _ _ (λ
     let first : Change = c.start-change.result in
     let new : Change = c.drop_rows.new.change in
     let same = ap (λ (e : Extent). e.buckets) c.in_default.ensures.extent ∙ c.start-change.ensures.buckets in
-    let all = rows_less B file.idx drops first new c.start-change.ensures.buckets c.start-change.ensures.dropped (c.in_default.ensures.less told) whole in
-    let at_file = subst (λ (f : Files). IsTooLarge (rows_kept_by new.extent.buckets f.idx new ++ c.args.adds.now) e)
+    let all = less_reversed drops (records B file.idx) (rows_kept_by B file.idx new)
+    (rows_less B file.idx drops first new c.start-change.ensures.buckets c.start-change.ensures.dropped (c.in_default.ensures.less told) whole) in
+    let at_file = subst (λ (f : Files). IsTooLarge (reverse (rows_kept_by new.extent.buckets f.idx new) ++ c.args.adds.now) e)
     ((c.drop_rows.ensures.looks.untouched told).same) (large told) in
-    large_for drops c.args.adds.now (rows_kept_by B file.idx new) (records B file.idx) e all
-    (subst (λ (n : ℕ). IsTooLarge (rows_kept_by n file.idx new ++ c.args.adds.now) e) same at_file)) c.from_scratch.ensures.full
+    large_for drops c.args.adds.now (reverse (rows_kept_by B file.idx new)) (records B file.idx) e all
+    (subst (λ (n : ℕ). IsTooLarge (reverse (rows_kept_by n file.idx new) ++ c.args.adds.now) e) same at_file)) c.from_scratch.ensures.full
 
 pub returns-clause-makes : goal.returns-clause-makes
 returns-clause-makes g c = if_ok c.in_place.result _ _ (λ plan made told whole.
@@ -169,11 +172,12 @@ returns-then-not-has_room-clause-reach g c = if_ok c.from_scratch.result _ _ (λ
     let first : Change = c.start-change.result in
     let new : Change = c.drop_rows.new.change in
     let same = ap (λ (e : Extent). e.buckets) c.in_default.ensures.extent ∙ c.start-change.ensures.buckets in
-    let all = rows_less B file.idx drops first new c.start-change.ensures.buckets c.start-change.ensures.dropped (c.in_default.ensures.less told) whole in
-    let at_file = subst (λ (f : Files). IsScratchOf (rows_kept_by new.extent.buckets f.idx new ++ c.args.adds.now) plan.work)
+    let all = less_reversed drops (records B file.idx) (rows_kept_by B file.idx new)
+    (rows_less B file.idx drops first new c.start-change.ensures.buckets c.start-change.ensures.dropped (c.in_default.ensures.less told) whole) in
+    let at_file = subst (λ (f : Files). IsScratchOf (reverse (rows_kept_by new.extent.buckets f.idx new) ++ c.args.adds.now) plan.work)
     ((c.drop_rows.ensures.looks.untouched told).same) (made told) in
-    scratch_reach drops c.args.adds.now (rows_kept_by B file.idx new) (records B file.idx) c.args.self.now.units plan.work all
-    (subst (λ (n : ℕ). IsScratchOf (rows_kept_by n file.idx new ++ c.args.adds.now) plan.work) same at_file)) c.from_scratch.ensures.made
+    scratch_reach drops c.args.adds.now (reverse (rows_kept_by B file.idx new)) (records B file.idx) c.args.self.now.units plan.work all
+    (subst (λ (n : ℕ). IsScratchOf (reverse (rows_kept_by n file.idx new) ++ c.args.adds.now) plan.work) same at_file)) c.from_scratch.ensures.made
 
 pub returns-clause-reach : goal.returns-clause-reach
 returns-clause-reach g c = if_ok c.in_place.result _ _ (λ plan made told whole new changed.
