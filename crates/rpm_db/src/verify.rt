@@ -45,14 +45,17 @@ fn is_other(digest: &[u8], text: &[u8]) -> bool
     }
 }
 
-/// Whether the header has a digest that isn't that of its region.
+/// Whether the header has a digest that isn't that of its region, which is hashed only where there is one.
 #[tactic(auto, unfolding(crate::specs::Verdicts::is_digest_wrong))]
 fn is_digest_wrong(view: &View<'_>) -> bool
     ensures { result ≡ is_digest_wrong view.now }
 {
-    match (immutable_digest(view), first_text(view, 273)) {
-        (Some(digest), Some(text)) => is_other(&digest, text),
-        _ => false,
+    let Some(text) = first_text(view, 273) else {
+        return false;
+    };
+    match immutable_digest(view) {
+        Some(digest) => is_other(&digest, text),
+        None => false,
     }
 }
 
@@ -70,7 +73,7 @@ fn header_verdict(holds: bool, blob: &[u8]) -> Verdict
 impl Db {
     /// What verifying a number says.
     ///
-    /// Reads the number's own blocks, each once, and hashes the header's region.
+    /// Reads the number's own blocks, each once, and hashes the header's region where the header has a text to compare with.
     ///
     /// # Errors
     ///
