@@ -1,5 +1,5 @@
 -- The rows that are kept, and what is written of them from scratch.
-use Rattle.std.proofs.Common.{◌≡◌, ℕ, zero, suc, ◌+◌, ◌/◌, ◌≤◌, length, List, [], ◌∷◌, ◌++◌, map, Bool, cond, refl, sym, ap, ◌∙◌, arith, subst, inl, inr}
+use Rattle.std.proofs.Common.{◌≡◌, ℕ, zero, suc, ◌+◌, ◌/◌, length, List, [], ◌∷◌, ◌++◌, map, Bool, cond, refl, sym, ap, ◌∙◌, arith, subst, inl, inr}
 use Rattle.std.specs.Prelude.{Vec}
 use Rattle.std.specs.declared.alloc.Global.{Global}
 use Rattle.rpm_hindex.specs.declared.change.Change.{Change}

@@ -2,7 +2,7 @@
 use Rattle.std.proofs.Common.{◌≡◌, ℕ, ◌+◌, ◌*◌, ◌/◌, ◌%◌, ◌^◌, ◌≤◌, true, sym, ap, ◌∙◌, arith, subst}
 use Rattle.rpm_outside.specs.Files.{Files, unit_at}
 use Rattle.rpm_hindex.specs.declared.faults.FindFault.{FindFault}
-use Rattle.rpm_hindex.specs.declared.spots.Ahead.{Ahead}
+use Rattle.rpm_hindex.specs.declared.heads.Ahead.{Ahead}
 use Rattle.rpm_hindex.specs.Index.{index_in, follow, is_placed, units_at}
 use Rattle.rpm_hindex.specs.Answers.{IsFaultOf}
 use Rattle.rpm_hindex.specs.inner.Spots.{IsHead, IsAhead}

@@ -1,22 +1,18 @@
 -- One record of a chain, as it was read.
-use Rattle.std.proofs.Common.{◌≡◌, ℕ, ◌+◌, ◌*◌, ◌/◌, ◌%◌, ◌^◌, ◌<◌, ◌≤◌, List, [], ◌∷◌, ◌++◌, Bool, true, false, ◌&&◌, cond, eqb, Result, Ok, Err, refl, sym, ap, ◌∙◌, arith, subst, inl, inr}
+use Rattle.std.proofs.Common.{◌≡◌, ℕ, ◌+◌, ◌*◌, ◌/◌, ◌%◌, ◌^◌, ◌≤◌, List, Bool, true, false, ◌&&◌, cond, eqb, Result, Ok, Err, refl, sym, ap, ◌∙◌, arith, subst, inl, inr}
 use Rattle.std.specs.Prelude.{Option, Some}
 use Rattle.std.specs.Str.{bytes_eq}
-use Rattle.std.specs.List.{sum_by}
-use Rattle.std.proofs.lemmas.List.Sums.{sum_by_push}
 use Rattle.std.proofs.lemmas.Bool.{cases_Bool, and_parts, eqb-true, eq-eqb, and_from}
-use Rattle.rpm_outside.specs.Files.{Files, unit_at}
+use Rattle.rpm_outside.specs.Files.{Files}
 use Rattle.rpm_hindex.specs.declared.faults.FindFault.{FindFault}
 use Rattle.rpm_hindex.specs.declared.faults.FindFault.TheVariants.{BadIndex, DiskFault, NoMemory}
-use Rattle.rpm_hindex.specs.declared.spots.Head.{Head}
+use Rattle.rpm_hindex.specs.declared.heads.Head.{Head}
 use Rattle.rpm_hindex.specs.Words.{word}
 use Rattle.rpm_hindex.specs.Sizes.{first_record}
 use Rattle.rpm_hindex.specs.Rows.{Row, same_row}
-use Rattle.rpm_hindex.specs.Index.{Index, index_in, follow, is_sound, next_at, row_at, units_at}
-use Rattle.rpm_hindex.specs.Answers.{IsFaultOf, IsOutside, ChainCosts, has_key}
-use Rattle.rpm_hindex.specs.inner.Spots.{IsFront, IsPath}
-use Rattle.rpm_hindex.proofs.Collects.{cost_more}
-use Rattle.rpm_hindex.proofs.Ways.{path_more, path_follows, path_cost}
+use Rattle.rpm_hindex.specs.Index.{row_at, units_at}
+use Rattle.rpm_hindex.specs.Answers.{IsFaultOf, IsOutside, has_key}
+use Rattle.rpm_hindex.specs.inner.Spots.{IsFront}
 
 pub number_at : (unit : ℕ → List ℕ) (at : ℕ) → (row_at unit at).number ≡ word 2 (unit at)
 unfolding row_at

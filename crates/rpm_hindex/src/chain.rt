@@ -19,11 +19,11 @@ ghost use Rattle.rpm_hindex.specs.Answers.{AsOften, AreHits, FindIs, IsFaultOf, 
 
 use crate::faults::FindFault;
 use crate::hashing::bucket_of;
+use crate::heads::{Ahead, meets_key, read_head};
 use crate::hits::{Hit, Hits};
 use crate::index::Hindex;
 use crate::reading::read_unit;
 use crate::sizes::record_units;
-use crate::spots::{Ahead, meets_key, read_head};
 use crate::words::word;
 use rpm_outside::{Disk, File};
 use std::alloc::Global;

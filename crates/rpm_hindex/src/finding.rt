@@ -17,9 +17,10 @@ ghost use Rattle.rpm_hindex.specs.inner.Starts.{IsStart, AreStarts, StandsWithin
 
 use crate::chain::{Extent, read_bucket};
 use crate::faults::FindFault;
+use crate::heads::Head;
 use crate::kept_rows::check_chain;
 use crate::rows::RowRef;
-use crate::spots::{Head, Spot, find_spot};
+use crate::spots::{Spot, find_spot};
 use rpm_outside::Disk;
 use std::alloc::Global;
 use std::collections::BTreeMap;

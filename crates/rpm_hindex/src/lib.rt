@@ -10,9 +10,11 @@
 mod applying;
 mod chain;
 mod change;
+mod dropped_rows;
 mod faults;
 mod finding;
 mod hashing;
+mod heads;
 mod hits;
 mod image;
 mod index;

@@ -14,8 +14,9 @@ ghost use Rattle.rpm_hindex.specs.inner.Spots.{IsHeadWithin};
 
 use crate::chain::Extent;
 use crate::faults::PrepareFault;
+use crate::heads::Head;
 use crate::reading::read_unit;
-use crate::spots::{Head, Spot};
+use crate::spots::Spot;
 use crate::words::{unit_of_words, word};
 use rpm_outside::Disk;
 use std::collections::BTreeMap;

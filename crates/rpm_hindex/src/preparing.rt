@@ -18,9 +18,10 @@ ghost use Rattle.rpm_hindex.specs.Costs.{chains_bytes, StaysWithin, StaysInPlace
 ghost use Rattle.rpm_hindex.specs.Whole.{IsWellFormed};
 
 use crate::change::Change;
+use crate::dropped_rows::drop_rows;
 use crate::faults::PrepareFault;
 use crate::index::Hindex;
-use crate::planning::{IndexPlan, add_rows, drop_rows, from_scratch, has_room, in_place};
+use crate::planning::{IndexPlan, add_rows, from_scratch, has_room, in_place};
 use crate::rows::Rows;
 use crate::sizes::UNITS;
 use crate::words::word;

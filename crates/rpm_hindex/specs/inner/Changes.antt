@@ -5,7 +5,7 @@ use Rattle.std.specs.BTreeMap.{get}
 use Rattle.std.specs.List.{filter, Contains, flat_map, range_with_len, sum_by}
 use Rattle.rpm_outside.specs.Files.{Units, units_of, unit_at}
 use Rattle.rpm_hindex.specs.declared.change.Change.{Change}
-use Rattle.rpm_hindex.specs.declared.spots.Head.{Head}
+use Rattle.rpm_hindex.specs.declared.heads.Head.{Head}
 use Rattle.rpm_hindex.specs.declared.planning.Patch.{Patch}
 use Rattle.rpm_hindex.specs.declared.planning.Work.{Work}
 use Rattle.rpm_hindex.specs.declared.planning.Work.TheVariants.{InPlace, Scratch}

@@ -2,9 +2,9 @@
 use Rattle.std.specs.Prelude.{◌≡◌, ℕ, ◌+◌, ◌*◌, ◌<◌, ◌≤◌, ◌⊎◌, List, [], ◌∷◌, ◌++◌, length, Bool, Option, Some, None, true, false, Ok}
 use Rattle.std.specs.List.{filter, Contains, sum_by}
 use Rattle.rpm_hindex.specs.declared.chain.Seen.{Seen}
-use Rattle.rpm_hindex.specs.declared.spots.Head.{Head}
-use Rattle.rpm_hindex.specs.declared.spots.Ahead.{Ahead}
-use Rattle.rpm_hindex.specs.declared.spots.Met.{Met}
+use Rattle.rpm_hindex.specs.declared.heads.Head.{Head}
+use Rattle.rpm_hindex.specs.declared.heads.Ahead.{Ahead}
+use Rattle.rpm_hindex.specs.declared.heads.Met.{Met}
 use Rattle.rpm_hindex.specs.declared.spots.Spot.{Spot}
 use Rattle.rpm_hindex.specs.Words.{word}
 use Rattle.rpm_hindex.specs.Rows.{Row, same_row}

@@ -12,7 +12,7 @@ use Rattle.rpm_hindex.specs.Answers.{IsOutside}
 use Rattle.rpm_hindex.specs.Index.{Index, index_in, is_link, chain}
 use Rattle.rpm_hindex.specs.inner.Changes.{is_kept}
 use Rattle.rpm_hindex.specs.inner.Spots.{IsFoundFrom, IsSoundSpot, IsPath}
-use Rattle.rpm_hindex.specs.inner.Starts.{IsStart, AreStarts}
+use Rattle.rpm_hindex.specs.inner.Starts.{IsStart}
 use Rattle.rpm_hindex.specs.declared.finding.Start.{Start}
 use Rattle.rpm_hindex.proofs.Paths.{follow_path, path_follow, chain_cost}
 use Rattle.rpm_hindex.proofs.Ways.{chain_is}

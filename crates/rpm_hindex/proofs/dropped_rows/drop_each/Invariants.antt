@@ -9,7 +9,7 @@ use Rattle.rpm_hindex.specs.Costs.{chains_bytes}
 use Rattle.rpm_hindex.specs.Whole.{IsWellFormed}
 use Rattle.rpm_hindex.specs.inner.Changes.{CanGo, HasLess, IsCut, IsHonest, kept_of, is_kept}
 use Rattle.rpm_hindex.specs.inner.Starts.{AreStarts, StandWithin}
-use Rattle.rpm_hindex.proofs.planning.drop_each.Given as goal
+use Rattle.rpm_hindex.proofs.dropped_rows.drop_each.Given as goal
 
 abbrev pub invariant-loop-left : goal.invariant-loop-left
 invariant-loop-left g l = record {

@@ -5,7 +5,7 @@ use Rattle.rpm_outside.specs.inner.Looking.{looks_at_then}
 use Rattle.rpm_hindex.specs.Index.{index_in}
 use Rattle.rpm_hindex.specs.inner.Changes.{IsBadSoFar, HasNoFault, HasFault}
 use Rattle.rpm_hindex.proofs.Honest.{bad_chain, bad_so_far, bad_other, not_bad}
-use Rattle.rpm_hindex.proofs.planning.drop_rows.Goals as goal
+use Rattle.rpm_hindex.proofs.dropped_rows.drop_rows.Goals as goal
 
 pub returns-then-not-is_count_fault-clause-bad : goal.returns-then-not-is_count_fault-clause-bad
 returns-then-not-is_count_fault-clause-bad g c = λ told honest.

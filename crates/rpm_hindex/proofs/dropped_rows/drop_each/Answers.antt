@@ -19,7 +19,7 @@ use Rattle.std.specs.Map.{lookup}
 use Rattle.std.proofs.lemmas.List.{drop_all}
 use Rattle.rpm_hindex.specs.declared.finding.Start.{Start}
 use Rattle.rpm_hindex.specs.inner.Starts.{AreStarts, StandWithin}
-use Rattle.rpm_hindex.proofs.planning.drop_each.Goals as goal
+use Rattle.rpm_hindex.proofs.dropped_rows.drop_each.Goals as goal
 
 pub loop-left-init : goal.loop-left-init
 loop-left-init g c = record {

@@ -6,7 +6,7 @@ use Rattle.rpm_hindex.specs.Index.{index_in, is_sound, row_at, length_at}
 use Rattle.rpm_hindex.specs.Answers.{has_key}
 use Rattle.rpm_hindex.proofs.Steps.{moved, other_row, same_by_key, number_at, place_at}
 use Rattle.rpm_hindex.proofs.Meets.{placed_still, head_still, fault_from, both_read}
-use Rattle.rpm_hindex.proofs.spots.meet.Goals as goal
+use Rattle.rpm_hindex.proofs.heads.meet.Goals as goal
 
 pub returns-in-Err-clause-fault : goal.returns-in-Err-clause-fault
 returns-in-Err-clause-fault g c = λ told. c.in-Err.ensures.fault told c.args.bucket

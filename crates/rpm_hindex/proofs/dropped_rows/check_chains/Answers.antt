@@ -6,7 +6,7 @@ use Rattle.rpm_outside.specs.declared.disk.File.TheVariants.{Idx}
 use Rattle.rpm_outside.specs.inner.Looking.{looks_at_then}
 use Rattle.rpm_hindex.specs.Index.{index_in, chain}
 use Rattle.rpm_hindex.specs.Answers.{IsFaultOf}
-use Rattle.rpm_hindex.proofs.planning.check_chains.Goals as goal
+use Rattle.rpm_hindex.proofs.dropped_rows.check_chains.Goals as goal
 
 pub loop-bucket-preserved : goal.loop-bucket-preserved
 loop-bucket-preserved g c =

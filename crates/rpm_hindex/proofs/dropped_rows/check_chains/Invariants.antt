@@ -3,7 +3,7 @@ use Rattle.std.specs.Prelude.{IsTrue, IsOk}
 use Rattle.rpm_outside.specs.Looks.{LooksAt}
 use Rattle.rpm_outside.specs.declared.disk.File.TheVariants.{Idx}
 use Rattle.rpm_hindex.specs.Index.{index_in, chain}
-use Rattle.rpm_hindex.proofs.planning.check_chains.Given as goal
+use Rattle.rpm_hindex.proofs.dropped_rows.check_chains.Given as goal
 
 abbrev pub invariant-loop-bucket : goal.invariant-loop-bucket
 invariant-loop-bucket g l = record {

@@ -7,7 +7,7 @@ use Rattle.rpm_hindex.specs.Index.{Index, index_in, key_at}
 use Rattle.rpm_hindex.specs.Answers.{has_key}
 use Rattle.rpm_hindex.proofs.Chains.{follow_bad, unsound_bucket, sound_from, placed_parts}
 use Rattle.rpm_hindex.proofs.AsRead.{key_read, row_read}
-use Rattle.rpm_hindex.proofs.spots.meets_key.Goals as goal
+use Rattle.rpm_hindex.proofs.heads.meets_key.Goals as goal
 
 pub read_key_into-requires-clause-within : goal.read_key_into-requires-clause-within
 read_key_into-requires-clause-within g c = λ told.

@@ -4,7 +4,7 @@ use Rattle.rpm_hindex.specs.Index.{Index, index_in}
 use Rattle.rpm_hindex.proofs.Chains.{follow_bad, unsound_place, placed_parts}
 use Rattle.rpm_hindex.proofs.FollowedLinks.{within, behind_front}
 use Rattle.rpm_hindex.proofs.AsRead.{alone}
-use Rattle.rpm_hindex.proofs.spots.read_head.Goals as goal
+use Rattle.rpm_hindex.proofs.heads.read_head.Goals as goal
 
 pub returns-then-not-is_placed-clause-fault : goal.returns-then-not-is_placed-clause-fault
 returns-then-not-is_placed-clause-fault g c = λ told b.

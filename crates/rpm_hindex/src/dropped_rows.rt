@@ -1,0 +1,132 @@
+//! The rows that a change drops.
+
+ghost use Rattle.std.specs.Prelude.{◌≡◌, ◌+◌, ◌*◌, ◌/◌, ◌%◌, ◌^◌, ◌≤◌, ◌<◌, IsTrue, true, false, length, ◌++◌, OnOk, IfErr, Err};
+ghost use Rattle.std.specs.Ordering.{nat_cmp};
+ghost use Rattle.std.specs.BTreeMap.{get};
+ghost use Rattle.rpm_outside.specs.Causes.{HasCauseAt};
+ghost use Rattle.rpm_outside.specs.declared.disk.File.TheVariants.{Idx};
+ghost use Rattle.rpm_outside.specs.Looks.{LooksAt};
+ghost use Rattle.rpm_hindex.specs.inner.Records.{IsOpen};
+ghost use Rattle.rpm_hindex.specs.inner.Changes.{CanGo, IsCut, IsHonest, IsBadSoFar, HasNoFault, HasFault, IsOther, HasLess, kept_of, is_kept};
+ghost use Rattle.rpm_hindex.specs.Refusals.{IsBad};
+ghost use Rattle.rpm_hindex.specs.Index.{index_in};
+ghost use Rattle.rpm_hindex.specs.Costs.{chains_bytes};
+ghost use Rattle.rpm_hindex.specs.Whole.{IsWellFormed};
+
+use crate::chain::Extent;
+use crate::change::{Change, prepare_fault, row_ref};
+use crate::faults::{FindFault, PrepareFault};
+use crate::kept_rows::check_chain;
+use crate::rows::Rows;
+use rpm_outside::Disk;
+use std::alloc::Global;
+use std::collections::BTreeMap;
+
+/// Drops a record of each of these rows, where there is one. The last row first: a package's rows stand in their chains newest first, so that
+/// each is met at once behind the one that was dropped before it.
+fn drop_each<D: Disk>(
+    alloc: Global,
+    disk: &mut D,
+    change: &mut Change,
+    rows: &Rows,
+) -> Result<(), PrepareFault>
+    requires go { CanGo change.old }
+    requires open { IsTrue D.tells → IsOpen change.old.extent (D.files disk.old).idx }
+    ensures go { OnOk result (CanGo change.new) }
+    ensures other { IfErr result (λ e. IsOther e) }
+    ensures extent { OnOk result (change.new.extent ≡ change.old.extent) }
+    ensures tail { OnOk result (change.new.tail ≡ change.old.tail) }
+    ensures none { OnOk result (length rows.now ≡ 0 → change.new ≡ change.old) }
+    ensures less { OnOk result (IsTrue D.tells → IsWellFormed change.old.extent.buckets (D.files disk.old).idx → HasLess rows.now
+        (kept_of (index_in change.old.extent.buckets (D.files disk.old).idx) (is_kept (λ p. get nat_cmp change.old.dropped p)))
+        (kept_of (index_in change.old.extent.buckets (D.files disk.old).idx) (is_kept (λ p. get nat_cmp change.new.dropped p)))) }
+    ensures cuts { OnOk result (IsTrue D.tells → IsWellFormed change.old.extent.buckets (D.files disk.old).idx → length change.old.tail.items ≡ 0
+        → IsCut change.old (D.files disk.old).idx → IsCut change.new (D.files disk.old).idx) }
+    ensures honest { OnOk result (IsTrue D.tells → IsHonest change.old (D.files disk.old).idx → IsHonest change.new (D.files disk.old).idx) }
+    ensures bad { IfErr result (λ e. IsTrue D.tells → IsHonest change.old (D.files disk.old).idx
+        → IsBadSoFar change.old.extent.buckets (D.files disk.old).idx e) }
+    ensures cost { IsTrue D.tells → IsWellFormed change.old.extent.buckets (D.files disk.old).idx → D.bytes_read disk.new Idx ≤ D.bytes_read disk.old
+        Idx + chains_bytes (index_in change.old.extent.buckets (D.files disk.old).idx) rows.now }
+    ensures looks { LooksAt D.tells D.files D.left_since D.moment D.bytes_read D.follows Idx disk.old disk.new }
+    ensures cause { HasCauseAt (result ≡ Err PrepareFault.DiskFault) (D.faults disk.old) (D.faults disk.new) }
+{
+    let mut starts = BTreeMap::new(alloc);
+    let mut left = rows.len();
+    while left > 0 {
+        left -= 1;
+        if let Err(fault) = change.drop_row(alloc, disk, &mut starts, row_ref(rows, left)) {
+            return Err(fault);
+        }
+    }
+    Ok(())
+}
+
+/// Goes over the chains of all buckets.
+fn check_chains<D: Disk>(alloc: Global, disk: &mut D, extent: Extent) -> Result<(), FindFault>
+    requires few { extent.buckets ≤ 2 ^ 28 }
+    requires open { IsTrue D.tells → IsOpen extent (D.files disk.old).idx }
+    ensures none { OnOk result (IsTrue D.tells → HasNoFault (index_in extent.buckets (D.files disk.old).idx)) }
+    ensures fault { IfErr result (λ e. IsTrue D.tells → HasFault (index_in extent.buckets (D.files disk.old).idx) e) }
+    ensures looks { LooksAt D.tells D.files D.left_since D.moment D.bytes_read D.follows Idx disk.old disk.new }
+    ensures cause { HasCauseAt (result ≡ Err FindFault.DiskFault) (D.faults disk.old) (D.faults disk.new) }
+{
+    let mut buffer = Vec::new(alloc);
+    for bucket in 0..extent.buckets {
+        if let Err(fault) = check_chain(alloc, disk, extent, bucket, &mut buffer) {
+            return Err(fault);
+        }
+    }
+    Ok(())
+}
+
+/// Whether a fault says that unit 1 counts too little.
+fn is_count_fault(fault: PrepareFault) -> bool
+    ensures yes { result ≡ true → fault ≡ PrepareFault.BadIndex 1 }
+    ensures no { result ≡ false → fault ≡ PrepareFault.BadIndex 1 → ⊥ }
+{
+    match fault {
+        PrepareFault::BadIndex { unit } => unit == 1,
+        _ => false,
+    }
+}
+
+/// Drops a record of each of these rows, where there is one. That unit 1 counts too little is said only where no chain has a fault: all
+/// are read then.
+pub fn drop_rows<D: Disk>(
+    alloc: Global,
+    disk: &mut D,
+    change: &mut Change,
+    rows: &Rows,
+) -> Result<(), PrepareFault>
+    requires go { CanGo change.old }
+    requires open { IsTrue D.tells → IsOpen change.old.extent (D.files disk.old).idx }
+    ensures go { OnOk result (CanGo change.new) }
+    ensures other { IfErr result (λ e. IsOther e) }
+    ensures extent { OnOk result (change.new.extent ≡ change.old.extent) }
+    ensures tail { OnOk result (change.new.tail ≡ change.old.tail) }
+    ensures none { OnOk result (length rows.now ≡ 0 → change.new ≡ change.old) }
+    ensures less { OnOk result (IsTrue D.tells → IsWellFormed change.old.extent.buckets (D.files disk.old).idx → HasLess rows.now
+        (kept_of (index_in change.old.extent.buckets (D.files disk.old).idx) (is_kept (λ p. get nat_cmp change.old.dropped p)))
+        (kept_of (index_in change.old.extent.buckets (D.files disk.old).idx) (is_kept (λ p. get nat_cmp change.new.dropped p)))) }
+    ensures cuts { OnOk result (IsTrue D.tells → IsWellFormed change.old.extent.buckets (D.files disk.old).idx → length change.old.tail.items ≡ 0
+        → IsCut change.old (D.files disk.old).idx → IsCut change.new (D.files disk.old).idx) }
+    ensures honest { OnOk result (IsTrue D.tells → IsHonest change.old (D.files disk.old).idx → IsHonest change.new (D.files disk.old).idx) }
+    ensures bad { IfErr result (λ e. IsTrue D.tells → IsHonest change.old (D.files disk.old).idx → IsBad change.old.extent.buckets (D.files disk.old).idx e) }
+    ensures cost { IsTrue D.tells → IsWellFormed change.old.extent.buckets (D.files disk.old).idx → IsHonest change.old (D.files disk.old).idx
+        → D.bytes_read disk.new Idx ≤ D.bytes_read disk.old
+        Idx + chains_bytes (index_in change.old.extent.buckets (D.files disk.old).idx) rows.now }
+    ensures looks { LooksAt D.tells D.files D.left_since D.moment D.bytes_read D.follows Idx disk.old disk.new }
+    ensures cause { HasCauseAt (result ≡ Err PrepareFault.DiskFault) (D.faults disk.old) (D.faults disk.new) }
+{
+    let extent = change.extent;
+    let Err(fault) = drop_each(alloc, disk, change, rows) else {
+        return Ok(());
+    };
+    if !is_count_fault(fault) {
+        return Err(fault);
+    }
+    match check_chains(alloc, disk, extent) {
+        Ok(()) => Err(fault),
+        Err(first) => Err(prepare_fault(first)),
+    }
+}

@@ -1,0 +1,193 @@
+//! The first unit of a record, and whether the record is of a row.
+
+ghost use Rattle.std.specs.Prelude.{◌≡◌, ℕ, ◌+◌, ◌*◌, ◌/◌, ◌%◌, ◌^◌, ◌≤◌, ◌<◌, ◌&&◌, IsTrue, true, false, length, IfOk, IfErr, Ok, Err, if◌then◌else◌};
+ghost use Rattle.rpm_outside.specs.Files.{unit_at};
+ghost use Rattle.rpm_outside.specs.Causes.{HasCauseAt};
+ghost use Rattle.rpm_outside.specs.Looks.{Looks, LooksAt};
+ghost use Rattle.rpm_outside.specs.declared.disk.File.TheVariants.{Idx};
+ghost use Rattle.rpm_hindex.specs.Rows.{hash_of};
+ghost use Rattle.rpm_hindex.specs.Index.{index_in, follow, is_placed, is_sound, row_at, length_at, units_at};
+ghost use Rattle.rpm_hindex.specs.Answers.{IsFaultOf, has_key};
+ghost use Rattle.rpm_hindex.specs.inner.Records.{IsOpen};
+ghost use Rattle.rpm_hindex.specs.inner.Spots.{IsHead, IsAhead, IsMet, IsNext};
+
+use crate::chain::{Extent, is_placed};
+use crate::faults::FindFault;
+use crate::hashing::bucket_of;
+use crate::reading::{read_key_into, read_unit};
+use crate::rows::RowRef;
+use crate::words::word;
+use rpm_outside::Disk;
+
+/// Where a record stands, and the numbers of its first unit but for its next.
+#[derive(Clone, Copy)]
+pub struct Head {
+    pub at: u32,
+    pub size: u32,
+    pub number: u32,
+    pub place: u32,
+}
+
+/// The first unit of a record, as it was read.
+#[derive(Clone, Copy)]
+pub struct Ahead {
+    pub next: u32,
+    pub head: Head,
+}
+
+/// A record on the way through a chain, and whether it is of the row that is looked for.
+#[derive(Clone, Copy)]
+pub struct Met {
+    pub next: u32,
+    pub head: Head,
+    pub is_row: bool,
+}
+
+/// Reads the first unit of the record at a unit that a link names.
+pub fn read_head<D: Disk>(disk: &mut D, extent: Extent, at: u32) -> Result<Ahead, FindFault>
+    requires few { extent.buckets ≤ 2 ^ 28 }
+    requires open { IsTrue D.tells → IsOpen extent (D.files disk.old).idx }
+    requires some_at { 0 < at }
+    requires within { at < extent.used }
+    ensures here { IfOk result (λ a. a.head.at ≡ at) }
+    ensures falls { IfOk result (λ a. a.next < at) }
+    ensures linked { IfOk result (λ a. IsNext extent.buckets extent.used a.next) }
+    ensures ahead { IfOk result (λ a. IsTrue D.tells → IsAhead (index_in extent.buckets (D.files disk.old).idx) at a) }
+    ensures fault { IfErr result (λ e. IsTrue D.tells → (b : ℕ) → IsFaultOf (follow (index_in extent.buckets (D.files disk.old).idx) b at at) e) }
+    ensures looks { Looks D.tells D.files D.left_since D.moment D.bytes_read D.follows Idx 16 disk.old disk.new }
+    ensures cause { HasCauseAt (result ≡ Err FindFault.DiskFault) (D.faults disk.old) (D.faults disk.new) }
+{
+    let Ok(unit) = read_unit(disk, at as u64) else {
+        return Err(FindFault::DiskFault);
+    };
+    if !is_placed(extent, at, &unit) {
+        return Err(FindFault::BadIndex { unit: at as u64 });
+    }
+    let head = Head {
+        at,
+        size: word(&unit, 1),
+        number: word(&unit, 2),
+        place: word(&unit, 3),
+    };
+    Ok(Ahead {
+        next: word(&unit, 0),
+        head,
+    })
+}
+
+/// Whether a key is of this bucket, which is the bucket of another key.
+fn is_of_bucket(
+    kind: u8,
+    key: &[u8],
+    other_kind: u8,
+    other: &[u8],
+    buckets: u32,
+    bucket: u32,
+) -> bool
+    requires some { 0 < buckets }
+    requires bucket { hash_of other_kind other.now % buckets ≡ bucket }
+    ensures yes { result ≡ true → hash_of kind key.now % buckets ≡ bucket }
+    ensures no { result ≡ false → hash_of kind key.now % buckets ≡ bucket → ⊥ }
+{
+    key == other && kind == other_kind || bucket_of(kind, key, buckets) == bucket
+}
+
+/// Whether two kinds and two keys are the same.
+fn is_key(kind: u8, key: &[u8], other_kind: u8, other: &[u8]) -> bool
+    ensures { (number place : ℕ) → result ≡ has_key kind key.now (record { kind = other_kind; key = other.now; number = number; place = place }) }
+{
+    kind == other_kind && key == other
+}
+
+/// Reads the key of a record, whose first unit was read, into a buffer: whether it is this kind's key, which is of the bucket. A function
+/// of its own, so that passing a record stays short.
+#[inline(never)]
+pub fn meets_key<D: Disk>(
+    disk: &mut D,
+    extent: Extent,
+    bucket: u32,
+    head: Head,
+    kind: u8,
+    key: &[u8],
+    buffer: &mut Vec<u8>,
+) -> Result<bool, FindFault>
+    requires few { extent.buckets ≤ 2 ^ 28 }
+    requires some { 0 < extent.buckets }
+    requires open { IsTrue D.tells → IsOpen extent (D.files disk.old).idx }
+    requires some_at { 0 < head.at }
+    requires placed { IsTrue D.tells → is_placed (index_in extent.buckets (D.files disk.old).idx) head.at ≡ true }
+    requires head { IsTrue D.tells → IsHead (unit_at (D.files disk.old).idx) head }
+    requires bucket { hash_of kind key.now % extent.buckets ≡ bucket }
+    ensures same { IfOk result (λ is. IsTrue D.tells → is ≡ has_key kind key.now (row_at (unit_at (D.files disk.old).idx) head.at)) }
+    ensures sound { IfOk result (λ is. IsTrue D.tells → is_sound (index_in extent.buckets (D.files disk.old).idx) bucket head.at ≡ true) }
+    ensures long { IfOk result (λ is. IsTrue D.tells → length (row_at (unit_at (D.files disk.old).idx) head.at).key
+        ≡ length_at (unit_at (D.files disk.old).idx) head.at) }
+    ensures fault { IfErr result (λ e. IsTrue D.tells → IsFaultOf (follow (index_in extent.buckets (D.files disk.old).idx) bucket head.at head.at) e) }
+    ensures looks { Looks D.tells D.files D.left_since D.moment D.bytes_read D.follows Idx (16 * ((head.size % 2 ^ 28 + 15) / 16)) disk.old disk.new }
+    ensures cause { HasCauseAt (result ≡ Err FindFault.DiskFault) (D.faults disk.old) (D.faults disk.new) }
+{
+    let length = head.size % 268_435_456;
+    if let Err(fault) = read_key_into(disk, head.at as u64 + 1, length, buffer) {
+        return Err(fault);
+    }
+    let found_kind = (head.size / 268_435_456) as u8;
+    let found = &buffer[..length as usize];
+    if !is_of_bucket(found_kind, found, kind, key, extent.buckets, bucket) {
+        return Err(FindFault::BadIndex {
+            unit: head.at as u64,
+        });
+    }
+    Ok(is_key(kind, key, found_kind, found))
+}
+
+/// Whether a record has the row's number and place.
+fn may_be(head: Head, row: RowRef<'_>) -> bool
+    ensures yes { result ≡ true → (row.entry.number ≡ head.number) × (row.entry.place ≡ head.place) }
+    ensures no { result ≡ false → row.entry.number ≡ head.number → row.entry.place ≡ head.place → ⊥ }
+{
+    row.number == head.number && row.place == head.place
+}
+
+/// Reads the record at a unit that a link names, and its key only where the record has the row's number and place.
+pub fn meet<D: Disk>(
+    disk: &mut D,
+    extent: Extent,
+    bucket: u32,
+    at: u32,
+    row: RowRef<'_>,
+    buffer: &mut Vec<u8>,
+) -> Result<Met, FindFault>
+    requires few { extent.buckets ≤ 2 ^ 28 }
+    requires some { 0 < extent.buckets }
+    requires open { IsTrue D.tells → IsOpen extent (D.files disk.old).idx }
+    requires some_at { 0 < at }
+    requires within { at < extent.used }
+    requires bucket { hash_of row.kind row.key.now % extent.buckets ≡ bucket }
+    ensures here { IfOk result (λ m. m.head.at ≡ at) }
+    ensures falls { IfOk result (λ m. m.next < at) }
+    ensures linked { IfOk result (λ m. IsNext extent.buckets extent.used m.next) }
+    ensures met { IfOk result (λ m. IsTrue D.tells → IsMet (index_in extent.buckets (D.files disk.old).idx) at
+        (record { kind = row.entry.kind; key = row.entry.key.now; number = row.entry.number; place = row.entry.place }) m) }
+    ensures sound { IfOk result (λ m. IsTrue D.tells → m.is_row ≡ true → is_sound (index_in extent.buckets (D.files disk.old).idx) bucket at ≡ true) }
+    ensures fault { IfErr result (λ e. IsTrue D.tells → IsFaultOf (follow (index_in extent.buckets (D.files disk.old).idx) bucket at at) e) }
+    ensures cost { IsTrue D.tells → is_sound (index_in extent.buckets (D.files disk.old).idx) bucket at ≡ true → D.bytes_read disk.new Idx
+        ≤ D.bytes_read disk.old Idx + 16 * units_at (unit_at (D.files disk.old).idx) at }
+    ensures looks { LooksAt D.tells D.files D.left_since D.moment D.bytes_read D.follows Idx disk.old disk.new }
+    ensures cause { HasCauseAt (result ≡ Err FindFault.DiskFault) (D.faults disk.old) (D.faults disk.new) }
+{
+    let Ahead { next, head } = match read_head(disk, extent, at) {
+        Ok(ahead) => ahead,
+        Err(fault) => return Err(fault),
+    };
+    if !may_be(head, row) {
+        return Ok(Met {
+            next,
+            head,
+            is_row: false,
+        });
+    }
+    match meets_key(disk, extent, bucket, head, row.kind, row.key, buffer) {
+        Ok(is_row) => Ok(Met { next, head, is_row }),
+        Err(fault) => Err(fault),
+    }
+}
