@@ -1,8 +1,9 @@
 -- A change that cuts a record out of its chain.
 use Rattle.std.proofs.Common.{◌≡◌, ℕ, suc, ◌-◌, ◌%◌, ◌<◌, ◌≤◌, List, [], ◌∷◌, ◌++◌, length, Bool, true, false, not, ◌&&◌, cond, ltb, BTreeMap, refl, sym, ap, ◌∙◌, arith, subst, inl, inr}
-use Rattle.std.specs.Prelude.{Option, Some, None, unwrap_or, is_some}
+use Rattle.std.specs.Prelude.{Option, Some, None, unwrap_or}
 use Rattle.std.specs.Ordering.{nat_cmp}
 use Rattle.std.specs.BTreeMap.{get}
+use Rattle.std.specs.BTreeSet.{BTreeSet, contains}
 use Rattle.std.specs.List.{Contains, filter}
 use Rattle.std.proofs.lemmas.List.{append_assoc}
 use Rattle.std.proofs.lemmas.List.Elements.{Contains-append_right}
@@ -17,7 +18,7 @@ use Rattle.rpm_hindex.specs.Rows.{Row, times}
 use Rattle.rpm_hindex.specs.inner.Records.{IsOpen}
 use Rattle.rpm_hindex.specs.Index.{Index, index_in, is_link, next_at, units_at, row_at, bucket_of, bucket_unit, places_of, all_places, rows_of}
 use Rattle.rpm_hindex.specs.Whole.{IsWhole, IsWellFormed}
-use Rattle.rpm_hindex.specs.inner.Changes.{CanGo, Puts, SetsBucket, SetsNext, Unlinks, Stays, IsCut, changing, unit_after, is_kept, kept_of}
+use Rattle.rpm_hindex.specs.inner.Changes.{CanGo, Puts, Drops, SetsBucket, SetsNext, Unlinks, Stays, IsCut, changing, unit_after, is_kept, kept_of}
 use Rattle.rpm_hindex.specs.inner.Spots.{IsHead, IsLast, IsSpot}
 use Rattle.rpm_hindex.proofs.Chains.{sound_parts}
 use Rattle.rpm_hindex.proofs.FollowedLinks.{IsChain}
@@ -32,7 +33,7 @@ use Rattle.rpm_hindex.proofs.Cutting.{but, between, stays_then, first_is, chain_
 
 module _ (c : Change) (file : Units) (go : CanGo c) (none : length c.tail.items ≡ 0) (opens : IsOpen c.extent file)
     (well : IsWellFormed c.extent.buckets file) (cut : IsCut c file)
-    (units : BTreeMap ℕ (List ℕ)) (dropped : BTreeMap ℕ ℕ) (n : ℕ) (b : ℕ) (below : b < c.extent.buckets) where
+    (units : BTreeMap ℕ (List ℕ)) (dropped : BTreeSet ℕ) (n : ℕ) (b : ℕ) (below : b < c.extent.buckets) where
   abbrev x : Index
   x = index_in c.extent.buckets file
 
@@ -46,10 +47,10 @@ module _ (c : Change) (file : Units) (go : CanGo c) (none : length c.tail.items 
   z = changing d file
 
   abbrev kept : ℕ → Bool
-  kept = is_kept (λ p. get nat_cmp c.dropped p)
+  kept = is_kept (λ p. contains nat_cmp c.dropped p)
 
   abbrev later : ℕ → Bool
-  later = is_kept (λ p. get nat_cmp dropped p)
+  later = is_kept (λ p. contains nat_cmp dropped p)
 
   abbrev ks : ℕ → List ℕ
   ks a = filter kept (places_of x a)
@@ -87,13 +88,13 @@ module _ (c : Change) (file : Units) (go : CanGo c) (none : length c.tail.items 
       cond-true (ltb key c.extent.used) (unit_after new file key) (unit_at (units_of c.tail.items) (key - c.extent.used)) (lt-ltb key c.extent.used lt)
       ∙ ap (λ (o : Option (List ℕ)). unwrap_or o (unit_at file key)) put.here
 
-  both : (p : ℕ) → Puts (λ q. get nat_cmp c.dropped q) (λ q. get nat_cmp dropped q) p p → (q : ℕ) → later q ≡ (kept q && is_other p q)
+  both : (p : ℕ) → Drops (λ q. contains nat_cmp c.dropped q) (λ q. contains nat_cmp dropped q) p → (q : ℕ) → later q ≡ (kept q && is_other p q)
   both p put q = elim (cases_eq q p) [
     | inl same ↦
-        let gone : later q ≡ false = ap later same ∙ ap (λ (o : Option ℕ). not (is_some o)) put.here in
+        let gone : later q ≡ false = ap later same ∙ ap not put.here in
         gone ∙ sym (and_right (kept q) (is_other p q) (ap not (eq-eqb q p same)))
     | inr other ↦
-        let stays : later q ≡ kept q = ap (λ (o : Option ℕ). not (is_some o)) (put.others q other) in
+        let stays : later q ≡ kept q = ap not (put.others q other) in
         stays ∙ and_true (kept q) (is_other p q) (ap not (ne_eqb q p other))
   ] where
     and_true : (s t : Bool) → t ≡ true → s ≡ (s && t)
@@ -101,8 +102,8 @@ module _ (c : Change) (file : Units) (go : CanGo c) (none : length c.tail.items 
     and_true false t is = refl
 
   -- whatever is cut
-  finish : (pre : List ℕ) (p : ℕ) (post : List ℕ) → ks b ≡ pre ++ p ∷ post → n ≡ units_at x.unit p → Puts (λ q. get nat_cmp c.dropped q)
-      (λ q. get nat_cmp dropped q) p p
+  finish : (pre : List ℕ) (p : ℕ) (post : List ℕ) → ks b ≡ pre ++ p ∷ post → n ≡ units_at x.unit p → Drops (λ q. contains nat_cmp c.dropped q)
+      (λ q. contains nat_cmp dropped q) p
       → ((q : ℕ) → Contains (all_places x) q → Stays x.unit z.unit q) → (is_link z (z.head b) ≡ true) × IsChain z b (z.head b) (pre ++ post)
       → ((a : ℕ) → a < c.extent.buckets → (a ≡ b → ⊥) → z.head a ≡ y.head a)
       → ((a q : ℕ) → a < c.extent.buckets → (a ≡ b → ⊥) → Contains (ks a) q → next_at z.unit q ≡ next_at y.unit q) → IsCut d file
@@ -118,7 +119,7 @@ module _ (c : Change) (file : Units) (go : CanGo c) (none : length c.tail.items 
 
   -- the first of a chain
   first_cut : (p to : ℕ) (post : List ℕ) → ks b ≡ p ∷ post → first_of post ≡ to → SetsBucket file old new b to → n ≡ units_at x.unit p
-      → Puts (λ q. get nat_cmp c.dropped q) (λ q. get nat_cmp dropped q) p p → IsCut d file
+      → Drops (λ q. contains nat_cmp c.dropped q) (λ q. contains nat_cmp dropped q) p → IsCut d file
   first_cut p to post is behind_is sets size put =
       let key = bucket_unit b in
       let behind : (i : ℕ) → first_record c.extent.buckets ≤ i → z.unit i ≡ y.unit i = λ i ge. unit_other key sets.words sets.put i
@@ -158,7 +159,7 @@ module _ (c : Change) (file : Units) (go : CanGo c) (none : length c.tail.items 
   -- or one behind another
   later_cut : (pre post : List ℕ) (h : Head) (at to : ℕ) → ks b ≡ pre ++ h.at ∷ at ∷ post → first_of post ≡ to → IsHead x.unit h → SetsNext old new h to
       → n ≡ units_at x.unit at
-      → Puts (λ q. get nat_cmp c.dropped q) (λ q. get nat_cmp dropped q) at at → IsCut d file
+      → Drops (λ q. contains nat_cmp c.dropped q) (λ q. contains nat_cmp dropped q) at → IsCut d file
   later_cut pre post h at to all behind_is is sets size put =
       let from = h.at in
       let w = sets.words in
@@ -206,12 +207,12 @@ module _ (c : Change) (file : Units) (go : CanGo c) (none : length c.tail.items 
       (λ a q lt other m. ap (word 0) (others q (λ e. absurd (elsewhere from mine a q lt other m e))))
 
   pub drop_cuts : (row : Row) (s : Spot) → is_link x (x.head b) ≡ true → IsSpot x b (x.head b) 0 kept row s → Unlinks file old new b s.before s.behind
-      → n ≡ units_at x.unit s.at → Puts (λ q. get nat_cmp c.dropped q) (λ q. get nat_cmp dropped q) s.at s.at → IsCut d file
+      → n ≡ units_at x.unit s.at → Drops (λ q. contains nat_cmp c.dropped q) (λ q. contains nat_cmp dropped q) s.at → IsCut d file
   drop_cuts row s link is sets size put =
       let t = splits x b kept row s link (chain_are x b (well.chains b below)) is in
       by_before s.before t.before s.at s.behind t.after t.are t.next t.last sets size put where
         by_before : (o : Option Head) (front : List ℕ) (at to : ℕ) (after : List ℕ) → ks b ≡ front ++ at ∷ after → first_of after ≡ to → IsLast x.unit front o
-            → Unlinks file old new b o to → n ≡ units_at x.unit at → Puts (λ q. get nat_cmp c.dropped q) (λ q. get nat_cmp dropped q) at at → IsCut d file
+            → Unlinks file old new b o to → n ≡ units_at x.unit at → Drops (λ q. contains nat_cmp c.dropped q) (λ q. contains nat_cmp dropped q) at → IsCut d file
         by_before None front at to after are next none sets size put =
             first_cut at to after (are ∙ ap (λ (ps : List ℕ). ps ++ at ∷ after) none) next sets size put
         by_before (Some h) front at to after are next (head, (pre, is)) sets size put =
@@ -219,9 +220,9 @@ module _ (c : Change) (file : Units) (go : CanGo c) (none : length c.tail.items 
 
 -- what is left of the rows
 pub rows_cut : (c : Change) (file : Units) → length c.tail.items ≡ 0 → IsOpen c.extent file → IsWellFormed c.extent.buckets file → IsCut c file
-    → (r : Row) → times r (rows_of (changing c file)) ≡ times r (kept_of (index_in c.extent.buckets file) (is_kept (λ p. get nat_cmp c.dropped p)))
+    → (r : Row) → times r (rows_of (changing c file)) ≡ times r (kept_of (index_in c.extent.buckets file) (is_kept (λ p. contains nat_cmp c.dropped p)))
 rows_cut c file none opens well cut r =
     let y : Index = changing c file in
     let x : Index = index_in c.extent.buckets file in
-    rows_kept x y (is_kept (λ p. get nat_cmp c.dropped p)) refl (has_chains x well.chains) (λ a lt. let h = has_chains y cut.whole.chains a lt in
+    rows_kept x y (is_kept (λ p. contains nat_cmp c.dropped p)) refl (has_chains x well.chains) (λ a lt. let h = has_chains y cut.whole.chains a lt in
     (h.0, subst (IsChain y a (y.head a)) (cut.chains a lt) h.1)) cut.stays r

@@ -1,6 +1,5 @@
 -- A row is dropped.
 use Rattle.std.proofs.Common.{◌≡◌, ℕ, zero, suc, ◌<◌, List, [], ◌∷◌, length, Bool, true, false, not, Result, Ok, Err, refl, sym, ap, ◌∙◌, arith, subst, inl, inr}
-use Rattle.std.specs.Prelude.{Option, is_some}
 use Rattle.std.specs.List.{Contains, filter}
 use Rattle.std.proofs.lemmas.List.Elements.{Contains-append_right}
 use Rattle.std.proofs.lemmas.Bool.{cases_Bool, cond-true, cond-false}
@@ -9,7 +8,7 @@ use Rattle.rpm_hindex.specs.Rows.{Row}
 use Rattle.rpm_hindex.specs.Index.{Index, is_link, row_at, units_at, chain, bucket_of, places_of, places_in}
 use Rattle.rpm_hindex.specs.Sizes.{record_units}
 use Rattle.rpm_hindex.specs.Whole.{IsWhole}
-use Rattle.rpm_hindex.specs.inner.Changes.{HasLess, kept_of, is_kept, Puts}
+use Rattle.rpm_hindex.specs.inner.Changes.{HasLess, kept_of, is_kept, Drops}
 use Rattle.rpm_hindex.specs.inner.Spots.{IsSpot, HasNone}
 use Rattle.rpm_hindex.specs.Answers.{HitsAre}
 use Rattle.rpm_hindex.proofs.Costing.{chain_are}
@@ -48,7 +47,7 @@ pub spot_units : (x : Index) (b from : ℕ) (kept : ℕ → Bool) (row : Row) (s
 spot_units x b from kept row s is n long =
     long ∙ ap (λ (r : Row). record_units (length r.key)) (same_is row (row_at x.unit s.at) is.same) ∙ ap record_units is.long
 
-module _ (x : Index) (count live : ℕ) (whole : IsWhole count live x) (row : Row) (dropped : ℕ → Option ℕ) (b : ℕ)
+module _ (x : Index) (count live : ℕ) (whole : IsWhole count live x) (row : Row) (dropped : ℕ → Bool) (b : ℕ)
     (below : b < x.buckets) (mine : b ≡ bucket_of x.buckets row) where
   has : HasChains x (places_of x)
   has = has_chains x whole.chains
@@ -66,13 +65,13 @@ module _ (x : Index) (count live : ℕ) (whole : IsWhole count live x) (row : Ro
       none q (subst (λ (ps : List ℕ). Contains ps q) same (subst (λ (n : ℕ). Contains (places_of x n) q) (sym mine) c)) stays))
 
   -- there is one
-  pub drops_one : (s : Spot) (new : ℕ → Option ℕ) → is_link x (x.head b) ≡ true → IsSpot x b (x.head b) 0 (is_kept dropped) row s → Puts dropped new s.at s.at
+  pub drops_one : (s : Spot) (new : ℕ → Bool) → is_link x (x.head b) ≡ true → IsSpot x b (x.head b) 0 (is_kept dropped) row s → Drops dropped new s.at
       → HasLess (row ∷ []) (kept_of x (is_kept dropped)) (kept_of x (is_kept new))
   drops_one s new link is put =
       let q = spot_in x b (is_kept dropped) row s link said is in
-      let gone : is_kept new s.at ≡ false = ap (λ (o : Option ℕ). not (is_some o)) put.here in
+      let gone : is_kept new s.at ≡ false = ap not put.here in
       less_one x has row (is_kept dropped) b s.at below q (same_is row (row_at x.unit s.at) is.same) (is_kept new) is.stays gone
-      (λ r other. ap (λ (o : Option ℕ). not (is_some o)) (put.others r other))
+      (λ r other. ap not (put.others r other))
 
 -- the answer of a walk over a chain, in the words of its places
 pub of_places : {H : Type 0} (P : List ℕ → H → Type 0) (x : Index) (b : ℕ) (hits : H) → HitsAre P (chain x b) hits → P (places_of x b) hits

@@ -72,7 +72,7 @@ rows_least : (x : Index) → (length (rows_of x) ≡ length (all_places x)) × (
 unfolding rows_of
 rows_least x = (length-map (all_places x) (row_at x.unit), live_least x.unit (all_places x))
 
-live-append : (xs ys : List Row) → live_of (xs ++ ys) ≡ live_of xs + live_of ys
+pub live-append : (xs ys : List Row) → live_of (xs ++ ys) ≡ live_of xs + live_of ys
 unfolding live_of
 live-append xs ys = sum_by-append (λ (r : Row). record_units (length r.key)) xs ys
 

@@ -3,11 +3,13 @@ use Rattle.std.proofs.Common.{◌≡◌, ℕ, zero, suc, ◌+◌, ◌/◌, lengt
 use Rattle.std.specs.Prelude.{Vec}
 use Rattle.std.specs.declared.alloc.Global.{Global}
 use Rattle.rpm_hindex.specs.declared.change.Change.{Change}
-use Rattle.rpm_hindex.specs.Sizes.{units_for}
+use Rattle.rpm_hindex.specs.Words.{word}
+use Rattle.rpm_hindex.specs.Sizes.{units_for, bucket_count}
+use Rattle.rpm_hindex.specs.State.{EndsInZero}
 use Rattle.std.specs.List.{filter, flat_map, range_with_len}
 use Rattle.std.proofs.lemmas.Bool.{cases_Bool, cond-true, cond-false}
 use Rattle.std.proofs.lemmas.List.{append-nil, append_assoc, map-append}
-use Rattle.rpm_hindex.specs.Rows.{Row, times}
+use Rattle.rpm_hindex.specs.Rows.{Row, times, SameRows}
 use Rattle.rpm_hindex.specs.Index.{Index, chain, row_at, places_of}
 use Rattle.rpm_hindex.specs.Answers.{HitsAre}
 use Rattle.rpm_outside.specs.Files.{Units, units_of, put, blank}
@@ -15,10 +17,12 @@ use Rattle.rpm_hindex.specs.declared.planning.Work.{Work}
 use Rattle.rpm_hindex.specs.declared.planning.Work.TheVariants.{InPlace, Scratch}
 use Rattle.rpm_hindex.specs.Index.{records}
 use Rattle.rpm_hindex.specs.inner.Drafts.{Holds, IsMade}
-use Rattle.rpm_hindex.specs.Plans.{IsPlanFor, ReachesFor, units_after}
+use Rattle.rpm_hindex.specs.Plans.{IsPlanFor, IsSizedFor, ReachesFor, units_after, second_after}
 use Rattle.rpm_hindex.proofs.Seals.{image_held}
 use Rattle.rpm_hindex.proofs.Counts.{times-append}
-use Rattle.rpm_hindex.proofs.Same.{units_same_rows}
+use Rattle.rpm_hindex.proofs.Same.{units_same_rows, length_same_rows}
+use Rattle.rpm_hindex.proofs.Scratch.{image_size}
+use Rattle.rpm_hindex.proofs.UnitWords.{word_3}
 use Rattle.rpm_hindex.specs.inner.Changes.{kept_below, IsScratchOf, IsWorkOf, HasLess, IsOther, IsTooLarge}
 use Rattle.rpm_hindex.specs.Refusals.{IsTooLargeFor}
 use Rattle.rpm_hindex.specs.declared.faults.PrepareFault.{PrepareFault}
@@ -116,3 +120,26 @@ scratch_reach drops adds kept old units (Scratch image) less made = λ new chang
     units_same_rows new (kept ++ adds) (λ r. times-append r kept adds ∙ ap (λ (n : ℕ). n + times r adds) (less r) ∙ sym (changed r)) in
     let long = made.1.long in
     omega (arith, same, long)
+
+-- ---- its size
+
+pub scratch_sized : (drops adds kept old : List Row) (work : Work) → HasLess drops old kept → IsScratchOf (kept ++ adds) work
+    → IsSizedFor drops adds old work
+scratch_sized drops adds kept old (InPlace p) less made = absurd made
+scratch_sized drops adds kept old (Scratch image) less made = λ new changed.
+    let all : SameRows new (kept ++ adds) = λ r. times-append r kept adds ∙ ap (λ (n : ℕ). n + times r adds) (less r) ∙ sym (changed r) in
+    let same : units_for (kept ++ adds) ≡ units_for new = units_same_rows new (kept ++ adds) all in
+    let many : length (kept ++ adds) ≡ length new = length_same_rows new (kept ++ adds) all in
+    let long = made.1.long in
+    let size = image_size (kept ++ adds) image.bytes.items made.1 in
+    (made.0 ∙ ap bucket_count many, size ∙ same, omega (arith, same, long))
+
+pub place_sized : (drops adds old : List Row) (c : Change) (work : Work) → IsWorkOf c work → IsSizedFor drops adds old work
+place_sized drops adds old c (InPlace p) is = λ new changed. tt
+place_sized drops adds old c (Scratch image) is = absurd is
+
+-- ---- the last number of unit 1
+
+pub place_zero : (c : Change) (work : Work) → IsWorkOf c work → EndsInZero (second_after work)
+place_zero c (InPlace p) is = ap (word 3) is.3 ∙ word_3 _ _ _ 0 (omega arith)
+place_zero c (Scratch image) is = absurd is

@@ -1,8 +1,9 @@
 -- What a fault of a change says of the index.
 use Rattle.std.proofs.Common.{◌≡◌, ℕ, zero, suc, ◌+◌, ◌-◌, ◌/◌, ◌%◌, ◌<◌, ◌≤◌, List, [], ◌∷◌, length, Bool, true, false, not, cond, BTreeMap, Vec, Global, Result, Ok, Err, refl, sym, ap, ◌∙◌, arith, subst, inl, inr}
-use Rattle.std.specs.Prelude.{Option, None, Some, unwrap_or, is_some, is_ok, IsOk, ◌⊎◌}
+use Rattle.std.specs.Prelude.{Option, None, Some, unwrap_or, is_ok, IsOk, ◌⊎◌}
 use Rattle.std.specs.Ordering.{nat_cmp}
 use Rattle.std.specs.BTreeMap.{get}
+use Rattle.std.specs.BTreeSet.{BTreeSet, contains}
 use Rattle.std.specs.List.{Contains, sum_by}
 use Rattle.std.proofs.lemmas.List.Sums.{sum_by-cons}
 use Rattle.std.proofs.lemmas.Bool.{cases_eq, cases_Bool, cond-true, cond-false, false≢true}
@@ -19,9 +20,9 @@ use Rattle.rpm_hindex.specs.Sizes.{first_record, record_units}
 use Rattle.rpm_hindex.specs.inner.Records.{IsOpen}
 use Rattle.rpm_hindex.specs.Index.{Index, index_in, is_link, chain, units_at, bucket_unit, places_of, all_places}
 use Rattle.rpm_hindex.specs.Whole.{IsWellFormed}
-use Rattle.rpm_hindex.specs.inner.Changes.{CanGo, Puts, HasWord, SetsBucket, Unlinks, changing, unit_after, is_kept, IsWithout, IsChainFault, HasNoFault, IsHonest, IsBadSoFar, if_kept}
+use Rattle.rpm_hindex.specs.inner.Changes.{CanGo, Puts, Drops, HasWord, SetsBucket, Unlinks, changing, unit_after, is_kept, IsWithout, IsChainFault, HasNoFault, IsHonest, IsBadSoFar, if_kept}
 use Rattle.rpm_hindex.specs.inner.Spots.{IsSpot, IsFront, IsLinked}
-use Rattle.rpm_hindex.specs.Refusals.{HoldsMore, IsBad}
+use Rattle.rpm_hindex.specs.Refusals.{HoldsMore, IsBad, IsFaulty, IsBadFor}
 use Rattle.rpm_hindex.proofs.Chains.{chain_bad}
 use Rattle.rpm_hindex.proofs.Costing.{chain_are}
 use Rattle.rpm_hindex.proofs.FollowedLinks.{link_at, within, behind_front}
@@ -29,14 +30,28 @@ use Rattle.rpm_hindex.proofs.Wholes.{flat_in}
 use Rattle.rpm_hindex.proofs.Tallies.{length_sum}
 use Rattle.rpm_hindex.proofs.Dropping.{spot_in, spot_units}
 
-pub bad_without : (buckets : ℕ) (file : Units) (e : PrepareFault) → IsWithout e → IsBad buckets file e
+pub bad_without : (buckets : ℕ) (file : Units) (e : PrepareFault) → IsWithout e → IsFaulty buckets file e
 bad_without buckets file (BadIndex unit) is = absurd is
 bad_without buckets file (IndexFull needed) is = tt
 bad_without buckets file DiskFault is = tt
 bad_without buckets file NoMemory is = tt
 
-pub bad_chain : (buckets : ℕ) (file : Units) (e : PrepareFault) (b : ℕ) → b < buckets → IsChainFault (chain (index_in buckets file) b) e → IsBad buckets file e
-bad_chain buckets file (BadIndex unit) b lt is = inl (b, lt, is)
+-- a chain's fault is one of either kind
+pub faulty_bad : (buckets : ℕ) (file : Units) (e : PrepareFault) → IsFaulty buckets file e → IsBad buckets file e
+faulty_bad buckets file (BadIndex unit) is = inl is
+faulty_bad buckets file (IndexFull needed) is = tt
+faulty_bad buckets file DiskFault is = tt
+faulty_bad buckets file NoMemory is = tt
+
+pub faulty_for : (drops : List Row) (buckets : ℕ) (file : Units) (e : PrepareFault) → IsFaulty buckets file e → IsBadFor drops buckets file e
+faulty_for drops buckets file (BadIndex unit) is = inl is
+faulty_for drops buckets file (IndexFull needed) is = tt
+faulty_for drops buckets file DiskFault is = tt
+faulty_for drops buckets file NoMemory is = tt
+
+pub bad_chain : (buckets : ℕ) (file : Units) (e : PrepareFault) (b : ℕ) → b < buckets → IsChainFault (chain (index_in buckets file) b) e
+    → IsFaulty buckets file e
+bad_chain buckets file (BadIndex unit) b lt is = (b, lt, is)
 bad_chain buckets file (IndexFull needed) b lt is = tt
 bad_chain buckets file DiskFault b lt is = tt
 bad_chain buckets file NoMemory b lt is = tt
@@ -104,8 +119,8 @@ bad_so_far buckets file DiskFault none is = tt
 bad_so_far buckets file NoMemory none is = tt
 
 -- or the fault isn't that
-pub bad_other : (buckets : ℕ) (file : Units) (e : PrepareFault) → (e ≡ BadIndex 1 → ⊥) → IsBadSoFar buckets file e → IsBad buckets file e
-bad_other buckets file (BadIndex unit) other (inl fault) = inl fault
+pub bad_other : (buckets : ℕ) (file : Units) (e : PrepareFault) → (e ≡ BadIndex 1 → ⊥) → IsBadSoFar buckets file e → IsFaulty buckets file e
+bad_other buckets file (BadIndex unit) other (inl fault) = fault
 bad_other buckets file (BadIndex unit) other (inr (one, more)) = absurd (other (ap BadIndex one))
 bad_other buckets file (IndexFull needed) other is = tt
 bad_other buckets file DiskFault other is = tt
@@ -130,7 +145,7 @@ link_more y z at same more link = elim (cases_eq at 0) [
 module _ (c : Change) (file : Units) (go : CanGo c) (opens : IsOpen c.extent file) (b : ℕ) (below : b < c.extent.buckets) (row : Row) (s : Spot)
     (link : is_link (index_in c.extent.buckets file) ((index_in c.extent.buckets file).head b) ≡ true)
     (is : HasNoFault (index_in c.extent.buckets file) → IsSpot (index_in c.extent.buckets file) b ((index_in c.extent.buckets file).head b) 0
-    (is_kept (λ p. get nat_cmp c.dropped p)) row s) (linked : IsLinked c.extent.buckets c.extent.used (Some s)) (honest : IsHonest c file) where
+    (is_kept (λ p. contains nat_cmp c.dropped p)) row s) (linked : IsLinked c.extent.buckets c.extent.used (Some s)) (honest : IsHonest c file) where
   abbrev x : Index
   x = index_in c.extent.buckets file
 
@@ -138,7 +153,7 @@ module _ (c : Change) (file : Units) (go : CanGo c) (opens : IsOpen c.extent fil
   y = changing c file
 
   abbrev kept : ℕ → Bool
-  kept = is_kept (λ p. get nat_cmp c.dropped p)
+  kept = is_kept (λ p. contains nat_cmp c.dropped p)
 
   behind_link : is_link y s.behind ≡ true
   behind_link = elim (cases_eq s.behind 0) [
@@ -164,7 +179,7 @@ module _ (c : Change) (file : Units) (go : CanGo c) (opens : IsOpen c.extent fil
         | inr less ↦ inr (omega (arith, less, units_are none n long, honest.live none, kept_least kept (units_at x.unit) s.at (all_places x) m stays))
       ]
 
-  module _ (units : BTreeMap ℕ (List ℕ)) (dropped : BTreeMap ℕ ℕ) (n : ℕ) where
+  module _ (units : BTreeMap ℕ (List ℕ)) (dropped : BTreeSet ℕ) (n : ℕ) where
     abbrev d : Change
     d = record { extent = c.extent; units = units; dropped = dropped; tail = c.tail; records = c.records - 1; live = c.live - n }
 
@@ -172,7 +187,7 @@ module _ (c : Change) (file : Units) (go : CanGo c) (opens : IsOpen c.extent fil
     z = changing d file
 
     abbrev later : ℕ → Bool
-    later = is_kept (λ p. get nat_cmp dropped p)
+    later = is_kept (λ p. contains nat_cmp dropped p)
 
     abbrev Head' : ℕ → Type 0
     Head' a = (is_link z (z.head a) ≡ true) ⊎ (z.head a ≡ x.head a)
@@ -208,10 +223,10 @@ module _ (c : Change) (file : Units) (go : CanGo c) (opens : IsOpen c.extent fil
         (sets.put.others (bucket_unit a) (λ e. absurd (omega (arith, e, low, in', go.fours)))))
 
     pub drops_honest : Unlinks file (λ q. get nat_cmp c.units q) (λ q. get nat_cmp units q) b s.before s.behind → n ≡ record_units (length row.key)
-        → Puts (λ q. get nat_cmp c.dropped q) (λ q. get nat_cmp dropped q) s.at s.at → 0 < c.records → n ≤ c.live → IsHonest d file
+        → Drops (λ q. contains nat_cmp c.dropped q) (λ q. contains nat_cmp dropped q) s.at → 0 < c.records → n ≤ c.live → IsHonest d file
     drops_honest sets long put some enough =
-        let gone : later s.at ≡ false = ap (λ (o : Option ℕ). not (is_some o)) put.here in
-        let others : (q : ℕ) → (q ≡ s.at → ⊥) → later q ≡ kept q = λ q other. ap (λ (o : Option ℕ). not (is_some o)) (put.others q other) in
+        let gone : later s.at ≡ false = ap not put.here in
+        let others : (q : ℕ) → (q ≡ s.at → ⊥) → later q ≡ kept q = λ q other. ap not (put.others q other) in
         record {
           heads = heads s.before linked.1 sets;
           records = λ none. omega (
@@ -235,7 +250,7 @@ module _ (c : Change) (file : Units) (go : CanGo c) (opens : IsOpen c.extent fil
 
 -- a bucket's word that is no link is as it was
 pub bad_head : (c : Change) (file : Units) → IsOpen c.extent file → IsHonest c file → (b next : ℕ) → b < c.extent.buckets → next
-    ≡ (changing c file).head b → is_link (changing c file) next ≡ false → IsBad c.extent.buckets file (BadIndex (2 + b / 4))
+    ≡ (changing c file).head b → is_link (changing c file) next ≡ false → IsFaulty c.extent.buckets file (BadIndex (2 + b / 4))
 bad_head c file opens honest b next below is no' =
     let x : Index = index_in c.extent.buckets file in
     let y : Index = changing c file in
@@ -244,7 +259,7 @@ bad_head c file opens honest b next below is no' =
       | inl link ↦ absurd (false≢true (sym wrong ∙ link))
       | inr same ↦ elim (cases_Bool (is_link x (x.head b))) [
         | inl link ↦ absurd (false≢true (sym wrong ∙ ap (is_link y) same ∙ link_more x y (x.head b) refl (omega (arith, opens.used)) link))
-        | inr bad ↦ inl (b, below, chain_bad x b bad)
+        | inr bad ↦ (b, below, chain_bad x b bad)
       ]
     ]
 
@@ -297,15 +312,15 @@ pub starts_honest : (c : Change) (file : Units) → ((q : ℕ) → get nat_cmp c
     ≡ word 2 (unit_at file 1) → IsHonest c file
 starts_honest c file empty records_are live_is =
     let ps = all_places (index_in c.extent.buckets file) in
-    let kept : ℕ → Bool = is_kept (λ p. get nat_cmp c.dropped p) in
+    let kept : ℕ → Bool = is_kept (λ p. contains nat_cmp c.dropped p) in
     record {
       heads = λ b lt. inr (ap (λ (o : Option (List ℕ)). word (b % 4) (unwrap_or o (unit_at file (bucket_unit b)))) (empty (bucket_unit b)));
       records = λ none. omega (arith, records_are, kept_most kept (λ p. 1) ps, length_sum ps);
       live = λ none. omega (arith, live_is, kept_most kept (units_at (unit_at file)) ps);
     }
 
-pub bad_memory : (buckets : ℕ) (file : Units) (e : PrepareFault) → e ≡ NoMemory → IsBad buckets file e
-bad_memory buckets file e is = subst (IsBad buckets file) (sym is) tt
+pub bad_memory : (buckets : ℕ) (file : Units) (e : PrepareFault) → e ≡ NoMemory → IsFaulty buckets file e
+bad_memory buckets file e is = subst (IsFaulty buckets file) (sym is) tt
 
-pub bad_disk : (buckets : ℕ) (file : Units) (e : PrepareFault) → e ≡ DiskFault → IsBad buckets file e
-bad_disk buckets file e is = subst (IsBad buckets file) (sym is) tt
+pub bad_disk : (buckets : ℕ) (file : Units) (e : PrepareFault) → e ≡ DiskFault → IsFaulty buckets file e
+bad_disk buckets file e is = subst (IsFaulty buckets file) (sym is) tt

@@ -13,7 +13,7 @@ use Rattle.rpm_hindex.specs.Sizes.{first_record, live_of, is_bucket_count}
 use Rattle.rpm_hindex.specs.Index.{Index, index_in, places_of}
 use Rattle.rpm_hindex.specs.Whole.{IsWhole}
 use Rattle.rpm_hindex.specs.inner.Drafts.{draft_index, IsDraft, IsImage, IsMade, Holds}
-use Rattle.rpm_hindex.proofs.UnitWords.{length-unit, word_0, word_1, word_2}
+use Rattle.rpm_hindex.proofs.UnitWords.{length-unit, word_0, word_1, word_2, word_3}
 use Rattle.rpm_hindex.proofs.FollowedLinks.{within}
 use Rattle.rpm_hindex.proofs.Wholes.{has_chains}
 use Rattle.rpm_hindex.proofs.Extends.{Extends, rows_same, whole_same}
@@ -206,5 +206,6 @@ module _ (rows : List Row) (buckets : ℕ) (heads bytes second all : List ℕ)
     used = ap (word 0) (first_unit ∙ counts) ∙ word_0 _ _ _ _ (omega (arith, room));
     count = ap (word 1) (first_unit ∙ counts) ∙ word_1 _ _ _ _ few_rows;
     live = ap (word 2) (first_unit ∙ counts) ∙ word_2 _ _ _ _ (omega (arith, room));
+    last = ap (word 3) (first_unit ∙ counts) ∙ word_3 _ _ _ 0 (omega arith);
     made = made;
   }

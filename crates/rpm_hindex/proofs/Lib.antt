@@ -46,3 +46,4 @@ pub mod Passing
 pub mod Paths
 pub mod Starts
 pub mod RowsLeft
+pub mod Gone

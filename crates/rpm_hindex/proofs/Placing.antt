@@ -3,6 +3,7 @@ use Rattle.std.proofs.Common.{true, ◌*◌, ◌≡◌, ℕ, zero, suc, ◌+◌,
 use Rattle.std.specs.Prelude.{Option, Some, None, unwrap_or}
 use Rattle.std.specs.Ordering.{nat_cmp}
 use Rattle.std.specs.BTreeMap.{get, keys}
+use Rattle.std.specs.BTreeSet.{contains}
 use Rattle.std.specs.List.{Contains, filter}
 use Rattle.std.specs.List.Sorted.{IsStrictlySortedBy}
 use Rattle.std.proofs.lemmas.Cmp.{nat_cmp_total}
@@ -178,7 +179,7 @@ filter_all kept (q ∷ qs) all = cond-true (kept q) (q ∷ filter kept qs) (filt
 -- nothing is worked out yet
 pub started : (c : Change) (file : Units) → ((q : ℕ) → get nat_cmp c.units q ≡ None) → length c.tail.items ≡ 0 → word 0 (unit_at file 1)
     ≡ c.extent.used → c.records ≡ word 1 (unit_at file 1) → c.live ≡ word 2 (unit_at file 1)
-    → ((p : ℕ) → is_kept (λ q. get nat_cmp c.dropped q) p ≡ true) → IsWellFormed c.extent.buckets file → IsStarted c file
+    → ((p : ℕ) → is_kept (λ q. contains nat_cmp c.dropped q) p ≡ true) → IsWellFormed c.extent.buckets file → IsStarted c file
 started c file empty none used records_is live_is all whole =
     let x : Index = index_in c.extent.buckets file in
     let y : Index = changing c file in
@@ -202,7 +203,7 @@ started c file empty none used records_is live_is all whole =
       rows' = rows_same x y ext heads (places_of x) hx;
       cut = record {
         whole = well;
-        chains = λ b lt. places_are y (places_of x) has b lt ∙ sym (filter_all (is_kept (λ q. get nat_cmp c.dropped q)) (places_of x b) all);
+        chains = λ b lt. places_are y (places_of x) has b lt ∙ sym (filter_all (is_kept (λ q. contains nat_cmp c.dropped q)) (places_of x b) all);
         stays = λ q m.
             let i = in_all x (places_of x) hx q m in
             let h = hx i.0 i.1 in

@@ -1,7 +1,7 @@
 -- What is left when a change has dropped its rows, and what that cost.
 use Rattle.std.proofs.Common.{◌≡◌, ℕ, ◌+◌, ◌-◌, ◌≤◌, List, length, true, sym, ap, ◌∙◌, subst, Vec, Global}
 use Rattle.std.specs.Ordering.{nat_cmp}
-use Rattle.std.specs.BTreeMap.{get}
+use Rattle.std.specs.BTreeSet.{contains}
 use Rattle.rpm_outside.specs.Files.{Units}
 use Rattle.rpm_hindex.specs.declared.chain.Extent.{Extent}
 use Rattle.rpm_hindex.specs.declared.change.Change.{Change}
@@ -16,16 +16,16 @@ use Rattle.rpm_hindex.proofs.Keeping.{kept_all}
 
 -- the rows of the records that a change hasn't dropped
 abbrev pub rows_kept_by : ℕ → Units → Change → List Row
-rows_kept_by buckets file change = kept_of (index_in buckets file) (is_kept (λ p. get nat_cmp change.dropped p))
+rows_kept_by buckets file change = kept_of (index_in buckets file) (is_kept (λ p. contains nat_cmp change.dropped p))
 
 -- those that it hasn't dropped are the file's but for these
 pub rows_less : (B : ℕ) (file : Units) (drops : List Row) (first mid : Change) → first.extent.buckets ≡ B
-    → ((p : ℕ) → is_kept (λ q. get nat_cmp first.dropped q) p ≡ true)
+    → ((p : ℕ) → is_kept (λ q. contains nat_cmp first.dropped q) p ≡ true)
     → (IsWellFormed first.extent.buckets file → HasLess drops (rows_kept_by first.extent.buckets file first) (rows_kept_by first.extent.buckets file mid))
     → IsWellFormed B file → HasLess drops (records B file) (rows_kept_by B file mid)
 rows_less B file drops first mid first_is all_kept less whole r =
     subst (λ (n : ℕ). IsWellFormed n file → HasLess drops (rows_kept_by n file first) (rows_kept_by n file mid)) first_is less whole r
-    ∙ ap (λ (n : ℕ). n - times r drops) (kept_all (index_in B file) (is_kept (λ p. get nat_cmp first.dropped p)) r all_kept)
+    ∙ ap (λ (n : ℕ). n - times r drops) (kept_all (index_in B file) (is_kept (λ p. contains nat_cmp first.dropped p)) r all_kept)
 
 -- a change that has dropped its rows and added none yet
 pub record HasDropped (B : ℕ) (file : Units) (drops : List Row) (mid : Change) : Type 0 where

@@ -10,7 +10,7 @@ use Rattle.rpm_outside.specs.inner.Cuts.{unit_at-cut_up}
 use Rattle.rpm_hindex.specs.Words.{word}
 use Rattle.rpm_hindex.specs.Rows.{Row}
 use Rattle.rpm_hindex.specs.Sizes.{doubled, bucket_count, is_bucket_count, first_record, live_of, units_for}
-use Rattle.rpm_hindex.specs.State.{is_ordered}
+use Rattle.rpm_hindex.specs.State.{is_ordered, EndsInZero}
 use Rattle.rpm_hindex.specs.inner.Drafts.{IsImage}
 
 enough : (n b r : ℕ) → 0 < b → r ≤ 2 * b + n → r ≤ 2 * doubled n b r
@@ -59,6 +59,12 @@ pub image_size : (rows : List Row) (bytes : List ℕ) → IsImage rows (bucket_c
 image_size rows bytes is =
     let first : unit_at (units_of bytes) 0 ≡ take 16 bytes = unit_at-cut_up (length bytes / 16) bytes 0 (omega (arith, is.long)) in
     ap (word 0) (sym first) ∙ is.used
+
+-- and ends in zero
+pub image_zero : (rows : List Row) (buckets : ℕ) (bytes : List ℕ) → IsImage rows buckets bytes → EndsInZero (take 16 bytes)
+image_zero rows buckets bytes is =
+    let first : unit_at (units_of bytes) 0 ≡ take 16 bytes = unit_at-cut_up (length bytes / 16) bytes 0 (omega (arith, is.long)) in
+    ap (word 3) (sym first) ∙ is.last
 
 -- what unit 1 of an image says suits the file that holds it
 pub image_ordered : (rows : List Row) (bytes : List ℕ) (units : ℕ) → IsImage rows (bucket_count (length rows)) bytes → first_record

@@ -1,6 +1,6 @@
 -- Where the next row of a bucket is looked for first.
 use Rattle.std.proofs.Common.{◌≡◌, ℕ, suc, List, [], ◌∷◌, ◌++◌, Bool, true, false, cond, not, Ok, refl, sym, ap, ◌∙◌, arith, subst, inl, inr}
-use Rattle.std.specs.Prelude.{Option, Some, None, is_some, ◌⊎◌}
+use Rattle.std.specs.Prelude.{Option, Some, None, ◌⊎◌}
 use Rattle.std.specs.Option.{option_or}
 use Rattle.std.specs.List.{Contains, filter}
 use Rattle.std.proofs.lemmas.List.{append_assoc, append-nil}
@@ -11,7 +11,7 @@ use Rattle.rpm_hindex.specs.declared.heads.Head.{Head}
 use Rattle.rpm_hindex.specs.declared.spots.Spot.{Spot}
 use Rattle.rpm_hindex.specs.Rows.{Row}
 use Rattle.rpm_hindex.specs.Index.{Index, is_sound, follow, chain, next_at, bucket_of, row_at}
-use Rattle.rpm_hindex.specs.inner.Changes.{Puts, is_kept}
+use Rattle.rpm_hindex.specs.inner.Changes.{Puts, Drops, is_kept}
 use Rattle.rpm_hindex.specs.inner.Spots.{IsPath, IsLast, IsSpot, IsMissing, IsFoundFrom}
 use Rattle.rpm_hindex.specs.inner.Starts.{IsStart, AreStarts}
 use Rattle.rpm_hindex.proofs.Chains.{sound_parts, follow_is_ok, chain_from}
@@ -87,10 +87,10 @@ pub record Loses (kept later : ℕ → Bool) (p : ℕ) : Type 0 where
   pub gone : later p ≡ false
   pub others : (q : ℕ) → (q ≡ p → ⊥) → later q ≡ kept q
 
-pub loses : (old new : ℕ → Option ℕ) (p : ℕ) → Puts old new p p → Loses (is_kept old) (is_kept new) p
+pub loses : (old new : ℕ → Bool) (p : ℕ) → Drops old new p → Loses (is_kept old) (is_kept new) p
 loses old new p put = record {
-  gone = ap (λ (o : Option ℕ). not (is_some o)) put.here;
-  others = λ q other. ap (λ (o : Option ℕ). not (is_some o)) (put.others q other);
+  gone = ap not put.here;
+  others = λ q other. ap not (put.others q other);
 }
 
 filter_each : (kept later : ℕ → Bool) (ps : List ℕ) → ((q : ℕ) → Contains ps q → later q ≡ kept q) → filter later ps ≡ filter kept ps

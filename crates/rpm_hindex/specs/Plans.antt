@@ -7,7 +7,8 @@ use Rattle.rpm_hindex.specs.declared.planning.Work.{Work}
 use Rattle.rpm_hindex.specs.declared.planning.Work.TheVariants.{InPlace, Scratch}
 use Rattle.rpm_hindex.specs.Rows.{Row, times}
 use Rattle.rpm_hindex.specs.Index.{records}
-use Rattle.rpm_hindex.specs.Sizes.{live_of, units_for}
+use Rattle.rpm_hindex.specs.Words.{word}
+use Rattle.rpm_hindex.specs.Sizes.{live_of, units_for, bucket_count}
 use Rattle.rpm_hindex.specs.Whole.{IsWellFormed}
 use Rattle.rpm_hindex.specs.State.{is_ordered}
 
@@ -47,6 +48,13 @@ LeavesOrder work = (units : ℕ) → units_after work ≤ units → is_ordered (
 abbrev pub patch_at : List Patch → ℕ → Patch
 patch_at ps k = slice_index_or ps k (record { unit = 0; words = [] })
 
+-- what is made from scratch has the buckets and the units that these rows need, and no dead unit
+abbrev pub IsSized : List Row → Work → Type 0
+IsSized rows (InPlace p) = Unit {0}
+IsSized rows (Scratch image) =
+    (image.buckets ≡ bucket_count (length rows)) × (word 0 (take 16 image.bytes.items) ≡ units_for rows)
+    × (1 + length image.bytes.items / 16 ≡ units_for rows)
+
 -- the units that a write in place reaches, in a file of so many
 pub record ArePatches (units : ℕ) (p : Patches) : Type 0 where
   pub each : (k : ℕ) → k < length p.units.items → (1 ≤ (patch_at p.units.items k).unit) × ((patch_at p.units.items k).unit < p.used)
@@ -72,6 +80,10 @@ pub record IsChanged (drops adds old : List Row) (buckets : ℕ) (new : Units) :
 -- writing this makes the change of this file, which has so many buckets
 unfoldable pub IsPlanFor : List Row → List Row → ℕ → Units → Work → Type 0
 IsPlanFor drops adds buckets file work = IsChanged drops adds (records buckets file) (buckets_after work) (after work file)
+
+-- what is made from scratch has the size that the rows after the change need
+abbrev pub IsSizedFor : List Row → List Row → List Row → Work → Type 0
+IsSizedFor drops adds old work = (new : List Row) → HasChanged drops adds old new → IsSized new work
 
 -- writing this makes a file of so many units no longer than its units with the added rows' records behind them, or an index of the rows after the
 -- change that is made from scratch

@@ -5,10 +5,10 @@ use Rattle.rpm_outside.specs.Files.{Units, unit_at}
 use Rattle.rpm_hindex.specs.declared.faults.PrepareFault.{PrepareFault}
 use Rattle.rpm_hindex.specs.declared.faults.PrepareFault.TheVariants.{IndexFull, BadIndex, DiskFault, NoMemory}
 use Rattle.rpm_hindex.specs.Words.{word}
-use Rattle.rpm_hindex.specs.Rows.{Row}
-use Rattle.rpm_hindex.specs.Sizes.{units_for}
+use Rattle.rpm_hindex.specs.Rows.{Row, times}
+use Rattle.rpm_hindex.specs.Sizes.{units_for, live_of}
 use Rattle.rpm_hindex.specs.Plans.{HasChanged}
-use Rattle.rpm_hindex.specs.Index.{index_in, chain, all_places, units_at}
+use Rattle.rpm_hindex.specs.Index.{index_in, chain, all_places, units_at, records}
 
 -- a fault for want of room tells what the rows need that are those of a file with a change, which is too much
 abbrev pub IsTooLargeFor : List Row → List Row → List Row → PrepareFault → Type 0
@@ -27,9 +27,30 @@ HoldsMore buckets file =
     (word 1 (unit_at file 1) < length (all_places (index_in buckets file)))
     ⊎ (word 2 (unit_at file 1) < sum_by (units_at (unit_at file)) (all_places (index_in buckets file)))
 
+-- some rows, each at most as often as it is dropped and as the file has it, are more than unit 1 counts, or have more units
+pub record DropsMore (drops : List Row) (buckets : ℕ) (file : Units) : Type 0 where
+  pub gone : List Row
+  pub dropped : (row : Row) → times row gone ≤ times row drops
+  pub held : (row : Row) → times row gone ≤ times row (records buckets file)
+  pub more : (word 1 (unit_at file 1) < length gone) ⊎ (word 2 (unit_at file 1) < live_of gone)
+
+-- a fault that names a unit names the fault of a bucket's chain
+abbrev pub IsFaulty : ℕ → Units → PrepareFault → Type 0
+IsFaulty buckets file (BadIndex unit) = (b : ℕ) × (b < buckets) × (chain (index_in buckets file) b ≡ Err unit)
+IsFaulty buckets file (IndexFull needed) = Unit {0}
+IsFaulty buckets file DiskFault = Unit {0}
+IsFaulty buckets file NoMemory = Unit {0}
+
+-- or unit 1, where the change drops more than that counts
+abbrev pub IsBadFor : List Row → ℕ → Units → PrepareFault → Type 0
+IsBadFor drops buckets file (BadIndex unit) = IsFaulty buckets file (BadIndex unit) ⊎ ((unit ≡ 1) × DropsMore drops buckets file)
+IsBadFor drops buckets file (IndexFull needed) = Unit {0}
+IsBadFor drops buckets file DiskFault = Unit {0}
+IsBadFor drops buckets file NoMemory = Unit {0}
+
 -- a fault that names a unit names the fault of a bucket's chain, or unit 1, which counts too little
 abbrev pub IsBad : ℕ → Units → PrepareFault → Type 0
-IsBad buckets file (BadIndex unit) = ((b : ℕ) × (b < buckets) × (chain (index_in buckets file) b ≡ Err unit)) ⊎ ((unit ≡ 1) × HoldsMore buckets file)
+IsBad buckets file (BadIndex unit) = IsFaulty buckets file (BadIndex unit) ⊎ ((unit ≡ 1) × HoldsMore buckets file)
 IsBad buckets file (IndexFull needed) = Unit {0}
 IsBad buckets file DiskFault = Unit {0}
 IsBad buckets file NoMemory = Unit {0}

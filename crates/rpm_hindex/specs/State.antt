@@ -45,6 +45,10 @@ is_ordered buckets second units =
     && (nat_le (word 1 second) (2 * buckets)
     && (nat_le (word 2 second) (word 0 second - first_record buckets) && nat_le (word 0 second - first_record buckets - word 2 second) (word 2 second)))))
 
+-- the last number of unit 1 is zero
+abbrev pub EndsInZero : List ℕ → Type 0
+EndsInZero second = word 3 second ≡ 0
+
 -- the first two units are in order
 unfoldable pub is_in_order : State → Bool
 is_in_order state = is_headed state.first && is_ordered (buckets_of state.first) state.second state.units

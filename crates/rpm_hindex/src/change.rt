@@ -3,6 +3,7 @@
 ghost use Rattle.std.specs.Prelude.{◌≡◌, ℕ, ◌+◌, ◌*◌, ◌/◌, ◌%◌, ◌^◌, ◌≤◌, ◌<◌, IsTrue, true, length, [], ◌∷◌, None, List, Result, OnOk, IfOk, IfErr, Err};
 ghost use Rattle.std.specs.Ordering.{nat_cmp};
 ghost use Rattle.std.specs.BTreeMap.{get};
+ghost use Rattle.std.specs.BTreeSet.{contains};
 ghost use Rattle.rpm_outside.specs.Files.{unit_at};
 ghost use Rattle.rpm_outside.specs.Causes.{HasCauseAt};
 ghost use Rattle.rpm_outside.specs.declared.disk.File.TheVariants.{Idx};
@@ -10,9 +11,9 @@ ghost use Rattle.rpm_outside.specs.Looks.{Looks, LooksAt};
 ghost use Rattle.rpm_hindex.specs.inner.Records.{IsOpen};
 ghost use Rattle.rpm_hindex.specs.Rows.{hash_of, row_nth};
 ghost use Rattle.rpm_hindex.specs.Sizes.{record_units, first_record};
-ghost use Rattle.rpm_hindex.specs.inner.Changes.{CanGo, AddsRows, IsCut, IsHonest, IsChainFault, IsBadSoFar, changing, IsOther, Puts, HasLess, kept_of, is_kept};
+ghost use Rattle.rpm_hindex.specs.inner.Changes.{CanGo, AddsRows, IsCut, IsHonest, IsChainFault, IsBadSoFar, HasNoFault, HasGone, IsShort, changing, IsOther, Puts, Drops, HasLess, kept_of, is_kept};
 ghost use Rattle.rpm_hindex.specs.inner.Starts.{AreStarts, StandWithin};
-ghost use Rattle.rpm_hindex.specs.Refusals.{IsBad};
+ghost use Rattle.rpm_hindex.specs.Refusals.{IsFaulty};
 ghost use Rattle.rpm_hindex.specs.Index.{index_in, chain, units_at};
 ghost use Rattle.rpm_hindex.specs.Answers.{IsFaultOf, ChainCosts};
 ghost use Rattle.rpm_hindex.specs.Whole.{IsWellFormed, IsWhole};
@@ -29,14 +30,14 @@ use crate::spots::Spot;
 use crate::words::word;
 use rpm_outside::Disk;
 use std::alloc::Global;
-use std::collections::BTreeMap;
+use std::collections::{BTreeMap, BTreeSet};
 
 /// The units that change, the records behind all others, the places of the records that were dropped, and the numbers of unit 1.
 #[derive(Drop)]
 pub struct Change {
     pub extent: Extent,
     pub units: BTreeMap<u32, [u8; 16]>,
-    pub dropped: BTreeMap<u32, u32>,
+    pub dropped: BTreeSet<u32>,
     pub tail: Vec<u8>,
     pub records: u32,
     pub live: u32,
@@ -56,11 +57,11 @@ pub fn prepare_fault(fault: FindFault) -> PrepareFault
 }
 
 /// Puts a place among those that are dropped.
-fn put_dropped(dropped: &mut BTreeMap<u32, u32>, at: u32) -> Result<(), PrepareFault>
-    ensures put { OnOk result (Puts (λ q. get nat_cmp dropped.old q) (λ q. get nat_cmp dropped.new q) at at) }
+fn put_dropped(dropped: &mut BTreeSet<u32>, at: u32) -> Result<(), PrepareFault>
+    ensures put { OnOk result (Drops (λ q. contains nat_cmp dropped.old q) (λ q. contains nat_cmp dropped.new q) at) }
     ensures memory { IfErr result (λ e. e ≡ PrepareFault.NoMemory) }
 {
-    let Ok(_) = dropped.insert(at, at) else {
+    let Ok(_) = dropped.insert(at) else {
         return Err(PrepareFault::NoMemory);
     };
     Ok(())
@@ -97,12 +98,12 @@ impl Change {
         ensures units { (q : ℕ) → get nat_cmp result.units q ≡ None }
         ensures records { result.records ≡ records }
         ensures live { result.live ≡ live }
-        ensures dropped { (p : ℕ) → is_kept (λ q. get nat_cmp result.dropped q) p ≡ true }
+        ensures dropped { (p : ℕ) → is_kept (λ q. contains nat_cmp result.dropped q) p ≡ true }
     {
         Change {
             extent,
             units: BTreeMap::new(alloc),
-            dropped: BTreeMap::new(alloc),
+            dropped: BTreeSet::new(alloc),
             tail: Vec::new(alloc),
             records,
             live,
@@ -122,21 +123,27 @@ impl Change {
         requires open { IsTrue D.tells → IsOpen self.old.extent (D.files disk.old).idx }
         requires stand { StandWithin self.old.extent.buckets self.old.extent.used (λ b. get nat_cmp starts.old b) }
         requires starts { IsTrue D.tells → AreStarts (index_in self.old.extent.buckets (D.files disk.old).idx)
-            (is_kept (λ p. get nat_cmp self.old.dropped p)) (λ b. get nat_cmp starts.old b) }
+            (is_kept (λ p. contains nat_cmp self.old.dropped p)) (λ b. get nat_cmp starts.old b) }
         ensures go { OnOk result (CanGo self.new) }
         ensures other { IfErr result (λ e. IsOther e) }
         ensures extent { OnOk result (self.new.extent ≡ self.old.extent) }
         ensures tail { OnOk result (self.new.tail ≡ self.old.tail) }
         ensures stand { OnOk result (StandWithin self.old.extent.buckets self.old.extent.used (λ b. get nat_cmp starts.new b)) }
         ensures starts { OnOk result (IsTrue D.tells → AreStarts (index_in self.old.extent.buckets (D.files disk.old).idx)
-            (is_kept (λ p. get nat_cmp self.new.dropped p)) (λ b. get nat_cmp starts.new b)) }
+            (is_kept (λ p. contains nat_cmp self.new.dropped p)) (λ b. get nat_cmp starts.new b)) }
         ensures less { OnOk result (IsTrue D.tells → IsWellFormed self.old.extent.buckets (D.files disk.old).idx
             → HasLess ((record { kind = row.entry.kind; key = row.entry.key.now; number = row.entry.number; place = row.entry.place }) ∷ [])
-            (kept_of (index_in self.old.extent.buckets (D.files disk.old).idx) (is_kept (λ p. get nat_cmp self.old.dropped p)))
-            (kept_of (index_in self.old.extent.buckets (D.files disk.old).idx) (is_kept (λ p. get nat_cmp self.new.dropped p)))) }
+            (kept_of (index_in self.old.extent.buckets (D.files disk.old).idx) (is_kept (λ p. contains nat_cmp self.old.dropped p)))
+            (kept_of (index_in self.old.extent.buckets (D.files disk.old).idx) (is_kept (λ p. contains nat_cmp self.new.dropped p)))) }
         ensures cuts { OnOk result (IsTrue D.tells → IsWellFormed self.old.extent.buckets (D.files disk.old).idx → length self.old.tail.items ≡ 0
             → IsCut self.old (D.files disk.old).idx → IsCut self.new (D.files disk.old).idx) }
         ensures honest { OnOk result (IsTrue D.tells → IsHonest self.old (D.files disk.old).idx → IsHonest self.new (D.files disk.old).idx) }
+        ensures gone { OnOk result (IsTrue D.tells → HasNoFault (index_in self.old.extent.buckets (D.files disk.old).idx)
+            → HasGone ((record { kind = row.entry.kind; key = row.entry.key.now; number = row.entry.number; place = row.entry.place }) ∷ [])
+            self.old self.new (index_in self.old.extent.buckets (D.files disk.old).idx)) }
+        ensures short { IfErr result (λ e. IsTrue D.tells → HasNoFault (index_in self.old.extent.buckets (D.files disk.old).idx)
+            → IsShort ((record { kind = row.entry.kind; key = row.entry.key.now; number = row.entry.number; place = row.entry.place }) ∷ [])
+            self.old (index_in self.old.extent.buckets (D.files disk.old).idx) e) }
         ensures bad { IfErr result (λ e. IsTrue D.tells → IsHonest self.old (D.files disk.old).idx → IsBadSoFar self.old.extent.buckets (D.files disk.old).idx
             e) }
         ensures cost { IsTrue D.tells → ChainCosts (chain (index_in self.old.extent.buckets (D.files disk.old).idx)
@@ -199,7 +206,7 @@ impl Change {
               place = row.entry.place;
             }) ∷ [])) }
         ensures honest { OnOk result (IsTrue D.tells → IsHonest self.old (D.files disk.old).idx → IsHonest self.new (D.files disk.old).idx) }
-        ensures bad { IfErr result (λ e. IsTrue D.tells → IsHonest self.old (D.files disk.old).idx → IsBad self.old.extent.buckets (D.files disk.old).idx e) }
+        ensures bad { IfErr result (λ e. IsTrue D.tells → IsHonest self.old (D.files disk.old).idx → IsFaulty self.old.extent.buckets (D.files disk.old).idx e) }
         ensures looks { Looks D.tells D.files D.left_since D.moment D.bytes_read D.follows Idx 16 disk.old disk.new }
         ensures cause { HasCauseAt (result ≡ Err PrepareFault.DiskFault) (D.faults disk.old) (D.faults disk.new) }
     {

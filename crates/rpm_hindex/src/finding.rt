@@ -3,6 +3,7 @@
 ghost use Rattle.std.specs.Prelude.{◌≡◌, ℕ, ◌+◌, ◌*◌, ◌/◌, ◌%◌, ◌^◌, ◌≤◌, ◌<◌, IsTrue, List, IfOk, IfErr, Ok, Err, None, Some, Option};
 ghost use Rattle.std.specs.Ordering.{nat_cmp};
 ghost use Rattle.std.specs.BTreeMap.{get};
+ghost use Rattle.std.specs.BTreeSet.{contains};
 ghost use Rattle.rpm_outside.specs.Files.{unit_at};
 ghost use Rattle.rpm_outside.specs.Causes.{HasCauseAt};
 ghost use Rattle.rpm_outside.specs.Looks.{LooksAt};
@@ -23,7 +24,7 @@ use crate::rows::RowRef;
 use crate::spots::{Spot, find_spot};
 use rpm_outside::Disk;
 use std::alloc::Global;
-use std::collections::BTreeMap;
+use std::collections::{BTreeMap, BTreeSet};
 
 /// Where the next row of a bucket is looked for first: behind the last record that was dropped, and the kept record before that one.
 #[derive(Clone, Copy)]
@@ -46,7 +47,7 @@ fn find_around<D: Disk>(
     extent: Extent,
     bucket: u32,
     first: u32,
-    dropped: &BTreeMap<u32, u32>,
+    dropped: &BTreeSet<u32>,
     start: Start,
     row: RowRef<'_>,
 ) -> Result<Option<Spot>, FindFault>
@@ -56,14 +57,14 @@ fn find_around<D: Disk>(
     requires linked { IsNext extent.buckets extent.used first }
     requires stands { StandsWithin extent.buckets extent.used start }
     requires start { IsTrue D.tells → (places : List ℕ) → IsPath (index_in extent.buckets (D.files disk.old).idx) bucket first places 0
-        → IsStart (index_in extent.buckets (D.files disk.old).idx) bucket first (is_kept (λ p. get nat_cmp dropped.now p)) start }
+        → IsStart (index_in extent.buckets (D.files disk.old).idx) bucket first (is_kept (λ p. contains nat_cmp dropped.now p)) start }
     requires bucket { hash_of row.kind row.key.now % extent.buckets ≡ bucket }
     ensures within { IfOk result (IsWithin extent.used) }
     ensures linked { IfOk result (IsLinked extent.buckets extent.used) }
     ensures sound { IfOk result (λ spot. IsTrue D.tells → IsSoundSpot (index_in extent.buckets (D.files disk.old).idx) bucket spot) }
     ensures found { IfOk result (λ spot. IsTrue D.tells → (places : List ℕ)
         → IsPath (index_in extent.buckets (D.files disk.old).idx) bucket first places 0
-        → IsFoundFrom (index_in extent.buckets (D.files disk.old).idx) bucket first 0 (is_kept (λ p. get nat_cmp dropped.now p))
+        → IsFoundFrom (index_in extent.buckets (D.files disk.old).idx) bucket first 0 (is_kept (λ p. contains nat_cmp dropped.now p))
         (record { kind = row.entry.kind; key = row.entry.key.now; number = row.entry.number; place = row.entry.place }) spot) }
     ensures fault { IfErr result (λ e. IsTrue D.tells → (places : List ℕ)
         → IsPath (index_in extent.buckets (D.files disk.old).idx) bucket first places 0 → IsOutside e) }
@@ -93,7 +94,7 @@ fn find_from<D: Disk>(
     extent: Extent,
     bucket: u32,
     first: u32,
-    dropped: &BTreeMap<u32, u32>,
+    dropped: &BTreeSet<u32>,
     starts: &BTreeMap<u32, Start>,
     row: RowRef<'_>,
 ) -> Result<Option<Spot>, FindFault>
@@ -104,14 +105,14 @@ fn find_from<D: Disk>(
     requires stand { StandWithin extent.buckets extent.used (λ b. get nat_cmp starts.now b) }
     requires starts { IsTrue D.tells → (places : List ℕ) → IsPath (index_in extent.buckets (D.files disk.old).idx) bucket first places 0
         → (s : Start) → get nat_cmp starts.now bucket ≡ Some s
-        → IsStart (index_in extent.buckets (D.files disk.old).idx) bucket first (is_kept (λ p. get nat_cmp dropped.now p)) s }
+        → IsStart (index_in extent.buckets (D.files disk.old).idx) bucket first (is_kept (λ p. contains nat_cmp dropped.now p)) s }
     requires bucket { hash_of row.kind row.key.now % extent.buckets ≡ bucket }
     ensures within { IfOk result (IsWithin extent.used) }
     ensures linked { IfOk result (IsLinked extent.buckets extent.used) }
     ensures sound { IfOk result (λ spot. IsTrue D.tells → IsSoundSpot (index_in extent.buckets (D.files disk.old).idx) bucket spot) }
     ensures found { IfOk result (λ spot. IsTrue D.tells → (places : List ℕ)
         → IsPath (index_in extent.buckets (D.files disk.old).idx) bucket first places 0
-        → IsFoundFrom (index_in extent.buckets (D.files disk.old).idx) bucket first 0 (is_kept (λ p. get nat_cmp dropped.now p))
+        → IsFoundFrom (index_in extent.buckets (D.files disk.old).idx) bucket first 0 (is_kept (λ p. contains nat_cmp dropped.now p))
         (record { kind = row.entry.kind; key = row.entry.key.now; number = row.entry.number; place = row.entry.place }) spot) }
     ensures fault { IfErr result (λ e. IsTrue D.tells → (places : List ℕ)
         → IsPath (index_in extent.buckets (D.files disk.old).idx) bucket first places 0 → IsOutside e) }
@@ -155,7 +156,7 @@ pub fn find_row<D: Disk>(
     disk: &mut D,
     extent: Extent,
     bucket: u32,
-    dropped: &BTreeMap<u32, u32>,
+    dropped: &BTreeSet<u32>,
     starts: &BTreeMap<u32, Start>,
     row: RowRef<'_>,
 ) -> Result<Found, FindFault>
@@ -163,7 +164,7 @@ pub fn find_row<D: Disk>(
     requires bucket { bucket < extent.buckets }
     requires open { IsTrue D.tells → IsOpen extent (D.files disk.old).idx }
     requires stand { StandWithin extent.buckets extent.used (λ b. get nat_cmp starts.now b) }
-    requires starts { IsTrue D.tells → AreStarts (index_in extent.buckets (D.files disk.old).idx) (is_kept (λ p. get nat_cmp dropped.now p))
+    requires starts { IsTrue D.tells → AreStarts (index_in extent.buckets (D.files disk.old).idx) (is_kept (λ p. contains nat_cmp dropped.now p))
         (λ b. get nat_cmp starts.now b) }
     requires mine { hash_of row.kind row.key.now % extent.buckets ≡ bucket }
     ensures words { IfOk result (λ f. IsTrue D.tells → f.words ≡ unit_at (D.files disk.old).idx (bucket_unit bucket)) }
@@ -171,7 +172,7 @@ pub fn find_row<D: Disk>(
     ensures linked { IfOk result (λ f. IsLinked extent.buckets extent.used f.spot) }
     ensures sound { IfOk result (λ f. IsTrue D.tells → IsSoundSpot (index_in extent.buckets (D.files disk.old).idx) bucket f.spot) }
     ensures found { IfOk result (λ f. IsTrue D.tells → IsFound (index_in extent.buckets (D.files disk.old).idx) bucket
-        (is_kept (λ p. get nat_cmp dropped.now p))
+        (is_kept (λ p. contains nat_cmp dropped.now p))
         (record { kind = row.entry.kind; key = row.entry.key.now; number = row.entry.number; place = row.entry.place }) f.spot) }
     ensures fault { IfErr result (λ e. IsTrue D.tells → IsFaultOf (chain (index_in extent.buckets (D.files disk.old).idx) bucket) e) }
     ensures cost { IsTrue D.tells → ChainCosts (chain (index_in extent.buckets (D.files disk.old).idx) bucket)

@@ -2,7 +2,7 @@
 
 ghost use Rattle.std.specs.Prelude.{◌≡◌, ℕ, ◌+◌, ◌*◌, ◌/◌, ◌%◌, ◌^◌, ◌≤◌, ◌<◌, ◌++◌, ◌∷◌, [], IsTrue, true, map, length, IsOk, OnOk, IfErr, Err, if◌then◌else◌};
 ghost use Rattle.std.specs.Ordering.{nat_cmp};
-ghost use Rattle.std.specs.BTreeMap.{get};
+ghost use Rattle.std.specs.BTreeSet.{contains};
 ghost use Rattle.std.specs.List.{filter};
 ghost use Rattle.rpm_outside.specs.Files.{unit_at};
 ghost use Rattle.rpm_outside.specs.Causes.{HasCauseAt};
@@ -22,7 +22,7 @@ use crate::reading::read_key_into;
 use crate::rows::Rows;
 use rpm_outside::Disk;
 use std::alloc::Global;
-use std::collections::BTreeMap;
+use std::collections::BTreeSet;
 
 /// Reads the key of a record, whose first unit was read, into a buffer, and adds the record's row, if it is kept.
 fn push_row<D: Disk>(
@@ -73,7 +73,7 @@ fn push_from<D: Disk>(
     extent: Extent,
     bucket: u32,
     from: u32,
-    dropped: &BTreeMap<u32, u32>,
+    dropped: &BTreeSet<u32>,
     rows: &mut Rows,
     buffer: &mut Vec<u8>,
 ) -> Result<(), FindFault>
@@ -82,7 +82,7 @@ fn push_from<D: Disk>(
     requires open { IsTrue D.tells → IsOpen extent (D.files disk.old).idx }
     requires linked { IsNext extent.buckets extent.used from }
     ensures told { IsTrue D.tells → FindIs (λ places done. rows.new ≡ rows.old ++ map (row_at (unit_at (D.files disk.old).idx))
-        (filter (is_kept (λ p. get nat_cmp dropped.now p)) places)) (follow (index_in extent.buckets (D.files disk.old).idx) bucket from from) result }
+        (filter (is_kept (λ p. contains nat_cmp dropped.now p)) places)) (follow (index_in extent.buckets (D.files disk.old).idx) bucket from from) result }
     ensures looks { LooksAt D.tells D.files D.left_since D.moment D.bytes_read D.follows Idx disk.old disk.new }
     ensures cause { HasCauseAt (result ≡ Err FindFault.DiskFault) (D.faults disk.old) (D.faults disk.new) }
 {
@@ -92,7 +92,7 @@ fn push_from<D: Disk>(
             Ok(ahead) => ahead,
             Err(fault) => return Err(fault),
         };
-        let is_kept = !dropped.contains_key(&at);
+        let is_kept = !dropped.contains(&at);
         if let Err(fault) = push_row(disk, extent, bucket, head, is_kept, rows, buffer) {
             return Err(fault);
         }
@@ -107,7 +107,7 @@ pub fn push_chain<D: Disk>(
     disk: &mut D,
     extent: Extent,
     bucket: u32,
-    dropped: &BTreeMap<u32, u32>,
+    dropped: &BTreeSet<u32>,
     rows: &mut Rows,
     buffer: &mut Vec<u8>,
 ) -> Result<(), FindFault>
@@ -115,7 +115,7 @@ pub fn push_chain<D: Disk>(
     requires bucket { bucket < extent.buckets }
     requires open { IsTrue D.tells → IsOpen extent (D.files disk.old).idx }
     ensures told { IsTrue D.tells → FindIs (λ places done. rows.new ≡ rows.old ++ map (row_at (unit_at (D.files disk.old).idx))
-        (filter (is_kept (λ p. get nat_cmp dropped.now p)) places)) (chain (index_in extent.buckets (D.files disk.old).idx) bucket) result }
+        (filter (is_kept (λ p. contains nat_cmp dropped.now p)) places)) (chain (index_in extent.buckets (D.files disk.old).idx) bucket) result }
     ensures looks { LooksAt D.tells D.files D.left_since D.moment D.bytes_read D.follows Idx disk.old disk.new }
     ensures cause { HasCauseAt (result ≡ Err FindFault.DiskFault) (D.faults disk.old) (D.faults disk.new) }
 {
@@ -141,7 +141,7 @@ pub fn check_chain<D: Disk>(
     ensures looks { LooksAt D.tells D.files D.left_since D.moment D.bytes_read D.follows Idx disk.old disk.new }
     ensures cause { HasCauseAt (result ≡ Err FindFault.DiskFault) (D.faults disk.old) (D.faults disk.new) }
 {
-    let dropped = BTreeMap::new(alloc);
+    let dropped = BTreeSet::new(alloc);
     let mut rows = Rows::new(alloc);
     push_chain(disk, extent, bucket, &dropped, &mut rows, buffer)
 }

@@ -2,16 +2,18 @@
 
 ghost use Rattle.std.specs.Prelude.{◌≡◌, ℕ, ◌+◌, ◌*◌, ◌/◌, ◌%◌, ◌^◌, ◌≤◌, ◌<◌, IsTrue, true, length, map, reverse, ◌++◌, OnOk, IfOk, IfErr, Err};
 ghost use Rattle.std.specs.Ordering.{nat_cmp};
-ghost use Rattle.std.specs.BTreeMap.{get, keys};
+ghost use Rattle.std.specs.BTreeMap.{keys};
+ghost use Rattle.std.specs.BTreeSet.{contains};
 ghost use Rattle.std.specs.List.Sorted.{IsStrictlySortedBy};
 ghost use Rattle.rpm_outside.specs.Causes.{HasCauseAt};
 ghost use Rattle.rpm_outside.specs.declared.disk.File.TheVariants.{Idx};
 ghost use Rattle.rpm_outside.specs.Looks.{Looks, LooksAt};
 ghost use Rattle.rpm_hindex.specs.inner.Records.{IsOpen};
 ghost use Rattle.rpm_hindex.specs.Sizes.{first_record, live_of};
-ghost use Rattle.rpm_hindex.specs.Plans.{LeavesOrder, CanWrite};
+ghost use Rattle.rpm_hindex.specs.Plans.{LeavesOrder, CanWrite, second_after};
+ghost use Rattle.rpm_hindex.specs.State.{EndsInZero};
 ghost use Rattle.rpm_hindex.specs.inner.Changes.{CanGo, AddsRows, IsHonest, changing, IsOther, IsTooLarge, IsWorkOf, IsScratchOf, kept_of, is_kept, patch_of};
-ghost use Rattle.rpm_hindex.specs.Refusals.{IsBad};
+ghost use Rattle.rpm_hindex.specs.Refusals.{IsFaulty};
 ghost use Rattle.rpm_hindex.specs.Index.{index_in};
 ghost use Rattle.rpm_hindex.specs.Whole.{IsWhole};
 
@@ -25,7 +27,7 @@ use crate::rows::Rows;
 use crate::words::unit_of_words;
 use rpm_outside::Disk;
 use std::alloc::{AllocError, Global};
-use std::collections::BTreeMap;
+use std::collections::{BTreeMap, BTreeSet};
 
 /// A unit that changes.
 #[derive(Clone, Copy)]
@@ -72,7 +74,7 @@ pub fn add_rows<D: Disk>(disk: &mut D, change: &mut Change, rows: &Rows) -> Resu
     ensures adds { OnOk result (IsTrue D.tells → IsWhole change.old.records change.old.live (changing change.old (D.files disk.old).idx)
         → AddsRows change.old change.new (D.files disk.old).idx rows.now) }
     ensures honest { OnOk result (IsTrue D.tells → IsHonest change.old (D.files disk.old).idx → IsHonest change.new (D.files disk.old).idx) }
-    ensures bad { IfErr result (λ e. IsTrue D.tells → IsHonest change.old (D.files disk.old).idx → IsBad change.old.extent.buckets (D.files disk.old).idx e) }
+    ensures bad { IfErr result (λ e. IsTrue D.tells → IsHonest change.old (D.files disk.old).idx → IsFaulty change.old.extent.buckets (D.files disk.old).idx e) }
     ensures looks { Looks D.tells D.files D.left_since D.moment D.bytes_read D.follows Idx (16 * length rows.now) disk.old disk.new }
     ensures cause { HasCauseAt (result ≡ Err PrepareFault.DiskFault) (D.faults disk.old) (D.faults disk.new) }
 {
@@ -157,14 +159,14 @@ fn kept_rows<D: Disk>(
     alloc: Global,
     disk: &mut D,
     extent: Extent,
-    dropped: &BTreeMap<u32, u32>,
+    dropped: &BTreeSet<u32>,
 ) -> Result<Rows, PrepareFault>
     requires few { extent.buckets ≤ 2 ^ 28 }
     requires open { IsTrue D.tells → IsOpen extent (D.files disk.old).idx }
     ensures other { IfErr result (λ e. IsOther e) }
     ensures rows { IfOk result (λ rows. IsTrue D.tells → rows ≡ kept_of (index_in extent.buckets (D.files disk.old).idx)
-        (is_kept (λ p. get nat_cmp dropped.now p))) }
-    ensures bad { IfErr result (λ e. IsTrue D.tells → IsBad extent.buckets (D.files disk.old).idx e) }
+        (is_kept (λ p. contains nat_cmp dropped.now p))) }
+    ensures bad { IfErr result (λ e. IsTrue D.tells → IsFaulty extent.buckets (D.files disk.old).idx e) }
     ensures looks { LooksAt D.tells D.files D.left_since D.moment D.bytes_read D.follows Idx disk.old disk.new }
     ensures cause { HasCauseAt (result ≡ Err PrepareFault.DiskFault) (D.faults disk.old) (D.faults disk.new) }
 {
@@ -200,11 +202,12 @@ pub fn from_scratch<D: Disk>(
     requires open { IsTrue D.tells → IsOpen change.now.extent (D.files disk.old).idx }
     ensures can { IfOk result (λ plan. (units : ℕ) → CanWrite units plan.work) }
     ensures ordered { IfOk result (λ plan. LeavesOrder plan.work) }
+    ensures zero { IfOk result (λ plan. EndsInZero (second_after plan.work)) }
     ensures full { IfErr result (λ e. IsTrue D.tells → IsTooLarge (reverse (kept_of (index_in change.now.extent.buckets
-        (D.files disk.old).idx) (is_kept (λ p. get nat_cmp change.now.dropped p))) ++ adds.now) e) }
+        (D.files disk.old).idx) (is_kept (λ p. contains nat_cmp change.now.dropped p))) ++ adds.now) e) }
     ensures made { IfOk result (λ plan. IsTrue D.tells → IsScratchOf (reverse (kept_of (index_in change.now.extent.buckets
-        (D.files disk.old).idx) (is_kept (λ p. get nat_cmp change.now.dropped p))) ++ adds.now) plan.work) }
-    ensures bad { IfErr result (λ e. IsTrue D.tells → IsBad change.now.extent.buckets (D.files disk.old).idx e) }
+        (D.files disk.old).idx) (is_kept (λ p. contains nat_cmp change.now.dropped p))) ++ adds.now) plan.work) }
+    ensures bad { IfErr result (λ e. IsTrue D.tells → IsFaulty change.now.extent.buckets (D.files disk.old).idx e) }
     ensures looks { LooksAt D.tells D.files D.left_since D.moment D.bytes_read D.follows Idx disk.old disk.new }
     ensures cause { HasCauseAt (result ≡ Err PrepareFault.DiskFault) (D.faults disk.old) (D.faults disk.new) }
 {

@@ -2,17 +2,17 @@
 
 ghost use Rattle.std.specs.Prelude.{◌≡◌, ℕ, ◌+◌, ◌*◌, ◌/◌, ◌%◌, ◌^◌, ◌≤◌, ◌<◌, IsTrue, true, length, map, ◌++◌, OnOk, IfOk, IfErr, Err};
 ghost use Rattle.std.specs.Ordering.{nat_cmp};
-ghost use Rattle.std.specs.BTreeMap.{get};
+ghost use Rattle.std.specs.BTreeSet.{contains};
 ghost use Rattle.rpm_outside.specs.Files.{Units};
 ghost use Rattle.rpm_outside.specs.Causes.{HasCauseAt};
 ghost use Rattle.rpm_hindex.specs.Sizes.{is_bucket_count};
 ghost use Rattle.rpm_outside.specs.declared.disk.File.TheVariants.{Idx};
 ghost use Rattle.rpm_outside.specs.Looks.{LooksAt};
 ghost use Rattle.rpm_hindex.specs.inner.Records.{IsOpen};
-ghost use Rattle.rpm_hindex.specs.State.{Keeps, is_in_order, buckets_of};
-ghost use Rattle.rpm_hindex.specs.Plans.{LeavesOrder, CanWrite, IsPlanFor, ReachesFor};
-ghost use Rattle.rpm_hindex.specs.inner.Changes.{CanGo, IsStarted, IsHonest, is_kept};
-ghost use Rattle.rpm_hindex.specs.Refusals.{IsBad, IsTooLargeFor, HasRoomFor};
+ghost use Rattle.rpm_hindex.specs.State.{Keeps, EndsInZero, is_in_order, buckets_of};
+ghost use Rattle.rpm_hindex.specs.Plans.{LeavesOrder, CanWrite, IsPlanFor, IsSizedFor, ReachesFor, second_after};
+ghost use Rattle.rpm_hindex.specs.inner.Changes.{CanGo, IsStarted, IsHonest, IsFresh, is_kept};
+ghost use Rattle.rpm_hindex.specs.Refusals.{IsBad, IsBadFor, IsTooLargeFor, HasRoomFor};
 ghost use Rattle.rpm_hindex.specs.Index.{index_in, records};
 ghost use Rattle.rpm_hindex.specs.Costs.{chains_bytes, StaysWithin, StaysInPlace};
 ghost use Rattle.rpm_hindex.specs.Whole.{IsWellFormed};
@@ -37,9 +37,10 @@ impl Hindex {
         ensures count { is_bucket_count result.extent.buckets ≡ true }
         ensures fits { result.extent.used ≤ self.now.units }
         ensures buckets { result.extent.buckets ≡ buckets_of self.now.first }
-        ensures dropped { (p : ℕ) → is_kept (λ q. get nat_cmp result.dropped q) p ≡ true }
+        ensures dropped { (p : ℕ) → is_kept (λ q. contains nat_cmp result.dropped q) p ≡ true }
         ensures whole { (file : Units) → Keeps file self.now → IsWellFormed (buckets_of self.now.first) file → IsStarted result file }
         ensures honest { (file : Units) → Keeps file self.now → IsHonest result file }
+        ensures fresh { (file : Units) → Keeps file self.now → IsFresh result file }
         ensures open { (file : Units) → Keeps file self.now → IsOpen result.extent file }
     {
         let records = word(&self.second, 1);
@@ -61,13 +62,17 @@ impl Hindex {
         requires keeps { IsTrue D.tells → Keeps (D.files disk.old).idx self.now }
         ensures can { IfOk result (λ plan. CanWrite self.now.units plan.work) }
         ensures ordered { IfOk result (λ plan. LeavesOrder plan.work) }
+        ensures zero { IfOk result (λ plan. EndsInZero (second_after plan.work)) }
         ensures full { IfErr result (λ e. IsTrue D.tells → IsWellFormed (buckets_of self.now.first) (D.files disk.old).idx → IsTooLargeFor drops.now
             adds.now (records (buckets_of self.now.first) (D.files disk.old).idx) e) }
         ensures room { IfOk result (λ plan. IsTrue D.tells → IsWellFormed (buckets_of self.now.first) (D.files disk.old).idx → HasRoomFor drops.now
             adds.now (records (buckets_of self.now.first) (D.files disk.old).idx)) }
         ensures reach { IfOk result (λ plan. IsTrue D.tells → IsWellFormed (buckets_of self.now.first) (D.files disk.old).idx → ReachesFor drops.now
             adds.now (records (buckets_of self.now.first) (D.files disk.old).idx) self.now.units plan.work) }
+        ensures size { IfOk result (λ plan. IsTrue D.tells → IsWellFormed (buckets_of self.now.first) (D.files disk.old).idx → IsSizedFor drops.now
+            adds.now (records (buckets_of self.now.first) (D.files disk.old).idx) plan.work) }
         ensures bad { IfErr result (λ e. IsTrue D.tells → IsBad (buckets_of self.now.first) (D.files disk.old).idx e) }
+        ensures counts { IfErr result (λ e. IsTrue D.tells → IsBadFor drops.now (buckets_of self.now.first) (D.files disk.old).idx e) }
         ensures makes { IfOk result (λ plan. IsTrue D.tells → IsWellFormed (buckets_of self.now.first) (D.files disk.old).idx → IsPlanFor drops.now
             adds.now (buckets_of self.now.first) (D.files disk.old).idx plan.work) }
         ensures cost { IsTrue D.tells → IsWellFormed (buckets_of self.now.first) (D.files disk.old).idx → StaysWithin limit drops.now adds.now
@@ -93,7 +98,8 @@ impl Hindex {
     /// and takes all memory that the change needs.
     ///
     /// Drops the last row first, and looks for each behind the one of its bucket that was dropped before it; only where it isn't there, from
-    /// the front of the chain as far as that one. So rows that a package added in this order are each met at once.
+    /// the front of the chain as far as that one. So the rows of a package, which stand in their chains in the other order than it added
+    /// them, are found in one pass: those of one bucket cost the records from its front to the last of them once, and not for each row.
     ///
     /// Reads of each dropped row's bucket 16 bytes, of the records on the way to the row's own 16 bytes each and the keys of those that
     /// have the row's number and place, and 16 bytes for each added row; and all chains, where the index must be made from scratch:
@@ -103,7 +109,8 @@ impl Hindex {
     ///
     /// # Errors
     ///
-    /// - `BadIndex` only where `unit` is the first fault of a bucket's chain, or is 1, where unit 1 counts less than the chains hold.
+    /// - `BadIndex` only where `unit` is the first fault of a bucket's chain, or is 1, where unit 1 counts less than the chains hold, and less
+    ///   than the change drops.
     /// - `IndexFull` where the rows after the change, made from scratch, need more than 268435456 units, and only there: `needed` of them.
     /// - `DiskFault` only where the disk's count of faults rose.
     /// - `NoMemory` where the change finds no memory.
@@ -118,13 +125,17 @@ impl Hindex {
         requires keeps { IsTrue D.tells → Keeps (D.files disk.old).idx self.now }
         ensures can { IfOk result (λ plan. CanWrite self.now.units plan.work) }
         ensures ordered { IfOk result (λ plan. LeavesOrder plan.work) }
+        ensures zero { IfOk result (λ plan. EndsInZero (second_after plan.work)) }
         ensures full { IfErr result (λ e. IsTrue D.tells → IsWellFormed (buckets_of self.now.first) (D.files disk.old).idx → IsTooLargeFor drops.now
             adds.now (records (buckets_of self.now.first) (D.files disk.old).idx) e) }
         ensures room { IfOk result (λ plan. IsTrue D.tells → IsWellFormed (buckets_of self.now.first) (D.files disk.old).idx → HasRoomFor drops.now
             adds.now (records (buckets_of self.now.first) (D.files disk.old).idx)) }
         ensures reach { IfOk result (λ plan. IsTrue D.tells → IsWellFormed (buckets_of self.now.first) (D.files disk.old).idx → ReachesFor drops.now
             adds.now (records (buckets_of self.now.first) (D.files disk.old).idx) self.now.units plan.work) }
+        ensures size { IfOk result (λ plan. IsTrue D.tells → IsWellFormed (buckets_of self.now.first) (D.files disk.old).idx → IsSizedFor drops.now
+            adds.now (records (buckets_of self.now.first) (D.files disk.old).idx) plan.work) }
         ensures bad { IfErr result (λ e. IsTrue D.tells → IsBad (buckets_of self.now.first) (D.files disk.old).idx e) }
+        ensures counts { IfErr result (λ e. IsTrue D.tells → IsBadFor drops.now (buckets_of self.now.first) (D.files disk.old).idx e) }
         ensures makes { IfOk result (λ plan. IsTrue D.tells → IsWellFormed (buckets_of self.now.first) (D.files disk.old).idx → IsPlanFor drops.now
             adds.now (buckets_of self.now.first) (D.files disk.old).idx plan.work) }
         ensures cost { IsTrue D.tells → IsWellFormed (buckets_of self.now.first) (D.files disk.old).idx → StaysInPlace drops.now adds.now

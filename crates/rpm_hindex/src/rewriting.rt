@@ -6,7 +6,7 @@ ghost use Rattle.rpm_outside.specs.Causes.{HasCause, HasCauseAt};
 ghost use Rattle.rpm_hindex.specs.Rows.{Row, SameRows};
 ghost use Rattle.rpm_hindex.specs.Words.{word};
 ghost use Rattle.rpm_hindex.specs.Sizes.{bucket_count, units_for};
-ghost use Rattle.rpm_hindex.specs.State.{State, Keeps, is_ordered};
+ghost use Rattle.rpm_hindex.specs.State.{State, Keeps, EndsInZero, is_ordered};
 ghost use Rattle.rpm_hindex.specs.Index.{records};
 ghost use Rattle.rpm_hindex.specs.Whole.{IsWellFormed};
 ghost use Rattle.rpm_hindex.specs.inner.Drafts.{IsImage, Holds};
@@ -67,6 +67,7 @@ impl Hindex {
         ensures voided { OnOk result (self.new.first ≡ blank) }
         ensures size { OnOk result (word 0 self.new.second ≡ units_for rows.now) }
         ensures grows { OnOk result (self.new.units ≤ max self.old.units (units_for rows.now)) }
+        ensures zero { OnOk result (EndsInZero self.new.second) }
         ensures ordered { OnOk result (is_ordered self.new.pending self.new.second self.new.units ≡ true) }
         ensures kept { OnOk result (IsTrue D.tells → Keeps (D.files disk.new).idx self.new) }
         ensures whole { OnOk result (IsTrue D.tells → IsWellFormed self.new.pending (D.files disk.new).idx) }

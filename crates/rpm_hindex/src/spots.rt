@@ -1,8 +1,8 @@
 //! Where a row's record stands in its chain.
 
-ghost use Rattle.std.specs.Prelude.{◌≡◌, ℕ, ◌+◌, ◌*◌, ◌/◌, ◌%◌, ◌^◌, ◌≤◌, ◌<◌, ◌&&◌, IsTrue, List, IfOk, IfErr, Ok, Err, None, Some, if◌then◌else◌, Option};
+ghost use Rattle.std.specs.Prelude.{◌≡◌, ℕ, ◌+◌, ◌*◌, ◌/◌, ◌%◌, ◌^◌, ◌≤◌, ◌<◌, ◌&&◌, IsTrue, false, List, IfOk, IfErr, Ok, Err, Some, if◌then◌else◌, Option};
 ghost use Rattle.std.specs.Ordering.{nat_cmp};
-ghost use Rattle.std.specs.BTreeMap.{get};
+ghost use Rattle.std.specs.BTreeSet.{contains};
 ghost use Rattle.rpm_outside.specs.Causes.{HasCauseAt};
 ghost use Rattle.rpm_outside.specs.Looks.{LooksAt};
 ghost use Rattle.rpm_outside.specs.declared.disk.File.TheVariants.{Idx};
@@ -19,7 +19,7 @@ use crate::heads::{Head, Met, meet, read_head};
 use crate::rows::RowRef;
 use rpm_outside::Disk;
 use std::alloc::Global;
-use std::collections::BTreeMap;
+use std::collections::BTreeSet;
 
 /// A row's record, the kept record before it, and the first unit of the one behind it, or 0.
 #[derive(Clone, Copy)]
@@ -37,7 +37,7 @@ fn skip_dropped<D: Disk>(
     extent: Extent,
     from: u32,
     end: u32,
-    dropped: &BTreeMap<u32, u32>,
+    dropped: &BTreeSet<u32>,
 ) -> Result<u32, FindFault>
     requires few { extent.buckets ≤ 2 ^ 28 }
     requires open { IsTrue D.tells → IsOpen extent (D.files disk.old).idx }
@@ -45,7 +45,7 @@ fn skip_dropped<D: Disk>(
     ensures linked { IfOk result (IsNext extent.buckets extent.used) }
     ensures skips { IfOk result (λ to. IsTrue D.tells → (b : ℕ) (front : List ℕ)
         → IsPath (index_in extent.buckets (D.files disk.old).idx) b from front end
-        → SkipsTo (index_in extent.buckets (D.files disk.old).idx) b end (is_kept (λ p. get nat_cmp dropped.now p)) from to) }
+        → SkipsTo (index_in extent.buckets (D.files disk.old).idx) b end (is_kept (λ p. contains nat_cmp dropped.now p)) from to) }
     ensures fault { IfErr result (λ e. IsTrue D.tells → (b : ℕ) → OnWay (index_in extent.buckets (D.files disk.old).idx) b from end (IsOutside e)) }
     ensures cost { IsTrue D.tells → (b : ℕ) → PathCosts (index_in extent.buckets (D.files disk.old).idx) b from end
         (D.bytes_read disk.old Idx) (D.bytes_read disk.new Idx) }
@@ -53,7 +53,7 @@ fn skip_dropped<D: Disk>(
     ensures cause { HasCauseAt (result ≡ Err FindFault.DiskFault) (D.faults disk.old) (D.faults disk.new) }
 {
     let mut at = from;
-    while at > end && dropped.contains_key(&at) {
+    while at > end && dropped.contains(&at) {
         let ahead = match read_head(disk, extent, at) {
             Ok(ahead) => ahead,
             Err(fault) => return Err(fault),
@@ -64,19 +64,19 @@ fn skip_dropped<D: Disk>(
 }
 
 /// Whether a record is of the row, and isn't dropped.
-fn is_hit(dropped: &BTreeMap<u32, u32>, met: Met) -> bool
-    ensures { result ≡ (met.is_row && is_kept (λ p. get nat_cmp dropped.now p) met.head.at) }
+fn is_hit(dropped: &BTreeSet<u32>, met: Met) -> bool
+    ensures { result ≡ (met.is_row && is_kept (λ p. contains nat_cmp dropped.now p) met.head.at) }
 {
-    met.is_row && !dropped.contains_key(&met.head.at)
+    met.is_row && !dropped.contains(&met.head.at)
 }
 
 /// The last place that is dropped of those below a unit, or 0.
 #[inline(never)]
-fn last_dropped(dropped: &BTreeMap<u32, u32>, end: u32) -> u32
-    ensures { (p : ℕ) → result < p → p < end → get nat_cmp dropped.now p ≡ None }
+fn last_dropped(dropped: &BTreeSet<u32>, end: u32) -> u32
+    ensures { (p : ℕ) → result < p → p < end → contains nat_cmp dropped.now p ≡ false }
 {
     match dropped.range(0..end).next_back() {
-        Some((last, _)) => *last,
+        Some(last) => *last,
         None => 0,
     }
 }
@@ -84,10 +84,10 @@ fn last_dropped(dropped: &BTreeMap<u32, u32>, end: u32) -> u32
 /// The last place that is dropped as far as the next record on the way, where the one as far as this record is known. Records on the way
 /// have ever lower places, so few of them have it looked for anew.
 #[inline(always)]
-fn dropped_to(dropped: &BTreeMap<u32, u32>, last: u32, at: u32, next: u32) -> u32
+fn dropped_to(dropped: &BTreeSet<u32>, last: u32, at: u32, next: u32) -> u32
     requires falls { next < at }
-    requires last { (p : ℕ) → last < p → p ≤ at → get nat_cmp dropped.now p ≡ None }
-    ensures { (p : ℕ) → result < p → p ≤ next → get nat_cmp dropped.now p ≡ None }
+    requires last { (p : ℕ) → last < p → p ≤ at → contains nat_cmp dropped.now p ≡ false }
+    ensures { (p : ℕ) → result < p → p ≤ next → contains nat_cmp dropped.now p ≡ false }
 {
     if next < last {
         last_dropped(dropped, next + 1)
@@ -98,16 +98,11 @@ fn dropped_to(dropped: &BTreeMap<u32, u32>, last: u32, at: u32, next: u32) -> u3
 
 /// The last record that isn't dropped, when one more was met. Of most a comparison tells that they aren't dropped.
 #[inline(always)]
-fn last_kept(
-    dropped: &BTreeMap<u32, u32>,
-    last: u32,
-    before: Option<Head>,
-    head: Head,
-) -> Option<Head>
-    requires { last < head.at → get nat_cmp dropped.now head.at ≡ None }
-    ensures { result ≡ (if is_kept (λ p. get nat_cmp dropped.now p) head.at then Some head else before) }
+fn last_kept(dropped: &BTreeSet<u32>, last: u32, before: Option<Head>, head: Head) -> Option<Head>
+    requires { last < head.at → contains nat_cmp dropped.now head.at ≡ false }
+    ensures { result ≡ (if is_kept (λ p. contains nat_cmp dropped.now p) head.at then Some head else before) }
 {
-    if head.at <= last && dropped.contains_key(&head.at) {
+    if head.at <= last && dropped.contains(&head.at) {
         before
     } else {
         Some(head)
@@ -124,7 +119,7 @@ pub fn find_spot<D: Disk>(
     bucket: u32,
     from: u32,
     end: u32,
-    dropped: &BTreeMap<u32, u32>,
+    dropped: &BTreeSet<u32>,
     row: RowRef<'_>,
 ) -> Result<Option<Spot>, FindFault>
     requires few { extent.buckets ≤ 2 ^ 28 }
@@ -137,7 +132,7 @@ pub fn find_spot<D: Disk>(
     ensures sound { IfOk result (λ spot. IsTrue D.tells → IsSoundSpot (index_in extent.buckets (D.files disk.old).idx) bucket spot) }
     ensures found { IfOk result (λ spot. IsTrue D.tells → (front : List ℕ)
         → IsPath (index_in extent.buckets (D.files disk.old).idx) bucket from front end
-        → IsFoundFrom (index_in extent.buckets (D.files disk.old).idx) bucket from end (is_kept (λ p. get nat_cmp dropped.now p))
+        → IsFoundFrom (index_in extent.buckets (D.files disk.old).idx) bucket from end (is_kept (λ p. contains nat_cmp dropped.now p))
         (record { kind = row.entry.kind; key = row.entry.key.now; number = row.entry.number; place = row.entry.place }) spot) }
     ensures fault { IfErr result (λ e. IsTrue D.tells → OnWay (index_in extent.buckets (D.files disk.old).idx) bucket from end (IsOutside e)) }
     ensures cost { IsTrue D.tells → PathCosts (index_in extent.buckets (D.files disk.old).idx) bucket from end (D.bytes_read disk.old Idx)

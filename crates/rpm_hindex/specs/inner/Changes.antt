@@ -1,7 +1,8 @@
 -- A change that is being worked out, as the index that it would leave.
-use Rattle.std.specs.Prelude.{◌≡◌, ℕ, ◌+◌, ◌-◌, ◌*◌, ◌/◌, ◌%◌, ◌^◌, ◌<◌, ◌≤◌, ◌⊎◌, List, length, map, Bool, not, if◌then◌else◌, nat_lt, Option, Some, None, unwrap_or, is_some, true, Err, Result, IsOk}
+use Rattle.std.specs.Prelude.{◌≡◌, ℕ, ◌+◌, ◌-◌, ◌*◌, ◌/◌, ◌%◌, ◌^◌, ◌<◌, ◌≤◌, ◌⊎◌, List, length, map, Bool, not, if◌then◌else◌, nat_lt, Option, Some, None, unwrap_or, true, Err, Result, IsOk}
 use Rattle.std.specs.Ordering.{nat_cmp}
 use Rattle.std.specs.BTreeMap.{get}
+use Rattle.std.specs.BTreeSet.{contains}
 use Rattle.std.specs.List.{filter, Contains, flat_map, range_with_len, sum_by}
 use Rattle.rpm_outside.specs.Files.{Units, units_of, unit_at}
 use Rattle.rpm_hindex.specs.declared.change.Change.{Change}
@@ -13,7 +14,7 @@ use Rattle.rpm_hindex.specs.declared.faults.PrepareFault.{PrepareFault}
 use Rattle.rpm_hindex.specs.declared.faults.PrepareFault.TheVariants.{IndexFull, BadIndex, DiskFault, NoMemory}
 use Rattle.rpm_hindex.specs.Words.{word, unit_of_words}
 use Rattle.rpm_hindex.specs.Rows.{Row, times}
-use Rattle.rpm_hindex.specs.Sizes.{first_record, bucket_count, units_for}
+use Rattle.rpm_hindex.specs.Sizes.{first_record, bucket_count, units_for, live_of}
 use Rattle.rpm_hindex.specs.inner.Drafts.{IsImage}
 use Rattle.rpm_hindex.specs.Index.{Index, index_in, chain, is_link, row_at, bucket_unit, all_places, places_of, rows_of, units_at}
 use Rattle.rpm_hindex.specs.Whole.{IsWhole}
@@ -23,8 +24,13 @@ use Rattle.rpm_hindex.specs.Answers.{IsFaultOf}
 
 -- ---- places
 
-abbrev pub is_kept : (ℕ → Option ℕ) → ℕ → Bool
-is_kept dropped place = not (is_some (dropped place))
+abbrev pub is_kept : (ℕ → Bool) → ℕ → Bool
+is_kept dropped place = not (dropped place)
+
+-- one place more is dropped
+pub record Drops (old new : ℕ → Bool) (place : ℕ) : Type 0 where
+  pub here : new place ≡ true
+  pub others : (q : ℕ) → (q ≡ place → ⊥) → new q ≡ old q
 
 -- ---- units
 
@@ -109,7 +115,7 @@ pub record Stays (u v : ℕ → List ℕ) (q : ℕ) : Type 0 where
 -- the index of a change has the chains of the file without the places that were dropped
 pub record IsCut (c : Change) (file : Units) : Type 0 where
   pub whole : IsWhole c.records c.live (changing c file)
-  pub chains : (b : ℕ) → b < c.extent.buckets → places_of (changing c file) b ≡ filter (is_kept (λ p. get nat_cmp c.dropped p))
+  pub chains : (b : ℕ) → b < c.extent.buckets → places_of (changing c file) b ≡ filter (is_kept (λ p. contains nat_cmp c.dropped p))
       (places_of (index_in c.extent.buckets file) b)
   pub stays : (q : ℕ) → Contains (all_places (index_in c.extent.buckets file)) q → Stays (unit_at file) (changing c file).unit q
 
@@ -201,10 +207,10 @@ HasFault x e = (b : ℕ) × (b < x.buckets) × IsFaultOf (chain x b) e
 pub record IsHonest (c : Change) (file : Units) : Type 0 where
   pub heads : (b : ℕ) → b < c.extent.buckets → (is_link (changing c file) ((changing c file).head b) ≡ true)
       ⊎ ((changing c file).head b ≡ (index_in c.extent.buckets file).head b)
-  pub records : HasNoFault (index_in c.extent.buckets file) → word 1 (unit_at file 1) + sum_by (if_kept (is_kept (λ p. get nat_cmp c.dropped p)) (λ p. 1))
+  pub records : HasNoFault (index_in c.extent.buckets file) → word 1 (unit_at file 1) + sum_by (if_kept (is_kept (λ p. contains nat_cmp c.dropped p)) (λ p. 1))
       (all_places (index_in c.extent.buckets file)) ≤ c.records + length (all_places (index_in c.extent.buckets file))
   pub live : HasNoFault (index_in c.extent.buckets file)
-      → word 2 (unit_at file 1) + sum_by (if_kept (is_kept (λ p. get nat_cmp c.dropped p)) (units_at (unit_at file)))
+      → word 2 (unit_at file 1) + sum_by (if_kept (is_kept (λ p. contains nat_cmp c.dropped p)) (units_at (unit_at file)))
       (all_places (index_in c.extent.buckets file)) ≤ c.live + sum_by (units_at (unit_at file)) (all_places (index_in c.extent.buckets file))
 
 -- a fault that names a unit names the fault of a bucket's chain, or unit 1, which counts too little unless there is one
@@ -215,3 +221,37 @@ IsBadSoFar buckets file (BadIndex unit) =
 IsBadSoFar buckets file (IndexFull needed) = Unit {0}
 IsBadSoFar buckets file DiskFault = Unit {0}
 IsBadSoFar buckets file NoMemory = Unit {0}
+
+-- ---- rows that a change has dropped
+
+-- the rows of an index that a change keeps
+abbrev pub kept_in : Index → Change → List Row
+kept_in x c = kept_of x (is_kept (λ p. contains nat_cmp c.dropped p))
+
+-- a change lost these of the rows that it kept, each at most as often as it is dropped
+pub record HasGone (drops : List Row) (old new : Change) (x : Index) : Type 0 where
+  pub gone : List Row
+  pub dropped : (row : Row) → times row gone ≤ times row drops
+  pub held : (row : Row) → times row (kept_in x new) + times row gone ≡ times row (kept_in x old)
+  pub records : new.records + length gone ≡ old.records
+  pub live : new.live + live_of gone ≡ old.live
+
+-- some of the rows that a change keeps and is to drop are more than it counts
+pub record CountsLess (drops : List Row) (c : Change) (x : Index) : Type 0 where
+  pub gone : List Row
+  pub dropped : (row : Row) → times row gone ≤ times row drops
+  pub held : (row : Row) → times row gone ≤ times row (kept_in x c)
+  pub more : (c.records < length gone) ⊎ (c.live < live_of gone)
+
+-- a fault that names a unit says so
+abbrev pub IsShort : List Row → Change → Index → PrepareFault → Type 0
+IsShort drops c x (BadIndex unit) = CountsLess drops c x
+IsShort drops c x (IndexFull needed) = Unit {0}
+IsShort drops c x DiskFault = Unit {0}
+IsShort drops c x NoMemory = Unit {0}
+
+-- a change of this file that has dropped nothing yet
+pub record IsFresh (c : Change) (file : Units) : Type 0 where
+  pub records : c.records ≡ word 1 (unit_at file 1)
+  pub live : c.live ≡ word 2 (unit_at file 1)
+  pub kept : (p : ℕ) → is_kept (λ q. contains nat_cmp c.dropped q) p ≡ true

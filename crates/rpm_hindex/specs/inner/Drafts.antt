@@ -39,4 +39,5 @@ pub record IsImage (rows : List Row) (buckets : ℕ) (bytes : List ℕ) : Type 0
   pub used : word 0 (unit_at (units_of bytes) 0) ≡ first_record buckets + live_of rows
   pub count : word 1 (unit_at (units_of bytes) 0) ≡ length rows
   pub live : word 2 (unit_at (units_of bytes) 0) ≡ live_of rows
+  pub last : word 3 (unit_at (units_of bytes) 0) ≡ 0
   pub made : (file : Units) → Holds (units_of bytes) file → IsMade rows buckets file

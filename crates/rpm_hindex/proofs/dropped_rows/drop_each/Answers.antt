@@ -1,19 +1,21 @@
 use Rattle.std.proofs.Common.{◌≡◌, ℕ, Bool, ◌-◌, ◌+◌, ◌%◌, ◌<◌, ◌∷◌, [], List, Vec, Global, length, drop, refl, sym, ap, ◌∙◌, arith, subst}
 use Rattle.std.specs.Ordering.{nat_cmp}
 use Rattle.std.specs.BTreeMap.{get, is_at}
+use Rattle.std.specs.BTreeSet.{contains}
 use Rattle.rpm_outside.specs.Files.{Files, unit_at}
 use Rattle.rpm_hindex.specs.declared.chain.Extent.{Extent}
 use Rattle.rpm_hindex.specs.declared.change.Change.{Change}
-use Rattle.rpm_hindex.specs.Rows.{Row, hash_of, row_nth}
-use Rattle.rpm_hindex.specs.Index.{index_in, chain, units_at}
+use Rattle.rpm_hindex.specs.Rows.{Row, hash_of, row_nth, times}
+use Rattle.rpm_hindex.specs.Index.{Index, index_in, chain, units_at}
 use Rattle.rpm_hindex.specs.Whole.{IsWellFormed}
-use Rattle.rpm_hindex.specs.inner.Changes.{HasLess, IsCut, IsHonest, IsBadSoFar, kept_of, is_kept}
+use Rattle.rpm_hindex.specs.inner.Changes.{HasLess, HasNoFault, HasGone, IsShort, IsCut, IsHonest, IsBadSoFar, kept_of, is_kept}
 use Rattle.rpm_outside.specs.declared.disk.File.TheVariants.{Idx}
 use Rattle.rpm_outside.specs.inner.Looking.{looks_at_none, looks_at_then}
 use Rattle.rpm_hindex.specs.Answers.{ChainCosts}
 use Rattle.rpm_hindex.proofs.Takes.{rows_from}
 use Rattle.rpm_hindex.proofs.Costing.{chain_more, chains_drop}
 use Rattle.rpm_hindex.proofs.Keeping.{less_start, less_before}
+use Rattle.rpm_hindex.proofs.Gone.{gone_none, gone_before, short_before, times_drop}
 use Rattle.std.specs.Prelude.{Option, Some, None}
 use Rattle.std.specs.Map.{lookup}
 use Rattle.std.proofs.lemmas.List.{drop_all}
@@ -31,6 +33,8 @@ loop-left-init g c = record {
   stand = λ b s is. absurd (none_starts b s is);
   starts = λ told b s is. absurd (none_starts b s is);
   less = λ told whole. subst (λ (rs : List Row). HasLess rs kept kept) (sym none_left) (less_start kept kept (λ r. refl));
+  gone = λ told none. gone_none (drop c.len-left.result c.args.rows.now) c.args.change.now
+      (index_in c.args.change.now.extent.buckets (g.D.Disk.files c.args.disk.now).idx);
   cuts = λ told whole none cut. cut;
   honest = λ told is. is;
   cost = λ told whole. omega arith;
@@ -41,7 +45,7 @@ loop-left-init g c = record {
   none_left = drop_all c.len-left.result c.args.rows.now (omega (arith, c.len-left.ensures))
 
   kept : List Row
-  kept = kept_of (index_in c.args.change.now.extent.buckets (g.D.Disk.files c.args.disk.now).idx) (is_kept (λ p. get nat_cmp c.args.change.now.dropped p))
+  kept = kept_of (index_in c.args.change.now.extent.buckets (g.D.Disk.files c.args.disk.now).idx) (is_kept (λ p. contains nat_cmp c.args.change.now.dropped p))
 
   none_starts : (b : ℕ) (s : Start) → get nat_cmp c.new-starts.result b ≡ Some s → ⊥
   none_starts b s is =
@@ -56,6 +60,12 @@ cost_here files later first e d r row old new same extent is costs =
     let C : Files → Extent → Row → Type 0 = λ f x q. ChainCosts (chain (index_in x.buckets f.idx) (hash_of q.kind q.key % x.buckets))
     (units_at (unit_at f.idx)) old new in
     subst (λ (q : Row). C (files first) d q) is (subst (λ (x : Extent). C (files first) x r) extent (subst (λ (f : Files). C f e r) same costs))
+
+-- the index, in the words of the first disk
+index_here : {D : Type 0} (files : D → Files) (later first : D) (e d : Extent) → files later ≡ files first → e ≡ d
+    → index_in e.buckets (files later).idx ≡ index_in d.buckets (files first).idx
+index_here files later first e d same extent =
+    ap (λ (f : Files). index_in e.buckets f.idx) same ∙ ap (λ (x : Extent). index_in x.buckets (files first).idx) extent
 
 -- starts, in the words of the first disk
 starts_here : {D : Type 0} (files : D → Files) (later first : D) (e d : Extent) (kept : ℕ → Bool) (starts : ℕ → Option Start) → files later ≡ files first
@@ -72,7 +82,7 @@ drop_row-requires-clause-stand g c =
 pub drop_row-requires-clause-starts : goal.drop_row-requires-clause-starts
 drop_row-requires-clause-starts g c = λ told.
     let l = c.loop-left in
-    starts_here g.D.Disk.files c.args.disk.now l.disk c.args.change.now.extent l.change.extent (is_kept (λ p. get nat_cmp l.change.dropped p))
+    starts_here g.D.Disk.files c.args.disk.now l.disk c.args.change.now.extent l.change.extent (is_kept (λ p. contains nat_cmp l.change.dropped p))
     (λ b. get nat_cmp l.starts b) (sym ((l.invariant.looks.untouched told).same)) (sym l.invariant.extent) (l.invariant.starts told)
 
 pub loop-left-preserved : goal.loop-left-preserved
@@ -90,12 +100,12 @@ loop-left-preserved g c =
       none = λ e. absurd (omega (arith, e, lt));
       stand = subst (λ (e : Extent). StandWithin e.buckets e.used (λ b. get nat_cmp c.drop_row.new.starts b)) l.invariant.extent c.in_default.ensures.stand;
       starts = λ told. starts_here g.D.Disk.files l.disk c.args.disk.now l.change.extent c.args.change.now.extent
-          (is_kept (λ p. get nat_cmp c.drop_row.new.self.dropped p)) (λ b. get nat_cmp c.drop_row.new.starts b)
+          (is_kept (λ p. contains nat_cmp c.drop_row.new.self.dropped p)) (λ b. get nat_cmp c.drop_row.new.starts b)
           ((l.invariant.looks.untouched told).same) l.invariant.extent (c.in_default.ensures.starts told);
       less = λ told whole.
           let first : Change = c.args.change.now in
           let file : Files = g.D.Disk.files c.args.disk.now in
-          let of : Files → Extent → Change → List Row = λ f e d. kept_of (index_in e.buckets f.idx) (is_kept (λ p. get nat_cmp d.dropped p)) in
+          let of : Files → Extent → Change → List Row = λ f e d. kept_of (index_in e.buckets f.idx) (is_kept (λ p. contains nat_cmp d.dropped p)) in
           let same = (l.invariant.looks.untouched told).same in
           let here = subst (λ (f : Files). IsWellFormed l.change.extent.buckets f.idx → HasLess (row_nth rows i ∷ [])
           (of f l.change.extent l.change) (of f l.change.extent c.drop_row.new.self)) same
@@ -106,6 +116,17 @@ loop-left-preserved g c =
           (of file e c.drop_row.new.self)) l.invariant.extent here in
           subst (λ (rs : List Row). HasLess rs (of file first.extent first) (of file first.extent c.drop_row.new.self)) (sym (rows_from rows i l.left lt next))
           (less_before (row_nth rows i) (drop l.left rows) _ _ _ (l.invariant.less told whole) (there whole));
+      gone = λ told none.
+          let first : Change = c.args.change.now in
+          let last : Change = c.drop_row.new.self in
+          let here = subst (λ (y : Index). HasNoFault y → HasGone (row_nth rows i ∷ []) l.change last y)
+          (index_here g.D.Disk.files l.disk c.args.disk.now l.change.extent first.extent ((l.invariant.looks.untouched told).same) l.invariant.extent)
+          (subst (λ (r : Row). HasNoFault (index_in l.change.extent.buckets (g.D.Disk.files l.disk).idx)
+          → HasGone (r ∷ []) l.change last (index_in l.change.extent.buckets (g.D.Disk.files l.disk).idx)) c.row_ref.ensures.row
+          (c.in_default.ensures.gone told)) in
+          let x : Index = index_in first.extent.buckets (g.D.Disk.files c.args.disk.now).idx in
+          subst (λ (rs : List Row). HasGone rs first last x) (sym (rows_from rows i l.left lt next))
+          (gone_before (row_nth rows i) (drop l.left rows) first l.change last x (l.invariant.gone told none) (here none));
       cuts = λ told whole none cut.
           let same = (l.invariant.looks.untouched told).same in
           let here = subst (λ (f : Files). IsWellFormed l.change.extent.buckets f.idx → length l.change.tail.items ≡ 0 → IsCut l.change f.idx
@@ -142,3 +163,21 @@ returns-in-Err-clause-bad g c = λ told is.
     let here = subst (λ (f : Files). IsHonest l.change f.idx → IsBadSoFar l.change.extent.buckets f.idx c.in-Err.fault)
     ((l.invariant.looks.untouched told).same) (c.in-Err.ensures.bad told) (l.invariant.honest told is) in
     subst (λ (e : Extent). IsBadSoFar e.buckets (g.D.Disk.files c.args.disk.now).idx c.in-Err.fault) l.invariant.extent here
+
+pub returns-in-Err-clause-short : goal.returns-in-Err-clause-short
+returns-in-Err-clause-short g c = λ told none.
+    let l = c.loop-left in
+    let rows = c.args.rows.now in
+    let i = l.left - 1 in
+    let lt : i < length rows = omega (arith, c.loop-left-test.true, l.invariant.few) in
+    let next : l.left ≡ i + 1 = omega (arith, c.loop-left-test.true) in
+    let first : Change = c.args.change.now in
+    let x : Index = index_in first.extent.buckets (g.D.Disk.files c.args.disk.now).idx in
+    let here = subst (λ (y : Index). HasNoFault y → IsShort (row_nth rows i ∷ []) l.change y c.in-Err.fault)
+    (index_here g.D.Disk.files l.disk c.args.disk.now l.change.extent first.extent ((l.invariant.looks.untouched told).same) l.invariant.extent)
+    (subst (λ (r : Row). HasNoFault (index_in l.change.extent.buckets (g.D.Disk.files l.disk).idx)
+    → IsShort (r ∷ []) l.change (index_in l.change.extent.buckets (g.D.Disk.files l.disk).idx) c.in-Err.fault) c.row_ref.ensures.row
+    (c.in-Err.ensures.short told)) in
+    short_before (row_nth rows i) (drop l.left rows) rows first l.change x
+    (λ r. omega (arith, times_drop r rows i, ap (times r) (rows_from rows i l.left lt next)))
+    (l.invariant.gone told none) c.in-Err.fault (here none)

@@ -2,12 +2,13 @@ use Rattle.std.proofs.Common.{◌≡◌, ◌+◌, ◌≤◌, length, drop}
 use Rattle.std.specs.Prelude.{IsTrue}
 use Rattle.std.specs.Ordering.{nat_cmp}
 use Rattle.std.specs.BTreeMap.{get}
+use Rattle.std.specs.BTreeSet.{contains}
 use Rattle.rpm_outside.specs.declared.disk.File.TheVariants.{Idx}
 use Rattle.rpm_outside.specs.Looks.{LooksAt}
 use Rattle.rpm_hindex.specs.Index.{index_in}
 use Rattle.rpm_hindex.specs.Costs.{chains_bytes}
 use Rattle.rpm_hindex.specs.Whole.{IsWellFormed}
-use Rattle.rpm_hindex.specs.inner.Changes.{CanGo, HasLess, IsCut, IsHonest, kept_of, is_kept}
+use Rattle.rpm_hindex.specs.inner.Changes.{CanGo, HasLess, HasNoFault, HasGone, IsCut, IsHonest, kept_of, is_kept}
 use Rattle.rpm_hindex.specs.inner.Starts.{AreStarts, StandWithin}
 use Rattle.rpm_hindex.proofs.dropped_rows.drop_each.Given as goal
 
@@ -20,10 +21,12 @@ invariant-loop-left g l = record {
   none : l.left ≡ length l.rows → l.change ≡ l.initial.change;
   stand : StandWithin l.initial.change.extent.buckets l.initial.change.extent.used (λ b. get nat_cmp l.starts b);
   starts : IsTrue g.D.Disk.tells → AreStarts (index_in l.initial.change.extent.buckets (g.D.Disk.files l.initial.disk).idx)
-      (is_kept (λ p. get nat_cmp l.change.dropped p)) (λ b. get nat_cmp l.starts b);
+      (is_kept (λ p. contains nat_cmp l.change.dropped p)) (λ b. get nat_cmp l.starts b);
   less : IsTrue g.D.Disk.tells → IsWellFormed l.initial.change.extent.buckets (g.D.Disk.files l.initial.disk).idx → HasLess (drop l.left l.rows)
-      (kept_of (index_in l.initial.change.extent.buckets (g.D.Disk.files l.initial.disk).idx) (is_kept (λ p. get nat_cmp l.initial.change.dropped p)))
-      (kept_of (index_in l.initial.change.extent.buckets (g.D.Disk.files l.initial.disk).idx) (is_kept (λ p. get nat_cmp l.change.dropped p)));
+      (kept_of (index_in l.initial.change.extent.buckets (g.D.Disk.files l.initial.disk).idx) (is_kept (λ p. contains nat_cmp l.initial.change.dropped p)))
+      (kept_of (index_in l.initial.change.extent.buckets (g.D.Disk.files l.initial.disk).idx) (is_kept (λ p. contains nat_cmp l.change.dropped p)));
+  gone : IsTrue g.D.Disk.tells → HasNoFault (index_in l.initial.change.extent.buckets (g.D.Disk.files l.initial.disk).idx)
+      → HasGone (drop l.left l.rows) l.initial.change l.change (index_in l.initial.change.extent.buckets (g.D.Disk.files l.initial.disk).idx);
   cuts : IsTrue g.D.Disk.tells → IsWellFormed l.initial.change.extent.buckets (g.D.Disk.files l.initial.disk).idx → length l.initial.change.tail.items
       ≡ 0 → IsCut l.initial.change (g.D.Disk.files l.initial.disk).idx → IsCut l.change (g.D.Disk.files l.initial.disk).idx;
   honest : IsTrue g.D.Disk.tells → IsHonest l.initial.change (g.D.Disk.files l.initial.disk).idx → IsHonest l.change (g.D.Disk.files l.initial.disk).idx;

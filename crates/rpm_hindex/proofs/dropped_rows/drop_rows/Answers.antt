@@ -4,13 +4,23 @@ use Rattle.rpm_outside.specs.declared.disk.File.TheVariants.{Idx}
 use Rattle.rpm_outside.specs.inner.Looking.{looks_at_then}
 use Rattle.rpm_hindex.specs.Index.{index_in}
 use Rattle.rpm_hindex.specs.inner.Changes.{IsBadSoFar, HasNoFault, HasFault}
-use Rattle.rpm_hindex.proofs.Honest.{bad_chain, bad_so_far, bad_other, not_bad}
+use Rattle.rpm_hindex.proofs.Honest.{faulty_bad, faulty_for, bad_chain, bad_so_far, bad_other, not_bad}
+use Rattle.rpm_hindex.proofs.Gone.{bad_for}
 use Rattle.rpm_hindex.proofs.dropped_rows.drop_rows.Goals as goal
 
 pub returns-then-not-is_count_fault-clause-bad : goal.returns-then-not-is_count_fault-clause-bad
 returns-then-not-is_count_fault-clause-bad g c = λ told honest.
-    bad_other c.args.change.now.extent.buckets (g.D.Disk.files c.args.disk.now).idx c.in-Err.fault
-    (c.is_count_fault.ensures.no c.if-not-is_count_fault.true) (c.in-Err.ensures.bad told honest)
+    let B = c.args.change.now.extent.buckets in
+    let file : Files = g.D.Disk.files c.args.disk.now in
+    faulty_bad B file.idx c.in-Err.fault
+    (bad_other B file.idx c.in-Err.fault (c.is_count_fault.ensures.no c.if-not-is_count_fault.true) (c.in-Err.ensures.bad told honest))
+
+pub returns-then-not-is_count_fault-clause-counts : goal.returns-then-not-is_count_fault-clause-counts
+returns-then-not-is_count_fault-clause-counts g c = λ told fresh honest.
+    let B = c.args.change.now.extent.buckets in
+    let file : Files = g.D.Disk.files c.args.disk.now in
+    faulty_for c.args.rows.now B file.idx c.in-Err.fault
+    (bad_other B file.idx c.in-Err.fault (c.is_count_fault.ensures.no c.if-not-is_count_fault.true) (c.in-Err.ensures.bad told honest))
 
 pub returns-in-Ok-clause-bad : goal.returns-in-Ok-clause-bad
 returns-in-Ok-clause-bad g c = λ told honest.
@@ -25,7 +35,24 @@ returns-in-Err-check_chains-clause-bad g c = λ told honest.
     let file : Files = g.D.Disk.files c.args.disk.now in
     let f = subst (λ (f : Files). HasFault (index_in B f.idx) c.in-Err-check_chains.first) ((c.drop_each.ensures.looks.untouched told).same)
     (c.in-Err-check_chains.ensures.fault told) in
-    bad_chain B file.idx c.prepare_fault.result f.0 f.1 (c.prepare_fault.ensures.fault _ f.2)
+    faulty_bad B file.idx c.prepare_fault.result (bad_chain B file.idx c.prepare_fault.result f.0 f.1 (c.prepare_fault.ensures.fault _ f.2))
+
+pub returns-in-Err-check_chains-clause-counts : goal.returns-in-Err-check_chains-clause-counts
+returns-in-Err-check_chains-clause-counts g c = λ told fresh honest.
+    let B = c.args.change.now.extent.buckets in
+    let file : Files = g.D.Disk.files c.args.disk.now in
+    let f = subst (λ (f : Files). HasFault (index_in B f.idx) c.in-Err-check_chains.first) ((c.drop_each.ensures.looks.untouched told).same)
+    (c.in-Err-check_chains.ensures.fault told) in
+    faulty_for c.args.rows.now B file.idx c.prepare_fault.result
+    (bad_chain B file.idx c.prepare_fault.result f.0 f.1 (c.prepare_fault.ensures.fault _ f.2))
+
+pub returns-in-Ok-clause-counts : goal.returns-in-Ok-clause-counts
+returns-in-Ok-clause-counts g c = λ told fresh honest.
+    let B = c.args.change.now.extent.buckets in
+    let file : Files = g.D.Disk.files c.args.disk.now in
+    let none = subst (λ (f : Files). HasNoFault (index_in B f.idx)) ((c.drop_each.ensures.looks.untouched told).same) (c.in-Ok.ensures.none told) in
+    bad_for c.args.rows.now c.args.change.now file.idx c.in-Err.fault (c.is_count_fault.ensures.yes c.if-not-is_count_fault.false) fresh
+    (c.in-Err.ensures.short told none)
 
 pub returns-in-Err-check_chains-clause-looks : goal.returns-in-Err-check_chains-clause-looks
 returns-in-Err-check_chains-clause-looks g c =

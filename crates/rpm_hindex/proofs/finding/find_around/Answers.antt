@@ -2,7 +2,7 @@ use Rattle.std.proofs.Common.{ℕ, List, [], Bool, refl, sym, ap, arith, subst}
 use Rattle.std.specs.Prelude.{Option}
 use Rattle.std.specs.List.{sum_by}
 use Rattle.std.specs.Ordering.{nat_cmp}
-use Rattle.std.specs.BTreeMap.{get}
+use Rattle.std.specs.BTreeSet.{contains}
 use Rattle.std.proofs.lemmas.List.Sums.{sum_by-append}
 use Rattle.rpm_outside.specs.Files.{Files}
 use Rattle.rpm_outside.specs.declared.disk.File.TheVariants.{Idx}
@@ -21,7 +21,7 @@ pub returns-in-Err-clause-fault : goal.returns-in-Err-clause-fault
 returns-in-Err-clause-fault g c = λ told places path.
     let file : Files = g.D.Disk.files c.args.disk.now in
     let x : Index = index_in c.args.extent.buckets file.idx in
-    let kept : ℕ → Bool = is_kept (λ p. get nat_cmp c.args.dropped.now p) in
+    let kept : ℕ → Bool = is_kept (λ p. contains nat_cmp c.args.dropped.now p) in
     let row : Row = record { kind = c.args.row.kind; key = c.args.row.key.now; number = c.args.row.number; place = c.args.row.place } in
     let st = c.requires.start told places path in
     let way = way_behind x c.args.bucket c.args.first kept row c.args.start st places path in
@@ -31,7 +31,7 @@ pub returns-in-Err-clause-cost : goal.returns-in-Err-clause-cost
 returns-in-Err-clause-cost g c = λ told places path.
     let file : Files = g.D.Disk.files c.args.disk.now in
     let x : Index = index_in c.args.extent.buckets file.idx in
-    let kept : ℕ → Bool = is_kept (λ p. get nat_cmp c.args.dropped.now p) in
+    let kept : ℕ → Bool = is_kept (λ p. contains nat_cmp c.args.dropped.now p) in
     let row : Row = record { kind = c.args.row.kind; key = c.args.row.key.now; number = c.args.row.number; place = c.args.row.place } in
     let st = c.requires.start told places path in
     let way = way_behind x c.args.bucket c.args.first kept row c.args.start st places path in
@@ -41,7 +41,7 @@ pub returns-in-Some-clause-cost : goal.returns-in-Some-clause-cost
 returns-in-Some-clause-cost g c = λ told places path.
     let file : Files = g.D.Disk.files c.args.disk.now in
     let x : Index = index_in c.args.extent.buckets file.idx in
-    let kept : ℕ → Bool = is_kept (λ p. get nat_cmp c.args.dropped.now p) in
+    let kept : ℕ → Bool = is_kept (λ p. contains nat_cmp c.args.dropped.now p) in
     let row : Row = record { kind = c.args.row.kind; key = c.args.row.key.now; number = c.args.row.number; place = c.args.row.place } in
     let st = c.requires.start told places path in
     let way = way_behind x c.args.bucket c.args.first kept row c.args.start st places path in
@@ -51,7 +51,7 @@ pub returns-in-Some-clause-found : goal.returns-in-Some-clause-found
 returns-in-Some-clause-found g c = λ told places path.
     let file : Files = g.D.Disk.files c.args.disk.now in
     let x : Index = index_in c.args.extent.buckets file.idx in
-    let kept : ℕ → Bool = is_kept (λ p. get nat_cmp c.args.dropped.now p) in
+    let kept : ℕ → Bool = is_kept (λ p. contains nat_cmp c.args.dropped.now p) in
     let row : Row = record { kind = c.args.row.kind; key = c.args.row.key.now; number = c.args.row.number; place = c.args.row.place } in
     let st = c.requires.start told places path in
     let way = way_behind x c.args.bucket c.args.first kept row c.args.start st places path in
@@ -64,7 +64,7 @@ pub returns-in-None-clause-found : goal.returns-in-None-clause-found
 returns-in-None-clause-found g c = if_ok c.find_spot-in-None.result _ _ (λ found said told places path.
     let file : Files = g.D.Disk.files c.args.disk.now in
     let x : Index = index_in c.args.extent.buckets file.idx in
-    let kept : ℕ → Bool = is_kept (λ p. get nat_cmp c.args.dropped.now p) in
+    let kept : ℕ → Bool = is_kept (λ p. contains nat_cmp c.args.dropped.now p) in
     let row : Row = record { kind = c.args.row.kind; key = c.args.row.key.now; number = c.args.row.number; place = c.args.row.place } in
     let st = c.requires.start told places path in
     let way = way_behind x c.args.bucket c.args.first kept row c.args.start st places path in
@@ -78,7 +78,7 @@ pub returns-in-None-clause-fault : goal.returns-in-None-clause-fault
 returns-in-None-clause-fault g c = if_err c.find_spot-in-None.result _ _ (λ e said told places path.
     let file : Files = g.D.Disk.files c.args.disk.now in
     let x : Index = index_in c.args.extent.buckets file.idx in
-    let kept : ℕ → Bool = is_kept (λ p. get nat_cmp c.args.dropped.now p) in
+    let kept : ℕ → Bool = is_kept (λ p. contains nat_cmp c.args.dropped.now p) in
     let row : Row = record { kind = c.args.row.kind; key = c.args.row.key.now; number = c.args.row.number; place = c.args.row.place } in
     let st = c.requires.start told places path in
     let way = way_behind x c.args.bucket c.args.first kept row c.args.start st places path in
@@ -89,7 +89,7 @@ pub returns-in-None-clause-cost : goal.returns-in-None-clause-cost
 returns-in-None-clause-cost g c = λ told places path.
     let file : Files = g.D.Disk.files c.args.disk.now in
     let x : Index = index_in c.args.extent.buckets file.idx in
-    let kept : ℕ → Bool = is_kept (λ p. get nat_cmp c.args.dropped.now p) in
+    let kept : ℕ → Bool = is_kept (λ p. contains nat_cmp c.args.dropped.now p) in
     let row : Row = record { kind = c.args.row.kind; key = c.args.row.key.now; number = c.args.row.number; place = c.args.row.place } in
     let st = c.requires.start told places path in
     let way = way_behind x c.args.bucket c.args.first kept row c.args.start st places path in

@@ -2,6 +2,7 @@ use Rattle.std.proofs.Common.{◌≡◌, ℕ, List, Bool, true, Ok, refl, sym, a
 use Rattle.std.specs.Prelude.{Some}
 use Rattle.std.specs.Ordering.{nat_cmp}
 use Rattle.std.specs.BTreeMap.{get}
+use Rattle.std.specs.BTreeSet.{contains}
 use Rattle.rpm_outside.specs.Files.{Files}
 use Rattle.rpm_outside.specs.declared.disk.File.TheVariants.{Idx}
 use Rattle.rpm_outside.specs.inner.Looking.{looks_at_then, looks_at_from}
@@ -33,7 +34,7 @@ returns-in-Ok-find_from-clause-found g c = λ told.
     let file : Files = g.D.Disk.files c.args.disk.now in
     let at = c.in-Ok.head.at in
     let word = c.in-Ok.ensures.word told in
-    let kept : ℕ → Bool = is_kept (λ p. get nat_cmp c.args.dropped.now p) in
+    let kept : ℕ → Bool = is_kept (λ p. contains nat_cmp c.args.dropped.now p) in
     let row : Row = record { kind = c.args.row.kind; key = c.args.row.key.now; number = c.args.row.number; place = c.args.row.place } in
     let x : Index = index_in B file.idx in
     record {
@@ -103,7 +104,7 @@ find_from-requires-clause-starts g c = λ told.
     let x : Index = index_in B file.idx in
     let at = c.in-Ok.head.at in
     let word = c.in-Ok.ensures.word told in
-    let kept : ℕ → Bool = is_kept (λ p. get nat_cmp c.args.dropped.now p) in
+    let kept : ℕ → Bool = is_kept (λ p. contains nat_cmp c.args.dropped.now p) in
     let here : (places : List ℕ) → IsPath x b at places 0 → (s : Start) → get nat_cmp c.args.starts.now b ≡ Some s → IsStart x b at kept s =
     λ places path s is. subst (λ (n : ℕ). IsStart x b n kept s) (sym word.0) (c.requires.starts told b s is places
     (chain_is x b at word.0 word.1 ∙ path_follow x b at places path)) in

@@ -1,6 +1,6 @@
 use Rattle.std.proofs.Common.{◌≡◌, ◌++◌, ℕ, List, map, sym, subst}
 use Rattle.std.specs.Ordering.{nat_cmp}
-use Rattle.std.specs.BTreeMap.{get}
+use Rattle.std.specs.BTreeSet.{contains}
 use Rattle.std.specs.List.{filter}
 use Rattle.rpm_outside.specs.Files.{Files, unit_at}
 use Rattle.rpm_hindex.specs.Index.{index_in, follow, row_at}
@@ -16,7 +16,7 @@ returns-in-Ok-clause-told g c = λ told.
     let at = c.in-Ok.found.at in
     let word = c.in-Ok.ensures.word told in
     let P : Files → List ℕ → Unit {0} → Type 0 = λ f places done. c.push_from.new.rows ≡ c.args.rows.now ++ map (row_at (unit_at f.idx))
-    (filter (is_kept (λ p. get nat_cmp c.args.dropped.now p)) places) in
+    (filter (is_kept (λ p. contains nat_cmp c.args.dropped.now p)) places) in
     let here = subst (λ (f : Files). FindIs (P f) (follow (index_in B f.idx) c.args.bucket at at) c.push_from.result)
     ((c.in-Ok.ensures.looks.untouched told).same) (c.push_from.ensures.told told) in
     subst (λ (s : _). FindIs (P file) s c.push_from.result) (sym (chain_is (index_in B file.idx) c.args.bucket at word.0 word.1)) here

@@ -1,6 +1,6 @@
 use Rattle.std.proofs.Common.{◌≡◌, ◌+◌, ◌*◌, ◌/◌, ◌%◌, ◌^◌, ℕ, List, [], ◌∷◌, ◌++◌, map, cond, not, Bool, true, ap, ◌∙◌, sym, arith, subst}
 use Rattle.std.specs.Ordering.{nat_cmp}
-use Rattle.std.specs.BTreeMap.{get}
+use Rattle.std.specs.BTreeSet.{contains}
 use Rattle.std.specs.List.{filter}
 use Rattle.rpm_outside.specs.Files.{Files, unit_at}
 use Rattle.rpm_outside.specs.declared.disk.File.TheVariants.{Idx}
@@ -18,7 +18,7 @@ returns-clause-told g c = λ told.
     let l = c.loop-at in
     let B = c.args.extent.buckets in
     let file : Files = g.D.Disk.files c.args.disk.now in
-    let kept = is_kept (λ p. get nat_cmp c.args.dropped.now p) in
+    let kept = is_kept (λ p. contains nat_cmp c.args.dropped.now p) in
     let s = l.invariant.so_far told in
     at_end (index_in B file.idx) c.args.bucket c.args.from s.0 l.at s.2 (λ (places : List ℕ) (done : Unit {0}). l.rows
     ≡ c.args.rows.now ++ map (row_at (unit_at file.idx)) (filter kept places)) tt c.loop-at-test.false s.1
@@ -62,7 +62,7 @@ loop-at-preserved g c =
     let b = c.args.bucket in
     let file : Files = g.D.Disk.files c.args.disk.now in
     let x : Index = index_in B file.idx in
-    let kept = is_kept (λ p. get nat_cmp c.args.dropped.now p) in
+    let kept = is_kept (λ p. contains nat_cmp c.args.dropped.now p) in
     let looks = looks_at_then _ _ _ _ _ _ Idx g.met.D.Disk.follows_trans c.args.disk.now l.disk c.read_head.new.disk l.invariant.looks
     (looks_at_from _ _ _ _ _ _ Idx 16 l.disk c.read_head.new.disk c.read_head.ensures.looks) in
     record {
@@ -78,11 +78,11 @@ loop-at-preserved g c =
           let sound = subst (λ (f : Files). is_sound (index_in B f.idx) b c.in-Ok.ahead.head.at ≡ true) ((looks.untouched told).same)
           (c.in_default.ensures.sound told) in
           let here = subst (λ (q : ℕ). is_sound x b q ≡ true) c.in-Ok.ensures.here sound in
-          let held = c.contains_key-is_kept.result in
+          let held = c.contains-is_kept.result in
           let row = subst (λ (f : Files). c.push_row.new.rows ≡ cond (not held) (l.rows ++ row_at (unit_at f.idx) c.in-Ok.ahead.head.at ∷ []) l.rows)
           ((looks.untouched told).same) (c.in_default.ensures.row told) in
           let row_here = subst (λ (q : ℕ). c.push_row.new.rows ≡ cond (not held) (l.rows ++ row_at (unit_at file.idx) q ∷ []) l.rows) c.in-Ok.ensures.here row
-          ∙ ap (λ (is : Bool). cond (not is) (l.rows ++ row_at (unit_at file.idx) l.at ∷ []) l.rows) c.contains_key-is_kept.ensures in (
+          ∙ ap (λ (is : Bool). cond (not is) (l.rows ++ row_at (unit_at file.idx) l.at ∷ []) l.rows) c.contains-is_kept.ensures in (
             s.0 ++ l.at ∷ [],
             kept_more (row_at (unit_at file.idx)) kept s.0 l.at c.args.rows.now l.rows c.push_row.new.rows s.1 row_here,
             one_more x b c.args.from s.0 l.at s.2 c.in-Ok.ahead.next (omega (arith, c.loop-at-test.true)) here ahead.next,

@@ -1,7 +1,7 @@
 use Rattle.std.proofs.Common.{◌≡◌, ◌≤◌, ◌++◌, ℕ, List, map}
 use Rattle.std.specs.Prelude.{IsTrue}
 use Rattle.std.specs.Ordering.{nat_cmp}
-use Rattle.std.specs.BTreeMap.{get}
+use Rattle.std.specs.BTreeSet.{contains}
 use Rattle.std.specs.List.{filter}
 use Rattle.rpm_outside.specs.Files.{unit_at}
 use Rattle.rpm_outside.specs.Looks.{LooksAt}
@@ -18,7 +18,7 @@ invariant-loop-at g l = record {
   looks : LooksAt g.D.Disk.tells g.D.Disk.files g.D.Disk.left_since g.D.Disk.moment g.D.Disk.bytes_read g.D.Disk.follows Idx l.initial.disk l.disk;
   faults : g.D.Disk.faults l.initial.disk ≤ g.D.Disk.faults l.disk;
   so_far : IsTrue g.D.Disk.tells → (done : List ℕ)
-      × (l.rows ≡ l.initial.rows ++ map (row_at (unit_at (g.D.Disk.files l.initial.disk).idx)) (filter (is_kept (λ p. get nat_cmp l.dropped p)) done))
+      × (l.rows ≡ l.initial.rows ++ map (row_at (unit_at (g.D.Disk.files l.initial.disk).idx)) (filter (is_kept (λ p. contains nat_cmp l.dropped p)) done))
       × (follow (index_in l.extent.buckets (g.D.Disk.files l.initial.disk).idx) l.bucket l.from l.from
       ≡ behind_all done (follow (index_in l.extent.buckets (g.D.Disk.files l.initial.disk).idx) l.bucket l.at l.at));
 }

@@ -8,7 +8,7 @@ use Rattle.rpm_hindex.proofs.Takes.{live_take, live_none, live_next, next_rows}
 use Rattle.rpm_outside.specs.Files.{Files}
 use Rattle.rpm_hindex.specs.Whole.{IsWhole}
 use Rattle.rpm_hindex.specs.inner.Changes.{AddsRows, IsHonest, changing}
-use Rattle.rpm_hindex.specs.Refusals.{IsBad}
+use Rattle.rpm_hindex.specs.Refusals.{IsFaulty}
 use Rattle.rpm_hindex.proofs.Adding.{rows_none, rows_then}
 use Rattle.rpm_hindex.proofs.planning.add_rows.Goals as goal
 
@@ -84,6 +84,6 @@ returns-clause-looks g c =
 pub returns-in-Err-clause-bad : goal.returns-in-Err-clause-bad
 returns-in-Err-clause-bad g c = λ told is.
     let l = c.loop-i in
-    let here = subst (λ (f : Files). IsHonest l.change f.idx → IsBad l.change.extent.buckets f.idx c.in-Err.fault)
+    let here = subst (λ (f : Files). IsHonest l.change f.idx → IsFaulty l.change.extent.buckets f.idx c.in-Err.fault)
     ((l.invariant.looks.untouched told).same) (c.in-Err.ensures.bad told) (l.invariant.honest told is) in
-    subst (λ (e : Extent). IsBad e.buckets (g.D.Disk.files c.args.disk.now).idx c.in-Err.fault) l.invariant.extent here
+    subst (λ (e : Extent). IsFaulty e.buckets (g.D.Disk.files c.args.disk.now).idx c.in-Err.fault) l.invariant.extent here

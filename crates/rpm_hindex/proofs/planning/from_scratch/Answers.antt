@@ -2,7 +2,7 @@ use Rattle.std.proofs.Common.{ap, ◌∙◌, arith, ℕ, length, take, ◌+◌, 
 use Rattle.rpm_hindex.specs.Sizes.{bucket_count, first_record, live_of}
 use Rattle.rpm_hindex.specs.State.{is_ordered}
 use Rattle.rpm_hindex.proofs.Drafting.{length-le-live}
-use Rattle.rpm_hindex.proofs.Scratch.{image_ordered}
+use Rattle.rpm_hindex.proofs.Scratch.{image_ordered, image_zero}
 use Rattle.rpm_hindex.proofs.planning.from_scratch.Goals as goal
 
 pub returns-in-Ok-image_of-clause-ordered : goal.returns-in-Ok-image_of-clause-ordered
@@ -13,3 +13,7 @@ returns-in-Ok-image_of-clause-ordered g c = λ units fits.
     let few_rows : length rows ≤ 2 ^ 28 = omega (arith, length-le-live rows, room) in
     ap (λ (b : ℕ). is_ordered b (take 16 image.bytes.items) units) c.in-Ok-image_of.ensures.buckets
     ∙ image_ordered rows image.bytes.items units c.in-Ok-image_of.ensures.made room few_rows fits
+
+pub returns-in-Ok-image_of-clause-zero : goal.returns-in-Ok-image_of-clause-zero
+returns-in-Ok-image_of-clause-zero g c =
+    image_zero c.append_rows.new.rows (bucket_count (length c.append_rows.new.rows)) c.in-Ok-image_of.image.bytes.items c.in-Ok-image_of.ensures.made

@@ -1,6 +1,6 @@
 use Rattle.std.proofs.Common.{◌≡◌, ℕ, ◌++◌, List, map, arith, subst}
 use Rattle.std.specs.Ordering.{nat_cmp}
-use Rattle.std.specs.BTreeMap.{get}
+use Rattle.std.specs.BTreeSet.{contains}
 use Rattle.std.specs.List.{filter}
 use Rattle.rpm_outside.specs.Files.{Files, unit_at}
 use Rattle.rpm_outside.specs.declared.disk.File.TheVariants.{Idx}
@@ -18,7 +18,7 @@ loop-bucket-preserved g c =
     record {
       so_far = λ told.
           let B = c.args.extent.buckets in
-          let kept = is_kept (λ p. get nat_cmp c.args.dropped.now p) in
+          let kept = is_kept (λ p. contains nat_cmp c.args.dropped.now p) in
           let file : Files = g.D.Disk.files c.args.disk.now in
           let said = subst (λ (f : Files). HitsAre (λ (places : List ℕ) (done : Unit {0}). c.push_chain.new.rows
           ≡ l.rows ++ map (row_at (unit_at f.idx)) (filter kept places)) (chain (index_in B f.idx) l.bucket) tt) ((l.invariant.looks.untouched told).same)

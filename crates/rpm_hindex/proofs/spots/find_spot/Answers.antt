@@ -3,7 +3,7 @@ use Rattle.std.specs.List.{sum_by}
 use Rattle.std.proofs.lemmas.Bool.{and_parts}
 use Rattle.std.proofs.lemmas.List.Sums.{sum_by-append}
 use Rattle.std.specs.Ordering.{nat_cmp}
-use Rattle.std.specs.BTreeMap.{get}
+use Rattle.std.specs.BTreeSet.{contains}
 use Rattle.rpm_outside.specs.Files.{Files, unit_at}
 use Rattle.rpm_outside.specs.declared.disk.File.TheVariants.{Idx}
 use Rattle.rpm_outside.specs.inner.Looking.{looks_at_none, looks_at_then}
@@ -112,7 +112,7 @@ returns-then-is_hit-clause-found g c = λ told front path.
     let looks = looks_at_then _ _ _ _ _ _ Idx g.met.D.Disk.follows_trans c.args.disk.now l.disk c.meet.new.disk l.invariant.looks c.meet.ensures.looks in
     spot_met c.args.extent.buckets c.args.bucket c.args.from l.at c.args.end file (g.D.Disk.files l.disk) s.0 s.1
     ((l.invariant.looks.untouched told).same) s.3 s.4 (omega (arith, c.loop-at-test.true)) row c.in-Ok.met (c.in-Ok.ensures.met told)
-    (is_kept (λ p. get nat_cmp c.args.dropped.now p)) l.before c.in-Ok-skip_dropped.behind (g.D.Disk.files c.meet.new.disk) c.in-Ok.ensures.here s.5
+    (is_kept (λ p. contains nat_cmp c.args.dropped.now p)) l.before c.in-Ok-skip_dropped.behind (g.D.Disk.files c.meet.new.disk) c.in-Ok.ensures.here s.5
     (sym c.is_hit.ensures ∙ c.if-is_hit.true) ((looks.untouched told).same) (c.in-Ok-skip_dropped.ensures.skips told c.args.bucket)
 
 pub loop-at-preserved : goal.loop-at-preserved
@@ -121,7 +121,7 @@ loop-at-preserved g c =
     let B = c.args.extent.buckets in
     let b = c.args.bucket in
     let file : Files = g.D.Disk.files c.args.disk.now in
-    let kept : ℕ → Bool = is_kept (λ p. get nat_cmp c.args.dropped.now p) in
+    let kept : ℕ → Bool = is_kept (λ p. contains nat_cmp c.args.dropped.now p) in
     let below : c.args.end < l.at = omega (arith, c.loop-at-test.true) in
     let some : 0 < l.at = omega (arith, c.loop-at-test.true) in
     let met = c.in-Ok.met in

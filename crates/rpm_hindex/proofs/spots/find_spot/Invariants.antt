@@ -1,7 +1,7 @@
-use Rattle.std.proofs.Common.{ℕ, ◌+◌, ◌*◌, ◌<◌, ◌≤◌, ◌≡◌, ◌++◌, List, None}
+use Rattle.std.proofs.Common.{ℕ, ◌+◌, ◌*◌, ◌<◌, ◌≤◌, ◌≡◌, ◌++◌, List, false}
 use Rattle.std.specs.Prelude.{IsTrue}
 use Rattle.std.specs.Ordering.{nat_cmp}
-use Rattle.std.specs.BTreeMap.{get}
+use Rattle.std.specs.BTreeSet.{contains}
 use Rattle.std.specs.List.{filter, sum_by}
 use Rattle.rpm_outside.specs.Files.{unit_at}
 use Rattle.rpm_outside.specs.Looks.{LooksAt}
@@ -17,15 +17,15 @@ invariant-loop-at g l = record {
   before : IsHeadWithin l.extent.used l.before;
   front : IsFront l.extent.buckets l.before;
   looks : LooksAt g.D.Disk.tells g.D.Disk.files g.D.Disk.left_since g.D.Disk.moment g.D.Disk.bytes_read g.D.Disk.follows Idx l.initial.disk l.disk;
-  dropped : (p : ℕ) → l.last < p → p ≤ l.at → get nat_cmp l.dropped p ≡ None;
+  dropped : (p : ℕ) → l.last < p → p ≤ l.at → contains nat_cmp l.dropped p ≡ false;
   faults : g.D.Disk.faults l.initial.disk ≤ g.D.Disk.faults l.disk;
   so_far : IsTrue g.D.Disk.tells → (front : List ℕ)
       → IsPath (index_in l.extent.buckets (g.D.Disk.files l.initial.disk).idx) l.bucket l.from front l.end → (done : List ℕ) × (left : List ℕ)
       × (front ≡ done ++ left)
       × IsPath (index_in l.extent.buckets (g.D.Disk.files l.initial.disk).idx) l.bucket l.from done l.at
       × IsPath (index_in l.extent.buckets (g.D.Disk.files l.initial.disk).idx) l.bucket l.at left l.end
-      × IsLast (unit_at (g.D.Disk.files l.initial.disk).idx) (filter (is_kept (λ p. get nat_cmp l.dropped p)) done) l.before
-      × HasNone (unit_at (g.D.Disk.files l.initial.disk).idx) (is_kept (λ p. get nat_cmp l.dropped p))
+      × IsLast (unit_at (g.D.Disk.files l.initial.disk).idx) (filter (is_kept (λ p. contains nat_cmp l.dropped p)) done) l.before
+      × HasNone (unit_at (g.D.Disk.files l.initial.disk).idx) (is_kept (λ p. contains nat_cmp l.dropped p))
       (record { kind = l.row.kind; key = l.row.key.now; number = l.row.number; place = l.row.place }) done
       × (g.D.Disk.bytes_read l.disk Idx ≤ g.D.Disk.bytes_read l.initial.disk Idx + 16 * sum_by (units_at (unit_at (g.D.Disk.files l.initial.disk).idx)) done);
 }

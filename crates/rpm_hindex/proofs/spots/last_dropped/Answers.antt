@@ -1,7 +1,7 @@
-use Rattle.std.proofs.Common.{◌≡◌, ℕ, ◌<◌, ◌≤◌, Option, None, Some, false, refl, arith}
-use Rattle.std.specs.Prelude.{IsSome}
+use Rattle.std.proofs.Common.{◌≡◌, ℕ, ◌<◌, ◌≤◌, Bool, true, false, refl, arith}
+use Rattle.std.specs.Prelude.{IsTrue}
 use Rattle.std.specs.Ordering.{nat_cmp, is_gt, is_lt}
-use Rattle.std.specs.BTreeMap.{get}
+use Rattle.std.specs.BTreeSet.{contains}
 use Rattle.std.specs.declared.cmp.Ordering.TheVariants.{Less}
 use Rattle.std.proofs.lemmas.Bool.Decides.{nat_tests}
 use Rattle.rpm_hindex.proofs.spots.last_dropped.Goals as goal
@@ -15,13 +15,13 @@ not_less a b e = grind (arith, nat_tests)
 from_zero : (a : ℕ) → is_gt (nat_cmp 0 a) ≡ false
 from_zero a = grind (arith, nat_tests)
 
-none : (found : Option ℕ) → (IsSome found → ⊥) → found ≡ None
-none None empty = refl
-none (Some value) empty = absurd (empty refl)
+none : (found : Bool) → (IsTrue found → ⊥) → found ≡ false
+none false empty = refl
+none true empty = absurd (empty refl)
 
 pub returns-in-Some : goal.returns-in-Some
 returns-in-Some c = λ p above below.
     let latest = (c.range.ensures.in_range tt).4 _ _ c.in-Some.ensures.steps in
-    none (get nat_cmp c.args.dropped.now p) (λ found.
+    none (contains nat_cmp c.args.dropped.now p) (λ found.
     let le : p ≤ c.in-Some.last.now = not_less _ _ (latest p (from_zero p, to_less p c.args.end below) found) in
     absurd (omega (arith, above, le)))

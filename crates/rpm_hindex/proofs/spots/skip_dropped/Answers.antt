@@ -2,7 +2,7 @@ use Rattle.std.proofs.Common.{ℕ, ◌∷◌, [], ◌++◌, not, refl, sym, ap, 
 use Rattle.std.specs.List.{sum_by}
 use Rattle.std.proofs.lemmas.List.Sums.{sum_by_push, sum_by-append}
 use Rattle.std.specs.Ordering.{nat_cmp}
-use Rattle.std.specs.BTreeMap.{get}
+use Rattle.std.specs.BTreeSet.{contains}
 use Rattle.rpm_outside.specs.Files.{Files, unit_at}
 use Rattle.rpm_outside.specs.declared.disk.File.TheVariants.{Idx}
 use Rattle.rpm_outside.specs.inner.Looking.{looks_at_none, looks_at_then, looks_at_from}
@@ -39,10 +39,10 @@ returns-in-Err-clause-cost g c = λ told b front path.
     (λ sound. omega (arith, c.in-Err.ensures.looks.reads.idx)) in
     omega (arith, within, ap (sum_by (units_at (unit_at file.idx))) s.2)
 
-pub returns-else-contains_key-clause-skips : goal.returns-else-contains_key-clause-skips
-returns-else-contains_key-clause-skips g c = λ told b front path.
+pub returns-else-contains-clause-skips : goal.returns-else-contains-clause-skips
+returns-else-contains-clause-skips g c = λ told b front path.
     let s = c.loop-at.invariant.so_far told b front path in
-    record { dropped = s.0; path = s.3; none = s.5; ends = inr (ap not (sym c.contains_key.ensures ∙ c.if-contains_key.false)) }
+    record { dropped = s.0; path = s.3; none = s.5; ends = inr (ap not (sym c.contains.ensures ∙ c.if-contains.false)) }
 
 pub returns-after-loop-at-clause-skips : goal.returns-after-loop-at-clause-skips
 returns-after-loop-at-clause-skips g c = λ told b front path.
@@ -56,8 +56,8 @@ returns-after-loop-at-clause-skips g c = λ told b front path.
       ends = inl ((path_ends x b l.at c.args.end s.1 s.4 (omega (arith, c.loop-at-test.false))).1);
     }
 
-pub returns-else-contains_key-clause-cost : goal.returns-else-contains_key-clause-cost
-returns-else-contains_key-clause-cost g c = λ told b front path.
+pub returns-else-contains-clause-cost : goal.returns-else-contains-clause-cost
+returns-else-contains-clause-cost g c = λ told b front path.
     let s = c.loop-at.invariant.so_far told b front path in
     let units = units_at (unit_at (g.D.Disk.files c.args.disk.now).idx) in
     omega (arith, s.6, ap (sum_by units) s.2, sum_by-append units s.0 s.1)
@@ -84,13 +84,13 @@ loop-at-preserved g c =
           let next = next_left B b c.args.from l.at c.args.end file file s.0 s.1 refl s.3 s.4 (omega (arith, c.loop-at-test.true)) in
           let a = subst (λ (f : Files). IsAhead (index_in B f.idx) l.at c.in-Ok.ahead) ((l.invariant.looks.untouched told).same)
           (c.in-Ok.ensures.ahead told) in
-          let gone = ap not (sym c.contains_key.ensures ∙ c.if-contains_key.true) in (
+          let gone = ap not (sym c.contains.ensures ∙ c.if-contains.true) in (
             s.0 ++ l.at ∷ [],
             next.0,
             left_more front s.0 s.1 next.0 l.at s.2 next.1,
             path_more x b c.args.from l.at c.in-Ok.ahead.next s.0 s.3 (omega (arith, c.loop-at-test.true)) next.2 a.next,
             subst (λ (n : ℕ). IsPath x b n next.0 c.args.end) (sym a.next) next.3,
-            filter_same (is_kept (λ p. get nat_cmp c.args.dropped.now p)) s.0 l.at gone ∙ s.5,
+            filter_same (is_kept (λ p. contains nat_cmp c.args.dropped.now p)) s.0 l.at gone ∙ s.5,
             omega (arith, c.read_head.ensures.looks.reads.idx, s.6, sum_by_push (units_at (unit_at file.idx)) s.0 l.at),
           );
     }

@@ -1,7 +1,7 @@
 use Rattle.std.proofs.Common.{◌≡◌, ℕ, ◌+◌, ◌*◌, ◌≤◌, List, [], ◌++◌}
 use Rattle.std.specs.Prelude.{IsTrue}
 use Rattle.std.specs.Ordering.{nat_cmp}
-use Rattle.std.specs.BTreeMap.{get}
+use Rattle.std.specs.BTreeSet.{contains}
 use Rattle.std.specs.List.{filter, sum_by}
 use Rattle.rpm_outside.specs.Files.{unit_at}
 use Rattle.rpm_outside.specs.Looks.{LooksAt}
@@ -21,7 +21,7 @@ invariant-loop-at g l = record {
       × (front ≡ done ++ left)
       × IsPath (index_in l.extent.buckets (g.D.Disk.files l.initial.disk).idx) b l.from done l.at
       × IsPath (index_in l.extent.buckets (g.D.Disk.files l.initial.disk).idx) b l.at left l.end
-      × (filter (is_kept (λ p. get nat_cmp l.dropped p)) done ≡ [])
+      × (filter (is_kept (λ p. contains nat_cmp l.dropped p)) done ≡ [])
       × (g.D.Disk.bytes_read l.disk Idx ≤ g.D.Disk.bytes_read l.initial.disk Idx + 16 * sum_by (units_at (unit_at (g.D.Disk.files l.initial.disk).idx)) done);
 }
 

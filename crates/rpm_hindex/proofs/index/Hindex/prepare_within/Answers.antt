@@ -7,12 +7,12 @@ use Rattle.rpm_hindex.specs.Index.{records, rows_of}
 use Rattle.rpm_hindex.specs.State.{buckets_of}
 use Rattle.rpm_hindex.specs.Whole.{IsWhole}
 use Rattle.rpm_hindex.specs.inner.Changes.{IsHonest, AddsRows, changing, HasLess, IsTooLarge, IsScratchOf}
-use Rattle.rpm_hindex.specs.Refusals.{IsBad}
-use Rattle.rpm_hindex.proofs.Gathers.{scratch_plan, large_for, scratch_reach, place_reach}
+use Rattle.rpm_hindex.specs.Refusals.{IsBad, IsFaulty, IsBadFor}
+use Rattle.rpm_hindex.proofs.Gathers.{scratch_plan, large_for, scratch_reach, place_reach, scratch_sized, place_sized, place_zero}
 use Rattle.rpm_hindex.specs.Plans.{IsPlanFor}
 use Rattle.rpm_hindex.specs.Sizes.{first_record, is_bucket_count}
 use Rattle.rpm_hindex.proofs.Placing.{place_order, place_plan}
-use Rattle.rpm_hindex.proofs.Honest.{bad_memory}
+use Rattle.rpm_hindex.proofs.Honest.{faulty_bad, faulty_for, bad_memory}
 use Rattle.rpm_hindex.proofs.Fitting.{plan_fits, changed_least}
 use Rattle.rpm_hindex.proofs.RowsLeft.{rows_kept_by, rows_less, has_dropped, drops_cost}
 use Rattle.rpm_hindex.proofs.Keeping.{less_reversed}
@@ -92,18 +92,43 @@ returns-then-not-has_room-clause-bad g c = if_err c.from_scratch.result _ _ (λ 
     let file : Files = g.D.Disk.files c.args.disk.now in
     let new : Change = c.drop_rows.new.change in
     let same = ap (λ (e : Extent). e.buckets) c.in_default.ensures.extent ∙ c.start-change.ensures.buckets in
-    subst (λ (n : ℕ). IsBad n file.idx e) same (subst (λ (f : Files). IsBad new.extent.buckets f.idx e)
-    ((c.drop_rows.ensures.looks.untouched told).same) (bad told))) c.from_scratch.ensures.bad
+    faulty_bad B file.idx e (subst (λ (n : ℕ). IsFaulty n file.idx e) same (subst (λ (f : Files). IsFaulty new.extent.buckets f.idx e)
+    ((c.drop_rows.ensures.looks.untouched told).same) (bad told)))) c.from_scratch.ensures.bad
+
+pub returns-then-not-has_room-clause-counts : goal.returns-then-not-has_room-clause-counts
+returns-then-not-has_room-clause-counts g c = if_err c.from_scratch.result _ _ (λ e bad told.
+    let B = buckets_of c.args.self.now.first in
+    let file : Files = g.D.Disk.files c.args.disk.now in
+    let new : Change = c.drop_rows.new.change in
+    let same = ap (λ (e : Extent). e.buckets) c.in_default.ensures.extent ∙ c.start-change.ensures.buckets in
+    faulty_for c.args.drops.now B file.idx e (subst (λ (n : ℕ). IsFaulty n file.idx e) same
+    (subst (λ (f : Files). IsFaulty new.extent.buckets f.idx e) ((c.drop_rows.ensures.looks.untouched told).same) (bad told))))
+    c.from_scratch.ensures.bad
 
 pub returns-clause-bad : goal.returns-clause-bad
-returns-clause-bad g c = if_err c.in_place.result _ _ (λ e is told. bad_memory (buckets_of c.args.self.now.first) (g.D.Disk.files c.args.disk.now).idx
-    e is) c.in_place.ensures.memory
+returns-clause-bad g c = if_err c.in_place.result _ _ (λ e is told.
+    let B = buckets_of c.args.self.now.first in
+    let file : Files = g.D.Disk.files c.args.disk.now in
+    faulty_bad B file.idx e (bad_memory B file.idx e is)) c.in_place.ensures.memory
+
+pub returns-clause-counts : goal.returns-clause-counts
+returns-clause-counts g c = if_err c.in_place.result _ _ (λ e is told.
+    let B = buckets_of c.args.self.now.first in
+    let file : Files = g.D.Disk.files c.args.disk.now in
+    faulty_for c.args.drops.now B file.idx e (bad_memory B file.idx e is)) c.in_place.ensures.memory
 
 pub returns-in-Err-clause-bad : goal.returns-in-Err-clause-bad
 returns-in-Err-clause-bad g c = λ told.
     let file : Files = g.D.Disk.files c.args.disk.now in
     subst (λ (n : ℕ). IsBad n file.idx c.in-Err.fault) c.start-change.ensures.buckets
     (c.in-Err.ensures.bad told (c.start-change.ensures.honest file.idx (c.requires.keeps told)))
+
+pub returns-in-Err-clause-counts : goal.returns-in-Err-clause-counts
+returns-in-Err-clause-counts g c = λ told.
+    let file : Files = g.D.Disk.files c.args.disk.now in
+    let keeps = c.requires.keeps told in
+    subst (λ (n : ℕ). IsBadFor c.args.drops.now n file.idx c.in-Err.fault) c.start-change.ensures.buckets
+    (c.in-Err.ensures.counts told (c.start-change.ensures.fresh file.idx keeps) (c.start-change.ensures.honest file.idx keeps))
 
 pub returns-in-Err-add_rows-clause-bad : goal.returns-in-Err-add_rows-clause-bad
 returns-in-Err-add_rows-clause-bad g c = λ told.
@@ -112,9 +137,20 @@ returns-in-Err-add_rows-clause-bad g c = λ told.
     let new : Change = c.drop_rows.new.change in
     let same = ap (λ (e : Extent). e.buckets) c.in_default.ensures.extent ∙ c.start-change.ensures.buckets in
     let honest = c.in_default.ensures.honest told (c.start-change.ensures.honest file.idx (c.requires.keeps told)) in
-    subst (λ (n : ℕ). IsBad n file.idx c.in-Err-add_rows.fault) same
-    (subst (λ (f : Files). IsHonest new f.idx → IsBad new.extent.buckets f.idx c.in-Err-add_rows.fault)
-    ((c.drop_rows.ensures.looks.untouched told).same) (c.in-Err-add_rows.ensures.bad told) honest)
+    faulty_bad B file.idx c.in-Err-add_rows.fault (subst (λ (n : ℕ). IsFaulty n file.idx c.in-Err-add_rows.fault) same
+    (subst (λ (f : Files). IsHonest new f.idx → IsFaulty new.extent.buckets f.idx c.in-Err-add_rows.fault)
+    ((c.drop_rows.ensures.looks.untouched told).same) (c.in-Err-add_rows.ensures.bad told) honest))
+
+pub returns-in-Err-add_rows-clause-counts : goal.returns-in-Err-add_rows-clause-counts
+returns-in-Err-add_rows-clause-counts g c = λ told.
+    let B = buckets_of c.args.self.now.first in
+    let file : Files = g.D.Disk.files c.args.disk.now in
+    let new : Change = c.drop_rows.new.change in
+    let same = ap (λ (e : Extent). e.buckets) c.in_default.ensures.extent ∙ c.start-change.ensures.buckets in
+    let honest = c.in_default.ensures.honest told (c.start-change.ensures.honest file.idx (c.requires.keeps told)) in
+    faulty_for c.args.drops.now B file.idx c.in-Err-add_rows.fault (subst (λ (n : ℕ). IsFaulty n file.idx c.in-Err-add_rows.fault) same
+    (subst (λ (f : Files). IsHonest new f.idx → IsFaulty new.extent.buckets f.idx c.in-Err-add_rows.fault)
+    ((c.drop_rows.ensures.looks.untouched told).same) (c.in-Err-add_rows.ensures.bad told) honest))
 
 pub returns-then-not-has_room-clause-room : goal.returns-then-not-has_room-clause-room
 returns-then-not-has_room-clause-room g c = if_ok_three c.from_scratch.result _ _ _ _ (λ plan can order makes told whole.
@@ -187,3 +223,26 @@ returns-clause-reach g c = if_ok c.in_place.result _ _ (λ plan made told whole 
     let used = ap (λ (e : Extent). e.used) add.extent in
     let was = ap (λ (e : Extent). e.used) c.in_default.ensures.extent in
     omega (arith, reach, used, was, add.tail, c.start-change.ensures.fits)) c.in_place.ensures.made
+
+pub returns-then-not-has_room-clause-size : goal.returns-then-not-has_room-clause-size
+returns-then-not-has_room-clause-size g c = if_ok c.from_scratch.result _ _ (λ plan made told whole.
+    let B = buckets_of c.args.self.now.first in
+    let file : Files = g.D.Disk.files c.args.disk.now in
+    let drops = c.args.drops.now in
+    let first : Change = c.start-change.result in
+    let new : Change = c.drop_rows.new.change in
+    let same = ap (λ (e : Extent). e.buckets) c.in_default.ensures.extent ∙ c.start-change.ensures.buckets in
+    let all = less_reversed drops (records B file.idx) (rows_kept_by B file.idx new)
+    (rows_less B file.idx drops first new c.start-change.ensures.buckets c.start-change.ensures.dropped (c.in_default.ensures.less told) whole) in
+    let at_file = subst (λ (f : Files). IsScratchOf (reverse (rows_kept_by new.extent.buckets f.idx new) ++ c.args.adds.now) plan.work)
+    ((c.drop_rows.ensures.looks.untouched told).same) (made told) in
+    scratch_sized drops c.args.adds.now (reverse (rows_kept_by B file.idx new)) (records B file.idx) plan.work all
+    (subst (λ (n : ℕ). IsScratchOf (reverse (rows_kept_by n file.idx new) ++ c.args.adds.now) plan.work) same at_file)) c.from_scratch.ensures.made
+
+pub returns-clause-size : goal.returns-clause-size
+returns-clause-size g c = if_ok c.in_place.result _ _ (λ plan made told whole.
+    place_sized c.args.drops.now c.args.adds.now (records (buckets_of c.args.self.now.first) (g.D.Disk.files c.args.disk.now).idx)
+    c.add_rows.new.change plan.work made) c.in_place.ensures.made
+
+pub returns-clause-zero : goal.returns-clause-zero
+returns-clause-zero g c = if_ok c.in_place.result _ _ (λ plan made. place_zero c.add_rows.new.change plan.work made) c.in_place.ensures.made

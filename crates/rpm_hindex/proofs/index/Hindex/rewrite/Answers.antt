@@ -1,9 +1,9 @@
-use Rattle.std.proofs.Common.{ap, ◌∙◌, arith, ℕ, List, length, ◌+◌, ◌≤◌, ◌^◌}
+use Rattle.std.proofs.Common.{sym, subst, ap, ◌∙◌, arith, ℕ, List, length, ◌+◌, ◌≤◌, ◌^◌}
 use Rattle.rpm_hindex.specs.Words.{word}
 use Rattle.rpm_hindex.specs.Sizes.{bucket_count, first_record, live_of}
-use Rattle.rpm_hindex.specs.State.{is_ordered}
+use Rattle.rpm_hindex.specs.State.{is_ordered, EndsInZero}
 use Rattle.rpm_hindex.proofs.Drafting.{length-le-live}
-use Rattle.rpm_hindex.proofs.Scratch.{image_ordered, image_size}
+use Rattle.rpm_hindex.proofs.Scratch.{image_ordered, image_size, image_zero}
 use Rattle.rpm_hindex.proofs.index.Hindex.rewrite.Goals as goal
 
 pub returns-clause-ordered : goal.returns-clause-ordered
@@ -20,3 +20,7 @@ returns-clause-ordered g c =
 pub returns-clause-size : goal.returns-clause-size
 returns-clause-size g c =
     ap (word 0) c.in-Ok-replace.ensures.second ∙ image_size c.args.rows.now c.in-Ok.image.bytes.items c.in-Ok.ensures.made
+
+pub returns-clause-zero : goal.returns-clause-zero
+returns-clause-zero g c = subst EndsInZero (sym c.in-Ok-replace.ensures.second)
+    (image_zero c.args.rows.now (bucket_count (length c.args.rows.now)) c.in-Ok.image.bytes.items c.in-Ok.ensures.made)

@@ -70,3 +70,12 @@ returns-clause-honest c = λ file keeps.
     let first = ap (λ (s : State). s.second) c.self.view_is ∙ keeps.second in
     starts_honest c.new.result file c.new.ensures.units (c.new.ensures.records ∙ c.word-records.ensures ∙ ap (word 1) first)
     (c.new.ensures.live ∙ c.word-live.ensures ∙ ap (word 2) first)
+
+pub returns-clause-fresh : goal.returns-clause-fresh
+returns-clause-fresh c = λ file keeps.
+    let first = ap (λ (s : State). s.second) c.self.view_is ∙ keeps.second in
+    record {
+      records = c.new.ensures.records ∙ c.word-records.ensures ∙ ap (word 1) first;
+      live = c.new.ensures.live ∙ c.word-live.ensures ∙ ap (word 2) first;
+      kept = c.new.ensures.dropped;
+    }
