@@ -3,8 +3,8 @@ use Rattle.std.proofs.Common.{◌≡◌, ℕ, Bool, true, false, [], Option, Som
 use Rattle.std.specs.Prelude.{IfErr}
 use Rattle.std.specs.FinMap as finite
 use Rattle.rpm_outside.specs.Files.{Units, Files}
-use Rattle.rpm_db.specs.declared.change.ChangeFault.{ChangeFault}
-use Rattle.rpm_db.specs.declared.change.ChangeFault.TheVariants as fault
+use Rattle.rpm_db.specs.declared.change_fault.ChangeFault.{ChangeFault}
+use Rattle.rpm_db.specs.declared.change_fault.ChangeFault.TheVariants as fault
 use Rattle.rpm_db.specs.Changes.{Erase}
 use Rattle.rpm_db.specs.Database.{Database, holds}
 use Rattle.rpm_db.specs.Refusals.{EraseCause, FullCause}

@@ -5,8 +5,8 @@ use Rattle.rpm_header.specs.Header.{Header, header}
 use Rattle.rpm_outside.specs.Files.{Units, Files}
 use Rattle.rpm_outside.specs.Browses.{left}
 use Rattle.rpm_pkgdb.specs.Blobs.{blobs}
-use Rattle.rpm_db.specs.declared.change.ChangeFault.{ChangeFault}
-use Rattle.rpm_db.specs.declared.change.ChangeFault.TheVariants as fault
+use Rattle.rpm_db.specs.declared.change_fault.ChangeFault.{ChangeFault}
+use Rattle.rpm_db.specs.declared.change_fault.ChangeFault.TheVariants as fault
 use Rattle.rpm_db.specs.Changes.{Change, Add, next, with_room}
 use Rattle.rpm_db.specs.Database.{Database, IsIndexed, next_number}
 use Rattle.rpm_db.specs.Lawful.{HasRows}

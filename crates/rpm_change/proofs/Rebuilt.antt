@@ -3,8 +3,8 @@ use Rattle.std.proofs.Common.{◌≡◌, ℕ, ◌^◌, ◌<◌, Bool, true, fals
 use Rattle.std.specs.Prelude.{OnOk}
 use Rattle.rpm_outside.specs.Files.{Files}
 use Rattle.rpm_outside.specs.declared.disk.File.{File}
-use Rattle.rpm_db.specs.declared.change.ChangeFault.{ChangeFault}
-use Rattle.rpm_db.specs.declared.change.ChangeFault.TheVariants as fault
+use Rattle.rpm_db.specs.declared.change_fault.ChangeFault.{ChangeFault}
+use Rattle.rpm_db.specs.declared.change_fault.ChangeFault.TheVariants as fault
 use Rattle.rpm_db.specs.Changes.{Change}
 use Rattle.rpm_db.specs.Database.{Database}
 use Rattle.rpm_db.specs.Lawful.{Remade}

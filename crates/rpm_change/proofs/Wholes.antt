@@ -4,8 +4,8 @@ use Rattle.std.specs.Prelude.{IfErr}
 use Rattle.rpm_outside.specs.Files.{Units, Files}
 use Rattle.rpm_db.specs.Lawful.{IsWholeIndex}
 use Rattle.rpm_db.specs.Refusals.{WholeCause}
-use Rattle.rpm_db.specs.declared.change.ChangeFault.{ChangeFault}
-use Rattle.rpm_db.specs.declared.change.ChangeFault.TheVariants as fault
+use Rattle.rpm_db.specs.declared.change_fault.ChangeFault.{ChangeFault}
+use Rattle.rpm_db.specs.declared.change_fault.ChangeFault.TheVariants as fault
 use Rattle.rpm_change.specs.declared.tally.Tally.{Tally}
 use Rattle.rpm_change.specs.declared.tally.Halt.{Halt}
 use Rattle.rpm_change.specs.declared.tally.Halt.TheVariants as halt

@@ -5,8 +5,8 @@ use Rattle.rpm_pkgdb.specs.declared.slot.Damage.{Damage}
 use Rattle.rpm_pkgdb.specs.Slots.{slot_with}
 use Rattle.rpm_pkgdb.specs.Store.{Store, store}
 use Rattle.rpm_hindex.specs.State as hindex
-use Rattle.rpm_db.specs.declared.opening.DbOpenFault.{DbOpenFault}
-use Rattle.rpm_db.specs.declared.opening.DbOpenFault.TheVariants.{Damaged, IndexFull, DiskFault, NoMemory}
+use Rattle.rpm_db.specs.declared.open_fault.DbOpenFault.{DbOpenFault}
+use Rattle.rpm_db.specs.declared.open_fault.DbOpenFault.TheVariants.{Damaged, IndexFull, DiskFault, NoMemory}
 use Rattle.rpm_pkgdb.specs.Store as pkgdb
 use Rattle.rpm_pkgdb.specs.Costs as costs
 use Rattle.rpm_db.specs.Lawful.{HasRows, is_current_at}

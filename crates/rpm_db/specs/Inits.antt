@@ -4,8 +4,8 @@ use Rattle.std.specs.FinMap as finite
 use Rattle.rpm_outside.specs.Files.{Units, Files}
 use Rattle.rpm_pkgdb.specs.Blobs.{blobs}
 use Rattle.rpm_pkgdb.specs.Store.{Store, store}
-use Rattle.rpm_db.specs.declared.change.ChangeFault.{ChangeFault}
-use Rattle.rpm_db.specs.declared.change.ChangeFault.TheVariants.{Stopped, DiskFault, NoMemory}
+use Rattle.rpm_db.specs.declared.change_fault.ChangeFault.{ChangeFault}
+use Rattle.rpm_db.specs.declared.change_fault.ChangeFault.TheVariants.{Stopped, DiskFault, NoMemory}
 use Rattle.rpm_db.specs.Lawful.{IsLawful}
 
 -- a Packages.db without packages, whose number field is 1

@@ -7,8 +7,8 @@ use Rattle.rpm_pkgdb.specs.Store.{Store, store}
 use Rattle.rpm_hindex.specs.Sizes.{units_for}
 use Rattle.rpm_hindex.specs.declared.faults.RewriteFault.{RewriteFault}
 use Rattle.rpm_hindex.specs.declared.faults.RewriteFault.TheVariants as rewrite
-use Rattle.rpm_db.specs.declared.opening.DbOpenFault.{DbOpenFault}
-use Rattle.rpm_db.specs.declared.opening.DbOpenFault.TheVariants.{Damaged, IndexFull, DiskFault, NoMemory}
+use Rattle.rpm_db.specs.declared.open_fault.DbOpenFault.{DbOpenFault}
+use Rattle.rpm_db.specs.declared.open_fault.DbOpenFault.TheVariants.{Damaged, IndexFull, DiskFault, NoMemory}
 use Rattle.rpm_db.specs.Database.{Database, Keeps, KeepsIndex, IsIndexed, is_blank}
 use Rattle.rpm_db.specs.Lawful.{IsLawful, is_current_at}
 use Rattle.rpm_db.specs.Rows.{rows}

@@ -2,8 +2,8 @@
 use Rattle.std.specs.Prelude.{◌≡◌, ◌<◌, ◌≤◌, ◌^◌, true, false, Result, Ok, Err}
 use Rattle.rpm_outside.specs.Files.{Files}
 use Rattle.rpm_hindex.specs.Sizes.{units_for}
-use Rattle.rpm_db.specs.declared.change.ChangeFault.{ChangeFault}
-use Rattle.rpm_db.specs.declared.change.ChangeFault.TheVariants.{Stopped, IndexFull, DiskFault, NoMemory}
+use Rattle.rpm_db.specs.declared.change_fault.ChangeFault.{ChangeFault}
+use Rattle.rpm_db.specs.declared.change_fault.ChangeFault.TheVariants.{Stopped, IndexFull, DiskFault, NoMemory}
 use Rattle.rpm_db.specs.Database.{Database, KeepsIndex, IsIndexed}
 use Rattle.rpm_db.specs.Rows.{rows}
 use Rattle.rpm_db.specs.State.{packages}

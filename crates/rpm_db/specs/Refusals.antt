@@ -6,8 +6,8 @@ use Rattle.rpm_pkgdb.specs.Planned.{IsFull}
 use Rattle.rpm_hindex.specs.Refusals as hindex
 use Rattle.rpm_hindex.specs.State.{buckets_of}
 use Rattle.rpm_hindex.specs.declared.faults.PrepareFault.TheVariants as prepare
-use Rattle.rpm_db.specs.declared.change.ChangeFault.{ChangeFault}
-use Rattle.rpm_db.specs.declared.change.ChangeFault.TheVariants.{BadHeader, NoSuch, NumbersSpent, GenerationSpent, StoreFull, IndexFull, BadIndex, Stopped, DiskFault, NoMemory}
+use Rattle.rpm_db.specs.declared.change_fault.ChangeFault.{ChangeFault}
+use Rattle.rpm_db.specs.declared.change_fault.ChangeFault.TheVariants.{BadHeader, NoSuch, NumbersSpent, GenerationSpent, StoreFull, IndexFull, BadIndex, Stopped, DiskFault, NoMemory}
 use Rattle.rpm_db.specs.Database.{Database, holds, next_number}
 use Rattle.rpm_db.specs.Lawful.{IsWholeIndex}
 

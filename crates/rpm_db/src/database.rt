@@ -20,7 +20,7 @@ ghost use Rattle.rpm_db.specs.Openings.{IsOpened, OpeningReads, StoreIs};
 ghost use Rattle.rpm_db.specs.Runs.{Runs};
 
 use crate::indexing::{index_for, settle};
-use crate::opening::DbOpenFault;
+use crate::open_fault::DbOpenFault;
 use rpm_hindex::Hindex;
 use rpm_outside::{Disk, File};
 use rpm_pkgdb::{OpenFault, PkgDb};
@@ -150,6 +150,7 @@ impl Db {
     /// - `NoMemory` where there is none for the slots. It never answers `IndexFull`.
     pub fn open_unindexed<D: Disk>(alloc: Global, disk: &mut D) -> Result<Db, DbOpenFault>
         ensures store { IsTrue D.tells → OpenIs (store (D.files disk.old).pkg) result }
+        ensures no_index { (needed : ℕ) → result ≢ Err (DbOpenFault.IndexFull needed) }
         ensures kept { IfOk result (λ db. IsTrue D.tells → Keeps (D.files disk.new).pkg db) }
         ensures from_one { IfOk result (λ db. holds 0 db ≡ false) }
         ensures unindexed { IfOk result (λ db. is_indexed db ≡ false) }

@@ -18,7 +18,7 @@ ghost use Rattle.rpm_db.specs.Runs.{Runs};
 ghost use Rattle.rpm_db.specs.State.{state};
 ghost use Rattle.rpm_db.specs.inner.Writes.{SameFiles, SameLog, change_for, number_for};
 
-use crate::change::ChangeFault;
+use crate::change_fault::ChangeFault;
 use crate::database::Db;
 use crate::putting::{erase_number, put_header};
 use rpm_header::View;

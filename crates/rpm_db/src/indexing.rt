@@ -19,7 +19,7 @@ ghost use Rattle.rpm_db.specs.Rows.{rows};
 ghost use Rattle.rpm_db.specs.Runs.{Runs};
 ghost use Rattle.rpm_db.specs.State.{packages};
 
-use crate::opening::DbOpenFault;
+use crate::open_fault::DbOpenFault;
 use crate::rows::rows_of;
 use rpm_hindex::{Hindex, IndexDiskFault, RewriteFault, Rows};
 use rpm_outside::{Disk, Failed, File};

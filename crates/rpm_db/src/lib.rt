@@ -5,13 +5,13 @@
 //! files shows but how many bytes a call reads.
 #![tactic(auto)]
 
-mod change;
+mod change_fault;
 mod changing;
 mod database;
 mod editing;
 mod finding;
 mod indexing;
-mod opening;
+mod open_fault;
 mod preparing;
 mod putting;
 mod reading;
@@ -22,9 +22,9 @@ mod starting;
 mod verify;
 mod writing;
 
-pub use change::ChangeFault;
+pub use change_fault::ChangeFault;
 pub use database::Db;
-pub use opening::DbOpenFault;
+pub use open_fault::DbOpenFault;
 pub use rpm_hindex::{FindFault, Hit, Hits};
 pub use rpm_pkgdb::{Damage, GetFault, Reason};
 pub use verify::Verdict;

@@ -20,7 +20,7 @@ ghost use Rattle.rpm_db.specs.State.{Package, packages};
 ghost use Rattle.rpm_db.specs.inner.Places.{AreWithout};
 ghost use Rattle.rpm_db.specs.inner.Writes.{WritesRows, WritesWhole, SameFiles, old_rows, cost_before};
 
-use crate::change::ChangeFault;
+use crate::change_fault::ChangeFault;
 use crate::rows::{push_header, push_package};
 use crate::sharing::{RowChange, without_shared};
 use rpm_header::View;

@@ -28,7 +28,7 @@ ghost use Rattle.rpm_db.specs.Runs.{Runs};
 ghost use Rattle.rpm_db.specs.State.{packages, state};
 ghost use Rattle.rpm_db.specs.inner.Writes.{SameLog, SameFiles, WritesRows, WritesWhole, packages_of, state_of, number_for, field_for, cost_before};
 
-use crate::change::ChangeFault;
+use crate::change_fault::ChangeFault;
 use crate::changing::{write_erase, write_put};
 use crate::preparing::{prepare_erase, prepare_put};
 use rpm_header::View;

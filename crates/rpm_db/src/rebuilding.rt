@@ -18,7 +18,7 @@ ghost use Rattle.rpm_db.specs.Rows.{rows};
 ghost use Rattle.rpm_db.specs.Runs.{Runs};
 ghost use Rattle.rpm_db.specs.State.{packages};
 
-use crate::change::ChangeFault;
+use crate::change_fault::ChangeFault;
 use crate::database::Db;
 use crate::indexing::{make_index, settle};
 use rpm_hindex::{Hindex, RewriteFault};

@@ -22,7 +22,7 @@ ghost use Rattle.rpm_db.specs.Runs.{Runs};
 ghost use Rattle.rpm_db.specs.State.{state};
 ghost use Rattle.rpm_db.specs.inner.Writes.{SameLog};
 
-use crate::change::ChangeFault;
+use crate::change_fault::ChangeFault;
 use crate::database::Db;
 use crate::indexing::seal_index;
 use rpm_hindex::{Hindex, IndexDiskFault, RewriteFault, Rows};

@@ -1,6 +1,6 @@
 //! Whether a package is sound.
 
-ghost use Rattle.std.specs.Prelude.{◌≡◌, ℕ, length, ◌+◌, ◌≤◌, ◌↔◌, IsTrue, false, Some, Err};
+ghost use Rattle.std.specs.Prelude.{◌≡◌, ◌≢◌, ℕ, length, ◌+◌, ◌≤◌, ◌↔◌, IsTrue, false, Some, Err};
 ghost use Rattle.std.specs.Option.{option_map, option_copied};
 ghost use Rattle.rpm_header.specs.Header.{header};
 ghost use Rattle.rpm_header.specs.Digest.{immutable_digest};
@@ -86,6 +86,7 @@ impl Db {
         ensures kept { IsTrue D.tells → Keeps (D.files disk.new).pkg self.now }
         ensures told { IsTrue D.tells → VerifyIs (verdict (D.files disk.old).pkg self.now n) result }
         ensures absent { (result ≡ Err GetFault.NoSuch) ↔ (holds n self.now ≡ false) }
+        ensures never_bad { result ≢ Err GetFault.Bad }
         ensures looks { Looks D.tells D.files D.left_since D.moment D.bytes_read D.follows Pkg (cost n self.now) disk.old disk.new }
         ensures cause { HasCauseAt (result ≡ Err GetFault.DiskFault) (D.faults disk.old) (D.faults disk.new) }
     {

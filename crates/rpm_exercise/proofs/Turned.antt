@@ -2,7 +2,7 @@
 use Rattle.std.proofs.Common.{◌≡◌, Bool, true, ℕ, ◌+◌, List, [], ◌∷◌, Ok, Err, sym, ap, ◌∙◌, subst}
 use Rattle.rpm_header.specs.Header.{Header, header}
 use Rattle.rpm_pkgdb.specs.Store.{Store}
-use Rattle.rpm_db.specs.declared.change.ChangeFault.{ChangeFault}
+use Rattle.rpm_db.specs.declared.change_fault.ChangeFault.{ChangeFault}
 use Rattle.rpm_db.specs.Changes.{Add, Put, Erase, next}
 use Rattle.rpm_db.specs.Database.{Database, next_number}
 use Rattle.rpm_db.specs.Refusals.{AddIs, PutIs, EraseIs, EraseCause, FullCause, FullIndexIs}

@@ -3,8 +3,8 @@ use Rattle.std.proofs.Common.{◌≡◌, ◌^◌, ◌≤◌, true, false, Result
 use Rattle.rpm_outside.specs.Files.{Units, Files}
 use Rattle.rpm_pkgdb.specs.declared.slot.Damage.{Damage}
 use Rattle.rpm_pkgdb.specs.Store.{Store, store}
-use Rattle.rpm_db.specs.declared.opening.DbOpenFault.{DbOpenFault}
-use Rattle.rpm_db.specs.declared.opening.DbOpenFault.TheVariants as opening
+use Rattle.rpm_db.specs.declared.open_fault.DbOpenFault.{DbOpenFault}
+use Rattle.rpm_db.specs.declared.open_fault.DbOpenFault.TheVariants as opening
 use Rattle.rpm_db.specs.Database.{Database}
 use Rattle.rpm_db.specs.Openings.{IsOpened, OpensAs, FullOpenIs, must_make, units_needed}
 use Rattle.rpm_db.specs.State.{State, state}

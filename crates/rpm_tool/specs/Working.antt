@@ -11,8 +11,8 @@ use Rattle.rpm_group.specs.Groups.{BeforeOrAfter}
 use Rattle.rpm_group.specs.Settled.{ReopensAs}
 use Rattle.rpm_pkgdb.specs.declared.slot.Damage.{Damage}
 use Rattle.rpm_pkgdb.specs.Store.{Store, store}
-use Rattle.rpm_db.specs.declared.opening.DbOpenFault.{DbOpenFault}
-use Rattle.rpm_db.specs.declared.opening.DbOpenFault.TheVariants as opening
+use Rattle.rpm_db.specs.declared.open_fault.DbOpenFault.{DbOpenFault}
+use Rattle.rpm_db.specs.declared.open_fault.DbOpenFault.TheVariants as opening
 use Rattle.rpm_db.specs.Database.{Database}
 use Rattle.rpm_db.specs.Lawful.{IsLawful}
 use Rattle.rpm_db.specs.Openings.{must_make, units_needed}

@@ -4,7 +4,7 @@ use Rattle.rpm_pkgdb.specs.Store.{Store}
 use Rattle.rpm_pkgdb.specs.Written.{with_spare}
 use Rattle.rpm_hindex.specs.Sizes.{units_for}
 use Rattle.rpm_hindex.specs.State as hindex
-use Rattle.rpm_db.specs.declared.change.ChangeFault.TheVariants.{DiskFault}
+use Rattle.rpm_db.specs.declared.change_fault.ChangeFault.TheVariants.{DiskFault}
 use Rattle.rpm_db.specs.Changes.{Erase}
 use Rattle.rpm_db.specs.Database.{Database, IsInOrder, holds}
 use Rattle.rpm_db.specs.Lawful.{HasRows}
