@@ -25,5 +25,6 @@ pub mod Applied
 pub mod Served
 pub mod Shared
 pub mod Places
+pub mod Reached
 pub mod Apart
 pub mod ByPlace

@@ -4,6 +4,7 @@ pub mod Database
 pub mod Inits
 pub mod Lawful
 pub mod Openings
+pub mod Reaches
 pub mod Rebuilds
 pub mod Refusals
 pub mod Room

@@ -1,6 +1,6 @@
 //! A change that is planned, in both files.
 
-ghost use Rattle.std.specs.Prelude.{◌≡◌, ℕ, ◌+◌, ◌<◌, ◌≤◌, IsTrue, IsSome, true, false, length, Some, None, OnOk, IfOk};
+ghost use Rattle.std.specs.Prelude.{◌≡◌, ℕ, ◌+◌, ◌<◌, ◌≤◌, max, IsTrue, IsSome, true, false, length, Some, None, OnOk, IfOk};
 ghost use Rattle.std.specs.FinMap as finite;
 ghost use Rattle.rpm_outside.specs.Causes.{HasCause};
 ghost use Rattle.rpm_outside.specs.Changes.{IsSettled};
@@ -14,7 +14,7 @@ ghost use Rattle.rpm_pkgdb.specs.Quiet.{IsQuiet, StandsFor};
 ghost use Rattle.rpm_pkgdb.specs.Slots.{slot_with};
 ghost use Rattle.rpm_pkgdb.specs.Store.{Keeps};
 ghost use Rattle.rpm_pkgdb.specs.Written.{with_generation, with_plan, with_spare, erased, next_field, field_after};
-ghost use Rattle.rpm_hindex.specs.Plans.{CanWrite, LeavesOrder};
+ghost use Rattle.rpm_hindex.specs.Plans.{CanWrite, LeavesOrder, units_after};
 ghost use Rattle.rpm_hindex.specs.State as hindex;
 ghost use Rattle.rpm_db.specs.Changes.{IsChangedStill};
 ghost use Rattle.rpm_db.specs.Lawful.{HasRows};
@@ -57,6 +57,7 @@ pub fn write_put<D: Disk>(
     ensures made { 1 ≤ store.new.pages }
     ensures from_one { slot_with 0 store.new.slots ≡ None }
     ensures current { OnOk result (hindex.is_current store.new.generation index.new ≡ true) }
+    ensures grows { OnOk result (index.new.units ≤ max index.old.units (units_after change.work)) }
     ensures kept { OnOk result (IsTrue D.tells → Keeps (D.files disk.new).pkg store.new) }
     ensures units { OnOk result (IsTrue D.tells → hindex.Keeps (D.files disk.new).idx index.new) }
     ensures blobs { OnOk result (IsTrue D.tells → blobs (D.files disk.new).pkg store.new ≡ finite.insert (blobs (D.files disk.old).pkg store.old)
@@ -110,6 +111,7 @@ pub fn write_erase<D: Disk>(
     ensures made { 1 ≤ store.new.pages }
     ensures from_one { slot_with 0 store.new.slots ≡ None }
     ensures current { OnOk result (hindex.is_current store.new.generation index.new ≡ true) }
+    ensures grows { OnOk result (index.new.units ≤ max index.old.units (units_after change.work)) }
     ensures kept { OnOk result (IsTrue D.tells → Keeps (D.files disk.new).pkg store.new) }
     ensures units { OnOk result (IsTrue D.tells → hindex.Keeps (D.files disk.new).idx index.new) }
     ensures blobs { OnOk result (IsTrue D.tells → blobs (D.files disk.new).pkg store.new ≡ finite.remove (blobs (D.files disk.old).pkg store.old) n) }

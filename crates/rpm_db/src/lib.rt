@@ -13,6 +13,7 @@ mod finding;
 mod indexing;
 mod open_fault;
 mod preparing;
+mod put_view;
 mod putting;
 mod reading;
 mod rebuilding;

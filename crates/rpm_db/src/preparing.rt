@@ -1,6 +1,6 @@
 //! Working out what a change makes of the index.
 
-ghost use Rattle.std.specs.Prelude.{◌≡◌, ℕ, ◌+◌, ◌≤◌, [], IsTrue, true, Option, None, Err, IfOk, IfErr};
+ghost use Rattle.std.specs.Prelude.{◌≡◌, ℕ, ◌+◌, ◌≤◌, [], max, IsTrue, true, Option, None, Err, IfOk, IfErr};
 ghost use Rattle.std.specs.FinMap as finite;
 ghost use Rattle.std.specs.Ordering.{nat_cmp};
 ghost use Rattle.rpm_outside.specs.Causes.{HasCauseAt};
@@ -8,8 +8,8 @@ ghost use Rattle.rpm_outside.specs.declared.disk.File.TheVariants.{Pkg, Idx};
 ghost use Rattle.rpm_outside.specs.Looks.{Looks};
 ghost use Rattle.rpm_pkgdb.specs.Costs.{cost};
 ghost use Rattle.rpm_pkgdb.specs.Store.{Keeps};
-ghost use Rattle.rpm_hindex.specs.Plans.{CanWrite, LeavesOrder, HasChanged};
-ghost use Rattle.rpm_hindex.specs.Sizes.{units_for};
+ghost use Rattle.rpm_hindex.specs.Plans.{CanWrite, LeavesOrder, HasChanged, units_after};
+ghost use Rattle.rpm_hindex.specs.Sizes.{units_for, live_of};
 ghost use Rattle.rpm_hindex.specs.State as hindex;
 ghost use Rattle.rpm_db.specs.Lawful.{HasRows, IsWholeIndex};
 ghost use Rattle.rpm_db.specs.Openings.{IsOutside};
@@ -122,6 +122,9 @@ fn prepare_rows<D: Disk>(
         → HasChanged drops.now adds.now (rows before) (rows after) → WritesRows (rows after) plan.work (D.files disk.old).idx) }
     ensures full { IsTrue D.tells → (before after : finite.FinMap nat_cmp Package) → HasRows before (D.files disk.old).idx
         → HasChanged drops.now adds.now (rows before) (rows after) → FullIndexIs (units_for (rows after)) result }
+    ensures reach { IfOk result (λ plan. IsTrue D.tells → (before after : finite.FinMap nat_cmp Package) → HasRows before (D.files disk.old).idx
+        → HasChanged drops.now adds.now (rows before) (rows after)
+        → units_after plan.work ≤ max (index.now.units + live_of adds.now) (units_for (rows after))) }
     ensures whole { IfOk result (λ plan. IsTrue D.tells → IsWholeIndex (D.files disk.old).idx → WritesWhole plan.work (D.files disk.old).idx) }
     ensures bad { IsTrue D.tells → BadIndexIs (D.files disk.old).idx result }
     ensures kinds { IfErr result IsOfIndex }
@@ -160,6 +163,11 @@ pub fn prepare_put<D: Disk>(
     ensures full { IsTrue D.tells → (after : finite.FinMap nat_cmp Package) → HasRows (packages (D.files disk.old).pkg store.now) (D.files disk.old).idx
         → HasChanged (old_rows n (packages (D.files disk.old).pkg store.now)) (header_rows number view.now)
         (rows (packages (D.files disk.old).pkg store.now)) (rows after) → FullIndexIs (units_for (rows after)) result }
+    ensures reach { IfOk result (λ plan. IsTrue D.tells → (after : finite.FinMap nat_cmp Package)
+        → HasRows (packages (D.files disk.old).pkg store.now) (D.files disk.old).idx
+        → HasChanged (old_rows n (packages (D.files disk.old).pkg store.now)) (header_rows number view.now)
+        (rows (packages (D.files disk.old).pkg store.now)) (rows after)
+        → units_after plan.work ≤ max (index.now.units + live_of (header_rows number view.now)) (units_for (rows after))) }
     ensures whole { IfOk result (λ plan. IsTrue D.tells → IsWholeIndex (D.files disk.old).idx → WritesWhole plan.work (D.files disk.old).idx) }
     ensures bad { IsTrue D.tells → BadIndexIs (D.files disk.old).idx result }
     ensures kinds { IfErr result IsOfIndex }
@@ -197,6 +205,11 @@ pub fn prepare_erase<D: Disk>(
     ensures full { IsTrue D.tells → (after : finite.FinMap nat_cmp Package) → HasRows (packages (D.files disk.old).pkg store.now) (D.files disk.old).idx
         → HasChanged (rows_at n (finite.get (packages (D.files disk.old).pkg store.now) n)) []
         (rows (packages (D.files disk.old).pkg store.now)) (rows after) → FullIndexIs (units_for (rows after)) result }
+    ensures reach { IfOk result (λ plan. IsTrue D.tells → (after : finite.FinMap nat_cmp Package)
+        → HasRows (packages (D.files disk.old).pkg store.now) (D.files disk.old).idx
+        → HasChanged (rows_at n (finite.get (packages (D.files disk.old).pkg store.now) n)) []
+        (rows (packages (D.files disk.old).pkg store.now)) (rows after)
+        → units_after plan.work ≤ max index.now.units (units_for (rows after))) }
     ensures whole { IfOk result (λ plan. IsTrue D.tells → IsWholeIndex (D.files disk.old).idx → WritesWhole plan.work (D.files disk.old).idx) }
     ensures bad { IsTrue D.tells → BadIndexIs (D.files disk.old).idx result }
     ensures kinds { IfErr result IsOfIndex }

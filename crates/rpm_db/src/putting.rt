@@ -1,6 +1,6 @@
 //! Changes of one value, in both files.
 
-ghost use Rattle.std.specs.Prelude.{◌≡◌, ◌≢◌, ℕ, ◌+◌, ◌≤◌, ◌<◌, IsTrue, IsSome, true, false, length, is_none, Option, Some, None, Err, OnOk, IfOk, IfErr, IfSome};
+ghost use Rattle.std.specs.Prelude.{◌≡◌, ◌≢◌, ℕ, ◌+◌, ◌≤◌, ◌<◌, max, IsTrue, IsSome, true, false, length, is_none, Option, Some, None, Err, OnOk, IfOk, IfErr, IfSome};
 ghost use Rattle.std.specs.FinMap as finite;
 ghost use Rattle.rpm_header.specs.Header.{header};
 ghost use Rattle.rpm_outside.specs.Causes.{HasCauseAt};
@@ -16,14 +16,14 @@ ghost use Rattle.rpm_pkgdb.specs.Quiet.{IsQuiet, StandsFor};
 ghost use Rattle.rpm_pkgdb.specs.Slots.{slot_with};
 ghost use Rattle.rpm_pkgdb.specs.Store.{Keeps, next_number};
 ghost use Rattle.rpm_pkgdb.specs.Written.{erased, with_spare};
-ghost use Rattle.rpm_hindex.specs.Plans.{CanWrite, LeavesOrder};
-ghost use Rattle.rpm_hindex.specs.Sizes.{units_for};
+ghost use Rattle.rpm_hindex.specs.Plans.{CanWrite, LeavesOrder, units_after};
+ghost use Rattle.rpm_hindex.specs.Sizes.{units_for, live_of};
 ghost use Rattle.rpm_hindex.specs.State as hindex;
 ghost use Rattle.rpm_db.specs.Changes.{IsChangedStill, ReadsAtMost};
 ghost use Rattle.rpm_db.specs.Lawful.{HasRows, IsWholeIndex, AreLawful};
 ghost use Rattle.rpm_db.specs.Refusals.{LaterIs, FullIndexIs, BadIndexIs, IsRefusal};
 ghost use Rattle.rpm_db.specs.Room.{RoomCause, RoomIs, raised};
-ghost use Rattle.rpm_db.specs.Rows.{rows};
+ghost use Rattle.rpm_db.specs.Rows.{rows, header_rows};
 ghost use Rattle.rpm_db.specs.Runs.{Runs};
 ghost use Rattle.rpm_db.specs.State.{packages, state};
 ghost use Rattle.rpm_db.specs.inner.Writes.{SameLog, SameFiles, WritesRows, WritesWhole, packages_of, state_of, number_for, field_for, cost_before};
@@ -77,6 +77,9 @@ fn plan_put<D: Disk>(
         (D.files disk.old).idx) }
     ensures full { IsTrue D.tells → HasRows (packages (D.files disk.old).pkg store.old) (D.files disk.old).idx → FullIndexIs
         (units_for (rows (packages_of (finite.insert (blobs (D.files disk.old).pkg store.old) (number_for n store.old) (Some view.now.blob))))) result }
+    ensures reach { IfOk result (λ planned. IsTrue D.tells → HasRows (packages (D.files disk.old).pkg store.old) (D.files disk.old).idx
+        → units_after planned.1.work ≤ max (index.now.units + live_of (header_rows (number_for n store.old) view.now))
+        (units_for (rows (packages_of (finite.insert (blobs (D.files disk.old).pkg store.old) (number_for n store.old) (Some view.now.blob)))))) }
     ensures whole { IfOk result (λ planned. IsTrue D.tells → IsWholeIndex (D.files disk.old).idx → WritesWhole planned.1.work (D.files disk.old).idx) }
     ensures bad { IsTrue D.tells → BadIndexIs (D.files disk.old).idx result }
     ensures reads { D.bytes_read disk.new Pkg ≤ D.bytes_read disk.old Pkg + cost_before n store.old }
@@ -138,6 +141,9 @@ pub fn put_header<D: Disk>(
         → HasRows (packages (D.files disk.new).pkg store.new) (D.files disk.new).idx) }
     ensures full { IsTrue D.tells → HasRows (packages (D.files disk.old).pkg store.old) (D.files disk.old).idx → FullIndexIs
         (units_for (rows (packages_of (finite.insert (blobs (D.files disk.old).pkg store.old) (number_for n store.old) (Some view.now.blob))))) result }
+    ensures reach { OnOk result (IsTrue D.tells → HasRows (packages (D.files disk.old).pkg store.old) (D.files disk.old).idx
+        → index.new.units ≤ max (index.old.units + live_of (header_rows (number_for n store.old) view.now))
+        (units_for (rows (packages_of (finite.insert (blobs (D.files disk.old).pkg store.old) (number_for n store.old) (Some view.now.blob)))))) }
     ensures whole { OnOk result (IsTrue D.tells → IsWholeIndex (D.files disk.old).idx → IsWholeIndex (D.files disk.new).idx) }
     ensures bad { IsTrue D.tells → BadIndexIs (D.files disk.old).idx result }
     ensures refused { IfErr result (λ e. IsRefusal e → (store.new ≡ with_spare store.new.spare store.old) × (index.new ≡ index.old)) }
@@ -196,6 +202,8 @@ pub fn erase_number<D: Disk>(
         → HasRows (packages (D.files disk.new).pkg store.new) (D.files disk.new).idx) }
     ensures full { IsTrue D.tells → HasRows (packages (D.files disk.old).pkg store.old) (D.files disk.old).idx → FullIndexIs
         (units_for (rows (packages_of (finite.remove (blobs (D.files disk.old).pkg store.old) n)))) result }
+    ensures reach { OnOk result (IsTrue D.tells → HasRows (packages (D.files disk.old).pkg store.old) (D.files disk.old).idx
+        → index.new.units ≤ max index.old.units (units_for (rows (packages_of (finite.remove (blobs (D.files disk.old).pkg store.old) n))))) }
     ensures whole { OnOk result (IsTrue D.tells → IsWholeIndex (D.files disk.old).idx → IsWholeIndex (D.files disk.new).idx) }
     ensures bad { IsTrue D.tells → BadIndexIs (D.files disk.old).idx result }
     ensures refused { IfErr result (λ e. IsRefusal e → (store.new ≡ store.old) × (index.new ≡ index.old)) }

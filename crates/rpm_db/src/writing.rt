@@ -1,6 +1,6 @@
 //! Writing a change: the store behind a raise of its generation, and then the index.
 
-ghost use Rattle.std.specs.Prelude.{◌≡◌, ℕ, ◌+◌, ◌<◌, ◌≤◌, ◌^◌, IsTrue, IsSome, true, false, length, Some, OnOk, OnErr, IfOk};
+ghost use Rattle.std.specs.Prelude.{◌≡◌, ℕ, ◌+◌, ◌<◌, ◌≤◌, ◌^◌, max, IsTrue, IsSome, true, false, length, Some, OnOk, OnErr, IfOk};
 ghost use Rattle.std.specs.FinMap as finite;
 ghost use Rattle.rpm_outside.specs.Causes.{HasCause};
 ghost use Rattle.rpm_outside.specs.Changes.{Changes, IsSettled, Stops};
@@ -14,7 +14,7 @@ ghost use Rattle.rpm_pkgdb.specs.Quiet.{IsQuiet, StandsFor, Anything};
 ghost use Rattle.rpm_pkgdb.specs.Slots.{slot_with};
 ghost use Rattle.rpm_pkgdb.specs.Store.{Keeps};
 ghost use Rattle.rpm_pkgdb.specs.Written.{with_generation, with_plan, with_spare, erased, next_field, field_after};
-ghost use Rattle.rpm_hindex.specs.Plans.{CanWrite, LeavesOrder};
+ghost use Rattle.rpm_hindex.specs.Plans.{CanWrite, LeavesOrder, units_after};
 ghost use Rattle.rpm_hindex.specs.State as hindex;
 ghost use Rattle.rpm_db.specs.inner.Writes.{BlobsTo, IndexTo, IsSealedAfter};
 
@@ -96,6 +96,7 @@ pub fn write_rows<D: Disk>(
     requires ordered { LeavesOrder plan.work }
     requires keeps { IsTrue D.tells → hindex.Keeps (D.files disk.old).idx index.old }
     ensures current { OnOk result (hindex.is_current generation index.new ≡ true) }
+    ensures grows { OnOk result (index.new.units ≤ max index.old.units (units_after plan.work)) }
     ensures kept { OnOk result (IsTrue D.tells → hindex.Keeps (D.files disk.new).idx index.new) }
     ensures sealed { OnOk result (IsTrue D.tells → IsSealedAfter generation plan.work (D.files disk.old).idx (D.files disk.new).idx) }
     ensures settled { OnOk result (IsTrue D.tells → IsSettled Idx (D.files disk.new) (D.left_since disk.new (D.moment disk.new))) }

@@ -1,4 +1,4 @@
-use Rattle.std.proofs.Common.{List, sym, ◌∙◌, subst, arith}
+use Rattle.std.proofs.Common.{◌≡◌, ◌+◌, ◌≤◌, List, sym, ap, ◌∙◌, subst, arith}
 use Rattle.std.specs.FinMap as finite
 use Rattle.rpm_outside.specs.Files.{Files}
 use Rattle.rpm_hindex.specs.Plans.{HasChanged}
@@ -9,6 +9,8 @@ use Rattle.rpm_db.specs.Rows.{rows_at, rows}
 use Rattle.rpm_db.specs.State.{packages}
 use Rattle.rpm_db.specs.inner.Running.{runs_then}
 use Rattle.rpm_db.specs.inner.Writes.{WritesRows, SameFiles}
+use Rattle.rpm_hindex.specs.Sizes.{live_of}
+use Rattle.rpm_db.proofs.Reached.{live_none}
 use Rattle.rpm_db.proofs.Wholes.{whole_work}
 use Rattle.rpm_db.proofs.preparing.prepare_erase.Goals as goal
 
@@ -51,3 +53,13 @@ returns-in-Ok-prepare_rows-clause-runs g c =
 
 pub returns-in-Ok-prepare_rows-clause-reads : goal.returns-in-Ok-prepare_rows-clause-reads
 returns-in-Ok-prepare_rows-clause-reads g c = omega (arith, c.in-Ok.ensures.reads, c.in-Ok-prepare_rows.ensures.unread)
+
+pub returns-in-Ok-prepare_rows-clause-reach : goal.returns-in-Ok-prepare_rows-clause-reach
+returns-in-Ok-prepare_rows-clause-reach g c = λ told new has changed.
+    let P = packages (g.D.Disk.files c.args.disk.now).pkg c.args.store.now in
+    let here = subst (λ (f : Files). HasRows P f.idx) (sym (c.in-Ok.ensures.runs.reads_as told)) has in
+    let change =
+    subst (λ (ds : List Row). HasChanged ds c.new-adds.result (rows P) (rows new)) (sym (c.in-Ok.ensures.rows told))
+    (subst (λ (rs : List Row). HasChanged (rows_at c.args.n (finite.get P c.args.n)) rs (rows P) (rows new)) (sym c.new-adds.ensures) changed) in
+    let none : live_of c.new-adds.result ≡ 0 = ap live_of c.new-adds.ensures ∙ live_none in
+    omega (arith, c.in-Ok-prepare_rows.ensures.reach told P new here change, none)

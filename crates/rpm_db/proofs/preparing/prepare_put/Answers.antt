@@ -1,4 +1,4 @@
-use Rattle.std.proofs.Common.{sym, ◌∙◌, subst, arith}
+use Rattle.std.proofs.Common.{◌+◌, ◌-◌, ◌≤◌, sym, ◌∙◌, subst, arith}
 use Rattle.rpm_outside.specs.Files.{Files}
 use Rattle.rpm_hindex.specs.State as hindex
 use Rattle.rpm_db.specs.Lawful.{HasRows}
@@ -6,6 +6,7 @@ use Rattle.rpm_db.specs.Rows.{header_rows, rows}
 use Rattle.rpm_db.specs.State.{packages}
 use Rattle.rpm_db.specs.inner.Running.{runs_then}
 use Rattle.rpm_db.specs.inner.Writes.{WritesRows, SameFiles}
+use Rattle.rpm_db.proofs.Reached.{live_less}
 use Rattle.rpm_db.proofs.Shared.{changed_still}
 use Rattle.rpm_db.proofs.Wholes.{whole_work}
 use Rattle.rpm_db.proofs.preparing.prepare_put.Goals as goal
@@ -58,3 +59,13 @@ returns-clause-full g c = λ told new has changed.
     changed_still c.args.n P (header_rows c.args.number c.args.view.now) c.in-Ok.change.drops c.in-Ok.change.adds (rows new) (c.in-Ok.ensures.drops told)
     (c.in-Ok.ensures.adds told) changed in
     c.in-Err-prepare_rows.ensures.full told P new here still
+
+pub returns-in-Ok-prepare_rows-clause-reach : goal.returns-in-Ok-prepare_rows-clause-reach
+returns-in-Ok-prepare_rows-clause-reach g c = λ told new has changed.
+    let P = packages (g.D.Disk.files c.args.disk.now).pkg c.args.store.now in
+    let adds = header_rows c.args.number c.args.view.now in
+    let here = subst (λ (f : Files). HasRows P f.idx) (sym (c.in-Ok.ensures.runs.reads_as told)) has in
+    let still =
+    changed_still c.args.n P adds c.in-Ok.change.drops c.in-Ok.change.adds (rows new) (c.in-Ok.ensures.drops told) (c.in-Ok.ensures.adds told) changed in
+    let few = live_less c.in-Ok.change.adds adds (λ r. omega (arith, c.in-Ok.ensures.adds told r)) in
+    omega (arith, c.in-Ok-prepare_rows.ensures.reach told P new here still, few)

@@ -2,7 +2,7 @@ use Rattle.std.proofs.Common.{ℕ, ◌^◌, ◌<◌, List, sym, subst, refl, ari
 use Rattle.rpm_outside.specs.declared.disk.File.TheVariants.{Idx}
 use Rattle.rpm_hindex.specs.declared.faults.PrepareFault.TheVariants.{BadIndex}
 use Rattle.rpm_hindex.specs.Index.{records}
-use Rattle.rpm_hindex.specs.Plans.{IsPlanFor, HasChanged}
+use Rattle.rpm_hindex.specs.Plans.{IsPlanFor, HasChanged, ReachesFor}
 use Rattle.rpm_hindex.specs.Refusals.{IsBad, HasRoomFor}
 use Rattle.rpm_hindex.specs.State.{buckets_of}
 use Rattle.rpm_hindex.specs.Whole.{IsWellFormed}
@@ -110,3 +110,14 @@ returns-in-Err-NoMemory-clause-runs g c =
 
 pub returns-in-Err-NoMemory-clause-unread : goal.returns-in-Err-NoMemory-clause-unread
 returns-in-Err-NoMemory-clause-unread g c = omega (arith, c.in-Err-NoMemory.ensures.looks.reads.pkg)
+
+pub returns-in-Ok-clause-reach : goal.returns-in-Ok-clause-reach
+returns-in-Ok-clause-reach g c = λ told old new has changed.
+    let idx = (g.D.Disk.files c.args.disk.now).idx in
+    let first = (c.requires.keeps told).first in
+    let drops = c.args.drops.now in
+    let adds = c.args.adds.now in
+    let whole = subst (λ (u : List ℕ). IsWellFormed (buckets_of u) idx) (sym first) has.whole in
+    let reach = subst (λ (u : List ℕ). ReachesFor drops adds (records (buckets_of u) idx) c.args.index.now.units c.in-Ok.plan.work) first
+    (c.in-Ok.ensures.reach told whole) in
+    reach (rows new) (of_records drops adds old new idx has changed)

@@ -1,4 +1,4 @@
-use Rattle.std.proofs.Common.{sym, ap, ◌∙◌, subst}
+use Rattle.std.proofs.Common.{sym, ap, ◌∙◌, subst, arith}
 use Rattle.std.specs.FinMap as finite
 use Rattle.rpm_outside.specs.Files.{Files}
 use Rattle.rpm_pkgdb.specs.Blobs.{blobs}
@@ -125,3 +125,13 @@ pub returns-in-Err-write_erase-clause-runs : goal.returns-in-Err-write_erase-cla
 returns-in-Err-write_erase-clause-runs g c =
     log_then g.D.Disk.tells g.D.Disk.files g.D.Disk.left_since g.D.Disk.moment g.D.Disk.bytes_read g.D.Disk.follows g.met.D.Disk.follows_trans
     c.args.disk.now c.prepare_erase.new.disk c.write_erase.new.disk c.in-Ok.ensures.runs c.in-Err-write_erase.ensures.runs
+
+pub returns-in-Ok-write_erase-clause-reach : goal.returns-in-Ok-write_erase-clause-reach
+returns-in-Ok-write_erase-clause-reach g c = λ told has.
+    let st = c.args.store.now in
+    let file = (g.D.Disk.files c.args.disk.now).pkg in
+    omega (
+      arith,
+      c.in-Ok.ensures.reach told (packages_of (finite.remove (blobs file st) c.args.n)) has (rows_erased file st c.args.n),
+      c.in-Ok-write_erase.ensures.grows,
+    )

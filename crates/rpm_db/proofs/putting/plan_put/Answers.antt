@@ -1,4 +1,4 @@
-use Rattle.std.proofs.Common.{◌≡◌, ℕ, List, length, is_none, Some, None, Ok, Err, sym, ap, subst, arith}
+use Rattle.std.proofs.Common.{◌≡◌, ℕ, ◌+◌, ◌≤◌, ◌∙◌, max, List, length, is_none, Some, None, Ok, Err, sym, ap, subst, arith}
 use Rattle.std.proofs.lemmas.Bool.Decides.{nat_tests}
 use Rattle.std.specs.FinMap as finite
 use Rattle.std.specs.Ordering.{nat_cmp}
@@ -6,10 +6,13 @@ use Rattle.rpm_header.specs.Header.{header}
 use Rattle.rpm_pkgdb.specs.Blobs.{blobs}
 use Rattle.rpm_pkgdb.specs.Placing.{placed, placement_of}
 use Rattle.rpm_pkgdb.specs.Planned.{IsFull}
+use Rattle.rpm_hindex.specs.Plans.{units_after}
+use Rattle.rpm_hindex.specs.Sizes.{live_of, units_for}
+use Rattle.rpm_db.specs.Rows.{header_rows, rows}
 use Rattle.rpm_db.specs.Lawful.{HasRows}
 use Rattle.rpm_db.specs.State.{Package}
 use Rattle.rpm_db.specs.inner.Writes.{packages_of, number_for}
-use Rattle.rpm_db.proofs.Puts.{packages_same, rows_planned}
+use Rattle.rpm_db.proofs.Puts.{packages_same, number_same, rows_planned}
 use Rattle.rpm_db.proofs.Refused.{later_of_index}
 use Rattle.rpm_db.proofs.Rooms.{room_of_index}
 use Rattle.rpm_db.proofs.putting.plan_put.Goals as goal
@@ -79,3 +82,18 @@ returns-in-Err-clause-full g c = λ told has.
     (c.in-Err.ensures.full told (packages_of (finite.insert (blobs f.pkg st) (number_for c.args.n st) (Some h.blob)))
     (subst (λ (ps : finite.FinMap nat_cmp Package). HasRows ps f.idx) (sym (packages_same f.pkg st c.plan.new.self same)) has)
     (rows_planned f.pkg st c.plan.new.self same c.args.n c.number_of-number.result c.number_of-number.ensures h own))
+
+pub returns-in-Ok-prepare_put-clause-reach : goal.returns-in-Ok-prepare_put-clause-reach
+returns-in-Ok-prepare_put-clause-reach g c = λ told has.
+    let st = c.args.store.now in
+    let f = g.D.Disk.files c.args.disk.now in
+    let h = c.args.view.now in
+    let same = c.in-Ok.ensures.same in
+    let own : header h.blob ≡ Ok h = subst (λ (bs : List ℕ). header bs ≡ Ok h) c.blob.ensures.value c.blob.ensures.again in
+    let after = packages_of (finite.insert (blobs f.pkg st) (number_for c.args.n st) (Some h.blob)) in
+    let reach = c.in-Ok-prepare_put.ensures.reach told after
+    (subst (λ (ps : finite.FinMap nat_cmp Package). HasRows ps f.idx) (sym (packages_same f.pkg st c.plan.new.self same)) has)
+    (rows_planned f.pkg st c.plan.new.self same c.args.n c.number_of-number.result c.number_of-number.ensures h own) in
+    let number_is = c.number_of-number.ensures ∙ number_same c.args.n st c.plan.new.self same in
+    subst (λ (k : ℕ). units_after c.in-Ok-prepare_put.change.work ≤ max (c.args.index.now.units + live_of (header_rows k h)) (units_for (rows after)))
+    number_is reach

@@ -148,3 +148,6 @@ returns-in-Ok-write_put-clause-runs g c = log_then _ _ _ _ _ _ g.met.D.Disk.foll
 
 pub returns-in-Err-write_put-clause-runs : goal.returns-in-Err-write_put-clause-runs
 returns-in-Err-write_put-clause-runs g c = log_then _ _ _ _ _ _ g.met.D.Disk.follows_trans _ _ _ c.in-Ok.ensures.runs c.in-Err-write_put.ensures.runs
+
+pub returns-in-Ok-write_put-clause-reach : goal.returns-in-Ok-write_put-clause-reach
+returns-in-Ok-write_put-clause-reach g c = λ told has. omega (arith, c.in-Ok.ensures.reach told has, c.in-Ok-write_put.ensures.grows)

@@ -2,7 +2,7 @@ use Rattle.std.proofs.Common.{refl, ap, arith}
 use Rattle.rpm_outside.specs.declared.disk.File.TheVariants.{Idx}
 use Rattle.rpm_outside.specs.inner.Changing.{changes_weaker, changes_between}
 use Rattle.rpm_hindex.specs.Images.{VoidOrSameSeal, SealedOrSame}
-use Rattle.rpm_hindex.specs.State.{seal_unit}
+use Rattle.rpm_hindex.specs.State.{State, seal_unit}
 use Rattle.rpm_db.specs.inner.Writes.{IndexTo}
 use Rattle.rpm_db.proofs.Making.{ordered_some, ordered_pending}
 use Rattle.rpm_db.proofs.Results.{map_ok}
@@ -58,3 +58,7 @@ returns-clause-sealed g c = map_ok c.seal.result (λ wrote told.
 
 pub returns-clause-current : goal.returns-clause-current
 returns-clause-current g c = map_ok c.seal.result (λ current. current (c.in-Ok.ensures.ordered c.requires.ordered)) c.seal.ensures.current
+
+pub returns-clause-grows : goal.returns-clause-grows
+returns-clause-grows g c =
+    map_ok c.seal.result (λ is. omega (arith, ap (λ (s : State). s.units) is, c.in-Ok.ensures.grows)) c.seal.ensures.state

@@ -1,4 +1,4 @@
-use Rattle.std.proofs.Common.{◌≡◌, ◌≤◌, ◌^◌, true, false, is_some, Option, Some, Err, sym, ap, ◌∙◌, subst, inr}
+use Rattle.std.proofs.Common.{◌≡◌, ◌+◌, ◌≤◌, ◌^◌, arith, true, false, is_some, Option, Some, Err, sym, ap, ◌∙◌, subst, inr}
 use Rattle.rpm_pkgdb.specs.Slots.{slot_with}
 use Rattle.rpm_pkgdb.specs.Store.{Store}
 use Rattle.rpm_pkgdb.specs.Written.{with_spare}
@@ -147,3 +147,23 @@ returns-in-Err-clause-stops g c = λ told lawful.
     let has = rows_of_disk old.pkg old.idx st c.in-Some.index s.keeps made s.index current (lawful old (g.met.D.Disk.as_read a told)) in
     stops_told g.D.Disk.moment g.D.Disk.left_since a c.erase_number.new.disk images _ _ _ _ (ap (state old.pkg) same)
     (erase_goes old.pkg st c.args.self.now.store same c.args.n) (c.in-Err.ensures.stops told lawful has)
+
+pub returns-in-Ok-clause-reach : goal.returns-in-Ok-clause-reach
+returns-in-Ok-clause-reach g c = λ told was.
+    let st = c.self.inside.store in
+    let now = c.args.self.now.store in
+    let a = c.args.disk.now in
+    let old = g.D.Disk.files a in
+    let e = c.in-Ok.ensures in
+    let same : st ≡ now = ap (λ (db : Database). db.store) c.self.view_is in
+    let has = subst (λ (v : Store). HasRows (packages old.pkg v) old.idx) (sym same) was.rows_are in
+    let told_going : c.args.self.now.stopped ≡ false = sym (ap (λ (db : Database). db.stopped) c.self.view_is) ∙ c.if-self.false in
+    let s = serving_inside old (g.D.Disk.left_since a (g.D.Disk.moment a)) st c.self.inside.index c.in-Some.index c.self.inside.is_stopped c.args.self.now
+    c.self.view_is c.in-Some.is (c.requires.serving told_going told) in
+    omega (
+      arith,
+      e.reach told has,
+      s.index.units,
+      (e.units told).units,
+      ap (λ (t : State). units_for (rows t.packages)) (erase_goes old.pkg st now same c.args.n),
+    )

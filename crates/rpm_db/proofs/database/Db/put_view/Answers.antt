@@ -1,16 +1,18 @@
-use Rattle.std.proofs.Common.{◌≡◌, ◌≤◌, ◌^◌, false, length, is_none, is_some, Option, Some, Err, sym, ap, ◌∙◌, subst}
+use Rattle.std.proofs.Common.{◌≡◌, ◌+◌, ◌≤◌, ◌^◌, arith, false, length, is_none, is_some, Option, Some, Err, sym, ap, ◌∙◌, subst}
 use Rattle.rpm_pkgdb.specs.Placing.{put_in}
 use Rattle.rpm_pkgdb.specs.Planned.{IsFull}
 use Rattle.rpm_pkgdb.specs.Store.{Store}
 use Rattle.rpm_pkgdb.specs.Written.{with_spare}
-use Rattle.rpm_hindex.specs.Sizes.{units_for}
+use Rattle.rpm_hindex.specs.Sizes.{units_for, live_of}
 use Rattle.rpm_hindex.specs.State as hindex
 use Rattle.rpm_db.specs.declared.change_fault.ChangeFault.TheVariants.{DiskFault}
 use Rattle.rpm_db.specs.Database.{Database, IsInOrder}
 use Rattle.rpm_db.specs.Lawful.{HasRows}
 use Rattle.rpm_db.specs.Refusals.{LaterCause, FullCause, is_stopping}
 use Rattle.rpm_db.specs.Room.{RoomCause, raised}
-use Rattle.rpm_db.specs.Rows.{rows}
+use Rattle.rpm_db.specs.Rows.{rows, header_rows}
+use Rattle.rpm_db.specs.inner.Writes.{number_for}
+use Rattle.rpm_db.proofs.Reached.{added_is}
 use Rattle.rpm_db.specs.State.{State, packages, state}
 use Rattle.rpm_db.proofs.Applied.{put_goes, held_by}
 use Rattle.rpm_db.proofs.Unwritten.{stops_told}
@@ -148,3 +150,25 @@ returns-in-Err-clause-stops g c = λ told lawful.
     let has = rows_of_disk old.pkg old.idx st c.in-Some.index s.keeps made s.index current (lawful old (g.met.D.Disk.as_read a told)) in
     stops_told g.D.Disk.moment g.D.Disk.left_since a c.put_header.new.disk images _ _ _ _ (ap (state old.pkg) same)
     (put_goes old.pkg st c.args.self.now.store same c.args.n c.args.view.now c.requires.own) (c.in-Err.ensures.stops told lawful has)
+
+pub returns-in-Ok-clause-reach : goal.returns-in-Ok-clause-reach
+returns-in-Ok-clause-reach g c = λ told was.
+    let st = c.self.inside.store in
+    let now = c.args.self.now.store in
+    let h = c.args.view.now in
+    let a = c.args.disk.now in
+    let old = g.D.Disk.files a in
+    let e = c.in-Ok.ensures in
+    let same : st ≡ now = ap (λ (db : Database). db.store) c.self.view_is in
+    let has = subst (λ (v : Store). HasRows (packages old.pkg v) old.idx) (sym same) was.rows_are in
+    let s = serving_inside old (g.D.Disk.left_since a (g.D.Disk.moment a)) st c.self.inside.index c.in-Some.index c.self.inside.is_stopped c.args.self.now
+    c.self.view_is c.in-Some.is (c.requires.serving told) in
+    omega (
+      arith,
+      e.reach told has,
+      s.index.units,
+      (e.units told).units,
+      ap (λ (v : Store). live_of (header_rows (number_for c.args.n v) h)) same,
+      added_is old.pkg now c.args.n h c.requires.own,
+      ap (λ (t : State). units_for (rows t.packages)) (put_goes old.pkg st now same c.args.n h c.requires.own),
+    )
