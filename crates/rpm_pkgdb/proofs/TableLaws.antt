@@ -9,7 +9,7 @@ use Rattle.rpm_pkgdb.proofs.Sound.{placed}
 use Rattle.rpm_pkgdb.specs.Undamaged.{AreSound, IsPlaced}
 use Rattle.rpm_pkgdb.proofs.Pairwise.{begins_from, none_from, sound_from, slot_in, count_in, used_below}
 use Rattle.rpm_pkgdb.proofs.SoundRuns.{limit_placed}
-use Rattle.rpm_pkgdb.specs.inner.Rows.{AllApart}
+use Rattle.rpm_pkgdb.specs.inner.Keys.{AllApart}
 use Rattle.rpm_pkgdb.specs.inner.Tables.{AreOwn}
 
 pub own_more : (pages units : ℕ) (us : Units) (k : ℕ) (unit : List ℕ) → AreOwn pages units us k → unit ≡ unit_at us k → own_reason pages units unit ≡ None

@@ -1,6 +1,5 @@
 -- Invariants and steps of the crate's own calls: nothing that a reader of its public calls must believe.
-pub mod Rows
-pub mod Rises
+pub mod Keys
 pub mod Maps
 pub mod Tables
 pub mod Runs
@@ -11,7 +10,6 @@ pub mod Settings
 pub mod MoveLists
 pub mod Grows
 pub mod Puts
-pub mod RangeKeys
 pub mod Ready
 pub mod Pages
 pub mod Weights

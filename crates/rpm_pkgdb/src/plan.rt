@@ -195,8 +195,8 @@ impl PkgDb {
     /// Decides where a blob of a length goes, under a number that is there or, for `None`, under a new one; and makes the room for it.
     ///
     /// The blob goes to the least free blocks behind the slot pages, a new number to the first free slot. Nothing is read and nothing
-    /// written. The first plan of a value gathers the used ranges, n log n in the slots and linear where they lie in the order of the file, and
-    /// takes 24 bytes for each, or 32 where they don't; a later one takes two binary searches, a step for each gap that is too narrow, and for a
+    /// written. The first plan of a value gathers the used ranges, n log n in the slots and linear where they rise in a few runs, and
+    /// takes 24 bytes for each, and at most 12 a slot meanwhile; a later one takes two binary searches, a step for each gap that is too narrow, and for a
     /// new number a step for each used slot from the last one put on.
     ///
     /// A new number for which no slot is free asks for a slot page more. The blobs in its way are planned to move behind it, by rising

@@ -119,12 +119,12 @@ impl PkgDb {
     ///
     /// Reads 4096 bytes a page, each byte once, and at most unit 0 where the file is blank or its head is damaged. All slots are read
     /// before the first damage is looked for, and room for them is taken first: 20 bytes a slot for as long as the value lives, and
-    /// while opening 16 more and two rows of at most 32 each.
+    /// while opening 28 more.
     ///
-    /// Where the used slots rise by number, and by first block in two runs at most, two passes show that no two of them meet: so additions
-    /// leave them, and slot pages too, which move the first packages behind the others. Else two rows of them, by their numbers and by their
-    /// first blocks, show it: linear in the slots where both lie close, in any order, and else n log n whatever stands in them. Where the rows
-    /// don't show it, two ordered maps find the first damage, which takes about ten times as long.
+    /// The used slots are put in order by first block and by number, and each is compared with the next, which shows that no two of them
+    /// meet: n log n whatever stands in them, and linear where they rise in a few runs, as additions leave them, and slot pages too, which
+    /// move the first packages after the others. Where that doesn't show it, two ordered maps find the first damage, which takes about ten
+    /// times as long.
     ///
     /// No package has the number 0.
     ///

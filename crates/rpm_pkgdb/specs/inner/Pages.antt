@@ -1,12 +1,14 @@
 -- A slot page that is planned.
-use Rattle.std.specs.Prelude.{◌≡◌, ℕ, ◌^◌, ◌<◌, ◌≤◌, List, length, true, Option, Some, None, Contains}
-use Rattle.rpm_pkgdb.specs.inner.Rows.{nth}
+use Rattle.std.specs.Prelude.{◌≡◌, ℕ, ◌^◌, ◌<◌, ◌≤◌, List, length, true, Option, Some, None, Contains, slice_index_or}
 use Rattle.rpm_pkgdb.specs.declared.slot.Slot.{Slot}
 use Rattle.rpm_pkgdb.specs.declared.page.Page.{Page}
 use Rattle.rpm_pkgdb.specs.Slots.{slot_at, is_used}
 use Rattle.rpm_pkgdb.specs.Undamaged.{AreSound}
 use Rattle.rpm_pkgdb.specs.Growing.{after_moves, AreMoves, AreBehind}
 use Rattle.rpm_pkgdb.specs.inner.Ranges.{AreRangesOf}
+
+abbrev pub nth : List ℕ → ℕ → ℕ
+nth places i = slice_index_or places i 0
 
 -- the slot at this place has the first of the used ranges, and it begins before this block
 pub record IsFirstBefore (slots : List Slot) (end place : ℕ) : Type 0 where

@@ -5,7 +5,7 @@ use Rattle.rpm_pkgdb.specs.declared.slot.Slot.{Slot}
 use Rattle.rpm_pkgdb.specs.Slots.{slots_in}
 use Rattle.rpm_pkgdb.specs.inner.Maps.{HasPlaces}
 use Rattle.rpm_pkgdb.specs.Pairs.{Index, find_in}
-use Rattle.rpm_pkgdb.specs.inner.Rows.{AllApart}
+use Rattle.rpm_pkgdb.specs.inner.Keys.{AllApart}
 use Rattle.rpm_pkgdb.specs.inner.Tables.{AreOwn, AreNumbered}
 use Rattle.rpm_pkgdb.proofs.Steps.{length-slots_in}
 use Rattle.rpm_pkgdb.proofs.TableLaws.{table_sound}
