@@ -8,7 +8,7 @@ use Rattle.rpm_pkgdb.specs.Blobs.{blocks_for}
 use Rattle.rpm_pkgdb.specs.Checksums.{adler}
 use Rattle.rpm_pkgdb.specs.Framing.{head_of, padding, tail_of, framed}
 use Rattle.rpm_pkgdb.proofs.FramingLaws.{length-head_of}
-use Rattle.rpm_pkgdb.specs.inner.Clear.{SameOutside}
+use Rattle.rpm_pkgdb.specs.Stays.{SameOutside}
 use Rattle.rpm_pkgdb.proofs.ClearLaws.{torn_outside, outside_then, outside_wider}
 use Rattle.rpm_pkgdb.proofs.PutParts.{put_append, units_of-append}
 

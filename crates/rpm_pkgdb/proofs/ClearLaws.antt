@@ -11,7 +11,8 @@ use Rattle.rpm_pkgdb.specs.Store.{Store}
 use Rattle.rpm_pkgdb.specs.Words.{word}
 use Rattle.rpm_pkgdb.specs.Undamaged.{AreApart, AreSound, IsSlotUnit, IsLawful, IsHeadUnit, IsMade, IsPlaced}
 use Rattle.rpm_pkgdb.proofs.Pairwise.{apart_swapped}
-use Rattle.rpm_pkgdb.specs.inner.Clear.{SameOutside, IsClear, IsPut}
+use Rattle.rpm_pkgdb.specs.Stays.{SameOutside}
+use Rattle.rpm_pkgdb.specs.inner.Clear.{IsClear, IsPut}
 use Rattle.rpm_pkgdb.specs.Quiet.{SameBlocks}
 
 -- ---- files

@@ -8,7 +8,8 @@ use Rattle.rpm_pkgdb.specs.Slots.{slot_at, is_used, end_of, free}
 use Rattle.rpm_pkgdb.specs.Store.{Store, Keeps}
 use Rattle.rpm_pkgdb.specs.Undamaged.{AreApart, AreSound, IsSlotUnit, IsMade}
 use Rattle.rpm_pkgdb.proofs.Made.{made, from_made}
-use Rattle.rpm_pkgdb.specs.inner.Clear.{SameOutside, IsClear}
+use Rattle.rpm_pkgdb.specs.Stays.{SameOutside}
+use Rattle.rpm_pkgdb.specs.inner.Clear.{IsClear}
 use Rattle.rpm_pkgdb.specs.Quiet.{SameBlocks, StandsAs, BeforeOrAfter, HasSlot, with_free}
 use Rattle.rpm_pkgdb.proofs.ClearLaws.{torn_one, put_length, sound_longer, set_here, set_other, free_sound, set_made, page_blocks, outside_made, outside_blocks}
 

@@ -7,7 +7,7 @@ use Rattle.rpm_pkgdb.specs.Slots.{slot_at}
 use Rattle.rpm_pkgdb.specs.Store.{Store}
 use Rattle.rpm_pkgdb.specs.Undamaged.{AreSound, IsSlotUnit, IsLawful, IsHeadUnit, IsMade}
 use Rattle.rpm_pkgdb.proofs.Made.{made, from_made}
-use Rattle.rpm_pkgdb.specs.inner.Clear.{SameOutside}
+use Rattle.rpm_pkgdb.specs.Stays.{SameOutside}
 use Rattle.rpm_pkgdb.specs.Quiet.{SameBlocks, StandsAs}
 use Rattle.rpm_pkgdb.proofs.ClearLaws.{torn_one, put_here, put_elsewhere, put_length, page_blocks}
 use Rattle.rpm_pkgdb.proofs.Erases.{blocks_then}

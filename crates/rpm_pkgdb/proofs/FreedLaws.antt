@@ -8,7 +8,7 @@ use Rattle.rpm_pkgdb.specs.declared.moving.Move.{Move}
 use Rattle.rpm_pkgdb.specs.Slots.{slot_at, is_used, end_of, free}
 use Rattle.rpm_pkgdb.specs.Freed.{HasBlock, AreFreed, KeepsBlank}
 use Rattle.rpm_pkgdb.specs.Growing.{moved}
-use Rattle.rpm_pkgdb.specs.inner.Clear.{SameOutside}
+use Rattle.rpm_pkgdb.specs.Stays.{SameOutside}
 use Rattle.rpm_pkgdb.specs.inner.Puts.{FieldPut, BlobPut}
 use Rattle.rpm_pkgdb.proofs.ClearLaws.{put_elsewhere}
 use Rattle.rpm_pkgdb.proofs.GrowLaws.{at_front}

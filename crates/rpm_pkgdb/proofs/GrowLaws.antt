@@ -16,7 +16,8 @@ use Rattle.rpm_pkgdb.proofs.BlobMaps.{same_get}
 use Rattle.rpm_pkgdb.specs.Undamaged.{AreApart, AreSound, IsSlotUnit, IsHeadUnit, IsMade, IsPlaced}
 use Rattle.rpm_pkgdb.proofs.Made.{made, from_made}
 use Rattle.rpm_pkgdb.proofs.Pairwise.{used_below}
-use Rattle.rpm_pkgdb.specs.inner.Clear.{SameOutside, IsClear}
+use Rattle.rpm_pkgdb.specs.Stays.{SameOutside}
+use Rattle.rpm_pkgdb.specs.inner.Clear.{IsClear}
 use Rattle.rpm_pkgdb.proofs.ClearLaws.{torn_one, put_here, put_elsewhere, put_length, outside_made, outside_blocks}
 use Rattle.rpm_pkgdb.specs.Quiet.{StandsAs, StandsFor, BeforeOrAfter}
 use Rattle.rpm_pkgdb.specs.inner.Grows.{with_page, CanGrow, HasFreePage}
@@ -45,7 +46,7 @@ none_free : (n m : ℕ) → slot_with n (replicate m free) ≡ None
 none_free n zero = refl
 none_free n (suc m) = none_free n m
 
-with_free_behind : (n m : ℕ) (slots : List Slot) → slot_with n (slots ++ replicate m free) ≡ slot_with n slots
+pub with_free_behind : (n m : ℕ) (slots : List Slot) → slot_with n (slots ++ replicate m free) ≡ slot_with n slots
 with_free_behind n m [] = none_free n m
 with_free_behind n m (s ∷ slots) = elim (cases_Bool (has_number n s)) [
   | inl holds ↦ rw holds refl

@@ -18,7 +18,7 @@ use Rattle.rpm_pkgdb.specs.BlobLaws.{get-blobs}
 use Rattle.rpm_pkgdb.proofs.Facts.{cases_Bool}
 use Rattle.rpm_pkgdb.specs.Undamaged.{AreSound, IsSlotUnit, IsHeadUnit, IsMade}
 use Rattle.rpm_pkgdb.proofs.Made.{from_made, made_pages}
-use Rattle.rpm_pkgdb.specs.inner.Clear.{SameOutside}
+use Rattle.rpm_pkgdb.specs.Stays.{SameOutside}
 use Rattle.rpm_pkgdb.proofs.ClearLaws.{torn_one, put_here, put_elsewhere, put_length}
 use Rattle.rpm_pkgdb.proofs.Places.{Search, Here, Nowhere, search_for}
 use Rattle.rpm_pkgdb.specs.Quiet.{IsQuiet, IsFirstPage}

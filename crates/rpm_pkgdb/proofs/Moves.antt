@@ -18,7 +18,8 @@ use Rattle.rpm_pkgdb.proofs.BlobMaps.{other_get, other_number}
 use Rattle.rpm_pkgdb.specs.Undamaged.{IsSlotUnit, IsMade}
 use Rattle.rpm_pkgdb.proofs.Made.{made}
 use Rattle.rpm_pkgdb.proofs.Places.{with_at}
-use Rattle.rpm_pkgdb.specs.inner.Clear.{SameOutside, Holds}
+use Rattle.rpm_pkgdb.specs.Stays.{SameOutside}
+use Rattle.rpm_pkgdb.specs.inner.Clear.{Holds}
 use Rattle.rpm_pkgdb.proofs.ClearLaws.{set_here}
 use Rattle.rpm_pkgdb.proofs.FramingLaws.{held_part}
 use Rattle.rpm_pkgdb.specs.Quiet.{StandsAs, StandsFor}

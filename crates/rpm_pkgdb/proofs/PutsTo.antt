@@ -35,7 +35,7 @@ module _ (st : Store) (target : Target) (g : ℕ) (old : Slot) (blob : List ℕ)
   used_new = (let low : target.start ≢ 0 = omega (arith, can.made, can.target_is.start.from_on) in grind (arith, nat_tests))
 
   -- the slot was free, or had the number
-  no_other : (m : ℕ) → m ≢ target.number → has_number m (slot_at st.slots k) ≡ false
+  pub no_other : (m : ℕ) → m ≢ target.number → has_number m (slot_at st.slots k) ≡ false
   no_other m differs = elim (cases_Bool (has_number m (slot_at st.slots k))) [
     | inr fails ↦ fails
     | inl holds ↦

@@ -9,7 +9,8 @@ use Rattle.rpm_pkgdb.specs.Slots.{slot_at, is_used, end_of, free}
 use Rattle.rpm_pkgdb.specs.Store.{Store}
 use Rattle.rpm_pkgdb.specs.Undamaged.{AreSound, IsSlotUnit, IsPlaced}
 use Rattle.rpm_pkgdb.proofs.Made.{made, from_made}
-use Rattle.rpm_pkgdb.specs.inner.Clear.{SameOutside, IsClear, Holds}
+use Rattle.rpm_pkgdb.specs.Stays.{SameOutside}
+use Rattle.rpm_pkgdb.specs.inner.Clear.{IsClear, Holds}
 use Rattle.rpm_pkgdb.proofs.ClearLaws.{torn_one, put_elsewhere, put_length, put_sound, set_made, outside_made, outside_blocks}
 use Rattle.rpm_pkgdb.specs.Quiet.{StandsAs}
 use Rattle.rpm_pkgdb.proofs.Erases.{blocks_then}

@@ -5,7 +5,7 @@ ghost use Rattle.rpm_outside.specs.declared.disk.File.TheVariants.{Pkg};
 ghost use Rattle.rpm_outside.specs.Files.{Files, unit_at};
 ghost use Rattle.rpm_outside.specs.Causes.{HasCause};
 ghost use Rattle.rpm_outside.specs.Changes.{Changes};
-ghost use Rattle.rpm_pkgdb.specs.inner.Clear.{SameOutside};
+ghost use Rattle.rpm_pkgdb.specs.Stays.{SameOutside};
 
 use crate::reading::read_units;
 use crate::writing::write_units;

@@ -11,6 +11,7 @@ ghost use Rattle.rpm_pkgdb.specs.Store.{Keeps};
 ghost use Rattle.rpm_pkgdb.specs.Blobs.{blobs};
 ghost use Rattle.rpm_outside.specs.Changes.{Changes, Stops};
 ghost use Rattle.rpm_pkgdb.specs.Quiet.{IsQuiet, StandsFor, Anything};
+ghost use Rattle.rpm_pkgdb.specs.Stays.{OthersStay};
 ghost use Rattle.rpm_pkgdb.specs.Written.{stopped, erased, AreZeros, ErasesTo};
 
 use crate::erasing::{FREE, free_slot};
@@ -37,6 +38,7 @@ impl PkgDb {
         ensures err { OnErr result (self.new ≡ stopped self.old) }
         ensures kept { OnOk result (IsTrue D.tells → Keeps (D.files disk.new).pkg self.new) }
         ensures blobs { OnOk result (IsTrue D.tells → blobs (D.files disk.new).pkg self.new ≡ finite.remove (blobs (D.files disk.old).pkg self.old) n) }
+        ensures others { OnOk result (IsTrue D.tells → OthersStay n self.old (D.files disk.old).pkg self.new (D.files disk.new).pkg) }
         ensures zeros { OnOk result (IsTrue D.tells → AreZeros (slot_with n self.old.slots) (D.files disk.new).pkg) }
         ensures images { IsTrue D.tells → IsQuiet self.old (D.files disk.old) (D.left_since disk.old (D.moment disk.old)) → LeavesOnly D.moment
             D.left_since disk.old disk.new (Stops Pkg (ErasesTo self.old n (D.files disk.old).pkg) (D.left_since disk.old (D.moment disk.old))) }

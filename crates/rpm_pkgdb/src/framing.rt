@@ -8,7 +8,7 @@ ghost use Rattle.rpm_pkgdb.specs.Blobs.{blocks_for};
 ghost use Rattle.rpm_pkgdb.specs.Checksums.{adler};
 ghost use Rattle.rpm_pkgdb.specs.Framing.{head_of, tail_of, padding, summed, framed};
 ghost use Rattle.rpm_outside.specs.Changes.{Changes};
-ghost use Rattle.rpm_pkgdb.specs.inner.Clear.{SameOutside};
+ghost use Rattle.rpm_pkgdb.specs.Stays.{SameOutside};
 
 use crate::checksum::sums;
 use crate::units::{blob_head, blob_tail};

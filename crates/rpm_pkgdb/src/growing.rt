@@ -7,7 +7,7 @@ ghost use Rattle.rpm_outside.specs.Causes.{HasCause};
 ghost use Rattle.rpm_outside.specs.Crash.{LeavesOnly};
 ghost use Rattle.rpm_pkgdb.specs.Store.{Store, Keeps};
 ghost use Rattle.rpm_outside.specs.Changes.{Changes, Stops, IsSettled};
-ghost use Rattle.rpm_pkgdb.specs.inner.Clear.{SameOutside};
+ghost use Rattle.rpm_pkgdb.specs.Stays.{SameOutside, AllStay};
 ghost use Rattle.rpm_pkgdb.specs.Quiet.{IsQuiet, Anything, BeforeOrAfter, StandsAs, StandsFor};
 ghost use Rattle.rpm_pkgdb.specs.Blobs.{blobs};
 ghost use Rattle.rpm_pkgdb.specs.Growing.{CanAdd, grown, moving_cost, next_end};
@@ -62,6 +62,7 @@ impl PkgDb {
         requires keeps { IsTrue D.tells → Keeps (D.files disk.old).pkg self.now }
         ensures kept { OnOk result (IsTrue D.tells → Keeps (D.files disk.new).pkg (grown (Some moves.now) self.now)) }
         ensures blobs { OnOk result (IsTrue D.tells → blobs (D.files disk.new).pkg (grown (Some moves.now) self.now) ≡ blobs (D.files disk.old).pkg self.now) }
+        ensures others { OnOk result (IsTrue D.tells → AllStay self.now (D.files disk.old).pkg (grown (Some moves.now) self.now) (D.files disk.new).pkg) }
         ensures freed { OnOk result (IsTrue D.tells → AreFreed (next_end self.now) self.now.slots (grown (Some moves.now) self.now).slots
             (D.files disk.new).pkg) }
         ensures images { IsTrue D.tells → IsQuiet self.now (D.files disk.old) (D.left_since disk.old (D.moment disk.old)) → LeavesOnly D.moment
@@ -85,6 +86,7 @@ impl PkgDb {
         ensures kept { OnOk result (IsTrue D.tells → Keeps (D.files disk.new).pkg (grown (moves_of page.now) self.now)) }
         ensures blobs { OnOk result (IsTrue D.tells → blobs (D.files disk.new).pkg (grown (moves_of page.now) self.now) ≡ blobs (D.files disk.old).pkg
             self.now) }
+        ensures others { OnOk result (IsTrue D.tells → AllStay self.now (D.files disk.old).pkg (grown (moves_of page.now) self.now) (D.files disk.new).pkg) }
         ensures freed { OnOk result (IsTrue D.tells → AreFreed (256 * (grown (moves_of page.now) self.now).pages) self.now.slots
             (grown (moves_of page.now) self.now).slots (D.files disk.new).pkg) }
         ensures images { IsTrue D.tells → IsQuiet self.now (D.files disk.old) (D.left_since disk.old (D.moment disk.old)) → LeavesOnly D.moment

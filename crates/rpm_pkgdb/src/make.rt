@@ -10,7 +10,7 @@ ghost use Rattle.rpm_pkgdb.specs.Slots.{free};
 ghost use Rattle.rpm_pkgdb.specs.Store.{Store, Keeps, is_blank};
 ghost use Rattle.rpm_pkgdb.specs.Blobs.{blobs};
 ghost use Rattle.rpm_outside.specs.Changes.{Changes, Stops, IsSettled};
-ghost use Rattle.rpm_pkgdb.specs.inner.Clear.{SameOutside};
+ghost use Rattle.rpm_pkgdb.specs.Stays.{SameOutside};
 ghost use Rattle.rpm_pkgdb.specs.Quiet.{IsQuiet, Anything, IsFirstPage};
 ghost use Rattle.rpm_pkgdb.specs.Written.{stopped, made_new, MakesTo};
 

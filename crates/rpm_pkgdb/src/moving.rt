@@ -10,7 +10,7 @@ ghost use Rattle.rpm_pkgdb.specs.Blobs.{blobs};
 ghost use Rattle.rpm_pkgdb.specs.inner.MoveLists.{AreMovesOf, IsMovable, with_moves, move_at};
 ghost use Rattle.rpm_pkgdb.specs.Store.{Store, Keeps};
 ghost use Rattle.rpm_outside.specs.Changes.{Stops, IsSettled, Changes};
-ghost use Rattle.rpm_pkgdb.specs.inner.Clear.{SameOutside};
+ghost use Rattle.rpm_pkgdb.specs.Stays.{SameOutside, AllStay};
 ghost use Rattle.rpm_pkgdb.specs.Quiet.{IsQuiet, StandsFor};
 ghost use Rattle.rpm_pkgdb.specs.inner.Settings.{NoShorter, CanMove, StandsSet, WhileMoved, blocks_of, with_slot};
 ghost use Rattle.rpm_pkgdb.specs.Growing.{moved, moving_cost, next_end};
@@ -98,6 +98,8 @@ pub fn move_all<D: Disk>(
         → Keeps (D.files disk.old).pkg value → Keeps (D.files disk.new).pkg (with_moves value moves.now)) }
     ensures blobs { OnOk result (IsTrue D.tells → (value : Store) → 1 ≤ value.pages → value.slots ≡ slots.now → AreMovesOf value moves.now
         → Keeps (D.files disk.old).pkg value → blobs (D.files disk.new).pkg (with_moves value moves.now) ≡ blobs (D.files disk.old).pkg value) }
+    ensures others { OnOk result (IsTrue D.tells → (value : Store) → 1 ≤ value.pages → value.slots ≡ slots.now → AreMovesOf value moves.now
+        → Keeps (D.files disk.old).pkg value → AllStay value (D.files disk.old).pkg (with_moves value moves.now) (D.files disk.new).pkg) }
     ensures zeros { OnOk result (IsTrue D.tells → (value : Store) → 1 ≤ value.pages → value.slots ≡ slots.now → AreMovesOf value moves.now
         → Keeps (D.files disk.old).pkg value → zeros_from ≡ next_end value → AreFreed (next_end value) value.slots (with_moves value moves.now).slots
         (D.files disk.new).pkg) }

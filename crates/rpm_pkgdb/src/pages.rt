@@ -6,7 +6,7 @@ ghost use Rattle.rpm_outside.specs.Files.{Files, unit_at};
 ghost use Rattle.rpm_outside.specs.Causes.{HasCause};
 ghost use Rattle.rpm_pkgdb.specs.Slots.{free};
 ghost use Rattle.rpm_outside.specs.Changes.{Changes};
-ghost use Rattle.rpm_pkgdb.specs.inner.Clear.{SameOutside};
+ghost use Rattle.rpm_pkgdb.specs.Stays.{SameOutside};
 ghost use Rattle.rpm_pkgdb.specs.Undamaged.{IsSlotUnit};
 
 use crate::erasing::FREE;

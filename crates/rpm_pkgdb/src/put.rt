@@ -19,6 +19,7 @@ ghost use Rattle.rpm_pkgdb.specs.Growing.{grown, moving_cost};
 ghost use Rattle.rpm_pkgdb.specs.Planned.{IsPlan, HoldsPage, moves_of};
 ghost use Rattle.rpm_pkgdb.specs.Placing.{put_in, replaced_by};
 ghost use Rattle.rpm_pkgdb.specs.Freed.{AreFreed};
+ghost use Rattle.rpm_pkgdb.specs.Stays.{OthersStay};
 ghost use Rattle.rpm_pkgdb.specs.Written.{with_blob, with_plan, PutsTo, stopped, with_spare, AreZeros};
 ghost use Rattle.rpm_pkgdb.specs.inner.MoveLists.{CanGrowBy};
 
@@ -100,6 +101,8 @@ impl PkgDb {
         ensures kept { OnOk result (IsTrue D.tells → Keeps (D.files disk.new).pkg (with_plan plan.now self.now)) }
         ensures blobs { OnOk result (IsTrue D.tells → blobs (D.files disk.new).pkg (with_plan plan.now self.now)
             ≡ finite.insert (blobs (D.files disk.old).pkg self.now) plan.now.target.number (Some blob.now)) }
+        ensures others { OnOk result (IsTrue D.tells → OthersStay plan.now.target.number self.now (D.files disk.old).pkg (with_plan plan.now self.now)
+            (D.files disk.new).pkg) }
         ensures framed { OnOk result (IsTrue D.tells → take (blocks_for (length blob.now)) (drop plan.now.target.start (D.files disk.new).pkg)
             ≡ units_of (framed plan.now.target.number self.now.generation blob.now)) }
         ensures zeros { OnOk result (IsTrue D.tells → AreZeros (slot_with plan.now.target.number self.now.slots) (D.files disk.new).pkg) }
@@ -172,6 +175,7 @@ impl PkgDb {
         ensures kept { OnOk result (IsTrue D.tells → Keeps (D.files disk.new).pkg self.new) }
         ensures blobs { OnOk result (IsTrue D.tells → blobs (D.files disk.new).pkg self.new ≡ finite.insert (blobs (D.files disk.old).pkg self.old)
             plan.target.number (Some blob.now)) }
+        ensures others { OnOk result (IsTrue D.tells → OthersStay plan.target.number self.old (D.files disk.old).pkg self.new (D.files disk.new).pkg) }
         ensures framed { OnOk result (IsTrue D.tells → take (blocks_for (length blob.now)) (drop plan.target.start (D.files disk.new).pkg)
             ≡ units_of (framed plan.target.number self.old.generation blob.now)) }
         ensures zeros { OnOk result (IsTrue D.tells → AreZeros (slot_with plan.target.number self.old.slots) (D.files disk.new).pkg) }

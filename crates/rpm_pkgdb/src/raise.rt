@@ -9,6 +9,7 @@ ghost use Rattle.rpm_pkgdb.specs.Store.{Keeps};
 ghost use Rattle.rpm_pkgdb.specs.Blobs.{blobs};
 ghost use Rattle.rpm_outside.specs.Changes.{Changes, Stops};
 ghost use Rattle.rpm_pkgdb.specs.Quiet.{IsQuiet, Anything};
+ghost use Rattle.rpm_pkgdb.specs.Stays.{SameOutside, AllStay};
 ghost use Rattle.rpm_pkgdb.specs.Written.{stopped, with_generation, RaisesTo};
 
 use crate::store::{DiskFault, PkgDb};
@@ -19,8 +20,8 @@ use rpm_outside::Disk;
 impl PkgDb {
     /// Adds one to the generation.
     ///
-    /// Writes unit 0 and syncs; reads nothing and takes no memory. Packages and their numbers stay, also in what a stop leaves, which
-    /// has the generation from before or the new one.
+    /// Writes unit 0 alone and syncs; reads nothing and takes no memory. Packages and their numbers stay, byte for byte, also in what a
+    /// stop leaves, which has the generation from before or the new one.
     ///
     /// # Errors
     ///
@@ -34,11 +35,13 @@ impl PkgDb {
         ensures err { OnErr result (self.new ≡ stopped self.old) }
         ensures kept { OnOk result (IsTrue D.tells → Keeps (D.files disk.new).pkg self.new) }
         ensures blobs { OnOk result (IsTrue D.tells → blobs (D.files disk.new).pkg self.new ≡ blobs (D.files disk.old).pkg self.old) }
+        ensures others { OnOk result (IsTrue D.tells → AllStay self.old (D.files disk.old).pkg self.new (D.files disk.new).pkg) }
         ensures images { IsTrue D.tells → IsQuiet self.old (D.files disk.old) (D.left_since disk.old (D.moment disk.old)) → LeavesOnly D.moment
             D.left_since disk.old disk.new (Stops Pkg (RaisesTo self.old (self.old.generation + 1) (D.files disk.old).pkg)
             (D.left_since disk.old (D.moment disk.old))) }
         ensures quiet { OnOk result (IsTrue D.tells → IsQuiet self.new (D.files disk.new) (D.left_since disk.new (D.moment disk.new))) }
         ensures changes { Changes D.tells D.files D.left_since D.moment D.bytes_read D.follows Pkg Anything 0 disk.old disk.new }
+        ensures alone { Changes D.tells D.files D.left_since D.moment D.bytes_read D.follows Pkg (SameOutside 0 1) 0 disk.old disk.new }
         ensures cause { HasCause (D.faults disk.old) (D.faults disk.new) result }
     {
         let generation = self.generation + 1;

@@ -6,7 +6,7 @@ ghost use Rattle.rpm_outside.specs.Files.{Files, Units, units_of, unit_at, put, 
 ghost use Rattle.rpm_outside.specs.Causes.{HasCause};
 ghost use Rattle.rpm_outside.specs.Crash.{Torn};
 ghost use Rattle.rpm_outside.specs.Changes.{Changes, IsSettled, IsSame};
-ghost use Rattle.rpm_pkgdb.specs.inner.Clear.{SameOutside};
+ghost use Rattle.rpm_pkgdb.specs.Stays.{SameOutside};
 
 use rpm_outside::{Disk, Failed, File};
 

@@ -4,12 +4,6 @@ use Rattle.rpm_outside.specs.Files.{Units, unit_at, put}
 use Rattle.rpm_pkgdb.specs.Slots.{slot_at, is_used, end_of}
 use Rattle.rpm_pkgdb.specs.Store.{Store}
 
--- the units outside a range are as before, and the file didn't get shorter
-pub record SameOutside (at n : ℕ) (old new : Units) : Type 0 where
-  pub below : (i : ℕ) → i < at → unit_at new i ≡ unit_at old i
-  pub above : (i : ℕ) → at + n ≤ i → unit_at new i ≡ unit_at old i
-  pub no_shorter : length old ≤ length new
-
 -- a range behind the slot pages in which no used slot has a block
 pub record IsClear (store : Store) (at n : ℕ) : Type 0 where
   pub behind : 256 * store.pages ≤ at

@@ -7,7 +7,7 @@ use Rattle.rpm_pkgdb.specs.declared.plan.Target.{Target}
 use Rattle.rpm_pkgdb.specs.Words.{word}
 use Rattle.rpm_pkgdb.specs.Slots.{slot_at, free}
 use Rattle.rpm_pkgdb.specs.Store.{Store}
-use Rattle.rpm_pkgdb.specs.inner.Clear.{SameOutside}
+use Rattle.rpm_pkgdb.specs.Stays.{SameOutside}
 use Rattle.rpm_pkgdb.specs.Framing.{framed}
 use Rattle.rpm_pkgdb.specs.Plans.{IsTarget, slot_for}
 use Rattle.rpm_pkgdb.specs.Quiet.{StandsAs}

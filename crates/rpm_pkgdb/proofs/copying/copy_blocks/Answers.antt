@@ -5,7 +5,7 @@ use Rattle.rpm_outside.specs.inner.Cuts.{length-cut_up}
 use Rattle.rpm_outside.specs.declared.disk.File.TheVariants.{Pkg}
 use Rattle.rpm_outside.specs.inner.Looking.{looks_more}
 use Rattle.std.proofs.lemmas.List.{length-take}
-use Rattle.rpm_pkgdb.specs.inner.Clear.{SameOutside}
+use Rattle.rpm_pkgdb.specs.Stays.{SameOutside}
 use Rattle.rpm_pkgdb.proofs.ClearLaws.{outside_refl, outside_then}
 use Rattle.rpm_pkgdb.proofs.Changing.{copies_from, copies_looks, copies_then}
 use Rattle.rpm_pkgdb.proofs.CopyParts.{part_count, copied_more, longer_more, part_within}

@@ -2,7 +2,7 @@ use Rattle.rpm_outside.specs.declared.disk.File.TheVariants.{Pkg}
 use Rattle.std.proofs.Common.{◌≡◌, ℕ, ◌-◌, ◌+◌, ◌*◌, ◌<◌, ◌≤◌, IsTrue, length}
 use Rattle.rpm_outside.specs.Files.{unit_at}
 use Rattle.rpm_outside.specs.Changes.{Changes}
-use Rattle.rpm_pkgdb.specs.inner.Clear.{SameOutside}
+use Rattle.rpm_pkgdb.specs.Stays.{SameOutside}
 use Rattle.rpm_pkgdb.proofs.copying.copy_blocks.Given as goal
 
 abbrev pub invariant-loop-done : goal.invariant-loop-done

@@ -2,7 +2,7 @@ use Rattle.std.proofs.Common.{◌+◌, [], ◌∷◌, refl, inr}
 use Rattle.rpm_outside.specs.Crash.{Torn}
 use Rattle.rpm_pkgdb.specs.Store.{Keeps}
 use Rattle.rpm_pkgdb.proofs.Changing.{on_ok, changes_then, stops_from, stops_then}
-use Rattle.rpm_pkgdb.specs.inner.Clear.{SameOutside}
+use Rattle.rpm_pkgdb.specs.Stays.{SameOutside}
 use Rattle.rpm_pkgdb.specs.Quiet.{BeforeOrAfter, with_free, Anything}
 use Rattle.rpm_pkgdb.proofs.Erases.{while_freed, freed, zeroed, stands_by}
 use Rattle.rpm_pkgdb.proofs.erasing.free_slot.Goals as goal

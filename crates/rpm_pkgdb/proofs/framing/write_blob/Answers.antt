@@ -5,7 +5,7 @@ use Rattle.rpm_outside.specs.Crash.{Torn}
 use Rattle.rpm_outside.specs.inner.Puts.{length-put}
 use Rattle.rpm_pkgdb.specs.Blobs.{blocks_for}
 use Rattle.rpm_pkgdb.proofs.Changing.{map_ok, changes_weaker, changes_then}
-use Rattle.rpm_pkgdb.specs.inner.Clear.{SameOutside}
+use Rattle.rpm_pkgdb.specs.Stays.{SameOutside}
 use Rattle.rpm_pkgdb.proofs.BlobWrites.{count-head, parts_written, head_within, front_within, last_within}
 use Rattle.rpm_pkgdb.proofs.framing.write_blob.Goals as goal
 

@@ -5,7 +5,7 @@ use Rattle.rpm_outside.specs.Files.{Units, units_of, put}
 use Rattle.rpm_outside.specs.Crash.{Torn}
 use Rattle.rpm_outside.specs.inner.Cuts.{length-cut_up}
 use Rattle.rpm_pkgdb.proofs.Changing.{changes_weaker}
-use Rattle.rpm_pkgdb.specs.inner.Clear.{SameOutside}
+use Rattle.rpm_pkgdb.specs.Stays.{SameOutside}
 use Rattle.rpm_pkgdb.proofs.ClearLaws.{torn_outside}
 use Rattle.rpm_pkgdb.proofs.PutParts.{put_nothing}
 use Rattle.rpm_pkgdb.proofs.framing.write_some.Goals as goal

@@ -6,7 +6,7 @@ use Rattle.rpm_pkgdb.specs.Store.{Store, Keeps}
 use Rattle.rpm_pkgdb.specs.Undamaged.{IsHeadUnit}
 use Rattle.rpm_outside.specs.Changes.{IsSettled}
 use Rattle.rpm_pkgdb.proofs.Changing.{map_ok, both_ok, changes_then, stops_from, stops_then}
-use Rattle.rpm_pkgdb.specs.inner.Clear.{SameOutside}
+use Rattle.rpm_pkgdb.specs.Stays.{SameOutside}
 use Rattle.rpm_pkgdb.specs.Quiet.{StandsAs, Anything, BeforeOrAfter}
 use Rattle.rpm_pkgdb.proofs.Erases.{stands_by}
 use Rattle.rpm_pkgdb.specs.inner.Grows.{with_page, CanGrow, HasFreePage}

@@ -1,7 +1,7 @@
 use Rattle.std.proofs.Common.{◌*◌, sym, subst}
 use Rattle.rpm_outside.specs.Changes.{IsSame}
 use Rattle.rpm_pkgdb.proofs.Changing.{changes_then}
-use Rattle.rpm_pkgdb.specs.inner.Clear.{SameOutside}
+use Rattle.rpm_pkgdb.specs.Stays.{SameOutside}
 use Rattle.rpm_pkgdb.proofs.growing.write_free_page.Goals as goal
 
 pub returns-clause-changes : goal.returns-clause-changes

@@ -7,7 +7,7 @@ use Rattle.rpm_pkgdb.specs.Slots.{free}
 use Rattle.rpm_pkgdb.specs.Undamaged.{IsSlotUnit}
 use Rattle.rpm_outside.specs.Changes.{IsSame}
 use Rattle.rpm_pkgdb.proofs.Changing.{on_ok, changes_weaker, changes_then}
-use Rattle.rpm_pkgdb.specs.inner.Clear.{SameOutside}
+use Rattle.rpm_pkgdb.specs.Stays.{SameOutside}
 use Rattle.rpm_pkgdb.proofs.ClearLaws.{torn_outside, outside_then, outside_wider, put_here}
 use Rattle.rpm_pkgdb.proofs.make.write_first_page.Goals as goal
 

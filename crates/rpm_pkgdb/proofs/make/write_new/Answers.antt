@@ -5,7 +5,7 @@ use Rattle.rpm_outside.specs.Crash.{Torn}
 use Rattle.rpm_pkgdb.specs.Store.{is_blank}
 use Rattle.rpm_outside.specs.Changes.{IsSettled}
 use Rattle.rpm_pkgdb.proofs.Changing.{map_ok, both_ok, changes_then, stops_from, stops_then}
-use Rattle.rpm_pkgdb.specs.inner.Clear.{SameOutside}
+use Rattle.rpm_pkgdb.specs.Stays.{SameOutside}
 use Rattle.rpm_pkgdb.specs.Quiet.{Anything, IsFirstPage}
 use Rattle.rpm_pkgdb.specs.Written.{MakesTo}
 use Rattle.rpm_pkgdb.proofs.Makes.{says_blank, blank_after, while_first, while_headed, new_keeps, new_quiet}

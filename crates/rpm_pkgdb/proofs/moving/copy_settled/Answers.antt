@@ -1,7 +1,7 @@
 use Rattle.std.proofs.Common.{◌*◌, sym, subst, arith}
 use Rattle.rpm_outside.specs.Changes.{IsSame}
 use Rattle.rpm_pkgdb.proofs.Changing.{copies_from, copies_then}
-use Rattle.rpm_pkgdb.specs.inner.Clear.{SameOutside}
+use Rattle.rpm_pkgdb.specs.Stays.{SameOutside}
 use Rattle.rpm_pkgdb.proofs.moving.copy_settled.Goals as goal
 
 pub returns-clause-copies : goal.returns-clause-copies

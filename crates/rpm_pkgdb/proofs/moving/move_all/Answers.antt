@@ -15,6 +15,8 @@ use Rattle.rpm_pkgdb.specs.Growing.{moving_cost}
 use Rattle.rpm_pkgdb.specs.inner.MoveLists.{with_moves, move_at}
 use Rattle.rpm_pkgdb.proofs.MoveSteps.{old_slot, cost_to, cost_more, cost_few, stands_for_same, current, next, old, kept, can_move, then_after}
 use Rattle.rpm_pkgdb.proofs.FreedMoves.{freed_then}
+use Rattle.rpm_pkgdb.specs.Stays.{blocks_with, AllStay}
+use Rattle.rpm_pkgdb.proofs.StayLaws.{moved_stay}
 use Rattle.rpm_pkgdb.proofs.moving.move_all.Goals as goal
 
 pub loop-k-init : goal.loop-k-init
@@ -24,6 +26,7 @@ loop-k-init g c =
     record {
       keeps = λ told value some same are keeps. keeps;
       blobs_are = λ told value some same are keeps. refl;
+      others = λ told value some same are keeps n. refl;
       zeros = λ told value some same are keeps from_is i has from not. absurd (not has);
       images = λ told value some same are quiet.
           let P = StandsFor value.generation value.field (blobs (D.files d).pkg value) in
@@ -108,6 +111,15 @@ loop-k-preserved g c =
           ap (blobs F2) (then_after value slots moves k some same are lt)
           ∙ moved_map u m.place o m.to can F1 keeps1 F2 (c.in_ok-move_blocks.ensures.stands told u can keeps1)
           ∙ l.invariant.blobs_are told value some same are keeps0;
+      others = λ told value some same are keeps0 n.
+          let u = current value slots moves k some same are lt in
+          let m = next value slots moves k some same are lt in
+          let o = old value slots moves k some same are lt in
+          let can = can_move value slots moves k some same are lt in
+          let keeps1 : Keeps F1 u = l.invariant.keeps told value some same are keeps0 in
+          ap (λ (v : Store). blocks_with n v F2) (then_after value slots moves k some same are lt)
+          ∙ moved_stay u m.place o m.to can F1 keeps1 F2 (c.in_ok-move_blocks.ensures.stands told u can keeps1) n
+          ∙ l.invariant.others told value some same are keeps0 n;
       zeros = λ told value some same are keeps0 from_is.
           freed_then value slots moves k some same are lt c.args.zeros_from from_is F0 F1 F2 keeps0 (l.invariant.zeros told value some same are keeps0 from_is)
           (c.in_ok-move_blocks.ensures.zeros told) (c.in_ok-move_blocks.ensures.blanks told);
@@ -140,6 +152,15 @@ loop-k-preserved g c =
           (λ x y r. r) (λ x y z r q. omega (arith, r, q)) l.invariant.copies c.move_blocks.ensures.copies;
       faults = omega (arith, l.invariant.faults, c.move_blocks.ensures.cause.later);
     }
+
+pub returns-clause-others : goal.returns-clause-others
+returns-clause-others g c = λ told value some same are keeps.
+    let D = g.D.Disk in
+    let l = c.loop-k in
+    let moves = c.args.moves.now in
+    let all : take l.k moves ≡ moves = take_all l.k moves (omega arith) in
+    subst (λ (ms : List Move). AllStay value (D.files c.args.disk.now).pkg (with_moves value ms) (D.files l.disk).pkg) all
+    (l.invariant.others told value some same are keeps)
 
 pub returns-clause-quiet : goal.returns-clause-quiet
 returns-clause-quiet g c = λ told value some same are quiet.

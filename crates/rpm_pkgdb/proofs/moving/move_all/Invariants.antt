@@ -9,6 +9,7 @@ use Rattle.rpm_pkgdb.specs.Quiet.{IsQuiet, StandsFor}
 use Rattle.rpm_pkgdb.specs.inner.Settings.{NoShorter}
 use Rattle.rpm_pkgdb.specs.Growing.{moving_cost, next_end}
 use Rattle.rpm_pkgdb.specs.Freed.{AreFreed}
+use Rattle.rpm_pkgdb.specs.Stays.{AllStay}
 use Rattle.rpm_pkgdb.specs.inner.MoveLists.{AreMovesOf, with_moves}
 use Rattle.rpm_pkgdb.proofs.moving.move_all.Given as goal
 
@@ -21,6 +22,8 @@ invariant-loop-k g l =
           → Keeps (D.files l.disk).pkg (with_moves value (take l.k l.moves));
       blobs_are : IsTrue D.tells → (value : Store) → 1 ≤ value.pages → value.slots ≡ l.slots → AreMovesOf value l.moves → Keeps (D.files old).pkg value
           → blobs (D.files l.disk).pkg (with_moves value (take l.k l.moves)) ≡ blobs (D.files old).pkg value;
+      others : IsTrue D.tells → (value : Store) → 1 ≤ value.pages → value.slots ≡ l.slots → AreMovesOf value l.moves → Keeps (D.files old).pkg value
+          → AllStay value (D.files old).pkg (with_moves value (take l.k l.moves)) (D.files l.disk).pkg;
       zeros : IsTrue D.tells → (value : Store) → 1 ≤ value.pages → value.slots ≡ l.slots → AreMovesOf value l.moves → Keeps (D.files old).pkg value
           → l.zeros_from ≡ next_end value → AreFreed (next_end value) value.slots (with_moves value (take l.k l.moves)).slots (D.files l.disk).pkg;
       images : IsTrue D.tells → (value : Store) → 1 ≤ value.pages → value.slots ≡ l.slots → AreMovesOf value l.moves

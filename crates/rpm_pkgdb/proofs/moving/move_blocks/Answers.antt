@@ -5,7 +5,8 @@ use Rattle.rpm_pkgdb.specs.Store.{Keeps}
 use Rattle.rpm_pkgdb.proofs.Changing.{on_ok, map_ok, stops_from, copies_from, copies_weaker, copies_then, copies_stops_from, copies_stops_then}
 use Rattle.rpm_pkgdb.proofs.FreedLaws.{moved_blank}
 use Rattle.rpm_outside.specs.Files.{unit_at, blank}
-use Rattle.rpm_pkgdb.specs.inner.Clear.{SameOutside, Holds}
+use Rattle.rpm_pkgdb.specs.Stays.{SameOutside}
+use Rattle.rpm_pkgdb.specs.inner.Clear.{Holds}
 use Rattle.rpm_pkgdb.specs.Quiet.{Anything}
 use Rattle.rpm_pkgdb.specs.inner.Settings.{NoShorter, WhileMoved, blocks_of}
 use Rattle.rpm_pkgdb.proofs.Moves.{move_set, held_after, while_copied, while_slot_moved, while_old_zeroed, moved_alike}

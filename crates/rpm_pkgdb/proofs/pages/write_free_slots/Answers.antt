@@ -3,7 +3,7 @@ use Rattle.rpm_outside.specs.Files.{units_of, put}
 use Rattle.rpm_outside.specs.Crash.{Torn}
 use Rattle.rpm_outside.specs.inner.Puts.{length-put}
 use Rattle.rpm_pkgdb.proofs.Changing.{map_ok, changes_weaker}
-use Rattle.rpm_pkgdb.specs.inner.Clear.{SameOutside}
+use Rattle.rpm_pkgdb.specs.Stays.{SameOutside}
 use Rattle.rpm_pkgdb.proofs.ClearLaws.{torn_outside}
 use Rattle.rpm_pkgdb.proofs.FreePages.{front_count, slots_written}
 use Rattle.rpm_pkgdb.proofs.pages.write_free_slots.Goals as goal

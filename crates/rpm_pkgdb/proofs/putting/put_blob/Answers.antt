@@ -11,7 +11,7 @@ use Rattle.rpm_pkgdb.specs.Framing.{framed}
 use Rattle.rpm_pkgdb.proofs.FramingLaws.{count-framed}
 use Rattle.rpm_pkgdb.proofs.FreedLaws.{put_blank_all}
 use Rattle.rpm_pkgdb.proofs.Changing.{on_ok, map_ok, changes_then, stops_from, stops_then}
-use Rattle.rpm_pkgdb.specs.inner.Clear.{SameOutside}
+use Rattle.rpm_pkgdb.specs.Stays.{SameOutside}
 use Rattle.rpm_pkgdb.specs.Quiet.{Anything}
 use Rattle.rpm_pkgdb.specs.Plans.{slot_for}
 use Rattle.rpm_pkgdb.specs.inner.Puts.{BlobTorn, WhilePut}

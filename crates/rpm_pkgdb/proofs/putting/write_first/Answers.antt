@@ -2,7 +2,7 @@ use Rattle.std.proofs.Common.{ℕ, Option, length, sym, subst}
 use Rattle.rpm_pkgdb.specs.Blobs.{blocks_for}
 use Rattle.rpm_outside.specs.Changes.{IsSame}
 use Rattle.rpm_pkgdb.proofs.Changing.{changes_then, changes_weaker}
-use Rattle.rpm_pkgdb.specs.inner.Clear.{SameOutside}
+use Rattle.rpm_pkgdb.specs.Stays.{SameOutside}
 use Rattle.rpm_pkgdb.specs.inner.Puts.{FieldTorn, BlobTorn}
 use Rattle.rpm_pkgdb.specs.Written.{next_field}
 use Rattle.rpm_pkgdb.proofs.FieldLaws.{blocks_torn, then_field}

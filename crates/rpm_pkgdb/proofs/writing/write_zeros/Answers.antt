@@ -3,7 +3,7 @@ use Rattle.std.proofs.lemmas.List.{length-take, length-replicate}
 use Rattle.rpm_outside.specs.Files.{Units, units_of}
 use Rattle.rpm_outside.specs.Crash.{Torn}
 use Rattle.rpm_outside.specs.inner.Cuts.{length-cut_up}
-use Rattle.rpm_pkgdb.specs.inner.Clear.{SameOutside}
+use Rattle.rpm_pkgdb.specs.Stays.{SameOutside}
 use Rattle.rpm_pkgdb.proofs.ClearLaws.{torn_outside, outside_then, outside_wider}
 use Rattle.rpm_pkgdb.proofs.Changing.{changes_then}
 use Rattle.rpm_pkgdb.proofs.Zeros.{zeros, zeros_more}

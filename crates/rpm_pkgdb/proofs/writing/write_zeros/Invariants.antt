@@ -2,7 +2,7 @@ use Rattle.rpm_outside.specs.declared.disk.File.TheVariants.{Pkg}
 use Rattle.std.proofs.Common.{◌≡◌, ℕ, ◌-◌, ◌<◌, ◌≤◌, IsTrue}
 use Rattle.rpm_outside.specs.Files.{unit_at, blank}
 use Rattle.rpm_outside.specs.Changes.{Changes}
-use Rattle.rpm_pkgdb.specs.inner.Clear.{SameOutside}
+use Rattle.rpm_pkgdb.specs.Stays.{SameOutside}
 use Rattle.rpm_pkgdb.proofs.writing.write_zeros.Given as goal
 
 abbrev pub invariant-loop-next : goal.invariant-loop-next

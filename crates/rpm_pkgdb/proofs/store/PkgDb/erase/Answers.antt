@@ -10,7 +10,9 @@ use Rattle.rpm_pkgdb.proofs.RangeLaws.{freed_used}
 use Rattle.rpm_pkgdb.specs.inner.Ranges.{Forgets}
 use Rattle.rpm_pkgdb.specs.Quiet.{HasSlot, IsQuiet, StandsFor, BeforeOrAfter, with_free}
 use Rattle.rpm_pkgdb.proofs.ErasesTo.{erases_to, freed_map, stands_for}
+use Rattle.rpm_pkgdb.specs.Stays.{OthersStay}
 use Rattle.rpm_pkgdb.specs.Written.{ErasesTo}
+use Rattle.rpm_pkgdb.proofs.StayLaws.{freed_stay}
 use Rattle.rpm_pkgdb.proofs.Held.{found_at_slot, freed_kept, freed_taken}
 use Rattle.rpm_pkgdb.proofs.store.PkgDb.erase.Goals as goal
 
@@ -84,3 +86,15 @@ returns-clause-stands g c = λ told image here.
     subst (λ (v : Store). StandsFor v.generation v.field (blobs file v) image.pkg) (sym (ap (with_free k) c.self.view_is))
     (stands_for (with_free k c.args.self.now) file image.pkg slot.made kept
     (c.in-Ok.ensures.quiet told c.args.self.now slot keeps image here))
+
+pub returns-clause-others : goal.returns-clause-others
+returns-clause-others g c = λ told.
+    let D = g.D.Disk in
+    let st = c.args.self.now in
+    let k = c.slot_place-place.result.0 in
+    let slot = c.slot_place-place.ensures in
+    let F0 = (D.files c.args.disk.now).pkg in
+    let F1 = (D.files c.free_slot.new.disk).pkg in
+    let keeps = c.requires.keeps told in
+    subst (λ (v : Store). OthersStay c.args.n st F0 v F1) (sym (ap (with_free k) c.self.view_is))
+    (freed_stay st k c.args.n c.slot_place-place.result.1 slot.slot slot.number F0 F1 keeps (c.in-Ok.ensures.stands told st slot.slot keeps))

@@ -7,6 +7,7 @@ use Rattle.rpm_pkgdb.specs.Store.{Keeps}
 use Rattle.rpm_pkgdb.specs.Blobs.{blobs}
 use Rattle.rpm_pkgdb.specs.Growing.{grown, moving_cost}
 use Rattle.rpm_pkgdb.specs.Freed.{AreFreed}
+use Rattle.rpm_pkgdb.specs.Stays.{AllStay}
 use Rattle.rpm_pkgdb.specs.Planned.{moves_of}
 use Rattle.rpm_pkgdb.specs.inner.MoveLists.{CanGrowBy}
 use Rattle.rpm_pkgdb.specs.declared.page.Page.{Page}
@@ -49,6 +50,23 @@ returns-in-None-clause-blobs g c = λ told.
     let F0 = (D.files c.args.disk.now).pkg in
     let v = c.args.self.now in
     subst (λ (o : Option Page). blobs F0 (grown (moves_of o) v) ≡ blobs F0 v) (sym c.in-None.is) refl
+
+pub returns-in-None-clause-others : goal.returns-in-None-clause-others
+returns-in-None-clause-others g c = λ told.
+    let D = g.D.Disk in
+    let F0 = (D.files c.args.disk.now).pkg in
+    let v = c.args.self.now in
+    subst (λ (o : Option Page). AllStay v F0 (grown (moves_of o) v) F0) (sym c.in-None.is) (λ n. refl)
+
+pub returns-in-Some-clause-others : goal.returns-in-Some-clause-others
+returns-in-Some-clause-others g c =
+    let D = g.D.Disk in
+    let v = c.args.self.now in
+    let d = c.args.disk.now in
+    let e = c.grow_by.new.disk in
+    let whole : Some c.deref.result.now ≡ moves_of c.args.page.now = ap Some c.deref.ensures.value ∙ ap moves_of (sym c.in-Some.is) in
+    subst (λ (m : Option (List Move)). OnOk c.grow_by.result (IsTrue D.tells → AllStay v (D.files d).pkg (grown m v) (D.files e).pkg)) whole
+    c.grow_by.ensures.others
 
 pub returns-in-None-clause-quiet : goal.returns-in-None-clause-quiet
 returns-in-None-clause-quiet g c = λ told quiet.

@@ -16,6 +16,7 @@ use Rattle.rpm_pkgdb.proofs.GrowLaws.{grown_map, grows_to}
 use Rattle.rpm_pkgdb.proofs.GrowSteps.{movable, moved_within}
 use Rattle.rpm_pkgdb.proofs.MoveSteps.{stands_for_same}
 use Rattle.rpm_pkgdb.proofs.PlannedLaws.{can_grow}
+use Rattle.rpm_pkgdb.proofs.StayLaws.{grown_stay}
 use Rattle.rpm_pkgdb.proofs.store.PkgDb.grow_by.Goals as goal
 
 pub move_all-requires-clause-movable : goal.move_all-requires-clause-movable
@@ -91,6 +92,24 @@ returns-clause-blobs g c =
     grown_map mid can F1 F2 keeps
     (stands told mid can (ap (λ (x : Store). x.generation) c.self.view_is) (ap (λ (x : Store). x.pages) c.self.view_is) keeps)
     ∙ c.in_ok-move_all.ensures.blobs told v c.requires.made same c.requires.can.are (c.requires.keeps told)) c.add_page.ensures.stands
+
+pub returns-clause-others : goal.returns-clause-others
+returns-clause-others g c =
+    let D = g.D.Disk in
+    let v = c.args.self.now in
+    let moves = c.args.moves.now in
+    let kept = subst (λ (x : Store). IsKept c.self.inside.numbers.pairs x.pages x.slots) c.self.view_is c.self.invariant.kept in
+    let same : v.slots ≡ c.deref.result.now = ap (λ (x : Store). x.slots) (sym c.self.view_is) ∙ sym c.deref.ensures.value in
+    let mid = with_moves v moves in
+    let can : CanGrow mid = can_grow c.self.inside.numbers.pairs v kept c.requires.made moves c.requires.can in
+    let F1 = (D.files c.move_all.new.disk).pkg in
+    let F2 = (D.files c.add_page.new.disk).pkg in
+    map_ok c.add_page.result (λ (stands : IsTrue D.tells → (value : Store) → CanGrow value → c.self.inside.generation ≡ value.generation
+    → c.self.inside.pages ≡ value.pages → Keeps F1 value → StandsAs (with_page value) F1 F2) told n.
+    let keeps = c.in_ok-move_all.ensures.keeps told v c.requires.made same c.requires.can.are (c.requires.keeps told) in
+    grown_stay mid can F1 F2 keeps
+    (stands told mid can (ap (λ (x : Store). x.generation) c.self.view_is) (ap (λ (x : Store). x.pages) c.self.view_is) keeps) n
+    ∙ c.in_ok-move_all.ensures.others told v c.requires.made same c.requires.can.are (c.requires.keeps told) n) c.add_page.ensures.stands
 
 pub returns-clause-quiet : goal.returns-clause-quiet
 returns-clause-quiet g c =

@@ -8,6 +8,7 @@ use Rattle.rpm_pkgdb.specs.Store.{Store}
 use Rattle.rpm_pkgdb.specs.Blobs.{blobs, entry_of}
 use Rattle.rpm_pkgdb.specs.Written.{with_blob, with_plan, with_spare}
 use Rattle.rpm_pkgdb.specs.Freed.{AreFreed}
+use Rattle.rpm_pkgdb.specs.Stays.{OthersStay}
 use Rattle.rpm_pkgdb.specs.declared.moving.Move.{Move}
 use Rattle.rpm_pkgdb.specs.Growing.{pages_after}
 use Rattle.rpm_pkgdb.specs.Planned.{moves_of}
@@ -35,6 +36,18 @@ returns-clause-blobs g c = λ told.
     let slots : c.note_put.new.self.slots ≡ (with_plan plan st).slots =
     ap (λ (v : Store). v.slots) c.note_put.ensures.value ∙ ap (λ (v : Store). (with_blob plan.target v).slots) c.note_page.ensures in
     same_slots (D.files c.write_plan.new.disk).pkg (with_plan plan st) c.note_put.new.self slots ∙ c.in-Ok.ensures.blobs told
+
+pub returns-clause-others : goal.returns-clause-others
+returns-clause-others g c = λ told.
+    let D = g.D.Disk in
+    let st = c.args.self.now in
+    let plan = c.args.plan in
+    let new = c.note_put.new.self in
+    let F0 = (D.files c.args.disk.now).pkg in
+    let F1 = (D.files c.write_plan.new.disk).pkg in
+    let same : new ≡ with_spare new.spare (with_plan plan st) =
+    c.note_put.ensures.value ∙ ap (λ (v : Store). with_spare new.spare (with_blob plan.target v)) c.note_page.ensures in
+    subst (λ (v : Store). OthersStay plan.target.number st F0 v F1) (sym same) (c.in-Ok.ensures.others told)
 
 pub returns-clause-freed : goal.returns-clause-freed
 returns-clause-freed g c = λ told.

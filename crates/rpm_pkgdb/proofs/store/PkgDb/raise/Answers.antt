@@ -1,8 +1,11 @@
 use Rattle.std.proofs.Common.{ℕ, List, ◌+◌, [], ◌∷◌, sym, ap, subst, ◌∙◌}
+use Rattle.rpm_pkgdb.specs.Stays.{SameOutside, AllStay}
+use Rattle.rpm_pkgdb.proofs.ClearLaws.{torn_outside}
+use Rattle.rpm_pkgdb.proofs.StayLaws.{raised_stay}
 use Rattle.rpm_outside.specs.Crash.{Torn}
 use Rattle.rpm_pkgdb.specs.Store.{Store, Keeps}
 use Rattle.rpm_pkgdb.specs.Blobs.{blobs}
-use Rattle.rpm_pkgdb.proofs.Changing.{stops_from}
+use Rattle.rpm_pkgdb.proofs.Changing.{changes_weaker, stops_from}
 use Rattle.rpm_pkgdb.specs.Quiet.{IsQuiet}
 use Rattle.rpm_pkgdb.proofs.Raises.{while_raised, raised, raised_map, raises_to, raised_quiet}
 use Rattle.rpm_pkgdb.specs.Undamaged.{IsHeadUnit}
@@ -68,3 +71,27 @@ returns-clause-quiet g c = λ told.
     subst (λ (v : Store). IsQuiet v (D.files next) (D.left_since next (D.moment next))) (sym (ap higher c.self.view_is))
     (raised_quiet st c.requires.made unit (st.generation + 1) is (D.files c.args.disk.now) (D.files next) (D.left_since next (D.moment next))
     (c.requires.keeps told) (c.in-Ok.ensures.written told) (c.in-Ok.ensures.settled told))
+
+pub returns-in_default-clause-alone : goal.returns-in_default-clause-alone
+returns-in_default-clause-alone g c =
+    let unit = c.head_unit.result in
+    changes_weaker _ _ _ _ _ _ (Torn 0 (unit ∷ [])) (SameOutside 0 1) c.args.disk.now c.write_one.new.disk (λ x y torn. torn_outside 0 (unit ∷ []) x y torn)
+    c.write_one.ensures.changes
+
+pub returns-clause-alone : goal.returns-clause-alone
+returns-clause-alone g c =
+    let unit = c.head_unit.result in
+    changes_weaker _ _ _ _ _ _ (Torn 0 (unit ∷ [])) (SameOutside 0 1) c.args.disk.now c.write_one.new.disk (λ x y torn. torn_outside 0 (unit ∷ []) x y torn)
+    c.write_one.ensures.changes
+
+pub returns-clause-others : goal.returns-clause-others
+returns-clause-others g c = λ told.
+    let D = g.D.Disk in
+    let st = c.args.self.now in
+    let unit = c.head_unit.result in
+    let is = subst (IsHigher unit) c.self.view_is c.head_unit.ensures in
+    let F0 = (D.files c.args.disk.now).pkg in
+    let F1 = (D.files c.write_one.new.disk).pkg in
+    subst (λ (v : Store). AllStay st F0 v F1) (sym (ap higher c.self.view_is))
+    (raised_stay st (st.generation + 1) F0 F1 c.requires.made (c.requires.keeps told)
+    (raised st c.requires.made unit (st.generation + 1) is F0 F1 (c.requires.keeps told) (c.in-Ok.ensures.written told)))

@@ -18,6 +18,7 @@ use Rattle.rpm_pkgdb.proofs.PutEnds.{whole_part, replaced_zeros}
 use Rattle.rpm_pkgdb.proofs.PutSteps.{after, was_held, place_fits, few_bytes, room, can_put, puts_from, put_freed}
 use Rattle.rpm_pkgdb.specs.Freed.{KeepsBlank}
 use Rattle.rpm_pkgdb.proofs.PutsTo.{puts_to, put_map}
+use Rattle.rpm_pkgdb.proofs.StayLaws.{put_stay}
 use Rattle.rpm_pkgdb.proofs.store.PkgDb.write_plan.Goals as goal
 
 pub grow-requires-clause-can : goal.grow-requires-clause-can
@@ -107,6 +108,25 @@ returns-clause-blobs g c =
     let keeps = c.in_ok-grow.ensures.kept told in
     put_map mid plan.target gen c.args.old blob can F1 F2 keeps (stands told mid can keeps)
     ∙ ap (λ (B : BlobMap). finite.insert B plan.target.number (Some blob)) (c.in_ok-grow.ensures.blobs told)) c.put_blob.ensures.stands
+
+pub returns-clause-others : goal.returns-clause-others
+returns-clause-others g c =
+    let D = g.D.Disk in
+    let v = c.args.self.now in
+    let plan = c.args.plan.now in
+    let blob = c.args.blob.now in
+    let gen = c.self.inside.generation in
+    let gen_is : gen ≡ v.generation = ap (λ (x : Store). x.generation) c.self.view_is in
+    let is = c.requires.plan in
+    let can = can_put v plan is c.requires.made blob c.requires.length gen gen_is (omega arith) c.args.old c.requires.new c.requires.held in
+    let mid = after v plan is c.requires.made in
+    let F1 = (D.files c.grow.new.disk).pkg in
+    let F2 = (D.files c.put_blob.new.disk).pkg in
+    map_ok c.put_blob.result (λ (stands : IsTrue D.tells → (value : Store) → CanPut value plan.target gen c.args.old blob → Keeps F1 value
+    → StandsWith value plan.target gen blob F1 F2) told m differs.
+    let keeps = c.in_ok-grow.ensures.kept told in
+    put_stay mid plan.target gen c.args.old blob can F1 F2 keeps (stands told mid can keeps) m differs ∙ c.in_ok-grow.ensures.others told m)
+    c.put_blob.ensures.stands
 
 pub returns-clause-framed : goal.returns-clause-framed
 returns-clause-framed g c =

@@ -1,0 +1,24 @@
+-- What a change leaves: the units outside a range, and the blocks of the other packages, the same bytes wherever they stand.
+use Rattle.std.specs.Prelude.{◌≡◌, ◌≢◌, ℕ, ◌+◌, ◌<◌, ◌≤◌, length, take, drop, Option}
+use Rattle.std.specs.Option.{option_map}
+use Rattle.rpm_outside.specs.Files.{Units, unit_at}
+use Rattle.rpm_pkgdb.specs.Slots.{slot_with}
+use Rattle.rpm_pkgdb.specs.Store.{Store}
+
+-- the units outside a range are as before, and the file didn't get shorter
+pub record SameOutside (at n : ℕ) (old new : Units) : Type 0 where
+  pub below : (i : ℕ) → i < at → unit_at new i ≡ unit_at old i
+  pub above : (i : ℕ) → at + n ≤ i → unit_at new i ≡ unit_at old i
+  pub no_shorter : length old ≤ length new
+
+-- the units in the blocks of a number's slot; None where no slot has the number
+abbrev pub blocks_with : ℕ → Store → Units → Option Units
+blocks_with n value file = option_map (λ s. take s.count (drop s.offset file)) (slot_with n value.slots)
+
+-- each package's blocks have the bytes from before
+abbrev pub AllStay : Store → Units → Store → Units → Type 0
+AllStay old before new after = (n : ℕ) → blocks_with n new after ≡ blocks_with n old before
+
+-- and each package's but this one's
+abbrev pub OthersStay : ℕ → Store → Units → Store → Units → Type 0
+OthersStay n old before new after = (m : ℕ) → m ≢ n → blocks_with m new after ≡ blocks_with m old before
