@@ -1,5 +1,5 @@
 -- Texts have their ends where there are as many zero bytes.
-use Rattle.std.proofs.Common.{◌≡◌, ℕ, zero, suc, ◌+◌, ◌-◌, ◌*◌, ◌<◌, ◌≤◌, List, [], ◌∷◌, ◌++◌, length, take, drop, true, refl, sym, ap, ◌∙◌, arith, inl, inr, leb, le-leb}
+use Rattle.std.proofs.Common.{◌≡◌, ℕ, zero, suc, ◌+◌, ◌-◌, ◌*◌, ◌<◌, ◌≤◌, List, [], ◌∷◌, ◌++◌, length, take, drop, true, refl, sym, ap, ◌∙◌, arith, inl, inr, leb, le-leb, get_or, eq-eqb}
 use Rattle.std.specs.Prelude.{cond}
 use Rattle.std.specs.List.{position_or_len, after_first}
 use Rattle.std.proofs.lemmas.Bool.{cases_Bool, lt-leb, leb-true}
@@ -35,6 +35,15 @@ zeros-take-le k xs = omega (arith, zeros-le (take k xs), length-take k xs)
 
 pub zeros-past : (k : ℕ) (xs : List ℕ) → length xs ≤ k → zeros (drop k xs) ≡ 0
 zeros-past k xs past = ap zeros (drop_all k xs past) ∙ zeros-nil
+
+-- a zero byte stands behind each place in front of it
+pub zeros-behind : (i k : ℕ) (xs : List ℕ) → i < length xs → get_or xs i 0 ≡ 0 → k < i + 1 → 0 < zeros (drop k xs)
+zeros-behind i k [] lt here le = absurd (omega arith)
+zeros-behind zero zero (x ∷ xs) lt here le = rw (zeros-cons x xs, eq-eqb x 0 here) (omega arith)
+zeros-behind (suc i) zero (x ∷ xs) lt here le =
+    let more = zeros-behind i zero xs (omega arith) here (omega arith) in rw (zeros-cons x xs) (omega (arith, more))
+zeros-behind zero (suc k) (x ∷ xs) lt here le = absurd (omega arith)
+zeros-behind (suc i) (suc k) (x ∷ xs) lt here le = zeros-behind i k xs (omega arith) here (omega arith)
 
 -- ---- the first zero byte
 

@@ -3,6 +3,7 @@
 ghost use Rattle.std.specs.Prelude.{◌≡◌, ℕ, ◌*◌, ◌≤◌, ◌<◌, length, drop, slice_index};
 ghost use Rattle.rpm_header.specs.Bytes.{are_ended};
 ghost use Rattle.rpm_header.specs.Header.{max_data};
+ghost use Rattle.rpm_header.specs.inner.Zeros.{HasZeroFrom};
 
 use crate::zeros::{between, look_for_ends, zeros_in};
 use std::marker::Model;
@@ -79,10 +80,24 @@ impl<'s> ZeroSums<'s> {
     }
 }
 
+/// The place behind the last zero byte, or 0. Reads the bytes from that byte on.
+fn behind_last_zero(bytes: &[u8]) -> usize
+    ensures { HasZeroFrom bytes.now result }
+{
+    for i in (0..bytes.len()).rev() {
+        if bytes[i] == 0 {
+            return i + 1;
+        }
+    }
+    0
+}
+
 /// The data of a header, and what was spent on its texts. Contracts see it as the data.
 #[derive(Drop)]
 pub struct TextEnds<'s> {
     section: &'s [u8],
+    // A text that begins in front of this place has an end.
+    behind: usize,
     // How many bytes of texts were read one after the other.
     read: usize,
     sums: Option<&'s ZeroSums<'s>>,
@@ -90,21 +105,23 @@ pub struct TextEnds<'s> {
 
 impl<'s> Model for TextEnds<'s> {
     ghost use Rattle.std.specs.Prelude.{◌≡◌, List, ℕ, IfSome};
+    ghost use Rattle.rpm_header.specs.inner.Zeros.{HasZeroFrom};
 
     ghost Value = { List ℕ };
 
     ghost view = { λ s. s.section.now };
 
-    ghost invariant = { λ s. IfSome s.sums (λ sums. sums.now ≡ s.section.now) };
+    ghost invariant = { λ s. HasZeroFrom s.section.now s.behind × IfSome s.sums (λ sums. sums.now ≡ s.section.now) };
 }
 
 impl<'s> TextEnds<'s> {
-    /// Texts are read byte after byte.
+    /// Lists of texts are read byte after byte, and of the data the bytes behind the last text.
     pub fn new(section: &'s [u8]) -> TextEnds<'s>
         ensures { result ≡ section.now }
     {
         TextEnds {
             section,
+            behind: behind_last_zero(section),
             read: 0,
             sums: None,
         }
@@ -116,6 +133,7 @@ impl<'s> TextEnds<'s> {
     {
         TextEnds {
             section: sums.section,
+            behind: 0,
             read: 0,
             sums: Some(sums),
         }
@@ -133,9 +151,23 @@ impl<'s> TextEnds<'s> {
         self.read / 4 > self.section.len()
     }
 
-    /// Whether each of so many texts has its zero byte, from the offset on. Reads the bytes of
-    /// these texts once, and at most one stride with sums.
+    /// Whether each of so many texts has its zero byte, from the offset on. Reads nothing for a
+    /// single text, as most are.
+    #[inline(always)]
     pub fn are_ended(&mut self, count: u32, offset: usize) -> bool
+        requires { offset ≤ length self.old }
+        ensures value { result ≡ are_ended count (drop offset self.old) }
+        ensures same { self.new ≡ self.old }
+    {
+        if count == 1 && offset < self.behind {
+            return true;
+        }
+        self.are_counted(count, offset)
+    }
+
+    /// The same. Reads the bytes of these texts once, and at most one stride with sums.
+    #[inline(never)]
+    fn are_counted(&mut self, count: u32, offset: usize) -> bool
         requires { offset ≤ length self.old }
         ensures value { result ≡ are_ended count (drop offset self.old) }
         ensures same { self.new ≡ self.old }

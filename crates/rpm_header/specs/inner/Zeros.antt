@@ -8,6 +8,10 @@ use Rattle.rpm_header.specs.Header.{max_data}
 unfoldable pub zeros : List ℕ → ℕ
 zeros bytes = count_by is_zero bytes
 
+-- from each place in front of this one on, one of the bytes is zero
+abbrev pub HasZeroFrom : List ℕ → ℕ → Type 0
+HasZeroFrom bytes behind = (k : ℕ) → k < behind → 0 < zeros (drop k bytes)
+
 -- from each stride on, how many of the bytes are zero; 4,095 strides pass the end
 pub record IsSummed (bytes : List ℕ) (stride : ℕ) (sums : List ℕ) : Type 0 where
   pub wide : length bytes < 4095 * stride
