@@ -1,15 +1,16 @@
 -- The numbers of packages that are picked, one after the other.
-use Rattle.std.proofs.Common.{◌≡◌, ℕ, List, [], ◌∷◌, ◌++◌, map, false, Option, Some, Ok, sym, ap, ◌∙◌, subst, append_assoc, append-nil}
+use Rattle.std.proofs.Common.{◌≡◌, ℕ, List, [], ◌∷◌, ◌++◌, map, Option, Some, Ok, sym, ap, ◌∙◌, subst, append_assoc, append-nil}
 use Rattle.std.specs.FinMap as finite
 use Rattle.std.specs.Ordering.{nat_cmp}
 use Rattle.rpm_outside.specs.Files.{Units}
-use Rattle.rpm_db.specs.Database.{Database, holds}
+use Rattle.rpm_db.specs.Database.{Database, Keeps}
 use Rattle.rpm_db.specs.State.{Package, packages, above}
 use Rattle.rpm_select.specs.declared.picker.Picked.{Picked}
 use Rattle.rpm_select.specs.declared.selection.Selection.{Selection}
 use Rattle.rpm_select.specs.Picks.{NextIs, entry_in, number_in}
 use Rattle.rpm_select.specs.Selections.{picks}
 use Rattle.rpm_check.proofs.Above.{named, next_picked, numbers_above}
+use Rattle.rpm_check.proofs.FromOne.{from_one}
 use Rattle.rpm_select.specs.inner.Rising.{picks_from_one}
 
 -- one more
@@ -32,10 +33,10 @@ gained all sel n o picked number ns new whole next is added same so_far =
     ∙ more_picked all sel n picked one.0 ns whole one.1 so_far
 
 -- no more
-pub all_picked : (file : Units) (db : Database) (sel : Selection) (n : ℕ) (ns : List ℕ) → holds 0 db ≡ false
+pub all_picked : (file : Units) (db : Database) (sel : Selection) (n : ℕ) (ns : List ℕ) → Keeps file db
     → above n (picks (packages file db.store) sel) ≡ []
     → ns ++ numbers_above (packages file db.store) sel n ≡ numbers_above (packages file db.store) sel 0
     → ns ≡ map (λ e. e.0) (picks (packages file db.store) sel)
-all_picked file db sel n ns one none so_far =
+all_picked file db sel n ns keeps none so_far =
     sym (append-nil ns) ∙ ap (λ (es : List (ℕ × Package)). ns ++ map (λ e. e.0) es) (sym none) ∙ so_far
-    ∙ ap (map (λ e. e.0)) (picks_from_one file db sel one)
+    ∙ ap (map (λ e. e.0)) (picks_from_one file db sel (from_one file db keeps))

@@ -1,5 +1,5 @@
 -- Which requirements no package meets.
-use Rattle.std.specs.Prelude.{ℕ, List, [], map, filter, length, codes, Bool, false, not, ◌&&◌, ◌||◌, ◌==◌, nat_eq, slice_index, Result, Ok, Err}
+use Rattle.std.specs.Prelude.{◌≡◌, ℕ, List, [], ◌∷◌, map, filter, length, codes, Bool, false, not, ◌&&◌, ◌||◌, ◌==◌, nat_eq, nat_lt, slice_index, Option, Some, None, Result, Ok, Err}
 use Rattle.std.specs.List.{list_any, flat_map, zip, range_with_len, starts_with}
 use Rattle.std.specs.Ordering.{nat_cmp}
 use Rattle.std.specs.Str.{bytes_eq}
@@ -76,3 +76,17 @@ unmet_of is_lacking (n, Bad) = []
 -- by rising number and place
 unfoldable pub unmet : FinMap nat_cmp Package → List Unmet
 unmet packages = flat_map (unmet_of (lacks packages)) (entries packages)
+
+-- ---- one after the other
+
+-- a pair of a number and a place stands above (n, i), by number and then by place
+abbrev pub is_above : ℕ → ℕ → Unmet → Bool
+is_above n i u = nat_lt n u.number || (u.number == n && nat_lt i u.place)
+
+unfoldable pub unmet_after : FinMap nat_cmp Package → ℕ → ℕ → List Unmet
+unmet_after packages n i = filter (is_above n i) (unmet packages)
+
+-- the least one above (n, i), behind which those above it stand; None says that there is none
+abbrev pub IsNextUnmet : FinMap nat_cmp Package → ℕ → ℕ → Option Unmet → Type 0
+IsNextUnmet packages n i None = unmet_after packages n i ≡ []
+IsNextUnmet packages n i (Some u) = unmet_after packages n i ≡ u ∷ unmet_after packages u.number u.place

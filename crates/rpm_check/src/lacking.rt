@@ -2,7 +2,7 @@
 
 ghost use Rattle.std.specs.Prelude.{◌≡◌, ◌++◌, not, length, IsTrue, false, Err, IfOk, IfErr, OnOk};
 ghost use Rattle.rpm_outside.specs.Causes.{HasCauseAt};
-ghost use Rattle.rpm_db.specs.Database.{Keeps, KeepsIndex, holds};
+ghost use Rattle.rpm_db.specs.Database.{Keeps, KeepsIndex};
 ghost use Rattle.rpm_db.specs.State.{packages};
 ghost use Rattle.rpm_select.specs.Reach.{HasIndexRows};
 ghost use Rattle.rpm_check.specs.Answers.{Glances, IsBroken, is_broken};
@@ -44,7 +44,6 @@ fn is_met_once<D: Disk>(
     requires keeps { IsTrue D.tells → Keeps (D.files disk.old).pkg db.now }
     requires keeps_index { IsTrue D.tells → KeepsIndex (D.files disk.old).idx db.now }
     requires runs { db.now.stopped ≡ false }
-    requires from_one { holds 0 db.now ≡ false }
     requires remembers { IsTrue D.tells → HasIndexRows db.now (D.files disk.old).pkg (D.files disk.old).idx
         → Remembers (is_met (packages (D.files disk.old).pkg db.now.store)) memo.old }
     ensures kept { IsTrue D.tells → Keeps (D.files disk.new).pkg db.now }
@@ -75,7 +74,7 @@ fn is_met_once<D: Disk>(
 }
 
 /// Whether a requirement is lacking.
-fn lacks<D: Disk>(
+pub fn lacks<D: Disk>(
     alloc: Global,
     db: &Db,
     disk: &mut D,
@@ -85,7 +84,6 @@ fn lacks<D: Disk>(
     requires keeps { IsTrue D.tells → Keeps (D.files disk.old).pkg db.now }
     requires keeps_index { IsTrue D.tells → KeepsIndex (D.files disk.old).idx db.now }
     requires runs { db.now.stopped ≡ false }
-    requires from_one { holds 0 db.now ≡ false }
     requires remembers { IsTrue D.tells → HasIndexRows db.now (D.files disk.old).pkg (D.files disk.old).idx
         → Remembers (is_met (packages (D.files disk.old).pkg db.now.store)) memo.old }
     ensures kept { IsTrue D.tells → Keeps (D.files disk.new).pkg db.now }
@@ -109,7 +107,7 @@ fn lacks<D: Disk>(
 }
 
 /// How many requirements a package has.
-fn required_count(view: &View<'_>) -> u32
+pub fn required_count(view: &View<'_>) -> u32
     ensures { result ≡ length (required view.now) }
 {
     match texts_in(view, numbers::REQUIRENAME) {
@@ -131,7 +129,6 @@ pub fn push_lacking<D: Disk>(
     requires keeps { IsTrue D.tells → Keeps (D.files disk.old).pkg db.now }
     requires keeps_index { IsTrue D.tells → KeepsIndex (D.files disk.old).idx db.now }
     requires runs { db.now.stopped ≡ false }
-    requires from_one { holds 0 db.now ≡ false }
     requires remembers { IsTrue D.tells → HasIndexRows db.now (D.files disk.old).pkg (D.files disk.old).idx
         → Remembers (is_met (packages (D.files disk.old).pkg db.now.store)) memo.old }
     ensures kept { IsTrue D.tells → Keeps (D.files disk.new).pkg db.now }

@@ -4,7 +4,7 @@ ghost use Rattle.std.specs.Prelude.{◌≡◌, ◌++◌, ◌<◌, ◌≤◌, All
 ghost use Rattle.std.specs.FinMap as finite;
 ghost use Rattle.std.specs.List.{flat_map};
 ghost use Rattle.rpm_outside.specs.Causes.{HasCauseAt};
-ghost use Rattle.rpm_db.specs.Database.{Keeps, KeepsIndex, holds};
+ghost use Rattle.rpm_db.specs.Database.{Keeps, KeepsIndex};
 ghost use Rattle.rpm_db.specs.State.{packages};
 ghost use Rattle.rpm_select.specs.Reach.{HasIndexRows};
 ghost use Rattle.rpm_check.specs.Answers.{Glances, IsBroken, is_broken};
@@ -39,7 +39,6 @@ fn push_node<D: Disk>(
     requires keeps { IsTrue D.tells → Keeps (D.files disk.old).pkg db.now }
     requires keeps_index { IsTrue D.tells → KeepsIndex (D.files disk.old).idx db.now }
     requires runs { db.now.stopped ≡ false }
-    requires from_one { holds 0 db.now ≡ false }
     requires remembers { IsTrue D.tells → HasIndexRows db.now (D.files disk.old).pkg (D.files disk.old).idx
         → RemembersGivers (givers (packages (D.files disk.old).pkg db.now.store)) memo.old }
     requires rising { AreRising nodes.old.items }
@@ -77,7 +76,6 @@ pub fn read_nodes<D: Disk>(alloc: Global, db: &Db, disk: &mut D) -> Result<Vec<N
     requires keeps { IsTrue D.tells → Keeps (D.files disk.old).pkg db.now }
     requires keeps_index { IsTrue D.tells → KeepsIndex (D.files disk.old).idx db.now }
     requires runs { db.now.stopped ≡ false }
-    requires from_one { holds 0 db.now ≡ false }
     ensures kept { IsTrue D.tells → Keeps (D.files disk.new).pkg db.now }
     ensures kept_index { IsTrue D.tells → KeepsIndex (D.files disk.new).idx db.now }
     ensures rising { IfOk result (λ nodes. AreRising nodes.items) }

@@ -2,7 +2,7 @@
 
 ghost use Rattle.std.specs.Prelude.{◌≡◌, IsTrue, false, Err, IfOk, IfErr};
 ghost use Rattle.rpm_outside.specs.Causes.{HasCauseAt};
-ghost use Rattle.rpm_db.specs.Database.{Keeps, KeepsIndex, holds};
+ghost use Rattle.rpm_db.specs.Database.{Keeps, KeepsIndex};
 ghost use Rattle.rpm_db.specs.State.{packages};
 ghost use Rattle.rpm_select.specs.Reach.{HasIndexRows};
 ghost use Rattle.rpm_check.specs.Answers.{Glances, IsBroken, is_broken};
@@ -37,7 +37,6 @@ pub fn read_graph<D: Disk>(alloc: Global, db: &Db, disk: &mut D) -> Result<Graph
     requires keeps { IsTrue D.tells → Keeps (D.files disk.old).pkg db.now }
     requires keeps_index { IsTrue D.tells → KeepsIndex (D.files disk.old).idx db.now }
     requires runs { db.now.stopped ≡ false }
-    requires from_one { holds 0 db.now ≡ false }
     ensures kept { IsTrue D.tells → Keeps (D.files disk.new).pkg db.now }
     ensures kept_index { IsTrue D.tells → KeepsIndex (D.files disk.new).idx db.now }
     ensures told { IfOk result (λ g. IsTrue D.tells → HasIndexRows db.now (D.files disk.old).pkg (D.files disk.old).idx
@@ -56,5 +55,30 @@ pub fn read_graph<D: Disk>(alloc: Global, db: &Db, disk: &mut D) -> Result<Graph
     match graph_of(alloc, &nodes) {
         Ok(graph) => Ok(graph),
         Err(_) => Err(CheckFault::NoMemory),
+    }
+}
+
+/// `Graph::read`, for who has this trait in scope.
+pub trait ReadGraph {
+    /// The graph that `read_graph` gives, with the same faults.
+    fn read<D: Disk>(alloc: Global, db: &Db, disk: &mut D) -> Result<Graph, CheckFault>
+        requires keeps { IsTrue D.tells → Keeps (D.files disk.old).pkg db.now }
+        requires keeps_index { IsTrue D.tells → KeepsIndex (D.files disk.old).idx db.now }
+        requires runs { db.now.stopped ≡ false }
+        ensures kept { IsTrue D.tells → Keeps (D.files disk.new).pkg db.now }
+        ensures kept_index { IsTrue D.tells → KeepsIndex (D.files disk.new).idx db.now }
+        ensures told { IfOk result (λ g. IsTrue D.tells → HasIndexRows db.now (D.files disk.old).pkg (D.files disk.old).idx
+            → g ≡ graph_of (packages (D.files disk.old).pkg db.now.store)) }
+        ensures edges { IfOk result (λ g. IsTrue D.tells → HasIndexRows db.now (D.files disk.old).pkg (D.files disk.old).idx
+            → HasEdgesOf (packages (D.files disk.old).pkg db.now.store) g) }
+        ensures broken { IsTrue D.tells → IfErr result (IsBroken (D.files disk.old).idx) }
+        ensures lawful { IsTrue D.tells → HasIndexRows db.now (D.files disk.old).pkg (D.files disk.old).idx → is_broken result ≡ false }
+        ensures looks { Glances D.tells D.files D.left_since D.moment D.bytes_read D.follows disk.old disk.new }
+        ensures cause { HasCauseAt (result ≡ Err CheckFault.DiskFault) (D.faults disk.old) (D.faults disk.new) };
+}
+
+impl ReadGraph for Graph {
+    fn read<D: Disk>(alloc: Global, db: &Db, disk: &mut D) -> Result<Graph, CheckFault> {
+        read_graph(alloc, db, disk)
     }
 }

@@ -3,7 +3,7 @@
 ghost use Rattle.std.specs.Prelude.{◌≡◌, ◌++◌, IsTrue, false, Err, IfOk, IfErr, OnOk};
 ghost use Rattle.std.specs.FinMap as finite;
 ghost use Rattle.rpm_outside.specs.Causes.{HasCauseAt};
-ghost use Rattle.rpm_db.specs.Database.{Keeps, KeepsIndex, holds};
+ghost use Rattle.rpm_db.specs.Database.{Keeps, KeepsIndex};
 ghost use Rattle.rpm_db.specs.State.{packages};
 ghost use Rattle.rpm_select.specs.Reach.{HasIndexRows};
 ghost use Rattle.rpm_check.specs.Answers.{Glances, IsBroken, is_broken};
@@ -32,7 +32,6 @@ fn push_unmet<D: Disk>(
     requires keeps { IsTrue D.tells → Keeps (D.files disk.old).pkg db.now }
     requires keeps_index { IsTrue D.tells → KeepsIndex (D.files disk.old).idx db.now }
     requires runs { db.now.stopped ≡ false }
-    requires from_one { holds 0 db.now ≡ false }
     requires remembers { IsTrue D.tells → HasIndexRows db.now (D.files disk.old).pkg (D.files disk.old).idx
         → Remembers (is_met (packages (D.files disk.old).pkg db.now.store)) memo.old }
     ensures kept { IsTrue D.tells → Keeps (D.files disk.new).pkg db.now }
@@ -77,7 +76,6 @@ pub fn unmet<D: Disk>(alloc: Global, db: &Db, disk: &mut D) -> Result<UnmetList,
     requires keeps { IsTrue D.tells → Keeps (D.files disk.old).pkg db.now }
     requires keeps_index { IsTrue D.tells → KeepsIndex (D.files disk.old).idx db.now }
     requires runs { db.now.stopped ≡ false }
-    requires from_one { holds 0 db.now ≡ false }
     ensures kept { IsTrue D.tells → Keeps (D.files disk.new).pkg db.now }
     ensures kept_index { IsTrue D.tells → KeepsIndex (D.files disk.new).idx db.now }
     ensures told { IfOk result (λ list. IsTrue D.tells → HasIndexRows db.now (D.files disk.old).pkg (D.files disk.old).idx

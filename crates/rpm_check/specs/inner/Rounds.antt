@@ -1,5 +1,5 @@
 -- What one number adds to a report.
-use Rattle.std.specs.Prelude.{ℕ, List, [], Bool, Option, Some, None}
+use Rattle.std.specs.Prelude.{◌≡◌, ℕ, List, [], ◌∷◌, Bool, Option, Some, None}
 use Rattle.rpm_tags.specs.Wanted.{Needed}
 use Rattle.rpm_db.specs.State.{Package}
 use Rattle.rpm_check.specs.declared.list.Unmet.{Unmet}
@@ -9,3 +9,8 @@ use Rattle.rpm_check.specs.Unmet.{unmet_of}
 abbrev pub unmet_at : (Needed → Bool) → ℕ → Option Package → List Unmet
 unmet_at is_lacking n None = []
 unmet_at is_lacking n (Some p) = unmet_of is_lacking (n, p)
+
+-- the first of a list, or none where it is empty
+abbrev pub IsFirst : List Unmet → Option Unmet → Type 0
+IsFirst us None = us ≡ []
+IsFirst us (Some u) = (rest : List Unmet) × (us ≡ u ∷ rest)

@@ -9,6 +9,7 @@ use Rattle.rpm_check.specs.declared.faults.CheckFault.{CheckFault}
 use Rattle.rpm_check.specs.Answers.{IsBroken}
 use Rattle.rpm_check.specs.inner.Picking.{is_some_of}
 use Rattle.rpm_check.proofs.Faulting.{broken_from}
+use Rattle.rpm_check.proofs.FromOne.{from_one}
 use Rattle.rpm_select.specs.inner.Rising.{picks_from_one}
 use Rattle.rpm_check.proofs.Picking.{is_some_next}
 use Rattle.rpm_check.proofs.meeting.picks_any.Goals as goal
@@ -30,4 +31,4 @@ returns-in-Ok-next_after-clause-told g c = λ told has.
     → NextIs (above 0 (picks (packages f.pkg db.store) sel)) (Ok picked)) (c.in-Ok.ensures.looks.untouched told).same
     (c.in-Ok-next_after.ensures.told told) in
     c.is_some.ensures ∙ is_some_next (above 0 (picks (packages pkg db.store) sel)) picked (next (c.in-Ok.ensures.serves told has))
-    ∙ ap is_some_of (picks_from_one pkg db sel c.requires.from_one)
+    ∙ ap is_some_of (picks_from_one pkg db sel (from_one pkg db (c.requires.keeps told)))

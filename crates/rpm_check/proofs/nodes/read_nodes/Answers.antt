@@ -11,6 +11,7 @@ use Rattle.rpm_check.specs.Edges.{givers, good_numbers, edges_from}
 use Rattle.rpm_check.specs.inner.Ends.{good_if, good_of, is_good_at}
 use Rattle.rpm_check.specs.inner.GiverMemos.{RemembersGivers}
 use Rattle.rpm_check.specs.inner.Nodes.{AreRising, numbers_of, edges_of}
+use Rattle.rpm_check.proofs.FromOne.{from_one}
 use Rattle.rpm_check.proofs.Gathering.{none_rise}
 use Rattle.rpm_check.proofs.Glancing.{glances_none, glances_then}
 use Rattle.rpm_check.proofs.Turning.{turns_above, one_turn, no_turn, all_turns, goods_are, edges_are_all}
@@ -34,10 +35,10 @@ loop-next-init g c =
       rising = subst AreRising (sym none) none_rise;
       reached = All-same (λ (n : ℕ). n ≤ 0) (numbers_of c.new-nodes.result.items) [] (ap numbers_of none) (All-nil (λ (n : ℕ). n ≤ 0));
       numbers = λ told.
-          ap (λ (vs : List Node). numbers_of vs ++ turns_above all good_of 0) none ∙ all_turns pkg db good_of c.requires.from_one ∙ goods_are all;
+          ap (λ (vs : List Node). numbers_of vs ++ turns_above all good_of 0) none ∙ all_turns pkg db good_of (from_one pkg db (c.requires.keeps told)) ∙ goods_are all;
       told = λ told has.
           ap (λ (vs : List Node). flat_map (edges_of (good_numbers all)) vs ++ turns_above all f 0) none
-          ∙ all_turns pkg db f c.requires.from_one ∙ edges_are_all all;
+          ∙ all_turns pkg db f (from_one pkg db (c.requires.keeps told)) ∙ edges_are_all all;
     }
 
 pub push_node-requires-clause-below : goal.push_node-requires-clause-below

@@ -8,6 +8,7 @@ use Rattle.rpm_check.specs.declared.list.Unmet.{Unmet}
 use Rattle.rpm_check.specs.Unmet.{is_met, lacks}
 use Rattle.rpm_check.specs.inner.Memos.{Remembers}
 use Rattle.rpm_check.specs.inner.Rounds.{unmet_at}
+use Rattle.rpm_check.proofs.FromOne.{from_one}
 use Rattle.rpm_check.proofs.Glancing.{glances_none, glances_then}
 use Rattle.rpm_check.proofs.Rounding.{unmet_above, one_round, no_round, all_rounds}
 use Rattle.rpm_check.proofs.report.unmet.Goals as goal
@@ -24,7 +25,7 @@ loop-next-init g c = record {
   told = λ told has.
       let pkg = (g.D.Disk.files c.args.disk.now).pkg in
       let all = packages pkg c.args.db.now.store in
-      ap (λ (us : List Unmet). us ++ unmet_above all (lacks all) 0) c.new-found.ensures.items ∙ all_rounds pkg c.args.db.now c.requires.from_one;
+      ap (λ (us : List Unmet). us ++ unmet_above all (lacks all) 0) c.new-found.ensures.items ∙ all_rounds pkg c.args.db.now (from_one pkg c.args.db.now (c.requires.keeps told));
 }
 
 pub loop-next-preserved : goal.loop-next-preserved

@@ -1,0 +1,154 @@
+//! The next requirement that no package meets.
+
+ghost use Rattle.std.specs.Prelude.{◌≡◌, IsTrue, filter, false, Err, IfOk, IfErr};
+ghost use Rattle.std.specs.FinMap as finite;
+ghost use Rattle.rpm_outside.specs.Causes.{HasCauseAt};
+ghost use Rattle.rpm_db.specs.Database.{Keeps, KeepsIndex};
+ghost use Rattle.rpm_db.specs.State.{packages};
+ghost use Rattle.rpm_select.specs.Reach.{HasIndexRows};
+ghost use Rattle.rpm_check.specs.Answers.{Glances, IsBroken, is_broken};
+ghost use Rattle.rpm_check.specs.Unmet.{required, is_met, lacks, unmet, unmet_in, is_above, unmet_after, IsNextUnmet};
+ghost use Rattle.rpm_check.specs.inner.Memos.{Remembers};
+ghost use Rattle.rpm_check.specs.inner.Rounds.{unmet_at, IsFirst};
+
+use crate::faults::CheckFault;
+use crate::lacking::{REQUIRES, lacks, required_count};
+use crate::list::Unmet;
+use crate::memo::Memo;
+use rpm_db::{Db, GetFault};
+use rpm_header::View;
+use rpm_outside::Disk;
+use rpm_tags::dependencies;
+use std::alloc::Global;
+
+/// Whether a pair of a number and a place stands above another, by number and then by place.
+fn is_above(n: u32, i: u32, pair: Unmet) -> bool
+    ensures { result ≡ is_above n i pair }
+{
+    pair.number > n || (pair.number == n && pair.place > i)
+}
+
+/// The first requirement of a package that is lacking, of those above a pair.
+fn next_lacking<D: Disk>(
+    alloc: Global,
+    db: &Db,
+    disk: &mut D,
+    memo: &mut Memo,
+    number: u32,
+    view: &View<'_>,
+    n: u32,
+    i: u32,
+) -> Result<Option<Unmet>, CheckFault>
+    requires keeps { IsTrue D.tells → Keeps (D.files disk.old).pkg db.now }
+    requires keeps_index { IsTrue D.tells → KeepsIndex (D.files disk.old).idx db.now }
+    requires runs { db.now.stopped ≡ false }
+    requires remembers { IsTrue D.tells → HasIndexRows db.now (D.files disk.old).pkg (D.files disk.old).idx
+        → Remembers (is_met (packages (D.files disk.old).pkg db.now.store)) memo.old }
+    ensures kept { IsTrue D.tells → Keeps (D.files disk.new).pkg db.now }
+    ensures kept_index { IsTrue D.tells → KeepsIndex (D.files disk.new).idx db.now }
+    ensures told { IfOk result (λ next. IsTrue D.tells → HasIndexRows db.now (D.files disk.old).pkg (D.files disk.old).idx
+        → IsFirst (filter (is_above n i) (unmet_in (lacks (packages (D.files disk.old).pkg db.now.store)) number (required view.now) 0)) next) }
+    ensures remembered { IsTrue D.tells → HasIndexRows db.now (D.files disk.old).pkg (D.files disk.old).idx
+        → Remembers (is_met (packages (D.files disk.old).pkg db.now.store)) memo.new }
+    ensures broken { IsTrue D.tells → IfErr result (IsBroken (D.files disk.old).idx) }
+    ensures lawful { IsTrue D.tells → HasIndexRows db.now (D.files disk.old).pkg (D.files disk.old).idx → is_broken result ≡ false }
+    ensures looks { Glances D.tells D.files D.left_since D.moment D.bytes_read D.follows disk.old disk.new }
+    ensures cause { HasCauseAt (result ≡ Err CheckFault.DiskFault) (D.faults disk.old) (D.faults disk.new) }
+{
+    let mut left = dependencies(view, REQUIRES);
+    for place in 0..required_count(view) {
+        let Some(needed) = left.next() else {
+            return Ok(None);
+        };
+        let pair = Unmet { number, place };
+        if !is_above(n, i, pair) {
+            continue;
+        }
+        if lacks(alloc, db, disk, memo, &needed)? {
+            return Ok(Some(pair));
+        }
+    }
+    Ok(None)
+}
+
+/// The first requirement of a number's package that is lacking, of those above a pair.
+fn next_in<D: Disk>(
+    alloc: Global,
+    db: &Db,
+    disk: &mut D,
+    memo: &mut Memo,
+    number: u32,
+    n: u32,
+    i: u32,
+) -> Result<Option<Unmet>, CheckFault>
+    requires keeps { IsTrue D.tells → Keeps (D.files disk.old).pkg db.now }
+    requires keeps_index { IsTrue D.tells → KeepsIndex (D.files disk.old).idx db.now }
+    requires runs { db.now.stopped ≡ false }
+    requires remembers { IsTrue D.tells → HasIndexRows db.now (D.files disk.old).pkg (D.files disk.old).idx
+        → Remembers (is_met (packages (D.files disk.old).pkg db.now.store)) memo.old }
+    ensures kept { IsTrue D.tells → Keeps (D.files disk.new).pkg db.now }
+    ensures kept_index { IsTrue D.tells → KeepsIndex (D.files disk.new).idx db.now }
+    ensures told { IfOk result (λ next. IsTrue D.tells → HasIndexRows db.now (D.files disk.old).pkg (D.files disk.old).idx
+        → IsFirst (filter (is_above n i) (unmet_at (lacks (packages (D.files disk.old).pkg db.now.store)) number
+        (finite.get (packages (D.files disk.old).pkg db.now.store) number))) next) }
+    ensures remembered { IsTrue D.tells → HasIndexRows db.now (D.files disk.old).pkg (D.files disk.old).idx
+        → Remembers (is_met (packages (D.files disk.old).pkg db.now.store)) memo.new }
+    ensures broken { IsTrue D.tells → IfErr result (IsBroken (D.files disk.old).idx) }
+    ensures lawful { IsTrue D.tells → HasIndexRows db.now (D.files disk.old).pkg (D.files disk.old).idx → is_broken result ≡ false }
+    ensures looks { Glances D.tells D.files D.left_since D.moment D.bytes_read D.follows disk.old disk.new }
+    ensures cause { HasCauseAt (result ≡ Err CheckFault.DiskFault) (D.faults disk.old) (D.faults disk.new) }
+{
+    match db.read(alloc, disk, number) {
+        Ok(blob) => match View::parse(&blob) {
+            Ok(view) => next_lacking(alloc, db, disk, memo, number, &view, n, i),
+            Err(_) => Ok(None),
+        },
+        Err(GetFault::NoSuch | GetFault::Bad) => Ok(None),
+        Err(GetFault::DiskFault) => Err(CheckFault::DiskFault),
+        Err(GetFault::NoMemory) => Err(CheckFault::NoMemory),
+    }
+}
+
+/// The least requirement that no package meets above the pair of a number and a place; `None` exactly where there is none. A search
+/// begins at (0, 0), goes on at the pair that was answered last, and may begin at any other.
+///
+/// It answers what `unmet` lists, one at a time. Reads the blocks of the package of this number and of those behind it, up to the one that
+/// it answers, each once, and looks each distinct requirement of these up once in a call, as `is_met` does. Holds these requirements and
+/// one package at a time.
+///
+/// # Errors
+///
+/// Those of `unmet`, with the same causes.
+#[tactic(auto, using(crate::proofs::Enumerating::begins))]
+pub fn next_unmet<D: Disk>(
+    alloc: Global,
+    db: &Db,
+    disk: &mut D,
+    n: u32,
+    i: u32,
+) -> Result<Option<Unmet>, CheckFault>
+    requires keeps { IsTrue D.tells → Keeps (D.files disk.old).pkg db.now }
+    requires keeps_index { IsTrue D.tells → KeepsIndex (D.files disk.old).idx db.now }
+    requires runs { db.now.stopped ≡ false }
+    ensures kept { IsTrue D.tells → Keeps (D.files disk.new).pkg db.now }
+    ensures kept_index { IsTrue D.tells → KeepsIndex (D.files disk.new).idx db.now }
+    ensures told { IfOk result (λ next. IsTrue D.tells → HasIndexRows db.now (D.files disk.old).pkg (D.files disk.old).idx
+        → IsNextUnmet (packages (D.files disk.old).pkg db.now.store) n i next) }
+    ensures begins { IsTrue D.tells
+        → unmet_after (packages (D.files disk.old).pkg db.now.store) 0 0 ≡ unmet (packages (D.files disk.old).pkg db.now.store) }
+    ensures broken { IsTrue D.tells → IfErr result (IsBroken (D.files disk.old).idx) }
+    ensures lawful { IsTrue D.tells → HasIndexRows db.now (D.files disk.old).pkg (D.files disk.old).idx → is_broken result ≡ false }
+    ensures looks { Glances D.tells D.files D.left_since D.moment D.bytes_read D.follows disk.old disk.new }
+    ensures cause { HasCauseAt (result ≡ Err CheckFault.DiskFault) (D.faults disk.old) (D.faults disk.new) }
+{
+    let mut memo = Memo::new(alloc);
+    let mut passed = n.saturating_sub(1);
+    while let Some(number) = db.next_above(passed) {
+        let found = next_in(alloc, db, disk, &mut memo, number, n, i)?;
+        if found.is_some() {
+            return Ok(found);
+        }
+        passed = number;
+    }
+    Ok(None)
+}
