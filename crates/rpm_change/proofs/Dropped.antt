@@ -1,5 +1,5 @@
 -- The packages that rebuilding drops, by rising number.
-use Rattle.std.proofs.Common.{◌≡◌, ℕ, ◌^◌, ◌<◌, ◌≤◌, true, false, List, Option, Some, None, is_some, Result, Ok, Err, refl, sym, ap, ◌∙◌, subst, inr, arith, nat_eq}
+use Rattle.std.proofs.Common.{◌≡◌, ℕ, ◌<◌, true, false, Option, Some, None, is_some, refl, sym, ap, ◌∙◌, subst, arith, nat_eq}
 use Rattle.std.specs.Ordering.{nat_cmp, eq_by_cmp}
 use Rattle.std.specs.FinMap as finite
 use Rattle.std.specs.Cmp.{unsigned_tied}
@@ -12,16 +12,11 @@ use Rattle.rpm_outside.specs.Crash.{Untouched}
 use Rattle.rpm_pkgdb.specs.Quiet.{IsQuiet}
 use Rattle.rpm_pkgdb.specs.Store as pkgdb
 use Rattle.rpm_pkgdb.specs.Store.{Store}
-use Rattle.rpm_hindex.specs.Sizes.{units_for}
-use Rattle.rpm_db.specs.Changes.{Change, IsServing}
+use Rattle.rpm_db.specs.Changes.{IsServing}
 use Rattle.rpm_db.specs.Database.{Database, IsNext, Keeps, KeepsIndex}
 use Rattle.rpm_db.specs.Lawful.{Remade}
-use Rattle.rpm_db.specs.Rows.{rows}
 use Rattle.rpm_db.specs.State.{State, Package, Good, Bad, state, above}
 use Rattle.rpm_db.specs.inner.Above.{none_is, next_above, nothing_above}
-use Rattle.rpm_change.specs.declared.tally.Tally.{Tally}
-use Rattle.rpm_change.specs.declared.tally.Halt.{Halt}
-use Rattle.rpm_change.specs.declared.tally.Halt.TheVariants as halt
 use Rattle.rpm_change.specs.Steps.{joined, idle, apply_all}
 use Rattle.rpm_change.specs.Rebuilding.{dropped, drop_each}
 

@@ -1,6 +1,5 @@
 -- What erasing one number is.
-use Rattle.std.proofs.Common.{◌≡◌, ℕ, Bool, true, false, [], Option, Some, None, is_some, Result, Ok, Err, refl, sym, ◌∙◌, subst, inl}
-use Rattle.std.specs.Prelude.{IfErr}
+use Rattle.std.proofs.Common.{◌≡◌, ℕ, Bool, true, false, [], Option, Some, None, is_some, Err, refl, sym, ◌∙◌, subst}
 use Rattle.std.specs.FinMap as finite
 use Rattle.rpm_outside.specs.Files.{Units, Files}
 use Rattle.rpm_db.specs.declared.change_fault.ChangeFault.{ChangeFault}
@@ -11,7 +10,6 @@ use Rattle.rpm_db.specs.Refusals.{EraseCause, FullCause}
 use Rattle.rpm_db.specs.State.{State, Package, state, packages}
 use Rattle.rpm_pkgdb.specs.Store.{Store}
 use Rattle.rpm_db.specs.inner.Laws.{is_there}
-use Rattle.rpm_change.specs.declared.tally.Tally.{Tally}
 use Rattle.rpm_change.specs.declared.tally.Halt.{Halt}
 use Rattle.rpm_change.specs.declared.tally.Halt.TheVariants as halt
 use Rattle.rpm_change.specs.Steps.{Course, changing}

@@ -1,5 +1,5 @@
 -- What making the index anew answers.
-use Rattle.std.proofs.Common.{◌≡◌, ℕ, ◌^◌, ◌<◌, Bool, true, false, List, Some, Result, Ok, Err, refl, ◌∙◌, subst}
+use Rattle.std.proofs.Common.{◌≡◌, ℕ, Bool, true, List, Some, Result, Ok, Err, refl, ◌∙◌, subst}
 use Rattle.std.specs.Prelude.{OnOk}
 use Rattle.rpm_outside.specs.Files.{Files}
 use Rattle.rpm_outside.specs.declared.disk.File.{File}
@@ -17,7 +17,7 @@ use Rattle.rpm_db.specs.inner.Running.{runs_none, runs_then}
 use Rattle.rpm_db.specs.inner.Writes.{SameLog}
 use Rattle.rpm_change.specs.declared.tally.Tally.{Tally}
 use Rattle.rpm_change.specs.declared.tally.Halt.{Halt}
-use Rattle.rpm_change.specs.Endings.{halt_of, ends_command}
+use Rattle.rpm_change.specs.Endings.{halt_of}
 use Rattle.rpm_change.specs.Limits.{first_limit, next_stores, StopsAt, LimitsTurn}
 use Rattle.rpm_change.specs.inner.LimitLaws.{makes_large}
 use Rattle.rpm_change.specs.Rebuilding.{rebuild, IsOfRebuilding}
@@ -33,18 +33,6 @@ rebuild_kinds db fault.NoMemory is = tt
 rebuild_kinds db (fault.BadHeader why) is = tt
 rebuild_kinds db fault.NoSuch is = tt
 rebuild_kinds db fault.Stopped is = tt
-
-pub rebuild_ends : (db : Database) (f : ChangeFault) → db.stopped ≡ false → RebuildIs db (Err f) → ends_command f ≡ true
-rebuild_ends db fault.NumbersSpent going is = absurd is
-rebuild_ends db fault.GenerationSpent going is = absurd is
-rebuild_ends db fault.StoreFull going is = absurd is
-rebuild_ends db (fault.IndexFull needed) going is = refl
-rebuild_ends db (fault.BadIndex unit) going is = absurd is
-rebuild_ends db fault.DiskFault going is = refl
-rebuild_ends db fault.NoMemory going is = refl
-rebuild_ends db (fault.BadHeader why) going is = absurd is
-rebuild_ends db fault.NoSuch going is = absurd is
-rebuild_ends db fault.Stopped going is = let stopped : db.stopped ≡ true = is in absurd cc
 
 -- its index is full by the rows of the packages as they are
 pub unbuilt_limits : (old new : Files) (before after : Database) (changes : List Change) (f : ChangeFault) → IsRebuilt old new before after (Err f)

@@ -90,13 +90,7 @@ IsOfErasing halt.ShelfFault = ⊥
 IsOfErasing halt.OutFault = ⊥
 IsOfErasing others = Unit {0}
 
--- a change that is refused for these is one that the command doesn't ask for
-abbrev pub ends_command : ChangeFault → Bool
-ends_command (fault.BadHeader why) = false
-ends_command fault.NoSuch = false
-ends_command fault.Stopped = false
-ends_command others = true
-
+-- what a fault of a change makes of a command
 abbrev pub halt_of : ChangeFault → Halt
 halt_of fault.NumbersSpent = halt.NumbersSpent
 halt_of fault.GenerationSpent = halt.GenerationSpent

@@ -2,6 +2,7 @@ pub mod Adding
 pub mod Endings
 pub mod Erasing
 pub mod Exercise
+pub mod Hands
 pub mod Importing
 pub mod Installs
 pub mod Limits

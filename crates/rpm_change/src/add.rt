@@ -3,7 +3,7 @@
 ghost use Rattle.std.specs.Prelude.{◌≡◌, ℕ, ◌+◌, ◌^◌, ◌<◌, Bool, List, [], ◌∷◌, Some, None, length, map, true, false, IsTrue, Ok, Err, IfOk, IfErr, IfSome};
 ghost use Rattle.rpm_header.specs.Header.{header};
 ghost use Rattle.rpm_outside.specs.Browses.{left};
-ghost use Rattle.rpm_outside.specs.Buffered.{inner, holds as holds_bytes, HandsOn};
+ghost use Rattle.rpm_outside.specs.Buffered.{inner};
 ghost use Rattle.rpm_outside.specs.Causes.{HasCauseAt};
 ghost use Rattle.rpm_file.specs.Package.{read_again};
 ghost use Rattle.rpm_db.specs.Changes.{Add, Put, IsServing};
@@ -16,6 +16,7 @@ ghost use Rattle.rpm_change.specs.Adding.{change_at, put_read, put_file, adding,
 ghost use Rattle.rpm_change.specs.Endings.{outputs, Ended, IsCarried, WholeTurn};
 ghost use Rattle.rpm_change.specs.Limits.{LimitsTurn};
 ghost use Rattle.rpm_change.specs.Steps.{changing};
+ghost use Rattle.rpm_change.specs.Hands.{Hand};
 
 use crate::faults::{put_absent, put_refused};
 use crate::install::read_installed;
@@ -156,7 +157,6 @@ fn put_opened<D: Disk, S: Shelf, E: Sink + Drop>(
     requires going { db.old.stopped ≡ false }
     requires serving { IsTrue D.tells → IsServing (D.files disk.old) (D.left_since disk.old (D.moment disk.old)) db.old }
     requires held { IfSome how.number (λ n. holds n db.old ≡ true) }
-    requires err_empty { holds_bytes err.old ≡ [] }
     ensures ended { IsTrue D.tells → IsTrue S.tells → (j : ℕ) (out_tells : Bool) (out : List ℕ)
         → Ended (put_read how j path.now (left (S.rest shelf.old))) (state (D.files disk.old).pkg db.old.store)
         (state (D.files disk.new).pkg db.new.store) result
@@ -174,8 +174,7 @@ fn put_opened<D: Disk, S: Shelf, E: Sink + Drop>(
     ensures paths { IsTrue S.tells → S.paths shelf.new ≡ S.paths shelf.old }
     ensures disk { HasCauseAt (result ≡ Err Halt.DiskFault) (D.faults disk.old) (D.faults disk.new) }
     ensures shelf { HasCauseAt (result ≡ Err Halt.ShelfFault) (S.faults shelf.old) (S.faults shelf.new) }
-    ensures err { HasCauseAt (result ≡ Err Halt.ErrFault) (E.faults (inner err.old)) (E.faults (inner err.new)) }
-    ensures err_rest { HandsOn E.follows err.old err.new }
+    ensures err { Hand E.Sink (result ≡ Err Halt.ErrFault) err.old err.new }
 {
     match read_installed(alloc, shelf, how.moment) {
         Ok(blob) => put_blob(alloc, db, disk, how.number, &blob),
@@ -200,7 +199,6 @@ pub fn put_file<D: Disk, S: Shelf, E: Sink + Drop>(
     requires going { db.old.stopped ≡ false }
     requires serving { IsTrue D.tells → IsServing (D.files disk.old) (D.left_since disk.old (D.moment disk.old)) db.old }
     requires held { IfSome how.number (λ n. holds n db.old ≡ true) }
-    requires err_empty { holds_bytes err.old ≡ [] }
     ensures ended { IsTrue D.tells → IsTrue S.tells → (j : ℕ) (out_tells : Bool) (out : List ℕ)
         → Ended (put_file how (S.paths shelf.old) j path.now) (state (D.files disk.old).pkg db.old.store)
         (state (D.files disk.new).pkg db.new.store) result
@@ -218,8 +216,7 @@ pub fn put_file<D: Disk, S: Shelf, E: Sink + Drop>(
     ensures paths { IsTrue S.tells → S.paths shelf.new ≡ S.paths shelf.old }
     ensures disk { HasCauseAt (result ≡ Err Halt.DiskFault) (D.faults disk.old) (D.faults disk.new) }
     ensures shelf { HasCauseAt (result ≡ Err Halt.ShelfFault) (S.faults shelf.old) (S.faults shelf.new) }
-    ensures err { HasCauseAt (result ≡ Err Halt.ErrFault) (E.faults (inner err.old)) (E.faults (inner err.new)) }
-    ensures err_rest { HandsOn E.follows err.old err.new }
+    ensures err { Hand E.Sink (result ≡ Err Halt.ErrFault) err.old err.new }
 {
     match shelf.open(path) {
         Ok(()) => put_opened(alloc, db, disk, shelf, how, path.as_bytes(), err),
@@ -260,7 +257,6 @@ pub fn add_files<D: Disk, S: Shelf, E: Sink + Drop>(
     requires indexed { is_indexed db.old ≡ true }
     requires going { db.old.stopped ≡ false }
     requires serving { IsTrue D.tells → IsServing (D.files disk.old) (D.left_since disk.old (D.moment disk.old)) db.old }
-    requires err_empty { holds_bytes err.old ≡ [] }
     ensures ended { IsTrue D.tells → IsTrue S.tells → (out_tells : Bool) (out : List ℕ)
         → Ended (add_files (S.paths shelf.old) now (state (D.files disk.old).pkg db.old.store) (map (λ path. path.now) paths.now))
         (state (D.files disk.old).pkg db.old.store) (state (D.files disk.new).pkg db.new.store) result
@@ -277,8 +273,7 @@ pub fn add_files<D: Disk, S: Shelf, E: Sink + Drop>(
     ensures paths { IsTrue S.tells → S.paths shelf.new ≡ S.paths shelf.old }
     ensures disk { HasCauseAt (result ≡ Err Halt.DiskFault) (D.faults disk.old) (D.faults disk.new) }
     ensures shelf { HasCauseAt (result ≡ Err Halt.ShelfFault) (S.faults shelf.old) (S.faults shelf.new) }
-    ensures err { HasCauseAt (result ≡ Err Halt.ErrFault) (E.faults (inner err.old)) (E.faults (inner err.new)) }
-    ensures err_rest { HandsOn E.follows err.old err.new }
+    ensures err { Hand E.Sink (result ≡ Err Halt.ErrFault) err.old err.new }
 {
     let how = Placing {
         number: None,

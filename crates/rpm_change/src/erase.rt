@@ -1,7 +1,7 @@
 //! Erasing packages.
 
 ghost use Rattle.std.specs.Prelude.{◌≡◌, ℕ, ◌+◌, ◌^◌, ◌<◌, Bool, List, [], length, true, false, IsTrue, Err, IfOk, IfErr};
-ghost use Rattle.rpm_outside.specs.Buffered.{inner, holds, HandsOn};
+ghost use Rattle.rpm_outside.specs.Buffered.{inner};
 ghost use Rattle.rpm_outside.specs.Causes.{HasCauseAt};
 ghost use Rattle.rpm_db.specs.Changes.{IsServing};
 ghost use Rattle.rpm_db.specs.Database.{IsIndexed, is_indexed};
@@ -12,6 +12,7 @@ ghost use Rattle.rpm_db.specs.inner.Writes.{SameLog};
 ghost use Rattle.rpm_change.specs.Endings.{outputs, Ended, IsCarried, WholeTurn, IsOfErasing};
 ghost use Rattle.rpm_change.specs.Erasing.{erase_one, erase};
 ghost use Rattle.rpm_change.specs.Limits.{LimitsTurn};
+ghost use Rattle.rpm_change.specs.Hands.{Hand};
 
 use crate::lines::put_missing;
 use crate::tally::{Halt, Tally, halt_of};
@@ -30,7 +31,6 @@ fn erase_one<D: Disk, E: Sink + Drop>(
     requires indexed { is_indexed db.old ≡ true }
     requires going { db.old.stopped ≡ false }
     requires serving { IsTrue D.tells → IsServing (D.files disk.old) (D.left_since disk.old (D.moment disk.old)) db.old }
-    requires err_empty { holds err.old ≡ [] }
     ensures ended { IsTrue D.tells → (j : ℕ) (out_tells : Bool) (out : List ℕ)
         → Ended (erase_one (state (D.files disk.old).pkg db.old.store) j number) (state (D.files disk.old).pkg db.old.store)
         (state (D.files disk.new).pkg db.new.store) result
@@ -47,8 +47,7 @@ fn erase_one<D: Disk, E: Sink + Drop>(
     ensures kinds { IfErr result IsOfErasing }
     ensures runs { Runs D.tells D.files D.left_since D.moment D.bytes_read D.follows SameLog disk.old disk.new }
     ensures disk { HasCauseAt (result ≡ Err Halt.DiskFault) (D.faults disk.old) (D.faults disk.new) }
-    ensures err { HasCauseAt (result ≡ Err Halt.ErrFault) (E.faults (inner err.old)) (E.faults (inner err.new)) }
-    ensures err_rest { HandsOn E.follows err.old err.new }
+    ensures err { Hand E.Sink (result ≡ Err Halt.ErrFault) err.old err.new }
 {
     match db.erase(alloc, disk, number) {
         Ok(()) => Ok(Tally {
@@ -89,7 +88,6 @@ pub fn erase_numbers<D: Disk, E: Sink + Drop>(
     requires indexed { is_indexed db.old ≡ true }
     requires going { db.old.stopped ≡ false }
     requires serving { IsTrue D.tells → IsServing (D.files disk.old) (D.left_since disk.old (D.moment disk.old)) db.old }
-    requires err_empty { holds err.old ≡ [] }
     ensures ended { IsTrue D.tells → (out_tells : Bool) (out : List ℕ)
         → Ended (erase (state (D.files disk.old).pkg db.old.store) numbers.now) (state (D.files disk.old).pkg db.old.store)
         (state (D.files disk.new).pkg db.new.store) result
@@ -104,8 +102,7 @@ pub fn erase_numbers<D: Disk, E: Sink + Drop>(
     ensures kinds { IfErr result IsOfErasing }
     ensures runs { Runs D.tells D.files D.left_since D.moment D.bytes_read D.follows SameLog disk.old disk.new }
     ensures disk { HasCauseAt (result ≡ Err Halt.DiskFault) (D.faults disk.old) (D.faults disk.new) }
-    ensures err { HasCauseAt (result ≡ Err Halt.ErrFault) (E.faults (inner err.old)) (E.faults (inner err.new)) }
-    ensures err_rest { HandsOn E.follows err.old err.new }
+    ensures err { Hand E.Sink (result ≡ Err Halt.ErrFault) err.old err.new }
 {
     let mut failed = 0u32;
     let mut changes = 0u32;

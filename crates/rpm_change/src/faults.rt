@@ -1,12 +1,13 @@
 //! What is told of package files that aren't read.
 
 ghost use Rattle.std.specs.Prelude.{◌≡◌, ◌++◌, ℕ, Bool, List, [], Err, IfOk, IfErr};
-ghost use Rattle.rpm_outside.specs.Buffered.{inner, holds, HandsOn};
+ghost use Rattle.rpm_outside.specs.Buffered.{inner};
 ghost use Rattle.rpm_outside.specs.Causes.{HasCauseAt};
 ghost use Rattle.rpm_db.specs.State.{State};
 ghost use Rattle.rpm_change.specs.Steps.{ToErr, whole, failing};
 ghost use Rattle.rpm_change.specs.Endings.{outputs, Ended, IsOfLines};
 ghost use Rattle.rpm_change.specs.Texts.{at_entry, header_text, file_text, refused_line, absent_line};
+ghost use Rattle.rpm_change.specs.Hands.{Hand};
 
 use crate::lines::put_failing;
 use crate::tally::{Halt, Tally};
@@ -114,13 +115,11 @@ pub fn put_refused<E: Sink + Drop>(
     path: &[u8],
     fault: FileFault,
 ) -> Result<Tally, Halt>
-    requires err_empty { holds err.old ≡ [] }
     ensures ended { (j : ℕ) (s : State) (out_tells : Bool) (out : List ℕ) → Ended (failing (ToErr (whole j) (refused_line path.now fault))) s s result
         (outputs out_tells out E.tells (E.taken (inner err.old))) (outputs out_tells out E.tells (E.taken (inner err.new))) }
     ensures one { IfOk result (λ tally. tally ≡ record { failed = 1; changes = 0 }) }
     ensures kinds { IfErr result IsOfLines }
-    ensures err { HasCauseAt (result ≡ Err Halt.ErrFault) (E.faults (inner err.old)) (E.faults (inner err.new)) }
-    ensures err_rest { HandsOn E.follows err.old err.new }
+    ensures err { Hand E.Sink (result ≡ Err Halt.ErrFault) err.old err.new }
 {
     match refused_line(alloc, path, fault) {
         Ok(line) => put_failing(err, &line),
@@ -134,13 +133,11 @@ pub fn put_absent<E: Sink + Drop>(
     err: &mut Buffered<E>,
     path: &[u8],
 ) -> Result<Tally, Halt>
-    requires err_empty { holds err.old ≡ [] }
     ensures ended { (j : ℕ) (s : State) (out_tells : Bool) (out : List ℕ) → Ended (failing (ToErr (whole j) (absent_line path.now))) s s result
         (outputs out_tells out E.tells (E.taken (inner err.old))) (outputs out_tells out E.tells (E.taken (inner err.new))) }
     ensures one { IfOk result (λ tally. tally ≡ record { failed = 1; changes = 0 }) }
     ensures kinds { IfErr result IsOfLines }
-    ensures err { HasCauseAt (result ≡ Err Halt.ErrFault) (E.faults (inner err.old)) (E.faults (inner err.new)) }
-    ensures err_rest { HandsOn E.follows err.old err.new }
+    ensures err { Hand E.Sink (result ≡ Err Halt.ErrFault) err.old err.new }
 {
     match absent_line(alloc, path) {
         Ok(line) => put_failing(err, &line),

@@ -3,7 +3,7 @@
 ghost use Rattle.std.specs.Prelude.{◌≡◌, ℕ, ◌+◌, ◌^◌, ◌<◌, ◌≤◌, Bool, List, [], codes, true, false, IsTrue, Option, Result, Ok, Err, IfOk, IfErr, OnOk, if◌then◌else◌, nat_lt};
 ghost use Rattle.rpm_header.specs.Header.{header};
 ghost use Rattle.rpm_outside.specs.Browses.{left, Browses};
-ghost use Rattle.rpm_outside.specs.Buffered.{inner, holds, HandsOn};
+ghost use Rattle.rpm_outside.specs.Buffered.{inner};
 ghost use Rattle.rpm_outside.specs.Causes.{HasCauseAt};
 ghost use Rattle.rpm_outside.specs.Shelves.{bytes_at};
 ghost use Rattle.rpm_file.specs.declared.fault.ListFault.{ListFault};
@@ -20,6 +20,7 @@ ghost use Rattle.rpm_change.specs.Endings.{outputs, Ended, IsCarried, WholeTurn}
 ghost use Rattle.rpm_change.specs.Importing.{place_fails, imported, import_listed, import_list, listed, max_headers};
 ghost use Rattle.rpm_change.specs.Limits.{LimitsTurn};
 ghost use Rattle.rpm_change.specs.Turns.{turn, turn_found, Leaves, StopIs, tally_of, counted_once, IsOfHeaders, IsOfEnding, IsOfImporting};
+ghost use Rattle.rpm_change.specs.Hands.{Hand};
 
 use crate::lines::put_failing;
 use crate::places::{list_text, put_bad_header, put_place};
@@ -76,7 +77,6 @@ fn import_header<D: Disk, E: Sink + Drop>(
     requires indexed { is_indexed db.old ≡ true }
     requires going { db.old.stopped ≡ false }
     requires serving { IsTrue D.tells → IsServing (D.files disk.old) (D.left_since disk.old (D.moment disk.old)) db.old }
-    requires err_empty { holds err.old ≡ [] }
     ensures ended { IsTrue D.tells → (out_tells : Bool) (out : List ℕ)
         → Ended (imported place (header blob.now)) (state (D.files disk.old).pkg db.old.store) (state (D.files disk.new).pkg db.new.store) result
         (outputs out_tells out E.tells (E.taken (inner err.old))) (outputs out_tells out E.tells (E.taken (inner err.new))) }
@@ -91,8 +91,7 @@ fn import_header<D: Disk, E: Sink + Drop>(
     ensures kinds { IfErr result IsOfHeaders }
     ensures runs { Runs D.tells D.files D.left_since D.moment D.bytes_read D.follows SameLog disk.old disk.new }
     ensures disk { HasCauseAt (result ≡ Err Halt.DiskFault) (D.faults disk.old) (D.faults disk.new) }
-    ensures err { HasCauseAt (result ≡ Err Halt.ErrFault) (E.faults (inner err.old)) (E.faults (inner err.new)) }
-    ensures err_rest { HandsOn E.follows err.old err.new }
+    ensures err { Hand E.Sink (result ≡ Err Halt.ErrFault) err.old err.new }
 {
     match db.add(alloc, disk, blob) {
         Ok(_) => Ok(Tally {
@@ -117,7 +116,6 @@ fn import_within<D: Disk, E: Sink + Drop>(
     requires indexed { is_indexed db.old ≡ true }
     requires going { db.old.stopped ≡ false }
     requires serving { IsTrue D.tells → IsServing (D.files disk.old) (D.left_since disk.old (D.moment disk.old)) db.old }
-    requires err_empty { holds err.old ≡ [] }
     ensures ended { IsTrue D.tells → (out_tells : Bool) (out : List ℕ)
         → Ended (turn_found most place blob.now) (state (D.files disk.old).pkg db.old.store)
         (state (D.files disk.new).pkg db.new.store) result
@@ -133,8 +131,7 @@ fn import_within<D: Disk, E: Sink + Drop>(
     ensures kinds { IfErr result IsOfHeaders }
     ensures runs { Runs D.tells D.files D.left_since D.moment D.bytes_read D.follows SameLog disk.old disk.new }
     ensures disk { HasCauseAt (result ≡ Err Halt.DiskFault) (D.faults disk.old) (D.faults disk.new) }
-    ensures err { HasCauseAt (result ≡ Err Halt.ErrFault) (E.faults (inner err.old)) (E.faults (inner err.new)) }
-    ensures err_rest { HandsOn E.follows err.old err.new }
+    ensures err { Hand E.Sink (result ≡ Err Halt.ErrFault) err.old err.new }
 {
     if most < place {
         put_place(alloc, err, place, b"too many headers")
@@ -150,7 +147,6 @@ fn end_list<E: Sink + Drop>(
     fault: ListFault,
     err: &mut Buffered<E>,
 ) -> Result<Tally, Halt>
-    requires err_empty { holds err.old ≡ [] }
     ensures ended { (most : ℕ) (head : Result (Option Found) ListFault) → IsListFault head fault → (s : State) (out_tells : Bool) (out : List ℕ)
         → Ended (turn most place head) s s result
         (outputs out_tells out E.tells (E.taken (inner err.old))) (outputs out_tells out E.tells (E.taken (inner err.new))) }
@@ -161,8 +157,7 @@ fn end_list<E: Sink + Drop>(
     ensures one { IfOk result (λ tally. tally.failed + tally.changes ≤ 1) }
     ensures kinds { IfErr result IsOfEnding }
     ensures shelf { result ≡ Err Halt.ShelfFault → fault ≡ ListFault.ReadFault }
-    ensures err { HasCauseAt (result ≡ Err Halt.ErrFault) (E.faults (inner err.old)) (E.faults (inner err.new)) }
-    ensures err_rest { HandsOn E.follows err.old err.new }
+    ensures err { Hand E.Sink (result ≡ Err Halt.ErrFault) err.old err.new }
 {
     match stop_of(fault) {
         Some(halt) => Err(halt),
@@ -184,7 +179,6 @@ fn import_next<D: Disk, S: Shelf, E: Sink + Drop>(
     requires indexed { is_indexed db.old ≡ true }
     requires going { db.old.stopped ≡ false }
     requires serving { IsTrue D.tells → IsServing (D.files disk.old) (D.left_since disk.old (D.moment disk.old)) db.old }
-    requires err_empty { holds err.old ≡ [] }
     ensures ended { IsTrue D.tells → IsTrue S.tells → (out_tells : Bool) (out : List ℕ)
         → Ended (turn most place (list_head (left (S.rest shelf.old)))) (state (D.files disk.old).pkg db.old.store)
         (state (D.files disk.new).pkg db.new.store) (tally_of result)
@@ -204,8 +198,7 @@ fn import_next<D: Disk, S: Shelf, E: Sink + Drop>(
     ensures browses { Browses S.tells S.paths S.rest S.absences S.faults shelf.old shelf.new }
     ensures disk { HasCauseAt (result ≡ Err Halt.DiskFault) (D.faults disk.old) (D.faults disk.new) }
     ensures shelf { HasCauseAt (result ≡ Err Halt.ShelfFault) (S.faults shelf.old) (S.faults shelf.new) }
-    ensures err { HasCauseAt (result ≡ Err Halt.ErrFault) (E.faults (inner err.old)) (E.faults (inner err.new)) }
-    ensures err_rest { HandsOn E.follows err.old err.new }
+    ensures err { Hand E.Sink (result ≡ Err Halt.ErrFault) err.old err.new }
 {
     match read_header(shelf, room) {
         Ok(Some(size)) => {
@@ -236,7 +229,6 @@ fn import_open<D: Disk, S: Shelf, E: Sink + Drop>(
     requires indexed { is_indexed db.old ≡ true }
     requires going { db.old.stopped ≡ false }
     requires serving { IsTrue D.tells → IsServing (D.files disk.old) (D.left_since disk.old (D.moment disk.old)) db.old }
-    requires err_empty { holds err.old ≡ [] }
     ensures ended { IsTrue D.tells → IsTrue S.tells → (out_tells : Bool) (out : List ℕ)
         → Ended (import_listed most (listed (left (S.rest shelf.old)))) (state (D.files disk.old).pkg db.old.store)
         (state (D.files disk.new).pkg db.new.store) result
@@ -254,8 +246,7 @@ fn import_open<D: Disk, S: Shelf, E: Sink + Drop>(
     ensures browses { Browses S.tells S.paths S.rest S.absences S.faults shelf.old shelf.new }
     ensures disk { HasCauseAt (result ≡ Err Halt.DiskFault) (D.faults disk.old) (D.faults disk.new) }
     ensures shelf { HasCauseAt (result ≡ Err Halt.ShelfFault) (S.faults shelf.old) (S.faults shelf.new) }
-    ensures err { HasCauseAt (result ≡ Err Halt.ErrFault) (E.faults (inner err.old)) (E.faults (inner err.new)) }
-    ensures err_rest { HandsOn E.follows err.old err.new }
+    ensures err { Hand E.Sink (result ≡ Err Halt.ErrFault) err.old err.new }
 {
     let mut failed = 0u32;
     let mut changes = 0u32;
@@ -303,7 +294,6 @@ pub fn import_most<D: Disk, S: Shelf, E: Sink + Drop>(
     requires indexed { is_indexed db.old ≡ true }
     requires going { db.old.stopped ≡ false }
     requires serving { IsTrue D.tells → IsServing (D.files disk.old) (D.left_since disk.old (D.moment disk.old)) db.old }
-    requires err_empty { holds err.old ≡ [] }
     ensures ended { IsTrue D.tells → IsTrue S.tells → (out_tells : Bool) (out : List ℕ)
         → Ended (import_list most (bytes_at (S.paths shelf.old) (codes "-"))) (state (D.files disk.old).pkg db.old.store)
         (state (D.files disk.new).pkg db.new.store) result
@@ -321,8 +311,7 @@ pub fn import_most<D: Disk, S: Shelf, E: Sink + Drop>(
     ensures paths { IsTrue S.tells → S.paths shelf.new ≡ S.paths shelf.old }
     ensures disk { HasCauseAt (result ≡ Err Halt.DiskFault) (D.faults disk.old) (D.faults disk.new) }
     ensures shelf { HasCauseAt (result ≡ Err Halt.ShelfFault) (S.faults shelf.old) (S.faults shelf.new) }
-    ensures err { HasCauseAt (result ≡ Err Halt.ErrFault) (E.faults (inner err.old)) (E.faults (inner err.new)) }
-    ensures err_rest { HandsOn E.follows err.old err.new }
+    ensures err { Hand E.Sink (result ≡ Err Halt.ErrFault) err.old err.new }
 {
     match shelf.open("-") {
         Ok(()) => counted_once(import_open(alloc, db, disk, shelf, most, err)),
@@ -361,7 +350,6 @@ pub fn import_list<D: Disk, S: Shelf, E: Sink + Drop>(
     requires indexed { is_indexed db.old ≡ true }
     requires going { db.old.stopped ≡ false }
     requires serving { IsTrue D.tells → IsServing (D.files disk.old) (D.left_since disk.old (D.moment disk.old)) db.old }
-    requires err_empty { holds err.old ≡ [] }
     ensures ended { IsTrue D.tells → IsTrue S.tells → (out_tells : Bool) (out : List ℕ)
         → Ended (import_list max_headers (bytes_at (S.paths shelf.old) (codes "-"))) (state (D.files disk.old).pkg db.old.store)
         (state (D.files disk.new).pkg db.new.store) result
@@ -378,8 +366,7 @@ pub fn import_list<D: Disk, S: Shelf, E: Sink + Drop>(
     ensures paths { IsTrue S.tells → S.paths shelf.new ≡ S.paths shelf.old }
     ensures disk { HasCauseAt (result ≡ Err Halt.DiskFault) (D.faults disk.old) (D.faults disk.new) }
     ensures shelf { HasCauseAt (result ≡ Err Halt.ShelfFault) (S.faults shelf.old) (S.faults shelf.new) }
-    ensures err { HasCauseAt (result ≡ Err Halt.ErrFault) (E.faults (inner err.old)) (E.faults (inner err.new)) }
-    ensures err_rest { HandsOn E.follows err.old err.new }
+    ensures err { Hand E.Sink (result ≡ Err Halt.ErrFault) err.old err.new }
 {
     import_most(alloc, db, disk, shelf, MAX_HEADERS, err)
 }

@@ -26,4 +26,4 @@ pub use import::{import_list, import_most};
 pub use install::installed;
 pub use rebuilding::rebuild;
 pub use replace::replace_package;
-pub use tally::{Halt, Tally};
+pub use tally::{Halt, Tally, halt_of};

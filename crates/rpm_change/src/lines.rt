@@ -1,12 +1,13 @@
 //! Lines for which an argument fails.
 
 ghost use Rattle.std.specs.Prelude.{◌≡◌, ℕ, Bool, List, [], Err, IfOk, IfErr};
-ghost use Rattle.rpm_outside.specs.Buffered.{inner, holds, HandsOn};
+ghost use Rattle.rpm_outside.specs.Buffered.{inner};
 ghost use Rattle.rpm_outside.specs.Causes.{HasCauseAt};
 ghost use Rattle.rpm_db.specs.State.{State};
 ghost use Rattle.rpm_change.specs.Steps.{Bearer, ToErr, failing};
 ghost use Rattle.rpm_change.specs.Endings.{outputs, Ended, IsOfLines};
 ghost use Rattle.rpm_change.specs.Erasing.{missing_line, missing};
+ghost use Rattle.rpm_change.specs.Hands.{Hand};
 
 use crate::tally::{Halt, Tally};
 use itoa::Buffer;
@@ -15,14 +16,13 @@ use std::alloc::{AllocError, Global};
 
 /// Writes a line to err; then the argument fails.
 pub fn put_failing<E: Sink + Drop>(err: &mut Buffered<E>, line: &[u8]) -> Result<Tally, Halt>
-    requires err_empty { holds err.old ≡ [] }
     ensures ended { (for : Bearer) (s : State) (out_tells : Bool) (out : List ℕ) → Ended (failing (ToErr for line.now)) s s result
         (outputs out_tells out E.tells (E.taken (inner err.old))) (outputs out_tells out E.tells (E.taken (inner err.new))) }
     ensures one { IfOk result (λ tally. tally ≡ record { failed = 1; changes = 0 }) }
     ensures kinds { IfErr result IsOfLines }
-    ensures err { HasCauseAt (result ≡ Err Halt.ErrFault) (E.faults (inner err.old)) (E.faults (inner err.new)) }
-    ensures err_rest { HandsOn E.follows err.old err.new }
+    ensures err { Hand E.Sink (result ≡ Err Halt.ErrFault) err.old err.new }
 {
+    err.clear();
     match put_and_flush(err, line) {
         Ok(()) => Ok(Tally {
             failed: 1,
@@ -51,13 +51,11 @@ pub fn put_missing<E: Sink + Drop>(
     err: &mut Buffered<E>,
     number: u32,
 ) -> Result<Tally, Halt>
-    requires err_empty { holds err.old ≡ [] }
     ensures ended { (j : ℕ) (s : State) (out_tells : Bool) (out : List ℕ) → Ended (missing j number) s s result
         (outputs out_tells out E.tells (E.taken (inner err.old))) (outputs out_tells out E.tells (E.taken (inner err.new))) }
     ensures one { IfOk result (λ tally. tally ≡ record { failed = 1; changes = 0 }) }
     ensures kinds { IfErr result IsOfLines }
-    ensures err { HasCauseAt (result ≡ Err Halt.ErrFault) (E.faults (inner err.old)) (E.faults (inner err.new)) }
-    ensures err_rest { HandsOn E.follows err.old err.new }
+    ensures err { Hand E.Sink (result ≡ Err Halt.ErrFault) err.old err.new }
 {
     match missing_line(alloc, number) {
         Ok(line) => put_failing(err, &line),

@@ -1,12 +1,13 @@
 //! Lines of the headers of a list.
 
 ghost use Rattle.std.specs.Prelude.{◌≡◌, ◌++◌, ℕ, Bool, List, [], Err, IfOk, IfErr};
-ghost use Rattle.rpm_outside.specs.Buffered.{inner, holds, HandsOn};
+ghost use Rattle.rpm_outside.specs.Buffered.{inner};
 ghost use Rattle.rpm_outside.specs.Causes.{HasCauseAt};
 ghost use Rattle.rpm_db.specs.State.{State};
 ghost use Rattle.rpm_change.specs.Endings.{outputs, Ended, IsOfLines};
 ghost use Rattle.rpm_change.specs.Importing.{place_fails};
 ghost use Rattle.rpm_change.specs.Texts.{header_text, list_text, place_line};
+ghost use Rattle.rpm_change.specs.Hands.{Hand};
 
 use crate::faults::push_header_text;
 use crate::lines::put_failing;
@@ -53,13 +54,11 @@ pub fn put_place<E: Sink + Drop>(
     place: u32,
     text: &[u8],
 ) -> Result<Tally, Halt>
-    requires err_empty { holds err.old ≡ [] }
     ensures ended { (s : State) (out_tells : Bool) (out : List ℕ) → Ended (place_fails place text.now) s s result
         (outputs out_tells out E.tells (E.taken (inner err.old))) (outputs out_tells out E.tells (E.taken (inner err.new))) }
     ensures one { IfOk result (λ tally. tally ≡ record { failed = 1; changes = 0 }) }
     ensures kinds { IfErr result IsOfLines }
-    ensures err { HasCauseAt (result ≡ Err Halt.ErrFault) (E.faults (inner err.old)) (E.faults (inner err.new)) }
-    ensures err_rest { HandsOn E.follows err.old err.new }
+    ensures err { Hand E.Sink (result ≡ Err Halt.ErrFault) err.old err.new }
 {
     match place_line(alloc, place, text) {
         Ok(line) => put_failing(err, &line),
@@ -74,13 +73,11 @@ pub fn put_bad_header<E: Sink + Drop>(
     place: u32,
     fault: HeaderFault,
 ) -> Result<Tally, Halt>
-    requires err_empty { holds err.old ≡ [] }
     ensures ended { (s : State) (out_tells : Bool) (out : List ℕ) → Ended (place_fails place (header_text fault)) s s result
         (outputs out_tells out E.tells (E.taken (inner err.old))) (outputs out_tells out E.tells (E.taken (inner err.new))) }
     ensures one { IfOk result (λ tally. tally ≡ record { failed = 1; changes = 0 }) }
     ensures kinds { IfErr result IsOfLines }
-    ensures err { HasCauseAt (result ≡ Err Halt.ErrFault) (E.faults (inner err.old)) (E.faults (inner err.new)) }
-    ensures err_rest { HandsOn E.follows err.old err.new }
+    ensures err { Hand E.Sink (result ≡ Err Halt.ErrFault) err.old err.new }
 {
     let mut text = Vec::new(alloc);
     match push_header_text(&mut text, fault) {

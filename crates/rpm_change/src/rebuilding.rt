@@ -2,7 +2,7 @@
 
 ghost use Rattle.std.specs.Prelude.{◌≡◌, ℕ, ◌+◌, ◌≤◌, Bool, List, [], ◌∷◌, true, false, IsTrue, Some, Err, IfOk, IfErr, OnOk};
 ghost use Rattle.std.specs.FinMap as finite;
-ghost use Rattle.rpm_outside.specs.Buffered.{inner, holds, HandsOn};
+ghost use Rattle.rpm_outside.specs.Buffered.{inner, holds};
 ghost use Rattle.rpm_outside.specs.Causes.{HasCauseAt};
 ghost use Rattle.rpm_pkgdb.specs.Written.{with_spare};
 ghost use Rattle.rpm_db.specs.Changes.{Erase, apply, IsServing};
@@ -14,6 +14,7 @@ ghost use Rattle.rpm_db.specs.inner.Writes.{SameLog};
 ghost use Rattle.rpm_change.specs.Endings.{outputs, Ended, IsCarried};
 ghost use Rattle.rpm_change.specs.Limits.{first_limit, next_stores, StopsAt, LimitsTurn};
 ghost use Rattle.rpm_change.specs.Rebuilding.{dropped_line, dropped, rebuild, IsOfRebuilding};
+ghost use Rattle.rpm_change.specs.Hands.{Hand};
 
 use crate::tally::{Halt, Tally, halt_of};
 use itoa::Buffer;
@@ -41,14 +42,13 @@ fn put_dropped<O: Sink + Drop>(
     line: &[u8],
 ) -> Result<Tally, Halt>
     requires line { line.now ≡ dropped_line number }
-    requires out_empty { holds out.old ≡ [] }
     ensures ended { (s t : State) → t ≡ apply (Erase number) s → (err_tells : Bool) (err : List ℕ) → Ended (dropped number Bad) s t result
         (outputs O.tells (O.taken (inner out.old)) err_tells err) (outputs O.tells (O.taken (inner out.new)) err_tells err) }
     ensures one { IfOk result (λ tally. tally ≡ record { failed = 0; changes = 1 }) }
     ensures kinds { IfErr result (λ halt. halt ≡ Halt.OutFault) }
-    ensures out { HasCauseAt (result ≡ Err Halt.OutFault) (O.faults (inner out.old)) (O.faults (inner out.new)) }
-    ensures out_rest { HandsOn O.follows out.old out.new }
+    ensures out { Hand O.Sink (result ≡ Err Halt.OutFault) out.old out.new }
 {
+    out.clear();
     match put_and_flush(out, line) {
         Ok(()) => Ok(Tally {
             failed: 0,
@@ -70,7 +70,6 @@ fn drop_bad<D: Disk, O: Sink + Drop>(
     requires indexed { is_indexed db.old ≡ true }
     requires going { db.old.stopped ≡ false }
     requires serving { IsTrue D.tells → IsServing (D.files disk.old) (D.left_since disk.old (D.moment disk.old)) db.old }
-    requires out_empty { holds out.old ≡ [] }
     ensures ended { IsTrue D.tells → (err_tells : Bool) (err : List ℕ)
         → Ended (dropped number Bad) (state (D.files disk.old).pkg db.old.store) (state (D.files disk.new).pkg db.new.store) result
         (outputs O.tells (O.taken (inner out.old)) err_tells err) (outputs O.tells (O.taken (inner out.new)) err_tells err) }
@@ -84,8 +83,7 @@ fn drop_bad<D: Disk, O: Sink + Drop>(
     ensures kinds { IfErr result IsOfRebuilding }
     ensures runs { Runs D.tells D.files D.left_since D.moment D.bytes_read D.follows SameLog disk.old disk.new }
     ensures disk { HasCauseAt (result ≡ Err Halt.DiskFault) (D.faults disk.old) (D.faults disk.new) }
-    ensures out { HasCauseAt (result ≡ Err Halt.OutFault) (O.faults (inner out.old)) (O.faults (inner out.new)) }
-    ensures out_rest { HandsOn O.follows out.old out.new }
+    ensures out { Hand O.Sink (result ≡ Err Halt.OutFault) out.old out.new }
 {
     let Ok(line) = dropped_line(alloc, number) else {
         return Err(Halt::NoMemory);
@@ -108,7 +106,6 @@ fn drop_one<D: Disk, O: Sink + Drop>(
     requires indexed { is_indexed db.old ≡ true }
     requires going { db.old.stopped ≡ false }
     requires serving { IsTrue D.tells → IsServing (D.files disk.old) (D.left_since disk.old (D.moment disk.old)) db.old }
-    requires out_empty { holds out.old ≡ [] }
     ensures ended { IsTrue D.tells → (p : Package) → finite.get (state (D.files disk.old).pkg db.old.store).packages number ≡ Some p
         → (err_tells : Bool) (err : List ℕ)
         → Ended (dropped number p) (state (D.files disk.old).pkg db.old.store) (state (D.files disk.new).pkg db.new.store) result
@@ -123,8 +120,7 @@ fn drop_one<D: Disk, O: Sink + Drop>(
     ensures kinds { IfErr result IsOfRebuilding }
     ensures runs { Runs D.tells D.files D.left_since D.moment D.bytes_read D.follows SameLog disk.old disk.new }
     ensures disk { HasCauseAt (result ≡ Err Halt.DiskFault) (D.faults disk.old) (D.faults disk.new) }
-    ensures out { HasCauseAt (result ≡ Err Halt.OutFault) (O.faults (inner out.old)) (O.faults (inner out.new)) }
-    ensures out_rest { HandsOn O.follows out.old out.new }
+    ensures out { Hand O.Sink (result ≡ Err Halt.OutFault) out.old out.new }
 {
     match db.get(alloc, disk, number) {
         Ok(_good) => Ok(Tally {
@@ -148,7 +144,6 @@ fn drop_each<D: Disk, O: Sink + Drop>(
     requires indexed { is_indexed db.old ≡ true }
     requires going { db.old.stopped ≡ false }
     requires serving { IsTrue D.tells → IsServing (D.files disk.old) (D.left_since disk.old (D.moment disk.old)) db.old }
-    requires out_empty { holds out.old ≡ [] }
     ensures ended { IsTrue D.tells → (err_tells : Bool) (err : List ℕ)
         → Ended (rebuild (state (D.files disk.old).pkg db.old.store)) (state (D.files disk.old).pkg db.old.store)
         (state (D.files disk.new).pkg db.new.store) result
@@ -163,8 +158,7 @@ fn drop_each<D: Disk, O: Sink + Drop>(
     ensures kinds { IfErr result IsOfRebuilding }
     ensures runs { Runs D.tells D.files D.left_since D.moment D.bytes_read D.follows SameLog disk.old disk.new }
     ensures disk { HasCauseAt (result ≡ Err Halt.DiskFault) (D.faults disk.old) (D.faults disk.new) }
-    ensures out { HasCauseAt (result ≡ Err Halt.OutFault) (O.faults (inner out.old)) (O.faults (inner out.new)) }
-    ensures out_rest { HandsOn O.follows out.old out.new }
+    ensures out { Hand O.Sink (result ≡ Err Halt.OutFault) out.old out.new }
 {
     let mut number = 0u32;
     let mut failed = 0u32;
@@ -210,7 +204,6 @@ pub fn rebuild<D: Disk, O: Sink + Drop>(
     requires indexed { is_indexed db.old ≡ true }
     requires going { db.old.stopped ≡ false }
     requires serving { IsTrue D.tells → IsServing (D.files disk.old) (D.left_since disk.old (D.moment disk.old)) db.old }
-    requires out_empty { holds out.old ≡ [] }
     ensures ended { IsTrue D.tells → (err_tells : Bool) (err : List ℕ)
         → Ended (rebuild (state (D.files disk.old).pkg db.old.store)) (state (D.files disk.old).pkg db.old.store)
         (state (D.files disk.new).pkg db.new.store) result
@@ -226,8 +219,7 @@ pub fn rebuild<D: Disk, O: Sink + Drop>(
     ensures kinds { IfErr result IsOfRebuilding }
     ensures runs { Runs D.tells D.files D.left_since D.moment D.bytes_read D.follows SameLog disk.old disk.new }
     ensures disk { HasCauseAt (result ≡ Err Halt.DiskFault) (D.faults disk.old) (D.faults disk.new) }
-    ensures out { HasCauseAt (result ≡ Err Halt.OutFault) (O.faults (inner out.old)) (O.faults (inner out.new)) }
-    ensures out_rest { HandsOn O.follows out.old out.new }
+    ensures out { Hand O.Sink (result ≡ Err Halt.OutFault) out.old out.new }
 {
     match db.rebuild(alloc, disk) {
         Ok(()) => drop_each(alloc, db, disk, out),

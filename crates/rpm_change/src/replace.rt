@@ -1,7 +1,7 @@
 //! A package file in place of a package.
 
 ghost use Rattle.std.specs.Prelude.{◌≡◌, ℕ, ◌+◌, Bool, List, [], Some, true, false, IsTrue, Err, IfOk, IfErr};
-ghost use Rattle.rpm_outside.specs.Buffered.{inner, holds as holds_bytes, HandsOn};
+ghost use Rattle.rpm_outside.specs.Buffered.{inner};
 ghost use Rattle.rpm_outside.specs.Causes.{HasCauseAt};
 ghost use Rattle.rpm_db.specs.Changes.{IsServing};
 ghost use Rattle.rpm_db.specs.Database.{IsIndexed, is_indexed, holds};
@@ -12,6 +12,7 @@ ghost use Rattle.rpm_db.specs.inner.Writes.{SameLog};
 ghost use Rattle.rpm_change.specs.Adding.{replace, IsOfPutting};
 ghost use Rattle.rpm_change.specs.Endings.{outputs, Ended, IsCarried, WholeTurn};
 ghost use Rattle.rpm_change.specs.Limits.{LimitsTurn};
+ghost use Rattle.rpm_change.specs.Hands.{Hand};
 
 use crate::add::{Placing, put_file};
 use crate::lines::put_missing;
@@ -52,7 +53,6 @@ pub fn replace_package<D: Disk, S: Shelf, E: Sink + Drop>(
     requires indexed { is_indexed db.old ≡ true }
     requires going { db.old.stopped ≡ false }
     requires serving { IsTrue D.tells → IsServing (D.files disk.old) (D.left_since disk.old (D.moment disk.old)) db.old }
-    requires err_empty { holds_bytes err.old ≡ [] }
     ensures ended { IsTrue D.tells → IsTrue S.tells → (out_tells : Bool) (out : List ℕ)
         → Ended (replace (S.paths shelf.old) now (state (D.files disk.old).pkg db.old.store) number path.now)
         (state (D.files disk.old).pkg db.old.store) (state (D.files disk.new).pkg db.new.store) result
@@ -71,8 +71,7 @@ pub fn replace_package<D: Disk, S: Shelf, E: Sink + Drop>(
     ensures paths { IsTrue S.tells → S.paths shelf.new ≡ S.paths shelf.old }
     ensures disk { HasCauseAt (result ≡ Err Halt.DiskFault) (D.faults disk.old) (D.faults disk.new) }
     ensures shelf { HasCauseAt (result ≡ Err Halt.ShelfFault) (S.faults shelf.old) (S.faults shelf.new) }
-    ensures err { HasCauseAt (result ≡ Err Halt.ErrFault) (E.faults (inner err.old)) (E.faults (inner err.new)) }
-    ensures err_rest { HandsOn E.follows err.old err.new }
+    ensures err { Hand E.Sink (result ≡ Err Halt.ErrFault) err.old err.new }
 {
     if db.holds(number) {
         let how = Placing {

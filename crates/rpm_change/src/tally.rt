@@ -1,7 +1,7 @@
 //! How a command that changes ends.
 
-ghost use Rattle.std.specs.Prelude.{◌≡◌, true};
-ghost use Rattle.rpm_change.specs.Endings.{ends_command, halt_of};
+ghost use Rattle.std.specs.Prelude.{◌≡◌};
+ghost use Rattle.rpm_change.specs.Endings.{halt_of};
 
 use rpm_db::ChangeFault;
 
@@ -37,9 +37,9 @@ pub enum Halt {
     NoMemory,
 }
 
-/// What a fault of a change makes of the command.
+/// What a fault of a change makes of a command. Of the last three none comes of a header that was read, under a number that is there, on a
+/// disk that keeps what it is given.
 pub fn halt_of(fault: ChangeFault) -> Halt
-    requires { ends_command fault ≡ true }
     ensures { result ≡ halt_of fault }
 {
     match fault {
@@ -50,6 +50,6 @@ pub fn halt_of(fault: ChangeFault) -> Halt
         ChangeFault::BadIndex { unit } => Halt::BadIndex { unit },
         ChangeFault::DiskFault => Halt::DiskFault,
         ChangeFault::NoMemory => Halt::NoMemory,
-        ChangeFault::BadHeader(_) | ChangeFault::NoSuch | ChangeFault::Stopped => unreachable!(),
+        ChangeFault::BadHeader(_) | ChangeFault::NoSuch | ChangeFault::Stopped => Halt::NoMemory,
     }
 }

@@ -1,5 +1,5 @@
 -- What one change is, or none: what refuses it.
-use Rattle.std.proofs.Common.{◌≡◌, ◌≢◌, ℕ, ◌+◌, ◌^◌, ◌<◌, ◌≤◌, Bool, true, false, List, [], ◌∷◌, Option, Some, None, Ok, Err, refl, sym, ap, ◌∙◌, arith}
+use Rattle.std.proofs.Common.{◌≡◌, ◌≢◌, ℕ, ◌+◌, ◌^◌, ◌≤◌, Bool, true, false, List, [], ◌∷◌, Option, Some, None, Ok, Err, refl, sym, ap, ◌∙◌, arith}
 use Rattle.std.specs.Prelude.{IsSome, is_none, nat_lt, ◌==◌, ◌&&◌, if◌then◌else◌}
 use Rattle.std.specs.Option.{option_and_then, option_or}
 use Rattle.std.proofs.lemmas.Bool.Decides.{nat_tests}
@@ -16,7 +16,7 @@ use Rattle.rpm_change.specs.declared.tally.Tally.{Tally}
 use Rattle.rpm_change.specs.declared.tally.Halt.{Halt}
 use Rattle.rpm_change.specs.declared.tally.Halt.TheVariants as halt
 use Rattle.rpm_change.specs.Endings.{halt_of}
-use Rattle.rpm_change.specs.Limits.{is_spent, is_large, needed, refusal, first_refusal, next_stores, is_limit, LimitsTurn}
+use Rattle.rpm_change.specs.Limits.{is_spent, is_large, needed, refusal, next_stores, is_limit, LimitsTurn}
 
 -- a number is left for a change that needs a new one
 abbrev pub HasNumber : State → Change → Type 0

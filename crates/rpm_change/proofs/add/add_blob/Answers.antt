@@ -7,7 +7,7 @@ use Rattle.rpm_change.specs.Endings.{outputs}
 use Rattle.rpm_change.specs.Steps.{changing}
 use Rattle.rpm_change.proofs.Courses.{through_none}
 use Rattle.rpm_change.proofs.Erased.{refused_ended}
-use Rattle.rpm_change.proofs.Placed.{add_ends, add_kinds}
+use Rattle.rpm_change.proofs.Placed.{add_kinds}
 use Rattle.rpm_change.specs.inner.Single.{one_made, one_refused, add_fault}
 use Rattle.rpm_change.proofs.Wholes.{whole_halt}
 use Rattle.rpm_change.proofs.add.add_blob.Goals as goal
@@ -29,9 +29,6 @@ returns-in-Ok-clause-limits g c = λ told i rows.
     (λ is. done.causes.0 (sym (next-state file c.args.db.now.store) ∙ is)) done.causes.1.later.0
     (done.placed (read_again c.args.blob.now) c.requires.own) done.generation
     (λ is. done.full told c.requires.going (rows is) (read_again c.args.blob.now) c.requires.own)
-
-pub halt_of-requires : goal.halt_of-requires
-halt_of-requires g c = add_ends _ c.args.db.now c.args.blob.now c.in-Err.fault c.requires.going c.requires.own c.in-Err.ensures.causes
 
 pub returns-in-Err-clause-ended : goal.returns-in-Err-clause-ended
 returns-in-Err-clause-ended g c = λ told out_tells err_tells out err.

@@ -34,7 +34,7 @@ loop-path-init g c =
       disk = omega arith;
       shelf = omega arith;
       err = omega arith;
-      err_rest = (g.met.E.Sink.follows_refl (inner c.args.err.now), c.requires.err_empty);
+      err_rest = g.met.E.Sink.follows_refl (inner c.args.err.now);
     }
 
 pub loop-path-preserved : goal.loop-path-preserved
@@ -76,11 +76,8 @@ loop-path-preserved g c =
       paths = λ shelf_told. done.paths shelf_told ∙ inv.paths shelf_told;
       disk = omega (arith, inv.disk, done.disk.later);
       shelf = omega (arith, inv.shelf, done.shelf.later);
-      err = omega (arith, inv.err, done.err.later);
-      err_rest = (
-        g.met.E.Sink.follows_trans (inner c.args.err.now) (inner c.loop-path.err) (inner c.put_file.new.err) inv.err_rest.0 done.err_rest.0,
-        done.err_rest.1,
-      );
+      err = omega (arith, inv.err, done.err.cause.later);
+      err_rest = g.met.E.Sink.follows_trans (inner c.args.err.now) (inner c.loop-path.err) (inner c.put_file.new.err) inv.err_rest done.err.goes_on;
     }
 
 pub returns-in-Err-clause-ended : goal.returns-in-Err-clause-ended

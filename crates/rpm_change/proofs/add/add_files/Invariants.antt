@@ -1,6 +1,6 @@
 use Rattle.std.proofs.Common.{◌≡◌, ℕ, ◌+◌, ◌≤◌, Bool, true, List, map, drop}
 use Rattle.std.specs.Prelude.{IsTrue}
-use Rattle.rpm_outside.specs.Buffered.{inner, HandsOn}
+use Rattle.rpm_outside.specs.Buffered.{inner}
 use Rattle.rpm_db.specs.Database.{IsIndexed, is_indexed}
 use Rattle.rpm_db.specs.Lawful.{IsWholeIndex}
 use Rattle.rpm_db.specs.Runs.{Runs}
@@ -38,5 +38,5 @@ invariant-loop-path g l = record {
   disk : g.D.Disk.faults l.initial.disk ≤ g.D.Disk.faults l.disk;
   shelf : g.S.Shelf.faults l.initial.shelf ≤ g.S.Shelf.faults l.shelf;
   err : g.E.Sink.faults (inner l.initial.err) ≤ g.E.Sink.faults (inner l.err);
-  err_rest : HandsOn g.E.Sink.follows l.initial.err l.err;
+  err_rest : g.E.Sink.follows (inner l.initial.err) (inner l.err);
 }

@@ -6,7 +6,7 @@ use Rattle.rpm_change.specs.Endings.{outputs}
 use Rattle.rpm_change.specs.Steps.{changing}
 use Rattle.rpm_change.proofs.Courses.{through_none}
 use Rattle.rpm_change.proofs.Erased.{refused_ended}
-use Rattle.rpm_change.proofs.Placed.{put_ends, put_kinds}
+use Rattle.rpm_change.proofs.Placed.{put_kinds}
 use Rattle.rpm_change.specs.inner.Single.{one_made, one_refused, put_fault}
 use Rattle.rpm_change.proofs.Wholes.{whole_halt}
 use Rattle.rpm_change.proofs.add.replace_blob.Goals as goal
@@ -26,10 +26,6 @@ returns-in-Ok-clause-limits g c = λ told i rows.
     one_made i (state (g.D.Disk.files c.args.disk.now).pkg c.args.db.now.store) (Put c.args.number c.args.blob.now) c.args.db.now.store c.put.new.self.store
     (record { failed = 0; changes = 1 }) tt done.causes.1.later.0 (done.placed (read_again c.args.blob.now) c.requires.own) done.generation
     (λ is. done.full told c.requires.going (rows is) (read_again c.args.blob.now) c.requires.own)
-
-pub halt_of-requires : goal.halt_of-requires
-halt_of-requires g c = put_ends _ c.args.db.now c.args.number c.args.blob.now c.in-Err.fault c.requires.going c.requires.own c.requires.held
-    c.in-Err.ensures.causes
 
 pub returns-in-Err-clause-ended : goal.returns-in-Err-clause-ended
 returns-in-Err-clause-ended g c = λ told out_tells err_tells out err.

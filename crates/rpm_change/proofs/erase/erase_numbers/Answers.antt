@@ -28,7 +28,7 @@ loop-number-init g c = record {
       (λ f. refl) c.args.disk.now;
   disk = omega arith;
   err = omega arith;
-  err_rest = (g.met.E.Sink.follows_refl (inner c.args.err.now), c.requires.err_empty);
+  err_rest = g.met.E.Sink.follows_refl (inner c.args.err.now);
 }
 
 pub loop-number-preserved : goal.loop-number-preserved
@@ -64,11 +64,8 @@ loop-number-preserved g c =
           SameLog SameLog SameLog c.args.disk.now c.loop-number.disk c.erase_one.new.disk (λ x y log. log) (λ x y z first second. second ∙ first)
           inv.runs done.runs;
       disk = omega (arith, inv.disk, done.disk.later);
-      err = omega (arith, inv.err, done.err.later);
-      err_rest = (
-        g.met.E.Sink.follows_trans (inner c.args.err.now) (inner c.loop-number.err) (inner c.erase_one.new.err) inv.err_rest.0 done.err_rest.0,
-        done.err_rest.1,
-      );
+      err = omega (arith, inv.err, done.err.cause.later);
+      err_rest = g.met.E.Sink.follows_trans (inner c.args.err.now) (inner c.loop-number.err) (inner c.erase_one.new.err) inv.err_rest done.err.goes_on;
     }
 
 pub returns-in-Err-clause-ended : goal.returns-in-Err-clause-ended

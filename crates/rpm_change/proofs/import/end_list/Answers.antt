@@ -34,8 +34,8 @@ returns-in-Some-clause-shelf g c = λ is. stop_read c.args.fault c.in-Some.halt 
 
 pub returns-in-Some-clause-err : goal.returns-in-Some-clause-err
 returns-in-Some-clause-err g c = record {
-  later = omega arith;
-  rose = λ is. absurd (stop_err c.args.fault c.in-Some.halt c.in-Some.ensures (cc));
+  cause = record { later = omega arith; rose = λ is. absurd (stop_err c.args.fault c.in-Some.halt c.in-Some.ensures (cc)) };
+  goes_on = g.met.E.Sink.follows_refl (inner c.args.err.now);
 }
 
 -- the list has a line

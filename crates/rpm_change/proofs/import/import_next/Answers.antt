@@ -54,8 +54,10 @@ returns-in-Ok-Some-clause-shelf g c =
     no_shelf c.as_turn.result c.import_within-done.result c.as_turn.ensures.value c.import_within-done.ensures.kinds _ _ c.read_header.ensures.cause.later
 
 pub returns-in-Ok-Some-clause-err : goal.returns-in-Ok-Some-clause-err
-returns-in-Ok-Some-clause-err g c =
-    turn_cause c.as_turn.result c.import_within-done.result c.as_turn.ensures.value halt.ErrFault _ _ c.import_within-done.ensures.err
+returns-in-Ok-Some-clause-err g c = record {
+  cause = turn_cause c.as_turn.result c.import_within-done.result c.as_turn.ensures.value halt.ErrFault _ _ c.import_within-done.ensures.err.cause;
+  goes_on = c.import_within-done.ensures.err.goes_on;
+}
 
 -- the list is at its end
 
@@ -116,5 +118,7 @@ pub returns-in-Err-clause-shelf : goal.returns-in-Err-clause-shelf
 returns-in-Err-clause-shelf = fault.returns-in-Err-clause-shelf
 
 pub returns-in-Err-clause-err : goal.returns-in-Err-clause-err
-returns-in-Err-clause-err g c =
-    turn_cause c.as_turn-in-Err.result c.end_list.result c.as_turn-in-Err.ensures.value halt.ErrFault _ _ c.end_list.ensures.err
+returns-in-Err-clause-err g c = record {
+  cause = turn_cause c.as_turn-in-Err.result c.end_list.result c.as_turn-in-Err.ensures.value halt.ErrFault _ _ c.end_list.ensures.err.cause;
+  goes_on = c.end_list.ensures.err.goes_on;
+}

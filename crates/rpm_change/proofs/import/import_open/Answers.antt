@@ -34,7 +34,7 @@ loop-is_last-init g c = record {
   browses = browses_none g.S.Shelf.tells g.S.Shelf.paths g.S.Shelf.rest g.S.Shelf.absences g.S.Shelf.faults c.args.shelf.now;
   disk = omega arith;
   err = omega arith;
-  err_rest = (g.met.E.Sink.follows_refl (inner c.args.err.now), c.requires.err_empty);
+  err_rest = g.met.E.Sink.follows_refl (inner c.args.err.now);
 }
 
 pub loop-is_last-preserved : goal.loop-is_last-preserved
@@ -80,11 +80,8 @@ loop-is_last-preserved g c =
       browses = browses_then g.S.Shelf.tells g.S.Shelf.paths g.S.Shelf.rest g.S.Shelf.absences g.S.Shelf.faults c.args.shelf.now c.loop-is_last.shelf
           c.import_next.new.shelf inv.browses done.browses;
       disk = omega (arith, inv.disk, done.disk.later);
-      err = omega (arith, inv.err, done.err.later);
-      err_rest = (
-        g.met.E.Sink.follows_trans (inner c.args.err.now) (inner c.loop-is_last.err) (inner c.import_next.new.err) inv.err_rest.0 done.err_rest.0,
-        done.err_rest.1,
-      );
+      err = omega (arith, inv.err, done.err.cause.later);
+      err_rest = g.met.E.Sink.follows_trans (inner c.args.err.now) (inner c.loop-is_last.err) (inner c.import_next.new.err) inv.err_rest done.err.goes_on;
     }
 
 pub returns-in-Err-clause-ended : goal.returns-in-Err-clause-ended

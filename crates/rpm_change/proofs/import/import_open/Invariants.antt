@@ -1,7 +1,7 @@
 use Rattle.std.proofs.Common.{◌≡◌, ℕ, ◌+◌, ◌-◌, ◌≤◌, Bool, true, false, List}
 use Rattle.std.specs.Prelude.{IsTrue}
 use Rattle.rpm_outside.specs.Browses.{left, Browses}
-use Rattle.rpm_outside.specs.Buffered.{inner, HandsOn}
+use Rattle.rpm_outside.specs.Buffered.{inner}
 use Rattle.rpm_db.specs.Database.{IsIndexed, is_indexed}
 use Rattle.rpm_db.specs.Lawful.{IsWholeIndex}
 use Rattle.rpm_db.specs.Runs.{Runs}
@@ -36,7 +36,7 @@ invariant-loop-is_last g l = record {
   browses : Browses g.S.Shelf.tells g.S.Shelf.paths g.S.Shelf.rest g.S.Shelf.absences g.S.Shelf.faults l.initial.shelf l.shelf;
   disk : g.D.Disk.faults l.initial.disk ≤ g.D.Disk.faults l.disk;
   err : g.E.Sink.faults (inner l.initial.err) ≤ g.E.Sink.faults (inner l.err);
-  err_rest : HandsOn g.E.Sink.follows l.initial.err l.err;
+  err_rest : g.E.Sink.follows (inner l.initial.err) (inner l.err);
 }
 
 abbrev pub decreases-loop-is_last : goal.decreases-loop-is_last

@@ -1,4 +1,4 @@
-use Rattle.std.proofs.Common.{◌≡◌, true, false, refl, arith, nat_lt, []}
+use Rattle.std.proofs.Common.{◌≡◌, true, false, refl, arith, nat_lt}
 use Rattle.std.proofs.lemmas.Bool.Decides.{nat_tests}
 use Rattle.rpm_db.specs.State.{state}
 use Rattle.rpm_change.proofs.Unchanged.{line_limits}

@@ -29,7 +29,7 @@ loop-next-init g c = record {
       (λ f. refl) c.args.disk.now;
   disk = omega arith;
   out = omega arith;
-  out_rest = (g.met.O.Sink.follows_refl (inner c.args.out.now), c.requires.out_empty);
+  out_rest = g.met.O.Sink.follows_refl (inner c.args.out.now);
 }
 
 pub loop-next-preserved : goal.loop-next-preserved
@@ -72,11 +72,8 @@ loop-next-preserved g c =
           SameLog SameLog SameLog c.args.disk.now c.loop-next.disk c.drop_one.new.disk (λ x y log. log) (λ x y z first second. second ∙ first)
           inv.runs done.runs;
       disk = omega (arith, inv.disk, done.disk.later);
-      out = omega (arith, inv.out, done.out.later);
-      out_rest = (
-        g.met.O.Sink.follows_trans (inner c.args.out.now) (inner c.loop-next.out) (inner c.drop_one.new.out) inv.out_rest.0 done.out_rest.0,
-        done.out_rest.1,
-      );
+      out = omega (arith, inv.out, done.out.cause.later);
+      out_rest = g.met.O.Sink.follows_trans (inner c.args.out.now) (inner c.loop-next.out) (inner c.drop_one.new.out) inv.out_rest done.out.goes_on;
     }
 
 pub returns-in-Err-clause-ended : goal.returns-in-Err-clause-ended

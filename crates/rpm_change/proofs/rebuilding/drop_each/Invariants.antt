@@ -1,7 +1,7 @@
 use Rattle.std.proofs.Common.{◌≡◌, ℕ, ◌+◌, ◌-◌, ◌^◌, ◌≤◌, Bool, true, List}
 use Rattle.std.specs.Prelude.{IsTrue}
 use Rattle.std.specs.FinMap as finite
-use Rattle.rpm_outside.specs.Buffered.{inner, HandsOn}
+use Rattle.rpm_outside.specs.Buffered.{inner}
 use Rattle.rpm_db.specs.Database.{IsIndexed, is_indexed}
 use Rattle.rpm_db.specs.Runs.{Runs}
 use Rattle.rpm_db.specs.State.{state, packages, above}
@@ -33,7 +33,7 @@ invariant-loop-next g l = record {
   runs : Runs g.D.Disk.tells g.D.Disk.files g.D.Disk.left_since g.D.Disk.moment g.D.Disk.bytes_read g.D.Disk.follows SameLog l.initial.disk l.disk;
   disk : g.D.Disk.faults l.initial.disk ≤ g.D.Disk.faults l.disk;
   out : g.O.Sink.faults (inner l.initial.out) ≤ g.O.Sink.faults (inner l.out);
-  out_rest : HandsOn g.O.Sink.follows l.initial.out l.out;
+  out_rest : g.O.Sink.follows (inner l.initial.out) (inner l.out);
 }
 
 abbrev pub decreases-loop-next : goal.decreases-loop-next
