@@ -7,12 +7,12 @@ ghost use Rattle.rpm_db.specs.Database.{IsIndexed, is_indexed};
 ghost use Rattle.rpm_db.specs.Runs.{Runs};
 ghost use Rattle.rpm_db.specs.State.{state};
 ghost use Rattle.rpm_db.specs.inner.Writes.{SameLog};
-ghost use Rattle.rpm_change.specs.Endings.{IsCarried, halt_of};
+ghost use Rattle.rpm_change.specs.Endings.{IsCarried};
 ghost use Rattle.rpm_change.specs.Limits.{LimitsTurn};
 ghost use Rattle.rpm_exercise.specs.Rounds.{made, turn, round_changes, changes, Made, IsOfChanges, IsSpent};
 
-use rpm_change::{Halt, Tally, generated};
-use rpm_db::{ChangeFault, Db};
+use rpm_change::{Halt, Tally, generated, halt_of};
+use rpm_db::Db;
 use rpm_outside::Disk;
 use std::alloc::Global;
 
@@ -37,23 +37,6 @@ const IDLE: Tally = Tally {
     failed: 0,
     changes: 0,
 };
-
-/// What a fault of a change makes of the exercise. Its headers are headers, its numbers were given before and no earlier call failed, so
-/// the last three don't come on a disk that keeps what it is given.
-fn halt_of(fault: ChangeFault) -> Halt
-    ensures { result ≡ halt_of fault }
-{
-    match fault {
-        ChangeFault::NumbersSpent => Halt::NumbersSpent,
-        ChangeFault::GenerationSpent => Halt::GenerationSpent,
-        ChangeFault::StoreFull => Halt::StoreFull,
-        ChangeFault::IndexFull { needed } => Halt::IndexFull { needed },
-        ChangeFault::BadIndex { unit } => Halt::BadIndex { unit },
-        ChangeFault::DiskFault => Halt::DiskFault,
-        ChangeFault::NoMemory => Halt::NoMemory,
-        ChangeFault::BadHeader(_) | ChangeFault::NoSuch | ChangeFault::Stopped => Halt::NoMemory,
-    }
-}
 
 /// Adds header `i`.
 fn add_one<D: Disk>(alloc: Global, db: &mut Db, disk: &mut D, i: u32) -> Result<Tally, Halt>

@@ -1,7 +1,7 @@
 //! The exercise as a whole.
 
 ghost use Rattle.std.specs.Prelude.{◌≡◌, ℕ, ◌≤◌, Bool, List, [], false, true, IsTrue, Err, OnOk, IfOk, IfErr};
-ghost use Rattle.rpm_outside.specs.Buffered.{inner, holds, HandsOn};
+ghost use Rattle.rpm_outside.specs.Buffered.{inner, holds};
 ghost use Rattle.rpm_outside.specs.Causes.{HasCauseAt};
 ghost use Rattle.rpm_db.specs.Changes.{IsServing};
 ghost use Rattle.rpm_db.specs.Database as database;
@@ -16,6 +16,7 @@ ghost use Rattle.rpm_change.specs.Limits.{LimitsTurn};
 ghost use Rattle.rpm_exercise.specs.Endings.{IsReadable, IsTold, IsUnbroken, IsOfReading, IsOfTelling, IsOfExercise, OnceBegun, IsRefused};
 ghost use Rattle.rpm_exercise.specs.Exercised.{summary, exercise};
 ghost use Rattle.rpm_exercise.specs.Rounds.{changes, IsSpent};
+ghost use Rattle.rpm_change.specs.Hands.{Hand};
 
 use crate::rounds::change_all;
 use crate::summary::summary;
@@ -43,20 +44,19 @@ fn tell<D: Disk, O: Sink + Drop>(
     requires readable { IsTrue D.tells → IsReadable (D.files disk.old) db.now }
     requires going { db.now.stopped ≡ false }
     requires from_one { IsTrue D.tells → database.holds 0 db.now ≡ false }
-    requires out_empty { holds out.old ≡ [] }
     ensures told { IsTrue D.tells → HasIndexRows db.now (D.files disk.old).pkg (D.files disk.old).idx → IsTold O.tells (O.taken (inner out.old))
         (O.taken (inner out.new)) (summary (packages (D.files disk.old).pkg db.now.store)) result }
     ensures lawful { IsTrue D.tells → HasIndexRows db.now (D.files disk.old).pkg (D.files disk.old).idx → IfErr result IsUnbroken }
     ensures kinds { IfErr result IsOfTelling }
     ensures runs { Runs D.tells D.files D.left_since D.moment D.bytes_read D.follows SameFiles disk.old disk.new }
     ensures disk { HasCauseAt (result ≡ Err Halt.DiskFault) (D.faults disk.old) (D.faults disk.new) }
-    ensures out { HasCauseAt (result ≡ Err Halt.OutFault) (O.faults (inner out.old)) (O.faults (inner out.new)) }
-    ensures out_rest { HandsOn O.follows out.old out.new }
+    ensures out { Hand O.Sink (result ≡ Err Halt.OutFault) out.old out.new }
 {
     let text = match summary(alloc, db, disk) {
         Ok(text) => text,
         Err(halt) => return Err(halt),
     };
+    out.clear();
     match put_and_flush(out, &text) {
         Ok(()) => Ok(()),
         Err(_) => Err(Halt::OutFault),
@@ -76,7 +76,6 @@ fn change_and_tell<D: Disk, O: Sink + Drop>(
     requires going { db.old.stopped ≡ false }
     requires from_one { IsTrue D.tells → database.holds 0 db.old ≡ false }
     requires serving { IsTrue D.tells → IsServing (D.files disk.old) (D.left_since disk.old (D.moment disk.old)) db.old }
-    requires out_empty { holds out.old ≡ [] }
     ensures ended { IsTrue D.tells → IsIndexed (D.files disk.old).pkg (D.files disk.old).idx db.old → (err_tells : Bool) (err : List ℕ)
         → Ended (exercise n (state (D.files disk.old).pkg db.old.store)) (state (D.files disk.old).pkg db.old.store)
         (state (D.files disk.new).pkg db.new.store) result
@@ -91,8 +90,7 @@ fn change_and_tell<D: Disk, O: Sink + Drop>(
     ensures kinds { IfErr result IsOfExercise }
     ensures runs { Runs D.tells D.files D.left_since D.moment D.bytes_read D.follows SameLog disk.old disk.new }
     ensures disk { HasCauseAt (result ≡ Err Halt.DiskFault) (D.faults disk.old) (D.faults disk.new) }
-    ensures out { HasCauseAt (result ≡ Err Halt.OutFault) (O.faults (inner out.old)) (O.faults (inner out.new)) }
-    ensures out_rest { HandsOn O.follows out.old out.new }
+    ensures out { Hand O.Sink (result ≡ Err Halt.OutFault) out.old out.new }
 {
     let tally = match change_all(alloc, db, disk, n) {
         Ok(tally) => tally,
@@ -138,7 +136,6 @@ fn exercise_all<D: Disk, O: Sink + Drop>(
     requires going { db.old.stopped ≡ false }
     requires from_one { IsTrue D.tells → database.holds 0 db.old ≡ false }
     requires serving { IsTrue D.tells → IsServing (D.files disk.old) (D.left_since disk.old (D.moment disk.old)) db.old }
-    requires out_empty { holds out.old ≡ [] }
     ensures ended { IsTrue D.tells → (err_tells : Bool) (err : List ℕ)
         → Ended (exercise n (state (D.files disk.old).pkg db.old.store)) (state (D.files disk.old).pkg db.old.store)
         (state (D.files disk.new).pkg db.new.store) result
@@ -153,8 +150,7 @@ fn exercise_all<D: Disk, O: Sink + Drop>(
     ensures kinds { IfErr result IsOfExercise }
     ensures runs { Runs D.tells D.files D.left_since D.moment D.bytes_read D.follows SameLog disk.old disk.new }
     ensures disk { HasCauseAt (result ≡ Err Halt.DiskFault) (D.faults disk.old) (D.faults disk.new) }
-    ensures out { HasCauseAt (result ≡ Err Halt.OutFault) (O.faults (inner out.old)) (O.faults (inner out.new)) }
-    ensures out_rest { HandsOn O.follows out.old out.new }
+    ensures out { Hand O.Sink (result ≡ Err Halt.OutFault) out.old out.new }
 {
     match renew(alloc, db, disk) {
         Ok(()) => change_and_tell(alloc, db, disk, n, out),
@@ -202,7 +198,6 @@ pub fn exercise<D: Disk, O: Sink + Drop>(
     requires going { db.old.stopped ≡ false }
     requires from_one { IsTrue D.tells → database.holds 0 db.old ≡ false }
     requires serving { IsTrue D.tells → IsServing (D.files disk.old) (D.left_since disk.old (D.moment disk.old)) db.old }
-    requires out_empty { holds out.old ≡ [] }
     ensures empty { IsRefused (IsNext (λ m. database.holds m db.old) 0) result }
     ensures refused { (number : ℕ) → result ≡ Err (ExerciseFault.NotEmpty number) → (db.new ≡ db.old) × (disk.new ≡ disk.old) × (out.new ≡ out.old) }
     ensures ended { IsTrue D.tells → (err_tells : Bool) (err : List ℕ) → OnceBegun (λ r. Ended (exercise n (state (D.files disk.old).pkg db.old.store))
@@ -218,8 +213,7 @@ pub fn exercise<D: Disk, O: Sink + Drop>(
     ensures kinds { OnceBegun (λ r. IfErr r IsOfExercise) result }
     ensures runs { Runs D.tells D.files D.left_since D.moment D.bytes_read D.follows SameLog disk.old disk.new }
     ensures disk { HasCauseAt (result ≡ Err (ExerciseFault.Halted Halt.DiskFault)) (D.faults disk.old) (D.faults disk.new) }
-    ensures out { HasCauseAt (result ≡ Err (ExerciseFault.Halted Halt.OutFault)) (O.faults (inner out.old)) (O.faults (inner out.new)) }
-    ensures out_rest { HandsOn O.follows out.old out.new }
+    ensures out { Hand O.Sink (result ≡ Err (ExerciseFault.Halted Halt.OutFault)) out.old out.new }
 {
     if let Some(number) = db.next_above(0) {
         return Err(ExerciseFault::NotEmpty { number });

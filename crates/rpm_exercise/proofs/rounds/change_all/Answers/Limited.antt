@@ -2,7 +2,6 @@
 use Rattle.std.proofs.Common.{◌≡◌, ℕ, ◌+◌, ◌-◌, ap, ◌∙◌}
 use Rattle.rpm_db.specs.Changes.{next}
 use Rattle.rpm_db.specs.State.{state}
-use Rattle.rpm_exercise.specs.Rounds.{changes}
 use Rattle.rpm_exercise.proofs.Limited.{adding_stop, replacing_stop, erasing_stop, all_limits}
 use Rattle.rpm_exercise.proofs.rounds.change_all.Goals as goal
 
