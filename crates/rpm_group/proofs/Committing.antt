@@ -13,12 +13,14 @@ use Rattle.rpm_outside.specs.inner.LogWriting.{entries_kept, entries_then, opene
 use Rattle.rpm_group.specs.declared.layers.Layers.{Layers}
 use Rattle.rpm_group.specs.Held.{laid}
 use Rattle.rpm_group.specs.inner.Logged.{Logged}
+use Rattle.rpm_group.specs.Orders.{HeadsEndInZeros}
 use Rattle.rpm_group.specs.Settled.{ReopensAs}
 use Rattle.rpm_group.specs.Groups.{BeforeOrAfter}
 use Rattle.rpm_group.specs.inner.Grouped.{IsGroup}
 use Rattle.rpm_group.proofs.Applied.{with_entries-append}
 use Rattle.rpm_group.proofs.LoggedLaws.{covers_before, covers_behind}
 use Rattle.rpm_group.proofs.LaidRuns.{logged_laid}
+use Rattle.rpm_group.proofs.Orders.{heads_kept, heads_then}
 use Rattle.rpm_group.proofs.Closes.{three_files, closed_sound, open_sound}
 
 -- the entries of both files are a group
@@ -49,6 +51,14 @@ pub tail_of : (es fs : List Entry) (middle end : ℕ) (first last : Files) → E
     → ChangedIn Log middle (2 ^ 28) first last → EntriesIn (es ++ fs) 1 end last.log
 tail_of es fs middle end first last one two changed =
     entries_then es fs 1 middle end last.log (entries_kept es 1 middle first.log last.log (λ i low high. changed.each i (inl high)) changed.no_shorter one) two
+
+-- with heads that end in zeros
+pub heads_of : (es fs : List Entry) (middle : ℕ) (first last : Files) → EntriesIn es 1 middle first.log → HeadsEndInZeros es 1 first.log
+    → HeadsEndInZeros fs middle last.log → ChangedIn Log middle (2 ^ 28) first last → HeadsEndInZeros (es ++ fs) 1 last.log
+heads_of es fs middle first last placed one two changed =
+    let same = λ (i : ℕ) (low : 1 ≤ i) (high : i < middle). changed.each i (inl high) in
+    heads_then es fs 1 middle last.log (entries_kept es 1 middle first.log last.log same changed.no_shorter placed)
+    (heads_kept es 1 middle first.log last.log same placed one) two
 
 closed_reopens : (image files : Files) → image ≡ files → log_state files.log ≡ Closed → ReopensAs (unlogged files) image
 closed_reopens image files same closed = record {

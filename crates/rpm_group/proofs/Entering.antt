@@ -10,7 +10,9 @@ use Rattle.rpm_outside.specs.inner.ChangedLaws.{torn_changed, changed_more}
 use Rattle.rpm_outside.specs.Logs.{Entry, word}
 use Rattle.rpm_outside.specs.LogWrites.{EntryIn, EntriesIn}
 use Rattle.rpm_outside.specs.inner.LogWriting.{entries_kept, entries_push}
+use Rattle.rpm_group.specs.Orders.{HeadsEndInZeros}
 use Rattle.rpm_group.specs.inner.Words.{IsHeadOf}
+use Rattle.rpm_group.proofs.Orders.{heads_kept, heads_push}
 
 module _ (entry : Entry) (head : List ℕ) (p : ℕ) (old new : Units) (is : new ≡ put p (head ∷ entry.units) old)
     (says : IsHeadOf entry.file entry.first (length entry.units) head)
@@ -47,6 +49,13 @@ module _ (entry : Entry) (head : List ℕ) (p : ℕ) (old new : Units) (is : new
       (entries_kept entries from p old new (λ i low high. ap (λ (us : Units). unit_at us i) is ∙ put_before p (head ∷ entry.units) old i high)
       (omega (arith, long)) so_far)
       entered is_next
+
+  pub entered_heads : (entries : List Entry) (from : ℕ) → EntriesIn entries from p old → HeadsEndInZeros entries from old
+      → HeadsEndInZeros (entries ++ entry ∷ []) from new
+  entered_heads entries from so_far heads =
+      let same = λ (i : ℕ) (low : from ≤ i) (high : i < p). ap (λ (us : Units). unit_at us i) is ∙ put_before p (head ∷ entry.units) old i high in
+      heads_push entries from p entry new (entries_kept entries from p old new same (omega (arith, long)) so_far)
+      (heads_kept entries from p old new same so_far heads) (ap (word 3) at_head ∙ says.zeros)
 
 -- what a write to the log changes
 pub put_changed : (at end low high : ℕ) (units : Units) (old new : Files) → at + length units ≡ end → low ≤ at → end ≤ high

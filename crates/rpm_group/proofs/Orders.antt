@@ -1,15 +1,15 @@
 -- Entries in their order, and a log that keeps them.
-use Rattle.std.proofs.Common.{◌≡◌, ℕ, ◌+◌, ◌≤◌, List, [], ◌∷◌, ◌++◌, length, ap, ◌∙◌, subst, arith}
+use Rattle.std.proofs.Common.{◌≡◌, ℕ, ◌+◌, ◌<◌, ◌≤◌, List, [], ◌∷◌, ◌++◌, length, sym, ap, ◌∙◌, subst, arith}
 use Rattle.rpm_outside.specs.declared.disk.File.{File}
 use Rattle.rpm_outside.specs.declared.disk.File.TheVariants.{Log}
 use Rattle.rpm_outside.specs.Files.{Units, Files, with_file, unit_at, put}
 use Rattle.rpm_outside.specs.inner.Puts.{length-put, put_after}
-use Rattle.rpm_outside.specs.Logs.{Entry}
+use Rattle.rpm_outside.specs.Logs.{Entry, word}
 use Rattle.rpm_outside.specs.LogWrites.{EntriesIn}
-use Rattle.rpm_outside.specs.inner.LogWriting.{entries_kept}
+use Rattle.rpm_outside.specs.inner.LogWriting.{entries_kept, entries_end}
 use Rattle.rpm_group.specs.declared.layers.Layers.{Layers}
 use Rattle.rpm_group.specs.Groups.{needed}
-use Rattle.rpm_group.specs.Orders.{AreRuns, IsLogged}
+use Rattle.rpm_group.specs.Orders.{AreRuns, HeadsEndInZeros, IsLogged}
 use Rattle.rpm_group.specs.inner.Behind.{KeepsBehind}
 use Rattle.rpm_group.specs.inner.Grouped.{IsGroup}
 
@@ -40,13 +40,39 @@ keeps_then a b c one two = record {
   same = λ i low. two.same i low ∙ one.same i low;
 }
 
+-- ---- heads that end in zeros
+
+-- they stay where the log was changed behind them alone
+pub heads_kept : (entries : List Entry) (p end : ℕ) (old new : Units) → ((i : ℕ) → p ≤ i → i < end → unit_at new i ≡ unit_at old i)
+    → EntriesIn entries p end old → HeadsEndInZeros entries p old → HeadsEndInZeros entries p new
+heads_kept [] p end old new same are heads = tt
+heads_kept (entry ∷ entries) p end old new same (one, rest) (zero_here, more) =
+    let later : p + 1 + length entry.units ≤ end = entries_end entries (p + 1 + length entry.units) end old rest in (
+      ap (word 3) (same p (omega arith) (omega (arith, later))) ∙ zero_here,
+      heads_kept entries (p + 1 + length entry.units) end old new (λ i low high. same i (omega (arith, low)) high) rest more,
+    )
+
+-- one more at the end
+pub heads_push : (entries : List Entry) (p q : ℕ) (entry : Entry) (log : Units) → EntriesIn entries p q log → HeadsEndInZeros entries p log
+    → word 3 (unit_at log q) ≡ 0 → HeadsEndInZeros (entries ++ entry ∷ []) p log
+heads_push [] p q entry log is heads here = (ap (λ (i : ℕ). word 3 (unit_at log i)) is ∙ here, tt)
+heads_push (x ∷ entries) p q entry log (first, rest) (zero_here, more) here =
+    (zero_here, heads_push entries (p + 1 + length x.units) q entry log rest more here)
+
+-- and then others
+pub heads_then : (es fs : List Entry) (p q : ℕ) (log : Units) → EntriesIn es p q log → HeadsEndInZeros es p log → HeadsEndInZeros fs q log
+    → HeadsEndInZeros (es ++ fs) p log
+heads_then [] fs p q log is heads rest = subst (λ (i : ℕ). HeadsEndInZeros fs i log) (sym is) rest
+heads_then (e ∷ es) fs p q log (one, more) (zero_here, heads) rest = (zero_here, heads_then es fs (p + 1 + length e.units) q log more heads rest)
+
 -- the entries of a group stay behind the gate
-pub group_logged : (held : Layers) (entries : List Entry) (end : ℕ) (old new : Units) → IsGroup entries held → EntriesIn entries 1 end old → end
-    ≡ needed held → KeepsBehind old new → IsLogged held new
-group_logged held entries end old new group placed is keeps = record {
+pub group_logged : (held : Layers) (entries : List Entry) (end : ℕ) (old new : Units) → IsGroup entries held → EntriesIn entries 1 end old
+    → HeadsEndInZeros entries 1 old → end ≡ needed held → KeepsBehind old new → IsLogged held new
+group_logged held entries end old new group placed heads is keeps = record {
   entries = entries;
   placed = subst (λ (n : ℕ). EntriesIn entries 1 n new) is
       (entries_kept entries 1 end old new (λ i low high. keeps.same i low) keeps.long placed);
+  heads = heads_kept entries 1 end old new (λ i low high. keeps.same i low) placed heads;
   order = group.order;
   whole = λ files. ap (λ (f : Files). record { pkg = f.pkg; idx = f.idx; log = [] }) (group.whole files);
 }

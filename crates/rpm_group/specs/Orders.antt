@@ -2,8 +2,8 @@
 use Rattle.std.specs.Prelude.{◌≡◌, ℕ, ◌+◌, ◌≤◌, List, [], ◌∷◌, ◌++◌, length}
 use Rattle.rpm_outside.specs.declared.disk.File.{File}
 use Rattle.rpm_outside.specs.declared.disk.File.TheVariants.{Pkg, Idx}
-use Rattle.rpm_outside.specs.Files.{Units, Files}
-use Rattle.rpm_outside.specs.Logs.{Entry, unlogged, with_entries}
+use Rattle.rpm_outside.specs.Files.{Units, Files, unit_at}
+use Rattle.rpm_outside.specs.Logs.{Entry, word, unlogged, with_entries}
 use Rattle.rpm_outside.specs.LogWrites.{EntriesIn}
 use Rattle.rpm_group.specs.declared.layers.Layers.{Layers}
 use Rattle.rpm_group.specs.Groups.{runs_of, needed}
@@ -24,9 +24,15 @@ pub record InOrder (held : Layers) (entries : List Entry) : Type 0 where
   pub pkg_count : length pkg ≡ runs_of held.pkg
   pub idx_count : length idx ≡ runs_of held.idx
 
+-- the last number of the head of each of these entries is zero, the first of them at this unit
+abbrev pub HeadsEndInZeros : List Entry → ℕ → Units → Type 0
+HeadsEndInZeros [] p log = Unit {0}
+HeadsEndInZeros (entry ∷ entries) p log = (word 3 (unit_at log p) ≡ 0) × HeadsEndInZeros entries (p + 1 + length entry.units) log
+
 -- behind its first unit the log has the entries that write what is held, in their order
 pub record IsLogged (held : Layers) (log : Units) : Type 0 where
   pub entries : List Entry
   pub placed : EntriesIn entries 1 (needed held) log
+  pub heads : HeadsEndInZeros entries 1 log
   pub order : InOrder held entries
   pub whole : (files : Files) → unlogged (with_entries entries files) ≡ unlogged (laid_files held files)

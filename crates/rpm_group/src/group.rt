@@ -9,6 +9,7 @@ ghost use Rattle.rpm_outside.specs.Logs.{Entry, Closed, log_state, unlogged, wit
 ghost use Rattle.rpm_outside.specs.LogWrites.{EntriesIn};
 ghost use Rattle.rpm_group.specs.Held.{laid};
 ghost use Rattle.rpm_group.specs.Counts.{begins_run, count_below, log_units};
+ghost use Rattle.rpm_group.specs.Orders.{HeadsEndInZeros};
 ghost use Rattle.rpm_group.specs.LogReads.{ReadsNothing};
 ghost use Rattle.rpm_group.specs.inner.Logged.{Logged, CoversHeld};
 ghost use Rattle.rpm_group.specs.inner.Leavings.{WasWithin};
@@ -38,7 +39,7 @@ pub fn log_runs<D: Disk>(
     ensures at { IfOk result (λ next. next.at ≡ tail.at + log_units pages.now.table.items pages.now.end) }
     ensures entries { IfOk result (λ next. next.entries ≡ tail.entries + count_below (begins_run pages.now.table.items) pages.now.end) }
     ensures logged { IfOk result (λ next. IsTrue D.tells → (entries : List Entry) × Logged entries file pages.now.table.items pages.now.end
-        × EntriesIn entries tail.at next.at (D.files disk.new).log) }
+        × EntriesIn entries tail.at next.at (D.files disk.new).log × HeadsEndInZeros entries tail.at (D.files disk.new).log) }
     ensures changed { OnOk result (IsTrue D.tells → ChangedIn File.Log tail.at (2 ^ 28) (D.files disk.old) (D.files disk.new)) }
     ensures images { IsTrue D.tells → LeavesChanged D.moment D.left_since File.Log tail.at (2 ^ 28) disk.old disk.new }
     ensures reads { ReadsNothing D.moment D.bytes_read D.follows disk.old disk.new }

@@ -9,7 +9,7 @@ use Rattle.rpm_group.specs.declared.layers.Layers.{Layers}
 use Rattle.rpm_group.specs.Layers.{laid_file}
 use Rattle.rpm_group.specs.inner.Logged.{CoversHeld}
 use Rattle.rpm_group.specs.Groups.{runs_of}
-use Rattle.rpm_group.specs.Orders.{InOrder}
+use Rattle.rpm_group.specs.Orders.{InOrder, HeadsEndInZeros}
 
 -- the files with what is held of two of them
 abbrev pub with_held : Layers → Files → Files
@@ -27,3 +27,4 @@ pub record IsGroup (entries : List Entry) (held : Layers) : Type 0 where
 pub record IsTail (entries : List Entry) (tail : Tail) (log : Units) : Type 0 where
   pub count : length entries ≡ tail.entries
   pub placed : EntriesIn entries 1 tail.at log
+  pub heads : HeadsEndInZeros entries 1 log

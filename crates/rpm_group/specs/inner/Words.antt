@@ -17,3 +17,4 @@ pub record IsHeadOf (file : File) (first count : ℕ) (unit : List ℕ) : Type 0
   pub number : word 0 unit ≡ number_of file
   pub from : word 1 unit ≡ first
   pub units : word 2 unit ≡ count
+  pub zeros : word 3 unit ≡ 0

@@ -5,7 +5,8 @@ use Rattle.rpm_outside.specs.Changed.{ChangedIn, WasChanged}
 use Rattle.rpm_outside.specs.inner.ChangedLaws.{changed_then, changed_more}
 use Rattle.rpm_outside.specs.inner.Leaves.{sync_leaves}
 use Rattle.rpm_outside.specs.LogWrites.{EntriesIn}
-use Rattle.rpm_group.proofs.Committing.{group_of, tail_of, log_leaves, log_settled}
+use Rattle.rpm_group.specs.Orders.{HeadsEndInZeros}
+use Rattle.rpm_group.proofs.Committing.{group_of, tail_of, heads_of, log_leaves, log_settled}
 use Rattle.rpm_group.proofs.commit.log_held.Goals as goal
 
 pub returns-in_err-tail-clause-images : goal.returns-in_err-tail-clause-images
@@ -54,12 +55,15 @@ returns-clause-logged g c = λ told.
     let group = group_of held one.0 two.0 one.1 two.1 in
     let placed = tail_of one.0 two.0 c.in_ok-middle.middle.at c.in_ok-tail.tail.at (D.files c.log_runs.new.disk) (D.files c.log_runs-2.new.disk) one.2
     two.2 (c.in_ok-tail.ensures.changed told) in
+    let heads = heads_of one.0 two.0 c.in_ok-middle.middle.at (D.files c.log_runs.new.disk) (D.files c.log_runs-2.new.disk) one.2 one.3 two.3
+    (c.in_ok-tail.ensures.changed told) in
     let same : D.files c.log_runs-2.new.disk ≡ D.files c.sync.new.self = sym (c.sync.ensures.same told) in (
       one.0 ++ two.0,
       group,
       record {
         count = omega (arith, group.count, c.in_ok-middle.ensures.entries, c.in_ok-tail.ensures.entries);
         placed = subst (λ (f : Files). EntriesIn (one.0 ++ two.0) 1 c.in_ok-tail.tail.at f.log) same placed;
+        heads = subst (λ (f : Files). HeadsEndInZeros (one.0 ++ two.0) 1 f.log) same heads;
       },
     )
 

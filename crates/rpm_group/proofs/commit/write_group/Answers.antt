@@ -123,5 +123,5 @@ returns-clause-logged g c = on_ok_weaker c.close_log.result (λ behind told.
     let logged = c.in_ok-tail.ensures.logged told in
     let applied : KeepsBehind first.log third.log = subst (λ (us : Units). KeepsBehind first.log us)
     (sym (ap (λ (f : Files). f.log) (c.in_ok-apply_held.ensures.written told))) (c.in_ok-open_log.ensures.behind told) in
-    group_logged c.args.held.now logged.0 c.in_ok-tail.tail.at first.log last.log logged.1 logged.2.placed c.in_ok-tail.ensures.at
+    group_logged c.args.held.now logged.0 c.in_ok-tail.tail.at first.log last.log logged.1 logged.2.placed logged.2.heads c.in_ok-tail.ensures.at
     (keeps_then first.log third.log last.log applied (behind told))) c.close_log.ensures.behind

@@ -39,6 +39,7 @@ returns-then-units-eq0-clause-logged g c = λ told.
     record {
       entries = [];
       placed = omega (arith, pkg, idx);
+      heads = tt;
       order = record {
         pkg = [];
         idx = [];

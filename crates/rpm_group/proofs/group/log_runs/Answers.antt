@@ -9,7 +9,7 @@ use Rattle.rpm_group.specs.inner.Logged.{Logged, run_entry}
 use Rattle.rpm_group.specs.inner.Words.{IsHeadOf}
 use Rattle.rpm_group.proofs.Runs.{length-units_held}
 use Rattle.rpm_group.proofs.Countings.{none_begun, log_units_none, gap_begins, gap_counted, run_begins, run_counted}
-use Rattle.rpm_group.proofs.Entering.{entered_more, put_changed}
+use Rattle.rpm_group.proofs.Entering.{entered_more, entered_heads, put_changed}
 use Rattle.rpm_group.proofs.OneRun.{room_here, run_leaves}
 use Rattle.rpm_group.proofs.LoggedLaws.{logged_none, logged_gap, logged_more}
 use Rattle.rpm_group.proofs.group.log_runs.Answers.Places as places
@@ -25,7 +25,7 @@ loop-at-init g c =
       starts = λ some. absurd (omega (arith, some));
       place = omega (arith, log_units_none table);
       count = omega (arith, none_begun table);
-      logged = λ told. ([], logged_none c.args.file table (none_begun table), refl);
+      logged = λ told. ([], logged_none c.args.file table (none_begun table), refl, tt);
       changed = λ told. changed_none Log c.args.tail.at (2 ^ 28) (D.files old);
       images = λ told. leaves_none D.moment D.left_since Log c.args.tail.at (2 ^ 28) old;
       reads = nothing_none _ _ _ g.met.D.Disk.follows_refl old;
@@ -97,6 +97,9 @@ loop-at-preserved-in_ok-log_run g c =
                 c.requires.not_log (omega (arith, long, c.if-first-stop.true))
                 (omega (arith, long, c.if-first-stop.true, stop.ensures.end, c.args.pages.now.small)) so_far.0 c.args.tail.at
                 (place + 1 + (stop.result - first.result)) so_far.2 (omega (arith, long)),
+            entered_heads entry written.0 place (D.files now).log (D.files c.log_run.new.disk).log (ap (λ (f : Files). f.log) written.2) head
+                c.requires.not_log (omega (arith, long, c.if-first-stop.true))
+                (omega (arith, long, c.if-first-stop.true, stop.ensures.end, c.args.pages.now.small)) so_far.0 c.args.tail.at so_far.2 so_far.3,
           );
       changed = λ told.
           let written = c.in_ok-log_run.ensures.written told in
@@ -132,6 +135,7 @@ loop-at-preserved g c =
             subst (λ (i : ℕ). Logged so_far.0 c.args.file table i) (sym same)
                 (logged_gap so_far.0 c.args.file table c.loop-at.at first.result so_far.1 first.ensures.from first.ensures.between begun),
             so_far.2,
+            so_far.3,
           );
       changed = inv.changed;
       images = inv.images;

@@ -5,6 +5,7 @@ use Rattle.rpm_outside.specs.Logs.{Entry}
 use Rattle.rpm_outside.specs.LogWrites.{EntriesIn}
 use Rattle.rpm_group.specs.Counts.{is_held, begins_run, count_below, log_units}
 use Rattle.rpm_group.specs.LogReads.{ReadsNothing}
+use Rattle.rpm_group.specs.Orders.{HeadsEndInZeros}
 use Rattle.rpm_group.specs.inner.Logged.{Logged}
 use Rattle.rpm_group.proofs.group.log_runs.Given as goal
 
@@ -17,7 +18,8 @@ invariant-loop-at g l =
       starts : 0 < l.at → l.at < l.end → is_held table l.at ≡ false;
       place : l.next.at ≡ l.fn.tail.at + log_units table l.at;
       count : l.next.entries ≡ l.fn.tail.entries + count_below (begins_run table) l.at;
-      logged : IsTrue D.tells → (entries : List Entry) × Logged entries l.file table l.at × EntriesIn entries l.fn.tail.at l.next.at (D.files l.disk).log;
+      logged : IsTrue D.tells → (entries : List Entry) × Logged entries l.file table l.at × EntriesIn entries l.fn.tail.at l.next.at (D.files l.disk).log
+          × HeadsEndInZeros entries l.fn.tail.at (D.files l.disk).log;
       changed : IsTrue D.tells → ChangedIn Log l.fn.tail.at (2 ^ 28) (D.files l.initial.disk) (D.files l.disk);
       images : IsTrue D.tells → LeavesChanged D.moment D.left_since Log l.fn.tail.at (2 ^ 28) l.initial.disk l.disk;
       reads : ReadsNothing D.moment D.bytes_read D.follows l.initial.disk l.disk;
