@@ -6,8 +6,6 @@ pub mod Walked
 pub mod ProperParts
 pub mod StoredTexts
 pub mod Plain
-pub mod ShortNumbers
-pub mod SideBySide
 pub mod Moments
 pub mod Calendar
 pub mod DateLaw

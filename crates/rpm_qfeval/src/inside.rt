@@ -1,17 +1,15 @@
 //! A bracket is put over the columns of its tags, round by round.
 
-ghost use Rattle.std.specs.Prelude.{◌≡◌, ◌<◌, ◌∷◌, [], true, length, IfSome, slice_get};
+ghost use Rattle.std.specs.Prelude.{◌≡◌, ◌∷◌, [], true, IfSome, slice_get};
 ghost use Rattle.rpm_qfeval.specs.inner.Columns.{AreValues};
 ghost use Rattle.rpm_outside.specs.Sinks.{Writes};
 ghost use Rattle.rpm_qfeval.specs.Meaning.{bytes, part_bytes, rounds, counts};
 ghost use Rattle.rpm_qfeval.specs.inner.Proper.{AreProper, PartIsProper};
-ghost use Rattle.rpm_qfparse.specs.Shape.{parts_of};
-ghost use Rattle.rpm_qfeval.specs.inner.Ready.{StandReady, StandsReady, PutsFrom};
+ghost use Rattle.rpm_qfeval.specs.inner.Ready.{StandReady, StandsReady};
 
 use crate::columns::Column;
-use crate::decimals::ROOM;
 use crate::lookup::{is_present, put_tag};
-use crate::ready::{Ready, write_numbers};
+use crate::ready::{Ready, put_number_of};
 use crate::sizes::count_rounds;
 use rpm_header::View;
 use rpm_outside::{Failed, Sink, put_all};
@@ -91,8 +89,10 @@ fn put_part_at<O: Sink>(
     ensures ready { ready.new ≡ ready.old }
 {
     if i < ready.len() {
-        if let Ready::Texts(texts) = &mut ready[i] {
-            return texts.put(sink, round);
+        match &mut ready[i] {
+            Ready::Texts(texts) => return texts.put(sink, round),
+            Ready::Numbers(numbers) => return put_number_of(sink, numbers, round),
+            Ready::Other => {}
         }
     }
     // Most parts between tags are texts, which are put without a call.
@@ -102,63 +102,9 @@ fn put_part_at<O: Sink>(
     put_inner_part(sink, part, view, number, columns, next, round)
 }
 
-/// Whether numbers stand ready at a place. That spares other parts a call, and either answer prints the
-/// same.
-#[inline(always)]
-fn is_number(ready: &[Ready<'_>], i: usize) -> bool
-    ensures { result ≡ true → i < length ready.now }
-{
-    i < ready.len() && matches!(&ready[i], Ready::Numbers(_))
-}
-
-/// The numbers of a bracket that stand side by side from a place on, in a round, or the part there. Gives
-/// the place behind them.
-#[inline(always)]
-#[tactic(auto, using(crate::proofs::ProperParts::part_is_proper))]
-fn put_next<O: Sink>(
-    sink: &mut O,
-    inner: &Parts,
-    i: usize,
-    view: &View<'_>,
-    number: u32,
-    columns: &mut [Option<Column<'_, '_>>],
-    ready: &mut [Ready<'_>],
-    next: &mut usize,
-    room: &mut [u8; ROOM],
-    round: u32,
-) -> Result<usize, Failed>
-    requires below { i < length (parts_of inner.now) }
-    requires told { AreValues view.now number columns.old }
-    requires ready { StandReady view.now number inner.now ready.old }
-    requires proper { AreProper true inner.now }
-    ensures goes { PutsFrom O.tells O.taken O.faults O.follows view.now number round inner.now i sink.old sink.new result }
-    ensures columns { columns.new ≡ columns.old }
-    ensures ready { ready.new ≡ ready.old }
-{
-    let left = inner.len() - i;
-    if is_number(ready, i) {
-        let (end, count) = write_numbers(room, ready, i, round);
-        if count > 0 && count <= left {
-            put_all(sink, &room[..end])?;
-            return Ok(i + count);
-        }
-    }
-    put_part_at(
-        sink,
-        inner.at(i),
-        i,
-        view,
-        number,
-        columns,
-        ready,
-        next,
-        round,
-    )?;
-    Ok(i + 1)
-}
-
 /// The parts of a bracket in a round.
 #[inline(always)]
+#[tactic(auto, using(crate::proofs::ProperParts::part_is_proper))]
 fn put_round<O: Sink>(
     sink: &mut O,
     inner: &Parts,
@@ -167,7 +113,6 @@ fn put_round<O: Sink>(
     columns: &mut [Option<Column<'_, '_>>],
     ready: &mut [Ready<'_>],
     next: &mut usize,
-    room: &mut [u8; ROOM],
     round: u32,
 ) -> Result<(), Failed>
     requires told { AreValues view.now number columns.old }
@@ -177,10 +122,17 @@ fn put_round<O: Sink>(
     ensures columns { columns.new ≡ columns.old }
     ensures ready { ready.new ≡ ready.old }
 {
-    let mut i = 0;
-    while i < inner.len() {
-        i = put_next(
-            sink, inner, i, view, number, columns, ready, next, room, round,
+    for i in 0..inner.len() {
+        put_part_at(
+            sink,
+            inner.at(i),
+            i,
+            view,
+            number,
+            columns,
+            ready,
+            next,
+            round,
         )?;
     }
     Ok(())
@@ -202,11 +154,8 @@ fn put_rounds<O: Sink>(
     ensures { Writes O.tells O.taken O.faults O.follows sink.old sink.new (rounds (count ∷ []) (λ i. bytes view.now number i inner.now)) result }
 {
     let mut next = 0;
-    let mut room = [0; ROOM];
     for round in 0..count {
-        put_round(
-            sink, inner, view, number, columns, ready, &mut next, &mut room, round,
-        )?;
+        put_round(sink, inner, view, number, columns, ready, &mut next, round)?;
     }
     Ok(())
 }

@@ -9,7 +9,6 @@
 mod columns;
 mod cursor;
 mod dates;
-mod decimals;
 mod digits;
 mod elements;
 mod encoded;

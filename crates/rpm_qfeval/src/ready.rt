@@ -1,13 +1,16 @@
 //! The parts of a bracket that print texts or numbers of the header as they are.
 
-ghost use Rattle.std.specs.Prelude.{◌≡◌, ◌≤◌, [], length, take, drop, IfSome};
+ghost use Rattle.std.specs.Prelude.{◌≡◌, [], map, decimal, slice_get};
+ghost use Rattle.rpm_outside.specs.Sinks.{Writes};
 ghost use Rattle.rpm_qfparse.specs.declared.tree.Part.TheVariants as part;
-ghost use Rattle.rpm_qfeval.specs.inner.Ready.{HasNumber, AreDigits, StandsReady, StandReady};
+ghost use Rattle.rpm_qfeval.specs.Formatters.{or_none};
+ghost use Rattle.rpm_qfeval.specs.inner.Ready.{StandsReady, StandReady};
 
-use crate::decimals::{ROOM, SIDE_BY_SIDE, write_number};
 use crate::plain_texts::PlainTexts;
 use arrayvec::ArrayVec;
+use itoa::Buffer as Decimal;
 use rpm_header::View;
+use rpm_outside::{Failed, Sink, put_all};
 use rpm_qfparse::{Part, Parts, Role, Show, TagPart};
 use rpm_tags::{Numbers, Tag, numbers_in, texts_in};
 
@@ -21,38 +24,15 @@ pub enum Ready<'a> {
     Numbers(Numbers<'a>),
 }
 
-/// The number of a part in a round, where one stands ready.
-#[inline(always)]
-fn number_of(ready: &Ready<'_>, round: u32) -> Option<u64>
-    ensures { IfSome result (HasNumber ready.now round) }
+/// Puts the number of a round. Where counts differ nothing is printed, so each round has its number.
+pub fn put_number_of<O: Sink>(sink: &mut O, numbers: &Numbers<'_>, round: u32) -> Result<(), Failed>
+    ensures { Writes O.tells O.taken O.faults O.follows sink.old sink.new (or_none (slice_get (map decimal numbers.now) round)) result }
 {
-    match ready {
-        Ready::Numbers(numbers) if round < numbers.count() => Some(numbers.number(round)),
-        _ => None,
+    if round >= numbers.count() {
+        return put_all(sink, b"(none)");
     }
-}
-
-/// Writes the numbers of a round that stand side by side from a place on, 16 at most. Gives the place behind their digits, and how many
-/// they are.
-pub fn write_numbers(
-    room: &mut [u8; ROOM],
-    ready: &[Ready<'_>],
-    place: usize,
-    round: u32,
-) -> (usize, usize)
-    requires { place ≤ length ready.now }
-    ensures room { result.0 ≤ 320 }
-    ensures digits { AreDigits (drop place ready.now) round result.1 (take result.0 room.new) }
-{
-    let most = (ready.len() - place).min(SIDE_BY_SIDE);
-    let mut end = 0;
-    for count in 0..most {
-        match number_of(&ready[place + count], round) {
-            None => return (end, count),
-            Some(number) => end = write_number(room, end, number),
-        }
-    }
-    (end, most)
+    let mut digits = Decimal::new();
+    put_all(sink, digits.format(numbers.number(round)).as_bytes())
 }
 
 /// What stands ready of a tag.

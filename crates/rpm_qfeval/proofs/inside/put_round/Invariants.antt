@@ -1,4 +1,4 @@
-use Rattle.std.proofs.Common.{◌≡◌, ◌-◌, drop, length}
+use Rattle.std.proofs.Common.{◌≡◌, drop}
 use Rattle.rpm_qfparse.specs.Shape.{parts_of, tree_of}
 use Rattle.rpm_qfeval.specs.Meaning.{bytes}
 use Rattle.rpm_outside.specs.inner.Upto.{Upto}
@@ -11,6 +11,3 @@ invariant-loop-i g l = record {
   upto : Upto g.O.Sink.tells g.O.Sink.taken g.O.Sink.faults g.O.Sink.follows (bytes l.view l.number l.round l.inner)
       (bytes l.view l.number l.round (tree_of (drop l.i (parts_of l.inner)))) l.initial.sink l.sink;
 }
-
-abbrev pub decreases-loop-i : goal.decreases-loop-i
-decreases-loop-i g l = length (parts_of l.inner) - l.i
