@@ -21,7 +21,7 @@ quoted() {
 
 words=$(mktemp)
 trap 'rm -f "$words"' EXIT
-quoted crates/rpm_words/src/switch.rt '=> Some(Switch::' | sed 's/^-/Fl /' > "$words"
+quoted crates/rpm_words/src/switch.rt 'Spelling("' | sed 's/^-/Fl /' > "$words"
 wanted option < "$words"
 sed -n "s/.*b'\([a-zA-Z]\)' => Some(Switch::.*/Fl \1/p" crates/rpm_words/src/switch.rt > "$words"
 wanted option < "$words"

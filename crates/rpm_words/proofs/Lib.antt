@@ -7,6 +7,7 @@ pub mod Numbers
 pub mod Seens
 pub mod Sound
 pub mod Spelled
+pub mod Spellings
 pub mod Tokens
 pub mod Told
 pub mod Within

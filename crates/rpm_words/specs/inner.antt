@@ -3,4 +3,5 @@ pub mod Commands
 pub mod Folder
 pub mod Given
 pub mod Numbered
+pub mod Spellings
 pub mod Steps

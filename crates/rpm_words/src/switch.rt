@@ -1,7 +1,9 @@
 //! The options, and how each is spelled.
 
 ghost use Rattle.std.specs.Prelude.{◌≡◌, ◌≤◌, IsSome, length};
-ghost use Rattle.rpm_words.specs.Switch.{long_switch, rpm_switch, rpmdb_switch, short_switch};
+ghost use Rattle.std.specs.Str.{bytes_eq};
+ghost use Rattle.rpm_words.specs.Switch.{long_switch, short_switch};
+ghost use Rattle.rpm_words.specs.inner.Spellings.{as_table, switch_in};
 
 /// The program that a command line calls.
 #[derive(Clone, Copy, PartialEq, Eq)]
@@ -74,71 +76,77 @@ pub(crate) enum Switch {
     Folder,
 }
 
+// An option and how it is spelled.
+struct Spelling(&'static str, Switch);
+
+// The long options of `rpm`.
+const RPM: &[Spelling] = &[
+    Spelling("--query", Switch::Mode(Command::Query)),
+    Spelling("--addpkg", Switch::Mode(Command::Addpkg)),
+    Spelling("--replacepkg", Switch::Mode(Command::Replacepkg)),
+    Spelling("--erasepkg", Switch::Mode(Command::Erasepkg)),
+    Spelling("--verify", Switch::Mode(Command::Verify)),
+    Spelling("--all", Switch::Choose(Chosen::All)),
+    Spelling("--file", Switch::Choose(Chosen::Path)),
+    Spelling("--group", Switch::Choose(Chosen::Group)),
+    Spelling("--package", Switch::Choose(Chosen::Package)),
+    Spelling("--whatprovides", Switch::Choose(Chosen::Provides)),
+    Spelling("--whatrequires", Switch::Choose(Chosen::Requires)),
+    Spelling("--whatconflicts", Switch::Choose(Chosen::Conflicts)),
+    Spelling("--whatobsoletes", Switch::Choose(Chosen::Obsoletes)),
+    Spelling("--triggeredby", Switch::Choose(Chosen::Trigger)),
+    Spelling("--querybynumber", Switch::Choose(Chosen::Number)),
+    Spelling("--whatdir", Switch::Choose(Chosen::Directory)),
+    Spelling("--tid", Switch::Choose(Chosen::Tid)),
+    Spelling("--whatrecommends", Switch::Choose(Chosen::Recommends)),
+    Spelling("--list", Switch::Lists),
+    Spelling("--qf", Switch::Format),
+    Spelling("--queryformat", Switch::Format),
+    Spelling("--after", Switch::After),
+    Spelling("--noindex", Switch::Noindex),
+    Spelling("--nofiles", Switch::Nofiles),
+    Spelling("--dbpath", Switch::Folder),
+];
+
+// The long options of `rpmdb`.
+const RPMDB: &[Spelling] = &[
+    Spelling("--initdb", Switch::Mode(Command::Initdb)),
+    Spelling("--rebuilddb", Switch::Mode(Command::Rebuilddb)),
+    Spelling("--verifydb", Switch::Mode(Command::Verifydb)),
+    Spelling("--exportdb", Switch::Mode(Command::Exportdb)),
+    Spelling("--importdb", Switch::Mode(Command::Importdb)),
+    Spelling("--exercise", Switch::Mode(Command::Exercise)),
+    Spelling("--order", Switch::Mode(Command::Order)),
+    Spelling("--checkfiles", Switch::Mode(Command::Checkfiles)),
+    Spelling("--dbpath", Switch::Folder),
+];
+
+fn is_spelled(spelling: &Spelling, text: &str) -> bool
+    ensures { result ≡ bytes_eq text.now spelling.now.0.now }
+{
+    text == spelling.0
+}
+
+/// The option of the first spelling that a text is.
+fn switch_in(spellings: &[Spelling], text: &str) -> Option<Switch>
+    ensures { result ≡ switch_in (as_table spellings.now) text.now }
+{
+    for spelling in spellings {
+        if is_spelled(spelling, text) {
+            return Some(spelling.1);
+        }
+    }
+    None
+}
+
 /// The option that a long spelling names, which stands behind two dashes.
-#[tactic(auto, unfolding(crate::specs::Switch::long_switch))]
 pub(crate) fn long_switch(program: Program, text: &str) -> Option<Switch>
     ensures value { result ≡ long_switch program text.now }
     ensures short { IsSome result → length text.now ≤ 16 }
 {
     match program {
-        Program::Rpm => rpm_switch(text),
-        Program::Rpmdb => rpmdb_switch(text),
-    }
-}
-
-/// The long options of `rpm`.
-#[tactic(auto, unfolding(crate::specs::Switch::rpm_switch))]
-fn rpm_switch(text: &str) -> Option<Switch>
-    ensures value { result ≡ rpm_switch text.now }
-    ensures short { IsSome result → length text.now ≤ 16 }
-{
-    match text {
-        "--query" => Some(Switch::Mode(Command::Query)),
-        "--addpkg" => Some(Switch::Mode(Command::Addpkg)),
-        "--replacepkg" => Some(Switch::Mode(Command::Replacepkg)),
-        "--erasepkg" => Some(Switch::Mode(Command::Erasepkg)),
-        "--verify" => Some(Switch::Mode(Command::Verify)),
-        "--all" => Some(Switch::Choose(Chosen::All)),
-        "--file" => Some(Switch::Choose(Chosen::Path)),
-        "--group" => Some(Switch::Choose(Chosen::Group)),
-        "--package" => Some(Switch::Choose(Chosen::Package)),
-        "--whatprovides" => Some(Switch::Choose(Chosen::Provides)),
-        "--whatrequires" => Some(Switch::Choose(Chosen::Requires)),
-        "--whatconflicts" => Some(Switch::Choose(Chosen::Conflicts)),
-        "--whatobsoletes" => Some(Switch::Choose(Chosen::Obsoletes)),
-        "--triggeredby" => Some(Switch::Choose(Chosen::Trigger)),
-        "--querybynumber" => Some(Switch::Choose(Chosen::Number)),
-        "--whatdir" => Some(Switch::Choose(Chosen::Directory)),
-        "--tid" => Some(Switch::Choose(Chosen::Tid)),
-        "--whatrecommends" => Some(Switch::Choose(Chosen::Recommends)),
-        "--list" => Some(Switch::Lists),
-        "--qf" => Some(Switch::Format),
-        "--queryformat" => Some(Switch::Format),
-        "--after" => Some(Switch::After),
-        "--noindex" => Some(Switch::Noindex),
-        "--nofiles" => Some(Switch::Nofiles),
-        "--dbpath" => Some(Switch::Folder),
-        _ => None,
-    }
-}
-
-/// The long options of `rpmdb`.
-#[tactic(auto, unfolding(crate::specs::Switch::rpmdb_switch))]
-fn rpmdb_switch(text: &str) -> Option<Switch>
-    ensures value { result ≡ rpmdb_switch text.now }
-    ensures short { IsSome result → length text.now ≤ 16 }
-{
-    match text {
-        "--initdb" => Some(Switch::Mode(Command::Initdb)),
-        "--rebuilddb" => Some(Switch::Mode(Command::Rebuilddb)),
-        "--verifydb" => Some(Switch::Mode(Command::Verifydb)),
-        "--exportdb" => Some(Switch::Mode(Command::Exportdb)),
-        "--importdb" => Some(Switch::Mode(Command::Importdb)),
-        "--exercise" => Some(Switch::Mode(Command::Exercise)),
-        "--order" => Some(Switch::Mode(Command::Order)),
-        "--checkfiles" => Some(Switch::Mode(Command::Checkfiles)),
-        "--dbpath" => Some(Switch::Folder),
-        _ => None,
+        Program::Rpm => switch_in(RPM, text),
+        Program::Rpmdb => switch_in(RPMDB, text),
     }
 }
 
