@@ -72,17 +72,15 @@ const PLACES: &[(&[(u32, u32)], u32, u32, Option<u32>)] = &[
     (FULL, 7, 256, None),
 ];
 
-#[test]
-fn least_places_are_found(rt: HostRuntime) -> Result<(), AllocError> {
-    let mut differing = None;
-    for &(ranges, count, from, place) in PLACES {
-        let used = used_with(rt.alloc(), ranges)?;
-        if fit(&used, count, from) != Some(place) {
-            differing = Some((count, from));
-        }
-    }
-    assert!(rt; differing.is_none(), "{differing:?}");
-    Ok(())
+/// The least place where these ranges are used.
+fn place_in(
+    alloc: Global,
+    ranges: &[(u32, u32)],
+    count: u32,
+    from: u32,
+) -> Result<Option<Option<u32>>, AllocError> {
+    let used = used_with(alloc, ranges)?;
+    Ok(fit(&used, count, from))
 }
 
 /// A set that these ranges were put into, and one more, which went again.
@@ -119,34 +117,60 @@ const REMOVALS: &[(&[(u32, u32)], u32, u32, u32, u32)] = &[
     (&[(256, 4), (264, 4)], 260, 4, 5, 268),
 ];
 
-#[test]
-fn what_is_removed_is_free(rt: HostRuntime) -> Result<(), AllocError> {
-    let mut differing = None;
-    for &(ranges, start, length, count, place) in REMOVALS {
-        let used = used_without(rt.alloc(), ranges, start, length)?;
-        if fit(&used, count, 256) != Some(Some(place)) {
-            differing = Some((start, count));
+/// The least place where these ranges are used, and one more is not any longer.
+fn place_without(
+    alloc: Global,
+    ranges: &[(u32, u32)],
+    start: u32,
+    length: u32,
+    count: u32,
+) -> Result<Option<Option<u32>>, AllocError> {
+    let used = used_without(alloc, ranges, start, length)?;
+    Ok(fit(&used, count, 256))
+}
+
+/// The least places behind 100,000 packages, each of which stands behind the one before: in the set and in a copy.
+fn import(alloc: Global) -> Result<Option<(u32, u32)>, AllocError> {
+    let mut used = Used::new(alloc);
+    used.reserve(100_000)?;
+    for number in 0..100_000u32 {
+        if take(&mut used, 8, 256)? != Some(256 + 8 * number) {
+            return Ok(None);
         }
     }
-    assert!(rt; differing.is_none(), "{differing:?}");
-    Ok(())
+    let copy = used.copy_with_room(alloc, 1)?;
+    match (used.first_fit(1, 256), copy.first_fit(1, 256)) {
+        (Some(own), Some(copied)) => Ok(Some((own, copied))),
+        _ => Ok(None),
+    }
+}
+
+fn unlike_place(alloc: Global) -> Option<(u32, u32)> {
+    for &(ranges, count, from, place) in PLACES {
+        if place_in(alloc, ranges, count, from) != Ok(Some(place)) {
+            return Some((count, from));
+        }
+    }
+    None
+}
+
+fn unlike_removal(alloc: Global) -> Option<(u32, u32)> {
+    for &(ranges, start, length, count, place) in REMOVALS {
+        if place_without(alloc, ranges, start, length, count) != Ok(Some(Some(place))) {
+            return Some((start, count));
+        }
+    }
+    None
 }
 
 #[test]
-fn an_import_takes_place_after_place(rt: HostRuntime) -> Result<(), AllocError> {
-    let mut used = Used::new(rt.alloc());
-    used.reserve(100_000)?;
-    let mut differing = None;
-    for number in 0..100_000u32 {
-        if take(&mut used, 8, 256)? != Some(256 + 8 * number) {
-            differing = Some(number);
-        }
-    }
-    let copy = used.copy_with_room(rt.alloc(), 1)?;
-    let behind = (used.first_fit(1, 256), copy.first_fit(1, 256));
+fn least_places_are_found(rt: HostRuntime) {
+    let alloc = rt.alloc();
+    let place = unlike_place(alloc);
+    let removal = unlike_removal(alloc);
+    let behind = import(alloc);
     assert!(rt;
-        differing.is_none() && behind == (Some(800_256), Some(800_256)),
-        "{differing:?} {behind:?}"
+        place.is_none() && removal.is_none() && behind == Ok(Some((800_256, 800_256))),
+        "{place:?} {removal:?} {behind:?}"
     );
-    Ok(())
 }

@@ -105,21 +105,16 @@ const LAID: &[(&str, bool, &str)] = &[
     (EMPTY, false, EMPTY),
 ];
 
-#[test]
-fn entries_are_laid_out(rt: HostRuntime) -> Result<(), AllocError> {
-    let alloc = rt.alloc();
-    let mut differing = None;
-    for &(hex, has_region, want) in LAID {
-        let made = builder_of(alloc, hex)?.finish(alloc, has_region);
-        if !is_made(alloc, made, want)? {
-            differing = Some(want);
-        }
-    }
-    if !is_made(alloc, aligned(alloc)?.finish(alloc, false), ALIGNED)? {
-        differing = Some(ALIGNED);
-    }
-    assert!(rt; differing.is_none(), "{differing:?}");
-    Ok(())
+/// Whether the entries of a header become another one.
+fn is_laid(alloc: Global, hex: &str, has_region: bool, want: &str) -> Result<bool, AllocError> {
+    let made = builder_of(alloc, hex)?.finish(alloc, has_region);
+    is_made(alloc, made, want)
+}
+
+/// Whether the entries of each form become their header.
+fn is_aligned(alloc: Global) -> Result<bool, AllocError> {
+    let made = aligned(alloc)?.finish(alloc, false);
+    is_made(alloc, made, ALIGNED)
 }
 
 // The library's snapshot with a number, a text and a number of eight bytes behind it.
@@ -168,18 +163,10 @@ fn dribbled(alloc: Global, blob: &[u8], extra: &str) -> Result<Vec<u8>, BuildFau
     }
 }
 
-#[test]
-fn dribbles_stand_behind_the_entries(rt: HostRuntime) -> Result<(), AllocError> {
-    let alloc = rt.alloc();
-    let mut differing = None;
-    for &(hex, extra, want) in DRIBBLED {
-        let made = dribbled(alloc, &bytes_of(alloc, hex)?, extra);
-        if !is_made(alloc, made, want)? {
-            differing = Some(want);
-        }
-    }
-    assert!(rt; differing.is_none(), "{differing:?}");
-    Ok(())
+/// Whether a header becomes another one with these entries behind its own.
+fn is_dribbled(alloc: Global, hex: &str, extra: &str, want: &str) -> Result<bool, AllocError> {
+    let made = dribbled(alloc, &bytes_of(alloc, hex)?, extra);
+    is_made(alloc, made, want)
 }
 
 /// Whether a header was made, of so many bytes.
@@ -210,9 +197,9 @@ fn is_full(
     Ok(has_length(dribbled(alloc, &blob, TIMES), length) && more == Some(fault))
 }
 
-#[test]
-fn entries_are_refused_exactly_past_their_limit(rt: HostRuntime) -> Result<(), AllocError> {
-    let alloc = rt.alloc();
+/// Whether as many entries as a header may have are laid out, and one more is refused: behind a header, as a region and where the data are
+/// too much besides.
+fn entries_end(alloc: Global) -> Result<bool, AllocError> {
     let mut many = Builder::new(alloc);
     push_empty(&mut many, 65_533)?;
     let length = 8 + 17 * 65_533 + 3 + 2 * 20;
@@ -223,27 +210,50 @@ fn entries_are_refused_exactly_past_their_limit(rt: HostRuntime) -> Result<(), A
     // With both limits passed, the number of entries is told.
     many.push_bin(1000, &Vec::from_elem(alloc, 0, 67_108_864)?)?;
     let both = many.finish(alloc, false).err() == Some(BuildFault::TooManyEntries);
-    assert!(rt;
-        few && most && region && both,
-        "{few} {most} {region} {both}"
-    );
-    Ok(())
+    Ok(few && most && region && both)
 }
 
-#[test]
-fn bytes_are_refused_exactly_past_their_limit(rt: HostRuntime) -> Result<(), AllocError> {
-    let alloc = rt.alloc();
+/// Whether as many bytes of data as a header may have are laid out, and one more is refused: behind a header and as a region.
+fn bytes_end(alloc: Global) -> Result<bool, AllocError> {
     let mut much = Builder::new(alloc);
     much.push_bin(1000, &Vec::from_elem(alloc, 0, 67_108_856)?)?;
-    let few = is_full(
-        alloc,
-        &much,
-        8 + 16 * 3 + 67_108_864,
-        BuildFault::TooMuchData,
-    ) == Ok(true);
+    let length = 8 + 16 * 3 + 67_108_864;
+    let few = is_full(alloc, &much, length, BuildFault::TooMuchData) == Ok(true);
     much.push_numbers(1001, Form::Int64, &[0])?;
     let most = has_length(much.finish(alloc, false), 8 + 16 * 2 + 67_108_864);
     let region = much.finish(alloc, true).err() == Some(BuildFault::TooMuchData);
-    assert!(rt; few && most && region, "{few} {most} {region}");
-    Ok(())
+    Ok(few && most && region)
+}
+
+fn unlike_laid(alloc: Global) -> Option<&'static str> {
+    for &(hex, has_region, want) in LAID {
+        if is_laid(alloc, hex, has_region, want) != Ok(true) {
+            return Some(want);
+        }
+    }
+    None
+}
+
+fn unlike_dribbled(alloc: Global) -> Option<&'static str> {
+    for &(hex, extra, want) in DRIBBLED {
+        if is_dribbled(alloc, hex, extra, want) != Ok(true) {
+            return Some(want);
+        }
+    }
+    None
+}
+
+#[test]
+fn headers_are_built_up_to_their_limits(rt: HostRuntime) {
+    let alloc = rt.alloc();
+    let laid = unlike_laid(alloc);
+    let aligned = is_aligned(alloc);
+    let dribbled = unlike_dribbled(alloc);
+    let entries = entries_end(alloc);
+    let bytes = bytes_end(alloc);
+    let is_same = laid.is_none() && dribbled.is_none() && aligned == Ok(true);
+    assert!(rt;
+        is_same && entries == Ok(true) && bytes == Ok(true),
+        "{laid:?} {aligned:?} {dribbled:?} {entries:?} {bytes:?}"
+    );
 }

@@ -163,26 +163,26 @@ fn is_at(format: Option<Span>, at: Option<(u32, u32)>) -> bool {
     }
 }
 
-#[test]
-fn commands_are_read(rt: HostRuntime) -> Result<(), AllocError> {
-    let mut differing = None;
-    for &(text, mode, chosen, lists, format, arguments) in COMMANDS {
-        let is_same = match read(rt.alloc(), &line(rt.alloc(), text)?) {
-            Ok(ask) => {
-                ask.mode() == mode
-                    && ask.chosen() == chosen
-                    && ask.lists() == lists
-                    && is_at(ask.format(), format)
-                    && has_arguments(&ask, arguments)
-            }
-            Err(_) => false,
-        };
-        if !is_same {
-            differing = Some(text);
-        }
-    }
-    assert!(rt; differing.is_none(), "{differing:?}");
-    Ok(())
+/// Whether a command is this one.
+fn is_like(
+    ask: &Ask,
+    mode: Mode,
+    chosen: Chosen,
+    lists: bool,
+    format: Option<(u32, u32)>,
+    arguments: &[u32],
+) -> bool {
+    ask.mode() == mode
+        && ask.chosen() == chosen
+        && ask.lists() == lists
+        && is_at(ask.format(), format)
+        && has_arguments(ask, arguments)
+}
+
+/// The command that a line is read as, if it is one.
+fn asked(alloc: Global, text: &str) -> Result<Option<Ask>, AllocError> {
+    let words = line(alloc, text)?;
+    Ok(read(alloc, &words).ok())
 }
 
 // Lines with the number that packages come after, and whether the index is left alone.
@@ -198,20 +198,12 @@ const AFTER: &[(&str, u32, bool)] = &[
     ("rpm|--noindex|--noindex|-qa|--after=1|--after=0", 0, true),
 ];
 
-#[test]
-fn the_last_number_counts(rt: HostRuntime) -> Result<(), AllocError> {
-    let mut differing = None;
-    for &(text, after, noindex) in AFTER {
-        let is_same = match read(rt.alloc(), &line(rt.alloc(), text)?) {
-            Ok(ask) => ask.after() == after && ask.noindex() == noindex,
-            Err(_) => false,
-        };
-        if !is_same {
-            differing = Some(text);
-        }
+/// Whether a line has this number, and leaves the index alone or not.
+fn has_after(alloc: Global, text: &str, after: u32, noindex: bool) -> Result<bool, AllocError> {
+    match asked(alloc, text)? {
+        Some(ask) => Ok(ask.after() == after && ask.noindex() == noindex),
+        None => Ok(false),
     }
-    assert!(rt; differing.is_none(), "{differing:?}");
-    Ok(())
 }
 
 const NUMBERS: &[(&str, Option<u32>)] = &[
@@ -229,17 +221,6 @@ const NUMBERS: &[(&str, Option<u32>)] = &[
     ("5a", None),
 ];
 
-#[test]
-fn numbers_have_one_to_ten_digits(rt: HostRuntime) {
-    let mut differing = None;
-    for &(text, number) in NUMBERS {
-        if number_of(text) != number {
-            differing = Some(text);
-        }
-    }
-    assert!(rt; differing.is_none(), "{differing:?}");
-}
-
 const FOLDERS: &[(&str, &str)] = &[
     ("", "/var/lib/rpm"),
     ("rpm|-qa", "/var/lib/rpm"),
@@ -256,28 +237,83 @@ const FOLDERS: &[(&str, &str)] = &[
     ("rpmdb|--after|--dbpath|d", "d"),
 ];
 
-#[test]
-fn the_last_folder_counts(rt: HostRuntime) -> Result<(), AllocError> {
-    let mut differing = None;
-    for &(text, folder) in FOLDERS {
-        if place_of(&line(rt.alloc(), text)?) != folder {
-            differing = Some(text);
-        }
-    }
-    assert!(rt; differing.is_none(), "{differing:?}");
-    Ok(())
+/// Whether the database of a line is in this folder.
+fn has_folder(alloc: Global, text: &str, folder: &str) -> Result<bool, AllocError> {
+    let words = line(alloc, text)?;
+    Ok(place_of(&words) == folder)
 }
 
 const ENDS: &[(u32, u32, &[u8])] = &[(1, 1, b"qa"), (1, 3, b""), (1, 4, b""), (2, 0, b"")];
 
-#[test]
-fn words_are_held(rt: HostRuntime) -> Result<(), AllocError> {
-    let words = line(rt.alloc(), "rpm|-qa")?;
-    let mut is_same = words.len() == 2 && words.word(1) == "-qa";
-    is_same = is_same && words.text_at(0) == "rpm" && words.text_at(2).is_empty();
+/// Whether words are held as they were given, and nothing is where there is none.
+fn are_held(words: &Words) -> bool {
     for &(word, from, bytes) in ENDS {
-        is_same = is_same && words.bytes_from(Span { word, from }) == bytes;
+        if words.bytes_from(Span { word, from }) != bytes {
+            return false;
+        }
     }
-    assert!(rt; is_same);
-    Ok(())
+    words.len() == 2
+        && words.word(1) == "-qa"
+        && words.text_at(0) == "rpm"
+        && words.text_at(2).is_empty()
+}
+
+fn is_held(alloc: Global) -> Result<bool, AllocError> {
+    let words = line(alloc, "rpm|-qa")?;
+    Ok(are_held(&words))
+}
+
+fn unlike_command(alloc: Global) -> Option<&'static str> {
+    for &(text, mode, chosen, lists, format, arguments) in COMMANDS {
+        let is_same = match asked(alloc, text) {
+            Ok(Some(ask)) => is_like(&ask, mode, chosen, lists, format, arguments),
+            _ => false,
+        };
+        if !is_same {
+            return Some(text);
+        }
+    }
+    None
+}
+
+fn unlike_after(alloc: Global) -> Option<&'static str> {
+    for &(text, after, noindex) in AFTER {
+        if has_after(alloc, text, after, noindex) != Ok(true) {
+            return Some(text);
+        }
+    }
+    None
+}
+
+fn unlike_number() -> Option<&'static str> {
+    for &(text, number) in NUMBERS {
+        if number_of(text) != number {
+            return Some(text);
+        }
+    }
+    None
+}
+
+fn unlike_folder(alloc: Global) -> Option<&'static str> {
+    for &(text, folder) in FOLDERS {
+        if has_folder(alloc, text, folder) != Ok(true) {
+            return Some(text);
+        }
+    }
+    None
+}
+
+#[test]
+fn commands_are_read(rt: HostRuntime) {
+    let alloc = rt.alloc();
+    let command = unlike_command(alloc);
+    let after = unlike_after(alloc);
+    let number = unlike_number();
+    let folder = unlike_folder(alloc);
+    let held = is_held(alloc);
+    let is_same = command.is_none() && after.is_none() && number.is_none();
+    assert!(rt;
+        is_same && folder.is_none() && held == Ok(true),
+        "{command:?} {after:?} {number:?} {folder:?} {held:?}"
+    );
 }

@@ -52,17 +52,6 @@ const FAULTS: &[(&[u8], FormatKind, u32)] = &[
     (b"a]%{}", FormatKind::UnexpectedBracket, 1),
 ];
 
-#[test]
-fn faults_stand_at_their_places(rt: HostRuntime) {
-    let mut differing = None;
-    for &(text, kind, at) in FAULTS {
-        if parse(rt.alloc(), text).err() != Some(FormatFault { kind, at }) {
-            differing = Some(text);
-        }
-    }
-    assert!(rt; differing.is_none(), "{differing:?}");
-}
-
 /// Whether a format is one text, of these bytes.
 fn is_one_text(alloc: Global, text: &[u8], bytes: &[u8]) -> bool {
     match parse(alloc, text) {
@@ -82,19 +71,12 @@ const LITERAL: &[(&[u8], &[u8])] = &[
     (b"a%%b\\tc", b"a%b\tc"),
 ];
 
-#[test]
-fn literal_bytes_are_one_text(rt: HostRuntime) {
-    let mut differing = None;
-    for &(text, bytes) in LITERAL {
-        if !is_one_text(rt.alloc(), text, bytes) {
-            differing = Some(text);
-        }
-    }
-    let is_empty = match parse(rt.alloc(), b"") {
+/// Whether a format of no byte has no part.
+fn is_blank(alloc: Global) -> bool {
+    match parse(alloc, b"") {
         Ok(format) => format.parts().len() == 0,
         Err(_) => false,
-    };
-    assert!(rt; differing.is_none() && is_empty, "{differing:?}");
+    }
 }
 
 /// As many beginnings of conditions.
@@ -110,23 +92,50 @@ fn has_fault(alloc: Global, text: &[u8], kind: FormatKind, at: u32) -> bool {
     parse(alloc, text).err() == Some(FormatFault { kind, at })
 }
 
-#[test]
-fn length_and_depth_have_limits(rt: HostRuntime) -> Result<(), AllocError> {
-    let alloc = rt.alloc();
+/// Whether the longest format is read, and a longer one is refused.
+fn has_length_limit(alloc: Global) -> Result<bool, AllocError> {
     let mut text = Vec::from_elem(alloc, b'x', 65_536)?;
     let longest = is_one_text(alloc, &text, &text);
     text.push(b']')?;
-    let longer = has_fault(alloc, &text, FormatKind::TooLong, 65_536);
-    let deepest = has_fault(
-        alloc,
-        &conditions(alloc, 16)?,
-        FormatKind::MissingClose,
-        144,
-    );
-    let deeper = has_fault(alloc, &conditions(alloc, 17)?, FormatKind::TooDeep, 144);
+    Ok(longest && has_fault(alloc, &text, FormatKind::TooLong, 65_536))
+}
+
+/// Whether so many conditions, each in the one before, have this fault at the end of the sixteenth.
+fn is_deep(alloc: Global, count: u32, kind: FormatKind) -> Result<bool, AllocError> {
+    let text = conditions(alloc, count)?;
+    Ok(has_fault(alloc, &text, kind, 144))
+}
+
+fn unlike_fault(alloc: Global) -> Option<&'static [u8]> {
+    for &(text, kind, at) in FAULTS {
+        if !has_fault(alloc, text, kind, at) {
+            return Some(text);
+        }
+    }
+    None
+}
+
+fn unlike_literal(alloc: Global) -> Option<&'static [u8]> {
+    for &(text, bytes) in LITERAL {
+        if !is_one_text(alloc, text, bytes) {
+            return Some(text);
+        }
+    }
+    None
+}
+
+#[test]
+fn formats_are_read_and_refused(rt: HostRuntime) {
+    let alloc = rt.alloc();
+    let fault = unlike_fault(alloc);
+    let literal = unlike_literal(alloc);
+    let blank = is_blank(alloc);
+    let length = has_length_limit(alloc);
+    let deepest = is_deep(alloc, 16, FormatKind::MissingClose);
+    let deeper = is_deep(alloc, 17, FormatKind::TooDeep);
+    let is_same = fault.is_none() && literal.is_none() && blank;
     assert!(rt;
-        longest && longer && deepest && deeper,
-        "{longest} {longer} {deepest} {deeper}"
+        is_same && length == Ok(true) && deepest == Ok(true) && deeper == Ok(true),
+        "{fault:?} {literal:?} {blank} {length:?} {deepest:?} {deeper:?}"
     );
-    Ok(())
 }

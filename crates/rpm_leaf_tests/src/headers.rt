@@ -16,24 +16,16 @@ fn has_names(view: &View<'_>) -> bool {
 // Headers, how many entries each has, and how many bytes.
 const LAYOUTS: &[(&str, u32, usize)] = &[(PLAIN, 4, 80), (REGION, 5, 112), (INSTALLED, 6, 120)];
 
-#[test]
-fn names_are_found_in_each_layout(rt: HostRuntime) -> Result<(), AllocError> {
-    let mut differing = None;
-    for &(hex, entries, length) in LAYOUTS {
-        let mut blob = bytes_of(rt.alloc(), hex)?;
-        blob.push(0xff)?;
-        let is_same = match View::parse(&blob) {
-            Ok(view) => {
-                view.entries() == entries && view.blob().len() == length && has_names(&view)
-            }
-            Err(_) => false,
-        };
-        if !is_same {
-            differing = Some(hex);
+/// Whether a header with a byte behind it has so many entries and bytes, and its names.
+fn is_laid(alloc: Global, hex: &str, entries: u32, length: usize) -> Result<bool, AllocError> {
+    let mut blob = bytes_of(alloc, hex)?;
+    blob.push(0xff)?;
+    match View::parse(&blob) {
+        Ok(view) => {
+            Ok(view.entries() == entries && view.blob().len() == length && has_names(&view))
         }
+        Err(_) => Ok(false),
     }
-    assert!(rt; differing.is_none(), "{differing:?}");
-    Ok(())
 }
 
 // The blobs that have each answer. Where one has two faults, the answer is the one that is looked
@@ -164,19 +156,10 @@ const FAULTS: &[(Option<HeaderFault>, &[&str])] = &[
     ),
 ];
 
-#[test]
-fn the_first_fault_is_told(rt: HostRuntime) -> Result<(), AllocError> {
-    let mut differing = None;
-    for &(fault, blobs) in FAULTS {
-        for &hex in blobs {
-            let blob = bytes_of(rt.alloc(), hex)?;
-            if View::parse(&blob).err() != fault {
-                differing = Some(hex);
-            }
-        }
-    }
-    assert!(rt; differing.is_none(), "{differing:?}");
-    Ok(())
+/// The first fault of a header.
+fn fault_of(alloc: Global, hex: &str) -> Result<Option<HeaderFault>, AllocError> {
+    let blob = bytes_of(alloc, hex)?;
+    Ok(View::parse(&blob).err())
 }
 
 /// A header of ten entries, which share 128 texts; the last is said to have so many.
@@ -193,12 +176,12 @@ fn sharing(alloc: Global, last: u32) -> Result<Vec<u8>, AllocError> {
     Ok(bytes)
 }
 
-#[test]
-fn texts_that_entries_share_are_counted(rt: HostRuntime) -> Result<(), AllocError> {
-    let sound = View::parse(&sharing(rt.alloc(), 128)?).err();
-    let unended = View::parse(&sharing(rt.alloc(), 129)?).err();
-    assert!(rt; sound.is_none() && unended == Some(HeaderFault::NoEnd(9)));
-    Ok(())
+// How many texts the last entry is said to have, and the fault.
+const SHARED: &[(u32, Option<HeaderFault>)] = &[(128, None), (129, Some(HeaderFault::NoEnd(9)))];
+
+/// The first fault of such a header.
+fn shared_fault(alloc: Global, last: u32) -> Result<Option<HeaderFault>, AllocError> {
+    Ok(View::parse(&sharing(alloc, last)?).err())
 }
 
 // Headers with the SHA-256 of their region as `sha256sum` of coreutils gives it.
@@ -224,23 +207,81 @@ const DIGESTS: &[(&str, &str)] = &[
     ("00000000 00000000", ""),
 ];
 
-#[test]
-fn regions_are_digested(rt: HostRuntime) -> Result<(), AllocError> {
-    let mut differing = None;
-    for &(hex, want) in DIGESTS {
-        let blob = bytes_of(rt.alloc(), hex)?;
-        let digest = bytes_of(rt.alloc(), want)?;
-        let is_same = match View::parse(&blob) {
-            Ok(view) => match immutable_digest(&view) {
-                Some(bytes) => bytes.as_slice() == digest.as_slice(),
-                None => want.is_empty(),
-            },
-            Err(_) => false,
-        };
-        if !is_same {
-            differing = Some(hex);
+fn is_digest(view: &View<'_>, want: &[u8]) -> bool {
+    match immutable_digest(view) {
+        Some(digest) => digest.as_slice() == want,
+        None => want.is_empty(),
+    }
+}
+
+/// Whether the region of a header has this digest, or where none is given, there is none.
+fn has_digest(alloc: Global, hex: &str, want: &str) -> Result<bool, AllocError> {
+    let blob = bytes_of(alloc, hex)?;
+    let digest = bytes_of(alloc, want)?;
+    match View::parse(&blob) {
+        Ok(view) => Ok(is_digest(&view, &digest)),
+        Err(_) => Ok(false),
+    }
+}
+
+fn unlike_layout(alloc: Global) -> Option<&'static str> {
+    for &(hex, entries, length) in LAYOUTS {
+        if is_laid(alloc, hex, entries, length) != Ok(true) {
+            return Some(hex);
         }
     }
-    assert!(rt; differing.is_none(), "{differing:?}");
-    Ok(())
+    None
+}
+
+fn unlike_in<'a>(
+    alloc: Global,
+    fault: Option<HeaderFault>,
+    blobs: &'a [&'a str],
+) -> Option<&'a str> {
+    for &hex in blobs {
+        if fault_of(alloc, hex) != Ok(fault) {
+            return Some(hex);
+        }
+    }
+    None
+}
+
+fn unlike_fault(alloc: Global) -> Option<&'static str> {
+    for &(fault, blobs) in FAULTS {
+        if let Some(hex) = unlike_in(alloc, fault, blobs) {
+            return Some(hex);
+        }
+    }
+    None
+}
+
+fn unlike_shared(alloc: Global) -> Option<u32> {
+    for &(texts, fault) in SHARED {
+        if shared_fault(alloc, texts) != Ok(fault) {
+            return Some(texts);
+        }
+    }
+    None
+}
+
+fn unlike_digest(alloc: Global) -> Option<&'static str> {
+    for &(hex, want) in DIGESTS {
+        if has_digest(alloc, hex, want) != Ok(true) {
+            return Some(hex);
+        }
+    }
+    None
+}
+
+#[test]
+fn headers_are_read_refused_and_digested(rt: HostRuntime) {
+    let alloc = rt.alloc();
+    let layout = unlike_layout(alloc);
+    let fault = unlike_fault(alloc);
+    let shared = unlike_shared(alloc);
+    let digest = unlike_digest(alloc);
+    assert!(rt;
+        layout.is_none() && fault.is_none() && shared.is_none() && digest.is_none(),
+        "{layout:?} {fault:?} {shared:?} {digest:?}"
+    );
 }

@@ -56,21 +56,13 @@ fn shown(alloc: Global, view: &View<'_>, kind: Kind) -> Result<Vec<u8>, AllocErr
     Ok(bytes)
 }
 
-#[test]
-fn keys_come_with_their_places(rt: HostRuntime) -> Result<(), AllocError> {
-    let mut differing = None;
-    for &(hex, kind, want) in KEYS {
-        let blob = bytes_of(rt.alloc(), hex)?;
-        let is_same = match View::parse(&blob) {
-            Ok(view) => shown(rt.alloc(), &view, kind)?.as_slice() == want.as_bytes(),
-            Err(_) => false,
-        };
-        if !is_same {
-            differing = Some((hex, want));
-        }
+/// Whether a header has these keys of a kind.
+fn has_keys(alloc: Global, hex: &str, kind: Kind, want: &str) -> Result<bool, AllocError> {
+    let blob = bytes_of(alloc, hex)?;
+    match View::parse(&blob) {
+        Ok(view) => Ok(shown(alloc, &view, kind)?.as_slice() == want.as_bytes()),
+        Err(_) => Ok(false),
     }
-    assert!(rt; differing.is_none(), "{differing:?}");
-    Ok(())
 }
 
 // The second of two files is `/b/c`, and its name is `/c`.
@@ -87,21 +79,13 @@ const FILES: &[(&str, bool)] = &[
     ("x", false),
 ];
 
-#[test]
-fn a_file_counts_by_its_path_and_its_name(rt: HostRuntime) -> Result<(), AllocError> {
-    let blob = bytes_of(rt.alloc(), NAMES_WITH_SLASH)?;
-    let mut differing = None;
-    for &(path, is_there) in FILES {
-        let is_same = match View::parse(&blob) {
-            Ok(view) => has_file(&view, path.as_bytes()) == is_there,
-            Err(_) => false,
-        };
-        if !is_same {
-            differing = Some(path);
-        }
+/// Whether a header has a file of this path.
+fn owns(alloc: Global, hex: &str, path: &str) -> Result<bool, AllocError> {
+    let blob = bytes_of(alloc, hex)?;
+    match View::parse(&blob) {
+        Ok(view) => Ok(has_file(&view, path.as_bytes())),
+        Err(_) => Ok(false),
     }
-    assert!(rt; differing.is_none(), "{differing:?}");
-    Ok(())
 }
 
 // Two names, one number of flags, one version.
@@ -136,13 +120,41 @@ fn provides(view: &View<'_>, wanted: &[(&[u8], u64, &[u8])]) -> bool {
     left.next().is_none()
 }
 
+/// Whether a header says that it provides just these.
+fn says(alloc: Global, hex: &str, wanted: &[(&[u8], u64, &[u8])]) -> Result<bool, AllocError> {
+    let blob = bytes_of(alloc, hex)?;
+    match View::parse(&blob) {
+        Ok(view) => Ok(provides(&view, wanted)),
+        Err(_) => Ok(false),
+    }
+}
+
+fn unlike_keys(alloc: Global) -> Option<(&'static str, &'static str)> {
+    for &(hex, kind, want) in KEYS {
+        if has_keys(alloc, hex, kind, want) != Ok(true) {
+            return Some((hex, want));
+        }
+    }
+    None
+}
+
+fn unlike_file(alloc: Global) -> Option<&'static str> {
+    for &(path, is_there) in FILES {
+        if owns(alloc, NAMES_WITH_SLASH, path) != Ok(is_there) {
+            return Some(path);
+        }
+    }
+    None
+}
+
 #[test]
-fn what_is_too_short_is_nothing(rt: HostRuntime) -> Result<(), AllocError> {
-    let blob = bytes_of(rt.alloc(), SHORT_FLAGS)?;
-    let is_same = match View::parse(&blob) {
-        Ok(view) => provides(&view, PROVIDED),
-        Err(_) => false,
-    };
-    assert!(rt; is_same);
-    Ok(())
+fn keys_files_and_dependencies_are_those_by_hand(rt: HostRuntime) {
+    let alloc = rt.alloc();
+    let keys = unlike_keys(alloc);
+    let file = unlike_file(alloc);
+    let short = says(alloc, SHORT_FLAGS, PROVIDED);
+    assert!(rt;
+        keys.is_none() && file.is_none() && short == Ok(true),
+        "{keys:?} {file:?} {short:?}"
+    );
 }

@@ -31,21 +31,19 @@ fn gives(alloc: Global, shelf: &mut MemShelf, want: &[u8]) -> bool {
     }
 }
 
-#[test]
-fn a_list_gives_its_headers_and_its_end(rt: HostRuntime) -> Result<(), AllocError> {
-    let alloc = rt.alloc();
+/// Whether an open list gives this header twice, and then its end.
+fn gives_both(alloc: Global, shelf: &mut MemShelf, header: &[u8]) -> bool {
+    gives(alloc, shelf, header)
+        && gives(alloc, shelf, header)
+        && matches!(next_header(alloc, shelf), Ok(None))
+}
+
+/// Whether the list gives both its headers, where a read takes so many bytes at most.
+fn is_read(alloc: Global, most: u32) -> Result<bool, AllocError> {
     let list = joined(alloc, LIST)?;
     let header = bytes_of(alloc, PLAIN)?;
-    let mut is_same = first(&list, 8) == MAGIC.as_slice();
-    for &most in PIECES {
-        let mut shelf = opened(alloc, &list, most)?;
-        is_same = is_same
-            && gives(alloc, &mut shelf, &header)
-            && gives(alloc, &mut shelf, &header)
-            && matches!(next_header(alloc, &mut shelf), Ok(None));
-    }
-    assert!(rt; is_same);
-    Ok(())
+    let mut shelf = opened(alloc, &list, most)?;
+    Ok(first(&list, 8) == MAGIC.as_slice() && gives_both(alloc, &mut shelf, &header))
 }
 
 // What is answered for the first bytes of a list of two headers, where it has this byte in place of its own.
@@ -81,42 +79,72 @@ fn ends_with(
     Ok(true)
 }
 
-#[test]
-fn a_list_that_is_wrong_is_told(rt: HostRuntime) -> Result<(), AllocError> {
-    let alloc = rt.alloc();
+/// Whether the first bytes of the list, with this change, give so many headers and this fault.
+fn is_told(
+    alloc: Global,
+    cut: usize,
+    change: (usize, u8),
+    given: u32,
+    fault: Option<ListFault>,
+) -> Result<bool, AllocError> {
     let list = joined(alloc, LIST)?;
-    let mut differing = None;
-    for &(cut, change, given, fault) in LISTS {
-        let wrong = changed(alloc, first(&list, cut), &[change])?;
-        if !ends_with(alloc, &wrong, given, fault)? {
-            differing = Some((cut, change));
-        }
-    }
-    // 16 bytes that claim 68,157,432
-    let hostile = bytes_of(alloc, "8eade801 00000000 0000ffff 04000000")?;
-    let is_short = ends_with(alloc, &hostile, 0, Some(ListFault::Short))?;
-    assert!(rt; differing.is_none() && is_short, "{differing:?}");
-    Ok(())
+    let wrong = changed(alloc, first(&list, cut), &[change])?;
+    ends_with(alloc, &wrong, given, fault)
 }
 
-// How many bytes a read takes at most, and how many reads the list needs, of which the last sees its end.
-const READS: &[(u32, u64)] = &[(65_536, 5), (1, 177)];
+/// Whether 16 bytes that claim 68,157,432 are a list that is cut short.
+fn is_short(alloc: Global) -> Result<bool, AllocError> {
+    let hostile = bytes_of(alloc, "8eade801 00000000 0000ffff 04000000")?;
+    ends_with(alloc, &hostile, 0, Some(ListFault::Short))
+}
 
-#[test]
-fn a_failed_read_is_told(rt: HostRuntime) -> Result<(), AllocError> {
-    let alloc = rt.alloc();
+/// The fault of the list where the read of this number fails.
+fn fault_at(alloc: Global, most: u32, read: u64) -> Result<Option<ListFault>, AllocError> {
     let list = joined(alloc, LIST)?;
-    let mut differing = None;
-    for &(most, reads) in READS {
-        for read in 0..reads {
-            let mut shelf = opened(alloc, &list, most)?;
-            shelf.fail_read(read + 1);
-            let (_, fault) = walk(alloc, &mut shelf);
-            if fault != Some(ListFault::ReadFault) {
-                differing = Some(read);
-            }
+    let mut shelf = opened(alloc, &list, most)?;
+    shelf.fail_read(read);
+    Ok(walk(alloc, &mut shelf).1)
+}
+
+fn unlike_piece(alloc: Global) -> Option<u32> {
+    for &most in PIECES {
+        if is_read(alloc, most) != Ok(true) {
+            return Some(most);
         }
     }
-    assert!(rt; differing.is_none(), "{differing:?}");
-    Ok(())
+    None
+}
+
+fn unlike_list(alloc: Global) -> Option<(usize, (usize, u8))> {
+    for &(cut, change, given, fault) in LISTS {
+        if is_told(alloc, cut, change, given, fault) != Ok(true) {
+            return Some((cut, change));
+        }
+    }
+    None
+}
+
+/// The first of so many reads whose failure isn't told, where a read takes so many bytes at most; the last one sees the list's end.
+fn untold_read(alloc: Global, most: u32, reads: u64) -> Option<u64> {
+    for read in 0..reads {
+        if fault_at(alloc, most, read + 1) != Ok(Some(ListFault::ReadFault)) {
+            return Some(read);
+        }
+    }
+    None
+}
+
+#[test]
+fn lists_are_read_and_refused(rt: HostRuntime) {
+    let alloc = rt.alloc();
+    let piece = unlike_piece(alloc);
+    let list = unlike_list(alloc);
+    let hostile = is_short(alloc);
+    let whole = untold_read(alloc, 65_536, 5);
+    let bytewise = untold_read(alloc, 1, 177);
+    let is_same = piece.is_none() && list.is_none() && hostile == Ok(true);
+    assert!(rt;
+        is_same && whole.is_none() && bytewise.is_none(),
+        "{piece:?} {list:?} {hostile:?} {whole:?} {bytewise:?}"
+    );
 }

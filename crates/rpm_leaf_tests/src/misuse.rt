@@ -2,7 +2,7 @@
 
 use crate::commands::line;
 use rpm_words::{WordsFault, WordsKind, read};
-use std::alloc::AllocError;
+use std::alloc::{AllocError, Global};
 
 // Lines with the first rule that each breaks, and the word that breaks it.
 const BROKEN: &[(&str, WordsKind, u32)] = &[
@@ -98,14 +98,23 @@ const BROKEN: &[(&str, WordsKind, u32)] = &[
     ),
 ];
 
-#[test]
-fn the_first_broken_rule_is_told(rt: HostRuntime) -> Result<(), AllocError> {
-    let mut differing = None;
+/// The rule that a line breaks, if it breaks one.
+fn fault_of(alloc: Global, text: &str) -> Result<Option<WordsFault>, AllocError> {
+    let words = line(alloc, text)?;
+    Ok(read(alloc, &words).err())
+}
+
+fn unlike_fault(alloc: Global) -> Option<&'static str> {
     for &(text, kind, word) in BROKEN {
-        if read(rt.alloc(), &line(rt.alloc(), text)?).err() != Some(WordsFault { kind, word }) {
-            differing = Some(text);
+        if fault_of(alloc, text) != Ok(Some(WordsFault { kind, word })) {
+            return Some(text);
         }
     }
-    assert!(rt; differing.is_none(), "{differing:?}");
-    Ok(())
+    None
+}
+
+#[test]
+fn the_first_broken_rule_is_told(rt: HostRuntime) {
+    let line = unlike_fault(rt.alloc());
+    assert!(rt; line.is_none(), "{line:?}");
 }

@@ -84,27 +84,17 @@ const WRONG: &[(&[(usize, u8)], FileFault)] = &[
     ),
 ];
 
-#[test]
-fn a_package_that_is_wrong_has_its_first_fault(rt: HostRuntime) -> Result<(), AllocError> {
-    let alloc = rt.alloc();
+/// Whether a package is cut short after so many bytes.
+fn is_cut(alloc: Global, cut: usize) -> Result<bool, AllocError> {
     let package = joined(alloc, PACKAGE)?;
-    let mut cut_differs = None;
-    for &cut in CUTS {
-        if !is_refused(alloc, first(&package, cut), FileFault::Short)? {
-            cut_differs = Some(cut);
-        }
-    }
-    let mut differing = None;
-    for &(changes, fault) in WRONG {
-        if !is_refused(alloc, &changed(alloc, &package, changes)?, fault)? {
-            differing = Some(changes);
-        }
-    }
-    assert!(rt;
-        cut_differs.is_none() && differing.is_none(),
-        "{cut_differs:?} {differing:?}"
-    );
-    Ok(())
+    is_refused(alloc, first(&package, cut), FileFault::Short)
+}
+
+/// Whether a package with these bytes in place of its own has this fault.
+fn is_wrong(alloc: Global, changes: &[(usize, u8)], fault: FileFault) -> Result<bool, AllocError> {
+    let package = joined(alloc, PACKAGE)?;
+    let wrong = changed(alloc, &package, changes)?;
+    is_refused(alloc, &wrong, fault)
 }
 
 // The lengths of main headers, and how many bytes follow them: as many entries as a header may have, and as many bytes of data.
@@ -113,38 +103,69 @@ const FULL: &[(&str, usize)] = &[
     ("00000000 04000000", 67_108_864),
 ];
 
-#[test]
-fn a_main_header_without_room_is_too_large(rt: HostRuntime) -> Result<(), AllocError> {
-    let alloc = rt.alloc();
-    let mut differing = None;
-    for &(lengths, size) in FULL {
-        let mut file = joined(alloc, &[LEAD, SIGNATURE, lengths])?;
-        file.resize(152 + size, 0)?;
-        if !is_refused(alloc, &file, FileFault::TooLarge)? {
-            differing = Some(lengths);
-        }
-    }
-    assert!(rt; differing.is_none(), "{differing:?}");
-    Ok(())
+/// Whether a package whose main header is as large as that has no room for what joins it.
+fn is_full(alloc: Global, lengths: &str, size: usize) -> Result<bool, AllocError> {
+    let mut file = joined(alloc, &[LEAD, SIGNATURE, lengths])?;
+    file.resize(152 + size, 0)?;
+    is_refused(alloc, &file, FileFault::TooLarge)
 }
 
-// How many bytes a read takes at most, and how many reads a package needs.
-const READS: &[(u32, u64)] = &[(65_536, 6), (1, 224)];
-
-#[test]
-fn a_failed_read_is_told(rt: HostRuntime) -> Result<(), AllocError> {
-    let alloc = rt.alloc();
+/// The fault of a package where the read of this number fails.
+fn fault_at(alloc: Global, most: u32, read: u64) -> Result<Option<FileFault>, AllocError> {
     let package = joined(alloc, PACKAGE)?;
-    let mut differing = None;
-    for &(most, reads) in READS {
-        for read in 0..reads {
-            let mut shelf = opened(alloc, &package, most)?;
-            shelf.fail_read(read + 1);
-            if read_package(alloc, &mut shelf).err() != Some(FileFault::ReadFault) {
-                differing = Some(read);
-            }
+    let mut shelf = opened(alloc, &package, most)?;
+    shelf.fail_read(read);
+    Ok(read_package(alloc, &mut shelf).err())
+}
+
+fn unlike_cut(alloc: Global) -> Option<usize> {
+    for &cut in CUTS {
+        if is_cut(alloc, cut) != Ok(true) {
+            return Some(cut);
         }
     }
-    assert!(rt; differing.is_none(), "{differing:?}");
-    Ok(())
+    None
+}
+
+fn unlike_wrong(alloc: Global) -> Option<&'static [(usize, u8)]> {
+    for &(changes, fault) in WRONG {
+        if is_wrong(alloc, changes, fault) != Ok(true) {
+            return Some(changes);
+        }
+    }
+    None
+}
+
+fn unlike_full(alloc: Global) -> Option<usize> {
+    for &(lengths, size) in FULL {
+        if is_full(alloc, lengths, size) != Ok(true) {
+            return Some(size);
+        }
+    }
+    None
+}
+
+/// The first of so many reads whose failure isn't told, where a read takes so many bytes at most.
+fn untold_read(alloc: Global, most: u32, reads: u64) -> Option<u64> {
+    for read in 0..reads {
+        if fault_at(alloc, most, read + 1) != Ok(Some(FileFault::ReadFault)) {
+            return Some(read);
+        }
+    }
+    None
+}
+
+#[test]
+fn packages_have_their_first_fault(rt: HostRuntime) {
+    let alloc = rt.alloc();
+    let cut = unlike_cut(alloc);
+    let wrong = unlike_wrong(alloc);
+    let full = unlike_full(alloc);
+    let whole = untold_read(alloc, 65_536, 6);
+    let bytewise = untold_read(alloc, 1, 224);
+    let is_same = cut.is_none() && wrong.is_none() && full.is_none();
+    assert!(rt;
+        is_same && whole.is_none() && bytewise.is_none(),
+        "{cut:?} {wrong:?} {full:?} {whole:?} {bytewise:?}"
+    );
 }

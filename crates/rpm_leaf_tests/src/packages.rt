@@ -64,22 +64,19 @@ fn tagged(alloc: Global, parts: &[&str], places: &[(usize, u16)]) -> Result<Vec<
     Ok(bytes)
 }
 
-#[test]
-fn an_entry_joins_under_its_tag(rt: HostRuntime) -> Result<(), AllocError> {
-    let alloc = rt.alloc();
-    let mut differing = None;
-    for &(tag, last, joins) in JOINS {
-        let file = tagged(alloc, PACKAGE, &[(114, tag), (202, last)])?;
-        let want = match joins {
-            Some(under) => tagged(alloc, &[JOINED], &[(58, last), (74, under)])?,
-            None => tagged(alloc, &[PLAIN], &[(58, last)])?,
-        };
-        if !is_read(alloc, &file, &want)? {
-            differing = Some((tag, last));
-        }
+/// The header of four texts, the last of this tag, with the number of the signature header behind them where it joins.
+fn header_with(alloc: Global, last: u16, joins: Option<u16>) -> Result<Vec<u8>, AllocError> {
+    match joins {
+        Some(under) => tagged(alloc, &[JOINED], &[(58, last), (74, under)]),
+        None => tagged(alloc, &[PLAIN], &[(58, last)]),
     }
-    assert!(rt; differing.is_none(), "{differing:?}");
-    Ok(())
+}
+
+/// Whether the number of a package's signature header joins under this tag.
+fn is_joined(alloc: Global, tag: u16, last: u16, joins: Option<u16>) -> Result<bool, AllocError> {
+    let file = tagged(alloc, PACKAGE, &[(114, tag), (202, last)])?;
+    let want = header_with(alloc, last, joins)?;
+    is_read(alloc, &file, &want)
 }
 
 // The magic and a signature header of entries of each form, and the magic behind it. Neither the tag 1001 joins nor an entry of type 0,
@@ -115,11 +112,26 @@ const MANY_JOINED: &str = "0000000d 0000002c
     00000101 00000004 00000028 00000001
     61003100 32007800 00000000 00000005 61620001 02030001 00026300 64000965 00000000 00000058 00000059";
 
-#[test]
-fn entries_of_each_form_join_in_their_order(rt: HostRuntime) -> Result<(), AllocError> {
-    let alloc = rt.alloc();
+/// Whether entries of each form join in their order.
+fn is_many_joined(alloc: Global) -> Result<bool, AllocError> {
     let file = joined(alloc, &[LEAD, MANY, PLAIN, "07"])?;
-    let is_same = is_read(alloc, &file, &bytes_of(alloc, MANY_JOINED)?)?;
-    assert!(rt; is_same);
-    Ok(())
+    let want = bytes_of(alloc, MANY_JOINED)?;
+    is_read(alloc, &file, &want)
+}
+
+fn unlike_join(alloc: Global) -> Option<(u16, u16)> {
+    for &(tag, last, joins) in JOINS {
+        if is_joined(alloc, tag, last, joins) != Ok(true) {
+            return Some((tag, last));
+        }
+    }
+    None
+}
+
+#[test]
+fn signature_entries_join_under_their_tags(rt: HostRuntime) {
+    let alloc = rt.alloc();
+    let join = unlike_join(alloc);
+    let many = is_many_joined(alloc);
+    assert!(rt; join.is_none() && many == Ok(true), "{join:?} {many:?}");
 }

@@ -9,6 +9,22 @@ use std::alloc::{AllocError, Global};
 
 const LIST: &[u8] = b"%|FILENAMES?{[%{FILENAMES}\\n]}:{(contains no files)\\n}|";
 
+// Two blobs, states, modes, times in 64 bits, and flags, of a package that is called `it's`.
+const ODD: &str = "00000008 00000064
+    00000105 00000007 00000000 00000003
+    000003e8 00000006 00000003 00000001
+    000003ec 00000007 00000008 00000002
+    00000405 00000002 0000000a 00000006
+    00000406 00000003 00000010 00000004
+    0000040a 00000005 00000018 00000007
+    0000040d 00000004 00000050 00000002
+    00000418 00000004 00000058 00000003
+    01020369 74277300 cafe0001 02030405 89ed43ff e0004580 00000000
+    00000000 00000000 04102f80 00000000 38bb0c00 00000000 f4d2ce00
+    00000000 f4d41f80 00000000 ffffffff 00000001 00000000 00001051
+    ffffffff 0000000c 00000002 00000000";
+
+// Headers with a format, and what it prints.
 const PRINTED: &[(&str, &[u8], &[u8])] = &[
     (
         SHELL,
@@ -62,24 +78,7 @@ const PRINTED: &[(&str, &[u8], &[u8])] = &[
     (SHELL, b"%-8{EPOCH}|", b"(none)  |"),
     (SHELL, b"%|EPOCH?{x}|%|NAME?{y}:{z}|%|EPOCH?{x}:{z}|", b"yz"),
     (SHELL, b"", b""),
-];
-
-// Two blobs, states, modes, times in 64 bits, and flags, of a package that is called `it's`.
-const ODD: &str = "00000008 00000064
-    00000105 00000007 00000000 00000003
-    000003e8 00000006 00000003 00000001
-    000003ec 00000007 00000008 00000002
-    00000405 00000002 0000000a 00000006
-    00000406 00000003 00000010 00000004
-    0000040a 00000005 00000018 00000007
-    0000040d 00000004 00000050 00000002
-    00000418 00000004 00000058 00000003
-    01020369 74277300 cafe0001 02030405 89ed43ff e0004580 00000000
-    00000000 00000000 04102f80 00000000 38bb0c00 00000000 f4d2ce00
-    00000000 f4d41f80 00000000 ffffffff 00000001 00000000 00001051
-    ffffffff 0000000c 00000002 00000000";
-
-const NUMBERS: &[(&str, &[u8], &[u8])] = &[
+    // Formatters.
     (
         SHELL,
         b"[%{FILEMODES:perms} %{BASENAMES}\n]%{NAME:perms}\n",
@@ -120,9 +119,6 @@ Sun Feb 28 00:00:00 2100\nMon Mar  1 00:00:00 2100\nSun Feb  7 06:28:15 2106\n(n
         b"Thu Jan 01 1970\nTue Feb 29 1972\nTue Feb 29 2000\nSun Feb 28 2100\n\
 Mon Mar 01 2100\nSun Feb 07 2106\n(not a date)\n",
     ),
-];
-
-const OTHERS: &[(&str, &[u8], &[u8])] = &[
     (
         ODD,
         b"%{NAME:shescape}|%12{NAME:shescape}|%-12{NAME:shescape}|",
@@ -155,51 +151,6 @@ const OTHERS: &[(&str, &[u8], &[u8])] = &[
     ),
 ];
 
-/// What a format prints of the header of number 7 into a sink that takes so many bytes: the answer and the bytes.
-fn printed(
-    alloc: Global,
-    hex: &str,
-    text: &[u8],
-    room: u64,
-) -> Result<(Option<Result<(), EvalFault>>, MemSink), AllocError> {
-    let blob = bytes_of(alloc, hex)?;
-    let mut sink = MemSink::new(alloc);
-    sink.fail_after(room);
-    match (View::parse(&blob), parse(alloc, text)) {
-        (Ok(view), Ok(format)) => {
-            let answer = print(alloc, &format, &view, 7, &mut sink);
-            Ok((Some(answer), sink))
-        }
-        _ => Ok((None, sink)),
-    }
-}
-
-/// The first format of a table that prints something else.
-fn differing<'a>(
-    alloc: Global,
-    rows: &'a [(&'a str, &'a [u8], &'a [u8])],
-) -> Result<Option<&'a [u8]>, AllocError> {
-    for &(hex, text, want) in rows {
-        let (answer, sink) = printed(alloc, hex, text, 1000)?;
-        if answer != Some(Ok(())) || sink.bytes() != want {
-            return Ok(Some(text));
-        }
-    }
-    Ok(None)
-}
-
-#[test]
-fn formats_are_printed(rt: HostRuntime) -> Result<(), AllocError> {
-    let formats = differing(rt.alloc(), PRINTED)?;
-    let numbers = differing(rt.alloc(), NUMBERS)?;
-    let others = differing(rt.alloc(), OTHERS)?;
-    assert!(rt;
-        formats.is_none() && numbers.is_none() && others.is_none(),
-        "{formats:?} {numbers:?} {others:?}"
-    );
-    Ok(())
-}
-
 // Formats of brackets whose tags have different counts, and the two counts.
 const DIFFERENT: &[(&[u8], u32, u32)] = &[
     (b"x[%{NAME} %{REQUIRENAME}\\n]", 1, 2),
@@ -216,25 +167,68 @@ const DIFFERENT: &[(&[u8], u32, u32)] = &[
     ),
 ];
 
-#[test]
-fn counts_that_differ_are_told_before_a_byte_is_written(rt: HostRuntime) -> Result<(), AllocError> {
-    let mut differing = None;
-    for &(text, first, second) in DIFFERENT {
-        let (answer, sink) = printed(rt.alloc(), SHELL, text, 1000)?;
-        if answer != Some(Err(EvalFault::SizesDiffer { first, second }))
-            || !sink.bytes().is_empty()
-        {
-            differing = Some(text);
+/// What printing a header of number 7 into a sink answers, where header and format can be read.
+fn printed(
+    alloc: Global,
+    hex: &str,
+    text: &[u8],
+    sink: &mut MemSink,
+) -> Result<Option<Result<(), EvalFault>>, AllocError> {
+    let blob = bytes_of(alloc, hex)?;
+    let Ok(view) = View::parse(&blob) else {
+        return Ok(None);
+    };
+    match parse(alloc, text) {
+        Ok(format) => Ok(Some(print(alloc, &format, &view, 7, sink))),
+        Err(_) => Ok(None),
+    }
+}
+
+/// Whether a format of a header has this answer and prints these bytes, into a sink that takes so many.
+fn prints(
+    alloc: Global,
+    hex: &str,
+    text: &[u8],
+    room: u64,
+    answer: Result<(), EvalFault>,
+    want: &[u8],
+) -> Result<bool, AllocError> {
+    let mut sink = MemSink::new(alloc);
+    sink.fail_after(room);
+    let answered = printed(alloc, hex, text, &mut sink)?;
+    Ok(answered == Some(answer) && sink.bytes() == want)
+}
+
+fn unlike_print(alloc: Global) -> Option<&'static [u8]> {
+    for &(hex, text, want) in PRINTED {
+        if prints(alloc, hex, text, 1000, Ok(()), want) != Ok(true) {
+            return Some(text);
         }
     }
-    assert!(rt; differing.is_none(), "{differing:?}");
-    Ok(())
+    None
+}
+
+/// The first format of the table whose counts aren't told before a byte is written.
+fn unlike_counts(alloc: Global) -> Option<&'static [u8]> {
+    for &(text, first, second) in DIFFERENT {
+        let fault = EvalFault::SizesDiffer { first, second };
+        if prints(alloc, SHELL, text, 1000, Err(fault), b"") != Ok(true) {
+            return Some(text);
+        }
+    }
+    None
 }
 
 #[test]
-fn a_sink_that_fails_has_the_first_bytes(rt: HostRuntime) -> Result<(), AllocError> {
-    let (answer, sink) = printed(rt.alloc(), SHELL, LIST, 16)?;
-    let is_same = answer == Some(Err(EvalFault::OutFault));
-    assert!(rt; is_same && sink.bytes() == b"/usr/bin/bash\n/u".as_slice());
-    Ok(())
+fn formats_are_printed(rt: HostRuntime) {
+    let alloc = rt.alloc();
+    let print = unlike_print(alloc);
+    let counts = unlike_counts(alloc);
+    // A sink that fails has the first bytes.
+    let fault = Err(EvalFault::OutFault);
+    let cut = prints(alloc, SHELL, LIST, 16, fault, b"/usr/bin/bash\n/u");
+    assert!(rt;
+        print.is_none() && counts.is_none() && cut == Ok(true),
+        "{print:?} {counts:?} {cut:?}"
+    );
 }

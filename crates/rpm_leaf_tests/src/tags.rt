@@ -120,57 +120,35 @@ fn is_named(tag: Tag, name: &str) -> bool {
     tag_of(name.as_bytes()) == Some(tag) && name_of(tag) == Some(name)
 }
 
-#[test]
-fn names_give_their_tags_and_back(rt: HostRuntime) {
-    let mut differing = None;
-    for &(first, names) in RUNS {
-        let mut number = first;
-        for &name in names {
-            if !is_named(Tag::Stored(number), name) {
-                differing = Some(name);
-            }
-            number = number.wrapping_add(1);
+/// Whether the tags from this number on have these names, and the next one none: no run ends where another begins.
+fn is_run(first: u32, names: &[&str]) -> bool {
+    let mut number = first;
+    for &name in names {
+        if !is_named(Tag::Stored(number), name) {
+            return false;
         }
-        // No run ends where another begins.
-        if let Some(name) = name_of(Tag::Stored(number)) {
-            differing = Some(name);
-        }
+        number = number.wrapping_add(1);
     }
-    for &(tag, name) in COMPUTED {
-        if !is_named(tag, name) {
-            differing = Some(name);
-        }
-    }
-    assert!(rt; differing.is_none(), "{differing:?}");
+    name_of(Tag::Stored(number)).is_none()
 }
 
-// Spellings, and whether each is one of NAME: in any case, and with one prefix at most.
-const SPELLINGS: &[(&str, bool)] = &[
-    ("NAME", true),
-    ("name", true),
-    ("RPMTAG_NAME", true),
-    ("rpmtag_name", true),
-    ("RpmTag_nAmE", true),
-    ("", false),
-    ("RPMTAG_", false),
-    ("RPMTAG_RPMTAG_NAME", false),
-    ("RPMTAGNAME", false),
-    ("NAME ", false),
-    ("NAM", false),
-    ("NAMES", false),
+const NAME: Option<Tag> = Some(Tag::Stored(1000));
+
+// Spellings and what they stand for: NAME in any case, and with one prefix at most.
+const SPELLINGS: &[(&str, Option<Tag>)] = &[
+    ("NAME", NAME),
+    ("name", NAME),
+    ("RPMTAG_NAME", NAME),
+    ("rpmtag_name", NAME),
+    ("RpmTag_nAmE", NAME),
+    ("", None),
+    ("RPMTAG_", None),
+    ("RPMTAG_RPMTAG_NAME", None),
+    ("RPMTAGNAME", None),
+    ("NAME ", None),
+    ("NAM", None),
+    ("NAMES", None),
 ];
-
-#[test]
-fn names_are_read_in_any_case_and_without_one_prefix(rt: HostRuntime) {
-    let mut differing = None;
-    for &(name, is_name) in SPELLINGS {
-        let tag = tag_of(name.as_bytes());
-        if tag.is_some() != is_name || (is_name && tag != Some(Tag::Stored(1000))) {
-            differing = Some(name);
-        }
-    }
-    assert!(rt; differing.is_none(), "{differing:?}");
-}
 
 const CODES: &[(Kind, u8)] = &[
     (Kind::Name, 1),
@@ -186,13 +164,51 @@ const CODES: &[(Kind, u8)] = &[
     (Kind::Recommendname, 11),
 ];
 
-#[test]
-fn kinds_have_their_codes(rt: HostRuntime) {
-    let mut differing = None;
-    for &(kind, code) in CODES {
-        if kind.code() != code {
-            differing = Some(code);
+/// The first number of a run whose names are others.
+fn unlike_run() -> Option<u32> {
+    for &(first, names) in RUNS {
+        if !is_run(first, names) {
+            return Some(first);
         }
     }
-    assert!(rt; differing.is_none(), "{differing:?}");
+    None
+}
+
+fn unlike_computed() -> Option<&'static str> {
+    for &(tag, name) in COMPUTED {
+        if !is_named(tag, name) {
+            return Some(name);
+        }
+    }
+    None
+}
+
+fn unlike_spelling() -> Option<&'static str> {
+    for &(text, tag) in SPELLINGS {
+        if tag_of(text.as_bytes()) != tag {
+            return Some(text);
+        }
+    }
+    None
+}
+
+fn unlike_code() -> Option<u8> {
+    for &(kind, code) in CODES {
+        if kind.code() != code {
+            return Some(code);
+        }
+    }
+    None
+}
+
+#[test]
+fn names_and_codes_are_those_of_rpm(rt: HostRuntime) {
+    let run = unlike_run();
+    let computed = unlike_computed();
+    let spelling = unlike_spelling();
+    let code = unlike_code();
+    assert!(rt;
+        run.is_none() && computed.is_none() && spelling.is_none() && code.is_none(),
+        "{run:?} {computed:?} {spelling:?} {code:?}"
+    );
 }

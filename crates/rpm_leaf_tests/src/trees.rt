@@ -2,6 +2,7 @@
 
 use rpm_qfparse::{Part, Parts, Role, Show, TagPart, parse};
 use rpm_tags::Tag;
+use std::alloc::Global;
 
 const NAME: Tag = Tag::Stored(1000);
 
@@ -123,26 +124,12 @@ const TAGS: &[(&[u8], Tag, Role, bool, u32, Show)] = &[
     ),
 ];
 
-#[test]
-fn tags_have_role_width_and_formatter(rt: HostRuntime) {
-    let mut differing = None;
-    for &(text, tag, role, left, width, show) in TAGS {
-        let want = TagPart {
-            tag,
-            role,
-            left,
-            width,
-            show,
-        };
-        let is_same = match parse(rt.alloc(), text) {
-            Ok(format) => format.parts().len() == 1 && is_tag(format.parts(), 0, want),
-            Err(_) => false,
-        };
-        if !is_same {
-            differing = Some(text);
-        }
+/// Whether a format is this tag alone.
+fn is_one_tag(alloc: Global, text: &[u8], want: TagPart) -> bool {
+    match parse(alloc, text) {
+        Ok(format) => format.parts().len() == 1 && is_tag(format.parts(), 0, want),
+        Err(_) => false,
     }
-    assert!(rt; differing.is_none(), "{differing:?}");
 }
 
 /// A condition with nothing in it.
@@ -185,20 +172,43 @@ fn is_condition(part: &Part) -> bool {
 
 const NESTED: &[u8] = b"%{NAME}-%%\\n[ %{=NAME}%|EPOCH?{}|]a%|EPOCH?{[x]}:{y%{EPOCH}}|b";
 
-#[test]
-fn brackets_and_conditions_hold_parts(rt: HostRuntime) {
-    let is_same = match parse(rt.alloc(), NESTED) {
-        Ok(format) => {
-            let parts = format.parts();
-            parts.len() == 6
-                && is_tag(parts, 0, plain(NAME, Role::Element))
-                && is_text(parts, 1, b"-%\n")
-                && is_bracket(parts.at(2))
-                && is_text(parts, 3, b"a")
-                && is_condition(parts.at(4))
-                && is_text(parts, 5, b"b")
-        }
+/// Whether the parts are those of the nested format.
+fn are_nested(parts: &Parts) -> bool {
+    parts.len() == 6
+        && is_tag(parts, 0, plain(NAME, Role::Element))
+        && is_text(parts, 1, b"-%\n")
+        && is_bracket(parts.at(2))
+        && is_text(parts, 3, b"a")
+        && is_condition(parts.at(4))
+        && is_text(parts, 5, b"b")
+}
+
+fn is_nested(alloc: Global) -> bool {
+    match parse(alloc, NESTED) {
+        Ok(format) => are_nested(format.parts()),
         Err(_) => false,
-    };
-    assert!(rt; is_same);
+    }
+}
+
+fn unlike_tag(alloc: Global) -> Option<&'static [u8]> {
+    for &(text, tag, role, left, width, show) in TAGS {
+        let want = TagPart {
+            tag,
+            role,
+            left,
+            width,
+            show,
+        };
+        if !is_one_tag(alloc, text, want) {
+            return Some(text);
+        }
+    }
+    None
+}
+
+#[test]
+fn formats_are_trees(rt: HostRuntime) {
+    let tag = unlike_tag(rt.alloc());
+    let nested = is_nested(rt.alloc());
+    assert!(rt; tag.is_none() && nested, "{tag:?} {nested}");
 }

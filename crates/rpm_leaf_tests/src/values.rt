@@ -137,18 +137,6 @@ fn has_texts(alloc: Global, hex: &str, tag: Tag, want: Option<&str>) -> Result<b
     }
 }
 
-#[test]
-fn texts_are_present_where_what_they_are_made_of_is(rt: HostRuntime) -> Result<(), AllocError> {
-    let mut differing = None;
-    for &(hex, tag, want) in TEXTS {
-        if !has_texts(rt.alloc(), hex, tag, want)? {
-            differing = Some((hex, want));
-        }
-    }
-    assert!(rt; differing.is_none(), "{differing:?}");
-    Ok(())
-}
-
 // Headers with a tag, how many numbers it has, and the last of them.
 const NUMBERS: &[(&str, Tag, u32, u64)] = &[
     (PLAIN, Tag::Epochnum, 1, 0),
@@ -162,65 +150,95 @@ const NUMBERS: &[(&str, Tag, u32, u64)] = &[
     (NO_NAME, Tag::Epochnum, 1, u64::MAX),
 ];
 
-/// The last number of a value, and how many it has.
-fn last_number(value: &TagValue<'_>) -> Option<(u32, u64)> {
-    if value.class() == Class::Number {
-        Some((value.count(), value.number(value.count() - 1)))
-    } else {
-        None
+/// Whether a value is so many numbers, of which this is the last.
+fn is_numbers(value: &TagValue<'_>, count: u32, last: u64) -> bool {
+    value.class() == Class::Number
+        && value.count() == count
+        && value.number(value.count() - 1) == last
+}
+
+/// Whether a tag of a header has so many numbers, of which this is the last.
+fn has_numbers(
+    alloc: Global,
+    hex: &str,
+    tag: Tag,
+    count: u32,
+    last: u64,
+) -> Result<bool, AllocError> {
+    let blob = bytes_of(alloc, hex)?;
+    let Ok(view) = View::parse(&blob) else {
+        return Ok(false);
+    };
+    match value(&view, 7, tag) {
+        Some(value) => Ok(is_numbers(&value, count, last)),
+        None => Ok(false),
     }
 }
 
-#[test]
-fn numbers_are_read_unsigned(rt: HostRuntime) -> Result<(), AllocError> {
-    let mut differing = None;
-    for &(hex, tag, count, last) in NUMBERS {
-        let blob = bytes_of(rt.alloc(), hex)?;
-        let found = match View::parse(&blob) {
-            Ok(view) => value(&view, 7, tag).and_then(|value| last_number(&value)),
-            Err(_) => None,
-        };
-        if found != Some((count, last)) {
-            differing = Some((hex, last));
-        }
-    }
-    assert!(rt; differing.is_none(), "{differing:?}");
-    Ok(())
-}
-
-/// Whether the text at a place has two parts, and is this one.
-fn has_path(alloc: Global, value: &TagValue<'_>, i: u32, want: &[u8]) -> Result<bool, AllocError> {
+/// Whether the last of four paths has two parts, and is this one.
+fn is_path(alloc: Global, value: &TagValue<'_>, want: &[u8]) -> Result<bool, AllocError> {
     let mut bytes = Vec::new(alloc);
-    if value.class() != Class::Text || i >= value.count() {
+    if value.class() != Class::Text || value.count() != 4 {
         return Ok(false);
     }
-    let path = value.text(i);
+    let path = value.text(3);
     push_parts(&mut bytes, &path)?;
     let has_two = path.part(1).is_some() && path.part(2).is_none();
     Ok(has_two && path.len() as usize == want.len() && bytes.as_slice() == want)
 }
 
-/// Whether a value is a blob of these bytes.
-fn is_blob(value: &TagValue<'_>, want: &[u8]) -> bool {
-    value.class() == Class::Blob && value.count() == 1 && value.blob() == want
+fn has_path(alloc: Global, hex: &str, want: &[u8]) -> Result<bool, AllocError> {
+    let blob = bytes_of(alloc, hex)?;
+    let Ok(view) = View::parse(&blob) else {
+        return Ok(false);
+    };
+    match value(&view, 7, Tag::Filenames) {
+        Some(value) => is_path(alloc, &value, want),
+        None => Ok(false),
+    }
+}
+
+/// Whether a tag of a header is a blob of these bytes.
+fn has_blob(alloc: Global, hex: &str, tag: Tag, want: &[u8]) -> Result<bool, AllocError> {
+    let blob = bytes_of(alloc, hex)?;
+    let Ok(view) = View::parse(&blob) else {
+        return Ok(false);
+    };
+    match value(&view, 7, tag) {
+        Some(value) => Ok(
+            value.class() == Class::Blob && value.count() == 1 && value.blob() == want,
+        ),
+        None => Ok(false),
+    }
+}
+
+fn unlike_texts(alloc: Global) -> Option<(&'static str, Option<&'static str>)> {
+    for &(hex, tag, want) in TEXTS {
+        if has_texts(alloc, hex, tag, want) != Ok(true) {
+            return Some((hex, want));
+        }
+    }
+    None
+}
+
+fn unlike_numbers(alloc: Global) -> Option<(&'static str, u64)> {
+    for &(hex, tag, count, last) in NUMBERS {
+        if has_numbers(alloc, hex, tag, count, last) != Ok(true) {
+            return Some((hex, last));
+        }
+    }
+    None
 }
 
 #[test]
-fn a_path_has_two_parts_and_bytes_are_one_blob(rt: HostRuntime) -> Result<(), AllocError> {
-    let dirs = bytes_of(rt.alloc(), TWO_DIRS)?;
-    let odd = bytes_of(rt.alloc(), ODD)?;
-    let mut has_parts = false;
-    let mut has_blob = false;
-    if let Ok(view) = View::parse(&dirs) {
-        if let Some(value) = value(&view, 7, Tag::Filenames) {
-            has_parts = has_path(rt.alloc(), &value, 3, b"/z/d")?;
-        }
-    }
-    if let Ok(view) = View::parse(&odd) {
-        if let Some(value) = value(&view, 7, Tag::Stored(261)) {
-            has_blob = is_blob(&value, b"\xde\xad");
-        }
-    }
-    assert!(rt; has_parts && has_blob, "{has_parts} {has_blob}");
-    Ok(())
+fn values_are_those_by_hand(rt: HostRuntime) {
+    let alloc = rt.alloc();
+    let texts = unlike_texts(alloc);
+    let numbers = unlike_numbers(alloc);
+    let path = has_path(alloc, TWO_DIRS, b"/z/d");
+    let blob = has_blob(alloc, ODD, Tag::Stored(261), b"\xde\xad");
+    assert!(rt;
+        texts.is_none() && numbers.is_none() && path == Ok(true) && blob == Ok(true),
+        "{texts:?} {numbers:?} {path:?} {blob:?}"
+    );
 }

@@ -49,17 +49,6 @@ const VERSIONS: &[(&[u8], &[u8], Ordering)] = &[
     (b"Z", b"a", Ordering::Less),
 ];
 
-#[test]
-fn versions_compare_by_their_segments(rt: HostRuntime) {
-    let mut differing = None;
-    for &(a, b, order) in VERSIONS {
-        if compare(a, b) != order || compare(b, a) != order.reverse() {
-            differing = Some((a, b));
-        }
-    }
-    assert!(rt; differing.is_none(), "{differing:?}");
-}
-
 const PARTS: &[(&[u8], Option<&[u8]>, &[u8], Option<&[u8]>)] = &[
     (b"0:1-1", Some(b"0"), b"1", Some(b"1")),
     (b":", Some(b""), b"", None),
@@ -74,18 +63,6 @@ const PARTS: &[(&[u8], Option<&[u8]>, &[u8], Option<&[u8]>)] = &[
     (b"", None, b"", None),
 ];
 
-#[test]
-fn texts_are_cut_into_epoch_version_and_release(rt: HostRuntime) {
-    let mut differing = None;
-    for &(text, epoch, version, release) in PARTS {
-        let parts = Evr::read(text);
-        if parts.epoch() != epoch || parts.version() != version || parts.release() != release {
-            differing = Some(text);
-        }
-    }
-    assert!(rt; differing.is_none(), "{differing:?}");
-}
-
 const EPOCHS: &[(&[u8], &[u8], Ordering)] = &[
     (b"1:1", b"2", Ordering::Greater),
     (b"0:1", b"1", Ordering::Equal),
@@ -98,17 +75,6 @@ const EPOCHS: &[(&[u8], &[u8], Ordering)] = &[
     (b"2-1", b"1-2", Ordering::Greater),
     (b"1a:1", b"1:1", Ordering::Less),
 ];
-
-#[test]
-fn epochs_decide_before_versions_and_versions_before_releases(rt: HostRuntime) {
-    let mut differing = None;
-    for &(a, b, order) in EPOCHS {
-        if compare_evr(&Evr::read(a), &Evr::read(b)) != order {
-            differing = Some((a, b));
-        }
-    }
-    assert!(rt; differing.is_none(), "{differing:?}");
-}
 
 // Two ranges, each of flags and a version, and whether they overlap.
 const RANGES: &[(u64, &[u8], u64, &[u8], bool)] = &[
@@ -133,17 +99,6 @@ const RANGES: &[(u64, &[u8], u64, &[u8], bool)] = &[
     (2, b"1-1", 4, b"1", false),
 ];
 
-#[test]
-fn ranges_overlap_by_the_table(rt: HostRuntime) {
-    let mut differing = None;
-    for &(a_flags, a, b_flags, b, is_met) in RANGES {
-        if overlap(a_flags, a, b_flags, b) != is_met || overlap(b_flags, b, a_flags, a) != is_met {
-            differing = Some((a_flags, a, b_flags, b));
-        }
-    }
-    assert!(rt; differing.is_none(), "{differing:?}");
-}
-
 // Texts with the name, the flags and the version of the capability that each is, if it is one.
 const CAPABILITIES: &[(&str, Option<(&[u8], u32, &[u8])>)] = &[
     ("libx", Some((b"libx", 0, b""))),
@@ -165,19 +120,76 @@ const CAPABILITIES: &[(&str, Option<(&[u8], u32, &[u8])>)] = &[
     ("< = > =", None),
 ];
 
-#[test]
-fn capabilities_have_one_word_or_three(rt: HostRuntime) {
-    let mut differing = None;
-    for &(text, parts) in CAPABILITIES {
-        let is_same = match (Capability::read(text), parts) {
-            (Ok(read), Some((name, flags, evr))) => {
-                read.name() == name && read.flags() == flags && read.evr() == evr
-            }
-            (read, parts) => read.is_err() && parts.is_none(),
-        };
-        if !is_same {
-            differing = Some(text);
+/// The first versions of the table that compare otherwise.
+fn unlike_versions() -> Option<(&'static [u8], &'static [u8])> {
+    for &(a, b, order) in VERSIONS {
+        if compare(a, b) != order || compare(b, a) != order.reverse() {
+            return Some((a, b));
         }
     }
-    assert!(rt; differing.is_none(), "{differing:?}");
+    None
+}
+
+/// The first text of the table that is cut otherwise.
+fn unlike_parts() -> Option<&'static [u8]> {
+    for &(text, epoch, version, release) in PARTS {
+        let parts = Evr::read(text);
+        if parts.epoch() != epoch || parts.version() != version || parts.release() != release {
+            return Some(text);
+        }
+    }
+    None
+}
+
+/// The first texts of the table that compare otherwise.
+fn unlike_epochs() -> Option<(&'static [u8], &'static [u8])> {
+    for &(a, b, order) in EPOCHS {
+        if compare_evr(&Evr::read(a), &Evr::read(b)) != order {
+            return Some((a, b));
+        }
+    }
+    None
+}
+
+/// The first ranges of the table that overlap and ought not to, or the other way round.
+fn unlike_ranges() -> Option<(&'static [u8], &'static [u8])> {
+    for &(a_flags, a, b_flags, b, is_met) in RANGES {
+        if overlap(a_flags, a, b_flags, b) != is_met || overlap(b_flags, b, a_flags, a) != is_met {
+            return Some((a, b));
+        }
+    }
+    None
+}
+
+fn is_capability(text: &str, parts: Option<(&[u8], u32, &[u8])>) -> bool {
+    match (Capability::read(text), parts) {
+        (Ok(read), Some((name, flags, evr))) => {
+            read.name() == name && read.flags() == flags && read.evr() == evr
+        }
+        (read, parts) => read.is_err() && parts.is_none(),
+    }
+}
+
+/// The first text of the table that is read otherwise.
+fn unlike_capability() -> Option<&'static str> {
+    for &(text, parts) in CAPABILITIES {
+        if !is_capability(text, parts) {
+            return Some(text);
+        }
+    }
+    None
+}
+
+#[test]
+fn versions_ranges_and_capabilities_are_those_by_hand(rt: HostRuntime) {
+    let versions = unlike_versions();
+    let parts = unlike_parts();
+    let epochs = unlike_epochs();
+    let ranges = unlike_ranges();
+    let capability = unlike_capability();
+    let is_same = versions.is_none() && parts.is_none() && epochs.is_none();
+    assert!(rt;
+        is_same && ranges.is_none() && capability.is_none(),
+        "{versions:?} {parts:?} {epochs:?} {ranges:?} {capability:?}"
+    );
 }
