@@ -97,16 +97,16 @@ fn is_wrong(alloc: Global, changes: &[(usize, u8)], fault: FileFault) -> Result<
     is_refused(alloc, &wrong, fault)
 }
 
-// The lengths of main headers, and how many bytes follow them: as many entries as a header may have, and as many bytes of data.
+// The two lengths of main headers, and how long the file is: as many entries as a header may have, and as many bytes of data.
 const FULL: &[(&str, usize)] = &[
-    ("0000ffff 00000000", 16 * 65_535),
-    ("00000000 04000000", 67_108_864),
+    ("0000ffff 00000000", 152 + 16 * 65_535),
+    ("00000000 04000000", 152 + 67_108_864),
 ];
 
 /// Whether a package whose main header is as large as that has no room for what joins it.
-fn is_full(alloc: Global, lengths: &str, size: usize) -> Result<bool, AllocError> {
+fn is_full(alloc: Global, lengths: &str, length: usize) -> Result<bool, AllocError> {
     let mut file = joined(alloc, &[LEAD, SIGNATURE, lengths])?;
-    file.resize(152 + size, 0)?;
+    file.resize(length, 0)?;
     is_refused(alloc, &file, FileFault::TooLarge)
 }
 
@@ -137,9 +137,9 @@ fn unlike_wrong(alloc: Global) -> Option<&'static [(usize, u8)]> {
 }
 
 fn unlike_full(alloc: Global) -> Option<usize> {
-    for &(lengths, size) in FULL {
-        if is_full(alloc, lengths, size) != Ok(true) {
-            return Some(size);
+    for &(lengths, length) in FULL {
+        if is_full(alloc, lengths, length) != Ok(true) {
+            return Some(length);
         }
     }
     None
