@@ -1,15 +1,19 @@
 #!/usr/bin/env python3
-"""Writes a Packages.db with N packages, to measure with: bench/make_database.py [--states] [--own] N FOLDER [LIST]
+"""Writes a Packages.db with N packages, to measure with: bench/make_database.py [--states] [--own] [--real] N FOLDER [LIST]
 
 The file is laid out by docs/FORMATS.md and owes nothing to the program. Each package has a header of some 40 entries with 20 files,
 about 3 kB, which is the size of a small package of a distribution. Where a LIST is named, the same headers are written there, each
 behind its magic, as rpmdb --importdb reads them. With --states each header also tells that its files are there, which rpm wants of the
 packages beside one that it erases. All packages share their files and requirements; with --own, as in a distribution, each has 20 files
-in two directories and 5 provides that no other has, and 20 requirements of which each is shared by five packages.
+in two directories and 5 provides that no other has, and 20 requirements of which each is shared by five packages. With --real the
+headers are as those of real packages (bench/real_packages.py): a region, 30 to 500 kB, base names that repeat within a package and over
+packages, changelogs, up to 3,000 files; 157 MB for 1,000 packages.
 """
 import struct
 import sys
 import zlib
+
+import real_packages
 
 CHAR, INT16, INT32, TEXT, BIN, TEXTS, I18N = 1, 3, 4, 6, 7, 8, 9
 SIZES = {INT16: 2, INT32: 4}
@@ -91,7 +95,10 @@ if __name__ == "__main__":
     words = [word for word in sys.argv[1:] if not word.startswith("--")]
     count, folder = int(words[0]), words[1]
     states, parts = "--states" in sys.argv, own if "--own" in sys.argv else common
-    packages = [(i, package(i, states, parts)) for i in range(1, count + 1)]
+    if "--real" in sys.argv:
+        packages = [(i, real_packages.package(i)) for i in range(1, count + 1)]
+    else:
+        packages = [(i, package(i, states, parts)) for i in range(1, count + 1)]
     with open(f"{folder}/Packages.db", "wb") as file:
         file.write(store(packages, count + 1))
     for name in words[2:]:
