@@ -1,0 +1,33 @@
+//! Tests of the storage crates and of those over the database, through their public calls.
+#![tactic(auto)]
+
+#[cfg(test)]
+mod commit_tests;
+#[cfg(test)]
+mod db_change_tests;
+#[cfg(test)]
+mod db_stop_tests;
+#[cfg(test)]
+mod db_tests;
+#[cfg(test)]
+mod fixtures;
+#[cfg(test)]
+mod glob_tests;
+#[cfg(test)]
+mod group_tests;
+#[cfg(test)]
+mod index_change_tests;
+#[cfg(test)]
+mod index_fault_tests;
+#[cfg(test)]
+mod index_tests;
+#[cfg(test)]
+mod outside_tests;
+#[cfg(test)]
+mod plain_disk;
+#[cfg(test)]
+mod select_tests;
+#[cfg(test)]
+mod store_change_tests;
+#[cfg(test)]
+mod store_stop_tests;
