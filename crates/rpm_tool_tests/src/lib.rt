@@ -2,13 +2,9 @@
 #![tactic(auto)]
 
 #[cfg(test)]
-mod calls;
-#[cfg(test)]
 mod changes;
 #[cfg(test)]
 mod edge;
-#[cfg(test)]
-mod exercising;
 #[cfg(test)]
 mod fixtures;
 #[cfg(test)]
