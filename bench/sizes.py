@@ -1,64 +1,85 @@
 #!/usr/bin/env python3
-"""Counts the lines of each crate, and its must-fail edits, as a table; with --write it replaces the one of docs/FIGURES.md.
+"""What the documents say of the size of the tree: bench/sizes.py [--write | --check]
 
-    bench/sizes.py [--write]
-
-Lines are all lines of a file. Crates of tests and of worked rows have no code that the program is built from: theirs stand in columns of their own.
+Prints the table of docs/FIGURES.md that has the lines, clauses, must-fail edits, tests and worked rows of each crate, and the sentence of
+README.md that sums it up. --write puts both into the documents, --check fails where they aren't current. Lines are all lines of a file; clauses
+are those of functions, as bench/clauses.py reads them. What crates of tests and rows have in src/ isn't counted as code.
 """
-import os
 import re
 import sys
+from pathlib import Path
 
-TOP = os.path.dirname(os.path.dirname(os.path.abspath(__file__)))
-HEAD = "| Crate | Code | Tests and rows | Definitions and their lemmas (`specs/`) | Proofs | Must-fail edits |\n|---|---|---|---|---|---|\n"
+from clauses import read_source, read_tree
+
+TOP = Path(__file__).resolve().parent.parent
+HEAD = ("| Crate | Code | Clauses | Definitions, laws (`specs/`) | Proofs | Must-fail edits | Tests | Worked rows | Lines of tests and rows |\n"
+        "|---|---|---|---|---|---|---|---|---|\n")
+TABLE = re.compile(r"\| Crate \| Code \|.*?\n\| in all \|[^\n]*\n", re.S)
+SENTENCE = re.compile(r"The tree has [\d,]+ crates\b[^.]*\.")
+COUNTS = ("code", "clauses", "specs", "proofs", "edits", "tests", "rows", "tried")
+
+
+def crates():
+    """The names of the crates, in the order of crates.txt."""
+    lines = (TOP / "crates.txt").read_text(encoding="utf-8").splitlines()
+    return [line.split(":")[0].strip() for line in lines if line.strip() and not line.startswith("#")]
 
 
 def lines_below(folder, ending):
     """The lines of all files below a folder with this ending."""
-    count = 0
-    for place, _, names in os.walk(folder):
-        for name in names:
-            if name.endswith(ending):
-                with open(os.path.join(place, name), encoding="utf-8") as file:
-                    count += sum(1 for _ in file)
-    return count
+    return [line for path in sorted(folder.rglob("*" + ending)) for line in path.read_text(encoding="utf-8").splitlines()]
 
 
 def row_of(name):
-    """Code, tests and rows, definitions, proofs and edits of a crate."""
-    folder = os.path.join(TOP, "crates", name)
-    source = lines_below(f"{folder}/src", ".rt")
+    """What is counted of a crate."""
+    folder = TOP / "crates" / name
+    source, data = lines_below(folder / "src", ".rt"), lines_below(folder / "data", ".rows")
     is_code = not name.endswith("_tests") and name != "rpm_rows"
-    edits = os.listdir(f"{folder}/must-fail") if os.path.isdir(f"{folder}/must-fail") else []
-    return (
-        source if is_code else 0,
-        (0 if is_code else source) + lines_below(f"{folder}/data", ".rows"),
-        lines_below(f"{folder}/specs", ".antt"),
-        lines_below(f"{folder}/proofs", ".antt"),
-        len([it for it in edits if it.endswith(".edit")]),
-    )
+    items = read_tree(TOP, [name], "src", ".rt", read_source).values()
+    return {
+        "code": len(source) if is_code else 0,
+        "clauses": sum(not key.startswith("ghost") for item in items for key in item.clauses) if is_code else 0,
+        "specs": len(lines_below(folder / "specs", ".antt")),
+        "proofs": len(lines_below(folder / "proofs", ".antt")),
+        "edits": len(list((folder / "must-fail").glob("*.edit"))),
+        "tests": sum(line.strip() == "#[test]" for line in source),
+        "rows": sum(line.startswith("row ") for line in data),
+        "tried": (0 if is_code else len(source)) + len(data),
+    }
 
 
-def table():
-    """The whole table, crates in the order of crates.txt."""
-    with open(f"{TOP}/crates.txt", encoding="utf-8") as file:
-        names = [line.split(":")[0].split()[0] for line in file if line.strip() and not line.startswith("#")]
-    rows = [(f"`{name}`", row_of(name)) for name in names]
-    rows.append(("in all", tuple(sum(row[at] for _, row in rows) for at in range(5))))
-    return HEAD + "".join(f"| {name} | " + " | ".join(f"{number:,}" for number in row) + " |\n" for name, row in rows)
+def counted():
+    """The table, and the sentence."""
+    rows = [(f"`{name}`", row_of(name)) for name in crates()]
+    total = {key: sum(row[key] for _, row in rows) for key in COUNTS}
+    table = HEAD + "".join(f"| {name} | " + " | ".join(f"{row[key]:,}" for key in COUNTS) + " |\n" for name, row in rows + [("in all", total)])
+    sentence = (f"The tree has {len(rows)} crates: {total['code']:,} lines of code with {total['clauses']:,} clauses, {total['specs']:,} lines of definitions and laws,\n"
+                f"{total['proofs']:,} of proofs, {total['edits']:,} must-fail edits, {total['tests']:,} tests and {total['rows']:,} worked rows.")
+    return table, sentence
+
+
+def documents():
+    """The two documents, each with its text as it is and as it should be."""
+    table, sentence = counted()
+    for path, place, text in ((TOP / "README.md", SENTENCE, sentence), (TOP / "docs" / "FIGURES.md", TABLE, table)):
+        old = path.read_text(encoding="utf-8")
+        if not place.search(old):
+            sys.exit(f"{path.relative_to(TOP)} has no place for the counts")
+        yield path, old, place.sub(lambda _, made=text: made, old)
 
 
 def main():
-    made = table()
-    if "--write" not in sys.argv[1:]:
-        print(made, end="")
-        return
-    path = f"{TOP}/docs/FIGURES.md"
-    with open(path, encoding="utf-8") as file:
-        text = file.read()
-    old = re.search(r"\| Crate \| Code \|.*?\n\| in all \|[^\n]*\n", text, re.S)
-    with open(path, "w", encoding="utf-8") as file:
-        file.write(text[: old.start()] + made + text[old.end() :])
+    if sys.argv[1:] == ["--write"]:
+        for path, _, made in documents():
+            path.write_text(made, encoding="utf-8")
+    elif sys.argv[1:] == ["--check"]:
+        old = [str(path.relative_to(TOP)) for path, text, made in documents() if text != made]
+        if old:
+            sys.exit(f"{', '.join(old)}: the counts aren't current: run bench/sizes.py --write")
+    elif not sys.argv[1:]:
+        print("\n".join(counted()))
+    else:
+        sys.exit(__doc__)
 
 
 main()

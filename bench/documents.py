@@ -1,0 +1,103 @@
+#!/usr/bin/env python3
+"""The form of the documents: bench/documents.py [--check]
+
+The documents are README.md, docs/*.md and crates/*/README.md. Prints how many words each has, as `wc -w` counts them. With --check it prints
+what breaks a rule, and fails where anything does:
+
+- no line is longer than 160 columns, and no paragraph, item or cell of a table has more than 120 words;
+- all documents together have at most 17,000 words, docs/DEFINITIONS.md aside, which bench/definitions.py makes;
+- the words of the glossary in docs/MAP.md are used: none of those that they replace stands outside of code;
+- each crate has a page, and a row in README.md and docs/MAP.md; each file of the crate that its page names is there.
+"""
+import re
+import sys
+from pathlib import Path
+
+TOP = Path(__file__).resolve().parent.parent
+MADE = TOP / "docs" / "DEFINITIONS.md"
+MOST_COLUMNS, MOST_IN_PARAGRAPH, MOST_WORDS = 160, 120, 17_000
+REPLACED = re.compile(r"\b(?:behind|anew|tells|told|(?<!\.)stops? (?:leaves|at)|a stop|power cut)\b", re.I)
+
+
+def documents():
+    """All documents, in the order of reading."""
+    return [TOP / "README.md"] + sorted((TOP / "docs").glob("*.md")) + sorted((TOP / "crates").glob("*/README.md"))
+
+
+def crates():
+    """The names of the crates, in the order of crates.txt."""
+    lines = (TOP / "crates.txt").read_text(encoding="utf-8").splitlines()
+    return [line.split(":")[0].strip() for line in lines if line.strip() and not line.startswith("#")]
+
+
+def paragraphs(lines):
+    """Each paragraph, item and cell with the number of its first line; blocks of code are none."""
+    start, text = 1, []
+    for number, line in enumerate(lines + [""], 1):
+        is_new = not line.strip() or line.startswith(("    ", "|", "#")) or re.match(r" *(?:[-*]|\d+\.) ", line)
+        if is_new and text:
+            yield start, " ".join(text)
+            text = []
+        if line.startswith("|"):
+            yield from ((number, cell) for cell in line.split("|"))
+        elif line.strip() and not line.startswith("    "):
+            start, text = (number if not text else start), text + [line.strip()]
+
+
+def faults_of_form(path, text):
+    """What breaks a rule in one document."""
+    lines = text.splitlines()
+    for number, line in enumerate(lines, 1):
+        if len(line) > MOST_COLUMNS:
+            yield number, f"{len(line)} columns"
+    for number, paragraph in paragraphs(lines):
+        count = len(paragraph.split())
+        if count > MOST_IN_PARAGRAPH:
+            yield number, f"a paragraph of {count} words"
+        if path != MADE:
+            for found in REPLACED.finditer(re.sub(r"`[^`]*`", "", paragraph)):
+                yield number, f"`{found.group(0)}` isn't the word of the glossary"
+
+
+def faults_of_crates(texts):
+    """Crates without a page or a row, and files that a page names and its crate doesn't have."""
+    for crate in crates():
+        page = TOP / "crates" / crate / "README.md"
+        if page not in texts:
+            yield page, 1, "the crate has no page"
+            continue
+        for where in (TOP / "README.md", TOP / "docs" / "MAP.md"):
+            if f"`{crate}`" not in texts[where]:
+                yield where, 1, f"`{crate}` has no row"
+        names = {path.name for path in page.parent.rglob("*.*")} | {path.name for path in (TOP / "crates").glob("*/data/*.rows")}
+        for number, line in enumerate(texts[page].splitlines(), 1):
+            for name in re.findall(r"`(?:[\w/]*/)?(\w+\.(?:rt|antt|rows))`", line):
+                if name not in names:
+                    yield page, number, f"there is no {name}"
+
+
+def faults(texts):
+    """All that breaks a rule: where, and what."""
+    for path, text in texts.items():
+        yield from ((path, number, fault) for number, fault in faults_of_form(path, text))
+    yield from faults_of_crates(texts)
+    words = sum(len(text.split()) for path, text in texts.items() if path != MADE)
+    if words > MOST_WORDS:
+        yield TOP / "README.md", 1, f"all documents have {words:,} words, more than {MOST_WORDS:,}"
+
+
+def main():
+    texts = {path: path.read_text(encoding="utf-8") for path in documents()}
+    if sys.argv[1:] == ["--check"]:
+        found = [f"{path.relative_to(TOP)}:{number}: {fault}" for path, number, fault in faults(texts)]
+        if found:
+            sys.exit("\n".join(found))
+    elif not sys.argv[1:]:
+        for path, text in texts.items():
+            print(f"{len(text.split()):7,}  {path.relative_to(TOP)}" + (" (made, and not counted)" if path == MADE else ""))
+        print(f"{sum(len(text.split()) for path, text in texts.items() if path != MADE):7,}  in all")
+    else:
+        sys.exit(__doc__)
+
+
+main()
