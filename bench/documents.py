@@ -1,8 +1,8 @@
 #!/usr/bin/env python3
 """The form of the documents: bench/documents.py [--check]
 
-The documents are README.md, docs/*.md and crates/*/README.md. Prints how many words each has, as `wc -w` counts them. With --check it prints
-what breaks a rule, and fails where anything does:
+The documents are README.md, docs/*.md and crates/*/README.md. Prints how many words each has: runs of characters without a blank that have a
+letter, so neither bars of tables nor figures count. With --check it prints what breaks a rule, and fails where anything does:
 
 - no line is longer than 160 columns, and no paragraph, item or cell of a table has more than 120 words;
 - all documents together have at most 17,000 words, docs/DEFINITIONS.md aside, which bench/definitions.py makes;
@@ -30,6 +30,11 @@ def crates():
     return [line.split(":")[0].strip() for line in lines if line.strip() and not line.startswith("#")]
 
 
+def words_of(text):
+    """How many words a text has."""
+    return sum(any(it.isalpha() for it in word) for word in text.split())
+
+
 def paragraphs(lines):
     """Each paragraph, item and cell with the number of its first line; blocks of code are none."""
     start, text = 1, []
@@ -51,7 +56,7 @@ def faults_of_form(path, text):
         if len(line) > MOST_COLUMNS:
             yield number, f"{len(line)} columns"
     for number, paragraph in paragraphs(lines):
-        count = len(paragraph.split())
+        count = words_of(paragraph)
         if count > MOST_IN_PARAGRAPH:
             yield number, f"a paragraph of {count} words"
         if path != MADE:
@@ -81,7 +86,7 @@ def faults(texts):
     for path, text in texts.items():
         yield from ((path, number, fault) for number, fault in faults_of_form(path, text))
     yield from faults_of_crates(texts)
-    words = sum(len(text.split()) for path, text in texts.items() if path != MADE)
+    words = sum(words_of(text) for path, text in texts.items() if path != MADE)
     if words > MOST_WORDS:
         yield TOP / "README.md", 1, f"all documents have {words:,} words, more than {MOST_WORDS:,}"
 
@@ -94,8 +99,8 @@ def main():
             sys.exit("\n".join(found))
     elif not sys.argv[1:]:
         for path, text in texts.items():
-            print(f"{len(text.split()):7,}  {path.relative_to(TOP)}" + (" (made, and not counted)" if path == MADE else ""))
-        print(f"{sum(len(text.split()) for path, text in texts.items() if path != MADE):7,}  in all")
+            print(f"{words_of(text):7,}  {path.relative_to(TOP)}" + (" (made, and not counted)" if path == MADE else ""))
+        print(f"{sum(words_of(text) for path, text in texts.items() if path != MADE):7,}  in all")
     else:
         sys.exit(__doc__)
 
