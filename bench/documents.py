@@ -7,7 +7,8 @@ letter, so neither bars of tables nor figures count. With --check it prints what
 - no line is longer than 160 columns, and no paragraph, item or cell of a table has more than 120 words;
 - all documents together have at most 17,000 words, docs/DEFINITIONS.md aside, which bench/definitions.py makes;
 - the words of the glossary in docs/MAP.md are used: none of those that they replace stands outside of code;
-- each crate has a page, and a row in README.md and docs/MAP.md; each file of the crate that its page names is there.
+- each crate has a page, and a row in README.md and docs/MAP.md; each file of the crate that its page names is there, and each clause that it names
+  as `function: clause`; so is each field of the theorem's records that README.md and docs/PROVED.md name with a dot, as `plain.went`.
 """
 import re
 import sys
@@ -17,6 +18,10 @@ TOP = Path(__file__).resolve().parent.parent
 MADE = TOP / "docs" / "DEFINITIONS.md"
 MOST_COLUMNS, MOST_IN_PARAGRAPH, MOST_WORDS = 160, 120, 17_000
 REPLACED = re.compile(r"\b(?:behind|anew|tells|told|(?<!\.)stops? (?:leaves|at)|a stop|power cut)\b", re.I)
+
+FILE = re.compile(r"`(?:[\w/]*/)?(\w+\.(?:rt|antt|rows))`")
+CLAUSE = re.compile(r"\b(?:ensures|requires|ghost)\*? (\w+)")
+FIELD = re.compile(r"^ +pub (\w+) :", re.M)
 
 
 def documents():
@@ -75,10 +80,25 @@ def faults_of_crates(texts):
             if f"`{crate}`" not in texts[where]:
                 yield where, 1, f"`{crate}` has no row"
         names = {path.name for path in page.parent.rglob("*.*")} | {path.name for path in (TOP / "crates").glob("*/data/*.rows")}
+        clauses = named(CLAUSE, page.parent / "src", "*.rt")
         for number, line in enumerate(texts[page].splitlines(), 1):
-            for name in re.findall(r"`(?:[\w/]*/)?(\w+\.(?:rt|antt|rows))`", line):
-                if name not in names:
-                    yield page, number, f"there is no {name}"
+            yield from ((page, number, f"there is no {name}") for name in FILE.findall(line) if name not in names)
+            yield from ((page, number, f"there is no clause {name}") for name in re.findall(r"`[\w:]+: (\w+)`", line) if name not in clauses)
+
+
+def faults_of_fields(texts):
+    """Fields of the theorem that README.md and docs/PROVED.md name, and it doesn't have."""
+    fields = named(FIELD, TOP / "crates" / "rpm_tool" / "specs", "*.antt")
+    for path in (TOP / "README.md", TOP / "docs" / "PROVED.md"):
+        for number, line in enumerate(texts[path].splitlines(), 1):
+            for name in re.findall(r"`(?:plain|files|keyed|changes)\.(\w+)", line):
+                if name not in fields:
+                    yield path, number, f"the theorem has no field {name}"
+
+
+def named(pattern, folder, kind):
+    """What this pattern names in the files of a folder."""
+    return {name for path in folder.rglob(kind) for name in pattern.findall(path.read_text(encoding="utf-8"))}
 
 
 def faults(texts):
@@ -86,6 +106,7 @@ def faults(texts):
     for path, text in texts.items():
         yield from ((path, number, fault) for number, fault in faults_of_form(path, text))
     yield from faults_of_crates(texts)
+    yield from faults_of_fields(texts)
     words = sum(words_of(text) for path, text in texts.items() if path != MADE)
     if words > MOST_WORDS:
         yield TOP / "README.md", 1, f"all documents have {words:,} words, more than {MOST_WORDS:,}"

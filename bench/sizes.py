@@ -9,6 +9,7 @@ import re
 import sys
 from pathlib import Path
 
+sys.dont_write_bytecode = True
 from clauses import read_source, read_tree
 
 TOP = Path(__file__).resolve().parent.parent
