@@ -2,7 +2,7 @@
 """docs/DEFINITIONS.md, made from the definitions in crates/*/specs: bench/definitions.py --write | --check | --bare
 
 A definition is a record, a data type, an abbreviation or an unfoldable function that other files may use. Its entry is its name and the
-beginning of the comment in front of it: up to the first point, colon or semicolon, and at most 18 words. What lies in specs/inner, and lemmas,
+beginning of the comment in front of it: up to the first point, colon or semicolon, and at most 14 words. What lies in specs/inner, and lemmas,
 are left out. --write makes the file, --check fails where it isn't what --write would make, and --bare lists the definitions without a comment.
 """
 import re
@@ -12,7 +12,7 @@ from pathlib import Path
 TOP = Path(__file__).resolve().parent.parent
 PAGE = TOP / "docs" / "DEFINITIONS.md"
 WIDE = 158
-MOST_WORDS = 18
+MOST_WORDS = 14
 DEFINITION = re.compile(r" {0,2}(?:(?:abbrev|unfoldable) pub (?:record |data )?|pub (?:record|data) )([^ :({]+)")
 HEAD = """# The definitions
 
@@ -41,7 +41,10 @@ def comment_before(lines, at):
 def shortened(text):
     """A text up to the end of its first clause, and of few words."""
     first = re.split(r"[.:;](?:\s|$)", text)[0].split()
-    return " ".join(first[:MOST_WORDS]).rstrip(",") + (" .." if len(first) > MOST_WORDS else "")
+    if len(first) <= MOST_WORDS:
+        return " ".join(first)
+    kept = " ".join(first[:MOST_WORDS])
+    return kept[:kept.rindex(",")] if kept.count(" ", 0, kept.rfind(",")) > 3 else kept + " .."
 
 
 def definitions(path):
