@@ -44,7 +44,8 @@ def shortened(text):
     if len(first) <= MOST_WORDS:
         return " ".join(first)
     kept = " ".join(first[:MOST_WORDS])
-    return kept[:kept.rindex(",")] if kept.count(" ", 0, kept.rfind(",")) > 3 else kept + " .."
+    part = kept.rpartition(",")[0]
+    return part if len(part.split()) > 3 else kept + " .."
 
 
 def definitions(path):
