@@ -12,9 +12,10 @@ letter, so neither bars of tables nor figures count. With --check it prints what
 """
 import re
 import sys
-from pathlib import Path
 
-TOP = Path(__file__).resolve().parent.parent
+sys.dont_write_bytecode = True
+from definitions import TOP, crates
+
 MADE = TOP / "docs" / "DEFINITIONS.md"
 MOST_COLUMNS, MOST_IN_PARAGRAPH, MOST_WORDS = 160, 120, 17_000
 REPLACED = re.compile(r"\b(?:behind|anew|tells|told|(?<!\.)stops? (?:leaves|at)|a stop|power cut)\b", re.I)
@@ -27,12 +28,6 @@ FIELD = re.compile(r"^ +pub (\w+) :", re.M)
 def documents():
     """All documents, in the order of reading."""
     return [TOP / "README.md"] + sorted((TOP / "docs").glob("*.md")) + sorted((TOP / "crates").glob("*/README.md"))
-
-
-def crates():
-    """The names of the crates, in the order of crates.txt."""
-    lines = (TOP / "crates.txt").read_text(encoding="utf-8").splitlines()
-    return [line.split(":")[0].strip() for line in lines if line.strip() and not line.startswith("#")]
 
 
 def words_of(text):

@@ -7,23 +7,17 @@ are those of functions, as bench/clauses.py reads them. What crates of tests and
 """
 import re
 import sys
-from pathlib import Path
 
 sys.dont_write_bytecode = True
 from clauses import read_source, read_tree
+from definitions import TOP, crates
 
-TOP = Path(__file__).resolve().parent.parent
+
 HEAD = ("| Crate | Code | Clauses | Definitions, laws (`specs/`) | Proofs | Must-fail edits | Tests | Worked rows | Lines of tests and rows |\n"
         "|---|---|---|---|---|---|---|---|---|\n")
 TABLE = re.compile(r"\| Crate \| Code \|.*?\n\| in all \|[^\n]*\n", re.S)
 SENTENCE = re.compile(r"The tree has [\d,]+ crates\b[^.]*\.")
 COUNTS = ("code", "clauses", "specs", "proofs", "edits", "tests", "rows", "tried")
-
-
-def crates():
-    """The names of the crates, in the order of crates.txt."""
-    lines = (TOP / "crates.txt").read_text(encoding="utf-8").splitlines()
-    return [line.split(":")[0].strip() for line in lines if line.strip() and not line.startswith("#")]
 
 
 def lines_below(folder, ending):
