@@ -8,7 +8,8 @@ letter, so neither bars of tables nor figures count. With --check it prints what
 - all documents together have at most 17,000 words, docs/DEFINITIONS.md aside, which bench/definitions.py makes;
 - the words of the glossary in docs/MAP.md are used: none of those that they replace stands outside of code;
 - each crate has a page, and a row in README.md and docs/MAP.md; each file of the crate that its page names is there, and each clause that it names
-  as `function: clause`; so is each field of the theorem's records that README.md and docs/PROVED.md name with a dot, as `plain.went`.
+  as `function: clause`; so is each field of the theorem's records that README.md and docs/PROVED.md name with a dot, as `plain.went`;
+- docs/PROVED.md names each field of the theorem's page, from its first numbered part on.
 """
 import re
 import sys
@@ -82,9 +83,13 @@ def faults_of_crates(texts):
 
 
 def faults_of_fields(texts):
-    """Fields of the theorem that README.md and docs/PROVED.md name, and it doesn't have."""
-    fields = named(FIELD, TOP / "crates" / "rpm_tool" / "specs", "*.antt")
-    for path in (TOP / "README.md", TOP / "docs" / "PROVED.md"):
+    """Fields that README.md and docs/PROVED.md name and the theorem doesn't have, and the other way round."""
+    specs, proved = TOP / "crates" / "rpm_tool" / "specs", TOP / "docs" / "PROVED.md"
+    fields = named(FIELD, specs, "*.antt")
+    page = (specs / "Theorem.antt").read_text(encoding="utf-8").partition("-- 1. ")[2]
+    yield from ((proved, 1, f"the theorem's field {name} isn't named") for name in FIELD.findall(page)
+                if not re.search(rf"`(?:\w+\.)?{name}`", texts[proved]))
+    for path in (TOP / "README.md", proved):
         for number, line in enumerate(texts[path].splitlines(), 1):
             for name in re.findall(r"`(?:plain|files|keyed|changes)\.(\w+)", line):
                 if name not in fields:
