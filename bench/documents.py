@@ -9,7 +9,8 @@ letter, so neither bars of tables nor figures count. With --check it prints what
 - the words of the glossary in docs/MAP.md are used: none of those that they replace stands outside of code;
 - each crate has a page, and a row in README.md and docs/MAP.md; each file of the crate that its page names is there, and each clause that it names
   as `function: clause`; so is each field of the theorem's records that README.md and docs/PROVED.md name with a dot, as `plain.went`;
-- docs/PROVED.md names each field of the theorem's page, from its first numbered part on.
+- docs/PROVED.md names each field of the theorem's page, from its first numbered part on;
+- README.md names the greatest share of rpm's instructions that the table against rpm in docs/FIGURES.md has.
 """
 import re
 import sys
@@ -96,6 +97,14 @@ def faults_of_fields(texts):
                     yield path, number, f"the theorem has no field {name}"
 
 
+def faults_of_figures(texts):
+    """A share of rpm's instructions in README.md that isn't the greatest of the table's last column, to two places."""
+    readme, table = TOP / "README.md", texts[TOP / "docs" / "FIGURES.md"].partition("## Against rpm")[2].partition("\n## ")[0]
+    most = max(float(share) for share in re.findall(r"\| ([\d.]+) \|$", table, re.M))
+    if f"at most {most:.2f} of them" not in texts[readme]:
+        yield readme, 1, f"the greatest share of rpm's instructions is {most:.2f}"
+
+
 def named(pattern, folder, kind):
     """What this pattern names in the files of a folder."""
     return {name for path in folder.rglob(kind) for name in pattern.findall(path.read_text(encoding="utf-8"))}
@@ -107,6 +116,7 @@ def faults(texts):
         yield from ((path, number, fault) for number, fault in faults_of_form(path, text))
     yield from faults_of_crates(texts)
     yield from faults_of_fields(texts)
+    yield from faults_of_figures(texts)
     words = sum(words_of(text) for path, text in texts.items() if path != MADE)
     if words > MOST_WORDS:
         yield TOP / "README.md", 1, f"all documents have {words:,} words, more than {MOST_WORDS:,}"
