@@ -7,8 +7,8 @@ letter, so neither bars of tables nor figures count. With --check it prints what
 - no line is longer than 160 columns, and no paragraph, item or cell of a table has more than 120 words;
 - all documents together have at most 17,000 words, docs/DEFINITIONS.md aside, which bench/definitions.py makes;
 - the words of the glossary in docs/MAP.md are used: none of those that they replace stands outside of code;
-- each crate has a page, and a row in README.md and docs/MAP.md; each file of the crate that its page names is there, and each clause that it names
-  as `function: clause`; so is each field of the theorem's records that README.md and docs/PROVED.md name with a dot, as `plain.went`;
+- each crate has a page, and a row in README.md and docs/MAP.md; each file of the crate that its page names is there, and all that it names under
+  "Proved" is a word of the crate's src or specs; so is each field of the theorem that README.md and docs/PROVED.md name with a dot, as `plain.went`;
 - docs/PROVED.md names each field of the theorem's page, from its first numbered part on;
 - README.md names the greatest share of rpm's instructions that the table against rpm in docs/FIGURES.md has.
 """
@@ -23,7 +23,7 @@ MOST_COLUMNS, MOST_IN_PARAGRAPH, MOST_WORDS = 160, 120, 17_000
 REPLACED = re.compile(r"\b(?:behind|anew|tells|told|(?<!\.)stops? (?:leaves|at)|a stop|power cut)\b", re.I)
 
 FILE = re.compile(r"`(?:[\w/]*/)?(\w+\.(?:rt|antt|rows))`")
-CLAUSE = re.compile(r"\b(?:ensures|requires|ghost)\*? (\w+)")
+NAME = re.compile(r"\w+")
 FIELD = re.compile(r"^ +pub (\w+) :", re.M)
 
 
@@ -77,10 +77,13 @@ def faults_of_crates(texts):
             if f"`{crate}`" not in texts[where]:
                 yield where, 1, f"`{crate}` has no row"
         names = {path.name for path in page.parent.rglob("*.*")} | {path.name for path in (TOP / "crates").glob("*/data/*.rows")}
-        clauses = named(CLAUSE, page.parent / "src", "*.rt")
         for number, line in enumerate(texts[page].splitlines(), 1):
             yield from ((page, number, f"there is no {name}") for name in FILE.findall(line) if name not in names)
-            yield from ((page, number, f"there is no clause {name}") for name in re.findall(r"`[\w:]+: (\w+)`", line) if name not in clauses)
+        known = named(NAME, page.parent / "src", "*.rt") | named(NAME, page.parent / "specs", "*.antt")
+        proved = texts[page].partition("## Proved\n")[2].partition("\n## ")[0]
+        for name in sorted(set(NAME.findall(" ".join(re.findall(r"`([\w: ]+)`", proved)))) - known):
+            if not name.startswith("rpm_"):
+                yield page, 1, f"under Proved: the crate has no {name}"
 
 
 def faults_of_fields(texts):
