@@ -12,7 +12,7 @@ use Rattle.rpm_tags.specs.Kinds.{code_of}
 use Rattle.rpm_hindex.specs.Rows.{Row}
 use Rattle.rpm_db.specs.Rows.{kinds, key_row, kind_rows, header_rows, rows_read, package_rows, rows_at}
 use Rattle.rpm_db.specs.State.{Package, Good, Bad}
-use Rattle.rpm_db.specs.inner.Places.{StandsBefore, StandsBeforeAll, AreByPlace}
+use Rattle.rpm_db.specs.inner.Places.{StandsBeforeAll, AreByPlace}
 use Rattle.rpm_db.specs.inner.Writes.{old_rows}
 
 -- ---- rows of one kind, behind another kind's

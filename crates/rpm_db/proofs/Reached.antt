@@ -10,6 +10,7 @@ use Rattle.rpm_header.specs.Header.{Header, header}
 use Rattle.rpm_pkgdb.specs.Store.{Store}
 use Rattle.rpm_hindex.specs.Rows.{Row, times, same_row}
 use Rattle.rpm_hindex.specs.Sizes.{live_of, record_units}
+use Rattle.rpm_db.specs.Changes.{next}
 use Rattle.rpm_db.specs.Reaches.{added}
 use Rattle.rpm_db.specs.Rows.{header_rows, rows_read}
 use Rattle.rpm_db.specs.State.{state}
@@ -70,5 +71,5 @@ live_none = refl
 pub added_is : (pkg : Units) (value : Store) (n : Option ℕ) (h : Header) → header h.blob ≡ Ok h
     → added (state pkg value) (change_for n h.blob) ≡ live_of (header_rows (number_for n value) h)
 added_is pkg value None h own =
-    ap (λ (r : Result Header HeaderFault). live_of (rows_read _ r)) own ∙ ap (λ (k : ℕ). live_of (header_rows k h)) (next-state pkg value)
+    ap (λ (r : Result Header HeaderFault). live_of (rows_read (next (state pkg value)) r)) own ∙ ap (λ (k : ℕ). live_of (header_rows k h)) (next-state pkg value)
 added_is pkg value (Some n) h own = ap (λ (r : Result Header HeaderFault). live_of (rows_read n r)) own

@@ -1,5 +1,5 @@
 -- Rows in the order of a header's keys: by kind and then place, each place of a kind once.
-use Rattle.std.specs.Prelude.{◌≡◌, ℕ, ◌-◌, ◌<◌, ◌≤◌, List, [], ◌∷◌}
+use Rattle.std.specs.Prelude.{◌≡◌, ◌-◌, ◌<◌, ◌≤◌, List, [], ◌∷◌}
 use Rattle.rpm_hindex.specs.Rows.{Row, times}
 
 -- a row of an earlier kind, or at an earlier place of the same kind

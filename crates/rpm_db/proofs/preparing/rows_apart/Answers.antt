@@ -1,4 +1,4 @@
-use Rattle.std.proofs.Common.{List, refl, sym, ap, subst}
+use Rattle.std.proofs.Common.{List, refl, sym, subst}
 use Rattle.rpm_hindex.specs.Rows.{Row}
 use Rattle.rpm_db.specs.Rows.{header_rows}
 use Rattle.rpm_db.specs.State.{packages}

@@ -1,4 +1,4 @@
-use Rattle.std.proofs.Common.{◌≡◌, ℕ, ◌+◌, ◌<◌, List, [], ◌∷◌, length, true, false, sym, ap, ◌∙◌, inl, inr, arith}
+use Rattle.std.proofs.Common.{◌≡◌, ◌+◌, ◌<◌, List, [], ◌∷◌, length, false, sym, ap, ◌∙◌, inl, inr, arith}
 use Rattle.rpm_hindex.specs.Rows.{Row, times, same_row, row_nth}
 use Rattle.rpm_db.specs.inner.RowLaws.{times-append}
 use Rattle.rpm_db.proofs.Apart.{apart_none, apart_both, apart_drop, apart_add, without_end}

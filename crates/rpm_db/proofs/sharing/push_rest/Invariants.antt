@@ -1,4 +1,4 @@
-use Rattle.std.proofs.Common.{◌≡◌, ◌++◌, take, drop, ◌-◌}
+use Rattle.std.proofs.Common.{◌≡◌, ◌++◌, drop}
 use Rattle.rpm_db.proofs.sharing.push_rest.Given as goal
 
 abbrev pub invariant-loop-i : goal.invariant-loop-i

@@ -1,4 +1,4 @@
-use Rattle.std.proofs.Common.{◌≡◌, ◌+◌, ◌≤◌, ◌^◌, arith, false, length, is_none, is_some, Option, Some, Err, sym, ap, ◌∙◌, subst}
+use Rattle.std.proofs.Common.{◌≡◌, ◌≤◌, ◌^◌, arith, false, length, is_none, is_some, Option, Some, Err, sym, ap, ◌∙◌, subst}
 use Rattle.rpm_pkgdb.specs.Placing.{put_in}
 use Rattle.rpm_pkgdb.specs.Planned.{IsFull}
 use Rattle.rpm_pkgdb.specs.Store.{Store}
