@@ -1,11 +1,12 @@
 -- Going through the packages by their numbers.
-use Rattle.std.proofs.Common.{◌≡◌, ℕ, List, true, false, Option, Some, None, is_some, refl, sym, ap, ◌∙◌}
+use Rattle.std.proofs.Common.{◌≡◌, ℕ, List, true, Option, Some, None, is_some, refl, sym, ap, ◌∙◌}
 use Rattle.std.specs.Ordering.{nat_cmp}
 use Rattle.std.specs.FinMap as finite
 use Rattle.rpm_outside.specs.Files.{Units}
 use Rattle.rpm_db.specs.State.{Package, packages, above}
-use Rattle.rpm_db.specs.Database.{Database, IsNext, holds}
+use Rattle.rpm_db.specs.Database.{Database, IsNext, Keeps}
 use Rattle.rpm_db.specs.inner.Above.{none_is, next_above, nothing_above, all_above_zero}
+use Rattle.rpm_filecheck.proofs.FromOne.{from_one as none_zero}
 use Rattle.rpm_db.specs.inner.Laws.{is_there}
 use Rattle.rpm_filecheck.specs.inner.Gathered.{Found, with_some, with_packages}
 
@@ -30,6 +31,8 @@ last_found map n found all none was =
     sym (ap (λ (es : List (ℕ × Package)). with_packages es found) (nothing_above map n (λ k lt. none_is (finite.get map k) (none k lt)))) ∙ was
 
 -- none has the number 0
-pub from_one : (file : Units) (db : Database) → holds 0 db ≡ false
+pub from_one : (file : Units) (db : Database) → Keeps file db
     → above 0 (finite.entries (packages file db.store)) ≡ finite.entries (packages file db.store)
-from_one file db none = all_above_zero (packages file db.store) (none_is (finite.get (packages file db.store) 0) (is_there file db 0 ∙ none))
+from_one file db keeps =
+    let all = packages file db.store in
+    all_above_zero all (none_is (finite.get all 0) (is_there file db 0 ∙ none_zero file db keeps))

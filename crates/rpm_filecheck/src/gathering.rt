@@ -32,24 +32,20 @@ fn add_package<D: Disk>(
     ensures looks { Looks D.tells D.files D.left_since D.moment D.bytes_read D.follows Pkg (cost number db.now) disk.old disk.new }
     ensures cause { HasCauseAt (result ≡ Err FileCheckFault.DiskFault) (D.faults disk.old) (D.faults disk.new) }
 {
-    let added = match db.read(alloc, disk, number) {
-        Ok(blob) => found.add_blob(alloc, number, &blob),
+    match db.read(alloc, disk, number) {
+        Ok(blob) => found.add_blob(alloc, number, &blob)?,
         Err(GetFault::NoSuch) => unreachable!(),
-        Err(GetFault::Bad) => found.add_bad(number),
+        Err(GetFault::Bad) => found.add_bad(number)?,
         Err(GetFault::DiskFault) => return Err(FileCheckFault::DiskFault),
         Err(GetFault::NoMemory) => return Err(FileCheckFault::NoMemory),
-    };
-    match added {
-        Ok(()) => Ok(()),
-        Err(_) => Err(FileCheckFault::NoMemory),
     }
+    Ok(())
 }
 
 /// What is found in all packages. Reads the blocks of each, once.
 pub fn gather<D: Disk>(alloc: Global, db: &Db, disk: &mut D) -> Result<Found, FileCheckFault>
     requires keeps { IsTrue D.tells → Keeps (D.files disk.old).pkg db.now }
     requires runs { db.now.stopped ≡ false }
-    requires from_one { database.holds 0 db.now ≡ false }
     ensures kept { IsTrue D.tells → Keeps (D.files disk.new).pkg db.now }
     ensures found { IfOk result (λ found. IsTrue D.tells
         → found ≡ with_packages (finite.entries (packages (D.files disk.old).pkg db.now.store)) nothing) }
@@ -59,10 +55,8 @@ pub fn gather<D: Disk>(alloc: Global, db: &Db, disk: &mut D) -> Result<Found, Fi
     let mut found = Found::new(alloc);
     let mut passed = 0;
     while let Some(number) = db.next_above(passed) {
-        match add_package(alloc, db, disk, &mut found, number) {
-            Ok(()) => passed = number,
-            Err(fault) => return Err(fault),
-        }
+        add_package(alloc, db, disk, &mut found, number)?;
+        passed = number;
     }
     Ok(found)
 }

@@ -5,7 +5,7 @@ ghost use Rattle.rpm_outside.specs.Causes.{HasCauseAt};
 ghost use Rattle.rpm_outside.specs.declared.disk.File.TheVariants.{Pkg};
 ghost use Rattle.rpm_outside.specs.Looks.{Looks};
 ghost use Rattle.rpm_db.specs.State.{packages};
-ghost use Rattle.rpm_db.specs.Database.{Keeps, holds, cost_all};
+ghost use Rattle.rpm_db.specs.Database.{Keeps, cost_all};
 ghost use Rattle.rpm_filecheck.specs.Conflicts.{IsReport, told_label};
 
 use crate::conflict::Conflict;
@@ -85,23 +85,17 @@ pub fn conflicts<D: Disk>(
 ) -> Result<ConflictList, FileCheckFault>
     requires keeps { IsTrue D.tells → Keeps (D.files disk.old).pkg db.now }
     requires runs { db.now.stopped ≡ false }
-    requires from_one { holds 0 db.now ≡ false }
     ensures kept { IsTrue D.tells → Keeps (D.files disk.new).pkg db.now }
     ensures told { IfOk result (λ report. IsTrue D.tells → IsReport (packages (D.files disk.old).pkg db.now.store) report) }
     ensures looks { Looks D.tells D.files D.left_since D.moment D.bytes_read D.follows Pkg (cost_all db.now) disk.old disk.new }
     ensures cause { HasCauseAt (result ≡ Err FileCheckFault.DiskFault) (D.faults disk.old) (D.faults disk.new) }
 {
-    let found = match gather(alloc, db, disk) {
-        Ok(found) => found,
-        Err(fault) => return Err(fault),
-    };
+    let found = gather(alloc, db, disk)?;
     let Found { owned, labels, bad } = found;
-    match owned.conflicts(alloc) {
-        Ok(conflicts) => Ok(ConflictList {
-            conflicts,
-            bad,
-            labels,
-        }),
-        Err(_) => Err(FileCheckFault::NoMemory),
-    }
+    let conflicts = owned.conflicts(alloc)?;
+    Ok(ConflictList {
+        conflicts,
+        bad,
+        labels,
+    })
 }

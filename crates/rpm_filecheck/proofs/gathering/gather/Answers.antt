@@ -24,7 +24,7 @@ loop-number-init g c =
       faults = omega arith;
       same = λ told.
           ap (λ (f : Found). with_packages (above 0 (finite.entries (packages file db.store))) f) c.new-found.ensures
-          ∙ ap (λ (es : List (ℕ × Package)). with_packages es nothing) (from_one file db c.requires.from_one);
+          ∙ ap (λ (es : List (ℕ × Package)). with_packages es nothing) (from_one file db (c.requires.keeps told));
     }
 
 pub loop-number-preserved : goal.loop-number-preserved
@@ -33,7 +33,7 @@ loop-number-preserved g c =
     let k = c.loop-number.passed in
     let m = c.in-Some.number in
     let inv = c.loop-number.invariant in
-    let e = c.in-Ok.ensures in
+    let e = c.in_ok-add_package.ensures in
     let file = (g.D.Disk.files c.args.disk.now).pkg in
     record {
       keeps = e.kept;
@@ -48,13 +48,13 @@ loop-number-preserved g c =
           (inv.looks.untouched told).same (e.found told));
     }
 
-pub returns-in-Err-clause-looks : goal.returns-in-Err-clause-looks
-returns-in-Err-clause-looks g c =
+pub returns-in_err-add_package-clause-looks : goal.returns-in_err-add_package-clause-looks
+returns-in_err-add_package-clause-looks g c =
     let db = c.args.db.now in
     let m = c.in-Some.number in
     looks_then g.D.Disk.tells g.D.Disk.files g.D.Disk.left_since g.D.Disk.moment g.D.Disk.bytes_read g.D.Disk.follows Pkg g.met.D.Disk.follows_trans
     (cost_to c.loop-number.passed db) (cost m db) (cost_all db) c.args.disk.now c.loop-number.disk c.add_package.new.disk
-    (omega (arith, cost_more db c.loop-number.passed m c.in-Some.ensures.next.0, cost_some db m)) c.loop-number.invariant.looks c.in-Err.ensures.looks
+    (omega (arith, cost_more db c.loop-number.passed m c.in-Some.ensures.next.0, cost_some db m)) c.loop-number.invariant.looks c.in_err-add_package.ensures.looks
 
 pub returns-clause-looks : goal.returns-clause-looks
 returns-clause-looks g c =

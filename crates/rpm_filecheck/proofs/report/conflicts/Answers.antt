@@ -3,9 +3,9 @@ use Rattle.rpm_db.specs.State.{packages}
 use Rattle.rpm_filecheck.proofs.AllTold.{is_report}
 use Rattle.rpm_filecheck.proofs.report.conflicts.Goals as goal
 
-pub returns-in-Ok-conflicts-clause-told : goal.returns-in-Ok-conflicts-clause-told
-returns-in-Ok-conflicts-clause-told g c = λ told.
+pub returns-clause-told : goal.returns-clause-told
+returns-clause-told g c = λ told.
     let found = c.found.inside in
     is_report (packages (g.D.Disk.files c.args.disk.now).pkg c.args.db.now.store)
-    (record { paths = found.owned; labels = found.labels; bad = found.bad.items }) c.in-Ok-conflicts.conflicts.items
-    (c.found.view_is ∙ c.in-Ok.ensures.found told) c.in-Ok-conflicts.ensures
+    (record { paths = found.owned; labels = found.labels; bad = found.bad.items }) c.in_ok-conflicts.conflicts.items
+    (c.found.view_is ∙ c.in_ok-found.ensures.found told) c.in_ok-conflicts.ensures
