@@ -1,5 +1,5 @@
 -- Words that break no rule: each argument of a query is a question.
-use Rattle.std.proofs.Common.{◌≡◌, ℕ, true, if◌then◌else◌, List, [], ◌∷◌, Option, Some, None, is_some, Result, Ok, Err, refl}
+use Rattle.std.proofs.Common.{◌≡◌, ℕ, Bool, ◌&&◌, true, false, subst, if◌then◌else◌, List, [], ◌∷◌, Option, Some, None, is_some, Result, Ok, Err, refl}
 use Rattle.std.specs.Option.{option_map, is_none}
 use Rattle.std.specs.Result.{is_err}
 use Rattle.std.specs.List.{AllByRecursion}
@@ -8,13 +8,15 @@ use Rattle.rpm_version.specs.Capability.{CapabilityParts, capability}
 use Rattle.rpm_words.specs.declared.switch.Chosen.{Chosen}
 use Rattle.rpm_words.specs.declared.switch.Chosen.TheVariants as by
 use Rattle.rpm_words.specs.declared.fault.WordsFault.{WordsFault}
+use Rattle.rpm_words.specs.declared.ask.Mode.{Mode}
 use Rattle.rpm_words.specs.declared.ask.Mode.TheVariants as mode
 use Rattle.rpm_words.specs.Words.{text_at}
 use Rattle.rpm_words.specs.Number.{number}
 use Rattle.rpm_words.specs.Ask.{AskParts, ask, IsFit}
 use Rattle.rpm_words.specs.inner.Given.{fit_arguments}
 use Rattle.rpm_select.specs.declared.selection.Selection.{Selection}
-use Rattle.rpm_tool.specs.Queries.{capability_in, is_question}
+use Rattle.rpm_tool.specs.Asked.{is_query, is_package, of_files}
+use Rattle.rpm_tool.specs.Queries.{capability_in, is_question, AreQuestions}
 
 each_then : {P Q : ℕ → Type 0} → ((x : ℕ) → P x → Q x) → (xs : List ℕ) → AllByRecursion P xs → AllByRecursion Q xs
 each_then so [] t = tt
@@ -46,8 +48,28 @@ question_here words by.Directory w other none = refl
 question_here words by.Tid w other none = a_number _ (number (text_at words w)) _ none
 question_here words by.Recommends w other none = a_capability _ (capability (text_at words w)) _ none
 
-pub questions : (words : List (List ℕ)) (a : AskParts) → ask words ≡ Ok a → a.mode ≡ mode.Query → (a.chosen ≡ by.Package → ⊥)
-    → AllByRecursion (λ w. is_question a.chosen (text_at words w) ≡ true) a.arguments
-questions words a is query other =
+query_mode : (m : Mode) → is_query m ≡ true → m ≡ mode.Query
+query_mode mode.Query is = refl
+query_mode mode.Addpkg is = absurd cc
+query_mode mode.Replacepkg is = absurd cc
+query_mode mode.Erasepkg is = absurd cc
+query_mode mode.Verify is = absurd cc
+query_mode mode.Initdb is = absurd cc
+query_mode mode.Rebuilddb is = absurd cc
+query_mode mode.Verifydb is = absurd cc
+query_mode mode.Exportdb is = absurd cc
+query_mode mode.Importdb is = absurd cc
+query_mode (mode.Exercise n) is = absurd cc
+query_mode mode.Order is = absurd cc
+query_mode mode.Checkfiles is = absurd cc
+
+no_package : (m : Mode) (c : Chosen) → is_query m ≡ true → (is_query m && is_package c) ≡ false → c ≡ by.Package → ⊥
+no_package m c query none same =
+    let whole : (true && is_package c) ≡ false = subst (λ (b : Bool). (b && is_package c) ≡ false) query none in
+    let both : true ≡ false = subst (λ (k : Chosen). (true && is_package k) ≡ false) same whole in absurd cc
+
+pub questions : (words : List (List ℕ)) (a : AskParts) → ask words ≡ Ok a → is_query a.mode ≡ true → of_files a ≡ false → AreQuestions words a
+questions words a is query files =
     each_then {P = IsFit words a.chosen} {Q = λ w. is_question a.chosen (text_at words w) ≡ true}
-    (λ w fit. question_here words a.chosen w other fit) a.arguments (fit_arguments words a is query)
+    (λ w fit. question_here words a.chosen w (no_package a.mode a.chosen query files) fit) a.arguments
+    (fit_arguments words a is (query_mode a.mode query))

@@ -1,8 +1,8 @@
 -- Command lines one after the other, each as `run` does it: the numbers that they give rise.
-use Rattle.std.proofs.Common.{◌≡◌, ℕ, ◌≤◌, true, false, List, [], ◌∷◌, ◌++◌, refl, sym, ap, ◌∙◌, subst, arith}
-use Rattle.std.specs.Prelude.{Option, Some, None}
+use Rattle.std.proofs.Common.{◌≡◌, ℕ, ◌≤◌, Bool, true, false, List, [], ◌∷◌, ◌++◌, refl, sym, ap, ◌∙◌, subst, arith}
+use Rattle.std.specs.Prelude.{Option, Some, None, IsTrue}
 use Rattle.std.proofs.lemmas.List.{append-nil}
-use Rattle.rpm_outside.specs.declared.disk.File.{File}
+use Rattle.rpm_outside.specs.declared.disk.Disk as disk
 use Rattle.rpm_outside.specs.Files.{Files}
 use Rattle.rpm_outside.specs.Logs.{reopened}
 use Rattle.rpm_outside.specs.Shelves.{Paths}
@@ -15,7 +15,7 @@ use Rattle.rpm_change.specs.Steps.{Course, apply_all}
 use Rattle.rpm_tool.specs.Asked.{is_changing, asks}
 use Rattle.rpm_tool.specs.Changing.{HasState, after}
 use Rattle.rpm_tool.specs.Given.{numbers_given, given_on}
-use Rattle.rpm_tool.specs.History.{RunCall, Moves, StandsIn, AllStand, course_of}
+use Rattle.rpm_tool.specs.History.{RunCall, Moves, StandsIn, AllStand, TellsCalls, course_of, uses_shelf}
 use Rattle.rpm_tool.specs.Keyed.{is_done}
 use Rattle.rpm_tool.specs.Lines.{Between, LineIs, InTurn}
 use Rattle.rpm_tool.specs.Tasks.{asked_course}
@@ -23,6 +23,7 @@ use Rattle.rpm_tool.proofs.Fitting.{course_fits}
 use Rattle.rpm_tool.proofs.Standing.{if_ok_at}
 use Rattle.rpm_tool.proofs.Brokens.{by_bool}
 use Rattle.rpm_tool.proofs.Histories.{stands_weaker}
+use Rattle.rpm_tool.proofs.Leading.{uses_reads}
 use Rattle.rpm_tool.proofs.Lined.{by_asked, line_both}
 use Rattle.rpm_tool.proofs.Numbering.{Numbered, numbered_made, numbered_moved, given_idle, given_undone, given_done}
 
@@ -32,17 +33,20 @@ pub in_turn_more : {X : Type 0} (Each : RunCall → X → X → Type 0) (calls :
 in_turn_more Each [] call old mid new same last = (new, subst (λ x. Each call x new) same last, refl)
 in_turn_more Each (c ∷ calls) call old mid new (x, first, rest) last = (x, first, in_turn_more Each calls call x mid new rest last)
 
-module _ {D : Type 0} (files : D → Files) (left_since : D → ℕ → Files → Type 0) (moment : D → ℕ) (bytes_read : D → File → ℕ)
-    (follows : D → D → Type 0) (faults : D → ℕ) (paths : Paths) (now : ℕ)
-    (as_read : (disk : D) → left_since disk (moment disk) (files disk))
-    (earlier : (disk : D) (s t : ℕ) (image : Files) → s ≤ t → t ≤ moment disk → left_since disk t image → left_since disk s image) where
-  abbrev Line : RunCall → Between D → Between D → Type 0
-  Line call old new = LineIs files left_since moment bytes_read follows faults paths now call old new
+module _ {D : Type 0} (d : disk.Ghosts D) (told : IsTrue d.tells) (shelf : Bool) (paths : Paths)
+    (as_read : (it : D) → d.left_since it (d.moment it) (d.files it))
+    (earlier : (it : D) (s t : ℕ) (image : Files) → s ≤ t → t ≤ d.moment it → d.left_since it t image → d.left_since it s image) where
+  abbrev files : D → Files
+  files it = d.files it
 
   abbrev Images : D → Files → Type 0
-  Images disk image = left_since disk (moment disk) image
+  Images it image = d.left_since it (d.moment it) image
 
-  module _ (call : RunCall) (old new : Between D) (line : Line call old new) (from : ℕ) (all : AllStand (Numbered from old.given) (Images old.disk)) where
+  module _ (call : RunCall) (old new : Between D) (tells : uses_shelf call.words ≡ true → IsTrue shelf) (line : LineIs d shelf paths call old new)
+      (from : ℕ) (all : AllStand (Numbered from old.given) (Images old.disk)) where
+    abbrev now : ℕ
+    now = call.moment
+
     abbrev course : State → Course
     course s = course_of paths now call.words (asks call.words) s
 
@@ -51,9 +55,10 @@ module _ {D : Type 0} (files : D → Files) (left_since : D → ℕ → Files �
 
     behind : (image : Files) → Images new.disk image → StandsIn Next image
     behind image left =
-        let both = line_both true files left_since moment bytes_read follows refl paths now call.words call.outcome.why call.outcome.changes old.disk
-        new.disk (Numbered from old.given) all (as_read old.disk) line.unread line.looks line.stops line.changed in
-        both.0 image (earlier new.disk (moment old.disk) (moment new.disk) image both.1.later (omega arith) left) left
+        let both = line_both d.tells d.files d.left_since d.moment d.bytes_read d.follows told paths now call.words call.outcome.why call.outcome.changes
+        old.disk new.disk (Numbered from old.given) all (as_read old.disk) line.unread line.looks line.stops
+        (λ a tree asked changing. line.changed a tree asked changing (λ reads. tells (uses_reads call.words a tree asked reads))) in
+        both.0 image (earlier new.disk (d.moment old.disk) (d.moment new.disk) image both.1.later (omega arith) left) left
 
     -- where it gave none
     kept : new.given ≡ old.given → AllStand (Numbered from new.given) (Images new.disk)
@@ -79,7 +84,8 @@ module _ {D : Type 0} (files : D → Files) (left_since : D → ℕ → Files �
 
       made_state : (image : Files) → Images new.disk image → HasState (after course s0) image
       made_state image left = subst (λ (c : Course). HasState (apply_all c.changes s0) image) (sym (same_course s0))
-          (if_ok_at _ (store (reopened (files old.disk)).pkg) first.value first.undamaged ((line.changed a tree asked changing).held done) image left)
+          (if_ok_at _ (store (reopened (files old.disk)).pkg) first.value first.undamaged ((line.changed a tree asked changing
+          (λ reads. tells (uses_reads call.words a tree asked reads))).held done) image left)
 
       gave : new.given ≡ old.given ++ numbers_given (course s0).changes s0
       gave = line.gives
@@ -118,7 +124,9 @@ module _ {D : Type 0} (files : D → Files) (left_since : D → ℕ → Files �
         (λ still. kept (gave_idle (Some (a, tree)) asked (idle_some a tree still)))))
         (λ undone. kept (gave_none (given_undone course (files old.disk) call.outcome.why undone)))
 
-  pub lines_rise : (calls : List RunCall) (old new : Between D) (from : ℕ) → InTurn Line calls old new
-      → AllStand (Numbered from old.given) (Images old.disk) → AllStand (Numbered from new.given) (Images new.disk)
-  lines_rise [] old new from same all = subst (λ (b : Between D). AllStand (Numbered from b.given) (Images b.disk)) (sym same) all
-  lines_rise (call ∷ calls) old new from (mid, line, rest) all = lines_rise calls mid new from rest (line_rises call old mid line from all)
+  pub lines_rise : (calls : List RunCall) (old new : Between D) (from : ℕ) → TellsCalls shelf calls → InTurn (LineIs d shelf paths) calls old new
+      → AllStand (Numbered from old.given) (d.left_since old.disk (d.moment old.disk))
+      → AllStand (Numbered from new.given) (d.left_since new.disk (d.moment new.disk))
+  lines_rise [] old new from tells same all = subst (λ (b : Between D). AllStand (Numbered from b.given) (Images b.disk)) (sym same) all
+  lines_rise (call ∷ calls) old new from tells (mid, line, rest) all =
+      lines_rise calls mid new from tells.1 rest (line_rises call old mid tells.0 line from all)

@@ -14,7 +14,7 @@ use Rattle.rpm_tool.specs.declared.answer.Why.TheVariants as why
 use Rattle.rpm_tool.specs.Asked.{inquiry_of}
 use Rattle.rpm_change.specs.Endings.{Outputs}
 use Rattle.rpm_tool.specs.Answers.{is_foreign}
-use Rattle.rpm_tool.specs.Keyed.{IsLawfulGroup, Deeds, WentBy, OpenedBy, LoadedBy, Does, KeyedIs, FullByUnits, FullIs, HasRoom, is_refusal, is_done_or_outside, keyed_to}
+use Rattle.rpm_tool.specs.Keyed.{IsLawfulGroup, Deeds, WentBy, OpenedBy, LoadedBy, DidByKey, KeyedIs, FullByUnits, FullIs, HasRoom, is_refusal, is_done_or_outside, keyed_to}
 use Rattle.rpm_tool.proofs.Deeds.{does_outside}
 
 -- a lawful database has a store
@@ -60,7 +60,7 @@ pub completes : (tree : Tree) (words : List (List ℕ)) (a : AskParts) (files : 
 completes tree words a files w old new before now own went full lawful room =
     let r = reopened files in
     let s = store_of r.pkg r.idx lawful.lawful in
-    let Do = Does tree words a r before now in
+    let Do = DidByKey tree words a r before now in
     let is = loaded_in (IsLawful r.pkg r.idx) Do s.0 w old new (log_state files.log) (store r.pkg) lawful.sound s.1 went in
     left (Do s.0) _ _ w old new
     (λ does. does_outside tree words a (packages r.pkg s.0) (λ for. now ≤ before + keyed_to r words a s.0 for) old new (inquiry_of a.mode) w own does)

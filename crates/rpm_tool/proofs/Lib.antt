@@ -44,7 +44,7 @@ mod Nexts
 mod Numbered
 mod Numbering
 mod Opened
-mod Opening
+mod OpeningLaws
 mod Page
 mod Paged
 mod Outcomes
@@ -57,6 +57,7 @@ mod Reaching
 mod Recovered
 mod Regrouped
 mod Rising
+mod RowsFit
 mod Standing
 mod Starved
 mod Stopping

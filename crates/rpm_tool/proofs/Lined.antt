@@ -11,22 +11,29 @@ use Rattle.rpm_qfparse.specs.Tree.{Tree}
 use Rattle.rpm_change.specs.Steps.{idle, apply_all}
 use Rattle.rpm_tool.specs.declared.answer.Outcome.{Outcome}
 use Rattle.rpm_tool.specs.declared.answer.Why.{Why}
+use Rattle.rpm_tool.specs.declared.several.Line.{Line}
 use Rattle.rpm_tool.specs.Answers.{Leaves}
 use Rattle.rpm_tool.specs.Asked.{by_key, is_changing, asks}
-use Rattle.rpm_tool.specs.Changing.{ChangesWith, after}
+use Rattle.rpm_tool.specs.Changing.{ChangesWith, RowsFit, AllFit, after}
 use Rattle.rpm_tool.specs.History.{RunCall, Moves, StandsIn, AllStand, course_of, made_by, calls_of}
 use Rattle.rpm_tool.specs.Keyed.{AreLawfulGroups, StandsStill}
 use Rattle.rpm_tool.specs.Tasks.{asked_task, asked_course, is_anew, changes_index}
 use Rattle.rpm_tool.proofs.Brokens.{by_bool}
+use Rattle.rpm_outside.specs.inner.Moments.{leaves_weaker}
+use Rattle.rpm_tool.proofs.Regrouped.{still_fits}
 use Rattle.rpm_tool.proofs.Histories.{still_next, still_cut, changed_next, changed_cut}
 
-pub calls_more : (lines : List (List (List ℕ))) (outcomes : List Outcome) (outcome : Outcome) (d : List (List ℕ)) → length outcomes < length lines
-    → calls_of lines (outcomes ++ outcome ∷ []) ≡ calls_of lines outcomes ++ record { words = get_or lines (length outcomes) d; outcome = outcome } ∷ []
+-- a line with its moment, and how it ended
+abbrev pub call_of : Line → Outcome → RunCall
+call_of line outcome = record { words = line.words.now; moment = line.moment; outcome = outcome }
+
+pub calls_more : (lines : List Line) (outcomes : List Outcome) (outcome : Outcome) (d : Line) → length outcomes < length lines
+    → calls_of lines (outcomes ++ outcome ∷ []) ≡ calls_of lines outcomes ++ call_of (get_or lines (length outcomes) d) outcome ∷ []
 calls_more [] [] outcome d less = absurd (omega (arith, less))
 calls_more [] (o ∷ os) outcome d less = absurd (omega (arith, less))
-calls_more (words ∷ lines) [] outcome d less = refl
-calls_more (words ∷ lines) (o ∷ os) outcome d less =
-    ap (λ (calls : List RunCall). record { words = words; outcome = o } ∷ calls) (calls_more lines os outcome d (omega (arith, less)))
+calls_more (line ∷ lines) [] outcome d less = refl
+calls_more (line ∷ lines) (o ∷ os) outcome d less =
+    ap (λ (calls : List RunCall). call_of line o ∷ calls) (calls_more lines os outcome d (omega (arith, less)))
 
 pub by_asked : {X : Type 0} (read : Option (AskParts × Tree)) → (read ≡ None → X) → ((a : AskParts) (tree : Tree) → read ≡ Some (a, tree) → X) → X
 by_asked None nothing command = nothing refl
@@ -98,3 +105,17 @@ module _ {D : Type 0} (tells : Bool) (files : D → Files) (left_since : D → �
       (λ none. subst (λ (read : Option (AskParts × Tree)). Both (after (course_of paths now words read))) (sym none)
       (still_both (same_still (unread none)) (after (course_of paths now words None)) (λ m. refl)))
       (λ a tree asked. subst (λ (read : Option (AskParts × Tree)). Both (after (course_of paths now words read))) (sym asked) (both_of a tree asked))
+
+  -- the rows fit behind it, whatever stops it
+  pub line_fits : AllFit past → LeavesOnly moment left_since old new RowsFit
+  line_fits fit =
+      let lawful : AreLawfulGroups past = λ image is. (all image is).lawful in
+      let kept : LeavesOnly moment left_since old new (StandsStill past) → LeavesOnly moment left_since old new RowsFit =
+      λ still. leaves_weaker moment left_since old new (StandsStill past) RowsFit (still_fits past fit) still in
+      by_asked (asks words)
+      (λ none. kept (same_still (unread none) lawful))
+      (λ a tree asked. by_bool (is_changing a)
+      (λ changing. (changed a tree asked changing).fits lawful fit)
+      (λ none. by_bool (by_key a)
+      (λ keyed. kept (stops a tree asked keyed lawful))
+      (λ unkeyed. kept (looked_still (looks a tree asked unkeyed none) lawful))))

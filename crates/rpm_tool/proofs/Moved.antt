@@ -1,7 +1,7 @@
 -- The state that the files stand for behind command lines, each as `run` does it.
-use Rattle.std.proofs.Common.{◌≡◌, ℕ, true, List, [], ◌∷◌, refl, sym, ap, subst, inl, inr, ⊎_elim}
-use Rattle.std.specs.Prelude.{Option, Some}
-use Rattle.rpm_outside.specs.declared.disk.File.{File}
+use Rattle.std.proofs.Common.{◌≡◌, ℕ, Bool, true, List, [], ◌∷◌, refl, sym, ap, subst, inl, inr, ⊎_elim}
+use Rattle.std.specs.Prelude.{Option, Some, IsTrue}
+use Rattle.rpm_outside.specs.declared.disk.Disk as disk
 use Rattle.rpm_outside.specs.Files.{Units, Files}
 use Rattle.rpm_outside.specs.Logs.{reopened}
 use Rattle.rpm_outside.specs.Shelves.{Paths}
@@ -15,12 +15,13 @@ use Rattle.rpm_tool.specs.declared.answer.Why.{Why}
 use Rattle.rpm_tool.specs.declared.answer.Why.TheVariants as why
 use Rattle.rpm_tool.specs.Asked.{by_key, is_changing, asks}
 use Rattle.rpm_tool.specs.Changing.{HasState, LeavesState, after}
-use Rattle.rpm_tool.specs.History.{RunCall, Moves, Leads, course_of, made_by}
+use Rattle.rpm_tool.specs.History.{RunCall, Moves, Leads, TellsCalls, course_of, made_by, uses_shelf}
 use Rattle.rpm_tool.specs.Lines.{Between, LineIs, InTurn}
 use Rattle.rpm_tool.specs.Tasks.{asked_course}
 use Rattle.rpm_tool.proofs.Standing.{if_ok_at}
 use Rattle.rpm_tool.proofs.Brokens.{by_bool}
 use Rattle.rpm_tool.proofs.MovesTo.{moves_idle}
+use Rattle.rpm_tool.proofs.Leading.{uses_reads}
 use Rattle.rpm_tool.proofs.Lined.{by_asked}
 
 -- the files stand for a state to which the line moves
@@ -48,14 +49,17 @@ module _ (course : State → Course) (s : State) (n : ℕ) (files : Files) where
   left_moves why.ErrFault left = (s, left.1, refl)
   left_moves why.NoMemory left = (s, left.1, refl)
 
-module _ {D : Type 0} (files : D → Files) (left_since : D → ℕ → Files → Type 0) (moment : D → ℕ) (bytes_read : D → File → ℕ)
-    (follows : D → D → Type 0) (faults : D → ℕ) (paths : Paths) (now : ℕ) where
-  abbrev Line : RunCall → Between D → Between D → Type 0
-  Line call old new = LineIs files left_since moment bytes_read follows faults paths now call old new
+module _ {D : Type 0} (d : disk.Ghosts D) (told : IsTrue d.tells) (shelf : Bool) (paths : Paths) where
+  abbrev files : D → Files
+  files it = d.files it
 
-  module _ (call : RunCall) (old new : Between D) (line : Line call old new) (s : State) (has : HasState s (files old.disk)) where
+  module _ (call : RunCall) (old new : Between D) (tells : uses_shelf call.words ≡ true → IsTrue shelf) (line : LineIs d shelf paths call old new)
+      (s : State) (has : HasState s (files old.disk)) where
+    abbrev now : ℕ
+    now = call.moment
+
     abbrev pkg_of : D → Units
-    pkg_of disk = (reopened (files disk)).pkg
+    pkg_of it = (reopened (files it)).pkg
 
     abbrev Moved : Option (AskParts × Tree) → Type 0
     Moved read = Stands call.outcome.why (after (course_of paths now call.words read) s) s (files new.disk)
@@ -73,24 +77,24 @@ module _ {D : Type 0} (files : D → Files) (left_since : D → ℕ → Files �
     changed a tree asked changing =
         left_moves (asked_course paths now call.words a) s call.outcome.changes (files new.disk) call.outcome.why
         (subst (λ (t : State). LeavesState (asked_course paths now call.words a) t call.outcome.why call.outcome.changes (files new.disk)) has.is
-        (if_ok_at _ (store (pkg_of old.disk)) has.value has.undamaged (line.changed a tree asked changing).leaves))
+        (if_ok_at _ (store (pkg_of old.disk)) has.value has.undamaged (line.changed a tree asked changing (λ reads. tells (uses_reads call.words a tree asked reads))).leaves))
 
     asked_moves : (a : AskParts) (tree : Tree) → asks call.words ≡ Some (a, tree) → Moved (Some (a, tree))
     asked_moves a tree asked = by_bool (is_changing a)
         (λ changing. rw changing (changed a tree asked changing))
         (λ still. rw still (by_bool (by_key a)
         (λ keyed. kept s refl (line.packages a tree asked keyed))
-        (λ unkeyed. kept s refl (ap (λ (f : Files). (reopened f).pkg) ((line.looks a tree asked unkeyed still).untouched refl).same))))
+        (λ unkeyed. kept s refl (ap (λ (f : Files). (reopened f).pkg) ((line.looks a tree asked unkeyed still).untouched told).same))))
 
     pub line_moves : Stands call.outcome.why (made_by paths now call.words s) s (files new.disk)
     line_moves = by_asked (asks call.words)
         (λ none. subst Moved (sym none) (kept s refl (ap pkg_of (line.unread none))))
         (λ a tree asked. subst Moved (sym asked) (asked_moves a tree asked))
 
-  pub lines_lead : (calls : List RunCall) (old new : Between D) → InTurn Line calls old new → (s : State) → HasState s (files old.disk)
-      → (t : State) × HasState t (files new.disk) × Leads paths now calls s t
-  lines_lead [] old new same s has = (s, subst (λ (b : Between D). HasState s (files b.disk)) (sym same) has, refl)
-  lines_lead (call ∷ calls) old new (mid, line, rest) s has =
-      let first = line_moves call old mid line s has in
-      let later = lines_lead calls mid new rest first.0 first.1 in
+  pub lines_lead : (calls : List RunCall) (old new : Between D) → TellsCalls shelf calls → InTurn (LineIs d shelf paths) calls old new → (s : State)
+      → HasState s (d.files old.disk) → (t : State) × HasState t (d.files new.disk) × Leads paths calls s t
+  lines_lead [] old new tells same s has = (s, subst (λ (b : Between D). HasState s (files b.disk)) (sym same) has, refl)
+  lines_lead (call ∷ calls) old new tells (mid, line, rest) s has =
+      let first = line_moves call old mid tells.0 line s has in
+      let later = lines_lead calls mid new tells.1 rest first.0 first.1 in
       (later.0, later.1, (first.0, first.2, later.2))

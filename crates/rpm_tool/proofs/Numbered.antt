@@ -1,5 +1,6 @@
 -- The numbers that an argument's steps are for.
 use Rattle.std.proofs.Common.{◌≡◌, ℕ, List, [], ◌∷◌, map, Option, Some, None, refl, ap, ◌∙◌}
+use Rattle.std.proofs.lemmas.List.{append-nil}
 use Rattle.std.specs.Ordering.{nat_cmp}
 use Rattle.std.specs.FinMap as finite
 use Rattle.rpm_words.specs.declared.switch.Chosen.{Chosen}
@@ -7,10 +8,11 @@ use Rattle.rpm_words.specs.declared.switch.Chosen.TheVariants as by
 use Rattle.rpm_qfparse.specs.Tree.{Tree}
 use Rattle.rpm_db.specs.State.{Package, above}
 use Rattle.rpm_select.specs.declared.selection.Selection.{Selection}
+use Rattle.rpm_select.specs.declared.selection.Selection.TheVariants as question
 use Rattle.rpm_select.specs.Selections.{is_picked, picks}
 use Rattle.rpm_change.specs.Steps.{Bearer}
 use Rattle.rpm_tool.specs.Steps.{with_number, numbers, RisesFrom}
-use Rattle.rpm_tool.specs.Queries.{step_of, lent, question_of, picked_by, picked, missing_part, answered, argument_part}
+use Rattle.rpm_tool.specs.Queries.{step_of, lent, question_of, picked_by, picked, missing_part, answered, argument_part, query_of}
 use Rattle.rpm_tool.proofs.Printed.{bearer-step_of}
 use Rattle.rpm_tool.proofs.Rising.{rises_above}
 
@@ -58,3 +60,13 @@ pub picked_rises : (packages : finite.FinMap nat_cmp Package) (chosen : Chosen) 
     → RisesFrom after (map (λ e. e.0) (above after (picked packages chosen text)))
 unfolding picked
 picked_rises packages chosen text after = by_rises packages (question_of chosen (lent text)) after
+
+-- those of a query without arguments
+pub whole_numbers : (tree : Tree) (packages : finite.FinMap nat_cmp Package) (chosen : Chosen) (after : ℕ)
+    → numbers (query_of tree packages chosen after []).steps ≡ map (λ e. e.0) (above after (picks packages question.All))
+whole_numbers tree packages chosen after =
+    ap numbers (append-nil (map (step_of tree 0) (above after (picks packages question.All))))
+    ∙ told_numbers tree 0 (above after (picks packages question.All))
+
+pub all_rise : (packages : finite.FinMap nat_cmp Package) (after : ℕ) → RisesFrom after (map (λ e. e.0) (above after (picks packages question.All)))
+all_rise packages after = by_rises packages (Some question.All) after

@@ -31,6 +31,7 @@ module _ {D S : Type 0} {d : disk.Ghosts D} {s : shelf.Ghosts S} (r : Run d s) (
   keyed_of k = record {
     went = k.went;
     reads = k.reads;
+    kind = k.kind;
     full = k.full;
     bad = k.bad;
     complete = k.complete;
@@ -41,7 +42,7 @@ module _ {D S : Type 0} {d : disk.Ghosts D} {s : shelf.Ghosts S} (r : Run d s) (
 
   change_of : OneChange d.files d.left_since d.moment (s.paths r.shelf_found) r.moment (asked_task r.words a) r.why r.changes r.found r.left r.before mid
       → AnswersChange r a (asked_course (s.paths r.shelf_found) r.moment r.words a) mid
-  change_of one = record { did = one.did; changed = one.changed; limits = one.limits; log = one.log }
+  change_of one = record { did = one.did; changed = one.changed; limits = one.limits; fault = one.fault; log = one.log }
 
   pub does_plain : of_files a ≡ false → by_key a ≡ false → is_changing a ≡ false → (IsTrue d.tells → AnswersPlain r a tree mid)
       → Leaves d r.found r.left → r.shelf_left ≡ r.shelf_found → Does r a tree mid

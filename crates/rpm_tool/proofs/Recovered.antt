@@ -18,7 +18,7 @@ use Rattle.rpm_tool.specs.declared.answer.Why.{Why}
 use Rattle.rpm_tool.specs.declared.answer.Why.TheVariants as why
 use Rattle.rpm_tool.specs.Asked.{inquiry_of}
 use Rattle.rpm_change.specs.Endings.{Outputs, outputs, Through}
-use Rattle.rpm_tool.specs.Keyed.{IsLawfulGroup, AreLawfulGroups, StandsStill, OpenedBy, Does, KeyedIs, AnswersByKey, keyed_to}
+use Rattle.rpm_tool.specs.Keyed.{IsLawfulGroup, AreLawfulGroups, StandsStill, OpenedBy, DidByKey, KeyedIs, AnswersByKey, keyed_to}
 use Rattle.rpm_tool.proofs.Deeds.{does_memory}
 use Rattle.rpm_tool.proofs.Reaching.{through_none}
 use Rattle.rpm_tool.proofs.Unrecovered.{loaded_by, loaded_memory}
@@ -33,13 +33,13 @@ closed_stands files closed = ap (λ (l : LogState). with_state l (unlogged files
 
 pub opened_keyed : (tree : Tree) (words : List (List ℕ)) (a : AskParts) (old mid : Files) (given : Why) (before after : Outputs) (first between now : ℕ)
     (finished : Bool) → unlogged mid ≡ reopened old → between ≡ first → RecoverSays (log_state old.log) (Ok finished)
-    → OpenedBy (IsLawful mid.pkg mid.idx) (Does tree words a mid between now) (store mid.pkg) given before after
+    → OpenedBy (IsLawful mid.pkg mid.idx) (DidByKey tree words a mid between now) (store mid.pkg) given before after
     → KeyedIs tree words a old given before after first now
 opened_keyed tree words a old mid given before after first between now finished stand same says opened =
     let r = reopened old in
-    loaded_by (IsLawful r.pkg r.idx) (Does tree words a r first now) (store r.pkg) (log_state old.log) finished given before after says
-    (subst (λ (n : ℕ). OpenedBy (IsLawful r.pkg r.idx) (Does tree words a r n now) (store r.pkg) given before after) same
-    (subst (λ (f : Files). OpenedBy (IsLawful f.pkg f.idx) (Does tree words a f between now) (store f.pkg) given before after) stand opened))
+    loaded_by (IsLawful r.pkg r.idx) (DidByKey tree words a r first now) (store r.pkg) (log_state old.log) finished given before after says
+    (subst (λ (n : ℕ). OpenedBy (IsLawful r.pkg r.idx) (DidByKey tree words a r n now) (store r.pkg) given before after) same
+    (subst (λ (f : Files). OpenedBy (IsLawful f.pkg f.idx) (DidByKey tree words a f between now) (store f.pkg) given before after) stand opened))
 
 -- ---- what a stop leaves
 
@@ -107,9 +107,10 @@ unbegun files left_since moment bytes_read tree words a ot et o e disk = record 
       let n = bytes_read disk Pkg in
       let x = outputs ot o et e in
       let none : Through [] x x = through_none {ot = ot} {et = et} o e in
-      loaded_memory (IsLawful r.pkg r.idx) (Does tree words a r n n) (store r.pkg) x none
+      loaded_memory (IsLawful r.pkg r.idx) (DidByKey tree words a r n n) (store r.pkg) x none
       (λ s. does_memory tree words a (packages r.pkg s) (λ for. n ≤ n + keyed_to r words a s for) x none (inquiry_of a.mode)) (log_state (files disk).log));
   reads = λ query lawful. omega arith;
+  kind = refl;
   full = tt;
   bad = tt;
   complete = λ lawful room. refl;

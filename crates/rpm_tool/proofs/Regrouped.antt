@@ -1,21 +1,25 @@
 -- The same of a disk that isn't recovered yet.
-use Rattle.std.proofs.Common.{◌≡◌, ℕ, Bool, false, sym, ap, ◌∙◌, subst, inl, inr}
+use Rattle.std.proofs.Common.{◌≡◌, ℕ, ◌^◌, ◌≤◌, Bool, false, sym, ap, ◌∙◌, subst, inl, inr, ⊎_elim}
 use Rattle.std.specs.Prelude.{IfOk}
 use Rattle.rpm_outside.specs.Changes.{AreSettled}
 use Rattle.rpm_outside.specs.Crash.{LeavesOnly}
-use Rattle.rpm_outside.specs.Files.{Files}
+use Rattle.rpm_outside.specs.Files.{Units, Files}
 use Rattle.rpm_outside.specs.Logs.{Closed, log_state, reopened}
 use Rattle.rpm_outside.specs.inner.Moments.{leaves_then, leaves_weaker}
 use Rattle.rpm_group.specs.Loads.{IsSound}
 use Rattle.rpm_group.specs.Settled.{ReopensAsOneOf}
 use Rattle.rpm_pkgdb.specs.Store.{store}
 use Rattle.rpm_db.specs.Lawful.{IsLawful}
+use Rattle.rpm_db.specs.Openings.{units_needed}
+use Rattle.rpm_db.specs.Changes.{Says}
 use Rattle.rpm_db.specs.State.{State, state}
 use Rattle.rpm_change.specs.Steps.{Course}
+use Rattle.rpm_change.specs.Endings.{Outputs, Through}
 use Rattle.rpm_tool.specs.declared.answer.Why.{Why}
+use Rattle.rpm_tool.specs.declared.answer.Why.TheVariants as why
 use Rattle.rpm_tool.specs.Keyed.{IsLawfulGroup, AreLawfulGroups, StandsStill}
-use Rattle.rpm_tool.specs.Changing.{HasState, StandsStillOr, LeavesState, BadBy, ChangesWith, after, is_done_or_fault}
-use Rattle.rpm_tool.specs.Limits.{LimitsOn, LimitsBy}
+use Rattle.rpm_tool.specs.Changing.{HasState, StandsStillOr, LeavesState, BadBy, ChangesWith, RowsFit, AllFit, after, is_done_or_fault}
+use Rattle.rpm_tool.specs.Limits.{LimitsOn, LimitsBy, StoodStill, ToldAll, FaultIs}
 use Rattle.rpm_tool.proofs.Standing.{if_ok, if_ok_at, may_begin}
 
 -- an image stands still that stands for what one of these stands for
@@ -29,6 +33,20 @@ recovered_still images lawful image (from, was, stands) = record {
     lawful = subst (λ (f : Files). IsLawful f.pkg f.idx) (sym stands.same) (lawful from was).lawful;
   };
 }
+
+-- the rows of one that stands still fit where those of each do
+pub still_fits : (images : Files → Type 0) → AllFit images → (image : Files) → StandsStill images image → RowsFit image
+still_fits images fit image still = subst (λ (pkg : Units). units_needed pkg (store pkg) ≤ 2 ^ 28) (sym still.pkg) (fit still.from still.was)
+
+recovered_fits : (images : Files → Type 0) → AllFit images → (image : Files) → ReopensAsOneOf images image → RowsFit image
+recovered_fits images fit image (from, was, stands) =
+    subst (λ (f : Files). units_needed f.pkg (store f.pkg) ≤ 2 ^ 28) (sym stands.same) (fit from was)
+
+pub recovering_fits : {D : Type 0} (files : D → Files) (left_since : D → ℕ → Files → Type 0) (moment : D → ℕ) (old mid : D)
+    → LeavesOnly moment left_since old mid (ReopensAsOneOf (left_since old (moment old))) → AllFit (left_since old (moment old))
+    → LeavesOnly moment left_since old mid RowsFit
+recovering_fits files left_since moment old mid run fit = leaves_weaker moment left_since old mid (ReopensAsOneOf (left_since old (moment old))) RowsFit
+    (recovered_fits (left_since old (moment old)) fit) run
 
 module _ {D : Type 0} (files : D → Files) (left_since : D → ℕ → Files → Type 0) (moment : D → ℕ) (course : State → Course) (given : Why) (n : ℕ)
     (old mid new : D) (here : left_since old (moment old) (files old)) (stands : reopened (files mid) ≡ reopened (files old))
@@ -80,6 +98,32 @@ module _ {D : Type 0} (files : D → Files) (left_since : D → ℕ → Files �
         (leaves_weaker moment left_since mid new (StandsStillOr (left_since mid (moment mid)) t) (StandsStillOr past t) (still_past t)
         (if_ok_at _ (store (reopened (files mid)).pkg) s is (rest.stops (lawful_all lawful))))))
 
+    fits_past : AreLawfulGroups past → AllFit past → LeavesOnly moment left_since old new RowsFit
+    fits_past lawful fit = leaves_then moment left_since old mid new RowsFit (recovering_fits files left_since moment old mid run fit)
+        (rest.fits (lawful_all lawful) (λ image is. subst RowsFit (sym (settled image is))
+        (subst (λ (f : Files). units_needed f.pkg (store f.pkg) ≤ 2 ^ 28) (sym stands) (fit (files old) here))))
+
+    stood_past : StoodStill files left_since moment mid new → StoodStill files left_since moment old new
+    stood_past stood = record {
+      same = stood.same ∙ stands;
+      stops = λ lawful. leaves_then moment left_since old mid new (StandsStill past)
+          (leaves_weaker moment left_since old mid (ReopensAsOneOf past) (StandsStill past) (recovered_still past lawful) run)
+          (leaves_weaker moment left_since mid new (StandsStill (left_since mid (moment mid))) (StandsStill past) still_of
+          (stood.stops (lawful_all lawful)));
+    }
+
+    told_past : (before now : Outputs) → ToldAll anew (IsLawfulGroup (files mid)) course (reopened (files mid)) before now
+        → ToldAll anew (IsLawfulGroup (files old)) course (reopened (files old)) before now
+    told_past before now all = record {
+      told = subst (λ (f : Files). Says (λ s. Through (course s).steps before now) f.pkg) stands all.told;
+      limits = λ indexed may. subst (λ (f : Files). LimitsOn indexed anew course f why.Done) stands
+          (all.limits indexed (λ asked. may_begin anew lawful_mid (may asked)));
+    }
+
+    pub recovered_fault : (before now : Outputs) → FaultIs anew files left_since moment course given mid new before now
+        → FaultIs anew files left_since moment course given old new before now
+    recovered_fault before now fault faulted = ⊎_elim (λ stood. inl (stood_past stood)) (λ all. inr (told_past before now all)) (fault faulted)
+
     pub recovered_changes : ChangesWith anew changing files left_since moment course given n old new
     recovered_changes = record {
       counted = rest.counted;
@@ -93,6 +137,7 @@ module _ {D : Type 0} (files : D → Files) (left_since : D → ℕ → Files �
       complete = λ lawful. rest.complete (lawful_mid lawful);
       stops = λ lawful. subst StopsBy stands (stops_past lawful);
       unmade = unmade_past;
+      fits = fits_past;
       held = λ done. subst (λ (f : Files). IfOk (store f.pkg) (λ s. (image : Files) → left_since new (moment new) image
           → HasState (after course (state f.pkg s)) image)) stands (rest.held done);
     }

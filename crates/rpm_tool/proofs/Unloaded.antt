@@ -15,8 +15,9 @@ use Rattle.rpm_change.specs.Endings.{Outputs}
 use Rattle.rpm_tool.specs.declared.answer.Why.{Why}
 use Rattle.rpm_tool.specs.Answers.{why_of_load}
 use Rattle.rpm_tool.specs.Changing.{DidOn, ChangesWith}
+use Rattle.rpm_tool.specs.Limits.{FaultIs}
 use Rattle.rpm_tool.specs.Working.{WorkedWith, EndsGroup}
-use Rattle.rpm_tool.proofs.Grouped.{group_did, group_changes}
+use Rattle.rpm_tool.proofs.Grouped.{group_did, group_changes, group_fault}
 use Rattle.rpm_tool.proofs.Ends.{release_ends}
 use Rattle.rpm_tool.proofs.LimitEnds.{limits_unloaded}
 use Rattle.rpm_tool.proofs.Unmade.{through_none}
@@ -53,5 +54,11 @@ module _ {D : Type 0} (tells : Bool) (files : D → Files) (left_since : D → �
       → ChangesWith anew changing files left_since moment course given 0 first last
   unloaded_changes {anew} {changing} here there = group_changes files left_since moment course (Err given) given 0 first last last over x x closed
       (worked anew changing) ends
+      same here settled
+      (looks.untouched told).images looks.moment_stays there (λ indexed may. limits_unloaded indexed anew course (reopened (files first)) fault)
+
+  pub unloaded_fault : {anew : Bool} → left_since first (moment first) (files first) → left_since last (moment last) (files last)
+      → FaultIs anew files left_since moment course given first last x x
+  unloaded_fault {anew} here there = group_fault files left_since moment course (Err given) given 0 first last last over x x closed (worked anew false) ends
       same here settled
       (looks.untouched told).images looks.moment_stays there (λ indexed may. limits_unloaded indexed anew course (reopened (files first)) fault)

@@ -17,8 +17,9 @@ use Rattle.rpm_tool.specs.declared.answer.Why.{Why}
 use Rattle.rpm_tool.specs.declared.answer.Why.TheVariants as why
 use Rattle.rpm_tool.specs.Keyed.{StandsStill, why_of_recover}
 use Rattle.rpm_tool.specs.Changing.{DidOpened, DidLoaded, DidOn, ChangesWith, after}
+use Rattle.rpm_tool.specs.Limits.{FaultIs}
 use Rattle.rpm_tool.proofs.Standing.{if_ok}
-use Rattle.rpm_tool.proofs.Regrouped.{recovering, recovered_still}
+use Rattle.rpm_tool.proofs.Regrouped.{recovering, recovered_still, recovering_fits}
 
 -- nothing was written
 pub through_none : (x : Outputs) → Through [] x x
@@ -97,6 +98,7 @@ module _ {D : Type 0} (files : D → Files) (left_since : D → ℕ → Files �
     stops = λ lawful. if_ok (store r.pkg) (λ s is.
         recovering files left_since moment course (why.BadLog unit) 0 old new new here stands run lawful (after course (state r.pkg s)));
     unmade = λ no lawful. leaves_weaker moment left_since old new (ReopensAsOneOf past) (StandsStill past) (recovered_still past lawful) run;
+    fits = λ lawful fit. recovering_fits files left_since moment old new run fit;
     held = λ done. absurd cc;
   }
   unrecovered_changes recover.DiskFault says = record {
@@ -120,5 +122,13 @@ module _ {D : Type 0} (files : D → Files) (left_since : D → ℕ → Files �
     stops = λ lawful. if_ok (store r.pkg) (λ s is.
         recovering files left_since moment course why.DiskFault 0 old new new here stands run lawful (after course (state r.pkg s)));
     unmade = λ no lawful. absurd cc;
+    fits = λ lawful fit. recovering_fits files left_since moment old new run fit;
     held = λ done. absurd cc;
   }
+
+  pub unrecovered_fault : {anew : Bool} (fault : RecoverFault) (x : Outputs)
+      → FaultIs anew files left_since moment course (why_of_recover fault) old new x x
+  unrecovered_fault fault x faulted = inl (record {
+    same = stands;
+    stops = λ lawful. leaves_weaker moment left_since old new (ReopensAsOneOf past) (StandsStill past) (recovered_still past lawful) run;
+  })

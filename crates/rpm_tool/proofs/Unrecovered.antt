@@ -12,6 +12,7 @@ use Rattle.rpm_words.specs.Ask.{AskParts}
 use Rattle.rpm_tool.specs.declared.answer.Why.{Why}
 use Rattle.rpm_tool.specs.declared.answer.Why.TheVariants as why
 use Rattle.rpm_change.specs.Endings.{Outputs, Through}
+use Rattle.rpm_tool.specs.Answers.{is_foreign}
 use Rattle.rpm_tool.specs.Keyed.{Deeds, OpenedBy, LoadedBy, FullIs, BadIs, is_done, is_done_or_outside, why_of_recover}
 use Rattle.rpm_tool.proofs.Endings.{by_fault, by_memory}
 
@@ -42,6 +43,10 @@ module _ (Lawful : Type 0) (Do : Deeds) (s : Result Store Damage) where
 pub unrecovered_full : (files : Files) (fault : RecoverFault) → FullIs files (why_of_recover fault)
 unrecovered_full files (recover.BadLog unit) = tt
 unrecovered_full files recover.DiskFault = tt
+
+pub unrecovered_kind : (fault : RecoverFault) → is_foreign (why_of_recover fault) ≡ false
+unrecovered_kind (recover.BadLog unit) = refl
+unrecovered_kind recover.DiskFault = refl
 
 pub unrecovered_bad : (words : List (List ℕ)) (a : AskParts) (files : Files) (fault : RecoverFault) → BadIs words a files (why_of_recover fault)
 unrecovered_bad words a files (recover.BadLog unit) = tt

@@ -63,6 +63,7 @@ module _ {D : Type 0} (files : D → Files) (left_since : D → ℕ → Files �
       each = λ image left. record { from = image; was = left; pkg = refl; lawful = lawful image left };
       before = λ t image le left. inl left;
     };
+    fits = λ lawful fit. record { later = omega arith; each = fit; before = λ t image le left. inl left };
     held = λ done. absurd cc;
   }
 
@@ -74,6 +75,7 @@ unstarted_one files left_since moment paths now task disk x =
       did = unstarted_did course (files disk) x;
       changed = unstarted_changes files left_since moment course disk;
       limits = λ indexed may. limits_starved indexed (is_anew task) course (reopened (files disk));
+      fault = λ faulted. absurd cc;
       log = tt;
     }
 

@@ -166,10 +166,15 @@ is_of_words (why.Usage fault) = true
 is_of_words (why.BadFormat fault) = true
 is_of_words others = false
 
--- a command on a database doesn't end so
+-- so no command on a database ends that changes nothing
 abbrev pub is_foreign : Why → Bool
 is_foreign (why.Usage fault) = true
 is_foreign (why.BadFormat fault) = true
+is_foreign why.NumbersSpent = true
+is_foreign why.GenerationSpent = true
+is_foreign why.StoreFull = true
+is_foreign (why.NotEmpty held) = true
+is_foreign (why.LogFull needed) = true
 is_foreign why.ShelfFault = true
 is_foreign others = false
 

@@ -1,6 +1,6 @@
 -- Commands that change packages: what each answers and leaves. A command is the course that it takes from the state that it finds. On it rest
 -- `did` and `changed` of `changes`, and `empty`, on the page (Theorem.antt).
-use Rattle.std.specs.Prelude.{◌≡◌, ◌⊎◌, ℕ, ◌<◌, ◌≤◌, List, [], length, Bool, true, false, Some, None, is_some, Result, Ok, Err, IfOk}
+use Rattle.std.specs.Prelude.{◌≡◌, ◌⊎◌, ℕ, ◌^◌, ◌<◌, ◌≤◌, List, [], length, Bool, true, false, Some, None, is_some, Result, Ok, Err, IfOk}
 use Rattle.std.specs.Ordering.{nat_cmp}
 use Rattle.std.specs.FinMap as finite
 use Rattle.std.specs.FinMap.{FinMap}
@@ -12,7 +12,7 @@ use Rattle.rpm_pkgdb.specs.declared.slot.Damage.{Damage}
 use Rattle.rpm_pkgdb.specs.Store.{Store, store}
 use Rattle.rpm_db.specs.Changes.{Says}
 use Rattle.rpm_db.specs.Lawful.{HasRows, IsWholeIndex, is_current_at}
-use Rattle.rpm_db.specs.Openings.{must_make}
+use Rattle.rpm_db.specs.Openings.{must_make, units_needed}
 use Rattle.rpm_db.specs.Database.{IsNext}
 use Rattle.rpm_db.specs.State.{State, Package, state, packages}
 use Rattle.rpm_change.specs.Steps.{Course, apply_all}
@@ -102,6 +102,14 @@ pub record IsSealed (files : Files) : Type 0 where
 abbrev pub StandsStillOr : (Files → Type 0) → State → Files → Type 0
 StandsStillOr images s image = StandsStill images image ⊎ (IsLawfulGroup image × HasState s image)
 
+-- the rows of the packages that files stand for fit into an index
+abbrev pub RowsFit : Files → Type 0
+RowsFit files = units_needed (reopened files).pkg (store (reopened files).pkg) ≤ 2 ^ 28
+
+-- and so do those of each image
+abbrev pub AllFit : (Files → Type 0) → Type 0
+AllFit images = (image : Files) → images image → RowsFit image
+
 -- ---- limits
 
 -- the index is made where it isn't current; anew, whatever it is
@@ -177,5 +185,7 @@ pub record ChangesWith {D : Type 0} (anew changing : Bool) (files : D → Files)
       (λ s. LeavesOnly moment left_since old new (StandsStillOr (left_since old (moment old)) (after course (state (reopened (files old)).pkg s))))
   pub unmade : is_done_or_fault given ≡ false → AreLawfulGroups (left_since old (moment old))
       → LeavesOnly moment left_since old new (StandsStill (left_since old (moment old)))
+  pub fits : AreLawfulGroups (left_since old (moment old)) → AllFit (left_since old (moment old))
+      → LeavesOnly moment left_since old new RowsFit
   pub held : is_done given ≡ true → IfOk (store (reopened (files old)).pkg)
       (λ s. (image : Files) → left_since new (moment new) image → HasState (after course (state (reopened (files old)).pkg s)) image)

@@ -9,7 +9,7 @@ use Rattle.rpm_outside.specs.declared.disk.File.TheVariants.{Pkg}
 use Rattle.rpm_outside.specs.declared.shelf.Shelf as shelf
 use Rattle.rpm_outside.specs.declared.sink.Sink as sink
 use Rattle.rpm_outside.specs.declared.buffered.Buffered.{Buffered}
-use Rattle.rpm_outside.specs.Buffered.{inner, HandsOn}
+use Rattle.rpm_outside.specs.Buffered.{inner}
 use Rattle.rpm_outside.specs.Causes as causes
 use Rattle.rpm_outside.specs.Changes as outside
 use Rattle.rpm_outside.specs.Crash as crash
@@ -23,6 +23,7 @@ use Rattle.rpm_db.specs.State.{State, Package, state, packages}
 use Rattle.rpm_select.specs.Reach.{HasIndexRows}
 use Rattle.rpm_check.specs.Answers as check
 use Rattle.rpm_change.specs.Endings.{Outputs, outputs, IsCarried}
+use Rattle.rpm_change.specs.Hands.{Hand}
 use Rattle.rpm_tool.specs.Answers as tool
 use Rattle.rpm_tool.specs.Reads as reads
 
@@ -99,9 +100,6 @@ module _ {D : Type 0} (d : disk.Ghosts D) where
 abbrev pub ShelfFault : {S : Type 0} → shelf.Ghosts S → Type 0 → S → S → Type 0
 ShelfFault s what old new = causes.HasCauseAt what (s.faults old) (s.faults new)
 
-abbrev pub SinkFault : {O : Type 0} → sink.Ghosts O → Type 0 → Buffered O → Buffered O → Type 0
-SinkFault o what old new = causes.HasCauseAt what (o.faults (inner old)) (o.faults (inner new))
-
 abbrev pub outs : {O E : Type 0} → sink.Ghosts O → sink.Ghosts E → O → E → Outputs
 outs o e out err = outputs o.tells (o.taken out) e.tells (e.taken err)
 
@@ -109,10 +107,8 @@ outs o e out err = outputs o.tells (o.taken out) e.tells (e.taken err)
 abbrev pub shown : {O E : Type 0} → sink.Ghosts O → sink.Ghosts E → Buffered O → Buffered E → Outputs
 shown o e out err = outs o e (inner out) (inner err)
 
--- what a call keeps of both: nothing is held in the end, and an answer that tells of a fault comes only where that sink counted one
+-- what a call keeps of both
 pub record Hands {O E : Type 0} (o : sink.Ghosts O) (e : sink.Ghosts E) (out_fails err_fails : Type 0) (out_old : Buffered O) (err_old : Buffered E)
     (out_new : Buffered O) (err_new : Buffered E) : Type 0 where
-  pub out : SinkFault o out_fails out_old out_new
-  pub err : SinkFault e err_fails err_old err_new
-  pub out_rest : HandsOn o.follows out_old out_new
-  pub err_rest : HandsOn e.follows err_old err_new
+  pub out : Hand o out_fails out_old out_new
+  pub err : Hand e err_fails err_old err_new

@@ -1,6 +1,7 @@
 -- Several command lines on one disk, one after the other: what the database stands for behind them, and behind a stop. On it rest `leads`,
 -- `cuts` and `states` of `run_each`.
-use Rattle.std.specs.Prelude.{◌≡◌, ◌⊎◌, ℕ, List, [], ◌∷◌, Option, Some, None, if◌then◌else◌}
+use Rattle.std.specs.Prelude.{◌≡◌, ◌⊎◌, ℕ, List, [], ◌∷◌, Bool, true, false, ◌||◌, IsTrue, Option, Some, None, if◌then◌else◌}
+use Rattle.std.specs.List.{AllByRecursion}
 use Rattle.rpm_outside.specs.Files.{Files}
 use Rattle.rpm_outside.specs.Logs.{reopened}
 use Rattle.rpm_outside.specs.Shelves.{Paths}
@@ -12,8 +13,9 @@ use Rattle.rpm_change.specs.Steps.{Course, idle}
 use Rattle.rpm_tool.specs.declared.answer.Outcome.{Outcome}
 use Rattle.rpm_tool.specs.declared.answer.Why.{Why}
 use Rattle.rpm_tool.specs.declared.answer.Why.TheVariants as why
-use Rattle.rpm_tool.specs.Asked.{is_changing, asks}
-use Rattle.rpm_tool.specs.Tasks.{asked_course}
+use Rattle.rpm_tool.specs.declared.several.Line.{Line}
+use Rattle.rpm_tool.specs.Asked.{of_files, is_changing, asks}
+use Rattle.rpm_tool.specs.Tasks.{asked_task, asked_course, reads_shelf}
 use Rattle.rpm_tool.specs.Keyed.{IsLawfulGroup}
 use Rattle.rpm_tool.specs.Changing.{after}
 
@@ -36,26 +38,45 @@ Moves others made s t = t ≡ s
 
 -- ---- several
 
--- a command line, and how it ended
+-- a command line with its moment, and how it ended
 pub record RunCall : Type 0 where
   pub words : List (List ℕ)
+  pub moment : ℕ
   pub outcome : Outcome
 
-abbrev pub calls_of : List (List (List ℕ)) → List Outcome → List RunCall
+abbrev pub calls_of : List Line → List Outcome → List RunCall
 calls_of lines [] = []
 calls_of [] (outcome ∷ outcomes) = []
-calls_of (words ∷ lines) (outcome ∷ outcomes) = record { words = words; outcome = outcome } ∷ calls_of lines outcomes
+calls_of (line ∷ lines) (outcome ∷ outcomes) = record { words = line.words.now; moment = line.moment; outcome = outcome } ∷ calls_of lines outcomes
 
 -- from state s to t: all changes of each line that was done, of none that was refused
-abbrev pub Leads : Paths → ℕ → List RunCall → State → State → Type 0
-Leads paths now [] s t = t ≡ s
-Leads paths now (call ∷ calls) s t = (mid : State) × Moves call.outcome.why (made_by paths now call.words s) s mid × Leads paths now calls mid t
+abbrev pub Leads : Paths → List RunCall → State → State → Type 0
+Leads paths [] s t = t ≡ s
+Leads paths (call ∷ calls) s t =
+    (mid : State) × Moves call.outcome.why (made_by paths call.moment call.words s) s mid × Leads paths calls mid t
 
 -- a stop within them or behind them: those before it, and of the line that it stops all changes or none
-abbrev pub Cuts : Paths → ℕ → List RunCall → State → State → Type 0
-Cuts paths now [] s t = t ≡ s
-Cuts paths now (call ∷ calls) s t = (t ≡ s) ⊎ ((t ≡ made_by paths now call.words s)
-    ⊎ ((mid : State) × Moves call.outcome.why (made_by paths now call.words s) s mid × Cuts paths now calls mid t))
+abbrev pub Cuts : Paths → List RunCall → State → State → Type 0
+Cuts paths [] s t = t ≡ s
+Cuts paths (call ∷ calls) s t = (t ≡ s) ⊎ ((t ≡ made_by paths call.moment call.words s)
+    ⊎ ((mid : State) × Moves call.outcome.why (made_by paths call.moment call.words s) s mid × Cuts paths calls mid t))
+
+-- ---- the shelf
+
+-- a command that reads package files
+abbrev pub uses_in : List (List ℕ) → Option (AskParts × Tree) → Bool
+uses_in words None = false
+uses_in words (Some asked) = of_files asked.0 || reads_shelf (asked_task words asked.0)
+
+abbrev pub uses_shelf : List (List ℕ) → Bool
+uses_shelf words = uses_in words (asks words)
+
+-- a shelf tells what it holds, where a line reads package files
+abbrev pub TellsLines : Bool → List Line → Type 0
+TellsLines tells lines = AllByRecursion (λ line. uses_shelf line.words.now ≡ true → IsTrue tells) lines
+
+abbrev pub TellsCalls : Bool → List RunCall → Type 0
+TellsCalls tells calls = AllByRecursion (λ call. uses_shelf call.words ≡ true → IsTrue tells) calls
 
 -- ---- images
 
@@ -63,6 +84,10 @@ Cuts paths now (call ∷ calls) s t = (t ≡ s) ⊎ ((t ≡ made_by paths now ca
 pub record StandsIn (P : State → Type 0) (image : Files) : Type 0 where
   pub lawful : IsLawfulGroup image
   pub says : Says P (reopened image).pkg
+
+-- a state to which there is such a way from that of one of these images
+abbrev pub FromOneOf : (Files → Type 0) → (State → State → Type 0) → State → Type 0
+FromOneOf images Way t = (from : Files) × images from × Says (λ s. Way s t) (reopened from).pkg
 
 -- each of these images does
 abbrev pub AllStand : (State → Type 0) → (Files → Type 0) → Type 0

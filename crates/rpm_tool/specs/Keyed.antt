@@ -34,7 +34,7 @@ use Rattle.rpm_tool.specs.Reports.{unindexed}
 use Rattle.rpm_tool.specs.Requirements.{unsatisfied, ordering, IsListed, IsOfSome}
 use Rattle.rpm_tool.specs.Reads.{argument_reach, reaches_by, reach_sum, reached_by, IsOfChains}
 use Rattle.rpm_change.specs.Endings.{Outputs, Through}
-use Rattle.rpm_tool.specs.Answers.{Went, Misread, Refused, Anywhere}
+use Rattle.rpm_tool.specs.Answers.{Went, Misread, Refused, Anywhere, is_foreign}
 
 -- ---- lawful disks
 
@@ -85,19 +85,19 @@ Deeds = Store → Why → Outputs → Outputs → Type 0
 
 -- its index may have to be made, and be too large, and then nothing is done
 abbrev pub WentBy : (Why → Outputs → Outputs → Type 0) → Why → Outputs → Outputs → Type 0
-WentBy Does (why.IndexFull needed) old new = Through [] old new
-WentBy Does others old new = Does others old new
+WentBy Do (why.IndexFull needed) old new = Through [] old new
+WentBy Do others old new = Do others old new
 
 -- of one that can be read, what was done where it is lawful; of one that can't, its first damage
 abbrev pub OpenedBy : Type 0 → Deeds → Result Store Damage → Why → Outputs → Outputs → Type 0
-OpenedBy Lawful Does (Ok s) given old new = (is_refusal given ≡ false) × (Lawful → WentBy (Does s) given old new)
-OpenedBy Lawful Does (Err damage) given old new = Refused damage given × Through [] old new
+OpenedBy Lawful Do (Ok s) given old new = (is_refusal given ≡ false) × (Lawful → WentBy (Do s) given old new)
+OpenedBy Lawful Do (Err damage) given old new = Refused damage given × Through [] old new
 
 -- the log is read first
 abbrev pub LoadedBy : Type 0 → Deeds → Result Store Damage → LogState → Why → Outputs → Outputs → Type 0
-LoadedBy Lawful Does s Closed given old new = OpenedBy Lawful Does s given old new
-LoadedBy Lawful Does s (Malformed unit) given old new = Misread unit given × Through [] old new
-LoadedBy Lawful Does s (Open entries) given old new = OpenedBy Lawful Does s given old new
+LoadedBy Lawful Do s Closed given old new = OpenedBy Lawful Do s given old new
+LoadedBy Lawful Do s (Malformed unit) given old new = Misread unit given × Through [] old new
+LoadedBy Lawful Do s (Open entries) given old new = OpenedBy Lawful Do s given old new
 
 -- what is said where an index must be made, or needn't, that needs so many units
 abbrev pub FullByUnits : Bool → ℕ → Why → Type 0
@@ -173,20 +173,21 @@ DoesBy inquiry.Unmet tree words a packages reads_to given old new = Went (unsati
 DoesBy inquiry.Order tree words a packages reads_to given old new = OrderIs packages given old new
 
 -- on these files, of whose Packages.db so many bytes were read before and then
-abbrev pub Does : Tree → List (List ℕ) → AskParts → Files → ℕ → ℕ → Deeds
-Does tree words a r before now s given old new =
+abbrev pub DidByKey : Tree → List (List ℕ) → AskParts → Files → ℕ → ℕ → Deeds
+DidByKey tree words a r before now s given old new =
     DoesBy (inquiry_of a.mode) tree words a (packages r.pkg s) (λ for. now ≤ before + keyed_to r words a s for) given old new
 
 abbrev pub KeyedIs : Tree → List (List ℕ) → AskParts → Files → Why → Outputs → Outputs → ℕ → ℕ → Type 0
 KeyedIs tree words a files given old new before now =
     let r = reopened files in
-    LoadedBy (IsLawful r.pkg r.idx) (Does tree words a r before now) (store r.pkg) (log_state files.log) given old new
+    LoadedBy (IsLawful r.pkg r.idx) (DidByKey tree words a r before now) (store r.pkg) (log_state files.log) given old new
 
 -- all that is said of it on a disk that tells its contents
 pub record AnswersByKey {D : Type 0} (files : D → Files) (left_since : D → ℕ → Files → Type 0) (moment : D → ℕ) (bytes_read : D → File → ℕ) (tree : Tree)
     (words : List (List ℕ)) (a : AskParts) (given : Why) (before now : Outputs) (old new : D) : Type 0 where
   pub went : KeyedIs tree words a (files old) given before now (bytes_read old Pkg) (bytes_read new Pkg)
   pub reads : is_query a.mode ≡ true → IsLawfulGroup (files old) → bytes_read new Pkg ≤ bytes_read old Pkg + keyed_cost (reopened (files old)) words a
+  pub kind : is_foreign given ≡ false
   pub full : FullIs (reopened (files old)) given
   pub bad : BadIs words a (reopened (files old)) given
   pub complete : IsLawfulGroup (files old) → HasRoom (reopened (files old)) → is_done_or_outside given ≡ true

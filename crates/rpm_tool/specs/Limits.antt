@@ -1,7 +1,9 @@
--- The limits of a command that changes packages: the first that it meets is the one that it is answered. On it rest `limits` and `log` of
--- `changes` on the page (Theorem.antt).
-use Rattle.std.specs.Prelude.{◌≡◌, ℕ, ◌+◌, ◌^◌, ◌<◌, ◌≤◌, ◌==◌, if◌then◌else◌, List, Bool, true, false, Option, Some, None, IfOk}
+-- The limits of a command that changes packages: the first that it meets is the one that it is answered; and when the disk failed. On it rest
+-- `limits`, `log` and `fault` of `changes` on the page (Theorem.antt).
+use Rattle.std.specs.Prelude.{◌≡◌, ◌⊎◌, ℕ, ◌+◌, ◌^◌, ◌<◌, ◌≤◌, ◌==◌, if◌then◌else◌, List, Bool, true, false, Option, Some, None, IfOk}
+use Rattle.rpm_outside.specs.Crash.{LeavesOnly}
 use Rattle.rpm_outside.specs.Files.{Files}
+use Rattle.rpm_outside.specs.Logs.{reopened}
 use Rattle.rpm_pkgdb.specs.Store.{Store, store}
 use Rattle.rpm_pkgdb.specs.Written.{made_new}
 use Rattle.rpm_group.specs.Groups.{longest_log}
@@ -9,10 +11,12 @@ use Rattle.rpm_db.specs.Changes.{Change, Says}
 use Rattle.rpm_db.specs.State.{State, state}
 use Rattle.rpm_change.specs.declared.tally.Halt.{Halt}
 use Rattle.rpm_change.specs.declared.tally.Halt.TheVariants as halt
+use Rattle.rpm_change.specs.Endings.{Outputs, Through}
 use Rattle.rpm_change.specs.Limits.{first_refusal, first_limit}
 use Rattle.rpm_change.specs.Steps.{Course}
 use Rattle.rpm_tool.specs.declared.answer.Why.{Why}
 use Rattle.rpm_tool.specs.declared.answer.Why.TheVariants as why
+use Rattle.rpm_tool.specs.Keyed.{IsLawfulGroup, AreLawfulGroups, StandsStill}
 use Rattle.rpm_tool.specs.Changing.{MayBegin, makes, after}
 
 -- the store that the first change finds: where there is no database, one is made
@@ -61,3 +65,20 @@ IsTooLong needed s = (made : Files) × Says (λ t. t ≡ s) made.pkg × (2 ^ 28 
 abbrev pub LogOn : (State → Course) → Files → Why → Type 0
 LogOn course files (why.LogFull needed) = IfOk (store files.pkg) (λ value. IsTooLong needed (after course (state files.pkg value)))
 LogOn course files others = Unit {0}
+
+-- ---- a fault of the disk
+
+-- it came before the commit: nothing changed, whatever a stop leaves
+pub record StoodStill {D : Type 0} (files : D → Files) (left_since : D → ℕ → Files → Type 0) (moment : D → ℕ) (old new : D) : Type 0 where
+  pub same : reopened (files new) ≡ reopened (files old)
+  pub stops : AreLawfulGroups (left_since old (moment old))
+      → LeavesOnly moment left_since old new (StandsStill (left_since old (moment old)))
+
+-- it came with the commit, or behind it: all lines were told, and no change was refused
+pub record ToldAll (anew : Bool) (Lawful : Type 0) (course : State → Course) (files : Files) (before now : Outputs) : Type 0 where
+  pub told : Says (λ s. Through (course s).steps before now) files.pkg
+  pub limits : LimitsBy anew Lawful course files why.Done
+
+abbrev pub FaultIs : {D : Type 0} → Bool → (D → Files) → (D → ℕ → Files → Type 0) → (D → ℕ) → (State → Course) → Why → D → D → Outputs → Outputs → Type 0
+FaultIs anew files left_since moment course given old new before now = given ≡ why.DiskFault
+    → StoodStill files left_since moment old new ⊎ ToldAll anew (IsLawfulGroup (files old)) course (reopened (files old)) before now

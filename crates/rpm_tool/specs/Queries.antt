@@ -1,9 +1,9 @@
 -- What a query does: what is printed of each package that it picks. On it rest the courses under `plain` and `keyed` of the page (Theorem.antt),
 -- and its laws `numbers` and `questions`.
-use Rattle.std.specs.Prelude.{ℕ, List, [], ◌∷◌, ◌++◌, map, codes, decimal, Bool, Option, Some, None, is_some, Result, Ok, Err}
+use Rattle.std.specs.Prelude.{◌≡◌, ℕ, List, [], ◌∷◌, ◌++◌, map, codes, decimal, Bool, true, Option, Some, None, is_some, Result, Ok, Err}
 use Rattle.std.specs.Borrow.{Bor}
 use Rattle.std.specs.Option.{option_map}
-use Rattle.std.specs.List.{concat}
+use Rattle.std.specs.List.{concat, AllByRecursion}
 use Rattle.std.specs.Ordering.{nat_cmp}
 use Rattle.std.specs.FinMap.{FinMap}
 use Rattle.rpm_header.specs.declared.form.HeaderFault.{HeaderFault}
@@ -22,7 +22,7 @@ use Rattle.rpm_select.specs.declared.selection.Selection.{Selection}
 use Rattle.rpm_select.specs.declared.selection.Selection.TheVariants as question
 use Rattle.rpm_select.specs.Selections.{picks}
 use Rattle.rpm_change.specs.Steps.{Bearer, bearer, whole, Step, ToOut, ToErr, Course, idle}
-use Rattle.rpm_tool.specs.Steps.{Portion, nothing, fails, told, before, in_turn}
+use Rattle.rpm_tool.specs.Steps.{Portion, nothing, fails, told, before, in_turn, numbers, RisesFrom}
 
 -- ---- a package
 
@@ -86,6 +86,10 @@ question_of by.Recommends x = capability_in question.Recommends (capability x.no
 abbrev pub is_question : Chosen → List ℕ → Bool
 is_question chosen text = is_some (question_of chosen (lent text))
 
+-- each argument is one
+abbrev pub AreQuestions : List (List ℕ) → AskParts → Type 0
+AreQuestions words a = AllByRecursion (λ w. is_question a.chosen (text_at words w) ≡ true) a.arguments
+
 abbrev pub picked_by : FinMap nat_cmp Package → Option Selection → List (ℕ × Package)
 picked_by packages None = []
 picked_by packages (Some sel) = picks packages sel
@@ -135,3 +139,10 @@ query_of tree packages chosen after (x ∷ xs) = in_turn (argument_part tree pac
 -- by the words
 abbrev pub query : Tree → FinMap nat_cmp Package → List (List ℕ) → AskParts → Course
 query tree packages words a = query_of tree packages a.chosen a.after (map (text_at words) a.arguments)
+
+-- ---- whom steps are for
+
+-- these packages above a number, each once and rising
+abbrev pub AreOfEach : ℕ → List (ℕ × Package) → List Step → Type 0
+AreOfEach after packages steps =
+    (numbers steps ≡ map (λ e. e.0) (above after packages)) × RisesFrom after (map (λ e. e.0) (above after packages))

@@ -2,24 +2,21 @@
 -- of it or a field of one, and each field says one thing. `run` requires nothing. What a disk or a shelf holds
 -- is said only where its kind tells it (`tells`). A database is lawful that isn't damaged, and whose index,
 -- where it is of this generation, holds the rows of the packages.
-use Rattle.std.specs.Prelude.{◌≡◌, ◌≢◌, ℕ, ◌+◌, ◌≤◌, List, map, true, false, IsTrue, Option, Some, None, Err, Ok}
-use Rattle.std.specs.List.{AllByRecursion}
+use Rattle.std.specs.Prelude.{◌≡◌, ◌≢◌, ℕ, ◌+◌, ◌≤◌, List, [], true, false, IsTrue, Option, Some, None, Err, Ok}
 use Rattle.std.specs.Ordering.{nat_cmp}
 use Rattle.std.specs.FinMap.{FinMap}
 use Rattle.rpm_outside.specs.declared.disk.Disk as disk
 use Rattle.rpm_outside.specs.declared.shelf.Shelf as shelf
 use Rattle.rpm_outside.specs.declared.sink.Sink as sink
 use Rattle.rpm_outside.specs.Causes.{HasCauseAt}
-use Rattle.rpm_outside.specs.Crash.{LeavesOnly}
 use Rattle.rpm_outside.specs.Logs.{reopened}
 use Rattle.rpm_outside.specs.Shelves.{Paths}
-use Rattle.rpm_db.specs.State.{State, Package, above}
+use Rattle.rpm_db.specs.State.{State, Package}
+use Rattle.rpm_select.specs.Selections.{picks}
+use Rattle.rpm_select.specs.declared.selection.Selection.TheVariants as question
 use Rattle.rpm_words.specs.declared.fault.WordsFault.{WordsFault}
 use Rattle.rpm_words.specs.declared.fault.WordsKind.TheVariants as kind
 use Rattle.rpm_words.specs.declared.switch.Chosen.{Chosen}
-use Rattle.rpm_words.specs.declared.switch.Chosen.TheVariants as by
-use Rattle.rpm_words.specs.declared.ask.Mode.TheVariants as mode
-use Rattle.rpm_words.specs.Words.{text_at}
 use Rattle.rpm_words.specs.Ask.{AskParts, ask}
 use Rattle.rpm_qfparse.specs.declared.fault.FormatFault.{FormatFault}
 use Rattle.rpm_qfparse.specs.declared.fault.FormatKind.TheVariants as wrong
@@ -28,15 +25,14 @@ use Rattle.rpm_change.specs.Endings.{Outputs}
 use Rattle.rpm_change.specs.Steps.{Course}
 use Rattle.rpm_tool.specs.declared.answer.Why.{Why}
 use Rattle.rpm_tool.specs.declared.answer.Why.TheVariants as why
-use Rattle.rpm_tool.specs.Answers.{ComesWhere, Queried, Anywhere, Went, AtMost, query_cost}
+use Rattle.rpm_tool.specs.Answers.{ComesWhere, Queried, Anywhere, Went, AtMost, is_foreign, query_cost}
 use Rattle.rpm_tool.specs.Asked.{is_query, of_files, by_key, is_changing, asks_change, asks_format, asks}
 use Rattle.rpm_tool.specs.Changing.{DidOn, ChangesWith, EmptyBy}
-use Rattle.rpm_tool.specs.Frame.{images, pkg_read, Leaves}
+use Rattle.rpm_tool.specs.Frame.{images, pkg_read, Leaves, LeavesIn}
 use Rattle.rpm_tool.specs.Keyed.{AreLawfulGroups, IsLawfulGroup, StandsStill, IsReady, KeyedIs, FullIs, BadIs, HasRoom, is_done, is_done_or_outside, keyed_cost}
-use Rattle.rpm_tool.specs.Limits.{LimitsBy, LogOn}
+use Rattle.rpm_tool.specs.Limits.{LimitsBy, LogOn, FaultIs}
 use Rattle.rpm_tool.specs.PackageFiles.{passing, query_files}
-use Rattle.rpm_tool.specs.Queries.{is_question, picked, argument_part}
-use Rattle.rpm_tool.specs.Steps.{numbers, RisesFrom}
+use Rattle.rpm_tool.specs.Queries.{picked, argument_part, query_of, AreOfEach, AreQuestions}
 use Rattle.rpm_tool.specs.Tasks.{asked_task, asked_course, reads_shelf, is_anew, changes_index, needs_none}
 
 -- One run: its words and its moment, how it ended, what it found and left, what out and err had taken before.
@@ -83,6 +79,7 @@ module _ {D S : Type 0} {d : disk.Ghosts D} {s : shelf.Ghosts S} where
         (pkg_read d r.found) (pkg_read d r.left)
     pub reads : is_query a.mode ≡ true → IsLawfulGroup (d.files r.found)
         → pkg_read d r.left ≤ pkg_read d r.found + keyed_cost (reopened (d.files r.found)) r.words a
+    pub kind : is_foreign r.why ≡ false
     pub full : FullIs (reopened (d.files r.found)) r.why
     pub bad : BadIs r.words a (reopened (d.files r.found)) r.why
     pub complete : IsLawfulGroup (d.files r.found) → HasRoom (reopened (d.files r.found))
@@ -90,7 +87,7 @@ module _ {D S : Type 0} {d : disk.Ghosts D} {s : shelf.Ghosts S} where
     pub index : IsLawfulGroup (d.files r.found) → is_done r.why ≡ true → IsReady (d.files r.left)
     pub packages : (reopened (d.files r.left)).pkg ≡ (reopened (d.files r.found)).pkg
     pub stops : AreLawfulGroups (images d r.found)
-        → LeavesOnly d.moment d.left_since r.found r.left (StandsStill (images d r.found))
+        → LeavesIn d r.found r.left (StandsStill (images d r.found))
 
   -- 5. CHANGES of a command are one group: all are made and counted, or none; each ending leaves `ChangesWith`.
   pub record AnswersChange (r : Run d s) (a : AskParts) (course : State → Course)
@@ -100,6 +97,8 @@ module _ {D S : Type 0} {d : disk.Ghosts D} {s : shelf.Ghosts S} where
         d.left_since d.moment course r.why r.changes r.found r.left
     pub limits : LimitsBy (is_anew (asked_task r.words a)) (IsLawfulGroup (d.files r.found)) course
         (reopened (d.files r.found)) r.why
+    pub fault : FaultIs (is_anew (asked_task r.words a)) d.files d.left_since d.moment course r.why
+        r.found r.left r.before mid
     pub log : LogOn course (reopened (d.files r.found)) r.why
 
   -- What is done for a command that was read, by its kind.
@@ -141,10 +140,11 @@ pub record Laws (words : List (List ℕ)) : Type 0 where
       → query_files tree paths words (passing n a) ≡ query_files tree paths words a
   -- an argument's packages are those that it picks above `--after`, each once and rising
   pub numbers : (tree : Tree) (packages : FinMap nat_cmp Package) (chosen : Chosen) (after j : ℕ)
-      (text : List ℕ)
-      → (numbers (argument_part tree packages chosen after j text).steps
-      ≡ map (λ e. e.0) (above after (picked packages chosen text)))
-      × RisesFrom after (map (λ e. e.0) (above after (picked packages chosen text)))
+      (text : List ℕ) → AreOfEach after (picked packages chosen text)
+      (argument_part tree packages chosen after j text).steps
+  -- and those of a query without arguments all above it
+  pub all_numbers : (tree : Tree) (packages : FinMap nat_cmp Package) (chosen : Chosen) (after : ℕ)
+      → AreOfEach after (picks packages question.All) (query_of tree packages chosen after []).steps
   -- no argument of a query goes unasked
-  pub questions : (a : AskParts) → ask words ≡ Ok a → a.mode ≡ mode.Query → a.chosen ≢ by.Package
-      → AllByRecursion (λ w. is_question a.chosen (text_at words w) ≡ true) a.arguments
+  pub questions : (a : AskParts) → ask words ≡ Ok a → is_query a.mode ≡ true → of_files a ≡ false
+      → AreQuestions words a

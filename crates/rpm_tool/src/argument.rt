@@ -1,7 +1,7 @@
 //! One argument of a query.
 
 ghost use Rattle.std.specs.Prelude.{◌≡◌, ◌≢◌, ◌+◌, ◌≤◌, ℕ, [], false, IsTrue, Err, IfOk, IfErr};
-ghost use Rattle.rpm_outside.specs.Buffered.{holds, HandsOn};
+ghost use Rattle.rpm_outside.specs.Buffered.{holds};
 ghost use Rattle.rpm_outside.specs.declared.disk.File.TheVariants.{Pkg};
 ghost use Rattle.rpm_db.specs.State.{above};
 ghost use Rattle.rpm_db.specs.Database as database;
@@ -11,7 +11,7 @@ ghost use Rattle.rpm_select.specs.Reach.{Serves, reach_to, reach_all};
 ghost use Rattle.rpm_tool.specs.Queries.{lent, question_of, answered, argument_part};
 ghost use Rattle.rpm_tool.specs.Reads.{ReadsOf, argument_reach, IsOfChain};
 ghost use Rattle.rpm_tool.specs.Answers.{PartIs, is_some_of, is_of_sink};
-ghost use Rattle.rpm_tool.specs.Frame.{Looks, Peeks, shown, DiskFault, SinkFault, Kept, KeptIndex, HasRows, packages_in, pkg_read};
+ghost use Rattle.rpm_tool.specs.Frame.{Looks, Peeks, shown, DiskFault, Kept, KeptIndex, HasRows, packages_in, pkg_read, Hands};
 
 use crate::missing::put_missing_part;
 use crate::picked::{print_above, stop_of};
@@ -110,8 +110,6 @@ fn answer_question<D: Disk, O: Sink + Drop, E: Sink + Drop>(
     out: &mut Buffered<O>,
     err: &mut Buffered<E>,
 ) -> Result<bool, Stop>
-    requires out_empty { holds out.old ≡ [] }
-    requires err_empty { holds err.old ≡ [] }
     requires keeps { Kept D.Disk disk.old db.now }
     requires runs { db.now.stopped ≡ false }
     requires from_one { database.holds 0 db.now ≡ false }
@@ -123,10 +121,7 @@ fn answer_question<D: Disk, O: Sink + Drop, E: Sink + Drop>(
     ensures looks { Looks D.Disk Pkg (cost_all db.now) disk.old disk.new }
     ensures disk { DiskFault D.Disk (result ≡ Err Stop.ReadFault) disk.old disk.new }
     ensures unbroken { (unit : ℕ) → result ≢ Err (Stop.BadIndex unit) }
-    ensures out { SinkFault O.Sink (result ≡ Err Stop.OutFault) out.old out.new }
-    ensures err { SinkFault E.Sink (result ≡ Err Stop.ErrFault) err.old err.new }
-    ensures out_rest { HandsOn O.follows out.old out.new }
-    ensures err_rest { HandsOn E.follows err.old err.new }
+    ensures hands { Hands O.Sink E.Sink (result ≡ Err Stop.OutFault) (result ≡ Err Stop.ErrFault) out.old err.old out.new err.new }
 {
     let way = Way::Format(format);
     let printed = match print_above(alloc, picker, db, disk, selection, after, &way, out, err) {
@@ -157,8 +152,6 @@ pub fn answer<D: Disk, O: Sink + Drop, E: Sink + Drop>(
     out: &mut Buffered<O>,
     err: &mut Buffered<E>,
 ) -> Result<bool, Stop>
-    requires out_empty { holds out.old ≡ [] }
-    requires err_empty { holds err.old ≡ [] }
     requires keeps { Kept D.Disk disk.old db.now }
     requires keeps_index { KeptIndex D.Disk disk.old db.now }
     requires runs { db.now.stopped ≡ false }
@@ -173,10 +166,7 @@ pub fn answer<D: Disk, O: Sink + Drop, E: Sink + Drop>(
     ensures bad_index { IsTrue D.tells → IfErr result (IsOfChain (question_of chosen (lent text.now)) (D.files disk.old).idx) }
     ensures looks { Peeks D.Disk (is_indexed db.now) disk.old disk.new }
     ensures disk { DiskFault D.Disk (result ≡ Err Stop.ReadFault) disk.old disk.new }
-    ensures out { SinkFault O.Sink (result ≡ Err Stop.OutFault) out.old out.new }
-    ensures err { SinkFault E.Sink (result ≡ Err Stop.ErrFault) err.old err.new }
-    ensures out_rest { HandsOn O.follows out.old out.new }
-    ensures err_rest { HandsOn E.follows err.old err.new }
+    ensures hands { Hands O.Sink E.Sink (result ≡ Err Stop.OutFault) (result ≡ Err Stop.ErrFault) out.old err.old out.new err.new }
 {
     match question_of(chosen, text) {
         Some(selection) => match Picker::new(alloc, db, disk, &selection) {

@@ -1,7 +1,7 @@
 //! Commands that change packages: all changes of a command line are one.
 
 ghost use Rattle.std.specs.Prelude.{◌≡◌, ◌≢◌, ◌⊎◌, ℕ, ◌^◌, ◌<◌, ◌≤◌, List, [], length, Bool, true, false, not, IsTrue, Ok, Err, IfOk, IfErr, OnOk};
-ghost use Rattle.rpm_outside.specs.Buffered.{inner, holds, HandsOn};
+ghost use Rattle.rpm_outside.specs.Buffered.{inner, holds};
 ghost use Rattle.rpm_outside.specs.Causes.{HasCauseAt, Rose};
 ghost use Rattle.rpm_outside.specs.Changes.{AreSettled, IsSettled};
 ghost use Rattle.rpm_outside.specs.Logs.{Closed, log_state, reopened, unlogged};
@@ -24,15 +24,15 @@ ghost use Rattle.rpm_tool.specs.Tasks.{task_parts, task_course, asked_task, read
 ghost use Rattle.rpm_tool.specs.Limits.{LimitsBy, begun, LogIs};
 ghost use Rattle.rpm_tool.specs.Working.{OpensBy, IsOutside, IsOfOpening, Worked, WorkedWith, CommittedAs, EndsGroup, is_halt, is_of_commit, is_of_streams, done_why, why_of, why_of_open, why_of_halt};
 ghost use Rattle.rpm_tool.specs.inner.OneChange.{OneChange};
-ghost use Rattle.rpm_tool.specs.Frame.{Runs, shown, DiskFault, SinkFault, ShelfFault, images, Serving, Indexed, state_in};
+ghost use Rattle.rpm_tool.specs.Frame.{Runs, shown, DiskFault, ShelfFault, images, Serving, Indexed, state_in, Hands};
+ghost use Rattle.rpm_change.specs.Hands.{Hand};
 
 use crate::answer::Why;
-use crate::courses::{add_on, exercise_on, import_on, rebuild_on, replace_on};
+use crate::courses::{add_on, erase_on, exercise_on, import_on, make_on, rebuild_on, replace_on};
 use crate::keyed::why_of_recover;
 use crate::loaded::{unless_starved, why_of_load};
 use crate::task::{Task, task_of};
-use rpm_change::{Halt, Tally, erase_numbers};
-use rpm_db::{ChangeFault, Db, DbOpenFault};
+use rpm_change::Tally;
 use rpm_group::{CommitFault, Overlay, recover};
 use rpm_outside::{Buffered, Disk, File, Shelf, Sink};
 use rpm_words::{Ask, Words};
@@ -43,36 +43,6 @@ use std::alloc::{AllocError, Global};
 pub struct CommandEnding {
     pub why: Why,
     pub changes: u32,
-}
-
-/// The ending of a command whose database isn't opened.
-fn why_of_open(fault: DbOpenFault) -> Why
-    ensures { result ≡ why_of_open fault }
-{
-    match fault {
-        DbOpenFault::Damaged(damage) => Why::Damaged(damage),
-        DbOpenFault::IndexFull { needed } => Why::IndexFull { needed },
-        DbOpenFault::DiskFault => Why::DiskFault,
-        DbOpenFault::NoMemory => Why::NoMemory,
-    }
-}
-
-/// The ending of a command that was stopped.
-pub(crate) fn why_of_halt(halt: Halt) -> Why
-    ensures { result ≡ why_of_halt halt }
-{
-    match halt {
-        Halt::NumbersSpent => Why::NumbersSpent,
-        Halt::GenerationSpent => Why::GenerationSpent,
-        Halt::StoreFull => Why::StoreFull,
-        Halt::IndexFull { needed } => Why::IndexFull { needed },
-        Halt::BadIndex { unit } => Why::BadIndex { unit },
-        Halt::DiskFault => Why::DiskFault,
-        Halt::ShelfFault => Why::ShelfFault,
-        Halt::OutFault => Why::OutFault,
-        Halt::ErrFault => Why::ErrFault,
-        Halt::NoMemory => Why::NoMemory,
-    }
 }
 
 /// The ending of a command that was done.
@@ -87,111 +57,6 @@ fn done_why(failed: u32) -> Why
     }
 }
 
-/// Makes a database where there is none, without packages.
-fn make_blank<D: Disk>(alloc: Global, db: &mut Db, disk: &mut D) -> Result<(), Why>
-    requires going { db.old.stopped ≡ false }
-    requires indexed { is_indexed db.old ≡ not (is_blank db.old) }
-    requires serving { Serving D.Disk disk.old db.old }
-    requires pkg { IsTrue D.tells → IsSettled File.Pkg (D.files disk.old) (images D.Disk disk.old) }
-    ensures indexed { OnOk result (is_indexed db.new ≡ true) }
-    ensures going { OnOk result (db.new.stopped ≡ false) }
-    ensures serving { OnOk result (Serving D.Disk disk.new db.new) }
-    ensures state { OnOk result (IsTrue D.tells → state_in D.Disk disk.new db.new ≡ state_in D.Disk disk.old db.old) }
-    ensures begun { OnOk result (db.new.store ≡ begun db.old.store) }
-    ensures not_blank { OnOk result (is_blank db.new ≡ false) }
-    ensures rows { OnOk result (IsTrue D.tells → (is_blank db.old ≡ false → Indexed D.Disk disk.old db.old) → Indexed D.Disk disk.new db.new) }
-    ensures whole { OnOk result (IsTrue D.tells → (is_blank db.old ≡ false → IsWholeIndex (D.files disk.old).idx) → IsWholeIndex (D.files disk.new).idx) }
-    ensures fault { IfErr result IsOutside }
-    ensures runs { Runs D.Disk SameLog disk.old disk.new }
-    ensures disk { DiskFault D.Disk (result ≡ Err Why.DiskFault) disk.old disk.new }
-{
-    match db.init(alloc, disk) {
-        Ok(true) => Ok(()),
-        Ok(false) => Ok(()),
-        Err(ChangeFault::DiskFault) => Err(Why::DiskFault),
-        Err(_) => Err(Why::NoMemory),
-    }
-}
-
-/// Opens the database with its index, to change it; where there is none, one is made.
-pub(crate) fn open_to_change<D: Disk>(alloc: Global, disk: &mut D) -> Result<Db, Why>
-    ensures opened { IsTrue D.tells → OpensBy (D.files disk.old) (store (D.files disk.old).pkg) (D.files disk.new) result }
-    ensures indexed { IfOk result (λ db. is_indexed db ≡ true) }
-    ensures going { IfOk result (λ db. db.stopped ≡ false) }
-    ensures from_one { IfOk result (λ db. IsTrue D.tells → database.holds 0 db ≡ false) }
-    ensures serving { IfOk result (λ db. Serving D.Disk disk.new db) }
-    ensures rows { IfOk result (λ db. IsTrue D.tells → IsLawful (D.files disk.old).pkg (D.files disk.old).idx → Indexed D.Disk disk.new db) }
-    ensures broken { IfOk result (λ _db. IsTrue D.tells → ¬ IsWholeIndex (D.files disk.new).idx → IsBroken (D.files disk.old).pkg (D.files disk.old).idx) }
-    ensures begun { IfOk result (λ db. IsTrue D.tells → IfOk (store (D.files disk.old).pkg) (λ value. db.store ≡ begun value)) }
-    ensures not_blank { IfOk result (λ db. is_blank db ≡ false) }
-    ensures fault { IfErr result IsOfOpening }
-    ensures runs { Runs D.Disk SameLog disk.old disk.new }
-    ensures disk { DiskFault D.Disk (result ≡ Err Why.DiskFault) disk.old disk.new }
-{
-    let mut db = match Db::open(alloc, disk) {
-        Ok(db) => db,
-        Err(fault) => return Err(why_of_open(fault)),
-    };
-    match make_blank(alloc, &mut db, disk) {
-        Ok(()) => Ok(db),
-        Err(why) => Err(why),
-    }
-}
-
-/// Opens the database, and makes one where there is none.
-fn make_on<D: Disk>(alloc: Global, disk: &mut D) -> Result<Tally, Why>
-    ensures worked { IsTrue D.tells → (out_tells err_tells : Bool) (out err : List ℕ)
-        → WorkedWith false false (λ s. idle) (D.files disk.old) (D.files disk.new) result
-        (outputs out_tells out err_tells err) (outputs out_tells out err_tells err) }
-    ensures limits { IsTrue D.tells → LimitsBy false (IsLawful (D.files disk.old).pkg (D.files disk.old).idx) (λ s. idle) (D.files disk.old) (why_of result) }
-    ensures runs { Runs D.Disk SameLog disk.old disk.new }
-    ensures halted { IfErr result (λ given. is_halt given ≡ true) }
-    ensures held { IfErr result (λ given. is_held given ≡ false) }
-    ensures streams { IfErr result (λ given. is_of_streams given ≡ false) }
-    ensures disk { DiskFault D.Disk (result ≡ Err Why.DiskFault) disk.old disk.new }
-{
-    let _db = match open_to_change(alloc, disk) {
-        Ok(db) => db,
-        Err(why) => return Err(why),
-    };
-    Ok(Tally {
-        failed: 0,
-        changes: 0,
-    })
-}
-
-/// Opens the database and erases packages.
-fn erase_on<D: Disk, E: Sink + Drop>(
-    alloc: Global,
-    disk: &mut D,
-    numbers: &[u32],
-    err: &mut Buffered<E>,
-) -> Result<Tally, Why>
-    requires few { length numbers.now < 2 ^ 32 }
-    requires err_empty { holds err.old ≡ [] }
-    ensures worked { IsTrue D.tells → (out_tells : Bool) (out : List ℕ)
-        → Worked (λ s. erasing.erase s numbers.now) (D.files disk.old) (D.files disk.new) result
-        (outputs out_tells out E.tells (E.taken (inner err.old))) (outputs out_tells out E.tells (E.taken (inner err.new))) }
-    ensures limits { IsTrue D.tells → LimitsBy false (IsLawful (D.files disk.old).pkg (D.files disk.old).idx) (λ s. erasing.erase s numbers.now) (D.files disk.old) (why_of result) }
-    ensures runs { Runs D.Disk SameLog disk.old disk.new }
-    ensures halted { IfErr result (λ given. is_halt given ≡ true) }
-    ensures held { IfErr result (λ given. is_held given ≡ false) }
-    ensures shelf { result ≢ Err Why.ShelfFault }
-    ensures out { result ≢ Err Why.OutFault }
-    ensures disk { DiskFault D.Disk (result ≡ Err Why.DiskFault) disk.old disk.new }
-    ensures err { SinkFault E.Sink (result ≡ Err Why.ErrFault) err.old err.new }
-    ensures err_rest { HandsOn E.follows err.old err.new }
-{
-    let mut db = match open_to_change(alloc, disk) {
-        Ok(db) => db,
-        Err(why) => return Err(why),
-    };
-    match erase_numbers(alloc, &mut db, disk, numbers, err) {
-        Ok(tally) => Ok(tally),
-        Err(halt) => Err(why_of_halt(halt)),
-    }
-}
-
 /// Opens the database and makes the changes of a command.
 fn change_on<D: Disk, S: Shelf, O: Sink + Drop, E: Sink + Drop>(
     alloc: Global,
@@ -203,8 +68,6 @@ fn change_on<D: Disk, S: Shelf, O: Sink + Drop, E: Sink + Drop>(
     err: &mut Buffered<E>,
 ) -> Result<Tally, Why>
     requires countable { IsCountable (task_parts task.now) }
-    requires out_empty { holds out.old ≡ [] }
-    requires err_empty { holds err.old ≡ [] }
     ensures worked { IsTrue D.tells → (reads_shelf (task_parts task.now) ≡ true → IsTrue S.tells) → WorkedWith (is_anew (task_parts task.now)) (changes_index
         (task_parts task.now)) (task_course (S.paths shelf.old) now (task_parts task.now)) (D.files disk.old) (D.files disk.new) result (shown O.Sink E.Sink
         out.old err.old) (shown O.Sink E.Sink out.new err.new) }
@@ -218,10 +81,7 @@ fn change_on<D: Disk, S: Shelf, O: Sink + Drop, E: Sink + Drop>(
     ensures paths { IsTrue S.tells → S.paths shelf.new ≡ S.paths shelf.old }
     ensures disk { DiskFault D.Disk (result ≡ Err Why.DiskFault) disk.old disk.new }
     ensures shelf { ShelfFault S.Shelf (result ≡ Err Why.ShelfFault) shelf.old shelf.new }
-    ensures out { SinkFault O.Sink (result ≡ Err Why.OutFault) out.old out.new }
-    ensures err { SinkFault E.Sink (result ≡ Err Why.ErrFault) err.old err.new }
-    ensures out_rest { HandsOn O.follows out.old out.new }
-    ensures err_rest { HandsOn E.follows err.old err.new }
+    ensures hands { Hands O.Sink E.Sink (result ≡ Err Why.OutFault) (result ≡ Err Why.ErrFault) out.old err.old out.new err.new }
 {
     match task {
         Task::Make => make_on(alloc, disk),
@@ -311,8 +171,6 @@ fn change_recovered<D: Disk, S: Shelf, O: Sink + Drop, E: Sink + Drop>(
     err: &mut Buffered<E>,
 ) -> (CommandEnding, D)
     requires countable { IsCountable (task_parts task.now) }
-    requires out_empty { holds out.old ≡ [] }
-    requires err_empty { holds err.old ≡ [] }
     requires settled { IsTrue D.tells → AreSettled (D.files disk) (images D.Disk disk) }
     requires closed { IsTrue D.tells → log_state (D.files disk).log ≡ Closed }
     ensures one { IsTrue D.tells → (reads_shelf (task_parts task.now) ≡ true → IsTrue S.tells) → OneChange D.files D.left_since D.moment (S.paths shelf.old)
@@ -325,10 +183,7 @@ fn change_recovered<D: Disk, S: Shelf, O: Sink + Drop, E: Sink + Drop>(
     ensures goes_on { D.follows disk result.1 }
     ensures disk { DiskFault D.Disk (result.0.why ≡ Why.DiskFault) disk result.1 }
     ensures shelf { ShelfFault S.Shelf (result.0.why ≡ Why.ShelfFault) shelf.old shelf.new }
-    ensures out { SinkFault O.Sink (result.0.why ≡ Why.OutFault) out.old out.new }
-    ensures err { SinkFault E.Sink (result.0.why ≡ Why.ErrFault) err.old err.new }
-    ensures out_rest { HandsOn O.follows out.old out.new }
-    ensures err_rest { HandsOn E.follows err.old err.new }
+    ensures hands { Hands O.Sink E.Sink (result.0.why ≡ Why.OutFault) (result.0.why ≡ Why.ErrFault) out.old err.old out.new err.new }
 {
     match Overlay::load(alloc, disk) {
         Ok(overlay) => {
@@ -370,8 +225,6 @@ fn change<D: Disk, S: Shelf, O: Sink + Drop, E: Sink + Drop>(
     err: &mut Buffered<E>,
 ) -> (CommandEnding, D)
     requires countable { IsCountable (task_parts task.now) }
-    requires out_empty { holds out.old ≡ [] }
-    requires err_empty { holds err.old ≡ [] }
     ensures one { IsTrue D.tells → (reads_shelf (task_parts task.now) ≡ true → IsTrue S.tells) → OneChange D.files D.left_since D.moment (S.paths shelf.old)
         now (task_parts task.now) result.0.why result.0.changes disk result.1 (shown O.Sink E.Sink out.old err.old) (shown O.Sink E.Sink out.new err.new) }
     ensures empty { IsTrue D.tells → EmptyBy (needs_none (task_parts task.now)) (reopened (D.files disk)) result.0.why }
@@ -382,10 +235,7 @@ fn change<D: Disk, S: Shelf, O: Sink + Drop, E: Sink + Drop>(
     ensures goes_on { D.follows disk result.1 }
     ensures disk { DiskFault D.Disk (result.0.why ≡ Why.DiskFault) disk result.1 }
     ensures shelf { ShelfFault S.Shelf (result.0.why ≡ Why.ShelfFault) shelf.old shelf.new }
-    ensures out { SinkFault O.Sink (result.0.why ≡ Why.OutFault) out.old out.new }
-    ensures err { SinkFault E.Sink (result.0.why ≡ Why.ErrFault) err.old err.new }
-    ensures out_rest { HandsOn O.follows out.old out.new }
-    ensures err_rest { HandsOn E.follows err.old err.new }
+    ensures hands { Hands O.Sink E.Sink (result.0.why ≡ Why.OutFault) (result.0.why ≡ Why.ErrFault) out.old err.old out.new err.new }
 {
     let mut disk = disk;
     match recover(&mut disk) {
@@ -406,8 +256,6 @@ pub fn change_asked<D: Disk, S: Shelf, O: Sink + Drop, E: Sink + Drop>(
     now: u32,
 ) -> (CommandEnding, D)
     requires sound { IsSound words.now ask.now }
-    requires out_empty { holds out.old ≡ [] }
-    requires err_empty { holds err.old ≡ [] }
     ensures one { IsTrue D.tells → (reads_shelf (asked_task words.now ask.now) ≡ true → IsTrue S.tells) → OneChange D.files D.left_since D.moment (S.paths
         shelf.old) now (asked_task words.now ask.now) result.0.why result.0.changes disk result.1 (shown O.Sink E.Sink out.old err.old) (shown O.Sink E.Sink
         out.new err.new) }
@@ -419,10 +267,7 @@ pub fn change_asked<D: Disk, S: Shelf, O: Sink + Drop, E: Sink + Drop>(
     ensures goes_on { D.follows disk result.1 }
     ensures disk { DiskFault D.Disk (result.0.why ≡ Why.DiskFault) disk result.1 }
     ensures shelf { ShelfFault S.Shelf (result.0.why ≡ Why.ShelfFault) shelf.old shelf.new }
-    ensures out { SinkFault O.Sink (result.0.why ≡ Why.OutFault) out.old out.new }
-    ensures err { SinkFault E.Sink (result.0.why ≡ Why.ErrFault) err.old err.new }
-    ensures out_rest { HandsOn O.follows out.old out.new }
-    ensures err_rest { HandsOn E.follows err.old err.new }
+    ensures hands { Hands O.Sink E.Sink (result.0.why ≡ Why.OutFault) (result.0.why ≡ Why.ErrFault) out.old err.old out.new err.new }
 {
     match task_of(alloc, words, ask) {
         Ok(task) => change(alloc, disk, shelf, &task, now, out, err),

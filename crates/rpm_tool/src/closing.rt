@@ -185,14 +185,22 @@ fn put_line<E: Sink>(err: &mut E, words: &Words, why: Why) -> Result<(), Failed>
 }
 
 /// Writes that line, and gives the sink behind the buffer all of it.
-pub fn put_closing<E: Sink + Drop>(
-    err: &mut Buffered<E>,
-    words: &Words,
-    why: Why,
-) -> Result<(), Failed>
+fn put_flushed<E: Sink + Drop>(err: &mut Buffered<E>, words: &Words, why: Why) -> Result<(), Failed>
     requires { holds err.old ≡ [] }
     ensures { Writes E.tells E.taken E.faults E.follows (inner err.old) (inner err.new) (closing words.now why) result }
 {
     put_line(err, words, why)?;
     err.flush()
+}
+
+/// Writes it so. What the buffer held is let go.
+pub fn put_closing<E: Sink + Drop>(
+    err: &mut Buffered<E>,
+    words: &Words,
+    why: Why,
+) -> Result<(), Failed>
+    ensures { Writes E.tells E.taken E.faults E.follows (inner err.old) (inner err.new) (closing words.now why) result }
+{
+    err.clear();
+    put_flushed(err, words, why)
 }

@@ -1,7 +1,6 @@
 //! The top call: a command line does what its command's steps say.
 
 ghost use Rattle.std.specs.Prelude.{◌≡◌, ◌≢◌, ◌+◌, ◌≤◌, [], false, IsTrue, None};
-ghost use Rattle.rpm_outside.specs.Buffered.{holds};
 ghost use Rattle.rpm_words.specs.declared.switch.Chosen.TheVariants as by;
 ghost use Rattle.rpm_words.specs.declared.ask.Mode.TheVariants as mode;
 ghost use Rattle.rpm_words.specs.Ask.{ask, IsSound};
@@ -39,8 +38,6 @@ fn begin<D: Disk, S: Shelf, O: Sink + Drop, E: Sink + Drop>(
     now: u32,
 ) -> (CommandEnding, D)
     requires sound { IsSound words.now ask.now }
-    requires out_empty { holds out.old ≡ [] }
-    requires err_empty { holds err.old ≡ [] }
     ensures does { Does (ran D.Disk S.Shelf words.now now result.0.why result.0.changes (disk, shelf.old) (shown O.Sink E.Sink out.old err.old)
         (result.1, shelf.new)) ask.now format.now (shown O.Sink E.Sink out.new err.new) }
     ensures done { is_of_words result.0.why ≡ false }
@@ -76,8 +73,6 @@ fn command<D: Disk, S: Shelf, O: Sink + Drop, E: Sink + Drop>(
     err: &mut Buffered<E>,
     now: u32,
 ) -> (CommandEnding, D)
-    requires out_empty { holds out.old ≡ [] }
-    requires err_empty { holds err.old ≡ [] }
     ensures words { AnswersWords words.now result.0.why }
     ensures unread { asks words.now ≡ None → (result.1 ≡ disk) × (shelf.new ≡ shelf.old) × (out.new ≡ out.old) × (err.new ≡ err.old) }
     ensures answers { Answers (ran D.Disk S.Shelf words.now now result.0.why result.0.changes (disk, shelf.old)

@@ -1,26 +1,69 @@
 //! What each command does on the disk over which its changes are held: it opens the database, and changes it.
 
 ghost use Rattle.std.specs.Prelude.{◌≡◌, ◌≢◌, ℕ, ◌^◌, ◌<◌, ◌≤◌, Bool, List, [], codes, length, map, true, false, IsTrue, Err, IfErr};
-ghost use Rattle.rpm_outside.specs.Buffered.{inner, holds, HandsOn};
+ghost use Rattle.rpm_outside.specs.Buffered.{inner};
 ghost use Rattle.rpm_outside.specs.Shelves.{bytes_at};
 ghost use Rattle.rpm_db.specs.inner.Writes.{SameLog};
 ghost use Rattle.rpm_change.specs.Adding as adding;
 ghost use Rattle.rpm_change.specs.Endings.{outputs};
+ghost use Rattle.rpm_change.specs.Erasing as erasing;
 ghost use Rattle.rpm_change.specs.Importing as importing;
 ghost use Rattle.rpm_change.specs.Rebuilding as rebuilding;
+ghost use Rattle.rpm_change.specs.Steps.{idle};
 ghost use Rattle.rpm_exercise.specs.Exercised as exercised;
 ghost use Rattle.rpm_tool.specs.Changing.{EmptyOn, is_held};
 ghost use Rattle.rpm_db.specs.Lawful.{IsLawful};
 ghost use Rattle.rpm_tool.specs.Limits.{LimitsBy};
-ghost use Rattle.rpm_tool.specs.Working.{Worked, WorkedWith, is_halt, why_of, why_of_exercise};
-ghost use Rattle.rpm_tool.specs.Frame.{Runs, DiskFault, SinkFault, ShelfFault};
+ghost use Rattle.rpm_tool.specs.Working.{Worked, WorkedWith, is_halt, is_of_streams, why_of, why_of_exercise, why_of_halt};
+ghost use Rattle.rpm_tool.specs.Frame.{Runs, DiskFault, ShelfFault};
+ghost use Rattle.rpm_change.specs.Hands.{Hand};
 
 use crate::answer::Why;
-use crate::changing::{open_to_change, why_of_halt};
-use rpm_change::{Halt, Tally, add_files, import_list, rebuild, replace_package};
+use crate::opening::open_to_change;
+use rpm_change::{Halt, Tally, add_files, erase_numbers, import_list, rebuild, replace_package};
 use rpm_exercise::{ExerciseFault, exercise};
 use rpm_outside::{Buffered, Disk, Shelf, Sink};
 use std::alloc::Global;
+
+/// The ending of a command that was stopped.
+fn why_of_halt(halt: Halt) -> Why
+    ensures { result ≡ why_of_halt halt }
+{
+    match halt {
+        Halt::NumbersSpent => Why::NumbersSpent,
+        Halt::GenerationSpent => Why::GenerationSpent,
+        Halt::StoreFull => Why::StoreFull,
+        Halt::IndexFull { needed } => Why::IndexFull { needed },
+        Halt::BadIndex { unit } => Why::BadIndex { unit },
+        Halt::DiskFault => Why::DiskFault,
+        Halt::ShelfFault => Why::ShelfFault,
+        Halt::OutFault => Why::OutFault,
+        Halt::ErrFault => Why::ErrFault,
+        Halt::NoMemory => Why::NoMemory,
+    }
+}
+
+/// Opens the database, and makes one where there is none.
+pub(crate) fn make_on<D: Disk>(alloc: Global, disk: &mut D) -> Result<Tally, Why>
+    ensures worked { IsTrue D.tells → (out_tells err_tells : Bool) (out err : List ℕ)
+        → WorkedWith false false (λ s. idle) (D.files disk.old) (D.files disk.new) result
+        (outputs out_tells out err_tells err) (outputs out_tells out err_tells err) }
+    ensures limits { IsTrue D.tells → LimitsBy false (IsLawful (D.files disk.old).pkg (D.files disk.old).idx) (λ s. idle) (D.files disk.old) (why_of result) }
+    ensures runs { Runs D.Disk SameLog disk.old disk.new }
+    ensures halted { IfErr result (λ given. is_halt given ≡ true) }
+    ensures held { IfErr result (λ given. is_held given ≡ false) }
+    ensures streams { IfErr result (λ given. is_of_streams given ≡ false) }
+    ensures disk { DiskFault D.Disk (result ≡ Err Why.DiskFault) disk.old disk.new }
+{
+    let _db = match open_to_change(alloc, disk) {
+        Ok(db) => db,
+        Err(why) => return Err(why),
+    };
+    Ok(Tally {
+        failed: 0,
+        changes: 0,
+    })
+}
 
 /// Opens the database and adds the package files under these paths, at the moment `now`.
 pub(crate) fn add_on<D: Disk, S: Shelf, E: Sink + Drop>(
@@ -32,7 +75,6 @@ pub(crate) fn add_on<D: Disk, S: Shelf, E: Sink + Drop>(
     err: &mut Buffered<E>,
 ) -> Result<Tally, Why>
     requires few { length paths.now < 2 ^ 32 }
-    requires err_empty { holds err.old ≡ [] }
     ensures worked { IsTrue D.tells → IsTrue S.tells → (out_tells : Bool) (out : List ℕ)
         → Worked (λ s. adding.add_files (S.paths shelf.old) now s (map (λ path. path.now) paths.now)) (D.files disk.old) (D.files disk.new) result
         (outputs out_tells out E.tells (E.taken (inner err.old))) (outputs out_tells out E.tells (E.taken (inner err.new))) }
@@ -45,8 +87,7 @@ pub(crate) fn add_on<D: Disk, S: Shelf, E: Sink + Drop>(
     ensures paths { IsTrue S.tells → S.paths shelf.new ≡ S.paths shelf.old }
     ensures disk { DiskFault D.Disk (result ≡ Err Why.DiskFault) disk.old disk.new }
     ensures shelf { ShelfFault S.Shelf (result ≡ Err Why.ShelfFault) shelf.old shelf.new }
-    ensures err { SinkFault E.Sink (result ≡ Err Why.ErrFault) err.old err.new }
-    ensures err_rest { HandsOn E.follows err.old err.new }
+    ensures err { Hand E.Sink (result ≡ Err Why.ErrFault) err.old err.new }
 {
     let mut db = match open_to_change(alloc, disk) {
         Ok(db) => db,
@@ -68,7 +109,6 @@ pub(crate) fn replace_on<D: Disk, S: Shelf, E: Sink + Drop>(
     now: u32,
     err: &mut Buffered<E>,
 ) -> Result<Tally, Why>
-    requires err_empty { holds err.old ≡ [] }
     ensures worked { IsTrue D.tells → IsTrue S.tells → (out_tells : Bool) (out : List ℕ)
         → Worked (λ s. adding.replace (S.paths shelf.old) now s number path.now) (D.files disk.old) (D.files disk.new) result
         (outputs out_tells out E.tells (E.taken (inner err.old))) (outputs out_tells out E.tells (E.taken (inner err.new))) }
@@ -82,14 +122,43 @@ pub(crate) fn replace_on<D: Disk, S: Shelf, E: Sink + Drop>(
     ensures paths { IsTrue S.tells → S.paths shelf.new ≡ S.paths shelf.old }
     ensures disk { DiskFault D.Disk (result ≡ Err Why.DiskFault) disk.old disk.new }
     ensures shelf { ShelfFault S.Shelf (result ≡ Err Why.ShelfFault) shelf.old shelf.new }
-    ensures err { SinkFault E.Sink (result ≡ Err Why.ErrFault) err.old err.new }
-    ensures err_rest { HandsOn E.follows err.old err.new }
+    ensures err { Hand E.Sink (result ≡ Err Why.ErrFault) err.old err.new }
 {
     let mut db = match open_to_change(alloc, disk) {
         Ok(db) => db,
         Err(why) => return Err(why),
     };
     match replace_package(alloc, &mut db, disk, shelf, number, path, now, err) {
+        Ok(tally) => Ok(tally),
+        Err(halt) => Err(why_of_halt(halt)),
+    }
+}
+
+/// Opens the database and erases packages.
+pub(crate) fn erase_on<D: Disk, E: Sink + Drop>(
+    alloc: Global,
+    disk: &mut D,
+    numbers: &[u32],
+    err: &mut Buffered<E>,
+) -> Result<Tally, Why>
+    requires few { length numbers.now < 2 ^ 32 }
+    ensures worked { IsTrue D.tells → (out_tells : Bool) (out : List ℕ)
+        → Worked (λ s. erasing.erase s numbers.now) (D.files disk.old) (D.files disk.new) result
+        (outputs out_tells out E.tells (E.taken (inner err.old))) (outputs out_tells out E.tells (E.taken (inner err.new))) }
+    ensures limits { IsTrue D.tells → LimitsBy false (IsLawful (D.files disk.old).pkg (D.files disk.old).idx) (λ s. erasing.erase s numbers.now) (D.files disk.old) (why_of result) }
+    ensures runs { Runs D.Disk SameLog disk.old disk.new }
+    ensures halted { IfErr result (λ given. is_halt given ≡ true) }
+    ensures held { IfErr result (λ given. is_held given ≡ false) }
+    ensures shelf { result ≢ Err Why.ShelfFault }
+    ensures out { result ≢ Err Why.OutFault }
+    ensures disk { DiskFault D.Disk (result ≡ Err Why.DiskFault) disk.old disk.new }
+    ensures err { Hand E.Sink (result ≡ Err Why.ErrFault) err.old err.new }
+{
+    let mut db = match open_to_change(alloc, disk) {
+        Ok(db) => db,
+        Err(why) => return Err(why),
+    };
+    match erase_numbers(alloc, &mut db, disk, numbers, err) {
         Ok(tally) => Ok(tally),
         Err(halt) => Err(why_of_halt(halt)),
     }
@@ -102,7 +171,6 @@ pub(crate) fn import_on<D: Disk, S: Shelf, E: Sink + Drop>(
     shelf: &mut S,
     err: &mut Buffered<E>,
 ) -> Result<Tally, Why>
-    requires err_empty { holds err.old ≡ [] }
     ensures worked { IsTrue D.tells → IsTrue S.tells → (out_tells : Bool) (out : List ℕ)
         → Worked (λ s. importing.import_list importing.max_headers (bytes_at (S.paths shelf.old) (codes "-"))) (D.files disk.old) (D.files disk.new) result
         (outputs out_tells out E.tells (E.taken (inner err.old))) (outputs out_tells out E.tells (E.taken (inner err.new))) }
@@ -115,8 +183,7 @@ pub(crate) fn import_on<D: Disk, S: Shelf, E: Sink + Drop>(
     ensures paths { IsTrue S.tells → S.paths shelf.new ≡ S.paths shelf.old }
     ensures disk { DiskFault D.Disk (result ≡ Err Why.DiskFault) disk.old disk.new }
     ensures shelf { ShelfFault S.Shelf (result ≡ Err Why.ShelfFault) shelf.old shelf.new }
-    ensures err { SinkFault E.Sink (result ≡ Err Why.ErrFault) err.old err.new }
-    ensures err_rest { HandsOn E.follows err.old err.new }
+    ensures err { Hand E.Sink (result ≡ Err Why.ErrFault) err.old err.new }
 {
     let mut db = match open_to_change(alloc, disk) {
         Ok(db) => db,
@@ -134,7 +201,6 @@ pub(crate) fn rebuild_on<D: Disk, O: Sink + Drop>(
     disk: &mut D,
     out: &mut Buffered<O>,
 ) -> Result<Tally, Why>
-    requires out_empty { holds out.old ≡ [] }
     ensures worked { IsTrue D.tells → (err_tells : Bool) (err : List ℕ)
         → WorkedWith true false (λ s. rebuilding.rebuild s) (D.files disk.old) (D.files disk.new) result
         (outputs O.tells (O.taken (inner out.old)) err_tells err) (outputs O.tells (O.taken (inner out.new)) err_tells err) }
@@ -147,8 +213,7 @@ pub(crate) fn rebuild_on<D: Disk, O: Sink + Drop>(
     ensures shelf { result ≢ Err Why.ShelfFault }
     ensures err { result ≢ Err Why.ErrFault }
     ensures disk { DiskFault D.Disk (result ≡ Err Why.DiskFault) disk.old disk.new }
-    ensures out { SinkFault O.Sink (result ≡ Err Why.OutFault) out.old out.new }
-    ensures out_rest { HandsOn O.follows out.old out.new }
+    ensures out { Hand O.Sink (result ≡ Err Why.OutFault) out.old out.new }
 {
     let mut db = match open_to_change(alloc, disk) {
         Ok(db) => db,
@@ -181,7 +246,6 @@ pub(crate) fn exercise_on<D: Disk, O: Sink + Drop>(
     out: &mut Buffered<O>,
 ) -> Result<Tally, Why>
     requires few { headers ≤ 100000 }
-    requires out_empty { holds out.old ≡ [] }
     ensures worked { IsTrue D.tells → (err_tells : Bool) (err : List ℕ)
         → WorkedWith true false (λ s. exercised.exercise headers s) (D.files disk.old) (D.files disk.new) result
         (outputs O.tells (O.taken (inner out.old)) err_tells err) (outputs O.tells (O.taken (inner out.new)) err_tells err) }
@@ -192,8 +256,7 @@ pub(crate) fn exercise_on<D: Disk, O: Sink + Drop>(
     ensures shelf { result ≢ Err Why.ShelfFault }
     ensures err { result ≢ Err Why.ErrFault }
     ensures disk { DiskFault D.Disk (result ≡ Err Why.DiskFault) disk.old disk.new }
-    ensures out { SinkFault O.Sink (result ≡ Err Why.OutFault) out.old out.new }
-    ensures out_rest { HandsOn O.follows out.old out.new }
+    ensures out { Hand O.Sink (result ≡ Err Why.OutFault) out.old out.new }
 {
     let mut db = match open_to_change(alloc, disk) {
         Ok(db) => db,

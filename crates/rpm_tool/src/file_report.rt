@@ -1,7 +1,7 @@
 //! What is told of the paths that several packages own and that differ.
 
 ghost use Rattle.std.specs.Prelude.{◌≡◌, ◌≢◌, ◌+◌, ◌≤◌, ℕ, Bool, List, [], ◌∷◌, map, false, IsTrue, Err};
-ghost use Rattle.rpm_outside.specs.Buffered.{inner, holds, HandsOn};
+ghost use Rattle.rpm_outside.specs.Buffered.{inner, holds};
 ghost use Rattle.rpm_outside.specs.declared.disk.File.TheVariants.{Pkg};
 ghost use Rattle.rpm_db.specs.Database as database;
 ghost use Rattle.rpm_db.specs.Database.{cost_all};
@@ -12,7 +12,8 @@ ghost use Rattle.rpm_tool.specs.Steps.{fails, together};
 ghost use Rattle.rpm_tool.specs.FileReport.{if_differs, unread_step, conflict_step, label_told, told_steps, check_files};
 ghost use Rattle.rpm_tool.specs.Reads.{reached_by};
 ghost use Rattle.rpm_tool.specs.Answers.{StepIs, Reached, PartIs, Went, is_foreign, is_some_of};
-ghost use Rattle.rpm_tool.specs.Frame.{Looks, shown, DiskFault, SinkFault, Kept, packages_in, pkg_read};
+ghost use Rattle.rpm_tool.specs.Frame.{Looks, shown, DiskFault, Kept, packages_in, pkg_read, Hands};
+ghost use Rattle.rpm_change.specs.Hands.{Hand};
 
 use crate::answer::Why;
 use crate::pieces::put_line;
@@ -36,13 +37,11 @@ fn put_unread<E: Sink + Drop>(
     numbers: &[u32],
     err: &mut Buffered<E>,
 ) -> Result<(), Stop>
-    requires err_empty { holds err.old ≡ [] }
     ensures went { (out_tells : Bool) (out : List ℕ) → Reached (map unread_step numbers.now) result
         (outputs out_tells out E.tells (E.taken (inner err.old))) (outputs out_tells out E.tells (E.taken (inner err.new))) (λ for. for ≡ whole 0) }
     ensures no_read { result ≢ Err Stop.ReadFault }
     ensures no_out { result ≢ Err Stop.OutFault }
-    ensures err { SinkFault E.Sink (result ≡ Err Stop.ErrFault) err.old err.new }
-    ensures err_rest { HandsOn E.follows err.old err.new }
+    ensures err { Hand E.Sink (result ≡ Err Stop.ErrFault) err.old err.new }
 {
     for number in numbers {
         match put_bad(alloc, err, *number) {
@@ -60,13 +59,11 @@ fn put_conflict<'a, O: Sink + Drop>(
     report: &'a ConflictList,
     conflict: &'a Conflict,
 ) -> Result<bool, Stop>
-    requires out_empty { holds out.old ≡ [] }
     ensures step { (err_tells : Bool) (err : List ℕ) → StepIs (conflict_step (label_told report.now) conflict.now) result
         (outputs O.tells (O.taken (inner out.old)) err_tells err) (outputs O.tells (O.taken (inner out.new)) err_tells err) }
     ensures no_read { result ≢ Err Stop.ReadFault }
     ensures no_err { result ≢ Err Stop.ErrFault }
-    ensures out { SinkFault O.Sink (result ≡ Err Stop.OutFault) out.old out.new }
-    ensures out_rest { HandsOn O.follows out.old out.new }
+    ensures out { Hand O.Sink (result ≡ Err Stop.OutFault) out.old out.new }
 {
     let first = report.label(conflict.first());
     let second = report.label(conflict.second());
@@ -95,13 +92,11 @@ fn put_conflict<'a, O: Sink + Drop>(
 
 /// Writes to out the lines of all conflicts.
 fn put_conflicts<O: Sink + Drop>(out: &mut Buffered<O>, report: &ConflictList) -> Result<(), Stop>
-    requires out_empty { holds out.old ≡ [] }
     ensures went { (err_tells : Bool) (err : List ℕ) → Reached (map (conflict_step (label_told report.now)) report.now.conflicts) result
         (outputs O.tells (O.taken (inner out.old)) err_tells err) (outputs O.tells (O.taken (inner out.new)) err_tells err) (λ for. for ≡ whole 0) }
     ensures no_read { result ≢ Err Stop.ReadFault }
     ensures no_err { result ≢ Err Stop.ErrFault }
-    ensures out { SinkFault O.Sink (result ≡ Err Stop.OutFault) out.old out.new }
-    ensures out_rest { HandsOn O.follows out.old out.new }
+    ensures out { Hand O.Sink (result ≡ Err Stop.OutFault) out.old out.new }
 {
     for i in 0..report.len() {
         match put_conflict(out, report, report.at(i)) {
@@ -126,15 +121,10 @@ fn tell_report<O: Sink + Drop, E: Sink + Drop>(
     out: &mut Buffered<O>,
     err: &mut Buffered<E>,
 ) -> Result<bool, Stop>
-    requires out_empty { holds out.old ≡ [] }
-    requires err_empty { holds err.old ≡ [] }
     ensures part { PartIs (together (map fails (told_steps report.now))) result (shown O.Sink E.Sink out.old err.old) (shown O.Sink E.Sink out.new err.new) (λ
         for. for ≡ whole 0) }
     ensures no_read { result ≢ Err Stop.ReadFault }
-    ensures out { SinkFault O.Sink (result ≡ Err Stop.OutFault) out.old out.new }
-    ensures err { SinkFault E.Sink (result ≡ Err Stop.ErrFault) err.old err.new }
-    ensures out_rest { HandsOn O.follows out.old out.new }
-    ensures err_rest { HandsOn E.follows err.old err.new }
+    ensures hands { Hands O.Sink E.Sink (result ≡ Err Stop.OutFault) (result ≡ Err Stop.ErrFault) out.old err.old out.new err.new }
 {
     match put_unread(alloc, report.bad(), err) {
         Ok(()) => match put_conflicts(out, report) {
@@ -154,8 +144,6 @@ pub fn check_files<D: Disk, O: Sink + Drop, E: Sink + Drop>(
     out: &mut Buffered<O>,
     err: &mut Buffered<E>,
 ) -> Why
-    requires out_empty { holds out.old ≡ [] }
-    requires err_empty { holds err.old ≡ [] }
     requires keeps { Kept D.Disk disk.old db.now }
     requires runs { db.now.stopped ≡ false }
     requires from_one { database.holds 0 db.now ≡ false }
@@ -164,10 +152,7 @@ pub fn check_files<D: Disk, O: Sink + Drop, E: Sink + Drop>(
     ensures done { is_foreign result ≡ false }
     ensures looks { Looks D.Disk Pkg (cost_all db.now) disk.old disk.new }
     ensures disk { DiskFault D.Disk (result ≡ Why.DiskFault) disk.old disk.new }
-    ensures out { SinkFault O.Sink (result ≡ Why.OutFault) out.old out.new }
-    ensures err { SinkFault E.Sink (result ≡ Why.ErrFault) err.old err.new }
-    ensures out_rest { HandsOn O.follows out.old out.new }
-    ensures err_rest { HandsOn E.follows err.old err.new }
+    ensures hands { Hands O.Sink E.Sink (result ≡ Why.OutFault) (result ≡ Why.ErrFault) out.old err.old out.new err.new }
 {
     let report = match conflicts(alloc, db, disk) {
         Ok(report) => report,

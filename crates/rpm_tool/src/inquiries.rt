@@ -1,7 +1,7 @@
 //! What is asked of a database that was opened with its index.
 
 ghost use Rattle.std.specs.Prelude.{◌≡◌, ◌+◌, ◌≤◌, [], map, true, false, IsTrue};
-ghost use Rattle.rpm_outside.specs.Buffered.{holds, HandsOn};
+ghost use Rattle.rpm_outside.specs.Buffered.{holds};
 ghost use Rattle.rpm_db.specs.Database as database;
 ghost use Rattle.rpm_db.specs.Database.{is_indexed};
 ghost use Rattle.rpm_words.specs.Words.{text_at};
@@ -13,7 +13,7 @@ ghost use Rattle.rpm_tool.specs.Asked.{is_query, inquiry_of};
 ghost use Rattle.rpm_tool.specs.Reads.{argument_reach, reaches_by, reach_sum, reached_by};
 ghost use Rattle.rpm_tool.specs.Requirements.{unsatisfied, why_of_report, IsOfSome};
 ghost use Rattle.rpm_tool.specs.Keyed.{DoesBy, CauseIs, OrderIs};
-ghost use Rattle.rpm_tool.specs.Frame.{Peeks, shown, DiskFault, SinkFault, Kept, KeptIndex, HasRows, packages_in, pkg_read};
+ghost use Rattle.rpm_tool.specs.Frame.{Peeks, shown, DiskFault, Kept, KeptIndex, HasRows, packages_in, pkg_read, Hands};
 
 use crate::answer::Why;
 use crate::asked::{Inquiry, inquiry_of};
@@ -49,8 +49,6 @@ fn answer_unmet<D: Disk, O: Sink + Drop, E: Sink + Drop>(
     out: &mut Buffered<O>,
     err: &mut Buffered<E>,
 ) -> Why
-    requires out_empty { holds out.old ≡ [] }
-    requires err_empty { holds err.old ≡ [] }
     requires keeps { Kept D.Disk disk.old db.now }
     requires runs { db.now.stopped ≡ false }
     requires keeps_index { KeptIndex D.Disk disk.old db.now }
@@ -62,10 +60,7 @@ fn answer_unmet<D: Disk, O: Sink + Drop, E: Sink + Drop>(
     ensures bad_index { IsTrue D.tells → IsOfSome (D.files disk.old).idx result }
     ensures looks { Peeks D.Disk true disk.old disk.new }
     ensures disk { DiskFault D.Disk (result ≡ Why.DiskFault) disk.old disk.new }
-    ensures out { SinkFault O.Sink (result ≡ Why.OutFault) out.old out.new }
-    ensures err { SinkFault E.Sink (result ≡ Why.ErrFault) err.old err.new }
-    ensures out_rest { HandsOn O.follows out.old out.new }
-    ensures err_rest { HandsOn E.follows err.old err.new }
+    ensures hands { Hands O.Sink E.Sink (result ≡ Why.OutFault) (result ≡ Why.ErrFault) out.old err.old out.new err.new }
 {
     why_of_report(report_unmet(alloc, db, disk, out, err))
 }
@@ -78,8 +73,6 @@ fn answer_order<D: Disk, O: Sink + Drop, E: Sink + Drop>(
     out: &mut Buffered<O>,
     err: &mut Buffered<E>,
 ) -> Why
-    requires out_empty { holds out.old ≡ [] }
-    requires err_empty { holds err.old ≡ [] }
     requires keeps { Kept D.Disk disk.old db.now }
     requires runs { db.now.stopped ≡ false }
     requires keeps_index { KeptIndex D.Disk disk.old db.now }
@@ -91,10 +84,7 @@ fn answer_order<D: Disk, O: Sink + Drop, E: Sink + Drop>(
     ensures bad_index { IsTrue D.tells → IsOfSome (D.files disk.old).idx result }
     ensures looks { Peeks D.Disk true disk.old disk.new }
     ensures disk { DiskFault D.Disk (result ≡ Why.DiskFault) disk.old disk.new }
-    ensures out { SinkFault O.Sink (result ≡ Why.OutFault) out.old out.new }
-    ensures err { SinkFault E.Sink (result ≡ Why.ErrFault) err.old err.new }
-    ensures out_rest { HandsOn O.follows out.old out.new }
-    ensures err_rest { HandsOn E.follows err.old err.new }
+    ensures hands { Hands O.Sink E.Sink (result ≡ Why.OutFault) (result ≡ Why.ErrFault) out.old err.old out.new err.new }
 {
     why_of_report(report_order(alloc, db, disk, out, err))
 }
@@ -110,8 +100,6 @@ pub fn answer_inquiry<D: Disk, O: Sink + Drop, E: Sink + Drop>(
     out: &mut Buffered<O>,
     err: &mut Buffered<E>,
 ) -> Why
-    requires out_empty { holds out.old ≡ [] }
-    requires err_empty { holds err.old ≡ [] }
     requires keeps { Kept D.Disk disk.old db.now }
     requires runs { db.now.stopped ≡ false }
     requires keeps_index { KeptIndex D.Disk disk.old db.now }
@@ -128,10 +116,7 @@ pub fn answer_inquiry<D: Disk, O: Sink + Drop, E: Sink + Drop>(
     ensures bad_index { IsTrue D.tells → CauseIs words.now ask.now (D.files disk.old).idx result }
     ensures looks { Peeks D.Disk true disk.old disk.new }
     ensures disk { DiskFault D.Disk (result ≡ Why.DiskFault) disk.old disk.new }
-    ensures out { SinkFault O.Sink (result ≡ Why.OutFault) out.old out.new }
-    ensures err { SinkFault E.Sink (result ≡ Why.ErrFault) err.old err.new }
-    ensures out_rest { HandsOn O.follows out.old out.new }
-    ensures err_rest { HandsOn E.follows err.old err.new }
+    ensures hands { Hands O.Sink E.Sink (result ≡ Why.OutFault) (result ≡ Why.ErrFault) out.old err.old out.new err.new }
 {
     match inquiry_of(ask.mode()) {
         Inquiry::Query => query_opened(alloc, db, disk, words, ask, format, out, err),

@@ -1,15 +1,14 @@
 //! The commands that open the database with its index: questions by key, and the reports on requirements.
 
 ghost use Rattle.std.specs.Prelude.{◌≡◌, ◌+◌, ◌≤◌, [], false, true, IsTrue};
-ghost use Rattle.rpm_outside.specs.Buffered.{holds, HandsOn};
 ghost use Rattle.rpm_outside.specs.Changes.{IsSettled};
 ghost use Rattle.rpm_outside.specs.declared.disk.File.TheVariants.{Pkg, Idx};
 ghost use Rattle.rpm_pkgdb.specs.Store.{store};
 ghost use Rattle.rpm_db.specs.Lawful.{IsLawful, AreLawful, IsLawfulStill, Remade};
 ghost use Rattle.rpm_tool.specs.Asked.{is_query};
-ghost use Rattle.rpm_tool.specs.Keyed.{HasIndex, OpenedBy, AnswersByKey, FullIs, BadIs, Does, is_done, keyed_cost, why_of_recover};
+ghost use Rattle.rpm_tool.specs.Keyed.{HasIndex, OpenedBy, AnswersByKey, FullIs, BadIs, DidByKey, is_done, keyed_cost, why_of_recover};
 ghost use Rattle.rpm_tool.specs.Answers.{is_foreign};
-ghost use Rattle.rpm_tool.specs.Frame.{Runs, shown, DiskFault, SinkFault, images, LeavesIn, pkg_read};
+ghost use Rattle.rpm_tool.specs.Frame.{Runs, shown, DiskFault, images, LeavesIn, pkg_read, Hands};
 
 use crate::answer::Why;
 use crate::inquiries::answer_inquiry;
@@ -40,11 +39,9 @@ fn answer_indexed<D: Disk, O: Sink + Drop, E: Sink + Drop>(
     out: &mut Buffered<O>,
     err: &mut Buffered<E>,
 ) -> Why
-    requires out_empty { holds out.old ≡ [] }
-    requires err_empty { holds err.old ≡ [] }
     requires pkg { IsTrue D.tells → IsSettled Pkg (D.files disk.old) (images D.Disk disk.old) }
     requires idx { IsTrue D.tells → IsSettled Idx (D.files disk.old) (images D.Disk disk.old) }
-    ensures went { IsTrue D.tells → OpenedBy (IsLawful (D.files disk.old).pkg (D.files disk.old).idx) (Does format.now words.now ask.now (D.files disk.old)
+    ensures went { IsTrue D.tells → OpenedBy (IsLawful (D.files disk.old).pkg (D.files disk.old).idx) (DidByKey format.now words.now ask.now (D.files disk.old)
         (pkg_read D.Disk disk.old) (pkg_read D.Disk disk.new)) (store (D.files disk.old).pkg) result (shown O.Sink E.Sink out.old err.old) (shown O.Sink
         E.Sink out.new err.new) }
     ensures reads { is_query ask.now.mode ≡ true → IsTrue D.tells → IsLawful (D.files disk.old).pkg (D.files disk.old).idx → pkg_read D.Disk disk.new ≤
@@ -57,10 +54,7 @@ fn answer_indexed<D: Disk, O: Sink + Drop, E: Sink + Drop>(
     ensures runs { Runs D.Disk Remade disk.old disk.new }
     ensures done { is_foreign result ≡ false }
     ensures disk { DiskFault D.Disk (result ≡ Why.DiskFault) disk.old disk.new }
-    ensures out { SinkFault O.Sink (result ≡ Why.OutFault) out.old out.new }
-    ensures err { SinkFault E.Sink (result ≡ Why.ErrFault) err.old err.new }
-    ensures out_rest { HandsOn O.follows out.old out.new }
-    ensures err_rest { HandsOn E.follows err.old err.new }
+    ensures hands { Hands O.Sink E.Sink (result ≡ Why.OutFault) (result ≡ Why.ErrFault) out.old err.old out.new err.new }
 {
     match Db::open_settled(alloc, disk) {
         Ok(db) => answer_inquiry(alloc, &db, disk, words, ask, format, out, err),
@@ -83,17 +77,12 @@ pub fn answer_keyed<D: Disk, O: Sink + Drop, E: Sink + Drop>(
     out: &mut Buffered<O>,
     err: &mut Buffered<E>,
 ) -> (Why, D)
-    requires out_empty { holds out.old ≡ [] }
-    requires err_empty { holds err.old ≡ [] }
     ensures keyed { IsTrue D.tells → AnswersByKey D.files D.left_since D.moment D.bytes_read format.now words.now ask.now result.0 (shown O.Sink E.Sink
         out.old err.old) (shown O.Sink E.Sink out.new err.new) disk result.1 }
     ensures goes_on { D.follows disk result.1 }
     ensures done { is_foreign result.0 ≡ false }
     ensures disk { DiskFault D.Disk (result.0 ≡ Why.DiskFault) disk result.1 }
-    ensures out { SinkFault O.Sink (result.0 ≡ Why.OutFault) out.old out.new }
-    ensures err { SinkFault E.Sink (result.0 ≡ Why.ErrFault) err.old err.new }
-    ensures out_rest { HandsOn O.follows out.old out.new }
-    ensures err_rest { HandsOn E.follows err.old err.new }
+    ensures hands { Hands O.Sink E.Sink (result.0 ≡ Why.OutFault) (result.0 ≡ Why.ErrFault) out.old err.old out.new err.new }
 {
     let mut disk = disk;
     match recover(&mut disk) {

@@ -1,10 +1,9 @@
 //! Commands on a database as it reads when an open log is gone through.
 
 ghost use Rattle.std.specs.Prelude.{◌≡◌, [], false, IsTrue};
-ghost use Rattle.rpm_outside.specs.Buffered.{holds, HandsOn};
 ghost use Rattle.rpm_outside.specs.Logs.{reopened};
 ghost use Rattle.rpm_tool.specs.Answers.{is_foreign, why_of_load, unless_starved, Queried, AtMost, query_cost};
-ghost use Rattle.rpm_tool.specs.Frame.{Leaves, shown, DiskFault, SinkFault, pkg_read};
+ghost use Rattle.rpm_tool.specs.Frame.{Leaves, shown, DiskFault, pkg_read, Hands};
 
 use crate::answer::Why;
 use crate::unindexed::answer_unindexed;
@@ -45,18 +44,13 @@ pub fn answer_loaded<D: Disk, O: Sink + Drop, E: Sink + Drop>(
     out: &mut Buffered<O>,
     err: &mut Buffered<E>,
 ) -> (Why, D)
-    requires out_empty { holds out.old ≡ [] }
-    requires err_empty { holds err.old ≡ [] }
     ensures went { IsTrue D.tells → Queried format.now words.now ask.now (D.files disk) result.0 (shown O.Sink E.Sink out.old err.old) (shown O.Sink E.Sink
         out.new err.new) (pkg_read D.Disk disk) (pkg_read D.Disk result.1) }
     ensures reads { IsTrue D.tells → AtMost (pkg_read D.Disk disk) (pkg_read D.Disk result.1) (query_cost words.now ask.now (reopened (D.files disk)).pkg) }
     ensures done { is_foreign result.0 ≡ false }
     ensures looks { Leaves D.Disk disk result.1 }
     ensures disk { DiskFault D.Disk (result.0 ≡ Why.DiskFault) disk result.1 }
-    ensures out { SinkFault O.Sink (result.0 ≡ Why.OutFault) out.old out.new }
-    ensures err { SinkFault E.Sink (result.0 ≡ Why.ErrFault) err.old err.new }
-    ensures out_rest { HandsOn O.follows out.old out.new }
-    ensures err_rest { HandsOn E.follows err.old err.new }
+    ensures hands { Hands O.Sink E.Sink (result.0 ≡ Why.OutFault) (result.0 ≡ Why.ErrFault) out.old err.old out.new err.new }
 {
     match Overlay::load(alloc, disk) {
         Ok(overlay) => {

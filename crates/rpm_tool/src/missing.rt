@@ -1,12 +1,13 @@
 //! The line of an argument that picks nothing.
 
 ghost use Rattle.std.specs.Prelude.{◌≡◌, ◌≢◌, ℕ, Bool, List, [], Err};
-ghost use Rattle.rpm_outside.specs.Buffered.{inner, holds, HandsOn};
+ghost use Rattle.rpm_outside.specs.Buffered.{inner};
 ghost use Rattle.rpm_change.specs.Steps.{whole};
 ghost use Rattle.rpm_tool.specs.Queries.{missing, missing_record, missing_part};
 ghost use Rattle.rpm_change.specs.Endings.{outputs};
 ghost use Rattle.rpm_tool.specs.Answers.{PartIs};
-ghost use Rattle.rpm_tool.specs.Frame.{shown, SinkFault};
+ghost use Rattle.rpm_tool.specs.Frame.{shown, Hands};
+ghost use Rattle.rpm_change.specs.Hands.{Hand};
 
 use crate::pieces::put_line;
 use crate::step::Stop;
@@ -20,13 +21,11 @@ fn put_missing<O: Sink + Drop>(
     text: &[u8],
     back: &[u8],
 ) -> Result<bool, Stop>
-    requires out_empty { holds out.old ≡ [] }
     ensures part { (j : ℕ) (err_tells : Bool) (err : List ℕ) → PartIs (missing j front.now text.now back.now) result
         (outputs O.tells (O.taken (inner out.old)) err_tells err) (outputs O.tells (O.taken (inner out.new)) err_tells err) (λ for. for ≡ whole j) }
     ensures no_read { result ≢ Err Stop.ReadFault }
     ensures no_err { result ≢ Err Stop.ErrFault }
-    ensures out { SinkFault O.Sink (result ≡ Err Stop.OutFault) out.old out.new }
-    ensures out_rest { HandsOn O.follows out.old out.new }
+    ensures out { Hand O.Sink (result ≡ Err Stop.OutFault) out.old out.new }
 {
     match put_line(out, &[front, text, back]) {
         Ok(()) => Ok(true),
@@ -36,13 +35,11 @@ fn put_missing<O: Sink + Drop>(
 
 /// Writes to err that a number has no record.
 fn put_no_record<E: Sink + Drop>(err: &mut Buffered<E>, text: &[u8]) -> Result<bool, Stop>
-    requires err_empty { holds err.old ≡ [] }
     ensures part { (j : ℕ) (out_tells : Bool) (out : List ℕ) → PartIs (missing_record j text.now) result
         (outputs out_tells out E.tells (E.taken (inner err.old))) (outputs out_tells out E.tells (E.taken (inner err.new))) (λ for. for ≡ whole j) }
     ensures no_read { result ≢ Err Stop.ReadFault }
     ensures no_out { result ≢ Err Stop.OutFault }
-    ensures err { SinkFault E.Sink (result ≡ Err Stop.ErrFault) err.old err.new }
-    ensures err_rest { HandsOn E.follows err.old err.new }
+    ensures err { Hand E.Sink (result ≡ Err Stop.ErrFault) err.old err.new }
 {
     match put_line(err, &[b"error: record ", text, b" could not be read\n"]) {
         Ok(()) => Ok(true),
@@ -58,15 +55,10 @@ pub fn put_missing_part<O: Sink + Drop, E: Sink + Drop>(
     out: &mut Buffered<O>,
     err: &mut Buffered<E>,
 ) -> Result<bool, Stop>
-    requires out_empty { holds out.old ≡ [] }
-    requires err_empty { holds err.old ≡ [] }
     ensures part { (j : ℕ) → PartIs (missing_part chosen j text.now) result (shown O.Sink E.Sink out.old err.old) (shown O.Sink E.Sink out.new err.new) (λ
         for. for ≡ whole j) }
     ensures no_read { result ≢ Err Stop.ReadFault }
-    ensures out { SinkFault O.Sink (result ≡ Err Stop.OutFault) out.old out.new }
-    ensures err { SinkFault E.Sink (result ≡ Err Stop.ErrFault) err.old err.new }
-    ensures out_rest { HandsOn O.follows out.old out.new }
-    ensures err_rest { HandsOn E.follows err.old err.new }
+    ensures hands { Hands O.Sink E.Sink (result ≡ Err Stop.OutFault) (result ≡ Err Stop.ErrFault) out.old err.old out.new err.new }
 {
     match chosen {
         Chosen::All | Chosen::Package => Ok(false),

@@ -2,7 +2,7 @@
 
 ghost use Rattle.std.specs.Prelude.{◌≡◌, ◌≢◌, ℕ, ◌<◌, Bool, List, [], map, true, false, IsTrue, Err, IfOk, IfErr};
 ghost use Rattle.std.specs.List.{flat_map};
-ghost use Rattle.rpm_outside.specs.Buffered.{inner, holds, HandsOn};
+ghost use Rattle.rpm_outside.specs.Buffered.{inner, holds};
 ghost use Rattle.rpm_header.specs.Header.{header};
 ghost use Rattle.rpm_db.specs.Database as database;
 ghost use Rattle.rpm_check.specs.Edges.{graph_of};
@@ -11,7 +11,8 @@ ghost use Rattle.rpm_change.specs.Steps.{whole, ToOut};
 ghost use Rattle.rpm_graph.specs.Orders.{IsOrder};
 ghost use Rattle.rpm_tool.specs.Answers.{Anywhere, Reached, StepIs, is_of_sink};
 ghost use Rattle.rpm_tool.specs.Requirements.{read_text, label_text, label_step, cycle_line, class_steps, ClassesAre, OrderPartIs, StopsOfSome};
-ghost use Rattle.rpm_tool.specs.Frame.{Peeks, shown, DiskFault, SinkFault, Kept, KeptIndex, HasRows, packages_in};
+ghost use Rattle.rpm_tool.specs.Frame.{Peeks, shown, DiskFault, Kept, KeptIndex, HasRows, packages_in, Hands};
+ghost use Rattle.rpm_change.specs.Hands.{Hand};
 
 use crate::step::{Stop, put_text};
 use crate::unreadable::{read_blob, tell_each_bad};
@@ -66,7 +67,6 @@ fn put_label<D: Disk, O: Sink + Drop>(
     indent: &[u8],
     out: &mut Buffered<O>,
 ) -> Result<bool, Stop>
-    requires out_empty { holds out.old ≡ [] }
     requires keeps { Kept D.Disk disk.old db.now }
     requires runs { db.now.stopped ≡ false }
     ensures kept { Kept D.Disk disk.new db.now }
@@ -76,8 +76,7 @@ fn put_label<D: Disk, O: Sink + Drop>(
     ensures unbroken { (unit : ℕ) → result ≢ Err (Stop.BadIndex unit) }
     ensures no_err { result ≢ Err Stop.ErrFault }
     ensures disk { DiskFault D.Disk (result ≡ Err Stop.ReadFault) disk.old disk.new }
-    ensures out { SinkFault O.Sink (result ≡ Err Stop.OutFault) out.old out.new }
-    ensures out_rest { HandsOn O.follows out.old out.new }
+    ensures out { Hand O.Sink (result ≡ Err Stop.OutFault) out.old out.new }
 {
     let blob = match read_blob(alloc, db, disk, number) {
         Ok(blob) => blob,
@@ -98,7 +97,6 @@ fn put_labels<D: Disk, O: Sink + Drop>(
     indent: &[u8],
     out: &mut Buffered<O>,
 ) -> Result<(), Stop>
-    requires out_empty { holds out.old ≡ [] }
     requires keeps { Kept D.Disk disk.old db.now }
     requires runs { db.now.stopped ≡ false }
     ensures kept { Kept D.Disk disk.new db.now }
@@ -108,8 +106,7 @@ fn put_labels<D: Disk, O: Sink + Drop>(
     ensures unbroken { (unit : ℕ) → result ≢ Err (Stop.BadIndex unit) }
     ensures no_err { result ≢ Err Stop.ErrFault }
     ensures disk { DiskFault D.Disk (result ≡ Err Stop.ReadFault) disk.old disk.new }
-    ensures out { SinkFault O.Sink (result ≡ Err Stop.OutFault) out.old out.new }
-    ensures out_rest { HandsOn O.follows out.old out.new }
+    ensures out { Hand O.Sink (result ≡ Err Stop.OutFault) out.old out.new }
 {
     for number in class {
         match put_label(alloc, db, disk, *number, indent, out) {
@@ -139,14 +136,12 @@ fn put_cycle<O: Sink + Drop>(
     count: usize,
     out: &mut Buffered<O>,
 ) -> Result<bool, Stop>
-    requires out_empty { holds out.old ≡ [] }
     ensures step { (err_tells : Bool) (err : List ℕ) → StepIs (ToOut (whole 0) (cycle_line count)) result
         (outputs O.tells (O.taken (inner out.old)) err_tells err) (outputs O.tells (O.taken (inner out.new)) err_tells err) }
     ensures no_read { result ≢ Err Stop.ReadFault }
     ensures unbroken { (unit : ℕ) → result ≢ Err (Stop.BadIndex unit) }
     ensures no_err { result ≢ Err Stop.ErrFault }
-    ensures out { SinkFault O.Sink (result ≡ Err Stop.OutFault) out.old out.new }
-    ensures out_rest { HandsOn O.follows out.old out.new }
+    ensures out { Hand O.Sink (result ≡ Err Stop.OutFault) out.old out.new }
 {
     match cycle_line(alloc, count) {
         Ok(line) => put_text(out, &line),
@@ -162,7 +157,6 @@ fn put_class<D: Disk, O: Sink + Drop>(
     class: &[u32],
     out: &mut Buffered<O>,
 ) -> Result<(), Stop>
-    requires out_empty { holds out.old ≡ [] }
     requires keeps { Kept D.Disk disk.old db.now }
     requires runs { db.now.stopped ≡ false }
     ensures kept { Kept D.Disk disk.new db.now }
@@ -172,8 +166,7 @@ fn put_class<D: Disk, O: Sink + Drop>(
     ensures unbroken { (unit : ℕ) → result ≢ Err (Stop.BadIndex unit) }
     ensures no_err { result ≢ Err Stop.ErrFault }
     ensures disk { DiskFault D.Disk (result ≡ Err Stop.ReadFault) disk.old disk.new }
-    ensures out { SinkFault O.Sink (result ≡ Err Stop.OutFault) out.old out.new }
-    ensures out_rest { HandsOn O.follows out.old out.new }
+    ensures out { Hand O.Sink (result ≡ Err Stop.OutFault) out.old out.new }
 {
     let count = class.len();
     if count == 1 {
@@ -193,7 +186,6 @@ fn put_classes<D: Disk, O: Sink + Drop>(
     list: &ClassList,
     out: &mut Buffered<O>,
 ) -> Result<(), Stop>
-    requires out_empty { holds out.old ≡ [] }
     requires keeps { Kept D.Disk disk.old db.now }
     requires runs { db.now.stopped ≡ false }
     ensures went { IsTrue D.tells → (err_tells : Bool) (err : List ℕ) → Reached (flat_map (class_steps (packages_in D.Disk disk.old db.now)) list.now) result
@@ -202,8 +194,7 @@ fn put_classes<D: Disk, O: Sink + Drop>(
     ensures unbroken { (unit : ℕ) → result ≢ Err (Stop.BadIndex unit) }
     ensures no_err { result ≢ Err Stop.ErrFault }
     ensures disk { DiskFault D.Disk (result ≡ Err Stop.ReadFault) disk.old disk.new }
-    ensures out { SinkFault O.Sink (result ≡ Err Stop.OutFault) out.old out.new }
-    ensures out_rest { HandsOn O.follows out.old out.new }
+    ensures out { Hand O.Sink (result ≡ Err Stop.OutFault) out.old out.new }
 {
     for k in 0..list.classes() {
         match put_class(alloc, db, disk, list.class(k), out) {
@@ -246,7 +237,6 @@ fn tell_order<D: Disk, O: Sink + Drop>(
     disk: &mut D,
     out: &mut Buffered<O>,
 ) -> Result<(), Stop>
-    requires out_empty { holds out.old ≡ [] }
     requires keeps { Kept D.Disk disk.old db.now }
     requires keeps_index { KeptIndex D.Disk disk.old db.now }
     requires runs { db.now.stopped ≡ false }
@@ -257,8 +247,7 @@ fn tell_order<D: Disk, O: Sink + Drop>(
     ensures no_err { result ≢ Err Stop.ErrFault }
     ensures looks { Peeks D.Disk true disk.old disk.new }
     ensures disk { DiskFault D.Disk (result ≡ Err Stop.ReadFault) disk.old disk.new }
-    ensures out { SinkFault O.Sink (result ≡ Err Stop.OutFault) out.old out.new }
-    ensures out_rest { HandsOn O.follows out.old out.new }
+    ensures out { Hand O.Sink (result ≡ Err Stop.OutFault) out.old out.new }
 {
     match list_classes(alloc, db, disk) {
         Ok(list) => put_classes(alloc, db, disk, &list, out),
@@ -278,8 +267,6 @@ pub fn report_order<D: Disk, O: Sink + Drop, E: Sink + Drop>(
     out: &mut Buffered<O>,
     err: &mut Buffered<E>,
 ) -> Result<bool, Stop>
-    requires out_empty { holds out.old ≡ [] }
-    requires err_empty { holds err.old ≡ [] }
     requires keeps { Kept D.Disk disk.old db.now }
     requires keeps_index { KeptIndex D.Disk disk.old db.now }
     requires runs { db.now.stopped ≡ false }
@@ -289,10 +276,7 @@ pub fn report_order<D: Disk, O: Sink + Drop, E: Sink + Drop>(
     ensures broken { IsTrue D.tells → IfErr result (StopsOfSome (D.files disk.old).idx) }
     ensures looks { Peeks D.Disk true disk.old disk.new }
     ensures disk { DiskFault D.Disk (result ≡ Err Stop.ReadFault) disk.old disk.new }
-    ensures out { SinkFault O.Sink (result ≡ Err Stop.OutFault) out.old out.new }
-    ensures err { SinkFault E.Sink (result ≡ Err Stop.ErrFault) err.old err.new }
-    ensures out_rest { HandsOn O.follows out.old out.new }
-    ensures err_rest { HandsOn E.follows err.old err.new }
+    ensures hands { Hands O.Sink E.Sink (result ≡ Err Stop.OutFault) (result ≡ Err Stop.ErrFault) out.old err.old out.new err.new }
 {
     let bad = match tell_each_bad(alloc, db, disk, err) {
         Ok(bad) => bad,

@@ -1,7 +1,7 @@
 //! The packages that a question picks, printed one after the other.
 
 ghost use Rattle.std.specs.Prelude.{◌≡◌, ◌≢◌, ℕ, ◌+◌, ◌-◌, ◌<◌, ◌≤◌, ◌||◌, [], false, IsTrue, Err, IfOk, IfSome};
-ghost use Rattle.rpm_outside.specs.Buffered.{holds, HandsOn};
+ghost use Rattle.rpm_outside.specs.Buffered.{holds};
 ghost use Rattle.rpm_outside.specs.declared.disk.File.TheVariants.{Pkg};
 ghost use Rattle.rpm_db.specs.State.{above};
 ghost use Rattle.rpm_db.specs.Database.{cost_to, cost_all};
@@ -12,7 +12,7 @@ ghost use Rattle.rpm_tool.specs.Queries.{packages_part};
 ghost use Rattle.rpm_tool.specs.Reports.{step_by};
 ghost use Rattle.rpm_tool.specs.Reads.{ReadsIn, reach_until};
 ghost use Rattle.rpm_tool.specs.Answers.{stop_of, OneIs, NextIs, PartIs, cost_until, fails_in, is_some_of};
-ghost use Rattle.rpm_tool.specs.Frame.{Looks, shown, DiskFault, SinkFault, Kept, KeptIndex, HasRows, packages_in, pkg_read};
+ghost use Rattle.rpm_tool.specs.Frame.{Looks, shown, DiskFault, Kept, KeptIndex, HasRows, packages_in, pkg_read, Hands};
 
 use crate::step::{Stop, Way, print_picked};
 use rpm_db::Db;
@@ -69,16 +69,11 @@ fn print_one<O: Sink + Drop, E: Sink + Drop>(
     out: &mut Buffered<O>,
     err: &mut Buffered<E>,
 ) -> Result<Option<(u32, bool)>, Stop>
-    requires out_empty { holds out.old ≡ [] }
-    requires err_empty { holds err.old ≡ [] }
     ensures one { (j : ℕ) → OneIs (step_by way.now j (entry_in picked.now)) result (shown O.Sink E.Sink out.old err.old) (shown O.Sink E.Sink out.new err.new) }
     ensures numbered { IfOk result (λ o. IfSome o (λ e. e.0 ≡ number_in picked.now)) }
     ensures no_read { result ≢ Err Stop.ReadFault }
     ensures unbroken { (unit : ℕ) → result ≢ Err (Stop.BadIndex unit) }
-    ensures out { SinkFault O.Sink (result ≡ Err Stop.OutFault) out.old out.new }
-    ensures err { SinkFault E.Sink (result ≡ Err Stop.ErrFault) err.old err.new }
-    ensures out_rest { HandsOn O.follows out.old out.new }
-    ensures err_rest { HandsOn E.follows err.old err.new }
+    ensures hands { Hands O.Sink E.Sink (result ≡ Err Stop.OutFault) (result ≡ Err Stop.ErrFault) out.old err.old out.new err.new }
 {
     match print_picked(alloc, way, picked, out, err) {
         Ok(to_out) => Ok(Some((picked.number(), to_out))),
@@ -98,8 +93,6 @@ fn print_next<D: Disk, O: Sink + Drop, E: Sink + Drop>(
     out: &mut Buffered<O>,
     err: &mut Buffered<E>,
 ) -> Result<Option<(u32, bool)>, Stop>
-    requires out_empty { holds out.old ≡ [] }
-    requires err_empty { holds err.old ≡ [] }
     requires keeps { Kept D.Disk disk.old db.now }
     requires runs { db.now.stopped ≡ false }
     ensures same { picker.new ≡ picker.old }
@@ -112,10 +105,7 @@ fn print_next<D: Disk, O: Sink + Drop, E: Sink + Drop>(
     ensures looks { Looks D.Disk Pkg (cost_until number db.now.store result) disk.old disk.new }
     ensures disk { DiskFault D.Disk (result ≡ Err Stop.ReadFault) disk.old disk.new }
     ensures unbroken { (unit : ℕ) → result ≢ Err (Stop.BadIndex unit) }
-    ensures out { SinkFault O.Sink (result ≡ Err Stop.OutFault) out.old out.new }
-    ensures err { SinkFault E.Sink (result ≡ Err Stop.ErrFault) err.old err.new }
-    ensures out_rest { HandsOn O.follows out.old out.new }
-    ensures err_rest { HandsOn E.follows err.old err.new }
+    ensures hands { Hands O.Sink E.Sink (result ≡ Err Stop.OutFault) (result ≡ Err Stop.ErrFault) out.old err.old out.new err.new }
 {
     match picker.next_after(alloc, db, disk, selection, number) {
         Ok(None) => Ok(None),
@@ -143,8 +133,6 @@ pub fn print_above<D: Disk, O: Sink + Drop, E: Sink + Drop>(
     out: &mut Buffered<O>,
     err: &mut Buffered<E>,
 ) -> Result<PrintedPackages, Stop>
-    requires out_empty { holds out.old ≡ [] }
-    requires err_empty { holds err.old ≡ [] }
     requires keeps { Kept D.Disk disk.old db.now }
     requires runs { db.now.stopped ≡ false }
     ensures same { picker.new ≡ picker.old }
@@ -158,10 +146,7 @@ pub fn print_above<D: Disk, O: Sink + Drop, E: Sink + Drop>(
     ensures looks { Looks D.Disk Pkg (cost_all db.now - cost_to after db.now) disk.old disk.new }
     ensures disk { DiskFault D.Disk (result ≡ Err Stop.ReadFault) disk.old disk.new }
     ensures unbroken { (unit : ℕ) → result ≢ Err (Stop.BadIndex unit) }
-    ensures out { SinkFault O.Sink (result ≡ Err Stop.OutFault) out.old out.new }
-    ensures err { SinkFault E.Sink (result ≡ Err Stop.ErrFault) err.old err.new }
-    ensures out_rest { HandsOn O.follows out.old out.new }
-    ensures err_rest { HandsOn E.follows err.old err.new }
+    ensures hands { Hands O.Sink E.Sink (result ≡ Err Stop.OutFault) (result ≡ Err Stop.ErrFault) out.old err.old out.new err.new }
 {
     let mut number = after;
     let mut some = false;

@@ -26,13 +26,10 @@ fn put_through<S: Sink + Drop>(sink: &mut Buffered<S>, pieces: &[&[u8]]) -> Resu
     sink.flush()
 }
 
-/// Writes so. What a sink that failed didn't take is let go.
+/// Writes so. What the buffer held is let go.
 pub fn put_line<S: Sink + Drop>(sink: &mut Buffered<S>, pieces: &[&[u8]]) -> Result<(), Failed>
-    requires { holds sink.old ≡ [] }
     ensures writes { Writes S.tells S.taken S.faults S.follows (inner sink.old) (inner sink.new) (concat (map (λ piece. piece.now) pieces.now)) result }
-    ensures empty { holds sink.new ≡ [] }
 {
-    let put = put_through(sink, pieces);
     sink.clear();
-    put
+    put_through(sink, pieces)
 }

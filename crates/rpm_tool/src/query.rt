@@ -1,7 +1,7 @@
 //! The queries of an opened database.
 
 ghost use Rattle.std.specs.Prelude.{◌≡◌, ◌≢◌, ◌+◌, ◌<◌, ◌≤◌, ℕ, [], ◌∷◌, if◌then◌else◌, false, map, IsTrue};
-ghost use Rattle.rpm_outside.specs.Buffered.{holds, HandsOn};
+ghost use Rattle.rpm_outside.specs.Buffered.{holds};
 ghost use Rattle.rpm_outside.specs.declared.disk.File.TheVariants.{Pkg};
 ghost use Rattle.rpm_db.specs.Database as database;
 ghost use Rattle.rpm_db.specs.Database.{is_indexed, cost_all};
@@ -15,7 +15,7 @@ ghost use Rattle.rpm_tool.specs.Queries.{packages_part, argument_part, query};
 ghost use Rattle.rpm_tool.specs.Reports.{step_by};
 ghost use Rattle.rpm_tool.specs.Reads.{argument_reach, reaches_by, reach_sum, reached_by, IsOfChains};
 ghost use Rattle.rpm_tool.specs.Answers.{why_of, is_foreign, is_of_opening, Went};
-ghost use Rattle.rpm_tool.specs.Frame.{Looks, Peeks, shown, DiskFault, SinkFault, Kept, KeptIndex, HasRows, packages_in, pkg_read};
+ghost use Rattle.rpm_tool.specs.Frame.{Looks, Peeks, shown, DiskFault, Kept, KeptIndex, HasRows, packages_in, pkg_read, Hands};
 
 use crate::answer::Why;
 use crate::argument::answer;
@@ -53,8 +53,6 @@ pub fn query_all<D: Disk, O: Sink + Drop, E: Sink + Drop>(
     out: &mut Buffered<O>,
     err: &mut Buffered<E>,
 ) -> Why
-    requires out_empty { holds out.old ≡ [] }
-    requires err_empty { holds err.old ≡ [] }
     requires keeps { Kept D.Disk disk.old db.now }
     requires runs { db.now.stopped ≡ false }
     requires keeps_index { KeptIndex D.Disk disk.old db.now }
@@ -66,10 +64,7 @@ pub fn query_all<D: Disk, O: Sink + Drop, E: Sink + Drop>(
     ensures looks { Looks D.Disk Pkg (cost_all db.now) disk.old disk.new }
     ensures disk { DiskFault D.Disk (result ≡ Why.DiskFault) disk.old disk.new }
     ensures unbroken { (unit : ℕ) → result ≢ Why.BadIndex unit }
-    ensures out { SinkFault O.Sink (result ≡ Why.OutFault) out.old out.new }
-    ensures err { SinkFault E.Sink (result ≡ Why.ErrFault) err.old err.new }
-    ensures out_rest { HandsOn O.follows out.old out.new }
-    ensures err_rest { HandsOn E.follows err.old err.new }
+    ensures hands { Hands O.Sink E.Sink (result ≡ Why.OutFault) (result ≡ Why.ErrFault) out.old err.old out.new err.new }
 {
     let mut picker = begin_unasked(alloc, db, disk, &Selection::All);
     match print_above(
@@ -108,8 +103,6 @@ fn query_each<D: Disk, O: Sink + Drop, E: Sink + Drop>(
     out: &mut Buffered<O>,
     err: &mut Buffered<E>,
 ) -> Why
-    requires out_empty { holds out.old ≡ [] }
-    requires err_empty { holds err.old ≡ [] }
     requires keeps { Kept D.Disk disk.old db.now }
     requires runs { db.now.stopped ≡ false }
     requires keeps_index { KeptIndex D.Disk disk.old db.now }
@@ -125,10 +118,7 @@ fn query_each<D: Disk, O: Sink + Drop, E: Sink + Drop>(
     ensures bad_index { IsTrue D.tells → IsOfChains ask.now.chosen (map (text_at words.now) ask.now.arguments) (D.files disk.old).idx result }
     ensures looks { Peeks D.Disk (is_indexed db.now) disk.old disk.new }
     ensures disk { DiskFault D.Disk (result ≡ Why.DiskFault) disk.old disk.new }
-    ensures out { SinkFault O.Sink (result ≡ Why.OutFault) out.old out.new }
-    ensures err { SinkFault E.Sink (result ≡ Why.ErrFault) err.old err.new }
-    ensures out_rest { HandsOn O.follows out.old out.new }
-    ensures err_rest { HandsOn E.follows err.old err.new }
+    ensures hands { Hands O.Sink E.Sink (result ≡ Why.OutFault) (result ≡ Why.ErrFault) out.old err.old out.new err.new }
 {
     let mut failed = 0u32;
     for k in 0..ask.arguments() {
@@ -166,8 +156,6 @@ pub fn query_opened<D: Disk, O: Sink + Drop, E: Sink + Drop>(
     out: &mut Buffered<O>,
     err: &mut Buffered<E>,
 ) -> Why
-    requires out_empty { holds out.old ≡ [] }
-    requires err_empty { holds err.old ≡ [] }
     requires keeps { Kept D.Disk disk.old db.now }
     requires runs { db.now.stopped ≡ false }
     requires keeps_index { KeptIndex D.Disk disk.old db.now }
@@ -183,10 +171,7 @@ pub fn query_opened<D: Disk, O: Sink + Drop, E: Sink + Drop>(
     ensures bad_index { IsTrue D.tells → IsOfChains ask.now.chosen (map (text_at words.now) ask.now.arguments) (D.files disk.old).idx result }
     ensures looks { Peeks D.Disk (is_indexed db.now) disk.old disk.new }
     ensures disk { DiskFault D.Disk (result ≡ Why.DiskFault) disk.old disk.new }
-    ensures out { SinkFault O.Sink (result ≡ Why.OutFault) out.old out.new }
-    ensures err { SinkFault E.Sink (result ≡ Why.ErrFault) err.old err.new }
-    ensures out_rest { HandsOn O.follows out.old out.new }
-    ensures err_rest { HandsOn E.follows err.old err.new }
+    ensures hands { Hands O.Sink E.Sink (result ≡ Why.OutFault) (result ≡ Why.ErrFault) out.old err.old out.new err.new }
 {
     let count = ask.arguments();
     if count == 0 {

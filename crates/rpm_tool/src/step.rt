@@ -1,7 +1,7 @@
 //! What is printed of one package.
 
 ghost use Rattle.std.specs.Prelude.{◌≡◌, ◌≢◌, ℕ, Bool, List, [], ◌++◌, Err, IfOk};
-ghost use Rattle.rpm_outside.specs.Buffered.{inner, holds, HandsOn};
+ghost use Rattle.rpm_outside.specs.Buffered.{inner, holds};
 ghost use Rattle.rpm_header.specs.Digest.{magic};
 ghost use Rattle.rpm_db.specs.State.{Good};
 ghost use Rattle.rpm_qfeval.specs.Meaning.{meaning};
@@ -12,7 +12,8 @@ ghost use Rattle.rpm_tool.specs.Answers.{StepIs};
 ghost use Rattle.rpm_change.specs.Steps.{Bearer, ToOut, ToErr, bearer};
 ghost use Rattle.rpm_tool.specs.Queries.{bad_line, printed};
 ghost use Rattle.rpm_tool.specs.Reports.{step_by};
-ghost use Rattle.rpm_tool.specs.Frame.{shown, SinkFault};
+ghost use Rattle.rpm_tool.specs.Frame.{shown, Hands};
+ghost use Rattle.rpm_change.specs.Hands.{Hand};
 
 use itoa::Buffer;
 use rpm_header::{MAGIC, View};
@@ -36,14 +37,13 @@ pub enum Stop {
 
 /// Writes a message on a package to err.
 fn put_message<E: Sink + Drop>(err: &mut Buffered<E>, message: &[u8]) -> Result<bool, Stop>
-    requires err_empty { holds err.old ≡ [] }
     ensures step { (for : Bearer) (out_tells : Bool) (out : List ℕ) → StepIs (ToErr for message.now) result
         (outputs out_tells out E.tells (E.taken (inner err.old))) (outputs out_tells out E.tells (E.taken (inner err.new))) }
     ensures no_read { result ≢ Err Stop.ReadFault }
     ensures no_out { result ≢ Err Stop.OutFault }
-    ensures err { SinkFault E.Sink (result ≡ Err Stop.ErrFault) err.old err.new }
-    ensures err_rest { HandsOn E.follows err.old err.new }
+    ensures err { Hand E.Sink (result ≡ Err Stop.ErrFault) err.old err.new }
 {
+    err.clear();
     match put_and_flush(err, message) {
         Ok(()) => Ok(false),
         Err(_) => Err(Stop::ErrFault),
@@ -69,13 +69,11 @@ pub fn put_bad<E: Sink + Drop>(
     err: &mut Buffered<E>,
     number: u32,
 ) -> Result<bool, Stop>
-    requires err_empty { holds err.old ≡ [] }
     ensures step { (for : Bearer) (out_tells : Bool) (out : List ℕ) → StepIs (ToErr for (bad_line number)) result
         (outputs out_tells out E.tells (E.taken (inner err.old))) (outputs out_tells out E.tells (E.taken (inner err.new))) }
     ensures no_read { result ≢ Err Stop.ReadFault }
     ensures no_out { result ≢ Err Stop.OutFault }
-    ensures err { SinkFault E.Sink (result ≡ Err Stop.ErrFault) err.old err.new }
-    ensures err_rest { HandsOn E.follows err.old err.new }
+    ensures err { Hand E.Sink (result ≡ Err Stop.ErrFault) err.old err.new }
 {
     match bad_line(alloc, number) {
         Ok(line) => put_message(err, &line),
@@ -102,20 +100,17 @@ fn print_through<O: Sink + Drop>(
     }
 }
 
-/// Prints so. What a sink that failed didn't take is let go.
+/// Prints so. What the buffer held is let go.
 fn print_flushed<O: Sink + Drop>(
     format: &Format,
     view: &View<'_>,
     number: u32,
     out: &mut Buffered<O>,
 ) -> Result<(), DirectFault>
-    requires { holds out.old ≡ [] }
     ensures prints { Prints O.tells O.taken O.faults O.follows (meaning view.now number format.now) (inner out.old) (inner out.new) (ending result) }
-    ensures empty { holds out.new ≡ [] }
 {
-    let printed = print_through(format, view, number, out);
     out.clear();
-    printed
+    print_through(format, view, number, out)
 }
 
 /// Prints what the format says of a header, to out (true), or where a bracket's tags have different numbers of elements
@@ -128,15 +123,10 @@ pub fn print_header<O: Sink + Drop, E: Sink + Drop>(
     out: &mut Buffered<O>,
     err: &mut Buffered<E>,
 ) -> Result<bool, Stop>
-    requires out_empty { holds out.old ≡ [] }
-    requires err_empty { holds err.old ≡ [] }
     ensures step { (j : ℕ) → StepIs (printed (bearer j number) (meaning view.now number format.now)) result (shown O.Sink E.Sink out.old err.old) (shown
         O.Sink E.Sink out.new err.new) }
     ensures no_read { result ≢ Err Stop.ReadFault }
-    ensures out { SinkFault O.Sink (result ≡ Err Stop.OutFault) out.old out.new }
-    ensures err { SinkFault E.Sink (result ≡ Err Stop.ErrFault) err.old err.new }
-    ensures out_rest { HandsOn O.follows out.old out.new }
-    ensures err_rest { HandsOn E.follows err.old err.new }
+    ensures hands { Hands O.Sink E.Sink (result ≡ Err Stop.OutFault) (result ≡ Err Stop.ErrFault) out.old err.old out.new err.new }
 {
     match print_flushed(format, view, number, out) {
         Ok(()) => Ok(true),
@@ -160,14 +150,13 @@ fn with_magic(alloc: Global, blob: &[u8]) -> Result<Vec<u8>, AllocError>
 
 /// Writes a text to out.
 pub fn put_text<O: Sink + Drop>(out: &mut Buffered<O>, text: &[u8]) -> Result<bool, Stop>
-    requires out_empty { holds out.old ≡ [] }
     ensures step { (for : Bearer) (err_tells : Bool) (err : List ℕ) → StepIs (ToOut for text.now) result
         (outputs O.tells (O.taken (inner out.old)) err_tells err) (outputs O.tells (O.taken (inner out.new)) err_tells err) }
     ensures no_read { result ≢ Err Stop.ReadFault }
     ensures no_err { result ≢ Err Stop.ErrFault }
-    ensures out { SinkFault O.Sink (result ≡ Err Stop.OutFault) out.old out.new }
-    ensures out_rest { HandsOn O.follows out.old out.new }
+    ensures out { Hand O.Sink (result ≡ Err Stop.OutFault) out.old out.new }
 {
+    out.clear();
     match put_and_flush(out, text) {
         Ok(()) => Ok(true),
         Err(_) => Err(Stop::OutFault),
@@ -180,13 +169,11 @@ fn put_export<O: Sink + Drop>(
     blob: &[u8],
     out: &mut Buffered<O>,
 ) -> Result<bool, Stop>
-    requires out_empty { holds out.old ≡ [] }
     ensures step { (for : Bearer) (err_tells : Bool) (err : List ℕ) → StepIs (ToOut for (magic ++ blob.now)) result
         (outputs O.tells (O.taken (inner out.old)) err_tells err) (outputs O.tells (O.taken (inner out.new)) err_tells err) }
     ensures no_read { result ≢ Err Stop.ReadFault }
     ensures no_err { result ≢ Err Stop.ErrFault }
-    ensures out { SinkFault O.Sink (result ≡ Err Stop.OutFault) out.old out.new }
-    ensures out_rest { HandsOn O.follows out.old out.new }
+    ensures out { Hand O.Sink (result ≡ Err Stop.OutFault) out.old out.new }
 {
     match with_magic(alloc, blob) {
         Ok(piece) => put_text(out, &piece),
@@ -212,15 +199,10 @@ fn print_good<O: Sink + Drop, E: Sink + Drop>(
     out: &mut Buffered<O>,
     err: &mut Buffered<E>,
 ) -> Result<bool, Stop>
-    requires out_empty { holds out.old ≡ [] }
-    requires err_empty { holds err.old ≡ [] }
     ensures step { (j : ℕ) → StepIs (step_by way.now j (number, Good blob.now)) result (shown O.Sink E.Sink out.old err.old) (shown O.Sink E.Sink out.new
         err.new) }
     ensures no_read { result ≢ Err Stop.ReadFault }
-    ensures out { SinkFault O.Sink (result ≡ Err Stop.OutFault) out.old out.new }
-    ensures err { SinkFault E.Sink (result ≡ Err Stop.ErrFault) err.old err.new }
-    ensures out_rest { HandsOn O.follows out.old out.new }
-    ensures err_rest { HandsOn E.follows err.old err.new }
+    ensures hands { Hands O.Sink E.Sink (result ≡ Err Stop.OutFault) (result ≡ Err Stop.ErrFault) out.old err.old out.new err.new }
 {
     match way {
         Way::Format(format) => {
@@ -239,15 +221,10 @@ pub fn print_picked<O: Sink + Drop, E: Sink + Drop>(
     out: &mut Buffered<O>,
     err: &mut Buffered<E>,
 ) -> Result<bool, Stop>
-    requires out_empty { holds out.old ≡ [] }
-    requires err_empty { holds err.old ≡ [] }
     ensures step { (j : ℕ) → StepIs (step_by way.now j (entry_in picked.now)) result (shown O.Sink E.Sink out.old err.old) (shown O.Sink E.Sink out.new
         err.new) }
     ensures no_read { result ≢ Err Stop.ReadFault }
-    ensures out { SinkFault O.Sink (result ≡ Err Stop.OutFault) out.old out.new }
-    ensures err { SinkFault E.Sink (result ≡ Err Stop.ErrFault) err.old err.new }
-    ensures out_rest { HandsOn O.follows out.old out.new }
-    ensures err_rest { HandsOn E.follows err.old err.new }
+    ensures hands { Hands O.Sink E.Sink (result ≡ Err Stop.OutFault) (result ≡ Err Stop.ErrFault) out.old err.old out.new err.new }
 {
     match picked {
         Picked::Good { number, blob } => print_good(alloc, way, *number, blob, out, err),

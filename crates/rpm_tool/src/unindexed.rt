@@ -1,7 +1,7 @@
 //! The commands that open the database without its index.
 
 ghost use Rattle.std.specs.Prelude.{◌≡◌, ◌+◌, ◌≤◌, ℕ, [], false, IsTrue};
-ghost use Rattle.rpm_outside.specs.Buffered.{holds, HandsOn};
+ghost use Rattle.rpm_outside.specs.Buffered.{holds};
 ghost use Rattle.rpm_outside.specs.declared.disk.File.TheVariants.{Pkg};
 ghost use Rattle.rpm_pkgdb.specs.Store.{store};
 ghost use Rattle.rpm_db.specs.Database as database;
@@ -9,7 +9,7 @@ ghost use Rattle.rpm_db.specs.Database.{is_indexed};
 ghost use Rattle.rpm_tool.specs.Asked.{deed_of};
 ghost use Rattle.rpm_tool.specs.Reports.{course};
 ghost use Rattle.rpm_tool.specs.Answers.{is_foreign, Went, Opened, reach_by, reach_cost, read_to, query_cost};
-ghost use Rattle.rpm_tool.specs.Frame.{Looks, LooksAt, shown, DiskFault, SinkFault, Kept, pkg_read};
+ghost use Rattle.rpm_tool.specs.Frame.{Looks, LooksAt, shown, DiskFault, Kept, pkg_read, Hands};
 
 use crate::answer::Why;
 use crate::asked::{Deed, deed_of};
@@ -34,8 +34,6 @@ fn answer_opened<D: Disk, O: Sink + Drop, E: Sink + Drop>(
     out: &mut Buffered<O>,
     err: &mut Buffered<E>,
 ) -> Why
-    requires out_empty { holds out.old ≡ [] }
-    requires err_empty { holds err.old ≡ [] }
     requires keeps { Kept D.Disk disk.old db.now }
     requires runs { db.now.stopped ≡ false }
     requires no_index { is_indexed db.now ≡ false }
@@ -48,10 +46,7 @@ fn answer_opened<D: Disk, O: Sink + Drop, E: Sink + Drop>(
         ask.now db.now.store }
     ensures looks { LooksAt D.Disk Pkg disk.old disk.new }
     ensures disk { DiskFault D.Disk (result ≡ Why.DiskFault) disk.old disk.new }
-    ensures out { SinkFault O.Sink (result ≡ Why.OutFault) out.old out.new }
-    ensures err { SinkFault E.Sink (result ≡ Why.ErrFault) err.old err.new }
-    ensures out_rest { HandsOn O.follows out.old out.new }
-    ensures err_rest { HandsOn E.follows err.old err.new }
+    ensures hands { Hands O.Sink E.Sink (result ≡ Why.OutFault) (result ≡ Why.ErrFault) out.old err.old out.new err.new }
 {
     match deed_of(ask.mode()) {
         Deed::Print => query_opened(alloc, db, disk, words, ask, format, out, err),
@@ -73,8 +68,6 @@ pub fn answer_unindexed<D: Disk, O: Sink + Drop, E: Sink + Drop>(
     out: &mut Buffered<O>,
     err: &mut Buffered<E>,
 ) -> Why
-    requires out_empty { holds out.old ≡ [] }
-    requires err_empty { holds err.old ≡ [] }
     ensures went { IsTrue D.tells → Opened (λ s. course format.now (D.files disk.old).pkg s words.now ask.now) (store (D.files disk.old).pkg) result (shown
         O.Sink E.Sink out.old err.old) (shown O.Sink E.Sink out.new err.new) (λ s for. pkg_read D.Disk disk.new ≤ pkg_read D.Disk disk.old + read_to (D.files
         disk.old).pkg words.now ask.now s for) }
@@ -82,10 +75,7 @@ pub fn answer_unindexed<D: Disk, O: Sink + Drop, E: Sink + Drop>(
     ensures done { is_foreign result ≡ false }
     ensures looks { (most : ℕ) × Looks D.Disk Pkg most disk.old disk.new }
     ensures disk { DiskFault D.Disk (result ≡ Why.DiskFault) disk.old disk.new }
-    ensures out { SinkFault O.Sink (result ≡ Why.OutFault) out.old out.new }
-    ensures err { SinkFault E.Sink (result ≡ Why.ErrFault) err.old err.new }
-    ensures out_rest { HandsOn O.follows out.old out.new }
-    ensures err_rest { HandsOn E.follows err.old err.new }
+    ensures hands { Hands O.Sink E.Sink (result ≡ Why.OutFault) (result ≡ Why.ErrFault) out.old err.old out.new err.new }
 {
     match Db::open_unindexed(alloc, disk) {
         Ok(db) => answer_opened(alloc, &db, disk, words, ask, format, out, err),

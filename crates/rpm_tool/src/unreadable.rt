@@ -2,7 +2,7 @@
 
 ghost use Rattle.std.specs.Prelude.{◌≡◌, ◌≢◌, ℕ, Bool, List, [], true, false, IsTrue, Err, IfOk};
 ghost use Rattle.std.specs.FinMap as finite;
-ghost use Rattle.rpm_outside.specs.Buffered.{inner, holds, HandsOn};
+ghost use Rattle.rpm_outside.specs.Buffered.{inner, holds};
 ghost use Rattle.rpm_header.specs.Header.{Header, header};
 ghost use Rattle.rpm_db.specs.Database as database;
 ghost use Rattle.rpm_change.specs.Endings.{outputs};
@@ -10,7 +10,8 @@ ghost use Rattle.rpm_tool.specs.Answers.{Anywhere, PartIs};
 ghost use Rattle.rpm_tool.specs.Requirements.{read_text, package_text, bad_at, bad_parts};
 ghost use Rattle.rpm_tool.specs.Steps.{fails};
 ghost use Rattle.rpm_tool.specs.Queries.{bad_step};
-ghost use Rattle.rpm_tool.specs.Frame.{Peeks, DiskFault, SinkFault, Kept, packages_in};
+ghost use Rattle.rpm_tool.specs.Frame.{Peeks, DiskFault, Kept, packages_in};
+ghost use Rattle.rpm_change.specs.Hands.{Hand};
 
 use crate::picked::either;
 use crate::step::{Stop, put_bad};
@@ -51,14 +52,12 @@ fn put_failing<E: Sink + Drop>(
     err: &mut Buffered<E>,
     number: u32,
 ) -> Result<bool, Stop>
-    requires err_empty { holds err.old ≡ [] }
     ensures part { (out_tells : Bool) (out : List ℕ) → PartIs (fails (bad_step 0 number)) result
         (outputs out_tells out E.tells (E.taken (inner err.old))) (outputs out_tells out E.tells (E.taken (inner err.new))) Anywhere }
     ensures no_read { result ≢ Err Stop.ReadFault }
     ensures no_out { result ≢ Err Stop.OutFault }
     ensures unbroken { (unit : ℕ) → result ≢ Err (Stop.BadIndex unit) }
-    ensures err { SinkFault E.Sink (result ≡ Err Stop.ErrFault) err.old err.new }
-    ensures err_rest { HandsOn E.follows err.old err.new }
+    ensures err { Hand E.Sink (result ≡ Err Stop.ErrFault) err.old err.new }
 {
     match put_bad(alloc, err, number) {
         Ok(_) => Ok(true),
@@ -74,7 +73,6 @@ fn tell_bad<D: Disk, E: Sink + Drop>(
     number: u32,
     err: &mut Buffered<E>,
 ) -> Result<bool, Stop>
-    requires err_empty { holds err.old ≡ [] }
     requires keeps { Kept D.Disk disk.old db.now }
     requires runs { db.now.stopped ≡ false }
     ensures kept { Kept D.Disk disk.new db.now }
@@ -84,8 +82,7 @@ fn tell_bad<D: Disk, E: Sink + Drop>(
     ensures no_out { result ≢ Err Stop.OutFault }
     ensures unbroken { (unit : ℕ) → result ≢ Err (Stop.BadIndex unit) }
     ensures disk { DiskFault D.Disk (result ≡ Err Stop.ReadFault) disk.old disk.new }
-    ensures err { SinkFault E.Sink (result ≡ Err Stop.ErrFault) err.old err.new }
-    ensures err_rest { HandsOn E.follows err.old err.new }
+    ensures err { Hand E.Sink (result ≡ Err Stop.ErrFault) err.old err.new }
 {
     match db.get(alloc, disk, number) {
         Ok(_blob) => Ok(false),
@@ -103,7 +100,6 @@ pub fn tell_each_bad<D: Disk, E: Sink + Drop>(
     disk: &mut D,
     err: &mut Buffered<E>,
 ) -> Result<bool, Stop>
-    requires err_empty { holds err.old ≡ [] }
     requires keeps { Kept D.Disk disk.old db.now }
     requires runs { db.now.stopped ≡ false }
     requires from_one { database.holds 0 db.now ≡ false }
@@ -114,8 +110,7 @@ pub fn tell_each_bad<D: Disk, E: Sink + Drop>(
     ensures no_out { result ≢ Err Stop.OutFault }
     ensures unbroken { (unit : ℕ) → result ≢ Err (Stop.BadIndex unit) }
     ensures disk { DiskFault D.Disk (result ≡ Err Stop.ReadFault) disk.old disk.new }
-    ensures err { SinkFault E.Sink (result ≡ Err Stop.ErrFault) err.old err.new }
-    ensures err_rest { HandsOn E.follows err.old err.new }
+    ensures err { Hand E.Sink (result ≡ Err Stop.ErrFault) err.old err.new }
 {
     let mut number = 0;
     let mut fails = false;

@@ -2,7 +2,7 @@
 
 ghost use Rattle.std.specs.Prelude.{◌≡◌, ◌≢◌, ℕ, Bool, List, [], map, if◌then◌else◌, true, false, IsTrue, Err, IfOk, IfErr, slice_get};
 ghost use Rattle.std.specs.Option.{option_map};
-ghost use Rattle.rpm_outside.specs.Buffered.{inner, holds, HandsOn};
+ghost use Rattle.rpm_outside.specs.Buffered.{inner, holds};
 ghost use Rattle.rpm_header.specs.Header.{header};
 ghost use Rattle.rpm_db.specs.Database as database;
 ghost use Rattle.rpm_check.specs.inner.Needs.{needed_in};
@@ -13,7 +13,8 @@ ghost use Rattle.rpm_qfeval.specs.Numbers.{has, letters, depflags};
 ghost use Rattle.rpm_change.specs.Endings.{outputs};
 ghost use Rattle.rpm_tool.specs.Answers.{Anywhere, Reached, StepIs, PartIs, is_of_sink};
 ghost use Rattle.rpm_tool.specs.Requirements.{read_text, range_text, unmet_line, unmet_text, unmet_step, unmet_part, unsatisfied_part, stop_of_check, StopsOfSome};
-ghost use Rattle.rpm_tool.specs.Frame.{Peeks, shown, DiskFault, SinkFault, Kept, KeptIndex, HasRows, packages_in};
+ghost use Rattle.rpm_tool.specs.Frame.{Peeks, shown, DiskFault, Kept, KeptIndex, HasRows, packages_in, Hands};
+ghost use Rattle.rpm_change.specs.Hands.{Hand};
 
 use crate::picked::either;
 use crate::step::{Stop, put_text};
@@ -157,7 +158,6 @@ fn put_unmet<D: Disk, O: Sink + Drop>(
     unmet: Unmet,
     out: &mut Buffered<O>,
 ) -> Result<bool, Stop>
-    requires out_empty { holds out.old ≡ [] }
     requires keeps { Kept D.Disk disk.old db.now }
     requires runs { db.now.stopped ≡ false }
     ensures kept { Kept D.Disk disk.new db.now }
@@ -167,8 +167,7 @@ fn put_unmet<D: Disk, O: Sink + Drop>(
     ensures unbroken { (unit : ℕ) → result ≢ Err (Stop.BadIndex unit) }
     ensures no_err { result ≢ Err Stop.ErrFault }
     ensures disk { DiskFault D.Disk (result ≡ Err Stop.ReadFault) disk.old disk.new }
-    ensures out { SinkFault O.Sink (result ≡ Err Stop.OutFault) out.old out.new }
-    ensures out_rest { HandsOn O.follows out.old out.new }
+    ensures out { Hand O.Sink (result ≡ Err Stop.OutFault) out.old out.new }
 {
     let blob = match read_blob(alloc, db, disk, unmet.number) {
         Ok(blob) => blob,
@@ -188,7 +187,6 @@ fn put_each_unmet<D: Disk, O: Sink + Drop>(
     list: &[Unmet],
     out: &mut Buffered<O>,
 ) -> Result<(), Stop>
-    requires out_empty { holds out.old ≡ [] }
     requires keeps { Kept D.Disk disk.old db.now }
     requires runs { db.now.stopped ≡ false }
     ensures went { IsTrue D.tells → (err_tells : Bool) (err : List ℕ) → Reached (map (unmet_step (packages_in D.Disk disk.old db.now)) list.now) result
@@ -197,8 +195,7 @@ fn put_each_unmet<D: Disk, O: Sink + Drop>(
     ensures unbroken { (unit : ℕ) → result ≢ Err (Stop.BadIndex unit) }
     ensures no_err { result ≢ Err Stop.ErrFault }
     ensures disk { DiskFault D.Disk (result ≡ Err Stop.ReadFault) disk.old disk.new }
-    ensures out { SinkFault O.Sink (result ≡ Err Stop.OutFault) out.old out.new }
-    ensures out_rest { HandsOn O.follows out.old out.new }
+    ensures out { Hand O.Sink (result ≡ Err Stop.OutFault) out.old out.new }
 {
     for unmet in list {
         match put_unmet(alloc, db, disk, *unmet, out) {
@@ -237,7 +234,6 @@ fn tell_unmet<D: Disk, O: Sink + Drop>(
     disk: &mut D,
     out: &mut Buffered<O>,
 ) -> Result<bool, Stop>
-    requires out_empty { holds out.old ≡ [] }
     requires keeps { Kept D.Disk disk.old db.now }
     requires keeps_index { KeptIndex D.Disk disk.old db.now }
     requires runs { db.now.stopped ≡ false }
@@ -248,8 +244,7 @@ fn tell_unmet<D: Disk, O: Sink + Drop>(
     ensures no_err { result ≢ Err Stop.ErrFault }
     ensures looks { Peeks D.Disk true disk.old disk.new }
     ensures disk { DiskFault D.Disk (result ≡ Err Stop.ReadFault) disk.old disk.new }
-    ensures out { SinkFault O.Sink (result ≡ Err Stop.OutFault) out.old out.new }
-    ensures out_rest { HandsOn O.follows out.old out.new }
+    ensures out { Hand O.Sink (result ≡ Err Stop.OutFault) out.old out.new }
 {
     let list = match list_unmet(alloc, db, disk) {
         Ok(list) => list,
@@ -273,8 +268,6 @@ pub fn report_unmet<D: Disk, O: Sink + Drop, E: Sink + Drop>(
     out: &mut Buffered<O>,
     err: &mut Buffered<E>,
 ) -> Result<bool, Stop>
-    requires out_empty { holds out.old ≡ [] }
-    requires err_empty { holds err.old ≡ [] }
     requires keeps { Kept D.Disk disk.old db.now }
     requires keeps_index { KeptIndex D.Disk disk.old db.now }
     requires runs { db.now.stopped ≡ false }
@@ -284,10 +277,7 @@ pub fn report_unmet<D: Disk, O: Sink + Drop, E: Sink + Drop>(
     ensures broken { IsTrue D.tells → IfErr result (StopsOfSome (D.files disk.old).idx) }
     ensures looks { Peeks D.Disk true disk.old disk.new }
     ensures disk { DiskFault D.Disk (result ≡ Err Stop.ReadFault) disk.old disk.new }
-    ensures out { SinkFault O.Sink (result ≡ Err Stop.OutFault) out.old out.new }
-    ensures err { SinkFault E.Sink (result ≡ Err Stop.ErrFault) err.old err.new }
-    ensures out_rest { HandsOn O.follows out.old out.new }
-    ensures err_rest { HandsOn E.follows err.old err.new }
+    ensures hands { Hands O.Sink E.Sink (result ≡ Err Stop.OutFault) (result ≡ Err Stop.ErrFault) out.old err.old out.new err.new }
 {
     let bad = match tell_each_bad(alloc, db, disk, err) {
         Ok(bad) => bad,

@@ -2,7 +2,7 @@
 
 ghost use Rattle.std.specs.Prelude.{◌≡◌, ◌≢◌, ◌+◌, ◌*◌, ◌≤◌, ℕ, Bool, List, [], ◌∷◌, map, true, false, IsTrue, Some, Err};
 ghost use Rattle.std.specs.FinMap.{entries};
-ghost use Rattle.rpm_outside.specs.Buffered.{inner, holds, HandsOn};
+ghost use Rattle.rpm_outside.specs.Buffered.{inner, holds};
 ghost use Rattle.rpm_outside.specs.Sinks.{Writes};
 ghost use Rattle.rpm_outside.specs.declared.disk.File.TheVariants.{Pkg};
 ghost use Rattle.rpm_db.specs.Database as database;
@@ -15,7 +15,8 @@ ghost use Rattle.rpm_tool.specs.Reports.{verdict_line, unsound, verdict_part, en
 ghost use Rattle.rpm_tool.specs.Reads.{reached_by};
 ghost use Rattle.rpm_change.specs.Endings.{outputs};
 ghost use Rattle.rpm_tool.specs.Answers.{PartIs, Went, is_foreign};
-ghost use Rattle.rpm_tool.specs.Frame.{Looks, DiskFault, SinkFault, Kept, packages_in, pkg_read};
+ghost use Rattle.rpm_tool.specs.Frame.{Looks, DiskFault, Kept, packages_in, pkg_read};
+ghost use Rattle.rpm_change.specs.Hands.{Hand};
 
 use crate::answer::Why;
 use crate::picked::either;
@@ -34,9 +35,7 @@ fn put_verdict<O: Sink + Drop>(
     number: u32,
     text: &[u8],
 ) -> Result<(), Failed>
-    requires { holds out.old ≡ [] }
     ensures writes { Writes O.tells O.taken O.faults O.follows (inner out.old) (inner out.new) (verdict_line number text.now) result }
-    ensures empty { holds out.new ≡ [] }
 {
     let mut digits = Buffer::new();
     let number = digits.format(number).as_bytes();
@@ -49,13 +48,11 @@ fn put_unsound<O: Sink + Drop>(
     number: u32,
     text: &[u8],
 ) -> Result<bool, Stop>
-    requires out_empty { holds out.old ≡ [] }
     ensures part { (err_tells : Bool) (err : List ℕ) → PartIs (unsound number text.now) result (outputs O.tells (O.taken (inner out.old)) err_tells err)
         (outputs O.tells (O.taken (inner out.new)) err_tells err) (λ for. for ≡ bearer 0 number) }
     ensures no_read { result ≢ Err Stop.ReadFault }
     ensures no_err { result ≢ Err Stop.ErrFault }
-    ensures out { SinkFault O.Sink (result ≡ Err Stop.OutFault) out.old out.new }
-    ensures out_rest { HandsOn O.follows out.old out.new }
+    ensures out { Hand O.Sink (result ≡ Err Stop.OutFault) out.old out.new }
 {
     match put_verdict(out, number, text) {
         Ok(()) => Ok(true),
@@ -69,13 +66,11 @@ fn tell_verdict<O: Sink + Drop>(
     number: u32,
     said: Verdict,
 ) -> Result<bool, Stop>
-    requires out_empty { holds out.old ≡ [] }
     ensures part { (err_tells : Bool) (err : List ℕ) → PartIs (verdict_part number (Some said)) result
         (outputs O.tells (O.taken (inner out.old)) err_tells err) (outputs O.tells (O.taken (inner out.new)) err_tells err) (λ for. for ≡ bearer 0 number) }
     ensures no_read { result ≢ Err Stop.ReadFault }
     ensures no_err { result ≢ Err Stop.ErrFault }
-    ensures out { SinkFault O.Sink (result ≡ Err Stop.OutFault) out.old out.new }
-    ensures out_rest { HandsOn O.follows out.old out.new }
+    ensures out { Hand O.Sink (result ≡ Err Stop.OutFault) out.old out.new }
 {
     match said {
         Verdict::Sound => Ok(false),
@@ -93,7 +88,6 @@ fn verify_one<D: Disk, O: Sink + Drop>(
     number: u32,
     out: &mut Buffered<O>,
 ) -> Result<bool, Stop>
-    requires out_empty { holds out.old ≡ [] }
     requires keeps { Kept D.Disk disk.old db.now }
     requires runs { db.now.stopped ≡ false }
     requires there { database.holds number db.now ≡ true }
@@ -103,8 +97,7 @@ fn verify_one<D: Disk, O: Sink + Drop>(
     ensures looks { Looks D.Disk Pkg (cost number db.now) disk.old disk.new }
     ensures no_err { result ≢ Err Stop.ErrFault }
     ensures disk { DiskFault D.Disk (result ≡ Err Stop.ReadFault) disk.old disk.new }
-    ensures out { SinkFault O.Sink (result ≡ Err Stop.OutFault) out.old out.new }
-    ensures out_rest { HandsOn O.follows out.old out.new }
+    ensures out { Hand O.Sink (result ≡ Err Stop.OutFault) out.old out.new }
 {
     match db.verify(alloc, disk, number) {
         Ok(said) => tell_verdict(out, number, said),
@@ -123,7 +116,6 @@ fn verify_all<D: Disk, O: Sink + Drop>(
     disk: &mut D,
     out: &mut Buffered<O>,
 ) -> Result<bool, Stop>
-    requires out_empty { holds out.old ≡ [] }
     requires keeps { Kept D.Disk disk.old db.now }
     requires runs { db.now.stopped ≡ false }
     requires from_one { database.holds 0 db.now ≡ false }
@@ -133,8 +125,7 @@ fn verify_all<D: Disk, O: Sink + Drop>(
     ensures looks { Looks D.Disk Pkg (cost_all db.now) disk.old disk.new }
     ensures no_err { result ≢ Err Stop.ErrFault }
     ensures disk { DiskFault D.Disk (result ≡ Err Stop.ReadFault) disk.old disk.new }
-    ensures out { SinkFault O.Sink (result ≡ Err Stop.OutFault) out.old out.new }
-    ensures out_rest { HandsOn O.follows out.old out.new }
+    ensures out { Hand O.Sink (result ≡ Err Stop.OutFault) out.old out.new }
 {
     let mut number = 0;
     let mut fails = false;
@@ -157,7 +148,6 @@ pub fn report<D: Disk, O: Sink + Drop>(
     disk: &mut D,
     out: &mut Buffered<O>,
 ) -> Why
-    requires out_empty { holds out.old ≡ [] }
     requires keeps { Kept D.Disk disk.old db.now }
     requires runs { db.now.stopped ≡ false }
     requires from_one { database.holds 0 db.now ≡ false }
@@ -168,8 +158,7 @@ pub fn report<D: Disk, O: Sink + Drop>(
     ensures looks { Looks D.Disk Pkg (cost_all db.now) disk.old disk.new }
     ensures no_err { result ≢ Why.ErrFault }
     ensures disk { DiskFault D.Disk (result ≡ Why.DiskFault) disk.old disk.new }
-    ensures out { SinkFault O.Sink (result ≡ Why.OutFault) out.old out.new }
-    ensures out_rest { HandsOn O.follows out.old out.new }
+    ensures out { Hand O.Sink (result ≡ Why.OutFault) out.old out.new }
 {
     match verify_all(alloc, db, disk, out) {
         Ok(true) => Why::Failed(1),

@@ -3,7 +3,7 @@
 use crate::fixtures::{database, package};
 use crate::runs::{outcome, run_on, words_of};
 use rpm_outside::{MemDisk, MemShelf, MemSink};
-use rpm_tool::{Outcome, Why, WordsFault, WordsKind, run_each};
+use rpm_tool::{Line, Outcome, Why, WordsFault, WordsKind, run_each};
 use rpm_words::Words;
 use std::alloc::{AllocError, Global};
 use std::test::Fail;
@@ -25,7 +25,11 @@ fn all_run(
     shelf.put("p1.rpm", &package(alloc)?)?;
     let mut out = MemSink::new(alloc);
     let mut err = MemSink::new(alloc);
-    let (outcomes, disk) = run_each(alloc, lines, disk, &mut shelf, &mut out, &mut err, 0);
+    let mut at_once = Vec::new(alloc);
+    for words in lines {
+        at_once.push(Line { words, moment: 0 })?;
+    }
+    let (outcomes, disk) = run_each(alloc, &at_once, disk, &mut shelf, &mut out, &mut err);
     Ok((outcomes?, disk))
 }
 

@@ -17,12 +17,12 @@ use Rattle.rpm_tool.specs.Tasks.{task_parts, task_course, is_anew, changes_index
 use Rattle.rpm_tool.specs.Limits.{LimitsBy}
 use Rattle.rpm_tool.specs.Working.{WorkedWith, why_of, is_halt}
 use Rattle.rpm_tool.proofs.Emptied.{load_empty, group_empty, same_empty}
-use Rattle.rpm_tool.proofs.Grouped.{group_did, group_changes}
+use Rattle.rpm_tool.proofs.Grouped.{group_did, group_changes, group_limits, group_fault}
 use Rattle.rpm_tool.proofs.Ends.{below_same, below_back, below_moment, below_settled, below_closed}
-use Rattle.rpm_tool.proofs.LimitEnds.{limits_grouped, limits_unloaded}
+use Rattle.rpm_tool.proofs.LimitEnds.{limits_unloaded}
 use Rattle.rpm_tool.proofs.Logged.{log_grouped, log_unloaded}
 use Rattle.rpm_tool.proofs.Standing.{may_begin}
-use Rattle.rpm_tool.proofs.Unloaded.{unloaded_did, unloaded_changes}
+use Rattle.rpm_tool.proofs.Unloaded.{unloaded_did, unloaded_changes, unloaded_fault}
 use Rattle.rpm_tool.proofs.changing.change_recovered.Goals as goal
 
 pub end_group-requires-clause-settled : goal.end_group-requires-clause-settled
@@ -65,19 +65,22 @@ returns-in-Ok-clause-one g c = λ told shelf.
     let met : LimitsBy (is_anew t) (IsLawful r.pkg r.idx) course (with_file Log (D.files first).log r) (why_of ended) =
     subst (λ (f : Files). LimitsBy (is_anew t) (IsLawful f.pkg f.idx) course f (why_of ended)) (c.in-Ok.ensures.files told)
     (c.change_on-ended.ensures.limits told shelf) in
-    let limits : LimitsBy (is_anew t) (IsLawfulGroup (D.files first)) course r given =
-    λ indexed may. limits_grouped indexed (is_anew t) course r ended given n ends.says
-    (met indexed (λ asked. may_begin (is_anew t) (λ group. group.lawful) (may asked))) in
+    let limits : LimitsBy (is_anew t) (IsLawfulGroup (D.files first)) course r (why_of ended) =
+    λ indexed may. met indexed (λ asked. may_begin (is_anew t) (λ group. group.lawful) (may asked)) in
+    let same = below_same D.tells D.files D.left_since D.moment D.bytes_read D.follows D.faults first mid last ro rn looks keeps told in
+    let back = below_back D.tells D.files D.left_since D.moment D.bytes_read D.follows D.faults first mid last ro rn looks keeps told in
+    let moment_same = below_moment D.tells D.files D.left_since D.moment D.bytes_read D.follows D.faults first mid last ro rn looks keeps told in
+    let as_read = g.met.D.Disk.earlier final (D.moment last) (D.moment final) (D.files final) told ends.images.later (omega arith)
+    (g.met.D.Disk.as_read final told) in
+    let here = g.met.D.Disk.as_read first told in
     record {
       did = group_did D.files D.left_since D.moment course ended given n first last final new before now (c.requires.closed told) worked ends;
-      changed = group_changes D.files D.left_since D.moment course ended given n first last final new before now (c.requires.closed told) worked ends
-          (below_same D.tells D.files D.left_since D.moment D.bytes_read D.follows D.faults first mid last ro rn looks keeps told)
-          (g.met.D.Disk.as_read first told) (c.requires.settled told)
-          (below_back D.tells D.files D.left_since D.moment D.bytes_read D.follows D.faults first mid last ro rn looks keeps told)
-          (below_moment D.tells D.files D.left_since D.moment D.bytes_read D.follows D.faults first mid last ro rn looks keeps told)
-          (g.met.D.Disk.earlier final (D.moment last) (D.moment final) (D.files final) told ends.images.later (omega arith) (g.met.D.Disk.as_read final told))
-          limits;
-      limits = limits;
+      changed = group_changes D.files D.left_since D.moment course ended given n first last final new before now (c.requires.closed told) worked ends same
+          here (c.requires.settled told) back moment_same as_read limits;
+      limits = group_limits D.files D.left_since D.moment course ended given n first last final new before now (c.requires.closed told) worked ends same
+          here (c.requires.settled told) back moment_same as_read limits;
+      fault = group_fault D.files D.left_since D.moment course ended given n first last final new before now (c.requires.closed told) worked ends same
+          here (c.requires.settled told) back moment_same as_read limits;
       log = log_grouped course r new before now ended given n ends.says
           (λ w is. subst (λ (e : Result Tally Why). IfErr e (λ w. is_halt w ≡ true)) is c.change_on-ended.ensures.halted) worked.went
           (c.end_group.ensures.log told);
@@ -107,6 +110,9 @@ returns-in-Err-clause-one g c = λ told shelf.
           (c.requires.closed told) (c.requires.settled told) fault (c.in-Err.ensures.says told) x (g.met.D.Disk.as_read old told)
           (g.met.D.Disk.as_read back told);
       limits = λ indexed may. limits_unloaded indexed (is_anew (task_parts c.args.task.now)) course r fault;
+      fault = unloaded_fault D.tells D.files D.left_since D.moment D.bytes_read D.follows course old back c.in-Err.ensures.looks told
+          (c.requires.closed told) (c.requires.settled told) fault (c.in-Err.ensures.says told) x (g.met.D.Disk.as_read old told)
+          (g.met.D.Disk.as_read back told);
       log = log_unloaded course r fault;
     })
 

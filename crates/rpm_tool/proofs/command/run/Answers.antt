@@ -3,7 +3,7 @@ use Rattle.rpm_outside.specs.Buffered.{inner}
 use Rattle.rpm_tool.specs.Closing.{closing}
 use Rattle.rpm_tool.proofs.Arguments.{questions}
 use Rattle.rpm_tool.proofs.Closed.{ended, handed, counted_fault}
-use Rattle.rpm_tool.proofs.Numbered.{argument_numbers, picked_rises}
+use Rattle.rpm_tool.proofs.Numbered.{argument_numbers, picked_rises, whole_numbers, all_rise}
 use Rattle.rpm_tool.proofs.Printing.{inner_same}
 use Rattle.rpm_tool.proofs.command.run.Goals as goal
 
@@ -18,7 +18,7 @@ returns-clause-answers g c =
     let err = ap (λ (lent : _). lent.now) c.new-err.ensures.inner in
     ended g.O.Sink.tells g.E.Sink.tells g.O.Sink.taken g.E.Sink.taken g.E.Sink.faults (λ lent. lent.now) (closing c.args.words.now c.command-disk.result.0.why)
     c.put_closing.result (inner c.command-disk.new.out).now _ (inner c.new-err.result) (inner c.command-disk.new.err) (inner c.put_closing.new.err)
-    c.args.err.now _ err c.command-disk.ensures.hands.err.later c.put_closing.ensures (search rules) (search rules) _
+    c.args.err.now _ err c.command-disk.ensures.hands.err.cause.later c.put_closing.ensures (search rules) (search rules) _
     (rw (out, err) at c.command-disk.ensures.answers)
 
 pub returns-clause-causes : goal.returns-clause-causes
@@ -27,9 +27,9 @@ returns-clause-causes g c =
     record {
       disk = c.command-disk.ensures.disk;
       shelf = c.command-disk.ensures.shelf;
-      out = counted_fault g.O.Sink.faults (inner c.command-disk.new.out).now (ap (λ (lent : _). lent.now) c.new-out.ensures.inner) hands.out
+      out = counted_fault g.O.Sink.faults (inner c.command-disk.new.out).now (ap (λ (lent : _). lent.now) c.new-out.ensures.inner) hands.out.cause
           (omega arith) (search rules);
-      err = counted_fault g.E.Sink.faults (inner c.put_closing.new.err).now (ap (λ (lent : _). lent.now) c.new-err.ensures.inner) hands.err
+      err = counted_fault g.E.Sink.faults (inner c.put_closing.new.err).now (ap (λ (lent : _). lent.now) c.new-err.ensures.inner) hands.err.cause
           c.put_closing.ensures.cause.later (search rules);
     }
 
@@ -37,5 +37,6 @@ pub returns-clause-laws : goal.returns-clause-laws
 returns-clause-laws g c = record {
   files_after = λ tree paths n a. refl;
   numbers = λ tree packages chosen after j text. (argument_numbers tree packages chosen after j text, picked_rises packages chosen text after);
+  all_numbers = λ tree packages chosen after. (whole_numbers tree packages chosen after, all_rise packages after);
   questions = λ a asked query other. questions c.args.words.now a asked query other;
 }

@@ -10,7 +10,7 @@ use Rattle.rpm_tool.proofs.Paged.{still_paged}
 use Rattle.rpm_tool.proofs.Unmade.{through_none}
 use Rattle.rpm_tool.proofs.Works.{done_worked, halted_worked}
 use Rattle.rpm_tool.proofs.Unopened.{open_worked}
-use Rattle.rpm_tool.proofs.changing.erase_on.Goals as goal
+use Rattle.rpm_tool.proofs.courses.erase_on.Goals as goal
 
 pub returns-in-Err-clause-worked : goal.returns-in-Err-clause-worked
 returns-in-Err-clause-worked g c = λ told out_tells out.

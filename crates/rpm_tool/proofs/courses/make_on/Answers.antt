@@ -6,7 +6,7 @@ use Rattle.rpm_tool.proofs.Paged.{made_paged}
 use Rattle.rpm_tool.proofs.Unmade.{through_none}
 use Rattle.rpm_tool.proofs.Works.{done_worked}
 use Rattle.rpm_tool.proofs.Unopened.{open_with}
-use Rattle.rpm_tool.proofs.changing.make_on.Goals as goal
+use Rattle.rpm_tool.proofs.courses.make_on.Goals as goal
 
 pub returns-clause-worked : goal.returns-clause-worked
 returns-clause-worked g c = λ told out_tells err_tells out err.

@@ -4,14 +4,13 @@ use Rattle.rpm_change.specs.Steps.{whole}
 use Rattle.rpm_tool.specs.FileReport.{conflict_step, label_told}
 use Rattle.rpm_tool.proofs.Answering.{drop_get}
 use Rattle.rpm_tool.proofs.Reaching.{goes_start}
-use Rattle.rpm_tool.proofs.Joins.{hands_then}
 use Rattle.rpm_tool.proofs.Lines.{line_more, line_stop, line_end}
 use Rattle.rpm_tool.proofs.file_report.put_conflicts.Goals as goal
 
 pub loop-i-init : goal.loop-i-init
 loop-i-init g c = record {
   out = omega arith;
-  out_rest = (g.met.O.Sink.follows_refl (inner c.args.out.now), c.requires.out_empty);
+  out_rest = g.met.O.Sink.follows_refl (inner c.args.out.now);
   goes = λ et e.
       let all = map (conflict_step (label_told c.args.report.now)) c.args.report.now.conflicts in
       goes_start g.O.Sink.tells et all all (g.O.Sink.taken (inner c.args.out.now)) e refl;
@@ -25,8 +24,8 @@ loop-i-preserved g c =
     let done = c.in-Ok.ensures in
     let here : drop i r.conflicts ≡ c.at.result.now ∷ drop (i + 1) r.conflicts = drop_get r.conflicts i c.at.result.now c.at.ensures in
     record {
-      out = omega (arith, inv.out, done.out.later);
-      out_rest = hands_then g.met.O.Sink.follows_trans c.args.out.now c.loop-i.out c.put_conflict.new.out inv.out_rest done.out_rest;
+      out = omega (arith, inv.out, done.out.cause.later);
+      out_rest = g.met.O.Sink.follows_trans (inner c.args.out.now) (inner c.loop-i.out) (inner c.put_conflict.new.out) inv.out_rest done.out.goes_on;
       goes = λ et e. line_more (conflict_step (label_told r)) r.conflicts i c.at.result.now here g.O.Sink.tells et (g.O.Sink.taken (inner c.args.out.now))
           (g.O.Sink.taken (inner c.loop-i.out)) (g.O.Sink.taken (inner c.put_conflict.new.out)) e e e (inv.goes et e) _ (done.step et e);
     }

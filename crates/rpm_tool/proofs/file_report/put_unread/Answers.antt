@@ -3,14 +3,13 @@ use Rattle.rpm_outside.specs.Buffered.{inner}
 use Rattle.rpm_change.specs.Steps.{whole}
 use Rattle.rpm_tool.specs.FileReport.{unread_step}
 use Rattle.rpm_tool.proofs.Reaching.{goes_start}
-use Rattle.rpm_tool.proofs.Joins.{hands_then}
 use Rattle.rpm_tool.proofs.Lines.{line_more, line_stop, line_end}
 use Rattle.rpm_tool.proofs.file_report.put_unread.Goals as goal
 
 pub loop-number-init : goal.loop-number-init
 loop-number-init g c = record {
   err = omega arith;
-  err_rest = (g.met.E.Sink.follows_refl (inner c.args.err.now), c.requires.err_empty);
+  err_rest = g.met.E.Sink.follows_refl (inner c.args.err.now);
   goes = λ ot o. goes_start ot g.E.Sink.tells (map unread_step c.args.numbers.now) (map unread_step c.args.numbers.now) o
       (g.E.Sink.taken (inner c.args.err.now)) refl;
 }
@@ -24,8 +23,8 @@ loop-number-preserved g c =
     let here : drop k xs ≡ get_or xs k 0 ∷ drop (k + 1) xs =
     drop-cons xs k 0 (omega arith) ∙ ap (λ (j : ℕ). get_or xs k 0 ∷ drop j xs) (sym (add-one k)) in
     record {
-      err = omega (arith, inv.err, done.err.later);
-      err_rest = hands_then g.met.E.Sink.follows_trans c.args.err.now c.loop-number.err c.put_bad.new.err inv.err_rest done.err_rest;
+      err = omega (arith, inv.err, done.err.cause.later);
+      err_rest = g.met.E.Sink.follows_trans (inner c.args.err.now) (inner c.loop-number.err) (inner c.put_bad.new.err) inv.err_rest done.err.goes_on;
       goes = λ ot o. line_more unread_step xs k (get_or xs k 0) here ot g.E.Sink.tells o o o (g.E.Sink.taken (inner c.args.err.now))
           (g.E.Sink.taken (inner c.loop-number.err)) (g.E.Sink.taken (inner c.put_bad.new.err)) (inv.goes ot o) _ (done.step (whole 0) ot o);
     }

@@ -25,14 +25,22 @@ returns-clause-disk g c = record {
   rose = λ is. c.report_unmet.ensures.disk.rose (report_read c.report_unmet.result (sym c.why_of_report.ensures.value ∙ is));
 }
 
-pub returns-clause-out : goal.returns-clause-out
-returns-clause-out g c = record {
-  later = c.report_unmet.ensures.out.later;
-  rose = λ is. c.report_unmet.ensures.out.rose (report_out c.report_unmet.result (sym c.why_of_report.ensures.value ∙ is));
-}
-
-pub returns-clause-err : goal.returns-clause-err
-returns-clause-err g c = record {
-  later = c.report_unmet.ensures.err.later;
-  rose = λ is. c.report_unmet.ensures.err.rose (report_err c.report_unmet.result (sym c.why_of_report.ensures.value ∙ is));
-}
+pub returns-clause-hands : goal.returns-clause-hands
+returns-clause-hands g c =
+    let hands = c.report_unmet.ensures.hands in
+    record {
+      out = record {
+        cause = record {
+          later = hands.out.cause.later;
+          rose = λ is. hands.out.cause.rose (report_out c.report_unmet.result (sym c.why_of_report.ensures.value ∙ is));
+        };
+        goes_on = hands.out.goes_on;
+      };
+      err = record {
+        cause = record {
+          later = hands.err.cause.later;
+          rose = λ is. hands.err.cause.rose (report_err c.report_unmet.result (sym c.why_of_report.ensures.value ∙ is));
+        };
+        goes_on = hands.err.goes_on;
+      };
+    }

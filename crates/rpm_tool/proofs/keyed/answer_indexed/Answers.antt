@@ -13,10 +13,10 @@ use Rattle.rpm_change.specs.Endings.{outputs, Through}
 use Rattle.rpm_tool.specs.declared.answer.Why.{Why}
 use Rattle.rpm_tool.specs.Asked.{inquiry_of}
 use Rattle.rpm_tool.specs.Reads.{argument_reach, reaches_by, reach_sum, reached_by}
-use Rattle.rpm_tool.specs.Keyed.{OpenedBy, HasIndex, DoesBy, Does, keyed_to, asked_cost}
+use Rattle.rpm_tool.specs.Keyed.{OpenedBy, HasIndex, DoesBy, DidByKey, keyed_to, asked_cost}
 use Rattle.rpm_tool.proofs.Deeds.{does_fault, does_memory, does_reads, does_unbroken}
 use Rattle.rpm_tool.proofs.Reaching.{through_none}
-use Rattle.rpm_tool.proofs.Opening.{leaves_peeks, runs_peeks, opened_rows, opened_index, bad_opened, keyed_by, keyed_sum}
+use Rattle.rpm_tool.proofs.OpeningLaws.{leaves_peeks, runs_peeks, opened_rows, opened_index, bad_opened, keyed_by, keyed_sum}
 use Rattle.rpm_tool.proofs.Endings.{went_by, unrefused, full_opened, by_fault, by_memory}
 use Rattle.rpm_tool.proofs.keyed.answer_indexed.Goals as goal
 
@@ -38,7 +38,7 @@ returns-in-Ok-clause-went g c = λ told.
     let start = g.D.Disk.bytes_read c.args.disk.now Pkg in
     let between = g.D.Disk.bytes_read c.open_settled.new.disk Pkg in
     let now = g.D.Disk.bytes_read c.answer_inquiry.new.disk Pkg in
-    let Do = Does tree words a files start now in
+    let Do = DidByKey tree words a files start now in
     subst (λ (r : Result Store Damage). OpenedBy (IsLawful files.pkg files.idx) Do r given old new) (sym opened.store_is) (
       unrefused given c.answer_inquiry.ensures.opened,
       λ lawful. went_by (Do s) given old new c.answer_inquiry.ensures.opened
@@ -126,7 +126,7 @@ returns-in-Err-DiskFault-clause-went g c = λ told.
     let e = g.E.Sink.taken (inner c.args.err.now) in
     let x = outputs ot o et e in
     let none : Through [] x x = through_none {ot = ot} {et = et} o e in
-    by_fault (IsLawful files.pkg files.idx) (Does c.args.format.now words a files start now) x none
+    by_fault (IsLawful files.pkg files.idx) (DidByKey c.args.format.now words a files start now) x none
     (λ s. does_fault c.args.format.now words a (packages files.pkg s) (λ for. now ≤ start + keyed_to files words a s for) x none (inquiry_of a.mode))
     (store files.pkg)
 
@@ -143,6 +143,6 @@ returns-in-Err-NoMemory-clause-went g c = λ told.
     let e = g.E.Sink.taken (inner c.args.err.now) in
     let x = outputs ot o et e in
     let none : Through [] x x = through_none {ot = ot} {et = et} o e in
-    by_memory (IsLawful files.pkg files.idx) (Does c.args.format.now words a files start now) x none
+    by_memory (IsLawful files.pkg files.idx) (DidByKey c.args.format.now words a files start now) x none
     (λ s. does_memory c.args.format.now words a (packages files.pkg s) (λ for. now ≤ start + keyed_to files words a s for) x none (inquiry_of a.mode))
     (store files.pkg)

@@ -7,12 +7,12 @@ use Rattle.rpm_pkgdb.specs.Store.{store}
 use Rattle.rpm_db.specs.Lawful.{IsLawful}
 use Rattle.rpm_db.specs.State.{packages}
 use Rattle.rpm_tool.specs.Asked.{inquiry_of}
-use Rattle.rpm_tool.specs.Keyed.{KeyedIs, FullIs, BadIs, Does, keyed_to, keyed_cost}
+use Rattle.rpm_tool.specs.Keyed.{KeyedIs, FullIs, BadIs, DidByKey, keyed_to, keyed_cost}
 use Rattle.rpm_change.specs.Endings.{outputs, Through}
 use Rattle.rpm_tool.proofs.Deeds.{does_fault}
 use Rattle.rpm_tool.proofs.Reaching.{through_none}
 use Rattle.rpm_tool.proofs.Recovered.{closed_stands, opened_keyed, opening_stops, recovering_stops}
-use Rattle.rpm_tool.proofs.Unrecovered.{unrecovered, unrecovered_full, unrecovered_bad, unrecovered_complete, unrecovered_undone}
+use Rattle.rpm_tool.proofs.Unrecovered.{unrecovered, unrecovered_kind, unrecovered_full, unrecovered_bad, unrecovered_complete, unrecovered_undone}
 use Rattle.rpm_tool.proofs.Completed.{completes}
 use Rattle.rpm_tool.proofs.keyed.answer_keyed.Goals as goal
 
@@ -44,6 +44,7 @@ returns-in-Ok-clause-keyed g c = λ told.
           let read : now ≤ between + keyed_cost (reopened files) words a =
           subst (λ (f : Files). now ≤ between + keyed_cost f words a) stand (then.reads query told here) in
           omega (arith, read, first.reads.pkg));
+      kind = then.done;
       full = full;
       complete = completes c.args.format.now words a files given old after start now then.done went full;
       bad = subst (λ (f : Files). BadIs words a f given) stand (then.bad_index told);
@@ -73,10 +74,11 @@ returns-in-Err-clause-keyed g c = λ told.
     let x = outputs ot o et e in
     let none : Through [] x x = through_none {ot = ot} {et = et} o e in
     rw c.why_of_recover.ensures (record {
-      went = unrecovered (IsLawful r.pkg r.idx) (Does c.args.format.now words a r start now) (store r.pkg) x none
+      went = unrecovered (IsLawful r.pkg r.idx) (DidByKey c.args.format.now words a r start now) (store r.pkg) x none
           (λ s. does_fault c.args.format.now words a (packages r.pkg s) (λ for. now ≤ start + keyed_to r words a s for) x none (inquiry_of a.mode))
           (log_state files.log) fault (first.says told);
       reads = λ query lawful. omega (arith, first.reads.pkg);
+      kind = unrecovered_kind fault;
       full = unrecovered_full r fault;
       bad = unrecovered_bad words a r fault;
       complete = λ lawful room. unrecovered_complete (log_state files.log) fault (first.says told) lawful.sound;

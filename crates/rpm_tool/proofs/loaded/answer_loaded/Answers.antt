@@ -1,4 +1,4 @@
-use Rattle.std.proofs.Common.{◌≡◌, ◌+◌, ◌≤◌, sym, ap, ◌∙◌, subst, ⊎_elim, arith}
+use Rattle.std.proofs.Common.{◌≡◌, ◌+◌, ◌≤◌, true, refl, sym, ap, ◌∙◌, subst, ⊎_elim, arith}
 use Rattle.rpm_outside.specs.Buffered.{inner}
 use Rattle.rpm_outside.specs.declared.disk.File.TheVariants.{Pkg, Idx}
 use Rattle.rpm_outside.specs.Files.{Units, Files}
@@ -9,6 +9,10 @@ use Rattle.rpm_change.specs.Steps.{Bearer, Course}
 use Rattle.rpm_tool.specs.Reports.{course}
 use Rattle.rpm_change.specs.Endings.{outputs}
 use Rattle.rpm_tool.specs.Answers.{Opened, ReadsTo, unless_starved, read_to, query_cost}
+use Rattle.rpm_tool.specs.declared.answer.Why.{Why}
+use Rattle.rpm_tool.specs.declared.answer.Why.TheVariants as why
+use Rattle.rpm_tool.specs.Working.{is_of_streams}
+use Rattle.rpm_tool.proofs.Starved.{starved_streams}
 use Rattle.rpm_tool.proofs.Loading.{opened_reads, loaded_sound, below_reads}
 use Rattle.rpm_tool.proofs.Wanting.{opened_unless, fault_below}
 use Rattle.rpm_tool.proofs.loaded.answer_loaded.Goals as goal
@@ -93,3 +97,21 @@ returns-in-Ok-clause-disk g c =
           c.is_starved.result c.answer_unindexed-ended.result (sym c.unless_starved-why.ensures ∙ is) c.in-Ok.ensures.cause.later
           c.in-Ok.ensures.loaded.starved c.is_starved.ensures c.answer_unindexed-ended.ensures.disk.rose;
     })
+
+-- want of memory is no fault of a sink
+pub returns-in-Ok-clause-hands : goal.returns-in-Ok-clause-hands
+returns-in-Ok-clause-hands g c =
+    let hands = c.answer_unindexed-ended.ensures.hands in
+    let ended = c.answer_unindexed-ended.result in
+    let kept = λ (w : Why) (stream : is_of_streams w ≡ true) (is : c.unless_starved-why.result ≡ w).
+    starved_streams c.is_starved.result ended (ap is_of_streams (sym c.unless_starved-why.ensures ∙ is) ∙ stream) ∙ sym c.unless_starved-why.ensures ∙ is in
+    record {
+      out = record {
+        cause = record { later = hands.out.cause.later; rose = λ is. hands.out.cause.rose (kept why.OutFault refl is) };
+        goes_on = hands.out.goes_on;
+      };
+      err = record {
+        cause = record { later = hands.err.cause.later; rose = λ is. hands.err.cause.rose (kept why.ErrFault refl is) };
+        goes_on = hands.err.goes_on;
+      };
+    }

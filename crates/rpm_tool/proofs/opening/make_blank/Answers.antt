@@ -2,7 +2,7 @@ use Rattle.std.proofs.Common.{Ok, sym, ap, ◌∙◌, subst}
 use Rattle.rpm_db.specs.Database.{Database}
 use Rattle.rpm_db.specs.Lawful.{IsWholeIndex}
 use Rattle.rpm_tool.proofs.Limited.{begun_blank, begun_made}
-use Rattle.rpm_tool.proofs.changing.make_blank.Goals as goal
+use Rattle.rpm_tool.proofs.opening.make_blank.Goals as goal
 
 pub returns-in-Ok-true-clause-begun : goal.returns-in-Ok-true-clause-begun
 returns-in-Ok-true-clause-begun g c =

@@ -11,7 +11,7 @@ use Rattle.rpm_tool.proofs.Brokens.{open_broken}
 use Rattle.rpm_tool.proofs.Standing.{if_ok}
 use Rattle.rpm_tool.proofs.Limited.{stored_one}
 use Rattle.rpm_tool.proofs.Opened.{open_refused, open_made, open_unmade, open_kinds}
-use Rattle.rpm_tool.proofs.changing.open_to_change.Goals as goal
+use Rattle.rpm_tool.proofs.opening.open_to_change.Goals as goal
 
 pub returns-in-Err-clause-opened : goal.returns-in-Err-clause-opened
 returns-in-Err-clause-opened g c = λ told.

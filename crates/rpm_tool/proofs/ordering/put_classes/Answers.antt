@@ -11,7 +11,6 @@ use Rattle.rpm_tool.specs.Requirements.{class_steps}
 use Rattle.rpm_tool.proofs.Reaching.{goes_start, goes_more, goes_stop, goes_end}
 use Rattle.rpm_tool.proofs.Telling.{classes_at}
 use Rattle.rpm_tool.proofs.Peeking.{peeks_none, peeks_then}
-use Rattle.rpm_tool.proofs.Joins.{hands_then}
 use Rattle.rpm_tool.proofs.ordering.put_classes.Goals as goal
 
 pub loop-k-init : goal.loop-k-init
@@ -23,7 +22,7 @@ loop-k-init g c =
           g.met.D.Disk.follows_refl c.args.disk.now;
       disk = omega arith;
       out = omega arith;
-      out_rest = (g.met.O.Sink.follows_refl (inner c.args.out.now), c.requires.out_empty);
+      out_rest = g.met.O.Sink.follows_refl (inner c.args.out.now);
       goes = λ told et e. goes_start g.O.Sink.tells et all all (g.O.Sink.taken (inner c.args.out.now)) e refl;
     }
 
@@ -45,8 +44,8 @@ loop-k-preserved g c =
       looks = peeks_then g.D.Disk.tells g.D.Disk.files g.D.Disk.left_since g.D.Disk.moment g.D.Disk.bytes_read g.D.Disk.follows true
           g.met.D.Disk.follows_trans c.args.disk.now c.loop-k.disk c.put_class.new.disk inv.looks done.looks;
       disk = omega (arith, inv.disk, done.disk.later);
-      out = omega (arith, inv.out, done.out.later);
-      out_rest = hands_then g.met.O.Sink.follows_trans c.args.out.now c.loop-k.out c.put_class.new.out inv.out_rest done.out_rest;
+      out = omega (arith, inv.out, done.out.cause.later);
+      out_rest = g.met.O.Sink.follows_trans (inner c.args.out.now) (inner c.loop-k.out) (inner c.put_class.new.out) inv.out_rest done.out.goes_on;
       goes = λ told et e.
           let went : Through (class_steps all class) (outputs ot o' et e) (outputs ot o'' et e) =
           subst (λ (f : Files). Through (class_steps (packages f.pkg s) class) (outputs ot o' et e) (outputs ot o'' et e)) (inv.looks.untouched told).same

@@ -9,7 +9,6 @@ use Rattle.rpm_tool.specs.Requirements.{label_step}
 use Rattle.rpm_tool.proofs.Reaching.{goes_start, goes_more, goes_stop, goes_end}
 use Rattle.rpm_tool.proofs.Telling.{steps_at, step_stops}
 use Rattle.rpm_tool.proofs.Peeking.{peeks_none, peeks_then}
-use Rattle.rpm_tool.proofs.Joins.{hands_then}
 use Rattle.rpm_tool.proofs.ordering.put_labels.Goals as goal
 
 pub loop-number-init : goal.loop-number-init
@@ -23,7 +22,7 @@ loop-number-init g c =
           g.met.D.Disk.follows_refl c.args.disk.now;
       disk = omega arith;
       out = omega arith;
-      out_rest = (g.met.O.Sink.follows_refl (inner c.args.out.now), c.requires.out_empty);
+      out_rest = g.met.O.Sink.follows_refl (inner c.args.out.now);
       goes = λ told et e. goes_start g.O.Sink.tells et all all (g.O.Sink.taken (inner c.args.out.now)) e refl;
     }
 
@@ -47,8 +46,8 @@ loop-number-preserved g c =
       looks = peeks_then g.D.Disk.tells g.D.Disk.files g.D.Disk.left_since g.D.Disk.moment g.D.Disk.bytes_read g.D.Disk.follows true
           g.met.D.Disk.follows_trans c.args.disk.now c.loop-number.disk c.put_label.new.disk inv.looks done.looks;
       disk = omega (arith, inv.disk, done.disk.later);
-      out = omega (arith, inv.out, done.out.later);
-      out_rest = hands_then g.met.O.Sink.follows_trans c.args.out.now c.loop-number.out c.put_label.new.out inv.out_rest done.out_rest;
+      out = omega (arith, inv.out, done.out.cause.later);
+      out_rest = g.met.O.Sink.follows_trans (inner c.args.out.now) (inner c.loop-number.out) (inner c.put_label.new.out) inv.out_rest done.out.goes_on;
       goes = λ told et e.
           let one : StepIs (step x) (Ok c.in-Ok.field-0) (outputs ot o' et e) (outputs ot o'' et e) =
           subst (λ (f : Files). StepIs (label_step (packages f.pkg db.store) c.args.indent.now x) (Ok c.in-Ok.field-0) (outputs ot o' et e)

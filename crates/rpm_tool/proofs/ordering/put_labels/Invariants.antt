@@ -1,6 +1,6 @@
 use Rattle.std.proofs.Common.{ℕ, ◌≤◌, true, Bool, List, map, drop}
 use Rattle.std.specs.Prelude.{IsTrue}
-use Rattle.rpm_outside.specs.Buffered.{inner, HandsOn}
+use Rattle.rpm_outside.specs.Buffered.{inner}
 use Rattle.rpm_db.specs.State.{packages}
 use Rattle.rpm_db.specs.Database.{Keeps}
 use Rattle.rpm_tool.specs.Reads.{Peeks}
@@ -14,7 +14,7 @@ invariant-loop-number g l = record {
   looks : Peeks g.D.Disk.tells g.D.Disk.files g.D.Disk.left_since g.D.Disk.moment g.D.Disk.bytes_read g.D.Disk.follows true l.initial.disk l.disk;
   disk : g.D.Disk.faults l.initial.disk ≤ g.D.Disk.faults l.disk;
   out : g.O.Sink.faults (inner l.initial.out) ≤ g.O.Sink.faults (inner l.out);
-  out_rest : HandsOn g.O.Sink.follows l.initial.out l.out;
+  out_rest : g.O.Sink.follows (inner l.initial.out) (inner l.out);
   goes : IsTrue g.D.Disk.tells → (err_tells : Bool) (err : List ℕ) → Goes g.O.Sink.tells err_tells
       (map (label_step (packages (g.D.Disk.files l.initial.disk).pkg l.db.store) l.indent) l.class)
       (map (label_step (packages (g.D.Disk.files l.initial.disk).pkg l.db.store) l.indent) (drop l.number-index l.class))

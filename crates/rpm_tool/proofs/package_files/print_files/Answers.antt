@@ -10,7 +10,6 @@ use Rattle.rpm_tool.specs.Answers.{PartIs, Anywhere, Went}
 use Rattle.rpm_tool.proofs.Reaching.{goes_start, goes_more, goes_stop}
 use Rattle.rpm_tool.proofs.Answering.{rest_of, turn_steps, turn_failed, went_done, went_failed, few_more}
 use Rattle.rpm_tool.proofs.Filed.{went_stop_files, ends_of_files, never_of_disk}
-use Rattle.rpm_tool.proofs.Joins.{hands_then}
 use Rattle.rpm_tool.proofs.package_files.print_files.Goals as goal
 
 pub loop-k-init : goal.loop-k-init
@@ -22,8 +21,8 @@ loop-k-init g c =
       shelf = omega arith;
       out = omega arith;
       err = omega arith;
-      out_rest = (g.met.O.Sink.follows_refl (inner c.args.out.now), c.requires.out_empty);
-      err_rest = (g.met.E.Sink.follows_refl (inner c.args.err.now), c.requires.err_empty);
+      out_rest = g.met.O.Sink.follows_refl (inner c.args.out.now);
+      err_rest = g.met.E.Sink.follows_refl (inner c.args.err.now);
       few = omega arith;
       goes = λ told. goes_start g.O.Sink.tells g.E.Sink.tells all all (g.O.Sink.taken (inner c.args.out.now)) (g.E.Sink.taken (inner c.args.err.now)) refl;
       count = λ told. omega arith;
@@ -50,10 +49,10 @@ loop-k-preserved g c =
     record {
       paths = λ told. done.paths told ∙ inv.paths told;
       shelf = omega (arith, inv.shelf, done.shelf.later);
-      out = omega (arith, inv.out, done.out.later);
-      err = omega (arith, inv.err, done.err.later);
-      out_rest = hands_then g.met.O.Sink.follows_trans c.args.out.now c.loop-k.out c.print_file.new.out inv.out_rest done.out_rest;
-      err_rest = hands_then g.met.E.Sink.follows_trans c.args.err.now c.loop-k.err c.print_file.new.err inv.err_rest done.err_rest;
+      out = omega (arith, inv.out, done.hands.out.cause.later);
+      err = omega (arith, inv.err, done.hands.err.cause.later);
+      out_rest = g.met.O.Sink.follows_trans (inner c.args.out.now) (inner c.loop-k.out) (inner c.print_file.new.out) inv.out_rest done.hands.out.goes_on;
+      err_rest = g.met.E.Sink.follows_trans (inner c.args.err.now) (inner c.loop-k.err) (inner c.print_file.new.err) inv.err_rest done.hands.err.goes_on;
       few = rw c.count-failed.ensures (few_more c.in-Ok.fails c.loop-k.failed k inv.few);
       goes = λ told.
           let part = subst (λ (ps : Paths). PartIs (file_part c.args.format.now ps k (f word)) (Ok c.in-Ok.fails)

@@ -1,6 +1,6 @@
 use Rattle.std.proofs.Common.{◌≡◌, ◌+◌, ◌≤◌}
 use Rattle.std.specs.Prelude.{IsTrue}
-use Rattle.rpm_outside.specs.Buffered.{inner, HandsOn}
+use Rattle.rpm_outside.specs.Buffered.{inner}
 use Rattle.rpm_words.specs.Words.{text_at}
 use Rattle.rpm_tool.specs.PackageFiles.{file_part}
 use Rattle.rpm_tool.proofs.Reaching.{Goes}
@@ -13,8 +13,8 @@ invariant-loop-k g l = record {
   shelf : g.S.Shelf.faults l.initial.shelf ≤ g.S.Shelf.faults l.shelf;
   out : g.O.Sink.faults (inner l.initial.out) ≤ g.O.Sink.faults (inner l.out);
   err : g.E.Sink.faults (inner l.initial.err) ≤ g.E.Sink.faults (inner l.err);
-  out_rest : HandsOn g.O.Sink.follows l.initial.out l.out;
-  err_rest : HandsOn g.E.Sink.follows l.initial.err l.err;
+  out_rest : g.O.Sink.follows (inner l.initial.out) (inner l.out);
+  err_rest : g.E.Sink.follows (inner l.initial.err) (inner l.err);
   few : l.failed ≤ l.k;
   goes : IsTrue g.S.Shelf.tells → Goes g.O.Sink.tells g.E.Sink.tells
       (rest_of (file_part l.format (g.S.Shelf.paths l.initial.shelf)) (text_at l.words) l.ask.arguments 0).steps

@@ -18,7 +18,6 @@ use Rattle.rpm_tool.specs.Reads.{ReadsIn}
 use Rattle.rpm_tool.proofs.Looked.{looks_rest, rest_read}
 use Rattle.rpm_tool.proofs.Nexts.{next_here, fails_next, some_next, goes_next}
 use Rattle.rpm_tool.proofs.Reached.{reach_then}
-use Rattle.rpm_tool.proofs.Joins.{hands_then}
 use Rattle.rpm_tool.proofs.picked.print_above.Answers.Ended as ended
 use Rattle.rpm_tool.proofs.picked.print_above.Goals as goal
 
@@ -63,10 +62,10 @@ loop-next-preserved g c =
           c.args.disk.now c.loop-next.disk c.print_next.new.disk (omega (arith, inv.more, up)) inv.looks
           (rw c.in-Ok-Some.field-0-is at done.looks);
       disk = omega (arith, inv.disk, done.disk.later);
-      out = omega (arith, inv.out, done.out.later);
-      err = omega (arith, inv.err, done.err.later);
-      out_rest = hands_then g.met.O.Sink.follows_trans c.args.out.now c.loop-next.out c.print_next.new.out inv.out_rest done.out_rest;
-      err_rest = hands_then g.met.E.Sink.follows_trans c.args.err.now c.loop-next.err c.print_next.new.err inv.err_rest done.err_rest;
+      out = omega (arith, inv.out, done.hands.out.cause.later);
+      err = omega (arith, inv.err, done.hands.err.cause.later);
+      out_rest = g.met.O.Sink.follows_trans (inner c.args.out.now) (inner c.loop-next.out) (inner c.print_next.new.out) inv.out_rest done.hands.out.goes_on;
+      err_rest = g.met.E.Sink.follows_trans (inner c.args.err.now) (inner c.loop-next.err) (inner c.print_next.new.err) inv.err_rest done.hands.err.goes_on;
       goes = λ told serves j.
           goes_next (step_by c.args.way.now j) n es (map (step_by c.args.way.now j) all) ot et o o' o'' e e' e''
           (ReadsIn j n c.loop-next.picker db between now) (inv.goes told serves j) m to_out (next told serves j);

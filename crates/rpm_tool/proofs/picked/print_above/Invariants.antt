@@ -1,7 +1,7 @@
 use Rattle.std.proofs.Common.{◌≡◌, ℕ, ◌+◌, ◌-◌, ◌^◌, ◌≤◌, ◌||◌, map}
 use Rattle.std.specs.Prelude.{IsTrue}
 use Rattle.std.specs.List.{list_any}
-use Rattle.rpm_outside.specs.Buffered.{inner, HandsOn}
+use Rattle.rpm_outside.specs.Buffered.{inner}
 use Rattle.rpm_outside.specs.declared.disk.File.TheVariants.{Pkg}
 use Rattle.rpm_outside.specs.Looks.{Looks}
 use Rattle.rpm_db.specs.State.{packages, above}
@@ -27,8 +27,8 @@ invariant-loop-next g l = record {
   disk : g.D.Disk.faults l.initial.disk ≤ g.D.Disk.faults l.disk;
   out : g.O.Sink.faults (inner l.initial.out) ≤ g.O.Sink.faults (inner l.out);
   err : g.E.Sink.faults (inner l.initial.err) ≤ g.E.Sink.faults (inner l.err);
-  out_rest : HandsOn g.O.Sink.follows l.initial.out l.out;
-  err_rest : HandsOn g.E.Sink.follows l.initial.err l.err;
+  out_rest : g.O.Sink.follows (inner l.initial.out) (inner l.out);
+  err_rest : g.E.Sink.follows (inner l.initial.err) (inner l.err);
   goes : IsTrue g.D.Disk.tells → Serves l.initial.picker (packages (g.D.Disk.files l.initial.disk).pkg l.db.store) l.selection → (j : ℕ)
       → Goes g.O.Sink.tells g.E.Sink.tells
       (map (step_by l.way j) (above l.after (picks (packages (g.D.Disk.files l.initial.disk).pkg l.db.store) l.selection)))

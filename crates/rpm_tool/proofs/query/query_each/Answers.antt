@@ -16,7 +16,6 @@ use Rattle.rpm_tool.proofs.Sums.{before_some}
 use Rattle.rpm_tool.proofs.Turns.{part_here, reads_here, read_more, goes_turn}
 use Rattle.rpm_tool.proofs.Reaching.{goes_start}
 use Rattle.rpm_tool.proofs.Answering.{rest_of, turn_failed, went_done, went_failed, few_more}
-use Rattle.rpm_tool.proofs.Joins.{hands_then}
 use Rattle.rpm_tool.proofs.query.query_each.Answers.Stopped as stopped
 use Rattle.rpm_tool.proofs.query.query_each.Goals as goal
 
@@ -34,8 +33,8 @@ loop-k-init g c =
       disk = omega arith;
       out = omega arith;
       err = omega arith;
-      out_rest = (g.met.O.Sink.follows_refl (inner c.args.out.now), c.requires.out_empty);
-      err_rest = (g.met.E.Sink.follows_refl (inner c.args.err.now), c.requires.err_empty);
+      out_rest = g.met.O.Sink.follows_refl (inner c.args.out.now);
+      err_rest = g.met.E.Sink.follows_refl (inner c.args.err.now);
       few = omega arith;
       goes = λ told rows. goes_start g.O.Sink.tells g.E.Sink.tells all all (g.O.Sink.taken (inner c.args.out.now))
           (g.E.Sink.taken (inner c.args.err.now)) refl;
@@ -80,10 +79,10 @@ loop-k-preserved g c =
           (reads_here chosen (f word) db (g.D.Disk.files c.loop-k.disk) start (inv.looks.untouched told).same between now
           (λ there. rw (c.chosen.ensures, c.text_at-text.ensures) at (done.reads told there)) rows);
       disk = omega (arith, inv.disk, done.disk.later);
-      out = omega (arith, inv.out, done.out.later);
-      err = omega (arith, inv.err, done.err.later);
-      out_rest = hands_then g.met.O.Sink.follows_trans c.args.out.now c.loop-k.out c.answer.new.out inv.out_rest done.out_rest;
-      err_rest = hands_then g.met.E.Sink.follows_trans c.args.err.now c.loop-k.err c.answer.new.err inv.err_rest done.err_rest;
+      out = omega (arith, inv.out, done.hands.out.cause.later);
+      err = omega (arith, inv.err, done.hands.err.cause.later);
+      out_rest = g.met.O.Sink.follows_trans (inner c.args.out.now) (inner c.loop-k.out) (inner c.answer.new.out) inv.out_rest done.hands.out.goes_on;
+      err_rest = g.met.E.Sink.follows_trans (inner c.args.err.now) (inner c.loop-k.err) (inner c.answer.new.err) inv.err_rest done.hands.err.goes_on;
       few = rw c.count-failed.ensures (few_more c.in-Ok.fails c.loop-k.failed k inv.few);
       goes = λ told rows.
           goes_turn each f args k word here ot et (g.O.Sink.taken (inner c.args.out.now)) o' o'' (g.E.Sink.taken (inner c.args.err.now)) e' e''

@@ -1,6 +1,6 @@
 use Rattle.std.proofs.Common.{◌≡◌, ◌+◌, ◌≤◌, map}
 use Rattle.std.specs.Prelude.{IsTrue}
-use Rattle.rpm_outside.specs.Buffered.{inner, HandsOn}
+use Rattle.rpm_outside.specs.Buffered.{inner}
 use Rattle.rpm_outside.specs.declared.disk.File.TheVariants.{Pkg}
 use Rattle.rpm_db.specs.State.{packages}
 use Rattle.rpm_db.specs.Database.{Keeps, KeepsIndex, is_indexed}
@@ -25,8 +25,8 @@ invariant-loop-k g l = record {
   disk : g.D.Disk.faults l.initial.disk ≤ g.D.Disk.faults l.disk;
   out : g.O.Sink.faults (inner l.initial.out) ≤ g.O.Sink.faults (inner l.out);
   err : g.E.Sink.faults (inner l.initial.err) ≤ g.E.Sink.faults (inner l.err);
-  out_rest : HandsOn g.O.Sink.follows l.initial.out l.out;
-  err_rest : HandsOn g.E.Sink.follows l.initial.err l.err;
+  out_rest : g.O.Sink.follows (inner l.initial.out) (inner l.out);
+  err_rest : g.E.Sink.follows (inner l.initial.err) (inner l.err);
   few : l.failed ≤ l.k;
   goes : IsTrue g.D.Disk.tells → HasIndexRows l.db (g.D.Disk.files l.initial.disk).pkg (g.D.Disk.files l.initial.disk).idx → Goes g.O.Sink.tells g.E.Sink.tells
       (rest_of (argument_part l.format (packages (g.D.Disk.files l.initial.disk).pkg l.db.store) l.ask.chosen l.ask.after) (text_at l.words)

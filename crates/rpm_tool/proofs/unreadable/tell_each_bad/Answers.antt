@@ -11,7 +11,6 @@ use Rattle.rpm_tool.proofs.Printed.{none_more}
 use Rattle.rpm_tool.proofs.Verified.{no_entry, from_one, fails_later}
 use Rattle.rpm_tool.proofs.Telling.{next_package, bad_here}
 use Rattle.rpm_tool.proofs.Peeking.{peeks_none, peeks_then}
-use Rattle.rpm_tool.proofs.Joins.{hands_then}
 use Rattle.rpm_tool.proofs.unreadable.tell_each_bad.Goals as goal
 
 pub loop-next-init : goal.loop-next-init
@@ -25,7 +24,7 @@ loop-next-init g c =
           g.met.D.Disk.follows_refl c.args.disk.now;
       disk = omega arith;
       err = omega arith;
-      err_rest = (g.met.E.Sink.follows_refl (inner c.args.err.now), c.requires.err_empty);
+      err_rest = g.met.E.Sink.follows_refl (inner c.args.err.now);
       goes = λ told ot o. goes_start ot g.E.Sink.tells all all o (g.E.Sink.taken (inner c.args.err.now)) refl;
       bad = λ told. refl;
     }
@@ -51,8 +50,8 @@ loop-next-preserved g c =
       looks = peeks_then g.D.Disk.tells g.D.Disk.files g.D.Disk.left_since g.D.Disk.moment g.D.Disk.bytes_read g.D.Disk.follows true
           g.met.D.Disk.follows_trans c.args.disk.now c.loop-next.disk c.tell_bad.new.disk inv.looks done.looks;
       disk = omega (arith, inv.disk, done.disk.later);
-      err = omega (arith, inv.err, done.err.later);
-      err_rest = hands_then g.met.E.Sink.follows_trans c.args.err.now c.loop-next.err c.tell_bad.new.err inv.err_rest done.err_rest;
+      err = omega (arith, inv.err, done.err.cause.later);
+      err_rest = g.met.E.Sink.follows_trans (inner c.args.err.now) (inner c.loop-next.err) (inner c.tell_bad.new.err) inv.err_rest done.err.goes_on;
       goes = λ told ot o.
           let part = bad_here here start db.store m next.0 (Ok c.in-Ok.bad) (outputs ot o et e') (outputs ot o et e'') (inv.looks.untouched told).same next.1
           (done.went told ot o) in

@@ -10,7 +10,6 @@ use Rattle.rpm_tool.specs.Requirements.{unmet_step}
 use Rattle.rpm_tool.proofs.Reaching.{goes_start, goes_more, goes_stop, goes_end}
 use Rattle.rpm_tool.proofs.Telling.{steps_at, step_stops}
 use Rattle.rpm_tool.proofs.Peeking.{peeks_none, peeks_then}
-use Rattle.rpm_tool.proofs.Joins.{hands_then}
 use Rattle.rpm_tool.proofs.unsatisfied.put_each_unmet.Goals as goal
 
 abbrev no_unmet : Unmet
@@ -27,7 +26,7 @@ loop-unmet-init g c =
           g.met.D.Disk.follows_refl c.args.disk.now;
       disk = omega arith;
       out = omega arith;
-      out_rest = (g.met.O.Sink.follows_refl (inner c.args.out.now), c.requires.out_empty);
+      out_rest = g.met.O.Sink.follows_refl (inner c.args.out.now);
       goes = λ told et e. goes_start g.O.Sink.tells et all all (g.O.Sink.taken (inner c.args.out.now)) e refl;
     }
 
@@ -51,8 +50,8 @@ loop-unmet-preserved g c =
       looks = peeks_then g.D.Disk.tells g.D.Disk.files g.D.Disk.left_since g.D.Disk.moment g.D.Disk.bytes_read g.D.Disk.follows true
           g.met.D.Disk.follows_trans c.args.disk.now c.loop-unmet.disk c.put_unmet.new.disk inv.looks done.looks;
       disk = omega (arith, inv.disk, done.disk.later);
-      out = omega (arith, inv.out, done.out.later);
-      out_rest = hands_then g.met.O.Sink.follows_trans c.args.out.now c.loop-unmet.out c.put_unmet.new.out inv.out_rest done.out_rest;
+      out = omega (arith, inv.out, done.out.cause.later);
+      out_rest = g.met.O.Sink.follows_trans (inner c.args.out.now) (inner c.loop-unmet.out) (inner c.put_unmet.new.out) inv.out_rest done.out.goes_on;
       goes = λ told et e.
           let one : StepIs (step x) (Ok c.in-Ok.field-0) (outputs ot o' et e) (outputs ot o'' et e) =
           subst (λ (f : Files). StepIs (unmet_step (packages f.pkg db.store) x) (Ok c.in-Ok.field-0) (outputs ot o' et e) (outputs ot o'' et e))

@@ -2,8 +2,8 @@ use Rattle.std.proofs.Common.{◌∙◌}
 use Rattle.rpm_tool.specs.Reports.{verdict_line}
 use Rattle.rpm_tool.proofs.verdicts.put_verdict.Goals as goal
 
-pub returns-clause-writes : goal.returns-clause-writes
+pub returns : goal.returns
 unfolding verdict_line
-returns-clause-writes g c =
+returns g c =
     let digits = c.as_bytes-number.ensures.value ∙ c.format.ensures.text in
     rw (← digits) c.put_line.ensures.writes

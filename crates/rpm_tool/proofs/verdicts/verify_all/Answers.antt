@@ -15,7 +15,6 @@ use Rattle.rpm_tool.specs.Answers.{PartIs}
 use Rattle.rpm_tool.proofs.Reaching.{goes_start, goes_more, goes_end}
 use Rattle.rpm_tool.proofs.Printed.{none_more}
 use Rattle.rpm_tool.proofs.Verified.{next_entry, no_entry, from_one, verdict_here, fails_later}
-use Rattle.rpm_tool.proofs.Joins.{hands_then}
 use Rattle.rpm_tool.proofs.verdicts.verify_all.Answers.Stopped as stopped
 use Rattle.rpm_tool.proofs.verdicts.verify_all.Goals as goal
 
@@ -32,7 +31,7 @@ loop-next-init g c =
           g.met.D.Disk.follows_refl c.args.disk.now);
       disk = omega arith;
       out = omega arith;
-      out_rest = (g.met.O.Sink.follows_refl (inner c.args.out.now), c.requires.out_empty);
+      out_rest = g.met.O.Sink.follows_refl (inner c.args.out.now);
       goes = λ told err_tells err. goes_start g.O.Sink.tells err_tells all all (g.O.Sink.taken (inner c.args.out.now)) err refl;
       bad = λ told. refl;
     }
@@ -57,8 +56,8 @@ loop-next-preserved g c =
           g.met.D.Disk.follows_trans (cost_to k db) (cost m db) (cost_to m db) c.args.disk.now c.loop-next.disk c.verify_one.new.disk
           (omega (arith, cost_more db k m c.in-Some.ensures.next.0)) inv.looks done.looks;
       disk = omega (arith, inv.disk, done.disk.later);
-      out = omega (arith, inv.out, done.out.later);
-      out_rest = hands_then g.met.O.Sink.follows_trans c.args.out.now c.loop-next.out c.verify_one.new.out inv.out_rest done.out_rest;
+      out = omega (arith, inv.out, done.out.cause.later);
+      out_rest = g.met.O.Sink.follows_trans (inner c.args.out.now) (inner c.loop-next.out) (inner c.verify_one.new.out) inv.out_rest done.out.goes_on;
       goes = λ told et e.
           let part : PartIs (each (m, next.0)) (Ok c.in-Ok.unsound) (outputs g.O.Sink.tells o' et e) (outputs g.O.Sink.tells o'' et e)
           (λ for. for ≡ bearer 0 m) =

@@ -1,7 +1,7 @@
 use Rattle.std.proofs.Common.{◌≡◌, ℕ, ◌-◌, ◌^◌, ◌≤◌, ◌||◌, Bool, List, map}
 use Rattle.std.specs.Prelude.{IsTrue}
 use Rattle.std.specs.FinMap.{entries}
-use Rattle.rpm_outside.specs.Buffered.{inner, HandsOn}
+use Rattle.rpm_outside.specs.Buffered.{inner}
 use Rattle.rpm_outside.specs.declared.disk.File.TheVariants.{Pkg}
 use Rattle.rpm_outside.specs.Looks.{Looks}
 use Rattle.rpm_db.specs.State.{packages, above}
@@ -18,7 +18,7 @@ invariant-loop-next g l = record {
       (cost_to l.number l.db) l.initial.disk l.disk;
   disk : g.D.Disk.faults l.initial.disk ≤ g.D.Disk.faults l.disk;
   out : g.O.Sink.faults (inner l.initial.out) ≤ g.O.Sink.faults (inner l.out);
-  out_rest : HandsOn g.O.Sink.follows l.initial.out l.out;
+  out_rest : g.O.Sink.follows (inner l.initial.out) (inner l.out);
   goes : IsTrue g.D.Disk.tells → (err_tells : Bool) (err : List ℕ) → Goes g.O.Sink.tells err_tells
       (together (map (entry_verdict (g.D.Disk.files l.initial.disk).pkg l.db.store)
       (above 0 (entries (packages (g.D.Disk.files l.initial.disk).pkg l.db.store))))).steps

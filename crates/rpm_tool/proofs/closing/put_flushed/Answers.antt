@@ -1,5 +1,5 @@
 use Rattle.rpm_outside.specs.inner.Flushed.{stopped, flushed}
-use Rattle.rpm_tool.proofs.closing.put_closing.Goals as goal
+use Rattle.rpm_tool.proofs.closing.put_flushed.Goals as goal
 
 pub returns-in_err-put_line : goal.returns-in_err-put_line
 returns-in_err-put_line g c = stopped g.met.E.Sink.follows_grows c.from_residual.result c.from_residual.ensures.0 c.requires c.in_err-put_line.ensures
