@@ -8,6 +8,10 @@ use Rattle.rpm_pkgdb.specs.Checksums.{adler}
 unfoldable pub le : ℕ → List ℕ
 le n = to_le_bytes w32 n
 
+-- unit 1: the next number, and zeros
+unfoldable pub next_unit : ℕ → List ℕ
+next_unit n = le n ++ replicate 12 0
+
 -- the head of a blob of so many bytes
 unfoldable pub head_of : ℕ → ℕ → ℕ → List ℕ
 head_of n generation size = codes "BlbS" ++ le n ++ le generation ++ le size

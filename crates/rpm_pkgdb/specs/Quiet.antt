@@ -9,6 +9,7 @@ use Rattle.rpm_pkgdb.specs.declared.slot.Slot.{Slot}
 use Rattle.rpm_pkgdb.specs.Slots.{slot_at, is_used, end_of, free}
 use Rattle.rpm_pkgdb.specs.Store.{Store, store, Keeps}
 use Rattle.rpm_pkgdb.specs.Blobs.{blobs}
+use Rattle.rpm_pkgdb.specs.Framing.{next_unit}
 
 -- numbers and their blobs, where None is a broken framing
 abbrev pub BlobMap : Type 0
@@ -58,5 +59,6 @@ Anything old new = Unit {0}
 -- all of the first page but unit 0, with the next number 1 and no used slot
 pub record IsFirstPage (file : Units) : Type 0 where
   pub long : 256 ≤ length file
+  pub next : unit_at file 1 ≡ next_unit 1
   pub field : word 0 (unit_at file 1) ≡ 1
   pub slots : (i : ℕ) → 2 ≤ i → i < 256 → IsSlotUnit (unit_at file i) free

@@ -3,13 +3,13 @@
 ghost use Rattle.std.specs.Prelude.{◌≡◌, ℕ, ◌+◌, ◌*◌, ◌^◌, ◌<◌, ◌≤◌, IsTrue, true, false, length, take, drop, Some, IsSome, OnOk, OnErr, IfOk};
 ghost use Rattle.std.specs.FinMap as finite;
 ghost use Rattle.rpm_outside.specs.declared.disk.File.TheVariants.{Pkg};
-ghost use Rattle.rpm_outside.specs.Files.{Files, units_of};
+ghost use Rattle.rpm_outside.specs.Files.{Files, units_of, unit_at};
 ghost use Rattle.rpm_outside.specs.Causes.{HasCause};
 ghost use Rattle.rpm_outside.specs.Crash.{LeavesOnly};
 ghost use Rattle.rpm_pkgdb.specs.Slots.{slot_with, slot_at, has_number, free, end_of};
 ghost use Rattle.rpm_pkgdb.specs.Store.{Keeps};
 ghost use Rattle.rpm_pkgdb.specs.Blobs.{blobs, blocks_for};
-ghost use Rattle.rpm_pkgdb.specs.Framing.{framed};
+ghost use Rattle.rpm_pkgdb.specs.Framing.{framed, next_unit};
 ghost use Rattle.rpm_outside.specs.Changes.{Changes, Stops};
 ghost use Rattle.rpm_pkgdb.specs.Quiet.{IsQuiet, StandsFor, Anything};
 ghost use Rattle.rpm_pkgdb.specs.inner.Maps.{Adds};
@@ -105,6 +105,7 @@ impl PkgDb {
             (D.files disk.new).pkg) }
         ensures framed { OnOk result (IsTrue D.tells → take (blocks_for (length blob.now)) (drop plan.now.target.start (D.files disk.new).pkg)
             ≡ units_of (framed plan.now.target.number self.now.generation blob.now)) }
+        ensures next { OnOk result (IsTrue D.tells → plan.now.target.is_new ≡ true → unit_at (D.files disk.new).pkg 1 ≡ next_unit (plan.now.target.number + 1)) }
         ensures zeros { OnOk result (IsTrue D.tells → AreZeros (slot_with plan.now.target.number self.now.slots) (D.files disk.new).pkg) }
         ensures freed { OnOk result (IsTrue D.tells → AreFreed (256 * (with_plan plan.now self.now).pages) self.now.slots
             (with_plan plan.now self.now).slots (D.files disk.new).pkg) }
@@ -178,6 +179,7 @@ impl PkgDb {
         ensures others { OnOk result (IsTrue D.tells → OthersStay plan.target.number self.old (D.files disk.old).pkg self.new (D.files disk.new).pkg) }
         ensures framed { OnOk result (IsTrue D.tells → take (blocks_for (length blob.now)) (drop plan.target.start (D.files disk.new).pkg)
             ≡ units_of (framed plan.target.number self.old.generation blob.now)) }
+        ensures next { OnOk result (IsTrue D.tells → plan.target.is_new ≡ true → unit_at (D.files disk.new).pkg 1 ≡ next_unit (plan.target.number + 1)) }
         ensures zeros { OnOk result (IsTrue D.tells → AreZeros (slot_with plan.target.number self.old.slots) (D.files disk.new).pkg) }
         ensures freed { OnOk result (IsTrue D.tells → AreFreed (256 * self.new.pages) self.old.slots self.new.slots (D.files disk.new).pkg) }
         ensures images { IsTrue D.tells → IsQuiet self.old (D.files disk.old) (D.left_since disk.old (D.moment disk.old)) → LeavesOnly D.moment

@@ -2,7 +2,7 @@
 
 ghost use Rattle.std.specs.Prelude.{◌≡◌, ◌++◌};
 ghost use Rattle.rpm_pkgdb.specs.Words.{word};
-ghost use Rattle.rpm_pkgdb.specs.Framing.{le, head_of, tail_of};
+ghost use Rattle.rpm_pkgdb.specs.Framing.{le, next_unit, head_of, tail_of};
 ghost use Rattle.rpm_pkgdb.specs.Undamaged.{IsSlotUnit, IsHeadUnit};
 
 use crate::blob::{HEAD, TAIL};
@@ -25,6 +25,15 @@ pub fn unit_of(a: u32, b: u32, c: u32, d: u32) -> [u8; 16]
         a[0], a[1], a[2], a[3], b[0], b[1], b[2], b[3], c[0], c[1], c[2], c[3], d[0], d[1], d[2],
         d[3],
     ]
+}
+
+/// Unit 1.
+#[tactic(auto, unfolding(crate::specs::Framing::next_unit, crate::specs::Framing::le))]
+pub fn next_unit(number: u32) -> [u8; 16]
+    ensures word { word 0 result ≡ number }
+    ensures bytes { result ≡ next_unit number }
+{
+    unit_of(number, 0, 0, 0)
 }
 
 /// The unit of a slot.

@@ -1,13 +1,14 @@
 use Rattle.rpm_outside.specs.declared.disk.File.TheVariants.{Pkg}
-use Rattle.std.proofs.Common.{◌≡◌, [], ◌∷◌, sym, subst, true, IsTrue}
-use Rattle.rpm_outside.specs.Files.{put}
+use Rattle.std.proofs.Common.{◌≡◌, ℕ, List, [], ◌∷◌, sym, ap, ◌∙◌, subst, true, arith, IsTrue}
+use Rattle.rpm_outside.specs.Files.{Units, unit_at, put}
 use Rattle.rpm_outside.specs.Crash.{Torn}
 use Rattle.rpm_pkgdb.specs.Store.{is_blank}
 use Rattle.rpm_outside.specs.Changes.{IsSettled}
-use Rattle.rpm_pkgdb.proofs.Changing.{map_ok, both_ok, changes_then, stops_from, stops_then}
+use Rattle.rpm_pkgdb.proofs.Changing.{map_ok, both_ok, changes_weaker, changes_then, stops_from, stops_then}
 use Rattle.rpm_pkgdb.specs.Stays.{SameOutside}
 use Rattle.rpm_pkgdb.specs.Quiet.{Anything, IsFirstPage}
 use Rattle.rpm_pkgdb.specs.Written.{MakesTo}
+use Rattle.rpm_pkgdb.proofs.ClearLaws.{put_elsewhere, torn_outside, outside_then, outside_wider}
 use Rattle.rpm_pkgdb.proofs.Makes.{says_blank, blank_after, while_first, while_headed, new_keeps, new_quiet}
 use Rattle.rpm_pkgdb.proofs.make.write_new.Goals as goal
 
@@ -58,3 +59,31 @@ returns-clause-changes g c =
     changes_then _ _ _ _ _ _ g.met.D.Disk.follows_trans (SameOutside 1 255)
     (Torn 0 (c.head_unit.result ∷ [])) Anything c.args.disk.now c.write_first_page.new.disk c.write_one.new.disk
     (λ x y r. tt) (λ x y z r s. tt) c.write_first_page.ensures.changes c.write_one.ensures.changes
+
+-- the page but for unit 0, and then unit 0
+first_page : (x y : Units) → SameOutside 1 255 x y → SameOutside 0 256 x y
+first_page x y same = outside_wider 1 255 0 256 x y (omega arith) (omega arith) same
+
+then_head : (unit : List ℕ) (x y z : Units) → SameOutside 1 255 x y → Torn 0 (unit ∷ []) y z → SameOutside 0 256 x z
+then_head unit x y z same torn =
+    outside_then 0 256 x y z (first_page x y same) (outside_wider 0 1 0 256 y z (omega arith) (omega arith) (torn_outside 0 (unit ∷ []) y z torn))
+
+pub returns-in_err-write_first_page-clause-alone : goal.returns-in_err-write_first_page-clause-alone
+returns-in_err-write_first_page-clause-alone g c =
+    changes_weaker _ _ _ _ _ _ (SameOutside 1 255) (SameOutside 0 256) c.args.disk.now c.write_first_page.new.disk first_page
+    c.write_first_page.ensures.changes
+
+pub returns-clause-alone : goal.returns-clause-alone
+returns-clause-alone g c =
+    let unit = c.head_unit.result in
+    changes_then _ _ _ _ _ _ g.met.D.Disk.follows_trans (SameOutside 1 255) (Torn 0 (unit ∷ [])) (SameOutside 0 256) c.args.disk.now
+    c.write_first_page.new.disk c.write_one.new.disk first_page (then_head unit) c.write_first_page.ensures.changes c.write_one.ensures.changes
+
+pub returns-clause-next : goal.returns-clause-next
+returns-clause-next g c =
+    let D = g.D.Disk in
+    let unit = c.head_unit.result in
+    let mid = (D.files c.write_first_page.new.disk).pkg in
+    let next = (D.files c.write_one.new.disk).pkg in
+    map_ok c.write_one.result (λ (written : IsTrue D.tells → next ≡ put 0 (unit ∷ []) mid) told. ap (λ (u : Units). unit_at u 1) (written told)
+    ∙ put_elsewhere 0 unit mid 1 (omega arith) ∙ (c.in_ok-write_first_page.ensures.page told).next) c.write_one.ensures.written

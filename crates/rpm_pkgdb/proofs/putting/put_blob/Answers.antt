@@ -1,13 +1,14 @@
-use Rattle.std.proofs.Common.{◌≡◌, ℕ, IsTrue, ◌<◌, ◌≤◌, ◌+◌, [], ◌∷◌, List, length, refl, subst}
+use Rattle.std.proofs.Common.{◌≡◌, ℕ, IsTrue, IfSome, ◌<◌, ◌≤◌, ◌+◌, [], ◌∷◌, List, length, refl, sym, ap, ◌∙◌, subst, arith}
 use Rattle.rpm_outside.specs.Crash.{Torn}
 use Rattle.rpm_pkgdb.specs.declared.slot.Slot.{Slot}
 use Rattle.rpm_pkgdb.specs.declared.plan.Target.{Target}
 use Rattle.rpm_pkgdb.specs.Store.{Keeps}
 use Rattle.rpm_pkgdb.specs.Blobs.{blocks_for}
 use Rattle.rpm_pkgdb.specs.Undamaged.{IsSlotUnit}
-use Rattle.rpm_outside.specs.Files.{units_of, unit_at, blank}
+use Rattle.rpm_outside.specs.Files.{Units, units_of, unit_at, blank}
 use Rattle.rpm_pkgdb.specs.Slots.{end_of}
-use Rattle.rpm_pkgdb.specs.Framing.{framed}
+use Rattle.rpm_pkgdb.specs.Framing.{framed, next_unit}
+use Rattle.rpm_pkgdb.proofs.ClearLaws.{put_elsewhere}
 use Rattle.rpm_pkgdb.proofs.FramingLaws.{count-framed}
 use Rattle.rpm_pkgdb.proofs.FreedLaws.{put_blank_all}
 use Rattle.rpm_pkgdb.proofs.Changing.{on_ok, map_ok, changes_then, stops_from, stops_then}
@@ -141,3 +142,15 @@ returns-clause-blanks g c =
     old.offset old.count c.slot_unit.result (D.files c.args.disk.now).pkg (D.files c.write_first.new.disk).pkg (D.files c.write_one.new.disk).pkg F3
     (count-framed target.number c.args.generation blob) (c.in_ok-write_first.ensures.written told) (c.in_ok-write_one.ensures.written told)
     (c.write_zeros.ensures.changes.pkg told) (zeros told)) c.write_zeros.ensures.zeros
+
+pub returns-clause-next : goal.returns-clause-next
+returns-clause-next g c = on_ok c.write_zeros.result (λ told none.
+    let D = g.D.Disk in
+    let target = c.args.target.now in
+    let F1 = (D.files c.write_first.new.disk).pkg in
+    let F2 = (D.files c.write_one.new.disk).pkg in
+    let F3 = (D.files c.write_zeros.new.disk).pkg in
+    let stays : unit_at F3 1 ≡ unit_at F1 1 =
+    (c.write_zeros.ensures.changes.pkg told).above 1 (omega (arith, ap (λ (s : Slot). s.offset) none, ap (λ (s : Slot). s.count) none))
+    ∙ ap (λ (u : Units). unit_at u 1) (c.in_ok-write_one.ensures.written told) ∙ put_elsewhere (2 + target.place) c.slot_unit.result F1 1 (omega arith) in
+    subst (λ (u : List ℕ). IfSome (next_field target) (λ n. u ≡ next_unit n)) (sym stays) (c.in_ok-write_first.ensures.next told))

@@ -1,14 +1,14 @@
-use Rattle.std.proofs.Common.{◌≡◌, inl, ℕ, ◌<◌, ◌≤◌, ◌+◌, length, Some, IsTrue, sym, ap, ◌∙◌, subst, arith}
+use Rattle.std.proofs.Common.{◌≡◌, inl, ℕ, ◌<◌, ◌≤◌, ◌+◌, length, Bool, if◌then◌else◌, Option, Some, None, IfSome, IsTrue, sym, ap, ◌∙◌, subst, arith}
 use Rattle.std.specs.FinMap as finite
 use Rattle.rpm_outside.specs.Files.{units_of, unit_at, blank}
-use Rattle.rpm_pkgdb.specs.Slots.{end_of}
+use Rattle.rpm_pkgdb.specs.Slots.{end_of, free}
 use Rattle.rpm_pkgdb.specs.Store.{Store, Keeps}
 use Rattle.rpm_pkgdb.specs.Blobs.{blobs, blocks_for}
-use Rattle.rpm_pkgdb.specs.Framing.{framed}
+use Rattle.rpm_pkgdb.specs.Framing.{framed, next_unit}
 use Rattle.rpm_pkgdb.specs.Growing.{moving_cost}
 use Rattle.rpm_pkgdb.specs.Planned.{moves_of}
 use Rattle.rpm_pkgdb.specs.Quiet.{BlobMap, IsQuiet, Anything, StandsFor}
-use Rattle.rpm_pkgdb.specs.Written.{PutsTo, with_blob}
+use Rattle.rpm_pkgdb.specs.Written.{PutsTo, next_field, with_blob}
 use Rattle.rpm_pkgdb.specs.inner.Keeping.{IsKept}
 use Rattle.rpm_pkgdb.specs.inner.Puts.{CanPut, StandsWith, WhilePut}
 use Rattle.rpm_pkgdb.proofs.Changing.{map_ok, both_ok, copies_then, copies_stops_then, stops_weaker}
@@ -127,6 +127,15 @@ returns-clause-others g c =
     let keeps = c.in_ok-grow.ensures.kept told in
     put_stay mid plan.target gen c.args.old blob can F1 F2 keeps (stands told mid can keeps) m differs ∙ c.in_ok-grow.ensures.others told m)
     c.put_blob.ensures.stands
+
+pub returns-clause-next : goal.returns-clause-next
+returns-clause-next g c =
+    let D = g.D.Disk in
+    let target = c.args.plan.now.target in
+    let F2 = (D.files c.put_blob.new.disk).pkg in
+    map_ok c.put_blob.result (λ (next : IsTrue D.tells → c.args.old ≡ free → IfSome (next_field target) (λ n. unit_at F2 1 ≡ next_unit n)) told new.
+    let is : next_field target ≡ Some (target.number + 1) = ap (λ (b : Bool). if b then Some (target.number + 1) else None) new in
+    subst (λ (o : Option ℕ). IfSome o (λ n. unit_at F2 1 ≡ next_unit n)) is (next told (c.requires.new new))) c.put_blob.ensures.next
 
 pub returns-clause-framed : goal.returns-clause-framed
 returns-clause-framed g c =
