@@ -6,4 +6,4 @@ pub returns : goal.returns
 unfolding verdict_line
 returns g c =
     let digits = c.as_bytes-number.ensures.value ∙ c.format.ensures.text in
-    rw (← digits) c.put_line.ensures.writes
+    record { writes = rw (← digits) c.put_line.ensures.writes }
