@@ -14,7 +14,7 @@ use Rattle.rpm_tool.specs.declared.answer.Why.TheVariants as why
 use Rattle.rpm_tool.specs.Answers.{Refused}
 use Rattle.rpm_tool.specs.Keyed.{is_done}
 use Rattle.rpm_tool.specs.Changing.{Did, DidOpened, LeavesState, HasState, after, is_done_or_fault}
-use Rattle.rpm_tool.specs.Working.{Stopped, WorkedOn, WorkedBy, EndsAs, GroupLeaves, why_of}
+use Rattle.rpm_tool.specs.Working.{Stopped, WorkedOn, WorkedBy, EndsAs, GroupLeaves}
 use Rattle.rpm_tool.proofs.Leavings.{leaves_start, uncommitted_leaves, leaves_done}
 use Rattle.rpm_tool.proofs.Outcomes.{stopped_did, uncommitted_did, done_did, is_done_why, stopped_undone, refused_undone}
 

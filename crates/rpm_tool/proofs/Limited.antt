@@ -1,5 +1,5 @@
 -- The limits of a command that changes packages, from the opening to its end.
-use Rattle.std.proofs.Common.{◌≡◌, ℕ, ◌^◌, ◌<◌, ◌≤◌, ◌==◌, ◌&&◌, if◌then◌else◌, Bool, true, false, List, Option, Some, None, Result, Ok, Err, refl, sym, ap, ◌∙◌, subst, inl, inr, arith}
+use Rattle.std.proofs.Common.{◌≡◌, ℕ, ◌^◌, ◌<◌, ◌≤◌, ◌==◌, ◌&&◌, if◌then◌else◌, Bool, true, false, List, Option, Some, None, Result, Ok, Err, refl, sym, ap, ◌∙◌, subst, inl, inr}
 use Rattle.std.specs.Prelude.{IfOk, nat_lt}
 use Rattle.rpm_outside.specs.Files.{Units, Files}
 use Rattle.rpm_hindex.specs.Sizes.{units_for}
@@ -8,7 +8,7 @@ use Rattle.rpm_pkgdb.specs.Store.{Store, store}
 use Rattle.rpm_pkgdb.specs.Written.{made_new}
 use Rattle.rpm_db.specs.Changes.{Change}
 use Rattle.rpm_db.specs.Database.{Database}
-use Rattle.rpm_db.specs.Openings.{must_make, units_needed}
+use Rattle.rpm_db.specs.Openings.{must_make}
 use Rattle.rpm_db.specs.Rows.{rows}
 use Rattle.rpm_db.specs.State.{State, state}
 use Rattle.rpm_change.specs.declared.tally.Halt.{Halt}
@@ -16,12 +16,12 @@ use Rattle.rpm_change.specs.declared.tally.Halt.TheVariants as halt
 use Rattle.rpm_change.specs.declared.tally.Tally.{Tally}
 use Rattle.rpm_change.specs.Limits.{first_refusal, first_limit, is_limit, StopsAt}
 use Rattle.rpm_change.specs.Steps.{Course}
-use Rattle.rpm_change.specs.inner.LimitLaws.{makes_large, makes_small, never_bad, never_bad_made, stops_unasked}
+use Rattle.rpm_change.specs.inner.LimitLaws.{makes_large, makes_small, never_bad_made, stops_unasked}
 use Rattle.rpm_tool.specs.declared.answer.Why.{Why}
 use Rattle.rpm_tool.specs.declared.answer.Why.TheVariants as why
 use Rattle.rpm_tool.specs.Changing.{makes}
 use Rattle.rpm_tool.specs.Limits.{begun, command_limit, MeetsFirst, LimitsOn}
-use Rattle.rpm_tool.specs.Working.{OpensIn, OpensBy, done_why, why_of, why_of_halt}
+use Rattle.rpm_tool.specs.Working.{OpensIn, OpensBy, done_why, why_of_halt}
 use Rattle.rpm_tool.proofs.Standing.{if_ok, if_ok_at}
 use Rattle.rpm_tool.proofs.Outcomes.{done_is}
 

@@ -1,6 +1,6 @@
 -- A command that was stopped before its first change.
-use Rattle.std.proofs.Common.{◌≡◌, ℕ, Bool, true, false, [], Result, Ok, Err, refl}
-use Rattle.rpm_outside.specs.Files.{Units, Files}
+use Rattle.std.proofs.Common.{ℕ, Bool, true, false, [], Result, Ok, Err, refl}
+use Rattle.rpm_outside.specs.Files.{Files}
 use Rattle.rpm_pkgdb.specs.declared.slot.Damage.{Damage}
 use Rattle.rpm_pkgdb.specs.Store.{Store, store}
 use Rattle.rpm_db.specs.Openings.{must_make, units_needed}

@@ -1,6 +1,6 @@
 -- Commands that change packages: what each answers and leaves. A command is the course that it takes from the state that it finds. On it rest
 -- `did` and `changed` of `changes`, and `empty`, on the page (Theorem.antt).
-use Rattle.std.specs.Prelude.{◌≡◌, ◌⊎◌, ℕ, ◌^◌, ◌<◌, ◌≤◌, List, [], length, Bool, true, false, Some, None, is_some, Result, Ok, Err, IfOk}
+use Rattle.std.specs.Prelude.{◌≡◌, ◌⊎◌, ℕ, ◌^◌, ◌<◌, ◌≤◌, [], length, Bool, true, false, Some, None, is_some, Result, Ok, Err, IfOk}
 use Rattle.std.specs.Ordering.{nat_cmp}
 use Rattle.std.specs.FinMap as finite
 use Rattle.std.specs.FinMap.{FinMap}

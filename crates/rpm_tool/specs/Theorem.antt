@@ -2,7 +2,7 @@
 -- of it or a field of one, and each field says one thing. `run` requires nothing. What a disk or a shelf holds
 -- is said only where its kind tells it (`tells`). A database is lawful that isn't damaged, and whose index,
 -- where it is of this generation, holds the rows of the packages.
-use Rattle.std.specs.Prelude.{◌≡◌, ◌≢◌, ℕ, ◌+◌, ◌≤◌, List, [], true, false, IsTrue, Option, Some, None, Err, Ok}
+use Rattle.std.specs.Prelude.{◌≡◌, ◌≢◌, ℕ, ◌+◌, ◌≤◌, List, [], true, false, IsTrue, Some, None, Err, Ok}
 use Rattle.std.specs.Ordering.{nat_cmp}
 use Rattle.std.specs.FinMap.{FinMap}
 use Rattle.rpm_outside.specs.declared.disk.Disk as disk

@@ -1,4 +1,4 @@
-use Rattle.std.proofs.Common.{◌≡◌, ◌∙◌, ap, refl, rules, arith}
+use Rattle.std.proofs.Common.{◌∙◌, ap, refl, rules, arith}
 use Rattle.rpm_outside.specs.Buffered.{inner}
 use Rattle.rpm_tool.specs.Closing.{closing}
 use Rattle.rpm_tool.proofs.Arguments.{questions}

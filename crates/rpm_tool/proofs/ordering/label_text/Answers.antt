@@ -1,4 +1,4 @@
-use Rattle.std.proofs.Common.{◌≡◌, ℕ, List, [], ◌∷◌, ◌∙◌, append_assoc}
+use Rattle.std.proofs.Common.{◌≡◌, [], ◌∷◌, ◌∙◌, append_assoc}
 use Rattle.rpm_tool.specs.Labels.{header_label}
 use Rattle.rpm_tool.proofs.Labels.{header_label_is}
 use Rattle.rpm_tool.proofs.ordering.label_text.Goals as goal

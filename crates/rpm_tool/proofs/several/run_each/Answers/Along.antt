@@ -1,5 +1,4 @@
 -- The states and the numbers along all lines.
-use Rattle.std.proofs.Common.{[]}
 use Rattle.rpm_tool.specs.History.{calls_of}
 use Rattle.rpm_tool.proofs.Chained.{lines_rise}
 use Rattle.rpm_tool.proofs.Leading.{tells_calls}
