@@ -164,10 +164,14 @@ fn a_row_is_there_as_often_as_it_was_put(rt: HostRuntime) -> Result<(), AllocErr
     let first = other_key(alloc, &mut disk, 1, 0);
     let changed = change_rows(alloc, &mut disk, &column(alloc, 1)?, &column(alloc, 2)?, 2);
     let second = other_key(alloc, &mut disk, 2, 3);
-    let sizes = [(0, 0), (128, 256), (129, 258)].map(|(rows, live)| index_units(rows, live));
+    let sizes = (
+        index_units(0, 0),
+        index_units(128, 256),
+        index_units(129, 258),
+    );
     assert_eq!(rt;
         (made, first, changed, second, sizes),
-        (true, None, true, None, [18, 274, 292])
+        (true, None, true, None, (18, 274, 292))
     );
     Ok(())
 }
