@@ -1,6 +1,6 @@
 //! The paths of a package's files.
 
-ghost use Rattle.std.specs.Prelude.{◌≡◌, ℕ, ◌<◌, ◌≤◌, IsTrue, length, Some, slice_get, nat_lt, false, MatchOption};
+ghost use Rattle.std.specs.Prelude.{◌≡◌, ℕ, ◌<◌, ◌≤◌, ◌++◌, IsTrue, length, Some, slice_get, nat_lt, false, IfSome, MatchOption};
 ghost use Rattle.std.specs.Iterator.{YieldsFirstBy, item_count};
 ghost use Rattle.std.specs.List.{concat, list_all};
 ghost use Rattle.rpm_tags.specs.Value.{filenames, are_matched, file_name, texts_in, numbers_in};
@@ -105,6 +105,24 @@ impl<'v, 'a> Model for FileIter<'v, 'a> {
     ghost invariant = { λ s. AreLeft s.dirs s.indexes.now s.bases s.place };
 }
 
+impl<'v, 'a> FileIter<'v, 'a> {
+    /// The next path: its directory, and its name, which follows it.
+    pub fn next_path(&mut self) -> Option<(&'a [u8], &'a [u8])>
+        ensures steps { YieldsFirstBy (λ path. path.0.now ++ path.1.now) (λ s. s) self.old result self.new }
+        ensures short { IfSome result (λ path. (length path.0.now ≤ max_data) × (length path.1.now ≤ max_data)) }
+    {
+        match self.bases.next() {
+            None => None,
+            Some(base) => {
+                let index = self.indexes.number(self.place);
+                self.place += 1;
+                let dir = self.dirs.dir(index);
+                Some((dir, base))
+            }
+        }
+    }
+}
+
 impl<'v, 'a> Iterator for FileIter<'v, 'a> {
     type Item = Joined<'a>;
 
@@ -113,14 +131,9 @@ impl<'v, 'a> Iterator for FileIter<'v, 'a> {
     ghost remaining = { item_count (λ s. s) };
 
     fn next(&mut self) -> Option<Joined<'a>> {
-        match self.bases.next() {
+        match self.next_path() {
             None => None,
-            Some(base) => {
-                let index = self.indexes.number(self.place);
-                self.place += 1;
-                let dir = self.dirs.dir(index);
-                Some(Joined::two(dir, base))
-            }
+            Some((dir, base)) => Some(Joined::two(dir, base)),
         }
     }
 }

@@ -1,6 +1,6 @@
-use Rattle.std.proofs.Common.{◌∙◌, sym, rules, refl}
-use Rattle.rpm_tags.proofs.Paths.{next_index, next_left, next_path_in, no_paths}
-use Rattle.rpm_tags.proofs.files.FileIterIterator.next.Goals as goal
+use Rattle.std.proofs.Common.{◌∙◌, sym, refl}
+use Rattle.rpm_tags.proofs.Paths.{next_index, next_left, next_path_in, next_short, no_paths}
+use Rattle.rpm_tags.proofs.files.FileIter.next_path.Goals as goal
 
 pub returns-in-None-clause-steps : goal.returns-in-None-clause-steps
 returns-in-None-clause-steps c = (
@@ -19,11 +19,10 @@ invariant_of-self-in-Some c =
 pub returns-in-Some-clause-steps : goal.returns-in-Some-clause-steps
 returns-in-Some-clause-steps c =
     sym c.self.view_is ∙ next_path_in c.self.inside.dirs c.self.inside.indexes.now c.self.inside.bases c.self.inside.place _ _ _ _ c.in-Some.ensures.steps
-    c.number-index.ensures c.dir-dir.ensures.value ∙ rw (← c.two.ensures, c.dir-dir.ensures.same) refl
+    c.number-index.ensures c.dir-dir.ensures.value ∙ rw c.dir-dir.ensures.same refl
 
-pub returns-in-Some-clause-goes : goal.returns-in-Some-clause-goes
-returns-in-Some-clause-goes c =
-    let steps =
-    sym c.self.view_is ∙ next_path_in c.self.inside.dirs c.self.inside.indexes.now c.self.inside.bases c.self.inside.place _ _ _ _
-    c.in-Some.ensures.steps c.number-index.ensures c.dir-dir.ensures.value in
-    rw (c.dir-dir.ensures.same, steps) (search rules)
+pub returns-in-Some-clause-short : goal.returns-in-Some-clause-short
+returns-in-Some-clause-short c = (
+  c.dir-dir.ensures.short,
+  next_short c.self.inside.dirs c.self.inside.indexes.now c.self.inside.bases c.self.inside.place _ _ c.self.invariant c.in-Some.ensures.steps,
+)
