@@ -15,4 +15,5 @@ mod tree;
 
 pub use fault::{FormatFault, FormatKind};
 pub use reader::parse;
+pub use rpm_tags::Tag;
 pub use tree::{Bytes, Format, Part, Parts, Role, Show, TagPart};
