@@ -1,9 +1,10 @@
 -- The first text of those that are left.
-use Rattle.std.proofs.Common.{◌≡◌, ℕ, zero, suc, ◌+◌, List, [], ◌∷◌, drop, Option, Some, None, refl, sym, ◌∙◌, arith}
+use Rattle.std.proofs.Common.{◌≡◌, ℕ, zero, suc, ◌+◌, List, [], ◌∷◌, drop, Option, Some, None, refl, sym, ap, ◌∙◌, arith}
 use Rattle.std.specs.Prelude.{slice_get}
 use Rattle.std.specs.Option.{option_map}
 use Rattle.std.specs.Iterator.{YieldsFirstBy}
 use Rattle.rpm_tags.specs.Value.{Elements, text_list}
+use Rattle.rpm_qfeval.specs.Formatters.{or_none}
 use Rattle.rpm_qfeval.specs.inner.Reached.{IsReadTo}
 use Rattle.rpm_qfeval.proofs.Steps.{begins_with}
 
@@ -32,3 +33,10 @@ module _ {A : Type 0} (view : A → List ℕ) where
       let some : drop (place + 1) (text_list value) ≡ view x ∷ new = sym is.behind ∙ y in
       let b = begins_with (text_list value) (place + 1) (view x) new some in
       record { are_texts = is.are_texts; here = sym b.here; behind = b.behind }
+
+-- the text of a round is that at the place where the reading stands
+pub text_here : (all self : List (List ℕ)) (place round : ℕ) (o : Option (List ℕ)) → all ≡ self → place ≡ round → slice_get all place ≡ o
+    → or_none o ≡ or_none (slice_get self round)
+text_here all self place round o e f h =
+    let same : slice_get self round ≡ slice_get all place = rw (e, f) refl in
+    ap or_none (sym h ∙ sym same)

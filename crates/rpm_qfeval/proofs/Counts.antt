@@ -1,5 +1,5 @@
 -- What a test gives of the parts from a place on.
-use Rattle.std.proofs.Common.{◌≡◌, ℕ, ◌+◌, ◌≤◌, ◌==◌, not, List, [], ◌∷◌, length, drop, Option, Some, None, refl, sym, ap, ◌∙◌, eq-eqb}
+use Rattle.std.proofs.Common.{◌≡◌, ℕ, ◌+◌, ◌≤◌, ◌==◌, not, List, [], ◌∷◌, length, drop, Option, Some, None, refl, sym, ap, ◌∙◌, arith, eq-eqb}
 use Rattle.std.proofs.lemmas.Bool.{ne_eqb}
 use Rattle.std.specs.Prelude.{slice_get, find, filter_map, unwrap_or}
 use Rattle.std.specs.Option.{option_map}
@@ -12,6 +12,16 @@ module _ {X Y : Type 0} (f : X → Option Y) (xs : List X) (i : ℕ) where
 
   gives_some : (x : X) (y : Y) → slice_get xs i ≡ Some x → Some y ≡ f x → filter_map f (drop i xs) ≡ y ∷ filter_map f (drop (i + 1) xs)
   gives_some x y at e = ap (filter_map f) (drop_here xs i x at) ∙ rw (sym e) refl
+
+  -- a part gives one at most
+  pub gives_few : (x : X) → slice_get xs i ≡ Some x → length (filter_map f (drop i xs)) ≤ length (filter_map f (drop (i + 1) xs)) + 1
+  gives_few x at = by_case (f x) refl where
+    by_case : (o : Option Y) → f x ≡ o → length (filter_map f (drop i xs)) ≤ length (filter_map f (drop (i + 1) xs)) + 1
+    by_case None e = omega (arith, ap length (gives_none x at (sym e)))
+    by_case (Some y) e = omega (arith, ap length (gives_some x y at (sym e)))
+
+  pub gives_no_more : (x : X) → slice_get xs i ≡ Some x → f x ≡ None → length (filter_map f (drop i xs)) ≤ length (filter_map f (drop (i + 1) xs))
+  gives_no_more x at e = omega (arith, ap length (gives_none x at (sym e)))
 
   -- a reading of the whole list goes on where it gives nothing
   pub passes : {Z : Type 0} (g : List Y → Z) (x : X) (r : Z) → slice_get xs i ≡ Some x → None ≡ f x → g (filter_map f (drop i xs)) ≡ r
@@ -43,3 +53,9 @@ module _ {X : Type 0} (f : X → Option ℕ) (xs : List X) (i : ℕ) where
   pub all_same : (seen : Option ℕ) (r : Option (ℕ × ℕ)) → length xs ≤ i → differs_from seen (filter_map f (drop i xs)) ≡ r → None ≡ r
   all_same None r le h = ends f xs i different r le h
   all_same (Some k) r le h = ends f xs i (differs_from (Some k)) r le h
+
+-- one count differs from none
+pub few : (ns : List ℕ) → length ns ≤ 1 → None ≡ different ns
+few [] h = refl
+few (n ∷ []) h = refl
+few (n ∷ m ∷ ns) h = absurd (omega arith)

@@ -10,12 +10,13 @@ ghost use Rattle.rpm_qfeval.specs.Padded.{padded};
 
 use crate::cursor::Cursor;
 use crate::elements::{put_none, put_value};
+use crate::ready::{Ready, is_ready};
 use crate::stream::Stream;
 use arrayvec::ArrayVec;
 use rpm_header::{PlacesRoom, View};
 use rpm_outside::{Failed, Sink};
-use rpm_qfparse::{Part, Parts, Role, TagPart};
-use rpm_tags::{Class, Tag, TagValue, texts_in, value};
+use rpm_qfparse::{Part, Parts, Role, Tag, TagPart};
+use rpm_tags::{Class, TagValue, texts_in, value};
 use std::marker::Model;
 
 /// Of how many tags of a bracket the values are kept: more than two for each tag that has a name, one
@@ -44,8 +45,7 @@ enum Reading<'v, 'a> {
     Joined(Cursor<'v, 'a>),
 }
 
-/// What is asked for with its value, and of a value of texts how far it was read. Contracts see it
-/// without that.
+/// What is asked for with its value, and how far texts were read. Contracts see it without that.
 #[derive(Drop)]
 pub struct Column<'v, 'a> {
     found: &'v Found<'a>,
@@ -205,22 +205,41 @@ fn add_asked(all: &mut AllAsked, asked: Asked) {
     }
 }
 
-/// What the parts of a bracket ask for, as much as there is room for.
-pub fn asked_in(inner: &Parts) -> AllAsked {
+/// Whether the parts of a bracket ask for more than what stands ready of them.
+pub fn ask_more(inner: &Parts, ready: &[Ready<'_, '_>]) -> bool {
+    for i in 0..inner.len() {
+        if !is_ready(ready, i) && !matches!(inner.at(i), Part::Text(_)) {
+            return true;
+        }
+    }
+    false
+}
+
+/// What the parts of a bracket ask for besides what stands ready, as much as there is room for.
+pub fn asked_in(inner: &Parts, ready: &[Ready<'_, '_>]) -> AllAsked {
     let mut all = ArrayVec::new();
-    add_all_asked(&mut all, inner);
+    for i in 0..inner.len() {
+        if !is_ready(ready, i) {
+            add_asked_by(&mut all, inner.at(i));
+        }
+    }
     all
 }
 
-/// Whether the paths of files are asked for in turn, and need room for the places of directories.
-pub fn need_room(all: &[Option<Asked>], view: &View<'_>, number: u32) -> bool {
-    if !all.contains(&Some(Asked::of(Tag::Filenames))) {
-        return false;
+/// Whether the paths of files are asked for in turn.
+#[cycle(asking)]
+pub fn ask_for_paths(parts: &Parts) -> bool {
+    for i in 0..parts.len() {
+        let asks = match parts.at(i) {
+            Part::Text(_) | Part::Bracket(_) => false,
+            Part::Tag(part) => Asked::by(part) == Asked::of(Tag::Filenames),
+            Part::Condition(_, first, second) => ask_for_paths(first) || ask_for_paths(second),
+        };
+        if asks {
+            return true;
+        }
     }
-    match value(view, number, Tag::Filenames) {
-        None => false,
-        Some(paths) => paths.needs_room(),
-    }
+    false
 }
 
 /// Adds the values of what is asked for, as far as there is room.
@@ -255,8 +274,8 @@ fn room_for<'v>(asked: Asked, room: &mut Option<&'v mut PlacesRoom>) -> Option<&
     }
 }
 
-/// Adds the columns of values, as far as there is room for them. The paths of files, which are
-/// asked for in turn in one column alone, get the room for directories.
+/// Adds the columns of values, as far as there is room for them. Of them the paths of files, in one
+/// column alone, get the room for directories.
 pub fn add_columns<'v, 'a, const N: usize>(
     columns: &mut ArrayVec<Option<Column<'v, 'a>>, N>,
     found: &'v [Option<Found<'a>>],

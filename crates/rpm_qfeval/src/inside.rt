@@ -77,7 +77,7 @@ fn put_part_at<O: Sink>(
     view: &View<'_>,
     number: u32,
     columns: &mut [Option<Column<'_, '_>>],
-    ready: &mut [Ready<'_>],
+    ready: &mut [Ready<'_, '_>],
     next: &mut usize,
     round: u32,
 ) -> Result<(), Failed>
@@ -92,6 +92,8 @@ fn put_part_at<O: Sink>(
         match &mut ready[i] {
             Ready::Texts(texts) => return texts.put(sink, round),
             Ready::Numbers(numbers) => return put_number_of(sink, numbers, round),
+            Ready::Paths(paths) => return paths.put(sink, round),
+            Ready::Missing => return put_all(sink, b"(none)"),
             Ready::Other => {}
         }
     }
@@ -111,7 +113,7 @@ fn put_round<O: Sink>(
     view: &View<'_>,
     number: u32,
     columns: &mut [Option<Column<'_, '_>>],
-    ready: &mut [Ready<'_>],
+    ready: &mut [Ready<'_, '_>],
     next: &mut usize,
     round: u32,
 ) -> Result<(), Failed>
@@ -145,7 +147,7 @@ fn put_rounds<O: Sink>(
     view: &View<'_>,
     number: u32,
     columns: &mut [Option<Column<'_, '_>>],
-    ready: &mut [Ready<'_>],
+    ready: &mut [Ready<'_, '_>],
     count: u32,
 ) -> Result<(), Failed>
     requires told { AreValues view.now number columns.old }
@@ -167,7 +169,7 @@ pub fn put_over<O: Sink>(
     view: &View<'_>,
     number: u32,
     columns: &mut [Option<Column<'_, '_>>],
-    ready: &mut [Ready<'_>],
+    ready: &mut [Ready<'_, '_>],
 ) -> Result<(), Failed>
     requires told { AreValues view.now number columns.old }
     requires ready { StandReady view.now number inner.now ready.old }
@@ -175,7 +177,7 @@ pub fn put_over<O: Sink>(
     ensures { Writes O.tells O.taken O.faults O.follows sink.old sink.new (rounds (counts view.now number inner.now)
         (λ i. bytes view.now number i inner.now)) result }
 {
-    match count_rounds(inner, columns, view, number) {
+    match count_rounds(inner, columns, ready, view, number) {
         None => put_all(sink, b"(none)\n"),
         Some(count) => put_rounds(sink, inner, view, number, columns, ready, count),
     }

@@ -18,6 +18,7 @@ mod lookup;
 mod measure;
 mod modes;
 mod pieces;
+mod plain_paths;
 mod plain_texts;
 mod printing;
 mod ready;

@@ -11,8 +11,8 @@ use crate::columns::{Asked, Column};
 use crate::elements::put_looked_up;
 use rpm_header::View;
 use rpm_outside::{Failed, Sink};
-use rpm_qfparse::TagPart;
-use rpm_tags::{Tag, value};
+use rpm_qfparse::{Tag, TagPart};
+use rpm_tags::value;
 
 /// Whether the column of what is asked for is at a place.
 #[inline(always)]

@@ -33,7 +33,7 @@ fn put_spaces<O: Sink>(sink: &mut O, count: u32) -> Result<(), Failed>
     put_all(sink, spaces(left))
 }
 
-fn put_joined<O: Sink>(sink: &mut O, text: &Joined<'_>) -> Result<(), Failed>
+pub fn put_joined<O: Sink>(sink: &mut O, text: &Joined<'_>) -> Result<(), Failed>
     ensures { Writes O.tells O.taken O.faults O.follows sink.old sink.new (concat text.now) result }
 {
     let mut k = 0;

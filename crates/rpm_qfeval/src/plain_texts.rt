@@ -1,6 +1,6 @@
 //! The texts that a part of a bracket prints as they are.
 
-ghost use Rattle.std.specs.Prelude.{◌≡◌, slice_get};
+ghost use Rattle.std.specs.Prelude.{◌≡◌, length, slice_get};
 ghost use Rattle.rpm_outside.specs.Sinks.{Writes};
 ghost use Rattle.rpm_qfeval.specs.Formatters.{or_none};
 
@@ -54,6 +54,12 @@ impl<'a> PlainTexts<'a> {
             left,
             place: 0,
         }
+    }
+
+    pub fn count(&self) -> u32
+        ensures { result ≡ length self.now }
+    {
+        self.count
     }
 
     /// Puts the text of a round, read from the first one on.

@@ -71,8 +71,9 @@ fn print_parts<O: Sink>(
 /// many they are. A padded text is measured before it is put. The sink gets each piece of the text in a
 /// call of its own: give one with a buffer, as `Buffered`, where a call costs much.
 ///
-/// Up to 2, 4, 16 and 192 tags a bracket takes 13, 16, 34 and 285 KiB of the stack, where a tag behind
-/// `=` counts apart, and 800 KiB where the files of `FILENAMES` go back often. These are the sizes of
+/// Up to 3, 8, 32 and 192 parts a bracket takes 2, 5, 18 and 108 KiB of the stack for what stands ready, and
+/// where parts ask for more, up to 2, 4, 16 and 192 tags of these, 6, 9, 25 and 260 KiB besides, where a tag
+/// behind `=` counts apart; 1 MiB more where the files of `FILENAMES` go back often. These are the sizes of
 /// arrays, whatever the format. A tag for which an array has no place would be looked up in each round;
 /// there is none in a format that was read, which has at most two for each of the 89 tags with a name.
 #[tactic(auto, using(crate::proofs::DateLaw::date_is_day))]

@@ -1,11 +1,15 @@
 //! The parts of a format are put, one after the other.
 
 ghost use Rattle.std.specs.Prelude.{◌≤◌, true, false};
+ghost use Rattle.std.specs.Option.{option_copied};
 ghost use Rattle.rpm_outside.specs.Sinks.{Writes};
 ghost use Rattle.rpm_qfeval.specs.Meaning.{bytes, part_bytes, rounds, counts};
 ghost use Rattle.rpm_qfeval.specs.inner.Proper.{AreProper, PartIsProper};
+ghost use Rattle.rpm_qfeval.specs.inner.Ready.{AreFiles, StandReady};
 
-use crate::columns::{Asked, Column, Found, MOST, add_columns, asked_in, look_up, need_room};
+use crate::columns::{
+    Asked, Column, Found, MOST, add_columns, ask_for_paths, ask_more, asked_in, look_up,
+};
 use crate::elements::put_looked_up;
 use crate::inside::put_over;
 use crate::lookup::is_present;
@@ -14,21 +18,22 @@ use arrayvec::ArrayVec;
 use rpm_header::{PlacesRoom, View};
 use rpm_outside::{Failed, Sink, put_all};
 use rpm_qfparse::{Part, Parts};
+use rpm_tags::{Files, files_in};
 
-/// A bracket with so many columns, and room for so many parts that stand ready. It is kept apart for each
-/// number, so that the memory of more columns isn't paid for. Places of directories are kept where there is
-/// room for them.
+/// A bracket with so many columns. It is kept apart for each number, so that the memory of more columns
+/// isn't paid for. Places of directories are kept where there is room for them.
 #[inline(never)]
-fn put_with<O: Sink, const N: usize, const R: usize>(
+fn put_with<O: Sink, const N: usize>(
     sink: &mut O,
     inner: &Parts,
     view: &View<'_>,
     number: u32,
     asked: &[Option<Asked>],
+    ready: &mut [Ready<'_, '_>],
     room: Option<&mut PlacesRoom>,
 ) -> Result<(), Failed>
     requires room { N ≤ 4096 }
-    requires places { R ≤ 4096 }
+    requires ready { StandReady view.now number inner.now ready.old }
     requires proper { AreProper true inner.now }
     ensures { Writes O.tells O.taken O.faults O.follows sink.old sink.new (rounds (counts view.now number inner.now)
         (λ i. bytes view.now number i inner.now)) result }
@@ -37,37 +42,95 @@ fn put_with<O: Sink, const N: usize, const R: usize>(
     look_up(&mut found, asked, view, number);
     let mut columns: ArrayVec<Option<Column<'_, '_>>, N> = ArrayVec::new();
     add_columns(&mut columns, found.as_slice(), view, number, room);
-    let mut ready: ArrayVec<Ready<'_>, R> = ArrayVec::new();
-    make_ready(&mut ready, inner, view, number);
-    put_over(
-        sink,
-        inner,
-        view,
-        number,
-        columns.as_mut_slice(),
-        ready.as_mut_slice(),
-    )
+    put_over(sink, inner, view, number, columns.as_mut_slice(), ready)
+}
+
+/// A bracket that asks for more than what stands ready. A call pays for the memory of its columns, so
+/// there are few where few serve.
+#[inline(never)]
+fn put_asked<O: Sink>(
+    sink: &mut O,
+    inner: &Parts,
+    view: &View<'_>,
+    number: u32,
+    ready: &mut [Ready<'_, '_>],
+    room: Option<&mut PlacesRoom>,
+) -> Result<(), Failed>
+    requires ready { StandReady view.now number inner.now ready.old }
+    requires proper { AreProper true inner.now }
+    ensures { Writes O.tells O.taken O.faults O.follows sink.old sink.new (rounds (counts view.now number inner.now)
+        (λ i. bytes view.now number i inner.now)) result }
+{
+    let asked = asked_in(inner, ready);
+    let asked = asked.as_slice();
+    match asked.len() {
+        0..=2 => put_with::<O, 2>(sink, inner, view, number, asked, ready, room),
+        3 | 4 => put_with::<O, 4>(sink, inner, view, number, asked, ready, room),
+        5..=16 => put_with::<O, 16>(sink, inner, view, number, asked, ready, room),
+        _ => put_with::<O, MOST>(sink, inner, view, number, asked, ready, room),
+    }
+}
+
+/// A bracket with room for so many parts that stand ready.
+#[inline(never)]
+fn put_prepared<O: Sink, const R: usize>(
+    sink: &mut O,
+    inner: &Parts,
+    view: &View<'_>,
+    number: u32,
+    files: Option<&Files<'_>>,
+    room: Option<&mut PlacesRoom>,
+) -> Result<(), Failed>
+    requires places { R ≤ 4096 }
+    requires files { AreFiles view.now number (option_copied files) }
+    requires proper { AreProper true inner.now }
+    ensures { Writes O.tells O.taken O.faults O.follows sink.old sink.new (rounds (counts view.now number inner.now)
+        (λ i. bytes view.now number i inner.now)) result }
+{
+    let mut ready: ArrayVec<Ready<'_, '_>, R> = ArrayVec::new();
+    make_ready(&mut ready, inner, view, number, files);
+    let ready = ready.as_mut_slice();
+    if ask_more(inner, ready) {
+        put_asked(sink, inner, view, number, ready, room)
+    } else {
+        put_over(sink, inner, view, number, &mut [], ready)
+    }
 }
 
 /// A bracket with room for the places of directories, which costs 1 MiB of zeros.
 #[cold]
 #[inline(never)]
-fn put_far<O: Sink>(
-    sink: &mut O,
-    inner: &Parts,
-    view: &View<'_>,
-    number: u32,
-    asked: &[Option<Asked>],
-) -> Result<(), Failed>
+fn put_far<O: Sink>(sink: &mut O, inner: &Parts, view: &View<'_>, number: u32) -> Result<(), Failed>
     requires proper { AreProper true inner.now }
     ensures { Writes O.tells O.taken O.faults O.follows sink.old sink.new (rounds (counts view.now number inner.now)
         (λ i. bytes view.now number i inner.now)) result }
 {
     let mut room = PlacesRoom::new();
-    put_with::<O, MOST, MOST>(sink, inner, view, number, asked, Some(&mut room))
+    put_prepared::<O, MOST>(sink, inner, view, number, None, Some(&mut room))
 }
 
-/// A bracket. A call pays for the memory of its columns, so there are few where few serve.
+/// A bracket over the paths of files that don't go back often, where they are asked for.
+fn put_near<O: Sink>(
+    sink: &mut O,
+    inner: &Parts,
+    view: &View<'_>,
+    number: u32,
+    files: Option<&Files<'_>>,
+) -> Result<(), Failed>
+    requires files { AreFiles view.now number (option_copied files) }
+    requires proper { AreProper true inner.now }
+    ensures { Writes O.tells O.taken O.faults O.follows sink.old sink.new (rounds (counts view.now number inner.now)
+        (λ i. bytes view.now number i inner.now)) result }
+{
+    match inner.len() {
+        0..=3 => put_prepared::<O, 3>(sink, inner, view, number, files, None),
+        4..=8 => put_prepared::<O, 8>(sink, inner, view, number, files, None),
+        9..=32 => put_prepared::<O, 32>(sink, inner, view, number, files, None),
+        _ => put_prepared::<O, MOST>(sink, inner, view, number, files, None),
+    }
+}
+
+/// A bracket.
 fn put_bracket<O: Sink>(
     sink: &mut O,
     inner: &Parts,
@@ -78,16 +141,18 @@ fn put_bracket<O: Sink>(
     ensures { Writes O.tells O.taken O.faults O.follows sink.old sink.new (rounds (counts view.now number inner.now)
         (λ i. bytes view.now number i inner.now)) result }
 {
-    let asked = asked_in(inner);
-    let asked = asked.as_slice();
-    if need_room(asked, view, number) {
-        return put_far(sink, inner, view, number, asked);
+    if !ask_for_paths(inner) {
+        return put_near(sink, inner, view, number, None);
     }
-    match asked.len() {
-        0..=2 => put_with::<O, 2, 4>(sink, inner, view, number, asked, None),
-        3 | 4 => put_with::<O, 4, 8>(sink, inner, view, number, asked, None),
-        5..=16 => put_with::<O, 16, 32>(sink, inner, view, number, asked, None),
-        _ => put_with::<O, MOST, MOST>(sink, inner, view, number, asked, None),
+    match files_in(view) {
+        None => put_near(sink, inner, view, number, None),
+        Some(files) => {
+            if files.need_room() {
+                put_far(sink, inner, view, number)
+            } else {
+                put_near(sink, inner, view, number, Some(&files))
+            }
+        }
     }
 }
 

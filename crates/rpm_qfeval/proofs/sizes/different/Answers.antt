@@ -1,9 +1,14 @@
 use Rattle.std.proofs.Common.{arith, length, ◌≤◌, sym, ◌∙◌}
 use Rattle.rpm_qfparse.specs.Shape.{parts_of}
-use Rattle.rpm_qfeval.specs.Meaning.{direct}
-use Rattle.rpm_qfeval.proofs.Counts.{differs_from, passes, same_count, other_count, all_same}
+use Rattle.rpm_qfeval.specs.Meaning.{direct, counts}
+use Rattle.rpm_qfeval.proofs.Counts.{few, differs_from, passes, same_count, other_count, all_same}
 use Rattle.rpm_qfeval.proofs.sizes.different.Goals as goal
 use Rattle.rpm_qfeval.proofs.sizes.different.Goals.{in-Some+else-count-first, in_default}
+
+pub returns-then-elements_in-le1 : goal.returns-then-elements_in-le1
+returns-then-elements_in-le1 c =
+    let all = c.elements_in.ensures c.args.view.now c.args.number in
+    few (counts c.args.view.now c.args.number c.args.inner.now) (omega (arith, all, c.if-elements_in-le1.true))
 
 pub returns-then-count-first : goal.returns-then-count-first
 returns-then-count-first c =

@@ -1,8 +1,6 @@
-use Rattle.std.proofs.Common.{◌≡◌, ℕ, List, [], drop, Option, Some, None, refl, sym, ap, ◌∙◌, arith, subst}
-use Rattle.std.specs.Prelude.{slice_get}
+use Rattle.std.proofs.Common.{◌≡◌, ℕ, List, [], drop, Some, None, sym, ◌∙◌, arith, subst}
 use Rattle.rpm_outside.specs.Sinks.{Writes}
-use Rattle.rpm_qfeval.specs.Formatters.{or_none}
-use Rattle.rpm_qfeval.proofs.Ahead.{get_none}
+use Rattle.rpm_qfeval.proofs.Ahead.{get_none, text_here}
 use Rattle.rpm_qfeval.proofs.Steps.{begins_with}
 use Rattle.rpm_qfeval.proofs.plain_texts.PlainTexts.put.Goals as goal
 
@@ -15,13 +13,6 @@ pub invariant_of-self-in-Some : goal.invariant_of-self-in-Some
 invariant_of-self-in-Some g c =
     let b = begins_with c.self.inside.all c.self.inside.place c.in-Some.text.now c.next.new.self (sym c.self.invariant.behind ∙ c.in-Some.ensures.steps) in
     record { whole = c.self.invariant.whole; few = c.self.invariant.few; behind = b.behind }
-
--- the text of a round is that at the place where the reading stands
-text_here : (all self : List (List ℕ)) (place round : ℕ) (o : Option (List ℕ)) → all ≡ self → place ≡ round → slice_get all place ≡ o
-    → or_none o ≡ or_none (slice_get self round)
-text_here all self place round o e f h =
-    let same : slice_get self round ≡ slice_get all place = rw (e, f) refl in
-    ap or_none (sym h ∙ sym same)
 
 pub returns-in-None-clause-puts : goal.returns-in-None-clause-puts
 returns-in-None-clause-puts g c =
