@@ -1,6 +1,6 @@
 -- A header of a list, read in two pieces.
-use Rattle.std.proofs.Common.{◌≡◌, ℕ, ◌+◌, ◌-◌, ◌*◌, ◌≤◌, ◌<◌, List, [], ◌∷◌, ◌++◌, Option, Result, Ok, Err, length, take, drop, true, false, Bool, refl, sym, ap, ◌∙◌, arith, length-append, append_assoc, le-ltb, lt-ltb}
-use Rattle.std.specs.Prelude.{nat_lt, not, if◌then◌else◌, nat_eq}
+use Rattle.std.proofs.Common.{◌≡◌, ℕ, ◌+◌, ◌-◌, ◌*◌, ◌≤◌, ◌<◌, List, [], ◌∷◌, ◌++◌, Option, Some, None, Result, Ok, Err, length, take, drop, true, false, Bool, refl, sym, ap, subst, ◌∙◌, arith, length-append, append_assoc, le-ltb, lt-ltb}
+use Rattle.std.specs.Prelude.{nat_lt, not, if◌then◌else◌, nat_eq, is_some}
 use Rattle.std.specs.Cmp.Lexicographic.{pointwise}
 use Rattle.std.specs.Int.{w32}
 use Rattle.std.proofs.lemmas.List.{take-append-le, take_all, take_at, drop_at, drop-append-le, drop-drop, length-take, length-drop}
@@ -8,10 +8,11 @@ use Rattle.rpm_header.specs.inner.Longer.{number_longer}
 use Rattle.rpm_header.specs.Digest.{magic}
 use Rattle.rpm_file.specs.declared.fault.ListFault.{ListFault}
 use Rattle.rpm_file.specs.declared.fault.ListFault.TheVariants as fault
-use Rattle.rpm_outside.specs.Browses.{left}
+use Rattle.rpm_outside.specs.Browses.{left, Takes}
 use Rattle.rpm_file.specs.inner.Filling.{Fills, IsOutside}
 use Rattle.rpm_file.specs.List.{has_magic, entries_in, data_in, size_in, sized, front_header, some_found, list_head}
-use Rattle.rpm_file.specs.Answers.{IsListFault}
+use Rattle.rpm_file.specs.Answers.{IsListFault, AnswersNextIn}
+use Rattle.rpm_file.specs.inner.Parts.{AnswersBehind}
 
 -- ---- what the first bytes say, whatever follows them
 
@@ -136,6 +137,8 @@ no_fault r e is same = cc
 pub begun : (intro front : List ℕ) → length intro ≡ 16 → front ≡ take (length intro - 8) (drop 8 intro) → front ≡ drop 8 intro
 begun intro front long is = is ∙ take_all (length intro - 8) (drop 8 intro) (omega (arith, length-drop 8 intro))
 
+-- ---- the bytes in front of it
+
 -- fewer than 16 bytes came
 pub short_fill : (old new : Option (List ℕ)) (count : ℕ) (into : List ℕ) → Fills old new count into → 0 < count → count < 16 → length into ≡ 16
     → list_head (left old) ≡ Err fault.Short
@@ -144,3 +147,37 @@ short_fill old new count into f some few room =
     let size : length (left old) ≡ count =
     omega (arith, ap length f.front.front, length-append (take count into) (left new), length-take count into, ap length none) in
     head_short (left old) (omega arith) (omega arith)
+
+none_taken : (old new : Option (List ℕ)) → left old ≡ left new → left new ≡ [] → is_some new ≡ is_some old → (list_head (left old) ≡ Ok None) × (new ≡ old)
+none_taken None None same none opened = (refl, refl)
+none_taken (Some xs) (Some ys) same none opened = (ap list_head (same ∙ none), ap (λ (zs : List ℕ). Some zs) (sym same))
+none_taken None (Some ys) same none opened = absurd cc
+none_taken (Some xs) None same none opened = absurd cc
+
+-- no byte came
+pub no_fill : (old new : Option (List ℕ)) (count : ℕ) (into : List ℕ) → Fills old new count into → count ≡ 0 → length into ≡ 16
+    → (list_head (left old) ≡ Ok None) × (new ≡ old)
+no_fill old new count into f nothing room =
+    none_taken old new (f.front.front ∙ ap (λ (n : ℕ). take n into ++ left new) nothing) (f.ended (omega arith)) f.front.opened
+
+-- all came
+pub whole_fill : (old new : Option (List ℕ)) (count : ℕ) (into : List ℕ) → Fills old new count into → count ≤ length into → length into ≡ 16 → 16 ≤ count
+    → Takes old new into
+whole_fill old new count into f within room all = subst (Takes old new) (take_all count into (omega arith)) f.front
+
+-- and what was answered of those behind them is answered of the list
+fault_head : (bytes : List ℕ) (e : ListFault) → 0 < length bytes → IsListFault (front_header bytes) e → IsListFault (list_head bytes) e
+fault_head bytes fault.ReadFault some h = tt
+fault_head bytes fault.NoMemory some h = tt
+fault_head bytes fault.Short some h = head_some bytes some ∙ ap some_found h
+fault_head bytes fault.BadMagic some h = head_some bytes some ∙ ap some_found h
+fault_head bytes fault.TooManyEntries some h = head_some bytes some ∙ ap some_found h
+fault_head bytes fault.TooMuchData some h = head_some bytes some ∙ ap some_found h
+
+pub behind_intro : (old mid new : Option (List ℕ)) (intro room : List ℕ) (r : Result (Option ℕ) ListFault) → length intro ≡ 16 → Takes old mid intro
+    → AnswersBehind intro mid new room r → AnswersNextIn old new room r
+behind_intro old mid new intro room (Ok None) long t h = absurd h
+behind_intro old mid new intro room (Ok (Some size)) long t h =
+    ap list_head t.front ∙ head_some (intro ++ left mid) (omega (arith, length-append intro (left mid))) ∙ ap some_found h
+behind_intro old mid new intro room (Err e) long t h = subst (λ (bytes : List ℕ). IsListFault (list_head bytes) e) (sym t.front)
+    (fault_head (intro ++ left mid) e (omega (arith, length-append intro (left mid))) h)

@@ -19,9 +19,9 @@ pub enum FileFault {
     /// The first fault of the signature header.
     #[error("signature header: {0}")]
     Signature(HeaderFault),
-    /// The first fault of the main header.
+    /// The first fault of the main header. A fault by itself is this one.
     #[error("header: {0}")]
-    Main(HeaderFault),
+    Main(#[from] HeaderFault),
     /// The main header with the entries that join it would pass a limit of a header.
     #[error("header too large")]
     TooLarge,

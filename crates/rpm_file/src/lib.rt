@@ -17,3 +17,4 @@ mod package;
 pub use fault::{FileFault, ListFault};
 pub use list::{next_header, read_header};
 pub use package::{Package, read_package};
+pub use rpm_header::HeaderFault;

@@ -6,7 +6,7 @@ ghost use Rattle.rpm_header.specs.Header.{max_blob};
 ghost use Rattle.rpm_file.specs.List.{size_in};
 ghost use Rattle.rpm_outside.specs.Browses.{Browses};
 ghost use Rattle.rpm_file.specs.Answers.{AnswersNext, AnswersNextIn};
-ghost use Rattle.rpm_file.specs.inner.Parts.{AnswersBehind};
+ghost use Rattle.rpm_file.specs.inner.Parts.{AnswersIntro, AnswersBehind};
 
 use crate::bytes::u32_at;
 use crate::fault::ListFault;
@@ -47,14 +47,34 @@ fn size_in(intro: &[u8]) -> Result<usize, ListFault>
     Ok(8 + 16 * entries as usize + data as usize)
 }
 
-/// Reads the rest of a header that begins with these 16 bytes, its magic in front. Says how long it is without the magic.
+/// Takes the 16 bytes with which a header of a list begins, its magic in front. Says whether they came: they don't at the list's end.
+fn take_intro<S: Shelf>(shelf: &mut S, intro: &mut [u8]) -> Result<bool, ListFault>
+    requires { length intro.old ≡ 16 }
+    ensures answers { IsTrue S.tells → AnswersIntro (S.rest shelf.old) (S.rest shelf.new) intro.new result }
+    ensures browses { Browses S.tells S.paths S.rest S.absences S.faults shelf.old shelf.new }
+    ensures cause { HasCauseAt (result ≡ Err ListFault.ReadFault) (S.faults shelf.old) (S.faults shelf.new) }
+{
+    let count = match fill(shelf, intro) {
+        Ok(count) => count,
+        Err(Failed) => return Err(ListFault::ReadFault),
+    };
+    if count == 0 {
+        return Ok(false);
+    }
+    if count < 16 {
+        return Err(ListFault::Short);
+    }
+    Ok(true)
+}
+
+/// Reads the rest of a header that begins with these 16 bytes, its magic in front. Says how long it is without the magic: never None.
 fn read_behind<S: Shelf>(
     shelf: &mut S,
     room: &mut Vec<u8>,
     intro: &[u8],
-) -> Result<usize, ListFault>
+) -> Result<Option<usize>, ListFault>
     requires { length intro.now ≡ 16 }
-    ensures within { IfOk result (λ size. size ≤ vec_len room.new) }
+    ensures within { IfOk result (λ found. IfSome found (λ size. size ≤ vec_len room.new)) }
     ensures answers { IsTrue S.tells → AnswersBehind intro.now (S.rest shelf.old) (S.rest shelf.new) room.new.items result }
     ensures browses { Browses S.tells S.paths S.rest S.absences S.faults shelf.old shelf.new }
     ensures cause { HasCauseAt (result ≡ Err ListFault.ReadFault) (S.faults shelf.old) (S.faults shelf.new) }
@@ -67,7 +87,7 @@ fn read_behind<S: Shelf>(
     if done < size {
         return Err(ListFault::Short);
     }
-    Ok(size)
+    Ok(Some(size))
 }
 
 /// Reads the next header of the list that is open into the front of a vector, without its magic and unparsed, and says how long it is:
@@ -94,18 +114,11 @@ pub fn read_header<S: Shelf>(shelf: &mut S, room: &mut Vec<u8>) -> Result<Option
     ensures cause { HasCauseAt (result ≡ Err ListFault.ReadFault) (S.faults shelf.old) (S.faults shelf.new) }
 {
     let mut intro = [0u8; 16];
-    let count = match fill(shelf, &mut intro) {
-        Ok(count) => count,
-        Err(Failed) => return Err(ListFault::ReadFault),
-    };
-    if count == 0 {
-        return Ok(None);
+    match take_intro(shelf, &mut intro) {
+        Ok(true) => read_behind(shelf, room, &intro),
+        Ok(false) => Ok(None),
+        Err(fault) => Err(fault),
     }
-    if count < 16 {
-        return Err(ListFault::Short);
-    }
-    let size = read_behind(shelf, room, &intro)?;
-    Ok(Some(size))
 }
 
 /// Reads the next header of the list that is open, as `read_header` does, into a vector of its own, which has exactly the header's bytes.

@@ -1,5 +1,5 @@
 -- What the calls for one part answer.
-use Rattle.std.specs.Prelude.{◌≡◌, ℕ, ◌<◌, List, ◌++◌, length, take, Option, Result, Ok, Err, Vec}
+use Rattle.std.specs.Prelude.{◌≡◌, ℕ, ◌<◌, List, ◌++◌, length, take, Bool, true, false, Option, Some, None, Result, Ok, Err, Vec}
 use Rattle.std.specs.declared.alloc.Global.{Global}
 use Rattle.rpm_header.specs.Header.{Header, header}
 use Rattle.rpm_file.specs.declared.fault.ListFault.{ListFault}
@@ -7,13 +7,20 @@ use Rattle.rpm_file.specs.declared.fault.FileFault.{FileFault}
 use Rattle.rpm_file.specs.declared.fault.FileFault.TheVariants as of_file
 use Rattle.rpm_file.specs.declared.fault.HeaderKind.{HeaderKind}
 use Rattle.rpm_outside.specs.Browses.{left, Takes}
-use Rattle.rpm_file.specs.List.{front_header}
+use Rattle.rpm_file.specs.List.{front_header, list_head}
 use Rattle.rpm_file.specs.Package.{headed, read_again}
 use Rattle.rpm_file.specs.Answers.{IsListFault, IsFileFault}
 
+-- the bytes in front of a header of a list are taken, or the list is at its end and nothing is taken
+abbrev pub AnswersIntro : Option (List ℕ) → Option (List ℕ) → List ℕ → Result Bool ListFault → Type 0
+AnswersIntro old new intro (Ok true) = Takes old new intro
+AnswersIntro old new intro (Ok false) = (list_head (left old) ≡ Ok None) × (new ≡ old)
+AnswersIntro old new intro (Err fault) = IsListFault (list_head (left old)) fault
+
 -- of a header whose first 16 bytes were taken before, and whose own bytes are put in front of a row
-abbrev pub AnswersBehind : List ℕ → Option (List ℕ) → Option (List ℕ) → List ℕ → Result ℕ ListFault → Type 0
-AnswersBehind intro old new room (Ok size) = front_header (intro ++ left old) ≡ Ok (record { blob = take size room; rest = left new })
+abbrev pub AnswersBehind : List ℕ → Option (List ℕ) → Option (List ℕ) → List ℕ → Result (Option ℕ) ListFault → Type 0
+AnswersBehind intro old new room (Ok None) = ⊥
+AnswersBehind intro old new room (Ok (Some size)) = front_header (intro ++ left old) ≡ Ok (record { blob = take size room; rest = left new })
 AnswersBehind intro old new room (Err fault) = IsListFault (front_header (intro ++ left old)) fault
 
 -- exactly these bytes are taken, where there are so many

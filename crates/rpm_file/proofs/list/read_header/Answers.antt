@@ -1,18 +1,20 @@
-use Rattle.std.proofs.Common.{arith}
+use Rattle.std.proofs.Common.{◌∙◌, ap, subst, Ok, Bool, Result}
 use Rattle.rpm_outside.specs.inner.Browsing.{browses_then}
-use Rattle.rpm_file.proofs.Listed.{short_fill}
+use Rattle.rpm_file.specs.declared.fault.ListFault.{ListFault}
+use Rattle.rpm_file.specs.inner.Parts.{AnswersIntro}
+use Rattle.rpm_file.proofs.Listed.{behind_intro}
 use Rattle.rpm_file.proofs.list.read_header.Goals as goal
 
-pub returns-then-count-lt16-clause-answers : goal.returns-then-count-lt16-clause-answers
-returns-then-count-lt16-clause-answers g c = λ told.
-    let some = c.if-count-eq0.false in
-    short_fill (g.S.Shelf.rest c.args.shelf.now) (g.S.Shelf.rest c.fill.new.shelf) c.in-Ok.count c.fill.new.into (c.in-Ok.ensures.fills told)
-    (omega arith) c.if-count-lt16.true c.fill.auto.into
+pub returns-in-Ok-true-clause-answers : goal.returns-in-Ok-true-clause-answers
+returns-in-Ok-true-clause-answers g c = λ told.
+    let old = g.S.Shelf.rest c.args.shelf.now in
+    let mid = g.S.Shelf.rest c.take_intro.new.shelf in
+    let intro = c.take_intro.new.intro in
+    let taken = subst (λ (r : Result Bool ListFault). AnswersIntro old mid intro r)
+    (c.in-Ok-true.is ∙ ap (λ (b : Bool). Ok b) c.in-Ok-true.field-0-test) (c.take_intro.ensures.answers told) in
+    behind_intro old mid (g.S.Shelf.rest c.read_behind.new.shelf) intro c.read_behind.new.room.items c.read_behind.result c.take_intro.auto.intro taken
+    (c.read_behind.ensures.answers told)
 
-pub returns-in_err-size-clause-browses : goal.returns-in_err-size-clause-browses
-returns-in_err-size-clause-browses g c = browses_then g.S.Shelf.tells g.S.Shelf.paths g.S.Shelf.rest g.S.Shelf.absences g.S.Shelf.faults
-    c.args.shelf.now c.fill.new.shelf c.read_behind.new.shelf c.fill.ensures.browses c.read_behind.ensures.browses
-
-pub returns-clause-browses : goal.returns-clause-browses
-returns-clause-browses g c = browses_then g.S.Shelf.tells g.S.Shelf.paths g.S.Shelf.rest g.S.Shelf.absences g.S.Shelf.faults c.args.shelf.now
-    c.fill.new.shelf c.read_behind.new.shelf c.fill.ensures.browses c.read_behind.ensures.browses
+pub returns-in-Ok-true-clause-browses : goal.returns-in-Ok-true-clause-browses
+returns-in-Ok-true-clause-browses g c = browses_then g.S.Shelf.tells g.S.Shelf.paths g.S.Shelf.rest g.S.Shelf.absences g.S.Shelf.faults
+    c.args.shelf.now c.take_intro.new.shelf c.read_behind.new.shelf c.take_intro.ensures.browses c.read_behind.ensures.browses
