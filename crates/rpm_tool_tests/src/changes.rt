@@ -31,6 +31,9 @@ fn import(
     most: u32,
     lines: &str,
 ) -> Result<(Option<Result<Tally, Halt>>, bool), AllocError> {
+    if most > 1000 {
+        return Ok((None, false));
+    }
     let mut disk = MemDisk::new(alloc, &[], &[], &[])?;
     let mut shelf = MemShelf::new(alloc);
     shelf.put("-", list)?;
