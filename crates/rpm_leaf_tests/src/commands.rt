@@ -1,21 +1,8 @@
 //! Command lines that are read. The words of a line are parted by bars.
 
-use rpm_words::{Ask, Chosen, Mode, Span, Words, number_of, place_of, read};
+use crate::words::line;
+use rpm_words::{Ask, Chosen, Mode, Span, read};
 use std::alloc::{AllocError, Global};
-
-/// The words of a line; none of an empty one.
-pub fn line(alloc: Global, text: &str) -> Result<Words, AllocError> {
-    let mut words = Words::new(alloc);
-    if text.is_empty() {
-        return Ok(words);
-    }
-    for word in text.split('|') {
-        if words.len() < u32::MAX {
-            words.push(word)?;
-        }
-    }
-    Ok(words)
-}
 
 // Lines with their mode, their selection, whether files are listed, the word and the byte at which a format begins, and the words that
 // are arguments.
@@ -206,63 +193,6 @@ fn has_after(alloc: Global, text: &str, after: u32, noindex: bool) -> Result<boo
     }
 }
 
-const NUMBERS: &[(&str, Option<u32>)] = &[
-    ("0", Some(0)),
-    ("05", Some(5)),
-    ("0000000005", Some(5)),
-    ("00000000005", None),
-    ("4294967295", Some(4_294_967_295)),
-    ("4294967296", None),
-    ("9999999999", None),
-    ("", None),
-    ("+5", None),
-    ("-5", None),
-    ("5 ", None),
-    ("5a", None),
-];
-
-const FOLDERS: &[(&str, &str)] = &[
-    ("", "/var/lib/rpm"),
-    ("rpm|-qa", "/var/lib/rpm"),
-    ("rpmx|--dbpath|d", "/var/lib/rpm"),
-    ("rpm|--dbpath|d|-qa", "d"),
-    ("rpmdb|--dbpath=e=f", "e=f"),
-    ("rpm|--dbpath=", ""),
-    ("rpm|--dbpath|d|--dbpath|--dbpath", "--dbpath"),
-    ("rpm|--dbpath|d|--dbpath", "/var/lib/rpm"),
-    ("rpm|--qf|--dbpath|d", "/var/lib/rpm"),
-    ("rpm|--|--dbpath|d", "/var/lib/rpm"),
-    ("rpm|-z|--dbpath|d|--after|x", "d"),
-    ("rpm|--list=x|--dbpath|d", "d"),
-    ("rpmdb|--after|--dbpath|d", "d"),
-];
-
-/// Whether the database of a line is in this folder.
-fn has_folder(alloc: Global, text: &str, folder: &str) -> Result<bool, AllocError> {
-    let words = line(alloc, text)?;
-    Ok(place_of(&words) == folder)
-}
-
-const ENDS: &[(u32, u32, &[u8])] = &[(1, 1, b"qa"), (1, 3, b""), (1, 4, b""), (2, 0, b"")];
-
-/// Whether words are held as they were given, and nothing is where there is none.
-fn are_held(words: &Words) -> bool {
-    for &(word, from, bytes) in ENDS {
-        if words.bytes_from(Span { word, from }) != bytes {
-            return false;
-        }
-    }
-    words.len() == 2
-        && words.word(1) == "-qa"
-        && words.text_at(0) == "rpm"
-        && words.text_at(2).is_empty()
-}
-
-fn is_held(alloc: Global) -> Result<bool, AllocError> {
-    let words = line(alloc, "rpm|-qa")?;
-    Ok(are_held(&words))
-}
-
 fn unlike_command(alloc: Global) -> Option<&'static str> {
     for &(text, mode, chosen, lists, format, arguments) in COMMANDS {
         let is_same = match asked(alloc, text) {
@@ -285,35 +215,12 @@ fn unlike_after(alloc: Global) -> Option<&'static str> {
     None
 }
 
-fn unlike_number() -> Option<&'static str> {
-    for &(text, number) in NUMBERS {
-        if number_of(text) != number {
-            return Some(text);
-        }
-    }
-    None
-}
-
-fn unlike_folder(alloc: Global) -> Option<&'static str> {
-    for &(text, folder) in FOLDERS {
-        if has_folder(alloc, text, folder) != Ok(true) {
-            return Some(text);
-        }
-    }
-    None
-}
-
 #[test]
 fn commands_are_read(rt: HostRuntime) {
-    let alloc = rt.alloc();
-    let command = unlike_command(alloc);
-    let after = unlike_after(alloc);
-    let number = unlike_number();
-    let folder = unlike_folder(alloc);
-    let held = is_held(alloc);
-    let is_same = command.is_none() && after.is_none() && number.is_none();
+    let command = unlike_command(rt.alloc());
+    let after = unlike_after(rt.alloc());
     assert!(rt;
-        is_same && folder.is_none() && held == Ok(true),
-        "{command:?} {after:?} {number:?} {folder:?} {held:?}"
+        command.is_none() && after.is_none(),
+        "{command:?} {after:?}"
     );
 }

@@ -40,3 +40,5 @@ mod trees;
 mod values;
 #[cfg(test)]
 mod versions;
+#[cfg(test)]
+mod words;

@@ -1,6 +1,6 @@
 //! Command lines that break a rule.
 
-use crate::commands::line;
+use crate::words::line;
 use rpm_words::{WordsFault, WordsKind, read};
 use std::alloc::{AllocError, Global};
 
