@@ -31,10 +31,8 @@ fn push_all(ends: &mut Vec<u32>, numbers: &[u32]) -> Result<(), CheckFault>
     ensures told { OnOk result (ends.new.items ≡ ends.old.items ++ numbers.now) }
     ensures refused { OnErr result (result ≡ Err CheckFault.NoMemory) }
 {
-    match ends.extend_from_slice(numbers) {
-        Ok(()) => Ok(()),
-        Err(_) => Err(CheckFault::NoMemory),
-    }
+    ends.extend_from_slice(numbers)?;
+    Ok(())
 }
 
 /// Adds the numbers of the packages that meet a requirement, which are looked up once.
@@ -62,23 +60,14 @@ fn push_givers<D: Disk>(
     ensures looks { Glances D.tells D.files D.left_since D.moment D.bytes_read D.follows disk.old disk.new }
     ensures cause { HasCauseAt (result ≡ Err CheckFault.DiskFault) (D.faults disk.old) (D.faults disk.new) }
 {
-    let Ok(key) = Requirement::of(alloc, needed) else {
-        return Err(CheckFault::NoMemory);
-    };
+    let key = Requirement::of(alloc, needed)?;
     if let Some(known) = memo.get(&key) {
         return push_all(ends, known);
     }
-    let found = match givers(alloc, db, disk, needed) {
-        Ok(found) => found,
-        Err(fault) => return Err(fault),
-    };
-    if push_all(ends, &found).is_err() {
-        return Err(CheckFault::NoMemory);
-    }
-    match memo.put(key, found) {
-        Ok(()) => Ok(()),
-        Err(_) => Err(CheckFault::NoMemory),
-    }
+    let found = givers(alloc, db, disk, needed)?;
+    push_all(ends, &found)?;
+    memo.put(key, found)?;
+    Ok(())
 }
 
 /// Adds the numbers of the packages that meet a requirement of a package.
@@ -108,10 +97,7 @@ fn push_ends<D: Disk>(
 {
     let mut left = dependencies(view, REQUIRES);
     while let Some(needed) = left.next() {
-        match push_givers(alloc, db, disk, memo, &needed, ends) {
-            Ok(()) => {}
-            Err(fault) => return Err(fault),
-        }
+        push_givers(alloc, db, disk, memo, &needed, ends)?;
     }
     Ok(())
 }
@@ -146,10 +132,10 @@ fn push_ends_of<D: Disk>(
 {
     match db.read(alloc, disk, number) {
         Ok(blob) => match View::parse(&blob) {
-            Ok(view) => match push_ends(alloc, db, disk, memo, &view, ends) {
-                Ok(()) => Ok(true),
-                Err(fault) => Err(fault),
-            },
+            Ok(view) => {
+                push_ends(alloc, db, disk, memo, &view, ends)?;
+                Ok(true)
+            }
             Err(_) => Ok(false),
         },
         Err(GetFault::NoSuch | GetFault::Bad) => Ok(false),
@@ -198,10 +184,7 @@ pub fn ends_of<D: Disk>(
     ensures cause { HasCauseAt (result ≡ Err CheckFault.DiskFault) (D.faults disk.old) (D.faults disk.new) }
 {
     let mut ends = Vec::new(alloc);
-    let good = match push_ends_of(alloc, db, disk, memo, number, &mut ends) {
-        Ok(good) => good,
-        Err(fault) => return Err(fault),
-    };
+    let good = push_ends_of(alloc, db, disk, memo, number, &mut ends)?;
     if good {
         Ok(Some(each_once(ends)))
     } else {

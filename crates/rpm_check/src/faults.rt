@@ -4,9 +4,11 @@ ghost use Rattle.std.specs.Prelude.{◌≡◌, ◌↔◌};
 ghost use Rattle.rpm_outside.specs.Files.{Units};
 ghost use Rattle.rpm_select.specs.Picks as picks;
 ghost use Rattle.rpm_check.specs.Answers.{is_of_index};
+ghost use Rattle.rpm_check.specs.declared.faults.CheckFault.TheVariants.{NoMemory};
 ghost use Rattle.rpm_check.specs.inner.Faults.{fault_in};
 
 use rpm_select::PickFault;
+use std::alloc::{AllocError, AllocFailed};
 use thiserror::Error;
 
 /// Why there is no report.
@@ -24,12 +26,30 @@ pub enum CheckFault {
 }
 
 /// What stops a report where a picker fails.
-pub fn fault_of(fault: PickFault) -> CheckFault
-    ensures { result ≡ fault_in fault }
-{
-    match fault {
-        PickFault::BadIndex { unit } => CheckFault::BadIndex { unit },
-        PickFault::DiskFault => CheckFault::DiskFault,
-        PickFault::NoMemory => CheckFault::NoMemory,
+impl From<PickFault> for CheckFault {
+    ghost from_gives = { λ fault e. e ≡ fault_in fault };
+
+    fn from(fault: PickFault) -> CheckFault {
+        match fault {
+            PickFault::BadIndex { unit } => CheckFault::BadIndex { unit },
+            PickFault::DiskFault => CheckFault::DiskFault,
+            PickFault::NoMemory => CheckFault::NoMemory,
+        }
+    }
+}
+
+impl From<AllocError> for CheckFault {
+    ghost from_gives = { λ _ e. e ≡ NoMemory };
+
+    fn from(_: AllocError) -> CheckFault {
+        CheckFault::NoMemory
+    }
+}
+
+impl<T: Drop> From<AllocFailed<T>> for CheckFault {
+    ghost from_gives = { λ _ e. e ≡ NoMemory };
+
+    fn from(_: AllocFailed<T>) -> CheckFault {
+        CheckFault::NoMemory
     }
 }

@@ -10,7 +10,7 @@ ghost use Rattle.rpm_check.specs.Answers.{Glances, IsBroken, is_broken};
 ghost use Rattle.rpm_check.specs.Edges.{givers};
 ghost use Rattle.rpm_check.specs.inner.Needs.{needed_in};
 
-use crate::faults::{CheckFault, fault_of};
+use crate::faults::CheckFault;
 use rpm_db::Db;
 use rpm_outside::Disk;
 use rpm_select::{Picker, Selection};
@@ -38,24 +38,14 @@ fn numbers_picked<D: Disk>(
     ensures looks { Glances D.tells D.files D.left_since D.moment D.bytes_read D.follows disk.old disk.new }
     ensures cause { HasCauseAt (result ≡ Err CheckFault.DiskFault) (D.faults disk.old) (D.faults disk.new) }
 {
-    let mut picker = match Picker::new(alloc, db, disk, selection) {
-        Ok(picker) => picker,
-        Err(fault) => return Err(fault_of(fault)),
-    };
+    let mut picker = Picker::new(alloc, db, disk, selection)?;
     let mut numbers = Vec::new(alloc);
     let mut passed = 0;
-    loop {
-        match picker.next_after(alloc, db, disk, selection, passed) {
-            Ok(None) => return Ok(numbers),
-            Ok(Some(picked)) => {
-                passed = picked.into_number();
-                if numbers.push(passed).is_err() {
-                    return Err(CheckFault::NoMemory);
-                }
-            }
-            Err(fault) => return Err(fault_of(fault)),
-        }
+    while let Some(picked) = picker.next_after(alloc, db, disk, selection, passed)? {
+        passed = picked.into_number();
+        numbers.push(passed)?;
     }
+    Ok(numbers)
 }
 
 /// The numbers of the packages that meet a requirement, rising. Asks the index and reads as `is_met` does, but reads each candidate.

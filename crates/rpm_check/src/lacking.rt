@@ -57,20 +57,13 @@ fn is_met_once<D: Disk>(
     ensures looks { Glances D.tells D.files D.left_since D.moment D.bytes_read D.follows disk.old disk.new }
     ensures cause { HasCauseAt (result ≡ Err CheckFault.DiskFault) (D.faults disk.old) (D.faults disk.new) }
 {
-    let Ok(key) = Requirement::of(alloc, needed) else {
-        return Err(CheckFault::NoMemory);
-    };
+    let key = Requirement::of(alloc, needed)?;
     if let Some(known) = memo.get(&key) {
         return Ok(known);
     }
-    let found = match is_met(alloc, db, disk, needed) {
-        Ok(found) => found,
-        Err(fault) => return Err(fault),
-    };
-    match memo.put(key, found) {
-        Ok(()) => Ok(found),
-        Err(_) => Err(CheckFault::NoMemory),
-    }
+    let found = is_met(alloc, db, disk, needed)?;
+    memo.put(key, found)?;
+    Ok(found)
 }
 
 /// Whether a requirement is lacking.
@@ -100,10 +93,8 @@ pub fn lacks<D: Disk>(
     if is_passed_over(needed.name) {
         return Ok(false);
     }
-    match is_met_once(alloc, db, disk, memo, needed) {
-        Ok(found) => Ok(!found),
-        Err(fault) => Err(fault),
-    }
+    let met = is_met_once(alloc, db, disk, memo, needed)?;
+    Ok(!met)
 }
 
 /// How many requirements a package has.
@@ -147,14 +138,8 @@ pub fn push_lacking<D: Disk>(
         let Some(needed) = left.next() else {
             return Ok(());
         };
-        match lacks(alloc, db, disk, memo, &needed) {
-            Ok(false) => {}
-            Ok(true) => {
-                if found.push(Unmet { number, place }).is_err() {
-                    return Err(CheckFault::NoMemory);
-                }
-            }
-            Err(fault) => return Err(fault),
+        if lacks(alloc, db, disk, memo, &needed)? {
+            found.push(Unmet { number, place })?;
         }
     }
     Ok(())

@@ -11,7 +11,7 @@ ghost use Rattle.rpm_check.specs.Unmet.{is_met};
 ghost use Rattle.rpm_check.specs.inner.Needs.{needed_in};
 ghost use Rattle.rpm_check.specs.inner.Picking.{is_some_of};
 
-use crate::faults::{CheckFault, fault_of};
+use crate::faults::CheckFault;
 use rpm_db::Db;
 use rpm_outside::Disk;
 use rpm_select::{Picker, Selection};
@@ -38,14 +38,9 @@ fn picks_any<D: Disk>(
     ensures looks { Glances D.tells D.files D.left_since D.moment D.bytes_read D.follows disk.old disk.new }
     ensures cause { HasCauseAt (result ≡ Err CheckFault.DiskFault) (D.faults disk.old) (D.faults disk.new) }
 {
-    let mut picker = match Picker::new(alloc, db, disk, selection) {
-        Ok(picker) => picker,
-        Err(fault) => return Err(fault_of(fault)),
-    };
-    match picker.next_after(alloc, db, disk, selection, 0) {
-        Ok(picked) => Ok(picked.is_some()),
-        Err(fault) => Err(fault_of(fault)),
-    }
+    let mut picker = Picker::new(alloc, db, disk, selection)?;
+    let picked = picker.next_after(alloc, db, disk, selection, 0)?;
+    Ok(picked.is_some())
 }
 
 /// Whether a package meets a requirement: one that can be read provides its name in a range that overlaps, or has the file of which it

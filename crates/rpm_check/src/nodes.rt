@@ -93,10 +93,8 @@ pub fn read_nodes<D: Disk>(alloc: Global, db: &Db, disk: &mut D) -> Result<Vec<N
     let mut nodes = Vec::new(alloc);
     let mut passed = 0;
     while let Some(next) = db.next_above(passed) {
-        match push_node(alloc, db, disk, &mut memo, next, &mut nodes) {
-            Ok(()) => passed = next,
-            Err(fault) => return Err(fault),
-        }
+        push_node(alloc, db, disk, &mut memo, next, &mut nodes)?;
+        passed = next;
     }
     Ok(nodes)
 }

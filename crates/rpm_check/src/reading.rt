@@ -48,14 +48,9 @@ pub fn read_graph<D: Disk>(alloc: Global, db: &Db, disk: &mut D) -> Result<Graph
     ensures looks { Glances D.tells D.files D.left_since D.moment D.bytes_read D.follows disk.old disk.new }
     ensures cause { HasCauseAt (result ≡ Err CheckFault.DiskFault) (D.faults disk.old) (D.faults disk.new) }
 {
-    let nodes = match read_nodes(alloc, db, disk) {
-        Ok(nodes) => nodes,
-        Err(fault) => return Err(fault),
-    };
-    match graph_of(alloc, &nodes) {
-        Ok(graph) => Ok(graph),
-        Err(_) => Err(CheckFault::NoMemory),
-    }
+    let nodes = read_nodes(alloc, db, disk)?;
+    let graph = graph_of(alloc, &nodes)?;
+    Ok(graph)
 }
 
 /// `Graph::read`, for who has this trait in scope.

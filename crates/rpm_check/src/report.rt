@@ -89,10 +89,8 @@ pub fn unmet<D: Disk>(alloc: Global, db: &Db, disk: &mut D) -> Result<UnmetList,
     let mut found = Vec::new(alloc);
     let mut passed = 0;
     while let Some(next) = db.next_above(passed) {
-        match push_unmet(alloc, db, disk, &mut memo, next, &mut found) {
-            Ok(()) => passed = next,
-            Err(fault) => return Err(fault),
-        }
+        push_unmet(alloc, db, disk, &mut memo, next, &mut found)?;
+        passed = next;
     }
     Ok(UnmetList::of(found))
 }

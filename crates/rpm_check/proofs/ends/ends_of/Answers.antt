@@ -8,14 +8,14 @@ use Rattle.rpm_check.specs.inner.Ends.{needs_at}
 use Rattle.rpm_check.proofs.ends.ends_of.Goals as goal
 
 pub returns-then-good-clause-good : goal.returns-then-good-clause-good
-returns-then-good-clause-good g c = λ told. sym c.if-good.true ∙ c.in-Ok.ensures.good told
+returns-then-good-clause-good g c = λ told. sym c.if-good.true ∙ c.in_ok-good.ensures.good told
 
 pub returns-then-good-clause-told : goal.returns-then-good-clause-told
 returns-then-good-clause-told g c = λ told has m.
     let all = packages (g.D.Disk.files c.args.disk.now).pkg c.args.db.now.store in
     let given = flat_map (givers all) (needs_at (finite.get all c.args.number)) in
     c.each_once.ensures.same m
-    ∙ ap (is_in m) (c.in-Ok.ensures.told told has ∙ ap (λ (ms : List ℕ). ms ++ given) c.new-ends.ensures.items)
+    ∙ ap (is_in m) (c.in_ok-good.ensures.told told has ∙ ap (λ (ms : List ℕ). ms ++ given) c.new-ends.ensures.items)
 
 pub returns-else-good-clause-good : goal.returns-else-good-clause-good
-returns-else-good-clause-good g c = λ told. sym c.if-good.false ∙ c.in-Ok.ensures.good told
+returns-else-good-clause-good g c = λ told. sym c.if-good.false ∙ c.in_ok-good.ensures.good told

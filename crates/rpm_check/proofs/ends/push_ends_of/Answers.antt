@@ -12,8 +12,8 @@ use Rattle.rpm_check.specs.inner.Ends.{needs_at}
 use Rattle.rpm_check.proofs.Needing.{needs_good}
 use Rattle.rpm_check.proofs.ends.push_ends_of.Goals as goal
 
-pub returns-in-Ok-push_ends-clause-told : goal.returns-in-Ok-push_ends-clause-told
-returns-in-Ok-push_ends-clause-told g c = λ told has.
+pub returns-in-Ok-parse-clause-told : goal.returns-in-Ok-parse-clause-told
+returns-in-Ok-parse-clause-told g c = λ told has.
     let store = c.args.db.now.store in
     let view = c.in-Ok-parse.view in
     let blob = c.in-Ok.blob.items in
@@ -21,6 +21,6 @@ returns-in-Ok-push_ends-clause-told g c = λ told has.
     let give = givers (packages (g.D.Disk.files c.args.disk.now).pkg store) in
     let added = subst (λ (f : Files). HasIndexRows c.args.db.now f.pkg f.idx → c.push_ends.new.ends.items
     ≡ old ++ flat_map (givers (packages f.pkg store)) (required view)) (c.in-Ok.ensures.looks.untouched told).same
-    (c.in-Ok-push_ends.ensures.told told) has in
+    (c.in_ok-push_ends-in-Ok-parse.ensures.told told) has in
     let is : header blob ≡ Ok view = ap header (sym c.deref.ensures.value) ∙ sym c.in-Ok-parse.ensures.value in
     added ∙ ap (λ (needs : List Needed). old ++ flat_map give needs) (sym (ap needs_at (c.in-Ok.ensures.told told) ∙ needs_good blob view is))

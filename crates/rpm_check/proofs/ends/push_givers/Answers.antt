@@ -30,7 +30,7 @@ returns-in-Some-clause-told g c =
     let give = givers (packages (g.D.Disk.files c.args.disk.now).pkg c.args.db.now.store) in
     let old = c.args.ends.now.items in
     under c.push_all.result _ _ (λ is told has.
-    is ∙ ap (λ (ms : List ℕ). old ++ ms) (c.deref.ensures.value ∙ c.in-Some.ensures give (c.requires.remembers told has) ∙ ap give c.in-Ok.ensures))
+    is ∙ ap (λ (ms : List ℕ). old ++ ms) (c.deref.ensures.value ∙ c.in-Some.ensures give (c.requires.remembers told has) ∙ ap give c.in_ok-key.ensures))
     c.push_all.ensures.told
 
 pub returns-in-Some-clause-broken : goal.returns-in-Some-clause-broken

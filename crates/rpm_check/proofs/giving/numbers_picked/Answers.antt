@@ -1,4 +1,5 @@
-use Rattle.std.proofs.Common.{◌≡◌, [], ◌∷◌, ◌++◌, Ok, Some, arith, rules, sym, ◌∙◌, subst}
+use Rattle.std.proofs.Common.{◌≡◌, Ok, Some, arith, sym, ◌∙◌, subst}
+use Rattle.std.proofs.lemmas.Result.{err_from_is_err_and}
 use Rattle.rpm_outside.specs.Files.{Files}
 use Rattle.rpm_db.specs.Database.{KeepsIndex}
 use Rattle.rpm_db.specs.State.{packages, above}
@@ -6,29 +7,27 @@ use Rattle.rpm_select.specs.Candidates.{keys_asked}
 use Rattle.rpm_select.specs.Picks.{NextIs}
 use Rattle.rpm_select.specs.Reach.{Reach, Serves}
 use Rattle.rpm_select.specs.Selections.{picks}
-use Rattle.rpm_check.specs.declared.faults.CheckFault.{CheckFault}
-use Rattle.rpm_check.specs.Answers.{IsBroken}
 use Rattle.rpm_check.proofs.Above.{numbers_above}
 use Rattle.rpm_check.proofs.Faulting.{broken_from}
 use Rattle.rpm_check.proofs.Gaining.{gained}
 use Rattle.rpm_check.proofs.Glancing.{glances_then, glances_packages}
 use Rattle.rpm_check.proofs.giving.numbers_picked.Goals as goal
 
-pub returns-in-Err-clause-broken : goal.returns-in-Err-clause-broken
-returns-in-Err-clause-broken g c = λ told.
+pub returns-in_err-picker-clause-broken : goal.returns-in_err-picker-clause-broken
+returns-in_err-picker-clause-broken g c = λ told.
     let idx = (g.D.Disk.files c.args.disk.now).idx in
-    subst (λ (fault : CheckFault). IsBroken idx fault) (sym c.fault_of.ensures)
-    (broken_from (keys_asked c.args.selection.now) idx c.in-Err.fault (c.in-Err.ensures.broken told))
+    let p = err_from_is_err_and c.from_residual.result c.from_residual.ensures.1 in
+    rw (p.1, p.2) (broken_from (keys_asked c.args.selection.now) idx c.in_err-picker.field-0.0 (c.in_err-picker.ensures.broken told))
 
 pub loop-numbers-preserved : goal.loop-numbers-preserved
 loop-numbers-preserved g c =
     let db = c.args.db.now in
     let sel = c.args.selection.now in
     let inv = c.loop-numbers.invariant in
-    let done = c.in-Ok-Some.ensures in
+    let done = c.in_ok-picked.ensures in
     let n = c.loop-numbers.passed in
-    let is : c.in-Ok-Some.field-0 ≡ Some c.in-Ok-Some.picked = cc in
-    let added : c.push.new.self.items ≡ c.loop-numbers.numbers.items ++ c.into_number-passed.result ∷ [] = search rules in
+    let is : c.in_ok-picked.field-0 ≡ Some c.in-Some.picked = cc in
+    let added = c.in_ok-push.ensures.items in
     record {
       keeps = done.kept;
       keeps_index = λ told. subst (λ (f : Files). KeepsIndex f.idx db) (sym (done.looks.untouched told).same) (inv.keeps_index told);
@@ -44,7 +43,7 @@ loop-numbers-preserved g c =
           let all = packages pkg db.store in
           let before : Serves c.loop-numbers.picker all sel = subst (λ (r : Reach). Serves r all sel) done.same serves in
           let next = subst (λ (f : Files). Serves c.loop-numbers.picker (packages f.pkg db.store) sel
-          → NextIs (above n (picks (packages f.pkg db.store) sel)) (Ok c.in-Ok-Some.field-0)) (inv.looks.untouched told).same (done.told told) before in
-          gained all sel n c.in-Ok-Some.field-0 c.in-Ok-Some.picked c.into_number-passed.result c.loop-numbers.numbers.items c.push.new.self.items
+          → NextIs (above n (picks (packages f.pkg db.store) sel)) (Ok c.in_ok-picked.field-0)) (inv.looks.untouched told).same (done.told told) before in
+          gained all sel n c.in_ok-picked.field-0 c.in-Some.picked c.into_number-passed.result c.loop-numbers.numbers.items c.push.new.self.items
           (numbers_above all sel 0) next is added c.into_number-passed.ensures (inv.told told before);
     }

@@ -52,7 +52,7 @@ pub loop-next-preserved : goal.loop-next-preserved
 loop-next-preserved g c =
     let db = c.args.db.now in
     let inv = c.loop-next.invariant in
-    let done = c.in-Ok.ensures in
+    let done = c.in_ok-push_node.ensures in
     let next = c.in-Some.next in
     let pkg = (g.D.Disk.files c.args.disk.now).pkg in
     let all = packages pkg db.store in

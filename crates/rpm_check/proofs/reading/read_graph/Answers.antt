@@ -12,20 +12,20 @@ same_network : (g : Network) (h : Network) → g.numbers ≡ h.numbers → g.edg
 same_network g h numbers edges = λ i. record { numbers = numbers i; edges = edges i }
 
 pub graph_of-requires : goal.graph_of-requires
-graph_of-requires g c = record { rising = subst AreRising (sym c.deref.ensures.value) c.in-Ok.ensures.rising }
+graph_of-requires g c = record { rising = subst AreRising (sym c.deref.ensures.value) c.in_ok-nodes.ensures.rising }
 
-pub returns-in-Ok-graph_of-clause-told : goal.returns-in-Ok-graph_of-clause-told
-returns-in-Ok-graph_of-clause-told g c = λ told has.
+pub returns-clause-told : goal.returns-clause-told
+returns-clause-told g c = λ told has.
     let all = packages (g.D.Disk.files c.args.disk.now).pkg c.args.db.now.store in
-    let nodes = c.in-Ok.nodes.items in
-    let done = c.in-Ok-graph_of.ensures in
+    let nodes = c.in_ok-nodes.nodes.items in
+    let done = c.in_ok-graph.ensures in
     let whole = c.deref.ensures.value in
-    let are = c.in-Ok.ensures.numbers told in
-    same_network c.in-Ok-graph_of.graph (graph_of all) (done.numbers ∙ ap numbers_of whole ∙ are)
+    let are = c.in_ok-nodes.ensures.numbers told in
+    same_network c.in_ok-graph.graph (graph_of all) (done.numbers ∙ ap numbers_of whole ∙ are)
     (done.edges ∙ ap (λ (vs : List Node). flat_map (edges_of (numbers_of vs)) vs) whole
-    ∙ ap (λ (ns : List ℕ). flat_map (edges_of ns) nodes) are ∙ c.in-Ok.ensures.told told has)
+    ∙ ap (λ (ns : List ℕ). flat_map (edges_of ns) nodes) are ∙ c.in_ok-nodes.ensures.told told has)
 
-pub returns-in-Ok-graph_of-clause-edges : goal.returns-in-Ok-graph_of-clause-edges
-returns-in-Ok-graph_of-clause-edges g c = λ told has.
+pub returns-clause-edges : goal.returns-clause-edges
+returns-clause-edges g c = λ told has.
     let all = packages (g.D.Disk.files c.args.disk.now).pkg c.args.db.now.store in
-    subst (HasEdgesOf all) (sym (returns-in-Ok-graph_of-clause-told g c told has)) (has_edges all)
+    subst (HasEdgesOf all) (sym (returns-clause-told g c told has)) (has_edges all)

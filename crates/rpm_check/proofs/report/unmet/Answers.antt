@@ -32,7 +32,7 @@ pub loop-next-preserved : goal.loop-next-preserved
 loop-next-preserved g c =
     let db = c.args.db.now in
     let inv = c.loop-next.invariant in
-    let done = c.in-Ok.ensures in
+    let done = c.in_ok-push_unmet.ensures in
     let next = c.in-Some.next in
     record {
       keeps = done.kept;
