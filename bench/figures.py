@@ -16,6 +16,7 @@ import shutil
 import subprocess
 import sys
 import tempfile
+from concurrent.futures import ThreadPoolExecutor
 from pathlib import Path
 
 HERE = Path(__file__).resolve().parent
@@ -91,15 +92,22 @@ class Bench:
             yield f"`{line}`", self.cost(base, line.split())
 
 
-def table(program, counts):
-    """The table, and what it was measured of."""
+def costs_of(program, count):
+    """What each command costs over so many packages."""
+    bench = Bench(program, count)
     found = {}
-    for count in counts:
-        bench = Bench(program, count)
-        for name, cost in bench.costs():
-            found.setdefault(name, {})[count] = cost
-            print(f"{count} {name} {cost}", file=sys.stderr, flush=True)
-        shutil.rmtree(bench.folder)
+    for name, cost in bench.costs():
+        found[name] = cost
+        print(f"{count} {name} {cost}", file=sys.stderr, flush=True)
+    shutil.rmtree(bench.folder)
+    return found
+
+
+def table(program, counts):
+    """The table, and what it was measured of. Each count has a core of its own: instructions and calls don't depend on that."""
+    with ThreadPoolExecutor() as pool:
+        by_count = dict(zip(counts, pool.map(lambda count: costs_of(program, count), counts)))
+    found = {name: {count: by_count[count][name] for count in counts} for name in by_count[counts[0]]}
     shown = max([count for count in counts if count <= 10_000], default=counts[0])
     digest = hashlib.sha256(Path(program).read_bytes()).hexdigest()[:16]
     text = f"Measured on {datetime.date.today():%-d %B %Y}, of the program with the digest `{digest}`:\n\n"
