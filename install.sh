@@ -96,7 +96,7 @@ unpack() {
 # Proves all crates and copies the program that is built into this file.
 prove() {
     command -v rt > /dev/null || fail "there is no rt, which proves and builds ($(told toolchain))"
-    echo "proving all crates, then building the program: an hour or more, 4 GB of memory and 10 GB of disk"
+    echo "proving all crates, then building the program: some 50 minutes of one core, 4 GB of memory and 10 GB of disk"
     (cd "$here/crates/rpm_prog" && rt run -- rpm --dbpath "$here/example" -qa > /dev/null) || fail "rt built no program"
     cp -- "$here/crates/rpm_prog/out/rpm_prog" "$1"
 }
