@@ -20,11 +20,13 @@ IsBroken idx (BadIndex unit) = IsFaultOfSome idx unit
 IsBroken idx DiskFault = Unit {0}
 IsBroken idx NoMemory = Unit {0}
 
+-- an index is said to be broken
 abbrev pub is_of_index : CheckFault → Bool
 is_of_index (BadIndex unit) = true
 is_of_index DiskFault = false
 is_of_index NoMemory = false
 
+-- a call answers that
 abbrev pub is_broken : {X : Type 0} → Result X CheckFault → Bool
 is_broken (Ok x) = false
 is_broken (Err fault) = is_of_index fault

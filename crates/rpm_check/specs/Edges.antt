@@ -17,10 +17,12 @@ givers packages need = map (λ e. e.0) (filter (meets need) (entries packages))
 
 -- ---- one edge
 
+-- the requirements of bytes that may be no header
 abbrev pub needs_read : Result Header HeaderFault → List Needed
 needs_read (Ok h) = required h
 needs_read (Err fault) = []
 
+-- the requirements of a package; none where it can't be read
 abbrev pub needs_of : Package → List Needed
 needs_of (Good bytes) = needs_read (header bytes)
 needs_of Bad = []
@@ -36,6 +38,7 @@ is_edge packages n m = is_edge_between n (get packages n) m (get packages m)
 
 -- ---- all of them
 
+-- a package can be read
 abbrev pub is_good : Package → Bool
 is_good (Good bytes) = true
 is_good Bad = false
@@ -52,6 +55,7 @@ edges_from packages n = map (edge n) (filter (is_edge packages n) (good_numbers 
 unfoldable pub all_edges : FinMap nat_cmp Package → List Edge
 all_edges packages = flat_map (λ e. edges_from packages e.0) (entries packages)
 
+-- the numbers and the edges together
 abbrev pub graph_of : FinMap nat_cmp Package → Network
 graph_of packages = record { numbers = good_numbers packages; edges = all_edges packages }
 

@@ -14,9 +14,11 @@ use Rattle.rpm_check.specs.declared.list.Unmet.{Unmet}
 
 -- ---- one requirement and one header
 
+-- what a header provides
 abbrev pub provided : Header → List Needed
 provided h = dependencies (record { names = PROVIDENAME; flags = PROVIDEFLAGS; versions = PROVIDEVERSION }) h
 
+-- what a header requires
 abbrev pub required : Header → List Needed
 required h = dependencies (record { names = REQUIRENAME; flags = REQUIREFLAGS; versions = REQUIREVERSION }) h
 
@@ -28,11 +30,13 @@ answers need given = bytes_eq given.name need.name && overlaps given.flags given
 abbrev pub is_file_of : Needed → Header → Bool
 is_file_of need h = is_open need.flags need.version && (slice_index need.name 0 == 47 && has_file h need.name)
 
+-- a header provides what is needed, or has it as a file
 abbrev pub gives : Needed → Header → Bool
 gives need h = list_any (answers need) (provided h) || is_file_of need h
 
 -- ---- one requirement and all packages
 
+-- the same of bytes that may be no header
 abbrev pub read_gives : Needed → Result Header HeaderFault → Bool
 read_gives need (Ok h) = gives need h
 read_gives need (Err fault) = false
@@ -42,6 +46,7 @@ abbrev pub meets : Needed → ℕ × Package → Bool
 meets need (n, Good bytes) = read_gives need (header bytes)
 meets need (n, Bad) = false
 
+-- some package meets a requirement
 unfoldable pub is_met : FinMap nat_cmp Package → Needed → Bool
 is_met packages need = list_any (meets need) (entries packages)
 
@@ -51,6 +56,7 @@ is_met packages need = list_any (meets need) (entries packages)
 abbrev pub is_passed_over : List ℕ → Bool
 is_passed_over name = starts_with nat_eq name (codes "rpmlib(") || starts_with nat_eq name (codes "(")
 
+-- a requirement is looked at, and no package meets it
 abbrev pub lacks : FinMap nat_cmp Package → Needed → Bool
 lacks packages need = not (is_passed_over need.name) && not (is_met packages need)
 
@@ -58,6 +64,7 @@ lacks packages need = not (is_passed_over need.name) && not (is_met packages nee
 abbrev pub placed : List Needed → ℕ → List (Needed × ℕ)
 placed needs place = zip needs (range_with_len place (length needs))
 
+-- the number of its package and its place there
 abbrev pub at_place : ℕ → Needed × ℕ → Unmet
 at_place n e = record { number = n; place = e.1 }
 
@@ -65,10 +72,12 @@ at_place n e = record { number = n; place = e.1 }
 abbrev pub unmet_in : (Needed → Bool) → ℕ → List Needed → ℕ → List Unmet
 unmet_in is_lacking n needs place = map (at_place n) (filter (λ e. is_lacking e.0) (placed needs place))
 
+-- the same of bytes that may be no header
 abbrev pub unmet_read : (Needed → Bool) → ℕ → Result Header HeaderFault → List Unmet
 unmet_read is_lacking n (Ok h) = unmet_in is_lacking n (required h) 0
 unmet_read is_lacking n (Err fault) = []
 
+-- the same of a package
 abbrev pub unmet_of : (Needed → Bool) → ℕ × Package → List Unmet
 unmet_of is_lacking (n, Good bytes) = unmet_read is_lacking n (header bytes)
 unmet_of is_lacking (n, Bad) = []
@@ -83,6 +92,7 @@ unmet packages = flat_map (unmet_of (lacks packages)) (entries packages)
 abbrev pub is_above : ℕ → ℕ → Unmet → Bool
 is_above n i u = nat_lt n u.number || (u.number == n && nat_lt i u.place)
 
+-- the lacking ones above (n, i)
 unfoldable pub unmet_after : FinMap nat_cmp Package → ℕ → ℕ → List Unmet
 unmet_after packages n i = filter (is_above n i) (unmet packages)
 

@@ -16,6 +16,7 @@ use Rattle.rpm_filecheck.specs.Owners.{Owner, Conflict, conflicts_on}
 
 -- ---- who owns what
 
+-- the files of bytes that may be no header
 abbrev pub files_read : Result Header HeaderFault → List OwnFile
 files_read (Ok h) = files h
 files_read (Err fault) = []
@@ -25,6 +26,7 @@ abbrev pub files_of : Package → List OwnFile
 files_of (Good bytes) = files_read (header bytes)
 files_of Bad = []
 
+-- a package as the owner of a file, if it has it
 abbrev pub as_owner : ℕ → Option Facts → List Owner
 as_owner n None = []
 as_owner n (Some facts) = record { number = n; facts = facts } ∷ []
@@ -37,9 +39,11 @@ owner_of path (n, p) = as_owner n (said_of path (files_of p))
 abbrev pub owners : List ℕ → List (ℕ × Package) → List Owner
 owners path es = flat_map (owner_of path) es
 
+-- the paths of one package
 abbrev pub own_paths : ℕ × Package → List (List ℕ)
 own_paths (n, p) = map (λ f. f.path) (files_of p)
 
+-- those of all packages
 abbrev pub all_paths : List (ℕ × Package) → List (List ℕ)
 all_paths es = flat_map own_paths es
 
@@ -57,6 +61,7 @@ conflicts packages = flat_map (λ e. conflicts_on e.0 e.1) (entries (owned packa
 
 -- ---- what goes with them
 
+-- the number of a package that can't be read, or nothing
 abbrev pub bad_of : ℕ × Package → List ℕ
 bad_of (n, Good bytes) = []
 bad_of (n, Bad) = n ∷ []
@@ -70,13 +75,16 @@ abbrev pub printed : Option Elements → List ℕ
 printed (Some (TextList (text ∷ texts))) = text
 printed _ = codes "(none)"
 
+-- what is printed of a header as its label
 abbrev pub label : Header → List ℕ
 label h = printed (value h 0 Nvra)
 
+-- the same of bytes that may be no header
 abbrev pub label_read : Result Header HeaderFault → Option (List ℕ)
 label_read (Ok h) = Some (label h)
 label_read (Err fault) = None
 
+-- the same of a package
 abbrev pub label_of : Package → Option (List ℕ)
 label_of (Good bytes) = label_read (header bytes)
 label_of Bad = None
@@ -97,6 +105,7 @@ pub record Report : Type 0 where
 abbrev pub told_label : Report → ℕ → Option (List ℕ)
 told_label r n = find nat_cmp n r.labels
 
+-- a report has the conflicts of these packages, the labels of their owners, and those that can't be read
 pub record IsReport (packages : FinMap nat_cmp Package) (report : Report) : Type 0 where
   pub conflicts_are : report.conflicts ≡ conflicts packages
   pub bad_are : report.bad ≡ bad packages

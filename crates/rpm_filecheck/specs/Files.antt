@@ -6,15 +6,19 @@ use Rattle.rpm_tags.specs.declared.tag.Tag.TheVariants.{Filenames}
 use Rattle.rpm_tags.specs.Value.{Elements, text_list, texts_in, numbers_in, value}
 use Rattle.rpm_tags.specs.Wanted.{listed, first_or}
 
+-- the tag of the modes
 abbrev pub FILEMODES : ℕ
 FILEMODES = 1030
 
+-- the tag of the digests
 abbrev pub FILEDIGESTS : ℕ
 FILEDIGESTS = 1035
 
+-- the tag of the targets of links
 abbrev pub FILELINKTOS : ℕ
 FILELINKTOS = 1036
 
+-- the tag of the flags
 abbrev pub FILEFLAGS : ℕ
 FILEFLAGS = 1037
 
@@ -25,6 +29,7 @@ pub record Facts : Type 0 where
   pub link : List ℕ
   pub flags : ℕ
 
+-- a path, and the facts of the file that stand beside it
 pub record OwnFile : Type 0 where
   pub path : List ℕ
   pub facts : Facts
@@ -51,6 +56,7 @@ abbrev pub first_facts : Columns → Facts
 first_facts c =
     record { mode = first_or 0 c.modes; digest = first_or [] c.digests; link = first_or [] c.links; flags = first_or 0 c.flags }
 
+-- the columns without their first elements
 abbrev pub rest_of : Columns → Columns
 rest_of c = record { modes = drop 1 c.modes; digests = drop 1 c.digests; links = drop 1 c.links; flags = drop 1 c.flags }
 
@@ -59,10 +65,12 @@ abbrev pub beside : List (List ℕ) → Columns → List OwnFile
 beside [] c = []
 beside (path ∷ paths) c = record { path = path; facts = first_facts c } ∷ beside paths (rest_of c)
 
+-- the texts of a value, or none
 abbrev pub texts_of : Option Elements → List (List ℕ)
 texts_of None = []
 texts_of (Some v) = text_list v
 
+-- the files of a header, in its order
 unfoldable pub files : Header → List OwnFile
 files h = beside (texts_of (value h 0 Filenames)) (columns h)
 

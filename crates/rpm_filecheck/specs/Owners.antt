@@ -17,6 +17,7 @@ pub record Conflict : Type 0 where
   pub mode : Bool
   pub link : Bool
 
+-- two owners of a path, and what differs between their files
 abbrev pub conflict : List ℕ → Owner → Owner → Conflict
 conflict path a b =
     record {
@@ -28,6 +29,7 @@ conflict path a b =
       link = not (bytes_eq a.facts.link b.facts.link);
     }
 
+-- something differs
 abbrev pub differs : Conflict → Bool
 differs c = c.digest || (c.mode || c.link)
 
@@ -43,6 +45,7 @@ is_ghost f = (f.flags / 64) % 2 == 1
 abbrev pub may_share : Facts → Facts → Bool
 may_share a b = (is_directory a && is_directory b) || (is_ghost a || is_ghost b)
 
+-- the two files may not share the path, and they differ
 abbrev pub is_conflict : List ℕ → Owner → Owner → Bool
 is_conflict path a b = not (may_share a.facts b.facts) && differs (conflict path a b)
 

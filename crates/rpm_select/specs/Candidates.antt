@@ -16,6 +16,7 @@ use Rattle.rpm_select.specs.declared.selection.Selection.TheVariants.{All, Patte
 use Rattle.rpm_select.specs.Labels.{is_dash}
 use Rattle.rpm_select.specs.Selections.{is_among}
 
+-- the byte of .
 abbrev pub is_dot : ℕ → Bool
 is_dot b = b == 46
 
@@ -23,6 +24,7 @@ is_dot b = b == 46
 abbrev pub cut : (ℕ → Bool) → List ℕ → Option (List ℕ)
 cut is_end text = if list_any is_end text then Some (before_last is_end text) else None
 
+-- the text of an option, or nothing
 abbrev pub one : Option (List ℕ) → List (List ℕ)
 one None = []
 one (Some text) = text ∷ []
@@ -42,6 +44,7 @@ has_keys (Pattern p) = false
 has_keys (Number m) = false
 has_keys others = true
 
+-- the kinds and keys that an index is asked for
 unfoldable pub keys_asked : Selection → List (Kind × List ℕ)
 keys_asked (Label x) = map (λ name. (kind.Name, name)) (names_in x.now)
 keys_asked (Path x) = (kind.Basenames, base_name x.now) ∷ []
@@ -56,13 +59,16 @@ keys_asked (Tid t) = (kind.Installtid, number_key t) ∷ []
 keys_asked (Recommends c) = (kind.Recommendname, c.name) ∷ []
 keys_asked others = []
 
+-- a header has this key of this kind
 abbrev pub has_key : Header → Kind × List ℕ → Bool
 has_key h (k, key) = is_among key (key_list k h)
 
+-- a header that can be read has one of the keys of a selection
 abbrev pub has_key_in : Selection → Result Header HeaderFault → Bool
 has_key_in sel (Ok h) = list_any (has_key h) (keys_asked sel)
 has_key_in sel (Err fault) = false
 
+-- a package that can be read has one of them
 abbrev pub is_candidate : Selection → ℕ × Package → Bool
 is_candidate sel (n, Good bytes) = has_key_in sel (header bytes)
 is_candidate sel (n, Bad) = false

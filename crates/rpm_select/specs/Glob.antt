@@ -21,6 +21,7 @@ is_member b (x ∷ dash ∷ y ∷ members) =
     if dash == 45 then (nat_le x b && nat_le b y) || is_member b members
     else b == x || is_member b (dash ∷ y ∷ members)
 
+-- a piece stands for this one byte
 abbrev pub takes : Piece → ℕ → Bool
 takes Star b = false
 takes Question b = true
@@ -38,6 +39,7 @@ stands_for (piece ∷ pieces) (b ∷ text) = takes piece b && stands_for pieces 
 
 -- ---- how a glob is written
 
+-- the byte of ]
 abbrev pub is_close : ℕ → Bool
 is_close b = b == 93
 
@@ -46,6 +48,7 @@ abbrev pub is_turned : List ℕ → Bool
 is_turned [] = false
 is_turned (b ∷ rest) = b == 33 || b == 94
 
+-- what stands behind a ! or ^ at the front, if one is there
 abbrev pub behind_turn : List ℕ → List ℕ
 behind_turn rest = if is_turned rest then drop 1 rest else rest
 
@@ -59,6 +62,7 @@ pub record Written : Type 0 where
   pub piece : Piece
   pub size : ℕ
 
+-- a piece and how many bytes write it
 abbrev pub written : Piece → ℕ → Written
 written piece size = record { piece = piece; size = size }
 
@@ -72,6 +76,7 @@ abbrev pub set_of : Bool → List ℕ → Option ℕ → Written
 set_of turned members None = written (Byte 91) 1
 set_of turned members (Some n) = written (Set turned (take n members)) (n + (if turned then 3 else 2))
 
+-- the set that begins behind a [
 abbrev pub bracketed : List ℕ → Written
 bracketed rest = set_of (is_turned rest) (behind_turn rest) (member_count (behind_turn rest))
 
@@ -90,6 +95,7 @@ pieces_behind n [] = []
 pieces_behind (suc n) (b ∷ glob) = pieces_behind n glob
 pieces_behind zero (b ∷ glob) = (piece_at b glob).piece ∷ pieces_behind ((piece_at b glob).size - 1) glob
 
+-- the pieces of a whole glob
 abbrev pub pieces : List ℕ → List Piece
 pieces glob = pieces_behind 0 glob
 

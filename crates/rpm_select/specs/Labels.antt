@@ -6,9 +6,11 @@ use Rattle.std.specs.Str.{bytes_eq}
 use Rattle.rpm_tags.specs.Value.{first_text}
 use Rattle.rpm_select.specs.Glob.{glob}
 
+-- the byte of -
 abbrev pub is_dash : ℕ → Bool
 is_dash b = b == 45
 
+-- the byte of - or of .
 abbrev pub is_dash_or_dot : ℕ → Bool
 is_dash_or_dot b = b == 45 || b == 46
 
@@ -27,11 +29,13 @@ abbrev pub with_release : Option (List ℕ) → Option (List ℕ) → List ℕ �
 with_release arch None text = []
 with_release arch (Some release) text = with_arch arch (text ++ 45 ∷ release)
 
+-- the labels with a version behind a name, where there is a version
 abbrev pub with_version : Option (List ℕ) → Option (List ℕ) → Option (List ℕ) → List ℕ → List (List ℕ)
 with_version arch None release text = []
 with_version arch (Some version) release text =
     with_arch arch (text ++ 45 ∷ version) ++ with_release arch release (text ++ 45 ∷ version)
 
+-- the labels of a package, where there is a name
 abbrev pub with_name : Option (List ℕ) → Option (List ℕ) → Option (List ℕ) → Option (List ℕ) → List (List ℕ)
 with_name arch None version release = []
 with_name arch (Some name) version release = with_arch arch name ++ with_version arch version release name

@@ -46,6 +46,7 @@ is_of_index (BadIndex unit) = true
 is_of_index DiskFault = false
 is_of_index NoMemory = false
 
+-- a call answers that the index is broken
 abbrev pub is_broken : {X : Type 0} → Result X PickFault → Bool
 is_broken (Ok x) = false
 is_broken (Err fault) = is_of_index fault

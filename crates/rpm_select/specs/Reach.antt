@@ -38,9 +38,11 @@ unasked others = Everything
 abbrev pub reach : Bool → Selection → finite.FinMap nat_cmp Package → Reach
 reach asked sel packages = if asked then These (map (λ e. e.0) (candidates packages sel)) else unasked sel
 
+-- a number is one of these
 abbrev pub is_in : ℕ → List ℕ → Bool
 is_in n ns = list_any (λ m. m == n) ns
 
+-- a number is gone over
 abbrev pub reaches : Reach → Database → ℕ → Bool
 reaches Everything db n = holds n db
 reaches (These ns) db n = is_in n ns
@@ -60,6 +62,7 @@ HasIndexRows db pkg idx = is_indexed db ≡ true → HasRows (packages pkg db.st
 abbrev pub costs_to : ℕ → List ℕ → Database → ℕ
 costs_to m ns db = sum_by (λ n. cost n db) (filter (λ n. nat_le n m) ns)
 
+-- the blocks of the numbers that are gone over, up to this one
 abbrev pub reach_to : ℕ → Reach → Database → ℕ
 reach_to m Everything db = cost_to m db
 reach_to m (These ns) db = costs_to m ns db
@@ -85,6 +88,7 @@ records_cost units (Err unit) = 0
 abbrev pub key_cost : Units → Kind × List ℕ → ℕ
 key_cost idx (kind, key) = 16 + records_cost (units_at (unit_at idx)) (key_chain (code_of kind) key idx)
 
+-- asking for each of these keys
 abbrev pub keys_cost : Units → List (Kind × List ℕ) → ℕ
 keys_cost idx keys = sum_by (key_cost idx) keys
 

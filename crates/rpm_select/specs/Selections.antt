@@ -20,6 +20,7 @@ use Rattle.rpm_select.specs.Labels.{labels}
 
 -- ---- what is needed or given
 
+-- the three tags of names, flags and versions that belong together
 abbrev pub tags : ℕ → ℕ → ℕ → Tags
 tags names flags versions = record { names = names; flags = flags; versions = versions }
 
@@ -27,6 +28,7 @@ tags names flags versions = record { names = names; flags = flags; versions = ve
 abbrev pub meets : CapabilityParts → Needed → Bool
 meets c e = bytes_eq e.name c.name && overlaps e.flags e.version c.flags c.evr
 
+-- one of the elements under these tags meets a capability
 abbrev pub has_any : Tags → CapabilityParts → Header → Bool
 has_any ts c h = list_any (meets c) (dependencies ts h)
 
@@ -40,13 +42,16 @@ is_file_of c h = is_plain c && (slice_index c.name 0 == 47 && has_file h c.name)
 
 -- ---- one row for each selection
 
+-- a text is one of these, byte for byte
 abbrev pub is_among : List ℕ → List (List ℕ) → Bool
 is_among x texts = list_any (bytes_eq x) texts
 
+-- a text is this one, if there is one
 abbrev pub is_first : List ℕ → Option (List ℕ) → Bool
 is_first x None = false
 is_first x (Some text) = bytes_eq x text
 
+-- a selection picks this header of a package of this number
 unfoldable pub takes_header : Selection → ℕ → Header → Bool
 takes_header All n h = true
 takes_header (Pattern p) n h = list_any (glob p.now) (labels h)
@@ -77,10 +82,12 @@ abbrev pub is_elsewhere : Selection → ℕ → Bool
 is_elsewhere (Number m) n = not (n == m)
 is_elsewhere others n = false
 
+-- the same of bytes that may be no header
 abbrev pub takes_read : Selection → ℕ → Result Header HeaderFault → Bool
 takes_read sel n (Ok h) = takes_header sel n h
 takes_read sel n (Err fault) = false
 
+-- a selection picks this package of this number
 abbrev pub is_picked : Selection → ℕ × Package → Bool
 is_picked sel (n, Good bytes) = takes_read sel n (header bytes)
 is_picked sel (n, Bad) = takes_bad sel n

@@ -4,6 +4,7 @@ use Rattle.std.specs.List.{slice_split}
 use Rattle.std.specs.Str.{bytes_eq}
 use Rattle.rpm_version.specs.declared.capability.BadCapability.{BadCapability}
 
+-- a name, the bits of a sense, and a version
 pub record CapabilityParts : Type 0 where
   pub name : List ℕ
   pub flags : ℕ
@@ -13,6 +14,7 @@ pub record CapabilityParts : Type 0 where
 abbrev pub is_blank : ℕ → Bool
 is_blank b = (b == 32) || (b == 9)
 
+-- it isn't empty
 abbrev pub is_word : List ℕ → Bool
 is_word part = not (length part == 0)
 
@@ -30,6 +32,7 @@ sense sign =
     else if bytes_eq sign (codes ">") then Some 4
     else None
 
+-- a name and a version that a sign stands between, if it is one
 abbrev pub with_sense : List ℕ → Option ℕ → List ℕ → Result CapabilityParts BadCapability
 with_sense name (Some flags) evr = Ok (record { name = name; flags = flags; evr = evr })
 with_sense name None evr = Err (record {})
@@ -40,5 +43,6 @@ capability_of (name ∷ []) = Ok (record { name = name; flags = 0; evr = [] })
 capability_of (name ∷ sign ∷ evr ∷ []) = with_sense name (sense sign) evr
 capability_of others = Err (record {})
 
+-- the capability that a text names, or none
 unfoldable pub capability : List ℕ → Result CapabilityParts BadCapability
 capability text = capability_of (words text)

@@ -8,6 +8,7 @@ use Rattle.std.specs.Ordering.{nat_cmp, ordering_then}
 use Rattle.std.specs.Str.Parse.{AllDigits, digits_value}
 use Rattle.rpm_version.specs.Order.{version_order}
 
+-- the three parts of such a text; a missing epoch or release is None
 pub record EvrParts : Type 0 where
   pub epoch : Option (List ℕ)
   pub version : List ℕ
@@ -17,13 +18,16 @@ pub record EvrParts : Type 0 where
 unfoldable pub has_epoch : List ℕ → Bool
 has_epoch text = slice_index text (prefix_len is_ascii_digit text) == 58
 
+-- the digits before that colon, if it is there
 unfoldable pub epoch_of : List ℕ → Option (List ℕ)
 epoch_of text = if has_epoch text then Some (take_while is_ascii_digit text) else None
 
+-- what stands behind that colon, or the whole text
 unfoldable pub behind_epoch : List ℕ → List ℕ
 behind_epoch text =
     if has_epoch text then drop (prefix_len is_ascii_digit text + 1) text else text
 
+-- the byte of -
 abbrev pub is_dash : ℕ → Bool
 is_dash b = b == 45
 
@@ -46,6 +50,7 @@ unless_empty (b ∷ text) = Some (b ∷ text)
 unfoldable pub release_of : List ℕ → Option (List ℕ)
 release_of text = if list_any is_dash text then unless_empty (after_last is_dash text) else None
 
+-- a text cut into its parts
 unfoldable pub evr : List ℕ → EvrParts
 evr text = record {
   epoch = epoch_of text;

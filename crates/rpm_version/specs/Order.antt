@@ -6,6 +6,7 @@ use Rattle.std.specs.Ordering.{nat_cmp}
 use Rattle.std.specs.Cmp.Lexicographic.{slice_cmp}
 use Rattle.rpm_version.specs.Segment.{Segment, Tilde, End, Caret, Letters, Digits, segments}
 
+-- the order of the kinds of segments, the oldest first
 abbrev pub rank : Segment → ℕ
 rank Tilde = 0
 rank End = 1

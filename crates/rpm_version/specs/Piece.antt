@@ -5,6 +5,7 @@ use Rattle.rpm_version.specs.declared.segment.Piece.{Piece}
 use Rattle.rpm_version.specs.declared.segment.Piece.TheVariants as piece
 use Rattle.rpm_version.specs.Segment.{Segment, Tilde, End, Caret, Letters, Digits, segments}
 
+-- the segment that a piece of the code stands for
 abbrev pub segment_at : Piece → Segment
 segment_at piece.Tilde = Tilde
 segment_at piece.End = End

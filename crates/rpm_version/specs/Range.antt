@@ -8,9 +8,11 @@ use Rattle.rpm_version.specs.Evr.{EvrParts, evr, evr_order}
 abbrev pub has_less : ℕ → Bool
 has_less flags = not (bit_and flags 2 == 0)
 
+-- the bit of greater is set
 abbrev pub has_greater : ℕ → Bool
 has_greater flags = not (bit_and flags 4 == 0)
 
+-- the bit of equal is set
 abbrev pub has_equal : ℕ → Bool
 has_equal flags = not (bit_and flags 8 == 0)
 

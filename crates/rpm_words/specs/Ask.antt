@@ -27,6 +27,7 @@ use Rattle.rpm_words.specs.Seen.{seen}
 use Rattle.rpm_words.specs.Takes.{query_takes, expected}
 use Rattle.rpm_words.specs.Broken.{argument_fault, first_broken}
 
+-- what a command line asks for
 pub record AskParts : Type 0 where
   pub mode : Mode
   pub chosen : Chosen
@@ -36,6 +37,7 @@ pub record AskParts : Type 0 where
   pub format : Option Span
   pub arguments : List ℕ
 
+-- the place of a word that is an argument
 abbrev pub argument_said : ℕ → Said → Option ℕ
 argument_said word Argument = Some word
 argument_said word others = None
@@ -48,6 +50,7 @@ argument_in token = argument_said token.word token.said
 unfoldable pub arguments : List Token → List ℕ
 arguments tokens = filter_map argument_in tokens
 
+-- the mode of a command, with the number that an exercise has
 abbrev pub mode_of : Command → ℕ → Mode
 mode_of Query n = mode.Query
 mode_of Addpkg n = mode.Addpkg
@@ -63,14 +66,17 @@ mode_of Exercise n = mode.Exercise n
 mode_of Order n = mode.Order
 mode_of Checkfiles n = mode.Checkfiles
 
+-- files are to be listed
 abbrev pub lists_files : Option Printed → Bool
 lists_files (Some Files) = true
 lists_files others = false
 
+-- the format by which is printed, if one is given
 abbrev pub format_printed : Option Printed → Option Span
 format_printed (Some (By span)) = Some span
 format_printed others = None
 
+-- the parts put together
 abbrev pub asks : Mode → Chosen → ℕ → Bool → Option Printed → List ℕ → AskParts
 asks mode chosen after noindex printed arguments = record {
   mode = mode;
@@ -88,13 +94,16 @@ meant seen arguments =
     asks (mode_of (unwrap_or seen.command Query) (unwrap_or seen.exercise 1)) (unwrap_or seen.chosen Label)
     (unwrap_or seen.after 0) seen.noindex seen.printed arguments
 
+-- the first fault, or what is asked for where there is none
 abbrev pub fault_or : Option WordsFault → AskParts → Result AskParts WordsFault
 fault_or (Some f) a = Err f
 fault_or None a = Ok a
 
+-- what words ask for that were read so
 abbrev pub asked_with : List (List ℕ) → List Token → Seen → List ℕ → Result AskParts WordsFault
 asked_with words tokens seen arguments = fault_or (first_broken words tokens seen arguments) (meant seen arguments)
 
+-- what words ask a program for
 unfoldable pub asked_by : Program → List (List ℕ) → Result AskParts WordsFault
 asked_by program words =
     asked_with words (said program words) (seen words (said program words)) (arguments (said program words))

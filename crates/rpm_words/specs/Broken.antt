@@ -26,6 +26,7 @@ use Rattle.rpm_words.specs.Command.{head, is_other}
 use Rattle.rpm_words.specs.Takes.{takes, fewest, most, expected, checked}
 use Rattle.rpm_words.specs.Fault.{fault, earliest, first_told}
 
+-- a value that must be a number is none
 abbrev pub bad_number_said : List ℕ → Said → Bool
 bad_number_said text (Gives After from) = is_none (number (drop from text))
 bad_number_said text (Gives (Mode Exercise) from) = is_none (exercise_number (drop from text))
@@ -35,6 +36,7 @@ bad_number_said text others = false
 abbrev pub is_bad_number : List (List ℕ) → Token → Bool
 is_bad_number words token = bad_number_said (text_at words token.word) token.said
 
+-- an option that isn't known
 abbrev pub is_refused : Said → Bool
 is_refused Refused = true
 is_refused others = false
@@ -51,10 +53,12 @@ token_fault words command chosen token =
 unfoldable pub early_fault : List (List ℕ) → Option Command → Option Chosen → List Token → Option WordsFault
 early_fault words command chosen tokens = earliest (filter_map (token_fault words command chosen) tokens)
 
+-- an option whose value is the next word
 abbrev pub awaiting_said : Said → Bool
 awaiting_said (Sets switch) = takes_value switch
 awaiting_said others = false
 
+-- the same of a token
 abbrev pub is_awaiting : Token → Bool
 is_awaiting token = awaiting_said token.said
 
@@ -63,13 +67,16 @@ abbrev pub no_value : List (List ℕ) → Option Token → Option WordsFault
 no_value words last =
     if option_map_or is_awaiting last false then Some (fault MissingArgument (length words)) else None
 
+-- no word says what is to be done
 abbrev pub no_mode : List (List ℕ) → Option Command → Option WordsFault
 no_mode words command = if is_none command then Some (fault NoMode (length words)) else None
 
+-- the command is a query
 abbrev pub is_query : Command → Bool
 is_query Query = true
 is_query others = false
 
+-- the command is a verification
 abbrev pub is_verify : Command → Bool
 is_verify Verify = true
 is_verify others = false
@@ -86,10 +93,12 @@ is_misplaced Noindex command = not (is_query command)
 is_misplaced Nofiles command = not (is_verify command)
 is_misplaced Folder command = false
 
+-- an option that doesn't belong to a command
 abbrev pub misplaced_said : Command → ℕ → Said → Option WordsFault
 misplaced_said command word (Sets switch) = if is_misplaced switch command then Some (fault Misplaced word) else None
 misplaced_said command word others = None
 
+-- the same of a token
 abbrev pub misplaced_in : Command → Token → Option WordsFault
 misplaced_in command token = misplaced_said command token.word token.said
 
@@ -97,6 +106,7 @@ misplaced_in command token = misplaced_said command token.word token.said
 unfoldable pub misplaced : Command → List Token → Option WordsFault
 misplaced command tokens = head (filter_map (misplaced_in command) tokens)
 
+-- all packages are chosen
 abbrev pub is_all : Option Chosen → Bool
 is_all (Some All) = true
 is_all others = false
@@ -106,6 +116,7 @@ abbrev pub lacks_option : Command → Seen → Bool
 lacks_option Verify seen = not (is_all seen.chosen && seen.nofiles)
 lacks_option others seen = false
 
+-- arguments are missing
 abbrev pub too_few : List (List ℕ) → Command → Seen → ArgumentRule → List ℕ → Option WordsFault
 too_few words command seen taken arguments =
     if lacks_option command seen || nat_lt (length arguments) (fewest taken) then Some (fault MissingArgument (length words)) else None
@@ -126,6 +137,7 @@ argument_fault words Capability word =
 unfoldable pub bad_argument : List (List ℕ) → Expected → List ℕ → Option WordsFault
 bad_argument words kind arguments = head (filter_map (argument_fault words kind) arguments)
 
+-- the first rule that the words of a command break
 abbrev pub broken_by : List (List ℕ) → List Token → Seen → List ℕ → Command → ArgumentRule → Option WordsFault
 broken_by words tokens seen arguments command taken = first_told (
     early_fault words seen.command seen.chosen tokens

@@ -10,10 +10,12 @@ use Rattle.rpm_words.specs.declared.token.Token.{Token}
 use Rattle.rpm_words.specs.declared.token.Said.{Said}
 use Rattle.rpm_words.specs.declared.token.Said.TheVariants.{Sets}
 
+-- the command that an option sets
 abbrev pub command_in : Said → Option Command
 command_in (Sets (Mode command)) = Some command
 command_in others = None
 
+-- the choice of packages that an option sets
 abbrev pub chosen_in : Said → Option Chosen
 chosen_in (Sets (Choose chosen)) = Some chosen
 chosen_in others = None
@@ -26,9 +28,11 @@ command_of token = command_in token.said
 abbrev pub chosen_of : Token → Option Chosen
 chosen_of token = chosen_in token.said
 
+-- the first element, if there is one
 abbrev pub head : {X : Type 0} → List X → Option X
 head xs = slice_get xs 0
 
+-- a number for each command, to compare them
 abbrev pub command_number : Command → ℕ
 command_number Query = 0
 command_number Addpkg = 1
@@ -44,6 +48,7 @@ command_number Exercise = 10
 command_number Order = 11
 command_number Checkfiles = 12
 
+-- a number for each choice, to compare them
 abbrev pub chosen_number : Chosen → ℕ
 chosen_number Label = 0
 chosen_number All = 1
@@ -60,12 +65,15 @@ chosen_number Directory = 11
 chosen_number Tid = 12
 chosen_number Recommends = 13
 
+-- two commands are the same
 abbrev pub is_same_command : Command → Command → Bool
 is_same_command a b = command_number a == command_number b
 
+-- two choices are the same
 abbrev pub is_same_chosen : Chosen → Chosen → Bool
 is_same_chosen a b = chosen_number a == chosen_number b
 
+-- both are there, and they aren't the same
 abbrev pub differs : {X : Type 0} → (X → X → Bool) → Option X → Option X → Bool
 differs is_same (Some a) (Some b) = not (is_same a b)
 differs is_same a b = false

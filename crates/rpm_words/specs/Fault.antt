@@ -5,6 +5,7 @@ use Rattle.rpm_words.specs.declared.fault.WordsKind.{WordsKind}
 use Rattle.rpm_words.specs.declared.fault.WordsKind.TheVariants.{UnknownOption, TwoModes}
 use Rattle.rpm_words.specs.declared.fault.WordsFault.{WordsFault}
 
+-- a fault of this kind at this word
 abbrev pub fault : WordsKind → ℕ → WordsFault
 fault kind word = record { kind = kind; word = word }
 
@@ -14,6 +15,7 @@ rank UnknownOption = 0
 rank TwoModes = 1
 rank others = 2
 
+-- the fault that is told of two: of the earlier word, and of one word by its kind
 abbrev pub is_before : WordsFault → WordsFault → Bool
 is_before f g = nat_lt f.word g.word || (f.word == g.word && nat_lt (rank f.kind) (rank g.kind))
 

@@ -7,10 +7,12 @@ use Rattle.std.specs.Str.Parse.{digits_value}
 abbrev pub is_short_numeral : List ℕ → Bool
 is_short_numeral text = nat_le 1 (length text) && nat_le (length text) 10 && all_ascii_digits text
 
+-- the number that a text writes, if it is one
 unfoldable pub number : List ℕ → Option ℕ
 number text =
     if is_short_numeral text && nat_lt (digits_value 10 text) (2 ^ 32) then Some (digits_value 10 text) else None
 
+-- a number from 1 to 100,000
 abbrev pub within_exercise : Option ℕ → Option ℕ
 within_exercise (Some n) = if nat_le 1 n && nat_le n 100000 then Some n else None
 within_exercise None = None

@@ -19,9 +19,11 @@ program_named text =
     else if bytes_eq text (codes "rpmdb") then Some Rpmdb
     else None
 
+-- the program that the first word names
 unfoldable pub program_of : List (List ℕ) → Option Program
 program_of words = option_map_or program_named (slice_get words 0) None
 
+-- the folder where none is given
 abbrev pub own_place : List ℕ
 own_place = codes "/var/lib/rpm"
 
@@ -31,6 +33,7 @@ folder_said text (Sets Folder) = Some own_place
 folder_said text (Gives Folder from) = Some (drop from text)
 folder_said text others = None
 
+-- the folder that a token gives
 abbrev pub folder_in : List (List ℕ) → Token → Option (List ℕ)
 folder_in words token = folder_said (text_at words token.word) token.said
 
@@ -39,5 +42,6 @@ unfoldable pub folder : Program → List (List ℕ) → List ℕ
 folder program words =
     unwrap_or (last_or None (filter_map (folder_in words) (said program words))) own_place
 
+-- the folder of the database
 unfoldable pub place : List (List ℕ) → List ℕ
 place words = option_map_or (λ program. folder program words) (program_of words) own_place

@@ -20,6 +20,7 @@ takes_value After = true
 takes_value Folder = true
 takes_value others = false
 
+-- the byte of =
 abbrev pub is_equals : ℕ → Bool
 is_equals b = b == 61
 
@@ -35,6 +36,7 @@ inline place switch = if takes_value switch then Inline switch (place + 1) else 
 abbrev pub lone : Switch → Purpose
 lone switch = if takes_value switch then Awaits switch else Whole switch
 
+-- what a word is for that spells an option
 abbrev pub spelled : List ℕ → Switch → Purpose
 spelled text switch =
     if has_equals text then inline (position_or_len is_equals text) switch else lone switch

@@ -13,6 +13,7 @@ use Rattle.rpm_words.specs.Words.{text_at}
 use Rattle.rpm_words.specs.Number.{number, exercise_number}
 use Rattle.rpm_words.specs.Command.{head, command_of, chosen_of}
 
+-- how is to be printed, if an option says so
 abbrev pub printed_said : ℕ → Said → Option Printed
 printed_said word (Sets Lists) = Some Files
 printed_said word (Gives Format from) = Some (By (record { word = word; from = from }))
@@ -22,6 +23,7 @@ printed_said word others = None
 abbrev pub printed_in : Token → Option Printed
 printed_in token = printed_said token.word token.said
 
+-- the number after which a query goes on
 abbrev pub after_said : List ℕ → Said → Option ℕ
 after_said text (Gives After from) = number (drop from text)
 after_said text others = None
@@ -30,6 +32,7 @@ after_said text others = None
 abbrev pub after_in : List (List ℕ) → Token → Option ℕ
 after_in words token = after_said (text_at words token.word) token.said
 
+-- the number of an exercise
 abbrev pub exercise_said : List ℕ → Said → Option ℕ
 exercise_said text (Gives (Mode Exercise) from) = exercise_number (drop from text)
 exercise_said text others = None
@@ -38,17 +41,21 @@ exercise_said text others = None
 abbrev pub exercise_in : List (List ℕ) → Token → Option ℕ
 exercise_in words token = exercise_said (text_at words token.word) token.said
 
+-- the option that no index is used
 abbrev pub noindex_said : Said → Bool
 noindex_said (Sets Noindex) = true
 noindex_said others = false
 
+-- the same of a token
 abbrev pub is_noindex : Token → Bool
 is_noindex token = noindex_said token.said
 
+-- the option that no files are verified
 abbrev pub nofiles_said : Said → Bool
 nofiles_said (Sets Nofiles) = true
 nofiles_said others = false
 
+-- the same of a token
 abbrev pub is_nofiles : Token → Bool
 is_nofiles token = nofiles_said token.said
 

@@ -52,6 +52,7 @@ rpmdb_switch text =
     else if bytes_eq text (codes "--dbpath") then Some Folder
     else None
 
+-- the option of a program that a long word spells
 unfoldable pub long_switch : Program → List ℕ → Option Switch
 long_switch Rpm text = rpm_switch text
 long_switch Rpmdb text = rpmdb_switch text

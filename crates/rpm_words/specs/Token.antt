@@ -12,9 +12,11 @@ use Rattle.rpm_words.specs.declared.token.Said.TheVariants.{Refused, Sets, Gives
 use Rattle.rpm_words.specs.Switch.{short_switch}
 use Rattle.rpm_words.specs.Purpose.{purpose_behind}
 
+-- a word at its place
 abbrev pub token_at : ℕ → Said → Token
 token_at word said = record { word = word; said = said }
 
+-- an option at its place
 abbrev pub option_at : ℕ → Switch → Token
 option_at word switch = token_at word (Sets switch)
 

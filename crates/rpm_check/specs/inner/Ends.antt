@@ -11,6 +11,7 @@ abbrev pub needs_at : Option Package → List Needed
 needs_at None = []
 needs_at (Some p) = needs_of p
 
+-- a number has a package, and that can be read
 abbrev pub is_good_at : Option Package → Bool
 is_good_at None = false
 is_good_at (Some p) = is_good p
@@ -24,6 +25,7 @@ abbrev pub good_if : Bool → ℕ → List ℕ
 good_if true n = n ∷ []
 good_if false n = []
 
+-- the same of a number and its package
 abbrev pub good_of : ℕ × Package → List ℕ
 good_of e = good_if (is_good e.1) e.0
 
@@ -31,5 +33,6 @@ good_of e = good_if (is_good e.1) e.0
 abbrev pub BeginsBelow : ℕ → Edge → Type 0
 BeginsBelow n e = e.from < n
 
+-- an edge begins at a number or below it
 abbrev pub BeginsUpTo : ℕ → Edge → Type 0
 BeginsUpTo n e = e.from ≤ n

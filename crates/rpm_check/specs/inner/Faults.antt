@@ -4,6 +4,7 @@ use Rattle.rpm_select.specs.declared.picker.PickFault.TheVariants as pick
 use Rattle.rpm_check.specs.declared.faults.CheckFault.{CheckFault}
 use Rattle.rpm_check.specs.declared.faults.CheckFault.TheVariants.{BadIndex, DiskFault, NoMemory}
 
+-- the fault of a report that a picker's fault becomes
 abbrev pub fault_in : PickFault → CheckFault
 fault_in (pick.BadIndex unit) = BadIndex unit
 fault_in pick.DiskFault = DiskFault

@@ -2,5 +2,6 @@
 use Rattle.rpm_tags.specs.declared.needed.Dependency.{Dependency}
 use Rattle.rpm_tags.specs.Wanted.{Needed}
 
+-- the name, flags and version of an element that was read
 abbrev pub needed_in : Dependency → Needed
 needed_in e = record { name = e.name.now; flags = e.flags; version = e.version.now }

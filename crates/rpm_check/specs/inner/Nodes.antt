@@ -6,6 +6,7 @@ use Rattle.rpm_graph.specs.Networks.{IsRising, edge}
 use Rattle.rpm_check.specs.declared.nodes.Node.{Node}
 use Rattle.rpm_check.specs.inner.Ends.{is_end}
 
+-- the numbers of nodes
 abbrev pub numbers_of : List Node → List ℕ
 numbers_of nodes = map (λ v. v.number) nodes
 

@@ -11,6 +11,7 @@ use Rattle.rpm_filecheck.specs.Conflicts.{path_order, label}
 use Rattle.rpm_filecheck.specs.Files.{OwnFile, files}
 use Rattle.rpm_filecheck.specs.Owners.{Owner}
 
+-- the order of paths, of the code's own vectors
 abbrev pub key_order : Vec ℕ Global → Vec ℕ Global → Ordering
 key_order x y = path_order x.items y.items
 
@@ -23,13 +24,16 @@ last_from n (o ∷ os) = last_from o.number os
 abbrev pub joined : List Owner → Owner → List Owner
 joined os o = if last_from 0 os == o.number then os else os ++ o ∷ []
 
+-- an owner behind those that are there
 abbrev pub joined_to : Option (List Owner) → Owner → List Owner
 joined_to None o = o ∷ []
 joined_to (Some os) o = joined os o
 
+-- each path with its owners
 abbrev pub Paths : Type 0
 Paths = List (List ℕ × List Owner)
 
+-- one more owner of a path
 abbrev pub with_owner : List ℕ → Owner → Paths → Paths
 with_owner path o es = put path_order path (joined_to (find path_order path es) o) es
 
@@ -40,31 +44,39 @@ with_files n (f ∷ fs) es = with_files n fs (with_owner f.path (record { number
 
 -- ---- of all packages so far
 
+-- each number with its label
 abbrev pub Labels : Type 0
 Labels = List (ℕ × List ℕ)
 
+-- what is gathered of the packages so far
 pub record Found : Type 0 where
   pub paths : Paths
   pub labels : Labels
   pub bad : List ℕ
 
+-- before the first package
 abbrev pub nothing : Found
 nothing = record { paths = []; labels = []; bad = [] }
 
+-- one more package, with its files and its label
 abbrev pub with_header : ℕ → Header → Found → Found
 with_header n h f = record { paths = with_files n (files h) f.paths; labels = put nat_cmp n (label h) f.labels; bad = f.bad }
 
+-- one more package that can't be read
 abbrev pub with_bad : ℕ → Found → Found
 with_bad n f = record { paths = f.paths; labels = f.labels; bad = f.bad ++ n ∷ [] }
 
+-- one more package by bytes that may be no header
 abbrev pub with_read : ℕ → Result Header HeaderFault → Found → Found
 with_read n (Ok h) f = with_header n h f
 with_read n (Err fault) f = f
 
+-- one more package
 abbrev pub with_package : ℕ → Package → Found → Found
 with_package n (Good bytes) f = with_read n (header bytes) f
 with_package n Bad f = with_bad n f
 
+-- one more package, if the number has one
 abbrev pub with_some : ℕ → Option Package → Found → Found
 with_some n None f = f
 with_some n (Some p) f = with_package n p f

@@ -27,6 +27,7 @@ pub record IsListing (ends : List (List ℕ)) (leasts order : List ℕ) : Type 0
   pub each : AreLeast ends leasts order
   pub all : (c : ℕ) → c < length ends → Contains order c
 
+-- a class is listed already
 abbrev pub listed_at : List Bool → ℕ → Bool
 listed_at listed c = slice_index_or listed c false
 

@@ -17,9 +17,11 @@ Goes rows v w = Contains (slice_index_or rows v []) w
 abbrev pub AreWithin : List (List ℕ) → Type 0
 AreWithin rows = (v w : ℕ) → Goes rows v w → w < length rows
 
+-- a link between two places
 abbrev pub link : ℕ → ℕ → Link
 link v w = record { from = v; to = w }
 
+-- the link at a place of a list
 abbrev pub link_at : List Link → ℕ → Link
 link_at links i = slice_index_or links i (link 0 0)
 
@@ -122,6 +124,7 @@ pub record IsClosed (root : ℕ) (s t : Search) : Type 0 where
   pub pending : t.pending.items ≡ s.pending.items
   pub closed : t.closed ≡ s.closed + 1
 
+-- the same of the lists of a search
 abbrev pub Searches : List (List ℕ) → Search → Type 0
 Searches rows s = IsSearch rows s.ranks.items s.path.items s.roots.items s.pending.items s.closed
 
@@ -134,6 +137,7 @@ pub record IsLast (roots : List ℕ) (root : ℕ) : Type 0 where
 abbrev pub work_left : List (List ℕ) → List ℕ → List ℕ → List Link → ℕ
 work_left rows ranks roots pending = length pending + length roots + unseen (λ v. length (slice_index_or rows v []) + 2) ranks
 
+-- how much is left to do, which falls with each step
 abbrev pub work : List (List ℕ) → Search → ℕ
 work rows s = work_left rows s.ranks.items s.roots.items s.pending.items
 

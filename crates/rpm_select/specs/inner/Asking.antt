@@ -15,6 +15,7 @@ abbrev pub key_bytes : KeyBytes → List ℕ
 key_bytes (bytes.Text text) = text.now
 key_bytes (bytes.Number digits) = digits
 
+-- a byte is this one
 abbrev pub is_byte : ℕ → ℕ → Bool
 is_byte byte b = b == byte
 
@@ -26,6 +27,7 @@ name_keys names = map (λ name. (kind.Name, name)) names
 abbrev pub is_row_of : ℕ → List ℕ → ℕ → Row → Bool
 is_row_of kind key n row = (kind == row.kind) && (bytes_eq key row.key && (row.number == n))
 
+-- one of the rows has this kind, key and number
 abbrev pub has_row : List Row → ℕ → Kind × List ℕ → Bool
 has_row rows n (kind, key) = list_any (is_row_of (code_of kind) key n) rows
 

@@ -105,9 +105,11 @@ one_has name o is =
 abbrev dot_of : List ℕ → List (List ℕ)
 dot_of x = one (cut is_dot x)
 
+-- a text cut before its last dash, or nothing
 abbrev dash_of : List ℕ → List (List ℕ)
 dash_of x = one (cut is_dash x)
 
+-- a text cut before its last dash but one, or nothing
 abbrev twice_of : List ℕ → List (List ℕ)
 twice_of x = one (option_and_then (cut is_dash) (cut is_dash x))
 

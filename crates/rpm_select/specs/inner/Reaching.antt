@@ -5,11 +5,13 @@ use Rattle.rpm_select.specs.declared.reach.Reach as declared
 use Rattle.rpm_select.specs.declared.reach.Reach.TheVariants as code
 use Rattle.rpm_select.specs.Reach.{Reach, Everything, These}
 
+-- the numbers that a reach of the code stands for
 abbrev pub reach_of : declared.Reach → Reach
 reach_of code.All = Everything
 reach_of (code.One n) = These (n ∷ [])
 reach_of (code.These numbers) = These numbers.items
 
+-- the numbers that an index gave rise
 abbrev pub IsRising : declared.Reach → Type 0
 IsRising code.All = Unit {0}
 IsRising (code.One n) = Unit {0}

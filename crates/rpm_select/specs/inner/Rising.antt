@@ -22,6 +22,7 @@ use Rattle.rpm_select.specs.inner.Keyed.{or_left, or_cases}
 abbrev pub AreAbove : ℕ → List ℕ → Type 0
 AreAbove x ns = (n : ℕ) → is_in n ns ≡ true → x < n
 
+-- each number is below all that follow it
 abbrev pub Rises : List ℕ → Type 0
 Rises [] = Unit {0}
 Rises (x ∷ xs) = AreAbove x xs × Rises xs

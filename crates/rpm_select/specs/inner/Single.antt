@@ -11,6 +11,7 @@ use Rattle.rpm_select.specs.declared.selection.Selection.{Selection}
 use Rattle.rpm_select.specs.Selections.{is_picked}
 use Rattle.rpm_select.specs.Picks.{entry_in, number_in}
 
+-- what is picked has this number
 abbrev pub IsNumbered : ℕ → Result (Option Picked) PickFault → Type 0
 IsNumbered n (Ok (Some picked)) = number_in picked ≡ n
 IsNumbered n _ = Unit {0}

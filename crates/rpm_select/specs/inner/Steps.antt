@@ -5,6 +5,7 @@ use Rattle.rpm_select.specs.declared.matching.Move.TheVariants.{Done, Starred, T
 use Rattle.rpm_select.specs.inner.Unclosed.{IsUnclosed}
 use Rattle.rpm_select.specs.Glob.{Piece, Star, takes, stands_for, pieces}
 
+-- what a move says of a glob and a text
 abbrev pub StepIs : List ℕ → List ℕ → Move → Type 0
 StepIs glob text Done = stands_for (pieces glob) text ≡ true
 StepIs glob text (Starred behind) = (pieces glob ≡ Star ∷ pieces behind.now) × (length behind.now < length glob)

@@ -6,6 +6,7 @@ use Rattle.rpm_words.specs.declared.ask.Mode.{Mode}
 use Rattle.rpm_words.specs.declared.ask.Mode.TheVariants as mode
 use Rattle.rpm_words.specs.Ask.{mode_of}
 
+-- the command of a mode of the code
 abbrev pub command_in : Mode → Command
 command_in mode.Query = command.Query
 command_in mode.Addpkg = command.Addpkg

@@ -12,6 +12,7 @@ pub record IsCut (text : List ℕ) (from : ℕ) : Type 0 where
   pub within : position_or_len is_equals text < length text
   pub behind : from ≡ position_or_len is_equals text + 1
 
+-- a value that stands in a word begins within it
 abbrev pub IsSpelled : List ℕ → Purpose → Type 0
 IsSpelled text (Inline switch from) = IsCut text from
 IsSpelled text others = Unit {0}
