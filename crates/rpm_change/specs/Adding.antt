@@ -34,9 +34,11 @@ abbrev pub put_installed : Option ℕ → ℕ → List ℕ → Result Header Fil
 put_installed number j path (Ok h) = changing (change_at number h.blob)
 put_installed number j path (Err fault) = failing (ToErr (whole j) (refused_line path fault))
 
+-- a package file that was read is put, with the moment of its installation
 abbrev pub put_read : Placing → ℕ → List ℕ → List ℕ → Course
 put_read how j path bytes = put_installed how.number j path (as_installed how.moment (package_header bytes))
 
+-- a package file is put, or reported where it isn't there
 abbrev pub put_found : Placing → ℕ → List ℕ → Option (List ℕ) → Course
 put_found how j path None = failing (ToErr (whole j) (absent_line path))
 put_found how j path (Some bytes) = put_read how j path bytes
@@ -47,6 +49,7 @@ put_file how paths j path = put_found how j path (bytes_at paths path)
 
 -- ---- the commands
 
+-- how a new package is put
 abbrev pub adding : ℕ → Placing
 adding now = record { number = None; moment = now }
 
@@ -63,6 +66,7 @@ abbrev pub replaced : Option Package → Paths → ℕ → ℕ → List ℕ → 
 replaced None paths now n path = missing 0 n
 replaced (Some held) paths now n path = put_file (record { number = Some n; moment = now }) paths 0 path
 
+-- the course of a replacement
 abbrev pub replace : Paths → ℕ → State → ℕ → List ℕ → Course
 replace paths now s n path = replaced (finite.get s.packages n) paths now n path
 

@@ -21,6 +21,7 @@ pub record Outputs : Type 0 where
   pub err_tells : Bool
   pub err : List ℕ
 
+-- what both sinks took, where they tell it
 abbrev pub outputs : Bool → List ℕ → Bool → List ℕ → Outputs
 outputs out_tells out err_tells err = record { out_tells = out_tells; out = out; err_tells = err_tells; err = err }
 

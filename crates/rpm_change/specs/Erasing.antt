@@ -9,6 +9,7 @@ use Rattle.rpm_change.specs.Steps.{Course, ToErr, whole, changing, failing, in_t
 unfoldable pub missing_line : ℕ → List ℕ
 missing_line n = codes "error: record " ++ decimal n ++ codes " could not be read\n"
 
+-- a number that no package has, as a line and nothing more
 abbrev pub missing : ℕ → ℕ → Course
 missing j n = failing (ToErr (whole j) (missing_line n))
 
@@ -17,6 +18,7 @@ abbrev pub erased : Option Package → ℕ → ℕ → Course
 erased None j n = missing j n
 erased (Some held) j n = changing (Erase n)
 
+-- the course of one erasure
 abbrev pub erase_one : State → ℕ → ℕ → Course
 erase_one s j n = erased (finite.get s.packages n) j n
 

@@ -19,6 +19,7 @@ pub record Listed : Type 0 where
 abbrev pub ending : Option ListFault → Listed
 ending fault = record { blobs = []; fault = fault }
 
+-- a header in front of the rest of a list
 abbrev pub with_blob : List ℕ → Listed → Listed
 with_blob blob others = record { blobs = blob ∷ others.blobs; fault = others.fault }
 
@@ -33,6 +34,7 @@ abbrev pub listed_in : ℕ → List ℕ → Listed
 listed_in zero bytes = ending None
 listed_in (suc turns) bytes = listed_next (listed_in turns) (list_head bytes)
 
+-- the headers that a list holds, and what ends it
 abbrev pub listed : List ℕ → Listed
 listed bytes = listed_in (length bytes) bytes
 
@@ -62,6 +64,7 @@ import_from most k [] fault = import_end k fault
 import_from most k (blob ∷ blobs) fault =
     if nat_lt most k then place_fails k (codes "too many headers") else joined (imported k (header blob)) (import_from most (k + 1) blobs fault)
 
+-- the course of an import of what a list holds
 abbrev pub import_listed : ℕ → Listed → Course
 import_listed most l = import_from most 1 l.blobs l.fault
 

@@ -7,6 +7,7 @@ use Rattle.rpm_change.specs.declared.tally.Halt.{Halt}
 use Rattle.rpm_change.specs.declared.tally.Halt.TheVariants as halt
 use Rattle.rpm_change.specs.Steps.{Course, ToOut, bearer, idle, joined}
 
+-- the line that reports a package that a rebuild drops
 unfoldable pub dropped_line : ℕ → List ℕ
 dropped_line n = codes "package " ++ decimal n ++ codes ": dropped\n"
 
@@ -15,6 +16,7 @@ abbrev pub dropped : ℕ → Package → Course
 dropped n (Good bytes) = idle
 dropped n Bad = record { steps = ToOut (bearer 0 n) (dropped_line n) ∷ []; failed = 0; changes = Erase n ∷ [] }
 
+-- the course that drops each bad package of a list
 abbrev pub drop_each : List (ℕ × Package) → Course
 drop_each [] = idle
 drop_each (e ∷ es) = joined (dropped e.0 e.1) (drop_each es)

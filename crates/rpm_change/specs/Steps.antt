@@ -12,6 +12,7 @@ pub record Bearer : Type 0 where
 abbrev pub bearer : ℕ → ℕ → Bearer
 bearer j n = record { argument = j; number = Some n }
 
+-- an argument as a whole, without a package
 abbrev pub whole : ℕ → Bearer
 whole j = record { argument = j; number = None }
 
@@ -20,14 +21,17 @@ pub data Step : Type 0 where
   ToOut : Bearer → List ℕ → Step
   ToErr : Bearer → List ℕ → Step
 
+-- what a step gives to standard output
 abbrev pub out_bytes : Step → List ℕ
 out_bytes (ToOut for bytes) = bytes
 out_bytes (ToErr for bytes) = []
 
+-- what a step gives to standard error
 abbrev pub err_bytes : Step → List ℕ
 err_bytes (ToOut for bytes) = []
 err_bytes (ToErr for bytes) = bytes
 
+-- whether a step goes to standard output
 abbrev pub is_out : Step → Bool
 is_out (ToOut for bytes) = true
 is_out (ToErr for bytes) = false
@@ -43,6 +47,7 @@ pub record Course : Type 0 where
   pub failed : ℕ
   pub changes : List Change
 
+-- nothing printed, nothing failed, nothing changed
 abbrev pub idle : Course
 idle = record { steps = []; failed = 0; changes = [] }
 

@@ -7,9 +7,11 @@ use Rattle.rpm_file.specs.declared.fault.FileFault.TheVariants as file
 use Rattle.rpm_file.specs.declared.fault.ListFault.{ListFault}
 use Rattle.rpm_file.specs.declared.fault.ListFault.TheVariants as list
 
+-- a text that names an entry of a header
 abbrev pub at_entry : ℕ → List ℕ → List ℕ
 at_entry i text = codes "entry " ++ decimal i ++ codes ": " ++ text
 
+-- the words of each fault of a header
 unfoldable pub header_text : HeaderFault → List ℕ
 header_text header.Short = codes "header is cut short"
 header_text header.TooManyEntries = codes "too many entries"
@@ -31,9 +33,11 @@ file_text file.TooLarge = codes "header too large"
 file_text file.ReadFault = []
 file_text file.NoMemory = []
 
+-- the line that reports a package file that is refused
 abbrev pub refused_line : List ℕ → FileFault → List ℕ
 refused_line path fault = codes "error: " ++ path ++ codes ": " ++ file_text fault ++ codes "\n"
 
+-- the line that reports a path that isn't there
 abbrev pub absent_line : List ℕ → List ℕ
 absent_line path = codes "error: open of " ++ path ++ codes " failed\n"
 

@@ -18,6 +18,7 @@ pub record Database : Type 0 where
   pub index : Option hindex.State
   pub stopped : Bool
 
+-- whether a database was opened with its index
 abbrev pub is_indexed : Database → Bool
 is_indexed db = is_some db.index
 
@@ -25,6 +26,7 @@ is_indexed db = is_some db.index
 abbrev pub Keeps : Units → Database → Type 0
 Keeps file db = pkgdb.Keeps file db.store
 
+-- the value of an index is that of Hindex.db as it reads
 abbrev pub KeepsUnits : Units → Option hindex.State → Type 0
 KeepsUnits idx None = Unit {0}
 KeepsUnits idx (Some state) = hindex.Keeps idx state
@@ -64,6 +66,7 @@ abbrev pub IsNext : (ℕ → Bool) → ℕ → Option ℕ → Type 0
 IsNext there n None = (k : ℕ) → n < k → there k ≡ false
 IsNext there n (Some m) = (n < m) × (there m ≡ true) × ((k : ℕ) → n < k → k < m → there k ≡ false)
 
+-- the number that the next new package gets
 abbrev pub next_number : Database → ℕ
 next_number db = pkgdb.next_number db.store
 

@@ -21,6 +21,7 @@ LaterCause generation full DiskFault = generation ≢ 4294967295
 LaterCause generation full NoMemory = generation ≢ 4294967295
 LaterCause generation full _ = ⊥
 
+-- a change that was made had a generation left and room
 abbrev pub LaterIs : {A : Type 0} → ℕ → Type 0 → Result A ChangeFault → Type 0
 LaterIs generation full (Ok done) = (generation ≢ 4294967295) × ¬ full
 LaterIs generation full (Err fault) = LaterCause generation full fault
@@ -58,6 +59,7 @@ EraseCause db n Stopped = db.stopped ≡ true
 EraseCause db n NoSuch = (db.stopped ≡ false) × (holds n db ≡ false)
 EraseCause db n fault = (db.stopped ≡ false) × (holds n db ≡ true) × LaterCause db.store.generation ⊥ fault
 
+-- an erasure that was made had its package there; one that was refused has its cause
 abbrev pub EraseIs : {A : Type 0} → Database → ℕ → Result A ChangeFault → Type 0
 EraseIs db n (Ok done) = (db.stopped ≡ false) × (holds n db ≡ true) × LaterIs db.store.generation ⊥ (Ok done)
 EraseIs db n (Err fault) = EraseCause db n fault
@@ -70,6 +72,7 @@ FullCause needed (IndexFull told) = (2 ^ 28 < needed) × (told ≡ needed)
 FullCause needed (BadIndex unit) = ⊥
 FullCause needed _ = Unit {0}
 
+-- a change that was made fits the index, and IndexFull tells units that don't
 abbrev pub FullIndexIs : {A : Type 0} → ℕ → Result A ChangeFault → Type 0
 FullIndexIs needed (Ok done) = needed ≤ 2 ^ 28
 FullIndexIs needed (Err fault) = FullCause needed fault
@@ -79,6 +82,7 @@ abbrev pub BadCause : Units → ChangeFault → Type 0
 BadCause idx (BadIndex unit) = hindex.IsBad (buckets_of (unit_at idx 0)) idx (prepare.BadIndex unit)
 BadCause idx _ = Unit {0}
 
+-- BadIndex is answered only for a fault of the index
 abbrev pub BadIndexIs : {A : Type 0} → Units → Result A ChangeFault → Type 0
 BadIndexIs idx (Ok done) = Unit {0}
 BadIndexIs idx (Err fault) = BadCause idx fault
@@ -88,6 +92,7 @@ abbrev pub WholeCause : ChangeFault → Type 0
 WholeCause (BadIndex unit) = ⊥
 WholeCause _ = Unit {0}
 
+-- an index that was whole is whole after a change that was made
 abbrev pub StaysWhole : {A : Type 0} → Units → Result A ChangeFault → Type 0
 StaysWhole idx (Ok done) = IsWholeIndex idx
 StaysWhole idx (Err fault) = WholeCause fault

@@ -30,6 +30,7 @@ kind_rows n h k = map (key_row n k) (keys k h)
 unfoldable pub header_rows : ℕ → Header → List Row
 header_rows n h = flat_map (kind_rows n h) kinds
 
+-- the rows of a header, none of a bad one
 abbrev pub rows_read : ℕ → Result Header HeaderFault → List Row
 rows_read n (Ok h) = header_rows n h
 rows_read n (Err fault) = []
@@ -48,5 +49,6 @@ rows_at n (Some p) = package_rows n p
 abbrev pub rows_in : List (ℕ × Package) → List Row
 rows_in es = flat_map (λ e. package_rows e.0 e.1) es
 
+-- the rows of all packages
 unfoldable pub rows : FinMap nat_cmp Package → List Row
 rows packages = rows_in (entries packages)

@@ -13,6 +13,7 @@ pub data Package : Type 0 where
   Good : List ℕ → Package
   Bad : Package
 
+-- a blob as a package, good by its header or bad
 abbrev pub read_as : Result Header HeaderFault → Package
 read_as (Ok h) = Good h.blob
 read_as (Err fault) = Bad
@@ -31,6 +32,7 @@ pub record State : Type 0 where
   pub packages : FinMap nat_cmp Package
   pub field : ℕ
 
+-- the packages and the number field that the store stands for
 abbrev pub state : Units → Store → State
 state file store = record { packages = packages file store; field = store.field }
 

@@ -28,6 +28,7 @@ abbrev pub header_verdict : Bool → Result Header HeaderFault → Verdict
 header_verdict sum (Err fault) = BadHeader
 header_verdict sum (Ok h) = if sum then (if is_digest_wrong h then BadDigest else Sound) else BadChecksum
 
+-- what verifying says of a blob and of whether its checksum holds
 abbrev pub blob_verdict : Option (List ℕ) → Option Bool → Verdict
 blob_verdict (Some blob) (Some sum) = header_verdict sum (header blob)
 blob_verdict _ _ = BadHeader
@@ -37,5 +38,6 @@ abbrev pub verdict_of : Option (Option (List ℕ)) → Option (Option Bool) → 
 verdict_of (Some blob) (Some sum) = Some (blob_verdict blob sum)
 verdict_of _ _ = None
 
+-- what verifying says of a package, none where there is no such number
 abbrev pub verdict : Units → Database → ℕ → Option Verdict
 verdict file db n = verdict_of (finite.get (blobs file db.store) n) (checksums_hold file db.store n)

@@ -8,6 +8,7 @@ unfoldable pub count_below : (ℕ → Bool) → ℕ → ℕ
 count_below test zero = 0
 count_below test (suc n) = count_below test n + (if test n then 1 else 0)
 
+-- whether the overlay holds a unit
 abbrev pub is_held : Table → ℕ → Bool
 is_held table i = is_some (held_at table i)
 

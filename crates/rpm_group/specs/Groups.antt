@@ -12,9 +12,11 @@ use Rattle.rpm_group.specs.Counts.{is_held, begins_run, count_below, log_units}
 abbrev pub runs_of : Pages → ℕ
 runs_of pages = count_below (begins_run pages.table.items) pages.end
 
+-- how many units of a file the overlay holds
 abbrev pub held_of : Pages → ℕ
 held_of pages = count_below (is_held pages.table.items) pages.end
 
+-- the units that the log needs for a file's held units
 abbrev pub units_of_log : Pages → ℕ
 units_of_log pages = log_units pages.table.items pages.end
 

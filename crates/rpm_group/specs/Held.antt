@@ -17,9 +17,11 @@ in_page page k = if slice_index_or page.marks k false then Some (unit_in page.by
 abbrev pub Table : Type 0
 Table = List (Option (Box Page Global))
 
+-- the page of that number, where there is one
 abbrev pub page_at : Table → ℕ → Option (Box Page Global)
 page_at table q = slice_index_or table q None
 
+-- a unit of a page, where both are there
 abbrev pub in_paged : Option (Box Page Global) → ℕ → Option (List ℕ)
 in_paged None k = None
 in_paged (Some page) k = in_page page.value k

@@ -7,14 +7,17 @@ use Rattle.rpm_group.specs.declared.layers.Layers.{Layers}
 use Rattle.rpm_group.specs.declared.pages.Pages.{Pages}
 use Rattle.rpm_group.specs.Held.{laid}
 
+-- the pages over one of the three files
 abbrev pub pages_of : File → Layers → Pages
 pages_of Pkg layers = layers.pkg
 pages_of Idx layers = layers.idx
 pages_of Log layers = layers.log
 
+-- a file under its pages
 abbrev pub laid_file : Pages → Units → Units
 laid_file pages file = laid pages.table.items pages.end file
 
+-- the three files under their pages
 abbrev pub laid_files : Layers → Files → Files
 laid_files layers files = record { pkg = laid_file layers.pkg files.pkg; idx = laid_file layers.idx files.idx; log = laid_file layers.log files.log }
 

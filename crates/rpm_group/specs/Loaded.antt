@@ -20,9 +20,11 @@ module _ {D : Type 0} where
   answer_of (Ok overlay) = Ok tt
   answer_of (Err refused) = Err refused.why
 
+  -- loading ended with a fault of the disk
   abbrev pub IsDiskFault : Result (Overlay D) (LoadRefused D) → Type 0
   IsDiskFault result = answer_of result ≡ Err DiskFault
 
+  -- what loading says, by the log that it found
   abbrev pub LoadedSays : LogState → Result (Overlay D) (LoadRefused D) → Type 0
   LoadedSays state result = LoadSays state (answer_of result)
 

@@ -9,6 +9,7 @@ use Rattle.rpm_group.specs.declared.layers.Layers.{Layers}
 use Rattle.rpm_group.specs.declared.overlay.Overlay.{Overlay}
 use Rattle.rpm_group.specs.Layers.{laid_files}
 
+-- the bytes that were read of a file through the overlay
 abbrev pub overlay_read : {D : Type 0} → Overlay D → File → ℕ
 overlay_read disk Pkg = disk.read_pkg
 overlay_read disk Idx = disk.read_idx

@@ -7,6 +7,7 @@ use Rattle.rpm_hindex.specs.declared.faults.FindFault.{FindFault}
 use Rattle.rpm_hindex.specs.declared.faults.FindFault.TheVariants.{BadIndex, DiskFault, NoMemory}
 use Rattle.rpm_hindex.specs.Rows.{Row, times}
 
+-- whether two hits are one
 abbrev pub same_hit : Hit → Hit → Bool
 same_hit a b = (a.number == b.number) && (a.place == b.place)
 
@@ -14,6 +15,7 @@ same_hit a b = (a.number == b.number) && (a.place == b.place)
 unfoldable pub times_hit : Hit → List Hit → ℕ
 times_hit hit hits = count_by (same_hit hit) hits
 
+-- the hit at a place of a list
 abbrev pub hit_at : List Hit → ℕ → Hit
 hit_at hits k = slice_index_or hits k (record { number = 0; place = 0 })
 
@@ -21,6 +23,7 @@ hit_at hits k = slice_index_or hits k (record { number = 0; place = 0 })
 abbrev pub IsBefore : Hit → Hit → Type 0
 IsBefore a b = (a.number < b.number) ⊎ ((a.number ≡ b.number) × (a.place ≤ b.place))
 
+-- a hit as a row of the index
 abbrev pub row_of_hit : ℕ → List ℕ → Hit → Row
 row_of_hit kind key hit = record { kind = kind; key = key; number = hit.number; place = hit.place }
 
@@ -32,6 +35,7 @@ has_key kind key row = (kind == row.kind) && bytes_eq key row.key
 abbrev pub AsOften : ℕ → List ℕ → List Row → List Hit → Type 0
 AsOften kind key rows hits = (hit : Hit) → times_hit hit hits ≡ times (row_of_hit kind key hit) rows
 
+-- hits rise by number and place, and no two are equal
 abbrev pub IsRising : List Hit → Type 0
 IsRising hits = (k : ℕ) → k + 1 < length hits → IsBefore (hit_at hits k) (hit_at hits (k + 1))
 
@@ -46,6 +50,7 @@ IsFaultOf said (BadIndex unit) = said ≡ Err unit
 IsFaultOf said DiskFault = Unit {0}
 IsFaultOf said NoMemory = Unit {0}
 
+-- hits are those of a chain that is whole
 abbrev pub HitsAre : {H : Type 0} → (List ℕ → H → Type 0) → Result (List ℕ) ℕ → H → Type 0
 HitsAre P (Ok places) hits = P places hits
 HitsAre P (Err unit) hits = ⊥

@@ -15,12 +15,15 @@ pub record Index : Type 0 where
 
 -- ---- one record
 
+-- where the next record of a chain stands
 abbrev pub next_at : (ℕ → List ℕ) → ℕ → ℕ
 next_at unit at = word 0 (unit at)
 
+-- the length of a record's key
 abbrev pub length_at : (ℕ → List ℕ) → ℕ → ℕ
 length_at unit at = word 1 (unit at) % 2 ^ 28
 
+-- how many units a record has
 abbrev pub units_at : (ℕ → List ℕ) → ℕ → ℕ
 units_at unit at = record_units (length_at unit at)
 
@@ -29,14 +32,17 @@ abbrev pub run : (ℕ → List ℕ) → ℕ → ℕ → Units
 run unit from zero = []
 run unit from (suc n) = unit from ∷ run unit (from + 1) n
 
+-- the key of a record
 abbrev pub key_at : (ℕ → List ℕ) → ℕ → List ℕ
 key_at unit at = take (length_at unit at) (bytes_of (run unit (at + 1) (key_units (length_at unit at))))
 
+-- the row of a record
 unfoldable pub row_at : (ℕ → List ℕ) → ℕ → Row
 row_at unit at = record { kind = word 1 (unit at) / 2 ^ 28; key = key_at unit at; number = word 2 (unit at); place = word 3 (unit at) }
 
 -- ---- chains
 
+-- the bucket of a row
 abbrev pub bucket_of : ℕ → Row → ℕ
 bucket_of buckets row = hash_of row.kind row.key % buckets
 
@@ -52,6 +58,7 @@ is_link x at = (at == 0) || (nat_le (first_record x.buckets) at && nat_lt at x.u
 abbrev pub is_placed : Index → ℕ → Bool
 is_placed x at = is_link x (next_at x.unit at) && (nat_lt (next_at x.unit at) at && nat_le (at + units_at x.unit at) x.used)
 
+-- whether a record stands in what is used, links to an earlier one and has its own bucket
 unfoldable pub is_sound : Index → ℕ → ℕ → Bool
 is_sound x bucket at = is_placed x at && (bucket_of x.buckets (row_at x.unit at) == bucket)
 
@@ -73,10 +80,12 @@ chain x bucket =
     if is_link x (x.head bucket) then follow x bucket (x.head bucket) (x.head bucket)
     else Err (bucket_unit bucket)
 
+-- the places of a chain that is whole, else none
 abbrev pub places_in : Result (List ℕ) ℕ → List ℕ
 places_in (Ok places) = places
 places_in (Err unit) = []
 
+-- the places of the records of a bucket
 unfoldable pub places_of : Index → ℕ → List ℕ
 places_of x bucket = places_in (chain x bucket)
 
@@ -84,11 +93,13 @@ places_of x bucket = places_in (chain x bucket)
 unfoldable pub all_places : Index → List ℕ
 all_places x = flat_map (places_of x) (range_with_len 0 x.buckets)
 
+-- the rows of an index
 unfoldable pub rows_of : Index → List Row
 rows_of x = map (row_at x.unit) (all_places x)
 
 -- ---- in a file
 
+-- the index of so many buckets that a file holds
 abbrev pub index_in : ℕ → Units → Index
 index_in buckets file = record {
   buckets = buckets;

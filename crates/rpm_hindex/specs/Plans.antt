@@ -45,6 +45,7 @@ units_after (Scratch image) = 1 + length image.bytes.items / 16
 abbrev pub LeavesOrder : Work → Type 0
 LeavesOrder work = (units : ℕ) → units_after work ≤ units → is_ordered (buckets_after work) (second_after work) units ≡ true
 
+-- the patch at a place of a list
 abbrev pub patch_at : List Patch → ℕ → Patch
 patch_at ps k = slice_index_or ps k (record { unit = 0; words = [] })
 

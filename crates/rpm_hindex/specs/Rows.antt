@@ -10,6 +10,7 @@ pub record Row : Type 0 where
   pub number : ℕ
   pub place : ℕ
 
+-- a row that stands for none
 abbrev pub no_row : Row
 no_row = record { kind = 0; key = []; number = 0; place = 0 }
 
@@ -17,6 +18,7 @@ no_row = record { kind = 0; key = []; number = 0; place = 0 }
 abbrev pub row_nth : List Row → ℕ → Row
 row_nth rows i = slice_index_or rows i no_row
 
+-- whether two rows are one
 abbrev pub same_row : Row → Row → Bool
 same_row a b = (a.kind == b.kind) && (bytes_eq a.key b.key && ((a.number == b.number) && (a.place == b.place)))
 

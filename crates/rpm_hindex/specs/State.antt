@@ -12,6 +12,7 @@ pub record State : Type 0 where
   pub units : ℕ
   pub pending : ℕ
 
+-- the value of an index that was just opened
 abbrev pub state_of : Units → State
 state_of file = record { first = unit_at file 0; second = unit_at file 1; units = length file; pending = 0 }
 
@@ -33,6 +34,7 @@ is_headed first = (word 0 first == magic) && (word 1 first == 2)
 abbrev pub sealed : List ℕ → ℕ
 sealed first = if is_headed first then word 2 first else 0
 
+-- the count of buckets, from the first unit
 abbrev pub buckets_of : List ℕ → ℕ
 buckets_of first = word 3 first
 

@@ -4,12 +4,15 @@ use Rattle.rpm_outside.specs.declared.buffered.Buffered.{Buffered}
 use Rattle.rpm_outside.specs.Causes.{HasCause}
 use Rattle.rpm_outside.specs.Sinks.{Gained, Begins}
 
+-- the sink that stands behind a buffer
 abbrev pub inner : {O : Type 0} → Buffered O → O
 inner b = b.sink
 
+-- the bytes that a buffer holds and hasn't handed on
 abbrev pub holds : {O : Type 0} → Buffered O → List ℕ
 holds b = drop b.gone b.held.items
 
+-- what the sink behind took, then what the buffer holds
 abbrev pub all_taken : {O : Type 0} → (O → List ℕ) → Buffered O → List ℕ
 all_taken taken b = taken (inner b) ++ holds b
 

@@ -20,6 +20,7 @@ Covers (entry ∷ entries) file i = HasUnit entry file i ⊎ Covers entries file
 abbrev pub end_in : File → Entry → ℕ → ℕ
 end_in file entry long = ⊎_elim (λ same. max long (entry.first + length entry.units)) (λ differ. long) (cases_file file entry.file)
 
+-- the length of a file after a list of entries
 abbrev pub ends_in : File → List Entry → ℕ → ℕ
 ends_in file [] long = long
 ends_in file (entry ∷ entries) long = ends_in file entries (end_in file entry long)

@@ -14,6 +14,7 @@ pub record Files : Type 0 where
   pub idx : Units
   pub log : Units
 
+-- one of the three files
 abbrev pub file_of : File → Files → Units
 file_of Pkg files = files.pkg
 file_of Idx files = files.idx

@@ -23,6 +23,7 @@ pub data LogState : Type 0 where
 unfoldable pub word : ℕ → List ℕ → ℕ
 word k unit = from_le_bytes w32 (drop (4 * k) unit)
 
+-- whether a byte is zero
 abbrev pub is_zero : ℕ → Bool
 is_zero b = b == 0
 
@@ -79,6 +80,7 @@ with_entries (entry ∷ entries) files = with_entries entries (with_entry entry 
 abbrev pub unlogged : Files → Files
 unlogged files = record { pkg = files.pkg; idx = files.idx; log = [] }
 
+-- the files with the group of an open log applied
 abbrev pub with_state : LogState → Files → Files
 with_state Closed files = files
 with_state (Malformed unit) files = files

@@ -22,18 +22,23 @@ mem_first disk = held_files disk.first
 abbrev pub mem_steps : MemDisk → List Step
 mem_steps disk = disk.steps.items
 
+-- how often a call failed
 abbrev pub mem_faults : MemDisk → ℕ
 mem_faults disk = disk.faults
 
+-- how often memory was wanting
 abbrev pub mem_starved : MemDisk → ℕ
 mem_starved disk = disk.starved
 
+-- how many calls came
 abbrev pub mem_calls : MemDisk → ℕ
 mem_calls disk = disk.calls
 
+-- the numbers of the calls that are to fail
 abbrev pub mem_failing : MemDisk → List ℕ
 mem_failing disk = disk.failing.items
 
+-- the bytes that were read of a file
 abbrev pub mem_read : MemDisk → File → ℕ
 mem_read disk Pkg = disk.read_pkg
 mem_read disk Idx = disk.read_idx
@@ -70,6 +75,7 @@ DiskDoes half (Write file unit bytes) old new past steps = WroteAny old new past
 DiskDoes false (Sync file) old new past steps = SettledOnce old new past steps file
 DiskDoes half call old new past steps = DidNothing old new past steps
 
+-- what a call of the disk in memory does, whole or by half
 abbrev pub DiskDid : Bool → Call → MemDisk → MemDisk → Type 0
 DiskDid half call old new = DiskDoes half call (mem_files old) (mem_files new) (mem_steps old) (mem_steps new)
 

@@ -8,6 +8,7 @@ use Rattle.rpm_outside.specs.declared.mem_shelf.MemShelf.{MemShelf}
 use Rattle.rpm_outside.specs.Causes.{CountsFailures}
 use Rattle.rpm_outside.specs.Shelves.{Paths, ShelfCall, Open, Take}
 
+-- an item of a shelf as its path and its bytes
 abbrev pub entry_of : Item → List ℕ × List ℕ
 entry_of item = (string_bytes item.path, item.bytes.items)
 
@@ -15,19 +16,24 @@ entry_of item = (string_bytes item.path, item.bytes.items)
 abbrev pub paths_of : List Item → Paths
 paths_of items = from_entries (map entry_of items)
 
+-- the bytes of an item, by its place
 abbrev pub bytes_in : List Item → ℕ → Option (List ℕ)
 bytes_in items i = option_map (λ item. item.bytes.items) (slice_get items i)
 
+-- what is left to read of an opened item
 abbrev pub left_in : List Item → Opened → Option (List ℕ)
 left_in items opened = option_map (drop opened.at) (bytes_in items opened.item)
 
+-- what is left to read, where an item is open
 abbrev pub rest_of : List Item → Option Opened → Option (List ℕ)
 rest_of items None = None
 rest_of items (Some opened) = left_in items opened
 
+-- the contents of the shelf, by path
 abbrev pub shelf_paths : MemShelf → Paths
 shelf_paths shelf = paths_of shelf.items.items
 
+-- what is left to read of the opened item
 abbrev pub shelf_rest : MemShelf → Option (List ℕ)
 shelf_rest shelf = rest_of shelf.items.items shelf.opened
 
@@ -35,15 +41,19 @@ shelf_rest shelf = rest_of shelf.items.items shelf.opened
 abbrev pub shelf_most : MemShelf → ℕ
 shelf_most shelf = shelf.more + 1
 
+-- the number of the read that is to fail
 abbrev pub shelf_failing : MemShelf → Option ℕ
 shelf_failing shelf = shelf.failing
 
+-- how many reads came
 abbrev pub shelf_reads : MemShelf → ℕ
 shelf_reads shelf = shelf.reads
 
+-- how often a path wasn't there
 abbrev pub shelf_absences : MemShelf → ℕ
 shelf_absences shelf = shelf.absences
 
+-- how often a call failed
 abbrev pub shelf_faults : MemShelf → ℕ
 shelf_faults shelf = shelf.faults
 
@@ -53,6 +63,7 @@ pub record SameReads (old new : MemShelf) : Type 0 where
   pub absences : shelf_absences new ≡ shelf_absences old
   pub faults : shelf_faults new ≡ shelf_faults old
 
+-- how many bytes are left to read
 abbrev pub length_left : Option (List ℕ) → ℕ
 length_left None = 0
 length_left (Some bytes) = length bytes
@@ -73,6 +84,7 @@ pub record OpensAsTold (old : MemShelf) (failed : Bool) (new : MemShelf) : Type 
   pub failing : shelf_failing new ≡ shelf_failing old
   pub most : shelf_most new ≡ shelf_most old
 
+-- a call of the shelf fails where it is told to, and does as it says elsewhere
 abbrev pub ShelfDoes : MemShelf → ShelfCall → Bool → MemShelf → Type 0
 ShelfDoes old (Open path) failed new = OpensAsTold old failed new
 ShelfDoes old (Take room) failed new = FailsAsNamed old failed new

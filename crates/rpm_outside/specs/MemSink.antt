@@ -3,9 +3,11 @@ use Rattle.std.specs.Prelude.{◌≡◌, ◌⊎◌, ℕ, ◌+◌, ◌<◌, ◌�
 use Rattle.rpm_outside.specs.declared.mem_sink.MemSink.{MemSink}
 use Rattle.rpm_outside.specs.Causes.{Rose, CountsFailures}
 
+-- the bytes that the sink took
 abbrev pub sink_bytes : MemSink → List ℕ
 sink_bytes sink = sink.bytes.items
 
+-- after how many bytes the sink is to fail
 abbrev pub sink_limit : MemSink → Option ℕ
 sink_limit sink = sink.limit
 
@@ -13,9 +15,11 @@ sink_limit sink = sink.limit
 abbrev pub sink_most : MemSink → ℕ
 sink_most sink = sink.more + 1
 
+-- how often a call failed
 abbrev pub sink_faults : MemSink → ℕ
 sink_faults sink = sink.faults
 
+-- how often memory was wanting
 abbrev pub sink_starved : MemSink → ℕ
 sink_starved sink = sink.starved
 

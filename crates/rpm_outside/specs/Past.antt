@@ -8,6 +8,7 @@ use Rattle.rpm_outside.specs.declared.steps.Held.{Held}
 use Rattle.rpm_outside.specs.Files.{Units, Files, file_of, with_file, put}
 use Rattle.rpm_outside.specs.Crash.{TornFile}
 
+-- the files that a value holds
 abbrev pub held_files : Held → Files
 held_files held = record { pkg = held.pkg.items; idx = held.idx.items; log = held.log.items }
 
@@ -16,6 +17,7 @@ abbrev pub after_step : Step → Files → Files
 after_step (Wrote file at units) files = with_file file (put at units.items (file_of file files)) files
 after_step (Synced file) files = files
 
+-- the files after a list of steps
 abbrev pub after_steps : List Step → Files → Files
 after_steps [] files = files
 after_steps (step ∷ steps) files = after_steps steps (after_step step files)
@@ -25,6 +27,7 @@ abbrev pub LeftByStep : Step → Files → (Files → Type 0) → Files → Type
 LeftByStep (Wrote file at units) files images image = (from : Files) × images from × TornFile file at units.items from image
 LeftByStep (Synced file) files images image = images image × (file_of file image ≡ file_of file files)
 
+-- what a crash leaves after a list of steps
 abbrev pub LeftBySteps : List Step → Files → (Files → Type 0) → Files → Type 0
 LeftBySteps [] files images = images
 LeftBySteps (step ∷ steps) files images = LeftBySteps steps (after_step step files) (LeftByStep step files images)

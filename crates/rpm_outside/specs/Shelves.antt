@@ -9,6 +9,7 @@ use Rattle.rpm_outside.specs.declared.shelf.Absent.{Absent}
 abbrev pub Paths : Type 0
 Paths = FinMap (slice_cmp nat_cmp) (List ℕ)
 
+-- the bytes under a path, if there are any
 abbrev pub bytes_at : Paths → List ℕ → Option (List ℕ)
 bytes_at paths path = get paths path
 

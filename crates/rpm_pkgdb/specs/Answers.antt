@@ -23,9 +23,11 @@ given v = v.items
 abbrev pub given_blob : Checked → List ℕ
 given_blob c = c.blob.items
 
+-- whether a checksum holds, from what was checked
 abbrev pub given_check : Checked → Bool
 given_check c = c.holds
 
+-- the blocks that were read, as head and rest
 abbrev pub frame_in : Blocks → Frame
 frame_in b = record { head = b.head; rest = b.rest.items }
 

@@ -32,9 +32,11 @@ is_head n count head = begins (codes "BlbS") head && (word 1 head == n && (not (
 unfoldable pub is_tail : ℕ → List ℕ → Bool
 is_tail length rest = word 1 (tail rest) == length && word 2 (tail rest) == from_le_bytes w32 (codes "BlbE")
 
+-- whether blocks begin and end as those of this package do
 abbrev pub is_framed : ℕ → ℕ → Frame → Bool
 is_framed n count f = is_head n count f.head && is_tail (word 3 f.head) f.rest
 
+-- the blocks that a slot names
 abbrev pub blocks_at : Slot → Units → Frame
 blocks_at s file = record { head = unit_at file s.offset; rest = bytes_of (take (s.count - 1) (drop (s.offset + 1) file)) }
 

@@ -15,6 +15,7 @@ first_sum bytes = 1 + sum bytes
 abbrev pub second_sum : List ℕ → ℕ
 second_sum bytes = sum (map (λ k. first_sum (take k bytes)) (range_with_len 1 (length bytes)))
 
+-- the Adler-32 checksum
 unfoldable pub adler : List ℕ → ℕ
 adler bytes = second_sum bytes % 65521 * 65536 + first_sum bytes % 65521
 

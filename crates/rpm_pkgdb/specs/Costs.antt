@@ -21,6 +21,7 @@ head_cost None head = 4096 * word 3 head
 abbrev pub opening_cost : Units → ℕ
 opening_cost file = if is_blank file then 16 else head_cost (head_reason (length file) (unit_at file 0)) (unit_at file 0)
 
+-- the bytes of a package's blocks, none where there is no slot
 abbrev pub cost_of : Option Slot → ℕ
 cost_of None = 0
 cost_of (Some s) = 16 * s.count
@@ -29,9 +30,11 @@ cost_of (Some s) = 16 * s.count
 abbrev pub cost : ℕ → Store → ℕ
 cost n store = cost_of (slot_with n store.slots)
 
+-- how many blocks some slots have
 abbrev pub block_count : List Slot → ℕ
 block_count slots = sum_by (λ s. s.count) slots
 
+-- whether a slot has a package of at most this number
 abbrev pub is_up_to : ℕ → Slot → Bool
 is_up_to n s = is_used s && nat_le s.number n
 

@@ -21,11 +21,13 @@ place_in BadRange = 8
 place_in SameNumber = 4
 place_in Overlap = 8
 
+-- a reason with the byte that it stands at
 abbrev pub damage_at : ℕ → Reason → Damage
 damage_at unit reason = record { reason = reason; offset = 16 * unit + place_in reason }
 
 -- ---- unit 0
 
+-- whether a count of pages is none, past the file, or past the limit
 abbrev pub is_bad_pages : ℕ → ℕ → Bool
 is_bad_pages pages units = pages == 0 || nat_lt units (256 * pages) || nat_lt (2 ^ 28) (256 * pages)
 
@@ -39,6 +41,7 @@ head_reason units head =
 
 -- ---- the slots
 
+-- whether a number is one that no package may have
 abbrev pub is_bad_number : Slot → Bool
 is_bad_number s = s.number == 0 || s.number == 4294967295
 
@@ -53,6 +56,7 @@ used_reason pages units s =
     else if is_bad_range pages units s then Some BadRange
     else None
 
+-- what is wrong with a slot by itself
 unfoldable pub own_reason : ℕ → ℕ → List ℕ → Option Reason
 own_reason pages units unit =
     if not (begins (codes "Slot") unit) then Some BadSlot
@@ -78,6 +82,7 @@ first [] = None
 first (None ∷ xs) = first xs
 first (Some x ∷ xs) = Some x
 
+-- a function's values for all numbers below a bound
 abbrev pub each_below : {X : Type 0} → ℕ → (ℕ → X) → List X
 each_below n f = map f (range_with_len 0 n)
 
@@ -89,5 +94,6 @@ table pages file = take (256 * pages - 2) (drop 2 file)
 unfoldable pub fault_at : ℕ → ℕ → Units → ℕ → Option Damage
 fault_at pages units slots k = slot_fault pages units (slots_in (take k slots)) (unit_at slots k)
 
+-- the first damage of the slot table
 unfoldable pub table_fault : ℕ → ℕ → Units → Option Damage
 table_fault pages units slots = first (each_below (length slots) (fault_at pages units slots))

@@ -20,6 +20,7 @@ head_of n generation size = codes "BlbS" ++ le n ++ le generation ++ le size
 abbrev pub padding : ℕ → List ℕ
 padding size = replicate (16 * blocks_for size - (28 + size)) 0
 
+-- the bytes that end a blob
 unfoldable pub tail_of : ℕ → ℕ → List ℕ
 tail_of sum size = le sum ++ le size ++ codes "BlbE"
 

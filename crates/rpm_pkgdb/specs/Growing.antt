@@ -7,6 +7,7 @@ use Rattle.rpm_pkgdb.specs.Slots.{slot_at, is_used, free}
 use Rattle.rpm_pkgdb.specs.Store.{Store}
 use Rattle.rpm_pkgdb.specs.Plans.{IsLeast, AreAllUsed}
 
+-- a slot whose blocks stand elsewhere
 abbrev pub moved : Slot → ℕ → Slot
 moved old to = record old { offset = to }
 
@@ -14,6 +15,7 @@ moved old to = record old { offset = to }
 abbrev pub after_move : List Slot → Move → List Slot
 after_move slots m = slice_set slots m.place (moved (slot_at slots m.place) m.to)
 
+-- the slots after a list of moves
 abbrev pub after_moves : List Slot → List Move → List Slot
 after_moves slots [] = slots
 after_moves slots (m ∷ moves) = after_moves (after_move slots m) moves
@@ -49,10 +51,12 @@ abbrev pub NeedsPage : Store → Bool → Option (List Move) → Type 0
 NeedsPage value is_new None = is_new ≡ true → ¬ AreAllUsed value.slots
 NeedsPage value is_new (Some moves) = (is_new ≡ true) × CanAdd value moves
 
+-- the count of pages after a growth, where there is one
 abbrev pub pages_after : Option (List Move) → ℕ → ℕ
 pages_after None pages = pages
 pages_after (Some moves) pages = pages + 1
 
+-- the slots after a growth, with those of the new page
 abbrev pub slots_after : Option (List Move) → List Slot → List Slot
 slots_after None slots = slots
 slots_after (Some moves) slots = after_moves slots moves ++ replicate 256 free

@@ -42,6 +42,7 @@ unfoldable pub moves_from : ℕ → List Slot → ℕ → Option (List Move)
 moves_from zero slots end = Some []
 moves_from (suc n) slots end = option_and_then (λ m. option_map (λ moves. m ∷ moves) (moves_from n (after_move slots m) end)) (next_move slots end)
 
+-- one where a slot's blocks begin before a block, else zero
 abbrev pub one_before : ℕ → Slot → ℕ
 one_before end s = if is_used s && nat_lt s.offset end then 1 else 0
 

@@ -27,6 +27,7 @@ pub record IsLeast (slots : List Slot) (count from start : ℕ) : Type 0 where
   pub fits : Fits slots count start
   pub least : (block : ℕ) → from ≤ block → block < start → ¬ Fits slots count block
 
+-- from a block on, no place has room for so many blocks
 abbrev pub FitsNowhere : List Slot → ℕ → ℕ → Type 0
 FitsNowhere slots count from = (block : ℕ) → from ≤ block → ¬ Fits slots count block
 

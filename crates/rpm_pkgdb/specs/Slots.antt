@@ -9,6 +9,7 @@ use Rattle.rpm_pkgdb.specs.Words.{word}
 abbrev pub slot_of : List ℕ → Slot
 slot_of unit = record { number = word 1 unit; offset = word 2 unit; count = word 3 unit }
 
+-- the slots that some units hold
 unfoldable pub slots_in : Units → List Slot
 slots_in units = map slot_of units
 
@@ -16,6 +17,7 @@ slots_in units = map slot_of units
 abbrev pub is_used : Slot → Bool
 is_used s = not (s.offset == 0)
 
+-- a slot without a package
 abbrev pub free : Slot
 free = record { number = 0; offset = 0; count = 0 }
 
@@ -31,6 +33,7 @@ end_of s = s.offset + s.count
 abbrev pub meets : Slot → Slot → Bool
 meets s t = is_used t && (nat_lt s.offset (end_of t) && nat_lt t.offset (end_of s))
 
+-- whether a slot has this package
 abbrev pub has_number : ℕ → Slot → Bool
 has_number n s = is_used s && (s.number == n)
 

@@ -29,6 +29,7 @@ in_file store = record { generation = store.generation; pages = store.pages; fie
 abbrev pub next_number : Store → ℕ
 next_number store = max store.field (greatest_number store.slots + 1)
 
+-- the store of a blank file
 abbrev pub blank_store : Store
 blank_store = record { generation = 0; pages = 0; field = 1; slots = []; spare = 0; is_stopped = false }
 
@@ -49,17 +50,21 @@ made_store pages file =
       is_stopped = false;
     }
 
+-- a value, unless there is a fault
 abbrev pub unless : {X E : Type 0} → Option E → X → Result X E
 unless None x = Ok x
 unless (Some e) x = Err e
 
+-- the store of so many pages, or the first damage of its table
 abbrev pub store_of : ℕ → Units → Result Store Damage
 store_of pages file = unless (table_fault pages (length file) (table pages file)) (made_store pages file)
 
+-- the store, unless its head has a fault
 abbrev pub made_or_damaged : Option Reason → Units → Result Store Damage
 made_or_damaged (Some reason) file = Err (damage_at 0 reason)
 made_or_damaged None file = store_of (word 3 (unit_at file 0)) file
 
+-- the store that Packages.db holds, or its first damage
 unfoldable pub store : Units → Result Store Damage
 store file =
     if is_blank file then Ok blank_store

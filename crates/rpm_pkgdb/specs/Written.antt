@@ -21,6 +21,7 @@ stopped value = record value { is_stopped = true }
 abbrev pub freed_slot : ℕ → Slot → Slot
 freed_slot n s = if has_number n s then free else s
 
+-- the slots, with that of a package free
 unfoldable pub freed : ℕ → List Slot → List Slot
 freed n slots = map (freed_slot n) slots
 
@@ -63,10 +64,12 @@ with_spare spare value = record value { spare = spare }
 abbrev pub next_field : Target → Option ℕ
 next_field target = if target.is_new then Some (target.number + 1) else None
 
+-- the number field, where it is written anew
 abbrev pub field_after : Option ℕ → ℕ → ℕ
 field_after None field = field
 field_after (Some next) field = next
 
+-- a store with its number field written anew
 abbrev pub with_next : Option ℕ → Store → Store
 with_next next value = record value { field = field_after next value.field }
 

@@ -111,6 +111,7 @@ is_of_sink stop.OutFault = true
 is_of_sink stop.ErrFault = true
 is_of_sink stop.NoMemory = false
 
+-- whether a list has anything
 abbrev pub is_some_of : {X : Type 0} → List X → Bool
 is_some_of [] = false
 is_some_of (x ∷ xs) = true
@@ -247,23 +248,28 @@ read_to file words a s for = opening_cost file + reach_by (deed_of a.mode) file 
 abbrev pub AtMost : ℕ → ℕ → ℕ → Type 0
 AtMost before now most = (now ≤ before + most) ⊎ (2 ^ 64 - 1 ≤ most)
 
+-- of the store at most the bytes that a question asks up to a bearer were read
 abbrev pub ReadsTo : Units → List (List ℕ) → AskParts → Store → ℕ → ℕ → Bearer → Type 0
 ReadsTo file words a s before now for = AtMost before now (read_to file words a s for)
 
+-- a damaged store is reported and nothing is printed, any other is answered by the course
 abbrev pub Opened : (Store → Course) → Result Store Damage → Why → Outputs → Outputs → (Store → Bearer → Type 0) → Type 0
 Opened course (Ok s) why old new reads_to = Went (course s) why old new (reads_to s)
 Opened course (Err damage) why old new reads_to = Refused damage why × Through [] old new
 
+-- a malformed log is reported and nothing is printed, with any other the store is opened
 abbrev pub Loaded : (Store → Course) → Result Store Damage → LogState → Why → Outputs → Outputs → (Store → Bearer → Type 0) → Type 0
 Loaded course s Closed why old new reads_to = Opened course s why old new reads_to
 Loaded course s (Malformed unit) why old new reads_to = Misread unit why × Through [] old new
 Loaded course s (Open entries) why old new reads_to = Opened course s why old new reads_to
 
+-- what a question that reads all packages prints, reports and reads
 abbrev pub Queried : Tree → List (List ℕ) → AskParts → Files → Why → Outputs → Outputs → ℕ → ℕ → Type 0
 Queried tree words a files why old new before now =
     let file = (reopened files).pkg in
     Loaded (λ s. course tree file s words a) (store file) (log_state files.log) why old new (λ s. ReadsTo file words a s before now)
 
+-- the bytes of all blocks that a question may read, none of a damaged store
 abbrev pub blocks_cost : Units → List (List ℕ) → AskParts → Result Store Damage → ℕ
 blocks_cost file words a (Ok s) = reach_cost (deed_of a.mode) file words a s
 blocks_cost file words a (Err damage) = 0

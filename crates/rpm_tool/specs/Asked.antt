@@ -47,6 +47,7 @@ is_changing_in Importdb = true
 is_changing_in (Exercise n) = true
 is_changing_in others = false
 
+-- whether a mode is the one that prints packages
 abbrev pub is_query : Mode → Bool
 is_query Query = true
 is_query others = false
@@ -71,9 +72,11 @@ abbrev pub changes_in : Result AskParts WordsFault → Bool
 changes_in (Ok a) = is_changing a
 changes_in (Err f) = false
 
+-- whether a command line asks for a change of the database
 unfoldable pub asks_change : List (List ℕ) → Bool
 asks_change words = changes_in (ask words)
 
+-- whether arguments name packages
 abbrev pub is_package : Chosen → Bool
 is_package Package = true
 is_package others = false
@@ -110,6 +113,7 @@ format_in words (Err f) = None
 unfoldable pub asks_format : List (List ℕ) → Option (Result Tree FormatFault)
 asks_format words = format_in words (ask words)
 
+-- the command and its format, where both could be read
 abbrev pub command_in : Result AskParts WordsFault → Option (Result Tree FormatFault) → Option (AskParts × Tree)
 command_in (Ok a) (Some (Ok tree)) = Some (a, tree)
 command_in asked read = None

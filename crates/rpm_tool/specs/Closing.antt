@@ -14,6 +14,7 @@ use Rattle.rpm_pkgdb.specs.declared.slot.Reason.TheVariants.{BadMagic, BadVersio
 use Rattle.rpm_tool.specs.declared.answer.Why.{Why}
 use Rattle.rpm_tool.specs.declared.answer.Why.TheVariants as why
 
+-- the exit status of each answer
 abbrev pub status_of : Why → ℕ
 status_of why.Done = 0
 status_of (why.Failed n) = min n 250
@@ -34,6 +35,7 @@ status_of why.OutFault = 253
 status_of why.ErrFault = 253
 status_of why.NoMemory = 254
 
+-- the words of each reason for which a store is damaged
 unfoldable pub reason_text : Reason → List ℕ
 reason_text BadMagic = codes "file magic"
 reason_text BadVersion = codes "version"
@@ -44,6 +46,7 @@ reason_text BadRange = codes "block range"
 reason_text SameNumber = codes "number used twice"
 reason_text Overlap = codes "blocks overlap"
 
+-- the line that reports a damaged Packages.db
 unfoldable pub damage_line : Damage → List ℕ
 damage_line damage =
     concat (codes "rpm: Packages.db is damaged at byte " ∷ decimal damage.offset ∷ codes ": " ∷ reason_text damage.reason ∷ codes "\n" ∷ [])
@@ -52,6 +55,7 @@ damage_line damage =
 unfoldable pub log_line : ℕ → List ℕ
 log_line unit = concat (codes "rpm: Hlog.db is damaged at byte " ∷ decimal (16 * unit) ∷ codes "\n" ∷ [])
 
+-- the line that reports a damaged Hindex.db, by the unit of the fault
 unfoldable pub index_line : ℕ → List ℕ
 index_line unit = concat (codes "rpm: Hindex.db is damaged at byte " ∷ decimal (16 * unit) ∷ codes "\n" ∷ [])
 

@@ -13,6 +13,7 @@ use Rattle.rpm_tool.specs.Labels.{label}
 
 -- ---- its lines
 
+-- a word where two files differ, else nothing
 abbrev pub if_differs : Bool → List ℕ → List ℕ
 if_differs true word = word
 if_differs false word = []
@@ -27,6 +28,7 @@ conflict_line first second c =
 abbrev pub unread_step : ℕ → Step
 unread_step n = ToErr (whole 0) (bad_line n)
 
+-- a conflict of two files, as a line with the labels of both packages
 abbrev pub conflict_step : (ℕ → List ℕ) → Conflict → Step
 conflict_step labels c = ToOut (whole 0) (conflict_line (labels c.first) (labels c.second) c)
 
@@ -40,8 +42,10 @@ check_files packages = before (together (map fails (report_steps (label packages
 
 -- ---- the same of a report
 
+-- the label that a report has for a package, empty where it has none
 abbrev pub label_told : Report → ℕ → List ℕ
 label_told r n = unwrap_or (told_label r n) []
 
+-- the lines of a report of files, from what it was told
 abbrev pub told_steps : Report → List Step
 told_steps r = report_steps (label_told r) r.bad r.conflicts

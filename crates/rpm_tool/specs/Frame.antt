@@ -38,27 +38,35 @@ module _ {D : Type 0} (d : disk.Ghosts D) where
   abbrev pub pkg_read : D → ℕ
   pkg_read it = d.bytes_read it Pkg
 
+  -- at most so many bytes of a file were read, and nothing else happened
   abbrev pub Looks : File → ℕ → D → D → Type 0
   Looks = looks.Looks d.tells d.files d.left_since d.moment d.bytes_read d.follows
 
+  -- one file was read, and nothing else happened
   abbrev pub LooksAt : File → D → D → Type 0
   LooksAt = looks.LooksAt d.tells d.files d.left_since d.moment d.bytes_read d.follows
 
+  -- files, images and moment stay, the log isn't read, and without an index it isn't read either
   abbrev pub Peeks : Bool → D → D → Type 0
   Peeks = reads.Peeks d.tells d.files d.left_since d.moment d.bytes_read d.follows
 
+  -- files, images and moment stay, and the log isn't read
   abbrev pub Glances : D → D → Type 0
   Glances = check.Glances d.tells d.files d.left_since d.moment d.bytes_read d.follows
 
+  -- a command that writes nothing leaves files, images and moment
   abbrev pub Leaves : D → D → Type 0
   Leaves = tool.Leaves d.tells d.files d.left_since d.moment d.bytes_read d.follows
 
+  -- the files, and what a crash leaves, came of those before as a relation says
   abbrev pub Runs : (Files → Files → Type 0) → D → D → Type 0
   Runs = runs.Runs d.tells d.files d.left_since d.moment d.bytes_read d.follows
 
+  -- one file alone changed, as a relation says, and so many bytes of it were read at most
   abbrev pub Changes : File → (Units → Units → Type 0) → ℕ → D → D → Type 0
   Changes = outside.Changes d.tells d.files d.left_since d.moment d.bytes_read d.follows
 
+  -- a crash since then leaves files of which this holds
   abbrev pub LeavesIn : D → D → (Files → Type 0) → Type 0
   LeavesIn = crash.LeavesOnly d.moment d.left_since
 
@@ -66,40 +74,51 @@ module _ {D : Type 0} (d : disk.Ghosts D) where
   abbrev pub DiskFault : Type 0 → D → D → Type 0
   DiskFault what old new = causes.HasCauseAt what (d.faults old) (d.faults new)
 
+  -- a fault of the disk is answered only where its count of faults rose
   abbrev pub DiskCause : {T E : Type 0} → Result T E → D → D → Type 0
   DiskCause result old new = causes.HasCause (d.faults old) (d.faults new) result
 
   -- ---- a database on it
 
+  -- the value of a database is that of Packages.db as it reads
   abbrev pub Kept : D → Database → Type 0
   Kept it db = IsTrue d.tells → database.Keeps (d.files it).pkg db
 
+  -- the value of a database is that of Hindex.db as it reads
   abbrev pub KeptIndex : D → Database → Type 0
   KeptIndex it db = IsTrue d.tells → database.KeepsIndex (d.files it).idx db
 
+  -- the value of a database serves the files as they read
   abbrev pub Serving : D → Database → Type 0
   Serving it db = IsTrue d.tells → IsServing (d.files it) (images it) db
 
+  -- a database has an index, and it is that of its packages
   abbrev pub Indexed : D → Database → Type 0
   Indexed it db = database.IsIndexed (d.files it).pkg (d.files it).idx db
 
+  -- the index of a database is current and has the rows of its packages
   abbrev pub HasRows : D → Database → Type 0
   HasRows it db = HasIndexRows db (d.files it).pkg (d.files it).idx
 
+  -- after an answer without a fault the database stands for the files as they are now
   abbrev pub Carried : {T E : Type 0} → Result T E → D → D → Database → Database → Type 0
   Carried result old new before after = IfOk result (λ _tally. IsCarried d.tells (d.files old) (d.files new) (images new) before after)
 
+  -- the state that a database stands for on this disk
   abbrev pub state_in : D → Database → State
   state_in it db = state (d.files it).pkg db.store
 
+  -- the packages that a database stands for on this disk
   abbrev pub packages_in : D → Database → FinMap nat_cmp Package
   packages_in it db = packages (d.files it).pkg db.store
 
 -- ---- a shelf and the sinks
 
+-- what an answer blames on the shelf comes only where its count of faults rose
 abbrev pub ShelfFault : {S : Type 0} → shelf.Ghosts S → Type 0 → S → S → Type 0
 ShelfFault s what old new = causes.HasCauseAt what (s.faults old) (s.faults new)
 
+-- what both sinks took
 abbrev pub outs : {O E : Type 0} → sink.Ghosts O → sink.Ghosts E → O → E → Outputs
 outs o e out err = outputs o.tells (o.taken out) e.tells (e.taken err)
 

@@ -26,6 +26,7 @@ abbrev pub course_of : Paths → ℕ → List (List ℕ) → Option (AskParts ×
 course_of paths now words None s = idle
 course_of paths now words (Some asked) s = if is_changing asked.0 then asked_course paths now words asked.0 s else idle
 
+-- the state after a command line whose changes were all made
 abbrev pub made_by : Paths → ℕ → List (List ℕ) → State → State
 made_by paths now words s = after (course_of paths now words (asks words)) s
 
@@ -44,6 +45,7 @@ pub record RunCall : Type 0 where
   pub moment : ℕ
   pub outcome : Outcome
 
+-- the calls of run for a list of lines, each with its outcome
 abbrev pub calls_of : List Line → List Outcome → List RunCall
 calls_of lines [] = []
 calls_of [] (outcome ∷ outcomes) = []
@@ -68,6 +70,7 @@ abbrev pub uses_in : List (List ℕ) → Option (AskParts × Tree) → Bool
 uses_in words None = false
 uses_in words (Some asked) = of_files asked.0 || reads_shelf (asked_task words asked.0)
 
+-- whether a command line reads from the shelf
 abbrev pub uses_shelf : List (List ℕ) → Bool
 uses_shelf words = uses_in words (asks words)
 
@@ -75,6 +78,7 @@ uses_shelf words = uses_in words (asks words)
 abbrev pub TellsLines : Bool → List Line → Type 0
 TellsLines tells lines = AllByRecursion (λ line. uses_shelf line.words.now ≡ true → IsTrue tells) lines
 
+-- the shelf tells its contents wherever a line reads from it
 abbrev pub TellsCalls : Bool → List RunCall → Type 0
 TellsCalls tells calls = AllByRecursion (λ call. uses_shelf call.words ≡ true → IsTrue tells) calls
 

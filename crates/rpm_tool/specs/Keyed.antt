@@ -117,6 +117,7 @@ CauseBy inquiry.Query chosen texts idx given = IsOfChains chosen texts idx given
 CauseBy inquiry.Unmet chosen texts idx given = IsOfSome idx given
 CauseBy inquiry.Order chosen texts idx given = IsOfSome idx given
 
+-- a question by key blames the index only for a chain that it asks
 abbrev pub CauseIs : List (List ℕ) → AskParts → Units → Why → Type 0
 CauseIs words a idx given = CauseBy (inquiry_of a.mode) a.chosen (map (text_at words) a.arguments) idx given
 
@@ -151,6 +152,7 @@ abbrev pub keyed_to : Files → List (List ℕ) → AskParts → Store → Beare
 keyed_to files words a s for =
     opening_cost files.pkg + making_cost files.idx (store files.pkg) + reached_by (keyed_reaches files.pkg s words a) (unindexed s) for
 
+-- the bytes of blocks that a question by key may read, none of a damaged store
 abbrev pub asked_cost : Units → Result Store Damage → List (List ℕ) → AskParts → ℕ
 asked_cost file (Ok s) words a = reach_sum (keyed_reaches file s words a) (unindexed s)
 asked_cost file (Err damage) words a = 0
@@ -177,6 +179,7 @@ abbrev pub DidByKey : Tree → List (List ℕ) → AskParts → Files → ℕ �
 DidByKey tree words a r before now s given old new =
     DoesBy (inquiry_of a.mode) tree words a (packages r.pkg s) (λ for. now ≤ before + keyed_to r words a s for) given old new
 
+-- what a question by key prints, reports and reads
 abbrev pub KeyedIs : Tree → List (List ℕ) → AskParts → Files → Why → Outputs → Outputs → ℕ → ℕ → Type 0
 KeyedIs tree words a files given old new before now =
     let r = reopened files in
@@ -197,6 +200,7 @@ pub record AnswersByKey {D : Type 0} (files : D → Files) (left_since : D → �
 
 -- ---- recovering
 
+-- the answer of a command for each fault of recovery
 abbrev pub why_of_recover : RecoverFault → Why
 why_of_recover (recover.BadLog unit) = why.BadLog unit
 why_of_recover recover.DiskFault = why.DiskFault

@@ -11,10 +11,12 @@ use Rattle.rpm_db.specs.State.{Package}
 use Rattle.rpm_change.specs.Steps.{out_bytes}
 use Rattle.rpm_tool.specs.Queries.{header_step, step_of}
 
+-- the format that was read, else the empty one
 abbrev pub tree_in : Result Tree FormatFault → Tree
 tree_in (Ok tree) = tree
 tree_in (Err fault) = End
 
+-- the format of a label
 unfoldable pub label_tree : Tree
 label_tree = tree_in (format (codes "%{NVRA}"))
 
@@ -27,5 +29,6 @@ abbrev pub label_in : ℕ → Option Package → List ℕ
 label_in n None = []
 label_in n (Some p) = out_bytes (step_of label_tree 0 (n, p))
 
+-- the label of a package, by its number
 abbrev pub label : FinMap nat_cmp Package → ℕ → List ℕ
 label packages n = label_in n (get packages n)

@@ -79,6 +79,7 @@ pub record ToldAll (anew : Bool) (Lawful : Type 0) (course : State → Course) (
   pub told : Says (λ s. Through (course s).steps before now) files.pkg
   pub limits : LimitsBy anew Lawful course files why.Done
 
+-- with a fault of the disk nothing changed, or all lines were printed and no limit was met
 abbrev pub FaultIs : {D : Type 0} → Bool → (D → Files) → (D → ℕ → Files → Type 0) → (D → ℕ) → (State → Course) → Why → D → D → Outputs → Outputs → Type 0
 FaultIs anew files left_since moment course given old new before now = given ≡ why.DiskFault
     → StoodStill files left_since moment old new ⊎ ToldAll anew (IsLawfulGroup (files old)) course (reopened (files old)) before now

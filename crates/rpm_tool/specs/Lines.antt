@@ -32,6 +32,7 @@ pub record Between (D : Type 0) : Type 0 where
   pub out_faults : ℕ
   pub err_faults : ℕ
 
+-- a moment between two command lines
 abbrev pub between : {D : Type 0} → D → List ℕ → Outputs → ℕ → ℕ → ℕ → Between D
 between disk given taken shelf_faults out_faults err_faults =
     record { disk = disk; given = given; taken = taken; shelf_faults = shelf_faults; out_faults = out_faults; err_faults = err_faults }

@@ -17,6 +17,7 @@ abbrev pub read_part : Tree → ℕ → List ℕ → Result Headed FileFault →
 read_part tree j path (Ok found) = told (printed (bearer j 0) (meaning found.header 0 tree) ∷ [])
 read_part tree j path (Err fault) = fails (ToErr (whole j) (refused_line path fault))
 
+-- what is printed of a package file, a line where it isn't there
 abbrev pub found_part : Tree → ℕ → List ℕ → Option (List ℕ) → Portion
 found_part tree j path None = fails (ToErr (whole j) (absent_line path))
 found_part tree j path (Some bytes) = read_part tree j path (package_header bytes)

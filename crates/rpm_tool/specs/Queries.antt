@@ -34,6 +34,7 @@ bad_line n = codes "error: package " ++ decimal n ++ codes ": header cannot be r
 unfoldable pub sizes_line : List ℕ
 sizes_line = codes "error: incorrect format: array iterator used with different sized arrays\n"
 
+-- the line that reports a package whose header is bad
 abbrev pub bad_step : ℕ → ℕ → Step
 bad_step j n = ToErr (bearer j n) (bad_line n)
 
@@ -42,6 +43,7 @@ abbrev pub printed : Bearer → Result (List ℕ) (ℕ × ℕ) → Step
 printed for (Ok bytes) = ToOut for bytes
 printed for (Err counts) = ToErr for sizes_line
 
+-- a header in the format that was asked, or the line that reports it
 abbrev pub header_step : Tree → ℕ → ℕ → Result Header HeaderFault → Step
 header_step tree j n (Ok h) = printed (bearer j n) (meaning h n tree)
 header_step tree j n (Err fault) = bad_step j n
@@ -61,6 +63,7 @@ packages_part step after packages = told (map step (above after packages))
 abbrev pub lent : List ℕ → Bor (List ℕ)
 lent text = record { ref_ptr = (0, 0); now = text }
 
+-- the selection by a capability, where the argument is one
 abbrev pub capability_in : (CapabilityParts → Selection) → Result CapabilityParts BadCapability → Option Selection
 capability_in of (Ok c) = Some (of c)
 capability_in of (Err bad) = None
@@ -90,6 +93,7 @@ is_question chosen text = is_some (question_of chosen (lent text))
 abbrev pub AreQuestions : List (List ℕ) → AskParts → Type 0
 AreQuestions words a = AllByRecursion (λ w. is_question a.chosen (text_at words w) ≡ true) a.arguments
 
+-- the packages that a selection picks, none where there is no selection
 abbrev pub picked_by : FinMap nat_cmp Package → Option Selection → List (ℕ × Package)
 picked_by packages None = []
 picked_by packages (Some sel) = picks packages sel
@@ -98,9 +102,11 @@ picked_by packages (Some sel) = picks packages sel
 unfoldable pub picked : FinMap nat_cmp Package → Chosen → List ℕ → List (ℕ × Package)
 picked packages chosen text = picked_by packages (question_of chosen (lent text))
 
+-- an argument that picks nothing, as a line on standard output
 abbrev pub missing : ℕ → List ℕ → List ℕ → List ℕ → Portion
 missing j front text back = fails (ToOut (whole j) (concat (front ∷ text ∷ back ∷ [])))
 
+-- a record that isn't there, as a line on standard error
 abbrev pub missing_record : ℕ → List ℕ → Portion
 missing_record j text = fails (ToErr (whole j) (concat (codes "error: record " ∷ text ∷ codes " could not be read\n" ∷ [])))
 
@@ -126,6 +132,7 @@ abbrev pub answered : Tree → Chosen → ℕ → ℕ → List ℕ → List (ℕ
 answered tree chosen after j text [] = missing_part chosen j text
 answered tree chosen after j text (e ∷ es) = packages_part (step_of tree j) after (e ∷ es)
 
+-- what is printed for one argument of a question
 abbrev pub argument_part : Tree → FinMap nat_cmp Package → Chosen → ℕ → ℕ → List ℕ → Portion
 argument_part tree packages chosen after j text = answered tree chosen after j text (picked packages chosen text)
 

@@ -46,6 +46,7 @@ abbrev pub reach_of : Bool → FinMap nat_cmp Package → Option Selection → R
 reach_of indexed packages None = These []
 reach_of indexed packages (Some sel) = reach (has_keys sel && indexed) sel packages
 
+-- what of the database an argument makes a question read
 unfoldable pub argument_reach : Bool → FinMap nat_cmp Package → Chosen → List ℕ → Reach
 argument_reach indexed packages chosen text = reach_of indexed packages (question_of chosen (lent text))
 
@@ -65,6 +66,7 @@ reach_before [] db j = 0
 reach_before (r ∷ rs) db zero = 0
 reach_before (r ∷ rs) db (suc j) = reach_all r db + reach_before rs db j
 
+-- the bytes that are read up to a package, none where nothing is reached
 abbrev pub reached_in : Option Reach → Database → Option ℕ → ℕ
 reached_in None db number = 0
 reached_in (Some r) db number = reached r db number

@@ -40,9 +40,11 @@ step_by way.Export j e = exported j e
 abbrev pub export : FinMap nat_cmp Package → Course
 export packages = before (packages_part (exported 0) 0 (picks packages question.All)) idle
 
+-- what verifying says of a package, as a line
 unfoldable pub verdict_line : ℕ → List ℕ → List ℕ
 verdict_line n text = concat (codes "package " ∷ decimal n ∷ codes ": " ∷ text ∷ codes "\n" ∷ [])
 
+-- a package that fails the check, as a line
 abbrev pub unsound : ℕ → List ℕ → Portion
 unsound n text = fails (ToOut (bearer 0 n) (verdict_line n text))
 
@@ -68,6 +70,7 @@ verify file store = before (together (map (entry_verdict file store) (entries (p
 
 -- ---- the commands that open the database without its index
 
+-- what a command that reads all packages prints, by its mode
 abbrev pub course_by : Deed → Tree → Units → Store → List (List ℕ) → AskParts → Course
 course_by deed.Print tree file store words a = query tree (packages file store) words a
 course_by deed.Export tree file store words a = export (packages file store)

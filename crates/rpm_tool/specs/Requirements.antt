@@ -32,6 +32,7 @@ use Rattle.rpm_tool.specs.Answers.{PartIs, Reached, Anywhere, is_some_of, why_of
 
 -- ---- what is said of a package
 
+-- a text of a header, empty where the header is bad
 abbrev pub read_text : (Header → List ℕ) → Result Header HeaderFault → List ℕ
 read_text text (Ok h) = text h
 read_text text (Err fault) = []
@@ -67,9 +68,11 @@ bad_parts packages = together (map bad_part (entries packages))
 abbrev pub range_text : ℕ → List ℕ → List ℕ
 range_text flags version = if is_open flags version then [] else concat (codes " " ∷ letters depflags flags ∷ codes " " ∷ version ∷ [])
 
+-- a requirement that nothing meets, as a line behind the package's label
 unfoldable pub unmet_line : List ℕ → Needed → List ℕ
 unmet_line label need = concat (label ∷ codes ": unsatisfied: " ∷ need.name ∷ range_text need.flags need.version ∷ codes "\n" ∷ [])
 
+-- the line of a requirement, none where there is none at that place
 abbrev pub line_of : List ℕ → Option Needed → List ℕ
 line_of label None = []
 line_of label (Some need) = unmet_line label need
@@ -78,6 +81,7 @@ line_of label (Some need) = unmet_line label need
 abbrev pub unmet_text : ℕ → ℕ → Header → List ℕ
 unmet_text place n h = line_of (header_label n h) (slice_get (required h) place)
 
+-- a requirement that nothing meets, as a step for its package
 abbrev pub unmet_step : FinMap nat_cmp Package → Unmet → Step
 unmet_step packages u = ToOut (bearer 0 u.number) (package_text (unmet_text u.place u.number) (get packages u.number))
 
@@ -89,14 +93,17 @@ unmet_part packages = record { steps = map (unmet_step packages) (unmet packages
 abbrev pub unsatisfied_part : FinMap nat_cmp Package → Portion
 unsatisfied_part packages = behind (bad_parts packages) (unmet_part packages)
 
+-- what the report of unmet requirements prints
 abbrev pub unsatisfied : FinMap nat_cmp Package → Course
 unsatisfied packages = before (unsatisfied_part packages) idle
 
 -- ---- an order of installation
 
+-- the label of a package, as a line of its own
 abbrev pub label_text : List ℕ → ℕ → Header → List ℕ
 label_text indent n h = concat (indent ∷ header_label n h ∷ codes "\n" ∷ [])
 
+-- the label of a package, as a step for it
 abbrev pub label_step : FinMap nat_cmp Package → List ℕ → ℕ → Step
 label_step packages indent n = ToOut (bearer 0 n) (package_text (label_text indent n) (get packages n))
 
@@ -114,9 +121,11 @@ class_steps packages class =
 abbrev pub classes_part : FinMap nat_cmp Package → List (List ℕ) → Portion
 classes_part packages classes = record { steps = flat_map (class_steps packages) classes; fails = false }
 
+-- the bad packages, then the classes in their order
 abbrev pub order_part : FinMap nat_cmp Package → List (List ℕ) → Portion
 order_part packages classes = behind (bad_parts packages) (classes_part packages classes)
 
+-- what the report of the order of installation prints
 abbrev pub ordering : FinMap nat_cmp Package → List (List ℕ) → Course
 ordering packages classes = before (order_part packages classes) idle
 
@@ -142,6 +151,7 @@ abbrev pub IsOfSome : Units → Why → Type 0
 IsOfSome idx (why.BadIndex unit) = IsFaultOfSome idx unit
 IsOfSome idx others = Unit {0}
 
+-- a question stops at the index only for a fault that some chain has
 abbrev pub StopsOfSome : Units → Stop → Type 0
 StopsOfSome idx (stop.BadIndex unit) = IsFaultOfSome idx unit
 StopsOfSome idx others = Unit {0}

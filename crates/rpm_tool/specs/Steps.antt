@@ -4,6 +4,7 @@ use Rattle.std.specs.Prelude.{ℕ, ◌+◌, ◌<◌, List, [], ◌∷◌, ◌++�
 use Rattle.std.specs.List.{list_any, flat_map}
 use Rattle.rpm_change.specs.Steps.{Bearer, Step, ToOut, ToErr, is_out, Course, idle}
 
+-- a number in front of others, where there is one
 abbrev pub with_number : Option ℕ → List ℕ → List ℕ
 with_number None ns = ns
 with_number (Some n) ns = n ∷ ns
@@ -13,6 +14,7 @@ abbrev pub step_to : Bool → Bearer → List ℕ → Step
 step_to true for bytes = ToOut for bytes
 step_to false for bytes = ToErr for bytes
 
+-- for which argument and package a step is
 abbrev pub bearer_of : Step → Bearer
 bearer_of (ToOut for bytes) = for
 bearer_of (ToErr for bytes) = for
@@ -32,6 +34,7 @@ pub record Portion : Type 0 where
   pub steps : List Step
   pub fails : Bool
 
+-- no step, and nothing fails
 abbrev pub nothing : Portion
 nothing = record { steps = []; fails = false }
 
@@ -39,6 +42,7 @@ nothing = record { steps = []; fails = false }
 abbrev pub fails : Step → Portion
 fails s = record { steps = s ∷ []; fails = true }
 
+-- whether a step goes to standard error
 abbrev pub is_bad : Step → Bool
 is_bad s = not (is_out s)
 

@@ -47,6 +47,7 @@ pub record Run {D S : Type 0} (d : disk.Ghosts D) (s : shelf.Ghosts S) : Type 0 
   pub shelf_left : S
   pub before : Outputs
 
+-- what one call of run did, as one record
 abbrev pub ran : {D S : Type 0} (d : disk.Ghosts D) (s : shelf.Ghosts S)
     → List (List ℕ) → ℕ → Why → ℕ → D × S → Outputs → D × S → Run d s
 ran d s words now why changes old before new =

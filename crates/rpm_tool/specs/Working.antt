@@ -46,12 +46,14 @@ OpensBy old (Ok s) new result = OpensIn (must_make old.idx (Ok s)) (units_needed
 OpensBy old (Err damage) new (Ok db) = ⊥
 OpensBy old (Err damage) new (Err given) = Refused damage given
 
+-- the answer of a command for each fault of opening
 abbrev pub why_of_open : DbOpenFault → Why
 why_of_open (opening.Damaged damage) = why.Damaged damage
 why_of_open (opening.IndexFull needed) = why.IndexFull needed
 why_of_open opening.DiskFault = why.DiskFault
 why_of_open opening.NoMemory = why.NoMemory
 
+-- the answer of a command for each cause that stops a change
 abbrev pub why_of_halt : Halt → Why
 why_of_halt halt.NumbersSpent = why.NumbersSpent
 why_of_halt halt.GenerationSpent = why.GenerationSpent
@@ -64,6 +66,7 @@ why_of_halt halt.OutFault = why.OutFault
 why_of_halt halt.ErrFault = why.ErrFault
 why_of_halt halt.NoMemory = why.NoMemory
 
+-- the answer of a command for each fault of the exercise
 abbrev pub why_of_exercise : ExerciseFault → Why
 why_of_exercise (NotEmpty held) = why.NotEmpty held
 why_of_exercise (Halted halt) = why_of_halt halt
@@ -103,6 +106,7 @@ abbrev pub WorkedOn : Course → State → Files → Result Tally Why → Output
 WorkedOn course s new (Ok tally) before now = (value : Store) × (store new.pkg ≡ Ok value) × Done course s (state new.pkg value) tally before now
 WorkedOn course s new (Err given) before now = Stopped course given before now
 
+-- a damaged store is reported, on any other the course was worked as far as it was
 abbrev pub WorkedBy : (State → Course) → Units → Result Store Damage → Files → Result Tally Why → Outputs → Outputs → Type 0
 WorkedBy course pkg (Ok s) new ended before now = WorkedOn (course (state pkg s)) (state pkg s) new ended before now
 WorkedBy course pkg (Err damage) new (Ok tally) before now = ⊥
@@ -112,6 +116,7 @@ WorkedBy course pkg (Err damage) new (Err given) before now = Refused damage giv
 abbrev pub done_why : ℕ → Why
 done_why n = if n == 0 then why.Done else why.Failed n
 
+-- the answer of a command that changes, from how its work ended
 abbrev pub why_of : Result Tally Why → Why
 why_of (Ok tally) = done_why tally.failed
 why_of (Err given) = given
