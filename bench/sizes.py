@@ -2,8 +2,9 @@
 """What the documents say of the size of the tree: bench/sizes.py [--write | --check]
 
 Prints the table of docs/FIGURES.md that has the lines, clauses, must-fail edits, tests and worked rows of each crate, and the sentence of
-README.md that sums it up. --write puts both into the documents, --check fails where they aren't current. Lines are all lines of a file; clauses
-are those of functions, as bench/clauses.py reads them. What crates of tests and rows have in src/ isn't counted as code.
+README.md that sums it up. --write puts both into the documents, --check fails where they aren't current. Code and contracts are lines that are
+neither blank nor comments; what a ghost use brings belongs to contracts. Of the rest all lines of a file count. Clauses are those of functions,
+as bench/clauses.py reads them. What crates of tests and rows have in src/ isn't counted as code.
 """
 import re
 import sys
@@ -13,16 +14,32 @@ from clauses import read_source, read_tree
 from definitions import TOP, crates
 
 
-HEAD = ("| Crate | Code | Clauses | Definitions, laws (`specs/`) | Proofs | Must-fail edits | Tests | Worked rows | Lines of tests and rows |\n"
-        "|---|---|---|---|---|---|---|---|---|\n")
+HEAD = ("| Crate | Code | Contracts | Clauses | Definitions, laws (`specs/`) | Proofs | Must-fail edits | Tests | Worked rows | Lines of tests and rows |\n"
+        "|---|---|---|---|---|---|---|---|---|---|\n")
 TABLE = re.compile(r"\| Crate \| Code \|.*?\n\| in all \|[^\n]*\n", re.S)
 SENTENCE = re.compile(r"The tree has [\d,]+ crates\b[^.]*\.")
-COUNTS = ("code", "clauses", "specs", "proofs", "edits", "tests", "rows", "tried")
+COUNTS = ("code", "contracts", "clauses", "specs", "proofs", "edits", "tests", "rows", "tried")
 
 
 def lines_below(folder, ending):
     """The lines of all files below a folder with this ending."""
     return [line for path in sorted(folder.rglob("*" + ending)) for line in path.read_text(encoding="utf-8").splitlines()]
+
+
+def split_up(lines):
+    """How many of these lines are code, and how many are contracts: requires and ensures to their closing brace, and ghost use."""
+    code, contracts, depth = 0, 0, 0
+    for line in (line.strip() for line in lines):
+        if not line or line.startswith("//"):
+            continue
+        if depth or re.match(r"(requires|ensures)\b", line):
+            depth += line.count("{") - line.count("}")
+            contracts += 1
+        elif line.startswith("ghost use"):
+            contracts += 1
+        else:
+            code += 1
+    return code, contracts
 
 
 def row_of(name):
@@ -31,8 +48,10 @@ def row_of(name):
     source, data = lines_below(folder / "src", ".rt"), lines_below(folder / "data", ".rows")
     is_code = not name.endswith("_tests") and name != "rpm_rows"
     items = read_tree(TOP, [name], "src", ".rt", read_source).values()
+    code, contracts = split_up(source) if is_code else (0, 0)
     return {
-        "code": len(source) if is_code else 0,
+        "code": code,
+        "contracts": contracts,
         "clauses": sum(not key.startswith("ghost") for item in items for key in item.clauses) if is_code else 0,
         "specs": len(lines_below(folder / "specs", ".antt")),
         "proofs": len(lines_below(folder / "proofs", ".antt")),
@@ -48,8 +67,8 @@ def counted():
     rows = [(f"`{name}`", row_of(name)) for name in crates()]
     total = {key: sum(row[key] for _, row in rows) for key in COUNTS}
     table = HEAD + "".join(f"| {name} | " + " | ".join(f"{row[key]:,}" for key in COUNTS) + " |\n" for name, row in rows + [("in all", total)])
-    sentence = (f"The tree has {len(rows)} crates: {total['code']:,} lines of code with {total['clauses']:,} clauses, {total['specs']:,} lines of definitions and laws,\n"
-                f"{total['proofs']:,} of proofs, {total['edits']:,} must-fail edits, {total['tests']:,} tests and {total['rows']:,} worked rows.")
+    sentence = (f"The tree has {len(rows)} crates: {total['code']:,} lines of code, {total['contracts']:,} of contracts with {total['clauses']:,} clauses,\n"
+                f"{total['specs']:,} of definitions and laws, {total['proofs']:,} of proofs, {total['edits']:,} must-fail edits, {total['tests']:,} tests and {total['rows']:,} worked rows.")
     return table, sentence
 
 
