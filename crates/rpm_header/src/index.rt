@@ -121,6 +121,7 @@ fn element_fault(
 }
 
 /// The fault of entry i as any entry may have it, over the whole data.
+#[inline(always)]
 fn form_fault(
     form: Option<Form>,
     i: u32,
