@@ -18,7 +18,7 @@ use Rattle.rpm_pkgdb.specs.Quiet.{SameBlocks}
 -- ---- files
 
 pub outside_refl : (at n : ℕ) (a : Units) → SameOutside at n a a
-outside_refl at n a = record { below = λ i lt. refl; above = λ i le. refl; no_shorter = omega arith }
+outside_refl at n a = record { below = λ i lt. refl; above = λ i le. refl; no_shorter = omega arith; no_longer = omega arith }
 
 pub outside_then : (at n : ℕ) (a b c : Units) → SameOutside at n a b → SameOutside at n b c → SameOutside at n a c
 outside_then at n a b c one two =
@@ -27,18 +27,25 @@ outside_then at n a b c one two =
       above = λ i le. two.above i le
           ∙ one.above i le;
       no_shorter = omega (arith, one.no_shorter, two.no_shorter);
+      no_longer = omega (arith, one.no_longer, two.no_longer);
     }
 
 -- a range that lies in another
 pub outside_wider : (at n from m : ℕ) (a b : Units) → from ≤ at → at + n ≤ from + m → SameOutside at n a b → SameOutside from m a b
 outside_wider at n from m a b first last same =
-    record { below = λ i lt. same.below i (omega arith); above = λ i le. same.above i (omega arith); no_shorter = same.no_shorter }
+    record {
+      below = λ i lt. same.below i (omega arith);
+      above = λ i le. same.above i (omega arith);
+      no_shorter = same.no_shorter;
+      no_longer = omega (arith, same.no_longer);
+    }
 
 pub torn_outside : (at : ℕ) (units a b : Units) → Torn at units a b → SameOutside at (length units) a b
 torn_outside at units a b torn = record {
   below = λ i lt. elim (torn.each i) [ inl same ↦ same | inr new ↦ new ∙ put_before at units a i lt ];
   above = λ i le. elim (torn.each i) [ inl same ↦ same | inr new ↦ new ∙ put_after at units a i le ];
   no_shorter = torn.no_shorter;
+  no_longer = omega (arith, torn.no_longer, length-put at units a);
 }
 
 -- a unit that lies in the file is written whole or not at all

@@ -73,7 +73,7 @@ module _ (v : Store) (plan : Plan) (is : IsPlan v plan) (made : 1 ≤ v.pages) w
   far_used s pages some behind = let far : s.offset ≢ 0 = omega arith in grind (arith, nat_tests)
 
   -- a used slot at the plan's place is the one that is replaced
-  at_place : (old : Slot) → (plan.target.is_new ≡ false → old ≡ slot_at v.slots plan.target.place) → is_used (slot_at after.slots plan.target.place) ≡ true
+  pub at_place : (old : Slot) → (plan.target.is_new ≡ false → old ≡ slot_at v.slots plan.target.place) → is_used (slot_at after.slots plan.target.place) ≡ true
       → slot_at after.slots plan.target.place ≡ old
   at_place old held used = elim (cases_Bool plan.target.is_new) [
     | inl new ↦ absurd (let unused = (is.target.new new).1.unused in let e : true ≡ false = sym used ∙ unused in cc)

@@ -31,7 +31,12 @@ number_le (s ∷ ss) zero used = let e : (if is_used s then s.number else 0) ≡
 number_le (s ∷ ss) (suc k) used = let rest = number_le ss k used in omega arith
 
 nothing_outside : (at : ℕ) (a b : Units) → SameOutside 0 0 a b → SameOutside at 0 a b
-nothing_outside at a b same = record { below = λ i lt. same.above i (omega arith); above = λ i le. same.above i (omega arith); no_shorter = same.no_shorter }
+nothing_outside at a b same = record {
+  below = λ i lt. same.above i (omega arith);
+  above = λ i le. same.above i (omega arith);
+  no_shorter = same.no_shorter;
+  no_longer = omega (arith, same.no_longer);
+}
 
 -- ---- the slot of a target
 
@@ -118,6 +123,7 @@ module _ (st : Store) (target : Target) (g : ℕ) (old : Slot) (blob : List ℕ)
             λ i le. ap (λ (u : Units). unit_at u i) written.blocks
             ∙ put_after target.start us file i (omega (arith, le, us_count, ap blocks_for can.length_is));
         no_shorter = omega (arith, ap length written.blocks, length-put target.start us file);
+        no_longer = omega (arith, ap length written.blocks, length-put target.start us file, us_count, ap blocks_for can.length_is);
       } in
       let low : 2 ≤ target.start = omega (arith, can.made, can.target_is.start.from_on) in
       record {

@@ -1,15 +1,16 @@
 -- What a change leaves: the units outside a range, and the blocks of the other packages, the same bytes wherever they stand.
-use Rattle.std.specs.Prelude.{◌≡◌, ◌≢◌, ℕ, ◌+◌, ◌<◌, ◌≤◌, length, take, drop, Option}
+use Rattle.std.specs.Prelude.{◌≡◌, ◌≢◌, ℕ, ◌+◌, ◌<◌, ◌≤◌, max, length, take, drop, Option}
 use Rattle.std.specs.Option.{option_map}
 use Rattle.rpm_outside.specs.Files.{Units, unit_at}
 use Rattle.rpm_pkgdb.specs.Slots.{slot_with}
 use Rattle.rpm_pkgdb.specs.Store.{Store}
 
--- the units outside a range are as before, and the file didn't get shorter
+-- the units outside a range are as before; the file didn't get shorter, and ends where it did or by the end of the range
 pub record SameOutside (at n : ℕ) (old new : Units) : Type 0 where
   pub below : (i : ℕ) → i < at → unit_at new i ≡ unit_at old i
   pub above : (i : ℕ) → at + n ≤ i → unit_at new i ≡ unit_at old i
   pub no_shorter : length old ≤ length new
+  pub no_longer : length new ≤ max (length old) (at + n)
 
 -- the units in the blocks of a number's slot; None where no slot has the number
 abbrev pub blocks_with : ℕ → Store → Units → Option Units

@@ -13,3 +13,4 @@ pub mod Puts
 pub mod Ready
 pub mod Pages
 pub mod Weights
+pub mod Within

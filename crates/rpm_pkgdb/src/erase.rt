@@ -1,6 +1,6 @@
 //! Erasing a package.
 
-ghost use Rattle.std.specs.Prelude.{◌≡◌, ℕ, IsTrue, IsSome, false, OnOk, OnErr};
+ghost use Rattle.std.specs.Prelude.{◌≡◌, ℕ, ◌≤◌, length, IsTrue, IsSome, false, OnOk, OnErr};
 ghost use Rattle.std.specs.FinMap as finite;
 ghost use Rattle.rpm_outside.specs.declared.disk.File.TheVariants.{Pkg};
 ghost use Rattle.rpm_outside.specs.Files.{Files};
@@ -45,6 +45,7 @@ impl PkgDb {
         ensures quiet { OnOk result (IsTrue D.tells → IsQuiet self.new (D.files disk.new) (D.left_since disk.new (D.moment disk.new))) }
         ensures stands { OnOk result (IsTrue D.tells → (image : Files) → D.left_since disk.new (D.moment disk.new) image → StandsFor
             self.new.generation self.new.field (blobs (D.files disk.new).pkg self.new) image.pkg) }
+        ensures reach { OnOk result (IsTrue D.tells → length (D.files disk.new).pkg ≤ length (D.files disk.old).pkg) }
         ensures changes { Changes D.tells D.files D.left_since D.moment D.bytes_read D.follows Pkg Anything 0 disk.old disk.new }
         ensures cause { HasCause (D.faults disk.old) (D.faults disk.new) result }
     {

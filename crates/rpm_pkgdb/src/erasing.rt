@@ -9,6 +9,7 @@ ghost use Rattle.rpm_pkgdb.specs.Slots.{end_of};
 ghost use Rattle.rpm_pkgdb.specs.Store.{Store, Keeps};
 ghost use Rattle.rpm_outside.specs.Changes.{Changes, Stops};
 ghost use Rattle.rpm_pkgdb.specs.Quiet.{StandsAs, IsQuiet, BeforeOrAfter, HasSlot, with_free, Anything};
+ghost use Rattle.rpm_pkgdb.specs.inner.Within.{EndsBy};
 
 use crate::slot::Slot;
 use crate::units::slot_unit;
@@ -34,6 +35,8 @@ pub fn free_slot<D: Disk>(disk: &mut D, place: u32, slot: Slot) -> Result<(), Fa
         (Stops Pkg (BeforeOrAfter value (with_free place value) (D.files disk.old).pkg) (D.left_since disk.old (D.moment disk.old))) }
     ensures quiet { OnOk result (IsTrue D.tells → (value : Store) → HasSlot value place slot → Keeps (D.files disk.old).pkg value
         → IsQuiet (with_free place value) (D.files disk.new) (D.left_since disk.new (D.moment disk.new))) }
+    ensures reach { OnOk result (IsTrue D.tells → (limit : ℕ) → place + 3 ≤ limit → end_of slot ≤ limit
+        → EndsBy limit (D.files disk.old).pkg (D.files disk.new).pkg) }
     ensures changes { Changes D.tells D.files D.left_since D.moment D.bytes_read D.follows Pkg Anything 0 disk.old disk.new }
     ensures cause { HasCause (D.faults disk.old) (D.faults disk.new) result }
 {

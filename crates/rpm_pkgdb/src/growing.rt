@@ -1,6 +1,6 @@
 //! One slot page more.
 
-ghost use Rattle.std.specs.Prelude.{◌≡◌, ◌+◌, ◌*◌, ◌^◌, ◌≤◌, IsTrue, OnOk, Some};
+ghost use Rattle.std.specs.Prelude.{◌≡◌, ℕ, ◌+◌, ◌*◌, ◌^◌, ◌≤◌, IsTrue, OnOk, Some};
 ghost use Rattle.rpm_outside.specs.declared.disk.File.TheVariants.{Pkg};
 ghost use Rattle.rpm_outside.specs.Files.{Files};
 ghost use Rattle.rpm_outside.specs.Causes.{HasCause};
@@ -15,6 +15,7 @@ ghost use Rattle.rpm_pkgdb.specs.Freed.{AreFreed, KeepsBlank};
 ghost use Rattle.rpm_pkgdb.specs.Planned.{moves_of};
 ghost use Rattle.rpm_pkgdb.specs.inner.MoveLists.{CanGrowBy};
 ghost use Rattle.rpm_pkgdb.specs.inner.Grows.{with_page, CanGrow, HasFreePage};
+ghost use Rattle.rpm_pkgdb.specs.inner.Within.{EndsBy, IsWithin};
 
 use crate::moving::{Move, move_all};
 use crate::page::Page;
@@ -47,6 +48,7 @@ pub fn add_page<D: Disk>(disk: &mut D, generation: u32, pages: u32) -> Result<()
         (Stops Pkg (BeforeOrAfter value (with_page value) (D.files disk.old).pkg) (D.left_since disk.old (D.moment disk.old))) }
     ensures quiet { OnOk result (IsTrue D.tells → (value : Store) → CanGrow value → generation ≡ value.generation → pages ≡ value.pages
         → Keeps (D.files disk.old).pkg value → IsQuiet (with_page value) (D.files disk.new) (D.left_since disk.new (D.moment disk.new))) }
+    ensures reach { OnOk result (IsTrue D.tells → (limit : ℕ) → 256 * (pages + 1) ≤ limit → EndsBy limit (D.files disk.old).pkg (D.files disk.new).pkg) }
     ensures changes { Changes D.tells D.files D.left_since D.moment D.bytes_read D.follows Pkg Anything 0 disk.old disk.new }
     ensures cause { HasCause (D.faults disk.old) (D.faults disk.new) result }
 {
@@ -70,6 +72,8 @@ impl PkgDb {
             (D.left_since disk.old (D.moment disk.old))) }
         ensures quiet { OnOk result (IsTrue D.tells → IsQuiet self.now (D.files disk.old) (D.left_since disk.old (D.moment disk.old))
             → IsQuiet (grown (Some moves.now) self.now) (D.files disk.new) (D.left_since disk.new (D.moment disk.new))) }
+        ensures reach { OnOk result (IsTrue D.tells → (limit : ℕ) → IsWithin limit (grown (Some moves.now) self.now)
+            → EndsBy limit (D.files disk.old).pkg (D.files disk.new).pkg) }
         ensures changes { Changes D.tells D.files D.left_since D.moment D.bytes_read D.follows Pkg Anything
             (moving_cost self.now.slots (Some moves.now)) disk.old disk.new }
         ensures cause { HasCause (D.faults disk.old) (D.faults disk.new) result }
@@ -94,6 +98,8 @@ impl PkgDb {
             (D.left_since disk.old (D.moment disk.old))) }
         ensures quiet { OnOk result (IsTrue D.tells → IsQuiet self.now (D.files disk.old) (D.left_since disk.old (D.moment disk.old))
             → IsQuiet (grown (moves_of page.now) self.now) (D.files disk.new) (D.left_since disk.new (D.moment disk.new))) }
+        ensures reach { OnOk result (IsTrue D.tells → (limit : ℕ) → IsWithin limit (grown (moves_of page.now) self.now)
+            → EndsBy limit (D.files disk.old).pkg (D.files disk.new).pkg) }
         ensures changes { Changes D.tells D.files D.left_since D.moment D.bytes_read D.follows Pkg Anything
             (moving_cost self.now.slots (moves_of page.now)) disk.old disk.new }
         ensures cause { HasCause (D.faults disk.old) (D.faults disk.new) result }

@@ -10,6 +10,7 @@ ghost use Rattle.rpm_pkgdb.specs.Slots.{free};
 ghost use Rattle.rpm_pkgdb.specs.Store.{Store, Keeps, is_blank};
 ghost use Rattle.rpm_pkgdb.specs.Blobs.{blobs};
 ghost use Rattle.rpm_outside.specs.Changes.{Changes, Stops, IsSettled};
+ghost use Rattle.rpm_pkgdb.specs.Reaches.{ReachesTo};
 ghost use Rattle.rpm_pkgdb.specs.Stays.{SameOutside};
 ghost use Rattle.rpm_pkgdb.specs.Quiet.{IsQuiet, Anything, IsFirstPage};
 ghost use Rattle.rpm_pkgdb.specs.Framing.{next_unit};
@@ -85,6 +86,7 @@ impl PkgDb {
         ensures images { IsTrue D.tells → IsQuiet self.old (D.files disk.old) (D.left_since disk.old (D.moment disk.old)) → LeavesOnly D.moment
             D.left_since disk.old disk.new (Stops Pkg MakesTo (D.left_since disk.old (D.moment disk.old))) }
         ensures quiet { OnOk result (IsTrue D.tells → IsQuiet self.new (D.files disk.new) (D.left_since disk.new (D.moment disk.new))) }
+        ensures reach { OnOk result (IsTrue D.tells → ReachesTo self.new (D.files disk.old).pkg (D.files disk.new).pkg) }
         ensures changes { Changes D.tells D.files D.left_since D.moment D.bytes_read D.follows Pkg Anything 0 disk.old disk.new }
         ensures alone { Changes D.tells D.files D.left_since D.moment D.bytes_read D.follows Pkg (SameOutside 0 256) 0 disk.old disk.new }
         ensures cause { HasCause (D.faults disk.old) (D.faults disk.new) result }

@@ -15,6 +15,7 @@ ghost use Rattle.rpm_pkgdb.specs.Quiet.{IsQuiet, StandsFor};
 ghost use Rattle.rpm_pkgdb.specs.inner.Settings.{NoShorter, CanMove, StandsSet, WhileMoved, blocks_of, with_slot};
 ghost use Rattle.rpm_pkgdb.specs.Growing.{moved, moving_cost, next_end};
 ghost use Rattle.rpm_pkgdb.specs.Freed.{AreFreed, KeepsBlank};
+ghost use Rattle.rpm_pkgdb.specs.inner.Within.{EndsBy, MovesWithin};
 
 use crate::copying::copy_blocks;
 use crate::slot::Slot;
@@ -60,6 +61,8 @@ pub fn move_blocks<D: Disk>(
         (Stops Pkg (WhileMoved value place old to (D.files disk.old).pkg) (D.left_since disk.old (D.moment disk.old))) }
     ensures quiet { OnOk result (IsTrue D.tells → (value : Store) → CanMove value place old to → Keeps (D.files disk.old).pkg value
         → IsQuiet (with_slot place (moved old to) value) (D.files disk.new) (D.left_since disk.new (D.moment disk.new))) }
+    ensures reach { OnOk result (IsTrue D.tells → (limit : ℕ) → place + 3 ≤ limit → end_of old ≤ limit → to + old.count ≤ limit
+        → EndsBy limit (D.files disk.old).pkg (D.files disk.new).pkg) }
     ensures copies { Changes D.tells D.files D.left_since D.moment D.bytes_read D.follows Pkg NoShorter (16 * old.count) disk.old disk.new }
     ensures cause { HasCause (D.faults disk.old) (D.faults disk.new) result }
 {
@@ -109,6 +112,8 @@ pub fn move_all<D: Disk>(
     ensures quiet { OnOk result (IsTrue D.tells → (value : Store) → 1 ≤ value.pages → value.slots ≡ slots.now → AreMovesOf value moves.now
         → IsQuiet value (D.files disk.old) (D.left_since disk.old (D.moment disk.old)) → IsQuiet (with_moves value moves.now) (D.files disk.new)
         (D.left_since disk.new (D.moment disk.new))) }
+    ensures reach { OnOk result (IsTrue D.tells → (limit : ℕ) → ((i : ℕ) → i < length moves.now → MovesWithin limit slots.now (move_at moves.now i))
+        → EndsBy limit (D.files disk.old).pkg (D.files disk.new).pkg) }
     ensures copies { Changes D.tells D.files D.left_since D.moment D.bytes_read D.follows Pkg NoShorter (moving_cost slots.now (Some moves.now)) disk.old
         disk.new }
     ensures cause { HasCause (D.faults disk.old) (D.faults disk.new) result }

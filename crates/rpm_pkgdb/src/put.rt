@@ -19,6 +19,7 @@ ghost use Rattle.rpm_pkgdb.specs.Growing.{grown, moving_cost};
 ghost use Rattle.rpm_pkgdb.specs.Planned.{IsPlan, HoldsPage, moves_of};
 ghost use Rattle.rpm_pkgdb.specs.Placing.{put_in, replaced_by};
 ghost use Rattle.rpm_pkgdb.specs.Freed.{AreFreed};
+ghost use Rattle.rpm_pkgdb.specs.Reaches.{ReachesTo};
 ghost use Rattle.rpm_pkgdb.specs.Stays.{OthersStay};
 ghost use Rattle.rpm_pkgdb.specs.Written.{with_blob, with_plan, PutsTo, stopped, with_spare, AreZeros};
 ghost use Rattle.rpm_pkgdb.specs.inner.MoveLists.{CanGrowBy};
@@ -113,6 +114,7 @@ impl PkgDb {
             D.left_since disk.old disk.new (Stops Pkg (PutsTo self.now plan.now.target blob.now (D.files disk.old).pkg)
             (D.left_since disk.old (D.moment disk.old))) }
         ensures quiet { OnOk result (IsTrue D.tells → IsQuiet (with_plan plan.now self.now) (D.files disk.new) (D.left_since disk.new (D.moment disk.new))) }
+        ensures reach { OnOk result (IsTrue D.tells → ReachesTo (with_plan plan.now self.now) (D.files disk.old).pkg (D.files disk.new).pkg) }
         ensures changes { Changes D.tells D.files D.left_since D.moment D.bytes_read D.follows Pkg Anything
             (moving_cost self.now.slots (moves_of plan.now.page)) disk.old disk.new }
         ensures cause { HasCause (D.faults disk.old) (D.faults disk.new) result }
@@ -188,6 +190,7 @@ impl PkgDb {
         ensures quiet { OnOk result (IsTrue D.tells → IsQuiet self.new (D.files disk.new) (D.left_since disk.new (D.moment disk.new))) }
         ensures stands { OnOk result (IsTrue D.tells → (image : Files) → D.left_since disk.new (D.moment disk.new) image → StandsFor
             self.new.generation self.new.field (blobs (D.files disk.new).pkg self.new) image.pkg) }
+        ensures reach { OnOk result (IsTrue D.tells → ReachesTo self.new (D.files disk.old).pkg (D.files disk.new).pkg) }
         ensures changes { Changes D.tells D.files D.left_since D.moment D.bytes_read D.follows Pkg Anything
             (moving_cost self.old.slots (moves_of plan.page)) disk.old disk.new }
         ensures cause { HasCause (D.faults disk.old) (D.faults disk.new) result }

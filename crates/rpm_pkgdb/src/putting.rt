@@ -14,6 +14,7 @@ ghost use Rattle.rpm_pkgdb.specs.Quiet.{IsQuiet, Anything};
 ghost use Rattle.rpm_pkgdb.specs.Plans.{slot_for};
 ghost use Rattle.rpm_pkgdb.specs.Freed.{KeepsBlank};
 ghost use Rattle.rpm_pkgdb.specs.inner.Puts.{FieldPut, FieldTorn, BlobTorn, BlobPut, CanPut, StandsWith, WhilePut};
+ghost use Rattle.rpm_pkgdb.specs.inner.Within.{EndsBy};
 ghost use Rattle.rpm_pkgdb.specs.Written.{next_field, with_blob};
 
 use crate::framing::write_blob;
@@ -84,6 +85,8 @@ pub fn put_blob<D: Disk>(
         (Stops Pkg (WhilePut value target.now generation blob.now (D.files disk.old).pkg) (D.left_since disk.old (D.moment disk.old))) }
     ensures quiet { OnOk result (IsTrue D.tells → (value : Store) → CanPut value target.now generation old blob.now → Keeps (D.files disk.old).pkg value
         → IsQuiet (with_blob target.now value) (D.files disk.new) (D.left_since disk.new (D.moment disk.new))) }
+    ensures reach { OnOk result (IsTrue D.tells → (limit : ℕ) → target.now.start + blocks_for (length blob.now) ≤ limit → target.now.place + 3 ≤ limit
+        → end_of old ≤ limit → EndsBy limit (D.files disk.old).pkg (D.files disk.new).pkg) }
     ensures changes { Changes D.tells D.files D.left_since D.moment D.bytes_read D.follows Pkg Anything 0 disk.old disk.new }
     ensures cause { HasCause (D.faults disk.old) (D.faults disk.new) result }
 {

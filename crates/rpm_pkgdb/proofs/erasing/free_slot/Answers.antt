@@ -1,9 +1,10 @@
-use Rattle.std.proofs.Common.{◌+◌, [], ◌∷◌, refl, inr}
+use Rattle.std.proofs.Common.{◌+◌, [], ◌∷◌, refl, inr, arith}
 use Rattle.rpm_outside.specs.Crash.{Torn}
 use Rattle.rpm_pkgdb.specs.Store.{Keeps}
 use Rattle.rpm_pkgdb.proofs.Changing.{on_ok, changes_then, stops_from, stops_then}
 use Rattle.rpm_pkgdb.specs.Stays.{SameOutside}
 use Rattle.rpm_pkgdb.specs.Quiet.{BeforeOrAfter, with_free, Anything}
+use Rattle.rpm_pkgdb.proofs.Reaching.{unit_ends, outside_ends}
 use Rattle.rpm_pkgdb.proofs.Erases.{while_freed, freed, zeroed, stands_by}
 use Rattle.rpm_pkgdb.proofs.erasing.free_slot.Goals as goal
 
@@ -59,3 +60,10 @@ returns-clause-changes g c =
     changes_then _ _ _ _ _ _ g.met.D.Disk.follows_trans (Torn (2 + c.args.place) (c.slot_unit.result ∷ []))
     (SameOutside c.args.slot.offset c.args.slot.count) Anything c.args.disk.now c.write_one.new.disk c.write_zeros.new.disk
     (λ x y r. tt) (λ x y z r s. tt) c.write_one.ensures.changes c.write_zeros.ensures.changes
+
+pub returns-clause-reach : goal.returns-clause-reach
+returns-clause-reach g c = on_ok c.write_zeros.result (λ told limit place_ends slot_ends short.
+    let D = g.D.Disk in
+    let F1 = (D.files c.write_one.new.disk).pkg in
+    outside_ends limit c.args.slot.offset c.args.slot.count F1 (D.files c.write_zeros.new.disk).pkg slot_ends (c.write_zeros.ensures.changes.pkg told)
+    (unit_ends limit (2 + c.args.place) c.slot_unit.result (D.files c.args.disk.now).pkg F1 (omega arith) (c.in_ok-write_one.ensures.written told) short))

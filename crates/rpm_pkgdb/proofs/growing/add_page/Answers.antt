@@ -1,5 +1,5 @@
 use Rattle.rpm_outside.specs.declared.disk.File.TheVariants.{Pkg}
-use Rattle.std.proofs.Common.{◌≡◌, ℕ, ◌+◌, ◌*◌, [], ◌∷◌, List, sym, subst, refl, inl, IsTrue}
+use Rattle.std.proofs.Common.{◌≡◌, ℕ, ◌+◌, ◌*◌, [], ◌∷◌, List, sym, subst, refl, inl, IsTrue, arith}
 use Rattle.rpm_outside.specs.Files.{Units, put}
 use Rattle.rpm_outside.specs.Crash.{Torn}
 use Rattle.rpm_pkgdb.specs.Store.{Store, Keeps}
@@ -11,6 +11,7 @@ use Rattle.rpm_pkgdb.specs.Quiet.{StandsAs, Anything, BeforeOrAfter}
 use Rattle.rpm_pkgdb.proofs.Erases.{stands_by}
 use Rattle.rpm_pkgdb.specs.inner.Grows.{with_page, CanGrow, HasFreePage}
 use Rattle.rpm_pkgdb.proofs.GrowLaws.{while_page, grown_stands, while_grown}
+use Rattle.rpm_pkgdb.proofs.Reaching.{unit_ends, outside_ends}
 use Rattle.rpm_pkgdb.proofs.FreedLaws.{page_blank}
 use Rattle.rpm_pkgdb.proofs.growing.add_page.Goals as goal
 
@@ -104,3 +105,13 @@ returns-clause-blanks g c =
     map_ok c.write_one.result (λ (written : IsTrue D.tells → F2 ≡ put 0 (c.head_unit.result ∷ []) F1) told.
     page_blank c.args.pages c.head_unit.result (D.files c.args.disk.now).pkg F1 F2 (c.write_free_page.ensures.changes.pkg told) (written told))
     c.write_one.ensures.written
+
+pub returns-clause-reach : goal.returns-clause-reach
+returns-clause-reach g c =
+    let D = g.D.Disk in
+    let F0 = (D.files c.args.disk.now).pkg in
+    let F1 = (D.files c.write_free_page.new.disk).pkg in
+    let F2 = (D.files c.write_one.new.disk).pkg in
+    map_ok c.write_one.result (λ (written : IsTrue D.tells → F2 ≡ put 0 (c.head_unit.result ∷ []) F1) told limit last short.
+    unit_ends limit 0 c.head_unit.result F1 F2 (omega arith) (written told)
+    (outside_ends limit (256 * c.args.pages) 256 F0 F1 (omega arith) (c.write_free_page.ensures.changes.pkg told) short)) c.write_one.ensures.written

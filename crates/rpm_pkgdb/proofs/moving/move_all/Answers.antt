@@ -41,6 +41,7 @@ loop-k-init g c =
             log = refl;
           });
       quiet = λ told value some same are quiet. quiet;
+      reach = λ told limit each short. short;
       copies =
           copies_weaker _ _ _ _ _ _ NoShorter NoShorter 0 (cost_to c.args.slots.now c.args.moves.now 0) d d (omega arith) (λ x y r. r)
           (copies_none _ _ _ _ _ _ g.met.D.Disk.follows_refl NoShorter (λ x. omega arith) d);
@@ -145,6 +146,8 @@ loop-k-preserved g c =
           let keeps1 : Keeps F1 u = l.invariant.keeps told value some same are keeps0 in
           subst (λ (v : Store). IsQuiet v (D.files e) (D.left_since e (D.moment e))) (sym (then_after value slots moves k some same are lt))
           (c.in_ok-move_blocks.ensures.quiet told u can keeps1);
+      reach = λ told limit each short.
+          let m = each k lt in c.in_ok-move_blocks.ensures.reach told limit m.place m.from m.to (l.invariant.reach told limit each short);
       copies =
           copies_then _ _ _ _ _ _ g.met.D.Disk.follows_trans NoShorter NoShorter NoShorter (cost_to slots moves k) (16 * count) (cost_to slots moves (k + 1))
           d l.disk e

@@ -1,5 +1,5 @@
 use Rattle.rpm_outside.specs.declared.disk.File.TheVariants.{Pkg}
-use Rattle.std.proofs.Common.{◌≡◌, ◌≤◌, IsTrue, take, Some}
+use Rattle.std.proofs.Common.{◌≡◌, ℕ, ◌<◌, ◌≤◌, length, IsTrue, take, Some}
 use Rattle.rpm_outside.specs.Crash.{LeavesOnly}
 use Rattle.rpm_pkgdb.specs.Store.{Store, Keeps}
 use Rattle.rpm_pkgdb.specs.Blobs.{blobs}
@@ -10,7 +10,8 @@ use Rattle.rpm_pkgdb.specs.inner.Settings.{NoShorter}
 use Rattle.rpm_pkgdb.specs.Growing.{moving_cost, next_end}
 use Rattle.rpm_pkgdb.specs.Freed.{AreFreed}
 use Rattle.rpm_pkgdb.specs.Stays.{AllStay}
-use Rattle.rpm_pkgdb.specs.inner.MoveLists.{AreMovesOf, with_moves}
+use Rattle.rpm_pkgdb.specs.inner.MoveLists.{AreMovesOf, with_moves, move_at}
+use Rattle.rpm_pkgdb.specs.inner.Within.{EndsBy, MovesWithin}
 use Rattle.rpm_pkgdb.proofs.moving.move_all.Given as goal
 
 abbrev pub invariant-loop-k : goal.invariant-loop-k
@@ -33,6 +34,8 @@ invariant-loop-k g l =
       quiet : IsTrue D.tells → (value : Store) → 1 ≤ value.pages → value.slots ≡ l.slots → AreMovesOf value l.moves
           → IsQuiet value (D.files old) (D.left_since old (D.moment old))
           → IsQuiet (with_moves value (take l.k l.moves)) (D.files l.disk) (D.left_since l.disk (D.moment l.disk));
+      reach : IsTrue D.tells → (limit : ℕ) → ((i : ℕ) → i < length l.moves → MovesWithin limit l.slots (move_at l.moves i))
+          → EndsBy limit (D.files old).pkg (D.files l.disk).pkg;
       copies : Changes D.tells D.files D.left_since D.moment D.bytes_read D.follows Pkg NoShorter (moving_cost l.slots (Some (take l.k l.moves))) old l.disk;
       faults : D.faults old ≤ D.faults l.disk;
     }

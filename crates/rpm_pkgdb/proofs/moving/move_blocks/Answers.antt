@@ -9,6 +9,7 @@ use Rattle.rpm_pkgdb.specs.Stays.{SameOutside}
 use Rattle.rpm_pkgdb.specs.inner.Clear.{Holds}
 use Rattle.rpm_pkgdb.specs.Quiet.{Anything}
 use Rattle.rpm_pkgdb.specs.inner.Settings.{NoShorter, WhileMoved, blocks_of}
+use Rattle.rpm_pkgdb.proofs.Reaching.{unit_ends, outside_ends}
 use Rattle.rpm_pkgdb.proofs.Moves.{move_set, held_after, while_copied, while_slot_moved, while_old_zeroed, moved_alike}
 use Rattle.rpm_pkgdb.proofs.moving.move_blocks.Goals as goal
 
@@ -153,3 +154,14 @@ returns-clause-blanks g c =
     (D.files c.copy_settled.new.disk).pkg (D.files c.write_one.new.disk).pkg F3 (c.copy_settled.ensures.copies.pkg told)
     (c.in_ok-write_one.ensures.written told)
     (c.write_zeros.ensures.changes.pkg told) (zeros told)) c.write_zeros.ensures.zeros
+
+pub returns-clause-reach : goal.returns-clause-reach
+returns-clause-reach g c = on_ok c.write_zeros.result (λ told limit place_ends old_ends new_ends short.
+    let D = g.D.Disk in
+    let at = c.min-at.result in
+    let F0 = (D.files c.args.disk.now).pkg in
+    let F1 = (D.files c.copy_settled.new.disk).pkg in
+    let F2 = (D.files c.write_one.new.disk).pkg in
+    outside_ends limit at (end_of c.args.old - at) F2 (D.files c.write_zeros.new.disk).pkg (omega (arith, c.min-at.ensures)) (c.write_zeros.ensures.changes.pkg told)
+    (unit_ends limit (2 + c.args.place) c.slot_unit.result F1 F2 (omega arith) (c.in_ok-write_one.ensures.written told)
+    (outside_ends limit c.args.to c.args.old.count F0 F1 new_ends (c.copy_settled.ensures.copies.pkg told) short)))

@@ -18,6 +18,7 @@ use Rattle.rpm_pkgdb.specs.Plans.{slot_for}
 use Rattle.rpm_pkgdb.specs.inner.Puts.{BlobTorn, WhilePut}
 use Rattle.rpm_pkgdb.specs.Written.{next_field}
 use Rattle.rpm_pkgdb.specs.inner.Puts.WhilePut.{After}
+use Rattle.rpm_pkgdb.proofs.Reaching.{unit_ends, outside_ends, blob_ends}
 use Rattle.rpm_pkgdb.proofs.PutsLaws.{while_blob, second_phase, third_phase, stand_alike}
 use Rattle.rpm_pkgdb.proofs.putting.put_blob.Goals as goal
 
@@ -154,3 +155,16 @@ returns-clause-next g c = on_ok c.write_zeros.result (λ told none.
     (c.write_zeros.ensures.changes.pkg told).above 1 (omega (arith, ap (λ (s : Slot). s.offset) none, ap (λ (s : Slot). s.count) none))
     ∙ ap (λ (u : Units). unit_at u 1) (c.in_ok-write_one.ensures.written told) ∙ put_elsewhere (2 + target.place) c.slot_unit.result F1 1 (omega arith) in
     subst (λ (u : List ℕ). IfSome (next_field target) (λ n. u ≡ next_unit n)) (sym stays) (c.in_ok-write_first.ensures.next told))
+
+pub returns-clause-reach : goal.returns-clause-reach
+returns-clause-reach g c = on_ok c.write_zeros.result (λ told limit blob_ends_by place_ends old_ends short.
+    let D = g.D.Disk in
+    let target = c.args.target.now in
+    let blob = c.args.blob.now in
+    let us = units_of (framed target.number c.args.generation blob) in
+    let F1 = (D.files c.write_first.new.disk).pkg in
+    let F2 = (D.files c.write_one.new.disk).pkg in
+    outside_ends limit c.args.old.offset c.args.old.count F2 (D.files c.write_zeros.new.disk).pkg old_ends (c.write_zeros.ensures.changes.pkg told)
+    (unit_ends limit (2 + target.place) c.slot_unit.result F1 F2 (omega arith) (c.in_ok-write_one.ensures.written told)
+    (blob_ends limit target.start us (next_field target) (D.files c.args.disk.now).pkg F1
+    (omega (arith, blob_ends_by, count-framed target.number c.args.generation blob)) (omega arith) (c.in_ok-write_first.ensures.written told) short)))

@@ -1,4 +1,4 @@
-use Rattle.std.proofs.Common.{◌≡◌, Some, sym, ap, subst, ◌∙◌, arith}
+use Rattle.std.proofs.Common.{◌≡◌, length, Some, sym, ap, subst, ◌∙◌, arith}
 use Rattle.rpm_pkgdb.specs.declared.slot.Slot.{Slot}
 use Rattle.rpm_pkgdb.specs.Slots.{is_used}
 use Rattle.rpm_pkgdb.specs.Pairs.{find_in}
@@ -13,6 +13,8 @@ use Rattle.rpm_pkgdb.proofs.ErasesTo.{erases_to, freed_map, stands_for}
 use Rattle.rpm_pkgdb.specs.Stays.{OthersStay}
 use Rattle.rpm_pkgdb.specs.Written.{ErasesTo}
 use Rattle.rpm_pkgdb.proofs.StayLaws.{freed_stay}
+use Rattle.rpm_pkgdb.specs.Undamaged.{IsPlaced}
+use Rattle.rpm_pkgdb.proofs.Made.{made}
 use Rattle.rpm_pkgdb.proofs.Held.{found_at_slot, freed_kept, freed_taken}
 use Rattle.rpm_pkgdb.proofs.store.PkgDb.erase.Goals as goal
 
@@ -98,3 +100,12 @@ returns-clause-others g c = λ told.
     let keeps = c.requires.keeps told in
     subst (λ (v : Store). OthersStay c.args.n st F0 v F1) (sym (ap (with_free k) c.self.view_is))
     (freed_stay st k c.args.n c.slot_place-place.result.1 slot.slot slot.number F0 F1 keeps (c.in-Ok.ensures.stands told st slot.slot keeps))
+
+pub returns-clause-reach : goal.returns-clause-reach
+returns-clause-reach g c = λ told.
+    let F0 = (g.D.Disk.files c.args.disk.now).pkg in
+    let slot = c.slot_place-place.ensures.slot in
+    let keeps = c.requires.keeps told in
+    let is = made F0 c.args.self.now keeps slot.made in
+    let placed = subst (IsPlaced c.args.self.now.pages (length F0)) slot.is (is.sound.placed c.slot_place-place.result.0 (ap is_used slot.is ∙ slot.used)) in
+    c.in-Ok.ensures.reach told (length F0) (omega (arith, slot.below, is.count, is.lawful.inside)) placed.inside (omega arith)

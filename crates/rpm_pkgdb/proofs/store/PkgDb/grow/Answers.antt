@@ -1,5 +1,5 @@
 use Rattle.rpm_outside.specs.declared.disk.File.TheVariants.{Pkg}
-use Rattle.std.proofs.Common.{◌≡◌, ◌*◌, List, Option, Some, OnOk, refl, sym, ap, ◌∙◌, subst, IsTrue}
+use Rattle.std.proofs.Common.{◌≡◌, ◌*◌, ℕ, List, Option, Some, OnOk, refl, sym, ap, ◌∙◌, subst, IsTrue}
 use Rattle.rpm_outside.specs.Changes.{Stops, Changes}
 use Rattle.rpm_outside.specs.inner.Moments.{started}
 use Rattle.rpm_pkgdb.specs.declared.moving.Move.{Move}
@@ -10,6 +10,7 @@ use Rattle.rpm_pkgdb.specs.Freed.{AreFreed}
 use Rattle.rpm_pkgdb.specs.Stays.{AllStay}
 use Rattle.rpm_pkgdb.specs.Planned.{moves_of}
 use Rattle.rpm_pkgdb.specs.inner.MoveLists.{CanGrowBy}
+use Rattle.rpm_pkgdb.specs.inner.Within.{EndsBy, IsWithin}
 use Rattle.rpm_pkgdb.specs.declared.page.Page.{Page}
 use Rattle.rpm_pkgdb.specs.Quiet.{IsQuiet, Anything, StandsFor}
 use Rattle.rpm_pkgdb.proofs.Changing.{copies_none}
@@ -135,3 +136,16 @@ returns-in-Some-clause-freed g c =
     let whole : Some c.deref.result.now ≡ moves_of c.args.page.now = ap Some c.deref.ensures.value ∙ ap moves_of (sym c.in-Some.is) in
     subst (λ (m : Option (List Move)). OnOk c.grow_by.result (IsTrue D.tells → AreFreed (256 * (grown m v).pages) v.slots (grown m v).slots
     (D.files e).pkg)) whole c.grow_by.ensures.freed
+
+pub returns-in-None-clause-reach : goal.returns-in-None-clause-reach
+returns-in-None-clause-reach g c = λ told limit within short. short
+
+pub returns-in-Some-clause-reach : goal.returns-in-Some-clause-reach
+returns-in-Some-clause-reach g c =
+    let D = g.D.Disk in
+    let v = c.args.self.now in
+    let d = c.args.disk.now in
+    let e = c.grow_by.new.disk in
+    let whole : Some c.deref.result.now ≡ moves_of c.args.page.now = ap Some c.deref.ensures.value ∙ ap moves_of (sym c.in-Some.is) in
+    subst (λ (m : Option (List Move)). OnOk c.grow_by.result (IsTrue D.tells → (limit : ℕ) → IsWithin limit (grown m v)
+    → EndsBy limit (D.files d).pkg (D.files e).pkg)) whole c.grow_by.ensures.reach

@@ -16,6 +16,8 @@ use Rattle.rpm_pkgdb.proofs.GrowLaws.{grown_map, grows_to}
 use Rattle.rpm_pkgdb.proofs.GrowSteps.{movable, moved_within}
 use Rattle.rpm_pkgdb.proofs.MoveSteps.{stands_for_same}
 use Rattle.rpm_pkgdb.proofs.PlannedLaws.{can_grow}
+use Rattle.rpm_pkgdb.specs.inner.Within.{EndsBy, MovesWithin}
+use Rattle.rpm_pkgdb.proofs.Reaching.{moves_within}
 use Rattle.rpm_pkgdb.proofs.StayLaws.{grown_stay}
 use Rattle.rpm_pkgdb.proofs.store.PkgDb.grow_by.Goals as goal
 
@@ -164,3 +166,20 @@ returns-clause-freed g c =
     freed_page (next_end v) v.slots (with_moves v moves).slots F1 F2
     (c.in_ok-move_all.ensures.zeros told v c.requires.made same c.requires.can.are (c.requires.keeps told) end_is)
     (subst (λ (n : ℕ). KeepsBlank n 0 0 F1 F2) end_is (blanks told))) c.add_page.ensures.blanks
+
+pub returns-clause-reach : goal.returns-clause-reach
+returns-clause-reach g c =
+    let D = g.D.Disk in
+    let v = c.args.self.now in
+    let moves = c.args.moves.now in
+    let kept = subst (λ (x : Store). IsKept c.self.inside.numbers.pairs x.pages x.slots) c.self.view_is c.self.invariant.kept in
+    let same : v.slots ≡ c.deref.result.now = ap (λ (x : Store). x.slots) (sym c.self.view_is) ∙ sym c.deref.ensures.value in
+    let pages : v.pages ≡ c.self.inside.pages = ap (λ (x : Store). x.pages) (sym c.self.view_is) in
+    let F0 = (D.files c.args.disk.now).pkg in
+    let F1 = (D.files c.move_all.new.disk).pkg in
+    let F2 = (D.files c.add_page.new.disk).pkg in
+    map_ok c.add_page.result (λ (reach : IsTrue D.tells → (limit : ℕ) → 256 * (c.self.inside.pages + 1) ≤ limit → EndsBy limit F1 F2) told limit within short.
+    reach told limit (omega (arith, within.pages, pages)) (c.in_ok-move_all.ensures.reach told limit
+    (λ i below. subst (λ (l : List Slot). MovesWithin limit l (move_at moves i)) same
+    (moves_within v moves i c.requires.can.are below _ kept c.requires.made c.requires.can F0 (c.requires.keeps told) limit within short)) short))
+    c.add_page.ensures.reach

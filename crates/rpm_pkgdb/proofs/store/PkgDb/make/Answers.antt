@@ -58,3 +58,6 @@ returns-clause-quiet g c = λ told.
           i.spare;
       is_stopped = i.stopped;
     }))
+
+pub returns-clause-reach : goal.returns-clause-reach
+returns-clause-reach g c = λ told. omega (arith, (c.write_new.ensures.alone.pkg told).no_longer)

@@ -8,6 +8,7 @@ use Rattle.rpm_pkgdb.specs.Store.{Store}
 use Rattle.rpm_pkgdb.specs.Blobs.{blobs, entry_of}
 use Rattle.rpm_pkgdb.specs.Written.{with_blob, with_plan, with_spare}
 use Rattle.rpm_pkgdb.specs.Freed.{AreFreed}
+use Rattle.rpm_pkgdb.specs.Reaches.{ReachesTo}
 use Rattle.rpm_pkgdb.specs.Stays.{OthersStay}
 use Rattle.rpm_pkgdb.specs.declared.moving.Move.{Move}
 use Rattle.rpm_pkgdb.specs.Growing.{pages_after}
@@ -84,3 +85,13 @@ returns-clause-placed g c =
     ap (λ (k : ℕ). put_in (replaced_by plan.target) k st) (sym c.requires.length)
     ∙ ap (option_map (λ (p : Placement). with_placed p st)) (own_placed _ st kept c.requires.made plan c.requires.plan)
     ∙ ap Some (sym (ap (with_spare st.spare) same))
+
+pub returns-clause-reach : goal.returns-clause-reach
+returns-clause-reach g c = λ told.
+    let D = g.D.Disk in
+    let st = c.args.self.now in
+    let plan = c.args.plan in
+    let new = c.note_put.new.self in
+    let same : new ≡ with_spare new.spare (with_plan plan st) =
+    c.note_put.ensures.value ∙ ap (λ (v : Store). with_spare new.spare (with_blob plan.target v)) c.note_page.ensures in
+    subst (λ (v : Store). ReachesTo v (D.files c.args.disk.now).pkg (D.files c.write_plan.new.disk).pkg) (sym same) (c.in-Ok.ensures.reach told)

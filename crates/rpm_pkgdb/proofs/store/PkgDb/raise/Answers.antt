@@ -1,4 +1,4 @@
-use Rattle.std.proofs.Common.{ℕ, List, ◌+◌, [], ◌∷◌, sym, ap, subst, ◌∙◌}
+use Rattle.std.proofs.Common.{ℕ, List, ◌+◌, [], ◌∷◌, length, sym, ap, subst, ◌∙◌, arith}
 use Rattle.rpm_pkgdb.specs.Stays.{SameOutside, AllStay}
 use Rattle.rpm_pkgdb.proofs.ClearLaws.{torn_outside}
 use Rattle.rpm_pkgdb.proofs.StayLaws.{raised_stay}
@@ -7,6 +7,8 @@ use Rattle.rpm_pkgdb.specs.Store.{Store, Keeps}
 use Rattle.rpm_pkgdb.specs.Blobs.{blobs}
 use Rattle.rpm_pkgdb.proofs.Changing.{changes_weaker, stops_from}
 use Rattle.rpm_pkgdb.specs.Quiet.{IsQuiet}
+use Rattle.rpm_pkgdb.proofs.Made.{made}
+use Rattle.rpm_pkgdb.proofs.Reaching.{unit_ends}
 use Rattle.rpm_pkgdb.proofs.Raises.{while_raised, raised, raised_map, raises_to, raised_quiet}
 use Rattle.rpm_pkgdb.specs.Undamaged.{IsHeadUnit}
 use Rattle.rpm_pkgdb.specs.Written.{with_generation, RaisesTo}
@@ -95,3 +97,10 @@ returns-clause-others g c = λ told.
     subst (λ (v : Store). AllStay st F0 v F1) (sym (ap higher c.self.view_is))
     (raised_stay st (st.generation + 1) F0 F1 c.requires.made (c.requires.keeps told)
     (raised st c.requires.made unit (st.generation + 1) is F0 F1 (c.requires.keeps told) (c.in-Ok.ensures.written told)))
+
+pub returns-clause-reach : goal.returns-clause-reach
+returns-clause-reach g c = λ told.
+    let F0 = (g.D.Disk.files c.args.disk.now).pkg in
+    let is = made F0 c.args.self.now (c.requires.keeps told) c.requires.made in
+    unit_ends (length F0) 0 c.head_unit.result F0 (g.D.Disk.files c.write_one.new.disk).pkg (omega (arith, is.lawful.inside, is.lawful.some))
+    (c.in-Ok.ensures.written told) (omega arith)

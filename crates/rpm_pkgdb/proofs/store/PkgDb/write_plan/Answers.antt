@@ -1,4 +1,4 @@
-use Rattle.std.proofs.Common.{◌≡◌, inl, ℕ, ◌<◌, ◌≤◌, ◌+◌, length, Bool, if◌then◌else◌, Option, Some, None, IfSome, IsTrue, sym, ap, ◌∙◌, subst, arith}
+use Rattle.std.proofs.Common.{◌≡◌, inl, ℕ, ◌<◌, ◌≤◌, ◌+◌, length, max, Bool, if◌then◌else◌, Option, Some, None, IfSome, IsTrue, sym, ap, ◌∙◌, subst, arith}
 use Rattle.std.specs.FinMap as finite
 use Rattle.rpm_outside.specs.Files.{units_of, unit_at, blank}
 use Rattle.rpm_pkgdb.specs.Slots.{end_of, free}
@@ -8,7 +8,9 @@ use Rattle.rpm_pkgdb.specs.Framing.{framed, next_unit}
 use Rattle.rpm_pkgdb.specs.Growing.{moving_cost}
 use Rattle.rpm_pkgdb.specs.Planned.{moves_of}
 use Rattle.rpm_pkgdb.specs.Quiet.{BlobMap, IsQuiet, Anything, StandsFor}
-use Rattle.rpm_pkgdb.specs.Written.{PutsTo, next_field, with_blob}
+use Rattle.rpm_pkgdb.specs.Written.{PutsTo, next_field, with_blob, with_plan}
+use Rattle.rpm_pkgdb.specs.Reaches.{store_end}
+use Rattle.rpm_pkgdb.specs.inner.Within.{EndsBy}
 use Rattle.rpm_pkgdb.specs.inner.Keeping.{IsKept}
 use Rattle.rpm_pkgdb.specs.inner.Puts.{CanPut, StandsWith, WhilePut}
 use Rattle.rpm_pkgdb.proofs.Changing.{map_ok, both_ok, copies_then, copies_stops_then, stops_weaker}
@@ -17,6 +19,7 @@ use Rattle.rpm_pkgdb.proofs.PlannedLaws.{may_grow}
 use Rattle.rpm_pkgdb.proofs.PutEnds.{whole_part, replaced_zeros}
 use Rattle.rpm_pkgdb.proofs.PutSteps.{after, was_held, place_fits, few_bytes, room, can_put, puts_from, put_freed}
 use Rattle.rpm_pkgdb.specs.Freed.{KeepsBlank}
+use Rattle.rpm_pkgdb.proofs.Reaching.{end_within, old_ends, place_ends, grown_within, target_ends}
 use Rattle.rpm_pkgdb.proofs.PutsTo.{puts_to, put_map}
 use Rattle.rpm_pkgdb.proofs.StayLaws.{put_stay}
 use Rattle.rpm_pkgdb.proofs.store.PkgDb.write_plan.Goals as goal
@@ -204,3 +207,29 @@ returns-clause-freed g c =
     put_freed v plan c.requires.plan c.requires.made _ kept old c.requires.held F1 F2 (c.in_ok-grow.ensures.freed told) (zeros told)
     (subst (λ (n : ℕ). KeepsBlank (plan.target.place + 3) plan.target.start (blocks_for n) F1 F2) (sym c.requires.length) (blanks told)))
     c.put_blob.ensures.zeros c.put_blob.ensures.blanks
+
+pub returns-clause-reach : goal.returns-clause-reach
+returns-clause-reach g c =
+    let D = g.D.Disk in
+    let v = c.args.self.now in
+    let plan = c.args.plan.now in
+    let blob = c.args.blob.now in
+    let old = c.args.old in
+    let kept = subst (λ (x : Store). IsKept c.self.inside.numbers.pairs x.pages x.slots) c.self.view_is c.self.invariant.kept in
+    let some = c.requires.made in
+    let is = c.requires.plan in
+    let F0 = (D.files c.args.disk.now).pkg in
+    let F1 = (D.files c.grow.new.disk).pkg in
+    let F2 = (D.files c.put_blob.new.disk).pkg in
+    let limit = max (length F0) (store_end (with_plan plan v)) in
+    let within = end_within limit (with_plan plan v) (omega arith) in
+    let short : length F0 ≤ limit = omega arith in
+    map_ok c.put_blob.result (λ (reach : IsTrue D.tells → (limit : ℕ) → plan.target.start + blocks_for (length blob) ≤ limit → plan.target.place + 3 ≤ limit
+    → end_of old ≤ limit → EndsBy limit F1 F2) told.
+    let keeps = c.requires.keeps told in
+    let target = target_ends _ v kept some plan is old c.requires.new c.requires.held F0 keeps limit short within in
+    reach told limit (subst (λ (n : ℕ). plan.target.start + blocks_for n ≤ limit) c.requires.length target)
+    (place_ends _ v kept some plan is old c.requires.new c.requires.held F0 keeps limit short within)
+    (old_ends _ v kept some plan is old c.requires.new c.requires.held F0 keeps limit short within)
+    (c.in_ok-grow.ensures.reach told limit
+    (grown_within _ v kept some plan is old c.requires.new c.requires.held F0 keeps limit short within) short)) c.put_blob.ensures.reach
