@@ -1,3 +1,4 @@
 pub mod Endings
 pub mod Exercised
+pub mod Ready
 pub mod Rounds

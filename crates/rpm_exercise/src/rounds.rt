@@ -1,14 +1,15 @@
 //! The changes of the exercise, round by round.
 
-ghost use Rattle.std.specs.Prelude.{◌≡◌, ◌+◌, ◌-◌, ◌<◌, ◌≤◌, Bool, [], ◌∷◌, false, true, IsTrue, Err, IfOk, IfErr};
+ghost use Rattle.std.specs.Prelude.{◌≡◌, ◌+◌, ◌-◌, ◌<◌, ◌≤◌, Bool, [], ◌∷◌, true, IsTrue, Err, IfOk, IfErr};
 ghost use Rattle.rpm_outside.specs.Causes.{HasCauseAt};
-ghost use Rattle.rpm_db.specs.Changes.{Add, Put, Erase, IsServing};
+ghost use Rattle.rpm_db.specs.Changes.{Add, Put, Erase};
 ghost use Rattle.rpm_db.specs.Database.{IsIndexed, is_indexed};
 ghost use Rattle.rpm_db.specs.Runs.{Runs};
 ghost use Rattle.rpm_db.specs.State.{state};
 ghost use Rattle.rpm_db.specs.inner.Writes.{SameLog};
 ghost use Rattle.rpm_change.specs.Endings.{IsCarried};
 ghost use Rattle.rpm_change.specs.Limits.{LimitsTurn};
+ghost use Rattle.rpm_exercise.specs.Ready.{IsReady};
 ghost use Rattle.rpm_exercise.specs.Rounds.{made, turn, round_changes, changes, Made, IsOfChanges, IsSpent};
 
 use rpm_change::{Halt, Tally, generated, halt_of};
@@ -41,9 +42,7 @@ const IDLE: Tally = Tally {
 /// Adds header `i`.
 fn add_one<D: Disk>(alloc: Global, db: &mut Db, disk: &mut D, i: u32) -> Result<Tally, Halt>
     requires small { i < 4294967295 }
-    requires indexed { is_indexed db.old ≡ true }
-    requires going { db.old.stopped ≡ false }
-    requires serving { IsTrue D.tells → IsServing (D.files disk.old) (D.left_since disk.old (D.moment disk.old)) db.old }
+    requires ready { IsReady D.Disk disk.old db.old }
     ensures made { IsTrue D.tells → IfOk result (λ tally. Made (Add (made i 1) ∷ []) (state (D.files disk.old).pkg db.old.store)
         (state (D.files disk.new).pkg db.new.store) tally) }
     ensures limits { IsTrue D.tells → (indexed : Bool) → (indexed ≡ true → IsIndexed (D.files disk.old).pkg (D.files disk.old).idx db.old)
@@ -87,9 +86,7 @@ fn replace_one<D: Disk>(
 ) -> Result<Tally, Halt>
     requires small { i < 4294967295 }
     requires some { 1 ≤ i }
-    requires indexed { is_indexed db.old ≡ true }
-    requires going { db.old.stopped ≡ false }
-    requires serving { IsTrue D.tells → IsServing (D.files disk.old) (D.left_since disk.old (D.moment disk.old)) db.old }
+    requires ready { IsReady D.Disk disk.old db.old }
     ensures made { IsTrue D.tells → IfOk result (λ tally. Made (Put (b + i) (made i 2) ∷ []) (state (D.files disk.old).pkg db.old.store)
         (state (D.files disk.new).pkg db.new.store) tally) }
     ensures limits { IsTrue D.tells → (indexed : Bool) → (indexed ≡ true → IsIndexed (D.files disk.old).pkg (D.files disk.old).idx db.old)
@@ -125,9 +122,7 @@ fn erase_one<D: Disk>(
     i: u32,
 ) -> Result<Tally, Halt>
     requires some { 1 ≤ i }
-    requires indexed { is_indexed db.old ≡ true }
-    requires going { db.old.stopped ≡ false }
-    requires serving { IsTrue D.tells → IsServing (D.files disk.old) (D.left_since disk.old (D.moment disk.old)) db.old }
+    requires ready { IsReady D.Disk disk.old db.old }
     ensures made { IsTrue D.tells → IfOk result (λ tally. Made (Erase (b + i) ∷ []) (state (D.files disk.old).pkg db.old.store)
         (state (D.files disk.new).pkg db.new.store) tally) }
     ensures limits { IsTrue D.tells → (indexed : Bool) → (indexed ≡ true → IsIndexed (D.files disk.old).pkg (D.files disk.old).idx db.old)
@@ -162,9 +157,7 @@ fn take_turn<D: Disk>(
 ) -> Result<Tally, Halt>
     requires small { i < 4294967295 }
     requires some { 1 ≤ i }
-    requires indexed { is_indexed db.old ≡ true }
-    requires going { db.old.stopped ≡ false }
-    requires serving { IsTrue D.tells → IsServing (D.files disk.old) (D.left_since disk.old (D.moment disk.old)) db.old }
+    requires ready { IsReady D.Disk disk.old db.old }
     ensures made { IsTrue D.tells → IfOk result (λ tally. Made (turn round b i) (state (D.files disk.old).pkg db.old.store)
         (state (D.files disk.new).pkg db.new.store) tally) }
     ensures limits { IsTrue D.tells → (indexed : Bool) → (indexed ≡ true → IsIndexed (D.files disk.old).pkg (D.files disk.old).idx db.old)
@@ -207,9 +200,7 @@ fn go_round<D: Disk>(
     n: u32,
 ) -> Result<Tally, Halt>
     requires few { n ≤ 100000 }
-    requires indexed { is_indexed db.old ≡ true }
-    requires going { db.old.stopped ≡ false }
-    requires serving { IsTrue D.tells → IsServing (D.files disk.old) (D.left_since disk.old (D.moment disk.old)) db.old }
+    requires ready { IsReady D.Disk disk.old db.old }
     ensures made { IsTrue D.tells → IfOk result (λ tally. Made (round_changes round b n) (state (D.files disk.old).pkg db.old.store)
         (state (D.files disk.new).pkg db.new.store) tally) }
     ensures limits { IsTrue D.tells → (indexed : Bool) → (indexed ≡ true → IsIndexed (D.files disk.old).pkg (D.files disk.old).idx db.old)
@@ -258,9 +249,7 @@ fn go_round<D: Disk>(
 ///   disk that doesn't keep what it is given. It answers nothing else.
 pub fn change_all<D: Disk>(alloc: Global, db: &mut Db, disk: &mut D, n: u32) -> Result<Tally, Halt>
     requires few { n ≤ 100000 }
-    requires indexed { is_indexed db.old ≡ true }
-    requires going { db.old.stopped ≡ false }
-    requires serving { IsTrue D.tells → IsServing (D.files disk.old) (D.left_since disk.old (D.moment disk.old)) db.old }
+    requires ready { IsReady D.Disk disk.old db.old }
     ensures made { IsTrue D.tells → IfOk result (λ tally. Made (changes n (state (D.files disk.old).pkg db.old.store))
         (state (D.files disk.old).pkg db.old.store) (state (D.files disk.new).pkg db.new.store) tally) }
     ensures limits { IsTrue D.tells → (indexed : Bool) → (indexed ≡ true → IsIndexed (D.files disk.old).pkg (D.files disk.old).idx db.old)

@@ -3,7 +3,6 @@
 ghost use Rattle.std.specs.Prelude.{◌≡◌, ℕ, ◌≤◌, Bool, List, [], false, true, IsTrue, Err, OnOk, IfOk, IfErr};
 ghost use Rattle.rpm_outside.specs.Buffered.{inner, holds};
 ghost use Rattle.rpm_outside.specs.Causes.{HasCauseAt};
-ghost use Rattle.rpm_db.specs.Changes.{IsServing};
 ghost use Rattle.rpm_db.specs.Database as database;
 ghost use Rattle.rpm_db.specs.Database.{IsIndexed, IsNext, is_indexed};
 ghost use Rattle.rpm_db.specs.Lawful.{Remade};
@@ -15,6 +14,7 @@ ghost use Rattle.rpm_change.specs.Endings.{outputs, Ended, IsCarried};
 ghost use Rattle.rpm_change.specs.Limits.{LimitsTurn};
 ghost use Rattle.rpm_exercise.specs.Endings.{IsReadable, IsTold, IsUnbroken, IsOfReading, IsOfTelling, IsOfExercise, OnceBegun, IsRefused};
 ghost use Rattle.rpm_exercise.specs.Exercised.{summary, exercise};
+ghost use Rattle.rpm_exercise.specs.Ready.{IsReady, IsCurrent, IsStop};
 ghost use Rattle.rpm_exercise.specs.Rounds.{changes, IsSpent};
 ghost use Rattle.rpm_change.specs.Hands.{Hand};
 
@@ -72,10 +72,8 @@ fn change_and_tell<D: Disk, O: Sink + Drop>(
     out: &mut Buffered<O>,
 ) -> Result<Tally, Halt>
     requires few { n ≤ 100000 }
-    requires indexed { is_indexed db.old ≡ true }
-    requires going { db.old.stopped ≡ false }
+    requires ready { IsReady D.Disk disk.old db.old }
     requires from_one { IsTrue D.tells → database.holds 0 db.old ≡ false }
-    requires serving { IsTrue D.tells → IsServing (D.files disk.old) (D.left_since disk.old (D.moment disk.old)) db.old }
     ensures ended { IsTrue D.tells → IsIndexed (D.files disk.old).pkg (D.files disk.old).idx db.old → (err_tells : Bool) (err : List ℕ)
         → Ended (exercise n (state (D.files disk.old).pkg db.old.store)) (state (D.files disk.old).pkg db.old.store)
         (state (D.files disk.new).pkg db.new.store) result
@@ -104,14 +102,10 @@ fn change_and_tell<D: Disk, O: Sink + Drop>(
 
 /// Makes the index anew, whatever it was. There are no packages, so it has room.
 fn renew<D: Disk>(alloc: Global, db: &mut Db, disk: &mut D) -> Result<(), Halt>
-    requires indexed { is_indexed db.old ≡ true }
-    requires going { db.old.stopped ≡ false }
-    requires serving { IsTrue D.tells → IsServing (D.files disk.old) (D.left_since disk.old (D.moment disk.old)) db.old }
+    requires ready { IsReady D.Disk disk.old db.old }
     ensures store { db.new.store ≡ db.old.store }
     ensures indexed { is_indexed db.new ≡ true }
-    ensures going { OnOk result (db.new.stopped ≡ false) }
-    ensures serving { OnOk result (IsTrue D.tells → IsServing (D.files disk.new) (D.left_since disk.new (D.moment disk.new)) db.new) }
-    ensures index { OnOk result (IsTrue D.tells → IsIndexed (D.files disk.new).pkg (D.files disk.new).idx db.new) }
+    ensures current { OnOk result (IsCurrent D.Disk disk.new db.new) }
     ensures kinds { IfErr result IsOfReading }
     ensures runs { Runs D.tells D.files D.left_since D.moment D.bytes_read D.follows Remade disk.old disk.new }
     ensures disk { HasCauseAt (result ≡ Err Halt.DiskFault) (D.faults disk.old) (D.faults disk.new) }
@@ -132,19 +126,15 @@ fn exercise_all<D: Disk, O: Sink + Drop>(
     out: &mut Buffered<O>,
 ) -> Result<Tally, Halt>
     requires few { n ≤ 100000 }
-    requires indexed { is_indexed db.old ≡ true }
-    requires going { db.old.stopped ≡ false }
+    requires ready { IsReady D.Disk disk.old db.old }
     requires from_one { IsTrue D.tells → database.holds 0 db.old ≡ false }
-    requires serving { IsTrue D.tells → IsServing (D.files disk.old) (D.left_since disk.old (D.moment disk.old)) db.old }
     ensures ended { IsTrue D.tells → (err_tells : Bool) (err : List ℕ)
         → Ended (exercise n (state (D.files disk.old).pkg db.old.store)) (state (D.files disk.old).pkg db.old.store)
         (state (D.files disk.new).pkg db.new.store) result
         (outputs O.tells (O.taken (inner out.old)) err_tells err) (outputs O.tells (O.taken (inner out.new)) err_tells err) }
     ensures limits { IsTrue D.tells → LimitsTurn true (state (D.files disk.old).pkg db.old.store) db.old.store db.new.store
         (changes n (state (D.files disk.old).pkg db.old.store)) result }
-    ensures going { IfOk result (λ _tally. db.new.stopped ≡ false) }
-    ensures serving { IfOk result (λ _tally. IsTrue D.tells → IsServing (D.files disk.new) (D.left_since disk.new (D.moment disk.new)) db.new) }
-    ensures index { IfOk result (λ _tally. IsTrue D.tells → IsIndexed (D.files disk.new).pkg (D.files disk.new).idx db.new) }
+    ensures current { IfOk result (λ _tally. IsCurrent D.Disk disk.new db.new) }
     ensures indexed { is_indexed db.new ≡ true }
     ensures spent { IfErr result (IsSpent db.new) }
     ensures kinds { IfErr result IsOfExercise }
@@ -194,10 +184,8 @@ pub fn exercise<D: Disk, O: Sink + Drop>(
     out: &mut Buffered<O>,
 ) -> Result<Tally, ExerciseFault>
     requires few { n ≤ 100000 }
-    requires indexed { is_indexed db.old ≡ true }
-    requires going { db.old.stopped ≡ false }
+    requires ready { IsReady D.Disk disk.old db.old }
     requires from_one { IsTrue D.tells → database.holds 0 db.old ≡ false }
-    requires serving { IsTrue D.tells → IsServing (D.files disk.old) (D.left_since disk.old (D.moment disk.old)) db.old }
     ensures empty { IsRefused (IsNext (λ m. database.holds m db.old) 0) result }
     ensures refused { (number : ℕ) → result ≡ Err (ExerciseFault.NotEmpty number) → (db.new ≡ db.old) × (disk.new ≡ disk.old) × (out.new ≡ out.old) }
     ensures ended { IsTrue D.tells → (err_tells : Bool) (err : List ℕ) → OnceBegun (λ r. Ended (exercise n (state (D.files disk.old).pkg db.old.store))
@@ -205,12 +193,8 @@ pub fn exercise<D: Disk, O: Sink + Drop>(
         (outputs O.tells (O.taken (inner out.old)) err_tells err) (outputs O.tells (O.taken (inner out.new)) err_tells err)) result }
     ensures limits { IsTrue D.tells → OnceBegun (λ r. LimitsTurn true (state (D.files disk.old).pkg db.old.store) db.old.store db.new.store
         (changes n (state (D.files disk.old).pkg db.old.store)) r) result }
-    ensures going { IfOk result (λ _tally. db.new.stopped ≡ false) }
-    ensures serving { IfOk result (λ _tally. IsTrue D.tells → IsServing (D.files disk.new) (D.left_since disk.new (D.moment disk.new)) db.new) }
-    ensures index { IfOk result (λ _tally. IsTrue D.tells → IsIndexed (D.files disk.new).pkg (D.files disk.new).idx db.new) }
-    ensures indexed { is_indexed db.new ≡ true }
-    ensures spent { OnceBegun (λ r. IfErr r (IsSpent db.new)) result }
-    ensures kinds { OnceBegun (λ r. IfErr r IsOfExercise) result }
+    ensures current { IfOk result (λ _tally. IsCurrent D.Disk disk.new db.new) }
+    ensures stop { OnceBegun (λ r. IfErr r (IsStop db.new)) result }
     ensures runs { Runs D.tells D.files D.left_since D.moment D.bytes_read D.follows SameLog disk.old disk.new }
     ensures disk { HasCauseAt (result ≡ Err (ExerciseFault.Halted Halt.DiskFault)) (D.faults disk.old) (D.faults disk.new) }
     ensures out { Hand O.Sink (result ≡ Err (ExerciseFault.Halted Halt.OutFault)) out.old out.new }

@@ -17,8 +17,8 @@ loop-done-init g c = record {
       limited_start j (round_changes c.args.round c.args.b c.args.n) (flat_map (turn c.args.round c.args.b) (range_with_len 1 (c.args.n - 0)))
       (state (g.D.Disk.files c.args.disk.now).pkg c.args.db.now.store) c.args.db.now.store (each_all (turn c.args.round c.args.b) c.args.n);
   few = omega arith;
-  carried = record { going = c.requires.going; serving = c.requires.serving; index = λ told rows. rows };
-  indexed = c.requires.indexed;
+  carried = record { going = c.requires.ready.going; serving = c.requires.ready.serving; index = λ told rows. rows };
+  indexed = c.requires.ready.indexed;
   runs = runs_none g.D.Disk.tells g.D.Disk.files g.D.Disk.left_since g.D.Disk.moment g.D.Disk.bytes_read g.D.Disk.follows g.met.D.Disk.follows_refl SameLog
       (λ f. refl) c.args.disk.now;
   disk = omega arith;

@@ -21,7 +21,7 @@ returns-in-Ok-put-clause-limits g c = λ told j rows.
     let done = c.in-Ok-put.ensures in
     put_limits j c.args.i 2 c.in-Ok-generated.blob.items c.deref.result.now c.deref.ensures.value c.in-Ok-generated.ensures.laid
     c.in-Ok-generated.ensures.again (state (g.D.Disk.files c.args.disk.now).pkg c.args.db.now.store) c.args.db.now c.put.new.self.store _ c.in-Ok.number
-    (c.args.b + c.args.i) c.in-Ok.ensures.value _ (record { failed = 0; changes = 1 }) done.causes done.placed done.generation (λ yes. done.full told c.requires.going (rows yes))
+    (c.args.b + c.args.i) c.in-Ok.ensures.value _ (record { failed = 0; changes = 1 }) done.causes done.placed done.generation (λ yes. done.full told c.requires.ready.going (rows yes))
 
 pub returns-clause-limits : goal.returns-clause-limits
 returns-clause-limits g c = λ told j rows.
@@ -29,4 +29,4 @@ returns-clause-limits g c = λ told j rows.
     (put_refused j c.args.i 2 c.in-Ok-generated.blob.items c.deref.result.now c.deref.ensures.value c.in-Ok-generated.ensures.laid
     c.in-Ok-generated.ensures.again (state (g.D.Disk.files c.args.disk.now).pkg c.args.db.now.store) c.args.db.now c.put.new.self.store _ c.in-Ok.number
     (c.args.b + c.args.i) c.in-Ok.ensures.value c.in-Err-put.fault c.in-Err-put.ensures.causes c.in-Err-put.ensures.placed
-    (λ yes. c.in-Err-put.ensures.full told c.requires.going (rows yes)))
+    (λ yes. c.in-Err-put.ensures.full told c.requires.ready.going (rows yes)))

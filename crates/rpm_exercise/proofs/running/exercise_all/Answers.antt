@@ -31,17 +31,14 @@ returns-in-Ok-clause-ended g c = λ told et e.
     let same = state_remade (g.D.Disk.files c.args.disk.now) (g.D.Disk.files c.renew.new.disk) c.args.db.now c.renew.new.db
     (c.in-Ok.ensures.runs.reads_as told) c.in-Ok.ensures.store in
     subst (λ (s : State). Ended (exercise c.args.n s) s u c.change_and_tell.result old new) same
-    (c.change_and_tell.ensures.ended told (c.in-Ok.ensures.index told) et e)
+    (c.change_and_tell.ensures.ended told (c.in-Ok.ensures.current.index told) et e)
 
-pub returns-in-Ok-clause-going : goal.returns-in-Ok-clause-going
-returns-in-Ok-clause-going g c = if_ok _ _ c.change_and_tell.result (λ carried. carried.going) c.change_and_tell.ensures.carried
-
-pub returns-in-Ok-clause-serving : goal.returns-in-Ok-clause-serving
-returns-in-Ok-clause-serving g c = if_ok _ _ c.change_and_tell.result (λ carried. carried.serving) c.change_and_tell.ensures.carried
-
-pub returns-in-Ok-clause-index : goal.returns-in-Ok-clause-index
-returns-in-Ok-clause-index g c =
-    if_ok _ _ c.change_and_tell.result (λ carried told. carried.index told (c.in-Ok.ensures.index told)) c.change_and_tell.ensures.carried
+pub returns-in-Ok-clause-current : goal.returns-in-Ok-clause-current
+returns-in-Ok-clause-current g c =
+    if_ok _ _ c.change_and_tell.result (λ carried. record {
+      ready = record { indexed = c.change_and_tell.ensures.indexed; going = carried.going; serving = carried.serving };
+      index = λ told. carried.index told (c.in-Ok.ensures.current.index told);
+    }) c.change_and_tell.ensures.carried
 
 pub returns-in-Ok-clause-runs : goal.returns-in-Ok-clause-runs
 returns-in-Ok-clause-runs g c =
@@ -65,7 +62,7 @@ returns-in-Ok-clause-limits g c = λ told.
     subst (λ (v : Store). LimitsTurn true (state (g.D.Disk.files c.args.disk.now).pkg c.args.db.now.store) v c.change_and_tell.new.db.store
     (changes c.args.n (state (g.D.Disk.files c.args.disk.now).pkg c.args.db.now.store)) c.change_and_tell.result) c.in-Ok.ensures.store
     (subst (λ (s : State). LimitsTurn true s c.renew.new.db.store c.change_and_tell.new.db.store (changes c.args.n s) c.change_and_tell.result) same
-    (c.change_and_tell.ensures.limits told true (λ yes. c.in-Ok.ensures.index told)))
+    (c.change_and_tell.ensures.limits told true (λ yes. c.in-Ok.ensures.current.index told)))
 
 pub returns-in-Err-clause-limits : goal.returns-in-Err-clause-limits
 returns-in-Err-clause-limits g c = λ told.

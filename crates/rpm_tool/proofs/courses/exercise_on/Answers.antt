@@ -30,9 +30,9 @@ returns-in-Ok-exercise-clause-worked g c = λ told err_tells err.
     let now = outputs g.O.Sink.tells (g.O.Sink.taken (inner c.exercise.new.out)) err_tells err in
     done_exercise c.args.headers (g.D.Disk.files c.args.disk.now) (g.D.Disk.files c.open_to_change.new.disk) (g.D.Disk.files c.exercise.new.disk)
     c.in-Ok.db c.exercise.new.db before now (c.in-Ok.ensures.opened told) (c.in-Ok.ensures.from_one told) c.in-Ok-exercise.tally said.empty
-    (said.serving told).keeps (said.ended told err_tells err)
+    (said.current.ready.serving told).keeps (said.ended told err_tells err)
     (still_paged (exercise c.args.headers (state (g.D.Disk.files c.open_to_change.new.disk).pkg c.in-Ok.db.store)).changes c.in-Ok.db c.exercise.new.db.store
-    c.in-Ok.ensures.not_blank (said.limits told).stores) (said.index told)
+    c.in-Ok.ensures.not_blank (said.limits told).stores) (said.current.index told)
 
 pub returns-in-Ok-exercise-clause-empty : goal.returns-in-Ok-exercise-clause-empty
 returns-in-Ok-exercise-clause-empty g c = λ told.
