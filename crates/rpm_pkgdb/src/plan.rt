@@ -195,9 +195,10 @@ impl PkgDb {
     /// Decides where a blob of a length goes, under a number that is there or, for `None`, under a new one; and makes the room for it.
     ///
     /// The blob goes to the least free blocks behind the slot pages, a new number to the first free slot. Nothing is read and nothing
-    /// written. The first plan of a value gathers the used ranges, n log n in the slots and linear where they rise in a few runs, and
-    /// takes 24 bytes for each, and at most 12 a slot meanwhile; a later one takes two binary searches, a step for each gap that is too narrow, and for a
-    /// new number a step for each used slot from the last one put on.
+    /// written. The first plan of a value gathers the used ranges, a step a slot where they rise in the order of the file, and else n log n,
+    /// which is linear where they rise in a few runs; it takes 24 bytes a slot, and where they don't rise at most 12 more meanwhile. A later
+    /// one takes two binary searches, a step for each gap that is too narrow, and for a new number a step for each used slot from the last
+    /// one put on.
     ///
     /// A new number for which no slot is free asks for a slot page more. The blobs in its way are planned to move behind it, by rising
     /// block, each to the least free place; then the new blob. This takes a step a slot to find them and a copy of the slots and of their

@@ -37,7 +37,7 @@ pub struct DiskFault;
 /// The head and the slots of a `Packages.db`, read once.
 ///
 /// The blobs stay in the file: each call that takes the disk takes the one that the value was opened on, as long as that file says
-/// what the value keeps. In memory a value has 12 bytes a slot and 8 more a package; and 24 more a package once a change was planned.
+/// what the value keeps. In memory a value has 12 bytes a slot and 8 more a package; and 24 more a slot once a change was planned.
 #[derive(Drop)]
 pub struct PkgDb {
     pub(crate) generation: u32,
@@ -121,10 +121,10 @@ impl PkgDb {
     /// before the first damage is looked for, and room for them is taken first: 20 bytes a slot for as long as the value lives, and
     /// while opening 28 more.
     ///
-    /// The used slots are put in order by first block and by number, and each is compared with the next, which shows that no two of them
-    /// meet: n log n whatever stands in them, and linear where they rise in a few runs, as additions leave them, and slot pages too, which
-    /// move the first packages after the others. Where that doesn't show it, two ordered maps find the first damage, which takes about ten
-    /// times as long.
+    /// Each used slot is compared with the next by number and by first block, which shows that no two of them meet: as they stand, where
+    /// they rise, as additions leave them, and else once they are put in order. This takes n log n whatever stands in them, and is linear
+    /// where they rise in a few runs, as slot pages leave them, which move the first packages after the others. Where that doesn't show it,
+    /// two ordered maps find the first damage, which takes about ten times as long.
     ///
     /// No package has the number 0.
     ///

@@ -1,5 +1,5 @@
 -- The used ranges of a value's slots, where they were gathered.
-use Rattle.std.specs.Prelude.{◌≡◌, ℕ, ◌+◌, ◌≤◌, List, Contains, SomeIndex, Option, Some, None, true, false}
+use Rattle.std.specs.Prelude.{◌≡◌, ℕ, ◌+◌, ◌<◌, ◌≤◌, List, Contains, SomeIndex, Option, Some, None, true, false}
 use Rattle.rpm_blocks.specs.declared.Range.{Range}
 use Rattle.rpm_blocks.specs.Blocks.{Blocks, range, range_at, without, with_range, IsFree}
 use Rattle.rpm_pkgdb.specs.declared.slot.Slot.{Slot}
@@ -19,6 +19,11 @@ pub record UsedBy (slots : List Slot) (x : Range) : Type 0 where
 pub record AreRangesOf (ranges : List Range) (slots : List Slot) : Type 0 where
   pub each : (k : ℕ) → is_used (slot_at slots k) ≡ true → Contains ranges (range_of (slot_at slots k))
   pub only : (x : Range) → Contains ranges x → UsedBy slots x
+
+-- the ranges are those of the used ones of the first so many slots
+pub record AreRangesTo (slots : List Slot) (count : ℕ) (ranges : List Range) : Type 0 where
+  pub each : (k : ℕ) → k < count → is_used (slot_at slots k) ≡ true → Contains ranges (range_of (slot_at slots k))
+  pub only : (x : Range) → Contains ranges x → (k : ℕ) × (k < count) × (is_used (slot_at slots k) ≡ true) × (x ≡ range_of (slot_at slots k))
 
 -- where they were gathered, they are, and have room for so many more
 abbrev pub HasUsed : Option Blocks → ℕ → List Slot → Type 0
