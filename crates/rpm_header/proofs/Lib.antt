@@ -16,6 +16,7 @@ pub mod LaidParts
 pub mod LaidSections
 pub mod Laws
 pub mod Longer
+pub mod Near
 pub mod NumbersAgain
 pub mod Opened
 pub mod Own

@@ -8,6 +8,8 @@ ghost use Rattle.rpm_header.specs.inner.Splits.{Splits};
 ghost use Rattle.rpm_header.specs.Laid.{joined};
 ghost use Rattle.rpm_header.specs.inner.Zeros.{skipped};
 
+use std::simd::prelude::*;
+
 /// The number of two bytes from a place on, the highest first.
 #[tactic(auto, unfolding(crate::specs::Bytes::number_at))]
 pub fn u16_at(bytes: &[u8], at: usize) -> u16
@@ -38,14 +40,32 @@ pub fn u64_at(bytes: &[u8], at: usize) -> u64
     ])
 }
 
+/// The place of the first zero byte, where it is among the first 16 bytes; else 16.
+fn end_in_front(bytes: &[u8]) -> usize
+    requires { 16 ≤ length bytes.now }
+    ensures { result < 16 → position is_zero bytes.now ≡ Some result }
+{
+    let zeros = u8x16::from_slice(bytes)
+        .simd_eq(u8x16::splat(0))
+        .to_bitmask();
+    (zeros.trailing_zeros() as usize).min(16)
+}
+
+/// The place of the first zero byte. Looks at the first 16 bytes at once, where most texts end.
 fn end_of(bytes: &[u8]) -> Option<usize>
     ensures value { result ≡ position is_zero bytes.now }
     ensures within { IfSome result (λ end. end < length bytes.now) }
 {
+    if bytes.len() >= 16 {
+        let end = end_in_front(bytes);
+        if end < 16 {
+            return Some(end);
+        }
+    }
     bytes.iter().position(|b| *b == 0)
 }
 
-/// The first text without its zero byte, and what stands behind that byte. None where there is no
+/// The first text without its zero byte, and what stands after that byte. None where there is no
 /// zero byte.
 fn split_text(bytes: &[u8]) -> Option<(&[u8], &[u8])>
     ensures { MatchOption result
@@ -70,7 +90,7 @@ pub fn are_ended(count: u32, bytes: &[u8]) -> bool
     true
 }
 
-/// The first text and what stands behind its zero byte, where it has one.
+/// The first text and what stands after its zero byte, where it has one.
 pub fn next_text(bytes: &[u8]) -> (&[u8], &[u8])
     requires { is_some (position is_zero bytes.now) ≡ true }
     ensures { Splits bytes.now result.0.now result.1.now }
@@ -96,7 +116,7 @@ pub fn text_of(count: u32, bytes: &[u8], i: u32) -> &[u8]
     text
 }
 
-/// What stands behind so many texts that have their zero bytes. Reads the bytes of these texts once.
+/// What stands after so many texts that have their zero bytes. Reads the bytes of these texts once.
 pub fn skip_texts(count: u32, bytes: &[u8]) -> &[u8]
     requires { are_ended count bytes.now ≡ true }
     ensures { result.now ≡ skipped count bytes.now }
