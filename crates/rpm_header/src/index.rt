@@ -1,6 +1,6 @@
 //! The index of a header, its limits, and the faults of its entries.
 
-ghost use Rattle.std.specs.Prelude.{◌≡◌, ℕ, ◌+◌, ◌*◌, ◌≤◌, ◌<◌, length, drop};
+ghost use Rattle.std.specs.Prelude.{◌≡◌, true, ℕ, ◌+◌, ◌*◌, ◌≤◌, ◌<◌, length, drop};
 ghost use Rattle.rpm_header.specs.Header.{index_entry_at, form_of, alignment, has_texts, is_region_tag, is_bad_count, element_fault, form_fault, counts_back, region_fault, fault_at, section_of};
 
 use crate::bytes::u32_at;
@@ -99,6 +99,26 @@ fn is_bad_count(form: Form, count: u32, bytes: &[u8]) -> bool
     }
 }
 
+/// The fault of an entry of texts, whose bytes are looked at only where there may be as many.
+#[inline(always)]
+fn text_fault(form: Form, i: u32, entry: IndexEntry, ends: &mut TextEnds<'_>) -> Option<HeaderFault>
+    requires texts { has_texts form ≡ true }
+    requires within { entry.offset ≤ length ends.old }
+    ensures value { result ≡ element_fault form i entry.count (drop entry.offset ends.old) }
+    ensures same { ends.new ≡ ends.old }
+{
+    let offset = entry.offset as usize;
+    let section = ends.section();
+    if is_bad_count(form, entry.count, &section[offset..]) {
+        Some(HeaderFault::BadCount(i))
+    } else if !ends.are_ended(entry.count, offset) {
+        Some(HeaderFault::NoEnd(i))
+    } else {
+        None
+    }
+}
+
+#[inline(always)]
 fn element_fault(
     form: Form,
     i: u32,
@@ -109,12 +129,12 @@ fn element_fault(
     ensures value { result ≡ element_fault form i entry.count (drop entry.offset ends.old) }
     ensures same { ends.new ≡ ends.old }
 {
-    let offset = entry.offset as usize;
+    if has_texts(form) {
+        return text_fault(form, i, entry, ends);
+    }
     let section = ends.section();
-    if is_bad_count(form, entry.count, &section[offset..]) {
+    if is_bad_count(form, entry.count, &section[entry.offset as usize..]) {
         Some(HeaderFault::BadCount(i))
-    } else if has_texts(form) && !ends.are_ended(entry.count, offset) {
-        Some(HeaderFault::NoEnd(i))
     } else {
         None
     }
