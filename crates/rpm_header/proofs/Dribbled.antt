@@ -134,6 +134,19 @@ dribbled_parts h more l begun a b c d w front ia ib ic id =
     joined_parts begun (own_index h) (index_from (length (own_data h)) more) (own_data h) (data_from (length (own_data h)) more) a b c d ia ib ic id
     ∙ ap (λ (f : List ℕ). f ++ dribbled_index h more ++ dribbled_data h more) lengths
 
+-- the same, where each piece that is written is known by an equation of its own
+pub dribbled_pieces : (h : Header) (more : List Item) (l : Lengths) (begun a b c d index section : List ℕ) (es fs : List Item)
+    → IsWithin (length h.entries + length more) (length (dribbled_data h more)) l
+    → begun ≡ to_be_bytes w32 l.entries ++ to_be_bytes w32 l.size
+    → index ≡ own_index h → section ≡ own_data h → es ≡ more → fs ≡ more
+    → a ≡ begun ++ index → b ≡ a ++ index_from (length section) es → c ≡ b ++ section → d ≡ c ++ data_from (length section) fs
+    → d ≡ dribbled h more
+dribbled_pieces h more l begun a b c d index section es fs w front is ss ie fe ia ib ic id =
+    dribbled_parts h more l begun a b c d w front (ia ∙ ap (λ (x : List ℕ). begun ++ x) is)
+    (ib ∙ ap (λ (x : List ℕ). a ++ index_from (length x) es) ss ∙ ap (λ (x : List Item). a ++ index_from (length (own_data h)) x) ie)
+    (ic ∙ ap (λ (x : List ℕ). b ++ x) ss)
+    (id ∙ ap (λ (x : List ℕ). c ++ data_from (length x) fs) ss ∙ ap (λ (x : List Item). c ++ data_from (length (own_data h)) x) fe)
+
 -- what is written is the header, which is read again
 pub dribbled_written : (h : Header) (more : List Item) (l : Lengths) (blob : List ℕ) → IsOpened h → AllByRecursion ReadsBack more
     → IsWithin (length h.entries + length more) (length (dribbled_data h more)) l → blob ≡ dribbled h more
