@@ -25,12 +25,15 @@ is_text_list _ = false
 abbrev pub numbers_item : ℕ → Form → List ℕ → Item
 numbers_item tag f ns = record { tag = tag; form = f; count = length ns; values = Numbers ns }
 
+-- one text under a tag
 abbrev pub text_item : ℕ → List ℕ → Item
 text_item tag text = record { tag = tag; form = form.Text; count = 1; values = Texts (text ∷ []) }
 
+-- texts under a tag, in a form of many texts
 abbrev pub texts_item : ℕ → Form → List (List ℕ) → Item
 texts_item tag f ts = record { tag = tag; form = f; count = length ts; values = Texts ts }
 
+-- bytes under a tag, which are one value
 abbrev pub bin_item : ℕ → List ℕ → Item
 bin_item tag bytes = record { tag = tag; form = form.Bin; count = length bytes; values = Bytes bytes }
 

@@ -14,6 +14,7 @@ magic = 0x8e ∷ 0xad ∷ 0xe8 ∷ 0x01 ∷ 0 ∷ 0 ∷ 0 ∷ 0 ∷ []
 abbrev pub region_entry : Header → IndexEntry
 region_entry h = index_entry_at (own_index h) 0
 
+-- the trailer, which stands in the data at the offset of the first entry
 abbrev pub region_trailer : Header → IndexEntry
 region_trailer h = index_entry_at (own_data h) (region_entry h).offset
 
@@ -34,6 +35,7 @@ abbrev pub region_in_file : Header → List ℕ
 region_in_file h =
     in_file (region_entries h) (region_size h) (take (16 * region_entries h) (own_index h)) (take (region_size h) (own_data h))
 
+-- the first entry has this tag
 abbrev pub begins_with : ℕ → List Item → Bool
 begins_with tag [] = false
 begins_with tag (e ∷ es) = e.tag == tag

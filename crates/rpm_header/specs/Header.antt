@@ -45,10 +45,12 @@ abbrev pub numbers_of : Values → List ℕ
 numbers_of (Numbers ns) = ns
 numbers_of _ = []
 
+-- the texts of an entry, and none of another class
 abbrev pub texts_of : Values → List (List ℕ)
 texts_of (Texts ts) = ts
 texts_of _ = []
 
+-- the bytes of an entry that is a Bin, and none of another class
 abbrev pub bytes_of : Values → List ℕ
 bytes_of (Bytes bs) = bs
 bytes_of _ = []
@@ -75,6 +77,7 @@ forms =
     form.Null ∷ form.Char ∷ form.Int8 ∷ form.Int16 ∷ form.Int32 ∷ form.Int64 ∷ form.Text ∷ form.Bin ∷ form.Texts
     ∷ form.I18n ∷ []
 
+-- the form of a type, and none above 9
 abbrev pub form_of : ℕ → Option Form
 form_of kind = slice_get forms kind
 
@@ -89,12 +92,14 @@ width _ = w8
 abbrev pub alignment : Form → ℕ
 alignment f = byte_len (width f)
 
+-- the forms whose elements are texts
 abbrev pub has_texts : Form → Bool
 has_texts form.Text = true
 has_texts form.Texts = true
 has_texts form.I18n = true
 has_texts _ = false
 
+-- the forms whose elements are numbers
 abbrev pub has_numbers : Form → Bool
 has_numbers form.Char = true
 has_numbers form.Int8 = true
@@ -114,14 +119,17 @@ values form.Texts count bytes = Texts (texts count bytes)
 values form.I18n count bytes = Texts (texts count bytes)
 values f count bytes = Numbers (numbers (width f) count bytes)
 
+-- so many numbers
 abbrev pub AreNumbers : ℕ → Values → Type 0
 AreNumbers count (Numbers ns) = length ns ≡ count
 AreNumbers count _ = ⊥
 
+-- so many texts
 abbrev pub AreTexts : ℕ → Values → Type 0
 AreTexts count (Texts ts) = length ts ≡ count
 AreTexts count _ = ⊥
 
+-- so many bytes
 abbrev pub AreBytes : ℕ → Values → Type 0
 AreBytes count (Bytes bs) = length bs ≡ count
 AreBytes count _ = ⊥
@@ -145,6 +153,7 @@ is_bad_count form.Texts count bytes = count == 0
 is_bad_count form.I18n count bytes = count == 0
 is_bad_count f count bytes = count == 0 || nat_lt (length bytes) (count * alignment f)
 
+-- the fault of the elements of entry i: first their number, then a text without its zero byte
 abbrev pub element_fault : Form → ℕ → ℕ → List ℕ → Option HeaderFault
 element_fault f i count bytes =
     if is_bad_count f count bytes then Some (BadCount i)
@@ -165,9 +174,11 @@ form_fault (Some f) i e section =
 abbrev pub signature_region : ℕ
 signature_region = 62
 
+-- the tag of the region of a main header
 abbrev pub main_region : ℕ
 main_region = 63
 
+-- either of the two
 abbrev pub is_region_tag : ℕ → Bool
 is_region_tag tag = tag == signature_region || tag == main_region
 
@@ -186,12 +197,15 @@ region_fault il e section =
 
 -- a header of il entries, over its own bytes
 module _ (il : ℕ) (blob : List ℕ) where
+  -- entry i of the index, which follows the two lengths
   abbrev pub index_entry : ℕ → IndexEntry
   index_entry i = index_entry_at blob (8 + 16 * i)
 
+  -- the data, which follow the index
   abbrev pub section_of : List ℕ
   section_of = drop (8 + 16 * il) blob
 
+  -- the fault of entry i as any entry may have it
   unfoldable pub entry_fault : ℕ → Option HeaderFault
   entry_fault i = form_fault (form_of (index_entry i).kind) i (index_entry i) section_of
 
@@ -200,6 +214,7 @@ module _ (il : ℕ) (blob : List ℕ) where
   fault_at i = option_or (entry_fault i) (
       if i == 0 && is_region_tag (index_entry i).tag then region_fault il (index_entry i) section_of else None)
 
+-- the form of a type, and Null above 9
 abbrev pub form_or_null : Option Form → Form
 form_or_null None = form.Null
 form_or_null (Some f) = f
@@ -210,6 +225,7 @@ entry_of e section =
     let f = form_or_null (form_of e.kind) in
     record { tag = e.tag; form = f; count = e.count; values = values f e.count (drop e.offset section) }
 
+-- all entries, in the order of the index
 unfoldable pub entries : ℕ → List ℕ → List Item
 entries il blob = each_below il (λ i. entry_of (index_entry il blob i) (section_of il blob))
 
@@ -219,6 +235,7 @@ first [] = None
 first (None ∷ xs) = first xs
 first (Some x ∷ xs) = Some x
 
+-- the first fault where there is one, and otherwise the answer
 abbrev pub unless : {X E : Type 0} → Option E → X → Result X E
 unless None x = Ok x
 unless (Some e) x = Err e

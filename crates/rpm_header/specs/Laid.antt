@@ -1,4 +1,4 @@
--- The header of a list of entries: each entry's data stand behind those of the entries before it, at the least offset
+-- The header of a list of entries: each entry's data stand after those of the entries before it, at the least offset
 -- that its form lets it have, with zeros between.
 use Rattle.std.specs.Prelude.{ℕ, ◌+◌, ◌-◌, ◌*◌, ◌^◌, List, [], ◌∷◌, ◌++◌, length, replicate, Bool, true, false, nat_lt, if◌then◌else◌, Result, Ok, Err}
 use Rattle.std.specs.List.{flat_map}
@@ -26,7 +26,7 @@ kind_of form.I18n = 9
 
 -- ---- the data
 
--- texts one after the other, each with a zero byte behind it
+-- texts one after the other, each with a zero byte after it
 abbrev pub joined : List (List ℕ) → List ℕ
 joined ts = flat_map (λ t. t ++ 0 ∷ []) ts
 
@@ -37,16 +37,19 @@ bytes_by f (Numbers ns) = flat_map (to_be_bytes (width f)) ns
 bytes_by f (Texts ts) = joined ts
 bytes_by f (Bytes bs) = bs
 
+-- the bytes of an entry in the data
 unfoldable pub bytes_in : Item → List ℕ
 bytes_in e = bytes_by e.form e.values
 
--- where an entry's data begin and end, behind so many bytes of data
+-- where an entry's data begin and end, after so many bytes of data
 unfoldable pub offset_of : ℕ → Item → ℕ
 offset_of at e = next_multiple_of at (alignment e.form)
 
+-- where an entry's data end, after so many bytes of data
 abbrev pub end_of : ℕ → Item → ℕ
 end_of at e = offset_of at e + length (bytes_in e)
 
+-- the data of entries, after so many bytes of data
 unfoldable pub data_from : ℕ → List Item → List ℕ
 data_from at [] = []
 data_from at (e ∷ es) = replicate (offset_of at e - at) 0 ++ bytes_in e ++ data_from (end_of at e) es
@@ -58,9 +61,11 @@ unfoldable pub index_bytes : IndexEntry → List ℕ
 index_bytes i =
     to_be_bytes w32 i.tag ++ to_be_bytes w32 i.kind ++ to_be_bytes w32 i.offset ++ to_be_bytes w32 i.count
 
+-- an entry of the index for data that begin at an offset
 abbrev pub indexed : ℕ → Item → IndexEntry
 indexed offset e = record { tag = e.tag; kind = kind_of e.form; offset = offset; count = e.count }
 
+-- the index of entries, whose data stand after so many bytes of data
 unfoldable pub index_from : ℕ → List Item → List ℕ
 index_from at [] = []
 index_from at (e ∷ es) = index_bytes (indexed (offset_of at e) e) ++ index_from (end_of at e) es
@@ -72,9 +77,11 @@ index_from at (e ∷ es) = index_bytes (indexed (offset_of at e) e) ++ index_fro
 abbrev pub trailer_entry : ℕ → IndexEntry
 trailer_entry n = record { tag = main_region; kind = 7; offset = 2 ^ 32 - 16 * n; count = 16 }
 
+-- the sixteen bytes of that trailer
 abbrev pub trailer : ℕ → List ℕ
 trailer n = index_bytes (trailer_entry n)
 
+-- the entry of a region of n entries
 abbrev pub region_item : ℕ → Item
 region_item n = record { tag = main_region; form = form.Bin; count = 16; values = Bytes (trailer n) }
 
@@ -88,6 +95,7 @@ abbrev pub index_of : Bool → List Item → List ℕ
 index_of false es = index_from 0 es
 index_of true es = index_bytes (indexed (length (data_from 0 es)) (region_item (length es + 1))) ++ index_from 0 es
 
+-- the data, with the trailer last where there is a region
 abbrev pub data_of : Bool → List Item → List ℕ
 data_of false es = data_from 0 es
 data_of true es = data_from 0 es ++ trailer (length es + 1)
@@ -98,6 +106,7 @@ data_of true es = data_from 0 es ++ trailer (length es + 1)
 abbrev pub blob_of : ℕ → List ℕ → List ℕ → List ℕ
 blob_of n index section = to_be_bytes w32 n ++ to_be_bytes w32 (length section) ++ index ++ section
 
+-- the bytes of the header of these entries, with a region or without one
 unfoldable pub laid : Bool → List Item → List ℕ
 laid region es = blob_of (length (with_region region es)) (index_of region es) (data_of region es)
 

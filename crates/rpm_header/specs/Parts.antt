@@ -1,4 +1,4 @@
--- The two parts of a header behind its lengths.
+-- The two parts of a header after its lengths.
 use Rattle.std.specs.Prelude.{ℕ, ◌*◌, List, length, take, drop}
 use Rattle.rpm_header.specs.Header.{Header, section_of}
 

@@ -165,10 +165,10 @@ impl Builder {
     }
 
     /// The header of the entries, in the order of their pushes and without the eight bytes that
-    /// stand before a header in files. Each entry's data stand at the least offset behind those
+    /// stand before a header in files. Each entry's data stand at the least offset after those
     /// before it that is a multiple of its number's width, with zeros between. With `region` an
     /// entry of tag 63 stands first in the index, and its trailer of 16 bytes ends the data: the
-    /// region is all of the header. Read again, the header has these entries, behind the region's
+    /// region is all of the header. Read again, the header has these entries, after the region's
     /// where there is one. The layout is that of rpm's documentation of the V4 header; that the
     /// trailer ends the data is this project's own.
     ///

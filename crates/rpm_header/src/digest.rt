@@ -41,7 +41,7 @@ fn region_digest(view: &View<'_>) -> [u8; 32]
     )
 }
 
-/// The SHA-256 of the region of a header, which entries behind the region leave as it is: of the
+/// The SHA-256 of the region of a header, which entries after the region leave as it is: of the
 /// region's own entries and data as a header of their own, with the eight bytes that stand before a
 /// header in files. None exactly where the first entry isn't a region of tag 63. The bytes that are
 /// digested are those of rpm's documentation of the V4 header.

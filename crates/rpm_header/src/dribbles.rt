@@ -1,4 +1,4 @@
-//! Entries behind those of a header that stands.
+//! Entries after those of a header that stands.
 
 ghost use Rattle.std.specs.Prelude.{◌≡◌, ℕ, ◌+◌, ◌++◌, ◌≤◌, ◌<◌, ◌↔◌, length, IfOk, Ok, Err};
 ghost use Rattle.rpm_header.specs.Header.{max_data, max_entries, header, Header};
@@ -39,7 +39,7 @@ fn lay_out(
     Ok(out)
 }
 
-/// The view's header with the builder's entries behind its own. Their data stand behind the view's
+/// The view's header with the builder's entries after its own. Their data stand after the view's
 /// data, each at the least offset that is a multiple of its number's width, with zeros between; all
 /// bytes of the view's index and data stay as they are. So a region in front stays the same, and
 /// the entries that are added are its dribbles. Read again, the header has the view's entries

@@ -80,7 +80,7 @@ impl<'s> ZeroSums<'s> {
     }
 }
 
-/// The place behind the last zero byte, or 0. Reads the bytes from that byte on.
+/// The place after the last zero byte, or 0. Reads the bytes from that byte on.
 fn behind_last_zero(bytes: &[u8]) -> usize
     ensures { HasZeroFrom bytes.now result }
 {
@@ -115,7 +115,7 @@ impl<'s> Model for TextEnds<'s> {
 }
 
 impl<'s> TextEnds<'s> {
-    /// Lists of texts are read byte after byte, and of the data the bytes behind the last text.
+    /// Lists of texts are read byte after byte, and of the data the bytes after the last text.
     pub fn new(section: &'s [u8]) -> TextEnds<'s>
         ensures { result ≡ section.now }
     {

@@ -75,8 +75,8 @@ fn data_end(entries: &[PackedEntry], start: usize) -> Option<usize>
     Some(end)
 }
 
-/// The lengths of a header in which these entries stand behind so many others, and their data
-/// between so many bytes in front and behind; or the first limit that they pass.
+/// The lengths of a header in which these entries stand after so many others, and their data
+/// between so many bytes in front and after; or the first limit that they pass.
 pub fn lengths_of(
     others: usize,
     front: usize,
@@ -188,7 +188,7 @@ pub fn append_data(
     Ok(())
 }
 
-/// Adds the index entry of a region whose trailer stands behind so many bytes of data.
+/// Adds the index entry of a region whose trailer stands after so many bytes of data.
 pub fn append_region_entry(
     out: &mut Vec<u8>,
     region: bool,

@@ -10,7 +10,7 @@
 //! `View::parse` checks a header once, whole. After that each reader answers with no check and no
 //! `Result`. Reading copies no byte of the header and takes no memory.
 //!
-//! `Builder` makes a header of entries that are pushed, `with_dribbles` adds entries behind those of
+//! `Builder` makes a header of entries that are pushed, `with_dribbles` adds entries after those of
 //! a header, and `immutable_digest` is the digest of the region with which a header begins.
 #![tactic(auto)]
 

@@ -132,7 +132,7 @@ fn stride_before(sums: &[u32], count: u32) -> usize
     low
 }
 
-/// What stands behind so many texts, by the zeros in front of strides. Reads the bytes of one stride
+/// What stands after so many texts, by the zeros in front of strides. Reads the bytes of one stride
 /// at most.
 fn behind_strides<'a>(bytes: &'a [u8], stride: usize, sums: &[u32], count: u32) -> &'a [u8]
     requires counted { AreCounted bytes.now stride sums.now }
@@ -148,7 +148,7 @@ fn behind_strides<'a>(bytes: &'a [u8], stride: usize, sums: &[u32], count: u32) 
     skip_texts(left, rest)
 }
 
-/// What stands behind so many of all texts. Reads the bytes of one stride at most.
+/// What stands after so many of all texts. Reads the bytes of one stride at most.
 fn behind<'a>(all: u32, bytes: &'a [u8], kept: Kept, numbers: &[u32], count: u32) -> &'a [u8]
     requires placed { IsPlaced all bytes.now kept numbers.now }
     requires within { count ≤ all }
@@ -160,7 +160,7 @@ fn behind<'a>(all: u32, bytes: &'a [u8], kept: Kept, numbers: &[u32], count: u32
     }
 }
 
-/// The first text, where the others stand behind its zero byte. Reads none of them.
+/// The first text, where the others stand after its zero byte. Reads none of them.
 fn in_front<'a>(bytes: &'a [u8], others: &[u8]) -> &'a [u8]
     requires ended { is_some (position is_zero bytes.now) ≡ true }
     requires others { others.now ≡ after_first is_zero bytes.now }

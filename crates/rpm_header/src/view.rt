@@ -31,8 +31,8 @@ impl<'a> Model for View<'a> {
 }
 
 impl<'a> View<'a> {
-    /// Reads the header with which these bytes begin. Bytes behind it are let pass: the header's
-    /// own are the first ones. Takes no memory. Reads each entry of the index once, the data behind its last zero
+    /// Reads the header with which these bytes begin. Bytes after it are let pass: the header's
+    /// own are the first ones. Takes no memory. Reads each entry of the index once, the data after its last zero
     /// byte once and, for each entry of several texts, each byte of these texts once, 64 at a time. Where
     /// entries share their data and texts of four times its length were read, it counts the zeros of the data
     /// once, and reads from then on at most a 4,095th of the data for each entry.

@@ -26,7 +26,7 @@ fn zeros_of_block(bytes: &[u8]) -> u32
         .count_ones()
 }
 
-/// What stands behind the first 64 bytes.
+/// What stands after the first 64 bytes.
 fn behind_block(bytes: &[u8]) -> &[u8]
     requires { 64 ≤ length bytes.now }
     ensures value { result.now ≡ drop 64 bytes.now }
@@ -90,7 +90,7 @@ pub fn has_end_near(bytes: &[u8]) -> bool {
     bytes.len() >= BLOCK && zeros_of_block(bytes) > 0
 }
 
-/// The block in which so many texts end, and how many of them end in it or behind it. Reads each
+/// The block in which so many texts end, and how many of them end in it or after it. Reads each
 /// byte in front of it once, 64 at a time.
 pub fn pass_blocks(count: u32, bytes: &[u8]) -> (u32, &[u8])
     requires { count ≤ zeros bytes.now }
@@ -121,7 +121,7 @@ fn zeros_of_part(bytes: &[u8]) -> u32
         .count_ones()
 }
 
-/// What stands behind the first 16 bytes.
+/// What stands after the first 16 bytes.
 fn behind_part(bytes: &[u8]) -> &[u8]
     requires { 16 ≤ length bytes.now }
     ensures value { result.now ≡ drop 16 bytes.now }

@@ -1,4 +1,4 @@
--- A number reads the same whatever stands behind its bytes.
+-- A number reads the same whatever stands after its bytes.
 use Rattle.std.proofs.Common.{◌≡◌, ℕ, zero, suc, ◌+◌, ◌-◌, ◌<◌, ◌≤◌, List, ◌++◌, length, drop, get_or, refl, ap, ◌∙◌, length-drop, arith}
 use Rattle.std.specs.Int.{Width, byte_worth, byte_len, from_be_bytes, sum_through}
 use Rattle.std.proofs.lemmas.List.{get_or_append_left, drop-append-le}

@@ -20,7 +20,7 @@ pub record IsSummed (bytes : List ℕ) (stride : ℕ) (sums : List ℕ) : Type 0
   pub size : length sums ≡ 4096
   pub each : (k : ℕ) → k < 4096 → slice_index sums k ≡ zeros (drop (k * stride) bytes)
 
--- what stands behind so many texts
+-- what stands after so many texts
 unfoldable pub skipped : ℕ → List ℕ → List ℕ
 skipped zero bytes = bytes
 skipped (suc n) bytes = skipped n (after_first is_zero bytes)
