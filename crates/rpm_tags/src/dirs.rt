@@ -64,7 +64,7 @@ struct ReadDirectory<'a> {
 #[derive(Drop)]
 pub struct Directories<'v, 'a> {
     all: &'v Texts<'a>,
-    // Those behind the furthest one that was read, and the number of the others.
+    // Those after the furthest one that was read, and the number of the others.
     ahead: TextIter<'a>,
     passed: u32,
     // The last that was read of those with the same remainder by 16.
@@ -142,10 +142,24 @@ impl<'v, 'a> Directories<'v, 'a> {
         dir
     }
 
+    /// The same, which is kept from then on.
+    #[inline(never)]
+    fn read_and_keep(&mut self, index: u32) -> &'a [u8]
+        requires { index < length self.old }
+        ensures value { slice_get self.old index ≡ Some result.now }
+        ensures short { length result.now ≤ max_data }
+        ensures same { self.new ≡ self.old }
+    {
+        let dir = self.read(index);
+        self.recent[(index % 16) as usize] = ReadDirectory { index, dir };
+        dir
+    }
+
     /// The directory of an index. Reads nothing where it is among the 16 that are kept; else the
     /// directories from the furthest one on that was read, or, where it is in front of that, 257 bytes
     /// at most to find where it begins and as many for where it ends, and the first time all of them
     /// twice at most. Without room it reads all of them up to its own.
+    #[inline(always)]
     pub fn dir(&mut self, index: u64) -> &'a [u8]
         requires { index < length self.old }
         ensures value { slice_get self.old index ≡ Some result.now }
@@ -154,13 +168,10 @@ impl<'v, 'a> Directories<'v, 'a> {
     {
         let _ = self.all.count();
         let index = index as u32;
-        let slot = (index % 16) as usize;
-        let seen = self.recent[slot];
+        let seen = self.recent[(index % 16) as usize];
         if seen.index == index {
             return seen.dir;
         }
-        let dir = self.read(index);
-        self.recent[slot] = ReadDirectory { index, dir };
-        dir
+        self.read_and_keep(index)
     }
 }

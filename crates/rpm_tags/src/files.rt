@@ -15,7 +15,7 @@ use crate::stored::{Numbers, TextIter, Texts, numbers_in, texts_in};
 use rpm_header::{PlacesRoom, View};
 use std::marker::Model;
 
-/// The directory of this index, and a name behind it.
+/// The directory of this index, and a name after it.
 fn path_of<'a>(dirs: &Texts<'a>, index: u64, base: &'a [u8]) -> Joined<'a>
     requires below { index < length dirs.now }
     requires short { length base.now ≤ max_data }
@@ -63,11 +63,12 @@ impl<'a> Files<'a> {
         path_of(&self.dirs, index, base)
     }
 
-    /// Whether all paths in order need room for the places of directories.
+    /// Whether all paths in order need room for the places of directories. Up to 16 directories are
+    /// all kept once they were read, so that no index is read then.
     pub fn need_room(&self) -> bool
         ensures { IsTrue result → 16 < length self.now }
     {
-        go_back(&self.indexes)
+        self.dirs.count() > 16 && go_back(&self.indexes)
     }
 
     /// All paths in order, with room for the places of directories.
@@ -107,6 +108,7 @@ impl<'v, 'a> Model for FileIter<'v, 'a> {
 
 impl<'v, 'a> FileIter<'v, 'a> {
     /// The next path: its directory, and its name, which follows it.
+    #[inline(always)]
     pub fn next_path(&mut self) -> Option<(&'a [u8], &'a [u8])>
         ensures steps { YieldsFirstBy (λ path. path.0.now ++ path.1.now) (λ s. s) self.old result self.new }
         ensures short { IfSome result (λ path. (length path.0.now ≤ max_data) × (length path.1.now ≤ max_data)) }
