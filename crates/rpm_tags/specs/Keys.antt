@@ -37,5 +37,6 @@ key_list k h = listed (texts_in h (tag_of_kind k))
 abbrev pub placed : List (List ℕ) → ℕ → List (List ℕ × ℕ)
 placed keys n = zip keys (range_with_len n (length keys))
 
+-- the keys of a kind in a header, each with its place
 abbrev pub keys : Kind → Header → List (List ℕ × ℕ)
 keys k h = placed (key_list k h) 0

@@ -3,6 +3,7 @@ use Rattle.std.specs.Prelude.{ℕ}
 use Rattle.rpm_tags.specs.declared.kind.Kind.{Kind}
 use Rattle.rpm_tags.specs.declared.kind.Kind.TheVariants as kind
 
+-- the number that the index stores for a kind
 abbrev pub code_of : Kind → ℕ
 code_of kind.Name = 1
 code_of kind.Basenames = 2

@@ -9,6 +9,7 @@ abbrev pub from : ℕ → List (List ℕ) → List (Tag × List ℕ)
 from n [] = []
 from n (name ∷ names) = (Stored n, name) ∷ from (n + 1) names
 
+-- each tag with its name, in the order in which names are looked for
 unfoldable pub table : List (Tag × List ℕ)
 table =
     from 257 (codes "SIGSIZE" ∷ []) ++
@@ -52,11 +53,13 @@ unfoldable pub tag_in : List (Tag × List ℕ) → List ℕ → Option Tag
 tag_in [] name = None
 tag_in (row ∷ rows) name = if str_eq_ignore_ascii_case name row.1 then Some row.0 else tag_in rows name
 
+-- the tag of a name, as a query format has it
 abbrev pub tag_of : List ℕ → Option Tag
 tag_of name = tag_in table (plain name)
 
 -- ---- a tag
 
+-- two tags are the same
 abbrev pub is_tag : Tag → Tag → Bool
 is_tag (Stored m) (Stored n) = m == n
 is_tag Nvra Nvra = true
@@ -73,5 +76,6 @@ unfoldable pub name_in : List (Tag × List ℕ) → Tag → Option (List ℕ)
 name_in [] tag = None
 name_in (row ∷ rows) tag = if is_tag row.0 tag then Some row.1 else name_in rows tag
 
+-- the name of a tag, and none of a number without a name
 abbrev pub name_of : Tag → Option (List ℕ)
 name_of tag = name_in table tag

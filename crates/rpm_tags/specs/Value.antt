@@ -19,11 +19,13 @@ pub data Elements : Type 0 where
   TextList : List (List ℕ) → Elements
   OneBlob : List ℕ → Elements
 
+-- what the elements are: numbers, texts or a blob
 abbrev pub class_of : Elements → Class
 class_of (NumberList ns) = class.Number
 class_of (TextList ts) = class.Text
 class_of (OneBlob bs) = class.Blob
 
+-- how many elements there are; a blob is one
 abbrev pub count_of : Elements → ℕ
 count_of (NumberList ns) = length ns
 count_of (TextList ts) = length ts
@@ -34,10 +36,12 @@ abbrev pub number_list : Elements → List ℕ
 number_list (NumberList ns) = ns
 number_list _ = []
 
+-- the texts, and none of another class
 abbrev pub text_list : Elements → List (List ℕ)
 text_list (TextList ts) = ts
 text_list _ = []
 
+-- the bytes of a blob, and none of another class
 abbrev pub blob_of : Elements → List ℕ
 blob_of (OneBlob bs) = bs
 blob_of _ = []
@@ -53,6 +57,7 @@ elements_by form.Texts v = Some (TextList (texts_of v))
 elements_by form.I18n v = Some (TextList (take 1 (texts_of v)))
 elements_by _ v = Some (NumberList (numbers_of v))
 
+-- the elements of an entry, and none of a Null
 abbrev pub elements : Item → Option Elements
 elements e = elements_by e.form e.values
 
@@ -62,23 +67,29 @@ stored h tag = option_and_then elements (last_of tag h.entries)
 
 -- ---- the elements of a tag, where it is of that class
 
+-- the texts, where the elements are texts
 abbrev pub if_texts : Option Elements → Option (List (List ℕ))
 if_texts (Some (TextList ts)) = Some ts
 if_texts _ = None
 
+-- the numbers, where the elements are numbers
 abbrev pub if_numbers : Option Elements → Option (List ℕ)
 if_numbers (Some (NumberList ns)) = Some ns
 if_numbers _ = None
 
+-- the texts of a tag in a header
 unfoldable pub texts_in : Header → ℕ → Option (List (List ℕ))
 texts_in h tag = if_texts (stored h tag)
 
+-- the numbers of a tag in a header
 unfoldable pub numbers_in : Header → ℕ → Option (List ℕ)
 numbers_in h tag = if_numbers (stored h tag)
 
+-- the first text of a tag in a header
 unfoldable pub first_text : Header → ℕ → Option (List ℕ)
 first_text h tag = option_and_then (λ ts. slice_get ts 0) (texts_in h tag)
 
+-- the first number of a tag in a header
 unfoldable pub first_number : Header → ℕ → Option ℕ
 first_number h tag = option_and_then (λ ns. slice_get ns 0) (numbers_in h tag)
 
@@ -94,12 +105,15 @@ abbrev pub arch_parts : Option (List ℕ) → List (List ℕ)
 arch_parts None = []
 arch_parts (Some arch) = codes "." ∷ arch ∷ []
 
+-- a version and a release, with a hyphen between them
 abbrev pub release_parts : List ℕ → List ℕ → List (List ℕ)
 release_parts v r = v ∷ codes "-" ∷ r ∷ []
 
+-- a name and the hyphen after it
 abbrev pub name_parts : List ℕ → List (List ℕ)
 name_parts n = n ∷ codes "-" ∷ []
 
+-- epoch, version and release, where the latter two are there
 abbrev pub evr : Option ℕ → Option (List ℕ) → Option (List ℕ) → Option (List (List ℕ))
 evr e (Some v) (Some r) = Some (epoch_parts e ++ release_parts v r)
 evr e _ _ = None
@@ -116,13 +130,15 @@ as_text (Some ps) = Some (TextList (concat ps ∷ []))
 
 -- ---- FILENAMES
 
+-- the text at a place, and the empty one where there is none
 abbrev pub text_at : List (List ℕ) → ℕ → List ℕ
 text_at ts i = unwrap_or (slice_get ts i) []
 
--- the directory of a file's index, and its name behind it
+-- the directory of a file's index, and its name after it
 abbrev pub file_name : List (List ℕ) → ℕ × List ℕ → List ℕ
 file_name dirs (index, base) = text_at dirs index ++ base
 
+-- the path of each file, from its index and its name
 unfoldable pub file_names : List (List ℕ) → List ℕ → List (List ℕ) → List (List ℕ)
 file_names dirs indexes bases = map (file_name dirs) (zip indexes bases)
 
@@ -130,17 +146,20 @@ file_names dirs indexes bases = map (file_name dirs) (zip indexes bases)
 abbrev pub are_matched : List (List ℕ) → List ℕ → List (List ℕ) → Bool
 are_matched dirs indexes bases = length bases == length indexes && list_all (λ index. nat_lt index (length dirs)) indexes
 
+-- the paths of the files, where the three tags are there and match
 abbrev pub filenames : Option (List (List ℕ)) → Option (List ℕ) → Option (List (List ℕ)) → Option (List (List ℕ))
 filenames (Some dirs) (Some indexes) (Some bases) =
     if are_matched dirs indexes bases then Some (file_names dirs indexes bases) else None
 filenames _ _ _ = None
 
+-- texts as a value, where there are some
 abbrev pub if_some_texts : Option (List (List ℕ)) → Option Elements
 if_some_texts None = None
 if_some_texts (Some ts) = Some (TextList ts)
 
 -- ---- all tags
 
+-- the value of a tag in the header of the package with this number
 abbrev pub value : Header → ℕ → Tag → Option Elements
 value h number (Stored tag) = stored h tag
 value h number Nvr = as_text (label (first_text h NAME) None (first_text h VERSION) (first_text h RELEASE) None)

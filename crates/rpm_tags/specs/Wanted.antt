@@ -9,6 +9,7 @@ use Rattle.rpm_tags.specs.Value.{filenames, texts_in, numbers_in}
 
 -- ---- files
 
+-- a slash, which ends the name of a directory
 abbrev pub is_slash : ℕ → Bool
 is_slash b = b == 47
 
@@ -20,6 +21,7 @@ base_name path = after_last is_slash path
 abbrev pub counts_for : List ℕ → List ℕ × List ℕ → Bool
 counts_for path (file, base) = bytes_eq file path && bytes_eq base (base_name path)
 
+-- one of the files counts for this path
 abbrev pub any_counts_for : List ℕ → Option (List (List ℕ)) → Option (List (List ℕ)) → Bool
 any_counts_for path (Some files) (Some bases) = list_any (counts_for path) (zip files bases)
 any_counts_for path _ _ = false
@@ -37,6 +39,7 @@ pub record Needed : Type 0 where
   pub flags : ℕ
   pub version : List ℕ
 
+-- the elements of a list, and none where it is missing
 abbrev pub listed : {X : Type 0} → Option (List X) → List X
 listed None = []
 listed (Some xs) = xs

@@ -14,7 +14,7 @@ enum TextPart<'a> {
     Number(Digits),
 }
 
-/// A text in at most 9 parts, which are the text where they stand one behind the other. Contracts
+/// A text in at most 9 parts, which are the text where they stand one after the other. Contracts
 /// see it as the list of the parts. A part is borrowed from the header, but for the digits of a
 /// number, which lie here: so a computed text is never copied.
 #[derive(Drop)]
@@ -69,7 +69,7 @@ impl<'a> Joined<'a> {
         }
     }
 
-    /// Puts a text behind it.
+    /// Puts a text after it.
     pub(crate) fn push(&mut self, text: &'a [u8])
         requires room { length self.old < 9 }
         requires short { length text.now ≤ max_data }
@@ -80,7 +80,7 @@ impl<'a> Joined<'a> {
         self.len += text.len() as u32;
     }
 
-    /// Puts the digits of a number behind it.
+    /// Puts the digits of a number after it.
     pub(crate) fn push_number(&mut self, number: u64)
         requires { length self.old < 9 }
         ensures { self.new ≡ self.old ++ decimal number ∷ [] }
@@ -101,7 +101,7 @@ impl<'a> Joined<'a> {
         joined
     }
 
-    /// A text and one behind it.
+    /// A text and one after it.
     pub(crate) fn two(text: &'a [u8], more: &'a [u8]) -> Joined<'a>
         requires first { length text.now ≤ max_data }
         requires second { length more.now ≤ max_data }

@@ -54,7 +54,7 @@ fn push_arch<'a>(joined: &mut Joined<'a>, arch: Option<&'a [u8]>)
     }
 }
 
-/// The name, the version and the release with what is between them and behind them; None where one
+/// The name, the version and the release with what is between them and after them; None where one
 /// of the three is not of class Text.
 fn label<'a>(view: &View<'a>, epoch: Option<u64>, arch: Option<&'a [u8]>) -> Option<Joined<'a>>
     requires { IfSome arch (λ text. length text.now ≤ max_data) }

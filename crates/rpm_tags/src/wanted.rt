@@ -19,7 +19,7 @@ fn base_len(path: &[u8]) -> usize
     path.iter().rev().take_while(|byte| **byte != b'/').count()
 }
 
-/// A path cut behind its last slash.
+/// A path cut after its last slash.
 fn split_path(path: &[u8]) -> (&[u8], &[u8])
     ensures whole { result.0.now ++ result.1.now ≡ path.now }
     ensures base { result.1.now ≡ base_name path.now }
