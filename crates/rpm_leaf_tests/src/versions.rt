@@ -77,7 +77,7 @@ const EPOCHS: &[(&[u8], &[u8], Ordering)] = &[
 ];
 
 // Two ranges, each of flags and a version, and whether they overlap.
-const RANGES: &[(u64, &[u8], u64, &[u8], bool)] = &[
+const RANGES: &[(u32, &[u8], u32, &[u8], bool)] = &[
     (4, b"1.0-1", 8, b"1.0", true),
     (4, b"1.0-1", 8, b"1.0-", true),
     (4, b"1.0-1", 8, b"1.0-1", false),

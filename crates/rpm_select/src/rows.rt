@@ -52,13 +52,16 @@ const RECOMMENDS: Tags = Tags {
 fn meets(capability: &Capability<'_>, needed: Dependency<'_>) -> bool
     ensures { result ≡ meets capability.now (needed_in needed.entry) }
 {
-    needed.name == capability.name()
-        && overlap(
-            needed.flags,
-            needed.version,
-            u64::from(capability.flags()),
-            capability.evr(),
-        )
+    if needed.name != capability.name() {
+        return false;
+    }
+    let given = Capability::of_range(needed.name, needed.flags, needed.version);
+    overlap(
+        given.flags(),
+        given.evr(),
+        capability.flags(),
+        capability.evr(),
+    )
 }
 
 fn has_any(view: &View<'_>, tags: Tags, capability: &Capability<'_>) -> bool

@@ -24,7 +24,7 @@ greater_kept flags = kept_at flags 2 refl
 equal_kept : (flags : ℕ) → bit_and (bit_and flags 14) 8 ≡ bit_and flags 8
 equal_kept flags = kept_at flags 3 refl
 
-open_kept : (flags : ℕ) (v : List ℕ) → is_open (bit_and flags 14) v ≡ is_open flags v
+pub open_kept : (flags : ℕ) (v : List ℕ) → is_open (bit_and flags 14) v ≡ is_open flags v
 unfolding is_open
 open_kept flags v = rw (less_kept flags, greater_kept flags, equal_kept flags) refl
 
@@ -59,20 +59,20 @@ settled true x y = refl
 settled false x y = refl
 
 -- where every version is in a range, no flags say the same
-pub overlaps_open : (f : ℕ) (v : List ℕ) (flags : ℕ) (w : List ℕ) → is_open flags w ≡ true → overlaps f v 0 w ≡ overlaps f v flags w
+pub overlaps_open : (f : ℕ) (v : List ℕ) (flags : ℕ) (w : List ℕ) → true ≡ is_open flags w → overlaps f v 0 w ≡ overlaps f v flags w
 unfolding overlaps
 overlaps_open f v flags w is =
     let order = evr_order (evr v) (evr w) in
     (λ i. is_open f v || opened w i || meets order f (evr v) 0 (evr w))
     ∙ settled (is_open f v) (meets order f (evr v) 0 (evr w)) (meets order f (evr v) flags (evr w))
-    ∙ (λ i. is_open f v || sym is i || meets order f (evr v) flags (evr w))
+    ∙ (λ i. is_open f v || is i || meets order f (evr v) flags (evr w))
 
 -- where it isn't, a bit is left
-pub some_kept : (flags : ℕ) (w : List ℕ) → is_open flags w ≡ false → (bit_and flags 14 == 0) ≡ false
+pub some_kept : (flags : ℕ) (w : List ℕ) → false ≡ is_open flags w → (bit_and flags 14 == 0) ≡ is_open flags w
 some_kept flags w closed = elim (cases_Bool (bit_and flags 14 == 0)) [
-  | inr left ↦ left
+  | inr left ↦ left ∙ closed
   | inl none ↦
       (let zero : bit_and flags 14 ≡ 0 = grind (arith, nat_tests) in
-      let both : true ≡ false = sym (opened w) ∙ ap (λ (n : ℕ). is_open n w) (sym zero) ∙ open_kept flags w ∙ closed in
+      let both : true ≡ false = sym (opened w) ∙ ap (λ (n : ℕ). is_open n w) (sym zero) ∙ open_kept flags w ∙ sym closed in
       absurd cc)
 ]

@@ -114,14 +114,11 @@ impl<'a> Capability<'a> {
         ensures plain { (result.flags == 0) ≡ is_open flags version.now }
         ensures same { (f : ℕ) (v : List ℕ) → overlaps f v result.flags result.evr ≡ overlaps f v flags version.now }
     {
-        let bits = if is_open(flags, version) {
-            0
-        } else {
-            (flags & SENSE) as u32
-        };
+        let bits = (flags & SENSE) as u32;
+        let sense = if is_open(bits, version) { 0 } else { bits };
         Capability {
             name,
-            flags: bits,
+            flags: sense,
             evr: version,
         }
     }

@@ -17,10 +17,10 @@ pub const GREATER: u32 = 4;
 pub const EQUAL: u32 = 8;
 
 /// Whether flags have the bit of a sense.
-fn has(flags: u64, sense: u32) -> bool
+fn has(flags: u32, sense: u32) -> bool
     ensures { result ≡ not (bit_and flags sense == 0) }
 {
-    flags & u64::from(sense) != 0
+    flags & sense != 0
 }
 
 /// The bits of flags that say a sense.
@@ -28,7 +28,7 @@ pub const SENSE: u64 = 14;
 
 /// Whether every version is in a range: it has no sense, or no version.
 #[tactic(auto, unfolding(crate::specs::Range::is_open))]
-pub fn is_open(flags: u64, text: &[u8]) -> bool
+pub fn is_open(flags: u32, text: &[u8]) -> bool
     ensures { result ≡ is_open flags text.now }
 {
     !(has(flags, LESS) || has(flags, GREATER) || has(flags, EQUAL)) || text.is_empty()
@@ -36,7 +36,7 @@ pub fn is_open(flags: u64, text: &[u8]) -> bool
 
 /// Whether two ranges at one version meet there or on one side of it.
 #[tactic(auto, unfolding(crate::specs::Range::share_sense))]
-fn share_sense(a_flags: u64, b_flags: u64) -> bool
+fn share_sense(a_flags: u32, b_flags: u32) -> bool
     ensures { result ≡ share_sense a_flags b_flags }
 {
     (has(a_flags, EQUAL) && has(b_flags, EQUAL))
@@ -46,7 +46,7 @@ fn share_sense(a_flags: u64, b_flags: u64) -> bool
 
 /// Whether one side alone has a release, and the other side has the bit of equal.
 #[tactic(auto, unfolding(crate::specs::Range::equal_but_release))]
-fn equal_but_release(a_flags: u64, a: Option<&[u8]>, b_flags: u64, b: Option<&[u8]>) -> bool
+fn equal_but_release(a_flags: u32, a: Option<&[u8]>, b_flags: u32, b: Option<&[u8]>) -> bool
     ensures { result ≡ equal_but_release a_flags (option_copied a.entry) b_flags (option_copied b.entry) }
 {
     match (a, b) {
@@ -58,7 +58,7 @@ fn equal_but_release(a_flags: u64, a: Option<&[u8]>, b_flags: u64, b: Option<&[u
 
 /// Whether two ranges meet, neither of which holds every version.
 #[tactic(auto, unfolding(crate::specs::Range::meets))]
-fn meet(a_flags: u64, a: &Evr<'_>, b_flags: u64, b: &Evr<'_>) -> bool
+fn meet(a_flags: u32, a: &Evr<'_>, b_flags: u32, b: &Evr<'_>) -> bool
     ensures { result ≡ meets (evr_order a.now b.now) a_flags a.now b_flags b.now }
 {
     match compare_evr(a, b) {
@@ -79,7 +79,7 @@ fn meet(a_flags: u64, a: &Evr<'_>, b_flags: u64, b: &Evr<'_>) -> bool
 /// where it has the bit of equal. From rpm's documentation of dependency versions. Takes time in
 /// the sum of the lengths, and copies nothing.
 #[tactic(auto, unfolding(crate::specs::Range::overlaps), using(crate::proofs::RangeLaws::symmetric))]
-pub fn overlap(a_flags: u64, a: &[u8], b_flags: u64, b: &[u8]) -> bool
+pub fn overlap(a_flags: u32, a: &[u8], b_flags: u32, b: &[u8]) -> bool
     ensures table { result ≡ overlaps a_flags a.now b_flags b.now }
     ensures symmetric { (x y : ℕ) (s t : List ℕ) → overlaps x s y t ≡ overlaps y t x s }
 {
