@@ -6,6 +6,10 @@ pub map_ok : {A E P Q : Type 0} (r : Result A E) → (P → Q) → OnOk r P → 
 map_ok (Ok a) f p = f p
 map_ok (Err e) f p = tt
 
+pub both_ok : {A E P Q R : Type 0} (r : Result A E) → (P → Q → R) → OnOk r P → OnOk r Q → OnOk r R
+both_ok (Ok a) f p q = f p q
+both_ok (Err e) f p q = tt
+
 pub map_err : {A E P Q : Type 0} (r : Result A E) → (P → Q) → OnErr r P → OnErr r Q
 map_err (Ok a) f p = tt
 map_err (Err e) f p = f p

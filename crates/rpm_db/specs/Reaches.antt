@@ -1,4 +1,4 @@
--- How far a change makes Hindex.db reach.
+-- How far a change makes Hindex.db reach, and making it anew.
 use Rattle.std.specs.Prelude.{ℕ, ◌+◌, ◌≤◌, length, max}
 use Rattle.rpm_outside.specs.Files.{Units}
 use Rattle.rpm_hindex.specs.Sizes.{live_of, units_for}
@@ -19,3 +19,7 @@ needed s change = units_for (rows (apply change s).packages)
 -- the file gets those records behind what it has, or is made from scratch; it never gets shorter
 abbrev pub Reaches : State → Change → Units → Units → Type 0
 Reaches s change old new = length new ≤ max (length old + added s change) (needed s change)
+
+-- the file has what it had, or so many units: those of an index that was made anew
+abbrev pub ReachesMade : ℕ → Units → Units → Type 0
+ReachesMade needed old new = length new ≤ max (length old) needed

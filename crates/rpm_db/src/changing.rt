@@ -11,6 +11,7 @@ ghost use Rattle.rpm_pkgdb.specs.Blobs.{blobs};
 ghost use Rattle.rpm_pkgdb.specs.Growing.{moving_cost};
 ghost use Rattle.rpm_pkgdb.specs.Planned.{IsPlan, moves_of};
 ghost use Rattle.rpm_pkgdb.specs.Quiet.{IsQuiet, StandsFor};
+ghost use Rattle.rpm_pkgdb.specs.Reaches.{ReachesTo};
 ghost use Rattle.rpm_pkgdb.specs.Slots.{slot_with};
 ghost use Rattle.rpm_pkgdb.specs.Store.{Keeps};
 ghost use Rattle.rpm_pkgdb.specs.Written.{with_generation, with_plan, with_spare, erased, next_field, field_after};
@@ -73,6 +74,7 @@ pub fn write_put<D: Disk>(
         (IsChangedStill (state_of (blobs (D.files disk.old).pkg store.old) store.old.field)
         (state_of (finite.insert (blobs (D.files disk.old).pkg store.old) plan.target.number (Some blob.now))
         (field_after (next_field plan.target) store.old.field)) (D.left_since disk.old (D.moment disk.old))) }
+    ensures end { OnOk result (IsTrue D.tells → ReachesTo store.new (D.files disk.old).pkg (D.files disk.new).pkg) }
     ensures reads { D.bytes_read disk.new Pkg ≤ D.bytes_read disk.old Pkg + moving_cost store.old.slots (moves_of plan.page) }
     ensures unread { D.bytes_read disk.new Idx ≤ D.bytes_read disk.old Idx }
     ensures runs { Runs D.tells D.files D.left_since D.moment D.bytes_read D.follows SameLog disk.old disk.new }
@@ -125,6 +127,7 @@ pub fn write_erase<D: Disk>(
         → LeavesOnly D.moment D.left_since disk.old disk.new
         (IsChangedStill (state_of (blobs (D.files disk.old).pkg store.old) store.old.field)
         (state_of (finite.remove (blobs (D.files disk.old).pkg store.old) n) store.old.field) (D.left_since disk.old (D.moment disk.old))) }
+    ensures end { OnOk result (IsTrue D.tells → length (D.files disk.new).pkg ≤ length (D.files disk.old).pkg) }
     ensures reads { D.bytes_read disk.new Pkg ≤ D.bytes_read disk.old Pkg }
     ensures unread { D.bytes_read disk.new Idx ≤ D.bytes_read disk.old Idx }
     ensures runs { Runs D.tells D.files D.left_since D.moment D.bytes_read D.follows SameLog disk.old disk.new }

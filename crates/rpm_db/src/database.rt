@@ -16,7 +16,8 @@ ghost use Rattle.rpm_db.specs.Changes.{next};
 ghost use Rattle.rpm_db.specs.State.{state};
 ghost use Rattle.rpm_db.specs.Database.{Keeps, OpenIs, IsNext, holds, is_blank, is_indexed, next_number};
 ghost use Rattle.rpm_db.specs.Lawful.{Remade, StaysLawful};
-ghost use Rattle.rpm_db.specs.Openings.{IsOpened, OpeningReads, StoreIs};
+ghost use Rattle.rpm_db.specs.Openings.{IsOpened, OpeningReads, StoreIs, units_needed};
+ghost use Rattle.rpm_db.specs.Reaches.{ReachesMade};
 ghost use Rattle.rpm_db.specs.Runs.{Runs};
 
 use crate::indexing::{index_for, settle};
@@ -79,6 +80,8 @@ impl Db {
         ensures settled { IfOk result (λ _db. IsTrue D.tells → IsSettled Idx (D.files disk.new) (D.left_since disk.new (D.moment disk.new))) }
         ensures stops { IsTrue D.tells → StaysLawful D.moment D.left_since disk.old disk.new }
         ensures reads { IsTrue D.tells → OpeningReads (D.files disk.old) (D.bytes_read disk.old File.Pkg) (D.bytes_read disk.new File.Pkg) }
+        ensures reach { IfOk result (λ _db. IsTrue D.tells → ReachesMade (units_needed (D.files disk.old).pkg (store (D.files disk.old).pkg))
+            (D.files disk.old).idx (D.files disk.new).idx) }
         ensures units { D.bytes_read disk.new File.Idx ≤ D.bytes_read disk.old File.Idx + 32 }
         ensures runs { Runs D.tells D.files D.left_since D.moment D.bytes_read D.follows Remade disk.old disk.new }
         ensures cause { HasCauseAt (result ≡ Err DbOpenFault.DiskFault) (D.faults disk.old) (D.faults disk.new) }
@@ -114,6 +117,8 @@ impl Db {
         ensures settled { IfOk result (λ _db. IsTrue D.tells → IsSettled Idx (D.files disk.new) (D.left_since disk.new (D.moment disk.new))) }
         ensures stops { IsTrue D.tells → StaysLawful D.moment D.left_since disk.old disk.new }
         ensures reads { IsTrue D.tells → OpeningReads (D.files disk.old) (D.bytes_read disk.old File.Pkg) (D.bytes_read disk.new File.Pkg) }
+        ensures reach { IfOk result (λ _db. IsTrue D.tells → ReachesMade (units_needed (D.files disk.old).pkg (store (D.files disk.old).pkg))
+            (D.files disk.old).idx (D.files disk.new).idx) }
         ensures units { D.bytes_read disk.new File.Idx ≤ D.bytes_read disk.old File.Idx + 32 }
         ensures runs { Runs D.tells D.files D.left_since D.moment D.bytes_read D.follows Remade disk.old disk.new }
         ensures cause { HasCauseAt (result ≡ Err DbOpenFault.DiskFault) (D.faults disk.old) (D.faults disk.new) }

@@ -1,10 +1,11 @@
 //! Adding, putting and erasing.
 
-ghost use Rattle.std.specs.Prelude.{◌≡◌, ◌≢◌, ◌⊎◌, ◌+◌, ◌≤◌, IsTrue, true, false, None, Some, Ok, Err, OnOk, IfOk, IfErr};
+ghost use Rattle.std.specs.Prelude.{◌≡◌, ◌≢◌, ◌⊎◌, ◌+◌, ◌≤◌, length, IsTrue, true, false, None, Some, Ok, Err, OnOk, IfOk, IfErr};
 ghost use Rattle.rpm_header.specs.Header.{Header, header};
 ghost use Rattle.rpm_outside.specs.Causes.{HasCauseAt};
 ghost use Rattle.rpm_outside.specs.Crash.{LeavesOnly};
 ghost use Rattle.rpm_outside.specs.declared.disk.File.TheVariants.{Pkg};
+ghost use Rattle.rpm_pkgdb.specs.Reaches.{ReachesTo};
 ghost use Rattle.rpm_hindex.specs.Sizes.{units_for};
 ghost use Rattle.rpm_db.specs.Changes.{Add, Put, Erase, apply, AllSay, IsChangedStill, IsServing, ReadsAtMost, with_room};
 ghost use Rattle.rpm_db.specs.Database.{IsIndexed, holds, is_blank, is_indexed, next_number, cost};
@@ -69,6 +70,7 @@ impl Db {
             (D.files disk.new).idx self.new) }
         ensures reach { OnOk result (IsTrue D.tells → IsIndexed (D.files disk.old).pkg (D.files disk.old).idx self.old → (h : Header)
             → header blob.now ≡ Ok h → Reaches (state (D.files disk.old).pkg self.old.store) (Add h.blob) (D.files disk.old).idx (D.files disk.new).idx) }
+        ensures end { OnOk result (IsTrue D.tells → ReachesTo self.new.store (D.files disk.old).pkg (D.files disk.new).pkg) }
         ensures full { IsTrue D.tells → self.old.stopped ≡ false → IsIndexed (D.files disk.old).pkg (D.files disk.old).idx self.old → (h : Header)
             → header blob.now ≡ Ok h → FullIndexIs (units_for (rows (apply (Add h.blob) (state (D.files disk.old).pkg self.old.store)).packages)) result }
         ensures whole { IsTrue D.tells → IsWholeIndex (D.files disk.old).idx → StaysWhole (D.files disk.new).idx result }
@@ -141,6 +143,7 @@ impl Db {
             (D.files disk.new).idx self.new) }
         ensures reach { OnOk result (IsTrue D.tells → IsIndexed (D.files disk.old).pkg (D.files disk.old).idx self.old → (h : Header)
             → header blob.now ≡ Ok h → Reaches (state (D.files disk.old).pkg self.old.store) (Put n h.blob) (D.files disk.old).idx (D.files disk.new).idx) }
+        ensures end { OnOk result (IsTrue D.tells → ReachesTo self.new.store (D.files disk.old).pkg (D.files disk.new).pkg) }
         ensures full { IsTrue D.tells → self.old.stopped ≡ false → IsIndexed (D.files disk.old).pkg (D.files disk.old).idx self.old → (h : Header)
             → header blob.now ≡ Ok h → FullIndexIs (units_for (rows (apply (Put n h.blob) (state (D.files disk.old).pkg self.old.store)).packages)) result }
         ensures whole { IsTrue D.tells → IsWholeIndex (D.files disk.old).idx → StaysWhole (D.files disk.new).idx result }
@@ -208,6 +211,7 @@ impl Db {
             (D.files disk.new).idx self.new) }
         ensures reach { OnOk result (IsTrue D.tells → IsIndexed (D.files disk.old).pkg (D.files disk.old).idx self.old → Reaches
             (state (D.files disk.old).pkg self.old.store) (Erase n) (D.files disk.old).idx (D.files disk.new).idx) }
+        ensures end { OnOk result (IsTrue D.tells → length (D.files disk.new).pkg ≤ length (D.files disk.old).pkg) }
         ensures full { IsTrue D.tells → self.old.stopped ≡ false → IsIndexed (D.files disk.old).pkg (D.files disk.old).idx self.old
             → FullIndexIs (units_for (rows (apply (Erase n) (state (D.files disk.old).pkg self.old.store)).packages)) result }
         ensures whole { IsTrue D.tells → IsWholeIndex (D.files disk.old).idx → StaysWhole (D.files disk.new).idx result }

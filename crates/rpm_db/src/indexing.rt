@@ -1,6 +1,6 @@
 //! Making the index from the packages.
 
-ghost use Rattle.std.specs.Prelude.{◌≡◌, ◌≢◌, ℕ, ◌+◌, ◌≤◌, ◌<◌, IsTrue, true, false, not, None, Err, OnOk, IfOk, IfErr, if◌then◌else◌};
+ghost use Rattle.std.specs.Prelude.{◌≡◌, ◌≢◌, ℕ, ◌+◌, ◌≤◌, ◌<◌, max, IsTrue, true, false, not, None, Err, OnOk, IfOk, IfErr, if◌then◌else◌};
 ghost use Rattle.rpm_outside.specs.Files.{Files};
 ghost use Rattle.rpm_outside.specs.Causes.{HasCause, HasCauseAt};
 ghost use Rattle.rpm_outside.specs.Changes.{IsSettled};
@@ -15,6 +15,7 @@ ghost use Rattle.rpm_hindex.specs.Sizes.{units_for};
 ghost use Rattle.rpm_hindex.specs.State as hindex;
 ghost use Rattle.rpm_db.specs.Lawful.{HasRows, IsIndexOf, IsUnsealed, IsLawful, Remade, is_current_at, IsOfRows};
 ghost use Rattle.rpm_db.specs.Openings.{FullIs, FullOpenIs, WritesNothing};
+ghost use Rattle.rpm_db.specs.Reaches.{ReachesMade};
 ghost use Rattle.rpm_db.specs.Rows.{rows};
 ghost use Rattle.rpm_db.specs.Runs.{Runs};
 ghost use Rattle.rpm_db.specs.State.{packages};
@@ -56,6 +57,7 @@ pub fn seal_index<D: Disk>(
     ensures kept { OnOk result (IsTrue D.tells → hindex.Keeps (D.files disk.new).idx index.new) }
     ensures index { OnOk result (IsTrue D.tells → IsIndexOf (D.files disk.new).pkg (D.files disk.new).idx) }
     ensures settled { OnOk result (IsTrue D.tells → IsSettled Idx (D.files disk.new) (D.left_since disk.new (D.moment disk.new))) }
+    ensures units { OnOk result (index.new.units ≡ index.old.units) }
     ensures unread { (f : File) → D.bytes_read disk.new f ≤ D.bytes_read disk.old f }
     ensures runs { Runs D.tells D.files D.left_since D.moment D.bytes_read D.follows Remade disk.old disk.new }
     ensures cause { HasCause (D.faults disk.old) (D.faults disk.new) result }
@@ -80,6 +82,7 @@ fn write_index<D: Disk>(
     ensures index { OnOk result (IsTrue D.tells → IsIndexOf (D.files disk.new).pkg (D.files disk.new).idx) }
     ensures settled { OnOk result (IsTrue D.tells → IsSettled Idx (D.files disk.new) (D.left_since disk.new (D.moment disk.new))) }
     ensures refused { IfErr result (λ e. IsRefused e → (index.new ≡ index.old) × (disk.new ≡ disk.old)) }
+    ensures grows { OnOk result (index.new.units ≤ max index.old.units (units_for rows.now)) }
     ensures unread { (f : File) → D.bytes_read disk.new f ≤ D.bytes_read disk.old f }
     ensures runs { Runs D.tells D.files D.left_since D.moment D.bytes_read D.follows Remade disk.old disk.new }
     ensures cause { HasCauseAt (result ≡ Err RewriteFault.DiskFault) (D.faults disk.old) (D.faults disk.new) }
@@ -112,6 +115,8 @@ pub fn make_index<D: Disk>(
     ensures index { OnOk result (IsTrue D.tells → IsIndexOf (D.files disk.new).pkg (D.files disk.new).idx) }
     ensures settled { OnOk result (IsTrue D.tells → IsSettled Idx (D.files disk.new) (D.left_since disk.new (D.moment disk.new))) }
     ensures refused { IfErr result (λ e. IsRefused e → (index.new ≡ index.old) × (IsTrue D.tells → D.files disk.new ≡ D.files disk.old)) }
+    ensures reach { OnOk result (IsTrue D.tells → ReachesMade (units_for (rows (packages (D.files disk.old).pkg store.now)))
+        (D.files disk.old).idx (D.files disk.new).idx) }
     ensures reads { D.bytes_read disk.new Pkg ≤ D.bytes_read disk.old Pkg + cost_all store.now }
     ensures unread { D.bytes_read disk.new Idx ≤ D.bytes_read disk.old Idx }
     ensures runs { Runs D.tells D.files D.left_since D.moment D.bytes_read D.follows Remade disk.old disk.new }
@@ -143,6 +148,8 @@ pub fn index_for<D: Disk>(alloc: Global, disk: &mut D, store: &PkgDb) -> Result<
     ensures made { IfOk result (λ _index. IsTrue D.tells → is_current_at store.now.generation (D.files disk.old).idx ≡ false → HasRows
         (packages (D.files disk.new).pkg store.now) (D.files disk.new).idx) }
     ensures idx { IfOk result (λ _index. IsTrue D.tells → IsSettled Idx (D.files disk.new) (D.left_since disk.new (D.moment disk.new))) }
+    ensures reach { IfOk result (λ _index. IsTrue D.tells → ReachesMade (units_for (rows (packages (D.files disk.old).pkg store.now)))
+        (D.files disk.old).idx (D.files disk.new).idx) }
     ensures reads { IsTrue D.tells → D.bytes_read disk.new Pkg ≤ D.bytes_read disk.old Pkg
         + (if not (is_current_at store.now.generation (D.files disk.old).idx) then cost_all store.now else 0) }
     ensures units { D.bytes_read disk.new Idx ≤ D.bytes_read disk.old Idx + 32 }

@@ -6,6 +6,7 @@ ghost use Rattle.rpm_outside.specs.Causes.{HasCauseAt};
 ghost use Rattle.rpm_outside.specs.Crash.{LeavesOnly};
 ghost use Rattle.rpm_outside.specs.declared.disk.File.TheVariants.{Pkg};
 ghost use Rattle.rpm_pkgdb.specs.Planned.{IsFull};
+ghost use Rattle.rpm_pkgdb.specs.Reaches.{ReachesTo};
 ghost use Rattle.rpm_hindex.specs.Sizes.{units_for};
 ghost use Rattle.rpm_db.specs.Changes.{apply, AllSay, IsChangedStill, IsServing, ReadsAtMost, with_room};
 ghost use Rattle.rpm_db.specs.Database.{IsIndexed, holds, is_blank, is_indexed, next_number};
@@ -61,6 +62,7 @@ impl Db {
             (D.files disk.new).idx self.new) }
         ensures reach { OnOk result (IsTrue D.tells → IsIndexed (D.files disk.old).pkg (D.files disk.old).idx self.old → Reaches
             (state (D.files disk.old).pkg self.old.store) (change_for n view.now.blob) (D.files disk.old).idx (D.files disk.new).idx) }
+        ensures end { OnOk result (IsTrue D.tells → ReachesTo self.new.store (D.files disk.old).pkg (D.files disk.new).pkg) }
         ensures full { IsTrue D.tells → IsIndexed (D.files disk.old).pkg (D.files disk.old).idx self.old → FullIndexIs (units_for (rows
             (apply (change_for n view.now.blob) (state (D.files disk.old).pkg self.old.store)).packages)) result }
         ensures whole { IsTrue D.tells → IsWholeIndex (D.files disk.old).idx → StaysWhole (D.files disk.new).idx result }

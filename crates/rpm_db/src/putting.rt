@@ -13,6 +13,7 @@ ghost use Rattle.rpm_pkgdb.specs.Costs.{cost};
 ghost use Rattle.rpm_pkgdb.specs.Placing.{placed, placement_of, put_in};
 ghost use Rattle.rpm_pkgdb.specs.Planned.{IsFull, IsPlan, IsFor};
 ghost use Rattle.rpm_pkgdb.specs.Quiet.{IsQuiet, StandsFor};
+ghost use Rattle.rpm_pkgdb.specs.Reaches.{ReachesTo};
 ghost use Rattle.rpm_pkgdb.specs.Slots.{slot_with};
 ghost use Rattle.rpm_pkgdb.specs.Store.{Keeps, next_number};
 ghost use Rattle.rpm_pkgdb.specs.Written.{erased, with_spare};
@@ -144,6 +145,7 @@ pub fn put_header<D: Disk>(
     ensures reach { OnOk result (IsTrue D.tells → HasRows (packages (D.files disk.old).pkg store.old) (D.files disk.old).idx
         → index.new.units ≤ max (index.old.units + live_of (header_rows (number_for n store.old) view.now))
         (units_for (rows (packages_of (finite.insert (blobs (D.files disk.old).pkg store.old) (number_for n store.old) (Some view.now.blob)))))) }
+    ensures end { OnOk result (IsTrue D.tells → ReachesTo store.new (D.files disk.old).pkg (D.files disk.new).pkg) }
     ensures whole { OnOk result (IsTrue D.tells → IsWholeIndex (D.files disk.old).idx → IsWholeIndex (D.files disk.new).idx) }
     ensures bad { IsTrue D.tells → BadIndexIs (D.files disk.old).idx result }
     ensures refused { IfErr result (λ e. IsRefusal e → (store.new ≡ with_spare store.new.spare store.old) × (index.new ≡ index.old)) }
@@ -204,6 +206,7 @@ pub fn erase_number<D: Disk>(
         (units_for (rows (packages_of (finite.remove (blobs (D.files disk.old).pkg store.old) n)))) result }
     ensures reach { OnOk result (IsTrue D.tells → HasRows (packages (D.files disk.old).pkg store.old) (D.files disk.old).idx
         → index.new.units ≤ max index.old.units (units_for (rows (packages_of (finite.remove (blobs (D.files disk.old).pkg store.old) n))))) }
+    ensures end { OnOk result (IsTrue D.tells → length (D.files disk.new).pkg ≤ length (D.files disk.old).pkg) }
     ensures whole { OnOk result (IsTrue D.tells → IsWholeIndex (D.files disk.old).idx → IsWholeIndex (D.files disk.new).idx) }
     ensures bad { IsTrue D.tells → BadIndexIs (D.files disk.old).idx result }
     ensures refused { IfErr result (λ e. IsRefusal e → (store.new ≡ store.old) × (index.new ≡ index.old)) }

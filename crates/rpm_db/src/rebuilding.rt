@@ -14,6 +14,7 @@ ghost use Rattle.rpm_db.specs.Database.{Keeps, KeepsIndex, KeepsUnits, IsInOrder
 ghost use Rattle.rpm_db.specs.Lawful.{IsIndexOf, Remade, StaysLawful};
 ghost use Rattle.rpm_db.specs.Openings.{FullIs};
 ghost use Rattle.rpm_db.specs.Rebuilds.{IsRebuilt, RebuildIs};
+ghost use Rattle.rpm_db.specs.Reaches.{ReachesMade};
 ghost use Rattle.rpm_db.specs.Rows.{rows};
 ghost use Rattle.rpm_db.specs.Runs.{Runs};
 ghost use Rattle.rpm_db.specs.State.{packages};
@@ -45,6 +46,8 @@ fn remake<D: Disk>(
     ensures pkg { OnOk result (IsTrue D.tells → IsSettled Pkg (D.files disk.new) (D.left_since disk.new (D.moment disk.new))) }
     ensures settled { OnOk result (IsTrue D.tells → IsSettled Idx (D.files disk.new) (D.left_since disk.new (D.moment disk.new))) }
     ensures refused { IfErr result (λ e. IsRefused e → (index.new ≡ index.old) × (IsTrue D.tells → D.files disk.new ≡ D.files disk.old)) }
+    ensures reach { OnOk result (IsTrue D.tells → ReachesMade (units_for (rows (packages (D.files disk.old).pkg store.now)))
+        (D.files disk.old).idx (D.files disk.new).idx) }
     ensures reads { D.bytes_read disk.new Pkg ≤ D.bytes_read disk.old Pkg + costs.cost_all store.now }
     ensures unread { D.bytes_read disk.new Idx ≤ D.bytes_read disk.old Idx }
     ensures runs { Runs D.tells D.files D.left_since D.moment D.bytes_read D.follows Remade disk.old disk.new }
@@ -89,6 +92,8 @@ impl Db {
         ensures going { OnOk result (self.new.stopped ≡ false) }
         ensures serving { OnOk result (IsTrue D.tells → IsServing (D.files disk.new) (D.left_since disk.new (D.moment disk.new)) self.new) }
         ensures stops { IsTrue D.tells → StaysLawful D.moment D.left_since disk.old disk.new }
+        ensures reach { OnOk result (IsTrue D.tells → ReachesMade (units_for (rows (packages (D.files disk.old).pkg self.old.store)))
+            (D.files disk.old).idx (D.files disk.new).idx) }
         ensures reads { D.bytes_read disk.new Pkg ≤ D.bytes_read disk.old Pkg + cost_all self.old }
         ensures unread { D.bytes_read disk.new Idx ≤ D.bytes_read disk.old Idx }
         ensures runs { Runs D.tells D.files D.left_since D.moment D.bytes_read D.follows Remade disk.old disk.new }

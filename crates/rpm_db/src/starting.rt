@@ -1,23 +1,26 @@
 //! Making a database.
 
-ghost use Rattle.std.specs.Prelude.{◌≡◌, ◌≢◌, ◌⊎◌, ℕ, ◌+◌, ◌<◌, ◌≤◌, [], IsTrue, true, false, None, Err, Ok, IfOk, IfErr};
+ghost use Rattle.std.specs.Prelude.{◌≡◌, ◌≢◌, ◌⊎◌, ℕ, ◌+◌, ◌<◌, ◌≤◌, [], length, max, IsTrue, true, false, None, Err, Ok, IfOk, IfErr};
 ghost use Rattle.rpm_outside.specs.Causes.{HasCauseAt};
 ghost use Rattle.rpm_outside.specs.Changes.{IsSettled};
 ghost use Rattle.rpm_outside.specs.Crash.{LeavesOnly};
 ghost use Rattle.rpm_outside.specs.Files.{Files, blank};
 ghost use Rattle.rpm_outside.specs.declared.disk.File.TheVariants.{Pkg, Idx};
 ghost use Rattle.rpm_pkgdb.specs.Quiet.{IsQuiet};
+ghost use Rattle.rpm_pkgdb.specs.Reaches.{ReachesTo};
 ghost use Rattle.rpm_pkgdb.specs.Slots.{slot_with};
 ghost use Rattle.rpm_pkgdb.specs.Store as pkgdb;
 ghost use Rattle.rpm_pkgdb.specs.Written.{made_new};
 ghost use Rattle.rpm_hindex.specs.Index.{records};
 ghost use Rattle.rpm_hindex.specs.Rewrites.{IsRefused};
 ghost use Rattle.rpm_hindex.specs.Rows.{SameRows};
+ghost use Rattle.rpm_hindex.specs.Sizes.{units_for};
 ghost use Rattle.rpm_hindex.specs.State as hindex;
 ghost use Rattle.rpm_hindex.specs.Whole.{IsWellFormed};
 ghost use Rattle.rpm_db.specs.Database.{Keeps, KeepsIndex, IsIndexed, is_blank, is_indexed};
 ghost use Rattle.rpm_db.specs.Inits.{IsEmptyStill, IsInitFault};
 ghost use Rattle.rpm_db.specs.Lawful.{IsIndexOf, Remade};
+ghost use Rattle.rpm_db.specs.Reaches.{ReachesMade};
 ghost use Rattle.rpm_db.specs.Runs.{Runs};
 ghost use Rattle.rpm_db.specs.State.{state};
 ghost use Rattle.rpm_db.specs.inner.Writes.{SameLog};
@@ -40,6 +43,7 @@ fn empty_index<D: Disk>(alloc: Global, disk: &mut D) -> Result<Hindex, RewriteFa
     ensures rows { IfOk result (λ index. IsTrue D.tells → SameRows [] (records index.pending (D.files disk.new).idx)) }
     ensures settled { IfOk result (λ _index. IsTrue D.tells → IsSettled Idx (D.files disk.new) (D.left_since disk.new (D.moment disk.new))) }
     ensures refused { IfErr result (λ e. IsRefused e → IsTrue D.tells → D.files disk.new ≡ D.files disk.old) }
+    ensures reach { IfOk result (λ index. IsTrue D.tells → index.units ≤ max (length (D.files disk.old).idx) (units_for [])) }
     ensures units { D.bytes_read disk.new Idx ≤ D.bytes_read disk.old Idx + 32 }
     ensures unread { D.bytes_read disk.new Pkg ≤ D.bytes_read disk.old Pkg }
     ensures runs { Runs D.tells D.files D.left_since D.moment D.bytes_read D.follows Remade disk.old disk.new }
@@ -77,6 +81,8 @@ pub fn make_files<D: Disk>(
     ensures quiet { IfOk result (λ _index. IsTrue D.tells → IsQuiet store.new (D.files disk.new) (D.left_since disk.new (D.moment disk.new))) }
     ensures refused { IfErr result (λ e. IsRefused e → (store.new ≡ store.old) × (IsTrue D.tells → D.files disk.new ≡ D.files disk.old)) }
     ensures stops { IsTrue D.tells → LeavesOnly D.moment D.left_since disk.old disk.new (IsEmptyStill (D.left_since disk.old (D.moment disk.old))) }
+    ensures reach { IfOk result (λ _index. IsTrue D.tells → ReachesMade (units_for []) (D.files disk.old).idx (D.files disk.new).idx) }
+    ensures end { IfOk result (λ _index. IsTrue D.tells → ReachesTo store.new (D.files disk.old).pkg (D.files disk.new).pkg) }
     ensures reads { D.bytes_read disk.new Idx ≤ D.bytes_read disk.old Idx + 32 }
     ensures unread { D.bytes_read disk.new Pkg ≤ D.bytes_read disk.old Pkg }
     ensures runs { Runs D.tells D.files D.left_since D.moment D.bytes_read D.follows SameLog disk.old disk.new }
@@ -122,6 +128,8 @@ impl Db {
         ensures quiet { result ≡ Ok true → IsTrue D.tells → IsQuiet self.new.store (D.files disk.new) (D.left_since disk.new (D.moment disk.new)) }
         ensures settled { result ≡ Ok true → IsTrue D.tells → IsSettled Idx (D.files disk.new) (D.left_since disk.new (D.moment disk.new)) }
         ensures refused { IfErr result (λ e. e ≢ ChangeFault.DiskFault → IsTrue D.tells → D.files disk.new ≡ D.files disk.old) }
+        ensures reach { result ≡ Ok true → IsTrue D.tells → ReachesMade (units_for []) (D.files disk.old).idx (D.files disk.new).idx }
+        ensures end { result ≡ Ok true → IsTrue D.tells → ReachesTo self.new.store (D.files disk.old).pkg (D.files disk.new).pkg }
         ensures reads { D.bytes_read disk.new Idx ≤ D.bytes_read disk.old Idx + 32 }
         ensures unread { D.bytes_read disk.new Pkg ≤ D.bytes_read disk.old Pkg }
         ensures kinds { IfErr result IsInitFault }

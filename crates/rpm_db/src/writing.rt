@@ -11,6 +11,7 @@ ghost use Rattle.rpm_pkgdb.specs.Blobs.{blobs};
 ghost use Rattle.rpm_pkgdb.specs.Growing.{moving_cost};
 ghost use Rattle.rpm_pkgdb.specs.Planned.{IsPlan, moves_of};
 ghost use Rattle.rpm_pkgdb.specs.Quiet.{IsQuiet, StandsFor, Anything};
+ghost use Rattle.rpm_pkgdb.specs.Reaches.{ReachesTo};
 ghost use Rattle.rpm_pkgdb.specs.Slots.{slot_with};
 ghost use Rattle.rpm_pkgdb.specs.Store.{Keeps};
 ghost use Rattle.rpm_pkgdb.specs.Written.{with_generation, with_plan, with_spare, erased, next_field, field_after};
@@ -49,6 +50,7 @@ pub fn put_raised<D: Disk>(
     ensures quiet { OnOk result (IsTrue D.tells → IsQuiet store.new (D.files disk.new) (D.left_since disk.new (D.moment disk.new))) }
     ensures stands { OnOk result (IsTrue D.tells → (image : Files) → D.left_since disk.new (D.moment disk.new) image → StandsFor store.new.generation
         store.new.field (blobs (D.files disk.new).pkg store.new) image.pkg) }
+    ensures end { OnOk result (IsTrue D.tells → ReachesTo store.new (D.files disk.old).pkg (D.files disk.new).pkg) }
     ensures changes { Changes D.tells D.files D.left_since D.moment D.bytes_read D.follows Pkg Anything
         (moving_cost store.old.slots (moves_of plan.page)) disk.old disk.new }
     ensures cause { HasCause (D.faults disk.old) (D.faults disk.new) result }
@@ -76,6 +78,7 @@ pub fn erase_raised<D: Disk>(disk: &mut D, store: &mut PkgDb, n: u32) -> Result<
     ensures quiet { OnOk result (IsTrue D.tells → IsQuiet store.new (D.files disk.new) (D.left_since disk.new (D.moment disk.new))) }
     ensures stands { OnOk result (IsTrue D.tells → (image : Files) → D.left_since disk.new (D.moment disk.new) image → StandsFor store.new.generation
         store.new.field (blobs (D.files disk.new).pkg store.new) image.pkg) }
+    ensures end { OnOk result (IsTrue D.tells → length (D.files disk.new).pkg ≤ length (D.files disk.old).pkg) }
     ensures changes { Changes D.tells D.files D.left_since D.moment D.bytes_read D.follows Pkg Anything 0 disk.old disk.new }
     ensures cause { HasCause (D.faults disk.old) (D.faults disk.new) result }
 {

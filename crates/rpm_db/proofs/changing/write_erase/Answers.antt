@@ -1,4 +1,4 @@
-use Rattle.std.proofs.Common.{◌≡◌, ℕ, true, sym, ap, ◌∙◌, subst, arith}
+use Rattle.std.proofs.Common.{◌≡◌, ℕ, length, true, sym, ap, ◌∙◌, subst, arith}
 use Rattle.std.specs.FinMap as finite
 use Rattle.rpm_outside.specs.Files.{Units}
 use Rattle.rpm_pkgdb.specs.Blobs.{blobs}
@@ -144,3 +144,7 @@ returns-in-Ok-write_rows-clause-stands g c = λ told image here.
     let st = c.erase_raised.new.store in
     subst (λ (u : Units). StandsFor st.generation st.field (blobs u st) image.pkg) (sym (e.pkg told))
     (subst (StandsFor st.generation st.field (blobs (g.D.Disk.files c.erase_raised.new.disk).pkg st)) (sym s.pkg) (c.in-Ok.ensures.stands told s.from s.was))
+
+pub returns-in-Ok-write_rows-clause-end : goal.returns-in-Ok-write_rows-clause-end
+returns-in-Ok-write_rows-clause-end g c = λ told.
+    omega (arith, c.in-Ok.ensures.end told, ap length (c.in-Ok-write_rows.ensures.changes.pkg told))

@@ -5,6 +5,7 @@ use Rattle.rpm_pkgdb.specs.Blobs.{blobs}
 use Rattle.rpm_pkgdb.specs.Growing.{moving_cost}
 use Rattle.rpm_pkgdb.specs.Planned.{moves_of}
 use Rattle.rpm_pkgdb.specs.Quiet.{Anything, StandsFor}
+use Rattle.rpm_pkgdb.specs.Reaches.{ReachesTo}
 use Rattle.rpm_pkgdb.specs.Slots.{slot_with}
 use Rattle.rpm_pkgdb.specs.Store.{Store, store}
 use Rattle.rpm_pkgdb.specs.Written.{next_field, field_after}
@@ -148,3 +149,8 @@ returns-in-Ok-write_rows-clause-stands g c = λ told image here.
     let st = c.put_raised.new.store in
     subst (λ (u : Units). StandsFor st.generation st.field (blobs u st) image.pkg) (sym (e.pkg told))
     (subst (StandsFor st.generation st.field (blobs (g.D.Disk.files c.put_raised.new.disk).pkg st)) (sym s.pkg) (c.in-Ok.ensures.stands told s.from s.was))
+
+pub returns-in-Ok-write_rows-clause-end : goal.returns-in-Ok-write_rows-clause-end
+returns-in-Ok-write_rows-clause-end g c = λ told.
+    subst (ReachesTo c.put_raised.new.store (g.D.Disk.files c.args.disk.now).pkg) (sym (c.in-Ok-write_rows.ensures.changes.pkg told))
+    (c.in-Ok.ensures.end told)

@@ -1,9 +1,12 @@
-use Rattle.std.proofs.Common.{◌≡◌, ℕ, true, false, refl, ap, sym, ◌∙◌, subst}
+use Rattle.std.proofs.Common.{◌≡◌, ℕ, length, arith, true, false, refl, ap, sym, ◌∙◌, subst}
 use Rattle.rpm_outside.specs.Files.{Files}
 use Rattle.rpm_outside.specs.declared.disk.File.TheVariants.{Idx}
 use Rattle.rpm_hindex.specs.State.{is_current}
 use Rattle.rpm_pkgdb.specs.Store.{store}
 use Rattle.rpm_db.specs.Lawful.{Remade, HasRows, is_current_at}
+use Rattle.rpm_hindex.specs.Sizes.{units_for}
+use Rattle.rpm_db.specs.Reaches.{ReachesMade}
+use Rattle.rpm_db.specs.Rows.{rows}
 use Rattle.rpm_db.specs.State.{packages}
 use Rattle.rpm_db.specs.inner.LawfulLaws.{remade_none, remade_then}
 use Rattle.rpm_db.specs.inner.Running.{runs_looks, runs_then}
@@ -61,3 +64,14 @@ returns-in-Err-DiskFault-clause-runs g c =
     Remade Remade Remade c.args.disk.now c.open.new.disk c.make_index.new.disk (λ x y r. r) remade_then
     (runs_looks g.D.Disk.tells g.D.Disk.files g.D.Disk.left_since g.D.Disk.moment g.D.Disk.bytes_read g.D.Disk.follows Remade remade_none Idx 32
     c.args.disk.now c.open.new.disk refl c.in-Ok.ensures.looks) c.in-Err-DiskFault.ensures.runs
+
+pub returns-then-is_current-clause-reach : goal.returns-then-is_current-clause-reach
+returns-then-is_current-clause-reach g c = λ told.
+    omega (arith, ap (λ (f : Files). length f.idx) (c.in-Ok.ensures.looks.untouched told).same)
+
+pub returns-in-Ok-make_index-clause-reach : goal.returns-in-Ok-make_index-clause-reach
+returns-in-Ok-make_index-clause-reach g c = λ told.
+    let value = c.args.store.now in
+    let same = (c.in-Ok.ensures.looks.untouched told).same in
+    let new = g.D.Disk.files c.make_index.new.disk in
+    subst (λ (f : Files). ReachesMade (units_for (rows (packages f.pkg value))) f.idx new.idx) same (c.in-Ok-make_index.ensures.reach told)

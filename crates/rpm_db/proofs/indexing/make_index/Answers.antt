@@ -1,8 +1,12 @@
-use Rattle.std.proofs.Common.{ℕ, ap, sym, ◌∙◌, subst}
+use Rattle.std.proofs.Common.{ℕ, ◌≤◌, max, List, IsTrue, ap, sym, ◌∙◌, subst, arith}
 use Rattle.rpm_outside.specs.Files.{Files}
+use Rattle.rpm_hindex.specs.Rows.{Row}
+use Rattle.rpm_hindex.specs.Sizes.{units_for}
+use Rattle.rpm_hindex.specs.State.{Keeps}
 use Rattle.rpm_db.specs.Lawful.{IsOfRows}
 use Rattle.rpm_db.specs.Rows.{rows}
 use Rattle.rpm_db.specs.State.{packages}
+use Rattle.rpm_db.proofs.Results.{both_ok}
 use Rattle.rpm_db.proofs.Making.{of_rows}
 use Rattle.rpm_db.proofs.indexing.make_index.Goals as goal
 
@@ -14,3 +18,13 @@ write_index-requires-clause-rows g c = λ told.
     let same = (e.looks.untouched told).same in
     subst (λ (n : ℕ). IsOfRows n c.in-Ok.rows file) (sym c.generation.ensures.value)
     (of_rows file store c.in-Ok.rows (e.kept told) (e.rows told ∙ ap (λ (f : Files). rows (packages f.pkg store)) (sym same)))
+
+pub returns-clause-reach : goal.returns-clause-reach
+returns-clause-reach g c =
+    let all = c.in-Ok.rows in
+    let before = c.args.index.now.units in
+    let after = c.write_index.new.index in
+    let new = (g.D.Disk.files c.write_index.new.disk).idx in
+    both_ok c.write_index.result (λ (grows : after.units ≤ max before (units_for all)) (kept : IsTrue g.D.Disk.tells → Keeps new after) told.
+    let most = subst (λ (rs : List Row). after.units ≤ max before (units_for rs)) (c.in-Ok.ensures.rows told) grows in
+    omega (arith, most, (kept told).units, (c.requires.index told).units)) c.write_index.ensures.grows c.write_index.ensures.kept

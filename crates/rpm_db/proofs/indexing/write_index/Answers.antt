@@ -1,3 +1,4 @@
+use Rattle.std.proofs.Common.{arith}
 use Rattle.rpm_hindex.specs.Images.{VoidOrSame}
 use Rattle.rpm_db.specs.Lawful.{Remade}
 use Rattle.rpm_db.specs.inner.LawfulLaws.{remade_then}
@@ -22,3 +23,6 @@ returns-in-Err-seal_index-clause-runs g c =
     Remade Remade Remade c.args.disk.now c.rewrite.new.disk c.seal_index.new.disk (λ x y r. r) remade_then
     (runs_index g.D.Disk.tells g.D.Disk.files g.D.Disk.left_since g.D.Disk.moment g.D.Disk.bytes_read g.D.Disk.follows Remade VoidOrSame (λ f. Unit {0}) 0
     c.args.disk.now c.rewrite.new.disk voiding (λ told. tt) (λ told image left. tt) c.in_default.ensures.changes) c.in-Err-seal_index.ensures.runs
+
+pub returns-in-Ok-clause-grows : goal.returns-in-Ok-clause-grows
+returns-in-Ok-clause-grows g c = omega (arith, c.in_default.ensures.grows, c.in-Ok.ensures.units)

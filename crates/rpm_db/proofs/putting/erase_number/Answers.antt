@@ -1,4 +1,4 @@
-use Rattle.std.proofs.Common.{sym, ap, ◌∙◌, subst, arith}
+use Rattle.std.proofs.Common.{length, sym, ap, ◌∙◌, subst, arith}
 use Rattle.std.specs.FinMap as finite
 use Rattle.rpm_outside.specs.Files.{Files}
 use Rattle.rpm_pkgdb.specs.Blobs.{blobs}
@@ -135,3 +135,7 @@ returns-in-Ok-write_erase-clause-reach g c = λ told has.
       c.in-Ok.ensures.reach told (packages_of (finite.remove (blobs file st) c.args.n)) has (rows_erased file st c.args.n),
       c.in-Ok-write_erase.ensures.grows,
     )
+
+pub returns-in-Ok-write_erase-clause-end : goal.returns-in-Ok-write_erase-clause-end
+returns-in-Ok-write_erase-clause-end g c = λ told.
+    omega (arith, c.in-Ok-write_erase.ensures.end told, ap (λ (fs : Files). length fs.pkg) (c.in-Ok.ensures.runs.reads_as told))

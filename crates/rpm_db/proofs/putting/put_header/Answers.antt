@@ -1,5 +1,6 @@
 use Rattle.std.proofs.Common.{◌+◌, length, sym, ap, ◌∙◌, subst, arith}
 use Rattle.rpm_outside.specs.Files.{Files}
+use Rattle.rpm_pkgdb.specs.Reaches.{ReachesTo}
 use Rattle.rpm_pkgdb.specs.Slots.{slot_with}
 use Rattle.rpm_pkgdb.specs.Store.{Store, store}
 use Rattle.rpm_pkgdb.specs.Store as pkgdb
@@ -151,3 +152,9 @@ returns-in-Err-write_put-clause-runs g c = log_then _ _ _ _ _ _ g.met.D.Disk.fol
 
 pub returns-in-Ok-write_put-clause-reach : goal.returns-in-Ok-write_put-clause-reach
 returns-in-Ok-write_put-clause-reach g c = λ told has. omega (arith, c.in-Ok.ensures.reach told has, c.in-Ok-write_put.ensures.grows)
+
+pub returns-in-Ok-write_put-clause-end : goal.returns-in-Ok-write_put-clause-end
+returns-in-Ok-write_put-clause-end g c = λ told.
+    let f = g.D.Disk.files in
+    subst (λ (old : Files). ReachesTo c.write_put.new.store old.pkg (f c.write_put.new.disk).pkg) (c.in-Ok.ensures.runs.reads_as told)
+    (c.in-Ok-write_put.ensures.end told)

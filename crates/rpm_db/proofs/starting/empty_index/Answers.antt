@@ -1,6 +1,8 @@
-use Rattle.std.proofs.Common.{◌≡◌, refl}
+use Rattle.std.proofs.Common.{◌≡◌, length, ap, refl, arith}
 use Rattle.rpm_outside.specs.declared.disk.File.TheVariants.{Idx}
 use Rattle.rpm_hindex.specs.declared.faults.RewriteFault.TheVariants as rewrite
+use Rattle.rpm_outside.specs.Files.{Files}
+use Rattle.rpm_hindex.specs.Sizes.{units_for}
 use Rattle.rpm_hindex.specs.Images.{VoidOrSame}
 use Rattle.rpm_db.specs.Lawful.{Remade}
 use Rattle.rpm_db.specs.inner.LawfulLaws.{remade_none, remade_then}
@@ -31,3 +33,13 @@ pub returns-clause-room : goal.returns-clause-room
 returns-clause-room g c = λ needed is.
     let same : c.in-Err-rewrite.fault ≡ rewrite.IndexFull needed = cc in
     never_full c.new-rows.result c.new-rows.ensures c.in-Err-rewrite.fault c.in-Err-rewrite.ensures.full needed same
+
+pub returns-in-Ok-rewrite-clause-reach : goal.returns-in-Ok-rewrite-clause-reach
+returns-in-Ok-rewrite-clause-reach g c = λ told.
+    omega (
+      arith,
+      c.in-Ok-rewrite.ensures.grows,
+      ap units_for c.new-rows.ensures,
+      (c.in-Ok.ensures.kept told).units,
+      ap (λ (f : Files). length f.idx) (c.in-Ok.ensures.looks.untouched told).same,
+    )

@@ -1,4 +1,4 @@
-use Rattle.std.proofs.Common.{◌≡◌, sym, ap, ◌∙◌, subst, arith}
+use Rattle.std.proofs.Common.{◌≡◌, length, sym, ap, ◌∙◌, subst, arith}
 use Rattle.rpm_outside.specs.Files.{Units, unit_at, blank}
 use Rattle.rpm_pkgdb.specs.Quiet.{Anything}
 use Rattle.rpm_pkgdb.specs.Store.{Store, store, in_file}
@@ -143,3 +143,12 @@ returns-in-Err-seal_index-clause-runs g c =
     log_sealed g.D.Disk.tells g.D.Disk.files g.D.Disk.left_since g.D.Disk.moment g.D.Disk.bytes_read g.D.Disk.follows g.met.D.Disk.follows_trans
     Anything 0 c.args.disk.now c.empty_index.new.disk c.make.new.disk c.seal_index.new.disk c.in-Ok.ensures.runs c.in-Ok-make.ensures.changes
     c.in-Err-seal_index.ensures.runs
+
+pub returns-in-Ok-seal_index-clause-reach : goal.returns-in-Ok-seal_index-clause-reach
+returns-in-Ok-seal_index-clause-reach g c = λ told.
+    let s = c.in-Ok-seal_index.ensures in omega (arith, c.in-Ok.ensures.reach told, s.units, (s.kept told).units)
+
+pub returns-in-Ok-seal_index-clause-end : goal.returns-in-Ok-seal_index-clause-end
+returns-in-Ok-seal_index-clause-end g c = λ told.
+    let first = ap length (c.in-Ok.ensures.runs.reads_as told).pkg in
+    let last = ap length (c.in-Ok-seal_index.ensures.runs.reads_as told).pkg in omega (arith, c.in-Ok-make.ensures.reach told, first, last)

@@ -1,4 +1,4 @@
-use Rattle.std.proofs.Common.{◌≡◌, ◌+◌, arith, ap, ◌∙◌}
+use Rattle.std.proofs.Common.{◌≡◌, ◌+◌, ◌≤◌, length, IsTrue, arith, ap, ◌∙◌}
 use Rattle.std.specs.FinMap as finite
 use Rattle.rpm_outside.specs.declared.disk.File.TheVariants.{Pkg}
 use Rattle.rpm_outside.specs.inner.Changing.{changes_then, stops_then, stops_weaker}
@@ -7,7 +7,7 @@ use Rattle.rpm_pkgdb.specs.Quiet.{Anything}
 use Rattle.rpm_pkgdb.specs.Store.{Store}
 use Rattle.rpm_pkgdb.specs.Written.{stopped, RaisesTo, ErasesTo}
 use Rattle.rpm_db.specs.inner.Writes.{BlobsTo}
-use Rattle.rpm_db.proofs.Results.{map_err}
+use Rattle.rpm_db.proofs.Results.{map_err, map_ok}
 use Rattle.rpm_db.proofs.Raised.{raises_to, erases_to}
 use Rattle.rpm_db.proofs.writing.erase_raised.Goals as goal
 
@@ -57,3 +57,9 @@ returns-in-Ok-clause-changes g c =
     changes_then D.tells D.files D.left_since D.moment D.bytes_read D.follows Pkg g.met.D.Disk.follows_trans Anything Anything Anything 0
     0 0 c.args.disk.now c.raise.new.disk c.erase.new.disk
     (omega arith) (λ x y r. r) (λ x y z p q. tt) c.in-Ok.ensures.changes c.erase.ensures.changes
+
+pub returns-in-Ok-clause-end : goal.returns-in-Ok-clause-end
+returns-in-Ok-clause-end g c =
+    let f = g.D.Disk.files in
+    map_ok c.erase.result (λ (reach : IsTrue g.D.Disk.tells → length (f c.erase.new.disk).pkg ≤ length (f c.raise.new.disk).pkg) told.
+    omega (arith, reach told, c.in-Ok.ensures.reach told)) c.erase.ensures.reach

@@ -1,4 +1,4 @@
-use Rattle.std.proofs.Common.{◌≡◌, ◌+◌, arith, Some, sym, ap, ◌∙◌, subst}
+use Rattle.std.proofs.Common.{◌≡◌, ◌+◌, IsTrue, arith, Some, sym, ap, ◌∙◌, subst}
 use Rattle.std.specs.FinMap as finite
 use Rattle.rpm_outside.specs.declared.disk.File.TheVariants.{Pkg}
 use Rattle.rpm_outside.specs.inner.Changing.{changes_then, stops_then, stops_weaker}
@@ -6,10 +6,11 @@ use Rattle.rpm_pkgdb.specs.Blobs.{blobs}
 use Rattle.rpm_pkgdb.specs.Growing.{moving_cost}
 use Rattle.rpm_pkgdb.specs.Planned.{IsPlan, moves_of}
 use Rattle.rpm_pkgdb.specs.Quiet.{Anything}
+use Rattle.rpm_pkgdb.specs.Reaches.{ReachesTo}
 use Rattle.rpm_pkgdb.specs.Store.{Store}
 use Rattle.rpm_pkgdb.specs.Written.{stopped, RaisesTo, PutsTo, next_field, field_after}
 use Rattle.rpm_db.specs.inner.Writes.{BlobsTo}
-use Rattle.rpm_db.proofs.Results.{map_err}
+use Rattle.rpm_db.proofs.Results.{map_err, map_ok}
 use Rattle.rpm_db.proofs.Raised.{plan_raised, raises_to, puts_to}
 use Rattle.rpm_db.proofs.writing.put_raised.Goals as goal
 
@@ -69,3 +70,9 @@ returns-clause-changes g c =
     c.raise.new.disk c.put.new.disk
     (omega (arith, ap (λ (v : Store). moving_cost v.slots (moves_of c.args.plan.page)) c.in-Ok.ensures.ok)) (λ x y r. r) (λ x y z p q. tt)
     c.in-Ok.ensures.changes c.put.ensures.changes
+
+pub returns-clause-end : goal.returns-clause-end
+returns-clause-end g c =
+    let f = g.D.Disk.files in
+    map_ok c.put.result (λ (reach : IsTrue g.D.Disk.tells → ReachesTo c.put.new.self (f c.raise.new.disk).pkg (f c.put.new.disk).pkg) told.
+    omega (arith, reach told, c.in-Ok.ensures.reach told)) c.put.ensures.reach

@@ -1,6 +1,13 @@
-use Rattle.std.proofs.Common.{ap, sym, ◌∙◌}
+use Rattle.std.proofs.Common.{length, Result, ap, sym, ◌∙◌, subst, arith}
+use Rattle.rpm_outside.specs.Files.{Files}
+use Rattle.rpm_pkgdb.specs.declared.slot.Damage.{Damage}
+use Rattle.rpm_hindex.specs.Sizes.{units_for}
+use Rattle.rpm_db.specs.Openings.{units_needed}
+use Rattle.rpm_db.specs.Reaches.{ReachesMade}
+use Rattle.rpm_db.specs.Rows.{rows}
+use Rattle.rpm_db.specs.State.{packages}
 use Rattle.rpm_db.specs.Lawful.{Remade}
-use Rattle.rpm_pkgdb.specs.Store.{store}
+use Rattle.rpm_pkgdb.specs.Store.{Store, store}
 use Rattle.rpm_db.specs.inner.LawfulLaws.{remade_then}
 use Rattle.rpm_db.specs.inner.Running.{runs_then}
 use Rattle.rpm_db.proofs.Opened.{opened_made, settled_quiet, still_settled, runs_read, stays_lawful}
@@ -66,3 +73,17 @@ returns-in-Ok-index_for-clause-stops g c = λ told. stays_lawful _ _ _ _ _ _ _ _
 
 pub returns-in-Err-index_for-clause-stops : goal.returns-in-Err-index_for-clause-stops
 returns-in-Err-index_for-clause-stops g c = λ told. stays_lawful _ _ _ _ _ _ _ _ told (returns-in-Err-index_for-clause-runs g c)
+
+-- ---- how far the index reaches
+
+pub returns-then-is_blank-clause-reach : goal.returns-then-is_blank-clause-reach
+returns-then-is_blank-clause-reach g c = λ told.
+    omega (arith, ap (λ (f : Files). length f.idx) (c.in-Ok.ensures.looks.untouched told).same)
+
+pub returns-in-Ok-index_for-clause-reach : goal.returns-in-Ok-index_for-clause-reach
+returns-in-Ok-index_for-clause-reach g c = λ told.
+    let f = g.D.Disk.files in
+    let new = (f c.index_for.new.disk).idx in
+    subst (λ (s : Result Store Damage). ReachesMade (units_needed (f c.args.disk.now).pkg s) (f c.args.disk.now).idx new) (sym (c.in-Ok.ensures.store told))
+    (subst (λ (fs : Files). ReachesMade (units_for (rows (packages fs.pkg c.in-Ok.store))) fs.idx new) (c.in-Ok.ensures.looks.untouched told).same
+    (c.in-Ok-index_for.ensures.reach told))
