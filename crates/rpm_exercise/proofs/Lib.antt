@@ -3,6 +3,7 @@ pub mod Limited
 pub mod Made
 pub mod Named
 pub mod Parts
+pub mod Reading
 pub mod Told
 pub mod Turned
 pub mod Walked

@@ -16,7 +16,7 @@ use Rattle.rpm_change.specs.declared.tally.Tally.{Tally}
 use Rattle.rpm_change.specs.declared.tally.Halt.{Halt}
 use Rattle.rpm_change.specs.declared.tally.Halt.TheVariants as halt
 use Rattle.rpm_change.specs.Steps.{Course, ToOut, whole, apply_all}
-use Rattle.rpm_change.specs.Endings.{outputs, ThroughSome, Ended}
+use Rattle.rpm_change.specs.Endings.{outputs, ThroughSome, Done, Ended}
 use Rattle.rpm_exercise.specs.Endings.{IsReadable, IsCutOff, IsOfTelling}
 use Rattle.rpm_exercise.specs.Exercised.{summary, exercise}
 use Rattle.rpm_exercise.specs.Rounds.{changes, Made}
@@ -70,6 +70,17 @@ module _ (ot et : Bool) (o o' e : List ℕ) (n : ℕ) (s t u : State) (tally : T
           part.2 told ∙ ap (λ (b : List ℕ). o ++ b) (ap (take part.0) text_is ∙ sym (append-nil (take part.0 (summary (apply_all (changes n s) s).packages))));
       err = gained_none et e;
     };
+  }
+
+  pub told_done : Gained ot o o' (summary t.packages) → Done (exercise n s) s u tally (outputs ot o et e) (outputs ot o' et e)
+  told_done gained = record {
+    steps = record {
+      out = λ told. gained told ∙ ap (λ (b : List ℕ). o ++ b) (text_is ∙ sym (append-nil (summary (apply_all (changes n s) s).packages)));
+      err = gained_none et e;
+    };
+    failed = sym made.failed;
+    changes = made.count;
+    state_is = stays ∙ made.state_is;
   }
 
   pub told_halted : (h : Halt) → IsOfTelling h → IsCutOff ot o o' (summary t.packages) h

@@ -56,6 +56,10 @@ pub lines_end : (line : ℕ → List ℕ) (text all : List ℕ) (c n : ℕ) → 
 lines_end line text all c n past so =
     sym (append-nil text) ∙ ap (λ (t : List ℕ). text ++ t) (sym (each_none line c n c past)) ∙ so
 
+-- what is told of packages is told of the same packages
+pub told_of : (say : finite.FinMap nat_cmp Package → List ℕ) (p q : finite.FinMap nat_cmp Package) (text : List ℕ) → p ≡ q → text ≡ say p → text ≡ say q
+told_of say p q text same is = is ∙ ap say same
+
 -- one text behind the other
 pub three_told : (a b d x y z : List ℕ) → x ≡ a → y ≡ x ++ b → z ≡ y ++ d → z ≡ a ++ (b ++ d)
 three_told a b d x y z p q r = r ∙ ap (λ (t : List ℕ). t ++ d) (q ∙ ap (λ (t : List ℕ). t ++ b) p) ∙ append_assoc a b d

@@ -16,6 +16,7 @@ pub record IsReadable (files : Files) (db : Database) : Type 0 where
   pub keeps : Keeps files.pkg db
   pub index : KeepsIndex files.idx db
 
+-- what a fault of a question makes of the exercise
 abbrev pub pick_halt : PickFault → Halt
 pick_halt (pick.BadIndex unit) = halt.BadIndex unit
 pick_halt pick.DiskFault = halt.DiskFault

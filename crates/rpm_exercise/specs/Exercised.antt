@@ -45,6 +45,7 @@ abbrev pub capability_line : FinMap nat_cmp Package → ℕ → List ℕ
 capability_line packages c =
     count_line (numbered (codes "cap") c) (picked packages (question.Provides (capability_named (numbered (codes "cap") c))))
 
+-- one line each, by their numbers from 0 to 6
 abbrev pub capability_lines : FinMap nat_cmp Package → List ℕ
 capability_lines packages = flat_map (capability_line packages) (range_with_len 0 7)
 
@@ -56,6 +57,7 @@ digest_text digest = codes "sha256 " ++ (encode_lower digest ++ codes "\n")
 abbrev pub digest_line : FinMap nat_cmp Package → List ℕ
 digest_line packages = digest_text (sha256 (export_bytes packages))
 
+-- how many packages there are, how many provide each capability, and the digest
 unfoldable pub summary : FinMap nat_cmp Package → List ℕ
 summary packages = count_line (codes "packages") (picked packages question.All) ++ (capability_lines packages ++ digest_line packages)
 

@@ -1,12 +1,12 @@
-use Rattle.std.proofs.Common.{ap, ◌∙◌}
+use Rattle.std.proofs.Common.{sym, ap, subst}
 use Rattle.rpm_outside.specs.Buffered.{inner}
 use Rattle.rpm_outside.specs.Files.{Files}
+use Rattle.rpm_db.specs.Database.{IsIndexed}
 use Rattle.rpm_db.specs.State.{state}
-use Rattle.rpm_db.specs.inner.Running.{runs_then}
-use Rattle.rpm_db.specs.inner.Writes.{SameFiles, SameLog}
 use Rattle.rpm_exercise.specs.Rounds.{changes}
 use Rattle.rpm_exercise.proofs.Limited.{telling_limits}
-use Rattle.rpm_exercise.proofs.Told.{from_one_after, told_halted}
+use Rattle.rpm_exercise.proofs.Reading.{read_after, serving_read}
+use Rattle.rpm_exercise.proofs.Told.{from_one_after, told_done, told_halted}
 use Rattle.rpm_exercise.proofs.running.change_and_tell.Goals as goal
 
 pub tell-requires-clause-from_one : goal.tell-requires-clause-from_one
@@ -27,9 +27,35 @@ returns-in-Err-tell-clause-ended g c = λ told rows et e.
 
 pub returns-in-Err-tell-clause-runs : goal.returns-in-Err-tell-clause-runs
 returns-in-Err-tell-clause-runs g c =
-    runs_then g.D.Disk.tells g.D.Disk.files g.D.Disk.left_since g.D.Disk.moment g.D.Disk.bytes_read g.D.Disk.follows g.met.D.Disk.follows_trans
-    SameLog SameFiles SameLog c.args.disk.now c.change_all.new.disk c.tell.new.disk (λ x y log. log)
-    (λ x y z log same. ap (λ (f : Files). f.log) same ∙ log) c.in-Ok.ensures.runs c.in-Err-tell.ensures.runs
+    read_after g.D.Disk g.met.D.Disk.follows_trans c.args.disk.now c.change_all.new.disk c.tell.new.disk c.in-Ok.ensures.runs c.in-Err-tell.ensures.runs
+
+pub returns-in-Ok-tell-clause-ended : goal.returns-in-Ok-tell-clause-ended
+returns-in-Ok-tell-clause-ended g c = λ told rows et e.
+    let db = c.change_all.new.db in
+    let s = state (g.D.Disk.files c.args.disk.now).pkg c.args.db.now.store in
+    let t = state (g.D.Disk.files c.change_all.new.disk).pkg db.store in
+    let u = state (g.D.Disk.files c.tell.new.disk).pkg db.store in
+    let stays = ap (λ (f : Files). state f.pkg db.store) (c.in-Ok-tell.ensures.runs.reads_as told) in
+    told_done g.O.Sink.tells et (g.O.Sink.taken (inner c.args.out.now)) (g.O.Sink.taken (inner c.tell.new.out)) e c.args.n s t u c.in-Ok.tally
+    (c.in-Ok.ensures.made told) stays (c.in-Ok-tell.ensures.told told (λ is. (c.in-Ok.ensures.carried.index told rows).rows_are))
+
+pub returns-in-Ok-tell-clause-carried : goal.returns-in-Ok-tell-clause-carried
+returns-in-Ok-tell-clause-carried g c =
+    let db = c.change_all.new.db in
+    let d = g.D.Disk in
+    let runs = c.in-Ok-tell.ensures.runs in
+    let carried = c.in-Ok.ensures.carried in
+    record {
+      going = carried.going;
+      serving = λ told.
+          serving_read (d.files c.change_all.new.disk) (d.files c.tell.new.disk) (d.left_since c.change_all.new.disk (d.moment c.change_all.new.disk))
+          (d.left_since c.tell.new.disk (d.moment c.tell.new.disk)) db (runs.reads_as told) (runs.now told) (carried.serving told);
+      index = λ told rows. subst (λ (f : Files). IsIndexed f.pkg f.idx db) (sym (runs.reads_as told)) (carried.index told rows);
+    }
+
+pub returns-in-Ok-tell-clause-runs : goal.returns-in-Ok-tell-clause-runs
+returns-in-Ok-tell-clause-runs g c =
+    read_after g.D.Disk g.met.D.Disk.follows_trans c.args.disk.now c.change_all.new.disk c.tell.new.disk c.in-Ok.ensures.runs c.in-Ok-tell.ensures.runs
 
 pub returns-in-Err-tell-clause-limits : goal.returns-in-Err-tell-clause-limits
 returns-in-Err-tell-clause-limits g c = λ told j rows.

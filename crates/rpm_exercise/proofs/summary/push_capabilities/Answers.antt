@@ -1,12 +1,11 @@
-use Rattle.std.proofs.Common.{◌++◌, refl, ap, ◌∙◌, arith}
-use Rattle.std.specs.Ordering.{nat_cmp}
-use Rattle.std.specs.FinMap as finite
-use Rattle.rpm_db.specs.State.{Package, packages}
-use Rattle.rpm_db.specs.inner.Running.{runs_none, runs_then}
+use Rattle.std.proofs.Common.{◌++◌, refl, arith}
+use Rattle.rpm_db.specs.State.{packages}
+use Rattle.rpm_db.specs.inner.Running.{runs_none}
 use Rattle.rpm_db.specs.inner.Writes.{SameFiles}
 use Rattle.rpm_exercise.specs.Exercised.{capability_line, capability_lines}
+use Rattle.rpm_exercise.proofs.Reading.{reads_on}
 use Rattle.rpm_exercise.proofs.Told.{readable_same, rows_same, packages_same}
-use Rattle.rpm_exercise.proofs.Walked.{lines_more, lines_end}
+use Rattle.rpm_exercise.proofs.Walked.{told_of, lines_more, lines_end}
 use Rattle.rpm_exercise.proofs.summary.push_capabilities.Goals as goal
 
 pub loop-c-init : goal.loop-c-init
@@ -33,13 +32,12 @@ loop-c-preserved g c =
       goes = λ told rows.
           let same = inv.runs.reads_as told in
           let line = capability_line (packages start.pkg db.store) in
-          let is = done.told told (rows_same start mid db same rows)
-          ∙ ap (λ (p : finite.FinMap nat_cmp Package). c.loop-c.text.items ++ capability_line p c.loop-c.c) (packages_same start mid db same) in
+          let is =
+          told_of (λ p. c.loop-c.text.items ++ capability_line p c.loop-c.c) (packages mid.pkg db.store) (packages start.pkg db.store)
+          c.push_capability.new.text.items (packages_same start mid db same) (done.told told (rows_same start mid db same rows)) in
           lines_more line c.loop-c.text.items c.push_capability.new.text.items (c.args.text.now.items ++ capability_lines (packages start.pkg db.store))
           c.loop-c.c 7 (omega arith) is (inv.goes told rows);
-      runs = runs_then g.D.Disk.tells g.D.Disk.files g.D.Disk.left_since g.D.Disk.moment g.D.Disk.bytes_read g.D.Disk.follows g.met.D.Disk.follows_trans
-          SameFiles SameFiles SameFiles c.args.disk.now c.loop-c.disk c.push_capability.new.disk (λ x y same. same) (λ x y z first second. second ∙ first)
-          inv.runs done.runs;
+      runs = reads_on g.D.Disk g.met.D.Disk.follows_trans c.args.disk.now c.loop-c.disk c.push_capability.new.disk inv.runs done.runs;
       disk = omega (arith, inv.disk, done.disk.later);
     }
 
@@ -50,9 +48,7 @@ returns-in-Err-clause-lawful g c = λ told rows.
 
 pub returns-in-Err-clause-runs : goal.returns-in-Err-clause-runs
 returns-in-Err-clause-runs g c =
-    runs_then g.D.Disk.tells g.D.Disk.files g.D.Disk.left_since g.D.Disk.moment g.D.Disk.bytes_read g.D.Disk.follows g.met.D.Disk.follows_trans
-    SameFiles SameFiles SameFiles c.args.disk.now c.loop-c.disk c.push_capability.new.disk (λ x y same. same) (λ x y z first second. second ∙ first)
-    c.loop-c.invariant.runs c.in-Err.ensures.runs
+    reads_on g.D.Disk g.met.D.Disk.follows_trans c.args.disk.now c.loop-c.disk c.push_capability.new.disk c.loop-c.invariant.runs c.in-Err.ensures.runs
 
 pub returns-clause-told : goal.returns-clause-told
 returns-clause-told g c = λ told rows.

@@ -1,15 +1,69 @@
-use Rattle.std.proofs.Common.{ℕ, ◌++◌, List, codes, ap, ◌∙◌}
-use Rattle.std.specs.Ordering.{nat_cmp}
-use Rattle.std.specs.FinMap as finite
+use Rattle.std.proofs.Common.{ℕ, ◌++◌, List, codes, ap, ◌∙◌, arith}
+use Rattle.std.proofs.lemmas.Result.{err_from_is_err_and}
 use Rattle.sha2.specs.Sha256.{sha256}
-use Rattle.rpm_db.specs.State.{Package, packages}
-use Rattle.rpm_db.specs.inner.Running.{runs_then}
-use Rattle.rpm_db.specs.inner.Writes.{SameFiles}
+use Rattle.rpm_db.specs.State.{packages}
 use Rattle.rpm_select.specs.declared.selection.Selection.TheVariants as question
 use Rattle.rpm_exercise.specs.Exercised.{picked, count_line, capability_lines, export_bytes, digest_text, digest_line, summary}
-use Rattle.rpm_exercise.proofs.Told.{rows_same, packages_same}
-use Rattle.rpm_exercise.proofs.Walked.{three_told}
+use Rattle.rpm_exercise.proofs.Reading.{reads_on, cause_on}
+use Rattle.rpm_exercise.proofs.Told.{readable_same, rows_same, packages_same}
+use Rattle.rpm_exercise.proofs.Walked.{told_of, three_told}
 use Rattle.rpm_exercise.proofs.summary.summary.Goals as goal
+
+pub push_capabilities-requires-clause-readable : goal.push_capabilities-requires-clause-readable
+push_capabilities-requires-clause-readable g c = λ told.
+    readable_same (g.D.Disk.files c.args.disk.now) (g.D.Disk.files c.push_packages.new.disk) c.args.db.now
+    (c.in_ok-push_packages.ensures.runs.reads_as told) (c.requires.readable told)
+
+pub digest-requires-clause-readable : goal.digest-requires-clause-readable
+digest-requires-clause-readable g c = λ told.
+    readable_same (g.D.Disk.files c.args.disk.now) (g.D.Disk.files c.push_capabilities.new.disk) c.args.db.now
+    (c.in_ok-push_capabilities.ensures.runs.reads_as told ∙ c.in_ok-push_packages.ensures.runs.reads_as told) (c.requires.readable told)
+
+pub returns-in_err-push_packages : goal.returns-in_err-push_packages
+returns-in_err-push_packages g c =
+    let p = err_from_is_err_and c.from_residual.result c.from_residual.ensures.1 in
+    let said = c.in_err-push_packages.ensures in
+    rw (p.1, p.2) (record {
+      told = λ told rows. tt;
+      lawful = said.lawful;
+      kinds = said.kinds;
+      runs = said.runs;
+      disk = cause_on _ _ c.in_err-push_packages.field-0.0 (g.D.Disk.faults c.args.disk.now) (g.D.Disk.faults c.args.disk.now) _ (omega arith) said.disk;
+    })
+
+pub returns-in_err-push_capabilities : goal.returns-in_err-push_capabilities
+returns-in_err-push_capabilities g c =
+    let p = err_from_is_err_and c.from_residual-in_err-push_capabilities.result c.from_residual-in_err-push_capabilities.ensures.1 in
+    let said = c.in_err-push_capabilities.ensures in
+    let first = c.in_ok-push_packages.ensures in
+    rw (p.1, p.2) (record {
+      told = λ told rows. tt;
+      lawful = λ told rows.
+          said.lawful told
+          (rows_same (g.D.Disk.files c.args.disk.now) (g.D.Disk.files c.push_packages.new.disk) c.args.db.now (first.runs.reads_as told) rows);
+      kinds = said.kinds;
+      runs = reads_on g.D.Disk g.met.D.Disk.follows_trans c.args.disk.now c.push_packages.new.disk c.push_capabilities.new.disk first.runs said.runs;
+      disk = cause_on _ _ c.in_err-push_capabilities.field-0.0 _ _ _ first.disk.later said.disk;
+    })
+
+pub returns-in_err-digest : goal.returns-in_err-digest
+returns-in_err-digest g c =
+    let p = err_from_is_err_and c.from_residual-in_err-digest.result c.from_residual-in_err-digest.ensures.1 in
+    let said = c.in_err-digest.ensures in
+    let first = c.in_ok-push_packages.ensures in
+    let second = c.in_ok-push_capabilities.ensures in
+    let runs =
+    reads_on g.D.Disk g.met.D.Disk.follows_trans c.args.disk.now c.push_packages.new.disk c.push_capabilities.new.disk first.runs second.runs in
+    rw (p.1, p.2) (record {
+      told = λ told rows. tt;
+      lawful = λ told rows.
+          said.lawful told
+          (rows_same (g.D.Disk.files c.args.disk.now) (g.D.Disk.files c.push_capabilities.new.disk) c.args.db.now (runs.reads_as told) rows);
+      kinds = said.kinds;
+      runs = reads_on g.D.Disk g.met.D.Disk.follows_trans c.args.disk.now c.push_capabilities.new.disk c.digest.new.disk runs said.runs;
+      disk = cause_on _ _ c.in_err-digest.field-0.0 (g.D.Disk.faults c.args.disk.now) _ _ (omega (arith, first.disk.later, second.disk.later))
+          said.disk;
+    })
 
 pub returns-in-Ok-clause-told : goal.returns-in-Ok-clause-told
 unfolding summary
@@ -23,10 +77,12 @@ returns-in-Ok-clause-told g c = λ told rows.
     let again = c.in_ok-push_capabilities.ensures.runs.reads_as told ∙ same in
     let line = count_line (codes "packages") (picked all question.All) in
     let first = c.in_ok-push_packages.ensures.told told rows ∙ ap (λ (t : List ℕ). t ++ line) c.new-text.ensures.items in
-    let second = c.in_ok-push_capabilities.ensures.told told (rows_same start one db same rows)
-    ∙ ap (λ (m : finite.FinMap nat_cmp Package). c.push_packages.new.text.items ++ capability_lines m) (packages_same start one db same) in
-    let digest = c.in_ok-digest.ensures.told told (rows_same start two db again rows)
-    ∙ ap (λ (m : finite.FinMap nat_cmp Package). sha256 (export_bytes m)) (packages_same start two db again) in
+    let second =
+    told_of (λ m. c.push_packages.new.text.items ++ capability_lines m) (packages one.pkg db.store) all c.push_capabilities.new.text.items
+    (packages_same start one db same) (c.in_ok-push_capabilities.ensures.told told (rows_same start one db same rows)) in
+    let digest =
+    told_of (λ m. sha256 (export_bytes m)) (packages two.pkg db.store) all c.in_ok-digest.digest (packages_same start two db again)
+    (c.in_ok-digest.ensures.told told (rows_same start two db again rows)) in
     let third = c.in-Ok.ensures ∙ ap (λ (d : List ℕ). c.push_capabilities.new.text.items ++ digest_text d) digest in
     three_told line (capability_lines all) (digest_line all) c.push_packages.new.text.items c.push_capabilities.new.text.items
     c.push_digest.new.text.items first second third
@@ -34,19 +90,13 @@ returns-in-Ok-clause-told g c = λ told rows.
 pub returns-in-Ok-clause-runs : goal.returns-in-Ok-clause-runs
 returns-in-Ok-clause-runs g c =
     let first =
-    runs_then g.D.Disk.tells g.D.Disk.files g.D.Disk.left_since g.D.Disk.moment g.D.Disk.bytes_read g.D.Disk.follows g.met.D.Disk.follows_trans
-    SameFiles SameFiles SameFiles c.args.disk.now c.push_packages.new.disk c.push_capabilities.new.disk (λ x y same. same)
-    (λ x y z first second. second ∙ first) c.in_ok-push_packages.ensures.runs c.in_ok-push_capabilities.ensures.runs in
-    runs_then g.D.Disk.tells g.D.Disk.files g.D.Disk.left_since g.D.Disk.moment g.D.Disk.bytes_read g.D.Disk.follows g.met.D.Disk.follows_trans
-    SameFiles SameFiles SameFiles c.args.disk.now c.push_capabilities.new.disk c.digest.new.disk (λ x y same. same)
-    (λ x y z first second. second ∙ first) first c.in_ok-digest.ensures.runs
+    reads_on g.D.Disk g.met.D.Disk.follows_trans c.args.disk.now c.push_packages.new.disk c.push_capabilities.new.disk
+    c.in_ok-push_packages.ensures.runs c.in_ok-push_capabilities.ensures.runs in
+    reads_on g.D.Disk g.met.D.Disk.follows_trans c.args.disk.now c.push_capabilities.new.disk c.digest.new.disk first c.in_ok-digest.ensures.runs
 
 pub returns-in-Err-clause-runs : goal.returns-in-Err-clause-runs
 returns-in-Err-clause-runs g c =
     let first =
-    runs_then g.D.Disk.tells g.D.Disk.files g.D.Disk.left_since g.D.Disk.moment g.D.Disk.bytes_read g.D.Disk.follows g.met.D.Disk.follows_trans
-    SameFiles SameFiles SameFiles c.args.disk.now c.push_packages.new.disk c.push_capabilities.new.disk (λ x y same. same)
-    (λ x y z first second. second ∙ first) c.in_ok-push_packages.ensures.runs c.in_ok-push_capabilities.ensures.runs in
-    runs_then g.D.Disk.tells g.D.Disk.files g.D.Disk.left_since g.D.Disk.moment g.D.Disk.bytes_read g.D.Disk.follows g.met.D.Disk.follows_trans
-    SameFiles SameFiles SameFiles c.args.disk.now c.push_capabilities.new.disk c.digest.new.disk (λ x y same. same)
-    (λ x y z first second. second ∙ first) first c.in_ok-digest.ensures.runs
+    reads_on g.D.Disk g.met.D.Disk.follows_trans c.args.disk.now c.push_packages.new.disk c.push_capabilities.new.disk
+    c.in_ok-push_packages.ensures.runs c.in_ok-push_capabilities.ensures.runs in
+    reads_on g.D.Disk g.met.D.Disk.follows_trans c.args.disk.now c.push_capabilities.new.disk c.digest.new.disk first c.in_ok-digest.ensures.runs
