@@ -1,92 +1,136 @@
 -- What is held in a table of which one page was put, and units that are held page by page.
-use Rattle.std.proofs.Common.{◌≡◌, ◌⊎◌, inl, inr, ⊎_elim, ℕ, ◌+◌, ◌-◌, ◌*◌, ◌/◌, ◌%◌, ◌<◌, ◌≤◌, List, [], ◌∷◌, ◌++◌, length, take, drop, get_or, set, refl, sym, ap, ◌∙◌, arith, get_or-set_same, get_or-set_other}
+use Rattle.std.proofs.Common.{◌≡◌, ◌⊎◌, inl, inr, ⊎_elim, ℕ, ◌+◌, ◌-◌, ◌*◌, ◌/◌, ◌%◌, ◌<◌, ◌≤◌, List, [], ◌∷◌, ◌++◌, length, take, drop, map, get_or, set, sym, ap, ◌∙◌, arith, get_or-set_same, get_or-set_other}
 use Rattle.std.specs.Prelude.{Option, Some, None, Box, true, is_some}
 use Rattle.std.specs.declared.alloc.Global.{Global}
-use Rattle.std.proofs.lemmas.List.{length-take, length-drop, get_or_append_left, get_or_past, length_push, get_or_push, get_or-take, get_or-drop, same_lists}
+use Rattle.std.proofs.lemmas.List.{length-take, length-drop, length-map, map-append, map-set, get_or-map, get_or_append_left, get_or_past, length_push, get_or_push, get_or-take, get_or-drop, same_lists}
 use Rattle.std.proofs.lemmas.Bool.{cases_lt, cases_eq, cases_order}
 use Rattle.rpm_group.specs.declared.page.Page.{Page}
-use Rattle.rpm_group.specs.Held.{Table, unit_in, in_page, page_at, in_paged, held_at}
-use Rattle.rpm_group.specs.inner.Holding.{SameHeld, KeepsPages, PageWrote, Holds}
+use Rattle.rpm_group.specs.Held.{Leaf, Table, unit_in, in_page, page_in, page_at, in_paged, held_at}
+use Rattle.rpm_group.specs.inner.Holding.{LeafSame, LeafKeeps, LeafWrote, SamePages, SameHeld, KeepsPages, Holds}
 
-Paged : Type 0
-Paged = Option (Box Page Global)
-
-module _ (table : Table) (q : ℕ) (page : Option (Box Page Global)) where
-  pub held_set_here : (i : ℕ) → i / 256 ≡ q → q < length table → held_at (set table q page) i ≡ in_paged page (i % 256)
-  unfolding held_at
-  held_set_here i is below =
-      ap (λ (p : ℕ). in_paged (get_or (set table q page) p None) (i % 256)) is
-      ∙ ap (λ (x : Option (Box Page Global)). in_paged x (i % 256)) (get_or-set_same table q page None below)
-
-  pub held_set_other : (i : ℕ) → (i / 256 ≡ q → ⊥) → held_at (set table q page) i ≡ held_at table i
-  unfolding held_at
-  held_set_other i other = ap (λ (x : Option (Box Page Global)). in_paged x (i % 256)) (get_or-set_other table q (i / 256) page None other)
-
-  pub page_set : (p : ℕ) → q < length table → (is_some (page_at table p) ≡ true → is_some page ≡ true) → is_some (page_at table p) ≡ true
-      → is_some (page_at (set table q page) p) ≡ true
-  page_set p below here there = elim (cases_eq p q) [
-    | inl same ↦
-        ap (λ (r : ℕ). is_some (get_or (set table q page) r None)) same
-        ∙ ap is_some (get_or-set_same table q page None below)
-        ∙ here there
-    | inr other ↦ ap is_some (get_or-set_other table q p page None other) ∙ there
+pub push_default : {A : Type 0} (xs : List A) (d : A) (i : ℕ) → get_or (xs ++ d ∷ []) i d ≡ get_or xs i d
+push_default xs d i = elim (cases_order i (length xs)) [
+  | inl same ↦ get_or_push xs d d i (sym same) ∙ sym (get_or_past xs i d (omega (arith, same)))
+  | inr other ↦ elim other [
+    | inl below ↦ get_or_append_left xs (d ∷ []) d i below
+    | inr past ↦ get_or_past (xs ++ d ∷ []) i d (omega (arith, length_push xs d)) ∙ sym (get_or_past xs i d (omega arith))
   ]
+]
+
+abbrev items : Leaf → List (Option (Box Page Global))
+items leaf = leaf.items
+
+-- a page of a leaf that was read, and one of a leaf that isn't there
+pub page_read : (table : Table) (q : ℕ) (leaf : Leaf) → q / 256 < length table → leaf ≡ get_or table (q / 256) leaf → page_at table q ≡ page_in leaf (q % 256)
+page_read table q leaf below is = ap (λ (pages : List (Option (Box Page Global))). get_or pages (q % 256) None)
+    (get_or-map items table (q / 256) leaf [] below ∙ sym (ap items is))
+
+pub page_past : (table : Table) (q : ℕ) → length table ≤ q / 256 → page_at table q ≡ None
+page_past table q past = ap (λ (pages : List (Option (Box Page Global))). get_or pages (q % 256) None)
+    (get_or_past (map items table) (q / 256) [] (omega (arith, past, length-map table items)))
+
+pub leaf_pushed : (table : Table) (leaf : Leaf) → leaf.items ≡ [] → SamePages table (table ++ leaf ∷ [])
+leaf_pushed table leaf empty q = ap (λ (pages : List (Option (Box Page Global))). get_or pages (q % 256) None)
+    (ap (λ (all : List (List (Option (Box Page Global)))). get_or all (q / 256) []) (map-append items table (leaf ∷ [])
+    ∙ ap (λ (last : List (Option (Box Page Global))). map items table ++ last ∷ []) empty)
+    ∙ push_default (map items table) [] (q / 256))
+
+pub same_held : (old new : Table) → SamePages old new → SameHeld old new
+unfolding held_at
+same_held old new same i = ap (λ (p : Option (Box Page Global)). in_paged p (i % 256)) (same (i / 256))
 
 pub held_here : (table : Table) (q i : ℕ) → i / 256 ≡ q → held_at table i ≡ in_paged (page_at table q) (i % 256)
 unfolding held_at
-held_here table q i is = ap (λ (p : ℕ). in_paged (get_or table p None) (i % 256)) is
-
-pub page_push : (table : Table) (q : ℕ) → page_at (table ++ None ∷ []) q ≡ page_at table q
-page_push table q = elim (cases_order q (length table)) [
-  | inl same ↦ get_or_push table None None q (sym same) ∙ sym (get_or_past table q None (omega (arith, same)))
-  | inr other ↦ elim other [
-    | inl below ↦ get_or_append_left table (None ∷ []) None q below
-    | inr past ↦ get_or_past (table ++ None ∷ []) q None (omega (arith, length_push table None)) ∙ sym (get_or_past table q None (omega arith))
-  ]
-]
-
-pub held_push : (table : Table) (i : ℕ) → held_at (table ++ None ∷ []) i ≡ held_at table i
-unfolding held_at
-held_push table i = ap (λ (x : Option (Box Page Global)). in_paged x (i % 256)) (page_push table (i / 256))
+held_here table q i is = ap (λ (p : ℕ). in_paged (page_at table p) (i % 256)) is
 
 -- a page of which nothing is held, where there was none
-pub held_added : (table : Table) (q : ℕ) (page : Box Page Global) → q < length table → page_at table q ≡ None
-    → ((k : ℕ) → in_page page.value k ≡ None) → SameHeld table (set table q (Some page))
-held_added table q page below none nothing i = elim (cases_eq (i / 256) q) [
-  | inl here ↦
-      held_set_here table q (Some page) i here below
-      ∙ nothing (i % 256)
-      ∙ sym (ap (λ (x : Option (Box Page Global)). in_paged x (i % 256)) none)
-      ∙ sym (held_here table q i here)
-  | inr other ↦ held_set_other table q (Some page) i other
-]
+module _ (pages : List (Option (Box Page Global))) (k : ℕ) (page : Box Page Global) (below : k < length pages) where
+  pub leaf_added : get_or pages k None ≡ None → ((m : ℕ) → in_page page.value m ≡ None) → (j m : ℕ)
+      → in_paged (get_or (set pages k (Some page)) j None) m ≡ in_paged (get_or pages j None) m
+  leaf_added none nothing j m = elim (cases_eq j k) [
+    | inl same ↦
+        ap (λ (i : ℕ). in_paged (get_or (set pages k (Some page)) i None) m) same
+        ∙ ap (λ (p : Option (Box Page Global)). in_paged p m) (get_or-set_same pages k (Some page) None below)
+        ∙ nothing m
+        ∙ sym (ap (λ (p : Option (Box Page Global)). in_paged p m) none)
+        ∙ sym (ap (λ (i : ℕ). in_paged (get_or pages i None) m) same)
+    | inr other ↦ ap (λ (p : Option (Box Page Global)). in_paged p m) (get_or-set_other pages k j (Some page) None other)
+  ]
 
--- units of one page
-module _ (table : Table) (q at : ℕ) (bytes : List ℕ) (page new : Box Page Global) (below : q < length table) (is : page_at table q ≡ Some page)
-    (within : at + length bytes / 16 ≤ 256) (wrote : PageWrote at bytes page.value new.value) where
-  pub held_written : Holds (256 * q + at) bytes table (set table q (Some new))
-  held_written = record { inside = here; outside = elsewhere }
+  pub leaf_kept : (j : ℕ) → is_some (get_or pages j None) ≡ true → is_some (get_or (set pages k (Some page)) j None) ≡ true
+  leaf_kept j there = elim (cases_eq j k) [
+    | inl same ↦
+        ap (λ (i : ℕ). is_some (get_or (set pages k (Some page)) i None)) same ∙ ap is_some (get_or-set_same pages k (Some page) None below)
+    | inr other ↦ ap is_some (get_or-set_other pages k j (Some page) None other) ∙ there
+  ]
+
+-- a leaf in place of another
+module _ (table : Table) (g : ℕ) (old new : Leaf) (below : g < length table) (is : old ≡ get_or table g old) where
+  pub page_set_here : (q : ℕ) → q / 256 ≡ g → page_at (set table g new) q ≡ page_in new (q % 256)
+  page_set_here q here = ap (λ (pages : List (Option (Box Page Global))). get_or pages (q % 256) None)
+      (ap (λ (i : ℕ). get_or (map items (set table g new)) i []) here
+      ∙ ap (λ (all : List (List (Option (Box Page Global)))). get_or all g []) (map-set items table g new)
+      ∙ get_or-set_same (map items table) g new.items [] (omega (arith, below, length-map table items)))
+
+  page_was_here : (q : ℕ) → q / 256 ≡ g → page_at table q ≡ page_in old (q % 256)
+  page_was_here q here = ap (λ (pages : List (Option (Box Page Global))). get_or pages (q % 256) None)
+      (ap (λ (i : ℕ). get_or (map items table) i []) here ∙ get_or-map items table g old [] below ∙ sym (ap items is))
+
+  page_set_other : (q : ℕ) → (q / 256 ≡ g → ⊥) → page_at (set table g new) q ≡ page_at table q
+  page_set_other q other = ap (λ (pages : List (Option (Box Page Global))). get_or pages (q % 256) None)
+      (ap (λ (all : List (List (Option (Box Page Global)))). get_or all (q / 256) []) (map-set items table g new)
+      ∙ get_or-set_other (map items table) g (q / 256) new.items [] other)
+
+  pub same_set : LeafSame old new → SameHeld table (set table g new)
+  unfolding held_at
+  same_set same i = elim (cases_eq (i / 256 / 256) g) [
+    | inl here ↦
+        ap (λ (p : Option (Box Page Global)). in_paged p (i % 256)) (page_set_here (i / 256) here)
+        ∙ same (i / 256 % 256) (i % 256)
+        ∙ sym (ap (λ (p : Option (Box Page Global)). in_paged p (i % 256)) (page_was_here (i / 256) here))
+    | inr other ↦ ap (λ (p : Option (Box Page Global)). in_paged p (i % 256)) (page_set_other (i / 256) other)
+  ]
+
+  pub keeps_set : LeafKeeps old new → KeepsPages table (set table g new)
+  keeps_set keeps q there = elim (cases_eq (q / 256) g) [
+    | inl here ↦ ap is_some (page_set_here q here) ∙ keeps (q % 256) (sym (ap is_some (page_was_here q here)) ∙ there)
+    | inr other ↦ ap is_some (page_set_other q other) ∙ there
+  ]
+
+  module _ (q at : ℕ) (bytes : List ℕ) (here : q / 256 ≡ g) (wrote : LeafWrote (q % 256) at bytes old new) where
+    other_page : (i : ℕ) → (i / 256 ≡ q → ⊥) → held_at (set table g new) i ≡ held_at table i
+    unfolding held_at
+    other_page i differs = ap (λ (p : Option (Box Page Global)). in_paged p (i % 256)) (elim (cases_eq (i / 256 / 256) g) [
+      | inl near ↦
+          page_set_here (i / 256) near
+          ∙ wrote.other (i / 256 % 256) (λ e. differs (omega (arith, e, near, here)))
+          ∙ sym (page_was_here (i / 256) near)
+      | inr far ↦ page_set_other (i / 256) far
+    ])
+
+  pub wrote_set : (q at : ℕ) (bytes : List ℕ) → q / 256 ≡ g → at + length bytes / 16 ≤ 256 → LeafWrote (q % 256) at bytes old new
+      → Holds (256 * q + at) bytes table (set table g new)
+  wrote_set q at bytes here within wrote = record { inside = inside; outside = outside }
     where
-      here : (k : ℕ) → k < length bytes / 16 → held_at (set table q (Some new)) (256 * q + at + k) ≡ Some (unit_in bytes k)
-      here k less =
+      inside : (k : ℕ) → k < length bytes / 16 → held_at (set table g new) (256 * q + at + k) ≡ Some (unit_in bytes k)
+      inside k less =
           let place : (256 * q + at + k) / 256 ≡ q = omega arith in
           let rest : (256 * q + at + k) % 256 ≡ at + k = omega arith in
-          held_set_here table q (Some new) (256 * q + at + k) place below
-          ∙ ap (λ (j : ℕ). in_page new.value j) rest
+          held_here (set table g new) q (256 * q + at + k) place
+          ∙ ap (λ (p : Option (Box Page Global)). in_paged p ((256 * q + at + k) % 256)) (page_set_here q here)
+          ∙ ap (λ (j : ℕ). in_paged (page_in new (q % 256)) j) rest
           ∙ wrote.inside k less
 
-      elsewhere : (i : ℕ) → (i < 256 * q + at) ⊎ (256 * q + at + length bytes / 16 ≤ i) → held_at (set table q (Some new)) i ≡ held_at table i
-      elsewhere i out = elim (cases_eq (i / 256) q) [
+      outside : (i : ℕ) → (i < 256 * q + at) ⊎ (256 * q + at + length bytes / 16 ≤ i) → held_at (set table g new) i ≡ held_at table i
+      outside i out = elim (cases_eq (i / 256) q) [
         | inl same ↦
-            held_set_here table q (Some new) i same below
+            held_here (set table g new) q i same
+            ∙ ap (λ (p : Option (Box Page Global)). in_paged p (i % 256)) (page_set_here q here)
             ∙ wrote.outside (i % 256) (⊎_elim (λ before. inl (omega (arith, before, same))) (λ past. inr (omega (arith, past, same))) out)
-            ∙ sym (ap (λ (x : Option (Box Page Global)). in_paged x (i % 256)) is)
+            ∙ sym (ap (λ (p : Option (Box Page Global)). in_paged p (i % 256)) (page_was_here q here))
             ∙ sym (held_here table q i same)
-        | inr other ↦ held_set_other table q (Some new) i other
+        | inr differs ↦ other_page q at bytes here wrote i differs
       ]
-
-  pub pages_written : KeepsPages table (set table q (Some new))
-  pages_written p there = page_set table q (Some new) p below (λ h. refl) there
 
 -- ---- one part after another
 

@@ -1,5 +1,5 @@
 -- What is held of a file.
-use Rattle.std.specs.Prelude.{◌≡◌, ℕ, ◌*◌, ◌/◌, ◌%◌, ◌≤◌, List, take, drop, length, Option, Some, None, slice_index_or, if◌then◌else◌, false, Box, unwrap_or, map, max}
+use Rattle.std.specs.Prelude.{◌≡◌, ℕ, ◌*◌, ◌/◌, ◌%◌, ◌≤◌, List, [], Vec, take, drop, length, Option, Some, None, slice_index_or, if◌then◌else◌, false, Box, unwrap_or, map, max}
 use Rattle.std.specs.List.{range_with_len}
 use Rattle.rpm_outside.specs.Files.{Units, unit_at}
 use Rattle.std.specs.declared.alloc.Global.{Global}
@@ -13,13 +13,21 @@ unit_in bytes k = take 16 (drop (16 * k) bytes)
 abbrev pub in_page : Page → ℕ → Option (List ℕ)
 in_page page k = if slice_index_or page.marks k false then Some (unit_in page.bytes k) else None
 
--- a file's pages by number, of which some are there
-abbrev pub Table : Type 0
-Table = List (Option (Box Page Global))
+-- 256 pages by number, of which some are there
+abbrev pub Leaf : Type 0
+Leaf = Vec (Option (Box Page Global)) Global
 
--- the page of that number, where there is one
+-- page k of these, where it is there
+abbrev pub page_in : Leaf → ℕ → Option (Box Page Global)
+page_in leaf k = slice_index_or leaf.items k None
+
+-- a file's pages by number, 256 in a leaf
+abbrev pub Table : Type 0
+Table = List Leaf
+
+-- page q of the file, where it is there
 abbrev pub page_at : Table → ℕ → Option (Box Page Global)
-page_at table q = slice_index_or table q None
+page_at table q = slice_index_or (slice_index_or (map (λ (leaf : Leaf). leaf.items) table) (q / 256) []) (q % 256) None
 
 -- a unit of a page, where both are there
 abbrev pub in_paged : Option (Box Page Global) → ℕ → Option (List ℕ)

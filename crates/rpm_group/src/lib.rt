@@ -8,6 +8,7 @@
 mod commit;
 mod group;
 mod layers;
+mod leaf;
 mod load;
 mod log;
 mod over;

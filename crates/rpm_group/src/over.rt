@@ -102,6 +102,9 @@ pub fn read_over<D: Disk>(
     ensures cause { HasCause (D.faults below.old) (D.faults below.new) result }
 {
     let pages = layers.file(file);
+    if pages.copy_held(unit, into) {
+        return Ok(());
+    }
     if pages.covers(unit, into.len() as u64 / 16) {
         pages.lay(unit as usize, into);
         return Ok(());

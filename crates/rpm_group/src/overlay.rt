@@ -12,7 +12,8 @@ use std::alloc::Global;
 
 /// A disk whose writes are held in memory, over a disk that it only reads.
 ///
-/// What is held costs its pages of 4 KiB and a mark a unit, and 8 bytes for each 4 KiB of a file as far as its last held unit.
+/// What is held costs its pages of 4 KiB and a mark a unit, 8 bytes for each page of a MiB of which something is held, and 24 bytes for each
+/// MiB of a file as far as its last held unit.
 #[derive(Drop)]
 pub struct Overlay<D: Disk> {
     alloc: Global,

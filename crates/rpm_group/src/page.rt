@@ -1,6 +1,6 @@
 //! 256 units of a file, of which some are held.
 
-ghost use Rattle.std.specs.Prelude.{◌≡◌, ◌⊎◌, ℕ, ◌+◌, ◌*◌, ◌/◌, ◌%◌, ◌<◌, ◌≤◌, true, false, None, Some, length, slice_index_or, unwrap_or};
+ghost use Rattle.std.specs.Prelude.{◌≡◌, ◌⊎◌, ℕ, ◌+◌, ◌*◌, ◌/◌, ◌%◌, ◌<◌, ◌≤◌, true, false, None, Some, length, not, slice_index_or, unwrap_or, IsTrue};
 ghost use Rattle.rpm_group.specs.Held.{unit_in, in_page};
 ghost use Rattle.rpm_group.specs.inner.Holding.{PageWrote};
 
@@ -36,6 +36,29 @@ fn mark(marks: &mut [bool], from: usize, end: usize)
     }
 }
 
+// Of no more marks than that each is looked at by itself.
+const FEW: usize = 8;
+
+/// The first of these marks that is so, or the end. That none of many is so is seen many marks at a time.
+pub fn next_mark(marks: &[bool], from: usize, end: usize, held: bool) -> usize
+    requires ordered { from ≤ end }
+    requires within { end ≤ length marks.now }
+    ensures from { from ≤ result }
+    ensures end { result ≤ end }
+    ensures between { (k : ℕ) → from ≤ k → k < result → slice_index_or marks.now k false ≡ not held }
+    ensures found { result < end → slice_index_or marks.now result false ≡ held }
+{
+    if end - from > FEW && !marks[from..end].contains(&held) {
+        return end;
+    }
+    for k in from..end {
+        if marks[k] == held {
+            return k;
+        }
+    }
+    end
+}
+
 impl Page {
     /// Holds units from this one on.
     pub fn hold(&mut self, at: usize, bytes: &[u8])
@@ -46,6 +69,21 @@ impl Page {
         let end = at + bytes.len() / 16;
         self.bytes[16 * at..16 * end].copy_from_slice(bytes);
         mark(&mut self.marks, at, end);
+    }
+
+    /// Copies the units from this one on over others, where all of them are of this page and held.
+    pub fn copy_held(&self, at: usize, into: &mut [u8]) -> bool
+        requires whole { length into.old % 16 ≡ 0 }
+        requires at { at < 256 }
+        ensures within { IsTrue result → at + length into.old / 16 ≤ 256 }
+        ensures units { IsTrue result → (k : ℕ) → k < length into.old / 16 → in_page self.now (at + k) ≡ Some (unit_in into.new k) }
+    {
+        let count = into.len() / 16;
+        if count > 256 - at || next_mark(&self.marks, at, at + count, false) != at + count {
+            return false;
+        }
+        into.copy_from_slice(&self.bytes[16 * at..16 * (at + count)]);
+        true
     }
 
     /// Copies the held ones of these units over others, many of them in one piece where all of them are held.

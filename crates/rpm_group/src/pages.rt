@@ -1,13 +1,13 @@
 //! What is held of a file.
 
-ghost use Rattle.std.specs.Prelude.{◌≡◌, ◌≢◌, ◌⊎◌, ℕ, ◌+◌, ◌-◌, ◌*◌, ◌/◌, ◌%◌, ◌<◌, ◌≤◌, ◌^◌, max, None, length, OnOk, OnErr, IsTrue};
+ghost use Rattle.std.specs.Prelude.{◌≡◌, ◌≢◌, ◌⊎◌, ℕ, ◌+◌, ◌-◌, ◌/◌, ◌%◌, ◌<◌, ◌≤◌, ◌^◌, max, None, length, OnOk, OnErr, IsTrue};
 ghost use Rattle.rpm_outside.specs.Files.{Units, units_of, put};
 ghost use Rattle.rpm_group.specs.Held.{held_at, EndsAt, laid};
 ghost use Rattle.rpm_group.specs.inner.Holding.{Holds, SameHeld, LaysOver};
 ghost use Rattle.rpm_group.specs.inner.HeldUnits.{AreHeld};
 
-use crate::scan::{is_unit_held, next_absent};
-use crate::table::{Table, add_pages, hold, lay};
+use crate::scan::next_absent;
+use crate::table::{Table, add_pages, copy_held, hold, lay};
 use std::alloc::{AllocError, Global};
 
 /// The held units of a file, and the end of the last.
@@ -50,6 +50,17 @@ impl Pages {
         Ok(())
     }
 
+    /// Copies units of one page over others, where all of them are held, as those of most reads are.
+    pub fn copy_held(&self, unit: u64, into: &mut [u8]) -> bool
+        requires { length into.old % 16 ≡ 0 }
+        ensures within { IsTrue result → unit + length into.old / 16 ≤ self.now.end }
+        ensures held { IsTrue result → AreHeld self.now.table.items unit (unit + length into.old / 16) }
+        ensures lays { IsTrue result → LaysOver unit self.now.table.items into.old into.new }
+    {
+        let count = into.len() as u64 / 16;
+        unit <= self.end && count <= self.end - unit && copy_held(&self.table, unit as usize, into)
+    }
+
     /// Copies the held ones of the units from this one on over others.
     pub fn lay(&self, unit: usize, into: &mut [u8])
         requires whole { length into.old % 16 ≡ 0 }
@@ -67,10 +78,6 @@ impl Pages {
     {
         if unit > self.end || count > self.end - unit {
             return false;
-        }
-        // Most reads are of one unit.
-        if count == 1 {
-            return is_unit_held(&self.table, unit as usize);
         }
         let end = (unit + count) as usize;
         next_absent(&self.table, unit as usize, end) == end

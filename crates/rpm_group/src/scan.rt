@@ -1,59 +1,10 @@
 //! The runs of held units, in order.
 
-ghost use Rattle.std.specs.Prelude.{◌≡◌, ◌⊎◌, ℕ, ◌+◌, ◌-◌, ◌*◌, ◌/◌, ◌%◌, ◌<◌, ◌≤◌, ◌^◌, true, false, not, None, length, slice_index_or, MatchOption};
-ghost use Rattle.rpm_group.specs.Held.{in_page, held_at, EndsAt};
+ghost use Rattle.std.specs.Prelude.{◌≡◌, ℕ, ◌+◌, ◌-◌, ◌*◌, ◌/◌, ◌%◌, ◌<◌, ◌≤◌, ◌^◌, true, false, not, None};
 ghost use Rattle.rpm_group.specs.Counts.{is_held, begins_run, count_below};
 
-use crate::page::Page;
-use crate::table::Table;
-
-// Of no more marks than that each is looked at by itself.
-const FEW: usize = 8;
-
-/// The first of these marks that is so, or the end. That none of many is so is seen many marks at a time.
-fn next_mark(marks: &[bool], from: usize, end: usize, held: bool) -> usize
-    requires ordered { from ≤ end }
-    requires within { end ≤ length marks.now }
-    ensures from { from ≤ result }
-    ensures end { result ≤ end }
-    ensures between { (k : ℕ) → from ≤ k → k < result → slice_index_or marks.now k false ≡ not held }
-    ensures found { result < end → slice_index_or marks.now result false ≡ held }
-{
-    if end - from > FEW && !marks[from..end].contains(&held) {
-        return end;
-    }
-    for k in from..end {
-        if marks[k] == held {
-            return k;
-        }
-    }
-    end
-}
-
-/// The page of a number, if it is there.
-pub fn page_of(table: &Table, q: usize) -> Option<&Page>
-    ensures { MatchOption result ((k : ℕ) → k < 256 → held_at table.now.items (256 * q + k) ≡ None) (λ page. (k : ℕ) → k < 256
-        → held_at table.now.items (256 * q + k) ≡ in_page page.now k) }
-{
-    if q >= table.len() {
-        return None;
-    }
-    match &table[q] {
-        Some(page) => Some(page),
-        None => None,
-    }
-}
-
-/// Whether a unit is held.
-#[inline(always)]
-pub fn is_unit_held(table: &Table, unit: usize) -> bool
-    ensures { result ≡ is_held table.now.items unit }
-{
-    match page_of(table, unit / 256) {
-        Some(page) => page.marks[unit % 256],
-        None => false,
-    }
-}
+use crate::page::next_mark;
+use crate::table::{Table, absent, page_of};
 
 /// The first of these units of one page that is held or isn't, or the end.
 fn next_in(table: &Table, q: usize, from: usize, end: usize, held: bool) -> usize
@@ -71,46 +22,29 @@ fn next_in(table: &Table, q: usize, from: usize, end: usize, held: bool) -> usiz
     }
 }
 
-/// The first unit from this one on that is held or isn't, or the end, page by page.
-fn next_from(table: &Table, from: usize, end: usize, held: bool) -> usize
+/// The first of these units that isn't in an absent page, or the end, where held ones are looked for. Of a large file few leaves are there.
+fn skip_absent(table: &Table, from: usize, end: usize, held: bool) -> usize
     requires ordered { from ≤ end }
     requires small { end ≤ 2 ^ 28 }
     ensures from { from ≤ result }
     ensures end { result ≤ end }
     ensures between { (i : ℕ) → from ≤ i → i < result → is_held table.now.items i ≡ not held }
-    ensures found { result < end → is_held table.now.items result ≡ held }
 {
-    let mut at = from;
-    while at < end {
-        let q = at / 256;
-        let stop = (end - 256 * q).min(256);
-        let next = next_in(table, q, at % 256, stop, held);
-        if next < stop {
-            return 256 * q + next;
+    if !held {
+        return from;
+    }
+    let mut q = from / 256;
+    while 256 * q < end {
+        let gap = absent(table, q);
+        if gap == 0 {
+            return (256 * q).max(from);
         }
-        at = 256 * q + stop;
+        q += gap;
     }
     end
 }
 
-/// The first of these units whose page is there, or the end. Of a large file few pages are.
-fn skip_absent(table: &Table, from: usize, end: usize) -> usize
-    requires ordered { from ≤ end }
-    requires small { end ≤ 2 ^ 28 }
-    ensures from { from ≤ result }
-    ensures end { result ≤ end }
-    ensures between { (i : ℕ) → from ≤ i → i < result → is_held table.now.items i ≡ false }
-{
-    for q in from / 256..(end + 255) / 256 {
-        match page_of(table, q) {
-            Some(_) => return (256 * q).max(from),
-            None => {}
-        }
-    }
-    end
-}
-
-/// The first unit from this one on that is held or isn't, or the end.
+/// The first unit from this one on that is held or isn't, or the end, page by page.
 pub fn next_unit(table: &Table, from: usize, end: usize, held: bool) -> usize
     requires ordered { from ≤ end }
     requires small { end ≤ 2 ^ 28 }
@@ -119,10 +53,17 @@ pub fn next_unit(table: &Table, from: usize, end: usize, held: bool) -> usize
     ensures between { (i : ℕ) → from ≤ i → i < result → is_held table.now.items i ≡ not held }
     ensures found { result < end → is_held table.now.items result ≡ held }
 {
-    if held {
-        return next_from(table, skip_absent(table, from, end), end, true);
+    let mut at = skip_absent(table, from, end, held);
+    while at < end {
+        let q = at / 256;
+        let stop = (end - 256 * q).min(256);
+        let next = next_in(table, q, at % 256, stop, held);
+        if next < stop {
+            return 256 * q + next;
+        }
+        at = skip_absent(table, 256 * q + stop, end, held);
     }
-    next_from(table, from, end, false)
+    end
 }
 
 /// The first unit from this one on that isn't held, or the end. A function of its own, so that a read past all that is held stays short.

@@ -1,41 +1,38 @@
 //! The pages of a file by number. A page that isn't there holds nothing.
 //!
-//! A table of pages by number costs 8 bytes for each 4 KiB of the file as far as its last held unit, finds a page without
-//! a comparison, and goes through them in order.
+//! A table in two levels, as a page table of an operating system: leaves of 256 pages by number, 1 MiB of the file each, and in each its pages.
+//! It finds a page without a comparison, and goes through them in order. A leaf of which nothing is held costs 24 bytes.
 
-ghost use Rattle.std.specs.Prelude.{◌≡◌, ◌⊎◌, ℕ, ◌+◌, ◌-◌, ◌*◌, ◌/◌, ◌%◌, ◌<◌, ◌≤◌, ◌^◌, true, false, None, Some, length, slice_index_or, unwrap_or, is_some, OnOk};
-ghost use Rattle.rpm_group.specs.Held.{unit_in, page_at, held_at, in_paged};
-ghost use Rattle.rpm_group.specs.inner.Holding.{SameHeld, AreThere, KeepsPages, Holds, LaysOver};
+ghost use Rattle.std.specs.Prelude.{◌≡◌, ℕ, ◌+◌, ◌-◌, ◌*◌, ◌/◌, ◌%◌, ◌<◌, ◌≤◌, ◌^◌, true, None, length, is_some, OnOk, MatchOption, IsTrue};
+ghost use Rattle.rpm_group.specs.Held.{in_page, page_at, held_at};
+ghost use Rattle.rpm_group.specs.inner.Holding.{SamePages, SameHeld, AreThere, KeepsPages, Holds, LaysOver};
+ghost use Rattle.rpm_group.specs.inner.HeldUnits.{AreHeld};
 
-use crate::page::{Page, empty_page};
+use crate::leaf::{Leaf, add, hold as hold_in_leaf};
+use crate::page::Page;
 use std::alloc::{AllocError, Global};
 
-pub type Table = Vec<Option<Box<Page>>>;
+pub type Table = Vec<Leaf>;
 
-/// Makes the table so long.
-fn lengthen(table: &mut Table, count: usize) -> Result<(), AllocError>
-    ensures same { SameHeld table.old.items table.new.items }
-    ensures pages { KeepsPages table.old.items table.new.items }
+/// Adds leaves without pages, so that there are so many.
+fn lengthen(alloc: Global, table: &mut Table, count: usize) -> Result<(), AllocError>
+    ensures same { SamePages table.old.items table.new.items }
     ensures long { OnOk result (count ≤ length table.new.items) }
 {
     for _k in table.len()..count {
-        table.push(None)?;
+        table.push(Vec::new(alloc))?;
     }
     Ok(())
 }
 
 /// Adds an empty page where there is none.
 fn add_page(alloc: Global, table: &mut Table, q: usize) -> Result<(), AllocError>
-    requires { q < length table.old.items }
     ensures same { SameHeld table.old.items table.new.items }
     ensures pages { KeepsPages table.old.items table.new.items }
     ensures there { OnOk result (is_some (page_at table.new.items q) ≡ true) }
-    ensures long { length table.new.items ≡ length table.old.items }
 {
-    if table[q].is_none() {
-        table[q] = Some(Box::new(alloc, empty_page())?);
-    }
-    Ok(())
+    lengthen(alloc, table, q / 256 + 1)?;
+    add(alloc, &mut table[q / 256], q % 256)
 }
 
 /// Adds the pages from the first one on that aren't there. Nothing else is held then than before, whatever the answer.
@@ -48,7 +45,6 @@ pub fn add_pages(
     ensures same { SameHeld table.old.items table.new.items }
     ensures there { OnOk result (AreThere first end table.new.items) }
 {
-    lengthen(table, end)?;
     for q in first..end {
         add_page(alloc, table, q)?;
     }
@@ -63,11 +59,8 @@ fn hold_in(table: &mut Table, q: usize, at: usize, bytes: &[u8])
     ensures holds { Holds (256 * q + at) bytes.now table.old.items table.new.items }
     ensures pages { KeepsPages table.old.items table.new.items }
 {
-    if q < table.len()
-        && let Some(mut page) = table[q].take()
-    {
-        page.hold(at, bytes);
-        table[q] = Some(page);
+    if q / 256 < table.len() {
+        hold_in_leaf(&mut table[q / 256], q % 256, at, bytes);
     }
 }
 
@@ -89,17 +82,60 @@ pub fn hold(table: &mut Table, unit: usize, bytes: &[u8])
     }
 }
 
+/// The page of a number, if it is there.
+pub fn page_of(table: &Table, q: usize) -> Option<&Page>
+    ensures { MatchOption result ((k : ℕ) → k < 256 → held_at table.now.items (256 * q + k) ≡ None) (λ page. (k : ℕ) → k < 256
+        → held_at table.now.items (256 * q + k) ≡ in_page page.now k) }
+{
+    if q / 256 >= table.len() {
+        return None;
+    }
+    let leaf = &table[q / 256];
+    if q % 256 >= leaf.len() {
+        return None;
+    }
+    match &leaf[q % 256] {
+        Some(page) => Some(page),
+        None => None,
+    }
+}
+
+/// How many pages from this one on aren't there, as far as a look at its leaf or at itself tells: none where it is there.
+pub fn absent(table: &Table, q: usize) -> usize
+    ensures most { result ≤ 256 }
+    ensures none { (i : ℕ) → 256 * q ≤ i → i < 256 * (q + result) → held_at table.now.items i ≡ None }
+{
+    if q / 256 >= table.len() || table[q / 256].is_empty() {
+        return 256 - q % 256;
+    }
+    match page_of(table, q) {
+        Some(_) => 0,
+        None => 1,
+    }
+}
+
+/// Copies units of one page over others, where all of them are held.
+pub fn copy_held(table: &Table, unit: usize, into: &mut [u8]) -> bool
+    requires whole { length into.old % 16 ≡ 0 }
+    requires room { unit + length into.old / 16 < 2 ^ 64 }
+    ensures held { IsTrue result → AreHeld table.now.items unit (unit + length into.old / 16) }
+    ensures lays { IsTrue result → LaysOver unit table.now.items into.old into.new }
+{
+    match page_of(table, unit / 256) {
+        Some(page) => page.copy_held(unit % 256, into),
+        None => false,
+    }
+}
+
 /// Copies the held ones of these units of one page over others.
 fn lay_in(table: &Table, q: usize, at: usize, into: &mut [u8])
     requires whole { length into.old % 16 ≡ 0 }
     requires within { at + length into.old / 16 ≤ 256 }
     ensures { LaysOver (256 * q + at) table.now.items into.old into.new }
 {
-    if q >= table.len() {
-        return;
-    }
-    if let Some(page) = &table[q] {
-        page.lay(at, into);
+    match page_of(table, q) {
+        Some(page) => page.lay(at, into),
+        None => {}
     }
 }
 

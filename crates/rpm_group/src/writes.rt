@@ -10,8 +10,7 @@ ghost use Rattle.rpm_group.specs.inner.HeldUnits.{units_held, AreHeld};
 ghost use Rattle.rpm_group.specs.LogReads.{ReadsNothing};
 ghost use Rattle.rpm_group.specs.inner.Words.{IsUnitOf, IsHeadOf};
 
-use crate::scan::page_of;
-use crate::table::{Table, lay};
+use crate::table::{Table, lay, page_of};
 use rpm_outside::{Disk, Failed, File};
 
 /// A unit of four numbers.

@@ -1,12 +1,30 @@
 -- What the calls on pages hold and copy.
 use Rattle.std.specs.Prelude.{◌≡◌, ◌⊎◌, ℕ, ◌+◌, ◌/◌, ◌<◌, ◌≤◌, List, length, Some, true, is_some, unwrap_or}
 use Rattle.rpm_group.specs.declared.page.Page.{Page}
-use Rattle.rpm_group.specs.Held.{unit_in, in_page, Table, page_at, held_at}
+use Rattle.rpm_group.specs.Held.{unit_in, in_page, Leaf, page_in, in_paged, Table, page_at, held_at}
 
 -- a page in which these units are held from unit `at` on, and the others as before
 pub record PageWrote (at : ℕ) (bytes : List ℕ) (old new : Page) : Type 0 where
   pub inside : (k : ℕ) → k < length bytes / 16 → in_page new (at + k) ≡ Some (unit_in bytes k)
   pub outside : (k : ℕ) → (k < at) ⊎ (at + length bytes / 16 ≤ k) → in_page new k ≡ in_page old k
+
+-- a leaf whose pages hold nothing else than before
+abbrev pub LeafSame : Leaf → Leaf → Type 0
+LeafSame old new = (k m : ℕ) → in_paged (page_in new k) m ≡ in_paged (page_in old k) m
+
+-- each page of a leaf that was there is
+abbrev pub LeafKeeps : Leaf → Leaf → Type 0
+LeafKeeps old new = (k : ℕ) → is_some (page_in old k) ≡ true → is_some (page_in new k) ≡ true
+
+-- a leaf in whose page k these units are held from unit `at` on, and the others as before
+pub record LeafWrote (k at : ℕ) (bytes : List ℕ) (old new : Leaf) : Type 0 where
+  pub inside : (m : ℕ) → m < length bytes / 16 → in_paged (page_in new k) (at + m) ≡ Some (unit_in bytes m)
+  pub outside : (m : ℕ) → (m < at) ⊎ (at + length bytes / 16 ≤ m) → in_paged (page_in new k) m ≡ in_paged (page_in old k) m
+  pub other : (j : ℕ) → (j ≡ k → ⊥) → page_in new j ≡ page_in old j
+
+-- the same pages by number
+abbrev pub SamePages : Table → Table → Type 0
+SamePages old new = (q : ℕ) → page_at new q ≡ page_at old q
 
 -- nothing else is held than before
 abbrev pub SameHeld : Table → Table → Type 0

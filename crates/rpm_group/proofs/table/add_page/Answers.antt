@@ -1,19 +1,27 @@
-use Rattle.std.proofs.Common.{◌≡◌, false, Option, Some, None, refl, sym, ap, ◌∙◌}
-use Rattle.std.specs.Prelude.{Box, is_some, not}
-use Rattle.std.specs.declared.alloc.Global.{Global}
-use Rattle.std.proofs.lemmas.List.{get_or_default}
-use Rattle.rpm_group.specs.declared.page.Page.{Page}
-use Rattle.rpm_group.specs.Held.{in_page, page_at}
-use Rattle.rpm_group.proofs.Tables.{held_added}
+use Rattle.std.proofs.Common.{◌/◌, Result, Ok, Err, refl, ap, ◌∙◌, arith}
+use Rattle.std.specs.Prelude.{OnOk, is_some}
+use Rattle.rpm_group.proofs.Tables.{same_held, same_set, keeps_set, page_set_here}
 use Rattle.rpm_group.proofs.table.add_page.Goals as goal
 
-none_is : (o : Option (Box Page Global)) → is_some o ≡ false → o ≡ None
-none_is None is = refl
-none_is (Some page) is = cc
+on_ok : {T E : Type 0} (r : Result T E) (P Q : Type 0) → (P → Q) → OnOk r P → OnOk r Q
+on_ok (Ok x) P Q f p = f p
+on_ok (Err e) P Q f p = tt
 
-pub returns-in_ok-new-clause-same : goal.returns-in_ok-new-clause-same
-returns-in_ok-new-clause-same c =
-    let table = c.args.table.now.items in
-    let none : c.index.result.now ≡ None = none_is c.index.result.now (c.is_none.ensures ∙ ap not c.if-is_none.true) in
-    let here : page_at table c.args.q ≡ None = get_or_default table c.args.q None c.index.result.now c.requires ∙ sym c.index.ensures ∙ none in
-    held_added table c.args.q c.in_ok-new.field-0 c.requires here (λ k. ap (λ (p : Page). in_page p k) c.in_ok-new.ensures.ok ∙ c.empty_page.ensures k)
+pub returns-in_err-lengthen-clause-same : goal.returns-in_err-lengthen-clause-same
+returns-in_err-lengthen-clause-same c = same_held c.args.table.now.items c.lengthen.new.table.items c.lengthen.ensures.same
+
+pub returns-clause-same : goal.returns-clause-same
+returns-clause-same c = λ i.
+    same_set c.lengthen.new.table.items (c.args.q / 256) c.index_mut.result.now c.add.new.leaf (omega (arith, c.in_ok-lengthen.ensures.long))
+    c.index_mut.ensures.value c.add.ensures.same i
+    ∙ same_held c.args.table.now.items c.lengthen.new.table.items c.lengthen.ensures.same i
+
+pub returns-clause-pages : goal.returns-clause-pages
+returns-clause-pages c = λ q there.
+    keeps_set c.lengthen.new.table.items (c.args.q / 256) c.index_mut.result.now c.add.new.leaf (omega (arith, c.in_ok-lengthen.ensures.long))
+    c.index_mut.ensures.value c.add.ensures.pages q (ap is_some (c.lengthen.ensures.same q) ∙ there)
+
+pub returns-clause-there : goal.returns-clause-there
+returns-clause-there c = on_ok c.add.result _ _ (λ there.
+    ap is_some (page_set_here c.lengthen.new.table.items (c.args.q / 256) c.index_mut.result.now c.add.new.leaf
+    (omega (arith, c.in_ok-lengthen.ensures.long)) c.index_mut.ensures.value c.args.q refl) ∙ there) c.add.ensures.there

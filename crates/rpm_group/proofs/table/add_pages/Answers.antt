@@ -8,7 +8,6 @@ pub loop-q-preserved : goal.loop-q-preserved
 loop-q-preserved c =
     let inv = c.loop-q.invariant in
     record {
-      long = omega (arith, inv.long, c.add_page.ensures.long);
       same = λ i. c.add_page.ensures.same i ∙ inv.same i;
       there = λ q from below. elim (cases_lt q c.loop-q.q) [
         | inl before ↦ c.add_page.ensures.pages q (inv.there q from before)

@@ -1,10 +1,8 @@
-use Rattle.std.proofs.Common.{◌≤◌, length}
 use Rattle.rpm_group.specs.inner.Holding.{SameHeld, AreThere}
 use Rattle.rpm_group.proofs.table.add_pages.Given as goal
 
 abbrev pub invariant-loop-q : goal.invariant-loop-q
 invariant-loop-q l = record {
-  long : l.end ≤ length l.table.items;
   same : SameHeld l.fn.table.items l.table.items;
   there : AreThere l.first l.q l.table.items;
 }

@@ -1,8 +1,7 @@
-use Rattle.std.proofs.Common.{length, None, ap, ◌∙◌, arith}
-use Rattle.std.specs.Prelude.{is_some}
+use Rattle.std.proofs.Common.{length, ap, ◌∙◌, arith}
 use Rattle.std.proofs.lemmas.List.{length_push}
-use Rattle.rpm_group.specs.Held.{Table, held_at, page_at}
-use Rattle.rpm_group.proofs.Tables.{held_push, page_push}
+use Rattle.rpm_group.specs.Held.{Table, page_at}
+use Rattle.rpm_group.proofs.Tables.{leaf_pushed}
 use Rattle.rpm_group.proofs.table.lengthen.Goals as goal
 
 pub loop-k-preserved : goal.loop-k-preserved
@@ -11,7 +10,6 @@ loop-k-preserved c =
     let old = c.loop-k.table.items in
     let is = c.in_ok-push.ensures.items in
     record {
-      long = omega (arith, inv.long, ap (λ (t : Table). length t) is, length_push old None);
-      same = λ i. ap (λ (t : Table). held_at t i) is ∙ held_push old i ∙ inv.same i;
-      pages = λ q there. ap (λ (t : Table). is_some (page_at t q)) is ∙ ap is_some (page_push old q) ∙ inv.pages q there;
+      long = omega (arith, inv.long, ap (λ (t : Table). length t) is, length_push old c.new.result);
+      same = λ q. ap (λ (t : Table). page_at t q) is ∙ leaf_pushed old c.new.result c.new.ensures.items q ∙ inv.same q;
     }

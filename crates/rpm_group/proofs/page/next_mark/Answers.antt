@@ -1,6 +1,6 @@
 use Rattle.std.proofs.Common.{◌≡◌, ℕ, ◌+◌, ◌-◌, false, get_or, sym, ap, ◌∙◌, arith}
 use Rattle.rpm_group.proofs.Marks.{none_so}
-use Rattle.rpm_group.proofs.scan.next_mark.Goals as goal
+use Rattle.rpm_group.proofs.page.next_mark.Goals as goal
 
 pub returns-then-not-contains-clause-between : goal.returns-then-not-contains-clause-between
 returns-then-not-contains-clause-between c = λ k low high.

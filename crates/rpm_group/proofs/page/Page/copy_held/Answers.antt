@@ -1,0 +1,16 @@
+use Rattle.std.proofs.Common.{◌≡◌, ◌+◌, ◌-◌, ◌*◌, ◌/◌, List, ℕ, Some, true, false, length, get_or, sym, ap, ◌∙◌, arith}
+use Rattle.rpm_group.specs.Held.{unit_in}
+use Rattle.rpm_group.proofs.ByteLaws.{marked}
+use Rattle.rpm_group.proofs.Tables.{unit_in_part}
+use Rattle.rpm_group.proofs.page.Page.copy_held.Goals as goal
+
+pub returns-clause-units : goal.returns-clause-units
+returns-clause-units c = λ all k below.
+    let page = c.args.self.now in
+    let at = c.args.at in
+    let n = length c.args.into.now / 16 in
+    let held : get_or page.marks (at + k) false ≡ true =
+    c.next_mark.ensures.between (at + k) (omega arith) (omega (arith, c.if-next_mark-at.false, below)) in
+    marked (get_or page.marks (at + k) false) (unit_in page.bytes (at + k)) held
+    ∙ ap Some (sym (ap (λ (bs : List ℕ). unit_in bs k) c.copy_from_slice.ensures.after
+    ∙ unit_in_part page.bytes at n (16 * (at + n) - 16 * at) k (omega arith) below))
