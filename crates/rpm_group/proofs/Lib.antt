@@ -16,7 +16,6 @@ pub mod Laids
 pub mod Readouts
 pub mod Countings
 pub mod Runs
-pub mod Pieces
 pub mod LoggedLaws
 pub mod Entering
 pub mod Orders

@@ -22,11 +22,11 @@ use crate::layers::Layers;
 use crate::overlay::Overlay;
 use crate::recovery::{close_log, settle_files};
 use crate::scan::extent;
-use crate::writes::unit_of;
+use crate::writes::{Buffer, unit_of};
 use rpm_outside::{Disk, Failed, File};
 
 /// Writes the entries of both files to the log behind the gate, and settles it.
-fn log_held<D: Disk>(disk: &mut D, held: &Layers) -> Result<Tail, Failed>
+fn log_held<D: Disk>(disk: &mut D, held: &Layers, buffer: &mut Buffer) -> Result<Tail, Failed>
     requires room { needed held.now ≤ 2 ^ 28 }
     requires settled { IsTrue D.tells → AreSettled (D.files disk.old) (D.left_since disk.old (D.moment disk.old)) }
     ensures entries { IfOk result (λ tail. tail.entries ≡ runs_of held.now.pkg + runs_of held.now.idx) }
@@ -39,8 +39,8 @@ fn log_held<D: Disk>(disk: &mut D, held: &Layers) -> Result<Tail, Failed>
     ensures cause { HasCause (D.faults disk.old) (D.faults disk.new) result }
 {
     let start = Tail { at: 1, entries: 0 };
-    let middle = log_runs(disk, &held.pkg, File::Pkg, start)?;
-    let tail = log_runs(disk, &held.idx, File::Idx, middle)?;
+    let middle = log_runs(disk, &held.pkg, File::Pkg, start, buffer)?;
+    let tail = log_runs(disk, &held.idx, File::Idx, middle, buffer)?;
     disk.sync(File::Log)?;
     Ok(tail)
 }
@@ -74,7 +74,7 @@ fn open_log<D: Disk>(disk: &mut D, tail: Tail) -> Result<(), Failed>
 }
 
 /// Writes what is held of both files to them, and settles them.
-fn apply_held<D: Disk>(disk: &mut D, held: &Layers) -> Result<(), Failed>
+fn apply_held<D: Disk>(disk: &mut D, held: &Layers, buffer: &mut Buffer) -> Result<(), Failed>
     ensures written { OnOk result (IsTrue D.tells → D.files disk.new ≡ with_held held.now (D.files disk.old)) }
     ensures pkg { OnOk result (IsTrue D.tells → IsSettled File.Pkg (D.files disk.new) (D.left_since disk.new (D.moment disk.new))) }
     ensures idx { OnOk result (IsTrue D.tells → IsSettled File.Idx (D.files disk.new) (D.left_since disk.new (D.moment disk.new))) }
@@ -83,8 +83,8 @@ fn apply_held<D: Disk>(disk: &mut D, held: &Layers) -> Result<(), Failed>
     ensures reads { ReadsLog D.moment D.bytes_read D.follows disk.old disk.new }
     ensures cause { HasCause (D.faults disk.old) (D.faults disk.new) result }
 {
-    apply_runs(disk, &held.pkg, File::Pkg)?;
-    apply_runs(disk, &held.idx, File::Idx)?;
+    apply_runs(disk, &held.pkg, File::Pkg, buffer)?;
+    apply_runs(disk, &held.idx, File::Idx, buffer)?;
     settle_files(disk)
 }
 
@@ -104,9 +104,10 @@ fn write_group<D: Disk>(disk: &mut D, held: &Layers) -> Result<(), Failed>
     ensures reads { ReadsLog D.moment D.bytes_read D.follows disk.old disk.new }
     ensures cause { HasCause (D.faults disk.old) (D.faults disk.new) result }
 {
-    let tail = log_held(disk, held)?;
+    let mut buffer = [0u8; 65_536];
+    let tail = log_held(disk, held, &mut buffer)?;
     open_log(disk, tail)?;
-    apply_held(disk, held)?;
+    apply_held(disk, held, &mut buffer)?;
     close_log(disk)
 }
 

@@ -16,7 +16,7 @@ ghost use Rattle.rpm_group.specs.inner.Leavings.{WasWithin};
 
 use crate::pages::Pages;
 use crate::scan::next_unit;
-use crate::writes::{log_run, write_run};
+use crate::writes::{Buffer, log_run, write_run};
 use rpm_outside::{Disk, Failed, File};
 
 /// The unit of the log behind its last entry, and how many entries there are.
@@ -32,6 +32,7 @@ pub fn log_runs<D: Disk>(
     pages: &Pages,
     file: File,
     tail: Tail,
+    buffer: &mut Buffer,
 ) -> Result<Tail, Failed>
     requires not_log { file ≡ File.Log → ⊥ }
     requires room { tail.at + log_units pages.now.table.items pages.now.end ≤ 2 ^ 28 }
@@ -52,7 +53,7 @@ pub fn log_runs<D: Disk>(
         let first = next_unit(&pages.table, at, end, true);
         let stop = next_unit(&pages.table, first, end, false);
         if first < stop {
-            log_run(disk, &pages.table, file, next.at, first, stop)?;
+            log_run(disk, &pages.table, file, next.at, first, stop, buffer)?;
             next = Tail {
                 at: next.at + 1 + (stop - first) as u64,
                 entries: next.entries + 1,
@@ -64,7 +65,12 @@ pub fn log_runs<D: Disk>(
 }
 
 /// Writes the held units of a file to it, run by run.
-pub fn apply_runs<D: Disk>(disk: &mut D, pages: &Pages, file: File) -> Result<(), Failed>
+pub fn apply_runs<D: Disk>(
+    disk: &mut D,
+    pages: &Pages,
+    file: File,
+    buffer: &mut Buffer,
+) -> Result<(), Failed>
     ensures written { OnOk result (IsTrue D.tells
         → D.files disk.new ≡ with_file file (laid pages.now.table.items pages.now.end (file_of file (D.files disk.old))) (D.files disk.old)) }
     ensures images { IsTrue D.tells → (entries : List Entry) → CoversHeld entries file pages.now.table.items pages.now.end
@@ -78,7 +84,7 @@ pub fn apply_runs<D: Disk>(disk: &mut D, pages: &Pages, file: File) -> Result<()
         let first = next_unit(&pages.table, at, end, true);
         let stop = next_unit(&pages.table, first, end, false);
         if first < stop {
-            write_run(disk, &pages.table, file, first as u64, first, stop)?;
+            write_run(disk, &pages.table, file, first as u64, first, stop, buffer)?;
         }
         at = stop;
     }

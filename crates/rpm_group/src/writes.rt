@@ -10,8 +10,11 @@ ghost use Rattle.rpm_group.specs.inner.HeldUnits.{units_held, AreHeld};
 ghost use Rattle.rpm_group.specs.LogReads.{ReadsNothing};
 ghost use Rattle.rpm_group.specs.inner.Words.{IsUnitOf, IsHeadOf};
 
-use crate::table::{Table, lay, page_of};
+use crate::table::{Table, lay};
 use rpm_outside::{Disk, Failed, File};
+
+/// Where units are gathered from their pages before they are written.
+pub type Buffer = [u8; 65_536];
 
 /// A unit of four numbers.
 #[tactic(auto, unfolding(rpm_outside::specs::Logs::word))]
@@ -39,49 +42,6 @@ fn head_of(file: File, first: u32, count: u32) -> [u8; 16]
     }
 }
 
-/// The bytes of these units of one page.
-fn piece(table: &Table, from: usize, stop: usize) -> &[u8]
-    requires some { from < stop }
-    requires page { stop ≤ 256 * (from / 256) + 256 }
-    requires held { AreHeld table.now.items from stop }
-    ensures long { length result.now ≡ 16 * (stop - from) }
-    ensures units { units_of result.now ≡ units_held table.now.items from (stop - from) }
-{
-    let q = from / 256;
-    match page_of(table, q) {
-        Some(page) => &page.bytes[16 * (from - 256 * q)..16 * (stop - 256 * q)],
-        None => unreachable!(),
-    }
-}
-
-/// Writes held units to a file from unit `at` on, as much of a page at a time as there is.
-fn write_pages<D: Disk>(
-    disk: &mut D,
-    table: &Table,
-    file: File,
-    at: u64,
-    from: usize,
-    end: usize,
-) -> Result<(), Failed>
-    requires some { from < end }
-    requires held { AreHeld table.now.items from end }
-    requires room { at + (end - from) ≤ 2 ^ 28 }
-    requires small { end ≤ 2 ^ 28 }
-    ensures written { OnOk result (IsTrue D.tells
-        → D.files disk.new ≡ with_file file (put at (units_held table.now.items from (end - from)) (file_of file (D.files disk.old))) (D.files disk.old)) }
-    ensures images { IsTrue D.tells → LeavesChanged D.moment D.left_since file at (at + (end - from)) disk.old disk.new }
-    ensures reads { ReadsNothing D.moment D.bytes_read D.follows disk.old disk.new }
-    ensures cause { HasCause (D.faults disk.old) (D.faults disk.new) result }
-{
-    let mut done = from;
-    while done < end {
-        let stop = (256 * (done / 256) + 256).min(end);
-        disk.write_at(file, at + (done - from) as u64, piece(table, done, stop))?;
-        done = stop;
-    }
-    Ok(())
-}
-
 /// Writes held units to a file from unit `at` on, as many as `bytes` takes.
 fn write_piece<D: Disk>(
     disk: &mut D,
@@ -107,14 +67,15 @@ fn write_piece<D: Disk>(
     Ok(())
 }
 
-/// Writes held units to a file from unit `at` on, 64 KiB at a time, which are gathered from their pages.
-fn write_long<D: Disk>(
+/// Writes held units to a file from unit `at` on, as many at a time as the buffer takes, in which they are gathered from their pages.
+pub fn write_run<D: Disk>(
     disk: &mut D,
     table: &Table,
     file: File,
     at: u64,
     from: usize,
     end: usize,
+    buffer: &mut Buffer,
 ) -> Result<(), Failed>
     requires some { from < end }
     requires held { AreHeld table.now.items from end }
@@ -126,7 +87,6 @@ fn write_long<D: Disk>(
     ensures reads { ReadsNothing D.moment D.bytes_read D.follows disk.old disk.new }
     ensures cause { HasCause (D.faults disk.old) (D.faults disk.new) result }
 {
-    let mut buffer = [0u8; 65_536];
     let mut done = from;
     while done < end {
         let n = (end - done).min(4096);
@@ -137,31 +97,6 @@ fn write_long<D: Disk>(
     Ok(())
 }
 
-/// Writes held units to a file from unit `at` on: a run of up to a page's length as it lies in its pages, a longer one gathered.
-pub fn write_run<D: Disk>(
-    disk: &mut D,
-    table: &Table,
-    file: File,
-    at: u64,
-    from: usize,
-    end: usize,
-) -> Result<(), Failed>
-    requires some { from < end }
-    requires held { AreHeld table.now.items from end }
-    requires room { at + (end - from) ≤ 2 ^ 28 }
-    requires small { end ≤ 2 ^ 28 }
-    ensures written { OnOk result (IsTrue D.tells
-        → D.files disk.new ≡ with_file file (put at (units_held table.now.items from (end - from)) (file_of file (D.files disk.old))) (D.files disk.old)) }
-    ensures images { IsTrue D.tells → LeavesChanged D.moment D.left_since file at (at + (end - from)) disk.old disk.new }
-    ensures reads { ReadsNothing D.moment D.bytes_read D.follows disk.old disk.new }
-    ensures cause { HasCause (D.faults disk.old) (D.faults disk.new) result }
-{
-    if end - from <= 256 {
-        return write_pages(disk, table, file, at, from, end);
-    }
-    write_long(disk, table, file, at, from, end)
-}
-
 /// Writes the entry of held units to the log from unit `at` on.
 pub fn log_run<D: Disk>(
     disk: &mut D,
@@ -170,6 +105,7 @@ pub fn log_run<D: Disk>(
     at: u64,
     from: usize,
     end: usize,
+    buffer: &mut Buffer,
 ) -> Result<(), Failed>
     requires some { from < end }
     requires held { AreHeld table.now.items from end }
@@ -183,5 +119,5 @@ pub fn log_run<D: Disk>(
 {
     let head = head_of(file, from as u32, (end - from) as u32);
     disk.write_at(File::Log, at, &head)?;
-    write_run(disk, table, File::Log, at + 1, from, end)
+    write_run(disk, table, File::Log, at + 1, from, end, buffer)
 }

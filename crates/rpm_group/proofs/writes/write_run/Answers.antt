@@ -6,14 +6,16 @@ use Rattle.rpm_outside.specs.inner.ChangedLaws.{leaves_none, changed_leaves_then
 use Rattle.rpm_outside.specs.inner.PutMore.{put_some}
 use Rattle.rpm_group.specs.LogReads.{nothing_none, nothing_then}
 use Rattle.rpm_group.specs.inner.HeldUnits.{units_held}
+use Rattle.rpm_group.proofs.ByteLaws.{length-put_mid}
 use Rattle.rpm_group.proofs.Runs.{run_more, run_none, run_all}
-use Rattle.rpm_group.proofs.writes.write_long.Goals as goal
+use Rattle.rpm_group.proofs.writes.write_run.Goals as goal
 
 piece_count : (n : ℕ) (buffer : List ℕ) → length buffer ≡ 65536 → n ≤ 4096 → length (take (16 * n) buffer) / 16 ≡ n
 piece_count n buffer long most = omega (arith, length-take (16 * n) buffer, long, most)
 
 pub loop-done-init : goal.loop-done-init
 loop-done-init g c = record {
+  long = c.told-buffer;
   from = omega arith;
   end = omega (arith, c.requires.some);
   files = λ told. run_none c.args.table.now.items c.args.file c.args.at c.args.from (c.args.from - c.args.from) (g.D.Disk.files c.args.disk.now)
@@ -29,7 +31,7 @@ returns-in_err-write_piece-clause-images g c = λ told.
     let inv = c.loop-done.invariant in
     let n = c.min-n.result in
     let place = c.args.at + (c.loop-done.done - c.args.from) in
-    let k = piece_count n c.loop-done.buffer c.min-n.array_long (omega (arith, c.min-n.ensures)) in
+    let k = piece_count n c.loop-done.buffer inv.long (omega (arith, c.min-n.ensures)) in
     changed_leaves_then D.moment D.left_since c.args.file c.args.at (c.args.at + (c.args.end - c.args.from)) c.args.disk.now c.loop-done.disk
     c.write_piece.new.disk
     (λ image left. g.met.D.Disk.earlier c.loop-done.disk (D.moment c.args.disk.now) (D.moment c.loop-done.disk) image told inv.reads.later (omega arith) left)
@@ -47,8 +49,9 @@ loop-done-preserved g c =
     let done = c.loop-done.done in
     let place = c.args.at + (done - c.args.from) in
     let mid : Files = D.files c.loop-done.disk in
-    let k = piece_count n c.loop-done.buffer c.min-n.array_long (omega (arith, c.min-n.ensures)) in
+    let k = piece_count n c.loop-done.buffer inv.long (omega (arith, c.min-n.ensures)) in
     record {
+      long = length-put_mid 0 (16 * n) c.loop-done.buffer c.write_piece.new.bytes (omega (arith, c.write_piece.auto.bytes, length-take (16 * n) c.loop-done.buffer, inv.long, c.min-n.ensures)) (omega (arith, inv.long, c.min-n.ensures)) ∙ inv.long;
       from = omega (arith, inv.from);
       end = omega (arith, c.min-n.ensures);
       files = λ told.

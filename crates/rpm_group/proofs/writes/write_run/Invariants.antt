@@ -1,16 +1,17 @@
-use Rattle.std.proofs.Common.{◌≡◌, ◌+◌, ◌-◌, ◌≤◌, IsTrue}
+use Rattle.std.proofs.Common.{◌≡◌, ◌+◌, ◌-◌, ◌≤◌, length, IsTrue}
 use Rattle.rpm_outside.specs.Files.{file_of, with_file}
 use Rattle.rpm_outside.specs.Changed.{LeavesChanged}
 use Rattle.rpm_outside.specs.inner.PutMore.{put_some}
 use Rattle.rpm_group.specs.inner.HeldUnits.{units_held}
 use Rattle.rpm_group.specs.LogReads.{ReadsNothing}
-use Rattle.rpm_group.proofs.writes.write_pages.Given as goal
+use Rattle.rpm_group.proofs.writes.write_run.Given as goal
 
 abbrev pub invariant-loop-done : goal.invariant-loop-done
 invariant-loop-done g l =
     let D = g.D.Disk in
     let first = D.files l.initial.disk in
     record {
+      long : length l.buffer ≡ 65536;
       from : l.from ≤ l.done;
       end : l.done ≤ l.end;
       files : IsTrue D.tells → D.files l.disk
