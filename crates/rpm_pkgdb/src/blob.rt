@@ -16,7 +16,6 @@ use crate::reading::{read_unit, read_units};
 use crate::slot::Slot;
 use crate::words::word;
 use rpm_outside::Disk;
-use std::alloc::Global;
 
 /// Why a number has no blob to give.
 #[derive(Clone, Copy, PartialEq, Eq)]
@@ -118,8 +117,8 @@ impl Blocks {
     }
 }
 
-/// Reads so many units into a new vector.
-fn read_rest<D: Disk>(alloc: Global, disk: &mut D, at: u64, count: u32) -> Result<Vec<u8>, GetFault>
+/// Reads so many units into a vector, whatever it holds: its room is used again where it is enough, and let go first where it isn't.
+fn read_rest<D: Disk>(disk: &mut D, at: u64, count: u32, room: Vec<u8>) -> Result<Vec<u8>, GetFault>
     requires { IsTrue D.tells → at + count ≤ length (D.files disk.old).pkg }
     ensures long { IfOk result (λ v. length v.items ≡ 16 * count) }
     ensures bytes { IfOk result (λ v. IsTrue D.tells → v.items ≡ bytes_of (take count (drop at (D.files disk.old).pkg))) }
@@ -127,7 +126,13 @@ fn read_rest<D: Disk>(alloc: Global, disk: &mut D, at: u64, count: u32) -> Resul
     ensures looks { Looks D.tells D.files D.left_since D.moment D.bytes_read D.follows Pkg (16 * count) disk.old disk.new }
     ensures cause { HasCauseAt (result ≡ Err GetFault.DiskFault) (D.faults disk.old) (D.faults disk.new) }
 {
-    let Ok(mut rest) = (vec![in alloc; 0u8; 16 * count as usize]) else {
+    let length = 16 * count as usize;
+    let mut rest = room;
+    if rest.capacity() < length {
+        rest.clear();
+        rest.shrink_to_fit();
+    }
+    let Ok(()) = rest.resize(length, 0) else {
         return Err(GetFault::NoMemory);
     };
     let Ok(()) = read_units(disk, at, &mut rest) else {
@@ -136,14 +141,14 @@ fn read_rest<D: Disk>(alloc: Global, disk: &mut D, at: u64, count: u32) -> Resul
     Ok(rest)
 }
 
-/// Reads the blocks of a number's slot, each once.
+/// Reads the blocks of a number's slot, each once, into a vector whose room is used again.
 ///
 /// The head comes first: a slot may name any number of blocks, and only a right head bounds them by the greatest blob.
 pub fn read_blocks<D: Disk>(
-    alloc: Global,
     disk: &mut D,
     n: u32,
     slot: Slot,
+    room: Vec<u8>,
 ) -> Result<Blocks, GetFault>
     requires within { IsTrue D.tells → end_of slot ≤ length (D.files disk.old).pkg }
     requires some { IsTrue D.tells → 0 < slot.count }
@@ -163,7 +168,7 @@ pub fn read_blocks<D: Disk>(
     if !is_head(n, slot.count, &head) {
         return Err(GetFault::Bad);
     }
-    let rest = match read_rest(alloc, disk, slot.offset as u64 + 1, slot.count - 1) {
+    let rest = match read_rest(disk, slot.offset as u64 + 1, slot.count - 1, room) {
         Ok(rest) => rest,
         Err(fault) => return Err(fault),
     };

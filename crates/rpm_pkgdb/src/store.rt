@@ -282,8 +282,8 @@ impl PkgDb {
 }
 
 impl PkgDb {
-    /// Reads the blocks of a number.
-    fn blocks<D: Disk>(&self, alloc: Global, disk: &mut D, n: u32) -> Result<Blocks, GetFault>
+    /// Reads the blocks of a number, into a vector whose room is used again.
+    fn blocks<D: Disk>(&self, disk: &mut D, n: u32, room: Vec<u8>) -> Result<Blocks, GetFault>
         requires keeps { IsTrue D.tells → Keeps (D.files disk.old).pkg self.now }
         ensures long { IfOk result (λ b. 12 ≤ length b.rest.items) }
         ensures kept { IsTrue D.tells → Keeps (D.files disk.new).pkg self.now }
@@ -294,7 +294,7 @@ impl PkgDb {
     {
         match self.slot_of(n) {
             None => Err(GetFault::NoSuch),
-            Some(slot) => read_blocks(alloc, disk, n, slot),
+            Some(slot) => read_blocks(disk, n, slot, room),
         }
     }
 
@@ -317,7 +317,24 @@ impl PkgDb {
         ensures looks { Looks D.tells D.files D.left_since D.moment D.bytes_read D.follows Pkg (cost n self.now) disk.old disk.new }
         ensures cause { HasCauseAt (result ≡ Err GetFault.DiskFault) (D.faults disk.old) (D.faults disk.new) }
     {
-        match self.blocks(alloc, disk, n) {
+        self.get_in(disk, n, Vec::new(alloc))
+    }
+
+    /// The blob of a number, as `get` gives it, in a vector of the caller's, whatever it holds. One that held a blob before has its room
+    /// already, and what of it is written over needn't be zeroed first.
+    ///
+    /// # Errors
+    ///
+    /// Those of `get`, with the same causes.
+    pub fn get_in<D: Disk>(&self, disk: &mut D, n: u32, room: Vec<u8>) -> Result<Vec<u8>, GetFault>
+        requires keeps { IsTrue D.tells → Keeps (D.files disk.old).pkg self.now }
+        ensures kept { IsTrue D.tells → Keeps (D.files disk.new).pkg self.now }
+        ensures told { IsTrue D.tells → AnswerIs given (finite.get (blobs (D.files disk.old).pkg self.now) n) result }
+        ensures absent { (result ≡ Err GetFault.NoSuch) ↔ (slot_with n self.now.slots ≡ None) }
+        ensures looks { Looks D.tells D.files D.left_since D.moment D.bytes_read D.follows Pkg (cost n self.now) disk.old disk.new }
+        ensures cause { HasCauseAt (result ≡ Err GetFault.DiskFault) (D.faults disk.old) (D.faults disk.new) }
+    {
+        match self.blocks(disk, n, room) {
             Err(fault) => Err(fault),
             Ok(blocks) => Ok(blocks.into_blob()),
         }
@@ -343,7 +360,7 @@ impl PkgDb {
         ensures looks { Looks D.tells D.files D.left_since D.moment D.bytes_read D.follows Pkg (cost n self.now) disk.old disk.new }
         ensures cause { HasCauseAt (result ≡ Err GetFault.DiskFault) (D.faults disk.old) (D.faults disk.new) }
     {
-        match self.blocks(alloc, disk, n) {
+        match self.blocks(disk, n, Vec::new(alloc)) {
             Err(fault) => Err(fault),
             Ok(blocks) => Ok(blocks.checksum_holds()),
         }
@@ -370,7 +387,7 @@ impl PkgDb {
         ensures looks { Looks D.tells D.files D.left_since D.moment D.bytes_read D.follows Pkg (cost n self.now) disk.old disk.new }
         ensures cause { HasCauseAt (result ≡ Err GetFault.DiskFault) (D.faults disk.old) (D.faults disk.new) }
     {
-        match self.blocks(alloc, disk, n) {
+        match self.blocks(disk, n, Vec::new(alloc)) {
             Err(fault) => Err(fault),
             Ok(blocks) => Ok(blocks.into_checked()),
         }

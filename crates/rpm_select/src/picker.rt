@@ -24,6 +24,7 @@ use rpm_header::View;
 use rpm_outside::{Disk, File};
 use std::alloc::Global;
 use std::marker::Model;
+use std::mem::replace;
 use thiserror::Error;
 
 /// The bytes of a header, which was parsed. Contracts see it as the list of them.
@@ -115,10 +116,11 @@ enum Taken {
 }
 
 /// The way through the packages that a selection picks: the numbers that it goes over. Contracts see these. It holds four bytes for each
-/// number that an index gave, and nothing where no index is asked.
+/// number that an index gave, and nothing where no index is asked; and the room of a package that was read, for the next one.
 #[derive(Drop)]
 pub struct Picker {
     reach: Reach,
+    room: Vec<u8>,
 }
 
 impl Model for Picker {
@@ -179,12 +181,13 @@ fn taken_length(
     }
 }
 
-/// A package by the bytes that it is read from, where the selection takes it.
+/// A package by the bytes that it is read from, where the selection takes it; where it doesn't, they become the room of the next one.
 fn pick_blob(
     alloc: Global,
     selection: &Selection<'_>,
     number: u32,
     blob: Vec<u8>,
+    room: &mut Vec<u8>,
 ) -> Result<Option<Picked>, PickFault>
     ensures told { OneIs selection.now number (package_of (Some blob.items)) result }
     ensures numbered { IsNumbered number result }
@@ -194,7 +197,10 @@ fn pick_blob(
     match taken_length(alloc, selection, number, &blob) {
         Err(fault) => Err(fault),
         Ok(Taken::Bad) => pick_bad(selection, number),
-        Ok(Taken::Passed) => Ok(None),
+        Ok(Taken::Passed) => {
+            *room = blob;
+            Ok(None)
+        }
         Ok(Taken::Good(length)) => {
             let mut bytes = blob;
             bytes.truncate(length);
@@ -216,14 +222,15 @@ fn is_elsewhere(selection: &Selection<'_>, number: u32) -> bool
     }
 }
 
-/// A number's package, where it is there and the selection takes it. Reads its blocks once, and nothing where the selection is another
-/// number.
+/// A number's package, where it is there and the selection takes it, in this room. Reads its blocks once, and nothing where the selection
+/// is another number.
 fn pick<D: Disk>(
     alloc: Global,
     db: &Db,
     disk: &mut D,
     selection: &Selection<'_>,
     number: u32,
+    room: &mut Vec<u8>,
 ) -> Result<Option<Picked>, PickFault>
     requires keeps { IsTrue D.tells → Keeps (D.files disk.old).pkg db.now }
     requires runs { db.now.stopped ≡ false }
@@ -238,8 +245,8 @@ fn pick<D: Disk>(
     if is_elsewhere(selection, number) {
         return Ok(None);
     }
-    match db.read(alloc, disk, number) {
-        Ok(blob) => pick_blob(alloc, selection, number, blob),
+    match db.read_in(disk, number, replace(room, Vec::new(alloc))) {
+        Ok(blob) => pick_blob(alloc, selection, number, blob, room),
         Err(GetFault::Bad) => pick_bad(selection, number),
         Err(GetFault::NoSuch) => Ok(None),
         Err(GetFault::DiskFault) => Err(PickFault::DiskFault),
@@ -258,24 +265,27 @@ fn asks(db: &Db, selection: &Selection<'_>) -> bool
 }
 
 /// A picker that asked no index.
-fn unasked(selection: &Selection<'_>) -> Picker
+fn unasked(alloc: Global, selection: &Selection<'_>) -> Picker
     ensures { result ≡ unasked selection.now }
 {
-    match selection {
-        Selection::Number(number) => Picker {
-            reach: Reach::One(*number),
-        },
-        _ => Picker { reach: Reach::All },
+    let reach = match selection {
+        Selection::Number(number) => Reach::One(*number),
+        _ => Reach::All,
+    };
+    Picker {
+        reach,
+        room: Vec::new(alloc),
     }
 }
 
 /// A picker over the numbers that an index gave.
-fn over(numbers: Vec<u32>) -> Picker
+fn over(alloc: Global, numbers: Vec<u32>) -> Picker
     requires { IsStrictlyIncreasing numbers.items }
     ensures { result ≡ These numbers.items }
 {
     Picker {
         reach: Reach::These(numbers),
+        room: Vec::new(alloc),
     }
 }
 
@@ -323,11 +333,20 @@ impl Picker {
         ensures cause { HasCauseAt (result ≡ Err PickFault.DiskFault) (D.faults disk.old) (D.faults disk.new) }
     {
         if !asks(db, selection) {
-            return Ok(unasked(selection));
+            return Ok(unasked(alloc, selection));
         }
         match numbers_asked(alloc, db, disk, selection) {
-            Ok(numbers) => Ok(over(numbers)),
+            Ok(numbers) => Ok(over(alloc, numbers)),
             Err(fault) => Err(fault),
+        }
+    }
+
+    /// Takes back a package that was picked and isn't needed any more: the next one is read into its room.
+    pub fn take_back(&mut self, picked: Picked)
+        ensures { self.new ≡ self.old }
+    {
+        if let Picked::Good { blob, .. } = picked {
+            self.room = blob.bytes;
         }
     }
 
@@ -363,9 +382,10 @@ impl Picker {
         ensures unbroken { is_broken result ≡ false }
         ensures cause { HasCauseAt (result ≡ Err PickFault.DiskFault) (D.faults disk.old) (D.faults disk.new) }
     {
+        let mut room = replace(&mut self.room, Vec::new(alloc));
         let mut passed = n;
         while let Some(next) = self.next_number(db, passed) {
-            match pick(alloc, db, disk, selection, next) {
+            match pick(alloc, db, disk, selection, next, &mut room) {
                 Ok(None) => passed = next,
                 Ok(Some(picked)) => return Ok(Some(picked)),
                 Err(fault) => return Err(fault),
@@ -401,12 +421,13 @@ impl Picker {
         ensures unbroken { is_broken result ≡ false }
         ensures cause { HasCauseAt (result ≡ Err PickFault.DiskFault) (D.faults disk.old) (D.faults disk.new) }
     {
+        let mut room = replace(&mut self.room, Vec::new(alloc));
         let mut passed = 0;
         while let Some(next) = self.next_number(db, passed) {
             if next > n {
                 return Ok(false);
             }
-            match pick(alloc, db, disk, selection, next) {
+            match pick(alloc, db, disk, selection, next, &mut room) {
                 Ok(None) => passed = next,
                 Ok(Some(_)) => return Ok(true),
                 Err(fault) => return Err(fault),

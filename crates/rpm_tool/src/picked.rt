@@ -109,7 +109,11 @@ fn print_next<D: Disk, O: Sink + Drop, E: Sink + Drop>(
 {
     match picker.next_after(alloc, db, disk, selection, number) {
         Ok(None) => Ok(None),
-        Ok(Some(picked)) => print_one(alloc, way, &picked, out, err),
+        Ok(Some(picked)) => {
+            let printed = print_one(alloc, way, &picked, out, err);
+            picker.take_back(picked);
+            printed
+        }
         Err(fault) => Err(stop_of(fault)),
     }
 }

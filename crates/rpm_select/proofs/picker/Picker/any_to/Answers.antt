@@ -8,6 +8,8 @@ use Rattle.rpm_db.specs.Database.{cost, cost_to}
 use Rattle.rpm_db.specs.inner.Laws.{cost_more, cost_up}
 use Rattle.rpm_outside.specs.declared.disk.File.TheVariants.{Pkg}
 use Rattle.rpm_select.proofs.Owning.{own_then}
+use Rattle.rpm_select.specs.Reach.{Reach, Serves}
+use Rattle.rpm_select.specs.inner.Reaching.{reach_of}
 use Rattle.rpm_select.specs.inner.Single.{OneOf}
 use Rattle.rpm_select.specs.inner.Costing.{reach_more}
 use Rattle.rpm_select.proofs.Passing.{found_one, passed_next, none_next, none_to, one_to}
@@ -38,8 +40,9 @@ returns-then-next-n-clause-told g c = λ told serves.
     let sel = c.args.selection.now in
     let n = c.args.n in
     let inv = c.loop-next.invariant in
-    sym (ap (any_to n) (above_picks (packages file db.store) sel 0 ∙ inv.same told serves)
-    ∙ none_to c.args.self.now file db sel serves n c.loop-next.passed c.in-Some.next c.in-Some.ensures inv.below c.if-next-n.true)
+    let all = subst (λ (x : Reach). Serves x (packages file db.store) sel) (sym c.self.view_is) serves in
+    sym (ap (any_to n) (above_picks (packages file db.store) sel 0 ∙ inv.same told all)
+    ∙ none_to (reach_of c.self.inside.reach) file db sel all n c.loop-next.passed c.in-Some.next c.in-Some.ensures inv.below c.if-next-n.true)
 
 pub returns-in-Ok-Some-clause-told : goal.returns-in-Ok-Some-clause-told
 returns-in-Ok-Some-clause-told g c = λ told serves.
@@ -52,9 +55,10 @@ returns-in-Ok-Some-clause-told g c = λ told serves.
     let inv = c.loop-next.invariant in
     let said = subst (λ (f : Files). OneOf sel m (finite.get (packages f.pkg db.store) m) (Ok c.in-Ok-Some.field-0)) (inv.looks.untouched told).same
     (c.in-Ok-Some.ensures.told told) in
+    let all = subst (λ (x : Reach). Serves x (packages file db.store) sel) (sym c.self.view_is) serves in
     let found = found_one (packages file db.store) sel m _ (rw c.in-Ok-Some.field-0-is at said) in
-    sym (ap (any_to n) (above_picks (packages file db.store) sel 0 ∙ inv.same told serves)
-    ∙ one_to c.args.self.now file db sel serves n k m _ c.in-Some.ensures found c.if-next-n.false)
+    sym (ap (any_to n) (above_picks (packages file db.store) sel 0 ∙ inv.same told all)
+    ∙ one_to (reach_of c.self.inside.reach) file db sel all n k m _ c.in-Some.ensures found c.if-next-n.false)
 
 pub returns-in-Ok-Some-clause-looks : goal.returns-in-Ok-Some-clause-looks
 returns-in-Ok-Some-clause-looks = reading.returns-in-Ok-Some-clause-looks
@@ -64,6 +68,7 @@ returns-in-Err-clause-looks = reading.returns-in-Err-clause-looks
 
 pub loop-next-preserved-in-Ok-None-3 : goal.loop-next-preserved-in-Ok-None-3
 loop-next-preserved-in-Ok-None-3 g c =
+    let r = reach_of c.self.inside.reach in
     let db = c.args.db.now in
     let k = c.loop-next.passed in
     let m = c.in-Some.next in
@@ -81,22 +86,23 @@ loop-next-preserved-in-Ok-None-3 g c =
           own_then c.args.selection.now db k m (g.D.Disk.bytes_read c.args.disk.now Pkg) (g.D.Disk.bytes_read c.loop-next.disk Pkg)
           (g.D.Disk.bytes_read c.pick.new.disk Pkg) c.in-Some.ensures.0
           inv.own done.looks.reads.pkg done.unread;
-      reads = omega (arith, inv.reads, done.looks.reads.pkg, reach_more c.args.self.now db k m c.in-Some.ensures);
+      reads = omega (arith, inv.reads, done.looks.reads.pkg, reach_more r db k m c.in-Some.ensures);
       faults = omega (arith, inv.faults, done.cause.later);
       same = λ told serves.
           let sel = c.args.selection.now in
           let file = (g.D.Disk.files c.args.disk.now).pkg in
           let one = subst (λ (f : Files). OneOf sel m (finite.get (packages f.pkg db.store) m) (Ok None)) (inv.looks.untouched told).same
           (rw c.in-Ok-None.field-0-is at (done.told told)) in
-          inv.same told serves ∙ passed_next c.args.self.now file db sel serves k m c.in-Some.ensures one;
+          inv.same told serves ∙ passed_next r file db sel serves k m c.in-Some.ensures one;
     }
 
 pub returns-clause-told : goal.returns-clause-told
 returns-clause-told g c = λ told serves.
     let file = (g.D.Disk.files c.args.disk.now).pkg in
     let db = c.args.db.now in
-    sym (ap (any_to c.args.n) (above_picks (packages file db.store) c.args.selection.now 0 ∙ c.loop-next.invariant.same told serves
-    ∙ none_next c.args.self.now file db c.args.selection.now serves c.loop-next.passed c.in_default.ensures))
+    let all = subst (λ (x : Reach). Serves x (packages file db.store) c.args.selection.now) (sym c.self.view_is) serves in
+    sym (ap (any_to c.args.n) (above_picks (packages file db.store) c.args.selection.now 0 ∙ c.loop-next.invariant.same told all
+    ∙ none_next (reach_of c.self.inside.reach) file db c.args.selection.now all c.loop-next.passed c.in_default.ensures))
 
 pub returns-clause-reads : goal.returns-clause-reads
 returns-clause-reads = reading.returns-clause-reads

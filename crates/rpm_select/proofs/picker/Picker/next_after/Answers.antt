@@ -1,5 +1,5 @@
 mod Reading
-use Rattle.std.proofs.Common.{◌-◌, Some, None, Ok, subst, ◌∙◌, arith}
+use Rattle.std.proofs.Common.{◌-◌, Some, None, Ok, sym, subst, ◌∙◌, arith}
 use Rattle.std.specs.FinMap as finite
 use Rattle.rpm_outside.specs.Files.{Files}
 use Rattle.rpm_outside.specs.inner.Looking.{looks_then}
@@ -8,6 +8,8 @@ use Rattle.rpm_db.specs.Database.{cost, cost_to}
 use Rattle.rpm_db.specs.inner.Laws.{cost_more}
 use Rattle.rpm_outside.specs.declared.disk.File.TheVariants.{Pkg}
 use Rattle.rpm_select.proofs.Owning.{own_then}
+use Rattle.rpm_select.specs.Reach.{Reach, Serves}
+use Rattle.rpm_select.specs.inner.Reaching.{reach_of}
 use Rattle.rpm_select.specs.inner.Single.{OneOf}
 use Rattle.rpm_select.specs.inner.Costing.{reach_more}
 use Rattle.rpm_select.proofs.Passing.{found_one, passed_next, picked_next, none_next}
@@ -17,6 +19,7 @@ use Rattle.rpm_select.proofs.picker.Picker.next_after.Goals as goal
 
 pub loop-next-preserved : goal.loop-next-preserved
 loop-next-preserved g c =
+    let r = reach_of c.self.inside.reach in
     let db = c.args.db.now in
     let n = c.args.n in
     let k = c.loop-next.passed in
@@ -37,14 +40,14 @@ loop-next-preserved g c =
           own_then c.args.selection.now db k m (g.D.Disk.bytes_read c.args.disk.now Pkg) (g.D.Disk.bytes_read c.loop-next.disk Pkg)
           (g.D.Disk.bytes_read c.pick.new.disk Pkg) c.in-Some.ensures.0
           inv.own done.looks.reads.pkg done.unread;
-      up = omega (arith, inv.up, reach_more c.args.self.now db k m c.in-Some.ensures);
-      reads = omega (arith, inv.reads, inv.up, done.looks.reads.pkg, reach_more c.args.self.now db k m c.in-Some.ensures);
+      up = omega (arith, inv.up, reach_more r db k m c.in-Some.ensures);
+      reads = omega (arith, inv.reads, inv.up, done.looks.reads.pkg, reach_more r db k m c.in-Some.ensures);
       faults = omega (arith, inv.faults, done.cause.later);
       same = λ told serves.
           let file = (g.D.Disk.files c.args.disk.now).pkg in
           let one = subst (λ (f : Files). OneOf sel m (finite.get (packages f.pkg db.store) m) (Ok None)) (inv.looks.untouched told).same
           (rw c.in-Ok-None.field-0-is at (done.told told)) in
-          inv.same told serves ∙ passed_next c.args.self.now file db sel serves k m c.in-Some.ensures one;
+          inv.same told serves ∙ passed_next r file db sel serves k m c.in-Some.ensures one;
     }
 
 pub returns-in-Ok-Some-clause-told : goal.returns-in-Ok-Some-clause-told
@@ -55,12 +58,13 @@ returns-in-Ok-Some-clause-told g c = λ told serves.
     let sel = c.args.selection.now in
     let inv = c.loop-next.invariant in
     let file = (g.D.Disk.files c.args.disk.now).pkg in
+    let all = subst (λ (x : Reach). Serves x (packages file db.store) sel) (sym c.self.view_is) serves in
     let one = subst (λ (f : Files). OneOf sel m (finite.get (packages f.pkg db.store) m) (Ok (Some c.in-Ok-Some.picked))) (inv.looks.untouched told).same
     (rw c.in-Ok-Some.field-0-is at (c.in-Ok-Some.ensures.told told)) in
     let found = found_one (packages file db.store) sel m c.in-Ok-Some.picked one in (
       left (packages file db.store) sel m,
-      above_picks (packages file db.store) sel c.args.n ∙ inv.same told serves
-          ∙ picked_next c.args.self.now file db sel serves k m c.in-Ok-Some.picked c.in-Some.ensures found,
+      above_picks (packages file db.store) sel c.args.n ∙ inv.same told all
+          ∙ picked_next (reach_of c.self.inside.reach) file db sel all k m c.in-Ok-Some.picked c.in-Some.ensures found,
     )
 
 pub returns-in-Ok-Some-clause-looks : goal.returns-in-Ok-Some-clause-looks
@@ -73,8 +77,9 @@ pub returns-clause-told : goal.returns-clause-told
 returns-clause-told g c = λ told serves.
     let file = (g.D.Disk.files c.args.disk.now).pkg in
     let db = c.args.db.now in
-    above_picks (packages file db.store) c.args.selection.now c.args.n ∙ c.loop-next.invariant.same told serves
-    ∙ none_next c.args.self.now file db c.args.selection.now serves c.loop-next.passed c.in_default.ensures
+    let all = subst (λ (x : Reach). Serves x (packages file db.store) c.args.selection.now) (sym c.self.view_is) serves in
+    above_picks (packages file db.store) c.args.selection.now c.args.n ∙ c.loop-next.invariant.same told all
+    ∙ none_next (reach_of c.self.inside.reach) file db c.args.selection.now all c.loop-next.passed c.in_default.ensures
 
 pub returns-clause-reads : goal.returns-clause-reads
 returns-clause-reads = reading.returns-clause-reads

@@ -1,10 +1,12 @@
 -- What looking for one reads.
-use Rattle.std.proofs.Common.{arith}
+use Rattle.std.proofs.Common.{ap, arith}
 use Rattle.rpm_outside.specs.inner.Looking.{looks_then}
 use Rattle.rpm_db.specs.Database.{cost, cost_to}
 use Rattle.rpm_db.specs.inner.Laws.{cost_more, cost_up}
 use Rattle.rpm_outside.specs.declared.disk.File.TheVariants.{Pkg}
 use Rattle.rpm_select.proofs.Owning.{own_then, own_all}
+use Rattle.rpm_select.specs.Reach.{Reach, reach_to}
+use Rattle.rpm_select.specs.inner.Reaching.{reach_of}
 use Rattle.rpm_select.specs.inner.Costing.{reach_more, reach_up}
 use Rattle.rpm_select.proofs.picker.Picker.any_to.Goals as goal
 
@@ -32,15 +34,25 @@ returns-in-Err-clause-looks g c =
 
 pub returns-clause-reads : goal.returns-clause-reads
 returns-clause-reads g c =
-    omega (arith, c.loop-next.invariant.reads, reach_up c.args.self.now c.args.db.now c.loop-next.passed c.args.n c.loop-next.invariant.below)
+    omega (
+      arith,
+      c.loop-next.invariant.reads,
+      reach_up (reach_of c.self.inside.reach) c.args.db.now c.loop-next.passed c.args.n c.loop-next.invariant.below,
+      ap (λ (x : Reach). reach_to c.args.n x c.args.db.now) c.self.view_is,
+    )
 
 pub returns-then-next-n-clause-reads : goal.returns-then-next-n-clause-reads
 returns-then-next-n-clause-reads g c =
-    omega (arith, c.loop-next.invariant.reads, reach_up c.args.self.now c.args.db.now c.loop-next.passed c.args.n c.loop-next.invariant.below)
+    omega (
+      arith,
+      c.loop-next.invariant.reads,
+      reach_up (reach_of c.self.inside.reach) c.args.db.now c.loop-next.passed c.args.n c.loop-next.invariant.below,
+      ap (λ (x : Reach). reach_to c.args.n x c.args.db.now) c.self.view_is,
+    )
 
 pub returns-in-Err-clause-reads : goal.returns-in-Err-clause-reads
 returns-in-Err-clause-reads g c =
-    let r = c.args.self.now in
+    let r = reach_of c.self.inside.reach in
     let db = c.args.db.now in
     let m = c.in-Some.next in
     omega (
@@ -49,11 +61,12 @@ returns-in-Err-clause-reads g c =
       c.in-Err.ensures.looks.reads.pkg,
       reach_more r db c.loop-next.passed m c.in-Some.ensures,
       reach_up r db m c.args.n c.if-next-n.false,
+      ap (λ (x : Reach). reach_to c.args.n x db) c.self.view_is,
     )
 
 pub returns-in-Ok-Some-clause-reads : goal.returns-in-Ok-Some-clause-reads
 returns-in-Ok-Some-clause-reads g c =
-    let r = c.args.self.now in
+    let r = reach_of c.self.inside.reach in
     let db = c.args.db.now in
     let m = c.in-Some.next in
     omega (
@@ -62,6 +75,7 @@ returns-in-Ok-Some-clause-reads g c =
       c.in-Ok-Some.ensures.looks.reads.pkg,
       reach_more r db c.loop-next.passed m c.in-Some.ensures,
       reach_up r db m c.args.n c.if-next-n.false,
+      ap (λ (x : Reach). reach_to c.args.n x db) c.self.view_is,
     )
 
 pub returns-in-Ok-Some-clause-own : goal.returns-in-Ok-Some-clause-own

@@ -1,5 +1,5 @@
 -- What going to the next one reads.
-use Rattle.std.proofs.Common.{◌≡◌, ℕ, ◌-◌, sym, ap, subst, arith}
+use Rattle.std.proofs.Common.{◌≡◌, ℕ, ◌-◌, sym, ap, subst, ◌∙◌, arith}
 use Rattle.rpm_outside.specs.Looks.{Looks}
 use Rattle.rpm_outside.specs.inner.Looking.{looks_then, looks_more}
 use Rattle.rpm_db.specs.Database.{cost, cost_to, cost_all}
@@ -7,7 +7,8 @@ use Rattle.rpm_db.specs.inner.Laws.{cost_more, cost_some}
 use Rattle.rpm_outside.specs.declared.disk.File.TheVariants.{Pkg}
 use Rattle.rpm_select.proofs.Owning.{own_then, own_all}
 use Rattle.rpm_select.specs.Picks.{number_in}
-use Rattle.rpm_select.specs.Reach.{reach_to}
+use Rattle.rpm_select.specs.Reach.{Reach, reach_to, reach_all}
+use Rattle.rpm_select.specs.inner.Reaching.{reach_of}
 use Rattle.rpm_select.specs.inner.Costing.{reach_more, reach_some}
 use Rattle.rpm_select.proofs.picker.Picker.next_after.Goals as goal
 
@@ -41,11 +42,19 @@ returns-in-Err-clause-looks g c =
 
 pub returns-clause-reads : goal.returns-clause-reads
 returns-clause-reads g c =
-    omega (arith, c.loop-next.invariant.reads, reach_some c.args.self.now c.args.db.now c.loop-next.passed)
+    let r = reach_of c.self.inside.reach in
+    let db = c.args.db.now in
+    omega (
+      arith,
+      c.loop-next.invariant.reads,
+      reach_some r db c.loop-next.passed,
+      ap (λ (x : Reach). reach_to c.args.n x db) c.self.view_is,
+      ap (λ (x : Reach). reach_all x db) c.self.view_is,
+    )
 
 pub returns-in-Err-clause-reads : goal.returns-in-Err-clause-reads
 returns-in-Err-clause-reads g c =
-    let r = c.args.self.now in
+    let r = reach_of c.self.inside.reach in
     let db = c.args.db.now in
     let m = c.in-Some.next in
     omega (
@@ -55,15 +64,18 @@ returns-in-Err-clause-reads g c =
       c.in-Err.ensures.looks.reads.pkg,
       reach_more r db c.loop-next.passed m c.in-Some.ensures,
       reach_some r db m,
+      ap (λ (x : Reach). reach_to c.args.n x db) c.self.view_is,
+      ap (λ (x : Reach). reach_all x db) c.self.view_is,
     )
 
 pub returns-in-Ok-Some-clause-reads : goal.returns-in-Ok-Some-clause-reads
 returns-in-Ok-Some-clause-reads g c =
-    let r = c.args.self.now in
+    let r = reach_of c.self.inside.reach in
     let db = c.args.db.now in
     let m = c.in-Some.next in
     let number = rw c.in-Ok-Some.field-0-is at c.in-Ok-Some.ensures.numbered in
-    let same : reach_to (number_in c.in-Ok-Some.picked) r db ≡ reach_to m r db = ap (λ (i : ℕ). reach_to i r db) number in
+    let same : reach_to (number_in c.in-Ok-Some.picked) c.args.self.now db ≡ reach_to m r db =
+    ap (λ (i : ℕ). reach_to i c.args.self.now db) number ∙ ap (λ (x : Reach). reach_to m x db) (sym c.self.view_is) in
     omega (
       arith,
       same,
@@ -71,6 +83,7 @@ returns-in-Ok-Some-clause-reads g c =
       c.loop-next.invariant.up,
       c.in-Ok-Some.ensures.looks.reads.pkg,
       reach_more r db c.loop-next.passed m c.in-Some.ensures,
+      ap (λ (x : Reach). reach_to c.args.n x db) c.self.view_is,
     )
 
 pub returns-clause-looks : goal.returns-clause-looks

@@ -6,11 +6,11 @@ use Rattle.rpm_db.specs.Database.{Database}
 use Rattle.rpm_db.specs.Answers.{ReadIs}
 use Rattle.rpm_db.specs.inner.Laws.{get-packages}
 use Rattle.rpm_db.proofs.Answers.{read_is}
-use Rattle.rpm_db.proofs.database.Db.read.Goals as goal
+use Rattle.rpm_db.proofs.database.Db.read_in.Goals as goal
 
 pub returns-clause-told : goal.returns-clause-told
 returns-clause-told g c = λ told.
     let file = (g.D.Disk.files c.args.disk.now).pkg in
-    subst (λ (db : Database). ReadIs (finite.get (packages file db.store) c.args.n) c.get.result) c.self.view_is
-    (subst (λ (said : Option Package). ReadIs said c.get.result) (sym (get-packages file c.self.inside.store c.args.n))
-    (read_is _ c.get.result (c.get.ensures.told told)))
+    subst (λ (db : Database). ReadIs (finite.get (packages file db.store) c.args.n) c.get_in.result) c.self.view_is
+    (subst (λ (said : Option Package). ReadIs said c.get_in.result) (sym (get-packages file c.self.inside.store c.args.n))
+    (read_is _ c.get_in.result (c.get_in.ensures.told told)))

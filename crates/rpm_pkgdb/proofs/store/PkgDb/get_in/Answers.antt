@@ -1,7 +1,7 @@
 use Rattle.std.proofs.Common.{ℕ, List, Some, sym, ap, ◌∙◌}
 use Rattle.rpm_pkgdb.specs.Answers.{frame_in, given}
 use Rattle.rpm_pkgdb.proofs.Told.{at_frames, fault_told}
-use Rattle.rpm_pkgdb.proofs.store.PkgDb.get.Goals as goal
+use Rattle.rpm_pkgdb.proofs.store.PkgDb.get_in.Goals as goal
 
 pub returns-in-Err-clause-told : goal.returns-in-Err-clause-told
 returns-in-Err-clause-told g c = λ told.
