@@ -9,6 +9,7 @@ use Rattle.rpm_qfeval.specs.Dates as dates
 use Rattle.rpm_qfeval.specs.Numbers.{letters, depflags, fflags, fstate, perms}
 use Rattle.rpm_qfeval.specs.Texts.{quoted, in_quotes, hex_text, base64_text}
 
+-- what a formatter shows of a number, of a value of so many
 abbrev pub number_text : Show → ℕ → ℕ → List ℕ
 number_text show.Plain count n = decimal n
 number_text show.Hex count n = digits 16 false n
@@ -23,6 +24,7 @@ number_text show.Shescape count n = decimal n
 number_text show.Base64 count n = codes "(not a blob)"
 number_text show.Arraysize count n = decimal count
 
+-- what a formatter shows of a text, of a value of so many
 abbrev pub text_text : Show → ℕ → List ℕ → List ℕ
 text_text show.Plain count text = text
 text_text show.Shescape count text = quoted text
@@ -30,6 +32,7 @@ text_text show.Base64 count text = codes "(not a blob)"
 text_text show.Arraysize count text = decimal count
 text_text _ count text = codes "(not a number)"
 
+-- what a formatter shows of a blob
 abbrev pub blob_text : Show → List ℕ → List ℕ
 blob_text show.Plain bytes = hex_text bytes
 blob_text show.Shescape bytes = in_quotes (hex_text bytes)

@@ -25,6 +25,7 @@ value_text role.Element f round v = or_none (shown f v round)
 value_text role.First f round v = or_none (shown f v 0)
 value_text role.Count f round v = number_text f (count_of v) (count_of v)
 
+-- the same of a value that may be missing
 abbrev pub text_or_none : Role → Show → ℕ → Option Elements → List ℕ
 text_or_none r f round None = or_none None
 text_or_none r f round (Some v) = value_text r f round v
@@ -49,6 +50,7 @@ rounds (n ∷ rest) round = concat (map round (range_with_len 0 n))
 -- ---- the whole
 
 module _ (h : Header) (number : ℕ) where
+  -- the header has the tag
   abbrev pub is_present : Tag → Bool
   is_present tag = is_some (value h number tag)
 
@@ -56,6 +58,7 @@ module _ (h : Header) (number : ℕ) where
   abbrev pub tag_text : ℕ → TagPart → List ℕ
   tag_text round p = padded p.left p.width (text_or_none p.role p.show round (value h number p.tag))
 
+  -- how many elements a part asks for in a bracket, where it is such a tag
   abbrev pub direct : Part → Option ℕ
   direct (part.Tag p) = count_in p.role (value h number p.tag)
   direct _ = None
@@ -80,21 +83,25 @@ module _ (h : Header) (number : ℕ) where
   bytes round (Bracket inner rest) = rounds (counts inner) (λ i. bytes i inner) ++ bytes round rest
   bytes round (Condition tag first second rest) = (if is_present tag then bytes round first else bytes round second) ++ bytes round rest
 
+  -- two counts that differ, or else the bytes
   abbrev pub bytes_or : Option (ℕ × ℕ) → Tree → Result (List ℕ) (ℕ × ℕ)
   bytes_or None tree = Ok (bytes 0 tree)
   bytes_or (Some s) tree = Err s
 
+  -- what the whole format means: its bytes, or the first two counts that differ
   abbrev pub meaning : Tree → Result (List ℕ) (ℕ × ℕ)
   meaning tree = bytes_or (sizes tree) tree
 
   -- ---- the same of one part
 
+  -- the counts that differ in a part
   abbrev pub part_sizes : Part → Option (ℕ × ℕ)
   part_sizes (part.Text text) = None
   part_sizes (part.Tag p) = None
   part_sizes (part.Bracket inner) = different (counts inner)
   part_sizes (part.Condition tag first second) = if is_present tag then sizes first else sizes second
 
+  -- what a part prints in a round
   abbrev pub part_bytes : ℕ → Part → List ℕ
   part_bytes round (part.Text text) = text
   part_bytes round (part.Tag p) = tag_text round p

@@ -22,6 +22,7 @@ fflags = (2, 100) ∷ (1, 99) ∷ (32, 115) ∷ (8, 109) ∷ (16, 110) ∷ (64, 
 
 -- ---- the state of a file
 
+-- what `:fstate` shows of the state of a file
 abbrev pub fstate : ℕ → List ℕ
 fstate n =
     if n == 0 then codes "normal"
@@ -53,6 +54,7 @@ letter_if set letter = if set then letter else 45
 abbrev pub third_letter : Bool → Bool → ℕ → ℕ
 third_letter special x small = if special then (if x then small else small - 32) else letter_if x 120
 
+-- the ten letters of a mode of sixteen bits
 abbrev pub perms_of : ℕ → List ℕ
 perms_of mode =
     kind_letter (mode / 4096)

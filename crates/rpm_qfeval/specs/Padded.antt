@@ -1,7 +1,7 @@
 -- A text in a width.
 use Rattle.std.specs.Prelude.{ℕ, ◌-◌, Bool, true, false, List, ◌++◌, length, replicate}
 
--- at the left, with spaces behind it, or at the right; a longer text isn't cut
+-- at the left, with spaces after it, or at the right; a longer text isn't cut
 abbrev pub padded : Bool → ℕ → List ℕ → List ℕ
 padded true width text = text ++ replicate (width - length text) 32
 padded false width text = replicate (width - length text) 32 ++ text

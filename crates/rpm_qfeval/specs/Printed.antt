@@ -14,11 +14,13 @@ pub data Ending : Type 0 where
   Fails : Ending
   Starves : Ending
 
+-- how `print_direct` ended, by its answer
 abbrev pub ending : {T : Type 0} → Result T DirectFault → Ending
 ending (Ok t) = Done
 ending (Err (direct.SizesDiffer first second)) = Differs first second
 ending (Err direct.OutFault) = Fails
 
+-- how `print` ended, by its answer
 abbrev pub eval_ending : {T : Type 0} → Result T EvalFault → Ending
 eval_ending (Ok t) = Done
 eval_ending (Err (eval.SizesDiffer first second)) = Differs first second
@@ -33,6 +35,7 @@ EndsSo tells taken faults (Ok bytes) old new Fails = GainedPart tells (taken old
 EndsSo tells taken faults (Err counts) old new (Differs first second) = (counts ≡ (first, second)) × (new ≡ old)
 EndsSo tells taken faults meaning old new ending = ⊥
 
+-- what a call that prints did: its ending, faults only more, and the sink goes on from what it was
 pub record Prints {S : Type 0} (tells : Bool) (taken : S → List ℕ) (faults : S → ℕ) (follows : S → S → Type 0) (meaning : Result (List ℕ) (ℕ × ℕ))
     (old new : S) (ending : Ending) : Type 0 where
   pub ends : EndsSo tells taken faults meaning old new ending

@@ -5,16 +5,19 @@ use Rattle.hex.specs.Hex.{encode_lower}
 use Rattle.base64.specs.GeneralPurpose.{encode_of}
 use Rattle.base64.specs.Engines.{standard}
 
--- for a shell: a quote ends the quoted text, stands behind a backslash, and the text goes on
+-- for a shell: a quote ends the quoted text, stands after a backslash, and the text goes on
 abbrev pub escaped : ℕ → List ℕ
 escaped byte = if byte == 39 then codes "'\\''" else byte ∷ []
 
+-- a text with each of its quotes escaped
 abbrev pub escaped_text : List ℕ → List ℕ
 escaped_text text = concat (map escaped text)
 
+-- a text between quotes
 abbrev pub in_quotes : List ℕ → List ℕ
 in_quotes text = codes "'" ++ text ++ codes "'"
 
+-- a text as a shell reads it again
 abbrev pub quoted : List ℕ → List ℕ
 quoted text = in_quotes (escaped_text text)
 

@@ -19,7 +19,7 @@ use std::marker::Model;
 #[derive(Drop)]
 pub struct Cursor<'v, 'a> {
     value: &'v TagValue<'a>,
-    // The text at the place, and those behind it.
+    // The text at the place, and those after it.
     present: Option<Joined<'a>>,
     texts: ValueTexts<'v, 'a>,
     place: u32,

@@ -45,7 +45,7 @@ fn find(columns: &[Option<Column<'_, '_>>], asked: Asked) -> Option<usize>
 }
 
 /// Where the column of what is asked for is. It is looked for at a place first, which becomes the one
-/// behind it: the parts of a bracket ask for its columns in their order. Each element of a bracket
+/// after it: the parts of a bracket ask for its columns in their order. Each element of a bracket
 /// comes by here.
 #[inline(always)]
 fn place_of(columns: &[Option<Column<'_, '_>>], next: &mut usize, asked: Asked) -> Option<usize>

@@ -51,7 +51,7 @@ fn quote_at(text: &[u8]) -> Option<usize>
     text.iter().position(|byte| *byte == b'\'')
 }
 
-/// The bytes in front of the first quote, and those behind it.
+/// The bytes in front of the first quote, and those after it.
 fn cut_at_quote(text: &[u8]) -> Option<(&[u8], &[u8])>
     ensures cut { IfSome result (λ cut. escaped_text text.now ≡ (cut.0.now ++ codes "'\\''") ++ escaped_text cut.1.now) }
     ensures shorter { IfSome result (λ cut. length cut.1.now < length text.now) }
@@ -63,7 +63,7 @@ fn cut_at_quote(text: &[u8]) -> Option<(&[u8], &[u8])>
     }
 }
 
-/// Puts bytes that have no quote, and a quote behind them.
+/// Puts bytes that have no quote, and a quote after them.
 fn put_run<O: Sink>(sink: &mut O, run: &[u8]) -> Result<(), Failed>
     ensures { Writes O.tells O.taken O.faults O.follows sink.old sink.new (run.now ++ codes "'\\''") result }
 {
@@ -131,7 +131,7 @@ fn put_shown<O: Sink>(sink: &mut O, text: &Shown<'_>) -> Result<(), Failed>
     }
 }
 
-/// Puts a text in a width: at the left, with spaces behind it, or at the right. A text that is no
+/// Puts a text in a width: at the left, with spaces after it, or at the right. A text that is no
 /// shorter is put as it is. Without a width it isn't measured.
 pub fn put_padded<O: Sink>(
     sink: &mut O,

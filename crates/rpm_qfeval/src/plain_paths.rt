@@ -31,7 +31,7 @@ impl<'v, 'a> Model for PlainPaths<'v, 'a> {
     ghost invariant = { λ s. IsReached s.all.now s.left s.count s.place };
 }
 
-/// Puts a directory, and a name behind it.
+/// Puts a directory, and a name after it.
 #[inline(always)]
 fn put_path<O: Sink>(sink: &mut O, dir: &[u8], base: &[u8]) -> Result<(), Failed>
     ensures { Writes O.tells O.taken O.faults O.follows sink.old sink.new (dir.now ++ base.now) result }

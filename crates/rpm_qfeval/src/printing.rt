@@ -51,9 +51,9 @@ fn print_parts<O: Sink>(
 /// Prints what a format says of a header and of the number of its package. Takes no memory.
 ///
 /// A tag prints its first element, in a bracket that of the present round, and `(none)` where there
-/// is none; behind `=` the first one in each round, and behind `#` how many there are. A width pads
-/// with spaces in front, or with `-` behind, and cuts nothing. A bracket is printed once for each
-/// element of the tags that stand in it, but for those behind `=` or `#` and those in conditions;
+/// is none; after `=` the first one in each round, and after `#` how many there are. A width pads
+/// with spaces in front, or with `-` after, and cuts nothing. A bracket is printed once for each
+/// element of the tags that stand in it, but for those after `=` or `#` and those in conditions;
 /// where none of them is present it prints `(none)` and a newline. A condition prints its first
 /// branch where the header has the tag, else its second.
 ///
@@ -73,7 +73,7 @@ fn print_parts<O: Sink>(
 ///
 /// Up to 3, 8, 32 and 192 parts a bracket takes 2, 5, 18 and 108 KiB of the stack for what stands ready, and
 /// where parts ask for more, up to 2, 4, 16 and 192 tags of these, 6, 9, 25 and 260 KiB besides, where a tag
-/// behind `=` counts apart; 1 MiB more where the files of `FILENAMES` go back often. These are the sizes of
+/// after `=` counts apart; 1 MiB more where the files of `FILENAMES` go back often. These are the sizes of
 /// arrays, whatever the format. A tag for which an array has no place would be looked up in each round;
 /// there is none in a format that was read, which has at most two for each of the 89 tags with a name.
 #[tactic(auto, using(crate::proofs::DateLaw::date_is_day))]

@@ -17,7 +17,7 @@ use std::marker::Model;
 #[derive(Drop)]
 pub struct Stream<'v, 'a> {
     value: &'v TagValue<'a>,
-    // The text at the place, and those behind it.
+    // The text at the place, and those after it.
     present: Option<&'a [u8]>,
     texts: TextIter<'a>,
     place: u32,

@@ -20,8 +20,8 @@ abbrev pub behind : (Tree → Tree) → Reading Tree → Reading Tree
 behind part (Ok x) = Ok (part x.0, x.1)
 behind part (Err e) = Err e
 
--- Gives c in_bracket depth s a: from s on the context c is read up to its end as a, a tree with the bytes behind it or the
--- first fault. Branches in_bracket depth s a: so are the branches of a condition, behind the first brace. By what s begins with:
+-- Gives c in_bracket depth s a: from s on the context c is read up to its end as a, a tree with the bytes after it or the
+-- first fault. Branches in_bracket depth s a: so are the branches of a condition, after the first brace. By what s begins with:
 mutual
   pub data Gives : Context → Bool → ℕ → List ℕ → Reading Tree → Type 0 where
     -- the context ends here, with no further part
@@ -61,7 +61,7 @@ mutual
         → Gives context.Branch ib (d + 1) s (Ok (first, t)) → second_follows t ≡ Ok (true, u)
         → Gives context.Branch ib (d + 1) u (Ok (second, v)) → close v ≡ Ok w
         → Branches ib d s (Ok ((first, second), w))
-    -- a fault in the first branch, behind it, in the second one, or behind that
+    -- a fault in the first branch, after it, in the second one, or after that
     in_first : {ib : Bool} {d : ℕ} {s : List ℕ} {e : Faulty}
         → Gives context.Branch ib (d + 1) s (Err e)
         → Branches ib d s (Err e)
@@ -88,6 +88,7 @@ branches_by read ib d s = do
     Ok ((first.0, second.0), rest))
       else Ok ((first.0, End), more.1)
 
+-- what a context reads by what it begins with
 abbrev pub step : (Context → Bool → ℕ → List ℕ → Reading Tree) → Context → Bool → ℕ → Move → Reading Tree
 step read c ib d (Ends r) = Ok (End, r)
 step read c ib d (Stops e) = Err e
@@ -101,6 +102,7 @@ unfoldable pub reading : ℕ → Context → Bool → ℕ → List ℕ → Readi
 reading zero c ib d s = Ok (End, s)
 reading (suc n) c ib d s = step (reading n) c ib d (move_of c ib d s)
 
+-- the tree alone, or the fault with its place in the text
 abbrev pub placed : List ℕ → Reading Tree → Result Tree FormatFault
 placed text (Ok x) = Ok x.0
 placed text (Err e) = Err (record { kind = e.0; at = length text - length e.1 })

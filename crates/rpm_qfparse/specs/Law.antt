@@ -8,7 +8,7 @@ use Rattle.rpm_qfparse.specs.declared.moves.Context.TheVariants as context
 use Rattle.rpm_qfparse.specs.Tree.{Tree, End, Text, Tagged, Bracket, Condition}
 use Rattle.rpm_qfparse.specs.Format.{Gives}
 
--- up to the end of a context a text is this tree, with these bytes behind it
+-- up to the end of a context a text is this tree, with these bytes after it
 abbrev pub Reads : Context → Bool → ℕ → List ℕ → Tree → List ℕ → Type 0
 Reads c in_bracket depth s tree rest = Gives c in_bracket depth s (Ok (tree, rest))
 
@@ -16,6 +16,7 @@ Reads c in_bracket depth s tree rest = Gives c in_bracket depth s (Ok (tree, res
 abbrev pub Fails : Context → Bool → ℕ → List ℕ → FormatKind → List ℕ → Type 0
 Fails c in_bracket depth s kind rest = Gives c in_bracket depth s (Err (kind, rest))
 
+-- the text has more than 65,536 bytes, and that is its fault
 abbrev pub IsTooLong : List ℕ → FormatFault → Type 0
 IsTooLong text fault = (65536 < length text) × (fault ≡ record { kind = TooLong; at = 65536 })
 

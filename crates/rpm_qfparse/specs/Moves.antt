@@ -18,25 +18,25 @@ pub data Move : Type 0 where
 
 -- ---- conditions
 
--- the tag of a condition behind the bar (124): up to the first `?` (63), and a `{` (123) has to follow
+-- the tag of a condition after the bar (124): up to the first `?` (63), and a `{` (123) has to follow
 abbrev pub asked : List ℕ → Reading Tag
 asked s = do
   cut ← or_fault (split_once 63 s) (QuestionExpected, [])
   tag ← named cut.0 s
   if begins 123 cut.1 then Ok (tag, drop 1 cut.1) else Err (BraceExpected, cut.1)
 
--- the same where so many conditions are around it: from its percent on, and behind its bar
+-- the same where so many conditions are around it: from its percent on, and after its bar
 unfoldable pub condition : ℕ → List ℕ → List ℕ → Reading Tag
 condition depth here s = if nat_le 16 depth then Err (TooDeep, here) else asked s
 
--- behind a first branch: a bar, or a `:` (58) and a `{` in front of a second one
+-- after a first branch: a bar, or a `:` (58) and a `{` in front of a second one
 abbrev pub second_follows : List ℕ → Reading Bool
 second_follows s =
     if begins 124 s then Ok (false, drop 1 s)
     else if begins 58 s then (if begins 123 (drop 1 s) then Ok (true, drop 1 (drop 1 s)) else Err (BraceExpected, drop 1 s))
     else Err (BarExpected, s)
 
--- behind a second branch: a bar
+-- after a second branch: a bar
 abbrev pub close : List ℕ → Result (List ℕ) Faulty
 close s = if begins 124 s then Ok (drop 1 s) else Err (BarExpected, s)
 
@@ -48,35 +48,40 @@ escape b =
     if b == 97 then 7 else if b == 98 then 8 else if b == 102 then 12 else if b == 110 then 10 else if b == 114 then 13
     else if b == 116 then 9 else if b == 118 then 11 else b
 
--- behind a backslash
+-- after a backslash
 abbrev pub escaped : List ℕ → Move
 escaped [] = Literal 92 []
 escaped (b ∷ s) = Literal (escape b) s
 
+-- a tag that was read, or its fault
 abbrev pub shows : Reading TagPart → Move
 shows (Ok x) = Shows x.0 x.1
 shows (Err e) = Stops e
 
+-- the tag of a condition that was read, or its fault
 abbrev pub asks : Reading Tag → Move
 asks (Ok x) = Asks x.0 x.1
 asks (Err e) = Stops e
 
--- behind a percent, which stands here: another one (37), a bar, or a tag
+-- after a percent, which stands here: another one (37), a bar, or a tag
 abbrev pub percent : ℕ → List ℕ → List ℕ → Move
 percent depth here s =
     if begins 37 s then Literal 37 (drop 1 s)
     else if begins 124 s then asks (condition depth here (drop 1 s))
     else shows (tag_part s)
 
+-- the end of the text, which is a fault in a bracket and in a branch
 abbrev pub at_end : Context → Move
 at_end context.Top = Ends []
 at_end context.Bracket = Stops (BracketExpected, [])
 at_end context.Branch = Stops (MissingClose, [])
 
+-- what is read is a bracket, which a `]` ends
 abbrev pub is_bracket : Context → Bool
 is_bracket context.Bracket = true
 is_bracket _ = false
 
+-- what is read is a branch of a condition, which a `}` ends
 abbrev pub is_branch : Context → Bool
 is_branch context.Branch = true
 is_branch _ = false

@@ -1,4 +1,4 @@
--- A tag of a format, behind its percent.
+-- A tag of a format, after its percent.
 use Rattle.std.specs.Prelude.{ℕ, ◌+◌, List, [], ◌∷◌, codes, length, take, drop, Option, Some, None, Result, Ok, Err, Bool, true, false, nat_lt, nat_eq, ◌==◌, if◌then◌else◌}
 use Rattle.std.specs.Char.{is_ascii_digit}
 use Rattle.std.specs.List.{position, prefix_len}
@@ -21,24 +21,27 @@ use Rattle.rpm_qfparse.specs.declared.tree.TagPart.{TagPart}
 abbrev pub Faulty : Type 0
 Faulty = FormatKind × List ℕ
 
--- what is read and the bytes behind it, or the first fault
+-- what is read and the bytes after it, or the first fault
 abbrev pub Reading : Type 0 → Type 0
 Reading X = Result (X × List ℕ) Faulty
 
 infixl 10 ◌>>=◌
+-- goes on with what was read, and stops at a fault
 abbrev pub ◌>>=◌ : {A B : Type 0} → Result A Faulty → (A → Result B Faulty) → Result B Faulty
 (Ok x) >>= f = f x
 (Err e) >>= f = Err e
 
+-- what there is, or else this fault
 abbrev pub or_fault : {X : Type 0} → Option X → Faulty → Result X Faulty
 or_fault None e = Err e
 or_fault (Some x) e = Ok x
 
+-- this byte stands in front
 abbrev pub begins : ℕ → List ℕ → Bool
 begins byte [] = false
 begins byte (b ∷ s) = b == byte
 
--- what stands before and behind the first such byte
+-- what stands before and after the first such byte
 abbrev pub split_once : ℕ → List ℕ → Option (List ℕ × List ℕ)
 split_once byte s = option_map (λ i. (take i s, drop (i + 1) s)) (position (λ b. b == byte) s)
 
@@ -56,9 +59,11 @@ digit_count s = prefix_len is_ascii_digit s
 unfoldable pub number_of : List ℕ → ℕ
 number_of s = digits_value 10 (take (digit_count s) s)
 
+-- what follows those digits
 unfoldable pub after_number : List ℕ → List ℕ
 after_number s = drop (digit_count s) s
 
+-- the width, at most 4,096, and what follows it
 abbrev pub width : List ℕ → Reading ℕ
 width s = if nat_lt 4096 (number_of s) then Err (WidthTooLarge, s) else Ok (number_of s, after_number s)
 
@@ -88,22 +93,25 @@ table =
     (show.Base64, codes "base64") ∷
     (show.Arraysize, codes "arraysize") ∷ []
 
+-- the formatter of a name in a table
 unfoldable pub show_in : List (Show × List ℕ) → List ℕ → Option Show
 show_in [] name = None
 show_in (row ∷ rows) name = if pointwise nat_eq name row.1 then Some row.0 else show_in rows name
 
+-- the formatter of a name
 abbrev pub show_of : List ℕ → Option Show
 show_of name = show_in table name
 
+-- the two pieces of a cut, or all of it and no second piece
 abbrev pub cut_or_whole : Option (List ℕ × List ℕ) → List ℕ → List ℕ × Option (List ℕ)
 cut_or_whole None inside = (inside, None)
 cut_or_whole (Some cut) inside = (cut.0, Some cut.1)
 
--- the name up to the first colon (58), and what stands behind that
+-- the name up to the first colon (58), and what stands after that
 abbrev pub name_and_show : List ℕ → List ℕ × Option (List ℕ)
 name_and_show inside = cut_or_whole (split_once 58 inside) inside
 
--- the formatter of a name that stands so far behind a place, where there is one
+-- the formatter of a name that stands so far after a place, where there is one
 abbrev pub formatter : Option (List ℕ) → ℕ → List ℕ → Result Show Faulty
 formatter None far place = Ok show.Plain
 formatter (Some name) far place = or_fault (show_of name) (UnknownFormatter, drop far place)
@@ -117,6 +125,7 @@ tag_inside left size r inside place = do
 
 -- ---- the whole tag, in the order of reading: `-`, the width, `{` (123), `=` or `#`, and up to `}` (125) name and formatter
 
+-- the tag of a format after its percent, and what follows its `}`
 unfoldable pub tag_part : List ℕ → Reading TagPart
 tag_part s = do
   size ← width (side s).1

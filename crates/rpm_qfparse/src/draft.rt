@@ -9,7 +9,7 @@ use crate::tree::{Bytes, Part, Parts};
 use std::alloc::{AllocError, Global};
 use std::mem;
 
-/// Parts that are read, and the literal bytes behind them.
+/// Parts that are read, and the literal bytes after them.
 #[derive(Drop)]
 pub(crate) struct Draft {
     alloc: Global,

@@ -11,7 +11,7 @@ pub enum FormatKind {
     TooLong,
     /// No `{` where a tag has to have one: at that place.
     MissingOpen,
-    /// No `}` behind a `{`, or behind a branch: at the text's end.
+    /// No `}` after a `{`, or after a branch: at the text's end.
     MissingClose,
     /// A name without a byte: where it would begin.
     EmptyTag,
@@ -29,11 +29,11 @@ pub enum FormatKind {
     UnexpectedBrace,
     /// A `[` within a bracket, in whatever conditions: there.
     NestedBracket,
-    /// No `?` behind the name of a condition: at the text's end.
+    /// No `?` after the name of a condition: at the text's end.
     QuestionExpected,
     /// No `{` in front of a branch: at that place.
     BraceExpected,
-    /// Something else than a bar, or than a `:` in front of a second branch, behind a branch: there.
+    /// Something else than a bar, or than a `:` in front of a second branch, after a branch: there.
     BarExpected,
     /// A condition within 16 others: at its `%`.
     TooDeep,

@@ -21,7 +21,7 @@ pub(crate) enum Context {
     Branch,
 }
 
-/// What a text begins with, and the bytes behind it.
+/// What a text begins with, and the bytes after it.
 #[derive(Clone, Copy)]
 pub(crate) enum Move<'a> {
     /// The context ends.
@@ -38,7 +38,7 @@ pub(crate) enum Move<'a> {
     Asks(Tag, &'a [u8]),
 }
 
-/// A condition up to its first brace, behind its bar.
+/// A condition up to its first brace, after its bar.
 #[tactic(auto, unfolding(crate::specs::Moves::condition))]
 fn condition<'a>(
     depth: u32,
@@ -64,7 +64,7 @@ fn condition<'a>(
     }
 }
 
-/// What the byte behind a backslash stands for.
+/// What the byte after a backslash stands for.
 fn escape(byte: u8) -> u8
     ensures { result ≡ escape byte }
 {
@@ -93,7 +93,7 @@ fn at_end(context: Context, text: &[u8]) -> Move<'_>
     }
 }
 
-/// What stands behind a backslash.
+/// What stands after a backslash.
 fn escaped(text: &[u8]) -> Move<'_>
     ensures value { bare_move result ≡ escaped text.now }
     ensures room { (in_bracket : Bool) (depth : ℕ) → MayOpen in_bracket depth result }
@@ -104,7 +104,7 @@ fn escaped(text: &[u8]) -> Move<'_>
     }
 }
 
-/// What stands behind a percent.
+/// What stands after a percent.
 fn percent<'a>(in_bracket: bool, depth: u32, here: &'a [u8], text: &'a [u8]) -> Move<'a>
     ensures value { bare_move result ≡ percent depth here.now text.now }
     ensures room { MayOpen in_bracket depth result }
@@ -161,7 +161,7 @@ pub(crate) fn move_at(context: Context, in_bracket: bool, depth: u32, text: &[u8
     }
 }
 
-/// Whether a second branch stands behind a first one, and what follows its brace, or else the bar.
+/// Whether a second branch stands after a first one, and what follows its brace, or else the bar.
 pub(crate) fn second_follows(text: &[u8]) -> Result<(bool, &[u8]), Fault<'_>>
     ensures { bare_reading result ≡ second_follows text.now }
 {
@@ -179,7 +179,7 @@ pub(crate) fn second_follows(text: &[u8]) -> Result<(bool, &[u8]), Fault<'_>>
     }
 }
 
-/// What follows the bar behind a second branch.
+/// What follows the bar after a second branch.
 pub(crate) fn close(text: &[u8]) -> Result<&[u8], Fault<'_>>
     ensures { bare_rest result ≡ close text.now }
 {

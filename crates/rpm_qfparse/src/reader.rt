@@ -18,7 +18,7 @@ use std::alloc::Global;
 // The greatest length of a format in bytes.
 const MAX_LENGTH: u32 = 65536;
 
-/// The branches of a condition, behind the first brace, and what follows its last bar. Within so
+/// The branches of a condition, after the first brace, and what follows its last bar. Within so
 /// many conditions, this one not counted.
 #[cycle(reading)]
 fn branches(
@@ -85,8 +85,8 @@ fn read(
 ///
 /// A backslash and one of `abfnrtv` stand for that control byte, and with any other byte for that
 /// byte; at the end of the text it stands for itself. `%%` is a percent. `%{NAME}` is a tag; in
-/// front of its brace may stand a `-` and a width up to 4,096, behind the brace a `=` or a `#`, and
-/// behind the name a `:` with the name of a formatter. `[` and `]` hold a bracket, in which no other
+/// front of its brace may stand a `-` and a width up to 4,096, after the brace a `=` or a `#`, and
+/// after the name a `:` with the name of a formatter. `[` and `]` hold a bracket, in which no other
 /// one may stand. `%|NAME?{` begins a condition; its first branch goes up to a `}`, then a second one
 /// may follow between `:{` and `}`, and a bar ends it. Conditions may stand in each other, 16 deep. All
 /// other bytes stand for themselves.

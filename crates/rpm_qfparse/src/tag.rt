@@ -1,4 +1,4 @@
-//! A tag of a format, behind its percent.
+//! A tag of a format, after its percent.
 
 ghost use Rattle.std.specs.Prelude.{◌≡◌, ◌==◌, ◌+◌, ◌≤◌, ◌<◌, length, true, nat_eq, IfSome};
 ghost use Rattle.std.specs.List.{position};
@@ -50,7 +50,7 @@ fn position(byte: u8, text: &[u8]) -> Option<usize>
     text.iter().position(|b| *b == byte)
 }
 
-/// What stands before and behind the first such byte.
+/// What stands before and after the first such byte.
 pub(crate) fn split_once(byte: u8, text: &[u8]) -> Option<(&[u8], &[u8])>
     ensures value { option_map (λ p. (p.0.now, p.1.now)) result ≡ split_once byte text.now }
     ensures within { IfSome result (λ p. length p.0.now + length p.1.now + 1 ≡ length text.now) }
@@ -136,7 +136,7 @@ fn show_of(name: &[u8]) -> Option<Show>
     show_in(&SHOWS, name)
 }
 
-/// The name of a tag, and what stands behind the first colon.
+/// The name of a tag, and what stands after the first colon.
 fn name_and_show(inside: &[u8]) -> (&[u8], Option<&[u8]>)
     ensures value { bare_cut result ≡ name_and_show inside.now }
     ensures within { IfSome result.1 (λ _. length result.0.now < length inside.now) }
@@ -147,7 +147,7 @@ fn name_and_show(inside: &[u8]) -> (&[u8], Option<&[u8]>)
     }
 }
 
-/// The formatter of a name that stands so far behind a place, where there is one.
+/// The formatter of a name that stands so far after a place, where there is one.
 fn formatter<'a>(name: Option<&[u8]>, far: usize, place: &'a [u8]) -> Result<Show, Fault<'a>>
     requires { ForSome name (λ _. far ≤ length place.now) }
     ensures { bare_part result ≡ formatter (bare_name name.entry) far place.now }
@@ -184,7 +184,7 @@ fn tag_inside<'a>(
     })
 }
 
-/// A tag behind its percent, and what follows its brace.
+/// A tag after its percent, and what follows its brace.
 #[tactic(auto, unfolding(crate::specs::Tag::tag_part))]
 pub(crate) fn tag_part(text: &[u8]) -> Result<(TagPart, &[u8]), Fault<'_>>
     ensures { bare_reading result ≡ tag_part text.now }

@@ -56,7 +56,7 @@ pub struct TagPart {
     pub tag: Tag,
     /// Which of its elements.
     pub role: Role,
-    /// Whether a text shorter than the width stands at the left, with the spaces behind it: `-` in
+    /// Whether a text shorter than the width stands at the left, with the spaces after it: `-` in
     /// front of the width.
     pub left: bool,
     /// How many bytes are printed at least, 0 to 4,096.

@@ -3,7 +3,7 @@ use Rattle.std.specs.Prelude.{◌≡◌, ℕ, ◌+◌, ◌<◌, ◌^◌, List, d
 use Rattle.rpm_tags.specs.declared.values.Class.TheVariants as class
 use Rattle.rpm_tags.specs.Value.{Elements, class_of, text_list}
 
--- of a value of texts the one at a place, and those behind it
+-- of a value of texts the one at a place, and those after it
 pub record IsReadTo (all : Elements) (present : Option (List ℕ)) (texts : List (List ℕ)) (place : ℕ) : Type 0 where
   pub are_texts : class_of all ≡ class.Text
   pub here : present ≡ slice_get (text_list all) place

@@ -1,4 +1,4 @@
--- Parts that are read, with what is read behind them.
+-- Parts that are read, with what is read after them.
 use Rattle.std.specs.Prelude.{◌≡◌, ℕ, ◌<◌, List, [], ◌∷◌, Result, Ok, Err, Bool, false}
 use Rattle.std.specs.Borrow.{Bor}
 use Rattle.rpm_qfparse.specs.declared.tree.Part.{Part}
@@ -31,7 +31,7 @@ abbrev pub IsNoText : Part → Type 0
 IsNoText (part.Text b) = ⊥
 IsNoText _ = Unit {0}
 
--- the same draft with no literal bytes behind its parts
+-- the same draft with no literal bytes after its parts
 pub record IsFlushed (old new : Draft) : Type 0 where
   pub text : new.text.items ≡ []
   pub same : (rest : Tree) → BeginsApart rest → after new rest ≡ after old rest
