@@ -26,6 +26,7 @@ mod writing;
 pub use change_fault::ChangeFault;
 pub use database::Db;
 pub use open_fault::DbOpenFault;
+pub use rpm_header::HeaderFault;
 pub use rpm_hindex::{FindFault, Hit, Hits};
 pub use rpm_pkgdb::{Damage, GetFault, Reason};
 pub use verify::Verdict;

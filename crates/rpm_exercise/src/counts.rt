@@ -16,8 +16,7 @@ ghost use Rattle.rpm_exercise.specs.Exercised.{picked, capability_named};
 use rpm_change::Halt;
 use rpm_db::Db;
 use rpm_outside::Disk;
-use rpm_select::{PickFault, Picker, Selection};
-use rpm_version::Capability;
+use rpm_select::{Capability, PickFault, Picker, Selection};
 use std::alloc::Global;
 
 /// What a fault of a picker makes of the exercise.

@@ -13,4 +13,6 @@ mod selection;
 
 pub use matching::glob;
 pub use picker::{Blob, PickFault, Picked, Picker};
+pub use rpm_header::View;
+pub use rpm_version::{BadCapability, Capability};
 pub use selection::Selection;

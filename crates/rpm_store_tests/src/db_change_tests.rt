@@ -4,8 +4,7 @@ use crate::db_tests::{Tally, named, seven};
 use crate::fixtures::{Draft, NEWER, PLAIN, change, one_package};
 use crate::index_tests::sealed_file;
 use crate::plain_disk::PlainDisk;
-use rpm_db::{ChangeFault, Db};
-use rpm_header::HeaderFault;
+use rpm_db::{ChangeFault, Db, HeaderFault};
 use rpm_outside::{Disk, File, MemDisk};
 use std::alloc::{AllocError, Global};
 

@@ -4,8 +4,7 @@ use crate::db_tests::open;
 use crate::fixtures::{Draft, generated};
 use crate::plain_disk::PlainDisk;
 use rpm_db::Db;
-use rpm_select::{Picked, Picker, Selection};
-use rpm_version::Capability;
+use rpm_select::{Capability, Picked, Picker, Selection};
 use std::alloc::{AllocError, Global};
 
 // A question by its letter.

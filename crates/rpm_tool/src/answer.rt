@@ -3,7 +3,7 @@
 ghost use Rattle.std.specs.Prelude.{◌≡◌};
 ghost use Rattle.rpm_tool.specs.Closing.{status_of};
 
-use rpm_pkgdb::Damage;
+use rpm_db::Damage;
 use rpm_qfparse::FormatFault;
 use rpm_words::WordsFault;
 

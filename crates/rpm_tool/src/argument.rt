@@ -19,8 +19,7 @@ use crate::step::{Stop, Way};
 use rpm_db::Db;
 use rpm_outside::{Buffered, Disk, File, Sink};
 use rpm_qfparse::Format;
-use rpm_select::{Picker, Selection};
-use rpm_version::Capability;
+use rpm_select::{Capability, Picker, Selection};
 use rpm_words::{Chosen, number_of};
 use std::alloc::Global;
 

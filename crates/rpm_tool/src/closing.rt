@@ -9,8 +9,8 @@ ghost use Rattle.rpm_words.specs.Words.{text_at};
 use crate::answer::Why;
 use crate::pieces::put_pieces;
 use itoa::Buffer;
+use rpm_db::{Damage, Reason};
 use rpm_outside::{Buffered, Failed, Sink, put_all};
-use rpm_pkgdb::{Damage, Reason};
 use rpm_qfparse::{FormatFault, FormatKind};
 use rpm_words::{Words, WordsFault, WordsKind};
 

@@ -31,7 +31,7 @@ mod verdicts;
 
 pub use answer::{Outcome, Why};
 pub use command::run;
-pub use rpm_pkgdb::{Damage, Reason};
+pub use rpm_db::{Damage, Reason};
 pub use rpm_qfparse::{FormatFault, FormatKind};
 pub use rpm_words::{WordsFault, WordsKind};
 pub use several::{Line, run_each};
