@@ -16,6 +16,7 @@ IsListFault found of_list.ReadFault = Unit {0}
 IsListFault found of_list.NoMemory = Unit {0}
 IsListFault found fault = found ≡ Err fault
 
+-- so is one of a package file
 abbrev pub IsFileFault : {X : Type 0} → Result X FileFault → FileFault → Type 0
 IsFileFault found of_file.ReadFault = Unit {0}
 IsFileFault found of_file.NoMemory = Unit {0}

@@ -13,13 +13,15 @@ pub record Found : Type 0 where
   pub blob : List ℕ
   pub rest : List ℕ
 
--- of a header with its magic: the magic, the number of entries, the length of the data
+-- these bytes begin with a magic, as each header of a list does
 abbrev pub has_magic : List ℕ → Bool
 has_magic bytes = starts_with nat_eq bytes magic
 
+-- how many entries they tell behind it
 abbrev pub entries_in : List ℕ → ℕ
 entries_in bytes = number_at w32 bytes 8
 
+-- and how many bytes of data
 abbrev pub data_in : List ℕ → ℕ
 data_in bytes = number_at w32 bytes 12
 
@@ -42,6 +44,7 @@ sized bytes (Ok size) =
 unfoldable pub front_header : List ℕ → Result Found ListFault
 front_header bytes = if nat_lt (length bytes) 16 then Err Short else sized bytes (size_in bytes)
 
+-- what was found is one more header of the list
 abbrev pub some_found : Result Found ListFault → Result (Option Found) ListFault
 some_found (Ok found) = Ok (Some found)
 some_found (Err fault) = Err fault

@@ -18,10 +18,12 @@ joins_as tag =
     else if tag == 1007 then Some 1046
     else None
 
+-- the form of an entry that never joins
 abbrev pub is_null : Form → Bool
 is_null form.Null = true
 is_null _ = false
 
+-- one of these entries has this tag
 abbrev pub has_tag : ℕ → List Item → Bool
 has_tag tag entries = list_any (λ e. e.tag == tag) entries
 
@@ -38,6 +40,7 @@ dribble main e = if is_null e.form then None else dribble_as main e (joins_as e.
 abbrev pub dribbles : List Item → List Item → List Item
 dribbles main signature = filter_map (dribble main) signature
 
+-- so many entries, or so many bytes of data, are more than a header may have
 abbrev pub passes_limits : ℕ → ℕ → Bool
 passes_limits count size = nat_lt max_entries count || nat_lt max_data size
 
@@ -47,5 +50,6 @@ with_entries main more =
     if passes_limits (length main.entries + length more) (length (dribbled_data main more)) then Err TooLarge
     else Ok (record { blob = dribbled main more; entries = main.entries ++ more })
 
+-- the main header with all that join it
 unfoldable pub merged : List Item → Header → Result Header FileFault
 merged signature main = with_entries main (dribbles main.entries signature)

@@ -17,6 +17,7 @@ use Rattle.rpm_file.specs.Merging.{merged}
 
 -- ---- the lead
 
+-- the first four bytes of each package file
 abbrev pub lead_magic : List ℕ
 lead_magic = 0xed ∷ 0xab ∷ 0xee ∷ 0xdb ∷ []
 
@@ -33,6 +34,7 @@ behind_lead bytes =
 
 -- ---- the two headers
 
+-- a fault of a header, which tells the one of the two that has it
 abbrev pub fault_in : HeaderKind → HeaderFault → FileFault
 fault_in part.Signature fault = Signature fault
 fault_in part.Main fault = Main fault
@@ -51,14 +53,17 @@ pub record Headed : Type 0 where
   pub header : Header
   pub rest : List ℕ
 
+-- a header that has no fault, with the bytes that follow it
 abbrev pub with_rest : {E : Type 0} → Result Header E → List ℕ → Result Headed E
 with_rest (Ok h) rest = Ok (record { header = h; rest = rest })
 with_rest (Err fault) rest = Err fault
 
+-- what has no fault as it is, and a fault of a header as one of the file
 abbrev pub or_fault_in : {X : Type 0} → HeaderKind → Result X HeaderFault → Result X FileFault
 or_fault_in p (Ok x) = Ok x
 or_fault_in p (Err fault) = Err (fault_in p fault)
 
+-- the bytes that were found, as a header and what follows it
 abbrev pub headed_of : HeaderKind → Result Found ListFault → Result Headed FileFault
 headed_of p (Err fault) = Err (early_fault p fault)
 headed_of p (Ok found) = with_rest (or_fault_in p (header found.blob)) found.rest
@@ -72,6 +77,7 @@ abbrev pub entries_or_none : Result Header HeaderFault → List Item
 entries_or_none (Ok h) = h.entries
 entries_or_none (Err fault) = []
 
+-- the header that these bytes are
 abbrev pub read_again : List ℕ → Header
 read_again bytes = record { blob = bytes; entries = entries_or_none (header bytes) }
 
@@ -81,6 +87,7 @@ read_again bytes = record { blob = bytes; entries = entries_or_none (header byte
 abbrev pub padding_of : List ℕ → ℕ
 padding_of blob = next_multiple_of (length blob) 8 - length blob
 
+-- what follows the padding of this header
 unfoldable pub behind_padding : List ℕ → List ℕ → Result (List ℕ) FileFault
 behind_padding blob bytes =
     if nat_lt (length bytes) (padding_of blob) then Err Short
@@ -93,6 +100,7 @@ abbrev pub joined_by : List Item → Result Headed FileFault → Result Headed F
 joined_by signature (Err fault) = Err fault
 joined_by signature (Ok main) = with_rest (merged signature main.header) main.rest
 
+-- the main header where the padding ends
 abbrev pub main_at : List Item → Result (List ℕ) FileFault → Result Headed FileFault
 main_at signature (Err fault) = Err fault
 main_at signature (Ok bytes) = joined_by signature (headed part.Main bytes)
@@ -101,10 +109,12 @@ main_at signature (Ok bytes) = joined_by signature (headed part.Main bytes)
 unfoldable pub behind_signature : Header → List ℕ → Result Headed FileFault
 behind_signature signature bytes = main_at signature.entries (behind_padding signature.blob bytes)
 
+-- and behind a signature header that has no fault
 abbrev pub after_signature : Result Headed FileFault → Result Headed FileFault
 after_signature (Err fault) = Err fault
 after_signature (Ok signature) = behind_signature signature.header signature.rest
 
+-- which stands where the lead ends
 abbrev pub signature_at : Result (List ℕ) FileFault → Result Headed FileFault
 signature_at (Err fault) = Err fault
 signature_at (Ok bytes) = after_signature (headed part.Signature bytes)

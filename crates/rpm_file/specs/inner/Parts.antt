@@ -46,6 +46,7 @@ IsMadeFault made of_file.NoMemory = Unit {0}
 IsMadeFault made of_file.TooLarge = made ≡ Err of_file.TooLarge
 IsMadeFault made _ = ⊥
 
+-- the header is the one that is to be made, or there is a fault
 abbrev pub AnswersMade : Result Header FileFault → Result Header FileFault → Type 0
 AnswersMade made (Ok h) = made ≡ Ok h
 AnswersMade made (Err fault) = IsMadeFault made fault
