@@ -35,7 +35,7 @@ module _ (l : List Range) (apart : AreApart 1 l) (count from k block : ℕ) (pas
         ];
       }
 
-  -- behind the last run only the limit ends a place
+  -- after the last run only the limit ends a place
   pub none_fits : k ≡ length l → (block + count ≤ block_limit → ⊥) → IsLeastFit l count from None
   none_fits all over b more fits = elim (cases_lt b block) [
     | inl before ↦ passed.none b more before fits

@@ -10,7 +10,7 @@ use Rattle.rpm_blocks.specs.inner.Places.{IsPlace, IsGap}
 use Rattle.rpm_blocks.proofs.Cuts.{free_of_gap}
 use Rattle.rpm_blocks.proofs.Edits.{gap_of_place, gap_removed, apart_insert}
 
--- a range that is put in before those that begin above it, and behind the others
+-- a range that is put in before those that begin above it, and after the others
 pub insert_is_with_range : (l : List Range) (at : ℕ) (r : Range) → at ≤ length l → ((i : ℕ) → i < at → (range_at l i).start ≤ r.start)
     → ((i : ℕ) → at ≤ i → i < length l → r.start < (range_at l i).start) → insert l at r ≡ with_range r l
 insert_is_with_range [] zero r in_range below above = refl

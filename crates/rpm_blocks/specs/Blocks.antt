@@ -15,7 +15,7 @@ pub record Blocks : Type 0 where
 abbrev pub range : ℕ → ℕ → Range
 range start count = record { start = start; count = count }
 
--- the block behind the last of a range
+-- the block after the last of a range
 abbrev pub end_of : Range → ℕ
 end_of r = r.start + r.count
 
@@ -41,7 +41,7 @@ pub record IsRange (r : Range) : Type 0 where
   pub filled : 1 ≤ r.count
   pub bounded : end_of r ≤ block_limit
 
--- the ranges rise, and each begins at least so many blocks behind the end of those before it:
+-- the ranges rise, and each begins at least so many blocks after the end of those before it:
 -- with a gap of 0 no two share a block, and with a gap of 1 none touches the next
 pub record AreApart (gap : ℕ) (l : List Range) : Type 0 where
   pub apart : (i j : ℕ) → i < j → j < length l → end_of (range_at l i) + gap ≤ (range_at l j).start

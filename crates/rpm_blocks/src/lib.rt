@@ -26,7 +26,7 @@ pub struct Range {
 }
 
 impl Range {
-    // The block behind the last.
+    // The block after the last.
     fn end(self) -> u32
         requires { end_of self < 2 ^ 32 }
         ensures { result ≡ end_of self }
@@ -114,7 +114,7 @@ impl Used {
     /// Adds a range, which meets no other. Takes no memory.
     ///
     /// Asks for room, for a block at least, for an end at or below the limit, and that no block of it is used.
-    /// Two binary searches, and the ranges and runs above it move: neither, where it is behind the last.
+    /// Two binary searches, and the ranges and runs above it move: neither, where it is after the last.
     #[inline]
     pub fn insert(&mut self, start: u32, count: u32)
         requires room { 1 ≤ self.old.spare }

@@ -1,11 +1,11 @@
--- The argument at a place, and those behind it.
+-- The argument at a place, and those after it.
 use Rattle.std.proofs.Common.{◌≡◌, ℕ, ◌+◌, ◌<◌, ◌≤◌, List, length, drop, get_or, add-one, refl, ap, ◌∙◌}
 use Rattle.std.proofs.lemmas.List.{drop_all}
 use Rattle.std.proofs.Math.Seq.{drop-cons}
 use Rattle.rpm_db.specs.State.{State}
 use Rattle.rpm_change.specs.Steps.{Course, idle, joined, apply_all, in_turn}
 
--- the argument at a place and those behind it
+-- the argument at a place and those after it
 pub turn_next : {X : Type 0} (each : State → ℕ → X → Course) (xs : List X) (k : ℕ) (d : X) (t u : State) → k < length xs
     → u ≡ apply_all (each t k (get_or xs k d)).changes t
     → in_turn each t k (drop k xs) ≡ joined (each t k (get_or xs k d)) (in_turn each u (k + 1) (drop (k + 1) xs))

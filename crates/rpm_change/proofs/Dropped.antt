@@ -79,7 +79,7 @@ serving_looked old new past since before now db u moment s =
       settled = λ image left. s.settled image (here image left);
     })
 
--- and after the index was made anew
+-- and after the index was rebuilt
 pub serving_remade : (old new : Files) (images : Files → Type 0) (before after : Database) → Remade old new → after.store ≡ before.store
     → Keeps old.pkg before → KeepsIndex new.idx after → IsSettled Pkg new images → IsSettled Idx new images → IsServing new images after
 serving_remade old new images before after made store keeps index pkg idx =

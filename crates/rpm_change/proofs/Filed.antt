@@ -74,7 +74,7 @@ bytes path = path.now
 abbrev pub nothing : Bor (List ℕ)
 nothing = record { ref_ptr = (0, 0); now = [] }
 
--- the path at a place and those behind it
+-- the path at a place and those after it
 pub path_next : (each : State → ℕ → List ℕ → Course) (paths : List (Bor (List ℕ))) (k : ℕ) (t u : State) → k < length paths
     → u ≡ apply_all (each t k (bytes (get_or paths k nothing))).changes t
     → in_turn each t k (map bytes (drop k paths))

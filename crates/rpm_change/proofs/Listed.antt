@@ -58,7 +58,7 @@ enough (suc n) (suc m) (x ∷ xs) a b =
     next_same (listed_in n) (listed_in m) (list_head (x ∷ xs))
     (λ found is. let less = shorter x xs found is in enough n m found.rest (omega arith) (omega arith))
 
--- what stands in front, and then the list behind it
+-- what stands in front, and then the list after it
 pub listed_step : (bytes : List ℕ) → listed bytes ≡ listed_next listed (list_head bytes)
 listed_step [] = refl
 listed_step (x ∷ xs) =
@@ -79,13 +79,13 @@ split_next most k (Ok None) is_last left leaves = rw leaves refl
 split_next most k (Ok (Some found)) is_last left leaves = found_split most k found is_last (nat_lt most k) left refl leaves.0 leaves.1
 split_next most k (Err fault) is_last left leaves = rw leaves refl
 
--- one turn, and what is left behind it
+-- one turn, and what is left after it
 pub turn_splits : (most k : ℕ) (bytes : List ℕ) (is_last : Bool) (left : List ℕ) → Leaves most k (list_head bytes) is_last left
     → from_place false most k (listed bytes) ≡ joined (turn most k (list_head bytes)) (from_place is_last most (k + 1) (listed left))
 turn_splits most k bytes is_last left leaves =
     ap (from_place false most k) (listed_step bytes) ∙ split_next most k (list_head bytes) is_last left leaves
 
--- whatever stands in front, something is left behind it
+-- whatever stands in front, something is left after it
 pub turn_ahead : (most k : ℕ) (r : Result (Option Found) ListFault) → (is_last : Bool) × ((left : List ℕ) × Leaves most k r is_last left)
 turn_ahead most k (Ok None) = (true, ([], refl))
 turn_ahead most k (Ok (Some found)) = (nat_lt most k, (found.rest, (refl, refl)))

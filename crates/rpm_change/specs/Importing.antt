@@ -23,7 +23,7 @@ ending fault = record { blobs = []; fault = fault }
 abbrev pub with_blob : List ℕ → Listed → Listed
 with_blob blob others = record { blobs = blob ∷ others.blobs; fault = others.fault }
 
--- given what stands in front of the bytes, and what the bytes behind it are
+-- given what stands in front of the bytes, and what the bytes after it are
 abbrev pub listed_next : (List ℕ → Listed) → Result (Option Found) ListFault → Listed
 listed_next others (Ok None) = ending None
 listed_next others (Ok (Some found)) = with_blob found.blob (others found.rest)

@@ -12,7 +12,7 @@ use Rattle.rpm_file.specs.Merging.{with_entries}
 abbrev pub install_items : ℕ → List Item
 install_items now = numbers_item 1008 form.Int32 (now ∷ []) ∷ numbers_item 1128 form.Int32 (now ∷ []) ∷ []
 
--- they stand behind the header's own entries, unless a limit of headers would be passed
+-- they stand after the header's own entries, unless a limit of headers would be passed
 abbrev pub installed : ℕ → Header → Result Header FileFault
 installed now h = with_entries h (install_items now)
 

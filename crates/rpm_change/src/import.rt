@@ -280,7 +280,7 @@ fn counted_once(done: Result<Tally, Halt>) -> Result<Tally, Halt>
     }
 }
 
-/// Imports the list under the path `-` as [`import_list`] does, of at most `most` headers, which are below 2^31: a header behind them ends the
+/// Imports the list under the path `-` as [`import_list`] does, of at most `most` headers, which are below 2^31: a header after them ends the
 /// list with a line of its own.
 pub fn import_most<D: Disk, S: Shelf, E: Sink + Drop>(
     alloc: Global,

@@ -23,7 +23,7 @@ fn install_entries(alloc: Global, now: u32) -> Result<Builder, AllocError>
     Ok(extra)
 }
 
-/// A package's header with `INSTALLTIME` and `INSTALLTID` behind its entries, both `now` in seconds since 1970. Copies the header once.
+/// A package's header with `INSTALLTIME` and `INSTALLTID` after its entries, both `now` in seconds since 1970. Copies the header once.
 ///
 /// # Errors
 ///

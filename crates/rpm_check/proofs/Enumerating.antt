@@ -64,7 +64,7 @@ not_back n i u v first second = grind (arith, nat_tests)
 not_own : (u : Unmet) → is_above u.number u.place u ≡ false
 not_own u = grind (arith, nat_tests)
 
--- behind the first above a pair stand those above it
+-- after the first above a pair stand those above it
 behind_first : (n i : ℕ) (us : List Unmet) → Rises us → (u : Unmet) (rest : List Unmet) → filter (is_above n i) us ≡ u ∷ rest
     → rest ≡ filter (is_above u.number u.place) us
 behind_first n i [] rises u rest is = absurd cc

@@ -19,7 +19,7 @@ use Rattle.rpm_check.specs.inner.Nodes.{AreRising, numbers_of, edges_of}
 use Rattle.rpm_check.proofs.Ending.{good_in, no_edges}
 use Rattle.rpm_check.proofs.Members.{among}
 
--- ---- one more behind them
+-- ---- one more after them
 
 rising_push : (xs : List ℕ) (x : ℕ) → IsRising xs → All (λ (n : ℕ). n < x) xs → IsRising (xs ++ x ∷ [])
 rising_push xs x rises below i j less lt =

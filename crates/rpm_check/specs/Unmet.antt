@@ -96,7 +96,7 @@ is_above n i u = nat_lt n u.number || (u.number == n && nat_lt i u.place)
 unfoldable pub unmet_after : FinMap nat_cmp Package → ℕ → ℕ → List Unmet
 unmet_after packages n i = filter (is_above n i) (unmet packages)
 
--- the least one above (n, i), behind which those above it stand; None says that there is none
+-- the least one above (n, i), after which those above it stand; None says that there is none
 abbrev pub IsNextUnmet : FinMap nat_cmp Package → ℕ → ℕ → Option Unmet → Type 0
 IsNextUnmet packages n i None = unmet_after packages n i ≡ []
 IsNextUnmet packages n i (Some u) = unmet_after packages n i ≡ u ∷ unmet_after packages u.number u.place

@@ -26,7 +26,7 @@ use rpm_outside::Disk;
 use rpm_tags::{Dependency, dependencies};
 use std::alloc::Global;
 
-/// Adds numbers behind those that are there.
+/// Adds numbers after those that are there.
 fn push_all(ends: &mut Vec<u32>, numbers: &[u32]) -> Result<(), CheckFault>
     ensures told { OnOk result (ends.new.items ≡ ends.old.items ++ numbers.now) }
     ensures refused { OnErr result (result ≡ Err CheckFault.NoMemory) }

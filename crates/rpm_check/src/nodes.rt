@@ -27,7 +27,7 @@ pub struct Node {
     pub ends: Vec<u32>,
 }
 
-/// Puts a package behind those that are there, if it can be read.
+/// Puts a package after those that are there, if it can be read.
 fn push_node<D: Disk>(
     alloc: Global,
     db: &Db,

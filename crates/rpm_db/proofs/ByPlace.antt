@@ -15,7 +15,7 @@ use Rattle.rpm_db.specs.State.{Package, Good, Bad}
 use Rattle.rpm_db.specs.inner.Places.{StandsBeforeAll, AreByPlace}
 use Rattle.rpm_db.specs.inner.Writes.{old_rows}
 
--- ---- rows of one kind, behind another kind's
+-- ---- rows of one kind, after another kind's
 
 abbrev AreOfKind : ℕ → List Row → Type 0
 AreOfKind kind [] = Unit {0}

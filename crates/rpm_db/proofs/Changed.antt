@@ -1,4 +1,4 @@
--- What stops leave while a change is made.
+-- What crashes leave while a change is made.
 use Rattle.std.proofs.Common.{◌≡◌, inl, inr, ℕ, ◌+◌, ◌<◌, eqb, sym, ap, ◌∙◌, subst, arith}
 use Rattle.std.specs.FinMap as finite
 use Rattle.std.specs.Ordering.{nat_cmp}
@@ -55,7 +55,7 @@ now_lawful g f B pkg idx s has at = inr (
 later_lawful : (g f : ℕ) (B : BlobMap) (pkg idx : Units) → StandsFor g f B pkg → sealed (unit_at idx 0) < g → IsLawful pkg idx
 later_lawful g f B pkg idx s early = inr (s.value, s.undamaged, earlier_agrees s.value pkg idx (omega (arith, early, s.generation_is)))
 
--- the index that is sealed behind a change
+-- the index that is sealed after a change
 pub rows_sealed : (g : ℕ) (packages : finite.FinMap nat_cmp Package) (work : Work) (file idx : Units) → WritesRows (rows packages) work file
     → IsSealedAfter g work file idx → HasRows packages idx × (sealed (unit_at idx 0) ≡ g)
 rows_sealed g packages work file idx w s =

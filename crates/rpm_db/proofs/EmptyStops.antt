@@ -1,4 +1,4 @@
--- What a stop leaves while a database is made.
+-- What a crash leaves while a database is made.
 use Rattle.std.proofs.Common.{◌≡◌, ℕ, Ok, sym, ap, ◌∙◌, subst, inl, inr}
 use Rattle.rpm_outside.specs.declared.disk.File.TheVariants.{Pkg}
 use Rattle.rpm_outside.specs.Files.{Units, Files, unit_at, blank}

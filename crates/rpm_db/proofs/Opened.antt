@@ -65,7 +65,7 @@ settled_quiet value files images keeps settled image here = record {
   blocks = λ k i used from below. ap (λ (u : Units). unit_at u i) (settled image here);
 }
 
--- Packages.db stays settled where the index is made anew
+-- Packages.db stays settled where the index is rebuilt
 module _ {D : Type 0} (tells : Bool) (files : D → Files) (left_since : D → ℕ → Files → Type 0) (moment : D → ℕ)
     (bytes_read : D → File → ℕ) (follows : D → D → Type 0) where
   pub still_settled : (a b : D) → IsTrue tells → Runs tells files left_since moment bytes_read follows Remade a b
@@ -88,6 +88,6 @@ module _ {D : Type 0} (tells : Bool) (files : D → Files) (left_since : D → �
       → Runs tells files left_since moment bytes_read follows Remade a b
   runs_read most a b looks = runs_looks tells files left_since moment bytes_read follows Remade remade_none Pkg most a b refl looks
 
-  -- and what stops leave of it is lawful, where the images at the start are
+  -- and what crashes leave of it is lawful, where the images at the start are
   pub stays_lawful : (a b : D) → IsTrue tells → Runs tells files left_since moment bytes_read follows Remade a b → StaysLawful moment left_since a b
   stays_lawful a b told run lawful = stops_lawful moment left_since a b lawful (run.any_moment told)

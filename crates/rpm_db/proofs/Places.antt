@@ -60,7 +60,7 @@ before_rest [] i by_place within = absurd (omega (arith, within))
 before_rest (r ∷ rs) zero by_place within = by_place.0
 before_rest (r ∷ rs) (suc i) by_place within = before_rest rs i by_place.1 (omega (arith, within))
 
--- a row that isn't behind row i, and isn't row i, is none of those from row i on
+-- a row that isn't after row i, and isn't row i, is none of those from row i on
 pub none_from : (r : Row) (rows : List Row) (i : ℕ) → AreByPlace rows → i < length rows → StandsNotBehind r (row_nth rows i)
     → same_row r (row_nth rows i) ≡ false → times r (drop i rows) ≡ 0
 none_from r rows i by_place within at other =

@@ -46,7 +46,7 @@ pub record IsPutPlan (value planned : Store) (n : Option ℕ) (plan : Plan) (byt
   pub asked : IsFor n (length blob) plan
   pub own : bytes ≡ blob
 
--- the blobs behind it
+-- the blobs after it
 abbrev put_map : Units → Store → Option ℕ → List ℕ → BlobMap
 put_map file value n blob = finite.insert (blobs file value) (number_for n value) (Some blob)
 
@@ -71,7 +71,7 @@ module _ {D : Type 0} (tells : Bool) (files : D → Files) (left_since : D → �
   abbrev images : D → Files → Type 0
   images d = left_since d (moment d)
 
-  -- what stops leave, whatever the writing answers
+  -- what crashes leave, whatever the writing answers
   pub stops_planned : (a b d : D) → IsTrue tells → AreLawful (images a) → Runs tells files left_since moment bytes_read follows SameFiles a b
       → (value : Store) (work : Work) (was goes after : BlobMap) (field next last : ℕ) → was ≡ blobs (files a).pkg value → field ≡ value.field
       → goes ≡ after → next ≡ last → HasRows (packages (files a).pkg value) (files a).idx → WritesRows (rows (packages_of after)) work (files a).idx

@@ -22,7 +22,7 @@ use Rattle.rpm_db.proofs.Edited.{rows_put, blobs_room, number_is, field_is}
 
 -- ---- the rows that change, as the planned value says them
 
--- the blobs, in the file as it reads behind the plan
+-- the blobs, in the file as it reads after the plan
 pub blobs_planned : (file mid : Units) → mid ≡ file → (value planned : Store) → planned ≡ with_spare planned.spare value
     → blobs mid planned ≡ blobs file value
 blobs_planned file mid here value planned same =
@@ -57,7 +57,7 @@ rows_planned file value planned same n number is h own =
 
 -- ---- what is written
 
--- the blobs behind a plan
+-- the blobs after a plan
 pub map_planned : (file mid : Units) → mid ≡ file → (value planned : Store) → planned ≡ with_spare planned.spare value → (n : Option ℕ) (length : ℕ)
     (plan : Plan) → IsPlan planned plan → IsFor n length plan → (bytes blob : List ℕ) → bytes ≡ blob
     → finite.insert (blobs mid planned) plan.target.number (Some bytes) ≡ finite.insert (blobs file value) (number_for n value) (Some blob)

@@ -1,4 +1,4 @@
--- An index that was made anew, as a value keeps it.
+-- An index that was rebuilt, as a value keeps it.
 use Rattle.std.proofs.Common.{◌≡◌, ℕ, Bool, true, Option, Some, None, is_some, sym, ap, ◌∙◌}
 use Rattle.rpm_outside.specs.declared.disk.File.TheVariants.{Pkg, Idx}
 use Rattle.rpm_outside.specs.Changes.{IsSettled}

@@ -5,7 +5,7 @@ use Rattle.rpm_db.specs.declared.change_fault.ChangeFault.TheVariants.{BadHeader
 use Rattle.rpm_db.specs.Database.{Database, holds}
 use Rattle.rpm_db.specs.Refusals.{LaterCause, EraseCause, IsOfIndex, IsRefusal, is_stopping}
 
--- behind the generation and the room in the store
+-- after the generation and the room in the store
 pub later_of_index : (generation : ℕ) (full : Type 0) (fault : ChangeFault) → IsOfIndex fault → (generation ≡ 4294967295 → ⊥) → ¬ full
     → LaterCause generation full fault
 later_of_index generation full (BadHeader f) is left fits = absurd is

@@ -16,7 +16,7 @@ some_is : {X : Type 0} (said : Option X) (x : X) → said ≡ Some x → IsSome 
 some_is None x is = absurd cc
 some_is (Some y) x is = refl
 
--- the index comes behind a place
+-- the index comes after a place
 pub room_of_index : {X : Type 0} (said : Option X) (x : X) (fault : ChangeFault) → IsOfIndex fault → said ≡ Some x → RoomCause said fault
 room_of_index said x (BadHeader f) kind is = tt
 room_of_index said x NoSuch kind is = tt

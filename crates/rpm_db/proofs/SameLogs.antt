@@ -19,7 +19,7 @@ module _ {D : Type 0} (tells : Bool) (files : D → Files) (left_since : D → �
   abbrev Run : (Files → Files → Type 0) → D → D → Type 0
   Run = Runs tells files left_since moment bytes_read follows
 
-  -- where the index is made anew
+  -- where the index is rebuilt
   pub log_remade : (a b : D) → Run Remade a b → Run SameLog a b
   log_remade a b run =
       let later : (image : Files) → CameOf Remade (images a) image → CameOf SameLog (images a) image =

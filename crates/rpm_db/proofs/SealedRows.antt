@@ -21,7 +21,7 @@ module _ (g : ℕ) (work : Work) (file : Units) where
   unsealed_yet x y (inl void) = inl void
   unsealed_yet x y (inr seal) = inr (inl seal)
 
-  -- behind it
+  -- after it
   pub sealed_now : (unit : List ℕ) (y z : Units) → unit ≡ seal_unit g (buckets_after work) → IsWritten y → z ≡ put 0 (unit ∷ []) y
       → IsSealedAfter g work file z
   sealed_now unit y z is w new =

@@ -1,4 +1,4 @@
--- What holds behind calls that wrote nothing, and what stops leave of them.
+-- What holds after calls that wrote nothing, and what crashes leave of them.
 use Rattle.std.proofs.Common.{◌≡◌, ◌⊎◌, inl, inr, ℕ, Bool, sym, ap, ◌∙◌, subst}
 use Rattle.std.specs.Prelude.{IsTrue}
 use Rattle.rpm_outside.specs.declared.disk.File.{File}

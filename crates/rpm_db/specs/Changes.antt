@@ -1,4 +1,4 @@
--- Changes of a database: what each makes of its state, and what stops leave meanwhile.
+-- Changes of a database: what each makes of its state, and what crashes leave meanwhile.
 use Rattle.std.specs.Prelude.{◌≡◌, ◌⊎◌, ℕ, ◌+◌, List, [], ◌∷◌, ◌≤◌, max, true, Option, Some, None, Ok}
 use Rattle.std.specs.FinMap as finite
 use Rattle.rpm_outside.specs.declared.disk.File.TheVariants.{Idx}
@@ -34,7 +34,7 @@ apply (Add bytes) s = record { packages = finite.insert s.packages (next s) (Goo
 apply (Put n bytes) s = record { packages = finite.insert s.packages n (Good bytes); field = s.field }
 apply (Erase n) s = record { packages = finite.remove s.packages n; field = s.field }
 
--- ---- what stops leave
+-- ---- what crashes leave
 
 -- the state before a change, the packages before it with the field after it, or the state after it
 abbrev pub IsBetween : State → State → State → Type 0

@@ -38,7 +38,7 @@ IsLawful pkg idx = (store pkg ≡ Ok blank_store) ⊎ ((value : Store) × (store
 abbrev pub AreLawful : (Files → Type 0) → Type 0
 AreLawful images = (image : Files) → images image → IsLawful image.pkg image.idx
 
--- ---- an index that is made anew
+-- ---- an index that is rebuilt
 
 -- an index that is sealed at the generation of this Packages.db and holds the rows of its packages
 pub record IsIndexOf (pkg idx : Units) : Type 0 where
@@ -76,7 +76,7 @@ pub record IsLawfulStill (images : Files → Type 0) (image : Files) : Type 0 wh
   pub log : image.log ≡ from.log
   pub lawful : IsLawful image.pkg image.idx
 
--- a stop at any moment since then leaves such an image, where those at the start are lawful
+-- a crash at any moment since then leaves such an image, where those at the start are lawful
 abbrev pub StaysLawful : {D : Type 0} → (D → ℕ) → (D → ℕ → Files → Type 0) → D → D → Type 0
 StaysLawful moment left_since old new =
     AreLawful (left_since old (moment old)) → LeavesOnly moment left_since old new (IsLawfulStill (left_since old (moment old)))

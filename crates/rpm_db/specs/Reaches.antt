@@ -16,10 +16,10 @@ added s (Erase n) = 0
 abbrev pub needed : State → Change → ℕ
 needed s change = units_for (rows (apply change s).packages)
 
--- the file gets those records behind what it has, or is made from scratch; it never gets shorter
+-- the file gets those records after what it has, or is made from scratch; it never gets shorter
 abbrev pub Reaches : State → Change → Units → Units → Type 0
 Reaches s change old new = length new ≤ max (length old + added s change) (needed s change)
 
--- the file has what it had, or so many units: those of an index that was made anew
+-- the file has what it had, or so many units: those of an index that was rebuilt
 abbrev pub ReachesMade : ℕ → Units → Units → Type 0
 ReachesMade needed old new = length new ≤ max (length old) needed

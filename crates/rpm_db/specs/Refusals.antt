@@ -11,7 +11,7 @@ use Rattle.rpm_db.specs.declared.change_fault.ChangeFault.TheVariants.{BadHeader
 use Rattle.rpm_db.specs.Database.{Database, holds, next_number}
 use Rattle.rpm_db.specs.Lawful.{IsWholeIndex}
 
--- behind the header and the number: the generation, and then the room in the store; the index comes last
+-- after the header and the number: the generation, and then the room in the store; the index comes last
 abbrev pub LaterCause : ℕ → Type 0 → ChangeFault → Type 0
 LaterCause generation full GenerationSpent = generation ≡ 4294967295
 LaterCause generation full StoreFull = (generation ≢ 4294967295) × full

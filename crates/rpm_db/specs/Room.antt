@@ -17,7 +17,7 @@ next_store (Add bytes) value = put_in None (length bytes) (raised value)
 next_store (Put n bytes) value = put_in (Some n) (length bytes) (raised value)
 next_store (Erase n) value = Some (erased n (raised value))
 
--- the store is full exactly where there is none, and the index comes behind it
+-- the store is full exactly where there is none, and the index comes after it
 abbrev pub RoomCause : {X : Type 0} → Option X → ChangeFault → Type 0
 RoomCause said StoreFull = said ≡ None
 RoomCause said (IndexFull needed) = IsSome said

@@ -96,7 +96,7 @@ impl Db {
     /// packages where it isn't current. A database that is blank is opened without an index, and nothing is written.
     ///
     /// No file is settled but an index that is made. Reads the slot pages of `Packages.db`, each byte once, and two units of `Hindex.db`;
-    /// and where the index must be made the blocks of each package, each once. All memory is taken before the first write. A stop at any
+    /// and where the index must be made the blocks of each package, each once. All memory is taken before the first write. A crash at any
     /// moment leaves the packages as they were, and an index that is as it was, void, or current with the rows of the packages.
     ///
     /// # Errors

@@ -27,13 +27,13 @@ use rpm_outside::Disk;
 use std::alloc::Global;
 
 impl Db {
-    /// Adds a header under the next number, and answers it. Bytes behind the header aren't kept.
+    /// Adds a header under the next number, and answers it. Bytes after the header aren't kept.
     ///
     /// Both files are planned first, and all memory is taken. Then the generation rises; the blob, its slot and the number field are
     /// written; then its rows; and then the seal. Where no slot is free a slot page is added before, and the blobs in its way move: each
     /// of their blocks is read once. Nothing else of `Packages.db` is read.
     ///
-    /// A stop at any moment leaves a database that is lawful, with the packages from before or with this one.
+    /// A crash at any moment leaves a database that is lawful, with the packages from before or with this one.
     ///
     /// # Errors
     ///
@@ -101,12 +101,12 @@ impl Db {
         self.put_view(alloc, disk, None, &view)
     }
 
-    /// Puts a header in place of the package that a number has, Good or Bad. Bytes behind the header aren't kept.
+    /// Puts a header in place of the package that a number has, Good or Bad. Bytes after the header aren't kept.
     ///
     /// Both files are planned first, and all memory is taken; of `Packages.db` the blocks of the old package are read, each once. Then the
     /// generation rises; the blob and its slot are written; then the rows that change; and then the seal.
     ///
-    /// A stop at any moment leaves a database that is lawful, with the old package or the new one.
+    /// A crash at any moment leaves a database that is lawful, with the old package or the new one.
     ///
     /// # Errors
     ///
@@ -182,7 +182,7 @@ impl Db {
     /// The index is planned first, and all memory is taken; of `Packages.db` the blocks of the package are read, each once. Then the
     /// generation rises; the slot is set free and the blocks become zeros; then the rows are taken out; and then the seal is written.
     ///
-    /// A stop at any moment leaves a database that is lawful, with the package or without it.
+    /// A crash at any moment leaves a database that is lawful, with the package or without it.
     ///
     /// # Errors
     ///

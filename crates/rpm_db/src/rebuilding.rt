@@ -65,7 +65,7 @@ fn remake<D: Disk>(
 impl Db {
     /// Makes the index from the packages, whatever it was, and seals it at the present generation.
     ///
-    /// Settles both files first, and reads the blocks of each package once. All memory is taken before the first write. A stop at any moment
+    /// Settles both files first, and reads the blocks of each package once. All memory is taken before the first write. A crash at any moment
     /// leaves the packages as they were, and an index that is as it was, void, or current with the rows of the packages. Then the value
     /// serves: it can be changed.
     ///

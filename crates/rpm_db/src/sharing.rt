@@ -1,4 +1,4 @@
-//! Rows that a package has before a change and behind it: they stay as they are.
+//! Rows that a package has before a change and after it: they stay as they are.
 
 ghost use Rattle.std.specs.Prelude.{◌≡◌, ◌<◌, ◌++◌, ◌∷◌, [], true, false, length, drop, OnOk, IfOk};
 ghost use Rattle.rpm_hindex.specs.Rows.{same_row, row_nth};

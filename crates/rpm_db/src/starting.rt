@@ -106,7 +106,7 @@ impl Db {
     /// number field 1.
     ///
     /// Writes the index without rows and settles it, then the first page, and then the seal; reads two units of `Hindex.db`, and takes all
-    /// memory before the first write. A stop at any moment leaves a blank database, or one that is made and empty.
+    /// memory before the first write. A crash at any moment leaves a blank database, or one that is made and empty.
     ///
     /// # Errors
     ///

@@ -1,4 +1,4 @@
-//! Writing a change: the store behind a raise of its generation, and then the index.
+//! Writing a change: the store after a raise of its generation, and then the index.
 
 ghost use Rattle.std.specs.Prelude.{◌≡◌, ℕ, ◌+◌, ◌<◌, ◌≤◌, ◌^◌, max, IsTrue, IsSome, true, false, length, Some, OnOk, OnErr, IfOk};
 ghost use Rattle.std.specs.FinMap as finite;

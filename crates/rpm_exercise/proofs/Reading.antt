@@ -15,13 +15,13 @@ module _ {D : Type 0} (d : disk.Ghosts D) (trans : (x y z : D) → d.follows x y
   abbrev Run : (Files → Files → Type 0) → D → D → Type 0
   Run = Runs d.tells d.files d.left_since d.moment d.bytes_read d.follows
 
-  -- one behind another that only reads
+  -- one after another that only reads
   pub reads_on : (x y z : D) → Run SameFiles x y → Run SameFiles y z → Run SameFiles x z
   reads_on x y z =
       runs_then d.tells d.files d.left_since d.moment d.bytes_read d.follows trans SameFiles SameFiles SameFiles x y z
       (λ f g same. same) (λ f g h first second. second ∙ first)
 
-  -- and behind one that writes
+  -- and after one that writes
   pub read_after : (x y z : D) → Run SameLog x y → Run SameFiles y z → Run SameLog x z
   read_after x y z =
       runs_then d.tells d.files d.left_since d.moment d.bytes_read d.follows trans SameLog SameFiles SameLog x y z

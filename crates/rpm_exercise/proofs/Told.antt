@@ -33,7 +33,7 @@ rows_same f g db same r = subst (λ (h : Files). HasIndexRows db h.pkg h.idx) (s
 pub packages_same : (f g : Files) (db : Database) → g ≡ f → packages g.pkg db.store ≡ packages f.pkg db.store
 packages_same f g db same = ap (λ (h : Files). packages h.pkg db.store) same
 
--- the index was made anew
+-- the index was rebuilt
 pub state_remade : (old new : Files) (before after : Database) → Remade old new → after.store ≡ before.store
     → state new.pkg after.store ≡ state old.pkg before.store
 state_remade old new before after made store =

@@ -60,6 +60,6 @@ lines_end line text all c n past so =
 pub told_of : (say : finite.FinMap nat_cmp Package → List ℕ) (p q : finite.FinMap nat_cmp Package) (text : List ℕ) → p ≡ q → text ≡ say p → text ≡ say q
 told_of say p q text same is = is ∙ ap say same
 
--- one text behind the other
+-- one text after the other
 pub three_told : (a b d x y z : List ℕ) → x ≡ a → y ≡ x ++ b → z ≡ y ++ d → z ≡ a ++ (b ++ d)
 three_told a b d x y z p q r = r ∙ ap (λ (t : List ℕ). t ++ d) (q ∙ ap (λ (t : List ℕ). t ++ b) p) ∙ append_assoc a b d

@@ -17,7 +17,7 @@ use Rattle.rpm_exercise.specs.Rounds.{changes}
 
 -- ---- the export
 
--- a Good header as it is exported, behind the magic; of a Bad one nothing goes out
+-- a Good header as it is exported, after the magic; of a Bad one nothing goes out
 abbrev pub exported : ℕ × Package → List ℕ
 exported (n, Good bytes) = magic ++ bytes
 exported (n, Bad) = []

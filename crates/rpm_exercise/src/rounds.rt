@@ -225,7 +225,7 @@ fn go_round<D: Disk>(
 }
 
 /// Adds the headers 1 to `n` with the leading number 1; then puts each that is divisible by 3 in its own place with the leading number 2;
-/// then erases each that is divisible by 5. Each round goes by rising number. Header `i` has the `i`th number behind those that the
+/// then erases each that is divisible by 5. Each round goes by rising number. Header `i` has the `i`th number after those that the
 /// database gave before. These are `n + n / 3 + n / 5` changes, and nothing fails.
 ///
 /// One header is held at a time, below 512 bytes. Of `Packages.db` the blocks of each package that is replaced or erased are read once. The

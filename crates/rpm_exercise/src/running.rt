@@ -153,7 +153,7 @@ fn exercise_all<D: Disk, O: Sink + Drop>(
 ///
 /// It adds the headers 1 to `n` with the leading number 1, then puts each that is divisible by 3 in its own place with the leading number
 /// 2, then erases each that is divisible by 5: `n + n / 3 + n / 5` changes, and nothing fails. The next number may be any; so the headers
-/// may begin anywhere. First the index is made anew, from no packages, so that what is told doesn't rest on what it was. What is told is
+/// may begin anywhere. First the index is rebuilt, from no packages, so that what is told doesn't rest on what it was. What is told is
 /// asked of the database with that index, as any question is: all packages are read once to count them and once for the digest, and the
 /// candidates of each capability once. One header is held at a time, and the lines.
 ///

@@ -13,7 +13,7 @@ front_put a k count xs ys within few =
     ∙ take-append-add (take a xs) (ys ++ post_of a k xs) count
     ∙ ap (λ (zs : List ℕ). take a xs ++ zs) (take-append-le count ys (post_of a k xs) few)
 
--- and what stands behind them was cut off
+-- and what stands after them was cut off
 pub front_kept : (a k count size : ℕ) (xs ys zs : List ℕ) → a ≤ length xs → count ≤ length ys → a + count ≤ size
     → take (a + count) (take size (put_mid a k xs ys ++ zs)) ≡ take a xs ++ take count ys
 front_kept a k count size xs ys zs within few inside =
@@ -29,7 +29,7 @@ of_ok (Err e) P ok p = absurd cc
 pub front_stays : (from long : ℕ) (before now held : List ℕ) → from ≤ long → take long now ≡ before → held ≡ now → take from held ≡ take from before
 front_stays from long before now held within kept same = ap (take from) same ∙ sym (take-take from long now within) ∙ ap (take from) kept
 
--- bytes came into the room behind it
+-- bytes came into the room after it
 pub arrived : (old new : Option (List ℕ)) (before held part zs : List ℕ) (from k count size : ℕ) → take from held ≡ take from before
     → from ≤ length held → count ≤ length part → from + count ≤ size → Fills old new count part
     → Extends old new (take from before) (take (from + count) (take size (put_mid from k held part ++ zs)))

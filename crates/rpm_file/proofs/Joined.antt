@@ -31,7 +31,7 @@ headed_is : (p : HeaderKind) (bytes blob rest : List ℕ) (r : Result Header Hea
 unfolding headed
 headed_is p bytes blob rest r front is = ap (headed_of p) front ∙ ap (λ (h : Result Header HeaderFault). with_rest (or_fault_in p h) rest) (sym is)
 
--- ---- behind the signature header
+-- ---- after the signature header
 
 pub padding_fault : (s : Header) (bytes : List ℕ) (f : FileFault) → behind_padding s.blob bytes ≡ Err f → behind_signature s bytes ≡ Err f
 unfolding behind_signature
@@ -96,7 +96,7 @@ module _ (bytes mid blob rest : List ℕ) (lead : behind_lead bytes ≡ Ok mid) 
   pub signature_good : (s : Header) → Ok s ≡ header blob → package_header bytes ≡ behind_signature s rest
   signature_good s is = file_is bytes mid lead ∙ ap after_signature (headed_is part.Signature mid blob rest (Ok s) front is)
 
--- what goes on behind the signature header is the whole
+-- what goes on after the signature header is the whole
 pub whole_answers : (s : Header) (old mid new : Option (List ℕ)) (r : Result Header FileFault)
     → package_header (left old) ≡ behind_signature s (left mid) → AnswersBy (behind_signature s) mid new r → AnswersBy package_header old new r
 whole_answers s old mid new (Ok h) same a = same ∙ a

@@ -38,7 +38,7 @@ front_sized intro more r long is =
 pub bad_front : (intro more : List ℕ) (e : ListFault) → length intro ≡ 16 → Err e ≡ size_in intro → front_header (intro ++ more) ≡ Err e
 bad_front intro more e long is = front_sized intro more (Err e) long is
 
--- what stands behind the magic is the blob and what follows it
+-- what stands after the magic is the blob and what follows it
 behind_magic : (intro bytes blob more rest : List ℕ) → length intro ≡ 16 → bytes ≡ more ++ rest → blob ≡ drop 8 intro ++ more
     → drop 8 (intro ++ bytes) ≡ blob ++ rest
 behind_magic intro bytes blob more rest long whole is =
@@ -133,7 +133,7 @@ size_fault bytes e is same = no_read_fault (not (has_magic bytes)) (nat_lt 65535
 pub no_fault : {X : Type 0} (r : Result X ListFault) (e : ListFault) → r ≡ Err e → r ≡ Err fault.ReadFault → e ≡ fault.ReadFault
 no_fault r e is same = cc
 
--- the row begins with what stands behind the magic
+-- the row begins with what stands after the magic
 pub begun : (intro front : List ℕ) → length intro ≡ 16 → front ≡ take (length intro - 8) (drop 8 intro) → front ≡ drop 8 intro
 begun intro front long is = is ∙ take_all (length intro - 8) (drop 8 intro) (omega (arith, length-drop 8 intro))
 
@@ -165,7 +165,7 @@ pub whole_fill : (old new : Option (List ℕ)) (count : ℕ) (into : List ℕ) �
     → Takes old new into
 whole_fill old new count into f within room all = subst (Takes old new) (take_all count into (omega arith)) f.front
 
--- and what was answered of those behind them is answered of the list
+-- and what was answered of those after them is answered of the list
 fault_head : (bytes : List ℕ) (e : ListFault) → 0 < length bytes → IsListFault (front_header bytes) e → IsListFault (list_head bytes) e
 fault_head bytes fault.ReadFault some h = tt
 fault_head bytes fault.NoMemory some h = tt

@@ -1,4 +1,4 @@
--- The parts of a package file, one behind the other.
+-- The parts of a package file, one after the other.
 use Rattle.std.proofs.Common.{◌≡◌, ℕ, ◌≤◌, ◌<◌, List, [], ◌∷◌, ◌++◌, Option, None, Result, Ok, Err, length, take, drop, true, false, refl, ap, ◌∙◌, arith, length-append, le-ltb, lt-ltb}
 use Rattle.std.specs.Prelude.{nat_lt, nat_eq}
 use Rattle.std.specs.Cmp.Lexicographic.{pointwise}

@@ -17,7 +17,7 @@ pub record Found : Type 0 where
 abbrev pub has_magic : List ℕ → Bool
 has_magic bytes = starts_with nat_eq bytes magic
 
--- how many entries they tell behind it
+-- how many entries they tell after it
 abbrev pub entries_in : List ℕ → ℕ
 entries_in bytes = number_at w32 bytes 8
 
@@ -33,7 +33,7 @@ size_in bytes =
     else if nat_lt max_data (data_in bytes) then Err TooMuchData
     else Ok (8 + 16 * entries_in bytes + data_in bytes)
 
--- a header of this length behind its magic
+-- a header of this length after its magic
 abbrev pub sized : List ℕ → Result ℕ ListFault → Result Found ListFault
 sized bytes (Err fault) = Err fault
 sized bytes (Ok size) =

@@ -1,4 +1,4 @@
--- The entries of a signature header that join the main header behind its own.
+-- The entries of a signature header that join the main header after its own.
 use Rattle.std.specs.Prelude.{ℕ, ◌+◌, List, ◌++◌, length, Bool, true, false, ◌==◌, ◌&&◌, ◌||◌, nat_lt, nat_le, if◌then◌else◌, Option, Some, None, Result, Ok, Err}
 use Rattle.std.specs.List.{list_any, filter_map}
 use Rattle.rpm_header.specs.declared.form.Form.{Form}
@@ -44,7 +44,7 @@ dribbles main signature = filter_map (dribble main) signature
 abbrev pub passes_limits : ℕ → ℕ → Bool
 passes_limits count size = nat_lt max_entries count || nat_lt max_data size
 
--- a header with these entries behind its own, unless it would pass a limit
+-- a header with these entries after its own, unless it would pass a limit
 abbrev pub with_entries : Header → List Item → Result Header FileFault
 with_entries main more =
     if passes_limits (length main.entries + length more) (length (dribbled_data main more)) then Err TooLarge

@@ -109,7 +109,7 @@ main_at signature (Ok bytes) = joined_by signature (headed part.Main bytes)
 unfoldable pub behind_signature : Header → List ℕ → Result Headed FileFault
 behind_signature signature bytes = main_at signature.entries (behind_padding signature.blob bytes)
 
--- and behind a signature header that has no fault
+-- and after a signature header that has no fault
 abbrev pub after_signature : Result Headed FileFault → Result Headed FileFault
 after_signature (Err fault) = Err fault
 after_signature (Ok signature) = behind_signature signature.header signature.rest

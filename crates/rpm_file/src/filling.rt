@@ -61,7 +61,7 @@ pub fn begin(room: &mut Vec<u8>, front: &[u8]) -> Result<(), AllocError>
     Ok(())
 }
 
-/// Reads up to so many bytes into a vector, behind its first `from`, and says how many came: fewer only at the end of the open item.
+/// Reads up to so many bytes into a vector, after its first `from`, and says how many came: fewer only at the end of the open item.
 fn fill_some<S: Shelf>(
     shelf: &mut S,
     room: &mut Vec<u8>,
@@ -100,7 +100,7 @@ fn next_piece(done: usize, size: usize) -> usize
     (size - done).min(done.max(FIRST))
 }
 
-/// Reads into a vector, behind its first `from` bytes, until there are so many or the open item is at its end. Says how many there
+/// Reads into a vector, after its first `from` bytes, until there are so many or the open item is at its end. Says how many there
 /// are then. Where the vector is too short it grows as the bytes come: by 4,096 bytes, or by as many as came so far.
 ///
 /// # Errors

@@ -92,10 +92,10 @@ fn read_behind<S: Shelf>(
 
 /// Reads the next header of the list that is open into the front of a vector, without its magic and unparsed, and says how long it is:
 /// of its bytes the magic and the two lengths in front were looked at. None exactly where the open item is at its end, or none is open.
-/// No byte behind the header is read.
+/// No byte after the header is read.
 ///
 /// The vector is made longer where it is too short, and never shorter: so one vector serves for all headers of a list, and is as long as
-/// the longest of them. What stands in it behind the header, and after a fault, is of no use.
+/// the longest of them. What stands in it after the header, and after a fault, is of no use.
 ///
 /// The body is read straight into the vector, in as few reads as the shelf gives it, and memory is taken as
 /// bytes come: at first 4,096 bytes, then as many as came so far. So a short list never costs more than these or twice what it gave,

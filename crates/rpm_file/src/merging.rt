@@ -89,7 +89,7 @@ fn fault_of(fault: BuildFault) -> FileFault
     }
 }
 
-/// A header with the builder's entries behind its own.
+/// A header with the builder's entries after its own.
 fn with_entries(alloc: Global, main: &View<'_>, more: &Builder) -> Result<Vec<u8>, FileFault>
     ensures { AnswersBytes (with_entries main.now more.now) result }
 {

@@ -137,7 +137,7 @@ fn read_part<S: Shelf>(alloc: Global, shelf: &mut S, part: HeaderKind) -> Result
     }
 }
 
-/// Reads the main header behind a signature header.
+/// Reads the main header after a signature header.
 fn read_main<S: Shelf>(
     alloc: Global,
     shelf: &mut S,
@@ -162,7 +162,7 @@ fn joined(alloc: Global, signature: &View<'_>, main: &View<'_>) -> Result<Packag
     Ok(Package { blob })
 }
 
-/// Reads the package file that is open, up to the end of its main header, and no byte behind it.
+/// Reads the package file that is open, up to the end of its main header, and no byte after it.
 ///
 /// Each header's body is read straight into a vector of its own, as `next_header` does it, and both are checked once. What is handed up
 /// is a third vector. Takes time in proportion to the two headers, and to the texts that `View::parse` reads.

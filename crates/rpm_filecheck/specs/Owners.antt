@@ -53,7 +53,7 @@ is_conflict path a b = not (may_share a.facts b.facts) && differs (conflict path
 abbrev pub conflicts_with : List ℕ → Owner → List Owner → List Conflict
 conflicts_with path a os = map (conflict path a) (filter (is_conflict path a) os)
 
--- of each owner with those behind it
+-- of each owner with those after it
 abbrev pub conflicts_on : List ℕ → List Owner → List Conflict
 conflicts_on path [] = []
 conflicts_on path (a ∷ os) = conflicts_with path a os ++ conflicts_on path os

@@ -38,7 +38,7 @@ impl Found {
         }
     }
 
-    /// Puts a number behind those that can't be read.
+    /// Puts a number after those that can't be read.
     pub fn add_bad(&mut self, number: u32) -> Result<(), AllocError>
         ensures { OnOk result (self.new ≡ with_bad number self.old) }
     {

@@ -28,7 +28,7 @@ impl Model for Owned {
     ghost view = { λ s. map (λ e. (e.0.items, e.1)) s.paths.entries };
 }
 
-/// Puts an owner behind those of a path, where it isn't the package of the last.
+/// Puts an owner after those of a path, where it isn't the package of the last.
 fn join_in(
     alloc: Global,
     paths: &mut BTreeMap<Vec<u8>, Owners>,
@@ -70,7 +70,7 @@ impl Owned {
         }
     }
 
-    /// Puts an owner behind those of a path, where it isn't the package of the last. Takes log n steps in the paths.
+    /// Puts an owner after those of a path, where it isn't the package of the last. Takes log n steps in the paths.
     pub fn add(&mut self, alloc: Global, path: Vec<u8>, owner: Owner) -> Result<(), AllocError>
         ensures { OnOk result (self.new ≡ with_owner path.items owner self.old) }
     {

@@ -80,7 +80,7 @@ impl Owners {
         }
     }
 
-    /// Puts an owner behind them, where it isn't the package of the last.
+    /// Puts an owner after them, where it isn't the package of the last.
     pub fn join(&mut self, owner: Owner) -> Result<(), AllocError>
         ensures { OnOk result (self.new ≡ joined self.old owner) }
     {

@@ -25,7 +25,7 @@ pub fn bytes_of(alloc: Global, text: &Joined<'_>) -> Result<Vec<u8>, AllocError>
     Ok(bytes)
 }
 
-/// Puts the package behind the owners of each of these paths, with what the lists say at its place.
+/// Puts the package after the owners of each of these paths, with what the lists say at its place.
 fn add_paths(
     alloc: Global,
     owned: &mut Owned,
@@ -61,7 +61,7 @@ fn add_far(
     add_paths(alloc, owned, number, paths.texts(Some(&mut room)), columns)
 }
 
-/// Puts the package of a header behind the owners of its paths: of a path that it has twice, with what it says at the first place.
+/// Puts the package of a header after the owners of its paths: of a path that it has twice, with what it says at the first place.
 #[tactic(auto, unfolding(crate::specs::Files::files))]
 pub fn add_files(
     alloc: Global,

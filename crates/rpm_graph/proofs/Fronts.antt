@@ -6,7 +6,7 @@ use Rattle.std.proofs.lemmas.List.{get_or_append_left, get_or_push, get_or_defau
 use Rattle.rpm_graph.specs.declared.search.Link.{Link}
 use Rattle.rpm_graph.specs.inner.Searches.{IsSearch, IsOpen, link, link_at}
 
--- kept is a front of the links, and those behind it end at the place
+-- kept is a front of the links, and those after it end at the place
 pub record IsFront (links kept : List Link) (place : ℕ) : Type 0 where
   pub shorter : length kept ≤ length links
   pub same : (i : ℕ) → i < length kept → link_at kept i ≡ link_at links i

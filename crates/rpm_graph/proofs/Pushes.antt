@@ -1,4 +1,4 @@
--- A graph stays one when a number or an edge is added behind the others.
+-- A graph stays one when a number or an edge is added after the others.
 use Rattle.std.proofs.Common.{◌≡◌, ℕ, ◌<◌, ◌++◌, List, [], ◌∷◌, length, inl, inr, arith}
 use Rattle.std.specs.List.{All}
 use Rattle.std.proofs.lemmas.Bool.{cases_lt}

@@ -40,7 +40,7 @@ first_or_rest k ks q (suc i, lt, is) = inr (i, omega (arith, lt), is)
 pub rest_of : {K : Type 0} (k : K) (ks : List K) (q : K) → Contains ks q → Contains (k ∷ ks) q
 rest_of k ks q (i, lt, is) = (suc i, omega (arith, lt), is)
 
--- the order of a number with the number of a class behind it
+-- the order of a number with the number of a class after it
 abbrev pub pair_cmp : ℕ × ℕ → ℕ × ℕ → Ordering
 pair_cmp a b = ordering_then (nat_cmp a.0 b.0) (nat_cmp a.1 b.1)
 

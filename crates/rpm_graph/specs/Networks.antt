@@ -23,7 +23,7 @@ IsRising numbers = (i j : ℕ) → i < j → j < length numbers → slice_index 
 abbrev pub IsBefore : Edge → Edge → Type 0
 IsBefore a b = (a.from < b.from) ⊎ ((a.from ≡ b.from) × (a.to < b.to))
 
--- each edge stands behind those before it
+-- each edge stands after those before it
 abbrev pub AreRising : List Edge → Type 0
 AreRising edges = (i j : ℕ) → i < j → j < length edges → IsBefore (edge_at edges i) (edge_at edges j)
 

@@ -1,4 +1,4 @@
-//! The order of the classes: each behind those that its edges end in, and of those that may come next the one with the least number.
+//! The order of the classes: each after those that its edges end in, and of those that may come next the one with the least number.
 
 ghost use Rattle.std.specs.Prelude.{◌≡◌, ℕ, ◌<◌, ◌≤◌, IfOk, length, slice_index_or, []};
 ghost use Rattle.rpm_graph.specs.Orders.{IsOrder, IsOnlyOrder, StandOnce, EdgesGoBack};
@@ -46,7 +46,7 @@ impl ClassList {
     }
 }
 
-/// The order in which the classes of a graph are listed: each one behind those that its edges end in, and of those that may come next the one
+/// The order in which the classes of a graph are listed: each one after those that its edges end in, and of those that may come next the one
 /// with the least number.
 ///
 /// Gabow's search for the classes, and then Kahn's algorithm with an ordered set of those that are ready. Takes time and memory by the number

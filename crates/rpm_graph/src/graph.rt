@@ -53,7 +53,7 @@ impl Graph {
         Ok(())
     }
 
-    /// Adds an edge behind those that are there. `Err` where memory is refused, which leaves the graph as it was.
+    /// Adds an edge after those that are there. `Err` where memory is refused, which leaves the graph as it was.
     pub fn push_edge(&mut self, from: u32, to: u32) -> Result<(), AllocError>
         requires joins { Joins self.old.numbers (edge from to) }
         requires behind { All (λ e. IsBefore e (edge from to)) self.old.edges }

@@ -117,7 +117,7 @@ done_all entries n p last log old now none d =
     d.files ∙ ap (λ (es : List Entry). with_entries es old) (sym (append-nil d.done)
     ∙ ap (λ (es : List Entry). d.done ++ es) (sym (left_none n p last log d.rest none d.heads_left)) ∙ sym d.all)
 
--- what a stop leaves while they are written
+-- what a crash leaves while they are written
 module _ {D : Type 0} (moment : D → ℕ) (left_since : D → ℕ → Files → Type 0) where
   pub within_more : (entries : List Entry) (file : File) (first end : ℕ) (old mid new : D) → first < end
       → ((i : ℕ) → first ≤ i → i < end → Covers entries file i)

@@ -1,4 +1,4 @@
--- What a stop leaves while a log is closed.
+-- What a crash leaves while a log is closed.
 use Rattle.std.proofs.Common.{◌≡◌, ⊎_elim, ℕ, ◌<◌, List, [], ◌∷◌, length, true, refl, sym, ap, subst, ◌∙◌}
 use Rattle.rpm_outside.specs.declared.disk.File.TheVariants.{Log}
 use Rattle.rpm_outside.specs.Files.{Units, Files, with_file, put, unit_at}
@@ -24,7 +24,7 @@ pub closed_after : (files new : Files) (unit : List ℕ) → is_blank unit ≡ t
 closed_after files new unit blank is =
     blank_closed new.log (ap (λ (f : Files). is_blank (unit_at f.log 0)) is ∙ ap is_blank (first_unit unit files.log) ∙ blank)
 
--- a gate of zeros that was written in part leaves the log closed, or as it was
+-- a commit record of zeros that was written in part leaves the log closed, or as it was
 closing_sound : (unit : List ℕ) (from image : Files) (entries : List Entry) → is_blank unit ≡ true → 0 < length from.log
     → log_state from.log ≡ Open entries → TornFile Log 0 (unit ∷ []) from image → IsSound (log_state image.log)
 closing_sound unit from image entries blank some is torn = ⊎_elim
@@ -33,7 +33,7 @@ closing_sound unit from image entries blank some is torn = ⊎_elim
     (torn_first unit from image some torn)
 
 module _ {D : Type 0} (moment : D → ℕ) (left_since : D → ℕ → Files → Type 0) where
-  -- the write of the gate
+  -- the write of the commit record
   pub closing_leaves : (old new : D) (files : Files) (unit : List ℕ) (entries : List Entry) → is_blank unit ≡ true → 0 < length files.log
       → log_state files.log ≡ Open entries → with_entries entries (unlogged files) ≡ unlogged files
       → ((image : Files) → left_since old (moment old) image → image ≡ files)

@@ -46,7 +46,7 @@ group_of held es fs pkg idx = record {
   };
 }
 
--- and stand in the log one behind the other
+-- and stand in the log one after the other
 pub tail_of : (es fs : List Entry) (middle end : ℕ) (first last : Files) → EntriesIn es 1 middle first.log → EntriesIn fs middle end last.log
     → ChangedIn Log middle (2 ^ 28) first last → EntriesIn (es ++ fs) 1 end last.log
 tail_of es fs middle end first last one two changed =
@@ -66,7 +66,7 @@ closed_reopens image files same closed = record {
   sound = closed_sound image.log (ap (λ (f : Files). log_state f.log) same ∙ closed);
 }
 
--- a gate that was written in part leaves the log closed, or open with these entries
+-- a commit record that was written in part leaves the log closed, or open with these entries
 opening_reopens : (gate : List ℕ) (entries : List Entry) (last : ℕ) (from image : Files) → IsGate gate (length entries) last → 0 < length entries
     → last < length from.log → EntriesIn entries 1 (last + 1) from.log → log_state from.log ≡ Closed → TornFile Log 0 (gate ∷ []) from image
     → BeforeOrAfter (unlogged from) (with_entries entries (unlogged from)) image
@@ -103,7 +103,7 @@ module _ {D : Type 0} (moment : D → ℕ) (left_since : D → ℕ → Files →
       (ap (λ (f : Files). f.idx) was.2.others ∙ ap (λ (f : Files). f.idx) same ∙ sym (ap (λ (f : Files). f.idx) changed.others))
       (log image left)
 
-  -- the gate is written
+  -- the commit record is written
   pub opening_leaves : (old new : D) (files : Files) (gate : List ℕ) (entries : List Entry) (last : ℕ) → IsGate gate (length entries) last
       → 0 < length entries → last < length files.log → EntriesIn entries 1 (last + 1) files.log → log_state files.log ≡ Closed
       → ((image : Files) → left_since old (moment old) image → image ≡ files)

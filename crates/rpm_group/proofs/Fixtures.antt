@@ -14,13 +14,13 @@ head file first count = file ∷ 0 ∷ 0 ∷ 0 ∷ first ∷ 0 ∷ 0 ∷ 0 ∷ c
 full : ℕ → List ℕ
 full byte = replicate 16 byte
 
--- ---- closed, whatever stands behind
+-- ---- closed, whatever stands after
 
 zeros_and_rubbish : log_state (full 0 ∷ full 7 ∷ []) ≡ Closed
 unfolding full log_state
 zeros_and_rubbish = refl
 
--- ---- the gate
+-- ---- the commit record
 
 another_magic : log_state (full 7 ∷ head 3 0 1 ∷ []) ≡ Malformed 0
 unfolding full head log_state is_gate word
@@ -72,7 +72,7 @@ ends_too_early = refl
 
 -- ---- what files stand for
 
--- what is behind the last unit counts for nothing, and the later of two entries wins
+-- what is after the last unit counts for nothing, and the later of two entries wins
 later_wins : reopened (record { pkg = []; idx = full 1 ∷ []; log = gate 2 4 ∷ head 1 0 1 ∷ full 7 ∷ head 1 0 1 ∷ full 8 ∷ full 9 ∷ [] })
     ≡ record { pkg = full 8 ∷ []; idx = full 1 ∷ []; log = [] }
 unfolding gate head full log_state is_gate heads is_head entry_at word put

@@ -1,4 +1,4 @@
--- A gate that opens a log.
+-- A commit record that opens a log.
 use Rattle.std.proofs.Common.{◌≡◌, ℕ, ◌+◌, ◌-◌, ◌<◌, List, [], ◌∷◌, length, sym, ap, subst, ◌∙◌, arith}
 use Rattle.rpm_outside.specs.declared.disk.File.TheVariants.{Log}
 use Rattle.rpm_outside.specs.Files.{Units, Files, with_file, put}
@@ -12,7 +12,7 @@ use Rattle.rpm_group.specs.Groups.{BeforeOrAfter}
 use Rattle.rpm_group.specs.inner.Grouped.{IsTail}
 use Rattle.rpm_group.proofs.Committing.{opening_leaves}
 
--- a gate that opens a log
+-- a commit record that opens a log
 pub record Opens (gate : List ℕ) (entries : List Entry) (tail : Tail) (log : Units) : Type 0 where
   pub is_gate : IsGate gate (length entries) (tail.at - 1)
   pub some : 0 < length entries

@@ -1,4 +1,4 @@
--- What was read of the gate and of a head, where the log reads as before.
+-- What was read of the commit record and of a head, where the log reads as before.
 use Rattle.std.proofs.Common.{◌≡◌, ℕ, suc, ◌+◌, true, false, length, refl, sym, ap, subst, ◌∙◌, arith, List, ◌∷◌, [], ◌++◌, ◌==◌}
 use Rattle.std.specs.Prelude.{if◌then◌else◌, Bool}
 use Rattle.rpm_outside.specs.declared.disk.File.TheVariants.{Pkg, Idx, Log}

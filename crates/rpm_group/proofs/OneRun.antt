@@ -1,4 +1,4 @@
--- One run more in the log: its room, and what a stop leaves of it.
+-- One run more in the log: its room, and what a crash leaves of it.
 use Rattle.std.proofs.Common.{◌≡◌, ℕ, ◌+◌, ◌-◌, ◌≤◌, ◌^◌, arith}
 use Rattle.rpm_outside.specs.declared.disk.File.TheVariants.{Log}
 use Rattle.rpm_outside.specs.Files.{Files}
@@ -13,7 +13,7 @@ pub room_here : (table : Table) (place tail at first stop end : ℕ) → place �
     + (stop - first) → stop ≤ end → tail + log_units table end ≤ 2 ^ 28 → place + 1 + (stop - first) ≤ 2 ^ 28
 room_here table place tail at first stop end is counted below room = omega (arith, is, counted, log_units_later table stop end below, room)
 
--- what a stop leaves of one run more
+-- what a crash leaves of one run more
 pub run_leaves : {D : Type 0} (moment : D → ℕ) (left_since : D → ℕ → Files → Type 0) (start place end : ℕ) (old mid new : D) → start ≤ place → end ≤ 2 ^ 28
     → ((image : Files) → left_since mid (moment mid) image → left_since mid (moment old) image)
     → LeavesChanged moment left_since Log start (2 ^ 28) old mid → LeavesChanged moment left_since Log place end mid new

@@ -23,7 +23,7 @@ runs_push file from a b [] entry is same low high = (same, omega (arith, is, low
 runs_push file from a b (e ∷ es) entry (one, first, rest) same low high =
     (one, first, runs_push file (e.first + length e.units) a b es entry rest same low high)
 
--- a gate that is written leaves what is behind it
+-- a commit record that is written leaves what is after it
 pub gate_keeps : (unit : List ℕ) (units : Units) (files mid new : Files) → units ≡ unit ∷ [] → mid ≡ with_file Log (put 0 units files.log) files
     → new ≡ mid → KeepsBehind files.log new.log
 gate_keeps unit units files mid new one written same = record {
@@ -42,7 +42,7 @@ keeps_then a b c one two = record {
 
 -- ---- heads that end in zeros
 
--- they stay where the log was changed behind them alone
+-- they stay where the log was changed after them alone
 pub heads_kept : (entries : List Entry) (p end : ℕ) (old new : Units) → ((i : ℕ) → p ≤ i → i < end → unit_at new i ≡ unit_at old i)
     → EntriesIn entries p end old → HeadsEndInZeros entries p old → HeadsEndInZeros entries p new
 heads_kept [] p end old new same are heads = tt
@@ -65,7 +65,7 @@ pub heads_then : (es fs : List Entry) (p q : ℕ) (log : Units) → EntriesIn es
 heads_then [] fs p q log is heads rest = subst (λ (i : ℕ). HeadsEndInZeros fs i log) (sym is) rest
 heads_then (e ∷ es) fs p q log (one, more) (zero_here, heads) rest = (zero_here, heads_then es fs (p + 1 + length e.units) q log more heads rest)
 
--- the entries of a group stay behind the gate
+-- the entries of a group stay after the commit record
 pub group_logged : (held : Layers) (entries : List Entry) (end : ℕ) (old new : Units) → IsGroup entries held → EntriesIn entries 1 end old
     → HeadsEndInZeros entries 1 old → end ≡ needed held → KeepsBehind old new → IsLogged held new
 group_logged held entries end old new group placed heads is keeps = record {

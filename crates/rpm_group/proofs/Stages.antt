@@ -19,7 +19,7 @@ pub still_closed : (old new : Files) (first end : ℕ) → 1 ≤ first → log_s
 still_closed old new first end low closed changed = blank_closed new.log (ap is_blank (changed.each 0 (inl (omega (arith, low)))) ∙ closed_blank old.log closed)
 
 module _ {D : Type 0} (moment : D → ℕ) (left_since : D → ℕ → Files → Type 0) (before after : Files) where
-  -- the entries behind the gate change nothing
+  -- the entries after the commit record change nothing
   pub logged_leaves : (old new : D) (files : Files) → unlogged files ≡ before → log_state files.log ≡ Closed
       → ((image : Files) → left_since old (moment old) image → image ≡ files)
       → LeavesChanged moment left_since Log 1 (2 ^ 28) old new → LeavesOnly moment left_since old new (BeforeOrAfter before after)

@@ -48,7 +48,7 @@ module _ {D : Type 0} (tells : Bool) (files : D → Files) (moment : D → ℕ) 
     later = omega (arith, first.later, second.later);
   }
 
--- what a stop may leave of the disk below, while calls go to the overlay
+-- what a crash may leave of the disk below, while calls go to the overlay
 pub below_leaves : {D : Type 0} (tells : Bool) (files : D → Files) (moment : D → ℕ) (left_since : D → ℕ → Files → Type 0) (bytes_read : D → File → ℕ)
     (follows : D → D → Type 0) (faults : D → ℕ) (old new : D) (ro rn : File → ℕ) (P : Files → Type 0)
     → IsTrue tells → KeepsBelow tells files moment left_since bytes_read follows faults old new ro rn

@@ -24,11 +24,11 @@ units_of_log pages = log_units pages.table.items pages.end
 abbrev pub held_units : Layers → ℕ
 held_units held = held_of held.pkg + held_of held.idx + held_of held.log
 
--- how many units a log takes for a group: the gate, a head for each run, and the units
+-- how many units a log takes for a group: the commit record, a head for each run, and the units
 abbrev pub needed : Layers → ℕ
 needed held = 1 + units_of_log held.pkg + units_of_log held.idx
 
--- no log of a group that leaves these files is longer: the gate, and for each of their units itself and a head
+-- no log of a group that leaves these files is longer: the commit record, and for each of their units itself and a head
 abbrev pub longest_log : Files → ℕ
 longest_log files = 1 + 2 * length files.pkg + 2 * length files.idx
 

@@ -9,7 +9,7 @@ use Rattle.rpm_group.specs.declared.layers.Layers.{Layers}
 use Rattle.rpm_group.specs.Groups.{runs_of, needed}
 use Rattle.rpm_group.specs.Layers.{laid_files}
 
--- runs of one file, each behind the one before it, from a unit on and up to another
+-- runs of one file, each after the one before it, from a unit on and up to another
 abbrev pub AreRuns : File → ℕ → ℕ → List Entry → Type 0
 AreRuns file from end [] = from ≤ end
 AreRuns file from end (entry ∷ entries) = (entry.file ≡ file) × (from ≤ entry.first) × AreRuns file (entry.first + length entry.units) end entries
@@ -29,7 +29,7 @@ abbrev pub HeadsEndInZeros : List Entry → ℕ → Units → Type 0
 HeadsEndInZeros [] p log = Unit {0}
 HeadsEndInZeros (entry ∷ entries) p log = (word 3 (unit_at log p) ≡ 0) × HeadsEndInZeros entries (p + 1 + length entry.units) log
 
--- behind its first unit the log has the entries that write what is held, in their order
+-- after its first unit the log has the entries that write what is held, in their order
 pub record IsLogged (held : Layers) (log : Units) : Type 0 where
   pub entries : List Entry
   pub placed : EntriesIn entries 1 (needed held) log

@@ -1,4 +1,4 @@
--- What a stop may leave of a disk, seen by what its files stand for.
+-- What a crash may leave of a disk, seen by what its files stand for.
 use Rattle.std.specs.Prelude.{◌≡◌, Bool, Result, Ok, Err, true, false}
 use Rattle.rpm_outside.specs.Files.{Files}
 use Rattle.rpm_outside.specs.Logs.{LogState, Closed, Malformed, log_state, reopened}

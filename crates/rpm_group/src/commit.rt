@@ -25,7 +25,7 @@ use crate::scan::extent;
 use crate::writes::{Buffer, unit_of};
 use rpm_outside::{Disk, Failed, File};
 
-/// Writes the entries of both files to the log behind the gate, and settles it.
+/// Writes the entries of both files to the log after the commit record, and settles it.
 fn log_held<D: Disk>(disk: &mut D, held: &Layers, buffer: &mut Buffer) -> Result<Tail, Failed>
     requires room { needed held.now ≤ 2 ^ 28 }
     requires settled { IsTrue D.tells → AreSettled (D.files disk.old) (D.left_since disk.old (D.moment disk.old)) }
@@ -48,7 +48,7 @@ fn log_held<D: Disk>(disk: &mut D, held: &Layers, buffer: &mut Buffer) -> Result
 // `RpmL`
 const MAGIC: u32 = 0x4c6d_7052;
 
-/// Writes the gate, and settles the log.
+/// Writes the commit record, and settles the log.
 fn open_log<D: Disk>(disk: &mut D, tail: Tail) -> Result<(), Failed>
     requires some { 0 < tail.entries }
     requires place { 1 < tail.at }
@@ -191,15 +191,15 @@ impl<D: Disk> Overlay<D> {
     /// Makes what is held of the two files one change of the disk below, and hands that back. What is held of the log is dropped.
     ///
     /// Each run of held units is one entry of the log, those of `Packages.db` first. It takes no memory, writes each unit twice, up to
-    /// 64 KiB at a time, and syncs five times: the log behind its entries and behind its gate, both files, and the log behind
-    /// zeros in the place of the gate. Where nothing is held it does nothing.
+    /// 64 KiB at a time, and syncs five times: the log after its entries and after its commit record, both files, and the log after
+    /// zeros in the place of the commit record. Where nothing is held it does nothing.
     ///
     /// # Errors
     ///
     /// `LogFull` exactly where the log would be longer than a file can be, which takes two files of the overlay that together have
     /// half as many units; nothing is written then. `DiskFault` only where the
     /// count of faults of the disk below rose; the disk stands then for its files before or for those of the overlay, as does each
-    /// image that a stop since the start may leave, and none of them has a malformed log.
+    /// image that a crash since the start may leave, and none of them has a malformed log.
     pub fn commit(self) -> (D, Result<(), CommitFault>)
         requires starved { overlay_starved self ≡ 0 }
         requires settled { IsTrue D.tells → AreSettled (D.files (overlay_below self)) (D.left_since (overlay_below self) (D.moment (overlay_below self))) }

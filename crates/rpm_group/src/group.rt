@@ -19,7 +19,7 @@ use crate::scan::next_unit;
 use crate::writes::{Buffer, log_run, write_run};
 use rpm_outside::{Disk, Failed, File};
 
-/// The unit of the log behind its last entry, and how many entries there are.
+/// The unit of the log after its last entry, and how many entries there are.
 #[derive(Clone, Copy, PartialEq, Eq)]
 pub struct Tail {
     pub at: u64,

@@ -93,7 +93,7 @@ fn hold_units<D: Disk>(
     Ok(())
 }
 
-/// Holds the entries behind a gate.
+/// Holds the entries after a commit record.
 fn hold_entries<D: Disk>(
     alloc: Global,
     disk: &mut D,

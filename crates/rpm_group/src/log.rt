@@ -1,4 +1,4 @@
-//! The gate and the heads of the log.
+//! The commit record and the heads of the log.
 
 ghost use Rattle.std.specs.Prelude.{◌≡◌, ◌==◌, if◌then◌else◌, ℕ, ◌+◌, ◌*◌, ◌/◌, ◌<◌, ◌≤◌, ◌^◌, IsTrue, length, IfOk, IfSome};
 ghost use Rattle.rpm_outside.specs.Files.{Files, unit_at};
@@ -11,7 +11,7 @@ ghost use Rattle.rpm_outside.specs.Looks.{LooksAt};
 use crate::words::{is_blank, word};
 use rpm_outside::{Disk, Failed, File};
 
-/// The gate of a log: how many entries there are, and the last unit of the last.
+/// The commit record of a log: how many entries there are, and the last unit of the last.
 #[derive(Clone, Copy, PartialEq, Eq)]
 pub struct Gate {
     pub entries: u32,
@@ -26,7 +26,7 @@ pub struct Head {
     pub count: u32,
 }
 
-/// What was read of a log: that it is closed, or wrong at a unit, or its gate.
+/// What was read of a log: that it is closed, or wrong at a unit, or its commit record.
 #[derive(Clone, Copy, PartialEq, Eq)]
 pub enum Reading {
     Shut,
@@ -49,7 +49,7 @@ pub fn read_unit<D: Disk>(disk: &mut D, at: u64) -> Result<[u8; 16], Failed>
     Ok(unit)
 }
 
-/// Whether a unit is the gate of a log of so many units.
+/// Whether a unit is the commit record of a log of so many units.
 #[tactic(auto, unfolding(rpm_outside::specs::Logs::is_gate))]
 fn is_gate(units: u64, gate: &[u8]) -> bool
     requires { length gate.now ≡ 16 }
@@ -77,7 +77,7 @@ fn is_head(last: u32, p: u64, head: &[u8]) -> bool
         && p + word(head, 2) as u64 <= last as u64
 }
 
-/// Reads the gate. It reads the log's first unit alone.
+/// Reads the commit record. It reads the log's first unit alone.
 ///
 /// # Errors
 ///
@@ -144,7 +144,7 @@ fn head_of(unit: &[u8]) -> Head
     }
 }
 
-/// Goes through the heads behind a gate, and gives the first unit that is wrong, if one is.
+/// Goes through the heads after a commit record, and gives the first unit that is wrong, if one is.
 ///
 /// # Errors
 ///
@@ -168,7 +168,7 @@ pub fn check_heads<D: Disk>(disk: &mut D, gate: Gate) -> Result<Option<u64>, Fai
     Ok(None)
 }
 
-/// Reads the log: its gate and its heads, and none of the units between.
+/// Reads the log: its commit record and its heads, and none of the units between.
 ///
 /// # Errors
 ///

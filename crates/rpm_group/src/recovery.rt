@@ -1,4 +1,4 @@
-//! What a stop left of a change is finished.
+//! What a crash left of a change is finished.
 
 ghost use Rattle.std.specs.Prelude.{◌≡◌, ◌↔◌, ℕ, ◌+◌, ◌*◌, ◌/◌, ◌%◌, ◌<◌, ◌≤◌, ◌^◌, IsTrue, length, take, drop, Ok, Err, None, true, OnOk, IfOk, IfErr};
 ghost use Rattle.rpm_outside.specs.Files.{Files, file_of, with_file, put, unit_at};
@@ -109,7 +109,7 @@ fn copy_units<D: Disk>(
     Ok(())
 }
 
-/// Writes the entries behind a gate to their files. A head that isn't right any more gives its unit, which no disk that tells
+/// Writes the entries after a commit record to their files. A head that isn't right any more gives its unit, which no disk that tells
 /// its contents has.
 fn copy_entries<D: Disk>(disk: &mut D, gate: Gate) -> Result<Option<u64>, Failed>
     requires last { IsTrue D.tells → gate.last < length (D.files disk.old).log }
@@ -134,7 +134,7 @@ fn copy_entries<D: Disk>(disk: &mut D, gate: Gate) -> Result<Option<u64>, Failed
     Ok(None)
 }
 
-/// Writes the entries behind a gate to their files, and settles these.
+/// Writes the entries after a commit record to their files, and settles these.
 fn apply_entries<D: Disk>(disk: &mut D, gate: Gate) -> Result<Option<u64>, Failed>
     requires last { IsTrue D.tells → gate.last < length (D.files disk.old).log }
     requires open { IsTrue D.tells → IsOpen (heads_behind gate (D.files disk.old).log) }
@@ -154,7 +154,7 @@ fn apply_entries<D: Disk>(disk: &mut D, gate: Gate) -> Result<Option<u64>, Faile
     Ok(fault)
 }
 
-/// Makes the gate zeros, and settles the log.
+/// Makes the commit record zeros, and settles the log.
 pub fn close_log<D: Disk>(disk: &mut D) -> Result<(), Failed>
     requires some { IsTrue D.tells → 0 < length (D.files disk.old).log }
     requires settled { IsTrue D.tells → AreSettled (D.files disk.old) (D.left_since disk.old (D.moment disk.old)) }
@@ -173,7 +173,7 @@ pub fn close_log<D: Disk>(disk: &mut D) -> Result<(), Failed>
     Ok(())
 }
 
-/// Finishes the change of a log with this gate.
+/// Finishes the change of a log with this commit record.
 fn finish<D: Disk>(disk: &mut D, gate: Gate) -> Result<bool, RecoverFault>
     requires last { IsTrue D.tells → gate.last < length (D.files disk.old).log }
     requires state { IsTrue D.tells → log_state (D.files disk.old).log ≡ heads_behind gate (D.files disk.old).log }
@@ -207,7 +207,7 @@ fn finish<D: Disk>(disk: &mut D, gate: Gate) -> Result<bool, RecoverFault>
 /// # Errors
 ///
 /// `BadLog` where the log is malformed, with the unit. `DiskFault` only where the count of faults rose. Whatever the answer, the
-/// disk stands for what it stood for at the start, and each image that a stop since the start may leave for what one of the start
+/// disk stands for what it stood for at the start, and each image that a crash since the start may leave for what one of the start
 /// stood for; its log is malformed only where that one's was. A malformed log is left as it is.
 pub fn recover<D: Disk>(disk: &mut D) -> Result<bool, RecoverFault>
     ensures says { IsTrue D.tells → RecoverSays (log_state (D.files disk.old).log) result }

@@ -1,4 +1,4 @@
--- What stands behind texts ends the bytes, and begins at a place.
+-- What stands after texts ends the bytes, and begins at a place.
 use Rattle.std.proofs.Common.{◌≡◌, ℕ, ◌-◌, ◌≤◌, List, [], ◌∷◌, ◌++◌, length, drop, true, refl, sym, ap, ◌∙◌, append_assoc, length-append, arith}
 use Rattle.std.proofs.lemmas.List.{drop_at}
 use Rattle.rpm_header.specs.Bytes.{are_ended}

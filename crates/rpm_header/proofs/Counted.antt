@@ -36,7 +36,7 @@ zeros-take-le k xs = omega (arith, zeros-le (take k xs), length-take k xs)
 pub zeros-past : (k : ℕ) (xs : List ℕ) → length xs ≤ k → zeros (drop k xs) ≡ 0
 zeros-past k xs past = ap zeros (drop_all k xs past) ∙ zeros-nil
 
--- a zero byte stands behind each place in front of it
+-- a zero byte stands after each place in front of it
 pub zeros-behind : (i k : ℕ) (xs : List ℕ) → i < length xs → get_or xs i 0 ≡ 0 → k < i + 1 → 0 < zeros (drop k xs)
 zeros-behind i k [] lt here le = absurd (omega arith)
 zeros-behind zero zero (x ∷ xs) lt here le = rw (zeros-cons x xs, eq-eqb x 0 here) (omega arith)
@@ -102,7 +102,7 @@ ended_drop k n bytes =
     same_test _ _ _ _ (λ h. omega (arith, zeros-parts k bytes)) (λ h. omega (arith, zeros-parts k bytes)) in
     ended_counted (n - zeros (take k bytes)) (drop k bytes) ∙ test ∙ sym (ended_counted n bytes)
 
--- and so does what stands behind a part
+-- and so does what stands after a part
 pub ended_part : (n behind : ℕ) (whole part : List ℕ) → zeros whole ≡ zeros part + behind → are_ended (n - behind) part ≡ are_ended n whole
 ended_part n behind whole part parts =
     let test : leb (n - behind) (zeros part) ≡ leb n (zeros whole) = same_test _ _ _ _ (λ h. omega arith) (λ h. omega arith) in

@@ -1,4 +1,4 @@
--- The header of a header with further entries behind its own.
+-- The header of a header with further entries after its own.
 use Rattle.std.proofs.Common.{◌≡◌, ℕ, ◌+◌, ◌*◌, ◌<◌, ◌≤◌, List, [], ◌++◌, length, take, drop, map, None, Ok, refl, sym, ap, ◌∙◌, append_assoc, length-append, length-drop, arith, inl, inr}
 use Rattle.std.specs.List.{range_with_len, AllByRecursion}
 use Rattle.std.specs.Int.{w32, to_be_bytes}

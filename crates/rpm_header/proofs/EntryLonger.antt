@@ -1,4 +1,4 @@
--- An entry of the index without a fault says the same where more data stand behind.
+-- An entry of the index without a fault says the same where more data stand after.
 use Rattle.std.proofs.Common.{◌≡◌, ℕ, ◌%◌, ◌≤◌, List, ◌++◌, length, drop, Bool, true, false, eqb, Option, Some, None, refl, length-append, arith, inl, inr}
 use Rattle.std.specs.Prelude.{nat_lt, not, ◌||◌, ◌⊎◌, if◌then◌else◌}
 use Rattle.std.proofs.lemmas.Bool.{ltb-false, eqb-true}

@@ -3,7 +3,7 @@ use Rattle.std.proofs.Common.{◌≡◌, ℕ, zero, suc, ◌+◌, List, [], ◌�
 use Rattle.std.specs.Prelude.{slice_get}
 use Rattle.rpm_header.specs.Header.{Item, last_of}
 
--- the loop names the place behind the entry that it looks at
+-- the loop names the place after the entry that it looks at
 pub found_at : (tag : ℕ) (es : List Item) (i j : ℕ) (e : Item) → j ≡ i + 1 → slice_get es i ≡ Some e → slice_get (map (λ e. e.tag) es) i ≡ Some tag
     → last_of tag (drop j es) ≡ None → last_of tag es ≡ Some e
 found_at tag [] i j e next at same none = absurd cc

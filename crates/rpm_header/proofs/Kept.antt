@@ -1,4 +1,4 @@
--- The region of a header stays as it is where further entries stand behind its own.
+-- The region of a header stays as it is where further entries stand after its own.
 use Rattle.std.proofs.Common.{◌≡◌, ℕ, ◌+◌, ◌-◌, ◌*◌, ◌/◌, ◌^◌, ◌≤◌, List, [], ◌∷◌, ◌++◌, length, take, true, eqb, Ok, Result, refl, sym, ap, ◌∙◌, arith, inl, inr}
 use Rattle.std.specs.List.{AllByRecursion}
 use Rattle.std.specs.Int.{w32}
@@ -37,7 +37,7 @@ hashed_of index section =
 region_is : (h : Header) → region_in_file h ≡ hashed_of (own_index h) (own_data h)
 region_is h = refl
 
--- the same where more stands behind both
+-- the same where more stands after both
 hashed_longer : (index more section behind : List ℕ) (offset r : ℕ) → offset ≡ offset_in index → r ≡ entries_in section offset → 16 ≤ length index
     → 16 * r ≤ length index → offset + 16 ≤ length section
     → hashed_of (index ++ more) (section ++ behind) ≡ hashed_of index section

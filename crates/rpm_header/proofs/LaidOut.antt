@@ -27,7 +27,7 @@ data_length at e es =
     length-append (replicate (offset_of at e - at) 0 ++ bytes_in e) (data_from (end_of at e) es)
     ∙ rw (length-append (replicate (offset_of at e - at) 0) (bytes_in e), length-replicate {A = ℕ} (offset_of at e - at) 0) refl
 
--- the end of all data is behind the first entry's data
+-- the end of all data is after the first entry's data
 pub end_from : (at : ℕ) (e : Item) (es : List Item) → at + length (data_from at (e ∷ es)) ≡ end_of at e + length (data_from (end_of at e) es)
 end_from at e es = omega (arith, data_length at e es, offset_behind at e)
 

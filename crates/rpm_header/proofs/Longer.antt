@@ -1,4 +1,4 @@
--- An entry without a fault says the same where more data stand behind.
+-- An entry without a fault says the same where more data stand after.
 use Rattle.std.proofs.Common.{◌≡◌, ℕ, zero, suc, ◌+◌, ◌*◌, ◌<◌, ◌≤◌, List, [], ◌∷◌, ◌++◌, length, take, drop, map, cond, Bool, true, false, eqb, Some, None, refl, ap, length-append, le-ltb, lt-ltb, arith}
 use Rattle.std.specs.Prelude.{nat_lt, not, ◌&&◌, ◌||◌, is_some, if◌then◌else◌}
 use Rattle.std.specs.List.{range_with_len, position, position_or_len, after_first}

@@ -1,4 +1,4 @@
--- The index, a region and the fault of an entry, where further entries stand behind.
+-- The index, a region and the fault of an entry, where further entries stand after.
 use Rattle.std.proofs.Common.{zero-add, add-zero, ◌≡◌, ℕ, zero, suc, ◌+◌, ◌*◌, ◌^◌, ◌≤◌, List, ◌++◌, length, take, drop, map, Bool, true, false, eqb, Option, Some, None, refl, sym, ap, subst, ◌∙◌, length-drop, arith}
 use Rattle.std.specs.Prelude.{◌&&◌, ◌||◌, if◌then◌else◌}
 use Rattle.std.specs.List.{range_with_len, list_any}

@@ -9,7 +9,7 @@ use Rattle.rpm_header.specs.inner.Zeros.{zeros, skipped}
 use Rattle.rpm_header.proofs.Bools.{and_true}
 use Rattle.rpm_header.proofs.Counted.{zeros-cons, zeros-nil}
 
--- the text behind so many others
+-- the text after so many others
 pub text_behind : (n i : ℕ) (bytes : List ℕ) → i < n → slice_get (texts n bytes) i ≡ Some (before_first is_zero (skipped i bytes))
 unfolding texts skipped
 text_behind zero i bytes lt = absurd (omega arith)
@@ -74,7 +74,7 @@ skip_one_more i j bytes is =
     let k : j ≡ suc i = omega arith in
     rw k (skip_next i bytes)
 
--- the text behind fewer texts than there are has its zero byte
+-- the text after fewer texts than there are has its zero byte
 pub ended_behind : (n i : ℕ) (bytes : List ℕ) → i < n → are_ended n bytes ≡ true → is_some (position is_zero (skipped i bytes)) ≡ true
 unfolding skipped are_ended
 ended_behind zero i bytes lt e = absurd (omega arith)

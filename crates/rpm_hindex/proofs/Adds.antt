@@ -18,7 +18,7 @@ use Rattle.rpm_hindex.proofs.Extends.{Extends, Stands, stands_in, sound_whole, u
 use Rattle.rpm_hindex.proofs.Tallies.{tally, times_rows, sum_flat, sum_at, sum_each, length_sum}
 use Rattle.rpm_hindex.proofs.Counts.{times_one}
 
--- y is x with a record of this row behind all others, in front of its bucket's chain
+-- y is x with a record of this row after all others, in front of its bucket's chain
 pub record AddsRecord (x y : Index) (kind : ℕ) (key : List ℕ) (number place : ℕ) : Type 0 where
   pub buckets : y.buckets ≡ x.buckets
   pub used : y.used ≡ x.used + record_units (length key)

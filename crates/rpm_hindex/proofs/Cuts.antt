@@ -156,7 +156,7 @@ module _ (c : Change) (file : Units) (go : CanGo c) (none : length c.tail.items 
       let t = sound_parts y b r ((sound_of y ks has b r below in_b).1) in
       other (sym s.bucket ∙ ap (λ (k : ℕ). bucket_of y.buckets (row_at y.unit k)) e ∙ t.bucket)
 
-  -- or one behind another
+  -- or one after another
   later_cut : (pre post : List ℕ) (h : Head) (at to : ℕ) → ks b ≡ pre ++ h.at ∷ at ∷ post → first_of post ≡ to → IsHead x.unit h → SetsNext old new h to
       → n ≡ units_at x.unit at
       → Drops (λ q. contains nat_cmp c.dropped q) (λ q. contains nat_cmp dropped q) at → IsCut d file

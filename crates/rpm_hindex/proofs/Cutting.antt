@@ -66,7 +66,7 @@ pub chain_rest : (x : Index) (b at : ℕ) (pre : List ℕ) (p : ℕ) (post : Lis
 chain_rest x b at [] p post (is, some, sound, rest) = rest
 chain_rest x b at (r ∷ pre) p post (is, some, sound, rest) = chain_rest x b (next_at x.unit r) pre p post rest
 
--- ---- the chains behind a cut
+-- ---- the chains after a cut
 
 module _ (x y z : Index) (buckets : y.buckets ≡ x.buckets) (zb : z.buckets ≡ y.buckets) (zu : z.used ≡ y.used) (kept later : ℕ → Bool)
     (hx : HasChains x (places_of x)) (has : HasChains y (λ b. filter kept (places_of x b)))

@@ -52,7 +52,7 @@ module _ (x y : Index) (buckets : y.buckets ≡ x.buckets) (used : y.used ≡ x.
         subst (λ (n : ℕ). IsChain y b n ps) (sym here.1) (chain_keeps b (next_at x.unit p) ps rest (λ q (k, lt, e). same q (suc k, omega arith, e))),
       )
 
-  -- a chain that loses the record behind the last of these
+  -- a chain that loses the record after the last of these
   pub chain_cuts : (b at : ℕ) (pre : List ℕ) (q p : ℕ) (post : List ℕ) → IsChain x b at (pre ++ q ∷ p ∷ post)
       → ((r : ℕ) → Contains (pre ++ q ∷ p ∷ post) r → SameBut x y r) → ((r : ℕ) → (r ≡ q → ⊥) → Contains (pre ++ q ∷ p ∷ post) r → next_at y.unit r
       ≡ next_at x.unit r) → next_at y.unit q ≡ next_at x.unit p → IsChain y b at (pre ++ q ∷ post)

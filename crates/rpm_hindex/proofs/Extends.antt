@@ -1,4 +1,4 @@
--- An index that has another's records, where they stand, and maybe more behind them.
+-- An index that has another's records, where they stand, and maybe more after them.
 use Rattle.std.proofs.Common.{◌≡◌, ℕ, zero, suc, ◌+◌, ◌/◌, ◌%◌, ◌^◌, ◌<◌, ◌≤◌, List, [], ◌∷◌, length, map, take, true, ltb, leb, refl, sym, ap, ◌∙◌, arith, subst, inl, inr}
 use Rattle.std.specs.List.{Contains, sum_by, flat_map, range_with_len}
 use Rattle.std.proofs.lemmas.Bool.{and_from, eq-eqb, lt-ltb, le-leb, cases_eq}

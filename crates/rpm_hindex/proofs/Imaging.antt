@@ -64,7 +64,7 @@ word_back : (m : ℕ) → m < 2 ^ 32 → from_le_bytes w32 (bytes_of_word m) ≡
 unfolding bytes_of_word
 word_back m lt = from_le_bytes-to_le_bytes_4 m lt
 
--- word b of the units behind the first
+-- word b of the units after the first
 word_of : (bytes : List ℕ) (b : ℕ) → 16 + 4 * b + 4 ≤ length bytes → length bytes % 16 ≡ 0 → (n : ℕ)
     → ((i : ℕ) → i < 4 → get_or bytes (16 + 4 * b + i) 0 ≡ get_or (bytes_of_word n) i 0) → n < 2 ^ 32 → word (b % 4) (unit_at (units_of bytes) (1 + b / 4)) ≡ n
 unfolding word
@@ -103,7 +103,7 @@ module _ (rows : List Row) (buckets : ℕ) (heads bytes second all : List ℕ)
         f.fours,
       )
 
-  -- the units behind the front are those of the draft
+  -- the units after the front are those of the draft
   rest_byte : (j : ℕ) → 16 + 4 * buckets ≤ j → get_or all j 0 ≡ get_or bytes j 0
   rest_byte j from =
       let front : length (second ++ flat_map bytes_of_word heads) ≡ 16 + 4 * buckets = omega

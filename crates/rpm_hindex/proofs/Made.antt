@@ -11,7 +11,7 @@ use Rattle.rpm_hindex.specs.inner.Making.{record_of, padding}
 use Rattle.rpm_hindex.specs.Index.{next_at, length_at, row_at, key_at, run}
 use Rattle.rpm_hindex.proofs.UnitWords.{length-unit, word_0, word_1, word_2, word_3}
 
--- bytes behind whole units
+-- bytes after whole units
 pub cut_up-append : (n m : ℕ) (a b : List ℕ) → length a ≡ 16 * n → cut_up (n + m) (a ++ b) ≡ cut_up n a ++ cut_up m b
 cut_up-append zero m a b long =
     let none : a ≡ [] = nil_from_length a (omega arith) in
@@ -67,7 +67,7 @@ module _ (next kind : ℕ) (key : List ℕ) (number place : ℕ) where
       let flat : length (bytes_of (cut_up m padded)) ≡ 16 * m = ap length (bytes_of-cut_up m padded length-padded) ∙ length-padded in
       omega (arith, flat, length-append head (bytes_of (cut_up m padded)), length-unit next (kind * 2 ^ 28 + length key) number place)
 
-  -- the bytes of a record are cut up into its units, also behind others
+  -- the bytes of a record are cut up into its units, also after others
   pub units-made : (a : List ℕ) (n : ℕ) → length a ≡ 16 * n → units_of (a ++ bytes_of made) ≡ units_of a ++ made
   unfolding record_of
   units-made a n long =

@@ -21,7 +21,7 @@ packed_none = record {
   count = omega arith;
 }
 
--- bytes behind all keys change no row
+-- bytes after all keys change no row
 same_row_in : (keys key : List ℕ) (h : RowHead) → h.start + h.length ≤ length keys → row_in (keys ++ key) h ≡ row_in keys h
 same_row_in keys key h le =
     let is : take h.length (drop h.start (keys ++ key)) ≡ take h.length (drop h.start keys) =

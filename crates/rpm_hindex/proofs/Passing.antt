@@ -56,13 +56,13 @@ module _ (B b from at end : ℕ) (file before : Files) (done left : List ℕ) (s
     pub met_left : IsPath x b met.next next_left.0 end
     met_left = subst (λ (n : ℕ). IsPath x b n next_left.0 end) (sym met_first.next) next_left.3
 
-    -- what is so behind it
+    -- what is so after it
     pub behind : (P : Index → List ℕ → Type 0) (after : Files) → after ≡ file
         → ((qs : List ℕ) → IsPath (index_in B after.idx) b met.next qs end → P (index_in B after.idx) qs) → P x next_left.0
     behind P after stays said =
         subst (λ (f : Files). (qs : List ℕ) → IsPath (index_in B f.idx) b met.next qs end → P (index_in B f.idx) qs) stays said next_left.0 met_left
 
-    -- what was read with those behind it
+    -- what was read with those after it
     pub cost_behind : (after : Files) (first old mid new : ℕ) → after ≡ file → old ≤ first + 16 * sum_by units done
         → (is_sound (index_in B before.idx) b at ≡ true → mid ≤ old + 16 * units_at (unit_at before.idx) at)
         → PathCosts (index_in B after.idx) b met.next end mid new → new ≤ first + 16 * sum_by units (done ++ left)
@@ -83,7 +83,7 @@ module _ (B b from at end : ℕ) (file before : Files) (done left : List ℕ) (s
         none_more (unit_at file.idx) kept row done at none
         (λ stays. no_hit (same_row row (row_at (unit_at file.idx) at)) met.is_row (kept met.head.at) met_first.same miss (ap kept here ∙ stays))
 
-    -- it is the row's and kept, and the dropped ones behind it were skipped
+    -- it is the row's and kept, and the dropped ones after it were skipped
     pub spot_met : (kept : ℕ → Bool) (last : Option Head) (to : ℕ) (after : Files) → met.head.at ≡ at
         → IsLast (unit_at file.idx) (filter kept done) last → (met.is_row && kept met.head.at) ≡ true → after ≡ file
         → ((qs : List ℕ) → IsPath (index_in B after.idx) b met.next qs end → SkipsTo (index_in B after.idx) b end kept met.next to)
@@ -103,6 +103,6 @@ module _ (B b from at end : ℕ) (file before : Files) (done left : List ℕ) (s
               (behind (λ (y : Index) (qs : List ℕ). SkipsTo y b end kept met.next to) after stays skips);
         }
 
--- the way behind one record more
+-- the way after one record more
 pub left_more : (front done left qs : List ℕ) (at : ℕ) → front ≡ done ++ left → left ≡ at ∷ qs → front ≡ (done ++ at ∷ []) ++ qs
 left_more front done left qs at is first = is ∙ ap (λ (ps : List ℕ). done ++ ps) first ∙ sym (append_assoc done (at ∷ []) qs)

@@ -1,4 +1,4 @@
--- A file whose units behind unit 0 stay.
+-- A file whose units after unit 0 stay.
 use Rattle.std.proofs.Common.{◌≡◌, ℕ, ◌+◌, ◌/◌, ◌%◌, ◌<◌, ◌≤◌, max, List, [], ◌∷◌, length, take, refl, sym, ap, ◌∙◌, arith, subst}
 use Rattle.rpm_outside.specs.Files.{Units, unit_at, put, units_of}
 use Rattle.rpm_outside.specs.inner.Cuts.{length-cut_up, unit_at-cut_up}

@@ -19,7 +19,7 @@ use Rattle.rpm_hindex.proofs.FollowedLinks.{chain_ok}
 use Rattle.rpm_hindex.proofs.Paths.{path_falls, path_above, path_follow, follow_path}
 use Rattle.rpm_hindex.proofs.Ways.{path_then, path_cost}
 
--- ---- a row is found behind a start, or before it
+-- ---- a row is found after a start, or before it
 
 -- the last of two lists
 pub last_or : (unit : ℕ → List ℕ) (ps qs : List ℕ) (p q : Option Head) → IsLast unit ps q → IsLast unit qs p → IsLast unit (ps ++ qs) (option_or p q)
@@ -120,7 +120,7 @@ module _ (x : Index) (b from : ℕ) (kept later : ℕ → Bool) where
     ];
   }
 
-  -- the next row is looked for behind the record that was dropped
+  -- the next row is looked for after the record that was dropped
   pub start_next : (row : Row) (s : Spot) → Loses kept later s.at → IsSpot x b from 0 kept row s
       → IsStart x b from later (record { before = s.before; at = s.behind })
   start_next row s less is =

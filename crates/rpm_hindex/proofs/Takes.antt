@@ -18,7 +18,7 @@ live_none = refl
 pub next_rows : (rows : List Row) (i : ℕ) → i < length rows → take (i + 1) rows ≡ take i rows ++ row_nth rows i ∷ []
 next_rows rows i lt = take_more rows i no_row lt
 
--- the rows from this one on, which the next one stands behind
+-- the rows from this one on, which the next one stands after
 pub rows_from : (rows : List Row) (i next : ℕ) → i < length rows → next ≡ i + 1 → drop i rows ≡ row_nth rows i ∷ drop next rows
 rows_from rows i next lt is =
     let behind : suc i ≡ next = omega (arith, is) in

@@ -12,7 +12,7 @@ use Rattle.rpm_outside.specs.Changes.{Changes, IsSame}
 use Rattle.rpm_outside.specs.inner.Changing.{changes_then}
 use Rattle.rpm_hindex.specs.Images.{SameSeal, VoidOrSame, SealedOrSame}
 
--- a write behind unit 0 leaves it
+-- a write after unit 0 leaves it
 pub torn_behind : (at : ℕ) (us a b : Units) → 1 ≤ at → Torn at us a b → SameSeal a b
 torn_behind at us a b behind torn = elim (torn.each 0) [
   | inl old ↦ old

@@ -22,7 +22,7 @@ module _ (x : Index) (b : ℕ) where
   path_more from at next [] is some sound e = (is, some, sound, sym e)
   path_more from at next (p ∷ ps) (is, psome, psound, rest) some sound e = (is, psome, psound, path_more (next_at x.unit p) at next ps rest some sound e)
 
-  -- two ways, one behind the other
+  -- two ways, one after the other
   pub path_then : (from mid to : ℕ) (ps qs : List ℕ) → IsPath x b from ps mid → IsPath x b mid qs to → IsPath x b from (ps ++ qs) to
   path_then from mid to [] qs first second = subst (λ (n : ℕ). IsPath x b n qs to) (sym first) second
   path_then from mid to (p ∷ ps) qs (is, some, sound, rest) second = (is, some, sound, path_then (next_at x.unit p) mid to ps qs rest second)

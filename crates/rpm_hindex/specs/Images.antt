@@ -1,4 +1,4 @@
--- What a stop may leave of Hindex.db, beside what it was.
+-- What a crash may leave of Hindex.db, beside what it was.
 use Rattle.std.specs.Prelude.{◌≡◌, ◌⊎◌, ◌≤◌, ℕ, List, [], ◌∷◌, length}
 use Rattle.rpm_outside.specs.Files.{Units, unit_at, blank, put}
 use Rattle.rpm_hindex.specs.Index.{records}

@@ -17,7 +17,7 @@ abbrev pub after_units : List Patch → Units → Units
 after_units [] file = file
 after_units (p ∷ ps) file = after_units ps (put p.unit (p.words ∷ []) file)
 
--- units behind all others, or nothing
+-- units after all others, or nothing
 abbrev pub after_tail : ℕ → List ℕ → Units → Units
 after_tail used tail file = if length tail == 0 then file else put used (units_of tail) file
 
@@ -86,7 +86,7 @@ IsPlanFor drops adds buckets file work = IsChanged drops adds (records buckets f
 abbrev pub IsSizedFor : List Row → List Row → List Row → Work → Type 0
 IsSizedFor drops adds old work = (new : List Row) → HasChanged drops adds old new → IsSized new work
 
--- writing this makes a file of so many units no longer than its units with the added rows' records behind them, or an index of the rows after the
+-- writing this makes a file of so many units no longer than its units with the added rows' records after them, or an index of the rows after the
 -- change that is made from scratch
 abbrev pub ReachesFor : List Row → List Row → List Row → ℕ → Work → Type 0
 ReachesFor drops adds old units work = (new : List Row) → HasChanged drops adds old new → units_after work ≤ max (units + live_of adds) (units_for new)

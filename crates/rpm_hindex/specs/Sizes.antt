@@ -11,7 +11,7 @@ key_units length = (length + 15) / 16
 abbrev pub record_units : ℕ → ℕ
 record_units length = 1 + key_units length
 
--- the first unit behind so many bucket words
+-- the first unit after so many bucket words
 abbrev pub first_record : ℕ → ℕ
 first_record buckets = 2 + buckets / 4
 

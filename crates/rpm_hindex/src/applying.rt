@@ -17,7 +17,7 @@ use crate::planning::{IndexPlan, Patch, Patches, Work};
 use crate::writing::{sync, write_units};
 use rpm_outside::Disk;
 
-/// Writes one unit behind unit 0.
+/// Writes one unit after unit 0.
 fn write_patch<D: Disk>(disk: &mut D, patch: Patch) -> Result<(), IndexDiskFault>
     requires behind { 1 ≤ patch.unit }
     requires room { patch.unit < 2 ^ 28 }
@@ -43,7 +43,7 @@ fn write_patches<D: Disk>(disk: &mut D, patches: &[Patch]) -> Result<(), IndexDi
     Ok(())
 }
 
-/// Writes the records behind all others.
+/// Writes the records after all others.
 fn write_tail<D: Disk>(disk: &mut D, used: u32, tail: &[u8]) -> Result<(), IndexDiskFault>
     requires behind { 1 ≤ used }
     requires whole { length tail.now % 16 ≡ 0 }
@@ -58,7 +58,7 @@ fn write_tail<D: Disk>(disk: &mut D, used: u32, tail: &[u8]) -> Result<(), Index
     write_units(disk, used as u64, tail)
 }
 
-/// Writes the records behind all others, and then the units that change, which lie before them.
+/// Writes the records after all others, and then the units that change, which lie before them.
 fn write_records<D: Disk>(disk: &mut D, patches: &Patches) -> Result<(), IndexDiskFault>
     requires units { (k : ℕ) → k < length patches.now.units.items → (1 ≤ (patch_at patches.now.units.items k).unit)
         × ((patch_at patches.now.units.items k).unit < 2 ^ 28) }
@@ -96,7 +96,7 @@ fn write_counts<D: Disk>(disk: &mut D, second: [u8; 16]) -> Result<(), IndexDisk
 }
 
 impl Hindex {
-    /// Writes units that change, records behind all others, and unit 1.
+    /// Writes units that change, records after all others, and unit 1.
     fn patch<D: Disk>(&mut self, disk: &mut D, patches: &Patches) -> Result<(), IndexDiskFault>
         requires patches { ArePatches self.old.units patches.now }
         requires keeps { IsTrue D.tells → Keeps (D.files disk.old).idx self.old }

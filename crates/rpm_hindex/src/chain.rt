@@ -28,7 +28,7 @@ use crate::words::word;
 use rpm_outside::{Disk, File};
 use std::alloc::Global;
 
-/// How many buckets an index has, and the first unit behind its records.
+/// How many buckets an index has, and the first unit after its records.
 #[derive(Clone, Copy)]
 pub struct Extent {
     pub buckets: u32,
@@ -227,7 +227,7 @@ fn sorted(hits: Vec<Hit>) -> Hits
 }
 
 impl Hindex {
-    /// How many buckets unit 0 tells of, and the first unit behind the records.
+    /// How many buckets unit 0 tells of, and the first unit after the records.
     pub fn extent(&self) -> Extent
         ensures { result ≡ record { buckets = word 3 self.now.first; used = word 0 self.now.second } }
     {

@@ -32,7 +32,7 @@ use rpm_outside::Disk;
 use std::alloc::Global;
 use std::collections::{BTreeMap, BTreeSet};
 
-/// The units that change, the records behind all others, the places of the records that were dropped, and the numbers of unit 1.
+/// The units that change, the records after all others, the places of the records that were dropped, and the numbers of unit 1.
 #[derive(Drop)]
 pub struct Change {
     pub extent: Extent,
@@ -67,7 +67,7 @@ fn put_dropped(dropped: &mut BTreeSet<u32>, at: u32) -> Result<(), PrepareFault>
     Ok(())
 }
 
-/// Lets a bucket's next row be looked for behind this spot's record.
+/// Lets a bucket's next row be looked for after this spot's record.
 fn put_start(starts: &mut BTreeMap<u32, Start>, bucket: u32, spot: Spot) -> Result<(), PrepareFault>
     ensures put { OnOk result (Puts (λ b. get nat_cmp starts.old b) (λ b. get nat_cmp starts.new b) bucket (record { before = spot.before; at = spot.behind })) }
     ensures memory { IfErr result (λ e. e ≡ PrepareFault.NoMemory) }
@@ -176,7 +176,7 @@ impl Change {
         put_dropped(&mut self.dropped, spot.at)
     }
 
-    /// The first unit behind all records, those that were added too.
+    /// The first unit after all records, those that were added too.
     pub fn used(&self) -> u32
         requires go { CanGo self.now }
         ensures { result ≡ self.now.extent.used + length self.now.tail.items / 16 }

@@ -23,7 +23,7 @@ use std::alloc::Global;
 use std::collections::BTreeMap;
 
 /// Drops a record of each of these rows, where there is one. The last row first: a package's rows stand in their chains newest first, so that
-/// each is met at once behind the one that was dropped before it.
+/// each is met at once after the one that was dropped before it.
 fn drop_each<D: Disk>(
     alloc: Global,
     disk: &mut D,

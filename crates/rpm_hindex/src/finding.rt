@@ -26,7 +26,7 @@ use rpm_outside::Disk;
 use std::alloc::Global;
 use std::collections::{BTreeMap, BTreeSet};
 
-/// Where the next row of a bucket is looked for first: behind the last record that was dropped, and the kept record before that one.
+/// Where the next row of a bucket is looked for first: after the last record that was dropped, and the kept record before that one.
 #[derive(Clone, Copy)]
 pub struct Start {
     pub before: Option<Head>,
@@ -40,7 +40,7 @@ pub struct Found {
     pub spot: Option<Spot>,
 }
 
-/// The spot of a row in its bucket's chain, whose first record stands there: it is looked for behind the start, and then before it.
+/// The spot of a row in its bucket's chain, whose first record stands there: it is looked for after the start, and then before it.
 fn find_around<D: Disk>(
     alloc: Global,
     disk: &mut D,

@@ -125,7 +125,7 @@ fn set_next(units: &mut BTreeMap<u32, [u8; 16]>, head: Head, next: u32) -> Resul
     put_unit(units, head.at, unit)
 }
 
-/// Takes a record out of its chain: the record before it, or the bucket's word, names the one behind it.
+/// Takes a record out of its chain: the record before it, or the bucket's word, names the one after it.
 pub fn unlink(
     units: &mut BTreeMap<u32, [u8; 16]>,
     words: &[u8; 16],

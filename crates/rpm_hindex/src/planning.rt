@@ -36,7 +36,7 @@ pub struct Patch {
     pub words: [u8; 16],
 }
 
-/// Units that change, by rising place, and the records behind all others.
+/// Units that change, by rising place, and the records after all others.
 #[derive(Drop)]
 pub struct Patches {
     pub units: Vec<Patch>,

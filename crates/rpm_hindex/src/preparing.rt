@@ -97,14 +97,14 @@ impl Hindex {
     /// Works out a change of the index: drops a record of each of these rows, where there is one, and then adds records. Writes nothing,
     /// and takes all memory that the change needs.
     ///
-    /// Drops the last row first, and looks for each behind the one of its bucket that was dropped before it; only where it isn't there, from
+    /// Drops the last row first, and looks for each after the one of its bucket that was dropped before it; only where it isn't there, from
     /// the front of the chain as far as that one. So the rows of a package, which stand in their chains in the other order than it added
     /// them, are found in one pass: those of one bucket cost the records from its front to the last of them once, and not for each row.
     ///
     /// Reads of each dropped row's bucket 16 bytes, of the records on the way to the row's own 16 bytes each and the keys of those that
     /// have the row's number and place, and 16 bytes for each added row; and all chains, where the index must be made from scratch:
     /// where it would have more than two records a bucket, more than 268435456 units, or more units without records than with. A fault of
-    /// a chain behind the row's record, or in a key that isn't read, isn't met, unless all chains are read. Where one is met, that chain
+    /// a chain after the row's record, or in a key that isn't read, isn't met, unless all chains are read. Where one is met, that chain
     /// is read anew from its front.
     ///
     /// # Errors

@@ -36,7 +36,7 @@ pub fn read_unit<D: Disk>(disk: &mut D, at: u64) -> Result<[u8; 16], Failed>
     Ok(unit)
 }
 
-/// Reads one unit of a file of so many, and nothing behind its end, where zeros stand.
+/// Reads one unit of a file of so many, and nothing after its end, where zeros stand.
 pub fn unit_or_zeros<D: Disk>(disk: &mut D, units: u64, at: u64) -> Result<[u8; 16], Failed>
     requires { IsTrue D.tells → units ≡ length (D.files disk.old).idx }
     ensures unit { IfOk result (λ unit. IsTrue D.tells → unit ≡ unit_at (D.files disk.old).idx at) }
@@ -75,7 +75,7 @@ fn lengthen(buffer: &mut Vec<u8>, long: usize) -> Result<(), FindFault>
     Ok(())
 }
 
-/// Reads a key of so many bytes, which begins with this unit, and the zeros behind it to the front of a buffer, which grows where it is
+/// Reads a key of so many bytes, which begins with this unit, and the zeros after it to the front of a buffer, which grows where it is
 /// too short.
 pub fn read_key_into<D: Disk>(
     disk: &mut D,

@@ -21,7 +21,7 @@ use rpm_outside::Disk;
 use std::alloc::Global;
 use std::collections::BTreeSet;
 
-/// A row's record, the kept record before it, and the first unit of the one behind it, or 0.
+/// A row's record, the kept record before it, and the first unit of the one after it, or 0.
 #[derive(Clone, Copy)]
 pub struct Spot {
     pub before: Option<Head>,
@@ -110,7 +110,7 @@ fn last_kept(dropped: &BTreeSet<u32>, last: u32, before: Option<Head>, head: Hea
 }
 
 /// The spot of a row in its bucket's chain from this unit on, as far as another. Reads the first units of the chain to the row's record and
-/// of those behind it that are dropped, and the keys of records that have the row's number and place. So a chain that isn't well formed may
+/// of those after it that are dropped, and the keys of records that have the row's number and place. So a chain that isn't well formed may
 /// have a spot too.
 pub fn find_spot<D: Disk>(
     alloc: Global,

@@ -129,7 +129,7 @@ fn place_without(
     Ok(fit(&used, count, 256))
 }
 
-/// The least places behind 100,000 packages, each of which stands behind the one before: in the set and in a copy.
+/// The least places after 100,000 packages, each of which stands after the one before: in the set and in a copy.
 fn import(alloc: Global) -> Result<Option<(u32, u32)>, AllocError> {
     let mut used = Used::new(alloc);
     used.reserve(100_000)?;

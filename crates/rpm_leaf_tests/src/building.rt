@@ -117,7 +117,7 @@ fn is_aligned(alloc: Global) -> Result<bool, AllocError> {
     is_made(alloc, made, ALIGNED)
 }
 
-// The library's snapshot with a number, a text and a number of eight bytes behind it.
+// The library's snapshot with a number, a text and a number of eight bytes after it.
 const SNAPSHOT_INSTALLED: &str = "0000000a 00000040
     000003e8 00000006 00000000 00000001
     000003e9 00000006 00000005 00000001
@@ -144,7 +144,7 @@ const TIMES_AND_TEXT: &str = "00000003 00000010
     00000468 00000005 00000008 00000001
     00000005 79000000 00000002 00000000";
 
-// Headers, the entries that come behind theirs, and what they become.
+// Headers, the entries that come after theirs, and what they become.
 const DRIBBLED: &[(&str, &str, &str)] = &[
     (PLAIN, TIMES, INSTALLED),
     (REGION, TIMES, REGION_INSTALLED),
@@ -152,7 +152,7 @@ const DRIBBLED: &[(&str, &str, &str)] = &[
     (SNAPSHOT, EMPTY, SNAPSHOT),
 ];
 
-/// What a header becomes with the entries of another behind its own.
+/// What a header becomes with the entries of another after its own.
 fn dribbled(alloc: Global, blob: &[u8], extra: &str) -> Result<Vec<u8>, BuildFault> {
     let Ok(extra) = builder_of(alloc, extra) else {
         return Err(BuildFault::NoMemory);
@@ -163,7 +163,7 @@ fn dribbled(alloc: Global, blob: &[u8], extra: &str) -> Result<Vec<u8>, BuildFau
     }
 }
 
-/// Whether a header becomes another one with these entries behind its own.
+/// Whether a header becomes another one with these entries after its own.
 fn is_dribbled(alloc: Global, hex: &str, extra: &str, want: &str) -> Result<bool, AllocError> {
     let made = dribbled(alloc, &bytes_of(alloc, hex)?, extra);
     is_made(alloc, made, want)
@@ -185,7 +185,7 @@ fn push_empty(builder: &mut Builder, count: u32) -> Result<(), AllocError> {
     Ok(())
 }
 
-/// Whether a header of these entries may have two numbers behind them, has so many bytes then, and may not have three entries behind them.
+/// Whether a header of these entries may have two numbers after them, has so many bytes then, and may not have three entries after them.
 fn is_full(
     alloc: Global,
     builder: &Builder,
@@ -197,7 +197,7 @@ fn is_full(
     Ok(has_length(dribbled(alloc, &blob, TIMES), length) && more == Some(fault))
 }
 
-/// Whether as many entries as a header may have are laid out, and one more is refused: behind a header, as a region and where the data are
+/// Whether as many entries as a header may have are laid out, and one more is refused: after a header, as a region and where the data are
 /// too much besides.
 fn entries_end(alloc: Global) -> Result<bool, AllocError> {
     let mut many = Builder::new(alloc);
@@ -213,7 +213,7 @@ fn entries_end(alloc: Global) -> Result<bool, AllocError> {
     Ok(few && most && region && both)
 }
 
-/// Whether as many bytes of data as a header may have are laid out, and one more is refused: behind a header and as a region.
+/// Whether as many bytes of data as a header may have are laid out, and one more is refused: after a header and as a region.
 fn bytes_end(alloc: Global) -> Result<bool, AllocError> {
     let mut much = Builder::new(alloc);
     much.push_bin(1000, &Vec::from_elem(alloc, 0, 67_108_856)?)?;

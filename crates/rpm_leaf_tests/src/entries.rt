@@ -52,7 +52,7 @@ fn pair_of(entry: &Entry<'_>) -> Option<(u64, u64)> {
     }
 }
 
-/// The texts of an entry, each with a comma behind it, or its bytes.
+/// The texts of an entry, each with a comma after it, or its bytes.
 fn content(alloc: Global, entry: &Entry<'_>) -> Result<Vec<u8>, AllocError> {
     let mut bytes = Vec::new(alloc);
     match entry.form() {

@@ -20,7 +20,7 @@ pub const REGION: &str = "00000005 00000018
     000003fe 00000006 00000006 00000001
     61003100 32007800 0000003f 00000007 ffffffb0 00000010";
 
-// The first one with two numbers behind it, the time and the transaction of its installation.
+// The first one with two numbers after it, the time and the transaction of its installation.
 pub const INSTALLED: &str = "00000006 00000010
     000003e8 00000006 00000000 00000001
     000003e9 00000006 00000002 00000001
@@ -30,7 +30,7 @@ pub const INSTALLED: &str = "00000006 00000010
     00000468 00000004 0000000c 00000001
     61003100 32007800 00000005 00000005";
 
-// The region with the time and the transaction of its installation behind it.
+// The region with the time and the transaction of its installation after it.
 pub const REGION_INSTALLED: &str = "00000007 00000020
     0000003f 00000007 00000008 00000010
     000003e8 00000006 00000000 00000001

@@ -59,7 +59,7 @@ fn push_number(graph: &mut Graph, number: u32) -> Result<(), AllocError> {
     Ok(())
 }
 
-/// Adds an edge between two of the numbers that stands behind the others.
+/// Adds an edge between two of the numbers that stands after the others.
 fn push_edge(graph: &mut Graph, from: u32, to: u32) -> Result<(), AllocError> {
     if from == to || !has(graph.numbers(), from) || !has(graph.numbers(), to) {
         return Ok(());

@@ -16,7 +16,7 @@ fn has_names(view: &View<'_>) -> bool {
 // Headers, how many entries each has, and how many bytes.
 const LAYOUTS: &[(&str, u32, usize)] = &[(PLAIN, 4, 80), (REGION, 5, 112), (INSTALLED, 6, 120)];
 
-/// Whether a header with a byte behind it has so many entries and bytes, and its names.
+/// Whether a header with a byte after it has so many entries and bytes, and its names.
 fn is_laid(alloc: Global, hex: &str, entries: u32, length: usize) -> Result<bool, AllocError> {
     let mut blob = bytes_of(alloc, hex)?;
     blob.push(0xff)?;

@@ -19,7 +19,7 @@ const WIDE_TID: &str = "00000001 00000008
 const TEXT_TID: &str = "00000001 00000002
     00000468 00000006 00000000 00000001 3600";
 
-// Headers with a kind, and its keys, each with its place and a bar behind it.
+// Headers with a kind, and its keys, each with its place and a bar after it.
 const KEYS: &[(&str, Kind, &str)] = &[
     (SHELL, Kind::Name, "bash0|"),
     (SHELL, Kind::Basenames, "bash0|sh1|"),
@@ -45,7 +45,7 @@ const KEYS: &[(&str, Kind, &str)] = &[
     (TEXT_TID, Kind::Installtid, ""),
 ];
 
-/// The keys of a kind, each with its place and a bar behind it.
+/// The keys of a kind, each with its place and a bar after it.
 fn shown(alloc: Global, view: &View<'_>, kind: Kind) -> Result<Vec<u8>, AllocError> {
     let mut bytes = Vec::new(alloc);
     for (key, place) in keys(kind, view) {

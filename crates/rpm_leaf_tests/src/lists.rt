@@ -11,7 +11,7 @@ const MAGIC_BYTES: &str = "8eade801 00000000";
 // Two headers, in 176 bytes.
 const LIST: &[&str] = &[MAGIC_BYTES, PLAIN, MAGIC_BYTES, PLAIN];
 
-/// How many headers a list gives, and the fault behind them.
+/// How many headers a list gives, and the fault after them.
 fn walk(alloc: Global, shelf: &mut MemShelf) -> (u32, Option<ListFault>) {
     for given in 0..3 {
         match next_header(alloc, shelf) {

@@ -5,7 +5,7 @@ use rpm_file::read_package;
 use rpm_outside::{MemShelf, Shelf};
 use std::alloc::{AllocError, Global};
 
-// The header of four texts with the number of the signature header behind them.
+// The header of four texts with the number of the signature header after them.
 const JOINED: &str = "00000005 0000000c
     000003e8 00000006 00000000 00000001
     000003e9 00000006 00000002 00000001
@@ -14,7 +14,7 @@ const JOINED: &str = "00000005 0000000c
     00000101 00000004 00000008 00000001
     61003100 32007800 00000058";
 
-/// Whether the open package has this header, and a byte of 7 behind its main header.
+/// Whether the open package has this header, and a byte of 7 after its main header.
 fn has_header(alloc: Global, shelf: &mut MemShelf, want: &[u8]) -> bool {
     let is_same = match read_package(alloc, shelf) {
         Ok(package) => package.header() == want,
@@ -64,7 +64,7 @@ fn tagged(alloc: Global, parts: &[&str], places: &[(usize, u16)]) -> Result<Vec<
     Ok(bytes)
 }
 
-/// The header of four texts, the last of this tag, with the number of the signature header behind them where it joins.
+/// The header of four texts, the last of this tag, with the number of the signature header after them where it joins.
 fn header_with(alloc: Global, last: u16, joins: Option<u16>) -> Result<Vec<u8>, AllocError> {
     match joins {
         Some(under) => tagged(alloc, &[JOINED], &[(58, last), (74, under)]),
@@ -79,7 +79,7 @@ fn is_joined(alloc: Global, tag: u16, last: u16, joins: Option<u16>) -> Result<b
     is_read(alloc, &file, &want)
 }
 
-// The magic and a signature header of entries of each form, and the magic behind it. Neither the tag 1001 joins nor an entry of type 0,
+// The magic and a signature header of entries of each form, and the magic after it. Neither the tag 1001 joins nor an entry of type 0,
 // and two entries that become one tag both join.
 const MANY: &str = "8eade801 00000000 0000000b 00000028
     0000010e 00000005 00000000 00000001

@@ -43,7 +43,7 @@ const PASSED_DIRS: &str = "00000003 00000033
     00100011 01310032 00330034 00350061 00620063 00640065 00660067 00680069
     006a006b 006c006d 006e006f 00700071 007200";
 
-// A region with a name, a name behind the region, an epoch that is a text, an architecture that is a
+// A region with a name, a name after the region, an epoch that is a text, an architecture that is a
 // number, a group in three languages, the greatest size, no capability and two bytes.
 pub const ODD: &str = "0000000b 0000003a
     0000003f 00000007 00000000 00000010
@@ -79,7 +79,7 @@ fn push_parts(bytes: &mut Vec<u8>, text: &Joined<'_>) -> Result<(), AllocError> 
     Ok(())
 }
 
-/// The texts of a value, each with a bar behind it.
+/// The texts of a value, each with a bar after it.
 fn shown(alloc: Global, value: &TagValue<'_>) -> Result<Vec<u8>, AllocError> {
     let mut bytes = Vec::new(alloc);
     if value.class() == Class::Text {

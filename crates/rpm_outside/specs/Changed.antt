@@ -16,6 +16,6 @@ abbrev pub WasChanged : File → ℕ → ℕ → (Files → Type 0) → Files �
 WasChanged file first end images image = (from : Files) × images from × ChangedIn file first end from image
 
 module _ {D : Type 0} (moment : D → ℕ) (left_since : D → ℕ → Files → Type 0) where
-  -- what a stop may leave since a write to a range began
+  -- what a crash may leave since a write to a range began
   abbrev pub LeavesChanged : File → ℕ → ℕ → D → D → Type 0
   LeavesChanged file first end old new = LeavesOnly moment left_since old new (WasChanged file first end (left_since old (moment old)))

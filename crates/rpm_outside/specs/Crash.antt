@@ -1,4 +1,4 @@
--- What a stop may leave.
+-- What a crash may leave.
 use Rattle.std.specs.Prelude.{◌≡◌, ◌⊎◌, ℕ, ◌≤◌, length}
 use Rattle.rpm_outside.specs.declared.disk.File.{File}
 use Rattle.rpm_outside.specs.declared.disk.File.TheVariants.{Pkg, Idx, Log}
@@ -16,7 +16,7 @@ pub record TornFile (file : File) (at : ℕ) (units : Units) (old new : Files) :
   pub torn : Torn at units (file_of file old) (file_of file new)
   pub others : new ≡ with_file file (file_of file new) old
 
--- each new outcome of a stop is an old outcome after a step
+-- each new outcome of a crash is an old outcome after a step
 abbrev pub OnlyAfter : (Files → Files → Type 0) → (Files → Type 0) → (Files → Type 0) → Type 0
 OnlyAfter step old new = (image : Files) → new image → (from : Files) × old from × step from image
 
@@ -25,7 +25,7 @@ pub record Elapses (before now : ℕ) (past since : ℕ → Files → Type 0) : 
   pub later : before ≤ now
   pub nothing_else : (t : ℕ) (image : Files) → t ≤ before → since t image → past t image ⊎ since now image
 
--- a stop at any moment since old leaves files with P
+-- a crash at any moment since old leaves files with P
 pub record LeavesOnly {D : Type 0} (moment : D → ℕ) (left_since : D → ℕ → Files → Type 0) (old new : D) (P : Files → Type 0) : Type 0 where
   pub later : moment old ≤ moment new
   pub each : (image : Files) → left_since new (moment old) image → P image

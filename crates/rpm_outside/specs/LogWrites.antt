@@ -1,4 +1,4 @@
--- Entries that stand in a log, and the gate that opens it.
+-- Entries that stand in a log, and the commit record that opens it.
 use Rattle.std.specs.Prelude.{◌≡◌, ℕ, ◌+◌, ◌<◌, ◌≤◌, List, [], ◌∷◌, length, false}
 use Rattle.rpm_outside.specs.declared.disk.File.{File}
 use Rattle.rpm_outside.specs.declared.disk.File.TheVariants.{Pkg, Idx, Log}
@@ -22,12 +22,12 @@ pub record EntryIn (entry : Entry) (p : ℕ) (log : Units) : Type 0 where
   pub within : p + length entry.units < length log
   pub units : (k : ℕ) → k < length entry.units → unit_at log (p + 1 + k) ≡ unit_at entry.units k
 
--- entries stand in a log one behind the other, from unit p on as far as this end
+-- entries stand in a log one after the other, from unit p on as far as this end
 abbrev pub EntriesIn : List Entry → ℕ → ℕ → Units → Type 0
 EntriesIn [] p end log = p ≡ end
 EntriesIn (entry ∷ entries) p end log = EntryIn entry p log × EntriesIn entries (p + 1 + length entry.units) end log
 
--- a gate for so many entries as far as this unit
+-- a commit record for so many entries as far as this unit
 pub record IsGate (gate : List ℕ) (entries last : ℕ) : Type 0 where
   pub magic : word 0 gate ≡ 0x4c6d_7052
   pub version : word 1 gate ≡ 1

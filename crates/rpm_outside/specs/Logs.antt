@@ -31,7 +31,7 @@ is_zero b = b == 0
 abbrev pub is_blank : List ℕ → Bool
 is_blank unit = list_all is_zero unit
 
--- a gate is `RpmL`, version 1, the number of entries, and the last unit, which the log has
+-- a commit record is `RpmL`, version 1, the number of entries, and the last unit, which the log has
 unfoldable pub is_gate : ℕ → List ℕ → Bool
 is_gate units gate = (word 0 gate == 0x4c6d_7052) && ((word 1 gate == 1) && (nat_lt 0 (word 2 gate) && nat_lt (word 3 gate) units))
 
@@ -61,7 +61,7 @@ heads (suc n) p last units = if is_head last p (unit_at units p)
     then before (entry_at p units) (heads n (p + 1 + word 2 (unit_at units p)) last units)
     else Malformed p
 
--- a log is closed where its first unit is zeros or isn't there; else its first unit is a gate, and heads follow
+-- a log is closed where its first unit is zeros or isn't there; else its first unit is a commit record, and heads follow
 unfoldable pub log_state : Units → LogState
 log_state units =
     let gate = unit_at units 0 in

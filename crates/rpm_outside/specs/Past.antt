@@ -22,7 +22,7 @@ abbrev pub after_steps : List Step → Files → Files
 after_steps [] files = files
 after_steps (step ∷ steps) files = after_steps steps (after_step step files)
 
--- what a stop may leave after a step, where it may leave these images before it and this is read
+-- what a crash may leave after a step, where it may leave these images before it and this is read
 abbrev pub LeftByStep : Step → Files → (Files → Type 0) → Files → Type 0
 LeftByStep (Wrote file at units) files images image = (from : Files) × images from × TornFile file at units.items from image
 LeftByStep (Synced file) files images image = images image × (file_of file image ≡ file_of file files)
@@ -66,7 +66,7 @@ pub record SettledOnce (old new : Files) (past steps : List Step) (file : File) 
   pub files : new ≡ old
   pub step : steps ≡ past ++ Synced file ∷ []
 
--- what a stop may leave of an image over one step
+-- what a crash may leave of an image over one step
 abbrev pub StepsTo : Step → Files → Files → Files → Type 0
 StepsTo (Wrote file at units) files old new = TornFile file at units.items old new
 StepsTo (Synced file) files old new = new ≡ with_file file (file_of file files) old

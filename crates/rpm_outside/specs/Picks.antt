@@ -16,7 +16,7 @@ takes_new seed i = (seed / 2 ^ (i % 64)) % 2 == 1
 abbrev pub mixed_unit : ℕ → Units → Units → ℕ → List ℕ
 mixed_unit seed old new i = if takes_new seed i then unit_at new i else unit_at old i
 
--- what a stop is taken to leave of a write
+-- what a crash is taken to leave of a write
 unfoldable pub picked : Pick → ℕ → Units → Units → Units
 picked Old at units file = file
 picked New at units file = put at units file

@@ -8,7 +8,7 @@ use arrayvec::ArrayVec;
 
 /// A sink that holds what it is given until there is much of it, or it is told to flush.
 ///
-/// What it took is what the inner sink took, and behind it what is held. Where the inner sink fails
+/// What it took is what the inner sink took, and after it what is held. Where the inner sink fails
 /// what it didn't take is still held, in order, and goes out first by a later call.
 #[derive(Drop)]
 pub struct Buffered<O: Sink + Drop> {

@@ -8,7 +8,7 @@ use crate::File;
 use crate::steps::{Held, copy_of};
 use std::alloc::{AllocError, Global};
 
-/// The files at a moment at which each of them was settled, so that a stop left them as they read.
+/// The files at a moment at which each of them was settled, so that a crash left them as they read.
 #[derive(Drop)]
 pub struct Copy {
     at: usize,
@@ -101,7 +101,7 @@ impl Copies {
         }
     }
 
-    /// The last copy that isn't behind a moment.
+    /// The last copy that isn't after a moment.
     fn last_before(&self, moment: usize) -> Option<&Copy>
         ensures { IfSome result (λ copy. HasCopy self.now.kept.items moment copy.now) }
     {
@@ -114,7 +114,7 @@ impl Copies {
         None
     }
 
-    /// The files of the last copy that isn't behind a moment, and the copy's own moment: the first files, of moment 0, where
+    /// The files of the last copy that isn't after a moment, and the copy's own moment: the first files, of moment 0, where
     /// there is none.
     pub fn start(
         &self,

@@ -1,4 +1,4 @@
-//! A disk of three files, and what a stop at any moment may leave of them.
+//! A disk of three files, and what a crash at any moment may leave of them.
 
 ghost use Rattle.std.specs.Prelude.{◌≡◌, ◌<◌, ◌≤◌, ◌+◌, ◌/◌, ◌%◌, ◌^◌, Bool, IsTrue, ℕ, length, take, drop, is_err, IfOk, OnOk, OnErr};
 
@@ -14,8 +14,8 @@ pub enum File {
 
 /// Three files of 16-byte units.
 ///
-/// A unit is the most that a stop leaves whole: after a write that was cut short each of its units is the old one or the new
-/// one. Bytes behind the last whole unit of a file aren't seen, and a file that isn't there has no units.
+/// A unit is the most that a crash leaves whole: after a write that was cut short each of its units is the old one or the new
+/// one. Bytes after the last whole unit of a file aren't seen, and a file that isn't there has no units.
 pub trait Disk {
     ghost use Rattle.rpm_outside.specs.declared.disk.File.{File};
     ghost use Rattle.rpm_outside.specs.Files.{Files, file_of, with_file, units_of, put};
@@ -29,7 +29,7 @@ pub trait Disk {
     /// What a read gives, where it is told.
     ghost files: { Self → Files };
 
-    /// The images that a stop at some moment from that one on may leave, those inside calls included.
+    /// The images that a crash at some moment from that one on may leave, those inside calls included.
     ghost left_since: { Self → ℕ → Files → Type 0 };
 
     /// The moment: a number that never falls, and rises with each write and sync that goes through. One that fails either lets
@@ -127,7 +127,7 @@ pub trait Disk {
     /// The files as they read are an image.
     ghost as_read: { (disk : Self) → IsTrue tells → left_since disk (moment disk) (files disk) };
 
-    /// A stop since a later moment is one since an earlier moment.
+    /// A crash since a later moment is one since an earlier moment.
     ghost earlier: { (disk : Self) (s t : ℕ) (image : Files) → IsTrue tells → s ≤ t → t ≤ moment disk → left_since disk t image → left_since disk s image };
 
     ghost follows_refl: { (disk : Self) → follows disk disk };

@@ -13,7 +13,7 @@ use crate::steps::{
 use crate::{Disk, Failed, File};
 use std::alloc::{AllocError, Global};
 
-/// A disk that keeps each write and sync, so that each image that a stop leaves can be had, and that can be told to fail.
+/// A disk that keeps each write and sync, so that each image that a crash leaves can be had, and that can be told to fail.
 #[derive(Drop)]
 pub struct MemDisk {
     alloc: Global,
@@ -59,7 +59,7 @@ impl MemDisk {
         }
     }
 
-    /// A disk with these files, settled. Bytes behind a file's last whole unit are left out.
+    /// A disk with these files, settled. Bytes after a file's last whole unit are left out.
     ///
     /// # Errors
     ///
@@ -72,7 +72,7 @@ impl MemDisk {
         Ok(MemDisk::settled(alloc, first, held))
     }
 
-    /// One of the images that a stop at this moment may leave, as a settled disk. It is made from a copy of the
+    /// One of the images that a crash at this moment may leave, as a settled disk. It is made from a copy of the
     /// files at the last moment before it of which one is kept, and the writes and syncs since then.
     /// `MemDisk` keeps one at a sync where all files are settled, and as many units were written since
     /// the last copy as the files have.

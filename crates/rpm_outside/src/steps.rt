@@ -109,7 +109,7 @@ fn blanks(alloc: Global, count: usize) -> Result<Vec<[u8; 16]>, AllocError>
     Ok(units)
 }
 
-/// Lets a file end at this unit or behind it. The units that it gains are zeros.
+/// Lets a file end at this unit or after it. The units that it gains are zeros.
 fn lengthen(alloc: Global, file: &mut Vec<[u8; 16]>, end: usize) -> Result<(), AllocError>
     ensures ok { OnOk result (file.new.items ≡ file.old.items ++ replicate (end - length file.old.items) blank) }
     ensures err { OnErr result (file.new.items ≡ file.old.items) }
@@ -257,7 +257,7 @@ fn mixed(
     Ok(mixed)
 }
 
-/// Does to a file what a stop leaves of a write.
+/// Does to a file what a crash leaves of a write.
 #[tactic(auto, unfolding(crate::specs::Picks::picked))]
 fn write_picked(
     alloc: Global,

@@ -60,7 +60,7 @@ module _ {D : Type 0} (tells : Bool) (files : D → Files) (left_since : D → �
 
 module _ {D : Type 0} (tells : Bool) (files : D → Files) (left_since : D → ℕ → Files → Type 0) (moment : D → ℕ)
     (bytes_read : D → File → ℕ) (follows : D → D → Type 0) (told : IsTrue tells) where
-  -- what stops leave that fall into a run
+  -- what crashes leave that fall into a run
   pub copies_stops_from : (R : Units → Units → Type 0) (P : Units → Type 0) (most : ℕ) (a b : D)
       → Changes tells files left_since moment bytes_read follows Pkg R most a b
       → ((from image : Files) → left_since a (moment a) from → R from.pkg image.pkg → P image.pkg)

@@ -1,4 +1,4 @@
--- What a stop leaves while a slot is set free and its blocks become zeros.
+-- What a crash leaves while a slot is set free and its blocks become zeros.
 use Rattle.std.proofs.Common.{◌≡◌, ◌≢◌, inl, inr, ℕ, ◌+◌, ◌*◌, ◌<◌, ◌≤◌, List, [], ◌∷◌, length, true, refl, sym, ap, ◌∙◌, subst, arith}
 use Rattle.std.proofs.lemmas.Bool.{cases_eq}
 use Rattle.rpm_outside.specs.Files.{Units, put}
@@ -80,7 +80,7 @@ module _ (st : Store) (k : ℕ) (s : Slot) (has : HasSlot st k s) where
               (page_blocks from st m (2 + k) unit after.slots inside behind);
         }
 
-    -- a stop while the slot is written
+    -- a crash while the slot is written
     pub while_freed : (file from image : Units) → StandsAs st file from → Torn (2 + k) (unit ∷ []) from image → BeforeOrAfter st after file image
     while_freed file from image stands torn =
         let m = made from st stands.keeps has.made in
@@ -89,7 +89,7 @@ module _ (st : Store) (k : ℕ) (s : Slot) (has : HasSlot st k s) where
           | inr new ↦ inr (subst (StandsAs after file) (sym new) (freed_stands file from stands))
         ]
 
-  -- a stop while its blocks become zeros
+  -- a crash while its blocks become zeros
   pub zeroed_stands : (file from image : Units) → StandsAs after file from → SameOutside s.offset s.count from image
       → AreSound st.pages (length from) st.slots → StandsAs after file image
   zeroed_stands file from image stands same sound =

@@ -39,7 +39,7 @@ field_put_stands st file from unit next some is stands =
       blocks = blocks_then st.slots file from (put 1 (unit ∷ []) from) stands.blocks (field_blocks from st m unit);
     }
 
--- a stop while the number field is written
+-- a crash while the number field is written
 pub field_torn_stands : (st : Store) (file from image : Units) (field : Option ℕ) → 1 ≤ st.pages → StandsAs st file from → FieldTorn field from image
     → StandsAs st file image ⊎ StandsAs (with_next field st) file image
 field_torn_stands st file from image None some stands same = inl (subst (StandsAs st file) (sym same) stands)

@@ -62,7 +62,7 @@ module _ (slots : List Slot) (count : ℕ) where
       fits_there : fits slots count at ≡ true
       le : at ≤ block
 
-    -- a block behind one where they don't fit is the end of a slot's blocks
+    -- a block after one where they don't fit is the end of a slot's blocks
     at_end : (before block : ℕ) → block ≡ before + 1 → from ≤ before → Fits slots count block → fits slots count before ≡ false → Below block
     at_end before block next far f fails =
         let some : list_any (meets (blocks before)) slots ≡ true = elim (cases_Bool (list_any (meets (blocks before)) slots)) [

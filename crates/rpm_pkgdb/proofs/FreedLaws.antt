@@ -66,7 +66,7 @@ put_blank_all field units place start n at m unit a b c d long blob written chan
     (put_blank (2 + place) unit end start n b c (omega arith) written))
     (zeros_blank end at m start n c d changed zeros)
 
--- a slot page is written behind the others, and unit 0
+-- a slot page is written after the others, and unit 0
 pub page_blank : (pages : ℕ) (unit : List ℕ) (a b c : Units) → SameOutside (256 * pages) 256 a b → c ≡ put 0 (unit ∷ []) b
     → KeepsBlank (256 * (pages + 1)) 0 0 a c
 page_blank pages unit a b c changed written i low aside was =
@@ -131,7 +131,7 @@ freed_more end slots now m old F1 F2 is below used low freed zeros keeps i had f
         keeps i (omega (arith, low, from)) (not_there now m.place below (moved old m.to) used i not)
         (freed i had from (λ has. aside (subst (λ (t : Slot). t.offset ≤ i × (i < end_of t)) is (was_there now m.place below (moved old m.to) i has not))))
 
--- ---- free slots behind
+-- ---- free slots after
 
 pub behind_has : (slots : List Slot) (i : ℕ) → HasBlock slots i → HasBlock (slots ++ replicate 256 free) i
 behind_has slots i has =

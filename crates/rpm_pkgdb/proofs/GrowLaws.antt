@@ -1,4 +1,4 @@
--- What a stop leaves while a slot page is added.
+-- What a crash leaves while a slot page is added.
 use Rattle.std.proofs.Common.{◌≡◌, inl, inr, ℕ, zero, suc, ◌+◌, ◌-◌, ◌*◌, ◌<◌, ◌≤◌, List, [], ◌∷◌, ◌++◌, length, replicate, true, None, refl, sym, ap, ◌∙◌, subst, arith, length-append}
 use Rattle.std.specs.FinMap as finite
 use Rattle.std.proofs.lemmas.Cmp.{nat_cmp_total}
@@ -24,7 +24,7 @@ use Rattle.rpm_pkgdb.specs.inner.Grows.{with_page, CanGrow, HasFreePage}
 use Rattle.rpm_pkgdb.proofs.Erases.{blocks_then}
 use Rattle.rpm_pkgdb.proofs.ErasesTo.{stands_for, unfolded}
 
--- ---- free slots behind others
+-- ---- free slots after others
 
 pub at_front : (slots : List Slot) (k : ℕ) → k < length slots → slot_at (slots ++ replicate 256 free) k ≡ slot_at slots k
 at_front slots k below = get_or_append_left slots (replicate 256 free) free k below

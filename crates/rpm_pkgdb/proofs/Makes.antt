@@ -1,4 +1,4 @@
--- What a stop leaves while a database is made.
+-- What a crash leaves while a database is made.
 use Rattle.std.proofs.Common.{◌≡◌, inl, inr, ℕ, ◌+◌, List, [], ◌∷◌, length, replicate, true, not, None, Ok, refl, sym, ap, ◌∙◌, subst, arith}
 use Rattle.std.specs.List.{list_any}
 use Rattle.std.specs.Option.{option_map}
@@ -41,7 +41,7 @@ says_blank file st keeps none = elim (cases_Bool (is_blank file)) [
 still_blank : (file image : Units) → unit_at image 0 ≡ unit_at file 0 → is_blank file ≡ true → store image ≡ Ok blank_store
 still_blank file image same blank = blank_says image (subst (λ (u : List ℕ). not (list_any is_nonzero u) ≡ true) (sym same) blank)
 
--- a stop while units 1 to 255 are written
+-- a crash while units 1 to 255 are written
 pub while_first : (from image : Units) → is_blank from ≡ true → SameOutside 1 255 from image → MakesTo image
 while_first from image blank same = inl (still_blank from image (same.below 0 (omega arith)) blank)
 
@@ -93,7 +93,7 @@ module _ (st : Store) (unit : List ℕ) (is : IsHeadUnit unit 1 1) where
         sound = new_sound 1 (length next);
       }
 
-  -- a stop while unit 0 is written
+  -- a crash while unit 0 is written
   pub while_headed : (from image : Units) → is_blank from ≡ true → IsFirstPage from → Torn 0 (unit ∷ []) from image → MakesTo image
   while_headed from image blank page torn = elim (torn_one 0 unit from image (omega (arith, page.long)) torn) [
     | inl same ↦ inl (subst (λ (u : Units). store u ≡ Ok blank_store) (sym same) (blank_says from blank))

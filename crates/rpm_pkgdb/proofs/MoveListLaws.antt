@@ -38,7 +38,7 @@ pub record Keep (value after : Store) : Type 0 where
   pub generation_is : after.generation ≡ value.generation
   pub pages_are : after.pages ≡ value.pages
   pub field_is : after.field ≡ value.field
-  -- a slot is as it was, or its blocks are behind the page
+  -- a slot is as it was, or its blocks are after the page
   pub each : (j : ℕ) → (slot_at after.slots j ≡ slot_at value.slots j) ⊎ (256 * (value.pages + 1) ≤ (slot_at after.slots j).offset)
 
 pub keep_none : (value : Store) → Keep value value

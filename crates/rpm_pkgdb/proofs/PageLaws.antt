@@ -122,7 +122,7 @@ planning_more slots end moves now pages place to sound are slots_are first least
       slots_are = ap (λ (l : List Slot). after_move l m) slots_are ∙ sym (after_then slots moves m);
     }
 
--- a range that is moved behind the block no longer begins before it
+-- a range that is moved after the block no longer begins before it
 pub one_less : (slots : List Slot) (end place to : ℕ) → IsFirstBefore slots end place → end ≤ to
     → count_before end (set slots place (moved (slot_at slots place) to)) + 1 ≡ count_before end slots
 unfolding count_before

@@ -124,7 +124,7 @@ module _ (numbers : Pairs) (v : Store) (kept : IsKept numbers v.pages v.slots) (
   pub count_all : length all ≡ length v.slots + 256
   count_all = omega (arith, length-append slots (replicate 256 free), length-replicate 256 free, count_moved)
 
-  -- slot 0 has blocks behind the pages
+  -- slot 0 has blocks after the pages
   pub page_fits : 256 * (v.pages + 1) ≤ 2 ^ 28
   page_fits =
       let p = kept.sound.placed 0 (can.all_used 0 (omega (arith, kept.count))) in

@@ -1,4 +1,4 @@
--- Sorted pairs with a greater one behind them.
+-- Sorted pairs with a greater one after them.
 use Rattle.std.proofs.Common.{◌≡◌, ◌≢◌, inl, inr, ℕ, ◌<◌, [], ◌∷◌, ◌++◌, length, Option, Some, None, IsSome, refl, ap, arith}
 use Rattle.std.proofs.lemmas.List.{get_or_append_left, get_or_push, length_push}
 use Rattle.std.proofs.lemmas.Bool.{cases_lt}

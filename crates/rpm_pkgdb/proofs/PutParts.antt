@@ -1,4 +1,4 @@
--- A write in parts, one behind the other.
+-- A write in parts, one after the other.
 use Rattle.std.proofs.Common.{◌≡◌, inl, inr, ℕ, zero, suc, ◌+◌, ◌-◌, ◌*◌, ◌/◌, ◌%◌, ◌≤◌, List, [], ◌∷◌, ◌++◌, length, take, drop, refl, sym, ap, ◌∙◌, arith, length-append, length-drop}
 use Rattle.std.proofs.lemmas.Bool.{cases_lt}
 use Rattle.std.proofs.lemmas.List.{get_or_append_left, get_or-append_right, take-append-le, drop-append-le, nil_from_length}
@@ -61,7 +61,7 @@ cut_up-append (suc n) m a b long =
     ap (λ (k : ℕ). cut_up k (a ++ b)) s ∙ ap (λ (u : List ℕ). u ∷ cut_up (n + m) (drop 16 (a ++ b))) t ∙ ap (λ (bs : List ℕ). take 16 a ∷ cut_up (n + m) bs) d
     ∙ ap (λ (us : Units). take 16 a ∷ us) (cut_up-append n m (drop 16 a) b (omega (arith, length-drop 16 a)))
 
--- bytes behind whole units
+-- bytes after whole units
 pub units_of-append : (a b : List ℕ) → length a % 16 ≡ 0 → units_of (a ++ b) ≡ units_of a ++ units_of b
 units_of-append a b whole =
     let n : length (a ++ b) / 16 ≡ length a / 16 + length b / 16 = omega (arith, length-append a b) in

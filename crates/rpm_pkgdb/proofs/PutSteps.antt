@@ -61,7 +61,7 @@ module _ (v : Store) (plan : Plan) (is : IsPlan v plan) (made : 1 ≤ v.pages) w
       replaced = same_held old held;
     }
 
-    -- what stops leave is told of the blobs from before the page
+    -- what crashes leave is told of the blobs from before the page
     pub puts_from : (F0 F1 image : Units) → blobs F1 after ≡ blobs F0 v → PutsTo after plan.target blob F1 image → PutsTo v plan.target blob F0 image
     puts_from F0 F1 image same =
         subst (λ (B : BlobMap). PutsTo after plan.target blob F1 image

@@ -1,4 +1,4 @@
--- What a stop leaves while a blob is put.
+-- What a crash leaves while a blob is put.
 use Rattle.std.proofs.Common.{◌≡◌, ◌≢◌, inl, inr, ℕ, zero, suc, ◌+◌, ◌^◌, ◌≤◌, List, [], ◌∷◌, length, true, if◌then◌else◌, Option, None, refl, sym, ap, ◌∙◌, subst, arith, set}
 use Rattle.rpm_outside.specs.Files.{Units, unit_at, units_of, put}
 use Rattle.rpm_outside.specs.Crash.{Torn}
@@ -99,7 +99,7 @@ module _ (st : Store) (target : Target) (g : ℕ) (old : Slot) (blob : List ℕ)
       aside_stands st k s (can_set from stands.keeps None) file from mid stands
       (subst (λ (n : ℕ). SameOutside target.start n from mid) (sym (ap blocks_for can.length_is)) same)
 
-  -- a stop while the blob is written
+  -- a crash while the blob is written
   pub while_blob : (file from image : Units) → StandsAs st file from → BlobTorn target.start (blocks_for (length blob)) (next_field target) from image
       → WhilePut st target g blob file image
   while_blob file from image stands torn =
@@ -141,7 +141,7 @@ module _ (st : Store) (target : Target) (g : ℕ) (old : Slot) (blob : List ℕ)
     pub slotted : (from : Units) → Stored file from → StandsWith st target g blob file (put (2 + k) (unit ∷ []) from)
     slotted from was = set_stands mid_value k s (can_after file keeps) us us_count unit is file from was.stands was.holds
 
-    -- a stop while it is written
+    -- a crash while it is written
     pub while_slotted : (from image : Units) → Stored file from → Torn (2 + k) (unit ∷ []) from image → WhilePut st target g blob file image
     while_slotted from image was torn = elim (while_set mid_value k s (can_after file keeps) us us_count unit is file from was.stands was.holds image torn) [
       | inl before ↦ Numbered before

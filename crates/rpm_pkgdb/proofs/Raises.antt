@@ -1,4 +1,4 @@
--- What a stop leaves while the generation is raised.
+-- What a crash leaves while the generation is raised.
 use Rattle.std.proofs.Common.{◌≡◌, inl, inr, ℕ, ◌≤◌, List, [], ◌∷◌, refl, sym, ◌∙◌, subst, arith}
 use Rattle.rpm_outside.specs.Files.{Units, Files, put}
 use Rattle.rpm_outside.specs.Crash.{Torn}
@@ -27,7 +27,7 @@ module _ (st : Store) (some : 1 ≤ st.pages) (unit : List ℕ) (generation : �
             (page_blocks from st m 0 unit st.slots (omega arith) (λ k used. (m.sound.placed k used).behind));
       }
 
-  -- a stop while unit 0 is written
+  -- a crash while unit 0 is written
   pub while_raised : (file from image : Units) → StandsAs st file from → Torn 0 (unit ∷ []) from image → BeforeOrAfter st after file image
   while_raised file from image stands torn =
       let m = made from st stands.keeps some in

@@ -1,4 +1,4 @@
--- What a stop leaves while a slot is set.
+-- What a crash leaves while a slot is set.
 use Rattle.std.proofs.Common.{◌≡◌, ◌≢◌, ◌⊎◌, inl, inr, ℕ, ◌+◌, ◌-◌, ◌*◌, ◌<◌, ◌≤◌, List, [], ◌∷◌, length, true, sym, ap, ◌∙◌, subst, arith, set, get_or-set_same, get_or-set_other}
 use Rattle.std.proofs.lemmas.Bool.{cases_eq}
 use Rattle.std.proofs.lemmas.Bool.Decides.{nat_tests}
@@ -87,7 +87,7 @@ module _ (st : Store) (place : ℕ) (s : Slot) (can : CanSet st place s) where
             };
           }
 
-      -- a stop while it is written
+      -- a crash while it is written
       pub while_set : (image : Units) → Torn (2 + place) (unit ∷ []) from image → StandsAs st file image ⊎ StandsSet st place s us file image
       while_set image torn =
           let m = made from st stands.keeps can.made in

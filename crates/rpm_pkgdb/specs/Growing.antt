@@ -1,4 +1,4 @@
--- A slot page more: the used ranges that begin before its end move behind it, one after the other, and its slots are free.
+-- A slot page more: the used ranges that begin before its end move after it, one after the other, and its slots are free.
 use Rattle.std.specs.Prelude.{◌≡◌, ◌≢◌, ℕ, ◌+◌, ◌*◌, ◌<◌, ◌≤◌, List, [], ◌∷◌, ◌++◌, slice_set, replicate, true, Bool, Option, Some, None}
 use Rattle.std.specs.List.{sum_by}
 use Rattle.rpm_pkgdb.specs.declared.slot.Slot.{Slot}
@@ -32,11 +32,11 @@ abbrev pub AreMoves : List Slot → ℕ → List Move → Type 0
 AreMoves slots end [] = Unit {0}
 AreMoves slots end (m ∷ moves) = IsNextMove slots end m × AreMoves (after_move slots m) end moves
 
--- all used ranges begin at this block or behind it
+-- all used ranges begin at this block or after it
 abbrev pub AreBehind : List Slot → ℕ → Type 0
 AreBehind slots end = (j : ℕ) → is_used (slot_at slots j) ≡ true → end ≤ (slot_at slots j).offset
 
--- the first block behind the slot pages and one more
+-- the first block after the slot pages and one more
 abbrev pub next_end : Store → ℕ
 next_end value = 256 * (value.pages + 1)
 

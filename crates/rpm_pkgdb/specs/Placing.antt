@@ -69,7 +69,7 @@ pub record Placement : Type 0 where
   pub target : Target
   pub moves : Option (List Move)
 
--- a blob goes to the first fit behind the slot pages, counted with the one that is added
+-- a blob goes to the first fit after the slot pages, counted with the one that is added
 unfoldable pub placed_in : Store → ℕ → ℕ → ℕ → Bool → Option (List Move) → Option Placement
 placed_in value number place size is_new moves =
     option_map (λ start. record {

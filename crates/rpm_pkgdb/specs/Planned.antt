@@ -35,7 +35,7 @@ pub record IsFor (n : Option ℕ) (length : ℕ) (plan : Plan) : Type 0 where
   pub number : IfSome n (λ m. plan.target.number ≡ m)
   pub length_is : plan.target.length ≡ length
 
--- after some moves the first used range still begins before this block, and fits nowhere behind it
+-- after some moves the first used range still begins before this block, and fits nowhere after it
 pub record CantMove (slots : List Slot) (end : ℕ) : Type 0 where
   pub moves : List Move
   pub are : AreMoves slots end moves

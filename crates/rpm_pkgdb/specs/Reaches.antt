@@ -5,12 +5,12 @@ use Rattle.rpm_pkgdb.specs.declared.slot.Slot.{Slot}
 use Rattle.rpm_pkgdb.specs.Slots.{is_used, end_of}
 use Rattle.rpm_pkgdb.specs.Store.{Store}
 
--- the first block behind all used ones
+-- the first block after all used ones
 abbrev pub last_end : List Slot → ℕ
 last_end [] = 0
 last_end (s ∷ slots) = max (if is_used s then end_of s else 0) (last_end slots)
 
--- the first block behind the slot pages and all used blocks
+-- the first block after the slot pages and all used blocks
 abbrev pub store_end : Store → ℕ
 store_end value = max (256 * value.pages) (last_end value.slots)
 

@@ -5,7 +5,7 @@ use Rattle.rpm_outside.specs.Files.{Units}
 use Rattle.rpm_pkgdb.specs.declared.slot.Slot.{Slot}
 use Rattle.rpm_pkgdb.specs.Words.{word}
 
--- the slot in a unit, behind its magic
+-- the slot in a unit, after its magic
 abbrev pub slot_of : List ℕ → Slot
 slot_of unit = record { number = word 1 unit; offset = word 2 unit; count = word 3 unit }
 
@@ -25,7 +25,7 @@ free = record { number = 0; offset = 0; count = 0 }
 abbrev pub slot_at : List Slot → ℕ → Slot
 slot_at slots k = slice_index_or slots k free
 
--- the first block behind a slot's blocks
+-- the first block after a slot's blocks
 abbrev pub end_of : Slot → ℕ
 end_of s = s.offset + s.count
 

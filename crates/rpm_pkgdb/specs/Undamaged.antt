@@ -6,7 +6,7 @@ use Rattle.rpm_pkgdb.specs.Words.{word, begins}
 use Rattle.rpm_pkgdb.specs.Slots.{slot_of, slot_at, is_used, end_of}
 use Rattle.rpm_pkgdb.specs.Store.{Store}
 
--- the blocks of a used slot lie behind the pages and inside the file, and its number can be that of a package
+-- the blocks of a used slot lie after the pages and inside the file, and its number can be that of a package
 pub record IsPlaced (pages units : ℕ) (s : Slot) : Type 0 where
   pub number : 0 < s.number
   pub few : s.number ≢ 4294967295

@@ -34,7 +34,7 @@ abbrev pub AreZeros : Option Slot → Units → Type 0
 AreZeros None file = Unit {0}
 AreZeros (Some s) file = (i : ℕ) → s.offset ≤ i → i < end_of s → unit_at file i ≡ blank
 
--- what a stop leaves while a number is erased
+-- what a crash leaves while a number is erased
 abbrev pub ErasesTo : Store → ℕ → Units → Units → Type 0
 ErasesTo value n file image =
     StandsFor value.generation value.field (blobs file value) image ⊎ StandsFor value.generation value.field (finite.remove (blobs file value) n) image
@@ -43,7 +43,7 @@ ErasesTo value n file image =
 abbrev pub with_generation : ℕ → Store → Store
 with_generation generation value = record value { generation = generation }
 
--- what a stop leaves while the generation becomes another
+-- what a crash leaves while the generation becomes another
 abbrev pub RaisesTo : Store → ℕ → Units → Units → Type 0
 RaisesTo value generation file image =
     StandsFor value.generation value.field (blobs file value) image ⊎ StandsFor generation value.field (blobs file value) image
@@ -52,7 +52,7 @@ RaisesTo value generation file image =
 abbrev pub made_new : Store → Store
 made_new value = record value { generation = 1; pages = 1; field = 1; slots = replicate 254 free }
 
--- what a stop leaves while a database is made
+-- what a crash leaves while a database is made
 abbrev pub MakesTo : Units → Type 0
 MakesTo image = (store image ≡ Ok blank_store) ⊎ StandsFor 1 1 finite.empty image
 
@@ -77,7 +77,7 @@ with_next next value = record value { field = field_after next value.field }
 abbrev pub with_blob : Target → Store → Store
 with_blob target value = record (with_next (next_field target) value) { slots = slice_set value.slots target.place (slot_for target) }
 
--- what a stop leaves while a blob is put: the blobs from before, with the number field from before or after, or those after, with that after
+-- what a crash leaves while a blob is put: the blobs from before, with the number field from before or after, or those after, with that after
 abbrev pub PutsTo : Store → Target → List ℕ → Units → Units → Type 0
 PutsTo value target blob file image =
     StandsFor value.generation value.field (blobs file value) image

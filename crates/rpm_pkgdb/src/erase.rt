@@ -25,7 +25,7 @@ impl PkgDb {
     /// Its slot is set free, and once that is durable its blocks become zeros. Writes one unit and the blocks, a page at a time, and
     /// syncs once; reads nothing and takes no memory. The pairs of greater numbers move in memory.
     ///
-    /// A stop at any moment leaves the packages from before, or those without this one.
+    /// A crash at any moment leaves the packages from before, or those without this one.
     ///
     /// # Errors
     ///

@@ -25,7 +25,7 @@ use crate::units::head_unit;
 use crate::writing::{settle, write_one};
 use rpm_outside::{Disk, Failed};
 
-/// Writes a page of free slots behind so many, and settles it.
+/// Writes a page of free slots after so many, and settles it.
 fn write_free_page<D: Disk>(disk: &mut D, pages: u32) -> Result<(), Failed>
     requires { 256 * (pages + 1) ≤ 2 ^ 28 }
     ensures page { OnOk result (IsTrue D.tells → HasFreePage pages (D.files disk.new).pkg) }

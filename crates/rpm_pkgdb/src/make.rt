@@ -68,8 +68,8 @@ pub fn add_free(slots: &mut Vec<Slot>, more: u32)
 impl PkgDb {
     /// Makes a database of one slot page, generation 1 and next number 1, in a blank file.
     ///
-    /// Writes the page but for unit 0 and syncs, then unit 0 and syncs, and nothing behind the page. Reads nothing and takes no memory: opening a blank file made the
-    /// room. A stop at any moment leaves a blank file or that database.
+    /// Writes the page but for unit 0 and syncs, then unit 0 and syncs, and nothing after the page. Reads nothing and takes no memory: opening a blank file made the
+    /// room. A crash at any moment leaves a blank file or that database.
     ///
     /// # Errors
     ///

@@ -144,7 +144,7 @@ impl PkgDb {
         })
     }
 
-    /// Plans the moves that a slot page more asks for, one after the other by rising block, each to the least free place behind it.
+    /// Plans the moves that a slot page more asks for, one after the other by rising block, each to the least free place after it.
     fn plan_moves(&self, alloc: Global) -> Result<Page, PlanFault>
         requires made { 1 ≤ self.now.pages }
         requires room { 1 ≤ self.now.spare }

@@ -194,16 +194,16 @@ impl PkgDb {
 impl PkgDb {
     /// Decides where a blob of a length goes, under a number that is there or, for `None`, under a new one; and makes the room for it.
     ///
-    /// The blob goes to the least free blocks behind the slot pages, a new number to the first free slot. Nothing is read and nothing
+    /// The blob goes to the least free blocks after the slot pages, a new number to the first free slot. Nothing is read and nothing
     /// written. The first plan of a value gathers the used ranges, a step a slot where they rise in the order of the file, and else n log n,
     /// which is linear where they rise in a few runs; it takes 24 bytes a slot, and where they don't rise at most 12 more meanwhile. A later
     /// one takes two binary searches, a step for each gap that is too narrow, and for a new number a step for each used slot from the last
     /// one put on.
     ///
-    /// A new number for which no slot is free asks for a slot page more. The blobs in its way are planned to move behind it, by rising
+    /// A new number for which no slot is free asks for a slot page more. The blobs in its way are planned to move after it, by rising
     /// block, each to the least free place; then the new blob. This takes a step a slot to find them and a copy of the slots and of their
     /// ranges, 28 bytes a slot and 8 for each gap, until the put; and for each of them, which are at most 256, as many steps as there are
-    /// of them, and the ranges behind it move in memory. In a row of additions each so pays a 256th of it.
+    /// of them, and the ranges after it move in memory. In a row of additions each so pays a 256th of it.
     ///
     /// # Errors
     ///
@@ -246,7 +246,7 @@ impl PkgDb {
 }
 
 impl Target {
-    /// What becomes of the number field: for a new number it is the one behind it.
+    /// What becomes of the number field: for a new number it is the one after it.
     pub(crate) fn next_field(&self) -> Option<u32>
         requires { self.now.number < 4294967295 }
         ensures { result ≡ next_field self.now }

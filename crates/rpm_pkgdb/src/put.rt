@@ -155,10 +155,10 @@ impl PkgDb {
     /// and this before the next one; then the page is written and settled, and then unit 0. Then the blob is written into free blocks,
     /// with the number field where the number is new, and settled; then its slot, and settled; and then the blocks that it replaces
     /// become zeros. The blob isn't copied: five writes, one more for each page of zeros, and two syncs. Each block that moves is read
-    /// once, nothing else is read, and no memory is taken. In memory the ranges behind the new one move, which is none where it is the
+    /// once, nothing else is read, and no memory is taken. In memory the ranges after the new one move, which is none where it is the
     /// last.
     ///
-    /// A stop at any moment leaves the packages from before, or those with this one.
+    /// A crash at any moment leaves the packages from before, or those with this one.
     ///
     /// # Errors
     ///

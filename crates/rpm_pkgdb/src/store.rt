@@ -262,7 +262,7 @@ impl PkgDb {
     }
 
     /// The number of the next package: the greater of the field in unit 1 and one above the greatest number of a slot. A field that
-    /// fell behind is so passed over and is no damage (own).
+    /// fell after is so passed over and is no damage (own).
     pub fn next_number(&self) -> u32
         ensures { result ≡ next_number self.now }
     {

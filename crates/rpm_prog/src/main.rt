@@ -12,7 +12,7 @@ const NO_MEMORY: u8 = 254;
 
 const NO_TEXT: u8 = 251;
 
-/// The words behind the program's own name, or the status to end with.
+/// The words after the program's own name, or the status to end with.
 fn words_of(rt: &(impl Env + AllocGlobal)) -> Result<Words, u8> {
     let mut words = Words::new(rt.alloc());
     let args = match env::args(rt) {

@@ -4,7 +4,7 @@ use Rattle.std.proofs.Math.Nat.{div-eq_of_lt, lt-div-mul-add, div-lt_iff_lt-mul,
 use Rattle.std.proofs.lemmas.Bool.{ne_eqb, eq-eqb}
 use Rattle.std.specs.Fmt.{digits, digits_onto, digit_glyph}
 
--- the last k digits of a number at most, and behind them those that are known
+-- the last k digits of a number at most, and after them those that are known
 unfoldable pub onto : ℕ → ℕ → ℕ → List ℕ → List ℕ
 onto k base n acc = digits_onto k base false n acc
 

@@ -50,8 +50,8 @@ fn fill(file: &fs::File, offset: u64, into: &mut [u8]) -> Result<(), Failed> {
     }
 }
 
-/// Cuts off the bytes behind the last whole unit. Nobody sees them; a write behind them would show them in place of zeros. The cut lasts
-/// before anything is written, since a stop could keep the write and lose the cut.
+/// Cuts off the bytes after the last whole unit. Nobody sees them; a write after them would show them in place of zeros. The cut lasts
+/// before anything is written, since a crash could keep the write and lose the cut.
 fn cut_tail(file: &mut fs::File) -> Result<(), Failed> {
     let Ok(end) = file.seek(SeekFrom::End(0)) else {
         return Err(Failed);

@@ -62,7 +62,7 @@ fn nothing(alloc: Global, line: usize) -> Output {
     }
 }
 
-/// The text behind the `>` that begins these bytes, with a line end.
+/// The text after the `>` that begins these bytes, with a line end.
 fn shown_line(text: &[u8]) -> Result<&[u8], Fault> {
     match text.trim_ascii_start().strip_prefix(b">") {
         Some(line) => Ok(line.strip_prefix(b" ").unwrap_or(line)),

@@ -97,7 +97,7 @@ impl Line {
         Ok(())
     }
 
-    /// Takes a statement of what is expected of this line. `text` is what stands behind its first word and one space.
+    /// Takes a statement of what is expected of this line. `text` is what stands after its first word and one space.
     pub fn take(
         &mut self,
         alloc: Global,

@@ -37,7 +37,7 @@ fn reopened(alloc: Global, line: usize, disk: &MemDisk) -> Result<Vec<u8>, Stop>
     Ok(text)
 }
 
-/// That the database that a line left is that behind it, or that before it where this may be.
+/// That the database that a line left is that after it, or that before it where this may be.
 fn check_image(
     alloc: Global,
     shown: &Shown,

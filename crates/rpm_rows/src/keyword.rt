@@ -9,7 +9,7 @@ pub enum Stream {
     Err,
 }
 
-/// A database that a stop may leave: that before the change, or that behind it.
+/// A database that a crash may leave: that before the change, or that after it.
 #[derive(Clone, Copy)]
 pub enum Side {
     Before,

@@ -1,4 +1,4 @@
-//! Statements of what is left behind all lines.
+//! Statements of what is left after all lines.
 
 use crate::fault::Fault;
 use crate::fixtures::Fixtures;
@@ -28,7 +28,7 @@ fn digest_of(digits: &Token) -> Result<[u8; 32], Fault> {
     }
 }
 
-/// What a file is expected to be: a digest behind `sha256`, or pieces.
+/// What a file is expected to be: a digest after `sha256`, or pieces.
 fn file_left(
     alloc: Global,
     fixtures: &Fixtures,

@@ -36,7 +36,7 @@ impl Joined {
         Ok(())
     }
 
-    /// Appends the first so many generated headers, each behind its magic.
+    /// Appends the first so many generated headers, each after its magic.
     fn push_headers(&mut self, count: u32) -> Result<(), Fault> {
         if count > MOST_HEADERS {
             return Err(Fault::BadNumber);

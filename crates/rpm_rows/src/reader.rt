@@ -136,7 +136,7 @@ impl Reader {
         }
     }
 
-    /// Takes a statement of what is left behind all lines.
+    /// Takes a statement of what is left after all lines.
     fn take_left(
         &mut self,
         fixtures: &Fixtures,

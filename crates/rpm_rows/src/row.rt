@@ -1,4 +1,4 @@
-//! A worked row: its start, its command lines with what is expected of each, and what is left behind them.
+//! A worked row: its start, its command lines with what is expected of each, and what is left after them.
 
 use crate::fault::Fault;
 use crate::records::Record;
@@ -157,7 +157,7 @@ pub struct Line {
     pub is_untouched: bool,
 }
 
-/// What is expected of the files behind all lines.
+/// What is expected of the files after all lines.
 #[derive(Drop)]
 pub enum Left {
     Bytes(File, Vec<u8>),

@@ -42,7 +42,7 @@ pub fn statements_of(alloc: Global, bytes: &[u8]) -> Result<Vec<Statement>, Allo
     Ok(found)
 }
 
-/// The first word of a text, and what stands behind it and one space.
+/// The first word of a text, and what stands after it and one space.
 pub fn first_word(text: &[u8]) -> (&[u8], &[u8]) {
     let length = text
         .iter()

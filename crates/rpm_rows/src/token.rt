@@ -75,7 +75,7 @@ fn hex_byte(high: u8, low: u8) -> Result<u8, Fault> {
     }
 }
 
-/// The byte that what follows a backslash means, and what is behind it.
+/// The byte that what follows a backslash means, and what is after it.
 fn escape_of(text: &[u8]) -> Result<(u8, &[u8]), Fault> {
     let Some((first, rest)) = text.split_first() else {
         return Err(Fault::OpenText);
@@ -92,7 +92,7 @@ fn escape_of(text: &[u8]) -> Result<(u8, &[u8]), Fault> {
     }
 }
 
-/// The bytes of a text whose opening quote stands in front, and what is behind its closing one.
+/// The bytes of a text whose opening quote stands in front, and what is after its closing one.
 fn quoted(alloc: Global, text: &[u8]) -> Result<(Vec<u8>, &[u8]), Fault> {
     let mut bytes = Vec::new(alloc);
     let mut rest = text;
@@ -125,7 +125,7 @@ fn counted(text: &[u8]) -> Result<(u32, &[u8]), Fault> {
     }
 }
 
-/// The first word, and what is behind it.
+/// The first word, and what is after it.
 fn next_token(alloc: Global, text: &[u8]) -> Result<(Token, &[u8]), Fault> {
     let (count, atom) = counted(text)?;
     if let [b'"', inside @ ..] = atom {

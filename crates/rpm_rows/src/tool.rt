@@ -37,7 +37,7 @@ fn shelf_of(alloc: Global, start: &Start, failing: u64) -> Result<MemShelf, Allo
     Ok(shelf)
 }
 
-/// A sink that fails behind so many bytes.
+/// A sink that fails after so many bytes.
 fn sink_of(alloc: Global, start: &Start, limit: u64) -> MemSink {
     let mut sink = MemSink::new(alloc);
     sink.at_most(start.pieces.max(1));

@@ -6,7 +6,7 @@ use Rattle.rpm_select.specs.inner.Unclosed.{IsUnclosed}
 abbrev pub Back : Type 0
 Back = Option (Bor (List ℕ) × Bor (List ℕ))
 
--- the pieces behind the last star, and the text that it was met at or was moved on to
+-- the pieces after the last star, and the text that it was met at or was moved on to
 abbrev pub back_in : Back → Option (List Piece × List ℕ)
 back_in None = None
 back_in (Some b) = Some (pieces b.0.now, b.1.now)

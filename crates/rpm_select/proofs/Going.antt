@@ -5,7 +5,7 @@ use Rattle.rpm_select.specs.Glob.{Piece, Star, Question, Byte, Set, takes, stand
 
 -- ---- what a star stands for
 
--- the text behind a star's first byte
+-- the text after a star's first byte
 abbrev pub later : List Piece → List ℕ → Bool
 later ps [] = false
 later ps (b ∷ text) = stands_for (Star ∷ ps) text

@@ -43,12 +43,12 @@ stands_for (piece ∷ pieces) (b ∷ text) = takes piece b && stands_for pieces 
 abbrev pub is_close : ℕ → Bool
 is_close b = b == 93
 
--- behind a [: a ! or a ^ that turns the set round
+-- after a [: a ! or a ^ that turns the set round
 abbrev pub is_turned : List ℕ → Bool
 is_turned [] = false
 is_turned (b ∷ rest) = b == 33 || b == 94
 
--- what stands behind a ! or ^ at the front, if one is there
+-- what stands after a ! or ^ at the front, if one is there
 abbrev pub behind_turn : List ℕ → List ℕ
 behind_turn rest = if is_turned rest then drop 1 rest else rest
 
@@ -66,17 +66,17 @@ pub record Written : Type 0 where
 abbrev pub written : Piece → ℕ → Written
 written piece size = record { piece = piece; size = size }
 
--- behind a \ stands a byte for itself; at the end it is itself
+-- after a \ stands a byte for itself; at the end it is itself
 abbrev pub escaped : List ℕ → Written
 escaped [] = written (Byte 92) 1
 escaped (b ∷ rest) = written (Byte b) 2
 
--- behind a [; without an end it is itself
+-- after a [; without an end it is itself
 abbrev pub set_of : Bool → List ℕ → Option ℕ → Written
 set_of turned members None = written (Byte 91) 1
 set_of turned members (Some n) = written (Set turned (take n members)) (n + (if turned then 3 else 2))
 
--- the set that begins behind a [
+-- the set that begins after a [
 abbrev pub bracketed : List ℕ → Written
 bracketed rest = set_of (is_turned rest) (behind_turn rest) (member_count (behind_turn rest))
 
@@ -89,7 +89,7 @@ piece_at b rest =
     else if b == 91 then bracketed rest
     else written (Byte b) 1
 
--- the pieces of a glob, behind so many bytes
+-- the pieces of a glob, after so many bytes
 unfoldable pub pieces_behind : ℕ → List ℕ → List Piece
 pieces_behind n [] = []
 pieces_behind (suc n) (b ∷ glob) = pieces_behind n glob

@@ -29,7 +29,7 @@ abbrev pub with_release : Option (List ℕ) → Option (List ℕ) → List ℕ �
 with_release arch None text = []
 with_release arch (Some release) text = with_arch arch (text ++ 45 ∷ release)
 
--- the labels with a version behind a name, where there is a version
+-- the labels with a version after a name, where there is a version
 abbrev pub with_version : Option (List ℕ) → Option (List ℕ) → Option (List ℕ) → List ℕ → List (List ℕ)
 with_version arch None release text = []
 with_version arch (Some version) release text =

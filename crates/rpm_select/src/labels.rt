@@ -81,7 +81,7 @@ fn without_dash_or_dot(text: Option<&[u8]>) -> Option<&[u8]>
     Some(text)
 }
 
-/// Puts a byte and a text behind a label.
+/// Puts a byte and a text after a label.
 fn push(label: &mut Vec<u8>, byte: u8, text: &[u8]) -> Result<(), AllocError>
     ensures { OnOk result (label.new.items ≡ label.old.items ++ byte ∷ text.now) }
 {
@@ -89,7 +89,7 @@ fn push(label: &mut Vec<u8>, byte: u8, text: &[u8]) -> Result<(), AllocError>
     label.extend_from_slice(text)
 }
 
-/// Whether a label matches, by itself or with the architecture behind it. The label is left as it was.
+/// Whether a label matches, by itself or with the architecture after it. The label is left as it was.
 fn any_arch(
     label: &mut Vec<u8>,
     arch: Option<&[u8]>,

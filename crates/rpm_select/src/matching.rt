@@ -11,7 +11,7 @@ use crate::piece::{Piece, next_piece, takes, unclosed_len};
 enum Move<'a> {
     // Both are at their end.
     Done,
-    // A star, and the glob behind it.
+    // A star, and the glob after it.
     Starred(&'a [u8]),
     // A piece took a byte: what is left of both.
     Taken(&'a [u8], &'a [u8]),

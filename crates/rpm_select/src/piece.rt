@@ -112,7 +112,7 @@ fn close_place(rest: &[u8], unclosed: usize) -> usize
     ensures value { result ≡ position_or_len is_close rest.now }
     ensures within { result ≤ length rest.now }
 {
-    // Behind the glob's last `]` none is looked for, so that each `[` there costs one step.
+    // After the glob's last `]` none is looked for, so that each `[` there costs one step.
     if rest.len() <= unclosed {
         return rest.len();
     }
@@ -195,7 +195,7 @@ fn piece_at(byte: u8, rest: &[u8], unclosed: usize) -> Written<'_>
     }
 }
 
-/// The first piece of a glob, and the glob behind it. Takes as many steps as the piece has bytes.
+/// The first piece of a glob, and the glob after it. Takes as many steps as the piece has bytes.
 #[tactic(auto, using(crate::proofs::Unclosed::unclosed_behind))]
 pub fn next_piece(glob: &[u8], unclosed: usize) -> Option<(Piece<'_>, &[u8])>
     requires { IsUnclosed unclosed glob.now }

@@ -180,7 +180,7 @@ fn a_change_is_written_run_by_run(rt: HostRuntime) -> Result<(), AllocError> {
     let runs = written(alloc, RUNS)?;
     let is_logged = runs.2.copy_file(alloc, File::Log)?.as_slice() == LOGGED.as_slice();
     let is_right = has_both(alloc, &runs.2, (&[6, 0, 0, 7, 8], &[0, 9]))? && is_logged;
-    // 2 writes a run for the log, one for its file, 2 for the gate; 5 syncs, and 3 before
+    // 2 writes a run for the log, one for its file, 2 for the commit record; 5 syncs, and 3 before
     assert_eq!(rt;
         ((none.0, none.1), (log.0, log.1), (runs.0, runs.1), is_right),
         ((true, 3), (true, 3), (true, 3 + 3 * 3 + 2 + 5), true)

@@ -1,4 +1,4 @@
-//! The database: what a stop and a fault of a change leave.
+//! The database: what a crash and a fault of a change leave.
 
 use crate::db_change_tests::put;
 use crate::db_tests::{header_of, named};

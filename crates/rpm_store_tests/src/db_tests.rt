@@ -10,7 +10,7 @@ use rpm_outside::Disk;
 use rpm_tags::Kind;
 use std::alloc::{AllocError, Global};
 
-// The plain header with a region, and behind it an entry of tag 273, up to that entry's text of 64 bytes.
+// The plain header with a region, and after it an entry of tag 273, up to that entry's text of 64 bytes.
 const REGION: [u8; 128] = [
     0, 0, 0, 6, 0, 0, 0, 0x59, //
     0, 0, 0, 0x3f, 0, 0, 0, 7, 0, 0, 0, 8, 0, 0, 0, 0x10, //
@@ -28,7 +28,7 @@ const DIGEST: &[u8] = b"3d0d85fe20030bf49852a9bd894c16eaef3594996b7685ce400298d8
 
 const OTHER: &[u8] = b"3d0d85fe20030bf49852a9bd894c16eaef3594996b7685ce400298d8bbab7e00\0";
 
-// The packages of a store: number, bytes in front and behind, the type of the entry 273 (6 is a text, 7 bytes), and the checksum. Those
+// The packages of a store: number, bytes in front and after, the type of the entry 273 (6 is a text, 7 bytes), and the checksum. Those
 // that aren't right are 0.
 const SEVEN: &[(u32, &[u8], &[u8], u8, u32)] = &[
     (1, &PLAIN, b"more", 6, 0x761f_08a2),

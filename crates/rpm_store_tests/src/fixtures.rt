@@ -159,7 +159,7 @@ impl Draft {
         self.blobs.extend_from_slice(b"BlbE")
     }
 
-    /// The first block behind the pages and the blobs.
+    /// The first block after the pages and the blobs.
     fn end(&self) -> u32 {
         let blocks = (self.blobs.len() / 16 & 0xff_ffff) as u32;
         self.pages.saturating_mul(256).saturating_add(blocks)

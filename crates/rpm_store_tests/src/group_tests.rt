@@ -48,7 +48,7 @@ fn load(alloc: Global, disk: MemDisk) -> (Result<u64, LoadFault>, MemDisk) {
     }
 }
 
-// A gate of zeros, with rubbish behind it.
+// A commit record of zeros, with rubbish after it.
 const SHUT: &[(usize, u8)] = &[(0, 0), (1, 0), (2, 0), (3, 0), (4, 0), (8, 0), (12, 0)];
 
 #[test]
@@ -79,7 +79,7 @@ fn an_overlay_reads_what_is_held_over_what_is_below(rt: HostRuntime) -> Result<(
         return Err(AllocError);
     };
     let held = overlay.held();
-    // a unit behind a gap, and one that was held before
+    // a unit after a gap, and one that was held before
     let behind = overlay.write_at(File::Pkg, 4, &[5; 16]);
     let again = overlay.write_at(File::Pkg, 2, &[6; 16]);
     let log = overlay.write_at(File::Log, 9, &[4; 16]);

@@ -1,4 +1,4 @@
-//! The index: what a stop and a fault leave of it, and where it is changed in place or made from scratch.
+//! The index: what a crash and a fault leave of it, and where it is changed in place or made from scratch.
 
 ghost use Rattle.std.specs.Prelude.{◌≤◌};
 
@@ -135,7 +135,7 @@ fn found(alloc: Global, disk: &mut MemDisk, generation: u32, (from, to): (u32, u
     found
 }
 
-// The first unit behind all records, as unit 1 says it.
+// The first unit after all records, as unit 1 says it.
 fn used(file: &[u8]) -> u32 {
     match file.get(16..20) {
         Some([a, b, c, d]) => u32::from_le_bytes([*a, *b, *c, *d]),
@@ -145,7 +145,7 @@ fn used(file: &[u8]) -> u32 {
 
 // The rows of each change that are dropped, their number, and those that are added; how many rows are there then, and how many units.
 const CHANGES: &[((u32, u32), u32, (u32, u32), usize, u32)] = &[
-    // in place, behind the 218 units that were there
+    // in place, after the 218 units that were there
     ((10, 30), 1, (120, 140), 100, 258),
     // more than two records a bucket: from scratch
     ((0, 0), 2, (140, 440), 400, 2 + 256 / 4 + 800),
@@ -170,7 +170,7 @@ fn other_change(alloc: Global, disk: &mut MemDisk) -> Result<Option<u32>, AllocE
     Ok(None)
 }
 
-// The unit behind the last one that is written where `b` is added to an index of which unit 1 says that it has so many units, in a file
+// The unit after the last one that is written where `b` is added to an index of which unit 1 says that it has so many units, in a file
 // as long as one can be; and how many units it says then.
 fn changed_at_the_end(alloc: Global, units: u32) -> Result<(bool, u64, u32), AllocError> {
     let mut file = sealed_file(alloc, 320)?;
@@ -189,7 +189,7 @@ fn a_change_is_made_in_place_or_from_scratch(rt: HostRuntime) -> Result<(), Allo
     let mut disk = MemDisk::new(alloc, &[], &[], &[])?;
     let made = rewrite(alloc, &mut disk, &numbered(alloc, (0, 100), 1)?, 1);
     let other = other_change(alloc, &mut disk)?;
-    // two units behind the last one are the last that a file has; with one more they are too many
+    // two units after the last one are the last that a file has; with one more they are too many
     let last = changed_at_the_end(alloc, 268_435_454)?;
     let past = changed_at_the_end(alloc, 268_435_455)?;
     assert_eq!(rt;

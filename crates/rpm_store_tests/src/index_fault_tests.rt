@@ -54,7 +54,7 @@ fn key_fault(
 // A byte to change, the unit of the fault that a chain has then for one who looks for `a` or drops it, and whether it is met by one who
 // drops `ef`, the first record.
 const FAULTS: &[(usize, u8, u64, bool)] = &[
-    // the bucket's word names a unit before the records, or behind them
+    // the bucket's word names a unit before the records, or after them
     (124, 17, 7, true),
     (124, 24, 7, true),
     // in the middle of the chain: a next that isn't below, one before the records, one amid a record

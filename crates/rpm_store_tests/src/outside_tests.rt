@@ -7,7 +7,7 @@ use rpm_outside::{
 };
 use std::alloc::{AllocError, Global};
 
-// A disk of two units, the second of which is written over, and one behind it; and then two files are settled.
+// A disk of two units, the second of which is written over, and one after it; and then two files are settled.
 fn written(alloc: Global) -> Result<MemDisk, AllocError> {
     let mut disk = MemDisk::new(alloc, &[1; 32], &[], &[])?;
     let _ = disk.write_at(File::Pkg, 1, &[2; 32]);

@@ -7,7 +7,7 @@ use rpm_outside::{Disk, Failed, File};
 use std::alloc::Global;
 
 /// A disk of `Packages.db` and `Hindex.db` that doesn't tell what it holds, so that a call on it owes nothing of that. One of the files
-/// may be as long as a file can be, with zeros behind what is held of it: what is written there isn't kept. Its counts, as contracts
+/// may be as long as a file can be, with zeros after what is held of it: what is written there isn't kept. Its counts, as contracts
 /// see them, stand at their ends.
 #[derive(Drop)]
 pub struct PlainDisk {
@@ -17,7 +17,7 @@ pub struct PlainDisk {
     pub long: Option<File>,
     /// How many bytes of `Packages.db` were read.
     pub read: u64,
-    /// The unit behind the last one that was written.
+    /// The unit after the last one that was written.
     pub end: u64,
 }
 

@@ -18,7 +18,7 @@ use Rattle.rpm_tool.specs.Working.{OpensBy, WorkedWith, why_of_halt}
 use Rattle.rpm_tool.proofs.Brokens.{done_unbroken}
 use Rattle.rpm_tool.proofs.Works.{state-in_file, halted_by, done_by}
 
--- the index that is made anew is never bad
+-- the index that is rebuilt is never bad
 unbroken : (s : State) (v : Store) (changes : List Change) (h : Halt) (unit : ℕ) → StopsAt true (first_limit true s v changes) (Err h)
     → why_of_halt h ≡ why.BadIndex unit → ⊥
 unbroken s v changes (halt.BadIndex u) unit stops is = never_bad_made true changes s v u (stops refl)

@@ -66,7 +66,7 @@ pub some_above : (n : ℕ) (es : List (ℕ × Package)) → is_some_of (above n 
 some_above n [] some = some
 some_above n (e ∷ es) some = refl
 
--- the argument at a place, and those behind it
+-- the argument at a place, and those after it
 pub drop_get : {X : Type 0} (xs : List X) (i : ℕ) (x : X) → slice_get xs i ≡ Some x → drop i xs ≡ x ∷ drop (i + 1) xs
 drop_get [] i x is = absurd cc
 drop_get (y ∷ xs) zero x is = (let same : y ≡ x = cc in ap (λ z. z ∷ xs) same)

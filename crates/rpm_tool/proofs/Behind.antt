@@ -1,4 +1,4 @@
--- One part of a report behind another.
+-- One part of a report after another.
 use Rattle.std.proofs.Common.{◌≡◌, ℕ, Bool, true, false, ◌||◌, List, [], ◌∷◌, ◌++◌, Result, Ok, Err, refl, sym, ap, ◌∙◌}
 use Rattle.rpm_tool.specs.declared.step.Stop.{Stop}
 use Rattle.rpm_change.specs.Steps.{Step}
@@ -56,7 +56,7 @@ module _ (ot et : Bool) (p q : Portion) where
       fails = ap (λ (x : Bool). x || q.fails) first.fails ∙ ap (λ (x : Bool). a || x) second.fails ∙ or_false a;
     }
 
--- behind a step that was gone through
+-- after a step that was gone through
 pub head_reached : (ot et : Bool) (s : Step) (rest : List Step) (r : Result (Unit {0}) Stop) (o o' o'' e e' e'' : List ℕ)
     → Through (s ∷ []) (outputs ot o et e) (outputs ot o' et e') → Reached rest r (outputs ot o' et e') (outputs ot o'' et e'') Anywhere
     → Reached (s ∷ rest) r (outputs ot o et e) (outputs ot o'' et e'') Anywhere

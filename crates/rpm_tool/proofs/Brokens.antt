@@ -60,7 +60,7 @@ pub by_bool : {X : Type 0} (b : Bool) → (b ≡ true → X) → (b ≡ false �
 by_bool true holds fails = holds refl
 by_bool false holds fails = fails refl
 
--- an index that isn't well formed behind the opening was neither made there nor at first
+-- an index that isn't well formed after the opening was neither made there nor at first
 pub open_broken : (old mid new : Files) (db : Database) → IsOpened old mid (Ok db) → ((is_blank db ≡ false → IsWholeIndex mid.idx) → IsWholeIndex new.idx)
     → ¬ IsWholeIndex new.idx → IsBroken old.pkg old.idx
 open_broken old mid new db opened goes broken =

@@ -26,7 +26,7 @@ use Rattle.rpm_tool.proofs.Fixtures.{small}
 whole : Tag → TagPart
 whole tag = record { tag = tag; role = Element; left = false; width = 0; show = Plain }
 
--- and a line's end behind it
+-- and a line's end after it
 line_of : Tag → Tree
 line_of tag = Tagged (whole tag) (Text (codes "\n") End)
 

@@ -26,7 +26,7 @@ no_type : header (small 10) ≡ Err (BadType 0)
 unfolding small header header_of entries entry_of entry_fault fault_at number_at numbers texts are_ended
 no_type = refl
 
--- the numbers that stand behind a magic, the lowest byte first; none is above 65,535
+-- the numbers that stand after a magic, the lowest byte first; none is above 65,535
 low : ℕ → ℕ → List ℕ
 low first second = first ∷ second ∷ 0 ∷ 0 ∷ []
 

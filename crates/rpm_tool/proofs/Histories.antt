@@ -1,4 +1,4 @@
--- One command line more: what the database stands for behind it, given what it stood for before.
+-- One command line more: what the database stands for after it, given what it stood for before.
 use Rattle.std.proofs.Common.{◌≡◌, ◌⊎◌, ℕ, Bool, false, refl, sym, subst, inl, inr, ⊎_elim}
 use Rattle.rpm_outside.specs.Crash.{LeavesOnly}
 use Rattle.rpm_outside.specs.Files.{Units, Files}
@@ -42,11 +42,11 @@ module _ {D : Type 0} (files : D → Files) (left_since : D → ℕ → Files �
   lawful : AreLawfulGroups past
   lawful image is = (all image is).lawful
 
-  -- the states behind a call that makes this of each
+  -- the states after a call that makes this of each
   abbrev Next : (State → State) → State → Type 0
   Next made t = (m : State) × P m × Moves given (made m) m t
 
-  -- and those that a stop within it leaves
+  -- and those that a crash within it leaves
   abbrev Cut : (State → State) → State → Type 0
   Cut made t = (m : State) × P m × ((t ≡ m) ⊎ (t ≡ made m))
 

@@ -121,7 +121,7 @@ small_command : (indexed made : Bool) (s : State) (v : Store) (changes : List Ch
 small_command true made s v changes fits = makes_small made s v changes fits
 small_command false made s v changes fits = refl
 
--- ---- an index that is made anew
+-- ---- an index that is rebuilt
 
 limit_asked : (h : Halt) → is_limit false h ≡ true → is_limit true h ≡ true
 limit_asked halt.NumbersSpent is = refl

@@ -106,7 +106,7 @@ module _ {D : Type 0} (tells : Bool) (files : D → Files) (left_since : D → �
       (still_both (same_still (unread none)) (after (course_of paths now words None)) (λ m. refl)))
       (λ a tree asked. subst (λ (read : Option (AskParts × Tree)). Both (after (course_of paths now words read))) (sym asked) (both_of a tree asked))
 
-  -- the rows fit behind it, whatever stops it
+  -- the rows fit after it, whatever stops it
   pub line_fits : AllFit past → LeavesOnly moment left_since old new RowsFit
   line_fits fit =
       let lawful : AreLawfulGroups past = λ image is. (all image is).lawful in

@@ -1,4 +1,4 @@
--- Calls that look packages up, one behind the other.
+-- Calls that look packages up, one after the other.
 use Rattle.std.proofs.Common.{ℕ, ◌+◌, ◌-◌, ◌≤◌, Bool, ◌≡◌, subst, arith}
 use Rattle.rpm_outside.specs.declared.disk.File.{File}
 use Rattle.rpm_outside.specs.declared.disk.File.TheVariants.{Pkg}

@@ -1,4 +1,4 @@
--- The state that the files stand for behind command lines, each as `run` does it.
+-- The state that the files stand for after command lines, each as `run` does it.
 use Rattle.std.proofs.Common.{◌≡◌, ℕ, Bool, true, List, [], ◌∷◌, refl, sym, ap, subst, inl, inr, ⊎_elim}
 use Rattle.std.specs.Prelude.{Option, Some, IsTrue}
 use Rattle.rpm_outside.specs.declared.disk.Disk as disk

@@ -1,4 +1,4 @@
--- The numbers that command lines give to new packages rise, and each image that a stop leaves has a next number above them.
+-- The numbers that command lines give to new packages rise, and each image that a crash leaves has a next number above them.
 use Rattle.std.proofs.Common.{◌≡◌, ◌⊎◌, ℕ, Bool, true, false, List, [], ◌++◌, refl, sym, subst, inl, inr, ⊎_elim}
 use Rattle.std.specs.Prelude.{Result, Ok, Err, if◌then◌else◌}
 use Rattle.rpm_outside.specs.Files.{Files}

@@ -41,7 +41,7 @@ opened_keyed tree words a old mid given before after first between now finished 
     (subst (λ (n : ℕ). OpenedBy (IsLawful r.pkg r.idx) (DidByKey tree words a r n now) (store r.pkg) given before after) same
     (subst (λ (f : Files). OpenedBy (IsLawful f.pkg f.idx) (DidByKey tree words a f between now) (store f.pkg) given before after) stand opened))
 
--- ---- what a stop leaves
+-- ---- what a crash leaves
 
 -- an image stands still that stands for what one of these stands for
 recovered_still : (images : Files → Type 0) → AreLawfulGroups images → (image : Files) → ReopensAsOneOf images image → StandsStill images image

@@ -1,4 +1,4 @@
--- Where no change of several is refused, the rows of the packages behind them fit into an index.
+-- Where no change of several is refused, the rows of the packages after them fit into an index.
 use Rattle.std.proofs.Common.{◌≡◌, ◌^◌, ◌≤◌, Bool, true, false, List, [], ◌∷◌, Option, Some, None, refl, arith}
 use Rattle.std.specs.Prelude.{◌==◌, ◌&&◌, if◌then◌else◌, is_none, unwrap_or, nat_lt}
 use Rattle.std.specs.Option.{option_or}
@@ -17,7 +17,7 @@ use Rattle.rpm_change.specs.Steps.{apply_all}
 abbrev Fits : State → Type 0
 Fits s = units_for (rows s.packages) ≤ 2 ^ 28
 
--- an answer that isn't given, and what comes behind it
+-- an answer that isn't given, and what comes after it
 behind : (b : Bool) (h : Halt) (o : Option Halt) → (if b then Some h else o) ≡ None → (b ≡ false) × (o ≡ None)
 behind true h o is = absurd cc
 behind false h o is = (refl, is)

@@ -62,7 +62,7 @@ bad_here f f' s m p r old new same there part =
 
 -- ---- a list
 
--- the step of the element at a place, and those behind it
+-- the step of the element at a place, and those after it
 pub steps_at : {X : Type 0} (f : X → Step) (xs : List X) (i : ℕ) (d : X) → i < length xs → map f (drop i xs) ≡ (f (get_or xs i d) ∷ []) ++ map f
     (drop (i + 1) xs)
 steps_at f xs i d lt =

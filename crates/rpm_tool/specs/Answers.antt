@@ -1,5 +1,5 @@
 -- How far a command went, and what it answers. On it rest `plain` and `files` of the page (Theorem.antt), and `Ends`, by which `run` puts the
--- closing line behind all of it.
+-- closing line after all of it.
 use Rattle.std.specs.Prelude.{◌≡◌, ◌≢◌, ◌⊎◌, ℕ, ◌+◌, ◌-◌, ◌^◌, ◌<◌, ◌≤◌, List, [], ◌∷◌, ◌++◌, map, Bool, true, false, Option, Some, None, Result, Ok, Err, IfOk, IsTrue}
 use Rattle.std.specs.Ordering.{nat_cmp}
 use Rattle.std.specs.FinMap.{FinMap}
@@ -46,7 +46,7 @@ use Rattle.rpm_tool.specs.Steps.{Portion, bearer_of}
 abbrev pub ThroughSome : List Step → Outputs → Outputs → Type 0
 ThroughSome all old new = (done rest : List Step) × (all ≡ done ++ rest) × Through done old new
 
--- some of the steps were gone through, and of the next one the first bytes; of packages behind that step's none was read
+-- some of the steps were gone through, and of the next one the first bytes; of packages after that step's none was read
 pub record StoppedWithin (all : List Step) (to_out : Bool) (old new : Outputs) (reads_to : Bearer → Type 0) : Type 0 where
   pub done : List Step
   pub step : Step

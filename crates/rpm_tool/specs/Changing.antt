@@ -64,7 +64,7 @@ HasState s files = Says (λ t. t ≡ s) (reopened files).pkg
 abbrev pub after : (State → Course) → State → State
 after course s = apply_all (course s).changes s
 
--- done, the group is made and counted; a fault of the disk may come before it or behind it; else nothing changed
+-- done, the group is made and counted; a fault of the disk may come before it or after it; else nothing changed
 abbrev pub LeavesState : (State → Course) → State → Why → ℕ → Files → Type 0
 LeavesState course s why.Done changes files = (changes ≡ length (course s).changes) × HasState (after course s) files
 LeavesState course s (why.Failed n) changes files = (changes ≡ length (course s).changes) × HasState (after course s) files
@@ -96,7 +96,7 @@ pub record IsSealed (files : Files) : Type 0 where
   pub closed : log_state files.log ≡ Closed
   pub indexed : HasCurrent files.pkg files.idx
 
--- ---- what a stop leaves
+-- ---- what a crash leaves
 
 -- a lawful image, which stands for the packages that one of these stands for, or for this state
 abbrev pub StandsStillOr : (Files → Type 0) → State → Files → Type 0

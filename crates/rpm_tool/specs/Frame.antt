@@ -30,7 +30,7 @@ use Rattle.rpm_tool.specs.Reads as reads
 -- ---- a disk
 
 module _ {D : Type 0} (d : disk.Ghosts D) where
-  -- the images that a stop from now on may leave
+  -- the images that a crash from now on may leave
   abbrev pub images : D → Files → Type 0
   images it = d.left_since it (d.moment it)
 

@@ -1,4 +1,4 @@
--- Several command lines on one disk, one after the other: what the database stands for behind them, and behind a stop. On it rest `leads`,
+-- Several command lines on one disk, one after the other: what the database stands for after them, and after a crash. On it rest `leads`,
 -- `cuts` and `states` of `run_each`.
 use Rattle.std.specs.Prelude.{◌≡◌, ◌⊎◌, ℕ, List, [], ◌∷◌, Bool, true, false, ◌||◌, IsTrue, Option, Some, None, if◌then◌else◌}
 use Rattle.std.specs.List.{AllByRecursion}
@@ -30,7 +30,7 @@ course_of paths now words (Some asked) s = if is_changing asked.0 then asked_cou
 abbrev pub made_by : Paths → ℕ → List (List ℕ) → State → State
 made_by paths now words s = after (course_of paths now words (asks words)) s
 
--- from this state: done, its changes are all made; behind a fault of the disk all are or none; else none
+-- from this state: done, its changes are all made; after a fault of the disk all are or none; else none
 abbrev pub Moves : Why → State → State → State → Type 0
 Moves why.Done made s t = t ≡ made
 Moves (why.Failed n) made s t = t ≡ made
@@ -57,7 +57,7 @@ Leads paths [] s t = t ≡ s
 Leads paths (call ∷ calls) s t =
     (mid : State) × Moves call.outcome.why (made_by paths call.moment call.words s) s mid × Leads paths calls mid t
 
--- a stop within them or behind them: those before it, and of the line that it stops all changes or none
+-- a crash within them or after them: those before it, and of the line that it stops all changes or none
 abbrev pub Cuts : Paths → List RunCall → State → State → Type 0
 Cuts paths [] s t = t ≡ s
 Cuts paths (call ∷ calls) s t = (t ≡ s) ⊎ ((t ≡ made_by paths call.moment call.words s)

@@ -46,7 +46,7 @@ abbrev pub LimitsOn : Bool → Bool → (State → Course) → Files → Why →
 LimitsOn indexed anew course files given = IfOk (store files.pkg) (λ value. MeetsFirst indexed
     (command_limit indexed (makes anew files.idx value) (state files.pkg value) (begun value) (course (state files.pkg value)).changes) given)
 
--- the index is asked where it is made anew, and where the database is lawful
+-- the index is asked where it is rebuilt, and where the database is lawful
 abbrev pub LimitsBy : Bool → Type 0 → (State → Course) → Files → Why → Type 0
 LimitsBy anew Lawful course files given = (indexed : Bool) → (indexed ≡ true → MayBegin anew Lawful) → LimitsOn indexed anew course files given
 
@@ -68,13 +68,13 @@ LogOn course files others = Unit {0}
 
 -- ---- a fault of the disk
 
--- it came before the commit: nothing changed, whatever a stop leaves
+-- it came before the commit: nothing changed, whatever a crash leaves
 pub record StoodStill {D : Type 0} (files : D → Files) (left_since : D → ℕ → Files → Type 0) (moment : D → ℕ) (old new : D) : Type 0 where
   pub same : reopened (files new) ≡ reopened (files old)
   pub stops : AreLawfulGroups (left_since old (moment old))
       → LeavesOnly moment left_since old new (StandsStill (left_since old (moment old)))
 
--- it came with the commit, or behind it: all lines were told, and no change was refused
+-- it came with the commit, or after it: all lines were told, and no change was refused
 pub record ToldAll (anew : Bool) (Lawful : Type 0) (course : State → Course) (files : Files) (before now : Outputs) : Type 0 where
   pub told : Says (λ s. Through (course s).steps before now) files.pkg
   pub limits : LimitsBy anew Lawful course files why.Done

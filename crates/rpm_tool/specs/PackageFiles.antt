@@ -30,6 +30,6 @@ file_part tree paths j path = found_part tree j path (bytes_at paths path)
 abbrev pub query_files : Tree → Paths → List (List ℕ) → AskParts → Course
 query_files tree paths words a = in_turn (file_part tree paths) 0 (map (text_at words) a.arguments)
 
--- words with another number behind `--after`
+-- words with another number after `--after`
 abbrev pub passing : ℕ → AskParts → AskParts
 passing n a = record a { after = n }

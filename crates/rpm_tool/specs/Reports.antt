@@ -26,7 +26,7 @@ use Rattle.rpm_tool.specs.Steps.{Portion, nothing, fails, together, before}
 use Rattle.rpm_tool.specs.Queries.{bad_step, step_of, packages_part, query}
 use Rattle.rpm_tool.specs.FileReport.{check_files}
 
--- a header goes out behind the magic
+-- a header goes out after the magic
 abbrev pub exported : ℕ → ℕ × Package → Step
 exported j (n, Good bytes) = ToOut (bearer j n) (magic ++ bytes)
 exported j (n, Bad) = bad_step j n

@@ -42,7 +42,7 @@ abbrev pub package_text : (Header → List ℕ) → Option Package → List ℕ
 package_text text (Some (Good bytes)) = read_text text (header bytes)
 package_text text others = []
 
--- one part behind another
+-- one part after another
 abbrev pub behind : Portion → Portion → Portion
 behind p q = record { steps = p.steps ++ q.steps; fails = p.fails || q.fails }
 
@@ -68,7 +68,7 @@ bad_parts packages = together (map bad_part (entries packages))
 abbrev pub range_text : ℕ → List ℕ → List ℕ
 range_text flags version = if is_open flags version then [] else concat (codes " " ∷ letters depflags flags ∷ codes " " ∷ version ∷ [])
 
--- a requirement that nothing meets, as a line behind the package's label
+-- a requirement that nothing meets, as a line after the package's label
 unfoldable pub unmet_line : List ℕ → Needed → List ℕ
 unmet_line label need = concat (label ∷ codes ": unsatisfied: " ∷ need.name ∷ range_text need.flags need.version ∷ codes "\n" ∷ [])
 
@@ -129,7 +129,7 @@ order_part packages classes = behind (bad_parts packages) (classes_part packages
 abbrev pub ordering : FinMap nat_cmp Package → List (List ℕ) → Course
 ordering packages classes = before (order_part packages classes) idle
 
--- each class is the next one behind those before it; where all are told, each number stands in one
+-- each class is the next one after those before it; where all are told, each number stands in one
 pub record IsListed (g : Network) (all_told : Bool) (classes : List (List ℕ)) : Type 0 where
   pub each : (k : ℕ) → k < length classes → IsNext g (take k classes) (slice_index_or classes k [])
   pub all : all_told ≡ true → (n : ℕ) → Contains g.numbers n → Lists classes n
@@ -139,7 +139,7 @@ abbrev pub ClassesAre : FinMap nat_cmp Package → Result (Unit {0}) Stop → Ou
 ClassesAre packages result old new = (classes : List (List ℕ)) × IsListed (graph_of packages) (is_ok result) classes
     × Reached (classes_part packages classes).steps result old new Anywhere
 
--- and behind the packages that can't be read
+-- and after the packages that can't be read
 abbrev pub OrderPartIs : FinMap nat_cmp Package → Result Bool Stop → Outputs → Outputs → Type 0
 OrderPartIs packages result old new = (classes : List (List ℕ)) × IsListed (graph_of packages) (is_ok result) classes
     × PartIs (order_part packages classes) result old new Anywhere

@@ -174,7 +174,7 @@ pub record IsCommitted (after final : Files) (images : Files → Type 0) : Type 
   pub closed : log_state final.log ≡ Closed
   pub settled : AreSettled final images
 
--- what a stop leaves meanwhile: the files before, or those after a group whose changes were all made
+-- what a crash leaves meanwhile: the files before, or those after a group whose changes were all made
 abbrev pub GroupLeaves : Result Tally Why → Files → Files → Files → Type 0
 GroupLeaves (Ok tally) before after = BeforeOrAfter before after
 GroupLeaves (Err given) before after = ReopensAs before

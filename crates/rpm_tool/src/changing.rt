@@ -195,12 +195,12 @@ fn change_recovered<D: Disk, S: Shelf, O: Sink + Drop, E: Sink + Drop>(
     }
 }
 
-/// Finishes what a stop left of a change, and makes the changes of a command, one after the other and all as one change. An argument that
+/// Finishes what a crash left of a change, and makes the changes of a command, one after the other and all as one change. An argument that
 /// fails has its line, and the others go on. Where there is no database, one is made.
 ///
-/// The changes are held in memory, over the disk, and committed behind the last one: a stop at any moment leaves all of them or none.
+/// The changes are held in memory, over the disk, and committed after the last one: a crash at any moment leaves all of them or none.
 /// The ending is `Done`, or `Failed` with how many arguments failed; only then are changes counted, and on a lawful database the index is
-/// current then, and the disk lawful. Any other ending leaves what the files stand for as it was, `DiskFault` aside, behind which all changes
+/// current then, and the disk lawful. Any other ending leaves what the files stand for as it was, `DiskFault` aside, after which all changes
 /// or none are made. That a command line is one change is this project's own rule.
 ///
 /// - `BadLog` comes exactly where the log is malformed, and else `Damaged` where `Packages.db` is damaged, with the place.

@@ -96,7 +96,7 @@ fn command<D: Disk, S: Shelf, O: Sink + Drop, E: Sink + Drop>(
 ///
 /// A query prints for each argument what the format means for each package that it picks, by rising number. A package that can't be
 /// read, and one for which a bracket's tags have different numbers of elements, has a message on `err` in its place; then the argument
-/// fails, once. `--exportdb` writes each header behind the magic, in one piece. `--verifydb` writes a line for each package that isn't sound.
+/// fails, once. `--exportdb` writes each header after the magic, in one piece. `--verifydb` writes a line for each package that isn't sound.
 /// `--checkfiles` writes a line for each package that can't be read, and then one for each two packages that own a path and differ on it.
 ///
 /// With `-p` each argument is the path of a package file, `-` the standard input, and what is printed is of its header with the number 0:
@@ -104,7 +104,7 @@ fn command<D: Disk, S: Shelf, O: Sink + Drop, E: Sink + Drop>(
 /// a line on `err`; then the argument fails. A read that fails ends the command with `ShelfFault`. Each file is read up to the end of its
 /// header. Of the other commands `--addpkg`, `--replacepkg` and `--importdb` alone make calls on the shelf.
 ///
-/// A query without `-p`, `-a`, `--querybynumber` and `--noindex` is a question by key. It first finishes what a stop left of a change, syncs
+/// A query without `-p`, `-a`, `--querybynumber` and `--noindex` is a question by key. It first finishes what a crash left of a change, syncs
 /// the files, and makes the index from the packages where it isn't current. On a database that can't be written it answers `DiskFault`
 /// where the index must be made: then `--noindex` answers.
 ///
@@ -113,7 +113,7 @@ fn command<D: Disk, S: Shelf, O: Sink + Drop, E: Sink + Drop>(
 /// order in which they could be installed, those that all lead to each other as a cycle.
 ///
 /// `--initdb`, `--addpkg`, `--replacepkg`, `--erasepkg`, `--importdb`, `--rebuilddb` and `--exercise` change the database; where there is none,
-/// they make one. All changes of a command are one: they are held in memory, and committed behind the last argument; a command that is stopped
+/// they make one. All changes of a command are one: they are held in memory, and committed after the last argument; a command that is stopped
 /// before that changes nothing. An argument that fails has its line on `err`, and the others go on. `now` is the moment that
 /// `INSTALLTIME` and `INSTALLTID` of a package file get, in seconds since 1970. `--rebuilddb` makes the index anew, and drops the packages
 /// that can't be read, each with a line on `out`. `--exercise` makes the index anew, adds, replaces and erases that many headers that it

@@ -65,7 +65,7 @@ fn answer_indexed<D: Disk, O: Sink + Drop, E: Sink + Drop>(
     }
 }
 
-/// Finishes what a stop left of a change, opens the database with its index, which is made from the packages where it isn't current, and
+/// Finishes what a crash left of a change, opens the database with its index, which is made from the packages where it isn't current, and
 /// answers. Of `Packages.db` it reads the slot pages, the blocks of all packages where the index must be made, and of a query for each
 /// argument those of the packages that have one of its keys; what a report reads, it says itself.
 pub fn answer_keyed<D: Disk, O: Sink + Drop, E: Sink + Drop>(

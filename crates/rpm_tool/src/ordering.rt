@@ -26,7 +26,7 @@ use rpm_header::View;
 use rpm_outside::{Buffered, Disk, Sink};
 use std::alloc::{AllocError, Global};
 
-/// The line of a header's label, behind an indent.
+/// The line of a header's label, after an indent.
 fn label_text(
     alloc: Global,
     view: &View<'_>,
@@ -58,7 +58,7 @@ fn read_label_text(
     }
 }
 
-/// Writes the label of a package, which is read for it, behind an indent.
+/// Writes the label of a package, which is read for it, after an indent.
 fn put_label<D: Disk, O: Sink + Drop>(
     alloc: Global,
     db: &Db,
@@ -88,7 +88,7 @@ fn put_label<D: Disk, O: Sink + Drop>(
     }
 }
 
-/// Writes the labels of these packages, each behind an indent.
+/// Writes the labels of these packages, each after an indent.
 fn put_labels<D: Disk, O: Sink + Drop>(
     alloc: Global,
     db: &Db,
@@ -256,7 +256,7 @@ fn tell_order<D: Disk, O: Sink + Drop>(
 }
 
 /// Tells first the packages that can't be read, with their lines on err, and then the others in an order in which they could be installed,
-/// with their labels on out: each class behind those that its packages require, and of those that may come next the one with the least
+/// with their labels on out: each class after those that its packages require, and of those that may come next the one with the least
 /// number. Packages that all lead to each other are told as a cycle, by rising number. Says whether there is one that can't be read.
 ///
 /// Beside what [`read_graph`] reads it reads the blocks of each package once, and those of each that can be read once again for its label.

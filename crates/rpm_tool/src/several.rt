@@ -26,11 +26,11 @@ pub struct Line<'a> {
 
 /// Does several command lines, one after the other, as [`run`] does each.
 ///
-/// Where each image of the disk is lawful at first, behind the lines each is lawful, and stands for a state to which they lead from that of
-/// one of the first images: with the changes of each line that was done, and without those of each that was refused; those of one behind
-/// which the disk failed are all made, or none. A stop at any moment leaves a lawful image that stands for the state before the line that it
-/// stops, or behind it, so with the changes of each line that was done by then. So what is said goes on from one list of lines to the next.
-/// Where the rows of the packages fit into an index at first they do behind each line, whatever stops it.
+/// Where each image of the disk is lawful at first, after the lines each is lawful, and stands for a state to which they lead from that of
+/// one of the first images: with the changes of each line that was done, and without those of each that was refused; those of one after
+/// which the disk failed are all made, or none. A crash at any moment leaves a lawful image that stands for the state before the line that it
+/// stops, or after it, so with the changes of each line that was done by then. So what is said goes on from one list of lines to the next.
+/// Where the rows of the packages fit into an index at first they do after each line, whatever stops it.
 ///
 /// Each line is answered as `run` answers it on what the lines before it left. The numbers that lines which were done gave to new packages
 /// rise, and so no such number is given twice: where the next number is at first that of the number field, as in a database that `--initdb`
@@ -66,7 +66,7 @@ pub fn run_each<D: Disk, S: Shelf, O: Sink, E: Sink>(
     ensures states { IfOk result.0 (λ outcomes. IsTrue D.tells → TellsLines S.tells lines.now → (s : State) → HasState s (D.files disk)
         → (t : State) × HasState t (D.files result.1) × Leads (S.paths shelf.old) (calls_of lines.now outcomes.items) s t) }
 
-    // The numbers that the lines which were done gave to new packages rise: none is given twice. Whatever a stop leaves behind the lines,
+    // The numbers that the lines which were done gave to new packages rise: none is given twice. Whatever a crash leaves after the lines,
     // the next number is above all of them.
     ensures numbers { IfOk result.0 (λ outcomes. IsTrue D.tells → TellsLines S.tells lines.now → (from : ℕ)
         → AllStand (λ t. IsAhead t × RiseWithin from [] (next t)) (images D.Disk disk)

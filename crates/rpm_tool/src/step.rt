@@ -138,7 +138,7 @@ pub fn print_header<O: Sink + Drop, E: Sink + Drop>(
     }
 }
 
-/// A header behind the magic.
+/// A header after the magic.
 fn with_magic(alloc: Global, blob: &[u8]) -> Result<Vec<u8>, AllocError>
     ensures { IfOk result (λ piece. piece.items ≡ magic ++ blob.now) }
 {
@@ -163,7 +163,7 @@ pub fn put_text<O: Sink + Drop>(out: &mut Buffered<O>, text: &[u8]) -> Result<bo
     }
 }
 
-/// Writes a header behind the magic to out, all in one piece.
+/// Writes a header after the magic to out, all in one piece.
 fn put_export<O: Sink + Drop>(
     alloc: Global,
     blob: &[u8],
@@ -186,7 +186,7 @@ fn put_export<O: Sink + Drop>(
 pub enum Way<'a> {
     /// What a format says of it.
     Format(&'a Format),
-    /// Its bytes, behind the magic.
+    /// Its bytes, after the magic.
     Export,
 }
 

@@ -48,7 +48,7 @@ pub fn is_changing(ask: &Ask) -> bool
     is_changing_in(ask.mode())
 }
 
-/// Puts the number behind the others that a text is, where it is one.
+/// Puts the number after the others that a text is, where it is one.
 fn push_number(numbers: &mut Vec<u32>, text: &str) -> Result<(), AllocError>
     ensures items { OnOk result (numbers.new.items ≡ numbers.old.items ++ filter_map number (text.now ∷ [])) }
     ensures few { OnOk result (length numbers.new.items ≤ length numbers.old.items + 1) }

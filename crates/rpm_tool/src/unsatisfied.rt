@@ -78,7 +78,7 @@ fn comparison(alloc: Global, flags: u64) -> Result<Vec<u8>, AllocError>
     Ok(text)
 }
 
-/// The comparison and the version of a requirement, each behind a space; nothing where one of them is missing.
+/// The comparison and the version of a requirement, each after a space; nothing where one of them is missing.
 fn range_text(alloc: Global, flags: u64, version: &[u8]) -> Result<Vec<u8>, AllocError>
     ensures { IfOk result (λ text. text.items ≡ range_text flags version.now) }
 {

@@ -13,7 +13,7 @@ pub const HEADER: &[u8] = b"\0\0\0\x04\0\0\0\x08\
 /// What stands before a header in a list.
 pub const MAGIC: &[u8] = b"\x8e\xad\xe8\x01\0\0\0\0";
 
-/// The bytes of these pieces, one behind the other.
+/// The bytes of these pieces, one after the other.
 pub fn joined(alloc: Global, pieces: &[&[u8]]) -> Result<Vec<u8>, AllocError> {
     let mut bytes = Vec::new(alloc);
     for piece in pieces {

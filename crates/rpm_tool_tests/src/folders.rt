@@ -119,7 +119,7 @@ fn a_current_index_answers_where_nothing_can_be_written(rt: HostRuntime) -> Resu
     Ok(())
 }
 
-// The bytes of Packages.db and of Hlog.db, a line, and what `rpm -qa` prints behind it.
+// The bytes of Packages.db and of Hlog.db, a line, and what `rpm -qa` prints after it.
 type Partial<'a> = (&'a [u8], &'a [u8], &'a str, &'a [u8]);
 
 // Whether a line and then a question of all packages are done on these two files, and the second prints this.

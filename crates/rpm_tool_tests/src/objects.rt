@@ -90,7 +90,7 @@ fn a_write_behind_a_partial_unit_leaves_zeros(rt: HostRuntime) -> Result<(), Fai
 fn the_names_of_files_last_with_the_first_sync(rt: HostRuntime) -> Result<(), Fail> {
     fs::create_dir_all(&rt, "named")?;
     fs::create_dir_all(&rt, "elsewhere")?;
-    // Another process made these two, of which one lies behind a symbolic link.
+    // Another process made these two, of which one lies after a symbolic link.
     fs::write(&rt, "named/Packages.db", &[0u8; 16])?;
     fs::write(&rt, "elsewhere/log", &[0u8; 16])?;
     symlink(&rt, "../elsewhere/log", "named/Hlog.db")?;
@@ -101,7 +101,7 @@ fn the_names_of_files_last_with_the_first_sync(rt: HostRuntime) -> Result<(), Fa
     opened[0] = watched.folders();
     are_done = are_done && disk.sync(File::Pkg) == Ok(());
     opened[1] = watched.folders();
-    // The folder behind the link.
+    // The folder after the link.
     are_done = are_done && disk.sync(File::Log) == Ok(());
     opened[2] = watched.folders();
     // A file that isn't there has no name; one that is made has.

@@ -15,7 +15,7 @@ const LINES: &[&str] = &[
     "rpm -q",
 ];
 
-// How these lines end on a disk, one after the other, and the disk behind them.
+// How these lines end on a disk, one after the other, and the disk after them.
 fn all_run(
     alloc: Global,
     lines: &[Words],

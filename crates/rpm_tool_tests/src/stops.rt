@@ -1,4 +1,4 @@
-//! What a stop at each moment leaves, in the oldest image, the newest and mixed ones; and a disk of which each call fails in turn.
+//! What a crash at each moment leaves, in the oldest image, the newest and mixed ones; and a disk of which each call fails in turn.
 
 use crate::fixtures::{changed, database, log};
 use crate::runs::{outcome, run_on};
@@ -16,7 +16,7 @@ fn disk_of(alloc: Global, files: Files<'_>) -> Result<MemDisk, AllocError> {
     MemDisk::new(alloc, files[0], files[1], files[2])
 }
 
-// Whether the gate of a disk's log is zeros: no group is pending.
+// Whether the commit record of a disk's log is zeros: no group is pending.
 fn is_closed(alloc: Global, disk: &MemDisk) -> Result<bool, AllocError> {
     let log = disk.copy_file(alloc, File::Log)?;
     Ok(log.iter().take(16).all(|byte| *byte == 0))
@@ -29,7 +29,7 @@ fn has(alloc: Global, disk: &MemDisk, left: [&[u8]; 2]) -> Result<bool, AllocErr
     Ok(packages.as_slice() == left[0] && index.as_slice() == left[1] && is_closed(alloc, disk)?)
 }
 
-// Asks for the package by its name: the disk behind it, where it was printed and this is left.
+// Asks for the package by its name: the disk after it, where it was printed and this is left.
 fn ask(alloc: Global, disk: MemDisk, left: [&[u8]; 2]) -> Result<Option<MemDisk>, AllocError> {
     let ran = run_on(alloc, "rpm -q a", disk)?;
     let is_told = ran.outcome == outcome(0, Why::Done, 0)
@@ -54,7 +54,7 @@ fn answered_at(
     Ok(answered)
 }
 
-// Whether the question is answered so on these files, and again wherever a stop cuts it off.
+// Whether the question is answered so on these files, and again wherever a crash cuts it off.
 fn is_answered_again(
     alloc: Global,
     files: Files<'_>,
@@ -89,7 +89,7 @@ fn is_answered_behind(
     Ok(Some(is_told && ask(alloc, again, left)?.is_some()))
 }
 
-// Of how many calls the question is answered so behind the one that fails: all of them, and more than ten.
+// Of how many calls the question is answered so after the one that fails: all of them, and more than ten.
 fn calls_that_fail(
     alloc: Global,
     files: Files<'_>,

@@ -24,7 +24,7 @@ pub skipped : (text : List ℕ) → words text ≡ words (drop (prefix_len is_bl
 skipped [] = refl
 skipped (b ∷ rest) = skipped_by b rest (is_blank b) refl (skipped rest)
 
--- the parts behind the first
+-- the parts after the first
 abbrev parts_behind : List ℕ → List (List ℕ)
 parts_behind [] = []
 parts_behind (b ∷ rest) = slice_split is_blank rest
@@ -89,7 +89,7 @@ first_of (b ∷ rest) h m =
     ∙ kept b (take_while no_blank rest) (parts_behind (drop (prefix_len no_blank (b ∷ rest)) (b ∷ rest)))
     ∙ (λ i. sym word i ∷ words-cut (drop (prefix_len no_blank (b ∷ rest)) (b ∷ rest)) (cut (b ∷ rest)) i)
 
--- behind its blanks a text is empty, or begins with its first word
+-- after its blanks a text is empty, or begins with its first word
 module _ (text left : List ℕ) (leaves : left ≡ drop (prefix_len is_blank text) text) where
   from_left : words text ≡ words left
   from_left = skipped text ∙ ap words (sym leaves)

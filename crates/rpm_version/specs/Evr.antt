@@ -14,7 +14,7 @@ pub record EvrParts : Type 0 where
   pub version : List ℕ
   pub release : Option (List ℕ)
 
--- the digits that the text begins with, perhaps none, have a colon, 58, behind them
+-- the digits that the text begins with, perhaps none, have a colon, 58, after them
 unfoldable pub has_epoch : List ℕ → Bool
 has_epoch text = slice_index text (prefix_len is_ascii_digit text) == 58
 
@@ -22,7 +22,7 @@ has_epoch text = slice_index text (prefix_len is_ascii_digit text) == 58
 unfoldable pub epoch_of : List ℕ → Option (List ℕ)
 epoch_of text = if has_epoch text then Some (take_while is_ascii_digit text) else None
 
--- what stands behind that colon, or the whole text
+-- what stands after that colon, or the whole text
 unfoldable pub behind_epoch : List ℕ → List ℕ
 behind_epoch text =
     if has_epoch text then drop (prefix_len is_ascii_digit text + 1) text else text
@@ -31,7 +31,7 @@ behind_epoch text =
 abbrev pub is_dash : ℕ → Bool
 is_dash b = b == 45
 
--- the place of a dash with none behind it
+-- the place of a dash with none after it
 pub record IsLastDash (i : ℕ) (text : List ℕ) : Type 0 where
   pub within : i < length text
   pub dash : slice_index text i ≡ 45

@@ -13,7 +13,7 @@ segment_at piece.Caret = Caret
 segment_at (piece.Letters text) = Letters text.now
 segment_at (piece.Digits text) = Digits (digits_value 10 text.now)
 
--- the segments that follow a piece: behind the end there are none
+-- the segments that follow a piece: after the end there are none
 abbrev pub segments_behind : Piece → List ℕ → List Segment
 segments_behind piece.End rest = []
 segments_behind first rest = segments rest

@@ -12,7 +12,7 @@ pub data Segment : Type 0 where
   Letters : List ℕ → Segment
   Digits : ℕ → Segment
 
--- whether a byte and the one behind it belong to one run: two digits, or two letters
+-- whether a byte and the one after it belong to one run: two digits, or two letters
 unfoldable pub runs_on : ℕ → List ℕ → Bool
 runs_on b [] = false
 runs_on b (c ∷ rest) =
@@ -33,6 +33,6 @@ segment_of (b ∷ rest) =
     else if b == 94 then Some Caret
     else None
 
--- the segments of a text, and behind them the end
+-- the segments of a text, and after them the end
 unfoldable pub segments : List ℕ → List Segment
 segments text = filter_map segment_of (runs text) ++ End ∷ []

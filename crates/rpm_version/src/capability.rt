@@ -54,7 +54,7 @@ fn without_blanks(text: &[u8]) -> &[u8]
     &text[blanks_len(text)..]
 }
 
-/// The first word of a text, and what stands behind it.
+/// The first word of a text, and what stands after it.
 fn next_word(text: &[u8]) -> Option<(&[u8], &[u8])>
     ensures { MatchOption result (words text.now ≡ []) (λ cut. words text.now ≡ cut.0.now ∷ words cut.1.now) }
 {

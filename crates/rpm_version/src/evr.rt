@@ -30,7 +30,7 @@ impl<'a> Model for Evr<'a> {
     ghost invariant = { λ s. HasDigits (option_copied s.epoch) };
 }
 
-/// The epoch of a text, and what stands behind it.
+/// The epoch of a text, and what stands after it.
 #[tactic(auto, unfolding(crate::specs::Evr::has_epoch, crate::specs::Evr::epoch_of, crate::specs::Evr::behind_epoch))]
 fn split_epoch(text: &[u8]) -> (Option<&[u8]>, &[u8])
     ensures epoch { option_copied result.0 ≡ epoch_of text.now }
@@ -83,7 +83,7 @@ impl<'a> Evr<'a> {
     /// Cuts a text into its parts, as rpm's documentation of dependency versions has them.
     ///
     /// The digits that a text begins with, perhaps none, are its epoch where a colon follows them.
-    /// What stands before the last dash behind it is the version, and what follows that dash is the
+    /// What stands before the last dash after it is the version, and what follows that dash is the
     /// release. Each text has these parts: nothing is refused. Goes over the text twice at most.
     #[tactic(auto, unfolding(crate::specs::Evr::evr))]
     pub fn read(text: &'a [u8]) -> Self

@@ -51,7 +51,7 @@ fn compare_pieces(a: Piece<'_>, b: Piece<'_>) -> Ordering
 /// Which of two versions is newer: `Less` where `a` is older than `b`.
 ///
 /// A version is the list of its longest runs of ASCII digits, its longest runs of ASCII letters,
-/// each `~` and each `^`, and behind them the end; all other bytes only separate. The first place
+/// each `~` and each `^`, and after them the end; all other bytes only separate. The first place
 /// at which the lists differ decides: `~` is below the end, and above it stand `^`, letters and
 /// digits, in this order. Letters compare byte by byte, and digits as numbers of any size. From
 /// rpm's documentation of dependency versions.

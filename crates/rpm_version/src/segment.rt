@@ -57,7 +57,7 @@ fn letters_len(text: &[u8]) -> usize
         .count()
 }
 
-/// The longest run of digits that a text begins with, and what stands behind it.
+/// The longest run of digits that a text begins with, and what stands after it.
 #[tactic(auto, using(crate::proofs::Cuts::taken_digits))]
 pub fn leading_digits(text: &[u8]) -> (&[u8], &[u8])
     ensures run { result.0.now ≡ take_while is_ascii_digit text.now }
@@ -67,7 +67,7 @@ pub fn leading_digits(text: &[u8]) -> (&[u8], &[u8])
     text.split_at(digits_len(text))
 }
 
-/// The longest run of letters that a text begins with, and what stands behind it.
+/// The longest run of letters that a text begins with, and what stands after it.
 pub fn leading_letters(text: &[u8]) -> (&[u8], &[u8])
     ensures run { result.0.now ≡ take_while is_ascii_alphabetic text.now }
     ensures behind { result.1.now ≡ drop (prefix_len is_ascii_alphabetic text.now) text.now }
@@ -75,7 +75,7 @@ pub fn leading_letters(text: &[u8]) -> (&[u8], &[u8])
     text.split_at(letters_len(text))
 }
 
-/// The first segment of a text, and what stands behind it. Reads no byte behind the segment but
+/// The first segment of a text, and what stands after it. Reads no byte after the segment but
 /// the one that ends it.
 pub fn next_piece(text: &[u8]) -> (Piece<'_>, &[u8])
     ensures first { segments text.now ≡ segment_at result.0 ∷ segments_behind result.0 result.1.now }

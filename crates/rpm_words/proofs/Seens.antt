@@ -8,7 +8,7 @@ use Rattle.rpm_words.specs.Command.{head, command_of, chosen_of}
 use Rattle.rpm_words.specs.Seen.{printed_in, after_in, exercise_in, is_noindex, is_nofiles}
 use Rattle.rpm_words.specs.inner.Steps.{seen_with}
 
--- what the tokens come to, behind those that come to `before`
+-- what the tokens come to, after those that come to `before`
 abbrev pub seen_behind : List (List ℕ) → Seen → List Token → Seen
 seen_behind words before tokens = record {
   command = option_or before.command (head (filter_map command_of tokens));

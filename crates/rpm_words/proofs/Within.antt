@@ -27,7 +27,7 @@ pub record IsWithin (words : List (List ℕ)) (token : Token) : Type 0 where
   pub word : token.word < length words
   pub value : BeginsIn (text_at words token.word) token.said
 
--- a word at its place, and those behind it
+-- a word at its place, and those after it
 pub record Stands (words : List (List ℕ)) (i : ℕ) (text : List ℕ) (rest : List (List ℕ)) : Type 0 where
   pub below : i < length words
   pub here : text_at words i ≡ text

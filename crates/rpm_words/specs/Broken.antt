@@ -121,7 +121,7 @@ abbrev pub too_few : List (List ℕ) → Command → Seen → ArgumentRule → L
 too_few words command seen taken arguments =
     if lacks_option command seen || nat_lt (length arguments) (fewest taken) then Some (fault MissingArgument (length words)) else None
 
--- the first argument behind the most that there may be
+-- the first argument after the most that there may be
 abbrev pub too_many : ArgumentRule → List ℕ → Option WordsFault
 too_many taken arguments = option_map (fault ExtraArgument) (option_map_or (slice_get arguments) (most taken) None)
 

@@ -28,7 +28,7 @@ is_equals b = b == 61
 abbrev pub has_equals : List ℕ → Bool
 has_equals text = nat_lt (position_or_len is_equals text) (length text)
 
--- an option with its value behind the place of the sign
+-- an option with its value after the place of the sign
 abbrev pub inline : ℕ → Switch → Purpose
 inline place switch = if takes_value switch then Inline switch (place + 1) else Unknown
 
@@ -46,7 +46,7 @@ unfoldable pub long_purpose : Program → List ℕ → Purpose
 long_purpose program text =
     option_map_or (spelled text) (long_switch program (before_first is_equals text)) Unknown
 
--- behind the first byte stand short options alone
+-- after the first byte stand short options alone
 unfoldable pub is_cluster : Program → List ℕ → Bool
 is_cluster Rpm text = list_all (λ b. is_some (short_switch b)) (drop 1 text)
 is_cluster Rpmdb text = false

@@ -37,13 +37,13 @@ says word Ends text = []
 says word Plain text = token_at word Argument ∷ []
 says word Rest text = token_at word Argument ∷ []
 
--- what the words from a place on say, behind one that is there for `previous`
+-- what the words from a place on say, after one that is there for `previous`
 unfoldable pub said_behind : Program → Purpose → ℕ → List (List ℕ) → List Token
 said_behind program previous i [] = []
 said_behind program previous i (text ∷ rest) =
     says i (purpose_behind program previous text) text
     ++ said_behind program (purpose_behind program previous text) (i + 1) rest
 
--- what the words behind the program's name say
+-- what the words after the program's name say
 unfoldable pub said : Program → List (List ℕ) → List Token
 said program words = said_behind program Name 1 (drop 1 words)

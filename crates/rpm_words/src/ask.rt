@@ -108,7 +108,7 @@ impl Ask {
         matches!(self.printed, Some(Printed::Files))
     }
 
-    /// Where the format stands, if one is given and no `-l` behind it: a word, from a byte on.
+    /// Where the format stands, if one is given and no `-l` after it: a word, from a byte on.
     pub fn format(&self) -> Option<Span>
         ensures { result ≡ self.now.format }
     {
@@ -187,7 +187,7 @@ const NO_MEMORY: WordsFault = WordsFault {
     word: 0,
 };
 
-/// Reads the words behind the name of a program.
+/// Reads the words after the name of a program.
 #[tactic(auto, unfolding(crate::specs::Ask::asked_by))]
 fn read_options(alloc: Global, program: Program, words: &Words) -> Result<Ask, WordsFault>
     ensures fault { MatchResult result (λ a. asked_by program words.now ≡ Ok a) (λ f. f.kind ≢ NoMemory → asked_by program words.now ≡ Err f) }
@@ -225,12 +225,12 @@ fn read_options(alloc: Global, program: Program, words: &Words) -> Result<Ask, W
 /// `-l` (`--list`), `--qf` (`--queryformat`), `--after` and `--noindex`. Packages are verified with both
 /// `-a` and `--nofiles`. Under `rpmdb` the modes are `--initdb`, `--rebuilddb`, `--verifydb`,
 /// `--exportdb`, `--importdb`, `--exercise`, `--order` and `--checkfiles`. Both have `--dbpath`. A long
-/// option has its value behind a `=`, or in the next word, whatever that is. `--` ends the options.
+/// option has its value after a `=`, or in the next word, whatever that is. `--` ends the options.
 ///
 /// Of a command that is read each argument is a word, an exercise is with 1 to 100,000 packages, and
 /// the place of a format lies in its word. Of a query each argument is what its selection wants: a
 /// number, a capability, or any text. What is erased are numbers, and what is replaced is one, with one
-/// file behind it.
+/// file after it.
 ///
 /// # Errors
 ///

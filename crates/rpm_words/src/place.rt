@@ -28,7 +28,7 @@ pub(crate) fn program_of(words: &Words) -> Option<Program>
     }
 }
 
-/// The value that stands behind the first `=` of a word.
+/// The value that stands after the first `=` of a word.
 #[tactic(auto, using(std::proofs::lemmas::Str::Pattern::split_once_first))]
 fn inline_value(text: &str) -> &str
     ensures { result.now ≡ after_first is_equals text.now }
@@ -39,7 +39,7 @@ fn inline_value(text: &str) -> &str
     }
 }
 
-/// The folder behind a word, where it was `folder` in front of it.
+/// The folder after a word, where it was `folder` in front of it.
 fn folder_behind<'a>(folder: &'a str, purpose: Purpose, text: &'a str) -> &'a str
     requires { IsSpelled text.now purpose }
     ensures { result.now ≡ folder_behind purpose text.now folder.now }

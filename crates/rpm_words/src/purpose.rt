@@ -30,7 +30,7 @@ pub(crate) enum Purpose {
     Ends,
     /// An argument.
     Plain,
-    /// An argument behind the end of the options.
+    /// An argument after the end of the options.
     Rest,
 }
 
@@ -85,7 +85,7 @@ fn is_letters(bytes: &[u8]) -> bool
     bytes.iter().all(|byte| short_switch(*byte).is_some())
 }
 
-/// Whether each byte behind the first is a short option.
+/// Whether each byte after the first is a short option.
 #[tactic(auto, unfolding(crate::specs::Purpose::is_cluster))]
 fn is_cluster(program: Program, text: &[u8]) -> bool
     ensures { result ≡ is_cluster program text.now }
@@ -115,7 +115,7 @@ fn own_purpose(program: Program, text: &str) -> Purpose
     }
 }
 
-/// What a word is there for, behind one that is there for `previous`.
+/// What a word is there for, after one that is there for `previous`.
 #[tactic(auto, unfolding(crate::specs::Purpose::purpose_behind))]
 pub(crate) fn purpose_behind(program: Program, previous: Purpose, text: &str) -> Purpose
     ensures { result ≡ purpose_behind program previous text.now }

@@ -139,7 +139,7 @@ fn switch_in(spellings: &[Spelling], text: &str) -> Option<Switch>
     None
 }
 
-/// The option that a long spelling names, which stands behind two dashes.
+/// The option that a long spelling names, which stands after two dashes.
 pub(crate) fn long_switch(program: Program, text: &str) -> Option<Switch>
     ensures value { result ≡ long_switch program text.now }
     ensures short { IsSome result → length text.now ≤ 16 }

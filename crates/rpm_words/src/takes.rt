@@ -22,7 +22,7 @@ pub(crate) enum ArgumentRule {
     Any(Expected),
     /// As many as are given, and not none, each of them this.
     Several(Expected),
-    /// A number, and a text behind it.
+    /// A number, and a text after it.
     NumberAndText,
 }
 

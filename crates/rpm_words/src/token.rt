@@ -71,7 +71,7 @@ fn push_tokens(
     Ok(())
 }
 
-/// What the words behind the program's name say, from left to right.
+/// What the words after the program's name say, from left to right.
 pub(crate) fn tokens_of(
     alloc: Global,
     program: Program,

@@ -43,7 +43,7 @@ impl Words {
         }
     }
 
-    /// Adds a copy of a word behind the others.
+    /// Adds a copy of a word after the others.
     ///
     /// # Errors
     ///

@@ -63,7 +63,7 @@ and_then_some : (cs : List Change) (o : Option Store) (w : Store) → option_and
 and_then_some cs None w is = absurd cc
 and_then_some cs (Some u) w is = (u, (refl, is))
 
--- behind changes of which none is refused the others go on
+-- after changes of which none is refused the others go on
 first_later : (i : Bool) (xs ys : List Change) (s : State) (v w : Store) → first_refusal i s v xs ≡ None → next_stores xs v ≡ Some w
     → first_refusal i s v (xs ++ ys) ≡ first_refusal i (apply_all xs s) w ys
 first_later i [] ys s v w none stores =
@@ -76,7 +76,7 @@ first_later i (x ∷ xs) ys s v w none stores =
     ∙ ap (λ (u : Store). first_refusal i (apply x s) u (xs ++ ys)) here
     ∙ first_later i xs ys (apply x s) mid.0 w (subst (λ (u : Store). first_refusal i (apply x s) u xs ≡ None) here parts.1) mid.1.1
 
--- one that is refused is refused whatever comes behind it
+-- one that is refused is refused whatever comes after it
 first_before : (i : Bool) (xs ys : List Change) (s : State) (v : Store) (h : Halt) → first_refusal i s v xs ≡ Some h
     → first_refusal i s v (xs ++ ys) ≡ Some h
 first_before i [] ys s v h is = absurd cc
@@ -227,7 +227,7 @@ limit_more halt.OutFault is = is
 limit_more halt.ErrFault is = is
 limit_more halt.NoMemory is = is
 
--- the limits behind which the index comes are met as if it were not asked
+-- the limits after which the index comes are met as if it were not asked
 pub stops_unasked : (s : State) (v : Store) (changes : List Change) (r : Result Tally Halt) → StopsAt true (first_refusal true s v changes) r
     → StopsAt false (first_refusal false s v changes) r
 stops_unasked s v changes (Ok tally) none = unasked_none changes s v none

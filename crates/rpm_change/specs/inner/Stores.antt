@@ -33,7 +33,7 @@ next_stores-spare [] k v = refl
 next_stores-spare (x ∷ xs) k v =
     ap (option_and_then (next_stores xs)) (next_spare x k v) ∙ some_spare xs k (next_stores-spare xs k) (next_store x v)
 
--- those behind the first ones go on in the store that these leave
+-- those after the first ones go on in the store that these leave
 pub stores_behind : (xs ys : List Change) (k : ℕ) (v w : Store) → next_stores xs v ≡ Some (with_spare k w)
     → next_stores (xs ++ ys) v ≡ option_map (with_spare k) (next_stores ys w)
 stores_behind xs ys k v w is = next_stores-append xs ys v ∙ ap (option_and_then (next_stores ys)) is ∙ next_stores-spare ys k w

@@ -33,7 +33,7 @@ void_agrees value pkg idx void = record {
 pub index_agrees : (pkg idx : Units) (made : IsIndexOf pkg idx) → Agrees made.value pkg idx
 index_agrees pkg idx made = record { rows_are = λ current. made.rows_are; no_later = omega (arith, made.sealed_at) }
 
--- files stay lawful where their index is made anew
+-- files stay lawful where their index is rebuilt
 remade_index : (pkg idx : Units) → IsLawful pkg idx → (new : Units) → (new ≡ idx) ⊎ ((unit_at new 0 ≡ blank) ⊎ IsIndexOf pkg new) → IsLawful pkg new
 remade_index pkg idx lawful new (inl same) = subst (IsLawful pkg) (sym same) lawful
 remade_index pkg idx (inl none) new (inr (inl void)) = inl none
@@ -62,7 +62,7 @@ remade_then a b c first second = record {
       (subst (λ (pkg : Units). (b.idx ≡ a.idx) ⊎ ((unit_at b.idx 0 ≡ blank) ⊎ IsIndexOf pkg b.idx)) (sym second.pkg) first.idx) second.idx;
 }
 
--- and what stops leave meanwhile is lawful, where the images at the start are
+-- and what crashes leave meanwhile is lawful, where the images at the start are
 pub stops_lawful : {D : Type 0} (moment : D → ℕ) (left_since : D → ℕ → Files → Type 0) (a b : D) → AreLawful (left_since a (moment a))
     → LeavesOnly moment left_since a b (CameOf Remade (left_since a (moment a))) → LeavesOnly moment left_since a b (IsLawfulStill (left_since a (moment a)))
 stops_lawful moment left_since a b lawful =

@@ -28,7 +28,7 @@ state_with packages field = record { packages = packages; field = field }
 abbrev pub state_of : BlobMap → ℕ → State
 state_of blobs field = state_with (packages_of blobs) field
 
--- while a store's blobs change behind a raise of its generation: those before, with the number field before or after, or those after
+-- while a store's blobs change after a raise of its generation: those before, with the number field before or after, or those after
 abbrev pub BlobsTo : ℕ → ℕ → ℕ → BlobMap → BlobMap → Units → Type 0
 BlobsTo generation field next before after image =
     StandsFor generation field before image

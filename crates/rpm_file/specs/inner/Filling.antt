@@ -17,7 +17,7 @@ pub record Fills (old new : Option (List ℕ)) (count : ℕ) (into : List ℕ) :
   pub front : Takes old new (take count into)
   pub ended : count < length into → left new ≡ []
 
--- the bytes that came stand behind those that were there
+-- the bytes that came stand after those that were there
 pub record Extends (old new : Option (List ℕ)) (before now : List ℕ) : Type 0 where
   pub more : List ℕ
   pub behind : now ≡ before ++ more

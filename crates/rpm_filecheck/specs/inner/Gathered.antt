@@ -15,16 +15,16 @@ use Rattle.rpm_filecheck.specs.Owners.{Owner}
 abbrev pub key_order : Vec ℕ Global → Vec ℕ Global → Ordering
 key_order x y = path_order x.items y.items
 
--- of some owners the number of the last, behind this one
+-- of some owners the number of the last, after this one
 abbrev pub last_from : ℕ → List Owner → ℕ
 last_from n [] = n
 last_from n (o ∷ os) = last_from o.number os
 
--- one more behind them, but for a second place in the package of the last
+-- one more after them, but for a second place in the package of the last
 abbrev pub joined : List Owner → Owner → List Owner
 joined os o = if last_from 0 os == o.number then os else os ++ o ∷ []
 
--- an owner behind those that are there
+-- an owner after those that are there
 abbrev pub joined_to : Option (List Owner) → Owner → List Owner
 joined_to None o = o ∷ []
 joined_to (Some os) o = joined os o

@@ -49,7 +49,7 @@ pub record IsOpen (n : ℕ) (ranks : List ℕ) (v : ℕ) : Type 0 where
   pub entered : 1 ≤ slice_index ranks v
   pub below : slice_index ranks v ≤ n
 
--- no root lies between v and w, where v stands behind w: then v's level is at most w's
+-- no root lies between v and w, where v stands after w: then v's level is at most w's
 abbrev pub IsNoHigher : List ℕ → List ℕ → ℕ → ℕ → Type 0
 IsNoHigher ranks roots v w = (root : ℕ) → Contains roots root → root < slice_index ranks v → root < slice_index ranks w
 

@@ -1,4 +1,4 @@
--- Units that are held one behind the other.
+-- Units that are held one after the other.
 use Rattle.std.specs.Prelude.{◌≡◌, ℕ, ◌<◌, ◌≤◌, true, unwrap_or, map}
 use Rattle.std.specs.List.{range_with_len}
 use Rattle.rpm_outside.specs.Files.{Units, blank}

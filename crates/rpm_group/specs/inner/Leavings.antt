@@ -1,4 +1,4 @@
--- What a stop may leave while entries are written.
+-- What a crash may leave while entries are written.
 use Rattle.std.specs.Prelude.{List}
 use Rattle.rpm_outside.specs.Files.{Files}
 use Rattle.rpm_outside.specs.Logs.{Entry}

@@ -9,11 +9,11 @@ use Rattle.rpm_group.specs.declared.log.Reading.{Reading}
 use Rattle.rpm_group.specs.declared.log.Reading.TheVariants.{Shut, Bad, Opened}
 use Rattle.rpm_group.specs.Readings.{IsOpen}
 
--- what the heads behind a gate say
+-- what the heads after a commit record say
 abbrev pub heads_behind : Gate → Units → LogState
 heads_behind gate log = heads gate.entries 1 gate.last log
 
--- the gate that was read is that of this log, whose heads weren't looked at
+-- the commit record that was read is that of this log, whose heads weren't looked at
 abbrev pub GateSays : Reading → Units → Type 0
 GateSays Shut log = log_state log ≡ Closed
 GateSays (Bad unit) log = log_state log ≡ Malformed unit

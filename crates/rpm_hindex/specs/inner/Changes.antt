@@ -67,7 +67,7 @@ pub record SetsNext (old new : ℕ → Option (List ℕ)) (h : Head) (n : ℕ) :
   pub number : word 2 words ≡ h.number
   pub «in» : word 3 words ≡ h.place
 
--- a unit behind unit 0 and before that one is put
+-- a unit after unit 0 and before that one is put
 abbrev pub PutsWithin : {X : Type 0} → ℕ → (ℕ → Option X) → (ℕ → Option X) → Type 0
 PutsWithin {X} used old new = (key : ℕ) × (1 ≤ key) × (key < used) × PutsOne old new key
 
@@ -78,7 +78,7 @@ Unlinks file old new bucket (Some h) n = SetsNext old new h n
 
 -- ---- a change that can go on
 
--- each of these units stands behind unit 0 and before this one
+-- each of these units stands after unit 0 and before this one
 abbrev pub IsBehind : {X : Type 0} → ℕ → (ℕ → Option X) → Type 0
 IsBehind {X} used units = (key : ℕ) (value : X) → units key ≡ Some value → (1 ≤ key) × (key < used)
 
@@ -93,7 +93,7 @@ pub record CanGo (c : Change) : Type 0 where
   pub live : first_record c.extent.buckets + c.live ≤ c.extent.used + length c.tail.items / 16
   pub records : c.records ≤ 2 * c.extent.buckets
 
--- the index so far: changed units, and records behind all others
+-- the index so far: changed units, and records after all others
 abbrev pub index_with : ℕ → ℕ → (ℕ → Option (List ℕ)) → List ℕ → Units → Index
 index_with buckets used units tail file = record {
   buckets = buckets;

@@ -4,7 +4,7 @@ use Rattle.rpm_outside.specs.Files.{Units, cut_up}
 use Rattle.rpm_hindex.specs.Words.{unit_of_words}
 use Rattle.rpm_hindex.specs.Sizes.{key_units}
 
--- the zeros behind a key of so many bytes
+-- the zeros after a key of so many bytes
 abbrev pub padding : ℕ → List ℕ
 padding length = replicate (16 * key_units length - length) 0
 

@@ -1,4 +1,4 @@
--- Rows whose keys stand one behind the other.
+-- Rows whose keys stand one after the other.
 use Rattle.std.specs.Prelude.{◌≡◌, ℕ, ◌+◌, ◌≤◌, ◌<◌, ◌^◌, List, take, drop, map, length, slice_index_or}
 use Rattle.rpm_hindex.specs.declared.rows.RowHead.{RowHead}
 use Rattle.rpm_hindex.specs.Rows.{Row}

@@ -232,7 +232,7 @@ module _ {D : Type 0} (tells : Bool) (files : D → Files) (left_since : D → �
     goes_on = looks.goes_on;
   }
 
-  -- what stops leave that fall into a run
+  -- what crashes leave that fall into a run
   pub stops_from : IsTrue tells → (R : Units → Units → Type 0) (P : Units → Type 0) (most : ℕ) (a b : D) → Run R most a b
       → ((from image : Files) → images a from → R (file_of file from) (file_of file image) → P (file_of file image)) → LeavesOnly moment left_since a
       b (Stops file P (images a))

@@ -52,7 +52,7 @@ pub record SettlesFile (old new : Copies) (file : File) (at : ℕ) (files : File
   pub log : new.loose_log ≡ tightened file Log old.loose_log
   pub kept : (new.kept.items ≡ old.kept.items) ⊎ (NoneLoose new × AddsCopy old.kept.items new.kept.items at files)
 
--- a copy is kept, and isn't behind this moment
+-- a copy is kept, and isn't after this moment
 pub record HasCopy (copies : List Copy) (moment : ℕ) (copy : Copy) : Type 0 where
   pub k : ℕ
   pub there : slice_get copies k ≡ Some copy

@@ -52,7 +52,7 @@ module _ {O : Type 0} {tells : Bool} {taken : O → List ℕ} {faults : O → �
     goes_on = w.goes_on.0;
   }
 
-  -- a flush behind one that didn't
+  -- a flush after one that didn't
   pub flushed : {T U E F : Type 0} {bytes : List ℕ} {old mid : Buffered O} {t : T} (then : (a b c : O) → follows a b → follows b c → follows a c)
       (new : Buffered O) (r : Result U F) → holds old ≡ []
       → Writes {T = T} {E = E} tells (all_taken taken) (λ b. faults (inner b)) (GoesOn tells taken follows) old mid bytes (Ok t) → Flushes tells taken

@@ -1,4 +1,4 @@
--- What a log stands for while its entries are written, and when its gate is.
+-- What a log stands for while its entries are written, and when its commit record is.
 use Rattle.std.specs.Prelude.{◌≡◌, ◌⊎◌, ℕ, ◌+◌, ◌<◌, ◌≤◌, max, List, [], ◌∷◌, length, Bool, true, false, if◌then◌else◌}
 use Rattle.std.proofs.Common.{inl, inr, ⊎_elim, refl, sym, ap, subst, ◌∙◌, arith, zero, suc, ◌==◌}
 use Rattle.std.proofs.lemmas.Bool.{cases_Bool}
@@ -174,7 +174,7 @@ module _ (unit : List ℕ) (from image : Files) (some : 0 < length from.log) (to
 pub first_unit : (unit : List ℕ) (log : Units) → unit_at (put 0 (unit ∷ []) log) 0 ≡ unit
 first_unit unit log = put_inside 0 (unit ∷ []) log 0 (omega arith)
 
--- once the entries are written, the gate can be made zeros
+-- once the entries are written, the commit record can be made zeros
 pub closing : (unit : List ℕ) (from image : Files) (entries : List Entry) → is_blank unit ≡ true → 0 < length from.log → log_state from.log
     ≡ Open entries → with_entries entries (unlogged from) ≡ unlogged from
     → TornFile Log 0 (unit ∷ []) from image → reopened image ≡ unlogged from

@@ -18,7 +18,7 @@ pub entries_end : (entries : List Entry) (p end : ℕ) (log : Units) → Entries
 entries_end [] p end log is = omega (arith, is)
 entries_end (entry ∷ entries) p end log (one, rest) = omega (arith, entries_end entries (p + 1 + length entry.units) end log rest)
 
--- they stay where the log was changed behind them alone
+-- they stay where the log was changed after them alone
 pub entries_kept : (entries : List Entry) (p end : ℕ) (old new : Units) → ((i : ℕ) → p ≤ i → i < end → unit_at new i ≡ unit_at old i) → length old
     ≤ length new → EntriesIn entries p end old → EntriesIn entries p end new
 entries_kept [] p end old new same long is = is
@@ -136,7 +136,7 @@ module _ (gate : List ℕ) (entries : List Entry) (last : ℕ) (log : Units) (g 
   there : EntriesIn entries 1 (last + 1) opened
   there = entries_kept entries 1 (last + 1) log opened (λ i low high. put_after 0 (gate ∷ []) log i low) (omega (arith, long)) is
 
-  -- with the gate the log is open
+  -- with the commit record the log is open
   pub opened_is : log_state opened ≡ Open entries
   opened_is =
       gate_right opened (ap is_blank here ∙ g.full) (ap (λ (u : List ℕ). is_gate (length opened) u) here ∙ gate_is (length opened) gate
@@ -146,7 +146,7 @@ module _ (gate : List ℕ) (entries : List Entry) (last : ℕ) (log : Units) (g 
       ∙ ap (λ (n : ℕ). heads (length entries) 1 n opened) g.end
       ∙ heads_are entries 1 last opened there
 
--- a gate that was written in part stands for the files before or after
+-- a commit record that was written in part stands for the files before or after
 pub opening : (gate : List ℕ) (entries : List Entry) (last : ℕ) (from image : Files) → IsGate gate (length entries) last → 0 < length entries → last
     < length from.log → EntriesIn entries 1 (last + 1) from.log → log_state from.log ≡ Closed
     → TornFile Log 0 (gate ∷ []) from image → (reopened image ≡ unlogged from) ⊎ (reopened image ≡ with_entries entries (unlogged from))

@@ -8,7 +8,7 @@ module _ {D : Type 0} (moment : D → ℕ) (left_since : D → ℕ → Files →
   pub started : (old : D) (P : Files → Type 0) → ((image : Files) → left_since old (moment old) image → P image) → LeavesOnly moment left_since old old P
   started old P here = record { later = omega arith; each = here; before = λ t image le left. inl left }
 
-  -- one call more, after which a stop leaves what has P
+  -- one call more, after which a crash leaves what has P
   pub one_more : (old mid new : D) (P : Files → Type 0) → LeavesOnly moment left_since old mid P → Elapses (moment mid) (moment new) (left_since mid)
       (left_since new)
       → ((image : Files) → left_since new (moment new) image → P image) → LeavesOnly moment left_since old new P

@@ -72,7 +72,7 @@ module _ {S : Type 0} {tells : Bool} {taken : S → List ℕ} {faults : S → �
         → Writes tells taken faults follows mid new left r → Writes tells taken faults follows old new all r
     upto_last {r = r} u w = last r u w
 
-    -- two pieces, one behind the other
+    -- two pieces, one after the other
     pub both : {T U E F : Type 0} {all x y : List ℕ} {old mid new : S} {t : T} {r : Result U E} → ((s : S) → follows s s) → x ++ y ≡ all
         → Writes {T = T} {E = F} tells taken faults follows old mid x (Ok t) → Writes tells taken faults follows mid new y r → Writes tells taken
         faults follows old new all r

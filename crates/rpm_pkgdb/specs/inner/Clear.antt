@@ -4,7 +4,7 @@ use Rattle.rpm_outside.specs.Files.{Units, unit_at, put}
 use Rattle.rpm_pkgdb.specs.Slots.{slot_at, is_used, end_of}
 use Rattle.rpm_pkgdb.specs.Store.{Store}
 
--- a range behind the slot pages in which no used slot has a block
+-- a range after the slot pages in which no used slot has a block
 pub record IsClear (store : Store) (at n : ℕ) : Type 0 where
   pub behind : 256 * store.pages ≤ at
   pub apart : (k : ℕ) → is_used (slot_at store.slots k) ≡ true → (at + n ≤ (slot_at store.slots k).offset) ⊎ (end_of (slot_at store.slots k) ≤ at)

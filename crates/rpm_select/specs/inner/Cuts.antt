@@ -44,7 +44,7 @@ none_at p [] k none within = absurd (omega arith)
 none_at p (y ∷ ys) zero none within = (or_none (p y) (list_any p ys) none).0
 none_at p (y ∷ ys) (suc k) none within = none_at p ys k (or_none (p y) (list_any p ys) none).1 (omega arith)
 
--- such a byte, and none behind it
+-- such a byte, and none after it
 pub cut_at : (p : ℕ → Bool) (xs : List ℕ) (c : ℕ) (ys : List ℕ) → p c ≡ true → list_any p ys ≡ false → cut p (xs ++ c ∷ ys) ≡ Some xs
 cut_at p xs c ys end none =
     let zs = xs ++ c ∷ ys in

@@ -1,7 +1,7 @@
 -- The first member of a set of bytes.
 use Rattle.std.specs.Prelude.{ℕ, List, length, Bool, ◌&&◌, ◌==◌, nat_lt, nat_le, slice_index, if◌then◌else◌}
 
--- a dash and one more stand behind it
+-- a dash and one more stand after it
 abbrev pub is_range : List ℕ → Bool
 is_range members = nat_lt 2 (length members) && slice_index members 1 == 45
 

@@ -7,7 +7,7 @@ use Rattle.rpm_words.specs.declared.purpose.Purpose.TheVariants.{Whole, Inline, 
 use Rattle.rpm_words.specs.Purpose.{is_equals}
 use Rattle.rpm_words.specs.Place.{own_place}
 
--- a value in the option's own word begins behind the first `=`
+-- a value in the option's own word begins after the first `=`
 pub record IsCut (text : List ℕ) (from : ℕ) : Type 0 where
   pub within : position_or_len is_equals text < length text
   pub behind : from ≡ position_or_len is_equals text + 1
@@ -17,7 +17,7 @@ abbrev pub IsSpelled : List ℕ → Purpose → Type 0
 IsSpelled text (Inline switch from) = IsCut text from
 IsSpelled text others = Unit {0}
 
--- the folder behind a word, where it was `before` in front of it
+-- the folder after a word, where it was `before` in front of it
 abbrev pub folder_behind : Purpose → List ℕ → List ℕ → List ℕ
 folder_behind (Whole Folder) text before = own_place
 folder_behind (Awaits Folder) text before = own_place

@@ -60,7 +60,7 @@ close_log-requires-clause-done g c = λ told.
     ap (λ (s : LogState). with_entries (entries_of s) (unlogged mid)) (mid_open files mid entries (c.requires.open told) written)
     ∙ mid_done files mid entries (c.requires.open told) written
 
--- the entries, and then the gate
+-- the entries, and then the commit record
 both_leave : {D : Type 0} (moment : D → ℕ) (left_since : D → ℕ → Files → Type 0) (old mid new : D) (stands a : Files) → a ≡ stands
     → LeavesOnly moment left_since old mid (ReopensAs stands) → LeavesOnly moment left_since mid new (ReopensAs a)
     → LeavesOnly moment left_since old new (ReopensAs stands)

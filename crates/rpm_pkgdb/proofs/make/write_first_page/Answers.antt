@@ -15,7 +15,7 @@ use Rattle.rpm_pkgdb.proofs.make.write_first_page.Goals as goal
 first_unit : (us x y : Units) → length us ≡ 1 → Torn 1 us x y → SameOutside 1 255 x y
 first_unit us x y one torn = outside_wider 1 (length us) 1 255 x y (omega arith) (omega (arith, one)) (torn_outside 1 us x y torn)
 
--- and of the slots behind it
+-- and of the slots after it
 then_slots : (x y z : Units) → SameOutside 1 255 x y → SameOutside 2 254 y z → SameOutside 1 255 x z
 then_slots x y z one two = outside_then 1 255 x y z one (outside_wider 2 254 1 255 y z (omega arith) (omega arith) two)
 

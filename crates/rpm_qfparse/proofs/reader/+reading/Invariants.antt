@@ -12,7 +12,7 @@ decreases-branches l = 4 * (16 - l.depth) + cond l.in_bracket 0 2
 abbrev pub decreases-read : goal.decreases-read
 decreases-read l = 4 * (16 - l.depth) + cond l.in_bracket 0 2 + 1
 
--- what the rest gives behind the draft, the text gives
+-- what the rest gives after the draft, the text gives
 abbrev pub invariant-read-loop-behind : goal.invariant-read-loop-behind
 invariant-read-loop-behind l = (a : Reading Tree) → Gives l.context l.in_bracket l.depth l.rest a → Gives l.context l.in_bracket l.depth l.text
     (behind (after l.draft) a)

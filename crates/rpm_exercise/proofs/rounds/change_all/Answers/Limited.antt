@@ -1,4 +1,4 @@
--- The limits of the rounds, one behind another.
+-- The limits of the rounds, one after another.
 use Rattle.std.proofs.Common.{◌≡◌, ℕ, ◌+◌, ◌-◌, ap, ◌∙◌}
 use Rattle.rpm_db.specs.Changes.{next}
 use Rattle.rpm_db.specs.State.{state}
