@@ -1,5 +1,6 @@
 -- Package files that are added one after the other.
 use Rattle.std.proofs.Common.{◌≡◌, ℕ, ◌+◌, ◌<◌, ◌≤◌, Bor, Bool, List, map, length, drop, get_or, Err, refl, subst}
+use Rattle.rpm_outside.specs.Files.{Files}
 use Rattle.rpm_outside.specs.Shelves.{Paths}
 use Rattle.rpm_pkgdb.specs.Store.{Store}
 use Rattle.rpm_db.specs.State.{State}
@@ -31,10 +32,11 @@ module _ (now : ℕ) (ps qs : Paths) (xs : List (Bor (List ℕ))) (k : ℕ) (s t
         s t u failed changes o o' o'' e e' e'' (path_next (add_file now ps) xs k t v below refl) g h
         (subst (λ (rs : Paths). Ended (file_turn now rs xs t k) t u (Err h) (outputs ot o' et e') (outputs ot o'' et e'')) same p)
 
-  pub files_limits : (i : Bool) (v w x : Store) → k < length xs → Limited i (add_files ps now s (map bytes xs)) (from_file now ps xs t k) s t v w → (h : Halt)
-      → LimitsTurn i t w x (file_turn now qs xs t k).changes (Err h) → LimitsTurn i s v x (add_files ps now s (map bytes xs)).changes (Err h)
-  files_limits i v w x below g h p =
-      path_limits i (add_file now ps) xs k s t v w x below g h (subst (λ (rs : Paths). LimitsTurn i t w x (file_turn now rs xs t k).changes (Err h)) same p)
+  pub files_limits : {old mid new : Files} (i : Bool) (v w x : Store) → k < length xs
+      → Limited i (add_files ps now s (map bytes xs)) (from_file now ps xs t k) s t v w old mid → (h : Halt)
+      → LimitsTurn i t w x mid new (file_turn now qs xs t k).changes (Err h) → LimitsTurn i s v x old new (add_files ps now s (map bytes xs)).changes (Err h)
+  files_limits {mid = mid} {new = new} i v w x below g h p =
+      path_limits i (add_file now ps) xs k s t v w x below g h (subst (λ (rs : Paths). LimitsTurn i t w x mid new (file_turn now rs xs t k).changes (Err h)) same p)
 
 -- no file is left
 module _ (ot et : Bool) (now : ℕ) (ps : Paths) (xs : List (Bor (List ℕ))) (k : ℕ) (s t : State) (failed changes : ℕ)

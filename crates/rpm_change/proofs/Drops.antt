@@ -9,9 +9,11 @@ use Rattle.rpm_db.specs.declared.change_fault.ChangeFault.{ChangeFault}
 use Rattle.rpm_db.specs.declared.change_fault.ChangeFault.TheVariants as fault
 use Rattle.rpm_db.specs.Changes.{Erase, apply}
 use Rattle.rpm_db.specs.Database.{Database, IsIndexed}
+use Rattle.rpm_db.specs.Reaches.{Reaches}
 use Rattle.rpm_db.specs.Refusals.{EraseCause}
 use Rattle.rpm_db.specs.Room.{next_store}
 use Rattle.rpm_db.specs.State.{State, Package, Good, Bad}
+use Rattle.rpm_pkgdb.specs.Reaches.{ReachesTo}
 use Rattle.rpm_pkgdb.specs.Store.{Store}
 use Rattle.rpm_pkgdb.specs.Written.{with_spare}
 use Rattle.rpm_change.specs.declared.tally.Tally.{Tally}
@@ -50,11 +52,12 @@ dropped_cut ot et o o' e line n s t same p = record {
 }
 
 -- the change was made, and the line may not be written
-pub dropped_limits : (i : Bool) (s : State) (n : ℕ) (v w : Store) (r : Result Tally Halt) → v.generation ≢ 4294967295
+pub dropped_limits : {old new : Files} (i : Bool) (s : State) (n : ℕ) (v w : Store) (r : Result Tally Halt) → v.generation ≢ 4294967295
     → next_store (Erase n) v ≡ Some (with_spare v.spare w) → w.generation ≡ v.generation + 1 → (i ≡ true → needed s (Erase n) ≤ 2 ^ 28)
-    → IfErr r (λ h. h ≡ halt.OutFault) → LimitsTurn i s v w (dropped n Bad).changes r
-dropped_limits i s n v w (Ok tally) unspent placed raised fits kinds = one_made i s (Erase n) v w tally tt unspent placed raised fits
-dropped_limits i s n v w (Err h) unspent placed raised fits kinds = rw kinds (other_stop i s v w (dropped n Bad).changes halt.OutFault refl)
+    → IfErr r (λ h. h ≡ halt.OutFault) → ReachesTo w old.pkg new.pkg → (i ≡ true → Reaches s (Erase n) old.idx new.idx)
+    → LimitsTurn i s v w old new (dropped n Bad).changes r
+dropped_limits i s n v w (Ok tally) unspent placed raised fits kinds pkg idx = one_made i s (Erase n) v w tally tt unspent placed raised fits pkg idx
+dropped_limits i s n v w (Err h) unspent placed raised fits kinds pkg idx = rw kinds (other_stop i s v w (dropped n Bad).changes halt.OutFault refl)
 
 pub drop_kinds : (db : Database) (n : ℕ) (f : ChangeFault) → EraseCause db n f → IsOfRebuilding (halt_of f)
 drop_kinds db n fault.NumbersSpent cause = absurd cause.2
@@ -89,9 +92,9 @@ module _ (n : ℕ) (p : Package) (o : Option Package) (bytes : List ℕ) (s : St
       (sym (good_is o p bytes good is))
       (record { steps = record { out = gained_none ot out; err = gained_none et err }; failed = refl; changes = refl; state_is = same })
 
-  pub kept_limits : (i : Bool) (v : Store) → LimitsTurn i s v v (dropped n p).changes (Ok (record { failed = 0; changes = 0 }))
-  kept_limits i v =
-      subst (λ (q : Package). LimitsTurn i s v v (dropped n q).changes (Ok (record { failed = 0; changes = 0 }))) (sym (good_is o p bytes good is))
+  pub kept_limits : {files : Files} (i : Bool) (v : Store) → LimitsTurn i s v v files files (dropped n p).changes (Ok (record { failed = 0; changes = 0 }))
+  kept_limits {files = files} i v =
+      subst (λ (q : Package). LimitsTurn i s v v files files (dropped n q).changes (Ok (record { failed = 0; changes = 0 }))) (sym (good_is o p bytes good is))
       (none_made i s v v v.spare (record { failed = 0; changes = 0 }) refl)
 
 -- what is carried from files that are as they were

@@ -65,18 +65,18 @@ erase_kinds db n (fault.BadHeader why) cause = tt
 erase_kinds db n fault.NoSuch cause = tt
 erase_kinds db n fault.Stopped cause = tt
 
-module _ (i : Bool) (file : Units) (db : Database) (j n : ℕ) (w : Store) where
+module _ {old new : Files} (i : Bool) (file : Units) (db : Database) (j n : ℕ) (w : Store) where
   held_limits : (f : ChangeFault) → holds n db ≡ true → EraseCause db n f → (i ≡ true → FullCause (needed (state file db.store) (Erase n)) f)
-      → LimitsTurn i (state file db.store) db.store w (erase_one (state file db.store) j n).changes (Err (halt_of f))
+      → LimitsTurn i (state file db.store) db.store w old new (erase_one (state file db.store) j n).changes (Err (halt_of f))
   held_limits f held cause full =
-      subst (λ (x : Course). LimitsTurn i (state file db.store) db.store w x.changes (Err (halt_of f))) (sym (erase_held file db j n held))
+      subst (λ (x : Course). LimitsTurn i (state file db.store) db.store w old new x.changes (Err (halt_of f))) (sym (erase_held file db j n held))
       (one_refused i (state file db.store) (Erase n) db.store w f (erase_fault i db (state file db.store) n f cause full))
 
-  none_met : (h : Halt) → is_limit i h ≡ false → LimitsTurn i (state file db.store) db.store w (erase_one (state file db.store) j n).changes (Err h)
+  none_met : (h : Halt) → is_limit i h ≡ false → LimitsTurn i (state file db.store) db.store w old new (erase_one (state file db.store) j n).changes (Err h)
   none_met h other = other_stop i (state file db.store) db.store w (erase_one (state file db.store) j n).changes h other
 
   pub erase_limits : (f : ChangeFault) → EraseCause db n f → (i ≡ true → FullCause (needed (state file db.store) (Erase n)) f)
-      → LimitsTurn i (state file db.store) db.store w (erase_one (state file db.store) j n).changes (Err (halt_of f))
+      → LimitsTurn i (state file db.store) db.store w old new (erase_one (state file db.store) j n).changes (Err (halt_of f))
   erase_limits fault.NumbersSpent cause full = absurd cause.2
   erase_limits fault.GenerationSpent cause full = held_limits fault.GenerationSpent cause.1 cause full
   erase_limits fault.StoreFull cause full = absurd cause.2.1

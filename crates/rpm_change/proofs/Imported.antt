@@ -61,17 +61,17 @@ add_kinds (fault.BadHeader why) = tt
 add_kinds fault.NoSuch = tt
 add_kinds fault.Stopped = tt
 
-module _ (i : Bool) (db : Database) (s : State) (w : Store) (k : ℕ) (bytes : List ℕ) (law : next s ≡ next_number db) where
+module _ {old new : Files} (i : Bool) (db : Database) (s : State) (w : Store) (k : ℕ) (bytes : List ℕ) (law : next s ≡ next_number db) where
   read_limits : (f : ChangeFault) (h : Header) → header bytes ≡ Ok h → AddIs {A = ℕ} db bytes (Err f) → RoomCause (next_store (Add h.blob) db.store) f
-      → (i ≡ true → FullCause (needed s (Add h.blob)) f) → LimitsTurn i s db.store w (imported k (header bytes)).changes (Err (halt_of f))
+      → (i ≡ true → FullCause (needed s (Add h.blob)) f) → LimitsTurn i s db.store w old new (imported k (header bytes)).changes (Err (halt_of f))
   read_limits f h read cause room full =
-      subst (λ (x : Course). LimitsTurn i s db.store w x.changes (Err (halt_of f))) (sym (imported_good k bytes h read))
+      subst (λ (x : Course). LimitsTurn i s db.store w old new x.changes (Err (halt_of f))) (sym (imported_good k bytes h read))
       (one_refused i s (Add h.blob) db.store w f (add_fault i ℕ db s bytes h.blob f law cause room full))
 
   pub add_limits : (f : ChangeFault) → AddIs {A = ℕ} db bytes (Err f)
       → ((h : Header) → header bytes ≡ Ok h → RoomCause (next_store (Add h.blob) db.store) f)
       → (i ≡ true → (h : Header) → header bytes ≡ Ok h → FullCause (needed s (Add h.blob)) f)
-      → LimitsTurn i s db.store w (imported k (header bytes)).changes (Err (halt_of f))
+      → LimitsTurn i s db.store w old new (imported k (header bytes)).changes (Err (halt_of f))
   add_limits fault.NumbersSpent cause room full = read_limits fault.NumbersSpent cause.0.own cause.0.read cause tt (λ is. tt)
   add_limits fault.GenerationSpent cause room full = read_limits fault.GenerationSpent cause.1.own cause.1.read cause tt (λ is. tt)
   add_limits fault.StoreFull cause room full =
@@ -110,9 +110,9 @@ module _ (c : Course) (s t : State) (old new : Outputs) where
   ended_once (Ok tally) d = record { steps = d.steps; failed = ap (min 1) d.failed; changes = d.changes; state_is = d.state_is }
   ended_once (Err h) p = stop_once h p
 
-pub limits_once : (i : Bool) (changes : List Change) (s : State) (v w : Store) (r : Result Tally Halt) → LimitsTurn i s v w changes r
-    → LimitsTurn i s v w changes (counted_once r)
-limits_once i changes s v w (Ok tally) p = record { first = p.first; stores = p.stores; raised = p.raised }
+pub limits_once : {old new : Files} (i : Bool) (changes : List Change) (s : State) (v w : Store) (r : Result Tally Halt)
+    → LimitsTurn i s v w old new changes r → LimitsTurn i s v w old new changes (counted_once r)
+limits_once i changes s v w (Ok tally) p = record { first = p.first; stores = p.stores; raised = p.raised; reached = p.reached }
 limits_once i changes s v w (Err h) p = p
 
 -- ---- the path that is opened

@@ -12,6 +12,7 @@ use Rattle.rpm_change.specs.declared.tally.Halt.TheVariants as halt
 use Rattle.rpm_change.specs.declared.import.Turn.{Turn}
 use Rattle.rpm_db.specs.Changes.{Change}
 use Rattle.rpm_db.specs.State.{State}
+use Rattle.rpm_outside.specs.Files.{Files}
 use Rattle.rpm_pkgdb.specs.Store.{Store}
 use Rattle.rpm_change.specs.Steps.{Course}
 use Rattle.rpm_change.specs.Turns.{Leaves, StopIs, tally_of, IsOfHeaders, IsOfEnding, IsOfImporting}
@@ -119,7 +120,7 @@ module _ (fault : ListFault) (h : Halt) (stop : StopIs fault (Some h)) where
     | inr e ↦ rw e (none_gone course old new none)
   ]
 
-  pub stop_limits : (i : Bool) (s : State) (v w : Store) (changes : List Change) → LimitsTurn i s v w changes (Err h)
+  pub stop_limits : {old new : Files} (i : Bool) (s : State) (v w : Store) (changes : List Change) → LimitsTurn i s v w old new changes (Err h)
   stop_limits i s v w changes = elim (stop_is fault h stop) [
     | inl a ↦ (let e : h ≡ halt.ShelfFault = a.0 in rw e (read_limits i s v w changes halt.ShelfFault tt))
     | inr e ↦ rw e (read_limits i s v w changes halt.NoMemory tt)

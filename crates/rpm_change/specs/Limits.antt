@@ -2,6 +2,7 @@
 use Rattle.std.specs.Prelude.{◌≡◌, ℕ, ◌+◌, ◌^◌, ◌==◌, ◌&&◌, nat_lt, if◌then◌else◌, List, [], ◌∷◌, length, Bool, true, false, Option, Some, None, is_none, unwrap_or, Result, Ok, Err, OnOk}
 use Rattle.std.specs.Option.{option_or, option_and_then}
 use Rattle.rpm_hindex.specs.Sizes.{units_for}
+use Rattle.rpm_outside.specs.Files.{Files}
 use Rattle.rpm_pkgdb.specs.Store.{Store}
 use Rattle.rpm_pkgdb.specs.Written.{with_spare}
 use Rattle.rpm_db.specs.Changes.{Change, Add, apply, next}
@@ -11,6 +12,7 @@ use Rattle.rpm_db.specs.State.{State}
 use Rattle.rpm_change.specs.declared.tally.Tally.{Tally}
 use Rattle.rpm_change.specs.declared.tally.Halt.{Halt}
 use Rattle.rpm_change.specs.declared.tally.Halt.TheVariants as halt
+use Rattle.rpm_change.specs.Reaches.{Reached}
 
 -- ---- one change
 
@@ -71,8 +73,10 @@ abbrev pub StopsAt : Bool → Option Halt → Result Tally Halt → Type 0
 StopsAt indexed first (Ok tally) = first ≡ None
 StopsAt indexed first (Err h) = is_limit indexed h ≡ true → first ≡ Some h
 
--- so of these changes; once all are made the store is that after them, up to room in memory, and the generation rose by each
-pub record LimitsTurn (indexed : Bool) (s : State) (old new : Store) (changes : List Change) (r : Result Tally Halt) : Type 0 where
+-- so of these changes; once all are made the store is that after them, up to room in memory, the generation rose by each, and no file is longer
+-- than they make it
+pub record LimitsTurn (indexed : Bool) (s : State) (old new : Store) (before after : Files) (changes : List Change) (r : Result Tally Halt) : Type 0 where
   pub first : StopsAt indexed (first_refusal indexed s old changes) r
   pub stores : OnOk r (next_stores changes old ≡ Some (with_spare old.spare new))
   pub raised : OnOk r (new.generation ≡ old.generation + length changes)
+  pub reached : OnOk r (Reached indexed s old changes before after)

@@ -44,7 +44,7 @@ fn add_blob<D: Disk>(alloc: Global, db: &mut Db, disk: &mut D, blob: &[u8]) -> R
         (state (D.files disk.old).pkg db.old.store) (state (D.files disk.new).pkg db.new.store) result
         (outputs out_tells out err_tells err) (outputs out_tells out err_tells err) }
     ensures limits { IsTrue D.tells → (indexed : Bool) → (indexed ≡ true → IsIndexed (D.files disk.old).pkg (D.files disk.old).idx db.old)
-        → LimitsTurn indexed (state (D.files disk.old).pkg db.old.store) db.old.store db.new.store (Add blob.now ∷ []) result }
+        → LimitsTurn indexed (state (D.files disk.old).pkg db.old.store) db.old.store db.new.store (D.files disk.old) (D.files disk.new) (Add blob.now ∷ []) result }
     ensures one { IfOk result (λ tally. tally.failed + tally.changes ≡ 1) }
     ensures whole { IsTrue D.tells → IsWholeIndex (D.files disk.old).idx → WholeTurn (D.files disk.new).idx result }
     ensures carried { IfOk result (λ _tally. IsCarried D.tells (D.files disk.old) (D.files disk.new) (D.left_since disk.new (D.moment disk.new))
@@ -80,7 +80,7 @@ fn replace_blob<D: Disk>(
         (state (D.files disk.old).pkg db.old.store) (state (D.files disk.new).pkg db.new.store) result
         (outputs out_tells out err_tells err) (outputs out_tells out err_tells err) }
     ensures limits { IsTrue D.tells → (indexed : Bool) → (indexed ≡ true → IsIndexed (D.files disk.old).pkg (D.files disk.old).idx db.old)
-        → LimitsTurn indexed (state (D.files disk.old).pkg db.old.store) db.old.store db.new.store (Put number blob.now ∷ []) result }
+        → LimitsTurn indexed (state (D.files disk.old).pkg db.old.store) db.old.store db.new.store (D.files disk.old) (D.files disk.new) (Put number blob.now ∷ []) result }
     ensures one { IfOk result (λ tally. tally.failed + tally.changes ≡ 1) }
     ensures whole { IsTrue D.tells → IsWholeIndex (D.files disk.old).idx → WholeTurn (D.files disk.new).idx result }
     ensures carried { IfOk result (λ _tally. IsCarried D.tells (D.files disk.old) (D.files disk.new) (D.left_since disk.new (D.moment disk.new))
@@ -116,7 +116,7 @@ fn put_blob<D: Disk>(
         (state (D.files disk.old).pkg db.old.store) (state (D.files disk.new).pkg db.new.store) result
         (outputs out_tells out err_tells err) (outputs out_tells out err_tells err) }
     ensures limits { IsTrue D.tells → (indexed : Bool) → (indexed ≡ true → IsIndexed (D.files disk.old).pkg (D.files disk.old).idx db.old)
-        → LimitsTurn indexed (state (D.files disk.old).pkg db.old.store) db.old.store db.new.store (change_at number blob.now ∷ []) result }
+        → LimitsTurn indexed (state (D.files disk.old).pkg db.old.store) db.old.store db.new.store (D.files disk.old) (D.files disk.new) (change_at number blob.now ∷ []) result }
     ensures one { IfOk result (λ tally. tally.failed + tally.changes ≡ 1) }
     ensures whole { IsTrue D.tells → IsWholeIndex (D.files disk.old).idx → WholeTurn (D.files disk.new).idx result }
     ensures carried { IfOk result (λ _tally. IsCarried D.tells (D.files disk.old) (D.files disk.new) (D.left_since disk.new (D.moment disk.new))
@@ -163,7 +163,7 @@ fn put_opened<D: Disk, S: Shelf, E: Sink + Drop>(
         (outputs out_tells out E.tells (E.taken (inner err.old))) (outputs out_tells out E.tells (E.taken (inner err.new))) }
     ensures limits { IsTrue D.tells → IsTrue S.tells → (j : ℕ)
         → (indexed : Bool) → (indexed ≡ true → IsIndexed (D.files disk.old).pkg (D.files disk.old).idx db.old)
-        → LimitsTurn indexed (state (D.files disk.old).pkg db.old.store) db.old.store db.new.store (put_read how j path.now (left (S.rest shelf.old))).changes result }
+        → LimitsTurn indexed (state (D.files disk.old).pkg db.old.store) db.old.store db.new.store (D.files disk.old) (D.files disk.new) (put_read how j path.now (left (S.rest shelf.old))).changes result }
     ensures one { IfOk result (λ tally. tally.failed + tally.changes ≡ 1) }
     ensures whole { IsTrue D.tells → IsWholeIndex (D.files disk.old).idx → WholeTurn (D.files disk.new).idx result }
     ensures carried { IfOk result (λ _tally. IsCarried D.tells (D.files disk.old) (D.files disk.new) (D.left_since disk.new (D.moment disk.new))
@@ -205,7 +205,7 @@ pub fn put_file<D: Disk, S: Shelf, E: Sink + Drop>(
         (outputs out_tells out E.tells (E.taken (inner err.old))) (outputs out_tells out E.tells (E.taken (inner err.new))) }
     ensures limits { IsTrue D.tells → IsTrue S.tells → (j : ℕ)
         → (indexed : Bool) → (indexed ≡ true → IsIndexed (D.files disk.old).pkg (D.files disk.old).idx db.old)
-        → LimitsTurn indexed (state (D.files disk.old).pkg db.old.store) db.old.store db.new.store (put_file how (S.paths shelf.old) j path.now).changes result }
+        → LimitsTurn indexed (state (D.files disk.old).pkg db.old.store) db.old.store db.new.store (D.files disk.old) (D.files disk.new) (put_file how (S.paths shelf.old) j path.now).changes result }
     ensures one { IfOk result (λ tally. tally.failed + tally.changes ≡ 1) }
     ensures whole { IsTrue D.tells → IsWholeIndex (D.files disk.old).idx → WholeTurn (D.files disk.new).idx result }
     ensures carried { IfOk result (λ _tally. IsCarried D.tells (D.files disk.old) (D.files disk.new) (D.left_since disk.new (D.moment disk.new))
@@ -266,7 +266,7 @@ pub fn add_files<D: Disk, S: Shelf, E: Sink + Drop>(
         db.old db.new) }
     ensures indexed { is_indexed db.new ≡ true }
     ensures limits { IsTrue D.tells → IsTrue S.tells → (indexed : Bool) → (indexed ≡ true → IsIndexed (D.files disk.old).pkg (D.files disk.old).idx db.old)
-        → LimitsTurn indexed (state (D.files disk.old).pkg db.old.store) db.old.store db.new.store
+        → LimitsTurn indexed (state (D.files disk.old).pkg db.old.store) db.old.store db.new.store (D.files disk.old) (D.files disk.new)
         (add_files (S.paths shelf.old) now (state (D.files disk.old).pkg db.old.store) (map (λ path. path.now) paths.now)).changes result }
     ensures kinds { IfErr result (IsOfPutting None) }
     ensures runs { Runs D.tells D.files D.left_since D.moment D.bytes_read D.follows SameLog disk.old disk.new }

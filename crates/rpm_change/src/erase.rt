@@ -42,7 +42,7 @@ fn erase_one<D: Disk, E: Sink + Drop>(
     ensures indexed { is_indexed db.new ≡ true }
     ensures limits { IsTrue D.tells → (j : ℕ)
         → (indexed : Bool) → (indexed ≡ true → IsIndexed (D.files disk.old).pkg (D.files disk.old).idx db.old)
-        → LimitsTurn indexed (state (D.files disk.old).pkg db.old.store) db.old.store db.new.store
+        → LimitsTurn indexed (state (D.files disk.old).pkg db.old.store) db.old.store db.new.store (D.files disk.old) (D.files disk.new)
         (erase_one (state (D.files disk.old).pkg db.old.store) j number).changes result }
     ensures kinds { IfErr result IsOfErasing }
     ensures runs { Runs D.tells D.files D.left_since D.moment D.bytes_read D.follows SameLog disk.old disk.new }
@@ -97,7 +97,7 @@ pub fn erase_numbers<D: Disk, E: Sink + Drop>(
         db.old db.new) }
     ensures indexed { is_indexed db.new ≡ true }
     ensures limits { IsTrue D.tells → (indexed : Bool) → (indexed ≡ true → IsIndexed (D.files disk.old).pkg (D.files disk.old).idx db.old)
-        → LimitsTurn indexed (state (D.files disk.old).pkg db.old.store) db.old.store db.new.store
+        → LimitsTurn indexed (state (D.files disk.old).pkg db.old.store) db.old.store db.new.store (D.files disk.old) (D.files disk.new)
         (erase (state (D.files disk.old).pkg db.old.store) numbers.now).changes result }
     ensures kinds { IfErr result IsOfErasing }
     ensures runs { Runs D.tells D.files D.left_since D.moment D.bytes_read D.follows SameLog disk.old disk.new }

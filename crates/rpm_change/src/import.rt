@@ -2,6 +2,7 @@
 
 ghost use Rattle.std.specs.Prelude.{◌≡◌, ℕ, ◌+◌, ◌^◌, ◌<◌, ◌≤◌, Bool, List, [], codes, true, false, IsTrue, Option, Result, Ok, Err, IfOk, IfErr, OnOk, if◌then◌else◌, nat_lt};
 ghost use Rattle.rpm_header.specs.Header.{header};
+ghost use Rattle.rpm_outside.specs.Files.{Files};
 ghost use Rattle.rpm_outside.specs.Browses.{left, Browses};
 ghost use Rattle.rpm_outside.specs.Buffered.{inner};
 ghost use Rattle.rpm_outside.specs.Causes.{HasCauseAt};
@@ -87,7 +88,7 @@ fn import_header<D: Disk, E: Sink + Drop>(
     ensures indexed { is_indexed db.new ≡ true }
     ensures limits { IsTrue D.tells
         → (indexed : Bool) → (indexed ≡ true → IsIndexed (D.files disk.old).pkg (D.files disk.old).idx db.old)
-        → LimitsTurn indexed (state (D.files disk.old).pkg db.old.store) db.old.store db.new.store (imported place (header blob.now)).changes result }
+        → LimitsTurn indexed (state (D.files disk.old).pkg db.old.store) db.old.store db.new.store (D.files disk.old) (D.files disk.new) (imported place (header blob.now)).changes result }
     ensures kinds { IfErr result IsOfHeaders }
     ensures runs { Runs D.tells D.files D.left_since D.moment D.bytes_read D.follows SameLog disk.old disk.new }
     ensures disk { HasCauseAt (result ≡ Err Halt.DiskFault) (D.faults disk.old) (D.faults disk.new) }
@@ -127,7 +128,7 @@ fn import_within<D: Disk, E: Sink + Drop>(
     ensures indexed { is_indexed db.new ≡ true }
     ensures limits { IsTrue D.tells
         → (indexed : Bool) → (indexed ≡ true → IsIndexed (D.files disk.old).pkg (D.files disk.old).idx db.old)
-        → LimitsTurn indexed (state (D.files disk.old).pkg db.old.store) db.old.store db.new.store (turn_found most place blob.now).changes result }
+        → LimitsTurn indexed (state (D.files disk.old).pkg db.old.store) db.old.store db.new.store (D.files disk.old) (D.files disk.new) (turn_found most place blob.now).changes result }
     ensures kinds { IfErr result IsOfHeaders }
     ensures runs { Runs D.tells D.files D.left_since D.moment D.bytes_read D.follows SameLog disk.old disk.new }
     ensures disk { HasCauseAt (result ≡ Err Halt.DiskFault) (D.faults disk.old) (D.faults disk.new) }
@@ -150,8 +151,8 @@ fn end_list<E: Sink + Drop>(
     ensures ended { (most : ℕ) (head : Result (Option Found) ListFault) → IsListFault head fault → (s : State) (out_tells : Bool) (out : List ℕ)
         → Ended (turn most place head) s s result
         (outputs out_tells out E.tells (E.taken (inner err.old))) (outputs out_tells out E.tells (E.taken (inner err.new))) }
-    ensures limits { (most : ℕ) (head : Result (Option Found) ListFault) → IsListFault head fault → (s : State) (store : Store) (indexed : Bool)
-        → LimitsTurn indexed s store store (turn most place head).changes result }
+    ensures limits { (most : ℕ) (head : Result (Option Found) ListFault) → IsListFault head fault → (s : State) (store : Store) (files : Files)
+        (indexed : Bool) → LimitsTurn indexed s store store files files (turn most place head).changes result }
     ensures leaves { OnOk result ((most : ℕ) (head : Result (Option Found) ListFault) → IsListFault head fault → (bytes : List ℕ)
         → Leaves most place head true bytes) }
     ensures one { IfOk result (λ tally. tally.failed + tally.changes ≤ 1) }
@@ -191,7 +192,7 @@ fn import_next<D: Disk, S: Shelf, E: Sink + Drop>(
     ensures indexed { is_indexed db.new ≡ true }
     ensures limits { IsTrue D.tells → IsTrue S.tells
         → (indexed : Bool) → (indexed ≡ true → IsIndexed (D.files disk.old).pkg (D.files disk.old).idx db.old)
-        → LimitsTurn indexed (state (D.files disk.old).pkg db.old.store) db.old.store db.new.store
+        → LimitsTurn indexed (state (D.files disk.old).pkg db.old.store) db.old.store db.new.store (D.files disk.old) (D.files disk.new)
         (turn most place (list_head (left (S.rest shelf.old)))).changes (tally_of result) }
     ensures kinds { IfErr result IsOfImporting }
     ensures runs { Runs D.tells D.files D.left_since D.moment D.bytes_read D.follows SameLog disk.old disk.new }
@@ -239,7 +240,7 @@ fn import_open<D: Disk, S: Shelf, E: Sink + Drop>(
     ensures indexed { is_indexed db.new ≡ true }
     ensures limits { IsTrue D.tells → IsTrue S.tells
         → (indexed : Bool) → (indexed ≡ true → IsIndexed (D.files disk.old).pkg (D.files disk.old).idx db.old)
-        → LimitsTurn indexed (state (D.files disk.old).pkg db.old.store) db.old.store db.new.store
+        → LimitsTurn indexed (state (D.files disk.old).pkg db.old.store) db.old.store db.new.store (D.files disk.old) (D.files disk.new)
         (import_listed most (listed (left (S.rest shelf.old)))).changes result }
     ensures kinds { IfErr result IsOfImporting }
     ensures runs { Runs D.tells D.files D.left_since D.moment D.bytes_read D.follows SameLog disk.old disk.new }
@@ -304,7 +305,7 @@ pub fn import_most<D: Disk, S: Shelf, E: Sink + Drop>(
     ensures indexed { is_indexed db.new ≡ true }
     ensures limits { IsTrue D.tells → IsTrue S.tells
         → (indexed : Bool) → (indexed ≡ true → IsIndexed (D.files disk.old).pkg (D.files disk.old).idx db.old)
-        → LimitsTurn indexed (state (D.files disk.old).pkg db.old.store) db.old.store db.new.store
+        → LimitsTurn indexed (state (D.files disk.old).pkg db.old.store) db.old.store db.new.store (D.files disk.old) (D.files disk.new)
         (import_list most (bytes_at (S.paths shelf.old) (codes "-"))).changes result }
     ensures kinds { IfErr result IsOfImporting }
     ensures runs { Runs D.tells D.files D.left_since D.moment D.bytes_read D.follows SameLog disk.old disk.new }
@@ -359,7 +360,7 @@ pub fn import_list<D: Disk, S: Shelf, E: Sink + Drop>(
         db.old db.new) }
     ensures indexed { is_indexed db.new ≡ true }
     ensures limits { IsTrue D.tells → IsTrue S.tells → (indexed : Bool) → (indexed ≡ true → IsIndexed (D.files disk.old).pkg (D.files disk.old).idx db.old)
-        → LimitsTurn indexed (state (D.files disk.old).pkg db.old.store) db.old.store db.new.store
+        → LimitsTurn indexed (state (D.files disk.old).pkg db.old.store) db.old.store db.new.store (D.files disk.old) (D.files disk.new)
         (import_list max_headers (bytes_at (S.paths shelf.old) (codes "-"))).changes result }
     ensures kinds { IfErr result IsOfImporting }
     ensures runs { Runs D.tells D.files D.left_since D.moment D.bytes_read D.follows SameLog disk.old disk.new }

@@ -13,6 +13,7 @@ ghost use Rattle.rpm_db.specs.State.{State, Package, Bad, state};
 ghost use Rattle.rpm_db.specs.inner.Writes.{SameLog};
 ghost use Rattle.rpm_change.specs.Endings.{outputs, Ended, IsCarried};
 ghost use Rattle.rpm_change.specs.Limits.{first_limit, next_stores, StopsAt, LimitsTurn};
+ghost use Rattle.rpm_change.specs.Reaches.{ReachedAnew};
 ghost use Rattle.rpm_change.specs.Rebuilding.{dropped_line, dropped, rebuild, IsOfRebuilding};
 ghost use Rattle.rpm_change.specs.Hands.{Hand};
 
@@ -79,7 +80,7 @@ fn drop_bad<D: Disk, O: Sink + Drop>(
     ensures indexed { is_indexed db.new ≡ true }
     ensures limits { IsTrue D.tells
         → (indexed : Bool) → (indexed ≡ true → IsIndexed (D.files disk.old).pkg (D.files disk.old).idx db.old)
-        → LimitsTurn indexed (state (D.files disk.old).pkg db.old.store) db.old.store db.new.store (dropped number Bad).changes result }
+        → LimitsTurn indexed (state (D.files disk.old).pkg db.old.store) db.old.store db.new.store (D.files disk.old) (D.files disk.new) (dropped number Bad).changes result }
     ensures kinds { IfErr result IsOfRebuilding }
     ensures runs { Runs D.tells D.files D.left_since D.moment D.bytes_read D.follows SameLog disk.old disk.new }
     ensures disk { HasCauseAt (result ≡ Err Halt.DiskFault) (D.faults disk.old) (D.faults disk.new) }
@@ -116,7 +117,7 @@ fn drop_one<D: Disk, O: Sink + Drop>(
     ensures indexed { is_indexed db.new ≡ true }
     ensures limits { IsTrue D.tells → (p : Package) → finite.get (state (D.files disk.old).pkg db.old.store).packages number ≡ Some p
         → (indexed : Bool) → (indexed ≡ true → IsIndexed (D.files disk.old).pkg (D.files disk.old).idx db.old)
-        → LimitsTurn indexed (state (D.files disk.old).pkg db.old.store) db.old.store db.new.store (dropped number p).changes result }
+        → LimitsTurn indexed (state (D.files disk.old).pkg db.old.store) db.old.store db.new.store (D.files disk.old) (D.files disk.new) (dropped number p).changes result }
     ensures kinds { IfErr result IsOfRebuilding }
     ensures runs { Runs D.tells D.files D.left_since D.moment D.bytes_read D.follows SameLog disk.old disk.new }
     ensures disk { HasCauseAt (result ≡ Err Halt.DiskFault) (D.faults disk.old) (D.faults disk.new) }
@@ -153,7 +154,7 @@ fn drop_each<D: Disk, O: Sink + Drop>(
     ensures indexed { is_indexed db.new ≡ true }
     ensures limits { IsTrue D.tells
         → (indexed : Bool) → (indexed ≡ true → IsIndexed (D.files disk.old).pkg (D.files disk.old).idx db.old)
-        → LimitsTurn indexed (state (D.files disk.old).pkg db.old.store) db.old.store db.new.store
+        → LimitsTurn indexed (state (D.files disk.old).pkg db.old.store) db.old.store db.new.store (D.files disk.old) (D.files disk.new)
         (rebuild (state (D.files disk.old).pkg db.old.store)).changes result }
     ensures kinds { IfErr result IsOfRebuilding }
     ensures runs { Runs D.tells D.files D.left_since D.moment D.bytes_read D.follows SameLog disk.old disk.new }
@@ -216,6 +217,8 @@ pub fn rebuild<D: Disk, O: Sink + Drop>(
     ensures indexed { is_indexed db.new ≡ true }
     ensures stores { OnOk result (IsTrue D.tells → next_stores (rebuild (state (D.files disk.old).pkg db.old.store)).changes db.old.store
         ≡ Some (with_spare db.old.store.spare db.new.store)) }
+    ensures reach { OnOk result (IsTrue D.tells → ReachedAnew (state (D.files disk.old).pkg db.old.store) db.old.store
+        (rebuild (state (D.files disk.old).pkg db.old.store)).changes (D.files disk.old) (D.files disk.new)) }
     ensures kinds { IfErr result IsOfRebuilding }
     ensures runs { Runs D.tells D.files D.left_since D.moment D.bytes_read D.follows SameLog disk.old disk.new }
     ensures disk { HasCauseAt (result ≡ Err Halt.DiskFault) (D.faults disk.old) (D.faults disk.new) }

@@ -4,6 +4,7 @@ use Rattle.std.specs.Prelude.{◌==◌, ◌&&◌, if◌then◌else◌, is_none, 
 use Rattle.std.specs.Option.{option_map, option_or, option_and_then}
 use Rattle.std.proofs.lemmas.Bool.Decides.{nat_tests}
 use Rattle.rpm_hindex.specs.Sizes.{units_for}
+use Rattle.rpm_outside.specs.Files.{Files}
 use Rattle.rpm_pkgdb.specs.Store.{Store}
 use Rattle.rpm_pkgdb.specs.Written.{with_spare}
 use Rattle.rpm_db.specs.Changes.{Change, apply}
@@ -16,6 +17,7 @@ use Rattle.rpm_change.specs.declared.tally.Halt.{Halt}
 use Rattle.rpm_change.specs.declared.tally.Halt.TheVariants as halt
 use Rattle.rpm_change.specs.Limits.{is_spent, is_large, needed, refusal, first_refusal, first_limit, next_stores, is_limit, StopsAt, LimitsTurn}
 use Rattle.rpm_change.specs.Steps.{apply_all}
+use Rattle.rpm_change.specs.inner.ReachLaws.{reached_more}
 use Rattle.rpm_change.specs.inner.Single.{none_made}
 use Rattle.rpm_change.specs.inner.Stores.{stores_behind}
 
@@ -88,36 +90,38 @@ first_before i (x ∷ xs) ys s v h is =
 -- ---- numbers, generations and places
 
 -- no limit is met where there are no changes
-pub limits_none : (i : Bool) (s : State) (v : Store) (tally : Tally) → LimitsTurn i s v v [] (Ok tally)
+pub limits_none : {files : Files} (i : Bool) (s : State) (v : Store) (tally : Tally) → LimitsTurn i s v v files files [] (Ok tally)
 limits_none i s v tally = none_made i s v v v.spare tally refl
 
 -- the first of several changes were made
-module _ (i : Bool) (xs ys : List Change) (s t : State) (v w x : Store) (tally : Tally) (is : t ≡ apply_all xs s)
-    (first : LimitsTurn i s v w xs (Ok tally)) where
+module _ {old mid : Files} (i : Bool) (xs ys : List Change) (s t : State) (v w x : Store) (tally : Tally) (is : t ≡ apply_all xs s)
+    (first : LimitsTurn i s v w old mid xs (Ok tally)) where
   behind : (zs : List Change) → first_refusal i s v (xs ++ zs) ≡ first_refusal i t w zs
   behind zs = first_later i xs zs s v (with_spare v.spare w) first.first first.stores
       ∙ first_spare i zs (apply_all xs s) v.spare w ∙ ap (λ (p : State). first_refusal i p w zs) (sym is)
 
   -- and then the others
-  pub limits_more : (more all : Tally) → LimitsTurn i t w x ys (Ok more) → LimitsTurn i s v x (xs ++ ys) (Ok all)
-  limits_more more all next = record {
+  pub limits_more : {new : Files} (more all : Tally) → LimitsTurn i t w x mid new ys (Ok more) → LimitsTurn i s v x old new (xs ++ ys) (Ok all)
+  limits_more {new = new} more all next = record {
     first = behind ys ∙ next.first;
     stores = stores_behind xs ys v.spare v w first.stores ∙ ap (option_map (with_spare v.spare)) next.stores;
     raised = next.raised ∙ omega (arith, first.raised, length-append xs ys);
+    reached = reached_more i xs ys s t v w old mid new is first.stores first.reached next.reached;
   }
 
   -- and then it was stopped among these others
-  pub limits_stop : (zs : List Change) (h : Halt) → LimitsTurn i t w x ys (Err h) → LimitsTurn i s v x (xs ++ (ys ++ zs)) (Err h)
+  pub limits_stop : {new : Files} (zs : List Change) (h : Halt) → LimitsTurn i t w x mid new ys (Err h) → LimitsTurn i s v x old new (xs ++ (ys ++ zs)) (Err h)
   limits_stop zs h p = record {
     first = λ limit. behind (ys ++ zs) ∙ first_before i ys zs t w h (p.first limit);
     stores = tt;
     raised = tt;
+    reached = tt;
   }
 
 -- what a command counts says nothing of its limits
-pub limits_counted : (i : Bool) (s : State) (v w : Store) (changes : List Change) (a b : Tally) → LimitsTurn i s v w changes (Ok a)
-    → LimitsTurn i s v w changes (Ok b)
-limits_counted i s v w changes a b l = record { first = l.first; stores = l.stores; raised = l.raised }
+pub limits_counted : {old new : Files} (i : Bool) (s : State) (v w : Store) (changes : List Change) (a b : Tally) → LimitsTurn i s v w old new changes (Ok a)
+    → LimitsTurn i s v w old new changes (Ok b)
+limits_counted i s v w changes a b l = record { first = l.first; stores = l.stores; raised = l.raised; reached = l.reached }
 
 -- ---- a bad index refuses nothing
 

@@ -3,12 +3,15 @@ use Rattle.std.proofs.Common.{◌≡◌, ◌≢◌, ℕ, ◌+◌, ◌^◌, ◌�
 use Rattle.std.specs.Prelude.{IsSome, is_none, nat_lt, ◌==◌, ◌&&◌, if◌then◌else◌}
 use Rattle.std.specs.Option.{option_and_then, option_or}
 use Rattle.std.proofs.lemmas.Bool.Decides.{nat_tests}
+use Rattle.rpm_outside.specs.Files.{Files}
+use Rattle.rpm_pkgdb.specs.Reaches.{ReachesTo}
 use Rattle.rpm_pkgdb.specs.Store.{Store}
 use Rattle.rpm_pkgdb.specs.Written.{with_spare}
 use Rattle.rpm_db.specs.declared.change_fault.ChangeFault.{ChangeFault}
 use Rattle.rpm_db.specs.declared.change_fault.ChangeFault.TheVariants as fault
 use Rattle.rpm_db.specs.Changes.{Change, Add, Put, Erase, next}
 use Rattle.rpm_db.specs.Database.{Database, next_number}
+use Rattle.rpm_db.specs.Reaches.{Reaches}
 use Rattle.rpm_db.specs.Refusals.{AddIs, PutIs, EraseCause, FullCause}
 use Rattle.rpm_db.specs.Room.{RoomCause, next_store}
 use Rattle.rpm_db.specs.State.{State}
@@ -17,6 +20,7 @@ use Rattle.rpm_change.specs.declared.tally.Halt.{Halt}
 use Rattle.rpm_change.specs.declared.tally.Halt.TheVariants as halt
 use Rattle.rpm_change.specs.Endings.{halt_of}
 use Rattle.rpm_change.specs.Limits.{is_spent, is_large, needed, refusal, next_stores, is_limit, LimitsTurn}
+use Rattle.rpm_change.specs.inner.ReachLaws.{reached_none, reached_one}
 
 -- a number is left for a change that needs a new one
 abbrev pub HasNumber : State → Change → Type 0
@@ -97,24 +101,28 @@ module _ (i : Bool) (s : State) (c : Change) (v : Store) where
 
   -- ---- a change
 
-  pub one_made : (w : Store) (tally : Tally) → HasNumber s c → v.generation ≢ 4294967295 → next_store c v ≡ Some (with_spare v.spare w)
-      → w.generation ≡ v.generation + 1 → (i ≡ true → needed s c ≤ 2 ^ 28) → LimitsTurn i s v w (c ∷ []) (Ok tally)
-  one_made w tally number unspent placed raised fits = record {
+  pub one_made : {old new : Files} (w : Store) (tally : Tally) → HasNumber s c → v.generation ≢ 4294967295 → next_store c v ≡ Some (with_spare v.spare w)
+      → w.generation ≡ v.generation + 1 → (i ≡ true → needed s c ≤ 2 ^ 28) → ReachesTo w old.pkg new.pkg
+      → (i ≡ true → Reaches s c old.idx new.idx) → LimitsTurn i s v w old new (c ∷ []) (Ok tally)
+  one_made {old = old} {new = new} w tally number unspent placed raised fits pkg idx = record {
     first = ap (λ (o : Option Halt). option_or o None) (none_refuses (with_spare v.spare w) number unspent placed fits);
     stores = ap (option_and_then (next_stores [])) placed;
     raised = raised;
+    reached = reached_one i s c v w old new placed pkg idx;
   }
 
-  pub one_refused : (w : Store) (f : ChangeFault) → FaultIs f → LimitsTurn i s v w (c ∷ []) (Err (halt_of f))
+  pub one_refused : {old new : Files} (w : Store) (f : ChangeFault) → FaultIs f → LimitsTurn i s v w old new (c ∷ []) (Err (halt_of f))
   one_refused w f is = record {
     first = λ limit. ap (λ (o : Option Halt). option_or o None) (fault_refuses f is limit);
     stores = tt;
     raised = tt;
+    reached = tt;
   }
 
 -- a stop for none of these limits
-pub other_stop : (i : Bool) (s : State) (v w : Store) (changes : List Change) (h : Halt) → is_limit i h ≡ false → LimitsTurn i s v w changes (Err h)
-other_stop i s v w changes h other = record { first = λ limit. absurd cc; stores = tt; raised = tt }
+pub other_stop : {old new : Files} (i : Bool) (s : State) (v w : Store) (changes : List Change) (h : Halt) → is_limit i h ≡ false
+    → LimitsTurn i s v w old new changes (Err h)
+other_stop i s v w changes h other = record { first = λ limit. absurd cc; stores = tt; raised = tt; reached = tt }
 
 pub add_fault : (i : Bool) (A : Type 0) (db : Database) (s : State) (bytes blob : List ℕ) (f : ChangeFault) → next s ≡ next_number db
     → AddIs {A = A} db bytes (Err f) → RoomCause (next_store (Add blob) db.store) f → (i ≡ true → FullCause (needed s (Add blob)) f)
@@ -158,10 +166,12 @@ erase_fault i db s n fault.Stopped cause full = tt
 
 -- ---- no change
 
--- the store stays, up to room in memory
-pub none_made : (i : Bool) (s : State) (v w : Store) (k : ℕ) (tally : Tally) → w ≡ with_spare k v → LimitsTurn i s v w [] (Ok tally)
-none_made i s v w k tally same = record {
+-- the store stays, up to room in memory, and so do the files
+pub none_made : {files : Files} (i : Bool) (s : State) (v w : Store) (k : ℕ) (tally : Tally) → w ≡ with_spare k v
+    → LimitsTurn i s v w files files [] (Ok tally)
+none_made {files = files} i s v w k tally same = record {
   first = refl;
   stores = ap (λ (u : Store). Some (with_spare v.spare u)) (sym same);
   raised = ap (λ (u : Store). u.generation) same ∙ omega arith;
+  reached = reached_none i s v files;
 }

@@ -28,7 +28,8 @@ returns-in-Ok-clause-limits g c = λ told i rows.
     one_made i (state file c.args.db.now.store) (Add c.args.blob.now) c.args.db.now.store c.add.new.self.store (record { failed = 0; changes = 1 })
     (λ is. done.causes.0 (sym (next-state file c.args.db.now.store) ∙ is)) done.causes.1.later.0
     (done.placed (read_again c.args.blob.now) c.requires.own) done.generation
-    (λ is. done.full told c.requires.going (rows is) (read_again c.args.blob.now) c.requires.own)
+    (λ is. done.full told c.requires.going (rows is) (read_again c.args.blob.now) c.requires.own) (done.end told)
+    (λ is. done.reach told (rows is) (read_again c.args.blob.now) c.requires.own)
 
 pub returns-in-Err-clause-ended : goal.returns-in-Err-clause-ended
 returns-in-Err-clause-ended g c = λ told out_tells err_tells out err.

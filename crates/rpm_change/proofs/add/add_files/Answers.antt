@@ -64,7 +64,8 @@ loop-path-preserved g c =
           let ended = subst (λ (qs : Paths). Done (add_file c.args.now qs t k path) t u c.in-Ok.tally (outputs true [] g.E.Sink.tells e')
           (outputs true [] g.E.Sink.tells e'')) (inv.paths shelf_told) (done.ended told shelf_told k true []) in
           limited_more i _ _ (each t k path) rest _ _ _ _ _ (path_next each xs k t u (omega arith) ended.state_is) (inv.limited told shelf_told i rows) u c.in-Ok.tally
-          ended.state_is (subst (λ (qs : Paths). LimitsTurn i t c.loop-path.db.store c.put_file.new.db.store (add_file c.args.now qs t k path).changes
+          ended.state_is (subst (λ (qs : Paths). LimitsTurn i t c.loop-path.db.store c.put_file.new.db.store (g.D.Disk.files c.loop-path.disk)
+          (g.D.Disk.files c.put_file.new.disk) (add_file c.args.now qs t k path).changes
           (Ok c.in-Ok.tally)) (inv.paths shelf_told) (done.limits told shelf_told k i (λ is. inv.carried.index told (rows is))));
       few = omega (arith, inv.few, done.one);
       whole = λ told whole. done.whole told (inv.whole told whole);

@@ -27,7 +27,8 @@ invariant-loop-path g l = record {
       (add_files (g.S.Shelf.paths l.initial.shelf) l.fn.now (state (g.D.Disk.files l.initial.disk).pkg l.initial.db.store) (map bytes l.paths))
       (in_turn (add_file l.fn.now (g.S.Shelf.paths l.initial.shelf)) (state (g.D.Disk.files l.disk).pkg l.db.store) l.path-index
       (map bytes (drop l.path-index l.paths)))
-      (state (g.D.Disk.files l.initial.disk).pkg l.initial.db.store) (state (g.D.Disk.files l.disk).pkg l.db.store) l.initial.db.store l.db.store;
+      (state (g.D.Disk.files l.initial.disk).pkg l.initial.db.store) (state (g.D.Disk.files l.disk).pkg l.db.store) l.initial.db.store l.db.store
+      (g.D.Disk.files l.initial.disk) (g.D.Disk.files l.disk);
   few : l.failed + l.changes ≡ l.path-index;
   whole : IsTrue g.D.Disk.tells → IsWholeIndex (g.D.Disk.files l.initial.disk).idx → IsWholeIndex (g.D.Disk.files l.disk).idx;
   carried : IsCarried g.D.Disk.tells (g.D.Disk.files l.initial.disk) (g.D.Disk.files l.disk) (g.D.Disk.left_since l.disk (g.D.Disk.moment l.disk))

@@ -27,7 +27,8 @@ pub returns-in-Ok-clause-limits : goal.returns-in-Ok-clause-limits
 returns-in-Ok-clause-limits g c = λ told shelf_told j i rows.
     let opened = c.in-Ok.ensures.opened shelf_told in
     let found = bytes_at (g.S.Shelf.paths c.args.shelf.now) c.args.path.now in
-    subst (λ (x : Course). LimitsTurn i (state (g.D.Disk.files c.args.disk.now).pkg c.args.db.now.store) c.args.db.now.store c.put_opened.new.db.store x.changes
+    subst (λ (x : Course). LimitsTurn i (state (g.D.Disk.files c.args.disk.now).pkg c.args.db.now.store) c.args.db.now.store c.put_opened.new.db.store
+    (g.D.Disk.files c.args.disk.now) (g.D.Disk.files c.put_opened.new.disk) x.changes
     c.put_opened.result)
     (sym (opened_is c.args.how j c.args.path.now found (g.S.Shelf.rest c.open.new.self) opened.0 opened.1))
     (rw c.as_bytes.ensures.value at (c.put_opened.ensures.limits told shelf_told j i rows))
@@ -50,7 +51,8 @@ pub returns-in-Err-clause-limits : goal.returns-in-Err-clause-limits
 returns-in-Err-clause-limits g c = λ told shelf_told j i rows.
     let opened = c.in-Err.ensures.opened shelf_told in
     let s = state (g.D.Disk.files c.args.disk.now).pkg c.args.db.now.store in
-    subst (λ (found : Option (List ℕ)). LimitsTurn i s c.args.db.now.store c.args.db.now.store (put_found c.args.how j c.args.path.now found).changes
+    subst (λ (found : Option (List ℕ)). LimitsTurn i s c.args.db.now.store c.args.db.now.store (g.D.Disk.files c.args.disk.now)
+    (g.D.Disk.files c.args.disk.now) (put_found c.args.how j c.args.path.now found).changes
     c.put_absent.result) (sym opened.1)
     (line_limits i s c.args.db.now.store c.args.db.now.store c.args.db.now.store.spare c.put_absent.result refl c.put_absent.ensures.kinds)
 

@@ -27,7 +27,8 @@ returns-in-Ok-clause-ended g c = λ told shelf_told j out_tells out.
 pub returns-in-Ok-clause-limits : goal.returns-in-Ok-clause-limits
 returns-in-Ok-clause-limits g c = λ told shelf_told j i rows.
     let s = state (g.D.Disk.files c.args.disk.now).pkg c.args.db.now.store in
-    subst (λ (r : Result Header FileFault). LimitsTurn i s c.args.db.now.store c.put_blob.new.db.store
+    subst (λ (r : Result Header FileFault). LimitsTurn i s c.args.db.now.store c.put_blob.new.db.store (g.D.Disk.files c.args.disk.now)
+    (g.D.Disk.files c.put_blob.new.disk)
     (put_installed c.args.how.number j c.args.path.now r).changes c.put_blob.result)
     (sym (c.in-Ok.ensures.gives shelf_told)) (rw c.deref.ensures.value at (c.put_blob.ensures.limits told i rows))
 
@@ -71,7 +72,8 @@ pub returns-in-None-clause-limits : goal.returns-in-None-clause-limits
 returns-in-None-clause-limits g c = λ told shelf_told j i rows.
     let said = as_installed c.args.how.moment (package_header (left (g.S.Shelf.rest c.args.shelf.now))) in
     let s = state (g.D.Disk.files c.args.disk.now).pkg c.args.db.now.store in
-    subst (λ (r : Result Header FileFault). LimitsTurn i s c.args.db.now.store c.args.db.now.store
+    subst (λ (r : Result Header FileFault). LimitsTurn i s c.args.db.now.store c.args.db.now.store (g.D.Disk.files c.args.disk.now)
+    (g.D.Disk.files c.args.disk.now)
     (put_installed c.args.how.number j c.args.path.now r).changes c.put_refused.result)
     (sym (own_fault said c.in-Err.fault (sym c.in-None.ensures) (c.in-Err.ensures.gives shelf_told)))
     (line_limits i s c.args.db.now.store c.args.db.now.store c.args.db.now.store.spare c.put_refused.result refl c.put_refused.ensures.kinds)

@@ -25,7 +25,8 @@ returns-in-Ok-clause-limits g c = λ told i rows.
     let done = c.in-Ok.ensures in
     one_made i (state (g.D.Disk.files c.args.disk.now).pkg c.args.db.now.store) (Put c.args.number c.args.blob.now) c.args.db.now.store c.put.new.self.store
     (record { failed = 0; changes = 1 }) tt done.causes.1.later.0 (done.placed (read_again c.args.blob.now) c.requires.own) done.generation
-    (λ is. done.full told c.requires.going (rows is) (read_again c.args.blob.now) c.requires.own)
+    (λ is. done.full told c.requires.going (rows is) (read_again c.args.blob.now) c.requires.own) (done.end told)
+    (λ is. done.reach told (rows is) (read_again c.args.blob.now) c.requires.own)
 
 pub returns-in-Err-clause-ended : goal.returns-in-Err-clause-ended
 returns-in-Err-clause-ended g c = λ told out_tells err_tells out err.

@@ -23,7 +23,8 @@ invariant-loop-number g l = record {
   limited : IsTrue g.D.Disk.tells → (indexed : Bool)
       → (indexed ≡ true → IsIndexed (g.D.Disk.files l.initial.disk).pkg (g.D.Disk.files l.initial.disk).idx l.initial.db) → Limited indexed (erase (state (g.D.Disk.files l.initial.disk).pkg l.initial.db.store) l.numbers)
       (in_turn erase_one (state (g.D.Disk.files l.disk).pkg l.db.store) l.number-index (drop l.number-index l.numbers))
-      (state (g.D.Disk.files l.initial.disk).pkg l.initial.db.store) (state (g.D.Disk.files l.disk).pkg l.db.store) l.initial.db.store l.db.store;
+      (state (g.D.Disk.files l.initial.disk).pkg l.initial.db.store) (state (g.D.Disk.files l.disk).pkg l.db.store) l.initial.db.store l.db.store
+      (g.D.Disk.files l.initial.disk) (g.D.Disk.files l.disk);
   few : l.failed + l.changes ≡ l.number-index;
   whole : IsTrue g.D.Disk.tells → IsWholeIndex (g.D.Disk.files l.initial.disk).idx → IsWholeIndex (g.D.Disk.files l.disk).idx;
   carried : IsCarried g.D.Disk.tells (g.D.Disk.files l.initial.disk) (g.D.Disk.files l.disk) (g.D.Disk.left_since l.disk (g.D.Disk.moment l.disk))

@@ -1,4 +1,5 @@
-use Rattle.std.proofs.Common.{◌≡◌, Ok, refl, sym, ap, subst}
+use Rattle.std.proofs.Common.{◌≡◌, [], Ok, refl, sym, ap, subst, arith}
+use Rattle.rpm_outside.specs.Files.{Files}
 use Rattle.rpm_outside.specs.Buffered.{inner}
 use Rattle.rpm_db.specs.Changes.{Erase}
 use Rattle.rpm_db.specs.Database.{Database}
@@ -34,10 +35,11 @@ returns-in-Ok-clause-limits g c = λ told j i rows.
     let file = (g.D.Disk.files c.args.disk.now).pkg in
     let s = state file c.args.db.now.store in
     let done = c.in-Ok.ensures in
-    subst (λ (x : Course). LimitsTurn i s c.args.db.now.store c.erase.new.self.store x.changes (Ok (record { failed = 0; changes = 1 })))
+    subst (λ (x : Course). LimitsTurn i s c.args.db.now.store c.erase.new.self.store (g.D.Disk.files c.args.disk.now)
+    (g.D.Disk.files c.erase.new.disk) x.changes (Ok (record { failed = 0; changes = 1 })))
     (sym (erase_held file c.args.db.now j c.args.number done.causes.1))
     (one_made i s (Erase c.args.number) c.args.db.now.store c.erase.new.self.store (record { failed = 0; changes = 1 }) tt done.causes.2.0 done.placed
-    done.generation (λ is. done.full told c.requires.going (rows is)))
+    done.generation (λ is. done.full told c.requires.going (rows is)) (omega (arith, done.end told)) (λ is. done.reach told (rows is)))
 
 pub returns-in-Err-NoSuch-clause-ended : goal.returns-in-Err-NoSuch-clause-ended
 returns-in-Err-NoSuch-clause-ended g c = λ told j out_tells out.
@@ -64,10 +66,13 @@ returns-in-Err-NoSuch-clause-limits g c = λ told j i rows.
     let file = (g.D.Disk.files c.args.disk.now).pkg in
     let s = state file c.args.db.now.store in
     let said = rw c.in-Err-NoSuch.field-0-is at c.in-Err-NoSuch.ensures in
-    subst (λ (x : Course). LimitsTurn i s c.args.db.now.store c.erase.new.self.store x.changes c.put_missing.result)
+    subst (λ (x : Course). LimitsTurn i s c.args.db.now.store c.erase.new.self.store (g.D.Disk.files c.args.disk.now)
+    (g.D.Disk.files c.erase.new.disk) x.changes c.put_missing.result)
     (sym (erase_missing file c.args.db.now j c.args.number said.causes.1))
+    (subst (λ (f : Files). LimitsTurn i s c.args.db.now.store c.erase.new.self.store (g.D.Disk.files c.args.disk.now) f [] c.put_missing.result)
+    (sym ((said.same tt).reads_as told))
     (line_limits i s c.args.db.now.store c.erase.new.self.store c.args.db.now.store.spare c.put_missing.result
-    (ap (λ (db : Database). db.store) (said.refused tt)) c.put_missing.ensures.kinds)
+    (ap (λ (db : Database). db.store) (said.refused tt)) c.put_missing.ensures.kinds))
 
 pub returns-in-Err-clause-ended : goal.returns-in-Err-clause-ended
 returns-in-Err-clause-ended g c = λ told j out_tells out.

@@ -23,7 +23,7 @@ returns-in-Some-clause-ended g c = λ most head is s ot o.
     (through_none {ot = ot} {et = g.E.Sink.tells} o (g.E.Sink.taken (inner c.args.err.now)))
 
 pub returns-in-Some-clause-limits : goal.returns-in-Some-clause-limits
-returns-in-Some-clause-limits g c = λ most head is s v i.
+returns-in-Some-clause-limits g c = λ most head is s v files i.
     stop_limits c.args.fault c.in-Some.halt c.in-Some.ensures i s v v (turn most c.args.place head).changes
 
 pub returns-in-Some-clause-kinds : goal.returns-in-Some-clause-kinds
@@ -50,8 +50,8 @@ returns-in-None-clause-ended g c = λ most head is s ot o.
     (c.put_place.ensures.ended s ot o))
 
 pub returns-in-None-clause-limits : goal.returns-in-None-clause-limits
-returns-in-None-clause-limits g c = λ most head is s v i.
-    subst (λ (r : Result (Option Found) ListFault). LimitsTurn i s v v (turn most c.args.place r).changes c.put_place.result)
+returns-in-None-clause-limits g c = λ most head is s v files i.
+    subst (λ (r : Result (Option Found) ListFault). LimitsTurn i s v v files files (turn most c.args.place r).changes c.put_place.result)
     (sym (of_list head c.args.fault c.in-None.ensures is)) (line_limits i s v v v.spare c.put_place.result refl c.put_place.ensures.kinds)
 
 pub returns-in-None-clause-leaves : goal.returns-in-None-clause-leaves

@@ -1,4 +1,5 @@
-use Rattle.std.proofs.Common.{Ok, refl, sym, subst, ap, ◌∙◌}
+use Rattle.std.proofs.Common.{[], Ok, refl, sym, subst, ap, ◌∙◌}
+use Rattle.rpm_outside.specs.Files.{Files}
 use Rattle.rpm_outside.specs.Buffered.{inner}
 use Rattle.rpm_header.specs.Header.{header}
 use Rattle.rpm_db.specs.Changes.{Add}
@@ -38,11 +39,13 @@ returns-in-Ok-clause-limits g c = λ told i rows.
     let s = state file c.args.db.now.store in
     let done = c.in-Ok.ensures in
     let put = done.causes.1 in
-    subst (λ (x : Course). LimitsTurn i s c.args.db.now.store c.add.new.self.store x.changes (Ok (record { failed = 0; changes = 1 })))
+    subst (λ (x : Course). LimitsTurn i s c.args.db.now.store c.add.new.self.store (g.D.Disk.files c.args.disk.now)
+    (g.D.Disk.files c.add.new.disk) x.changes (Ok (record { failed = 0; changes = 1 })))
     (sym (imported_good c.args.place c.args.blob.now put.own put.read))
     (one_made i s (Add put.own.blob) c.args.db.now.store c.add.new.self.store (record { failed = 0; changes = 1 })
     (λ is. done.causes.0 (sym (next-state file c.args.db.now.store) ∙ is)) put.later.0 (done.placed put.own put.read)
-    done.generation (λ is. done.full told c.requires.going (rows is) put.own put.read))
+    done.generation (λ is. done.full told c.requires.going (rows is) put.own put.read) (done.end told)
+    (λ is. done.reach told (rows is) put.own put.read))
 
 pub returns-in-Err-BadHeader-clause-ended : goal.returns-in-Err-BadHeader-clause-ended
 returns-in-Err-BadHeader-clause-ended g c = λ told out_tells out.
@@ -66,10 +69,13 @@ pub returns-in-Err-BadHeader-clause-limits : goal.returns-in-Err-BadHeader-claus
 returns-in-Err-BadHeader-clause-limits g c = λ told i rows.
     let s = state (g.D.Disk.files c.args.disk.now).pkg c.args.db.now.store in
     let said = rw c.in-Err-BadHeader.field-0-is at c.in-Err-BadHeader.ensures in
-    subst (λ (x : Course). LimitsTurn i s c.args.db.now.store c.add.new.self.store x.changes c.put_bad_header.result)
+    subst (λ (x : Course). LimitsTurn i s c.args.db.now.store c.add.new.self.store (g.D.Disk.files c.args.disk.now)
+    (g.D.Disk.files c.add.new.disk) x.changes c.put_bad_header.result)
     (sym (ap (imported c.args.place) said.causes.1))
+    (subst (λ (f : Files). LimitsTurn i s c.args.db.now.store c.add.new.self.store (g.D.Disk.files c.args.disk.now) f [] c.put_bad_header.result)
+    (sym ((said.same tt).reads_as told))
     (line_limits i s c.args.db.now.store c.add.new.self.store c.add.new.self.store.spare c.put_bad_header.result
-    (ap (λ (db : Database). db.store) (said.refused tt)) c.put_bad_header.ensures.kinds)
+    (ap (λ (db : Database). db.store) (said.refused tt)) c.put_bad_header.ensures.kinds))
 
 pub returns-in-Err-BadHeader-clause-carried : goal.returns-in-Err-BadHeader-clause-carried
 returns-in-Err-BadHeader-clause-carried g c =

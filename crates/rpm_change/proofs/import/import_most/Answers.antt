@@ -40,7 +40,8 @@ returns-in-Ok-clause-limits g c = λ told heard i rows.
     let found = bytes_at (g.S.Shelf.paths c.args.shelf.now) (codes "-") in
     let rest = g.S.Shelf.rest c.open.new.self in
     rw c.counted_once.ensures
-    (subst (λ (x : Course). LimitsTurn i s v w x.changes (counted_once c.import_open.result))
+    (subst (λ (x : Course). LimitsTurn i s v w (g.D.Disk.files c.args.disk.now) (g.D.Disk.files c.import_open.new.disk) x.changes
+    (counted_once c.import_open.result))
     (sym (opened_list c.args.most found rest (c.in-Ok.ensures.opened heard).0 (c.in-Ok.ensures.opened heard).1))
     (limits_once i (import_listed c.args.most (listed (left rest))).changes s v w c.import_open.result (c.import_open.ensures.limits told heard i rows)))
 
@@ -63,5 +64,6 @@ returns-in-Err-clause-limits g c = λ told heard i rows.
     let s = state (g.D.Disk.files c.args.disk.now).pkg c.args.db.now.store in
     let v = c.args.db.now.store in
     let found = bytes_at (g.S.Shelf.paths c.args.shelf.now) (codes "-") in
-    subst (λ (x : Course). LimitsTurn i s v v x.changes c.put_failing.result) (sym (absent_list c.args.most found (c.in-Err.ensures.opened heard).1))
+    subst (λ (x : Course). LimitsTurn i s v v (g.D.Disk.files c.args.disk.now) (g.D.Disk.files c.args.disk.now) x.changes c.put_failing.result)
+    (sym (absent_list c.args.most found (c.in-Err.ensures.opened heard).1))
     (line_limits i s v v v.spare c.put_failing.result refl c.put_failing.ensures.kinds)

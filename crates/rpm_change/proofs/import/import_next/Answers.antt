@@ -72,7 +72,8 @@ returns-in-Ok-None-clause-limits g c = λ told heard i rows.
     let s = state (g.D.Disk.files c.args.disk.now).pkg c.args.db.now.store in
     let v = c.args.db.now.store in
     let said = rw c.in-Ok-None.field-0-is at c.in-Ok-None.ensures in
-    at_end (λ (course : Course). LimitsTurn i s v v course.changes (Ok (record { failed = 0; changes = 0 }))) c.args.most c.args.place _ (said.answers heard).0
+    let f = g.D.Disk.files c.args.disk.now in
+    at_end (λ (course : Course). LimitsTurn i s v v f f course.changes (Ok (record { failed = 0; changes = 0 }))) c.args.most c.args.place _ (said.answers heard).0
     (none_made i s v v v.spare (record { failed = 0; changes = 0 }) refl)
 
 pub returns-in-Ok-None-clause-leaves : goal.returns-in-Ok-None-clause-leaves

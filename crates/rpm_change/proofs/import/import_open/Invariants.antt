@@ -24,7 +24,7 @@ invariant-loop-is_last g l = record {
   limited : IsTrue g.D.Disk.tells → IsTrue g.S.Shelf.tells → (indexed : Bool)
       → (indexed ≡ true → IsIndexed (g.D.Disk.files l.initial.disk).pkg (g.D.Disk.files l.initial.disk).idx l.initial.db) → Limited indexed (import_listed l.most (listed (left (g.S.Shelf.rest l.initial.shelf))))
       (from_place l.is_last l.most l.place (listed (left (g.S.Shelf.rest l.shelf)))) (state (g.D.Disk.files l.initial.disk).pkg l.initial.db.store)
-      (state (g.D.Disk.files l.disk).pkg l.db.store) l.initial.db.store l.db.store;
+      (state (g.D.Disk.files l.disk).pkg l.db.store) l.initial.db.store l.db.store (g.D.Disk.files l.initial.disk) (g.D.Disk.files l.disk);
   few : l.failed + l.changes + 1 ≤ l.place;
   within : l.is_last ≡ false → l.place ≤ l.most + 1;
   below : l.place ≤ l.most + 2;

@@ -1,4 +1,4 @@
-use Rattle.std.proofs.Common.{refl}
+use Rattle.std.proofs.Common.{refl, arith}
 use Rattle.rpm_outside.specs.Buffered.{inner}
 use Rattle.rpm_db.specs.Changes.{Erase}
 use Rattle.rpm_db.specs.State.{Bad, state}
@@ -22,7 +22,7 @@ returns-in-Ok-erase-clause-limits g c = λ told i rows.
     let done = c.in-Ok-erase.ensures in
     dropped_limits i (state (g.D.Disk.files c.args.disk.now).pkg c.args.db.now.store) c.args.number c.args.db.now.store c.erase.new.self.store
     c.put_dropped.result done.causes.2.0 done.placed done.generation
-    (λ is. done.full told c.requires.going (rows is)) c.put_dropped.ensures.kinds
+    (λ is. done.full told c.requires.going (rows is)) c.put_dropped.ensures.kinds (omega (arith, done.end told)) (λ is. done.reach told (rows is))
 
 pub returns-clause-ended : goal.returns-clause-ended
 returns-clause-ended g c = λ told err_tells err.

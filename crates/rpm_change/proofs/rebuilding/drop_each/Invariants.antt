@@ -23,7 +23,8 @@ invariant-loop-next g l = record {
   limited : IsTrue g.D.Disk.tells → (indexed : Bool)
       → (indexed ≡ true → IsIndexed (g.D.Disk.files l.initial.disk).pkg (g.D.Disk.files l.initial.disk).idx l.initial.db) → Limited indexed (rebuild (state (g.D.Disk.files l.initial.disk).pkg l.initial.db.store))
       (drop_each (above l.number (finite.entries (packages (g.D.Disk.files l.initial.disk).pkg l.initial.db.store))))
-      (state (g.D.Disk.files l.initial.disk).pkg l.initial.db.store) (state (g.D.Disk.files l.disk).pkg l.db.store) l.initial.db.store l.db.store;
+      (state (g.D.Disk.files l.initial.disk).pkg l.initial.db.store) (state (g.D.Disk.files l.disk).pkg l.db.store) l.initial.db.store l.db.store
+      (g.D.Disk.files l.initial.disk) (g.D.Disk.files l.disk);
   same : IsTrue g.D.Disk.tells → SameAbove l.number (packages (g.D.Disk.files l.initial.disk).pkg l.initial.db.store)
       (packages (g.D.Disk.files l.disk).pkg l.db.store);
   few : l.failed + l.changes ≤ l.number;

@@ -1,4 +1,4 @@
-use Rattle.std.proofs.Common.{refl, sym, subst, ap, ◌∙◌}
+use Rattle.std.proofs.Common.{Ok, refl, sym, subst, ap, ◌∙◌}
 use Rattle.std.specs.FinMap as finite
 use Rattle.rpm_outside.specs.Files.{Files}
 use Rattle.rpm_outside.specs.Buffered.{inner}
@@ -28,8 +28,11 @@ returns-in-Ok-clause-ended g c = λ told p is et e.
 
 pub returns-in-Ok-clause-limits : goal.returns-in-Ok-clause-limits
 returns-in-Ok-clause-limits g c = λ told p is i rows.
-    let s = state (g.D.Disk.files c.args.disk.now).pkg c.args.db.now.store in
-    kept_limits c.args.number p (finite.get s.packages c.args.number) c.in-Ok._good.items s (c.in-Ok.ensures.told told) is i c.args.db.now.store
+    let v = c.args.db.now.store in
+    let s = state (g.D.Disk.files c.args.disk.now).pkg v in
+    subst (λ (f : Files). LimitsTurn i s v v (g.D.Disk.files c.args.disk.now) f (dropped c.args.number p).changes (Ok (record { failed = 0; changes = 0 })))
+    (sym (c.in-Ok.ensures.looks.untouched told).same)
+    (kept_limits c.args.number p (finite.get s.packages c.args.number) c.in-Ok._good.items s (c.in-Ok.ensures.told told) is i v)
 
 pub returns-in-Ok-clause-carried : goal.returns-in-Ok-clause-carried
 returns-in-Ok-clause-carried g c =
@@ -75,8 +78,11 @@ returns-in-Err-Bad-clause-limits g c = λ told p is i rows.
     let w = c.drop_bad.new.db.store in
     let said = rw c.in-Err-Bad.field-0-is at c.in-Err-Bad.ensures in
     let bad = bad_is (finite.get (state (g.D.Disk.files c.args.disk.now).pkg db.store).packages n) p (said.told told) is in
-    subst (λ (q : Package). LimitsTurn i (state (g.D.Disk.files c.args.disk.now).pkg db.store) db.store w (dropped n q).changes c.drop_bad.result) (sym bad)
-    (subst (λ (f : Files). LimitsTurn i (state f.pkg db.store) db.store w (dropped n Bad).changes c.drop_bad.result) (c.get.ensures.looks.untouched told).same
+    let old = g.D.Disk.files c.args.disk.now in
+    let new = g.D.Disk.files c.drop_bad.new.disk in
+    subst (λ (q : Package). LimitsTurn i (state old.pkg db.store) db.store w old new (dropped n q).changes c.drop_bad.result) (sym bad)
+    (subst (λ (f : Files). LimitsTurn i (state f.pkg db.store) db.store w f new (dropped n Bad).changes c.drop_bad.result)
+    (c.get.ensures.looks.untouched told).same
     (c.drop_bad.ensures.limits told i (λ yes. subst (λ (f : Files). IsIndexed f.pkg f.idx db) (sym (c.get.ensures.looks.untouched told).same) (rows yes))))
 
 pub returns-in-Err-Bad-clause-carried : goal.returns-in-Err-Bad-clause-carried

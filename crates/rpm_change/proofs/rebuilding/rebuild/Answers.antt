@@ -13,7 +13,7 @@ use Rattle.rpm_change.specs.Rebuilding.{rebuild}
 use Rattle.rpm_change.proofs.Courses.{through_none}
 use Rattle.rpm_change.proofs.Erased.{refused_ended}
 use Rattle.rpm_change.proofs.Dropped.{serving_remade, state_remade}
-use Rattle.rpm_change.proofs.Rebuilt.{rebuild_kinds, unbuilt_limits, remade_limits, remade_stores, runs_weaker}
+use Rattle.rpm_change.proofs.Rebuilt.{rebuild_kinds, unbuilt_limits, remade_limits, remade_stores, remade_reached, runs_weaker}
 use Rattle.rpm_change.proofs.rebuilding.rebuild.Goals as goal
 
 pub drop_each-requires-clause-serving : goal.drop_each-requires-clause-serving
@@ -53,6 +53,17 @@ returns-in-Ok-clause-stores g c =
     remade_limits s c.drop_each.new.db.store c.drop_each.result said.store
     (state_remade (g.D.Disk.files c.args.disk.now) (g.D.Disk.files c.rebuild.new.disk) c.args.db.now c.rebuild.new.self (said.runs.reads_as told)
     said.store) (c.drop_each.ensures.limits told true (λ is. (said.rebuilt told).3)))
+
+pub returns-in-Ok-clause-reach : goal.returns-in-Ok-clause-reach
+returns-in-Ok-clause-reach g c =
+    let old = g.D.Disk.files c.args.disk.now in
+    let mid = g.D.Disk.files c.rebuild.new.disk in
+    let s = state old.pkg c.args.db.now.store in
+    let said = c.in-Ok.ensures in
+    remade_reached s c.args.db.now.store c.drop_each.new.db.store old c.drop_each.result (IsTrue g.D.Disk.tells) (λ told. (said.runs.reads_as told).pkg)
+    said.reach (λ told. remade_limits s c.drop_each.new.db.store c.drop_each.result said.store
+    (state_remade old mid c.args.db.now c.rebuild.new.self (said.runs.reads_as told) said.store)
+    (c.drop_each.ensures.limits told true (λ is. (said.rebuilt told).3)))
 
 pub returns-in-Ok-clause-runs : goal.returns-in-Ok-clause-runs
 returns-in-Ok-clause-runs g c =

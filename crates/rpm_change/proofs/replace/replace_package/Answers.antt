@@ -29,7 +29,8 @@ returns-then-holds-clause-limits g c = λ told shelf_told i rows.
     let file = (g.D.Disk.files c.args.disk.now).pkg in
     let db = c.args.db.now in
     let held : holds c.args.number db ≡ true = sym c.holds.ensures.held ∙ c.if-holds.true in
-    subst (λ (x : Course). LimitsTurn i (state file db.store) db.store c.put_file.new.db.store x.changes c.put_file.result)
+    subst (λ (x : Course). LimitsTurn i (state file db.store) db.store c.put_file.new.db.store (g.D.Disk.files c.args.disk.now)
+    (g.D.Disk.files c.put_file.new.disk) x.changes c.put_file.result)
     (sym (replaced_some (finite.get (packages file db.store) c.args.number) (g.S.Shelf.paths c.args.shelf.now) c.args.now c.args.number c.args.path.now
     (is_there file db c.args.number ∙ held))) (c.put_file.ensures.limits told shelf_told 0 i rows)
 
@@ -57,7 +58,8 @@ returns-else-holds-clause-limits g c = λ told shelf_told i rows.
     let file = (g.D.Disk.files c.args.disk.now).pkg in
     let db = c.args.db.now in
     let not : holds c.args.number db ≡ false = sym c.holds.ensures.held ∙ c.if-holds.false in
-    subst (λ (x : Course). LimitsTurn i (state file db.store) db.store db.store x.changes c.put_missing.result)
+    subst (λ (x : Course). LimitsTurn i (state file db.store) db.store db.store (g.D.Disk.files c.args.disk.now)
+    (g.D.Disk.files c.args.disk.now) x.changes c.put_missing.result)
     (sym (replaced_none (finite.get (packages file db.store) c.args.number) (g.S.Shelf.paths c.args.shelf.now) c.args.now c.args.number c.args.path.now
     (is_there file db c.args.number ∙ not)))
     (line_limits i (state file db.store) db.store db.store db.store.spare c.put_missing.result refl c.put_missing.ensures.kinds)

@@ -24,7 +24,7 @@ pub returns-in-Err-clause-limits : goal.returns-in-Err-clause-limits
 returns-in-Err-clause-limits g c = λ told heard i rows.
     rw c.as_turn-in-Err.ensures.value
     (c.end_list.ensures.limits c.args.most (list_head (left (g.S.Shelf.rest c.args.shelf.now))) (c.in-Err.ensures.answers heard)
-    (state (g.D.Disk.files c.args.disk.now).pkg c.args.db.now.store) c.args.db.now.store i)
+    (state (g.D.Disk.files c.args.disk.now).pkg c.args.db.now.store) c.args.db.now.store (g.D.Disk.files c.args.disk.now) i)
 
 pub returns-in-Err-clause-leaves : goal.returns-in-Err-clause-leaves
 returns-in-Err-clause-leaves g c =

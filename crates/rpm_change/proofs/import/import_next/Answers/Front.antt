@@ -29,7 +29,8 @@ returns-in-Ok-Some-clause-limits g c = λ told heard i rows.
     let said = rw c.in-Ok-Some.field-0-is at c.in-Ok-Some.ensures in
     rw c.as_turn.ensures.value
     (at_header (λ (course : Course). LimitsTurn i (state (g.D.Disk.files c.args.disk.now).pkg c.args.db.now.store) c.args.db.now.store
-    c.import_within-done.new.db.store course.changes c.import_within-done.result) c.args.most c.args.place _ _ _ _ (said.answers heard)
+    c.import_within-done.new.db.store (g.D.Disk.files c.args.disk.now) (g.D.Disk.files c.import_within-done.new.disk)
+    course.changes c.import_within-done.result) c.args.most c.args.place _ _ _ _ (said.answers heard)
     (ap (take c.in-Ok-Some.size) c.deref.ensures.value) (c.import_within-done.ensures.limits told i rows))
 
 pub returns-in-Ok-Some-clause-leaves : goal.returns-in-Ok-Some-clause-leaves
