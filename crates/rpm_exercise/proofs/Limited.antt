@@ -1,6 +1,7 @@
 -- The numbers, generations and places that the changes of the exercise take, one change after the other.
 use Rattle.std.proofs.Common.{◌≡◌, Bool, true, ℕ, ◌-◌, List, [], ◌++◌, Ok, Err, refl, sym, ap, ◌∙◌, subst, append_assoc}
 use Rattle.std.proofs.lemmas.List.{append-nil}
+use Rattle.rpm_outside.specs.Files.{Files}
 use Rattle.rpm_pkgdb.specs.Store.{Store}
 use Rattle.rpm_db.specs.Changes.{Change, next}
 use Rattle.rpm_db.specs.State.{State}
@@ -21,20 +22,22 @@ abbrev uncounted : Tally
 uncounted = record { failed = 0; changes = 0 }
 
 -- the first of several changes were made, and each had a number, a generation and a place
-pub record Limited (i : Bool) (all left : List Change) (s t : State) (v w : Store) : Type 0 where
+pub record Limited (i : Bool) (all left : List Change) (s t : State) (v w : Store) (old new : Files) : Type 0 where
   pub done : List Change
   pub whole : all ≡ done ++ left
   pub state_is : t ≡ apply_all done s
-  pub within : LimitsTurn i s v w done (Ok uncounted)
+  pub within : LimitsTurn i s v w old new done (Ok uncounted)
 
-pub limited_start : (i : Bool) (all left : List Change) (s : State) (v : Store) → all ≡ left → Limited i all left s s v v
+pub limited_start : {files : Files} (i : Bool) (all left : List Change) (s : State) (v : Store) → all ≡ left
+    → Limited i all left s s v v files files
 limited_start i all left s v is = record { done = []; whole = is; state_is = refl; within = limits_none i s v uncounted }
 
-module _ (i : Bool) (all left turn rest : List Change) (s t : State) (v w x : Store) (is : left ≡ turn ++ rest) (g : Limited i all left s t v w) where
+module _ {old mid : Files} (i : Bool) (all left turn rest : List Change) (s t : State) (v w x : Store) (is : left ≡ turn ++ rest)
+    (g : Limited i all left s t v w old mid) where
   split : all ≡ g.done ++ (turn ++ rest)
   split = g.whole ∙ ap (λ (l : List Change). g.done ++ l) is
 
-  pub limited_more : (u : State) (tally : Tally) → u ≡ apply_all turn t → LimitsTurn i t w x turn (Ok tally) → Limited i all rest s u v x
+  pub limited_more : {new : Files} (u : State) (tally : Tally) → u ≡ apply_all turn t → LimitsTurn i t w x mid new turn (Ok tally) → Limited i all rest s u v x old new
   limited_more u tally after turned = record {
     done = g.done ++ turn;
     whole = split ∙ sym (append_assoc g.done turn rest);
@@ -43,31 +46,32 @@ module _ (i : Bool) (all left turn rest : List Change) (s t : State) (v w x : St
   }
 
   -- the next ones were stopped
-  pub limited_stop : (h : Halt) → LimitsTurn i t w x turn (Err h) → LimitsTurn i s v x all (Err h)
-  limited_stop h turned = subst (λ (l : List Change). LimitsTurn i s v x l (Err h)) (sym split)
+  pub limited_stop : {new : Files} (h : Halt) → LimitsTurn i t w x mid new turn (Err h) → LimitsTurn i s v x old new all (Err h)
+  limited_stop {new = new} h turned = subst (λ (l : List Change). LimitsTurn i s v x old new l (Err h)) (sym split)
       (limits_stop i g.done turn s t v w x uncounted g.state_is g.within rest h turned)
 
 -- nothing is left
-pub limited_end : (i : Bool) (all left : List Change) (s t : State) (v w : Store) (tally : Tally) → left ≡ [] → Limited i all left s t v w
-    → LimitsTurn i s v w all (Ok tally)
-limited_end i all left s t v w tally none g =
-    subst (λ (l : List Change). LimitsTurn i s v w l (Ok tally)) (sym (g.whole ∙ ap (λ (l : List Change). g.done ++ l) none ∙ append-nil g.done))
+pub limited_end : {old new : Files} (i : Bool) (all left : List Change) (s t : State) (v w : Store) (tally : Tally) → left ≡ []
+    → Limited i all left s t v w old new → LimitsTurn i s v w old new all (Ok tally)
+limited_end {old = old} {new = new} i all left s t v w tally none g =
+    subst (λ (l : List Change). LimitsTurn i s v w old new l (Ok tally)) (sym (g.whole ∙ ap (λ (l : List Change). g.done ++ l) none ∙ append-nil g.done))
     (limits_counted i s v w g.done uncounted tally g.within)
 
 -- ---- stops that no limit is the cause of
 
-pub memory_limits : (i : Bool) (s : State) (v w : Store) (changes : List Change) → LimitsTurn i s v w changes (Err halt.NoMemory)
+pub memory_limits : {old new : Files} (i : Bool) (s : State) (v w : Store) (changes : List Change) → LimitsTurn i s v w old new changes (Err halt.NoMemory)
 memory_limits i s v w changes = other_stop i s v w changes halt.NoMemory refl
 
-pub reading_limits : (i : Bool) (s : State) (v w : Store) (changes : List Change) (h : Halt) → IsOfReading h → LimitsTurn i s v w changes (Err h)
-reading_limits i s v w changes =
-    reading_cases (λ (h : Halt). LimitsTurn i s v w changes (Err h)) (other_stop i s v w changes halt.DiskFault refl) (memory_limits i s v w changes)
+pub reading_limits : {old new : Files} (i : Bool) (s : State) (v w : Store) (changes : List Change) (h : Halt) → IsOfReading h
+    → LimitsTurn i s v w old new changes (Err h)
+reading_limits {old = old} {new = new} i s v w changes =
+    reading_cases (λ (h : Halt). LimitsTurn i s v w old new changes (Err h)) (other_stop i s v w changes halt.DiskFault refl) (memory_limits i s v w changes)
 
-pub telling_limits : (i : Bool) (s : State) (v w : Store) (changes : List Change) (h : Halt) → IsOfTelling h → (i ≡ true → IsUnbroken h)
-    → LimitsTurn i s v w changes (Err h)
-telling_limits i s v w changes =
-    telling_cases (λ (h : Halt). (i ≡ true → IsUnbroken h) → LimitsTurn i s v w changes (Err h))
-    (λ unit unbroken. record { first = λ limit. absurd (unbroken limit); stores = tt; raised = tt })
+pub telling_limits : {old new : Files} (i : Bool) (s : State) (v w : Store) (changes : List Change) (h : Halt) → IsOfTelling h → (i ≡ true → IsUnbroken h)
+    → LimitsTurn i s v w old new changes (Err h)
+telling_limits {old = old} {new = new} i s v w changes =
+    telling_cases (λ (h : Halt). (i ≡ true → IsUnbroken h) → LimitsTurn i s v w old new changes (Err h))
+    (λ unit unbroken. record { first = λ limit. absurd (unbroken limit); stores = tt; raised = tt; reached = tt })
     (λ unbroken. other_stop i s v w changes halt.DiskFault refl) (λ unbroken. other_stop i s v w changes halt.OutFault refl)
     (λ unbroken. memory_limits i s v w changes)
 
@@ -83,27 +87,28 @@ module _ (i : Bool) (n b : ℕ) (s : State) (v : Store) (is : b ≡ next s - 1) 
   abbrev E : List Change
   E = round_changes round.Erasing b n
 
-  begun : Limited i (changes n s) (A ++ (R ++ E)) s s v v
+  begun : {old : Files} → Limited i (changes n s) (A ++ (R ++ E)) s s v v old old
   begun = limited_start i (changes n s) (A ++ (R ++ E)) s v (all_is n b s is)
 
-  pub adding_stop : (w : Store) (h : Halt) → LimitsTurn i s v w A (Err h) → LimitsTurn i s v w (changes n s) (Err h)
+  pub adding_stop : {old new : Files} (w : Store) (h : Halt) → LimitsTurn i s v w old new A (Err h) → LimitsTurn i s v w old new (changes n s) (Err h)
   adding_stop w h = limited_stop i (changes n s) (A ++ (R ++ E)) A (R ++ E) s s v v w refl begun h
 
-  module _ (t : State) (w : Store) (a : Tally) (added : t ≡ apply_all A s) (first : LimitsTurn i s v w A (Ok a)) where
-    after_adding : Limited i (changes n s) (R ++ E) s t v w
+  module _ {old mid : Files} (t : State) (w : Store) (a : Tally) (added : t ≡ apply_all A s) (first : LimitsTurn i s v w old mid A (Ok a)) where
+    after_adding : Limited i (changes n s) (R ++ E) s t v w old mid
     after_adding = limited_more i (changes n s) (A ++ (R ++ E)) A (R ++ E) s s v v w refl begun t a added first
 
-    pub replacing_stop : (x : Store) (h : Halt) → LimitsTurn i t w x R (Err h) → LimitsTurn i s v x (changes n s) (Err h)
+    pub replacing_stop : {new : Files} (x : Store) (h : Halt) → LimitsTurn i t w x mid new R (Err h) → LimitsTurn i s v x old new (changes n s) (Err h)
     replacing_stop x h = limited_stop i (changes n s) (R ++ E) R E s t v w x refl after_adding h
 
-    module _ (u : State) (x : Store) (r : Tally) (replaced : u ≡ apply_all R t) (second : LimitsTurn i t w x R (Ok r)) where
-      after_replacing : Limited i (changes n s) E s u v x
+    module _ {late : Files} (u : State) (x : Store) (r : Tally) (replaced : u ≡ apply_all R t) (second : LimitsTurn i t w x mid late R (Ok r)) where
+      after_replacing : Limited i (changes n s) E s u v x old late
       after_replacing = limited_more i (changes n s) (R ++ E) R E s t v w x refl after_adding u r replaced second
 
-      pub erasing_stop : (y : Store) (h : Halt) → LimitsTurn i u x y E (Err h) → LimitsTurn i s v y (changes n s) (Err h)
+      pub erasing_stop : {new : Files} (y : Store) (h : Halt) → LimitsTurn i u x y late new E (Err h) → LimitsTurn i s v y old new (changes n s) (Err h)
       erasing_stop y h = limited_stop i (changes n s) E E [] s u v x y (sym (append-nil E)) after_replacing h
 
-      pub all_limits : (z : State) (y : Store) (e all : Tally) → z ≡ apply_all E u → LimitsTurn i u x y E (Ok e) → LimitsTurn i s v y (changes n s) (Ok all)
+      pub all_limits : {new : Files} (z : State) (y : Store) (e all : Tally) → z ≡ apply_all E u → LimitsTurn i u x y late new E (Ok e)
+          → LimitsTurn i s v y old new (changes n s) (Ok all)
       all_limits z y e all erased third =
           limited_end i (changes n s) [] s z v y all refl
           (limited_more i (changes n s) E E [] s u v x y (sym (append-nil E)) after_replacing z e erased third)

@@ -1,8 +1,9 @@
 -- How the exercise ends.
-use Rattle.std.specs.Prelude.{ℕ, Bool, List, [], Option, Some, None, Result, Ok, Err}
+use Rattle.std.specs.Prelude.{◌≡◌, ℕ, Bool, List, [], Option, Some, None, Result, Ok, Err}
 use Rattle.rpm_outside.specs.Files.{Files}
 use Rattle.rpm_outside.specs.Sinks.{Gained, GainedPart}
 use Rattle.rpm_db.specs.Database.{Database, Keeps, KeepsIndex}
+use Rattle.rpm_db.specs.Reaches.{ReachesMade}
 use Rattle.rpm_select.specs.declared.picker.PickFault.{PickFault}
 use Rattle.rpm_select.specs.declared.picker.PickFault.TheVariants as pick
 use Rattle.rpm_change.specs.declared.tally.Tally.{Tally}
@@ -75,3 +76,10 @@ abbrev pub IsRefused : (Option ℕ → Type 0) → Result Tally ExerciseFault �
 IsRefused IsFirst (Ok tally) = IsFirst None
 IsRefused IsFirst (Err (Halted h)) = IsFirst None
 IsRefused IsFirst (Err (NotEmpty number)) = IsFirst (Some number)
+
+-- so of files whose index was made anew of these: it has the units that it had, or those that its rows need
+pub record Renewed (needed : ℕ) (P : Files → Type 0) (old : Files) : Type 0 where
+  pub mid : Files
+  pub same : mid.pkg ≡ old.pkg
+  pub made : ReachesMade needed old.idx mid.idx
+  pub holds : P mid

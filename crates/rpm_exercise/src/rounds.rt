@@ -46,7 +46,7 @@ fn add_one<D: Disk>(alloc: Global, db: &mut Db, disk: &mut D, i: u32) -> Result<
     ensures made { IsTrue D.tells → IfOk result (λ tally. Made (Add (made i 1) ∷ []) (state (D.files disk.old).pkg db.old.store)
         (state (D.files disk.new).pkg db.new.store) tally) }
     ensures limits { IsTrue D.tells → (indexed : Bool) → (indexed ≡ true → IsIndexed (D.files disk.old).pkg (D.files disk.old).idx db.old)
-        → LimitsTurn indexed (state (D.files disk.old).pkg db.old.store) db.old.store db.new.store (Add (made i 1) ∷ []) result }
+        → LimitsTurn indexed (state (D.files disk.old).pkg db.old.store) db.old.store db.new.store (D.files disk.old) (D.files disk.new) (Add (made i 1) ∷ []) result }
     ensures few { IfOk result (λ tally. tally.changes ≤ 1) }
     ensures carried { IfOk result (λ _tally. IsCarried D.tells (D.files disk.old) (D.files disk.new) (D.left_since disk.new (D.moment disk.new))
         db.old db.new) }
@@ -90,7 +90,7 @@ fn replace_one<D: Disk>(
     ensures made { IsTrue D.tells → IfOk result (λ tally. Made (Put (b + i) (made i 2) ∷ []) (state (D.files disk.old).pkg db.old.store)
         (state (D.files disk.new).pkg db.new.store) tally) }
     ensures limits { IsTrue D.tells → (indexed : Bool) → (indexed ≡ true → IsIndexed (D.files disk.old).pkg (D.files disk.old).idx db.old)
-        → LimitsTurn indexed (state (D.files disk.old).pkg db.old.store) db.old.store db.new.store (Put (b + i) (made i 2) ∷ []) result }
+        → LimitsTurn indexed (state (D.files disk.old).pkg db.old.store) db.old.store db.new.store (D.files disk.old) (D.files disk.new) (Put (b + i) (made i 2) ∷ []) result }
     ensures few { IfOk result (λ tally. tally.changes ≤ 1) }
     ensures carried { IfOk result (λ _tally. IsCarried D.tells (D.files disk.old) (D.files disk.new) (D.left_since disk.new (D.moment disk.new))
         db.old db.new) }
@@ -126,7 +126,7 @@ fn erase_one<D: Disk>(
     ensures made { IsTrue D.tells → IfOk result (λ tally. Made (Erase (b + i) ∷ []) (state (D.files disk.old).pkg db.old.store)
         (state (D.files disk.new).pkg db.new.store) tally) }
     ensures limits { IsTrue D.tells → (indexed : Bool) → (indexed ≡ true → IsIndexed (D.files disk.old).pkg (D.files disk.old).idx db.old)
-        → LimitsTurn indexed (state (D.files disk.old).pkg db.old.store) db.old.store db.new.store (Erase (b + i) ∷ []) result }
+        → LimitsTurn indexed (state (D.files disk.old).pkg db.old.store) db.old.store db.new.store (D.files disk.old) (D.files disk.new) (Erase (b + i) ∷ []) result }
     ensures few { IfOk result (λ tally. tally.changes ≤ 1) }
     ensures carried { IfOk result (λ _tally. IsCarried D.tells (D.files disk.old) (D.files disk.new) (D.left_since disk.new (D.moment disk.new))
         db.old db.new) }
@@ -161,7 +161,7 @@ fn take_turn<D: Disk>(
     ensures made { IsTrue D.tells → IfOk result (λ tally. Made (turn round b i) (state (D.files disk.old).pkg db.old.store)
         (state (D.files disk.new).pkg db.new.store) tally) }
     ensures limits { IsTrue D.tells → (indexed : Bool) → (indexed ≡ true → IsIndexed (D.files disk.old).pkg (D.files disk.old).idx db.old)
-        → LimitsTurn indexed (state (D.files disk.old).pkg db.old.store) db.old.store db.new.store (turn round b i) result }
+        → LimitsTurn indexed (state (D.files disk.old).pkg db.old.store) db.old.store db.new.store (D.files disk.old) (D.files disk.new) (turn round b i) result }
     ensures few { IfOk result (λ tally. tally.changes ≤ 1) }
     ensures carried { IfOk result (λ _tally. IsCarried D.tells (D.files disk.old) (D.files disk.new) (D.left_since disk.new (D.moment disk.new))
         db.old db.new) }
@@ -204,7 +204,7 @@ fn go_round<D: Disk>(
     ensures made { IsTrue D.tells → IfOk result (λ tally. Made (round_changes round b n) (state (D.files disk.old).pkg db.old.store)
         (state (D.files disk.new).pkg db.new.store) tally) }
     ensures limits { IsTrue D.tells → (indexed : Bool) → (indexed ≡ true → IsIndexed (D.files disk.old).pkg (D.files disk.old).idx db.old)
-        → LimitsTurn indexed (state (D.files disk.old).pkg db.old.store) db.old.store db.new.store (round_changes round b n) result }
+        → LimitsTurn indexed (state (D.files disk.old).pkg db.old.store) db.old.store db.new.store (D.files disk.old) (D.files disk.new) (round_changes round b n) result }
     ensures few { IfOk result (λ tally. tally.changes ≤ n) }
     ensures carried { IfOk result (λ _tally. IsCarried D.tells (D.files disk.old) (D.files disk.new) (D.left_since disk.new (D.moment disk.new))
         db.old db.new) }
@@ -253,7 +253,7 @@ pub fn change_all<D: Disk>(alloc: Global, db: &mut Db, disk: &mut D, n: u32) -> 
     ensures made { IsTrue D.tells → IfOk result (λ tally. Made (changes n (state (D.files disk.old).pkg db.old.store))
         (state (D.files disk.old).pkg db.old.store) (state (D.files disk.new).pkg db.new.store) tally) }
     ensures limits { IsTrue D.tells → (indexed : Bool) → (indexed ≡ true → IsIndexed (D.files disk.old).pkg (D.files disk.old).idx db.old)
-        → LimitsTurn indexed (state (D.files disk.old).pkg db.old.store) db.old.store db.new.store
+        → LimitsTurn indexed (state (D.files disk.old).pkg db.old.store) db.old.store db.new.store (D.files disk.old) (D.files disk.new)
         (changes n (state (D.files disk.old).pkg db.old.store)) result }
     ensures carried { IfOk result (λ _tally. IsCarried D.tells (D.files disk.old) (D.files disk.new) (D.left_since disk.new (D.moment disk.new))
         db.old db.new) }

@@ -1,18 +1,20 @@
 //! The exercise as a whole.
 
-ghost use Rattle.std.specs.Prelude.{◌≡◌, ℕ, ◌≤◌, Bool, List, [], false, true, IsTrue, Err, OnOk, IfOk, IfErr};
+ghost use Rattle.std.specs.Prelude.{◌≡◌, ℕ, ◌≤◌, Bool, List, [], false, true, IsTrue, Ok, Err, OnOk, IfOk, IfErr};
 ghost use Rattle.rpm_outside.specs.Buffered.{inner, holds};
 ghost use Rattle.rpm_outside.specs.Causes.{HasCauseAt};
 ghost use Rattle.rpm_db.specs.Database as database;
 ghost use Rattle.rpm_db.specs.Database.{IsIndexed, IsNext, is_indexed};
 ghost use Rattle.rpm_db.specs.Lawful.{Remade};
+ghost use Rattle.rpm_db.specs.Openings.{units_needed};
+ghost use Rattle.rpm_db.specs.Reaches.{ReachesMade};
 ghost use Rattle.rpm_db.specs.Runs.{Runs};
 ghost use Rattle.rpm_db.specs.State.{state, packages};
 ghost use Rattle.rpm_db.specs.inner.Writes.{SameFiles, SameLog};
 ghost use Rattle.rpm_select.specs.Reach.{HasIndexRows};
 ghost use Rattle.rpm_change.specs.Endings.{outputs, Ended, IsCarried};
 ghost use Rattle.rpm_change.specs.Limits.{LimitsTurn};
-ghost use Rattle.rpm_exercise.specs.Endings.{IsReadable, IsTold, IsUnbroken, IsOfReading, IsOfTelling, IsOfExercise, OnceBegun, IsRefused};
+ghost use Rattle.rpm_exercise.specs.Endings.{IsReadable, IsTold, IsUnbroken, IsOfReading, IsOfTelling, IsOfExercise, OnceBegun, IsRefused, Renewed};
 ghost use Rattle.rpm_exercise.specs.Exercised.{summary, exercise};
 ghost use Rattle.rpm_exercise.specs.Ready.{IsReady, IsCurrent, IsStop};
 ghost use Rattle.rpm_exercise.specs.Rounds.{changes, IsSpent};
@@ -79,7 +81,7 @@ fn change_and_tell<D: Disk, O: Sink + Drop>(
         (state (D.files disk.new).pkg db.new.store) result
         (outputs O.tells (O.taken (inner out.old)) err_tells err) (outputs O.tells (O.taken (inner out.new)) err_tells err) }
     ensures limits { IsTrue D.tells → (indexed : Bool) → (indexed ≡ true → IsIndexed (D.files disk.old).pkg (D.files disk.old).idx db.old)
-        → LimitsTurn indexed (state (D.files disk.old).pkg db.old.store) db.old.store db.new.store
+        → LimitsTurn indexed (state (D.files disk.old).pkg db.old.store) db.old.store db.new.store (D.files disk.old) (D.files disk.new)
         (changes n (state (D.files disk.old).pkg db.old.store)) result }
     ensures carried { IfOk result (λ _tally. IsCarried D.tells (D.files disk.old) (D.files disk.new) (D.left_since disk.new (D.moment disk.new))
         db.old db.new) }
@@ -106,6 +108,8 @@ fn renew<D: Disk>(alloc: Global, db: &mut Db, disk: &mut D) -> Result<(), Halt>
     ensures store { db.new.store ≡ db.old.store }
     ensures indexed { is_indexed db.new ≡ true }
     ensures current { OnOk result (IsCurrent D.Disk disk.new db.new) }
+    ensures reach { OnOk result (IsTrue D.tells → ReachesMade (units_needed (D.files disk.old).pkg (Ok db.old.store))
+        (D.files disk.old).idx (D.files disk.new).idx) }
     ensures kinds { IfErr result IsOfReading }
     ensures runs { Runs D.tells D.files D.left_since D.moment D.bytes_read D.follows Remade disk.old disk.new }
     ensures disk { HasCauseAt (result ≡ Err Halt.DiskFault) (D.faults disk.old) (D.faults disk.new) }
@@ -132,8 +136,9 @@ fn exercise_all<D: Disk, O: Sink + Drop>(
         → Ended (exercise n (state (D.files disk.old).pkg db.old.store)) (state (D.files disk.old).pkg db.old.store)
         (state (D.files disk.new).pkg db.new.store) result
         (outputs O.tells (O.taken (inner out.old)) err_tells err) (outputs O.tells (O.taken (inner out.new)) err_tells err) }
-    ensures limits { IsTrue D.tells → LimitsTurn true (state (D.files disk.old).pkg db.old.store) db.old.store db.new.store
-        (changes n (state (D.files disk.old).pkg db.old.store)) result }
+    ensures limits { IsTrue D.tells → Renewed (units_needed (D.files disk.old).pkg (Ok db.old.store))
+        (λ mid. LimitsTurn true (state (D.files disk.old).pkg db.old.store) db.old.store db.new.store mid (D.files disk.new)
+        (changes n (state (D.files disk.old).pkg db.old.store)) result) (D.files disk.old) }
     ensures current { IfOk result (λ _tally. IsCurrent D.Disk disk.new db.new) }
     ensures indexed { is_indexed db.new ≡ true }
     ensures spent { IfErr result (IsSpent db.new) }
@@ -191,8 +196,9 @@ pub fn exercise<D: Disk, O: Sink + Drop>(
     ensures ended { IsTrue D.tells → (err_tells : Bool) (err : List ℕ) → OnceBegun (λ r. Ended (exercise n (state (D.files disk.old).pkg db.old.store))
         (state (D.files disk.old).pkg db.old.store) (state (D.files disk.new).pkg db.new.store) r
         (outputs O.tells (O.taken (inner out.old)) err_tells err) (outputs O.tells (O.taken (inner out.new)) err_tells err)) result }
-    ensures limits { IsTrue D.tells → OnceBegun (λ r. LimitsTurn true (state (D.files disk.old).pkg db.old.store) db.old.store db.new.store
-        (changes n (state (D.files disk.old).pkg db.old.store)) r) result }
+    ensures limits { IsTrue D.tells → OnceBegun (λ r. Renewed (units_needed (D.files disk.old).pkg (Ok db.old.store))
+        (λ mid. LimitsTurn true (state (D.files disk.old).pkg db.old.store) db.old.store db.new.store mid (D.files disk.new)
+        (changes n (state (D.files disk.old).pkg db.old.store)) r) (D.files disk.old)) result }
     ensures current { IfOk result (λ _tally. IsCurrent D.Disk disk.new db.new) }
     ensures stop { OnceBegun (λ r. IfErr r (IsStop db.new)) result }
     ensures runs { Runs D.tells D.files D.left_since D.moment D.bytes_read D.follows SameLog disk.old disk.new }

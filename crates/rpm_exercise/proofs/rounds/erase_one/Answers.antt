@@ -20,6 +20,7 @@ returns-in-Ok-erase-clause-limits g c = λ told j rows.
     let done = c.in-Ok-erase.ensures in
     erased_limits j (state (g.D.Disk.files c.args.disk.now).pkg c.args.db.now.store) c.args.db.now c.erase.new.self.store c.in-Ok.number
     (c.args.b + c.args.i) c.in-Ok.ensures.value (record { failed = 0; changes = 1 }) done.causes done.placed done.generation (λ yes. done.full told c.requires.ready.going (rows yes))
+    (done.end told) (λ yes. done.reach told (rows yes))
 
 pub returns-in-Err-erase-clause-limits : goal.returns-in-Err-erase-clause-limits
 returns-in-Err-erase-clause-limits g c = λ told j rows.

@@ -17,7 +17,8 @@ invariant-loop-done g l = record {
       (state (g.D.Disk.files l.initial.disk).pkg l.initial.db.store) (state (g.D.Disk.files l.disk).pkg l.db.store) l.changes;
   limited : IsTrue g.D.Disk.tells → (indexed : Bool)
       → (indexed ≡ true → IsIndexed (g.D.Disk.files l.initial.disk).pkg (g.D.Disk.files l.initial.disk).idx l.initial.db) → Limited indexed (round_changes l.round l.b l.n) (flat_map (turn l.round l.b) (range_with_len (l.done + 1) (l.n - l.done)))
-      (state (g.D.Disk.files l.initial.disk).pkg l.initial.db.store) (state (g.D.Disk.files l.disk).pkg l.db.store) l.initial.db.store l.db.store;
+      (state (g.D.Disk.files l.initial.disk).pkg l.initial.db.store) (state (g.D.Disk.files l.disk).pkg l.db.store) l.initial.db.store l.db.store
+      (g.D.Disk.files l.initial.disk) (g.D.Disk.files l.disk);
   few : l.changes ≤ l.done;
   carried : IsCarried g.D.Disk.tells (g.D.Disk.files l.initial.disk) (g.D.Disk.files l.disk) (g.D.Disk.left_since l.disk (g.D.Disk.moment l.disk))
       l.initial.db l.db;

@@ -1,8 +1,9 @@
-use Rattle.std.proofs.Common.{sym, ap, subst}
+use Rattle.std.proofs.Common.{Ok, sym, ap, subst}
 use Rattle.rpm_outside.specs.Buffered.{inner}
 use Rattle.rpm_outside.specs.Files.{Files}
 use Rattle.rpm_db.specs.Database.{IsIndexed}
 use Rattle.rpm_db.specs.State.{state}
+use Rattle.rpm_change.specs.Limits.{LimitsTurn}
 use Rattle.rpm_exercise.specs.Rounds.{changes}
 use Rattle.rpm_exercise.proofs.Limited.{telling_limits}
 use Rattle.rpm_exercise.proofs.Reading.{read_after, serving_read}
@@ -62,3 +63,10 @@ returns-in-Err-tell-clause-limits g c = λ told j rows.
     let s = state (g.D.Disk.files c.args.disk.now).pkg c.args.db.now.store in
     telling_limits j s c.args.db.now.store c.change_all.new.db.store (changes c.args.n s) c.in-Err-tell.halt c.in-Err-tell.ensures.kinds
     (λ yes. c.in-Err-tell.ensures.lawful told (λ is. (c.in-Ok.ensures.carried.index told (rows yes)).rows_are))
+
+pub returns-in-Ok-tell-clause-limits : goal.returns-in-Ok-tell-clause-limits
+returns-in-Ok-tell-clause-limits g c = λ told j rows.
+    let old = g.D.Disk.files c.args.disk.now in
+    let s = state old.pkg c.args.db.now.store in
+    subst (λ (f : Files). LimitsTurn j s c.args.db.now.store c.change_all.new.db.store old f (changes c.args.n s) (Ok c.in-Ok.tally))
+    (sym (c.in-Ok-tell.ensures.runs.reads_as told)) (c.in-Ok.ensures.limits told j rows)

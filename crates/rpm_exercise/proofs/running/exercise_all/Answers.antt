@@ -1,4 +1,4 @@
-use Rattle.std.proofs.Common.{Result, Ok, Err, true, is_some, refl, ap, ◌∙◌, subst}
+use Rattle.std.proofs.Common.{Result, Ok, Err, true, is_some, refl, ap, ◌∙◌, subst, arith}
 use Rattle.std.specs.Prelude.{IfOk}
 use Rattle.rpm_outside.specs.Buffered.{inner}
 use Rattle.rpm_pkgdb.specs.Slots.{slot_with}
@@ -57,14 +57,30 @@ returns-in-Err-clause-runs g c =
 
 pub returns-in-Ok-clause-limits : goal.returns-in-Ok-clause-limits
 returns-in-Ok-clause-limits g c = λ told.
-    let same = state_remade (g.D.Disk.files c.args.disk.now) (g.D.Disk.files c.renew.new.disk) c.args.db.now c.renew.new.db
-    (c.in-Ok.ensures.runs.reads_as told) c.in-Ok.ensures.store in
-    subst (λ (v : Store). LimitsTurn true (state (g.D.Disk.files c.args.disk.now).pkg c.args.db.now.store) v c.change_and_tell.new.db.store
-    (changes c.args.n (state (g.D.Disk.files c.args.disk.now).pkg c.args.db.now.store)) c.change_and_tell.result) c.in-Ok.ensures.store
-    (subst (λ (s : State). LimitsTurn true s c.renew.new.db.store c.change_and_tell.new.db.store (changes c.args.n s) c.change_and_tell.result) same
-    (c.change_and_tell.ensures.limits told true (λ yes. c.in-Ok.ensures.current.index told)))
+    let f = g.D.Disk.files in
+    let said = c.in-Ok.ensures in
+    let mid = f c.renew.new.disk in
+    let new = f c.change_and_tell.new.disk in
+    let w = c.change_and_tell.new.db.store in
+    let r = c.change_and_tell.result in
+    let now = state (f c.args.disk.now).pkg c.args.db.now.store in
+    let same = state_remade (f c.args.disk.now) mid c.args.db.now c.renew.new.db (said.runs.reads_as told) said.store in
+    record {
+      mid = mid;
+      same = (said.runs.reads_as told).pkg;
+      made = said.reach told;
+      holds = subst (λ (v : Store). LimitsTurn true now v w mid new (changes c.args.n now) r) said.store
+          (subst (λ (s : State). LimitsTurn true s c.renew.new.db.store w mid new (changes c.args.n s) r) same
+          (c.change_and_tell.ensures.limits told true (λ yes. said.current.index told)));
+    }
 
 pub returns-in-Err-clause-limits : goal.returns-in-Err-clause-limits
 returns-in-Err-clause-limits g c = λ told.
-    let s = state (g.D.Disk.files c.args.disk.now).pkg c.args.db.now.store in
-    reading_limits true s c.args.db.now.store c.renew.new.db.store (changes c.args.n s) c.in-Err.halt c.in-Err.ensures.kinds
+    let old = g.D.Disk.files c.args.disk.now in
+    let s = state old.pkg c.args.db.now.store in
+    record {
+      mid = old;
+      same = refl;
+      made = omega arith;
+      holds = reading_limits true s c.args.db.now.store c.renew.new.db.store (changes c.args.n s) c.in-Err.halt c.in-Err.ensures.kinds;
+    }
