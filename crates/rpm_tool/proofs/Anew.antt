@@ -4,7 +4,7 @@ use Rattle.rpm_outside.specs.Files.{Files}
 use Rattle.rpm_pkgdb.specs.Store.{Store, store, in_file}
 use Rattle.rpm_db.specs.Changes.{Change}
 use Rattle.rpm_db.specs.Database.{Database, IsIndexed}
-use Rattle.rpm_db.specs.Lawful.{HasRows}
+use Rattle.rpm_db.specs.Lawful.{HasRows, IsLawful}
 use Rattle.rpm_db.specs.State.{State, state}
 use Rattle.rpm_change.specs.declared.tally.Halt.{Halt}
 use Rattle.rpm_change.specs.declared.tally.Halt.TheVariants as halt
@@ -14,6 +14,7 @@ use Rattle.rpm_change.specs.Endings.{Outputs, Done, Ended}
 use Rattle.rpm_change.specs.Limits.{first_limit, StopsAt}
 use Rattle.rpm_change.specs.inner.LimitLaws.{never_bad_made}
 use Rattle.rpm_tool.specs.declared.answer.Why.TheVariants as why
+use Rattle.rpm_tool.specs.Limits.{ReachesBy}
 use Rattle.rpm_tool.specs.Working.{OpensBy, WorkedWith, why_of_halt}
 use Rattle.rpm_tool.proofs.Brokens.{done_unbroken}
 use Rattle.rpm_tool.proofs.Works.{state-in_file, halted_by, done_by}
@@ -44,11 +45,13 @@ module _ (course : State → Course) (old mid new : Files) (db last : Database) 
     bad = λ unit is. absurd (unbroken found db.store (course found).changes h unit stops is);
     made = tt;
     index = λ _. tt;
+    reached = tt;
   }
 
   pub done_anew : (tally : Tally) → OpensBy old (store old.pkg) mid (Ok db) → store new.pkg ≡ Ok (in_file last.store)
-      → Done (course found) found (state new.pkg last.store) tally before now → 1 ≤ last.store.pages → IsIndexed new.pkg new.idx last → WorkedWith true false course old new (Ok tally) before now
-  done_anew tally opens keeps done paged indexed = record {
+      → Done (course found) found (state new.pkg last.store) tally before now → 1 ≤ last.store.pages → IsIndexed new.pkg new.idx last
+      → ReachesBy true (IsLawful old.pkg old.idx) course old new → WorkedWith true false course old new (Ok tally) before now
+  done_anew tally opens keeps done paged indexed reached = record {
     went = done_by course old mid new db last before now (store old.pkg) tally opens keeps done;
     bad = λ unit is. absurd (done_unbroken tally.failed unit is);
     made = record { value = in_file last.store; undamaged = keeps; paged = paged };
@@ -58,4 +61,5 @@ module _ (course : State → Course) (old mid new : Files) (db last : Database) 
       current = indexed.current;
       rows_are = subst (λ (t : State). HasRows t.packages new.idx) (sym (state-in_file new.pkg last.store)) indexed.rows_are;
     };
+    reached = reached;
   }

@@ -11,6 +11,8 @@ use Rattle.rpm_pkgdb.specs.declared.slot.Damage.{Damage}
 use Rattle.rpm_pkgdb.specs.Store.{Store, store, in_file}
 use Rattle.rpm_db.specs.Changes.{Change}
 use Rattle.rpm_db.specs.Database.{Database, IsIndexed, IsNext, holds}
+use Rattle.rpm_db.specs.Lawful.{IsLawful}
+use Rattle.rpm_db.specs.Openings.{units_needed}
 use Rattle.rpm_db.specs.Rows.{rows, rows_in}
 use Rattle.rpm_db.specs.State.{State, Package, state, packages}
 use Rattle.rpm_db.specs.inner.Laws.{is_there}
@@ -21,10 +23,10 @@ use Rattle.rpm_change.specs.Limits.{first_refusal, first_limit, StopsAt, LimitsT
 use Rattle.rpm_change.specs.inner.LimitLaws.{makes_small}
 use Rattle.rpm_exercise.specs.declared.running.ExerciseFault.{ExerciseFault}
 use Rattle.rpm_exercise.specs.declared.running.ExerciseFault.TheVariants.{NotEmpty, Halted}
-use Rattle.rpm_exercise.specs.Endings.{OnceBegun, IsRefused}
+use Rattle.rpm_exercise.specs.Endings.{OnceBegun, IsRefused, Renewed}
 use Rattle.rpm_exercise.specs.Exercised.{exercise}
 use Rattle.rpm_tool.specs.declared.answer.Why.TheVariants as why
-use Rattle.rpm_tool.specs.Limits.{begun, command_limit, LimitsOn}
+use Rattle.rpm_tool.specs.Limits.{begun, command_limit, LimitsOn, ReachesBy}
 use Rattle.rpm_tool.specs.Working.{OpensBy, WorkedBy, WorkedWith, why_of_exercise}
 use Rattle.rpm_tool.proofs.Anew.{halted_anew, done_anew}
 use Rattle.rpm_tool.proofs.Limited.{made_stops, limits_halted, limits_refused}
@@ -66,39 +68,42 @@ module _ (n : ℕ) (old mid new : Files) (db last : Database) (before now : Outp
 
   pub stopped_exercise : (fault : ExerciseFault) (t : State) → IsRefused (IsNext (λ m. holds m db) 0) (Err fault)
       → OnceBegun (λ r. Ended (exercise n found) found t r before now) (Err fault)
-      → OnceBegun (λ r. LimitsTurn true found db.store last.store (exercise n found).changes r) (Err fault) → ((held : ℕ) → fault ≡ NotEmpty held → Through [] before now)
+      → OnceBegun (λ r. Renewed (units_needed mid.pkg (Ok db.store)) (λ files. LimitsTurn true found db.store last.store files new (exercise n found).changes r) mid) (Err fault) → ((held : ℕ) → fault ≡ NotEmpty held → Through [] before now)
       → WorkedWith true false (λ s. exercise n s) old new (Err (why_of_exercise fault)) before now
   stopped_exercise (NotEmpty held) t refused ended turn nothing = record {
     went = unbegun (store old.pkg) held opens (nothing held refl);
     bad = λ unit is. absurd cc;
     made = tt;
     index = λ _. tt;
+    reached = tt;
   }
   stopped_exercise (Halted h) t refused ended turn nothing =
       halted_anew (λ s. exercise n s) old mid new db last before now h t opens ended
-      (renewed mid.pkg db (exercise n found).changes (Err h) zero refused turn.first)
+      (renewed mid.pkg db (exercise n found).changes (Err h) zero refused turn.holds.first)
 
   pub done_exercise : (tally : Tally) → IsNext (λ m. holds m db) 0 None → store new.pkg ≡ Ok (in_file last.store)
-      → Done (exercise n found) found (state new.pkg last.store) tally before now → 1 ≤ last.store.pages → IsIndexed new.pkg new.idx last → WorkedWith true false (λ s. exercise n s) old new (Ok tally) before now
-  done_exercise tally none keeps done paged indexed =
-      done_anew (λ s. exercise n s) old mid new db last before now tally opens keeps done paged indexed
+      → Done (exercise n found) found (state new.pkg last.store) tally before now → 1 ≤ last.store.pages → IsIndexed new.pkg new.idx last
+      → ReachesBy true (IsLawful old.pkg old.idx) (λ s. exercise n s) old new → WorkedWith true false (λ s. exercise n s) old new (Ok tally) before now
+  done_exercise tally none keeps done paged indexed reached =
+      done_anew (λ s. exercise n s) old mid new db last before now tally opens keeps done paged indexed reached
 
 -- ---- its limits
 
 pub exercise_stops : (indexed : Bool) (n : ℕ) (mid : Files) (db last : Database) (r : Result Tally Halt) → holds 0 db ≡ false
     → IsNext (λ m. holds m db) 0 None
-    → LimitsTurn true (state mid.pkg db.store) db.store last.store (exercise n (state mid.pkg db.store)).changes r
+    → StopsAt true (first_refusal true (state mid.pkg db.store) db.store (exercise n (state mid.pkg db.store)).changes) r
     → StopsAt indexed (command_limit indexed true (state mid.pkg db.store) db.store (exercise n (state mid.pkg db.store)).changes) r
 exercise_stops indexed n mid db last r zero none turn =
     made_stops indexed true (state mid.pkg db.store) db.store (exercise n (state mid.pkg db.store)).changes r
-    (renewed mid.pkg db (exercise n (state mid.pkg db.store)).changes r zero none turn.first)
+    (renewed mid.pkg db (exercise n (state mid.pkg db.store)).changes r zero none turn)
 
-pub limits_exercised : (indexed : Bool) (n : ℕ) (old mid : Files) (db last : Database) (opens : OpensBy old (store old.pkg) mid (Ok db))
+pub limits_exercised : {new : Files} (indexed : Bool) (n : ℕ) (old mid : Files) (db last : Database) (opens : OpensBy old (store old.pkg) mid (Ok db))
     → IfOk (store old.pkg) (λ value. db.store ≡ begun value) → holds 0 db ≡ false → (fault : ExerciseFault)
     → IsRefused (IsNext (λ m. holds m db) 0) (Err fault)
-    → OnceBegun (λ r. LimitsTurn true (state mid.pkg db.store) db.store last.store (exercise n (state mid.pkg db.store)).changes r) (Err fault)
+    → OnceBegun (λ r. Renewed (units_needed mid.pkg (Ok db.store)) (λ files. LimitsTurn true (state mid.pkg db.store) db.store last.store files new
+    (exercise n (state mid.pkg db.store)).changes r) mid) (Err fault)
     → LimitsOn indexed true (λ s. exercise n s) old (why_of_exercise fault)
 limits_exercised indexed n old mid db last opens begins zero (NotEmpty held) refused turn =
     limits_refused indexed true (λ s. exercise n s) old mid db opens begins held
 limits_exercised indexed n old mid db last opens begins zero (Halted h) refused turn =
-    limits_halted indexed true (λ s. exercise n s) old mid db opens begins h (λ s stored. exercise_stops indexed n mid db last (Err h) zero refused turn)
+    limits_halted indexed true (λ s. exercise n s) old mid db opens begins h (λ s stored. exercise_stops indexed n mid db last (Err h) zero refused turn.holds.first)

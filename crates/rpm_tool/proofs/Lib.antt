@@ -58,6 +58,7 @@ mod Recovered
 mod Regrouped
 mod Rising
 mod RowsFit
+mod Reached
 mod Standing
 mod Starved
 mod Stopping

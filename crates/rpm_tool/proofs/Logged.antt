@@ -1,5 +1,6 @@
 -- The log of a command that changes packages: when it is full.
 use Rattle.std.proofs.Common.{◌≡◌, ℕ, ◌^◌, ◌<◌, ◌≤◌, Bool, true, false, Result, Ok, Err, refl, sym, ap, ◌∙◌, subst, inl, inr}
+use Rattle.std.specs.Prelude.{IfOk}
 use Rattle.rpm_outside.specs.Files.{Files}
 use Rattle.rpm_group.specs.Commits.{CommitSays}
 use Rattle.rpm_group.specs.Groups.{longest_log}
@@ -17,12 +18,13 @@ use Rattle.rpm_change.specs.Steps.{Course}
 use Rattle.rpm_change.specs.Endings.{Outputs}
 use Rattle.rpm_tool.specs.declared.answer.Why.{Why}
 use Rattle.rpm_tool.specs.declared.answer.Why.TheVariants as why
+use Rattle.rpm_tool.specs.Changing.{MayBegin}
 use Rattle.rpm_tool.specs.Answers.{why_of_load, unless_starved}
 use Rattle.rpm_tool.specs.Keyed.{why_of_recover}
-use Rattle.rpm_tool.specs.Limits.{LogIs, LogOn}
+use Rattle.rpm_tool.specs.Limits.{LogIs, LogOn, ReachedOn, ReachesOn, ReachesBy}
 use Rattle.rpm_tool.specs.Working.{CommittedAs, WorkedBy, EndsAs, is_halt, done_why}
 use Rattle.rpm_tool.proofs.Ended.{worked_state}
-use Rattle.rpm_tool.proofs.Standing.{if_ok}
+use Rattle.rpm_tool.proofs.Standing.{if_ok, if_ok_at}
 use Rattle.rpm_tool.proofs.Outcomes.{done_is}
 
 -- ---- the commit
@@ -89,10 +91,11 @@ log_starved made true w is = log_memory made w is
 
 -- ---- a group
 
-module _ (course : State → Course) (files new : Files) (before now : Outputs) where
+module _ (indexed : Bool) (course : State → Course) (files new : Files) (before now : Outputs) where
   log_of : (given : Why) → LogIs new given
-      → ((needed : ℕ) → given ≡ why.LogFull needed → (tally : Tally) × WorkedBy course files.pkg (store files.pkg) new (Ok tally) before now)
-      → LogOn course files given
+      → ((needed : ℕ) → given ≡ why.LogFull needed → (tally : Tally) × WorkedBy course files.pkg (store files.pkg) new (Ok tally) before now
+      × ReachesOn indexed course files new)
+      → LogOn indexed course files given
   log_of why.Done is worked = tt
   log_of (why.Failed n) is worked = tt
   log_of (why.Usage f) is worked = tt
@@ -110,6 +113,7 @@ module _ (course : State → Course) (files new : Files) (before now : Outputs) 
         new,
         worked_state course (state files.pkg s) new done.0 before now
             (subst (λ (sr : Result Store Damage). WorkedBy course files.pkg sr new (Ok done.0) before now) stored done.1),
+        if_ok_at (λ (v : Store). ReachedOn indexed files.pkg files.idx v (state files.pkg v) (course (state files.pkg v)).changes new) (store files.pkg) s stored done.2,
         is.0,
         is.1,
       )))
@@ -121,25 +125,34 @@ module _ (course : State → Course) (files new : Files) (before now : Outputs) 
 
   -- only one that was done can be too long
   full_worked : (ended : Result Tally Why) (given : Why) (n needed : ℕ) → EndsAs ended given n → ((w : Why) → ended ≡ Err w → is_halt w ≡ true)
-      → WorkedBy course files.pkg (store files.pkg) new ended before now → given ≡ why.LogFull needed
-      → (tally : Tally) × WorkedBy course files.pkg (store files.pkg) new (Ok tally) before now
-  full_worked (Ok tally) given n needed ends halted worked is = (tally, worked)
-  full_worked (Err was) given n needed (none, inl same) halted worked is =
+      → WorkedBy course files.pkg (store files.pkg) new ended before now → IfOk ended (λ tally. ReachesOn indexed course files new) → given ≡ why.LogFull needed
+      → (tally : Tally) × WorkedBy course files.pkg (store files.pkg) new (Ok tally) before now × ReachesOn indexed course files new
+  full_worked (Ok tally) given n needed ends halted worked reached is = (tally, worked, reached)
+  full_worked (Err was) given n needed (none, inl same) halted worked reached is =
       absurd (let wrong : false ≡ true = ap is_halt (sym is ∙ same) ∙ halted was refl in cc)
-  full_worked (Err was) given n needed (none, inr both) halted worked is =
+  full_worked (Err was) given n needed (none, inr both) halted worked reached is =
       absurd (let wrong : true ≡ false = ap is_halt (sym both.1 ∙ is) in cc)
 
   pub log_grouped : (ended : Result Tally Why) (given : Why) (n : ℕ) → EndsAs ended given n → ((w : Why) → ended ≡ Err w → is_halt w ≡ true)
-      → WorkedBy course files.pkg (store files.pkg) new ended before now → LogIs new given → LogOn course files given
-  log_grouped ended given n ends halted worked is = log_of given is (λ needed full. full_worked ended given n needed ends halted worked full)
+      → WorkedBy course files.pkg (store files.pkg) new ended before now → IfOk ended (λ tally. ReachesOn indexed course files new) → LogIs new given
+      → LogOn indexed course files given
+  log_grouped ended given n ends halted worked reached is =
+      log_of given is (λ needed full. full_worked ended given n needed ends halted worked reached full)
+
+-- what was reached where the index is asked or isn't
+pub reached_asked : {anew : Bool} {Lawful : Type 0} {course : State → Course} {files new : Files} (ended : Result Tally Why) (indexed : Bool)
+    → (indexed ≡ true → MayBegin anew Lawful) → IfOk ended (λ tally. ReachesBy anew Lawful course files new)
+    → IfOk ended (λ tally. ReachesOn indexed course files new)
+reached_asked (Ok tally) indexed may reached = reached indexed may
+reached_asked (Err given) indexed may reached = tt
 
 -- ---- not begun
 
-pub log_unloaded : (course : State → Course) (files : Files) (fault : LoadFault) → LogOn course files (why_of_load fault)
-log_unloaded course files (load.BadLog unit) = tt
-log_unloaded course files load.DiskFault = tt
-log_unloaded course files load.NoMemory = tt
+pub log_unloaded : (indexed : Bool) (course : State → Course) (files : Files) (fault : LoadFault) → LogOn indexed course files (why_of_load fault)
+log_unloaded indexed course files (load.BadLog unit) = tt
+log_unloaded indexed course files load.DiskFault = tt
+log_unloaded indexed course files load.NoMemory = tt
 
-pub log_unrecovered : (course : State → Course) (files : Files) (fault : RecoverFault) → LogOn course files (why_of_recover fault)
-log_unrecovered course files (recover.BadLog unit) = tt
-log_unrecovered course files recover.DiskFault = tt
+pub log_unrecovered : (indexed : Bool) (course : State → Course) (files : Files) (fault : RecoverFault) → LogOn indexed course files (why_of_recover fault)
+log_unrecovered indexed course files (recover.BadLog unit) = tt
+log_unrecovered indexed course files recover.DiskFault = tt

@@ -19,7 +19,7 @@ use Rattle.rpm_tool.specs.declared.answer.Why.{Why}
 use Rattle.rpm_tool.specs.declared.answer.Why.TheVariants as why
 use Rattle.rpm_tool.specs.Keyed.{IsLawfulGroup, AreLawfulGroups, StandsStill}
 use Rattle.rpm_tool.specs.Changing.{HasState, StandsStillOr, LeavesState, BadBy, ChangesWith, RowsFit, AllFit, after, is_done_or_fault}
-use Rattle.rpm_tool.specs.Limits.{LimitsOn, LimitsBy, StoodStill, ToldAll, FaultIs}
+use Rattle.rpm_tool.specs.Limits.{LimitsOn, LimitsBy, StoodStill, ToldAll, FaultIs, LogBy, LogOn}
 use Rattle.rpm_tool.proofs.Standing.{if_ok, if_ok_at, may_begin}
 
 -- an image stands still that stands for what one of these stands for
@@ -147,3 +147,9 @@ module _ {D : Type 0} (files : D → Files) (left_since : D → ℕ → Files �
         → LimitsBy anew (IsLawfulGroup (files old)) course (reopened (files old)) given
     recovered_limits limits = λ indexed may. subst (λ (f : Files). LimitsOn indexed anew course f given) stands
         (limits indexed (λ asked. may_begin anew lawful_mid (may asked)))
+
+    -- and its log is as long
+    pub recovered_log : LogBy anew (IsLawfulGroup (files mid)) course (reopened (files mid)) given
+        → LogBy anew (IsLawfulGroup (files old)) course (reopened (files old)) given
+    recovered_log log = λ indexed may. subst (λ (f : Files). LogOn indexed course f given) stands
+        (log indexed (λ asked. may_begin anew lawful_mid (may asked)))

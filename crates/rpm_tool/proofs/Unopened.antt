@@ -49,6 +49,7 @@ open_with anew changing course old new w before now opens none = record {
   bad = λ unit is. absurd (open_unbroken old new (store old.pkg) w unit opens is);
   made = tt;
   index = λ _. tt;
+  reached = tt;
 }
 
 pub open_worked : (course : State → Course) (old new : Files) (w : Why) (before now : Outputs) → OpensBy old (store old.pkg) new (Err w)

@@ -45,10 +45,12 @@ worked_none course log load.DiskFault old new before now closed says none = reco
   bad = λ unit is. absurd cc;
   made = tt;
   index = λ lawful. tt;
+  reached = tt;
 }
 worked_none course log load.NoMemory old new before now closed says none = record {
   went = worked_memory course old.pkg (store old.pkg) new before now none;
   bad = λ unit is. absurd cc;
   made = tt;
   index = λ lawful. tt;
+  reached = tt;
 }

@@ -13,6 +13,7 @@ use Rattle.rpm_change.specs.declared.tally.Tally.{Tally}
 use Rattle.rpm_change.specs.Steps.{Course}
 use Rattle.rpm_change.specs.Endings.{Outputs, Done, Ended, WholeTurn}
 use Rattle.rpm_tool.specs.Changing.{IsBroken}
+use Rattle.rpm_tool.specs.Limits.{ReachesBy}
 use Rattle.rpm_tool.specs.Working.{OpensBy, Stopped, WorkedBy, WorkedWith, Worked, why_of_halt}
 use Rattle.rpm_tool.proofs.Brokens.{done_unbroken, halt_unbroken}
 
@@ -54,6 +55,7 @@ module _ (course : State → Course) (old mid new : Files) (db last : Database) 
     bad = λ unit is. (refl, broken (λ was. halt_unbroken new.idx h unit (whole was) is));
     made = tt;
     index = λ lawful. tt;
+    reached = tt;
   }
 
   pub done_by : (sr : Result Store Damage) (tally : Tally) → OpensBy old sr mid (Ok db) → store new.pkg ≡ Ok (in_file last.store)
@@ -68,8 +70,9 @@ module _ (course : State → Course) (old mid new : Files) (db last : Database) 
 
   pub done_worked : {changing : Bool} (tally : Tally) → OpensBy old (store old.pkg) mid (Ok db) → store new.pkg ≡ Ok (in_file last.store)
       → Done (course found) found (state new.pkg last.store) tally before now
-      → 1 ≤ last.store.pages → (IsLawful old.pkg old.idx → IsIndexed new.pkg new.idx last) → WorkedWith false changing course old new (Ok tally) before now
-  done_worked tally opens keeps done paged indexed = record {
+      → 1 ≤ last.store.pages → (IsLawful old.pkg old.idx → IsIndexed new.pkg new.idx last) → ReachesBy false (IsLawful old.pkg old.idx) course old new
+      → WorkedWith false changing course old new (Ok tally) before now
+  done_worked tally opens keeps done paged indexed reached = record {
     went = done_by (store old.pkg) tally opens keeps done;
     bad = λ unit is. absurd (done_unbroken tally.failed unit is);
     made = record { value = in_file last.store; undamaged = keeps; paged = paged };
@@ -79,4 +82,5 @@ module _ (course : State → Course) (old mid new : Files) (db last : Database) 
       current = (indexed lawful).current;
       rows_are = subst (λ (t : State). HasRows t.packages new.idx) (sym (state-in_file new.pkg last.store)) (indexed lawful).rows_are;
     };
+    reached = reached;
   }

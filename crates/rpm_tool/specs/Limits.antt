@@ -1,18 +1,22 @@
 -- The limits of a command that changes packages: the first that it meets is the one that it is answered; and when the disk failed. On it rest
 -- `limits`, `log` and `fault` of `changes` on the page (Theorem.antt).
-use Rattle.std.specs.Prelude.{◌≡◌, ◌⊎◌, ℕ, ◌^◌, ◌<◌, ◌≤◌, ◌==◌, if◌then◌else◌, List, Bool, true, false, Option, Some, None, IfOk}
+use Rattle.std.specs.Prelude.{◌≡◌, ◌⊎◌, ℕ, ◌^◌, ◌<◌, ◌≤◌, ◌==◌, if◌then◌else◌, max, List, length, Bool, true, false, Option, Some, None, IfOk}
 use Rattle.rpm_outside.specs.Crash.{LeavesOnly}
-use Rattle.rpm_outside.specs.Files.{Files}
+use Rattle.rpm_outside.specs.Files.{Units, Files}
 use Rattle.rpm_outside.specs.Logs.{reopened}
+use Rattle.rpm_hindex.specs.Sizes.{units_for}
+use Rattle.rpm_pkgdb.specs.Reaches.{store_end}
 use Rattle.rpm_pkgdb.specs.Store.{Store, store}
 use Rattle.rpm_pkgdb.specs.Written.{made_new}
 use Rattle.rpm_group.specs.Groups.{longest_log}
 use Rattle.rpm_db.specs.Changes.{Change, Says}
+use Rattle.rpm_db.specs.Rows.{rows}
 use Rattle.rpm_db.specs.State.{State, state}
 use Rattle.rpm_change.specs.declared.tally.Halt.{Halt}
 use Rattle.rpm_change.specs.declared.tally.Halt.TheVariants as halt
 use Rattle.rpm_change.specs.Endings.{Outputs, Through}
 use Rattle.rpm_change.specs.Limits.{first_refusal, first_limit}
+use Rattle.rpm_change.specs.Reaches.{pkg_reach, idx_reach}
 use Rattle.rpm_change.specs.Steps.{Course}
 use Rattle.rpm_tool.specs.declared.answer.Why.{Why}
 use Rattle.rpm_tool.specs.declared.answer.Why.TheVariants as why
@@ -50,6 +54,22 @@ LimitsOn indexed anew course files given = IfOk (store files.pkg) (λ value. Mee
 abbrev pub LimitsBy : Bool → Type 0 → (State → Course) → Files → Why → Type 0
 LimitsBy anew Lawful course files given = (indexed : Bool) → (indexed ≡ true → MayBegin anew Lawful) → LimitsOn indexed anew course files given
 
+-- ---- how far a group reaches
+
+-- no file is longer than these changes make what was found: a blank Packages.db gets its first page before them, and Hindex.db may be made
+pub record ReachedOn (indexed : Bool) (pkg idx : Units) (value : Store) (s : State) (changes : List Change) (made : Files) : Type 0 where
+  pub pkg_is : length made.pkg ≤ pkg_reach (max (length pkg) (store_end (begun value))) (begun value) changes
+  pub idx_is : indexed ≡ true → length made.idx ≤ idx_reach (max (length idx) (units_for (rows s.packages))) s changes
+
+-- of a course, on files whose Packages.db isn't damaged
+abbrev pub ReachesOn : Bool → (State → Course) → Files → Files → Type 0
+ReachesOn indexed course files made =
+    IfOk (store files.pkg) (λ value. ReachedOn indexed files.pkg files.idx value (state files.pkg value) (course (state files.pkg value)).changes made)
+
+-- the index is asked as above
+abbrev pub ReachesBy : Bool → Type 0 → (State → Course) → Files → Files → Type 0
+ReachesBy anew Lawful course files made = (indexed : Bool) → (indexed ≡ true → MayBegin anew Lawful) → ReachesOn indexed course files made
+
 -- ---- the log
 
 -- a log of so many units is refused, which no log of a group that leaves these files is longer than
@@ -57,14 +77,19 @@ abbrev pub LogIs : Files → Why → Type 0
 LogIs made (why.LogFull needed) = (2 ^ 28 < needed) × (needed ≤ longest_log made)
 LogIs made others = Unit {0}
 
--- of a group that leaves this state
-abbrev pub IsTooLong : ℕ → State → Type 0
-IsTooLong needed s = (made : Files) × Says (λ t. t ≡ s) made.pkg × (2 ^ 28 < needed) × (needed ≤ longest_log made)
+-- of a group that leaves this state, and files that reach no further
+abbrev pub IsTooLong : ℕ → State → (Files → Type 0) → Type 0
+IsTooLong needed s Reached = (made : Files) × Says (λ t. t ≡ s) made.pkg × Reached made × (2 ^ 28 < needed) × (needed ≤ longest_log made)
 
 -- of a course, on files whose Packages.db isn't damaged
-abbrev pub LogOn : (State → Course) → Files → Why → Type 0
-LogOn course files (why.LogFull needed) = IfOk (store files.pkg) (λ value. IsTooLong needed (after course (state files.pkg value)))
-LogOn course files others = Unit {0}
+abbrev pub LogOn : Bool → (State → Course) → Files → Why → Type 0
+LogOn indexed course files (why.LogFull needed) = IfOk (store files.pkg) (λ value. IsTooLong needed (after course (state files.pkg value))
+    (ReachedOn indexed files.pkg files.idx value (state files.pkg value) (course (state files.pkg value)).changes))
+LogOn indexed course files others = Unit {0}
+
+-- the index is asked as above
+abbrev pub LogBy : Bool → Type 0 → (State → Course) → Files → Why → Type 0
+LogBy anew Lawful course files given = (indexed : Bool) → (indexed ≡ true → MayBegin anew Lawful) → LogOn indexed course files given
 
 -- ---- a fault of the disk
 

@@ -18,7 +18,7 @@ use Rattle.rpm_tool.specs.Frame.{images, pkg_read, Leaves, LeavesIn}
 use Rattle.rpm_tool.specs.Given.{given_on}
 use Rattle.rpm_tool.specs.History.{RunCall, course_of}
 use Rattle.rpm_tool.specs.Keyed.{AreLawfulGroups, IsLawfulGroup, StandsStill, IsReady, KeyedIs, FullIs, BadIs, HasRoom, is_done, is_done_or_outside}
-use Rattle.rpm_tool.specs.Limits.{LimitsBy, LogOn, FaultIs}
+use Rattle.rpm_tool.specs.Limits.{LimitsBy, LogBy, FaultIs}
 use Rattle.rpm_tool.specs.PackageFiles.{query_files}
 use Rattle.rpm_tool.specs.Tasks.{asked_task, asked_course, is_anew, changes_index, needs_none, reads_shelf}
 
@@ -93,7 +93,8 @@ pub record LineIs {D : Type 0} (d : disk.Ghosts D) (shelf : Bool) (paths : Paths
   pub fault : OfChange call.words shelf (λ a. Ends (λ mid. FaultIs (is_anew (asked_task call.words a)) d.files d.left_since d.moment
       (asked_course paths call.moment call.words a) call.outcome.why old.disk new.disk old.taken mid)
       (closing call.words call.outcome.why) new.taken old.err_faults new.err_faults)
-  pub log : OfChange call.words shelf (λ a. LogOn (asked_course paths call.moment call.words a) (reopened (d.files old.disk)) call.outcome.why)
+  pub log : OfChange call.words shelf (λ a. LogBy (is_anew (asked_task call.words a)) (IsLawfulGroup (d.files old.disk))
+      (asked_course paths call.moment call.words a) (reopened (d.files old.disk)) call.outcome.why)
   -- faults
   pub disk_fault : HasCauseAt (call.outcome.why ≡ why.DiskFault) (d.faults old.disk) (d.faults new.disk)
   pub shelf_fault : HasCauseAt (call.outcome.why ≡ why.ShelfFault) old.shelf_faults new.shelf_faults

@@ -30,7 +30,7 @@ use Rattle.rpm_tool.specs.Asked.{is_query, of_files, by_key, is_changing, asks_c
 use Rattle.rpm_tool.specs.Changing.{DidOn, ChangesWith, EmptyBy}
 use Rattle.rpm_tool.specs.Frame.{images, pkg_read, Leaves, LeavesIn}
 use Rattle.rpm_tool.specs.Keyed.{AreLawfulGroups, IsLawfulGroup, StandsStill, IsReady, KeyedIs, FullIs, BadIs, HasRoom, is_done, is_done_or_outside, keyed_cost}
-use Rattle.rpm_tool.specs.Limits.{LimitsBy, LogOn, FaultIs}
+use Rattle.rpm_tool.specs.Limits.{LimitsBy, LogBy, FaultIs}
 use Rattle.rpm_tool.specs.PackageFiles.{passing, query_files}
 use Rattle.rpm_tool.specs.Queries.{picked, argument_part, query_of, AreOfEach, AreQuestions}
 use Rattle.rpm_tool.specs.Tasks.{asked_task, asked_course, reads_shelf, is_anew, changes_index, needs_none}
@@ -100,7 +100,8 @@ module _ {D S : Type 0} {d : disk.Ghosts D} {s : shelf.Ghosts S} where
         (reopened (d.files r.found)) r.why
     pub fault : FaultIs (is_anew (asked_task r.words a)) d.files d.left_since d.moment course r.why
         r.found r.left r.before mid
-    pub log : LogOn course (reopened (d.files r.found)) r.why
+    pub log : LogBy (is_anew (asked_task r.words a)) (IsLawfulGroup (d.files r.found)) course
+        (reopened (d.files r.found)) r.why
 
   -- What is done for a command that was read, by its kind.
   pub record Does (r : Run d s) (a : AskParts) (tree : Tree) (mid : Outputs) : Type 0 where

@@ -1,6 +1,6 @@
 -- What a changing command does on the disk over which its changes are held, and how the group ends. No field of the page (Theorem.antt) rests on
 -- it: so the functions below `run` say to each other what becomes `changes` there.
-use Rattle.std.specs.Prelude.{◌≡◌, ◌⊎◌, ℕ, ◌^◌, ◌<◌, ◌≤◌, ◌==◌, if◌then◌else◌, [], Bool, true, false, Result, Ok, Err, IfOk}
+use Rattle.std.specs.Prelude.{◌≡◌, ◌⊎◌, ℕ, ◌^◌, ◌<◌, ◌≤◌, ◌==◌, if◌then◌else◌, max, [], length, Bool, true, false, Result, Ok, Err, IfOk}
 use Rattle.rpm_outside.specs.Changes.{AreSettled}
 use Rattle.rpm_outside.specs.Crash.{LeavesOnly}
 use Rattle.rpm_outside.specs.Files.{Units, Files}
@@ -10,6 +10,7 @@ use Rattle.rpm_group.specs.declared.commit.CommitFault.TheVariants as commit
 use Rattle.rpm_group.specs.Groups.{BeforeOrAfter}
 use Rattle.rpm_group.specs.Settled.{ReopensAs}
 use Rattle.rpm_pkgdb.specs.declared.slot.Damage.{Damage}
+use Rattle.rpm_pkgdb.specs.Reaches.{store_end}
 use Rattle.rpm_pkgdb.specs.Store.{Store, store}
 use Rattle.rpm_db.specs.declared.open_fault.DbOpenFault.{DbOpenFault}
 use Rattle.rpm_db.specs.declared.open_fault.DbOpenFault.TheVariants as opening
@@ -28,6 +29,7 @@ use Rattle.rpm_tool.specs.declared.answer.Why.{Why}
 use Rattle.rpm_tool.specs.declared.answer.Why.TheVariants as why
 use Rattle.rpm_tool.specs.Answers.{Refused}
 use Rattle.rpm_tool.specs.Changing.{Did, BadBy, MayBegin, HasCurrent, IsMade, is_done_or_fault}
+use Rattle.rpm_tool.specs.Limits.{ReachesBy}
 use Rattle.rpm_tool.specs.Keyed.{is_done}
 
 -- ---- opening
@@ -45,6 +47,11 @@ abbrev pub OpensBy : Files → Result Store Damage → Files → Result Database
 OpensBy old (Ok s) new result = OpensIn (must_make old.idx (Ok s)) (units_needed old.pkg (Ok s)) (state old.pkg s) new result
 OpensBy old (Err damage) new (Ok db) = ⊥
 OpensBy old (Err damage) new (Err given) = Refused damage given
+
+-- no file is longer than what is found of this store, the store that is opened, or the index that may be made
+pub record OpensWithin (old : Files) (value : Store) (db : Database) (new : Files) : Type 0 where
+  pub pkg : length new.pkg ≤ max (length old.pkg) (store_end db.store)
+  pub idx : length new.idx ≤ max (length old.idx) (units_needed old.pkg (Ok value))
 
 -- the answer of a command for each fault of opening
 abbrev pub why_of_open : DbOpenFault → Why
@@ -127,6 +134,7 @@ pub record WorkedWith (anew changing : Bool) (course : State → Course) (old ne
   pub bad : BadBy changing old.pkg old.idx (why_of ended)
   pub made : IfOk ended (λ tally. IsMade new.pkg)
   pub index : MayBegin anew (IsLawful old.pkg old.idx) → IfOk ended (λ tally. HasCurrent new.pkg new.idx)
+  pub reached : IfOk ended (λ tally. ReachesBy anew (IsLawful old.pkg old.idx) course old new)
 
 -- of one that makes it where it isn't current, and changes it
 abbrev pub Worked : (State → Course) → Files → Files → Result Tally Why → Outputs → Outputs → Type 0

@@ -1,15 +1,18 @@
 //! Opening the database to change it.
 
-ghost use Rattle.std.specs.Prelude.{◌≡◌, true, false, not, IsTrue, Err, IfOk, IfErr, OnOk};
+ghost use Rattle.std.specs.Prelude.{◌≡◌, [], true, false, not, IsTrue, Err, IfOk, IfErr, OnOk};
 ghost use Rattle.rpm_outside.specs.Changes.{IsSettled};
+ghost use Rattle.rpm_hindex.specs.Sizes.{units_for};
+ghost use Rattle.rpm_pkgdb.specs.Reaches.{ReachesTo};
 ghost use Rattle.rpm_pkgdb.specs.Store.{store};
 ghost use Rattle.rpm_db.specs.Database as database;
 ghost use Rattle.rpm_db.specs.Database.{is_blank, is_indexed};
 ghost use Rattle.rpm_db.specs.Lawful.{IsLawful, IsWholeIndex};
+ghost use Rattle.rpm_db.specs.Reaches.{ReachesMade};
 ghost use Rattle.rpm_db.specs.inner.Writes.{SameLog};
 ghost use Rattle.rpm_tool.specs.Changing.{IsBroken};
 ghost use Rattle.rpm_tool.specs.Limits.{begun};
-ghost use Rattle.rpm_tool.specs.Working.{OpensBy, IsOutside, IsOfOpening, why_of_open};
+ghost use Rattle.rpm_tool.specs.Working.{OpensBy, OpensWithin, IsOutside, IsOfOpening, why_of_open};
 ghost use Rattle.rpm_tool.specs.Frame.{Runs, DiskFault, images, Serving, Indexed, state_in};
 
 use crate::answer::Why;
@@ -43,6 +46,8 @@ fn make_blank<D: Disk>(alloc: Global, db: &mut Db, disk: &mut D) -> Result<(), W
     ensures not_blank { OnOk result (is_blank db.new ≡ false) }
     ensures rows { OnOk result (IsTrue D.tells → (is_blank db.old ≡ false → Indexed D.Disk disk.old db.old) → Indexed D.Disk disk.new db.new) }
     ensures whole { OnOk result (IsTrue D.tells → (is_blank db.old ≡ false → IsWholeIndex (D.files disk.old).idx) → IsWholeIndex (D.files disk.new).idx) }
+    ensures reach { OnOk result (IsTrue D.tells → ReachesMade (units_for []) (D.files disk.old).idx (D.files disk.new).idx) }
+    ensures end { OnOk result (IsTrue D.tells → ReachesTo db.new.store (D.files disk.old).pkg (D.files disk.new).pkg) }
     ensures fault { IfErr result IsOutside }
     ensures runs { Runs D.Disk SameLog disk.old disk.new }
     ensures disk { DiskFault D.Disk (result ≡ Err Why.DiskFault) disk.old disk.new }
@@ -65,6 +70,8 @@ pub(crate) fn open_to_change<D: Disk>(alloc: Global, disk: &mut D) -> Result<Db,
     ensures rows { IfOk result (λ db. IsTrue D.tells → IsLawful (D.files disk.old).pkg (D.files disk.old).idx → Indexed D.Disk disk.new db) }
     ensures broken { IfOk result (λ _db. IsTrue D.tells → ¬ IsWholeIndex (D.files disk.new).idx → IsBroken (D.files disk.old).pkg (D.files disk.old).idx) }
     ensures begun { IfOk result (λ db. IsTrue D.tells → IfOk (store (D.files disk.old).pkg) (λ value. db.store ≡ begun value)) }
+    ensures reach { IfOk result (λ db. IsTrue D.tells → IfOk (store (D.files disk.old).pkg)
+        (λ value. OpensWithin (D.files disk.old) value db (D.files disk.new))) }
     ensures not_blank { IfOk result (λ db. is_blank db ≡ false) }
     ensures fault { IfErr result IsOfOpening }
     ensures runs { Runs D.Disk SameLog disk.old disk.new }

@@ -7,7 +7,7 @@ use Rattle.rpm_change.specs.Endings.{Outputs}
 use Rattle.rpm_tool.specs.declared.answer.Why.{Why}
 use Rattle.rpm_tool.specs.Changing.{DidOn, ChangesWith}
 use Rattle.rpm_tool.specs.Keyed.{IsLawfulGroup}
-use Rattle.rpm_tool.specs.Limits.{LimitsBy, LogOn, FaultIs}
+use Rattle.rpm_tool.specs.Limits.{LimitsBy, LogBy, FaultIs}
 use Rattle.rpm_tool.specs.Tasks.{TaskParts, task_course, is_anew, changes_index}
 
 -- what it answers, what it leaves, which limit it is answered, and how long its log is where that is refused
@@ -17,4 +17,4 @@ pub record OneChange {D : Type 0} (files : D → Files) (left_since : D → ℕ 
   pub changed : ChangesWith (is_anew task) (changes_index task) files left_since moment (task_course paths now task) given changes old new
   pub limits : LimitsBy (is_anew task) (IsLawfulGroup (files old)) (task_course paths now task) (reopened (files old)) given
   pub fault : FaultIs (is_anew task) files left_since moment (task_course paths now task) given old new before behind
-  pub log : LogOn (task_course paths now task) (reopened (files old)) given
+  pub log : LogBy (is_anew task) (IsLawfulGroup (files old)) (task_course paths now task) (reopened (files old)) given

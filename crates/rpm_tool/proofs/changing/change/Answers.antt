@@ -6,10 +6,9 @@ use Rattle.rpm_change.specs.Endings.{outputs}
 use Rattle.rpm_tool.specs.Changing.{EmptyBy}
 use Rattle.rpm_tool.specs.Tasks.{task_parts, task_course, is_anew, needs_none}
 use Rattle.rpm_tool.proofs.Emptied.{recover_empty}
-use Rattle.rpm_tool.specs.Limits.{LogOn}
 use Rattle.rpm_tool.proofs.LimitEnds.{limits_unrecovered}
 use Rattle.rpm_tool.proofs.Logged.{log_unrecovered}
-use Rattle.rpm_tool.proofs.Regrouped.{recovered_changes, recovered_limits, recovered_fault}
+use Rattle.rpm_tool.proofs.Regrouped.{recovered_changes, recovered_limits, recovered_log, recovered_fault}
 use Rattle.rpm_tool.proofs.Unmade.{through_none, recovered_did, unrecovered_did, unrecovered_changes, unrecovered_fault}
 use Rattle.rpm_db.specs.State.{State}
 use Rattle.rpm_change.specs.Steps.{Course}
@@ -38,7 +37,8 @@ returns-in-Ok-clause-one g c = λ told shelf.
           (outputs g.O.Sink.tells (g.O.Sink.taken (inner c.args.out.now)) g.E.Sink.tells (g.E.Sink.taken (inner c.args.err.now)))
           (outputs g.O.Sink.tells (g.O.Sink.taken (inner c.change_recovered.new.out)) g.E.Sink.tells
           (g.E.Sink.taken (inner c.change_recovered.new.err))) one.fault;
-      log = subst (λ (f : Files). LogOn course f given) (first.stands told) one.log;
+      log = recovered_log D.files D.left_since D.moment course given c.change_recovered.result.0.changes old mid c.change_recovered.result.1
+          (g.met.D.Disk.as_read old told) (first.stands told) (first.images told) (first.closed told) (first.settled told) one.changed one.log;
     }
 
 pub returns-in-Ok-clause-empty : goal.returns-in-Ok-clause-empty
@@ -60,7 +60,7 @@ returns-in-Err-clause-one g c = λ told shelf.
       limits = λ indexed may. limits_unrecovered indexed (is_anew (task_parts c.args.task.now)) course (reopened (D.files old)) c.in-Err.fault;
       fault = unrecovered_fault D.files D.left_since D.moment course old c.recover.new.disk (g.met.D.Disk.as_read old told) (first.stands told)
           (first.images told) c.in-Err.fault x;
-      log = log_unrecovered course (reopened (D.files old)) c.in-Err.fault;
+      log = λ indexed may. log_unrecovered indexed course (reopened (D.files old)) c.in-Err.fault;
     })
 
 pub returns-in-Err-clause-empty : goal.returns-in-Err-clause-empty

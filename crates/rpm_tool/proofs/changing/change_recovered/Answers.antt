@@ -20,7 +20,7 @@ use Rattle.rpm_tool.proofs.Emptied.{load_empty, group_empty, same_empty}
 use Rattle.rpm_tool.proofs.Grouped.{group_did, group_changes, group_limits, group_fault}
 use Rattle.rpm_tool.proofs.Ends.{below_same, below_back, below_moment, below_settled, below_closed}
 use Rattle.rpm_tool.proofs.LimitEnds.{limits_unloaded}
-use Rattle.rpm_tool.proofs.Logged.{log_grouped, log_unloaded}
+use Rattle.rpm_tool.proofs.Logged.{log_grouped, log_unloaded, reached_asked}
 use Rattle.rpm_tool.proofs.Standing.{may_begin}
 use Rattle.rpm_tool.proofs.Unloaded.{unloaded_did, unloaded_changes, unloaded_fault}
 use Rattle.rpm_tool.proofs.changing.change_recovered.Goals as goal
@@ -81,8 +81,9 @@ returns-in-Ok-clause-one g c = λ told shelf.
           here (c.requires.settled told) back moment_same as_read limits;
       fault = group_fault D.files D.left_since D.moment course ended given n first last final new before now (c.requires.closed told) worked ends same
           here (c.requires.settled told) back moment_same as_read limits;
-      log = log_grouped course r new before now ended given n ends.says
+      log = λ indexed may. log_grouped indexed course r new before now ended given n ends.says
           (λ w is. subst (λ (e : Result Tally Why). IfErr e (λ w. is_halt w ≡ true)) is c.change_on-ended.ensures.halted) worked.went
+          (reached_asked ended indexed (λ asked. may_begin (is_anew t) (λ group. group.lawful) (may asked)) worked.reached)
           (c.end_group.ensures.log told);
     }
 
@@ -113,7 +114,7 @@ returns-in-Err-clause-one g c = λ told shelf.
       fault = unloaded_fault D.tells D.files D.left_since D.moment D.bytes_read D.follows course old back c.in-Err.ensures.looks told
           (c.requires.closed told) (c.requires.settled told) fault (c.in-Err.ensures.says told) x (g.met.D.Disk.as_read old told)
           (g.met.D.Disk.as_read back told);
-      log = log_unloaded course r fault;
+      log = λ indexed may. log_unloaded indexed course r fault;
     })
 
 pub returns-in-Err-clause-empty : goal.returns-in-Err-clause-empty

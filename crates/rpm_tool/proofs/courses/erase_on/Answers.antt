@@ -8,6 +8,7 @@ use Rattle.rpm_change.specs.Erasing.{erase}
 use Rattle.rpm_tool.proofs.Limited.{limits_unopened, limits_halted, limits_worked, plain_stops}
 use Rattle.rpm_tool.proofs.Paged.{still_paged}
 use Rattle.rpm_tool.proofs.Unmade.{through_none}
+use Rattle.rpm_tool.proofs.Reached.{reached_changed}
 use Rattle.rpm_tool.proofs.Works.{done_worked, halted_worked}
 use Rattle.rpm_tool.proofs.Unopened.{open_worked}
 use Rattle.rpm_tool.proofs.courses.erase_on.Goals as goal
@@ -29,6 +30,9 @@ returns-in-Ok-erase_numbers-clause-worked g c = λ told out_tells out.
     (still_paged (erase (state (g.D.Disk.files c.open_to_change.new.disk).pkg c.in-Ok.db.store) c.args.numbers.now).changes c.in-Ok.db
     c.erase_numbers.new.db.store c.in-Ok.ensures.not_blank (said.limits told false (λ asked. absurd cc)).stores)
     (λ lawful. said.carried.index told (c.in-Ok.ensures.rows told lawful))
+    (λ indexed may. reached_changed indexed (λ s. erase s c.args.numbers.now) (g.D.Disk.files c.args.disk.now) (g.D.Disk.files c.open_to_change.new.disk)
+    (g.D.Disk.files c.erase_numbers.new.disk) c.in-Ok.db (c.in-Ok.ensures.opened told) (c.in-Ok.ensures.begun told) (c.in-Ok.ensures.reach told)
+    (said.limits told indexed (λ asked. c.in-Ok.ensures.rows told (may asked))).reached)
 
 pub returns-in-Ok-erase_numbers-clause-runs : goal.returns-in-Ok-erase_numbers-clause-runs
 returns-in-Ok-erase_numbers-clause-runs g c =

@@ -3,12 +3,14 @@ use Rattle.rpm_outside.specs.Buffered.{inner}
 use Rattle.rpm_db.specs.State.{state}
 use Rattle.rpm_db.specs.inner.Running.{runs_then}
 use Rattle.rpm_db.specs.inner.Writes.{SameLog}
+use Rattle.rpm_change.specs.inner.ReachLaws.{reached_anew}
 use Rattle.rpm_change.specs.Endings.{Outputs, Through, outputs}
 use Rattle.rpm_exercise.specs.Exercised.{exercise}
 use Rattle.rpm_tool.proofs.Exercised.{stopped_exercise, done_exercise, exercise_stops, limits_exercised}
 use Rattle.rpm_tool.proofs.ExerciseEmpty.{empty_unopened, empty_stopped, empty_done}
 use Rattle.rpm_tool.proofs.Limited.{limits_unopened, limits_worked}
 use Rattle.rpm_tool.proofs.Paged.{still_paged}
+use Rattle.rpm_tool.proofs.Reached.{reached_renewed}
 use Rattle.rpm_tool.proofs.Unmade.{through_none}
 use Rattle.rpm_tool.proofs.Unopened.{open_with}
 use Rattle.rpm_tool.proofs.courses.exercise_on.Goals as goal
@@ -32,7 +34,15 @@ returns-in-Ok-exercise-clause-worked g c = λ told err_tells err.
     c.in-Ok.db c.exercise.new.db before now (c.in-Ok.ensures.opened told) (c.in-Ok.ensures.from_one told) c.in-Ok-exercise.tally said.empty
     (said.current.ready.serving told).keeps (said.ended told err_tells err)
     (still_paged (exercise c.args.headers (state (g.D.Disk.files c.open_to_change.new.disk).pkg c.in-Ok.db.store)).changes c.in-Ok.db c.exercise.new.db.store
-    c.in-Ok.ensures.not_blank (said.limits told).stores) (said.current.index told)
+    c.in-Ok.ensures.not_blank (said.limits told).holds.stores) (said.current.index told)
+    (λ indexed may.
+    let mid = g.D.Disk.files c.open_to_change.new.disk in
+    let db = c.in-Ok.db in
+    let s = state mid.pkg db.store in
+    let turn = said.limits told in
+    reached_renewed indexed (λ s. exercise c.args.headers s) (g.D.Disk.files c.args.disk.now) mid
+    (g.D.Disk.files c.exercise.new.disk) db (c.in-Ok.ensures.opened told) (c.in-Ok.ensures.begun told) (c.in-Ok.ensures.reach told)
+    (reached_anew s db.store (exercise c.args.headers s).changes mid turn.mid (g.D.Disk.files c.exercise.new.disk) turn.same turn.made turn.holds.reached))
 
 pub returns-in-Ok-exercise-clause-empty : goal.returns-in-Ok-exercise-clause-empty
 returns-in-Ok-exercise-clause-empty g c = λ told.
@@ -78,7 +88,7 @@ returns-in-Ok-exercise-clause-limits g c = λ told indexed may.
     limits_worked indexed true (λ s. exercise c.args.headers s) (g.D.Disk.files c.args.disk.now) (g.D.Disk.files c.open_to_change.new.disk) c.in-Ok.db
     (c.in-Ok.ensures.opened told) (c.in-Ok.ensures.begun told) c.in-Ok-exercise.tally
     (λ s stored. exercise_stops indexed c.args.headers (g.D.Disk.files c.open_to_change.new.disk) c.in-Ok.db c.exercise.new.db (Ok c.in-Ok-exercise.tally)
-    (c.in-Ok.ensures.from_one told) c.in-Ok-exercise.ensures.empty (c.in-Ok-exercise.ensures.limits told))
+    (c.in-Ok.ensures.from_one told) c.in-Ok-exercise.ensures.empty (c.in-Ok-exercise.ensures.limits told).holds.first)
 
 pub returns-clause-limits : goal.returns-clause-limits
 returns-clause-limits g c = λ told indexed may.

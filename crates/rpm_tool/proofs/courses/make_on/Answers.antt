@@ -1,9 +1,12 @@
 use Rattle.std.proofs.Common.{false, refl, Ok}
+use Rattle.rpm_db.specs.State.{state}
+use Rattle.rpm_change.specs.inner.ReachLaws.{reached_none}
 use Rattle.rpm_change.specs.Endings.{outputs}
 use Rattle.rpm_change.specs.Steps.{idle}
 use Rattle.rpm_tool.proofs.Limited.{limits_unopened, limits_worked, plain_stops}
 use Rattle.rpm_tool.proofs.Paged.{made_paged}
 use Rattle.rpm_tool.proofs.Unmade.{through_none}
+use Rattle.rpm_tool.proofs.Reached.{reached_changed}
 use Rattle.rpm_tool.proofs.Works.{done_worked}
 use Rattle.rpm_tool.proofs.Unopened.{open_with}
 use Rattle.rpm_tool.proofs.courses.make_on.Goals as goal
@@ -17,6 +20,8 @@ returns-clause-worked g c = λ told out_tells err_tells out err.
     told).keeps
     (record { steps = through_none x; failed = refl; changes = refl; state_is = refl })
     (made_paged c.in-Ok.db c.in-Ok.ensures.not_blank) (c.in-Ok.ensures.rows told)
+    (λ indexed may. reached_changed indexed (λ s. idle) old new new c.in-Ok.db (c.in-Ok.ensures.opened told) (c.in-Ok.ensures.begun told)
+    (c.in-Ok.ensures.reach told) (reached_none indexed (state new.pkg c.in-Ok.db.store) c.in-Ok.db.store new))
 
 pub returns-in-Err-clause-worked : goal.returns-in-Err-clause-worked
 returns-in-Err-clause-worked g c = λ told out_tells err_tells out err.

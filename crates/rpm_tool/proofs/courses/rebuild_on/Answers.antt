@@ -8,6 +8,7 @@ use Rattle.rpm_change.specs.Rebuilding.{rebuild}
 use Rattle.rpm_tool.proofs.Anew.{done_anew, halted_anew}
 use Rattle.rpm_tool.proofs.Limited.{limits_unopened, limits_halted, limits_worked, made_stops}
 use Rattle.rpm_tool.proofs.Paged.{still_paged}
+use Rattle.rpm_tool.proofs.Reached.{reached_renewed}
 use Rattle.rpm_tool.proofs.Unmade.{through_none}
 use Rattle.rpm_tool.proofs.Unopened.{open_with}
 use Rattle.rpm_tool.proofs.courses.rebuild_on.Goals as goal
@@ -28,6 +29,9 @@ returns-in-Ok-rebuild-clause-worked g c = λ told err_tells err.
     (said.ended told err_tells err)
     (still_paged (rebuild (state (g.D.Disk.files c.open_to_change.new.disk).pkg c.in-Ok.db.store)).changes c.in-Ok.db c.rebuild.new.db.store
     c.in-Ok.ensures.not_blank (said.stores told)) (said.index told)
+    (λ indexed may. reached_renewed indexed (λ s. rebuild s) (g.D.Disk.files c.args.disk.now) (g.D.Disk.files c.open_to_change.new.disk)
+    (g.D.Disk.files c.rebuild.new.disk) c.in-Ok.db (c.in-Ok.ensures.opened told) (c.in-Ok.ensures.begun told) (c.in-Ok.ensures.reach told)
+    (said.reach told))
 
 pub returns-in-Ok-rebuild-clause-runs : goal.returns-in-Ok-rebuild-clause-runs
 returns-in-Ok-rebuild-clause-runs g c =

@@ -9,6 +9,7 @@ use Rattle.rpm_change.specs.Adding.{replace}
 use Rattle.rpm_tool.proofs.Limited.{limits_unopened, limits_halted, limits_worked, plain_stops}
 use Rattle.rpm_tool.proofs.Paged.{still_paged}
 use Rattle.rpm_tool.proofs.Unmade.{through_none}
+use Rattle.rpm_tool.proofs.Reached.{reached_changed}
 use Rattle.rpm_tool.proofs.Works.{done_worked, halted_worked}
 use Rattle.rpm_tool.proofs.Unopened.{open_worked}
 use Rattle.rpm_tool.proofs.courses.replace_on.Goals as goal
@@ -32,6 +33,9 @@ returns-in-Ok-replace_package-clause-worked g c = λ told telling out_tells out.
     (still_paged (course (state (g.D.Disk.files c.open_to_change.new.disk).pkg c.in-Ok.db.store)).changes c.in-Ok.db c.replace_package.new.db.store
     c.in-Ok.ensures.not_blank (said.limits told telling false (λ asked. absurd cc)).stores)
     (λ lawful. said.carried.index told (c.in-Ok.ensures.rows told lawful))
+    (λ indexed may. reached_changed indexed course (g.D.Disk.files c.args.disk.now) (g.D.Disk.files c.open_to_change.new.disk)
+    (g.D.Disk.files c.replace_package.new.disk) c.in-Ok.db (c.in-Ok.ensures.opened told) (c.in-Ok.ensures.begun told) (c.in-Ok.ensures.reach told)
+    (said.limits told telling indexed (λ asked. c.in-Ok.ensures.rows told (may asked))).reached)
 
 pub returns-in-Ok-replace_package-clause-runs : goal.returns-in-Ok-replace_package-clause-runs
 returns-in-Ok-replace_package-clause-runs g c =

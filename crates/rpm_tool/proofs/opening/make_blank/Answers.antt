@@ -1,4 +1,4 @@
-use Rattle.std.proofs.Common.{Ok, sym, ap, ◌∙◌, subst}
+use Rattle.std.proofs.Common.{length, Ok, sym, ap, ◌∙◌, subst, arith}
 use Rattle.rpm_db.specs.Database.{Database}
 use Rattle.rpm_db.specs.Lawful.{IsWholeIndex}
 use Rattle.rpm_tool.proofs.Limited.{begun_blank, begun_made}
@@ -24,3 +24,17 @@ returns-in-Ok-false-clause-whole g c = λ told some.
     let said = c.in-Ok-false.ensures in
     let no = c.in-Ok-false.field-0-test in
     subst (λ (d : _). IsWholeIndex (g.D.Disk.files d).idx) (sym (said.same (ap Ok no)).1) (some (sym said.made ∙ no))
+
+pub returns-in-Ok-true-clause-reach : goal.returns-in-Ok-true-clause-reach
+returns-in-Ok-true-clause-reach g c = c.in-Ok-true.ensures.reach (ap Ok c.in-Ok-true.field-0-test)
+
+pub returns-in-Ok-true-clause-end : goal.returns-in-Ok-true-clause-end
+returns-in-Ok-true-clause-end g c = c.in-Ok-true.ensures.end (ap Ok c.in-Ok-true.field-0-test)
+
+pub returns-in-Ok-false-clause-reach : goal.returns-in-Ok-false-clause-reach
+returns-in-Ok-false-clause-reach g c = λ told.
+    omega (arith, ap (λ (d : _). length (g.D.Disk.files d).idx) (c.in-Ok-false.ensures.same (ap Ok c.in-Ok-false.field-0-test)).1)
+
+pub returns-in-Ok-false-clause-end : goal.returns-in-Ok-false-clause-end
+returns-in-Ok-false-clause-end g c = λ told.
+    omega (arith, ap (λ (d : _). length (g.D.Disk.files d).pkg) (c.in-Ok-false.ensures.same (ap Ok c.in-Ok-false.field-0-test)).1)

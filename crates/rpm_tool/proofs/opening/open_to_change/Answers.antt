@@ -1,13 +1,16 @@
-use Rattle.std.proofs.Common.{is_some, refl, sym, ap, ◌∙◌}
+use Rattle.std.proofs.Common.{length, is_some, refl, sym, ap, ◌∙◌, arith}
 use Rattle.std.specs.FinMap as finite
 use Rattle.rpm_db.specs.inner.Laws.{is_there}
-use Rattle.rpm_db.specs.State.{State}
+use Rattle.rpm_db.specs.Openings.{units_needed}
+use Rattle.rpm_db.specs.Rows.{rows}
+use Rattle.rpm_db.specs.State.{State, packages}
 use Rattle.rpm_db.specs.inner.Running.{runs_none, runs_then}
 use Rattle.rpm_db.specs.inner.Writes.{SameLog}
 use Rattle.rpm_db.specs.Lawful.{Remade}
 use Rattle.rpm_pkgdb.specs.Store.{store}
 use Rattle.rpm_tool.specs.Limits.{begun}
 use Rattle.rpm_tool.proofs.Brokens.{open_broken}
+use Rattle.rpm_tool.proofs.Reached.{least_units}
 use Rattle.rpm_tool.proofs.Standing.{if_ok}
 use Rattle.rpm_tool.proofs.Limited.{stored_one}
 use Rattle.rpm_tool.proofs.Opened.{open_refused, open_made, open_unmade, open_kinds}
@@ -69,3 +72,17 @@ pub returns-in-Ok-make_blank-clause-begun : goal.returns-in-Ok-make_blank-clause
 returns-in-Ok-make_blank-clause-begun g c = λ told.
     if_ok (store (g.D.Disk.files c.args.disk.now).pkg) (λ value is.
     c.in-Ok-make_blank.ensures.begun ∙ ap begun (stored_one _ value c.in-Ok.db.store is (c.in-Ok.ensures.opened told).store_is))
+
+pub returns-in-Ok-make_blank-clause-reach : goal.returns-in-Ok-make_blank-clause-reach
+returns-in-Ok-make_blank-clause-reach g c = λ told.
+    let old = g.D.Disk.files c.args.disk.now in
+    if_ok (store old.pkg) (λ value is. record {
+      pkg = omega (arith, c.in-Ok-make_blank.ensures.end told, ap length (c.in-Ok.ensures.runs.reads_as told).pkg);
+      idx = omega (
+        arith,
+        c.in-Ok-make_blank.ensures.reach told,
+        c.in-Ok.ensures.reach told,
+        ap (units_needed old.pkg) is,
+        least_units (rows (packages old.pkg value)),
+      );
+    })
