@@ -28,16 +28,20 @@ pub struct Image {
 }
 
 impl Draft {
-    /// No records yet.
-    fn new(alloc: Global, buckets: u32) -> Result<Draft, AllocError>
-        requires { is_bucket_count buckets ≡ true }
+    /// No records yet, and room for those that have so many units.
+    fn new(alloc: Global, buckets: u32, live: usize) -> Result<Draft, AllocError>
+        requires buckets { is_bucket_count buckets ≡ true }
+        requires live { live ≤ 2 ^ 28 }
         ensures heads { IfOk result (λ draft. length draft.heads.items ≡ buckets) }
         ensures long { IfOk result (λ draft. length draft.bytes.items ≡ 16 * (1 + buckets / 4)) }
         ensures rows { IfOk result (λ draft. IsDraft [] draft.heads.items draft.bytes.items) }
     {
+        let front = 16 + 4 * buckets as usize;
+        let mut bytes = Vec::with_capacity(alloc, front + 16 * live)?;
+        bytes.resize(front, 0)?;
         Ok(Draft {
             heads: vec![in alloc; 0u32; buckets as usize]?,
-            bytes: vec![in alloc; 0u8; 16 + 4 * buckets as usize]?,
+            bytes,
         })
     }
 }
@@ -139,7 +143,7 @@ impl Image {
         ensures buckets { IfOk result (λ image. image.buckets ≡ buckets) }
         ensures made { IfOk result (λ image. IsImage rows.now buckets image.bytes.items) }
     {
-        let mut draft = Draft::new(alloc, buckets)?;
+        let mut draft = Draft::new(alloc, buckets, rows.live() as usize)?;
         add_records(&mut draft, rows)?;
         let second = counts_of(buckets, rows);
         let front = front_of(alloc, &second, &draft.heads)?;

@@ -5,11 +5,11 @@ use Rattle.rpm_hindex.proofs.image.Draft.new.Goals as goal
 
 pub returns-clause-long : goal.returns-clause-long
 returns-clause-long c =
-    let f : Few c.args.buckets = few c.args.buckets c.requires in
-    omega (arith, c.in_ok-vec-2.ensures.len, f.fours)
+    let f : Few c.args.buckets = few c.args.buckets c.requires.buckets in
+    omega (arith, c.in_ok-resize.ensures.len, f.fours)
 
 pub returns-clause-rows : goal.returns-clause-rows
 returns-clause-rows c =
-    let f : Few c.args.buckets = few c.args.buckets c.requires in
-    let long : length c.in_ok-vec-2.field-0.items ≡ 16 * (1 + c.args.buckets / 4) = omega (arith, c.in_ok-vec-2.ensures.len, f.fours) in
-    draft_none c.args.buckets c.requires c.in_ok-vec.field-0.items c.in_ok-vec-2.field-0.items (c.in_ok-vec.ensures.items_if_clones_equal (λ y e. e)) long
+    let f : Few c.args.buckets = few c.args.buckets c.requires.buckets in
+    let long : length c.resize.new.self.items ≡ 16 * (1 + c.args.buckets / 4) = omega (arith, c.in_ok-resize.ensures.len, f.fours) in
+    draft_none c.args.buckets c.requires.buckets c.in_ok-vec.field-0.items c.resize.new.self.items (c.in_ok-vec.ensures.items_if_clones_equal (λ y e. e)) long
