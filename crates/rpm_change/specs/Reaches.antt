@@ -16,7 +16,7 @@ pkg_reach units value [] = units
 pkg_reach units value (change ∷ changes) =
     pkg_reach (max units (store_end (unwrap_or (next_store change value) value))) (unwrap_or (next_store change value) value) changes
 
--- Hindex.db gets the records that a change adds behind what it has, or is made from scratch
+-- Hindex.db gets the records that a change adds after what it has, or is made from scratch
 abbrev pub idx_reach : ℕ → State → List Change → ℕ
 idx_reach units s [] = units
 idx_reach units s (change ∷ changes) = idx_reach (max (units + added s change) (needed s change)) (apply change s) changes

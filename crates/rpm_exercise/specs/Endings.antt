@@ -77,7 +77,7 @@ IsRefused IsFirst (Ok tally) = IsFirst None
 IsRefused IsFirst (Err (Halted h)) = IsFirst None
 IsRefused IsFirst (Err (NotEmpty number)) = IsFirst (Some number)
 
--- so of files whose index was made anew of these: it has the units that it had, or those that its rows need
+-- so of files whose index was rebuilt of these: it has the units that it had, or those that its rows need
 pub record Renewed (needed : ℕ) (P : Files → Type 0) (old : Files) : Type 0 where
   pub mid : Files
   pub same : mid.pkg ≡ old.pkg
