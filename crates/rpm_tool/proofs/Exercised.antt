@@ -97,13 +97,13 @@ exercise_stops indexed n mid db last r zero none turn =
     made_stops indexed true (state mid.pkg db.store) db.store (exercise n (state mid.pkg db.store)).changes r
     (renewed mid.pkg db (exercise n (state mid.pkg db.store)).changes r zero none turn)
 
-pub limits_exercised : {new : Files} (indexed : Bool) (n : ℕ) (old mid : Files) (db last : Database) (opens : OpensBy old (store old.pkg) mid (Ok db))
+pub limits_exercised : (indexed : Bool) (n : ℕ) (old mid new : Files) (db last : Database) (opens : OpensBy old (store old.pkg) mid (Ok db))
     → IfOk (store old.pkg) (λ value. db.store ≡ begun value) → holds 0 db ≡ false → (fault : ExerciseFault)
     → IsRefused (IsNext (λ m. holds m db) 0) (Err fault)
     → OnceBegun (λ r. Renewed (units_needed mid.pkg (Ok db.store)) (λ files. LimitsTurn true (state mid.pkg db.store) db.store last.store files new
     (exercise n (state mid.pkg db.store)).changes r) mid) (Err fault)
     → LimitsOn indexed true (λ s. exercise n s) old (why_of_exercise fault)
-limits_exercised indexed n old mid db last opens begins zero (NotEmpty held) refused turn =
+limits_exercised indexed n old mid new db last opens begins zero (NotEmpty held) refused turn =
     limits_refused indexed true (λ s. exercise n s) old mid db opens begins held
-limits_exercised indexed n old mid db last opens begins zero (Halted h) refused turn =
+limits_exercised indexed n old mid new db last opens begins zero (Halted h) refused turn =
     limits_halted indexed true (λ s. exercise n s) old mid db opens begins h (λ s stored. exercise_stops indexed n mid db last (Err h) zero refused turn.holds.first)

@@ -20,6 +20,7 @@ mod Ends
 mod ExerciseEmpty
 mod ExerciseFits
 mod Exercised
+mod FileReach
 mod Filed
 mod Fitting
 mod Fixtures
@@ -58,7 +59,6 @@ mod Recovered
 mod Regrouped
 mod Rising
 mod RowsFit
-mod Reached
 mod Standing
 mod Starved
 mod Stopping

@@ -140,11 +140,11 @@ module _ (indexed : Bool) (course : State → Course) (files new : Files) (befor
       log_of given is (λ needed full. full_worked ended given n needed ends halted worked reached full)
 
 -- what was reached where the index is asked or isn't
-pub reached_asked : {anew : Bool} {Lawful : Type 0} {course : State → Course} {files new : Files} (ended : Result Tally Why) (indexed : Bool)
+pub reached_asked : (anew : Bool) (Lawful : Type 0) (course : State → Course) (files new : Files) (ended : Result Tally Why) (indexed : Bool)
     → (indexed ≡ true → MayBegin anew Lawful) → IfOk ended (λ tally. ReachesBy anew Lawful course files new)
     → IfOk ended (λ tally. ReachesOn indexed course files new)
-reached_asked (Ok tally) indexed may reached = reached indexed may
-reached_asked (Err given) indexed may reached = tt
+reached_asked anew Lawful course files new (Ok tally) indexed may reached = reached indexed may
+reached_asked anew Lawful course files new (Err given) indexed may reached = tt
 
 -- ---- not begun
 

@@ -1,77 +1,51 @@
--- How far a command makes the files reach, from the opening on.
-use Rattle.std.proofs.Common.{◌≡◌, ℕ, zero, suc, ◌+◌, ◌*◌, ◌/◌, ◌≤◌, max, if◌then◌else◌, Bool, true, List, [], length, Result, Ok, refl, sym, ap, subst, arith}
-use Rattle.std.specs.Prelude.{IfOk, nat_le}
-use Rattle.std.proofs.lemmas.Bool.{cases_Bool}
-use Rattle.rpm_outside.specs.Files.{Files}
-use Rattle.rpm_hindex.specs.Rows.{Row}
-use Rattle.rpm_hindex.specs.Sizes.{units_for, doubled}
-use Rattle.rpm_hindex.specs.Sizes as sizes
-use Rattle.rpm_pkgdb.specs.declared.slot.Damage.{Damage}
-use Rattle.rpm_pkgdb.specs.Reaches.{store_end}
-use Rattle.rpm_pkgdb.specs.Store.{Store, store}
-use Rattle.rpm_db.specs.Changes.{Change}
+-- What is read of the numbers that a picker goes over.
+use Rattle.std.proofs.Common.{◌≡◌, ℕ, ◌+◌, ◌-◌, ◌<◌, ◌≤◌, Bool, Result, Ok, Err, Option, Some, None, sym, subst, arith}
+use Rattle.std.specs.Prelude.{IfOk, IfSome}
+use Rattle.rpm_db.specs.State.{packages}
 use Rattle.rpm_db.specs.Database.{Database}
-use Rattle.rpm_db.specs.Rows.{rows}
-use Rattle.rpm_db.specs.State.{State, state}
-use Rattle.rpm_change.specs.Reaches.{pkg_reach, idx_reach, Reached, ReachedAnew}
-use Rattle.rpm_change.specs.Steps.{Course}
-use Rattle.rpm_change.specs.inner.ReachLaws.{pkg_more, idx_more}
-use Rattle.rpm_tool.specs.Limits.{begun, ReachedOn, ReachesOn}
-use Rattle.rpm_tool.specs.Working.{OpensBy, OpensWithin}
-use Rattle.rpm_tool.proofs.Standing.{if_ok, if_ok_at}
+use Rattle.rpm_select.specs.declared.picker.Picked.{Picked}
+use Rattle.rpm_select.specs.declared.picker.Picked.TheVariants as pick
+use Rattle.rpm_select.specs.Picks.{entry_in, number_in}
+use Rattle.rpm_select.specs.inner.Costing.{reach_up, reach_some}
+use Rattle.rpm_select.specs.Reach.{Reach, Serves, HasIndexRows, reach_to, reach_all}
+use Rattle.rpm_select.specs.declared.selection.Selection.{Selection}
+use Rattle.rpm_pkgdb.specs.Store.{Store}
+use Rattle.rpm_outside.specs.Files.{Files}
+use Rattle.rpm_tool.specs.declared.step.Stop.{Stop}
+use Rattle.rpm_tool.specs.Reads.{reach_until}
 
--- ---- an index of no rows is the least
+-- up to the package that was picked
+pub entry_reach : (r : Reach) (db : Database) (n : ℕ) (p : Picked) (before now : ℕ) → n < number_in p
+    → now ≤ before + (reach_to (number_in p) r db - reach_to n r db) → now + reach_to n r db ≤ before + reach_to (entry_in p).0 r db
+entry_reach r db n (pick.Good number blob) before now lt le = omega (arith, le, reach_up r db n number (omega (arith, lt)))
+entry_reach r db n (pick.Bad number) before now lt le = omega (arith, le, reach_up r db n number (omega (arith, lt)))
 
-doubled_more : (n buckets records : ℕ) → buckets ≤ doubled n buckets records
-doubled_more zero buckets records = omega arith
-doubled_more (suc n) buckets records = elim (cases_Bool (nat_le records (2 * buckets))) [
-  | inl small ↦ omega (arith, ap (λ (b : Bool). if b then buckets else doubled n (2 * buckets) records) small)
-  | inr large ↦
-      omega (arith, ap (λ (b : Bool). if b then buckets else doubled n (2 * buckets) records) large, doubled_more n (2 * buckets) records)
-]
+pub reach_one : (r : Reach) (db : Database) (n m : ℕ) (done : Result (Option (ℕ × Bool)) Stop) → IfOk done (λ o. IfSome o (λ e. e.0 ≡ m))
+    → reach_to m r db - reach_to n r db ≤ reach_until n r db done
+reach_one r db n m (Ok None) same = omega (arith, reach_some r db m)
+reach_one r db n m (Ok (Some e)) same = rw same (omega arith)
+reach_one r db n m (Err what) same = omega (arith, reach_some r db m)
 
-pub least_units : (all : List Row) → units_for [] ≤ units_for all
-unfolding sizes.bucket_count sizes.live_of
-least_units all = let is : units_for [] ≡ 18 = refl in omega (arith, is, doubled_more (length all) 64 (length all))
+-- one more of them
+pub reach_then : (r : Reach) (db : Database) (low n m before between now : ℕ) → n ≤ m → between + reach_to low r db ≤ before + reach_to n r db
+    → now ≤ between + (reach_to m r db - reach_to n r db) → now + reach_to low r db ≤ before + reach_to m r db
+reach_then r db low n m before between now le first second = omega (arith, reach_up r db n m le, first, second)
 
--- ---- after the opening
+-- the rest of them
+pub reach_rest : (r : Reach) (db : Database) (low n before between now : ℕ) → between + reach_to low r db ≤ before + reach_to n r db
+    → now ≤ between + (reach_all r db - reach_to n r db) → now + reach_to low r db ≤ before + reach_all r db
+reach_rest r db low n before between now first second = omega (arith, reach_some r db n, first, second)
 
-module _ (indexed : Bool) (course : State → Course) (old mid new : Files) (db : Database) (opens : OpensBy old (store old.pkg) mid (Ok db))
-    (begins : IfOk (store old.pkg) (λ value. db.store ≡ begun value)) (within : IfOk (store old.pkg) (λ value. OpensWithin old value db mid)) where
-  abbrev found : State
-  found = state mid.pkg db.store
+-- what serves the packages that were there serves them where nothing changes
+pub served : (sel : Selection) (s : Store) (p q : Reach) (f f' : Files) → p ≡ q → f ≡ f' → Serves q (packages f'.pkg s) sel → Serves p (packages f.pkg s) sel
+served sel s p q f f' same files serves =
+    subst (λ (g : Files). Serves p (packages g.pkg s) sel) (sym files) (subst (λ (r : Reach). Serves r (packages f'.pkg s) sel) (sym same) serves)
 
-  abbrev made : List Change
-  made = (course found).changes
+-- those above a number, and then those up to it
+pub reach_both : (r : Reach) (db : Database) (n before between now : ℕ) → between + reach_to n r db ≤ before + reach_all r db
+    → now ≤ between + reach_to n r db → now ≤ before + reach_all r db
+reach_both r db n before between now first second = omega (arith, first, second)
 
-  reached_from : length new.pkg ≤ pkg_reach (length mid.pkg) db.store made
-      → (indexed ≡ true → length new.idx ≤ idx_reach (max (length mid.idx) (units_for (rows found.packages))) found made) → ReachesOn indexed course old new
-  reached_from pkg idx = if_ok (store old.pkg) (λ value stored.
-      (let same : found ≡ state old.pkg value = (subst (λ (sr : Result Store Damage). OpensBy old sr mid (Ok db)) stored opens).0 in
-      let from = if_ok_at (λ (v : Store). db.store ≡ begun v) (store old.pkg) value stored begins in
-      let opened = if_ok_at (λ (v : Store). OpensWithin old v db mid) (store old.pkg) value stored within in
-      let rows_same = ap (λ (s : State). units_for (rows s.packages)) same in
-      let last : length new.pkg ≤ pkg_reach (max (length old.pkg) (store_end db.store)) db.store made =
-      omega (arith, pkg, pkg_more made (length mid.pkg) (max (length old.pkg) (store_end db.store)) db.store opened.pkg) in
-      subst (λ (s : State). ReachedOn indexed old.pkg old.idx value s (course s).changes new) same
-      (record {
-        pkg_is = subst (λ (v : Store). length new.pkg ≤ pkg_reach (max (length old.pkg) (store_end v)) v made) from last;
-        idx_is = λ asked. omega (
-          arith,
-          idx asked,
-          idx_more made (max (length mid.idx) (units_for (rows found.packages))) (max (length old.idx) (units_for (rows found.packages))) found
-              (omega (arith, opened.idx, rows_same)),
-        );
-      })))
-
-  -- the index was only changed
-  pub reached_changed : Reached indexed found db.store made mid new → ReachesOn indexed course old new
-  reached_changed r = reached_from r.pkg (λ asked. omega (
-    arith,
-    r.idx asked,
-    idx_more made (length mid.idx) (max (length mid.idx) (units_for (rows found.packages))) found (omega arith),
-  ))
-
-  -- it was rebuilt before the changes
-  pub reached_renewed : ReachedAnew found db.store made mid new → ReachesOn indexed course old new
-  reached_renewed r = reached_from r.pkg (λ asked. r.idx)
+-- an index that held the rows holds them where nothing changes
+pub rows_at : (db : Database) (f f' : Files) → f ≡ f' → HasIndexRows db f'.pkg f'.idx → HasIndexRows db f.pkg f.idx
+rows_at db f f' same rows = subst (λ (g : Files). HasIndexRows db g.pkg g.idx) (sym same) rows

@@ -76,7 +76,7 @@ unstarted_one files left_since moment paths now task disk x =
       changed = unstarted_changes files left_since moment course disk;
       limits = λ indexed may. limits_starved indexed (is_anew task) course (reopened (files disk));
       fault = λ faulted. absurd cc;
-      log = tt;
+      log = λ indexed may. tt;
     }
 
 -- ---- a query changes nothing

@@ -83,7 +83,8 @@ returns-in-Ok-clause-one g c = λ told shelf.
           here (c.requires.settled told) back moment_same as_read limits;
       log = λ indexed may. log_grouped indexed course r new before now ended given n ends.says
           (λ w is. subst (λ (e : Result Tally Why). IfErr e (λ w. is_halt w ≡ true)) is c.change_on-ended.ensures.halted) worked.went
-          (reached_asked ended indexed (λ asked. may_begin (is_anew t) (λ group. group.lawful) (may asked)) worked.reached)
+          (reached_asked (is_anew t) (IsLawful r.pkg r.idx) course r new ended indexed
+          (λ asked. may_begin (is_anew t) (λ group. group.lawful) (may asked)) worked.reached)
           (c.end_group.ensures.log told);
     }
 

@@ -10,7 +10,7 @@ use Rattle.rpm_tool.proofs.Exercised.{stopped_exercise, done_exercise, exercise_
 use Rattle.rpm_tool.proofs.ExerciseEmpty.{empty_unopened, empty_stopped, empty_done}
 use Rattle.rpm_tool.proofs.Limited.{limits_unopened, limits_worked}
 use Rattle.rpm_tool.proofs.Paged.{still_paged}
-use Rattle.rpm_tool.proofs.Reached.{reached_renewed}
+use Rattle.rpm_tool.proofs.FileReach.{reached_renewed}
 use Rattle.rpm_tool.proofs.Unmade.{through_none}
 use Rattle.rpm_tool.proofs.Unopened.{open_with}
 use Rattle.rpm_tool.proofs.courses.exercise_on.Goals as goal
@@ -93,5 +93,5 @@ returns-in-Ok-exercise-clause-limits g c = λ told indexed may.
 pub returns-clause-limits : goal.returns-clause-limits
 returns-clause-limits g c = λ told indexed may.
     rw c.why_of_exercise.ensures.says (limits_exercised indexed c.args.headers (g.D.Disk.files c.args.disk.now)
-    (g.D.Disk.files c.open_to_change.new.disk) c.in-Ok.db c.exercise.new.db (c.in-Ok.ensures.opened told) (c.in-Ok.ensures.begun told)
+    (g.D.Disk.files c.open_to_change.new.disk) (g.D.Disk.files c.exercise.new.disk) c.in-Ok.db c.exercise.new.db (c.in-Ok.ensures.opened told) (c.in-Ok.ensures.begun told)
     (c.in-Ok.ensures.from_one told) c.in-Err-exercise.fault c.in-Err-exercise.ensures.empty (c.in-Err-exercise.ensures.limits told))

@@ -10,7 +10,7 @@ use Rattle.rpm_change.specs.Importing.{import_list, max_headers}
 use Rattle.rpm_tool.proofs.Limited.{limits_unopened, limits_halted, limits_worked, plain_stops}
 use Rattle.rpm_tool.proofs.Paged.{still_paged}
 use Rattle.rpm_tool.proofs.Unmade.{through_none}
-use Rattle.rpm_tool.proofs.Reached.{reached_changed}
+use Rattle.rpm_tool.proofs.FileReach.{reached_changed}
 use Rattle.rpm_tool.proofs.Works.{done_worked, halted_worked}
 use Rattle.rpm_tool.proofs.Unopened.{open_worked}
 use Rattle.rpm_tool.proofs.courses.import_on.Goals as goal

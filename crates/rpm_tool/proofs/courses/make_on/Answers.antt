@@ -6,7 +6,7 @@ use Rattle.rpm_change.specs.Steps.{idle}
 use Rattle.rpm_tool.proofs.Limited.{limits_unopened, limits_worked, plain_stops}
 use Rattle.rpm_tool.proofs.Paged.{made_paged}
 use Rattle.rpm_tool.proofs.Unmade.{through_none}
-use Rattle.rpm_tool.proofs.Reached.{reached_changed}
+use Rattle.rpm_tool.proofs.FileReach.{reached_changed}
 use Rattle.rpm_tool.proofs.Works.{done_worked}
 use Rattle.rpm_tool.proofs.Unopened.{open_with}
 use Rattle.rpm_tool.proofs.courses.make_on.Goals as goal

@@ -8,7 +8,7 @@ use Rattle.rpm_change.specs.Rebuilding.{rebuild}
 use Rattle.rpm_tool.proofs.Anew.{done_anew, halted_anew}
 use Rattle.rpm_tool.proofs.Limited.{limits_unopened, limits_halted, limits_worked, made_stops}
 use Rattle.rpm_tool.proofs.Paged.{still_paged}
-use Rattle.rpm_tool.proofs.Reached.{reached_renewed}
+use Rattle.rpm_tool.proofs.FileReach.{reached_renewed}
 use Rattle.rpm_tool.proofs.Unmade.{through_none}
 use Rattle.rpm_tool.proofs.Unopened.{open_with}
 use Rattle.rpm_tool.proofs.courses.rebuild_on.Goals as goal

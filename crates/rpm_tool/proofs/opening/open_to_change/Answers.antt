@@ -10,7 +10,7 @@ use Rattle.rpm_db.specs.Lawful.{Remade}
 use Rattle.rpm_pkgdb.specs.Store.{store}
 use Rattle.rpm_tool.specs.Limits.{begun}
 use Rattle.rpm_tool.proofs.Brokens.{open_broken}
-use Rattle.rpm_tool.proofs.Reached.{least_units}
+use Rattle.rpm_tool.proofs.FileReach.{least_units}
 use Rattle.rpm_tool.proofs.Standing.{if_ok}
 use Rattle.rpm_tool.proofs.Limited.{stored_one}
 use Rattle.rpm_tool.proofs.Opened.{open_refused, open_made, open_unmade, open_kinds}
