@@ -34,7 +34,7 @@ pub least_units : (all : List Row) → units_for [] ≤ units_for all
 unfolding sizes.bucket_count sizes.live_of
 least_units all = let is : units_for [] ≡ 18 = refl in omega (arith, is, doubled_more (length all) 64 (length all))
 
--- ---- behind the opening
+-- ---- after the opening
 
 module _ (indexed : Bool) (course : State → Course) (old mid new : Files) (db : Database) (opens : OpensBy old (store old.pkg) mid (Ok db))
     (begins : IfOk (store old.pkg) (λ value. db.store ≡ begun value)) (within : IfOk (store old.pkg) (λ value. OpensWithin old value db mid)) where
@@ -72,6 +72,6 @@ module _ (indexed : Bool) (course : State → Course) (old mid new : Files) (db 
     idx_more made (length mid.idx) (max (length mid.idx) (units_for (rows found.packages))) found (omega arith),
   ))
 
-  -- it was made anew before the changes
+  -- it was rebuilt before the changes
   pub reached_renewed : ReachedAnew found db.store made mid new → ReachesOn indexed course old new
   reached_renewed r = reached_from r.pkg (λ asked. r.idx)
