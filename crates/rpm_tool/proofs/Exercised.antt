@@ -68,7 +68,8 @@ module _ (n : ℕ) (old mid new : Files) (db last : Database) (before now : Outp
 
   pub stopped_exercise : (fault : ExerciseFault) (t : State) → IsRefused (IsNext (λ m. holds m db) 0) (Err fault)
       → OnceBegun (λ r. Ended (exercise n found) found t r before now) (Err fault)
-      → OnceBegun (λ r. Renewed (units_needed mid.pkg (Ok db.store)) (λ files. LimitsTurn true found db.store last.store files new (exercise n found).changes r) mid) (Err fault) → ((held : ℕ) → fault ≡ NotEmpty held → Through [] before now)
+      → OnceBegun (λ r. Renewed (units_needed mid.pkg (Ok db.store)) (λ files. LimitsTurn true found db.store last.store files new (exercise n found).changes r) mid) (Err fault)
+      → ((held : ℕ) → fault ≡ NotEmpty held → Through [] before now)
       → WorkedWith true false (λ s. exercise n s) old new (Err (why_of_exercise fault)) before now
   stopped_exercise (NotEmpty held) t refused ended turn nothing = record {
     went = unbegun (store old.pkg) held opens (nothing held refl);

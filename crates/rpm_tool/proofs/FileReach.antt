@@ -1,5 +1,5 @@
 -- How far a command makes the files reach, from the opening on.
-use Rattle.std.proofs.Common.{◌≡◌, ℕ, zero, suc, ◌+◌, ◌*◌, ◌/◌, ◌≤◌, max, if◌then◌else◌, Bool, true, List, [], length, Result, Ok, refl, sym, ap, subst, inl, inr, arith}
+use Rattle.std.proofs.Common.{◌≡◌, ℕ, zero, suc, ◌*◌, ◌≤◌, max, if◌then◌else◌, Bool, true, List, [], length, Result, Ok, refl, ap, subst, inl, inr, arith}
 use Rattle.std.specs.Prelude.{IfOk, nat_le}
 use Rattle.std.proofs.lemmas.Bool.{cases_Bool}
 use Rattle.rpm_outside.specs.Files.{Files}
