@@ -1,0 +1,42 @@
+#!/bin/sh
+# Whether the program answers over each database of this folder, which rpm's own code wrote, as NAME.expected has it: it is listed,
+# exported, verified, asked by key, changed and asked again. Those answers come from rpm (expect.sh), not from the program.
+#
+#   example/real/check.sh [PROGRAM]    PROGRAM is crates/rpm_prog/out/rpm_prog or such; the gate's or release/'s where none is given
+#
+# Copies are asked, in a folder that is removed at the end. Each difference is a line, and it fails.
+set -eu
+here=$(cd "$(dirname "$0")" && pwd)
+room=$(mktemp -d)
+trap 'rm -rf "$room"' EXIT
+HOME=$room TZ=UTC LC_ALL=C
+export HOME TZ LC_ALL
+program=${1-$("$here/../../release/program.sh" "$room")}
+program=$(cd "$(dirname "$program")" && pwd)/$(basename "$program")
+[ -x "$program" ] || { echo "real: there is no program $program" >&2; exit 1; }
+. "$here/answers.sh"
+
+rpm() {
+    "$program" rpm --dbpath "$database" "$@"
+}
+
+rpmdb() {
+    "$program" rpmdb --dbpath "$database" "$@"
+}
+
+failed=0
+cd "$room"
+for file in "$here"/*.db; do
+    name=$(basename "$file" .db)
+    database=$room/$name
+    mkdir "$database"
+    cp "$file" "$database/Packages.db"
+    chmod u+w "$database/Packages.db"
+    answers "$here/$name.expected" > "$room/answers"
+    if ! diff "$here/$name.expected" "$room/answers" > "$room/differences"; then
+        sed "s/^/real: $name: /" "$room/differences" >&2
+        failed=1
+    fi
+done
+[ "$failed" -ne 0 ] || echo "real: the databases that rpm's own code wrote are answered as rpm answers"
+exit "$failed"
