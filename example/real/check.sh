@@ -4,16 +4,18 @@
 #
 #   example/real/check.sh [PROGRAM]    PROGRAM is crates/rpm_prog/out/rpm_prog or such; the gate's or release/'s where none is given
 #
-# Copies are asked, in a folder that is removed at the end. Each difference is a line, and it fails.
+# Copies are asked, in folders that are removed at the end. Each difference is a line, and it fails.
 set -eu
 here=$(cd "$(dirname "$0")" && pwd)
 room=$(mktemp -d)
-trap 'rm -rf "$room"' EXIT
+# (in memory where that can be: there an fsync takes no time)
+databases=$(mktemp -d -p /dev/shm 2> /dev/null || mktemp -d)
+trap 'rm -rf "$room" "$databases"' EXIT
 HOME=$room TZ=UTC LC_ALL=C
 export HOME TZ LC_ALL
 program=${1-$("$here/../../release/program.sh" "$room")}
-program=$(cd "$(dirname "$program")" && pwd)/$(basename "$program")
 [ -x "$program" ] || { echo "real: there is no program $program" >&2; exit 1; }
+program=$(cd "$(dirname "$program")" && pwd)/$(basename "$program")
 . "$here/answers.sh"
 
 rpm() {
@@ -28,7 +30,7 @@ failed=0
 cd "$room"
 for file in "$here"/*.db; do
     name=$(basename "$file" .db)
-    database=$room/$name
+    database=$databases/$name
     mkdir "$database"
     cp "$file" "$database/Packages.db"
     chmod u+w "$database/Packages.db"
