@@ -9,8 +9,8 @@
 # what it built from them. Elsewhere, and with --prove, all crates are proved first and the program is built, which takes an hour or more.
 #
 # Below DIR stand afterwards: libexec/juzkarg/rpm_prog (the program), bin/rpm and bin/rpmdb (two lines each, which pass their own name
-# as the first word), the pages of man/ under share/man, and libexec/juzkarg/installed, the list of these files. A file that isn't in that
-# list is never written over and never removed.
+# as the first word), the pages of man/ under share/man, the completions of bash and zsh under share/bash-completion and share/zsh, and
+# libexec/juzkarg/installed, the list of these files. A file that isn't in that list is never written over and never removed.
 set -eu
 
 here=$(cd "$(dirname "$0")" && pwd)
@@ -48,6 +48,8 @@ case $prefix in
 esac
 
 home=$prefix/libexec/juzkarg
+bash_folder=$prefix/share/bash-completion/completions
+zsh_folder=$prefix/share/zsh/site-functions
 list=$home/installed
 
 # Whether an earlier installation put this file there.
@@ -75,6 +77,7 @@ quoted() {
 # The files that will stand there, one a line.
 targets() {
     printf '%s\n' "$home/rpm_prog" "$prefix/bin/rpm" "$prefix/bin/rpmdb"
+    printf '%s\n' "$bash_folder/rpm" "$bash_folder/rpmdb" "$zsh_folder/_rpm" "$zsh_folder/_rpmdb"
     for page in "$here"/man/*.8; do
         [ -f "$page" ] && printf '%s\n' "$prefix/share/man/man8/$(basename "$page")"
     done
@@ -134,12 +137,15 @@ install_all() {
     room=$(mktemp -d)
     trap 'rm -rf "$room"' EXIT
     get_program "$room/rpm_prog"
-    mkdir -p "$home" "$prefix/bin" "$prefix/share/man/man8"
+    mkdir -p "$home" "$prefix/bin" "$prefix/share/man/man8" "$bash_folder" "$zsh_folder"
     targets > "$list"
     cp -- "$room/rpm_prog" "$home/rpm_prog"
     chmod 755 "$home/rpm_prog"
-    put_wrapper rpm
-    put_wrapper rpmdb
+    for name in rpm rpmdb; do
+        put_wrapper "$name"
+        cp -- "$here/completion/rpm.bash" "$bash_folder/$name"
+        cp -- "$here/completion/_rpm" "$zsh_folder/_$name"
+    done
     for page in "$here"/man/*.8; do
         [ -f "$page" ] && cp -- "$page" "$prefix/share/man/man8/"
     done
