@@ -10,7 +10,7 @@ import sys
 from pathlib import Path
 
 HERE = Path(__file__).resolve().parent
-WORDS = HERE.parent / "crates" / "rpm_words" / "src"
+CRATES = HERE.parent / "crates"
 
 # The arguments of each selection and mode, in their order: files, names of packages, groups, or the elements of a tag.
 ARGUMENTS = {"All": "names", "Label": "names", "Path": "files", "Group": "groups", "Package": "files", "Trigger": "TRIGGERNAME",
@@ -22,13 +22,13 @@ ARM = re.compile(r"((?:Switch|Chosen|Command)::(?:[^=]|=(?!>))*?)\s*=>\s*(.*?),\
 
 
 def text(file):
-    return (WORDS / file).read_text(encoding="utf-8")
+    return (CRATES / "rpm_words/src" / file).read_text(encoding="utf-8")
 
 
 def body(code, head):
     """The code of the function with this head."""
-    found = code.partition(head)[2]
-    return found[:found.index("\n    }\n")]
+    rest = code.partition(head)[2]
+    return rest[:rest.index("\n    }\n")]
 
 
 def names(pattern):
@@ -80,13 +80,21 @@ def arguments_of(inner):
     return ARGUMENTS[inner]
 
 
+def found(pattern, code, begin):
+    """What a pattern finds in a table, whose rows begin so: as often as they do."""
+    rows = re.findall(pattern, code)
+    if not rows or len(rows) != code.count(begin):
+        sys.exit(f"completion: not all rows {begin} could be read")
+    return rows
+
+
 def spellings():
     """Each option: the program, its spelling, and the code's names of it."""
     code = text("switch.rt")
     for table, program in (("RPM", "rpm"), ("RPMDB", "rpmdb")):
         rows = code.partition(f"const {table}: &[Spelling]")[2].partition("];")[0]
-        yield from ((program, *row) for row in re.findall(r'Spelling\("(--\w+)", Switch::(\w+)(?:\(\w+::(\w+)\))?\)', rows))
-    for letter, switch, inner in re.findall(r"b'(\w)' => Some\(Switch::(\w+)(?:\(\w+::(\w+)\))?\)", code):
+        yield from ((program, *row) for row in found(r'Spelling\("(--\w+)", Switch::(\w+)(?:\(\w+::(\w+)\))?\)', rows, "Spelling("))
+    for letter, switch, inner in found(r"b'(\w)' => Some\(Switch::(\w+)(?:\(\w+::(\w+)\))?\)", code, "b'"):
         yield "rpm", f"-{letter}", switch, inner
 
 
@@ -114,8 +122,8 @@ def listed(program, dashes):
 
 def tables():
     """The tables as a shell reads them."""
-    tags = re.findall(r'Row\(Tag::[^"]*"(\w+)"', (HERE.parent / "crates/rpm_tags/src/tag.rt").read_text(encoding="utf-8"))
-    shows = re.findall(r'Row\(Show::\w+, "(\w+)"', (HERE.parent / "crates/rpm_qfparse/src/tag.rt").read_text(encoding="utf-8"))
+    tags = found(r'Row\(Tag::[^"]*"(\w+)"', (CRATES / "rpm_tags/src/tag.rt").read_text(encoding="utf-8"), "Row(Tag::")
+    shows = found(r'Row\(Show::\w+, "(\w+)"', (CRATES / "rpm_qfparse/src/tag.rt").read_text(encoding="utf-8"), "Row(Show::")
     return "\n".join([
         f"_juzkarg_modes='{' '.join(modes())}'", f"_juzkarg_rpm='{listed('rpm', True)}'", f"_juzkarg_short='{listed('rpm', False)}'",
         f"_juzkarg_rpmdb='{listed('rpmdb', True)}'", f"_juzkarg_formatters='{' '.join(shows)}'", f"_juzkarg_tags='{' '.join(tags)}'", "",

@@ -1,39 +1,108 @@
 #!/bin/sh
-# Whether the pages name each option, tag and formatter that the tables of the code have, and render without a warning where there is groff.
+# Whether the pages name each option, tag and formatter that the tables of the code have, and whether each line of a synopsis is one that the
+# program takes. Where there is groff or man, the pages are looked at as they are shown, and rendering them gives no warning; elsewhere their
+# sources are, and no synopsis.
 #
-#   man/check.sh
+#   man/check.sh [PROGRAM]    PROGRAM is crates/rpm_prog/out/rpm_prog or such; the gate's or release/'s where none is given
 set -eu
 
+here=$(pwd)
+given=${1-}
 cd "$(dirname "$0")/.."
+switches=crates/rpm_words/src/switch.rt
 missing=0
+room=$(mktemp -d)
+trap 'rm -rf "$room"' EXIT
 
-# The words of a table that no page has, each in a line.
+fail() {
+    printf 'man: %s\n' "$*" >&2
+    missing=1
+}
+
+# The text of a page as it is shown, without line breaks within a paragraph.
+shown() {
+    if command -v groff > /dev/null; then
+        groff -mandoc -ww -Tascii -P-c -P-b -P-u -rLL=2000n "$1" 2> "$room/warnings"
+        [ ! -s "$room/warnings" ] || fail "$1: $(cat "$room/warnings")"
+    else
+        LC_ALL=C MANWIDTH=2000 MAN_KEEP_FORMATTING= man -l "$1"
+    fi
+}
+
+# The words of a table that the text doesn't have, each in a line: WHAT TEXT. An option has its dashes in front.
 wanted() {
     while IFS= read -r word; do
-        grep -qwF -e "$word" man/*.8 || { echo "man: no page has $1 $word" >&2; missing=1; }
+        grep -qE -e "(^|[^-[:alnum:]])$word([^-[:alnum:]]|\$)" "$room/$2" || fail "$2 doesn't show $1 $word"
     done
 }
 
-# The texts between quotes of the lines that have this in them.
+# The same in the source of a page, where dashes are macros.
+wanted_in_source() {
+    while IFS= read -r word; do
+        case $word in
+            -*) word="Fl ${word#-}" ;;
+        esac
+        grep -qwF -e "$word" "man/$2" || fail "$2 has no $1 $word"
+    done
+}
+
+# The texts between quotes of the lines of a table that have this in them: FILE THIS.
 quoted() {
-    grep -F -e "$2" "$1" | sed -n 's/[^"]*"\([^"]*\)".*/\1/p' | sort -u
+    sed -n "/$2/s/[^\"]*\"\([^\"]*\)\".*/\1/p" "$1" | sort -u
 }
 
-words=$(mktemp)
-trap 'rm -f "$words"' EXIT
-quoted crates/rpm_words/src/switch.rt 'Spelling("' | sed 's/^-/Fl /' > "$words"
-wanted option < "$words"
-sed -n "s/.*b'\([a-zA-Z]\)' => Some(Switch::.*/Fl \1/p" crates/rpm_words/src/switch.rt > "$words"
-wanted option < "$words"
-quoted crates/rpm_tags/src/tag.rt 'Row(Tag::' > "$words"
-wanted tag < "$words"
-quoted crates/rpm_qfparse/src/tag.rt 'Row(Show::' > "$words"
-wanted formatter < "$words"
+# The long options of a program: RPM or RPMDB.
+options() {
+    sed -n "/^const $1: /,/^];/p" "$switches" > "$room/table"
+    quoted "$room/table" 'Spelling('
+}
 
-if command -v groff > "$words"; then
-    for page in man/*.8; do
-        groff -mandoc -ww -Tutf8 -z "$page" 2> "$words"
-        [ ! -s "$words" ] || { cat "$words" >&2; missing=1; }
-    done
+# The short options of rpm, of those that have this in them.
+letters() {
+    sed -n "s/.*b'\([a-zA-Z]\)' => Some($1.*/-\1/p" "$switches"
+}
+
+# Runs each command line that a synopsis stands for on a database of its own: what is refused as against the rules is no line of a synopsis.
+synopsis() {
+    sed -n '/^SYNOPSIS/,/^DESCRIPTION/s/^   *//p' "$room/$1" > "$room/lines"
+    [ -s "$room/lines" ] || fail "$1 shows no synopsis"
+    selections="$(letters Switch::Choose) $(sed -n 's/.*"\(--[a-z]*\)", Switch::Choose.*/\1/p' "$switches")"
+    awk -v selections="$(echo $selections)" -f man/synopsis.awk "$room/lines" > "$room/commands"
+    database=$room/database
+    while IFS= read -r command; do
+        case $command in
+            *'--dbpath "$database"'*) ;;
+            *) fail "$1: not tried, since it names no database: $command"; continue ;;
+        esac
+        status=0
+        eval "\"\$program\" $command" < /dev/null > /dev/null 2> "$room/errors" || status=$?
+        [ "$status" -ne 251 ] || fail "$1: $command: $(cat "$room/errors")"
+    done < "$room/commands"
+}
+
+look=wanted_in_source
+if command -v groff > /dev/null || command -v man > /dev/null; then
+    look=wanted
+    for page in man/*.8; do shown "$page" > "$room/$(basename "$page")"; done
+else
+    echo 'man: there is neither groff nor man, so the pages are looked at by their sources'
+fi
+
+{ options RPM; letters Switch::; } > "$room/words"
+$look option rpm-q.8 < "$room/words"
+options RPMDB > "$room/words"
+$look option rpmdb.8 < "$room/words"
+quoted crates/rpm_tags/src/tag.rt 'Row(Tag::' > "$room/words"
+$look tag rpm-q.8 < "$room/words"
+quoted crates/rpm_qfparse/src/tag.rt 'Row(Show::' > "$room/words"
+$look formatter rpm-q.8 < "$room/words"
+
+if [ $look = wanted ]; then
+    program=$(release/program.sh "$room")
+    [ -z "$given" ] || program=$(cd "$here" && cd "$(dirname "$given")" && pwd)/$(basename "$given")
+    mkdir "$room/database"
+    cp example/Packages.db "$room/database"
+    synopsis rpm-q.8
+    synopsis rpmdb.8
 fi
 exit $missing
