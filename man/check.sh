@@ -29,10 +29,10 @@ shown() {
     fi
 }
 
-# The words of a table that the text doesn't have, each in a line: WHAT TEXT. An option has its dashes in front.
+# The words of a table that no line of the text begins with, or a list at its beginning has, each in a line: WHAT TEXT. Options have their dashes.
 wanted() {
     while IFS= read -r word; do
-        grep -qE -e "(^|[^-[:alnum:]])$word([^-[:alnum:]]|\$)" "$room/$2" || fail "$2 doesn't show $1 $word"
+        grep -qE -e "^ +([-[:alnum:]]+( [a-z]+)?, )*$word([^-[:alnum:]]|\$)" "$room/$2" || fail "$2 doesn't show $1 $word"
     done
 }
 
