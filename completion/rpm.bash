@@ -55,7 +55,7 @@ _juzkarg_option() {
 _juzkarg_plan() {
     [ -z "${ZSH_VERSION-}" ] || emulate -L sh
     local program=$1 table=${1##*/} mode= takes= chosen= possible= used= folder= pending= ended= count=0 letters
-    local kind= name= modes= value= arguments=
+    local kind= name= modes= value= arguments= common=
     possible=$_juzkarg_modes
     shift
     while [ $# -gt 1 ]; do
@@ -83,31 +83,31 @@ _juzkarg_take() {
         case $1 in
             --) ended=1 ;;
             --*=*)
-                _juzkarg_note "${1%%=*}"
+                _juzkarg_note "${1%%=*}" || return 0
                 [ "$value" != folders ] || folder=${1#*=}
                 ;;
             --*)
-                _juzkarg_note "$1"
+                _juzkarg_note "$1" || return 0
                 pending=$value
                 ;;
-            -?*) _juzkarg_letters "${1#-}" ;;
+            -?*) _juzkarg_letters "${1#-}" || return 0 ;;
             *) count=$((count + 1)) ;;
         esac
     fi
 }
 
-# Notes each of these letters as an option.
+# Notes each of these letters as an option, where they are options.
 _juzkarg_letters() {
     letters=$1
     while [ -n "$letters" ]; do
-        _juzkarg_note "-${letters%"${letters#?}"}"
+        _juzkarg_note "-${letters%"${letters#?}"}" || return 1
         letters=${letters#?}
     done
 }
 
-# Notes an option: the modes that it leaves, and what the arguments are.
+# Notes an option, where it is one: the modes that it leaves, and what the arguments are.
 _juzkarg_note() {
-    _juzkarg_option "$table $1" || return 0
+    _juzkarg_option "$table $1" || return 1
     used="$used $name "
     _juzkarg_common
     possible=$common
@@ -142,7 +142,7 @@ _juzkarg_is_possible() {
 
 # The possible ones among these options, each after what stands before it: BEFORE OPTION..
 _juzkarg_add_possible() {
-    local before=$1 common
+    local before=$1
     shift
     while [ $# -gt 0 ]; do
         if _juzkarg_is_possible "$1"; then
@@ -155,7 +155,6 @@ _juzkarg_add_possible() {
 
 # What may stand in place of the last word.
 _juzkarg_offer() {
-    local common
     if [ -n "$pending" ]; then
         _juzkarg_value "$pending"
         return
@@ -167,7 +166,7 @@ _juzkarg_offer() {
             _juzkarg_value "$value"
             ;;
         -[!-]*)
-            _juzkarg_letters "${1#-}"
+            _juzkarg_letters "${1#-}" || return 0
             list="$1
 "
             _juzkarg_add_possible "$1" $_juzkarg_short
@@ -226,46 +225,56 @@ _juzkarg_ask() {
 
 # A tag or a formatter, where the text of a format ends within a tag or at the name of a condition.
 _juzkarg_format() {
-    local before=${piece%\{*} close='}'
     what=format
     case $piece in
         *%'|'*)
             case ${piece##*%'|'} in
                 *[!A-Za-z0-9_]*) ;;
                 *)
-                    before=${piece%"${piece##*%'|'}"}
-                    prefix=$prefix$before piece=${piece#"$before"}
+                    _juzkarg_pass "${piece%"${piece##*%'|'}"}"
                     _juzkarg_tags '?{' '?{'
                     return
                     ;;
             esac
             ;;
     esac
+    _juzkarg_is_in_tag || return 0
+    _juzkarg_pass "${piece%"${piece##*\{}"}"
     case $piece in
-        *\{*\}*) case ${piece##*\{} in *\}*) return ;; esac ;;
-        *\{*) ;;
-        *) return ;;
-    esac
-    while :; do
-        case $before in
-            *[0-9-]) before=${before%?} ;;
-            *%) break ;;
-            *) return ;;
-        esac
-    done
-    before=${piece%"${piece##*\{}"}
-    piece=${piece##*\{}
-    case $piece in
-        [=#]*) before=$before${piece%"${piece#?}"} piece=${piece#?} ;;
+        [=#]*) _juzkarg_pass "${piece%"${piece#?}"}" ;;
     esac
     case $piece in
         *:*)
-            before=$before${piece%%:*}: piece=${piece#*:}
+            _juzkarg_pass "${piece%%:*}:"
             list=$(printf "%s}\n" $_juzkarg_formatters)
             ;;
         *) _juzkarg_tags '}' ':' ;;
     esac
-    prefix=$prefix$before
+}
+
+# Moves the beginning of the piece to the prefix.
+_juzkarg_pass() {
+    prefix=$prefix$1 piece=${piece#"$1"}
+}
+
+# Whether the last brace of the piece begins a tag: after a percent that is no second one, and a width.
+_juzkarg_is_in_tag() {
+    local before=${piece%\{*}
+    case $piece in
+        *\{*) ;;
+        *) return 1 ;;
+    esac
+    case ${piece##*\{} in
+        *\}*) return 1 ;;
+    esac
+    while :; do
+        case $before in
+            *[0-9-]) before=${before%?} ;;
+            *%%) before=${before%??} ;;
+            *%) return 0 ;;
+            *) return 1 ;;
+        esac
+    done
 }
 
 # The tags that begin as the piece does, in its letters. One alone is given with each of these ends: END END
