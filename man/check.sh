@@ -1,6 +1,6 @@
 #!/bin/sh
 # Whether the pages name each option, tag and formatter that the tables of the code have, and whether each line of a synopsis is one that the
-# program takes. Where there is groff or man, the pages are looked at as they are shown, and rendering them gives no warning; elsewhere their
+# program takes. Where there is groff or mandoc, the pages are looked at as they are shown, and rendering them gives no warning; elsewhere their
 # sources are, and no synopsis.
 #
 #   man/check.sh [PROGRAM]    PROGRAM is crates/rpm_prog/out/rpm_prog or such; the gate's or release/'s where none is given
@@ -22,11 +22,11 @@ fail() {
 # The text of a page as it is shown, without line breaks within a paragraph.
 shown() {
     if command -v groff > /dev/null; then
-        groff -mandoc -ww -Tascii -P-c -P-b -P-u -rLL=2000n "$1" 2> "$room/warnings"
-        [ ! -s "$room/warnings" ] || fail "$1: $(cat "$room/warnings")"
+        groff -mandoc -ww -Tascii -P-c -P-b -P-u -rLL=990n "$1" 2> "$room/warnings"
     else
-        LC_ALL=C MANWIDTH=2000 MAN_KEEP_FORMATTING= man -l "$1"
+        mandoc -W warning -Tascii -O width=990 "$1" 2> "$room/warnings" | sed "s/.$(printf '\b')//g"
     fi
+    [ ! -s "$room/warnings" ] || fail "$1: $(cat "$room/warnings")"
 }
 
 # The words of a table that no line of the text begins with, or a list at its beginning has, each in a line: WHAT TEXT. Options have their dashes.
@@ -81,11 +81,11 @@ synopsis() {
 }
 
 look=wanted_in_source
-if command -v groff > /dev/null || command -v man > /dev/null; then
+if command -v groff > /dev/null || command -v mandoc > /dev/null; then
     look=wanted
     for page in man/*.8; do shown "$page" > "$room/$(basename "$page")"; done
 else
-    echo 'man: there is neither groff nor man, so the pages are looked at by their sources'
+    echo 'man: there is neither groff nor mandoc, so the pages are looked at by their sources'
 fi
 
 { options RPM; letters Switch::; } > "$room/words"
