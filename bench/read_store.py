@@ -17,13 +17,18 @@ def numbers(piece):
     return [int.from_bytes(piece[k:k + 4], "little") for k in range(0, len(piece), 4)]
 
 
+def need(holds, fault):
+    if not holds:
+        sys.exit(f"read_store.py: {fault}")
+
+
 def header_of(blocks, number):
     """The bytes that the blocks of a package hold."""
     magic, held, _, length = numbers(blocks[:16])
     checksum, again, end = numbers(blocks[-12:])
-    assert (magic, end) == tuple(numbers(b"BlbSBlbE")), f"package {number}: no blob"
-    assert (held, again, len(blocks)) == (number, length, (28 + length + 15) // 16 * 16), f"package {number}: another number or length"
-    assert checksum == zlib.adler32(blocks[:-12]), f"package {number}: another checksum"
+    need((magic, end) == tuple(numbers(b"BlbSBlbE")), f"package {number}: no blob")
+    need((held, again, len(blocks)) == (number, length, (28 + length + 15) // 16 * 16), f"package {number}: another number or length")
+    need(checksum == zlib.adler32(blocks[:-12]), f"package {number}: another checksum")
     return blocks[16:16 + length]
 
 
@@ -32,11 +37,11 @@ def main():
         sys.exit(__doc__)
     file, folder = Path(sys.argv[1]).read_bytes(), Path(sys.argv[2])
     magic, version, _, pages = numbers(file[:16])
-    assert (magic, version) == (numbers(b"RpmP")[0], 0), "no Packages.db"
+    need((magic, version) == (numbers(b"RpmP")[0], 0), "no Packages.db")
     following = numbers(file[16:20])[0]
     for at in range(32, pages * 4096, 16):
         magic, number, block, count = numbers(file[at:at + 16])
-        assert magic == numbers(b"Slot")[0], f"no slot at {at}"
+        need(magic == numbers(b"Slot")[0], f"no slot at {at}")
         if block:
             (folder / str(number)).write_bytes(MAGIC + header_of(file[16 * block:16 * (block + count)], number))
             following = max(following, number + 1)
