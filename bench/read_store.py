@@ -9,6 +9,7 @@ import sys
 import zlib
 from pathlib import Path
 
+sys.dont_write_bytecode = True
 from model_store import MAGIC
 
 
