@@ -5,7 +5,8 @@ The documents are README.md, docs/*.md and crates/*/README.md. Prints how many w
 letter, so neither bars of tables nor figures count. With --check it prints what breaks a rule, and fails where anything does:
 
 - no line is longer than 160 columns, and no paragraph, item or cell of a table has more than 120 words;
-- all documents together have at most 17,000 words, docs/DEFINITIONS.md aside, which bench/definitions.py makes;
+- all documents together have at most 17,000 words, docs/DEFINITIONS.md aside, which bench/definitions.py makes, and the pages of evidence, which have
+  at most 6,000: what was tried over real systems, crashes and hard cases, how this program differs from rpm, and how one comes from rpm and back;
 - the words of the glossary in docs/MAP.md are used: none of those that they replace stands outside of code;
 - each crate has a page, and a row in README.md and docs/MAP.md; each file of the crate that its page names is there, and all that it names under
   "Proved" is a word of the crate's src or specs; so is each field of the theorem that README.md and docs/PROVED.md name with a dot, as `plain.went`;
@@ -19,7 +20,8 @@ sys.dont_write_bytecode = True
 from definitions import TOP, crates
 
 MADE = TOP / "docs" / "DEFINITIONS.md"
-MOST_COLUMNS, MOST_IN_PARAGRAPH, MOST_WORDS = 160, 120, 17_000
+EVIDENCE = [TOP / "docs" / name for name in ("REAL.md", "CRASHES.md", "HARD_CASES.md", "DIFFERENCES.md", "MIGRATING.md")]
+MOST_COLUMNS, MOST_IN_PARAGRAPH, MOST_WORDS, MOST_EVIDENCE = 160, 120, 17_000, 6_000
 REPLACED = re.compile(r"\b(?:behind|anew|tells|told|(?<!\.)stops? (?:leaves|at)|a stop|power cut)\b", re.I)
 
 FILE = re.compile(r"`(?:[\w/]*/)?(\w+\.(?:rt|antt|rows))`")
@@ -35,6 +37,16 @@ def documents():
 def words_of(text):
     """How many words a text has."""
     return sum(any(it.isalpha() for it in word) for word in text.split())
+
+
+def kind_of(path):
+    """What a document is counted among."""
+    return "made" if path == MADE else "pages of evidence" if path in EVIDENCE else "documents"
+
+
+def words_in_all(texts, kind):
+    """How many words all documents of a kind have."""
+    return sum(words_of(text) for path, text in texts.items() if kind_of(path) == kind)
 
 
 def paragraphs(lines):
@@ -120,9 +132,10 @@ def faults(texts):
     yield from faults_of_crates(texts)
     yield from faults_of_fields(texts)
     yield from faults_of_figures(texts)
-    words = sum(words_of(text) for path, text in texts.items() if path != MADE)
-    if words > MOST_WORDS:
-        yield TOP / "README.md", 1, f"all documents have {words:,} words, more than {MOST_WORDS:,}"
+    for kind, most in (("documents", MOST_WORDS), ("pages of evidence", MOST_EVIDENCE)):
+        words = words_in_all(texts, kind)
+        if words > most:
+            yield TOP / "README.md", 1, f"all {kind} have {words:,} words, more than {most:,}"
 
 
 def main():
@@ -133,8 +146,9 @@ def main():
             sys.exit("\n".join(found))
     elif not sys.argv[1:]:
         for path, text in texts.items():
-            print(f"{words_of(text):7,}  {path.relative_to(TOP)}" + (" (made, and not counted)" if path == MADE else ""))
-        print(f"{sum(words_of(text) for path, text in texts.items() if path != MADE):7,}  in all")
+            print(f"{words_of(text):7,}  {path.relative_to(TOP)}" + {"made": " (made)", "pages of evidence": " (evidence)"}.get(kind_of(path), ""))
+        for kind in ("documents", "pages of evidence"):
+            print(f"{words_in_all(texts, kind):7,}  all {kind}")
     else:
         sys.exit(__doc__)
 
