@@ -1,0 +1,259 @@
+"""Commands that are killed, that meet faults, and whose files are left as a crash may leave them, for bench/crashes.py; and what is asked then."""
+import copy
+import hashlib
+import os
+import re
+import shutil
+import subprocess
+import tempfile
+import time
+from dataclasses import dataclass
+from pathlib import Path
+
+import crash_cases
+import crash_files
+import crash_states as states
+from crash_files import LOG, Unknown
+
+FAILED = (252, b"", b"rpm: the database could not be read or written\n")
+READS = {"read", "pread64", "lseek", "statx", "close", "newfstatat", "fstat"}
+
+
+class Loss(Exception):
+    """What was found isn't what has to be."""
+
+
+def short(answer):
+    """The beginning of an answer."""
+    status, out, err = answer
+    return f"status {status}, {len(out)} bytes {out[:200]!r}, {err[:200]!r}"
+
+
+class Room:
+    """A folder in which commands are run on files."""
+
+    def __init__(self, program, folder):
+        self.program, self.folder, self.at = program, Path(folder), "db"
+
+    def words(self, words):
+        """A command line on the database."""
+        front = [str(self.program / words[0])] if self.program.is_dir() else [str(self.program), words[0]]
+        return front + ["--dbpath", self.at, *words[1:]]
+
+    def put(self, files, folders):
+        """Makes the folder have these files alone."""
+        for name in ("db", "new"):
+            shutil.rmtree(self.folder / name, ignore_errors=True)
+        for name in sorted(folders):
+            (self.folder / name).mkdir()
+        for path, data in files.items():
+            (self.folder / path).write_bytes(data)
+
+    def held(self):
+        """Files and folders as they are."""
+        below = [path for name in ("db", "new") for path in [self.folder / name, *(self.folder / name).rglob("*")] if path.exists()]
+        return ({str(path.relative_to(self.folder)): path.read_bytes() for path in below if path.is_file()},
+                {str(path.relative_to(self.folder)) for path in below if path.is_dir()})
+
+    def ask(self, words, given=b""):
+        done = subprocess.run(self.words(words), cwd=self.folder, input=given, capture_output=True, check=False)
+        return done.returncode, done.stdout, done.stderr
+
+    def traced(self, command, inject=()):
+        """A command under strace: its answer, its calls, and the seconds in which it ran."""
+        begin = int(time.time())
+        status, out, err, calls = crash_files.traced(self.words(command.words), str(self.folder), command.given, inject)
+        return (status, out, err), calls, range(begin, int(time.time()) + 1)
+
+    def want(self, words, wanted):
+        found = self.ask(words)
+        if found != wanted:
+            raise Loss(f"{' '.join(words[:6])}: {short(found)} in place of {short(wanted)}")
+
+    def look(self, allowed, names, later=()):
+        """Whether all answers are those of one of these states, before and after a transaction is finished; then of those that follow."""
+        exported = self.ask(["rpmdb", "--exportdb"])
+        state = next((it for it in allowed if it.export() == exported), None)
+        if state is None:
+            raise Loss(f"--exportdb is of no state that may be here: {short(exported)}")
+        self.want(["rpmdb", "--verifydb"], state.verify())
+        self.want(["rpm", "-qa", "--qf", states.FORMAT], state.listing())
+        few, capabilities, files = names[:12], ["cap0", "cap3", "cap7"], [f"/opt/f{name[3:]}" for name in names[:12]]
+        self.want(["rpm", "-q", "--noindex", "--qf", states.SHORT] + few, state.asked("", few))
+        self.want(["rpm", "-q", "--qf", states.SHORT] + names, state.asked("", names))
+        for kind, arguments in (("--whatprovides", capabilities), ("-f", files)):
+            self.want(["rpm", "-q", "--qf", states.SHORT, kind] + arguments, state.asked(kind, arguments))
+        self.want(["rpmdb", "--exportdb"], state.export())
+        self.want(["rpmdb", "--verifydb"], state.verify())
+        log = self.folder / self.at / LOG
+        if log.exists() and any(log.read_bytes()[:16]):
+            raise Loss("the log is open after a question by key")
+        for command in later:
+            begin = int(time.time())
+            answer = self.ask(command.words, command.given)
+            if answer != command.prints(state):
+                raise Loss(f"afterwards {' '.join(command.words)}: {short(answer)}")
+            self.look([command.after(state, now) for now in range(begin, int(time.time()) + 1)], names)
+
+
+@dataclass
+class Plan:
+    """A case that was run as it is: the disk before its last command, the calls of that, and the states."""
+    case: crash_cases.Case
+    disk: object
+    calls: list
+    before: states.State
+    after: states.State
+    names: list
+
+    def disk_after(self, at):
+        """The disk after the call at this place, and whether it changed anything."""
+        disk, changed = copy.deepcopy(self.disk), False
+        for call in self.calls[:at + 1]:
+            changed = disk.apply(call)
+        return disk, changed
+
+    def moments(self):
+        """The places of the calls that change anything."""
+        disk = copy.deepcopy(self.disk)
+        return [at for at, call in enumerate(self.calls) if disk.apply(call)]
+
+    def tasks(self, is_quick):
+        """What is to be tried: (kind, place of a call, what fails)."""
+        moments = self.moments()
+        for at in sorted({at for moment in moments for at in (moment, moment + 1)}):
+            yield "killed", at, None
+        for at in [-1, *moments]:
+            yield "images", at, None
+        faults = [at for at, call in enumerate(self.calls) if call.path is not None and call.name in READS | crash_files.CHANGES]
+        if is_quick and len(faults) > 16:
+            faults = [at for at in faults if at in moments][::2]
+        for at in faults:
+            yield "faults", at, "error=EIO"
+            if self.calls[at].name not in READS and not is_quick:
+                yield "faults", at, "error=ENOSPC"
+                yield "faults", at, "error=ENOSPC, and from there on"
+
+
+class Bench:
+    """All that the processes share."""
+
+    def __init__(self, program, base, seed, is_quick):
+        self.program, self.base, self.seed, self.is_quick = program, base, seed, is_quick
+        self.plans, self.room, self.seen = [], None, set()
+
+    def digest(self):
+        """Of the program itself, also where a folder has scripts that run it."""
+        path = self.program
+        if path.is_dir():
+            path = path / "rpm"
+            script = re.search(rb"^exec '([^']+)'", path.read_bytes(), re.M)
+            path = Path(script.group(1).decode()) if script else path
+        return hashlib.sha256(path.read_bytes()).hexdigest()[:16]
+
+    def enter(self):
+        """A folder of this process's own."""
+        folder = Path(self.base) / str(os.getpid())
+        folder.mkdir(exist_ok=True)
+        self.room = Room(self.program, folder)
+
+    def tried(self, case):
+        """Runs a case as it is: the disk before its command, the calls of that, files and folders, and the states before and after it."""
+        self.room.at = case.at
+        self.room.put(case.files, case.folders)
+        disk, state, calls = crash_cases.start(case), case.state, []
+        for command in [*case.acknowledged, case.command]:
+            for call in calls:
+                disk.apply(call)
+            disk.commit = 0
+            answer, calls, seconds = self.room.traced(command)
+            exported = self.room.ask(["rpmdb", "--exportdb"])
+            before, state = state, next((it for it in (command.after(state, now) for now in seconds) if it.export() == exported), None)
+            if state is None or answer != command.prints(before):
+                raise Loss(f"{case.name} ({case.size}), run as it is: {short(answer)}; --exportdb: {short(exported)}")
+        return disk, calls, self.room.held(), before, state
+
+    def planned(self, case):
+        """The plan of a case. What its calls do here has to be what they did there."""
+        disk, calls, held, before, after = self.tried(case)
+        names = {states.first(found, states.NAME) for state in (before, after) for _, found in state.readable()}
+        plan = Plan(case, disk, calls, before, after, [*sorted(names, key=lambda name: (name not in ("pkg1", "pkg70", "pkg90"), name)), "nosuch"])
+        if plan.disk_after(len(calls))[0].now() != held:
+            raise Unknown(f"{case.name} ({case.size}): the calls of the trace don't make the files that are there")
+        return plan
+
+    def kept(self, plan, what, held, loss):
+        """Keeps files that a loss was found in, and says where."""
+        folder = Path(tempfile.mkdtemp(prefix="crashes-"))
+        room = Room(self.program, folder)
+        room.put(*held)
+        text = f"{plan.case.name} ({plan.case.size}), {what}: {loss}"
+        (folder / "HOW").write_text(f"{text}\nseed {self.seed}, the folder of the database: {plan.case.at}\n", encoding="utf-8")
+        return f"{text}\n  see {folder}"
+
+    def looked(self, plan, what, held, allowed, is_there=False):
+        """Looks at files, which are put into the room where they aren't there; the lines of a loss."""
+        if not is_there:
+            self.room.put(*held)
+        try:
+            self.room.look(allowed, plan.names, plan.case.later)
+        except Loss as loss:
+            return [self.kept(plan, what, held, loss)]
+        return []
+
+    def did(self, kind, plan, at, error):
+        """Does a task of a plan: how much was tried, and the lines of each loss."""
+        self.room.at = plan.case.at
+        return {"images": self.images, "killed": self.killed, "faults": self.faults}[kind](plan, at, error)
+
+    def images(self, plan, at, _):
+        """All images of the moment after a call."""
+        disk, _ = plan.disk_after(at)
+        moments, call = plan.moments(), plan.calls[max(at, 0)]
+        following = next((plan.calls[it] for it in moments if it > at), None)
+        allowed = {0: [plan.before], 1: [plan.before, plan.after], 2: [plan.after]}[disk.commit]
+        count, lost = 0, []
+        is_last = following is None or following.name in ("fsync", "fdatasync")
+        seed = f"{self.seed} {plan.case.name} {plan.case.size} {at}"
+        for what, held in crash_files.images(disk, call, is_last, seed, 3 if self.is_quick else 12):
+            known = (plan.case.name, plan.case.size, disk.commit, crash_files.digest(*held))
+            if known not in self.seen:
+                self.seen.add(known)
+                count += 1
+                lost += self.looked(plan, f"image '{what}' after call {at}, {call}", held, allowed)
+        return count, lost
+
+    def killed(self, plan, at, _):
+        """Killed as a call begins."""
+        call, case = plan.calls[at], plan.case
+        self.room.put(*plan.disk.now())
+        (status, _, _), _, seconds = self.room.traced(case.command, [f"{call.name}:signal=SIGKILL:when={call.count}"])
+        if status != -9:
+            raise Unknown(f"{case.name} ({case.size}) isn't killed at {call}: status {status}")
+        disk, _ = plan.disk_after(at - 1)
+        held = self.room.held()
+        allowed = [case.command.after(plan.before, now) for now in seconds] if disk.commit else [plan.before]
+        return 1, self.looked(plan, f"killed at call {at}, {call}", held, allowed, True)
+
+    def faults(self, plan, at, error):
+        """A call that fails. Then also images of a crash right after the command's end."""
+        call, case = plan.calls[at], plan.case
+        self.room.put(*plan.disk.now())
+        error, _, more = error.partition(",")
+        answer, calls, seconds = self.room.traced(case.command, [f"{call.name}:{error}:when={call.count}{'+' if more else ''}"])
+        held, disk = self.room.held(), copy.deepcopy(plan.disk)
+        for it in calls:
+            disk.apply(it)
+        what, wanted = f"{error}{more} at call {at}, {call}", case.command.prints(plan.before)
+        after = [case.command.after(plan.before, now) for now in seconds]
+        if answer == wanted:
+            now = later = after
+        elif answer[0] == FAILED[0] and answer[2] == FAILED[2] and wanted[1].startswith(answer[1]):
+            now, later = after if disk.commit else [plan.before], [[plan.before], [plan.before] + after, after][disk.commit]
+        else:
+            return 1, [self.kept(plan, what, held, f"it ended with {short(answer)}")]
+        lost = self.looked(plan, what, held, now, True)
+        left = [disk.left(lambda *_: False, lambda _: True)] + [disk.mixed(f"{self.seed} {case.name} {what} {it}") for it in range(2)]
+        for number, image in enumerate(left if disk.now() != left[0] else []):
+            lost += self.looked(plan, f"{what}, then image {number}", image, later)
+        return 1, lost
