@@ -223,29 +223,37 @@ class Bench:
                 lost += self.looked(plan, f"image '{what}' after call {at}, {call}", held, allowed)
         return count, lost
 
+    def run(self, plan, call, what):
+        """Runs the case's command with something at a call: its answer, what is held then, the disk by its own calls, how often `call` came, and
+        the states after it. Calls may differ a little from run to run: the second in which a package is added decides where its keys lie."""
+        self.room.put(*plan.disk.now())
+        answer, calls, seconds = self.room.traced(plan.case.command, [f"{call.name}:{what}"])
+        disk, held = copy.deepcopy(plan.disk), self.room.held()
+        for it in calls:
+            disk.apply(it)
+        if disk.now() != held:
+            raise Unknown(f"{plan.case.name} ({plan.case.size}), {call}, {what}: the calls of the trace don't make the files that are there")
+        count = max((it.count for it in calls if it.name == call.name), default=0)
+        return answer, held, disk, count, [plan.case.command.after(plan.before, now) for now in seconds]
+
     def killed(self, plan, at, _):
         """Killed as a call begins."""
-        call, case = plan.calls[at], plan.case
-        self.room.put(*plan.disk.now())
-        (status, _, _), _, seconds = self.room.traced(case.command, [f"{call.name}:signal=SIGKILL:when={call.count}"])
-        if status != -9:
-            raise Unknown(f"{case.name} ({case.size}) isn't killed at {call}: status {status}")
-        disk, _ = plan.disk_after(at - 1)
-        held = self.room.held()
-        allowed = [case.command.after(plan.before, now) for now in seconds] if disk.commit else [plan.before]
-        return 1, self.looked(plan, f"killed at call {at}, {call}", held, allowed, True)
+        call = plan.calls[at]
+        answer, held, disk, count, after = self.run(plan, call, f"signal=SIGKILL:when={call.count}")
+        is_killed = answer[0] == -9
+        if is_killed != (count >= call.count):
+            raise Unknown(f"{plan.case.name} ({plan.case.size}) isn't killed at {call}: {short(answer)}")
+        allowed = after if disk.commit else [plan.before]
+        return int(is_killed), self.looked(plan, f"killed at call {at}, {call}", held, allowed, True)
 
     def faults(self, plan, at, error):
         """A call that fails. Then also images of a crash right after the command's end."""
         call, case = plan.calls[at], plan.case
-        self.room.put(*plan.disk.now())
         error, _, more = error.partition(",")
-        answer, calls, seconds = self.room.traced(case.command, [f"{call.name}:{error}:when={call.count}{'+' if more else ''}"])
-        held, disk = self.room.held(), copy.deepcopy(plan.disk)
-        for it in calls:
-            disk.apply(it)
+        answer, held, disk, count, after = self.run(plan, call, f"{error}:when={call.count}{'+' if more else ''}")
+        if count < call.count:
+            return 0, []
         what, wanted = f"{error}{more} at call {at}, {call}", case.command.prints(plan.before)
-        after = [case.command.after(plan.before, now) for now in seconds]
         if answer == wanted:
             now = later = after
         elif answer[0] == FAILED[0] and answer[2] == FAILED[2] and wanted[1].startswith(answer[1]):
