@@ -1,4 +1,5 @@
 """The databases and command lines that bench/crashes.py tries, with the states that they have to have."""
+import copy
 from dataclasses import dataclass, field
 from pathlib import Path
 
@@ -22,6 +23,11 @@ class Case:
     later: list = field(default_factory=list)
     folders: frozenset = frozenset({"db"})
     at: str = "db"
+    disk: object = None
+
+    def start(self):
+        """The disk on which it begins: what a kill left where the case has that, else one on which all is durable."""
+        return copy.deepcopy(self.disk) or Disk(self.files, self.folders)
 
 
 def store_of(count):
@@ -30,6 +36,11 @@ def store_of(count):
     for i in range(1, count + 1):
         store.change(None, states.entries_of(i))
     return {FILES[0]: store.file()}, states.State(dict(store.packages), store.next)
+
+
+def is_between(disk, call):
+    """Whether entries of a committed log were written to both files, and synced in none."""
+    return disk.commit == 2 and all(path in disk.files and disk.files[path].pending for path in FILES[:2])
 
 
 def broken(files, number):
@@ -56,15 +67,26 @@ class Cases:
             before, (_, _, (files, _), _, state) = files, self.tried(Case("made before", size, files, state, command))
         return files, state, before
 
-    def pending(self, size, files, state, command):
-        """Files of which a crash left some entries of a committed log unwritten, and the state that they have."""
+    def killed(self, size, files, state, command, when):
+        """The disk that a kill leaves at the last moment of which `when(disk, call)` holds, and the state after the command."""
         disk, calls, _, _, after = self.tried(Case("made before", size, files, state, command))
         found = None
         for call in calls:
             disk.apply(call)
-            if disk.commit == 2 and all(disk.files[path].pending for path in FILES[:2]):
-                found = disk.mixed("a pending transaction")[0]
+            if when(disk, call):
+                found = copy.deepcopy(disk)
         return found, after
+
+    def after_kills(self, size, files, missing, state):
+        """A question after a kill, of which nothing was synced since: where the machine crashes then, old and new meet in three files."""
+        moments = [("the commit", files, states.imports([91]), lambda disk, call: disk.commit == 1),
+                   ("a commit", files, states.imports([91]), is_between),
+                   ("the seal", missing, states.question(["pkg1"]), lambda disk, call: call.data.startswith(b"RpmH"))]
+        for name, begin, command, when in moments:
+            disk, after = self.killed(size, begin, state, command, when)
+            ask = states.Command(states.question(["pkg1", "pkg91"]).words, lambda state, now, after=after: after, b"",
+                                 lambda state, after=after: after.asked("", ["pkg1", "pkg91"]))
+            yield Case(f"a question, after a kill {'within' if name == 'a commit' else 'at'} {name}", size, disk.now()[0], state, ask, disk=disk)
 
     def of_size(self, size):
         """The cases that are tried on a small and on a large database."""
@@ -73,7 +95,8 @@ class Cases:
         numbers = [1, 4] if size == "small" else [1, 5, 77, 200, 254]
         old = files | {FILES[1]: before[FILES[1]]}
         missing = {path: data for path, data in files.items() if path != FILES[1]}
-        log, logged = self.pending(size, files, state, states.imports(LIST["small"]))
+        disk, logged = self.killed(size, files, state, states.imports(LIST["small"]), is_between)
+        log = disk.mixed("a pending transaction")[0]
         bad = broken(store, 3)
         dropped = states.State(state_of(store_of(3 if size == "small" else 254)[1], 3), 4 if size == "small" else 255)
         ask = states.question(["pkg1", "pkg90", "nosuch"])
@@ -92,6 +115,7 @@ class Cases:
         yield case("a question, a pending transaction", ask, log, logged)
         yield case("`--erasepkg`, a pending transaction", states.erase(numbers), log, logged)
         yield case("the second of three", states.erase(numbers), acknowledged=[states.add(self.packages, [70])], later=[states.imports([92])])
+        yield from self.after_kills(size, files, missing, state)
 
     def of_none(self):
         """The cases on no database, on files with a partial unit, and the exercise."""
@@ -114,8 +138,3 @@ class Cases:
 def state_of(state, number):
     """The packages of a state, one of them unreadable."""
     return state.packages | {number: None}
-
-
-def start(case):
-    """The disk on which a case begins."""
-    return Disk(case.files, case.folders)

@@ -16,6 +16,8 @@ import crash_states as states
 from crash_files import LOG, Unknown
 
 FAILED = (252, b"", b"rpm: the database could not be read or written\n")
+# Of more reads of a command some fail, spread over all.
+MOST_READS = 60
 READS = {"read", "pread64", "lseek", "statx", "close", "newfstatat", "fstat"}
 
 
@@ -126,8 +128,11 @@ class Plan:
         for at in [-1, *moments]:
             yield "images", at, None
         faults = [at for at, call in enumerate(self.calls) if call.path is not None and call.name in READS | crash_files.CHANGES]
-        if is_quick and len(faults) > 16:
+        reads = [at for at in faults if self.calls[at].name == "pread64"]
+        if is_quick:
             faults = [at for at in faults if at in moments][::2]
+        elif len(reads) > MOST_READS:
+            faults = sorted(set(faults) - set(reads) | set(reads[::len(reads) // MOST_READS + 1]))
         for at in faults:
             yield "faults", at, "error=EIO"
             if self.calls[at].name not in READS and not is_quick:
@@ -140,7 +145,7 @@ class Bench:
 
     def __init__(self, program, base, seed, is_quick):
         self.program, self.base, self.seed, self.is_quick = program, base, seed, is_quick
-        self.plans, self.room, self.seen = [], None, set()
+        self.plans, self.room, self.seen, self.lost = [], None, set(), set()
 
     def digest(self):
         """Of the program itself, also where a folder has scripts that run it."""
@@ -161,11 +166,11 @@ class Bench:
         """Runs a case as it is: the disk before its command, the calls of that, files and folders, and the states before and after it."""
         self.room.at = case.at
         self.room.put(case.files, case.folders)
-        disk, state, calls = crash_cases.start(case), case.state, []
+        disk, state, calls = case.start(), case.state, []
         for command in [*case.acknowledged, case.command]:
             for call in calls:
                 disk.apply(call)
-            disk.commit = 0
+            disk.commit = case.disk.commit if case.disk else 0
             answer, calls, seconds = self.room.traced(command)
             exported = self.room.ask(["rpmdb", "--exportdb"])
             before, state = state, next((it for it in (command.after(state, now) for now in seconds) if it.export() == exported), None)
@@ -183,11 +188,14 @@ class Bench:
         return plan
 
     def kept(self, plan, what, held, loss):
-        """Keeps files that a loss was found in, and says where."""
+        """Keeps files that the first loss of a case was found in; says what it is, and where."""
+        text = f"{plan.case.name} ({plan.case.size}), {what}: {loss}"
+        if id(plan) in self.lost:
+            return text
+        self.lost.add(id(plan))
         folder = Path(tempfile.mkdtemp(prefix="crashes-"))
         room = Room(self.program, folder)
         room.put(*held)
-        text = f"{plan.case.name} ({plan.case.size}), {what}: {loss}"
         (folder / "HOW").write_text(f"{text}\nseed {self.seed}, the folder of the database: {plan.case.at}\n", encoding="utf-8")
         return f"{text}\n  see {folder}"
 
@@ -211,12 +219,12 @@ class Bench:
         disk, _ = plan.disk_after(at)
         moments, call = plan.moments(), plan.calls[max(at, 0)]
         following = next((plan.calls[it] for it in moments if it > at), None)
-        allowed = {0: [plan.before], 1: [plan.before, plan.after], 2: [plan.after]}[disk.commit]
+        allowed = {0: [plan.before], 1: [plan.before, plan.after], 2: [plan.after]}[disk.commit if following else 2]
         count, lost = 0, []
         is_last = following is None or following.name in ("fsync", "fdatasync")
         seed = f"{self.seed} {plan.case.name} {plan.case.size} {at}"
         for what, held in crash_files.images(disk, call, is_last, seed, 3 if self.is_quick else 12):
-            known = (plan.case.name, plan.case.size, disk.commit, crash_files.digest(*held))
+            known = (plan.case.name, plan.case.size, len(allowed), disk.commit, crash_files.digest(*held))
             if known not in self.seen:
                 self.seen.add(known)
                 count += 1

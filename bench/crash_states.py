@@ -4,6 +4,7 @@ A State has the entries of each package (None where its header can't be read) an
 from standard input, the state that it leaves, and what it prints. Answers are (status, standard output, standard error).
 """
 import contextlib
+import functools
 import io
 from dataclasses import dataclass, field
 
@@ -52,10 +53,22 @@ def paths(entries):
     return [elements(entries, DIRECTORIES)[0] + base for base in elements(entries, BASES)]
 
 
+def once(method):
+    """A method whose answers are kept: the same state is compared with many files."""
+    @functools.wraps(method)
+    def kept(self, *words):
+        key = method.__name__, str(words)
+        if key not in self.answers:
+            self.answers[key] = method(self, *words)
+        return self.answers[key]
+    return kept
+
+
 @dataclass
 class State:
     packages: dict = field(default_factory=dict)
     next: int = 1
+    answers: dict = field(default_factory=dict, compare=False, repr=False)
 
     def readable(self):
         return [(number, self.packages[number]) for number in sorted(self.packages) if self.packages[number] is not None]
@@ -71,14 +84,17 @@ class State:
     def without(self, numbers):
         return State({number: found for number, found in self.packages.items() if number not in numbers}, self.next)
 
+    @once
     def export(self):
         errors = "".join(f"error: package {number}: header cannot be read\n" for number in self.unreadable())
         return int(bool(errors)), b"".join(MAGIC + header(found) for _, found in self.readable()), errors.encode()
 
+    @once
     def verify(self):
         lines = "".join(f"package {number}: header cannot be read\n" for number in self.unreadable())
         return int(bool(lines)), lines.encode(), b""
 
+    @once
     def listing(self):
         """Of -qa with FORMAT."""
         lines = []
@@ -88,6 +104,7 @@ class State:
         errors = "".join(f"error: package {number}: header cannot be read\n" for number in self.unreadable())
         return int(bool(errors)), "".join(lines).encode(), errors.encode()
 
+    @once
     def asked(self, kind, arguments):
         """Of a question with SHORT: for each argument the packages that have it, or its line."""
         keys, missing = {

@@ -23,7 +23,7 @@ from pathlib import Path
 
 sys.dont_write_bytecode = True
 from crash_cases import Cases
-from crash_files import Unknown
+from crash_files import FORGOTTEN, Unknown
 from crash_runs import Bench, Loss
 
 PAGE = Path(__file__).resolve().parent.parent / "docs" / "CRASHES.md"
@@ -89,7 +89,8 @@ def words():
     for name in ("--quick", "--write"):
         parser.add_argument(name, action="store_true")
     parser.add_argument("--seed", type=int, default=1)
-    parser.add_argument("--only", default="")
+    for name in ("--only", "--forget"):
+        parser.add_argument(name, default="")
     return parser.parse_args()
 
 
@@ -105,6 +106,7 @@ def main():
         BENCH.enter()
         cases = Cases(base, BENCH.tried)
         BENCH.plans = [BENCH.planned(case) for case in cases.all() if asked.only in f"{case.name} ({case.size})"]
+        FORGOTTEN.update([asked.forget] if asked.forget else [])
         made, lost = table(BENCH, tried_all(BENCH), begin)
     except (Loss, Unknown) as fault:
         sys.exit(f"bench/crashes.py: {fault}")
