@@ -1,5 +1,6 @@
 """The databases and command lines that bench/crashes.py tries, with the states that they have to have."""
 import copy
+import functools
 from dataclasses import dataclass, field
 from pathlib import Path
 
@@ -129,10 +130,12 @@ class Cases:
         files = {path: data + b"a tail"[:6] for path, data in files.items()}
         yield Case("`--addpkg`, partial units", "small", files, state, states.add(self.packages, [70]))
 
-    def all(self):
-        yield from self.of_none()
-        yield from self.of_size("small")
-        yield from self.of_size("large")
+    def all(self, only=""):
+        """The cases whose name and database have this text."""
+        groups = [self.of_none] + [functools.partial(self.of_size, size) for size in ("small", "large")]
+        if only.endswith(("(small)", "(large)")):
+            groups = groups[1:2] if only.endswith("(small)") else groups[2:]
+        return [case for group in groups for case in group() if only in f"{case.name} ({case.size})"]
 
 
 def state_of(state, number):

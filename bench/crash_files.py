@@ -87,12 +87,16 @@ def parsed(line, counts, below):
     return call
 
 
-def traced(words, below, given=b"", inject=()):
-    """Runs the words in the folder `below` under strace. Gives status, both outputs, and the calls of the last program of a chain of execve."""
+def traced(words, below, given=b"", inject=""):
+    """Runs the words in the folder `below` under strace. Gives status, both outputs, and the calls of the last program of a chain of execve; with
+    something injected only those that change files and that into which it is."""
     trace = os.path.join(below, "trace")
-    rules = [part for rule in inject for part in ("-e", "inject=" + rule)]
-    done = subprocess.run(["strace", "-f", "-y", "-xx", "-s", "100000000", "-o", trace, "-e", TRACED, *rules, *words], cwd=below, input=given,
-                          capture_output=True, check=False)
+    few = f"trace={','.join(sorted(CHANGES))},{inject.partition(':')[0]}"
+    rules = ["-e", few, "-e", "inject=" + inject] if inject else ["-e", TRACED]
+    if ":error=" in inject:  # (strace 6.1 injects no signal with this, which is faster)
+        rules.insert(0, "--seccomp-bpf")
+    done = subprocess.run(["strace", "-f", "-y", "-xx", "-s", "100000000", "-o", trace, *rules, *words], cwd=below, input=given, capture_output=True,
+                          check=False)
     with open(trace, encoding="ascii", errors="replace") as lines:
         counts = {}
         calls = [call for call in (parsed(line, counts, below) for line in lines) if call]
@@ -211,8 +215,11 @@ def images(disk, call, is_last, seed, mixes):
     if is_last:
         yield from ((f"only {one}", disk.left(lambda path, at, _, one=one: (path, at) == one)) for one in pending)
         yield from ((f"all but {one}", disk.left(lambda path, at, _, one=one: (path, at) != one)) for one in pending)
-        yield from ((f"only {name}", disk.left(lambda path, *_, name=name: path == name)) for name in sorted(disk.files) if disk.files[name].pending)
-        yield from ((f"all but {name}", disk.left(lambda path, *_, name=name: path != name)) for name in sorted(disk.files) if disk.files[name].pending)
+        for name in sorted({path for path, _ in pending}):
+            yield f"only {name}", disk.left(lambda path, *_, name=name: path == name)
+            yield f"all but {name}", disk.left(lambda path, *_, name=name: path != name)
+            yield f"unit 0 of {name} old", disk.left(lambda path, _, offset, name=name: path != name or offset > 0)
+            yield f"of {name} unit 0 alone", disk.left(lambda path, _, offset, name=name: path != name or offset == 0)
     if pending or disk.unsettled:
         yield from ((f"mixed {number}", disk.mixed(f"{seed} {number}")) for number in range(mixes))
 

@@ -61,7 +61,7 @@ class Room:
         done = subprocess.run(self.words(words), cwd=self.folder, input=given, capture_output=True, check=False)
         return done.returncode, done.stdout, done.stderr
 
-    def traced(self, command, inject=()):
+    def traced(self, command, inject=""):
         """A command under strace: its answer, its calls, and the seconds in which it ran."""
         begin = int(time.time())
         status, out, err, calls = crash_files.traced(self.words(command.words), str(self.folder), command.given, inject)
@@ -123,7 +123,8 @@ class Plan:
     def tasks(self, is_quick):
         """What is to be tried: (kind, place of a call, what fails)."""
         moments = self.moments()
-        for at in sorted({at for moment in moments for at in (moment, moment + 1)}):
+        after = [moments[-1] + 1] if is_quick else [at + 1 for at in moments]
+        for at in sorted({*moments, *after}):
             yield "killed", at, None
         for at in [-1, *moments]:
             yield "images", at, None
@@ -223,7 +224,7 @@ class Bench:
         count, lost = 0, []
         is_last = following is None or following.name in ("fsync", "fdatasync")
         seed = f"{self.seed} {plan.case.name} {plan.case.size} {at}"
-        for what, held in crash_files.images(disk, call, is_last, seed, 3 if self.is_quick else 12):
+        for what, held in crash_files.images(disk, call, is_last, seed, 3 if self.is_quick else 8):
             known = (plan.case.name, plan.case.size, len(allowed), disk.commit, crash_files.digest(*held))
             if known not in self.seen:
                 self.seen.add(known)
@@ -235,7 +236,7 @@ class Bench:
         """Runs the case's command with something at a call: its answer, what is held then, the disk by its own calls, how often `call` came, and
         the states after it. Calls may differ a little from run to run: the second in which a package is added decides where its keys lie."""
         self.room.put(*plan.disk.now())
-        answer, calls, seconds = self.room.traced(plan.case.command, [f"{call.name}:{what}"])
+        answer, calls, seconds = self.room.traced(plan.case.command, f"{call.name}:{what}")
         disk, held = copy.deepcopy(plan.disk), self.room.held()
         for it in calls:
             disk.apply(it)

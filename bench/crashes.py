@@ -12,13 +12,13 @@ else about MINUTES; --write puts the table into docs/CRASHES.md; --only tries th
 which is 1. At the first loss of a case its files are kept in a folder that is named, and the script fails.
 """
 import argparse
-import datetime
 import multiprocessing
 import re
 import shutil
 import sys
 import tempfile
 import time
+from concurrent.futures import ProcessPoolExecutor
 from pathlib import Path
 
 sys.dont_write_bytecode = True
@@ -37,49 +37,61 @@ def work(task):
     begin = time.time()
     try:
         count, lost = BENCH.did(kind, BENCH.plans[number], at, error)
-        return number, kind, count, lost, time.time() - begin, None
-    except Unknown as unknown:
-        return number, kind, 0, [], 0.0, str(unknown)
+        return kind, count, lost, time.time() - begin, None
+    except Exception as unknown:
+        return kind, 0, [], 0.0, f"{type(unknown).__name__}: {unknown}"
 
 
 def enter():
     BENCH.enter()
 
 
-def row(plan, counts):
-    """A line of the table."""
-    return (f"| {plan.case.name} | {plan.case.size} | {len(plan.moments())} | {counts['killed']:,} | {counts['images']:,} | {counts['faults']:,} |"
-            f" {counts['seconds']:.0f} | {counts['lost']} |\n")
+def tried(bench, number, pool, width):
+    """Does all tasks of a plan; the counts of it."""
+    plan, counts = bench.plans[number], {"killed": 0, "images": 0, "faults": 0, "seconds": 0.0, "lost": 0}
+    tasks = [(number, *task) for task in plan.tasks(bench.is_quick)]
+    for done, (kind, count, lost, seconds, unknown) in enumerate(pool.map(work, tasks), 1):
+        if unknown:
+            raise Unknown(unknown)
+        if lost and not counts["lost"]:
+            print(f"LOST: {lost[0]}", file=sys.stderr)
+        for key, more in ((kind, count), ("seconds", seconds), ("lost", len(lost))):
+            counts[key] += more
+        if sys.stderr.isatty():
+            print(f"\r{number + 1} of {width}: {done} of {len(tasks)} ", end="", file=sys.stderr)
+    return counts
 
 
-def tried_all(bench):
-    """Does all tasks of all plans on two processes. Gives the counts of each plan."""
-    found = [{"killed": 0, "images": 0, "faults": 0, "seconds": 0.0, "lost": 0} for _ in bench.plans]
-    tasks = [(number, *task) for number, plan in enumerate(bench.plans) for task in plan.tasks(bench.is_quick)]
-    with multiprocessing.Pool(2, enter) as pool:
-        for done, (number, kind, count, lost, seconds, unknown) in enumerate(pool.imap_unordered(work, tasks), 1):
-            if unknown:
-                raise Unknown(unknown)
-            counts = found[number]
-            if lost and not counts["lost"]:
-                print(f"LOST: {lost[0]}", file=sys.stderr)
-            counts[kind] += count
-            counts["seconds"] += seconds
-            counts["lost"] += len(lost)
-            if sys.stderr.isatty():
-                print(f"\r{done} of {len(tasks)}", end="", file=sys.stderr)
-    return found
+def row(bench, plan, counts):
+    """A line of the table: its first two cells, and the others."""
+    size = plan.case.size + (", quick" if bench.is_quick else "")
+    return (plan.case.name, size), [len(plan.moments()), counts["killed"], counts["images"], counts["faults"], round(counts["seconds"]), counts["lost"]]
 
 
-def table(bench, found, begin):
-    """The table, and how it was made."""
-    text = f"Made on {datetime.date.today():%-d %B %Y} in {(time.time() - begin) / 60:.1f} minutes, with seed {bench.seed}, of the program with the digest"
-    text += f" `{bench.digest()}`:\n\n| Command | Database | Moments | Killed | Images | Faults | Seconds | Lost |\n{'|---' * 8}|\n"
-    text += "".join(row(plan, counts) for plan, counts in zip(bench.plans, found))
-    sums = {key: sum(counts[key] for counts in found) for key in found[0]}
-    moments = sum(len(plan.moments()) for plan in bench.plans)
-    return text + (f"| in all | | {moments:,} | {sums['killed']:,} | {sums['images']:,} | {sums['faults']:,} | {sums['seconds']:,.0f} |"
-                   f" {sums['lost']} |\n"), sums["lost"]
+def table(bench, rows):
+    """The table of these rows, and what it was made of."""
+    text = f"With seed {bench.seed}, of the program with the digest `{bench.digest()}`:\n\n"
+    text += f"| Command | Database | Moments | Killed | Images | Faults | Seconds | Lost |\n{'|---' * 8}|\n"
+    sums = [sum(column) for column in zip(*rows.values())]
+    for names, cells in [*rows.items(), (("in all", ""), sums)]:
+        text += "| " + " | ".join([*names, *(f"{cell:,}" for cell in cells)]) + " |\n"
+    return text
+
+
+def rows_of(bench, page):
+    """The rows that the page has, where it is of the same seed and program."""
+    found = TABLE.search(page).group(0)
+    if not found.strip().startswith(table(bench, {("", ""): [0] * 6}).partition("\n")[0]):
+        return {}
+    cells = [[cell.strip() for cell in line.strip("|\n").split("|")] for line in found.splitlines() if line.startswith("| `") or line.startswith("| a ")
+             or line.startswith("| the ")]
+    return {(it[0], it[1]): [int(cell.replace(",", "")) for cell in it[2:]] for it in cells}
+
+
+def written(bench, rows):
+    """Puts rows into the page, each in place of the one of the same case."""
+    page = PAGE.read_text(encoding="utf-8")
+    PAGE.write_text(TABLE.sub(lambda _: "\n" + table(bench, rows_of(bench, page) | rows) + "\n", page), encoding="utf-8")
 
 
 def words():
@@ -96,7 +108,7 @@ def words():
 
 def main():
     global BENCH
-    asked, begin = words(), time.time()
+    asked, begin, rows = words(), time.time(), {}
     program = Path(asked.program).resolve()
     if shutil.which("strace") is None or not program.exists():
         sys.exit(f"bench/crashes.py: there is no {'strace' if program.exists() else program}")
@@ -104,17 +116,20 @@ def main():
     try:
         BENCH = Bench(program, base, asked.seed, asked.quick)
         BENCH.enter()
-        cases = Cases(base, BENCH.tried)
-        BENCH.plans = [BENCH.planned(case) for case in cases.all() if asked.only in f"{case.name} ({case.size})"]
+        BENCH.plans = [BENCH.planned(case) for case in Cases(base, BENCH.tried).all(asked.only)]
         FORGOTTEN.update([asked.forget] if asked.forget else [])
-        made, lost = table(BENCH, tried_all(BENCH), begin)
+        with ProcessPoolExecutor(2, multiprocessing.get_context("fork"), enter) as pool:
+            for number, plan in enumerate(BENCH.plans):
+                rows.update([row(BENCH, plan, tried(BENCH, number, pool, len(BENCH.plans)))])
+                if asked.write:
+                    written(BENCH, rows)
     except (Loss, Unknown) as fault:
         sys.exit(f"bench/crashes.py: {fault}")
     finally:
         shutil.rmtree(base, ignore_errors=True)
-    print(made, end="")
-    if asked.write:
-        PAGE.write_text(TABLE.sub(lambda _: "\n" + made + "\n", PAGE.read_text(encoding="utf-8")), encoding="utf-8")
+    print(table(BENCH, rows), end="")
+    print(f"{(time.time() - begin) / 60:.1f} minutes")
+    lost = sum(cells[-1] for cells in rows.values())
     sys.exit(f"bench/crashes.py: {lost} lost" if lost else 0)
 
 
