@@ -1,6 +1,6 @@
 """The databases and command lines that bench/crashes.py tries, with the states that they have to have."""
 import copy
-import functools
+import re
 from dataclasses import dataclass, field
 from pathlib import Path
 
@@ -130,12 +130,10 @@ class Cases:
         files = {path: data + b"a tail"[:6] for path, data in files.items()}
         yield Case("`--addpkg`, partial units", "small", files, state, states.add(self.packages, [70]))
 
-    def all(self, only=""):
-        """The cases whose name and database have this text."""
-        groups = [self.of_none] + [functools.partial(self.of_size, size) for size in ("small", "large")]
-        if only.endswith(("(small)", "(large)")):
-            groups = groups[1:2] if only.endswith("(small)") else groups[2:]
-        return [case for group in groups for case in group() if only in f"{case.name} ({case.size})"]
+    def all(self, only, databases):
+        """The cases on these databases in whose name a pattern is found."""
+        groups = {"none": self.of_none, "small": lambda: self.of_size("small"), "large": lambda: self.of_size("large")}
+        return [case for name in databases for case in groups[name]() if re.search(only, case.name)]
 
 
 def state_of(state, number):

@@ -200,9 +200,11 @@ class Disk:
         return self.left(chosen, lambda name: chance.random() < 0.5, lambda: chance.choice([0.0, 1.0, chance.random()]))
 
 
-def images(disk, call, is_last, seed, mixes):
-    """The images of a moment as (what it is, files, folders): `call` led to it; `is_last` where the next call that changes anything is a sync."""
+def images(disk, call, is_last, seed, mixes, most):
+    """The images of a moment as (what it is, (files, folders)): `call` led to it; `is_last` where the next call that changes anything is a sync.
+    At most `most` of the pending writes, spread over them, are taken alone and left out alone."""
     pending = [(path, at) for path, file in disk.files.items() for at in range(len(file.pending))]
+    some = pending[::max(1, -(-len(pending) // most))]
     yield "all old", disk.left(lambda *_: False, lambda _: True)
     yield "all new", disk.left(lambda *_: True)
     if disk.unsettled:
@@ -213,8 +215,8 @@ def images(disk, call, is_last, seed, mixes):
         newest = (call.path, len(disk.files[call.path].pending) - 1)
         yield f"only {newest}", disk.left(lambda path, at, _: (path, at) == newest)
     if is_last:
-        yield from ((f"only {one}", disk.left(lambda path, at, _, one=one: (path, at) == one)) for one in pending)
-        yield from ((f"all but {one}", disk.left(lambda path, at, _, one=one: (path, at) != one)) for one in pending)
+        yield from ((f"only {one}", disk.left(lambda path, at, _, one=one: (path, at) == one)) for one in some)
+        yield from ((f"all but {one}", disk.left(lambda path, at, _, one=one: (path, at) != one)) for one in some)
         for name in sorted({path for path, _ in pending}):
             yield f"only {name}", disk.left(lambda path, *_, name=name: path == name)
             yield f"all but {name}", disk.left(lambda path, *_, name=name: path != name)

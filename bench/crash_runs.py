@@ -16,13 +16,24 @@ import crash_states as states
 from crash_files import LOG, Unknown
 
 FAILED = (252, b"", b"rpm: the database could not be read or written\n")
-# Of more reads of a command some fail, spread over all.
-MOST_READS = 60
+# Of more reads of a command some fail, spread over all; --quick also takes only so many other calls.
+MOST_READS, MOST_QUICK = 60, 12
 READS = {"read", "pread64", "lseek", "statx", "close", "newfstatat", "fstat"}
 
 
 class Loss(Exception):
     """What was found isn't what has to be."""
+
+
+def some(places, most):
+    """At most so many of these, spread over them, with the first and the last."""
+    if len(places) <= most:
+        return places
+    return [places[at * (len(places) - 1) // (most - 1)] for at in range(most)]
+
+
+def is_sync(call):
+    return call.name in ("fsync", "fdatasync")
 
 
 def short(answer):
@@ -35,7 +46,7 @@ class Room:
     """A folder in which commands are run on files."""
 
     def __init__(self, program, folder):
-        self.program, self.folder, self.at = program, Path(folder), "db"
+        self.program, self.folder, self.at, self.turn = program, Path(folder), "db", False
 
     def words(self, words):
         """A command line on the database."""
@@ -80,13 +91,12 @@ class Room:
             raise Loss(f"--exportdb is of no state that may be here: {short(exported)}")
         self.want(["rpmdb", "--verifydb"], state.verify())
         self.want(["rpm", "-qa", "--qf", states.FORMAT], state.listing())
-        few, capabilities, files = names[:12], ["cap0", "cap3", "cap7"], [f"/opt/f{name[3:]}" for name in names[:12]]
+        few, self.turn = names[:12], not self.turn
         self.want(["rpm", "-q", "--noindex", "--qf", states.SHORT] + few, state.asked("", few))
         self.want(["rpm", "-q", "--qf", states.SHORT] + names, state.asked("", names))
-        for kind, arguments in (("--whatprovides", capabilities), ("-f", files)):
-            self.want(["rpm", "-q", "--qf", states.SHORT, kind] + arguments, state.asked(kind, arguments))
+        kind, arguments = ("-f", [f"/opt/f{name[3:]}" for name in few]) if self.turn else ("--whatprovides", ["cap0", "cap3", "cap7"])
+        self.want(["rpm", "-q", "--qf", states.SHORT, kind] + arguments, state.asked(kind, arguments))
         self.want(["rpmdb", "--exportdb"], state.export())
-        self.want(["rpmdb", "--verifydb"], state.verify())
         log = self.folder / self.at / LOG
         if log.exists() and any(log.read_bytes()[:16]):
             raise Loss("the log is open after a question by key")
@@ -123,17 +133,15 @@ class Plan:
     def tasks(self, is_quick):
         """What is to be tried: (kind, place of a call, what fails)."""
         moments = self.moments()
-        after = [moments[-1] + 1] if is_quick else [at + 1 for at in moments]
-        for at in sorted({*moments, *after}):
-            yield "killed", at, None
-        for at in [-1, *moments]:
-            yield "images", at, None
+        near = {it for at, after in zip(moments, moments[1:]) for it in (at, after) if is_sync(self.calls[it]) or is_sync(self.calls[after])}
+        kills = some([*moments, moments[-1] + 1], MOST_QUICK) if is_quick else sorted({*moments, *(at + 1 for at in moments)})
         faults = [at for at, call in enumerate(self.calls) if call.path is not None and call.name in READS | crash_files.CHANGES]
         reads = [at for at in faults if self.calls[at].name == "pread64"]
-        if is_quick:
-            faults = [at for at in faults if at in moments][::2]
-        elif len(reads) > MOST_READS:
-            faults = sorted(set(faults) - set(reads) | set(reads[::len(reads) // MOST_READS + 1]))
+        faults = some(moments, MOST_QUICK) if is_quick else sorted(set(faults) - set(reads) | set(some(reads, MOST_READS)))
+        for at in kills:
+            yield "killed", at, None
+        for at in [-1, *(sorted(near | set(some(moments, MOST_QUICK))) if is_quick else moments)]:
+            yield "images", at, None
         for at in faults:
             yield "faults", at, "error=EIO"
             if self.calls[at].name not in READS and not is_quick:
@@ -222,9 +230,9 @@ class Bench:
         following = next((plan.calls[it] for it in moments if it > at), None)
         allowed = {0: [plan.before], 1: [plan.before, plan.after], 2: [plan.after]}[disk.commit if following else 2]
         count, lost = 0, []
-        is_last = following is None or following.name in ("fsync", "fdatasync")
+        is_last = following is None or is_sync(following)
         seed = f"{self.seed} {plan.case.name} {plan.case.size} {at}"
-        for what, held in crash_files.images(disk, call, is_last, seed, 3 if self.is_quick else 8):
+        for what, held in crash_files.images(disk, call, is_last, seed, *((3, 16) if self.is_quick else (8, 200))):
             known = (plan.case.name, plan.case.size, len(allowed), disk.commit, crash_files.digest(*held))
             if known not in self.seen:
                 self.seen.add(known)

@@ -1,5 +1,5 @@
 #!/usr/bin/env python3
-"""Crashes over real files: bench/crashes.py PROGRAM [--quick] [--write] [--seed N] [--only TEXT]
+"""Crashes over real files: bench/crashes.py PROGRAM [--quick] [--write] [--seed N] [--databases NAMES] [--only PATTERN] [--forget NAME]
 
 Each command that changes files is run under strace: killed before and after each call that changes anything; with each call on the database
 failing once; and once as it is, to make from its calls the files that a crash of the machine may leave (crash_files.py says which). What is left is
@@ -7,12 +7,15 @@ opened: --verifydb, --exportdb, -qa by a format of many tags, and questions by k
 the state before the command or of the one after it (crash_states.py), of one alone where docs/FORMATS.md says so, and of the one after it where
 the command ended with 0. A call that fails has to end in status 252 with its line, or to have no effect.
 
-PROGRAM is the folder that has rpm and rpmdb, or crates/rpm_prog/out/rpm_prog. Wants strace. --quick takes about a minute on two processors,
-else about MINUTES; --write puts the table into docs/CRASHES.md; --only tries the cases whose name has this text. Mixed images depend on the seed,
-which is 1. At the first loss of a case its files are kept in a folder that is named, and the script fails.
+PROGRAM is the folder that has rpm and rpmdb, or crates/rpm_prog/out/rpm_prog. Wants strace. Each call fails with EIO; those that change anything also
+with ENOSPC, once and from there on; of more than 60 reads 60. --quick takes at most 12 kills and 12 faults (EIO) of a case, spread over the calls that
+change anything, and fewer images. --write puts the rows into docs/CRASHES.md, each as it is done. --databases (none,small,large) and --only choose
+cases; images depend on the seed, which is 1. --forget takes the syncs of a file or folder for none: then losses have to be found. At the first loss of
+a case its files are kept in a folder that is named, and the script fails.
 """
 import argparse
 import multiprocessing
+import os
 import re
 import shutil
 import sys
@@ -42,7 +45,12 @@ def work(task):
         return kind, 0, [], 0.0, f"{type(unknown).__name__}: {unknown}"
 
 
-def enter():
+def enter(places):
+    """In a process of the pool: a folder of its own, and a processor, since strace and what it traces take turns."""
+    with places.get_lock():
+        places.value += 1
+        mine = sorted(os.sched_getaffinity(0))[places.value % len(os.sched_getaffinity(0))]
+    os.sched_setaffinity(0, {mine})
     BENCH.enter()
 
 
@@ -83,8 +91,8 @@ def rows_of(bench, page):
     found = TABLE.search(page).group(0)
     if not found.strip().startswith(table(bench, {("", ""): [0] * 6}).partition("\n")[0]):
         return {}
-    cells = [[cell.strip() for cell in line.strip("|\n").split("|")] for line in found.splitlines() if line.startswith("| `") or line.startswith("| a ")
-             or line.startswith("| the ")]
+    lines = [line for line in found.splitlines() if line.startswith("| ") and not line.startswith(("| Command |", "| in all |"))]
+    cells = [[cell.strip() for cell in line.strip("|").split("|")] for line in lines]
     return {(it[0], it[1]): [int(cell.replace(",", "")) for cell in it[2:]] for it in cells}
 
 
@@ -103,6 +111,7 @@ def words():
     parser.add_argument("--seed", type=int, default=1)
     for name in ("--only", "--forget"):
         parser.add_argument(name, default="")
+    parser.add_argument("--databases", default="none,small,large")
     return parser.parse_args()
 
 
@@ -116,9 +125,9 @@ def main():
     try:
         BENCH = Bench(program, base, asked.seed, asked.quick)
         BENCH.enter()
-        BENCH.plans = [BENCH.planned(case) for case in Cases(base, BENCH.tried).all(asked.only)]
+        BENCH.plans = [BENCH.planned(case) for case in Cases(base, BENCH.tried).all(asked.only, asked.databases.split(","))]
         FORGOTTEN.update([asked.forget] if asked.forget else [])
-        with ProcessPoolExecutor(2, multiprocessing.get_context("fork"), enter) as pool:
+        with ProcessPoolExecutor(2, multiprocessing.get_context("fork"), enter, (multiprocessing.Value("i", 0),)) as pool:
             for number, plan in enumerate(BENCH.plans):
                 rows.update([row(BENCH, plan, tried(BENCH, number, pool, len(BENCH.plans)))])
                 if asked.write:
