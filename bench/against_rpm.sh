@@ -6,7 +6,7 @@
 #
 # PROGRAM is crates/rpm_prog/out/rpm_prog (made by `rt run` there). Wants rpm, valgrind and python3 (Debian: apt-get install rpm valgrind).
 # One list of headers is made and imported into both databases. Questions by key are asked of an index that is there. The package that is
-# added has the same files as the others, but for --real; it is one that is erased. Real systems are measured by bench/distributions.sh.
+# added has the same files as the others, but for --real; it is one that is erased. Real systems are measured by bench/distributions.py.
 set -euf
 
 here=$(cd "$(dirname "$0")" && pwd)

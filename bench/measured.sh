@@ -1,4 +1,4 @@
-# What bench/against_rpm.sh and bench/distributions.sh share: a command is measured on a copy of a database, of rpm's and of this program's.
+# How bench/against_rpm.sh measures: a command is run on a copy of a database, of rpm's and of this program's.
 #
 # Set before: program (this program), folder (a folder to write in), packages (what the second column says). rpm's database stands in
 # $folder/theirs and this program's in $folder/ours.

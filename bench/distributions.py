@@ -1,0 +1,248 @@
+#!/usr/bin/env python3
+"""What this program and rpm answer over the packages of installed systems, and what that costs each.
+
+    bench/distributions.py [--quick | --counted N] [--jobs N] [--write] [--program PROGRAM] [DATABASE..]
+
+Two commands on Debian 12: `apt-get install rpm valgrind golang-github-knqyf263-go-rpmdb-dev`, and this one without arguments, which takes the databases of
+ten CentOS systems that the last of these packages has. A DATABASE is the folder of another system's database, whatever its backend: /var/lib/rpm or
+/usr/lib/sysimage/rpm, of this machine or of a file system that was unpacked (`docker export $(docker create centos:7) | tar x -C SYSTEM var/lib/rpm`). It
+is copied, and never written. PROGRAM is what release/rpm_prog.gz holds, or another, as crates/rpm_prog/out/rpm_prog.
+
+rpm exports each database, and the list is imported into rpm (sqlite) and into this program. Both then have to give the list back byte for byte, to verify
+their database without a word, and to answer all of bench/questions.py alike, but for differences that a rule there explains; these are counted. Any other
+difference is printed, and fails the run. Then costs are measured, of one run each on a copy: seconds of the processor, and instructions as callgrind counts
+them (none with --quick; with --counted of the N least systems). --jobs so many processes run at once, one where it isn't given. --write puts the tables into
+docs/REAL.md. Wants rpm, and valgrind but for --quick.
+"""
+import argparse
+import collections
+import datetime
+import gzip
+import os
+import re
+import shutil
+import subprocess
+import sys
+import tempfile
+from concurrent.futures import ThreadPoolExecutor
+from pathlib import Path
+
+sys.dont_write_bytecode = True
+from questions import QUESTIONS, RULES, Pair, Unknown, ask_unmet, sampled
+
+TOP = Path(__file__).resolve().parent.parent
+PAGE = TOP / "docs" / "REAL.md"
+MARKS = "<!-- made by bench/distributions.py --write -->\n", "<!-- end of what it made -->\n"
+TEN = Path("/usr/share/gocode/src/github.com/knqyf263/go-rpmdb/pkg/testdata")
+# What of rpm's transaction isn't the database's work is left out.
+QUIETLY = ["--justdb", "--nodeps", "--noscripts", "--notriggers"]
+VALGRIND = ["valgrind", "--tool=callgrind", "--callgrind-out-file=/dev/null"]
+
+
+def progress(text):
+    """Where a run is, on a terminal."""
+    if sys.stderr.isatty():
+        print(f"\r\033[K{text}", end="", file=sys.stderr, flush=True)
+
+
+class System:
+    """The packages of one system, in a database of rpm's and in one of this program's."""
+
+    def __init__(self, program, source, folder):
+        self.name, self.program, self.folder, self.list = source.name, str(program), folder, folder / "list"
+        self.rows = {}
+        shutil.copytree(source, folder / "source")
+        for name in ("theirs", "ours", "empty"):
+            (folder / name).mkdir()
+        self.save(["rpmdb", "--dbpath", str(folder / "source"), "--exportdb"], self.list)
+        shutil.rmtree(folder / "source")
+        self.bytes = self.list.stat().st_size
+        self.pair = Pair(self.program, folder / "theirs", folder / "ours")
+        for whose in ("rpm", "ours"):
+            self.save(self.words(whose, ["rpmdb", "--importdb"], self.pair.folders[whose]), folder / "said", self.list)
+        self.packages = len(self.pair.run("rpm", ["rpm", "-qa"])) - 1
+        if not self.packages:
+            raise Unknown(f"{source}: rpm finds no packages there")
+
+    def words(self, whose, words, base):
+        """A command line of one of the two on this folder."""
+        front = [self.program] if whose == "ours" else []
+        backend = ["--define", "_db_backend sqlite"] if whose == "rpm" else []
+        return [*front, words[0], *backend, "--dbpath", str(base), *words[1:]]
+
+    def save(self, words, into, feed="/dev/null"):
+        with open(into, "wb") as out, open(feed, "rb") as given:
+            return subprocess.run(words, stdin=given, stdout=out, stderr=subprocess.DEVNULL, check=False).returncode
+
+    def check(self):
+        """Asks all questions; an unknown difference is printed. Gives whether there was none."""
+        fine = True
+        for name, ask in {"both files": self.ask_files, **QUESTIONS, "requirements after erasures": self.ask_erased}.items():
+            progress(f"{self.name}: {name}")
+            try:
+                ask(self.pair)
+            except Unknown as unknown:
+                progress("")
+                print(f"{self.name}: {unknown}", flush=True)
+                fine = False
+        return fine
+
+    def ask_files(self, pair):
+        """Whether each gives the list back, and verifies its database."""
+        for whose, base in pair.folders.items():
+            pair.asked += 2
+            status = self.save(self.words(whose, ["rpmdb", "--exportdb"], base), self.folder / "said")
+            if status or (self.folder / "said").read_bytes() != self.list.read_bytes():
+                raise Unknown(f"rpmdb --exportdb of {whose}: the list isn't what was imported")
+            status = self.save(self.words(whose, ["rpmdb", "--verifydb"], base), self.folder / "said")
+            if status or (self.folder / "said").stat().st_size:
+                raise Unknown(f"rpmdb --verifydb of {whose}: {(self.folder / 'said').read_text()[:200]}")
+
+    def ask_erased(self, pair):
+        """The unmet requirements where a tenth of the packages was erased of both, of copies."""
+        gone = sampled(sorted(pair.labels), self.packages // 10)
+        copies = {whose: self.copy(base) for whose, base in pair.folders.items()}
+        self.save(self.words("rpm", ["rpm", "-e", *QUIETLY, "--allmatches", *(pair.labels[number][5] for number in gone)], copies["rpm"]), "/dev/null")
+        self.save(self.words("ours", ["rpm", "--erasepkg", *gone], copies["ours"]), "/dev/null")
+        other = Pair(self.program, copies["rpm"], copies["ours"])
+        other.ask("rpm", "-q", "-a", "--qf", "%{DBINSTANCE}\\n")
+        ask_unmet(other)
+        pair.asked += other.asked
+        pair.counts += other.counts
+        for copy in copies.values():
+            shutil.rmtree(copy)
+
+    def copy(self, base):
+        """A folder with the files of this one."""
+        return shutil.copytree(base, tempfile.mkdtemp(dir=self.folder), dirs_exist_ok=True)
+
+    def cost(self, whose, words, feed, around=()):
+        """The seconds of the processor that a command takes on a copy, and what it prints on standard error."""
+        copy, told = self.copy(self.folder / "empty" if feed else self.pair.folders[whose]), tempfile.TemporaryFile(dir=self.folder)
+        with open(feed or "/dev/null", "rb") as given, told:
+            started = subprocess.Popen([*around, *self.words(whose, words, copy)], stdin=given, stdout=subprocess.DEVNULL, stderr=told)
+            _, started.returncode, usage = os.wait4(started.pid, 0)
+            told.seek(0)
+            said = told.read().decode(errors="replace")
+        shutil.rmtree(copy)
+        return usage.ru_utime + usage.ru_stime, said
+
+    def measure(self, command, is_counted):
+        """Seconds and instructions of a command, of both."""
+        name, words, feed = command
+        progress(f"{self.name}: {name}")
+        self.rows[name] = [[self.cost(whose, words[whose], feed)[0], 0] for whose in words]
+        for whose, row in zip(words, self.rows[name] if is_counted else []):
+            row[1] = int(re.search(r"Collected : (\d+)", self.cost(whose, words[whose], feed, VALGRIND)[1]).group(1))
+
+    def commands(self):
+        """What is measured: its name, the words of both, and the input where it is one of an empty database."""
+        files = self.pair.column("BASENAMES", "FILENAMES")
+        most = collections.Counter(row[0] for row in files).most_common(1)[0][0]
+        alike = collections.Counter((row[0], row[1]) for row in files).most_common(1)[0][0][0]
+        number, _, path = files[len(files) // 2]
+        same = {"`-qa`": ["rpm", "-qa"], "all file names": ["rpm", "-qa", "--qf", "[%{FILENAMES}\\n]"],
+                "`-q NAME`": ["rpm", "-q", self.pair.labels[number][0]], "`-qf`, a file in the middle": ["rpm", "-qf", path],
+                "`-q --whatrequires /bin/sh`": ["rpm", "-q", "--whatrequires", "/bin/sh"], "export": ["rpmdb", "--exportdb"],
+                "verify": ["rpmdb", "--verifydb"], "import": ["rpmdb", "--importdb"], "rebuild": ["rpmdb", "--rebuilddb"]}
+        yield from ((name, {"rpm": words, "ours": words}, self.list if name == "import" else None) for name, words in same.items())
+        yield "`-Va --nofiles`", {"rpm": ["rpm", "-Va", "--nofiles", "--noscripts"], "ours": ["rpm", "-Va", "--nofiles"]}, None
+        for name, gone in (("erase the package with most files", most), ("that with most files of one name", alike)):
+            yield name, {"rpm": ["rpm", "-e", *QUIETLY, self.pair.labels[gone][5]], "ours": ["rpm", "--erasepkg", gone]}, None
+
+
+def line(*cells):
+    return "| " + " | ".join(f"{cell:,}" if isinstance(cell, int) else str(cell) for cell in cells) + " |\n"
+
+
+def answers_table(systems):
+    """Of each system how much was asked, and how many answers differ in which way."""
+    kinds = [kind for kind in RULES if any(system.pair.counts[kind] for system in systems)]
+    text = line("System", "Packages", "Bytes", "Questions", *kinds) + line(*["---"] * (4 + len(kinds)))
+    for system in systems:
+        text += line(system.name, system.packages, system.bytes, system.pair.asked, *(system.pair.counts[kind] for kind in kinds))
+    return text + "\n" + "".join(f"- {kind}: {RULES[kind][0]}\n" for kind in kinds)
+
+
+def shares(costs, which):
+    """Of rpm's cost the least and the greatest share that this program's is."""
+    found = [ours[which] / max(theirs[which], 1e-9) for theirs, ours in costs]
+    return f"{min(found):.3f} to {max(found):.3f}"
+
+
+def costs_table(systems, counted):
+    """What each command costs over the systems together, and which share this program's cost is of rpm's."""
+    text = line("Command", "rpm, seconds", "here", "of rpm's", "rpm, million instructions", "here", "of rpm's") + line(*["---"] * 7)
+    for name, *_ in systems[0].commands():
+        costs, some = [system.rows[name] for system in systems], [system.rows[name] for system in counted]
+        seconds = [f"{sum(cost[side][0] for cost in costs):.2f}" for side in (0, 1)]
+        millions = [f"{sum(cost[side][1] for cost in some) / 1e6:,.1f}" for side in (0, 1)] + [shares(some, 1)] if some else ["–"] * 3
+        text += line(name, *seconds, shares(costs, 0), *millions)
+    return text
+
+
+def tables(systems, counted):
+    version = subprocess.run(["rpm", "--version"], stdout=subprocess.PIPE, text=True, check=True).stdout.strip()
+    of = "all" if len(counted) == len(systems) else ", ".join(system.name for system in counted) or "none"
+    asked = sum(system.pair.asked for system in systems)
+    return (f"On {datetime.date.today():%d %B %Y}, {version}: {asked:,} questions, answered alike but for these kinds.\n\n" + answers_table(systems)
+            + f"\nSeconds of the processor, of one run each, all systems together; instructions of {of}. A share is the least and the greatest of a system.\n\n"
+            + costs_table(systems, counted))
+
+
+def options():
+    found = argparse.ArgumentParser(description=__doc__, formatter_class=argparse.RawDescriptionHelpFormatter)
+    found.add_argument("--quick", action="store_const", const=0, dest="counted")
+    found.add_argument("--counted", type=int, metavar="N")
+    found.add_argument("--jobs", type=int, default=1, metavar="N")
+    found.add_argument("--write", action="store_true")
+    found.add_argument("--program", type=Path)
+    found.add_argument("databases", nargs="*", type=Path)
+    found = found.parse_args()
+    for tool in ["rpm", "rpmdb"] + ["valgrind"] * (found.counted != 0):
+        if not shutil.which(tool):
+            sys.exit(f"distributions.py: there is no {tool}")
+    if not found.databases and not TEN.is_dir():
+        sys.exit("distributions.py: name a database, or install golang-github-knqyf263-go-rpmdb-dev")
+    found.databases = [path.resolve() for path in found.databases] or sorted(TEN.iterdir())
+    return found
+
+
+def released(folder):
+    """The program of release/."""
+    program = folder / "rpm_prog"
+    program.write_bytes(gzip.decompress((TOP / "release" / "rpm_prog.gz").read_bytes()))
+    program.chmod(0o755)
+    return program
+
+
+def checked(program, source, folder):
+    """A system, and whether both answer alike."""
+    folder.mkdir()
+    system = System(program, source, folder)
+    return system, system.check()
+
+
+def main():
+    asked = options()
+    with tempfile.TemporaryDirectory() as name, ThreadPoolExecutor(asked.jobs) as pool:
+        folder = Path(name)
+        program = asked.program.resolve() if asked.program else released(folder)
+        done = [pool.submit(checked, program, source, folder / str(at)) for at, source in enumerate(asked.databases)]
+        systems, fine = zip(*(it.result() for it in done))
+        if not all(fine):
+            sys.exit("distributions.py: there are differences that no rule explains")
+        by_size = sorted(systems, key=lambda system: system.bytes)
+        counted = by_size[:asked.counted]
+        for it in [pool.submit(system.measure, command, system in counted) for system in by_size for command in system.commands()]:
+            it.result()
+        text = tables(systems, [system for system in systems if system in counted])
+    progress("")
+    print(text, end="")
+    if asked.write:
+        before, rest = PAGE.read_text(encoding="utf-8").split(MARKS[0])
+        PAGE.write_text(before + MARKS[0] + "\n" + text + "\n" + MARKS[1] + rest.split(MARKS[1])[1], encoding="utf-8")
+
+
+if __name__ == "__main__":
+    main()

@@ -1,0 +1,296 @@
+"""What bench/distributions.py asks rpm and this program over the same packages, and by which rules their answers may differ.
+
+Each answer is compared whole. Where two answers differ, the rules of RULES are gone through in turn; each that applies brings rpm's answer nearer to this
+program's, exactly as far as its sentence says. Where the two are then the same, the difference counts under the rules that were used; else it is unknown.
+"""
+import collections
+import fnmatch
+import os
+import random
+import re
+import subprocess
+from pathlib import Path
+
+PAGE = Path(__file__).resolve().parent.parent / "man" / "rpm-q.8"
+NOBODY = "no-such-thing"
+MOST_ARGUMENTS, PATHS = 1500, 120
+# Bits of a requirement's flags: needed by scripts of an installation, by those of an erasure, and by rpm itself.
+INSTALL_ONLY, ERASURE, OF_RPM = 0x4000000 | 0x400 | 0x200 | 0x80 | 0x20, 0x1000 | 0x800, 0x1000000
+TAGS = {"--whatprovides": "PROVIDENAME", "--whatrequires": "REQUIRENAME", "--whatconflicts": "CONFLICTNAME", "--whatobsoletes": "OBSOLETENAME",
+        "--whatrecommends": "RECOMMENDNAME", "--triggeredby": "TRIGGERNAME", "-g": "GROUP"}
+LABELS = ["%{NAME}", "%{NAME}.%{ARCH}", "%{NAME}-%{VERSION}", "%{NAME}-%{VERSION}.%{ARCH}", "%{NAME}-%{VERSION}-%{RELEASE}", "%{NVRA}"]
+FORMATS = {
+    "files": "[%{=NAME} %{FILEMODES:perms} %{FILEUSERNAME} %{FILEGROUPNAME} %10{FILESIZES} %{FILEMTIMES:day} %{FILEDIGESTS} %{FILENAMES} %{FILELINKTOS}\\n]",
+    "flags of files": "[%{FILENAMES} %{FILEFLAGS:fflags} %{FILESTATES:fstate} %{FILEMODES:octal} %{FILEMTIMES:date} %{FILEVERIFYFLAGS:hex}\\n]",
+    "dependencies": "".join(f"[%{{=NEVRA}} {it} %{{{it}NAME}} %{{{it}FLAGS:depflags}} %{{{it}VERSION}}\\n]"
+                            for it in ("PROVIDE", "REQUIRE", "CONFLICT", "OBSOLETE")),
+    "changelogs": "[* %{CHANGELOGTIME:day} %{CHANGELOGNAME}\\n%{CHANGELOGTEXT}\\n]",
+    "scripts": "".join(f"{it} %{{{it}}} %{{{it}PROG}}\\n" for it in ("PREIN", "POSTIN", "PREUN", "POSTUN")) + "%{POSTIN:shescape}\\n",
+    "triggers": "[%{TRIGGERINDEX} %{TRIGGERNAME} %{TRIGGERFLAGS:depflags} %{TRIGGERVERSION}\\n][%{TRIGGERSCRIPTS}\\n]",
+    "a package": "%-30{NAME} %8{VERSION} %{#FILENAMES} %{EPOCH} %{EPOCHNUM} %{EVR} %{BUILDTIME:date} %{INSTALLTIME:day} %{SIGMD5} %{SIZE:hex}\\n",
+    "a blob": "%{NAME} %{SIGMD5:base64}\\n",
+}
+
+
+def tags_of_both():
+    """The tags that this program's page and rpm name."""
+    listed = PAGE.read_text(encoding="utf-8").partition("in front:")[2].partition(".Sh PATTERNS")[0]
+    known = set(subprocess.run(["rpm", "--querytags"], stdout=subprocess.PIPE, text=True, check=True).stdout.split())
+    return [tag for tag in dict.fromkeys(re.findall(r"\b[A-Z][A-Z0-9]+\b", listed)) if tag in known]
+
+
+class Unknown(Exception):
+    """A difference that no rule explains."""
+
+
+class Pair:
+    """The same packages in a database of rpm's and in one of this program's."""
+
+    def __init__(self, program, theirs, ours):
+        self.program, self.folders = program, {"rpm": theirs, "ours": ours}
+        self.counts, self.asked, self.columns = collections.Counter(), 0, {}
+        self.mark = Path(theirs).parent / "mark"
+        self.mark.touch()
+
+    def run(self, whose, words):
+        """What one of the two prints on standard output, as lines."""
+        front = [self.program] if whose == "ours" else []
+        done = subprocess.run([*front, words[0], "--dbpath", str(self.folders[whose]), *words[1:]], stdin=subprocess.DEVNULL, stdout=subprocess.PIPE,
+                              stderr=subprocess.DEVNULL, env={**os.environ, "LC_ALL": "C", "TZ": "UTC"}, check=False)
+        return done.stdout.decode("utf-8", "surrogateescape").split("\n")
+
+    def both(self, words, asked=None):
+        return self.run("rpm", asked or words), self.run("ours", words)
+
+    def column(self, *tags):
+        """What rpm says of these tags, as rows of texts: the package's number and one of each."""
+        if tags not in self.columns:
+            words = ["rpm", "-qa", "--qf", "[%{=DBINSTANCE}" + "".join(f"\t%{{{tag}}}" for tag in tags) + "\\n]"]
+            self.columns[tags] = [line.split("\t") for line in self.run("rpm", words) if line and "(none)" not in line.split("\t")]
+        return self.columns[tags]
+
+    def rows(self, option, key):
+        """The number of a package for each of its elements that are this key, of a requirement with its flags."""
+        if option == "--whatrequires":
+            return [(row[0], int(row[1])) for row in self.column("REQUIREFLAGS", "REQUIRENAME") if row[2] == key]
+        return [(row[0],) for row in self.column(TAGS[option]) if row[1] == key] if option in TAGS else []
+
+    def compare(self, words, question, theirs, ours):
+        """Counts one question and how the two answers differ."""
+        self.asked += 1
+        if theirs == ours:
+            return
+        used = []
+        for kind, (_, rule) in RULES.items():
+            nearer = rule(self, question, theirs, ours)
+            if nearer is not None and nearer != theirs:
+                used.append(kind)
+                theirs = nearer
+            if theirs == ours:
+                self.counts.update(used)
+                return
+        at = next((i for i, (one, other) in enumerate(zip(theirs, ours)) if one != other), min(len(theirs), len(ours)))
+        shown = [lines[at][:200] if at < len(lines) else "(nothing)" for lines in (theirs, ours)]
+        raise Unknown(f"{' '.join(words)[:300]} {question[1][:300]}\n  line {at + 1} of rpm: {shown[0]}\n  of this program: {shown[1]}")
+
+    def ask(self, *words, asked=None):
+        """One question by all words."""
+        self.compare(words, (words[-2], words[-1]), *self.both(list(words), asked))
+
+    def ask_each(self, option, arguments):
+        """One question for each argument, many in one process: what nobody has stands between two answers."""
+        mark = str(self.mark) if option == "-f" else NOBODY
+        words = ["rpm", "-q", "--qf", "%{DBINSTANCE}\\n"] + ([option] if option else [])
+        for at in range(0, len(arguments), MOST_ARGUMENTS):
+            some = arguments[at:at + MOST_ARGUMENTS]
+            answers = [cut(lines, mark) for lines in self.both(words + [word for it in some for word in (it, mark)])]
+            if len(answers[0]) != len(some) or len(answers[1]) != len(some):
+                raise Unknown(f"{' '.join(words)}: {len(some)} arguments, {len(answers[0])} answers of rpm, {len(answers[1])} of this program")
+            for argument, theirs, ours in zip(some, *answers):
+                self.compare(words, (option, argument), theirs, ours)
+
+
+def cut(lines, mark):
+    """The answers between lines that name the mark."""
+    answers, answer = [], []
+    for line in lines:
+        if mark in line:
+            answers, answer = answers + [answer], []
+        else:
+            answer.append(line)
+    return answers
+
+
+def numbers(lines):
+    return [line for line in lines if line.isdigit()]
+
+
+# ---- the rules: what of rpm's answer is nearer to this program's
+
+def in_order(_, question, theirs, ours):
+    """The same lines, in this program's order."""
+    return ours if question[0] != "--qf" and sorted(theirs) == sorted(ours) else None
+
+
+def of_rpm(flags):
+    """Of a requirement on a feature of rpm itself."""
+    return flags & OF_RPM
+
+
+def install_only(flags):
+    """Of one that scripts of an installation have, and those of an erasure don't."""
+    return flags & (INSTALL_ONLY | OF_RPM) and not flags & ERASURE
+
+
+def doubled(pair, question, theirs, _):
+    """A package exactly as often as its elements are in rpm's index, once."""
+    rows, found = pair.rows(*question), collections.Counter(numbers(theirs))
+    has = collections.Counter(row[0] for row in rows if len(row) == 1 or not install_only(row[1]))
+    return sorted(found, key=int) if found and rows and all(count == has[number] for number, count in found.items()) else None
+
+
+def unindexed(kind):
+    def rule(pair, question, theirs, ours):
+        """Packages whose elements rpm's index leaves out, all of them, by the flags."""
+        missing, flags = set(numbers(ours)) - set(numbers(theirs)), collections.defaultdict(list)
+        for number, flag in pair.rows(*question) if question[0] == "--whatrequires" else []:
+            flags[number].append(flag)
+        added = [number for number in missing if flags[number] and all(kind(flag) for flag in flags[number])]
+        return sorted([*numbers(theirs), *added], key=int) if added else None
+    return rule
+
+
+def on_this_disk(pair, question, theirs, ours):
+    """Packages with files that this machine's folders make the same path, once for each of them."""
+    if question[0] not in ("-f", "--whatprovides") or not question[1].startswith("/"):
+        return None
+    name, place = os.path.basename(question[1]), os.path.realpath(os.path.dirname(question[1]))
+    same = collections.Counter(row[0] for row in pair.column("FILENAMES") if row[1].endswith("/" + name)
+                               and os.path.realpath(os.path.dirname(row[1])) == place)
+    found = collections.Counter(numbers(theirs))
+    if not found or any(count > same[number] for number, count in found.items()):
+        return None
+    return sorted(set(found) & set(ours), key=int) or ours
+
+
+def not_on_disk(_, question, theirs, ours):
+    """A path that no package has: rpm's line is by what the disk has, and on standard error."""
+    return ours if question[0] == "-f" and not theirs and ours == [f"file {question[1]} is not owned by any package"] else None
+
+
+def not_normal(pair, question, theirs, ours):
+    """Packages whose file of this path has another state than normal."""
+    if question[0] not in ("-f", "--whatprovides"):
+        return None
+    missing = set(numbers(ours)) - set(numbers(theirs))
+    states = {number for number, state, path in pair.column("FILESTATES", "FILENAMES") if path == question[1] and state != "0" and number in missing}
+    return sorted({*numbers(theirs), *states}, key=int) if states else None
+
+
+def by_provides(pair, question, theirs, ours):
+    """A path that is found among the provides, since no package has the file."""
+    givers = {row[0] for row in pair.column("PROVIDENAME") if row[1] == question[1]}
+    return ours if question[0] == "-f" and numbers(theirs) and set(theirs) <= givers and not numbers(ours) else None
+
+
+def name_first(pair, question, theirs, ours):
+    """A label that is a package's by one form, and another's by a later form."""
+    if question[0] != "" or not numbers(theirs):
+        return None
+    later = set(ours) - set(numbers(theirs))
+    return sorted([*theirs, *later], key=int) if later and all(question[1] in pair.labels[number] for number in later) else None
+
+
+def pattern_of_labels(pair, question, theirs, ours):
+    """Packages of which the pattern fits another label than the name."""
+    if question[0] != "-a":
+        return None
+    later = set(ours) - set(theirs)
+    fits = [any(fnmatch.fnmatchcase(label, question[1]) for label in pair.labels[number][1:]) for number in later]
+    return sorted([*filter(None, theirs), *later], key=int) + [""] if later and all(fits) else None
+
+
+def missing_tag(_, question, theirs, ours):
+    """The same without the lines `(none)`, which stand for brackets whose tags are missing."""
+    return ours if question[0] == "--qf" and [line for line in ours if line != "(none)"] == theirs else None
+
+
+def base64(_, question, theirs, ours):
+    """The same without empty lines."""
+    return ours if ":base64" in question[1] and [line for line in theirs if line] == [line for line in ours if line] else None
+
+
+def unmet_once(_, question, theirs, ours):
+    """A requirement that a package has twice, which rpm lists once."""
+    return ours if question[1] == "--nofiles" and set(theirs) == set(ours) else None
+
+
+RULES = {
+    "order": ("rpm prints the packages of an answer in another order.", in_order),
+    "doubled": ("rpm prints a package once for each element that has the key, this program once.", doubled),
+    "rpmlib": ("rpm's index leaves out requirements on rpm itself (flag RPMLIB).", unindexed(of_rpm)),
+    "install only": ("rpm's index leaves out requirements that only scripts of an installation have.", unindexed(install_only)),
+    "disk": ("rpm compares folders by the disk of the machine that it runs on.", on_this_disk),
+    "not there": ("for a path that no package has, rpm's line is by what the disk has.", not_on_disk),
+    "state": ("rpm finds files alone whose state is normal.", not_normal),
+    "path provided": ("rpm looks a path that no package has up among the provides.", by_provides),
+    "label": ("rpm takes the first form of a label that finds a package, this program all six.", name_first),
+    "glob": ("rpm compares a pattern with names, this program with all six labels.", pattern_of_labels),
+    "missing tag": ("a bracket whose tag is missing prints nothing in rpm, here `(none)`.", missing_tag),
+    "base64": ("rpm ends base64 with a newline of its own.", base64),
+    "unmet twice": ("rpm lists a requirement once that a package has twice.", unmet_once),
+}
+
+
+# ---- the questions
+
+def ask_formats(pair):
+    tags = tags_of_both()
+    pair.ask("rpm", "-qa", "--qf", "%{DBINSTANCE}\\n" + "".join(f"[{tag} %{{{tag}}}\\n]" for tag in tags))
+    # (rpm forgets the text of the first conditions of a format with some thirty)
+    for at in range(0, len(tags), 10):
+        conditions = "".join(f"%|{tag}?{{ {tag} %{{#{tag}}}}}:{{ no {tag}}}|" for tag in tags[at:at + 10])
+        pair.ask("rpm", "-qa", "--qf", "%{DBINSTANCE}" + conditions + "\\n")
+    for form in FORMATS.values():
+        pair.ask("rpm", "-qa", "--qf", form)
+    pair.ask("rpm", "-q", "-a")
+    pair.ask("rpm", "-qa", "-l")
+
+
+def ask_keys(pair):
+    lines = pair.run("rpm", ["rpm", "-qa", "--qf", "%{DBINSTANCE}\t" + "\t".join(LABELS) + "\\n"])
+    rows = [line.split("\t") for line in lines if line]
+    pair.labels = {row[0]: row[1:] for row in rows}
+    pair.ask_each("", sorted({label for row in rows for label in row[1:] if "(none)" not in label}))
+    pair.ask_each("-f", sampled(sorted({row[1] for row in pair.column("FILENAMES")}), PATHS) + ["/no/such/file"])
+    for option, tag in TAGS.items():
+        keys = sorted({row[1] for row in pair.column(tag)})
+        pair.ask_each(option, [key for key in keys if not re.search(r"\s", key) or option == "-g"])
+    for number in sampled(sorted({row[1] for row in pair.column("INSTALLTID")}), 8):
+        pair.ask("rpm", "-q", "--qf", "%{DBINSTANCE}\\n", "--tid", number)
+    pair.ask("rpm", "-q", "--querybynumber", *reversed(sorted(pair.labels)))
+
+
+def ask_patterns(pair):
+    names = sorted({labels[0] for labels in pair.labels.values()})
+    parts = sorted({part for name in names for part in re.split("[-_.]", name)[1:] if len(part) > 2})
+    patterns = sorted({f"{name[0]}*" for name in names}) + [f"*-{part}" for part in sampled(parts, 12)] + ["*[0-9]*", "[a-c]*s", "*lib*", "*-devel"]
+    for pattern in patterns:
+        words = ["rpm", "-q", "-a", "--qf", "%{DBINSTANCE}\\n", pattern]
+        pair.compare(words, ("-a", pattern), *pair.both(words))
+
+
+def ask_unmet(pair):
+    """The requirements that no package meets, in the words of this program's report."""
+    theirs, ours = pair.both(["rpm", "-Va", "--nofiles"], ["rpm", "-Va", "--nofiles", "--noscripts"])
+    said = [re.fullmatch(r"\t(.*) is needed by \(installed\) (.*)", line) for line in theirs]
+    pair.compare(["rpm", "-Va"], ("", "--nofiles"), [f"{it[2]}: unsatisfied: {it[1]}" for it in said if it], ours[:-1])
+    return len(ours) - 1
+
+
+def sampled(things, most):
+    """So many of them, always the same."""
+    return sorted(random.Random(1).sample(things, min(most, len(things))))
+
+
+QUESTIONS = {"formats": ask_formats, "keys": ask_keys, "patterns": ask_patterns, "unmet requirements": ask_unmet}
