@@ -1,7 +1,7 @@
 #!/usr/bin/env python3
 """What this program and rpm answer over the packages of installed systems, and what that costs each.
 
-    bench/distributions.py [--quick | --counted N] [--jobs N] [--write] [--program PROGRAM] [DATABASE..]
+    bench/distributions.py [--quick] [--costs N] [--jobs N] [--write] [--program PROGRAM] [DATABASE..]
 
 Two commands on Debian 12: `apt-get install rpm valgrind golang-github-knqyf263-go-rpmdb-dev`, and this one without arguments, which takes the databases of
 ten CentOS systems that the last of these packages has. A DATABASE is the folder of another system's database, whatever its backend: /var/lib/rpm or
@@ -11,8 +11,8 @@ is copied, and never written. PROGRAM is what release/rpm_prog.gz holds, or anot
 rpm exports each database, and the list is imported into rpm (sqlite) and into this program. Both then have to give the list back byte for byte, to verify
 their database without a word, and to answer all of bench/questions.py alike, but for differences that a rule there explains; these are counted. Any other
 difference is printed, and fails the run. Then costs are measured, of one run each on a copy: seconds of the processor, and instructions as callgrind counts
-them (none with --quick; with --counted of the N least systems). --jobs so many processes run at once, one where it isn't given. --write puts the tables into
-docs/REAL.md. Wants rpm, and valgrind but for --quick.
+them, which takes long and --quick leaves out. --costs measures the N least systems alone, 0 none; --jobs so many processes run at once, one where it isn't
+given. --write puts the tables into docs/REAL.md. Wants rpm, and valgrind but for --quick.
 """
 import argparse
 import collections
@@ -24,6 +24,7 @@ import shutil
 import subprocess
 import sys
 import tempfile
+import textwrap
 from concurrent.futures import ThreadPoolExecutor
 from pathlib import Path
 
@@ -167,39 +168,42 @@ def answers_table(systems):
 def shares(costs, which):
     """Of rpm's cost the least and the greatest share that this program's is."""
     found = [ours[which] / max(theirs[which], 1e-9) for theirs, ours in costs]
-    return f"{min(found):.3f} to {max(found):.3f}"
+    return f"{min(found):.3f}" + (f" to {max(found):.3f}" if len(found) > 1 else "")
 
 
-def costs_table(systems, counted):
+def costs_table(systems, is_counted):
     """What each command costs over the systems together, and which share this program's cost is of rpm's."""
-    text = line("Command", "rpm, seconds", "here", "of rpm's", "rpm, million instructions", "here", "of rpm's") + line(*["---"] * 7)
+    heads = ["rpm, seconds", "here", "of rpm's"] + ["rpm, million instructions", "here", "of rpm's"] * is_counted
+    text = line("Command", *heads) + line(*["---"] * (1 + len(heads)))
     for name, *_ in systems[0].commands():
-        costs, some = [system.rows[name] for system in systems], [system.rows[name] for system in counted]
-        seconds = [f"{sum(cost[side][0] for cost in costs):.2f}" for side in (0, 1)]
-        millions = [f"{sum(cost[side][1] for cost in some) / 1e6:,.1f}" for side in (0, 1)] + [shares(some, 1)] if some else ["–"] * 3
-        text += line(name, *seconds, shares(costs, 0), *millions)
+        costs = [system.rows[name] for system in systems]
+        seconds, counts = ([sum(cost[side][which] for cost in costs) for side in (0, 1)] for which in (0, 1))
+        cells = [f"{it:.2f}" for it in seconds] + [shares(costs, 0)]
+        text += line(name, *cells, *([f"{it / 1e6:,.1f}" for it in counts] + [shares(costs, 1)] if is_counted else []))
     return text
 
 
-def tables(systems, counted):
+def tables(systems, measured, is_counted):
     version = subprocess.run(["rpm", "--version"], stdout=subprocess.PIPE, text=True, check=True).stdout.strip()
-    of = "all" if len(counted) == len(systems) else ", ".join(system.name for system in counted) or "none"
     asked = sum(system.pair.asked for system in systems)
-    return (f"On {datetime.date.today():%d %B %Y}, {version}: {asked:,} questions, answered alike but for these kinds.\n\n" + answers_table(systems)
-            + f"\nSeconds of the processor, of one run each, all systems together; instructions of {of}. A share is the least and the greatest of a system.\n\n"
-            + costs_table(systems, counted))
+    text = f"On {datetime.date.today():%d %B %Y}, {version}: {asked:,} questions, answered alike but for these kinds.\n\n" + answers_table(systems)
+    if measured:
+        names = "all systems" if len(measured) == len(systems) else ", ".join(system.name for system in measured)
+        told = f"One run of each command, of {names} together: seconds of the processor. A share is the least and the greatest of a system."
+        text += "\n" + textwrap.fill(told, 158) + "\n\n" + costs_table(measured, is_counted)
+    return text
 
 
 def options():
     found = argparse.ArgumentParser(description=__doc__, formatter_class=argparse.RawDescriptionHelpFormatter)
-    found.add_argument("--quick", action="store_const", const=0, dest="counted")
-    found.add_argument("--counted", type=int, metavar="N")
+    found.add_argument("--quick", action="store_true")
+    found.add_argument("--costs", type=int, metavar="N")
     found.add_argument("--jobs", type=int, default=1, metavar="N")
     found.add_argument("--write", action="store_true")
     found.add_argument("--program", type=Path)
     found.add_argument("databases", nargs="*", type=Path)
     found = found.parse_args()
-    for tool in ["rpm", "rpmdb"] + ["valgrind"] * (found.counted != 0):
+    for tool in ["rpm", "rpmdb"] + ["valgrind"] * (not found.quick and found.costs != 0):
         if not shutil.which(tool):
             sys.exit(f"distributions.py: there is no {tool}")
     if not found.databases and not TEN.is_dir():
@@ -232,11 +236,10 @@ def main():
         systems, fine = zip(*(it.result() for it in done))
         if not all(fine):
             sys.exit("distributions.py: there are differences that no rule explains")
-        by_size = sorted(systems, key=lambda system: system.bytes)
-        counted = by_size[:asked.counted]
-        for it in [pool.submit(system.measure, command, system in counted) for system in by_size for command in system.commands()]:
+        measured = sorted(systems, key=lambda system: system.bytes)[:asked.costs]
+        for it in [pool.submit(system.measure, command, not asked.quick) for system in measured for command in system.commands()]:
             it.result()
-        text = tables(systems, [system for system in systems if system in counted])
+        text = tables(systems, measured, not asked.quick)
     progress("")
     print(text, end="")
     if asked.write:

@@ -52,15 +52,15 @@ class Pair:
         self.mark = Path(theirs).parent / "mark"
         self.mark.touch()
 
-    def run(self, whose, words):
-        """What one of the two prints on standard output, as lines."""
+    def printed(self, whose, words):
+        """What one of the two prints on standard output."""
         front = [self.program] if whose == "ours" else []
-        done = subprocess.run([*front, words[0], "--dbpath", str(self.folders[whose]), *words[1:]], stdin=subprocess.DEVNULL, stdout=subprocess.PIPE,
-                              stderr=subprocess.DEVNULL, env={**os.environ, "LC_ALL": "C", "TZ": "UTC"}, check=False)
-        return done.stdout.decode("utf-8", "surrogateescape").split("\n")
+        return subprocess.run([*front, words[0], "--dbpath", str(self.folders[whose]), *words[1:]], stdin=subprocess.DEVNULL, stdout=subprocess.PIPE,
+                              stderr=subprocess.DEVNULL, env={**os.environ, "LC_ALL": "C", "TZ": "UTC"}, check=False).stdout
 
-    def both(self, words, asked=None):
-        return self.run("rpm", asked or words), self.run("ours", words)
+    def run(self, whose, words):
+        """The same as lines."""
+        return self.printed(whose, words).decode("utf-8", "surrogateescape").split("\n")
 
     def column(self, *tags):
         """What rpm says of these tags, as rows of texts: the package's number and one of each."""
@@ -93,9 +93,11 @@ class Pair:
         shown = [lines[at][:200] if at < len(lines) else "(nothing)" for lines in (theirs, ours)]
         raise Unknown(f"{' '.join(words)[:300]} {question[1][:300]}\n  line {at + 1} of rpm: {shown[0]}\n  of this program: {shown[1]}")
 
-    def ask(self, *words, asked=None):
+    def ask(self, *words):
         """One question by all words."""
-        self.compare(words, (words[-2], words[-1]), *self.both(list(words), asked))
+        texts = [self.printed(whose, words) for whose in self.folders]
+        lines = [[]] * 2 if texts[0] == texts[1] else [text.decode("utf-8", "surrogateescape").split("\n") for text in texts]
+        self.compare(words, words[-2:], *lines)
 
     def ask_each(self, option, arguments):
         """One question for each argument, many in one process: what nobody has stands between two answers."""
@@ -103,7 +105,7 @@ class Pair:
         words = ["rpm", "-q", "--qf", "%{DBINSTANCE}\\n"] + ([option] if option else [])
         for at in range(0, len(arguments), MOST_ARGUMENTS):
             some = arguments[at:at + MOST_ARGUMENTS]
-            answers = [cut(lines, mark) for lines in self.both(words + [word for it in some for word in (it, mark)])]
+            answers = [cut(self.run(whose, words + [word for it in some for word in (it, mark)]), mark) for whose in self.folders]
             if len(answers[0]) != len(some) or len(answers[1]) != len(some):
                 raise Unknown(f"{' '.join(words)}: {len(some)} arguments, {len(answers[0])} answers of rpm, {len(answers[1])} of this program")
             for argument, theirs, ours in zip(some, *answers):
@@ -248,8 +250,8 @@ def ask_formats(pair):
     tags = tags_of_both()
     pair.ask("rpm", "-qa", "--qf", "%{DBINSTANCE}\\n" + "".join(f"[{tag} %{{{tag}}}\\n]" for tag in tags))
     # (rpm forgets the text of the first conditions of a format with some thirty)
-    for at in range(0, len(tags), 10):
-        conditions = "".join(f"%|{tag}?{{ {tag} %{{#{tag}}}}}:{{ no {tag}}}|" for tag in tags[at:at + 10])
+    for at in range(0, len(tags), 20):
+        conditions = "".join(f"%|{tag}?{{ {tag} %{{#{tag}}}}}:{{ no {tag}}}|" for tag in tags[at:at + 20])
         pair.ask("rpm", "-qa", "--qf", "%{DBINSTANCE}" + conditions + "\\n")
     for form in FORMATS.values():
         pair.ask("rpm", "-qa", "--qf", form)
@@ -274,18 +276,17 @@ def ask_keys(pair):
 def ask_patterns(pair):
     names = sorted({labels[0] for labels in pair.labels.values()})
     parts = sorted({part for name in names for part in re.split("[-_.]", name)[1:] if len(part) > 2})
-    patterns = sorted({f"{name[0]}*" for name in names}) + [f"*-{part}" for part in sampled(parts, 12)] + ["*[0-9]*", "[a-c]*s", "*lib*", "*-devel"]
-    for pattern in patterns:
+    letters = sorted({name[0] for name in names})
+    for pattern in [f"{it}*" for it in sampled(letters, 5)] + [f"*-{it}" for it in sampled(parts, 4)] + ["*[0-9]*", "[a-c]*s", "*lib*"]:
         words = ["rpm", "-q", "-a", "--qf", "%{DBINSTANCE}\\n", pattern]
-        pair.compare(words, ("-a", pattern), *pair.both(words))
+        pair.compare(words, ("-a", pattern), *(pair.run(whose, words) for whose in pair.folders))
 
 
 def ask_unmet(pair):
     """The requirements that no package meets, in the words of this program's report."""
-    theirs, ours = pair.both(["rpm", "-Va", "--nofiles"], ["rpm", "-Va", "--nofiles", "--noscripts"])
+    theirs, ours = pair.run("rpm", ["rpm", "-Va", "--nofiles", "--noscripts"]), pair.run("ours", ["rpm", "-Va", "--nofiles"])
     said = [re.fullmatch(r"\t(.*) is needed by \(installed\) (.*)", line) for line in theirs]
     pair.compare(["rpm", "-Va"], ("", "--nofiles"), [f"{it[2]}: unsatisfied: {it[1]}" for it in said if it], ours[:-1])
-    return len(ours) - 1
 
 
 def sampled(things, most):
