@@ -9,7 +9,7 @@ ten CentOS systems that the last of these packages has. A DATABASE is the folder
 is copied, and never written. PROGRAM is what release/rpm_prog.gz holds, or another, as crates/rpm_prog/out/rpm_prog.
 
 rpm exports each database, and the list is imported into rpm (sqlite) and into this program. Both then have to give the list back byte for byte, to verify
-their database without a word, and to answer all of bench/questions.py alike, but for differences that a rule of bench/differences.py explains; these are
+their database without a word, and to answer all of bench/questions.py alike, but for differences that a rule of bench/known_differences.py explains; these are
 counted. Any other difference is printed, and fails the run. Then costs are measured, of one run each on a copy: seconds of the processor, and instructions
 as callgrind counts them, which takes long and --quick leaves out. --costs measures the N least systems alone, 0 none; --jobs so many processes run at once,
 one where it isn't given. --write puts the tables into docs/REAL.md. Wants rpm, and valgrind but for --quick.
@@ -29,7 +29,7 @@ from concurrent.futures import ThreadPoolExecutor
 from pathlib import Path
 
 sys.dont_write_bytecode = True
-from differences import RULES
+from known_differences import RULES
 from questions import QUESTIONS, Pair, Unknown, ask_unmet, sampled
 
 TOP = Path(__file__).resolve().parent.parent

@@ -1,6 +1,6 @@
 """What bench/distributions.py asks rpm and this program over the same packages.
 
-Each answer is compared whole. Where two differ, the rules of bench/differences.py are gone through in turn, and each that applies brings rpm's answer nearer to
+Each answer is compared whole. Where two differ, the rules of bench/known_differences.py are gone through in turn, and each that applies brings rpm's answer nearer to
 this program's. Where the two are then the same, the difference counts under the rules that were used; else it is unknown, and ends the questions of its sort.
 """
 import collections
@@ -10,7 +10,7 @@ import re
 import subprocess
 from pathlib import Path
 
-from differences import RULES, TAGS
+from known_differences import RULES, TAGS
 
 PAGE = Path(__file__).resolve().parent.parent / "man" / "rpm-q.8"
 NOBODY = "no-such-thing"
